@@ -1,0 +1,2 @@
+//! Types and constants of the dialect, and the legaliser of names.
+#![tactic(auto)]

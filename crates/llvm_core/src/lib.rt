@@ -1,0 +1,2 @@
+//! LLVM modules in memory, their builder, and the rules that a checked module meets.
+#![tactic(auto)]

@@ -1,0 +1,2 @@
+//! What module data of both sides mean: terms, events, traces and the same code.
+#![tactic(auto)]
