@@ -1,0 +1,10 @@
+-- The definitions that contracts cite.
+pub mod Interned
+pub mod Keys
+pub mod Module
+pub mod Code
+pub mod Parts
+pub mod Sound
+pub mod Data
+pub mod Names
+pub mod Checked

@@ -1,2 +1,18 @@
 //! LLVM modules in memory, their builder, and the rules that a checked module meets.
 #![tactic(auto)]
+
+pub mod check_err;
+pub mod checking;
+pub mod code;
+pub mod code_store;
+pub mod consts;
+pub mod interner;
+pub mod items;
+pub mod module;
+pub mod name_set;
+pub mod names;
+pub mod numbers;
+#[cfg(test)]
+mod tests;
+pub mod text;
+pub mod types;

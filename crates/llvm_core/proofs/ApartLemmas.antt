@@ -1,0 +1,78 @@
+-- Equal trees have equal numbers, where types and constants stand once each.
+use Rattle.std.proofs.Common.{◌≡◌, ◌<◌, ◌+◌, ℕ, zero, suc, List, [], ◌∷◌, Some, length, get_or, ap, sym, ◌∙◌, arith, All}
+use Rattle.std.proofs.lemmas.List.Elements.{All-head, All-tail}
+use Rattle.std.proofs.lemmas.Option.{slice_get_within}
+use Rattle.llvm_core.specs.declared.numbers.LLVMType.{LLVMType}
+use Rattle.llvm_core.specs.declared.numbers.LLVMConst.{LLVMConst}
+use Rattle.llvm_core.specs.declared.types.LLVMTypeKind.{LLVMTypeKind}
+use Rattle.llvm_core.specs.declared.types.LLVMTypeKind.TheVariants as T
+use Rattle.llvm_core.specs.declared.consts.LLVMConstKind.{LLVMConstKind}
+use Rattle.llvm_core.specs.declared.consts.LLVMConstKind.TheVariants as C
+use Rattle.llvm_core.specs.Module.{Module}
+use Rattle.llvm_core.specs.Parts.{IsTypeOver, IsConstOver}
+use Rattle.llvm_core.specs.Sound.{IsModule}
+use Rattle.llvm_core.specs.Data.{TypeTree, VoidType, ConstTree, IntConst, type_at, types_at, type_tree, type_trees, const_tree, const_trees, AreApart}
+use Rattle.llvm_core.proofs.TreeLemmas.{type_at-kind, const_at-kind}
+use Rattle.llvm_core.proofs.DataLemmas.{there}
+
+same_type : (x y : LLVMType) → x.0 ≡ y.0 → x ≡ y
+same_type x y e = ap (λ (n : ℕ). let t : LLVMType = record { 0 = n } in t) e
+
+same_const : (x y : LLVMConst) → x.0 ≡ y.0 → x ≡ y
+same_const x y e = ap (λ (n : ℕ). let t : LLVMConst = record { 0 = n } in t) e
+
+-- a type is known by its tree, where the trees of its parts are known
+same_lists : (ts : List TypeTree) (n m : ℕ) → ((a b : LLVMType) → a.0 < n → b.0 < m → type_at ts a ≡ type_at ts b → a ≡ b) → (xs ys : List LLVMType)
+    → All (λ (t : LLVMType). t.0 < n) xs → All (λ (t : LLVMType). t.0 < m) ys → types_at ts xs ≡ types_at ts ys → xs ≡ ys
+same_lists ts n m known [] [] p q h = cc
+same_lists ts n m known [] (y ∷ ys) p q h = cc
+same_lists ts n m known (x ∷ xs) [] p q h = cc
+same_lists ts n m known (x ∷ xs) (y ∷ ys) p q h =
+    let below_n = All-head (λ (t : LLVMType). t.0 < n) x xs p in
+    let below_m = All-head (λ (t : LLVMType). t.0 < m) y ys q in
+    let first = known x y below_n below_m (cc) in
+    let rest = same_lists ts n m known xs ys (All-tail (λ (t : LLVMType). t.0 < n) x xs p) (All-tail (λ (t : LLVMType). t.0 < m) y ys q) (cc) in
+    cc
+
+same_kinds : (ts : List TypeTree) (n m : ℕ) → ((a b : LLVMType) → a.0 < n → b.0 < m → type_at ts a ≡ type_at ts b → a ≡ b) → (k l : LLVMTypeKind) → IsTypeOver n k → IsTypeOver m l → type_tree ts k ≡ type_tree ts l → k ≡ l
+same_kinds ts n m known (T.Function r xs c) (T.Function s ys d) p q h =
+    let e = known r s p.0 q.0 (cc) in
+    let f = same_lists ts n m known xs ys p.1 q.1 (cc) in
+    cc
+same_kinds ts n m known k l p q h = grind arith
+
+-- by the larger of the numbers
+by_size : (m : Module) → IsModule m → (size : ℕ) (a b : LLVMType) → a.0 < size → b.0 < size → a.0 < length m.types → b.0 < length m.types → type_at (type_trees m.types) a ≡ type_at (type_trees m.types) b → a ≡ b
+by_size m s zero a b p q within_a within_b h = absurd (omega arith)
+by_size m s (suc size) a b p q within_a within_b h =
+    let k = there m.types a.0 within_a in
+    let l = there m.types b.0 within_b in
+    let k_over = s.types a.0 k.0 k.1 in
+    let l_over = s.types b.0 l.0 l.1 in
+    let trees = sym (type_at-kind m.types a k.0 k.1 k_over) ∙ h ∙ type_at-kind m.types b l.0 l.1 l_over in
+    let known : (x y : LLVMType) → x.0 < a.0 → y.0 < b.0 → type_at (type_trees m.types) x ≡ type_at (type_trees m.types) y → x ≡ y = λ x y below_a below_b e.
+    by_size m s size x y (omega arith) (omega arith) (omega arith) (omega arith) e in
+    let kinds = same_kinds (type_trees m.types) a.0 b.0 known k.0 l.0 k_over l_over trees in
+    same_type a b (s.types_once a.0 b.0 k.0 k.1 (l.1 ∙ ap Some (sym kinds)))
+
+types_apart : (m : Module) → IsModule m → (a b : LLVMType) → a.0 < length m.types → b.0 < length m.types → type_at (type_trees m.types) a ≡ type_at (type_trees m.types) b → a ≡ b
+types_apart m s a b within_a within_b h = by_size m s (a.0 + b.0 + 1) a b (omega arith) (omega arith) within_a within_b h
+
+-- a constant is known by its tree
+same_const_kinds : (m : Module) → IsModule m → (cs : List ConstTree) (k l : LLVMConstKind) → IsConstOver m.types k → IsConstOver m.types l → const_tree (type_trees m.types) cs k ≡ const_tree (type_trees m.types) cs l → k ≡ l
+same_const_kinds m s cs (C.Int t v) (C.Int u w) p q h =
+    let e = types_apart m s t u (slice_get_within m.types t.0 _ p.1) (slice_get_within m.types u.0 _ q.1) (cc) in
+    cc
+
+consts_apart : (m : Module) → IsModule m → (a b : LLVMConst) → a.0 < length m.consts → b.0 < length m.consts
+    → get_or (const_trees (type_trees m.types) m.consts) a.0 (IntConst VoidType 0) ≡ get_or (const_trees (type_trees m.types) m.consts) b.0 (IntConst VoidType 0) → a ≡ b
+consts_apart m s a b within_a within_b h =
+    let ts = type_trees m.types in
+    let k = there m.consts a.0 within_a in
+    let l = there m.consts b.0 within_b in
+    let trees = sym (const_at-kind ts m.consts a.0 k.0 k.1) ∙ h ∙ const_at-kind ts m.consts b.0 l.0 l.1 in
+    let kinds = same_const_kinds m s (const_trees ts m.consts) k.0 l.0 (s.consts a.0 k.0 k.1) (s.consts b.0 l.0 l.1) trees in
+    same_const a b (s.consts_once a.0 b.0 k.0 k.1 (l.1 ∙ ap Some (sym kinds)))
+
+pub apart : (m : Module) → IsModule m → AreApart m
+apart m s = record { types = types_apart m s; consts = consts_apart m s }

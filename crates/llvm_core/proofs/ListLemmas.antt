@@ -1,0 +1,59 @@
+-- Lists that grow at the end, and lists of which one item changes.
+use Rattle.std.proofs.Common.{◌≡◌, ◌⊎◌, ℕ, zero, suc, List, [], ◌∷◌, ◌++◌, Option, Some, None, length, slice_get, slice_set, sym, ap, ◌∙◌, refl, inl, inr, arith}
+use Rattle.std.specs.Option.{option_map_or}
+use Rattle.llvm_core.specs.Code.{with_change}
+
+pub some_same : {X : Type 0} (x y : X) → Some x ≡ Some y → x ≡ y
+some_same x y h = cc
+
+pub slice_get-kept : {X : Type 0} (xs ys : List X) (i : ℕ) (x : X) → slice_get xs i ≡ Some x → slice_get (xs ++ ys) i ≡ Some x
+slice_get-kept [] ys i x h = cc
+slice_get-kept (z ∷ xs) ys zero x h = h
+slice_get-kept (z ∷ xs) ys (suc i) x h = slice_get-kept xs ys i x h
+
+-- an item of a list that grew by one is an old one or the new one
+pub slice_get-push_cases : {X : Type 0} (xs : List X) (y : X) (i : ℕ) (x : X) → slice_get (xs ++ y ∷ []) i ≡ Some x → (slice_get xs i ≡ Some x) ⊎ ((i ≡ length xs) × (x ≡ y))
+slice_get-push_cases [] y zero x h = inr (refl, sym (some_same y x h))
+slice_get-push_cases [] y (suc i) x h = cc
+slice_get-push_cases (z ∷ xs) y zero x h = inl h
+slice_get-push_cases (z ∷ xs) y (suc i) x h = elim (slice_get-push_cases xs y i x h) [ inl old ↦ inl old | inr new ↦ inr (ap suc new.0, new.1) ]
+
+pub slice_get-push : {X : Type 0} (xs : List X) (y : X) (i : ℕ) → i ≡ length xs → slice_get (xs ++ y ∷ []) i ≡ Some y
+slice_get-push [] y zero h = refl
+slice_get-push [] y (suc i) h = absurd (omega arith)
+slice_get-push (z ∷ xs) y zero h = absurd (omega arith)
+slice_get-push (z ∷ xs) y (suc i) h = slice_get-push xs y i (omega arith)
+
+pub slice_get-set_cases : {X : Type 0} (xs : List X) (i j : ℕ) (x y : X) → slice_get (slice_set xs i x) j ≡ Some y → ((j ≡ i) × (y ≡ x)) ⊎ (slice_get xs j ≡ Some y)
+slice_get-set_cases [] i j x y h = inr h
+slice_get-set_cases (z ∷ xs) zero zero x y h = inl (refl, sym (some_same x y h))
+slice_get-set_cases (z ∷ xs) zero (suc j) x y h = inr h
+slice_get-set_cases (z ∷ xs) (suc i) zero x y h = inr h
+slice_get-set_cases (z ∷ xs) (suc i) (suc j) x y h = elim (slice_get-set_cases xs i j x y h) [ inl new ↦ inl (ap suc new.0, new.1) | inr old ↦ inr old ]
+
+pub length-slice_set : {X : Type 0} (xs : List X) (i : ℕ) (x : X) → length (slice_set xs i x) ≡ length xs
+length-slice_set [] i x = refl
+length-slice_set (z ∷ xs) zero x = refl
+length-slice_set (z ∷ xs) (suc i) x = ap suc (length-slice_set xs i x)
+
+-- an item of a list of which one item changed is an old one or the changed one
+pub change_cases : {X : Type 0} (f : X → X) (i : ℕ) (xs : List X) (j : ℕ) (y : X) → slice_get (with_change f i xs) j ≡ Some y
+    → ((x : X) × (slice_get xs j ≡ Some x) × (j ≡ i) × (y ≡ f x)) ⊎ (slice_get xs j ≡ Some y)
+change_cases {X} f i xs j y h = by (slice_get xs i) refl h
+  where
+    by : (o : Option X) → slice_get xs i ≡ o → slice_get (option_map_or (λ x. slice_set xs i (f x)) o xs) j ≡ Some y
+        → ((x : X) × (slice_get xs j ≡ Some x) × (j ≡ i) × (y ≡ f x)) ⊎ (slice_get xs j ≡ Some y)
+    by None e h = inr h
+    by (Some x) e h = elim (slice_get-set_cases xs i j (f x) y h) [ inl new ↦ inl (x, ap (slice_get xs) new.0 ∙ e, new.0, new.1) | inr old ↦ inr old ]
+
+pub length-with_change : {X : Type 0} (f : X → X) (i : ℕ) (xs : List X) → length (with_change f i xs) ≡ length xs
+length-with_change {X} f i xs = by (slice_get xs i)
+  where
+    by : (o : Option X) → length (option_map_or (λ x. slice_set xs i (f x)) o xs) ≡ length xs
+    by None = refl
+    by (Some x) = length-slice_set xs i (f x)
+
+pub slice_get-set_same : {X : Type 0} (xs : List X) (i : ℕ) (w x : X) → slice_get xs i ≡ Some w → slice_get (slice_set xs i x) i ≡ Some x
+slice_get-set_same [] i w x h = cc
+slice_get-set_same (z ∷ xs) zero w x h = refl
+slice_get-set_same (z ∷ xs) (suc i) w x h = slice_get-set_same xs i w x h

@@ -1,0 +1,10 @@
+-- What the loops of `names::has_twice` keep.
+use Rattle.std.proofs.Common.{◌≡◌, take}
+use Rattle.llvm_core.specs.Names.{HasTwice}
+use Rattle.llvm_core.proofs.names.has_twice.Given as goal
+
+abbrev pub invariant-loop-name : goal.invariant-loop-name
+invariant-loop-name l = record {
+  seen : l.seen ≡ take l.name-index l.names;
+  once : ¬ HasTwice (take l.name-index l.names);
+}

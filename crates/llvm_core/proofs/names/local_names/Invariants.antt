@@ -1,0 +1,11 @@
+-- What the loops of `names::local_names` keep.
+use Rattle.std.proofs.Common.{◌≡◌, ◌++◌, take}
+use Rattle.std.specs.List.{flat_map}
+use Rattle.llvm_core.specs.Checked.{named, block_names}
+use Rattle.llvm_core.proofs.names.local_names.Given as goal
+
+abbrev pub invariant-loop-name : goal.invariant-loop-name
+invariant-loop-name l = l.names ≡ flat_map named (take l.name-index l.name-items)
+
+abbrev pub invariant-loop-block : goal.invariant-loop-block
+invariant-loop-block l = l.names ≡ l.initial.names ++ flat_map (block_names l.m) (take l.block-index l.block-items)

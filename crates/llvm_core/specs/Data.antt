@@ -1,0 +1,192 @@
+-- Module data: a module read as lists, with its types and constants as trees.
+use Rattle.std.specs.Prelude.{◌≡◌, ◌<◌, ℕ, Bool, length, if◌then◌else◌, nat_eq, List, [], ◌∷◌, ◌++◌, Option, All, map, slice_get, slice_set, slice_index_or}
+use Rattle.std.specs.List.{filter_map, enumerate_from}
+use Rattle.std.specs.Option.{option_map, option_map_or}
+use Rattle.llvm_core.specs.declared.numbers.LLVMType.{LLVMType}
+use Rattle.llvm_core.specs.declared.numbers.LLVMConst.{LLVMConst}
+use Rattle.llvm_core.specs.declared.numbers.LLVMBasicBlock.{LLVMBasicBlock}
+use Rattle.llvm_core.specs.declared.numbers.LLVMInstRef.{LLVMInstRef}
+use Rattle.llvm_core.specs.declared.types.LLVMTypeKind.{LLVMTypeKind}
+use Rattle.llvm_core.specs.declared.types.LLVMTypeKind.TheVariants as T
+use Rattle.llvm_core.specs.declared.consts.LLVMConstKind.{LLVMConstKind}
+use Rattle.llvm_core.specs.declared.consts.LLVMConstKind.TheVariants as C
+use Rattle.llvm_core.specs.declared.code.LLVMValue.{LLVMValue}
+use Rattle.llvm_core.specs.declared.code.LLVMValue.TheVariants as V
+use Rattle.llvm_core.specs.declared.code.LLVMInst.{LLVMInst}
+use Rattle.llvm_core.specs.declared.code.LLVMInst.TheVariants as I
+use Rattle.llvm_core.specs.declared.code.FunctionData.{FunctionData}
+use Rattle.llvm_core.specs.declared.code.BlockData.{BlockData}
+use Rattle.llvm_core.specs.declared.code.InstData.{InstData}
+use Rattle.llvm_core.specs.Module.{Module}
+use Rattle.llvm_core.specs.Parts.{result_type}
+
+-- ---- the data
+
+mutual
+  -- a type, a line for each kind
+  pub data TypeTree : Type 0 where
+    VoidType : TypeTree
+    IntType : (width : ℕ) → TypeTree
+    FunctionType : (result : TypeTree) (params : TypeTrees) (variadic : Bool) → TypeTree
+
+  pub data TypeTrees : Type 0 where
+    NoTypes : TypeTrees
+    ThenType : TypeTree → TypeTrees → TypeTrees
+
+-- a constant, a line for each kind
+pub data ConstTree : Type 0 where
+  IntConst : (type : TypeTree) (value : ℕ) → ConstTree
+
+-- what an operand names
+pub data Operand : Type 0 where
+  Constant : ConstTree → Operand
+  Parameter : (function place : ℕ) → Operand
+  Result : (instruction : ℕ) → Operand
+
+-- an instruction, a line for each kind
+pub data Instruction : Type 0 where
+  Return : (value : Option Operand) → Instruction
+
+-- an instruction of a block, with the type of its result
+pub record Placed : Type 0 where
+  pub number : ℕ
+  pub name : List ℕ
+  pub type : TypeTree
+  pub instruction : Instruction
+
+pub record Block : Type 0 where
+  pub number : ℕ
+  pub name : List ℕ
+  pub instructions : List Placed
+
+-- a function; one without blocks is a declaration; a name is empty where there is none
+pub record Function : Type 0 where
+  pub number : ℕ
+  pub name : List ℕ
+  pub type : TypeTree
+  pub space : ℕ
+  pub params : List (List ℕ)
+  pub blocks : List Block
+
+pub record ModuleData : Type 0 where
+  pub name : List ℕ
+  pub functions : List Function
+
+-- ---- the data of a module that keeps its types, constants and code under numbers
+
+-- what each kind makes of the trees of the earlier ones
+module _ {K T : Type 0} (tree_of : List T → K → T) where
+  abbrev pub trees_after : List T → List K → List T
+  trees_after done [] = done
+  trees_after done (k ∷ ks) = trees_after (done ++ tree_of done k ∷ []) ks
+
+abbrev pub type_at : List TypeTree → LLVMType → TypeTree
+type_at ts t = slice_index_or ts t.0 VoidType
+
+abbrev pub types_at : List TypeTree → List LLVMType → TypeTrees
+types_at ts [] = NoTypes
+types_at ts (t ∷ xs) = ThenType (type_at ts t) (types_at ts xs)
+
+abbrev pub type_tree : List TypeTree → LLVMTypeKind → TypeTree
+type_tree ts T.Void = VoidType
+type_tree ts (T.Int w) = IntType w
+type_tree ts (T.Function result params variadic) = FunctionType (type_at ts result) (types_at ts params) variadic
+
+abbrev pub type_trees : List LLVMTypeKind → List TypeTree
+type_trees ks = trees_after type_tree [] ks
+
+abbrev pub const_at : List ConstTree → LLVMConst → ConstTree
+const_at cs c = slice_index_or cs c.0 (IntConst VoidType 0)
+
+abbrev pub const_tree : List TypeTree → List ConstTree → LLVMConstKind → ConstTree
+const_tree ts cs (C.Int t v) = IntConst (type_at ts t) v
+
+abbrev pub const_trees : List TypeTree → List LLVMConstKind → List ConstTree
+const_trees ts ks = trees_after (const_tree ts) [] ks
+
+-- the trees that numbers of types and constants stand for
+pub record Trees : Type 0 where
+  pub types : List TypeTree
+  pub consts : List ConstTree
+
+abbrev pub trees_of : Module → Trees
+trees_of m = record { types = type_trees m.types; consts = const_trees (type_trees m.types) m.consts }
+
+abbrev pub operand_of : Trees → LLVMValue → Operand
+operand_of t (V.Const c) = Constant (const_at t.consts c)
+operand_of t (V.Param f place) = Parameter f.0 place
+operand_of t (V.Inst i) = Result i.0
+
+abbrev pub instruction_of : Trees → LLVMInst → Instruction
+instruction_of t (I.Ret value) = Return (option_map (operand_of t) value)
+
+-- the tree of the type of an instruction's result
+abbrev pub result_tree : Module → LLVMInst → TypeTree
+result_tree m i = option_map_or (type_at (trees_of m).types) (result_type m i) VoidType
+
+abbrev pub placed_of : Trees → LLVMInstRef → InstData → Placed
+placed_of t i x = record { number = i.0; name = x.name; type = type_at t.types x.ty; instruction = instruction_of t x.inst }
+
+-- the instruction of that number, where there is one
+abbrev pub placed_at : Trees → List InstData → LLVMInstRef → Option Placed
+placed_at t insts i = option_map (placed_of t i) (slice_get insts i.0)
+
+abbrev pub block_of : Trees → List InstData → LLVMBasicBlock → BlockData → Block
+block_of t insts b x = record {
+  number = b.0;
+  name = x.name;
+  instructions = filter_map (placed_at t insts) x.insts;
+}
+
+-- the block of that number, where there is one
+abbrev pub block_at : Trees → List BlockData → List InstData → LLVMBasicBlock → Option Block
+block_at t blocks insts b = option_map (block_of t insts b) (slice_get blocks b.0)
+
+abbrev pub function_of : Trees → List BlockData → List InstData → ℕ × FunctionData → Function
+function_of t blocks insts p = record {
+  number = p.0;
+  name = p.1.name;
+  type = type_at t.types p.1.ty;
+  space = p.1.space;
+  params = p.1.params;
+  blocks = filter_map (block_at t blocks insts) p.1.blocks;
+}
+
+abbrev pub data_of : Module → ModuleData
+data_of m = record {
+  name = m.name;
+  functions = map (function_of (trees_of m) m.blocks m.insts) (enumerate_from 0 m.functions);
+}
+
+-- equal types and equal constants, read as trees, have equal numbers
+pub record AreApart (m : Module) : Type 0 where
+  pub types : (a b : LLVMType) → a.0 < length m.types → b.0 < length m.types → type_at (trees_of m).types a ≡ type_at (trees_of m).types b → a ≡ b
+  pub consts : (a b : LLVMConst) → a.0 < length m.consts → b.0 < length m.consts → const_at (trees_of m).consts a ≡ const_at (trees_of m).consts b → a ≡ b
+
+-- P holds of each block
+abbrev pub AllBlocks : (Block → Type 0) → ModuleData → Type 0
+AllBlocks P d = All (λ (f : Function). All P f.blocks) d.functions
+
+-- P holds of each instruction
+abbrev pub AllPlaced : (Placed → Type 0) → ModuleData → Type 0
+AllPlaced P d = AllBlocks (λ (b : Block). All P b.instructions) d
+
+-- ---- how the building calls change the data
+
+abbrev pub with_function : ModuleData → Function → ModuleData
+with_function d f = record d { functions = d.functions ++ f ∷ [] }
+
+-- the function of that number has that name at that place of its parameters' names
+abbrev pub with_param : ModuleData → ℕ → ℕ → List ℕ → ModuleData
+with_param d f place name = record d { functions = map (λ (x : Function). if nat_eq x.number f then record x { params = slice_set x.params place name } else x) d.functions }
+
+-- the function of that number has the block last
+abbrev pub with_block : ModuleData → ℕ → Block → ModuleData
+with_block d f b = record d { functions = map (λ (x : Function). if nat_eq x.number f then record x { blocks = x.blocks ++ b ∷ [] } else x) d.functions }
+
+abbrev pub with_instruction_in : ℕ → Placed → Block → Block
+with_instruction_in b i x = if nat_eq x.number b then record x { instructions = x.instructions ++ i ∷ [] } else x
+
+-- the block of that number has the instruction last
+abbrev pub with_instruction : ModuleData → ℕ → Placed → ModuleData
+with_instruction d b i = record d { functions = map (λ (x : Function). record x { blocks = map (with_instruction_in b i) x.blocks }) d.functions }

@@ -1,0 +1,49 @@
+-- What is true of every module that calls have built.
+use Rattle.std.specs.Prelude.{◌≡◌, ◌<◌, ℕ, length, slice_get, Some, All}
+use Rattle.llvm_core.specs.declared.types.LLVMTypeKind.{LLVMTypeKind}
+use Rattle.llvm_core.specs.declared.consts.LLVMConstKind.{LLVMConstKind}
+use Rattle.llvm_core.specs.declared.numbers.LLVMBasicBlock.{LLVMBasicBlock}
+use Rattle.llvm_core.specs.declared.numbers.LLVMInstRef.{LLVMInstRef}
+use Rattle.llvm_core.specs.declared.code.FunctionData.{FunctionData}
+use Rattle.llvm_core.specs.declared.code.BlockData.{BlockData}
+use Rattle.llvm_core.specs.declared.code.InstData.{InstData}
+use Rattle.llvm_core.specs.Interned.{IsDistinctList}
+use Rattle.llvm_core.specs.Module.{Module}
+use Rattle.llvm_core.specs.Parts.{IsTypeOver, IsConstOver, IsFunctionType, HasValues, type_params}
+
+-- a function of a function type, with a name for each parameter, and blocks that are there
+pub record IsFunctionIn (m : Module) (x : FunctionData) : Type 0 where
+  pub typed : IsFunctionType m.types x.ty
+  pub params : length x.params ≡ length (type_params m.types x.ty)
+  pub blocks : All (λ (b : LLVMBasicBlock). b.0 < length m.blocks) x.blocks
+
+-- a block of a function that is there, with instructions that are there
+pub record IsBlockIn (m : Module) (x : BlockData) : Type 0 where
+  pub function : x.function.0 < length m.functions
+  pub insts : All (λ (i : LLVMInstRef). i.0 < length m.insts) x.insts
+
+-- an instruction of a block that is there, with a type and operands that are there
+pub record IsInstIn (m : Module) (x : InstData) : Type 0 where
+  pub block : x.block.0 < length m.blocks
+  pub typed : x.ty.0 < length m.types
+  pub values : HasValues m x.inst
+
+-- the block b stands in the list of the function that it names
+abbrev pub IsListedBlock : Module → (b : ℕ) → BlockData → Type 0
+IsListedBlock m b y = (x : FunctionData) × (place : ℕ) × (slice_get m.functions y.function.0 ≡ Some x) × (slice_get x.blocks place ≡ Some (record { 0 = b }))
+
+-- the instruction i stands in the list of the block that it names
+abbrev pub IsListedInst : Module → (i : ℕ) → InstData → Type 0
+IsListedInst m i z = (y : BlockData) × (place : ℕ) × (slice_get m.blocks z.block.0 ≡ Some y) × (slice_get y.insts place ≡ Some (record { 0 = i }))
+
+-- types and constants are made of earlier ones and stand once each; code names only what is there, and stands in the list of its owner
+pub record IsModule (m : Module) : Type 0 where
+  pub types : (i : ℕ) (k : LLVMTypeKind) → slice_get m.types i ≡ Some k → IsTypeOver i k
+  pub types_once : IsDistinctList m.types
+  pub consts : (i : ℕ) (k : LLVMConstKind) → slice_get m.consts i ≡ Some k → IsConstOver m.types k
+  pub consts_once : IsDistinctList m.consts
+  pub functions : (f : ℕ) (x : FunctionData) → slice_get m.functions f ≡ Some x → IsFunctionIn m x
+  pub blocks : (b : ℕ) (x : BlockData) → slice_get m.blocks b ≡ Some x → IsBlockIn m x
+  pub insts : (i : ℕ) (x : InstData) → slice_get m.insts i ≡ Some x → IsInstIn m x
+  pub listed_blocks : (b : ℕ) (y : BlockData) → slice_get m.blocks b ≡ Some y → IsListedBlock m b y
+  pub listed_insts : (i : ℕ) (z : InstData) → slice_get m.insts i ≡ Some z → IsListedInst m i z

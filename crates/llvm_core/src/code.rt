@@ -1,0 +1,49 @@
+//! Functions, blocks and instructions, as a module keeps them.
+
+use crate::items::Items;
+use crate::numbers::{LLVMBasicBlock, LLVMConst, LLVMFunction, LLVMInstRef, LLVMType};
+use crate::text::Text;
+
+/// What an operand names.
+#[derive(Clone, Copy, PartialEq, Eq, Hash, Debug, Drop)]
+pub enum LLVMValue {
+    Const(LLVMConst),
+    /// The parameter of a function at a place, counted from 0.
+    Param(LLVMFunction, u32),
+    /// The result of an instruction.
+    Inst(LLVMInstRef),
+}
+
+/// An instruction: one variant for each kind, with its operands in order and then its immediates.
+#[derive(Drop)]
+pub enum LLVMInst {
+    /// `ret void` or `ret` of a value (Language Reference, "ret" Instruction).
+    Ret(Option<LLVMValue>),
+}
+
+/// A function of a module. The name of a parameter without one is empty.
+#[derive(Drop)]
+pub struct FunctionData {
+    pub name: Text,
+    pub ty: LLVMType,
+    pub space: u32,
+    pub params: Items<Text>,
+    pub blocks: Items<LLVMBasicBlock>,
+}
+
+/// A block of a module, with the function that holds it.
+#[derive(Drop)]
+pub struct BlockData {
+    pub name: Text,
+    pub function: LLVMFunction,
+    pub insts: Items<LLVMInstRef>,
+}
+
+/// An instruction of a module, with the block that holds it and the type of its result.
+#[derive(Drop)]
+pub struct InstData {
+    pub name: Text,
+    pub block: LLVMBasicBlock,
+    pub ty: LLVMType,
+    pub inst: LLVMInst,
+}

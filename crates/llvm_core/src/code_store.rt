@@ -1,0 +1,203 @@
+//! The functions, blocks and instructions of a module, under their numbers.
+
+ghost use Rattle.std.specs.Prelude.{◌≡◌, ◌<◌, IfOk, OnErr, OnOk, Some, [], length, slice_get};
+ghost use Rattle.std.specs.Option.{option_map};
+ghost use Rattle.llvm_core.specs.Code.{with_function, with_param_name, with_block, with_inst, param_names};
+
+use crate::code::{BlockData, FunctionData, InstData, LLVMInst};
+use crate::items::{Items, append_both};
+use crate::numbers::{LLVMBasicBlock, LLVMFunction, LLVMInstRef, LLVMType};
+use crate::text::Text;
+use std::alloc::{AllocError, Global};
+use std::marker::Model;
+
+/// The functions, blocks and instructions of a module, seen as their lists.
+#[derive(Drop)]
+pub struct CodeStore {
+    alloc: Global,
+    functions: Vec<FunctionData>,
+    blocks: Vec<BlockData>,
+    insts: Vec<InstData>,
+}
+
+impl Model for CodeStore {
+    ghost use Rattle.llvm_core.specs.Code.{Code, IsFew};
+
+    ghost Value = { Code };
+
+    ghost view = { λ c. record {
+      functions = c.functions.items;
+      blocks = c.blocks.items;
+      insts = c.insts.items;
+    } };
+
+    ghost invariant = { λ c. IsFew (record {
+      functions = c.functions.items;
+      blocks = c.blocks.items;
+      insts = c.insts.items;
+    }) };
+}
+
+impl CodeStore {
+    pub fn new(alloc: Global) -> CodeStore
+        ensures { result ≡ record { functions = []; blocks = []; insts = [] } }
+    {
+        CodeStore {
+            alloc,
+            functions: Vec::new(alloc),
+            blocks: Vec::new(alloc),
+            insts: Vec::new(alloc),
+        }
+    }
+
+    /// Appends a function without blocks.
+    pub fn add_function(
+        &mut self,
+        name: &str,
+        ty: LLVMType,
+        space: u32,
+        params: Items<Text>,
+    ) -> Result<LLVMFunction, AllocError>
+        ensures number { IfOk result (λ f. f.0 ≡ length self.old.functions) }
+        ensures ok { OnOk result (self.new ≡ with_function self.old (record { name = name.now; ty = ty; space = space; params = params; blocks = [] })) }
+        ensures err { OnErr result (self.new ≡ self.old) }
+    {
+        let name = Text::copy(self.alloc, name)?;
+        let at = self.functions.len();
+        if at >= u32::MAX as usize {
+            return Err(AllocError);
+        }
+        let blocks = Items::new(self.alloc);
+        self.functions.push(FunctionData {
+            name,
+            ty,
+            space,
+            params,
+            blocks,
+        })?;
+        Ok(LLVMFunction(at as u32))
+    }
+
+    /// Names a parameter.
+    pub fn set_param_name(
+        &mut self,
+        f: LLVMFunction,
+        place: u32,
+        name: &str,
+    ) -> Result<(), AllocError>
+        requires { place < length (param_names self.old.functions f) }
+        ensures ok { OnOk result (self.new ≡ with_param_name self.old f place name.now) }
+        ensures err { OnErr result (self.new ≡ self.old) }
+    {
+        let name = Text::copy(self.alloc, name)?;
+        self.functions[f.0 as usize]
+            .params
+            .set(place as usize, name);
+        Ok(())
+    }
+
+    /// Appends a block without instructions.
+    pub fn append_block(
+        &mut self,
+        f: LLVMFunction,
+        name: &str,
+    ) -> Result<LLVMBasicBlock, AllocError>
+        requires { f.0 < length self.old.functions }
+        ensures number { IfOk result (λ b. b.0 ≡ length self.old.blocks) }
+        ensures ok { IfOk result (λ b. self.new ≡ with_block self.old f b name.now) }
+        ensures err { OnErr result (self.new ≡ self.old) }
+    {
+        let name = Text::copy(self.alloc, name)?;
+        let at = self.blocks.len();
+        if at >= u32::MAX as usize {
+            return Err(AllocError);
+        }
+        let number = LLVMBasicBlock(at as u32);
+        let insts = Items::new(self.alloc);
+        let function = &mut self.functions[f.0 as usize];
+        append_both(
+            &mut self.blocks,
+            &mut function.blocks,
+            BlockData {
+                name,
+                function: f,
+                insts,
+            },
+            number,
+        )?;
+        Ok(number)
+    }
+
+    /// Appends an instruction to a block.
+    pub fn append_inst(
+        &mut self,
+        block: LLVMBasicBlock,
+        name: &str,
+        ty: LLVMType,
+        inst: LLVMInst,
+    ) -> Result<LLVMInstRef, AllocError>
+        requires { block.0 < length self.old.blocks }
+        ensures number { IfOk result (λ i. i.0 ≡ length self.old.insts) }
+        ensures ok { IfOk result (λ i. self.new ≡ with_inst self.old block i name.now ty inst) }
+        ensures err { OnErr result (self.new ≡ self.old) }
+    {
+        let name = Text::copy(self.alloc, name)?;
+        let at = self.insts.len();
+        if at >= u32::MAX as usize {
+            return Err(AllocError);
+        }
+        let number = LLVMInstRef(at as u32);
+        let row = &mut self.blocks[block.0 as usize];
+        append_both(
+            &mut self.insts,
+            &mut row.insts,
+            InstData {
+                name,
+                block,
+                ty,
+                inst,
+            },
+            number,
+        )?;
+        Ok(number)
+    }
+
+    pub fn function_count(&self) -> u32
+        ensures { result ≡ length self.now.functions }
+    {
+        self.functions.len() as u32
+    }
+
+    pub fn block_count(&self) -> u32
+        ensures { result ≡ length self.now.blocks }
+    {
+        self.blocks.len() as u32
+    }
+
+    pub fn inst_count(&self) -> u32
+        ensures { result ≡ length self.now.insts }
+    {
+        self.insts.len() as u32
+    }
+
+    pub fn function(&self, f: LLVMFunction) -> &FunctionData
+        requires { f.0 < length self.now.functions }
+        ensures { slice_get self.now.functions f.0 ≡ Some result.now }
+    {
+        &self.functions[f.0 as usize]
+    }
+
+    pub fn block(&self, b: LLVMBasicBlock) -> &BlockData
+        requires { b.0 < length self.now.blocks }
+        ensures { slice_get self.now.blocks b.0 ≡ Some result.now }
+    {
+        &self.blocks[b.0 as usize]
+    }
+
+    pub fn inst(&self, i: LLVMInstRef) -> &InstData
+        requires { i.0 < length self.now.insts }
+        ensures { slice_get self.now.insts i.0 ≡ Some result.now }
+    {
+        &self.insts[i.0 as usize]
+    }
+}
