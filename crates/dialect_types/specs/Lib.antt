@@ -1,0 +1,5 @@
+-- The definitions that contracts cite.
+pub mod Interned
+pub mod Names
+pub mod Text
+pub mod Trees

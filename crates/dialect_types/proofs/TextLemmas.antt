@@ -1,0 +1,69 @@
+-- Bytes that keep what stood there before, and texts with commas between them.
+use Rattle.std.proofs.Common.{◌≡◌, ◌<◌, ◌+◌, ℕ, zero, suc, Bool, List, [], ◌∷◌, ◌++◌, length, get_or, take, map, refl, sym, ◌∙◌, ap, append_assoc, arith}
+use Rattle.std.specs.Prelude.{codes}
+use Rattle.std.proofs.Math.Seq.{take-length}
+use Rattle.std.proofs.lemmas.List.{append-nil, take_more, map-append, length-map, length-take-le}
+use Rattle.dialect_types.specs.declared.types.TypeHandle.{TypeHandle}
+use Rattle.dialect_types.specs.Trees.{TypeTree, FuncType, types_at, type_at, AllBelow}
+use Rattle.dialect_types.specs.Text.{Keeps, comma_before, each_after, joined, truth_text, type_text, type_texts}
+
+pub keeps_same : (a : List ℕ) → Keeps a a
+keeps_same a = record { rest = []; is = sym (append-nil a) }
+
+pub keeps_more : (a b c : List ℕ) → Keeps a b → Keeps a (b ++ c)
+keeps_more a b c h = record { rest = h.rest ++ c; is = ap (λ (x : List ℕ). x ++ c) h.is ∙ append_assoc a h.rest c }
+
+pub keeps_then : (a b c : List ℕ) → Keeps a b → Keeps b c → Keeps a c
+keeps_then a b c h k = record { rest = h.rest ++ k.rest; is = k.is ∙ ap (λ (x : List ℕ). x ++ k.rest) h.is ∙ append_assoc a h.rest k.rest }
+
+-- the rules by which bytes keep what stood there
+pub ruleset keeping = (keeps_same, keeps_more, keeps_then)
+
+-- ---- commas
+
+each_after-push : (xs : List (List ℕ)) (x : List ℕ) → each_after (xs ++ x ∷ []) ≡ each_after xs ++ (44 ∷ 32 ∷ x)
+each_after-push [] x = simp append-nil
+each_after-push (y ∷ xs) x = rw (each_after-push xs x, append_assoc)
+
+pub joined-push : (xs : List (List ℕ)) (x : List ℕ) → joined (xs ++ x ∷ []) ≡ joined xs ++ (comma_before (length xs) ++ x)
+joined-push [] x = append-nil x
+joined-push (y ∷ xs) x = rw (each_after-push xs x) (sym (append_assoc y (each_after xs) (44 ∷ 32 ∷ x)))
+
+-- the texts of one more item
+pub joined_more : {X : Type 0} (f : X → List ℕ) (xs : List X) (i : ℕ) (d : X) → i < length xs → joined (map f (take (i + 1) xs)) ≡ joined (map f (take i xs)) ++ (comma_before i ++ f (get_or xs i d))
+joined_more {X} f xs i d h =
+    let few : length (map f (take i xs)) ≡ i = length-map (take i xs) f ∙ length-take-le i xs (omega arith) in
+    ap (λ (ys : List X). joined (map f ys)) (take_more xs i d h)
+    ∙ ap joined (map-append f (take i xs) (get_or xs i d ∷ []))
+    ∙ joined-push (map f (take i xs)) (f (get_or xs i d))
+    ∙ ap (λ (n : ℕ). joined (map f (take i xs)) ++ (comma_before n ++ f (get_or xs i d))) few
+
+-- the texts of types are those of their numbers
+pub type_texts-map : (ts : List TypeTree) (xs : List TypeHandle) → type_texts (types_at ts xs) ≡ map (λ (x : TypeHandle). type_text (type_at ts x)) xs
+type_texts-map ts [] = refl
+type_texts-map ts (x ∷ xs) = ap (λ (ys : List (List ℕ)). type_text (type_at ts x) ∷ ys) (type_texts-map ts xs)
+
+pub AllBelow-at : (n : ℕ) (xs : List TypeHandle) (i : ℕ) (d : TypeHandle) → AllBelow n xs → i < length xs → (get_or xs i d).0 < n
+AllBelow-at n [] i d h l = absurd (omega arith)
+AllBelow-at n (x ∷ xs) zero d h l = h.0
+AllBelow-at n (x ∷ xs) (suc i) d h l = AllBelow-at n xs i d h.1 (omega arith)
+
+-- a comma and the next text have been appended
+pub joined_step : {X : Type 0} (f : X → List ℕ) (xs : List X) (i : ℕ) (d : X) (start before comma after : List ℕ) → i < length xs → before ≡ start ++ joined (map f (take i xs)) → comma ≡ before ++ comma_before i → after ≡ comma ++ f (get_or xs i d) → after ≡ start ++ joined (map f (take (i + 1) xs))
+joined_step f xs i d start before comma after h so_far with_comma with_text =
+    with_text ∙ ap (λ (x : List ℕ). x ++ f (get_or xs i d)) (with_comma ∙ ap (λ (x : List ℕ). x ++ comma_before i) so_far)
+    ∙ append_assoc (start ++ joined (map f (take i xs))) (comma_before i) (f (get_or xs i d))
+    ∙ append_assoc start (joined (map f (take i xs))) (comma_before i ++ f (get_or xs i d))
+    ∙ ap (λ (x : List ℕ). start ++ x) (sym (joined_more f xs i d h))
+
+-- the pieces of a function type, one after another
+pub func_printed : (ts : List TypeTree) (r : TypeHandle) (ps qs : List TypeHandle) (v : Bool) (n : ℕ) (o head result opened params close truth end : List ℕ)
+    → qs ≡ ps → n ≡ length qs
+    → head ≡ o ++ codes "llvm.func <" → result ≡ head ++ type_text (type_at ts r) → opened ≡ result ++ codes " ("
+    → params ≡ opened ++ joined (map (λ (x : TypeHandle). type_text (type_at ts x)) (take n qs))
+    → close ≡ params ++ codes ") variadic = " → truth ≡ close ++ truth_text v → end ≡ truth ++ codes ">"
+    → end ≡ o ++ type_text (FuncType (type_at ts r) (types_at ts ps) v)
+func_printed ts r ps qs v n o head result opened params close truth end same all e1 e2 e3 e4 e5 e6 e7 =
+    let whole : take n qs ≡ ps = ap (λ (k : ℕ). take k qs) all ∙ take-length qs ∙ same in
+    let texts = ap joined (ap (map (λ (x : TypeHandle). type_text (type_at ts x))) whole ∙ sym (type_texts-map ts ps)) in
+    simp (e7, e6, e5, e4, texts, e3, e2, e1, append_assoc)

@@ -1,0 +1,51 @@
+-- The dialect text of types and constants.
+use Rattle.std.specs.Prelude.{◌≡◌, ℕ, zero, suc, Bool, true, false, List, [], ◌∷◌, ◌++◌, codes}
+use Rattle.std.specs.Fmt.{decimal}
+use Rattle.dialect_types.specs.Trees.{TypeTree, VoidType, IntegerType, FuncType, TypeTrees, NoTypes, ThenType, AttrTree, IntegerAttr}
+
+-- the word of a truth value
+abbrev pub truth_text : Bool → List ℕ
+truth_text true = codes "true"
+truth_text false = codes "false"
+
+-- the bytes begin with what stood there before
+pub record Keeps (before after : List ℕ) : Type 0 where
+  pub rest : List ℕ
+  pub is : after ≡ before ++ rest
+
+-- a comma before each text but the first, which stands at the place 0
+abbrev pub comma_before : ℕ → List ℕ
+comma_before zero = []
+comma_before (suc n) = codes ", "
+
+-- each text after a comma
+abbrev pub each_after : List (List ℕ) → List ℕ
+each_after [] = []
+each_after (x ∷ xs) = codes ", " ++ x ++ each_after xs
+
+-- texts with commas between them
+abbrev pub joined : List (List ℕ) → List ℕ
+joined [] = []
+joined (x ∷ xs) = x ++ each_after xs
+
+abbrev mutual
+  -- the text of a type
+  pub type_text : TypeTree → List ℕ
+  type_text VoidType = codes "llvm.void"
+  type_text (IntegerType w) = codes "builtin.integer i" ++ decimal w
+  type_text (FuncType result params variadic) =
+      codes "llvm.func <" ++ type_text result ++ codes " (" ++ joined (type_texts params) ++ codes ") variadic = " ++ truth_text variadic ++ codes ">"
+
+  -- the text of each type
+  pub type_texts : TypeTrees → List (List ℕ)
+  type_texts NoTypes = []
+  type_texts (ThenType t ts) = type_text t ∷ type_texts ts
+
+-- the type of an integer constant inside its text: `iW` for an integer type
+abbrev pub inner_type_text : TypeTree → List ℕ
+inner_type_text (IntegerType w) = codes "i" ++ decimal w
+inner_type_text t = type_text t
+
+-- the text of a constant
+abbrev pub attr_text : AttrTree → List ℕ
+attr_text (IntegerAttr type value) = codes "builtin.integer <" ++ decimal value ++ codes ": " ++ inner_type_text type ++ codes ">"

@@ -1,0 +1,161 @@
+//! The dialect text of types and constants.
+
+ghost use Rattle.std.specs.Prelude.{◌≡◌, ◌<◌, ◌++◌, length, OnOk};
+ghost use Rattle.std.specs.Fmt.{decimal};
+ghost use Rattle.dialect_types.specs.Trees.{type_at, type_trees, attr_tree, HasTypesBelow, IntegerAttr};
+ghost use Rattle.dialect_types.specs.Text.{Keeps, comma_before, inner_type_text, type_text, attr_text, truth_text};
+
+use crate::attrs::ConstAttr;
+use crate::type_store::TypeStore;
+use crate::types::{TypeHandle, TypeKind};
+use itoa::Buffer;
+use std::alloc::AllocError;
+
+/// Appends a number in decimal.
+pub fn print_number(number: u64, out: &mut Vec<u8>) -> Result<(), AllocError>
+    ensures ok { OnOk result (out.new.items ≡ out.old.items ++ decimal number) }
+    ensures kept { Keeps out.old.items out.new.items }
+{
+    let mut buffer = Buffer::new();
+    out.extend_from_slice(buffer.format(number).as_bytes())
+}
+
+/// Appends a comma before each text but the first.
+pub fn print_comma_before(place: usize, out: &mut Vec<u8>) -> Result<(), AllocError>
+    ensures ok { OnOk result (out.new.items ≡ out.old.items ++ comma_before place) }
+    ensures kept { Keeps out.old.items out.new.items }
+{
+    if place == 0 {
+        return Ok(());
+    }
+    out.extend_from_slice(b", ")
+}
+
+/// Appends the word of a truth value.
+pub fn print_truth(truth: bool, out: &mut Vec<u8>) -> Result<(), AllocError>
+    ensures ok { OnOk result (out.new.items ≡ out.old.items ++ truth_text truth) }
+    ensures kept { Keeps out.old.items out.new.items }
+{
+    if truth {
+        out.extend_from_slice(b"true")
+    } else {
+        out.extend_from_slice(b"false")
+    }
+}
+
+impl TypeStore {
+    /// Appends the text of a type.
+    pub fn print_type(&self, ty: TypeHandle, out: &mut Vec<u8>) -> Result<(), AllocError>
+        requires { ty.0 < length self.now }
+        ensures ok { OnOk result (out.new.items ≡ out.old.items ++ type_text (type_at (type_trees self.now) ty)) }
+        ensures kept { Keeps out.old.items out.new.items }
+    {
+        match self.kind(ty) {
+            TypeKind::Void => out.extend_from_slice(b"llvm.void"),
+            TypeKind::Integer(width) => {
+                out.extend_from_slice(b"builtin.integer i")?;
+                print_number(u64::from(*width), out)
+            }
+            TypeKind::Func {
+                result,
+                params,
+                variadic,
+            } => {
+                out.extend_from_slice(b"llvm.func <")?;
+                self.print_type(*result, out)?;
+                out.extend_from_slice(b" (")?;
+                for (i, param) in params.as_slice().iter().enumerate() {
+                    print_comma_before(i, out)?;
+                    self.print_type(*param, out)?;
+                }
+                out.extend_from_slice(b") variadic = ")?;
+                print_truth(*variadic, out)?;
+                out.extend_from_slice(b">")?;
+                Ok(())
+            }
+        }
+    }
+
+    /// Appends the type of an integer constant as it stands inside the constant's text.
+    fn print_inner_type(&self, ty: TypeHandle, out: &mut Vec<u8>) -> Result<(), AllocError>
+        requires { ty.0 < length self.now }
+        ensures ok { OnOk result (out.new.items ≡ out.old.items ++ inner_type_text (type_at (type_trees self.now) ty)) }
+        ensures kept { Keeps out.old.items out.new.items }
+    {
+        match self.kind(ty) {
+            TypeKind::Integer(width) => {
+                out.extend_from_slice(b"i")?;
+                print_number(u64::from(*width), out)
+            }
+            _ => self.print_type(ty, out),
+        }
+    }
+}
+
+/// Appends the text of an integer constant.
+fn print_integer(
+    types: &TypeStore,
+    ty: TypeHandle,
+    value: u64,
+    out: &mut Vec<u8>,
+) -> Result<(), AllocError>
+    requires { ty.0 < length types.now }
+    ensures ok { OnOk result (out.new.items ≡ out.old.items ++ attr_text (IntegerAttr (type_at (type_trees types.now) ty) value)) }
+    ensures kept { Keeps out.old.items out.new.items }
+{
+    out.extend_from_slice(b"builtin.integer <")?;
+    print_number(value, out)?;
+    out.extend_from_slice(b": ")?;
+    types.print_inner_type(ty, out)?;
+    out.extend_from_slice(b">")?;
+    Ok(())
+}
+
+impl ConstAttr {
+    /// Appends the text of a constant.
+    pub fn print(&self, types: &TypeStore, out: &mut Vec<u8>) -> Result<(), AllocError>
+        requires { HasTypesBelow (length types.now) self.now }
+        ensures ok { OnOk result (out.new.items ≡ out.old.items ++ attr_text (attr_tree (type_trees types.now) self.now)) }
+        ensures kept { Keeps out.old.items out.new.items }
+    {
+        match self {
+            ConstAttr::Integer(ty, value) => print_integer(types, *ty, *value, out),
+        }
+    }
+}
+
+#[cfg(test)]
+mod tests {
+    use super::*;
+    use crate::items::Items;
+    use std::test::Fail;
+
+    #[test]
+    fn prints_types_and_constants(rt: HostRuntime) -> Result<(), Fail> {
+        let alloc = rt.alloc();
+        let mut types = TypeStore::new(alloc);
+        let int = types.get(TypeKind::Integer(32))?;
+        let void = types.get(TypeKind::Void)?;
+        let mut params = Items::new(alloc);
+        params.push(int)?;
+        params.push(int)?;
+        let func = types.get(TypeKind::Func {
+            result: void,
+            params,
+            variadic: true,
+        })?;
+        let again = types.get(TypeKind::Integer(32))?;
+        assert_eq!(rt; again, int);
+
+        let mut out = Vec::new(alloc);
+        types.print_type(func, &mut out)?;
+        let expected =
+            b"llvm.func <llvm.void (builtin.integer i32, builtin.integer i32) variadic = true>";
+        assert_eq!(rt; out.as_slice(), expected.as_slice());
+
+        let mut out = Vec::new(alloc);
+        ConstAttr::Integer(int, 7).print(&types, &mut out)?;
+        assert_eq!(rt; out.as_slice(), b"builtin.integer <7: i32>".as_slice());
+        Ok(())
+    }
+}

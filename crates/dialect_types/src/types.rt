@@ -1,0 +1,20 @@
+//! Types, as a store keeps them.
+
+use crate::items::Items;
+
+/// The number of a type in its store.
+#[derive(Clone, Copy, PartialEq, Eq, Hash, Debug, Drop)]
+pub struct TypeHandle(pub u32);
+
+/// A type, whose parts are numbers of earlier types: a line for each kind.
+#[derive(PartialEq, Eq, Hash, Drop)]
+pub enum TypeKind {
+    /// An integer type of a width in bits.
+    Integer(u32),
+    Func {
+        result: TypeHandle,
+        params: Items<TypeHandle>,
+        variadic: bool,
+    },
+    Void,
+}
