@@ -1,0 +1,8 @@
+-- The definitions that contracts cite.
+pub mod ContextData
+pub mod Data
+pub mod Lending
+pub mod Links
+pub mod Lists
+pub mod Numbering
+pub mod Text

@@ -1,2 +1,15 @@
 //! Operations of the dialect, their blocks and regions, and the text of a module.
 #![tactic(auto)]
+
+pub mod context;
+mod counting;
+pub mod linkage;
+pub mod lists;
+mod module_printing;
+pub mod numbering;
+pub mod numbers;
+pub mod ops;
+mod printing;
+pub mod steps;
+#[cfg(test)]
+mod tests;

@@ -1,0 +1,22 @@
+-- The lemmas that proofs cite.
+pub mod ChainLemmas
+pub mod DataLemmas
+pub mod FilterLemmas
+pub mod InsertLemmas
+pub mod LinkLemmas
+pub mod ContextLemmas
+pub mod ListLemmas
+pub mod NewBlockLemmas
+pub mod ArgumentLemmas
+pub mod TypeLemmas
+pub mod TypedLemmas
+pub mod ReadLemmas
+pub mod AppendLemmas
+pub mod WalkLemmas
+pub mod NumberLemmas
+pub mod HeldLemmas
+pub mod CountLemmas
+pub mod PrintLemmas
+pub mod ArgumentPrintLemmas
+pub mod ModulePrintLemmas
+pub mod CallerLemmas

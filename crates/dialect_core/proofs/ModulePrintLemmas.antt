@@ -1,0 +1,129 @@
+-- The texts of blocks, functions and modules by the pieces that are printed.
+use Rattle.std.proofs.Common.{◌≡◌, ◌<◌, ℕ, true, List, [], ◌∷◌, ◌++◌, Option, Some, None, All, is_some, length, slice_get, get_or, map, ap, sym, refl, ◌∙◌, arith, append_assoc}
+use Rattle.std.proofs.Math.Path.{fun_ext}
+use Rattle.std.specs.Prelude.{codes, unwrap_or, IfSome}
+use Rattle.std.specs.List.{filter_map, flat_map, cons_option}
+use Rattle.std.specs.Option.{option_map, option_map_or, option_and_then}
+use Rattle.std.proofs.lemmas.Option.{none-some, same_Some, slice_get-get_or}
+use Rattle.dialect_types.specs.declared.types.TypeHandle.{TypeHandle}
+use Rattle.dialect_types.specs.Trees.{TypeTree, type_at, type_trees}
+use Rattle.dialect_types.specs.Text.{type_text}
+use Rattle.dialect_core.specs.declared.numbers.OpRef.{OpRef}
+use Rattle.dialect_core.specs.declared.numbers.BlockRef.{BlockRef}
+use Rattle.dialect_core.specs.declared.linkage.LinkageAttr.{LinkageAttr}
+use Rattle.dialect_core.specs.declared.ops.Value.{Value}
+use Rattle.dialect_core.specs.declared.ops.Symbol.{Symbol}
+use Rattle.dialect_core.specs.declared.ops.OpData.{OpData}
+use Rattle.dialect_core.specs.declared.ops.BlockData.{BlockData}
+use Rattle.dialect_core.specs.ContextData.{ContextData, symbol_at}
+use Rattle.dialect_core.specs.Lists.{list_at}
+use Rattle.dialect_core.specs.Data.{DialectModule, DialectBlock, op_at, block_of, block_in, func_of, func_in, name_at, held, data_of, IsTyped}
+use Rattle.dialect_core.specs.Text.{option_text, op_text, label_text, block_text, body_text, linkage_text, func_head_text, func_text, module_text_by, module_text, value_number, block_number}
+use Rattle.dialect_core.proofs.CountLemmas.{flat_filter}
+use Rattle.dialect_core.proofs.NewBlockLemmas.{func}
+use Rattle.dialect_core.proofs.PrintLemmas.{between}
+
+-- a function is there
+pub symbol_there : (o : Option Symbol) → true ≡ is_some o → (s : Symbol) × (o ≡ Some s)
+symbol_there None h = cc
+symbol_there (Some s) h = (s, refl)
+
+five : (start o1 o2 o3 o4 end a b c d e : List ℕ) → o1 ≡ start ++ a → o2 ≡ o1 ++ b → o3 ≡ o2 ++ c → o4 ≡ o3 ++ d → end ≡ o4 ++ e → end ≡ start ++ ((((a ++ b) ++ c) ++ d) ++ e)
+five start o1 o2 o3 o4 end a b c d e e1 e2 e3 e4 e5 = simp (e5, e4, e3, e2, e1, append_assoc)
+
+-- two texts one after the other
+two : (start mid end a b : List ℕ) → mid ≡ start ++ a → end ≡ mid ++ b → end ≡ start ++ (a ++ b)
+two start mid end a b e f = f ∙ ap (λ (x : List ℕ). x ++ b) e ∙ append_assoc start a b
+
+module _ (values : Value → Option ℕ) (blocks : BlockRef → Option ℕ) (c : ContextData) where
+  abbrev ts : List TypeTree
+  ts = type_trees c.types
+
+  -- ---- blocks
+
+  pub block_printed : (b : BlockRef) (label : Option (List ℕ)) (args : List TypeHandle) (ops : List OpRef) (start line end : List ℕ) → option_map (λ (x : BlockData). x.label) (slice_get c.blocks b.0) ≡ Some label → option_map (λ (x : BlockData). x.args) (slice_get c.blocks b.0) ≡ Some args → ops ≡ list_at c.lists b
+      → line ≡ start ++ label_text values blocks b label (map (type_at (type_trees c.types)) args) → end ≡ line ++ flat_map (λ (o : OpRef). option_text (op_text values blocks) (op_at (type_trees c.types) c.ops o)) ops
+      → end ≡ start ++ option_text (block_text values blocks) (block_in (type_trees c.types) c b)
+  block_printed b label args ops start line end is_label is_args is_ops is_line is_end = by (slice_get c.blocks b.0) is_label is_args
+    where
+      by : (x : Option BlockData) → option_map (λ (x : BlockData). x.label) x ≡ Some label → option_map (λ (x : BlockData). x.args) x ≡ Some args → end ≡ start ++ option_text (block_text values blocks) (option_map (block_of (type_trees c.types) c b) x)
+      by None l a = absurd (none-some label l)
+      by (Some x) l a =
+          two start line end (label_text values blocks b label (map (type_at (type_trees c.types)) args)) _ is_line is_end
+          ∙ ap (λ (n : Option (List ℕ)). start ++ (label_text values blocks b n (map (type_at (type_trees c.types)) args) ++ flat_map (λ (o : OpRef). option_text (op_text values blocks) (op_at (type_trees c.types) c.ops o)) ops)) (sym (same_Some x.label label l))
+          ∙ ap (λ (t : List TypeHandle). start ++ (label_text values blocks b x.label (map (type_at (type_trees c.types)) t) ++ flat_map (λ (o : OpRef). option_text (op_text values blocks) (op_at (type_trees c.types) c.ops o)) ops)) (sym (same_Some x.args args a))
+          ∙ ap (λ (t : List ℕ). start ++ (label_text values blocks b x.label (map (type_at (type_trees c.types)) x.args) ++ t))
+          (ap (flat_map (λ (o : OpRef). option_text (op_text values blocks) (op_at (type_trees c.types) c.ops o))) is_ops ∙ sym (flat_filter (op_at (type_trees c.types) c.ops) (op_text values blocks) (list_at c.lists b)))
+
+  -- ---- bodies
+
+  pub body_printed : (bs : List BlockRef) (start opened inner end : List ℕ) → ¬ (length bs ≡ 0) → All (λ (b : BlockRef). b.0 < length c.blocks) bs → opened ≡ start ++ codes " {\n" → inner ≡ opened ++ flat_map (λ (b : BlockRef). option_text (block_text values blocks) (block_in (type_trees c.types) c b)) bs → end ≡ inner ++ codes "  }\n"
+      → end ≡ start ++ body_text values blocks (filter_map (block_in (type_trees c.types) c) bs)
+  body_printed [] start opened inner end some within e1 e2 e3 = absurd (some refl)
+  body_printed (b ∷ bs) start opened inner end some within e1 e2 e3 = by (slice_get c.blocks b.0) refl
+    where
+      by : (x : Option BlockData) → slice_get c.blocks b.0 ≡ x → end ≡ start ++ body_text values blocks (filter_map (block_in (type_trees c.types) c) (b ∷ bs))
+      by None gone =
+          let d : BlockData = record { holder = record { 0 = 0 }; label = None; args = [] } in
+          absurd (none-some (get_or c.blocks b.0 d) (sym gone ∙ slice_get-get_or c.blocks b.0 d (within 0 b (omega arith))))
+      by (Some x) there =
+          let all : filter_map (block_in (type_trees c.types) c) (b ∷ bs) ≡ block_of (type_trees c.types) c b x ∷ filter_map (block_in (type_trees c.types) c) bs = ap (λ (o : Option BlockData). cons_option (option_map (block_of (type_trees c.types) c b) o) (filter_map (block_in (type_trees c.types) c) bs)) there in
+          between start opened inner end (codes " {\n") _ (codes "  }\n") e1 e2 e3
+          ∙ ap (λ (t : List ℕ). start ++ ((codes " {\n" ++ t) ++ codes "  }\n")) (sym (flat_filter (block_in (type_trees c.types) c) (block_text values blocks) (b ∷ bs)) ∙ ap (flat_map (block_text values blocks)) all)
+          ∙ sym (ap (λ (ys : List DialectBlock). start ++ body_text values blocks ys) all)
+
+  -- ---- functions
+
+  pub func_printed : (op : OpRef) (name : List ℕ) (ty : TypeHandle) (linkage : LinkageAttr) (bs : List BlockRef) (start head end : List ℕ) → name ≡ name_at c.ops op.0 → option_map (λ (s : Symbol). s.ty) (symbol_at c.ops op) ≡ Some ty → option_map (λ (s : Symbol). s.linkage) (symbol_at c.ops op) ≡ Some linkage
+      → option_map (λ (x : OpData). x.blocks) (slice_get c.ops op.0) ≡ Some bs
+      → head ≡ start ++ func_head_text name (type_at (type_trees c.types) ty) linkage → end ≡ head ++ body_text values blocks (filter_map (block_in (type_trees c.types) c) bs)
+      → end ≡ start ++ option_text (func_text values blocks) (func_in (type_trees c.types) c op)
+  func_printed op name ty linkage bs start head end is_name is_ty is_linkage is_bs is_head is_end = two start head end (func_head_text name (type_at (type_trees c.types) ty) linkage) (body_text values blocks (filter_map (block_in (type_trees c.types) c) bs)) is_head is_end ∙ by (slice_get c.ops op.0) refl is_ty is_linkage is_bs
+    where
+      with_symbol : (x : OpData) (s : Option Symbol) → name ≡ unwrap_or x.name [] → option_map (λ (s : Symbol). s.ty) s ≡ Some ty → option_map (λ (s : Symbol). s.linkage) s ≡ Some linkage → x.blocks ≡ bs
+          → start ++ (func_head_text name (type_at (type_trees c.types) ty) linkage ++ body_text values blocks (filter_map (block_in (type_trees c.types) c) bs)) ≡ start ++ option_text (func_text values blocks) (option_map (λ (s : Symbol). func (type_trees c.types) op x s (filter_map (block_in (type_trees c.types) c) x.blocks)) s)
+      with_symbol x None n t l b = absurd (none-some ty t)
+      with_symbol x (Some s) n t l b =
+          ap (λ (name : List ℕ). start ++ (func_head_text name (type_at (type_trees c.types) ty) linkage ++ body_text values blocks (filter_map (block_in (type_trees c.types) c) bs))) n
+          ∙ ap (λ (ty : TypeHandle). start ++ (func_head_text (unwrap_or x.name []) (type_at (type_trees c.types) ty) linkage ++ body_text values blocks (filter_map (block_in (type_trees c.types) c) bs))) (sym (same_Some s.ty ty t))
+          ∙ ap (λ (linkage : LinkageAttr). start ++ (func_head_text (unwrap_or x.name []) (type_at (type_trees c.types) s.ty) linkage ++ body_text values blocks (filter_map (block_in (type_trees c.types) c) bs))) (sym (same_Some s.linkage linkage l))
+          ∙ ap (λ (bs : List BlockRef). start ++ (func_head_text (unwrap_or x.name []) (type_at (type_trees c.types) s.ty) s.linkage ++ body_text values blocks (filter_map (block_in (type_trees c.types) c) bs))) (sym b)
+
+      by : (x : Option OpData) → slice_get c.ops op.0 ≡ x → option_map (λ (s : Symbol). s.ty) (option_and_then (λ (x : OpData). x.symbol) x) ≡ Some ty → option_map (λ (s : Symbol). s.linkage) (option_and_then (λ (x : OpData). x.symbol) x) ≡ Some linkage → option_map (λ (x : OpData). x.blocks) x ≡ Some bs
+          → start ++ (func_head_text name (type_at (type_trees c.types) ty) linkage ++ body_text values blocks (filter_map (block_in (type_trees c.types) c) bs)) ≡ start ++ option_text (func_text values blocks) (option_and_then (func_of (type_trees c.types) c op) x)
+      by None at t l b = absurd (none-some ty t)
+      by (Some x) at t l b = with_symbol x x.symbol (is_name ∙ ap (λ (o : Option OpData). option_map_or (λ (x : OpData). unwrap_or x.name []) o []) at) t l (same_Some x.blocks bs b)
+
+  -- ---- modules
+
+  pub module_printed : (m : ℕ) (name : List ℕ) (ops : List OpRef) (start o1 o2 o3 o4 end : List ℕ) → name ≡ name_at c.ops m → ops ≡ held c m
+      → o1 ≡ start ++ codes "builtin.module @" → o2 ≡ o1 ++ name → o3 ≡ o2 ++ codes " {\n" → o4 ≡ o3 ++ flat_map (λ (o : OpRef). option_text (func_text values blocks) (func_in (type_trees c.types) c o)) ops → end ≡ o4 ++ codes "}\n"
+      → end ≡ start ++ module_text_by values blocks (data_of c m)
+  module_printed m name ops start o1 o2 o3 o4 end is_name is_ops e1 e2 e3 e4 e5 =
+      five start o1 o2 o3 o4 end (codes "builtin.module @") name (codes " {\n") _ (codes "}\n") e1 e2 e3 e4 e5
+      ∙ ap (λ (n : List ℕ). start ++ (((((codes "builtin.module @") ++ n) ++ codes " {\n") ++ flat_map (λ (o : OpRef). option_text (func_text values blocks) (func_in (type_trees c.types) c o)) ops) ++ codes "}\n")) is_name
+      ∙ ap (λ (t : List ℕ). start ++ (((((codes "builtin.module @") ++ name_at c.ops m) ++ codes " {\n") ++ t) ++ codes "}\n"))
+      (ap (flat_map (λ (o : OpRef). option_text (func_text values blocks) (func_in (type_trees c.types) c o))) is_ops ∙ sym (flat_filter (func_in (type_trees c.types) c) (func_text values blocks) (held c m)))
+
+-- the numbers are those of the module
+pub module_text_is : (values : Value → Option ℕ) (blocks : BlockRef → Option ℕ) (d : DialectModule) → ((q : Value) → values q ≡ value_number d q) → ((q : BlockRef) → blocks q ≡ block_number d q) → module_text_by values blocks d ≡ module_text d
+module_text_is values blocks d vs bs =
+    ap (λ (v : Value → Option ℕ). module_text_by v blocks d) (fun_ext vs) ∙ ap (λ (b : BlockRef → Option ℕ). module_text_by (value_number d) b d) (fun_ext bs)
+
+-- the type of a function is there
+pub symbol_typed : (c : ContextData) (op : OpRef) (ty : TypeHandle) → IsTyped c → option_map (λ (s : Symbol). s.ty) (symbol_at c.ops op) ≡ Some ty → ty.0 < length c.types
+symbol_typed c op ty typed h = by (slice_get c.ops op.0) refl h
+  where
+    with_symbol : (s : Option Symbol) → IfSome s (λ (s : Symbol). s.ty.0 < length c.types) → option_map (λ (s : Symbol). s.ty) s ≡ Some ty → ty.0 < length c.types
+    with_symbol None w is = absurd (none-some ty is)
+    with_symbol (Some s) w is = let e = ap (λ (t : TypeHandle). t.0) (same_Some s.ty ty is) in omega (arith, e, w)
+
+    by : (x : Option OpData) → slice_get c.ops op.0 ≡ x → option_map (λ (s : Symbol). s.ty) (option_and_then (λ (x : OpData). x.symbol) x) ≡ Some ty → ty.0 < length c.types
+    by None at is = absurd (none-some ty is)
+    by (Some x) at is = with_symbol x.symbol (typed.ops op.0 x at).symbol is
+
+-- the head of a function
+pub head_printed : (name n word : List ℕ) (type : TypeTree) (linkage : LinkageAttr) (start o1 o2 o3 o4 o5 o6 end : List ℕ) → n ≡ name → word ≡ linkage_text linkage
+    → o1 ≡ start ++ codes "  llvm.func @" → o2 ≡ o1 ++ n → o3 ≡ o2 ++ codes " : " → o4 ≡ o3 ++ type_text type → o5 ≡ o4 ++ codes " {linkage = " → o6 ≡ o5 ++ word → end ≡ o6 ++ codes "}"
+    → end ≡ start ++ func_head_text name type linkage
+head_printed name n word type linkage start o1 o2 o3 o4 o5 o6 end is_name is_word e1 e2 e3 e4 e5 e6 e7 = simp (e7, e6, e5, e4, e3, e2, e1, is_name, is_word, append_assoc)

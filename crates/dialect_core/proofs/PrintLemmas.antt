@@ -1,0 +1,65 @@
+-- How far the printing of items one after another has come.
+use Rattle.std.proofs.Common.{◌≡◌, ◌<◌, ◌≤◌, ◌+◌, ℕ, List, [], ◌++◌, Option, Some, None, length, get_or, take, map, ap, sym, refl, ◌∙◌, append_assoc}
+use Rattle.std.specs.List.{flat_map}
+use Rattle.std.proofs.lemmas.List.{append-nil, take_all}
+use Rattle.std.specs.Prelude.{codes}
+use Rattle.std.specs.Option.{option_map}
+use Rattle.dialect_types.specs.Trees.{TypeTree, type_at}
+use Rattle.dialect_core.specs.declared.numbers.OpRef.{OpRef}
+use Rattle.dialect_core.specs.declared.numbers.BlockRef.{BlockRef}
+use Rattle.dialect_core.specs.declared.ops.Value.{Value}
+use Rattle.dialect_core.specs.declared.ops.Successor.{Successor}
+use Rattle.dialect_core.specs.declared.ops.OpKind.{OpKind}
+use Rattle.dialect_core.specs.declared.ops.OpKind.TheVariants as K
+use Rattle.dialect_core.specs.declared.ops.OpData.{OpData}
+use Rattle.dialect_core.specs.Data.{op_of}
+use Rattle.dialect_core.specs.Text.{option_text, head_text, tail_text, op_text}
+use Rattle.dialect_types.specs.Text.{joined, comma_before}
+use Rattle.dialect_types.proofs.TextLemmas.{joined_step}
+use Rattle.dialect_core.proofs.NumberLemmas.{flat_map_more}
+
+-- the first i items stand after what was there, with commas between them
+pub record Joined {X : Type 0} (f : X → List ℕ) (xs : List X) (i : ℕ) (before after : List ℕ) : Type 0 where
+  pub printed : after ≡ before ++ joined (map f (take i xs))
+
+pub joined_more : {X : Type 0} (f : X → List ℕ) (xs : List X) (i : ℕ) (d : X) (start before comma after text : List ℕ) → i < length xs → Joined f xs i start before → comma ≡ before ++ comma_before i → text ≡ f (get_or xs i d) → after ≡ comma ++ text → Joined f xs (i + 1) start after
+joined_more f xs i d start before comma after text within so_far with_comma is with_text = record { printed = joined_step f xs i d start before comma after within so_far.printed with_comma (with_text ∙ ap (λ (x : List ℕ). comma ++ x) is) }
+
+pub joined_all : {X : Type 0} (f : X → List ℕ) (xs : List X) (i : ℕ) (before after : List ℕ) → length xs ≤ i → Joined f xs i before after → after ≡ before ++ joined (map f xs)
+joined_all f xs i before after all h = h.printed ∙ ap (λ (ys : List _). before ++ joined (map f ys)) (take_all i xs all)
+
+-- the texts of the first i items stand after what was there
+pub record Printed {X : Type 0} (f : X → List ℕ) (xs : List X) (i : ℕ) (before after : List ℕ) : Type 0 where
+  pub printed : after ≡ before ++ flat_map f (take i xs)
+
+pub printed_more : {X : Type 0} (f : X → List ℕ) (xs : List X) (i : ℕ) (d : X) (start before after : List ℕ) → i < length xs → Printed f xs i start before → after ≡ before ++ f (get_or xs i d) → Printed f xs (i + 1) start after
+printed_more f xs i d start before after within so_far step = record {
+  printed = step ∙ ap (λ (x : List ℕ). x ++ f (get_or xs i d)) so_far.printed ∙ append_assoc start (flat_map f (take i xs)) (f (get_or xs i d)) ∙ ap (λ (x : List ℕ). start ++ x) (sym (flat_map_more f xs i d within));
+}
+
+pub printed_all : {X : Type 0} (f : X → List ℕ) (xs : List X) (i : ℕ) (before after : List ℕ) → length xs ≤ i → Printed f xs i before after → after ≡ before ++ flat_map f xs
+printed_all f xs i before after all h = h.printed ∙ ap (λ (ys : List _). before ++ flat_map f ys) (take_all i xs all)
+
+-- a text between two others
+pub between : (start opened inner end a b c : List ℕ) → opened ≡ start ++ a → inner ≡ opened ++ b → end ≡ inner ++ c → end ≡ start ++ ((a ++ b) ++ c)
+between start opened inner end a b c e1 e2 e3 = simp (e3, e2, e1, append_assoc)
+
+-- a head without immediates, and a tail
+pub bare : (start head end a b : List ℕ) → head ≡ start ++ a → end ≡ head ++ b → end ≡ start ++ ((a ++ []) ++ b)
+bare start head end a b e1 e2 = rw append-nil (simp (e2, e1, append_assoc))
+
+-- ---- operations
+
+module _ (values : Value → Option ℕ) (blocks : BlockRef → Option ℕ) where
+  head_same : {X Y : Type 0} (f : X → Y) (n : ℕ) (name : Option (List ℕ)) (r : Option X) (word : List ℕ) (operands : List Value) (successors : List Successor) → head_text values blocks n name r word operands successors ≡ head_text values blocks n name (option_map f r) word operands successors
+  head_same f n name None word operands successors = refl
+  head_same f n name (Some t) word operands successors = refl
+
+  -- an operation of a kind without immediates
+  pub returned : (ts : List TypeTree) (o : OpRef) (x : OpData) (start head end : List ℕ) → x.kind ≡ K.Return
+      → head ≡ start ++ head_text values blocks o.0 x.name x.result (codes "llvm.return") x.operands x.successors → end ≡ head ++ tail_text (option_map (type_at ts) x.result)
+      → end ≡ start ++ option_text (op_text values blocks) (op_of ts o x)
+  returned ts o x start head end kind is_head is_end =
+      bare start head end (head_text values blocks o.0 x.name (option_map (type_at ts) x.result) (codes "llvm.return") x.operands x.successors) (tail_text (option_map (type_at ts) x.result))
+      (is_head ∙ ap (λ (h : List ℕ). start ++ h) (head_same (type_at ts) o.0 x.name x.result (codes "llvm.return") x.operands x.successors)) is_end
+      ∙ ap (λ (k : OpKind). start ++ option_text (op_text values blocks) (op_of ts o (record x { kind = k }))) (sym kind)

@@ -1,0 +1,37 @@
+-- The lists of operations that blocks hold.
+use Rattle.std.specs.Prelude.{◌≡◌, ◌⊎◌, ℕ, List, [], ◌∷◌, Option, None, nat_eq, if◌then◌else◌, slice_get, slice_set, slice_index_or}
+use Rattle.std.specs.Option.{option_map_or, option_and_then}
+use Rattle.dialect_core.specs.declared.numbers.OpRef.{OpRef}
+use Rattle.dialect_core.specs.declared.numbers.BlockRef.{BlockRef}
+
+-- of each operation the block that it stands in, and of each block its operations in order
+pub record Lists : Type 0 where
+  pub parents : List (Option BlockRef)
+  pub lists : List (List OpRef)
+
+-- xs, with f of the item at i in its place
+abbrev pub with_change : {X : Type 0} → (X → X) → ℕ → List X → List X
+with_change f i xs = option_map_or (λ x. slice_set xs i (f x)) (slice_get xs i) xs
+
+-- the operation after that of the number n
+abbrev pub next_of : ℕ → List OpRef → Option OpRef
+next_of n [] = None
+next_of n (x ∷ xs) = if nat_eq x.0 n then slice_get xs 0 else next_of n xs
+
+-- the operations of a block, none where there is no such block
+abbrev pub list_at : List (List OpRef) → BlockRef → List OpRef
+list_at lists b = slice_index_or lists b.0 []
+
+-- the operation after another in its block
+abbrev pub next_in : Lists → OpRef → Option OpRef
+next_in l op = option_and_then (λ b. next_of op.0 (list_at l.lists b)) (option_and_then (λ p. p) (slice_get l.parents op.0))
+
+-- the operation of the number n is among xs
+abbrev pub Has : ℕ → List OpRef → Type 0
+Has n [] = ⊥
+Has n (x ∷ xs) = (x.0 ≡ n) ⊎ Has n xs
+
+-- no operation stands twice
+abbrev pub AllApart : List OpRef → Type 0
+AllApart [] = Unit {0}
+AllApart (x ∷ xs) = (¬ Has x.0 xs) × AllApart xs

@@ -1,0 +1,65 @@
+//! Operations and blocks, as a context keeps them.
+
+use crate::linkage::LinkageAttr;
+use crate::numbers::{BlockRef, OpRef};
+use dialect_types::attrs::ConstAttr;
+use dialect_types::identifier::Identifier;
+use dialect_types::items::Items;
+use dialect_types::types::TypeHandle;
+
+/// What an operand names.
+#[derive(Clone, Copy, PartialEq, Eq, Hash, Debug, Drop)]
+pub enum Value {
+    /// The result of an operation.
+    Result(OpRef),
+    /// The argument of a block at a place, counted from 0.
+    Argument(BlockRef, u32),
+}
+
+/// Where an operation leads, with the values for the arguments there.
+#[derive(Drop)]
+pub struct Successor {
+    pub block: BlockRef,
+    pub args: Items<Value>,
+}
+
+/// What an operation is, with its immediates: a line for each kind.
+#[derive(Drop)]
+pub enum OpKind {
+    /// `builtin.module`.
+    Module,
+    /// `llvm.func`.
+    Func,
+    /// `llvm.constant`, with its `value`.
+    Constant(ConstAttr),
+    /// `llvm.return`.
+    Return,
+}
+
+/// The type and the linkage of a function.
+#[derive(Clone, Copy, Drop)]
+pub struct Symbol {
+    pub ty: TypeHandle,
+    pub linkage: LinkageAttr,
+}
+
+/// An operation of a context. The name is a symbol's, or the given name of a result.
+#[derive(Drop)]
+pub struct OpData {
+    pub kind: OpKind,
+    pub name: Option<Identifier>,
+    pub operands: Items<Value>,
+    pub successors: Items<Successor>,
+    pub result: Option<TypeHandle>,
+    pub symbol: Option<Symbol>,
+    /// The blocks of its region.
+    pub blocks: Items<BlockRef>,
+}
+
+/// A block of a context, with the operation that holds it.
+#[derive(Drop)]
+pub struct BlockData {
+    pub holder: OpRef,
+    pub label: Option<Identifier>,
+    pub args: Items<TypeHandle>,
+}

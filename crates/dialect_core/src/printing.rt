@@ -1,0 +1,238 @@
+//! The dialect text of operations: their values, successors, immediates and types.
+
+ghost use Rattle.std.specs.Prelude.{◌≡◌, ◌<◌, ◌++◌, All, IfSome, OnOk, length};
+ghost use Rattle.std.specs.Option.{option_copied, option_map};
+ghost use Rattle.std.specs.List.{flat_map};
+ghost use Rattle.dialect_types.specs.Trees.{attr_tree, type_at, type_trees, HasTypesBelow};
+ghost use Rattle.dialect_types.specs.Text.{Keeps, attr_text};
+ghost use Rattle.dialect_core.specs.Data.{ConstantOp, op_of, IsTypedOp};
+ghost use Rattle.dialect_core.specs.Numbering.{value_at, block_at};
+ghost use Rattle.dialect_core.specs.Text.{option_text, number_text, colon_text, value_text, block_name_text, values_text, successor_text, successors_text, gives_text, head_text, immediates_text, result_type_text, tail_text, op_text};
+
+use crate::numbering::Numbering;
+use crate::numbers::{BlockRef, OpRef};
+use crate::ops::{OpData, OpKind, Successor, Value};
+use dialect_types::attrs::ConstAttr;
+use dialect_types::identifier::Identifier;
+use dialect_types::printing::{print_comma_before, print_number};
+use dialect_types::type_store::TypeStore;
+use dialect_types::types::TypeHandle;
+use std::alloc::AllocError;
+
+/// Appends a number, or `?` where there is none.
+fn print_known(number: Option<u64>, out: &mut Vec<u8>) -> Result<(), AllocError>
+    ensures ok { OnOk result (out.new.items ≡ out.old.items ++ number_text number) }
+    ensures kept { Keeps out.old.items out.new.items }
+{
+    match number {
+        Some(number) => print_number(number, out),
+        None => out.extend_from_slice(b"?"),
+    }
+}
+
+/// Appends the name of a value.
+pub fn print_value(numbers: &Numbering, value: Value, out: &mut Vec<u8>) -> Result<(), AllocError>
+    ensures ok { OnOk result (out.new.items ≡ out.old.items ++ value_text (value_at numbers.now) (block_at numbers.now) value) }
+    ensures kept { Keeps out.old.items out.new.items }
+{
+    out.extend_from_slice(b"%")?;
+    print_known(numbers.value(value), out)?;
+    Ok(())
+}
+
+/// Appends the name of a block.
+pub fn print_block_name(
+    numbers: &Numbering,
+    block: BlockRef,
+    out: &mut Vec<u8>,
+) -> Result<(), AllocError>
+    ensures ok { OnOk result (out.new.items ≡ out.old.items ++ block_name_text (value_at numbers.now) (block_at numbers.now) block) }
+    ensures kept { Keeps out.old.items out.new.items }
+{
+    out.extend_from_slice(b"^")?;
+    print_known(numbers.block(block), out)?;
+    Ok(())
+}
+
+/// Appends `:name`, where there is a name.
+pub fn print_colon_name(name: Option<&Identifier>, out: &mut Vec<u8>) -> Result<(), AllocError>
+    ensures ok { OnOk result (out.new.items ≡ out.old.items ++ colon_text (option_copied name.entry)) }
+    ensures kept { Keeps out.old.items out.new.items }
+{
+    match name {
+        Some(name) => {
+            out.extend_from_slice(b":")?;
+            out.extend_from_slice(name.as_str().as_bytes())?;
+            Ok(())
+        }
+        None => Ok(()),
+    }
+}
+
+/// Appends values in parentheses.
+fn print_values(numbers: &Numbering, values: &[Value], out: &mut Vec<u8>) -> Result<(), AllocError>
+    ensures ok { OnOk result (out.new.items ≡ out.old.items ++ values_text (value_at numbers.now) (block_at numbers.now) values.now) }
+    ensures kept { Keeps out.old.items out.new.items }
+{
+    out.extend_from_slice(b"(")?;
+    for (i, value) in values.iter().enumerate() {
+        print_comma_before(i, out)?;
+        print_value(numbers, *value, out)?;
+    }
+    out.extend_from_slice(b")")?;
+    Ok(())
+}
+
+/// Appends a successor with the values for its arguments.
+fn print_successor(
+    numbers: &Numbering,
+    successor: &Successor,
+    out: &mut Vec<u8>,
+) -> Result<(), AllocError>
+    ensures ok { OnOk result (out.new.items ≡ out.old.items ++ successor_text (value_at numbers.now) (block_at numbers.now) successor.now) }
+    ensures kept { Keeps out.old.items out.new.items }
+{
+    print_block_name(numbers, successor.block, out)?;
+    print_values(numbers, successor.args.as_slice(), out)?;
+    Ok(())
+}
+
+/// Appends the successors in brackets, where there are any.
+fn print_successors(
+    numbers: &Numbering,
+    successors: &[Successor],
+    out: &mut Vec<u8>,
+) -> Result<(), AllocError>
+    ensures ok { OnOk result (out.new.items ≡ out.old.items ++ successors_text (value_at numbers.now) (block_at numbers.now) successors.now) }
+    ensures kept { Keeps out.old.items out.new.items }
+{
+    if successors.is_empty() {
+        return Ok(());
+    }
+    out.extend_from_slice(b"[")?;
+    for (i, successor) in successors.iter().enumerate() {
+        print_comma_before(i, out)?;
+        print_successor(numbers, successor, out)?;
+    }
+    out.extend_from_slice(b"]")?;
+    Ok(())
+}
+
+/// Appends `%k:name = `, where an operation gives a result.
+fn print_gives(
+    numbers: &Numbering,
+    op: OpRef,
+    x: &OpData,
+    out: &mut Vec<u8>,
+) -> Result<(), AllocError>
+    ensures ok { OnOk result (out.new.items ≡ out.old.items ++ gives_text (value_at numbers.now) (block_at numbers.now) op.0 x.now.name x.now.result) }
+    ensures kept { Keeps out.old.items out.new.items }
+{
+    match x.result {
+        Some(_) => {
+            print_value(numbers, Value::Result(op), out)?;
+            print_colon_name(x.name.as_ref(), out)?;
+            out.extend_from_slice(b" = ")?;
+            Ok(())
+        }
+        None => Ok(()),
+    }
+}
+
+/// Appends an operation of that name up to its immediates.
+fn print_head(
+    numbers: &Numbering,
+    op: OpRef,
+    x: &OpData,
+    word: &[u8],
+    out: &mut Vec<u8>,
+) -> Result<(), AllocError>
+    ensures ok { OnOk result (out.new.items ≡ out.old.items ++ head_text (value_at numbers.now) (block_at numbers.now) op.0 x.now.name x.now.result word.now x.now.operands x.now.successors) }
+    ensures kept { Keeps out.old.items out.new.items }
+{
+    out.extend_from_slice(b"    ")?;
+    print_gives(numbers, op, x, out)?;
+    out.extend_from_slice(word)?;
+    print_values(numbers, x.operands.as_slice(), out)?;
+    print_successors(numbers, x.successors.as_slice(), out)?;
+    Ok(())
+}
+
+/// Appends the immediates of a constant.
+fn print_constant_immediates(
+    types: &TypeStore,
+    value: &ConstAttr,
+    out: &mut Vec<u8>,
+) -> Result<(), AllocError>
+    requires { HasTypesBelow (length types.now) value.now }
+    ensures ok { OnOk result (out.new.items ≡ out.old.items ++ immediates_text (ConstantOp (attr_tree (type_trees types.now) value.now))) }
+    ensures kept { Keeps out.old.items out.new.items }
+{
+    out.extend_from_slice(b" {value = ")?;
+    value.print(types, out)?;
+    out.extend_from_slice(b"}")?;
+    Ok(())
+}
+
+/// Appends ` : t`, where there is a type.
+fn print_result_type(
+    types: &TypeStore,
+    ty: Option<TypeHandle>,
+    out: &mut Vec<u8>,
+) -> Result<(), AllocError>
+    requires { IfSome ty (λ t. t.0 < length types.now) }
+    ensures ok { OnOk result (out.new.items ≡ out.old.items ++ result_type_text (option_map (type_at (type_trees types.now)) ty)) }
+    ensures kept { Keeps out.old.items out.new.items }
+{
+    match ty {
+        Some(ty) => {
+            out.extend_from_slice(b" : ")?;
+            types.print_type(ty, out)?;
+            Ok(())
+        }
+        None => Ok(()),
+    }
+}
+
+/// Appends an operation after its immediates.
+fn print_tail(
+    types: &TypeStore,
+    ty: Option<TypeHandle>,
+    out: &mut Vec<u8>,
+) -> Result<(), AllocError>
+    requires { IfSome ty (λ t. t.0 < length types.now) }
+    ensures ok { OnOk result (out.new.items ≡ out.old.items ++ tail_text (option_map (type_at (type_trees types.now)) ty)) }
+    ensures kept { Keeps out.old.items out.new.items }
+{
+    print_result_type(types, ty, out)?;
+    out.extend_from_slice(b"\n")?;
+    Ok(())
+}
+
+/// Appends an operation of a function's block: an arm for each kind.
+pub fn print_op(
+    types: &TypeStore,
+    numbers: &Numbering,
+    op: OpRef,
+    x: &OpData,
+    out: &mut Vec<u8>,
+) -> Result<(), AllocError>
+    requires { IsTypedOp (length types.now) x.now }
+    ensures ok { OnOk result (out.new.items ≡ out.old.items ++ option_text (op_text (value_at numbers.now) (block_at numbers.now)) (op_of (type_trees types.now) op x.now)) }
+    ensures kept { Keeps out.old.items out.new.items }
+{
+    match &x.kind {
+        OpKind::Module | OpKind::Func => Ok(()),
+        OpKind::Constant(value) => {
+            print_head(numbers, op, x, b"llvm.constant", out)?;
+            print_constant_immediates(types, value, out)?;
+            print_tail(types, x.result, out)?;
+            Ok(())
+        }
+        OpKind::Return => {
+            print_head(numbers, op, x, b"llvm.return", out)?;
+            print_tail(types, x.result, out)?;
+            Ok(())
+        }
+    }
+}
