@@ -1,0 +1,7 @@
+pub mod Terms
+pub mod Machine
+pub mod Code
+pub mod Llvm
+pub mod Dialect
+pub mod Pairs
+pub mod Examples

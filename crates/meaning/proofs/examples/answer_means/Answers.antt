@@ -1,0 +1,5 @@
+use Rattle.meaning.proofs.ExampleLaws.{same_answer}
+use Rattle.meaning.proofs.examples.answer_means.Goals as goal
+
+pub returns-clause-same : goal.returns-clause-same
+returns-clause-same c = same_answer

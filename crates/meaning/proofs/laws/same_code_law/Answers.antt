@@ -1,0 +1,5 @@
+use Rattle.meaning.proofs.CodeLaws.{same_code}
+use Rattle.meaning.proofs.laws.same_code_law.Goals as goal
+
+pub returns : goal.returns
+returns c = same_code

@@ -1,0 +1,137 @@
+-- What the data of a dialect module mean.
+use Rattle.std.specs.Prelude.{ℕ, zero, suc, Bool, false, ◌&&◌, if◌then◌else◌, List, [], ◌∷◌, Option, Some, None, map, option_map, length, nat_eq, nat_lt}
+use Rattle.std.specs.Option.{option_map_or}
+use Rattle.std.specs.List.{flat_map, filter_map, position_from, find}
+use Rattle.dialect_types.specs.Trees.{TypeTree, VoidType, IntegerType, FuncType, TypeTrees, NoTypes, ThenType, AttrTree, IntegerAttr}
+use Rattle.dialect_core.specs.declared.numbers.BlockRef.{BlockRef}
+use Rattle.dialect_core.specs.declared.ops.Value.{Value}
+use Rattle.dialect_core.specs.declared.ops.Value.TheVariants.{Result, Argument}
+use Rattle.dialect_core.specs.declared.ops.Successor.{Successor}
+use Rattle.dialect_core.specs.declared.linkage.LinkageAttr.{LinkageAttr}
+use Rattle.dialect_core.specs.declared.linkage.LinkageAttr.TheVariants as K
+use Rattle.dialect_core.specs.Data.{DialectModule, Func, DialectBlock, DialectOp, Kind, ConstantOp, ReturnOp}
+use Rattle.llvm_core.specs.Data as L
+use Rattle.meaning.specs.Terms.{Term, Param, Unset, Ret}
+use Rattle.meaning.specs.Machine.{Operand, At, Action, Holds, Applies, Row, Edge, Block, Item, trace}
+use Rattle.meaning.specs.Llvm.{int_of}
+use Rattle.meaning.specs.Code.{Code, Entry, Body, Symbol, FunctionSymbol, Linkage, External, AvailableExternally, LinkOnceAny, LinkOnceODR, WeakAny, WeakODR, Appending, Internal, Private, ExternalWeak, Common, Other}
+
+-- the type of LLVM that a type of the dialect stands for
+abbrev mutual
+  pub type_of : TypeTree → L.TypeTree
+  type_of VoidType = L.VoidType
+  type_of (IntegerType w) = L.IntType w
+  type_of (FuncType r ps v) = L.FunctionType (type_of r) (types_of ps) v
+
+  pub types_of : TypeTrees → L.TypeTrees
+  types_of NoTypes = L.NoTypes
+  types_of (ThenType t ts) = L.ThenType (type_of t) (types_of ts)
+
+-- the term of a constant, a line for each kind
+abbrev pub attr_term : AttrTree → Term
+attr_term (IntegerAttr ty n) = int_of (type_of ty) n
+
+abbrev pub same_value : Value → Value → Bool
+same_value (Result m) (Result n) = nat_eq m.0 n.0
+same_value (Argument b i) (Argument c j) = nat_eq b.0 c.0 && nat_eq i j
+same_value _ _ = false
+
+-- ---- types of operands
+
+abbrev pub ops_in : Func → List DialectOp
+ops_in f = flat_map (λ (b : DialectBlock). b.ops) f.blocks
+
+abbrev pub option_type : Option TypeTree → L.TypeTree
+option_type None = L.VoidType
+option_type (Some t) = type_of t
+
+abbrev pub nth_type : List TypeTree → ℕ → L.TypeTree
+nth_type [] i = L.VoidType
+nth_type (t ∷ ts) zero = type_of t
+nth_type (t ∷ ts) (suc i) = nth_type ts i
+
+abbrev pub value_type : Func → Value → L.TypeTree
+value_type f (Result r) = option_map_or (λ (o : DialectOp). option_type o.result) (find (λ (o : DialectOp). nat_eq o.number r.0) (ops_in f)) L.VoidType
+value_type f (Argument b i) = option_map_or (λ (x : DialectBlock). nth_type x.args i) (find (λ (x : DialectBlock). nat_eq x.number b.0) f.blocks) L.VoidType
+
+-- ---- rows and edges, a line for each kind
+
+-- a constant operation holds the term of its constant; any other applies its kind to its operands
+abbrev pub action : Func → DialectOp → Kind → Action Value
+action f o (ConstantOp value) = Holds (attr_term value)
+action f o ReturnOp = Applies Ret [] (option_type o.result) (map (value_type f) o.operands) (map At o.operands)
+
+abbrev pub row : Func → DialectOp → Row Value
+row f o = record { action = action f o o.kind; result = Result (record { 0 = o.number }) }
+
+-- an argument takes the edge's value at its place, and nothing where the edge has none
+abbrev pub argument_moves : BlockRef → ℕ → ℕ → List Value → List (Value × Option (Operand Value))
+argument_moves b i zero vs = []
+argument_moves b i (suc n) [] = (Argument b i, None) ∷ argument_moves b (suc i) n []
+argument_moves b i (suc n) (v ∷ vs) = (Argument b i, Some (At v)) ∷ argument_moves b (suc i) n vs
+
+-- the place of a block in a body, which is past the end where the body has no such block
+abbrev pub place_of : List DialectBlock → ℕ → ℕ
+place_of blocks n = option_map_or (λ i. i) (position_from (λ (b : DialectBlock). nat_eq b.number n) 0 blocks) (length blocks)
+
+abbrev pub edge : Func → Successor → Edge Value
+edge f s = record {
+  to = place_of f.blocks s.block.0;
+  moves = option_map_or (λ (b : DialectBlock). argument_moves s.block 0 (length b.args) s.args) (find (λ (b : DialectBlock). nat_eq b.number s.block.0) f.blocks) [];
+}
+
+abbrev pub block : Func → DialectBlock → Block Value
+block f b = record {
+  rows = map (row f) b.ops;
+  edges = map (edge f) (flat_map (λ (o : DialectOp). o.successors) b.ops);
+}
+
+-- ---- the code of a module
+
+-- the first block's arguments are the parameters, and nothing else is set
+abbrev pub start : List DialectBlock → Value → Term
+start [] v = Unset
+start (b ∷ bs) (Result r) = Unset
+start (b ∷ bs) (Argument c i) = if nat_eq c.0 b.number && nat_lt i (length b.args) then Param i else Unset
+
+abbrev pub body : Func → Body
+body f = record {
+  blocks = length f.blocks;
+  trace = trace Value same_value (start f.blocks) (map (block f) f.blocks);
+}
+
+abbrev pub linkage : LinkageAttr → Linkage
+linkage K.ExternalLinkage = External
+linkage K.AvailableExternallyLinkage = AvailableExternally
+linkage K.LinkOnceAnyLinkage = LinkOnceAny
+linkage K.LinkOnceODRLinkage = LinkOnceODR
+linkage K.WeakAnyLinkage = WeakAny
+linkage K.WeakODRLinkage = WeakODR
+linkage K.AppendingLinkage = Appending
+linkage K.InternalLinkage = Internal
+linkage K.PrivateLinkage = Private
+linkage K.ExternalWeakLinkage = ExternalWeak
+linkage K.CommonLinkage = Common
+linkage _ = Other
+
+abbrev pub has_blocks : Func → Bool
+has_blocks f = nat_lt 0 (length f.blocks)
+
+-- a function is in space 0
+abbrev pub entry : Func → Entry
+entry f = record {
+  name = f.name;
+  symbol = FunctionSymbol (type_of f.type) (linkage f.linkage) 0 (has_blocks f);
+  body = if has_blocks f then Some (body f) else None;
+}
+
+-- the symbols and bodies of a module
+abbrev pub code_of : DialectModule → Code
+code_of d = record { entries = map entry d.functions }
+
+-- what the entries of a module show, for reading: the symbols, and the traces for one list of choices
+abbrev pub symbols_of : DialectModule → List (List ℕ × Symbol)
+symbols_of d = map (λ (e : Entry). (e.name, e.symbol)) (code_of d).entries
+
+abbrev pub traces_of : DialectModule → List ℕ → List (List Item)
+traces_of d choices = filter_map (λ (e : Entry). option_map (λ (b : Body). b.trace choices) e.body) (code_of d).entries

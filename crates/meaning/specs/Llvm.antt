@@ -1,0 +1,152 @@
+-- What LLVM module data mean.
+use Rattle.std.specs.Prelude.{ℕ, Bool, false, not, ◌&&◌, if◌then◌else◌, List, [], ◌∷◌, Option, Some, None, map, option_map, length, filter, nat_eq, nat_lt, codes}
+use Rattle.std.specs.Option.{option_map_or}
+use Rattle.std.specs.List.{flat_map, filter_map, position_from, find, starts_with}
+use Rattle.llvm_core.specs.Data as L
+use Rattle.llvm_core.specs.Data.{TypeTree, VoidType, IntType, FunctionType, TypeTrees, NoTypes, ThenType, ConstTree, IntConst, Instruction, Return, Constant, Parameter, Result, Placed, ModuleData}
+use Rattle.meaning.specs.Terms.{Term, Param, Unset, Int, Opcode, Ret, Immediate}
+use Rattle.meaning.specs.Machine.{Operand, At, Fixed, Action, Applies, Row, Edge, Block, Item, trace}
+use Rattle.meaning.specs.Code.{Code, Entry, Body, Symbol, FunctionSymbol, External}
+
+abbrev pub int_of : TypeTree → ℕ → Term
+int_of (IntType w) n = Int w n
+int_of _ n = Unset
+
+-- the term of a constant of the module, a line for each kind
+abbrev pub const_term : ModuleData → ConstTree → Term
+const_term d (IntConst ty n) = int_of ty n
+
+-- what sets a term in a run: a parameter of a function, or the result of an instruction
+pub data Key : Type 0 where
+  ParamKey : (function place : ℕ) → Key
+  ResultKey : (instruction : ℕ) → Key
+
+abbrev pub same_key : Key → Key → Bool
+same_key (ParamKey f i) (ParamKey g j) = nat_eq f g && nat_eq i j
+same_key (ResultKey m) (ResultKey n) = nat_eq m n
+same_key _ _ = false
+
+abbrev pub operand : ModuleData → L.Operand → Operand Key
+operand d (Constant c) = Fixed (const_term d c)
+operand d (Parameter f i) = At (ParamKey f i)
+operand d (Result n) = At (ResultKey n)
+
+-- ---- types of operands
+
+abbrev pub nth_type : TypeTrees → ℕ → TypeTree
+nth_type NoTypes i = VoidType
+nth_type (ThenType t ts) ℕ.zero = t
+nth_type (ThenType t ts) (ℕ.suc i) = nth_type ts i
+
+abbrev pub param_type : TypeTree → ℕ → TypeTree
+param_type (FunctionType r ps v) i = nth_type ps i
+param_type _ i = VoidType
+
+-- a line for each kind of constant
+abbrev pub const_type : ModuleData → ConstTree → TypeTree
+const_type d (IntConst ty n) = ty
+
+abbrev pub placed_in : L.Function → List Placed
+placed_in f = flat_map (λ (b : L.Block). b.instructions) f.blocks
+
+abbrev pub operand_type : ModuleData → L.Function → L.Operand → TypeTree
+operand_type d f (Constant c) = const_type d c
+operand_type d f (Parameter g i) = option_map_or (λ (x : L.Function). param_type x.type i) (find (λ (x : L.Function). nat_eq x.number g) d.functions) VoidType
+operand_type d f (Result n) = option_map_or (λ (x : Placed). x.type) (find (λ (x : Placed). nat_eq x.number n) (placed_in f)) VoidType
+
+-- ---- rows and edges, a line for each kind
+
+abbrev pub option_list : {A : Type 0} → Option A → List A
+option_list None = []
+option_list (Some x) = x ∷ []
+
+-- opcode, immediates and operands; of a phi it is not asked
+abbrev pub row_of : ModuleData → Instruction → Opcode × List Immediate × List L.Operand
+row_of d (Return value) = (Ret, [], option_list value)
+
+-- the blocks that an instruction leads to, by number
+abbrev pub targets : Instruction → List ℕ
+targets (Return value) = []
+
+-- the entries of a phi, block and operand; none for what is no phi
+abbrev pub phi_entries : Instruction → Option (List (ℕ × L.Operand))
+phi_entries (Return value) = None
+
+abbrev pub action : ModuleData → L.Function → Placed → Action Key
+action d f p =
+    Applies (row_of d p.instruction).0 (row_of d p.instruction).1 p.type (map (operand_type d f) (row_of d p.instruction).2) (map (operand d) (row_of d p.instruction).2)
+
+-- a phi is no row
+abbrev pub row : ModuleData → L.Function → Placed → Option (List (ℕ × L.Operand)) → Option (Row Key)
+row d f p None = Some (record { action = action d f p; result = ResultKey p.number })
+row d f p (Some entries) = None
+
+-- a phi takes the operand of its first entry for the block that the edge comes from
+abbrev pub entry_for : ModuleData → ℕ → List (ℕ × L.Operand) → Option (Operand Key)
+entry_for d from entries = option_map (λ (e : ℕ × L.Operand). operand d e.1) (find (λ (e : ℕ × L.Operand). nat_eq e.0 from) entries)
+
+abbrev pub phi_move : ModuleData → ℕ → Placed → Option (Key × Option (Operand Key))
+phi_move d from p = option_map (λ (es : List (ℕ × L.Operand)). (ResultKey p.number, entry_for d from es)) (phi_entries p.instruction)
+
+-- the place of a block in a body, which is past the end where the body has no such block
+abbrev pub place_of : List L.Block → ℕ → ℕ
+place_of blocks n = option_map_or (λ i. i) (position_from (λ (b : L.Block). nat_eq b.number n) 0 blocks) (length blocks)
+
+abbrev pub edge : ModuleData → L.Function → ℕ → ℕ → Edge Key
+edge d f from to = record {
+  to = place_of f.blocks to;
+  moves = option_map_or (λ (b : L.Block). filter_map (phi_move d from) b.instructions) (find (λ (b : L.Block). nat_eq b.number to) f.blocks) [];
+}
+
+abbrev pub block : ModuleData → L.Function → L.Block → Block Key
+block d f b = record {
+  rows = filter_map (λ (p : Placed). row d f p (phi_entries p.instruction)) b.instructions;
+  edges = map (edge d f b.number) (flat_map (λ (p : Placed). targets p.instruction) b.instructions);
+}
+
+-- ---- the code of a module
+
+abbrev pub count_types : TypeTrees → ℕ
+count_types NoTypes = 0
+count_types (ThenType t ts) = ℕ.suc (count_types ts)
+
+abbrev pub arity : TypeTree → ℕ
+arity (FunctionType r ps v) = count_types ps
+arity _ = 0
+
+-- each parameter of the function is set, and nothing else
+abbrev pub start : L.Function → Key → Term
+start f (ParamKey g i) = if nat_eq g f.number && nat_lt i (arity f.type) then Param i else Unset
+start f (ResultKey n) = Unset
+
+abbrev pub body : ModuleData → L.Function → Body
+body d f = record {
+  blocks = length f.blocks;
+  trace = trace Key same_key (start f) (map (block d f) f.blocks);
+}
+
+abbrev pub has_blocks : L.Function → Bool
+has_blocks f = nat_lt 0 (length f.blocks)
+
+-- a function is external: no other linkage is held yet
+abbrev pub entry : ModuleData → L.Function → Entry
+entry d f = record {
+  name = f.name;
+  symbol = FunctionSymbol f.type External f.space (has_blocks f);
+  body = if has_blocks f then Some (body d f) else None;
+}
+
+-- a function whose name begins with `llvm.`
+abbrev pub is_intrinsic : L.Function → Bool
+is_intrinsic f = starts_with nat_eq f.name (codes "llvm.")
+
+-- the symbols and bodies of a module, intrinsics aside
+abbrev pub code_of : ModuleData → Code
+code_of d = record { entries = map (entry d) (filter (λ (f : L.Function). not (is_intrinsic f)) d.functions) }
+
+-- what the entries of a module show, for reading: the symbols, and the traces for one list of choices
+abbrev pub symbols_of : ModuleData → List (List ℕ × Symbol)
+symbols_of d = map (λ (e : Entry). (e.name, e.symbol)) (code_of d).entries
+
+abbrev pub traces_of : ModuleData → List ℕ → List (List Item)
+traces_of d choices = filter_map (λ (e : Entry). option_map (λ (b : Body). b.trace choices) e.body) (code_of d).entries

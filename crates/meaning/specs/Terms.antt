@@ -1,0 +1,140 @@
+-- Terms: what the operands of a run stand for, and what each silent kind makes of its operands.
+-- Types are the trees of module data, for both sides.
+use Rattle.std.specs.Prelude.{ℕ, zero, suc, Bool, true, false, List, [], ◌∷◌, Option, Some, None, map}
+use Rattle.llvm_core.specs.Data.{TypeTree, VoidType, IntType, FunctionType, TypeTrees, NoTypes, ThenType}
+
+-- what an instruction is: a word for each row of the instruction table
+pub data Opcode : Type 0 where
+  Ret : Opcode
+
+-- what an instruction holds besides its operands, a line for each sort of it
+pub data Immediate : Type 0 where
+  Flag : Bool → Immediate
+  Number : ℕ → Immediate
+
+-- ---- terms
+
+mutual
+  pub data Term : Type 0 where
+    -- the parameter at a place
+    Param : (place : ℕ) → Term
+    -- the result of the event of this number
+    Answer : (event : ℕ) → Term
+    -- what no definition has set
+    Unset : Term
+    Int : (width value : ℕ) → Term
+    -- an aggregate by its elements
+    ListOf : (type : TypeTree) (elements : Terms) → Term
+    -- an expression of a silent kind
+    Expr : (opcode : Opcode) (immediates : List Immediate) (type : TypeTree) (operands : Terms) → Term
+    -- an aggregate with an element put in, where the aggregate is not known by its elements
+    Insert : (type : TypeTree) (aggregate : Term) (path : Path) (element : Term) → Term
+
+  pub data Terms : Type 0 where
+    NoTerms : Terms
+    ThenTerm : Term → Terms → Terms
+
+  -- places from the outside in, or one place that a term says
+  pub data Path : Type 0 where
+    Places : List ℕ → Path
+    PlaceOf : Term → Path
+
+abbrev pub terms_of : List Term → Terms
+terms_of [] = NoTerms
+terms_of (t ∷ ts) = ThenTerm t (terms_of ts)
+
+abbrev pub is_unset : Term → Bool
+is_unset Unset = true
+is_unset _ = false
+
+-- ---- insert
+
+abbrev pub term_at : Terms → ℕ → Option Term
+term_at NoTerms n = None
+term_at (ThenTerm t ts) zero = Some t
+term_at (ThenTerm t ts) (suc n) = term_at ts n
+
+abbrev pub with_term_at : Terms → ℕ → Term → Terms
+with_term_at NoTerms n u = NoTerms
+with_term_at (ThenTerm t ts) zero u = ThenTerm u ts
+with_term_at (ThenTerm t ts) (suc n) u = ThenTerm t (with_term_at ts n u)
+
+abbrev pub elements_of : Term → Option (TypeTree × Terms)
+elements_of (ListOf ty ts) = Some (ty, ts)
+elements_of _ = None
+
+-- the element at a place of a list is replaced by what stands inside it; a place past the end replaces nothing
+abbrev pub replaced : TypeTree → Terms → ℕ → Option Term → (Term → Term) → Term → Term
+replaced ty ts n (Some old) inside otherwise = ListOf ty (with_term_at ts n (inside old))
+replaced ty ts n None inside otherwise = otherwise
+
+abbrev pub replaced_in : Option (TypeTree × Terms) → ℕ → (Term → Term) → Term → Term
+replaced_in (Some l) n inside otherwise = replaced l.0 l.1 n (term_at l.1 n) inside otherwise
+replaced_in None n inside otherwise = otherwise
+
+abbrev pub places_of : List (TypeTree × ℕ) → List ℕ
+places_of path = map (λ (p : TypeTree × ℕ). p.1) path
+
+-- The aggregate with the element at the end of the path, whose places each stand beside the type that
+-- they are a place of. Where the aggregate is a list and the first place is below its length, its
+-- element there is replaced; otherwise the insertion stands as a term.
+abbrev pub put : Term → List (TypeTree × ℕ) → Term → Term
+put a [] e = e
+put a (p ∷ path) e = replaced_in (elements_of a) p.1 (λ old. put old path e) (Insert p.0 a (Places (places_of (p ∷ path))) e)
+
+-- ---- silent and event
+
+-- what a kind does in a run: it shows an event, or builds an expression
+pub data Family : Type 0 where
+  Shows Builds : Family
+
+-- a line for each kind
+abbrev pub family : Opcode → Family
+family Ret = Shows
+
+abbrev pub made_by : Family → Opcode → List Immediate → TypeTree → List Term → Option Term
+made_by Shows o i ty ts = None
+made_by Builds o i ty ts = Some (Expr o i ty (terms_of ts))
+
+-- the term of a silent instruction; none for an event
+abbrev pub silent : Opcode → List Immediate → TypeTree → List Term → Option Term
+silent o i ty ts = made_by (family o) o i ty ts
+
+-- ---- terms under a match
+
+-- where each block of each function stands, functions by name, and the name of each identified struct
+pub record Match : Type 0 where
+  pub block : List ℕ → ℕ → ℕ
+  pub struct : List ℕ → List ℕ
+
+abbrev mutual
+  pub rename_type : Match → TypeTree → TypeTree
+  rename_type match VoidType = VoidType
+  rename_type match (IntType w) = IntType w
+  rename_type match (FunctionType r ps v) = FunctionType (rename_type match r) (rename_types match ps) v
+
+  pub rename_types : Match → TypeTrees → TypeTrees
+  rename_types match NoTypes = NoTypes
+  rename_types match (ThenType t ts) = ThenType (rename_type match t) (rename_types match ts)
+
+abbrev pub rename_immediate : Match → Immediate → Immediate
+rename_immediate match (Flag b) = Flag b
+rename_immediate match (Number n) = Number n
+
+abbrev mutual
+  pub rename : Match → Term → Term
+  rename match (Param i) = Param i
+  rename match (Answer n) = Answer n
+  rename match Unset = Unset
+  rename match (Int w v) = Int w v
+  rename match (ListOf ty ts) = ListOf (rename_type match ty) (rename_all match ts)
+  rename match (Expr o i ty ts) = Expr o (map (rename_immediate match) i) (rename_type match ty) (rename_all match ts)
+  rename match (Insert ty a p e) = Insert (rename_type match ty) (rename match a) (rename_path match p) (rename match e)
+
+  pub rename_all : Match → Terms → Terms
+  rename_all match NoTerms = NoTerms
+  rename_all match (ThenTerm t ts) = ThenTerm (rename match t) (rename_all match ts)
+
+  pub rename_path : Match → Path → Path
+  rename_path match (Places ns) = Places ns
+  rename_path match (PlaceOf t) = PlaceOf (rename match t)

@@ -1,0 +1,28 @@
+//! The definitions computed on small modules, each equation checked by computing both sides.
+
+ghost use Rattle.std.specs.Prelude.{◌≡◌, ◌∷◌, [], true, false, codes};
+ghost use Rattle.llvm_core.specs.Data.{VoidType, IntType, FunctionType, NoTypes};
+ghost use Rattle.meaning.specs.Terms.{Ret, Param, Int, Unset, Insert, Places, put};
+ghost use Rattle.meaning.specs.Machine.{Entered, Event};
+ghost use Rattle.meaning.specs.Code.{SameCode, entry_of, FunctionSymbol, External};
+ghost use Rattle.meaning.specs.Llvm as llvm;
+ghost use Rattle.meaning.specs.Dialect as dialect;
+ghost use Rattle.meaning.specs.Examples.{answer, answer_dialect, echo, echo_module, same_places, pair_of};
+
+/// `define i32 @f() { ret i32 7 }`, its symbol, its trace on both sides, and that the two have the same code.
+pub fn answer_means()
+    ensures symbols { llvm.symbols_of answer ≡ (codes "f", FunctionSymbol (FunctionType (IntType 32) NoTypes false) External 0 true) ∷ [] }
+    ensures dialect_symbols { dialect.symbols_of answer_dialect ≡ llvm.symbols_of answer }
+    ensures trace { llvm.traces_of answer (2 ∷ []) ≡ (Entered 0 ∷ Event Ret [] VoidType (IntType 32 ∷ []) (Int 32 7 ∷ []) ∷ []) ∷ [] }
+    ensures dialect_trace { dialect.traces_of answer_dialect (2 ∷ []) ≡ llvm.traces_of answer (2 ∷ []) }
+    ensures same { SameCode same_places (llvm.code_of answer) (dialect.code_of answer_dialect) }
+{}
+
+/// A parameter is its term, and an insertion replaces the element at the end of its path or stands as it is.
+pub fn echo_and_put()
+    ensures parameter { llvm.traces_of echo_module [] ≡ (Entered 0 ∷ Event Ret [] VoidType (IntType 8 ∷ []) (Param 0 ∷ []) ∷ []) ∷ [] }
+    ensures replaced { put (pair_of (Int 8 1) (Int 8 2)) ((VoidType, 1) ∷ []) (Int 8 9) ≡ pair_of (Int 8 1) (Int 8 9) }
+    ensures deep { put (pair_of Unset (pair_of (Int 8 1) Unset)) ((VoidType, 1) ∷ (VoidType, 0) ∷ []) (Int 8 9) ≡ pair_of Unset (pair_of (Int 8 9) Unset) }
+    ensures past_the_end { put (pair_of Unset Unset) ((VoidType, 2) ∷ []) (Int 8 9) ≡ Insert VoidType (pair_of Unset Unset) (Places (2 ∷ [])) (Int 8 9) }
+    ensures unknown { put (Param 0) ((IntType 8, 1) ∷ []) (Int 8 9) ≡ Insert (IntType 8) (Param 0) (Places (1 ∷ [])) (Int 8 9) }
+{}
