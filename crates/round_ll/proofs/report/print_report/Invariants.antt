@@ -1,0 +1,7 @@
+use Rattle.std.proofs.Common.{◌≡◌, ◌++◌, take}
+use Rattle.llvm_core.specs.Data.{data_of}
+use Rattle.round_ll.specs.Match.{report_text}
+use Rattle.round_ll.proofs.report.print_report.Given as goal
+
+abbrev pub invariant-loop-x : goal.invariant-loop-x
+invariant-loop-x l = l.out.items ≡ l.initial.out.items ++ report_text (data_of l.module) (take l.x-index l.blocks)

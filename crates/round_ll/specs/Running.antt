@@ -1,0 +1,74 @@
+-- What a run of the program has done, for each of its answers.
+use Rattle.std.specs.Prelude.{ℕ, ◌≡◌, ◌^◌, ◌⊎◌, List, Option, Some, None}
+use Rattle.std.specs.Io.KnownBytes.{append_known}
+use Rattle.round_ll.specs.Outside.Causes.{Rose}
+use Rattle.round_ll.specs.Outside.AllBytes.{GaveAll, GaveTooMany, TookFront}
+use Rattle.round_ll.specs.declared.command.Command.{Command}
+use Rattle.round_ll.specs.declared.command.Command.TheVariants.{Round}
+use Rattle.round_ll.specs.declared.ended.Ended.{Ended}
+use Rattle.round_ll.specs.declared.ended.Ended.TheVariants.{Done, Refused, NoMemory}
+use Rattle.round_ll.specs.declared.ended.Fault.{Fault}
+use Rattle.round_ll.specs.declared.ended.Fault.TheVariants.{Usage, ReadFault, WriteFault, TooLong, Text}
+use Rattle.round_ll.specs.declared.text.read_err.ReadErr.TheVariants as read
+use Rattle.round_ll.specs.declared.stopped.Stopped.{Stopped}
+use Rattle.round_ll.specs.declared.stopped.Stopped.TheVariants as stop
+use Rattle.round_ll.specs.declared.transferred.Transferred.{Transferred}
+use Rattle.round_ll.specs.Headline.{Rounds}
+
+-- an object of the outside before and after: the bytes left or taken where they are told, and the faults
+pub record Told : Type 0 where
+  pub bytes : Option (List ℕ)
+  pub faults : ℕ
+
+-- the source was read to its end, and its bytes make these modules and this text
+pub record Made (before after : Told) (t : Transferred) (text : List ℕ) : Type 0 where
+  pub input : List ℕ
+  pub read : GaveAll before.bytes after.bytes input
+  pub rounds : Rounds input t text
+
+-- ... and the whole text was written
+pub record Finished (source source' out out' : Told) (t : Transferred) : Type 0 where
+  pub text : List ℕ
+  pub made : Made source source' t text
+  pub written : out'.bytes ≡ append_known out.bytes text
+
+-- ... or a fault of the sink left a front of it there
+pub record CutShort (source source' out out' : Told) : Type 0 where
+  pub modules : Transferred
+  pub text : List ℕ
+  pub made : Made source source' modules text
+  pub front : TookFront out.bytes out'.bytes text
+  pub fault : Rose out.faults out'.faults
+
+-- what writing the text to the sink came to
+abbrev pub Wrote : Told → Told → Transferred → List ℕ → Ended → Type 0
+Wrote out out' t text (Done done) = (done.value ≡ t) × (out'.bytes ≡ append_known out.bytes text)
+Wrote out out' t text (Refused WriteFault) = TookFront out.bytes out'.bytes text × Rose out.faults out'.faults
+Wrote out out' t text _ = ⊥
+
+-- what stands behind an answer that was given before anything was written
+abbrev pub StopCause : Told → Told → Stopped → Type 0
+StopCause before after (stop.Refused ReadFault) = Rose before.faults after.faults
+StopCause before after (stop.Refused TooLong) = GaveTooMany (2 ^ 24) before.bytes after.bytes
+StopCause before after (stop.Refused (Text read.NotYet)) = (input : List ℕ) × GaveAll before.bytes after.bytes input
+StopCause before after (stop.Refused _) = ⊥
+StopCause before after stop.NoMemory = Unit {0}
+
+abbrev pub RoundFault : Told → Told → Told → Told → Fault → Type 0
+RoundFault s s' o o' WriteFault = CutShort s s' o o'
+RoundFault s s' o o' f = StopCause s s' (stop.Refused f) × (o'.bytes ≡ o.bytes)
+
+-- what the answer of `round` says
+abbrev pub RoundEnded : Told → Told → Told → Told → Ended → Type 0
+RoundEnded s s' o o' (Done t) = Finished s s' o o' t.value
+RoundEnded s s' o o' (Refused f) = RoundFault s s' o o' f
+RoundEnded s s' o o' NoMemory = o'.bytes ≡ o.bytes
+
+-- what the answer of the program says: `Usage` exactly where the words are no command
+abbrev pub RunEnded : Option Command → Told → Told → Told → Told → Ended → Type 0
+RunEnded None s s' o o' ended = (ended ≡ Refused Usage) × (s' ≡ s) × (o' ≡ o)
+RunEnded (Some Round) s s' o o' ended = RoundEnded s s' o o' ended
+
+-- the line was written to the standard error, or a front of it where its count of faults rose
+abbrev pub Says : Told → Told → List ℕ → Type 0
+Says e e' line = (e'.bytes ≡ append_known e.bytes line) ⊎ (TookFront e.bytes e'.bytes line × Rose e.faults e'.faults)

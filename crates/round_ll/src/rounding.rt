@@ -1,0 +1,101 @@
+//! What `round` makes of a text.
+
+ghost use Rattle.std.specs.Prelude.{◌≡◌, ◌<◌, ◌++◌, IfOk, OnOk, length};
+ghost use Rattle.llvm_core.specs.Sound.{IsModule};
+ghost use Rattle.llvm_core.specs.Checked.{IsChecked};
+ghost use Rattle.llvm_core.specs.Data.{data_of};
+ghost use Rattle.round_ll.specs.Spelling.{is_plain};
+ghost use Rattle.round_ll.specs.Items.{HoldsItems};
+ghost use Rattle.round_ll.specs.Headline.{IsOutput, Rounds, SameThroughout};
+ghost use Rattle.round_ll.specs.Rounding.{IsPrintable};
+
+use crate::export::export_module;
+use crate::import::{Imported, import_module};
+use crate::report::print_report;
+use crate::text::printer::print_ll;
+use crate::text::read::read_ll;
+use crate::text::read_err::ReadErr;
+use crate::transferred::Transferred;
+use llvm_core::module::LLVMModule;
+use std::alloc::{AllocError, Global};
+
+/// The modules, and the whole output.
+#[derive(Drop)]
+pub struct Output {
+    pub transferred: Box<Transferred>,
+    pub text: Vec<u8>,
+}
+
+/// The numbers of a module name what is there: its type keeps that.
+fn know_sound(m: &LLVMModule)
+    ensures { IsModule m.now }
+{
+    let _ = m.functions();
+}
+
+/// The dialect module of a module of the form, the module back, and the match of blocks.
+fn transfer(alloc: Global, source: &LLVMModule) -> Result<Transferred, AllocError>
+    requires items { HoldsItems is_plain (data_of source.now) }
+    requires checked { IsChecked source.now }
+    ensures same { IfOk result (λ t. SameThroughout (data_of source.now) t) }
+    ensures back { IfOk result (λ t. IsChecked t.back) }
+    ensures printable { IfOk result (λ t. IsPrintable source.now t) }
+{
+    know_sound(source);
+    let imported = import_module(alloc, source)?;
+    let back = export_module(alloc, &imported.ctx, imported.module)?;
+    know_sound(&back);
+    let Imported {
+        ctx,
+        module,
+        blocks,
+    } = imported;
+    Ok(Transferred {
+        ctx,
+        dialect: module,
+        back,
+        blocks,
+    })
+}
+
+/// The whole output: the dialect module, the module back and the report, with a line between them.
+fn print_output(
+    alloc: Global,
+    source: &LLVMModule,
+    transferred: &Transferred,
+) -> Result<Vec<u8>, AllocError>
+    requires { IsPrintable source.now transferred.now }
+    ensures { IfOk result (λ text. IsOutput (data_of source.now) transferred.now text.items) }
+{
+    let mut text = Vec::new(alloc);
+    transferred
+        .ctx
+        .print_module(transferred.dialect, &mut text)?;
+    text.extend_from_slice(b";; llvm\n")?;
+    print_ll(alloc, &transferred.back, &mut text)?;
+    text.extend_from_slice(b";; report\n")?;
+    print_report(source, transferred.blocks.as_slice(), &mut text)?;
+    Ok(text)
+}
+
+/// The modules, in a box, and the text.
+fn pack(alloc: Global, transferred: Transferred, text: Vec<u8>) -> Result<Output, AllocError>
+    ensures modules { IfOk result (λ o. o.transferred.value ≡ transferred) }
+    ensures text { IfOk result (λ o. o.text.items ≡ text.items) }
+{
+    match Box::new(alloc, transferred) {
+        Ok(transferred) => Ok(Output { transferred, text }),
+        Err(_) => Err(AllocError),
+    }
+}
+
+/// The modules and the whole output for a text of the form.
+pub fn round_text(alloc: Global, bytes: &[u8]) -> Result<Output, ReadErr>
+    ensures { IfOk result (λ o. Rounds bytes.now o.transferred.value o.text.items) }
+{
+    let source = read_ll(alloc, bytes)?;
+    let transferred = transfer(alloc, &source)?;
+    let text = print_output(alloc, &source, &transferred)?;
+    let output = pack(alloc, transferred, text)?;
+    Ok(output)
+}

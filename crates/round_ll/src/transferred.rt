@@ -1,0 +1,16 @@
+//! What a translation of a module hands out.
+
+use crate::matching::FunctionBlocks;
+use dialect_core::context::Context;
+use dialect_core::numbers::ModuleOp;
+use dialect_types::items::Items;
+use llvm_core::module::LLVMModule;
+
+/// A dialect module in its context, the module of LLVM that was made of it, and the match of blocks.
+#[derive(Drop)]
+pub struct Transferred {
+    pub ctx: Context,
+    pub dialect: ModuleOp,
+    pub back: LLVMModule,
+    pub blocks: Items<FunctionBlocks>,
+}
