@@ -22,7 +22,7 @@ use Rattle.llvm_core.specs.declared.code.BlockData.{BlockData}
 use Rattle.llvm_core.specs.declared.code.InstData.{InstData}
 use Rattle.llvm_core.specs.Module.{Module}
 use Rattle.llvm_core.specs.Code.{code_of, with_code, with_change, with_param_name, with_block, with_inst}
-use Rattle.llvm_core.specs.Parts.{IsValue, HasValues, IsResultType, result_type}
+use Rattle.llvm_core.specs.Parts.{IsValue, HasValues, IsResultType, value_type, result_type}
 use Rattle.llvm_core.specs.Sound.{IsModule, IsInstIn}
 use Rattle.llvm_core.specs.Data as d
 use Rattle.llvm_core.specs.Data.{Trees, type_at, const_at, trees_of, operand_of, instruction_of, result_tree, placed_of, placed_at, block_of, block_at, function_of, data_of, with_instruction_in, VoidType, IntConst, type_trees, const_trees}
@@ -30,6 +30,7 @@ use Rattle.llvm_core.proofs.ChangeLemmas.{mapped_same, mapped_push, mapped_then,
 use Rattle.llvm_core.proofs.ListLemmas.{slice_get-push}
 use Rattle.llvm_core.proofs.TreeLemmas.{type_at-kept, type_at-kind, const_trees-retyped, const_at-kept}
 use Rattle.llvm_core.proofs.DataLemmas.{there}
+use Rattle.llvm_core.proofs.SoundLemmas.{both_type_there}
 
 -- ---- trees that agree on what is there
 
@@ -43,6 +44,10 @@ operand_same m t u same (V.Param f place) h = refl
 operand_same m t u same (V.Inst i) h = refl
 
 instruction_same : (m : Module) (t u : Trees) → SameTrees m t u → (i : LLVMInst) → HasValues m i → instruction_of t i ≡ instruction_of u i
+instruction_same m t u same (I.Add lhs rhs flags) h =
+    let e = operand_same m t u same lhs h.0 in
+    let f = operand_same m t u same rhs h.1 in
+    cc
 instruction_same m t u same (I.Ret None) h = refl
 instruction_same m t u same (I.Ret (Some v)) h = ap (λ o. d.Return (Some o)) (operand_same m t u same v h)
 
@@ -263,6 +268,7 @@ result_shown old new inst ty None s same there h = type_at-kind new.types ty T.V
 result_shown old new inst ty (Some t) s same there h = ap (type_at (trees_of new).types) h.0 ∙ same.types t (there t refl)
 
 result_there : (m : Module) (i : LLVMInst) → HasValues m i → (t : LLVMType) → result_type m i ≡ Some t → t.0 < length m.types
+result_there m (I.Add lhs rhs flags) h t e = both_type_there m.types (value_type m lhs) (value_type m rhs) t e
 result_there m (I.Ret v) h t e = cc
 
 pub void_only : (t : Option LLVMType) (old new : List LLVMTypeKind) (ty : LLVMType) → IsResultType t old new ty → (new ≡ old) ⊎ (new ≡ old ++ T.Void ∷ [])

@@ -75,7 +75,7 @@ slice_get-filter_map_all h (z ∷ xs) all (suc i) x y at is =
     let here = all 0 z refl in
     ap (λ o. slice_get (cons_option o (filter_map h xs)) (suc i)) here.1 ∙ slice_get-filter_map_all h xs (λ j w at. all (suc j) w at) i x y at is
 
-within_at : {X : Type 0} (xs : List X) (P : X → Type 0) → All P xs → (i : ℕ) (x : X) → slice_get xs i ≡ Some x → P x
+pub within_at : {X : Type 0} (xs : List X) (P : X → Type 0) → All P xs → (i : ℕ) (x : X) → slice_get xs i ≡ Some x → P x
 within_at [] P all i x at = cc
 within_at (y ∷ xs) P all zero x at = let same : y ≡ x = (cc) in rw (← same) (All-head P y xs all)
 within_at (y ∷ xs) P all (suc i) x at = within_at xs P (All-tail P y xs all) i x at
@@ -89,7 +89,7 @@ there (x ∷ xs) (suc i) lt = there xs i (omega arith)
 blocks_there : (m : Module) (bs : List LLVMBasicBlock) → All (λ (b : LLVMBasicBlock). b.0 < length m.blocks) bs → (i : ℕ) (b : LLVMBasicBlock) → slice_get bs i ≡ Some b → (y : Block) × (block_at (trees_of m) m.blocks m.insts b ≡ Some y)
 blocks_there m bs all i b at = let x = there m.blocks b.0 (within_at bs (λ (b : LLVMBasicBlock). b.0 < length m.blocks) all i b at) in (block_of (trees_of m) m.insts b x.0, ap (option_map (block_of (trees_of m) m.insts b)) x.1)
 
-insts_there : (m : Module) (is : List LLVMInstRef) → All (λ (i : LLVMInstRef). i.0 < length m.insts) is → (j : ℕ) (i : LLVMInstRef) → slice_get is j ≡ Some i → (y : Placed) × (placed_at (trees_of m) m.insts i ≡ Some y)
+pub insts_there : (m : Module) (is : List LLVMInstRef) → All (λ (i : LLVMInstRef). i.0 < length m.insts) is → (j : ℕ) (i : LLVMInstRef) → slice_get is j ≡ Some i → (y : Placed) × (placed_at (trees_of m) m.insts i ≡ Some y)
 insts_there m is all j i at = let x = there m.insts i.0 (within_at is (λ (i : LLVMInstRef). i.0 < length m.insts) all j i at) in (placed_of (trees_of m) i x.0, ap (option_map (placed_of (trees_of m) i)) x.1)
 
 -- the blocks of a function: as many as its numbers of blocks, and at each place that of its number

@@ -11,7 +11,7 @@ use Rattle.llvm_core.specs.Module.{Module}
 use Rattle.llvm_core.specs.Sound.{IsModule}
 use Rattle.llvm_core.specs.Data.{Placed, Block, Function, trees_of, placed_of, placed_at, block_of, block_at, function_of, data_of, AllBlocks, AllPlaced}
 
-All-filter_map : {X Y : Type 0} (P : Y → Type 0) (h : X → Option Y) (xs : List X) → All (λ x. IfSome (h x) P) xs → All P (filter_map h xs)
+pub All-filter_map : {X Y : Type 0} (P : Y → Type 0) (h : X → Option Y) (xs : List X) → All (λ x. IfSome (h x) P) xs → All P (filter_map h xs)
 All-filter_map P h [] all = All-nil P
 All-filter_map {X} {Y} P h (x ∷ xs) all = by (h x) (All-head (λ x. IfSome (h x) P) x xs all) (All-filter_map P h xs (All-tail (λ x. IfSome (h x) P) x xs all))
   where

@@ -11,3 +11,11 @@ pub mod FreshLemmas
 pub mod NameLemmas
 pub mod CheckLemmas
 pub mod ApartLemmas
+pub mod FormNames
+pub mod FormTypes
+pub mod FormPlaces
+pub mod FormValues
+pub mod FormInsts
+pub mod FormLaws
+pub mod DistinctLaws
+pub mod HomeLaws

@@ -1,5 +1,5 @@
 -- What building calls keep: `IsModule` before a call gives it after the call.
-use Rattle.std.proofs.Common.{◌≡◌, ◌<◌, ◌≤◌, ◌⊎◌, inl, inr, ℕ, zero, suc, List, [], ◌∷◌, ◌++◌, Option, Some, None, length, length-append, slice_get, slice_set, sym, ap, ◌∙◌, refl, arith, subst, get_or, map}
+use Rattle.std.proofs.Common.{◌≡◌, ◌<◌, ◌≤◌, ◌⊎◌, inl, inr, ℕ, zero, suc, Bool, true, false, ◌&&◌, nat_eq, if◌then◌else◌, List, [], ◌∷◌, ◌++◌, Option, Some, None, length, length-append, slice_get, slice_set, sym, ap, ◌∙◌, refl, arith, subst, get_or, map}
 use Rattle.std.specs.Option.{option_map_or}
 use Rattle.std.proofs.lemmas.List.Elements.{All-weaker, All-push, All-nil}
 use Rattle.std.proofs.lemmas.Option.{slice_get_within}
@@ -22,9 +22,10 @@ use Rattle.llvm_core.specs.declared.code.InstData.{InstData}
 use Rattle.llvm_core.specs.Interned.{Interned, IsDistinctList}
 use Rattle.llvm_core.specs.Module.{Module}
 use Rattle.llvm_core.specs.Code.{code_of, with_code, with_change, with_param_name, with_block, with_inst, param_names}
-use Rattle.llvm_core.specs.Parts.{IsTypeOver, IsConstOver, IsFunctionType, IsValue, HasValues, const_type, type_params, kind_params}
-use Rattle.llvm_core.specs.Sound.{IsFunctionIn, IsBlockIn, IsInstIn, IsListedBlock, IsListedInst, IsModule}
+use Rattle.llvm_core.specs.Parts.{IsTypeOver, IsConstOver, IsFunctionType, IsValue, HasValues, const_type, type_params, kind_params, is_int, is_kind, both_type}
+use Rattle.llvm_core.specs.Sound.{IsFunctionIn, IsBlockIn, IsInstIn, IsListedBlock, IsListedInst, OwnsInsts, IsModule}
 use Rattle.llvm_core.proofs.ListLemmas.{slice_get-kept, slice_get-push, slice_get-push_cases, change_cases, length-with_change, length-slice_set, some_same}
+use Rattle.llvm_core.proofs.DataLemmas.{within_at}
 use Rattle.llvm_core.proofs.ListedLemmas.{KeepsLists, same_keeps, push_keeps, change_keeps, changed_there}
 
 -- what a function and a block list
@@ -73,6 +74,7 @@ value_kept m n g (V.Param f place) h = omega (arith, g.params f)
 value_kept m n g (V.Inst i) h = omega (arith, g.inst_count)
 
 values_kept : (m n : Module) → Grows m n → (i : LLVMInst) → HasValues m i → HasValues n i
+values_kept m n g (I.Add lhs rhs flags) h = (value_kept m n g lhs h.0, value_kept m n g rhs h.1)
 values_kept m n g (I.Ret None) h = h
 values_kept m n g (I.Ret (Some v)) h = value_kept m n g v h
 
@@ -130,6 +132,7 @@ type_added m types k n s ok h once =
       insts = λ i x e. inst_kept m _ g x (s.insts i x e);
       listed_blocks = λ b y e. listed_block_kept m _ g b y (s.listed_blocks b y e);
       listed_insts = λ i z e. listed_inst_kept m _ g i z (s.listed_insts i z e);
+      owned_insts = s.owned_insts;
     }
 
 pub const_added : (m : Module) (consts : List LLVMConstKind) (k : LLVMConstKind) (n : ℕ) → IsModule m → IsConstOver m.types k → Interned m.consts consts k n → IsDistinctList consts → IsModule (record m { consts = consts })
@@ -159,7 +162,36 @@ const_added m consts k n s ok h once =
       insts = λ i x e. inst_kept m _ g x (s.insts i x e);
       listed_blocks = λ b y e. listed_block_kept m _ g b y (s.listed_blocks b y e);
       listed_insts = λ i z e. listed_inst_kept m _ g i z (s.listed_insts i z e);
+      owned_insts = s.owned_insts;
     }
+
+-- ---- what blocks own
+
+-- a block that lists nothing
+owns_none : (m : Module) (b : ℕ) (y : BlockData) → y.insts ≡ [] → OwnsInsts m b y
+owns_none m b y none place i z at is = absurd (let e = ap (λ (is : List LLVMInstRef). slice_get is place) (sym none) ∙ at in cc)
+
+-- a block of before, where there is one more instruction
+owns_old : (m : Module) (new : InstData) → IsModule m → (b : ℕ) (y : BlockData) → slice_get m.blocks b ≡ Some y → OwnsInsts (record m { insts = m.insts ++ new ∷ [] }) b y
+owns_old m new s b y here place i z at is =
+    let within = within_at y.insts (λ (i : LLVMInstRef). i.0 < length m.insts) (s.blocks b y here).insts place i at in
+    elim (slice_get-push_cases m.insts new i.0 z is) [
+      | inl old ↦ s.owned_insts b y here place i z at old
+      | inr last ↦ absurd (omega (arith, within, last))
+    ]
+
+-- the block that lists the new instruction last, and that it names
+owns_more : (m : Module) (new : InstData) (i : LLVMInstRef) → IsModule m → i.0 ≡ length m.insts → (b : ℕ) (x y : BlockData) → slice_get m.blocks b ≡ Some x → b ≡ new.block.0 → y.insts ≡ x.insts ++ i ∷ []
+    → OwnsInsts (record m { insts = m.insts ++ new ∷ [] }) b y
+owns_more m new i s last b x y here named more place j z at is =
+    elim (slice_get-push_cases x.insts i place j (ap (λ (is : List LLVMInstRef). slice_get is place) (sym more) ∙ at)) [
+      | inl old ↦ owns_old m new s b x here place j z old is
+      | inr now ↦ (let same : j.0 ≡ length m.insts = ap (λ (k : LLVMInstRef). k.0) now.1 ∙ last in
+          elim (slice_get-push_cases m.insts new j.0 z is) [
+            | inl old ↦ (let within = slice_get_within m.insts j.0 z old in absurd (omega (arith, within, same)))
+            | inr at_end ↦ ap (λ (w : InstData). w.block.0) at_end.1 ∙ sym named
+          ])
+    ]
 
 -- ---- code
 
@@ -197,6 +229,7 @@ function_added m x s ok =
       insts = λ i x e. inst_kept m _ g x (s.insts i x e);
       listed_blocks = λ b y e. listed_block_kept m _ g b y (s.listed_blocks b y e);
       listed_insts = λ i z e. listed_inst_kept m _ g i z (s.listed_insts i z e);
+      owned_insts = s.owned_insts;
     }
 
 -- a declaration
@@ -254,6 +287,7 @@ param_named m f place name s =
       insts = λ i x e. inst_kept m _ g x (s.insts i x e);
       listed_blocks = λ b y e. listed_block_kept m _ g b y (s.listed_blocks b y e);
       listed_insts = λ i z e. listed_inst_kept m _ g i z (s.listed_insts i z e);
+      owned_insts = s.owned_insts;
     }
 
 pub block_added : (m : Module) (f : LLVMFunction) (b : LLVMBasicBlock) (name : List ℕ) → IsModule m → f.0 < length m.functions → b.0 ≡ length m.blocks → IsModule (with_code m (with_block (code_of m) f b name))
@@ -293,6 +327,7 @@ block_added m f b name s there last =
             rw at.1 (change owner.0, length owner.0.blocks, owner.1, slice_get-push owner.0.blocks b (length owner.0.blocks) refl ∙ ap (λ (k : ℕ). Some (record { 0 = k })) (last ∙ sym at.0)))
       ];
       listed_insts = λ i z e. listed_inst_kept m _ g i z (s.listed_insts i z e);
+      owned_insts = λ j y e. elim (slice_get-push_cases m.blocks new j y e) [ inl old ↦ s.owned_insts j y old | inr at ↦ owns_none m j y (ap insts_of at.1) ];
     }
 
 pub inst_added : (m : Module) (b : LLVMBasicBlock) (i : LLVMInstRef) (name : List ℕ) (ty : LLVMType) (inst : LLVMInst) → IsModule m
@@ -336,13 +371,21 @@ inst_added m b i name ty inst s there last typed values =
         | inr at ↦ (let owner = changed_there change b.0 m.blocks there in
             rw at.1 (change owner.0, length owner.0.insts, owner.1, slice_get-push owner.0.insts i (length owner.0.insts) refl ∙ ap (λ (k : ℕ). Some (record { 0 = k })) (last ∙ sym at.0)))
       ];
+      owned_insts = λ j y e. elim (change_cases change b.0 m.blocks j y e) [
+        | inl at ↦ owns_more m new i s last j at.0 y at.1 at.2 (ap insts_of at.3)
+        | inr old ↦ owns_old m new s j y old
+      ];
     }
 
+value_retyped : (m : Module) (types : List LLVMTypeKind) (v : LLVMValue) → IsValue m v → IsValue (record m { types = types }) v
+value_retyped m types (V.Const c) h = h
+value_retyped m types (V.Param f place) h = h
+value_retyped m types (V.Inst i) h = h
+
 values_retyped : (m : Module) (types : List LLVMTypeKind) (i : LLVMInst) → HasValues m i → HasValues (record m { types = types }) i
+values_retyped m types (I.Add lhs rhs flags) h = (value_retyped m types lhs h.0, value_retyped m types rhs h.1)
 values_retyped m types (I.Ret None) h = h
-values_retyped m types (I.Ret (Some (V.Const c))) h = h
-values_retyped m types (I.Ret (Some (V.Param f place))) h = h
-values_retyped m types (I.Ret (Some (V.Inst i))) h = h
+values_retyped m types (I.Ret (Some v)) h = value_retyped m types v h
 
 -- the same where the module got the type of the result before
 pub inst_built : (old new : Module) (b : LLVMBasicBlock) (i : LLVMInstRef) (name : List ℕ) (ty : LLVMType) (inst : LLVMInst) → IsModule new → new ≡ record old { types = new.types }
@@ -355,6 +398,25 @@ inst_built old new b i name ty inst s same there last typed values =
 
 pub const_type_within : (types : List LLVMTypeKind) (k : LLVMConstKind) → IsConstOver types k → (const_type k).0 < length types
 const_type_within types (C.Int t v) h = slice_get_within types t.0 _ h.1
+
+-- a type that passes a test on its kind is there
+kind_there : (p : LLVMTypeKind → Bool) (types : List LLVMTypeKind) (t : LLVMType) → is_kind p types t ≡ true → t.0 < length types
+kind_there p types t h = by (slice_get types t.0) refl h
+  where
+    by : (o : Option LLVMTypeKind) → slice_get types t.0 ≡ o → option_map_or p o false ≡ true → t.0 < length types
+    by None at e = cc
+    by (Some k) at e = slice_get_within types t.0 k at
+
+-- the type of both sides of an operation is there
+pub both_type_there : (types : List LLVMTypeKind) (a b : Option LLVMType) (t : LLVMType) → both_type types a b ≡ Some t → t.0 < length types
+both_type_there types None b t e = cc
+both_type_there types (Some x) None t e = cc
+both_type_there types (Some x) (Some y) t e = by (nat_eq x.0 y.0) (is_kind is_int types x) refl e
+  where
+    by : (same int : Bool) → is_kind is_int types x ≡ int → (if same && int then Some x else None) ≡ Some t → t.0 < length types
+    by false int at e = cc
+    by true false at e = cc
+    by true true at e = let here : x ≡ t = (cc) in rw (← here) (kind_there is_int types x at)
 
 pub param_within : (m : Module) (f : LLVMFunction) (place : ℕ) (x : FunctionData) (k : LLVMTypeKind) (d : LLVMType) → IsModule m
     → slice_get m.functions f.0 ≡ Some x → slice_get m.types x.ty.0 ≡ Some k → place < length (param_names m.functions f) → (get_or (kind_params k) place d).0 < length m.types

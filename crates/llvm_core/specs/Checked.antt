@@ -20,7 +20,7 @@ use Rattle.llvm_core.specs.declared.check_err.CheckErr.{CheckErr}
 use Rattle.llvm_core.specs.declared.check_err.CheckErr.TheVariants.{NameTwice, NoTerminator, OperandType, OperandCount, BlockOutside, IntrinsicBody, FunctionSpace, ListTooLong, NoMemory}
 use Rattle.llvm_core.specs.Module.{Module}
 use Rattle.llvm_core.specs.Names.{HasTwice}
-use Rattle.llvm_core.specs.Parts.{value_type, is_function}
+use Rattle.llvm_core.specs.Parts.{value_type, result_type, is_function, is_kind}
 
 -- ---- names
 
@@ -55,6 +55,7 @@ IsTaken m f n = (g : ℕ) × (y : FunctionData) × (g < f) × (slice_get m.funct
 
 -- a line for each kind
 abbrev pub is_terminator : LLVMInst → Bool
+is_terminator (I.Add lhs rhs flags) = false
 is_terminator (I.Ret value) = true
 
 abbrev pub is_terminator_at : Module → LLVMInstRef → Bool
@@ -81,10 +82,6 @@ abbrev pub is_void : LLVMTypeKind → Bool
 is_void T.Void = true
 is_void _ = false
 
--- the type is there, and the test passes on its kind
-abbrev pub is_kind : (LLVMTypeKind → Bool) → List LLVMTypeKind → LLVMType → Bool
-is_kind p types t = option_map_or p (slice_get types t.0) false
-
 abbrev pub returns_void : Module → LLVMFunction → Bool
 returns_void m f = option_map_or (is_kind is_void m.types) (return_type m f) false
 
@@ -101,11 +98,13 @@ misfits_signature types _ = false
 
 -- the type of an operand does not fit, in an instruction of f: a line for each kind
 abbrev pub MisfitsType : Module → LLVMFunction → LLVMInst → Type 0
+MisfitsType m f (I.Add lhs rhs flags) = result_type m (I.Add lhs rhs flags) ≡ None
 MisfitsType m f (I.Ret None) = ⊥
 MisfitsType m f (I.Ret (Some v)) = value_type m v ≢ return_type m f
 
 -- the count of operands does not fit, in an instruction of f: a line for each kind
 abbrev pub misfits_count : Module → LLVMFunction → LLVMInst → Bool
+misfits_count m f (I.Add lhs rhs flags) = false
 misfits_count m f (I.Ret None) = not (returns_void m f)
 misfits_count m f (I.Ret (Some v)) = returns_void m f
 
@@ -117,6 +116,7 @@ is_outside m f (V.Inst i) = not (nat_eq (option_map_or (home m) (slice_get m.ins
 
 -- an operand is one of another function, in an instruction of f: a line for each kind
 abbrev pub reaches_outside : Module → LLVMFunction → LLVMInst → Bool
+reaches_outside m f (I.Add lhs rhs flags) = is_outside m f lhs || is_outside m f rhs
 reaches_outside m f (I.Ret None) = false
 reaches_outside m f (I.Ret (Some v)) = is_outside m f v
 

@@ -1,6 +1,6 @@
 -- Module data: a module read as lists, with its types and constants as trees.
-use Rattle.std.specs.Prelude.{◌≡◌, ◌<◌, ℕ, Bool, length, if◌then◌else◌, nat_eq, List, [], ◌∷◌, ◌++◌, Option, All, map, slice_get, slice_set, slice_index_or}
-use Rattle.std.specs.List.{filter_map, enumerate_from}
+use Rattle.std.specs.Prelude.{◌≡◌, ◌<◌, ℕ, zero, suc, Bool, length, if◌then◌else◌, nat_eq, List, [], ◌∷◌, ◌++◌, Option, All, map, slice_get, slice_set, slice_index_or}
+use Rattle.std.specs.List.{filter_map, flat_map, find, enumerate_from}
 use Rattle.std.specs.Option.{option_map, option_map_or}
 use Rattle.llvm_core.specs.declared.numbers.LLVMType.{LLVMType}
 use Rattle.llvm_core.specs.declared.numbers.LLVMConst.{LLVMConst}
@@ -14,6 +14,7 @@ use Rattle.llvm_core.specs.declared.code.LLVMValue.{LLVMValue}
 use Rattle.llvm_core.specs.declared.code.LLVMValue.TheVariants as V
 use Rattle.llvm_core.specs.declared.code.LLVMInst.{LLVMInst}
 use Rattle.llvm_core.specs.declared.code.LLVMInst.TheVariants as I
+use Rattle.llvm_core.specs.declared.code.OverflowFlags.{OverflowFlags}
 use Rattle.llvm_core.specs.declared.code.FunctionData.{FunctionData}
 use Rattle.llvm_core.specs.declared.code.BlockData.{BlockData}
 use Rattle.llvm_core.specs.declared.code.InstData.{InstData}
@@ -45,6 +46,7 @@ pub data Operand : Type 0 where
 
 -- an instruction, a line for each kind
 pub data Instruction : Type 0 where
+  Add : (lhs rhs : Operand) (flags : OverflowFlags) → Instruction
   Return : (value : Option Operand) → Instruction
 
 -- an instruction of a block, with the type of its result
@@ -118,6 +120,7 @@ operand_of t (V.Param f place) = Parameter f.0 place
 operand_of t (V.Inst i) = Result i.0
 
 abbrev pub instruction_of : Trees → LLVMInst → Instruction
+instruction_of t (I.Add lhs rhs flags) = Add (operand_of t lhs) (operand_of t rhs) flags
 instruction_of t (I.Ret value) = Return (option_map (operand_of t) value)
 
 -- the tree of the type of an instruction's result
@@ -157,6 +160,32 @@ data_of m = record {
   name = m.name;
   functions = map (function_of (trees_of m) m.blocks m.insts) (enumerate_from 0 m.functions);
 }
+
+-- ---- types of operands
+
+abbrev pub nth_type : TypeTrees → ℕ → TypeTree
+nth_type NoTypes i = VoidType
+nth_type (ThenType t ts) zero = t
+nth_type (ThenType t ts) (suc i) = nth_type ts i
+
+-- the type of a parameter of a function of that type
+abbrev pub param_type : TypeTree → ℕ → TypeTree
+param_type (FunctionType result params variadic) i = nth_type params i
+param_type _ i = VoidType
+
+-- a line for each kind of constant
+abbrev pub const_type : ConstTree → TypeTree
+const_type (IntConst type value) = type
+
+-- the instructions of a function, block after block
+abbrev pub placed_in : Function → List Placed
+placed_in f = flat_map (λ (b : Block). b.instructions) f.blocks
+
+-- the type of an operand of an instruction of the function f, void where it names nothing of f
+abbrev pub operand_type : Function → Operand → TypeTree
+operand_type f (Constant c) = const_type c
+operand_type f (Parameter g i) = if nat_eq g f.number then param_type f.type i else VoidType
+operand_type f (Result n) = option_map_or (λ (x : Placed). x.type) (find (λ (x : Placed). nat_eq x.number n) (placed_in f)) VoidType
 
 -- equal types and equal constants, read as trees, have equal numbers
 pub record AreApart (m : Module) : Type 0 where

@@ -8,3 +8,4 @@ pub mod Sound
 pub mod Data
 pub mod Names
 pub mod Checked
+pub mod Form

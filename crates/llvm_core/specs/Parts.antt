@@ -1,5 +1,5 @@
 -- What the parts of a type, a constant and an instruction have to be.
-use Rattle.std.specs.Prelude.{◌≡◌, ◌<◌, ◌≤◌, ◌^◌, ℕ, Bool, true, false, IsTrue, List, [], length, slice_get, Option, Some, None, IfSome, All}
+use Rattle.std.specs.Prelude.{◌≡◌, ◌<◌, ◌≤◌, ◌^◌, ℕ, Bool, true, false, ◌&&◌, nat_eq, if◌then◌else◌, IsTrue, List, [], length, slice_get, Option, Some, None, IfSome, All}
 use Rattle.std.specs.Option.{option_map, option_map_or}
 use Rattle.llvm_core.specs.declared.numbers.LLVMType.{LLVMType}
 use Rattle.llvm_core.specs.declared.types.LLVMTypeKind.{LLVMTypeKind}
@@ -65,12 +65,27 @@ value_type m (V.Const c) = option_map const_type (slice_get m.consts c.0)
 value_type m (V.Param f place) = slice_get (option_map_or (param_types m) (slice_get m.functions f.0) []) place
 value_type m (V.Inst i) = option_map (λ (x : InstData). x.ty) (slice_get m.insts i.0)
 
--- the operands of an instruction are there
+-- the operands of an instruction are there, a line for each kind
 abbrev pub HasValues : Module → LLVMInst → Type 0
+HasValues m (I.Add lhs rhs flags) = IsValue m lhs × IsValue m rhs
 HasValues m (I.Ret value) = IfSome value (IsValue m)
 
--- the type of the result, where that is not void
+abbrev pub is_int : LLVMTypeKind → Bool
+is_int (T.Int width) = true
+is_int _ = false
+
+-- the type is there, and the test passes on its kind
+abbrev pub is_kind : (LLVMTypeKind → Bool) → List LLVMTypeKind → LLVMType → Bool
+is_kind p types t = option_map_or p (slice_get types t.0) false
+
+-- the type of both sides, where they agree and are integers
+abbrev pub both_type : List LLVMTypeKind → Option LLVMType → Option LLVMType → Option LLVMType
+both_type types (Some a) (Some b) = if nat_eq a.0 b.0 && is_kind is_int types a then Some a else None
+both_type types _ _ = None
+
+-- the type of the result, where the operands fit and it is not void: a line for each kind
 abbrev pub result_type : Module → LLVMInst → Option LLVMType
+result_type m (I.Add lhs rhs flags) = both_type m.types (value_type m lhs) (value_type m rhs)
 result_type m (I.Ret value) = None
 
 -- ty is that type, or the number of void, which may be new

@@ -36,7 +36,11 @@ IsListedBlock m b y = (x : FunctionData) × (place : ℕ) × (slice_get m.functi
 abbrev pub IsListedInst : Module → (i : ℕ) → InstData → Type 0
 IsListedInst m i z = (y : BlockData) × (place : ℕ) × (slice_get m.blocks z.block.0 ≡ Some y) × (slice_get y.insts place ≡ Some (record { 0 = i }))
 
--- types and constants are made of earlier ones and stand once each; code names only what is there, and stands in the list of its owner
+-- the block b lists only instructions that name it
+abbrev pub OwnsInsts : Module → (b : ℕ) → BlockData → Type 0
+OwnsInsts m b y = (place : ℕ) (i : LLVMInstRef) (z : InstData) → slice_get y.insts place ≡ Some i → slice_get m.insts i.0 ≡ Some z → z.block.0 ≡ b
+
+-- types and constants are made of earlier ones and stand once each; code names only what is there, and stands in the list of its owner; a block lists only its own instructions
 pub record IsModule (m : Module) : Type 0 where
   pub types : (i : ℕ) (k : LLVMTypeKind) → slice_get m.types i ≡ Some k → IsTypeOver i k
   pub types_once : IsDistinctList m.types
@@ -47,3 +51,4 @@ pub record IsModule (m : Module) : Type 0 where
   pub insts : (i : ℕ) (x : InstData) → slice_get m.insts i ≡ Some x → IsInstIn m x
   pub listed_blocks : (b : ℕ) (y : BlockData) → slice_get m.blocks b ≡ Some y → IsListedBlock m b y
   pub listed_insts : (i : ℕ) (z : InstData) → slice_get m.insts i ≡ Some z → IsListedInst m i z
+  pub owned_insts : (b : ℕ) (y : BlockData) → slice_get m.blocks b ≡ Some y → OwnsInsts m b y

@@ -5,9 +5,9 @@ ghost use Rattle.std.specs.List.{list_any};
 ghost use Rattle.std.specs.Option.{option_map, option_map_or};
 ghost use Rattle.llvm_core.specs.declared.check_err.Place.TheVariants as places;
 ghost use Rattle.llvm_core.specs.declared.check_err.CheckErr.TheVariants as errors;
-ghost use Rattle.llvm_core.specs.Parts.{IsValue, is_function};
+ghost use Rattle.llvm_core.specs.Parts.{IsValue, is_function, is_kind};
 ghost use Rattle.llvm_core.specs.Names.{HasTwice};
-ghost use Rattle.llvm_core.specs.Checked.{is_terminator, is_terminator_at, ends_in_only, is_void, is_kind, is_valueless, misfits_signature, MisfitsType, misfits_count, returns_void, return_type, home, is_outside, reaches_outside, Fails, local_names, is_bad_name, names_before, IsFreshName, IsCheckedFunction, IsCheckedBlock, IsCheckedInst, IsChecked, MayAnswer};
+ghost use Rattle.llvm_core.specs.Checked.{is_terminator, is_terminator_at, ends_in_only, is_void, is_valueless, misfits_signature, MisfitsType, misfits_count, returns_void, return_type, home, is_outside, reaches_outside, Fails, local_names, is_bad_name, names_before, IsFreshName, IsCheckedFunction, IsCheckedBlock, IsCheckedInst, IsChecked, MayAnswer};
 
 use crate::check_err::{CheckErr, Place};
 use crate::code::{LLVMInst, LLVMValue};
@@ -177,6 +177,7 @@ fn is_terminator(inst: &LLVMInst) -> bool
     ensures { result ≡ is_terminator inst.now }
 {
     match inst {
+        LLVMInst::Add(..) => false,
         LLVMInst::Ret(_) => true,
     }
 }
@@ -271,6 +272,7 @@ fn check_operand_types(m: &LLVMModule, i: LLVMInstRef) -> Result<(), CheckErr>
     ensures err { IfErr result (λ e. Fails m.now e) }
 {
     let fits = match m.inst(i) {
+        LLVMInst::Add(..) => m.result_type(m.inst(i)).is_some(),
         LLVMInst::Ret(None) => true,
         LLVMInst::Ret(Some(value)) => m.type_of(*value) == return_type(m, home(m, i)),
     };
@@ -286,6 +288,7 @@ fn check_operand_count(m: &LLVMModule, i: LLVMInstRef) -> Result<(), CheckErr>
     ensures err { IfErr result (λ e. Fails m.now e) }
 {
     let fits = match m.inst(i) {
+        LLVMInst::Add(..) => true,
         LLVMInst::Ret(value) => value.is_none() == returns_void(m, home(m, i)),
     };
     if !fits {
@@ -312,6 +315,10 @@ fn check_operands_inside(m: &LLVMModule, i: LLVMInstRef) -> Result<(), CheckErr>
     ensures err { IfErr result (λ e. Fails m.now e) }
 {
     let reaches = match m.inst(i) {
+        LLVMInst::Add(lhs, rhs, _) => {
+            let f = home(m, i);
+            is_outside(m, f, *lhs) || is_outside(m, f, *rhs)
+        }
         LLVMInst::Ret(None) => false,
         LLVMInst::Ret(Some(value)) => is_outside(m, home(m, i), *value),
     };

@@ -14,9 +14,20 @@ pub enum LLVMValue {
     Inst(LLVMInstRef),
 }
 
+/// Which overflows make the result poison (Language Reference, "add" Instruction).
+#[derive(Clone, Copy, PartialEq, Eq, Debug, Drop)]
+pub struct OverflowFlags {
+    /// No unsigned wrap.
+    pub nuw: bool,
+    /// No signed wrap.
+    pub nsw: bool,
+}
+
 /// An instruction: one variant for each kind, with its operands in order and then its immediates.
 #[derive(Drop)]
 pub enum LLVMInst {
+    /// `add` of two integers of one type (Language Reference, "add" Instruction).
+    Add(LLVMValue, LLVMValue, OverflowFlags),
     /// `ret void` or `ret` of a value (Language Reference, "ret" Instruction).
     Ret(Option<LLVMValue>),
 }

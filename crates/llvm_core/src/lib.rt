@@ -8,6 +8,7 @@ pub mod code_store;
 pub mod consts;
 pub mod interner;
 pub mod items;
+pub mod laws;
 pub mod module;
 pub mod name_set;
 pub mod names;

@@ -1,13 +1,13 @@
 //! A module in memory: the calls that build it and those that read it.
 
-ghost use Rattle.std.specs.Prelude.{◌≡◌, ◌<◌, ◌⊎◌, ◌++◌, ◌∷◌, [], IfOk, OnErr, OnOk, None, Some, All, IsTrue, length, map, slice_get};
+ghost use Rattle.std.specs.Prelude.{◌≡◌, ◌<◌, ◌⊎◌, ◌++◌, ◌∷◌, [], IfOk, IfSome, OnErr, OnOk, None, Some, All, IsTrue, length, map, slice_get};
 ghost use Rattle.std.specs.Option.{option_map};
 ghost use Rattle.llvm_core.specs.declared.types.LLVMTypeKind.TheVariants as kinds;
 ghost use Rattle.llvm_core.specs.declared.code.LLVMValue.TheVariants as values;
 ghost use Rattle.llvm_core.specs.Interned.{Interned};
 ghost use Rattle.llvm_core.specs.Module.{Module};
 ghost use Rattle.llvm_core.specs.Code.{code_of, with_code, with_function, with_param_name, with_block, with_inst, param_names};
-ghost use Rattle.llvm_core.specs.Parts.{IsTypeOver, IsConstOver, IsFunctionType, IsValue, HasValues, IsResultType, const_type, is_function, kind_params, type_params, value_type, result_type};
+ghost use Rattle.llvm_core.specs.Parts.{IsTypeOver, IsConstOver, IsFunctionType, IsValue, HasValues, IsResultType, const_type, is_function, is_int, both_type, kind_params, type_params, value_type, result_type};
 ghost use Rattle.llvm_core.specs.Sound.{IsModule};
 ghost use Rattle.llvm_core.specs.Data as lists;
 ghost use Rattle.llvm_core.specs.Data.{trees_of, type_at, result_tree, instruction_of, data_of, AreApart, AllBlocks, AllPlaced};
@@ -303,8 +303,22 @@ impl LLVMModule {
         self.code.inst(i).name.as_str()
     }
 
+    /// The type of both sides of an operation, where they agree and are integers.
+    fn both_type(&self, lhs: LLVMValue, rhs: LLVMValue) -> Option<LLVMType>
+        requires { IsValue self.now lhs × IsValue self.now rhs }
+        ensures { result ≡ both_type self.now.types (value_type self.now lhs) (value_type self.now rhs) }
+    {
+        let ty = self.type_of(lhs);
+        if ty == self.type_of(rhs) && is_int(self.type_kind(ty)) {
+            Some(ty)
+        } else {
+            None
+        }
+    }
+
     /// The number of the type of an instruction's result.
     fn result_number(&mut self, inst: &LLVMInst) -> Result<LLVMType, AllocError>
+        requires { HasValues self.old inst.now }
         ensures ty { IfOk result (λ t. IsResultType (result_type self.old inst.now) self.old.types self.new.types t) }
         ensures within { IfOk result (λ t. t.0 < length self.new.types) }
         ensures rest { self.new ≡ record self.old { types = self.new.types } }
@@ -361,14 +375,17 @@ impl LLVMModule {
         self.code.inst(i).block
     }
 
-    /// The type of an instruction's result, where that is not void.
-    fn result_type(&self, inst: &LLVMInst) -> Option<LLVMType>
+    /// The type of an instruction's result, where its operands fit and it is not void.
+    pub(crate) fn result_type(&self, inst: &LLVMInst) -> Option<LLVMType>
+        requires { HasValues self.now inst.now }
+        ensures within { IfSome result (λ t. t.0 < length self.now.types) }
         ensures ty { result ≡ result_type self.now inst.now }
         ensures sound { IsModule self.now }
     {
-        // The kinds so far read nothing here: this tells the proof of the invariant.
+        // This tells the proof of the invariant.
         let _ = &self.types;
         match inst {
+            LLVMInst::Add(lhs, rhs, _) => self.both_type(*lhs, *rhs),
             LLVMInst::Ret(_) => None,
         }
     }
@@ -388,6 +405,12 @@ fn const_type(kind: &LLVMConstKind) -> LLVMType
     match kind {
         LLVMConstKind::Int(ty, _) => *ty,
     }
+}
+
+fn is_int(kind: &LLVMTypeKind) -> bool
+    ensures { result ≡ is_int kind.now }
+{
+    matches!(kind, LLVMTypeKind::Int(_))
 }
 
 /// The types of the parameters of a function type.

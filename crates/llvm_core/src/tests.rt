@@ -6,7 +6,7 @@ ghost use Rattle.llvm_core.specs.Parts.{IsValue, HasValues};
 
 use crate::check_err::{CheckErr, Place};
 use crate::checking::check;
-use crate::code::{LLVMInst, LLVMValue};
+use crate::code::{LLVMInst, LLVMValue, OverflowFlags};
 use crate::consts::LLVMConstKind;
 use crate::items::Items;
 use crate::module::LLVMModule;
@@ -15,6 +15,8 @@ use crate::types::LLVMTypeKind;
 use std::alloc::{AllocError, Global};
 use std::fmt::Write;
 use std::test::Fail;
+
+mod adds;
 
 // ---- modules
 
@@ -119,13 +121,32 @@ fn show_value(m: &LLVMModule, v: LLVMValue, text: &mut String) -> Result<(), All
     }
 }
 
+fn show_flags(flags: OverflowFlags, text: &mut String) -> Result<(), AllocError> {
+    if flags.nuw {
+        write!(text, " nuw")?;
+    }
+    if flags.nsw {
+        write!(text, " nsw")?;
+    }
+    Ok(())
+}
+
 fn show_inst(m: &LLVMModule, i: LLVMInstRef, text: &mut String) -> Result<(), AllocError>
     requires { i.0 < length m.now.insts }
 {
-    write!(text, " {}= ret", m.inst_name(i))?;
+    write!(text, " {}=", m.inst_name(i))?;
     match m.inst(i) {
-        LLVMInst::Ret(None) => Ok(()),
-        LLVMInst::Ret(Some(value)) => show_value(m, *value, text),
+        LLVMInst::Add(lhs, rhs, flags) => {
+            write!(text, " add")?;
+            show_flags(*flags, text)?;
+            show_value(m, *lhs, text)?;
+            show_value(m, *rhs, text)
+        }
+        LLVMInst::Ret(None) => write!(text, " ret"),
+        LLVMInst::Ret(Some(value)) => {
+            write!(text, " ret")?;
+            show_value(m, *value, text)
+        }
     }
 }
 

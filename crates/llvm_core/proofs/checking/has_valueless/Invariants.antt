@@ -1,7 +1,8 @@
 -- What the loops of `checking::has_valueless` keep.
 use Rattle.std.proofs.Common.{◌≡◌, take, false}
 use Rattle.std.specs.List.{list_any}
-use Rattle.llvm_core.specs.Checked.{is_kind, is_valueless}
+use Rattle.llvm_core.specs.Parts.{is_kind}
+use Rattle.llvm_core.specs.Checked.{is_valueless}
 use Rattle.llvm_core.proofs.checking.has_valueless.Given as goal
 
 abbrev pub invariant-loop-param : goal.invariant-loop-param

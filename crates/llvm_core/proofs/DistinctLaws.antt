@@ -1,0 +1,94 @@
+-- The names of a checked module are distinct, and its lists are short.
+use Rattle.std.proofs.Common.{◌≡◌, ◌<◌, ◌^◌, inl, inr, ℕ, List, Option, None, Some, IfSome, length, slice_get, slice_index_or, map, refl, sym, ap, subst, ◌∙◌, arith, All}
+use Rattle.std.specs.Option.{option_map}
+use Rattle.std.proofs.lemmas.Bool.{cases_order}
+use Rattle.std.proofs.lemmas.Option.{slice_get_within, slice_get-map, get_or_from_slice_get}
+use Rattle.std.proofs.Math.Nat.{lt_of_not-le}
+use Rattle.llvm_core.specs.declared.numbers.LLVMBasicBlock.{LLVMBasicBlock}
+use Rattle.llvm_core.specs.declared.code.FunctionData.{FunctionData}
+use Rattle.llvm_core.specs.declared.code.BlockData.{BlockData}
+use Rattle.llvm_core.specs.declared.check_err.Place.TheVariants as P
+use Rattle.llvm_core.specs.declared.check_err.CheckErr.TheVariants.{NameTwice, ListTooLong}
+use Rattle.llvm_core.specs.Module.{Module}
+use Rattle.llvm_core.specs.Interned.{IsDistinctList}
+use Rattle.llvm_core.specs.Names.{HasTwice}
+use Rattle.llvm_core.specs.Sound.{IsModule}
+use Rattle.llvm_core.specs.Data.{Block, Function, trees_of, block_of, block_at, data_of}
+use Rattle.llvm_core.specs.Checked.{IsChecked}
+use Rattle.llvm_core.specs.Form.{local_names, HasDistinctNames, IsFewIn, HasFew}
+use Rattle.llvm_core.proofs.ListLemmas.{some_same}
+use Rattle.llvm_core.proofs.DataLemmas.{there, function_at, function_count, inst_count_of}
+use Rattle.llvm_core.proofs.FreshLemmas.{All-filter_map}
+use Rattle.llvm_core.proofs.FormNames.{same_local_names, distinct_of_once}
+use Rattle.llvm_core.proofs.FormPlaces.{shown}
+
+-- what holds of the data of each function holds of all
+each_function : (m : Module) (P : Function → Type 0) → ((f : ℕ) (x : FunctionData) → slice_get m.functions f ≡ Some x → P (shown m f x)) → All P (data_of m).functions
+each_function m P each k d lt =
+    let count = function_count m in
+    let x = there m.functions k (omega (arith, lt, count)) in
+    subst P (sym (get_or_from_slice_get (data_of m).functions k (shown m k x.0) d (function_at m k x.0 x.1))) (each k x.0 x.1)
+
+module _ (m : Module) (checked : IsChecked m) where
+  -- ---- names
+
+  named_function : (i : ℕ) (n : List ℕ) → slice_get (map (λ (f : Function). f.name) (data_of m).functions) i ≡ Some n → (x : FunctionData) × (slice_get m.functions i ≡ Some x) × (x.name ≡ n)
+  named_function i n h = by (slice_get (data_of m).functions i) refl (sym (slice_get-map (λ (f : Function). f.name) (data_of m).functions i) ∙ h)
+    where
+      by : (o : Option Function) → slice_get (data_of m).functions i ≡ o → option_map (λ (f : Function). f.name) o ≡ Some n → (x : FunctionData) × (slice_get m.functions i ≡ Some x) × (x.name ≡ n)
+      by None e h = absurd cc
+      by (Some g) e h =
+          let count = function_count m in
+          let within = slice_get_within (data_of m).functions i g e in
+          let x = there m.functions i (omega (arith, within, count)) in
+          let same = some_same g (shown m i x.0) (sym e ∙ function_at m i x.0 x.1) in
+          (x.0, x.1, ap (λ (f : Function). f.name) (sym same) ∙ some_same g.name n h)
+
+  no_later : (i j : ℕ) (n : List ℕ) → i < j → slice_get (map (λ (f : Function). f.name) (data_of m).functions) i ≡ Some n → slice_get (map (λ (f : Function). f.name) (data_of m).functions) j ≡ Some n → ⊥
+  no_later i j n lt at_i at_j =
+      let x = named_function i n at_i in
+      let y = named_function j n at_j in
+      checked (NameTwice (P.Function j)) (y.0, y.1, inr (inl (i, x.0, lt, x.1, x.2 ∙ sym y.2)))
+
+  distinct_functions : IsDistinctList (map (λ (f : Function). f.name) (data_of m).functions)
+  distinct_functions i j n at_i at_j = elim (cases_order i j) [
+    | inl same ↦ same
+    | inr apart ↦ elim apart [ inl lt ↦ absurd (no_later i j n lt at_i at_j) | inr gt ↦ absurd (no_later j i n gt at_j at_i) ]
+  ]
+
+  distinct_locals : (f : ℕ) (x : FunctionData) → slice_get m.functions f ≡ Some x → IsDistinctList (local_names (shown m f x))
+  distinct_locals f x at =
+      let once : ¬ HasTwice (local_names (shown m f x)) = λ twice. checked (NameTwice (P.Function f)) (x, at, inr (inr (subst HasTwice (sym (same_local_names m f x)) twice))) in
+      distinct_of_once (local_names (shown m f x)) once
+
+  -- no two functions share a name, and no two named things of a function do
+  pub distinct_of_checked : HasDistinctNames (data_of m)
+  distinct_of_checked = record {
+    functions = distinct_functions;
+    locals = each_function m (λ (f : Function). IsDistinctList (local_names f)) distinct_locals;
+  }
+
+  -- ---- lengths
+
+  few_instructions : IsModule m → (bs : List LLVMBasicBlock) → All (λ (b : LLVMBasicBlock). IfSome (block_at (trees_of m) m.blocks m.insts b) (λ (c : Block). length c.instructions < 2 ^ 31)) bs
+  few_instructions sound bs k d lt = let b = slice_index_or bs k d in by b (slice_get m.blocks b.0) refl
+    where
+      by : (b : LLVMBasicBlock) (o : Option BlockData) → slice_get m.blocks b.0 ≡ o → IfSome (option_map (block_of (trees_of m) m.insts b) o) (λ (c : Block). length c.instructions < 2 ^ 31)
+      by b None e = tt
+      by b (Some y) e =
+          let short = lt_of_not-le (λ long. checked (ListTooLong (P.Block b.0)) (y, e, long)) in
+          let count = inst_count_of m b y sound e in
+          omega (arith, short, count)
+
+  few_in : IsModule m → (f : ℕ) (x : FunctionData) → slice_get m.functions f ≡ Some x → IsFewIn (shown m f x)
+  few_in sound f x at = record {
+    params = lt_of_not-le (λ long. checked (ListTooLong (P.Function f)) (x, at, inl long));
+    instructions = All-filter_map (λ (c : Block). length c.instructions < 2 ^ 31) (block_at (trees_of m) m.blocks m.insts) x.blocks (few_instructions sound x.blocks);
+  }
+
+  -- lists of fewer than 2^31 entries
+  pub few_of_checked : IsModule m → HasFew (data_of m)
+  few_of_checked sound = record {
+    functions = let short = lt_of_not-le (checked (ListTooLong P.Module)) in let count = function_count m in omega (arith, short, count);
+    each = each_function m IsFewIn (few_in sound);
+  }

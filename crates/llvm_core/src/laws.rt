@@ -1,0 +1,19 @@
+//! Laws of modules of the form, each on a function that makes no call.
+
+ghost use Rattle.std.specs.Prelude.{◌≡◌};
+ghost use Rattle.llvm_core.specs.Module.{Module};
+ghost use Rattle.llvm_core.specs.Sound.{IsModule};
+ghost use Rattle.llvm_core.specs.Data.{data_of, AreApart};
+ghost use Rattle.llvm_core.specs.Checked.{IsChecked};
+ghost use Rattle.llvm_core.specs.Form.{IsForm, HasDistinctNames, HasFew};
+
+/// A module of the form whose names are distinct and whose lists are short meets every rule.
+pub fn form_is_checked()
+    ensures { (m : Module) → IsModule m → AreApart m → IsForm (data_of m) → HasDistinctNames (data_of m) → HasFew (data_of m) → IsChecked m }
+{}
+
+/// The names of a checked module are distinct, and its lists are short.
+pub fn checked_is_distinct()
+    ensures distinct { (m : Module) → IsModule m → IsChecked m → HasDistinctNames (data_of m) }
+    ensures few { (m : Module) → IsModule m → IsChecked m → HasFew (data_of m) }
+{}
