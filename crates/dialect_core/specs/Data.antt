@@ -1,6 +1,6 @@
 -- The data of a dialect module: its functions, their blocks and operations, with types and constants as trees.
 use Rattle.std.specs.Prelude.{◌≡◌, ◌<◌, ℕ, if◌then◌else◌, nat_eq, List, [], ◌∷◌, ◌++◌, Option, Some, None, All, IfSome, map, length, slice_get, unwrap_or}
-use Rattle.std.specs.List.{filter_map, flat_map}
+use Rattle.std.specs.List.{filter_map, flat_map, find}
 use Rattle.std.specs.Option.{option_map, option_map_or, option_and_then}
 use Rattle.dialect_types.specs.declared.types.TypeHandle.{TypeHandle}
 use Rattle.dialect_types.specs.Trees.{TypeTree, AttrTree, type_at, type_trees, attr_tree, HasTypesBelow}
@@ -8,11 +8,13 @@ use Rattle.dialect_core.specs.declared.numbers.OpRef.{OpRef}
 use Rattle.dialect_core.specs.declared.numbers.BlockRef.{BlockRef}
 use Rattle.dialect_core.specs.declared.linkage.LinkageAttr.{LinkageAttr}
 use Rattle.dialect_core.specs.declared.ops.Value.{Value}
+use Rattle.dialect_core.specs.declared.ops.Value.TheVariants.{Result, Argument}
 use Rattle.dialect_core.specs.declared.ops.Successor.{Successor}
 use Rattle.dialect_core.specs.declared.ops.Symbol.{Symbol}
 use Rattle.dialect_core.specs.declared.ops.OpKind.{OpKind}
 use Rattle.dialect_core.specs.declared.ops.OpKind.TheVariants as K
 use Rattle.dialect_core.specs.declared.ops.OpData.{OpData}
+use Rattle.dialect_core.specs.declared.overflow.IntegerOverflowFlagsAttr.{IntegerOverflowFlagsAttr}
 use Rattle.dialect_core.specs.declared.ops.BlockData.{BlockData}
 use Rattle.dialect_core.specs.Lists.{list_at}
 use Rattle.dialect_core.specs.ContextData.{ContextData, region_at}
@@ -22,6 +24,7 @@ use Rattle.dialect_core.specs.ContextData.{ContextData, region_at}
 -- what an operation of a function's block is, with its immediates, a line for each kind
 pub data Kind : Type 0 where
   ConstantOp : (value : AttrTree) → Kind
+  AddOp : (flags : IntegerOverflowFlagsAttr) → Kind
   ReturnOp : Kind
 
 pub record DialectOp : Type 0 where
@@ -57,6 +60,7 @@ abbrev pub kind_of : List TypeTree → OpKind → Option Kind
 kind_of ts K.Module = None
 kind_of ts K.Func = None
 kind_of ts (K.Constant value) = Some (ConstantOp (attr_tree ts value))
+kind_of ts (K.Add flags) = Some (AddOp flags)
 kind_of ts K.Return = Some ReturnOp
 
 abbrev pub op_of : List TypeTree → OpRef → OpData → Option DialectOp
@@ -112,6 +116,17 @@ data_of c m = record {
   name = name_at c.ops m;
   functions = filter_map (func_in (type_trees c.types) c) (held c m);
 }
+
+-- ---- types of values
+
+-- the operations of a function, block after block
+abbrev pub ops_in : Func → List DialectOp
+ops_in f = flat_map (λ (b : DialectBlock). b.ops) f.blocks
+
+-- the type of a value of the function, none where it has no such value
+abbrev pub value_type : Func → Value → Option TypeTree
+value_type f (Result r) = option_and_then (λ (o : DialectOp). o.result) (find (λ (o : DialectOp). nat_eq o.number r.0) (ops_in f))
+value_type f (Argument b i) = option_and_then (λ (x : DialectBlock). slice_get x.args i) (find (λ (x : DialectBlock). nat_eq x.number b.0) f.blocks)
 
 -- ---- how the building calls change the data
 

@@ -1,5 +1,5 @@
 -- The dialect text of a module: a function of its data.
-use Rattle.std.specs.Prelude.{ℕ, ◌+◌, Bool, false, ◌&&◌, nat_eq, List, [], ◌∷◌, ◌++◌, Option, Some, None, map, codes}
+use Rattle.std.specs.Prelude.{ℕ, ◌+◌, Bool, true, false, ◌&&◌, nat_eq, List, [], ◌∷◌, ◌++◌, Option, Some, None, map, codes}
 use Rattle.std.specs.List.{filter_map, flat_map}
 use Rattle.std.specs.Map.{lookup}
 use Rattle.std.specs.Option.{option_map}
@@ -12,7 +12,8 @@ use Rattle.dialect_core.specs.declared.linkage.LinkageAttr.TheVariants as L
 use Rattle.dialect_core.specs.declared.ops.Value.{Value}
 use Rattle.dialect_core.specs.declared.ops.Value.TheVariants.{Result, Argument}
 use Rattle.dialect_core.specs.declared.ops.Successor.{Successor}
-use Rattle.dialect_core.specs.Data.{Kind, ConstantOp, ReturnOp, DialectOp, DialectBlock, Func, DialectModule}
+use Rattle.dialect_core.specs.declared.overflow.IntegerOverflowFlagsAttr.{IntegerOverflowFlagsAttr}
+use Rattle.dialect_core.specs.Data.{Kind, ConstantOp, AddOp, ReturnOp, DialectOp, DialectBlock, Func, DialectModule}
 
 -- ---- numbers of values and blocks
 
@@ -98,11 +99,27 @@ linkage_text L.GhostLinkage = codes "GhostLinkage"
 -- the name of an operation, a line for each kind
 abbrev pub kind_word : Kind → List ℕ
 kind_word (ConstantOp value) = codes "llvm.constant"
+kind_word (AddOp flags) = codes "llvm.add"
 kind_word ReturnOp = codes "llvm.return"
+
+-- the key of a truth value that is set
+abbrev pub flag_key : Bool → List ℕ → List (List ℕ)
+flag_key true key = key ∷ []
+flag_key false key = []
+
+-- the keys of the flags that are set
+abbrev pub overflow_keys : IntegerOverflowFlagsAttr → List (List ℕ)
+overflow_keys flags = flag_key flags.nsw (codes "nsw") ++ flag_key flags.nuw (codes "nuw")
+
+-- keys in braces, where there are any
+abbrev pub keys_text : List (List ℕ) → List ℕ
+keys_text [] = []
+keys_text (k ∷ ks) = codes " {" ++ joined (k ∷ ks) ++ codes "}"
 
 -- its immediates, where it has any
 abbrev pub immediates_text : Kind → List ℕ
 immediates_text (ConstantOp value) = codes " {value = " ++ attr_text value ++ codes "}"
+immediates_text (AddOp flags) = keys_text (overflow_keys flags)
 immediates_text ReturnOp = []
 
 -- `:name` and ` : t`, where there is a name or a type

@@ -1,6 +1,6 @@
 //! Numbers the values and blocks of a module as its text shows them.
 
-ghost use Rattle.std.specs.Prelude.{◌≡◌, ◌<◌, ◌+◌, ◌∷◌, [], All, OnOk, IfOk, map, length, if◌then◌else◌};
+ghost use Rattle.std.specs.Prelude.{◌≡◌, ◌<◌, ◌+◌, ◌∷◌, [], All, OnOk, IfOk, length, if◌then◌else◌};
 ghost use Rattle.std.specs.List.{flat_map};
 ghost use Rattle.dialect_core.specs.declared.ops.Value.TheVariants as kinds;
 ghost use Rattle.dialect_core.specs.Data.{data_of};

@@ -9,6 +9,7 @@ mod module_printing;
 pub mod numbering;
 pub mod numbers;
 pub mod ops;
+pub mod overflow;
 mod printing;
 pub mod steps;
 #[cfg(test)]

@@ -1,6 +1,6 @@
 //! The numbers that values and blocks have in the text of a module.
 
-ghost use Rattle.std.specs.Prelude.{◌≡◌, IfOk, OnOk, Some, None, if◌then◌else◌};
+ghost use Rattle.std.specs.Prelude.{◌≡◌, OnOk, Some, None, if◌then◌else◌};
 ghost use Rattle.std.specs.HashMap.{get};
 ghost use Rattle.dialect_core.specs.Numbering.{or_else, value_at, block_at};
 

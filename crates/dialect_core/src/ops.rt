@@ -2,6 +2,7 @@
 
 use crate::linkage::LinkageAttr;
 use crate::numbers::{BlockRef, OpRef};
+use crate::overflow::IntegerOverflowFlagsAttr;
 use dialect_types::attrs::ConstAttr;
 use dialect_types::identifier::Identifier;
 use dialect_types::items::Items;
@@ -32,6 +33,8 @@ pub enum OpKind {
     Func,
     /// `llvm.constant`, with its `value`.
     Constant(ConstAttr),
+    /// `llvm.add` of two operands.
+    Add(IntegerOverflowFlagsAttr),
     /// `llvm.return`.
     Return,
 }

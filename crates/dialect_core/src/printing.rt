@@ -1,17 +1,17 @@
 //! The dialect text of operations: their values, successors, immediates and types.
 
-ghost use Rattle.std.specs.Prelude.{◌≡◌, ◌<◌, ◌++◌, All, IfSome, OnOk, length};
+ghost use Rattle.std.specs.Prelude.{◌≡◌, ◌<◌, ◌++◌, IfSome, OnOk, length};
 ghost use Rattle.std.specs.Option.{option_copied, option_map};
-ghost use Rattle.std.specs.List.{flat_map};
 ghost use Rattle.dialect_types.specs.Trees.{attr_tree, type_at, type_trees, HasTypesBelow};
-ghost use Rattle.dialect_types.specs.Text.{Keeps, attr_text};
-ghost use Rattle.dialect_core.specs.Data.{ConstantOp, op_of, IsTypedOp};
+ghost use Rattle.dialect_types.specs.Text.{Keeps};
+ghost use Rattle.dialect_core.specs.Data.{ConstantOp, AddOp, op_of, IsTypedOp};
 ghost use Rattle.dialect_core.specs.Numbering.{value_at, block_at};
 ghost use Rattle.dialect_core.specs.Text.{option_text, number_text, colon_text, value_text, block_name_text, values_text, successor_text, successors_text, gives_text, head_text, immediates_text, result_type_text, tail_text, op_text};
 
 use crate::numbering::Numbering;
 use crate::numbers::{BlockRef, OpRef};
 use crate::ops::{OpData, OpKind, Successor, Value};
+use crate::overflow::IntegerOverflowFlagsAttr;
 use dialect_types::attrs::ConstAttr;
 use dialect_types::identifier::Identifier;
 use dialect_types::printing::{print_comma_before, print_number};
@@ -174,6 +174,22 @@ fn print_constant_immediates(
     Ok(())
 }
 
+/// Appends the flags that are set, in braces.
+fn print_overflow_flags(
+    flags: IntegerOverflowFlagsAttr,
+    out: &mut Vec<u8>,
+) -> Result<(), AllocError>
+    ensures ok { OnOk result (out.new.items ≡ out.old.items ++ immediates_text (AddOp flags)) }
+    ensures kept { Keeps out.old.items out.new.items }
+{
+    match (flags.nsw, flags.nuw) {
+        (false, false) => Ok(()),
+        (true, false) => out.extend_from_slice(b" {nsw}"),
+        (false, true) => out.extend_from_slice(b" {nuw}"),
+        (true, true) => out.extend_from_slice(b" {nsw, nuw}"),
+    }
+}
+
 /// Appends ` : t`, where there is a type.
 fn print_result_type(
     types: &TypeStore,
@@ -226,6 +242,12 @@ pub fn print_op(
         OpKind::Constant(value) => {
             print_head(numbers, op, x, b"llvm.constant", out)?;
             print_constant_immediates(types, value, out)?;
+            print_tail(types, x.result, out)?;
+            Ok(())
+        }
+        OpKind::Add(flags) => {
+            print_head(numbers, op, x, b"llvm.add", out)?;
+            print_overflow_flags(*flags, out)?;
             print_tail(types, x.result, out)?;
             Ok(())
         }

@@ -1,7 +1,7 @@
 //! What a context answers of its operations and blocks.
 
 ghost use Rattle.std.specs.Prelude.{◌≡◌, is_some, ◌<◌, IfOk, IfSome, Some, All, length, slice_get};
-ghost use Rattle.std.specs.Option.{option_map, option_and_then, option_copied};
+ghost use Rattle.std.specs.Option.{option_map, option_copied};
 ghost use Rattle.dialect_core.specs.Lists.{AllApart, next_in, list_at};
 ghost use Rattle.dialect_core.specs.Data.{held};
 ghost use Rattle.dialect_core.specs.ContextData.{is_func, IsValueWithin, IsSuccessorWithin, IsSymbol, symbol_at, parent_of};
