@@ -1,2 +1,8 @@
 pub mod CodeLaws
 pub mod ExampleLaws
+pub mod Naming
+pub mod SameValues
+pub mod Fronts
+pub mod Simulation
+pub mod ShapeLaws
+pub mod ShapeExample

@@ -9,9 +9,9 @@ use Rattle.dialect_core.specs.declared.ops.Value.TheVariants.{Result, Argument}
 use Rattle.dialect_core.specs.declared.ops.Successor.{Successor}
 use Rattle.dialect_core.specs.declared.linkage.LinkageAttr.{LinkageAttr}
 use Rattle.dialect_core.specs.declared.linkage.LinkageAttr.TheVariants as K
-use Rattle.dialect_core.specs.Data.{DialectModule, Func, DialectBlock, DialectOp, Kind, ConstantOp, ReturnOp}
+use Rattle.dialect_core.specs.Data.{DialectModule, Func, DialectBlock, DialectOp, Kind, ConstantOp, AddOp, ReturnOp, value_type}
 use Rattle.llvm_core.specs.Data as L
-use Rattle.meaning.specs.Terms.{Term, Param, Unset, Ret}
+use Rattle.meaning.specs.Terms.{Term, Param, Unset, Opcode, Add, Ret, Immediate, overflow_immediates}
 use Rattle.meaning.specs.Machine.{Operand, At, Action, Holds, Applies, Row, Edge, Block, Item, trace}
 use Rattle.meaning.specs.Llvm.{int_of}
 use Rattle.meaning.specs.Code.{Code, Entry, Body, Symbol, FunctionSymbol, Linkage, External, AvailableExternally, LinkOnceAny, LinkOnceODR, WeakAny, WeakODR, Appending, Internal, Private, ExternalWeak, Common, Other}
@@ -38,28 +38,22 @@ same_value _ _ = false
 
 -- ---- types of operands
 
-abbrev pub ops_in : Func → List DialectOp
-ops_in f = flat_map (λ (b : DialectBlock). b.ops) f.blocks
-
+-- the type of LLVM of a result or operand, void where there is none
 abbrev pub option_type : Option TypeTree → L.TypeTree
 option_type None = L.VoidType
 option_type (Some t) = type_of t
 
-abbrev pub nth_type : List TypeTree → ℕ → L.TypeTree
-nth_type [] i = L.VoidType
-nth_type (t ∷ ts) zero = type_of t
-nth_type (t ∷ ts) (suc i) = nth_type ts i
-
-abbrev pub value_type : Func → Value → L.TypeTree
-value_type f (Result r) = option_map_or (λ (o : DialectOp). option_type o.result) (find (λ (o : DialectOp). nat_eq o.number r.0) (ops_in f)) L.VoidType
-value_type f (Argument b i) = option_map_or (λ (x : DialectBlock). nth_type x.args i) (find (λ (x : DialectBlock). nat_eq x.number b.0) f.blocks) L.VoidType
-
 -- ---- rows and edges, a line for each kind
+
+-- the opcode and the immediates, applied to the operands
+abbrev pub applies : Func → DialectOp → Opcode → List Immediate → Action Value
+applies f o opcode immediates = Applies opcode immediates (option_type o.result) (map (λ (v : Value). option_type (value_type f v)) o.operands) (map At o.operands)
 
 -- a constant operation holds the term of its constant; any other applies its kind to its operands
 abbrev pub action : Func → DialectOp → Kind → Action Value
 action f o (ConstantOp value) = Holds (attr_term value)
-action f o ReturnOp = Applies Ret [] (option_type o.result) (map (value_type f) o.operands) (map At o.operands)
+action f o (AddOp flags) = applies f o Add (overflow_immediates flags.nsw flags.nuw)
+action f o ReturnOp = applies f o Ret []
 
 abbrev pub row : Func → DialectOp → Row Value
 row f o = record { action = action f o o.kind; result = Result (record { 0 = o.number }) }

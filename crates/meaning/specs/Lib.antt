@@ -4,4 +4,5 @@ pub mod Code
 pub mod Llvm
 pub mod Dialect
 pub mod Pairs
+pub mod Shape
 pub mod Examples

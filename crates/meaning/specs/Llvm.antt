@@ -3,8 +3,9 @@ use Rattle.std.specs.Prelude.{ℕ, Bool, false, not, ◌&&◌, if◌then◌else�
 use Rattle.std.specs.Option.{option_map_or}
 use Rattle.std.specs.List.{flat_map, filter_map, position_from, find, starts_with}
 use Rattle.llvm_core.specs.Data as L
-use Rattle.llvm_core.specs.Data.{TypeTree, VoidType, IntType, FunctionType, TypeTrees, NoTypes, ThenType, ConstTree, IntConst, Instruction, Return, Constant, Parameter, Result, Placed, ModuleData}
-use Rattle.meaning.specs.Terms.{Term, Param, Unset, Int, Opcode, Ret, Immediate}
+use Rattle.llvm_core.specs.Data.{TypeTree, VoidType, IntType, FunctionType, TypeTrees, NoTypes, ThenType, ConstTree, IntConst, Instruction, Add, Return, Constant, Parameter, Result, Placed, ModuleData, operand_type}
+use Rattle.meaning.specs.Terms.{Term, Param, Unset, Int, Opcode, Ret, Immediate, overflow_immediates}
+use Rattle.meaning.specs.Terms as Op
 use Rattle.meaning.specs.Machine.{Operand, At, Fixed, Action, Applies, Row, Edge, Block, Item, trace}
 use Rattle.meaning.specs.Code.{Code, Entry, Body, Symbol, FunctionSymbol, External}
 
@@ -31,29 +32,6 @@ operand d (Constant c) = Fixed (const_term d c)
 operand d (Parameter f i) = At (ParamKey f i)
 operand d (Result n) = At (ResultKey n)
 
--- ---- types of operands
-
-abbrev pub nth_type : TypeTrees → ℕ → TypeTree
-nth_type NoTypes i = VoidType
-nth_type (ThenType t ts) ℕ.zero = t
-nth_type (ThenType t ts) (ℕ.suc i) = nth_type ts i
-
-abbrev pub param_type : TypeTree → ℕ → TypeTree
-param_type (FunctionType r ps v) i = nth_type ps i
-param_type _ i = VoidType
-
--- a line for each kind of constant
-abbrev pub const_type : ModuleData → ConstTree → TypeTree
-const_type d (IntConst ty n) = ty
-
-abbrev pub placed_in : L.Function → List Placed
-placed_in f = flat_map (λ (b : L.Block). b.instructions) f.blocks
-
-abbrev pub operand_type : ModuleData → L.Function → L.Operand → TypeTree
-operand_type d f (Constant c) = const_type d c
-operand_type d f (Parameter g i) = option_map_or (λ (x : L.Function). param_type x.type i) (find (λ (x : L.Function). nat_eq x.number g) d.functions) VoidType
-operand_type d f (Result n) = option_map_or (λ (x : Placed). x.type) (find (λ (x : Placed). nat_eq x.number n) (placed_in f)) VoidType
-
 -- ---- rows and edges, a line for each kind
 
 abbrev pub option_list : {A : Type 0} → Option A → List A
@@ -62,19 +40,22 @@ option_list (Some x) = x ∷ []
 
 -- opcode, immediates and operands; of a phi it is not asked
 abbrev pub row_of : ModuleData → Instruction → Opcode × List Immediate × List L.Operand
+row_of d (Add lhs rhs flags) = (Op.Add, overflow_immediates flags.nsw flags.nuw, lhs ∷ rhs ∷ [])
 row_of d (Return value) = (Ret, [], option_list value)
 
 -- the blocks that an instruction leads to, by number
 abbrev pub targets : Instruction → List ℕ
+targets (Add lhs rhs flags) = []
 targets (Return value) = []
 
 -- the entries of a phi, block and operand; none for what is no phi
 abbrev pub phi_entries : Instruction → Option (List (ℕ × L.Operand))
+phi_entries (Add lhs rhs flags) = None
 phi_entries (Return value) = None
 
 abbrev pub action : ModuleData → L.Function → Placed → Action Key
 action d f p =
-    Applies (row_of d p.instruction).0 (row_of d p.instruction).1 p.type (map (operand_type d f) (row_of d p.instruction).2) (map (operand d) (row_of d p.instruction).2)
+    Applies (row_of d p.instruction).0 (row_of d p.instruction).1 p.type (map (operand_type f) (row_of d p.instruction).2) (map (operand d) (row_of d p.instruction).2)
 
 -- a phi is no row
 abbrev pub row : ModuleData → L.Function → Placed → Option (List (ℕ × L.Operand)) → Option (Row Key)

@@ -5,12 +5,17 @@ use Rattle.llvm_core.specs.Data.{TypeTree, VoidType, IntType, FunctionType, Type
 
 -- what an instruction is: a word for each row of the instruction table
 pub data Opcode : Type 0 where
+  Add : Opcode
   Ret : Opcode
 
 -- what an instruction holds besides its operands, a line for each sort of it
 pub data Immediate : Type 0 where
   Flag : Bool → Immediate
   Number : ℕ → Immediate
+
+-- the flags of an operation that may overflow, the signed one first
+abbrev pub overflow_immediates : (nsw nuw : Bool) → List Immediate
+overflow_immediates nsw nuw = Flag nsw ∷ Flag nuw ∷ []
 
 -- ---- terms
 
@@ -90,6 +95,7 @@ pub data Family : Type 0 where
 
 -- a line for each kind
 abbrev pub family : Opcode → Family
+family Add = Builds
 family Ret = Shows
 
 abbrev pub made_by : Family → Opcode → List Immediate → TypeTree → List Term → Option Term

@@ -2,12 +2,13 @@
 
 ghost use Rattle.std.specs.Prelude.{◌≡◌, ◌∷◌, [], true, false, codes};
 ghost use Rattle.llvm_core.specs.Data.{VoidType, IntType, FunctionType, NoTypes};
-ghost use Rattle.meaning.specs.Terms.{Ret, Param, Int, Unset, Insert, Places, put};
+ghost use Rattle.meaning.specs.Terms.{Ret, Flag, Param, Int, Unset, Insert, Places, put};
 ghost use Rattle.meaning.specs.Machine.{Entered, Event};
 ghost use Rattle.meaning.specs.Code.{SameCode, entry_of, FunctionSymbol, External};
 ghost use Rattle.meaning.specs.Llvm as llvm;
 ghost use Rattle.meaning.specs.Dialect as dialect;
-ghost use Rattle.meaning.specs.Examples.{answer, answer_dialect, echo, echo_module, same_places, pair_of};
+ghost use Rattle.meaning.specs.Shape.{SameShape};
+ghost use Rattle.meaning.specs.Examples.{answer, answer_dialect, echo, echo_module, same_places, pair_of, sums, sums_module, sums_func, sums_dialect, sum_of};
 
 /// `define i32 @f() { ret i32 7 }`, its symbol, its trace on both sides, and that the two have the same code.
 pub fn answer_means()
@@ -25,4 +26,12 @@ pub fn echo_and_put()
     ensures deep { put (pair_of Unset (pair_of (Int 8 1) Unset)) ((VoidType, 1) ∷ (VoidType, 0) ∷ []) (Int 8 9) ≡ pair_of Unset (pair_of (Int 8 9) Unset) }
     ensures past_the_end { put (pair_of Unset Unset) ((VoidType, 2) ∷ []) (Int 8 9) ≡ Insert VoidType (pair_of Unset Unset) (Places (2 ∷ [])) (Int 8 9) }
     ensures unknown { put (Param 0) ((IntType 8, 1) ∷ []) (Int 8 9) ≡ Insert (IntType 8) (Param 0) (Places (1 ∷ [])) (Int 8 9) }
+{}
+
+/// `define i32 @g(i32 %a, i32 %b) { %s = add nsw i32 %a, %b ; %t = add i32 %s, 5 ; ret i32 %t }`,
+/// its trace on both sides, the flags as `nsw` and then `nuw`, and that the one stands for the other.
+pub fn sums_mean()
+    ensures trace { llvm.traces_of sums_module [] ≡ (Entered 0 ∷ Event Ret [] VoidType (IntType 32 ∷ []) (sum_of (Flag false ∷ Flag false ∷ []) (sum_of (Flag true ∷ Flag false ∷ []) (Param 0) (Param 1)) (Int 32 5) ∷ []) ∷ []) ∷ [] }
+    ensures dialect_trace { dialect.traces_of sums_dialect [] ≡ llvm.traces_of sums_module [] }
+    ensures shape { SameShape same_places sums_module sums sums_func }
 {}

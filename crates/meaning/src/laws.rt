@@ -3,9 +3,27 @@
 ghost use Rattle.std.specs.Prelude.{◌≡◌, ◌++◌, ℕ, List, map};
 ghost use Rattle.meaning.specs.Terms.{Match};
 ghost use Rattle.meaning.specs.Pairs.{Matched};
-ghost use Rattle.meaning.specs.Code.{Code, SameNamed, SameCode, IsDistinctNames, names_of};
+ghost use Rattle.llvm_core.specs.Data.{ModuleData, Function};
+ghost use Rattle.dialect_core.specs.Data.{Func};
+ghost use Rattle.meaning.specs.Machine.{Item};
+ghost use Rattle.meaning.specs.Code.{Code, SameNamed, SameCode, IsDistinctNames, names_of, under};
+ghost use Rattle.meaning.specs.Shape.{SameShape};
+ghost use Rattle.meaning.specs.Examples.{same_places};
+ghost use Rattle.meaning.specs.Llvm as llvm;
+ghost use Rattle.meaning.specs.Dialect as dialect;
 
 /// Modules whose entries match one by one, under one name each and no name twice, have the same code.
 pub fn same_code_law()
     ensures { (match : Match) → (a b : Code) → IsDistinctNames (names_of a) → Matched (SameNamed match) a.entries b.entries → SameCode match a b }
+{}
+
+/// A function of the dialect that stands for one of LLVM gives its blocks and events, under the
+/// match, for every list of branch choices.
+pub fn same_shape_law()
+    ensures { (match : Match) → (d : ModuleData) → (f : Function) → (g : Func) → SameShape match d f g → (choices : List ℕ) → map (under match f.name) ((llvm.body d f).trace choices) ≡ (dialect.body g).trace choices }
+{}
+
+/// A match that leaves all where it is changes nothing.
+pub fn same_places_law()
+    ensures { (n : List ℕ) → (items : List Item) → map (under same_places n) items ≡ items }
 {}
