@@ -1,0 +1,169 @@
+-- What definitions tell: of each value that is known in a scope, and of names, widths and operands.
+use Rattle.std.proofs.Common.{◌≡◌, ℕ, ◌+◌, ◌-◌, ◌≤◌, ◌⊎◌, inl, inr, Bool, true, false, ◌&&◌, nat_le, nat_lt, nat_eq, [], ◌∷◌, length, take, drop, Option, Some, None, refl, ap, subst, if◌then◌else◌, eqb-true, eq-eqb, arith}
+use Rattle.std.specs.Option.{option_map}
+use Rattle.std.proofs.lemmas.Bool.Decides.{nat_tests}
+use Rattle.llvm_core.specs.Names.{is_plain, IsPlainOrNone}
+use Rattle.llvm_core.proofs.ListLemmas.{some_same}
+use Rattle.llvm_core.specs.declared.code.LLVMValue.{LLVMValue}
+use Rattle.llvm_core.specs.Data.{Operand}
+use Rattle.ll_text.specs.Text.{Text, width_of, const_value, number_of, number_limit}
+use Rattle.ll_text.specs.Tree.{is_local, is_digits}
+use Rattle.ll_text.specs.Building.{AllKnown, IsNamedBy, SaysLocal}
+use Rattle.ll_text.specs.Meaning.{◌>>=◌, Key, Named, Numbered, same_key, Local, ValueLocal, BlockLocal, Scope, empty_scope, with_key, counted, define, legal_width, value_of_width, constant, int_width, key_of, optional_key, global_name, string_name, value_of, define_written, local_key, label_key}
+
+-- ---- steps that give something
+
+pub bound : {A B : Type 0} (x : Option A) (f : A → Option B) (b : B) → (x >>= f) ≡ Some b → (a : A) × (x ≡ Some a) × (f a ≡ Some b)
+bound None f b h = absurd cc
+bound (Some a) f b h = (a, refl, h)
+
+pub mapped : {A B : Type 0} (f : A → B) (x : Option A) (b : B) → option_map f x ≡ Some b → (a : A) × (x ≡ Some a) × (f a ≡ b)
+mapped f None b h = absurd cc
+mapped f (Some a) b h = (a, refl, let e : f a ≡ b = cc in e)
+
+-- a choice that gives something passed its test
+pub chosen : {A : Type 0} (t : Bool) (x : Option A) (a : A) → (if t then x else None) ≡ Some a → (t ≡ true) × (x ≡ Some a)
+chosen true x a h = (refl, h)
+chosen false x a h = absurd cc
+
+pub same_pair : {A B : Type 0} (a c : A) (b d : B) → ◌≡◌ {A = Option (A × B)} (Some (a, b)) (Some (c, d)) → (a ≡ c) × (b ≡ d)
+same_pair {A} {B} a c b d h = let e : ◌≡◌ {A = A × B} (a, b) (c, d) = some_same {X = A × B} (a, b) (c, d) h in (ap (λ (x : A × B). x.0) e, ap (λ (x : A × B). x.1) e)
+
+pub same_triple : {A B C : Type 0} (a d : A) (b e : B) (c f : C) → ◌≡◌ {A = Option (A × B × C)} (Some (a, b, c)) (Some (d, e, f)) → (a ≡ d) × (◌≡◌ {A = B × C} (b, c) (e, f))
+same_triple {A} {B} {C} a d b e c f h =
+    let s : ◌≡◌ {A = A × B × C} (a, b, c) (d, e, f) = some_same {X = A × B × C} (a, b, c) (d, e, f) h in
+    (ap (λ (x : A × B × C). x.0) s, ap (λ (x : A × B × C). let y : B × C = (x.1, x.2) in y) s)
+
+-- ---- names and widths
+
+pub plain_or_none : (n : Text) → is_plain n ≡ true → IsPlainOrNone n
+plain_or_none [] h = tt
+plain_or_none (b ∷ bs) h = h
+
+-- a key whose name is plain
+abbrev pub IsPlainKey : Key → Type 0
+IsPlainKey (Named n) = is_plain n ≡ true
+IsPlainKey (Numbered n) = Unit {0}
+
+abbrev pub IsPlainOption : Option Key → Type 0
+IsPlainOption None = Unit {0}
+IsPlainOption (Some k) = IsPlainKey k
+
+pub plain_key : (t : Text) (k : Key) → key_of is_plain 64 t ≡ Some k → IsPlainKey k
+plain_key t k h = by (is_digits t) h
+  where
+    by : (d : Bool) → (if d then option_map Numbered (number_of t) else (if is_plain t then Some (Named t) else None)) ≡ Some k → IsPlainKey k
+    by true h = let n = mapped Numbered (number_of t) k h in subst IsPlainKey n.2 tt
+    by false h = let n = chosen (is_plain t) (Some (Named t)) k h in subst IsPlainKey (let e : Named t ≡ k = cc (n.1) in e) n.0
+
+pub plain_optional : (key : Text → Option Key) → ((t : Text) (k : Key) → key t ≡ Some k → IsPlainKey k) → (o : Option Text) (k : Option Key) → optional_key is_plain 64 key o ≡ Some k → IsPlainOption k
+plain_optional key all None k h = subst IsPlainOption (let e : None ≡ k = cc in e) tt
+plain_optional key all (Some t) k h = let m = mapped Some (key t) k h in subst IsPlainOption m.2 (all t m.0 m.1)
+
+pub plain_global : (t n : Text) → global_name is_plain 64 t ≡ Some n → is_plain n ≡ true
+plain_global t n h = let c = chosen (is_plain (drop 1 t)) (Some (drop 1 t)) n h in subst (λ (m : Text). is_plain m ≡ true) (let e : drop 1 t ≡ n = cc (c.1) in e) c.0
+
+pub plain_string : (t n : Text) → string_name is_plain 64 t ≡ Some n → is_plain n ≡ true
+plain_string t n h =
+    let name = take (length t - 2) (drop 1 t) in
+    let c = chosen (is_plain name) (Some name) n h in
+    subst (λ (m : Text). is_plain m ≡ true) (let e : name ≡ n = cc (c.1) in e) c.0
+
+width_within : (o : Option ℕ) (w : ℕ) → legal_width 64 o ≡ Some w → (1 ≤ w) × (w ≤ 64)
+width_within None w h = absurd cc
+width_within (Some v) w h =
+    let c = chosen (nat_le 1 v && nat_le v 64) (Some v) w h in
+    let e : v ≡ w = cc (c.1) in
+    subst (λ (u : ℕ). (1 ≤ u) × (u ≤ 64)) e (let lo : 1 ≤ v = grind (arith, nat_tests, c.0) in let hi : v ≤ 64 = grind (arith, nat_tests, c.0) in (lo, hi))
+
+pub short_width : (t : Text) (w : ℕ) → int_width is_plain 64 t ≡ Some w → (1 ≤ w) × (w ≤ 64)
+short_width t w h = width_within (width_of t) w h
+
+-- ---- definitions
+
+-- P holds of what is defined, where it is a value
+abbrev pub IfValue : (Operand → ℕ → Type 0) → Local → Type 0
+IfValue P (ValueLocal o w) = P o w
+IfValue P (BlockLocal b) = Unit {0}
+
+pub none_known : (P : Operand → ℕ → Type 0) → AllKnown P empty_scope
+none_known P k o w h = absurd cc
+
+pub weaker_known : (P Q : Operand → ℕ → Type 0) (s : Scope) → ((o : Operand) (w : ℕ) → P o w → Q o w) → AllKnown P s → AllKnown Q s
+weaker_known P Q s weaker h k o w e = weaker o w (h k o w e)
+
+key_known : (P : Operand → ℕ → Type 0) (s : Scope) (k : Key) (x : Local) (n : ℕ) → AllKnown P s → IfValue P x → AllKnown P (with_key s k x n)
+key_known P s k x n h p j o w e = by (same_key k j) e
+  where
+    by : (t : Bool) → (if t then Some x else s.known j) ≡ Some (ValueLocal o w) → P o w
+    by true e = let same : x ≡ ValueLocal o w = cc in subst (IfValue P) same p
+    by false e = h j o w e
+
+any : (x : Local) → IfValue (λ o w. Unit {0}) x
+any (ValueLocal o w) = tt
+any (BlockLocal b) = tt
+
+counted_known : (P : Operand → ℕ → Type 0) (s : Scope) (x : Local) (n : ℕ) (d : Text × Scope) → counted s x n ≡ Some d → AllKnown P s → IfValue P x → (d.0 ≡ []) × AllKnown P d.1
+counted_known P s x n d e h p =
+    let c = chosen (nat_lt n number_limit) _ d e in
+    let same : ([], with_key s (Numbered n) x (n + 1)) ≡ d = cc (c.1) in
+    subst (λ (d : Text × Scope). (d.0 ≡ []) × AllKnown P d.1) same (refl, key_known P s (Numbered n) x (n + 1) h p)
+
+-- P stays true of what is known when a thing is defined
+pub define_known : (P : Operand → ℕ → Type 0) (s : Scope) (x : Local) (k : Option Key) (d : Text × Scope) → define s x k ≡ Some d → AllKnown P s → IfValue P x → AllKnown P d.1
+define_known P s x None d e h p = (counted_known P s x s.next d e h p).1
+define_known P s x (Some (Numbered n)) d e h p = (counted_known P s x n d (chosen (nat_le s.next n) (counted s x n) d e).1 h p).1
+define_known P s x (Some (Named n)) d e h p = let same : (n, with_key s (Named n) x s.next) ≡ d = cc in subst (λ (d : Text × Scope). AllKnown P d.1) same (key_known P s (Named n) x s.next h p)
+
+-- the name of what is defined is plain or empty, and P stays true of what is known
+pub defined : (P : Operand → ℕ → Type 0) (s : Scope) (x : Local) (k : Option Key) (d : Text × Scope) → define s x k ≡ Some d → IsPlainOption k → AllKnown P s → IfValue P x → IsPlainOrNone d.0 × AllKnown P d.1
+defined P s x k d e plain h p = (named s x k d e plain, define_known P s x k d e h p)
+  where
+    named : (s : Scope) (x : Local) (k : Option Key) (d : Text × Scope) → define s x k ≡ Some d → IsPlainOption k → IsPlainOrNone d.0
+    named s x None d e plain = rw (counted_known (λ o w. Unit {0}) s x s.next d e (λ k o w h. tt) (any x)).0 tt
+    named s x (Some (Numbered n)) d e plain = rw (counted_known (λ o w. Unit {0}) s x n d (chosen (nat_le s.next n) (counted s x n) d e).1 (λ k o w h. tt) (any x)).0 tt
+    named s x (Some (Named n)) d e plain = let same : (n, with_key s (Named n) x s.next) ≡ d = cc in subst (λ (d : Text × Scope). IsPlainOrNone d.0) same (plain_or_none n plain)
+
+pub written : (P : Operand → ℕ → Type 0) (s : Scope) (x : Local) (key : Text → Option Key) → ((t : Text) (k : Key) → key t ≡ Some k → IsPlainKey k)
+    → (o : Option Text) (d : Text × Scope) → define_written is_plain 64 s x key o ≡ Some d → AllKnown P s → IfValue P x → IsPlainOrNone d.0 × AllKnown P d.1
+written P s x key all o d e h p =
+    let k = bound (optional_key is_plain 64 key o) (define s x) d e in
+    defined P s x k.0 d k.2 (plain_optional key all o k.0 k.1) h p
+
+pub local_plain : (t : Text) (k : Key) → local_key is_plain 64 t ≡ Some k → IsPlainKey k
+local_plain t k h = plain_key (drop 1 t) k h
+
+pub label_plain : (t : Text) (k : Key) → label_key is_plain 64 t ≡ Some k → IsPlainKey k
+label_plain t k h = plain_key (take (length t - 1) t) k h
+
+-- ---- operands
+
+of_width : (w : ℕ) (l : Option Local) (o : Operand) → value_of_width w l ≡ Some o → l ≡ Some (ValueLocal o w)
+of_width w None o h = absurd cc
+of_width w (Some (BlockLocal b)) o h = absurd cc
+of_width w (Some (ValueLocal p v)) o h =
+    let c = chosen (nat_eq v w) (Some p) o h in
+    let same : v ≡ w = eqb-true v w c.0 in
+    let e : p ≡ o = cc (c.1) in
+    cc
+
+-- an operand of a width is known with that width, or is the constant of a literal
+pub operand_is : (s : Scope) (w : ℕ) (t : Text) (o : Operand) → value_of is_plain 64 s w t ≡ Some o
+    → ((k : Key) × (s.known k ≡ Some (ValueLocal o w))) ⊎ ((v : ℕ) × (const_value w t ≡ Some v) × (constant w v ≡ o))
+operand_is s w t o h = by (is_local t) h
+  where
+    by : (l : Bool) → (if l then (local_key is_plain 64 t >>= λ k. value_of_width w (s.known k)) else option_map (constant w) (const_value w t)) ≡ Some o
+        → ((k : Key) × (s.known k ≡ Some (ValueLocal o w))) ⊎ ((v : ℕ) × (const_value w t ≡ Some v) × (constant w v ≡ o))
+    by true h = let k = bound (local_key is_plain 64 t) (λ k. value_of_width w (s.known k)) o h in inl (k.0, of_width w (s.known k.0) o k.2)
+    by false h = inr (mapped (constant w) (const_value w t) o h)
+
+-- ---- operands of the program
+
+pub local_said : (s : Scope) (w : ℕ) (t : Text) (v : LLVMValue) (key : Key) (o : Operand) → is_local t ≡ true → local_key is_plain 64 t ≡ Some key → s.known key ≡ Some (ValueLocal o w) → IsNamedBy v o → SaysLocal s w t v
+local_said s w t v key o is k known named = record {
+  operand = o;
+  says = rw (is, k, known, eq-eqb w w refl) refl;
+  key = key;
+  known = known;
+  named = named;
+}

@@ -1,0 +1,23 @@
+-- The lemmas of the crate.
+pub mod BodyLaws
+pub mod BuildLaws
+pub mod BuiltLaws
+pub mod CuttingLaws
+pub mod DataLaws
+pub mod EndLaws
+pub mod FileLaws
+pub mod FormLaws
+pub mod FunctionLaws
+pub mod InstLaws
+pub mod InstructionLaws
+pub mod KnownLaws
+pub mod LiteralLaws
+pub mod Many
+pub mod MeaningLaws
+pub mod ModuleLaws
+pub mod NextLaws
+pub mod ReaderLaws
+pub mod ScopeLaws
+pub mod SignatureLaws
+pub mod Steps
+pub mod TokenLaws

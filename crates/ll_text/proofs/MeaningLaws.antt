@@ -1,0 +1,174 @@
+-- What is said by plain names and narrow integers is said by bare names and integers of any width.
+use Rattle.std.proofs.Common.{◌≡◌, ℕ, suc, ◌-◌, Bool, true, false, ◌&&◌, ◌||◌, nat_le, nat_eq, List, [], ◌∷◌, length, take, drop, Option, Some, None, refl, ap, ◌∙◌, if◌then◌else◌, arith}
+use Rattle.std.specs.Option.{option_map}
+use Rattle.std.specs.List.{list_all}
+use Rattle.std.proofs.lemmas.Bool.{and_parts, and_from}
+use Rattle.std.proofs.lemmas.Bool.Decides.{nat_tests}
+use Rattle.llvm_core.specs.Names.{is_digit, is_letter, is_plain, is_plain_byte}
+use Rattle.llvm_core.specs.Data as L
+use Rattle.llvm_core.specs.Data.{TypeTree, VoidType, IntType, FunctionType, TypeTrees, NoTypes, ThenType, Operand, Placed, Block, ModuleData}
+use Rattle.ll_text.specs.Text.{Text, is_bare, is_name_byte, width_of}
+use Rattle.ll_text.specs.Tree.{is_local, is_digits, Inst, ReturnVoid, Return, Add, Param, Function, File}
+use Rattle.ll_text.specs.Spelling.{widest}
+use Rattle.ll_text.specs.Meaning.{◌>>=◌, Key, Named, Local, ValueLocal, BlockLocal, Scope, empty_scope, legal_width, int_width, key_of, local_key, label_key, optional_key, global_name, string_name, value_of, define_written, inst_data, param_data, result_data, AreParams, AreInstructions, IsFunctionOf, AreFunctions, IsSource, IsFileOf}
+
+-- ---- what is given stays given
+
+-- where the first gives something, the second gives the same
+abbrev pub Gives : {A : Type 0} → Option A → Option A → Type 0
+Gives {A} x y = (a : A) → x ≡ Some a → y ≡ Some a
+
+same_gives : {A : Type 0} (x : Option A) → Gives x x
+same_gives x a e = e
+
+bind_gives : {A B : Type 0} (x y : Option A) (f g : A → Option B) → Gives x y → ((a : A) → Gives (f a) (g a)) → Gives (x >>= f) (y >>= g)
+bind_gives None y f g h k b e = cc
+bind_gives (Some a) y f g h k b e = ap (λ o. o >>= g) (h a refl) ∙ k a b e
+
+map_gives : {A B : Type 0} (x y : Option A) (f : A → B) → Gives x y → Gives (option_map f x) (option_map f y)
+map_gives None y f h b e = cc
+map_gives (Some a) y f h b e = ap (option_map f) (h a refl) ∙ e
+
+choice_gives : {A : Type 0} (t : Bool) (x y z w : Option A) → Gives x y → Gives z w → Gives (if t then x else z) (if t then y else w)
+choice_gives true x y z w h k = h
+choice_gives false x y z w h k = k
+
+-- under a test that passes wherever another does
+test_gives : {A : Type 0} (s t : Bool) (a : A) → (s ≡ true → t ≡ true) → Gives (if s then Some a else None) (if t then Some a else None)
+test_gives true t a h b e = rw (h refl) e
+test_gives false t a h b e = cc
+
+-- ---- names and widths
+
+letter_digit : (b : ℕ) → is_letter b ≡ true → is_digit b ≡ false
+letter_digit b h = grind (arith, nat_tests)
+
+letter_name : (b : ℕ) → is_letter b ≡ true → is_name_byte b ≡ true
+letter_name b h = rw h refl
+
+plain_byte : (b : ℕ) → is_plain_byte b ≡ true → is_name_byte b ≡ true
+plain_byte b h = by (is_letter b) (is_digit b) refl refl h
+  where
+    by : (l d : Bool) → is_letter b ≡ l → is_digit b ≡ d → (l || d || nat_eq b 95) ≡ true → is_name_byte b ≡ true
+    by true d el ed h = rw el refl
+    by false true el ed h = rw (el, ed) refl
+    by false false el ed h = rw (el, ed, h) (grind arith)
+
+all_names : (bs : Text) → list_all is_plain_byte bs ≡ true → list_all is_name_byte bs ≡ true
+all_names [] h = refl
+all_names (b ∷ bs) h =
+    let parts = and_parts (is_plain_byte b) (list_all is_plain_byte bs) h in
+    and_from (is_name_byte b) (list_all is_name_byte bs) (plain_byte b parts.0) (all_names bs parts.1)
+
+-- plain names are bare
+pub plain_bare : (t : Text) → is_plain t ≡ true → is_bare t ≡ true
+plain_bare [] h = cc
+plain_bare (b ∷ bs) h =
+    let parts = and_parts (is_letter b) (list_all is_plain_byte bs) h in
+    rw (letter_name b parts.0, letter_digit b parts.0, all_names bs parts.1) refl
+
+narrow : (w : ℕ) → (nat_le 1 w && nat_le w 64) ≡ true → (nat_le 1 w && nat_le w widest) ≡ true
+narrow w h = grind (arith, nat_tests)
+
+width_gives : (o : Option ℕ) → Gives (legal_width 64 o) (legal_width widest o)
+width_gives None = same_gives None
+width_gives (Some w) = test_gives (nat_le 1 w && nat_le w 64) (nat_le 1 w && nat_le w widest) w (narrow w)
+
+int_width_gives : (t : Text) → Gives (int_width is_plain 64 t) (int_width is_bare widest t)
+int_width_gives t = width_gives (width_of t)
+
+key_gives : (t : Text) → Gives (key_of is_plain 64 t) (key_of is_bare widest t)
+key_gives t = choice_gives (is_digits t) _ _ _ _ (same_gives _) (test_gives (is_plain t) (is_bare t) (Named t) (plain_bare t))
+
+optional_gives : (k l : Text → Option Key) → ((t : Text) → Gives (k t) (l t)) → (o : Option Text) → Gives (optional_key is_plain 64 k o) (optional_key is_bare widest l o)
+optional_gives k l h None = same_gives _
+optional_gives k l h (Some t) = map_gives (k t) (l t) Some (h t)
+
+global_gives : (t : Text) → Gives (global_name is_plain 64 t) (global_name is_bare widest t)
+global_gives t = test_gives (is_plain (drop 1 t)) (is_bare (drop 1 t)) (drop 1 t) (plain_bare (drop 1 t))
+
+string_gives : (t : Text) → Gives (string_name is_plain 64 t) (string_name is_bare widest t)
+string_gives t = let n = take (length t - 2) (drop 1 t) in test_gives (is_plain n) (is_bare n) n (plain_bare n)
+
+-- ---- operands, definitions, instructions
+
+value_gives : (s : Scope) (w : ℕ) (t : Text) → Gives (value_of is_plain 64 s w t) (value_of is_bare widest s w t)
+value_gives s w t = choice_gives (is_local t) _ _ _ _
+    (bind_gives (local_key is_plain 64 t) (local_key is_bare widest t) _ _ (key_gives (drop 1 t)) (λ k. same_gives _)) (same_gives _)
+
+written_gives : (s : Scope) (x : Local) (k l : Text → Option Key) → ((t : Text) → Gives (k t) (l t)) → (o : Option Text) → Gives (define_written is_plain 64 s x k o) (define_written is_bare widest s x l o)
+written_gives s x k l h o = bind_gives (optional_key is_plain 64 k o) (optional_key is_bare widest l o) _ _ (optional_gives k l h o) (λ k. same_gives _)
+
+local_gives : (s : Scope) (x : Local) (o : Option Text) → Gives (define_written is_plain 64 s x (local_key is_plain 64) o) (define_written is_bare widest s x (local_key is_bare widest) o)
+local_gives s x o = written_gives s x (local_key is_plain 64) (local_key is_bare widest) (λ t. key_gives (drop 1 t)) o
+
+inst_gives : (s : Scope) (n : ℕ) (i : Inst) → Gives (inst_data is_plain 64 s n i) (inst_data is_bare widest s n i)
+unfolding inst_data
+inst_gives s n ReturnVoid = same_gives _
+inst_gives s n (Return type value) =
+    bind_gives (int_width is_plain 64 type) (int_width is_bare widest type) _ _ (int_width_gives type)
+    (λ w. bind_gives (value_of is_plain 64 s w value) (value_of is_bare widest s w value) _ _ (value_gives s w value) (λ o. same_gives _))
+inst_gives s n (Add name nuw nsw type lhs rhs) =
+    bind_gives (int_width is_plain 64 type) (int_width is_bare widest type) _ _ (int_width_gives type)
+    (λ w. bind_gives (value_of is_plain 64 s w lhs) (value_of is_bare widest s w lhs) _ _ (value_gives s w lhs)
+    (λ a. bind_gives (value_of is_plain 64 s w rhs) (value_of is_bare widest s w rhs) _ _ (value_gives s w rhs)
+    (λ b. bind_gives (define_written is_plain 64 s (ValueLocal (L.Result n) w) (local_key is_plain 64) name) (define_written is_bare widest s (ValueLocal (L.Result n) w) (local_key is_bare widest) name) _ _ (local_gives s (ValueLocal (L.Result n) w) name) (λ d. same_gives _))))
+
+param_gives : (s : Scope) (f i : ℕ) (p : Param) → Gives (param_data is_plain 64 s f i p) (param_data is_bare widest s f i p)
+unfolding param_data
+param_gives s f i p =
+    bind_gives (int_width is_plain 64 p.type) (int_width is_bare widest p.type) _ _ (int_width_gives p.type)
+    (λ w. bind_gives (define_written is_plain 64 s (ValueLocal (L.Parameter f i) w) (local_key is_plain 64) p.name) (define_written is_bare widest s (ValueLocal (L.Parameter f i) w) (local_key is_bare widest) p.name) _ _ (local_gives s (ValueLocal (L.Parameter f i) w) p.name) (λ d. same_gives _))
+
+result_gives : (o : Option Text) → Gives (result_data is_plain 64 o) (result_data is_bare widest o)
+result_gives None = same_gives _
+result_gives (Some t) = map_gives (int_width is_plain 64 t) (int_width is_bare widest t) IntType (int_width_gives t)
+
+-- ---- functions and files
+
+wider_params : (f i : ℕ) (s : Scope) (ps : List Param) (ts : TypeTrees) (ns : List Text) (t : Scope) → AreParams is_plain 64 f i s ps ts ns t → AreParams is_bare widest f i s ps ts ns t
+wider_params f i s [] NoTypes [] t h = h
+wider_params f i s (p ∷ ps) (ThenType (IntType w) ts) (n ∷ ns) t h = (h.0, param_gives s f i p (w, n, h.0) h.1, wider_params f (suc i) h.0 ps ts ns t h.2)
+wider_params f i s [] NoTypes (n ∷ ns) t h = elim h [ ]
+wider_params f i s [] (ThenType _ ts) ns t h = elim h [ ]
+wider_params f i s (p ∷ ps) NoTypes ns t h = elim h [ ]
+wider_params f i s (p ∷ ps) (ThenType VoidType ts) ns t h = elim h [ ]
+wider_params f i s (p ∷ ps) (ThenType (IntType w) ts) [] t h = elim h [ ]
+wider_params f i s (p ∷ ps) (ThenType (FunctionType result params variadic) ts) ns t h = elim h [ ]
+
+wider_insts : (s : Scope) (is : List Inst) (ps : List Placed) → AreInstructions is_plain 64 s is ps → AreInstructions is_bare widest s is ps
+wider_insts s [] [] h = h
+wider_insts s (i ∷ is) (p ∷ ps) h = (h.0, inst_gives s p.number i (p, h.0) h.1, wider_insts h.0 is ps h.2)
+wider_insts s [] (p ∷ ps) h = elim h [ ]
+wider_insts s (i ∷ is) [] h = elim h [ ]
+
+wider_function : (f : Function) (d : L.Function) → IsFunctionOf is_plain 64 f d → IsFunctionOf is_bare widest f d
+wider_function f d h = record {
+  name = global_gives f.name d.name h.name;
+  result = h.result;
+  types = h.types;
+  returns = result_gives f.result h.result h.returns;
+  type = h.type;
+  space = h.space;
+  after_params = h.after_params;
+  params = wider_params d.number 0 empty_scope f.params h.types d.params h.after_params h.params;
+  block = h.block;
+  only = h.only;
+  after_label = h.after_label;
+  label = written_gives h.after_params (BlockLocal h.block.number) (label_key is_plain 64) (label_key is_bare widest) (λ t. key_gives (take (length t - 1) t)) f.label (h.block.name, h.after_label) h.label;
+  instructions = wider_insts h.after_label f.insts h.block.instructions h.instructions;
+  ends = h.ends;
+}
+
+wider_functions : (fs : List Function) (ds : List L.Function) → AreFunctions is_plain 64 fs ds → AreFunctions is_bare widest fs ds
+wider_functions [] [] h = h
+wider_functions (f ∷ fs) (d ∷ ds) h = (wider_function f d h.0, wider_functions fs ds h.1)
+wider_functions [] (d ∷ ds) h = elim h [ ]
+wider_functions (f ∷ fs) [] h = elim h [ ]
+
+wider_source : (o : Option Text) (n : Text) → IsSource is_plain 64 o n → IsSource is_bare widest o n
+wider_source None n h = h
+wider_source (Some t) n h = string_gives t n h
+
+pub wider_file : (t : File) (d : ModuleData) → IsFileOf is_plain 64 t d → IsFileOf is_bare widest t d
+wider_file t d h = record { source = wider_source t.source d.name h.source; functions = wider_functions t.functions d.functions h.functions }

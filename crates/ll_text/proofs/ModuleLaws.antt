@@ -1,0 +1,189 @@
+-- Modules to which types and constants are added.
+use Rattle.std.proofs.Common.{◌≡◌, ◌⊎◌, inl, inr, ◌<◌, ℕ, List, [], ◌∷◌, ◌++◌, Option, Some, None, length, length-append, slice_get, refl, ap, sym, ◌∙◌, subst, append_assoc, arith}
+use Rattle.std.specs.Option.{option_map, option_map_or}
+use Rattle.std.proofs.lemmas.List.{append-nil}
+use Rattle.std.proofs.lemmas.Option.{slice_get_within}
+use Rattle.llvm_core.specs.declared.numbers.LLVMType.{LLVMType}
+use Rattle.llvm_core.specs.declared.numbers.LLVMConst.{LLVMConst}
+use Rattle.llvm_core.specs.declared.types.LLVMTypeKind.{LLVMTypeKind}
+use Rattle.llvm_core.specs.declared.types.LLVMTypeKind.TheVariants as T
+use Rattle.llvm_core.specs.declared.consts.LLVMConstKind.{LLVMConstKind}
+use Rattle.llvm_core.specs.declared.consts.LLVMConstKind.TheVariants as C
+use Rattle.llvm_core.specs.declared.code.LLVMValue.{LLVMValue}
+use Rattle.llvm_core.specs.declared.code.LLVMValue.TheVariants as V
+use Rattle.llvm_core.specs.declared.code.FunctionData.{FunctionData}
+use Rattle.llvm_core.specs.Interned.{Interned}
+use Rattle.llvm_core.specs.Module.{Module}
+use Rattle.llvm_core.specs.Sound.{IsModule}
+use Rattle.llvm_core.specs.Parts.{IsValue, value_type, const_type, type_params, kind_params}
+use Rattle.llvm_core.specs.Data as L
+use Rattle.llvm_core.specs.Data.{ConstTree, IntConst, IntType, VoidType, TypeTree, Operand, Constant, Parameter, Result, trees_of, type_trees, const_trees, const_at, operand_of, data_of}
+use Rattle.llvm_core.proofs.ListLemmas.{slice_get-kept}
+use Rattle.llvm_core.proofs.DataLemmas.{int_tree_of, int_const_of}
+use Rattle.llvm_core.proofs.TreeLemmas.{const_at-kept, const_trees-retyped}
+use Rattle.ll_text.specs.Text.{Text, const_value}
+use Rattle.ll_text.specs.Meaning.{Scope}
+use Rattle.ll_text.specs.Building.{IsValueOf, StandsIn, IsReady, IsNamedBy, OnlyInterns, SaysLocal, SaysConstant, SaysValue}
+use Rattle.ll_text.proofs.KnownLaws.{mapped}
+
+-- ---- lists that grow
+
+pub grown : {X : Type 0} (old new : List X) (k : X) (n : ℕ) → Interned old new k n → (more : List X) × (new ≡ old ++ more)
+grown {X} old new k n h = by h.only
+  where
+    by : (new ≡ old) ⊎ (new ≡ old ++ k ∷ []) → (more : List X) × (new ≡ old ++ more)
+    by (inl same) = ([], same ∙ sym (append-nil old))
+    by (inr longer) = (k ∷ [], longer)
+
+-- ---- only types and constants are added
+
+pub none_interned : (m : Module) → OnlyInterns m m
+none_interned m = record { more_types = []; types = sym (append-nil m.types); more_consts = []; consts = sym (append-nil m.consts); rest = refl; data_is = refl; sound = λ s. s }
+
+pub type_interned : (old new : Module) (k : LLVMTypeKind) (n : ℕ) → Interned old.types new.types k n → new ≡ record old { types = new.types } → data_of new ≡ data_of old → IsModule new → OnlyInterns old new
+type_interned old new k n h rest is sound =
+    let g = grown old.types new.types k n h in
+    let consts : new.consts ≡ old.consts = ap (λ (m : Module). m.consts) rest in
+    record {
+      more_types = g.0;
+      types = g.1;
+      more_consts = [];
+      consts = consts ∙ sym (append-nil old.consts);
+      rest = rest ∙ ap (λ (cs : List LLVMConstKind). let m : Module = record old { types = new.types; consts = cs } in m) (sym consts);
+      data_is = is;
+      sound = λ s. sound;
+    }
+
+pub const_interned : (old new : Module) (k : LLVMConstKind) (n : ℕ) → Interned old.consts new.consts k n → new ≡ record old { consts = new.consts } → data_of new ≡ data_of old → IsModule new → OnlyInterns old new
+const_interned old new k n h rest is sound =
+    let g = grown old.consts new.consts k n h in
+    let types : new.types ≡ old.types = ap (λ (m : Module). m.types) rest in
+    record {
+      more_types = [];
+      types = types ∙ sym (append-nil old.types);
+      more_consts = g.0;
+      consts = g.1;
+      rest = rest ∙ ap (λ (ts : List LLVMTypeKind). let m : Module = record old { types = ts; consts = new.consts } in m) (sym types);
+      data_is = is;
+      sound = λ s. sound;
+    }
+
+pub interned_twice : (a b c : Module) → OnlyInterns a b → OnlyInterns b c → OnlyInterns a c
+interned_twice a b c g h = record {
+  more_types = g.more_types ++ h.more_types;
+  types = h.types ∙ ap (λ (ts : List LLVMTypeKind). ts ++ h.more_types) g.types ∙ append_assoc a.types g.more_types h.more_types;
+  more_consts = g.more_consts ++ h.more_consts;
+  consts = h.consts ∙ ap (λ (cs : List LLVMConstKind). cs ++ h.more_consts) g.consts ∙ append_assoc a.consts g.more_consts h.more_consts;
+  rest = h.rest ∙ ap (λ (m : Module). let n : Module = record m { types = c.types; consts = c.consts } in n) g.rest;
+  data_is = h.data_is ∙ g.data_is;
+  sound = λ s. h.sound (g.sound s);
+}
+
+-- ---- values stay
+
+pub mapped_kept : {X Y : Type 0} (f : X → Y) (xs more : List X) (i : ℕ) (y : Y) → option_map f (slice_get xs i) ≡ Some y → option_map f (slice_get (xs ++ more) i) ≡ Some y
+mapped_kept f xs more i y h = let x = mapped f (slice_get xs i) y h in ap (option_map f) (slice_get-kept xs more i x.0 x.1) ∙ ap Some x.2
+
+params_kept : (types more : List LLVMTypeKind) (t : LLVMType) (place : ℕ) (x : LLVMType) → slice_get (type_params types t) place ≡ Some x → slice_get (type_params (types ++ more) t) place ≡ Some x
+params_kept types more t place x h = by (slice_get types t.0) refl h
+  where
+    by : (o : Option LLVMTypeKind) → slice_get types t.0 ≡ o → slice_get (option_map_or kind_params o []) place ≡ Some x → slice_get (type_params (types ++ more) t) place ≡ Some x
+    by None e h = absurd cc
+    by (Some k) e h = rw (slice_get-kept types more t.0 k e) h
+
+pub param_kept : (types more : List LLVMTypeKind) (o : Option FunctionData) (place : ℕ) (x : LLVMType)
+    → slice_get (option_map_or (λ (f : FunctionData). type_params types f.ty) o []) place ≡ Some x → slice_get (option_map_or (λ (f : FunctionData). type_params (types ++ more) f.ty) o []) place ≡ Some x
+param_kept types more None place x h = h
+param_kept types more (Some f) place x h = params_kept types more f.ty place x h
+
+abbrev longer : Module → List LLVMTypeKind → List LLVMConstKind → Module
+longer m ts cs = record m { types = m.types ++ ts; consts = m.consts ++ cs }
+
+value_there : (m : Module) (ts : List LLVMTypeKind) (cs : List LLVMConstKind) (v : LLVMValue) → IsValue m v → IsValue (longer m ts cs) v
+value_there m ts cs (V.Const c) h = omega (arith, h, length-append m.consts cs)
+value_there m ts cs (V.Param f i) h = h
+value_there m ts cs (V.Inst i) h = h
+
+value_typed : (m : Module) (ts : List LLVMTypeKind) (cs : List LLVMConstKind) (v : LLVMValue) (t : LLVMType) → value_type m v ≡ Some t → value_type (longer m ts cs) v ≡ Some t
+value_typed m ts cs (V.Const c) t h = mapped_kept const_type m.consts cs c.0 t h
+value_typed m ts cs (V.Param f i) t h = param_kept m.types ts (slice_get m.functions f.0) i t h
+value_typed m ts cs (V.Inst i) t h = h
+
+value_longer : (m : Module) (ts : List LLVMTypeKind) (cs : List LLVMConstKind) (v : LLVMValue) (w : ℕ) → IsValueOf m v w → IsValueOf (longer m ts cs) v w
+value_longer m ts cs v w h = record { there = value_there m ts cs v h.there; type = h.type; typed = value_typed m ts cs v h.type h.typed; int = slice_get-kept m.types ts h.type.0 (T.Int w) h.int }
+
+pub is_longer : (old new : Module) (h : OnlyInterns old new) → new ≡ longer old h.more_types h.more_consts
+is_longer old new h =
+    h.rest
+    ∙ ap (λ (ts : List LLVMTypeKind). let m : Module = record old { types = ts; consts = new.consts } in m) h.types
+    ∙ ap (λ (cs : List LLVMConstKind). let m : Module = record old { types = old.types ++ h.more_types; consts = cs } in m) h.consts
+
+pub value_kept : (old new : Module) (v : LLVMValue) (w : ℕ) → OnlyInterns old new → IsValueOf old v w → IsValueOf new v w
+value_kept old new v w h x = subst (λ (m : Module). IsValueOf m v w) (sym (is_longer old new h)) (value_longer old h.more_types h.more_consts v w x)
+
+pub stands_kept : (old new : Module) (o : Operand) (w : ℕ) → OnlyInterns old new → StandsIn old o w → StandsIn new o w
+stands_kept old new (Constant c) w h x = x
+stands_kept old new (Parameter f i) w h x = value_kept old new (V.Param (record { 0 = f }) i) w h x
+stands_kept old new (Result n) w h x = value_kept old new (V.Inst (record { 0 = n })) w h x
+
+const_longer : (m : Module) (ts : List LLVMTypeKind) (cs : List LLVMConstKind) (c : LLVMConst) → IsModule m → c.0 < length m.consts → const_at (trees_of (longer m ts cs)).consts c ≡ const_at (trees_of m).consts c
+const_longer m ts cs c s small =
+    const_at-kept (type_trees (m.types ++ ts)) m.consts cs c.0 small
+    ∙ ap (λ (xs : List ConstTree). const_at xs c) (const_trees-retyped m.types ts m.consts s.consts)
+
+operand_longer : (m : Module) (ts : List LLVMTypeKind) (cs : List LLVMConstKind) (v : LLVMValue) → IsModule m → IsValue m v → operand_of (trees_of (longer m ts cs)) v ≡ operand_of (trees_of m) v
+operand_longer m ts cs (V.Const c) s h = ap Constant (const_longer m ts cs c s h)
+operand_longer m ts cs (V.Param f i) s h = refl
+operand_longer m ts cs (V.Inst i) s h = refl
+
+-- what a value says stays
+pub operand_kept : (old new : Module) (v : LLVMValue) → OnlyInterns old new → IsModule old → IsValue old v → operand_of (trees_of new) v ≡ operand_of (trees_of old) v
+operand_kept old new v h s x = ap (λ (m : Module). operand_of (trees_of m) v) (is_longer old new h) ∙ operand_longer old h.more_types h.more_consts v s x
+
+-- ---- constants
+
+pub constant_said : (m0 m1 m2 : Module) (w value : ℕ) (text : Text) (t : LLVMType) (c : LLVMConst) → const_value w text ≡ Some value → IsModule m2
+    → slice_get m1.types t.0 ≡ Some (T.Int w) → m2 ≡ record m1 { consts = m2.consts } → slice_get m2.consts c.0 ≡ Some (C.Int t value) → SaysConstant w text m2 (V.Const c)
+constant_said m0 m1 m2 w value text t c says sound int rest here =
+    let types : m2.types ≡ m1.types = ap (λ (m : Module). m.types) rest in
+    let int2 : slice_get m2.types t.0 ≡ Some (T.Int w) = ap (λ (ts : List LLVMTypeKind). slice_get ts t.0) types ∙ int in
+    record {
+      value = value;
+      says = says;
+      is = ap Constant (int_const_of m2 c t value here ∙ ap (λ (x : TypeTree). IntConst x value) (int_tree_of m2 t w sound int2));
+      stands = record { there = slice_get_within m2.consts c.0 (C.Int t value) here; type = t; typed = ap (option_map const_type) here; int = int2 };
+    }
+
+-- ---- locals
+
+named_operand : (ts : L.Trees) (v : LLVMValue) (o : Operand) → IsNamedBy v o → operand_of ts v ≡ o
+named_operand ts (V.Const c) o h = elim h [ ]
+named_operand ts (V.Param f i) o h = h
+named_operand ts (V.Inst i) o h = h
+
+named_stands : (m : Module) (v : LLVMValue) (o : Operand) (w : ℕ) → IsNamedBy v o → StandsIn m o w → IsValueOf m v w
+named_stands m (V.Const c) o w h s = elim h [ ]
+named_stands m (V.Param f i) o w h s = subst (λ (p : Operand). StandsIn m p w) (sym h) s
+named_stands m (V.Inst i) o w h s = subst (λ (p : Operand). StandsIn m p w) (sym h) s
+
+-- a local that is known stands in the module
+pub local_stands : (m : Module) (s : Scope) (w : ℕ) (t : Text) (v : LLVMValue) → IsReady m s → SaysLocal s w t v → SaysValue s w t m v
+local_stands m s w t v ready h = record {
+  operand = h.operand;
+  says = h.says;
+  is = named_operand (trees_of m) v h.operand h.named;
+  stands = named_stands m v h.operand w h.named (ready.known h.key h.operand w h.known);
+}
+
+-- ---- what is known stays
+
+pub ready_kept : (old new : Module) (s : Scope) → OnlyInterns old new → IsReady old s → IsReady new s
+ready_kept old new s h r = record { sound = h.sound r.sound; known = λ k o w e. stands_kept old new o w h (r.known k o w e) }
+
+pub said_kept : (old new : Module) (s : Scope) (w : ℕ) (t : Text) (v : LLVMValue) → OnlyInterns old new → IsModule old → SaysValue s w t old v → SaysValue s w t new v
+said_kept old new s w t v h sound x = record {
+  operand = x.operand;
+  says = x.says;
+  is = operand_kept old new v h sound x.stands.there ∙ x.is;
+  stands = value_kept old new v w h x.stands;
+}

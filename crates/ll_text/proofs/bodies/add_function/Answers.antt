@@ -1,0 +1,47 @@
+use Rattle.std.proofs.Common.{sym, ◌∙◌}
+use Rattle.std.proofs.lemmas.Option.{slice_get_within}
+use Rattle.std.proofs.lemmas.List.{length-map}
+use Rattle.ll_text.specs.Meaning.{empty_scope}
+use Rattle.ll_text.specs.TreeView.{function_view, param_view}
+use Rattle.ll_text.proofs.InstructionLaws.{on_ok_both}
+use Rattle.ll_text.proofs.BuiltLaws.{widths_count, body_known, function_built}
+use Rattle.ll_text.proofs.bodies.add_function.Goals as goal
+
+pub name_params-requires : goal.name_params-requires
+name_params-requires c =
+    let d = c.in_ok-f.ensures in
+    let v = c.as_slice.ensures.value in
+    (d.widths, d.there, rw v (sym (length-map c.args.function.now.params.items param_view) ∙ widths_count _ d.widths d.written))
+
+pub start_block-requires : goal.start_block-requires
+start_block-requires c =
+    let d = c.in_ok-f.ensures in
+    let x = c.in_ok-name_params.ensures.keeps.there d.widths d.there in
+    slice_get_within _ c.in_ok-f.f.0 x.function x.here
+
+pub build_insts-requires-clause-known : goal.build_insts-requires-clause-known
+build_insts-requires-clause-known c =
+    let d = c.in_ok-f.ensures in
+    let v = c.as_slice.ensures.value in
+    let n = rw v at (c.in_ok-name_params.ensures.says empty_scope c.new-scope.ensures) in
+    let e = c.in_ok-block.ensures in
+    let l = e.says n.after n.knows in
+    let there = e.there d.widths (c.in_ok-name_params.ensures.keeps.there d.widths d.there) in
+    record { scope = l.after; knows = l.knows; ready = body_known (function_view c.args.function.now) c.in_ok-f.f d.widths c.args.module.now c.declare.new.module c.name_params.new.module c.start_block.new.module c.in_ok-block.block c.name_params.new.scope c.start_block.new.scope n l d.written there e.sound }
+
+pub returns : goal.returns
+returns c = on_ok_both c.build_insts.result c.build_insts.ensures.adds c.build_insts.ensures.fits (λ adds fits name fs h.
+    let d = c.in_ok-f.ensures in
+    let v = c.as_slice.ensures.value in
+    let w = c.as_slice-insts.ensures.value in
+    let n = rw v at (c.in_ok-name_params.ensures.says empty_scope c.new-scope.ensures) in
+    let e = c.in_ok-block.ensures in
+    let l = e.says n.after n.knows in
+    let keeps = c.in_ok-name_params.ensures.keeps in
+    let there = e.there d.widths (keeps.there d.widths d.there) in
+    let f = function_view c.args.function.now in
+    let ready = body_known f c.in_ok-f.f d.widths c.args.module.now c.declare.new.module c.name_params.new.module c.start_block.new.module c.in_ok-block.block c.name_params.new.scope c.start_block.new.scope n l d.written there e.sound in
+    let i = rw w at (adds l.after l.knows ready) in
+    let fit = rw w at (fits f d.returns_is) in
+    function_built name fs f c.in_ok-f.f c.in_ok-f.returns c.args.module.now c.declare.new.module c.name_params.new.module c.start_block.new.module c.build_insts.new.module c.in_ok-block.block
+    c.name_params.new.scope c.start_block.new.scope c.build_insts.new.scope d n l i keeps e.number e.more_blocks e.same_insts (rw w at (sym c.ends_in_terminator.ensures ∙ c.if-not-ends_in_terminator.false)) fit h)

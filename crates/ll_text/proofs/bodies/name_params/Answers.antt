@@ -1,0 +1,16 @@
+use Rattle.std.proofs.Common.{◌+◌, ℕ, ◌∙◌, ap}
+use Rattle.std.proofs.lemmas.List.{take_all}
+use Rattle.ll_text.proofs.BodyLaws.{params_more, keeps_both}
+use Rattle.ll_text.proofs.bodies.name_params.Goals as goal
+
+pub loop-param-preserved : goal.loop-param-preserved
+loop-param-preserved c =
+    let i = c.loop-param.invariant in
+    record {
+      place = c.in-Some.ensures.1 ∙ ap (λ (n : ℕ). n + 1) i.place;
+      says = params_more c.args.f.0 c.loop-param.place c.loop-param.param-index c.args.params.now _ c.args.module.now c.loop-param.module c.name_param.new.module c.args.scope.now c.loop-param.scope c.name_param.new.scope c.loop-param-test.true i.place i.says c.in_ok-name_param.ensures.says;
+      keeps = keeps_both c.args.f c.args.module.now c.loop-param.module c.name_param.new.module i.keeps c.in_ok-name_param.ensures.keeps;
+    }
+
+pub returns-clause-says : goal.returns-clause-says
+returns-clause-says c = let e = take_all c.loop-param.param-index c.args.params.now c.loop-param-test.false in rw e at c.loop-param.invariant.says

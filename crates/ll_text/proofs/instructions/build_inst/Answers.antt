@@ -1,0 +1,29 @@
+use Rattle.std.proofs.lemmas.Result.{on_ok_weaker}
+use Rattle.ll_text.specs.TokenView.{text_of}
+use Rattle.ll_text.specs.TreeView.{name_view}
+use Rattle.ll_text.specs.ScopeView.{option_key}
+use Rattle.ll_text.proofs.ModuleLaws.{ready_kept}
+use Rattle.ll_text.proofs.InstructionLaws.{void_said, return_said, add_said, on_ok_both}
+use Rattle.ll_text.proofs.instructions.build_inst.Goals as goal
+
+pub returns-else-is_some-clause-adds : goal.returns-else-is_some-clause-adds
+returns-else-is_some-clause-adds c = on_ok_both c.build_return.result c.build_return.ensures.adds c.build_return.ensures.ready (λ adds ready s knows known. rw c.in-ReturnVoid.is (void_said s c.args.block.0 c.args.module.now c.build_return.new.module c.args.scope.now knows adds (ready s known)))
+
+pub returns-in_ok-value-in-Return-clause-adds : goal.returns-in_ok-value-in-Return-clause-adds
+returns-in_ok-value-in-Return-clause-adds c =
+    let e = c.in_ok-value-in-Return.ensures in
+    let m = c.args.module.now in
+    let mid = c.operand.new.module in
+    on_ok_both c.build_return-in-Return.result c.build_return-in-Return.ensures.adds c.build_return-in-Return.ensures.ready (λ adds ready s knows known.
+    rw c.in-Return.is (return_said s c.args.block.0 c.in-Some.width (text_of c.in-Return.ty) (text_of c.in-Return.value) m mid c.build_return-in-Return.new.module c.in_ok-value-in-Return.value c.args.scope.now
+    c.in-Some.ensures.width e.rest (e.value s knows known) knows adds (ready s (ready_kept m mid s e.rest known))))
+
+pub returns-in_ok-a-in-Add-clause-adds : goal.returns-in_ok-a-in-Add-clause-adds
+returns-in_ok-a-in-Add-clause-adds c =
+    let e = c.in_ok-a-in-Add.ensures in
+    let i = c.in-Add in
+    let m = c.args.module.now in
+    let mid = c.both.new.module in
+    on_ok_weaker c.build_result.result (λ h s knows known.
+    rw c.in-Add.is (add_said s c.args.block.0 c.in-Some-int_width.width (name_view i.name) i.nuw i.nsw (text_of i.ty) (text_of i.lhs) (text_of i.rhs) (option_key c.in_ok-key-in-Add.key) m mid c.build_result.new.module c.in_ok-a-in-Add.a c.in_ok-a-in-Add.b c.build_result.new.scope
+    c.in-Some-int_width.ensures.width c.in_ok-key-in-Add.ensures e.rest (e.lhs s knows known) (e.rhs s knows known) (h s knows (ready_kept m mid s e.rest known)))) c.build_result.ensures

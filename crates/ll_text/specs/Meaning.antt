@@ -1,0 +1,181 @@
+-- What the names, numbers and literals of a text mean: the module data that a tree stands for.
+use Rattle.std.specs.Prelude.{◌≡◌, ℕ, suc, ◌+◌, ◌-◌, Bool, true, false, ◌&&◌, nat_le, nat_lt, nat_eq, List, [], ◌∷◌, length, take, drop, Option, Some, None, if◌then◌else◌}
+use Rattle.std.specs.Str.{bytes_eq}
+use Rattle.std.specs.Option.{option_map}
+use Rattle.llvm_core.specs.Data as L
+use Rattle.llvm_core.specs.Data.{TypeTree, VoidType, IntType, FunctionType, TypeTrees, NoTypes, ThenType, Operand, Placed, Block, ModuleData}
+use Rattle.llvm_core.specs.Checked.{ends_in_only}
+use Rattle.llvm_core.specs.Form.{is_last}
+use Rattle.ll_text.specs.Text.{Text, number_of, number_limit, width_of, const_value}
+use Rattle.ll_text.specs.Tree.{is_local, is_digits, Inst, ReturnVoid, Return, Add, Param, Function, File}
+
+infixl 10 ◌>>=◌
+abbrev pub ◌>>=◌ : {A B : Type 0} → Option A → (A → Option B) → Option B
+None >>= f = None
+(Some x) >>= f = f x
+
+-- ---- names and numbers
+
+-- a name or a number of a function's scope
+pub data Key : Type 0 where
+  Named : Text → Key
+  Numbered : (number : ℕ) → Key
+
+abbrev pub same_key : Key → Key → Bool
+same_key (Named a) (Named b) = bytes_eq a b
+same_key (Named a) (Numbered n) = false
+same_key (Numbered m) (Named b) = false
+same_key (Numbered m) (Numbered n) = nat_eq m n
+
+-- what it stands for: a value of an integer type of that width, or a block
+pub data Local : Type 0 where
+  ValueLocal : Operand → (width : ℕ) → Local
+  BlockLocal : (block : ℕ) → Local
+
+-- what is defined so far in a function, and the counter of what has no name
+pub record Scope : Type 0 where
+  pub next : ℕ
+  pub known : Key → Option Local
+
+abbrev pub empty_scope : Scope
+empty_scope = record { next = 0; known = λ (k : Key). None }
+
+-- the scope in which the key stands for that
+abbrev pub with_key : Scope → Key → Local → (next : ℕ) → Scope
+with_key s k x next = record { next = next; known = λ (j : Key). if same_key k j then Some x else s.known j }
+
+-- the thing takes that number, and the counter is one more than it
+abbrev pub counted : Scope → Local → ℕ → Option (Text × Scope)
+counted s x n = if nat_lt n number_limit then Some ([], with_key s (Numbered n) x (n + 1)) else None
+
+-- The next thing of a function: its name in the data, and the scope after it. What has neither a name nor a
+-- number takes the counter; a written number is at least the counter.
+abbrev pub define : Scope → Local → Option Key → Option (Text × Scope)
+define s x None = counted s x s.next
+define s x (Some (Named t)) = Some (t, with_key s (Named t) x s.next)
+define s x (Some (Numbered n)) = if nat_le s.next n then counted s x n else None
+
+-- a width of at least 1, and at most the widest
+abbrev pub legal_width : (widest : ℕ) → Option ℕ → Option ℕ
+legal_width widest None = None
+legal_width widest (Some w) = if nat_le 1 w && nat_le w widest then Some w else None
+
+-- a value of that width that a key stands for
+abbrev pub value_of_width : ℕ → Option Local → Option Operand
+value_of_width w None = None
+value_of_width w (Some (BlockLocal b)) = None
+value_of_width w (Some (ValueLocal o v)) = if nat_eq v w then Some o else None
+
+-- an integer constant
+abbrev pub constant : ℕ → ℕ → Operand
+constant w v = L.Constant (L.IntConst (IntType w) v)
+
+-- ---- trees, by a test on names and by the width of the widest integers
+module _ (is_name : Text → Bool) (widest : ℕ) where
+  abbrev pub int_width : Text → Option ℕ
+  int_width t = legal_width widest (width_of t)
+
+  -- the key that a name or digits say
+  abbrev pub key_of : Text → Option Key
+  key_of t = if is_digits t then option_map Numbered (number_of t) else (if is_name t then Some (Named t) else None)
+
+  -- of a token % and a name or digits
+  abbrev pub local_key : Text → Option Key
+  local_key t = key_of (drop 1 t)
+
+  -- of a label, which ends in a colon
+  abbrev pub label_key : Text → Option Key
+  label_key t = key_of (take (length t - 1) t)
+
+  -- what is written, where it is, as a key
+  abbrev pub optional_key : (Text → Option Key) → Option Text → Option (Option Key)
+  optional_key key None = Some None
+  optional_key key (Some t) = option_map Some (key t)
+
+  -- a name, by its token @ and a name
+  abbrev pub global_name : Text → Option Text
+  global_name t = if is_name (drop 1 t) then Some (drop 1 t) else None
+
+  -- a name between quotes
+  abbrev pub string_name : Text → Option Text
+  string_name t = if is_name (take (length t - 2) (drop 1 t)) then Some (take (length t - 2) (drop 1 t)) else None
+
+  -- an operand of the width: a local that is defined before, or a literal
+  abbrev pub value_of : Scope → ℕ → Text → Option Operand
+  value_of s w t = if is_local t then (local_key t >>= λ k. value_of_width w (s.known k)) else option_map (constant w) (const_value w t)
+
+  -- the definition of a thing with what is written of it
+  abbrev pub define_written : Scope → Local → (Text → Option Key) → Option Text → Option (Text × Scope)
+  define_written s x key written = optional_key key written >>= λ k. define s x k
+
+  -- an instruction of that number, and the scope after it: a line for each kind
+  unfoldable pub inst_data : Scope → (number : ℕ) → Inst → Option (Placed × Scope)
+  inst_data s n ReturnVoid = Some (record { number = n; name = []; type = VoidType; instruction = L.Return None }, s)
+  inst_data s n (Return type value) = do
+    w ← int_width type
+    o ← value_of s w value
+    Some (record { number = n; name = []; type = VoidType; instruction = L.Return (Some o) }, s)
+  inst_data s n (Add name nuw nsw type lhs rhs) = do
+    w ← int_width type
+    a ← value_of s w lhs
+    b ← value_of s w rhs
+    d ← define_written s (ValueLocal (L.Result n) w) local_key name
+    Some (record { number = n; name = d.0; type = IntType w; instruction = L.Add a b (record { nuw = nuw; nsw = nsw }) }, d.1)
+
+  -- the width and the name of the parameter of the function at a place, and the scope after it
+  unfoldable pub param_data : Scope → (function place : ℕ) → Param → Option (ℕ × Text × Scope)
+  param_data s f i p = do
+    w ← int_width p.type
+    d ← define_written s (ValueLocal (L.Parameter f i) w) local_key p.name
+    Some (w, d.0, d.1)
+
+  -- the type that a function returns
+  abbrev pub result_data : Option Text → Option TypeTree
+  result_data None = Some VoidType
+  result_data (Some t) = option_map IntType (int_width t)
+
+  -- the parameters of the function from a place on are those of types and names, with the scope before and after them
+  abbrev pub AreParams : (function place : ℕ) → Scope → List Param → TypeTrees → List Text → Scope → Type 0
+  AreParams f i s [] NoTypes [] t = s ≡ t
+  AreParams f i s (p ∷ ps) (ThenType (IntType w) ts) (n ∷ ns) t = (u : Scope) × (param_data s f i p ≡ Some (w, n, u)) × AreParams f (suc i) u ps ts ns t
+  AreParams f i s _ _ _ t = ⊥
+
+  -- the instructions of a block in order
+  abbrev pub AreInstructions : Scope → List Inst → List Placed → Type 0
+  AreInstructions s [] [] = Unit {0}
+  AreInstructions s (i ∷ is) (p ∷ ps) = (t : Scope) × (inst_data s p.number i ≡ Some (p, t)) × AreInstructions t is ps
+  AreInstructions s [] (p ∷ ps) = ⊥
+  AreInstructions s (i ∷ is) [] = ⊥
+
+  -- a function of one block; a block without a label has an instruction, and no instruction but the last is a terminator
+  pub record IsFunctionOf (f : Function) (d : L.Function) : Type 0 where
+    pub name : global_name f.name ≡ Some d.name
+    pub result : TypeTree
+    pub types : TypeTrees
+    pub returns : result_data f.result ≡ Some result
+    pub type : d.type ≡ FunctionType result types false
+    pub space : d.space ≡ 0
+    pub after_params : Scope
+    pub params : AreParams d.number 0 empty_scope f.params types d.params after_params
+    pub block : Block
+    pub only : d.blocks ≡ block ∷ []
+    pub after_label : Scope
+    pub label : define_written after_params (BlockLocal block.number) label_key f.label ≡ Some (block.name, after_label)
+    pub instructions : AreInstructions after_label f.insts block.instructions
+    pub ends : ends_in_only is_last block.instructions ≡ true
+
+  abbrev pub AreFunctions : List Function → List L.Function → Type 0
+  AreFunctions [] [] = Unit {0}
+  AreFunctions (f ∷ fs) (d ∷ ds) = IsFunctionOf f d × AreFunctions fs ds
+  AreFunctions [] (d ∷ ds) = ⊥
+  AreFunctions (f ∷ fs) [] = ⊥
+
+  -- the name of the module, empty where none is written
+  abbrev pub IsSource : Option Text → Text → Type 0
+  IsSource None n = n ≡ []
+  IsSource (Some t) n = string_name t ≡ Some n
+
+  -- a text says the data of a module
+  pub record IsFileOf (m : File) (d : ModuleData) : Type 0 where
+    pub source : IsSource m.source d.name
+    pub functions : AreFunctions m.functions d.functions

@@ -1,0 +1,46 @@
+//! Builds the module that a text says.
+
+ghost use Rattle.std.specs.Prelude.{◌≡◌, List, map, IfOk};
+ghost use Rattle.llvm_core.specs.Names.{is_plain};
+ghost use Rattle.llvm_core.specs.Data.{data_of};
+ghost use Rattle.ll_text.specs.Tree as tree;
+ghost use Rattle.ll_text.specs.TreeView.{name_view, file_view};
+ghost use Rattle.ll_text.specs.Meaning.{IsSource, IsFileOf};
+ghost use Rattle.ll_text.specs.Returns.{ReturnsFit};
+ghost use Rattle.ll_text.specs.Spelling.{IsNumbered};
+ghost use Rattle.ll_text.specs.Bodies.{IsBuiltOf};
+
+use crate::bodies::add_function;
+use crate::names::string_name;
+use crate::read_err::ReadErr;
+use crate::tokens::Token;
+use crate::tree::File;
+use llvm_core::module::LLVMModule;
+use std::alloc::Global;
+
+/// The name of the module, empty where none is written.
+fn source_name(source: Option<Token<'_>>) -> Result<&str, ReadErr>
+    ensures { IfOk result (λ s. IsSource is_plain 64 (name_view source.entry) s.now) }
+{
+    let Some(token) = source else {
+        return Ok("");
+    };
+    match string_name(token.text) {
+        Some(name) => Ok(name),
+        None => Err(ReadErr::NotYet),
+    }
+}
+
+/// The module that a text says by plain names and integers of at most 64 bits. A text whose names or numbers
+/// say no such module is outside the form.
+pub fn build_file(alloc: Global, file: &File<'_>) -> Result<LLVMModule, ReadErr>
+    ensures says { IfOk result (λ m. IsFileOf is_plain 64 (file_view file.now) (data_of m)) }
+    ensures returns { IfOk result (λ m. ReturnsFit is_plain 64 (file_view file.now)) }
+    ensures numbered { IfOk result (λ m. IsNumbered (data_of m)) }
+{
+    let mut module = LLVMModule::new(alloc, source_name(file.source)?)?;
+    for function in file.functions.as_slice() {
+        add_function(alloc, &mut module, function)?;
+    }
+    Ok(module)
+}

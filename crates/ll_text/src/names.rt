@@ -1,0 +1,117 @@
+//! Names, numbers and widths, as tokens write them.
+
+ghost use Rattle.std.specs.Prelude.{◌≡◌, ◌≤◌, Some, IfOk, IfSome};
+ghost use Rattle.llvm_core.specs.Names.{is_plain};
+ghost use Rattle.ll_text.specs.Meaning.{key_of, local_key, label_key, optional_key, global_name, string_name, int_width};
+ghost use Rattle.ll_text.specs.ScopeView.{key_view, option_key, key_name};
+ghost use Rattle.ll_text.specs.TreeView.{name_view};
+
+use crate::literals::{number, plain_name};
+use crate::read_err::ReadErr;
+use crate::scope::Key;
+use crate::tokens::Token;
+
+/// The key that a plain name or digits say.
+fn key_of(text: &[u8]) -> Option<Key<'_>>
+    ensures { IfSome result (λ k. key_of is_plain 64 text.now ≡ Some (key_view k)) }
+{
+    if let Some(n) = number(text, u128::from(u32::MAX)) {
+        return Some(Key::Numbered(n as u32));
+    }
+    match plain_name(text) {
+        Some(name) => Some(Key::Named(name)),
+        None => None,
+    }
+}
+
+/// The key that a local's token says.
+pub fn local_key(text: &[u8]) -> Option<Key<'_>>
+    ensures { IfSome result (λ k. local_key is_plain 64 text.now ≡ Some (key_view k)) }
+{
+    match text {
+        [_, name @ ..] => key_of(name),
+        [] => None,
+    }
+}
+
+/// The key that a label's token says.
+pub fn label_key(text: &[u8]) -> Option<Key<'_>>
+    ensures { IfSome result (λ k. label_key is_plain 64 text.now ≡ Some (key_view k)) }
+{
+    match text {
+        [name @ .., _] => key_of(name),
+        [] => None,
+    }
+}
+
+/// What is written of a local's name, where it is.
+pub fn written_local(name: Option<Token<'_>>) -> Result<Option<Key<'_>>, ReadErr>
+    ensures { IfOk result (λ k. optional_key is_plain 64 (local_key is_plain 64) (name_view name.entry) ≡ Some (option_key k)) }
+{
+    let Some(token) = name else {
+        return Ok(None);
+    };
+    match local_key(token.text) {
+        Some(key) => Ok(Some(key)),
+        None => Err(ReadErr::NotYet),
+    }
+}
+
+/// What is written of a block's label, where it is.
+pub fn written_label(label: Option<Token<'_>>) -> Result<Option<Key<'_>>, ReadErr>
+    ensures { IfOk result (λ k. optional_key is_plain 64 (label_key is_plain 64) (name_view label.entry) ≡ Some (option_key k)) }
+{
+    let Some(token) = label else {
+        return Ok(None);
+    };
+    match label_key(token.text) {
+        Some(key) => Ok(Some(key)),
+        None => Err(ReadErr::NotYet),
+    }
+}
+
+/// The name that a module keeps of what is defined under a key.
+pub fn key_name<'a>(key: Option<Key<'a>>) -> &'a str
+    ensures { result.now ≡ key_name (option_key key.entry) }
+{
+    match key {
+        Some(Key::Named(name)) => name,
+        _ => "",
+    }
+}
+
+/// The name that a global's token says.
+pub fn global_name(text: &[u8]) -> Option<&str>
+    ensures { IfSome result (λ s. global_name is_plain 64 text.now ≡ Some s.now) }
+{
+    match text {
+        [_, name @ ..] => plain_name(name),
+        [] => None,
+    }
+}
+
+/// The name between quotes.
+pub fn string_name(text: &[u8]) -> Option<&str>
+    ensures { IfSome result (λ s. string_name is_plain 64 text.now ≡ Some s.now) }
+{
+    match text {
+        [_, name @ .., _] => plain_name(name),
+        _ => None,
+    }
+}
+
+/// The width of an integer type, of 1 to 64 bits.
+pub fn int_width(text: &[u8]) -> Option<u32>
+    ensures width { IfSome result (λ w. int_width is_plain 64 text.now ≡ Some w) }
+    ensures least { IfSome result (λ w. 1 ≤ w) }
+    ensures most { IfSome result (λ w. w ≤ 64) }
+{
+    let [b'i', digits @ ..] = text else {
+        return None;
+    };
+    let width = number(digits, 64)? as u32;
+    if width == 0 {
+        return None;
+    }
+    Some(width)
+}

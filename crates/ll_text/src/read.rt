@@ -1,0 +1,43 @@
+//! Reads LLVM text to a module in memory.
+
+ghost use Rattle.std.specs.Prelude.{◌≡◌, IfOk, OnOk};
+ghost use Rattle.llvm_core.specs.Checked.{IsChecked};
+ghost use Rattle.llvm_core.specs.Data.{data_of};
+ghost use Rattle.llvm_core.specs.Form.{IsForm};
+ghost use Rattle.llvm_core.specs.Names.{IsPlainOrNone};
+ghost use Rattle.ll_text.specs.Spelling.{Spells, IsNumbered};
+
+use crate::builder::build_file;
+use crate::read_err::ReadErr;
+use crate::reader::read_tree;
+use crate::tokens::tokens;
+use llvm_core::check_err::CheckErr;
+use llvm_core::checking::check;
+use llvm_core::module::LLVMModule;
+use std::alloc::Global;
+
+/// A module that breaks a rule is outside the form.
+fn check_built(m: &LLVMModule) -> Result<(), ReadErr>
+    ensures { OnOk result (IsChecked m.now) }
+{
+    match check(m) {
+        Ok(()) => Ok(()),
+        Err(CheckErr::NoMemory) => Err(ReadErr::NoMemory),
+        Err(_) => Err(ReadErr::NotYet),
+    }
+}
+
+/// The module that a text of the form spells.
+pub fn read_ll(alloc: Global, bytes: &[u8]) -> Result<LLVMModule, ReadErr>
+    ensures spelled { IfOk result (λ m. Spells bytes.now (data_of m)) }
+    ensures numbered { IfOk result (λ m. IsNumbered (data_of m)) }
+    ensures form { IfOk result (λ m. IsForm (data_of m)) }
+    ensures name { IfOk result (λ m. IsPlainOrNone m.name) }
+    ensures checked { IfOk result IsChecked }
+{
+    let tokens = tokens(alloc, bytes)?;
+    let tree = read_tree(alloc, tokens.as_slice())?;
+    let built = build_file(alloc, &tree)?;
+    check_built(&built)?;
+    Ok(built)
+}

@@ -1,0 +1,103 @@
+//! The types of functions.
+
+ghost use Rattle.std.specs.Prelude.{◌≡◌, ◌≤◌, ◌++◌, ◌∷◌, [], List, Some, IfSome, IfOk, OnOk, map, slice_get};
+ghost use Rattle.llvm_core.specs.Names.{is_plain};
+ghost use Rattle.ll_text.specs.Meaning.{result_data};
+ghost use Rattle.ll_text.specs.Tree as tree;
+ghost use Rattle.ll_text.specs.TreeView.{name_view, param_view};
+ghost use Rattle.ll_text.specs.Building.{OnlyInterns};
+ghost use Rattle.ll_text.specs.Signatures.{returned, returned_kind, HasParams, HasSignature};
+
+use crate::names::int_width;
+use crate::read_err::ReadErr;
+use crate::tokens::Token;
+use crate::tree::Param;
+use llvm_core::items::Items;
+use llvm_core::module::LLVMModule;
+use llvm_core::numbers::LLVMType;
+use llvm_core::types::LLVMTypeKind;
+use std::alloc::{AllocError, Global};
+
+/// The width of the integers that a function returns, none for void.
+pub fn result_width(ty: Option<Token<'_>>) -> Result<Option<u32>, ReadErr>
+    ensures width { IfOk result (λ r. result_data is_plain 64 (name_view ty.entry) ≡ Some (returned r)) }
+    ensures least { IfOk result (λ r. IfSome r (λ w. 1 ≤ w)) }
+    ensures most { IfOk result (λ r. IfSome r (λ w. w ≤ 64)) }
+{
+    let Some(token) = ty else {
+        return Ok(None);
+    };
+    match int_width(token.text) {
+        Some(width) => Ok(Some(width)),
+        None => Err(ReadErr::NotYet),
+    }
+}
+
+/// The type that a function returns.
+fn result_type(module: &mut LLVMModule, returns: Option<u32>) -> Result<LLVMType, AllocError>
+    requires least { IfSome returns (λ w. 1 ≤ w) }
+    requires most { IfSome returns (λ w. w ≤ 64) }
+    ensures here { IfOk result (λ t. slice_get module.new.types t.0 ≡ Some (returned_kind returns)) }
+    ensures rest { OnOk result (OnlyInterns module.old module.new) }
+{
+    let ty = match returns {
+        Some(width) => module.type_get(LLVMTypeKind::Int(width))?,
+        None => module.type_get(LLVMTypeKind::Void)?,
+    };
+    Ok(ty)
+}
+
+/// The type of one parameter, put behind those of the parameters before it.
+fn push_type(
+    module: &mut LLVMModule,
+    types: &mut Items<LLVMType>,
+    param: &Param<'_>,
+) -> Result<(), ReadErr>
+    ensures types { OnOk result ((ps : List tree.Param) → HasParams ps module.old.types types.old → HasParams (ps ++ param_view param.now ∷ []) module.new.types types.new) }
+    ensures rest { OnOk result (OnlyInterns module.old module.new) }
+{
+    let Some(width) = int_width(param.ty.text) else {
+        return Err(ReadErr::NotYet);
+    };
+    let ty = module.type_get(LLVMTypeKind::Int(width))?;
+    types.push(ty)?;
+    Ok(())
+}
+
+/// The types of parameters.
+fn param_types(
+    alloc: Global,
+    module: &mut LLVMModule,
+    params: &[Param<'_>],
+) -> Result<Items<LLVMType>, ReadErr>
+    ensures types { IfOk result (λ ts. HasParams (map param_view params.now) module.new.types ts) }
+    ensures rest { OnOk result (OnlyInterns module.old module.new) }
+{
+    let mut types = Items::new(alloc);
+    for param in params {
+        push_type(module, &mut types, param)?;
+    }
+    Ok(types)
+}
+
+/// The type of a function that takes the parameters and returns an integer of a width, or nothing.
+pub fn signature(
+    alloc: Global,
+    module: &mut LLVMModule,
+    returns: Option<u32>,
+    params: &[Param<'_>],
+) -> Result<LLVMType, ReadErr>
+    requires least { IfSome returns (λ w. 1 ≤ w) }
+    requires most { IfSome returns (λ w. w ≤ 64) }
+    ensures ty { IfOk result (λ t. HasSignature (map param_view params.now) module.new t returns) }
+    ensures rest { OnOk result (OnlyInterns module.old module.new) }
+{
+    let result = result_type(module, returns)?;
+    let params = param_types(alloc, module, params)?;
+    let ty = module.type_get(LLVMTypeKind::Function {
+        result,
+        params,
+        variadic: false,
+    })?;
+    Ok(ty)
+}
