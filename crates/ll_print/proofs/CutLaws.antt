@@ -1,0 +1,59 @@
+-- Pieces of the layout, cut into their tokens whatever follows.
+use Rattle.std.proofs.Common.{◌≡◌, ℕ, true, false, ◌==◌, codes, ◌≤◌, List, [], ◌∷◌, ◌++◌, Some, length, length-append, take, drop, append_assoc, refl, ◌∙◌, arith}
+use Rattle.std.proofs.lemmas.List.{take_at, drop_at}
+use Rattle.ll_text.specs.Text.{Text}
+use Rattle.ll_text.specs.declared.pieces.Piece.{Piece}
+use Rattle.ll_text.specs.Tokens.{is_blank, is_sign, token, piece_at}
+use Rattle.ll_text.proofs.TokenLaws.{steps}
+use Rattle.ll_text.proofs.CuttingLaws.{Cut, Writes, Alone, joined, same, writes_spaced, alone_equals}
+use Rattle.ll_print.proofs.AloneLaws.{IsStop}
+
+-- a piece that is a token
+token_step : (t : Text) (rest : List ℕ) (us : List Text) → 1 ≤ length t → piece_at (t ++ rest) ≡ token (length t) → Cut rest us → Cut (t ++ rest) (t ∷ us)
+token_step t rest us some piece others =
+    let p : Piece = record { is_token = true; len = length t } in
+    let le : length t ≤ length (t ++ rest) = omega (arith, length-append t rest) in
+    let front : take (length t) (t ++ rest) ≡ t = take_at t rest (length t) refl in
+    let back : drop (length t) (t ++ rest) ≡ rest = drop_at t rest (length t) refl in
+    steps p (t ++ rest) some le piece ∙ rw (front, back, others) refl
+
+pub token_cut : (b : ℕ) (t : Text) (rest : List ℕ) (us : List Text) → Alone b t → Cut (b ∷ rest) us → Cut (t ++ b ∷ rest) (t ∷ us)
+token_cut b t rest us alone others = token_step t (b ∷ rest) us alone.some (alone.piece rest) others
+
+pub sign_cut : (b : ℕ) (rest : List ℕ) (us : List Text) → is_blank b ≡ false → (b == 59) ≡ false → is_sign b ≡ true → Cut rest us → Cut (b ∷ rest) ((b ∷ []) ∷ us)
+unfolding piece_at
+sign_cut b rest us no_blank no_comment sign others =
+    let piece : piece_at (b ∷ rest) ≡ token 1 = rw (no_blank, no_comment, sign) refl in
+    token_step (b ∷ []) rest us (omega arith) piece others
+
+pub blank_cut : (b : ℕ) (rest : List ℕ) (us : List Text) → is_blank b ≡ true → Cut rest us → Cut (b ∷ rest) us
+unfolding piece_at
+blank_cut b rest us is others =
+    let p : Piece = record { is_token = false; len = 1 } in
+    let piece : piece_at (b ∷ rest) ≡ Some p = rw is refl in
+    steps p (b ∷ rest) (omega arith) (omega arith) piece ∙ others
+
+pub stop_space : IsStop 32
+stop_space = record { name = refl; colon = refl }
+
+pub stop_line : IsStop 10
+stop_line = record { name = refl; colon = refl }
+
+pub stop_comma : IsStop 44
+stop_comma = record { name = refl; colon = refl }
+
+pub stop_open : IsStop 40
+stop_open = record { name = refl; colon = refl }
+
+pub stop_close : IsStop 41
+stop_close = record { name = refl; colon = refl }
+
+-- a token, a comma and a blank
+pub writes_comma : (t : Text) → Alone 44 t → Writes (t ++ codes ", ") (t ∷ codes "," ∷ [])
+writes_comma t alone = record {
+  before = λ rest us others. rw (append_assoc t (codes ", ") rest) (token_cut 44 t (32 ∷ rest) (codes "," ∷ us) alone (sign_cut 44 (32 ∷ rest) us refl refl refl (blank_cut 32 rest us refl others)));
+}
+
+-- a token and an equals sign, with blanks
+pub writes_equals : (t : Text) → Alone 32 t → Writes (t ++ codes " = ") (t ∷ codes "=" ∷ [])
+writes_equals t alone = same (append_assoc t (codes " ") (codes "= ")) refl (joined (writes_spaced t alone) (writes_spaced (codes "=") alone_equals))

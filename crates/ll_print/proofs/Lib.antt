@@ -1,0 +1,20 @@
+-- The lemmas of the crate.
+pub mod AloneLaws
+pub mod ConstLaws
+pub mod CountLaws
+pub mod CutLaws
+pub mod DecimalLaws
+pub mod FormLaws
+pub mod HeadLaws
+pub mod LineLaws
+pub mod NameLaws
+pub mod NumberLaws
+pub mod OperandLaws
+pub mod OwnLaws
+pub mod PartLaws
+pub mod SaysLaws
+pub mod ScopeLaws
+pub mod SpelledLaws
+pub mod TextLaws
+pub mod ThingLaws
+pub mod Trees

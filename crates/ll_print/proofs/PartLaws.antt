@@ -1,0 +1,160 @@
+-- From what readers of a module answer to its data.
+use Rattle.std.proofs.Common.{◌≡◌, ℕ, zero, suc, ◌+◌, ◌<◌, Bool, List, [], ◌∷◌, ◌++◌, length, take, get_or, slice_get, Option, Some, None, All, refl, ap, sym, ◌∙◌, subst, arith}
+use Rattle.std.specs.List.{flat_map, filter_map, cons_option}
+use Rattle.std.specs.Option.{option_map, option_map_or}
+use Rattle.std.proofs.lemmas.List.{append-nil, take_more}
+use Rattle.std.proofs.lemmas.Option.{slice_get-get_or, slice_get_within}
+use Rattle.std.proofs.lemmas.Grind.{flat_map-append}
+use Rattle.llvm_core.specs.declared.numbers.LLVMType.{LLVMType}
+use Rattle.llvm_core.specs.declared.numbers.LLVMFunction.{LLVMFunction}
+use Rattle.llvm_core.specs.declared.numbers.LLVMBasicBlock.{LLVMBasicBlock}
+use Rattle.llvm_core.specs.declared.numbers.LLVMInstRef.{LLVMInstRef}
+use Rattle.llvm_core.specs.declared.types.LLVMTypeKind.{LLVMTypeKind}
+use Rattle.llvm_core.specs.declared.types.LLVMTypeKind.TheVariants as T
+use Rattle.llvm_core.specs.declared.code.FunctionData.{FunctionData}
+use Rattle.llvm_core.specs.declared.code.BlockData.{BlockData}
+use Rattle.llvm_core.specs.declared.code.InstData.{InstData}
+use Rattle.llvm_core.specs.Module.{Module}
+use Rattle.llvm_core.specs.Code.{param_names}
+use Rattle.llvm_core.specs.Sound.{IsModule}
+use Rattle.llvm_core.specs.Parts.{IsTypeOver, type_params}
+use Rattle.llvm_core.specs.Data.{TypeTree, FunctionType, Placed, Block, Function, type_at, types_at, trees_of, placed_of, placed_at, block_of, block_at, data_of, nth_type, param_type}
+use Rattle.llvm_core.specs.Form.{result_of}
+use Rattle.llvm_core.proofs.DataLemmas.{function_tree_of, function_at}
+use Rattle.ll_print.specs.Printing.{Unnamed, BlockOf, if_unnamed, unnamed_result, unnamed_block, label_text, placed_text, block_text, gives_text}
+use Rattle.ll_print.specs.Parts.{no_function, function_in, gives_of, line_of, lines_of, unnamed_at, unnamed_of}
+
+-- ---- lists
+
+pub same_some : {X : Type 0} (x y : X) → Some x ≡ Some y → x ≡ y
+same_some x y h = cc
+
+-- the item that is read at a place
+pub read : {X Y : Type 0} (g : X → Y) (xs : List X) (i : ℕ) (d : X) (r : Y) → option_map g (slice_get xs i) ≡ Some r → g (get_or xs i d) ≡ r
+read g [] i d r h = absurd cc
+read g (x ∷ xs) zero d r h = same_some (g x) r h
+read g (x ∷ xs) (suc i) d r h = read g xs i d r h
+
+-- the item is there, and is what is read of it
+pub read_item : {X Y : Type 0} (g : X → Y) (xs : List X) (i : ℕ) (r : Y) → option_map g (slice_get xs i) ≡ Some r → (x : X) × (slice_get xs i ≡ Some x) × (g x ≡ r)
+read_item g [] i r h = absurd cc
+read_item g (x ∷ xs) zero r h = (x, refl, same_some (g x) r h)
+read_item g (x ∷ xs) (suc i) r h = read_item g xs i r h
+
+pub all_at : {X : Type 0} (P : X → Type 0) (xs : List X) (i : ℕ) (x : X) → All P xs → slice_get xs i ≡ Some x → P x
+all_at P xs i x h at = by (slice_get-get_or xs i x within)
+  where
+    within : i < length xs
+    within = slice_get_within xs i x at
+
+    by : slice_get xs i ≡ Some (get_or xs i x) → P x
+    by e = subst P (same_some (get_or xs i x) x (sym e ∙ at)) (h i x within)
+
+-- one more item of a list
+pub flat_map_more : {X Y : Type 0} (g : X → List Y) (xs : List X) (i : ℕ) (d : X) → i < length xs → flat_map g (take (i + 1) xs) ≡ flat_map g (take i xs) ++ g (get_or xs i d)
+flat_map_more g xs i d h =
+    ap (flat_map g) (take_more xs i d h) ∙ flat_map-append g (take i xs) (get_or xs i d ∷ []) ∙ ap (λ ys. flat_map g (take i xs) ++ ys) (append-nil (g (get_or xs i d)))
+
+-- what g makes of those of a list that are there
+pub flat_map-filter_map : {X Y Z : Type 0} (h : X → Option Y) (g : Y → List Z) (xs : List X) → flat_map g (filter_map h xs) ≡ flat_map (λ x. option_map_or g (h x) []) xs
+flat_map-filter_map h g [] = refl
+flat_map-filter_map {X} {Y} {Z} h g (x ∷ xs) = by (h x) (flat_map-filter_map h g xs)
+  where
+    by : (o : Option Y) → flat_map g (filter_map h xs) ≡ flat_map (λ x. option_map_or g (h x) []) xs → flat_map g (cons_option o (filter_map h xs)) ≡ option_map_or g o [] ++ flat_map (λ x. option_map_or g (h x) []) xs
+    by None same = same
+    by (Some y) same = ap (λ (t : List Z). g y ++ t) same
+
+-- ---- functions
+
+pub function_there : (m : Module) (f : LLVMFunction) → f.0 < length m.functions → slice_get (data_of m).functions f.0 ≡ Some (function_in m f)
+function_there m f within = function_at m f.0 (get_or m.functions f.0 no_function) (slice_get-get_or m.functions f.0 no_function within)
+
+-- the names of its parameters
+pub params_of : (m : Module) (f : LLVMFunction) → param_names m.functions f ≡ (function_in m f).params
+params_of m f = by m.functions f.0
+  where
+    by : (fs : List FunctionData) (i : ℕ) → option_map_or (λ (x : FunctionData). x.params) (slice_get fs i) [] ≡ (get_or fs i no_function).params
+    by [] i = refl
+    by (x ∷ fs) zero = refl
+    by (x ∷ fs) (suc i) = by fs i
+
+nth_at : (ts : List TypeTree) (params : List LLVMType) (i : ℕ) (t : LLVMType) → slice_get params i ≡ Some t → nth_type (types_at ts params) i ≡ type_at ts t
+nth_at ts [] i t at = absurd cc
+nth_at ts (u ∷ params) zero t at = ap (type_at ts) (same_some u t at)
+nth_at ts (u ∷ params) (suc i) t at = nth_at ts params i t at
+
+-- its type, by the kind that is kept of it
+pub record HasType (m : Module) (f : LLVMFunction) (result : LLVMType) (params : List LLVMType) : Type 0 where
+  pub returned : result_of (function_in m f).type ≡ type_at (trees_of m).types result
+  pub typed : (i : ℕ) (t : LLVMType) → slice_get params i ≡ Some t → param_type (function_in m f).type i ≡ type_at (trees_of m).types t
+
+pub type_of_function : (m : Module) (f : LLVMFunction) (ty returned : LLVMType) (params : List LLVMType) (variadic : Bool) → IsModule m
+    → option_map (λ (x : FunctionData). x.ty) (slice_get m.functions f.0) ≡ Some ty → slice_get m.types ty.0 ≡ Some (T.Function returned params variadic) → HasType m f returned params
+type_of_function m f ty returned params variadic s typed at =
+    let same : (function_in m f).type ≡ FunctionType (type_at (trees_of m).types returned) (types_at (trees_of m).types params) variadic =
+    ap (type_at (trees_of m).types) (read (λ (x : FunctionData). x.ty) m.functions f.0 no_function ty typed) ∙ function_tree_of m ty returned params variadic s at in
+    record {
+      returned = ap result_of same;
+      typed = λ i t here. ap (λ (u : TypeTree). param_type u i) same ∙ nth_at (trees_of m).types params i t here;
+    }
+
+pub params_of_type : (m : Module) (ty returned : LLVMType) (params : List LLVMType) (variadic : Bool) → slice_get m.types ty.0 ≡ Some (T.Function returned params variadic) → type_params m.types ty ≡ params
+params_of_type m ty returned params variadic at = rw at refl
+
+-- ---- blocks and instructions
+
+pub block_there : (m : Module) (b : LLVMBasicBlock) (x : BlockData) → slice_get m.blocks b.0 ≡ Some x → block_at (trees_of m) m.blocks m.insts b ≡ Some (block_of (trees_of m) m.insts b x)
+block_there m b x at = ap (option_map (block_of (trees_of m) m.insts b)) at
+
+pub inst_there : (m : Module) (i : LLVMInstRef) (x : InstData) → slice_get m.insts i.0 ≡ Some x → placed_at (trees_of m) m.insts i ≡ Some (placed_of (trees_of m) i x)
+inst_there m i x at = ap (option_map (placed_of (trees_of m) i)) at
+
+-- the lines of a block by what is read of it
+pub lines_of-block : (m : Module) (f : Function) (b : LLVMBasicBlock) (name : List ℕ) (insts : List LLVMInstRef)
+    → option_map (λ (x : BlockData). x.name) (slice_get m.blocks b.0) ≡ Some name → option_map (λ (x : BlockData). x.insts) (slice_get m.blocks b.0) ≡ Some insts
+    → lines_of m f b ≡ label_text name ++ flat_map (line_of m f) insts
+lines_of-block m f b name insts named held =
+    let x = read_item (λ (x : BlockData). x.name) m.blocks b.0 name named in
+    let same : x.0.insts ≡ insts = same_some x.0.insts insts (ap (option_map (λ (x : BlockData). x.insts)) (sym x.1) ∙ held) in
+    ap (λ (o : Option Block). option_map_or (block_text f) o []) (block_there m b x.0 x.1)
+    ∙ ap (λ (t : List ℕ). label_text x.0.name ++ t) (flat_map-filter_map (placed_at (trees_of m) m.insts) (placed_text f) x.0.insts)
+    ∙ rw (x.2, same) refl
+
+-- and its unnamed things
+pub unnamed_of-block : (m : Module) (b : LLVMBasicBlock) (name : List ℕ) (insts : List LLVMInstRef)
+    → option_map (λ (x : BlockData). x.name) (slice_get m.blocks b.0) ≡ Some name → option_map (λ (x : BlockData). x.insts) (slice_get m.blocks b.0) ≡ Some insts
+    → unnamed_of m b ≡ if_unnamed name (BlockOf b.0) ++ flat_map (unnamed_at m) insts
+unnamed_of-block m b name insts named held =
+    let x = read_item (λ (x : BlockData). x.name) m.blocks b.0 name named in
+    let same : x.0.insts ≡ insts = same_some x.0.insts insts (ap (option_map (λ (x : BlockData). x.insts)) (sym x.1) ∙ held) in
+    ap (λ (o : Option Block). option_map_or unnamed_block o []) (block_there m b x.0 x.1)
+    ∙ ap (λ (t : List Unnamed). if_unnamed x.0.name (BlockOf b.0) ++ t) (flat_map-filter_map (placed_at (trees_of m) m.insts) (λ (p : Placed). unnamed_result p.type p) x.0.insts)
+    ∙ rw (x.2, same) refl
+
+-- what an instruction gives, by its type and its name
+pub gives_of-inst : (m : Module) (f : Function) (i : LLVMInstRef) (ty : LLVMType) (name : List ℕ)
+    → option_map (λ (x : InstData). x.ty) (slice_get m.insts i.0) ≡ Some ty → option_map (λ (x : InstData). x.name) (slice_get m.insts i.0) ≡ Some name
+    → (p : Placed) × (p.number ≡ i.0) × (p.name ≡ name) × (gives_of m f i ≡ gives_text f (type_at (trees_of m).types ty) p) × (unnamed_at m i ≡ unnamed_result (type_at (trees_of m).types ty) p)
+gives_of-inst m f i ty name typed named =
+    let x = read_item (λ (x : InstData). x.ty) m.insts i.0 ty typed in
+    let p = placed_of (trees_of m) i x.0 in
+    let same : x.0.name ≡ name = same_some x.0.name name (ap (option_map (λ (x : InstData). x.name)) (sym x.1) ∙ named) in
+    let type : p.type ≡ type_at (trees_of m).types ty = ap (type_at (trees_of m).types) x.2 in (
+      p,
+      refl,
+      same,
+      ap (λ (o : Option Placed). option_map_or (λ (p : Placed). gives_text f p.type p) o []) (inst_there m i x.0 x.1) ∙ ap (λ (t : TypeTree). gives_text f t p) type,
+      ap (λ (o : Option Placed). option_map_or (λ (p : Placed). unnamed_result p.type p) o []) (inst_there m i x.0 x.1) ∙ ap (λ (t : TypeTree). unnamed_result t p) type,
+    )
+
+-- the parts of a type stand among the types
+pub types_within : (types : List LLVMTypeKind) (ty result : LLVMType) (params : List LLVMType) (variadic : Bool) → slice_get types ty.0 ≡ Some (T.Function result params variadic) → IsTypeOver ty.0 (T.Function result params variadic)
+    → (result.0 < length types) × All (λ (t : LLVMType). t.0 < length types) params
+types_within types ty result params variadic at over =
+    let within = slice_get_within types ty.0 (T.Function result params variadic) at in
+    (omega (arith, within, over.0), λ k d l. omega (arith, within, over.1 k d l))
+
+pub params_count : (m : Module) (f : LLVMFunction) (ty result : LLVMType) (params : List LLVMType) (variadic : Bool) → slice_get m.types ty.0 ≡ Some (T.Function result params variadic) → length (type_params m.types ty) ≡ length (param_names m.functions f)
+    → length params ≡ length (function_in m f).params
+params_count m f ty result params variadic at same =
+    ap (λ (ts : List LLVMType). length ts) (sym (params_of_type m ty result params variadic at)) ∙ same ∙ ap (λ (ns : List (List ℕ)). length ns) (params_of m f)

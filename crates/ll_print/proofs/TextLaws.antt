@@ -1,0 +1,48 @@
+-- What is printed of a part of a module is the text of that part's data.
+use Rattle.std.proofs.Common.{◌≡◌, ℕ, List, ◌++◌, slice_get, Some, ap, sym, ◌∙◌, subst, append_assoc}
+use Rattle.std.specs.Prelude.{OnOk, Result}
+use Rattle.std.specs.declared.alloc.AllocError.{AllocError}
+use Rattle.std.specs.Option.{option_map}
+use Rattle.llvm_core.specs.declared.numbers.LLVMType.{LLVMType}
+use Rattle.llvm_core.specs.declared.numbers.LLVMConst.{LLVMConst}
+use Rattle.llvm_core.specs.declared.types.LLVMTypeKind.{LLVMTypeKind}
+use Rattle.llvm_core.specs.declared.types.LLVMTypeKind.TheVariants as T
+use Rattle.llvm_core.specs.declared.consts.LLVMConstKind.{LLVMConstKind}
+use Rattle.llvm_core.specs.declared.consts.LLVMConstKind.TheVariants as C
+use Rattle.llvm_core.specs.Module.{Module}
+use Rattle.llvm_core.specs.Sound.{IsModule}
+use Rattle.llvm_core.specs.Parts.{const_type as kind_type}
+use Rattle.llvm_core.specs.Data.{TypeTree, IntConst, type_at, type_tree, const_at, trees_of, const_type}
+use Rattle.llvm_core.proofs.DataLemmas.{type_tree_of, int_tree_of, int_const_of}
+use Rattle.ll_print.specs.Printing.{type_text, int_text, const_text}
+use Rattle.ll_print.specs.Parts.{named_text}
+use Rattle.ll_print.proofs.PartLaws.{read_item}
+
+-- the same text under another name
+pub put_is : (old new text same : List ℕ) → new ≡ old ++ text → same ≡ text → new ≡ old ++ same
+put_is old new text same e f = rw f e
+
+-- two pieces one after the other
+pub put_two : (old mid new a b : List ℕ) → mid ≡ old ++ a → new ≡ mid ++ b → new ≡ old ++ (a ++ b)
+put_two old mid new a b e f = rw (f, e) (append_assoc old a b)
+
+-- a local, whatever its number was called
+pub local_put : (r : Result (Unit {0}) AllocError) (old new text name : List ℕ) (k j : ℕ) → OnOk r (new ≡ old ++ named_text name k) → k ≡ j → text ≡ named_text name j → OnOk r (new ≡ old ++ text)
+local_put r old new text name k j h same is = subst (λ (t : List ℕ). OnOk r (new ≡ old ++ t)) (ap (named_text name) same ∙ sym is) h
+
+-- the text of a type is that of its kind
+pub type_text-kind : (m : Module) (t : LLVMType) (k : LLVMTypeKind) → IsModule m → slice_get m.types t.0 ≡ Some k → type_text (type_at (trees_of m).types t) ≡ type_text (type_tree (trees_of m).types k)
+type_text-kind m t k s at = ap type_text (type_tree_of m t k s at)
+
+-- the text of a constant is that of its value at its width
+pub const_text-int : (m : Module) (c : LLVMConst) (t : LLVMType) (width value : ℕ) → IsModule m → slice_get m.consts c.0 ≡ Some (C.Int t value) → slice_get m.types t.0 ≡ Some (T.Int width)
+    → const_text (const_at (trees_of m).consts c) ≡ int_text width value
+const_text-int m c t width value s at typed =
+    ap const_text (int_const_of m c t value at ∙ ap (λ (ty : TypeTree). IntConst ty value) (int_tree_of m t width s typed))
+
+const_type-by : (m : Module) (c : LLVMConst) (t : LLVMType) (k : LLVMConstKind) → slice_get m.consts c.0 ≡ Some k → kind_type k ≡ t → const_type (const_at (trees_of m).consts c) ≡ type_at (trees_of m).types t
+const_type-by m c t (C.Int ty value) at e = ap const_type (int_const_of m c ty value at) ∙ ap (type_at (trees_of m).types) e
+
+-- the type of a constant that is read
+pub const_type-at : (m : Module) (c : LLVMConst) (t : LLVMType) → option_map kind_type (slice_get m.consts c.0) ≡ Some t → const_type (const_at (trees_of m).consts c) ≡ type_at (trees_of m).types t
+const_type-at m c t e = let k = read_item kind_type m.consts c.0 t e in const_type-by m c t k.0 k.1 k.2

@@ -1,0 +1,10 @@
+-- A result without a name is counted.
+use Rattle.std.proofs.Common.{sym, ◌∙◌}
+use Rattle.ll_print.specs.Printing.{ResultOf}
+use Rattle.ll_print.proofs.NumberLaws.{counts_result, counts_unnamed}
+use Rattle.ll_print.proofs.numbers.Numbers.count_result.Goals as goal
+
+pub returns-in_ok-give_next : goal.returns-in_ok-give_next
+returns-in_ok-give_next c =
+    counts_unnamed _ _ c.args.name.now (ResultOf c.args.i.0) (sym c.is_empty.ensures ∙ c.if-is_empty.true)
+    (counts_result _ c.give_next.new.self c.args.i c.in_ok-give_next.ensures.function c.in_ok-give_next.ensures.count c.in_ok-give_next.ensures.values)

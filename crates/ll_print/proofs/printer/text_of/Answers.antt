@@ -1,0 +1,18 @@
+-- Each function adds its text, and the last one ends the module.
+use Rattle.std.proofs.Common.{arith}
+use Rattle.llvm_core.specs.Form.{IsFormFunction, IsFewIn}
+use Rattle.ll_print.specs.Printing.{source_text}
+use Rattle.ll_print.proofs.FormLaws.{function_has, module_more, module_all}
+use Rattle.ll_print.proofs.printer.text_of.Goals as goal
+
+pub put_function-requires-clause-form : goal.put_function-requires-clause-form
+put_function-requires-clause-form c = function_has c.args.m.now c.loop-f.f IsFormFunction c.requires.form (omega (arith, c.functions-f-end.ensures.len, c.loop-f-test.true))
+
+pub put_function-requires-clause-few : goal.put_function-requires-clause-few
+put_function-requires-clause-few c = (function_has c.args.m.now c.loop-f.f IsFewIn c.requires.few.each (omega (arith, c.functions-f-end.ensures.len, c.loop-f-test.true))).params
+
+pub loop-f-preserved : goal.loop-f-preserved
+loop-f-preserved c = module_more c.args.m.now c.loop-f.f _ _ (source_text c.args.m.now.name) (omega (arith, c.functions-f-end.ensures.len, c.loop-f-test.true)) c.loop-f.invariant c.in_ok-put_function.ensures
+
+pub returns : goal.returns
+returns c = module_all c.args.m.now c.loop-f.f _ (source_text c.args.m.now.name) (omega (arith, c.functions-f-end.ensures.len, c.loop-f-test.false)) c.loop-f.invariant

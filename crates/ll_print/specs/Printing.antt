@@ -1,0 +1,158 @@
+-- The text that is printed of module data, a definition for each part.
+use Rattle.std.specs.Prelude.{◌≡◌, ℕ, zero, suc, ◌-◌, ◌^◌, Bool, true, false, List, [], ◌∷◌, ◌++◌, Some, None, nat_eq, nat_le, nat_lt, ◌==◌, if◌then◌else◌, codes, decimal, slice_index_or}
+use Rattle.std.specs.List.{flat_map, find, position_or_len}
+use Rattle.std.specs.Option.{option_map_or}
+use Rattle.llvm_core.specs.Data.{TypeTree, VoidType, IntType, FunctionType, ConstTree, IntConst, Operand, Constant, Parameter, Result, Instruction, Add, Return, Placed, Block, Function, ModuleData, operand_type, placed_in, param_type}
+use Rattle.llvm_core.specs.Form.{result_of}
+use Rattle.ll_text.specs.Text.{Text, is_bare, global, label, quoted}
+
+-- ---- types and constants
+
+-- a type, a line for each kind; a function type stands nowhere by itself
+abbrev pub type_text : TypeTree → Text
+type_text VoidType = codes "void"
+type_text (IntType w) = 105 ∷ decimal w
+type_text (FunctionType result params variadic) = []
+
+-- a number of a width in two's complement, printed signed
+abbrev pub signed_text : ℕ → ℕ → Text
+signed_text w v = if nat_lt v (2 ^ (w - 1)) then decimal v else 45 ∷ decimal (2 ^ w - v)
+
+-- an integer of a width: one bit prints as a word, up to 128 bits signed, more unsigned
+abbrev pub int_text : ℕ → ℕ → Text
+int_text w v =
+    if w == 1 then (if v == 0 then codes "false" else codes "true")
+    else (if nat_le w 128 then signed_text w v else decimal v)
+
+abbrev pub int_of_type : TypeTree → ℕ → Text
+int_of_type (IntType w) v = int_text w v
+int_of_type _ v = []
+
+-- a constant without its type, a line for each kind
+abbrev pub const_text : ConstTree → Text
+const_text (IntConst type v) = int_of_type type v
+
+-- ---- numbers of what has no name
+
+-- an unnamed parameter, block or result of a function
+pub data Unnamed : Type 0 where
+  ParamAt : (place : ℕ) → Unnamed
+  BlockOf : (number : ℕ) → Unnamed
+  ResultOf : (number : ℕ) → Unnamed
+
+abbrev pub same_unnamed : Unnamed → Unnamed → Bool
+same_unnamed (ParamAt i) (ParamAt j) = nat_eq i j
+same_unnamed (BlockOf m) (BlockOf n) = nat_eq m n
+same_unnamed (ResultOf m) (ResultOf n) = nat_eq m n
+same_unnamed _ _ = false
+
+-- the thing, where it has no name
+abbrev pub if_unnamed : Text → Unnamed → List Unnamed
+if_unnamed [] x = x ∷ []
+if_unnamed (b ∷ bs) x = []
+
+-- of the parameters from a place on
+abbrev pub unnamed_params : (place : ℕ) → List Text → List Unnamed
+unnamed_params i [] = []
+unnamed_params i (n ∷ ns) = if_unnamed n (ParamAt i) ++ unnamed_params (suc i) ns
+
+-- of an instruction: its result, where it has one
+abbrev pub unnamed_result : TypeTree → Placed → List Unnamed
+unnamed_result VoidType p = []
+unnamed_result type p = if_unnamed p.name (ResultOf p.number)
+
+abbrev pub unnamed_block : Block → List Unnamed
+unnamed_block b = if_unnamed b.name (BlockOf b.number) ++ flat_map (λ (p : Placed). unnamed_result p.type p) b.instructions
+
+-- of a function, in the order of the text
+abbrev pub unnamed_in : Function → List Unnamed
+unnamed_in f = unnamed_params 0 f.params ++ flat_map unnamed_block f.blocks
+
+-- they are numbered from 0 in that order
+abbrev pub unnamed_number : Function → Unnamed → ℕ
+unnamed_number f x = position_or_len (same_unnamed x) (unnamed_in f)
+
+-- % and the name, or the number of what has none
+abbrev pub local_text : Function → Text → Unnamed → Text
+local_text f [] x = 37 ∷ decimal (unnamed_number f x)
+local_text f (b ∷ bs) x = 37 ∷ b ∷ bs
+
+-- ---- instructions
+
+-- the name of the result of the instruction of that number
+abbrev pub result_name : Function → ℕ → Text
+result_name f n = option_map_or (λ (p : Placed). p.name) (find (λ (p : Placed). nat_eq p.number n) (placed_in f)) []
+
+-- an operand without its type, a line for each kind
+abbrev pub operand_text : Function → Operand → Text
+operand_text f (Constant c) = const_text c
+operand_text f (Parameter g i) = local_text f (slice_index_or f.params i []) (ParamAt i)
+operand_text f (Result n) = local_text f (result_name f n) (ResultOf n)
+
+-- a type and an operand of it
+abbrev pub value_text : Function → Operand → Text
+value_text f o = type_text (operand_type f o) ++ codes " " ++ operand_text f o
+
+-- a word and a blank, where it is set
+abbrev pub flag_text : Text → Bool → Text
+flag_text word false = []
+flag_text word true = word ++ codes " "
+
+-- an instruction, a line for each kind
+abbrev pub instruction_text : Function → Instruction → Text
+instruction_text f (Add lhs rhs flags) =
+    codes "add " ++ flag_text (codes "nuw") flags.nuw ++ flag_text (codes "nsw") flags.nsw ++ value_text f lhs ++ codes ", " ++ operand_text f rhs
+instruction_text f (Return None) = codes "ret void"
+instruction_text f (Return (Some o)) = codes "ret " ++ value_text f o
+
+-- the result, where there is one
+abbrev pub gives_text : Function → TypeTree → Placed → Text
+gives_text f VoidType p = []
+gives_text f type p = local_text f p.name (ResultOf p.number) ++ codes " = "
+
+abbrev pub placed_text : Function → Placed → Text
+placed_text f p = codes "  " ++ gives_text f p.type p ++ instruction_text f p.instruction ++ codes "\n"
+
+-- ---- functions and modules
+
+-- the label line, which an unnamed entry block lacks
+abbrev pub label_text : Text → Text
+label_text [] = []
+label_text (b ∷ bs) = label (b ∷ bs) ++ codes "\n"
+
+abbrev pub block_text : Function → Block → Text
+block_text f b = label_text b.name ++ flat_map (placed_text f) b.instructions
+
+-- a comma and a blank between parameters
+abbrev pub comma_text : (place : ℕ) → Text
+comma_text zero = []
+comma_text (suc i) = codes ", "
+
+-- the parameters from a place on: the type and the name of each
+abbrev pub params_text : Function → (place : ℕ) → List Text → Text
+params_text f i [] = []
+params_text f i (n ∷ ns) = comma_text i ++ type_text (param_type f.type i) ++ codes " " ++ local_text f n (ParamAt i) ++ params_text f (suc i) ns
+
+-- a function, after a blank line
+abbrev pub function_text : Function → Text
+function_text f =
+    codes "\ndefine " ++ type_text (result_of f.type) ++ codes " " ++ global f.name ++ codes "(" ++ params_text f 0 f.params ++ codes ") {\n" ++ flat_map (block_text f) f.blocks ++ codes "}\n"
+
+-- the line of a module's name, none for an empty name
+abbrev pub source_text : Text → Text
+source_text [] = []
+source_text (b ∷ bs) = codes "source_filename = " ++ quoted (b ∷ bs) ++ codes "\n"
+
+abbrev pub module_text : ModuleData → Text
+module_text d = source_text d.name ++ flat_map function_text d.functions
+
+-- ---- what is asked of a module to be printed
+
+-- a bare name, or none
+abbrev pub IsBareOrNone : Text → Type 0
+IsBareOrNone [] = Unit {0}
+IsBareOrNone (b ∷ bs) = is_bare (b ∷ bs) ≡ true
+
+-- the last line of a text has an end
+abbrev pub EndsLine : Text → Type 0
+EndsLine text = (front : Text) × (text ≡ front ++ 10 ∷ [])

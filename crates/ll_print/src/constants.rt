@@ -1,0 +1,64 @@
+//! Prints constants.
+
+ghost use Rattle.std.specs.Prelude.{◌≡◌, ◌<◌, ◌≤◌, ◌^◌, ◌++◌, length, OnOk};
+ghost use Rattle.llvm_core.specs.declared.consts.LLVMConstKind.TheVariants as kinds;
+ghost use Rattle.llvm_core.specs.Sound.{IsModule};
+ghost use Rattle.llvm_core.specs.Data.{trees_of, const_at};
+ghost use Rattle.ll_print.specs.Printing.{int_text, const_text};
+
+use crate::types::put_decimal;
+use llvm_core::consts::LLVMConstKind;
+use llvm_core::module::LLVMModule;
+use llvm_core::numbers::{LLVMConst, LLVMType};
+use llvm_core::types::LLVMTypeKind;
+use std::alloc::{AllocError, Global};
+
+/// An integer of a width: one bit as a word, up to 128 bits signed.
+fn put_int(alloc: Global, width: u32, value: u128, out: &mut Vec<u8>) -> Result<(), AllocError>
+    requires some { 1 ≤ width }
+    requires fits { value < 2 ^ width }
+    ensures { OnOk result (out.new.items ≡ out.old.items ++ int_text width value) }
+{
+    if width == 1 {
+        let word = if value == 0 { "false" } else { "true" };
+        out.extend_from_slice(word.as_bytes())?;
+        return Ok(());
+    }
+    if width > 128 {
+        return put_decimal(alloc, value, out);
+    }
+    let half = 1u128 << (width - 1);
+    if value < half {
+        return put_decimal(alloc, value, out);
+    }
+    out.push(b'-')?;
+    put_decimal(alloc, half - (value - half), out)
+}
+
+/// The type and the value of an integer.
+fn int_parts(kind: &LLVMConstKind) -> (LLVMType, u128)
+    ensures { kind.now ≡ kinds.Int result.0 result.1 }
+{
+    match kind {
+        LLVMConstKind::Int(ty, value) => (*ty, *value),
+    }
+}
+
+/// A constant without its type.
+pub fn put_const(
+    alloc: Global,
+    m: &LLVMModule,
+    c: LLVMConst,
+    out: &mut Vec<u8>,
+) -> Result<(), AllocError>
+    requires sound { IsModule m.now }
+    requires within { c.0 < length m.now.consts }
+    ensures { OnOk result (out.new.items ≡ out.old.items ++ const_text (const_at (trees_of m.now).consts c)) }
+{
+    let (ty, value) = int_parts(m.const_kind(c));
+    let LLVMTypeKind::Int(width) = m.type_kind(ty) else {
+        unreachable!();
+    };
+    put_int(alloc, *width, value, out)?;
+    Ok(())
+}

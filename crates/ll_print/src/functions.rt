@@ -1,0 +1,152 @@
+//! Prints functions.
+
+ghost use Rattle.std.specs.Prelude.{◌≡◌, ◌<◌, ◌^◌, ◌++◌, ℕ, Some, All, OnOk, length, slice_get};
+ghost use Rattle.std.specs.List.{flat_map};
+ghost use Rattle.llvm_core.specs.Sound.{IsModule};
+ghost use Rattle.llvm_core.specs.Data.{trees_of, type_at, param_type};
+ghost use Rattle.llvm_core.specs.Form.{IsFormFunction, result_of};
+ghost use Rattle.ll_print.specs.Printing.{type_text, label_text, comma_text, params_text, function_text};
+ghost use Rattle.ll_print.specs.Parts.{function_in, lines_of, OwnsBlock, IsPrinting};
+
+use crate::instructions::put_lines;
+use crate::numbering::numbers_of;
+use crate::numbers::Numbers;
+use crate::operands::put_local;
+use crate::types::put_type;
+use llvm_core::code::LLVMValue;
+use llvm_core::module::LLVMModule;
+use llvm_core::numbers::{LLVMBasicBlock, LLVMFunction, LLVMType};
+use llvm_core::types::LLVMTypeKind;
+use std::alloc::{AllocError, Global};
+
+/// The line of a label, where the block has a name.
+fn put_label(name: &str, out: &mut Vec<u8>) -> Result<(), AllocError>
+    ensures { OnOk result (out.new.items ≡ out.old.items ++ label_text name.now) }
+{
+    if !name.is_empty() {
+        out.extend_from_slice(name.as_bytes())?;
+        out.extend_from_slice(b":\n")?;
+    }
+    Ok(())
+}
+
+/// A block.
+fn put_block(
+    alloc: Global,
+    m: &LLVMModule,
+    numbers: &Numbers,
+    b: LLVMBasicBlock,
+    out: &mut Vec<u8>,
+) -> Result<(), AllocError>
+    requires printing { IsPrinting m.now numbers.now }
+    requires own { OwnsBlock m.now numbers.now.function b }
+    ensures { OnOk result (out.new.items ≡ out.old.items ++ lines_of m.now (function_in m.now numbers.now.function) b) }
+{
+    put_label(m.block_name(b), out)?;
+    put_lines(alloc, m, numbers, m.instructions(b), out)?;
+    Ok(())
+}
+
+/// Blocks in order.
+fn put_blocks(
+    alloc: Global,
+    m: &LLVMModule,
+    numbers: &Numbers,
+    blocks: &[LLVMBasicBlock],
+    out: &mut Vec<u8>,
+) -> Result<(), AllocError>
+    requires printing { IsPrinting m.now numbers.now }
+    requires own { All (OwnsBlock m.now numbers.now.function) blocks.now }
+    ensures { OnOk result (out.new.items ≡ out.old.items ++ flat_map (lines_of m.now (function_in m.now numbers.now.function)) blocks.now) }
+{
+    for b in blocks {
+        put_block(alloc, m, numbers, *b, out)?;
+    }
+    Ok(())
+}
+
+/// A comma and a blank between parameters.
+fn put_comma(place: u32, out: &mut Vec<u8>) -> Result<(), AllocError>
+    ensures { OnOk result (out.new.items ≡ out.old.items ++ comma_text place) }
+{
+    if place > 0 {
+        out.extend_from_slice(b", ")?;
+    }
+    Ok(())
+}
+
+/// The types and the names of parameters.
+fn put_params(
+    alloc: Global,
+    m: &LLVMModule,
+    numbers: &Numbers,
+    types: &[LLVMType],
+    out: &mut Vec<u8>,
+) -> Result<(), AllocError>
+    requires printing { IsPrinting m.now numbers.now }
+    requires within { All (λ t. t.0 < length m.now.types) types.now }
+    requires all { length types.now ≡ length (function_in m.now numbers.now.function).params }
+    requires few { length types.now < 2 ^ 32 }
+    requires typed { (i : ℕ) (t : LLVMType) → slice_get types.now i ≡ Some t → param_type (function_in m.now numbers.now.function).type i ≡ type_at (trees_of m.now).types t }
+    ensures { OnOk result (out.new.items ≡ out.old.items ++ params_text (function_in m.now numbers.now.function) 0 (function_in m.now numbers.now.function).params) }
+{
+    let f = numbers.function;
+    let params = types.len() as u32;
+    for place in 0..params {
+        put_comma(place, out)?;
+        put_type(alloc, m, types[place as usize], out)?;
+        out.push(b' ')?;
+        let number = numbers.number(LLVMValue::Param(f, place));
+        put_local(alloc, m.param_name(f, place), number, out)?;
+    }
+    Ok(())
+}
+
+/// What a function returns, and the types of its parameters.
+fn signature(m: &LLVMModule, f: LLVMFunction) -> (LLVMType, &[LLVMType])
+    requires sound { IsModule m.now }
+    requires within { f.0 < length m.now.functions }
+    ensures returned { result_of (function_in m.now f).type ≡ type_at (trees_of m.now).types result.0 }
+    ensures returned_within { result.0.0 < length m.now.types }
+    ensures within { All (λ t. t.0 < length m.now.types) result.1.now }
+    ensures all { length result.1.now ≡ length (function_in m.now f).params }
+    ensures typed { (i : ℕ) (t : LLVMType) → slice_get result.1.now i ≡ Some t → param_type (function_in m.now f).type i ≡ type_at (trees_of m.now).types t }
+{
+    let LLVMTypeKind::Function {
+        result: returned,
+        params,
+        ..
+    } = m.type_kind(m.function_type(f))
+    else {
+        unreachable!();
+    };
+    (*returned, params.as_slice())
+}
+
+/// A function, after a blank line.
+pub fn put_function(
+    alloc: Global,
+    m: &LLVMModule,
+    f: LLVMFunction,
+    out: &mut Vec<u8>,
+) -> Result<(), AllocError>
+    requires sound { IsModule m.now }
+    requires within { f.0 < length m.now.functions }
+    requires form { IsFormFunction (function_in m.now f) }
+    requires few { length (function_in m.now f).params < 2 ^ 31 }
+    ensures { OnOk result (out.new.items ≡ out.old.items ++ function_text (function_in m.now f)) }
+{
+    let (returned, types) = signature(m, f);
+    let numbers = numbers_of(alloc, m, f, types.len() as u32)?;
+    out.extend_from_slice(b"\ndefine ")?;
+    put_type(alloc, m, returned, out)?;
+    out.extend_from_slice(b" @")?;
+    out.extend_from_slice(m.function_name(f).as_bytes())?;
+    out.push(b'(')?;
+    put_params(alloc, m, &numbers, types, out)?;
+    out.extend_from_slice(b") {\n")?;
+    let blocks = m.blocks(f);
+    put_blocks(alloc, m, &numbers, blocks, out)?;
+    out.extend_from_slice(b"}\n")?;
+    Ok(())
+}

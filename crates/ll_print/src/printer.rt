@@ -1,0 +1,56 @@
+//! Prints a module as LLVM text.
+
+ghost use Rattle.std.specs.Prelude.{◌≡◌, ◌≢◌, ◌++◌, [], OnOk, OnErr, IfOk};
+ghost use Rattle.llvm_core.specs.Data.{data_of};
+ghost use Rattle.llvm_core.specs.Form.{IsForm, HasDistinctNames, HasFew};
+ghost use Rattle.ll_text.specs.Spelling.{Spells};
+ghost use Rattle.ll_print.specs.Printing.{source_text, module_text, IsBareOrNone, EndsLine};
+
+use crate::functions::put_function;
+use llvm_core::module::LLVMModule;
+use llvm_core::numbers::LLVMFunction;
+use std::alloc::{AllocError, Global};
+
+/// The line of a module's name, where it has one.
+fn put_source(name: &str, out: &mut Vec<u8>) -> Result<(), AllocError>
+    ensures { OnOk result (out.new.items ≡ out.old.items ++ source_text name.now) }
+{
+    if !name.is_empty() {
+        out.extend_from_slice(b"source_filename = \"")?;
+        out.extend_from_slice(name.as_bytes())?;
+        out.extend_from_slice(b"\"\n")?;
+    }
+    Ok(())
+}
+
+/// The text of a module.
+fn text_of(alloc: Global, m: &LLVMModule) -> Result<Vec<u8>, AllocError>
+    requires form { IsForm (data_of m.now) }
+    requires few { HasFew (data_of m.now) }
+    ensures { IfOk result (λ v. v.items ≡ module_text (data_of m.now)) }
+{
+    let mut out = Vec::new(alloc);
+    put_source(m.name(), &mut out)?;
+    for f in 0..m.functions() {
+        put_function(alloc, m, LLVMFunction(f), &mut out)?;
+    }
+    Ok(out)
+}
+
+/// Appends the text of a module of the form.
+pub fn print_ll(alloc: Global, module: &LLVMModule, out: &mut Vec<u8>) -> Result<(), AllocError>
+    requires form { IsForm (data_of «module».now) }
+    requires name { IsBareOrNone «module».now.name }
+    requires names { HasDistinctNames (data_of «module».now) }
+    requires few { HasFew (data_of «module».now) }
+    ensures text { OnOk result (out.new.items ≡ out.old.items ++ module_text (data_of «module».now)) }
+    ensures err { OnErr result (out.new.items ≡ out.old.items) }
+    // What is printed is cut into tokens that spell the module.
+    ensures spelled { OnOk result (Spells (module_text (data_of «module».now)) (data_of «module».now)) }
+    // The last line of the text of a module with a name has an end.
+    ensures lines { OnOk result («module».now.name ≢ [] → EndsLine (module_text (data_of «module».now))) }
+{
+    let text = text_of(alloc, module)?;
+    out.extend_from_slice(text.as_slice())?;
+    Ok(())
+}
