@@ -1,0 +1,21 @@
+-- The lemmas of the crate.
+pub mod BuildLaws
+pub mod OpLaws
+pub mod UnderLaws
+pub mod TypeLaws
+pub mod ListLaws
+pub mod ValueLaws
+pub mod ModuleLaws
+pub mod WholeLaws
+pub mod ShapeLaws
+pub mod PlanLaws
+pub mod MatchLaws
+pub mod HoistedLaws
+pub mod FormLaws
+pub mod Finished
+pub mod OperandLaws
+pub mod ListedLaws
+pub mod ConstLaws
+pub mod BodyLaws
+pub mod NameLaws
+pub mod SourceLaws

@@ -1,0 +1,90 @@
+-- An operation more in a dialect module that the import builds.
+use Rattle.std.proofs.Common.{ℕ, ◌≡◌, ◌<◌, refl, ap, subst, ◌∙◌, List, [], ◌∷◌, ◌++◌, Option, Some, None, IsTrue, All, length, map, slice_get, slice_set, nat_eq, Bool, true, false, if◌then◌else◌, arith}
+use Rattle.std.specs.Option.{option_map, option_map_or, option_and_then}
+use Rattle.std.proofs.lemmas.List.Elements.{All-map, All-weaker}
+use Rattle.dialect_types.specs.declared.types.TypeHandle.{TypeHandle}
+use Rattle.dialect_types.specs.Trees.{TypeTree, type_at, type_trees}
+use Rattle.dialect_core.specs.declared.numbers.OpRef.{OpRef}
+use Rattle.dialect_core.specs.declared.numbers.BlockRef.{BlockRef}
+use Rattle.dialect_core.specs.declared.ops.Value.{Value}
+use Rattle.dialect_core.specs.declared.ops.OpKind.{OpKind}
+use Rattle.dialect_core.specs.declared.ops.OpKind.TheVariants as K
+use Rattle.dialect_core.specs.declared.ops.OpData.{OpData}
+use Rattle.dialect_core.specs.declared.ops.BlockData.{BlockData}
+use Rattle.dialect_core.specs.ContextData.{ContextData, with_op, with_appended, with_name, kind_at, is_plain, StandsIn}
+use Rattle.dialect_core.specs.Lists.{with_change}
+use Rattle.dialect_core.specs.Data.{DialectModule, Func, DialectBlock, DialectOp, IsTyped, data_of, Kind, kind_of, op_of, op_at, with_block_op}
+use Rattle.dialect_core.proofs.ListLemmas.{slice_get-last}
+use Rattle.from_llvm_ir.specs.Imported.{IsBuilding, IsBelow, holder_kind}
+use Rattle.from_llvm_ir.specs.Building.{op_data, plain_op}
+use Rattle.from_llvm_ir.proofs.BuildLaws.{length-push, holder_kept, at_end, held_op, below_more}
+
+pub stands_op : (c0 c1 : ContextData) (b : BlockRef) (o : OpRef) (x : OpData) (k : OpKind) → holder_kind c0 b ≡ Some k → c1 ≡ with_op c0 x → o.0 ≡ length c0.ops → (kind_at c1.ops o ≡ Some x.kind) × (holder_kind c1 b ≡ Some k)
+stands_op c0 c1 b o x k holder e number = (
+  ap (λ (c : ContextData). kind_at c.ops o) e ∙ ap (option_map (λ (y : OpData). y.kind)) (at_end c0.ops x o number),
+  ap (λ (c : ContextData). holder_kind c b) e ∙ holder_kept c0.ops x (slice_get c0.blocks b.0) k holder,
+)
+
+-- an operation that is neither a module nor a function may stand in any block
+pub stands_plain : (ops : List OpData) (blocks : List BlockData) (o : OpRef) (b : BlockRef) (k : OpKind) → IsTrue (is_plain k) → kind_at ops o ≡ Some k → StandsIn ops blocks o b
+stands_plain ops blocks o b k plain h = record {
+  no_module = λ e. let same : k ≡ K.Module = cc (h, e) in let no : ⊥ = cc (subst (λ (x : OpKind). IsTrue (is_plain x)) same plain) in no;
+  func_in_module = λ e. absurd (let same : k ≡ K.Func = cc (h, e) in let no : ⊥ = cc (subst (λ (x : OpKind). IsTrue (is_plain x)) same plain) in no);
+}
+
+below_op : (n k b : ℕ) (o : DialectOp) (fs : List Func) → All (IsBelow n k) fs → All (IsBelow n k) (with_block_op (record { name = []; functions = fs }) b o).functions
+below_op n k b o fs h = All-map (IsBelow n k) (in_func b o) fs (All-weaker (IsBelow n k) (λ (f : Func). IsBelow n k (in_func b o f)) (λ f below. (below.0, blocks_below n k b o f.blocks below.1)) fs h)
+  where
+    in_func : ℕ → DialectOp → Func → Func
+    in_func b o x = record x { blocks = map (λ (y : DialectBlock). if nat_eq y.number b then record y { ops = y.ops ++ o ∷ [] } else y) x.blocks }
+
+    number_if : (t : Bool) (k : ℕ) (o : DialectOp) (y : DialectBlock) → y.number < k → (if t then record y { ops = y.ops ++ o ∷ [] } else y).number < k
+    number_if true k o y small = small
+    number_if false k o y small = small
+
+    blocks_below : (n k b : ℕ) (o : DialectOp) (ys : List DialectBlock) → All (λ (y : DialectBlock). y.number < k) ys → All (λ (y : DialectBlock). y.number < k) (map (λ (y : DialectBlock). if nat_eq y.number b then record y { ops = y.ops ++ o ∷ [] } else y) ys)
+    blocks_below n k b o ys h =
+        All-map (λ (y : DialectBlock). y.number < k) _ ys (All-weaker (λ (y : DialectBlock). y.number < k) _ (λ y small. number_if (nat_eq y.number b) k o y small) ys h)
+
+op_here : (ts : List TypeTree) (ops : List OpData) (x : OpData) (o : OpRef) (k : Kind) → kind_of ts x.kind ≡ Some k → slice_get ops o.0 ≡ Some x → op_at ts ops o ≡ Some (record { number = o.0; name = x.name; kind = k; operands = x.operands; successors = x.successors; result = option_map (type_at ts) x.result })
+op_here ts ops x o k is at = ap (option_and_then (op_of ts o)) at ∙ ap (option_map _) is
+
+pub added_op : (c0 c1 c2 : ContextData) (m : ℕ) (body : BlockRef) (d : DialectModule) (b : BlockRef) (o : OpRef) (kind : OpKind) (name : Option (List ℕ)) (operands : List Value) (result : Option TypeHandle) (k : Kind)
+    → IsBuilding c0 m body d
+    → kind_of (type_trees c0.types) kind ≡ Some k
+    → c1 ≡ with_op c0 (op_data kind name operands result)
+    → o.0 ≡ length c0.ops
+    → data_of c1 m ≡ data_of c0 m
+    → IsTyped c2
+    → c2 ≡ with_appended c1 o b
+    → ((x : DialectOp) → op_at (type_trees c1.types) c1.ops o ≡ Some x → (m : ℕ) → data_of c2 m ≡ with_block_op (data_of c1 m) b.0 x)
+    → IsBuilding c2 m body (with_block_op d b.0 (plain_op o.0 name k operands (option_map (type_at (type_trees c0.types)) result)))
+added_op c0 c1 c2 m body d b o kind name operands result k h is e1 number data1 typed e2 data2 =
+    let x = op_data kind name operands result in
+    let ops : c2.ops ≡ c0.ops ++ x ∷ [] = ap (λ (c : ContextData). c.ops) e2 ∙ ap (λ (c : ContextData). c.ops) e1 in
+    let blocks : c2.blocks ≡ c0.blocks = ap (λ (c : ContextData). c.blocks) e2 ∙ ap (λ (c : ContextData). c.blocks) e1 in
+    let y = plain_op o.0 name k operands (option_map (type_at (type_trees c0.types)) result) in
+    let here : op_at (type_trees c1.types) c1.ops o ≡ Some y = rw e1 (op_here (type_trees c0.types) (c0.ops ++ x ∷ []) x o k is (at_end c0.ops x o number)) in
+    record {
+      held = held_op c0 c2 x m body h.held ops blocks;
+      is = data2 y here m ∙ ap (λ (z : DialectModule). with_block_op z b.0 y) (data1 ∙ h.is);
+      there = rw ops (omega (arith, h.there, length-push c0.ops x));
+      typed = typed;
+      below = rw (ops, blocks)
+          (below_op (length (c0.ops ++ x ∷ [])) (length c0.blocks) b.0 y d.functions (below_more (length c0.ops) (length c0.blocks) _ _ (omega (arith, length-push c0.ops x)) (omega arith) d.functions h.below));
+    }
+
+-- ---- an operation that is named once it is there
+
+set_last : {X : Type 0} (xs : List X) (x y : X) → slice_set (xs ++ x ∷ []) (length xs) y ≡ xs ++ y ∷ []
+set_last [] x y = refl
+set_last (z ∷ xs) x y = ap (λ (ys : List _). z ∷ ys) (set_last xs x y)
+
+change_last : {X : Type 0} (f : X → X) (xs : List X) (x : X) (i : ℕ) → i ≡ length xs → with_change f i (xs ++ x ∷ []) ≡ xs ++ f x ∷ []
+change_last f xs x i e = rw e (ap (λ (o : Option _). option_map_or (λ y. slice_set (xs ++ x ∷ []) (length xs) (f y)) o (xs ++ x ∷ [])) (slice_get-last xs x) ∙ set_last xs x (f x))
+
+pub named_op : (c0 c1 c2 : ContextData) (o : OpRef) (kind : OpKind) (name : List ℕ) (operands : List Value) (result : Option TypeHandle)
+    → c1 ≡ with_op c0 (op_data kind None operands result) → o.0 ≡ length c0.ops → c2 ≡ with_name c1 o name → c2 ≡ with_op c0 (op_data kind (Some name) operands result)
+named_op c0 c1 c2 o kind name operands result e1 number e2 =
+    e2 ∙ ap (λ (c : ContextData). with_name c o name) e1
+    ∙ ap (λ (ops : List OpData). record c0 { ops = ops; parents = c0.parents ++ None ∷ [] }) (change_last (λ (x : OpData). record x { name = Some name }) c0.ops (op_data kind None operands result) o.0 number)

@@ -1,0 +1,16 @@
+use Rattle.from_llvm_ir.proofs.BuildLaws.{stands_func, added_func, is_func}
+use Rattle.from_llvm_ir.proofs.building.add_func.Goals as goal
+
+pub insert_at_back-requires-clause-stands : goal.insert_at_back-requires-clause-stands
+insert_at_back-requires-clause-stands g c =
+    let stands = stands_func c.args.ctx.now c.create_func.new.self c.args.body c.in_ok-func.func.0 c.args.name c.args.ty c.requires.module.0 c.requires.module.1 c.requires.module.2 c.in_ok-func.ensures.ok c.in_ok-func.ensures.number in
+    record { no_module = λ e. let no : ⊥ = cc (stands.0, e) in no; func_in_module = λ e. stands.1 }
+
+pub returns-clause-building : goal.returns-clause-building
+returns-clause-building g c = λ m d h.
+    added_func c.args.ctx.now c.create_func.new.self c.insert_at_back.new.self m c.args.body d c.in_ok-func.func.0 c.args.name c.args.ty h
+    c.in_ok-func.ensures.ok c.in_ok-func.ensures.number (c.in_ok-func.ensures.data m h.there) (c.insert_at_back.ensures.typed (c.in_ok-func.ensures.typed h.typed)) c.insert_at_back.ensures.appended c.insert_at_back.ensures.data_func
+
+pub returns-clause-func : goal.returns-clause-func
+returns-clause-func g c =
+    is_func c.args.ctx.now c.create_func.new.self c.insert_at_back.new.self c.args.body c.in_ok-func.func.0 c.args.name c.args.ty c.in_ok-func.ensures.ok c.in_ok-func.ensures.number c.insert_at_back.ensures.appended

@@ -1,0 +1,12 @@
+use Rattle.std.proofs.Common.{ℕ, List, length, ◌≤◌}
+use Rattle.llvm_core.specs.Data.{data_of}
+use Rattle.from_llvm_ir.specs.Imported.{IsBuilding}
+use Rattle.from_llvm_ir.specs.Importing.{IsImportedTo}
+use Rattle.from_llvm_ir.specs.Building.{module_named}
+use Rattle.from_llvm_ir.proofs.importing.import_functions.Given as goal
+
+abbrev pub invariant-loop-f : goal.invariant-loop-f
+invariant-loop-f g l = record {
+  within : l.f ≤ length l.source.functions;
+  imported : (m : ℕ) → (name : List ℕ) → IsBuilding l.initial.ctx m l.body (module_named name) → IsImportedTo (data_of l.source) l.f l.ctx m l.body name l.blocks;
+}

@@ -1,0 +1,5 @@
+use Rattle.from_llvm_ir.proofs.NameLaws.{plain_or_none}
+use Rattle.from_llvm_ir.proofs.operations.given.Goals as goal
+
+pub legalise-requires : goal.legalise-requires
+legalise-requires c = plain_or_none c.args.name.now c.requires

@@ -1,0 +1,110 @@
+//! The calls that grow the last function of a dialect module, and what they make of its data.
+
+ghost use Rattle.std.specs.Prelude.{◌≡◌, ◌<◌, ◌∷◌, ◌++◌, [], List, ℕ, None, Some, IsTrue, IfOk, IfSome, OnOk, All, length, map, slice_get};
+ghost use Rattle.std.specs.Option.{option_map};
+ghost use Rattle.dialect_types.specs.Trees.{type_at, type_trees};
+ghost use Rattle.dialect_core.specs.declared.ops.OpKind.TheVariants as kinds;
+ghost use Rattle.dialect_core.specs.ContextData.{kind_at, is_plain, with_op, IsValueWithin};
+ghost use Rattle.dialect_core.specs.Data.{DialectModule, DialectOp, Kind, IsTyped, HasKindTypesBelow, kind_of, data_of, with_func, with_func_block};
+ghost use Rattle.from_llvm_ir.specs.Imported.{IsBuilding, holder_kind};
+ghost use Rattle.from_llvm_ir.specs.Building.{Frame, IsUnder, bare_func, op_data, plain_op};
+
+use dialect_core::context::Context;
+use dialect_core::linkage::LinkageAttr;
+use dialect_core::numbers::{BlockRef, FuncOp, OpRef};
+use dialect_core::ops::{OpKind, Value};
+use dialect_core::steps::Steps;
+use dialect_types::identifier::Identifier;
+use dialect_types::types::TypeHandle;
+use std::alloc::AllocError;
+use std::sync::ledger::Ledger;
+
+/// A new function without blocks, as the last of the module whose block `body` is.
+pub fn add_func<L: Ledger>(
+    ctx: &mut Context,
+    body: BlockRef,
+    name: Identifier,
+    ty: TypeHandle,
+    steps: &mut Steps<L>,
+) -> Result<FuncOp, AllocError>
+    requires ty { ty.0 < length ctx.old.types }
+    requires module { (m : ℕ) × (d : DialectModule) × IsBuilding ctx.old m body d }
+    ensures building { IfOk result (λ f. (m : ℕ) → (d : DialectModule) → IsBuilding ctx.old m body d → IsBuilding ctx.new m body (with_func d (bare_func f.0.0 name (type_at (type_trees ctx.old.types) ty)))) }
+    ensures func { IfOk result (λ f. kind_at ctx.new.ops f.0 ≡ Some kinds.Func) }
+    ensures number { IfOk result (λ f. f.0.0 ≡ length ctx.old.ops) }
+    ensures blocks { OnOk result (ctx.new.blocks ≡ ctx.old.blocks) }
+    ensures types { ctx.new.types ≡ ctx.old.types }
+{
+    let func = ctx.create_func(name, ty, LinkageAttr::ExternalLinkage)?;
+    ctx.insert_at_back(func.0, body, steps);
+    Ok(func)
+}
+
+/// A new block without operations, as the last of a function.
+pub fn add_entry(
+    ctx: &mut Context,
+    func: FuncOp,
+    label: Identifier,
+    args: &[TypeHandle],
+) -> Result<BlockRef, AllocError>
+    requires func { kind_at ctx.old.ops func.0 ≡ Some kinds.Func }
+    requires args { All (λ t. t.0 < length ctx.old.types) args.now }
+    ensures building { IfOk result (λ b. (m : ℕ) → (body : BlockRef) → (d : DialectModule) → IsBuilding ctx.old m body d → IsBuilding ctx.new m body (with_func_block d func.0.0 (record { number = b.0; label = Some label; args = map (type_at (type_trees ctx.old.types)) args.now; ops = [] }))) }
+    ensures within { IfOk result (λ b. b.0 < length ctx.new.blocks) }
+    ensures holder { IfOk result (λ b. holder_kind ctx.new b ≡ Some kinds.Func) }
+    ensures number { IfOk result (λ b. b.0 ≡ length ctx.old.blocks) }
+    ensures types { ctx.new.types ≡ ctx.old.types }
+{
+    let block = ctx.add_block(func.0, Some(label), args)?;
+    Ok(block)
+}
+
+/// A new operation without successors, in no block.
+fn create_named(
+    ctx: &mut Context,
+    kind: OpKind,
+    operands: &[Value],
+    result_ty: Option<TypeHandle>,
+    name: Option<Identifier>,
+) -> Result<OpRef, AllocError>
+    requires plain { IsTrue (is_plain kind) }
+    requires types { HasKindTypesBelow (length ctx.old.types) kind }
+    requires operands { All (IsValueWithin (length ctx.old.ops) (length ctx.old.blocks)) operands.now }
+    requires result_ty { IfSome result_ty (λ t. t.0 < length ctx.old.types) }
+    ensures ok { OnOk result (ctx.new ≡ with_op ctx.old (op_data kind name operands.now result_ty)) }
+    ensures number { IfOk result (λ o. o.0 ≡ length ctx.old.ops) }
+    ensures free { IfOk result (λ o. slice_get ctx.new.parents o.0 ≡ Some None) }
+    ensures data { OnOk result ((m : ℕ) → m < length ctx.old.ops → data_of ctx.new m ≡ data_of ctx.old m) }
+    ensures typed { OnOk result (IsTyped ctx.old → IsTyped ctx.new) }
+    ensures types { ctx.new.types ≡ ctx.old.types }
+{
+    let op = ctx.create_op(kind, operands, &[], result_ty)?;
+    if let Some(name) = name {
+        ctx.set_name(op, name)?;
+    }
+    Ok(op)
+}
+
+/// A new operation without successors, as the last of the block of the last function.
+pub fn add_op<L: Ledger>(
+    ctx: &mut Context,
+    block: BlockRef,
+    kind: OpKind,
+    operands: &[Value],
+    result_ty: Option<TypeHandle>,
+    name: Option<Identifier>,
+    steps: &mut Steps<L>,
+) -> Result<OpRef, AllocError>
+    requires plain { IsTrue (is_plain kind) }
+    requires types { HasKindTypesBelow (length ctx.old.types) kind }
+    requires operands { All (IsValueWithin (length ctx.old.ops) (length ctx.old.blocks)) operands.now }
+    requires result_ty { IfSome result_ty (λ t. t.0 < length ctx.old.types) }
+    requires under { (fr : Frame) × (os : List DialectOp) × IsUnder fr ctx.old block os }
+    ensures added { IfOk result (λ o. (fr : Frame) → (os : List DialectOp) → (k : Kind) → kind_of (type_trees ctx.old.types) kind ≡ Some k → IsUnder fr ctx.old block os
+        → IsUnder fr ctx.new block (os ++ plain_op o.0 name k operands.now (option_map (type_at (type_trees ctx.old.types)) result_ty) ∷ [])) }
+    ensures types { ctx.new.types ≡ ctx.old.types }
+{
+    let op = create_named(ctx, kind, operands, result_ty, name)?;
+    ctx.insert_at_back(op, block, steps);
+    Ok(op)
+}

@@ -1,0 +1,128 @@
+//! Types of the source to types of the dialect.
+
+ghost use Rattle.std.specs.Prelude.{◌≡◌, ◌<◌, ◌≤◌, IfOk, All, length, map, ℕ};
+ghost use Rattle.llvm_core.specs.Sound.{IsModule};
+ghost use Rattle.llvm_core.specs.Data as L;
+ghost use Rattle.llvm_core.specs.Data.{trees_of};
+ghost use Rattle.llvm_core.specs.Form.{IsShortResult, AreShortInts};
+ghost use Rattle.dialect_types.specs.Trees.{type_at, type_tree, type_trees, depth, HasPartsBelow};
+ghost use Rattle.from_llvm_ir.specs.Types.{GrowsTypes, type_from, args_from};
+ghost use Rattle.from_llvm_ir.specs.Body.{IsSource};
+
+use dialect_core::context::Context;
+use dialect_types::items::Items;
+use dialect_types::types::{TypeHandle, TypeKind};
+use llvm_core::module::LLVMModule;
+use llvm_core::numbers::{LLVMFunction, LLVMType};
+use llvm_core::types::LLVMTypeKind;
+use std::alloc::{AllocError, Global};
+
+/// The number of a type of the context, new or old.
+fn intern(ctx: &mut Context, kind: TypeKind) -> Result<TypeHandle, AllocError>
+    requires parts { HasPartsBelow (length ctx.old.types) kind }
+    requires nesting { depth (type_tree (type_trees ctx.old.types) kind) ≤ 1000 }
+    ensures grown { GrowsTypes ctx.old ctx.new }
+    ensures ty { IfOk result (λ t. type_at (type_trees ctx.new.types) t ≡ type_tree (type_trees ctx.old.types) kind) }
+    ensures within { IfOk result (λ t. t.0 < length ctx.new.types) }
+{
+    let ty = ctx.types_mut().get(kind)?;
+    Ok(ty)
+}
+
+/// The type that stands for an integer type or for void.
+pub fn import_plain(
+    ctx: &mut Context,
+    source: &LLVMModule,
+    ty: LLVMType,
+) -> Result<TypeHandle, AllocError>
+    requires sound { IsModule source.now }
+    requires within { ty.0 < length source.now.types }
+    requires short { IsShortResult (L.type_at (trees_of source.now).types ty) }
+    ensures grown { GrowsTypes ctx.old ctx.new }
+    ensures ty { IfOk result (λ t. type_at (type_trees ctx.new.types) t ≡ type_from (L.type_at (trees_of source.now).types ty)) }
+    ensures within { IfOk result (λ t. t.0 < length ctx.new.types) }
+{
+    match source.type_kind(ty) {
+        LLVMTypeKind::Void => intern(ctx, TypeKind::Void),
+        LLVMTypeKind::Int(width) => intern(ctx, TypeKind::Integer(*width)),
+        LLVMTypeKind::Function { .. } => unreachable!(),
+    }
+}
+
+/// The types that stand for integer types.
+fn import_all(
+    alloc: Global,
+    ctx: &mut Context,
+    source: &LLVMModule,
+    types: &[LLVMType],
+) -> Result<Vec<TypeHandle>, AllocError>
+    requires sound { IsModule source.now }
+    requires within { All (λ t. t.0 < length source.now.types) types.now }
+    requires short { AreShortInts (L.types_at (trees_of source.now).types types.now) }
+    ensures grown { GrowsTypes ctx.old ctx.new }
+    ensures types { IfOk result (λ ts. map (type_at (type_trees ctx.new.types)) ts.items ≡ map (λ t. type_from (L.type_at (trees_of source.now).types t)) types.now) }
+    ensures within { IfOk result (λ ts. All (λ t. t.0 < length ctx.new.types) ts.items) }
+{
+    let mut imported = Vec::new(alloc);
+    for ty in types {
+        imported.push(import_plain(ctx, source, *ty)?)?;
+    }
+    Ok(imported)
+}
+
+/// The types of the parameters of a function.
+pub fn import_params(
+    alloc: Global,
+    ctx: &mut Context,
+    source: &LLVMModule,
+    f: LLVMFunction,
+) -> Result<Vec<TypeHandle>, AllocError>
+    requires { (g : L.Function) × IsSource source.now f g }
+    ensures grown { GrowsTypes ctx.old ctx.new }
+    ensures types { IfOk result (λ ts. (g : L.Function) → IsSource source.now f g → map (type_at (type_trees ctx.new.types)) ts.items ≡ args_from g.type) }
+    ensures within { IfOk result (λ ts. All (λ t. t.0 < length ctx.new.types) ts.items) }
+{
+    match source.type_kind(source.function_type(f)) {
+        LLVMTypeKind::Function { params, .. } => import_all(alloc, ctx, source, params.as_slice()),
+        _ => unreachable!(),
+    }
+}
+
+/// The type of what a function returns.
+fn import_result(
+    ctx: &mut Context,
+    source: &LLVMModule,
+    f: LLVMFunction,
+) -> Result<TypeHandle, AllocError>
+    requires { (g : L.Function) × IsSource source.now f g }
+    ensures grown { GrowsTypes ctx.old ctx.new }
+    ensures ty { IfOk result (λ t. (g : L.Function) → (h : IsSource source.now f g) → type_at (type_trees ctx.new.types) t ≡ type_from h.form.result) }
+    ensures within { IfOk result (λ t. t.0 < length ctx.new.types) }
+{
+    match source.type_kind(source.function_type(f)) {
+        LLVMTypeKind::Function { result, .. } => import_plain(ctx, source, *result),
+        _ => unreachable!(),
+    }
+}
+
+/// The type of a function.
+pub fn import_function_type(
+    alloc: Global,
+    ctx: &mut Context,
+    source: &LLVMModule,
+    f: LLVMFunction,
+) -> Result<TypeHandle, AllocError>
+    requires { (g : L.Function) × IsSource source.now f g }
+    ensures grown { GrowsTypes ctx.old ctx.new }
+    ensures ty { IfOk result (λ t. (g : L.Function) → IsSource source.now f g → type_at (type_trees ctx.new.types) t ≡ type_from g.type) }
+    ensures within { IfOk result (λ t. t.0 < length ctx.new.types) }
+{
+    let params = import_params(alloc, ctx, source, f)?;
+    let returned = import_result(ctx, source, f)?;
+    let kind = TypeKind::Func {
+        result: returned,
+        params: Items::from_vec(params),
+        variadic: false,
+    };
+    intern(ctx, kind)
+}
