@@ -1,0 +1,227 @@
+-- What a module of LLVM keeps as it grows.
+use Rattle.std.proofs.Common.{◌≡◌, ◌<◌, ◌⊎◌, inl, inr, ℕ, zero, suc, List, [], ◌∷◌, ◌++◌, Option, Some, None, All, length, map, slice_get, refl, sym, ap, subst, ◌∙◌, arith, append_assoc, length-append}
+use Rattle.std.specs.Option.{option_map, option_map_or}
+use Rattle.std.proofs.lemmas.List.{append-nil}
+use Rattle.std.proofs.lemmas.List.Elements.{All-weaker, All-head, All-tail}
+use Rattle.std.proofs.lemmas.Option.{same_Some, slice_get_within}
+use Rattle.llvm_core.specs.declared.numbers.LLVMType.{LLVMType}
+use Rattle.llvm_core.specs.declared.types.LLVMTypeKind.{LLVMTypeKind}
+use Rattle.llvm_core.specs.declared.types.LLVMTypeKind.TheVariants as T
+use Rattle.llvm_core.specs.declared.consts.LLVMConstKind.{LLVMConstKind}
+use Rattle.llvm_core.specs.declared.consts.LLVMConstKind.TheVariants as C
+use Rattle.llvm_core.specs.declared.code.LLVMValue.{LLVMValue}
+use Rattle.llvm_core.specs.declared.code.LLVMValue.TheVariants as V
+use Rattle.llvm_core.specs.declared.code.FunctionData.{FunctionData}
+use Rattle.llvm_core.specs.declared.code.InstData.{InstData}
+use Rattle.llvm_core.specs.Interned.{Interned}
+use Rattle.llvm_core.specs.Module.{Module}
+use Rattle.llvm_core.specs.Sound.{IsModule}
+use Rattle.llvm_core.specs.Parts.{IsTypeOver, IsValue, const_type, param_types, type_params, kind_params, value_type}
+use Rattle.llvm_core.specs.Data as L
+use Rattle.llvm_core.specs.Data.{TypeTree, TypeTrees, NoTypes, ThenType, VoidType, IntType, FunctionType, type_at, types_at, const_at, trees_of, operand_of, type_trees, const_trees, IntConst}
+use Rattle.llvm_core.proofs.ListLemmas.{slice_get-kept}
+use Rattle.llvm_core.proofs.TreeLemmas.{type_at-kept, const_trees-retyped, const_at-kept}
+use Rattle.llvm_core.proofs.DataLemmas.{int_tree_of, void_tree_of, function_tree_of, there}
+use Rattle.to_llvm_ir.specs.Growth.{Grows, IsTypeOf, AreTypesOf, HasType}
+
+-- ---- growth
+
+pub grows_refl : (m : Module) → Grows m m
+grows_refl m = record {
+  more_types = [];
+  types = sym (append-nil m.types);
+  more_consts = [];
+  consts = sym (append-nil m.consts);
+  functions = refl;
+  blocks = refl;
+  more_insts = [];
+  insts = sym (append-nil m.insts);
+}
+
+appended : {X : Type 0} (xs ys zs us vs : List X) → ys ≡ xs ++ us → zs ≡ ys ++ vs → zs ≡ xs ++ (us ++ vs)
+appended xs ys zs us vs e f = f ∙ ap (λ (ws : List _). ws ++ vs) e ∙ append_assoc xs us vs
+
+pub grows_then : (a b c : Module) → Grows a b → Grows b c → Grows a c
+grows_then a b c g h = record {
+  more_types = g.more_types ++ h.more_types;
+  types = appended a.types b.types c.types g.more_types h.more_types g.types h.types;
+  more_consts = g.more_consts ++ h.more_consts;
+  consts = appended a.consts b.consts c.consts g.more_consts h.more_consts g.consts h.consts;
+  functions = h.functions ∙ g.functions;
+  blocks = h.blocks ∙ g.blocks;
+  more_insts = g.more_insts ++ h.more_insts;
+  insts = appended a.insts b.insts c.insts g.more_insts h.more_insts g.insts h.insts;
+}
+
+interned_more : {X : Type 0} (old new : List X) (k : X) (n : ℕ) → Interned old new k n → (more : List X) × (new ≡ old ++ more)
+interned_more old new k n h = by h.only
+  where
+    by : (new ≡ old) ⊎ (new ≡ old ++ k ∷ []) → (more : List _) × (new ≡ old ++ more)
+    by (inl same) = ([], same ∙ sym (append-nil old))
+    by (inr longer) = (k ∷ [], longer)
+
+-- a type more, or a constant
+pub grows_type : (old new : Module) (k : LLVMTypeKind) (n : ℕ) → Interned old.types new.types k n → new ≡ record old { types = new.types } → Grows old new
+grows_type old new k n h rest = let m = interned_more old.types new.types k n h in record {
+  more_types = m.0;
+  types = m.1;
+  more_consts = [];
+  consts = ap (λ (x : Module). x.consts) rest ∙ sym (append-nil old.consts);
+  functions = ap (λ (x : Module). x.functions) rest;
+  blocks = ap (λ (x : Module). length x.blocks) rest;
+  more_insts = [];
+  insts = ap (λ (x : Module). x.insts) rest ∙ sym (append-nil old.insts);
+}
+
+pub grows_const : (old new : Module) (k : LLVMConstKind) (n : ℕ) → Interned old.consts new.consts k n → new ≡ record old { consts = new.consts } → Grows old new
+grows_const old new k n h rest = let m = interned_more old.consts new.consts k n h in record {
+  more_types = [];
+  types = ap (λ (x : Module). x.types) rest ∙ sym (append-nil old.types);
+  more_consts = m.0;
+  consts = m.1;
+  functions = ap (λ (x : Module). x.functions) rest;
+  blocks = ap (λ (x : Module). length x.blocks) rest;
+  more_insts = [];
+  insts = ap (λ (x : Module). x.insts) rest ∙ sym (append-nil old.insts);
+}
+
+-- ---- types by number
+
+pub type_kept : (old new : Module) (t : LLVMType) (tree : TypeTree) → Grows old new → IsTypeOf old t tree → IsTypeOf new t tree
+type_kept old new t tree g h = (
+  rw g.types (omega (arith, h.0, length-append old.types g.more_types)),
+  ap (λ (ks : List LLVMTypeKind). type_at (type_trees ks) t) g.types ∙ type_at-kept old.types g.more_types t h.0 ∙ h.1,
+)
+
+pub is_int_type : (m : Module) (t : LLVMType) (w : ℕ) → IsModule m → slice_get m.types t.0 ≡ Some (T.Int w) → IsTypeOf m t (IntType w)
+is_int_type m t w s at = (slice_get_within m.types t.0 (T.Int w) at, int_tree_of m t w s at)
+
+pub is_void_type : (m : Module) (t : LLVMType) → IsModule m → slice_get m.types t.0 ≡ Some T.Void → IsTypeOf m t VoidType
+is_void_type m t s at = (slice_get_within m.types t.0 T.Void at, void_tree_of m t s at)
+
+-- the kind at a number whose tree is known
+kind_of_int : (m : Module) (t : LLVMType) (w : ℕ) (k : LLVMTypeKind) → IsModule m → slice_get m.types t.0 ≡ Some k → type_at (trees_of m).types t ≡ IntType w → k ≡ T.Int w
+kind_of_int m t w T.Void s at h = let e = void_tree_of m t s at in absurd (let none : ⊥ = cc in none)
+kind_of_int m t w (T.Int v) s at h = let e = int_tree_of m t v s at in let same : v ≡ w = cc in ap T.Int same
+kind_of_int m t w (T.Function r ps v) s at h = let e = function_tree_of m t r ps v s at in absurd (let none : ⊥ = cc in none)
+
+pub int_at : (m : Module) (t : LLVMType) (w : ℕ) → IsModule m → IsTypeOf m t (IntType w) → slice_get m.types t.0 ≡ Some (T.Int w)
+int_at m t w s h = let k = there m.types t.0 h.0 in k.1 ∙ ap Some (kind_of_int m t w k.0 s k.1 h.1)
+
+-- ---- lists of types by number
+
+pub types_kept : (old new : Module) (ts : List LLVMType) (trees : List TypeTree) → Grows old new → AreTypesOf old ts trees → AreTypesOf new ts trees
+types_kept old new ts trees g h = (
+  All-weaker (λ (t : LLVMType). t.0 < length old.types) (λ (t : LLVMType). t.0 < length new.types) (λ t lt. (type_kept old new t (type_at (trees_of old).types t) g (lt, refl)).0) ts h.0,
+  same ts h.0 ∙ h.1,
+)
+  where
+    same : (us : List LLVMType) → All (λ (t : LLVMType). t.0 < length old.types) us → map (type_at (trees_of new).types) us ≡ map (type_at (trees_of old).types) us
+    same [] all = refl
+    same (u ∷ us) all =
+        let e = (type_kept old new u (type_at (trees_of old).types u) g (All-head (λ (t : LLVMType). t.0 < length old.types) u us all, refl)).1 in
+        let f = same us (All-tail (λ (t : LLVMType). t.0 < length old.types) u us all) in
+        cc
+
+-- ---- values
+
+params_kept : (old more : List LLVMTypeKind) (ty : LLVMType) (place : ℕ) (t : LLVMType) → slice_get (type_params old ty) place ≡ Some t → slice_get (type_params (old ++ more) ty) place ≡ Some t
+params_kept old more ty place t h = by (slice_get old ty.0) refl h
+  where
+    by : (o : Option LLVMTypeKind) → slice_get old ty.0 ≡ o → slice_get (option_map_or kind_params o []) place ≡ Some t → slice_get (type_params (old ++ more) ty) place ≡ Some t
+    by None e k = cc
+    by (Some kind) e k = ap (λ (o : Option LLVMTypeKind). slice_get (option_map_or kind_params o []) place) (slice_get-kept old more ty.0 kind e) ∙ k
+
+-- the type of a value stays
+pub value_type_kept : (old new : Module) (v : LLVMValue) (t : LLVMType) → Grows old new → value_type old v ≡ Some t → value_type new v ≡ Some t
+value_type_kept old new (V.Const c) t g h = by (slice_get old.consts c.0) refl h
+  where
+    by : (o : Option LLVMConstKind) → slice_get old.consts c.0 ≡ o → option_map const_type o ≡ Some t → option_map const_type (slice_get new.consts c.0) ≡ Some t
+    by None e k = cc
+    by (Some kind) e k = ap (λ (cs : List LLVMConstKind). option_map const_type (slice_get cs c.0)) g.consts ∙ ap (option_map const_type) (slice_get-kept old.consts g.more_consts c.0 kind e) ∙ k
+value_type_kept old new (V.Inst i) t g h = by (slice_get old.insts i.0) refl h
+  where
+    by : (o : Option InstData) → slice_get old.insts i.0 ≡ o → option_map (λ (x : InstData). x.ty) o ≡ Some t → option_map (λ (x : InstData). x.ty) (slice_get new.insts i.0) ≡ Some t
+    by None e k = cc
+    by (Some x) e k = ap (λ (is : List InstData). option_map (λ (x : InstData). x.ty) (slice_get is i.0)) g.insts ∙ ap (option_map (λ (x : InstData). x.ty)) (slice_get-kept old.insts g.more_insts i.0 x e) ∙ k
+value_type_kept old new (V.Param f place) t g h = by (slice_get old.functions f.0) refl h
+  where
+    by : (o : Option FunctionData) → slice_get old.functions f.0 ≡ o → slice_get (option_map_or (param_types old) o []) place ≡ Some t → slice_get (option_map_or (param_types new) (slice_get new.functions f.0) []) place ≡ Some t
+    by None e k = cc
+    by (Some x) e k =
+        ap (λ (fs : List FunctionData). slice_get (option_map_or (param_types new) (slice_get fs f.0) []) place) g.functions
+        ∙ ap (λ (o : Option FunctionData). slice_get (option_map_or (param_types new) o []) place) e
+        ∙ ap (λ (ks : List LLVMTypeKind). slice_get (type_params ks x.ty) place) g.types
+        ∙ params_kept old.types g.more_types x.ty place t k
+
+-- a value that has a type is there
+pub value_there : (m : Module) (v : LLVMValue) (t : LLVMType) → IsModule m → value_type m v ≡ Some t → IsValue m v
+value_there m (V.Const c) t s h = by (slice_get m.consts c.0) refl h
+  where
+    by : (o : Option LLVMConstKind) → slice_get m.consts c.0 ≡ o → option_map const_type o ≡ Some t → c.0 < length m.consts
+    by None e k = cc
+    by (Some x) e k = slice_get_within m.consts c.0 x e
+value_there m (V.Inst i) t s h = by (slice_get m.insts i.0) refl h
+  where
+    by : (o : Option InstData) → slice_get m.insts i.0 ≡ o → option_map (λ (x : InstData). x.ty) o ≡ Some t → i.0 < length m.insts
+    by None e k = cc
+    by (Some x) e k = slice_get_within m.insts i.0 x e
+value_there m (V.Param f place) t s h = by (slice_get m.functions f.0) refl h
+  where
+    by : (o : Option FunctionData) → slice_get m.functions f.0 ≡ o → slice_get (option_map_or (param_types m) o []) place ≡ Some t → place < length (option_map_or (λ (x : FunctionData). x.params) (slice_get m.functions f.0) [])
+    by None e k = cc
+    by (Some x) e k =
+        let within = slice_get_within (type_params m.types x.ty) place t k in
+        let count : length x.params ≡ length (type_params m.types x.ty) = (s.functions f.0 x e).params in
+        rw e (omega (arith, within, count))
+
+-- the type of a value that is there is one of the module's
+pub type_there : (m : Module) (v : LLVMValue) (t : LLVMType) → IsModule m → value_type m v ≡ Some t → t.0 < length m.types
+type_there m (V.Const c) t s h = by (slice_get m.consts c.0) refl h
+  where
+    kind : (k : LLVMConstKind) → slice_get m.consts c.0 ≡ Some k → (const_type k).0 < length m.types
+    kind (C.Int u v) e = let p = s.consts c.0 (C.Int u v) e in slice_get_within m.types u.0 _ p.1
+
+    by : (o : Option LLVMConstKind) → slice_get m.consts c.0 ≡ o → option_map const_type o ≡ Some t → t.0 < length m.types
+    by None e k = cc
+    by (Some x) e k = subst (λ (u : LLVMType). u.0 < length m.types) (same_Some (const_type x) t k) (kind x e)
+type_there m (V.Inst i) t s h = by (slice_get m.insts i.0) refl h
+  where
+    by : (o : Option InstData) → slice_get m.insts i.0 ≡ o → option_map (λ (x : InstData). x.ty) o ≡ Some t → t.0 < length m.types
+    by None e k = cc
+    by (Some x) e k = subst (λ (u : LLVMType). u.0 < length m.types) (same_Some x.ty t k) (s.insts i.0 x e).typed
+type_there m (V.Param f place) t s h = by (slice_get m.functions f.0) h
+  where
+    kind : (n : ℕ) (k : LLVMTypeKind) → n < length m.types → IsTypeOver n k → slice_get (kind_params k) place ≡ Some t → t.0 < length m.types
+    kind n T.Void small over e = cc
+    kind n (T.Int w) small over e = cc
+    kind n (T.Function r ps v) small over e = let below = at ps place over.1 e in omega (arith, small, below)
+      where
+        at : (ps : List LLVMType) (i : ℕ) → All (λ (t : LLVMType). t.0 < n) ps → slice_get ps i ≡ Some t → t.0 < n
+        at [] i all e = cc
+        at (p ∷ ps) zero all e = subst (λ (u : LLVMType). u.0 < n) (same_Some p t e) (All-head (λ (t : LLVMType). t.0 < n) p ps all)
+        at (p ∷ ps) (suc i) all e = at ps i (All-tail (λ (t : LLVMType). t.0 < n) p ps all) e
+
+    of_type : (ty : LLVMType) (o : Option LLVMTypeKind) → slice_get m.types ty.0 ≡ o → slice_get (option_map_or kind_params o []) place ≡ Some t → t.0 < length m.types
+    of_type ty None e k = cc
+    of_type ty (Some x) e k = kind ty.0 x (slice_get_within m.types ty.0 x e) (s.types ty.0 x e) k
+
+    by : (o : Option FunctionData) → slice_get (option_map_or (param_types m) o []) place ≡ Some t → t.0 < length m.types
+    by None k = cc
+    by (Some x) k = of_type x.ty (slice_get m.types x.ty.0) refl k
+
+pub has_type_kept : (old new : Module) (v : LLVMValue) (tree : TypeTree) → IsModule old → Grows old new → HasType old v tree → HasType new v tree
+has_type_kept old new v tree s g h =
+    (h.0, value_type_kept old new v h.0 g h.1, (type_kept old new h.0 tree g (type_there old v h.0 s h.1, h.2)).1)
+
+-- what a value names stays
+pub operand_kept : (old new : Module) (v : LLVMValue) (t : LLVMType) → IsModule old → Grows old new → value_type old v ≡ Some t → operand_of (trees_of new) v ≡ operand_of (trees_of old) v
+operand_kept old new (V.Const c) t s g h =
+    let within : c.0 < length old.consts = value_there old (V.Const c) t s h in
+    ap L.Constant
+    (ap (λ (ks : List LLVMTypeKind). const_at (const_trees (type_trees ks) new.consts) c) g.types
+    ∙ ap (λ (cs : List LLVMConstKind). const_at (const_trees (type_trees (old.types ++ g.more_types)) cs) c) g.consts
+    ∙ const_at-kept (type_trees (old.types ++ g.more_types)) old.consts g.more_consts c.0 within
+    ∙ ap (λ (cs : List L.ConstTree). const_at cs c) (const_trees-retyped old.types g.more_types old.consts s.consts))
+operand_kept old new (V.Param f place) t s g h = refl
+operand_kept old new (V.Inst i) t s g h = refl

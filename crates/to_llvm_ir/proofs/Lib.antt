@@ -1,0 +1,21 @@
+-- The lemmas that proofs cite.
+pub mod BuildLaws
+pub mod ContextLaws
+pub mod DistinctLaws
+pub mod DoneLaws
+pub mod FindLaws
+pub mod FinishLaws
+pub mod FormLaws
+pub mod GrowthLaws
+pub mod KnownLaws
+pub mod NameLaws
+pub mod OperationLaws
+pub mod PairLaws
+pub mod PlanLaws
+pub mod ReturnLaws
+pub mod ShapeLaws
+pub mod StartLaws
+pub mod StartedLaws
+pub mod TargetLaws
+pub mod TypeLaws
+pub mod ValueLaws

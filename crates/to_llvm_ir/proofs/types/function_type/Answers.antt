@@ -1,0 +1,38 @@
+-- The parts of the type are those of the form.
+use Rattle.std.proofs.Common.{◌∙◌, List, All, ◌<◌, length, map, sym, subst}
+use Rattle.dialect_types.specs.declared.types.TypeHandle.{TypeHandle}
+use Rattle.dialect_types.specs.Trees.{type_at, type_trees}
+use Rattle.dialect_core.specs.Form.{IsShortInt}
+use Rattle.to_llvm_ir.specs.Growth.{AreTypesOf}
+use Rattle.to_llvm_ir.proofs.GrowthLaws.{grows_then, grows_type, type_kept, types_kept}
+use Rattle.to_llvm_ir.proofs.TypeLaws.{tree_of, form_parts, function_type}
+use Rattle.to_llvm_ir.proofs.types.function_type.Goals as goal
+
+pub param_types-requires-clause-within : goal.param_types-requires-clause-within
+param_types-requires-clause-within c =
+    let types = c.types.ensures in
+    let parts = form_parts (type_trees c.args.ctx.now.types) _ _ _ _ _ _ _ c.requires.form c.requires.within c.in-Func.is c.kind.ensures.parts (rw types at c.kind.ensures.tree) in
+    subst (λ (xs : List TypeHandle). All (λ (t : TypeHandle). t.0 < length c.args.ctx.now.types) xs) (sym c.as_slice.ensures) parts.params_there
+
+pub param_types-requires-clause-short : goal.param_types-requires-clause-short
+param_types-requires-clause-short c =
+    let types = c.types.ensures in
+    let parts = form_parts (type_trees c.args.ctx.now.types) _ _ _ _ _ _ _ c.requires.form c.requires.within c.in-Func.is c.kind.ensures.parts (rw types at c.kind.ensures.tree) in
+    subst (λ (xs : List TypeHandle). All (λ (t : TypeHandle). IsShortInt (type_at (type_trees c.args.ctx.now.types) t)) xs) (sym c.as_slice.ensures) parts.params_short
+
+pub returns : goal.returns
+returns c =
+    let types = c.types.ensures in
+    let one = c.in_ok-result-in-Func.ensures in
+    let two = c.in_ok-params-in-Func.ensures in
+    let last = c.in_ok-number-in-Func.ensures in
+    let grown = grows_type c.param_types.new.back c.type_get.new.self _ _ last.interned last.rest in
+    let params = subst (λ (xs : List TypeHandle). AreTypesOf c.param_types.new.back c.in_ok-params-in-Func.params (map (tree_of (type_trees c.args.ctx.now.types)) xs)) c.as_slice.ensures two.types in
+    let made = function_type _ _ _ _ _ _ _ _ _ _ _ last.sound last.interned c.in-Func.is (rw types at c.kind.ensures.tree) (type_kept _ _ _ _ grown (type_kept _ _ _ _ two.grows one.tree)) (types_kept _ _ _ _ grown params) in
+    record {
+      function = made.0;
+      tree = made.1;
+      grows = grows_then _ _ _ one.grows (grows_then _ _ _ two.grows grown);
+      «data» = last.data ∙ two.data ∙ one.data;
+      sound = last.sound;
+    }

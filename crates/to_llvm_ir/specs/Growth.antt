@@ -1,0 +1,40 @@
+-- A module of LLVM that grows while types, constants and instructions are added: what was there stays.
+use Rattle.std.specs.Prelude.{◌≡◌, ◌<◌, false, List, ◌++◌, length, map, All, Some}
+use Rattle.llvm_core.specs.declared.numbers.LLVMType.{LLVMType}
+use Rattle.llvm_core.specs.declared.types.LLVMTypeKind.{LLVMTypeKind}
+use Rattle.llvm_core.specs.declared.consts.LLVMConstKind.{LLVMConstKind}
+use Rattle.llvm_core.specs.declared.code.LLVMValue.{LLVMValue}
+use Rattle.llvm_core.specs.declared.code.InstData.{InstData}
+use Rattle.llvm_core.specs.Module.{Module}
+use Rattle.llvm_core.specs.Parts.{value_type}
+use Rattle.llvm_core.specs.Data as L
+use Rattle.llvm_core.specs.Data.{trees_of}
+use Rattle.dialect_types.specs.Trees.{TypeTree, TypeTrees, FuncType}
+use Rattle.dialect_core.specs.Form.{IsShortInt, IsShortResult, types_list}
+
+-- types, constants and instructions are new at most, each last
+pub record Grows (old new : Module) : Type 0 where
+  pub more_types : List LLVMTypeKind
+  pub types : new.types ≡ old.types ++ more_types
+  pub more_consts : List LLVMConstKind
+  pub consts : new.consts ≡ old.consts ++ more_consts
+  pub functions : new.functions ≡ old.functions
+  pub blocks : length new.blocks ≡ length old.blocks
+  pub more_insts : List InstData
+  pub insts : new.insts ≡ old.insts ++ more_insts
+
+-- the number of a type with that tree
+abbrev pub IsTypeOf : Module → LLVMType → L.TypeTree → Type 0
+IsTypeOf m t tree = (t.0 < length m.types) × (L.type_at (trees_of m).types t ≡ tree)
+
+-- numbers of types with those trees, one by one
+abbrev pub AreTypesOf : Module → List LLVMType → List L.TypeTree → Type 0
+AreTypesOf m ts trees = All (λ (t : LLVMType). t.0 < length m.types) ts × (map (L.type_at (trees_of m).types) ts ≡ trees)
+
+-- a value of a type with that tree
+abbrev pub HasType : Module → LLVMValue → L.TypeTree → Type 0
+HasType m v tree = (t : LLVMType) × (value_type m v ≡ Some t) × (L.type_at (trees_of m).types t ≡ tree)
+
+-- the type of a function of the form
+abbrev pub IsFormType : TypeTree → Type 0
+IsFormType tree = (result : TypeTree) × (params : TypeTrees) × (tree ≡ FuncType result params false) × IsShortResult result × All IsShortInt (types_list params)

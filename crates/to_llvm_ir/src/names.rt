@@ -1,0 +1,40 @@
+//! The names that blocks and results get.
+
+ghost use Rattle.std.specs.Prelude.{◌≡◌, ◌<◌, ◌^◌, IfOk, IfSome, string_bytes};
+ghost use Rattle.std.specs.Option.{option_copied};
+ghost use Rattle.llvm_core.specs.Names.{IsPlainOrNone};
+ghost use Rattle.dialect_types.specs.Names.{IsPlainName};
+ghost use Rattle.to_llvm_ir.specs.Exported.{block_name, value_name};
+
+use dialect_types::identifier::Identifier;
+use std::alloc::{AllocError, Global};
+
+/// The name of the block at a place, by its label where it has one.
+pub fn block_name(
+    alloc: Global,
+    label: Option<&Identifier>,
+    place: u32,
+) -> Result<String, AllocError>
+    ensures name { IfOk result (λ name. string_bytes name ≡ block_name (option_copied label.entry) place) }
+    ensures plain { IfOk result (λ name. IfSome (option_copied label.entry) IsPlainName → IsPlainOrNone (string_bytes name)) }
+{
+    match label {
+        Some(label) => format!(in alloc; "{}_block{place}", label.as_str()),
+        None => format!(in alloc; "block{place}"),
+    }
+}
+
+/// The name of the result of a number, by its given name where it has one.
+pub fn value_name(
+    alloc: Global,
+    given: Option<&Identifier>,
+    number: u64,
+) -> Result<String, AllocError>
+    ensures name { IfOk result (λ name. string_bytes name ≡ value_name (option_copied given.entry) number) }
+    ensures plain { IfOk result (λ name. IfSome (option_copied given.entry) IsPlainName → IsPlainOrNone (string_bytes name)) }
+{
+    match given {
+        Some(given) => format!(in alloc; "{}_v{number}", given.as_str()),
+        None => format!(in alloc; "v{number}"),
+    }
+}

@@ -1,0 +1,96 @@
+//! Types of the dialect, turned into types of LLVM by number.
+
+ghost use Rattle.std.specs.Prelude.{◌≡◌, ◌<◌, ℕ, List, false, All, length, map, IfOk, OnOk};
+ghost use Rattle.llvm_core.specs.Parts.{IsFunctionType};
+ghost use Rattle.llvm_core.specs.Data as lists;
+ghost use Rattle.llvm_core.specs.Sound.{IsModule};
+ghost use Rattle.dialect_types.specs.Trees.{TypeTree, TypeTrees, FuncType, type_at, type_trees};
+ghost use Rattle.dialect_core.specs.Form.{IsShortInt, IsShortResult, types_list};
+ghost use Rattle.meaning.specs.Dialect.{type_of};
+ghost use Rattle.to_llvm_ir.specs.Growth.{Grows, IsTypeOf, AreTypesOf, IsFormType};
+
+use dialect_core::context::Context;
+use dialect_types::types::{TypeHandle, TypeKind};
+use llvm_core::items::Items;
+use llvm_core::module::LLVMModule;
+use llvm_core::numbers::LLVMType;
+use llvm_core::types::LLVMTypeKind;
+use std::alloc::{AllocError, Global};
+
+/// The type of a value, or of what a function returns.
+pub fn value_type(
+    ctx: &Context,
+    ty: TypeHandle,
+    back: &mut LLVMModule,
+) -> Result<LLVMType, AllocError>
+    requires within { ty.0 < length ctx.now.types }
+    requires short { IsShortResult (type_at (type_trees ctx.now.types) ty) }
+    ensures tree { IfOk result (λ t. IsTypeOf back.new t (type_of (type_at (type_trees ctx.now.types) ty))) }
+    ensures grows { OnOk result (Grows back.old back.new) }
+    ensures data { OnOk result (lists.data_of back.new ≡ lists.data_of back.old) }
+    ensures sound { OnOk result (IsModule back.new) }
+{
+    let kind = match ctx.types().kind(ty) {
+        TypeKind::Integer(width) => LLVMTypeKind::Int(*width),
+        _ => LLVMTypeKind::Void,
+    };
+    let number = back.type_get(kind)?;
+    Ok(number)
+}
+
+/// The types of parameters.
+fn param_types(
+    alloc: Global,
+    ctx: &Context,
+    params: &[TypeHandle],
+    back: &mut LLVMModule,
+) -> Result<Items<LLVMType>, AllocError>
+    requires within { All (λ t. t.0 < length ctx.now.types) params.now }
+    requires short { All (λ t. IsShortInt (type_at (type_trees ctx.now.types) t)) params.now }
+    requires sound { IsModule back.old }
+    ensures types { IfOk result (λ ts. AreTypesOf back.new ts (map (λ t. type_of (type_at (type_trees ctx.now.types) t)) params.now)) }
+    ensures grows { OnOk result (Grows back.old back.new) }
+    ensures data { OnOk result (lists.data_of back.new ≡ lists.data_of back.old) }
+    ensures sound { OnOk result (IsModule back.new) }
+{
+    let mut types = Items::new(alloc);
+    for param in params {
+        let ty = value_type(ctx, *param, back)?;
+        types.push(ty)?;
+    }
+    Ok(types)
+}
+
+/// The type of a function.
+pub fn function_type(
+    alloc: Global,
+    ctx: &Context,
+    ty: TypeHandle,
+    back: &mut LLVMModule,
+) -> Result<LLVMType, AllocError>
+    requires within { ty.0 < length ctx.now.types }
+    requires form { IsFormType (type_at (type_trees ctx.now.types) ty) }
+    ensures function { IfOk result (λ t. IsFunctionType back.new.types t) }
+    ensures tree { IfOk result (λ t. IsTypeOf back.new t (type_of (type_at (type_trees ctx.now.types) ty))) }
+    ensures grows { OnOk result (Grows back.old back.new) }
+    ensures data { OnOk result (lists.data_of back.new ≡ lists.data_of back.old) }
+    ensures sound { OnOk result (IsModule back.new) }
+{
+    match ctx.types().kind(ty) {
+        TypeKind::Func {
+            result,
+            params,
+            variadic,
+        } => {
+            let result = value_type(ctx, *result, back)?;
+            let params = param_types(alloc, ctx, params.as_slice(), back)?;
+            let number = back.type_get(LLVMTypeKind::Function {
+                result,
+                params,
+                variadic: *variadic,
+            })?;
+            Ok(number)
+        }
+        _ => unreachable!(),
+    }
+}
