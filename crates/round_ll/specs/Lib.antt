@@ -1,24 +1,9 @@
 -- The definitions that clauses cite.
-pub mod Building
 pub mod Commands
 pub mod Ending
-pub mod Exporting
-pub mod FirstForm
 pub mod Headline
-pub mod Importing
-pub mod Items
-pub mod Literals
-pub mod Match
 pub mod Outside
-pub mod PrinterView
-pub mod Printing
-pub mod ReaderView
-pub mod Returned
+pub mod Report
 pub mod Rounding
 pub mod Running
-pub mod Spelling
-pub mod Stages
 pub mod Stopping
-pub mod Symbols
-pub mod TokenView
-pub mod Tokens

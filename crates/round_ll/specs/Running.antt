@@ -9,7 +9,7 @@ use Rattle.round_ll.specs.declared.ended.Ended.{Ended}
 use Rattle.round_ll.specs.declared.ended.Ended.TheVariants.{Done, Refused, NoMemory}
 use Rattle.round_ll.specs.declared.ended.Fault.{Fault}
 use Rattle.round_ll.specs.declared.ended.Fault.TheVariants.{Usage, ReadFault, WriteFault, TooLong, Text}
-use Rattle.round_ll.specs.declared.text.read_err.ReadErr.TheVariants as read
+use Rattle.ll_text.specs.declared.read_err.ReadErr.TheVariants as read
 use Rattle.round_ll.specs.declared.stopped.Stopped.{Stopped}
 use Rattle.round_ll.specs.declared.stopped.Stopped.TheVariants as stop
 use Rattle.round_ll.specs.declared.transferred.Transferred.{Transferred}
@@ -26,13 +26,13 @@ pub record Made (before after : Told) (t : Transferred) (text : List ℕ) : Type
   pub read : GaveAll before.bytes after.bytes input
   pub rounds : Rounds input t text
 
--- ... and the whole text was written
+-- the modules were made, and the whole text was written
 pub record Finished (source source' out out' : Told) (t : Transferred) : Type 0 where
   pub text : List ℕ
   pub made : Made source source' t text
   pub written : out'.bytes ≡ append_known out.bytes text
 
--- ... or a fault of the sink left a front of it there
+-- the modules were made, and a fault of the sink left a front of the text there
 pub record CutShort (source source' out out' : Told) : Type 0 where
   pub modules : Transferred
   pub text : List ℕ

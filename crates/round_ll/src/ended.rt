@@ -3,8 +3,8 @@
 ghost use Rattle.std.specs.Prelude.{◌≡◌};
 ghost use Rattle.round_ll.specs.Ending.{line_of, status_of};
 
-use crate::text::read_err::ReadErr;
 use crate::transferred::Transferred;
+use ll_text::read_err::ReadErr;
 use thiserror::Error;
 
 /// Why the program refused.
@@ -32,7 +32,7 @@ pub enum Fault {
 pub enum Ended {
     /// All was done; the dialect module and the module back are these.
     Done(Box<Transferred>),
-    /// Nothing was done, for this reason.
+    /// Refused, for this reason; only a write fault may leave a part of the output.
     Refused(Fault),
     /// Memory was wanting.
     NoMemory,
@@ -54,7 +54,7 @@ impl Ended {
         }
     }
 
-    /// The line for the standard error, without its end; none where all was done.
+    /// The line for the standard error, with its end; empty where all was done.
     pub fn line(&self) -> &'static str
         ensures { result.now ≡ line_of self.now }
     {

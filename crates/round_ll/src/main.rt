@@ -3,18 +3,13 @@
 
 mod command;
 mod ended;
-mod export;
-mod import;
-mod matching;
 mod outside;
 mod report;
-mod returned;
 mod rounding;
 mod run;
 mod stopped;
 #[cfg(test)]
 mod tests;
-mod text;
 mod transferred;
 
 use crate::outside::{StdSink, StdSource};

@@ -2,10 +2,10 @@
 
 ghost use Rattle.std.specs.Prelude.{◌≡◌, ◌<◌, ◌++◌, OnOk, length};
 ghost use Rattle.llvm_core.specs.Data.{data_of};
-ghost use Rattle.round_ll.specs.Match.{places_text, blocks_line, report_text, AllNamed};
+ghost use Rattle.round_ll.specs.Report.{places_text, blocks_line, report_text, AllNamed};
 
-use crate::matching::FunctionBlocks;
 use dialect_types::printing::print_number;
+use from_llvm_ir::matching::FunctionBlocks;
 use llvm_core::module::LLVMModule;
 use std::alloc::AllocError;
 

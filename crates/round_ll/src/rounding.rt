@@ -3,21 +3,21 @@
 ghost use Rattle.std.specs.Prelude.{◌≡◌, ◌<◌, ◌++◌, IfOk, OnOk, length};
 ghost use Rattle.llvm_core.specs.Sound.{IsModule};
 ghost use Rattle.llvm_core.specs.Checked.{IsChecked};
-ghost use Rattle.llvm_core.specs.Data.{data_of};
-ghost use Rattle.round_ll.specs.Spelling.{is_plain};
-ghost use Rattle.round_ll.specs.Items.{HoldsItems};
+ghost use Rattle.llvm_core.specs.Data.{data_of, AreApart};
+ghost use Rattle.llvm_core.specs.Names.{IsPlainOrNone};
+ghost use Rattle.llvm_core.specs.Form.{IsForm};
 ghost use Rattle.round_ll.specs.Headline.{IsOutput, Rounds, SameThroughout};
 ghost use Rattle.round_ll.specs.Rounding.{IsPrintable};
 
-use crate::export::export_module;
-use crate::import::{Imported, import_module};
 use crate::report::print_report;
-use crate::text::printer::print_ll;
-use crate::text::read::read_ll;
-use crate::text::read_err::ReadErr;
 use crate::transferred::Transferred;
+use from_llvm_ir::importing::{Imported, import_module};
+use ll_print::printer::print_ll;
+use ll_text::read::read_ll;
+use ll_text::read_err::ReadErr;
 use llvm_core::module::LLVMModule;
 use std::alloc::{AllocError, Global};
+use to_llvm_ir::exporting::export_module;
 
 /// The modules, and the whole output.
 #[derive(Drop)]
@@ -26,16 +26,18 @@ pub struct Output {
     pub text: Vec<u8>,
 }
 
-/// The numbers of a module name what is there: its type keeps that.
+/// The numbers of a module name what is there, and equal types have equal numbers: its type keeps that.
 fn know_sound(m: &LLVMModule)
-    ensures { IsModule m.now }
+    ensures sound { IsModule m.now }
+    ensures apart { AreApart m.now }
 {
-    let _ = m.functions();
+    let _ = m.types();
 }
 
 /// The dialect module of a module of the form, the module back, and the match of blocks.
 fn transfer(alloc: Global, source: &LLVMModule) -> Result<Transferred, AllocError>
-    requires items { HoldsItems is_plain (data_of source.now) }
+    requires form { IsForm (data_of source.now) }
+    requires name { IsPlainOrNone source.now.name }
     requires checked { IsChecked source.now }
     ensures same { IfOk result (λ t. SameThroughout (data_of source.now) t) }
     ensures back { IfOk result (λ t. IsChecked t.back) }

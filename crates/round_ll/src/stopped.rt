@@ -6,7 +6,7 @@ ghost use Rattle.round_ll.specs.Stopping.{stop_of_read, stop_of_text};
 
 use crate::ended::Fault;
 use crate::outside::ReadAllError;
-use crate::text::read_err::ReadErr;
+use ll_text::read_err::ReadErr;
 use std::alloc::AllocError;
 
 /// Why the program stops before it writes.

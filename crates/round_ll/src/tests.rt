@@ -1,5 +1,9 @@
 //! What the program prints and how it ends, text by text.
 
+mod rows;
+
+use self::rows::{constants, files, hoisted, labels, parameters, sums};
+use crate::ended::Ended;
 use crate::outside::{MemorySink, MemorySource};
 use crate::run::run;
 use std::alloc::{AllocError, Global};
@@ -37,12 +41,6 @@ fn answer_to(alloc: Global, words: &[&str], text: &[u8]) -> Result<Answer, Alloc
     })
 }
 
-/// A text, and all that is printed of it.
-struct Row {
-    text: &'static str,
-    out: &'static str,
-}
-
 const EMPTY_OUT: &str = "builtin.module @_ {
 }
 ;; llvm
@@ -55,130 +53,95 @@ const ANSWER: &str = "define i32 @f() {
 }
 ";
 
-const ANSWER_OUT: &str = "builtin.module @_ {
-  llvm.func @f : llvm.func <builtin.integer i32 () variadic = false> {linkage = ExternalLinkage} {
-  ^0:entry():
-    %0 = llvm.constant() {value = builtin.integer <7: i32>} : builtin.integer i32
-    llvm.return(%0)
-  }
-}
-;; llvm
-source_filename = \"_\"
-
-define i32 @f() {
-entry_block0:
-  ret i32 7
-}
-;; report
-blocks @f 0
-";
-
-const NUMBERS: &str = "; integers of several widths
-source_filename = \"numbers\"
-define i64 @largest() { ret i64 9223372036854775807 }
-define i64 @minus_one() { start: ret i64 -1 }
-define i1 @yes() { 5: ret i1 true }
-define i8 @least() { ret i8 -0128 } ; the end";
-
-const NUMBERS_OUT: &str = "builtin.module @numbers {
-  llvm.func @largest : llvm.func <builtin.integer i64 () variadic = false> {linkage = ExternalLinkage} {
-  ^0:entry():
-    %0 = llvm.constant() {value = builtin.integer <9223372036854775807: i64>} : builtin.integer i64
-    llvm.return(%0)
-  }
-  llvm.func @minus_one : llvm.func <builtin.integer i64 () variadic = false> {linkage = ExternalLinkage} {
-  ^0:entry():
-    %0 = llvm.constant() {value = builtin.integer <18446744073709551615: i64>} : builtin.integer i64
-    llvm.return(%0)
-  }
-  llvm.func @yes : llvm.func <builtin.integer i1 () variadic = false> {linkage = ExternalLinkage} {
-  ^0:entry():
-    %0 = llvm.constant() {value = builtin.integer <1: i1>} : builtin.integer i1
-    llvm.return(%0)
-  }
-  llvm.func @least : llvm.func <builtin.integer i8 () variadic = false> {linkage = ExternalLinkage} {
-  ^0:entry():
-    %0 = llvm.constant() {value = builtin.integer <128: i8>} : builtin.integer i8
-    llvm.return(%0)
-  }
-}
-;; llvm
-source_filename = \"numbers\"
-
-define i64 @largest() {
-entry_block0:
-  ret i64 9223372036854775807
-}
-
-define i64 @minus_one() {
-entry_block0:
-  ret i64 -1
-}
-
-define i1 @yes() {
-entry_block0:
-  ret i1 true
-}
-
-define i8 @least() {
-entry_block0:
-  ret i8 -128
-}
-;; report
-blocks @largest 0
-blocks @minus_one 0
-blocks @yes 0
-blocks @least 0
-";
-
-const ROWS: [Row; 3] = [
-    Row {
-        text: "",
-        out: EMPTY_OUT,
-    },
-    Row {
-        text: ANSWER,
-        out: ANSWER_OUT,
-    },
-    Row {
-        text: NUMBERS,
-        out: NUMBERS_OUT,
-    },
-];
-
 #[test]
 fn texts_of_the_form_go_round(rt: HostRuntime) -> Result<(), Fail> {
-    for row in &ROWS {
-        let answer = answer_to(rt.alloc(), &["round"], row.text.as_bytes())?;
-        assert_eq!(rt; answer.status, 0);
-        assert_eq!(rt; answer.out.as_slice(), row.out.as_bytes());
-        assert_eq!(rt; answer.err.len(), 0);
+    for rows in [
+        constants(),
+        parameters(),
+        sums(),
+        hoisted(),
+        labels(),
+        files(),
+    ] {
+        for row in rows {
+            let answer = answer_to(rt.alloc(), &["round"], row.text.as_bytes())?;
+            assert_eq!(rt; answer.status, 0, "{}", row.text);
+            assert_eq!(rt; answer.out.as_slice(), row.out.as_bytes(), "{}", row.text);
+            assert_eq!(rt; answer.err.len(), 0);
+        }
     }
     Ok(())
 }
 
-const OUTSIDE: [&str; 22] = [
+/// Texts outside the form, one or more for each rule.
+const OUTSIDE: [&str; 68] = [
     "define",
     "define i32 @f() {",
     "define i32 @f() { }",
     "define i32 @f() { ret i32 }",
     "define i32 @f() { ret i64 7 }",
+    "define i32 @f() { ret void }",
+    "define void @f() { ret i32 7 }",
     "define i32 @f() { ret i32 7 ret i32 8 }",
+    "define i32 @f() { %x = add i32 1, 2 }",
+    "define i32 @f() { ret i32 7 %x = add i32 1, 2 }",
     "define i32 @f() { ret i32 7.0 }",
     "define i32 @f() { ret i32 \"7\" }",
     "define i32 @f() { ret i32 true }",
     "define i8 @f() { ret i8 256 }",
     "define i8 @f() { ret i8 -129 }",
+    "define i8 @f(i8 %a) { %x = add i8 %a, 256 ret i8 %x }",
     "define i1 @f() { ret i1 2 }",
     "define i0 @f() { ret i0 0 }",
     "define i65 @f() { ret i65 1 }",
-    "define i32 @f(i32 %a) { ret i32 7 }",
+    "define i32 @f(i65 %a) { ret i32 1 }",
+    "define i32 @f(void %a) { ret i32 1 }",
+    "define i32 @f(i32 %a,) { ret i32 1 }",
+    "define i32 @f(i32 %a i32 %b) { ret i32 1 }",
+    "define i32 @f(i32 %a, i32 %a) { ret i32 1 }",
+    "define i32 @f(i32 %a) { a: ret i32 1 }",
+    "define i32 @f(i32 %a) { %a = add i32 %a, 1 ret i32 %a }",
+    "define i32 @f(i32 %a) { %x = add i32 %a, 1 %x = add i32 %a, 2 ret i32 %x }",
+    "define i32 @f() { ret i32 %x }",
+    "define i32 @f() { %x = add i32 %y, 1 %y = add i32 %x, 1 ret i32 %y }",
+    "define i32 @f() { %x = add i32 %x, 1 ret i32 %x }",
+    "define i32 @f() { %0 = add i32 1, 2 ret i32 %0 }",
+    "define i32 @f(i32, i32 %0) { ret i32 %0 }",
+    "define i32 @f() { 5: %5 = add i32 1, 2 ret i32 %5 }",
+    "define i32 @f() { %4294967295 = add i32 1, 2 ret i32 1 }",
+    "define i32 @f(i32 %a) { b: ret i32 %b }",
+    "define i32 @f(i64 %a) { ret i32 %a }",
+    "define i32 @f(i64 %a) { %x = add i64 %a, 1 ret i32 %x }",
+    "define i32 @f(i64 %a) { %x = add i32 %a, 1 ret i32 %x }",
+    "define i32 @f(i32 %a) { %x = add void %a, 1 ret i32 %a }",
+    "define i32 @f(i32 %a) { %x = add nsw nuw i32 %a, 1 ret i32 %x }",
+    "define i32 @f(i32 %a) { %x = add nuw nuw i32 %a, 1 ret i32 %x }",
+    "define i32 @f(i32 %a) { %x = add i32 %a 1 ret i32 %x }",
+    "define i32 @f(i32 %a) { %x = ret i32 %a }",
+    "define i32 @f(i32 %a) { %x add i32 %a, 1 ret i32 %x }",
+    "define i32 @f(i32 %a.b) { ret i32 1 }",
+    "define i32 @f(i32 %_a) { ret i32 1 }",
+    "define i32 @f(i32 %\"a\") { ret i32 1 }",
     "define i32 @a.b() { ret i32 7 }",
     "define i32 @\"f\"() { ret i32 7 }",
     "define i32 @7() { ret i32 7 }",
     "define i32 @f() { 4294967295: ret i32 7 }",
     "define i32 @f() { ret i32 7 } define i32 @f() { ret i32 8 }",
+    "define i32 @f(i32 %a) { ret i32 @f }",
     "source_filename = \"a\" source_filename = \"b\"",
+    "source_filename = \"_\"",
+    "define i32 @f() { ret i32 %0 }",
+    "define i32 @f(i32 %a) { ret i32 %a } define i32 @g() { ret i32 %a }",
+    "define i32 @f() { 4294967294: add i32 1, 2 ret i32 1 }",
+    "define i32 @f() { a.b: ret i32 7 }",
+    "define i32 @f() { a: b: ret i32 7 }",
+    "define i32 @f() { ret i32 0x1 }",
+    "define i32 @f() { ret i32 --1 }",
+    "define internal i32 @f() { ret i32 7 }",
+    "declare i32 @f()",
+    "source_filename = \"\"",
+    "source_filename = \"a b\"",
+    "define i32 @f() { ret i32 7 } source_filename = \"a\"",
     "define i32 @f() { ret i32 7 } ret",
 ];
 
@@ -245,5 +208,35 @@ fn faults_of_the_objects_have_their_statuses(rt: HostRuntime) -> Result<(), Fail
     let ended = run(alloc, words.as_slice(), &mut source, &mut out, &mut err);
     assert_eq!(rt; ended.status(), 4);
     assert_eq!(rt; out.bytes(), b"builtin.module @_ {\n".as_slice());
+    Ok(())
+}
+
+/// How many functions share their types and their constant.
+const MANY: u32 = 1000;
+
+#[test]
+fn many_functions_share_types_and_constants(rt: HostRuntime) -> Result<(), Fail> {
+    let alloc = rt.alloc();
+    let mut text = String::new(alloc);
+    for k in 0..MANY {
+        let function = format!(in alloc;
+            "define i32 @f{k}(i32 %a) {{ %x = add i32 %a, 7 ret i32 %x }}\n"
+        )?;
+        text.push_str(function.as_str())?;
+    }
+    let words = words_of(alloc, &["round"])?;
+    let mut source = MemorySource::new(alloc, text.as_bytes(), 1 << 20, &[])?;
+    let mut out = MemorySink::new(alloc, 1 << 20, 1 << 20, &[])?;
+    let mut err = MemorySink::new(alloc, 1 << 10, 1 << 10, &[])?;
+    match run(alloc, words.as_slice(), &mut source, &mut out, &mut err) {
+        Ended::Done(t) => {
+            assert_eq!(rt; t.back.functions(), MANY);
+            // The integer, the type of the functions, and void for what their returns give.
+            assert_eq!(rt; t.back.types(), 3);
+        }
+        _ => assert!(rt; false),
+    }
+    let last = "\nblocks @f999 0\n";
+    assert!(rt; out.bytes().ends_with(last.as_bytes()));
     Ok(())
 }

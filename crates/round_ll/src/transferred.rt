@@ -1,9 +1,9 @@
 //! What a translation of a module hands out.
 
-use crate::matching::FunctionBlocks;
 use dialect_core::context::Context;
 use dialect_core::numbers::ModuleOp;
 use dialect_types::items::Items;
+use from_llvm_ir::matching::FunctionBlocks;
 use llvm_core::module::LLVMModule;
 
 /// A dialect module in its context, the module of LLVM that was made of it, and the match of blocks.

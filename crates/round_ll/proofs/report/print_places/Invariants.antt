@@ -1,5 +1,5 @@
 use Rattle.std.proofs.Common.{◌≡◌, ◌++◌, take}
-use Rattle.round_ll.specs.Match.{places_text}
+use Rattle.round_ll.specs.Report.{places_text}
 use Rattle.round_ll.proofs.report.print_places.Given as goal
 
 abbrev pub invariant-loop-place : goal.invariant-loop-place

@@ -1,6 +1,6 @@
 use Rattle.std.proofs.Common.{◌≡◌, ◌++◌, take}
 use Rattle.llvm_core.specs.Data.{data_of}
-use Rattle.round_ll.specs.Match.{report_text}
+use Rattle.round_ll.specs.Report.{report_text}
 use Rattle.round_ll.proofs.report.print_report.Given as goal
 
 abbrev pub invariant-loop-x : goal.invariant-loop-x

@@ -1,4 +1,0 @@
-use Rattle.round_ll.proofs.import.import_module.Given as goal
-
-abbrev pub ghosts-import_counted : goal.ghosts-import_counted
-ghosts-import_counted a = record { name = a.blank.name; parts = a.blank.parts }

@@ -1,8 +1,0 @@
--- A block prints its label and its lines.
-use Rattle.round_ll.proofs.PrinterLaws.{put_is, put_two, lines_of-block}
-use Rattle.round_ll.proofs.text.printer.put_block.Goals as goal
-
-pub returns : goal.returns
-returns c =
-    put_is _ _ _ _ (put_two _ _ _ _ _ c.in_ok-put_label.ensures c.in_ok-put_lines.ensures)
-    (lines_of-block c.args.m.now c.args.b c.block_name.result.now c.instructions.result.now c.block_name.ensures c.instructions.ensures.insts)

@@ -1,9 +1,0 @@
--- The functions so far have been printed.
-use Rattle.std.proofs.Common.{◌≡◌, ◌++◌, take}
-use Rattle.std.specs.List.{flat_map}
-use Rattle.llvm_core.specs.Data.{data_of}
-use Rattle.round_ll.specs.Printing.{source_text, function_text}
-use Rattle.round_ll.proofs.text.printer.text_of.Given as goal
-
-abbrev pub invariant-loop-f : goal.invariant-loop-f
-invariant-loop-f l = l.out.items ≡ source_text l.m.name ++ flat_map function_text (take l.f (data_of l.m).functions)

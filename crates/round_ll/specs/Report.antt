@@ -1,0 +1,27 @@
+-- The lines of the report that show the match of blocks.
+use Rattle.std.specs.Prelude.{ℕ, ◌<◌, List, [], ◌∷◌, ◌++◌, slice_get, codes, All}
+use Rattle.std.specs.List.{flat_map}
+use Rattle.std.specs.Option.{option_map_or}
+use Rattle.std.specs.Fmt.{decimal}
+use Rattle.llvm_core.specs.Data.{Function, ModuleData}
+use Rattle.from_llvm_ir.specs.declared.matching.FunctionBlocks.{FunctionBlocks}
+
+-- the name of the function of that number
+abbrev pub name_of : ModuleData → ℕ → List ℕ
+name_of d k = option_map_or (λ (f : Function). f.name) (slice_get d.functions k) []
+
+-- each place behind a blank
+abbrev pub places_text : List ℕ → List ℕ
+places_text ps = flat_map (λ (p : ℕ). codes " " ++ decimal p) ps
+
+-- blocks @f and the dialect place of each source block
+abbrev pub blocks_line : ModuleData → FunctionBlocks → List ℕ
+blocks_line d x = codes "blocks @" ++ name_of d x.function.0 ++ places_text x.places ++ 10 ∷ []
+
+-- each entry names one of n functions
+abbrev pub AllNamed : ℕ → List FunctionBlocks → Type 0
+AllNamed n bs = All (λ (x : FunctionBlocks). x.function.0 < n) bs
+
+-- the report: a line for each function with a body
+abbrev pub report_text : ModuleData → List FunctionBlocks → List ℕ
+report_text d bs = flat_map (blocks_line d) bs
