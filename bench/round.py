@@ -1,8 +1,9 @@
 #!/usr/bin/env python3
 """Seconds, MB/s and peak memory of `round_ll round` on texts of 1, 4 and 16 MiB.
 
+Two kinds of text: functions that each return an integer, and functions of a hundred adds each.
 Beside each stands `opt -S -passes=verify` of an installed LLVM, where there is one.
-The last line says how the time per byte at 16 MiB stands to that at 1 MiB.
+A last line for each kind says how the time per byte at 16 MiB stands to that at 1 MiB.
 """
 import os
 import pathlib
@@ -17,11 +18,26 @@ ROOT = pathlib.Path(__file__).resolve().parent.parent
 MIB = 1 << 20
 
 
-def text_of(size):
-    """Functions that each return an integer, with less than one function's bytes to spare."""
+def answer(number):
+    """A function that returns an integer."""
+    return f"define i32 @f{number}() {{\nentry:\n  ret i32 {number % 100000}\n}}\n\n"
+
+
+def sums(number):
+    """A function of a hundred adds, of locals with a name, with a number and of constants."""
+    lines = [f"define i32 @f{number}(i32 %a, i32 %b) {{", "entry:", "  %0 = add i32 %a, %b"]
+    for k in range(1, 50):
+        lines.append(f"  %x{k} = add nsw i32 %{k - 1}, {k % 7}")
+        lines.append(f"  %{k} = add i32 %x{k}, %a")
+    lines += ["  %last = add i32 %49, %b", "  ret i32 %last", "}", "", ""]
+    return "\n".join(lines)
+
+
+def text_of(item_of, size):
+    """Functions, with less than one function's bytes to spare."""
     lines, length, number = [], 0, 0
     while True:
-        item = f"define i32 @f{number}() {{\nentry:\n  ret i32 {number % 100000}\n}}\n\n"
+        item = item_of(number)
         if length + len(item) > size:
             return "".join(lines)
         lines.append(item)
@@ -46,12 +62,19 @@ def main():
     subprocess.run(program, stdin=subprocess.DEVNULL, stdout=subprocess.DEVNULL, check=True)
     built = [str(ROOT / "crates/round_ll/out/round_ll"), "round"]
     opt = next(filter(None, map(shutil.which, ["opt-19", "opt"])), None)
+    for item_of in (answer, sums):
+        print(item_of.__doc__)
+        compare(built, opt, item_of)
+
+
+def compare(built, opt, item_of):
+    """Prints a line for each size of texts of these functions, and how the time grows."""
     per_byte = {}
     with tempfile.TemporaryDirectory() as folder:
         for size in (1, 4, 16):
             path = os.path.join(folder, f"{size}.ll")
             with open(path, "w") as out:
-                length = out.write(text_of(size * MIB))
+                length = out.write(text_of(item_of, size * MIB))
             seconds, peak = min(measure(built, path) for _ in range(3))
             per_byte[size] = seconds / length
             line = f"{size:3} MiB  round_ll {seconds:7.3f} s {length / MIB / seconds:8.1f} MB/s {peak:8.1f} MiB"
