@@ -2,7 +2,12 @@
 
 mod rows;
 
-use self::rows::{constants, files, hoisted, labels, parameters, sums};
+use self::rows::constants::constants;
+use self::rows::files::files;
+use self::rows::hoisted::hoisted;
+use self::rows::labels::labels;
+use self::rows::parameters::parameters;
+use self::rows::sums::sums;
 use crate::ended::Ended;
 use crate::outside::{MemorySink, MemorySource};
 use crate::run::run;
