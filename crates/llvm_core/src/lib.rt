@@ -13,7 +13,5 @@ pub mod module;
 pub mod name_set;
 pub mod names;
 pub mod numbers;
-#[cfg(test)]
-mod tests;
 pub mod text;
 pub mod types;

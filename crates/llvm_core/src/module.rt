@@ -376,7 +376,7 @@ impl LLVMModule {
     }
 
     /// The type of an instruction's result, where its operands fit and it is not void.
-    pub(crate) fn result_type(&self, inst: &LLVMInst) -> Option<LLVMType>
+    pub fn result_type(&self, inst: &LLVMInst) -> Option<LLVMType>
         requires { HasValues self.now inst.now }
         ensures within { IfSome result (λ t. t.0 < length self.now.types) }
         ensures ty { result ≡ result_type self.now inst.now }

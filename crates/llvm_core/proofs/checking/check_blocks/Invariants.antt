@@ -1,4 +1,4 @@
--- What the loops of `checking::check_blocks` keep.
+-- What the loop of `checking::check_blocks` keeps.
 use Rattle.std.proofs.Common.{◌<◌, ℕ}
 use Rattle.llvm_core.specs.Checked.{IsCheckedBlock}
 use Rattle.llvm_core.proofs.checking.check_blocks.Given as goal

@@ -1,4 +1,4 @@
--- What the loops of `checking::check_function_names` keep.
+-- What the loop of `checking::check_function_names` keeps.
 use Rattle.std.proofs.Common.{◌≡◌, ◌<◌, ℕ}
 use Rattle.llvm_core.specs.Checked.{IsFreshName, names_before}
 use Rattle.llvm_core.proofs.checking.check_function_names.Given as goal

@@ -1,4 +1,4 @@
--- What the loops of `checking::check_functions` keep.
+-- What the loop of `checking::check_functions` keeps.
 use Rattle.std.proofs.Common.{◌<◌, ℕ}
 use Rattle.llvm_core.specs.Checked.{IsCheckedFunction}
 use Rattle.llvm_core.proofs.checking.check_functions.Given as goal

@@ -1,4 +1,4 @@
--- What the loops of `checking::check_insts` keep.
+-- What the loop of `checking::check_insts` keeps.
 use Rattle.std.proofs.Common.{◌<◌, ℕ}
 use Rattle.llvm_core.specs.Checked.{IsCheckedInst}
 use Rattle.llvm_core.proofs.checking.check_insts.Given as goal

@@ -1,4 +1,4 @@
--- What the loops of `checking::has_terminator` keep.
+-- What the loop of `checking::has_terminator` keeps.
 use Rattle.std.proofs.Common.{◌≡◌, take, false}
 use Rattle.std.specs.List.{list_any}
 use Rattle.llvm_core.specs.Checked.{is_terminator_at}

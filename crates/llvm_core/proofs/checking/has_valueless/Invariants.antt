@@ -1,4 +1,4 @@
--- What the loops of `checking::has_valueless` keep.
+-- What the loop of `checking::has_valueless` keeps.
 use Rattle.std.proofs.Common.{◌≡◌, take, false}
 use Rattle.std.specs.List.{list_any}
 use Rattle.llvm_core.specs.Parts.{is_kind}

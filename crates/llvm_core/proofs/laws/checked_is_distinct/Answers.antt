@@ -1,3 +1,4 @@
+-- What `laws::checked_is_distinct` owes besides what the check finds.
 use Rattle.llvm_core.proofs.DistinctLaws.{distinct_of_checked, few_of_checked}
 use Rattle.llvm_core.proofs.laws.checked_is_distinct.Goals as goal
 

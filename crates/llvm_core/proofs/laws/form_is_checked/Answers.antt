@@ -1,3 +1,4 @@
+-- What `laws::form_is_checked` owes besides what the check finds.
 use Rattle.llvm_core.proofs.FormLaws.{checked_of_form}
 use Rattle.llvm_core.proofs.HomeLaws.{stay_home}
 use Rattle.llvm_core.proofs.laws.form_is_checked.Goals as goal

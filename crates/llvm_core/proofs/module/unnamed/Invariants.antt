@@ -1,4 +1,4 @@
--- What the loops of `module::unnamed` keep.
+-- What the loop of `module::unnamed` keeps.
 use Rattle.std.proofs.Common.{◌≡◌, [], map, take}
 use Rattle.llvm_core.proofs.module.unnamed.Given as goal
 

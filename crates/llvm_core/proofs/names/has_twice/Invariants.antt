@@ -1,4 +1,4 @@
--- What the loops of `names::has_twice` keep.
+-- What the loop of `names::has_twice` keeps.
 use Rattle.std.proofs.Common.{◌≡◌, take}
 use Rattle.llvm_core.specs.Names.{HasTwice}
 use Rattle.llvm_core.proofs.names.has_twice.Given as goal

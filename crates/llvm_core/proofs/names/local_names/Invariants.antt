@@ -1,4 +1,4 @@
--- What the loops of `names::local_names` keep.
+-- What the loop of `names::local_names` keeps.
 use Rattle.std.proofs.Common.{◌≡◌, ◌++◌, take}
 use Rattle.std.specs.List.{flat_map}
 use Rattle.llvm_core.specs.Checked.{named, block_names}

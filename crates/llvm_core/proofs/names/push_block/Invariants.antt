@@ -1,4 +1,4 @@
--- What the loops of `names::push_block` keep.
+-- What the loop of `names::push_block` keeps.
 use Rattle.std.proofs.Common.{◌≡◌, ◌++◌, take}
 use Rattle.std.specs.List.{flat_map}
 use Rattle.llvm_core.specs.Checked.{inst_names}
