@@ -12,5 +12,3 @@ pub mod ops;
 pub mod overflow;
 mod printing;
 pub mod steps;
-#[cfg(test)]
-mod tests;

@@ -57,7 +57,7 @@ fn print_argument(
     let number = place_of(place)?;
     print_value(numbers, Value::Argument(block, number), out)?;
     out.extend_from_slice(b": ")?;
-    types.print_type(ty, out)?;
+    types.append_type(ty, out)?;
     Ok(())
 }
 
@@ -206,7 +206,7 @@ fn print_func_head(
     out.extend_from_slice(b"  llvm.func @")?;
     out.extend_from_slice(name.as_bytes())?;
     out.extend_from_slice(b" : ")?;
-    types.print_type(ty, out)?;
+    types.append_type(ty, out)?;
     out.extend_from_slice(b" {linkage = ")?;
     out.extend_from_slice(linkage_word(linkage).as_bytes())?;
     out.extend_from_slice(b"}")?;

@@ -169,7 +169,7 @@ fn print_constant_immediates(
     ensures kept { Keeps out.old.items out.new.items }
 {
     out.extend_from_slice(b" {value = ")?;
-    value.print(types, out)?;
+    value.append(types, out)?;
     out.extend_from_slice(b"}")?;
     Ok(())
 }
@@ -203,7 +203,7 @@ fn print_result_type(
     match ty {
         Some(ty) => {
             out.extend_from_slice(b" : ")?;
-            types.print_type(ty, out)?;
+            types.append_type(ty, out)?;
             Ok(())
         }
         None => Ok(()),

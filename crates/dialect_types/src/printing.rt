@@ -1,6 +1,6 @@
 //! The dialect text of types and constants.
 
-ghost use Rattle.std.specs.Prelude.{◌≡◌, ◌<◌, ◌++◌, length, OnOk};
+ghost use Rattle.std.specs.Prelude.{◌≡◌, ◌<◌, ◌++◌, length, take, OnErr, OnOk};
 ghost use Rattle.std.specs.Fmt.{decimal};
 ghost use Rattle.dialect_types.specs.Trees.{type_at, type_trees, attr_tree, HasTypesBelow, IntegerAttr};
 ghost use Rattle.dialect_types.specs.Text.{Keeps, comma_before, inner_type_text, type_text, attr_text, truth_text};
@@ -43,9 +43,36 @@ pub fn print_truth(truth: bool, out: &mut Vec<u8>) -> Result<(), AllocError>
     }
 }
 
+/// Takes back what was appended behind the first `len` bytes, where the printing failed.
+pub fn undo_failed(
+    printed: Result<(), AllocError>,
+    out: &mut Vec<u8>,
+    len: usize,
+) -> Result<(), AllocError>
+    ensures same { result ≡ printed }
+    ensures ok { OnOk printed (out.new.items ≡ out.old.items) }
+    ensures err { OnErr printed (out.new.items ≡ take len out.old.items) }
+{
+    if printed.is_err() {
+        out.truncate(len);
+    }
+    printed
+}
+
 impl TypeStore {
-    /// Appends the text of a type.
+    /// Appends the text of a type. Want of memory leaves `out` as it was.
     pub fn print_type(&self, ty: TypeHandle, out: &mut Vec<u8>) -> Result<(), AllocError>
+        requires { ty.0 < length self.now }
+        ensures ok { OnOk result (out.new.items ≡ out.old.items ++ type_text (type_at (type_trees self.now) ty)) }
+        ensures err { OnErr result (out.new.items ≡ out.old.items) }
+    {
+        let len = out.len();
+        let printed = self.append_type(ty, out);
+        undo_failed(printed, out, len)
+    }
+
+    /// Appends the text of a type, or a front of it where memory is wanting.
+    pub fn append_type(&self, ty: TypeHandle, out: &mut Vec<u8>) -> Result<(), AllocError>
         requires { ty.0 < length self.now }
         ensures ok { OnOk result (out.new.items ≡ out.old.items ++ type_text (type_at (type_trees self.now) ty)) }
         ensures kept { Keeps out.old.items out.new.items }
@@ -62,11 +89,11 @@ impl TypeStore {
                 variadic,
             } => {
                 out.extend_from_slice(b"llvm.func <")?;
-                self.print_type(*result, out)?;
+                self.append_type(*result, out)?;
                 out.extend_from_slice(b" (")?;
                 for (i, param) in params.as_slice().iter().enumerate() {
                     print_comma_before(i, out)?;
-                    self.print_type(*param, out)?;
+                    self.append_type(*param, out)?;
                 }
                 out.extend_from_slice(b") variadic = ")?;
                 print_truth(*variadic, out)?;
@@ -77,7 +104,7 @@ impl TypeStore {
     }
 
     /// Appends the type of an integer constant as it stands inside the constant's text.
-    fn print_inner_type(&self, ty: TypeHandle, out: &mut Vec<u8>) -> Result<(), AllocError>
+    fn append_inner_type(&self, ty: TypeHandle, out: &mut Vec<u8>) -> Result<(), AllocError>
         requires { ty.0 < length self.now }
         ensures ok { OnOk result (out.new.items ≡ out.old.items ++ inner_type_text (type_at (type_trees self.now) ty)) }
         ensures kept { Keeps out.old.items out.new.items }
@@ -87,13 +114,13 @@ impl TypeStore {
                 out.extend_from_slice(b"i")?;
                 print_number(u64::from(*width), out)
             }
-            _ => self.print_type(ty, out),
+            _ => self.append_type(ty, out),
         }
     }
 }
 
 /// Appends the text of an integer constant.
-fn print_integer(
+fn append_integer(
     types: &TypeStore,
     ty: TypeHandle,
     value: u64,
@@ -106,56 +133,31 @@ fn print_integer(
     out.extend_from_slice(b"builtin.integer <")?;
     print_number(value, out)?;
     out.extend_from_slice(b": ")?;
-    types.print_inner_type(ty, out)?;
+    types.append_inner_type(ty, out)?;
     out.extend_from_slice(b">")?;
     Ok(())
 }
 
 impl ConstAttr {
-    /// Appends the text of a constant.
+    /// Appends the text of a constant. Want of memory leaves `out` as it was.
     pub fn print(&self, types: &TypeStore, out: &mut Vec<u8>) -> Result<(), AllocError>
+        requires { HasTypesBelow (length types.now) self.now }
+        ensures ok { OnOk result (out.new.items ≡ out.old.items ++ attr_text (attr_tree (type_trees types.now) self.now)) }
+        ensures err { OnErr result (out.new.items ≡ out.old.items) }
+    {
+        let len = out.len();
+        let printed = self.append(types, out);
+        undo_failed(printed, out, len)
+    }
+
+    /// Appends the text of a constant, or a front of it where memory is wanting.
+    pub fn append(&self, types: &TypeStore, out: &mut Vec<u8>) -> Result<(), AllocError>
         requires { HasTypesBelow (length types.now) self.now }
         ensures ok { OnOk result (out.new.items ≡ out.old.items ++ attr_text (attr_tree (type_trees types.now) self.now)) }
         ensures kept { Keeps out.old.items out.new.items }
     {
         match self {
-            ConstAttr::Integer(ty, value) => print_integer(types, *ty, *value, out),
+            ConstAttr::Integer(ty, value) => append_integer(types, *ty, *value, out),
         }
-    }
-}
-
-#[cfg(test)]
-mod tests {
-    use super::*;
-    use crate::items::Items;
-    use std::test::Fail;
-
-    #[test]
-    fn prints_types_and_constants(rt: HostRuntime) -> Result<(), Fail> {
-        let alloc = rt.alloc();
-        let mut types = TypeStore::new(alloc);
-        let int = types.get(TypeKind::Integer(32))?;
-        let void = types.get(TypeKind::Void)?;
-        let mut params = Items::new(alloc);
-        params.push(int)?;
-        params.push(int)?;
-        let func = types.get(TypeKind::Func {
-            result: void,
-            params,
-            variadic: true,
-        })?;
-        let again = types.get(TypeKind::Integer(32))?;
-        assert_eq!(rt; again, int);
-
-        let mut out = Vec::new(alloc);
-        types.print_type(func, &mut out)?;
-        let expected =
-            b"llvm.func <llvm.void (builtin.integer i32, builtin.integer i32) variadic = true>";
-        assert_eq!(rt; out.as_slice(), expected.as_slice());
-
-        let mut out = Vec::new(alloc);
-        ConstAttr::Integer(int, 7).print(&types, &mut out)?;
-        assert_eq!(rt; out.as_slice(), b"builtin.integer <7: i32>".as_slice());
-        Ok(())
     }
 }

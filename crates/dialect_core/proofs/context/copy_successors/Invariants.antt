@@ -1,4 +1,4 @@
--- What the loops of `context::copy_successors` keep.
+-- What the loop of `context::copy_successors` keeps.
 use Rattle.std.proofs.Common.{◌≡◌, take}
 use Rattle.dialect_core.proofs.context.copy_successors.Given as goal
 

@@ -1,4 +1,4 @@
--- What the loops of `counting::number_arguments` keep.
+-- What the loop of `counting::number_arguments` keeps.
 use Rattle.std.proofs.Common.{take, []}
 use Rattle.dialect_core.specs.Text.{arguments_from}
 use Rattle.dialect_core.proofs.NumberLemmas.{Counts}

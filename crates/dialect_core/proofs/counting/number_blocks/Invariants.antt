@@ -1,4 +1,4 @@
--- What the loops of `counting::number_blocks` keep.
+-- What the loop of `counting::number_blocks` keeps.
 use Rattle.std.proofs.Common.{take}
 use Rattle.std.specs.List.{flat_map}
 use Rattle.dialect_core.specs.Text.{numbered_from}

@@ -1,4 +1,4 @@
--- What the loops of `counting::number_module` keep.
+-- What the loop of `counting::number_module` keeps.
 use Rattle.std.proofs.Common.{take}
 use Rattle.std.specs.List.{flat_map}
 use Rattle.dialect_core.specs.Numbering.{Numbered, values_of_func, blocks_of_func}

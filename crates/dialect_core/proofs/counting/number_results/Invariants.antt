@@ -1,4 +1,4 @@
--- What the loops of `counting::number_results` keep.
+-- What the loop of `counting::number_results` keeps.
 use Rattle.std.proofs.Common.{take, []}
 use Rattle.std.specs.List.{flat_map}
 use Rattle.dialect_core.specs.Numbering.{op_values}

@@ -1,4 +1,4 @@
--- What the loops of `module_printing::print_arguments` keep.
+-- What the loop of `module_printing::print_arguments` keeps.
 use Rattle.dialect_types.specs.Trees.{type_trees}
 use Rattle.dialect_core.specs.Numbering.{value_at, block_at}
 use Rattle.dialect_core.proofs.ArgumentPrintLemmas.{Arguments}

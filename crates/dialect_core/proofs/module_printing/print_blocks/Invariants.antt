@@ -1,4 +1,4 @@
--- What the loops of `module_printing::print_blocks` keep.
+-- What the loop of `module_printing::print_blocks` keeps.
 use Rattle.dialect_types.specs.Trees.{type_trees}
 use Rattle.dialect_core.specs.declared.numbers.BlockRef.{BlockRef}
 use Rattle.dialect_core.specs.Data.{block_in}

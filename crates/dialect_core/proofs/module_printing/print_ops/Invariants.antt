@@ -1,4 +1,4 @@
--- What the loops of `module_printing::print_ops` keep.
+-- What the loop of `module_printing::print_ops` keeps.
 use Rattle.dialect_types.specs.Trees.{type_trees}
 use Rattle.dialect_core.specs.declared.numbers.OpRef.{OpRef}
 use Rattle.dialect_core.specs.Data.{op_at}

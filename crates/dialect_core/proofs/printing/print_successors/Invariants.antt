@@ -1,4 +1,4 @@
--- What the loops of `printing::print_successors` keep.
+-- What the loop of `printing::print_successors` keeps.
 use Rattle.dialect_core.specs.Numbering.{value_at, block_at}
 use Rattle.dialect_core.specs.Text.{successor_text}
 use Rattle.dialect_core.proofs.PrintLemmas.{Joined}

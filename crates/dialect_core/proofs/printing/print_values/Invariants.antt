@@ -1,4 +1,4 @@
--- What the loops of `printing::print_values` keep.
+-- What the loop of `printing::print_values` keeps.
 use Rattle.dialect_core.specs.Numbering.{value_at, block_at}
 use Rattle.dialect_core.specs.Text.{value_text}
 use Rattle.dialect_core.proofs.PrintLemmas.{Joined}

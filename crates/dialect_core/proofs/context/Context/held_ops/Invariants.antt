@@ -1,4 +1,4 @@
--- What the loops of `context::Context::held_ops` keep.
+-- What the loop of `context::Context::held_ops` keeps.
 use Rattle.std.proofs.Common.{take}
 use Rattle.dialect_core.proofs.HeldLemmas.{Held}
 use Rattle.dialect_core.proofs.context.Context.held_ops.Given as goal
