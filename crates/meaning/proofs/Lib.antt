@@ -1,3 +1,4 @@
+-- The lemmas of the crate.
 pub mod CodeLaws
 pub mod ExampleLaws
 pub mod Naming

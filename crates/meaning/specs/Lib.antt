@@ -1,3 +1,4 @@
+-- The definitions that clauses cite.
 pub mod Terms
 pub mod Machine
 pub mod Code

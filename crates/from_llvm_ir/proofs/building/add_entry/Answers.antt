@@ -1,3 +1,4 @@
+-- What `building::add_entry` owes besides what the check finds.
 use Rattle.from_llvm_ir.proofs.BuildLaws.{added_entry, entry_holder}
 use Rattle.from_llvm_ir.proofs.building.add_entry.Goals as goal
 

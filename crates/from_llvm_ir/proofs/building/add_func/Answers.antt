@@ -1,3 +1,4 @@
+-- What `building::add_func` owes besides what the check finds.
 use Rattle.from_llvm_ir.proofs.BuildLaws.{stands_func, added_func, is_func}
 use Rattle.from_llvm_ir.proofs.building.add_func.Goals as goal
 

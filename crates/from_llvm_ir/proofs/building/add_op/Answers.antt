@@ -1,3 +1,4 @@
+-- What `building::add_op` owes besides what the check finds.
 use Rattle.dialect_core.specs.declared.ops.OpKind.TheVariants as K
 use Rattle.from_llvm_ir.specs.Building.{op_data}
 use Rattle.from_llvm_ir.proofs.OpLaws.{stands_op, stands_plain}

@@ -1,3 +1,4 @@
+-- What `building::create_named` owes besides what the check finds.
 use Rattle.std.proofs.Common.{◌≡◌, ◌∙◌, ap, Some}
 use Rattle.dialect_core.specs.ContextData.{with_op}
 use Rattle.from_llvm_ir.specs.Building.{op_data}

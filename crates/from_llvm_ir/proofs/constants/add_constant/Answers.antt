@@ -1,3 +1,4 @@
+-- What `constants::add_constant` owes besides what the check finds.
 use Rattle.std.proofs.Common.{◌∙◌, ap, Some, None, [], refl}
 use Rattle.dialect_types.specs.Trees.{IntegerAttr, type_at, type_trees}
 use Rattle.dialect_core.specs.Data.{ConstantOp}

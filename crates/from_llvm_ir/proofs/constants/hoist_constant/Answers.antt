@@ -1,3 +1,4 @@
+-- What `constants::hoist_constant` owes besides what the check finds.
 use Rattle.std.proofs.Common.{ℕ, ◌∙◌, sym, ap}
 use Rattle.dialect_core.specs.declared.ops.Value.TheVariants as V
 use Rattle.from_llvm_ir.proofs.BodyLaws.{used_again, hoisted_more}

@@ -1,3 +1,4 @@
+-- What `constants::hoist_constants` owes besides what the check finds.
 use Rattle.std.proofs.Common.{List, [], ◌++◌, take, sym, ap, subst, ◌∙◌, arith}
 use Rattle.std.specs.List.{filter_map, AllByRecursion}
 use Rattle.llvm_core.specs.Data as L

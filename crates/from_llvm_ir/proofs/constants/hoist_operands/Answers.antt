@@ -1,3 +1,4 @@
+-- What `constants::hoist_operands` owes besides what the check finds.
 use Rattle.std.proofs.Common.{List, [], ◌++◌, sym, ap, subst, ◌∙◌}
 use Rattle.std.specs.List.{filter_map}
 use Rattle.llvm_core.specs.declared.code.LLVMInst.{LLVMInst}

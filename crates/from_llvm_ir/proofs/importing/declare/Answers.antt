@@ -1,3 +1,4 @@
+-- What `importing::declare` owes besides what the check finds.
 use Rattle.std.proofs.Common.{ℕ, List, sym, subst, All, length}
 use Rattle.dialect_types.specs.Trees.{TypeTree, type_at, type_trees}
 use Rattle.dialect_core.specs.declared.ops.BlockData.{BlockData}

@@ -1,3 +1,4 @@
+-- What `importing::entry_insts` owes besides what the check finds.
 use Rattle.std.proofs.Common.{arith}
 use Rattle.std.proofs.lemmas.Option.{slice_get_within}
 use Rattle.from_llvm_ir.proofs.SourceLaws.{function_within, only_block, listed_insts}

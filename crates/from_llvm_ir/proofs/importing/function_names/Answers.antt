@@ -1,3 +1,4 @@
+-- What `importing::function_names` owes besides what the check finds.
 use Rattle.std.proofs.Common.{◌++◌, ◌∷◌, [], sym, ap, subst, ◌∙◌, map, take, arith}
 use Rattle.std.proofs.lemmas.List.{take_all, map_push}
 use Rattle.llvm_core.specs.Data.{Function, data_of}

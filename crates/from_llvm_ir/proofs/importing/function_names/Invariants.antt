@@ -1,3 +1,4 @@
+-- What the loop of `importing::function_names` keeps.
 use Rattle.std.proofs.Common.{◌≡◌, ◌≤◌, map, take, length}
 use Rattle.llvm_core.specs.Data.{Function, data_of}
 use Rattle.from_llvm_ir.proofs.importing.function_names.Given as goal

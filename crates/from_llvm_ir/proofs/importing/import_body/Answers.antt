@@ -1,3 +1,4 @@
+-- What `importing::import_body` owes besides what the check finds.
 use Rattle.std.proofs.Common.{◌<◌, refl, sym, ap, subst, ◌∙◌, All, length, map}
 use Rattle.dialect_types.specs.Trees.{type_at, type_trees}
 use Rattle.from_llvm_ir.proofs.WholeLaws.{frame_of, body_start, body_whole, params_count}

@@ -1,3 +1,4 @@
+-- What `importing::import_counted` owes besides what the check finds.
 use Rattle.dialect_types.specs.Names.{legal_name}
 use Rattle.from_llvm_ir.proofs.ModuleLaws.{imported_whole}
 use Rattle.from_llvm_ir.proofs.importing.import_counted.Goals as goal

@@ -1,3 +1,4 @@
+-- What the loop of `importing::import_functions` keeps.
 use Rattle.std.proofs.Common.{ℕ, List, length, ◌≤◌}
 use Rattle.llvm_core.specs.Data.{data_of}
 use Rattle.from_llvm_ir.specs.Imported.{IsBuilding}

@@ -1,3 +1,4 @@
+-- The ledger under which `importing::import_module` counts.
 use Rattle.from_llvm_ir.proofs.importing.import_module.Given as goal
 
 abbrev pub ghosts-import_counted : goal.ghosts-import_counted

@@ -1,3 +1,4 @@
+-- What `importing::parameters` owes besides what the check finds.
 use Rattle.std.proofs.Common.{ℕ, ◌≡◌, [], subst, arith}
 use Rattle.llvm_core.specs.declared.code.LLVMValue.TheVariants as K
 use Rattle.dialect_core.specs.declared.ops.Value.TheVariants as V

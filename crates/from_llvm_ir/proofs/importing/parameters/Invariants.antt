@@ -1,3 +1,4 @@
+-- What the loop of `importing::parameters` keeps.
 use Rattle.std.proofs.Common.{[]}
 use Rattle.llvm_core.specs.Module.{Module}
 use Rattle.from_llvm_ir.specs.Body.{Notes}

@@ -1,3 +1,4 @@
+-- What `importing::start_module` owes besides what the check finds.
 use Rattle.std.proofs.Common.{ℕ, List, [], None, sym, ap, subst, ◌∙◌}
 use Rattle.dialect_types.specs.Names.{IsPlainName, legal_name}
 use Rattle.dialect_core.specs.Data.{DialectModule, with_func_block}

@@ -1,3 +1,4 @@
+-- What `operations::add_inst` owes besides what the check finds.
 use Rattle.std.proofs.Common.{[], ◌∷◌, Some, None, length, sym, ap, subst, ◌∙◌, refl}
 use Rattle.std.proofs.lemmas.List.Elements.{All-nil, All-cons}
 use Rattle.llvm_core.specs.Names.{IsPlainOrNone}

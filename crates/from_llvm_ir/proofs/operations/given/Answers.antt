@@ -1,3 +1,4 @@
+-- What `operations::given` owes besides what the check finds.
 use Rattle.from_llvm_ir.proofs.NameLaws.{plain_or_none}
 use Rattle.from_llvm_ir.proofs.operations.given.Goals as goal
 

@@ -1,3 +1,4 @@
+-- What `operations::import_inst` owes besides what the check finds.
 use Rattle.std.proofs.Common.{ℕ, sym, ap}
 use Rattle.llvm_core.specs.Data.{Placed}
 use Rattle.dialect_core.specs.declared.ops.Value.TheVariants as V

@@ -1,3 +1,4 @@
+-- What `operations::import_insts` owes besides what the check finds.
 use Rattle.std.proofs.Common.{List, sym, subst, arith}
 use Rattle.std.proofs.lemmas.List.{take_all}
 use Rattle.llvm_core.specs.Data.{Placed, data_of}

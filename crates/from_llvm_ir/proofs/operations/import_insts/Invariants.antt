@@ -1,3 +1,4 @@
+-- What the loop of `operations::import_insts` keeps.
 use Rattle.std.proofs.Common.{◌≡◌, List, [], length, take}
 use Rattle.llvm_core.specs.Data.{Function, Placed, data_of}
 use Rattle.from_llvm_ir.specs.Imported.{constants_used}

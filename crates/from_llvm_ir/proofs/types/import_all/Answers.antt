@@ -1,3 +1,4 @@
+-- What `types::import_all` owes besides what the check finds.
 use Rattle.std.proofs.Common.{[], ◌+◌, take, sym, subst, arith}
 use Rattle.llvm_core.specs.Data.{trees_of}
 use Rattle.from_llvm_ir.proofs.SourceLaws.{short_at, short_result}

@@ -1,3 +1,4 @@
+-- What the loop of `types::import_all` keeps.
 use Rattle.std.proofs.Common.{take}
 use Rattle.llvm_core.specs.Data.{trees_of}
 use Rattle.from_llvm_ir.proofs.TypeLaws.{Imports}

@@ -1,3 +1,4 @@
+-- What `types::import_function_type` owes besides what the check finds.
 use Rattle.std.proofs.Common.{◌∙◌, sym, ap}
 use Rattle.std.proofs.lemmas.Result.{IfOk-weaker}
 use Rattle.from_llvm_ir.specs.Types.{type_from}

@@ -1,3 +1,4 @@
+-- What `types::import_params` owes besides what the check finds.
 use Rattle.std.proofs.Common.{◌<◌, ◌∙◌, sym, ap, subst, Some, All, length, map}
 use Rattle.std.proofs.lemmas.Option.{slice_get_within}
 use Rattle.std.proofs.lemmas.Result.{IfOk-weaker}

@@ -1,3 +1,4 @@
+-- What `types::import_plain` owes besides what the check finds.
 use Rattle.std.proofs.Common.{◌∙◌, sym, ap, subst, Some}
 use Rattle.std.proofs.lemmas.Result.{IfOk-weaker}
 use Rattle.llvm_core.specs.Form.{IsShortResult}

@@ -1,3 +1,4 @@
+-- What `examples::answer_means` owes besides what the check finds.
 use Rattle.meaning.proofs.ExampleLaws.{same_answer}
 use Rattle.meaning.proofs.examples.answer_means.Goals as goal
 

@@ -1,3 +1,4 @@
+-- What `exporting::entry_of` owes besides what the check finds.
 use Rattle.to_llvm_ir.proofs.ContextLaws.{only_entry}
 use Rattle.to_llvm_ir.proofs.exporting.entry_of.Goals as goal
 

@@ -1,3 +1,4 @@
+-- What `exporting::export_functions` owes besides what the check finds.
 use Rattle.llvm_core.specs.Data as L
 use Rattle.to_llvm_ir.proofs.FinishLaws.{exported_none, form_held, adds_more, adds_all}
 use Rattle.to_llvm_ir.proofs.exporting.export_functions.Goals as goal

@@ -1,3 +1,4 @@
+-- What `operations::export_ops` owes besides what the check finds.
 use Rattle.std.proofs.Common.{◌∙◌, List, ap, sym, subst, take}
 use Rattle.std.proofs.lemmas.List.{take_all}
 use Rattle.std.specs.List.{filter_map}

@@ -1,3 +1,4 @@
+-- What `values::Body::set_arguments` owes besides what the check finds.
 use Rattle.std.proofs.Common.{◌≡◌, ◌∙◌, ℕ, subst, refl, arith}
 use Rattle.llvm_core.specs.declared.code.LLVMValue.TheVariants.{Param}
 use Rattle.dialect_core.specs.declared.ops.Value.TheVariants.{Argument}
