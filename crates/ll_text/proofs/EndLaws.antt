@@ -79,9 +79,11 @@ same_ends s t [] (p ∷ ps) h = elim h [ ]
 same_ends s t (i ∷ is) [] h = elim h [ ]
 
 -- instructions end a block where those of the text do
+pub ends_alike : (s t : Scope) (is : List Inst) (ps : List Placed) → AreInstructionsTo s is ps t → ends_in_only is_last ps ≡ ends_in_only is_terminator is
+ends_alike s t is ps h = sym (ends_mapped is_last (λ b. b) ps) ∙ ap (λ (bs : List Bool). ends_in_only (λ b. b) bs) (same_ends s t is ps h) ∙ ends_mapped is_terminator (λ b. b) is
+
 pub ends_said : (s t : Scope) (is : List Inst) (ps : List Placed) → AreInstructionsTo s is ps t → ends_in_only is_terminator is ≡ true → ends_in_only is_last ps ≡ true
-ends_said s t is ps h e =
-    sym (ends_mapped is_last (λ b. b) ps) ∙ ap (λ (bs : List Bool). ends_in_only (λ b. b) bs) (same_ends s t is ps h) ∙ ends_mapped is_terminator (λ b. b) is ∙ e
+ends_said s t is ps h e = ends_alike s t is ps h ∙ e
 
 pub insts_said : (s t : Scope) (is : List Inst) (ps : List Placed) → AreInstructionsTo s is ps t → AreInstructions is_plain 64 s is ps
 insts_said s t [] [] h = tt

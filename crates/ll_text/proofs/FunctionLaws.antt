@@ -11,7 +11,7 @@ use Rattle.ll_text.proofs.InstLaws.{insts_takes, insts_again}
 
 -- ---- parameters
 
-param_takes : (ts : List Text) (x : Param × List Text) → param_at ts ≡ Some x → (ts ≡ param x.0 ++ x.1) × IsParam x.0
+pub param_takes : (ts : List Text) (x : Param × List Text) → param_at ts ≡ Some x → (ts ≡ param x.0 ++ x.1) × IsParam x.0
 unfolding param_at
 param_takes ts x e =
     let Q = λ (y : Param × List Text). (ts ≡ param y.0 ++ y.1) × IsParam y.0 in
@@ -19,7 +19,7 @@ param_takes ts x e =
     λ ty p. then _ Q (optional_at is_local ty.1) _ (optional_takes is_local ty.1)
     λ name q. gives _ Q (rw (p.0, q.0) refl, (p.1, q.1))).at x e
 
-next_param_takes : (ts : List Text) (x : Param × List Text) → next_param_at ts ≡ Some x → (ts ≡ next_param x.0 ++ x.1) × IsParam x.0
+pub next_param_takes : (ts : List Text) (x : Param × List Text) → next_param_at ts ≡ Some x → (ts ≡ next_param x.0 ++ x.1) × IsParam x.0
 unfolding next_param_at
 next_param_takes ts x e =
     let Q = λ (y : Param × List Text). (ts ≡ next_param y.0 ++ y.1) × IsParam y.0 in
@@ -36,7 +36,7 @@ next_params_takes : (ts : List Text) (x : List Param × List Text) → next_para
 unfolding next_params_at
 next_params_takes ts x e = many_takes next_param IsParam next_param_at (is_next (codes ")")) ts x next_param_sound e
 
-params_takes : (ts : List Text) (x : List Param × List Text) → params_at ts ≡ Some x → (ts ≡ params x.0 ++ x.1) × AllByRecursion IsParam x.0
+pub params_takes : (ts : List Text) (x : List Param × List Text) → params_at ts ≡ Some x → (ts ≡ params x.0 ++ x.1) × AllByRecursion IsParam x.0
 unfolding params_at
 params_takes ts x e =
     let Q = λ (y : List Param × List Text). (ts ≡ params y.0 ++ y.1) × AllByRecursion IsParam y.0 in
@@ -47,11 +47,11 @@ params_takes ts x e =
           λ others q. gives _ Q (rw (p.0, q.0) (simp append_assoc), (p.1, q.1))).at x w.1
     ]
 
-param_again : (p : Param) (us : List Text) → IsParam p → passes_next is_local us ≡ false → param_at (param p ++ us) ≡ Some (p, us)
+pub param_again : (p : Param) (us : List Text) → IsParam p → passes_next is_local us ≡ false → param_at (param p ++ us) ≡ Some (p, us)
 unfolding param_at
 param_again p us h no_more = rw (one_again is_int_type p.type (optional p.name ++ us) h.0, optional_again is_local p.name us h.1 no_more) refl
 
-next_param_again : (p : Param) (us : List Text) → IsParam p → not (passes_next is_local us) ≡ true → next_param_at (next_param p ++ us) ≡ Some (p, us)
+pub next_param_again : (p : Param) (us : List Text) → IsParam p → not (passes_next is_local us) ≡ true → next_param_at (next_param p ++ us) ≡ Some (p, us)
 unfolding next_param_at
 next_param_again p us h no_more = rw (skip_again (codes ",") (param p ++ us)) (param_again p us h (not_true (passes_next is_local us) no_more))
 
@@ -60,7 +60,7 @@ unfolding next_params_at
 next_params_again ps us h = many_again next_param IsParam next_param_at (is_next (codes ")")) (λ ts. not (passes_next is_local ts)) next_param_sound
     next_param_again (λ p ts f. (refl, refl)) ps (codes ")" ∷ us) h refl refl
 
-params_again : (ps : List Param) (us : List Text) → AllByRecursion IsParam ps → params_at (params ps ++ codes ")" ∷ us) ≡ Some (ps, codes ")" ∷ us)
+pub params_again : (ps : List Param) (us : List Text) → AllByRecursion IsParam ps → params_at (params ps ++ codes ")" ∷ us) ≡ Some (ps, codes ")" ∷ us)
 unfolding params_at
 params_again [] us h = refl
 params_again (p ∷ ps) us h =
@@ -70,7 +70,7 @@ params_again (p ∷ ps) us h =
 
 -- ---- the type that a function returns
 
-result_type_takes : (ts : List Text) (x : Option Text × List Text) → result_type_at ts ≡ Some x → (ts ≡ result_type x.0 ++ x.1) × IfPresent is_int_type x.0
+pub result_type_takes : (ts : List Text) (x : Option Text × List Text) → result_type_at ts ≡ Some x → (ts ≡ result_type x.0 ++ x.1) × IfPresent is_int_type x.0
 unfolding result_type_at
 result_type_takes ts x e =
     let Q = λ (y : Option Text × List Text). (ts ≡ result_type y.0 ++ y.1) × IfPresent is_int_type y.0 in
@@ -80,14 +80,14 @@ result_type_takes ts x e =
           λ ty p. gives _ Q (p.0, p.1)).at x w.1
     ]
 
-result_type_again : (r : Option Text) (us : List Text) → IfPresent is_int_type r → result_type_at (result_type r ++ us) ≡ Some (r, us)
+pub result_type_again : (r : Option Text) (us : List Text) → IfPresent is_int_type r → result_type_at (result_type r ++ us) ≡ Some (r, us)
 unfolding result_type_at
 result_type_again None us h = refl
 result_type_again (Some t) us h = rw (unlike is_int_type t (codes "void") h refl, one_again is_int_type t us h) refl
 
 -- ---- functions
 
-function_takes : (ts : List Text) (x : Function × List Text) → function_at ts ≡ Some x → (ts ≡ function x.0 ++ x.1) × IsFunction x.0
+pub function_takes : (ts : List Text) (x : Function × List Text) → function_at ts ≡ Some x → (ts ≡ function x.0 ++ x.1) × IsFunction x.0
 unfolding function_at
 function_takes ts x e =
     let Q = λ (y : Function × List Text). (ts ≡ function y.0 ++ y.1) × IsFunction y.0 in

@@ -1,4 +1,5 @@
 -- The lemmas of the crate.
+pub mod AlikeLaws
 pub mod BodyLaws
 pub mod BuildLaws
 pub mod BuiltLaws
@@ -15,9 +16,17 @@ pub mod LiteralLaws
 pub mod Many
 pub mod MeaningLaws
 pub mod ModuleLaws
+pub mod NarrowLaws
+pub mod NarrowNames
 pub mod NextLaws
+pub mod OneModuleLaws
+pub mod ProductionLaws
+pub mod ReadLaws
 pub mod ReaderLaws
+pub mod RefusalLaws
+pub mod SameLaws
 pub mod ScopeLaws
 pub mod SignatureLaws
 pub mod Steps
 pub mod TokenLaws
+pub mod UnsaidLaws

@@ -16,7 +16,7 @@ use Rattle.ll_text.proofs.FunctionLaws.{function_sound, function_again}
 
 -- ---- the name of the module
 
-source_takes : (ts : List Text) (x : Option Text × List Text) → source_at ts ≡ Some x → (ts ≡ source x.0 ++ x.1) × IfPresent is_string x.0
+pub source_takes : (ts : List Text) (x : Option Text × List Text) → source_at ts ≡ Some x → (ts ≡ source x.0 ++ x.1) × IfPresent is_string x.0
 unfolding source_at
 source_takes ts x e =
     let Q = λ (y : Option Text × List Text). (ts ≡ source y.0 ++ y.1) × IfPresent is_string y.0 in
@@ -27,7 +27,7 @@ source_takes ts x e =
       | inr w ↦ let i : x ≡ (None, ts) = cc in rw i (refl, tt)
     ]
 
-source_again : (s : Option Text) (us : List Text) → IfPresent is_string s → is_next (codes "source_filename") us ≡ false → source_at (source s ++ us) ≡ Some (s, us)
+pub source_again : (s : Option Text) (us : List Text) → IfPresent is_string s → is_next (codes "source_filename") us ≡ false → source_at (source s ++ us) ≡ Some (s, us)
 unfolding source_at
 source_again None us h other = rw other refl
 source_again (Some t) us h other = rw (skip_again (codes "=") (t ∷ us), one_again is_string t us h) refl

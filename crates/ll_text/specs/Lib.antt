@@ -4,7 +4,9 @@ pub mod Building
 pub mod Kinds
 pub mod Literals
 pub mod Meaning
+pub mod Productions
 pub mod Reading
+pub mod Refusals
 pub mod Returns
 pub mod ScopeView
 pub mod Signatures

@@ -147,7 +147,7 @@ module _ (is_name : Text → Bool) (widest : ℕ) where
   AreInstructions s [] (p ∷ ps) = ⊥
   AreInstructions s (i ∷ is) [] = ⊥
 
-  -- a function of one block; a block without a label has an instruction, and no instruction but the last is a terminator
+  -- a function of one block, whose last instruction is its only terminator
   pub record IsFunctionOf (f : Function) (d : L.Function) : Type 0 where
     pub name : global_name f.name ≡ Some d.name
     pub result : TypeTree

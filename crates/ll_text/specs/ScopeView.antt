@@ -1,9 +1,9 @@
 -- What clauses see of a scope of the program.
-use Rattle.std.specs.Prelude.{◌≡◌, ℕ, [], Option, Some, None}
+use Rattle.std.specs.Prelude.{◌≡◌, ◌≤◌, ℕ, [], Option, Some, None}
 use Rattle.std.specs.Option.{option_map}
 use Rattle.std.specs.HashMap.{get}
 use Rattle.llvm_core.specs.Data as L
-use Rattle.ll_text.specs.Text.{Text}
+use Rattle.ll_text.specs.Text.{Text, number_limit}
 use Rattle.ll_text.specs.Meaning as spec
 use Rattle.ll_text.specs.declared.scope.Key.{Key}
 use Rattle.ll_text.specs.declared.scope.Key.TheVariants.{Named, Numbered}
@@ -35,10 +35,12 @@ key_name (Some (spec.Numbered n)) = []
 abbrev pub local_at : Scope → Key → Option Local
 local_at s k = get keys.eq-value.it s.known k
 
--- the scope of the program is that of the definitions: the counters are equal, and each key stands for the same
+-- the scope of the program is that of the definitions: the counters are equal, and each key stands for the same;
+-- under a number that nothing can have stands nothing
 pub record Knows (code : Scope) (s : spec.Scope) : Type 0 where
   pub next : s.next ≡ code.next
   pub known : (k : Key) → s.known (key_view k) ≡ option_map local_view (local_at code k)
+  pub limited : (n : ℕ) → number_limit ≤ n → local_at code (Numbered n) ≡ None
 
 -- what takes that number is defined
 abbrev pub Counts : Scope → Local → ℕ → Scope → Type 0

@@ -1,7 +1,12 @@
 -- What bytes spell: module data, by their tokens.
 use Rattle.std.specs.Prelude.{◌≡◌, ℕ, suc, List, [], ◌∷◌, map, Some}
 use Rattle.std.specs.List.{flat_map}
-use Rattle.llvm_core.specs.Data.{Placed, Block, Function, ModuleData}
+use Rattle.llvm_core.specs.Module.{Module}
+use Rattle.llvm_core.specs.Sound.{IsModule}
+use Rattle.llvm_core.specs.Checked.{IsChecked}
+use Rattle.llvm_core.specs.Form.{IsForm}
+use Rattle.llvm_core.specs.Names.{IsPlainOrNone}
+use Rattle.llvm_core.specs.Data.{Placed, Block, Function, ModuleData, data_of}
 use Rattle.ll_text.specs.Text.{Text, is_bare}
 use Rattle.ll_text.specs.Tokens.{tokens_of}
 use Rattle.ll_text.specs.Tree.{File, IsFile, file}
@@ -23,6 +28,17 @@ pub record Spelled (d : ModuleData) (skipped : List Text) (ts : List Text) : Typ
 -- the bytes have a token list that spells the data with no skipped word
 abbrev pub Spells : List ℕ → ModuleData → Type 0
 Spells bytes d = (ts : List Text) × (tokens_of bytes ≡ Some ts) × Spelled d [] ts
+
+-- a checked module of the form, with a plain name or none
+pub record IsReadable (m : Module) : Type 0 where
+  pub sound : IsModule m
+  pub checked : IsChecked m
+  pub form : IsForm (data_of m)
+  pub name : IsPlainOrNone m.name
+
+-- the bytes spell a checked module of the form, however its parts are numbered
+abbrev pub IsSpelled : List ℕ → Type 0
+IsSpelled bytes = (m : Module) × IsReadable m × Spells bytes (data_of m)
 
 -- ---- numbers of things
 

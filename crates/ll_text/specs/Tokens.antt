@@ -28,9 +28,9 @@ is_word_start b = is_letter b || b == 95
 abbrev pub is_word_byte : ℕ → Bool
 is_word_byte b = is_letter b || is_digit b || b == 95 || b == 46
 
--- a comment goes on to the end of its line, a string to the next "
+-- a comment goes on to the LF or CR that ends its line, a string to the next "
 abbrev pub in_line : ℕ → Bool
-in_line b = not (b == 10)
+in_line b = not (b == 10 || b == 13)
 
 abbrev pub in_string : ℕ → Bool
 in_string b = not (b == 34)

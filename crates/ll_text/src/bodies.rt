@@ -1,16 +1,18 @@
 //! Builds functions, part after part.
 
-ghost use Rattle.std.specs.Prelude.{◌≡◌, ◌+◌, ◌<◌, ◌++◌, ◌∷◌, [], List, ℕ, Some, IfOk, OnOk, length, map};
+ghost use Rattle.std.specs.Prelude.{◌≡◌, ◌+◌, ◌<◌, ◌++◌, ◌∷◌, [], List, ℕ, None, Some, Err, IfOk, OnOk, length, map};
 ghost use Rattle.std.specs.List.{AllByRecursion, list_any};
 ghost use Rattle.llvm_core.specs.Names.{is_plain};
 ghost use Rattle.llvm_core.specs.Checked.{ends_in_only};
+ghost use Rattle.llvm_core.specs.Data as L;
 ghost use Rattle.llvm_core.specs.Sound.{IsModule};
 ghost use Rattle.ll_text.specs.Text.{Text};
 ghost use Rattle.ll_text.specs.Tree as tree;
 ghost use Rattle.ll_text.specs.TreeView.{name_view, param_view, inst_view, function_view};
 ghost use Rattle.ll_text.specs.Meaning as meaning;
-ghost use Rattle.ll_text.specs.Meaning.{result_data};
-ghost use Rattle.ll_text.specs.Returns.{FitsReturn};
+ghost use Rattle.ll_text.specs.Meaning.{result_data, param_data, define_written, label_key, AreParams, AreInstructions, IsFunctionOf};
+ghost use Rattle.ll_text.specs.Returns.{FitsReturn, HasFitReturns};
+ghost use Rattle.ll_text.specs.Refusals.{Alike};
 ghost use Rattle.ll_text.specs.ScopeView.{Knows};
 ghost use Rattle.ll_text.specs.Signatures.{returned, IsDeclared};
 ghost use Rattle.ll_text.specs.Building.{IsKnown, IsReady};
@@ -33,7 +35,8 @@ fn declare(
     module: &mut LLVMModule,
     function: &Function<'_>,
 ) -> Result<(LLVMFunction, Option<u32>), ReadErr>
-    ensures { IfOk result (λ p. Declares (function_view function.now) p.0 p.1 module.old module.new) }
+    ensures declares { IfOk result (λ p. Declares (function_view function.now) p.0 p.1 module.old module.new) }
+    ensures not_yet { result ≡ Err ReadErr.NotYet → (d : L.Function) → ¬ IsFunctionOf is_plain 64 (function_view function.now) d }
 {
     let Some(name) = global_name(function.name.text) else {
         return Err(ReadErr::NotYet);
@@ -55,6 +58,7 @@ fn name_param<'a>(
     requires { (widths : List ℕ) × IsDeclared module.old f widths × (place < length widths) }
     ensures says { OnOk result ((s : meaning.Scope) → Knows scope.old s → NamesParam f.0 place s (param_view param.now) module.old module.new scope.new) }
     ensures keeps { OnOk result (KeepsBodies f module.old module.new) }
+    ensures not_yet { result ≡ Err ReadErr.NotYet → (s t : meaning.Scope) → Knows scope.old s → Alike s t → (g i : ℕ) → param_data is_plain 64 t g i (param_view param.now) ≡ None }
 {
     let Some(width) = int_width(param.ty.text) else {
         return Err(ReadErr::NotYet);
@@ -74,13 +78,15 @@ fn name_params<'a>(
     requires { (widths : List ℕ) × IsDeclared module.old f widths × (length params.now ≡ length widths) }
     ensures says { OnOk result ((s : meaning.Scope) → Knows scope.old s → NamesParams f.0 s (map param_view params.now) module.old module.new scope.new) }
     ensures keeps { OnOk result (KeepsBodies f module.old module.new) }
+    ensures not_yet { result ≡ Err ReadErr.NotYet → (s t : meaning.Scope) → Knows scope.old s → Alike s t → (g : ℕ) (types : L.TypeTrees) (names : List Text) (u : meaning.Scope) → ¬ AreParams is_plain 64 g 0 t (map param_view params.now) types names u }
 {
     let mut place: u32 = 0;
     for param in params {
         name_param(module, scope, f, place, param)?;
         place = match place.checked_add(1) {
             Some(next) => next,
-            None => return Err(ReadErr::NotYet),
+            // a list of 2^32 parameters cannot be held
+            None => return Err(ReadErr::NoMemory),
         };
     }
     Ok(())
@@ -100,6 +106,7 @@ fn start_block<'a>(
     ensures same_insts { OnOk result (length module.new.insts ≡ length module.old.insts) }
     ensures there { OnOk result ((widths : List ℕ) → IsDeclared module.old f widths → IsDeclared module.new f widths) }
     ensures sound { OnOk result (IsModule module.new) }
+    ensures not_yet { result ≡ Err ReadErr.NotYet → (s t : meaning.Scope) → Knows scope.old s → Alike s t → (x : meaning.Local) → define_written is_plain 64 t x (label_key is_plain 64) (name_view label.entry) ≡ None }
 {
     let key = written_label(label)?;
     let block = module.append_block(f, key_name(key))?;
@@ -119,6 +126,7 @@ fn build_insts<'a>(
     requires known { IsKnown scope.old module.old }
     ensures adds { OnOk result ((s : meaning.Scope) → Knows scope.old s → IsReady module.old s → AddsInsts s (map inst_view insts.now) block.0 module.old module.new scope.new) }
     ensures fits { OnOk result ((f : tree.Function) → result_data is_plain 64 f.result ≡ Some (returned returns) → AllByRecursion (FitsReturn is_plain 64 f) (map inst_view insts.now)) }
+    ensures not_yet { result ≡ Err ReadErr.NotYet → (s t : meaning.Scope) → Knows scope.old s → IsReady module.old s → Alike s t → (f : tree.Function) → result_data is_plain 64 f.result ≡ Some (returned returns) → (ps : List L.Placed) → AreInstructions is_plain 64 t (map inst_view insts.now) ps → ¬ AllByRecursion (FitsReturn is_plain 64 f) (map inst_view insts.now) }
 {
     for inst in insts {
         build_inst(module, scope, block, returns, inst)?;
@@ -158,7 +166,8 @@ pub fn add_function(
     module: &mut LLVMModule,
     function: &Function<'_>,
 ) -> Result<(), ReadErr>
-    ensures { OnOk result ((name : Text) (fs : List tree.Function) → IsBuiltOf name fs module.old → IsBuiltOf name (fs ++ function_view function.now ∷ []) module.new) }
+    ensures adds { OnOk result ((name : Text) (fs : List tree.Function) → IsBuiltOf name fs module.old → IsBuiltOf name (fs ++ function_view function.now ∷ []) module.new) }
+    ensures not_yet { result ≡ Err ReadErr.NotYet → (d : L.Function) → IsFunctionOf is_plain 64 (function_view function.now) d → ¬ HasFitReturns is_plain 64 (function_view function.now) }
 {
     let insts = function.insts.as_slice();
     if !ends_in_terminator(insts) {

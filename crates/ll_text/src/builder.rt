@@ -1,8 +1,9 @@
 //! Builds the module that a text says.
 
-ghost use Rattle.std.specs.Prelude.{◌≡◌, List, map, IfOk};
+ghost use Rattle.std.specs.Prelude.{◌≡◌, List, Err, map, IfOk};
 ghost use Rattle.llvm_core.specs.Names.{is_plain};
-ghost use Rattle.llvm_core.specs.Data.{data_of};
+ghost use Rattle.llvm_core.specs.Data.{ModuleData, data_of};
+ghost use Rattle.ll_text.specs.Text.{Text};
 ghost use Rattle.ll_text.specs.Tree as tree;
 ghost use Rattle.ll_text.specs.TreeView.{name_view, file_view};
 ghost use Rattle.ll_text.specs.Meaning.{IsSource, IsFileOf};
@@ -20,7 +21,8 @@ use std::alloc::Global;
 
 /// The name of the module, empty where none is written.
 fn source_name(source: Option<Token<'_>>) -> Result<&str, ReadErr>
-    ensures { IfOk result (λ s. IsSource is_plain 64 (name_view source.entry) s.now) }
+    ensures says { IfOk result (λ s. IsSource is_plain 64 (name_view source.entry) s.now) }
+    ensures not_yet { result ≡ Err ReadErr.NotYet → (name : Text) → ¬ IsSource is_plain 64 (name_view source.entry) name }
 {
     let Some(token) = source else {
         return Ok("");
@@ -37,6 +39,7 @@ pub fn build_file(alloc: Global, file: &File<'_>) -> Result<LLVMModule, ReadErr>
     ensures says { IfOk result (λ m. IsFileOf is_plain 64 (file_view file.now) (data_of m)) }
     ensures returns { IfOk result (λ m. ReturnsFit is_plain 64 (file_view file.now)) }
     ensures numbered { IfOk result (λ m. IsNumbered (data_of m)) }
+    ensures not_yet { result ≡ Err ReadErr.NotYet → (d : ModuleData) → IsFileOf is_plain 64 (file_view file.now) d → ¬ ReturnsFit is_plain 64 (file_view file.now) }
 {
     let mut module = LLVMModule::new(alloc, source_name(file.source)?)?;
     for function in file.functions.as_slice() {

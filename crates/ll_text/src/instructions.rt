@@ -1,11 +1,11 @@
 //! Builds instructions.
 
-ghost use Rattle.std.specs.Prelude.{◌≡◌, ◌<◌, ◌≤◌, true, Some, IfSome, IfOk, OnOk, length};
+ghost use Rattle.std.specs.Prelude.{◌≡◌, ◌<◌, ◌≤◌, ◌↔◌, ◌⊎◌, ℕ, None, Some, Err, IsTrue, IfSome, IfOk, OnOk, length};
 ghost use Rattle.llvm_core.specs.Names.{is_plain};
 ghost use Rattle.llvm_core.specs.Parts.{IsValue};
-ghost use Rattle.llvm_core.specs.Data.{trees_of, instruction_of};
+ghost use Rattle.llvm_core.specs.Data.{Placed, Result, trees_of, instruction_of};
 ghost use Rattle.ll_text.specs.Meaning as meaning;
-ghost use Rattle.ll_text.specs.Meaning.{result_data};
+ghost use Rattle.ll_text.specs.Meaning.{ValueLocal, result_data, value_of, inst_data};
 ghost use Rattle.ll_text.specs.Returns.{FitsReturn};
 ghost use Rattle.ll_text.specs.ScopeView.{option_key, Knows};
 ghost use Rattle.ll_text.specs.Tree as tree;
@@ -40,6 +40,7 @@ fn both<'a>(
     ensures lhs { IfOk result (λ p. (s : meaning.Scope) → Knows scope.now s → IsReady module.old s → SaysValue s width (text_of lhs.entry) module.new p.0) }
     ensures rhs { IfOk result (λ p. (s : meaning.Scope) → Knows scope.now s → IsReady module.old s → SaysValue s width (text_of rhs.entry) module.new p.1) }
     ensures rest { OnOk result (OnlyInterns module.old module.new) }
+    ensures not_yet { result ≡ Err ReadErr.NotYet → (s : meaning.Scope) → Knows scope.now s → (value_of is_plain 64 s width (text_of lhs.entry) ≡ None) ⊎ (value_of is_plain 64 s width (text_of rhs.entry) ≡ None) }
 {
     let a = operand(module, scope, width, lhs)?;
     let b = operand(module, scope, width, rhs)?;
@@ -57,7 +58,8 @@ fn build_result<'a>(
 ) -> Result<(), ReadErr>
     requires block { block.0 < length module.old.blocks }
     requires sides { HasSides module.old inst width }
-    ensures { OnOk result ((s : meaning.Scope) → Knows scope.old s → IsReady module.old s → AddsResult s (option_key key.entry) width (instruction_of (trees_of module.old) inst) block.0 module.old module.new scope.new) }
+    ensures adds { OnOk result ((s : meaning.Scope) → Knows scope.old s → IsReady module.old s → AddsResult s (option_key key.entry) width (instruction_of (trees_of module.old) inst) block.0 module.old module.new scope.new) }
+    ensures not_yet { result ≡ Err ReadErr.NotYet → (s : meaning.Scope) → Knows scope.old s → (n : ℕ) → meaning.define s (ValueLocal (Result n) width) (option_key key.entry) ≡ None }
 {
     let result = module.build(block, inst, key_name(key))?;
     scope.define(Local::Result(result, width), key)
@@ -73,6 +75,7 @@ fn build_return(
     requires value { IfSome value (IsValue module.old) }
     ensures adds { OnOk result (AddsPlaced block.0 (return_placed module.old value) module.old module.new) }
     ensures ready { OnOk result ((s : meaning.Scope) → IsReady module.old s → IsReady module.new s) }
+    ensures not_yet { ¬ (result ≡ Err ReadErr.NotYet) }
 {
     module.build(block, LLVMInst::Ret(value), "")?;
     Ok(())
@@ -80,7 +83,7 @@ fn build_return(
 
 /// Whether a function returns an integer of that width.
 fn is_width(returns: Option<u32>, width: u32) -> bool
-    ensures { result ≡ true → returns ≡ Some width }
+    ensures { IsTrue result ↔ returns ≡ Some width }
 {
     match returns {
         Some(w) => w == width,
@@ -100,6 +103,7 @@ pub fn build_inst<'a>(
     requires known { IsKnown scope.old module.old }
     ensures adds { OnOk result ((s : meaning.Scope) → Knows scope.old s → IsReady module.old s → AddsInst s (inst_view inst.now) block.0 module.old module.new scope.new) }
     ensures fits { OnOk result ((f : tree.Function) → result_data is_plain 64 f.result ≡ Some (returned returns) → FitsReturn is_plain 64 f (inst_view inst.now)) }
+    ensures not_yet { result ≡ Err ReadErr.NotYet → (s : meaning.Scope) → Knows scope.old s → (f : tree.Function) → result_data is_plain 64 f.result ≡ Some (returned returns) → (n : ℕ) (d : Placed × meaning.Scope) → inst_data is_plain 64 s n (inst_view inst.now) ≡ Some d → ¬ FitsReturn is_plain 64 f (inst_view inst.now) }
 {
     match inst {
         Inst::ReturnVoid => {

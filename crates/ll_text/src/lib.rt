@@ -6,6 +6,7 @@ mod builder;
 mod bytes;
 mod instructions;
 mod kinds;
+pub mod laws;
 pub mod literals;
 mod names;
 mod operands;
@@ -15,7 +16,5 @@ pub mod read_err;
 pub mod reader;
 mod scope;
 mod signatures;
-#[cfg(test)]
-mod tests;
 pub mod tokens;
 pub mod tree;

@@ -1,8 +1,10 @@
 //! Names, numbers and widths, as tokens write them.
 
-ghost use Rattle.std.specs.Prelude.{◌≡◌, ◌≤◌, Some, IfOk, IfSome};
+ghost use Rattle.std.specs.Prelude.{◌≡◌, ◌≤◌, None, Some, Err, IfOk, IfSome, IfNone};
 ghost use Rattle.llvm_core.specs.Names.{is_plain};
-ghost use Rattle.ll_text.specs.Meaning.{key_of, local_key, label_key, optional_key, global_name, string_name, int_width};
+ghost use Rattle.ll_text.specs.Meaning as meaning;
+ghost use Rattle.ll_text.specs.Meaning.{key_of, local_key, label_key, optional_key, define_written, global_name, string_name, int_width};
+ghost use Rattle.ll_text.specs.Refusals.{IsNoKey};
 ghost use Rattle.ll_text.specs.ScopeView.{key_view, option_key, key_name};
 ghost use Rattle.ll_text.specs.TreeView.{name_view};
 
@@ -13,7 +15,8 @@ use crate::tokens::Token;
 
 /// The key that a plain name or digits say.
 fn key_of(text: &[u8]) -> Option<Key<'_>>
-    ensures { IfSome result (λ k. key_of is_plain 64 text.now ≡ Some (key_view k)) }
+    ensures key { IfSome result (λ k. key_of is_plain 64 text.now ≡ Some (key_view k)) }
+    ensures none { IfNone result (IsNoKey (key_of is_plain 64 text.now)) }
 {
     if let Some(n) = number(text, u128::from(u32::MAX)) {
         return Some(Key::Numbered(n as u32));
@@ -26,7 +29,8 @@ fn key_of(text: &[u8]) -> Option<Key<'_>>
 
 /// The key that a local's token says.
 pub fn local_key(text: &[u8]) -> Option<Key<'_>>
-    ensures { IfSome result (λ k. local_key is_plain 64 text.now ≡ Some (key_view k)) }
+    ensures key { IfSome result (λ k. local_key is_plain 64 text.now ≡ Some (key_view k)) }
+    ensures none { IfNone result (IsNoKey (local_key is_plain 64 text.now)) }
 {
     match text {
         [_, name @ ..] => key_of(name),
@@ -36,7 +40,8 @@ pub fn local_key(text: &[u8]) -> Option<Key<'_>>
 
 /// The key that a label's token says.
 pub fn label_key(text: &[u8]) -> Option<Key<'_>>
-    ensures { IfSome result (λ k. label_key is_plain 64 text.now ≡ Some (key_view k)) }
+    ensures key { IfSome result (λ k. label_key is_plain 64 text.now ≡ Some (key_view k)) }
+    ensures none { IfNone result (IsNoKey (label_key is_plain 64 text.now)) }
 {
     match text {
         [name @ .., _] => key_of(name),
@@ -46,7 +51,8 @@ pub fn label_key(text: &[u8]) -> Option<Key<'_>>
 
 /// What is written of a local's name, where it is.
 pub fn written_local(name: Option<Token<'_>>) -> Result<Option<Key<'_>>, ReadErr>
-    ensures { IfOk result (λ k. optional_key is_plain 64 (local_key is_plain 64) (name_view name.entry) ≡ Some (option_key k)) }
+    ensures key { IfOk result (λ k. optional_key is_plain 64 (local_key is_plain 64) (name_view name.entry) ≡ Some (option_key k)) }
+    ensures not_yet { result ≡ Err ReadErr.NotYet → (s : meaning.Scope) (x : meaning.Local) → define_written is_plain 64 s x (local_key is_plain 64) (name_view name.entry) ≡ None }
 {
     let Some(token) = name else {
         return Ok(None);
@@ -59,7 +65,8 @@ pub fn written_local(name: Option<Token<'_>>) -> Result<Option<Key<'_>>, ReadErr
 
 /// What is written of a block's label, where it is.
 pub fn written_label(label: Option<Token<'_>>) -> Result<Option<Key<'_>>, ReadErr>
-    ensures { IfOk result (λ k. optional_key is_plain 64 (label_key is_plain 64) (name_view label.entry) ≡ Some (option_key k)) }
+    ensures key { IfOk result (λ k. optional_key is_plain 64 (label_key is_plain 64) (name_view label.entry) ≡ Some (option_key k)) }
+    ensures not_yet { result ≡ Err ReadErr.NotYet → (s : meaning.Scope) (x : meaning.Local) → define_written is_plain 64 s x (label_key is_plain 64) (name_view label.entry) ≡ None }
 {
     let Some(token) = label else {
         return Ok(None);
@@ -82,7 +89,8 @@ pub fn key_name<'a>(key: Option<Key<'a>>) -> &'a str
 
 /// The name that a global's token says.
 pub fn global_name(text: &[u8]) -> Option<&str>
-    ensures { IfSome result (λ s. global_name is_plain 64 text.now ≡ Some s.now) }
+    ensures name { IfSome result (λ s. global_name is_plain 64 text.now ≡ Some s.now) }
+    ensures none { IfNone result (global_name is_plain 64 text.now ≡ None) }
 {
     match text {
         [_, name @ ..] => plain_name(name),
@@ -92,7 +100,8 @@ pub fn global_name(text: &[u8]) -> Option<&str>
 
 /// The name between quotes.
 pub fn string_name(text: &[u8]) -> Option<&str>
-    ensures { IfSome result (λ s. string_name is_plain 64 text.now ≡ Some s.now) }
+    ensures name { IfSome result (λ s. string_name is_plain 64 text.now ≡ Some s.now) }
+    ensures none { IfNone result (string_name is_plain 64 text.now ≡ None) }
 {
     match text {
         [_, name @ .., _] => plain_name(name),
@@ -105,6 +114,7 @@ pub fn int_width(text: &[u8]) -> Option<u32>
     ensures width { IfSome result (λ w. int_width is_plain 64 text.now ≡ Some w) }
     ensures least { IfSome result (λ w. 1 ≤ w) }
     ensures most { IfSome result (λ w. w ≤ 64) }
+    ensures none { IfNone result (int_width is_plain 64 text.now ≡ None) }
 {
     let [b'i', digits @ ..] = text else {
         return None;

@@ -1,11 +1,13 @@
 //! The operands of instructions.
 
-ghost use Rattle.std.specs.Prelude.{◌≡◌, ◌≤◌, true, false, IfOk, OnOk};
+ghost use Rattle.std.specs.Prelude.{◌≡◌, ◌≤◌, true, false, None, Err, IfOk, OnOk};
+ghost use Rattle.llvm_core.specs.Names.{is_plain};
 ghost use Rattle.llvm_core.specs.Data.{Constant, IntConst, IntType, trees_of, operand_of};
 ghost use Rattle.ll_text.specs.Tree.{is_local};
 ghost use Rattle.ll_text.specs.Text.{const_value};
 ghost use Rattle.ll_text.specs.TokenView.{text_of};
 ghost use Rattle.ll_text.specs.Meaning as meaning;
+ghost use Rattle.ll_text.specs.Meaning.{value_of};
 ghost use Rattle.ll_text.specs.ScopeView.{Knows};
 ghost use Rattle.ll_text.specs.Building.{IsValueOf, IsKnown, IsReady, OnlyInterns, SaysLocal, SaysConstant, SaysValue};
 
@@ -22,7 +24,8 @@ use llvm_core::types::LLVMTypeKind;
 /// The value of a local that is defined before, of a width.
 fn local<'a>(scope: &Scope<'a>, width: u32, text: &'a [u8]) -> Result<LLVMValue, ReadErr>
     requires { is_local text.now ≡ true }
-    ensures { IfOk result (λ v. (s : meaning.Scope) → Knows scope.now s → SaysLocal s width text.now v) }
+    ensures value { IfOk result (λ v. (s : meaning.Scope) → Knows scope.now s → SaysLocal s width text.now v) }
+    ensures not_yet { result ≡ Err ReadErr.NotYet → (s : meaning.Scope) → Knows scope.now s → value_of is_plain 64 s width text.now ≡ None }
 {
     let Some(key) = local_key(text) else {
         return Err(ReadErr::NotYet);
@@ -42,6 +45,7 @@ fn constant(module: &mut LLVMModule, width: u32, text: &[u8]) -> Result<LLVMValu
     requires most { width ≤ 64 }
     ensures value { IfOk result (λ v. SaysConstant width text.now module.new v) }
     ensures rest { OnOk result (OnlyInterns module.old module.new) }
+    ensures not_yet { result ≡ Err ReadErr.NotYet → const_value width text.now ≡ None }
 {
     let Some(value) = const_value(text, width) else {
         return Err(ReadErr::NotYet);
@@ -64,6 +68,7 @@ pub fn operand<'a>(
     ensures stands { IfOk result (λ v. IsValueOf module.new v width) }
     ensures value { IfOk result (λ v. (s : meaning.Scope) → Knows scope.now s → IsReady module.old s → SaysValue s width (text_of token.entry) module.new v) }
     ensures rest { OnOk result (OnlyInterns module.old module.new) }
+    ensures not_yet { result ≡ Err ReadErr.NotYet → (s : meaning.Scope) → Knows scope.now s → value_of is_plain 64 s width (text_of token.entry) ≡ None }
 {
     match token.text {
         [b'%', ..] => local(scope, width, token.text),

@@ -62,7 +62,10 @@ fn line_len(bytes: &[u8]) -> usize
     ensures run { result ≡ prefix_len in_line bytes.now }
     ensures within { result ≤ length bytes.now }
 {
-    bytes.iter().take_while(|b| **b != b'\n').count()
+    bytes
+        .iter()
+        .take_while(|b| **b != b'\n' && **b != b'\r')
+        .count()
 }
 
 fn string_len(bytes: &[u8]) -> usize

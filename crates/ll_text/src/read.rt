@@ -1,11 +1,13 @@
 //! Reads LLVM text to a module in memory.
 
-ghost use Rattle.std.specs.Prelude.{◌≡◌, IfOk, OnOk};
+ghost use Rattle.std.specs.Prelude.{◌≡◌, Err, IfOk, OnOk};
 ghost use Rattle.llvm_core.specs.Checked.{IsChecked};
 ghost use Rattle.llvm_core.specs.Data.{data_of};
 ghost use Rattle.llvm_core.specs.Form.{IsForm};
 ghost use Rattle.llvm_core.specs.Names.{IsPlainOrNone};
-ghost use Rattle.ll_text.specs.Spelling.{Spells, IsNumbered};
+ghost use Rattle.llvm_core.specs.Sound.{IsModule};
+ghost use Rattle.ll_text.specs.declared.read_err.ReadErr.TheVariants as errors;
+ghost use Rattle.ll_text.specs.Spelling.{Spells, IsSpelled, IsNumbered};
 
 use crate::builder::build_file;
 use crate::read_err::ReadErr;
@@ -18,22 +20,28 @@ use std::alloc::Global;
 
 /// A module that breaks a rule is outside the form.
 fn check_built(m: &LLVMModule) -> Result<(), ReadErr>
-    ensures { OnOk result (IsChecked m.now) }
+    ensures checked { OnOk result (IsChecked m.now) }
+    ensures not_yet { result ≡ Err errors.NotYet → ¬ IsChecked m.now }
 {
-    match check(m) {
-        Ok(()) => Ok(()),
-        Err(CheckErr::NoMemory) => Err(ReadErr::NoMemory),
-        Err(_) => Err(ReadErr::NotYet),
+    let Err(rule) = check(m) else {
+        return Ok(());
+    };
+    match rule {
+        CheckErr::NoMemory => Err(ReadErr::NoMemory),
+        _ => Err(ReadErr::NotYet),
     }
 }
 
-/// The module that a text of the form spells.
+/// The module that a text of the form spells. A text is refused only where it spells no checked module of the
+/// form, however the parts of such a module are numbered.
 pub fn read_ll(alloc: Global, bytes: &[u8]) -> Result<LLVMModule, ReadErr>
     ensures spelled { IfOk result (λ m. Spells bytes.now (data_of m)) }
     ensures numbered { IfOk result (λ m. IsNumbered (data_of m)) }
     ensures form { IfOk result (λ m. IsForm (data_of m)) }
     ensures name { IfOk result (λ m. IsPlainOrNone m.name) }
     ensures checked { IfOk result IsChecked }
+    ensures sound { IfOk result IsModule }
+    ensures not_yet { result ≡ Err errors.NotYet → ¬ IsSpelled bytes.now }
 {
     let tokens = tokens(alloc, bytes)?;
     let tree = read_tree(alloc, tokens.as_slice())?;

@@ -1,4 +1,5 @@
-//! Reads tokens to a tree, from left to right and without a step back.
+//! Reads tokens to a tree, from left to right and without a step back. That each production is read as it is
+//! written, and as one thing, are the laws of `src/laws.rt`, named at its method.
 
 ghost use Rattle.std.specs.Prelude.{◌≡◌, Some, IfOk, map};
 ghost use Rattle.ll_text.specs.TokenView.{text_of, texts_of};
@@ -142,6 +143,7 @@ impl<'t, 'a> Reader<'t, 'a> {
         self.add(Some(name))
     }
 
+    /// An instruction (`inst_law`).
     #[tactic(auto, unfolding(crate::specs::Reading::inst_at, crate::specs::Reading::flag_at))]
     fn inst(&mut self) -> Result<Inst<'a>, ReadErr>
         ensures { Gives (λ x. (inst_view x, left self.new)) result (inst_at (left self.old)) }
@@ -155,7 +157,7 @@ impl<'t, 'a> Reader<'t, 'a> {
         self.named()
     }
 
-    /// The instructions before `}`.
+    /// The instructions before `}` (`insts_law`).
     fn insts(&mut self, alloc: Global) -> Result<Vec<Inst<'a>>, ReadErr>
         ensures { Gives (λ x. (map inst_view x.items, left self.new)) result (insts_at (left self.old)) }
     {
@@ -170,6 +172,7 @@ impl<'t, 'a> Reader<'t, 'a> {
 
 /// Functions and files.
 impl<'t, 'a> Reader<'t, 'a> {
+    /// A parameter (`param_law`).
     #[tactic(auto, unfolding(crate::specs::Reading::param_at))]
     fn param(&mut self) -> Result<Param<'a>, ReadErr>
         ensures { Gives (λ x. (param_view x, left self.new)) result (param_at (left self.old)) }
@@ -179,7 +182,7 @@ impl<'t, 'a> Reader<'t, 'a> {
         Ok(Param { ty, name })
     }
 
-    /// A comma and a parameter.
+    /// A comma and a parameter (`next_param_law`).
     #[tactic(auto, unfolding(crate::specs::Reading::next_param_at))]
     fn next_param(&mut self) -> Result<Param<'a>, ReadErr>
         ensures { Gives (λ x. (param_view x, left self.new)) result (next_param_at (left self.old)) }
@@ -200,7 +203,7 @@ impl<'t, 'a> Reader<'t, 'a> {
         Ok(found)
     }
 
-    /// The parameters before `)`.
+    /// The parameters before `)` (`params_law`).
     #[tactic(auto, unfolding(crate::specs::Reading::params_at))]
     fn params(&mut self, alloc: Global) -> Result<Vec<Param<'a>>, ReadErr>
         ensures { Gives (λ x. (map param_view x.items, left self.new)) result (params_at (left self.old)) }
@@ -213,7 +216,7 @@ impl<'t, 'a> Reader<'t, 'a> {
         self.next_params(found)
     }
 
-    /// An integer type, or None for `void`.
+    /// An integer type, or None for `void` (`result_type_law`).
     #[tactic(auto, unfolding(crate::specs::Reading::result_type_at, crate::specs::Reading::flag_at))]
     fn result_type(&mut self) -> Result<Option<Token<'a>>, ReadErr>
         ensures { Gives (λ x. (name_view x, left self.new)) result (result_type_at (left self.old)) }
@@ -224,6 +227,7 @@ impl<'t, 'a> Reader<'t, 'a> {
         Ok(Some(self.one(Kind::IntType)?))
     }
 
+    /// A function (`function_law`).
     #[tactic(auto, unfolding(crate::specs::Reading::function_at))]
     fn function(&mut self, alloc: Global) -> Result<Function<'a>, ReadErr>
         ensures { Gives (λ x. (function_view x, left self.new)) result (function_at (left self.old)) }
@@ -259,7 +263,7 @@ impl<'t, 'a> Reader<'t, 'a> {
         Ok(found)
     }
 
-    /// The name of the module, if it is written.
+    /// The name of the module, if it is written (`source_law`).
     #[tactic(auto, unfolding(crate::specs::Reading::source_at, crate::specs::Reading::flag_at))]
     fn source(&mut self) -> Result<Option<Token<'a>>, ReadErr>
         ensures { Gives (λ x. (name_view x, left self.new)) result (source_at (left self.old)) }

@@ -1,8 +1,9 @@
 //! What the names and numbers of a function stand for while it is built.
 
-ghost use Rattle.std.specs.Prelude.{◌≡◌, Some, OnOk};
-ghost use Rattle.ll_text.specs.Meaning.{empty_scope};
-ghost use Rattle.ll_text.specs.ScopeView.{local_at, Knows, Counts, Defines};
+ghost use Rattle.std.specs.Prelude.{◌≡◌, None, Some, Err, OnOk};
+ghost use Rattle.ll_text.specs.Meaning as meaning;
+ghost use Rattle.ll_text.specs.Meaning.{empty_scope, counted};
+ghost use Rattle.ll_text.specs.ScopeView.{option_key, local_view, local_at, Knows, Counts, Defines};
 
 use crate::read_err::ReadErr;
 use llvm_core::numbers::{LLVMBasicBlock, LLVMFunction, LLVMInstRef};
@@ -53,7 +54,8 @@ impl<'a> Scope<'a> {
 
     /// Defines what takes a number, and counts on behind it.
     fn count(&mut self, local: Local, number: u32) -> Result<(), ReadErr>
-        ensures { OnOk result (Counts self.old local number self.new) }
+        ensures ok { OnOk result (Counts self.old local number self.new) }
+        ensures not_yet { result ≡ Err ReadErr.NotYet → (s : meaning.Scope) → Knows self.old s → counted s (local_view local) number ≡ None }
     {
         if number == u32::MAX {
             return Err(ReadErr::NotYet);
@@ -65,7 +67,8 @@ impl<'a> Scope<'a> {
 
     /// Defines a thing under a name, or under a number that is at least the counter.
     fn define_under(&mut self, local: Local, key: Key<'a>) -> Result<(), ReadErr>
-        ensures { OnOk result (Defines self.old local (Some key.entry) self.new) }
+        ensures ok { OnOk result (Defines self.old local (Some key.entry) self.new) }
+        ensures not_yet { result ≡ Err ReadErr.NotYet → (s : meaning.Scope) → Knows self.old s → meaning.define s (local_view local) (option_key (Some key.entry)) ≡ None }
     {
         match key {
             Key::Numbered(number) => {
@@ -84,7 +87,8 @@ impl<'a> Scope<'a> {
     /// Defines the next thing of the function, under what is written of its name. What has neither a name nor
     /// a number takes the counter.
     pub fn define(&mut self, local: Local, key: Option<Key<'a>>) -> Result<(), ReadErr>
-        ensures { OnOk result (Defines self.old local key.entry self.new) }
+        ensures ok { OnOk result (Defines self.old local key.entry self.new) }
+        ensures not_yet { result ≡ Err ReadErr.NotYet → (s : meaning.Scope) → Knows self.old s → meaning.define s (local_view local) (option_key key.entry) ≡ None }
     {
         match key {
             None => self.count(local, self.next),

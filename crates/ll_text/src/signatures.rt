@@ -1,12 +1,12 @@
 //! The types of functions.
 
-ghost use Rattle.std.specs.Prelude.{◌≡◌, ◌≤◌, ◌++◌, ◌∷◌, [], List, Some, IfSome, IfOk, OnOk, map, slice_get};
+ghost use Rattle.std.specs.Prelude.{◌≡◌, ◌≤◌, ◌++◌, ◌∷◌, [], ℕ, List, None, Some, Err, IfSome, IfOk, OnOk, map, slice_get};
 ghost use Rattle.llvm_core.specs.Names.{is_plain};
-ghost use Rattle.ll_text.specs.Meaning.{result_data};
+ghost use Rattle.ll_text.specs.Meaning.{int_width, result_data};
 ghost use Rattle.ll_text.specs.Tree as tree;
 ghost use Rattle.ll_text.specs.TreeView.{name_view, param_view};
 ghost use Rattle.ll_text.specs.Building.{OnlyInterns};
-ghost use Rattle.ll_text.specs.Signatures.{returned, returned_kind, HasParams, HasSignature};
+ghost use Rattle.ll_text.specs.Signatures.{returned, returned_kind, AreWidths, HasParams, HasSignature};
 
 use crate::names::int_width;
 use crate::read_err::ReadErr;
@@ -23,6 +23,7 @@ pub fn result_width(ty: Option<Token<'_>>) -> Result<Option<u32>, ReadErr>
     ensures width { IfOk result (λ r. result_data is_plain 64 (name_view ty.entry) ≡ Some (returned r)) }
     ensures least { IfOk result (λ r. IfSome r (λ w. 1 ≤ w)) }
     ensures most { IfOk result (λ r. IfSome r (λ w. w ≤ 64)) }
+    ensures not_yet { result ≡ Err ReadErr.NotYet → result_data is_plain 64 (name_view ty.entry) ≡ None }
 {
     let Some(token) = ty else {
         return Ok(None);
@@ -55,6 +56,7 @@ fn push_type(
 ) -> Result<(), ReadErr>
     ensures types { OnOk result ((ps : List tree.Param) → HasParams ps module.old.types types.old → HasParams (ps ++ param_view param.now ∷ []) module.new.types types.new) }
     ensures rest { OnOk result (OnlyInterns module.old module.new) }
+    ensures not_yet { result ≡ Err ReadErr.NotYet → int_width is_plain 64 (param_view param.now).type ≡ None }
 {
     let Some(width) = int_width(param.ty.text) else {
         return Err(ReadErr::NotYet);
@@ -72,6 +74,7 @@ fn param_types(
 ) -> Result<Items<LLVMType>, ReadErr>
     ensures types { IfOk result (λ ts. HasParams (map param_view params.now) module.new.types ts) }
     ensures rest { OnOk result (OnlyInterns module.old module.new) }
+    ensures not_yet { result ≡ Err ReadErr.NotYet → (widths : List ℕ) → ¬ AreWidths (map param_view params.now) widths }
 {
     let mut types = Items::new(alloc);
     for param in params {
@@ -91,6 +94,7 @@ pub fn signature(
     requires most { IfSome returns (λ w. w ≤ 64) }
     ensures ty { IfOk result (λ t. HasSignature (map param_view params.now) module.new t returns) }
     ensures rest { OnOk result (OnlyInterns module.old module.new) }
+    ensures not_yet { result ≡ Err ReadErr.NotYet → (widths : List ℕ) → ¬ AreWidths (map param_view params.now) widths }
 {
     let result = result_type(module, returns)?;
     let params = param_types(alloc, module, params)?;

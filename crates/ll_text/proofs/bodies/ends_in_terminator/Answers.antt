@@ -1,3 +1,4 @@
+-- What `bodies::ends_in_terminator` owes besides what the check finds.
 use Rattle.ll_text.specs.Tree as tree
 use Rattle.ll_text.specs.TreeView.{inst_view}
 use Rattle.ll_text.proofs.EndLaws.{ends_true, ends_false}

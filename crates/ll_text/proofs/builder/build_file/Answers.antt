@@ -1,3 +1,4 @@
+-- What `builder::build_file` owes besides what the check finds.
 use Rattle.std.proofs.Common.{ap, sym, subst, []}
 use Rattle.llvm_core.specs.Module.{Module}
 use Rattle.llvm_core.specs.Names.{is_plain}
@@ -6,6 +7,8 @@ use Rattle.ll_text.specs.TreeView.{name_view, file_view}
 use Rattle.ll_text.specs.Meaning.{IsSource}
 use Rattle.ll_text.specs.Bodies.{IsBuiltOf}
 use Rattle.ll_text.proofs.FileLaws.{none_built, built_more, all_built, file_said}
+use Rattle.ll_text.proofs.RefusalLaws.{passed_on}
+use Rattle.ll_text.proofs.UnsaidLaws.{unsaid_functions}
 use Rattle.ll_text.proofs.builder.build_file.Goals as goal
 
 pub loop-function-init : goal.loop-function-init
@@ -14,13 +17,13 @@ loop-function-init c = let e = c.in_ok-module.ensures.stores in subst (λ (n : T
 pub loop-function-preserved : goal.loop-function-preserved
 loop-function-preserved c =
     let value = c.as_slice-function-items.ensures.value in
-    built_more _ c.args.file.now.functions.items c.loop-function.function-index c.function-item.result _ (rw value at c.loop-function-test.true) (rw value at c.function-item.is) (c.in_ok-add_function.ensures _ _ c.loop-function.invariant)
+    built_more _ c.args.file.now.functions.items c.loop-function.function-index c.function-item.result _ (rw value at c.loop-function-test.true) (rw value at c.function-item.is) (c.in_ok-add_function.ensures.adds _ _ c.loop-function.invariant)
 
 pub returns-clause-says : goal.returns-clause-says
 returns-clause-says c =
     let value = c.as_slice-function-items.ensures.value in
     let name = ap (λ (m : Module). m.name) c.in_ok-module.ensures.stores in
-    file_said (file_view c.args.file.now) _ _ (subst (IsSource is_plain 64 (name_view c.args.file.now.source)) (sym name) c.in_ok-source_name.ensures)
+    file_said (file_view c.args.file.now) _ _ (subst (IsSource is_plain 64 (name_view c.args.file.now.source)) (sym name) c.in_ok-source_name.ensures.says)
     (all_built _ c.args.file.now.functions.items _ _ (rw value at c.loop-function-test.false) c.loop-function.invariant)
 
 pub returns-clause-returns : goal.returns-clause-returns
@@ -28,3 +31,11 @@ returns-clause-returns c = let value = c.as_slice-function-items.ensures.value i
 
 pub returns-clause-numbered : goal.returns-clause-numbered
 returns-clause-numbered c = let value = c.as_slice-function-items.ensures.value in (all_built _ c.args.file.now.functions.items _ _ (rw value at c.loop-function-test.false) c.loop-function.invariant).numbered
+
+pub returns-in_err-add_function-clause-not_yet : goal.returns-in_err-add_function-clause-not_yet
+returns-in_err-add_function-clause-not_yet c = λ e d h fits.
+    let x = c.in_err-add_function in
+    let r = c.from_residual-in_err-add_function in
+    let value = c.as_slice-function-items.ensures.value in
+    unsaid_functions c.args.file.now.functions.items d.functions c.loop-function.function-index c.function-item.result (rw value at c.loop-function-test.true) (rw value at c.function-item.is)
+    (x.ensures.not_yet (passed_on r.result x.field-0.0 r.ensures.1 e)) h.functions fits

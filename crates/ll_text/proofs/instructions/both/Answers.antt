@@ -1,3 +1,4 @@
+-- What `instructions::both` owes besides what the check finds.
 use Rattle.ll_text.proofs.ModuleLaws.{value_kept, ready_kept, said_kept, interned_twice}
 use Rattle.ll_text.proofs.instructions.both.Goals as goal
 

@@ -1,3 +1,4 @@
+-- What `instructions::build_return` owes besides what the check finds.
 use Rattle.ll_text.proofs.BuildLaws.{built_ready}
 use Rattle.ll_text.proofs.instructions.build_return.Goals as goal
 

@@ -1,3 +1,4 @@
+-- What `operands::constant` owes besides what the check finds.
 use Rattle.std.proofs.Common.{sym, ◌∙◌}
 use Rattle.ll_text.proofs.ModuleLaws.{type_interned, const_interned, interned_twice, constant_said}
 use Rattle.ll_text.proofs.operands.constant.Goals as goal

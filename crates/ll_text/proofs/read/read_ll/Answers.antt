@@ -1,8 +1,12 @@
-use Rattle.std.proofs.Common.{refl}
+-- What is read is spelled and of the form, and what is refused spells no checked module of the form.
+use Rattle.std.proofs.Common.{◌≡◌, Err, refl, subst, rules}
+use Rattle.llvm_core.specs.Sound.{IsModule}
+use Rattle.ll_text.specs.declared.read_err.ReadErr.TheVariants as errors
 use Rattle.ll_text.specs.TokenView.{texts_of}
 use Rattle.ll_text.specs.TreeView.{file_view}
 use Rattle.ll_text.proofs.MeaningLaws.{wider_file}
 use Rattle.ll_text.proofs.FormLaws.{form_of, source_plain}
+use Rattle.ll_text.proofs.ReadLaws.{form_said, checked_of_said}
 use Rattle.ll_text.proofs.read.read_ll.Goals as goal
 
 pub returns-clause-spelled : goal.returns-clause-spelled
@@ -25,3 +29,21 @@ returns-clause-form c = let e = c.in_ok-built.ensures in form_of (file_view c.in
 
 pub returns-clause-name : goal.returns-clause-name
 returns-clause-name c = source_plain _ _ c.in_ok-built.ensures.says.source
+
+pub returns-in_err-check_built-clause-not_yet : goal.returns-in_err-check_built-clause-not_yet
+returns-in_err-check_built-clause-not_yet c = λ e spelled.
+    let refused : c.check_built.result ≡ Err errors.NotYet = search rules in
+    let unchecked = c.check_built.ensures.not_yet refused in
+    let sound : IsModule c.in_ok-built.built = subst IsModule c.built.view_is c.built.invariant in
+    let found = rw c.as_slice.ensures.value at c.in_ok-tree.ensures.found in
+    let t = file_view c.in_ok-tree.tree in
+    let said = form_said c.args.bytes.now _ t spelled c.in_ok-tokens.ensures.found found in
+    unchecked (checked_of_said t c.in_ok-built.built said sound c.in_ok-built.ensures.says c.in_ok-built.ensures.numbered)
+
+pub returns-in_err-built-clause-not_yet : goal.returns-in_err-built-clause-not_yet
+returns-in_err-built-clause-not_yet c = λ e spelled.
+    let refused : c.build_file.result ≡ Err errors.NotYet = search rules in
+    let found = rw c.as_slice.ensures.value at c.in_ok-tree.ensures.found in
+    let t = file_view c.in_ok-tree.tree in
+    let said = form_said c.args.bytes.now _ t spelled c.in_ok-tokens.ensures.found found in
+    c.build_file.ensures.not_yet refused said.said said.says said.fits

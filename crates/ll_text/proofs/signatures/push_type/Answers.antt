@@ -1,3 +1,4 @@
+-- What `signatures::push_type` owes besides what the check finds.
 use Rattle.ll_text.specs.TreeView.{param_view}
 use Rattle.ll_text.proofs.ModuleLaws.{type_interned}
 use Rattle.ll_text.proofs.SignatureLaws.{params_push}

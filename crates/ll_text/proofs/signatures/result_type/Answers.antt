@@ -1,3 +1,4 @@
+-- What `signatures::result_type` owes besides what the check finds.
 use Rattle.ll_text.proofs.ModuleLaws.{type_interned}
 use Rattle.ll_text.proofs.signatures.result_type.Goals as goal
 

@@ -1,3 +1,4 @@
+-- What `signatures::signature` owes besides what the check finds.
 use Rattle.ll_text.proofs.SignatureLaws.{type_over, signed}
 use Rattle.ll_text.proofs.signatures.signature.Goals as goal
 

@@ -1,0 +1,6 @@
+-- A rule that the check answers is one that fails.
+use Rattle.ll_text.proofs.ReadLaws.{unchecked}
+use Rattle.ll_text.proofs.read.check_built.Goals as goal
+
+pub returns-in_default-rule-clause-not_yet : goal.returns-in_default-rule-clause-not_yet
+returns-in_default-rule-clause-not_yet c = λ e. unchecked c.args.m.now c.in-Err.rule c.in-Err.ensures.err c.in_default-rule.not-NoMemory

@@ -1,0 +1,73 @@
+//! Laws of the grammar, each on a function that makes no call. Of each production: its tokens are those of one
+//! thing, which ends at one place (`one`), what is read was written so (`written`), and what is written so is read
+//! (`back`). Of a list of tokens: it spells one module.
+
+ghost use Rattle.std.specs.Prelude.{◌≡◌, List, []};
+ghost use Rattle.std.specs.List.{flat_map, AllByRecursion};
+ghost use Rattle.llvm_core.specs.Data.{ModuleData};
+ghost use Rattle.ll_text.specs.Text.{Text};
+ghost use Rattle.ll_text.specs.Tree.{is_int_type, is_string, inst, param, next_param, params, result_type, function, source, IfPresent, IsInst, IsParam, IsFunction};
+ghost use Rattle.ll_text.specs.Reading.{inst_at, insts_at, param_at, next_param_at, params_at, result_type_at, function_at, source_at};
+ghost use Rattle.ll_text.specs.Productions.{IsUnambiguous, ReadsWritten, ReadsBack, Anything, NoLocal, Closes, Ends, NoSource};
+ghost use Rattle.ll_text.specs.Spelling.{Spelled, IsNumbered};
+
+/// An instruction.
+pub fn inst_law()
+    ensures one { IsUnambiguous inst IsInst Anything }
+    ensures written { ReadsWritten inst IsInst inst_at }
+    ensures back { ReadsBack inst IsInst Anything inst_at }
+{}
+
+/// The instructions of a block.
+pub fn insts_law()
+    ensures one { IsUnambiguous (flat_map inst) (AllByRecursion IsInst) Ends }
+    ensures written { ReadsWritten (flat_map inst) (AllByRecursion IsInst) insts_at }
+    ensures back { ReadsBack (flat_map inst) (AllByRecursion IsInst) Ends insts_at }
+{}
+
+/// A parameter.
+pub fn param_law()
+    ensures one { IsUnambiguous param IsParam NoLocal }
+    ensures written { ReadsWritten param IsParam param_at }
+    ensures back { ReadsBack param IsParam NoLocal param_at }
+{}
+
+/// A comma and a parameter.
+pub fn next_param_law()
+    ensures one { IsUnambiguous next_param IsParam NoLocal }
+    ensures written { ReadsWritten next_param IsParam next_param_at }
+    ensures back { ReadsBack next_param IsParam NoLocal next_param_at }
+{}
+
+/// The parameters of a function.
+pub fn params_law()
+    ensures one { IsUnambiguous params (AllByRecursion IsParam) Closes }
+    ensures written { ReadsWritten params (AllByRecursion IsParam) params_at }
+    ensures back { ReadsBack params (AllByRecursion IsParam) Closes params_at }
+{}
+
+/// The type that a function returns.
+pub fn result_type_law()
+    ensures one { IsUnambiguous result_type (IfPresent is_int_type) Anything }
+    ensures written { ReadsWritten result_type (IfPresent is_int_type) result_type_at }
+    ensures back { ReadsBack result_type (IfPresent is_int_type) Anything result_type_at }
+{}
+
+/// A function.
+pub fn function_law()
+    ensures one { IsUnambiguous function IsFunction Anything }
+    ensures written { ReadsWritten function IsFunction function_at }
+    ensures back { ReadsBack function IsFunction Anything function_at }
+{}
+
+/// The name of the module.
+pub fn source_law()
+    ensures one { IsUnambiguous source (IfPresent is_string) NoSource }
+    ensures written { ReadsWritten source (IfPresent is_string) source_at }
+    ensures back { ReadsBack source (IfPresent is_string) NoSource source_at }
+{}
+
+/// A list of tokens spells one module at most, once its parts are numbered in order.
+pub fn one_module()
+    ensures { (ts : List Text) (d e : ModuleData) → Spelled d [] ts → Spelled e [] ts → IsNumbered d → IsNumbered e → d ≡ e }
+{}
