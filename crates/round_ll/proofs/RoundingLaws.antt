@@ -97,10 +97,10 @@ module _ (m back : Module) (i : Imported) (form : IsForm (data_of m)) (sound : I
 
 -- ---- all that is promised
 
-pub rounds_of : (input : List ℕ) (m : Module) (t boxed : Transferred) (text held : List ℕ) → boxed ≡ t → held ≡ text → IsChecked m → IsNumbered (data_of m) → IsForm (data_of m) → IsPlainOrNone m.name
+pub rounds_of : (input : List ℕ) (m : Module) (t boxed : Transferred) (text held : List ℕ) → boxed ≡ t → held ≡ text → IsModule m → IsChecked m → IsNumbered (data_of m) → IsForm (data_of m) → IsPlainOrNone m.name
     → Spells input (data_of m)
     → SameThroughout (data_of m) t → IsChecked t.back → IsOutput (data_of m) t text → Rounds input boxed held
-rounds_of input m t boxed text held is same_text checked numbered form name spelled same back output =
+rounds_of input m t boxed text held is same_text sound checked numbered form name spelled same back output =
     subst (λ (u : Transferred). Rounds input u held) (sym is)
     (subst (λ (v : List ℕ). Rounds input t v) (sym same_text)
-    (record { source = m; checked = checked; numbered = numbered; form = form; name = name; spelled = spelled; same = same; back_checked = back; output = output }))
+    (record { source = m; sound = sound; checked = checked; numbered = numbered; form = form; name = name; spelled = spelled; same = same; back_checked = back; output = output }))

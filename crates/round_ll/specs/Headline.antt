@@ -1,6 +1,7 @@
 -- What `round` has done where it ends with status 0.
 use Rattle.std.specs.Prelude.{ℕ, ◌≡◌, List, [], ◌∷◌, ◌++◌, codes, map}
 use Rattle.llvm_core.specs.Module.{Module}
+use Rattle.llvm_core.specs.Sound.{IsModule}
 use Rattle.llvm_core.specs.Names.{IsPlainOrNone}
 use Rattle.llvm_core.specs.Checked.{IsChecked}
 use Rattle.llvm_core.specs.Form.{IsForm}
@@ -49,10 +50,11 @@ pub record IsOutput (m : ModuleData) (t : Transferred) (text : List ℕ) : Type 
   pub lines : EndsLine llvm
   pub whole : text ≡ module_text (dialect_of t) ++ codes ";; llvm\n" ++ llvm ++ codes ";; report\n" ++ report_text m t.blocks
 
--- The input spells one checked module; the dialect module and the module back have its code; and text is
--- the output.
+-- The input spells one sound and checked module of the form; the dialect module and the module back have its
+-- code; and text is the output.
 pub record Rounds (input : List ℕ) (t : Transferred) (text : List ℕ) : Type 0 where
   pub source : Module
+  pub sound : IsModule source
   pub checked : IsChecked source
   pub numbered : IsNumbered (L.data_of source)
   pub form : IsForm (L.data_of source)

@@ -1,5 +1,5 @@
 -- The lines of the report that show the match of blocks.
-use Rattle.std.specs.Prelude.{ℕ, ◌<◌, List, [], ◌∷◌, ◌++◌, slice_get, codes, All}
+use Rattle.std.specs.Prelude.{ℕ, ◌≡◌, ◌<◌, List, [], ◌∷◌, ◌++◌, slice_get, codes, All}
 use Rattle.std.specs.List.{flat_map}
 use Rattle.std.specs.Option.{option_map_or}
 use Rattle.std.specs.Fmt.{decimal}
@@ -25,3 +25,10 @@ AllNamed n bs = All (λ (x : FunctionBlocks). x.function.0 < n) bs
 -- the report: a line for each function with a body
 abbrev pub report_text : ModuleData → List FunctionBlocks → List ℕ
 report_text d bs = flat_map (blocks_line d) bs
+
+-- a front of the text stands behind what was there before
+pub record HoldsFront (before after text : List ℕ) : Type 0 where
+  pub front : List ℕ
+  pub rest : List ℕ
+  pub is : text ≡ front ++ rest
+  pub held : after ≡ before ++ front

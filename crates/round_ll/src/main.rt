@@ -12,8 +12,10 @@ mod stopped;
 mod tests;
 mod transferred;
 
+use crate::ended::Ended;
 use crate::outside::{StdSink, StdSource};
-use crate::run::run;
+use crate::run::{run, say};
+use std::io::ErrorKind;
 use std::process::ExitCode;
 use std::{env, io};
 
@@ -26,13 +28,20 @@ fn words(rt: &HostRuntime) -> io::Result<Vec<String>> {
     Ok(words)
 }
 
-/// Runs over the standard streams, and ends with the status of the answer. Words that the system
-/// does not give, or that are no text, are no command.
+/// Runs over the standard streams, and ends with the status of the answer. Words that are no text are no
+/// command; where there is no memory for them, that is the answer.
 fn main(rt: HostRuntime) -> ExitCode {
-    let words = words(&rt).unwrap_or(Vec::new(rt.alloc()));
     let mut source = StdSource::new(rt.stdin());
     let mut out = StdSink::new(rt.stdout());
     let mut err = StdSink::new(rt.stderr());
+    let words = match words(&rt) {
+        Ok(words) => words,
+        Err(e) if e.kind() == ErrorKind::OutOfMemory => {
+            say(&mut err, &Ended::NoMemory);
+            return ExitCode::from(Ended::NoMemory.status());
+        }
+        Err(_) => Vec::new(rt.alloc()),
+    };
     let ended = run(
         rt.alloc(),
         words.as_slice(),

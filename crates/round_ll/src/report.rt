@@ -1,21 +1,32 @@
 //! The report of a translation.
 
-ghost use Rattle.std.specs.Prelude.{◌≡◌, ◌<◌, ◌++◌, OnOk, length};
+ghost use Rattle.std.specs.Prelude.{◌≡◌, ◌<◌, ◌++◌, OnErr, OnOk, codes, length};
+ghost use Rattle.std.specs.Fmt.{decimal};
 ghost use Rattle.llvm_core.specs.Data.{data_of};
-ghost use Rattle.round_ll.specs.Report.{places_text, blocks_line, report_text, AllNamed};
+ghost use Rattle.round_ll.specs.Report.{places_text, blocks_line, report_text, AllNamed, HoldsFront};
 
-use dialect_types::printing::print_number;
 use from_llvm_ir::matching::FunctionBlocks;
+use itoa::Buffer;
 use llvm_core::module::LLVMModule;
 use std::alloc::AllocError;
 
+/// Appends a place behind a blank.
+fn print_place(place: u32, out: &mut Vec<u8>) -> Result<(), AllocError>
+    ensures ok { OnOk result (out.new.items ≡ out.old.items ++ (codes " " ++ decimal place)) }
+    ensures err { OnErr result (HoldsFront out.old.items out.new.items (codes " " ++ decimal place)) }
+{
+    out.push(b' ')?;
+    let mut digits = Buffer::new();
+    out.extend_from_slice(digits.format(place).as_bytes())
+}
+
 /// Appends the places of a function's blocks, each behind a blank.
 fn print_places(places: &[u32], out: &mut Vec<u8>) -> Result<(), AllocError>
-    ensures { OnOk result (out.new.items ≡ out.old.items ++ places_text places.now) }
+    ensures ok { OnOk result (out.new.items ≡ out.old.items ++ places_text places.now) }
+    ensures err { OnErr result (HoldsFront out.old.items out.new.items (places_text places.now)) }
 {
     for place in places {
-        out.push(b' ')?;
-        print_number(u64::from(*place), out)?;
+        print_place(*place, out)?;
     }
     Ok(())
 }
@@ -27,7 +38,8 @@ fn print_blocks(
     out: &mut Vec<u8>,
 ) -> Result<(), AllocError>
     requires { blocks.now.function.0 < length module.now.functions }
-    ensures { OnOk result (out.new.items ≡ out.old.items ++ blocks_line (data_of module.now) blocks.now) }
+    ensures ok { OnOk result (out.new.items ≡ out.old.items ++ blocks_line (data_of module.now) blocks.now) }
+    ensures err { OnErr result (HoldsFront out.old.items out.new.items (blocks_line (data_of module.now) blocks.now)) }
 {
     out.extend_from_slice(b"blocks @")?;
     out.extend_from_slice(module.function_name(blocks.function).as_bytes())?;
@@ -36,14 +48,16 @@ fn print_blocks(
     Ok(())
 }
 
-/// Appends the report: a line for each function with a body.
+/// Appends the report: a line for each function with a body. Where memory is wanting, a front of it
+/// may stand behind what was there.
 pub fn print_report(
     module: &LLVMModule,
     blocks: &[FunctionBlocks],
     out: &mut Vec<u8>,
 ) -> Result<(), AllocError>
     requires { AllNamed (length module.now.functions) blocks.now }
-    ensures { OnOk result (out.new.items ≡ out.old.items ++ report_text (data_of module.now) blocks.now) }
+    ensures ok { OnOk result (out.new.items ≡ out.old.items ++ report_text (data_of module.now) blocks.now) }
+    ensures err { OnErr result (HoldsFront out.old.items out.new.items (report_text (data_of module.now) blocks.now)) }
 {
     for x in blocks {
         print_blocks(module, x, out)?;

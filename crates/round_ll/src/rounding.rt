@@ -6,6 +6,7 @@ ghost use Rattle.llvm_core.specs.Checked.{IsChecked};
 ghost use Rattle.llvm_core.specs.Data.{data_of, AreApart};
 ghost use Rattle.llvm_core.specs.Names.{IsPlainOrNone};
 ghost use Rattle.llvm_core.specs.Form.{IsForm};
+ghost use Rattle.ll_text.specs.Spelling.{IsSpelled};
 ghost use Rattle.round_ll.specs.Headline.{IsOutput, Rounds, SameThroughout};
 ghost use Rattle.round_ll.specs.Rounding.{IsPrintable};
 
@@ -91,11 +92,14 @@ fn pack(alloc: Global, transferred: Transferred, text: Vec<u8>) -> Result<Output
     }
 }
 
-/// The modules and the whole output for a text of the form.
+/// The modules and the whole output for a text of the form. `NotYet` is for bytes that spell no
+/// module of it: import, export and printing want nothing but memory.
 pub fn round_text(alloc: Global, bytes: &[u8]) -> Result<Output, ReadErr>
-    ensures { IfOk result (λ o. Rounds bytes.now o.transferred.value o.text.items) }
+    ensures rounds { IfOk result (λ o. Rounds bytes.now o.transferred.value o.text.items) }
+    ensures not_yet { result ≡ Err ReadErr.NotYet → ¬ IsSpelled bytes.now }
 {
     let source = read_ll(alloc, bytes)?;
+    know_sound(&source);
     let transferred = transfer(alloc, &source)?;
     let text = print_output(alloc, &source, &transferred)?;
     let output = pack(alloc, transferred, text)?;

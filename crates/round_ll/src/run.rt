@@ -1,10 +1,10 @@
 //! The top call: all that the program does.
 
-ghost use Rattle.std.specs.Prelude.{◌≡◌, ◌≤◌, List, ℕ, IfOk, IfErr, map, string_bytes};
+ghost use Rattle.std.specs.Prelude.{◌≡◌, ◌+◌, ◌^◌, [], IfOk, IfErr, map, string_bytes};
 ghost use Rattle.round_ll.specs.Commands.{command_of};
 ghost use Rattle.round_ll.specs.Ending.{line_of};
-ghost use Rattle.round_ll.specs.Headline.{Rounds};
-ghost use Rattle.round_ll.specs.Running.{Told, Made, StopCause, RoundEnded, RunEnded, Says, Wrote};
+ghost use Rattle.round_ll.specs.Outside.AllBytes.{GaveAtMost};
+ghost use Rattle.round_ll.specs.Running.{Made, RoundEnded, RunEnded, Says, StopCause, TakesSpelled, UnlessWriting, Wrote};
 
 use crate::command::Command;
 use crate::ended::{Ended, Fault};
@@ -26,7 +26,17 @@ pub fn run<S: Source, O: Sink, E: Sink>(
     err: &mut E,
 ) -> Ended
     ensures ended { RunEnded (command_of (map (λ w. string_bytes w) words.now)) (record { bytes = S.left source.old; faults = S.faults source.old }) (record { bytes = S.left source.new; faults = S.faults source.new }) (record { bytes = O.taken out.old; faults = O.faults out.old }) (record { bytes = O.taken out.new; faults = O.faults out.new }) result }
+    ensures taken { TakesSpelled (command_of (map (λ w. string_bytes w) words.now)) (record { bytes = S.left source.old; faults = S.faults source.old }) (record { bytes = S.left source.new; faults = S.faults source.new }) (record { bytes = O.taken out.old; faults = O.faults out.old }) (record { bytes = O.taken out.new; faults = O.faults out.new }) result }
+
+    // Beside every answer but `Done` and a write fault the output is the object that it was. The source
+    // is, where the words are no command, and otherwise it gave a front of what it had left.
+    ensures silent { UnlessWriting result (out.new ≡ out.old) }
+    ensures untouched { command_of (map (λ w. string_bytes w) words.now) ≡ None → source.new ≡ source.old }
+    ensures front { GaveAtMost (2 ^ 24 + 1) (S.left source.old) (S.left source.new) }
+
+    // Where all was done, nothing goes to `err`.
     ensures line { Says (record { bytes = E.taken err.old; faults = E.faults err.old }) (record { bytes = E.taken err.new; faults = E.faults err.new }) (line_of result) }
+    ensures quiet { line_of result ≡ [] → err.new ≡ err.old }
 {
     let ended = match Command::of(words) {
         Some(Command::Round) => round(alloc, source, out),
@@ -37,8 +47,9 @@ pub fn run<S: Source, O: Sink, E: Sink>(
 }
 
 /// Writes the line of an answer.
-fn say<E: Sink>(err: &mut E, ended: &Ended)
+pub fn say<E: Sink>(err: &mut E, ended: &Ended)
     ensures line { Says (record { bytes = E.taken err.old; faults = E.faults err.old }) (record { bytes = E.taken err.new; faults = E.faults err.new }) (line_of ended.now) }
+    ensures quiet { line_of ended.now ≡ [] → err.new ≡ err.old }
 {
     let _ = write_all(err, ended.line().as_bytes());
 }
@@ -46,6 +57,8 @@ fn say<E: Sink>(err: &mut E, ended: &Ended)
 /// Text to dialect module and back.
 fn round<S: Source, O: Sink>(alloc: Global, source: &mut S, out: &mut O) -> Ended
     ensures ended { RoundEnded (record { bytes = S.left source.old; faults = S.faults source.old }) (record { bytes = S.left source.new; faults = S.faults source.new }) (record { bytes = O.taken out.old; faults = O.faults out.old }) (record { bytes = O.taken out.new; faults = O.faults out.new }) result }
+    ensures silent { UnlessWriting result (out.new ≡ out.old) }
+    ensures front { GaveAtMost (2 ^ 24 + 1) (S.left source.old) (S.left source.new) }
 {
     match make(alloc, source) {
         Ok(output) => finish(out, output),
@@ -58,6 +71,7 @@ fn round<S: Source, O: Sink>(alloc: Global, source: &mut S, out: &mut O) -> Ende
 fn make<S: Source>(alloc: Global, source: &mut S) -> Result<Output, Stopped>
     ensures made { IfOk result (λ o. Made (record { bytes = S.left source.old; faults = S.faults source.old }) (record { bytes = S.left source.new; faults = S.faults source.new }) o.transferred.value o.text.items) }
     ensures cause { IfErr result (λ e. StopCause (record { bytes = S.left source.old; faults = S.faults source.old }) (record { bytes = S.left source.new; faults = S.faults source.new }) e) }
+    ensures front { GaveAtMost (2 ^ 24 + 1) (S.left source.old) (S.left source.new) }
 {
     let bytes = read_all(alloc, source)?;
     let output = round_text(alloc, bytes.as_slice())?;

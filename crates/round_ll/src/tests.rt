@@ -1,5 +1,6 @@
 //! What the program prints and how it ends, text by text.
 
+mod faults;
 mod rows;
 
 use self::rows::constants::constants;
@@ -191,28 +192,6 @@ fn the_longest_text_goes_round_and_one_byte_more_does_not(rt: HostRuntime) -> Re
         longer.err.as_slice(),
         b"input longer than 16777216 bytes\n".as_slice()
     );
-    Ok(())
-}
-
-#[test]
-fn faults_of_the_objects_have_their_statuses(rt: HostRuntime) -> Result<(), Fail> {
-    let alloc = rt.alloc();
-    let words = words_of(alloc, &["round"])?;
-    let mut out = MemorySink::new(alloc, 1 << 12, 10, &[2])?;
-    let mut err = MemorySink::new(alloc, 1 << 10, 4, &[1])?;
-
-    // The second read of pieces of 8 bytes fails, and so does the second write of the line.
-    let mut source = MemorySource::new(alloc, ANSWER.as_bytes(), 8, &[1])?;
-    let ended = run(alloc, words.as_slice(), &mut source, &mut out, &mut err);
-    assert_eq!(rt; ended.status(), 3);
-    assert_eq!(rt; out.bytes().len(), 0);
-    assert_eq!(rt; err.bytes(), b"read".as_slice());
-
-    // The third write of pieces of 10 bytes fails.
-    let mut source = MemorySource::new(alloc, ANSWER.as_bytes(), 8, &[])?;
-    let ended = run(alloc, words.as_slice(), &mut source, &mut out, &mut err);
-    assert_eq!(rt; ended.status(), 4);
-    assert_eq!(rt; out.bytes(), b"builtin.module @_ {\n".as_slice());
     Ok(())
 }
 

@@ -22,6 +22,6 @@ pub record PieceCame (old new : Option (List ℕ)) (before now : List ℕ) (n : 
   pub given : old ≡ prepend_known piece new
   pub kept : now ≡ before ++ piece
 
--- the first of these bytes went behind those taken before, where those are told
+-- the first of these bytes, and not all, went behind those taken before, where those are told
 abbrev pub TookFront : Option (List ℕ) → Option (List ℕ) → List ℕ → Type 0
-TookFront old new bytes = (n : ℕ) × (n ≤ length bytes) × (new ≡ append_known old (take n bytes))
+TookFront old new bytes = (n : ℕ) × (n < length bytes) × (new ≡ append_known old (take n bytes))

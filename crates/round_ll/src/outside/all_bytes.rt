@@ -1,5 +1,5 @@
 //! Reading a source to its end, and writing a whole text.
-ghost use Rattle.std.specs.Prelude.{◌≡◌, ◌<◌, ◌≤◌, ◌+◌, ◌^◌, length, IfOk, OnErr, OnOk, IsErrOf};
+ghost use Rattle.std.specs.Prelude.{◌≡◌, ◌<◌, ◌≤◌, ◌+◌, ◌^◌, [], length, IfOk, OnErr, OnOk, IsErrOf};
 ghost use Rattle.std.specs.Io.KnownBytes.{append_known};
 ghost use Rattle.round_ll.specs.Outside.AllBytes.{GaveAll, GaveAtMost, GaveTooMany, PieceCame, TookFront};
 ghost use Rattle.round_ll.specs.Outside.Causes.{HasCause, Rose};
@@ -125,6 +125,9 @@ pub fn write_all<K: Sink>(sink: &mut K, bytes: &[u8]) -> Result<(), Failed>
     ensures taken { OnOk result (K.taken sink.new ≡ append_known (K.taken sink.old) bytes.now) }
     ensures front { OnErr result (TookFront (K.taken sink.old) (K.taken sink.new) bytes.now) }
     ensures cause { HasCause (K.faults sink.old) (K.faults sink.new) result }
+
+    // No call is made for no bytes.
+    ensures untouched { bytes.now ≡ [] → sink.new ≡ sink.old }
 {
     let mut at = 0;
     while at < bytes.len() {

@@ -22,7 +22,8 @@ pub trait Source {
         // The bytes given are the first of those that were left; a call that fails takes none.
         ensures bytes { Gives (left self.old) (left self.new) result buf.new }
 
-        // Into a buffer with room, 0 is the answer exactly where no byte is left.
+        // Into a buffer with room, 0 is the answer exactly where no byte is left, if the bytes left are told;
+        // of a source that tells none, 0 is taken for its end.
         ensures end { IfOk result (λ n. 0 < length buf.new → EndsExactlyAt (left self.old) n) }
         ensures cause { HasCause (faults self.old) (faults self.new) result };
 }

@@ -4,6 +4,7 @@ ghost use Rattle.std.specs.Prelude.{◌≡◌, ◌<◌, length, take, None, IfOk
 ghost use Rattle.std.specs.Io.{ReadsAtMost, WritesAtMost};
 ghost use Rattle.std.specs.Io.KnownBytes.{Appends, ReadConsumes};
 ghost use Rattle.round_ll.specs.Outside.Causes.{HasCause, counted};
+ghost use Rattle.round_ll.specs.Outside.StdObjects.{AppendsFront};
 ghost use Rattle.round_ll.specs.Outside.Told.{EndsExactlyAt, Gives, Takes};
 
 use super::failed::Failed;
@@ -106,6 +107,10 @@ impl<W: Write> Sink for StdSink<W> {
         // What the writer holds, where that is known, grows by the bytes taken.
         ensures writer { IfOk result (λ n. Appends (W.contents self.old.object) (W.contents self.new.object)
             (take n bytes.now)) }
+
+        // A write whose flush failed may have left its bytes there.
+        ensures writer_err { OnErr result (AppendsFront (W.contents self.old.object)
+            (W.contents self.new.object) bytes.now) }
     {
         let written = write_and_flush(&mut self.inner, bytes);
         if written.is_err() {
@@ -121,6 +126,7 @@ fn write_and_flush<W: Write>(writer: &mut W, bytes: &[u8]) -> Result<usize, Fail
     ensures goes_on { IfOk result (λ n. 0 < length bytes.now → 0 < n) }
     ensures bytes { IfOk result (λ n. Appends (W.contents writer.old) (W.contents writer.new)
         (take n bytes.now)) }
+    ensures err { OnErr result (AppendsFront (W.contents writer.old) (W.contents writer.new) bytes.now) }
 {
     let count = writer.write(bytes).map_err(|_| Failed)?;
     writer.flush().map_err(|_| Failed)?;

@@ -1,3 +1,4 @@
+-- What the loop of `report::print_places` keeps.
 use Rattle.std.proofs.Common.{◌≡◌, ◌++◌, take}
 use Rattle.round_ll.specs.Report.{places_text}
 use Rattle.round_ll.proofs.report.print_places.Given as goal

@@ -1,3 +1,4 @@
+-- What the loop of `report::print_report` keeps.
 use Rattle.std.proofs.Common.{◌≡◌, ◌++◌, take}
 use Rattle.llvm_core.specs.Data.{data_of}
 use Rattle.round_ll.specs.Report.{report_text}

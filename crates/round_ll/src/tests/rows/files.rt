@@ -4,7 +4,7 @@ use super::Row;
 
 const FILES: [Row; 5] = [
     Row {
-        text: "define i32 ; @g
+        text: "define i32 ; @g\r ; @h
  @f(\t)\r
 { ret i32 7 } ; the end",
         out: "builtin.module @_ {

@@ -12,4 +12,5 @@ loop-at-preserved g c =
       in_range = omega (arith, c.in_ok-at.ensures.bound, ap length rest, length-drop at bytes);
       taken = append_known-more _ _ _ at c.in_ok-at.field-0 bytes _ rest c.loop-at.invariant.taken c.in_ok-at.ensures.bytes;
       later = omega (arith, c.loop-at.invariant.later, c.write.ensures.cause.later);
+      untouched = λ none. absurd (omega (arith, none, c.loop-at-test.true));
     }

@@ -8,6 +8,7 @@ invariant-loop-at g l = record {
   in_range : l.at ≤ length l.bytes;
   taken : g.K.Sink.taken l.sink ≡ append_known (g.K.Sink.taken l.fn.sink) (take l.at l.bytes);
   later : g.K.Sink.faults l.fn.sink ≤ g.K.Sink.faults l.sink;
+  untouched : length l.bytes ≡ 0 → l.sink ≡ l.fn.sink;
 }
 
 abbrev pub decreases-loop-at : goal.decreases-loop-at
