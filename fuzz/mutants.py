@@ -1,0 +1,118 @@
+#!/usr/bin/env python3
+"""Mutates the examples byte by byte and token by token, and runs `round_ll round` over each mutant.
+
+    fuzz/mutants.py [SEED [COUNT]]
+
+Fails on any status other than 0 and 6, on a run that takes longer than ten seconds, and on any
+output beside status 6. Where an LLVM of version 19 or later is installed, its `llvm-as` has to take each text
+that ends with status 0, and the module back that is printed of it; earlier ones refuse numbers that leave
+some out.
+"""
+import collections
+import pathlib
+import random
+import re
+import shutil
+import subprocess
+import sys
+
+ROOT = pathlib.Path(__file__).resolve().parent.parent
+TOKEN = re.compile(rb"\s+|;[^\n]*|[@%]?[A-Za-z0-9$._-]+:?|\"[^\"]*\"|.", re.S)
+EXTRA = [b"%", b"@", b"0", b"1", b"-1", b"i1", b"i32", b"i64", b"i65", b"void", b"add", b"ret", b"nuw",
+         b"nsw", b",", b"(", b")", b"{", b"}", b"=", b":", b"define", b"%0", b"%a", b"7:", b"\n", b"true", b"\xff"]
+
+
+def mutate_bytes(rng, text):
+    """A byte changed, left out, put in or said twice."""
+    at = rng.randrange(len(text) + 1)
+    kind = rng.randrange(4)
+    if kind == 0:
+        return text[:at] + bytes([rng.randrange(256)]) + text[at + 1:]
+    if kind == 1:
+        return text[:at] + text[at + 1:]
+    if kind == 2:
+        return text[:at] + bytes([rng.choice(b" %@;:,=(){}\"-0123456789abixnul\n\0\xc3")]) + text[at:]
+    return text[:at] + text[max(at - rng.randrange(1, 9), 0):]
+
+
+def mutate_tokens(rng, text):
+    """A token changed to another one, left out, put in, or two of them exchanged."""
+    tokens = TOKEN.findall(text)
+    if not tokens:
+        return text
+    at, other = rng.randrange(len(tokens)), rng.randrange(len(tokens))
+    kind = rng.randrange(4)
+    if kind == 0:
+        tokens[at] = rng.choice([tokens[other], rng.choice(EXTRA)])
+    elif kind == 1:
+        del tokens[at]
+    elif kind == 2:
+        tokens.insert(at, rng.choice([tokens[other], rng.choice(EXTRA)]))
+    else:
+        tokens[at], tokens[other] = tokens[other], tokens[at]
+    return b"".join(tokens)
+
+
+def assembler_of_19():
+    """An installed `llvm-as` of version 19 or later, none where there is none."""
+    for name in ["llvm-as-19", "llvm-as"]:
+        path = shutil.which(name)
+        if path is None:
+            continue
+        said = subprocess.run([path, "--version"], capture_output=True, text=True).stdout
+        version = re.search(r"version (\d+)", said)
+        if version and int(version[1]) >= 19:
+            return path
+    return None
+
+
+def taken(assembler, text):
+    """Whether LLVM's assembler takes a text; yes where none is installed."""
+    if assembler is None:
+        return True
+    done = subprocess.run([assembler, "-o", "/dev/null", "-"], input=text, capture_output=True)
+    return done.returncode == 0
+
+
+def fault_of(program, assembler, text, counts):
+    """What is wrong with the answer to a text, none where nothing is."""
+    try:
+        done = subprocess.run([program, "round"], input=text, capture_output=True, timeout=10)
+    except subprocess.TimeoutExpired:
+        return "hangs"
+    counts[done.returncode] += 1
+    if done.returncode == 6:
+        return "output beside status 6" if done.stdout else None
+    if done.returncode != 0:
+        return f"status {done.returncode}"
+    back = done.stdout.split(b"\n;; llvm\n", 1)[1].rsplit(b";; report\n", 1)[0]
+    if not taken(assembler, text):
+        return "taken here, refused by llvm-as"
+    if not taken(assembler, back):
+        return "the module back is refused by llvm-as"
+    return None
+
+
+def main():
+    seed = int(sys.argv[1]) if len(sys.argv) > 1 else 1
+    count = int(sys.argv[2]) if len(sys.argv) > 2 else 20000
+    subprocess.run([str(ROOT / "round_ll"), "round"], stdin=subprocess.DEVNULL, stdout=subprocess.DEVNULL, check=True)
+    program = str(ROOT / "crates/round_ll/out/round_ll")
+    assembler = assembler_of_19()
+    examples = [path.read_bytes() for path in sorted((ROOT / "examples").glob("*.ll"))]
+    rng, counts, faults = random.Random(seed), collections.Counter(), 0
+    for _ in range(count):
+        text = rng.choice(examples)
+        for _ in range(rng.choice([1, 1, 1, 2, 4])):
+            text = rng.choice([mutate_bytes, mutate_tokens])(rng, text)
+        fault = fault_of(program, assembler, text, counts)
+        if fault:
+            faults += 1
+            print(f"{fault}: {text!r}")
+    shown = ", ".join(f"status {status}: {n}" for status, n in sorted(counts.items()))
+    print(f"seed {seed}, {count} mutants; {shown}; {faults} faults; llvm-as: {assembler or 'none'}")
+    sys.exit(1 if faults else 0)
+
+
+if __name__ == "__main__":
+    main()
