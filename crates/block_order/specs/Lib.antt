@@ -1,0 +1,6 @@
+-- The definitions that contracts cite.
+pub mod Graph
+pub mod Order
+pub mod Marks
+pub mod DepthFirst
+pub mod Walking
