@@ -1,9 +1,12 @@
 #!/usr/bin/env python3
-"""Seconds, MB/s and peak memory of `round_ll round` on texts of 1, 4 and 16 MiB.
+"""Seconds, MB/s and peak memory of `round_ll round` on large texts.
 
-Two kinds of text: functions that each return an integer, and functions of a hundred adds each.
+First texts of 1, 4 and 16 MiB of two kinds: functions that each return an integer, and functions of a hundred adds
+each. Then control flow, a tenth of each text and the whole: many blocks that all branch to one block with three
+phis, a ladder of conditional branches, and functions of a hundred blocks.
 Beside each stands `opt -S -passes=verify` of an installed LLVM, where there is one.
-A last line for each kind says how the time per byte at 16 MiB stands to that at 1 MiB.
+A last line for each kind says how the time per byte of the largest stands to that of the smallest; more than 1.5
+is more than wanted.
 """
 import os
 import pathlib
@@ -16,6 +19,8 @@ import time
 
 ROOT = pathlib.Path(__file__).resolve().parent.parent
 MIB = 1 << 20
+LIMIT = 1 << 24
+WANTED = 1.5
 
 
 def answer(number):
@@ -33,16 +38,63 @@ def sums(number):
     return "\n".join(lines)
 
 
-def text_of(item_of, size):
-    """Functions, with less than one function's bytes to spare."""
+def hundred(number):
+    """A function of a hundred blocks: a loop around a row of 32 diamonds, with a phi at each join."""
+    lines = [f"define i32 @f{number}(i32 %n, i1 %c) {{", "entry:", "  br label %j0"]
+    entries = "[ %n, %entry ], [ %y, %j32 ]"
+    for k in range(32):
+        lines += [f"j{k}:", f"  %x{k} = phi i32 {entries}", f"  br i1 %c, label %l{k}, label %r{k}",
+                  f"l{k}:", f"  br label %j{k + 1}", f"r{k}:", f"  br label %j{k + 1}"]
+        entries = f"[ {k}, %l{k} ], [ %x{k}, %r{k} ]"
+    lines += ["j32:", f"  %x32 = phi i32 {entries}", f"  %y = add i32 %x32, {number % 1000}",
+              "  %more = icmp ult i32 %y, %n", "  br i1 %more, label %j0, label %out",
+              "out:", "  br label %exit", "exit:", "  ret i32 %x32", "}", "", ""]
+    return "\n".join(lines)
+
+
+def fan(count):
+    """Blocks that all branch to one block with three phis, and are reached from it by a chain of branches."""
+    phis = ["  %x = phi i32 [ %n, %entry ]", "  %y = phi i32 [ 0, %entry ]", "  %c = phi i1 [ true, %entry ]"]
+    entries = [[], [], []]
+    chain, blocks = [], []
+    for k in range(count):
+        chain.append(f"c{k}:\n  %t{k} = icmp eq i32 %x, {k % 100}\n  br i1 %t{k}, label %b{k}, label %c{k + 1}\n")
+        blocks.append(f"b{k}:\n  %s{k} = add i32 %y, {k % 100}\n  br label %head\n")
+        entries[0].append(f", [ %s{k}, %b{k} ]")
+        entries[1].append(f", [ {k % 1000}, %b{k} ]")
+        entries[2].append(f", [ %t{k}, %b{k} ]")
+    lines = [phi + "".join(it) + "\n" for phi, it in zip(phis, entries)]
+    return ("define i32 @fan(i32 %n) {\nentry:\n  br label %head\nhead:\n" + "".join(lines)
+            + "  br i1 %c, label %c0, label %exit\n" + "".join(chain) + f"c{count}:\n  br label %exit\n"
+            + "".join(blocks) + "exit:\n  ret i32 %y\n}\n")
+
+
+def ladder(count):
+    """A ladder of conditional branches, each over a block of one rung."""
+    steps = ["define i32 @ladder(i32 %x0) {\ns0:\n"]
+    for k in range(count):
+        steps.append(f"  %t{k} = icmp slt i32 %x{k}, {k % 1000}\n  br i1 %t{k}, label %r{k}, label %s{k + 1}\n"
+                     f"r{k}:\n  %y{k} = add nsw i32 %x{k}, 1\n  br label %s{k + 1}\n"
+                     f"s{k + 1}:\n  %x{k + 1} = phi i32 [ %x{k}, %s{k} ], [ %y{k}, %r{k} ]\n")
+    return "".join(steps) + f"  ret i32 %x{count}\n}}\n"
+
+
+def hundreds(count):
+    """Functions of a hundred blocks, ten thousand or as many as fit: a loop around a row of diamonds each."""
+    return text_of(hundred, LIMIT * count // 10000, count)
+
+
+def text_of(item_of, size, count=None):
+    """Functions, at most as many as the count, shorter than the size by one function's bytes at most."""
     lines, length, number = [], 0, 0
-    while True:
+    while number != count:
         item = item_of(number)
-        if length + len(item) > size:
-            return "".join(lines)
+        if length + len(item) >= size:
+            break
         lines.append(item)
         length += len(item)
         number += 1
+    return "".join(lines)
 
 
 def measure(command, path):
@@ -64,25 +116,41 @@ def main():
     opt = next(filter(None, map(shutil.which, ["opt-19", "opt"])), None)
     for item_of in (answer, sums):
         print(item_of.__doc__)
-        compare(built, opt, item_of)
+        compare(built, opt, [(f"{size} MiB", text_of, item_of, size * MIB) for size in (1, 4, 16)])
+    for whole_of, count in ((fan, 20000), (ladder, 50000), (hundreds, 10000)):
+        print(whole_of.__doc__)
+        compare(built, opt, [("tenth", whole_of, count // 10), ("whole", whole_of, count)])
 
 
-def compare(built, opt, item_of):
-    """Prints a line for each size of texts of these functions, and how the time grows."""
-    per_byte = {}
+def write(path, make, *args):
+    """Writes a made text to a file, and answers its length; in a process of its own, since the peak memory of a
+    command is at least that of the process that starts it."""
+    writer = os.fork()
+    if writer == 0:
+        with open(path, "w") as out:
+            out.write(make(*args))
+        os._exit(0)
+    os.waitpid(writer, 0)
+    return os.path.getsize(path)
+
+
+def compare(built, opt, texts):
+    """Prints a line for each of the texts, and how the time per byte grows from the first to the last."""
+    per_byte = []
     with tempfile.TemporaryDirectory() as folder:
-        for size in (1, 4, 16):
-            path = os.path.join(folder, f"{size}.ll")
-            with open(path, "w") as out:
-                length = out.write(text_of(item_of, size * MIB))
+        path = os.path.join(folder, "text.ll")
+        for name, make, *args in texts:
+            length = write(path, make, *args)
             seconds, peak = min(measure(built, path) for _ in range(3))
-            per_byte[size] = seconds / length
-            line = f"{size:3} MiB  round_ll {seconds:7.3f} s {length / MIB / seconds:8.1f} MB/s {peak:8.1f} MiB"
+            per_byte.append(seconds / length)
+            line = f"{name:>6} {length / MIB:6.2f} MiB  round_ll {seconds:7.3f} s {1e9 * seconds / length:8.1f} ns/byte"
+            line += f" {length / MIB / seconds:8.1f} MB/s {peak:8.1f} MiB"
             if opt:
                 seconds, peak = min(measure([opt, "-S", "-passes=verify"], path) for _ in range(3))
                 line += f"   opt {seconds:7.3f} s {length / MIB / seconds:8.1f} MB/s {peak:8.1f} MiB"
-            print(line)
-    print(f"time per byte at 16 MiB / at 1 MiB: {per_byte[16] / per_byte[1]:.2f}")
+            print(line, flush=True)
+    ratio = per_byte[-1] / per_byte[0]
+    print(f"time per byte of {texts[-1][0]} / of {texts[0][0]}: {ratio:.2f}{'' if ratio <= WANTED else ', too much'}")
 
 
 if __name__ == "__main__":

@@ -3,10 +3,10 @@
 
     fuzz/mutants.py [SEED [COUNT]]
 
-Fails on any status other than 0 and 6, on a run that takes longer than ten seconds, and on any
-output beside status 6. Where an LLVM of version 19 or later is installed, its `llvm-as` has to take each text
-that ends with status 0, and the module back that is printed of it; earlier ones refuse numbers that leave
-some out.
+Fails on any status other than 0, 6 and 7, on a run that takes longer than ten seconds, and on any
+output beside status 6 and 7. Where an LLVM of version 19 or later is installed, its `llvm-as` has to take each
+text that ends with status 0, and the module back that is printed of it, unless all that it says is that a
+definition does not dominate a use, which is not looked at here; earlier ones refuse numbers that leave some out.
 """
 import collections
 import pathlib
@@ -19,7 +19,8 @@ import sys
 ROOT = pathlib.Path(__file__).resolve().parent.parent
 TOKEN = re.compile(rb"\s+|;[^\n]*|[@%]?[A-Za-z0-9$._-]+:?|\"[^\"]*\"|.", re.S)
 EXTRA = [b"%", b"@", b"0", b"1", b"-1", b"i1", b"i32", b"i64", b"i65", b"void", b"add", b"ret", b"nuw",
-         b"nsw", b",", b"(", b")", b"{", b"}", b"=", b":", b"define", b"%0", b"%a", b"7:", b"\n", b"true", b"\xff"]
+         b"nsw", b",", b"(", b")", b"{", b"}", b"=", b":", b"define", b"%0", b"%a", b"7:", b"\n", b"true", b"\xff", b"br", b"label", b"phi", b"icmp", b"eq",
+         b"slt", b"unreachable", b"[", b"]", b"%loop", b"%x", b"%y"]
 
 
 def mutate_bytes(rng, text):
@@ -71,7 +72,7 @@ def taken(assembler, text):
     if assembler is None:
         return True
     done = subprocess.run([assembler, "-o", "/dev/null", "-"], input=text, capture_output=True)
-    return done.returncode == 0
+    return done.returncode == 0 or b"does not dominate all uses" in done.stderr
 
 
 def fault_of(program, assembler, text, counts):
@@ -81,8 +82,8 @@ def fault_of(program, assembler, text, counts):
     except subprocess.TimeoutExpired:
         return "hangs"
     counts[done.returncode] += 1
-    if done.returncode == 6:
-        return "output beside status 6" if done.stdout else None
+    if done.returncode in (6, 7):
+        return f"output beside status {done.returncode}" if done.stdout else None
     if done.returncode != 0:
         return f"status {done.returncode}"
     back = done.stdout.split(b"\n;; llvm\n", 1)[1].rsplit(b";; report\n", 1)[0]

@@ -2,18 +2,15 @@
 use Rattle.std.proofs.Common.{◌≡◌, ◌<◌, ◌≤◌, ◌+◌, ℕ, List, [], ◌++◌, Option, Some, None, length, get_or, take, map, ap, sym, refl, ◌∙◌, append_assoc}
 use Rattle.std.specs.List.{flat_map}
 use Rattle.std.proofs.lemmas.List.{append-nil, take_all}
-use Rattle.std.specs.Prelude.{codes}
 use Rattle.std.specs.Option.{option_map}
 use Rattle.dialect_types.specs.Trees.{TypeTree, type_at}
 use Rattle.dialect_core.specs.declared.numbers.OpRef.{OpRef}
 use Rattle.dialect_core.specs.declared.numbers.BlockRef.{BlockRef}
 use Rattle.dialect_core.specs.declared.ops.Value.{Value}
 use Rattle.dialect_core.specs.declared.ops.Successor.{Successor}
-use Rattle.dialect_core.specs.declared.ops.OpKind.{OpKind}
-use Rattle.dialect_core.specs.declared.ops.OpKind.TheVariants as K
 use Rattle.dialect_core.specs.declared.ops.OpData.{OpData}
-use Rattle.dialect_core.specs.Data.{op_of}
-use Rattle.dialect_core.specs.Text.{option_text, head_text, tail_text, op_text}
+use Rattle.dialect_core.specs.Data.{Kind, kind_of, op_of}
+use Rattle.dialect_core.specs.Text.{option_text, kind_word, immediates_text, head_text, tail_text, op_text}
 use Rattle.dialect_types.specs.Text.{joined, comma_before}
 use Rattle.dialect_types.proofs.TextLemmas.{joined_step}
 use Rattle.dialect_core.proofs.NumberLemmas.{flat_map_more}
@@ -56,10 +53,13 @@ module _ (values : Value → Option ℕ) (blocks : BlockRef → Option ℕ) wher
   head_same f n name (Some t) word operands successors = refl
 
   -- an operation of a kind without immediates
-  pub returned : (ts : List TypeTree) (o : OpRef) (x : OpData) (start head end : List ℕ) → x.kind ≡ K.Return
-      → head ≡ start ++ head_text values blocks o.0 x.name x.result (codes "llvm.return") x.operands x.successors → end ≡ head ++ tail_text (option_map (type_at ts) x.result)
+  pub without_immediates : (ts : List TypeTree) (o : OpRef) (x : OpData) (k : Kind) (word start end : List ℕ)
+      → kind_of ts x.kind ≡ Some k → immediates_text k ≡ [] → kind_word k ≡ word
+      → end ≡ (start ++ head_text values blocks o.0 x.name x.result word x.operands x.successors) ++ tail_text (option_map (type_at ts) x.result)
       → end ≡ start ++ option_text (op_text values blocks) (op_of ts o x)
-  returned ts o x start head end kind is_head is_end =
-      bare start head end (head_text values blocks o.0 x.name (option_map (type_at ts) x.result) (codes "llvm.return") x.operands x.successors) (tail_text (option_map (type_at ts) x.result))
-      (is_head ∙ ap (λ (h : List ℕ). start ++ h) (head_same (type_at ts) o.0 x.name x.result (codes "llvm.return") x.operands x.successors)) is_end
-      ∙ ap (λ (k : OpKind). start ++ option_text (op_text values blocks) (op_of ts o (record x { kind = k }))) (sym kind)
+  without_immediates ts o x k word start end is none named e =
+      let H = head_text values blocks o.0 x.name (option_map (type_at ts) x.result) word x.operands x.successors in
+      let T = tail_text (option_map (type_at ts) x.result) in
+      let same = head_same (type_at ts) o.0 x.name x.result word x.operands x.successors in
+      let flat : end ≡ (start ++ H) ++ T = e ∙ ap (λ (h : List ℕ). (start ++ h) ++ T) same in
+      rw (is, none, named) (bare start (start ++ H) end H T refl flat)

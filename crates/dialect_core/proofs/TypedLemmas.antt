@@ -86,7 +86,11 @@ kind_still n m more K.Module h = tt
 kind_still n m more K.Func h = tt
 kind_still n m more (K.Constant (A.Integer t v)) h = omega arith
 kind_still n m more (K.Add flags) h = tt
+kind_still n m more (K.ICmp predicate) h = tt
+kind_still n m more K.Br h = tt
+kind_still n m more K.CondBr h = tt
 kind_still n m more K.Return h = tt
+kind_still n m more K.Unreachable h = tt
 
 pub more_types_typed : (c : ContextData) (types : List TypeKind) → IsTyped c → length c.types ≤ length types → IsTyped (with_types c types)
 more_types_typed c types h more = record {

@@ -15,6 +15,7 @@ use Rattle.dialect_core.specs.declared.ops.OpKind.{OpKind}
 use Rattle.dialect_core.specs.declared.ops.OpKind.TheVariants as K
 use Rattle.dialect_core.specs.declared.ops.OpData.{OpData}
 use Rattle.dialect_core.specs.declared.overflow.IntegerOverflowFlagsAttr.{IntegerOverflowFlagsAttr}
+use Rattle.dialect_core.specs.declared.predicates.ICmpPredicateAttr.{ICmpPredicateAttr}
 use Rattle.dialect_core.specs.declared.ops.BlockData.{BlockData}
 use Rattle.dialect_core.specs.Lists.{list_at}
 use Rattle.dialect_core.specs.ContextData.{ContextData, region_at}
@@ -25,7 +26,11 @@ use Rattle.dialect_core.specs.ContextData.{ContextData, region_at}
 pub data Kind : Type 0 where
   ConstantOp : (value : AttrTree) → Kind
   AddOp : (flags : IntegerOverflowFlagsAttr) → Kind
+  ICmpOp : (predicate : ICmpPredicateAttr) → Kind
+  BrOp : Kind
+  CondBrOp : Kind
   ReturnOp : Kind
+  UnreachableOp : Kind
 
 pub record DialectOp : Type 0 where
   pub number : ℕ
@@ -61,7 +66,11 @@ kind_of ts K.Module = None
 kind_of ts K.Func = None
 kind_of ts (K.Constant value) = Some (ConstantOp (attr_tree ts value))
 kind_of ts (K.Add flags) = Some (AddOp flags)
+kind_of ts (K.ICmp predicate) = Some (ICmpOp predicate)
+kind_of ts K.Br = Some BrOp
+kind_of ts K.CondBr = Some CondBrOp
 kind_of ts K.Return = Some ReturnOp
+kind_of ts K.Unreachable = Some UnreachableOp
 
 abbrev pub op_of : List TypeTree → OpRef → OpData → Option DialectOp
 op_of ts o x = option_map (λ (k : Kind). record {

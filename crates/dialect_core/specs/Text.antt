@@ -13,7 +13,9 @@ use Rattle.dialect_core.specs.declared.ops.Value.{Value}
 use Rattle.dialect_core.specs.declared.ops.Value.TheVariants.{Result, Argument}
 use Rattle.dialect_core.specs.declared.ops.Successor.{Successor}
 use Rattle.dialect_core.specs.declared.overflow.IntegerOverflowFlagsAttr.{IntegerOverflowFlagsAttr}
-use Rattle.dialect_core.specs.Data.{Kind, ConstantOp, AddOp, ReturnOp, DialectOp, DialectBlock, Func, DialectModule}
+use Rattle.dialect_core.specs.declared.predicates.ICmpPredicateAttr.{ICmpPredicateAttr}
+use Rattle.dialect_core.specs.declared.predicates.ICmpPredicateAttr.TheVariants as P
+use Rattle.dialect_core.specs.Data.{Kind, ConstantOp, AddOp, ICmpOp, BrOp, CondBrOp, ReturnOp, UnreachableOp, DialectOp, DialectBlock, Func, DialectModule}
 
 -- ---- numbers of values and blocks
 
@@ -100,7 +102,23 @@ linkage_text L.GhostLinkage = codes "GhostLinkage"
 abbrev pub kind_word : Kind → List ℕ
 kind_word (ConstantOp value) = codes "llvm.constant"
 kind_word (AddOp flags) = codes "llvm.add"
+kind_word (ICmpOp predicate) = codes "llvm.icmp"
+kind_word BrOp = codes "llvm.br"
+kind_word CondBrOp = codes "llvm.cond_br"
 kind_word ReturnOp = codes "llvm.return"
+kind_word UnreachableOp = codes "llvm.unreachable"
+
+abbrev pub predicate_text : ICmpPredicateAttr → List ℕ
+predicate_text P.EQ = codes "EQ"
+predicate_text P.NE = codes "NE"
+predicate_text P.UGT = codes "UGT"
+predicate_text P.UGE = codes "UGE"
+predicate_text P.ULT = codes "ULT"
+predicate_text P.ULE = codes "ULE"
+predicate_text P.SGT = codes "SGT"
+predicate_text P.SGE = codes "SGE"
+predicate_text P.SLT = codes "SLT"
+predicate_text P.SLE = codes "SLE"
 
 -- the key of a truth value that is set
 abbrev pub flag_key : Bool → List ℕ → List (List ℕ)
@@ -120,7 +138,11 @@ keys_text (k ∷ ks) = codes " {" ++ joined (k ∷ ks) ++ codes "}"
 abbrev pub immediates_text : Kind → List ℕ
 immediates_text (ConstantOp value) = codes " {value = " ++ attr_text value ++ codes "}"
 immediates_text (AddOp flags) = keys_text (overflow_keys flags)
+immediates_text (ICmpOp predicate) = codes " {predicate = " ++ predicate_text predicate ++ codes "}"
+immediates_text BrOp = []
+immediates_text CondBrOp = []
 immediates_text ReturnOp = []
+immediates_text UnreachableOp = []
 
 -- `:name` and ` : t`, where there is a name or a type
 abbrev pub colon_text : Option (List ℕ) → List ℕ

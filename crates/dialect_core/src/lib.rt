@@ -10,5 +10,6 @@ pub mod numbering;
 pub mod numbers;
 pub mod ops;
 pub mod overflow;
+pub mod predicates;
 mod printing;
 pub mod steps;

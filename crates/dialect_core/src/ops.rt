@@ -3,6 +3,7 @@
 use crate::linkage::LinkageAttr;
 use crate::numbers::{BlockRef, OpRef};
 use crate::overflow::IntegerOverflowFlagsAttr;
+use crate::predicates::ICmpPredicateAttr;
 use dialect_types::attrs::ConstAttr;
 use dialect_types::identifier::Identifier;
 use dialect_types::items::Items;
@@ -35,8 +36,16 @@ pub enum OpKind {
     Constant(ConstAttr),
     /// `llvm.add` of two operands.
     Add(IntegerOverflowFlagsAttr),
+    /// `llvm.icmp` of two operands, with its `predicate`.
+    ICmp(ICmpPredicateAttr),
+    /// `llvm.br` to its one successor.
+    Br,
+    /// `llvm.cond_br` on its operand: to the first successor where it is true, else to the second.
+    CondBr,
     /// `llvm.return`.
     Return,
+    /// `llvm.unreachable`.
+    Unreachable,
 }
 
 /// The type and the linkage of a function.

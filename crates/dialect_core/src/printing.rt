@@ -4,14 +4,15 @@ ghost use Rattle.std.specs.Prelude.{◌≡◌, ◌<◌, ◌++◌, IfSome, OnOk, 
 ghost use Rattle.std.specs.Option.{option_copied, option_map};
 ghost use Rattle.dialect_types.specs.Trees.{attr_tree, type_at, type_trees, HasTypesBelow};
 ghost use Rattle.dialect_types.specs.Text.{Keeps};
-ghost use Rattle.dialect_core.specs.Data.{ConstantOp, AddOp, op_of, IsTypedOp};
+ghost use Rattle.dialect_core.specs.Data.{ConstantOp, AddOp, ICmpOp, op_of, IsTypedOp};
 ghost use Rattle.dialect_core.specs.Numbering.{value_at, block_at};
-ghost use Rattle.dialect_core.specs.Text.{option_text, number_text, colon_text, value_text, block_name_text, values_text, successor_text, successors_text, gives_text, head_text, immediates_text, result_type_text, tail_text, op_text};
+ghost use Rattle.dialect_core.specs.Text.{option_text, number_text, colon_text, value_text, block_name_text, values_text, successor_text, successors_text, gives_text, head_text, immediates_text, predicate_text, result_type_text, tail_text, op_text};
 
 use crate::numbering::Numbering;
 use crate::numbers::{BlockRef, OpRef};
 use crate::ops::{OpData, OpKind, Successor, Value};
 use crate::overflow::IntegerOverflowFlagsAttr;
+use crate::predicates::ICmpPredicateAttr;
 use dialect_types::attrs::ConstAttr;
 use dialect_types::identifier::Identifier;
 use dialect_types::printing::{print_comma_before, print_number};
@@ -190,6 +191,35 @@ fn print_overflow_flags(
     }
 }
 
+/// The word of a predicate.
+fn predicate_word(predicate: ICmpPredicateAttr) -> &'static [u8]
+    ensures { result.now ≡ predicate_text predicate }
+{
+    match predicate {
+        ICmpPredicateAttr::EQ => b"EQ",
+        ICmpPredicateAttr::NE => b"NE",
+        ICmpPredicateAttr::UGT => b"UGT",
+        ICmpPredicateAttr::UGE => b"UGE",
+        ICmpPredicateAttr::ULT => b"ULT",
+        ICmpPredicateAttr::ULE => b"ULE",
+        ICmpPredicateAttr::SGT => b"SGT",
+        ICmpPredicateAttr::SGE => b"SGE",
+        ICmpPredicateAttr::SLT => b"SLT",
+        ICmpPredicateAttr::SLE => b"SLE",
+    }
+}
+
+/// Appends the predicate of a comparison, in braces.
+fn print_predicate(predicate: ICmpPredicateAttr, out: &mut Vec<u8>) -> Result<(), AllocError>
+    ensures ok { OnOk result (out.new.items ≡ out.old.items ++ immediates_text (ICmpOp predicate)) }
+    ensures kept { Keeps out.old.items out.new.items }
+{
+    out.extend_from_slice(b" {predicate = ")?;
+    out.extend_from_slice(predicate_word(predicate))?;
+    out.extend_from_slice(b"}")?;
+    Ok(())
+}
+
 /// Appends ` : t`, where there is a type.
 fn print_result_type(
     types: &TypeStore,
@@ -225,6 +255,24 @@ fn print_tail(
     Ok(())
 }
 
+/// Appends an operation without immediates, of that name.
+fn print_plain(
+    types: &TypeStore,
+    numbers: &Numbering,
+    op: OpRef,
+    x: &OpData,
+    word: &[u8],
+    out: &mut Vec<u8>,
+) -> Result<(), AllocError>
+    requires { IsTypedOp (length types.now) x.now }
+    ensures ok { OnOk result (out.new.items ≡ out.old.items ++ head_text (value_at numbers.now) (block_at numbers.now) op.0 x.now.name x.now.result word.now x.now.operands x.now.successors ++ tail_text (option_map (type_at (type_trees types.now)) x.now.result)) }
+    ensures kept { Keeps out.old.items out.new.items }
+{
+    print_head(numbers, op, x, word, out)?;
+    print_tail(types, x.result, out)?;
+    Ok(())
+}
+
 /// Appends an operation of a function's block: an arm for each kind.
 pub fn print_op(
     types: &TypeStore,
@@ -251,9 +299,26 @@ pub fn print_op(
             print_tail(types, x.result, out)?;
             Ok(())
         }
-        OpKind::Return => {
-            print_head(numbers, op, x, b"llvm.return", out)?;
+        OpKind::ICmp(predicate) => {
+            print_head(numbers, op, x, b"llvm.icmp", out)?;
+            print_predicate(*predicate, out)?;
             print_tail(types, x.result, out)?;
+            Ok(())
+        }
+        OpKind::Br => {
+            print_plain(types, numbers, op, x, b"llvm.br", out)?;
+            Ok(())
+        }
+        OpKind::CondBr => {
+            print_plain(types, numbers, op, x, b"llvm.cond_br", out)?;
+            Ok(())
+        }
+        OpKind::Return => {
+            print_plain(types, numbers, op, x, b"llvm.return", out)?;
+            Ok(())
+        }
+        OpKind::Unreachable => {
+            print_plain(types, numbers, op, x, b"llvm.unreachable", out)?;
             Ok(())
         }
     }

@@ -18,7 +18,7 @@ use Rattle.dialect_core.specs.Data.{DialectModule, Func, DialectBlock, IsTyped, 
 use Rattle.dialect_core.specs.Lists.{with_change}
 use Rattle.dialect_core.proofs.ListLemmas.{slice_get-append, slice_get-last}
 use Rattle.dialect_core.proofs.FilterLemmas.{change_get, change_length}
-use Rattle.from_llvm_ir.specs.Imported.{IsHeld, IsBuilding, IsBelow, holder_kind}
+use Rattle.from_llvm_ir.specs.Imported.{IsHeld, IsBuilding, IsBelow}
 use Rattle.from_llvm_ir.specs.Building.{bare_func}
 
 pub length-push : {X : Type 0} (xs : List X) (x : X) → length (xs ++ x ∷ []) ≡ length xs + 1
@@ -149,30 +149,20 @@ below_block : (n k g : ℕ) (b : DialectBlock) (fs : List Func) → b.number < k
 below_block n k g b fs small h =
     All-map (IsBelow n k) (more_block g b) fs (All-weaker (IsBelow n k) (λ (f : Func). IsBelow n k (more_block g b f)) (λ f below. below_block_if (nat_eq f.number g) n k b f small below) fs h)
 
-pub entry_holder : (c0 c1 : ContextData) (b : BlockRef) (x : BlockData) → c1 ≡ with_block c0 b x → b.0 ≡ length c0.blocks → kind_at c0.ops x.holder ≡ Some K.Func → holder_kind c1 b ≡ Some K.Func
-entry_holder c0 c1 b x e number func =
-    ap (λ (c : ContextData). holder_kind c b) e
-    ∙ holder_change c0.ops b x.holder.0 (slice_get (c0.blocks ++ x ∷ []) b.0)
-    ∙ ap (option_and_then (λ (y : BlockData). kind_at c0.ops y.holder)) (block_at_end c0.blocks x b number)
-    ∙ func
-  where
-    block_at_end : (blocks : List BlockData) (x : BlockData) (b : BlockRef) → b.0 ≡ length blocks → slice_get (blocks ++ x ∷ []) b.0 ≡ Some x
-    block_at_end blocks x b number = rw number (slice_get-last blocks x)
-
 -- a block without operations
-abbrev pub new_block : ContextData → BlockRef → List ℕ → List TypeHandle → DialectBlock
-new_block c b label args = record { number = b.0; label = Some label; args = map (type_at (type_trees c.types)) args; ops = [] }
+abbrev pub new_block : ContextData → BlockRef → Option (List ℕ) → List TypeHandle → DialectBlock
+new_block c b label args = record { number = b.0; label = label; args = map (type_at (type_trees c.types)) args; ops = [] }
 
-pub added_entry : (c0 c1 : ContextData) (m : ℕ) (body : BlockRef) (d : DialectModule) (b : BlockRef) (f : OpRef) (label : List ℕ) (args : List TypeHandle)
+pub added_block : (c0 c1 : ContextData) (m : ℕ) (body : BlockRef) (d : DialectModule) (b : BlockRef) (f : OpRef) (label : Option (List ℕ)) (args : List TypeHandle)
     → IsBuilding c0 m body d
     → kind_at c0.ops f ≡ Some K.Func
-    → c1 ≡ with_block c0 b (record { holder = f; label = Some label; args = args })
+    → c1 ≡ with_block c0 b (record { holder = f; label = label; args = args })
     → b.0 ≡ length c0.blocks
     → data_of c1 m ≡ with_func_block (data_of c0 m) f.0 (new_block c0 b label args)
     → IsTyped c1
     → IsBuilding c1 m body (with_func_block d f.0 (new_block c0 b label args))
-added_entry c0 c1 m body d b f label args h func e number is typed =
-    let x : BlockData = record { holder = f; label = Some label; args = args } in
+added_block c0 c1 m body d b f label args h func e number is typed =
+    let x : BlockData = record { holder = f; label = label; args = args } in
     let ops : c1.ops ≡ with_change (region_more b) f.0 c0.ops = ap (λ (c : ContextData). c.ops) e in
     let blocks : c1.blocks ≡ c0.blocks ++ x ∷ [] = ap (λ (c : ContextData). c.blocks) e in
     let apart = apart_kinds c0.ops m f.0 h.held.kind func in
@@ -191,3 +181,7 @@ added_entry c0 c1 m body d b f label args h func e number is typed =
           (below_block (length (with_change (region_more b) f.0 c0.ops)) (length (c0.blocks ++ x ∷ [])) f.0 (new_block c0 b label args) d.functions (omega (arith, number, length-push c0.blocks x))
           (below_more (length c0.ops) (length c0.blocks) _ _ (omega (arith, change_length (region_more b) f.0 c0.ops)) (omega (arith, length-push c0.blocks x)) d.functions h.below));
     }
+
+-- the function is still one
+pub func_still : (c0 c1 : ContextData) (b : BlockRef) (f : OpRef) (x : BlockData) → x.holder ≡ f → kind_at c0.ops f ≡ Some K.Func → c1 ≡ with_block c0 b x → kind_at c1.ops f ≡ Some K.Func
+func_still c0 c1 b f x holder func e = ap (λ (c : ContextData). kind_at c.ops f) e ∙ kind_change c0.ops b x.holder.0 f ∙ func

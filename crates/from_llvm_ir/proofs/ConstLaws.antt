@@ -1,23 +1,24 @@
 -- Constants of the source and the operations that make them.
-use Rattle.std.proofs.Common.{ℕ, ◌≡◌, ◌<◌, ◌≤◌, ◌^◌, refl, sym, ap, subst, ◌∙◌, false, List, [], ◌∷◌, ◌++◌, Option, Some, None, slice_get, arith}
+use Rattle.std.proofs.Common.{ℕ, ◌≡◌, ◌<◌, ◌≤◌, ◌^◌, refl, sym, ap, subst, ◌∙◌, false, [], Option, Some, None, slice_get, arith}
 use Rattle.std.specs.Option.{is_some}
-use Rattle.std.specs.List.{filter_map}
 use Rattle.std.proofs.Math.Nat.{pow-le-pow_right}
-use Rattle.std.proofs.lemmas.List.{append_assoc}
 use Rattle.llvm_core.specs.declared.numbers.LLVMType.{LLVMType}
 use Rattle.llvm_core.specs.declared.numbers.LLVMConst.{LLVMConst}
+use Rattle.llvm_core.specs.declared.consts.LLVMConstKind.{LLVMConstKind}
 use Rattle.llvm_core.specs.declared.consts.LLVMConstKind.TheVariants as C
+use Rattle.llvm_core.specs.declared.code.LLVMValue.TheVariants as V
+use Rattle.llvm_core.specs.Form as LF
 use Rattle.llvm_core.specs.Module.{Module}
 use Rattle.llvm_core.specs.Form.{IsShortResult}
 use Rattle.llvm_core.specs.Data as L
-use Rattle.llvm_core.specs.Data.{ConstTree, IntConst, IntType, VoidType, FunctionType, trees_of, type_at, const_at}
-use Rattle.llvm_core.proofs.DataLemmas.{int_const_of}
+use Rattle.llvm_core.specs.Data.{ConstTree, IntConst, PlaceholderConst, IntType, VoidType, FunctionType, trees_of, type_at, const_at}
+use Rattle.llvm_core.proofs.DataLemmas.{int_const_of, placeholder_const_of}
 use Rattle.dialect_types.specs.Trees.{TypeTree, IntegerType, IntegerAttr}
 use Rattle.dialect_core.specs.Data.{ConstantOp}
 use Rattle.from_llvm_ir.specs.Types.{type_from}
-use Rattle.from_llvm_ir.specs.Imported.{constant_in}
-use Rattle.from_llvm_ir.specs.Building.{plain_op}
-use Rattle.from_llvm_ir.specs.Body.{IsShortConst, IsConstantOp}
+use Rattle.from_llvm_ir.specs.Building.{new_op}
+use Rattle.from_llvm_ir.specs.Source.{IsShortConst, IsIntKind, IsUsed}
+use Rattle.from_llvm_ir.specs.Known.{IsConstantOp}
 
 pub short_parts : (t : L.TypeTree) (v : ℕ) → IsShortConst (IntConst t v) → (w : ℕ) × (t ≡ IntType w) × (1 ≤ w) × (w ≤ 64) × (v < 2 ^ w)
 short_parts VoidType v h = elim h [ ]
@@ -38,22 +39,30 @@ const_fits m c t v at h =
 
 -- the operation with its value makes it
 pub const_made : (m : Module) (c : LLVMConst) (t : LLVMType) (v n : ℕ) (ty : TypeTree) → slice_get m.consts c.0 ≡ Some (C.Int t v) → IsShortConst (const_at (trees_of m).consts c) → ty ≡ type_from (type_at (trees_of m).types t)
-    → IsConstantOp (const_at (trees_of m).consts c) (plain_op n None (ConstantOp (IntegerAttr ty v)) [] (Some ty))
+    → IsConstantOp (const_at (trees_of m).consts c) (new_op n None (ConstantOp (IntegerAttr ty v)) [] [] (Some ty))
 const_made m c t v n ty at h is =
     let p = short_parts (type_at (trees_of m).types t) v (subst IsShortConst (int_const_of m c t v at) h) in
     let tree : const_at (trees_of m).consts c ≡ IntConst (IntType p.0) v = int_const_of m c t v at ∙ ap (λ (x : L.TypeTree). IntConst x v) p.1 in
     let int : ty ≡ IntegerType p.0 = is ∙ ap type_from p.1 in
-    subst (λ (x : ConstTree). IsConstantOp x (plain_op n None (ConstantOp (IntegerAttr ty v)) [] (Some ty))) (sym tree)
-    (ap (λ (x : TypeTree). plain_op n None (ConstantOp (IntegerAttr x v)) [] (Some x)) int)
-
--- two operands, one after the other
-pub both_used : (uses : List ConstTree) (a b : L.Operand) → (uses ++ filter_map constant_in (a ∷ [])) ++ filter_map constant_in (b ∷ []) ≡ uses ++ filter_map constant_in (a ∷ b ∷ [])
-both_used uses (L.Constant c) (L.Constant d) = append_assoc uses (c ∷ []) (d ∷ [])
-both_used uses (L.Constant c) (L.Parameter f i) = append_assoc uses (c ∷ []) []
-both_used uses (L.Constant c) (L.Result n) = append_assoc uses (c ∷ []) []
-both_used uses (L.Parameter f i) b = append_assoc uses [] (filter_map constant_in (b ∷ []))
-both_used uses (L.Result n) b = append_assoc uses [] (filter_map constant_in (b ∷ []))
+    subst (λ (x : ConstTree). IsConstantOp x (new_op n None (ConstantOp (IntegerAttr ty v)) [] [] (Some ty))) (sym tree)
+    (ap (λ (x : TypeTree). new_op n None (ConstantOp (IntegerAttr x v)) [] [] (Some x)) int)
 
 pub none_from : {X : Type 0} (o : Option X) → is_some o ≡ false → o ≡ None
 none_from None h = refl
 none_from (Some x) h = cc
+
+-- ---- constants that are used
+
+-- a short constant is an integer
+pub short_kind : (m : Module) (c : LLVMConst) (k : LLVMConstKind) → slice_get m.consts c.0 ≡ Some k → IsShortConst (const_at (trees_of m).consts c) → IsIntKind k
+short_kind m c (C.Int t v) at h = tt
+short_kind m c (C.Placeholder n t) at h = subst IsShortConst (placeholder_const_of m c n t at) h
+
+fitting : (c : ConstTree) → LF.IsFitting c → LF.IsShortInt (L.const_type c) → IsShortConst c
+fitting (IntConst VoidType v) h k = elim h [ ]
+fitting (IntConst (IntType w) v) h k = (k.0, k.1, h)
+fitting (IntConst (FunctionType r ps x) v) h k = elim h [ ]
+fitting (PlaceholderConst n t) h k = elim h [ ]
+
+pub used_short : (m : Module) (g : L.Function) (c : LLVMConst) → IsUsed m g (V.Const c) → IsShortConst (const_at (trees_of m).consts c)
+used_short m g c h = fitting (const_at (trees_of m).consts c) h.usable.1.stands (subst LF.IsShortInt (sym h.usable.1.typed) h.usable.1.short)

@@ -2,7 +2,7 @@
 use Rattle.std.proofs.Common.{ℕ, ◌≡◌, refl, sym, ap, ◌∙◌, Bool, true, false, ◌||◌, if◌then◌else◌, List, [], ◌∷◌, Some, map, slice_get, arith, eq-eqb, ne_eqb}
 use Rattle.std.proofs.lemmas.Option.{same_Some}
 use Rattle.llvm_core.specs.Data as L
-use Rattle.llvm_core.specs.Data.{ConstTree, IntConst, IntType, VoidType, FunctionType}
+use Rattle.llvm_core.specs.Data.{ConstTree, IntConst, PlaceholderConst, IntType, VoidType, FunctionType}
 use Rattle.dialect_core.specs.declared.ops.Value.{Value}
 use Rattle.dialect_core.specs.declared.ops.Value.TheVariants as V
 use Rattle.dialect_core.specs.Data.{DialectOp, Func}
@@ -13,10 +13,7 @@ use Rattle.meaning.specs.Llvm.{const_term}
 use Rattle.meaning.specs.Dialect as dialect
 use Rattle.meaning.specs.Dialect.{same_value}
 use Rattle.meaning.specs.Shape.{among, IsClosed, term_among}
-use Rattle.from_llvm_ir.specs.Body.{IsConstantOp}
-
-abbrev pub value_of : DialectOp → Value
-value_of o = V.Result (record { 0 = o.number })
+use Rattle.from_llvm_ir.specs.Known.{IsConstantOp, value_of}
 
 module _ (G : Func) where
   abbrev pub rows_of : List DialectOp → List (Row Value)
@@ -27,6 +24,7 @@ module _ (G : Func) where
   holds d (IntConst VoidType v) o m = elim m [ ]
   holds d (IntConst (IntType w) v) o m = ap (λ (x : DialectOp). dialect.action G x x.kind) m
   holds d (IntConst (FunctionType r ps x) v) o m = elim m [ ]
+  holds d (PlaceholderConst n t) o m = elim m [ ]
 
   pub closed : (done : List (Row Value)) (cs : List ConstTree) (os : List DialectOp) → Matched IsConstantOp cs os → IsClosed done (rows_of os)
   closed done [] [] h = tt

@@ -90,3 +90,7 @@ matched_weaker P Q k [] [] h = tt
 matched_weaker P Q k [] (y ∷ ys) h = elim h [ ]
 matched_weaker P Q k (x ∷ xs) [] h = elim h [ ]
 matched_weaker P Q k (x ∷ xs) (y ∷ ys) h = (k x y h.0, matched_weaker P Q k xs ys h.1)
+
+-- one item more of the one list, and one of the other
+pub matched_next : {X Y : Type 0} (P : X → Y → Type 0) (xs : List X) (i : ℕ) (x : X) (ys zs : List Y) (y : Y) → slice_get xs i ≡ Some x → Matched P (take i xs) ys → P x y → zs ≡ ys ++ y ∷ [] → Matched P (take (i + 1) xs) zs
+matched_next {X = X} {Y = Y} P xs i x ys zs y at h p is = subst (λ (ws : List Y). Matched P (take (i + 1) xs) ws) (sym is) (subst (λ (us : List X). Matched P us (ys ++ y ∷ [])) (sym (take_next xs i x at)) (matched_push P (take i xs) ys x y h p))

@@ -2,8 +2,9 @@
 use Rattle.std.proofs.Common.{ℕ, ◌≡◌, ◌+◌, inr, refl, sym, ap, subst, ◌∙◌, List, [], ◌∷◌, ◌++◌, Some, None, map, length, take, slice_get, get_or, arith}
 use Rattle.std.specs.Option.{option_map}
 use Rattle.std.proofs.lemmas.Option.{get_or_from_slice_get, slice_get-map}
-use Rattle.std.proofs.lemmas.List.{take_all}
+use Rattle.std.proofs.lemmas.List.{take_all, map_push}
 use Rattle.std.proofs.lemmas.List.Elements.{All-nil}
+use Rattle.llvm_core.specs.declared.numbers.LLVMFunction.{LLVMFunction}
 use Rattle.llvm_core.specs.Module.{Module}
 use Rattle.llvm_core.specs.Data as L
 use Rattle.llvm_core.specs.Data.{data_of as source_of}
@@ -15,14 +16,16 @@ use Rattle.dialect_core.specs.declared.ops.OpData.{OpData}
 use Rattle.dialect_core.specs.declared.ops.OpKind.TheVariants as K
 use Rattle.dialect_core.specs.ContextData.{ContextData, empty_context, with_op, with_block, HoldsMore}
 use Rattle.dialect_core.specs.Data.{DialectModule, Func, IsTyped, with_func, data_of}
-use Rattle.meaning.specs.Pairs.{Matched}
 use Rattle.from_llvm_ir.specs.declared.importing.Imported.{Imported}
 use Rattle.from_llvm_ir.specs.declared.matching.FunctionBlocks.{FunctionBlocks}
-use Rattle.from_llvm_ir.specs.Match.{PlacesOf, AllFirst}
-use Rattle.from_llvm_ir.specs.Imported.{ImportedFunction, IsBuilding, IsImported, imported_data}
+use Rattle.from_llvm_ir.specs.declared.conversion_err.ConversionErr.{ConversionErr}
+use Rattle.from_llvm_ir.specs.declared.conversion_err.ConversionErr.TheVariants as E
+use Rattle.from_llvm_ir.specs.Imported.{AreImported, NoneImported, ThenImported, ImportedFunction, IsBuilding, IsCause, IsImported, counting, imported_data}
+use Rattle.from_llvm_ir.specs.Source.{IsSource}
+use Rattle.from_llvm_ir.specs.Body.{IsLate}
 use Rattle.from_llvm_ir.specs.Importing.{IsImportedTo}
 use Rattle.from_llvm_ir.specs.Building.{module_named}
-use Rattle.from_llvm_ir.proofs.ListLaws.{matched_push, take_next}
+use Rattle.from_llvm_ir.proofs.ListLaws.{take_next}
 
 abbrev pub module_op : List ℕ → OpData
 module_op name = record { kind = K.Module; name = Some name; operands = []; successors = []; result = None; symbol = None; blocks = [] }
@@ -61,27 +64,24 @@ typed_start c0 c1 c2 e f g = g (f (subst IsTyped (sym e) empty_context_typed))
 
 -- ---- one function more
 
-AllFirst-push : (bs : List FunctionBlocks) (b : FunctionBlocks) → AllFirst bs → b.places ≡ 0 ∷ [] → AllFirst (bs ++ b ∷ [])
-AllFirst-push [] b h p = (p, tt)
-AllFirst-push (a ∷ bs) b h p = (h.0, AllFirst-push bs b h.1 p)
+imported_push : (d : L.ModuleData) (fs : List L.Function) (xs : List FunctionBlocks) (gs : List Func) (f : L.Function) (x : FunctionBlocks) (g : Func)
+    → AreImported d fs xs gs → ImportedFunction d f x g → AreImported d (fs ++ f ∷ []) (xs ++ x ∷ []) (gs ++ g ∷ [])
+imported_push d fs xs gs f x g NoneImported one = ThenImported f x g [] [] [] one NoneImported
+imported_push d fs xs gs f x g (ThenImported a y b before ys bs first more) one = ThenImported a y b _ _ _ first (imported_push d before ys bs f x g more one)
 
 pub imported_none : (d : L.ModuleData) (c : ContextData) (o : ℕ) (body : BlockRef) (name : List ℕ) → IsBuilding c o body (module_named name) → IsImportedTo d 0 c o body name []
-imported_none d c o body name h = record { so_far = module_named name; building = h; name_is = refl; functions = tt; covers = tt; first = tt }
+imported_none d c o body name h = record { so_far = module_named name; building = h; name_is = refl; functions = NoneImported }
 
-pub imported_more : (d : L.ModuleData) (k : ℕ) (g : L.Function) (c c' : ContextData) (o : ℕ) (body : BlockRef) (name : List ℕ) (bs : List FunctionBlocks) (b : FunctionBlocks) (h : IsImportedTo d k c o body name bs)
-    → slice_get d.functions k ≡ Some g → (x : Func) × ImportedFunction d g x × IsBuilding c' o body (with_func h.so_far x) → g.number ≡ b.function.0 → b.places ≡ 0 ∷ []
-    → IsImportedTo d (k + 1) c' o body name (bs ++ b ∷ [])
-imported_more d k g c c' o body name bs b h at one number places =
-    let source = one.1.source in
-    let covered : PlacesOf g b = record { function = sym number; places = ap (λ (ps : List ℕ). length ps) places ∙ sym (ap (λ (ys : List L.Block). length ys) one.1.source_is) } in
-    record {
-      so_far = with_func h.so_far one.0;
-      building = one.2;
-      name_is = h.name_is;
-      functions = subst (λ (fs : List L.Function). Matched (ImportedFunction d) fs (h.so_far.functions ++ one.0 ∷ [])) (sym (take_next d.functions k g at)) (matched_push (ImportedFunction d) (take k d.functions) h.so_far.functions g one.0 h.functions one.1);
-      covers = subst (λ (fs : List L.Function). Matched PlacesOf fs (bs ++ b ∷ [])) (sym (take_next d.functions k g at)) (matched_push PlacesOf (take k d.functions) bs g b h.covers covered);
-      first = AllFirst-push bs b h.first places;
-    }
+pub imported_more : (d : L.ModuleData) (k : ℕ) (g : L.Function) (c c' : ContextData) (o : ℕ) (body : BlockRef) (name : List ℕ) (xs : List FunctionBlocks) (x : FunctionBlocks) (h : IsImportedTo d k c o body name xs)
+    → slice_get d.functions k ≡ Some g → (y : Func) × ImportedFunction d g x y × IsBuilding c' o body (with_func h.so_far y)
+    → IsImportedTo d (k + 1) c' o body name (xs ++ x ∷ [])
+imported_more d k g c c' o body name xs x h at one = record {
+  so_far = with_func h.so_far one.0;
+  building = one.2;
+  name_is = h.name_is;
+  functions = subst (λ (fs : List L.Function). AreImported d fs (xs ++ x ∷ []) (h.so_far.functions ++ one.0 ∷ [])) (sym (take_next d.functions k g at))
+      (imported_push d (take k d.functions) xs h.so_far.functions g x one.0 h.functions one.1);
+}
 
 -- the module is imported when all functions are
 pub imported_whole : (m : Module) (i : Imported) (body : BlockRef) → IsImportedTo (source_of m) (length m.functions) i.ctx i.«module».0.0 body (legal_name m.name) i.blocks → IsImported (source_of m) i
@@ -92,12 +92,23 @@ imported_whole m i body h =
       body = body;
       building = subst (λ (d : DialectModule). IsBuilding i.ctx i.«module».0.0 body d) (sym same) h.building;
       name = ap (λ (d : DialectModule). d.name) same ∙ h.name_is;
-      functions = subst (λ (d : DialectModule). Matched (ImportedFunction (source_of m)) (source_of m).functions d.functions) (sym same) (subst (λ (fs : List L.Function). Matched (ImportedFunction (source_of m)) fs h.so_far.functions) all h.functions);
-      covers = subst (λ (fs : List L.Function). Matched PlacesOf fs i.blocks) all h.covers;
-      first = h.first;
+      functions = subst (λ (d : DialectModule). AreImported (source_of m) (source_of m).functions i.blocks d.functions) (sym same)
+          (subst (λ (fs : List L.Function). AreImported (source_of m) fs i.blocks h.so_far.functions) all h.functions);
     }
+
+-- what refuses a function refuses the module
+pub late_cause : (m : Module) (f : LLVMFunction) (g : L.Function) (e : ConversionErr) → IsSource m f g → IsLate g (counting 0 g.blocks) e → IsCause (source_of m) e
+late_cause m f g (E.ForwardUse name v) h late = record { place = f.0; f = g; at = h.at; refused = late }
+late_cause m f g E.NoMemory h late = tt
 
 -- the name that was given to a function
 pub name_given : (fs : List L.Function) (names : List (List ℕ)) (k : ℕ) (g : L.Function) (x : List ℕ) → names ≡ map (λ (f : L.Function). f.name) fs → slice_get fs k ≡ Some g → x ≡ get_or names k x → x ≡ g.name
 name_given fs names k g x are at is =
     is ∙ get_or_from_slice_get names k g.name x (ap (λ (ns : List (List ℕ)). slice_get ns k) are ∙ slice_get-map (λ (f : L.Function). f.name) fs k ∙ ap (option_map (λ (f : L.Function). f.name)) at)
+
+-- the names of one function more
+pub names_more : (fs : List L.Function) (k : ℕ) (g : L.Function) (old new : List (List ℕ)) (name : List ℕ) → old ≡ map (λ (f : L.Function). f.name) (take k fs) → new ≡ old ++ name ∷ [] → name ≡ g.name → slice_get fs k ≡ Some g
+    → new ≡ map (λ (f : L.Function). f.name) (take (k + 1) fs)
+names_more fs k g old new name before is same at =
+    is ∙ ap (λ (ns : List (List ℕ)). ns ++ name ∷ []) before ∙ ap (λ (n : List ℕ). map (λ (f : L.Function). f.name) (take k fs) ++ n ∷ []) same
+    ∙ sym (map_push (λ (f : L.Function). f.name) (take k fs) g) ∙ sym (ap (map (λ (f : L.Function). f.name)) (take_next fs k g at))

@@ -7,6 +7,7 @@ use Rattle.dialect_types.specs.Trees.{TypeTree, type_at, type_trees}
 use Rattle.dialect_core.specs.declared.numbers.OpRef.{OpRef}
 use Rattle.dialect_core.specs.declared.numbers.BlockRef.{BlockRef}
 use Rattle.dialect_core.specs.declared.ops.Value.{Value}
+use Rattle.dialect_core.specs.declared.ops.Successor.{Successor}
 use Rattle.dialect_core.specs.declared.ops.OpKind.{OpKind}
 use Rattle.dialect_core.specs.declared.ops.OpKind.TheVariants as K
 use Rattle.dialect_core.specs.declared.ops.OpData.{OpData}
@@ -15,15 +16,12 @@ use Rattle.dialect_core.specs.ContextData.{ContextData, with_op, with_appended, 
 use Rattle.dialect_core.specs.Lists.{with_change}
 use Rattle.dialect_core.specs.Data.{DialectModule, Func, DialectBlock, DialectOp, IsTyped, data_of, Kind, kind_of, op_of, op_at, with_block_op}
 use Rattle.dialect_core.proofs.ListLemmas.{slice_get-last}
-use Rattle.from_llvm_ir.specs.Imported.{IsBuilding, IsBelow, holder_kind}
-use Rattle.from_llvm_ir.specs.Building.{op_data, plain_op}
-use Rattle.from_llvm_ir.proofs.BuildLaws.{length-push, holder_kept, at_end, held_op, below_more}
+use Rattle.from_llvm_ir.specs.Imported.{IsBuilding, IsBelow}
+use Rattle.from_llvm_ir.specs.Building.{op_data, new_op}
+use Rattle.from_llvm_ir.proofs.BuildLaws.{length-push, at_end, held_op, below_more}
 
-pub stands_op : (c0 c1 : ContextData) (b : BlockRef) (o : OpRef) (x : OpData) (k : OpKind) → holder_kind c0 b ≡ Some k → c1 ≡ with_op c0 x → o.0 ≡ length c0.ops → (kind_at c1.ops o ≡ Some x.kind) × (holder_kind c1 b ≡ Some k)
-stands_op c0 c1 b o x k holder e number = (
-  ap (λ (c : ContextData). kind_at c.ops o) e ∙ ap (option_map (λ (y : OpData). y.kind)) (at_end c0.ops x o number),
-  ap (λ (c : ContextData). holder_kind c b) e ∙ holder_kept c0.ops x (slice_get c0.blocks b.0) k holder,
-)
+pub kind_of_new : (c0 c1 : ContextData) (o : OpRef) (x : OpData) → c1 ≡ with_op c0 x → o.0 ≡ length c0.ops → kind_at c1.ops o ≡ Some x.kind
+kind_of_new c0 c1 o x e number = ap (λ (c : ContextData). kind_at c.ops o) e ∙ ap (option_map (λ (y : OpData). y.kind)) (at_end c0.ops x o number)
 
 -- an operation that is neither a module nor a function may stand in any block
 pub stands_plain : (ops : List OpData) (blocks : List BlockData) (o : OpRef) (b : BlockRef) (k : OpKind) → IsTrue (is_plain k) → kind_at ops o ≡ Some k → StandsIn ops blocks o b
@@ -49,21 +47,21 @@ below_op n k b o fs h = All-map (IsBelow n k) (in_func b o) fs (All-weaker (IsBe
 op_here : (ts : List TypeTree) (ops : List OpData) (x : OpData) (o : OpRef) (k : Kind) → kind_of ts x.kind ≡ Some k → slice_get ops o.0 ≡ Some x → op_at ts ops o ≡ Some (record { number = o.0; name = x.name; kind = k; operands = x.operands; successors = x.successors; result = option_map (type_at ts) x.result })
 op_here ts ops x o k is at = ap (option_and_then (op_of ts o)) at ∙ ap (option_map _) is
 
-pub added_op : (c0 c1 c2 : ContextData) (m : ℕ) (body : BlockRef) (d : DialectModule) (b : BlockRef) (o : OpRef) (kind : OpKind) (name : Option (List ℕ)) (operands : List Value) (result : Option TypeHandle) (k : Kind)
+pub added_op : (c0 c1 c2 : ContextData) (m : ℕ) (body : BlockRef) (d : DialectModule) (b : BlockRef) (o : OpRef) (kind : OpKind) (name : Option (List ℕ)) (operands : List Value) (successors : List Successor) (result : Option TypeHandle) (k : Kind)
     → IsBuilding c0 m body d
     → kind_of (type_trees c0.types) kind ≡ Some k
-    → c1 ≡ with_op c0 (op_data kind name operands result)
+    → c1 ≡ with_op c0 (op_data kind name operands successors result)
     → o.0 ≡ length c0.ops
     → data_of c1 m ≡ data_of c0 m
     → IsTyped c2
     → c2 ≡ with_appended c1 o b
     → ((x : DialectOp) → op_at (type_trees c1.types) c1.ops o ≡ Some x → (m : ℕ) → data_of c2 m ≡ with_block_op (data_of c1 m) b.0 x)
-    → IsBuilding c2 m body (with_block_op d b.0 (plain_op o.0 name k operands (option_map (type_at (type_trees c0.types)) result)))
-added_op c0 c1 c2 m body d b o kind name operands result k h is e1 number data1 typed e2 data2 =
-    let x = op_data kind name operands result in
+    → IsBuilding c2 m body (with_block_op d b.0 (new_op o.0 name k operands successors (option_map (type_at (type_trees c0.types)) result)))
+added_op c0 c1 c2 m body d b o kind name operands successors result k h is e1 number data1 typed e2 data2 =
+    let x = op_data kind name operands successors result in
     let ops : c2.ops ≡ c0.ops ++ x ∷ [] = ap (λ (c : ContextData). c.ops) e2 ∙ ap (λ (c : ContextData). c.ops) e1 in
     let blocks : c2.blocks ≡ c0.blocks = ap (λ (c : ContextData). c.blocks) e2 ∙ ap (λ (c : ContextData). c.blocks) e1 in
-    let y = plain_op o.0 name k operands (option_map (type_at (type_trees c0.types)) result) in
+    let y = new_op o.0 name k operands successors (option_map (type_at (type_trees c0.types)) result) in
     let here : op_at (type_trees c1.types) c1.ops o ≡ Some y = rw e1 (op_here (type_trees c0.types) (c0.ops ++ x ∷ []) x o k is (at_end c0.ops x o number)) in
     record {
       held = held_op c0 c2 x m body h.held ops blocks;
@@ -83,8 +81,8 @@ set_last (z ∷ xs) x y = ap (λ (ys : List _). z ∷ ys) (set_last xs x y)
 change_last : {X : Type 0} (f : X → X) (xs : List X) (x : X) (i : ℕ) → i ≡ length xs → with_change f i (xs ++ x ∷ []) ≡ xs ++ f x ∷ []
 change_last f xs x i e = rw e (ap (λ (o : Option _). option_map_or (λ y. slice_set (xs ++ x ∷ []) (length xs) (f y)) o (xs ++ x ∷ [])) (slice_get-last xs x) ∙ set_last xs x (f x))
 
-pub named_op : (c0 c1 c2 : ContextData) (o : OpRef) (kind : OpKind) (name : List ℕ) (operands : List Value) (result : Option TypeHandle)
-    → c1 ≡ with_op c0 (op_data kind None operands result) → o.0 ≡ length c0.ops → c2 ≡ with_name c1 o name → c2 ≡ with_op c0 (op_data kind (Some name) operands result)
-named_op c0 c1 c2 o kind name operands result e1 number e2 =
+pub named_op : (c0 c1 c2 : ContextData) (o : OpRef) (kind : OpKind) (name : List ℕ) (operands : List Value) (successors : List Successor) (result : Option TypeHandle)
+    → c1 ≡ with_op c0 (op_data kind None operands successors result) → o.0 ≡ length c0.ops → c2 ≡ with_name c1 o name → c2 ≡ with_op c0 (op_data kind (Some name) operands successors result)
+named_op c0 c1 c2 o kind name operands successors result e1 number e2 =
     e2 ∙ ap (λ (c : ContextData). with_name c o name) e1
-    ∙ ap (λ (ops : List OpData). record c0 { ops = ops; parents = c0.parents ++ None ∷ [] }) (change_last (λ (x : OpData). record x { name = Some name }) c0.ops (op_data kind None operands result) o.0 number)
+    ∙ ap (λ (ops : List OpData). record c0 { ops = ops; parents = c0.parents ++ None ∷ [] }) (change_last (λ (x : OpData). record x { name = Some name }) c0.ops (op_data kind None operands successors result) o.0 number)

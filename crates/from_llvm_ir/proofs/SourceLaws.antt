@@ -1,9 +1,9 @@
 -- What the numbers of a source module stand for in its data.
 use Rattle.std.proofs.Common.{ℕ, ◌≡◌, ◌<◌, refl, sym, ap, subst, ◌∙◌, List, [], ◌∷◌, Option, Some, None, All, length, map, slice_get, get_or, false, arith}
-use Rattle.std.specs.List.{filter_map, cons_option}
+use Rattle.std.specs.Prelude.{is_some}
 use Rattle.std.specs.Option.{option_map}
 use Rattle.std.proofs.lemmas.List.Elements.{All-get_or}
-use Rattle.std.proofs.lemmas.Option.{slice_get_within, same_Some, get_or_from_slice_get}
+use Rattle.std.proofs.lemmas.Option.{slice_get_within, same_Some, get_or_from_slice_get, slice_get-get_or}
 use Rattle.llvm_core.specs.declared.numbers.LLVMType.{LLVMType}
 use Rattle.llvm_core.specs.declared.numbers.LLVMFunction.{LLVMFunction}
 use Rattle.llvm_core.specs.declared.numbers.LLVMBasicBlock.{LLVMBasicBlock}
@@ -12,26 +12,28 @@ use Rattle.llvm_core.specs.declared.types.LLVMTypeKind.{LLVMTypeKind}
 use Rattle.llvm_core.specs.declared.types.LLVMTypeKind.TheVariants as T
 use Rattle.llvm_core.specs.declared.code.FunctionData.{FunctionData}
 use Rattle.llvm_core.specs.declared.code.BlockData.{BlockData}
+use Rattle.llvm_core.specs.declared.code.InstData.{InstData}
+use Rattle.llvm_core.specs.declared.code.LLVMInst.{LLVMInst}
+use Rattle.llvm_core.specs.declared.code.LLVMInst.TheVariants as I
+use Rattle.llvm_core.specs.declared.code.BlockData.{BlockData}
 use Rattle.llvm_core.specs.Module.{Module}
 use Rattle.llvm_core.specs.Sound.{IsModule}
+use Rattle.llvm_core.specs.declared.code.LLVMValue.TheVariants as V
+use Rattle.llvm_core.specs.Parts.{is_phi, value_type}
+use Rattle.llvm_core.specs.Form as LF
 use Rattle.llvm_core.specs.Form.{IsForm, IsFormFunction, IsShortInt, IsShortResult, AreShortInts}
-use Rattle.llvm_core.specs.Data.{TypeTree, VoidType, IntType, FunctionType, TypeTrees, type_at, types_at, type_tree, trees_of, Function, function_of, Block, block_of, block_at, Placed, placed_of, data_of}
+use Rattle.llvm_core.specs.Data.{TypeTree, VoidType, IntType, FunctionType, TypeTrees, type_at, types_at, type_tree, trees_of, Function, function_of, Block, block_of, Placed, placed_of, Instruction, Add, ICmp, Phi, Br, CondBr, Return, Unreachable, instruction_of, phi_entries, Trees, data_of}
 use Rattle.llvm_core.proofs.ApartLemmas.{apart}
-use Rattle.llvm_core.proofs.DataLemmas.{type_tree_of, function_at, function_count, block_count_of, inst_count_of, inst_of_number}
+use Rattle.llvm_core.proofs.DataLemmas.{there, within_at, type_tree_of, void_tree_of, int_tree_of, function_tree_of, function_at, function_count, block_count_of, block_of_number, inst_count_of, inst_of_number}
 use Rattle.dialect_core.specs.Form.{types_list}
-use Rattle.from_llvm_ir.specs.Types.{type_from, types_from, args_from}
-use Rattle.from_llvm_ir.specs.Body.{IsSource, AreListed}
+use Rattle.from_llvm_ir.specs.Types.{type_from, types_from, result_from, args_from}
+use Rattle.from_llvm_ir.specs.Source.{IsSource, IsTypeOf, IsBlockOf, IsInstOf, AreBlocksOf, AreInstsOf}
 use Rattle.from_llvm_ir.proofs.TypeLaws.{listed}
 
 -- an item of which a part is known is there
 pub part_of : {X Y : Type 0} (f : X → Y) (o : Option X) (y : Y) → option_map f o ≡ Some y → (x : X) × ((o ≡ Some x) × (f x ≡ y))
 part_of f None y h = absurd (let no : ⊥ = cc in no)
 part_of f (Some x) y h = (x, (refl, let e : f x ≡ y = cc in e))
-
-pub there : {X : Type 0} (xs : List X) (i : ℕ) → i < length xs → (x : X) × (slice_get xs i ≡ Some x)
-there [] i lt = absurd (omega arith)
-there (x ∷ xs) ℕ.zero lt = (x, refl)
-there (x ∷ xs) (ℕ.suc i) lt = there xs i (omega arith)
 
 -- ---- functions
 
@@ -106,53 +108,97 @@ params_listed m f g h ty k r ps v has at is =
     let same : types_at (trees_of m).types ps ≡ h.form.types = cc (e, ap (type_tree (trees_of m).types) is) in
     listed (trees_of m).types ps ∙ ap (λ (ts : TypeTrees). types_list (types_from ts)) same ∙ sym (ap args_from h.form.type)
 
--- ---- the only block
+-- ---- blocks and instructions
 
--- an item of two, where the one list is made of the other
-alone : {Y : Type 0} (o : Option Y) (y : Y) → cons_option o [] ≡ y ∷ [] → o ≡ Some y
-alone None y e = cc
-alone (Some z) y e = cc
-
-single : {X Y : Type 0} (h : X → Option Y) (xs : List X) (y : Y) → length (filter_map h xs) ≡ length xs → filter_map h xs ≡ y ∷ [] → (x : X) × ((xs ≡ x ∷ []) × (h x ≡ Some y))
-single h [] y len e = cc
-single h (x ∷ []) y len e = (x, (refl, alone (h x) y e))
-single h (x ∷ z ∷ xs) y len e = absurd (omega (arith, ap length e, len))
-
-pub record OnlyBlock (m : Module) (g : Function) (form : IsFormFunction g) (bs : List LLVMBasicBlock) : Type 0 where
-  pub number : LLVMBasicBlock
-  pub are : bs ≡ number ∷ []
-  pub row : BlockData
-  pub at : slice_get m.blocks number.0 ≡ Some row
-  pub is : form.block ≡ block_of (trees_of m) m.insts number row
-
-pub only_block : (m : Module) (f : LLVMFunction) (g : Function) (h : IsSource m f g) (bs : List LLVMBasicBlock) → option_map (λ (x : FunctionData). x.blocks) (slice_get m.functions f.0) ≡ Some bs → OnlyBlock m g h.form bs
-only_block m f g h bs has =
-    let x = part_of (λ (y : FunctionData). y.blocks) (slice_get m.functions f.0) bs has in
+-- the blocks of a function, by their numbers
+pub blocks_listed : (m : Module) (f : LLVMFunction) (g : Function) (h : IsSource m f g) (ns : List LLVMBasicBlock) → option_map (λ (x : FunctionData). x.blocks) (slice_get m.functions f.0) ≡ Some ns → AreBlocksOf m g ns
+blocks_listed m f g h ns has =
+    let x = part_of (λ (y : FunctionData). y.blocks) (slice_get m.functions f.0) ns has in
     let row = function_row m f g h in
     let same : row.0 ≡ x.0 = same_Some row.0 x.0 (sym row.1.0 ∙ x.1.0) in
     let is : g ≡ function_of (trees_of m) m.blocks m.insts (f.0, x.0) = row.1.1 ∙ ap (λ (y : FunctionData). function_of (trees_of m) m.blocks m.insts (f.0, y)) same in
-    let one = single (block_at (trees_of m) m.blocks m.insts) x.0.blocks h.form.block (block_count_of m f.0 x.0 h.sound x.1.0) (sym (ap (λ (y : Function). y.blocks) is) ∙ h.form.only) in
-    let y = part_of (block_of (trees_of m) m.insts one.0) (slice_get m.blocks one.0.0) h.form.block one.1.1 in
-    record { number = one.0; are = sym x.1.1 ∙ one.1.0; row = y.0; at = y.1.0; is = sym y.1.1 }
-
--- its instructions
-pub listed_insts : (m : Module) (f : LLVMFunction) (g : Function) (h : IsSource m f g) (bs : List LLVMBasicBlock) (one : OnlyBlock m g h.form bs) (is : List LLVMInstRef) → option_map (λ (x : BlockData). x.insts) (slice_get m.blocks one.number.0) ≡ Some is → All (λ (i : LLVMInstRef). i.0 < length m.insts) is → AreListed m g is h.form.block.instructions
-listed_insts m f g h bs one is has within =
-    let x = part_of (λ (y : BlockData). y.insts) (slice_get m.blocks one.number.0) is has in
-    let same : x.0 ≡ one.row = same_Some x.0 one.row (sym x.1.0 ∙ one.at) in
-    let insts : one.row.insts ≡ is = sym (ap (λ (y : BlockData). y.insts) same) ∙ x.1.1 in
-    let ps : h.form.block.instructions ≡ (block_of (trees_of m) m.insts one.number one.row).instructions = ap (λ (y : Block). y.instructions) one.is in
+    let blocks : g.blocks ≡ (function_of (trees_of m) m.blocks m.insts (f.0, x.0)).blocks = ap (λ (y : Function). y.blocks) is in
     record {
-      sound = h.sound;
-      apart = h.apart;
-      long = sym (ap (λ (qs : List Placed). length qs) ps ∙ inst_count_of m one.number one.row h.sound one.at ∙ ap (λ (js : List LLVMInstRef). length js) insts);
-      each = λ j i at.
-          let small = All-get_or (λ (k : LLVMInstRef). k.0 < length m.insts) is j i (slice_get_within is j i at) within in
-          let here : i.0 < length m.insts = subst (λ (k : LLVMInstRef). k.0 < length m.insts) (get_or_from_slice_get is j i i at) small in
-          let y = there m.insts i.0 here in
-          let placed : slice_get h.form.block.instructions j ≡ Some (placed_of (trees_of m) i y.0) = ap (λ (qs : List Placed). slice_get qs j) ps ∙ inst_of_number m one.number one.row j i y.0 h.sound one.at (ap (λ (js : List LLVMInstRef). slice_get js j) insts ∙ at) y.1 in
-          (placed_of (trees_of m) i y.0, placed, record { row = y.0; at = y.1; is = refl; form = h.form.instructions j (placed_of (trees_of m) i y.0) placed });
+      long = ap (λ (xs : List LLVMBasicBlock). length xs) (sym x.1.1) ∙ sym (block_count_of m f.0 x.0 h.sound x.1.0) ∙ sym (ap (λ (xs : List Block). length xs) blocks);
+      each = λ place n at.
+          let small = within_at x.0.blocks (λ (b : LLVMBasicBlock). b.0 < length m.blocks) (h.sound.functions f.0 x.0 x.1.0).blocks place n (ap (λ (xs : List LLVMBasicBlock). slice_get xs place) x.1.1 ∙ at) in
+          let y = there m.blocks n.0 small in (
+            block_of (trees_of m) m.insts n y.0,
+            record {
+              at = ap (λ (xs : List Block). slice_get xs place) blocks ∙ block_of_number m f.0 x.0 place n y.0 h.sound x.1.0 (ap (λ (xs : List LLVMBasicBlock). slice_get xs place) x.1.1 ∙ at) y.1;
+              row = y.0;
+              here = y.1;
+              is = refl;
+            },
+          );
     }
+
+-- the instructions of a block, by their numbers
+pub insts_listed : (m : Module) (g : Function) (n : LLVMBasicBlock) (place : ℕ) (b : Block) (is : List LLVMInstRef) → IsModule m → IsBlockOf m g n place b → option_map (λ (x : BlockData). x.insts) (slice_get m.blocks n.0) ≡ Some is → AreInstsOf m b is
+insts_listed m g n place b is sound h has =
+    let x = part_of (λ (y : BlockData). y.insts) (slice_get m.blocks n.0) is has in
+    let same : x.0 ≡ h.row = same_Some x.0 h.row (sym x.1.0 ∙ h.here) in
+    let insts : h.row.insts ≡ is = sym (ap (λ (y : BlockData). y.insts) same) ∙ x.1.1 in
+    let ps : b.instructions ≡ (block_of (trees_of m) m.insts n h.row).instructions = ap (λ (y : Block). y.instructions) h.is in
+    record {
+      long = sym (ap (λ (qs : List Placed). length qs) ps ∙ inst_count_of m n h.row sound h.here ∙ ap (λ (js : List LLVMInstRef). length js) insts);
+      each = λ j i at.
+          let here = ap (λ (js : List LLVMInstRef). slice_get js j) insts ∙ at in
+          let y = there m.insts i.0 (within_at h.row.insts (λ (k : LLVMInstRef). k.0 < length m.insts) (sound.blocks n.0 h.row h.here).insts j i here) in (
+            placed_of (trees_of m) i y.0,
+            record {
+              at = ap (λ (qs : List Placed). slice_get qs j) ps ∙ inst_of_number m n h.row j i y.0 sound h.here here y.1;
+              row = y.0;
+              here = y.1;
+              is = refl;
+            },
+          );
+    }
+
+-- a block's number
+pub block_number : (m : Module) (g : Function) (n : LLVMBasicBlock) (place : ℕ) (b : Block) → IsBlockOf m g n place b → b.number ≡ n.0
+block_number m g n place b h = ap (λ (x : Block). x.number) h.is
+
+pub inst_number : (m : Module) (b : Block) (i : LLVMInstRef) (place : ℕ) (p : Placed) → IsInstOf m b i place p → p.number ≡ i.0
+inst_number m b i place p h = ap (λ (x : Placed). x.number) h.is
+
+-- the instruction that is read is that of the data
+pub instruction_is : (m : Module) (b : Block) (i : LLVMInstRef) (place : ℕ) (p : Placed) (inst : LLVMInst) → IsInstOf m b i place p → option_map (λ (x : InstData). x.inst) (slice_get m.insts i.0) ≡ Some inst → p.instruction ≡ instruction_of (trees_of m) inst
+instruction_is m b i place p inst h has =
+    let x = part_of (λ (y : InstData). y.inst) (slice_get m.insts i.0) inst has in
+    let same : h.row ≡ x.0 = same_Some h.row x.0 (sym h.here ∙ x.1.0) in
+    ap (λ (q : Placed). q.instruction) h.is ∙ ap (λ (y : InstData). instruction_of (trees_of m) y.inst) same ∙ ap (instruction_of (trees_of m)) x.1.1
+
+pub inst_name : (m : Module) (b : Block) (i : LLVMInstRef) (place : ℕ) (p : Placed) (name : List ℕ) → IsInstOf m b i place p → option_map (λ (x : InstData). x.name) (slice_get m.insts i.0) ≡ Some name → name ≡ p.name
+inst_name m b i place p name h has =
+    let x = part_of (λ (y : InstData). y.name) (slice_get m.insts i.0) name has in
+    let same : x.0 ≡ h.row = same_Some x.0 h.row (sym x.1.0 ∙ h.here) in
+    sym x.1.1 ∙ ap (λ (y : InstData). y.name) same ∙ sym (ap (λ (q : Placed). q.name) h.is)
+
+pub block_name : (m : Module) (g : Function) (n : LLVMBasicBlock) (place : ℕ) (b : Block) (name : List ℕ) → IsBlockOf m g n place b → option_map (λ (x : BlockData). x.name) (slice_get m.blocks n.0) ≡ Some name → name ≡ b.name
+block_name m g n place b name h has =
+    let x = part_of (λ (y : BlockData). y.name) (slice_get m.blocks n.0) name has in
+    let same : x.0 ≡ h.row = same_Some x.0 h.row (sym x.1.0 ∙ h.here) in
+    sym x.1.1 ∙ ap (λ (y : BlockData). y.name) same ∙ sym (ap (λ (q : Block). q.name) h.is)
+
+-- whether an instruction is a phi
+pub phi_same : (t : Trees) (inst : LLVMInst) → is_some (phi_entries (instruction_of t inst)) ≡ is_phi inst
+phi_same t (I.Add l r f) = refl
+phi_same t (I.ICmp l r q) = refl
+phi_same t (I.Phi type es) = refl
+phi_same t (I.Br a) = refl
+phi_same t (I.CondBr c a b) = refl
+phi_same t (I.Ret v) = refl
+phi_same t I.Unreachable = refl
+
+pub phi_read : (m : Module) (b : Block) (i : LLVMInstRef) (place : ℕ) (p : Placed) (inst : LLVMInst) → IsInstOf m b i place p → option_map (λ (x : InstData). x.inst) (slice_get m.insts i.0) ≡ Some inst → LF.is_phi p ≡ is_phi inst
+phi_read m b i place p inst h has = ap (λ (j : Instruction). is_some (phi_entries j)) (instruction_is m b i place p inst h has) ∙ phi_same (trees_of m) inst
+
+pub inst_within : (m : Module) (b : Block) (i : LLVMInstRef) (place : ℕ) (p : Placed) → IsInstOf m b i place p → i.0 < length m.insts
+inst_within m b i place p h = slice_get_within m.insts i.0 h.row h.here
+
+pub block_within : (m : Module) (g : Function) (n : LLVMBasicBlock) (place : ℕ) (b : Block) → IsBlockOf m g n place b → n.0 < length m.blocks
+block_within m g n place b h = slice_get_within m.blocks n.0 h.row h.here
 
 -- the name of a function
 pub name_of : (m : Module) (f : LLVMFunction) (g : Function) (h : IsSource m f g) (name : List ℕ) → option_map (λ (x : FunctionData). x.name) (slice_get m.functions f.0) ≡ Some name → name ≡ g.name
@@ -169,3 +215,74 @@ source_at m k sound form lt =
     let at = function_at m k x.0 x.1 in
     let g = function_of (trees_of m) m.blocks m.insts (k, x.0) in
     (g, record { sound = sound; apart = apart m sound; at = at; form = subst IsFormFunction (get_or_from_slice_get (data_of m).functions k g g at) (All-get_or IsFormFunction (data_of m).functions k g (slice_get_within (data_of m).functions k g at) form) })
+
+-- the instruction at an index of the list of a block
+pub listed_at : (m : Module) (g : Function) (n : LLVMBasicBlock) (place : ℕ) (b : Block) (is : List LLVMInstRef) (k : ℕ) (d : LLVMInstRef) → IsModule m → IsBlockOf m g n place b → option_map (λ (x : BlockData). x.insts) (slice_get m.blocks n.0) ≡ Some is → k < length is → (p : Placed) × IsInstOf m b (get_or is k d) k p
+listed_at m g n place b is k d sound h has lt = (insts_listed m g n place b is sound h has).each k (get_or is k d) (slice_get-get_or is k d lt)
+
+-- and the block at an index of the list of a function
+pub block_listed_at : (m : Module) (f : LLVMFunction) (g : Function) (h : IsSource m f g) (ns : List LLVMBasicBlock) (k : ℕ) (d : LLVMBasicBlock) → option_map (λ (x : FunctionData). x.blocks) (slice_get m.functions f.0) ≡ Some ns → k < length ns → (b : Block) × IsBlockOf m g (get_or ns k d) k b
+block_listed_at m f g h ns k d has lt = (blocks_listed m f g h ns has).each k (get_or ns k d) (slice_get-get_or ns k d lt)
+
+-- a block of a function is that of its number
+pub block_named : (m : Module) (f : LLVMFunction) (g : Function) (place : ℕ) (b : Block) (to : LLVMBasicBlock) → IsSource m f g → slice_get g.blocks place ≡ Some b → b.number ≡ to.0 → IsBlockOf m g to place b
+block_named m f g place b to h at number =
+    let row = function_row m f g h in
+    let listed = blocks_listed m f g h row.0.blocks (ap (option_map (λ (x : FunctionData). x.blocks)) row.1.0) in
+    let n = there row.0.blocks place (let l = slice_get_within g.blocks place b at in omega (arith, l, listed.long)) in
+    by n.0 (listed.each place n.0 n.1)
+  where
+    by : (n : LLVMBasicBlock) → (x : Block) × IsBlockOf m g n place x → IsBlockOf m g to place b
+    by n x =
+        let same : x.0 ≡ b = same_Some x.0 b (sym x.1.at ∙ at) in
+        let is : n.0 ≡ to.0 = sym (block_number m g n place x.0 x.1) ∙ ap (λ (y : Block). y.number) same ∙ number in
+        subst (λ (y : ℕ). IsBlockOf m g (record { 0 = y }) place b) is (subst (IsBlockOf m g n place) same x.1)
+
+-- the type of an instruction is short or void
+result_form : (g : Function) (b : ℕ) (p : Placed) (i : Instruction) → LF.IsFormInstruction g b p i → IsShortResult p.type
+result_form g b p (Add l r f) h = short_result p.type h.0.short
+result_form g b p (ICmp l r q) h = subst IsShortResult (sym h.1) (omega arith, omega arith)
+result_form g b p (Phi es) h = short_result p.type h.2
+result_form g b p (Br a) h = subst IsShortResult (sym h.1.type) tt
+result_form g b p (CondBr c x y) h = subst IsShortResult (sym h.3.type) tt
+result_form g b p (Return None) h = subst IsShortResult (sym h.1.type) tt
+result_form g b p (Return (Some v)) h = subst IsShortResult (sym h.1.type) tt
+result_form g b p Unreachable h = subst IsShortResult (sym h.type) tt
+
+pub type_of_inst : (m : Module) (f : LLVMFunction) (g : Function) (n : LLVMBasicBlock) (place : ℕ) (b : Block) (i : LLVMInstRef) (at : ℕ) (p : Placed) → IsSource m f g → IsBlockOf m g n place b → IsInstOf m b i at p → IsTypeOf m i p.type
+type_of_inst m f g n place b i at p h of_block inst = record {
+  sound = h.sound;
+  row = inst.row;
+  here = inst.here;
+  is = ap (λ (q : Placed). q.type) inst.is;
+  short = result_form g b.number p p.instruction (within_at b.instructions (λ (q : Placed). LF.IsFormInstruction g b.number q q.instruction) (within_at g.blocks (LF.IsFormBlock g) h.form.blocks place b of_block.at).instructions at p inst.at);
+}
+
+-- the type that is read of an instruction
+pub type_read : (m : Module) (i : LLVMInstRef) (t : TypeTree) (ty : LLVMType) → IsTypeOf m i t → value_type m (V.Inst i) ≡ Some ty → type_at (trees_of m).types ty ≡ t
+type_read m i t ty h has =
+    let x = part_of (λ (y : InstData). y.ty) (slice_get m.insts i.0) ty has in
+    let same : x.0 ≡ h.row = same_Some x.0 h.row (sym x.1.0 ∙ h.here) in
+    ap (type_at (trees_of m).types) (sym x.1.1 ∙ ap (λ (y : InstData). y.ty) same) ∙ sym h.is
+
+-- as many parameters as the function's type has
+pub params_counted : (m : Module) (f : LLVMFunction) (g : Function) (h : IsSource m f g) (ty : LLVMType) (k : LLVMTypeKind) (r : LLVMType) (ps : List LLVMType) (v : _) → option_map (λ (x : FunctionData). x.ty) (slice_get m.functions f.0) ≡ Some ty → slice_get m.types ty.0 ≡ Some k → k ≡ T.Function r ps v → length ps ≡ length g.params
+params_counted m f g h ty k r ps v has at is =
+    let e = signature m f g h ty k has at in
+    let same : types_at (trees_of m).types ps ≡ h.form.types = cc (e, ap (type_tree (trees_of m).types) is) in
+    counted (trees_of m).types ps ∙ ap LF.count_types same ∙ sym h.form.params
+  where
+    counted : (ts : List TypeTree) (xs : List LLVMType) → length xs ≡ LF.count_types (types_at ts xs)
+    counted ts [] = refl
+    counted ts (x ∷ xs) = (let c = counted ts xs in omega (arith, c))
+
+-- the type of a result by its kind
+pub void_read : (m : Module) (i : LLVMInstRef) (t : TypeTree) (ty : LLVMType) → IsTypeOf m i t → value_type m (V.Inst i) ≡ Some ty → slice_get m.types ty.0 ≡ Some T.Void → None ≡ result_from t
+void_read m i t ty h has at = sym (ap result_from (sym (type_read m i t ty h has) ∙ void_tree_of m ty h.sound at))
+
+pub other_read : (m : Module) (i : LLVMInstRef) (t : TypeTree) (ty : LLVMType) (k : LLVMTypeKind) → IsTypeOf m i t → value_type m (V.Inst i) ≡ Some ty → slice_get m.types ty.0 ≡ Some k → ¬ (k ≡ T.Void) → Some (type_from t) ≡ result_from t
+other_read m i t ty T.Void h has at differs = absurd (differs refl)
+other_read m i t ty (T.Int w) h has at differs = let is : t ≡ IntType w = sym (type_read m i t ty h has) ∙ int_tree_of m ty w h.sound at in ap (λ (x : TypeTree). Some (type_from x)) is ∙ sym (ap result_from is)
+other_read m i t ty (T.Function r ps v) h has at differs =
+    let is : t ≡ FunctionType (type_at (trees_of m).types r) (types_at (trees_of m).types ps) v = sym (type_read m i t ty h has) ∙ function_tree_of m ty r ps v h.sound at in
+    ap (λ (x : TypeTree). Some (type_from x)) is ∙ sym (ap result_from is)

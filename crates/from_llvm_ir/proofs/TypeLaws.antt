@@ -1,15 +1,16 @@
 -- Types of the source and of the dialect.
-use Rattle.std.proofs.Common.{ℕ, ◌≡◌, ◌<◌, ◌≤◌, ◌+◌, List, [], ◌∷◌, ◌++◌, All, false, length, map, take, get_or, refl, sym, ap, subst, ◌∙◌, arith}
+use Rattle.std.proofs.Common.{ℕ, ◌≡◌, ◌<◌, ◌≤◌, ◌+◌, List, [], ◌∷◌, ◌++◌, All, Some, true, false, filter, slice_get, length, map, take, get_or, refl, sym, ap, subst, ◌∙◌, arith}
 use Rattle.std.proofs.lemmas.List.{map_push, take_all, map_more}
 use Rattle.std.proofs.lemmas.List.Elements.{All-weaker, All-push, All-nil, All-head, All-tail}
 use Rattle.llvm_core.specs.declared.numbers.LLVMType.{LLVMType}
 use Rattle.llvm_core.specs.Data as L
-use Rattle.llvm_core.specs.Form.{IsShortResult, AreShortInts}
+use Rattle.llvm_core.specs.Form.{IsShortResult, AreShortInts, is_phi}
 use Rattle.dialect_types.specs.declared.types.TypeHandle.{TypeHandle}
 use Rattle.dialect_types.specs.Trees.{TypeTree, FuncType, TypeTrees, NoTypes, ThenType, depth, depths, type_at, types_at, type_trees, AllBelow}
 use Rattle.dialect_core.specs.ContextData.{ContextData}
 use Rattle.dialect_core.specs.Form.{types_list}
 use Rattle.meaning.specs.Dialect.{type_of, types_of}
+use Rattle.from_llvm_ir.proofs.PlaceLaws.{filter_next, filter_skip}
 use Rattle.from_llvm_ir.specs.Types.{GrowsTypes, type_from, types_from, args_from}
 
 -- ---- types of the context that grow
@@ -62,6 +63,36 @@ imports_more a b c trees types i d imported t lt h g is small = record {
 
 pub imports_all : (a b : ContextData) (trees : List L.TypeTree) (types : List LLVMType) (i : ℕ) (imported : List TypeHandle) → length types ≤ i → Imports a b trees (take i types) imported → Imports a b trees types imported
 imports_all a b trees types i imported le h = subst (λ (ts : List LLVMType). Imports a b trees ts imported) (take_all i types le) h
+
+-- ---- the types of phis
+
+pub record ImportsPhis (a b : ContextData) (ps : List L.Placed) (imported : List TypeHandle) : Type 0 where
+  pub grown : GrowsTypes a b
+  pub are : map (type_at (type_trees b.types)) imported ≡ map (λ (p : L.Placed). type_from p.type) (filter is_phi ps)
+  pub within : All (λ (t : TypeHandle). t.0 < length b.types) imported
+
+pub phis_none : (a : ContextData) → ImportsPhis a a [] []
+phis_none a = record { grown = grows_none a; are = refl; within = All-nil _ }
+
+pub phis_skip : (a b : ContextData) (ps : List L.Placed) (i : ℕ) (p : L.Placed) (imported : List TypeHandle) → slice_get ps i ≡ Some p → is_phi p ≡ false → ImportsPhis a b (take i ps) imported → ImportsPhis a b (take (i + 1) ps) imported
+phis_skip a b ps i p imported at other h = record {
+  grown = h.grown;
+  are = h.are ∙ ap (map (λ (q : L.Placed). type_from q.type)) (sym (filter_skip is_phi ps i p at other));
+  within = h.within;
+}
+
+pub phis_more : (a b c : ContextData) (ps : List L.Placed) (i : ℕ) (p : L.Placed) (imported : List TypeHandle) (t : TypeHandle) → slice_get ps i ≡ Some p → is_phi p ≡ true → ImportsPhis a b (take i ps) imported → GrowsTypes b c → type_at (type_trees c.types) t ≡ type_from p.type → t.0 < length c.types
+    → ImportsPhis a c (take (i + 1) ps) (imported ++ t ∷ [])
+phis_more a b c ps i p imported t at phi h g is small = record {
+  grown = grows_then a b c h.grown g;
+  are =
+      map_push (type_at (type_trees c.types)) imported t
+      ∙ ap (λ (ts : List TypeTree). ts ++ type_at (type_trees c.types) t ∷ []) (trees_kept b c g imported h.within ∙ h.are)
+      ∙ ap (λ (x : TypeTree). map (λ (q : L.Placed). type_from q.type) (filter is_phi (take i ps)) ++ x ∷ []) is
+      ∙ sym (map_push (λ (q : L.Placed). type_from q.type) (filter is_phi (take i ps)) p)
+      ∙ ap (map (λ (q : L.Placed). type_from q.type)) (sym (filter_next is_phi ps i p at phi));
+  within = All-push (λ (x : TypeHandle). x.0 < length c.types) imported t (within_kept b c g imported h.within) small;
+}
 
 -- ---- lists of types as trees
 

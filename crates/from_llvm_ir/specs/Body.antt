@@ -1,137 +1,155 @@
--- The one block of a function under construction: what it holds, and which values stand for those of the source.
-use Rattle.std.specs.Prelude.{ℕ, ◌≡◌, ◌<◌, ◌≤◌, ◌^◌, List, [], ◌∷◌, ◌++◌, Some, None, IsSome, length, take, slice_get}
+-- A function under construction: its constants are hoisted, then its blocks are filled, one by one.
+use Rattle.std.specs.Prelude.{ℕ, ◌≡◌, ◌+◌, ◌++◌, not, List, [], ◌∷◌, Some, All, filter, length, take, slice_get}
+use Rattle.std.specs.List.{flat_map}
+use Rattle.llvm_core.specs.declared.numbers.LLVMBasicBlock.{LLVMBasicBlock}
 use Rattle.llvm_core.specs.declared.numbers.LLVMFunction.{LLVMFunction}
 use Rattle.llvm_core.specs.declared.numbers.LLVMInstRef.{LLVMInstRef}
-use Rattle.llvm_core.specs.declared.code.LLVMValue.{LLVMValue}
-use Rattle.llvm_core.specs.declared.code.InstData.{InstData}
 use Rattle.llvm_core.specs.Module.{Module}
-use Rattle.llvm_core.specs.Sound.{IsModule}
-use Rattle.llvm_core.specs.Parts.{IsValue}
 use Rattle.llvm_core.specs.Data as L
-use Rattle.llvm_core.specs.Data.{ConstTree, IntConst, IntType, Placed, trees_of, operand_of, placed_of, AreApart, data_of}
-use Rattle.llvm_core.specs.Form.{IsFormFunction, IsFormInstruction}
-use Rattle.dialect_types.specs.Trees.{IntegerAttr, IntegerType}
+use Rattle.llvm_core.specs.Data.{ConstTree, Placed, data_of}
+use Rattle.llvm_core.specs.Form.{is_phi}
 use Rattle.dialect_core.specs.declared.numbers.BlockRef.{BlockRef}
 use Rattle.dialect_core.specs.declared.ops.Value.{Value}
-use Rattle.dialect_core.specs.declared.ops.Value.TheVariants as V
-use Rattle.dialect_core.specs.ContextData.{ContextData}
-use Rattle.dialect_core.specs.Data.{DialectOp, ConstantOp, AddOp, ReturnOp}
+use Rattle.dialect_core.specs.declared.numbers.FuncOp.{FuncOp}
+use Rattle.dialect_core.specs.declared.ops.OpKind.TheVariants as K
+use Rattle.dialect_core.specs.ContextData.{ContextData, kind_at}
+use Rattle.dialect_core.specs.Data.{DialectBlock, DialectOp, with_func}
 use Rattle.meaning.specs.Pairs.{Matched}
+use Rattle.from_llvm_ir.specs.declared.conversion_err.ConversionErr.{ConversionErr}
+use Rattle.from_llvm_ir.specs.declared.conversion_err.ConversionErr.TheVariants as E
+use Rattle.from_llvm_ir.specs.declared.targets.Targets.{Targets}
 use Rattle.from_llvm_ir.specs.declared.values.Values.{Values}
+use Rattle.from_llvm_ir.specs.declared.entries.Entries.{Entries}
+use Rattle.from_llvm_ir.specs.Match.{IsPlaces}
 use Rattle.from_llvm_ir.specs.Types.{type_from}
-use Rattle.from_llvm_ir.specs.Values.{value_at}
-use Rattle.from_llvm_ir.specs.Imported.{FirstUses, IsIn, constants_in, given_name}
-use Rattle.from_llvm_ir.specs.Building.{Frame, IsUnder, plain_op}
+use Rattle.from_llvm_ir.specs.Values.{target_at}
+use Rattle.from_llvm_ir.specs.Imported.{constants_in, rest_of, front_for, IsBuilding, IsBelow, IsRefused}
+use Rattle.from_llvm_ir.specs.Building.{IsUnder, AreBare, bare_func, with_blocks, with_ops}
+use Rattle.from_llvm_ir.specs.Source.{IsSource, IsBlockOf, IsInstOf, AreEntries}
+use Rattle.from_llvm_ir.specs.Known.{Frame, blocks_of, knows, IsKnown}
+use Rattle.from_llvm_ir.specs.Converted.{AreHeads, IsRow, HasPhis, HasOrder, AreConverted, AreFrom}
 
--- ---- the source
+-- ---- what stays
 
--- the function of that number is g, of the form
-pub record IsSource (m : Module) (f : LLVMFunction) (g : L.Function) : Type 0 where
-  pub sound : IsModule m
-  pub apart : AreApart m
-  pub at : slice_get (data_of m).functions f.0 ≡ Some g
-  pub form : IsFormFunction g
+-- each block in the order leads to that at its place
+abbrev pub AreTargets : Frame → Targets → Type 0
+AreTargets fr t = (place : ℕ) (b : L.Block) → slice_get (blocks_of fr) place ≡ Some b → target_at t (record { 0 = b.number }) ≡ Some (record { 0 = fr.base + place })
 
--- the instruction of that number is p, of the form behind others
-pub record IsNext (m : Module) (g : L.Function) (before : List Placed) (i : LLVMInstRef) (p : Placed) : Type 0 where
-  pub row : InstData
-  pub at : slice_get m.insts i.0 ≡ Some row
-  pub is : p ≡ placed_of (trees_of m) i row
-  pub form : IsFormInstruction g before p p.instruction
+-- the frame is that of the function of the number f
+pub record IsFramed (m : Module) (f : LLVMFunction) (fr : Frame) : Type 0 where
+  pub source : IsSource m f fr.source
+  pub number : fr.source.number ≡ f.0
+  pub order : IsPlaces (length fr.source.blocks) fr.order
+  pub func : (n : ℕ) × (fr.home.func ≡ bare_func n fr.source.name (type_from fr.source.type))
 
--- the numbers name the instructions ps of a block of g, of the form
-pub record AreListed (m : Module) (g : L.Function) (is : List LLVMInstRef) (ps : List Placed) : Type 0 where
-  pub sound : IsModule m
-  pub apart : AreApart m
-  pub long : length is ≡ length ps
-  pub each : (j : ℕ) (i : LLVMInstRef) → slice_get is j ≡ Some i → (p : Placed) × (slice_get ps j ≡ Some p) × IsNext m g (take j ps) i p
+-- the constants that an instruction uses, if it is no phi
+abbrev pub uses_of_inst : L.ModuleData → L.Function → L.Block → Placed → List ConstTree
+uses_of_inst d g b p = flat_map (constants_in d g b) (filter (λ (q : Placed). not (is_phi q)) (p ∷ []))
 
--- ---- what stands for what
+-- the constants that the function uses
+abbrev pub all_uses : Module → Frame → List ConstTree
+all_uses m fr = flat_map (λ (b : L.Block). flat_map (constants_in (data_of m) fr.source b) (rest_of b)) (blocks_of fr)
 
--- what the values of a function stand for: its parameters below a number, constants with the operations that
--- make them, and instructions with the operations that stand for them
-pub record Known : Type 0 where
-  pub params : ℕ
+-- ---- blocks that are added
+
+-- the operation of the number n is a function, and has the first blocks in order, without operations
+pub record HasHeads (fr : Frame) (func : FuncOp) (c : ContextData) (j : ℕ) : Type 0 where
+  pub heads : List DialectBlock
+  pub building : IsBuilding c fr.home.m fr.home.body (with_func fr.home.before (with_blocks fr.home heads))
+  pub kind : kind_at c.ops func.0 ≡ Some K.Func
+  pub number : fr.home.func.number ≡ func.0.0
+  pub before : All (IsBelow func.0.0 fr.base) fr.home.before.functions
+  pub count : length heads ≡ j
+  pub blocks : length c.blocks ≡ fr.base + j
+  pub are : AreHeads fr heads
+  pub bare : AreBare heads
+
+-- ---- what is hoisted
+
+-- the blocks are there, and hold nothing but constants at the start of the first
+pub record IsHoisting (fr : Frame) (m : Module) (c : ContextData) (values : Values) (uses : List ConstTree) : Type 0 where
   pub constants : List ConstTree
   pub hoisted : List DialectOp
-  pub sources : List Placed
-  pub done : List DialectOp
+  pub entry : DialectBlock
+  pub more : List DialectBlock
+  pub under : IsUnder fr.home fr.base c (with_ops entry hoisted ∷ more)
+  pub heads : AreHeads fr (entry ∷ more)
+  pub bare : AreBare more
+  pub count : length (entry ∷ more) ≡ length (blocks_of fr)
+  pub known : IsKnown m values uses (knows fr constants hoisted [] []) (length c.ops) fr.base 0
 
--- w is the result of the operation at the place where the list has x
-pub record StandsAt {X : Type 0} (xs : List X) (os : List DialectOp) (P : X → Type 0) (w : Value) : Type 0 where
+-- ---- blocks that are filled
+
+-- the instructions of the first blocks
+abbrev pub insts_before : Frame → ℕ → List Placed
+insts_before fr j = flat_map (λ (b : L.Block). b.instructions) (take j (blocks_of fr))
+
+-- the first j blocks are filled
+pub record IsFilled (fr : Frame) (m : Module) (c : ContextData) (values : Values) (j : ℕ) : Type 0 where
+  pub constants : List ConstTree
+  pub hoisted : List DialectOp
+  pub done : List Value
+  pub left : List DialectBlock
+  pub right : List DialectBlock
+  pub under : IsUnder fr.home fr.base c (left ++ right)
+  pub at : length left ≡ j
+  pub count : length (left ++ right) ≡ length (blocks_of fr)
+  pub converted : AreConverted (knows fr constants hoisted (insts_before fr j) done) left
+  pub heads : AreHeads fr (left ++ right)
+  pub bare : (i : ℕ) (x : DialectBlock) → slice_get right i ≡ Some x → x.ops ≡ front_for (j + i) hoisted
+  pub known : IsKnown m values (all_uses m fr) (knows fr constants hoisted (insts_before fr j) done) (length c.ops) (fr.base + j) 0
+  pub from : AreFrom (knows fr constants hoisted (insts_before fr j) done) left
+
+-- and of the block b behind them the first instructions were imported
+pub record IsBody (fr : Frame) (m : Module) (c : ContextData) (values : Values) (j x : ℕ) (b : L.Block) : Type 0 where
+  pub constants : List ConstTree
+  pub hoisted : List DialectOp
+  pub done : List Value
+  pub left : List DialectBlock
+  pub now : DialectBlock
+  pub rest : List DialectOp
+  pub right : List DialectBlock
+  pub source : slice_get (blocks_of fr) j ≡ Some b
+  pub under : IsUnder fr.home fr.base c (left ++ with_ops now (front_for j hoisted ++ rest) ∷ right)
+  pub at : length left ≡ j
+  pub count : length (left ++ now ∷ right) ≡ length (blocks_of fr)
+  pub converted : AreConverted (knows fr constants hoisted (insts_before fr j ++ take x b.instructions) done) left
+  pub heads : AreHeads fr (left ++ now ∷ right)
+  pub bare : AreBare right
+  pub known : IsKnown m values (all_uses m fr) (knows fr constants hoisted (insts_before fr j ++ take x b.instructions) done) (length c.ops) (fr.base + j) (length (filter is_phi (take x b.instructions)))
+  pub from : AreFrom (knows fr constants hoisted (insts_before fr j ++ take x b.instructions) done) (left ++ with_ops now (front_for j hoisted ++ rest) ∷ [])
+  pub rows : Matched (IsRow (knows fr constants hoisted (insts_before fr j ++ take x b.instructions) done) b) (filter (λ (p : Placed). not (is_phi p)) (take x b.instructions)) rest
+  pub phis : HasPhis (knows fr constants hoisted (insts_before fr j ++ take x b.instructions) done) (fr.base + j) (filter is_phi (take x b.instructions))
+  pub in_order : HasOrder left (with_ops now (front_for j hoisted ++ rest))
+
+-- ---- the next instruction
+
+-- the instruction p of the number i stands at the place x of the block b, which is that of the number `from` and
+-- stands at the place j of the order, and comes next
+pub record IsAt (fr : Frame) (m : Module) (f : LLVMFunction) (targets : Targets) (entries : Entries) (c : ContextData) (values : Values) (from : LLVMBasicBlock) (block : BlockRef) (i : LLVMInstRef) (j x : ℕ) (b : L.Block) (p : Placed) : Type 0 where
+  pub framed : IsFramed m f fr
+  pub leads : AreTargets fr targets
+  pub noted : AreEntries m fr.source entries
   pub place : ℕ
-  pub item : X
-  pub op : DialectOp
-  pub here : slice_get xs place ≡ Some item
-  pub there : slice_get os place ≡ Some op
-  pub of : P item
-  pub is : w ≡ V.Result (record { 0 = op.number })
+  pub of_block : IsBlockOf m fr.source from place b
+  pub number : block.0 ≡ fr.base + j
+  pub inst : IsInstOf m b i x p
+  pub body : IsBody fr m c values j x b
 
--- the value stands for an operand of the function of the number f, in its block b
-abbrev pub Stands : ℕ → BlockRef → Known → L.Operand → Value → Type 0
-Stands f b k (L.Constant c) w = StandsAt k.constants k.hoisted (λ (d : ConstTree). d ≡ c) w
-Stands f b k (L.Parameter g i) w = (g ≡ f) × (i < k.params) × (w ≡ V.Argument b i)
-Stands f b k (L.Result n) w = StandsAt k.sources k.done (λ (p : Placed). p.number ≡ n) w
+-- the block b of the number `from` stands at the place j of the order, and comes next
+pub record IsBegun (fr : Frame) (m : Module) (f : LLVMFunction) (targets : Targets) (entries : Entries) (c : ContextData) (values : Values) (from : LLVMBasicBlock) (block : BlockRef) (j : ℕ) (b : L.Block) : Type 0 where
+  pub framed : IsFramed m f fr
+  pub leads : AreTargets fr targets
+  pub noted : AreEntries m fr.source entries
+  pub place : ℕ
+  pub of_block : IsBlockOf m fr.source from place b
+  pub number : block.0 ≡ fr.base + j
+  pub here : slice_get (blocks_of fr) j ≡ Some b
+  pub filled : IsFilled fr m c values j
 
--- what was noted is right, and lacks nothing
-pub record Notes (m : Module) (f : ℕ) (b : BlockRef) (values : Values) (k : Known) : Type 0 where
-  pub sound : (v : LLVMValue) (w : Value) → value_at values v ≡ Some w → Stands f b k (operand_of (trees_of m) v) w
-  pub complete : (v : LLVMValue) (w : Value) → IsValue m v → Stands f b k (operand_of (trees_of m) v) w → IsSome (value_at values v)
+-- ---- refusals
 
--- ---- the operations
-
--- an integer constant of 1 to 64 bits
-abbrev pub IsShortConst : ConstTree → Type 0
-IsShortConst (IntConst (IntType w) v) = (1 ≤ w) × (w ≤ 64) × (v < 2 ^ w)
-IsShortConst _ = ⊥
-
--- the operation makes the constant, and nothing else
-abbrev pub IsConstantOp : ConstTree → DialectOp → Type 0
-IsConstantOp (IntConst (IntType w) v) o = o ≡ plain_op o.number None (ConstantOp (IntegerAttr (IntegerType w) v)) [] (Some (IntegerType w))
-IsConstantOp _ o = ⊥
-
--- the operation stands for an instruction, its operands for the operands: a line for each kind
-abbrev pub StandsFor : ℕ → BlockRef → Known → Placed → DialectOp → L.Instruction → Type 0
-StandsFor f b k p o (L.Add lhs rhs flags) =
-    (v : Value) × (w : Value) × Stands f b k lhs v × Stands f b k rhs w × (o ≡ plain_op o.number (given_name p.name) (AddOp (record { nsw = flags.nsw; nuw = flags.nuw })) (v ∷ w ∷ []) (Some (type_from p.type)))
-StandsFor f b k p o (L.Return None) = o ≡ plain_op o.number None ReturnOp [] None
-StandsFor f b k p o (L.Return (Some x)) = (v : Value) × Stands f b k x v × (o ≡ plain_op o.number None ReturnOp (v ∷ []) None)
-
--- what is known before the instruction at a place
-abbrev pub before_place : Known → ℕ → Known
-before_place k i = record k { sources = take i k.sources; done = take i k.done }
-
--- each instruction has its operation, and each constant that stands for
-pub record ArePaired (f : ℕ) (b : BlockRef) (k : Known) : Type 0 where
-  pub made : Matched IsConstantOp k.constants k.hoisted
-  pub short : (i : ℕ) (c : ConstTree) → slice_get k.constants i ≡ Some c → IsShortConst c
-  pub long : length k.done ≡ length k.sources
-  pub each : (i : ℕ) (p : Placed) (o : DialectOp) → slice_get k.sources i ≡ Some p → slice_get k.done i ≡ Some o → StandsFor f b (before_place k i) p o p.instruction
-
--- the block b holds the constants of these uses, each once, and the operations for these instructions
-pub record IsBody (fr : Frame) (m : Module) (f : ℕ) (c : ContextData) (b : BlockRef) (values : Values) (uses : List ConstTree) (sources : List Placed) : Type 0 where
-  pub constants : List ConstTree
-  pub hoisted : List DialectOp
-  pub done : List DialectOp
-  pub under : IsUnder fr c b (hoisted ++ done)
-  pub first_uses : FirstUses uses constants
-  pub paired : ArePaired f b (record { params = length fr.args; constants = constants; hoisted = hoisted; sources = sources; done = done })
-  pub notes : Notes m f b values (record { params = length fr.args; constants = constants; hoisted = hoisted; sources = sources; done = done })
-
--- an operand that is a constant is a short one
-abbrev pub IsFittingOperand : L.Operand → Type 0
-IsFittingOperand (L.Constant c) = IsShortConst c
-IsFittingOperand _ = Unit {0}
-
--- the instruction p of the number i comes next, its constants are among the uses, and what its other operands
--- are was met
-pub record IsAt (fr : Frame) (m : Module) (g : L.Function) (c : ContextData) (b : BlockRef) (values : Values) (uses : List ConstTree) (before : List Placed) (i : LLVMInstRef) (p : Placed) : Type 0 where
-  pub sound : IsModule m
-  pub next : IsNext m g before i p
-  pub used : (x : ConstTree) → IsIn (constants_in (data_of m) p) x → IsIn uses x
-  pub params : length g.params ≡ length fr.args
-  pub body : IsBody fr m g.number c b values uses before
-
--- what a body knows
-abbrev pub known_of : (fr : Frame) (m : Module) (f : ℕ) (c : ContextData) (b : BlockRef) (values : Values) (uses : List ConstTree) (sources : List Placed) → IsBody fr m f c b values uses sources → Known
-known_of fr m f c b values uses sources h = record { params = length fr.args; constants = h.constants; hoisted = h.hoisted; sources = sources; done = h.done }
+-- why a function is refused, whose blocks have these places
+abbrev pub IsLate : L.Function → (places : List ℕ) → ConversionErr → Type 0
+IsLate g places (E.ForwardUse name v) = IsRefused g places name v
+IsLate g places E.NoMemory = Unit {0}

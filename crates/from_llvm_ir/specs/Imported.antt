@@ -1,9 +1,13 @@
 -- What an import has made: a dialect module whose functions stand for those of the source.
-use Rattle.std.specs.Prelude.{ℕ, ◌≡◌, ◌<◌, List, [], ◌∷◌, ◌++◌, Option, Some, None, All, length, slice_get, codes}
-use Rattle.std.specs.Option.{option_and_then}
-use Rattle.std.specs.List.{filter_map, flat_map}
+use Rattle.std.specs.Prelude.{ℕ, zero, suc, ◌≡◌, ◌<◌, ◌⊎◌, true, false, not, nat_eq, List, [], ◌∷◌, ◌++◌, Option, Some, None, All, map, filter, length, slice_get, slice_index_or, codes}
+use Rattle.std.specs.Option.{option_map, option_map_or, option_and_then}
+use Rattle.std.specs.List.{filter_map, flat_map, find, position_from}
 use Rattle.llvm_core.specs.Data as L
-use Rattle.llvm_core.specs.Data.{ConstTree, IntConst, IntType, Placed}
+use Rattle.llvm_core.specs.declared.numbers.LLVMInstRef.{LLVMInstRef}
+use Rattle.llvm_core.specs.declared.code.LLVMValue.{LLVMValue}
+use Rattle.llvm_core.specs.declared.code.LLVMValue.TheVariants as V
+use Rattle.llvm_core.specs.Data.{ConstTree, IntConst, IntType, Placed, targets, phi_entries, placed_in}
+use Rattle.llvm_core.specs.Form.{is_phi, operands_of}
 use Rattle.dialect_types.specs.Names.{legal_name}
 use Rattle.dialect_types.specs.Trees.{IntegerAttr, IntegerType}
 use Rattle.dialect_core.specs.declared.numbers.BlockRef.{BlockRef}
@@ -12,29 +16,38 @@ use Rattle.dialect_core.specs.declared.ops.OpKind.TheVariants.{Module}
 use Rattle.dialect_core.specs.declared.ops.BlockData.{BlockData}
 use Rattle.dialect_core.specs.ContextData.{ContextData, kind_at, region_at}
 use Rattle.dialect_core.specs.Data.{DialectModule, DialectBlock, DialectOp, Func, ConstantOp, IsTyped, data_of}
-use Rattle.dialect_core.specs.Form.{IsFormFunc, body_ops}
+use Rattle.dialect_core.specs.Form.{IsFormFunc, IsExportable, HasTargets}
 use Rattle.meaning.specs.Terms.{Match}
-use Rattle.meaning.specs.Pairs.{Matched}
+use Rattle.meaning.specs.Pairs.{Matched, BothOrNone}
 use Rattle.meaning.specs.Llvm.{row_of}
 use Rattle.meaning.specs.Dialect.{type_of}
 use Rattle.meaning.specs.Shape.{SameShape}
-use Rattle.from_llvm_ir.specs.Match.{PlacesOf, AllFirst}
+use Rattle.from_llvm_ir.specs.Match.{IsPlaces, place_at}
+use Rattle.from_llvm_ir.specs.declared.matching.FunctionBlocks.{FunctionBlocks}
 use Rattle.from_llvm_ir.specs.declared.importing.Imported.{Imported}
+use Rattle.from_llvm_ir.specs.declared.conversion_err.ConversionErr.{ConversionErr}
+use Rattle.from_llvm_ir.specs.declared.conversion_err.ConversionErr.TheVariants as E
 
 -- ---- constants
+
+-- the operand of the first entry of a phi for a block
+abbrev pub first_entry : ℕ → List (L.Operand × ℕ) → Option L.Operand
+first_entry p entries = option_map (λ (e : L.Operand × ℕ). e.0) (find (λ (e : L.Operand × ℕ). nat_eq e.1 p) entries)
 
 -- the constant that an operand is
 abbrev pub constant_in : L.Operand → Option ConstTree
 constant_in (L.Constant c) = Some c
 constant_in _ = None
 
--- the constants that an instruction uses, in the order of its operands
-abbrev pub constants_in : L.ModuleData → Placed → List ConstTree
-constants_in d p = filter_map constant_in (row_of d p.instruction).2
+-- the operands that phis take on an edge from the block of the number p to that of the number t: of each phi
+-- its first entry for p
+abbrev pub passed : L.Function → (p t : ℕ) → List L.Operand
+passed f p t = flat_map (λ (b : L.Block). filter_map (λ (x : Placed). option_and_then (first_entry p) (phi_entries x.instruction)) b.instructions) (filter (λ (b : L.Block). nat_eq b.number t) f.blocks)
 
--- the constants that instructions use: instruction by instruction
-abbrev pub constants_used : L.ModuleData → List Placed → List ConstTree
-constants_used d ps = flat_map (constants_in d) ps
+-- the constants that an instruction of a block uses: those of its operands in order, and then those that its edges
+-- pass, edge by edge
+abbrev pub constants_in : L.ModuleData → L.Function → L.Block → Placed → List ConstTree
+constants_in d f b p = filter_map constant_in ((row_of d p.instruction).2 ++ flat_map (passed f b.number) (targets p.instruction))
 
 -- the item is in the list
 abbrev pub IsIn : {A : Type 0} → List A → A → Type 0
@@ -53,7 +66,7 @@ Makes _ o = ⊥
 
 -- ---- functions
 
--- the name of an instruction's result, none where it is empty
+-- the name of an instruction's result or of a block, none where it is empty
 abbrev pub given_name : List ℕ → Option (List ℕ)
 given_name [] = None
 given_name (b ∷ bs) = Some (b ∷ bs)
@@ -61,32 +74,67 @@ given_name (b ∷ bs) = Some (b ∷ bs)
 pub record HasGivenName (p : Placed) (o : DialectOp) : Type 0 where
   pub name : o.name ≡ given_name p.name
 
--- the only block of the dialect: the constants that are used, once each in order of first use, and then an
--- operation for each instruction, with its given name
-pub record IsImportedBlock (d : L.ModuleData) (b : L.Block) (c : DialectBlock) : Type 0 where
-  pub label : c.label ≡ Some (codes "entry")
-  pub hoisted : List DialectOp
-  pub rest : List DialectOp
-  pub ops : c.ops ≡ hoisted ++ rest
-  pub constants : List ConstTree
-  pub first_uses : FirstUses (constants_used d b.instructions) constants
-  pub made : Matched Makes constants hoisted
-  pub names : Matched HasGivenName b.instructions rest
+-- the instructions of a block but its phis, and its phis
+abbrev pub rest_of : L.Block → List Placed
+rest_of b = filter (λ (p : Placed). not (is_phi p)) b.instructions
 
--- the function g stands for the function f of the module d
-pub record ImportedFunction (d : L.ModuleData) (f : L.Function) (g : Func) : Type 0 where
+abbrev pub phis_of : L.Block → List Placed
+phis_of b = filter is_phi b.instructions
+
+-- the label: of the entry `entry`, of another block its name
+abbrev pub label_for : (place : ℕ) → L.Block → Option (List ℕ)
+label_for zero b = Some (codes "entry")
+label_for (suc n) b = given_name b.name
+
+-- the types of the arguments behind the entry: those of the phis in order
+abbrev pub HasArguments : (place : ℕ) → L.Block → DialectBlock → Type 0
+HasArguments zero b c = Unit {0}
+HasArguments (suc n) b c = map type_of c.args ≡ map (λ (p : Placed). p.type) (phis_of b)
+
+-- what stands first in a block: the constants in the entry, nothing elsewhere
+abbrev pub front_for : (place : ℕ) → List DialectOp → List DialectOp
+front_for zero hoisted = hoisted
+front_for (suc n) hoisted = []
+
+-- the block of the dialect at a place of the source: an operation for each instruction that is no phi, in order,
+-- with its given name, behind the constants in the entry
+pub record IsImportedBlock (hoisted : List DialectOp) (place : ℕ) (b : L.Block) (c : DialectBlock) : Type 0 where
+  pub label : c.label ≡ label_for place b
+  pub args : HasArguments place b c
+  pub rest : List DialectOp
+  pub ops : c.ops ≡ front_for place hoisted ++ rest
+  pub names : Matched HasGivenName (rest_of b) rest
+
+-- n, n + 1, .. , as many as the list has items
+abbrev pub counting : {A : Type 0} → ℕ → List A → List ℕ
+counting n [] = []
+counting n (x ∷ xs) = n ∷ counting (suc n) xs
+
+-- the blocks of a function in the order of their places
+abbrev pub in_order : List ℕ → List L.Block → List L.Block
+in_order places blocks = filter_map (λ (j : ℕ). option_and_then (slice_get blocks) (position_from (nat_eq j) 0 places)) (counting 0 places)
+
+-- the constants that a function uses, in the order of the dialect
+abbrev pub constants_used : L.ModuleData → L.Function → List ℕ → List ConstTree
+constants_used d f places = flat_map (λ (b : L.Block). flat_map (constants_in d f b) (rest_of b)) (in_order places f.blocks)
+
+-- The function g stands for the function f of the module d: the constants that it uses once each in order of first
+-- use, block by block an operation for each instruction, and under every match that puts its blocks at these
+-- places the same shape.
+pub record ImportedFunction (d : L.ModuleData) (f : L.Function) (x : FunctionBlocks) (g : Func) : Type 0 where
+  pub function : x.function.0 ≡ f.number
+  pub places : IsPlaces (length f.blocks) x.places
   pub name : g.name ≡ f.name
   pub type : type_of g.type ≡ f.type
   pub form : IsFormFunc g
-  pub source : L.Block
-  pub source_is : f.blocks ≡ source ∷ []
-  pub block : DialectBlock
-  pub block_is : g.blocks ≡ block ∷ []
-  pub body : IsImportedBlock d source block
-  -- an operation for each instruction, the constants aside
-  pub count : length source.instructions ≡ length (body_ops g)
-  -- under every match that leaves the places of its blocks
-  pub shape : (match : Match) → ((b : ℕ) → match.block f.name b ≡ b) → SameShape match d f g
+  pub exportable : IsExportable g
+  pub targets : HasTargets g
+  pub constants : List ConstTree
+  pub first_uses : FirstUses (constants_used d f x.places) constants
+  pub hoisted : List DialectOp
+  pub made : Matched Makes constants hoisted
+  pub blocks : (i : ℕ) → BothOrNone (IsImportedBlock hoisted i) (slice_get f.blocks i) (slice_get g.blocks (place_at i x))
+  pub shape : (match : Match) → ((b : ℕ) → match.block f.name b ≡ place_at b x) → SameShape match d f g
 
 -- ---- modules
 
@@ -117,11 +165,59 @@ pub record IsBuilding (c : ContextData) (m : ℕ) (body : BlockRef) (d : Dialect
 abbrev pub imported_data : Imported → DialectModule
 imported_data i = data_of i.ctx i.module.0.0
 
+-- a function of the dialect for each of the source, in order, with its entry of the match
+pub data AreImported (d : L.ModuleData) : List L.Function → List FunctionBlocks → List Func → Type 0 where
+  NoneImported : AreImported d [] [] []
+  ThenImported : (f : L.Function) (x : FunctionBlocks) (g : Func) (fs : List L.Function) (xs : List FunctionBlocks) (gs : List Func)
+      → ImportedFunction d f x g → AreImported d fs xs gs → AreImported d (f ∷ fs) (x ∷ xs) (g ∷ gs)
+
 -- the dialect module has the functions of the source in order, and the match covers the source
 pub record IsImported (d : L.ModuleData) (i : Imported) : Type 0 where
   pub body : BlockRef
   pub building : IsBuilding i.ctx i.module.0.0 body (imported_data i)
   pub name : (imported_data i).name ≡ legal_name d.name
-  pub functions : Matched (ImportedFunction d) d.functions (imported_data i).functions
-  pub covers : Matched PlacesOf d.functions i.blocks
-  pub first : AllFirst i.blocks
+  pub functions : AreImported d d.functions i.blocks (imported_data i).functions
+
+-- ---- refusals
+
+-- an instruction of the block b that is no phi uses the result of the instruction n
+abbrev pub IsUsedBy : L.Function → L.Block → Placed → ℕ → Type 0
+IsUsedBy f b user n = (is_phi user ≡ false) × IsIn (operands_of user.instruction ++ flat_map (passed f b.number) (targets user.instruction)) (L.Result n)
+
+-- The result of the instruction n is used where it does not stand before, the blocks taken in the order of their
+-- places: an operand of the instruction at place k of the block b, whose definition stands neither in a block of a
+-- lower place nor before it in b. What a phi takes for b is used by the terminator of b, and a phi is defined at the
+-- start of its block.
+pub record IsEarlyUse (f : L.Function) (places : List ℕ) (n : ℕ) : Type 0 where
+  pub block : ℕ
+  pub b : L.Block
+  pub at : slice_get f.blocks block ≡ Some b
+  pub place : ℕ
+  pub user : Placed
+  pub here : slice_get b.instructions place ≡ Some user
+  pub uses : IsUsedBy f b user n
+  pub early : (definition : ℕ) (c : L.Block) (k : ℕ) (p : Placed) → slice_get f.blocks definition ≡ Some c → slice_get c.instructions k ≡ Some p → p.number ≡ n
+      → ¬ (slice_index_or places definition definition < slice_index_or places block block) × ¬ ((definition ≡ block) × ((k < place) ⊎ (is_phi p ≡ true)))
+
+-- the name of the instruction of that number, empty where it has none
+abbrev pub name_in : L.Function → ℕ → List ℕ
+name_in f n = option_map_or (λ (p : Placed). p.name) (find (λ (p : Placed). nat_eq p.number n) (placed_in f)) []
+
+-- the value is the result of an instruction of f, used where it does not stand before, and has that name
+pub record IsRefused (f : L.Function) (places : List ℕ) (name : List ℕ) (v : LLVMValue) : Type 0 where
+  pub inst : LLVMInstRef
+  pub value : v ≡ V.Inst inst
+  pub early : IsEarlyUse f places inst.0
+  pub named : name ≡ name_in f inst.0
+
+-- a function of the module has such a use, its blocks taken in the order of the text
+pub record HasForwardUse (d : L.ModuleData) (name : List ℕ) (v : LLVMValue) : Type 0 where
+  pub place : ℕ
+  pub f : L.Function
+  pub at : slice_get d.functions place ≡ Some f
+  pub refused : IsRefused f (counting 0 f.blocks) name v
+
+-- why an import refuses a module whose data are d; want of memory needs no reason
+abbrev pub IsCause : L.ModuleData → ConversionErr → Type 0
+IsCause d (E.ForwardUse name v) = HasForwardUse d name v
+IsCause d E.NoMemory = Unit {0}

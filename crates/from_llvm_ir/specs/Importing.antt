@@ -4,11 +4,9 @@ use Rattle.llvm_core.specs.Data as L
 use Rattle.dialect_core.specs.declared.numbers.BlockRef.{BlockRef}
 use Rattle.dialect_core.specs.ContextData.{ContextData}
 use Rattle.dialect_core.specs.Data.{DialectModule, with_func}
-use Rattle.meaning.specs.Pairs.{Matched}
 use Rattle.from_llvm_ir.specs.declared.matching.FunctionBlocks.{FunctionBlocks}
-use Rattle.from_llvm_ir.specs.Match.{PlacesOf, AllFirst}
 use Rattle.from_llvm_ir.specs.Types.{type_from}
-use Rattle.from_llvm_ir.specs.Imported.{ImportedFunction, IsBelow, IsBuilding}
+use Rattle.from_llvm_ir.specs.Imported.{AreImported, IsBelow, IsBuilding}
 use Rattle.from_llvm_ir.specs.Building.{bare_func}
 
 -- the module's last function, behind those of d, has the name and type of g, and no block yet
@@ -21,6 +19,4 @@ pub record IsImportedTo (d : L.ModuleData) (k : ℕ) (c : ContextData) (m : ℕ)
   pub so_far : DialectModule
   pub building : IsBuilding c m body so_far
   pub name_is : so_far.name ≡ name
-  pub functions : Matched (ImportedFunction d) (take k d.functions) so_far.functions
-  pub covers : Matched PlacesOf (take k d.functions) bs
-  pub first : AllFirst bs
+  pub functions : AreImported d (take k d.functions) bs so_far.functions

@@ -1,8 +1,14 @@
 -- The definitions that clauses cite.
-pub mod Types
-pub mod Building
-pub mod Values
-pub mod Body
-pub mod Imported
-pub mod Importing
 pub mod Match
+pub mod Imported
+pub mod Types
+pub mod Order
+pub mod Parts
+pub mod Building
+pub mod Source
+pub mod Values
+pub mod Edges
+pub mod Known
+pub mod Converted
+pub mod Body
+pub mod Importing

@@ -1,8 +1,9 @@
 -- The match of blocks that an import hands out.
-use Rattle.std.specs.Prelude.{ℕ, ◌≡◌, List, [], ◌∷◌, nat_eq, slice_index_or, length}
+use Rattle.std.specs.Prelude.{ℕ, ◌≡◌, ◌<◌, List, Some, All, nat_eq, slice_get, slice_index_or, length}
 use Rattle.std.specs.Str.{bytes_eq}
 use Rattle.std.specs.List.{find}
 use Rattle.std.specs.Option.{option_map_or}
+use Rattle.llvm_core.specs.Interned.{IsDistinctList}
 use Rattle.llvm_core.specs.Data.{Function, ModuleData}
 use Rattle.meaning.specs.Terms.{Match}
 use Rattle.from_llvm_ir.specs.declared.matching.FunctionBlocks.{FunctionBlocks}
@@ -22,12 +23,10 @@ match_of d bs = record {
   struct = λ s. s;
 }
 
--- The match covers a function with a body: its entry names it, and has a place for each of its blocks.
-pub record PlacesOf (f : Function) (x : FunctionBlocks) : Type 0 where
-  pub function : x.function.0 ≡ f.number
-  pub places : length x.places ≡ length f.blocks
-
--- each entry has one place, the first
-abbrev pub AllFirst : List FunctionBlocks → Type 0
-AllFirst [] = Unit {0}
-AllFirst (x ∷ xs) = (x.places ≡ 0 ∷ []) × AllFirst xs
+-- A place for each of n blocks: each place below n is that of one block, and the first block has the first.
+pub record IsPlaces (n : ℕ) (places : List ℕ) : Type 0 where
+  pub count : length places ≡ n
+  pub within : All (λ (p : ℕ). p < n) places
+  pub apart : IsDistinctList places
+  pub onto : (p : ℕ) → p < n → (i : ℕ) × (slice_get places i ≡ Some p)
+  pub first : 0 < n → slice_get places 0 ≡ Some 0

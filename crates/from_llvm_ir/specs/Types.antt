@@ -1,5 +1,5 @@
 -- The types of the dialect for those of the source.
-use Rattle.std.specs.Prelude.{◌≡◌, ◌<◌, ◌≤◌, List, [], length}
+use Rattle.std.specs.Prelude.{◌≡◌, ◌<◌, ◌≤◌, List, [], Option, None, Some, length}
 use Rattle.llvm_core.specs.Data as L
 use Rattle.dialect_types.specs.declared.types.TypeHandle.{TypeHandle}
 use Rattle.dialect_types.specs.declared.types.TypeKind.{TypeKind}
@@ -17,6 +17,12 @@ abbrev mutual
   pub types_from : L.TypeTrees → TypeTrees
   types_from L.NoTypes = NoTypes
   types_from (L.ThenType t ts) = ThenType (type_from t) (types_from ts)
+
+-- the type of a result, none where it is void
+abbrev pub result_from : L.TypeTree → Option TypeTree
+result_from L.VoidType = None
+result_from (L.IntType w) = Some (IntegerType w)
+result_from (L.FunctionType result params variadic) = Some (type_from (L.FunctionType result params variadic))
 
 -- the types of the parameters of a function type
 abbrev pub args_from : L.TypeTree → List TypeTree

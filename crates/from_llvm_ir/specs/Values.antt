@@ -1,11 +1,62 @@
--- Which values of the dialect stand for those of a source function.
-use Rattle.std.specs.Prelude.{Option}
+-- Which values of the dialect stand for those of a source function, and which are not known yet.
+use Rattle.std.specs.Prelude.{ℕ, ◌≡◌, ◌<◌, List, Option, None, Some, IsSome, if◌then◌else◌, length, slice_get}
 use Rattle.std.specs.HashMap.{get}
+use Rattle.std.specs.Option.{option_map}
+use Rattle.llvm_core.specs.declared.numbers.LLVMInstRef.{LLVMInstRef}
 use Rattle.llvm_core.specs.declared.code.LLVMValue.{LLVMValue}
+use Rattle.llvm_core.specs.declared.code.LLVMValue.TheVariants as V
+use Rattle.llvm_core.specs.declared.code.InstData.{InstData}
 use Rattle.llvm_core.specs.contracts.code.LLVMValuePartialEq.TheImpl as keys
+use Rattle.llvm_core.specs.Module.{Module}
+use Rattle.llvm_core.specs.declared.numbers.LLVMBasicBlock.{LLVMBasicBlock}
+use Rattle.llvm_core.specs.contracts.numbers.LLVMBasicBlockPartialEq.TheImpl as block_keys
+use Rattle.llvm_core.specs.Data as L
+use Rattle.dialect_core.specs.declared.numbers.BlockRef.{BlockRef}
+use Rattle.meaning.specs.Pairs.{Matched}
+use Rattle.from_llvm_ir.specs.declared.targets.Targets.{Targets}
 use Rattle.dialect_core.specs.declared.ops.Value.{Value}
 use Rattle.from_llvm_ir.specs.declared.values.Values.{Values}
+use Rattle.from_llvm_ir.specs.declared.conversion_err.ConversionErr.{ConversionErr}
+use Rattle.from_llvm_ir.specs.declared.conversion_err.ConversionErr.TheVariants as E
+use Rattle.from_llvm_ir.specs.Imported.{IsIn}
 
 -- the value that stands for one of the source, where one was noted
 abbrev pub value_at : Values → LLVMValue → Option Value
 value_at s v = get keys.eq-value.it s.map v
+
+-- the value is the result of an instruction among the operands, for which no value was noted, and has that name
+pub record IsUnknown (m : Module) (values : Values) (among : List L.Operand) (name : List ℕ) (v : LLVMValue) : Type 0 where
+  pub inst : LLVMInstRef
+  pub value : v ≡ V.Inst inst
+  pub row : InstData
+  pub at : slice_get m.insts inst.0 ≡ Some row
+  pub named : name ≡ row.name
+  pub used : IsIn among (L.Result inst.0)
+  pub unknown : value_at values v ≡ None
+
+-- why one of the operands was refused; want of memory needs no reason
+abbrev pub IsForward : Module → Values → List L.Operand → ConversionErr → Type 0
+IsForward m values used (E.ForwardUse name v) = IsUnknown m values used name v
+IsForward m values used E.NoMemory = Unit {0}
+
+-- the refusal of the result of an instruction, by its name; or want of memory
+abbrev pub IsRefusalOf : Module → LLVMInstRef → ConversionErr → Type 0
+IsRefusalOf m i (E.ForwardUse name v) = (v ≡ V.Inst i) × (option_map (λ (x : InstData). x.name) (slice_get m.insts i.0) ≡ Some name)
+IsRefusalOf m i E.NoMemory = Unit {0}
+
+-- a value is noted, unless it is the result of an instruction that is there
+abbrev pub IsSettled : Module → Values → LLVMValue → Type 0
+IsSettled m values (V.Inst i) = i.0 < length m.insts
+IsSettled m values v = IsSome (value_at values v)
+
+-- one more value is noted
+abbrev pub IsNoted : Values → Values → LLVMValue → Value → Type 0
+IsNoted old new key to = (q : LLVMValue) → value_at new q ≡ (if keys.eq-value.it key q then Some to else value_at old q)
+
+-- the values that are noted
+abbrev pub AreNoted : Values → List LLVMValue → List Value → Type 0
+AreNoted values vs ws = Matched (λ (v : LLVMValue) (w : Value). value_at values v ≡ Some w) vs ws
+
+-- the block that stands for one of the source
+abbrev pub target_at : Targets → LLVMBasicBlock → Option BlockRef
+target_at t n = get block_keys.eq-value.it t.map n

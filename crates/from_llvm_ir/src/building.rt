@@ -1,18 +1,18 @@
 //! The calls that grow the last function of a dialect module, and what they make of its data.
 
-ghost use Rattle.std.specs.Prelude.{◌≡◌, ◌<◌, ◌∷◌, ◌++◌, [], List, ℕ, None, Some, IsTrue, IfOk, IfSome, OnOk, All, length, map, slice_get};
+ghost use Rattle.std.specs.Prelude.{◌≡◌, ◌<◌, ◌+◌, ◌∷◌, ◌++◌, [], List, ℕ, None, Some, IsTrue, IfOk, IfSome, OnOk, All, length, map, slice_get};
 ghost use Rattle.std.specs.Option.{option_map};
 ghost use Rattle.dialect_types.specs.Trees.{type_at, type_trees};
 ghost use Rattle.dialect_core.specs.declared.ops.OpKind.TheVariants as kinds;
-ghost use Rattle.dialect_core.specs.ContextData.{kind_at, is_plain, with_op, IsValueWithin};
-ghost use Rattle.dialect_core.specs.Data.{DialectModule, DialectOp, Kind, IsTyped, HasKindTypesBelow, kind_of, data_of, with_func, with_func_block};
-ghost use Rattle.from_llvm_ir.specs.Imported.{IsBuilding, holder_kind};
-ghost use Rattle.from_llvm_ir.specs.Building.{Frame, IsUnder, bare_func, op_data, plain_op};
+ghost use Rattle.dialect_core.specs.ContextData.{kind_at, is_plain, with_op, IsValueWithin, IsSuccessorWithin};
+ghost use Rattle.dialect_core.specs.Data.{DialectBlock, DialectModule, DialectOp, Kind, IsTyped, HasKindTypesBelow, kind_of, data_of, with_func, with_func_block};
+ghost use Rattle.from_llvm_ir.specs.Imported.{IsBuilding};
+ghost use Rattle.from_llvm_ir.specs.Building.{Home, IsOpen, bare_func, op_data, new_op, with_ops};
 
 use dialect_core::context::Context;
 use dialect_core::linkage::LinkageAttr;
 use dialect_core::numbers::{BlockRef, FuncOp, OpRef};
-use dialect_core::ops::{OpKind, Value};
+use dialect_core::ops::{OpKind, Successor, Value};
 use dialect_core::steps::Steps;
 use dialect_types::identifier::Identifier;
 use dialect_types::types::TypeHandle;
@@ -41,56 +41,58 @@ pub fn add_func<L: Ledger>(
 }
 
 /// A new block without operations, as the last of a function.
-pub fn add_entry(
+pub fn add_func_block(
     ctx: &mut Context,
     func: FuncOp,
-    label: Identifier,
+    label: Option<Identifier>,
     args: &[TypeHandle],
 ) -> Result<BlockRef, AllocError>
     requires func { kind_at ctx.old.ops func.0 ≡ Some kinds.Func }
     requires args { All (λ t. t.0 < length ctx.old.types) args.now }
-    ensures building { IfOk result (λ b. (m : ℕ) → (body : BlockRef) → (d : DialectModule) → IsBuilding ctx.old m body d → IsBuilding ctx.new m body (with_func_block d func.0.0 (record { number = b.0; label = Some label; args = map (type_at (type_trees ctx.old.types)) args.now; ops = [] }))) }
-    ensures within { IfOk result (λ b. b.0 < length ctx.new.blocks) }
-    ensures holder { IfOk result (λ b. holder_kind ctx.new b ≡ Some kinds.Func) }
+    ensures building { IfOk result (λ b. (m : ℕ) → (body : BlockRef) → (d : DialectModule) → IsBuilding ctx.old m body d → IsBuilding ctx.new m body (with_func_block d func.0.0 (record { number = b.0; label = label; args = map (type_at (type_trees ctx.old.types)) args.now; ops = [] }))) }
+    ensures func { OnOk result (kind_at ctx.new.ops func.0 ≡ Some kinds.Func) }
     ensures number { IfOk result (λ b. b.0 ≡ length ctx.old.blocks) }
-    ensures types { ctx.new.types ≡ ctx.old.types }
+    ensures count { OnOk result (length ctx.new.blocks ≡ length ctx.old.blocks + 1) }
 {
-    let block = ctx.add_block(func.0, Some(label), args)?;
+    let block = ctx.add_block(func.0, label, args)?;
     Ok(block)
 }
 
-/// A new operation without successors, in no block.
+/// A new operation, in no block.
 fn create_named(
     ctx: &mut Context,
     kind: OpKind,
     operands: &[Value],
+    successors: &[Successor],
     result_ty: Option<TypeHandle>,
     name: Option<Identifier>,
 ) -> Result<OpRef, AllocError>
     requires plain { IsTrue (is_plain kind) }
     requires types { HasKindTypesBelow (length ctx.old.types) kind }
     requires operands { All (IsValueWithin (length ctx.old.ops) (length ctx.old.blocks)) operands.now }
+    requires successors { All (IsSuccessorWithin (length ctx.old.ops) (length ctx.old.blocks)) successors.now }
     requires result_ty { IfSome result_ty (λ t. t.0 < length ctx.old.types) }
-    ensures ok { OnOk result (ctx.new ≡ with_op ctx.old (op_data kind name operands.now result_ty)) }
+    ensures ok { OnOk result (ctx.new ≡ with_op ctx.old (op_data kind name operands.now successors.now result_ty)) }
     ensures number { IfOk result (λ o. o.0 ≡ length ctx.old.ops) }
     ensures free { IfOk result (λ o. slice_get ctx.new.parents o.0 ≡ Some None) }
     ensures data { OnOk result ((m : ℕ) → m < length ctx.old.ops → data_of ctx.new m ≡ data_of ctx.old m) }
     ensures typed { OnOk result (IsTyped ctx.old → IsTyped ctx.new) }
     ensures types { ctx.new.types ≡ ctx.old.types }
 {
-    let op = ctx.create_op(kind, operands, &[], result_ty)?;
+    let op = ctx.create_op(kind, operands, successors, result_ty)?;
     if let Some(name) = name {
         ctx.set_name(op, name)?;
     }
     Ok(op)
 }
 
-/// A new operation without successors, as the last of the block of the last function.
+/// A new operation, as the last of a block of the last function, behind which nothing stands yet.
 pub fn add_op<L: Ledger>(
     ctx: &mut Context,
     block: BlockRef,
     kind: OpKind,
     operands: &[Value],
+    successors: &[Successor],
     result_ty: Option<TypeHandle>,
     name: Option<Identifier>,
     steps: &mut Steps<L>,
@@ -98,13 +100,15 @@ pub fn add_op<L: Ledger>(
     requires plain { IsTrue (is_plain kind) }
     requires types { HasKindTypesBelow (length ctx.old.types) kind }
     requires operands { All (IsValueWithin (length ctx.old.ops) (length ctx.old.blocks)) operands.now }
+    requires successors { All (IsSuccessorWithin (length ctx.old.ops) (length ctx.old.blocks)) successors.now }
     requires result_ty { IfSome result_ty (λ t. t.0 < length ctx.old.types) }
-    requires under { (fr : Frame) × (os : List DialectOp) × IsUnder fr ctx.old block os }
-    ensures added { IfOk result (λ o. (fr : Frame) → (os : List DialectOp) → (k : Kind) → kind_of (type_trees ctx.old.types) kind ≡ Some k → IsUnder fr ctx.old block os
-        → IsUnder fr ctx.new block (os ++ plain_op o.0 name k operands.now (option_map (type_at (type_trees ctx.old.types)) result_ty) ∷ [])) }
-    ensures types { ctx.new.types ≡ ctx.old.types }
+    requires open { (h : Home) × (base : ℕ) × (left : List DialectBlock) × (now : DialectBlock) × (right : List DialectBlock) × IsOpen h base ctx.old block left now right }
+    ensures added { IfOk result (λ o. (h : Home) → (base : ℕ) → (left : List DialectBlock) → (now : DialectBlock) → (right : List DialectBlock) → (k : Kind) → kind_of (type_trees ctx.old.types) kind ≡ Some k → IsOpen h base ctx.old block left now right
+        → IsOpen h base ctx.new block left (with_ops now (now.ops ++ new_op o.0 name k operands.now successors.now (option_map (type_at (type_trees ctx.old.types)) result_ty) ∷ [])) right) }
+    ensures number { IfOk result (λ o. o.0 ≡ length ctx.old.ops) }
+    ensures count { OnOk result (length ctx.new.ops ≡ length ctx.old.ops + 1) }
 {
-    let op = create_named(ctx, kind, operands, result_ty, name)?;
+    let op = create_named(ctx, kind, operands, successors, result_ty, name)?;
     ctx.insert_at_back(op, block, steps);
     Ok(op)
 }

@@ -1,18 +1,20 @@
-//! The constants of a function, hoisted to the start of its block.
+//! The constants of a function, hoisted to the start of its first block.
 
-ghost use Rattle.std.specs.Prelude.{◌≡◌, ◌<◌, ◌∷◌, ◌++◌, [], List, ℕ, IfOk, OnOk, length};
-ghost use Rattle.std.specs.List.{filter_map, AllByRecursion};
+ghost use Rattle.std.specs.Prelude.{◌≡◌, ◌<◌, ◌+◌, ◌∷◌, ◌++◌, [], List, ℕ, IfOk, OnOk, All, length, map};
+ghost use Rattle.std.specs.List.{filter_map, flat_map};
 ghost use Rattle.llvm_core.specs.declared.consts.LLVMConstKind.TheVariants as consts;
 ghost use Rattle.llvm_core.specs.Sound.{IsModule};
-ghost use Rattle.llvm_core.specs.Parts.{IsValue, HasValues};
-ghost use Rattle.llvm_core.specs.Data.{AreApart, ConstTree, Function, Placed, trees_of, const_at, operand_of, instruction_of, data_of};
-ghost use Rattle.dialect_core.specs.Data.{DialectOp};
-ghost use Rattle.meaning.specs.Llvm.{row_of};
-ghost use Rattle.from_llvm_ir.specs.Imported.{constant_in, constants_used};
-ghost use Rattle.from_llvm_ir.specs.Building.{Frame, IsUnder};
-ghost use Rattle.from_llvm_ir.specs.Body.{AreListed, IsBody, IsConstantOp, IsFittingOperand, IsShortConst};
+ghost use Rattle.llvm_core.specs.Data.{AreApart, Block, ConstTree, Function, Placed, trees_of, const_at, operand_of, data_of};
+ghost use Rattle.dialect_core.specs.Data.{DialectBlock, DialectOp};
+ghost use Rattle.from_llvm_ir.specs.Imported.{constant_in, constants_in, rest_of};
+ghost use Rattle.from_llvm_ir.specs.Building.{Home, IsOpen, with_ops};
+ghost use Rattle.from_llvm_ir.specs.Source.{IsSource, IsBlockOf, IsSite, IsUsed, AreEntries, IsIntKind, IsShortConst};
+ghost use Rattle.from_llvm_ir.specs.Known.{Frame, IsConstantOp};
+ghost use Rattle.from_llvm_ir.specs.Body.{IsFramed, IsHoisting, all_uses, uses_of_inst};
 
 use crate::building::add_op;
+use crate::entries::{Entries, used_values};
+use crate::parts::is_phi;
 use crate::types::import_plain;
 use crate::values::Values;
 use dialect_core::context::Context;
@@ -20,19 +22,21 @@ use dialect_core::numbers::{BlockRef, OpRef};
 use dialect_core::ops::{OpKind, Value};
 use dialect_core::steps::Steps;
 use dialect_types::attrs::ConstAttr;
-use llvm_core::code::{LLVMInst, LLVMValue};
+use llvm_core::code::LLVMValue;
 use llvm_core::consts::LLVMConstKind;
 use llvm_core::module::LLVMModule;
-use llvm_core::numbers::{LLVMConst, LLVMInstRef, LLVMType};
-use std::alloc::AllocError;
+use llvm_core::numbers::{LLVMBasicBlock, LLVMConst, LLVMFunction, LLVMInstRef, LLVMType};
+use std::alloc::{AllocError, Global};
 use std::sync::ledger::Ledger;
 
-/// The type and the value of a constant.
+/// The type and the value of an integer constant.
 fn parts_of(kind: &LLVMConstKind) -> (LLVMType, u128)
+    requires { IsIntKind kind.now }
     ensures { kind.now ≡ consts.Int result.0 result.1 }
 {
     match kind {
         LLVMConstKind::Int(ty, value) => (*ty, *value),
+        LLVMConstKind::Placeholder(..) => unreachable!(),
     }
 }
 
@@ -47,18 +51,20 @@ fn add_constant<L: Ledger>(
     requires sound { IsModule source.now }
     requires within { c.0 < length source.now.consts }
     requires short { IsShortConst (const_at (trees_of source.now).consts c) }
-    requires under { (fr : Frame) × (os : List DialectOp) × IsUnder fr ctx.old block os }
-    ensures { IfOk result (λ o. (fr : Frame) → (os : List DialectOp) → IsUnder fr ctx.old block os
-        → (x : DialectOp) × (x.number ≡ o.0) × IsConstantOp (const_at (trees_of source.now).consts c) x × IsUnder fr ctx.new block (os ++ x ∷ [])) }
+    requires open { (h : Home) × (base : ℕ) × (left : List DialectBlock) × (now : DialectBlock) × (right : List DialectBlock) × IsOpen h base ctx.old block left now right }
+    ensures made { IfOk result (λ o. (h : Home) → (base : ℕ) → (left : List DialectBlock) → (now : DialectBlock) → (right : List DialectBlock) → IsOpen h base ctx.old block left now right
+        → (x : DialectOp) × (x.number ≡ o.0) × IsConstantOp (const_at (trees_of source.now).consts c) x × IsOpen h base ctx.new block left (with_ops now (now.ops ++ x ∷ [])) right) }
+    ensures number { IfOk result (λ o. o.0 ≡ length ctx.old.ops) }
+    ensures count { OnOk result (length ctx.new.ops ≡ length ctx.old.ops + 1) }
 {
     let (ty, value) = parts_of(source.const_kind(c));
     let int = import_plain(ctx, source, ty)?;
     let constant = OpKind::Constant(ConstAttr::Integer(int, value as u64));
-    let op = add_op(ctx, block, constant, &[], Some(int), None, steps)?;
+    let op = add_op(ctx, block, constant, &[], &[], Some(int), None, steps)?;
     Ok(op)
 }
 
-/// Hoists a constant that was not met before.
+/// Hoists a constant, unless it was met before.
 fn hoist_constant<L: Ledger>(
     ctx: &mut Context,
     source: &LLVMModule,
@@ -71,9 +77,9 @@ fn hoist_constant<L: Ledger>(
     requires apart { AreApart source.now }
     requires within { c.0 < length source.now.consts }
     requires short { IsShortConst (const_at (trees_of source.now).consts c) }
-    requires body { (fr : Frame) × (f : ℕ) × (uses : List ConstTree) × IsBody fr source.now f ctx.old block values.old uses [] }
-    ensures { OnOk result ((fr : Frame) → (f : ℕ) → (uses : List ConstTree) → IsBody fr source.now f ctx.old block values.old uses []
-        → IsBody fr source.now f ctx.new block values.new (uses ++ const_at (trees_of source.now).consts c ∷ []) []) }
+    requires hoisting { (fr : Frame) × (uses : List ConstTree) × IsHoisting fr source.now ctx.old values.old uses × (block.0 ≡ fr.base) }
+    ensures { OnOk result ((fr : Frame) → (uses : List ConstTree) → IsHoisting fr source.now ctx.old values.old uses → block.0 ≡ fr.base
+        → IsHoisting fr source.now ctx.new values.new (uses ++ const_at (trees_of source.now).consts c ∷ [])) }
 {
     let value = LLVMValue::Const(c);
     if values.has(value) {
@@ -95,11 +101,10 @@ fn hoist<L: Ledger>(
 ) -> Result<(), AllocError>
     requires sound { IsModule source.now }
     requires apart { AreApart source.now }
-    requires value { IsValue source.now operand }
-    requires fitting { IsFittingOperand (operand_of (trees_of source.now) operand) }
-    requires body { (fr : Frame) × (f : ℕ) × (uses : List ConstTree) × IsBody fr source.now f ctx.old block values.old uses [] }
-    ensures { OnOk result ((fr : Frame) → (f : ℕ) → (uses : List ConstTree) → IsBody fr source.now f ctx.old block values.old uses []
-        → IsBody fr source.now f ctx.new block values.new (uses ++ filter_map constant_in (operand_of (trees_of source.now) operand ∷ [])) []) }
+    requires used { (g : Function) × IsUsed source.now g operand }
+    requires hoisting { (fr : Frame) × (uses : List ConstTree) × IsHoisting fr source.now ctx.old values.old uses × (block.0 ≡ fr.base) }
+    ensures { OnOk result ((fr : Frame) → (uses : List ConstTree) → IsHoisting fr source.now ctx.old values.old uses → block.0 ≡ fr.base
+        → IsHoisting fr source.now ctx.new values.new (uses ++ filter_map constant_in (operand_of (trees_of source.now) operand ∷ []))) }
 {
     match operand {
         LLVMValue::Const(c) => {
@@ -110,53 +115,103 @@ fn hoist<L: Ledger>(
     }
 }
 
-/// Hoists the constants among the operands of an instruction.
-fn hoist_operands<L: Ledger>(
+/// Hoists the constants among operands.
+fn hoist_values<L: Ledger>(
     ctx: &mut Context,
     source: &LLVMModule,
     values: &mut Values,
     block: BlockRef,
-    inst: &LLVMInst,
+    operands: &[LLVMValue],
     steps: &mut Steps<L>,
 ) -> Result<(), AllocError>
     requires sound { IsModule source.now }
     requires apart { AreApart source.now }
-    requires values { HasValues source.now inst.now }
-    requires fitting { AllByRecursion IsFittingOperand (row_of (data_of source.now) (instruction_of (trees_of source.now) inst.now)).2 }
-    requires body { (fr : Frame) × (f : ℕ) × (uses : List ConstTree) × IsBody fr source.now f ctx.old block values.old uses [] }
-    ensures { OnOk result ((fr : Frame) → (f : ℕ) → (uses : List ConstTree) → IsBody fr source.now f ctx.old block values.old uses []
-        → IsBody fr source.now f ctx.new block values.new (uses ++ filter_map constant_in (row_of (data_of source.now) (instruction_of (trees_of source.now) inst.now)).2) []) }
+    requires used { (g : Function) × All (IsUsed source.now g) operands.now }
+    requires hoisting { (fr : Frame) × (uses : List ConstTree) × IsHoisting fr source.now ctx.old values.old uses × (block.0 ≡ fr.base) }
+    ensures { OnOk result ((fr : Frame) → (uses : List ConstTree) → IsHoisting fr source.now ctx.old values.old uses → block.0 ≡ fr.base
+        → IsHoisting fr source.now ctx.new values.new (uses ++ filter_map constant_in (map (operand_of (trees_of source.now)) operands.now))) }
 {
-    match inst {
-        LLVMInst::Add(lhs, rhs, _) => {
-            hoist(ctx, source, values, block, *lhs, steps)?;
-            hoist(ctx, source, values, block, *rhs, steps)?;
-            Ok(())
-        }
-        LLVMInst::Ret(Some(value)) => {
-            hoist(ctx, source, values, block, *value, steps)?;
-            Ok(())
-        }
-        LLVMInst::Ret(None) => Ok(()),
+    for operand in operands {
+        hoist(ctx, source, values, block, *operand, steps)?;
     }
+    Ok(())
 }
 
-/// Hoists the constants that instructions use, each once, in order of first use.
-pub fn hoist_constants<L: Ledger>(
+/// Hoists the constants that an instruction uses, if it is no phi.
+fn hoist_inst<L: Ledger>(
+    alloc: Global,
     ctx: &mut Context,
     source: &LLVMModule,
+    entries: &Entries,
     values: &mut Values,
     block: BlockRef,
-    insts: &[LLVMInstRef],
+    from: LLVMBasicBlock,
+    i: LLVMInstRef,
     steps: &mut Steps<L>,
 ) -> Result<(), AllocError>
-    requires listed { (g : Function) × (ps : List Placed) × AreListed source.now g insts.now ps }
-    requires body { (fr : Frame) × (f : ℕ) × IsBody fr source.now f ctx.old block values.old [] [] }
-    ensures { OnOk result ((g : Function) → (ps : List Placed) → AreListed source.now g insts.now ps → (fr : Frame) → (f : ℕ) → IsBody fr source.now f ctx.old block values.old [] []
-        → IsBody fr source.now f ctx.new block values.new (constants_used (data_of source.now) ps) []) }
+    requires site { (f : LLVMFunction) × (g : Function) × (b : Block) × (p : Placed) × IsSite source.now f g entries.now from i b p }
+    requires hoisting { (fr : Frame) × (uses : List ConstTree) × IsHoisting fr source.now ctx.old values.old uses × (block.0 ≡ fr.base) }
+    ensures { OnOk result ((f : LLVMFunction) → (g : Function) → (b : Block) → (p : Placed) → IsSite source.now f g entries.now from i b p → (fr : Frame) → (uses : List ConstTree) → IsHoisting fr source.now ctx.old values.old uses → block.0 ≡ fr.base
+        → IsHoisting fr source.now ctx.new values.new (uses ++ uses_of_inst (data_of source.now) g b p)) }
 {
-    for i in insts {
-        hoist_operands(ctx, source, values, block, source.inst(*i), steps)?;
+    if is_phi(source.inst(i)) {
+        return Ok(());
+    }
+    let used = used_values(alloc, source, entries, from, i)?;
+    hoist_values(ctx, source, values, block, used.as_slice(), steps)?;
+    Ok(())
+}
+
+/// Hoists the constants that the instructions of a block use.
+fn hoist_block<L: Ledger>(
+    alloc: Global,
+    ctx: &mut Context,
+    source: &LLVMModule,
+    entries: &Entries,
+    values: &mut Values,
+    block: BlockRef,
+    from: LLVMBasicBlock,
+    steps: &mut Steps<L>,
+) -> Result<(), AllocError>
+    requires site { (f : LLVMFunction) × (g : Function) × (place : ℕ) × (b : Block) × IsSource source.now f g × AreEntries source.now g entries.now × IsBlockOf source.now g from place b }
+    requires hoisting { (fr : Frame) × (uses : List ConstTree) × IsHoisting fr source.now ctx.old values.old uses × (block.0 ≡ fr.base) }
+    ensures { OnOk result ((f : LLVMFunction) → (g : Function) → (place : ℕ) → (b : Block) → IsSource source.now f g → AreEntries source.now g entries.now → IsBlockOf source.now g from place b → (fr : Frame) → (uses : List ConstTree) → IsHoisting fr source.now ctx.old values.old uses → block.0 ≡ fr.base
+        → IsHoisting fr source.now ctx.new values.new (uses ++ flat_map (constants_in (data_of source.now) g b) (rest_of b))) }
+{
+    for i in source.instructions(from) {
+        hoist_inst(alloc, ctx, source, entries, values, block, from, *i, steps)?;
+    }
+    Ok(())
+}
+
+/// Hoists the constants that a function uses, once each, in order of first use over its blocks in an order.
+pub fn hoist_constants<L: Ledger>(
+    alloc: Global,
+    ctx: &mut Context,
+    source: &LLVMModule,
+    entries: &Entries,
+    values: &mut Values,
+    block: BlockRef,
+    f: LLVMFunction,
+    order: &[u32],
+    steps: &mut Steps<L>,
+) -> Result<(), AllocError>
+    requires { (fr : Frame) × IsFramed source.now f fr × (fr.order ≡ order.now) × AreEntries source.now fr.source entries.now × IsHoisting fr source.now ctx.old values.old [] × (block.0 ≡ fr.base) }
+    ensures { OnOk result ((fr : Frame) → IsFramed source.now f fr → fr.order ≡ order.now → AreEntries source.now fr.source entries.now → IsHoisting fr source.now ctx.old values.old [] → block.0 ≡ fr.base
+        → IsHoisting fr source.now ctx.new values.new (all_uses source.now fr)) }
+{
+    let blocks = source.blocks(f);
+    for place in order {
+        hoist_block(
+            alloc,
+            ctx,
+            source,
+            entries,
+            values,
+            block,
+            blocks[*place as usize],
+            steps,
+        )?;
     }
     Ok(())
 }

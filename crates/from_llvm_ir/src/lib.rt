@@ -3,8 +3,15 @@
 
 mod building;
 mod constants;
+pub mod conversion_err;
+mod entries;
+mod functions;
 pub mod importing;
 pub mod matching;
 mod operations;
+mod order;
+mod parts;
+pub mod predicates;
+mod targets;
 mod types;
 mod values;

@@ -1,31 +1,40 @@
-//! The instructions of a function, each by the operation that stands for it.
+//! The instructions of a block, each by the operation or the argument that stands for it.
 
-ghost use Rattle.std.specs.Prelude.{◌≡◌, ◌∷◌, ◌++◌, [], List, ℕ, IfOk, OnOk, length};
+ghost use Rattle.std.specs.Prelude.{◌≡◌, ◌+◌, ℕ, List, IfErr, IfOk, OnOk, false, length};
+ghost use Rattle.llvm_core.specs.declared.code.LLVMValue.TheVariants as sources;
+ghost use Rattle.dialect_core.specs.declared.ops.Value.TheVariants as results;
 ghost use Rattle.llvm_core.specs.Names.{IsPlainOrNone};
-ghost use Rattle.llvm_core.specs.Data.{ConstTree, Function, Placed, data_of};
-ghost use Rattle.dialect_core.specs.Data.{DialectOp};
-ghost use Rattle.from_llvm_ir.specs.Imported.{constants_used, given_name};
-ghost use Rattle.from_llvm_ir.specs.Building.{Frame, IsUnder};
-ghost use Rattle.from_llvm_ir.specs.Body.{AreListed, IsAt, IsBody, StandsFor, known_of};
+ghost use Rattle.llvm_core.specs.Data.{Block, Placed};
+ghost use Rattle.llvm_core.specs.Form.{is_phi};
+ghost use Rattle.from_llvm_ir.specs.Imported.{given_name};
+ghost use Rattle.from_llvm_ir.specs.Order.{IsInverse};
+ghost use Rattle.from_llvm_ir.specs.Source.{AreEntries};
+ghost use Rattle.from_llvm_ir.specs.Values.{IsNoted};
+ghost use Rattle.from_llvm_ir.specs.Known.{Frame};
+ghost use Rattle.from_llvm_ir.specs.Body.{AreTargets, IsAt, IsBegun, IsBody, IsFilled, IsFramed, IsLate};
 
 use crate::building::add_op;
-use crate::types::import_plain;
-use crate::values::Values;
+use crate::conversion_err::ConversionErr;
+use crate::entries::Entries;
+use crate::order::place_of;
+use crate::parts::{is_phi, kind_of, operands_of, targets_of};
+use crate::targets::{Targets, known_edges};
+use crate::types::import_result_type;
+use crate::values::{Values, known_values};
 use dialect_core::context::Context;
-use dialect_core::numbers::{BlockRef, OpRef};
-use dialect_core::ops::{OpKind, Value};
-use dialect_core::overflow::IntegerOverflowFlagsAttr;
+use dialect_core::numbers::BlockRef;
+use dialect_core::ops::Value;
 use dialect_core::steps::Steps;
 use dialect_types::identifier::Identifier;
 use dialect_types::legaliser::Legaliser;
-use llvm_core::code::{LLVMInst, LLVMValue, OverflowFlags};
+use llvm_core::code::LLVMValue;
 use llvm_core::module::LLVMModule;
-use llvm_core::numbers::LLVMInstRef;
-use std::alloc::AllocError;
+use llvm_core::numbers::{LLVMBasicBlock, LLVMFunction, LLVMInstRef};
+use std::alloc::{AllocError, Global};
 use std::sync::ledger::Ledger;
 
-/// The identifier of a result's name, none where the name is empty.
-fn given(names: &mut Legaliser, name: &str) -> Result<Option<Identifier>, AllocError>
+/// The identifier of a name, none where the name is empty.
+pub fn given(names: &mut Legaliser, name: &str) -> Result<Option<Identifier>, AllocError>
     requires { IsPlainOrNone name.now }
     ensures { IfOk result (λ n. n ≡ given_name name.now) }
 {
@@ -36,87 +45,172 @@ fn given(names: &mut Legaliser, name: &str) -> Result<Option<Identifier>, AllocE
     Ok(Some(identifier))
 }
 
-/// The flags of an addition.
-fn overflow_of(flags: OverflowFlags) -> IntegerOverflowFlagsAttr
-    ensures { result ≡ record { nsw = flags.nsw; nuw = flags.nuw } }
-{
-    IntegerOverflowFlagsAttr {
-        nsw: flags.nsw,
-        nuw: flags.nuw,
-    }
-}
-
-/// A new last operation of the block that stands for an instruction whose operands were met.
-fn add_inst<L: Ledger>(
-    ctx: &mut Context,
-    names: &mut Legaliser,
-    source: &LLVMModule,
-    values: &Values,
-    block: BlockRef,
-    i: LLVMInstRef,
-    steps: &mut Steps<L>,
-) -> Result<OpRef, AllocError>
-    requires { (fr : Frame) × (g : Function) × (uses : List ConstTree) × (before : List Placed) × (p : Placed) × IsAt fr source.now g ctx.old block values.now uses before i p }
-    ensures { IfOk result (λ r. (fr : Frame) → (g : Function) → (uses : List ConstTree) → (before : List Placed) → (p : Placed) → (h : IsAt fr source.now g ctx.old block values.now uses before i p)
-        → (o : DialectOp) × (o.number ≡ r.0) × StandsFor g.number block (known_of fr source.now g.number ctx.old block values.now uses before h.body) p o p.instruction
-        × IsUnder fr ctx.new block ((h.body.hoisted ++ h.body.done) ++ o ∷ [])) }
-{
-    match source.inst(i) {
-        LLVMInst::Add(lhs, rhs, flags) => {
-            let ty = import_plain(ctx, source, source.type_of(LLVMValue::Inst(i)))?;
-            let name = given(names, source.inst_name(i))?;
-            let kind = OpKind::Add(overflow_of(*flags));
-            let operands = [values.of(*lhs), values.of(*rhs)];
-            let op = add_op(ctx, block, kind, &operands, Some(ty), name, steps)?;
-            Ok(op)
-        }
-        LLVMInst::Ret(Some(value)) => {
-            let operands = [values.of(*value)];
-            let op = add_op(ctx, block, OpKind::Return, &operands, None, None, steps)?;
-            Ok(op)
-        }
-        LLVMInst::Ret(None) => {
-            let op = add_op(ctx, block, OpKind::Return, &[], None, None, steps)?;
-            Ok(op)
-        }
-    }
-}
-
-/// A new last operation of the block that stands for an instruction, noted for its result.
-fn import_inst<L: Ledger>(
-    ctx: &mut Context,
-    names: &mut Legaliser,
-    source: &LLVMModule,
+/// The argument that stands for a phi, noted.
+fn import_phi(
     values: &mut Values,
     block: BlockRef,
     i: LLVMInstRef,
-    steps: &mut Steps<L>,
+    place: usize,
 ) -> Result<(), AllocError>
-    requires { (fr : Frame) × (g : Function) × (uses : List ConstTree) × (before : List Placed) × (p : Placed) × IsAt fr source.now g ctx.old block values.old uses before i p }
-    ensures { OnOk result ((fr : Frame) → (g : Function) → (uses : List ConstTree) → (before : List Placed) → (p : Placed) → IsAt fr source.now g ctx.old block values.old uses before i p
-        → IsBody fr source.now g.number ctx.new block values.new uses (before ++ p ∷ [])) }
+    ensures { OnOk result (IsNoted values.old values.new (sources.Inst i) (results.Argument block place)) }
 {
-    let op = add_inst(ctx, names, source, values, block, i, steps)?;
+    values.set(LLVMValue::Inst(i), Value::Argument(block, place_of(place)?))?;
+    Ok(())
+}
+
+/// A new last operation of the block that stands for an instruction that is no phi, noted for its result.
+fn import_op<L: Ledger>(
+    alloc: Global,
+    ctx: &mut Context,
+    names: &mut Legaliser,
+    source: &LLVMModule,
+    targets: &Targets,
+    entries: &Entries,
+    values: &mut Values,
+    from: LLVMBasicBlock,
+    block: BlockRef,
+    i: LLVMInstRef,
+    steps: &mut Steps<L>,
+) -> Result<(), ConversionErr>
+    requires { (fr : Frame) × (f : LLVMFunction) × (j : ℕ) × (x : ℕ) × (b : Block) × (p : Placed) × IsAt fr source.now f targets.now entries.now ctx.old values.old from block i j x b p × (is_phi p ≡ false) }
+    ensures ok { OnOk result ((fr : Frame) → (f : LLVMFunction) → (j x : ℕ) → (b : Block) → (p : Placed) → IsAt fr source.now f targets.now entries.now ctx.old values.old from block i j x b p → is_phi p ≡ false
+        → IsBody fr source.now ctx.new values.new j (x + 1) b) }
+    ensures err { IfErr result (λ e. (fr : Frame) → (f : LLVMFunction) → (j x : ℕ) → (b : Block) → (p : Placed) → IsAt fr source.now f targets.now entries.now ctx.old values.old from block i j x b p → is_phi p ≡ false
+        → (places : List ℕ) → IsInverse fr.order places → IsLate fr.source places e) }
+{
+    let inst = source.inst(i);
+    let used = operands_of(alloc, inst)?;
+    let operands = known_values(alloc, source, values, used.as_slice())?;
+    let leads = targets_of(alloc, inst)?;
+    let successors = known_edges(
+        alloc,
+        source,
+        values,
+        targets,
+        entries,
+        from,
+        leads.as_slice(),
+    )?;
+    let ty = import_result_type(ctx, source, i)?;
+    let name = given(names, source.inst_name(i))?;
+    let op = add_op(
+        ctx,
+        block,
+        kind_of(inst),
+        operands.as_slice(),
+        successors.as_slice(),
+        ty,
+        name,
+        steps,
+    )?;
     values.set(LLVMValue::Inst(i), Value::Result(op))?;
     Ok(())
 }
 
-/// The operations for the instructions of a block in order, behind its constants.
-pub fn import_insts<L: Ledger>(
+/// What stands for an instruction: the argument of a phi, or a new last operation of the block.
+fn import_inst<L: Ledger>(
+    alloc: Global,
     ctx: &mut Context,
     names: &mut Legaliser,
     source: &LLVMModule,
+    targets: &Targets,
+    entries: &Entries,
     values: &mut Values,
+    from: LLVMBasicBlock,
     block: BlockRef,
-    insts: &[LLVMInstRef],
+    i: LLVMInstRef,
+    place: usize,
     steps: &mut Steps<L>,
-) -> Result<(), AllocError>
-    requires { (g : Function) × (ps : List Placed) × (fr : Frame) × AreListed source.now g insts.now ps × (length g.params ≡ length fr.args) × IsBody fr source.now g.number ctx.old block values.old (constants_used (data_of source.now) ps) [] }
-    ensures { OnOk result ((g : Function) → (ps : List Placed) → (fr : Frame) → AreListed source.now g insts.now ps → length g.params ≡ length fr.args → IsBody fr source.now g.number ctx.old block values.old (constants_used (data_of source.now) ps) []
-        → IsBody fr source.now g.number ctx.new block values.new (constants_used (data_of source.now) ps) ps) }
+) -> Result<(), ConversionErr>
+    requires { (fr : Frame) × (f : LLVMFunction) × (j : ℕ) × (b : Block) × (p : Placed) × IsAt fr source.now f targets.now entries.now ctx.old values.old from block i j place b p }
+    ensures ok { OnOk result ((fr : Frame) → (f : LLVMFunction) → (j : ℕ) → (b : Block) → (p : Placed) → IsAt fr source.now f targets.now entries.now ctx.old values.old from block i j place b p
+        → IsBody fr source.now ctx.new values.new j (place + 1) b) }
+    ensures err { IfErr result (λ e. (fr : Frame) → (f : LLVMFunction) → (j : ℕ) → (b : Block) → (p : Placed) → IsAt fr source.now f targets.now entries.now ctx.old values.old from block i j place b p
+        → (places : List ℕ) → IsInverse fr.order places → IsLate fr.source places e) }
 {
-    for i in insts {
-        import_inst(ctx, names, source, values, block, *i, steps)?;
+    if is_phi(source.inst(i)) {
+        import_phi(values, block, i, place)?;
+        return Ok(());
+    }
+    import_op(
+        alloc, ctx, names, source, targets, entries, values, from, block, i, steps,
+    )?;
+    Ok(())
+}
+
+/// What stands for the instructions of a block, in order.
+pub fn import_insts<L: Ledger>(
+    alloc: Global,
+    ctx: &mut Context,
+    names: &mut Legaliser,
+    source: &LLVMModule,
+    targets: &Targets,
+    entries: &Entries,
+    values: &mut Values,
+    from: LLVMBasicBlock,
+    block: BlockRef,
+    steps: &mut Steps<L>,
+) -> Result<(), ConversionErr>
+    requires { (fr : Frame) × (f : LLVMFunction) × (j : ℕ) × (b : Block) × IsBegun fr source.now f targets.now entries.now ctx.old values.old from block j b }
+    ensures ok { OnOk result ((fr : Frame) → (f : LLVMFunction) → (j : ℕ) → (b : Block) → IsBegun fr source.now f targets.now entries.now ctx.old values.old from block j b
+        → IsFilled fr source.now ctx.new values.new (j + 1)) }
+    ensures err { IfErr result (λ e. (fr : Frame) → (f : LLVMFunction) → (j : ℕ) → (b : Block) → IsBegun fr source.now f targets.now entries.now ctx.old values.old from block j b
+        → (places : List ℕ) → IsInverse fr.order places → IsLate fr.source places e) }
+{
+    let insts = source.instructions(from);
+    for place in 0..insts.len() {
+        import_inst(
+            alloc,
+            ctx,
+            names,
+            source,
+            targets,
+            entries,
+            values,
+            from,
+            block,
+            insts[place],
+            place,
+            steps,
+        )?;
+    }
+    Ok(())
+}
+
+/// What stands for the blocks of a function, in an order.
+pub fn import_blocks<L: Ledger>(
+    alloc: Global,
+    ctx: &mut Context,
+    names: &mut Legaliser,
+    source: &LLVMModule,
+    targets: &Targets,
+    entries: &Entries,
+    values: &mut Values,
+    f: LLVMFunction,
+    order: &[u32],
+    steps: &mut Steps<L>,
+) -> Result<(), ConversionErr>
+    requires { (fr : Frame) × IsFramed source.now f fr × (fr.order ≡ order.now) × AreTargets fr targets.now × AreEntries source.now fr.source entries.now × IsFilled fr source.now ctx.old values.old 0 }
+    ensures ok { OnOk result ((fr : Frame) → IsFramed source.now f fr → fr.order ≡ order.now → AreTargets fr targets.now → AreEntries source.now fr.source entries.now → IsFilled fr source.now ctx.old values.old 0
+        → IsFilled fr source.now ctx.new values.new (length order.now)) }
+    ensures err { IfErr result (λ e. (fr : Frame) → IsFramed source.now f fr → fr.order ≡ order.now → AreTargets fr targets.now → AreEntries source.now fr.source entries.now → IsFilled fr source.now ctx.old values.old 0
+        → (places : List ℕ) → IsInverse fr.order places → IsLate fr.source places e) }
+{
+    let blocks = source.blocks(f);
+    for place in order {
+        let from = blocks[*place as usize];
+        import_insts(
+            alloc,
+            ctx,
+            names,
+            source,
+            targets,
+            entries,
+            values,
+            from,
+            targets.of(from),
+            steps,
+        )?;
     }
     Ok(())
 }

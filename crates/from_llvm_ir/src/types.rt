@@ -1,19 +1,23 @@
 //! Types of the source to types of the dialect.
 
-ghost use Rattle.std.specs.Prelude.{◌≡◌, ◌<◌, ◌≤◌, IfOk, All, length, map, ℕ};
+ghost use Rattle.std.specs.Prelude.{◌≡◌, ◌<◌, ◌≤◌, IfOk, IfSome, All, length, map, ℕ};
+ghost use Rattle.std.specs.Option.{option_map};
 ghost use Rattle.llvm_core.specs.Sound.{IsModule};
 ghost use Rattle.llvm_core.specs.Data as L;
 ghost use Rattle.llvm_core.specs.Data.{trees_of};
 ghost use Rattle.llvm_core.specs.Form.{IsShortResult, AreShortInts};
 ghost use Rattle.dialect_types.specs.Trees.{type_at, type_tree, type_trees, depth, HasPartsBelow};
-ghost use Rattle.from_llvm_ir.specs.Types.{GrowsTypes, type_from, args_from};
-ghost use Rattle.from_llvm_ir.specs.Body.{IsSource};
+ghost use Rattle.from_llvm_ir.specs.Imported.{phis_of};
+ghost use Rattle.from_llvm_ir.specs.Types.{GrowsTypes, type_from, args_from, result_from};
+ghost use Rattle.from_llvm_ir.specs.Source.{IsSource, IsBlockOf, IsTypeOf};
 
+use crate::parts::is_phi;
 use dialect_core::context::Context;
 use dialect_types::items::Items;
 use dialect_types::types::{TypeHandle, TypeKind};
+use llvm_core::code::LLVMValue;
 use llvm_core::module::LLVMModule;
-use llvm_core::numbers::{LLVMFunction, LLVMType};
+use llvm_core::numbers::{LLVMBasicBlock, LLVMFunction, LLVMInstRef, LLVMType};
 use llvm_core::types::LLVMTypeKind;
 use std::alloc::{AllocError, Global};
 
@@ -125,4 +129,54 @@ pub fn import_function_type(
         variadic: false,
     };
     intern(ctx, kind)
+}
+
+/// The type of the result of an instruction, none where it is void.
+pub fn import_result_type(
+    ctx: &mut Context,
+    source: &LLVMModule,
+    i: LLVMInstRef,
+) -> Result<Option<TypeHandle>, AllocError>
+    requires { (t : L.TypeTree) × IsTypeOf source.now i t }
+    ensures grown { GrowsTypes ctx.old ctx.new }
+    ensures ty { IfOk result (λ r. (t : L.TypeTree) → IsTypeOf source.now i t → option_map (type_at (type_trees ctx.new.types)) r ≡ result_from t) }
+    ensures within { IfOk result (λ r. IfSome r (λ t. t.0 < length ctx.new.types)) }
+{
+    let ty = source.type_of(LLVMValue::Inst(i));
+    match source.type_kind(ty) {
+        LLVMTypeKind::Void => Ok(None),
+        _ => Ok(Some(import_plain(ctx, source, ty)?)),
+    }
+}
+
+/// The types of the phis of a block, in order.
+pub fn import_phi_types(
+    alloc: Global,
+    ctx: &mut Context,
+    source: &LLVMModule,
+    block: LLVMBasicBlock,
+) -> Result<Vec<TypeHandle>, AllocError>
+    requires { (f : LLVMFunction) × (g : L.Function) × (place : ℕ) × (b : L.Block) × IsSource source.now f g × IsBlockOf source.now g block place b }
+    ensures grown { GrowsTypes ctx.old ctx.new }
+    ensures types { IfOk result (λ ts. (f : LLVMFunction) → (g : L.Function) → (place : ℕ) → (b : L.Block) → IsSource source.now f g → IsBlockOf source.now g block place b → map (type_at (type_trees ctx.new.types)) ts.items ≡ map (λ p. type_from p.type) (phis_of b)) }
+    ensures within { IfOk result (λ ts. All (λ t. t.0 < length ctx.new.types) ts.items) }
+{
+    let mut types = Vec::new(alloc);
+    for i in source.instructions(block) {
+        if is_phi(source.inst(*i)) {
+            types.push(import_plain(ctx, source, source.type_of(LLVMValue::Inst(*i)))?)?;
+        }
+    }
+    Ok(types)
+}
+
+/// How many parameters a function has.
+pub fn param_count(source: &LLVMModule, f: LLVMFunction) -> usize
+    requires { (g : L.Function) × IsSource source.now f g }
+    ensures { (g : L.Function) → IsSource source.now f g → result ≡ length g.params }
+{
+    match source.type_kind(source.function_type(f)) {
+        LLVMTypeKind::Function { params, .. } => params.as_slice().len(),
+        _ => unreachable!(),
+    }
 }

@@ -1,11 +1,15 @@
 //! Which value of the dialect stands for each of a source function.
 
-ghost use Rattle.std.specs.Prelude.{◌≡◌, OnOk, IsSome, is_some, None, Some, if◌then◌else◌};
-ghost use Rattle.llvm_core.specs.contracts.code.LLVMValuePartialEq.TheImpl as keys;
-ghost use Rattle.from_llvm_ir.specs.Values.{value_at};
+ghost use Rattle.std.specs.Prelude.{◌≡◌, IfErr, IfOk, OnOk, IsSome, is_some, All, None, Some, ◌∷◌, [], ◌<◌, length, map};
+ghost use Rattle.llvm_core.specs.Data.{trees_of, operand_of};
+ghost use Rattle.from_llvm_ir.specs.Values.{value_at, AreNoted, IsNoted, IsForward, IsRefusalOf, IsSettled};
 
+use crate::conversion_err::ConversionErr;
 use dialect_core::ops::Value;
 use llvm_core::code::LLVMValue;
+use llvm_core::module::LLVMModule;
+use llvm_core::numbers::LLVMInstRef;
+use llvm_core::text::Text;
 use std::alloc::{AllocError, Global};
 use std::collections::HashMap;
 
@@ -25,15 +29,11 @@ impl Values {
         }
     }
 
-    /// The value that stands for one of the source.
-    pub fn of(&self, value: LLVMValue) -> Value
-        requires { IsSome (value_at self.now value) }
-        ensures { value_at self.now value ≡ Some result }
+    /// The value that stands for one of the source, where one was noted.
+    pub fn get(&self, value: LLVMValue) -> Option<Value>
+        ensures { result ≡ value_at self.now value }
     {
-        match self.map.get(&value) {
-            Some(found) => *found,
-            None => unreachable!(),
-        }
+        self.map.get(&value).copied()
     }
 
     /// Whether a value stands for one of the source.
@@ -45,9 +45,58 @@ impl Values {
 
     /// Notes the value that stands for one of the source.
     pub fn set(&mut self, value: LLVMValue, to: Value) -> Result<(), AllocError>
-        ensures { OnOk result ((q : LLVMValue) → value_at self.new q ≡ (if keys.eq-value.it value q then Some to else value_at self.old q)) }
+        ensures { OnOk result (IsNoted self.old self.new value to) }
     {
         self.map.insert(value, to)?;
         Ok(())
     }
+}
+
+/// The refusal of a value that is not known yet.
+fn forward_use(alloc: Global, source: &LLVMModule, i: LLVMInstRef) -> ConversionErr
+    requires { i.0 < length source.now.insts }
+    ensures { IsRefusalOf source.now i result }
+{
+    match Text::copy(alloc, source.inst_name(i)) {
+        Ok(name) => ConversionErr::ForwardUse(name, LLVMValue::Inst(i)),
+        Err(_) => ConversionErr::NoMemory,
+    }
+}
+
+/// The value that stands for one of the source.
+fn known_value(
+    alloc: Global,
+    source: &LLVMModule,
+    values: &Values,
+    value: LLVMValue,
+) -> Result<Value, ConversionErr>
+    requires { IsSettled source.now values.now value }
+    ensures ok { IfOk result (λ w. value_at values.now value ≡ Some w) }
+    ensures err { IfErr result (λ e. IsForward source.now values.now (operand_of (trees_of source.now) value ∷ []) e) }
+{
+    match values.get(value) {
+        Some(known) => Ok(known),
+        None => match value {
+            LLVMValue::Inst(i) => Err(forward_use(alloc, source, i)),
+            LLVMValue::Const(_) | LLVMValue::Param(..) => unreachable!(),
+        },
+    }
+}
+
+/// The values that stand for those of the source.
+pub fn known_values(
+    alloc: Global,
+    source: &LLVMModule,
+    values: &Values,
+    used: &[LLVMValue],
+) -> Result<Vec<Value>, ConversionErr>
+    requires { All (IsSettled source.now values.now) used.now }
+    ensures ok { IfOk result (λ ws. AreNoted values.now used.now ws.items) }
+    ensures err { IfErr result (λ e. IsForward source.now values.now (map (operand_of (trees_of source.now)) used.now) e) }
+{
+    let mut known = Vec::new(alloc);
+    for value in used {
+        known.push(known_value(alloc, source, values, *value)?)?;
+    }
+    Ok(known)
 }

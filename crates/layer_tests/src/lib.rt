@@ -1,6 +1,8 @@
-//! Tests over modules made by hand, which no text of the form says: what `check` answers to each broken rule. They
-//! stand in a crate of their own, since a crate with tests is proved twice.
+//! Tests of crates below, in a crate of their own, since a crate with tests is proved twice: what `check` answers to
+//! modules made by hand that no text of the form says, and the depth-first order of all small graphs.
 #![tactic(auto)]
 
 #[cfg(test)]
 mod modules;
+#[cfg(test)]
+mod orders;

@@ -16,6 +16,7 @@ use std::alloc::{AllocError, Global};
 use std::test::Fail;
 
 mod adds;
+mod branches;
 
 // ---- modules
 

@@ -193,6 +193,17 @@ alone_label (b ∷ bs) h = record {
       (name_piece b (bs ++ 58 ∷ 10 ∷ rest) k.name k.no_digit ∙ rw (run, slice_index-behind (b ∷ bs) 58 (10 ∷ rest), len) refl);
 }
 
+-- digits and their colon before the end of a line
+pub alone_number_label : (b : ℕ) (bs : Text) → is_digit b ≡ true → list_all is_digit bs ≡ true → Alone 10 (label (b ∷ bs))
+unfolding digits_at
+alone_number_label b bs d h = record {
+  some = omega arith;
+  piece = λ rest.
+      let run = prefix_len-run is_digit (b ∷ bs) 58 (10 ∷ rest) (rw (d, h) refl) refl in
+      let len : 1 + suc (length bs) ≡ length (label (b ∷ bs)) = omega (arith, length-append (b ∷ bs) (58 ∷ [])) in
+      rw (append_assoc (b ∷ bs) (58 ∷ []) (10 ∷ rest)) (digit_piece b (bs ++ 58 ∷ 10 ∷ rest) d ∙ rw (run, slice_index-behind (b ∷ bs) 58 (10 ∷ rest), len) refl);
+}
+
 bare_in_string : (name : Text) → is_bare name ≡ true → list_all in_string name ≡ true
 bare_in_string [] h = absurd cc
 bare_in_string (b ∷ bs) h = let k = bare_parts b bs h in weaker is_name_byte in_string (b ∷ bs) name_in_string (rw (k.name, k.others) refl)

@@ -57,3 +57,16 @@ writes_comma t alone = record {
 -- a token and an equals sign, with blanks
 pub writes_equals : (t : Text) → Alone 32 t → Writes (t ++ codes " = ") (t ∷ codes "=" ∷ [])
 writes_equals t alone = same (append_assoc t (codes " ") (codes "= ")) refl (joined (writes_spaced t alone) (writes_spaced (codes "=") alone_equals))
+
+-- a comma and a blank
+pub writes_sep : Writes (codes ", ") (codes "," ∷ [])
+writes_sep = record { before = λ rest us others. sign_cut 44 (32 ∷ rest) us refl refl refl (blank_cut 32 rest us refl others) }
+
+-- brackets, with a blank inside
+pub writes_open : Writes (codes "[ ") (codes "[" ∷ [])
+writes_open = record { before = λ rest us others. sign_cut 91 (32 ∷ rest) us refl refl refl (blank_cut 32 rest us refl others) }
+
+pub writes_closed : (t : Text) → Alone 32 t → Writes (t ++ codes " ]") (t ∷ codes "]" ∷ [])
+writes_closed t alone = record {
+  before = λ rest us others. rw (append_assoc t (codes " ]") rest) (token_cut 32 t (93 ∷ rest) (codes "]" ∷ us) alone (blank_cut 32 (93 ∷ rest) (codes "]" ∷ us) refl (sign_cut 93 rest us refl refl refl others)));
+}

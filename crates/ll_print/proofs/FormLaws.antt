@@ -1,9 +1,9 @@
 -- Blocks and instructions of a function of the form belong to it; its parameters are printed one after another.
-use Rattle.std.proofs.Common.{◌≡◌, ℕ, zero, suc, ◌+◌, ◌<◌, ◌≤◌, codes, List, [], ◌∷◌, ◌++◌, length, take, get_or, slice_get, Some, None, All, refl, ap, sym, ◌∙◌, subst, append_assoc, arith}
-use Rattle.std.specs.List.{flat_map}
+use Rattle.std.proofs.Common.{◌≡◌, ℕ, zero, suc, ◌+◌, ◌<◌, ◌≤◌, codes, List, [], ◌∷◌, ◌++◌, length, map, take, get_or, slice_get, Some, None, All, refl, ap, sym, ◌∙◌, subst, append_assoc, arith}
+use Rattle.std.specs.List.{flat_map, filter_map}
 use Rattle.std.specs.Option.{option_map}
 use Rattle.std.proofs.lemmas.List.{append-nil, take_all}
-use Rattle.std.proofs.lemmas.Option.{slice_get-get_or}
+use Rattle.std.proofs.lemmas.Option.{slice_get-get_or, slice_get-map}
 use Rattle.llvm_core.specs.declared.numbers.LLVMType.{LLVMType}
 use Rattle.llvm_core.specs.declared.numbers.LLVMFunction.{LLVMFunction}
 use Rattle.llvm_core.specs.declared.numbers.LLVMBasicBlock.{LLVMBasicBlock}
@@ -12,73 +12,77 @@ use Rattle.llvm_core.specs.declared.code.LLVMValue.{LLVMValue}
 use Rattle.llvm_core.specs.declared.code.LLVMValue.TheVariants as V
 use Rattle.llvm_core.specs.declared.code.LLVMInst.{LLVMInst}
 use Rattle.llvm_core.specs.declared.code.LLVMInst.TheVariants as I
+use Rattle.llvm_core.specs.declared.code.PhiEntry.{PhiEntry}
 use Rattle.llvm_core.specs.declared.code.FunctionData.{FunctionData}
 use Rattle.llvm_core.specs.declared.code.BlockData.{BlockData}
 use Rattle.llvm_core.specs.Module.{Module}
 use Rattle.llvm_core.specs.Code.{param_names}
-use Rattle.llvm_core.specs.Parts.{IsValue, HasValues}
+use Rattle.llvm_core.specs.Parts.{IsValue, IsBlock, IsEntry, HasValues}
 use Rattle.llvm_core.specs.Sound.{IsModule}
-use Rattle.llvm_core.specs.Data.{TypeTree, Placed, Block, Function, type_at, trees_of, operand_of, instruction_of, placed_of, block_of, block_at, function_of, placed_in, param_type, data_of}
-use Rattle.llvm_core.specs.Form.{HasNumber, StandsBefore, IsFormInstruction, IsFormFunction, result_of}
-use Rattle.llvm_core.proofs.DataLemmas.{block_of_number, inst_of_number, function_count}
+use Rattle.llvm_core.specs.Data.{TypeTree, Operand, Placed, Function, type_at, trees_of, operand_of, entry_of, instruction_of, placed_of, block_of, block_at, function_of, param_type, data_of}
+use Rattle.llvm_core.specs.Form.{IsOperandOf, IsOperand, IsTarget, FitsEdges, IsFormInstruction, IsFormBlock, IsFormFunction, result_of}
+use Rattle.llvm_core.proofs.DataLemmas.{within_at, there, block_of_number, inst_of_number, function_count}
+use Rattle.llvm_core.proofs.ListLemmas.{some_same}
 use Rattle.ll_print.specs.declared.numbers.Numbers.{Numbers}
-use Rattle.ll_print.specs.Printing.{ParamAt, comma_text, type_text, local_text, params_text, block_text, function_text}
+use Rattle.ll_print.specs.declared.places.Place.TheVariants as P
+use Rattle.ll_print.specs.Printing.{ParamAt, comma_text, type_text, local_text, params_text, blocks_text, function_text}
 use Rattle.ll_print.specs.Numbering.{noted_at, or_number}
-use Rattle.ll_print.specs.Parts.{no_function, function_in, named_text, lines_of, IsOwn, OwnsOperands, OwnsInst, OwnsBlock, IsPrinting}
-use Rattle.ll_print.proofs.PartLaws.{same_some, read, all_at, flat_map_more, flat_map-filter_map, function_there}
+use Rattle.ll_print.specs.Parts.{no_function, function_in, named_text, all_lines_of, IsOwn, IsOwnBlock, OwnsEntry, OwnsOperands, OwnsInst, OwnsBlock, IsPrinting}
+use Rattle.ll_print.proofs.PartLaws.{read, flat_map_more, function_there, all_lines}
 use Rattle.ll_print.proofs.CountLaws.{param_read}
 use Rattle.ll_print.proofs.TextLaws.{put_is}
-use Rattle.ll_print.proofs.OwnLaws.{param_local}
+use Rattle.ll_print.proofs.EdgeLaws.{entry_block, target_block}
+use Rattle.ll_print.proofs.OwnLaws.{thing_local}
 
 -- ---- what belongs to a function of the form
 
--- a number of a front is one of the whole
-front_number : (n k : ℕ) (ps : List Placed) → HasNumber n (take k ps) → HasNumber n ps
-front_number n k [] h = absurd (let e : slice_get (take k []) h.0 ≡ Some h.1 = h.2 in by k e)
-  where
-    by : (k : ℕ) → slice_get (take k []) h.0 ≡ Some h.1 → ⊥
-    by zero e = cc
-    by (suc k) e = cc
-front_number n zero (p ∷ ps) h = absurd (let e : slice_get [] h.0 ≡ Some h.1 = h.2 in cc)
-front_number n (suc k) (p ∷ ps) h = by h.0 h.1 h.2 h.3 (λ g. front_number n k ps g)
-  where
-    by : (i : ℕ) (q : Placed) → slice_get (p ∷ take k ps) i ≡ Some q → q.number ≡ n → (HasNumber n (take k ps) → HasNumber n ps) → HasNumber n (p ∷ ps)
-    by zero q at number further = (0, q, at, number)
-    by (suc i) q at number further = let o = further (i, q, at, number) in (suc o.0, o.1, o.2, o.3)
+own_operand : (m : Module) (f : LLVMFunction) (v : LLVMValue) → IsValue m v → IsOperandOf (function_in m f) (operand_of (trees_of m) v) → IsOwn m f v
+own_operand m f (V.Const c) value stands = value
+own_operand m f (V.Param g i) value stands = (ap (λ (n : ℕ). let h : LLVMFunction = record { 0 = n } in h) stands.0, stands.1)
+own_operand m f (V.Inst i) value stands = (value, stands)
 
-own_operand : (m : Module) (f : LLVMFunction) (k : ℕ) (ps : List Placed) (v : LLVMValue) → placed_in (function_in m f) ≡ ps → IsValue m v → StandsBefore (function_in m f) (take k ps) (operand_of (trees_of m) v) → IsOwn m f v
-own_operand m f k ps (V.Const c) whole value stands = value
-own_operand m f k ps (V.Param g i) whole value stands = (ap (λ (n : ℕ). let h : LLVMFunction = record { 0 = n } in h) stands.0, stands.1)
-own_operand m f k ps (V.Inst i) whole value stands = (value, subst (HasNumber i.0) (sym whole) (front_number i.0 k ps stands))
+own_target : (m : Module) (f : LLVMFunction) (b : LLVMBasicBlock) → IsBlock m b → IsTarget (function_in m f) b.0 → IsOwnBlock m f b
+own_target m f b within target = (within, target_block (function_in m f) b.0 target)
 
-own_operands : (m : Module) (f : LLVMFunction) (k : ℕ) (ps : List Placed) (p : Placed) (i : LLVMInst) → placed_in (function_in m f) ≡ ps → HasValues m i → IsFormInstruction (function_in m f) (take k ps) p (instruction_of (trees_of m) i) → OwnsOperands m f i
-own_operands m f k ps p (I.Add lhs rhs flags) whole values form = (own_operand m f k ps lhs whole values.0 form.0.stands, own_operand m f k ps rhs whole values.1 form.1.stands)
-own_operands m f k ps p (I.Ret None) whole values form = tt
-own_operands m f k ps p (I.Ret (Some v)) whole values form = own_operand m f k ps v whole values form.0.stands
+own_entries : (m : Module) (f : LLVMFunction) (b : ℕ) (type : TypeTree) (entries : List PhiEntry) → All (IsEntry m) entries
+    → All (λ (e : Operand × ℕ). IsOperand (function_in m f) type e.0) (map (entry_of (trees_of m)) entries) → FitsEdges (function_in m f) b (map (entry_of (trees_of m)) entries) → All (OwnsEntry m f) entries
+own_entries m f b type entries there typed fits = λ i d l.
+    let e = get_or entries i d in
+    let at : slice_get (map (entry_of (trees_of m)) entries) i ≡ Some (entry_of (trees_of m) e) = slice_get-map (entry_of (trees_of m)) entries i ∙ ap (option_map (entry_of (trees_of m))) (slice_get-get_or entries i d l) in
+    let operand = within_at (map (entry_of (trees_of m)) entries) (λ (e : Operand × ℕ). IsOperand (function_in m f) type e.0) typed i (entry_of (trees_of m) e) at in
+    (own_operand m f e.value (there i d l).0 operand.stands, ((there i d l).1, entry_block (function_in m f) b (map (entry_of (trees_of m)) entries) i (entry_of (trees_of m) e) fits at))
 
-only_at : (b c : Block) (j : ℕ) → slice_get (b ∷ []) j ≡ Some c → b ≡ c
-only_at b c zero at = same_some b c at
-only_at b c (suc j) at = absurd cc
+own_operands : (m : Module) (f : LLVMFunction) (b : ℕ) (p : Placed) (i : LLVMInst) → HasValues m i → IsFormInstruction (function_in m f) b p (instruction_of (trees_of m) i) → OwnsOperands m f i
+own_operands m f b p (I.Add lhs rhs flags) values form = (own_operand m f lhs values.0 form.0.stands, own_operand m f rhs values.1 form.1.stands)
+own_operands m f b p (I.ICmp lhs rhs predicate) values form = (own_operand m f lhs values.0 form.0.1.stands, own_operand m f rhs values.1 form.0.2.stands)
+own_operands m f b p (I.Phi type entries) values form = own_entries m f b p.type entries values.1 form.0 form.1
+own_operands m f b p (I.Br target) values form = own_target m f target values form.0
+own_operands m f b p (I.CondBr condition first second) values form = (own_operand m f condition values.0 form.0.stands, own_target m f first values.1 form.1, own_target m f second values.2 form.2)
+own_operands m f b p (I.Ret None) values form = tt
+own_operands m f b p (I.Ret (Some v)) values form = own_operand m f v values form.0.stands
+own_operands m f b p I.Unreachable values form = tt
 
 own_block : (m : Module) (f : LLVMFunction) (x : FunctionData) → IsModule m → slice_get m.functions f.0 ≡ Some x → x ≡ get_or m.functions f.0 no_function → IsFormFunction (function_in m f)
     → (j : ℕ) (b : LLVMBasicBlock) → slice_get x.blocks j ≡ Some b → b.0 < length m.blocks → OwnsBlock m f b
 own_block m f x s at is form j b here within = record {
-  within = within;
+  own = let y = there m.blocks b.0 within in (within, (j, block_of (trees_of m) m.insts b y.0, listed y.0 y.1, refl));
   insts = λ y found k d lt. inst y found k (get_or y.insts k d) (slice_get-get_or y.insts k d lt);
 }
   where
+    listed : (y : BlockData) → slice_get m.blocks b.0 ≡ Some y → slice_get (function_in m f).blocks j ≡ Some (block_of (trees_of m) m.insts b y)
+    listed y found = subst (λ (z : FunctionData). slice_get (function_of (trees_of m) m.blocks m.insts (f.0, z)).blocks j ≡ Some (block_of (trees_of m) m.insts b y)) is (block_of_number m f.0 x j b y s at here found)
+
     inst : (y : BlockData) → slice_get m.blocks b.0 ≡ Some y → (k : ℕ) (i : LLVMInstRef) → slice_get y.insts k ≡ Some i → OwnsInst m f i
     inst y found k i placed =
         let block = block_of (trees_of m) m.insts b y in
-        let listed : slice_get (function_in m f).blocks j ≡ Some block = subst (λ (z : FunctionData). slice_get (function_of (trees_of m) m.blocks m.insts (f.0, z)).blocks j ≡ Some block) is (block_of_number m f.0 x j b y s at here found) in
-        let same : form.block ≡ block = only_at form.block block j (ap (λ (bs : List Block). slice_get bs j) (sym form.only) ∙ listed) in
-        let within_insts : i.0 < length m.insts = all_at (λ (i : LLVMInstRef). i.0 < length m.insts) y.insts k i (s.blocks b.0 y found).insts placed in
-        let whole : placed_in (function_in m f) ≡ form.block.instructions = ap (flat_map (λ (b : Block). b.instructions)) form.only ∙ append-nil form.block.instructions in
+        let blocks = within_at (function_in m f).blocks (IsFormBlock (function_in m f)) form.blocks j block (listed y found) in
+        let within_insts : i.0 < length m.insts = within_at y.insts (λ (i : LLVMInstRef). i.0 < length m.insts) (s.blocks b.0 y found).insts k i placed in
         record {
           within = within_insts;
           operands = λ z kept.
-              let stands : slice_get form.block.instructions k ≡ Some (placed_of (trees_of m) i z) = ap (λ (c : Block). slice_get c.instructions k) same ∙ inst_of_number m b y k i z s found placed kept in
-              own_operands m f k form.block.instructions (placed_of (trees_of m) i z) z.inst whole (s.insts i.0 z kept).values (form.instructions k (placed_of (trees_of m) i z) stands);
+              let stands = inst_of_number m b y k i z s found placed kept in
+              own_operands m f b.0 (placed_of (trees_of m) i z) z.inst (s.insts i.0 z kept).values
+              (within_at block.instructions (λ (p : Placed). IsFormInstruction (function_in m f) b.0 p p.instruction) blocks.instructions k (placed_of (trees_of m) i z) stands);
         }
 
 -- the blocks of a function of the form
@@ -101,7 +105,7 @@ pub params_more : (f : Function) (k i : ℕ) (ns : List (List ℕ)) (n : List �
 params_more f k i [] n at = absurd cc
 params_more f k zero (m ∷ ns) n at =
     let here : k + 0 ≡ k = omega arith in
-    rw (here, ← same_some m n at) (append-nil (param_text f k m))
+    rw (here, ← some_same m n at) (append-nil (param_text f k m))
 params_more f k (suc i) (m ∷ ns) n at =
     let fronts : take (suc i + 1) (m ∷ ns) ≡ m ∷ take (i + 1) ns = let e : suc i + 1 ≡ suc (i + 1) = omega arith in rw e refl in
     let here : suc k + i ≡ k + suc i = omega arith in
@@ -117,7 +121,7 @@ put_param o0 o1 o2 o3 o4 o5 comma type local start e1 e2 e3 e4 e5 = rw (e5, e4, 
 -- one parameter further
 pub param_put : (m : Module) (n : Numbers) (types : List LLVMType) (place : ℕ) (name : List ℕ) (number : ℕ) (old now o1 o2 o3 new : List ℕ) → IsPrinting m n
     → ((i : ℕ) (t : LLVMType) → slice_get types i ≡ Some t → param_type (function_in m n.function).type i ≡ type_at (trees_of m).types t) → place < length types
-    → slice_get (param_names m.functions n.function) place ≡ Some name → number ≡ or_number (noted_at n (V.Param n.function place)) n.count
+    → slice_get (param_names m.functions n.function) place ≡ Some name → number ≡ or_number (noted_at n (P.Param place)) n.count
     → now ≡ old ++ params_text (function_in m n.function) 0 (take place (function_in m n.function).params) → o1 ≡ now ++ comma_text place → o2 ≡ o1 ++ type_text (type_at (trees_of m).types (get_or types place (record { 0 = 0 })))
     → o3 ≡ o2 ++ codes " " → new ≡ o3 ++ named_text name number → new ≡ old ++ params_text (function_in m n.function) 0 (take (place + 1) (function_in m n.function).params)
 param_put m n types place name number old now o1 o2 o3 new h typed within at numbered e1 e2 e3 e4 e5 =
@@ -125,7 +129,7 @@ param_put m n types place name number old now o1 o2 o3 new h typed within at num
     let here : 0 + place ≡ place = omega arith in
     let type : param_type f.type place ≡ type_at (trees_of m).types (get_or types place (record { 0 = 0 })) = typed place (get_or types place (record { 0 = 0 })) (slice_get-get_or types place (record { 0 = 0 }) within) in
     let more = params_more f 0 place f.params name (param_read m n.function place name at) ∙ ap (λ (j : ℕ). params_text f 0 (take place f.params) ++ param_text f j name) here in
-    let local = ap (named_text name) numbered ∙ sym (param_local m n place name h) in
+    let local = ap (named_text name) numbered ∙ sym (thing_local m n (P.Param place) name h) in
     put_is _ _ _ _
     (put_param old now o1 o2 o3 new (comma_text place) (type_text (param_type f.type place)) (local_text f name (ParamAt place)) (params_text f 0 (take place f.params)) e1 e2
     (e3 ∙ ap (λ (t : TypeTree). o1 ++ type_text t) (sym type)) e4 (e5 ∙ ap (λ (t : List ℕ). o3 ++ t) local)) more
@@ -138,27 +142,33 @@ function_pieces o0 o1 o2 o3 o4 o5 o6 o7 o8 o9 define result space sigil name sta
 
 -- the pieces of a function one after the other
 pub function_put : (m : Module) (f g : LLVMFunction) (returned : LLVMType) (name : List ℕ) (blocks : List LLVMBasicBlock) (o0 o1 o2 o3 o4 o5 o6 o7 o8 o9 : List ℕ) → g ≡ f → result_of (function_in m f).type ≡ type_at (trees_of m).types returned
-    → option_map (λ (x : FunctionData). x.name) (slice_get m.functions f.0) ≡ Some name → option_map (λ (x : FunctionData). x.blocks) (slice_get m.functions f.0) ≡ Some blocks
+    → option_map (λ (x : FunctionData). x.name) (slice_get m.functions f.0) ≡ Some name → option_map (λ (x : FunctionData). x.blocks) (slice_get m.functions f.0) ≡ Some blocks → All (λ (b : LLVMBasicBlock). b.0 < length m.blocks) blocks
     → o1 ≡ o0 ++ codes "\ndefine " → o2 ≡ o1 ++ type_text (type_at (trees_of m).types returned) → o3 ≡ o2 ++ codes " @" → o4 ≡ o3 ++ name → o5 ≡ o4 ++ codes "("
-    → o6 ≡ o5 ++ params_text (function_in m g) 0 (function_in m g).params → o7 ≡ o6 ++ codes ") {\n" → o8 ≡ o7 ++ flat_map (lines_of m (function_in m g)) blocks → o9 ≡ o8 ++ codes "}\n"
+    → o6 ≡ o5 ++ params_text (function_in m g) 0 (function_in m g).params → o7 ≡ o6 ++ codes ") {\n" → o8 ≡ o7 ++ all_lines_of m (function_in m g) blocks → o9 ≡ o8 ++ codes "}\n"
     → o9 ≡ o0 ++ function_text (function_in m f)
-function_put m f g returned name blocks o0 o1 o2 o3 o4 o5 o6 o7 o8 o9 same result named held e1 e2 e3 e4 e5 e6 e7 e8 e9 =
+function_put m f g returned name blocks o0 o1 o2 o3 o4 o5 o6 o7 o8 o9 same result named held within e1 e2 e3 e4 e5 e6 e7 e8 e9 =
     let d = function_in m f in
     let result_text = ap type_text (sym result) in
     let name_is : name ≡ d.name = sym (read (λ (x : FunctionData). x.name) m.functions f.0 no_function name named) in
-    let lines : flat_map (lines_of m d) blocks ≡ flat_map (block_text d) d.blocks =
-    ap (flat_map (lines_of m d)) (sym (read (λ (x : FunctionData). x.blocks) m.functions f.0 no_function blocks held))
-    ∙ sym (flat_map-filter_map (block_at (trees_of m) m.blocks m.insts) (block_text d) (get_or m.functions f.0 no_function).blocks) in
-    function_pieces o0 o1 o2 o3 o4 o5 o6 o7 o8 o9 (codes "\ndefine ") (type_text (result_of d.type)) (codes " ") (codes "@") d.name (codes "(") (params_text d 0 d.params) (codes ") {\n") (flat_map (block_text d) d.blocks) (codes "}\n")
+    let blocks_are : blocks ≡ (get_or m.functions f.0 no_function).blocks = sym (read (λ (x : FunctionData). x.blocks) m.functions f.0 no_function blocks held) in
+    let lines : all_lines_of m d blocks ≡ blocks_text d d.blocks = all_lines m d blocks within ∙ ap (λ (bs : List LLVMBasicBlock). blocks_text d (filter_map (block_at (trees_of m) m.blocks m.insts) bs)) blocks_are in
+    function_pieces o0 o1 o2 o3 o4 o5 o6 o7 o8 o9 (codes "\ndefine ") (type_text (result_of d.type)) (codes " ") (codes "@") d.name (codes "(") (params_text d 0 d.params) (codes ") {\n") (blocks_text d d.blocks) (codes "}\n")
     e1 (e2 ∙ ap (λ (t : List ℕ). o1 ++ t) result_text) e3 (e4 ∙ ap (λ (t : List ℕ). o3 ++ t) name_is) e5
     (e6 ∙ ap (λ (h : LLVMFunction). o5 ++ params_text (function_in m h) 0 (function_in m h).params) same) e7
-    (e8 ∙ ap (λ (h : LLVMFunction). o7 ++ flat_map (lines_of m (function_in m h)) blocks) same ∙ ap (λ (t : List ℕ). o7 ++ t) lines) e9
+    (e8 ∙ ap (λ (h : LLVMFunction). o7 ++ all_lines_of m (function_in m h) blocks) same ∙ ap (λ (t : List ℕ). o7 ++ t) lines) e9
 
 -- ---- modules
 
 -- what holds of each function of the data holds of that of a number
 pub function_has : (m : Module) (f : ℕ) (P : Function → Type 0) → All P (data_of m).functions → f < length m.functions → P (function_in m (record { 0 = f }))
-function_has m f P all within = all_at P (data_of m).functions f (function_in m (record { 0 = f })) all (function_there m (record { 0 = f }) within)
+function_has m f P all within = within_at (data_of m).functions P all f (function_in m (record { 0 = f })) (function_there m (record { 0 = f }) within)
+
+-- and the other way round
+pub functions_have : (m : Module) (P : Function → Type 0) → ((f : ℕ) → f < length m.functions → P (function_in m (record { 0 = f }))) → All P (data_of m).functions
+functions_have m P each = λ i d l.
+    let within : i < length m.functions = omega (arith, function_count m, l) in
+    let is : function_in m (record { 0 = i }) ≡ get_or (data_of m).functions i d = some_same _ _ (sym (function_there m (record { 0 = i }) within) ∙ slice_get-get_or (data_of m).functions i d l) in
+    subst P is (each i within)
 
 -- one function further
 pub module_more : (m : Module) (f : ℕ) (old new start : List ℕ) → f < length m.functions → old ≡ start ++ flat_map function_text (take f (data_of m).functions) → new ≡ old ++ function_text (function_in m (record { 0 = f }))
@@ -167,7 +177,7 @@ module_more m f old new start lt e1 e2 =
     let d = function_in m (record { 0 = f }) in
     let count = function_count m in
     let within : f < length (data_of m).functions = omega (arith, count, lt) in
-    let here : get_or (data_of m).functions f d ≡ d = same_some _ d (sym (slice_get-get_or (data_of m).functions f d within) ∙ function_there m (record { 0 = f }) lt) in
+    let here : get_or (data_of m).functions f d ≡ d = some_same _ d (sym (slice_get-get_or (data_of m).functions f d within) ∙ function_there m (record { 0 = f }) lt) in
     let more = flat_map_more function_text (data_of m).functions f d within ∙ ap (λ (g : Function). flat_map function_text (take f (data_of m).functions) ++ function_text g) here in
     rw (e2, e1, more) (append_assoc start (flat_map function_text (take f (data_of m).functions)) (function_text d))
 

@@ -1,17 +1,26 @@
 -- The lemmas of the crate.
 pub mod AloneLaws
+pub mod ApartLaws
+pub mod BlockLaws
 pub mod ConstLaws
 pub mod CountLaws
 pub mod CutLaws
 pub mod DecimalLaws
+pub mod DefineLaws
+pub mod EdgeLaws
+pub mod EntryLaws
 pub mod FormLaws
 pub mod HeadLaws
+pub mod InstLaws
+pub mod KeptLaws
 pub mod LineLaws
 pub mod NameLaws
 pub mod NumberLaws
 pub mod OperandLaws
 pub mod OwnLaws
 pub mod PartLaws
+pub mod PhiLaws
+pub mod PositionLaws
 pub mod SaysLaws
 pub mod ScopeLaws
 pub mod SpelledLaws

@@ -1,26 +1,70 @@
--- The lines of instructions, cut into the tokens of their trees.
-use Rattle.std.proofs.Common.{◌≡◌, ℕ, ◌≤◌, Bool, true, false, codes, List, [], ◌∷◌, ◌++◌, length, slice_get, Some, None, append_assoc, refl, ap, sym, ◌∙◌, subst}
-use Rattle.std.specs.List.{flat_map, AllByRecursion}
-use Rattle.std.proofs.lemmas.List.{append-nil}
+-- The lines of instructions: each is cut into the tokens of a tree that says the instruction.
+use Rattle.std.proofs.Common.{◌≡◌, ℕ, ◌≤◌, Bool, true, false, codes, List, [], ◌∷◌, ◌++◌, Some, None, append_assoc, refl, ap, sym, ◌∙◌, subst}
 use Rattle.llvm_core.specs.declared.code.OverflowFlags.{OverflowFlags}
-use Rattle.llvm_core.specs.Data.{TypeTree, VoidType, IntType, FunctionType, Operand, Instruction, Add, Return, Placed, Function, operand_type}
-use Rattle.llvm_core.specs.Form.{IsOperand, IsFormInstruction, result_of}
-use Rattle.ll_text.specs.Text.{Text}
-use Rattle.ll_text.specs.Tree.{is_int_type, flag, inst, IsInst}
+use Rattle.llvm_core.specs.declared.code.LLVMIntPredicate.{LLVMIntPredicate}
+use Rattle.llvm_core.specs.declared.code.LLVMIntPredicate.TheVariants as P
+use Rattle.llvm_core.specs.Names.{IsPlainOrNone}
+use Rattle.llvm_core.specs.Data.{TypeTree, VoidType, IntType, FunctionType, Operand, Instruction, Add, ICmp, Br, CondBr, Return, Unreachable, Placed, Function, operand_type}
+use Rattle.llvm_core.specs.Form.{IsShortInt, IsOperand, HasNoResult}
+use Rattle.ll_text.specs.Text.{Text, is_bare}
+use Rattle.ll_text.specs.Tree as tree
+use Rattle.ll_text.specs.Tree.{is_int_type, is_predicate, flag, inst, terminator, IsInst, IsTerminator}
+use Rattle.ll_text.specs.Spelling.{widest}
+use Rattle.ll_text.specs.Meaning.{int_width, predicate_of, written_name, result_width, inst_data, terminator_data, IsTerminatorOf}
 use Rattle.ll_text.proofs.CuttingLaws.{Writes, Alone, nothing, joined, same, writes_indent, writes_spaced, writes_line, alone_ret}
-use Rattle.ll_print.specs.Printing.{ResultOf, type_text, local_text, operand_text, flag_text, placed_text}
+use Rattle.ll_print.specs.Printing.{ResultOf, type_text, local_text, operand_text, block_ref, flag_text, predicate_text, instruction_text, placed_text}
 use Rattle.ll_print.proofs.AloneLaws.{IsStop, alone_word}
 use Rattle.ll_print.proofs.CutLaws.{stop_space, stop_line, stop_comma, writes_comma, writes_equals}
-use Rattle.ll_print.proofs.NameLaws.{alone_local, local_is, alone_short, type_is}
-use Rattle.ll_print.proofs.OperandLaws.{IsPrintable, placed_name, stands_at, form_at, operand_prints}
-use Rattle.ll_print.proofs.Trees.{inst_tree, inst_trees}
+use Rattle.ll_print.proofs.NameLaws.{alone_local, local_is, alone_short, type_is, type_says}
+use Rattle.ll_print.proofs.OperandLaws.{IsPrintable, PrintsBlock, scope_of, operand_prints}
 
--- the line of an instruction is cut into the tokens of its tree, and each is of its kind
-pub record Written (f : Function) (p : Placed) (i : Instruction) : Type 0 where
-  pub writes : Writes (placed_text f p) (inst (inst_tree f p i))
-  pub kinds : IsInst (inst_tree f p i)
+-- the tree of an instruction that ends no block
+pub record IsTree (f : Function) (p : Placed) (i : tree.Inst) : Type 0 where
+  pub writes : Writes (placed_text f p) (inst i)
+  pub kinds : IsInst i
+  pub says : inst_data is_bare widest (scope_of f) i ≡ Some (p.type, p.instruction)
+  pub width : ℕ
+  pub typed : p.type ≡ IntType width
+  pub result : result_width is_bare widest i ≡ Some width
+  pub name : written_name i ≡ Some (local_text f p.name (ResultOf p.number))
 
--- ---- words and types
+-- the tree of one that ends its block
+pub record IsEnd (f : Function) (p : Placed) (i : tree.Terminator) : Type 0 where
+  pub writes : Writes (placed_text f p) (terminator i)
+  pub kinds : IsTerminator i
+  pub says : IsTerminatorOf is_bare widest (scope_of f) i p
+
+-- ---- types
+
+pub record IsWidth (t : TypeTree) (w : ℕ) : Type 0 where
+  pub is : t ≡ IntType w
+  pub some : 1 ≤ w
+  pub most : w ≤ 64
+
+-- a short integer type has a width
+pub short_width : (t : TypeTree) → IsShortInt t → (w : ℕ) × IsWidth t w
+short_width VoidType short = absurd short
+short_width (FunctionType r ts v) short = absurd short
+short_width (IntType w) short = (w, record { is = refl; some = short.0; most = short.1 })
+
+-- an operand of a short type is one of its width
+pub at_width : (f : Function) (t : TypeTree) (w : ℕ) (o : Operand) → IsWidth t w → IsOperand f t o → IsOperand f (IntType w) o
+at_width f t w o h op = subst (λ (u : TypeTree). IsOperand f u o) h.is op
+
+pub writes_type : (t : TypeTree) (w : ℕ) → IsWidth t w → Writes (type_text t ++ codes " ") (type_text t ∷ [])
+writes_type t w h = writes_spaced (type_text t) (subst (λ (u : TypeTree). Alone 32 (type_text u)) (sym h.is) (alone_short 32 w stop_space h.most))
+
+pub kind_type : (t : TypeTree) (w : ℕ) → IsWidth t w → is_int_type (type_text t) ≡ true
+kind_type t w h = ap (λ (u : TypeTree). is_int_type (type_text u)) h.is ∙ type_is w h.most
+
+pub width_says : (t : TypeTree) (w : ℕ) → IsWidth t w → int_width is_bare widest (type_text t) ≡ Some w
+width_says t w h = ap (λ (u : TypeTree). int_width is_bare widest (type_text u)) h.is ∙ type_says w h.some h.most
+
+-- the type of an operand
+pub operand_width : (f : Function) (w : ℕ) (o : Operand) → IsOperand f (IntType w) o → IsWidth (operand_type f o) w
+operand_width f w o op = record { is = op.typed; some = op.short.0; most = op.short.1 }
+
+-- ---- words
 
 pub alone_void : (s : ℕ) → IsStop s → Alone s (codes "void")
 alone_void s stop = alone_word s 118 (codes "oid") stop refl refl refl refl refl
@@ -38,95 +82,251 @@ writes_nsw set = writes_flag (codes "nsw") set (alone_word 32 110 (codes "sw") s
 writes_add : Writes (codes "add ") (codes "add" ∷ [])
 writes_add = writes_spaced (codes "add") (alone_word 32 97 (codes "dd") stop_space refl refl refl refl refl)
 
-writes_type : (t : TypeTree) (w : ℕ) → t ≡ IntType w → w ≤ 64 → Writes (type_text t ++ codes " ") (type_text t ∷ [])
-writes_type t w same most = writes_spaced (type_text t) (subst (λ (u : TypeTree). Alone 32 (type_text u)) (sym same) (alone_short 32 w stop_space most))
+writes_icmp : Writes (codes "icmp ") (codes "icmp" ∷ [])
+writes_icmp = writes_spaced (codes "icmp") (alone_word 32 105 (codes "cmp") stop_space refl refl refl refl refl)
 
-kind_type : (t : TypeTree) (w : ℕ) → t ≡ IntType w → w ≤ 64 → is_int_type (type_text t) ≡ true
-kind_type t w same most = ap (λ (u : TypeTree). is_int_type (type_text u)) same ∙ type_is w most
+writes_br : Writes (codes "br ") (codes "br" ∷ [])
+writes_br = writes_spaced (codes "br") (alone_word 32 98 (codes "r") stop_space refl refl refl refl refl)
 
--- ---- lines by kind
+writes_label : Writes (codes "label ") (codes "label" ∷ [])
+writes_label = writes_spaced (codes "label") (alone_word 32 108 (codes "abel") stop_space refl refl refl refl refl)
 
-void_layout : (indent ret void line : List ℕ) → indent ++ (ret ++ (void ++ line)) ≡ ((indent ++ []) ++ (ret ++ void)) ++ line
-void_layout indent ret void line = ap (λ (t : List ℕ). t) (rw (append-nil indent) (simp append_assoc))
+alone_predicate : (p : LLVMIntPredicate) → Alone 32 (predicate_text p)
+alone_predicate P.LLVMIntEQ = alone_word 32 101 (codes "q") stop_space refl refl refl refl refl
+alone_predicate P.LLVMIntNE = alone_word 32 110 (codes "e") stop_space refl refl refl refl refl
+alone_predicate P.LLVMIntUGT = alone_word 32 117 (codes "gt") stop_space refl refl refl refl refl
+alone_predicate P.LLVMIntUGE = alone_word 32 117 (codes "ge") stop_space refl refl refl refl refl
+alone_predicate P.LLVMIntULT = alone_word 32 117 (codes "lt") stop_space refl refl refl refl refl
+alone_predicate P.LLVMIntULE = alone_word 32 117 (codes "le") stop_space refl refl refl refl refl
+alone_predicate P.LLVMIntSGT = alone_word 32 115 (codes "gt") stop_space refl refl refl refl refl
+alone_predicate P.LLVMIntSGE = alone_word 32 115 (codes "ge") stop_space refl refl refl refl refl
+alone_predicate P.LLVMIntSLT = alone_word 32 115 (codes "lt") stop_space refl refl refl refl refl
+alone_predicate P.LLVMIntSLE = alone_word 32 115 (codes "le") stop_space refl refl refl refl refl
 
-void_written : (f : Function) (p : Placed) → p.instruction ≡ Return None → p.type ≡ VoidType → Written f p (Return None)
-void_written f p returns void = record {
-  writes = same (void_layout (codes "  ") (codes "ret ") (codes "void") (codes "\n") ∙ line) refl
-      (joined writes_indent (joined (writes_spaced (codes "ret") alone_ret) (writes_line (codes "void") (alone_void 10 stop_line))));
-  kinds = tt;
-}
-  where
-    line : codes "  " ++ [] ++ codes "ret void" ++ codes "\n" ≡ placed_text f p
-    line = rw (void, returns) refl
+predicate_is : (p : LLVMIntPredicate) → is_predicate (predicate_text p) ≡ true
+predicate_is P.LLVMIntEQ = refl
+predicate_is P.LLVMIntNE = refl
+predicate_is P.LLVMIntUGT = refl
+predicate_is P.LLVMIntUGE = refl
+predicate_is P.LLVMIntULT = refl
+predicate_is P.LLVMIntULE = refl
+predicate_is P.LLVMIntSGT = refl
+predicate_is P.LLVMIntSGE = refl
+predicate_is P.LLVMIntSLT = refl
+predicate_is P.LLVMIntSLE = refl
 
-return_layout : (indent ret type space value line : List ℕ) → indent ++ (ret ++ ((type ++ space) ++ (value ++ line))) ≡ ((indent ++ []) ++ (ret ++ ((type ++ space) ++ value))) ++ line
-return_layout indent ret type space value line = rw (append-nil indent) (simp append_assoc)
+predicate_says : (p : LLVMIntPredicate) → predicate_of (predicate_text p) ≡ Some p
+predicate_says P.LLVMIntEQ = refl
+predicate_says P.LLVMIntNE = refl
+predicate_says P.LLVMIntUGT = refl
+predicate_says P.LLVMIntUGE = refl
+predicate_says P.LLVMIntULT = refl
+predicate_says P.LLVMIntULE = refl
+predicate_says P.LLVMIntSGT = refl
+predicate_says P.LLVMIntSGE = refl
+predicate_says P.LLVMIntSLT = refl
+predicate_says P.LLVMIntSLE = refl
 
-return_written : (f : Function) (h : IsPrintable f) (before rest : List Placed) (p : Placed) (o : Operand) (w : ℕ) → before ++ p ∷ rest ≡ h.form.block.instructions
-    → p.instruction ≡ Return (Some o) → p.type ≡ VoidType → IsOperand f before (IntType w) o → Written f p (Return (Some o))
-return_written f h before rest p o w is returns void op =
-    let value = operand_prints f h before (p ∷ rest) is w o op in
-    let type = type_text (operand_type f o) in
-    let line : codes "  " ++ [] ++ (codes "ret " ++ (type ++ codes " " ++ operand_text f o)) ++ codes "\n" ≡ placed_text f p = rw (void, returns) refl in
-    record {
-      writes = same (return_layout (codes "  ") (codes "ret ") type (codes " ") (operand_text f o) (codes "\n") ∙ line) refl
-          (joined writes_indent (joined (writes_spaced (codes "ret") alone_ret) (joined (writes_type (operand_type f o) w op.typed op.short.1) (writes_line (operand_text f o) (value.alone 10 stop_line)))));
-      kinds = (kind_type (operand_type f o) w op.typed op.short.1, value.operand);
-    }
+-- ---- lines
 
-add_layout : (indent local equals add nuw nsw type space lhs comma rhs line : List ℕ)
-    → indent ++ ((local ++ equals) ++ (add ++ (nuw ++ (nsw ++ ((type ++ space) ++ ((lhs ++ comma) ++ (rhs ++ line)))))))
-    ≡ ((indent ++ (local ++ equals)) ++ ((((add ++ nuw) ++ nsw) ++ ((type ++ space) ++ lhs)) ++ comma ++ rhs)) ++ line
-add_layout indent local equals add nuw nsw type space lhs comma rhs line = simp append_assoc
+result_layout : (indent local equals body line : List ℕ) → indent ++ ((local ++ equals) ++ (body ++ line)) ≡ ((indent ++ (local ++ equals)) ++ body) ++ line
+result_layout indent local equals body line = simp append_assoc
 
-add_tokens : (local add nuw nsw value rhs : List Text) → local ++ (add ++ (nuw ++ (nsw ++ (value ++ rhs)))) ≡ ((local ++ (add ++ nuw)) ++ nsw) ++ (value ++ rhs)
-add_tokens local add nuw nsw value rhs = simp append_assoc
+-- a line with a result
+pub result_line : (f : Function) (h : IsPrintable f) (p : Placed) (i : Instruction) (w : ℕ) (ts : List Text) → p.type ≡ IntType w → p.instruction ≡ i → IsPlainOrNone p.name
+    → Writes (instruction_text f (IntType w) i ++ codes "\n") ts → Writes (placed_text f p) (local_text f p.name (ResultOf p.number) ∷ codes "=" ∷ ts)
+result_line f h p i w ts typed is plain body =
+    let local = local_text f p.name (ResultOf p.number) in
+    let line : (codes "  " ++ (local ++ codes " = ") ++ instruction_text f (IntType w) i) ++ codes "\n" ≡ placed_text f p = rw (typed, is) refl in
+    same (result_layout (codes "  ") local (codes " = ") (instruction_text f (IntType w) i) (codes "\n") ∙ line) refl
+    (joined writes_indent (joined (writes_equals local (alone_local 32 f p.name (ResultOf p.number) stop_space h.few plain)) body))
 
-add_written : (f : Function) (h : IsPrintable f) (before rest : List Placed) (p : Placed) (lhs rhs : Operand) (flags : OverflowFlags) (w i : ℕ) → before ++ p ∷ rest ≡ h.form.block.instructions
-    → slice_get h.form.block.instructions i ≡ Some p → p.instruction ≡ Add lhs rhs flags → p.type ≡ IntType w → IsOperand f before (IntType w) lhs → IsOperand f before (IntType w) rhs → Written f p (Add lhs rhs flags)
-add_written f h before rest p lhs rhs flags w i is at adds typed l r =
-    let left = operand_prints f h before (p ∷ rest) is w lhs l in
-    let right = operand_prints f h before (p ∷ rest) is w rhs r in
+-- and one without
+void_line : (f : Function) (p : Placed) (i : Instruction) (ts : List Text) → p.type ≡ VoidType → p.instruction ≡ i → Writes (instruction_text f VoidType i ++ codes "\n") ts → Writes (placed_text f p) ts
+void_line f p i ts void is body =
+    let line : (codes "  " ++ instruction_text f VoidType i) ++ codes "\n" ≡ placed_text f p = rw (void, is) refl in
+    same (sym (append_assoc (codes "  ") (instruction_text f VoidType i) (codes "\n")) ∙ line) refl (joined writes_indent body)
+
+-- a terminator says itself, where its data are those
+ends : (f : Function) (p : Placed) (i : Instruction) (t : tree.Terminator) → p.instruction ≡ i → HasNoResult p → terminator_data is_bare widest (scope_of f) t ≡ Some i → IsTerminatorOf is_bare widest (scope_of f) t p
+ends f p i t is none says = record { instruction = says ∙ ap (λ (j : Instruction). Some j) (sym is); type = none.type; name = none.name }
+
+-- ---- two operands of a type
+
+-- the rest of a line that has them
+writes_both : (f : Function) (h : IsPrintable f) (w : ℕ) (lhs rhs : Operand) → IsOperand f (IntType w) lhs → IsOperand f (IntType w) rhs
+    → Writes ((type_text (operand_type f lhs) ++ codes " ") ++ ((operand_text f lhs ++ codes ", ") ++ (operand_text f rhs ++ codes "\n"))) (type_text (operand_type f lhs) ∷ operand_text f lhs ∷ codes "," ∷ operand_text f rhs ∷ [])
+writes_both f h w lhs rhs l r =
+    joined (writes_type (operand_type f lhs) w (operand_width f w lhs l))
+    (joined (writes_comma (operand_text f lhs) ((operand_prints f h w lhs l).alone 44 stop_comma)) (writes_line (operand_text f rhs) ((operand_prints f h w rhs r).alone 10 stop_line)))
+
+add_layout : (add nuw nsw type space lhs comma rhs line : List ℕ)
+    → add ++ (nuw ++ (nsw ++ ((type ++ space) ++ ((lhs ++ comma) ++ (rhs ++ line))))) ≡ (((((add ++ nuw) ++ nsw) ++ ((type ++ space) ++ lhs)) ++ comma) ++ rhs) ++ line
+add_layout add nuw nsw type space lhs comma rhs line = simp append_assoc
+
+add_says : (f : Function) (h : IsPrintable f) (p : Placed) (lhs rhs : Operand) (flags : OverflowFlags) (w : ℕ) → p.instruction ≡ Add lhs rhs flags → p.type ≡ IntType w → IsOperand f (IntType w) lhs → IsOperand f (IntType w) rhs
+    → inst_data is_bare widest (scope_of f) (tree.Add (Some (local_text f p.name (ResultOf p.number))) flags.nuw flags.nsw (type_text (operand_type f lhs)) (operand_text f lhs) (operand_text f rhs)) ≡ Some (p.type, p.instruction)
+unfolding inst_data
+add_says f h p lhs rhs flags w is typed l r =
+    let width = width_says (operand_type f lhs) w (operand_width f w lhs l) in
+    let left = (operand_prints f h w lhs l).says in
+    let right = (operand_prints f h w rhs r).says in
+    rw (width, left, right, is, typed) refl
+
+pub add_printed : (f : Function) → IsPrintable f → (p : Placed) (lhs rhs : Operand) (flags : OverflowFlags) → p.instruction ≡ Add lhs rhs flags → IsOperand f p.type lhs → IsOperand f p.type rhs → IsPlainOrNone p.name → (t : tree.Inst) × IsTree f p t
+add_printed f h p lhs rhs flags is lhs_form rhs_form plain =
+    let width = short_width p.type lhs_form.short in
+    let w = width.0 in
+    let l = at_width f p.type w lhs width.1 lhs_form in
+    let r = at_width f p.type w rhs width.1 rhs_form in
     let type = type_text (operand_type f lhs) in
     let local = local_text f p.name (ResultOf p.number) in
-    let nuw = flag_text (codes "nuw") flags.nuw in
-    let nsw = flag_text (codes "nsw") flags.nsw in
-    let line : codes "  " ++ (local ++ codes " = ") ++ (codes "add " ++ nuw ++ nsw ++ (type ++ codes " " ++ operand_text f lhs) ++ codes ", " ++ operand_text f rhs) ++ codes "\n" ≡ placed_text f p = rw (typed, adds) refl in
-    record {
-      writes = same (add_layout (codes "  ") local (codes " = ") (codes "add ") nuw nsw type (codes " ") (operand_text f lhs) (codes ", ") (operand_text f rhs) (codes "\n") ∙ line)
-          (add_tokens (local ∷ codes "=" ∷ []) (codes "add" ∷ []) (flag (codes "nuw") flags.nuw) (flag (codes "nsw") flags.nsw) (type ∷ []) (operand_text f lhs ∷ codes "," ∷ operand_text f rhs ∷ []))
-          (joined writes_indent (joined (writes_equals local (alone_local 32 f p.name (ResultOf p.number) stop_space h.few (placed_name f h.form i p at)))
-          (joined writes_add (joined (writes_nuw flags.nuw) (joined (writes_nsw flags.nsw) (joined (writes_type (operand_type f lhs) w l.typed l.short.1)
-          (joined (writes_comma (operand_text f lhs) (left.alone 44 stop_comma)) (writes_line (operand_text f rhs) (right.alone 10 stop_line)))))))));
-      kinds = (local_is f p.name (ResultOf p.number), kind_type (operand_type f lhs) w l.typed l.short.1, left.operand, right.operand);
-    }
+    let body = joined writes_add (joined (writes_nuw flags.nuw) (joined (writes_nsw flags.nsw) (writes_both f h w lhs rhs l r))) in
+    let layout = add_layout (codes "add ") (flag_text (codes "nuw") flags.nuw) (flag_text (codes "nsw") flags.nsw) type (codes " ") (operand_text f lhs) (codes ", ") (operand_text f rhs) (codes "\n") in
+    let tokens = append_assoc (flag (codes "nuw") flags.nuw) (flag (codes "nsw") flags.nsw) (type ∷ operand_text f lhs ∷ codes "," ∷ operand_text f rhs ∷ []) in (
+      tree.Add (Some local) flags.nuw flags.nsw type (operand_text f lhs) (operand_text f rhs),
+      record {
+        writes = same refl (ap (λ (ts : List Text). local ∷ codes "=" ∷ codes "add" ∷ ts) (sym tokens)) (result_line f h p (Add lhs rhs flags) w _ width.1.is is plain (same layout refl body));
+        kinds = (local_is f p.name (ResultOf p.number), kind_type (operand_type f lhs) w (operand_width f w lhs l), (operand_prints f h w lhs l).operand, (operand_prints f h w rhs r).operand);
+        says = add_says f h p lhs rhs flags w is width.1.is l r;
+        width = w;
+        typed = width.1.is;
+        result = width_says (operand_type f lhs) w (operand_width f w lhs l);
+        name = refl;
+      },
+    )
 
--- ---- any instruction
+-- ---- icmp
 
-add_short : (f : Function) (h : IsPrintable f) (before rest : List Placed) (p : Placed) (lhs rhs : Operand) (flags : OverflowFlags) (t : TypeTree) (i : ℕ) → before ++ p ∷ rest ≡ h.form.block.instructions
-    → slice_get h.form.block.instructions i ≡ Some p → p.instruction ≡ Add lhs rhs flags → p.type ≡ t → IsOperand f before t lhs → IsOperand f before t rhs → Written f p (Add lhs rhs flags)
-add_short f h before rest p lhs rhs flags VoidType i is at adds typed l r = absurd l.short
-add_short f h before rest p lhs rhs flags (FunctionType a b c) i is at adds typed l r = absurd l.short
-add_short f h before rest p lhs rhs flags (IntType w) i is at adds typed l r = add_written f h before rest p lhs rhs flags w i is at adds typed l r
+icmp_layout : (icmp predicate space type lhs comma rhs line : List ℕ)
+    → icmp ++ ((predicate ++ space) ++ ((type ++ space) ++ ((lhs ++ comma) ++ (rhs ++ line)))) ≡ (((((icmp ++ predicate) ++ space) ++ ((type ++ space) ++ lhs)) ++ comma) ++ rhs) ++ line
+icmp_layout icmp predicate space type lhs comma rhs line = simp append_assoc
 
-return_short : (f : Function) (h : IsPrintable f) (before rest : List Placed) (p : Placed) (o : Operand) (t : TypeTree) → before ++ p ∷ rest ≡ h.form.block.instructions
-    → p.instruction ≡ Return (Some o) → p.type ≡ VoidType → IsOperand f before t o → Written f p (Return (Some o))
-return_short f h before rest p o VoidType is returns void op = absurd op.short
-return_short f h before rest p o (FunctionType a b c) is returns void op = absurd op.short
-return_short f h before rest p o (IntType w) is returns void op = return_written f h before rest p o w is returns void op
+icmp_says : (f : Function) (h : IsPrintable f) (p : Placed) (lhs rhs : Operand) (predicate : LLVMIntPredicate) (w : ℕ) → p.instruction ≡ ICmp lhs rhs predicate → p.type ≡ IntType 1 → IsOperand f (IntType w) lhs → IsOperand f (IntType w) rhs
+    → inst_data is_bare widest (scope_of f) (tree.ICmp (Some (local_text f p.name (ResultOf p.number))) (predicate_text predicate) (type_text (operand_type f lhs)) (operand_text f lhs) (operand_text f rhs)) ≡ Some (p.type, p.instruction)
+unfolding inst_data
+icmp_says f h p lhs rhs predicate w is typed l r =
+    let width = width_says (operand_type f lhs) w (operand_width f w lhs l) in
+    let left = (operand_prints f h w lhs l).says in
+    let right = (operand_prints f h w rhs r).says in
+    let word = predicate_says predicate in
+    rw (width, left, right, word, is, typed) refl
 
-written : (f : Function) (h : IsPrintable f) (before rest : List Placed) (p : Placed) (k : ℕ) → before ++ p ∷ rest ≡ h.form.block.instructions → slice_get h.form.block.instructions k ≡ Some p
-    → (i : Instruction) → p.instruction ≡ i → IsFormInstruction f before p i → Written f p i
-written f h before rest p k is at (Add lhs rhs flags) same form = add_short f h before rest p lhs rhs flags p.type k is at same refl form.0 form.1
-written f h before rest p k is at (Return None) same form = void_written f p same form.1
-written f h before rest p k is at (Return (Some o)) same form = return_short f h before rest p o (result_of f.type) is same form.1 form.0
+pub icmp_printed : (f : Function) → IsPrintable f → (p : Placed) (lhs rhs : Operand) (predicate : LLVMIntPredicate) (type : TypeTree) → p.instruction ≡ ICmp lhs rhs predicate → p.type ≡ IntType 1 → IsOperand f type lhs → IsOperand f type rhs
+    → IsPlainOrNone p.name → (t : tree.Inst) × IsTree f p t
+icmp_printed f h p lhs rhs predicate ty is typed lhs_form rhs_form plain =
+    let width = short_width ty lhs_form.short in
+    let w = width.0 in
+    let l = at_width f ty w lhs width.1 lhs_form in
+    let r = at_width f ty w rhs width.1 rhs_form in
+    let type = type_text (operand_type f lhs) in
+    let local = local_text f p.name (ResultOf p.number) in
+    let body = joined writes_icmp (joined (writes_spaced (predicate_text predicate) (alone_predicate predicate)) (writes_both f h w lhs rhs l r)) in
+    let layout = icmp_layout (codes "icmp ") (predicate_text predicate) (codes " ") type (operand_text f lhs) (codes ", ") (operand_text f rhs) (codes "\n") in (
+      tree.ICmp (Some local) (predicate_text predicate) type (operand_text f lhs) (operand_text f rhs),
+      record {
+        writes = result_line f h p (ICmp lhs rhs predicate) 1 _ typed is plain (same layout refl body);
+        kinds = (local_is f p.name (ResultOf p.number), predicate_is predicate, kind_type (operand_type f lhs) w (operand_width f w lhs l), (operand_prints f h w lhs l).operand, (operand_prints f h w rhs r).operand);
+        says = icmp_says f h p lhs rhs predicate w is typed l r;
+        width = 1;
+        typed = typed;
+        result = refl;
+        name = refl;
+      },
+    )
 
--- ---- the lines of a block
+-- ---- terminators
 
-pub lines_written : (f : Function) (h : IsPrintable f) (before ps : List Placed) → before ++ ps ≡ h.form.block.instructions
-    → Writes (flat_map (placed_text f) ps) (flat_map inst (inst_trees f ps)) × AllByRecursion IsInst (inst_trees f ps)
-lines_written f h before [] is = (nothing, tt)
-lines_written f h before (p ∷ ps) is =
-    let one = written f h before ps p (length before) is (stands_at f h.form before p ps is) p.instruction refl (form_at f h.form before p ps is) in
-    let more = lines_written f h (before ++ p ∷ []) ps (append_assoc before (p ∷ []) ps ∙ is) in
-    (joined one.writes more.0, (one.kinds, more.1))
+pub return_void_printed : (f : Function) (p : Placed) → p.instruction ≡ Return None → HasNoResult p → (t : tree.Terminator) × IsEnd f p t
+unfolding terminator_data
+return_void_printed f p is none = (
+  tree.ReturnVoid,
+  record {
+    writes = void_line f p (Return None) _ none.type is (joined (writes_spaced (codes "ret") alone_ret) (writes_line (codes "void") (alone_void 10 stop_line)));
+    kinds = tt;
+    says = ends f p (Return None) tree.ReturnVoid is none refl;
+  },
+)
+
+return_says : (f : Function) (h : IsPrintable f) (o : Operand) (w : ℕ) → IsOperand f (IntType w) o → terminator_data is_bare widest (scope_of f) (tree.Return (type_text (operand_type f o)) (operand_text f o)) ≡ Some (Return (Some o))
+unfolding terminator_data
+return_says f h o w op =
+    let width = width_says (operand_type f o) w (operand_width f w o op) in
+    let value = (operand_prints f h w o op).says in
+    rw (width, value) refl
+
+return_layout : (ret type space value line : List ℕ) → ret ++ ((type ++ space) ++ (value ++ line)) ≡ (ret ++ ((type ++ space) ++ value)) ++ line
+return_layout ret type space value line = simp append_assoc
+
+pub return_printed : (f : Function) → IsPrintable f → (p : Placed) (o : Operand) (type : TypeTree) → p.instruction ≡ Return (Some o) → IsOperand f type o → HasNoResult p → (t : tree.Terminator) × IsEnd f p t
+return_printed f h p o ty is form none =
+    let width = short_width ty form.short in
+    let w = width.0 in
+    let op = at_width f ty w o width.1 form in
+    let type = type_text (operand_type f o) in
+    let value = operand_prints f h w o op in
+    let body = joined (writes_spaced (codes "ret") alone_ret) (joined (writes_type (operand_type f o) w (operand_width f w o op)) (writes_line (operand_text f o) (value.alone 10 stop_line))) in (
+      tree.Return type (operand_text f o),
+      record {
+        writes = void_line f p (Return (Some o)) _ none.type is (same (return_layout (codes "ret ") type (codes " ") (operand_text f o) (codes "\n")) refl body);
+        kinds = (kind_type (operand_type f o) w (operand_width f w o op), value.operand);
+        says = ends f p (Return (Some o)) (tree.Return type (operand_text f o)) is none (return_says f h o w op);
+      },
+    )
+
+pub unreachable_printed : (f : Function) (p : Placed) → p.instruction ≡ Unreachable → HasNoResult p → (t : tree.Terminator) × IsEnd f p t
+unfolding terminator_data
+unreachable_printed f p is none = (
+  tree.Unreachable,
+  record {
+    writes = void_line f p Unreachable _ none.type is (writes_line (codes "unreachable") (alone_word 10 117 (codes "nreachable") stop_line refl refl refl refl refl));
+    kinds = tt;
+    says = ends f p Unreachable tree.Unreachable is none refl;
+  },
+)
+
+br_says : (f : Function) (n : ℕ) → PrintsBlock f n → terminator_data is_bare widest (scope_of f) (tree.Br (block_ref f n)) ≡ Some (Br n)
+unfolding terminator_data
+br_says f n block = let says = block.says in rw says refl
+
+br_layout : (br label target line : List ℕ) → br ++ (label ++ (target ++ line)) ≡ ((br ++ label) ++ target) ++ line
+br_layout br label target line = simp append_assoc
+
+pub br_printed : (f : Function) (p : Placed) (n : ℕ) → p.instruction ≡ Br n → PrintsBlock f n → HasNoResult p → (t : tree.Terminator) × IsEnd f p t
+br_printed f p n is block none = (
+  tree.Br (block_ref f n),
+  record {
+    writes = void_line f p (Br n) _ none.type is (same (br_layout (codes "br ") (codes "label ") (block_ref f n) (codes "\n")) refl (joined writes_br (joined writes_label (writes_line (block_ref f n) (block.alone 10 stop_line)))));
+    kinds = block.local;
+    says = ends f p (Br n) (tree.Br (block_ref f n)) is none (br_says f n block);
+  },
+)
+
+cond_br_says : (f : Function) (h : IsPrintable f) (c : Operand) (a b : ℕ) → IsOperand f (IntType 1) c → PrintsBlock f a → PrintsBlock f b
+    → terminator_data is_bare widest (scope_of f) (tree.CondBr (type_text (operand_type f c)) (operand_text f c) (block_ref f a) (block_ref f b)) ≡ Some (CondBr c a b)
+unfolding terminator_data
+cond_br_says f h c a b op first second =
+    let width = width_says (operand_type f c) 1 (operand_width f 1 c op) in
+    let value = (operand_prints f h 1 c op).says in
+    let one = first.says in
+    let two = second.says in
+    rw (width, value, one, two) refl
+
+cond_br_layout : (br type space c comma label first second line : List ℕ)
+    → br ++ ((type ++ space) ++ ((c ++ comma) ++ (label ++ ((first ++ comma) ++ (label ++ (second ++ line)))))) ≡ (((((br ++ ((type ++ space) ++ c)) ++ (comma ++ label)) ++ first) ++ (comma ++ label)) ++ second) ++ line
+cond_br_layout br type space c comma label first second line = simp append_assoc
+
+pub cond_br_printed : (f : Function) → IsPrintable f → (p : Placed) (c : Operand) (a b : ℕ) → p.instruction ≡ CondBr c a b → IsOperand f (IntType 1) c → PrintsBlock f a → PrintsBlock f b → HasNoResult p → (t : tree.Terminator) × IsEnd f p t
+cond_br_printed f h p c a b is op first second none =
+    let type = type_text (operand_type f c) in
+    let value = operand_prints f h 1 c op in
+    let targets = joined writes_label (joined (writes_comma (block_ref f a) (first.alone 44 stop_comma)) (joined writes_label (writes_line (block_ref f b) (second.alone 10 stop_line)))) in
+    let body = joined writes_br (joined (writes_type (operand_type f c) 1 (operand_width f 1 c op)) (joined (writes_comma (operand_text f c) (value.alone 44 stop_comma)) targets)) in
+    let layout = cond_br_layout (codes "br ") type (codes " ") (operand_text f c) (codes ", ") (codes "label ") (block_ref f a) (block_ref f b) (codes "\n") in (
+      tree.CondBr type (operand_text f c) (block_ref f a) (block_ref f b),
+      record {
+        writes = void_line f p (CondBr c a b) _ none.type is (same layout refl body);
+        kinds = (kind_type (operand_type f c) 1 (operand_width f 1 c op), value.operand, first.local, second.local);
+        says = ends f p (CondBr c a b) (tree.CondBr type (operand_text f c) (block_ref f a) (block_ref f b)) is none (cond_br_says f h c a b op first second);
+      },
+    )

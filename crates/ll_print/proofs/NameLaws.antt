@@ -8,33 +8,21 @@ use Rattle.std.proofs.lemmas.Bool.Decides.{nat_tests}
 use Rattle.std.proofs.lemmas.List.{take_at, drop_at}
 use Rattle.llvm_core.specs.Names.{is_digit, is_letter, is_plain_byte, is_plain, IsPlainOrNone}
 use Rattle.llvm_core.specs.Data.{IntType, Function}
-use Rattle.ll_text.specs.Text.{Text, is_name_byte, is_bare, global, label, quoted, number_of, number_limit}
+use Rattle.ll_text.specs.Text.{Text, is_bare, global, label, quoted, number_of, number_limit}
 use Rattle.ll_text.specs.Tree.{is_local, is_label, is_string, is_digits, is_int_type}
 use Rattle.ll_text.specs.Spelling.{widest}
 use Rattle.ll_text.specs.Meaning.{Key, Named, Numbered, legal_width, int_width, key_of, local_key, label_key, global_name, string_name}
 use Rattle.ll_text.proofs.CuttingLaws.{Alone}
+use Rattle.ll_text.proofs.MeaningLaws.{plain_bare}
 use Rattle.ll_print.specs.Printing.{Unnamed, type_text, unnamed_number, unnamed_in, local_text}
-use Rattle.ll_print.proofs.AloneLaws.{IsStop, alone_type, alone_named, alone_numbered, weaker}
+use Rattle.ll_print.proofs.AloneLaws.{IsStop, alone_type, alone_named, alone_numbered, alone_label, alone_number_label}
 use Rattle.ll_print.proofs.DecimalLaws.{IsDecimal, IsDecimal-decimal, width_of-decimal}
-use Rattle.ll_print.proofs.ScopeLaws.{position_le}
+use Rattle.ll_print.proofs.PositionLaws.{position_le}
 
 -- ---- plain names
 
 letter_digit : (b : ℕ) → is_letter b ≡ true → is_digit b ≡ false
 letter_digit b h = grind (arith, nat_tests)
-
-letter_name : (b : ℕ) → is_letter b ≡ true → is_name_byte b ≡ true
-letter_name b h = rw h refl
-
-plain_byte : (b : ℕ) → is_plain_byte b ≡ true → is_name_byte b ≡ true
-plain_byte b h = grind (arith, nat_tests)
-
--- plain names are bare
-pub plain_bare : (t : Text) → is_plain t ≡ true → is_bare t ≡ true
-plain_bare [] h = cc
-plain_bare (b ∷ bs) h =
-    let parts = and_parts (is_letter b) (list_all is_plain_byte bs) h in
-    rw (letter_name b parts.0, letter_digit b parts.0, weaker is_plain_byte is_name_byte bs plain_byte parts.1) refl
 
 not_empty : (b : ℕ) (bs : Text) → (length (b ∷ bs) == 0) ≡ false
 not_empty b bs = ne_eqb (length (b ∷ bs)) 0 (λ e. omega (arith, e))
@@ -90,18 +78,31 @@ label_front n = let e : length (label n) - 1 ≡ length n = omega (arith, length
 label_end : (n : Text) → drop (length (label n) - 1) (label n) ≡ codes ":"
 label_end n = let e : length (label n) - 1 ≡ length n = omega (arith, length-append n (58 ∷ [])) in rw e (drop_at n (58 ∷ []) (length n) refl)
 
-pub label_says : (b : ℕ) (bs : Text) → is_plain (b ∷ bs) ≡ true → label_key is_bare widest (label (b ∷ bs)) ≡ Some (Named (b ∷ bs))
-label_says b bs h = ap (key_of is_bare widest) (label_front (b ∷ bs)) ∙ key_of_plain b bs h
+-- the bare name or the number of a thing
+abbrev pub bare_of : Function → Text → Unnamed → Text
+bare_of f n x = drop 1 (local_text f n x)
+
+pub label_says : (f : Function) (n : Text) (x : Unnamed) → length (unnamed_in f) ≤ number_limit → IsPlainOrNone n → label_key is_bare widest (label (bare_of f n x)) ≡ Some (key_in f n x)
+label_says f n x few plain = ap (key_of is_bare widest) (label_front (bare_of f n x)) ∙ local_says f n x few plain
+
+pub alone_line : (f : Function) (n : Text) (x : Unnamed) → length (unnamed_in f) ≤ number_limit → IsPlainOrNone n → Alone 10 (label (bare_of f n x))
+alone_line f [] x few h = let d = number_text f x few in rw d.text (alone_number_label d.first d.others d.digit d.digits)
+alone_line f (b ∷ bs) x few h = alone_label (b ∷ bs) (plain_bare (b ∷ bs) h)
 
 no_sigil : (b : ℕ) → is_letter b ≡ true → nat_eq b 37 ≡ false
 no_sigil b h = grind (arith, nat_tests)
 
-pub label_is : (b : ℕ) (bs : Text) → is_plain (b ∷ bs) ≡ true → is_label (label (b ∷ bs)) ≡ true
-label_is b bs h =
-    let parts = and_parts (is_letter b) (list_all is_plain_byte bs) h in
-    let local : is_local (label (b ∷ bs)) ≡ false = no_sigil b parts.0 in
+digit_sigil : (b : ℕ) → is_digit b ≡ true → nat_eq b 37 ≡ false
+digit_sigil b h = grind (arith, nat_tests)
+
+label_by : (b : ℕ) (bs : Text) → nat_eq b 37 ≡ false → is_label (label (b ∷ bs)) ≡ true
+label_by b bs local =
     let colon : bytes_eq (drop (length (label (b ∷ bs)) - 1) (label (b ∷ bs))) (codes ":") ≡ true = ap (λ (t : Text). bytes_eq t (codes ":")) (label_end (b ∷ bs)) in
     and_from (not (is_local (label (b ∷ bs)))) _ (ap not local) colon
+
+pub label_is : (f : Function) (n : Text) (x : Unnamed) → length (unnamed_in f) ≤ number_limit → IsPlainOrNone n → is_label (label (bare_of f n x)) ≡ true
+label_is f [] x few h = let d = number_text f x few in rw d.text (label_by d.first d.others (digit_sigil d.first d.digit))
+label_is f (b ∷ bs) x few h = label_by b bs (no_sigil b (and_parts (is_letter b) (list_all is_plain_byte bs) h).0)
 
 pub global_says : (n : Text) → is_plain n ≡ true → global_name is_bare widest (global n) ≡ Some n
 global_says n h = rw (plain_bare n h) refl

@@ -2,15 +2,13 @@
 use Rattle.std.proofs.Common.{◌≡◌, ℕ, ◌+◌, ◌<◌, ◌≤◌, Bool, true, false, nat_eq, nat_lt, ◌==◌, if◌then◌else◌, cond, List, [], ◌∷◌, ◌++◌, length, length-append, Option, Some, None, refl, ap, sym, ◌∙◌, subst, eq-eqb, ne_eqb, eqb-true, lt-ltb, append_assoc, arith}
 use Rattle.std.proofs.lemmas.Bool.Decides.{nat_tests}
 use Rattle.std.proofs.lemmas.List.{append-nil}
-use Rattle.llvm_core.specs.declared.numbers.LLVMFunction.{LLVMFunction}
-use Rattle.llvm_core.specs.declared.numbers.LLVMInstRef.{LLVMInstRef}
-use Rattle.llvm_core.specs.declared.code.LLVMValue.{LLVMValue}
-use Rattle.llvm_core.specs.declared.code.LLVMValue.TheVariants as V
 use Rattle.ll_text.specs.Text.{Text}
 use Rattle.ll_print.specs.declared.numbers.Numbers.{Numbers}
-use Rattle.ll_print.specs.Printing.{Unnamed, ParamAt, ResultOf, same_unnamed, if_unnamed}
-use Rattle.ll_print.specs.Numbering.{same_value, noted_at, or_else, or_number, place_in, IsNumbering, Counts}
-use Rattle.ll_print.proofs.ScopeLaws.{position, position_le, position_front, position_behind, position_cons, position_here}
+use Rattle.ll_print.specs.declared.places.Place.{Place}
+use Rattle.ll_print.specs.declared.places.Place.TheVariants as P
+use Rattle.ll_print.specs.Printing.{Unnamed, same_unnamed, if_unnamed}
+use Rattle.ll_print.specs.Numbering.{thing_of, same_place, noted_at, or_else, or_number, place_in, IsNumbering, Counts}
+use Rattle.ll_print.proofs.PositionLaws.{position, position_le, position_front, position_behind, position_cons, position_here}
 
 -- ---- places
 
@@ -48,10 +46,6 @@ place_more xs y x = by (nat_lt (position x xs) (length xs)) refl
         place_there (xs ++ y ∷ []) x (omega (arith, at, size, h)) ∙ ap (λ (k : ℕ). Some k) at
     by false e = let h : length xs ≤ position x xs = grind (arith, nat_tests) in new (omega (arith, h, position_le x xs)) (same_unnamed x y) refl
 
-or_none : (o : Option ℕ) → or_else o None ≡ o
-or_none None = refl
-or_none (Some k) = refl
-
 eq_sym : (i j : ℕ) → nat_eq i j ≡ nat_eq j i
 eq_sym i j = by (nat_eq i j) refl
   where
@@ -61,42 +55,34 @@ eq_sym i j = by (nat_eq i j) refl
 
 -- ---- steps
 
--- the key of a value was given the number
-abbrev pub Notes : Numbers → Numbers → LLVMValue → Type 0
-Notes old new value = (q : LLVMValue) → noted_at new q ≡ or_else (noted_at old q) (if same_value value q then Some old.count else None)
+-- the key of a thing was given the number
+abbrev pub Notes : Numbers → Numbers → Place → Type 0
+Notes old new p = (q : Place) → noted_at new q ≡ or_else (noted_at old q) (if same_place p q then Some old.count else None)
 
-pub counts_param : (old new : Numbers) (place : ℕ) → new.function ≡ old.function → new.count ≡ old.count + 1 → Notes old new (V.Param old.function place) → Counts old new (ParamAt place ∷ [])
-counts_param old new place same count notes = record {
+-- keys are equal where the things are
+same_key : (p q : Place) → same_place p q ≡ same_unnamed (thing_of q) (thing_of p)
+same_key (P.Param i) (P.Param j) = eq_sym i j
+same_key (P.Block b) (P.Block c) = eq_sym b.0 c.0
+same_key (P.Result i) (P.Result j) = eq_sym i.0 j.0
+same_key (P.Param i) (P.Block c) = refl
+same_key (P.Param i) (P.Result j) = refl
+same_key (P.Block b) (P.Param j) = refl
+same_key (P.Block b) (P.Result j) = refl
+same_key (P.Result i) (P.Param j) = refl
+same_key (P.Result i) (P.Block c) = refl
+
+pub counts_one : (old new : Numbers) (p : Place) → new.function ≡ old.function → new.count ≡ old.count + 1 → Notes old new p → Counts old new (thing_of p ∷ [])
+counts_one old new p same count notes = record {
   function = same;
   more = λ xs h. record {
-    count = omega (arith, count, h.count, length-append xs (ParamAt place ∷ []));
-    params = λ i.
-        ap (λ (f : LLVMFunction). noted_at new (V.Param f i)) same ∙ notes (V.Param old.function i)
-        ∙ ap (λ (b : Bool). or_else (noted_at old (V.Param old.function i)) (if b then Some old.count else None)) (key i)
-        ∙ ap (λ (o : Option ℕ). or_else o (if nat_eq i place then Some old.count else None)) (h.params i)
-        ∙ ap (λ (n : ℕ). or_else (place_in xs (ParamAt i)) (if nat_eq i place then Some n else None)) h.count
-        ∙ sym (place_more xs (ParamAt place) (ParamAt i));
-    results = λ i. notes (V.Inst i) ∙ or_none (noted_at old (V.Inst i)) ∙ h.results i ∙ sym (place_more xs (ParamAt place) (ResultOf i.0) ∙ or_none (place_in xs (ResultOf i.0)));
-  };
-}
-  where
-    key : (i : ℕ) → same_value (V.Param old.function place) (V.Param old.function i) ≡ nat_eq i place
-    key i = rw (eq-eqb old.function.0 old.function.0 refl) (eq_sym place i)
-
-pub counts_result : (old new : Numbers) (i : LLVMInstRef) → new.function ≡ old.function → new.count ≡ old.count + 1 → Notes old new (V.Inst i) → Counts old new (ResultOf i.0 ∷ [])
-counts_result old new i same count notes = record {
-  function = same;
-  more = λ xs h. record {
-    count = omega (arith, count, h.count, length-append xs (ResultOf i.0 ∷ []));
-    params = λ p.
-        ap (λ (f : LLVMFunction). noted_at new (V.Param f p)) same ∙ notes (V.Param old.function p) ∙ or_none (noted_at old (V.Param old.function p)) ∙ h.params p
-        ∙ sym (place_more xs (ResultOf i.0) (ParamAt p) ∙ or_none (place_in xs (ParamAt p)));
-    results = λ j.
-        notes (V.Inst j)
-        ∙ ap (λ (b : Bool). or_else (noted_at old (V.Inst j)) (if b then Some old.count else None)) (eq_sym i.0 j.0)
-        ∙ ap (λ (o : Option ℕ). or_else o (if nat_eq j.0 i.0 then Some old.count else None)) (h.results j)
-        ∙ ap (λ (n : ℕ). or_else (place_in xs (ResultOf j.0)) (if nat_eq j.0 i.0 then Some n else None)) h.count
-        ∙ sym (place_more xs (ResultOf i.0) (ResultOf j.0));
+    count = omega (arith, count, h.count, length-append xs (thing_of p ∷ []));
+    numbers = λ q.
+        let is = same_unnamed (thing_of q) (thing_of p) in
+        notes q
+        ∙ ap (λ (b : Bool). or_else (noted_at old q) (if b then Some old.count else None)) (same_key p q)
+        ∙ ap (λ (o : Option ℕ). or_else o (if is then Some old.count else None)) (h.numbers q)
+        ∙ ap (λ (n : ℕ). or_else (place_in xs (thing_of q)) (if is then Some n else None)) h.count
+        ∙ sym (place_more xs (thing_of p) (thing_of q));
   };
 }
 

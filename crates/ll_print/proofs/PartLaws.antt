@@ -1,9 +1,10 @@
 -- From what readers of a module answer to its data.
-use Rattle.std.proofs.Common.{◌≡◌, ℕ, zero, suc, ◌+◌, ◌<◌, Bool, List, [], ◌∷◌, ◌++◌, length, take, get_or, slice_get, Option, Some, None, All, refl, ap, sym, ◌∙◌, subst, arith}
+use Rattle.std.proofs.Common.{◌≡◌, ℕ, zero, suc, ◌+◌, ◌<◌, Bool, codes, List, [], ◌∷◌, ◌++◌, length, take, drop, get_or, slice_get, Option, Some, None, All, refl, ap, sym, ◌∙◌, arith}
 use Rattle.std.specs.List.{flat_map, filter_map, cons_option}
 use Rattle.std.specs.Option.{option_map, option_map_or}
 use Rattle.std.proofs.lemmas.List.{append-nil, take_more}
 use Rattle.std.proofs.lemmas.Option.{slice_get-get_or, slice_get_within}
+use Rattle.std.proofs.lemmas.List.Elements.{All-head}
 use Rattle.std.proofs.lemmas.Grind.{flat_map-append}
 use Rattle.llvm_core.specs.declared.numbers.LLVMType.{LLVMType}
 use Rattle.llvm_core.specs.declared.numbers.LLVMFunction.{LLVMFunction}
@@ -20,35 +21,24 @@ use Rattle.llvm_core.specs.Sound.{IsModule}
 use Rattle.llvm_core.specs.Parts.{IsTypeOver, type_params}
 use Rattle.llvm_core.specs.Data.{TypeTree, FunctionType, Placed, Block, Function, type_at, types_at, trees_of, placed_of, placed_at, block_of, block_at, data_of, nth_type, param_type}
 use Rattle.llvm_core.specs.Form.{result_of}
-use Rattle.llvm_core.proofs.DataLemmas.{function_tree_of, function_at}
-use Rattle.ll_print.specs.Printing.{Unnamed, BlockOf, if_unnamed, unnamed_result, unnamed_block, label_text, placed_text, block_text, gives_text}
-use Rattle.ll_print.specs.Parts.{no_function, function_in, gives_of, line_of, lines_of, unnamed_at, unnamed_of}
+use Rattle.llvm_core.proofs.DataLemmas.{function_tree_of, function_at, there}
+use Rattle.llvm_core.proofs.ListLemmas.{some_same}
+use Rattle.ll_print.specs.Printing.{Unnamed, BlockOf, if_unnamed, unnamed_result, unnamed_block, block_ref, entry_label_text, placed_text, block_text, blocks_text, gives_text}
+use Rattle.ll_print.specs.Parts.{no_function, function_in, gives_of, line_of, entry_lines, entry_lines_of, lines_of, all_lines_of, unnamed_at, unnamed_of}
 
 -- ---- lists
-
-pub same_some : {X : Type 0} (x y : X) → Some x ≡ Some y → x ≡ y
-same_some x y h = cc
 
 -- the item that is read at a place
 pub read : {X Y : Type 0} (g : X → Y) (xs : List X) (i : ℕ) (d : X) (r : Y) → option_map g (slice_get xs i) ≡ Some r → g (get_or xs i d) ≡ r
 read g [] i d r h = absurd cc
-read g (x ∷ xs) zero d r h = same_some (g x) r h
+read g (x ∷ xs) zero d r h = some_same (g x) r h
 read g (x ∷ xs) (suc i) d r h = read g xs i d r h
 
 -- the item is there, and is what is read of it
 pub read_item : {X Y : Type 0} (g : X → Y) (xs : List X) (i : ℕ) (r : Y) → option_map g (slice_get xs i) ≡ Some r → (x : X) × (slice_get xs i ≡ Some x) × (g x ≡ r)
 read_item g [] i r h = absurd cc
-read_item g (x ∷ xs) zero r h = (x, refl, same_some (g x) r h)
+read_item g (x ∷ xs) zero r h = (x, refl, some_same (g x) r h)
 read_item g (x ∷ xs) (suc i) r h = read_item g xs i r h
-
-pub all_at : {X : Type 0} (P : X → Type 0) (xs : List X) (i : ℕ) (x : X) → All P xs → slice_get xs i ≡ Some x → P x
-all_at P xs i x h at = by (slice_get-get_or xs i x within)
-  where
-    within : i < length xs
-    within = slice_get_within xs i x at
-
-    by : slice_get xs i ≡ Some (get_or xs i x) → P x
-    by e = subst P (same_some (get_or xs i x) x (sym e ∙ at)) (h i x within)
 
 -- one more item of a list
 pub flat_map_more : {X Y : Type 0} (g : X → List Y) (xs : List X) (i : ℕ) (d : X) → i < length xs → flat_map g (take (i + 1) xs) ≡ flat_map g (take i xs) ++ g (get_or xs i d)
@@ -80,7 +70,7 @@ params_of m f = by m.functions f.0
 
 nth_at : (ts : List TypeTree) (params : List LLVMType) (i : ℕ) (t : LLVMType) → slice_get params i ≡ Some t → nth_type (types_at ts params) i ≡ type_at ts t
 nth_at ts [] i t at = absurd cc
-nth_at ts (u ∷ params) zero t at = ap (type_at ts) (same_some u t at)
+nth_at ts (u ∷ params) zero t at = ap (type_at ts) (some_same u t at)
 nth_at ts (u ∷ params) (suc i) t at = nth_at ts params i t at
 
 -- its type, by the kind that is kept of it
@@ -112,13 +102,51 @@ inst_there m i x at = ap (option_map (placed_of (trees_of m) i)) at
 -- the lines of a block by what is read of it
 pub lines_of-block : (m : Module) (f : Function) (b : LLVMBasicBlock) (name : List ℕ) (insts : List LLVMInstRef)
     → option_map (λ (x : BlockData). x.name) (slice_get m.blocks b.0) ≡ Some name → option_map (λ (x : BlockData). x.insts) (slice_get m.blocks b.0) ≡ Some insts
-    → lines_of m f b ≡ label_text name ++ flat_map (line_of m f) insts
+    → lines_of m f b ≡ codes "\n" ++ (drop 1 (block_ref f b.0) ++ codes ":\n") ++ flat_map (line_of m f) insts
 lines_of-block m f b name insts named held =
     let x = read_item (λ (x : BlockData). x.name) m.blocks b.0 name named in
-    let same : x.0.insts ≡ insts = same_some x.0.insts insts (ap (option_map (λ (x : BlockData). x.insts)) (sym x.1) ∙ held) in
+    let same : x.0.insts ≡ insts = some_same x.0.insts insts (ap (option_map (λ (x : BlockData). x.insts)) (sym x.1) ∙ held) in
     ap (λ (o : Option Block). option_map_or (block_text f) o []) (block_there m b x.0 x.1)
-    ∙ ap (λ (t : List ℕ). label_text x.0.name ++ t) (flat_map-filter_map (placed_at (trees_of m) m.insts) (placed_text f) x.0.insts)
+    ∙ ap (λ (t : List ℕ). codes "\n" ++ (drop 1 (block_ref f b.0) ++ codes ":\n") ++ t) (flat_map-filter_map (placed_at (trees_of m) m.insts) (placed_text f) x.0.insts)
+    ∙ rw same refl
+
+-- the label line of the first block of a function, by its number and its name
+abbrev pub entry_head : Function → ℕ → List ℕ → List ℕ
+entry_head f n [] = []
+entry_head f n (c ∷ cs) = drop 1 (block_ref f n) ++ codes ":\n"
+
+entry_head_is : (f : Function) (b : Block) (name : List ℕ) → entry_label_text f b name ≡ entry_head f b.number name
+entry_head_is f b [] = refl
+entry_head_is f b (c ∷ cs) = refl
+
+-- and those of the first block
+pub entry_lines_of-block : (m : Module) (f : Function) (b : LLVMBasicBlock) (name : List ℕ) (insts : List LLVMInstRef)
+    → option_map (λ (x : BlockData). x.name) (slice_get m.blocks b.0) ≡ Some name → option_map (λ (x : BlockData). x.insts) (slice_get m.blocks b.0) ≡ Some insts
+    → entry_lines_of m f b ≡ entry_head f b.0 name ++ flat_map (line_of m f) insts
+entry_lines_of-block m f b name insts named held =
+    let x = read_item (λ (x : BlockData). x.name) m.blocks b.0 name named in
+    let same : x.0.insts ≡ insts = some_same x.0.insts insts (ap (option_map (λ (x : BlockData). x.insts)) (sym x.1) ∙ held) in
+    let block = block_of (trees_of m) m.insts b x.0 in
+    ap (λ (o : Option Block). option_map_or (entry_lines f) o []) (block_there m b x.0 x.1)
+    ∙ ap (λ (t : List ℕ). t ++ flat_map (placed_text f) block.instructions) (entry_head_is f block x.0.name)
+    ∙ ap (λ (t : List ℕ). entry_head f b.0 x.0.name ++ t) (flat_map-filter_map (placed_at (trees_of m) m.insts) (placed_text f) x.0.insts)
     ∙ rw (x.2, same) refl
+
+-- the lines of blocks that are there
+pub all_lines : (m : Module) (f : Function) (bs : List LLVMBasicBlock) → All (λ (b : LLVMBasicBlock). b.0 < length m.blocks) bs → all_lines_of m f bs ≡ blocks_text f (filter_map (block_at (trees_of m) m.blocks m.insts) bs)
+all_lines m f [] within = refl
+all_lines m f (b ∷ bs) within = by (slice_get m.blocks b.0) refl (there m.blocks b.0 (All-head (λ (b : LLVMBasicBlock). b.0 < length m.blocks) b bs within))
+  where
+    rest : List Block
+    rest = filter_map (block_at (trees_of m) m.blocks m.insts) bs
+
+    by : (o : Option BlockData) → slice_get m.blocks b.0 ≡ o → (x : BlockData) × (slice_get m.blocks b.0 ≡ Some x)
+        → option_map_or (entry_lines f) (option_map (block_of (trees_of m) m.insts b) o) [] ++ flat_map (lines_of m f) bs ≡ blocks_text f (cons_option (option_map (block_of (trees_of m) m.insts b) o) rest)
+    by None e x = let g : None ≡ Some x.0 = sym e ∙ x.1 in absurd cc
+    by (Some x) e y =
+        let block = block_of (trees_of m) m.insts b x in
+        let later : flat_map (lines_of m f) bs ≡ flat_map (block_text f) rest = sym (flat_map-filter_map (block_at (trees_of m) m.blocks m.insts) (block_text f) bs) in
+        ap (λ (t : List ℕ). entry_lines f block ++ t) later
 
 -- and its unnamed things
 pub unnamed_of-block : (m : Module) (b : LLVMBasicBlock) (name : List ℕ) (insts : List LLVMInstRef)
@@ -126,7 +154,7 @@ pub unnamed_of-block : (m : Module) (b : LLVMBasicBlock) (name : List ℕ) (inst
     → unnamed_of m b ≡ if_unnamed name (BlockOf b.0) ++ flat_map (unnamed_at m) insts
 unnamed_of-block m b name insts named held =
     let x = read_item (λ (x : BlockData). x.name) m.blocks b.0 name named in
-    let same : x.0.insts ≡ insts = same_some x.0.insts insts (ap (option_map (λ (x : BlockData). x.insts)) (sym x.1) ∙ held) in
+    let same : x.0.insts ≡ insts = some_same x.0.insts insts (ap (option_map (λ (x : BlockData). x.insts)) (sym x.1) ∙ held) in
     ap (λ (o : Option Block). option_map_or unnamed_block o []) (block_there m b x.0 x.1)
     ∙ ap (λ (t : List Unnamed). if_unnamed x.0.name (BlockOf b.0) ++ t) (flat_map-filter_map (placed_at (trees_of m) m.insts) (λ (p : Placed). unnamed_result p.type p) x.0.insts)
     ∙ rw (x.2, same) refl
@@ -138,7 +166,7 @@ pub gives_of-inst : (m : Module) (f : Function) (i : LLVMInstRef) (ty : LLVMType
 gives_of-inst m f i ty name typed named =
     let x = read_item (λ (x : InstData). x.ty) m.insts i.0 ty typed in
     let p = placed_of (trees_of m) i x.0 in
-    let same : x.0.name ≡ name = same_some x.0.name name (ap (option_map (λ (x : InstData). x.name)) (sym x.1) ∙ named) in
+    let same : x.0.name ≡ name = some_same x.0.name name (ap (option_map (λ (x : InstData). x.name)) (sym x.1) ∙ named) in
     let type : p.type ≡ type_at (trees_of m).types ty = ap (type_at (trees_of m).types) x.2 in (
       p,
       refl,

@@ -1,15 +1,15 @@
 -- What is known in a scope after definitions in order: each thing, under its name or under its number.
-use Rattle.std.proofs.Common.{◌≡◌, ◌≢◌, ℕ, suc, ◌+◌, ◌<◌, ◌≤◌, ◌⊎◌, inl, inr, Bool, true, false, nat_le, nat_lt, List, [], ◌∷◌, ◌++◌, length, length-append, slice_get, Some, None, refl, ap, sym, ◌∙◌, subst, eq-eqb, ne_eqb, eqb-true, le-leb, lt-ltb, arith}
-use Rattle.std.specs.List.{flat_map, position_or_len}
+use Rattle.std.proofs.Common.{◌≡◌, ◌≢◌, ℕ, suc, ◌+◌, ◌<◌, ◌≤◌, ◌⊎◌, inl, inr, Bool, true, false, nat_le, nat_lt, List, [], ◌∷◌, ◌++◌, length, length-append, slice_get, Some, None, refl, ap, sym, ◌∙◌, subst, eq-eqb, ne_eqb, le-leb, lt-ltb, arith}
+use Rattle.std.specs.List.{flat_map}
 use Rattle.std.specs.Str.{bytes_eq}
 use Rattle.std.proofs.lemmas.Grind.{flat_map-append}
 use Rattle.std.proofs.lemmas.Slice.Eq.{bytes_eq-Decides}
 use Rattle.llvm_core.specs.Interned.{IsDistinctList}
 use Rattle.llvm_core.specs.Checked.{named}
-use Rattle.llvm_core.proofs.ListLemmas.{slice_get-kept}
 use Rattle.ll_text.specs.Text.{Text, number_limit}
 use Rattle.ll_text.specs.Meaning.{Key, Named, Numbered, Local, Scope, empty_scope, with_key, define}
-use Rattle.ll_print.specs.Printing.{Unnamed, ParamAt, BlockOf, ResultOf, same_unnamed, if_unnamed}
+use Rattle.ll_print.specs.Printing.{Unnamed, same_unnamed, if_unnamed}
+use Rattle.ll_print.proofs.PositionLaws.{position, position_cons, position_here, position_behind, same_self, same_is}
 
 -- a parameter, block or result, with its name
 pub record Thing : Type 0 where
@@ -22,9 +22,6 @@ unnamed ts = flat_map (λ (t : Thing). if_unnamed t.name t.place) ts
 abbrev pub names : List Thing → List Text
 names ts = flat_map (λ (t : Thing). named t.name) ts
 
-abbrev pub position : Unnamed → List Unnamed → ℕ
-position x xs = position_or_len (same_unnamed x) xs
-
 -- the thing is one of the list
 abbrev pub Has : Thing → List Thing → Type 0
 Has t [] = ⊥
@@ -36,60 +33,6 @@ key_among all [] x = Numbered (position x (unnamed all))
 key_among all (b ∷ bs) x = Named (b ∷ bs)
 
 -- ---- lists
-
-pub position_cons : (x y : Unnamed) (ys : List Unnamed) → same_unnamed x y ≡ false → position x (y ∷ ys) ≡ 1 + position x ys
-position_cons x y ys h = rw h (omega arith)
-
-pub position_here : (x y : Unnamed) (ys : List Unnamed) → same_unnamed x y ≡ true → position x (y ∷ ys) ≡ 0
-position_here x y ys h = rw h refl
-
-pub position_le : (x : Unnamed) (xs : List Unnamed) → position x xs ≤ length xs
-position_le x [] = omega arith
-position_le x (y ∷ xs) = by (position_le x xs) (same_unnamed x y) refl
-  where
-    by : position x xs ≤ length xs → (b : Bool) → same_unnamed x y ≡ b → position x (y ∷ xs) ≤ length (y ∷ xs)
-    by o true e = omega (arith, position_here x y xs e)
-    by o false e = omega (arith, position_cons x y xs e, o)
-
--- what stands in a front stands there in the whole
-pub position_front : (x : Unnamed) (xs ys : List Unnamed) → position x xs < length xs → position x (xs ++ ys) ≡ position x xs
-position_front x [] ys h = absurd (omega arith)
-position_front x (y ∷ xs) ys h = by (position_front x xs ys) (same_unnamed x y) refl
-  where
-    by : (position x xs < length xs → position x (xs ++ ys) ≡ position x xs) → (b : Bool) → same_unnamed x y ≡ b → position x (y ∷ (xs ++ ys)) ≡ position x (y ∷ xs)
-    by further true e = position_here x y (xs ++ ys) e ∙ sym (position_here x y xs e)
-    by further false e =
-        let c = position_cons x y xs e in
-        let o = further (omega (arith, c)) in
-        omega (arith, c, position_cons x y (xs ++ ys) e, o)
-
--- and what does not, stands behind it
-pub position_behind : (x : Unnamed) (xs ys : List Unnamed) → position x xs ≡ length xs → position x (xs ++ ys) ≡ length xs + position x ys
-position_behind x [] ys h = omega arith
-position_behind x (y ∷ xs) ys h = by (position_behind x xs ys) (same_unnamed x y) refl
-  where
-    by : (position x xs ≡ length xs → position x (xs ++ ys) ≡ length xs + position x ys) → (b : Bool) → same_unnamed x y ≡ b → position x (y ∷ (xs ++ ys)) ≡ suc (length xs) + position x ys
-    by further true e = absurd (omega (arith, position_here x y xs e))
-    by further false e =
-        let c = position_cons x y xs e in
-        let o = further (omega (arith, c)) in
-        omega (arith, position_cons x y (xs ++ ys) e, o)
-
-pub same_self : (x : Unnamed) → same_unnamed x x ≡ true
-same_self (ParamAt i) = eq-eqb i i refl
-same_self (BlockOf i) = eq-eqb i i refl
-same_self (ResultOf i) = eq-eqb i i refl
-
-pub same_is : (x y : Unnamed) → same_unnamed x y ≡ true → x ≡ y
-same_is (ParamAt i) (ParamAt j) h = ap ParamAt (eqb-true i j h)
-same_is (BlockOf i) (BlockOf j) h = ap BlockOf (eqb-true i j h)
-same_is (ResultOf i) (ResultOf j) h = ap ResultOf (eqb-true i j h)
-same_is (ParamAt i) (BlockOf j) h = absurd cc
-same_is (ParamAt i) (ResultOf j) h = absurd cc
-same_is (BlockOf i) (ParamAt j) h = absurd cc
-same_is (BlockOf i) (ResultOf j) h = absurd cc
-same_is (ResultOf i) (ParamAt j) h = absurd cc
-same_is (ResultOf i) (BlockOf j) h = absurd cc
 
 -- an unnamed thing of a list stands among its unnamed ones
 pub position_of : (t : Thing) (ts : List Thing) → Has t ts → t.name ≡ [] → position t.place (unnamed ts) < length (unnamed ts)
@@ -116,9 +59,6 @@ position_of t (u ∷ ts) h e = first (λ other. position_of t ts other e) u.name
 -- no item is the name
 abbrev pub Misses : Text → List Text → Type 0
 Misses n ns = (i : ℕ) → slice_get ns i ≢ Some n
-
-pub distinct_front : {X : Type 0} (xs ys : List X) → IsDistinctList (xs ++ ys) → IsDistinctList xs
-distinct_front xs ys h i j x a b = h i j x (slice_get-kept xs ys i x a) (slice_get-kept xs ys j x b)
 
 distinct_rest : {X : Type 0} (y : X) (xs : List X) → IsDistinctList (y ∷ xs) → IsDistinctList xs
 distinct_rest y xs h i j x a b = let e : suc i ≡ suc j = h (suc i) (suc j) x a b in omega arith
@@ -227,24 +167,17 @@ module _ (local : Unnamed → Local) where
       first further [] x is (inr other) e = further (after_one s [] x) other e
       first further (b ∷ bs) x is (inr other) e = further (after_one s (b ∷ bs) x) other (distinct_rest (b ∷ bs) (names ts) e)
 
-  -- each thing is known under the key that it has among all things
-  pub known_under : (done rest : List Thing) (t : Thing) → Has t done → IsDistinctList (names (done ++ rest))
-      → (after empty_scope done).known (key_among (done ++ rest) t.name t.place) ≡ Some (local t.place)
-  known_under done rest t h d = by t.name refl
+  -- each thing is known under its key
+  pub known_under : (ts : List Thing) (t : Thing) → Has t ts → IsDistinctList (names ts) → (after empty_scope ts).known (key_among ts t.name t.place) ≡ Some (local t.place)
+  known_under ts t h d = by t.name refl
     where
-      front : IsDistinctList (names done)
-      front = distinct_front (names done) (names rest) (subst (λ (ns : List Text). IsDistinctList ns) (flat_map-append (λ (u : Thing). named u.name) done rest) d)
-
-      by : (n : Text) → t.name ≡ n → (after empty_scope done).known (key_among (done ++ rest) n t.place) ≡ Some (local t.place)
+      by : (n : Text) → t.name ≡ n → (after empty_scope ts).known (key_among ts n t.place) ≡ Some (local t.place)
       by [] e =
-          let within = position_of t done h e in
-          let same : position t.place (unnamed (done ++ rest)) ≡ 0 + position t.place (unnamed done) =
-          ap (position t.place) (flat_map-append (λ (u : Thing). if_unnamed u.name u.place) done rest)
-          ∙ position_front t.place (unnamed done) (unnamed rest) within ∙ omega arith in
-          ap (λ (k : ℕ). (after empty_scope done).known (Numbered k)) same ∙ number_known empty_scope done t.place within
+          let zero_more : 0 + position t.place (unnamed ts) ≡ position t.place (unnamed ts) = omega arith in
+          subst (λ (k : ℕ). (after empty_scope ts).known (Numbered k) ≡ Some (local t.place)) zero_more (number_known empty_scope ts t.place (position_of t ts h e))
       by (b ∷ bs) e =
           let some : t.name ≢ [] = λ f. let g : b ∷ bs ≡ [] = sym e ∙ f in absurd cc in
-          subst (λ (m : Text). (after empty_scope done).known (Named m) ≡ Some (local t.place)) e (name_known empty_scope done t h some front)
+          subst (λ (m : Text). (after empty_scope ts).known (Named m) ≡ Some (local t.place)) e (name_known empty_scope ts t h some d)
 
   -- ---- the next definition
 

@@ -1,102 +1,93 @@
 -- What is printed of a module of the form is cut into tokens that spell it.
-use Rattle.std.proofs.Common.{◌≡◌, ◌≢◌, ℕ, ◌^◌, ◌<◌, ◌≤◌, codes, List, [], ◌∷◌, ◌++◌, length, map, Some, All, append_assoc, refl, ap, sym, ◌∙◌, subst, arith}
+use Rattle.std.proofs.Common.{◌≡◌, ◌≢◌, ℕ, suc, codes, List, [], ◌∷◌, ◌++◌, slice_get, Some, All, append_assoc, refl, ap, sym, ◌∙◌, subst, arith}
 use Rattle.std.specs.List.{flat_map, AllByRecursion}
 use Rattle.std.proofs.lemmas.List.{append-nil}
-use Rattle.std.proofs.lemmas.List.Elements.{All-head, All-tail}
+use Rattle.std.proofs.lemmas.List.Elements.{All-tail}
 use Rattle.llvm_core.specs.Interned.{IsDistinctList}
-use Rattle.llvm_core.specs.Names.{IsPlainOrNone}
 use Rattle.llvm_core.specs.Data.{Block, Function, ModuleData}
-use Rattle.llvm_core.specs.Form.{IsFormFunction, IsForm, HasDistinctNames, IsFewIn, HasFew, IsShortResult, result_of, local_names}
-use Rattle.ll_text.specs.Text.{Text, is_bare, global, label, quoted, number_limit}
+use Rattle.llvm_core.specs.Form.{IsFormFunction, IsForm, HasDistinctNames, IsShortResult, result_of, local_names}
+use Rattle.ll_text.specs.Text.{Text, is_bare, global, quoted}
 use Rattle.ll_text.specs.Tokens.{tokens_from, tokens_of}
-use Rattle.ll_text.specs.Tree.{IfPresent, is_label, is_string, IsFunction, file, source, optional, params, result_type, inst, function}
+use Rattle.ll_text.specs.Tree as tree
+use Rattle.ll_text.specs.Tree.{IfPresent, is_string, IsFunction, file, source, params, result_type, block, function}
 use Rattle.ll_text.specs.Spelling.{widest, Spells}
 use Rattle.ll_text.specs.Meaning.{IsFunctionOf, AreFunctions, IsSource}
 use Rattle.ll_text.proofs.CuttingLaws.{Cut, Writes, nothing, joined, same, writes_end, writes_spaced, writes_line, writes_tail, alone_define, alone_source, alone_equals}
-use Rattle.ll_print.specs.Printing.{Unnamed, type_text, params_text, placed_text, label_text, block_text, function_text, source_text, module_text, IsBareOrNone, EndsLine}
-use Rattle.ll_print.proofs.AloneLaws.{alone_label, alone_quoted}
+use Rattle.ll_print.specs.Printing.{type_text, params_text, block_text, blocks_text, function_text, source_text, module_text, IsBareOrNone, EndsLine}
+use Rattle.ll_print.specs.Parts.{entry_lines, IsNumberable, AreNumberable}
+use Rattle.ll_print.proofs.AloneLaws.{alone_quoted}
+use Rattle.ll_print.proofs.BlockLaws.{IsBlockTree, AreBlockTrees, entry_printed, laters_printed, blocks_write, blocks_kind}
 use Rattle.ll_print.proofs.HeadLaws.{params_fit, param_kinds, writes_head, writes_result, result_kind}
-use Rattle.ll_print.proofs.LineLaws.{lines_written}
-use Rattle.ll_print.proofs.NameLaws.{plain_bare, label_is, string_is, string_says}
+use Rattle.ll_print.proofs.NameLaws.{string_is, string_says}
 use Rattle.ll_print.proofs.OperandLaws.{IsPrintable}
 use Rattle.ll_print.proofs.SaysLaws.{function_says}
-use Rattle.ll_print.proofs.ThingLaws.{unnamed_of_things, few_things}
-use Rattle.ll_print.proofs.Trees.{param_trees, inst_trees, result_tree, label_tree, block_tree, function_tree, source_tree, file_tree}
+use Rattle.ll_print.proofs.Trees.{param_trees, result_tree, function_tree, source_tree}
 
 -- ---- functions
 
--- a function whose text is cut into the tokens of its tree, which says it
-record IsPrinted (f : Function) : Type 0 where
-  pub writes : Writes (function_text f) (function (function_tree f))
-  pub kinds : IsFunction (function_tree f)
-  pub says : IsFunctionOf is_bare widest (function_tree f) f
+-- a function whose text is cut into the tokens of a tree that says it
+record IsPrinted (f : Function) (t : tree.Function) : Type 0 where
+  pub writes : Writes (function_text f) (function t)
+  pub kinds : IsFunction t
+  pub says : IsFunctionOf is_bare widest t f
 
-label_writes : (n : Text) → IsPlainOrNone n → Writes (label_text n) (optional (label_tree n))
-label_writes [] h = nothing
-label_writes (b ∷ bs) h = writes_line (label (b ∷ bs)) (alone_label (b ∷ bs) (plain_bare (b ∷ bs) h))
+layout : (newline define space result name start more close entry laters end : List ℕ)
+    → newline ++ ((define ++ space) ++ ((result ++ space) ++ ((name ++ start ++ more ++ close) ++ (entry ++ (laters ++ end)))))
+    ≡ (newline ++ define ++ space) ++ result ++ space ++ name ++ start ++ more ++ close ++ (entry ++ laters) ++ end
+layout newline define space result name start more close entry laters end = simp append_assoc
 
-label_kind : (n : Text) → IsPlainOrNone n → IfPresent is_label (label_tree n)
-label_kind [] h = tt
-label_kind (b ∷ bs) h = label_is b bs h
+tokens : (define result name more close entry laters end : List Text)
+    → define ++ (result ++ ((name ++ (more ++ close)) ++ (entry ++ (laters ++ end))))
+    ≡ ((define ++ result) ++ (name ++ more)) ++ (close ++ entry) ++ laters ++ end
+tokens define result name more close entry laters end = simp append_assoc
 
-layout : (newline define space result name start more close labels lines end : List ℕ)
-    → newline ++ ((define ++ space) ++ ((result ++ space) ++ ((name ++ start ++ more ++ close) ++ (labels ++ (lines ++ end)))))
-    ≡ (newline ++ define ++ space) ++ result ++ space ++ name ++ start ++ more ++ close ++ ((labels ++ lines) ++ []) ++ end
-layout newline define space result name start more close labels lines end = rw (append-nil (labels ++ lines)) (simp append_assoc)
+-- the text of a function with those blocks
+abbrev text_with : Function → List Block → List ℕ
+text_with f bs = codes "\ndefine " ++ type_text (result_of f.type) ++ codes " " ++ global f.name ++ codes "(" ++ params_text f 0 f.params ++ codes ") {\n" ++ blocks_text f bs ++ codes "}\n"
 
-tokens : (define result name more close labels insts end : List Text)
-    → define ++ (result ++ ((name ++ (more ++ close)) ++ (labels ++ (insts ++ end))))
-    ≡ ((define ++ result) ++ (name ++ more)) ++ (close ++ labels) ++ insts ++ end
-tokens define result name more close labels insts end = simp append_assoc
-
-block_printed : (f : Function) (h : IsPrintable f) → Writes (codes "\ndefine " ++ type_text (result_of f.type) ++ codes " " ++ global f.name ++ codes "(" ++ params_text f 0 f.params ++ codes ") {\n" ++ flat_map (block_text f) (h.form.block ∷ []) ++ codes "}\n") (function (block_tree f (h.form.block ∷ [])))
-block_printed f h =
-    let b = h.form.block in
+function_writes : (f : Function) → IsPrintable f → (b : Block) (bs : List Block) (t : tree.Block) (ts : List tree.Block) → IsBlockTree f b (entry_lines f b) t → AreBlockTrees f ts bs → Writes (text_with f (b ∷ bs)) (function (function_tree f t ts))
+function_writes f h b bs t ts entry later =
     let result = result_of f.type in
     let short = subst IsShortResult (sym (ap result_of h.form.type)) h.form.returns in
-    same (layout (codes "\n") (codes "define") (codes " ") (type_text result) (global f.name) (codes "(") (params_text f 0 f.params) (codes ") {\n") (label_text b.name) (flat_map (placed_text f) b.instructions) (codes "}\n"))
-    (tokens (codes "define" ∷ []) (result_type (result_tree result)) (global f.name ∷ codes "(" ∷ []) (params (param_trees f 0 f.params)) (codes ")" ∷ codes "{" ∷ []) (optional (label_tree b.name)) (flat_map inst (inst_trees f b.instructions)) (codes "}" ∷ []))
-    (joined writes_end (joined (writes_spaced (codes "define") alone_define) (joined (writes_result result short) (joined (writes_head f h) (joined (label_writes b.name h.form.label)
-    (joined (lines_written f h [] b.instructions refl).0 writes_tail))))))
+    same (layout (codes "\n") (codes "define") (codes " ") (type_text result) (global f.name) (codes "(") (params_text f 0 f.params) (codes ") {\n") (entry_lines f b) (flat_map (block_text f) bs) (codes "}\n"))
+    (tokens (codes "define" ∷ []) (result_type (result_tree result)) (global f.name ∷ codes "(" ∷ []) (params (param_trees f 0 f.params)) (codes ")" ∷ codes "{" ∷ []) (block t) (flat_map block ts) (codes "}" ∷ []))
+    (joined writes_end (joined (writes_spaced (codes "define") alone_define) (joined (writes_result result short) (joined (writes_head f h) (joined entry.writes (joined (blocks_write f ts bs later) writes_tail))))))
 
-function_printed : (f : Function) → IsPrintable f → IsPrinted f
-function_printed f h =
-    let b = h.form.block in
-    let short = subst IsShortResult (sym (ap result_of h.form.type)) h.form.returns in
-    let kinds : IsFunction (block_tree f (b ∷ [])) = record {
-      result = result_kind (result_of f.type) short;
-      name = refl;
-      params = param_kinds f 0 f.params (params_fit f h);
-      label = label_kind b.name h.form.label;
-      insts = (lines_written f h [] b.instructions refl).1;
-    } in
-    let only = sym h.form.only in
-    record {
-      writes = subst (λ (bs : List Block). Writes (codes "\ndefine " ++ type_text (result_of f.type) ++ codes " " ++ global f.name ++ codes "(" ++ params_text f 0 f.params ++ codes ") {\n" ++ flat_map (block_text f) bs ++ codes "}\n") (function (block_tree f bs))) only (block_printed f h);
-      kinds = subst (λ (bs : List Block). IsFunction (block_tree f bs)) only kinds;
-      says = subst (λ (bs : List Block). IsFunctionOf is_bare widest (block_tree f bs) f) only (function_says f h);
-    }
-
-printable : (f : Function) → IsFormFunction f → IsDistinctList (local_names f) → IsFewIn f → IsPrintable f
-printable f form distinct few = record {
-  form = form;
-  few = subst (λ (xs : List Unnamed). length xs ≤ number_limit) (unnamed_of_things f form.block form.only)
-      (few_things f form.block few.params (All-head (λ (b : Block). length b.instructions < 2 ^ 31) form.block [] (subst (λ (bs : List Block). All (λ (b : Block). length b.instructions < 2 ^ 31) bs) form.only few.instructions)));
-  distinct = distinct;
+function_kind : (f : Function) → IsPrintable f → (b : Block) (bs : List Block) (t : tree.Block) (ts : List tree.Block) → IsBlockTree f b (entry_lines f b) t → AreBlockTrees f ts bs → IsFunction (function_tree f t ts)
+function_kind f h b bs t ts entry later = record {
+  result = result_kind (result_of f.type) (subst IsShortResult (sym (ap result_of h.form.type)) h.form.returns);
+  name = refl;
+  params = param_kinds f 0 f.params (params_fit f h);
+  entry = entry.kinds;
+  more = blocks_kind f ts bs later;
 }
 
--- functions in order
-record ArePrinted (fs : List Function) : Type 0 where
-  pub writes : Writes (flat_map function_text fs) (flat_map function (map function_tree fs))
-  pub kinds : AllByRecursion IsFunction (map function_tree fs)
-  pub says : AreFunctions is_bare widest (map function_tree fs) fs
+function_by : (f : Function) → IsPrintable f → (bs : List Block) → f.blocks ≡ bs → (t : tree.Function) × IsPrinted f t
+function_by f h [] none = absurd (h.form.body none)
+function_by f h (b ∷ bs) only =
+    let entry = entry_printed f h 0 b (ap (λ (cs : List Block). slice_get cs 0) only) in
+    let later = laters_printed f h bs (λ i c at. (suc i, ap (λ (cs : List Block). slice_get cs (suc i)) only ∙ at)) in (
+      function_tree f entry.0 later.0,
+      record {
+        writes = subst (λ (cs : List Block). Writes (text_with f cs) (function (function_tree f entry.0 later.0))) (sym only) (function_writes f h b bs entry.0 later.0 entry.1 later.1);
+        kinds = function_kind f h b bs entry.0 later.0 entry.1 later.1;
+        says = function_says f h b bs entry.0 later.0 only entry.1 later.1;
+      },
+    )
 
-functions_printed : (fs : List Function) → All IsFormFunction fs → All (λ (f : Function). IsDistinctList (local_names f)) fs → All IsFewIn fs → ArePrinted fs
-functions_printed [] form distinct few = record { writes = nothing; kinds = tt; says = tt }
+-- functions in order
+record ArePrinted (fs : List Function) (ts : List tree.Function) : Type 0 where
+  pub writes : Writes (flat_map function_text fs) (flat_map function ts)
+  pub kinds : AllByRecursion IsFunction ts
+  pub says : AreFunctions is_bare widest ts fs
+
+functions_printed : (fs : List Function) → All IsFormFunction fs → All (λ (f : Function). IsDistinctList (local_names f)) fs → All IsNumberable fs → (ts : List tree.Function) × ArePrinted fs ts
+functions_printed [] form distinct few = ([], record { writes = nothing; kinds = tt; says = tt })
 functions_printed (f ∷ fs) form distinct few =
-    let p = function_printed f (printable f (form 0 f (omega arith)) (distinct 0 f (omega arith)) (few 0 f (omega arith))) in
-    let o = functions_printed fs (All-tail IsFormFunction f fs form) (All-tail (λ (f : Function). IsDistinctList (local_names f)) f fs distinct) (All-tail IsFewIn f fs few) in
-    record { writes = joined p.writes o.writes; kinds = (p.kinds, o.kinds); says = (p.says, o.says) }
+    let h : IsPrintable f = record { form = form 0 f (omega arith); few = few 0 f (omega arith); distinct = distinct 0 f (omega arith) } in
+    let p = function_by f h f.blocks refl in
+    let o = functions_printed fs (All-tail IsFormFunction f fs form) (All-tail (λ (f : Function). IsDistinctList (local_names f)) f fs distinct) (All-tail IsNumberable f fs few) in
+    (p.0 ∷ o.0, record { writes = joined p.1.writes o.1.writes; kinds = (p.1.kinds, o.1.kinds); says = (p.1.says, o.1.says) })
 
 -- ---- modules
 
@@ -120,15 +111,15 @@ unfolding tokens_from
 empty_cut = refl
 
 -- what is printed is cut into tokens that spell the module
-pub module_spelled : (d : ModuleData) → IsForm d → IsBareOrNone d.name → HasDistinctNames d → HasFew d → Spells (module_text d) d
+pub module_spelled : (d : ModuleData) → IsForm d → IsBareOrNone d.name → HasDistinctNames d → AreNumberable d → Spells (module_text d) d
 module_spelled d form name distinct few =
     let s = source_printed d.name name in
-    let fs = functions_printed d.functions form distinct.locals few.each in
-    let t = file_tree d in
-    let cut : tokens_of (module_text d ++ []) ≡ Some (file t ++ []) = (joined s.writes fs.writes).before [] [] empty_cut in (
+    let fs = functions_printed d.functions form distinct.locals few in
+    let t : tree.File = record { source = source_tree d.name; functions = fs.0 } in
+    let cut : tokens_of (module_text d ++ []) ≡ Some (file t ++ []) = (joined s.writes fs.1.writes).before [] [] empty_cut in (
       file t,
       ap tokens_of (sym (append-nil (module_text d))) ∙ cut ∙ ap (λ (us : List Text). Some us) (append-nil (file t)),
-      record { none_skipped = refl; tree = t; written = refl; each = record { source = s.kind; functions = fs.kinds }; says = record { source = s.says; functions = fs.says } },
+      record { none_skipped = refl; tree = t; written = refl; each = record { source = s.kind; functions = fs.1.kinds }; says = record { source = s.says; functions = fs.1.says } },
     )
 
 -- ---- the end of the last line
@@ -141,7 +132,7 @@ brace_ends front = (front ++ codes "}", sym (append_assoc front (codes "}") (cod
 
 functions_end : (f : Function) (fs : List Function) → EndsLine (flat_map function_text (f ∷ fs))
 functions_end f [] = subst EndsLine (sym (append-nil (function_text f)))
-    (brace_ends (codes "\ndefine " ++ type_text (result_of f.type) ++ codes " " ++ global f.name ++ codes "(" ++ params_text f 0 f.params ++ codes ") {\n" ++ flat_map (block_text f) f.blocks))
+    (brace_ends (codes "\ndefine " ++ type_text (result_of f.type) ++ codes " " ++ global f.name ++ codes "(" ++ params_text f 0 f.params ++ codes ") {\n" ++ blocks_text f f.blocks))
 functions_end f (g ∷ fs) = more_ends (function_text f) (flat_map function_text (g ∷ fs)) (functions_end g fs)
 
 source_ends : (n : Text) → n ≢ [] → EndsLine (source_text n)

@@ -1,5 +1,5 @@
 -- What is printed of a part of a module is the text of that part's data.
-use Rattle.std.proofs.Common.{◌≡◌, ℕ, List, ◌++◌, slice_get, Some, ap, sym, ◌∙◌, subst, append_assoc}
+use Rattle.std.proofs.Common.{◌≡◌, ℕ, List, [], ◌++◌, slice_get, Some, ap, sym, ◌∙◌, subst, append_assoc}
 use Rattle.std.specs.Prelude.{OnOk, Result}
 use Rattle.std.specs.declared.alloc.AllocError.{AllocError}
 use Rattle.std.specs.Option.{option_map}
@@ -12,9 +12,9 @@ use Rattle.llvm_core.specs.declared.consts.LLVMConstKind.TheVariants as C
 use Rattle.llvm_core.specs.Module.{Module}
 use Rattle.llvm_core.specs.Sound.{IsModule}
 use Rattle.llvm_core.specs.Parts.{const_type as kind_type}
-use Rattle.llvm_core.specs.Data.{TypeTree, IntConst, type_at, type_tree, const_at, trees_of, const_type}
-use Rattle.llvm_core.proofs.DataLemmas.{type_tree_of, int_tree_of, int_const_of}
-use Rattle.ll_print.specs.Printing.{type_text, int_text, const_text}
+use Rattle.llvm_core.specs.Data.{TypeTree, type_at, type_tree, const_at, trees_of, const_type}
+use Rattle.llvm_core.proofs.DataLemmas.{type_tree_of, int_tree_of, int_const_of, placeholder_const_of}
+use Rattle.ll_print.specs.Printing.{type_text, int_text, int_of_type, const_text}
 use Rattle.ll_print.specs.Parts.{named_text}
 use Rattle.ll_print.proofs.PartLaws.{read_item}
 
@@ -26,22 +26,32 @@ put_is old new text same e f = rw f e
 pub put_two : (old mid new a b : List ℕ) → mid ≡ old ++ a → new ≡ mid ++ b → new ≡ old ++ (a ++ b)
 put_two old mid new a b e f = rw (f, e) (append_assoc old a b)
 
+-- the same text under another name, where the call was Ok
+pub ok_is : (r : Result (Unit {0}) AllocError) (old new text same : List ℕ) → OnOk r (new ≡ old ++ text) → same ≡ text → OnOk r (new ≡ old ++ same)
+ok_is r old new text same h is = subst (λ (t : List ℕ). OnOk r (new ≡ old ++ t)) (sym is) h
+
 -- a local, whatever its number was called
 pub local_put : (r : Result (Unit {0}) AllocError) (old new text name : List ℕ) (k j : ℕ) → OnOk r (new ≡ old ++ named_text name k) → k ≡ j → text ≡ named_text name j → OnOk r (new ≡ old ++ text)
-local_put r old new text name k j h same is = subst (λ (t : List ℕ). OnOk r (new ≡ old ++ t)) (ap (named_text name) same ∙ sym is) h
+local_put r old new text name k j h same is = ok_is r old new (named_text name k) text h (is ∙ ap (named_text name) (sym same))
 
 -- the text of a type is that of its kind
 pub type_text-kind : (m : Module) (t : LLVMType) (k : LLVMTypeKind) → IsModule m → slice_get m.types t.0 ≡ Some k → type_text (type_at (trees_of m).types t) ≡ type_text (type_tree (trees_of m).types k)
 type_text-kind m t k s at = ap type_text (type_tree_of m t k s at)
 
--- the text of a constant is that of its value at its width
-pub const_text-int : (m : Module) (c : LLVMConst) (t : LLVMType) (width value : ℕ) → IsModule m → slice_get m.consts c.0 ≡ Some (C.Int t value) → slice_get m.types t.0 ≡ Some (T.Int width)
-    → const_text (const_at (trees_of m).consts c) ≡ int_text width value
-const_text-int m c t width value s at typed =
-    ap const_text (int_const_of m c t value at ∙ ap (λ (ty : TypeTree). IntConst ty value) (int_tree_of m t width s typed))
+-- the text of an integer is that of its value at its width
+pub int_text-width : (m : Module) (t : LLVMType) (width value : ℕ) → IsModule m → slice_get m.types t.0 ≡ Some (T.Int width) → int_of_type (type_at (trees_of m).types t) value ≡ int_text width value
+int_text-width m t width value s typed = ap (λ (ty : TypeTree). int_of_type ty value) (int_tree_of m t width s typed)
+
+-- the text of a constant is that of its kind
+pub const_text-int : (m : Module) (c : LLVMConst) (t : LLVMType) (value : ℕ) → slice_get m.consts c.0 ≡ Some (C.Int t value) → const_text (const_at (trees_of m).consts c) ≡ int_of_type (type_at (trees_of m).types t) value
+const_text-int m c t value at = ap const_text (int_const_of m c t value at)
+
+pub const_text-placeholder : (m : Module) (c : LLVMConst) (number : ℕ) (t : LLVMType) → slice_get m.consts c.0 ≡ Some (C.Placeholder number t) → const_text (const_at (trees_of m).consts c) ≡ []
+const_text-placeholder m c number t at = ap const_text (placeholder_const_of m c number t at)
 
 const_type-by : (m : Module) (c : LLVMConst) (t : LLVMType) (k : LLVMConstKind) → slice_get m.consts c.0 ≡ Some k → kind_type k ≡ t → const_type (const_at (trees_of m).consts c) ≡ type_at (trees_of m).types t
 const_type-by m c t (C.Int ty value) at e = ap const_type (int_const_of m c ty value at) ∙ ap (type_at (trees_of m).types) e
+const_type-by m c t (C.Placeholder number ty) at e = ap const_type (placeholder_const_of m c number ty at) ∙ ap (type_at (trees_of m).types) e
 
 -- the type of a constant that is read
 pub const_type-at : (m : Module) (c : LLVMConst) (t : LLVMType) → option_map kind_type (slice_get m.consts c.0) ≡ Some t → const_type (const_at (trees_of m).consts c) ≡ type_at (trees_of m).types t

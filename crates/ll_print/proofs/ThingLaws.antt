@@ -1,14 +1,14 @@
--- The parameters, the block and the results of a function, in the order of its text.
-use Rattle.std.proofs.Common.{◌≡◌, ◌≢◌, ℕ, zero, suc, ◌+◌, ◌^◌, ◌<◌, ◌≤◌, ◌⊎◌, inl, inr, false, List, [], ◌∷◌, ◌++◌, length, length-append, slice_get, Some, refl, ap, sym, ◌∙◌, subst, arith}
+-- The parameters, the blocks and the results of a function, in the order of its text.
+use Rattle.std.proofs.Common.{◌≡◌, ◌≢◌, ℕ, zero, suc, ◌+◌, ◌⊎◌, inl, inr, List, [], ◌∷◌, ◌++◌, slice_get, Some, refl, ap, ◌∙◌, subst, arith}
 use Rattle.std.specs.List.{flat_map}
 use Rattle.std.proofs.lemmas.List.{append-nil}
 use Rattle.std.proofs.lemmas.Grind.{flat_map-append}
 use Rattle.llvm_core.specs.Checked.{named}
 use Rattle.llvm_core.specs.Data.{TypeTree, VoidType, IntType, FunctionType, Placed, Block, Function}
-use Rattle.llvm_core.specs.Form.{HasNumber, names_in, local_names}
-use Rattle.ll_text.specs.Text.{Text, number_limit}
-use Rattle.ll_print.specs.Printing.{Unnamed, ParamAt, BlockOf, ResultOf, same_unnamed, if_unnamed, unnamed_params, unnamed_result, unnamed_block, unnamed_in}
-use Rattle.ll_print.proofs.ScopeLaws.{Thing, Has, unnamed, names, position, position_cons, position_behind}
+use Rattle.llvm_core.specs.Form.{names_in, local_names}
+use Rattle.ll_text.specs.Text.{Text}
+use Rattle.ll_print.specs.Printing.{Unnamed, ParamAt, BlockOf, ResultOf, if_unnamed, unnamed_params, unnamed_result, unnamed_block, unnamed_in}
+use Rattle.ll_print.proofs.ScopeLaws.{Thing, Has, unnamed, names}
 
 abbrev pub param_things : ℕ → List Text → List Thing
 param_things i [] = []
@@ -24,9 +24,13 @@ result_thing type p = (record { name = p.name; place = ResultOf p.number }) ∷ 
 abbrev pub result_things : List Placed → List Thing
 result_things ps = flat_map (λ (p : Placed). result_thing p.type p) ps
 
--- of a function with that one block
-abbrev pub things : Function → Block → List Thing
-things f b = param_things 0 f.params ++ block_thing b ∷ result_things b.instructions
+-- a block, and then its results
+abbrev pub block_things : Block → List Thing
+block_things b = block_thing b ∷ result_things b.instructions
+
+-- of a function
+abbrev pub things : Function → List Thing
+things f = param_things 0 f.params ++ flat_map block_things f.blocks
 
 -- ---- their names and their unnamed ones
 
@@ -50,14 +54,18 @@ unnamed_of_results (p ∷ ps) =
     ∙ ap (λ (xs : List Unnamed). xs ++ unnamed (result_things ps)) (unnamed_of_result p.type p)
     ∙ ap (λ (xs : List Unnamed). unnamed_result p.type p ++ xs) (unnamed_of_results ps)
 
-pub unnamed_of_things : (f : Function) (b : Block) → f.blocks ≡ b ∷ [] → unnamed (things f b) ≡ unnamed_in f
-unnamed_of_things f b only =
-    let name = λ (t : Thing). if_unnamed t.name t.place in
-    flat_map-append name (param_things 0 f.params) (block_thing b ∷ result_things b.instructions)
-    ∙ ap (λ (xs : List Unnamed). xs ++ (if_unnamed b.name (BlockOf b.number) ++ unnamed (result_things b.instructions))) (unnamed_of_params 0 f.params)
-    ∙ ap (λ (xs : List Unnamed). unnamed_params 0 f.params ++ (if_unnamed b.name (BlockOf b.number) ++ xs)) (unnamed_of_results b.instructions)
-    ∙ ap (λ (xs : List Unnamed). unnamed_params 0 f.params ++ xs) (sym (append-nil (unnamed_block b)))
-    ∙ ap (λ (bs : List Block). unnamed_params 0 f.params ++ flat_map unnamed_block bs) (sym only)
+unnamed_of_blocks : (bs : List Block) → unnamed (flat_map block_things bs) ≡ flat_map unnamed_block bs
+unnamed_of_blocks [] = refl
+unnamed_of_blocks (b ∷ bs) =
+    flat_map-append (λ (t : Thing). if_unnamed t.name t.place) (block_things b) (flat_map block_things bs)
+    ∙ ap (λ (xs : List Unnamed). (if_unnamed b.name (BlockOf b.number) ++ xs) ++ unnamed (flat_map block_things bs)) (unnamed_of_results b.instructions)
+    ∙ ap (λ (xs : List Unnamed). unnamed_block b ++ xs) (unnamed_of_blocks bs)
+
+pub unnamed_of_things : (f : Function) → unnamed (things f) ≡ unnamed_in f
+unnamed_of_things f =
+    flat_map-append (λ (t : Thing). if_unnamed t.name t.place) (param_things 0 f.params) (flat_map block_things f.blocks)
+    ∙ ap (λ (xs : List Unnamed). xs ++ unnamed (flat_map block_things f.blocks)) (unnamed_of_params 0 f.params)
+    ∙ ap (λ (xs : List Unnamed). unnamed_params 0 f.params ++ xs) (unnamed_of_blocks f.blocks)
 
 -- what has no result has no name
 abbrev pub NamesResults : List Placed → Type 0
@@ -75,41 +83,22 @@ names_of_results (p ∷ ps) h =
     ∙ ap (λ (xs : List Text). xs ++ names (result_things ps)) (names_of_result p.type p (h 0 p refl))
     ∙ ap (λ (xs : List Text). named p.name ++ xs) (names_of_results ps (λ i q at. h (suc i) q at))
 
-pub names_of_things : (f : Function) (b : Block) → f.blocks ≡ b ∷ [] → NamesResults b.instructions → names (things f b) ≡ local_names f
-names_of_things f b only h =
-    flat_map-append (λ (t : Thing). named t.name) (param_things 0 f.params) (block_thing b ∷ result_things b.instructions)
-    ∙ ap (λ (xs : List Text). xs ++ (named b.name ++ names (result_things b.instructions))) (names_of_params 0 f.params)
-    ∙ ap (λ (xs : List Text). flat_map named f.params ++ (named b.name ++ xs)) (names_of_results b.instructions h)
-    ∙ ap (λ (xs : List Text). flat_map named f.params ++ xs) (sym (append-nil (names_in b)))
-    ∙ ap (λ (bs : List Block). flat_map named f.params ++ flat_map names_in bs) (sym only)
+-- and so in each block
+abbrev pub AllNameResults : List Block → Type 0
+AllNameResults bs = (i : ℕ) (b : Block) → slice_get bs i ≡ Some b → NamesResults b.instructions
 
--- ---- how many there are
+names_of_blocks : (bs : List Block) → AllNameResults bs → names (flat_map block_things bs) ≡ flat_map names_in bs
+names_of_blocks [] h = refl
+names_of_blocks (b ∷ bs) h =
+    flat_map-append (λ (t : Thing). named t.name) (block_things b) (flat_map block_things bs)
+    ∙ ap (λ (xs : List Text). (named b.name ++ xs) ++ names (flat_map block_things bs)) (names_of_results b.instructions (h 0 b refl))
+    ∙ ap (λ (xs : List Text). names_in b ++ xs) (names_of_blocks bs (λ i c at. h (suc i) c at))
 
-length_if : (n : Text) (x : Unnamed) → length (if_unnamed n x) ≤ 1
-length_if [] x = omega arith
-length_if (b ∷ bs) x = omega arith
-
-length_unnamed : (ts : List Thing) → length (unnamed ts) ≤ length ts
-length_unnamed [] = omega arith
-length_unnamed (t ∷ ts) = omega (arith, length_unnamed ts, length_if t.name t.place, length-append (if_unnamed t.name t.place) (unnamed ts))
-
-length_params : (i : ℕ) (ns : List Text) → length (param_things i ns) ≡ length ns
-length_params i [] = refl
-length_params i (n ∷ ns) = ap suc (length_params (suc i) ns)
-
-length_result : (t : TypeTree) (p : Placed) → length (result_thing t p) ≤ 1
-length_result VoidType p = omega arith
-length_result (IntType w) p = omega arith
-length_result (FunctionType r ts v) p = omega arith
-
-length_results : (ps : List Placed) → length (result_things ps) ≤ length ps
-length_results [] = omega arith
-length_results (p ∷ ps) = omega (arith, length_results ps, length_result p.type p, length-append (result_thing p.type p) (result_things ps))
-
--- their numbers lie below the limit
-pub few_things : (f : Function) (b : Block) → length f.params < 2 ^ 31 → length b.instructions < 2 ^ 31 → length (unnamed (things f b)) ≤ number_limit
-few_things f b h g =
-    omega (arith, h, g, length_unnamed (things f b), length-append (param_things 0 f.params) (block_thing b ∷ result_things b.instructions), length_params 0 f.params, length_results b.instructions)
+pub names_of_things : (f : Function) → AllNameResults f.blocks → names (things f) ≡ local_names f
+names_of_things f h =
+    flat_map-append (λ (t : Thing). named t.name) (param_things 0 f.params) (flat_map block_things f.blocks)
+    ∙ ap (λ (xs : List Text). xs ++ names (flat_map block_things f.blocks)) (names_of_params 0 f.params)
+    ∙ ap (λ (xs : List Text). flat_map named f.params ++ xs) (names_of_blocks f.blocks h)
 
 -- ---- which of them there are
 
@@ -147,37 +136,23 @@ has_result (q ∷ ps) zero p at h =
     has_front _ (result_thing q.type q) (result_things ps) (rw same (has_result_here p.type p h))
 has_result (q ∷ ps) (suc i) p at h = has_behind _ (result_thing q.type q) (result_things ps) (has_result ps i p at h)
 
--- a place of a list of results is that of an instruction
-is_result_here : (t : TypeTree) (p : Placed) (u : Thing) → Has u (result_thing t p) → u.place ≡ ResultOf p.number
-is_result_here VoidType p u h = absurd h
-is_result_here (IntType w) p u (inl same) = sym (ap (λ (v : Thing). v.place) same)
-is_result_here (IntType w) p u (inr h) = absurd h
-is_result_here (FunctionType r ts v) p u (inl same) = sym (ap (λ (v : Thing). v.place) same)
-is_result_here (FunctionType r ts v) p u (inr h) = absurd h
+pub has_block : (bs : List Block) (i : ℕ) (b : Block) → slice_get bs i ≡ Some b → Has (block_thing b) (flat_map block_things bs)
+has_block [] i b at = absurd cc
+has_block (c ∷ bs) zero b at = let same : c ≡ b = cc in inl (ap block_thing same)
+has_block (c ∷ bs) (suc i) b at = has_behind (block_thing b) (block_things c) (flat_map block_things bs) (has_block bs i b at)
 
-pub is_result : (ps : List Placed) (u : Thing) → Has u (result_things ps) → (n : ℕ) × HasNumber n ps × (u.place ≡ ResultOf n)
-is_result [] u h = absurd h
-is_result (p ∷ ps) u h = by (is_result ps u) (has_either u (result_thing p.type p) (result_things ps) h)
+-- the results of all instructions are among them
+results_in : (bs : List Block) (t : Thing) → Has t (result_things (flat_map (λ (b : Block). b.instructions) bs)) → Has t (flat_map block_things bs)
+results_in [] t h = h
+results_in (b ∷ bs) t h =
+    by (results_in bs t) (has_either t (result_things b.instructions) (result_things rest) (subst (Has t) (flat_map-append (λ (p : Placed). result_thing p.type p) b.instructions rest) h))
   where
-    by : (Has u (result_things ps) → (n : ℕ) × HasNumber n ps × (u.place ≡ ResultOf n)) → Has u (result_thing p.type p) ⊎ Has u (result_things ps) → (n : ℕ) × HasNumber n (p ∷ ps) × (u.place ≡ ResultOf n)
-    by further (inl here) = (p.number, (0, p, refl, refl), is_result_here p.type p u here)
-    by further (inr later) = let o = further later in (o.0, (suc o.1.0, o.1.1, o.1.2, o.1.3), o.2)
+    rest : List Placed
+    rest = flat_map (λ (b : Block). b.instructions) bs
 
-pub is_param : (k : ℕ) (ns : List Text) (u : Thing) → Has u (param_things k ns) → (i : ℕ) × (u.place ≡ ParamAt i)
-is_param k [] u h = absurd h
-is_param k (n ∷ ns) u (inl same) = (k, sym (ap (λ (v : Thing). v.place) same))
-is_param k (n ∷ ns) u (inr h) = is_param (suc k) ns u h
+    by : (Has t (result_things rest) → Has t (flat_map block_things bs)) → Has t (result_things b.instructions) ⊎ Has t (result_things rest) → Has t (block_things b ++ flat_map block_things bs)
+    by further (inl here) = has_front t (block_things b) (flat_map block_things bs) (inr here)
+    by further (inr later) = has_behind t (block_things b) (flat_map block_things bs) (further later)
 
--- ---- what is not yet there
-
-absent_one : (x : Unnamed) (n : Text) (y : Unnamed) → same_unnamed x y ≡ false → position x (if_unnamed n y) ≡ length (if_unnamed n y)
-absent_one x [] y h = omega (arith, position_cons x y [] h)
-absent_one x (b ∷ bs) y h = refl
-
--- what differs from the places of all things is none of the unnamed ones
-pub absent : (x : Unnamed) (ts : List Thing) → ((t : Thing) → Has t ts → same_unnamed x t.place ≡ false) → position x (unnamed ts) ≡ length (unnamed ts)
-absent x [] h = refl
-absent x (t ∷ ts) h =
-    let one = absent_one x t.name t.place (h t (inl refl)) in
-    let o = absent x ts (λ u g. h u (inr g)) in
-    omega (arith, position_behind x (if_unnamed t.name t.place) (unnamed ts) one, o, length-append (if_unnamed t.name t.place) (unnamed ts))
+pub has_placed : (bs : List Block) (i : ℕ) (p : Placed) → slice_get (flat_map (λ (b : Block). b.instructions) bs) i ≡ Some p → p.type ≢ VoidType → Has (record { name = p.name; place = ResultOf p.number }) (flat_map block_things bs)
+has_placed bs i p at h = results_in bs (record { name = p.name; place = ResultOf p.number }) (has_result (flat_map (λ (b : Block). b.instructions) bs) i p at h)

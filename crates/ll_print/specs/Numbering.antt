@@ -2,19 +2,24 @@
 use Rattle.std.specs.Prelude.{◌≡◌, ℕ, Bool, List, ◌++◌, length, nat_lt, Option, Some, None, if◌then◌else◌}
 use Rattle.std.specs.List.{position_or_len}
 use Rattle.std.specs.HashMap.{get}
-use Rattle.llvm_core.specs.declared.numbers.LLVMInstRef.{LLVMInstRef}
-use Rattle.llvm_core.specs.declared.code.LLVMValue.{LLVMValue}
-use Rattle.llvm_core.specs.declared.code.LLVMValue.TheVariants as V
-use Rattle.llvm_core.specs.contracts.code.LLVMValuePartialEq.TheImpl as keys
+use Rattle.ll_print.specs.declared.places.Place.{Place}
+use Rattle.ll_print.specs.declared.places.Place.TheVariants as P
+use Rattle.ll_print.specs.contracts.places.PlacePartialEq.TheImpl as keys
 use Rattle.ll_print.specs.declared.numbers.Numbers.{Numbers}
-use Rattle.ll_print.specs.Printing.{Unnamed, ParamAt, ResultOf, same_unnamed}
+use Rattle.ll_print.specs.Printing.{Unnamed, ParamAt, BlockOf, ResultOf, same_unnamed}
 
-abbrev pub same_value : LLVMValue → LLVMValue → Bool
-same_value v w = keys.eq-value.it v w
+-- what a key stands for
+abbrev pub thing_of : Place → Unnamed
+thing_of (P.Param i) = ParamAt i
+thing_of (P.Block b) = BlockOf b.0
+thing_of (P.Result i) = ResultOf i.0
 
--- the number that was noted of a value
-abbrev pub noted_at : Numbers → LLVMValue → Option ℕ
-noted_at n v = get keys.eq-value.it n.values v
+abbrev pub same_place : Place → Place → Bool
+same_place p q = keys.eq-value.it p q
+
+-- the number that was noted of a thing
+abbrev pub noted_at : Numbers → Place → Option ℕ
+noted_at n p = get keys.eq-value.it n.places p
 
 -- the first, where there is one, else the other
 abbrev pub or_else : Option ℕ → Option ℕ → Option ℕ
@@ -30,11 +35,10 @@ or_number (Some k) n = k
 abbrev pub place_in : List Unnamed → Unnamed → Option ℕ
 place_in xs x = if nat_lt (position_or_len (same_unnamed x) xs) (length xs) then Some (position_or_len (same_unnamed x) xs) else None
 
--- those of the list were counted: each parameter and result of it has its place there as its number, no other has one
+-- those of the list were counted: each thing of it has its place there as its number, no other has one
 pub record IsNumbering (n : Numbers) (xs : List Unnamed) : Type 0 where
   pub count : n.count ≡ length xs
-  pub params : (i : ℕ) → noted_at n (V.Param n.function i) ≡ place_in xs (ParamAt i)
-  pub results : (i : LLVMInstRef) → noted_at n (V.Inst i) ≡ place_in xs (ResultOf i.0)
+  pub numbers : (p : Place) → noted_at n p ≡ place_in xs (thing_of p)
 
 -- those of the list were counted behind others
 pub record Counts (old new : Numbers) (ys : List Unnamed) : Type 0 where

@@ -1,5 +1,6 @@
 -- Parts of a module's data by their numbers, and their texts.
-use Rattle.std.specs.Prelude.{◌≡◌, ◌<◌, ℕ, List, [], ◌∷◌, All, length, slice_get, slice_index_or, Some, None, decimal}
+use Rattle.std.specs.Prelude.{◌≡◌, ◌<◌, ◌≤◌, ℕ, List, [], ◌∷◌, ◌++◌, All, length, codes, slice_get, slice_index_or, Some, None, decimal}
+use Rattle.std.specs.List.{flat_map}
 use Rattle.std.specs.Option.{option_map_or}
 use Rattle.llvm_core.specs.declared.numbers.LLVMFunction.{LLVMFunction}
 use Rattle.llvm_core.specs.declared.numbers.LLVMBasicBlock.{LLVMBasicBlock}
@@ -8,15 +9,17 @@ use Rattle.llvm_core.specs.declared.code.LLVMValue.{LLVMValue}
 use Rattle.llvm_core.specs.declared.code.LLVMValue.TheVariants as V
 use Rattle.llvm_core.specs.declared.code.LLVMInst.{LLVMInst}
 use Rattle.llvm_core.specs.declared.code.LLVMInst.TheVariants as I
+use Rattle.llvm_core.specs.declared.code.PhiEntry.{PhiEntry}
 use Rattle.llvm_core.specs.declared.code.FunctionData.{FunctionData}
 use Rattle.llvm_core.specs.declared.code.BlockData.{BlockData}
 use Rattle.llvm_core.specs.declared.code.InstData.{InstData}
 use Rattle.llvm_core.specs.Module.{Module}
 use Rattle.llvm_core.specs.Sound.{IsModule}
-use Rattle.llvm_core.specs.Data.{Placed, Function, trees_of, placed_at, block_at, function_of, placed_in}
+use Rattle.llvm_core.specs.Data.{Placed, Block, Function, ModuleData, trees_of, placed_at, block_at, function_of, placed_in}
 use Rattle.llvm_core.specs.Form.{HasNumber}
+use Rattle.ll_text.specs.Text.{number_limit}
 use Rattle.ll_print.specs.declared.numbers.Numbers.{Numbers}
-use Rattle.ll_print.specs.Printing.{Unnamed, unnamed_result, unnamed_block, unnamed_in, gives_text, placed_text, block_text}
+use Rattle.ll_print.specs.Printing.{Unnamed, unnamed_result, unnamed_block, unnamed_in, gives_text, placed_text, entry_label_text, block_text}
 use Rattle.ll_print.specs.Numbering.{IsNumbering}
 
 abbrev pub no_function : FunctionData
@@ -34,13 +37,39 @@ gives_of m f i = option_map_or (λ (p : Placed). gives_text f p.type p) (placed_
 abbrev pub line_of : Module → Function → LLVMInstRef → List ℕ
 line_of m f i = option_map_or (placed_text f) (placed_at (trees_of m) m.insts i) []
 
+-- the lines of the first block
+abbrev pub entry_lines : Function → Block → List ℕ
+entry_lines f b = entry_label_text f b b.name ++ flat_map (placed_text f) b.instructions
+
+abbrev pub entry_lines_of : Module → Function → LLVMBasicBlock → List ℕ
+entry_lines_of m f b = option_map_or (entry_lines f) (block_at (trees_of m) m.blocks m.insts b) []
+
+-- the lines of a block behind the first
 abbrev pub lines_of : Module → Function → LLVMBasicBlock → List ℕ
 lines_of m f b = option_map_or (block_text f) (block_at (trees_of m) m.blocks m.insts b) []
 
--- % and a name, or the number of what has none
+-- the lines of all blocks
+abbrev pub all_lines_of : Module → Function → List LLVMBasicBlock → List ℕ
+all_lines_of m f [] = []
+all_lines_of m f (b ∷ bs) = entry_lines_of m f b ++ flat_map (lines_of m f) bs
+
+-- a name, or the number of what has none
+abbrev pub bare_text : List ℕ → ℕ → List ℕ
+bare_text [] number = decimal number
+bare_text (b ∷ bs) number = b ∷ bs
+
+-- behind %
 abbrev pub named_text : List ℕ → ℕ → List ℕ
-named_text [] number = 37 ∷ decimal number
-named_text (b ∷ bs) number = 37 ∷ b ∷ bs
+named_text name number = 37 ∷ bare_text name number
+
+-- the label line of a block
+abbrev pub label_line : List ℕ → ℕ → List ℕ
+label_line name number = bare_text name number ++ codes ":\n"
+
+-- the label line of the first block, none where it has no name
+abbrev pub entry_label_line : List ℕ → ℕ → List ℕ
+entry_label_line [] number = []
+entry_label_line (b ∷ bs) number = label_line (b ∷ bs) number
 
 -- ---- what has no name
 
@@ -50,6 +79,13 @@ unnamed_at m i = option_map_or (λ (p : Placed). unnamed_result p.type p) (place
 abbrev pub unnamed_of : Module → LLVMBasicBlock → List Unnamed
 unnamed_of m b = option_map_or unnamed_block (block_at (trees_of m) m.blocks m.insts b) []
 
+-- each function has as many numbers as unnamed things
+abbrev pub IsNumberable : Function → Type 0
+IsNumberable f = length (unnamed_in f) ≤ number_limit
+
+abbrev pub AreNumberable : ModuleData → Type 0
+AreNumberable d = All IsNumberable d.functions
+
 -- ---- what belongs to a function
 
 -- a constant that is there, a parameter of the function, or the result of an instruction of it
@@ -58,20 +94,37 @@ IsOwn m f (V.Const c) = c.0 < length m.consts
 IsOwn m f (V.Param g i) = (g ≡ f) × (i < length (function_in m f).params)
 IsOwn m f (V.Inst i) = (i.0 < length m.insts) × HasNumber i.0 (placed_in (function_in m f))
 
--- the operands of an instruction belong to the function
+-- one of the blocks has that number
+abbrev pub HasBlockNumber : ℕ → List Block → Type 0
+HasBlockNumber n bs = (i : ℕ) × (b : Block) × (slice_get bs i ≡ Some b) × (b.number ≡ n)
+
+-- a block of the function
+abbrev pub IsOwnBlock : Module → LLVMFunction → LLVMBasicBlock → Type 0
+IsOwnBlock m f b = (b.0 < length m.blocks) × HasBlockNumber b.0 (function_in m f).blocks
+
+-- the operand and the block of an entry belong to the function
+abbrev pub OwnsEntry : Module → LLVMFunction → PhiEntry → Type 0
+OwnsEntry m f e = IsOwn m f e.value × IsOwnBlock m f e.block
+
+-- the operands and blocks of an instruction belong to the function, a line for each kind
 abbrev pub OwnsOperands : Module → LLVMFunction → LLVMInst → Type 0
 OwnsOperands m f (I.Add lhs rhs flags) = IsOwn m f lhs × IsOwn m f rhs
+OwnsOperands m f (I.ICmp lhs rhs predicate) = IsOwn m f lhs × IsOwn m f rhs
+OwnsOperands m f (I.Phi type entries) = All (OwnsEntry m f) entries
+OwnsOperands m f (I.Br target) = IsOwnBlock m f target
+OwnsOperands m f (I.CondBr condition first second) = IsOwn m f condition × IsOwnBlock m f first × IsOwnBlock m f second
 OwnsOperands m f (I.Ret None) = Unit {0}
 OwnsOperands m f (I.Ret (Some v)) = IsOwn m f v
+OwnsOperands m f I.Unreachable = Unit {0}
 
 -- an instruction that is there, with operands of the function
 pub record OwnsInst (m : Module) (f : LLVMFunction) (i : LLVMInstRef) : Type 0 where
   pub within : i.0 < length m.insts
   pub operands : (x : InstData) → slice_get m.insts i.0 ≡ Some x → OwnsOperands m f x.inst
 
--- a block that is there, with instructions that the function owns
+-- a block of the function, with instructions that the function owns
 pub record OwnsBlock (m : Module) (f : LLVMFunction) (b : LLVMBasicBlock) : Type 0 where
-  pub within : b.0 < length m.blocks
+  pub own : IsOwnBlock m f b
   pub insts : (x : BlockData) → slice_get m.blocks b.0 ≡ Some x → All (OwnsInst m f) x.insts
 
 -- the function is there, and its unnamed things have their numbers

@@ -1,10 +1,12 @@
 -- The text that is printed of module data, a definition for each part.
-use Rattle.std.specs.Prelude.{◌≡◌, ℕ, zero, suc, ◌-◌, ◌^◌, Bool, true, false, List, [], ◌∷◌, ◌++◌, Some, None, nat_eq, nat_le, nat_lt, ◌==◌, if◌then◌else◌, codes, decimal, slice_index_or}
+use Rattle.std.specs.Prelude.{◌≡◌, ℕ, zero, suc, ◌-◌, ◌^◌, Bool, true, false, List, [], ◌∷◌, ◌++◌, Some, None, nat_eq, nat_le, nat_lt, ◌==◌, if◌then◌else◌, drop, codes, decimal, slice_index_or}
 use Rattle.std.specs.List.{flat_map, find, position_or_len}
 use Rattle.std.specs.Option.{option_map_or}
-use Rattle.llvm_core.specs.Data.{TypeTree, VoidType, IntType, FunctionType, ConstTree, IntConst, Operand, Constant, Parameter, Result, Instruction, Add, Return, Placed, Block, Function, ModuleData, operand_type, placed_in, param_type}
+use Rattle.llvm_core.specs.declared.code.LLVMIntPredicate.{LLVMIntPredicate}
+use Rattle.llvm_core.specs.declared.code.LLVMIntPredicate.TheVariants as P
+use Rattle.llvm_core.specs.Data.{TypeTree, VoidType, IntType, FunctionType, ConstTree, IntConst, PlaceholderConst, Operand, Constant, Parameter, Result, Instruction, Add, ICmp, Phi, Br, CondBr, Return, Unreachable, Placed, Block, Function, ModuleData, operand_type, placed_in, param_type}
 use Rattle.llvm_core.specs.Form.{result_of}
-use Rattle.ll_text.specs.Text.{Text, is_bare, global, label, quoted}
+use Rattle.ll_text.specs.Text.{Text, is_bare, global, quoted}
 
 -- ---- types and constants
 
@@ -28,9 +30,10 @@ abbrev pub int_of_type : TypeTree → ℕ → Text
 int_of_type (IntType w) v = int_text w v
 int_of_type _ v = []
 
--- a constant without its type, a line for each kind
+-- a constant without its type, a line for each kind; a checked module has no placeholder
 abbrev pub const_text : ConstTree → Text
 const_text (IntConst type v) = int_of_type type v
+const_text (PlaceholderConst number type) = []
 
 -- ---- numbers of what has no name
 
@@ -93,17 +96,55 @@ operand_text f (Result n) = local_text f (result_name f n) (ResultOf n)
 abbrev pub value_text : Function → Operand → Text
 value_text f o = type_text (operand_type f o) ++ codes " " ++ operand_text f o
 
+-- the name of the block of that number
+abbrev pub block_name : Function → ℕ → Text
+block_name f n = option_map_or (λ (b : Block). b.name) (find (λ (b : Block). nat_eq b.number n) f.blocks) []
+
+-- % and the name or number of a block
+abbrev pub block_ref : Function → ℕ → Text
+block_ref f n = local_text f (block_name f n) (BlockOf n)
+
 -- a word and a blank, where it is set
 abbrev pub flag_text : Text → Bool → Text
 flag_text word false = []
 flag_text word true = word ++ codes " "
 
--- an instruction, a line for each kind
-abbrev pub instruction_text : Function → Instruction → Text
-instruction_text f (Add lhs rhs flags) =
+abbrev pub predicate_text : LLVMIntPredicate → Text
+predicate_text P.LLVMIntEQ = codes "eq"
+predicate_text P.LLVMIntNE = codes "ne"
+predicate_text P.LLVMIntUGT = codes "ugt"
+predicate_text P.LLVMIntUGE = codes "uge"
+predicate_text P.LLVMIntULT = codes "ult"
+predicate_text P.LLVMIntULE = codes "ule"
+predicate_text P.LLVMIntSGT = codes "sgt"
+predicate_text P.LLVMIntSGE = codes "sge"
+predicate_text P.LLVMIntSLT = codes "slt"
+predicate_text P.LLVMIntSLE = codes "sle"
+
+-- an entry of a phi
+abbrev pub entry_text : Function → Operand × ℕ → Text
+entry_text f e = codes "[ " ++ operand_text f e.0 ++ codes ", " ++ block_ref f e.1 ++ codes " ]"
+
+-- entries behind the first
+abbrev pub next_entry_text : Function → Operand × ℕ → Text
+next_entry_text f e = codes ", " ++ entry_text f e
+
+-- entries, of which there is one at least in a checked module
+abbrev pub entries_text : Function → List (Operand × ℕ) → Text
+entries_text f [] = []
+entries_text f (e ∷ es) = entry_text f e ++ flat_map (next_entry_text f) es
+
+-- an instruction whose result has that type, a line for each kind
+abbrev pub instruction_text : Function → TypeTree → Instruction → Text
+instruction_text f type (Add lhs rhs flags) =
     codes "add " ++ flag_text (codes "nuw") flags.nuw ++ flag_text (codes "nsw") flags.nsw ++ value_text f lhs ++ codes ", " ++ operand_text f rhs
-instruction_text f (Return None) = codes "ret void"
-instruction_text f (Return (Some o)) = codes "ret " ++ value_text f o
+instruction_text f type (ICmp lhs rhs predicate) = codes "icmp " ++ predicate_text predicate ++ codes " " ++ value_text f lhs ++ codes ", " ++ operand_text f rhs
+instruction_text f type (Phi entries) = codes "phi " ++ type_text type ++ codes " " ++ entries_text f entries
+instruction_text f type (Br target) = codes "br label " ++ block_ref f target
+instruction_text f type (CondBr condition first second) = codes "br " ++ value_text f condition ++ codes ", label " ++ block_ref f first ++ codes ", label " ++ block_ref f second
+instruction_text f type (Return None) = codes "ret void"
+instruction_text f type (Return (Some o)) = codes "ret " ++ value_text f o
+instruction_text f type Unreachable = codes "unreachable"
 
 -- the result, where there is one
 abbrev pub gives_text : Function → TypeTree → Placed → Text
@@ -111,17 +152,27 @@ gives_text f VoidType p = []
 gives_text f type p = local_text f p.name (ResultOf p.number) ++ codes " = "
 
 abbrev pub placed_text : Function → Placed → Text
-placed_text f p = codes "  " ++ gives_text f p.type p ++ instruction_text f p.instruction ++ codes "\n"
+placed_text f p = codes "  " ++ gives_text f p.type p ++ instruction_text f p.type p.instruction ++ codes "\n"
 
 -- ---- functions and modules
 
--- the label line, which an unnamed entry block lacks
-abbrev pub label_text : Text → Text
-label_text [] = []
-label_text (b ∷ bs) = label (b ∷ bs) ++ codes "\n"
+-- the label line of a block: its name, or the number of what has none
+abbrev pub label_text : Function → Block → Text
+label_text f b = drop 1 (block_ref f b.number) ++ codes ":\n"
 
+-- the lines of a block behind the first, after a blank line
 abbrev pub block_text : Function → Block → Text
-block_text f b = label_text b.name ++ flat_map (placed_text f) b.instructions
+block_text f b = codes "\n" ++ label_text f b ++ flat_map (placed_text f) b.instructions
+
+-- the label line of the entry, which an unnamed one lacks
+abbrev pub entry_label_text : Function → Block → Text → Text
+entry_label_text f b [] = []
+entry_label_text f b (c ∷ cs) = label_text f b
+
+-- the lines of the blocks of a function
+abbrev pub blocks_text : Function → List Block → Text
+blocks_text f [] = []
+blocks_text f (b ∷ bs) = entry_label_text f b b.name ++ flat_map (placed_text f) b.instructions ++ flat_map (block_text f) bs
 
 -- a comma and a blank between parameters
 abbrev pub comma_text : (place : ℕ) → Text
@@ -136,7 +187,7 @@ params_text f i (n ∷ ns) = comma_text i ++ type_text (param_type f.type i) ++ 
 -- a function, after a blank line
 abbrev pub function_text : Function → Text
 function_text f =
-    codes "\ndefine " ++ type_text (result_of f.type) ++ codes " " ++ global f.name ++ codes "(" ++ params_text f 0 f.params ++ codes ") {\n" ++ flat_map (block_text f) f.blocks ++ codes "}\n"
+    codes "\ndefine " ++ type_text (result_of f.type) ++ codes " " ++ global f.name ++ codes "(" ++ params_text f 0 f.params ++ codes ") {\n" ++ blocks_text f f.blocks ++ codes "}\n"
 
 -- the line of a module's name, none for an empty name
 abbrev pub source_text : Text → Text

@@ -2,9 +2,10 @@
 
 ghost use Rattle.std.specs.Prelude.{◌≡◌, ◌<◌, ◌≤◌, ◌^◌, ◌++◌, length, OnOk};
 ghost use Rattle.llvm_core.specs.declared.consts.LLVMConstKind.TheVariants as kinds;
+ghost use Rattle.llvm_core.specs.Parts.{IsConstOver};
 ghost use Rattle.llvm_core.specs.Sound.{IsModule};
-ghost use Rattle.llvm_core.specs.Data.{trees_of, const_at};
-ghost use Rattle.ll_print.specs.Printing.{int_text, const_text};
+ghost use Rattle.llvm_core.specs.Data.{trees_of, type_at, const_at};
+ghost use Rattle.ll_print.specs.Printing.{int_text, int_of_type, const_text};
 
 use crate::types::put_decimal;
 use llvm_core::consts::LLVMConstKind;
@@ -35,16 +36,26 @@ fn put_int(alloc: Global, width: u32, value: u128, out: &mut Vec<u8>) -> Result<
     put_decimal(alloc, half - (value - half), out)
 }
 
-/// The type and the value of an integer.
-fn int_parts(kind: &LLVMConstKind) -> (LLVMType, u128)
-    ensures { kind.now ≡ kinds.Int result.0 result.1 }
+/// A value of an integer type.
+fn put_typed(
+    alloc: Global,
+    m: &LLVMModule,
+    ty: LLVMType,
+    value: u128,
+    out: &mut Vec<u8>,
+) -> Result<(), AllocError>
+    requires sound { IsModule m.now }
+    requires typed { IsConstOver m.now.types (kinds.Int ty value) }
+    ensures { OnOk result (out.new.items ≡ out.old.items ++ int_of_type (type_at (trees_of m.now).types ty) value) }
 {
-    match kind {
-        LLVMConstKind::Int(ty, value) => (*ty, *value),
-    }
+    let LLVMTypeKind::Int(width) = m.type_kind(ty) else {
+        unreachable!();
+    };
+    put_int(alloc, *width, value, out)?;
+    Ok(())
 }
 
-/// A constant without its type.
+/// A constant without its type; a placeholder has no text.
 pub fn put_const(
     alloc: Global,
     m: &LLVMModule,
@@ -55,10 +66,8 @@ pub fn put_const(
     requires within { c.0 < length m.now.consts }
     ensures { OnOk result (out.new.items ≡ out.old.items ++ const_text (const_at (trees_of m.now).consts c)) }
 {
-    let (ty, value) = int_parts(m.const_kind(c));
-    let LLVMTypeKind::Int(width) = m.type_kind(ty) else {
-        unreachable!();
-    };
-    put_int(alloc, *width, value, out)?;
-    Ok(())
+    match m.const_kind(c) {
+        LLVMConstKind::Int(ty, value) => put_typed(alloc, m, *ty, *value, out),
+        LLVMConstKind::Placeholder(..) => Ok(()),
+    }
 }

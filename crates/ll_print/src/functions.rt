@@ -5,32 +5,63 @@ ghost use Rattle.std.specs.List.{flat_map};
 ghost use Rattle.llvm_core.specs.Sound.{IsModule};
 ghost use Rattle.llvm_core.specs.Data.{trees_of, type_at, param_type};
 ghost use Rattle.llvm_core.specs.Form.{IsFormFunction, result_of};
-ghost use Rattle.ll_print.specs.Printing.{type_text, label_text, comma_text, params_text, function_text};
-ghost use Rattle.ll_print.specs.Parts.{function_in, lines_of, OwnsBlock, IsPrinting};
+ghost use Rattle.ll_print.specs.Printing.{type_text, params_text, function_text};
+ghost use Rattle.ll_print.specs.Parts.{function_in, entry_lines_of, lines_of, all_lines_of, label_line, entry_label_line, OwnsBlock, IsPrinting, IsNumberable};
 
-use crate::instructions::put_lines;
+use crate::instructions::{put_comma, put_lines};
 use crate::numbering::numbers_of;
 use crate::numbers::Numbers;
-use crate::operands::put_local;
+use crate::operands::{put_bare, put_local};
+use crate::places::Place;
 use crate::types::put_type;
-use llvm_core::code::LLVMValue;
 use llvm_core::module::LLVMModule;
 use llvm_core::numbers::{LLVMBasicBlock, LLVMFunction, LLVMType};
 use llvm_core::types::LLVMTypeKind;
 use std::alloc::{AllocError, Global};
 
-/// The line of a label, where the block has a name.
-fn put_label(name: &str, out: &mut Vec<u8>) -> Result<(), AllocError>
-    ensures { OnOk result (out.new.items ≡ out.old.items ++ label_text name.now) }
+/// The label line of a block: its name, or the number of what has none.
+fn put_label(alloc: Global, name: &str, number: u32, out: &mut Vec<u8>) -> Result<(), AllocError>
+    ensures { OnOk result (out.new.items ≡ out.old.items ++ label_line name.now number) }
+{
+    put_bare(alloc, name, number, out)?;
+    out.extend_from_slice(b":\n")?;
+    Ok(())
+}
+
+/// The label line of the first block, where it has a name.
+fn put_entry_label(
+    alloc: Global,
+    name: &str,
+    number: u32,
+    out: &mut Vec<u8>,
+) -> Result<(), AllocError>
+    ensures { OnOk result (out.new.items ≡ out.old.items ++ entry_label_line name.now number) }
 {
     if !name.is_empty() {
-        out.extend_from_slice(name.as_bytes())?;
-        out.extend_from_slice(b":\n")?;
+        put_label(alloc, name, number, out)?;
     }
     Ok(())
 }
 
-/// A block.
+/// The first block.
+fn put_entry_block(
+    alloc: Global,
+    m: &LLVMModule,
+    numbers: &Numbers,
+    b: LLVMBasicBlock,
+    out: &mut Vec<u8>,
+) -> Result<(), AllocError>
+    requires printing { IsPrinting m.now numbers.now }
+    requires own { OwnsBlock m.now numbers.now.function b }
+    ensures { OnOk result (out.new.items ≡ out.old.items ++ entry_lines_of m.now (function_in m.now numbers.now.function) b) }
+{
+    let number = numbers.number(Place::Block(b));
+    put_entry_label(alloc, m.block_name(b), number, out)?;
+    put_lines(alloc, m, numbers, m.instructions(b), out)?;
+    Ok(())
+}
+
+/// A block behind the first, after a blank line.
 fn put_block(
     alloc: Global,
     m: &LLVMModule,
@@ -42,13 +73,15 @@ fn put_block(
     requires own { OwnsBlock m.now numbers.now.function b }
     ensures { OnOk result (out.new.items ≡ out.old.items ++ lines_of m.now (function_in m.now numbers.now.function) b) }
 {
-    put_label(m.block_name(b), out)?;
+    let number = numbers.number(Place::Block(b));
+    out.push(b'\n')?;
+    put_label(alloc, m.block_name(b), number, out)?;
     put_lines(alloc, m, numbers, m.instructions(b), out)?;
     Ok(())
 }
 
-/// Blocks in order.
-fn put_blocks(
+/// Blocks behind the first in order.
+fn put_later_blocks(
     alloc: Global,
     m: &LLVMModule,
     numbers: &Numbers,
@@ -65,12 +98,21 @@ fn put_blocks(
     Ok(())
 }
 
-/// A comma and a blank between parameters.
-fn put_comma(place: u32, out: &mut Vec<u8>) -> Result<(), AllocError>
-    ensures { OnOk result (out.new.items ≡ out.old.items ++ comma_text place) }
+/// The blocks of a function in order.
+fn put_blocks(
+    alloc: Global,
+    m: &LLVMModule,
+    numbers: &Numbers,
+    blocks: &[LLVMBasicBlock],
+    out: &mut Vec<u8>,
+) -> Result<(), AllocError>
+    requires printing { IsPrinting m.now numbers.now }
+    requires own { All (OwnsBlock m.now numbers.now.function) blocks.now }
+    ensures { OnOk result (out.new.items ≡ out.old.items ++ all_lines_of m.now (function_in m.now numbers.now.function) blocks.now) }
 {
-    if place > 0 {
-        out.extend_from_slice(b", ")?;
+    if let Some((entry, more)) = blocks.split_first() {
+        put_entry_block(alloc, m, numbers, *entry, out)?;
+        put_later_blocks(alloc, m, numbers, more, out)?;
     }
     Ok(())
 }
@@ -93,10 +135,10 @@ fn put_params(
     let f = numbers.function;
     let params = types.len() as u32;
     for place in 0..params {
-        put_comma(place, out)?;
+        put_comma(place as usize, out)?;
         put_type(alloc, m, types[place as usize], out)?;
         out.push(b' ')?;
-        let number = numbers.number(LLVMValue::Param(f, place));
+        let number = numbers.number(Place::Param(place));
         put_local(alloc, m.param_name(f, place), number, out)?;
     }
     Ok(())
@@ -134,7 +176,9 @@ pub fn put_function(
     requires within { f.0 < length m.now.functions }
     requires form { IsFormFunction (function_in m.now f) }
     requires few { length (function_in m.now f).params < 2 ^ 31 }
-    ensures { OnOk result (out.new.items ≡ out.old.items ++ function_text (function_in m.now f)) }
+    ensures text { OnOk result (out.new.items ≡ out.old.items ++ function_text (function_in m.now f)) }
+    // More unnamed things than there are numbers want memory.
+    ensures numbers { OnOk result (IsNumberable (function_in m.now f)) }
 {
     let (returned, types) = signature(m, f);
     let numbers = numbers_of(alloc, m, f, types.len() as u32)?;

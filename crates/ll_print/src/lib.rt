@@ -7,5 +7,6 @@ pub mod instructions;
 pub mod numbering;
 pub mod numbers;
 pub mod operands;
+pub mod places;
 pub mod printer;
 pub mod types;

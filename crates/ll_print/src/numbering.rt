@@ -4,10 +4,11 @@ ghost use Rattle.std.specs.Prelude.{◌≡◌, ◌<◌, ◌++◌, All, length, O
 ghost use Rattle.std.specs.List.{flat_map};
 ghost use Rattle.ll_print.specs.Printing.{unnamed_params, unnamed_in};
 ghost use Rattle.ll_print.specs.Numbering.{IsNumbering, Counts};
-ghost use Rattle.ll_print.specs.Parts.{function_in, unnamed_at, unnamed_of};
+ghost use Rattle.ll_print.specs.Parts.{function_in, unnamed_at, unnamed_of, IsNumberable};
 ghost use Rattle.llvm_core.specs.Sound.{IsModule};
 
 use crate::numbers::Numbers;
+use crate::places::Place;
 use llvm_core::code::LLVMValue;
 use llvm_core::module::LLVMModule;
 use llvm_core::numbers::{LLVMBasicBlock, LLVMFunction, LLVMInstRef};
@@ -22,7 +23,7 @@ fn count_params(m: &LLVMModule, params: u32, numbers: &mut Numbers) -> Result<()
 {
     let f = numbers.function;
     for place in 0..params {
-        numbers.count_param(place, m.param_name(f, place))?;
+        numbers.count_unnamed(Place::Param(place), m.param_name(f, place))?;
     }
     Ok(())
 }
@@ -35,7 +36,7 @@ fn count_inst(m: &LLVMModule, i: LLVMInstRef, numbers: &mut Numbers) -> Result<(
 {
     match m.type_kind(m.type_of(LLVMValue::Inst(i))) {
         LLVMTypeKind::Void => {}
-        _ => numbers.count_result(i, m.inst_name(i))?,
+        _ => numbers.count_unnamed(Place::Result(i), m.inst_name(i))?,
     }
     Ok(())
 }
@@ -62,7 +63,7 @@ fn count_block(m: &LLVMModule, b: LLVMBasicBlock, numbers: &mut Numbers) -> Resu
     requires within { b.0 < length m.now.blocks }
     ensures { OnOk result (Counts numbers.old numbers.new (unnamed_of m.now b)) }
 {
-    numbers.count_block(b, m.block_name(b))?;
+    numbers.count_unnamed(Place::Block(b), m.block_name(b))?;
     count_insts(m, m.instructions(b), numbers)?;
     Ok(())
 }
@@ -95,9 +96,12 @@ pub fn numbers_of(
     requires all { params ≡ length (function_in m.now f).params }
     ensures function { IfOk result (λ n. n.function ≡ f) }
     ensures numbered { IfOk result (λ n. IsNumbering n (unnamed_in (function_in m.now f))) }
+    ensures few { IfOk result (λ n. IsNumberable (function_in m.now f)) }
 {
     let mut numbers = Numbers::new(alloc, f);
     count_params(m, params, &mut numbers)?;
     count_blocks(m, m.blocks(f), &mut numbers)?;
+    // This tells the proof that no more were counted than there are numbers.
+    let _counted = numbers.counted();
     Ok(numbers)
 }

@@ -1,12 +1,13 @@
 //! The numbers of what has no name in a function.
 
-ghost use Rattle.std.specs.Prelude.{◌≡◌, ◌+◌, [], OnOk, Some, None, if◌then◌else◌};
+ghost use Rattle.std.specs.Prelude.{◌≡◌, ◌≤◌, ◌+◌, [], OnOk, Some, None, if◌then◌else◌};
 ghost use Rattle.std.specs.HashMap.{get};
-ghost use Rattle.ll_print.specs.Printing.{ParamAt, BlockOf, ResultOf, if_unnamed};
-ghost use Rattle.ll_print.specs.Numbering.{same_value, noted_at, or_else, or_number, IsNumbering, Counts};
+ghost use Rattle.ll_text.specs.Text.{number_limit};
+ghost use Rattle.ll_print.specs.Printing.{if_unnamed};
+ghost use Rattle.ll_print.specs.Numbering.{thing_of, same_place, noted_at, or_else, or_number, IsNumbering, Counts};
 
-use llvm_core::code::LLVMValue;
-use llvm_core::numbers::{LLVMBasicBlock, LLVMFunction, LLVMInstRef};
+use crate::places::Place;
+use llvm_core::numbers::LLVMFunction;
 use std::alloc::{AllocError, Global};
 use std::collections::HashMap;
 use std::hash::Hash;
@@ -15,7 +16,7 @@ use std::hash::Hash;
 #[derive(Drop)]
 pub struct Numbers {
     pub function: LLVMFunction,
-    pub values: HashMap<LLVMValue, u32>,
+    pub places: HashMap<Place, u32>,
     /// How many were counted.
     pub count: u32,
 }
@@ -28,61 +29,45 @@ impl Numbers {
     {
         Numbers {
             function,
-            values: HashMap::new(alloc),
+            places: HashMap::new(alloc),
             count: 0,
         }
     }
 
-    /// The number of a value, and the count where it has none.
-    pub fn number(&self, value: LLVMValue) -> u32
-        ensures { result ≡ or_number (noted_at self.now value) self.now.count }
+    /// The number of a thing, and the count where it has none.
+    pub fn number(&self, place: Place) -> u32
+        ensures { result ≡ or_number (noted_at self.now place) self.now.count }
     {
-        match self.values.get(&value) {
+        match self.places.get(&place) {
             Some(number) => *number,
             None => self.count,
         }
     }
 
-    /// Counts a parameter, where it has no name.
-    pub fn count_param(&mut self, place: u32, name: &str) -> Result<(), AllocError>
-        ensures { OnOk result (Counts self.old self.new (if_unnamed name.now (ParamAt place))) }
+    /// How many were counted: no more than there are numbers.
+    pub fn counted(&self) -> u32
+        ensures { self.now.count ≤ number_limit }
+    {
+        self.count
+    }
+
+    /// Counts a thing, where it has no name.
+    pub fn count_unnamed(&mut self, place: Place, name: &str) -> Result<(), AllocError>
+        ensures { OnOk result (Counts self.old self.new (if_unnamed name.now (thing_of place))) }
     {
         if name.is_empty() {
-            let value = LLVMValue::Param(self.function, place);
-            self.give_next(value)?;
+            self.give_next(place)?;
         }
         Ok(())
     }
 
-    /// Counts a block, where it has no name.
-    pub fn count_block(&mut self, b: LLVMBasicBlock, name: &str) -> Result<(), AllocError>
-        ensures { OnOk result (Counts self.old self.new (if_unnamed name.now (BlockOf b.0))) }
-    {
-        // No operand names a block, so its number is only passed over.
-        let _ = b;
-        if name.is_empty() {
-            self.count_one()?;
-        }
-        Ok(())
-    }
-
-    /// Counts a result, where it has no name.
-    pub fn count_result(&mut self, i: LLVMInstRef, name: &str) -> Result<(), AllocError>
-        ensures { OnOk result (Counts self.old self.new (if_unnamed name.now (ResultOf i.0))) }
-    {
-        if name.is_empty() {
-            self.give_next(LLVMValue::Inst(i))?;
-        }
-        Ok(())
-    }
-
-    /// Gives a value the next number, where it has none.
-    fn give_next(&mut self, value: LLVMValue) -> Result<(), AllocError>
+    /// Gives a thing the next number, where it has none.
+    fn give_next(&mut self, place: Place) -> Result<(), AllocError>
         ensures function { OnOk result (self.new.function ≡ self.old.function) }
         ensures count { OnOk result (self.new.count ≡ self.old.count + 1) }
-        ensures values { OnOk result ((q : LLVMValue) → noted_at self.new q ≡ or_else (noted_at self.old q) (if same_value value q then Some self.old.count else None)) }
+        ensures places { OnOk result ((q : Place) → noted_at self.new q ≡ or_else (noted_at self.old q) (if same_place place q then Some self.old.count else None)) }
     {
-        note(&mut self.values, value, self.count)?;
+        note(&mut self.places, place, self.count)?;
         self.count_one()?;
         Ok(())
     }

@@ -5,6 +5,7 @@ ghost use Rattle.llvm_core.specs.Data.{data_of};
 ghost use Rattle.llvm_core.specs.Form.{IsForm, HasDistinctNames, HasFew};
 ghost use Rattle.ll_text.specs.Spelling.{Spells};
 ghost use Rattle.ll_print.specs.Printing.{source_text, module_text, IsBareOrNone, EndsLine};
+ghost use Rattle.ll_print.specs.Parts.{AreNumberable};
 
 use crate::functions::put_function;
 use llvm_core::module::LLVMModule;
@@ -27,7 +28,9 @@ fn put_source(name: &str, out: &mut Vec<u8>) -> Result<(), AllocError>
 fn text_of(alloc: Global, m: &LLVMModule) -> Result<Vec<u8>, AllocError>
     requires form { IsForm (data_of m.now) }
     requires few { HasFew (data_of m.now) }
-    ensures { IfOk result (λ v. v.items ≡ module_text (data_of m.now)) }
+    ensures text { IfOk result (λ v. v.items ≡ module_text (data_of m.now)) }
+    // A function with more unnamed things than there are numbers wants memory.
+    ensures numbers { OnOk result (AreNumberable (data_of m.now)) }
 {
     let mut out = Vec::new(alloc);
     put_source(m.name(), &mut out)?;

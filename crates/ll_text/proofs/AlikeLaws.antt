@@ -1,12 +1,11 @@
 -- Two scopes that differ in the numbers of operands alone: what is defined in one is defined in the other, under the same name.
-use Rattle.std.proofs.Common.{◌≡◌, ℕ, suc, ◌+◌, Bool, true, false, nat_le, nat_lt, nat_eq, List, [], ◌∷◌, ◌++◌, length, Option, Some, None, refl, ap, subst, if◌then◌else◌, arith}
+use Rattle.std.proofs.Common.{◌≡◌, ℕ, suc, ◌+◌, Bool, true, false, nat_le, nat_lt, nat_eq, List, [], ◌∷◌, ◌++◌, length, Option, Some, None, refl, ap, sym, subst, if◌then◌else◌, arith}
 use Rattle.std.specs.Option.{option_map}
 use Rattle.llvm_core.specs.Names.{is_plain}
-use Rattle.llvm_core.specs.Data.{VoidType, IntType, FunctionType, TypeTrees, NoTypes, ThenType, Parameter, Result, Placed}
+use Rattle.llvm_core.specs.Data.{VoidType, IntType, FunctionType, TypeTrees, NoTypes, ThenType, Operand, Parameter, Result}
 use Rattle.ll_text.specs.Text.{Text, number_limit, const_value}
-use Rattle.ll_text.specs.Tree.{is_local, Inst, ReturnVoid, Return, Add, Param}
-use Rattle.ll_text.specs.Meaning.{◌>>=◌, Key, Named, Numbered, same_key, Local, ValueLocal, BlockLocal, Scope, with_key, counted, define, value_of_width, constant, int_width, local_key, optional_key, value_of, define_written, inst_data, param_data, AreParams, AreInstructions}
-use Rattle.ll_text.specs.Bodies.{AreInstructionsTo}
+use Rattle.ll_text.specs.Tree.{is_local, Inst, Add, ICmp, Phi, Incoming, Terminator, ReturnVoid, Return, Br, CondBr, Unreachable, Param}
+use Rattle.ll_text.specs.Meaning.{◌>>=◌, Key, Named, Numbered, same_key, Local, ValueLocal, BlockLocal, Scope, with_key, counted, define, option_block, bit_width, predicate_of, written_name, result_width, value_of_width, constant, int_width, local_key, label_key, optional_key, value_of, block_of, define_written, named_inst, entries_data, inst_data, terminator_data, param_data, AreParams}
 use Rattle.ll_text.specs.Refusals.{kind_of, Alike}
 
 -- ---- two answers that go together
@@ -54,6 +53,9 @@ any_same (Some a) = tt
 
 pub alike_refl : (s : Scope) → Alike s s
 alike_refl s = record { next = refl; known = λ k. refl }
+
+pub alike_sym : (s t : Scope) → Alike s t → Alike t s
+alike_sym s t a = record { next = sym a.next; known = λ k. sym (a.known k) }
 
 key_alike : (s t : Scope) (k : Key) (x y : Local) (m n : ℕ) → Alike s t → kind_of x ≡ kind_of y → m ≡ n → Alike (with_key s k x m) (with_key t k y n)
 key_alike s t k x y m n a e next = record { next = next; known = λ j. by (same_key k j) j }
@@ -137,27 +139,83 @@ param_alike s t f i g j p d e a h k = both_some ParamStep (param_data is_plain 6
 
 -- ---- instructions
 
-abbrev InstStep : Placed × Scope → Placed × Scope → Type 0
-InstStep d e = (d.0.name ≡ e.0.name) × Alike d.1 e.1
+local_both : (k l : Option Local) → option_map kind_of k ≡ option_map kind_of l → Both Any (option_block k) (option_block l)
+local_both None None e = tt
+local_both None (Some l) e = absurd cc
+local_both (Some k) None e = absurd cc
+local_both (Some (BlockLocal b)) (Some (BlockLocal c)) e = tt
+local_both (Some (BlockLocal b)) (Some (ValueLocal p u)) e = absurd cc
+local_both (Some (ValueLocal o v)) (Some (BlockLocal c)) e = absurd cc
+local_both (Some (ValueLocal o v)) (Some (ValueLocal p u)) e = tt
 
-inst_both : (s t : Scope) (n m : ℕ) (i : Inst) → Alike s t → Both InstStep (inst_data is_plain 64 s n i) (inst_data is_plain 64 t m i)
+block_both : (s t : Scope) (x : Text) → Alike s t → Both Any (block_of is_plain 64 s x) (block_of is_plain 64 t x)
+block_both s t x a = same_bind Any (local_key is_plain 64 x) (λ k. option_block (s.known k)) (λ k. option_block (t.known k)) (λ k. local_both (s.known k) (t.known k) (a.known k))
+
+entries_both : (s t : Scope) (w : ℕ) (es : List Incoming) → Alike s t → Both Any (entries_data is_plain 64 s w es) (entries_data is_plain 64 t w es)
+unfolding entries_data
+entries_both s t w [] a = tt
+entries_both s t w (e ∷ es) a =
+    both_bind Any Any (value_of is_plain 64 s w e.value) (value_of is_plain 64 t w e.value) _ _ (value_both s t w e.value a)
+    (λ o p h. both_bind Any Any (block_of is_plain 64 s e.block) (block_of is_plain 64 t e.block) _ _ (block_both s t e.block a)
+    (λ b c k. both_bind Any Any (entries_data is_plain 64 s w es) (entries_data is_plain 64 t w es) _ _ (entries_both s t w es a) (λ x y r. tt)))
+
+-- both sides of an operation
+sides_both : {C : Type 0} (s t : Scope) (w : ℕ) (lhs rhs : Text) (f g : Operand → Operand → Option C) → Alike s t → ((a b c d : Operand) → Both Any (f a b) (g c d))
+    → Both Any (value_of is_plain 64 s w lhs >>= λ a. value_of is_plain 64 s w rhs >>= λ b. f a b) (value_of is_plain 64 t w lhs >>= λ c. value_of is_plain 64 t w rhs >>= λ d. g c d)
+sides_both s t w lhs rhs f g a h =
+    both_bind Any Any (value_of is_plain 64 s w lhs) (value_of is_plain 64 t w lhs) _ _ (value_both s t w lhs a)
+    (λ x y p. both_bind Any Any (value_of is_plain 64 s w rhs) (value_of is_plain 64 t w rhs) _ _ (value_both s t w rhs a) (λ u v q. h x u y v))
+
+pub inst_both : (s t : Scope) (i : Inst) → Alike s t → Both Any (inst_data is_plain 64 s i) (inst_data is_plain 64 t i)
 unfolding inst_data
-inst_both s t n m ReturnVoid a = (refl, a)
-inst_both s t n m (Return type value) a =
-    same_bind InstStep (int_width is_plain 64 type) _ _
-    (λ w. both_bind Any InstStep (value_of is_plain 64 s w value) (value_of is_plain 64 t w value) _ _ (value_both s t w value a) (λ o p h. (refl, a)))
-inst_both s t n m (Add name nuw nsw type lhs rhs) a =
-    same_bind InstStep (int_width is_plain 64 type) _ _
-    (λ w. both_bind Any InstStep (value_of is_plain 64 s w lhs) (value_of is_plain 64 t w lhs) _ _ (value_both s t w lhs a)
-    (λ x y h. both_bind Any InstStep (value_of is_plain 64 s w rhs) (value_of is_plain 64 t w rhs) _ _ (value_both s t w rhs a)
-    (λ u v k. both_bind (Step (ValueLocal (Result n) w) (ValueLocal (Result m) w)) InstStep (define_written is_plain 64 s (ValueLocal (Result n) w) (local_key is_plain 64) name) (define_written is_plain 64 t (ValueLocal (Result m) w) (local_key is_plain 64) name) _ _
-    (written_both s t (ValueLocal (Result n) w) (ValueLocal (Result m) w) (local_key is_plain 64) name a) (λ d e r. (r.0, r.1 refl)))))
+inst_both s t (Add name nuw nsw type lhs rhs) a =
+    same_bind Any (int_width is_plain 64 type) _ _ (λ w. sides_both s t w lhs rhs _ _ a (λ x y u v. tt))
+inst_both s t (ICmp name predicate type lhs rhs) a =
+    same_bind Any (int_width is_plain 64 type) _ _ (λ w. sides_both s t w lhs rhs _ _ a (λ x y u v. same_bind Any (predicate_of predicate) _ _ (λ p. tt)))
+inst_both s t (Phi name type first more) a =
+    same_bind Any (int_width is_plain 64 type) _ _
+    (λ w. both_bind Any Any (entries_data is_plain 64 s w (first ∷ more)) (entries_data is_plain 64 t w (first ∷ more)) _ _ (entries_both s t w (first ∷ more) a) (λ x y h. tt))
 
-pub inst_none : (s t : Scope) (n m : ℕ) (i : Inst) → Alike s t → inst_data is_plain 64 s n i ≡ None → inst_data is_plain 64 t m i ≡ None
-inst_none s t n m i a e = both_none InstStep (inst_data is_plain 64 s n i) (inst_data is_plain 64 t m i) (inst_both s t n m i a) e
+pub end_both : (s t : Scope) (i : Terminator) → Alike s t → Both Any (terminator_data is_plain 64 s i) (terminator_data is_plain 64 t i)
+unfolding terminator_data
+end_both s t ReturnVoid a = tt
+end_both s t (Return type value) a =
+    same_bind Any (int_width is_plain 64 type) _ _
+    (λ w. both_bind Any Any (value_of is_plain 64 s w value) (value_of is_plain 64 t w value) _ _ (value_both s t w value a) (λ o p h. tt))
+end_both s t (Br target) a = both_bind Any Any (block_of is_plain 64 s target) (block_of is_plain 64 t target) _ _ (block_both s t target a) (λ b c h. tt)
+end_both s t (CondBr type condition first second) a =
+    same_bind Any (bit_width (int_width is_plain 64 type)) _ _
+    (λ w. both_bind Any Any (value_of is_plain 64 s w condition) (value_of is_plain 64 t w condition) _ _ (value_both s t w condition a)
+    (λ o p h. both_bind Any Any (block_of is_plain 64 s first) (block_of is_plain 64 t first) _ _ (block_both s t first a)
+    (λ b c k. both_bind Any Any (block_of is_plain 64 s second) (block_of is_plain 64 t second) _ _ (block_both s t second a) (λ d e r. tt))))
+end_both s t Unreachable a = tt
 
-pub inst_alike : (s t : Scope) (n m : ℕ) (i : Inst) (d e : Placed × Scope) → Alike s t → inst_data is_plain 64 s n i ≡ Some d → inst_data is_plain 64 t m i ≡ Some e → (d.0.name ≡ e.0.name) × Alike d.1 e.1
-inst_alike s t n m i d e a h k = both_some InstStep (inst_data is_plain 64 s n i) (inst_data is_plain 64 t m i) d e (inst_both s t n m i a) h k
+-- ---- results and labels
+
+both_weaker : {A B : Type 0} (R S : A → B → Type 0) (x : Option A) (y : Option B) → ((a : A) (b : B) → R a b → S a b) → Both R x y → Both S x y
+both_weaker R S None None f h = tt
+both_weaker R S None (Some b) f h = elim h [ ]
+both_weaker R S (Some a) None f h = elim h [ ]
+both_weaker R S (Some a) (Some b) f h = f a b h
+
+-- what the second gives, where the first gives something
+pub both_there : {A B : Type 0} (R : A → B → Type 0) (x : Option A) (y : Option B) (a : A) → Both R x y → x ≡ Some a → (b : B) × (y ≡ Some b) × R a b
+both_there R None y a h e = absurd cc
+both_there R (Some c) None a h e = elim h [ ]
+both_there R (Some c) (Some b) a h e = let p : c ≡ a = cc in (b, refl, subst (λ x. R x b) p h)
+
+-- the same name, and scopes that are alike
+abbrev pub Follows : Text × Scope → Text × Scope → Type 0
+Follows d e = (d.0 ≡ e.0) × Alike d.1 e.1
+
+pub named_both : (s t : Scope) (n m : ℕ) (i : Inst) → Alike s t → Both Follows (named_inst is_plain 64 s n i) (named_inst is_plain 64 t m i)
+unfolding named_inst
+named_both s t n m i a =
+    same_bind Follows (result_width is_plain 64 i) _ _
+    (λ w. both_weaker (Step (ValueLocal (Result n) w) (ValueLocal (Result m) w)) Follows _ _ (λ d e h. (h.0, h.1 refl)) (written_both s t (ValueLocal (Result n) w) (ValueLocal (Result m) w) (local_key is_plain 64) (written_name i) a))
+
+pub label_both : (s t : Scope) (k j : ℕ) (o : Option Text) → Alike s t → Both Follows (define_written is_plain 64 s (BlockLocal k) (label_key is_plain 64) o) (define_written is_plain 64 t (BlockLocal j) (label_key is_plain 64) o)
+label_both s t k j o a = both_weaker (Step (BlockLocal k) (BlockLocal j)) Follows _ _ (λ d e h. (h.0, h.1 refl)) (written_both s t (BlockLocal k) (BlockLocal j) (label_key is_plain 64) o a)
 
 -- ---- lists of parameters
 
@@ -218,20 +276,3 @@ params_front f i g j s t (p ∷ ps) qs ts us ns ms u v a h k =
     let e : suc j + length ps ≡ j + suc (length ps) = omega arith in
     subst (λ (n : ℕ). HasParamsAfter g n qs u v) e
     (params_front f (suc i) g (suc j) x.after y.after ps qs x.types y.types x.others y.others u v one.2 x.rest y.rest)
-
--- ---- lists of instructions
-
--- what is said of the instructions behind the first ones
-pub record HasInstsAfter (is : List Inst) (u : Scope) : Type 0 where
-  pub before : Scope
-  pub placed : List Placed
-  pub says : AreInstructions is_plain 64 before is placed
-  pub alike : Alike u before
-
-pub insts_front : (s t : Scope) (is js : List Inst) (ps qs : List Placed) (u : Scope) → Alike s t → AreInstructionsTo s is ps u → AreInstructions is_plain 64 t (is ++ js) qs → HasInstsAfter js u
-insts_front s t [] js [] qs u a h k = record { before = t; placed = qs; says = k; alike = subst (λ (z : Scope). Alike z t) h a }
-insts_front s t [] js (p ∷ ps) qs u a h k = elim h [ ]
-insts_front s t (i ∷ is) js [] qs u a h k = elim h [ ]
-insts_front s t (i ∷ is) js (p ∷ ps) [] u a h k = elim k [ ]
-insts_front s t (i ∷ is) js (p ∷ ps) (q ∷ qs) u a h k =
-    insts_front h.0 k.0 is js ps qs u (inst_alike s t p.number q.number i (p, h.0) (q, k.0) a h.1 k.1).1 h.2 k.2

@@ -1,6 +1,5 @@
 -- The parts of a function that is built are those that a text says.
-use Rattle.std.proofs.Common.{◌≡◌, ◌<◌, ◌+◌, ℕ, suc, false, List, [], ◌∷◌, ◌++◌, Option, Some, length, slice_get, slice_set, get_or, take, map, refl, ap, sym, ◌∙◌, subst, length-append, arith}
-use Rattle.std.specs.List.{AllByRecursion}
+use Rattle.std.proofs.Common.{◌≡◌, ◌<◌, ◌+◌, ℕ, suc, false, List, [], ◌∷◌, ◌++◌, Option, Some, length, slice_get, slice_set, get_or, take, map, refl, ap, sym, ◌∙◌, subst, arith}
 use Rattle.std.specs.Option.{option_map}
 use Rattle.std.proofs.lemmas.List.{length-map, length-take-le, map_more}
 use Rattle.llvm_core.specs.declared.numbers.LLVMType.{LLVMType}
@@ -14,23 +13,22 @@ use Rattle.llvm_core.specs.Code as C
 use Rattle.llvm_core.specs.Names.{is_plain}
 use Rattle.llvm_core.specs.Parts.{type_params}
 use Rattle.llvm_core.specs.Data as L
-use Rattle.llvm_core.specs.Data.{TypeTree, IntType, FunctionType, TypeTrees, NoTypes, ThenType, Placed, Block, ModuleData, type_at, trees_of, data_of, with_function, with_param, with_block, with_instruction}
+use Rattle.llvm_core.specs.Data.{TypeTree, IntType, FunctionType, TypeTrees, NoTypes, ThenType, ModuleData, type_at, trees_of, data_of, with_function, with_param}
 use Rattle.llvm_core.proofs.ListLemmas.{slice_get-push, length-slice_set}
 use Rattle.llvm_core.proofs.ChangeLemmas.{slice_get-changed}
 use Rattle.ll_text.specs.Text.{Text}
-use Rattle.ll_text.specs.Tree.{Inst, Param, Function}
-use Rattle.ll_text.specs.Spelling.{counting}
+use Rattle.ll_text.specs.Tree.{Param, Function}
 use Rattle.ll_text.specs.declared.tree.Param as code_param
-use Rattle.ll_text.specs.declared.tree.Inst as code_inst
-use Rattle.ll_text.specs.TreeView.{param_view, inst_view}
-use Rattle.ll_text.specs.Meaning.{Key, ValueLocal, BlockLocal, Scope, int_width, local_key, label_key, optional_key, global_name, result_data, define, define_written, param_data, inst_data, AreParams}
+use Rattle.ll_text.specs.TreeView.{param_view}
+use Rattle.ll_text.specs.Meaning.{Key, ValueLocal, Scope, int_width, local_key, optional_key, global_name, result_data, define, define_written, param_data, AreParams}
 use Rattle.ll_text.specs.declared.scope.Scope as code
 use Rattle.ll_text.specs.ScopeView.{key_name, Knows}
 use Rattle.ll_text.specs.Signatures.{returned, int_types, AreInts, HasSignature, IsDeclared}
-use Rattle.ll_text.specs.Building.{OnlyInterns, IsReady, AddsInst}
-use Rattle.ll_text.specs.Bodies.{Declares, with_params, KeepsBodies, NamesParam, NamesParams, StartsBlock, with_instructions, AreInstructionsTo, AddsInsts}
+use Rattle.ll_text.specs.Building.{OnlyInterns}
+use Rattle.ll_text.specs.Bodies.{Declares, with_params, KeepsBodies, NamesParam, NamesParams}
 use Rattle.ll_text.proofs.ModuleLaws.{is_longer}
-use Rattle.ll_text.proofs.InstructionLaws.{bind_some}
+use Rattle.ll_text.proofs.OptionLaws.{some_bound}
+use Rattle.ll_text.proofs.KnownLaws.{bound, same_triple}
 
 -- ---- declarations
 
@@ -51,7 +49,7 @@ pub declares : (f : Function) (number : LLVMFunction) (returns : Option ℕ) (ol
     → global_name is_plain 64 f.name ≡ Some name → result_data is_plain 64 f.result ≡ Some (returned returns) → HasSignature f.params mid ty returns → OnlyInterns old mid → number.0 ≡ length mid.functions
     → new ≡ with_code mid (C.with_function (code_of mid) (record { name = name; ty = ty; space = 0; params = blanks (type_params mid.types ty); blocks = [] }))
     → data_of new ≡ with_function (data_of mid) (record { number = number.0; name = name; type = type_at (trees_of mid).types ty; space = 0; params = blanks (type_params mid.types ty); blocks = [] })
-    → Declares f number returns old new
+    → Declares f number old new
 declares f number returns old mid new ty name named result h only is_number is data_is =
     let blank = same_blanks mid.types (type_params mid.types ty) h.widths h.is.ints in
     let x : FunctionData = record { name = name; ty = ty; space = 0; params = blanks (type_params mid.types ty); blocks = [] } in
@@ -59,6 +57,7 @@ declares f number returns old mid new ty name named result h only is_number is d
     let same = is_longer old mid only in
     record {
       name = name;
+      returns = returns;
       named = named;
       returns_is = result;
       widths = h.widths;
@@ -104,12 +103,30 @@ block_keeps f old new b name widths is d =
 
 -- ---- parameters
 
+-- a parameter that is said has a width
+pub param_typed : (f i : ℕ) (s : Scope) (p : Param) (w : ℕ) (n : Text) (t : Scope) → param_data is_plain 64 s f i p ≡ Some (w, n, t) → int_width is_plain 64 p.type ≡ Some w
+unfolding param_data
+param_typed f i s p w n t h =
+    let v = bound (int_width is_plain 64 p.type) _ (w, n, t) h in
+    let d = bound (define_written is_plain 64 s (ValueLocal (L.Parameter f i) v.0) (local_key is_plain 64) p.name) _ (w, n, t) v.2 in
+    let same : v.0 ≡ w = (same_triple v.0 w d.0.0 n d.0.1 t d.2).0 in
+    v.1 ∙ ap Some same
+
+-- what a parameter that is said is defined as
+pub param_defined : (f i : ℕ) (s : Scope) (p : Param) (w : ℕ) (n : Text) (t : Scope) → param_data is_plain 64 s f i p ≡ Some (w, n, t) → define_written is_plain 64 s (ValueLocal (L.Parameter f i) w) (local_key is_plain 64) p.name ≡ Some (n, t)
+unfolding param_data
+param_defined f i s p w n t h =
+    let v = bound (int_width is_plain 64 p.type) _ (w, n, t) h in
+    let d = bound (define_written is_plain 64 s (ValueLocal (L.Parameter f i) v.0) (local_key is_plain 64) p.name) _ (w, n, t) v.2 in
+    let same = same_triple v.0 w d.0.0 n d.0.1 t d.2 in
+    ap (λ (u : ℕ). define_written is_plain 64 s (ValueLocal (L.Parameter f i) u) (local_key is_plain 64) p.name) (sym same.0) ∙ d.1 ∙ ap Some same.1
+
 param_says : (s t : Scope) (f i w : ℕ) (p : Param) (key : Option Key) (n : Text) → int_width is_plain 64 p.type ≡ Some w → optional_key is_plain 64 (local_key is_plain 64) p.name ≡ Some key → define s (ValueLocal (L.Parameter f i) w) key ≡ Some (n, t)
     → param_data is_plain 64 s f i p ≡ Some (w, n, t)
 unfolding param_data
 param_says s t f i w p key n e k d =
-    bind_some (int_width is_plain 64 p.type) _ w _ e
-    (bind_some (define_written is_plain 64 s (ValueLocal (L.Parameter f i) w) (local_key is_plain 64) p.name) _ (n, t) _ (bind_some (optional_key is_plain 64 (local_key is_plain 64) p.name) _ key _ k d) refl)
+    some_bound (int_width is_plain 64 p.type) _ w _ e
+    (some_bound (define_written is_plain 64 s (ValueLocal (L.Parameter f i) w) (local_key is_plain 64) p.name) _ (n, t) _ (some_bound (optional_key is_plain 64 (local_key is_plain 64) p.name) _ key _ k d) refl)
 
 pub param_named : (s t : Scope) (f place w : ℕ) (p : Param) (key : Option Key) (name : Text) (old new : Module) (c : code.Scope) → int_width is_plain 64 p.type ≡ Some w → optional_key is_plain 64 (local_key is_plain 64) p.name ≡ Some key
     → name ≡ key_name key → data_of new ≡ with_param (data_of old) f place name → define s (ValueLocal (L.Parameter f place) w) key ≡ Some (key_name key, t) → Knows c t → NamesParam f place s p old new c
@@ -173,60 +190,6 @@ keeps_both f a b c g h = record { there = λ ws d. h.there ws (g.there ws d); bl
 pub keeps_self : (f : LLVMFunction) (m : Module) → KeepsBodies f m m
 keeps_self f m = record { there = λ ws d. d; blocks = refl; insts = refl }
 
--- ---- blocks
-
-pub block_started : (f : LLVMFunction) (s t : Scope) (label : Option Text) (b : LLVMBasicBlock) (key : Option Key) (name : Text) (old new : Module) (c : code.Scope) → optional_key is_plain 64 (label_key is_plain 64) label ≡ Some key → name ≡ key_name key
-    → data_of new ≡ with_block (data_of old) f.0 (record { number = b.0; name = name; instructions = [] }) → define s (BlockLocal b.0) key ≡ Some (key_name key, t) → Knows c t → StartsBlock f s label b old new c
-block_started f s t label b key name old new c written named data_is says knows = record {
-  name = key_name key;
-  after = t;
-  says = bind_some (optional_key is_plain 64 (label_key is_plain 64) label) _ key _ written says;
-  data_is = data_is ∙ ap (λ (n : Text). with_block (data_of old) f.0 (record { number = b.0; name = n; instructions = [] })) named;
-  knows = knows;
-}
-
--- ---- instructions
-
-with_instructions_push : (d : ModuleData) (b : ℕ) (ps : List Placed) (p : Placed) → with_instructions d b (ps ++ p ∷ []) ≡ with_instruction (with_instructions d b ps) b p
-with_instructions_push d b [] p = refl
-with_instructions_push d b (q ∷ ps) p = with_instructions_push (with_instruction d b q) b ps p
-
-insts_push : (s t u : Scope) (is : List Inst) (ps : List Placed) (i : Inst) (p : Placed) → AreInstructionsTo s is ps t → inst_data is_plain 64 t p.number i ≡ Some (p, u) → AreInstructionsTo s (is ++ i ∷ []) (ps ++ p ∷ []) u
-insts_push s t u [] [] i p h e = (u, subst (λ (x : Scope). inst_data is_plain 64 x p.number i ≡ Some (p, u)) (sym h) e, refl)
-insts_push s t u (j ∷ is) (q ∷ ps) i p h e = (h.0, h.1, insts_push h.0 t u is ps i p h.2 e)
-insts_push s t u [] (q ∷ ps) i p h e = elim h [ ]
-insts_push s t u (j ∷ is) [] i p h e = elim h [ ]
-
--- numbers in order go on
-pub counting_push : {X : Type 0} (number : X → ℕ) (n : ℕ) (xs : List X) (x : X) → map number xs ≡ counting n xs → number x ≡ n + length xs → map number (xs ++ x ∷ []) ≡ counting n (xs ++ x ∷ [])
-counting_push number n [] x h e = let k : number x ≡ n = omega (arith, e) in ap (λ (m : ℕ). m ∷ []) k
-counting_push number n (y ∷ xs) x h e =
-    let first : number y ≡ n = cc in
-    let rest : map number xs ≡ counting (suc n) xs = cc in
-    let more = counting_push number (suc n) xs x rest (omega (arith, e)) in
-    cc
-
-pub none_added : (s : Scope) (b : ℕ) (m : Module) (c : code.Scope) → Knows c s → IsReady m s → AddsInsts s [] b m m c
-none_added s b m c knows ready = record { placed = []; after = s; says = refl; numbers = refl; data_is = refl; blocks = refl; insts = omega arith; knows = knows; ready = ready }
-
--- one instruction more
-pub added_more : (s : Scope) (is : List Inst) (i : Inst) (b : ℕ) (old mid new : Module) (a c : code.Scope) (h : AddsInsts s is b old mid a) → AddsInst h.after i b mid new c → AddsInsts s (is ++ i ∷ []) b old new c
-added_more s is i b old mid new a c h n = record {
-  placed = h.placed ++ n.placed ∷ [];
-  after = n.after;
-  says = insts_push s h.after n.after is h.placed i n.placed h.says n.says;
-  numbers = counting_push (λ (p : Placed). p.number) (length old.insts) h.placed n.placed h.numbers (n.adds.number ∙ h.insts);
-  data_is = n.adds.data_is ∙ ap (λ (d : ModuleData). with_instruction d b n.placed) h.data_is ∙ sym (with_instructions_push (data_of old) b h.placed n.placed);
-  blocks = n.adds.blocks ∙ h.blocks;
-  insts = n.adds.insts ∙ omega (arith, h.insts, length-append h.placed (n.placed ∷ []));
-  knows = n.knows;
-  ready = n.ready;
-}
-
-pub recursion_push : {X : Type 0} (P : X → Type 0) (xs : List X) (x : X) → AllByRecursion P xs → P x → AllByRecursion P (xs ++ x ∷ [])
-recursion_push P [] x h p = (p, tt)
-recursion_push P (y ∷ xs) x h p = (h.0, recursion_push P xs x h.1 p)
-
 -- ---- loops
 
 pub params_more : (f place i : ℕ) (qs : List code_param.Param) (d : code_param.Param) (old mid new : Module) (a b c : code.Scope) → i < length qs → place ≡ i
@@ -236,13 +199,3 @@ params_more f place i qs d old mid new a b c lt at h n s k =
     let one = h s k in
     let count : length (map param_view (take i qs)) ≡ i = length-map (take i qs) param_view ∙ length-take-le i qs (omega arith) in
     rw (map_more param_view qs i d lt) (named_more f place s (map param_view (take i qs)) (param_view (get_or qs i d)) old mid new b c (at ∙ sym count) one (n one.after one.knows))
-
-pub insts_more : (block i : ℕ) (js : List code_inst.Inst) (d : code_inst.Inst) (old mid new : Module) (a b c : code.Scope) → i < length js
-    → ((s : Scope) → Knows a s → IsReady old s → AddsInsts s (map inst_view (take i js)) block old mid b) → ((s : Scope) → Knows b s → IsReady mid s → AddsInst s (inst_view (get_or js i d)) block mid new c)
-    → (s : Scope) → Knows a s → IsReady old s → AddsInsts s (map inst_view (take (i + 1) js)) block old new c
-insts_more block i js d old mid new a b c lt h n s k r =
-    let one = h s k r in
-    rw (map_more inst_view js i d lt) (added_more s (map inst_view (take i js)) (inst_view (get_or js i d)) block old mid new b c one (n one.after one.knows one.ready))
-
-pub fits_more : (P : Inst → Type 0) (i : ℕ) (js : List code_inst.Inst) (d : code_inst.Inst) → i < length js → AllByRecursion P (map inst_view (take i js)) → P (inst_view (get_or js i d)) → AllByRecursion P (map inst_view (take (i + 1) js))
-fits_more P i js d lt h p = rw (map_more inst_view js i d lt) (recursion_push P (map inst_view (take i js)) (inst_view (get_or js i d)) h p)

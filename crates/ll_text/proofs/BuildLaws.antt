@@ -1,5 +1,5 @@
 -- An instruction is built: what stood in the module stands, and its result does.
-use Rattle.std.proofs.Common.{◌≡◌, ℕ, List, [], ◌∷◌, ◌++◌, Option, Some, None, length, length-append, slice_get, refl, ap, sym, ◌∙◌, subst, eq-eqb, arith}
+use Rattle.std.proofs.Common.{◌≡◌, ℕ, ◌+◌, List, [], ◌∷◌, ◌++◌, Option, Some, None, length, length-append, slice_get, IsTrue, refl, ap, sym, ◌∙◌, subst, eq-eqb, arith}
 use Rattle.std.specs.Option.{option_map, option_map_or}
 use Rattle.std.proofs.lemmas.List.{append-nil}
 use Rattle.llvm_core.specs.declared.numbers.LLVMType.{LLVMType}
@@ -7,6 +7,9 @@ use Rattle.llvm_core.specs.declared.numbers.LLVMBasicBlock.{LLVMBasicBlock}
 use Rattle.llvm_core.specs.declared.numbers.LLVMInstRef.{LLVMInstRef}
 use Rattle.llvm_core.specs.declared.types.LLVMTypeKind.{LLVMTypeKind}
 use Rattle.llvm_core.specs.declared.types.LLVMTypeKind.TheVariants as T
+use Rattle.llvm_core.specs.declared.types.ResultType.{ResultType}
+use Rattle.llvm_core.specs.declared.types.ResultType.TheVariants as R
+use Rattle.llvm_core.specs.declared.code.LLVMIntPredicate.{LLVMIntPredicate}
 use Rattle.llvm_core.specs.declared.code.LLVMValue.{LLVMValue}
 use Rattle.llvm_core.specs.declared.code.LLVMValue.TheVariants as V
 use Rattle.llvm_core.specs.declared.code.LLVMInst.{LLVMInst}
@@ -16,17 +19,16 @@ use Rattle.llvm_core.specs.declared.code.InstData.{InstData}
 use Rattle.llvm_core.specs.Module.{Module}
 use Rattle.llvm_core.specs.Code.{code_of, with_code, with_inst}
 use Rattle.llvm_core.specs.Sound.{IsModule}
-use Rattle.llvm_core.specs.Parts.{IsValue, IsResultType, value_type, result_type}
-use Rattle.llvm_core.specs.Data.{TypeTree, IntType, VoidType, Operand, Constant, Parameter, Result, Placed, type_at, trees_of, instruction_of, result_tree, data_of, with_instruction}
+use Rattle.llvm_core.specs.Parts.{IsValue, IsResultType, both_type, is_phi, value_type, result_type}
+use Rattle.llvm_core.specs.Data.{TypeTree, IntType, VoidType, Placed, ModuleData, tree_of_result, trees_of, instruction_of, result_tree, data_of, with_instruction}
 use Rattle.llvm_core.proofs.ListLemmas.{slice_get-kept, slice_get-push, length-with_change}
 use Rattle.llvm_core.proofs.DataLemmas.{int_tree_of}
 use Rattle.ll_text.specs.Text.{Text}
-use Rattle.ll_text.specs.Meaning.{Key, ValueLocal, Scope, define}
-use Rattle.ll_text.specs.declared.scope.Scope as code
-use Rattle.ll_text.specs.ScopeView.{key_name, Knows}
-use Rattle.ll_text.specs.Building.{IsValueOf, StandsIn, IsReady, HasSides, AddsPlaced, AddsResult}
-use Rattle.ll_text.proofs.KnownLaws.{define_known}
-use Rattle.ll_text.proofs.ModuleLaws.{grown, mapped_kept, param_kept}
+use Rattle.ll_text.specs.Tree.{Inst, Terminator}
+use Rattle.ll_text.specs.Meaning.{Scope}
+use Rattle.ll_text.specs.Numbered.{result_name}
+use Rattle.ll_text.specs.Building.{IsValueOf, OnlyInterns, HasOperand, HasSlot, HasEndSlots, IsPhiAt, IsBuilt, Keeps, IsResultOf, Gives, IsMade, SaysInst, IsMadeEnd, SaysEnd, AddsInst, AddsEnd}
+use Rattle.ll_text.proofs.ModuleLaws.{grown, mapped_kept, param_kept, slots_map, end_slots_map}
 
 -- ---- a module that goes on
 
@@ -57,25 +59,21 @@ value_on old new v w h x = record {
   int = rw h.types (slice_get-kept old.types h.more_types x.type.0 (T.Int w) x.int);
 }
 
-stands_on : (old new : Module) (o : Operand) (w : ℕ) → GoesOn old new → StandsIn old o w → StandsIn new o w
-stands_on old new (Constant c) w h x = x
-stands_on old new (Parameter f i) w h x = value_on old new (V.Param (record { 0 = f }) i) w h x
-stands_on old new (Result n) w h x = value_on old new (V.Inst (record { 0 = n })) w h x
-
 -- ---- a call of `build`
 
 -- the module that a call of `build` leaves
-pub record IsBuilt (old new : Module) (block : LLVMBasicBlock) (i : LLVMInstRef) (name : Text) (inst : LLVMInst) : Type 0 where
+pub record Builds (old new : Module) (block : LLVMBasicBlock) (i : LLVMInstRef) (name : Text) (inst : LLVMInst) : Type 0 where
   pub ty : LLVMType
   pub result : IsResultType (result_type old inst) old.types new.types ty
   pub is : new ≡ with_code (record old { types = new.types }) (with_inst (code_of old) block i name ty inst)
   pub sound : IsModule new
 
-types_more : (r : Option LLVMType) (old new : List LLVMTypeKind) (ty : LLVMType) → IsResultType r old new ty → (more : List LLVMTypeKind) × (new ≡ old ++ more)
+types_more : (r : Option ResultType) (old new : List LLVMTypeKind) (ty : LLVMType) → IsResultType r old new ty → (more : List LLVMTypeKind) × (new ≡ old ++ more)
 types_more None old new ty h = grown old new T.Void ty.0 h
-types_more (Some t) old new ty h = ([], h.1 ∙ sym (append-nil old))
+types_more (Some (R.There t)) old new ty h = ([], h.1 ∙ sym (append-nil old))
+types_more (Some R.Bit) old new ty h = grown old new (T.Int 1) ty.0 h
 
-built_on : (old new : Module) (block : LLVMBasicBlock) (i : LLVMInstRef) (name : Text) (inst : LLVMInst) → IsBuilt old new block i name inst → GoesOn old new
+built_on : (old new : Module) (block : LLVMBasicBlock) (i : LLVMInstRef) (name : Text) (inst : LLVMInst) → Builds old new block i name inst → GoesOn old new
 built_on old new block i name inst h =
     let more = types_more (result_type old inst) old.types new.types h.ty h.result in
     record {
@@ -87,67 +85,135 @@ built_on old new block i name inst h =
       insts = ap (λ (m : Module). m.insts) h.is;
     }
 
-pub built_ready : (old new : Module) (block : LLVMBasicBlock) (i : LLVMInstRef) (name : Text) (inst : LLVMInst) (s : Scope) → IsBuilt old new block i name inst → IsReady old s → IsReady new s
-built_ready old new block i name inst s h r = record { sound = h.sound; known = λ k o w e. stands_on old new o w (built_on old new block i name inst h) (r.known k o w e) }
+-- ---- what stands in the module that is built
 
-pub built_adds : (old new : Module) (block : LLVMBasicBlock) (i : LLVMInstRef) (name : Text) (inst : LLVMInst) (p : Placed) → IsBuilt old new block i name inst
-    → p.number ≡ length old.insts → data_of new ≡ with_instruction (data_of old) block.0 p → AddsPlaced block.0 p old new
-built_adds old new block i name inst p h number is =
+slot_on : (old new : Module) (n p w : ℕ) → GoesOn old new → HasSlot old n p w → HasSlot new n p w
+slot_on old new n p w h x = record {
+  stored = x.stored;
+  here = ap (λ (is : List InstData). slice_get is n) h.insts ∙ slice_get-kept old.insts (h.inst ∷ []) n x.stored x.here;
+  operand = let o = x.operand in record { value = o.value; at = o.at; stands = value_on old new o.value w h o.stands };
+}
+
+phi_on : (old new : Module) (n : ℕ) → GoesOn old new → IsPhiAt old n → IsPhiAt new n
+phi_on old new n h x = (x.0, ap (λ (is : List InstData). slice_get is n) h.insts ∙ slice_get-kept old.insts (h.inst ∷ []) n x.0 x.1, x.2)
+
+pub build_keeps : (old new : Module) (block : LLVMBasicBlock) (i : LLVMInstRef) (name : Text) (inst : LLVMInst) → Builds old new block i name inst → Keeps old new
+build_keeps old new block i name inst h =
     let on = built_on old new block i name inst h in
     record {
-      number = number;
-      data_is = is;
-      functions = on.functions;
+      values = λ v w x. value_on old new v w on x;
+      slots = λ n p w x. slot_on old new n p w on x;
+      phis = λ n x. phi_on old new n on x;
+      functions = ap (λ (m : Module). length m.functions) h.is;
       blocks = ap (λ (m : Module). length m.blocks) h.is ∙ length-with_change _ block.0 old.blocks;
-      insts = ap (λ (xs : List InstData). length xs) on.insts ∙ omega (arith, length-append old.insts (on.inst ∷ []));
+      sound = h.sound;
     }
 
--- the result of an instruction that was built
-result_stands : (old new : Module) (block : LLVMBasicBlock) (i : LLVMInstRef) (name : Text) (inst : LLVMInst) (w : ℕ) → IsBuilt old new block i name inst → HasSides old inst w → i.0 ≡ length old.insts → IsValueOf new (V.Inst i) w
-unfolding built_on
-result_stands old new block i name inst w h sides number =
+pub build_count : (old new : Module) (block : LLVMBasicBlock) (i : LLVMInstRef) (name : Text) (inst : LLVMInst) → Builds old new block i name inst → length new.insts ≡ length old.insts + 1
+build_count old new block i name inst h =
     let on = built_on old new block i name inst h in
-    let result = subst (λ (r : Option LLVMType). IsResultType r old.types new.types h.ty) sides.result h.result in
-    let here : slice_get new.insts i.0 ≡ Some on.inst = ap (λ (xs : List InstData). slice_get xs i.0) on.insts ∙ slice_get-push old.insts on.inst i.0 number in
+    ap (λ (xs : List InstData). length xs) on.insts ∙ omega (arith, length-append old.insts (on.inst ∷ []))
+
+-- ---- the instruction that is built
+
+built_here : (old new : Module) (block : LLVMBasicBlock) (i : LLVMInstRef) (name : Text) (inst : LLVMInst) (h : Builds old new block i name inst) → i.0 ≡ length old.insts
+    → slice_get new.insts i.0 ≡ Some (record { name = name; block = block; ty = h.ty; inst = inst })
+unfolding built_on
+built_here old new block i name inst h number =
+    let on = built_on old new block i name inst h in
+    ap (λ (xs : List InstData). slice_get xs i.0) on.insts ∙ slice_get-push old.insts on.inst i.0 number
+
+new_slot : (old new : Module) (block : LLVMBasicBlock) (i : LLVMInstRef) (name : Text) (inst : LLVMInst) (p w : ℕ) → Builds old new block i name inst → i.0 ≡ length old.insts → HasOperand old inst p w → HasSlot new i.0 p w
+new_slot old new block i name inst p w h number x = record {
+  stored = _;
+  here = built_here old new block i name inst h number;
+  operand = record { value = x.value; at = x.at; stands = value_on old new x.value w (built_on old new block i name inst h) x.stands };
+}
+
+new_int : (r : Option ResultType) (old new : List LLVMTypeKind) (ty : LLVMType) (w : ℕ) → IsResultType r old new ty → IsResultOf old w r → slice_get new ty.0 ≡ Some (T.Int w)
+new_int None old new ty w h x = elim x [ ]
+new_int (Some (R.There t)) old new ty w h x = ap (λ (ts : List LLVMTypeKind). slice_get ts ty.0) h.1 ∙ ap (λ (t : LLVMType). slice_get old t.0) h.0 ∙ x
+new_int (Some R.Bit) old new ty w h x = h.here ∙ ap (λ (v : ℕ). Some (T.Int v)) (sym x)
+
+-- the result of an instruction that was built
+result_stands : (old new : Module) (block : LLVMBasicBlock) (i : LLVMInstRef) (name : Text) (inst : LLVMInst) (w : ℕ) → Builds old new block i name inst → Gives old inst w → i.0 ≡ length old.insts → IsValueOf new (V.Inst i) w
+result_stands old new block i name inst w h gives number =
+    let on = built_on old new block i name inst h in
     record {
       there = omega (arith, ap (λ (xs : List InstData). length xs) on.insts, length-append old.insts (on.inst ∷ []), number);
       type = h.ty;
-      typed = ap (option_map (λ (y : InstData). y.ty)) here;
-      int = ap (λ (ts : List LLVMTypeKind). slice_get ts h.ty.0) result.1 ∙ ap (λ (t : LLVMType). slice_get old.types t.0) result.0 ∙ sides.int;
+      typed = ap (option_map (λ (y : InstData). y.ty)) (built_here old new block i name inst h number);
+      int = new_int (result_type old inst) old.types new.types h.ty w h.result gives.result;
     }
 
--- ---- a result that is defined
+result_typed : (m : Module) (r : Option ResultType) (w : ℕ) → IsResultOf m.types w r → IsModule m → option_map_or (tree_of_result (trees_of m).types) r VoidType ≡ IntType w
+result_typed m None w x sound = elim x [ ]
+result_typed m (Some (R.There t)) w x sound = int_tree_of m t w sound x
+result_typed m (Some R.Bit) w x sound = ap IntType (sym x)
 
-result_typed : (m : Module) (inst : LLVMInst) (w : ℕ) → HasSides m inst w → IsModule m → result_tree m inst ≡ IntType w
-result_typed m inst w sides sound = ap (λ (r : Option LLVMType). option_map_or (type_at (trees_of m).types) r VoidType) sides.result ∙ int_tree_of m sides.type w sound sides.int
+-- ---- an instruction that a text says
 
-pub result_added : (s : Scope) (key : Option Key) (w : ℕ) (inst : LLVMInst) (old new : Module) (block : LLVMBasicBlock) (i : LLVMInstRef) (name : Text) (after : Scope) (c : code.Scope)
-    → HasSides old inst w → IsReady old s → IsBuilt old new block i name inst → i.0 ≡ length old.insts
-    → data_of new ≡ with_instruction (data_of old) block.0 (record { number = i.0; name = name; type = result_tree old inst; instruction = instruction_of (trees_of old) inst })
-    → name ≡ key_name key → define s (ValueLocal (Result i.0) w) key ≡ Some (key_name key, after) → Knows c after
-    → AddsResult s key w (instruction_of (trees_of old) inst) block.0 old new c
-result_added s key w inst old new block i name after c sides ready built number is named says knows =
-    let typed = result_typed old inst w sides ready.sound in
-    let placed : ℕ → Text → TypeTree → Placed = λ n x t. record { number = n; name = x; type = t; instruction = instruction_of (trees_of old) inst } in
-    let same : placed i.0 name (result_tree old inst) ≡ placed (length old.insts) (key_name key) (IntType w) = rw (number, named, typed) refl in
-    let before = built_ready old new block i name inst s built ready in
+pub inst_built : (i : Inst) (old new : Module) (block : LLVMBasicBlock) (n : LLVMInstRef) (name : Text) (inst : LLVMInst) → IsMade i old inst → Builds old new block n name inst → n.0 ≡ length old.insts → IsBuilt new n.0 i
+inst_built i old new block n name inst made h number = record {
+  slots = slots_map (HasOperand old inst) (HasSlot new n.0) (IsTrue (is_phi inst)) (IsPhiAt new n.0) i (λ p w x. new_slot old new block n name inst p w h number x) (λ x. (_, built_here old new block n name inst h number, x)) made.slots;
+  result = λ w e. let same : made.width ≡ w = cc (made.written) in subst (λ (v : ℕ). IsValueOf new (V.Inst n) v) same (result_stands old new block n name inst made.width h made.gives number);
+}
+
+pub end_built : (i : Terminator) (old new : Module) (block : LLVMBasicBlock) (n : LLVMInstRef) (name : Text) (inst : LLVMInst) → IsMadeEnd i old inst → Builds old new block n name inst → n.0 ≡ length old.insts → HasEndSlots new n.0 i
+end_built i old new block n name inst made h number = end_slots_map (HasOperand old inst) (HasSlot new n.0) i (λ p w x. new_slot old new block n name inst p w h number x) made.slots
+
+pub inst_added : (s : Scope) (i : Inst) (old mid new : Module) (block : LLVMBasicBlock) (n : LLVMInstRef) (name : Text) (inst : LLVMInst) → OnlyInterns old mid → IsModule mid → IsMade i mid inst → SaysInst s i mid inst → Builds mid new block n name inst → n.0 ≡ length mid.insts
+    → data_of new ≡ with_instruction (data_of mid) block.0 (record { number = n.0; name = name; type = result_tree mid inst; instruction = instruction_of (trees_of mid) inst }) → name ≡ result_name i → AddsInst s i block.0 old new
+inst_added s i old mid new block n name inst only sound made said h number is named =
+    let same : made.width ≡ said.width = cc (made.written, said.written) in
+    let gives = made.gives in
+    let typed : result_tree mid inst ≡ IntType said.width = result_typed mid (result_type mid inst) made.width gives.result sound ∙ ap IntType same in
+    let count : length mid.insts ≡ length old.insts = ap (λ (m : Module). length m.insts) only.rest in
+    let placed : ℕ → Text → TypeTree → Placed = λ k x t. record { number = k; name = x; type = t; instruction = instruction_of (trees_of mid) inst } in
+    let all : placed n.0 name (result_tree mid inst) ≡ placed (length old.insts) (result_name i) (IntType said.width) = rw (number, count, named, typed) refl in
     record {
-      after = after;
-      says = subst (λ (n : ℕ). define s (ValueLocal (Result n) w) key ≡ Some (key_name key, after)) number says;
-      adds = built_adds old new block i name inst (placed (length old.insts) (key_name key) (IntType w)) built refl (is ∙ ap (λ (p : Placed). with_instruction (data_of old) block.0 p) same);
-      knows = knows;
-      ready = record { sound = built.sound; known = define_known (StandsIn new) s (ValueLocal (Result i.0) w) key (key_name key, after) says before.known (result_stands old new block i name inst w built sides number) };
+      said = (IntType said.width, instruction_of (trees_of mid) inst);
+      says = said.says;
+      adds = record {
+        number = refl;
+        data_is = is ∙ ap (λ (d : ModuleData). with_instruction d block.0 (placed n.0 name (result_tree mid inst))) only.data_is ∙ ap (λ (p : Placed). with_instruction (data_of old) block.0 p) all;
+        insts = build_count mid new block n name inst h ∙ ap (λ (k : ℕ). k + 1) count;
+      };
+    }
+
+pub end_added : (s : Scope) (i : Terminator) (old mid new : Module) (block : LLVMBasicBlock) (n : LLVMInstRef) (name : Text) (inst : LLVMInst) → OnlyInterns old mid → IsMadeEnd i mid inst → SaysEnd s i mid inst → Builds mid new block n name inst → n.0 ≡ length mid.insts
+    → data_of new ≡ with_instruction (data_of mid) block.0 (record { number = n.0; name = name; type = result_tree mid inst; instruction = instruction_of (trees_of mid) inst }) → name ≡ [] → AddsEnd s i block.0 old new
+end_added s i old mid new block n name inst only made said h number is named =
+    let typed : result_tree mid inst ≡ VoidType = ap (λ (r : Option ResultType). option_map_or (tree_of_result (trees_of mid).types) r VoidType) made.void in
+    let count : length mid.insts ≡ length old.insts = ap (λ (m : Module). length m.insts) only.rest in
+    let placed : ℕ → Text → TypeTree → Placed = λ k x t. record { number = k; name = x; type = t; instruction = instruction_of (trees_of mid) inst } in
+    let all : placed n.0 name (result_tree mid inst) ≡ placed (length old.insts) [] VoidType = rw (number, count, named, typed) refl in
+    record {
+      said = instruction_of (trees_of mid) inst;
+      says = said.says;
+      adds = record {
+        number = refl;
+        data_is = is ∙ ap (λ (d : ModuleData). with_instruction d block.0 (placed n.0 name (result_tree mid inst))) only.data_is ∙ ap (λ (p : Placed). with_instruction (data_of old) block.0 p) all;
+        insts = build_count mid new block n name inst h ∙ ap (λ (k : ℕ). k + 1) count;
+      };
     }
 
 -- ---- operations
 
 -- two integers of one width are of one type
-pub has_sides : (m : Module) (a b : LLVMValue) (flags : OverflowFlags) (w : ℕ) → IsModule m → IsValueOf m a w → IsValueOf m b w → HasSides m (I.Add a b flags) w
-has_sides m a b flags w sound x y =
+both_int : (m : Module) (a b : LLVMValue) (w : ℕ) → IsModule m → (x : IsValueOf m a w) → IsValueOf m b w → both_type m.types (value_type m a) (value_type m b) ≡ Some x.type
+both_int m a b w sound x y =
     let same : x.type.0 ≡ y.type.0 = sound.types_once x.type.0 y.type.0 (T.Int w) x.int y.int in
-    record {
-      values = (x.there, y.there);
-      type = x.type;
-      result = rw (x.typed, y.typed, eq-eqb x.type.0 y.type.0 same, x.int) refl;
-      int = x.int;
-    }
+    rw (x.typed, y.typed, eq-eqb x.type.0 y.type.0 same, x.int) refl
+
+pub add_gives : (m : Module) (a b : LLVMValue) (flags : OverflowFlags) (w : ℕ) → IsModule m → IsValueOf m a w → IsValueOf m b w → Gives m (I.Add a b flags) w
+add_gives m a b flags w sound x y = record {
+  values = (x.there, y.there);
+  result = subst (λ (o : Option LLVMType). IsResultOf m.types w (option_map R.There o)) (sym (both_int m a b w sound x y)) x.int;
+}
+
+pub icmp_gives : (m : Module) (a b : LLVMValue) (p : LLVMIntPredicate) (w : ℕ) → IsModule m → IsValueOf m a w → IsValueOf m b w → Gives m (I.ICmp a b p) 1
+icmp_gives m a b p w sound x y = record {
+  values = (x.there, y.there);
+  result = subst (λ (o : Option LLVMType). IsResultOf m.types 1 (option_map (λ _. R.Bit) o)) (sym (both_int m a b w sound x y)) refl;
+}

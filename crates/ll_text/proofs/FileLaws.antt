@@ -17,7 +17,7 @@ empty name = record { name = name; types = []; consts = []; functions = []; bloc
 -- a module without functions
 pub none_built : (name : Text) (m : Module) → m ≡ empty name → IsBuiltOf name [] m
 none_built name m e =
-    subst (IsBuiltOf name []) (sym e) (record { name_is = refl; functions = tt; fits = tt; numbered = record { functions = refl; blocks = refl; instructions = refl }; blocks = refl; insts = refl })
+    subst (IsBuiltOf name []) (sym e) (record { name_is = refl; functions = tt; numbered = record { functions = refl; blocks = refl; instructions = refl }; blocks = refl; insts = refl })
 
 -- one function more
 pub built_more : (name : Text) (fs : List Function) (i : ℕ) (f : Function) (m : Module) → i < length fs → f ≡ get_or fs i f → IsBuiltOf name (map function_view (take i fs) ++ function_view f ∷ []) m → IsBuiltOf name (map function_view (take (i + 1) fs)) m

@@ -1,13 +1,13 @@
 -- Functions and their parameters: what is read is written so, and what is written so is read.
-use Rattle.std.proofs.Common.{◌≡◌, ◌≤◌, true, false, List, [], ◌∷◌, ◌++◌, length, not, Option, Some, None, codes, refl, append_assoc, arith, inl, inr}
+use Rattle.std.proofs.Common.{◌≡◌, ◌≤◌, true, false, List, [], ◌∷◌, ◌++◌, length, not, Option, Some, None, codes, refl, sym, append_assoc, arith, inl, inr}
 use Rattle.std.specs.List.{flat_map, AllByRecursion}
 use Rattle.ll_text.specs.Text.{Text}
-use Rattle.ll_text.specs.Tree.{is_local, is_global, is_int_type, is_label, Param, Function, optional, inst, param, next_param, params, result_type, function, IsParam, IsFunction, IfPresent}
-use Rattle.ll_text.specs.Reading.{is_next, rest, passes_next, skip_at, one_at, optional_at, param_at, next_param_at, next_params_at, params_at, result_type_at, insts_at, function_at}
+use Rattle.ll_text.specs.Tree.{is_local, is_global, is_int_type, Param, Function, optional, block, param, next_param, params, result_type, function, IsParam, IsFunction, IfPresent}
+use Rattle.ll_text.specs.Reading.{is_next, rest, passes_next, skip_at, one_at, optional_at, param_at, next_param_at, next_params_at, params_at, result_type_at, block_at, blocks_at, function_at}
 use Rattle.ll_text.proofs.Steps.{then, gives, chosen}
 use Rattle.ll_text.proofs.Many.{Sound, many_takes, many_again}
 use Rattle.ll_text.proofs.NextLaws.{next_is, unlike, not_true, skip_takes, skip_again, one_takes, one_again, optional_takes, optional_again}
-use Rattle.ll_text.proofs.InstLaws.{insts_takes, insts_again}
+use Rattle.ll_text.proofs.BlockLaws.{block_takes, block_again, blocks_takes, blocks_again}
 
 -- ---- parameters
 
@@ -87,6 +87,15 @@ result_type_again (Some t) us h = rw (unlike is_int_type t (codes "void") h refl
 
 -- ---- functions
 
+all_grouped : (d name o c b e : Text) (result params entry more us : List Text)
+    → (d ∷ result ++ name ∷ o ∷ params ++ c ∷ b ∷ entry ++ more ++ e ∷ []) ++ us ≡ d ∷ (result ++ (name ∷ o ∷ (params ++ (c ∷ b ∷ (entry ++ (more ++ e ∷ us))))))
+all_grouped d name o c b e result params entry more us = simp append_assoc
+
+grouped : (f : Function) (us : List Text)
+    → function f ++ us ≡ codes "define" ∷ (result_type f.result ++ (f.name ∷ codes "(" ∷ (params f.params ++ (codes ")" ∷ codes "{" ∷ (block f.entry ++ (flat_map block f.more ++ codes "}" ∷ us))))))
+grouped f us =
+    all_grouped (codes "define") f.name (codes "(") (codes ")") (codes "{") (codes "}") (result_type f.result) (params f.params) (block f.entry) (flat_map block f.more) us
+
 pub function_takes : (ts : List Text) (x : Function × List Text) → function_at ts ≡ Some x → (ts ≡ function x.0 ++ x.1) × IsFunction x.0
 unfolding function_at
 function_takes ts x e =
@@ -98,12 +107,12 @@ function_takes ts x e =
     λ opened p4. then _ Q (params_at opened) _ (params_takes opened)
     λ params p5. then _ Q (skip_at (codes ")") params.1) _ (skip_takes (codes ")") params.1)
     λ closed p6. then _ Q (skip_at (codes "{") closed) _ (skip_takes (codes "{") closed)
-    λ begun p7. then _ Q (optional_at is_label begun) _ (optional_takes is_label begun)
-    λ label p8. then _ Q (insts_at label.1) _ (insts_takes label.1)
-    λ insts p9. then _ Q (skip_at (codes "}") insts.1) _ (skip_takes (codes "}") insts.1)
+    λ begun p7. then _ Q (block_at begun) _ (block_takes begun)
+    λ entry p8. then _ Q (blocks_at entry.1) _ (blocks_takes entry.1)
+    λ more p9. then _ Q (skip_at (codes "}") more.1) _ (skip_takes (codes "}") more.1)
     λ ended p10. gives _ Q (
-      rw (p1, p2.0, p3.0, p4, p5.0, p6, p7, p8.0, p9.0, p10) (simp append_assoc),
-      record { result = p2.1; name = p3.1; params = p5.1; label = p8.1; insts = p9.1 },
+      rw (p1, p2.0, p3.0, p4, p5.0, p6, p7, p8.0, p9.0, p10) (sym (grouped (record { result = result.0; name = name.0; params = params.0; entry = entry.0; more = more.0 }) ended)),
+      record { result = p2.1; name = p3.1; params = p5.1; entry = p8.1; more = p9.1 },
     )).at x e
 
 function_some : (f : Function) → 1 ≤ length (function f)
@@ -116,16 +125,14 @@ pub function_again : (f : Function) (us : List Text) → IsFunction f → functi
 unfolding function_at
 function_again f us h =
     let end = codes "}" ∷ us in
-    let insts = flat_map inst f.insts ++ end in
-    let body = optional f.label ++ insts in
+    let others = flat_map block f.more ++ end in
+    let body = block f.entry ++ others in
     let after = codes "{" ∷ body in
     let closed = codes ")" ∷ after in
     let listed = params f.params ++ closed in
     let named = codes "(" ∷ listed in
-    let i = insts_again f.insts us h.insts in
-    let regrouped : function f ++ us ≡ codes "define" ∷ (result_type f.result ++ (f.name ∷ named)) = simp append_assoc in
     rw (
-      regrouped,
+      grouped f us,
       skip_again (codes "define") (result_type f.result ++ (f.name ∷ named)),
       result_type_again f.result (f.name ∷ named) h.result,
       one_again is_global f.name named h.name,
@@ -133,7 +140,7 @@ function_again f us h =
       params_again f.params after h.params,
       skip_again (codes ")") after,
       skip_again (codes "{") body,
-      optional_again is_label f.label insts h.label (not_true _ i.1),
-      i.0,
+      block_again f.entry others h.entry,
+      blocks_again f.more end h.more refl,
       skip_again (codes "}") us,
     ) refl

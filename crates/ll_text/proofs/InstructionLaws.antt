@@ -1,84 +1,202 @@
--- An instruction that was built is the one that a text says.
-use Rattle.std.proofs.Common.{◌≡◌, ◌+◌, ℕ, Bool, [], Option, Some, None, Result, Ok, Err, OnOk, length, refl, ap, sym, ◌∙◌}
+-- An instruction that is made is the one that a text says, but for results; and what is refused says none.
+use Rattle.std.proofs.Common.{◌≡◌, ◌<◌, ℕ, ◌⊎◌, inl, inr, Bool, false, List, [], Option, Some, None, Result, Ok, Err, OnOk, length, slice_get, refl, ap, sym, ◌∙◌, subst}
+use Rattle.std.specs.Option.{option_map}
+use Rattle.std.proofs.lemmas.List.Elements.{All-nil}
+use Rattle.std.proofs.lemmas.Option.{slice_get_within}
+use Rattle.llvm_core.specs.declared.numbers.LLVMType.{LLVMType}
+use Rattle.llvm_core.specs.declared.numbers.LLVMBasicBlock.{LLVMBasicBlock}
+use Rattle.llvm_core.specs.declared.types.LLVMTypeKind.TheVariants as T
 use Rattle.llvm_core.specs.declared.code.LLVMValue.{LLVMValue}
+use Rattle.llvm_core.specs.declared.code.LLVMValue.TheVariants as V
 use Rattle.llvm_core.specs.declared.code.LLVMInst.TheVariants as I
+use Rattle.llvm_core.specs.declared.code.LLVMIntPredicate.{LLVMIntPredicate}
 use Rattle.llvm_core.specs.Module.{Module}
+use Rattle.llvm_core.specs.Sound.{IsModule}
 use Rattle.llvm_core.specs.Names.{is_plain}
-use Rattle.llvm_core.specs.Data as L
-use Rattle.llvm_core.specs.Data.{Operand, IntType, VoidType, Placed, ModuleData, trees_of, operand_of, instruction_of, data_of, with_instruction}
+use Rattle.llvm_core.specs.Parts.{IsEntry}
+use Rattle.llvm_core.specs.Data.{Operand, trees_of, operand_of}
 use Rattle.ll_text.specs.Text.{Text}
-use Rattle.ll_text.specs.Tree.{ReturnVoid, Return, Add}
-use Rattle.ll_text.specs.Meaning.{◌>>=◌, Key, ValueLocal, Scope, define, int_width, value_of, local_key, optional_key, define_written, inst_data}
+use Rattle.ll_text.specs.Tree.{Add, ICmp, Phi, Incoming, ReturnVoid, Return, Br, CondBr, Unreachable}
+use Rattle.ll_text.specs.Meaning.{◌>>=◌, Scope, bit_width, predicate_of, int_width, value_of, block_of}
 use Rattle.ll_text.specs.declared.scope.Scope as code
-use Rattle.ll_text.specs.ScopeView.{key_name, Knows}
-use Rattle.ll_text.specs.Building.{IsReady, OnlyInterns, SaysValue, AddsPlaced, AddsResult, AddsInst, return_placed}
-use Rattle.ll_text.proofs.ModuleLaws.{is_longer}
-
--- ---- steps of the definitions
-
-pub bind_some : {A B : Type 0} (x : Option A) (f : A → Option B) (a : A) (b : Option B) → x ≡ Some a → f a ≡ b → (x >>= f) ≡ b
-bind_some x f a b e h = ap (λ o. o >>= f) e ∙ h
-
-void_says : (s : Scope) (n : ℕ) → inst_data is_plain 64 s n ReturnVoid ≡ Some (record { number = n; name = []; type = VoidType; instruction = L.Return None }, s)
-unfolding inst_data
-void_says s n = refl
-
-return_says : (s : Scope) (n w : ℕ) (type value : Text) (o : Operand) → int_width is_plain 64 type ≡ Some w → value_of is_plain 64 s w value ≡ Some o
-    → inst_data is_plain 64 s n (Return type value) ≡ Some (record { number = n; name = []; type = VoidType; instruction = L.Return (Some o) }, s)
-unfolding inst_data
-return_says s n w type value o e f = bind_some (int_width is_plain 64 type) _ w _ e (bind_some (value_of is_plain 64 s w value) _ o _ f refl)
-
-add_says : (s t : Scope) (n w : ℕ) (name : Option Text) (nuw nsw : Bool) (type lhs rhs : Text) (a b : Operand) (key : Option Key) (d : Text) → int_width is_plain 64 type ≡ Some w
-    → value_of is_plain 64 s w lhs ≡ Some a → value_of is_plain 64 s w rhs ≡ Some b → optional_key is_plain 64 (local_key is_plain 64) name ≡ Some key → define s (ValueLocal (L.Result n) w) key ≡ Some (d, t)
-    → inst_data is_plain 64 s n (Add name nuw nsw type lhs rhs) ≡ Some (record { number = n; name = d; type = IntType w; instruction = L.Add a b (record { nuw = nuw; nsw = nsw }) }, t)
-unfolding inst_data
-add_says s t n w name nuw nsw type lhs rhs a b key d e f g k h =
-    bind_some (int_width is_plain 64 type) _ w _ e
-    (bind_some (value_of is_plain 64 s w lhs) _ a _ f
-    (bind_some (value_of is_plain 64 s w rhs) _ b _ g
-    (bind_some (define_written is_plain 64 s (ValueLocal (L.Result n) w) (local_key is_plain 64) name) _ (d, t) _ (bind_some (optional_key is_plain 64 (local_key is_plain 64) name) _ key _ k h) refl)))
-
--- ---- what was built
-
--- types and constants that are added before change nothing
-adds_after : (old mid new : Module) (block : ℕ) (p : Placed) → OnlyInterns old mid → AddsPlaced block p mid new → AddsPlaced block p old new
-adds_after old mid new block p h a =
-    let same = is_longer old mid h in
-    record {
-      number = a.number ∙ ap (λ (m : Module). length m.insts) same;
-      data_is = a.data_is ∙ ap (λ (d : ModuleData). with_instruction d block p) h.data_is;
-      functions = a.functions ∙ ap (λ (m : Module). m.functions) same;
-      blocks = a.blocks ∙ ap (λ (m : Module). length m.blocks) same;
-      insts = a.insts ∙ ap (λ (m : Module). length m.insts + 1) same;
-    }
-
-pub void_said : (s : Scope) (block : ℕ) (old new : Module) (c : code.Scope) → Knows c s → AddsPlaced block (return_placed old None) old new → IsReady new s → AddsInst s ReturnVoid block old new c
-void_said s block old new c knows adds ready = record { placed = return_placed old None; after = s; says = void_says s (length old.insts); adds = adds; knows = knows; ready = ready }
-
-pub return_said : (s : Scope) (block w : ℕ) (type value : Text) (old mid new : Module) (v : LLVMValue) (c : code.Scope) → int_width is_plain 64 type ≡ Some w → OnlyInterns old mid → SaysValue s w value mid v → Knows c s
-    → AddsPlaced block (return_placed mid (Some v)) mid new → IsReady new s → AddsInst s (Return type value) block old new c
-return_said s block w type value old mid new v c width only says knows adds ready = record {
-  placed = return_placed mid (Some v);
-  after = s;
-  says = return_says s (length mid.insts) w type value (operand_of (trees_of mid) v) width (says.says ∙ ap Some (sym says.is));
-  adds = adds_after old mid new block (return_placed mid (Some v)) only adds;
-  knows = knows;
-  ready = ready;
-}
-
-pub add_said : (s : Scope) (block w : ℕ) (name : Option Text) (nuw nsw : Bool) (type lhs rhs : Text) (key : Option Key) (old mid new : Module) (a b : LLVMValue) (c : code.Scope)
-    → int_width is_plain 64 type ≡ Some w → optional_key is_plain 64 (local_key is_plain 64) name ≡ Some key → OnlyInterns old mid → SaysValue s w lhs mid a → SaysValue s w rhs mid b
-    → AddsResult s key w (instruction_of (trees_of mid) (I.Add a b (record { nuw = nuw; nsw = nsw }))) block mid new c → AddsInst s (Add name nuw nsw type lhs rhs) block old new c
-add_said s block w name nuw nsw type lhs rhs key old mid new a b c width written only x y r = record {
-  placed = record { number = length mid.insts; name = key_name key; type = IntType w; instruction = instruction_of (trees_of mid) (I.Add a b (record { nuw = nuw; nsw = nsw })) };
-  after = r.after;
-  says = add_says s r.after (length mid.insts) w name nuw nsw type lhs rhs (operand_of (trees_of mid) a) (operand_of (trees_of mid) b) key (key_name key) width (x.says ∙ ap Some (sym x.is)) (y.says ∙ ap Some (sym y.is)) written r.says;
-  adds = adds_after old mid new block _ only r.adds;
-  knows = r.knows;
-  ready = r.ready;
-}
+use Rattle.ll_text.specs.ScopeView.{Knows}
+use Rattle.ll_text.specs.Opening.{open_operand, open_value, open_inst, open_terminator}
+use Rattle.ll_text.specs.Building.{IsValueOf, IsReady, IsLocalOf, IsTargetOf, OpensValue, IsMade, SaysInst, IsMadeEnd, SaysEnd}
+use Rattle.ll_text.proofs.OptionLaws.{some_bound, none_bound, not_bound}
+use Rattle.ll_text.proofs.ModuleLaws.{param_stands, target_stands}
+use Rattle.ll_text.proofs.BuildLaws.{add_gives, icmp_gives}
 
 -- two facts at Ok
 pub on_ok_both : {T E P Q S : Type 0} (r : Result T E) → OnOk r P → OnOk r Q → (P → Q → S) → OnOk r S
 on_ok_both (Ok x) p q f = f p q
 on_ok_both (Err e) p q f = tt
+
+-- a fact that holds at Ok and at Err
+pub on_ok_of : {T E P : Type 0} (r : Result T E) → P → OnOk r P
+on_ok_of (Ok x) p = p
+on_ok_of (Err e) p = tt
+
+-- ---- operands
+
+-- a parameter stands, and is what the text says
+pub open_param : (m : Module) (c : code.Scope) (w : ℕ) (t : Text) (v : LLVMValue) → IsReady false m c → (h : IsLocalOf c w t v) → ((i : _) → v ≡ V.Inst i → ⊥)
+    → IsValueOf m v w × ((s : Scope) → Knows c s → OpensValue s w t m v)
+open_param m c w t (V.Const k) ready h not = elim h.named [ ]
+open_param m c w t (V.Param f i) ready h not =
+    (param_stands m c w t f i ready h, λ s knows. record { says = ap (option_map (open_operand w)) (h.says s knows) ∙ ap (λ (o : Operand). Some (open_operand w o)) (sym h.named) })
+open_param m c w t (V.Inst n) ready h not = absurd (not n refl)
+
+pub value_closed : (s : Scope) (w : ℕ) (t : Text) → value_of is_plain 64 s w t ≡ None → open_value s w t ≡ None
+value_closed s w t none = ap (option_map (open_operand w)) none
+
+pub operand_at : (m : Module) (v : LLVMValue) (w u : ℕ) → IsValueOf m v w → w ≡ u → IsValueOf m v u
+operand_at m v w u x same = subst (IsValueOf m v) same x
+
+-- ---- add
+
+pub add_made : (name : Option Text) (nuw nsw : Bool) (type lhs rhs : Text) (w : ℕ) (m : Module) (a b : LLVMValue) → int_width is_plain 64 type ≡ Some w → IsModule m → IsValueOf m a w → IsValueOf m b w
+    → IsMade (Add name nuw nsw type lhs rhs) m (I.Add a b (record { nuw = nuw; nsw = nsw }))
+add_made name nuw nsw type lhs rhs w m a b typed sound x y = record {
+  width = w;
+  written = typed;
+  gives = add_gives m a b (record { nuw = nuw; nsw = nsw }) w sound x y;
+  slots = λ v e. let same : w ≡ v = cc in (record { value = a; at = refl; stands = operand_at m a w v x same }, record { value = b; at = refl; stands = operand_at m b w v y same });
+}
+
+pub add_says : (s : Scope) (name : Option Text) (nuw nsw : Bool) (type lhs rhs : Text) (w : ℕ) (m : Module) (a b : LLVMValue) → int_width is_plain 64 type ≡ Some w → OpensValue s w lhs m a → OpensValue s w rhs m b
+    → SaysInst s (Add name nuw nsw type lhs rhs) m (I.Add a b (record { nuw = nuw; nsw = nsw }))
+unfolding open_inst
+add_says s name nuw nsw type lhs rhs w m a b typed x y = record {
+  width = w;
+  written = typed;
+  says = some_bound (int_width is_plain 64 type) _ w _ typed (some_bound (open_value s w lhs) _ (operand_of (trees_of m) a) _ x.says (some_bound (open_value s w rhs) _ (operand_of (trees_of m) b) _ y.says refl));
+}
+
+pub add_untyped : (s : Scope) (name : Option Text) (nuw nsw : Bool) (type lhs rhs : Text) → int_width is_plain 64 type ≡ None → open_inst s (Add name nuw nsw type lhs rhs) ≡ None
+unfolding open_inst
+add_untyped s name nuw nsw type lhs rhs none = none_bound (int_width is_plain 64 type) _ none
+
+sides_closed : {C : Type 0} (s : Scope) (w : ℕ) (lhs rhs : Text) (f : Operand → Operand → Option C) → (value_of is_plain 64 s w lhs ≡ None) ⊎ (value_of is_plain 64 s w rhs ≡ None)
+    → (open_value s w lhs >>= λ a. open_value s w rhs >>= λ b. f a b) ≡ None
+sides_closed s w lhs rhs f (inl none) = none_bound (open_value s w lhs) _ (value_closed s w lhs none)
+sides_closed s w lhs rhs f (inr none) = not_bound (open_value s w lhs) _ (λ a. none_bound (open_value s w rhs) _ (value_closed s w rhs none))
+
+pub add_unvalued : (s : Scope) (name : Option Text) (nuw nsw : Bool) (type lhs rhs : Text) (w : ℕ) → int_width is_plain 64 type ≡ Some w → (value_of is_plain 64 s w lhs ≡ None) ⊎ (value_of is_plain 64 s w rhs ≡ None) → open_inst s (Add name nuw nsw type lhs rhs) ≡ None
+unfolding open_inst
+add_unvalued s name nuw nsw type lhs rhs w typed none = some_bound (int_width is_plain 64 type) _ w None typed (sides_closed s w lhs rhs _ none)
+
+-- ---- icmp
+
+pub icmp_made : (name : Option Text) (predicate type lhs rhs : Text) (w : ℕ) (p : LLVMIntPredicate) (m : Module) (a b : LLVMValue) → int_width is_plain 64 type ≡ Some w → IsModule m → IsValueOf m a w → IsValueOf m b w
+    → IsMade (ICmp name predicate type lhs rhs) m (I.ICmp a b p)
+icmp_made name predicate type lhs rhs w p m a b typed sound x y = record {
+  width = 1;
+  written = refl;
+  gives = icmp_gives m a b p w sound x y;
+  slots = λ v e. let same : w ≡ v = cc in (record { value = a; at = refl; stands = operand_at m a w v x same }, record { value = b; at = refl; stands = operand_at m b w v y same });
+}
+
+pub icmp_says : (s : Scope) (name : Option Text) (predicate type lhs rhs : Text) (w : ℕ) (p : LLVMIntPredicate) (m : Module) (a b : LLVMValue) → int_width is_plain 64 type ≡ Some w → predicate_of predicate ≡ Some p → OpensValue s w lhs m a → OpensValue s w rhs m b
+    → SaysInst s (ICmp name predicate type lhs rhs) m (I.ICmp a b p)
+unfolding open_inst
+icmp_says s name predicate type lhs rhs w p m a b typed word x y = record {
+  width = 1;
+  written = refl;
+  says = some_bound (int_width is_plain 64 type) _ w _ typed (some_bound (open_value s w lhs) _ (operand_of (trees_of m) a) _ x.says (some_bound (open_value s w rhs) _ (operand_of (trees_of m) b) _ y.says
+      (some_bound (predicate_of predicate) _ p _ word refl)));
+}
+
+pub icmp_untyped : (s : Scope) (name : Option Text) (predicate type lhs rhs : Text) → int_width is_plain 64 type ≡ None → open_inst s (ICmp name predicate type lhs rhs) ≡ None
+unfolding open_inst
+icmp_untyped s name predicate type lhs rhs none = none_bound (int_width is_plain 64 type) _ none
+
+pub icmp_unlike : (s : Scope) (name : Option Text) (predicate type lhs rhs : Text) → predicate_of predicate ≡ None → open_inst s (ICmp name predicate type lhs rhs) ≡ None
+unfolding open_inst
+icmp_unlike s name predicate type lhs rhs none =
+    not_bound (int_width is_plain 64 type) _ (λ w. not_bound (open_value s w lhs) _ (λ a. not_bound (open_value s w rhs) _ (λ b. none_bound (predicate_of predicate) _ none)))
+
+pub icmp_unvalued : (s : Scope) (name : Option Text) (predicate type lhs rhs : Text) (w : ℕ) → int_width is_plain 64 type ≡ Some w → (value_of is_plain 64 s w lhs ≡ None) ⊎ (value_of is_plain 64 s w rhs ≡ None) → open_inst s (ICmp name predicate type lhs rhs) ≡ None
+unfolding open_inst
+icmp_unvalued s name predicate type lhs rhs w typed none = some_bound (int_width is_plain 64 type) _ w None typed (sides_closed s w lhs rhs _ none)
+
+-- ---- phi
+
+pub phi_made : (name : Option Text) (type : Text) (first : Incoming) (more : List Incoming) (w : ℕ) (m : Module) (t : LLVMType) (entries : List _) → int_width is_plain 64 type ≡ Some w → slice_get m.types t.0 ≡ Some (T.Int w) → entries ≡ [] → IsMade (Phi name type first more) m (I.Phi t entries)
+phi_made name type first more w m t entries typed int none = subst (λ es. IsMade (Phi name type first more) m (I.Phi t es)) (sym none) (record {
+  width = w;
+  written = typed;
+  gives = record { values = (slice_get_within m.types t.0 (T.Int w) int, All-nil (IsEntry m)); result = int };
+  slots = refl;
+})
+
+pub phi_says : (s : Scope) (name : Option Text) (type : Text) (first : Incoming) (more : List Incoming) (w : ℕ) (m : Module) (t : LLVMType) (entries : List _) → int_width is_plain 64 type ≡ Some w → entries ≡ [] → SaysInst s (Phi name type first more) m (I.Phi t entries)
+unfolding open_inst
+phi_says s name type first more w m t entries typed none = subst (λ es. SaysInst s (Phi name type first more) m (I.Phi t es)) (sym none) (record { width = w; written = typed; says = some_bound (int_width is_plain 64 type) _ w _ typed refl })
+
+pub phi_untyped : (s : Scope) (name : Option Text) (type : Text) (first : Incoming) (more : List Incoming) → int_width is_plain 64 type ≡ None → open_inst s (Phi name type first more) ≡ None
+unfolding open_inst
+phi_untyped s name type first more none = none_bound (int_width is_plain 64 type) _ none
+
+-- ---- terminators
+
+pub void_says : (s : Scope) (m : Module) → SaysEnd s ReturnVoid m (I.Ret None)
+unfolding open_terminator
+void_says s m = record { says = refl }
+
+pub return_made : (type value : Text) (w : ℕ) (m : Module) (v : LLVMValue) → int_width is_plain 64 type ≡ Some w → IsValueOf m v w → IsMadeEnd (Return type value) m (I.Ret (Some v))
+return_made type value w m v typed x = record { values = x.there; void = refl; slots = λ u e. let same : w ≡ u = cc in record { value = v; at = refl; stands = operand_at m v w u x same } }
+
+pub return_says : (s : Scope) (type value : Text) (w : ℕ) (m : Module) (v : LLVMValue) → int_width is_plain 64 type ≡ Some w → OpensValue s w value m v → SaysEnd s (Return type value) m (I.Ret (Some v))
+unfolding open_terminator
+return_says s type value w m v typed x = record { says = some_bound (int_width is_plain 64 type) _ w _ typed (some_bound (open_value s w value) _ (operand_of (trees_of m) v) _ x.says refl) }
+
+pub return_untyped : (s : Scope) (type value : Text) → int_width is_plain 64 type ≡ None → open_terminator s (Return type value) ≡ None
+unfolding open_terminator
+return_untyped s type value none = none_bound (int_width is_plain 64 type) _ none
+
+pub return_unvalued : (s : Scope) (type value : Text) (w : ℕ) → int_width is_plain 64 type ≡ Some w → value_of is_plain 64 s w value ≡ None → open_terminator s (Return type value) ≡ None
+unfolding open_terminator
+return_unvalued s type value w typed none = some_bound (int_width is_plain 64 type) _ w None typed (none_bound (open_value s w value) _ (value_closed s w value none))
+
+pub br_made : (target : Text) (m : Module) (c : code.Scope) (b : LLVMBasicBlock) → IsReady false m c → IsTargetOf c target b → IsMadeEnd (Br target) m (I.Br b)
+br_made target m c b ready h = record { values = target_stands false m c target b ready h; void = refl; slots = tt }
+
+pub br_says : (s : Scope) (target : Text) (m : Module) (b : LLVMBasicBlock) → block_of is_plain 64 s target ≡ Some b.0 → SaysEnd s (Br target) m (I.Br b)
+unfolding open_terminator
+br_says s target m b h = record { says = some_bound (block_of is_plain 64 s target) _ b.0 _ h refl }
+
+pub br_untargeted : (s : Scope) (target : Text) → block_of is_plain 64 s target ≡ None → open_terminator s (Br target) ≡ None
+unfolding open_terminator
+br_untargeted s target none = none_bound (block_of is_plain 64 s target) _ none
+
+pub cond_made : (type condition first second : Text) (w : ℕ) (m : Module) (v : LLVMValue) (a b : LLVMBasicBlock) → w ≡ 1 → IsValueOf m v w → a.0 < length m.blocks → b.0 < length m.blocks → IsMadeEnd (CondBr type condition first second) m (I.CondBr v a b)
+cond_made type condition first second w m v a b one x p q = record { values = (x.there, p, q); void = refl; slots = record { value = v; at = refl; stands = operand_at m v w 1 x one } }
+
+pub cond_says : (s : Scope) (type condition first second : Text) (w : ℕ) (m : Module) (v : LLVMValue) (a b : LLVMBasicBlock) → bit_width (int_width is_plain 64 type) ≡ Some w → OpensValue s w condition m v → block_of is_plain 64 s first ≡ Some a.0 → block_of is_plain 64 s second ≡ Some b.0
+    → SaysEnd s (CondBr type condition first second) m (I.CondBr v a b)
+unfolding open_terminator
+cond_says s type condition first second w m v a b typed x p q = record {
+  says = some_bound (bit_width (int_width is_plain 64 type)) _ w _ typed (some_bound (open_value s w condition) _ (operand_of (trees_of m) v) _ x.says
+      (some_bound (block_of is_plain 64 s first) _ a.0 _ p (some_bound (block_of is_plain 64 s second) _ b.0 _ q refl)));
+}
+
+pub cond_untyped : (s : Scope) (type condition first second : Text) → bit_width (int_width is_plain 64 type) ≡ None → open_terminator s (CondBr type condition first second) ≡ None
+unfolding open_terminator
+cond_untyped s type condition first second none = none_bound (bit_width (int_width is_plain 64 type)) _ none
+
+pub cond_unvalued : (s : Scope) (type condition first second : Text) (w : ℕ) → bit_width (int_width is_plain 64 type) ≡ Some w → value_of is_plain 64 s w condition ≡ None → open_terminator s (CondBr type condition first second) ≡ None
+unfolding open_terminator
+cond_unvalued s type condition first second w typed none = some_bound (bit_width (int_width is_plain 64 type)) _ w None typed (none_bound (open_value s w condition) _ (value_closed s w condition none))
+
+pub cond_first : (s : Scope) (type condition first second : Text) → block_of is_plain 64 s first ≡ None → open_terminator s (CondBr type condition first second) ≡ None
+unfolding open_terminator
+cond_first s type condition first second none = not_bound (bit_width (int_width is_plain 64 type)) _ (λ w. not_bound (open_value s w condition) _ (λ c. none_bound (block_of is_plain 64 s first) _ none))
+
+pub cond_second : (s : Scope) (type condition first second : Text) → block_of is_plain 64 s second ≡ None → open_terminator s (CondBr type condition first second) ≡ None
+unfolding open_terminator
+cond_second s type condition first second none =
+    not_bound (bit_width (int_width is_plain 64 type)) _ (λ w. not_bound (open_value s w condition) _ (λ c. not_bound (block_of is_plain 64 s first) _ (λ b. none_bound (block_of is_plain 64 s second) _ none)))
+
+pub unreachable_says : (s : Scope) (m : Module) → SaysEnd s Unreachable m I.Unreachable
+unfolding open_terminator
+unreachable_says s m = record { says = refl }

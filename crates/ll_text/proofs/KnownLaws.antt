@@ -1,14 +1,15 @@
 -- What definitions tell: of each value that is known in a scope, and of names, widths and operands.
-use Rattle.std.proofs.Common.{◌≡◌, ℕ, ◌+◌, ◌-◌, ◌≤◌, ◌⊎◌, inl, inr, Bool, true, false, ◌&&◌, nat_le, nat_lt, nat_eq, [], ◌∷◌, length, take, drop, Option, Some, None, refl, ap, subst, if◌then◌else◌, eqb-true, eq-eqb, arith}
+use Rattle.std.proofs.Common.{◌≡◌, ℕ, ◌+◌, ◌-◌, ◌≤◌, ◌⊎◌, inl, inr, Bool, true, false, ◌&&◌, nat_le, nat_lt, nat_eq, [], ◌∷◌, length, take, drop, Option, Some, None, refl, ap, sym, ◌∙◌, subst, if◌then◌else◌, eqb-true, arith}
 use Rattle.std.specs.Option.{option_map}
 use Rattle.std.proofs.lemmas.Bool.Decides.{nat_tests}
 use Rattle.llvm_core.specs.Names.{is_plain, IsPlainOrNone}
 use Rattle.llvm_core.proofs.ListLemmas.{some_same}
-use Rattle.llvm_core.specs.declared.code.LLVMValue.{LLVMValue}
 use Rattle.llvm_core.specs.Data.{Operand}
 use Rattle.ll_text.specs.Text.{Text, width_of, const_value, number_of, number_limit}
 use Rattle.ll_text.specs.Tree.{is_local, is_digits}
-use Rattle.ll_text.specs.Building.{AllKnown, IsNamedBy, SaysLocal}
+use Rattle.ll_text.specs.ScopeView.{key_name}
+use Rattle.ll_text.specs.Numbered.{name_said}
+use Rattle.ll_text.specs.Building.{AllKnown, AllLocals}
 use Rattle.ll_text.specs.Meaning.{◌>>=◌, Key, Named, Numbered, same_key, Local, ValueLocal, BlockLocal, Scope, empty_scope, with_key, counted, define, legal_width, value_of_width, constant, int_width, key_of, optional_key, global_name, string_name, value_of, define_written, local_key, label_key}
 
 -- ---- steps that give something
@@ -124,6 +125,42 @@ defined P s x k d e plain h p = (named s x k d e plain, define_known P s x k d e
     named s x (Some (Numbered n)) d e plain = rw (counted_known (λ o w. Unit {0}) s x n d (chosen (nat_le s.next n) (counted s x n) d e).1 (λ k o w h. tt) (any x)).0 tt
     named s x (Some (Named n)) d e plain = let same : (n, with_key s (Named n) x s.next) ≡ d = cc in subst (λ (d : Text × Scope). IsPlainOrNone d.0) same (plain_or_none n plain)
 
+-- ---- each thing that is known
+
+key_local : (P : Local → Type 0) (s : Scope) (k : Key) (x : Local) (n : ℕ) → AllLocals P s → P x → AllLocals P (with_key s k x n)
+key_local P s k x n h p j y e = by (same_key k j) e
+  where
+    by : (t : Bool) → (if t then Some x else s.known j) ≡ Some y → P y
+    by true e = let same : x ≡ y = cc in subst P same p
+    by false e = h j y e
+
+counted_local : (P : Local → Type 0) (s : Scope) (x : Local) (n : ℕ) (d : Text × Scope) → counted s x n ≡ Some d → AllLocals P s → P x → AllLocals P d.1
+counted_local P s x n d e h p =
+    let c = chosen (nat_lt n number_limit) _ d e in
+    let same : ([], with_key s (Numbered n) x (n + 1)) ≡ d = cc (c.1) in
+    subst (λ (d : Text × Scope). AllLocals P d.1) same (key_local P s (Numbered n) x (n + 1) h p)
+
+define_local : (P : Local → Type 0) (s : Scope) (x : Local) (k : Option Key) (d : Text × Scope) → define s x k ≡ Some d → AllLocals P s → P x → AllLocals P d.1
+define_local P s x None d e h p = counted_local P s x s.next d e h p
+define_local P s x (Some (Numbered n)) d e h p = counted_local P s x n d (chosen (nat_le s.next n) (counted s x n) d e).1 h p
+define_local P s x (Some (Named n)) d e h p = let same : (n, with_key s (Named n) x s.next) ≡ d = cc in subst (λ (d : Text × Scope). AllLocals P d.1) same (key_local P s (Named n) x s.next h p)
+
+-- P stays true of each thing that is known when a thing of which it is true is defined
+pub written_local : (P : Local → Type 0) (s : Scope) (x : Local) (key : Text → Option Key) (o : Option Text) (d : Text × Scope) → define_written is_plain 64 s x key o ≡ Some d → AllLocals P s → P x → AllLocals P d.1
+written_local P s x key o d e h p = let k = bound (optional_key is_plain 64 key o) (define s x) d e in define_local P s x k.0 d k.2 h p
+
+define_name : (s : Scope) (x : Local) (k : Option Key) (d : Text × Scope) → define s x k ≡ Some d → d.0 ≡ key_name k
+define_name s x None d e = (counted_known (λ o w. Unit {0}) s x s.next d e (λ k o w h. tt) (any x)).0
+define_name s x (Some (Numbered n)) d e = (counted_known (λ o w. Unit {0}) s x n d (chosen (nat_le s.next n) (counted s x n) d e).1 (λ k o w h. tt) (any x)).0
+define_name s x (Some (Named n)) d e = let same : (n, with_key s (Named n) x s.next) ≡ d = cc in ap (λ (d : Text × Scope). d.0) (let back : d ≡ (n, with_key s (Named n) x s.next) = cc in back)
+
+-- the name of what is defined is the one that is written
+pub written_name_is : (s : Scope) (x : Local) (key : Text → Option Key) (o : Option Text) (d : Text × Scope) → define_written is_plain 64 s x key o ≡ Some d → d.0 ≡ name_said (optional_key is_plain 64 key o)
+written_name_is s x key o d e =
+    let k = bound (optional_key is_plain 64 key o) (define s x) d e in
+    let same : name_said (optional_key is_plain 64 key o) ≡ key_name k.0 = ap name_said k.1 in
+    define_name s x k.0 d k.2 ∙ sym same
+
 pub written : (P : Operand → ℕ → Type 0) (s : Scope) (x : Local) (key : Text → Option Key) → ((t : Text) (k : Key) → key t ≡ Some k → IsPlainKey k)
     → (o : Option Text) (d : Text × Scope) → define_written is_plain 64 s x key o ≡ Some d → AllKnown P s → IfValue P x → IsPlainOrNone d.0 × AllKnown P d.1
 written P s x key all o d e h p =
@@ -138,7 +175,7 @@ label_plain t k h = plain_key (take (length t - 1) t) k h
 
 -- ---- operands
 
-of_width : (w : ℕ) (l : Option Local) (o : Operand) → value_of_width w l ≡ Some o → l ≡ Some (ValueLocal o w)
+pub of_width : (w : ℕ) (l : Option Local) (o : Operand) → value_of_width w l ≡ Some o → l ≡ Some (ValueLocal o w)
 of_width w None o h = absurd cc
 of_width w (Some (BlockLocal b)) o h = absurd cc
 of_width w (Some (ValueLocal p v)) o h =
@@ -156,14 +193,3 @@ operand_is s w t o h = by (is_local t) h
         → ((k : Key) × (s.known k ≡ Some (ValueLocal o w))) ⊎ ((v : ℕ) × (const_value w t ≡ Some v) × (constant w v ≡ o))
     by true h = let k = bound (local_key is_plain 64 t) (λ k. value_of_width w (s.known k)) o h in inl (k.0, of_width w (s.known k.0) o k.2)
     by false h = inr (mapped (constant w) (const_value w t) o h)
-
--- ---- operands of the program
-
-pub local_said : (s : Scope) (w : ℕ) (t : Text) (v : LLVMValue) (key : Key) (o : Operand) → is_local t ≡ true → local_key is_plain 64 t ≡ Some key → s.known key ≡ Some (ValueLocal o w) → IsNamedBy v o → SaysLocal s w t v
-local_said s w t v key o is k known named = record {
-  operand = o;
-  says = rw (is, k, known, eq-eqb w w refl) refl;
-  key = key;
-  known = known;
-  named = named;
-}

@@ -8,9 +8,10 @@ use Rattle.llvm_core.specs.Names.{is_digit, is_letter, is_plain, is_plain_byte}
 use Rattle.llvm_core.specs.Data as L
 use Rattle.llvm_core.specs.Data.{TypeTree, VoidType, IntType, FunctionType, TypeTrees, NoTypes, ThenType, Operand, Placed, Block, ModuleData}
 use Rattle.ll_text.specs.Text.{Text, is_bare, is_name_byte, width_of}
-use Rattle.ll_text.specs.Tree.{is_local, is_digits, Inst, ReturnVoid, Return, Add, Param, Function, File}
+use Rattle.ll_text.specs.Tree as tree
+use Rattle.ll_text.specs.Tree.{is_local, is_digits, Incoming, Inst, Add, ICmp, Phi, Terminator, ReturnVoid, Return, Br, CondBr, Unreachable, Param, Function, File, blocks_of}
 use Rattle.ll_text.specs.Spelling.{widest}
-use Rattle.ll_text.specs.Meaning.{◌>>=◌, Key, Named, Local, ValueLocal, BlockLocal, Scope, empty_scope, legal_width, int_width, key_of, local_key, label_key, optional_key, global_name, string_name, value_of, define_written, inst_data, param_data, result_data, AreParams, AreInstructions, IsFunctionOf, AreFunctions, IsSource, IsFileOf}
+use Rattle.ll_text.specs.Meaning.{◌>>=◌, Key, Named, Local, ValueLocal, BlockLocal, Scope, empty_scope, legal_width, bit_width, written_name, int_width, key_of, local_key, label_key, optional_key, global_name, string_name, value_of, block_of, define_written, result_width, named_inst, AreNamed, NamesBlock, NameBlocks, entries_data, inst_data, terminator_data, AreInstructions, IsBlockOf, AreBlocks, param_data, result_data, AreParams, IsFunctionOf, AreFunctions, IsSource, IsFileOf}
 
 -- ---- what is given stays given
 
@@ -96,23 +97,64 @@ value_gives : (s : Scope) (w : ℕ) (t : Text) → Gives (value_of is_plain 64 s
 value_gives s w t = choice_gives (is_local t) _ _ _ _
     (bind_gives (local_key is_plain 64 t) (local_key is_bare widest t) _ _ (key_gives (drop 1 t)) (λ k. same_gives _)) (same_gives _)
 
+block_gives : (s : Scope) (t : Text) → Gives (block_of is_plain 64 s t) (block_of is_bare widest s t)
+block_gives s t = bind_gives (local_key is_plain 64 t) (local_key is_bare widest t) _ _ (key_gives (drop 1 t)) (λ k. same_gives _)
+
 written_gives : (s : Scope) (x : Local) (k l : Text → Option Key) → ((t : Text) → Gives (k t) (l t)) → (o : Option Text) → Gives (define_written is_plain 64 s x k o) (define_written is_bare widest s x l o)
 written_gives s x k l h o = bind_gives (optional_key is_plain 64 k o) (optional_key is_bare widest l o) _ _ (optional_gives k l h o) (λ k. same_gives _)
 
 local_gives : (s : Scope) (x : Local) (o : Option Text) → Gives (define_written is_plain 64 s x (local_key is_plain 64) o) (define_written is_bare widest s x (local_key is_bare widest) o)
 local_gives s x o = written_gives s x (local_key is_plain 64) (local_key is_bare widest) (λ t. key_gives (drop 1 t)) o
 
-inst_gives : (s : Scope) (n : ℕ) (i : Inst) → Gives (inst_data is_plain 64 s n i) (inst_data is_bare widest s n i)
+result_width_gives : (i : Inst) → Gives (result_width is_plain 64 i) (result_width is_bare widest i)
+result_width_gives (Add name nuw nsw type lhs rhs) = int_width_gives type
+result_width_gives (ICmp name predicate type lhs rhs) = same_gives _
+result_width_gives (Phi name type first more) = int_width_gives type
+
+named_gives : (s : Scope) (n : ℕ) (i : Inst) → Gives (named_inst is_plain 64 s n i) (named_inst is_bare widest s n i)
+unfolding named_inst
+named_gives s n i = bind_gives (result_width is_plain 64 i) (result_width is_bare widest i) _ _ (result_width_gives i) (λ w. local_gives s (ValueLocal (L.Result n) w) (written_name i))
+
+entries_gives : (s : Scope) (w : ℕ) (es : List Incoming) → Gives (entries_data is_plain 64 s w es) (entries_data is_bare widest s w es)
+unfolding entries_data
+entries_gives s w [] = same_gives _
+entries_gives s w (e ∷ es) =
+    bind_gives (value_of is_plain 64 s w e.value) (value_of is_bare widest s w e.value) _ _ (value_gives s w e.value)
+    (λ o. bind_gives (block_of is_plain 64 s e.block) (block_of is_bare widest s e.block) _ _ (block_gives s e.block)
+    (λ b. bind_gives (entries_data is_plain 64 s w es) (entries_data is_bare widest s w es) _ _ (entries_gives s w es) (λ more. same_gives _)))
+
+inst_gives : (s : Scope) (i : Inst) → Gives (inst_data is_plain 64 s i) (inst_data is_bare widest s i)
 unfolding inst_data
-inst_gives s n ReturnVoid = same_gives _
-inst_gives s n (Return type value) =
-    bind_gives (int_width is_plain 64 type) (int_width is_bare widest type) _ _ (int_width_gives type)
-    (λ w. bind_gives (value_of is_plain 64 s w value) (value_of is_bare widest s w value) _ _ (value_gives s w value) (λ o. same_gives _))
-inst_gives s n (Add name nuw nsw type lhs rhs) =
+inst_gives s (Add name nuw nsw type lhs rhs) =
     bind_gives (int_width is_plain 64 type) (int_width is_bare widest type) _ _ (int_width_gives type)
     (λ w. bind_gives (value_of is_plain 64 s w lhs) (value_of is_bare widest s w lhs) _ _ (value_gives s w lhs)
-    (λ a. bind_gives (value_of is_plain 64 s w rhs) (value_of is_bare widest s w rhs) _ _ (value_gives s w rhs)
-    (λ b. bind_gives (define_written is_plain 64 s (ValueLocal (L.Result n) w) (local_key is_plain 64) name) (define_written is_bare widest s (ValueLocal (L.Result n) w) (local_key is_bare widest) name) _ _ (local_gives s (ValueLocal (L.Result n) w) name) (λ d. same_gives _))))
+    (λ a. bind_gives (value_of is_plain 64 s w rhs) (value_of is_bare widest s w rhs) _ _ (value_gives s w rhs) (λ b. same_gives _)))
+inst_gives s (ICmp name predicate type lhs rhs) =
+    bind_gives (int_width is_plain 64 type) (int_width is_bare widest type) _ _ (int_width_gives type)
+    (λ w. bind_gives (value_of is_plain 64 s w lhs) (value_of is_bare widest s w lhs) _ _ (value_gives s w lhs)
+    (λ a. bind_gives (value_of is_plain 64 s w rhs) (value_of is_bare widest s w rhs) _ _ (value_gives s w rhs) (λ b. same_gives _)))
+inst_gives s (Phi name type first more) =
+    bind_gives (int_width is_plain 64 type) (int_width is_bare widest type) _ _ (int_width_gives type)
+    (λ w. bind_gives (entries_data is_plain 64 s w (first ∷ more)) (entries_data is_bare widest s w (first ∷ more)) _ _ (entries_gives s w (first ∷ more)) (λ es. same_gives _))
+
+-- one bit stays one bit
+bit_gives : (x y : Option ℕ) → Gives x y → Gives (bit_width x) (bit_width y)
+bit_gives None y h b e = cc
+bit_gives (Some w) y h b e = ap bit_width (h w refl) ∙ e
+
+terminator_gives : (s : Scope) (i : Terminator) → Gives (terminator_data is_plain 64 s i) (terminator_data is_bare widest s i)
+unfolding terminator_data
+terminator_gives s ReturnVoid = same_gives _
+terminator_gives s (Return type value) =
+    bind_gives (int_width is_plain 64 type) (int_width is_bare widest type) _ _ (int_width_gives type)
+    (λ w. bind_gives (value_of is_plain 64 s w value) (value_of is_bare widest s w value) _ _ (value_gives s w value) (λ o. same_gives _))
+terminator_gives s (Br target) = bind_gives (block_of is_plain 64 s target) (block_of is_bare widest s target) _ _ (block_gives s target) (λ b. same_gives _)
+terminator_gives s (CondBr type condition first second) =
+    bind_gives (bit_width (int_width is_plain 64 type)) (bit_width (int_width is_bare widest type)) _ _ (bit_gives (int_width is_plain 64 type) (int_width is_bare widest type) (int_width_gives type))
+    (λ w. bind_gives (value_of is_plain 64 s w condition) (value_of is_bare widest s w condition) _ _ (value_gives s w condition)
+    (λ c. bind_gives (block_of is_plain 64 s first) (block_of is_bare widest s first) _ _ (block_gives s first)
+    (λ a. bind_gives (block_of is_plain 64 s second) (block_of is_bare widest s second) _ _ (block_gives s second) (λ b. same_gives _))))
+terminator_gives s Unreachable = same_gives _
 
 param_gives : (s : Scope) (f i : ℕ) (p : Param) → Gives (param_data is_plain 64 s f i p) (param_data is_bare widest s f i p)
 unfolding param_data
@@ -136,11 +178,48 @@ wider_params f i s (p ∷ ps) (ThenType VoidType ts) ns t h = elim h [ ]
 wider_params f i s (p ∷ ps) (ThenType (IntType w) ts) [] t h = elim h [ ]
 wider_params f i s (p ∷ ps) (ThenType (FunctionType result params variadic) ts) ns t h = elim h [ ]
 
+wider_names : (s : Scope) (is : List Inst) (ps : List Placed) (t : Scope) → AreNamed is_plain 64 s is ps t → AreNamed is_bare widest s is ps t
+wider_names s [] [] t h = h
+wider_names s (i ∷ is) (p ∷ ps) t h = (h.0, named_gives s p.number i (p.name, h.0) h.1, wider_names h.0 is ps t h.2)
+wider_names s [] (p ∷ ps) t h = elim h [ ]
+wider_names s (i ∷ is) [] t h = elim h [ ]
+
+wider_label : (s : Scope) (b : tree.Block) (c : Block) (t : Scope) → NamesBlock is_plain 64 s b c t → NamesBlock is_bare widest s b c t
+wider_label s b c t h = record {
+  after_label = h.after_label;
+  label = written_gives s (BlockLocal c.number) (label_key is_plain 64) (label_key is_bare widest) (λ t. key_gives (take (length t - 1) t)) b.label (c.name, h.after_label) h.label;
+  front = h.front;
+  last = h.last;
+  are = h.are;
+  results = wider_names h.after_label b.insts h.front t h.results;
+}
+
+wider_labels : (s : Scope) (bs : List tree.Block) (cs : List Block) (t : Scope) → NameBlocks is_plain 64 s bs cs t → NameBlocks is_bare widest s bs cs t
+wider_labels s [] [] t h = h
+wider_labels s (b ∷ bs) (c ∷ cs) t h = (h.0, wider_label s b c h.0 h.1, wider_labels h.0 bs cs t h.2)
+wider_labels s [] (c ∷ cs) t h = elim h [ ]
+wider_labels s (b ∷ bs) [] t h = elim h [ ]
+
 wider_insts : (s : Scope) (is : List Inst) (ps : List Placed) → AreInstructions is_plain 64 s is ps → AreInstructions is_bare widest s is ps
 wider_insts s [] [] h = h
-wider_insts s (i ∷ is) (p ∷ ps) h = (h.0, inst_gives s p.number i (p, h.0) h.1, wider_insts h.0 is ps h.2)
+wider_insts s (i ∷ is) (p ∷ ps) h = (inst_gives s i (p.type, p.instruction) h.0, wider_insts s is ps h.1)
 wider_insts s [] (p ∷ ps) h = elim h [ ]
 wider_insts s (i ∷ is) [] h = elim h [ ]
+
+wider_block : (s : Scope) (b : tree.Block) (c : Block) → IsBlockOf is_plain 64 s b c → IsBlockOf is_bare widest s b c
+wider_block s b c h = record {
+  front = h.front;
+  last = h.last;
+  are = h.are;
+  instructions = wider_insts s b.insts h.front h.instructions;
+  end = record { instruction = terminator_gives s b.end h.last.instruction h.end.instruction; type = h.end.type; name = h.end.name };
+}
+
+wider_blocks : (s : Scope) (bs : List tree.Block) (cs : List Block) → AreBlocks is_plain 64 s bs cs → AreBlocks is_bare widest s bs cs
+wider_blocks s [] [] h = h
+wider_blocks s (b ∷ bs) (c ∷ cs) h = (wider_block s b c h.0, wider_blocks s bs cs h.1)
+wider_blocks s [] (c ∷ cs) h = elim h [ ]
+wider_blocks s (b ∷ bs) [] h = elim h [ ]
 
 wider_function : (f : Function) (d : L.Function) → IsFunctionOf is_plain 64 f d → IsFunctionOf is_bare widest f d
 wider_function f d h = record {
@@ -152,12 +231,9 @@ wider_function f d h = record {
   space = h.space;
   after_params = h.after_params;
   params = wider_params d.number 0 empty_scope f.params h.types d.params h.after_params h.params;
-  block = h.block;
-  only = h.only;
-  after_label = h.after_label;
-  label = written_gives h.after_params (BlockLocal h.block.number) (label_key is_plain 64) (label_key is_bare widest) (λ t. key_gives (take (length t - 1) t)) f.label (h.block.name, h.after_label) h.label;
-  instructions = wider_insts h.after_label f.insts h.block.instructions h.instructions;
-  ends = h.ends;
+  scope = h.scope;
+  names = wider_labels h.after_params (blocks_of f) d.blocks h.scope h.names;
+  blocks = wider_blocks h.scope (blocks_of f) d.blocks h.blocks;
 }
 
 wider_functions : (fs : List Function) (ds : List L.Function) → AreFunctions is_plain 64 fs ds → AreFunctions is_bare widest fs ds

@@ -1,123 +1,213 @@
 -- What is said by bare names and integers of any width, of a module of the form with a plain name, is said by plain names and narrow integers.
-use Rattle.std.proofs.Common.{◌≡◌, ℕ, zero, suc, ◌-◌, ◌+◌, inl, inr, false, nat_eq, List, [], ◌∷◌, length, map, take, drop, slice_get, Option, Some, None, refl, ap, sym, ◌∙◌, subst, eq-eqb, ne_eqb, All, arith}
-use Rattle.std.specs.List.{flat_map, find, AllByRecursion}
-use Rattle.std.specs.Option.{option_map, option_map_or}
-use Rattle.std.proofs.lemmas.List.{append-nil}
-use Rattle.std.proofs.lemmas.List.Elements.{All-head, All-tail}
-use Rattle.std.proofs.lemmas.Option.{slice_get-map}
+use Rattle.std.proofs.Common.{◌≡◌, ℕ, suc, false, List, [], ◌∷◌, length, take, drop, ◌-◌, Option, Some, None, refl, ap, sym, ◌∙◌, subst, arith}
+use Rattle.std.specs.List.{AllByRecursion}
+use Rattle.std.specs.Option.{option_map}
+use Rattle.std.proofs.lemmas.Option.{same_Some}
+use Rattle.std.proofs.lemmas.List.Elements.{recursion_from_All}
+use Rattle.llvm_core.specs.declared.code.OverflowFlags.{OverflowFlags}
 use Rattle.llvm_core.specs.Names.{is_plain, IsPlainOrNone}
-use Rattle.llvm_core.specs.Interned.{IsDistinctList}
 use Rattle.llvm_core.specs.Data as L
-use Rattle.llvm_core.specs.Data.{TypeTree, VoidType, IntType, FunctionType, TypeTrees, NoTypes, ThenType, Operand, Parameter, Result, Placed, Block, ModuleData, operand_type, nth_type}
-use Rattle.llvm_core.specs.Form.{IsShortInt, IsShortResult, AreShortInts, IsFormInstruction, IsFormFunction, IsForm, result_of}
+use Rattle.llvm_core.specs.Data.{TypeTree, VoidType, IntType, FunctionType, TypeTrees, NoTypes, ThenType, Operand, Placed, Block, ModuleData, operand_type}
+use Rattle.llvm_core.specs.Form.{IsShortInt, IsShortResult, AreShortInts, IsOperand, result_of, IsFormInstruction, IsFormBlock, IsFormFunction, IsForm}
 use Rattle.ll_text.specs.Text.{Text, is_bare}
-use Rattle.ll_text.specs.Tree.{Inst, ReturnVoid, Return, Add, Param, Function, File}
+use Rattle.ll_text.specs.Tree as tree
+use Rattle.ll_text.specs.Tree.{Incoming, Inst, Add, ICmp, Phi, Terminator, ReturnVoid, Return, Br, CondBr, Unreachable, Param, Function, File, blocks_of}
 use Rattle.ll_text.specs.Spelling.{widest}
-use Rattle.ll_text.specs.Returns.{FitsReturn, HasFitReturns, ReturnsFit}
-use Rattle.ll_text.specs.Building.{AllKnown}
-use Rattle.ll_text.specs.Meaning.{ValueLocal, BlockLocal, Scope, empty_scope, int_width, local_key, label_key, value_of, define_written, inst_data, param_data, result_data, AreParams, AreInstructions, IsFunctionOf, AreFunctions, IsSource, IsFileOf}
-use Rattle.ll_text.proofs.InstructionLaws.{bind_some}
-use Rattle.ll_text.proofs.KnownLaws.{bound, mapped, same_pair, same_triple, none_known, written, label_plain, operand_is}
-use Rattle.ll_text.proofs.NarrowNames.{global_narrow, string_narrow, int_width_narrow, HasPlainKeys, no_keys, written_narrow, value_narrow}
-use Rattle.ll_text.proofs.FormLaws.{inst_known, params_known}
+use Rattle.ll_text.specs.Meaning.{ValueLocal, BlockLocal, Scope, empty_scope, bit_width, predicate_of, written_name, int_width, local_key, value_of, block_of, define_written, result_width, named_inst, AreNamed, NamesBlock, NameBlocks, entries_data, inst_data, terminator_data, AreInstructions, IsBlockOf, AreBlocks, param_data, result_data, AreParams, IsFunctionOf, AreFunctions, IsSource, IsFileOf}
+use Rattle.ll_text.proofs.Steps.{bind_some}
+use Rattle.ll_text.proofs.PlainLaws.{mapped, short_result}
+use Rattle.ll_text.proofs.ListLaws.{all_front, all_back, all_weaker}
+use Rattle.ll_text.proofs.HoldsLaws.{Holds, Typed, param_is, SaysBlock, SayBlocks, say_blocks, result_is, scope_typed, value_typed}
+use Rattle.ll_text.proofs.NarrowNames.{bind_on, global_narrow, string_narrow, int_width_narrow, HasPlainKeys, no_keys, written_narrow, value_narrow, target_narrow, bit_narrow}
 
 -- ---- instructions
 
--- the operand has that width in the function
-abbrev Typed : L.Function → Operand → ℕ → Type 0
-Typed d o w = operand_type d o ≡ IntType w
+-- an operand of the form of that width is narrow
+width_short : (d : L.Function) (s : Scope) (w : ℕ) (t : Text) (o : Operand) (type : TypeTree) → Holds (Typed d) s → value_of is_bare widest s w t ≡ Some o → IsOperand d type o → IsShortInt (IntType w)
+width_short d s w t o type known e form = subst IsShortInt (sym form.typed ∙ value_typed is_bare widest d s w t o known e) form.short
 
-value_typed : (d : L.Function) (s : Scope) (w : ℕ) (t : Text) (o : Operand) → AllKnown (Typed d) s → value_of is_plain 64 s w t ≡ Some o → Typed d o w
-value_typed d s w t o known e = elim (operand_is s w t o e) [
-  | inl k ↦ known k.0 o w k.1
-  | inr v ↦ subst (λ (p : Operand). Typed d p w) v.2 refl
-]
+entries_narrow : (s : Scope) (w : ℕ) (es : List Incoming) (xs : List (Operand × ℕ)) → HasPlainKeys s → entries_data is_bare widest s w es ≡ Some xs → entries_data is_plain 64 s w es ≡ Some xs
+unfolding entries_data
+entries_narrow s w [] xs keys h = h
+entries_narrow s w (e ∷ es) xs keys h =
+    let o = bind_some (value_of is_bare widest s w e.value) _ xs h in
+    let b = bind_some (block_of is_bare widest s e.block) _ xs o.2 in
+    let more = bind_some (entries_data is_bare widest s w es) _ xs b.2 in
+    bind_on (value_of is_plain 64 s w e.value) _ o.0 _ (value_narrow s w e.value o.0 keys o.1)
+    (bind_on (block_of is_plain 64 s e.block) _ b.0 _ (target_narrow s e.block b.0 keys b.1)
+    (bind_on (entries_data is_plain 64 s w es) _ more.0 _ (entries_narrow s w es more.0 keys more.1) more.2))
 
--- an instruction of the form that plain names and narrow integers say, and the scope behind it
-record SaysNarrow (f : Function) (s t : Scope) (i : Inst) (n : ℕ) (p : Placed) : Type 0 where
-  says : inst_data is_plain 64 s n i ≡ Some (p, t)
-  keys : HasPlainKeys t
-  fits : FitsReturn is_plain 64 f i
+-- the type and the instruction are those of an instruction of the form
+abbrev FormPair : L.Function → ℕ → Placed → TypeTree × L.Instruction → Type 0
+FormPair d b p x = (p.type ≡ x.0) × IsFormInstruction d b p x.1
 
-inst_narrow : (f : Function) (d : L.Function) (before : List Placed) (s t : Scope) (i : Inst) (n : ℕ) (p : Placed) → result_data is_plain 64 f.result ≡ Some (result_of d.type) → HasPlainKeys s → AllKnown (Typed d) s
-    → inst_data is_bare widest s n i ≡ Some (p, t) → IsFormInstruction d before p p.instruction → SaysNarrow f s t i n p
+form_pair : (d : L.Function) (b : ℕ) (p : Placed) (x y : TypeTree × L.Instruction) → Some y ≡ Some x → FormPair d b p x → FormPair d b p y
+form_pair d b p x y e form = subst (FormPair d b p) (sym (same_Some y x e)) form
+
+inst_narrow : (d : L.Function) (b : ℕ) (p : Placed) (s : Scope) (i : Inst) (x : TypeTree × L.Instruction) → HasPlainKeys s → Holds (Typed d) s → inst_data is_bare widest s i ≡ Some x → FormPair d b p x → inst_data is_plain 64 s i ≡ Some x
 unfolding inst_data
-inst_narrow f d before s t ReturnVoid n p returns keys known e form =
-    let both = same_pair (record { number = n; name = []; type = VoidType; instruction = L.Return None }) p s t e in
-    let void = (subst (λ (q : Placed). IsFormInstruction d before q q.instruction) (sym both.0) form).0 in
-    record { says = e; keys = subst HasPlainKeys both.1 keys; fits = returns ∙ ap Some void }
-inst_narrow f d before s t (Return type value) n p returns keys known e form =
-    let w = bound (int_width is_bare widest type) _ (p, t) e in
-    let o = bound (value_of is_bare widest s w.0 value) _ (p, t) w.2 in
-    let both = same_pair (record { number = n; name = []; type = VoidType; instruction = L.Return (Some o.0) }) p s t o.2 in
-    let operand = (subst (λ (q : Placed). IsFormInstruction d before q q.instruction) (sym both.0) form).0 in
-    let says = value_narrow s w.0 value o.0 keys o.1 in
-    let typed : result_of d.type ≡ IntType w.0 = sym operand.typed ∙ value_typed d s w.0 value o.0 known says in
-    let width = int_width_narrow type w.0 w.1 (subst IsShortInt typed operand.short) in
+inst_narrow d b p s (Add name nuw nsw type lhs rhs) x keys known e form =
+    let w = bind_some (int_width is_bare widest type) _ x e in
+    let l = bind_some (value_of is_bare widest s w.0 lhs) _ x w.2 in
+    let r = bind_some (value_of is_bare widest s w.0 rhs) _ x l.2 in
+    let flags : OverflowFlags = record { nuw = nuw; nsw = nsw } in
+    let made = form_pair d b p x (IntType w.0, L.Add l.0 r.0 flags) r.2 form in
+    let short = width_short d s w.0 lhs l.0 p.type known l.1 made.1.0 in
+    bind_on (int_width is_plain 64 type) _ w.0 _ (int_width_narrow type w.0 w.1 short)
+    (bind_on (value_of is_plain 64 s w.0 lhs) _ l.0 _ (value_narrow s w.0 lhs l.0 keys l.1)
+    (bind_on (value_of is_plain 64 s w.0 rhs) _ r.0 _ (value_narrow s w.0 rhs r.0 keys r.1) r.2))
+inst_narrow d b p s (ICmp name predicate type lhs rhs) x keys known e form =
+    let w = bind_some (int_width is_bare widest type) _ x e in
+    let l = bind_some (value_of is_bare widest s w.0 lhs) _ x w.2 in
+    let r = bind_some (value_of is_bare widest s w.0 rhs) _ x l.2 in
+    let q = bind_some (predicate_of predicate) _ x r.2 in
+    let made = form_pair d b p x (IntType 1, L.ICmp l.0 r.0 q.0) q.2 form in
+    let both = made.1.0 in
+    let short = width_short d s w.0 lhs l.0 both.0 known l.1 both.1 in
+    bind_on (int_width is_plain 64 type) _ w.0 _ (int_width_narrow type w.0 w.1 short)
+    (bind_on (value_of is_plain 64 s w.0 lhs) _ l.0 _ (value_narrow s w.0 lhs l.0 keys l.1)
+    (bind_on (value_of is_plain 64 s w.0 rhs) _ r.0 _ (value_narrow s w.0 rhs r.0 keys r.1) r.2))
+inst_narrow d b p s (Phi name type first more) x keys known e form =
+    let w = bind_some (int_width is_bare widest type) _ x e in
+    let es = bind_some (entries_data is_bare widest s w.0 (first ∷ more)) _ x w.2 in
+    let made = form_pair d b p x (IntType w.0, L.Phi es.0) es.2 form in
+    let short : IsShortInt (IntType w.0) = subst IsShortInt made.0 made.1.2 in
+    bind_on (int_width is_plain 64 type) _ w.0 _ (int_width_narrow type w.0 w.1 short)
+    (bind_on (entries_data is_plain 64 s w.0 (first ∷ more)) _ es.0 _ (entries_narrow s w.0 (first ∷ more) es.0 keys es.1) es.2)
+
+terminator_narrow : (d : L.Function) (b : ℕ) (p : Placed) (s : Scope) (i : Terminator) (x : L.Instruction) → HasPlainKeys s → Holds (Typed d) s → terminator_data is_bare widest s i ≡ Some x → IsFormInstruction d b p x → terminator_data is_plain 64 s i ≡ Some x
+unfolding terminator_data
+terminator_narrow d b p s ReturnVoid x keys known e form = e
+terminator_narrow d b p s (Return type value) x keys known e form =
+    let w = bind_some (int_width is_bare widest type) _ x e in
+    let o = bind_some (value_of is_bare widest s w.0 value) _ x w.2 in
+    let made = subst (IsFormInstruction d b p) (sym (same_Some (L.Return (Some o.0)) x o.2)) form in
+    let short = width_short d s w.0 value o.0 (result_of d.type) known o.1 made.0 in
+    bind_on (int_width is_plain 64 type) _ w.0 _ (int_width_narrow type w.0 w.1 short) (bind_on (value_of is_plain 64 s w.0 value) _ o.0 _ (value_narrow s w.0 value o.0 keys o.1) o.2)
+terminator_narrow d b p s (Br target) x keys known e form =
+    let t = bind_some (block_of is_bare widest s target) _ x e in
+    bind_on (block_of is_plain 64 s target) _ t.0 _ (target_narrow s target t.0 keys t.1) t.2
+terminator_narrow d b p s (CondBr type condition first second) x keys known e form =
+    let w = bind_some (bit_width (int_width is_bare widest type)) _ x e in
+    let c = bind_some (value_of is_bare widest s w.0 condition) _ x w.2 in
+    let t = bind_some (block_of is_bare widest s first) _ x c.2 in
+    let u = bind_some (block_of is_bare widest s second) _ x t.2 in
+    bind_on (bit_width (int_width is_plain 64 type)) _ w.0 _ (bit_narrow type w.0 w.1)
+    (bind_on (value_of is_plain 64 s w.0 condition) _ c.0 _ (value_narrow s w.0 condition c.0 keys c.1)
+    (bind_on (block_of is_plain 64 s first) _ t.0 _ (target_narrow s first t.0 keys t.1)
+    (bind_on (block_of is_plain 64 s second) _ u.0 _ (target_narrow s second u.0 keys u.1) u.2)))
+terminator_narrow d b p s Unreachable x keys known e form = e
+
+-- ---- names and widths of results
+
+-- the name and the type of an instruction of the form
+record IsFine (p : Placed) : Type 0 where
+  name : IsPlainOrNone p.name
+  type : IsShortResult p.type
+
+fine : (d : L.Function) (b : ℕ) (p : Placed) (x : L.Instruction) → IsFormInstruction d b p x → IsFine p
+fine d b p (L.Add lhs rhs flags) h = record { name = h.2; type = short_result p.type h.0.short }
+fine d b p (L.ICmp lhs rhs predicate) h = record { name = h.2; type = subst IsShortResult (sym h.1) (omega arith, omega arith) }
+fine d b p (L.Phi entries) h = record { name = h.3; type = short_result p.type h.2 }
+fine d b p (L.Br target) h = record { name = subst IsPlainOrNone (sym h.1.name) tt; type = subst IsShortResult (sym h.1.type) tt }
+fine d b p (L.CondBr condition first second) h = record { name = subst IsPlainOrNone (sym h.3.name) tt; type = subst IsShortResult (sym h.3.type) tt }
+fine d b p (L.Return None) h = record { name = subst IsPlainOrNone (sym h.1.name) tt; type = subst IsShortResult (sym h.1.type) tt }
+fine d b p (L.Return (Some o)) h = record { name = subst IsPlainOrNone (sym h.1.name) tt; type = subst IsShortResult (sym h.1.type) tt }
+fine d b p L.Unreachable h = record { name = subst IsPlainOrNone (sym h.name) tt; type = subst IsShortResult (sym h.type) tt }
+
+width_narrow : (i : Inst) (w : ℕ) → IsShortInt (IntType w) → result_width is_bare widest i ≡ Some w → result_width is_plain 64 i ≡ Some w
+width_narrow (Add name nuw nsw type lhs rhs) w short e = int_width_narrow type w e short
+width_narrow (ICmp name predicate type lhs rhs) w short e = e
+width_narrow (Phi name type first more) w short e = int_width_narrow type w e short
+
+named_narrow : (s : Scope) (n : ℕ) (i : Inst) (e : Text × Scope) → ((w : ℕ) → result_width is_bare widest i ≡ Some w → IsShortInt (IntType w)) → IsPlainOrNone e.0 → HasPlainKeys s → named_inst is_bare widest s n i ≡ Some e
+    → (named_inst is_plain 64 s n i ≡ Some e) × HasPlainKeys e.1
+unfolding named_inst
+named_narrow s n i e short plain keys h =
+    let w = bind_some (result_width is_bare widest i) _ e h in
+    let named = written_narrow (drop 1) s (ValueLocal (L.Result n) w.0) (written_name i) e w.2 plain keys in
+    (bind_on (result_width is_plain 64 i) _ w.0 _ (width_narrow i w.0 (short w.0 w.1) w.1) named.0, named.1)
+
+names_narrow : (whole s : Scope) (is : List Inst) (ps : List Placed) (t : Scope) → AreNamed is_bare widest s is ps t → AreInstructions is_bare widest whole is ps → AllByRecursion IsFine ps → HasPlainKeys s
+    → AreNamed is_plain 64 s is ps t × HasPlainKeys t
+names_narrow whole s [] [] t h k all keys = (h, subst HasPlainKeys h keys)
+names_narrow whole s (i ∷ is) (p ∷ ps) t h k all keys =
+    let short = λ (w : ℕ) (width : result_width is_bare widest i ≡ Some w). subst IsShortResult (result_is is_bare widest whole i p.type p.instruction w k.0 width) all.0.type in
+    let one = named_narrow s p.number i (p.name, h.0) short all.0.name keys h.1 in
+    let more = names_narrow whole h.0 is ps t h.2 k.1 all.1 one.1 in
+    ((h.0, one.0, more.0), more.1)
+names_narrow whole s [] (p ∷ ps) t h k all keys = elim h [ ]
+names_narrow whole s (i ∷ is) [] t h k all keys = elim h [ ]
+
+-- ---- blocks
+
+abbrev Forms : L.Function → ℕ → List Placed → Type 0
+Forms d b ps = AllByRecursion (λ (p : Placed). IsFormInstruction d b p p.instruction) ps
+
+forms_of : (d : L.Function) (c : Block) → IsFormBlock d c → Forms d c.number c.instructions
+forms_of d c form = recursion_from_All (λ (p : Placed). IsFormInstruction d c.number p p.instruction) c.instructions form.instructions
+
+label_narrow : (d : L.Function) (whole s : Scope) (b : tree.Block) (c : Block) (t : Scope) → SaysBlock is_bare widest whole s b c t → IsFormBlock d c → HasPlainKeys s → NamesBlock is_plain 64 s b c t × HasPlainKeys t
+label_narrow d whole s b c t h form keys =
+    let label = written_narrow (λ t. take (length t - 1) t) s (BlockLocal c.number) b.label (c.name, h.after_label) h.label form.label keys in
+    let front = all_front (λ (p : Placed). IsFormInstruction d c.number p p.instruction) h.front (h.last ∷ []) (subst (Forms d c.number) h.are (forms_of d c form)) in
+    let each = all_weaker (λ (p : Placed). IsFormInstruction d c.number p p.instruction) IsFine h.front (λ p x. fine d c.number p p.instruction x) front in
+    let names = names_narrow whole h.after_label b.insts h.front t h.results h.instructions each label.1 in
+    (record { after_label = h.after_label; label = label.0; front = h.front; last = h.last; are = h.are; results = names.0 }, names.1)
+
+labels_narrow : (d : L.Function) (whole s : Scope) (bs : List tree.Block) (cs : List Block) (t : Scope) → SayBlocks is_bare widest whole s bs cs t → AllByRecursion (IsFormBlock d) cs → HasPlainKeys s
+    → NameBlocks is_plain 64 s bs cs t × HasPlainKeys t
+labels_narrow d whole s [] [] t h forms keys = (h, subst HasPlainKeys h keys)
+labels_narrow d whole s (b ∷ bs) (c ∷ cs) t h forms keys =
+    let one = label_narrow d whole s b c h.0 h.1 forms.0 keys in
+    let more = labels_narrow d whole h.0 bs cs t h.2 forms.1 one.1 in
+    ((h.0, one.0, more.0), more.1)
+labels_narrow d whole s [] (c ∷ cs) t h forms keys = elim h [ ]
+labels_narrow d whole s (b ∷ bs) [] t h forms keys = elim h [ ]
+
+insts_narrow : (d : L.Function) (b : ℕ) (s : Scope) (is : List Inst) (ps : List Placed) → HasPlainKeys s → Holds (Typed d) s → Forms d b ps → AreInstructions is_bare widest s is ps → AreInstructions is_plain 64 s is ps
+insts_narrow d b s [] [] keys known forms h = tt
+insts_narrow d b s (i ∷ is) (p ∷ ps) keys known forms h = (inst_narrow d b p s i (p.type, p.instruction) keys known h.0 (refl, forms.0), insts_narrow d b s is ps keys known forms.1 h.1)
+insts_narrow d b s [] (p ∷ ps) keys known forms h = elim h [ ]
+insts_narrow d b s (i ∷ is) [] keys known forms h = elim h [ ]
+
+block_narrow : (d : L.Function) (s : Scope) (b : tree.Block) (c : Block) → HasPlainKeys s → Holds (Typed d) s → IsFormBlock d c → IsBlockOf is_bare widest s b c → IsBlockOf is_plain 64 s b c
+block_narrow d s b c keys known form h =
+    let F : Placed → Type 0 = λ p. IsFormInstruction d c.number p p.instruction in
+    let all = subst (Forms d c.number) h.are (forms_of d c form) in
     record {
-      says = bind_some (int_width is_plain 64 type) _ w.0 _ width (bind_some (value_of is_plain 64 s w.0 value) _ o.0 _ says o.2);
-      keys = subst HasPlainKeys both.1 keys;
-      fits = returns ∙ ap Some typed ∙ sym (ap (option_map IntType) width);
-    }
-inst_narrow f d before s t (Add name nuw nsw type lhs rhs) n p returns keys known e form =
-    let w = bound (int_width is_bare widest type) _ (p, t) e in
-    let a = bound (value_of is_bare widest s w.0 lhs) _ (p, t) w.2 in
-    let b = bound (value_of is_bare widest s w.0 rhs) _ (p, t) a.2 in
-    let x = ValueLocal (Result n) w.0 in
-    let r = bound (define_written is_bare widest s x (local_key is_bare widest) name) _ (p, t) b.2 in
-    let both = same_pair (record { number = n; name = r.0.0; type = IntType w.0; instruction = L.Add a.0 b.0 (record { nuw = nuw; nsw = nsw }) }) p r.0.1 t r.2 in
-    let made = subst (λ (q : Placed). IsFormInstruction d before q q.instruction) (sym both.0) form in
-    let width = int_width_narrow type w.0 w.1 made.0.short in
-    let named = written_narrow (drop 1) s x name r.0 r.1 made.2 keys in
-    record {
-      says = bind_some (int_width is_plain 64 type) _ w.0 _ width
-          (bind_some (value_of is_plain 64 s w.0 lhs) _ a.0 _ (value_narrow s w.0 lhs a.0 keys a.1)
-          (bind_some (value_of is_plain 64 s w.0 rhs) _ b.0 _ (value_narrow s w.0 rhs b.0 keys b.1)
-          (bind_some (define_written is_plain 64 s x (local_key is_plain 64) name) _ r.0 _ named.0 r.2)));
-      keys = subst HasPlainKeys both.1 named.1;
-      fits = tt;
+      front = h.front;
+      last = h.last;
+      are = h.are;
+      instructions = insts_narrow d c.number s b.insts h.front keys known (all_front F h.front (h.last ∷ []) all) h.instructions;
+      end = record {
+        instruction = terminator_narrow d c.number h.last s b.end h.last.instruction keys known h.end.instruction (all_back F h.front (h.last ∷ []) all).0;
+        type = h.end.type;
+        name = h.end.name;
+      };
     }
 
--- an instruction of the form behind others, whose number names a result of its type
-record IsPlaced (d : L.Function) (p : Placed) : Type 0 where
-  before : List Placed
-  form : IsFormInstruction d before p p.instruction
-  typed : operand_type d (Result p.number) ≡ p.type
-
-insts_narrow : (f : Function) (d : L.Function) → result_data is_plain 64 f.result ≡ Some (result_of d.type) → (s : Scope) (is : List Inst) (ps : List Placed) → HasPlainKeys s → AllKnown (Typed d) s
-    → ((i : ℕ) (p : Placed) → slice_get ps i ≡ Some p → IsPlaced d p) → AreInstructions is_bare widest s is ps → AreInstructions is_plain 64 s is ps × AllByRecursion (FitsReturn is_plain 64 f) is
-insts_narrow f d returns s [] [] keys known each h = (tt, tt)
-insts_narrow f d returns s (i ∷ is) (p ∷ ps) keys known each h =
-    let here = each 0 p refl in
-    let one = inst_narrow f d here.before s h.0 i p.number p returns keys known h.1 here.form in
-    let known_after = inst_known (Typed d) s h.0 i p.number p known one.says (λ w is_type least most. here.typed ∙ is_type) in
-    let more = insts_narrow f d returns h.0 is ps one.keys known_after (λ j q at. each (suc j) q at) h.2 in
-    ((h.0, one.says, more.0), (one.fits, more.1))
-insts_narrow f d returns s [] (p ∷ ps) keys known each h = elim h [ ]
-insts_narrow f d returns s (i ∷ is) [] keys known each h = elim h [ ]
+blocks_narrow : (d : L.Function) (s : Scope) (bs : List tree.Block) (cs : List Block) → HasPlainKeys s → Holds (Typed d) s → AllByRecursion (IsFormBlock d) cs → AreBlocks is_bare widest s bs cs → AreBlocks is_plain 64 s bs cs
+blocks_narrow d s [] [] keys known forms h = tt
+blocks_narrow d s (b ∷ bs) (c ∷ cs) keys known forms h = (block_narrow d s b c keys known forms.0 h.0, blocks_narrow d s bs cs keys known forms.1 h.1)
+blocks_narrow d s [] (c ∷ cs) keys known forms h = elim h [ ]
+blocks_narrow d s (b ∷ bs) [] keys known forms h = elim h [ ]
 
 -- ---- parameters
 
-param_narrow : (f i : ℕ) (s : Scope) (p : Param) (w : ℕ) (n : Text) (t : Scope) → param_data is_bare widest s f i p ≡ Some (w, n, t) → IsShortInt (IntType w) → IsPlainOrNone n → HasPlainKeys s
-    → (param_data is_plain 64 s f i p ≡ Some (w, n, t)) × HasPlainKeys t
+param_says : (f i : ℕ) (s : Scope) (p : Param) (w : ℕ) (n : Text) (t : Scope) → int_width is_plain 64 p.type ≡ Some w → define_written is_plain 64 s (ValueLocal (L.Parameter f i) w) (local_key is_plain 64) p.name ≡ Some (n, t)
+    → param_data is_plain 64 s f i p ≡ Some (w, n, t)
 unfolding param_data
-param_narrow f i s p w n t e short plain keys =
-    let v = bound (int_width is_bare widest p.type) _ (w, n, t) e in
-    let d = bound (define_written is_bare widest s (ValueLocal (Parameter f i) v.0) (local_key is_bare widest) p.name) _ (w, n, t) v.2 in
-    let same = same_triple v.0 w d.0.0 n d.0.1 t d.2 in
-    let name = ap (λ (x : Text × Scope). x.0) same.1 in
-    let after = ap (λ (x : Text × Scope). x.1) same.1 in
-    let width = int_width_narrow p.type v.0 v.1 (subst (λ (u : ℕ). IsShortInt (IntType u)) (sym same.0) short) in
-    let named = written_narrow (drop 1) s (ValueLocal (Parameter f i) v.0) p.name d.0 d.1 (subst IsPlainOrNone (sym name) plain) keys in
-    (bind_some (int_width is_plain 64 p.type) _ v.0 _ width (bind_some (define_written is_plain 64 s (ValueLocal (Parameter f i) v.0) (local_key is_plain 64) p.name) _ d.0 _ named.0 d.2), subst HasPlainKeys after named.1)
+param_says f i s p w n t e g = bind_on (int_width is_plain 64 p.type) _ w _ e (bind_on (define_written is_plain 64 s (ValueLocal (L.Parameter f i) w) (local_key is_plain 64) p.name) _ (n, t) _ g refl)
 
-params_narrow : (f i : ℕ) (s : Scope) (ps : List Param) (ts : TypeTrees) (ns : List Text) (t : Scope) → AreParams is_bare widest f i s ps ts ns t → AreShortInts ts → All IsPlainOrNone ns → HasPlainKeys s
+params_narrow : (f i : ℕ) (s : Scope) (ps : List Param) (ts : TypeTrees) (ns : List Text) (t : Scope) → AreParams is_bare widest f i s ps ts ns t → AreShortInts ts → AllByRecursion IsPlainOrNone ns → HasPlainKeys s
     → AreParams is_plain 64 f i s ps ts ns t × HasPlainKeys t
 params_narrow f i s [] NoTypes [] t h short plain keys = (h, subst HasPlainKeys h keys)
 params_narrow f i s (p ∷ ps) (ThenType (IntType w) ts) (n ∷ ns) t h short plain keys =
-    let one = param_narrow f i s p w n h.0 h.1 short.0 (All-head IsPlainOrNone n ns plain) keys in
-    let more = params_narrow f (suc i) h.0 ps ts ns t h.2 short.1 (All-tail IsPlainOrNone n ns plain) one.1 in
-    ((h.0, one.0, more.0), more.1)
+    let is = param_is is_bare widest f i s p w n h.0 h.1 in
+    let named = written_narrow (drop 1) s (ValueLocal (L.Parameter f i) w) p.name (n, h.0) is.1 plain.0 keys in
+    let more = params_narrow f (suc i) h.0 ps ts ns t h.2 short.1 plain.1 named.1 in
+    ((h.0, param_says f i s p w n h.0 (int_width_narrow p.type w is.0 short.0) named.0, more.0), more.1)
 params_narrow f i s [] NoTypes (n ∷ ns) t h short plain keys = elim h [ ]
 params_narrow f i s [] (ThenType _ ts) ns t h short plain keys = elim h [ ]
 params_narrow f i s (p ∷ ps) NoTypes ns t h short plain keys = elim h [ ]
@@ -132,71 +222,34 @@ result_narrow None r e short = e
 result_narrow (Some t) r e short =
     let w = mapped IntType (int_width is_bare widest t) r e in
     let shorter : IsShortInt (IntType w.0) = subst IsShortResult (sym w.2) short in
-    ap (option_map IntType) (int_width_narrow t w.0 w.1 shorter) ∙ ap Some w.2
+    ap (option_map IntType) (int_width_narrow t w.0 w.1 shorter) ∙ ap (λ (t : TypeTree). Some t) w.2
 
--- the instruction of a number is the one that has it
-found : (ps : List Placed) → IsDistinctList (map (λ (p : Placed). p.number) ps) → (i : ℕ) (p : Placed) → slice_get ps i ≡ Some p → find (λ (x : Placed). nat_eq x.number p.number) ps ≡ Some p
-found [] d i p at = absurd cc
-found (q ∷ ps) d zero p at = let same : q ≡ p = cc in rw (eq-eqb q.number p.number (ap (λ (p : Placed). p.number) same)) at
-found (q ∷ ps) d (suc i) p at =
-    let number : slice_get (map (λ (p : Placed). p.number) ps) i ≡ Some p.number = slice_get-map (λ (p : Placed). p.number) ps i ∙ ap (option_map (λ (p : Placed). p.number)) at in
-    let others = λ (k j n : ℕ) (a : slice_get (map (λ (p : Placed). p.number) ps) k ≡ Some n) (b : slice_get (map (λ (p : Placed). p.number) ps) j ≡ Some n). let e : suc k ≡ suc j = d (suc k) (suc j) n a b in let g : k ≡ j = omega arith in g in
-    rw (ne_eqb q.number p.number (λ same. let e : suc i ≡ 0 = d (suc i) 0 p.number number (ap (λ (n : ℕ). Some n) same) in absurd (omega (arith, e)))) (found ps others i p at)
-
--- the type of the result of an instruction of a function of the form
-result_typed : (d : L.Function) (h : IsFormFunction d) (i : ℕ) (p : Placed) → slice_get h.block.instructions i ≡ Some p → operand_type d (Result p.number) ≡ p.type
-result_typed d h i p at =
-    let type : Option Placed → TypeTree = λ o. option_map_or (λ (x : Placed). x.type) o VoidType in
-    ap (λ (bs : List Block). type (find (λ (x : Placed). nat_eq x.number p.number) (flat_map (λ (b : Block). b.instructions) bs))) h.only
-    ∙ ap (λ (ps : List Placed). type (find (λ (x : Placed). nat_eq x.number p.number) ps)) (append-nil h.block.instructions)
-    ∙ ap type (found h.block.instructions h.numbers i p at)
-
-param_typed : (d : L.Function) (result : TypeTree) (types : TypeTrees) → d.type ≡ FunctionType result types false → (j w : ℕ) → nth_type types j ≡ IntType w → Typed d (Parameter d.number j) w
-param_typed d result types is j w typed = rw (eq-eqb d.number d.number refl, is) typed
-
-function_narrow : (f : Function) (d : L.Function) → IsFunctionOf is_bare widest f d → IsFormFunction d → IsFunctionOf is_plain 64 f d × HasFitReturns is_plain 64 f
+function_narrow : (f : Function) (d : L.Function) → IsFunctionOf is_bare widest f d → IsFormFunction d → IsFunctionOf is_plain 64 f d
 function_narrow f d h form =
     let type : FunctionType h.result h.types false ≡ FunctionType form.result form.types false = sym h.type ∙ form.type in
     let result : h.result ≡ form.result = cc in
     let types : h.types ≡ form.types = cc in
-    let block : form.block ≡ h.block = let e : form.block ∷ [] ≡ h.block ∷ [] = sym form.only ∙ h.only in cc in
-    let params = params_narrow d.number 0 empty_scope f.params h.types d.params h.after_params h.params (subst AreShortInts (sym types) form.takes) form.param_names no_keys in
-    let label_name : IsPlainOrNone h.block.name = subst (λ (b : Block). IsPlainOrNone b.name) block form.label in
-    let label = written_narrow (λ t. take (length t - 1) t) h.after_params (BlockLocal h.block.number) f.label (h.block.name, h.after_label) h.label label_name params.1 in
-    let known = params_known (Typed d) d.number 0 empty_scope f.params h.types d.params h.after_params params.0 (none_known (Typed d))
-    (λ j w small typed least most. let e : 0 + j ≡ j = omega arith in subst (λ (k : ℕ). Typed d (Parameter d.number k) w) (sym e) (param_typed d h.result h.types h.type j w typed)) in
-    let known_after = written (Typed d) h.after_params (BlockLocal h.block.number) (label_key is_plain 64) label_plain f.label (h.block.name, h.after_label) label.0 known tt in
-    let returns = result_narrow f.result h.result h.returns (subst IsShortResult (sym result) form.returns) in
-    let returned : result_data is_plain 64 f.result ≡ Some (result_of d.type) = returns ∙ ap Some (sym (ap result_of h.type)) in
-    let placed : (i : ℕ) (p : Placed) → slice_get h.block.instructions i ≡ Some p → IsPlaced d p = λ i p at.
-    let there : slice_get form.block.instructions i ≡ Some p = ap (λ (b : Block). slice_get b.instructions i) block ∙ at in
-    record { before = take i form.block.instructions; form = form.instructions i p there; typed = result_typed d form i p there } in
-    let insts = insts_narrow f d returned h.after_label f.insts h.block.instructions label.1 known_after.1 placed h.instructions in (
-      record {
-        name = global_narrow f.name d.name h.name form.name;
-        result = h.result;
-        types = h.types;
-        returns = returns;
-        type = h.type;
-        space = h.space;
-        after_params = h.after_params;
-        params = params.0;
-        block = h.block;
-        only = h.only;
-        after_label = h.after_label;
-        label = label.0;
-        instructions = insts.0;
-        ends = h.ends;
-      },
-      insts.1,
-    )
+    let params = params_narrow d.number 0 empty_scope f.params h.types d.params h.after_params h.params (subst AreShortInts (sym types) form.takes) (recursion_from_All IsPlainOrNone d.params form.param_names) no_keys in
+    let forms = recursion_from_All (IsFormBlock d) d.blocks form.blocks in
+    let says = say_blocks is_bare widest h.scope h.after_params (blocks_of f) d.blocks h.scope h.names h.blocks in
+    let names = labels_narrow d h.scope h.after_params (blocks_of f) d.blocks h.scope says forms params.1 in
+    record {
+      name = global_narrow f.name d.name h.name form.name;
+      result = h.result;
+      types = h.types;
+      returns = result_narrow f.result h.result h.returns (subst IsShortResult (sym result) form.returns);
+      type = h.type;
+      space = h.space;
+      after_params = h.after_params;
+      params = params.0;
+      scope = h.scope;
+      names = names.0;
+      blocks = blocks_narrow d h.scope (blocks_of f) d.blocks names.1 (scope_typed is_bare widest f d h form.numbers) forms h.blocks;
+    }
 
-functions_narrow : (fs : List Function) (ds : List L.Function) → AreFunctions is_bare widest fs ds → All IsFormFunction ds → AreFunctions is_plain 64 fs ds × AllByRecursion (HasFitReturns is_plain 64) fs
-functions_narrow [] [] h forms = (tt, tt)
-functions_narrow (f ∷ fs) (d ∷ ds) h forms =
-    let one = function_narrow f d h.0 (All-head IsFormFunction d ds forms) in
-    let more = functions_narrow fs ds h.1 (All-tail IsFormFunction d ds forms) in
-    ((one.0, more.0), (one.1, more.1))
+functions_narrow : (fs : List Function) (ds : List L.Function) → AreFunctions is_bare widest fs ds → AllByRecursion IsFormFunction ds → AreFunctions is_plain 64 fs ds
+functions_narrow [] [] h forms = tt
+functions_narrow (f ∷ fs) (d ∷ ds) h forms = (function_narrow f d h.0 forms.0, functions_narrow fs ds h.1 forms.1)
 functions_narrow [] (d ∷ ds) h forms = elim h [ ]
 functions_narrow (f ∷ fs) [] h forms = elim h [ ]
 
@@ -206,7 +259,9 @@ source_narrow : (o : Option Text) (n : Text) → IsSource is_bare widest o n →
 source_narrow None n h plain = h
 source_narrow (Some t) n h plain = string_narrow t n h plain
 
-pub narrow_file : (t : File) (d : ModuleData) → IsFileOf is_bare widest t d → IsForm d → IsPlainOrNone d.name → IsFileOf is_plain 64 t d × ReturnsFit is_plain 64 t
-narrow_file t d h form name =
-    let functions = functions_narrow t.functions d.functions h.functions form in
-    (record { source = source_narrow t.source d.name h.source name; functions = functions.0 }, functions.1)
+-- What is said by bare names and integers of any width, of a module of the form, is said by plain names and narrow integers.
+pub narrow_file : (t : File) (d : ModuleData) → IsFileOf is_bare widest t d → IsForm d → IsPlainOrNone d.name → IsFileOf is_plain 64 t d
+narrow_file t d h form name = record {
+  source = source_narrow t.source d.name h.source name;
+  functions = functions_narrow t.functions d.functions h.functions (recursion_from_All IsFormFunction d.functions form);
+}

@@ -1,5 +1,5 @@
 -- Names, keys and operands that are said by bare names and integers of any width, and are plain and narrow.
-use Rattle.std.proofs.Common.{◌≡◌, ℕ, ◌-◌, ◌≤◌, ◌+◌, Bool, true, false, ◌&&◌, nat_le, nat_lt, [], ◌∷◌, length, take, drop, Option, Some, None, refl, ap, sym, ◌∙◌, subst, if◌then◌else◌, arith}
+use Rattle.std.proofs.Common.{◌≡◌, ℕ, ◌-◌, ◌≤◌, ◌+◌, Bool, true, false, ◌&&◌, nat_le, nat_lt, nat_eq, [], ◌∷◌, length, take, drop, Option, Some, None, refl, ap, sym, ◌∙◌, subst, if◌then◌else◌, arith}
 use Rattle.std.specs.Option.{option_map}
 use Rattle.std.proofs.lemmas.Bool.Decides.{nat_tests}
 use Rattle.std.proofs.lemmas.Slice.Eq.{bytes_eq-Decides}
@@ -9,9 +9,18 @@ use Rattle.llvm_core.specs.Form.{IsShortInt}
 use Rattle.ll_text.specs.Text.{Text, is_bare, width_of, number_of, number_limit, const_value}
 use Rattle.ll_text.specs.Tree.{is_local, is_digits}
 use Rattle.ll_text.specs.Spelling.{widest}
-use Rattle.ll_text.specs.Meaning.{◌>>=◌, Key, Named, Numbered, same_key, Local, Scope, empty_scope, with_key, counted, define, legal_width, value_of_width, constant, int_width, key_of, local_key, optional_key, global_name, string_name, value_of, define_written}
-use Rattle.ll_text.proofs.InstructionLaws.{bind_some}
-use Rattle.ll_text.proofs.KnownLaws.{bound, mapped, chosen, IsPlainKey, IsPlainOption}
+use Rattle.ll_text.specs.Meaning.{◌>>=◌, Key, Named, Numbered, same_key, Local, Scope, empty_scope, with_key, counted, define, legal_width, bit_width, value_of_width, option_block, constant, int_width, key_of, local_key, optional_key, global_name, string_name, value_of, block_of, define_written}
+use Rattle.ll_text.proofs.Steps.{bind_some}
+use Rattle.ll_text.proofs.PlainLaws.{mapped, IsPlainKey, IsPlainOption}
+
+-- a step that gives something leads on
+pub bind_on : {A B : Type 0} (x : Option A) (f : A → Option B) (a : A) (b : Option B) → x ≡ Some a → f a ≡ b → (x >>= f) ≡ b
+bind_on x f a b e h = ap (λ o. o >>= f) e ∙ h
+
+-- a choice that gives something passed its test
+chosen : {A : Type 0} (t : Bool) (x : Option A) (a : A) → (if t then x else None) ≡ Some a → (t ≡ true) × (x ≡ Some a)
+chosen true x a h = (refl, h)
+chosen false x a h = absurd cc
 
 -- ---- names and widths
 
@@ -131,9 +140,9 @@ define_plain s x (Some (Named n)) d e bare plain h =
 pub written_narrow : (cut : Text → Text) (s : Scope) (x : Local) (o : Option Text) (d : Text × Scope) → define_written is_bare widest s x (key_in is_bare widest cut) o ≡ Some d → IsPlainOrNone d.0 → HasPlainKeys s
     → (define_written is_plain 64 s x (key_in is_plain 64 cut) o ≡ Some d) × HasPlainKeys d.1
 written_narrow cut s x o d e plain h =
-    let k = bound (optional_key is_bare widest (key_in is_bare widest cut) o) (define s x) d e in
+    let k = bind_some (optional_key is_bare widest (key_in is_bare widest cut) o) (define s x) d e in
     let p = define_plain s x k.0 d k.2 (optional_bare cut o k.0 k.1) plain h in
-    (bind_some (optional_key is_plain 64 (key_in is_plain 64 cut) o) (define s x) k.0 (Some d) (optional_narrow cut o k.0 k.1 p.0) k.2, p.1)
+    (bind_on (optional_key is_plain 64 (key_in is_plain 64 cut) o) (define s x) k.0 (Some d) (optional_narrow cut o k.0 k.1 p.0) k.2, p.1)
 
 -- ---- operands
 
@@ -147,6 +156,28 @@ value_narrow s w t o h e = by (is_local t) e
     by : (b : Bool) → (if b then (local_key is_bare widest t >>= λ k. value_of_width w (s.known k)) else option_map (constant w) (const_value w t)) ≡ Some o
         → (if b then (local_key is_plain 64 t >>= λ k. value_of_width w (s.known k)) else option_map (constant w) (const_value w t)) ≡ Some o
     by true e =
-        let k = bound (local_key is_bare widest t) (λ k. value_of_width w (s.known k)) o e in
-        bind_some (local_key is_plain 64 t) (λ k. value_of_width w (s.known k)) k.0 (Some o) (key_narrow (drop 1 t) k.0 k.1 (known k.0 (s.known k.0) refl k.2)) k.2
+        let k = bind_some (local_key is_bare widest t) (λ k. value_of_width w (s.known k)) o e in
+        bind_on (local_key is_plain 64 t) (λ k. value_of_width w (s.known k)) k.0 (Some o) (key_narrow (drop 1 t) k.0 k.1 (known k.0 (s.known k.0) refl k.2)) k.2
     by false e = e
+
+-- ---- blocks and conditions
+
+pub target_narrow : (s : Scope) (t : Text) (b : ℕ) → HasPlainKeys s → block_of is_bare widest s t ≡ Some b → block_of is_plain 64 s t ≡ Some b
+target_narrow s t b h e =
+    let k = bind_some (local_key is_bare widest t) (λ k. option_block (s.known k)) b e in
+    bind_on (local_key is_plain 64 t) (λ k. option_block (s.known k)) k.0 (Some b) (key_narrow (drop 1 t) k.0 k.1 (known k.0 (s.known k.0) refl k.2)) k.2
+  where
+    known : (k : Key) (l : Option Local) → s.known k ≡ l → option_block l ≡ Some b → IsPlainKey k
+    known k None is e = absurd cc
+    known k (Some x) is e = h k x is
+
+-- one bit is narrow
+pub bit_narrow : (t : Text) (w : ℕ) → bit_width (int_width is_bare widest t) ≡ Some w → bit_width (int_width is_plain 64 t) ≡ Some w
+bit_narrow t w e = by (int_width is_bare widest t) refl e
+  where
+    one : (v : ℕ) → (if nat_eq v 1 then Some v else None) ≡ Some w → v ≡ 1
+    one v e = grind (arith, nat_tests, e)
+
+    by : (o : Option ℕ) → int_width is_bare widest t ≡ o → bit_width o ≡ Some w → bit_width (int_width is_plain 64 t) ≡ Some w
+    by None is e = absurd cc
+    by (Some v) is e = let same = one v e in let short : IsShortInt (IntType v) = (omega arith, omega arith) in ap bit_width (int_width_narrow t v is short) ∙ e

@@ -1,158 +1,98 @@
--- A list of tokens spells one module: where the parts are numbered in order, the data are a function of the tree.
-use Rattle.std.proofs.Common.{◌≡◌, ℕ, suc, ◌+◌, Bool, false, List, [], ◌∷◌, ◌++◌, length, Option, Some, None, map, refl, sym, ap, ◌∙◌, subst, arith}
-use Rattle.std.specs.List.{flat_map}
+-- A tree says one module: data of one text differ in numbers alone, and numbers in order are told by the lengths of lists.
+use Rattle.std.proofs.Common.{◌≡◌, ℕ, suc, ◌+◌, List, [], ◌∷◌, length, slice_get, Bool, Option, Some, None, refl, sym, ap, ◌∙◌, subst}
+use Rattle.std.proofs.lemmas.Option.{same_Some}
 use Rattle.llvm_core.specs.Data as L
-use Rattle.llvm_core.specs.Data.{TypeTree, VoidType, IntType, FunctionType, TypeTrees, NoTypes, ThenType, Placed, Block, ModuleData}
+use Rattle.llvm_core.specs.Data.{Operand, Constant, Parameter, Result, Instruction, Add, ICmp, Phi, Br, CondBr, Return, Unreachable, Placed, Block, ModuleData, placed_in}
 use Rattle.ll_text.specs.Text.{Text, is_bare}
-use Rattle.ll_text.specs.Tree.{Inst, Param, Function, File}
-use Rattle.ll_text.specs.Meaning.{◌>>=◌, BlockLocal, Scope, empty_scope, label_key, global_name, define_written, inst_data, param_data, result_data, AreParams, AreInstructions, IsFunctionOf, AreFunctions, IsSource, IsFileOf}
-use Rattle.ll_text.specs.Spelling.{widest, Spelled, counting, IsNumbered}
-use Rattle.ll_text.proofs.ReaderLaws.{one_file}
+use Rattle.ll_text.specs.Tree.{Function, File}
+use Rattle.ll_text.specs.Meaning.{AreFunctions, IsSource, IsFileOf}
+use Rattle.ll_text.specs.Spelling.{widest, Spelled, IsNumbered}
+use Rattle.ll_text.proofs.NumberLaws.{block_numbers, result_numbers, numbers_same, NumberedFrom, from_numbered, split}
+use Rattle.ll_text.proofs.PairLaws.{OperandPair, EntryPair, CodePair, PlacedPair, BlockPair, SameBlock, SameResult, PlacedAlike, BlocksAlike, FunctionsAlike, placed_alike, functions_alike}
+use Rattle.ll_text.proofs.ZipLaws.{SamePlace, SameLength, zip_length, zip_weaker, zip_same}
 
--- ---- numbers in order
+-- ---- pairs of equal numbers are pairs of equal data
 
-module _ {X : Type 0} (number : X → ℕ) where
-  counting_front : (n : ℕ) (xs ys : List X) → map number (xs ++ ys) ≡ counting n (xs ++ ys) → map number xs ≡ counting n xs
-  counting_front n [] ys h = refl
-  counting_front n (x ∷ xs) ys h =
-      let first : number x ≡ n = cc in
-      let more : map number (xs ++ ys) ≡ counting (suc n) (xs ++ ys) = cc in
-      let rest = counting_front (suc n) xs ys more in
-      cc
+module _ (m n : ℕ) (same : m ≡ n) (B R : ℕ → ℕ → Type 0) (block_same : (a b : ℕ) → B a b → a ≡ b) (result_same : (a b : ℕ) → R a b → a ≡ b) where
+  operand_same : (o p : Operand) → OperandPair m n B R o p → o ≡ p
+  operand_same (Constant c) p h = sym h
+  operand_same (Parameter f i) p h = let one = h.0 in let is = h.1 in cc (same, one, is)
+  operand_same (Result a) p h = ap (λ (k : ℕ). Result k) (result_same a h.0 h.2) ∙ sym h.1
 
-  counting_back : (n : ℕ) (xs ys : List X) → map number (xs ++ ys) ≡ counting n (xs ++ ys) → map number ys ≡ counting (n + length xs) ys
-  counting_back n [] ys h = let e : n + 0 ≡ n = omega arith in rw e h
-  counting_back n (x ∷ xs) ys h =
-      let more : map number (xs ++ ys) ≡ counting (suc n) (xs ++ ys) = cc in
-      let e : n + suc (length xs) ≡ suc n + length xs = omega arith in
-      rw e (counting_back (suc n) xs ys more)
+  entry_same : (x y : Operand × ℕ) → EntryPair m n B R x y → x ≡ y
+  entry_same x y h = let o = operand_same x.0 y.0 h.0 in let b = block_same x.1 y.1 h.1 in λ i. (o i, b i)
 
--- ---- data by their tree
+  code_same : (x y : Instruction) → CodePair m n B R x y → x ≡ y
+  code_same (Add a b flags) y h = let l = operand_same a h.0 h.3 in let r = operand_same b h.1 h.4 in let is = h.2 in cc (l, r, is)
+  code_same (ICmp a b predicate) y h = let l = operand_same a h.0 h.3 in let r = operand_same b h.1 h.4 in let is = h.2 in cc (l, r, is)
+  code_same (Phi es) y h = ap (λ (es : List (Operand × ℕ)). Phi es) (zip_same es h.0 (zip_weaker (EntryPair m n B R) (λ x y. x ≡ y) es h.0 entry_same h.2)) ∙ sym h.1
+  code_same (Br a) y h = ap (λ (k : ℕ). Br k) (block_same a h.0 h.2) ∙ sym h.1
+  code_same (CondBr o a b) y h = let t = operand_same o h.0 h.4 in let l = block_same a h.1 h.5 in let r = block_same b h.2 h.6 in let is = h.3 in cc (t, l, r, is)
+  code_same (Return None) y h = sym h
+  code_same (Return (Some o)) y h = ap (λ (p : Operand). Return (Some p)) (operand_same o h.0 h.2) ∙ sym h.1
+  code_same Unreachable y h = sym h
 
--- a function is its fields
-same_function : (n s : ℕ) (t : TypeTree) (bs : List Block) (d : L.Function) → d.number ≡ n → d.type ≡ t → d.space ≡ s → d.blocks ≡ bs
-    → (let f : L.Function = record { number = n; name = d.name; type = t; space = s; params = d.params; blocks = bs } in f) ≡ d
-same_function n s t bs d en et es eb = rw (← en, ← et, ← es, ← eb) refl
+  placed_same : (p q : Placed) → PlacedPair m n B R p q → p ≡ q
+  placed_same p q h =
+      let number = result_same p.number q.number h.number in
+      let name = h.name in
+      let type = h.type in
+      let code = code_same p.instruction q.instruction h.code in
+      λ i. record { number = number i; name = name i; type = type i; instruction = code i }
+
+  block_is : (c d : Block) → BlockPair m n B R c d → c ≡ d
+  block_is c d h =
+      let number = block_same c.number d.number h.number in
+      let name = h.name in
+      let placed = zip_same c.instructions d.instructions (zip_weaker (PlacedPair m n B R) (λ p q. p ≡ q) c.instructions d.instructions placed_same h.instructions) in
+      λ i. record { number = number i; name = name i; instructions = placed i }
+
+-- the numbers at one place of equal lists are equal
+place_same : (xs ys : List ℕ) → xs ≡ ys → (a b : ℕ) → SamePlace xs ys a b → a ≡ b
+place_same xs ys e a b h = same_Some a b (sym h.left ∙ ap (λ (zs : List ℕ). slice_get zs h.place) e ∙ h.right)
+
+function_same : (g h : L.Function) → FunctionsAlike g h → g.number ≡ h.number → block_numbers g ≡ block_numbers h → result_numbers g ≡ result_numbers h → g ≡ h
+function_same g h alike number blocks results =
+    let same = block_is g.number h.number number (SameBlock g h) (SameResult g h) (place_same (block_numbers g) (block_numbers h) blocks) (place_same (result_numbers g) (result_numbers h) results) in
+    let listed = zip_same g.blocks h.blocks (zip_weaker (BlocksAlike g h) (λ c d. c ≡ d) g.blocks h.blocks same alike.blocks) in
+    let name = alike.name in
+    let type = alike.type in
+    let space = alike.space in
+    let params = alike.params in
+    λ i. record { number = number i; name = name i; type = type i; space = space i; params = params i; blocks = listed i }
+
+-- ---- functions and modules
 
 module _ (is_name : Text → Bool) (widest : ℕ) where
-  -- the types and names of parameters, and the scope after them
-  params_data : (function place : ℕ) → Scope → List Param → Option (TypeTrees × List Text × Scope)
-  params_data f i s [] = Some (NoTypes, [], s)
-  params_data f i s (p ∷ ps) = do
-    x ← param_data is_name widest s f i p
-    y ← params_data f (suc i) x.2 ps
-    Some (ThenType (IntType x.0) y.0, x.1 ∷ y.1, y.2)
-
-  params_found : (f i : ℕ) (s : Scope) (ps : List Param) (ts : TypeTrees) (ns : List Text) (t : Scope) → AreParams is_name widest f i s ps ts ns t → params_data f i s ps ≡ Some (ts, ns, t)
-  unfolding params_data
-  params_found f i s [] NoTypes [] t h = rw h refl
-  params_found f i s (p ∷ ps) (ThenType (IntType w) ts) (n ∷ ns) t h = rw (h.1, params_found f (suc i) h.0 ps ts ns t h.2) refl
-  params_found f i s [] NoTypes (n ∷ ns) t h = elim h [ ]
-  params_found f i s [] (ThenType _ ts) ns t h = elim h [ ]
-  params_found f i s (p ∷ ps) NoTypes ns t h = elim h [ ]
-  params_found f i s (p ∷ ps) (ThenType VoidType ts) ns t h = elim h [ ]
-  params_found f i s (p ∷ ps) (ThenType (IntType w) ts) [] t h = elim h [ ]
-  params_found f i s (p ∷ ps) (ThenType (FunctionType result params variadic) ts) ns t h = elim h [ ]
-
-  -- the instructions of a block, of which the first has that number
-  insts_data : Scope → (number : ℕ) → List Inst → Option (List Placed)
-  insts_data s n [] = Some []
-  insts_data s n (i ∷ is) = do
-    x ← inst_data is_name widest s n i
-    ps ← insts_data x.1 (suc n) is
-    Some (x.0 ∷ ps)
-
-  insts_found : (s : Scope) (n : ℕ) (is : List Inst) (ps : List Placed) → AreInstructions is_name widest s is ps → map (λ (p : Placed). p.number) ps ≡ counting n ps → insts_data s n is ≡ Some ps
-  unfolding insts_data
-  insts_found s n [] [] h numbers = refl
-  insts_found s n (i ∷ is) (p ∷ ps) h numbers =
-      let first : p.number ≡ n = cc in
-      let more : map (λ (q : Placed). q.number) ps ≡ counting (suc n) ps = cc in
-      rw (← first, h.1, insts_found h.0 (suc p.number) is ps h.2 (rw first more)) refl
-  insts_found s n [] (p ∷ ps) h numbers = elim h [ ]
-  insts_found s n (i ∷ is) [] h numbers = elim h [ ]
-
-  insts_count : (s : Scope) (is : List Inst) (ps : List Placed) → AreInstructions is_name widest s is ps → length is ≡ length ps
-  insts_count s [] [] h = refl
-  insts_count s (i ∷ is) (p ∷ ps) h = ap suc (insts_count h.0 is ps h.2)
-  insts_count s [] (p ∷ ps) h = elim h [ ]
-  insts_count s (i ∷ is) [] h = elim h [ ]
-
-  -- a function by its number, that of its block, and that of its first instruction
-  function_data : (number block first : ℕ) → Function → Option L.Function
-  function_data n b i f = do
-    name ← global_name is_name widest f.name
-    result ← result_data is_name widest f.result
-    params ← params_data n 0 empty_scope f.params
-    label ← define_written is_name widest params.2 (BlockLocal b) (label_key is_name widest) f.label
-    insts ← insts_data label.1 i f.insts
-    Some (record { number = n; name = name; type = FunctionType result params.0 false; space = 0; params = params.1; blocks = (record { number = b; name = label.0; instructions = insts }) ∷ [] })
-
-  function_found : (n b i : ℕ) (f : Function) (d : L.Function) → (h : IsFunctionOf is_name widest f d) → d.number ≡ n → h.block.number ≡ b
-      → map (λ (p : Placed). p.number) h.block.instructions ≡ counting i h.block.instructions → function_data n b i f ≡ Some d
-  unfolding function_data
-  function_found n b i f d h number block insts =
-      rw (
-        ← number,
-        ← block,
-        h.name,
-        h.returns,
-        params_found d.number 0 empty_scope f.params h.types d.params h.after_params h.params,
-        h.label,
-        insts_found h.after_label i f.insts h.block.instructions h.instructions insts,
-      ) (ap (λ (g : L.Function). Some g) (same_function d.number 0 (FunctionType h.result h.types false) (h.block ∷ []) d refl h.type h.space h.only))
-
-  -- functions one after another, from these numbers on
-  functions_data : (number block first : ℕ) → List Function → Option (List L.Function)
-  functions_data n b i [] = Some []
-  functions_data n b i (f ∷ fs) = do
-    d ← function_data n b i f
-    ds ← functions_data (suc n) (suc b) (i + length f.insts) fs
-    Some (d ∷ ds)
-
-  functions_found : (n b i : ℕ) (fs : List Function) (ds : List L.Function) → AreFunctions is_name widest fs ds
-      → map (λ (d : L.Function). d.number) ds ≡ counting n ds
-      → (let bs = flat_map (λ (d : L.Function). d.blocks) ds in map (λ (x : Block). x.number) bs ≡ counting b bs)
-      → (let ps = flat_map (λ (x : Block). x.instructions) (flat_map (λ (d : L.Function). d.blocks) ds) in map (λ (p : Placed). p.number) ps ≡ counting i ps)
-      → functions_data n b i fs ≡ Some ds
-  unfolding functions_data
-  functions_found n b i [] [] h functions blocks insts = refl
-  functions_found n b i (f ∷ fs) (d ∷ ds) h functions blocks insts =
-      let one = h.0 in
-      let others = flat_map (λ (e : L.Function). e.blocks) ds in
-      let placed = flat_map (λ (x : Block). x.instructions) others in
-      let bs : map (λ (x : Block). x.number) (one.block ∷ others) ≡ counting b (one.block ∷ others) = rw (one.only) at blocks in
-      let ps : map (λ (p : Placed). p.number) (one.block.instructions ++ placed) ≡ counting i (one.block.instructions ++ placed) = rw (one.only) at insts in
-      let number : d.number ≡ n = cc in
-      let more_functions : map (λ (e : L.Function). e.number) ds ≡ counting (suc n) ds = cc in
-      let block : one.block.number ≡ b = cc in
-      let more_blocks : map (λ (x : Block). x.number) others ≡ counting (suc b) others = cc in
-      let front = counting_front (λ (p : Placed). p.number) i one.block.instructions placed ps in
-      let back = counting_back (λ (p : Placed). p.number) i one.block.instructions placed ps in
-      rw (
-        function_found n b i f d one number block front,
-        insts_count one.after_label f.insts one.block.instructions one.instructions,
-        functions_found (suc n) (suc b) (i + length one.block.instructions) fs ds h.1 more_functions more_blocks back,
-      ) refl
-  functions_found n b i [] (d ∷ ds) h functions blocks insts = elim h [ ]
-  functions_found n b i (f ∷ fs) [] h functions blocks insts = elim h [ ]
+  functions_same : (n b i : ℕ) (fs : List Function) (ds es : List L.Function) → AreFunctions is_name widest fs ds → AreFunctions is_name widest fs es → NumberedFrom n b i ds → NumberedFrom n b i es → ds ≡ es
+  functions_same n b i [] [] [] h k x y = refl
+  functions_same n b i [] [] (e ∷ es) h k x y = elim k [ ]
+  functions_same n b i [] (d ∷ ds) es h k x y = elim h [ ]
+  functions_same n b i (f ∷ fs) [] es h k x y = elim h [ ]
+  functions_same n b i (f ∷ fs) (d ∷ ds) [] h k x y = elim k [ ]
+  functions_same n b i (f ∷ fs) (d ∷ ds) (e ∷ es) h k x y =
+      let alike = functions_alike is_name widest f d e h.0 k.0 in
+      let here = split n b i d ds x in
+      let there = split n b i e es y in
+      let blocks : SameLength d.blocks e.blocks = zip_length (BlocksAlike d e) d.blocks e.blocks alike.blocks in
+      let placed : SameLength (placed_in d) (placed_in e) = zip_length (PlacedAlike d e) (placed_in d) (placed_in e) (placed_alike d e alike) in
+      let one = function_same d e alike (here.0.function ∙ sym there.0.function) (numbers_same (λ (x : Block). x.number) b d.blocks e.blocks blocks here.0.blocks there.0.blocks)
+      (numbers_same (λ (p : Placed). p.number) i (placed_in d) (placed_in e) placed here.0.instructions there.0.instructions) in
+      let rest : NumberedFrom (suc n) (b + length d.blocks) (i + length (placed_in d)) es = rw (blocks, placed) there.1 in
+      let more = functions_same (suc n) (b + length d.blocks) (i + length (placed_in d)) fs ds es h.1 k.1 here.1 rest in
+      cc (one, more)
 
   one_source : (o : Option Text) (m n : Text) → IsSource is_name widest o m → IsSource is_name widest o n → m ≡ n
   one_source None m n p q = p ∙ sym q
-  one_source (Some t) m n p q = let e : Some m ≡ Some n = sym p ∙ q in cc
+  one_source (Some t) m n p q = same_Some m n (sym p ∙ q)
 
   -- A tree says one module at most whose parts are numbered in order.
-  pub one_data : (m : File) (d e : ModuleData) → IsFileOf is_name widest m d → IsFileOf is_name widest m e → IsNumbered d → IsNumbered e → d ≡ e
-  one_data m d e p q k l =
-      let a = functions_found 0 0 0 m.functions d.functions p.functions k.functions k.blocks k.instructions in
-      let b = functions_found 0 0 0 m.functions e.functions q.functions l.functions l.blocks l.instructions in
-      let named : d.name ≡ e.name = one_source m.source d.name e.name p.source q.source in
-      let same : Some d.functions ≡ Some e.functions = sym a ∙ b in
-      let listed : d.functions ≡ e.functions = cc in
+  pub one_data : (t : File) (d e : ModuleData) → IsFileOf is_name widest t d → IsFileOf is_name widest t e → IsNumbered d → IsNumbered e → d ≡ e
+  one_data t d e p q k l =
+      let named : d.name ≡ e.name = one_source t.source d.name e.name p.source q.source in
+      let listed : d.functions ≡ e.functions = functions_same 0 0 0 t.functions d.functions e.functions p.functions q.functions (from_numbered d k) (from_numbered e l) in
       λ i. record { name = named i; functions = listed i }
 
--- A list of tokens spells one module at most whose parts are numbered in order.
-pub one_of_tokens : (ts : List Text) (d e : ModuleData) → Spelled d [] ts → Spelled e [] ts → IsNumbered d → IsNumbered e → d ≡ e
-one_of_tokens ts d e p q k l =
-    let same : p.tree ≡ q.tree = one_file p.tree q.tree p.each q.each (sym p.written ∙ q.written) in
-    one_data is_bare widest q.tree d e (subst (λ (t : File). IsFileOf is_bare widest t d) same p.says) q.says k l
+-- Tokens of one tree spell one module at most whose parts are numbered in order.
+pub one_spelled : (ts : List Text) (d e : ModuleData) (p : Spelled d [] ts) (q : Spelled e [] ts) → p.tree ≡ q.tree → IsNumbered d → IsNumbered e → d ≡ e
+one_spelled ts d e p q same k l = one_data is_bare widest q.tree d e (subst (λ (t : File). IsFileOf is_bare widest t d) same p.says) q.says k l

@@ -1,12 +1,11 @@
 -- What the laws of a production share, and the laws as what may follow says them.
 use Rattle.std.proofs.Common.{◌≡◌, true, List, ◌∷◌, ◌++◌, Some, codes, sym, ap, ◌∙◌, subst}
-use Rattle.std.specs.List.{flat_map, AllByRecursion}
+use Rattle.std.specs.List.{AllByRecursion}
 use Rattle.ll_text.specs.Text.{Text}
-use Rattle.ll_text.specs.Tree.{inst, params, IsInst, IsParam}
-use Rattle.ll_text.specs.Reading.{Read, is_next, rest, insts_at, params_at}
-use Rattle.ll_text.specs.Productions.{Closes, Ends, IsUnambiguous, ReadsBack}
+use Rattle.ll_text.specs.Tree.{params, IsParam}
+use Rattle.ll_text.specs.Reading.{Read, is_next, rest, params_at}
+use Rattle.ll_text.specs.Productions.{Closes, IsUnambiguous, ReadsBack}
 use Rattle.ll_text.proofs.NextLaws.{next_is}
-use Rattle.ll_text.proofs.InstLaws.{insts_again}
 use Rattle.ll_text.proofs.FunctionLaws.{params_again}
 
 same_read : {A : Type 0} (r s : A × List Text) → Some r ≡ Some s → (r.0 ≡ s.0) × (r.1 ≡ s.1)
@@ -23,6 +22,3 @@ before_word t us P e h = subst P (sym (next_is t us e)) h
 
 pub params_back : ReadsBack params (AllByRecursion IsParam) Closes params_at
 params_back = λ ps us fits closes. before_word (codes ")") us (λ ts. params_at (params ps ++ ts) ≡ Some (ps, ts)) closes (params_again ps (rest us) fits)
-
-pub insts_back : ReadsBack (flat_map inst) (AllByRecursion IsInst) Ends insts_at
-insts_back = λ is us fits ends. before_word (codes "}") us (λ ts. insts_at (flat_map inst is ++ ts) ≡ Some (is, ts)) ends ((insts_again is (rest us) fits).0)

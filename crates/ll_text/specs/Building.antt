@@ -1,29 +1,41 @@
 -- A module and a scope while a text is built.
-use Rattle.std.specs.Prelude.{◌≡◌, ◌+◌, ◌++◌, ℕ, List, [], Option, Some, length, slice_get}
-use Rattle.std.specs.Option.{option_map}
+use Rattle.std.specs.Prelude.{◌≡◌, ◌+◌, ◌<◌, ◌++◌, ℕ, Bool, true, false, IsTrue, List, [], Option, Some, None, length, slice_get}
 use Rattle.llvm_core.specs.declared.numbers.LLVMType.{LLVMType}
+use Rattle.llvm_core.specs.declared.numbers.LLVMBasicBlock.{LLVMBasicBlock}
+use Rattle.llvm_core.specs.declared.numbers.LLVMInstRef.{LLVMInstRef}
 use Rattle.llvm_core.specs.declared.types.LLVMTypeKind.{LLVMTypeKind}
 use Rattle.llvm_core.specs.declared.types.LLVMTypeKind.TheVariants as T
+use Rattle.llvm_core.specs.declared.types.ResultType.{ResultType}
+use Rattle.llvm_core.specs.declared.types.ResultType.TheVariants as R
 use Rattle.llvm_core.specs.declared.consts.LLVMConstKind.{LLVMConstKind}
 use Rattle.llvm_core.specs.declared.code.LLVMValue.{LLVMValue}
 use Rattle.llvm_core.specs.declared.code.LLVMValue.TheVariants as V
 use Rattle.llvm_core.specs.declared.code.LLVMInst.{LLVMInst}
+use Rattle.llvm_core.specs.declared.code.InstData.{InstData}
 use Rattle.llvm_core.specs.Module.{Module}
 use Rattle.llvm_core.specs.Sound.{IsModule}
-use Rattle.llvm_core.specs.Parts.{IsValue, HasValues, value_type, result_type}
+use Rattle.llvm_core.specs.Parts.{IsValue, HasValues, IsPhi, is_phi, operands, value_type, result_type}
 use Rattle.llvm_core.specs.Names.{is_plain}
-use Rattle.llvm_core.specs.Data.{VoidType, IntType, Operand, Constant, Parameter, Result, Instruction, Return, Placed, trees_of, operand_of, data_of, with_instruction}
+use Rattle.llvm_core.specs.Data.{TypeTree, VoidType, IntType, Operand, Constant, Parameter, Result, Instruction, Placed, trees_of, operand_of, instruction_of, data_of, with_instruction}
 use Rattle.ll_text.specs.declared.scope.Scope as code
-use Rattle.ll_text.specs.ScopeView.{key_name, Knows}
-use Rattle.ll_text.specs.Tree.{Inst}
+use Rattle.ll_text.specs.declared.scope.Key as code_key
+use Rattle.ll_text.specs.declared.scope.Local as code_local
+use Rattle.ll_text.specs.ScopeView.{local_view, local_at, Knows}
+use Rattle.ll_text.specs.Tree.{Inst, Add, ICmp, Phi, Terminator, ReturnVoid, Return, Br, CondBr, Unreachable}
 use Rattle.ll_text.specs.Text.{Text, const_value}
-use Rattle.ll_text.specs.Meaning.{Key, ValueLocal, Scope, value_of, constant, define, inst_data}
+use Rattle.ll_text.specs.Meaning.{Key, Local, ValueLocal, BlockLocal, Scope, value_of, block_of, constant, int_width, result_width}
+use Rattle.ll_text.specs.Numbered.{result_name}
+use Rattle.ll_text.specs.Opening.{open_value, open_inst, open_terminator}
 
 -- ---- values
 
 -- P holds of each value that is known, with its width
 abbrev pub AllKnown : (Operand → ℕ → Type 0) → Scope → Type 0
 AllKnown P s = (k : Key) (o : Operand) (w : ℕ) → s.known k ≡ Some (ValueLocal o w) → P o w
+
+-- P holds of each thing that is known
+abbrev pub AllLocals : (Local → Type 0) → Scope → Type 0
+AllLocals P s = (k : Key) (x : Local) → s.known k ≡ Some x → P x
 
 -- the value stands in the module, and is an integer of that width
 pub record IsValueOf (m : Module) (v : LLVMValue) (w : ℕ) : Type 0 where
@@ -32,22 +44,25 @@ pub record IsValueOf (m : Module) (v : LLVMValue) (w : ℕ) : Type 0 where
   pub typed : value_type m v ≡ Some type
   pub int : slice_get m.types type.0 ≡ Some (T.Int w)
 
--- the parameter or the result stands in the module, and is an integer of that width
-abbrev pub StandsIn : Module → Operand → ℕ → Type 0
-StandsIn m (Constant c) w = ⊥
-StandsIn m (Parameter f i) w = IsValueOf m (V.Param (record { 0 = f }) i) w
-StandsIn m (Result n) w = IsValueOf m (V.Inst (record { 0 = n })) w
+abbrev pub result_value : ℕ → LLVMValue
+result_value n = V.Inst (record { 0 = n })
 
--- each value that is known stands in the module
-pub record IsReady (m : Module) (s : Scope) : Type 0 where
+-- results are asked for only where they are built
+abbrev pub StandsResult : (built : Bool) → Module → (number width : ℕ) → Type 0
+StandsResult false m n w = Unit {0}
+StandsResult true m n w = IsValueOf m (result_value n) w
+
+-- the parameter, the result or the block stands in the module
+abbrev pub Stands : (built : Bool) → Module → Local → Type 0
+Stands built m (ValueLocal (Constant c) w) = ⊥
+Stands built m (ValueLocal (Parameter f i) w) = IsValueOf m (V.Param (record { 0 = f }) i) w
+Stands built m (ValueLocal (Result n) w) = StandsResult built m n w
+Stands built m (BlockLocal b) = b < length m.blocks
+
+-- what the scope of the program knows stands in the module
+pub record IsReady (built : Bool) (m : Module) (c : code.Scope) : Type 0 where
   pub sound : IsModule m
-  pub known : AllKnown (StandsIn m) s
-
--- the scope of the program is one of the definitions whose values stand in the module
-pub record IsKnown (c : code.Scope) (m : Module) : Type 0 where
-  pub scope : Scope
-  pub knows : Knows c scope
-  pub ready : IsReady m scope
+  pub stand : (k : code_key.Key) (x : code_local.Local) → local_at c k ≡ Some x → Stands built m (local_view x)
 
 -- types and constants are added, and nothing else
 pub record OnlyInterns (old new : Module) : Type 0 where
@@ -67,20 +82,21 @@ IsNamedBy (V.Const c) o = ⊥
 IsNamedBy (V.Param f i) o = Parameter f.0 i ≡ o
 IsNamedBy (V.Inst i) o = Result i.0 ≡ o
 
--- a local of that width that is known
-pub record SaysLocal (s : Scope) (width : ℕ) (t : Text) (v : LLVMValue) : Type 0 where
+-- a parameter or a result of that width that the program knows
+pub record IsLocalOf (c : code.Scope) (width : ℕ) (t : Text) (v : LLVMValue) : Type 0 where
+  pub key : code_key.Key
+  pub local : code_local.Local
+  pub known : local_at c key ≡ Some local
   pub operand : Operand
-  pub says : value_of is_plain 64 s width t ≡ Some operand
-  pub key : Key
-  pub known : s.known key ≡ Some (ValueLocal operand width)
+  pub is : local_view local ≡ ValueLocal operand width
   pub named : IsNamedBy v operand
+  pub says : (s : Scope) → Knows c s → value_of is_plain 64 s width t ≡ Some operand
 
--- an operand of that width, as it stands in the module
-pub record SaysValue (s : Scope) (width : ℕ) (t : Text) (m : Module) (v : LLVMValue) : Type 0 where
-  pub operand : Operand
-  pub says : value_of is_plain 64 s width t ≡ Some operand
-  pub is : operand_of (trees_of m) v ≡ operand
-  pub stands : IsValueOf m v width
+-- a block that the program knows
+pub record IsTargetOf (c : code.Scope) (t : Text) (b : LLVMBasicBlock) : Type 0 where
+  pub key : code_key.Key
+  pub known : local_at c key ≡ Some (code_local.TheVariants.Block b)
+  pub says : (s : Scope) → Knows c s → block_of is_plain 64 s t ≡ Some b.0
 
 -- the constant of a literal, as it stands in the module
 pub record SaysConstant (width : ℕ) (t : Text) (m : Module) (v : LLVMValue) : Type 0 where
@@ -89,40 +105,112 @@ pub record SaysConstant (width : ℕ) (t : Text) (m : Module) (v : LLVMValue) : 
   pub is : operand_of (trees_of m) v ≡ constant width value
   pub stands : IsValueOf m v width
 
--- ---- instructions
+-- an operand of that width, as it stands in the module
+pub record SaysValue (s : Scope) (width : ℕ) (t : Text) (m : Module) (v : LLVMValue) : Type 0 where
+  pub says : value_of is_plain 64 s width t ≡ Some (operand_of (trees_of m) v)
+
+-- likewise, where results wait
+pub record OpensValue (s : Scope) (width : ℕ) (t : Text) (m : Module) (v : LLVMValue) : Type 0 where
+  pub says : open_value s width t ≡ Some (operand_of (trees_of m) v)
+
+-- ---- instructions that are built
+
+-- the instruction has an operand at the place, which stands in the module, and is an integer of that width
+pub record HasOperand (m : Module) (inst : LLVMInst) (place w : ℕ) : Type 0 where
+  pub value : LLVMValue
+  pub at : slice_get (operands inst) place ≡ Some value
+  pub stands : IsValueOf m value w
+
+-- likewise the instruction of that number
+pub record HasSlot (m : Module) (n place w : ℕ) : Type 0 where
+  pub stored : InstData
+  pub here : slice_get m.insts n ≡ Some stored
+  pub operand : HasOperand m stored.inst place w
+
+abbrev pub IsPhiAt : Module → ℕ → Type 0
+IsPhiAt m n = let i : LLVMInstRef = record { 0 = n } in IsPhi m.insts i
+
+-- what is asked of the operands of an instruction, by place and width, and of a phi: a line for each kind
+abbrev pub Slots : (ℕ → ℕ → Type 0) → Type 0 → Inst → Type 0
+Slots Slot IsPhi (Add name nuw nsw type lhs rhs) = (w : ℕ) → int_width is_plain 64 type ≡ Some w → Slot 0 w × Slot 1 w
+Slots Slot IsPhi (ICmp name predicate type lhs rhs) = (w : ℕ) → int_width is_plain 64 type ≡ Some w → Slot 0 w × Slot 1 w
+Slots Slot IsPhi (Phi name type first more) = IsPhi
+
+-- a line for each kind
+abbrev pub EndSlots : (ℕ → ℕ → Type 0) → Terminator → Type 0
+EndSlots Slot ReturnVoid = Unit {0}
+EndSlots Slot (Return type value) = (w : ℕ) → int_width is_plain 64 type ≡ Some w → Slot 0 w
+EndSlots Slot (Br target) = Unit {0}
+EndSlots Slot (CondBr type condition first second) = Slot 0 1
+EndSlots Slot Unreachable = Unit {0}
+
+-- the operands of the instruction of that number are of the width that is written, and a phi is there
+abbrev pub HasSlots : Module → ℕ → Inst → Type 0
+HasSlots m n i = Slots (HasSlot m n) (IsPhiAt m n) i
+
+abbrev pub HasEndSlots : Module → ℕ → Terminator → Type 0
+HasEndSlots m n e = EndSlots (HasSlot m n) e
+
+-- the instruction stands in the module under the number, and its result is an integer of its width
+pub record IsBuilt (m : Module) (n : ℕ) (i : Inst) : Type 0 where
+  pub slots : HasSlots m n i
+  pub result : (w : ℕ) → result_width is_plain 64 i ≡ Some w → IsValueOf m (result_value n) w
+
+-- what stands in the module stays there, with its type
+pub record Keeps (old new : Module) : Type 0 where
+  pub values : (v : LLVMValue) (w : ℕ) → IsValueOf old v w → IsValueOf new v w
+  pub slots : (n place w : ℕ) → HasSlot old n place w → HasSlot new n place w
+  pub phis : (n : ℕ) → IsPhiAt old n → IsPhiAt new n
+  pub functions : length new.functions ≡ length old.functions
+  pub blocks : length new.blocks ≡ length old.blocks
+  pub sound : IsModule new
+
+-- the type of a result is that of integers of that width
+abbrev pub IsResultOf : List LLVMTypeKind → ℕ → Option ResultType → Type 0
+IsResultOf types w (Some (R.There t)) = slice_get types t.0 ≡ Some (T.Int w)
+IsResultOf types w (Some R.Bit) = w ≡ 1
+IsResultOf types w None = ⊥
+
+-- the parts of an instruction stand in the module, and its result is an integer of that width
+pub record Gives (m : Module) (inst : LLVMInst) (w : ℕ) : Type 0 where
+  pub values : HasValues m inst
+  pub result : IsResultOf m.types w (result_type m inst)
+
+-- the instruction is one that a text says, but for results, in a module that is to get it
+pub record IsMade (i : Inst) (m : Module) (inst : LLVMInst) : Type 0 where
+  pub width : ℕ
+  pub written : result_width is_plain 64 i ≡ Some width
+  pub gives : Gives m inst width
+  pub slots : Slots (HasOperand m inst) (IsTrue (is_phi inst)) i
+
+pub record SaysInst (s : Scope) (i : Inst) (m : Module) (inst : LLVMInst) : Type 0 where
+  pub width : ℕ
+  pub written : result_width is_plain 64 i ≡ Some width
+  pub says : open_inst s i ≡ Some (IntType width, instruction_of (trees_of m) inst)
+
+-- likewise of a terminator, which has no result
+pub record IsMadeEnd (i : Terminator) (m : Module) (inst : LLVMInst) : Type 0 where
+  pub values : HasValues m inst
+  pub void : result_type m inst ≡ None
+  pub slots : EndSlots (HasOperand m inst) i
+
+pub record SaysEnd (s : Scope) (i : Terminator) (m : Module) (inst : LLVMInst) : Type 0 where
+  pub says : open_terminator s i ≡ Some (instruction_of (trees_of m) inst)
 
 -- the block has the instruction last, under the next number
 pub record AddsPlaced (block : ℕ) (placed : Placed) (old new : Module) : Type 0 where
   pub number : placed.number ≡ length old.insts
   pub data_is : data_of new ≡ with_instruction (data_of old) block placed
-  pub functions : new.functions ≡ old.functions
-  pub blocks : length new.blocks ≡ length old.blocks
   pub insts : length new.insts ≡ length old.insts + 1
 
--- `ret`, as the next instruction of a module
-abbrev pub return_placed : Module → Option LLVMValue → Placed
-return_placed m value = record { number = length m.insts; name = []; type = VoidType; instruction = Return (option_map (operand_of (trees_of m)) value) }
+-- the block has an instruction last that a text says, but for results
+pub record AddsInst (s : Scope) (i : Inst) (block : ℕ) (old new : Module) : Type 0 where
+  pub said : TypeTree × Instruction
+  pub says : open_inst s i ≡ Some said
+  pub adds : AddsPlaced block (record { number = length old.insts; name = result_name i; type = said.0; instruction = said.1 }) old new
 
--- both sides of an operation stand in the module, and are integers of that width
-pub record HasSides (m : Module) (inst : LLVMInst) (w : ℕ) : Type 0 where
-  pub values : HasValues m inst
-  pub type : LLVMType
-  pub result : result_type m inst ≡ Some type
-  pub int : slice_get m.types type.0 ≡ Some (T.Int w)
-
--- the block has the instruction last, whose result of that width is defined under what is written of its name
-pub record AddsResult (s : Scope) (key : Option Key) (w : ℕ) (instruction : Instruction) (block : ℕ) (old new : Module) (code : code.Scope) : Type 0 where
-  pub after : Scope
-  pub says : define s (ValueLocal (Result (length old.insts)) w) key ≡ Some (key_name key, after)
-  pub adds : AddsPlaced block (record { number = length old.insts; name = key_name key; type = IntType w; instruction = instruction }) old new
-  pub knows : Knows code after
-  pub ready : IsReady new after
-
--- the block has an instruction last that a text says
-pub record AddsInst (s : Scope) (i : Inst) (block : ℕ) (old new : Module) (code : code.Scope) : Type 0 where
-  pub placed : Placed
-  pub after : Scope
-  pub says : inst_data is_plain 64 s placed.number i ≡ Some (placed, after)
-  pub adds : AddsPlaced block placed old new
-  pub knows : Knows code after
-  pub ready : IsReady new after
+-- the block has a terminator last that a text says, but for results
+pub record AddsEnd (s : Scope) (i : Terminator) (block : ℕ) (old new : Module) : Type 0 where
+  pub said : Instruction
+  pub says : open_terminator s i ≡ Some said
+  pub adds : AddsPlaced block (record { number = length old.insts; name = []; type = VoidType; instruction = said }) old new

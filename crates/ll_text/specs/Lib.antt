@@ -1,13 +1,15 @@
 -- The definitions that clauses cite.
 pub mod Bodies
 pub mod Building
+pub mod Filling
 pub mod Kinds
 pub mod Literals
 pub mod Meaning
+pub mod Numbered
+pub mod Opening
 pub mod Productions
 pub mod Reading
 pub mod Refusals
-pub mod Returns
 pub mod ScopeView
 pub mod Signatures
 pub mod Spelling

@@ -1,13 +1,21 @@
 -- What the names, numbers and literals of a text mean: the module data that a tree stands for.
-use Rattle.std.specs.Prelude.{◌≡◌, ℕ, suc, ◌+◌, ◌-◌, Bool, true, false, ◌&&◌, nat_le, nat_lt, nat_eq, List, [], ◌∷◌, length, take, drop, Option, Some, None, if◌then◌else◌}
+use Rattle.std.specs.Prelude.{◌≡◌, ℕ, suc, ◌+◌, ◌-◌, Bool, false, ◌&&◌, nat_le, nat_lt, nat_eq, List, [], ◌∷◌, ◌++◌, length, take, drop, Option, Some, None, if◌then◌else◌, codes}
 use Rattle.std.specs.Str.{bytes_eq}
+use Rattle.std.specs.Map.{lookup}
+use Rattle.llvm_core.specs.declared.code.LLVMIntPredicate.{LLVMIntPredicate}
+use Rattle.llvm_core.specs.declared.code.LLVMIntPredicate.TheVariants as P
 use Rattle.std.specs.Option.{option_map}
 use Rattle.llvm_core.specs.Data as L
 use Rattle.llvm_core.specs.Data.{TypeTree, VoidType, IntType, FunctionType, TypeTrees, NoTypes, ThenType, Operand, Placed, Block, ModuleData}
-use Rattle.llvm_core.specs.Checked.{ends_in_only}
-use Rattle.llvm_core.specs.Form.{is_last}
 use Rattle.ll_text.specs.Text.{Text, number_of, number_limit, width_of, const_value}
-use Rattle.ll_text.specs.Tree.{is_local, is_digits, Inst, ReturnVoid, Return, Add, Param, Function, File}
+use Rattle.ll_text.specs.Tree as tree
+use Rattle.ll_text.specs.Tree.{is_local, is_digits, Inst, Add, ICmp, Phi, Incoming, Terminator, ReturnVoid, Return, Br, CondBr, Unreachable, Param, Function, File, blocks_of}
+
+-- the words of the predicates
+abbrev pub predicate_words : List (Text × LLVMIntPredicate)
+predicate_words =
+    (codes "eq", P.LLVMIntEQ) ∷ (codes "ne", P.LLVMIntNE) ∷ (codes "ugt", P.LLVMIntUGT) ∷ (codes "uge", P.LLVMIntUGE) ∷ (codes "ult", P.LLVMIntULT)
+    ∷ (codes "ule", P.LLVMIntULE) ∷ (codes "sgt", P.LLVMIntSGT) ∷ (codes "sge", P.LLVMIntSGE) ∷ (codes "slt", P.LLVMIntSLT) ∷ (codes "sle", P.LLVMIntSLE) ∷ []
 
 infixl 10 ◌>>=◌
 abbrev pub ◌>>=◌ : {A B : Type 0} → Option A → (A → Option B) → Option B
@@ -66,6 +74,27 @@ value_of_width w None = None
 value_of_width w (Some (BlockLocal b)) = None
 value_of_width w (Some (ValueLocal o v)) = if nat_eq v w then Some o else None
 
+-- the block that a key stands for
+abbrev pub option_block : Option Local → Option ℕ
+option_block None = None
+option_block (Some (BlockLocal b)) = Some b
+option_block (Some (ValueLocal o v)) = None
+
+-- of a condition: one bit
+abbrev pub bit_width : Option ℕ → Option ℕ
+bit_width None = None
+bit_width (Some w) = if nat_eq w 1 then Some w else None
+
+-- the predicate of a word
+abbrev pub predicate_of : Text → Option LLVMIntPredicate
+predicate_of t = lookup (bytes_eq t) predicate_words
+
+-- what is written of the name of an instruction's result
+abbrev pub written_name : Inst → Option Text
+written_name (Add name nuw nsw type lhs rhs) = name
+written_name (ICmp name predicate type lhs rhs) = name
+written_name (Phi name type first more) = name
+
 -- an integer constant
 abbrev pub constant : ℕ → ℕ → Operand
 constant w v = L.Constant (L.IntConst (IntType w) v)
@@ -100,27 +129,123 @@ module _ (is_name : Text → Bool) (widest : ℕ) where
   abbrev pub string_name : Text → Option Text
   string_name t = if is_name (take (length t - 2) (drop 1 t)) then Some (take (length t - 2) (drop 1 t)) else None
 
-  -- an operand of the width: a local that is defined before, or a literal
+  -- an operand of the width: a local of the function, or a literal
   abbrev pub value_of : Scope → ℕ → Text → Option Operand
   value_of s w t = if is_local t then (local_key t >>= λ k. value_of_width w (s.known k)) else option_map (constant w) (const_value w t)
+
+  -- a block of the function
+  abbrev pub block_of : Scope → Text → Option ℕ
+  block_of s t = local_key t >>= λ k. option_block (s.known k)
 
   -- the definition of a thing with what is written of it
   abbrev pub define_written : Scope → Local → (Text → Option Key) → Option Text → Option (Text × Scope)
   define_written s x key written = optional_key key written >>= λ k. define s x k
 
-  -- an instruction of that number, and the scope after it: a line for each kind
-  unfoldable pub inst_data : Scope → (number : ℕ) → Inst → Option (Placed × Scope)
-  inst_data s n ReturnVoid = Some (record { number = n; name = []; type = VoidType; instruction = L.Return None }, s)
-  inst_data s n (Return type value) = do
-    w ← int_width type
-    o ← value_of s w value
-    Some (record { number = n; name = []; type = VoidType; instruction = L.Return (Some o) }, s)
-  inst_data s n (Add name nuw nsw type lhs rhs) = do
+  -- ---- what is defined: names and numbers, in the order of the text
+
+  -- the width of an instruction's result: a line for each kind
+  abbrev pub result_width : Inst → Option ℕ
+  result_width (Add name nuw nsw type lhs rhs) = int_width type
+  result_width (ICmp name predicate type lhs rhs) = Some 1
+  result_width (Phi name type first more) = int_width type
+
+  -- the name of the result of the instruction of that number, and the scope after it
+  unfoldable pub named_inst : Scope → (number : ℕ) → Inst → Option (Text × Scope)
+  named_inst s n i = result_width i >>= λ w. define_written s (ValueLocal (L.Result n) w) local_key (written_name i)
+
+  -- instructions have the names that are written, with the scope before and after them
+  abbrev pub AreNamed : Scope → List Inst → List Placed → Scope → Type 0
+  AreNamed s [] [] t = s ≡ t
+  AreNamed s (i ∷ is) (p ∷ ps) t = (u : Scope) × (named_inst s p.number i ≡ Some (p.name, u)) × AreNamed u is ps t
+  AreNamed s [] (p ∷ ps) t = ⊥
+  AreNamed s (i ∷ is) [] t = ⊥
+
+  -- a block and the results of its instructions; its last instruction, the terminator, defines nothing
+  pub record NamesBlock (s : Scope) (b : tree.Block) (c : Block) (t : Scope) : Type 0 where
+    pub after_label : Scope
+    pub label : define_written s (BlockLocal c.number) label_key b.label ≡ Some (c.name, after_label)
+    pub front : List Placed
+    pub last : Placed
+    pub are : c.instructions ≡ front ++ last ∷ []
+    pub results : AreNamed after_label b.insts front t
+
+  abbrev pub NameBlocks : Scope → List tree.Block → List Block → Scope → Type 0
+  NameBlocks s [] [] t = s ≡ t
+  NameBlocks s (b ∷ bs) (c ∷ cs) t = (u : Scope) × NamesBlock s b c u × NameBlocks u bs cs t
+  NameBlocks s [] (c ∷ cs) t = ⊥
+  NameBlocks s (b ∷ bs) [] t = ⊥
+
+  -- ---- what is said, in the scope of the whole function: a use may stand before its definition
+
+  -- the entries of a phi, for values of the width
+  unfoldable pub entries_data : Scope → ℕ → List Incoming → Option (List (Operand × ℕ))
+  entries_data s w [] = Some []
+  entries_data s w (e ∷ es) = do
+    o ← value_of s w e.value
+    b ← block_of s e.block
+    more ← entries_data s w es
+    Some ((o, b) ∷ more)
+
+  -- the type of the result and the instruction: a line for each kind
+  unfoldable pub inst_data : Scope → Inst → Option (TypeTree × L.Instruction)
+  inst_data s (Add name nuw nsw type lhs rhs) = do
     w ← int_width type
     a ← value_of s w lhs
     b ← value_of s w rhs
-    d ← define_written s (ValueLocal (L.Result n) w) local_key name
-    Some (record { number = n; name = d.0; type = IntType w; instruction = L.Add a b (record { nuw = nuw; nsw = nsw }) }, d.1)
+    Some (IntType w, L.Add a b (record { nuw = nuw; nsw = nsw }))
+  inst_data s (ICmp name predicate type lhs rhs) = do
+    w ← int_width type
+    a ← value_of s w lhs
+    b ← value_of s w rhs
+    p ← predicate_of predicate
+    Some (IntType 1, L.ICmp a b p)
+  inst_data s (Phi name type first more) = do
+    w ← int_width type
+    es ← entries_data s w (first ∷ more)
+    Some (IntType w, L.Phi es)
+
+  -- a line for each kind
+  unfoldable pub terminator_data : Scope → Terminator → Option L.Instruction
+  terminator_data s ReturnVoid = Some (L.Return None)
+  terminator_data s (Return type value) = do
+    w ← int_width type
+    o ← value_of s w value
+    Some (L.Return (Some o))
+  terminator_data s (Br target) = do
+    b ← block_of s target
+    Some (L.Br b)
+  terminator_data s (CondBr type condition first second) = do
+    w ← bit_width (int_width type)
+    c ← value_of s w condition
+    a ← block_of s first
+    b ← block_of s second
+    Some (L.CondBr c a b)
+  terminator_data s Unreachable = Some L.Unreachable
+
+  -- the instructions of a block but its terminator, in order
+  abbrev pub AreInstructions : Scope → List Inst → List Placed → Type 0
+  AreInstructions s [] [] = Unit {0}
+  AreInstructions s (i ∷ is) (p ∷ ps) = (inst_data s i ≡ Some (p.type, p.instruction)) × AreInstructions s is ps
+  AreInstructions s [] (p ∷ ps) = ⊥
+  AreInstructions s (i ∷ is) [] = ⊥
+
+  pub record IsTerminatorOf (s : Scope) (i : Terminator) (p : Placed) : Type 0 where
+    pub instruction : terminator_data s i ≡ Some p.instruction
+    pub type : p.type ≡ VoidType
+    pub name : p.name ≡ []
+
+  pub record IsBlockOf (s : Scope) (b : tree.Block) (c : Block) : Type 0 where
+    pub front : List Placed
+    pub last : Placed
+    pub are : c.instructions ≡ front ++ last ∷ []
+    pub instructions : AreInstructions s b.insts front
+    pub end : IsTerminatorOf s b.end last
+
+  abbrev pub AreBlocks : Scope → List tree.Block → List Block → Type 0
+  AreBlocks s [] [] = Unit {0}
+  AreBlocks s (b ∷ bs) (c ∷ cs) = IsBlockOf s b c × AreBlocks s bs cs
+  AreBlocks s [] (c ∷ cs) = ⊥
+  AreBlocks s (b ∷ bs) [] = ⊥
 
   -- the width and the name of the parameter of the function at a place, and the scope after it
   unfoldable pub param_data : Scope → (function place : ℕ) → Param → Option (ℕ × Text × Scope)
@@ -140,14 +265,7 @@ module _ (is_name : Text → Bool) (widest : ℕ) where
   AreParams f i s (p ∷ ps) (ThenType (IntType w) ts) (n ∷ ns) t = (u : Scope) × (param_data s f i p ≡ Some (w, n, u)) × AreParams f (suc i) u ps ts ns t
   AreParams f i s _ _ _ t = ⊥
 
-  -- the instructions of a block in order
-  abbrev pub AreInstructions : Scope → List Inst → List Placed → Type 0
-  AreInstructions s [] [] = Unit {0}
-  AreInstructions s (i ∷ is) (p ∷ ps) = (t : Scope) × (inst_data s p.number i ≡ Some (p, t)) × AreInstructions t is ps
-  AreInstructions s [] (p ∷ ps) = ⊥
-  AreInstructions s (i ∷ is) [] = ⊥
-
-  -- a function of one block, whose last instruction is its only terminator
+  -- a function: its names in the order of the text, and its blocks in the scope that they make
   pub record IsFunctionOf (f : Function) (d : L.Function) : Type 0 where
     pub name : global_name f.name ≡ Some d.name
     pub result : TypeTree
@@ -157,12 +275,9 @@ module _ (is_name : Text → Bool) (widest : ℕ) where
     pub space : d.space ≡ 0
     pub after_params : Scope
     pub params : AreParams d.number 0 empty_scope f.params types d.params after_params
-    pub block : Block
-    pub only : d.blocks ≡ block ∷ []
-    pub after_label : Scope
-    pub label : define_written after_params (BlockLocal block.number) label_key f.label ≡ Some (block.name, after_label)
-    pub instructions : AreInstructions after_label f.insts block.instructions
-    pub ends : ends_in_only is_last block.instructions ≡ true
+    pub scope : Scope
+    pub names : NameBlocks after_params (blocks_of f) d.blocks scope
+    pub blocks : AreBlocks scope (blocks_of f) d.blocks
 
   abbrev pub AreFunctions : List Function → List L.Function → Type 0
   AreFunctions [] [] = Unit {0}

@@ -3,7 +3,7 @@
 use Rattle.std.specs.Prelude.{◌≡◌, true, false, List, ◌++◌, Some, codes}
 use Rattle.ll_text.specs.Text.{Text}
 use Rattle.ll_text.specs.Tree.{is_local}
-use Rattle.ll_text.specs.Reading.{Read, is_next, passes_next}
+use Rattle.ll_text.specs.Reading.{Read, is_next, passes_next, no_comma, is_ending}
 
 -- Two things whose tokens begin one list, each before what may follow it, are one thing, and end at one place.
 abbrev pub IsUnambiguous : {A : Type 0} → (write : A → List Text) → (Fits : A → Type 0) → (Follows : List Text → Type 0) → Type 0
@@ -30,7 +30,15 @@ NoLocal ts = passes_next is_local ts ≡ false
 abbrev pub Closes : List Text → Type 0
 Closes ts = is_next (codes ")") ts ≡ true
 
--- the block is over: } stands next
+-- no comma stands next
+abbrev pub NoComma : List Text → Type 0
+NoComma ts = no_comma ts ≡ true
+
+-- the instructions are over: a terminator stands next
+abbrev pub Terminates : List Text → Type 0
+Terminates ts = is_ending ts ≡ true
+
+-- the blocks are over: } stands next
 abbrev pub Ends : List Text → Type 0
 Ends ts = is_next (codes "}") ts ≡ true
 

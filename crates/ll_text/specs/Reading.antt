@@ -1,10 +1,10 @@
 -- Reading tokens to trees, from left to right: what the reader does, for its contracts.
-use Rattle.std.specs.Prelude.{◌≡◌, ℕ, zero, suc, Bool, true, false, List, [], ◌∷◌, ◌++◌, length, Option, Some, None, Result, Ok, Err, codes, if◌then◌else◌}
+use Rattle.std.specs.Prelude.{◌≡◌, ℕ, zero, suc, Bool, true, false, ◌||◌, not, List, [], ◌∷◌, ◌++◌, length, Option, Some, None, Result, Ok, Err, codes, if◌then◌else◌}
 use Rattle.std.specs.Str.{bytes_eq}
 use Rattle.ll_text.specs.Text.{Text}
 use Rattle.ll_text.specs.TokenView.{texts_of}
 use Rattle.ll_text.specs.Meaning.{◌>>=◌}
-use Rattle.ll_text.specs.Tree.{is_local, is_global, is_label, is_string, is_int_type, is_operand, Inst, ReturnVoid, Return, Add, Param, Function, File}
+use Rattle.ll_text.specs.Tree.{is_local, is_global, is_label, is_string, is_int_type, is_operand, is_predicate, Incoming, Inst, Add, ICmp, Phi, Terminator, ReturnVoid, Return, Br, CondBr, Unreachable, Param, Block, Function, File}
 use Rattle.ll_text.specs.declared.read_err.ReadErr.{ReadErr}
 use Rattle.ll_text.specs.declared.reader.Reader.{Reader}
 use Rattle.ll_text.specs.declared.read_err.ReadErr.TheVariants.{NotYet, NoMemory}
@@ -72,14 +72,13 @@ with_front front read = read >>= λ x. Some (front ++ x.0, x.1)
 
 -- ---- productions
 
-unfoldable pub value_at : List Text → Read Inst
-value_at ts = do
-  ty ← one_at is_int_type ts
-  v ← one_at is_operand ty.1
-  Some (Return ty.0 v.0, v.1)
+-- [LOCAL "="]: what stands behind the local, if there is one
+abbrev pub behind_local : Option Text → List Text → Read (Option Text)
+behind_local None ts = Some (None, ts)
+behind_local (Some t) ts = skip_at (codes "=") ts >>= λ us. Some (Some t, us)
 
-unfoldable pub return_at : List Text → Read Inst
-return_at ts = if is_next (codes "void") ts then Some (ReturnVoid, rest ts) else value_at ts
+unfoldable pub result_at : List Text → Read (Option Text)
+result_at ts = optional_at is_local ts >>= λ name. behind_local name.0 name.1
 
 unfoldable pub add_at : Option Text → List Text → Read Inst
 add_at name ts = do
@@ -91,21 +90,111 @@ add_at name ts = do
   b ← one_at is_operand comma
   Some (Add name nuw.0 nsw.0 ty.0 a.0 b.0, b.1)
 
-unfoldable pub named_at : List Text → Read Inst
-named_at ts = do
-  name ← one_at is_local ts
-  equals ← skip_at (codes "=") name.1
-  word ← skip_at (codes "add") equals
-  add_at (Some name.0) word
+unfoldable pub icmp_at : Option Text → List Text → Read Inst
+icmp_at name ts = do
+  word ← one_at is_predicate ts
+  ty ← one_at is_int_type word.1
+  a ← one_at is_operand ty.1
+  comma ← skip_at (codes ",") a.1
+  b ← one_at is_operand comma
+  Some (ICmp name word.0 ty.0 a.0 b.0, b.1)
+
+unfoldable pub incoming_at : List Text → Read Incoming
+incoming_at ts = do
+  opened ← skip_at (codes "[") ts
+  value ← one_at is_operand opened
+  comma ← skip_at (codes ",") value.1
+  from ← one_at is_local comma
+  closed ← skip_at (codes "]") from.1
+  Some (record { value = value.0; block = from.0 }, closed)
+
+-- a comma and an entry
+unfoldable pub next_incoming_at : List Text → Read Incoming
+next_incoming_at ts = do
+  comma ← skip_at (codes ",") ts
+  incoming_at comma
+
+abbrev pub no_comma : List Text → Bool
+no_comma ts = not (is_next (codes ",") ts)
+
+-- as many as commas follow
+unfoldable pub next_incomings_at : List Text → Read (List Incoming)
+next_incomings_at ts = many_at no_comma next_incoming_at ts
+
+unfoldable pub phi_at : Option Text → List Text → Read Inst
+phi_at name ts = do
+  ty ← one_at is_int_type ts
+  first ← incoming_at ty.1
+  more ← next_incomings_at first.1
+  Some (Phi name ty.0 first.0 more.0, more.1)
+
+-- an instruction behind what is written of its name
+unfoldable pub kind_at : Option Text → List Text → Read Inst
+kind_at name ts =
+    if is_next (codes "add") ts then add_at name (rest ts)
+    else (if is_next (codes "icmp") ts then icmp_at name (rest ts)
+    else (skip_at (codes "phi") ts >>= λ word. phi_at name word))
 
 unfoldable pub inst_at : List Text → Read Inst
-inst_at ts =
-    if is_next (codes "ret") ts then return_at (rest ts)
-    else (if is_next (codes "add") ts then add_at None (rest ts)
-    else named_at ts)
+inst_at ts = do
+  name ← result_at ts
+  kind_at name.0 name.1
 
+unfoldable pub value_at : List Text → Read Terminator
+value_at ts = do
+  ty ← one_at is_int_type ts
+  v ← one_at is_operand ty.1
+  Some (Return ty.0 v.0, v.1)
+
+unfoldable pub return_at : List Text → Read Terminator
+return_at ts = if is_next (codes "void") ts then Some (ReturnVoid, rest ts) else value_at ts
+
+-- , label %block
+unfoldable pub target_at : List Text → Read Text
+target_at ts = do
+  comma ← skip_at (codes ",") ts
+  word ← skip_at (codes "label") comma
+  one_at is_local word
+
+unfoldable pub cond_at : List Text → Read Terminator
+cond_at ts = do
+  ty ← one_at is_int_type ts
+  condition ← one_at is_operand ty.1
+  first ← target_at condition.1
+  second ← target_at first.1
+  Some (CondBr ty.0 condition.0 first.0 second.0, second.1)
+
+unfoldable pub jump_at : List Text → Read Terminator
+jump_at ts = do
+  target ← one_at is_local ts
+  Some (Br target.0, target.1)
+
+unfoldable pub branch_at : List Text → Read Terminator
+branch_at ts = if is_next (codes "label") ts then jump_at (rest ts) else cond_at ts
+
+unfoldable pub terminator_at : List Text → Read Terminator
+terminator_at ts =
+    if is_next (codes "ret") ts then return_at (rest ts)
+    else (if is_next (codes "br") ts then branch_at (rest ts)
+    else (skip_at (codes "unreachable") ts >>= λ word. Some (Unreachable, word)))
+
+-- a terminator begins with its word
+abbrev pub is_ending : List Text → Bool
+is_ending ts = is_next (codes "ret") ts || is_next (codes "br") ts || is_next (codes "unreachable") ts
+
+-- the instructions before a terminator
 unfoldable pub insts_at : List Text → Read (List Inst)
-insts_at ts = many_at (is_next (codes "}")) inst_at ts
+insts_at ts = many_at is_ending inst_at ts
+
+unfoldable pub block_at : List Text → Read Block
+block_at ts = do
+  label ← optional_at is_label ts
+  insts ← insts_at label.1
+  end ← terminator_at insts.1
+  Some (record { label = label.0; insts = insts.0; end = end.0 }, end.1)
+
+unfoldable pub blocks_at : List Text → Read (List Block)
+blocks_at ts = many_at (is_next (codes "}")) block_at ts
 
 unfoldable pub param_at : List Text → Read Param
 param_at ts = do
@@ -137,10 +226,10 @@ function_at ts = do
   params ← params_at opened
   closed ← skip_at (codes ")") params.1
   begun ← skip_at (codes "{") closed
-  label ← optional_at is_label begun
-  insts ← insts_at label.1
-  ended ← skip_at (codes "}") insts.1
-  Some (record { result = result.0; name = name.0; params = params.0; label = label.0; insts = insts.0 }, ended)
+  entry ← block_at begun
+  more ← blocks_at entry.1
+  ended ← skip_at (codes "}") more.1
+  Some (record { result = result.0; name = name.0; params = params.0; entry = entry.0; more = more.0 }, ended)
 
 abbrev pub is_end : List Text → Bool
 is_end [] = true

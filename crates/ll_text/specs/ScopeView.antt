@@ -50,3 +50,11 @@ Counts old x n new = (s : spec.Scope) → Knows old s → (t : spec.Scope) × (s
 abbrev pub Defines : Scope → Local → Option Key → Scope → Type 0
 Defines old x key new =
     (s : spec.Scope) → Knows old s → (t : spec.Scope) × (spec.define s (local_view x) (option_key key) ≡ Some (key_name (option_key key), t)) × Knows new t
+
+-- what the scope of the program becomes is what the step makes of that of the definitions
+abbrev pub Takes : Scope → Scope → (spec.Scope → Option spec.Scope) → Type 0
+Takes old new step = (s : spec.Scope) → Knows old s → (t : spec.Scope) × (step s ≡ Some t) × Knows new t
+
+-- the step makes nothing of the scope of the definitions
+abbrev pub Refuses : {A : Type 0} → Scope → (spec.Scope → Option A) → Type 0
+Refuses old step = (s : spec.Scope) → Knows old s → step s ≡ None

@@ -12,9 +12,9 @@ use Rattle.ll_text.specs.declared.pieces.Piece.{Piece}
 abbrev pub is_blank : ℕ → Bool
 is_blank b = b == 32 || b == 9 || b == 13 || b == 10
 
--- = , ( ) { }
+-- = , ( ) { } [ ]
 abbrev pub is_sign : ℕ → Bool
-is_sign b = b == 61 || b == 44 || b == 40 || b == 41 || b == 123 || b == 125
+is_sign b = b == 61 || b == 44 || b == 40 || b == 41 || b == 123 || b == 125 || b == 91 || b == 93
 
 -- @ %
 abbrev pub is_sigil : ℕ → Bool

@@ -1,7 +1,7 @@
 -- What a text of the form says, with each choice of its writer, and the tokens that it is written in: a
 -- definition for each production. Leaves are tokens.
 use Rattle.std.specs.Prelude.{◌≡◌, ◌-◌, Bool, true, false, ◌||◌, ◌&&◌, not, List, [], ◌∷◌, ◌++◌, length, drop, Option, Some, None, codes, ◌==◌, if◌then◌else◌}
-use Rattle.std.specs.List.{flat_map, AllByRecursion, list_all}
+use Rattle.std.specs.List.{flat_map, AllByRecursion, list_all, list_any}
 use Rattle.std.specs.Str.{bytes_eq}
 use Rattle.llvm_core.specs.Names.{is_digit}
 use Rattle.ll_text.specs.Text.{Text}
@@ -46,30 +46,59 @@ is_int_type (b ∷ bs) = b == 105 && is_digits bs
 abbrev pub is_operand : Text → Bool
 is_operand t = is_local t || is_int t || bytes_eq t (codes "true") || bytes_eq t (codes "false")
 
+-- the words that compare two integers
+abbrev pub predicates : List Text
+predicates = codes "eq" ∷ codes "ne" ∷ codes "ugt" ∷ codes "uge" ∷ codes "ult" ∷ codes "ule" ∷ codes "sgt" ∷ codes "sge" ∷ codes "slt" ∷ codes "sle" ∷ []
+
+abbrev pub is_predicate : Text → Bool
+is_predicate t = list_any (bytes_eq t) predicates
+
 -- ---- trees
 
--- an instruction, a line for each kind
+-- an entry of a phi: what it takes on an edge, and the block that the edge comes from
+pub record Incoming : Type 0 where
+  pub value : Text
+  pub block : Text
+
+-- an instruction that ends no block, a line for each kind
 pub data Inst : Type 0 where
-  ReturnVoid : Inst
-  Return : (type value : Text) → Inst
   Add : (name : Option Text) (nuw nsw : Bool) (type lhs rhs : Text) → Inst
+  ICmp : (name : Option Text) (predicate type lhs rhs : Text) → Inst
+  Phi : (name : Option Text) (type : Text) (first : Incoming) (more : List Incoming) → Inst
+
+-- an instruction that ends a block, a line for each kind
+pub data Terminator : Type 0 where
+  ReturnVoid : Terminator
+  Return : (type value : Text) → Terminator
+  Br : (target : Text) → Terminator
+  CondBr : (type condition first second : Text) → Terminator
+  Unreachable : Terminator
 
 pub record Param : Type 0 where
   pub type : Text
   pub name : Option Text
+
+pub record Block : Type 0 where
+  pub label : Option Text
+  pub insts : List Inst
+  pub end : Terminator
 
 pub record Function : Type 0 where
   -- none for void
   pub result : Option Text
   pub name : Text
   pub params : List Param
-  pub label : Option Text
-  pub insts : List Inst
+  pub entry : Block
+  pub more : List Block
 
 pub record File : Type 0 where
   -- the name of the module
   pub source : Option Text
   pub functions : List Function
+
+-- the blocks of a function in order
+abbrev pub blocks_of : Function → List Block
+blocks_of f = f.entry ∷ f.more
 
 -- ---- productions
 
@@ -86,11 +115,31 @@ abbrev pub result : Option Text → List Text
 result None = []
 result (Some t) = t ∷ codes "=" ∷ []
 
+-- [ value , block ]
+abbrev pub incoming : Incoming → List Text
+incoming e = codes "[" ∷ e.value ∷ codes "," ∷ e.block ∷ codes "]" ∷ []
+
+-- a comma and an entry
+abbrev pub next_incoming : Incoming → List Text
+next_incoming e = codes "," ∷ incoming e
+
 -- a line for each kind
 abbrev pub inst : Inst → List Text
-inst ReturnVoid = codes "ret" ∷ codes "void" ∷ []
-inst (Return type value) = codes "ret" ∷ type ∷ value ∷ []
 inst (Add name nuw nsw type lhs rhs) = result name ++ codes "add" ∷ flag (codes "nuw") nuw ++ flag (codes "nsw") nsw ++ type ∷ lhs ∷ codes "," ∷ rhs ∷ []
+inst (ICmp name predicate type lhs rhs) = result name ++ codes "icmp" ∷ predicate ∷ type ∷ lhs ∷ codes "," ∷ rhs ∷ []
+inst (Phi name type first more) = result name ++ codes "phi" ∷ type ∷ incoming first ++ flat_map next_incoming more
+
+-- a line for each kind
+abbrev pub terminator : Terminator → List Text
+terminator ReturnVoid = codes "ret" ∷ codes "void" ∷ []
+terminator (Return type value) = codes "ret" ∷ type ∷ value ∷ []
+terminator (Br target) = codes "br" ∷ codes "label" ∷ target ∷ []
+terminator (CondBr type condition first second) = codes "br" ∷ type ∷ condition ∷ codes "," ∷ codes "label" ∷ first ∷ codes "," ∷ codes "label" ∷ second ∷ []
+terminator Unreachable = codes "unreachable" ∷ []
+
+-- [label] instructions terminator
+abbrev pub block : Block → List Text
+block b = optional b.label ++ flat_map inst b.insts ++ terminator b.end
 
 abbrev pub param : Param → List Text
 param p = p.type ∷ optional p.name
@@ -107,9 +156,9 @@ abbrev pub result_type : Option Text → List Text
 result_type None = codes "void" ∷ []
 result_type (Some type) = type ∷ []
 
--- define T @name ( params ) { block }
+-- define T @name ( params ) { block block* }
 abbrev pub function : Function → List Text
-function f = codes "define" ∷ result_type f.result ++ f.name ∷ codes "(" ∷ params f.params ++ codes ")" ∷ codes "{" ∷ optional f.label ++ flat_map inst f.insts ++ codes "}" ∷ []
+function f = codes "define" ∷ result_type f.result ++ f.name ∷ codes "(" ∷ params f.params ++ codes ")" ∷ codes "{" ∷ block f.entry ++ flat_map block f.more ++ codes "}" ∷ []
 
 -- source_filename = "name"
 abbrev pub source : Option Text → List Text
@@ -125,26 +174,37 @@ abbrev pub IfPresent : (Text → Bool) → Option Text → Type 0
 IfPresent p None = Unit {0}
 IfPresent p (Some t) = p t ≡ true
 
+abbrev pub IsIncoming : Incoming → Type 0
+IsIncoming e = (is_operand e.value ≡ true) × (is_local e.block ≡ true)
+
 -- a line for each kind
 abbrev pub IsInst : Inst → Type 0
-IsInst ReturnVoid = Unit {0}
-IsInst (Return type value) = (is_int_type type ≡ true) × (is_operand value ≡ true)
 IsInst (Add name nuw nsw type lhs rhs) = IfPresent is_local name × (is_int_type type ≡ true) × (is_operand lhs ≡ true) × (is_operand rhs ≡ true)
+IsInst (ICmp name predicate type lhs rhs) = IfPresent is_local name × (is_predicate predicate ≡ true) × (is_int_type type ≡ true) × (is_operand lhs ≡ true) × (is_operand rhs ≡ true)
+IsInst (Phi name type first more) = IfPresent is_local name × (is_int_type type ≡ true) × IsIncoming first × AllByRecursion IsIncoming more
 
-abbrev pub is_terminator : Inst → Bool
-is_terminator ReturnVoid = true
-is_terminator (Return type value) = true
-is_terminator (Add name nuw nsw type lhs rhs) = false
+-- a line for each kind
+abbrev pub IsTerminator : Terminator → Type 0
+IsTerminator ReturnVoid = Unit {0}
+IsTerminator (Return type value) = (is_int_type type ≡ true) × (is_operand value ≡ true)
+IsTerminator (Br target) = is_local target ≡ true
+IsTerminator (CondBr type condition first second) = (is_int_type type ≡ true) × (is_operand condition ≡ true) × (is_local first ≡ true) × (is_local second ≡ true)
+IsTerminator Unreachable = Unit {0}
 
 abbrev pub IsParam : Param → Type 0
 IsParam p = (is_int_type p.type ≡ true) × IfPresent is_local p.name
+
+pub record IsBlock (b : Block) : Type 0 where
+  pub label : IfPresent is_label b.label
+  pub insts : AllByRecursion IsInst b.insts
+  pub end : IsTerminator b.end
 
 pub record IsFunction (f : Function) : Type 0 where
   pub result : IfPresent is_int_type f.result
   pub name : is_global f.name ≡ true
   pub params : AllByRecursion IsParam f.params
-  pub label : IfPresent is_label f.label
-  pub insts : AllByRecursion IsInst f.insts
+  pub entry : IsBlock f.entry
+  pub more : AllByRecursion IsBlock f.more
 
 pub record IsFile (m : File) : Type 0 where
   pub source : IfPresent is_string m.source

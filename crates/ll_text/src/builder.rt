@@ -7,7 +7,6 @@ ghost use Rattle.ll_text.specs.Text.{Text};
 ghost use Rattle.ll_text.specs.Tree as tree;
 ghost use Rattle.ll_text.specs.TreeView.{name_view, file_view};
 ghost use Rattle.ll_text.specs.Meaning.{IsSource, IsFileOf};
-ghost use Rattle.ll_text.specs.Returns.{ReturnsFit};
 ghost use Rattle.ll_text.specs.Spelling.{IsNumbered};
 ghost use Rattle.ll_text.specs.Bodies.{IsBuiltOf};
 
@@ -37,13 +36,13 @@ fn source_name(source: Option<Token<'_>>) -> Result<&str, ReadErr>
 /// say no such module is outside the form.
 pub fn build_file(alloc: Global, file: &File<'_>) -> Result<LLVMModule, ReadErr>
     ensures says { IfOk result (λ m. IsFileOf is_plain 64 (file_view file.now) (data_of m)) }
-    ensures returns { IfOk result (λ m. ReturnsFit is_plain 64 (file_view file.now)) }
     ensures numbered { IfOk result (λ m. IsNumbered (data_of m)) }
-    ensures not_yet { result ≡ Err ReadErr.NotYet → (d : ModuleData) → IsFileOf is_plain 64 (file_view file.now) d → ¬ ReturnsFit is_plain 64 (file_view file.now) }
+    ensures not_yet { result ≡ Err ReadErr.NotYet → (d : ModuleData) → ¬ IsFileOf is_plain 64 (file_view file.now) d }
 {
     let mut module = LLVMModule::new(alloc, source_name(file.source)?)?;
+    let mut next: u32 = 0;
     for function in file.functions.as_slice() {
-        add_function(alloc, &mut module, function)?;
+        next = add_function(alloc, &mut module, next, function)?;
     }
     Ok(module)
 }

@@ -52,7 +52,14 @@ pub fn is_sigil(b: u8) -> bool
 pub fn is_sign(b: u8) -> bool
     ensures { result ≡ is_sign b }
 {
-    b == b'=' || b == b',' || b == b'(' || b == b')' || b == b'{' || b == b'}'
+    b == b'='
+        || b == b','
+        || b == b'('
+        || b == b')'
+        || b == b'{'
+        || b == b'}'
+        || b == b'['
+        || b == b']'
 }
 
 /// A byte that a word begins with.

@@ -1,30 +1,33 @@
-//! Builds instructions.
+//! Builds instructions, with a placeholder wherever an operand is a result, and phis without entries.
 
-ghost use Rattle.std.specs.Prelude.{◌≡◌, ◌<◌, ◌≤◌, ◌↔◌, ◌⊎◌, ℕ, None, Some, Err, IsTrue, IfSome, IfOk, OnOk, length};
+ghost use Rattle.std.specs.Prelude.{◌≡◌, ◌+◌, ◌<◌, ◌≤◌, ◌⊎◌, false, None, Err, IfOk, OnOk, length, map};
 ghost use Rattle.llvm_core.specs.Names.{is_plain};
-ghost use Rattle.llvm_core.specs.Parts.{IsValue};
-ghost use Rattle.llvm_core.specs.Data.{Placed, Result, trees_of, instruction_of};
+ghost use Rattle.ll_text.specs.Tree.{blocks_of};
 ghost use Rattle.ll_text.specs.Meaning as meaning;
-ghost use Rattle.ll_text.specs.Meaning.{ValueLocal, result_data, value_of, inst_data};
-ghost use Rattle.ll_text.specs.Returns.{FitsReturn};
-ghost use Rattle.ll_text.specs.ScopeView.{option_key, Knows};
-ghost use Rattle.ll_text.specs.Tree as tree;
+ghost use Rattle.ll_text.specs.Meaning.{value_of};
+ghost use Rattle.ll_text.specs.ScopeView.{Knows, Refuses};
 ghost use Rattle.ll_text.specs.TokenView.{text_of};
-ghost use Rattle.ll_text.specs.TreeView.{inst_view};
-ghost use Rattle.ll_text.specs.Building.{IsValueOf, IsKnown, IsReady, OnlyInterns, SaysValue, HasSides, AddsPlaced, AddsResult, AddsInst, return_placed};
-ghost use Rattle.ll_text.specs.Signatures.{returned};
+ghost use Rattle.ll_text.specs.TreeView.{inst_view, terminator_view, block_view, function_view};
+ghost use Rattle.ll_text.specs.Numbered.{behind, behind_all, EachInst, EachIn, EachBlock, placed_insts, placed_block, placed_blocks};
+ghost use Rattle.ll_text.specs.Opening.{open_inst, open_terminator};
+ghost use Rattle.ll_text.specs.Building.{IsValueOf, IsReady, OnlyInterns, OpensValue, IsMade, SaysInst, IsMadeEnd, SaysEnd, Keeps, IsBuilt, HasEndSlots, AddsInst, AddsEnd};
+ghost use Rattle.ll_text.specs.Bodies.{AddsInsts, AddsBody, AddsBodies};
 
-use crate::names::{int_width, key_name, written_local};
-use crate::operands::operand;
+use crate::definitions::written_name;
+use crate::names::{bit_width, int_width, next_number, predicate, result_name};
+use crate::operands::{open_operand, target};
 use crate::read_err::ReadErr;
-use crate::scope::{Key, Local, Scope};
+use crate::scope::Scope;
 use crate::tokens::Token;
-use crate::tree::Inst;
+use crate::tree::{Block, Function, Inst, Terminator};
 use llvm_core::code::{LLVMInst, LLVMValue, OverflowFlags};
+use llvm_core::items::Items;
 use llvm_core::module::LLVMModule;
 use llvm_core::numbers::LLVMBasicBlock;
+use llvm_core::types::LLVMTypeKind;
+use std::alloc::Global;
 
-/// Both operands of an operation.
+/// Both operands of an operation, or what stands for them.
 fn both<'a>(
     module: &mut LLVMModule,
     scope: &Scope<'a>,
@@ -34,112 +37,252 @@ fn both<'a>(
 ) -> Result<(LLVMValue, LLVMValue), ReadErr>
     requires least { 1 ≤ width }
     requires most { width ≤ 64 }
-    requires known { IsKnown scope.now module.old }
+    requires ready { IsReady false module.old scope.now }
     ensures left { IfOk result (λ p. IsValueOf module.new p.0 width) }
     ensures right { IfOk result (λ p. IsValueOf module.new p.1 width) }
-    ensures lhs { IfOk result (λ p. (s : meaning.Scope) → Knows scope.now s → IsReady module.old s → SaysValue s width (text_of lhs.entry) module.new p.0) }
-    ensures rhs { IfOk result (λ p. (s : meaning.Scope) → Knows scope.now s → IsReady module.old s → SaysValue s width (text_of rhs.entry) module.new p.1) }
+    ensures lhs { IfOk result (λ p. (s : meaning.Scope) → Knows scope.now s → OpensValue s width (text_of lhs.entry) module.new p.0) }
+    ensures rhs { IfOk result (λ p. (s : meaning.Scope) → Knows scope.now s → OpensValue s width (text_of rhs.entry) module.new p.1) }
     ensures rest { OnOk result (OnlyInterns module.old module.new) }
     ensures not_yet { result ≡ Err ReadErr.NotYet → (s : meaning.Scope) → Knows scope.now s → (value_of is_plain 64 s width (text_of lhs.entry) ≡ None) ⊎ (value_of is_plain 64 s width (text_of rhs.entry) ≡ None) }
 {
-    let a = operand(module, scope, width, lhs)?;
-    let b = operand(module, scope, width, rhs)?;
+    let a = open_operand(module, scope, width, lhs)?;
+    let b = open_operand(module, scope, width, rhs)?;
     Ok((a, b))
 }
 
-/// Builds an instruction whose result is an integer, and defines its result.
-fn build_result<'a>(
+/// The instruction that a text says, with a placeholder for each operand that is a result; a phi without entries.
+fn make_inst<'a>(
+    alloc: Global,
     module: &mut LLVMModule,
-    scope: &mut Scope<'a>,
-    block: LLVMBasicBlock,
-    inst: LLVMInst,
-    width: u32,
-    key: Option<Key<'a>>,
-) -> Result<(), ReadErr>
-    requires block { block.0 < length module.old.blocks }
-    requires sides { HasSides module.old inst width }
-    ensures adds { OnOk result ((s : meaning.Scope) → Knows scope.old s → IsReady module.old s → AddsResult s (option_key key.entry) width (instruction_of (trees_of module.old) inst) block.0 module.old module.new scope.new) }
-    ensures not_yet { result ≡ Err ReadErr.NotYet → (s : meaning.Scope) → Knows scope.old s → (n : ℕ) → meaning.define s (ValueLocal (Result n) width) (option_key key.entry) ≡ None }
-{
-    let result = module.build(block, inst, key_name(key))?;
-    scope.define(Local::Result(result, width), key)
-}
-
-/// Builds `ret`.
-fn build_return(
-    module: &mut LLVMModule,
-    block: LLVMBasicBlock,
-    value: Option<LLVMValue>,
-) -> Result<(), ReadErr>
-    requires block { block.0 < length module.old.blocks }
-    requires value { IfSome value (IsValue module.old) }
-    ensures adds { OnOk result (AddsPlaced block.0 (return_placed module.old value) module.old module.new) }
-    ensures ready { OnOk result ((s : meaning.Scope) → IsReady module.old s → IsReady module.new s) }
-    ensures not_yet { ¬ (result ≡ Err ReadErr.NotYet) }
-{
-    module.build(block, LLVMInst::Ret(value), "")?;
-    Ok(())
-}
-
-/// Whether a function returns an integer of that width.
-fn is_width(returns: Option<u32>, width: u32) -> bool
-    ensures { IsTrue result ↔ returns ≡ Some width }
-{
-    match returns {
-        Some(w) => w == width,
-        None => false,
-    }
-}
-
-/// Builds an instruction as the last of a block of a function that returns an integer of a width, or nothing.
-pub fn build_inst<'a>(
-    module: &mut LLVMModule,
-    scope: &mut Scope<'a>,
-    block: LLVMBasicBlock,
-    returns: Option<u32>,
+    scope: &Scope<'a>,
     inst: &Inst<'a>,
-) -> Result<(), ReadErr>
-    requires block { block.0 < length module.old.blocks }
-    requires known { IsKnown scope.old module.old }
-    ensures adds { OnOk result ((s : meaning.Scope) → Knows scope.old s → IsReady module.old s → AddsInst s (inst_view inst.now) block.0 module.old module.new scope.new) }
-    ensures fits { OnOk result ((f : tree.Function) → result_data is_plain 64 f.result ≡ Some (returned returns) → FitsReturn is_plain 64 f (inst_view inst.now)) }
-    ensures not_yet { result ≡ Err ReadErr.NotYet → (s : meaning.Scope) → Knows scope.old s → (f : tree.Function) → result_data is_plain 64 f.result ≡ Some (returned returns) → (n : ℕ) (d : Placed × meaning.Scope) → inst_data is_plain 64 s n (inst_view inst.now) ≡ Some d → ¬ FitsReturn is_plain 64 f (inst_view inst.now) }
+) -> Result<LLVMInst, ReadErr>
+    requires ready { IsReady false module.old scope.now }
+    ensures made { IfOk result (λ x. IsMade (inst_view inst.now) module.new x) }
+    ensures says { IfOk result (λ x. (s : meaning.Scope) → Knows scope.now s → SaysInst s (inst_view inst.now) module.new x) }
+    ensures rest { OnOk result (OnlyInterns module.old module.new) }
+    ensures not_yet { result ≡ Err ReadErr.NotYet → Refuses scope.now (λ s. open_inst s (inst_view inst.now)) }
 {
     match inst {
-        Inst::ReturnVoid => {
-            if returns.is_some() {
-                return Err(ReadErr::NotYet);
-            }
-            build_return(module, block, None)
-        }
-        Inst::Return { ty, value } => {
-            let Some(width) = int_width(ty.text) else {
-                return Err(ReadErr::NotYet);
-            };
-            if !is_width(returns, width) {
-                return Err(ReadErr::NotYet);
-            }
-            let value = operand(module, scope, width, *value)?;
-            build_return(module, block, Some(value))
-        }
         Inst::Add {
-            name,
             nuw,
             nsw,
             ty,
             lhs,
             rhs,
+            ..
         } => {
             let Some(width) = int_width(ty.text) else {
                 return Err(ReadErr::NotYet);
             };
-            let key = written_local(*name)?;
             let (a, b) = both(module, scope, width, *lhs, *rhs)?;
             let flags = OverflowFlags {
                 nuw: *nuw,
                 nsw: *nsw,
             };
-            build_result(module, scope, block, LLVMInst::Add(a, b, flags), width, key)
+            Ok(LLVMInst::Add(a, b, flags))
+        }
+        Inst::ICmp {
+            predicate: word,
+            ty,
+            lhs,
+            rhs,
+            ..
+        } => {
+            let Some(width) = int_width(ty.text) else {
+                return Err(ReadErr::NotYet);
+            };
+            let Some(compare) = predicate(word.text) else {
+                return Err(ReadErr::NotYet);
+            };
+            let (a, b) = both(module, scope, width, *lhs, *rhs)?;
+            Ok(LLVMInst::ICmp(a, b, compare))
+        }
+        Inst::Phi { ty, .. } => {
+            let Some(width) = int_width(ty.text) else {
+                return Err(ReadErr::NotYet);
+            };
+            let ty = module.type_get(LLVMTypeKind::Int(width))?;
+            Ok(LLVMInst::Phi(ty, Items::new(alloc)))
         }
     }
+}
+
+/// The terminator that a text says, with a placeholder where its operand is a result.
+fn make_end<'a>(
+    module: &mut LLVMModule,
+    scope: &Scope<'a>,
+    end: &Terminator<'a>,
+) -> Result<LLVMInst, ReadErr>
+    requires ready { IsReady false module.old scope.now }
+    ensures made { IfOk result (λ x. IsMadeEnd (terminator_view end.now) module.new x) }
+    ensures says { IfOk result (λ x. (s : meaning.Scope) → Knows scope.now s → SaysEnd s (terminator_view end.now) module.new x) }
+    ensures rest { OnOk result (OnlyInterns module.old module.new) }
+    ensures not_yet { result ≡ Err ReadErr.NotYet → Refuses scope.now (λ s. open_terminator s (terminator_view end.now)) }
+{
+    match end {
+        Terminator::ReturnVoid => Ok(LLVMInst::Ret(None)),
+        Terminator::Return { ty, value } => {
+            let Some(width) = int_width(ty.text) else {
+                return Err(ReadErr::NotYet);
+            };
+            let value = open_operand(module, scope, width, *value)?;
+            Ok(LLVMInst::Ret(Some(value)))
+        }
+        Terminator::Br { target: block } => Ok(LLVMInst::Br(target(scope, *block)?)),
+        Terminator::CondBr {
+            ty,
+            condition,
+            first,
+            second,
+        } => {
+            let Some(width) = bit_width(ty.text) else {
+                return Err(ReadErr::NotYet);
+            };
+            let condition = open_operand(module, scope, width, *condition)?;
+            let first = target(scope, *first)?;
+            let second = target(scope, *second)?;
+            Ok(LLVMInst::CondBr(condition, first, second))
+        }
+        Terminator::Unreachable => Ok(LLVMInst::Unreachable),
+    }
+}
+
+/// Builds an instruction as the last of a block.
+fn build_inst<'a>(
+    alloc: Global,
+    module: &mut LLVMModule,
+    scope: &Scope<'a>,
+    block: LLVMBasicBlock,
+    inst: &Inst<'a>,
+) -> Result<(), ReadErr>
+    requires block { block.0 < length module.old.blocks }
+    requires ready { IsReady false module.old scope.now }
+    ensures adds { OnOk result ((s : meaning.Scope) → Knows scope.now s → AddsInst s (inst_view inst.now) block.0 module.old module.new) }
+    ensures built { OnOk result (IsBuilt module.new (length module.old.insts) (inst_view inst.now)) }
+    ensures keeps { OnOk result (Keeps module.old module.new) }
+    ensures count { OnOk result (length module.new.insts ≡ length module.old.insts + 1) }
+    ensures not_yet { result ≡ Err ReadErr.NotYet → Refuses scope.now (λ s. open_inst s (inst_view inst.now)) }
+{
+    let made = make_inst(alloc, module, scope, inst)?;
+    module.build(block, made, result_name(written_name(inst)))?;
+    Ok(())
+}
+
+/// Builds the terminator of a block as its last instruction.
+fn build_end<'a>(
+    module: &mut LLVMModule,
+    scope: &Scope<'a>,
+    block: LLVMBasicBlock,
+    end: &Terminator<'a>,
+) -> Result<(), ReadErr>
+    requires block { block.0 < length module.old.blocks }
+    requires ready { IsReady false module.old scope.now }
+    ensures adds { OnOk result ((s : meaning.Scope) → Knows scope.now s → AddsEnd s (terminator_view end.now) block.0 module.old module.new) }
+    ensures built { OnOk result (HasEndSlots module.new (length module.old.insts) (terminator_view end.now)) }
+    ensures keeps { OnOk result (Keeps module.old module.new) }
+    ensures count { OnOk result (length module.new.insts ≡ length module.old.insts + 1) }
+    ensures not_yet { result ≡ Err ReadErr.NotYet → Refuses scope.now (λ s. open_terminator s (terminator_view end.now)) }
+{
+    let made = make_end(module, scope, end)?;
+    module.build(block, made, "")?;
+    Ok(())
+}
+
+/// Builds the instructions of a block but its terminator.
+fn build_insts<'a>(
+    alloc: Global,
+    module: &mut LLVMModule,
+    scope: &Scope<'a>,
+    block: LLVMBasicBlock,
+    insts: &[Inst<'a>],
+) -> Result<(), ReadErr>
+    requires block { block.0 < length module.old.blocks }
+    requires ready { IsReady false module.old scope.now }
+    ensures adds { OnOk result ((s : meaning.Scope) → Knows scope.now s → AddsInsts s (map inst_view insts.now) block.0 module.old module.new) }
+    ensures built { OnOk result (EachInst (IsBuilt module.new) (length module.old.insts) (map inst_view insts.now)) }
+    ensures keeps { OnOk result (Keeps module.old module.new) }
+    ensures count { OnOk result (length module.new.insts ≡ length module.old.insts + length insts.now) }
+    ensures not_yet { result ≡ Err ReadErr.NotYet → Refuses scope.now (λ s. placed_insts (open_inst s) (open_terminator s) (length module.old.insts) (map inst_view insts.now)) }
+{
+    for inst in insts {
+        build_inst(alloc, module, scope, block, inst)?;
+    }
+    Ok(())
+}
+
+/// Builds the instructions of a block.
+fn build_block<'a>(
+    alloc: Global,
+    module: &mut LLVMModule,
+    scope: &Scope<'a>,
+    number: LLVMBasicBlock,
+    block: &Block<'a>,
+) -> Result<(), ReadErr>
+    requires block { number.0 < length module.old.blocks }
+    requires ready { IsReady false module.old scope.now }
+    ensures adds { OnOk result ((s : meaning.Scope) → Knows scope.now s → AddsBody s (block_view block.now) number.0 module.old module.new) }
+    ensures built { OnOk result (EachIn (IsBuilt module.new) (HasEndSlots module.new) (length module.old.insts) (block_view block.now)) }
+    ensures keeps { OnOk result (Keeps module.old module.new) }
+    ensures count { OnOk result (length module.new.insts ≡ behind (length module.old.insts) (block_view block.now)) }
+    ensures not_yet { result ≡ Err ReadErr.NotYet → Refuses scope.now (λ s. placed_block (open_inst s) (open_terminator s) (length module.old.insts) (block_view block.now)) }
+{
+    build_insts(alloc, module, scope, number, block.insts.as_slice())?;
+    build_end(module, scope, number, &block.end)
+}
+
+/// Builds the instructions of blocks in order, the first of which has that number.
+fn build_more<'a>(
+    alloc: Global,
+    module: &mut LLVMModule,
+    scope: &Scope<'a>,
+    number: u32,
+    blocks: &[Block<'a>],
+) -> Result<(), ReadErr>
+    requires blocks { number + length blocks.now ≤ length module.old.blocks }
+    requires ready { IsReady false module.old scope.now }
+    ensures adds { OnOk result ((s : meaning.Scope) → Knows scope.now s → AddsBodies s (map block_view blocks.now) number module.old module.new) }
+    ensures built { OnOk result (EachBlock (IsBuilt module.new) (HasEndSlots module.new) (length module.old.insts) (map block_view blocks.now)) }
+    ensures keeps { OnOk result (Keeps module.old module.new) }
+    ensures count { OnOk result (length module.new.insts ≡ behind_all (length module.old.insts) (map block_view blocks.now)) }
+    ensures not_yet { result ≡ Err ReadErr.NotYet → Refuses scope.now (λ s. placed_blocks (open_inst s) (open_terminator s) (length module.old.insts) (map block_view blocks.now)) }
+{
+    let mut next = number;
+    for block in blocks {
+        build_block(alloc, module, scope, LLVMBasicBlock(next), block)?;
+        next = next_number(next)?;
+    }
+    Ok(())
+}
+
+/// Builds the instructions of the blocks of a function, the first of which has that number.
+pub fn build_blocks<'a>(
+    alloc: Global,
+    module: &mut LLVMModule,
+    scope: &Scope<'a>,
+    number: u32,
+    function: &Function<'a>,
+) -> Result<(), ReadErr>
+    requires blocks { number + length (blocks_of (function_view function.now)) ≤ length module.old.blocks }
+    requires ready { IsReady false module.old scope.now }
+    ensures adds { OnOk result ((s : meaning.Scope) → Knows scope.now s → AddsBodies s (blocks_of (function_view function.now)) number module.old module.new) }
+    ensures built { OnOk result (EachBlock (IsBuilt module.new) (HasEndSlots module.new) (length module.old.insts) (blocks_of (function_view function.now))) }
+    ensures keeps { OnOk result (Keeps module.old module.new) }
+    ensures count { OnOk result (length module.new.insts ≡ behind_all (length module.old.insts) (blocks_of (function_view function.now))) }
+    ensures not_yet { result ≡ Err ReadErr.NotYet → Refuses scope.now (λ s. placed_blocks (open_inst s) (open_terminator s) (length module.old.insts) (blocks_of (function_view function.now))) }
+{
+    build_block(
+        alloc,
+        module,
+        scope,
+        LLVMBasicBlock(number),
+        &function.entry,
+    )?;
+    build_more(
+        alloc,
+        module,
+        scope,
+        next_number(number)?,
+        function.more.as_slice(),
+    )
 }

@@ -2,7 +2,7 @@
 
 ghost use Rattle.std.specs.Prelude.{◌≡◌};
 ghost use Rattle.ll_text.specs.Kinds.{fits};
-ghost use Rattle.ll_text.specs.Tree.{is_local, is_label, is_quoted, is_digits, is_int, is_int_type, is_operand};
+ghost use Rattle.ll_text.specs.Tree.{is_local, is_label, is_quoted, is_digits, is_int, is_int_type, is_operand, is_predicate};
 
 use crate::bytes::all_digits;
 
@@ -21,6 +21,8 @@ pub enum Kind {
     IntType,
     /// A local or a constant.
     Operand,
+    /// A word that compares two integers.
+    Predicate,
 }
 
 impl Kind {
@@ -35,6 +37,7 @@ impl Kind {
             Kind::String => is_quoted(token) && !is_label(token),
             Kind::IntType => is_int_type(token),
             Kind::Operand => is_operand(token),
+            Kind::Predicate => is_predicate(token),
         }
     }
 }
@@ -85,4 +88,19 @@ fn is_operand(token: &[u8]) -> bool
     ensures { result ≡ is_operand token.now }
 {
     is_local(token) || is_int(token) || token == b"true".as_slice() || token == b"false".as_slice()
+}
+
+fn is_predicate(token: &[u8]) -> bool
+    ensures { result ≡ is_predicate token.now }
+{
+    token == b"eq".as_slice()
+        || token == b"ne".as_slice()
+        || token == b"ugt".as_slice()
+        || token == b"uge".as_slice()
+        || token == b"ult".as_slice()
+        || token == b"ule".as_slice()
+        || token == b"sgt".as_slice()
+        || token == b"sge".as_slice()
+        || token == b"slt".as_slice()
+        || token == b"sle".as_slice()
 }

@@ -4,12 +4,16 @@
 mod bodies;
 mod builder;
 mod bytes;
+mod definitions;
+mod filling;
 mod instructions;
 mod kinds;
 pub mod laws;
 pub mod literals;
+pub mod meaning_laws;
 mod names;
 mod operands;
+mod phis;
 pub mod pieces;
 pub mod read;
 pub mod read_err;

@@ -1,17 +1,19 @@
 //! Names, numbers and widths, as tokens write them.
 
-ghost use Rattle.std.specs.Prelude.{◌≡◌, ◌≤◌, None, Some, Err, IfOk, IfSome, IfNone};
+ghost use Rattle.std.specs.Prelude.{◌≡◌, ◌+◌, ◌≤◌, None, Some, Err, IfOk, IfSome, IfNone};
 ghost use Rattle.llvm_core.specs.Names.{is_plain};
 ghost use Rattle.ll_text.specs.Meaning as meaning;
-ghost use Rattle.ll_text.specs.Meaning.{key_of, local_key, label_key, optional_key, define_written, global_name, string_name, int_width};
+ghost use Rattle.ll_text.specs.Meaning.{key_of, local_key, label_key, optional_key, define_written, global_name, string_name, int_width, bit_width, predicate_of};
 ghost use Rattle.ll_text.specs.Refusals.{IsNoKey};
 ghost use Rattle.ll_text.specs.ScopeView.{key_view, option_key, key_name};
+ghost use Rattle.ll_text.specs.Numbered.{name_said};
 ghost use Rattle.ll_text.specs.TreeView.{name_view};
 
 use crate::literals::{number, plain_name};
 use crate::read_err::ReadErr;
 use crate::scope::Key;
 use crate::tokens::Token;
+use llvm_core::code::LLVMIntPredicate;
 
 /// The key that a plain name or digits say.
 fn key_of(text: &[u8]) -> Option<Key<'_>>
@@ -87,6 +89,16 @@ pub fn key_name<'a>(key: Option<Key<'a>>) -> &'a str
     }
 }
 
+/// The name that a module keeps of an instruction's result, empty where none is written.
+pub fn result_name(name: Option<Token<'_>>) -> &str
+    ensures { result.now ≡ name_said (optional_key is_plain 64 (local_key is_plain 64) (name_view name.entry)) }
+{
+    match name {
+        Some(token) => key_name(local_key(token.text)),
+        None => "",
+    }
+}
+
 /// The name that a global's token says.
 pub fn global_name(text: &[u8]) -> Option<&str>
     ensures name { IfSome result (λ s. global_name is_plain 64 text.now ≡ Some s.now) }
@@ -124,4 +136,65 @@ pub fn int_width(text: &[u8]) -> Option<u32>
         return None;
     }
     Some(width)
+}
+
+/// The width of a condition, which is one bit.
+pub fn bit_width(text: &[u8]) -> Option<u32>
+    ensures width { IfSome result (λ w. bit_width (int_width is_plain 64 text.now) ≡ Some w) }
+    ensures one { IfSome result (λ w. w ≡ 1) }
+    ensures none { IfNone result (bit_width (int_width is_plain 64 text.now) ≡ None) }
+{
+    let Some(width) = int_width(text) else {
+        return None;
+    };
+    (width == 1).then_some(width)
+}
+
+/// How a word of `icmp` compares.
+pub fn predicate(text: &[u8]) -> Option<LLVMIntPredicate>
+    ensures { result ≡ predicate_of text.now }
+{
+    if text == b"eq".as_slice() {
+        return Some(LLVMIntPredicate::LLVMIntEQ);
+    }
+    if text == b"ne".as_slice() {
+        return Some(LLVMIntPredicate::LLVMIntNE);
+    }
+    if text == b"ugt".as_slice() {
+        return Some(LLVMIntPredicate::LLVMIntUGT);
+    }
+    if text == b"uge".as_slice() {
+        return Some(LLVMIntPredicate::LLVMIntUGE);
+    }
+    if text == b"ult".as_slice() {
+        return Some(LLVMIntPredicate::LLVMIntULT);
+    }
+    if text == b"ule".as_slice() {
+        return Some(LLVMIntPredicate::LLVMIntULE);
+    }
+    if text == b"sgt".as_slice() {
+        return Some(LLVMIntPredicate::LLVMIntSGT);
+    }
+    if text == b"sge".as_slice() {
+        return Some(LLVMIntPredicate::LLVMIntSGE);
+    }
+    if text == b"slt".as_slice() {
+        return Some(LLVMIntPredicate::LLVMIntSLT);
+    }
+    if text == b"sle".as_slice() {
+        return Some(LLVMIntPredicate::LLVMIntSLE);
+    }
+    None
+}
+
+/// The number behind a number.
+pub fn next_number(number: u32) -> Result<u32, ReadErr>
+    ensures next { IfOk result (λ n. n ≡ number + 1) }
+    ensures not_yet { ¬ (result ≡ Err ReadErr.NotYet) }
+{
+    match number.checked_add(1) {
+        Some(next) => Ok(next),
+        // a list of 2^32 things cannot be held
+        None => Err(ReadErr::NoMemory),
+    }
 }

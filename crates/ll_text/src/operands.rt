@@ -2,14 +2,15 @@
 
 ghost use Rattle.std.specs.Prelude.{◌≡◌, ◌≤◌, true, false, None, Err, IfOk, OnOk};
 ghost use Rattle.llvm_core.specs.Names.{is_plain};
-ghost use Rattle.llvm_core.specs.Data.{Constant, IntConst, IntType, trees_of, operand_of};
+ghost use Rattle.llvm_core.specs.Data.{trees_of, operand_of};
 ghost use Rattle.ll_text.specs.Tree.{is_local};
 ghost use Rattle.ll_text.specs.Text.{const_value};
 ghost use Rattle.ll_text.specs.TokenView.{text_of};
 ghost use Rattle.ll_text.specs.Meaning as meaning;
-ghost use Rattle.ll_text.specs.Meaning.{value_of};
-ghost use Rattle.ll_text.specs.ScopeView.{Knows};
-ghost use Rattle.ll_text.specs.Building.{IsValueOf, IsKnown, IsReady, OnlyInterns, SaysLocal, SaysConstant, SaysValue};
+ghost use Rattle.ll_text.specs.Meaning.{value_of, block_of};
+ghost use Rattle.ll_text.specs.ScopeView.{Knows, Refuses};
+ghost use Rattle.ll_text.specs.Opening.{placeholder};
+ghost use Rattle.ll_text.specs.Building.{IsValueOf, IsReady, OnlyInterns, IsLocalOf, IsTargetOf, SaysConstant, SaysValue, OpensValue};
 
 use crate::literals::const_value;
 use crate::names::local_key;
@@ -19,13 +20,15 @@ use crate::tokens::Token;
 use llvm_core::code::LLVMValue;
 use llvm_core::consts::LLVMConstKind;
 use llvm_core::module::LLVMModule;
+use llvm_core::numbers::LLVMBasicBlock;
 use llvm_core::types::LLVMTypeKind;
+use std::alloc::AllocError;
 
-/// The value of a local that is defined before, of a width.
+/// The parameter or the result of a width that a text names.
 fn local<'a>(scope: &Scope<'a>, width: u32, text: &'a [u8]) -> Result<LLVMValue, ReadErr>
     requires { is_local text.now ≡ true }
-    ensures value { IfOk result (λ v. (s : meaning.Scope) → Knows scope.now s → SaysLocal s width text.now v) }
-    ensures not_yet { result ≡ Err ReadErr.NotYet → (s : meaning.Scope) → Knows scope.now s → value_of is_plain 64 s width text.now ≡ None }
+    ensures value { IfOk result (λ v. IsLocalOf scope.now width text.now v) }
+    ensures not_yet { result ≡ Err ReadErr.NotYet → Refuses scope.now (λ s. value_of is_plain 64 s width text.now) }
 {
     let Some(key) = local_key(text) else {
         return Err(ReadErr::NotYet);
@@ -55,7 +58,20 @@ fn constant(module: &mut LLVMModule, width: u32, text: &[u8]) -> Result<LLVMValu
     Ok(LLVMValue::Const(c))
 }
 
-/// The value of an operand of a width: a local that is defined before, or a constant.
+/// What stands for a result of a width that is not built yet.
+fn placeholder(module: &mut LLVMModule, width: u32) -> Result<LLVMValue, AllocError>
+    requires least { 1 ≤ width }
+    requires most { width ≤ 64 }
+    ensures value { IfOk result (λ v. operand_of (trees_of module.new) v ≡ placeholder width) }
+    ensures stands { IfOk result (λ v. IsValueOf module.new v width) }
+    ensures rest { OnOk result (OnlyInterns module.old module.new) }
+{
+    let ty = module.type_get(LLVMTypeKind::Int(width))?;
+    let c = module.const_get(LLVMConstKind::Placeholder(0, ty))?;
+    Ok(LLVMValue::Const(c))
+}
+
+/// The value of an operand of a width: a parameter, a result that is built, or a constant.
 pub fn operand<'a>(
     module: &mut LLVMModule,
     scope: &Scope<'a>,
@@ -64,14 +80,71 @@ pub fn operand<'a>(
 ) -> Result<LLVMValue, ReadErr>
     requires least { 1 ≤ width }
     requires most { width ≤ 64 }
-    requires known { IsKnown scope.now module.old }
+    requires ready { IsReady true module.old scope.now }
     ensures stands { IfOk result (λ v. IsValueOf module.new v width) }
-    ensures value { IfOk result (λ v. (s : meaning.Scope) → Knows scope.now s → IsReady module.old s → SaysValue s width (text_of token.entry) module.new v) }
+    ensures value { IfOk result (λ v. (s : meaning.Scope) → Knows scope.now s → SaysValue s width (text_of token.entry) module.new v) }
     ensures rest { OnOk result (OnlyInterns module.old module.new) }
-    ensures not_yet { result ≡ Err ReadErr.NotYet → (s : meaning.Scope) → Knows scope.now s → value_of is_plain 64 s width (text_of token.entry) ≡ None }
+    ensures not_yet { result ≡ Err ReadErr.NotYet → Refuses scope.now (λ s. value_of is_plain 64 s width (text_of token.entry)) }
 {
     match token.text {
         [b'%', ..] => local(scope, width, token.text),
         _ => constant(module, width, token.text),
+    }
+}
+
+/// The value of an operand of a width, or a placeholder for a result.
+pub fn open_operand<'a>(
+    module: &mut LLVMModule,
+    scope: &Scope<'a>,
+    width: u32,
+    token: Token<'a>,
+) -> Result<LLVMValue, ReadErr>
+    requires least { 1 ≤ width }
+    requires most { width ≤ 64 }
+    requires ready { IsReady false module.old scope.now }
+    ensures stands { IfOk result (λ v. IsValueOf module.new v width) }
+    ensures value { IfOk result (λ v. (s : meaning.Scope) → Knows scope.now s → OpensValue s width (text_of token.entry) module.new v) }
+    ensures rest { OnOk result (OnlyInterns module.old module.new) }
+    ensures not_yet { result ≡ Err ReadErr.NotYet → Refuses scope.now (λ s. value_of is_plain 64 s width (text_of token.entry)) }
+{
+    match token.text {
+        [b'%', ..] => open_local(module, scope, width, token.text),
+        _ => constant(module, width, token.text),
+    }
+}
+
+/// A parameter of a width, or a placeholder for a result.
+fn open_local<'a>(
+    module: &mut LLVMModule,
+    scope: &Scope<'a>,
+    width: u32,
+    text: &'a [u8],
+) -> Result<LLVMValue, ReadErr>
+    requires least { 1 ≤ width }
+    requires most { width ≤ 64 }
+    requires ready { IsReady false module.old scope.now }
+    requires local { is_local text.now ≡ true }
+    ensures stands { IfOk result (λ v. IsValueOf module.new v width) }
+    ensures value { IfOk result (λ v. (s : meaning.Scope) → Knows scope.now s → OpensValue s width text.now module.new v) }
+    ensures rest { OnOk result (OnlyInterns module.old module.new) }
+    ensures not_yet { result ≡ Err ReadErr.NotYet → Refuses scope.now (λ s. value_of is_plain 64 s width text.now) }
+{
+    match local(scope, width, text)? {
+        LLVMValue::Inst(_) => Ok(placeholder(module, width)?),
+        value => Ok(value),
+    }
+}
+
+/// The block that a local names.
+pub fn target<'a>(scope: &Scope<'a>, token: Token<'a>) -> Result<LLVMBasicBlock, ReadErr>
+    ensures block { IfOk result (λ b. IsTargetOf scope.now (text_of token.entry) b) }
+    ensures not_yet { result ≡ Err ReadErr.NotYet → Refuses scope.now (λ s. block_of is_plain 64 s (text_of token.entry)) }
+{
+    let Some(key) = local_key(token.text) else {
+        return Err(ReadErr::NotYet);
+    };
+    match scope.get(key) {
+        Some(Local::Block(block)) => Ok(block),
+        _ => Err(ReadErr::NotYet),
     }
 }

@@ -6,13 +6,16 @@ ghost use Rattle.ll_text.specs.TokenView.{text_of, texts_of};
 ghost use Rattle.ll_text.specs.Tree as tree;
 ghost use Rattle.ll_text.specs.Tree.{IsFile, file as write_file};
 ghost use Rattle.ll_text.specs.Kinds.{fits};
-ghost use Rattle.ll_text.specs.Reading.{left, Gives, is_next, is_end, skip_at, one_at, optional_at, flag_at, value_at, return_at, add_at, named_at, inst_at, insts_at, param_at, next_param_at, next_params_at, params_at, result_type_at, function_at, functions_at, source_at, file_at, with_front};
-ghost use Rattle.ll_text.specs.TreeView.{inst_view, name_view, param_view, function_view, file_view};
+ghost use Rattle.ll_text.specs.Reading.{left, Gives, is_next, is_end, skip_at, one_at, optional_at, flag_at, param_at, next_param_at, next_params_at, params_at, result_type_at, function_at, functions_at, source_at, file_at, with_front};
+ghost use Rattle.ll_text.specs.TreeView.{name_view, param_view, function_view, file_view};
+
+mod blocks;
+mod instructions;
 
 use crate::kinds::Kind;
 use crate::read_err::ReadErr;
 use crate::tokens::Token;
-use crate::tree::{File, Function, Inst, Param};
+use crate::tree::{File, Function, Param};
 use std::alloc::Global;
 
 /// The tokens that are still to be read.
@@ -88,88 +91,6 @@ impl<'t, 'a> Reader<'t, 'a> {
     }
 }
 
-/// Instructions.
-impl<'t, 'a> Reader<'t, 'a> {
-    /// A type and the value of it that is returned.
-    #[tactic(auto, unfolding(crate::specs::Reading::value_at))]
-    fn value(&mut self) -> Result<Inst<'a>, ReadErr>
-        ensures { Gives (λ x. (inst_view x, left self.new)) result (value_at (left self.old)) }
-    {
-        let ty = self.one(Kind::IntType)?;
-        let value = self.one(Kind::Operand)?;
-        Ok(Inst::Return { ty, value })
-    }
-
-    /// What stands behind `ret`.
-    #[tactic(auto, unfolding(crate::specs::Reading::return_at, crate::specs::Reading::flag_at))]
-    fn return_of(&mut self) -> Result<Inst<'a>, ReadErr>
-        ensures { Gives (λ x. (inst_view x, left self.new)) result (return_at (left self.old)) }
-    {
-        if self.flag(b"void") {
-            return Ok(Inst::ReturnVoid);
-        }
-        self.value()
-    }
-
-    /// What stands behind `add`, whose result has that name.
-    #[tactic(auto, unfolding(crate::specs::Reading::add_at))]
-    fn add(&mut self, name: Option<Token<'a>>) -> Result<Inst<'a>, ReadErr>
-        ensures { Gives (λ x. (inst_view x, left self.new)) result (add_at (name_view name.entry) (left self.old)) }
-    {
-        let nuw = self.flag(b"nuw");
-        let nsw = self.flag(b"nsw");
-        let ty = self.one(Kind::IntType)?;
-        let lhs = self.one(Kind::Operand)?;
-        self.skip(b",")?;
-        let rhs = self.one(Kind::Operand)?;
-        Ok(Inst::Add {
-            name,
-            nuw,
-            nsw,
-            ty,
-            lhs,
-            rhs,
-        })
-    }
-
-    /// An instruction that begins with the name of its result.
-    #[tactic(auto, unfolding(crate::specs::Reading::named_at))]
-    fn named(&mut self) -> Result<Inst<'a>, ReadErr>
-        ensures { Gives (λ x. (inst_view x, left self.new)) result (named_at (left self.old)) }
-    {
-        let name = self.one(Kind::Local)?;
-        self.skip(b"=")?;
-        self.skip(b"add")?;
-        self.add(Some(name))
-    }
-
-    /// An instruction (`inst_law`).
-    #[tactic(auto, unfolding(crate::specs::Reading::inst_at, crate::specs::Reading::flag_at))]
-    fn inst(&mut self) -> Result<Inst<'a>, ReadErr>
-        ensures { Gives (λ x. (inst_view x, left self.new)) result (inst_at (left self.old)) }
-    {
-        if self.flag(b"ret") {
-            return self.return_of();
-        }
-        if self.flag(b"add") {
-            return self.add(None);
-        }
-        self.named()
-    }
-
-    /// The instructions before `}` (`insts_law`).
-    fn insts(&mut self, alloc: Global) -> Result<Vec<Inst<'a>>, ReadErr>
-        ensures { Gives (λ x. (map inst_view x.items, left self.new)) result (insts_at (left self.old)) }
-    {
-        let mut found = Vec::new(alloc);
-        while !self.is_next(b"}") {
-            let item = self.inst()?;
-            found.push(item)?;
-        }
-        Ok(found)
-    }
-}
-
 /// Functions and files.
 impl<'t, 'a> Reader<'t, 'a> {
     /// A parameter (`param_law`).
@@ -239,15 +160,15 @@ impl<'t, 'a> Reader<'t, 'a> {
         let params = self.params(alloc)?;
         self.skip(b")")?;
         self.skip(b"{")?;
-        let label = self.optional(Kind::Label);
-        let insts = self.insts(alloc)?;
+        let entry = self.block(alloc)?;
+        let more = self.blocks(alloc)?;
         self.skip(b"}")?;
         Ok(Function {
             result,
             name,
             params,
-            label,
-            insts,
+            entry,
+            more,
         })
     }
 

@@ -2,14 +2,16 @@
 
 use crate::tokens::Token;
 
-/// An instruction: a variant for each kind.
+/// An entry of a phi: what it takes on an edge, and the block that the edge comes from.
 #[derive(Clone, Copy, PartialEq, Eq, Debug)]
+pub struct Incoming<'a> {
+    pub value: Token<'a>,
+    pub block: Token<'a>,
+}
+
+/// An instruction that ends no block: a variant for each kind.
+#[derive(Debug, Drop)]
 pub enum Inst<'a> {
-    ReturnVoid,
-    Return {
-        ty: Token<'a>,
-        value: Token<'a>,
-    },
     Add {
         name: Option<Token<'a>>,
         nuw: bool,
@@ -18,6 +20,40 @@ pub enum Inst<'a> {
         lhs: Token<'a>,
         rhs: Token<'a>,
     },
+    ICmp {
+        name: Option<Token<'a>>,
+        predicate: Token<'a>,
+        ty: Token<'a>,
+        lhs: Token<'a>,
+        rhs: Token<'a>,
+    },
+    /// A phi has an entry at least.
+    Phi {
+        name: Option<Token<'a>>,
+        ty: Token<'a>,
+        first: Incoming<'a>,
+        more: Vec<Incoming<'a>>,
+    },
+}
+
+/// An instruction that ends a block: a variant for each kind.
+#[derive(Clone, Copy, PartialEq, Eq, Debug)]
+pub enum Terminator<'a> {
+    ReturnVoid,
+    Return {
+        ty: Token<'a>,
+        value: Token<'a>,
+    },
+    Br {
+        target: Token<'a>,
+    },
+    CondBr {
+        ty: Token<'a>,
+        condition: Token<'a>,
+        first: Token<'a>,
+        second: Token<'a>,
+    },
+    Unreachable,
 }
 
 /// A parameter, with what is written of its name.
@@ -27,15 +63,23 @@ pub struct Param<'a> {
     pub name: Option<Token<'a>>,
 }
 
-/// A function of one block.
+/// A block, with its label where one is written.
+#[derive(Debug, Drop)]
+pub struct Block<'a> {
+    pub label: Option<Token<'a>>,
+    pub insts: Vec<Inst<'a>>,
+    pub end: Terminator<'a>,
+}
+
+/// A function, with a block at least.
 #[derive(Debug, Drop)]
 pub struct Function<'a> {
     /// None for void.
     pub result: Option<Token<'a>>,
     pub name: Token<'a>,
     pub params: Vec<Param<'a>>,
-    pub label: Option<Token<'a>>,
-    pub insts: Vec<Inst<'a>>,
+    pub entry: Block<'a>,
+    pub more: Vec<Block<'a>>,
 }
 
 /// A file: the name of the module, where it is written, and its functions in order.

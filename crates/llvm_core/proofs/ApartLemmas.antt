@@ -15,7 +15,7 @@ use Rattle.llvm_core.specs.Data.{TypeTree, VoidType, ConstTree, IntConst, type_a
 use Rattle.llvm_core.proofs.TreeLemmas.{type_at-kind, const_at-kind}
 use Rattle.llvm_core.proofs.DataLemmas.{there}
 
-same_type : (x y : LLVMType) → x.0 ≡ y.0 → x ≡ y
+pub same_type : (x y : LLVMType) → x.0 ≡ y.0 → x ≡ y
 same_type x y e = ap (λ (n : ℕ). let t : LLVMType = record { 0 = n } in t) e
 
 same_const : (x y : LLVMConst) → x.0 ≡ y.0 → x ≡ y
@@ -62,6 +62,11 @@ types_apart m s a b within_a within_b h = by_size m s (a.0 + b.0 + 1) a b (omega
 same_const_kinds : (m : Module) → IsModule m → (cs : List ConstTree) (k l : LLVMConstKind) → IsConstOver m.types k → IsConstOver m.types l → const_tree (type_trees m.types) cs k ≡ const_tree (type_trees m.types) cs l → k ≡ l
 same_const_kinds m s cs (C.Int t v) (C.Int u w) p q h =
     let e = types_apart m s t u (slice_get_within m.types t.0 _ p.1) (slice_get_within m.types u.0 _ q.1) (cc) in
+    cc
+same_const_kinds m s cs (C.Int t v) (C.Placeholder n u) p q h = cc
+same_const_kinds m s cs (C.Placeholder n t) (C.Int u w) p q h = cc
+same_const_kinds m s cs (C.Placeholder n t) (C.Placeholder k u) p q h =
+    let e = types_apart m s t u p q (cc) in
     cc
 
 consts_apart : (m : Module) → IsModule m → (a b : LLVMConst) → a.0 < length m.consts → b.0 < length m.consts

@@ -3,7 +3,7 @@ use Rattle.std.proofs.Common.{◌≡◌, ◌≢◌, ◌<◌, ◌+◌, ◌⊎◌,
 use Rattle.std.specs.List.{filter_map, cons_option, enumerate_from}
 use Rattle.std.specs.Option.{option_map, option_map_or}
 use Rattle.std.proofs.lemmas.List.{append-nil}
-use Rattle.std.proofs.lemmas.List.Elements.{All-weaker, All-nil, All-cons, filter_map-append}
+use Rattle.std.proofs.lemmas.List.Elements.{All-weaker, All-nil, All-cons, All-head, All-tail, filter_map-append}
 use Rattle.std.proofs.lemmas.Option.{slice_get_within}
 use Rattle.llvm_core.specs.declared.numbers.LLVMType.{LLVMType}
 use Rattle.llvm_core.specs.declared.numbers.LLVMConst.{LLVMConst}
@@ -12,9 +12,12 @@ use Rattle.llvm_core.specs.declared.numbers.LLVMBasicBlock.{LLVMBasicBlock}
 use Rattle.llvm_core.specs.declared.numbers.LLVMInstRef.{LLVMInstRef}
 use Rattle.llvm_core.specs.declared.types.LLVMTypeKind.{LLVMTypeKind}
 use Rattle.llvm_core.specs.declared.types.LLVMTypeKind.TheVariants as T
+use Rattle.llvm_core.specs.declared.types.ResultType.{ResultType}
+use Rattle.llvm_core.specs.declared.types.ResultType.TheVariants as R
 use Rattle.llvm_core.specs.declared.consts.LLVMConstKind.{LLVMConstKind}
 use Rattle.llvm_core.specs.declared.code.LLVMValue.{LLVMValue}
 use Rattle.llvm_core.specs.declared.code.LLVMValue.TheVariants as V
+use Rattle.llvm_core.specs.declared.code.PhiEntry.{PhiEntry}
 use Rattle.llvm_core.specs.declared.code.LLVMInst.{LLVMInst}
 use Rattle.llvm_core.specs.declared.code.LLVMInst.TheVariants as I
 use Rattle.llvm_core.specs.declared.code.FunctionData.{FunctionData}
@@ -22,15 +25,16 @@ use Rattle.llvm_core.specs.declared.code.BlockData.{BlockData}
 use Rattle.llvm_core.specs.declared.code.InstData.{InstData}
 use Rattle.llvm_core.specs.Module.{Module}
 use Rattle.llvm_core.specs.Code.{code_of, with_code, with_change, with_param_name, with_block, with_inst}
-use Rattle.llvm_core.specs.Parts.{IsValue, HasValues, IsResultType, value_type, result_type}
+use Rattle.llvm_core.specs.Parts.{IsValue, HasValues, IsEntry, IsResultOver, IsResultType, made_kind, result_type}
 use Rattle.llvm_core.specs.Sound.{IsModule, IsInstIn}
 use Rattle.llvm_core.specs.Data as d
-use Rattle.llvm_core.specs.Data.{Trees, type_at, const_at, trees_of, operand_of, instruction_of, result_tree, placed_of, placed_at, block_of, block_at, function_of, data_of, with_instruction_in, VoidType, IntConst, type_trees, const_trees}
+use Rattle.llvm_core.specs.Data.{Trees, type_at, const_at, trees_of, operand_of, entry_of, instruction_of, tree_of_result, result_tree, placed_of, placed_at, block_of, block_at, function_of, data_of, with_instruction_in, VoidType, IntConst, type_trees, const_trees}
 use Rattle.llvm_core.proofs.ChangeLemmas.{mapped_same, mapped_push, mapped_then, mapped_change, filter_map-same, filter_map-mapped, slice_get-before, slice_get-changed, slice_get-unchanged}
 use Rattle.llvm_core.proofs.ListLemmas.{slice_get-push}
 use Rattle.llvm_core.proofs.TreeLemmas.{type_at-kept, type_at-kind, const_trees-retyped, const_at-kept}
 use Rattle.llvm_core.proofs.DataLemmas.{there}
-use Rattle.llvm_core.proofs.SoundLemmas.{both_type_there}
+use Rattle.llvm_core.proofs.SoundLemmas.{made_only}
+use Rattle.llvm_core.proofs.WithinLemmas.{result_within}
 
 -- ---- trees that agree on what is there
 
@@ -43,13 +47,28 @@ operand_same m t u same (V.Const c) h = ap d.Constant (same.consts c h)
 operand_same m t u same (V.Param f place) h = refl
 operand_same m t u same (V.Inst i) h = refl
 
+entries_same : (m : Module) (t u : Trees) → SameTrees m t u → (es : List PhiEntry) → All (IsEntry m) es → map (entry_of t) es ≡ map (entry_of u) es
+entries_same m t u same [] h = refl
+entries_same m t u same (e ∷ es) h =
+    let first = operand_same m t u same e.value (All-head (IsEntry m) e es h).0 in
+    let rest = entries_same m t u same es (All-tail (IsEntry m) e es h) in
+    ap (λ o. (o, e.block.0) ∷ map (entry_of t) es) first ∙ ap (λ xs. entry_of u e ∷ xs) rest
+
 instruction_same : (m : Module) (t u : Trees) → SameTrees m t u → (i : LLVMInst) → HasValues m i → instruction_of t i ≡ instruction_of u i
 instruction_same m t u same (I.Add lhs rhs flags) h =
     let e = operand_same m t u same lhs h.0 in
     let f = operand_same m t u same rhs h.1 in
     cc
+instruction_same m t u same (I.ICmp lhs rhs predicate) h =
+    let e = operand_same m t u same lhs h.0 in
+    let f = operand_same m t u same rhs h.1 in
+    cc
+instruction_same m t u same (I.Phi type entries) h = ap d.Phi (entries_same m t u same entries h.1)
+instruction_same m t u same (I.Br target) h = refl
+instruction_same m t u same (I.CondBr condition first second) h = ap (λ o. d.CondBr o first.0 second.0) (operand_same m t u same condition h.0)
 instruction_same m t u same (I.Ret None) h = refl
 instruction_same m t u same (I.Ret (Some v)) h = ap (λ o. d.Return (Some o)) (operand_same m t u same v h)
+instruction_same m t u same I.Unreachable h = refl
 
 placed_same : (m : Module) (t u : Trees) → SameTrees m t u → (i : LLVMInstRef) (x : InstData) → IsInstIn m x → placed_of t i x ≡ placed_of u i x
 placed_same m t u same i x h =
@@ -58,7 +77,7 @@ placed_same m t u same i x h =
     cc
 
 -- each of a list
-each : {X : Type 0} (P : X → Type 0) → ((x : X) → P x) → (xs : List X) → All P xs
+pub each : {X : Type 0} (P : X → Type 0) → ((x : X) → P x) → (xs : List X) → All P xs
 each P f [] = All-nil P
 each P f (x ∷ xs) = All-cons P x xs (f x) (each P f xs)
 
@@ -127,10 +146,10 @@ function_data m f name ty space params names last same =
     ∙ ap (λ ps. map F (enumerate_from 0 m.functions) ++ record (F (f, x)) { params = ps } ∷ []) same)
 
 -- what a call does to the item of one number
-at_number : {X : Type 0} (h : X → X) (x : X) (k i : ℕ) → k ≡ i → (if nat_eq k i then h x else x) ≡ h x
+pub at_number : {X : Type 0} (h : X → X) (x : X) (k i : ℕ) → k ≡ i → (if nat_eq k i then h x else x) ≡ h x
 at_number h x k i e = ap (λ b. if b then h x else x) (eq-eqb k i e)
 
-at_other : {X : Type 0} (h : X → X) (x : X) (k i : ℕ) → k ≢ i → (if nat_eq k i then h x else x) ≡ x
+pub at_other : {X : Type 0} (h : X → X) (x : X) (k i : ℕ) → k ≢ i → (if nat_eq k i then h x else x) ≡ x
 at_other h x k i ne = by (nat_eq k i) refl
   where
     by : (b : Bool) → nat_eq k i ≡ b → (if b then h x else x) ≡ x
@@ -262,32 +281,26 @@ inst_appended m b i name ty inst s last =
     ap (λ fs. let d : d.ModuleData = record { name = m.name; functions = fs } in d) (inst_shown m b i (record { name = name; block = b; ty = ty; inst = inst }) s last)
 
 -- the tree of the result's type
-result_shown : (old new : Module) (inst : LLVMInst) (ty : LLVMType) (o : Option LLVMType) → IsModule new → SameTrees old (trees_of new) (trees_of old) → ((t : LLVMType) → o ≡ Some t → t.0 < length old.types) → IsResultType o old.types new.types ty
-    → type_at (trees_of new).types ty ≡ option_map_or (type_at (trees_of old).types) o VoidType
-result_shown old new inst ty None s same there h = type_at-kind new.types ty T.Void h.here tt
-result_shown old new inst ty (Some t) s same there h = ap (type_at (trees_of new).types) h.0 ∙ same.types t (there t refl)
-
-result_there : (m : Module) (i : LLVMInst) → HasValues m i → (t : LLVMType) → result_type m i ≡ Some t → t.0 < length m.types
-result_there m (I.Add lhs rhs flags) h t e = both_type_there m.types (value_type m lhs) (value_type m rhs) t e
-result_there m (I.Ret v) h t e = cc
-
-pub void_only : (t : Option LLVMType) (old new : List LLVMTypeKind) (ty : LLVMType) → IsResultType t old new ty → (new ≡ old) ⊎ (new ≡ old ++ T.Void ∷ [])
-void_only None old new ty h = h.only
-void_only (Some t) old new ty h = inl h.1
+result_shown : (old new : Module) (ty : LLVMType) (o : Option ResultType) → IsModule new → SameTrees old (trees_of new) (trees_of old) → ((r : ResultType) → o ≡ Some r → IsResultOver old.types r) → IsResultType o old.types new.types ty
+    → type_at (trees_of new).types ty ≡ option_map_or (tree_of_result (trees_of old).types) o VoidType
+result_shown old new ty None s same there h = type_at-kind new.types ty T.Void h.here tt
+result_shown old new ty (Some (R.There t)) s same there h = ap (type_at (trees_of new).types) h.0 ∙ same.types t (there (R.There t) refl)
+result_shown old new ty (Some R.Bit) s same there h = type_at-kind new.types ty (T.Int 1) h.here (omega arith, omega arith)
 
 pub inst_data : (old : Module) (types : List LLVMTypeKind) (b : LLVMBasicBlock) (i : LLVMInstRef) (name : List ℕ) (ty : LLVMType) (inst : LLVMInst) → IsModule old → IsModule (record old { types = types })
     → i.0 ≡ length old.insts → HasValues old inst → IsResultType (result_type old inst) old.types types ty
     → data_of (with_code (record old { types = types }) (with_inst (code_of old) b i name ty inst))
     ≡ d.with_instruction (data_of old) b.0 (record { number = i.0; name = name; type = result_tree old inst; instruction = instruction_of (trees_of old) inst })
 inst_data old types b i name ty inst s grown last values typed =
-    let only = void_only (result_type old inst) old.types types ty typed in
-    let more = added old.types types T.Void only in
+    let made = made_kind (result_type old inst) in
+    let only = made_only (result_type old inst) old.types types ty typed in
+    let more = added old.types types made only in
     let same = retyped old types more.0 more.1 s in
     let new : Module = record old { types = types } in
-    let e = result_shown old new inst ty (result_type old inst) grown same (result_there old inst values) typed in
+    let e = result_shown old new ty (result_type old inst) grown same (λ r e. result_within old inst r values e) typed in
     let f = instruction_same old (trees_of new) (trees_of old) same inst values in
     inst_appended new b i name ty inst grown last
-    ∙ ap (λ (m : d.ModuleData). d.with_instruction m b.0 (placed_of (trees_of new) i (record { name = name; block = b; ty = ty; inst = inst }))) (type_data old types T.Void s only)
+    ∙ ap (λ (m : d.ModuleData). d.with_instruction m b.0 (placed_of (trees_of new) i (record { name = name; block = b; ty = ty; inst = inst }))) (type_data old types made s only)
     ∙ ap (λ (p : d.Placed). d.with_instruction (data_of old) b.0 p)
     (let two : (t u : d.TypeTree) (v w : d.Instruction) → t ≡ u → v ≡ w → (let p : d.Placed = record { number = i.0; name = name; type = t; instruction = v } in p) ≡ record { number = i.0; name = name; type = u; instruction = w } = λ t u v w p q. (cc) in
     two _ _ _ _ e f)

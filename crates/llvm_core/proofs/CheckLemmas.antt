@@ -5,10 +5,10 @@ use Rattle.std.proofs.lemmas.List.{take_more, map-append}
 use Rattle.std.proofs.lemmas.Option.{slice_get_within, slice_get-map, get_or_from_slice_get}
 use Rattle.llvm_core.specs.declared.code.FunctionData.{FunctionData}
 use Rattle.llvm_core.specs.declared.check_err.Place.TheVariants as P
-use Rattle.llvm_core.specs.declared.check_err.CheckErr.TheVariants.{NameTwice, NoTerminator, OperandType, OperandCount, BlockOutside, IntrinsicBody, FunctionSpace, ListTooLong}
+use Rattle.llvm_core.specs.declared.check_err.CheckErr.TheVariants.{NameTwice, NoTerminator, PhiPlace, PhiEntries, EntryHasPreds, OperandType, OperandCount, BlockOutside, IntrinsicBody, FunctionSpace, ListTooLong}
 use Rattle.llvm_core.specs.Module.{Module}
 use Rattle.llvm_core.specs.Names.{Stands}
-use Rattle.llvm_core.specs.Checked.{Fails, IsTaken, IsFreshName, IsCheckedFunction, IsCheckedBlock, IsCheckedInst, IsChecked, IsLong, is_bad_name, names_before}
+use Rattle.llvm_core.specs.Checked.{Fails, IsTaken, IsFreshName, IsCheckedFunction, IsCheckedBlock, IsCheckedInst, IsCheckedEdges, IsChecked, IsLong, is_bad_name, names_before}
 use Rattle.llvm_core.proofs.ListLemmas.{some_same}
 use Rattle.llvm_core.proofs.NameLemmas.{slice_get-take, slice_get-taken}
 
@@ -55,13 +55,16 @@ name_fresh m f n h good new x at =
 -- ---- all rules
 
 module _ (m : Module) (few : ¬ IsLong m.functions) (fresh : (f : ℕ) → f < length m.functions → IsFreshName m f) (functions : (f : ℕ) → f < length m.functions → IsCheckedFunction m f)
-    (blocks : (b : ℕ) → b < length m.blocks → IsCheckedBlock m b) (insts : (i : ℕ) → i < length m.insts → IsCheckedInst m i) where
+    (blocks : (b : ℕ) → b < length m.blocks → IsCheckedBlock m b) (insts : (i : ℕ) → i < length m.insts → IsCheckedInst m i) (edges : IsCheckedEdges m) where
   pub all_checked : IsChecked m
   all_checked (NameTwice (P.Function f)) (x, at, h) =
       let within = slice_get_within m.functions f x at in
       let name = fresh f within x at in
       elim h [ inl bad ↦ cc (name.0, bad) | inr more ↦ elim more [ inl t ↦ name.1 t | inr twice ↦ (functions f within).locals x at twice ] ]
   all_checked (NoTerminator (P.Block b)) h = (blocks b (slice_get_within m.blocks b h.0 h.1)).terminators h
+  all_checked (PhiPlace (P.Block b)) h = (blocks b (slice_get_within m.blocks b h.0 h.1)).phis h
+  all_checked (PhiEntries (P.Inst i)) h = edges.entries i (slice_get_within m.insts i h.0 h.1) h
+  all_checked (EntryHasPreds (P.Function f)) h = edges.firsts f (slice_get_within m.functions f h.0 h.1) h
   all_checked (OperandType (P.Function f)) h = (functions f (slice_get_within m.functions f h.0 h.1)).types h
   all_checked (OperandType (P.Inst i)) h = (insts i (slice_get_within m.insts i h.0 h.1)).types h
   all_checked (OperandCount (P.Inst i)) h = (insts i (slice_get_within m.insts i h.0 h.1)).counts h
@@ -71,4 +74,5 @@ module _ (m : Module) (few : ¬ IsLong m.functions) (fresh : (f : ℕ) → f < l
   all_checked (ListTooLong P.Module) h = few h
   all_checked (ListTooLong (P.Function f)) h = (functions f (slice_get_within m.functions f h.0 h.1)).lists h
   all_checked (ListTooLong (P.Block b)) h = (blocks b (slice_get_within m.blocks b h.0 h.1)).lists h
+  all_checked (ListTooLong (P.Inst i)) h = (insts i (slice_get_within m.insts i h.0 h.1)).lists h
   all_checked e h = h

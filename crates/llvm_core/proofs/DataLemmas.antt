@@ -18,7 +18,7 @@ use Rattle.llvm_core.specs.declared.code.BlockData.{BlockData}
 use Rattle.llvm_core.specs.declared.code.InstData.{InstData}
 use Rattle.llvm_core.specs.Module.{Module}
 use Rattle.llvm_core.specs.Sound.{IsModule}
-use Rattle.llvm_core.specs.Data.{VoidType, IntType, FunctionType, IntConst, Placed, Block, type_at, types_at, type_tree, const_at, const_tree, trees_of, placed_of, placed_at, block_of, block_at, function_of, data_of}
+use Rattle.llvm_core.specs.Data.{VoidType, IntType, FunctionType, IntConst, PlaceholderConst, Placed, Block, type_at, types_at, type_tree, const_at, const_tree, trees_of, placed_of, placed_at, block_of, block_at, function_of, data_of}
 use Rattle.llvm_core.proofs.TreeLemmas.{type_at-kind, const_at-kind}
 
 -- ---- types and constants
@@ -43,6 +43,9 @@ const_tree_of m c k at = const_at-kind (trees_of m).types m.consts c.0 k at
 
 pub int_const_of : (m : Module) (c : LLVMConst) (t : LLVMType) (value : ℕ) → slice_get m.consts c.0 ≡ Some (C.Int t value) → const_at (trees_of m).consts c ≡ IntConst (type_at (trees_of m).types t) value
 int_const_of m c t value at = const_tree_of m c (C.Int t value) at
+
+pub placeholder_const_of : (m : Module) (c : LLVMConst) (number : ℕ) (t : LLVMType) → slice_get m.consts c.0 ≡ Some (C.Placeholder number t) → const_at (trees_of m).consts c ≡ PlaceholderConst number (type_at (trees_of m).types t)
+placeholder_const_of m c number t at = const_tree_of m c (C.Placeholder number t) at
 
 -- ---- functions, blocks and instructions
 
@@ -86,7 +89,7 @@ there [] i lt = absurd (omega arith)
 there (x ∷ xs) zero lt = (x, refl)
 there (x ∷ xs) (suc i) lt = there xs i (omega arith)
 
-blocks_there : (m : Module) (bs : List LLVMBasicBlock) → All (λ (b : LLVMBasicBlock). b.0 < length m.blocks) bs → (i : ℕ) (b : LLVMBasicBlock) → slice_get bs i ≡ Some b → (y : Block) × (block_at (trees_of m) m.blocks m.insts b ≡ Some y)
+pub blocks_there : (m : Module) (bs : List LLVMBasicBlock) → All (λ (b : LLVMBasicBlock). b.0 < length m.blocks) bs → (i : ℕ) (b : LLVMBasicBlock) → slice_get bs i ≡ Some b → (y : Block) × (block_at (trees_of m) m.blocks m.insts b ≡ Some y)
 blocks_there m bs all i b at = let x = there m.blocks b.0 (within_at bs (λ (b : LLVMBasicBlock). b.0 < length m.blocks) all i b at) in (block_of (trees_of m) m.insts b x.0, ap (option_map (block_of (trees_of m) m.insts b)) x.1)
 
 pub insts_there : (m : Module) (is : List LLVMInstRef) → All (λ (i : LLVMInstRef). i.0 < length m.insts) is → (j : ℕ) (i : LLVMInstRef) → slice_get is j ≡ Some i → (y : Placed) × (placed_at (trees_of m) m.insts i ≡ Some y)

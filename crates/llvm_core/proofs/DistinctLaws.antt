@@ -1,29 +1,28 @@
 -- The names of a checked module are distinct, and its lists are short.
-use Rattle.std.proofs.Common.{◌≡◌, ◌<◌, ◌^◌, inl, inr, ℕ, List, Option, None, Some, IfSome, length, slice_get, slice_index_or, map, refl, sym, ap, subst, ◌∙◌, arith, All}
+use Rattle.std.proofs.Common.{◌≡◌, ◌<◌, ◌^◌, inl, inr, ℕ, List, Option, None, Some, length, slice_get, map, refl, sym, ap, subst, ◌∙◌, arith, All}
 use Rattle.std.specs.Option.{option_map}
 use Rattle.std.proofs.lemmas.Bool.{cases_order}
 use Rattle.std.proofs.lemmas.Option.{slice_get_within, slice_get-map, get_or_from_slice_get}
 use Rattle.std.proofs.Math.Nat.{lt_of_not-le}
-use Rattle.llvm_core.specs.declared.numbers.LLVMBasicBlock.{LLVMBasicBlock}
 use Rattle.llvm_core.specs.declared.code.FunctionData.{FunctionData}
-use Rattle.llvm_core.specs.declared.code.BlockData.{BlockData}
 use Rattle.llvm_core.specs.declared.check_err.Place.TheVariants as P
 use Rattle.llvm_core.specs.declared.check_err.CheckErr.TheVariants.{NameTwice, ListTooLong}
 use Rattle.llvm_core.specs.Module.{Module}
 use Rattle.llvm_core.specs.Interned.{IsDistinctList}
 use Rattle.llvm_core.specs.Names.{HasTwice}
 use Rattle.llvm_core.specs.Sound.{IsModule}
-use Rattle.llvm_core.specs.Data.{Block, Function, trees_of, block_of, block_at, data_of}
+use Rattle.llvm_core.specs.Data.{Placed, Block, Function, placed_in, data_of}
 use Rattle.llvm_core.specs.Checked.{IsChecked}
-use Rattle.llvm_core.specs.Form.{local_names, HasDistinctNames, IsFewIn, HasFew}
+use Rattle.llvm_core.specs.Form.{local_names, HasDistinctNames, IsFewIn, HasFew, operands_of}
 use Rattle.llvm_core.proofs.ListLemmas.{some_same}
-use Rattle.llvm_core.proofs.DataLemmas.{there, function_at, function_count, inst_count_of}
-use Rattle.llvm_core.proofs.FreshLemmas.{All-filter_map}
+use Rattle.llvm_core.proofs.DataLemmas.{there, function_at, function_count, block_count_of, inst_count_of}
+use Rattle.llvm_core.proofs.GivenLemmas.{all_at}
 use Rattle.llvm_core.proofs.FormNames.{same_local_names, distinct_of_once}
-use Rattle.llvm_core.proofs.FormPlaces.{shown}
+use Rattle.llvm_core.proofs.FormPlaces.{shown, block_from, own_inst}
+use Rattle.llvm_core.proofs.FormInsts.{same_operand_count}
 
 -- what holds of the data of each function holds of all
-each_function : (m : Module) (P : Function → Type 0) → ((f : ℕ) (x : FunctionData) → slice_get m.functions f ≡ Some x → P (shown m f x)) → All P (data_of m).functions
+pub each_function : (m : Module) (P : Function → Type 0) → ((f : ℕ) (x : FunctionData) → slice_get m.functions f ≡ Some x → P (shown m f x)) → All P (data_of m).functions
 each_function m P each k d lt =
     let count = function_count m in
     let x = there m.functions k (omega (arith, lt, count)) in
@@ -70,21 +69,36 @@ module _ (m : Module) (checked : IsChecked m) where
 
   -- ---- lengths
 
-  few_instructions : IsModule m → (bs : List LLVMBasicBlock) → All (λ (b : LLVMBasicBlock). IfSome (block_at (trees_of m) m.blocks m.insts b) (λ (c : Block). length c.instructions < 2 ^ 31)) bs
-  few_instructions sound bs k d lt = let b = slice_index_or bs k d in by b (slice_get m.blocks b.0) refl
-    where
-      by : (b : LLVMBasicBlock) (o : Option BlockData) → slice_get m.blocks b.0 ≡ o → IfSome (option_map (block_of (trees_of m) m.insts b) o) (λ (c : Block). length c.instructions < 2 ^ 31)
-      by b None e = tt
-      by b (Some y) e =
-          let short = lt_of_not-le (λ long. checked (ListTooLong (P.Block b.0)) (y, e, long)) in
-          let count = inst_count_of m b y sound e in
-          omega (arith, short, count)
+  module _ (sound : IsModule m) (f : ℕ) (x : FunctionData) (at : slice_get m.functions f ≡ Some x) where
+    few_instructions : (k : ℕ) (c : Block) → slice_get (shown m f x).blocks k ≡ Some c → length c.instructions < 2 ^ 31
+    few_instructions k c is =
+        let l = block_from m f x k c sound at is in
+        let short = lt_of_not-le (λ long. checked (ListTooLong (P.Block l.number)) (l.block, l.here, long)) in
+        let count = inst_count_of m (record { 0 = l.number }) l.block sound l.here in
+        let same = ap (λ (d : Block). length d.instructions) l.shown_as in
+        omega (arith, short, count, same)
 
-  few_in : IsModule m → (f : ℕ) (x : FunctionData) → slice_get m.functions f ≡ Some x → IsFewIn (shown m f x)
-  few_in sound f x at = record {
-    params = lt_of_not-le (λ long. checked (ListTooLong (P.Function f)) (x, at, inl long));
-    instructions = All-filter_map (λ (c : Block). length c.instructions < 2 ^ 31) (block_at (trees_of m) m.blocks m.insts) x.blocks (few_instructions sound x.blocks);
-  }
+    few_operands : (k : ℕ) (p : Placed) → slice_get (placed_in (shown m f x)) k ≡ Some p → length (operands_of p.instruction) < 2 ^ 31
+    few_operands k p is =
+        let l = own_inst m f x k p sound at is in
+        let short = lt_of_not-le (λ long. checked (ListTooLong (P.Inst l.number)) (l.inst, l.here, long)) in
+        let count = same_operand_count m l.inst.inst in
+        let same = ap (λ (q : Placed). length (operands_of q.instruction)) l.shown_as in
+        omega (arith, short, count, same)
+
+    few_blocks : length (shown m f x).blocks < 2 ^ 31
+    few_blocks =
+        let short = lt_of_not-le (λ long. checked (ListTooLong (P.Function f)) (x, at, inr long)) in
+        let count = block_count_of m f x sound at in
+        omega (arith, short, count)
+
+    few_in : IsFewIn (shown m f x)
+    few_in = record {
+      params = lt_of_not-le (λ long. checked (ListTooLong (P.Function f)) (x, at, inl long));
+      blocks = few_blocks;
+      instructions = all_at (λ (c : Block). length c.instructions < 2 ^ 31) (shown m f x).blocks few_instructions;
+      operands = all_at (λ (p : Placed). length (operands_of p.instruction) < 2 ^ 31) (placed_in (shown m f x)) few_operands;
+    }
 
   -- lists of fewer than 2^31 entries
   pub few_of_checked : IsModule m → HasFew (data_of m)

@@ -1,6 +1,6 @@
 -- Plain names meet the rules on names, and the local names of a function are those of its data.
-use Rattle.std.proofs.Common.{◌≡◌, ◌≢◌, inl, inr, ℕ, zero, suc, true, false, nat_eq, List, [], ◌∷◌, ◌++◌, Option, None, Some, length, take, slice_get, get_or, refl, sym, ap, ◌∙◌, arith}
-use Rattle.std.specs.List.{list_all, list_any, starts_with, flat_map, filter_map, cons_option}
+use Rattle.std.proofs.Common.{◌≡◌, ◌≢◌, inl, inr, ℕ, zero, suc, true, false, nat_eq, List, [], ◌∷◌, ◌++◌, Option, None, Some, length, take, slice_get, get_or, refl, sym, ap, arith}
+use Rattle.std.specs.List.{list_all, list_any, starts_with, flat_map}
 use Rattle.std.specs.Option.{option_map, option_map_or}
 use Rattle.std.specs.Cmp.Lexicographic.{same_text}
 use Rattle.std.proofs.lemmas.Bool.{and_parts, cases_order}
@@ -17,6 +17,7 @@ use Rattle.llvm_core.specs.Data.{Placed, trees_of, placed_of, placed_at, block_o
 use Rattle.llvm_core.specs.Checked.{is_bad_name, intrinsic_prefix, named, inst_names, block_names, local_names}
 use Rattle.llvm_core.specs.Form.{names_in}
 use Rattle.llvm_core.specs.Form.{local_names as names_of}
+use Rattle.llvm_core.proofs.GivenLemmas.{flat_map-filter_map}
 
 -- ---- plain names
 
@@ -75,14 +76,6 @@ pub own_of_plain : (n : List ℕ) → is_plain n ≡ true → starts_with nat_eq
 own_of_plain n h e = no_dot n h 4 (fifth n e)
 
 -- ---- local names
-
-flat_map-filter_map : {X Y A : Type 0} (f : X → List A) (g : Y → List A) (h : X → Option Y) → ((x : X) → f x ≡ option_map_or g (h x) []) → (xs : List X) → flat_map f xs ≡ flat_map g (filter_map h xs)
-flat_map-filter_map f g h same [] = refl
-flat_map-filter_map {X} {Y} {A} f g h same (x ∷ xs) = ap (λ ys. ys ++ flat_map f xs) (same x) ∙ by (h x) (flat_map-filter_map f g h same xs)
-  where
-    by : (o : Option Y) → flat_map f xs ≡ flat_map g (filter_map h xs) → option_map_or g o [] ++ flat_map f xs ≡ flat_map g (cons_option o (filter_map h xs))
-    by None rest = rest
-    by (Some y) rest = ap (λ ys. g y ++ ys) rest
 
 same_inst_names : (m : Module) (i : LLVMInstRef) → inst_names m i ≡ option_map_or (λ (p : Placed). named p.name) (placed_at (trees_of m) m.insts i) []
 same_inst_names m i = by (slice_get m.insts i.0)

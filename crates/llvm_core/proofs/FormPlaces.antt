@@ -1,7 +1,8 @@
--- Where blocks and instructions stand in the data of a module of the form.
+-- Where blocks and instructions stand in the data of a module.
 use Rattle.std.proofs.Common.{◌≡◌, ◌-◌, ℕ, zero, suc, Bool, false, ◌&&◌, ◌||◌, not, List, [], ◌∷◌, Option, None, Some, length, take, slice_get, refl, sym, ap, ◌∙◌}
-use Rattle.std.specs.List.{list_any, filter_map, cons_option}
-use Rattle.std.specs.Option.{option_map, option_map_or}
+use Rattle.std.specs.List.{list_any, filter_map}
+use Rattle.std.specs.Option.{is_some, option_map, option_map_or}
+use Rattle.llvm_core.specs.declared.numbers.LLVMFunction.{LLVMFunction}
 use Rattle.llvm_core.specs.declared.numbers.LLVMBasicBlock.{LLVMBasicBlock}
 use Rattle.llvm_core.specs.declared.numbers.LLVMInstRef.{LLVMInstRef}
 use Rattle.llvm_core.specs.declared.code.LLVMInst.{LLVMInst}
@@ -11,12 +12,14 @@ use Rattle.llvm_core.specs.declared.code.BlockData.{BlockData}
 use Rattle.llvm_core.specs.declared.code.InstData.{InstData}
 use Rattle.llvm_core.specs.Module.{Module}
 use Rattle.llvm_core.specs.Sound.{IsModule}
-use Rattle.llvm_core.specs.Data.{Placed, Block, Function, type_at, trees_of, instruction_of, placed_of, placed_at, block_of, function_of, data_of}
-use Rattle.llvm_core.specs.Checked.{ends_in_only, is_terminator_at, home}
+use Rattle.llvm_core.specs.Data.{Placed, Block, Function, trees_of, instruction_of, placed_of, placed_at, block_of, block_at, function_of, placed_in, phi_entries}
+use Rattle.llvm_core.specs.Parts.{is_phi as phi_of}
+use Rattle.llvm_core.specs.Checked.{ends_in_only, is_terminator_at, is_phi_at, home}
 use Rattle.llvm_core.specs.Checked.{is_terminator as ends_block}
-use Rattle.llvm_core.specs.Form.{IsForm, IsFormFunction, is_terminator, is_last}
+use Rattle.llvm_core.specs.Form.{is_terminator, is_last, is_phi}
 use Rattle.llvm_core.proofs.ListLemmas.{some_same}
-use Rattle.llvm_core.proofs.DataLemmas.{within_at, function_at, length-filter_map_all, insts_there, block_of_number, inst_of_number}
+use Rattle.llvm_core.proofs.DataLemmas.{there, length-filter_map_all, blocks_there, insts_there, block_of_number, inst_of_number}
+use Rattle.llvm_core.proofs.GivenLemmas.{given_at, in_joined, from_joined}
 
 -- ---- lists of which each item gives one
 
@@ -50,7 +53,12 @@ module _ {X Y : Type 0} (h : X → Option Y) (p : X → Bool) (q : Y → Bool) w
 
 same_kind_ends : (m : Module) (i : LLVMInst) → ends_block i ≡ is_terminator (instruction_of (trees_of m) i)
 same_kind_ends m (I.Add lhs rhs flags) = refl
+same_kind_ends m (I.ICmp lhs rhs predicate) = refl
+same_kind_ends m (I.Phi type entries) = refl
+same_kind_ends m (I.Br target) = refl
+same_kind_ends m (I.CondBr condition first second) = refl
 same_kind_ends m (I.Ret value) = refl
+same_kind_ends m I.Unreachable = refl
 
 -- a block ends in its only terminator where its data do
 pub same_block_ends : (m : Module) (b : LLVMBasicBlock) (y : BlockData) → IsModule m → slice_get m.blocks b.0 ≡ Some y
@@ -65,98 +73,151 @@ same_block_ends m b y sound at = same_ends (placed_at (trees_of m) m.insts) (is_
     each : (j : ℕ) (i : LLVMInstRef) → slice_get y.insts j ≡ Some i → (p : Placed) × (placed_at (trees_of m) m.insts i ≡ Some p) × (is_terminator_at m i ≡ is_last p)
     each j i here = let t = insts_there m y.insts (sound.blocks b.0 y at).insts j i here in of_inst i (slice_get m.insts i.0) refl t.0 t.1
 
--- ---- places
+-- ---- phis
+
+pub same_kind_phi : (m : Module) (i : LLVMInst) → phi_of i ≡ is_some (phi_entries (instruction_of (trees_of m) i))
+same_kind_phi m (I.Add lhs rhs flags) = refl
+same_kind_phi m (I.ICmp lhs rhs predicate) = refl
+same_kind_phi m (I.Phi type entries) = refl
+same_kind_phi m (I.Br target) = refl
+same_kind_phi m (I.CondBr condition first second) = refl
+same_kind_phi m (I.Ret value) = refl
+same_kind_phi m I.Unreachable = refl
+
+-- an instruction that is there is a phi where its data are
+pub same_phi_at : (m : Module) (i : LLVMInstRef) (z : InstData) → slice_get m.insts i.0 ≡ Some z → is_phi_at m i ≡ is_phi (placed_of (trees_of m) i z)
+same_phi_at m i z at = rw at (same_kind_phi m z.inst)
+
+-- ---- from the lists to the data
 
 -- the function at a number, as data
 abbrev pub shown : Module → ℕ → FunctionData → Function
 shown m f x = function_of (trees_of m) m.blocks m.insts (f, x)
 
-pub form_at : (m : Module) → IsForm (data_of m) → (f : ℕ) (x : FunctionData) → slice_get m.functions f ≡ Some x → IsFormFunction (shown m f x)
-form_at m form f x at = within_at (data_of m).functions IsFormFunction form f (shown m f x) (function_at m f x at)
+-- the block at a number, as data
+abbrev pub shown_block : Module → ℕ → BlockData → Block
+shown_block m b y = block_of (trees_of m) m.insts (record { 0 = b }) y
 
-only_item : {X : Type 0} (xs : List X) (x y : X) (place : ℕ) → xs ≡ x ∷ [] → slice_get xs place ≡ Some y → x ≡ y
-only_item xs x y place e h = at place (ap (λ zs. slice_get zs place) (sym e) ∙ h)
-  where
-    at : (place : ℕ) → slice_get (x ∷ []) place ≡ Some y → x ≡ y
-    at zero h = some_same x y h
-    at (suc place) h = absurd cc
+-- the instruction at a number, as data
+abbrev pub shown_inst : Module → ℕ → InstData → Placed
+shown_inst m i z = placed_of (trees_of m) (record { 0 = i }) z
 
--- the block y of the number b is the only block of the function that it names
-pub record HasBlockPlace (m : Module) (b : ℕ) (y : BlockData) : Type 0 where
-  pub here : slice_get m.blocks b ≡ Some y
-  pub function : FunctionData
-  pub function_is : slice_get m.functions y.function.0 ≡ Some function
-  pub form : IsFormFunction (shown m y.function.0 function)
-  pub block_is : form.block ≡ block_of (trees_of m) m.insts (record { 0 = b }) y
+-- the block of the number b stands in the function x, and so do its data
+pub record HasBlockPlace (m : Module) (f : ℕ) (x : FunctionData) (b : ℕ) (y : BlockData) : Type 0 where
+  pub place : ℕ
+  pub listed : slice_get x.blocks place ≡ Some (record { 0 = b })
+  pub here : slice_get (shown m f x).blocks place ≡ Some (shown_block m b y)
 
-pub block_place : (m : Module) → IsModule m → IsForm (data_of m) → (b : ℕ) (y : BlockData) → slice_get m.blocks b ≡ Some y → HasBlockPlace m b y
-block_place m sound form b y at =
-    let l = sound.listed_blocks b y at in
-    let f = form_at m form y.function.0 l.0 l.2 in
-    record {
-      here = at;
-      function = l.0;
-      function_is = l.2;
-      form = f;
-      block_is = only_item (shown m y.function.0 l.0).blocks f.block (block_of (trees_of m) m.insts (record { 0 = b }) y) l.1 f.only
-          (block_of_number m y.function.0 l.0 l.1 (record { 0 = b }) y sound l.2 l.3 at);
-    }
+pub block_place : (m : Module) (f : ℕ) (x : FunctionData) (b : ℕ) (y : BlockData) → IsModule m → slice_get m.functions f ≡ Some x → slice_get m.blocks b ≡ Some y → y.function.0 ≡ f → HasBlockPlace m f x b y
+block_place m f x b y sound at is home =
+    let l = sound.listed_blocks b y is in
+    let same : l.0 ≡ x = some_same l.0 x (sym l.2 ∙ ap (slice_get m.functions) home ∙ at) in
+    let listed : slice_get x.blocks l.1 ≡ Some (record { 0 = b }) = ap (λ (g : FunctionData). slice_get g.blocks l.1) (sym same) ∙ l.3 in
+    record { place = l.1; listed = listed; here = block_of_number m f x l.1 (record { 0 = b }) y sound at listed is }
 
--- the instruction z of the number i stands in a block that is the only one of its function
+-- the instruction of the number i stands in a block, and so do its data
 pub record HasInstPlace (m : Module) (i : ℕ) (z : InstData) : Type 0 where
   pub block : BlockData
-  pub block_place : HasBlockPlace m z.block.0 block
+  pub block_is : slice_get m.blocks z.block.0 ≡ Some block
   pub place : ℕ
-  pub here : slice_get block_place.form.block.instructions place ≡ Some (placed_of (trees_of m) (record { 0 = i }) z)
+  pub listed : slice_get block.insts place ≡ Some (record { 0 = i })
+  pub here : slice_get (shown_block m z.block.0 block).instructions place ≡ Some (shown_inst m i z)
   pub home_is : home m z ≡ block.function
 
-pub inst_place : (m : Module) → IsModule m → IsForm (data_of m) → (i : ℕ) (z : InstData) → slice_get m.insts i ≡ Some z → HasInstPlace m i z
-inst_place m sound form i z at =
+pub inst_place : (m : Module) (i : ℕ) (z : InstData) → IsModule m → slice_get m.insts i ≡ Some z → HasInstPlace m i z
+inst_place m i z sound at =
     let l = sound.listed_insts i z at in
-    let b = block_place m sound form z.block.0 l.0 l.2 in
     record {
       block = l.0;
-      block_place = b;
+      block_is = l.2;
       place = l.1;
-      here = ap (λ (c : Block). slice_get c.instructions l.1) b.block_is ∙ inst_of_number m z.block l.0 l.1 (record { 0 = i }) z sound l.2 l.3 at;
+      listed = l.3;
+      here = inst_of_number m z.block l.0 l.1 (record { 0 = i }) z sound l.2 l.3 at;
       home_is = rw l.2 refl;
     }
 
+-- the function that holds a block that is there
+pub function_there : (m : Module) (b : ℕ) (y : BlockData) → IsModule m → slice_get m.blocks b ≡ Some y → (x : FunctionData) × (slice_get m.functions y.function.0 ≡ Some x)
+function_there m b y sound is = there m.functions y.function.0 (sound.blocks b y is).function
+
 -- ---- from the data to the lists
 
--- what a list of given items is given by
-given_by : {X Y : Type 0} (h : X → Option Y) (xs : List X) (j : ℕ) (y : Y) → slice_get (filter_map h xs) j ≡ Some y → (x : X) × (k : ℕ) × (slice_get xs k ≡ Some x) × (h x ≡ Some y)
-given_by h [] j y at = absurd cc
-given_by {X} {Y} h (x ∷ xs) j y at = by (h x) refl j at (λ k at. let r = given_by h xs k y at in (r.0, suc r.1, r.2, r.3))
-  where
-    by : (o : Option Y) → h x ≡ o → (j : ℕ) → slice_get (cons_option o (filter_map h xs)) j ≡ Some y
-        → ((k : ℕ) → slice_get (filter_map h xs) k ≡ Some y → (w : X) × (k : ℕ) × (slice_get (x ∷ xs) k ≡ Some w) × (h w ≡ Some y)) → (w : X) × (k : ℕ) × (slice_get (x ∷ xs) k ≡ Some w) × (h w ≡ Some y)
-    by None e j at rest = rest j at
-    by (Some z) e zero at rest = (x, 0, refl, e ∙ at)
-    by (Some z) e (suc j) at rest = rest j at
+-- a block of a function's data is that of the number listed there
+pub record IsFromBlock (m : Module) (f : ℕ) (x : FunctionData) (place : ℕ) (c : Block) : Type 0 where
+  pub number : ℕ
+  pub listed : slice_get x.blocks place ≡ Some (record { 0 = number })
+  pub block : BlockData
+  pub here : slice_get m.blocks number ≡ Some block
+  pub shown_as : c ≡ shown_block m number block
+  pub owned : block.function.0 ≡ f
 
--- the placed instruction is the one of its number, which the block y lists
-pub record IsListed (m : Module) (y : BlockData) (p : Placed) : Type 0 where
+pub block_from : (m : Module) (f : ℕ) (x : FunctionData) (place : ℕ) (c : Block) → IsModule m → slice_get m.functions f ≡ Some x → slice_get (shown m f x).blocks place ≡ Some c → IsFromBlock m f x place c
+block_from m f x place c sound at is =
+    let b = given_at (block_at (trees_of m) m.blocks m.insts) x.blocks (blocks_there m x.blocks (sound.functions f x at).blocks) place c is in
+    by b.0 b.1 (slice_get m.blocks b.0.0) refl b.2
+  where
+    by : (b : LLVMBasicBlock) → slice_get x.blocks place ≡ Some b → (o : Option BlockData) → slice_get m.blocks b.0 ≡ o → option_map (block_of (trees_of m) m.insts b) o ≡ Some c → IsFromBlock m f x place c
+    by b listed None e h = absurd cc
+    by b listed (Some y) e h = record {
+      number = b.0;
+      listed = listed;
+      block = y;
+      here = e;
+      shown_as = sym (some_same (block_of (trees_of m) m.insts b y) c h);
+      owned = sound.owned_blocks f x at place b y listed e;
+    }
+
+-- an instruction of a block's data is that of the number listed there
+pub record IsFromInst (m : Module) (b : ℕ) (y : BlockData) (place : ℕ) (p : Placed) : Type 0 where
+  pub number : ℕ
+  pub listed : slice_get y.insts place ≡ Some (record { 0 = number })
   pub inst : InstData
-  pub inst_is : slice_get m.insts p.number ≡ Some inst
-  pub typed : p.type ≡ type_at (trees_of m).types inst.ty
-  pub place : ℕ
-  pub listed : slice_get y.insts place ≡ Some (record { 0 = p.number })
+  pub here : slice_get m.insts number ≡ Some inst
+  pub shown_as : p ≡ shown_inst m number inst
+  pub owned : inst.block.0 ≡ b
 
--- each instruction of a block's data is one that the block lists
-pub placed_from : (m : Module) (b : ℕ) (y : BlockData) (c : HasBlockPlace m b y) (j : ℕ) (p : Placed) → slice_get c.form.block.instructions j ≡ Some p → IsListed m y p
-placed_from m b y c j p at =
-    let i = given_by (placed_at (trees_of m) m.insts) y.insts j p (ap (λ (d : Block). slice_get d.instructions j) (sym c.block_is) ∙ at) in
-    by i.0 i.1 i.2 (slice_get m.insts i.0.0) refl i.3
+pub inst_from : (m : Module) (b : ℕ) (y : BlockData) (place : ℕ) (p : Placed) → IsModule m → slice_get m.blocks b ≡ Some y → slice_get (shown_block m b y).instructions place ≡ Some p → IsFromInst m b y place p
+inst_from m b y place p sound at is =
+    let i = given_at (placed_at (trees_of m) m.insts) y.insts (insts_there m y.insts (sound.blocks b y at).insts) place p is in
+    by i.0 i.1 (slice_get m.insts i.0.0) refl i.2
   where
-    by : (i : LLVMInstRef) (k : ℕ) → slice_get y.insts k ≡ Some i → (o : Option InstData) → slice_get m.insts i.0 ≡ o → option_map (placed_of (trees_of m) i) o ≡ Some p → IsListed m y p
-    by i k listed None e h = absurd cc
-    by i k listed (Some z) e h =
-        let same = some_same (placed_of (trees_of m) i z) p h in
-        record {
-          inst = z;
-          inst_is = ap (λ (q : Placed). slice_get m.insts q.number) (sym same) ∙ e;
-          typed = ap (λ (q : Placed). q.type) (sym same);
-          place = k;
-          listed = listed ∙ ap (λ (q : Placed). Some (record { 0 = q.number })) same;
-        }
+    by : (i : LLVMInstRef) → slice_get y.insts place ≡ Some i → (o : Option InstData) → slice_get m.insts i.0 ≡ o → option_map (placed_of (trees_of m) i) o ≡ Some p → IsFromInst m b y place p
+    by i listed None e h = absurd cc
+    by i listed (Some z) e h = record {
+      number = i.0;
+      listed = listed;
+      inst = z;
+      here = e;
+      shown_as = sym (some_same (placed_of (trees_of m) i z) p h);
+      owned = sound.owned_insts b y at place i z listed e;
+    }
+
+-- an instruction of a function's data is one of the module, which lies in that function
+pub record IsOwnInst (m : Module) (f : ℕ) (p : Placed) : Type 0 where
+  pub number : ℕ
+  pub inst : InstData
+  pub here : slice_get m.insts number ≡ Some inst
+  pub shown_as : p ≡ shown_inst m number inst
+  pub home_is : (home m inst).0 ≡ f
+
+pub own_inst : (m : Module) (f : ℕ) (x : FunctionData) (k : ℕ) (p : Placed) → IsModule m → slice_get m.functions f ≡ Some x → slice_get (placed_in (shown m f x)) k ≡ Some p → IsOwnInst m f p
+own_inst m f x k p sound at is =
+    let part = from_joined (λ (b : Block). b.instructions) (shown m f x).blocks k p is in
+    let c = block_from m f x part.0 part.2 sound at part.3 in
+    let within : slice_get (shown_block m c.number c.block).instructions part.1 ≡ Some p = ap (λ (b : Block). slice_get b.instructions part.1) (sym c.shown_as) ∙ part.4 in
+    let i = inst_from m c.number c.block part.1 p sound c.here within in
+    let block : slice_get m.blocks i.inst.block.0 ≡ Some c.block = ap (slice_get m.blocks) i.owned ∙ c.here in
+    record {
+      number = i.number;
+      inst = i.inst;
+      here = i.here;
+      shown_as = i.shown_as;
+      home_is = ap (λ o. (option_map_or (λ (b : BlockData). b.function) o (record { 0 = 0 })).0) block ∙ c.owned;
+    }
+
+-- an instruction of the module stands in the data of the function that it lies in
+pub in_home : (m : Module) (f : ℕ) (x : FunctionData) (i : ℕ) (z : InstData) → IsModule m → slice_get m.functions f ≡ Some x → slice_get m.insts i ≡ Some z → (home m z).0 ≡ f → (k : ℕ) × (slice_get (placed_in (shown m f x)) k ≡ Some (shown_inst m i z))
+in_home m f x i z sound at is home_f =
+    let p = inst_place m i z sound is in
+    let b = block_place m f x z.block.0 p.block sound at p.block_is (ap (λ (g : LLVMFunction). g.0) (sym p.home_is) ∙ home_f) in
+    in_joined (λ (b : Block). b.instructions) (shown m f x).blocks b.place p.place (shown_block m z.block.0 p.block) (shown_inst m i z) b.here p.here

@@ -1,5 +1,5 @@
 -- Which kinds stand under the numbers of types whose trees are those of the form.
-use Rattle.std.proofs.Common.{◌≡◌, ◌<◌, ℕ, zero, suc, Bool, true, false, List, [], ◌∷◌, Some, length, slice_get, refl, sym, ap, subst, ◌∙◌, arith, All}
+use Rattle.std.proofs.Common.{◌≡◌, ◌<◌, ℕ, zero, suc, Bool, true, false, List, [], ◌∷◌, Some, length, slice_get, refl, sym, ap, subst, ◌∙◌, arith, eq-eqb, IsTrue, All}
 use Rattle.std.specs.List.{list_any}
 use Rattle.std.specs.Option.{option_map_or}
 use Rattle.std.proofs.lemmas.Option.{slice_get_within}
@@ -12,8 +12,8 @@ use Rattle.llvm_core.specs.declared.code.FunctionData.{FunctionData}
 use Rattle.llvm_core.specs.Module.{Module}
 use Rattle.llvm_core.specs.Parts.{IsTypeOver, is_int, is_function, is_kind, type_params}
 use Rattle.llvm_core.specs.Sound.{IsModule}
-use Rattle.llvm_core.specs.Data.{TypeTree, VoidType, FunctionType, TypeTrees, type_at, types_at, type_tree, trees_of, nth_type}
-use Rattle.llvm_core.specs.Checked.{is_void, is_valueless, return_type, returns_void, misfits_signature}
+use Rattle.llvm_core.specs.Data.{TypeTree, VoidType, IntType, FunctionType, TypeTrees, type_at, types_at, type_tree, trees_of, nth_type}
+use Rattle.llvm_core.specs.Checked.{is_void, is_valueless, is_bit, return_type, returns_void, misfits_signature}
 use Rattle.llvm_core.specs.Form.{IsShortInt, IsShortResult, AreShortInts, count_types}
 use Rattle.llvm_core.proofs.DataLemmas.{there, type_tree_of}
 
@@ -66,6 +66,14 @@ void_is_void m = kind_by_tree m is_void true (λ t. t ≡ VoidType) by
     by (T.Int w) h = absurd cc
     by (T.Function result params variadic) h = absurd cc
 
+pub bit_is_bit : (m : Module) (t : LLVMType) → IsModule m → t.0 < length m.types → type_at (trees_of m).types t ≡ IntType 1 → is_kind is_bit m.types t ≡ true
+bit_is_bit m = kind_by_tree m is_bit true (λ t. t ≡ IntType 1) by
+  where
+    by : (k : LLVMTypeKind) → type_tree (trees_of m).types k ≡ IntType 1 → is_bit k ≡ true
+    by T.Void h = absurd cc
+    by (T.Int w) h = eq-eqb w 1 (cc)
+    by (T.Function result params variadic) h = absurd cc
+
 -- ---- lists of types
 
 none_valueless : (m : Module) (ts : List LLVMType) → IsModule m → All (λ (t : LLVMType). t.0 < length m.types) ts → AreShortInts (types_at (trees_of m).types ts) → list_any (is_kind is_valueless m.types) ts ≡ false
@@ -74,7 +82,7 @@ none_valueless m (t ∷ ts) sound within h =
     let W : LLVMType → Type 0 = λ t. t.0 < length m.types in
     rw (short_has_value m t sound (All-head W t ts within) h.0, none_valueless m ts sound (All-tail W t ts within) h.1) refl
 
-count_is : (trees : List TypeTree) (ts : List LLVMType) → count_types (types_at trees ts) ≡ length ts
+pub count_is : (trees : List TypeTree) (ts : List LLVMType) → count_types (types_at trees ts) ≡ length ts
 count_is trees [] = refl
 count_is trees (t ∷ ts) = let e = count_is trees ts in omega (arith, e)
 
@@ -95,6 +103,16 @@ pub record HasSignature (m : Module) (x : FunctionData) (result : TypeTree) (typ
   pub params_within : All (λ (t : LLVMType). t.0 < length m.types) params
   pub returned_is : type_at (trees_of m).types returned ≡ result
   pub params_are : types_at (trees_of m).types params ≡ types
+
+-- a function has a function type
+pub function_typed : (m : Module) (f : ℕ) (x : FunctionData) → IsModule m → slice_get m.functions f ≡ Some x → (result : TypeTree) × (types : TypeTrees) × (variadic : Bool) × (type_at (trees_of m).types x.ty ≡ FunctionType result types variadic)
+function_typed m f x sound at = let typed = (sound.functions f x at).typed in by typed.0 typed.2 (type_tree_of m x.ty typed.0 sound typed.1)
+  where
+    by : (k : LLVMTypeKind) → IsTrue (is_function k) → type_at (trees_of m).types x.ty ≡ type_tree (trees_of m).types k
+        → (result : TypeTree) × (types : TypeTrees) × (variadic : Bool) × (type_at (trees_of m).types x.ty ≡ FunctionType result types variadic)
+    by T.Void h e = absurd cc
+    by (T.Int w) h e = absurd cc
+    by (T.Function r ps v) h e = (type_at (trees_of m).types r, types_at (trees_of m).types ps, v, e)
 
 pub signature_of : (m : Module) (f : ℕ) (x : FunctionData) (result : TypeTree) (types : TypeTrees) (variadic : Bool) → IsModule m → slice_get m.functions f ≡ Some x
     → type_at (trees_of m).types x.ty ≡ FunctionType result types variadic → HasSignature m x result types

@@ -1,5 +1,5 @@
 -- Lists that grow at the end, and lists of which one item changes.
-use Rattle.std.proofs.Common.{◌≡◌, ◌⊎◌, ℕ, zero, suc, List, [], ◌∷◌, ◌++◌, Option, Some, None, length, slice_get, slice_set, sym, ap, ◌∙◌, refl, inl, inr, arith}
+use Rattle.std.proofs.Common.{◌≡◌, ◌≢◌, ◌⊎◌, ℕ, zero, suc, List, [], ◌∷◌, ◌++◌, Option, Some, None, length, slice_get, slice_set, sym, ap, ◌∙◌, refl, inl, inr, arith}
 use Rattle.std.specs.Option.{option_map_or}
 use Rattle.llvm_core.specs.Code.{with_change}
 
@@ -57,3 +57,10 @@ pub slice_get-set_same : {X : Type 0} (xs : List X) (i : ℕ) (w x : X) → slic
 slice_get-set_same [] i w x h = cc
 slice_get-set_same (z ∷ xs) zero w x h = refl
 slice_get-set_same (z ∷ xs) (suc i) w x h = slice_get-set_same xs i w x h
+
+pub slice_get-set_other : {X : Type 0} (xs : List X) (i j : ℕ) (x : X) → j ≢ i → slice_get (slice_set xs i x) j ≡ slice_get xs j
+slice_get-set_other [] i j x ne = refl
+slice_get-set_other (z ∷ xs) zero zero x ne = absurd (ne refl)
+slice_get-set_other (z ∷ xs) zero (suc j) x ne = refl
+slice_get-set_other (z ∷ xs) (suc i) zero x ne = refl
+slice_get-set_other (z ∷ xs) (suc i) (suc j) x ne = slice_get-set_other xs i j x (λ e. ne (ap suc e))

@@ -16,7 +16,7 @@ pub push_keeps : {X Y : Type 0} (list : X → List Y) (xs : List X) (w : X) → 
 push_keeps list xs w i x e = (x, slice_get-kept xs (w ∷ []) i x e, λ place y h. h)
 
 -- an item stays, or is the changed one
-kept_or_changed : {X : Type 0} (c : X → X) (i : ℕ) (xs : List X) (j : ℕ) (x : X) → slice_get xs j ≡ Some x → (slice_get (with_change c i xs) j ≡ Some x) ⊎ (slice_get (with_change c i xs) j ≡ Some (c x))
+pub kept_or_changed : {X : Type 0} (c : X → X) (i : ℕ) (xs : List X) (j : ℕ) (x : X) → slice_get xs j ≡ Some x → (slice_get (with_change c i xs) j ≡ Some x) ⊎ (slice_get (with_change c i xs) j ≡ Some (c x))
 kept_or_changed c i [] j x e = inl e
 kept_or_changed c zero (w ∷ xs) zero x e = inr (ap (λ y. Some (c y)) (some_same w x e))
 kept_or_changed c zero (w ∷ xs) (suc j) x e = inl e

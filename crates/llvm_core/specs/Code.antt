@@ -1,11 +1,14 @@
 -- The functions, blocks and instructions of a module as lists, and how building calls change them.
-use Rattle.std.specs.Prelude.{◌<◌, ◌^◌, ℕ, List, [], ◌∷◌, ◌++◌, length, slice_get, slice_set}
+use Rattle.std.specs.Prelude.{◌<◌, ◌^◌, ℕ, List, [], ◌∷◌, ◌++◌, length, slice_get, slice_set, if◌then◌else◌, nat_eq, None, Some}
 use Rattle.std.specs.Option.{option_map_or}
 use Rattle.llvm_core.specs.declared.numbers.LLVMType.{LLVMType}
 use Rattle.llvm_core.specs.declared.numbers.LLVMFunction.{LLVMFunction}
 use Rattle.llvm_core.specs.declared.numbers.LLVMBasicBlock.{LLVMBasicBlock}
 use Rattle.llvm_core.specs.declared.numbers.LLVMInstRef.{LLVMInstRef}
+use Rattle.llvm_core.specs.declared.code.LLVMValue.{LLVMValue}
+use Rattle.llvm_core.specs.declared.code.PhiEntry.{PhiEntry}
 use Rattle.llvm_core.specs.declared.code.LLVMInst.{LLVMInst}
+use Rattle.llvm_core.specs.declared.code.LLVMInst.TheVariants as I
 use Rattle.llvm_core.specs.declared.code.FunctionData.{FunctionData}
 use Rattle.llvm_core.specs.declared.code.BlockData.{BlockData}
 use Rattle.llvm_core.specs.declared.code.InstData.{InstData}
@@ -54,6 +57,26 @@ with_inst c b i name ty inst = record c {
   insts = c.insts ++ (record { name = name; block = b; ty = ty; inst = inst }) ∷ [];
   blocks = with_change (λ (x : BlockData). record x { insts = x.insts ++ i ∷ [] }) b.0 c.blocks;
 }
+
+-- the instruction with v as the operand at that place, a line for each kind
+abbrev pub with_operand : LLVMInst → ℕ → LLVMValue → LLVMInst
+with_operand (I.Add lhs rhs flags) place v = if nat_eq place 0 then I.Add v rhs flags else I.Add lhs v flags
+with_operand (I.ICmp lhs rhs predicate) place v = if nat_eq place 0 then I.ICmp v rhs predicate else I.ICmp lhs v predicate
+with_operand (I.Phi type entries) place v = I.Phi type (with_change (λ (e : PhiEntry). record e { value = v }) place entries)
+with_operand (I.Br target) place v = I.Br target
+with_operand (I.CondBr condition first second) place v = I.CondBr v first second
+with_operand (I.Ret None) place v = I.Ret None
+with_operand (I.Ret (Some w)) place v = I.Ret (Some v)
+with_operand I.Unreachable place v = I.Unreachable
+
+-- the phi with one more entry, last
+abbrev pub with_entry : LLVMInst → PhiEntry → LLVMInst
+with_entry (I.Phi type entries) e = I.Phi type (entries ++ e ∷ [])
+with_entry inst e = inst
+
+-- the instruction i is changed
+abbrev pub with_changed_inst : Code → LLVMInstRef → (LLVMInst → LLVMInst) → Code
+with_changed_inst c i change = record c { insts = with_change (λ (x : InstData). record x { inst = change x.inst }) i.0 c.insts }
 
 -- the names of the parameters of the function f
 abbrev pub param_names : List FunctionData → LLVMFunction → List (List ℕ)

@@ -1,5 +1,5 @@
 -- Module data: a module read as lists, with its types and constants as trees.
-use Rattle.std.specs.Prelude.{◌≡◌, ◌<◌, ℕ, zero, suc, Bool, length, if◌then◌else◌, nat_eq, List, [], ◌∷◌, ◌++◌, Option, All, map, slice_get, slice_set, slice_index_or}
+use Rattle.std.specs.Prelude.{◌≡◌, ◌<◌, ℕ, zero, suc, Bool, length, if◌then◌else◌, nat_eq, List, [], ◌∷◌, ◌++◌, Option, Some, None, All, map, slice_get, slice_set, slice_index_or}
 use Rattle.std.specs.List.{filter_map, flat_map, find, enumerate_from}
 use Rattle.std.specs.Option.{option_map, option_map_or}
 use Rattle.llvm_core.specs.declared.numbers.LLVMType.{LLVMType}
@@ -8,17 +8,22 @@ use Rattle.llvm_core.specs.declared.numbers.LLVMBasicBlock.{LLVMBasicBlock}
 use Rattle.llvm_core.specs.declared.numbers.LLVMInstRef.{LLVMInstRef}
 use Rattle.llvm_core.specs.declared.types.LLVMTypeKind.{LLVMTypeKind}
 use Rattle.llvm_core.specs.declared.types.LLVMTypeKind.TheVariants as T
+use Rattle.llvm_core.specs.declared.types.ResultType.{ResultType}
+use Rattle.llvm_core.specs.declared.types.ResultType.TheVariants as R
 use Rattle.llvm_core.specs.declared.consts.LLVMConstKind.{LLVMConstKind}
 use Rattle.llvm_core.specs.declared.consts.LLVMConstKind.TheVariants as C
 use Rattle.llvm_core.specs.declared.code.LLVMValue.{LLVMValue}
 use Rattle.llvm_core.specs.declared.code.LLVMValue.TheVariants as V
 use Rattle.llvm_core.specs.declared.code.LLVMInst.{LLVMInst}
 use Rattle.llvm_core.specs.declared.code.LLVMInst.TheVariants as I
+use Rattle.llvm_core.specs.declared.code.PhiEntry.{PhiEntry}
+use Rattle.llvm_core.specs.declared.code.LLVMIntPredicate.{LLVMIntPredicate}
 use Rattle.llvm_core.specs.declared.code.OverflowFlags.{OverflowFlags}
 use Rattle.llvm_core.specs.declared.code.FunctionData.{FunctionData}
 use Rattle.llvm_core.specs.declared.code.BlockData.{BlockData}
 use Rattle.llvm_core.specs.declared.code.InstData.{InstData}
 use Rattle.llvm_core.specs.Module.{Module}
+use Rattle.llvm_core.specs.Code.{with_change}
 use Rattle.llvm_core.specs.Parts.{result_type}
 
 -- ---- the data
@@ -37,6 +42,7 @@ mutual
 -- a constant, a line for each kind
 pub data ConstTree : Type 0 where
   IntConst : (type : TypeTree) (value : ℕ) → ConstTree
+  PlaceholderConst : (number : ℕ) (type : TypeTree) → ConstTree
 
 -- what an operand names
 pub data Operand : Type 0 where
@@ -44,10 +50,15 @@ pub data Operand : Type 0 where
   Parameter : (function place : ℕ) → Operand
   Result : (instruction : ℕ) → Operand
 
--- an instruction, a line for each kind
+-- an instruction, a line for each kind; blocks stand by number, and an entry of a phi is an operand and the block that it is for
 pub data Instruction : Type 0 where
   Add : (lhs rhs : Operand) (flags : OverflowFlags) → Instruction
+  ICmp : (lhs rhs : Operand) (predicate : LLVMIntPredicate) → Instruction
+  Phi : (entries : List (Operand × ℕ)) → Instruction
+  Br : (target : ℕ) → Instruction
+  CondBr : (condition : Operand) (first second : ℕ) → Instruction
   Return : (value : Option Operand) → Instruction
+  Unreachable : Instruction
 
 -- an instruction of a block, with the type of its result
 pub record Placed : Type 0 where
@@ -102,6 +113,7 @@ const_at cs c = slice_index_or cs c.0 (IntConst VoidType 0)
 
 abbrev pub const_tree : List TypeTree → List ConstTree → LLVMConstKind → ConstTree
 const_tree ts cs (C.Int t v) = IntConst (type_at ts t) v
+const_tree ts cs (C.Placeholder number t) = PlaceholderConst number (type_at ts t)
 
 abbrev pub const_trees : List TypeTree → List LLVMConstKind → List ConstTree
 const_trees ts ks = trees_after (const_tree ts) [] ks
@@ -119,13 +131,26 @@ operand_of t (V.Const c) = Constant (const_at t.consts c)
 operand_of t (V.Param f place) = Parameter f.0 place
 operand_of t (V.Inst i) = Result i.0
 
+abbrev pub entry_of : Trees → PhiEntry → Operand × ℕ
+entry_of t e = (operand_of t e.value, e.block.0)
+
 abbrev pub instruction_of : Trees → LLVMInst → Instruction
 instruction_of t (I.Add lhs rhs flags) = Add (operand_of t lhs) (operand_of t rhs) flags
+instruction_of t (I.ICmp lhs rhs predicate) = ICmp (operand_of t lhs) (operand_of t rhs) predicate
+instruction_of t (I.Phi type entries) = Phi (map (entry_of t) entries)
+instruction_of t (I.Br target) = Br target.0
+instruction_of t (I.CondBr condition first second) = CondBr (operand_of t condition) first.0 second.0
 instruction_of t (I.Ret value) = Return (option_map (operand_of t) value)
+instruction_of t I.Unreachable = Unreachable
+
+-- the tree of a result's type
+abbrev pub tree_of_result : List TypeTree → ResultType → TypeTree
+tree_of_result ts (R.There t) = type_at ts t
+tree_of_result ts R.Bit = IntType 1
 
 -- the tree of the type of an instruction's result
 abbrev pub result_tree : Module → LLVMInst → TypeTree
-result_tree m i = option_map_or (type_at (trees_of m).types) (result_type m i) VoidType
+result_tree m i = option_map_or (tree_of_result (trees_of m).types) (result_type m i) VoidType
 
 abbrev pub placed_of : Trees → LLVMInstRef → InstData → Placed
 placed_of t i x = record { number = i.0; name = x.name; type = type_at t.types x.ty; instruction = instruction_of t x.inst }
@@ -176,6 +201,7 @@ param_type _ i = VoidType
 -- a line for each kind of constant
 abbrev pub const_type : ConstTree → TypeTree
 const_type (IntConst type value) = type
+const_type (PlaceholderConst number type) = type
 
 -- the instructions of a function, block after block
 abbrev pub placed_in : Function → List Placed
@@ -219,3 +245,48 @@ with_instruction_in b i x = if nat_eq x.number b then record x { instructions = 
 -- the block of that number has the instruction last
 abbrev pub with_instruction : ModuleData → ℕ → Placed → ModuleData
 with_instruction d b i = record d { functions = map (λ (x : Function). record x { blocks = map (with_instruction_in b i) x.blocks }) d.functions }
+
+-- the instruction with o as the operand at that place, a line for each kind
+abbrev pub with_operand : Instruction → ℕ → Operand → Instruction
+with_operand (Add lhs rhs flags) place o = if nat_eq place 0 then Add o rhs flags else Add lhs o flags
+with_operand (ICmp lhs rhs predicate) place o = if nat_eq place 0 then ICmp o rhs predicate else ICmp lhs o predicate
+with_operand (Phi entries) place o = Phi (with_change (λ (e : Operand × ℕ). (o, e.1)) place entries)
+with_operand (Br target) place o = Br target
+with_operand (CondBr condition first second) place o = CondBr o first second
+with_operand (Return value) place o = Return (option_map (λ _. o) value)
+with_operand Unreachable place o = Unreachable
+
+-- the phi with one more entry, last
+abbrev pub with_entry : Instruction → Operand → ℕ → Instruction
+with_entry (Phi entries) o block = Phi (entries ++ (o, block) ∷ [])
+with_entry i o block = i
+
+abbrev pub with_change_of : ℕ → (Instruction → Instruction) → Placed → Placed
+with_change_of i change p = if nat_eq p.number i then record p { instruction = change p.instruction } else p
+
+-- the instruction of that number is changed
+abbrev pub with_changed : ModuleData → ℕ → (Instruction → Instruction) → ModuleData
+with_changed d i change =
+    record d { functions = map (λ (f : Function). record f { blocks = map (λ (b : Block). record b { instructions = map (with_change_of i change) b.instructions }) f.blocks }) d.functions }
+
+-- ---- edges
+
+-- the blocks that an instruction leads to, by number, each as often as it is named: a line for each kind
+abbrev pub targets : Instruction → List ℕ
+targets (Add lhs rhs flags) = []
+targets (ICmp lhs rhs predicate) = []
+targets (Phi entries) = []
+targets (Br target) = target ∷ []
+targets (CondBr condition first second) = first ∷ second ∷ []
+targets (Return value) = []
+targets Unreachable = []
+
+-- the entries of a phi, an operand and the block that it is for; none for what is no phi
+abbrev pub phi_entries : Instruction → Option (List (Operand × ℕ))
+phi_entries (Add lhs rhs flags) = None
+phi_entries (ICmp lhs rhs predicate) = None
+phi_entries (Phi entries) = Some entries
+phi_entries (Br target) = None
+phi_entries (CondBr condition first second) = None
+phi_entries (Return value) = None
+phi_entries Unreachable = None

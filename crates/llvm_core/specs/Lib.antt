@@ -7,5 +7,6 @@ pub mod Parts
 pub mod Sound
 pub mod Data
 pub mod Names
+pub mod Edges
 pub mod Checked
 pub mod Form

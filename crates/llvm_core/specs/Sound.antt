@@ -1,7 +1,11 @@
 -- What is true of every module that calls have built.
-use Rattle.std.specs.Prelude.{◌≡◌, ◌<◌, ℕ, length, slice_get, Some, All}
+use Rattle.std.specs.Prelude.{◌≡◌, ◌<◌, ℕ, List, length, slice_get, Option, None, Some, All}
 use Rattle.llvm_core.specs.declared.types.LLVMTypeKind.{LLVMTypeKind}
+use Rattle.llvm_core.specs.declared.types.LLVMTypeKind.TheVariants as T
+use Rattle.llvm_core.specs.declared.types.ResultType.{ResultType}
+use Rattle.llvm_core.specs.declared.types.ResultType.TheVariants as R
 use Rattle.llvm_core.specs.declared.consts.LLVMConstKind.{LLVMConstKind}
+use Rattle.llvm_core.specs.declared.numbers.LLVMType.{LLVMType}
 use Rattle.llvm_core.specs.declared.numbers.LLVMBasicBlock.{LLVMBasicBlock}
 use Rattle.llvm_core.specs.declared.numbers.LLVMInstRef.{LLVMInstRef}
 use Rattle.llvm_core.specs.declared.code.FunctionData.{FunctionData}
@@ -9,7 +13,7 @@ use Rattle.llvm_core.specs.declared.code.BlockData.{BlockData}
 use Rattle.llvm_core.specs.declared.code.InstData.{InstData}
 use Rattle.llvm_core.specs.Interned.{IsDistinctList}
 use Rattle.llvm_core.specs.Module.{Module}
-use Rattle.llvm_core.specs.Parts.{IsTypeOver, IsConstOver, IsFunctionType, HasValues, type_params}
+use Rattle.llvm_core.specs.Parts.{IsTypeOver, IsConstOver, IsFunctionType, HasValues, type_params, result_type}
 
 -- a function of a function type, with a name for each parameter, and blocks that are there
 pub record IsFunctionIn (m : Module) (x : FunctionData) : Type 0 where
@@ -22,10 +26,17 @@ pub record IsBlockIn (m : Module) (x : BlockData) : Type 0 where
   pub function : x.function.0 < length m.functions
   pub insts : All (λ (i : LLVMInstRef). i.0 < length m.insts) x.insts
 
--- an instruction of a block that is there, with a type and operands that are there
+-- the number stands for the type of a result
+abbrev pub StandsFor : List LLVMTypeKind → Option ResultType → LLVMType → Type 0
+StandsFor types (Some (R.There t)) ty = ty ≡ t
+StandsFor types (Some R.Bit) ty = slice_get types ty.0 ≡ Some (T.Int 1)
+StandsFor types None ty = slice_get types ty.0 ≡ Some T.Void
+
+-- an instruction of a block that is there, with a type that is there and is that of its operands, and operands that are there
 pub record IsInstIn (m : Module) (x : InstData) : Type 0 where
   pub block : x.block.0 < length m.blocks
   pub typed : x.ty.0 < length m.types
+  pub result : StandsFor m.types (result_type m x.inst) x.ty
   pub values : HasValues m x.inst
 
 -- the block b stands in the list of the function that it names
@@ -40,7 +51,11 @@ IsListedInst m i z = (y : BlockData) × (place : ℕ) × (slice_get m.blocks z.b
 abbrev pub OwnsInsts : Module → (b : ℕ) → BlockData → Type 0
 OwnsInsts m b y = (place : ℕ) (i : LLVMInstRef) (z : InstData) → slice_get y.insts place ≡ Some i → slice_get m.insts i.0 ≡ Some z → z.block.0 ≡ b
 
--- types and constants are made of earlier ones and stand once each; code names only what is there, and stands in the list of its owner; a block lists only its own instructions
+-- the function f lists only blocks that name it
+abbrev pub OwnsBlocks : Module → (f : ℕ) → FunctionData → Type 0
+OwnsBlocks m f x = (place : ℕ) (b : LLVMBasicBlock) (y : BlockData) → slice_get x.blocks place ≡ Some b → slice_get m.blocks b.0 ≡ Some y → y.function.0 ≡ f
+
+-- types and constants are made of earlier ones and stand once each; code names only what is there, and stands in the list of its owner; a function lists only its own blocks, and a block only its own instructions
 pub record IsModule (m : Module) : Type 0 where
   pub types : (i : ℕ) (k : LLVMTypeKind) → slice_get m.types i ≡ Some k → IsTypeOver i k
   pub types_once : IsDistinctList m.types
@@ -51,4 +66,5 @@ pub record IsModule (m : Module) : Type 0 where
   pub insts : (i : ℕ) (x : InstData) → slice_get m.insts i ≡ Some x → IsInstIn m x
   pub listed_blocks : (b : ℕ) (y : BlockData) → slice_get m.blocks b ≡ Some y → IsListedBlock m b y
   pub listed_insts : (i : ℕ) (z : InstData) → slice_get m.insts i ≡ Some z → IsListedInst m i z
+  pub owned_blocks : (f : ℕ) (x : FunctionData) → slice_get m.functions f ≡ Some x → OwnsBlocks m f x
   pub owned_insts : (b : ℕ) (y : BlockData) → slice_get m.blocks b ≡ Some y → OwnsInsts m b y

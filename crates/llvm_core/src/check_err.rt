@@ -24,13 +24,22 @@ pub enum CheckErr {
     /// A block does not end in its only terminator.
     #[error("NoTerminator")]
     NoTerminator(Place),
+    /// A phi follows another instruction than a phi.
+    #[error("PhiPlace")]
+    PhiPlace(Place),
+    /// A phi's entries are not one for each edge to its block, two of one block differ, or there is no edge.
+    #[error("PhiEntries")]
+    PhiEntries(Place),
+    /// An edge goes to the first block of a function.
+    #[error("EntryHasPreds")]
+    EntryHasPreds(Place),
     /// The type of an operand, parameter or result does not fit.
     #[error("OperandType")]
     OperandType(Place),
     /// A count of operands does not fit.
     #[error("OperandCount")]
     OperandCount(Place),
-    /// An operand is of another function.
+    /// An operand, target or source of a phi is of another function, or a placeholder is still used.
     #[error("BlockOutside")]
     BlockOutside(Place),
     /// A function whose name begins with `llvm.` has a body.

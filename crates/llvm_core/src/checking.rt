@@ -5,20 +5,20 @@ ghost use Rattle.std.specs.List.{list_any};
 ghost use Rattle.std.specs.Option.{option_map, option_map_or};
 ghost use Rattle.llvm_core.specs.declared.check_err.Place.TheVariants as places;
 ghost use Rattle.llvm_core.specs.declared.check_err.CheckErr.TheVariants as errors;
-ghost use Rattle.llvm_core.specs.Parts.{IsValue, is_function, is_kind};
+ghost use Rattle.llvm_core.specs.Parts.{is_kind};
 ghost use Rattle.llvm_core.specs.Names.{HasTwice};
-ghost use Rattle.llvm_core.specs.Checked.{is_terminator, is_terminator_at, ends_in_only, is_void, is_valueless, misfits_signature, MisfitsType, misfits_count, returns_void, return_type, home, is_outside, reaches_outside, Fails, local_names, is_bad_name, names_before, IsFreshName, IsCheckedFunction, IsCheckedBlock, IsCheckedInst, IsChecked, MayAnswer};
+ghost use Rattle.llvm_core.specs.Checked.{is_terminator, is_terminator_at, ends_in_only, is_valueless, misfits_signature, Fails, local_names, is_bad_name, names_before, IsFreshName, IsCheckedFunction, IsCheckedBlock, IsCheckedInst, IsChecked, MayAnswer};
 
 use crate::check_err::{CheckErr, Place};
-use crate::code::{LLVMInst, LLVMValue};
+use crate::code::LLVMInst;
+use crate::edges::check_edges;
 use crate::module::LLVMModule;
 use crate::name_set::NameSet;
 use crate::names::{has_twice, local_names};
 use crate::numbers::{LLVMBasicBlock, LLVMFunction, LLVMInstRef, LLVMType};
+use crate::operands::{TOO_LONG, check_inst, is_function, is_void};
+use crate::phis::has_late_phi;
 use crate::types::LLVMTypeKind;
-
-/// The number of entries from which on a list is too long.
-const TOO_LONG: usize = 1 << 31;
 
 fn check_count(m: &LLVMModule) -> Result<(), CheckErr>
     ensures ok { OnOk result (¬ Fails m.now (errors.ListTooLong places.Module)) }
@@ -77,18 +77,6 @@ fn check_local_names(m: &LLVMModule, f: LLVMFunction) -> Result<(), CheckErr>
         return Err(CheckErr::NameTwice(Place::Function(f.0)));
     }
     Ok(())
-}
-
-fn is_void(kind: &LLVMTypeKind) -> bool
-    ensures { result ≡ is_void kind.now }
-{
-    matches!(kind, LLVMTypeKind::Void)
-}
-
-fn is_function(kind: &LLVMTypeKind) -> bool
-    ensures { result ≡ is_function kind.now }
-{
-    matches!(kind, LLVMTypeKind::Function { .. })
 }
 
 /// Whether a parameter is of a type of no value.
@@ -178,7 +166,12 @@ fn is_terminator(inst: &LLVMInst) -> bool
 {
     match inst {
         LLVMInst::Add(..) => false,
+        LLVMInst::ICmp(..) => false,
+        LLVMInst::Phi(..) => false,
+        LLVMInst::Br(_) => true,
+        LLVMInst::CondBr(..) => true,
         LLVMInst::Ret(_) => true,
+        LLVMInst::Unreachable => true,
     }
 }
 
@@ -218,6 +211,17 @@ fn check_terminator(m: &LLVMModule, b: LLVMBasicBlock) -> Result<(), CheckErr>
     Ok(())
 }
 
+fn check_phi_places(m: &LLVMModule, b: LLVMBasicBlock) -> Result<(), CheckErr>
+    requires { b.0 < length m.now.blocks }
+    ensures ok { OnOk result (¬ Fails m.now (errors.PhiPlace (places.Block b.0))) }
+    ensures err { IfErr result (λ e. Fails m.now e) }
+{
+    if has_late_phi(m, m.instructions(b)) {
+        return Err(CheckErr::PhiPlace(Place::Block(b.0)));
+    }
+    Ok(())
+}
+
 fn check_block_list(m: &LLVMModule, b: LLVMBasicBlock) -> Result<(), CheckErr>
     requires { b.0 < length m.now.blocks }
     ensures ok { OnOk result (¬ Fails m.now (errors.ListTooLong (places.Block b.0))) }
@@ -235,107 +239,8 @@ fn check_block(m: &LLVMModule, b: LLVMBasicBlock) -> Result<(), CheckErr>
     ensures err { IfErr result (λ e. Fails m.now e) }
 {
     check_terminator(m, b)?;
+    check_phi_places(m, b)?;
     check_block_list(m, b)
-}
-
-/// The function that holds an instruction.
-fn home(m: &LLVMModule, i: LLVMInstRef) -> LLVMFunction
-    requires { i.0 < length m.now.insts }
-    ensures home { option_map (home m.now) (slice_get m.now.insts i.0) ≡ Some result }
-    ensures within { result.0 < length m.now.functions }
-{
-    m.block_function(m.inst_block(i))
-}
-
-/// The type of what a function returns.
-fn return_type(m: &LLVMModule, f: LLVMFunction) -> LLVMType
-    requires { f.0 < length m.now.functions }
-    ensures ty { return_type m.now f ≡ Some result }
-    ensures within { result.0 < length m.now.types }
-{
-    match m.type_kind(m.function_type(f)) {
-        LLVMTypeKind::Function { result, .. } => *result,
-        _ => unreachable!(),
-    }
-}
-
-fn returns_void(m: &LLVMModule, f: LLVMFunction) -> bool
-    requires { f.0 < length m.now.functions }
-    ensures { result ≡ returns_void m.now f }
-{
-    is_void(m.type_kind(return_type(m, f)))
-}
-
-fn check_operand_types(m: &LLVMModule, i: LLVMInstRef) -> Result<(), CheckErr>
-    requires { i.0 < length m.now.insts }
-    ensures ok { OnOk result (¬ Fails m.now (errors.OperandType (places.Inst i.0))) }
-    ensures err { IfErr result (λ e. Fails m.now e) }
-{
-    let fits = match m.inst(i) {
-        LLVMInst::Add(..) => m.result_type(m.inst(i)).is_some(),
-        LLVMInst::Ret(None) => true,
-        LLVMInst::Ret(Some(value)) => m.type_of(*value) == return_type(m, home(m, i)),
-    };
-    if !fits {
-        return Err(CheckErr::OperandType(Place::Inst(i.0)));
-    }
-    Ok(())
-}
-
-fn check_operand_count(m: &LLVMModule, i: LLVMInstRef) -> Result<(), CheckErr>
-    requires { i.0 < length m.now.insts }
-    ensures ok { OnOk result (¬ Fails m.now (errors.OperandCount (places.Inst i.0))) }
-    ensures err { IfErr result (λ e. Fails m.now e) }
-{
-    let fits = match m.inst(i) {
-        LLVMInst::Add(..) => true,
-        LLVMInst::Ret(value) => value.is_none() == returns_void(m, home(m, i)),
-    };
-    if !fits {
-        return Err(CheckErr::OperandCount(Place::Inst(i.0)));
-    }
-    Ok(())
-}
-
-/// Whether a value is a parameter or result of another function than `f`.
-fn is_outside(m: &LLVMModule, f: LLVMFunction, value: LLVMValue) -> bool
-    requires { IsValue m.now value }
-    ensures { result ≡ is_outside m.now f value }
-{
-    match value {
-        LLVMValue::Const(_) => false,
-        LLVMValue::Param(g, _) => g.0 != f.0,
-        LLVMValue::Inst(i) => home(m, i).0 != f.0,
-    }
-}
-
-fn check_operands_inside(m: &LLVMModule, i: LLVMInstRef) -> Result<(), CheckErr>
-    requires { i.0 < length m.now.insts }
-    ensures ok { OnOk result (¬ Fails m.now (errors.BlockOutside (places.Inst i.0))) }
-    ensures err { IfErr result (λ e. Fails m.now e) }
-{
-    let reaches = match m.inst(i) {
-        LLVMInst::Add(lhs, rhs, _) => {
-            let f = home(m, i);
-            is_outside(m, f, *lhs) || is_outside(m, f, *rhs)
-        }
-        LLVMInst::Ret(None) => false,
-        LLVMInst::Ret(Some(value)) => is_outside(m, home(m, i), *value),
-    };
-    if reaches {
-        return Err(CheckErr::BlockOutside(Place::Inst(i.0)));
-    }
-    Ok(())
-}
-
-fn check_inst(m: &LLVMModule, i: LLVMInstRef) -> Result<(), CheckErr>
-    requires { i.0 < length m.now.insts }
-    ensures ok { OnOk result (IsCheckedInst m.now i.0) }
-    ensures err { IfErr result (λ e. Fails m.now e) }
-{
-    check_operand_types(m, i)?;
-    check_operand_count(m, i)?;
-    check_operands_inside(m, i)
 }
 
 fn check_functions(m: &LLVMModule) -> Result<(), CheckErr>
@@ -378,5 +283,6 @@ pub fn check(m: &LLVMModule) -> Result<(), CheckErr>
     check_functions(m)?;
     check_blocks(m)?;
     check_insts(m)?;
+    check_edges(m)?;
     Ok(())
 }

@@ -23,13 +23,45 @@ pub struct OverflowFlags {
     pub nsw: bool,
 }
 
+/// How `icmp` compares two integers (Language Reference, "icmp" Instruction).
+#[derive(Clone, Copy, PartialEq, Eq, Debug, Drop)]
+pub enum LLVMIntPredicate {
+    LLVMIntEQ,
+    LLVMIntNE,
+    LLVMIntUGT,
+    LLVMIntUGE,
+    LLVMIntULT,
+    LLVMIntULE,
+    LLVMIntSGT,
+    LLVMIntSGE,
+    LLVMIntSLT,
+    LLVMIntSLE,
+}
+
+/// An entry of a phi: the value that it takes on an edge from the block.
+#[derive(Clone, Copy, PartialEq, Eq, Debug, Drop)]
+pub struct PhiEntry {
+    pub value: LLVMValue,
+    pub block: LLVMBasicBlock,
+}
+
 /// An instruction: one variant for each kind, with its operands in order and then its immediates.
 #[derive(Drop)]
 pub enum LLVMInst {
     /// `add` of two integers of one type (Language Reference, "add" Instruction).
     Add(LLVMValue, LLVMValue, OverflowFlags),
+    /// `icmp` of two integers of one type (Language Reference, "icmp" Instruction).
+    ICmp(LLVMValue, LLVMValue, LLVMIntPredicate),
+    /// `phi` of a type, with its entries in order (Language Reference, "phi" Instruction).
+    Phi(LLVMType, Items<PhiEntry>),
+    /// `br` to a block (Language Reference, "br" Instruction).
+    Br(LLVMBasicBlock),
+    /// `br` on a condition: to the first block where it is true, else to the second.
+    CondBr(LLVMValue, LLVMBasicBlock, LLVMBasicBlock),
     /// `ret void` or `ret` of a value (Language Reference, "ret" Instruction).
     Ret(Option<LLVMValue>),
+    /// `unreachable` (Language Reference, "unreachable" Instruction).
+    Unreachable,
 }
 
 /// A function of a module. The name of a parameter without one is empty.

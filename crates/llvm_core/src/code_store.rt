@@ -1,10 +1,11 @@
 //! The functions, blocks and instructions of a module, under their numbers.
 
-ghost use Rattle.std.specs.Prelude.{◌≡◌, ◌<◌, IfOk, OnErr, OnOk, Some, [], length, slice_get};
+ghost use Rattle.std.specs.Prelude.{◌≡◌, ◌<◌, IfOk, IsTrue, OnErr, OnOk, Some, [], if◌then◌else◌, nat_eq, length, slice_get};
 ghost use Rattle.std.specs.Option.{option_map};
-ghost use Rattle.llvm_core.specs.Code.{with_function, with_param_name, with_block, with_inst, param_names};
+ghost use Rattle.llvm_core.specs.Code.{with_function, with_param_name, with_block, with_inst, with_change, with_operand, with_entry, with_changed_inst, param_names};
+ghost use Rattle.llvm_core.specs.Parts.{IsPhi, is_phi, operands};
 
-use crate::code::{BlockData, FunctionData, InstData, LLVMInst};
+use crate::code::{BlockData, FunctionData, InstData, LLVMInst, LLVMValue, PhiEntry};
 use crate::items::{Items, append_both};
 use crate::numbers::{LLVMBasicBlock, LLVMFunction, LLVMInstRef, LLVMType};
 use crate::text::Text;
@@ -162,6 +163,23 @@ impl CodeStore {
         Ok(number)
     }
 
+    /// Puts a value in place of an operand.
+    pub fn set_operand(&mut self, i: LLVMInstRef, place: u32, value: LLVMValue)
+        requires { (x : _) × (slice_get self.old.insts i.0 ≡ Some x) × (place < length (operands x.inst)) }
+        ensures { self.new ≡ with_changed_inst self.old i (λ inst. with_operand inst place value) }
+    {
+        put_operand(&mut self.insts[i.0 as usize].inst, place, value);
+    }
+
+    /// Appends an entry to a phi.
+    pub fn add_incoming(&mut self, phi: LLVMInstRef, entry: PhiEntry) -> Result<(), AllocError>
+        requires { IsPhi self.old.insts phi }
+        ensures ok { OnOk result (self.new ≡ with_changed_inst self.old phi (λ inst. with_entry inst entry)) }
+        ensures err { OnErr result (self.new ≡ self.old) }
+    {
+        push_entry(&mut self.insts[phi.0 as usize].inst, entry)
+    }
+
     pub fn function_count(&self) -> u32
         ensures { result ≡ length self.now.functions }
     {
@@ -199,5 +217,55 @@ impl CodeStore {
         ensures { slice_get self.now.insts i.0 ≡ Some result.now }
     {
         &self.insts[i.0 as usize]
+    }
+}
+
+/// Puts a value in place of an operand of an instruction.
+fn put_operand(inst: &mut LLVMInst, place: u32, value: LLVMValue)
+    requires { place < length (operands inst.old) }
+    ensures { inst.new ≡ with_operand inst.old place value }
+{
+    match inst {
+        LLVMInst::Add(lhs, rhs, _) => put_side(lhs, rhs, place, value),
+        LLVMInst::ICmp(lhs, rhs, _) => put_side(lhs, rhs, place, value),
+        LLVMInst::Phi(_, entries) => put_entry(entries, place, value),
+        LLVMInst::CondBr(condition, _, _) => *condition = value,
+        LLVMInst::Ret(Some(operand)) => *operand = value,
+        LLVMInst::Ret(None) => (),
+        LLVMInst::Br(_) => (),
+        LLVMInst::Unreachable => (),
+    }
+}
+
+/// Puts a value in place of one side of an operation.
+fn put_side(lhs: &mut LLVMValue, rhs: &mut LLVMValue, place: u32, value: LLVMValue)
+    ensures lhs { lhs.new ≡ (if nat_eq place 0 then value else lhs.old) }
+    ensures rhs { rhs.new ≡ (if nat_eq place 0 then rhs.old else value) }
+{
+    if place == 0 {
+        *lhs = value;
+    } else {
+        *rhs = value;
+    }
+}
+
+/// Puts a value in place of that of an entry.
+fn put_entry(entries: &mut Items<PhiEntry>, place: u32, value: LLVMValue)
+    requires { place < length entries.old }
+    ensures { entries.new ≡ with_change (λ e. record e { value = value }) place entries.old }
+{
+    let block = entries.as_slice()[place as usize].block;
+    entries.set(place as usize, PhiEntry { value, block });
+}
+
+/// Appends an entry to a phi.
+fn push_entry(inst: &mut LLVMInst, entry: PhiEntry) -> Result<(), AllocError>
+    requires { IsTrue (is_phi inst.old) }
+    ensures ok { OnOk result (inst.new ≡ with_entry inst.old entry) }
+    ensures err { OnErr result (inst.new ≡ inst.old) }
+{
+    match inst {
+        LLVMInst::Phi(_, entries) => entries.push(entry),
+        _ => unreachable!(),
     }
 }

@@ -7,4 +7,6 @@ use crate::numbers::LLVMType;
 pub enum LLVMConstKind {
     /// An integer of an integer type, below 2^width.
     Int(LLVMType, u128),
+    /// What a reader hands to `build` for an operand that is not there yet: its number and its type.
+    Placeholder(u32, LLVMType),
 }

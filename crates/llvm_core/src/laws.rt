@@ -5,11 +5,16 @@ ghost use Rattle.llvm_core.specs.Module.{Module};
 ghost use Rattle.llvm_core.specs.Sound.{IsModule};
 ghost use Rattle.llvm_core.specs.Data.{data_of, AreApart};
 ghost use Rattle.llvm_core.specs.Checked.{IsChecked};
-ghost use Rattle.llvm_core.specs.Form.{IsForm, HasDistinctNames, HasFew};
+ghost use Rattle.llvm_core.specs.Form.{IsForm, IsNarrow, HasDistinctNames, HasFew};
 
 /// A module of the form whose names are distinct and whose lists are short meets every rule.
 pub fn form_is_checked()
     ensures { (m : Module) → IsModule m → AreApart m → IsForm (data_of m) → HasDistinctNames (data_of m) → HasFew (data_of m) → IsChecked m }
+{}
+
+/// A checked module of plain names and narrow types is of the form.
+pub fn checked_is_form()
+    ensures { (m : Module) → IsModule m → AreApart m → IsChecked m → IsNarrow (data_of m) → IsForm (data_of m) }
 {}
 
 /// The names of a checked module are distinct, and its lists are short.

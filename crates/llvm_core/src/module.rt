@@ -2,24 +2,23 @@
 
 ghost use Rattle.std.specs.Prelude.{◌≡◌, ◌<◌, ◌⊎◌, ◌++◌, ◌∷◌, [], IfOk, IfSome, OnErr, OnOk, None, Some, All, IsTrue, length, map, slice_get};
 ghost use Rattle.std.specs.Option.{option_map};
-ghost use Rattle.llvm_core.specs.declared.types.LLVMTypeKind.TheVariants as kinds;
 ghost use Rattle.llvm_core.specs.declared.code.LLVMValue.TheVariants as values;
 ghost use Rattle.llvm_core.specs.Interned.{Interned};
 ghost use Rattle.llvm_core.specs.Module.{Module};
-ghost use Rattle.llvm_core.specs.Code.{code_of, with_code, with_function, with_param_name, with_block, with_inst, param_names};
-ghost use Rattle.llvm_core.specs.Parts.{IsTypeOver, IsConstOver, IsFunctionType, IsValue, HasValues, IsResultType, const_type, is_function, is_int, both_type, kind_params, type_params, value_type, result_type};
+ghost use Rattle.llvm_core.specs.Code.{code_of, with_code, with_function, with_param_name, with_block, with_inst, with_operand, with_entry, with_changed_inst, param_names};
+ghost use Rattle.llvm_core.specs.Parts.{IsTypeOver, IsConstOver, IsFunctionType, IsValue, IsBlock, HasValues, IsResultType, IsResultOver, TakesOperand, IsPhi, made_kind, const_type, is_function, is_int, both_type, kind_params, type_params, value_type, result_type};
 ghost use Rattle.llvm_core.specs.Sound.{IsModule};
 ghost use Rattle.llvm_core.specs.Data as lists;
-ghost use Rattle.llvm_core.specs.Data.{trees_of, type_at, result_tree, instruction_of, data_of, AreApart, AllBlocks, AllPlaced};
+ghost use Rattle.llvm_core.specs.Data.{trees_of, type_at, result_tree, operand_of, instruction_of, data_of, AreApart, AllBlocks, AllPlaced};
 
-use crate::code::{LLVMInst, LLVMValue};
+use crate::code::{LLVMInst, LLVMValue, PhiEntry};
 use crate::code_store::CodeStore;
 use crate::consts::LLVMConstKind;
 use crate::interner::Interner;
 use crate::items::Items;
 use crate::numbers::{LLVMBasicBlock, LLVMConst, LLVMFunction, LLVMInstRef, LLVMType};
 use crate::text::Text;
-use crate::types::LLVMTypeKind;
+use crate::types::{LLVMTypeKind, ResultType};
 use std::alloc::{AllocError, Global};
 use std::marker::Model;
 
@@ -172,7 +171,7 @@ impl LLVMModule {
         ensures number { IfOk result (λ i. i.0 ≡ length self.old.insts) }
         ensures ok { IfOk result (λ i. (ty : _) × IsResultType (result_type self.old inst) self.old.types self.new.types ty × (self.new ≡ with_code (record self.old { types = self.new.types }) (with_inst (code_of self.old) block i name.now ty inst))) }
         ensures rest { OnErr result (self.new ≡ record self.old { types = self.new.types }) }
-        ensures err { OnErr result ((self.new.types ≡ self.old.types) ⊎ (self.new.types ≡ self.old.types ++ kinds.Void ∷ [])) }
+        ensures err { OnErr result ((self.new.types ≡ self.old.types) ⊎ (self.new.types ≡ self.old.types ++ made_kind (result_type self.old inst) ∷ [])) }
         ensures data { IfOk result (λ i. data_of self.new ≡ lists.with_instruction (data_of self.old) block.0 (record { number = i.0; name = name.now; type = result_tree self.old inst; instruction = instruction_of (trees_of self.old) inst })) }
         ensures data_err { OnErr result (data_of self.new ≡ data_of self.old) }
         ensures fresh { IfOk result (λ i. AllPlaced (λ x. x.number < i.0) (data_of self.old)) }
@@ -181,6 +180,36 @@ impl LLVMModule {
         let ty = self.result_number(&inst)?;
         let i = self.code.append_inst(block, name, ty, inst)?;
         Ok(i)
+    }
+
+    /// Puts a value in place of an operand of its type, so that a use can be built before its definition.
+    pub fn set_operand(&mut self, inst: LLVMInstRef, place: u32, value: LLVMValue)
+        requires place { TakesOperand self.old inst place value }
+        requires value { IsValue self.old value }
+        ensures ok { self.new ≡ with_code self.old (with_changed_inst (code_of self.old) inst (λ i. with_operand i place value)) }
+        ensures data { data_of self.new ≡ lists.with_changed (data_of self.old) inst.0 (λ i. lists.with_operand i place (operand_of (trees_of self.old) value)) }
+        ensures sound { IsModule self.new }
+    {
+        self.code.set_operand(inst, place, value);
+    }
+
+    /// Appends an entry to a phi: the value that it takes on an edge from the block.
+    pub fn add_incoming(
+        &mut self,
+        phi: LLVMInstRef,
+        value: LLVMValue,
+        block: LLVMBasicBlock,
+    ) -> Result<(), AllocError>
+        requires phi { IsPhi self.old.insts phi }
+        requires value { IsValue self.old value }
+        requires block { IsBlock self.old block }
+        ensures ok { OnOk result (self.new ≡ with_code self.old (with_changed_inst (code_of self.old) phi (λ i. with_entry i (record { value = value; block = block })))) }
+        ensures err { OnErr result (self.new ≡ self.old) }
+        ensures data { OnOk result (data_of self.new ≡ lists.with_changed (data_of self.old) phi.0 (λ i. lists.with_entry i (operand_of (trees_of self.old) value) block.0)) }
+        ensures sound { IsModule self.new }
+    {
+        self.code.add_incoming(phi, PhiEntry { value, block })?;
+        Ok(())
     }
 
     /// How many types there are.
@@ -328,7 +357,8 @@ impl LLVMModule {
         ensures sound { IsModule self.new }
     {
         match self.result_type(inst) {
-            Some(ty) => Ok(ty),
+            Some(ResultType::There(ty)) => Ok(ty),
+            Some(ResultType::Bit) => self.type_get(LLVMTypeKind::Int(1)),
             None => self.type_get(LLVMTypeKind::Void),
         }
     }
@@ -376,17 +406,28 @@ impl LLVMModule {
     }
 
     /// The type of an instruction's result, where its operands fit and it is not void.
-    pub fn result_type(&self, inst: &LLVMInst) -> Option<LLVMType>
+    pub fn result_type(&self, inst: &LLVMInst) -> Option<ResultType>
         requires { HasValues self.now inst.now }
-        ensures within { IfSome result (λ t. t.0 < length self.now.types) }
+        ensures within { IfSome result (IsResultOver self.now.types) }
         ensures ty { result ≡ result_type self.now inst.now }
         ensures sound { IsModule self.now }
     {
         // This tells the proof of the invariant.
         let _ = &self.types;
         match inst {
-            LLVMInst::Add(lhs, rhs, _) => self.both_type(*lhs, *rhs),
+            LLVMInst::Add(lhs, rhs, _) => {
+                let ty = self.both_type(*lhs, *rhs)?;
+                Some(ResultType::There(ty))
+            }
+            LLVMInst::ICmp(lhs, rhs, _) => {
+                self.both_type(*lhs, *rhs)?;
+                Some(ResultType::Bit)
+            }
+            LLVMInst::Phi(ty, _) => Some(ResultType::There(*ty)),
+            LLVMInst::Br(_) => None,
+            LLVMInst::CondBr(..) => None,
             LLVMInst::Ret(_) => None,
+            LLVMInst::Unreachable => None,
         }
     }
 
@@ -404,6 +445,7 @@ fn const_type(kind: &LLVMConstKind) -> LLVMType
 {
     match kind {
         LLVMConstKind::Int(ty, _) => *ty,
+        LLVMConstKind::Placeholder(_, ty) => *ty,
     }
 }
 

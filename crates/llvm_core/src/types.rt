@@ -3,6 +3,15 @@
 use crate::items::Items;
 use crate::numbers::LLVMType;
 
+/// The type of an instruction's result.
+#[derive(Clone, Copy, PartialEq, Eq, Debug, Drop)]
+pub enum ResultType {
+    /// A type of the module.
+    There(LLVMType),
+    /// `i1`, which the module may not have yet.
+    Bit,
+}
+
 /// A type, whose parts are numbers of earlier types (Language Reference, Type System).
 #[derive(PartialEq, Eq, Hash, Drop)]
 pub enum LLVMTypeKind {

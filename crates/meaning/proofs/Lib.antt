@@ -2,6 +2,8 @@
 pub mod CodeLaws
 pub mod ExampleLaws
 pub mod Naming
+pub mod Prefix
+pub mod PredicateLaws
 pub mod SameValues
 pub mod Fronts
 pub mod Simulation

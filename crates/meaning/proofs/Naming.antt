@@ -2,7 +2,7 @@
 use Rattle.std.proofs.Common.{ℕ, ◌≡◌, ◌∙◌, List, [], ◌∷◌, map, map-id, option_map, refl, ap}
 use mathlib.Core.Path.{fun_ext}
 use Rattle.llvm_core.specs.Data.{TypeTree, VoidType, IntType, FunctionType, TypeTrees, NoTypes, ThenType}
-use Rattle.meaning.specs.Terms.{Match, Opcode, Immediate, Flag, Number, Family, Shows, Builds, family, made_by, silent, Term, Param, Answer, Unset, Int, ListOf, Expr, Insert, Terms, NoTerms, ThenTerm, Path, Places, PlaceOf, terms_of, rename, rename_all, rename_path, rename_immediate, rename_type, rename_types}
+use Rattle.meaning.specs.Terms.{Match, Opcode, Immediate, Flag, Number, Predicate, Family, Shows, Builds, family, made_by, silent, Term, Param, Answer, Unset, Int, ListOf, Expr, Insert, Terms, NoTerms, ThenTerm, Path, Places, PlaceOf, terms_of, rename, rename_all, rename_path, rename_immediate, rename_type, rename_types}
 use Rattle.meaning.specs.Machine.{Item, Entered, Event}
 use Rattle.meaning.specs.Code.{under}
 use Rattle.meaning.specs.Examples.{same_places}
@@ -39,6 +39,7 @@ mutual
 immediate_same : (i : Immediate) → rename_immediate same_places i ≡ i
 immediate_same (Flag b) = refl
 immediate_same (Number n) = refl
+immediate_same (Predicate p) = refl
 
 mutual
   term_same : (t : Term) → rename same_places t ≡ t

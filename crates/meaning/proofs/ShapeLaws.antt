@@ -3,7 +3,7 @@ use Rattle.std.proofs.Common.{◌≡◌, ◌∙◌, ℕ, zero, suc, Bool, List, 
 use Rattle.std.proofs.lemmas.List.{map-append}
 use mathlib.Core.Path.{fun_ext}
 use Rattle.llvm_core.specs.Data as L
-use Rattle.llvm_core.specs.Data.{ModuleData, Function, ConstTree, IntConst, Constant, Parameter, Result, Instruction, Add, Return, Placed}
+use Rattle.llvm_core.specs.Data.{ModuleData, Function, ConstTree, IntConst, PlaceholderConst, Constant, Parameter, Result, Instruction, Add, ICmp, Phi, Br, CondBr, Return, Unreachable, Placed}
 use Rattle.dialect_core.specs.Data.{Func}
 use Rattle.dialect_core.specs.declared.ops.Value.{Value}
 use Rattle.meaning.specs.Terms.{Term, Match, rename}
@@ -164,6 +164,7 @@ same_shape match d f g h choices =
 
 const_alike : (d d' : ModuleData) (c : ConstTree) → llvm.const_term d c ≡ llvm.const_term d' c
 const_alike d d' (IntConst ty n) = refl
+const_alike d d' (PlaceholderConst n ty) = refl
 
 operand_alike : (d d' : ModuleData) (o : L.Operand) → llvm.operand d o ≡ llvm.operand d' o
 operand_alike d d' (Constant c) = ap Fixed (const_alike d d' c)
@@ -172,12 +173,17 @@ operand_alike d d' (Result n) = refl
 
 row_of_alike : (d d' : ModuleData) (i : Instruction) → llvm.row_of d i ≡ llvm.row_of d' i
 row_of_alike d d' (Add lhs rhs flags) = refl
+row_of_alike d d' (ICmp lhs rhs predicate) = refl
+row_of_alike d d' (Phi entries) = refl
+row_of_alike d d' (Br target) = refl
+row_of_alike d d' (CondBr condition first second) = refl
 row_of_alike d d' (Return value) = refl
+row_of_alike d d' Unreachable = refl
 
 action_alike : (d d' : ModuleData) (f : Function) (p : Placed) → llvm.action d f p ≡ llvm.action d' f p
 action_alike d d' f p = let o : llvm.operand d ≡ llvm.operand d' = fun_ext (operand_alike d d') in cc (row_of_alike d d' p.instruction, o)
 
-row_alike : (d d' : ModuleData) (f : Function) (p : Placed) (x : Option (List (ℕ × L.Operand))) → llvm.row d f p x ≡ llvm.row d' f p x
+row_alike : (d d' : ModuleData) (f : Function) (p : Placed) (x : Option (List (L.Operand × ℕ))) → llvm.row d f p x ≡ llvm.row d' f p x
 row_alike d d' f p None = cc (action_alike d d' f p)
 row_alike d d' f p (Some es) = refl
 

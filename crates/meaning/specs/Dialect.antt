@@ -9,9 +9,13 @@ use Rattle.dialect_core.specs.declared.ops.Value.TheVariants.{Result, Argument}
 use Rattle.dialect_core.specs.declared.ops.Successor.{Successor}
 use Rattle.dialect_core.specs.declared.linkage.LinkageAttr.{LinkageAttr}
 use Rattle.dialect_core.specs.declared.linkage.LinkageAttr.TheVariants as K
-use Rattle.dialect_core.specs.Data.{DialectModule, Func, DialectBlock, DialectOp, Kind, ConstantOp, AddOp, ReturnOp, value_type}
+use Rattle.dialect_core.specs.declared.predicates.ICmpPredicateAttr.{ICmpPredicateAttr}
+use Rattle.dialect_core.specs.declared.predicates.ICmpPredicateAttr.TheVariants as P
+use Rattle.dialect_core.specs.Data.{DialectModule, Func, DialectBlock, DialectOp, Kind, ConstantOp, AddOp, ICmpOp, BrOp, CondBrOp, ReturnOp, UnreachableOp, value_type}
+use Rattle.llvm_core.specs.declared.code.LLVMIntPredicate.{LLVMIntPredicate}
+use Rattle.llvm_core.specs.declared.code.LLVMIntPredicate.TheVariants as I
 use Rattle.llvm_core.specs.Data as L
-use Rattle.meaning.specs.Terms.{Term, Param, Unset, Opcode, Add, Ret, Immediate, overflow_immediates}
+use Rattle.meaning.specs.Terms.{Term, Param, Unset, Opcode, Add, ICmp, Br, CondBr, Ret, Unreachable, Immediate, Predicate, overflow_immediates}
 use Rattle.meaning.specs.Machine.{Operand, At, Action, Holds, Applies, Row, Edge, Block, Item, trace}
 use Rattle.meaning.specs.Llvm.{int_of}
 use Rattle.meaning.specs.Code.{Code, Entry, Body, Symbol, FunctionSymbol, Linkage, External, AvailableExternally, LinkOnceAny, LinkOnceODR, WeakAny, WeakODR, Appending, Internal, Private, ExternalWeak, Common, Other}
@@ -45,6 +49,19 @@ option_type (Some t) = type_of t
 
 -- ---- rows and edges, a line for each kind
 
+-- the predicate of LLVM that one of the dialect stands for
+abbrev pub predicate_of : ICmpPredicateAttr → LLVMIntPredicate
+predicate_of P.EQ = I.LLVMIntEQ
+predicate_of P.NE = I.LLVMIntNE
+predicate_of P.UGT = I.LLVMIntUGT
+predicate_of P.UGE = I.LLVMIntUGE
+predicate_of P.ULT = I.LLVMIntULT
+predicate_of P.ULE = I.LLVMIntULE
+predicate_of P.SGT = I.LLVMIntSGT
+predicate_of P.SGE = I.LLVMIntSGE
+predicate_of P.SLT = I.LLVMIntSLT
+predicate_of P.SLE = I.LLVMIntSLE
+
 -- the opcode and the immediates, applied to the operands
 abbrev pub applies : Func → DialectOp → Opcode → List Immediate → Action Value
 applies f o opcode immediates = Applies opcode immediates (option_type o.result) (map (λ (v : Value). option_type (value_type f v)) o.operands) (map At o.operands)
@@ -53,7 +70,11 @@ applies f o opcode immediates = Applies opcode immediates (option_type o.result)
 abbrev pub action : Func → DialectOp → Kind → Action Value
 action f o (ConstantOp value) = Holds (attr_term value)
 action f o (AddOp flags) = applies f o Add (overflow_immediates flags.nsw flags.nuw)
+action f o (ICmpOp predicate) = applies f o ICmp (Predicate (predicate_of predicate) ∷ [])
+action f o BrOp = applies f o Br []
+action f o CondBrOp = applies f o CondBr []
 action f o ReturnOp = applies f o Ret []
+action f o UnreachableOp = applies f o Unreachable []
 
 abbrev pub row : Func → DialectOp → Row Value
 row f o = record { action = action f o o.kind; result = Result (record { 0 = o.number }) }

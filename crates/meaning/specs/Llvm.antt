@@ -3,8 +3,8 @@ use Rattle.std.specs.Prelude.{ℕ, Bool, false, not, ◌&&◌, if◌then◌else�
 use Rattle.std.specs.Option.{option_map_or}
 use Rattle.std.specs.List.{flat_map, filter_map, position_from, find, starts_with}
 use Rattle.llvm_core.specs.Data as L
-use Rattle.llvm_core.specs.Data.{TypeTree, VoidType, IntType, FunctionType, TypeTrees, NoTypes, ThenType, ConstTree, IntConst, Instruction, Add, Return, Constant, Parameter, Result, Placed, ModuleData, operand_type}
-use Rattle.meaning.specs.Terms.{Term, Param, Unset, Int, Opcode, Ret, Immediate, overflow_immediates}
+use Rattle.llvm_core.specs.Data.{TypeTree, VoidType, IntType, FunctionType, TypeTrees, NoTypes, ThenType, ConstTree, IntConst, PlaceholderConst, Instruction, Add, ICmp, Phi, Br, CondBr, Return, Unreachable, Constant, Parameter, Result, Placed, ModuleData, operand_type, targets, phi_entries}
+use Rattle.meaning.specs.Terms.{Term, Param, Unset, Int, Opcode, Ret, Immediate, Predicate, overflow_immediates}
 use Rattle.meaning.specs.Terms as Op
 use Rattle.meaning.specs.Machine.{Operand, At, Fixed, Action, Applies, Row, Edge, Block, Item, trace}
 use Rattle.meaning.specs.Code.{Code, Entry, Body, Symbol, FunctionSymbol, External}
@@ -16,6 +16,7 @@ int_of _ n = Unset
 -- the term of a constant of the module, a line for each kind
 abbrev pub const_term : ModuleData → ConstTree → Term
 const_term d (IntConst ty n) = int_of ty n
+const_term d (PlaceholderConst n ty) = Unset
 
 -- what sets a term in a run: a parameter of a function, or the result of an instruction
 pub data Key : Type 0 where
@@ -41,33 +42,28 @@ option_list (Some x) = x ∷ []
 -- opcode, immediates and operands; of a phi it is not asked
 abbrev pub row_of : ModuleData → Instruction → Opcode × List Immediate × List L.Operand
 row_of d (Add lhs rhs flags) = (Op.Add, overflow_immediates flags.nsw flags.nuw, lhs ∷ rhs ∷ [])
+row_of d (ICmp lhs rhs predicate) = (Op.ICmp, Predicate predicate ∷ [], lhs ∷ rhs ∷ [])
+row_of d (Phi entries) = (Op.Phi, [], map (λ (e : L.Operand × ℕ). e.0) entries)
+row_of d (Br target) = (Op.Br, [], [])
+row_of d (CondBr condition first second) = (Op.CondBr, [], condition ∷ [])
 row_of d (Return value) = (Ret, [], option_list value)
-
--- the blocks that an instruction leads to, by number
-abbrev pub targets : Instruction → List ℕ
-targets (Add lhs rhs flags) = []
-targets (Return value) = []
-
--- the entries of a phi, block and operand; none for what is no phi
-abbrev pub phi_entries : Instruction → Option (List (ℕ × L.Operand))
-phi_entries (Add lhs rhs flags) = None
-phi_entries (Return value) = None
+row_of d Unreachable = (Op.Unreachable, [], [])
 
 abbrev pub action : ModuleData → L.Function → Placed → Action Key
 action d f p =
     Applies (row_of d p.instruction).0 (row_of d p.instruction).1 p.type (map (operand_type f) (row_of d p.instruction).2) (map (operand d) (row_of d p.instruction).2)
 
 -- a phi is no row
-abbrev pub row : ModuleData → L.Function → Placed → Option (List (ℕ × L.Operand)) → Option (Row Key)
+abbrev pub row : ModuleData → L.Function → Placed → Option (List (L.Operand × ℕ)) → Option (Row Key)
 row d f p None = Some (record { action = action d f p; result = ResultKey p.number })
 row d f p (Some entries) = None
 
 -- a phi takes the operand of its first entry for the block that the edge comes from
-abbrev pub entry_for : ModuleData → ℕ → List (ℕ × L.Operand) → Option (Operand Key)
-entry_for d from entries = option_map (λ (e : ℕ × L.Operand). operand d e.1) (find (λ (e : ℕ × L.Operand). nat_eq e.0 from) entries)
+abbrev pub entry_for : ModuleData → ℕ → List (L.Operand × ℕ) → Option (Operand Key)
+entry_for d from entries = option_map (λ (e : L.Operand × ℕ). operand d e.0) (find (λ (e : L.Operand × ℕ). nat_eq e.1 from) entries)
 
 abbrev pub phi_move : ModuleData → ℕ → Placed → Option (Key × Option (Operand Key))
-phi_move d from p = option_map (λ (es : List (ℕ × L.Operand)). (ResultKey p.number, entry_for d from es)) (phi_entries p.instruction)
+phi_move d from p = option_map (λ (es : List (L.Operand × ℕ)). (ResultKey p.number, entry_for d from es)) (phi_entries p.instruction)
 
 -- the place of a block in a body, which is past the end where the body has no such block
 abbrev pub place_of : List L.Block → ℕ → ℕ

@@ -1,17 +1,24 @@
 -- Terms: what the operands of a run stand for, and what each silent kind makes of its operands.
 -- Types are the trees of module data, for both sides.
 use Rattle.std.specs.Prelude.{ℕ, zero, suc, Bool, true, false, List, [], ◌∷◌, Option, Some, None, map}
+use Rattle.llvm_core.specs.declared.code.LLVMIntPredicate.{LLVMIntPredicate}
 use Rattle.llvm_core.specs.Data.{TypeTree, VoidType, IntType, FunctionType, TypeTrees, NoTypes, ThenType}
 
 -- what an instruction is: a word for each row of the instruction table
 pub data Opcode : Type 0 where
   Add : Opcode
+  ICmp : Opcode
+  Phi : Opcode
+  Br : Opcode
+  CondBr : Opcode
   Ret : Opcode
+  Unreachable : Opcode
 
 -- what an instruction holds besides its operands, a line for each sort of it
 pub data Immediate : Type 0 where
   Flag : Bool → Immediate
   Number : ℕ → Immediate
+  Predicate : LLVMIntPredicate → Immediate
 
 -- the flags of an operation that may overflow, the signed one first
 abbrev pub overflow_immediates : (nsw nuw : Bool) → List Immediate
@@ -96,7 +103,12 @@ pub data Family : Type 0 where
 -- a line for each kind
 abbrev pub family : Opcode → Family
 family Add = Builds
+family ICmp = Shows
+family Phi = Shows
+family Br = Shows
+family CondBr = Shows
 family Ret = Shows
+family Unreachable = Shows
 
 abbrev pub made_by : Family → Opcode → List Immediate → TypeTree → List Term → Option Term
 made_by Shows o i ty ts = None
@@ -126,6 +138,7 @@ abbrev mutual
 abbrev pub rename_immediate : Match → Immediate → Immediate
 rename_immediate match (Flag b) = Flag b
 rename_immediate match (Number n) = Number n
+rename_immediate match (Predicate p) = Predicate p
 
 abbrev mutual
   pub rename : Match → Term → Term

@@ -1,14 +1,15 @@
 //! The definitions computed on small modules, each equation checked by computing both sides.
 
-ghost use Rattle.std.specs.Prelude.{◌≡◌, ◌∷◌, [], true, false, codes};
+ghost use Rattle.std.specs.Prelude.{◌≡◌, ◌∷◌, [], true, false, codes, map};
 ghost use Rattle.llvm_core.specs.Data.{VoidType, IntType, FunctionType, NoTypes};
 ghost use Rattle.meaning.specs.Terms.{Ret, Flag, Param, Int, Unset, Insert, Places, put};
-ghost use Rattle.meaning.specs.Machine.{Entered, Event};
+ghost use Rattle.meaning.specs.Machine.{Entered, Event, reads_unset};
 ghost use Rattle.meaning.specs.Code.{SameCode, entry_of, FunctionSymbol, External};
 ghost use Rattle.meaning.specs.Llvm as llvm;
 ghost use Rattle.meaning.specs.Dialect as dialect;
+ghost use Rattle.dialect_core.specs.declared.ops.Value.{Value};
 ghost use Rattle.meaning.specs.Shape.{SameShape};
-ghost use Rattle.meaning.specs.Examples.{answer, answer_dialect, echo, echo_module, same_places, pair_of, sums, sums_module, sums_func, sums_dialect, sum_of};
+ghost use Rattle.meaning.specs.Examples.{answer, answer_dialect, echo, echo_module, same_places, pair_of, sums, sums_module, sums_func, sums_dialect, sum_of, swap_module, swap_dialect, branched, tested, gave, lacking_module, lacking_dialect, lacking, lacking_func};
 
 /// `define i32 @f() { ret i32 7 }`, its symbol, its trace on both sides, and that the two have the same code.
 pub fn answer_means()
@@ -34,4 +35,22 @@ pub fn sums_mean()
     ensures trace { llvm.traces_of sums_module [] ≡ (Entered 0 ∷ Event Ret [] VoidType (IntType 32 ∷ []) (sum_of (Flag false ∷ Flag false ∷ []) (sum_of (Flag true ∷ Flag false ∷ []) (Param 0) (Param 1)) (Int 32 5) ∷ []) ∷ []) ∷ [] }
     ensures dialect_trace { dialect.traces_of sums_dialect [] ≡ llvm.traces_of sums_module [] }
     ensures shape { SameShape same_places sums_module sums sums_func }
+{}
+
+/// A loop whose two phis take each other's value, as `swap` and `swap_dialect` of the example modules: all are read
+/// before any is set, so two rounds give back what was. A block entered stands behind the event that led there.
+pub fn swap_means()
+    ensures twice { llvm.traces_of swap_module (0 ∷ 0 ∷ 0 ∷ 1 ∷ []) ≡ (Entered 0 ∷ branched ∷ Entered 1 ∷ tested (Param 2) ∷ Entered 1 ∷ tested (Param 2) ∷ Entered 1 ∷ tested (Param 2) ∷ Entered 2 ∷ gave 32 (Param 0) ∷ []) ∷ [] }
+    ensures dialect_twice { dialect.traces_of swap_dialect (0 ∷ 0 ∷ 0 ∷ 1 ∷ []) ≡ llvm.traces_of swap_module (0 ∷ 0 ∷ 0 ∷ 1 ∷ []) }
+    ensures once { llvm.traces_of swap_module (0 ∷ 0 ∷ 1 ∷ []) ≡ (Entered 0 ∷ branched ∷ Entered 1 ∷ tested (Param 2) ∷ Entered 1 ∷ tested (Param 2) ∷ Entered 2 ∷ gave 32 (Param 1) ∷ []) ∷ [] }
+    ensures dialect_once { dialect.traces_of swap_dialect (0 ∷ 0 ∷ 1 ∷ []) ≡ llvm.traces_of swap_module (0 ∷ 0 ∷ 1 ∷ []) }
+    ensures no_such_edge { llvm.traces_of swap_module (0 ∷ 2 ∷ 0 ∷ []) ≡ llvm.traces_of swap_module (0 ∷ []) }
+{}
+
+/// What an edge lacks is unset: a phi without an entry for it, an argument that it passes nothing to.
+pub fn lacking_means()
+    ensures trace { llvm.traces_of lacking_module (0 ∷ []) ≡ (Entered 0 ∷ branched ∷ Entered 1 ∷ gave 8 Unset ∷ []) ∷ [] }
+    ensures dialect_trace { dialect.traces_of lacking_dialect (0 ∷ []) ≡ llvm.traces_of lacking_module (0 ∷ []) }
+    ensures unset { reads_unset llvm.Key llvm.same_key (llvm.start lacking) (map (llvm.block lacking_module lacking) lacking.blocks) (0 ∷ []) ≡ true }
+    ensures dialect_unset { reads_unset Value dialect.same_value (dialect.start lacking_func.blocks) (map (dialect.block lacking_func) lacking_func.blocks) (0 ∷ []) ≡ true }
 {}

@@ -1,16 +1,22 @@
 //! Laws of the definitions, each on a function that makes no call.
 
 ghost use Rattle.std.specs.Prelude.{◌≡◌, ◌++◌, ℕ, List, map};
-ghost use Rattle.meaning.specs.Terms.{Match};
+ghost use Rattle.meaning.specs.Terms.{Match, Term};
 ghost use Rattle.meaning.specs.Pairs.{Matched};
 ghost use Rattle.llvm_core.specs.Data.{ModuleData, Function};
 ghost use Rattle.dialect_core.specs.Data.{Func};
-ghost use Rattle.meaning.specs.Machine.{Item};
+ghost use Rattle.meaning.specs.Machine.{Item, Block, trace};
 ghost use Rattle.meaning.specs.Code.{Code, SameNamed, SameCode, IsDistinctNames, names_of, under};
 ghost use Rattle.meaning.specs.Shape.{SameShape};
 ghost use Rattle.meaning.specs.Examples.{same_places};
 ghost use Rattle.meaning.specs.Llvm as llvm;
+ghost use Rattle.meaning.specs.Llvm.{Key, same_key};
 ghost use Rattle.meaning.specs.Dialect as dialect;
+ghost use Rattle.meaning.specs.Dialect.{same_value};
+ghost use Rattle.meaning.specs.Dialect.{predicate_of};
+ghost use Rattle.dialect_core.specs.declared.ops.Value.{Value};
+ghost use Rattle.dialect_core.specs.declared.predicates.ICmpPredicateAttr.{ICmpPredicateAttr};
+ghost use Rattle.llvm_core.specs.declared.code.LLVMIntPredicate.{LLVMIntPredicate};
 
 /// Modules whose entries match one by one, under one name each and no name twice, have the same code.
 pub fn same_code_law()
@@ -26,4 +32,17 @@ pub fn same_shape_law()
 /// A match that leaves all where it is changes nothing.
 pub fn same_places_law()
     ensures { (n : List ℕ) → (items : List Item) → map (under same_places n) items ≡ items }
+{}
+
+/// On both sides the trace of the first choices is the first part of the trace of all.
+pub fn prefix_law()
+    ensures llvm { (start : Key → Term) → (code : List (Block Key)) → (cs ds : List ℕ) → (more : List Item) × (trace Key same_key start code (cs ++ ds) ≡ trace Key same_key start code cs ++ more) }
+    ensures dialect { (start : Value → Term) → (code : List (Block Value)) → (cs ds : List ℕ) → (more : List Item) × (trace Value same_value start code (cs ++ ds) ≡ trace Value same_value start code cs ++ more) }
+{}
+
+/// Each predicate of LLVM is that of one of the dialect, and of no other. So who turns one into the other and back, by
+/// this pairing, has what was given.
+pub fn predicates_law()
+    ensures one_to_one { (p q : ICmpPredicateAttr) → predicate_of p ≡ predicate_of q → p ≡ q }
+    ensures onto { (q : LLVMIntPredicate) → (p : ICmpPredicateAttr) × (predicate_of p ≡ q) }
 {}

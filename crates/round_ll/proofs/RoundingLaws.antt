@@ -1,106 +1,80 @@
--- From what the import and the export made to what `round` promises.
-use Rattle.std.proofs.Common.{ℕ, ◌≡◌, ◌≢◌, ◌<◌, sym, ◌∙◌, ap, subst, List, [], map, Some, slice_get, length}
+-- From what the halves made to what `round` promises.
+use Rattle.std.proofs.Common.{ℕ, zero, suc, ◌≡◌, ◌≢◌, ◌<◌, sym, ◌∙◌, ap, subst, List, [], ◌∷◌, map, Some, slice_get, length, refl, All}
+use Rattle.std.proofs.lemmas.List.Elements.{All-nil, All-cons}
 use Rattle.llvm_core.specs.Module.{Module}
 use Rattle.llvm_core.specs.Sound.{IsModule}
 use Rattle.llvm_core.specs.Names.{IsPlainOrNone}
 use Rattle.llvm_core.specs.Checked.{IsChecked}
 use Rattle.llvm_core.specs.Form.{IsForm, HasDistinctNames, HasFew}
 use Rattle.llvm_core.specs.Data as L
-use Rattle.llvm_core.specs.Data.{ModuleData, AreApart, data_of}
+use Rattle.llvm_core.specs.Data.{ModuleData, data_of}
 use Rattle.llvm_core.proofs.DistinctLaws.{distinct_of_checked, few_of_checked}
-use Rattle.llvm_core.proofs.FormLaws.{checked_of_form}
-use Rattle.llvm_core.proofs.HomeLaws.{stay_home}
 use Rattle.dialect_types.specs.Names.{legal_name}
 use Rattle.dialect_core.specs.Data as D
-use Rattle.meaning.specs.Pairs.{Matched}
-use Rattle.ll_text.specs.Spelling.{Spells, IsNumbered}
+use Rattle.dialect_core.specs.Data.{IsTyped}
+use Rattle.ll_text.specs.Spelling.{Spells, IsNumbered, IsReadable}
+use Rattle.ll_text.proofs.MeaningLaws.{plain_bare}
 use Rattle.ll_print.specs.Printing.{IsBareOrNone}
-use Rattle.from_llvm_ir.specs.declared.importing.Imported.{Imported}
-use Rattle.from_llvm_ir.specs.Match.{match_of}
-use Rattle.from_llvm_ir.specs.Imported.{IsImported, imported_data}
-use Rattle.to_llvm_ir.specs.Exported.{IsExported}
-use Rattle.to_llvm_ir.specs.Held.{IsReadable}
-use Rattle.round_ll.specs.declared.transferred.Transferred.{Transferred}
-use Rattle.round_ll.specs.Headline.{SameThroughout, IsOutput, Rounds}
-use Rattle.round_ll.specs.Rounding.{IsPrintable}
-use Rattle.round_ll.proofs.SameFunctions.{Keeps, same_dialect, same_back, function_names}
-use Rattle.round_ll.proofs.BackLaws.{bare_legal, legal_named, names_imported, names_exported, forms_imported, forms_exported, distinct_back, few_in_back, all_named}
-use Rattle.round_ll.proofs.MatchLaws.{keeps_places}
+use Rattle.from_llvm_ir.specs.declared.matching.FunctionBlocks.{FunctionBlocks}
+use Rattle.from_llvm_ir.specs.Imported.{ImportedFunction, AreImported, NoneImported, ThenImported}
+use Rattle.transfer.specs.declared.transferred.Transferred.{Transferred}
+use Rattle.transfer.specs.Same.{SameThroughout, IsCause, back_of, dialect_of}
+use Rattle.transfer.specs.declared.transfer_err.TransferErr.{TransferErr}
+use Rattle.transfer.specs.declared.transfer_err.TransferErr.TheVariants as T
+use Rattle.round_ll.specs.Headline.{IsOutput, Rounds}
+use Rattle.round_ll.specs.Report.{AllNamed}
+use Rattle.round_ll.specs.Rounding.{IsPrintable, TextCause}
+use Rattle.round_ll.specs.Stopping.{stop_of_transfer}
 use Rattle.round_ll.proofs.ReportLaws.{number_within}
 
--- what the export needs of what the import made
-pub readable : (d : ModuleData) (i : Imported) → IsImported d i → IsReadable i.ctx i.module.0.0
-readable d i h = record {
-  there = h.building.there;
-  kind = h.building.held.kind;
-  body = h.body;
-  region = h.building.held.region;
-  typed = h.building.typed;
-  functions = forms_imported d d.functions (imported_data i).functions h.functions;
-}
+-- ---- names
 
-abbrev pub transferred_of : Imported → Module → Transferred
-transferred_of i back = record { ctx = i.ctx; dialect = i.module; back = back; blocks = i.blocks }
+bare_legal : (n : List ℕ) → IsPlainOrNone n → IsBareOrNone (legal_name n)
+bare_legal [] h = refl
+bare_legal (b ∷ bs) h = plain_bare (b ∷ bs) h
 
-module _ (m back : Module) (i : Imported) (form : IsForm (data_of m)) (sound : IsModule m) (checked : IsChecked m)
-    (imported : IsImported (data_of m) i) (exported : IsExported (imported_data i) back) where
-  distinct : HasDistinctNames (data_of m)
-  distinct = distinct_of_checked m checked
+legal_named : (n : List ℕ) → legal_name n ≢ []
+legal_named [] h = absurd cc
+legal_named (b ∷ bs) h = absurd cc
 
-  few : HasFew (data_of m)
-  few = few_of_checked m checked sound
+-- ---- the match names functions
 
-  keeps : Keeps (match_of (data_of m) i.blocks)
-  keeps = keeps_places (data_of m) i.blocks imported.first
+all_named : (m : ℕ) (d : ModuleData) (fs : List L.Function) (xs : List FunctionBlocks) (gs : List D.Func) → ((i : ℕ) (f : L.Function) → slice_get fs i ≡ Some f → f.number < m) → AreImported d fs xs gs → AllNamed m xs
+all_named m d [] [] [] small NoneImported = All-nil (λ (b : FunctionBlocks). b.function.0 < m)
+all_named m d (f ∷ fs) (x ∷ xs) (g ∷ gs) small (ThenImported _ _ _ _ _ _ one more) =
+    All-cons (λ (c : FunctionBlocks). c.function.0 < m) x xs (subst (λ (n : ℕ). n < m) (sym one.function) (small 0 f refl)) (all_named m d fs xs gs (λ i y at. small (suc i) y at) more)
+all_named m d [] [] (g ∷ gs) small h = elim h [ ]
+all_named m d [] (x ∷ xs) gs small h = elim h [ ]
+all_named m d (f ∷ fs) [] gs small h = elim h [ ]
+all_named m d (f ∷ fs) (x ∷ xs) [] small h = elim h [ ]
 
-  form_back : IsForm (data_of back)
-  form_back = forms_exported (data_of back) (imported_data i).functions (data_of back).functions exported.functions
-
-  distinct_there : HasDistinctNames (data_of back)
-  distinct_there = distinct_back (data_of m) (data_of back) (imported_data i).functions distinct imported.functions exported.functions
-
-  few_there : HasFew (data_of back)
-  few_there = few_in_back (data_of m) (data_of back) (imported_data i).functions form few imported.functions exported.functions
-
-  pub same_throughout : SameThroughout (data_of m) (transferred_of i back)
-  same_throughout = record {
-    covers = imported.covers;
-    dialect = same_dialect (match_of (data_of m) i.blocks) keeps (data_of m) (imported_data i) form distinct.functions imported.functions;
-    back = same_back (match_of (data_of m) i.blocks) keeps (data_of m) (data_of back) (imported_data i) form form_back distinct.functions imported.functions exported.functions;
-    name = imported.name;
-    back_name = exported.name;
-    functions = names_imported (data_of m) (data_of m).functions (imported_data i).functions imported.functions;
-    back_functions =
-        names_exported (data_of back) (imported_data i).functions (data_of back).functions exported.functions
-        ∙ names_imported (data_of m) (data_of m).functions (imported_data i).functions imported.functions;
-    imported = imported.functions;
-    exported = exported.functions;
-  }
-
-  pub back_checked : IsModule back → AreApart back → IsChecked back
-  back_checked sound_back apart = checked_of_form back sound_back apart form_back distinct_there few_there (stay_home back sound_back)
-
-  back_name : (data_of back).name ≡ legal_name m.name
-  back_name = exported.name ∙ imported.name
-
-  pub printable : IsPlainOrNone m.name → IsPrintable m (transferred_of i back)
-  printable plain = record {
-    there = imported.building.there;
-    typed = imported.building.typed;
-    form = form_back;
-    name = subst IsBareOrNone (sym back_name) (bare_legal m.name plain);
-    named = subst (λ (n : List ℕ). n ≢ []) (sym back_name) (legal_named m.name);
-    names = distinct_there;
-    few = few_there;
-    matched = all_named (length m.functions) (data_of m).functions i.blocks (number_within m) imported.covers;
-  }
+pub printable : (m : Module) (t : Transferred) → IsPlainOrNone m.name → SameThroughout (data_of m) t → IsChecked t.back → IsModule t.back → IsForm (data_of t.back) → t.dialect.0.0 < length t.ctx.ops → IsTyped t.ctx → IsPrintable m t
+printable m t plain same checked sound form there typed =
+    let name : (back_of t).name ≡ legal_name m.name = same.back_name ∙ same.name in
+    record {
+      there = there;
+      typed = typed;
+      form = form;
+      name = subst IsBareOrNone (sym name) (bare_legal m.name plain);
+      named = subst (λ (n : List ℕ). n ≢ []) (sym name) (legal_named m.name);
+      names = distinct_of_checked t.back checked;
+      few = few_of_checked t.back checked sound;
+      matched = all_named (length m.functions) (data_of m) (data_of m).functions t.blocks (dialect_of t).functions (number_within m) same.imported;
+    }
 
 -- ---- all that is promised
 
-pub rounds_of : (input : List ℕ) (m : Module) (t boxed : Transferred) (text held : List ℕ) → boxed ≡ t → held ≡ text → IsModule m → IsChecked m → IsNumbered (data_of m) → IsForm (data_of m) → IsPlainOrNone m.name
+pub rounds_of : (input : List ℕ) (m : Module) (t boxed : Transferred) (text : List ℕ) → boxed ≡ t → IsModule m → IsChecked m → IsNumbered (data_of m) → IsForm (data_of m) → IsPlainOrNone m.name
     → Spells input (data_of m)
-    → SameThroughout (data_of m) t → IsChecked t.back → IsOutput (data_of m) t text → Rounds input boxed held
-rounds_of input m t boxed text held is same_text sound checked numbered form name spelled same back output =
-    subst (λ (u : Transferred). Rounds input u held) (sym is)
-    (subst (λ (v : List ℕ). Rounds input t v) (sym same_text)
-    (record { source = m; sound = sound; checked = checked; numbered = numbered; form = form; name = name; spelled = spelled; same = same; back_checked = back; output = output }))
+    → SameThroughout (data_of m) t → IsChecked t.back → IsOutput (data_of m) t text → Rounds input boxed text
+rounds_of input m t boxed text is sound checked numbered form name spelled same back output =
+    subst (λ (u : Transferred). Rounds input u text) (sym is)
+    (record { source = m; sound = sound; checked = checked; numbered = numbered; form = form; name = name; spelled = spelled; same = same; back_checked = back; output = output })
+
+-- ---- refusals
+
+-- why a text is refused that spells a module with a cause
+pub refused_of : (input : List ℕ) (m : Module) (e : TransferErr) → IsReadable m → IsNumbered (data_of m) → Spells input (data_of m) → IsCause (data_of m) e → TextCause input (stop_of_transfer e)
+refused_of input m (T.Import x) readable numbered spelled cause = record { source = m; readable = readable; numbered = numbered; spelled = spelled; refusal = tt; cause = cause }
+refused_of input m (T.Export x) readable numbered spelled cause = absurd cause
+refused_of input m T.NoMemory readable numbered spelled cause = tt

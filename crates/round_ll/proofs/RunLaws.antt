@@ -1,15 +1,22 @@
 -- How the answer of the program follows from what its two halves did, and what it means for bytes that spell a module.
-use Rattle.std.proofs.Common.{List, ℕ, ◌≡◌, ◌≤◌, ◌^◌, length, Option, Some, None, sym, ap, subst, arith}
+use Rattle.std.proofs.Common.{List, ℕ, ◌≡◌, ◌≤◌, ◌^◌, length, [], Option, Some, None, sym, ◌∙◌, ap, subst, arith}
 use Rattle.ll_text.specs.declared.read_err.ReadErr.TheVariants as read
-use Rattle.ll_text.specs.Spelling.{IsSpelled}
+use Rattle.ll_text.specs.Spelling.{IsSpelled, IsNumbered, Spelled, Spells}
+use Rattle.ll_text.proofs.ReadLaws.{one_of_tokens}
+use Rattle.llvm_core.specs.Data.{ModuleData, data_of}
+use Rattle.from_llvm_ir.specs.declared.conversion_err.ConversionErr.TheVariants as C
+use Rattle.transfer.specs.Same as Same
+use Rattle.round_ll.specs.Rounding.{IsRefusal}
+use Rattle.transfer.specs.declared.transfer_err.TransferErr.{TransferErr}
+use Rattle.transfer.specs.declared.transfer_err.TransferErr.TheVariants as T
 use Rattle.round_ll.specs.Outside.AllBytes.{GaveAll, GaveTooMany}
 use Rattle.round_ll.specs.declared.command.Command.{Command}
 use Rattle.round_ll.specs.declared.command.Command.TheVariants.{Round}
 use Rattle.round_ll.specs.declared.ended.Ended.{Ended}
 use Rattle.round_ll.specs.declared.ended.Ended.TheVariants.{Done, Refused, NoMemory}
-use Rattle.round_ll.specs.declared.ended.Fault.TheVariants.{Usage, ReadFault, WriteFault, TooLong, Text}
-use Rattle.round_ll.specs.declared.transferred.Transferred.{Transferred}
-use Rattle.round_ll.specs.Running.{Told, Made, Wrote, Finished, RoundEnded, RunEnded, UnlessWriting, TakesSpelled}
+use Rattle.round_ll.specs.declared.ended.Fault.TheVariants.{Usage, ReadFault, WriteFault, TooLong, Text, Transfer}
+use Rattle.transfer.specs.declared.transferred.Transferred.{Transferred}
+use Rattle.round_ll.specs.Running.{Told, Made, Wrote, Finished, RoundEnded, RunEnded, UnlessWriting, HasNoForwardUse, TakesSpelled}
 
 -- ---- from the halves to the answer
 
@@ -21,6 +28,7 @@ ended_of s s' o o' t text (Refused Usage) made wrote = elim wrote [ ]
 ended_of s s' o o' t text (Refused ReadFault) made wrote = elim wrote [ ]
 ended_of s s' o o' t text (Refused TooLong) made wrote = elim wrote [ ]
 ended_of s s' o o' t text (Refused (Text e)) made wrote = elim wrote [ ]
+ended_of s s' o o' t text (Refused (Transfer e)) made wrote = elim wrote [ ]
 ended_of s s' o o' t text NoMemory made wrote = elim wrote [ ]
 
 -- a half that writes answers nothing beside which nothing is written
@@ -31,6 +39,7 @@ silent_of P o o' t text (Refused Usage) wrote = elim wrote [ ]
 silent_of P o o' t text (Refused ReadFault) wrote = elim wrote [ ]
 silent_of P o o' t text (Refused TooLong) wrote = elim wrote [ ]
 silent_of P o o' t text (Refused (Text e)) wrote = elim wrote [ ]
+silent_of P o o' t text (Refused (Transfer e)) wrote = elim wrote [ ]
 silent_of P o o' t text NoMemory wrote = elim wrote [ ]
 
 -- ---- bytes that spell a module are taken
@@ -45,14 +54,32 @@ not_too_many : (most : ℕ) (o o' : Option (List ℕ)) (input : List ℕ) → o 
 not_too_many most None o' input told short many = absurd (cc)
 not_too_many most (Some xs) o' input told short many = let same : xs ≡ input = cc in omega (arith, many.0, ap length same)
 
+-- a translation has no cause to refuse where no value is used before its definition
+no_cause : (d : ModuleData) (e : TransferErr) → HasNoForwardUse d → IsRefusal e → ¬ Same.IsCause d e
+no_cause d (T.Import (C.ForwardUse name v)) none refusal h = none name v h
+no_cause d (T.Import C.NoMemory) none refusal h = h
+no_cause d (T.Export e) none refusal h = h
+no_cause d T.NoMemory none refusal h = refusal
+
+-- what bytes spell is one module, once its parts are numbered
+one_spelled : (bytes : List ℕ) (d e : ModuleData) → Spells bytes d → Spells bytes e → IsNumbered d → IsNumbered e → d ≡ e
+one_spelled bytes d e h k n o =
+    let same : h.0 ≡ k.0 = let e = sym h.1 ∙ k.1 in cc in
+    one_of_tokens k.0 d e (subst (Spelled d []) same h.2) k.2 n o
+
 pub takes_spelled : (command : Option Command) (s s' o o' : Told) (ended : Ended) → RunEnded command s s' o o' ended → TakesSpelled command s s' o o' ended
 takes_spelled None s s' o o' ended h = tt
-takes_spelled (Some Round) s s' o o' (Done t) h = λ input told short spelled reads writes. tt
-takes_spelled (Some Round) s s' o o' NoMemory h = λ input told short spelled reads writes. tt
+takes_spelled (Some Round) s s' o o' (Done t) h = λ input m told short readable numbered spelled none reads writes. tt
+takes_spelled (Some Round) s s' o o' NoMemory h = λ input m told short readable numbered spelled none reads writes. tt
 takes_spelled (Some Round) s s' o o' (Refused Usage) h = elim h [ ]
-takes_spelled (Some Round) s s' o o' (Refused ReadFault) h = λ input told short spelled reads writes. reads h
-takes_spelled (Some Round) s s' o o' (Refused WriteFault) h = λ input told short spelled reads writes. writes h.fault
-takes_spelled (Some Round) s s' o o' (Refused TooLong) h = λ input told short spelled reads writes. not_too_many (2 ^ 24) s.bytes s'.bytes input told short h
+takes_spelled (Some Round) s s' o o' (Refused ReadFault) h = λ input m told short readable numbered spelled none reads writes. reads h
+takes_spelled (Some Round) s s' o o' (Refused WriteFault) h = λ input m told short readable numbered spelled none reads writes. writes h.fault
+takes_spelled (Some Round) s s' o o' (Refused TooLong) h = λ input m told short readable numbered spelled none reads writes. not_too_many (2 ^ 24) s.bytes s'.bytes input told short h
 takes_spelled (Some Round) s s' o o' (Refused (Text read.NotYet)) h =
-    λ input told short spelled reads writes. h.unspelled (subst IsSpelled (sym (gave s.bytes s'.bytes input h.input told h.read.all)) spelled)
+    λ input m told short readable numbered spelled none reads writes. h.unspelled (subst IsSpelled (sym (gave s.bytes s'.bytes input h.input told h.read.all)) (m, readable, spelled))
 takes_spelled (Some Round) s s' o o' (Refused (Text read.NoMemory)) h = elim h [ ]
+takes_spelled (Some Round) s s' o o' (Refused (Transfer e)) h = λ input m told short readable numbered spelled none reads writes.
+    let same = gave s.bytes s'.bytes input h.input told h.read.all in
+    let r = h.refused in
+    let one = one_spelled input (data_of m) (data_of r.source) spelled (subst (λ (bs : List ℕ). Spells bs (data_of r.source)) same r.spelled) numbered r.numbered in
+    no_cause (data_of r.source) e (subst HasNoForwardUse one none) r.refusal r.cause

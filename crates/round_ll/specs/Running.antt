@@ -8,13 +8,19 @@ use Rattle.round_ll.specs.declared.command.Command.TheVariants.{Round}
 use Rattle.round_ll.specs.declared.ended.Ended.{Ended}
 use Rattle.round_ll.specs.declared.ended.Ended.TheVariants.{Done, Refused, NoMemory}
 use Rattle.round_ll.specs.declared.ended.Fault.{Fault}
-use Rattle.round_ll.specs.declared.ended.Fault.TheVariants.{Usage, ReadFault, WriteFault, TooLong, Text}
+use Rattle.round_ll.specs.declared.ended.Fault.TheVariants.{Usage, ReadFault, WriteFault, TooLong, Text, Transfer}
 use Rattle.ll_text.specs.declared.read_err.ReadErr.TheVariants as read
 use Rattle.round_ll.specs.declared.stopped.Stopped.{Stopped}
 use Rattle.round_ll.specs.declared.stopped.Stopped.TheVariants as stop
-use Rattle.round_ll.specs.declared.transferred.Transferred.{Transferred}
-use Rattle.ll_text.specs.Spelling.{IsSpelled}
+use Rattle.llvm_core.specs.Module.{Module}
+use Rattle.llvm_core.specs.Data.{ModuleData, data_of}
+use Rattle.llvm_core.specs.declared.code.LLVMValue.{LLVMValue}
+use Rattle.from_llvm_ir.specs.Imported.{HasForwardUse}
+use Rattle.transfer.specs.declared.transferred.Transferred.{Transferred}
+use Rattle.transfer.specs.declared.transfer_err.TransferErr.{TransferErr}
+use Rattle.ll_text.specs.Spelling.{IsSpelled, IsReadable, IsNumbered, Spells}
 use Rattle.round_ll.specs.Headline.{Rounds}
+use Rattle.round_ll.specs.Rounding.{IsRefused}
 
 -- an object of the outside before and after: the bytes left or taken where they are told, and the faults
 pub record Told : Type 0 where
@@ -37,6 +43,12 @@ pub record WasUnspelled (before after : Told) : Type 0 where
   pub input : List ℕ
   pub read : WasRead before after input
   pub unspelled : ¬ IsSpelled input
+
+-- the source was read to its end, and its bytes spell a checked module of the form that has that cause to be refused
+pub record WasRefused (before after : Told) (e : TransferErr) : Type 0 where
+  pub input : List ℕ
+  pub read : WasRead before after input
+  pub refused : IsRefused input e
 
 -- the modules were made, and the whole text was written
 pub record Finished (source source' out out' : Told) (t : Transferred) : Type 0 where
@@ -63,6 +75,7 @@ abbrev pub StopCause : Told → Told → Stopped → Type 0
 StopCause before after (stop.Refused ReadFault) = Rose before.faults after.faults
 StopCause before after (stop.Refused TooLong) = GaveTooMany (2 ^ 24) before.bytes after.bytes
 StopCause before after (stop.Refused (Text read.NotYet)) = WasUnspelled before after
+StopCause before after (stop.Refused (Transfer e)) = WasRefused before after e
 StopCause before after (stop.Refused _) = ⊥
 StopCause before after stop.NoMemory = Unit {0}
 
@@ -92,13 +105,18 @@ IsDoneOrNoMemory (Done t) = Unit {0}
 IsDoneOrNoMemory NoMemory = Unit {0}
 IsDoneOrNoMemory (Refused f) = ⊥
 
--- Bytes that spell a checked module of the form are taken: where the source held them, at most 2^24, and neither
--- count of faults rose or stands at its last value, all was done, or memory was wanting. This follows from the causes
--- above, since each of them rules one of these premises out.
+-- no value of the module is used before its definition, in the order of the text
+abbrev pub HasNoForwardUse : ModuleData → Type 0
+HasNoForwardUse d = (name : List ℕ) (v : LLVMValue) → ¬ HasForwardUse d name v
+
+-- Bytes that spell a checked module of the form without a use before its definition are taken: where the source held
+-- them, at most 2^24, and neither count of faults rose or stands at its last value, all was done, or memory was
+-- wanting. This follows from the causes above, since each of them rules one of these premises out.
 abbrev pub TakesSpelled : Option Command → Told → Told → Told → Told → Ended → Type 0
 TakesSpelled None s s' o o' ended = Unit {0}
 TakesSpelled (Some Round) s s' o o' ended =
-    (input : List ℕ) → s.bytes ≡ Some input → length input ≤ 2 ^ 24 → IsSpelled input → ¬ Rose s.faults s'.faults → ¬ Rose o.faults o'.faults → IsDoneOrNoMemory ended
+    (input : List ℕ) (m : Module) → s.bytes ≡ Some input → length input ≤ 2 ^ 24 → IsReadable m → IsNumbered (data_of m) → Spells input (data_of m) → HasNoForwardUse (data_of m)
+    → ¬ Rose s.faults s'.faults → ¬ Rose o.faults o'.faults → IsDoneOrNoMemory ended
 
 -- the line was written to the standard error, or a front of it where its count of faults rose
 abbrev pub Says : Told → Told → List ℕ → Type 0

@@ -1,14 +1,17 @@
 //! How the program ends: its answers, their statuses and their lines.
 
 ghost use Rattle.std.specs.Prelude.{◌≡◌};
-ghost use Rattle.round_ll.specs.Ending.{line_of, status_of};
+ghost use Rattle.round_ll.specs.Ending.{head_of, name_of, refusal_head, refusal_name, status_of};
 
-use crate::transferred::Transferred;
+use from_llvm_ir::conversion_err::ConversionErr;
 use ll_text::read_err::ReadErr;
 use thiserror::Error;
+use to_llvm_ir::to_llvm_err::ToLLVMErr;
+use transfer::transfer_err::TransferErr;
+use transfer::transferred::Transferred;
 
 /// Why the program refused.
-#[derive(Clone, Copy, PartialEq, Eq, Debug, Drop, Error)]
+#[derive(Debug, Drop, Error)]
 pub enum Fault {
     /// The words are no command.
     #[error("usage: round_ll round")]
@@ -25,6 +28,9 @@ pub enum Fault {
     /// The text was not read.
     #[error("{0}")]
     Text(ReadErr),
+    /// The module was read, and not translated.
+    #[error("{0}")]
+    Transfer(TransferErr),
 }
 
 /// How the program ends.
@@ -50,22 +56,65 @@ impl Ended {
             Ended::Refused(Fault::WriteFault) => 4,
             Ended::Refused(Fault::TooLong) => 5,
             Ended::Refused(Fault::Text(_)) => 6,
+            Ended::Refused(Fault::Transfer(_)) => 7,
             Ended::NoMemory => 8,
         }
     }
 
-    /// The line for the standard error, with its end; empty where all was done.
-    pub fn line(&self) -> &'static str
-        ensures { result.now ≡ line_of self.now }
+    /// The line for the standard error up to a name that it may end in; empty where all was done, and no
+    /// line is owed.
+    pub fn head(&self) -> &'static str
+        ensures { result.now ≡ head_of self.now }
     {
         match self {
             Ended::Done(_) => "",
-            Ended::Refused(Fault::Usage) => "usage: round_ll round\n",
-            Ended::Refused(Fault::ReadFault) => "read fault\n",
-            Ended::Refused(Fault::WriteFault) => "write fault\n",
-            Ended::Refused(Fault::TooLong) => "input longer than 16777216 bytes\n",
-            Ended::Refused(Fault::Text(_)) => "NotYet\n",
-            Ended::NoMemory => "out of memory\n",
+            Ended::Refused(Fault::Usage) => "usage: round_ll round",
+            Ended::Refused(Fault::ReadFault) => "read fault",
+            Ended::Refused(Fault::WriteFault) => "write fault",
+            Ended::Refused(Fault::TooLong) => "input longer than 16777216 bytes",
+            Ended::Refused(Fault::Text(_)) => "NotYet",
+            Ended::Refused(Fault::Transfer(e)) => refusal_head(e),
+            Ended::NoMemory => "out of memory",
         }
+    }
+
+    /// The name that the line ends in, empty where it has none.
+    pub fn name(&self) -> &str
+        ensures { result.now ≡ name_of self.now }
+    {
+        match self {
+            Ended::Refused(Fault::Transfer(e)) => refusal_name(e),
+            _ => "",
+        }
+    }
+}
+
+/// The line of a refusal up to the name in it.
+fn refusal_head(e: &TransferErr) -> &'static str
+    ensures { result.now ≡ refusal_head e.now }
+{
+    match e {
+        TransferErr::Import(ConversionErr::ForwardUse(..)) => "import ForwardUse: ",
+        TransferErr::Import(ConversionErr::NoMemory) => "import NoMemory",
+        TransferErr::Export(ToLLVMErr::UndefinedValue(_)) => "export UndefinedValue: ",
+        TransferErr::Export(ToLLVMErr::UndefinedBlock(_)) => "export UndefinedBlock: ",
+        TransferErr::Export(ToLLVMErr::NumBlockArgsNumPhisMismatch) => {
+            "export NumBlockArgsNumPhisMismatch"
+        }
+        TransferErr::Export(ToLLVMErr::EdgeArgsDiffer(..)) => "export EdgeArgsDiffer",
+        TransferErr::Export(ToLLVMErr::NoMemory) => "export NoMemory",
+        TransferErr::NoMemory => "NoMemory",
+    }
+}
+
+/// The name in the line of a refusal, empty where it has none.
+fn refusal_name(e: &TransferErr) -> &str
+    ensures { result.now ≡ refusal_name e.now }
+{
+    match e {
+        TransferErr::Import(ConversionErr::ForwardUse(name, _)) => name.as_str(),
+        TransferErr::Export(ToLLVMErr::UndefinedValue(name)) => name.as_str(),
+        TransferErr::Export(ToLLVMErr::UndefinedBlock(label)) => label.as_str(),
+        _ => "",
     }
 }

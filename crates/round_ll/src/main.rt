@@ -10,7 +10,6 @@ mod run;
 mod stopped;
 #[cfg(test)]
 mod tests;
-mod transferred;
 
 use crate::ended::Ended;
 use crate::outside::{StdSink, StdSource};

@@ -1,24 +1,19 @@
 //! What `round` makes of a text.
 
-ghost use Rattle.std.specs.Prelude.{◌≡◌, ◌<◌, ◌++◌, IfOk, OnOk, length};
+ghost use Rattle.std.specs.Prelude.{◌≡◌, IfOk, IfErr};
 ghost use Rattle.llvm_core.specs.Sound.{IsModule};
-ghost use Rattle.llvm_core.specs.Checked.{IsChecked};
 ghost use Rattle.llvm_core.specs.Data.{data_of, AreApart};
-ghost use Rattle.llvm_core.specs.Names.{IsPlainOrNone};
-ghost use Rattle.llvm_core.specs.Form.{IsForm};
-ghost use Rattle.ll_text.specs.Spelling.{IsSpelled};
-ghost use Rattle.round_ll.specs.Headline.{IsOutput, Rounds, SameThroughout};
-ghost use Rattle.round_ll.specs.Rounding.{IsPrintable};
+ghost use Rattle.round_ll.specs.Headline.{IsOutput, Rounds};
+ghost use Rattle.round_ll.specs.Rounding.{IsPrintable, TextCause};
 
 use crate::report::print_report;
-use crate::transferred::Transferred;
-use from_llvm_ir::importing::{Imported, import_module};
+use crate::stopped::Stopped;
 use ll_print::printer::print_ll;
 use ll_text::read::read_ll;
-use ll_text::read_err::ReadErr;
 use llvm_core::module::LLVMModule;
 use std::alloc::{AllocError, Global};
-use to_llvm_ir::exporting::export_module;
+use transfer::transferred::Transferred;
+use transfer::transferring::transfer;
 
 /// The modules, and the whole output.
 #[derive(Drop)]
@@ -33,32 +28,6 @@ fn know_sound(m: &LLVMModule)
     ensures apart { AreApart m.now }
 {
     let _ = m.types();
-}
-
-/// The dialect module of a module of the form, the module back, and the match of blocks.
-fn transfer(alloc: Global, source: &LLVMModule) -> Result<Transferred, AllocError>
-    requires form { IsForm (data_of source.now) }
-    requires name { IsPlainOrNone source.now.name }
-    requires checked { IsChecked source.now }
-    ensures same { IfOk result (λ t. SameThroughout (data_of source.now) t) }
-    ensures back { IfOk result (λ t. IsChecked t.back) }
-    ensures printable { IfOk result (λ t. IsPrintable source.now t) }
-{
-    know_sound(source);
-    let imported = import_module(alloc, source)?;
-    let back = export_module(alloc, &imported.ctx, imported.module)?;
-    know_sound(&back);
-    let Imported {
-        ctx,
-        module,
-        blocks,
-    } = imported;
-    Ok(Transferred {
-        ctx,
-        dialect: module,
-        back,
-        blocks,
-    })
 }
 
 /// The whole output: the dialect module, the module back and the report, with a line between them.
@@ -92,16 +61,31 @@ fn pack(alloc: Global, transferred: Transferred, text: Vec<u8>) -> Result<Output
     }
 }
 
-/// The modules and the whole output for a text of the form. `NotYet` is for bytes that spell no
-/// module of it: import, export and printing want nothing but memory.
-pub fn round_text(alloc: Global, bytes: &[u8]) -> Result<Output, ReadErr>
+/// The modules with the whole output.
+fn output_of(
+    alloc: Global,
+    source: &LLVMModule,
+    transferred: Transferred,
+) -> Result<Output, AllocError>
+    requires { IsPrintable source.now transferred }
+    ensures modules { IfOk result (λ o. o.transferred.value ≡ transferred) }
+    ensures text { IfOk result (λ o. IsOutput (data_of source.now) transferred o.text.items) }
+{
+    let text = print_output(alloc, source, &transferred)?;
+    let output = pack(alloc, transferred, text)?;
+    Ok(output)
+}
+
+/// The modules and the whole output for a text of the form. It is refused only where it spells no checked
+/// module of the form, or the one that it spells has a cause to be refused; printing wants nothing but memory.
+pub fn round_text(alloc: Global, bytes: &[u8]) -> Result<Output, Stopped>
     ensures rounds { IfOk result (λ o. Rounds bytes.now o.transferred.value o.text.items) }
-    ensures not_yet { result ≡ Err ReadErr.NotYet → ¬ IsSpelled bytes.now }
+    ensures cause { IfErr result (TextCause bytes.now) }
 {
     let source = read_ll(alloc, bytes)?;
     know_sound(&source);
     let transferred = transfer(alloc, &source)?;
-    let text = print_output(alloc, &source, &transferred)?;
-    let output = pack(alloc, transferred, text)?;
+    know_sound(&transferred.back);
+    let output = output_of(alloc, &source, transferred)?;
     Ok(output)
 }

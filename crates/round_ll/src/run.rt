@@ -1,6 +1,6 @@
 //! The top call: all that the program does.
 
-ghost use Rattle.std.specs.Prelude.{◌≡◌, ◌+◌, ◌^◌, [], IfOk, IfErr, map, string_bytes};
+ghost use Rattle.std.specs.Prelude.{◌≡◌, ◌+◌, ◌^◌, ◌++◌, [], codes, IfOk, IfErr, map, string_bytes};
 ghost use Rattle.round_ll.specs.Commands.{command_of};
 ghost use Rattle.round_ll.specs.Ending.{line_of};
 ghost use Rattle.round_ll.specs.Outside.AllBytes.{GaveAtMost};
@@ -8,7 +8,7 @@ ghost use Rattle.round_ll.specs.Running.{Made, RoundEnded, RunEnded, Says, StopC
 
 use crate::command::Command;
 use crate::ended::{Ended, Fault};
-use crate::outside::{Sink, Source, read_all, write_all};
+use crate::outside::{Failed, Sink, Source, read_all, write_all};
 use crate::rounding::{Output, round_text};
 use crate::stopped::Stopped;
 use std::alloc::Global;
@@ -51,7 +51,19 @@ pub fn say<E: Sink>(err: &mut E, ended: &Ended)
     ensures line { Says (record { bytes = E.taken err.old; faults = E.faults err.old }) (record { bytes = E.taken err.new; faults = E.faults err.new }) (line_of ended.now) }
     ensures quiet { line_of ended.now ≡ [] → err.new ≡ err.old }
 {
-    let _ = write_all(err, ended.line().as_bytes());
+    let head = ended.head();
+    if !head.is_empty() {
+        let _ = write_line(err, head, ended.name());
+    }
+}
+
+/// Writes a line: what it begins with, the name that it may end in, and its end.
+fn write_line<E: Sink>(err: &mut E, head: &str, name: &str) -> Result<(), Failed>
+    ensures { Says (record { bytes = E.taken err.old; faults = E.faults err.old }) (record { bytes = E.taken err.new; faults = E.faults err.new }) (head.now ++ name.now ++ codes "\n") }
+{
+    write_all(err, head.as_bytes())?;
+    write_all(err, name.as_bytes())?;
+    write_all(err, b"\n")
 }
 
 /// Text to dialect module and back.

@@ -2,15 +2,16 @@
 
 ghost use Rattle.std.specs.Prelude.{◌≡◌};
 ghost use Rattle.round_ll.specs.declared.stopped.Stopped.TheVariants.{NoMemory};
-ghost use Rattle.round_ll.specs.Stopping.{stop_of_read, stop_of_text};
+ghost use Rattle.round_ll.specs.Stopping.{stop_of_read, stop_of_text, stop_of_transfer};
 
 use crate::ended::Fault;
 use crate::outside::ReadAllError;
 use ll_text::read_err::ReadErr;
 use std::alloc::AllocError;
+use transfer::transfer_err::TransferErr;
 
 /// Why the program stops before it writes.
-#[derive(Clone, Copy, PartialEq, Eq, Debug, Drop)]
+#[derive(Debug, Drop)]
 pub enum Stopped {
     /// It refuses.
     Refused(Fault),
@@ -37,6 +38,17 @@ impl From<ReadErr> for Stopped {
         match e {
             ReadErr::NotYet => Stopped::Refused(Fault::Text(ReadErr::NotYet)),
             ReadErr::NoMemory => Stopped::NoMemory,
+        }
+    }
+}
+
+impl From<TransferErr> for Stopped {
+    ghost from_gives = { λ e s. s ≡ stop_of_transfer e };
+
+    fn from(e: TransferErr) -> Stopped {
+        match e {
+            TransferErr::NoMemory => Stopped::NoMemory,
+            e => Stopped::Refused(Fault::Transfer(e)),
         }
     }
 }

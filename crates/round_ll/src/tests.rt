@@ -1,13 +1,19 @@
 //! What the program prints and how it ends, text by text.
 
 mod faults;
+mod outside_form;
 mod rows;
 
+use self::outside_form::{EARLY, OUTSIDE, OUTSIDE_BRANCHES};
+use self::rows::branches::branches;
 use self::rows::constants::constants;
 use self::rows::files::files;
 use self::rows::hoisted::hoisted;
 use self::rows::labels::labels;
+use self::rows::loops::loops;
+use self::rows::numbered::numbered;
 use self::rows::parameters::parameters;
+use self::rows::phis::phis;
 use self::rows::sums::sums;
 use crate::ended::Ended;
 use crate::outside::{MemorySink, MemorySource};
@@ -68,6 +74,10 @@ fn texts_of_the_form_go_round(rt: HostRuntime) -> Result<(), Fail> {
         hoisted(),
         labels(),
         files(),
+        branches(),
+        loops(),
+        phis(),
+        numbered(),
     ] {
         for row in rows {
             let answer = answer_to(rt.alloc(), &["round"], row.text.as_bytes())?;
@@ -79,85 +89,25 @@ fn texts_of_the_form_go_round(rt: HostRuntime) -> Result<(), Fail> {
     Ok(())
 }
 
-/// Texts outside the form, one or more for each rule.
-const OUTSIDE: [&str; 68] = [
-    "define",
-    "define i32 @f() {",
-    "define i32 @f() { }",
-    "define i32 @f() { ret i32 }",
-    "define i32 @f() { ret i64 7 }",
-    "define i32 @f() { ret void }",
-    "define void @f() { ret i32 7 }",
-    "define i32 @f() { ret i32 7 ret i32 8 }",
-    "define i32 @f() { %x = add i32 1, 2 }",
-    "define i32 @f() { ret i32 7 %x = add i32 1, 2 }",
-    "define i32 @f() { ret i32 7.0 }",
-    "define i32 @f() { ret i32 \"7\" }",
-    "define i32 @f() { ret i32 true }",
-    "define i8 @f() { ret i8 256 }",
-    "define i8 @f() { ret i8 -129 }",
-    "define i8 @f(i8 %a) { %x = add i8 %a, 256 ret i8 %x }",
-    "define i1 @f() { ret i1 2 }",
-    "define i0 @f() { ret i0 0 }",
-    "define i65 @f() { ret i65 1 }",
-    "define i32 @f(i65 %a) { ret i32 1 }",
-    "define i32 @f(void %a) { ret i32 1 }",
-    "define i32 @f(i32 %a,) { ret i32 1 }",
-    "define i32 @f(i32 %a i32 %b) { ret i32 1 }",
-    "define i32 @f(i32 %a, i32 %a) { ret i32 1 }",
-    "define i32 @f(i32 %a) { a: ret i32 1 }",
-    "define i32 @f(i32 %a) { %a = add i32 %a, 1 ret i32 %a }",
-    "define i32 @f(i32 %a) { %x = add i32 %a, 1 %x = add i32 %a, 2 ret i32 %x }",
-    "define i32 @f() { ret i32 %x }",
-    "define i32 @f() { %x = add i32 %y, 1 %y = add i32 %x, 1 ret i32 %y }",
-    "define i32 @f() { %x = add i32 %x, 1 ret i32 %x }",
-    "define i32 @f() { %0 = add i32 1, 2 ret i32 %0 }",
-    "define i32 @f(i32, i32 %0) { ret i32 %0 }",
-    "define i32 @f() { 5: %5 = add i32 1, 2 ret i32 %5 }",
-    "define i32 @f() { %4294967295 = add i32 1, 2 ret i32 1 }",
-    "define i32 @f(i32 %a) { b: ret i32 %b }",
-    "define i32 @f(i64 %a) { ret i32 %a }",
-    "define i32 @f(i64 %a) { %x = add i64 %a, 1 ret i32 %x }",
-    "define i32 @f(i64 %a) { %x = add i32 %a, 1 ret i32 %x }",
-    "define i32 @f(i32 %a) { %x = add void %a, 1 ret i32 %a }",
-    "define i32 @f(i32 %a) { %x = add nsw nuw i32 %a, 1 ret i32 %x }",
-    "define i32 @f(i32 %a) { %x = add nuw nuw i32 %a, 1 ret i32 %x }",
-    "define i32 @f(i32 %a) { %x = add i32 %a 1 ret i32 %x }",
-    "define i32 @f(i32 %a) { %x = ret i32 %a }",
-    "define i32 @f(i32 %a) { %x add i32 %a, 1 ret i32 %x }",
-    "define i32 @f(i32 %a.b) { ret i32 1 }",
-    "define i32 @f(i32 %_a) { ret i32 1 }",
-    "define i32 @f(i32 %\"a\") { ret i32 1 }",
-    "define i32 @a.b() { ret i32 7 }",
-    "define i32 @\"f\"() { ret i32 7 }",
-    "define i32 @7() { ret i32 7 }",
-    "define i32 @f() { 4294967295: ret i32 7 }",
-    "define i32 @f() { ret i32 7 } define i32 @f() { ret i32 8 }",
-    "define i32 @f(i32 %a) { ret i32 @f }",
-    "source_filename = \"a\" source_filename = \"b\"",
-    "source_filename = \"_\"",
-    "define i32 @f() { ret i32 %0 }",
-    "define i32 @f(i32 %a) { ret i32 %a } define i32 @g() { ret i32 %a }",
-    "define i32 @f() { 4294967294: add i32 1, 2 ret i32 1 }",
-    "define i32 @f() { a.b: ret i32 7 }",
-    "define i32 @f() { a: b: ret i32 7 }",
-    "define i32 @f() { ret i32 0x1 }",
-    "define i32 @f() { ret i32 --1 }",
-    "define internal i32 @f() { ret i32 7 }",
-    "declare i32 @f()",
-    "source_filename = \"\"",
-    "source_filename = \"a b\"",
-    "define i32 @f() { ret i32 7 } source_filename = \"a\"",
-    "define i32 @f() { ret i32 7 } ret",
-];
-
 #[test]
 fn other_texts_are_refused(rt: HostRuntime) -> Result<(), Fail> {
-    for text in &OUTSIDE {
+    for text in OUTSIDE.iter().chain(&OUTSIDE_BRANCHES) {
         let answer = answer_to(rt.alloc(), &["round"], text.as_bytes())?;
         assert_eq!(rt; answer.status, 6, "{text}");
         assert_eq!(rt; answer.out.len(), 0);
         assert_eq!(rt; answer.err.as_slice(), b"NotYet\n".as_slice());
+    }
+    Ok(())
+}
+
+#[test]
+fn uses_before_a_definition_are_refused(rt: HostRuntime) -> Result<(), Fail> {
+    for (text, name) in &EARLY {
+        let answer = answer_to(rt.alloc(), &["round"], text.as_bytes())?;
+        let line = format!(in rt.alloc(); "import ForwardUse: {name}\n")?;
+        assert_eq!(rt; answer.status, 7, "{text}");
+        assert_eq!(rt; answer.out.len(), 0);
+        assert_eq!(rt; answer.err.as_slice(), line.as_bytes());
     }
     Ok(())
 }

@@ -1,57 +1,397 @@
--- What the form of a function says of its operations.
-use Rattle.std.proofs.Common.{◌≡◌, ◌<◌, ℕ, Bool, true, false, not, nat_eq, List, [], ◌∷◌, ◌++◌, Some, All, length, take, slice_get, get_or, refl, sym, ap, subst, ◌∙◌}
-use Rattle.std.specs.List.{filter_map, flat_map, find}
-use Rattle.std.specs.Option.{option_and_then}
-use Rattle.std.proofs.lemmas.List.{append-nil, take_at}
-use Rattle.std.proofs.lemmas.List.Elements.{filter-append, All-weaker}
-use Rattle.dialect_types.specs.Trees.{type_trees}
-use Rattle.dialect_core.specs.declared.numbers.OpRef.{OpRef}
-use Rattle.dialect_core.specs.declared.ops.Value.TheVariants.{Result}
-use Rattle.dialect_core.specs.ContextData.{ContextData}
-use Rattle.dialect_core.specs.Data.{DialectOp, DialectBlock, Func, ops_in, op_at, value_type}
-use Rattle.dialect_core.specs.Form.{IsFormOp, IsFormFunc, is_constant}
-use Rattle.llvm_core.specs.Module.{Module}
-use Rattle.to_llvm_ir.specs.declared.values.Body.{Body}
-use Rattle.to_llvm_ir.specs.Pairing.{constants_of, others_of}
-use Rattle.to_llvm_ir.specs.Bodies.{Task, IsBuilding, IsFormNext, IsNextIn, IsBegun}
-use Rattle.to_llvm_ir.proofs.FindLaws.{AreNumbered, find_numbered, filter_map_at, at_middle, filter_all, filter_none}
+-- The function that is made is of the form.
+use Rattle.std.proofs.Common.{◌≡◌, ◌<◌, ◌≤◌, inl, inr, ◌+◌, ◌-◌, ◌^◌, ◌&&◌, ◌||◌, ℕ, zero, suc, Bool, true, false, not, if◌then◌else◌, List, [], ◌∷◌, ◌++◌, Option, Some, None, All, length, map, take, slice_get, refl, sym, ap, subst, ◌∙◌, arith, ⊎_elim}
+use Rattle.std.specs.Prelude.{is_some}
+use Rattle.std.specs.List.{find, list_any}
+use Rattle.std.specs.Option.{option_map, option_map_or}
+use Rattle.std.proofs.lemmas.Option.{same_Some, none-some, slice_get_within, slice_get-map}
+use Rattle.std.proofs.lemmas.Bool.{cond-false, and_from, or_from, cases_eq}
+use Rattle.std.proofs.lemmas.List.{append_assoc, length_push, take_at}
+use Rattle.std.proofs.lemmas.List.Elements.{All-nil, All-cons, All-head, All-tail, All-append}
+use Rattle.llvm_core.specs.Checked.{ends_in_only}
+use Rattle.llvm_core.specs.Edges.{count_of}
+use Rattle.llvm_core.specs.Interned.{IsDistinctList}
+use Rattle.llvm_core.specs.Names.{IsPlainOrNone}
+use Rattle.llvm_core.specs.Data as L
+use Rattle.llvm_core.specs.Data.{Operand, Placed, Block, Function, Instruction, placed_in}
+use Rattle.llvm_core.specs.Form as F
+use Rattle.llvm_core.specs.Form.{IsFormFunction, IsFormInstruction, IsFormBlock, HasNoResult, FitsEdges, IsTarget, is_last, is_phi}
+use Rattle.llvm_core.proofs.ListLemmas.{slice_get-push, slice_get-kept}
+use Rattle.dialect_types.specs.Trees.{TypeTree, TypeTrees, VoidType, IntegerType, FuncType, NoTypes, ThenType}
+use Rattle.dialect_core.specs.declared.numbers.BlockRef.{BlockRef}
+use Rattle.dialect_core.specs.declared.ops.Value.{Value}
+use Rattle.dialect_core.specs.declared.ops.Value.TheVariants.{Argument}
+use Rattle.dialect_core.specs.declared.ops.Successor.{Successor}
+use Rattle.dialect_core.specs.Data.{DialectOp, DialectBlock, Func, Kind, ConstantOp, AddOp, ICmpOp, BrOp, CondBrOp, ReturnOp, UnreachableOp, value_type}
+use Rattle.dialect_core.specs.Form.{IsFormFunc, IsFormKind, IsShortInt, IsShortResult, FitsTarget, HasTargets, result_of, types_list, edges_of, is_constant, is_constant_kind, is_terminator, is_terminator_kind}
+use Rattle.meaning.specs.Dialect.{type_of, types_of, option_type}
+use Rattle.to_llvm_ir.specs.Exported.{block_name, value_name, result_name, number_after, number_behind}
+use Rattle.to_llvm_ir.specs.Made.{Numbers, operand_for, target_at, instruction_for, inst, insts, phis, block_phis, block_made, function_made, entries, number_past, entry_args}
+use Rattle.to_llvm_ir.specs.Accepted.{IsAccepted}
+use Rattle.to_llvm_ir.specs.Links.{HasTarget}
+use Rattle.to_llvm_ir.proofs.ListLaws.{AreNumbered, all_at, all_from, append_cases, item_there}
+use Rattle.to_llvm_ir.proofs.NameLaws.{plain_is, bare_plain}
+use Rattle.to_llvm_ir.proofs.LookupLaws.{block_form, op_form, entry_at, place_is}
+use Rattle.to_llvm_ir.proofs.PlacedLaws.{placed_numbered, params_count, operand_form}
+use Rattle.to_llvm_ir.proofs.EdgeLaws.{made_at, made_from, made_numbered, target_for, edge_among, edge_form, edge_target, is_from, first_entry}
+use Rattle.to_llvm_ir.proofs.CountLaws.{LeadsTo, entries_count, comes_by}
+use Rattle.to_llvm_ir.proofs.ShapeLaws.{returned}
 
-pub ops_are : (g : Func) (b : DialectBlock) → g.blocks ≡ b ∷ [] → ops_in g ≡ b.ops
-ops_are g b only = ap (λ (bs : List DialectBlock). flat_map (λ (b : DialectBlock). b.ops) bs) only ∙ append-nil b.ops
+-- ---- numbers of values
 
--- the type of a result is that of its operation
-pub result_known : (g : Func) (b : DialectBlock) (i : ℕ) (o : DialectOp) → g.blocks ≡ b ∷ [] → AreNumbered (λ (o : DialectOp). o.number) b.ops → slice_get b.ops i ≡ Some o → value_type g (Result (record { 0 = o.number })) ≡ o.result
-result_known g b i o only numbered at =
-    ap (λ (os : List DialectOp). option_and_then (λ (o : DialectOp). o.result) (find (λ (x : DialectOp). nat_eq x.number o.number) os)) (ops_are g b only)
-    ∙ ap (option_and_then (λ (o : DialectOp). o.result)) (find_numbered (λ (o : DialectOp). o.number) b.ops i o.number o numbered at refl)
+after_le : (r : Option TypeTree) (k : ℕ) → k ≤ number_after r k
+after_le None k = omega arith
+after_le (Some t) k = omega arith
 
--- an operation of the block, behind those before it
-form_at : (t : Task) (form : IsFormFunc t.source) (done rest : List DialectOp) (o : DialectOp) → form.block ≡ t.block → t.block.ops ≡ done ++ o ∷ rest → IsFormNext t done o
-form_at t form done rest o block ops =
-    let at : slice_get t.block.ops (length done) ≡ Some o = ap (λ (os : List DialectOp). slice_get os (length done)) ops ∙ at_middle done o rest in
-    let front : take (length done) t.block.ops ≡ done = ap (take (length done)) ops ∙ take_at done (o ∷ rest) (length done) refl in
-    let at' : slice_get form.block.ops (length done) ≡ Some o = ap (λ (b : DialectBlock). slice_get b.ops (length done)) block ∙ at in
-    record {
-      form = subst (λ (os : List DialectOp). IsFormOp t.source t.block os o) front (subst (λ (b : DialectBlock). IsFormOp t.source b (take (length done) b.ops) o) block (form.each (length done) o at'));
-      result = result_known t.source t.block (length done) o (form.only ∙ ap (λ (b : DialectBlock). b ∷ []) block) (subst (λ (b : DialectBlock). AreNumbered (λ (o : DialectOp). o.number) b.ops) block form.numbers) at;
+pub behind_le : (k : ℕ) (os : List DialectOp) → k ≤ number_behind k os
+behind_le k [] = omega arith
+behind_le k (o ∷ os) = let h = behind_le (number_after o.result k) os in let e = after_le o.result k in omega (arith, h, e)
+
+pub past_le : (k : ℕ) (cs : List DialectBlock) → k ≤ number_past k cs
+past_le k [] = omega arith
+past_le k (c ∷ cs) = let h = past_le (number_behind (k + length c.args) c.ops) cs in let e = behind_le (k + length c.args) c.ops in omega (arith, h, e)
+
+pub past_append : (k : ℕ) (cs ds : List DialectBlock) → number_past k (cs ++ ds) ≡ number_past (number_past k cs) ds
+past_append k [] ds = refl
+past_append k (c ∷ cs) ds = past_append (number_behind (k + length c.args) c.ops) cs ds
+
+-- the numbers of a block are below those past all blocks
+pub block_past : (cs : List DialectBlock) (j k : ℕ) (c : DialectBlock) → slice_get cs j ≡ Some c → number_behind (number_past k (take j cs) + length c.args) c.ops ≤ number_past k cs
+block_past [] j k c at = absurd (none-some c at)
+block_past (d ∷ cs) zero k c at = subst (λ (x : DialectBlock). number_behind (k + length x.args) x.ops ≤ number_past (number_behind (k + length d.args) d.ops) cs) (same_Some d c at) (past_le (number_behind (k + length d.args) d.ops) cs)
+block_past (d ∷ cs) (suc j) k c at = block_past cs j (number_behind (k + length d.args) d.ops) c at
+
+-- ---- types
+
+short_result : (t : TypeTree) → IsShortResult t → F.IsShortResult (type_of t)
+short_result VoidType h = h
+short_result (IntegerType w) h = h
+short_result (FuncType r ps v) h = absurd h
+
+to_short : (t : TypeTree) → IsShortInt t → F.IsShortInt (type_of t)
+to_short VoidType h = absurd h
+to_short (IntegerType w) h = h
+to_short (FuncType r ps v) h = absurd h
+
+short_ints : (ts : TypeTrees) → All IsShortInt (types_list ts) → F.AreShortInts (types_of ts)
+short_ints NoTypes h = tt
+short_ints (ThenType t ts) h = (to_short t (All-head IsShortInt t (types_list ts) h), short_ints ts (All-tail IsShortInt t (types_list ts) h))
+
+type_count : (ts : TypeTrees) → F.count_types (types_of ts) ≡ length (types_list ts)
+type_count NoTypes = refl
+type_count (ThenType t ts) = let e = type_count ts in omega (arith, e)
+
+unnamed_plain : (ts : List TypeTree) → All IsPlainOrNone (map (λ (t : TypeTree). let none : List ℕ = [] in none) ts)
+unnamed_plain [] = All-nil IsPlainOrNone
+unnamed_plain (t ∷ ts) = All-cons IsPlainOrNone [] (map (λ (t : TypeTree). let none : List ℕ = [] in none) ts) tt (unnamed_plain ts)
+
+numbers_distinct : {X : Type 0} (number : X → ℕ) (xs : List X) → AreNumbered number xs → IsDistinctList (map number xs)
+numbers_distinct number xs h i j m at at' = by (slice_get xs i) refl (slice_get xs j) refl (sym (slice_get-map number xs i) ∙ at) (sym (slice_get-map number xs j) ∙ at')
+  where
+    by : (o : Option _) → slice_get xs i ≡ o → (q : Option _) → slice_get xs j ≡ q → option_map number o ≡ Some m → option_map number q ≡ Some m → i ≡ j
+    by None e q f k l = absurd (none-some m k)
+    by (Some a) e None f k l = absurd (none-some m l)
+    by (Some a) e (Some b) f k l = h i j a b e f (same_Some (number a) m k ∙ sym (same_Some (number b) m l))
+
+-- ---- the last of a list
+
+pub ends_last : {X : Type 0} (p : X → Bool) (xs : List X) (x : X) → list_any p xs ≡ false → p x ≡ true → ends_in_only p (xs ++ x ∷ []) ≡ true
+ends_last p xs x none ends =
+    let n : length (xs ++ x ∷ []) - 1 ≡ length xs = let e = length_push xs x in omega (arith, e) in
+    ap (λ (k : ℕ). option_map_or p (slice_get (xs ++ x ∷ []) k) false && not (list_any p (take k (xs ++ x ∷ [])))) n
+    ∙ and_from (option_map_or p (slice_get (xs ++ x ∷ []) (length xs)) false) (not (list_any p (take (length xs) (xs ++ x ∷ []))))
+    (ap (λ o. option_map_or p o false) (slice_get-push xs x (length xs) refl) ∙ ends) (ap (λ ys. not (list_any p ys)) (take_at xs (x ∷ []) (length xs) refl) ∙ ap not none)
+
+any_append : {X : Type 0} (p : X → Bool) (xs ys : List X) → list_any p xs ≡ false → list_any p ys ≡ false → list_any p (xs ++ ys) ≡ false
+any_append p [] ys h k = k
+any_append {X} p (x ∷ xs) ys h k = by (p x) h (λ e. any_append p xs ys e k)
+  where
+    by : (t : Bool) → (t || list_any p xs) ≡ false → (list_any p xs ≡ false → list_any p (xs ++ ys) ≡ false) → (t || list_any p (xs ++ ys)) ≡ false
+    by true e f = cc
+    by false e f = f e
+
+module _ (g : Func) (form : IsFormFunc g) (n : Numbers) where
+  abbrev made : Function
+  made = function_made g n (entries g n)
+
+  -- ---- terminators
+
+  ends_alike : (k : Kind) (vs : List Value) (ss : List Successor) → is_constant_kind k ≡ false → F.is_terminator (instruction_for g n k vs ss) ≡ is_terminator_kind k
+  ends_alike (ConstantOp value) vs ss e = cc
+  ends_alike (AddOp flags) vs ss e = refl
+  ends_alike (ICmpOp predicate) vs ss e = refl
+  ends_alike BrOp vs ss e = refl
+  ends_alike CondBrOp vs ss e = refl
+  ends_alike ReturnOp vs ss e = refl
+  ends_alike UnreachableOp vs ss e = refl
+
+  terminator_other : (k : Kind) → is_terminator_kind k ≡ true → is_constant_kind k ≡ false
+  terminator_other (ConstantOp value) e = cc
+  terminator_other (AddOp flags) e = refl
+  terminator_other (ICmpOp predicate) e = refl
+  terminator_other BrOp e = refl
+  terminator_other CondBrOp e = refl
+  terminator_other ReturnOp e = refl
+  terminator_other UnreachableOp e = refl
+
+  insts_open : (k : ℕ) (os : List DialectOp) → All (λ (o : DialectOp). is_terminator o ≡ false) os → list_any is_last (insts g n k os) ≡ false
+  insts_open k [] h = refl
+  insts_open k (o ∷ os) h = by (is_constant o) refl (insts_open (number_after o.result k) os (All-tail (λ (o : DialectOp). is_terminator o ≡ false) o os h))
+    where
+      by : (t : Bool) → is_constant o ≡ t → list_any is_last (insts g n (number_after o.result k) os) ≡ false → list_any is_last (if t then insts g n (number_after o.result k) os else inst g n k o ∷ insts g n (number_after o.result k) os) ≡ false
+      by true e r = r
+      by false e r = or_from (is_last (inst g n k o)) (list_any is_last (insts g n (number_after o.result k) os)) (ends_alike o.kind o.operands o.successors e ∙ All-head (λ (o : DialectOp). is_terminator o ≡ false) o os h) r
+
+  phis_open : (given : Value → List (Operand × ℕ)) (b i k : ℕ) (ts : List TypeTree) → list_any is_last (phis g n given b i k ts) ≡ false
+  phis_open given b i k [] = refl
+  phis_open given b i k (t ∷ ts) = phis_open given b (suc i) (k + 1) ts
+
+  block_phis_open : (given : Value → List (Operand × ℕ)) (p k : ℕ) (c : DialectBlock) → list_any is_last (block_phis g n given p k c) ≡ false
+  block_phis_open given zero k c = refl
+  block_phis_open given (suc p) k c = phis_open given c.number 0 k c.args
+
+  pub insts_push : (k : ℕ) (os : List DialectOp) (o : DialectOp) → is_constant o ≡ false → insts g n k (os ++ o ∷ []) ≡ insts g n k os ++ inst g n (number_behind k os) o ∷ []
+  insts_push k [] o e = cond-false (is_constant o) [] (inst g n k o ∷ []) e
+  insts_push k (x ∷ os) o e = by (is_constant x) (insts_push (number_after x.result k) os o e)
+    where
+      by : (t : Bool) → insts g n (number_after x.result k) (os ++ o ∷ []) ≡ insts g n (number_after x.result k) os ++ inst g n (number_behind (number_after x.result k) os) o ∷ []
+          → (if t then insts g n (number_after x.result k) (os ++ o ∷ []) else inst g n k x ∷ insts g n (number_after x.result k) (os ++ o ∷ []))
+          ≡ (if t then insts g n (number_after x.result k) os else inst g n k x ∷ insts g n (number_after x.result k) os) ++ inst g n (number_behind (number_after x.result k) os) o ∷ []
+      by true r = r
+      by false r = ap (λ (ps : List Placed). inst g n k x ∷ ps) r
+
+  block_ends : (p k j : ℕ) (c : DialectBlock) → slice_get g.blocks j ≡ Some c → ends_in_only is_last (block_made g n (entries g n) p k c).instructions ≡ true
+  block_ends p k j c at =
+      let e = (block_form g form j c at).ends in
+      let other = terminator_other e.last.kind e.ends in
+      let m = k + length c.args in
+      let are : (block_made g n (entries g n) p k c).instructions ≡ (block_phis g n (entries g n) p k c ++ insts g n m e.front) ++ inst g n (number_behind m e.front) e.last ∷ [] =
+      ap (λ (os : List DialectOp). block_phis g n (entries g n) p k c ++ insts g n m os) e.are
+      ∙ ap (λ (ps : List Placed). block_phis g n (entries g n) p k c ++ ps) (insts_push m e.front e.last other)
+      ∙ sym (append_assoc (block_phis g n (entries g n) p k c) (insts g n m e.front) (inst g n (number_behind m e.front) e.last ∷ [])) in
+      ap (ends_in_only is_last) are
+      ∙ ends_last is_last (block_phis g n (entries g n) p k c ++ insts g n m e.front) (inst g n (number_behind m e.front) e.last)
+      (any_append is_last (block_phis g n (entries g n) p k c) (insts g n m e.front) (block_phis_open (entries g n) p k c) (insts_open m e.front e.before))
+      (ends_alike e.last.kind e.last.operands e.last.successors other ∙ e.ends)
+
+  -- ---- phis first
+
+  no_phi : (k : Kind) (vs : List Value) (ss : List Successor) → L.phi_entries (instruction_for g n k vs ss) ≡ None
+  no_phi (ConstantOp value) vs ss = refl
+  no_phi (AddOp flags) vs ss = refl
+  no_phi (ICmpOp predicate) vs ss = refl
+  no_phi BrOp vs ss = refl
+  no_phi CondBrOp vs ss = refl
+  no_phi ReturnOp vs ss = refl
+  no_phi UnreachableOp vs ss = refl
+
+  insts_no_phi : (k : ℕ) (os : List DialectOp) → All (λ (p : Placed). is_phi p ≡ false) (insts g n k os)
+  insts_no_phi k [] = All-nil (λ (p : Placed). is_phi p ≡ false)
+  insts_no_phi k (o ∷ os) = by (is_constant o) (insts_no_phi (number_after o.result k) os)
+    where
+      by : (t : Bool) → All (λ (p : Placed). is_phi p ≡ false) (insts g n (number_after o.result k) os) → All (λ (p : Placed). is_phi p ≡ false) (if t then insts g n (number_after o.result k) os else inst g n k o ∷ insts g n (number_after o.result k) os)
+      by true r = r
+      by false r = All-cons (λ (p : Placed). is_phi p ≡ false) (inst g n k o) (insts g n (number_after o.result k) os) (ap (λ (x : Option (List (Operand × ℕ))). is_some x) (no_phi o.kind o.operands o.successors)) r
+
+  phis_phi : (given : Value → List (Operand × ℕ)) (b i k : ℕ) (ts : List TypeTree) → All (λ (p : Placed). is_phi p ≡ true) (phis g n given b i k ts)
+  phis_phi given b i k [] = All-nil (λ (p : Placed). is_phi p ≡ true)
+  phis_phi given b i k (t ∷ ts) = All-cons (λ (p : Placed). is_phi p ≡ true) _ (phis g n given b (suc i) (k + 1) ts) refl (phis_phi given b (suc i) (k + 1) ts)
+
+  block_phis_phi : (given : Value → List (Operand × ℕ)) (p k : ℕ) (c : DialectBlock) → All (λ (p : Placed). is_phi p ≡ true) (block_phis g n given p k c)
+  block_phis_phi given zero k c = All-nil (λ (p : Placed). is_phi p ≡ true)
+  block_phis_phi given (suc p) k c = phis_phi given c.number 0 k c.args
+
+  phis_first : (xs ys : List Placed) → All (λ (p : Placed). is_phi p ≡ true) xs → All (λ (p : Placed). is_phi p ≡ false) ys → F.HasPhisFirst (xs ++ ys)
+  phis_first xs ys h k i j x y lt at at' none = ⊎_elim
+      (λ early.
+      let in_front : i < length xs = let l = slice_get_within xs j y early in omega (arith, lt, l) in
+      let first = item_there xs i in_front in
+      let same : first.0 ≡ x = same_Some first.0 x (sym (slice_get-kept xs ys i first.0 first.1) ∙ at) in
+      let yep = all_at (λ (p : Placed). is_phi p ≡ true) xs i first.0 h first.1 in
+      absurd (let e : true ≡ false = sym yep ∙ ap is_phi same ∙ none in cc))
+      (λ late. all_at (λ (p : Placed). is_phi p ≡ false) ys late.0 y k late.2)
+      (append_cases xs ys j y at')
+
+  -- ---- targets
+
+  target_form : (s : Successor) → HasTarget g s → IsTarget made (target_for g n s)
+  target_form s h =
+      let there = made_at g n (entries g n) 0 0 g.blocks (suc h.place) h.block h.here in (
+        h.place,
+        block_made g n (entries g n) (0 + suc h.place) (number_past 0 (take (suc h.place) g.blocks)) h.block,
+        there,
+        sym (ap (λ (m : ℕ). n.block + m) (place_is g form (suc h.place) s.block.0 h.block h.here h.number) ∙ (let e : n.block + suc h.place ≡ n.block + (0 + suc h.place) = omega arith in e)),
+      )
+
+  -- ---- instructions
+
+  none_type : (o : DialectOp) → o.result ≡ None → option_type o.result ≡ L.VoidType
+  none_type o e = ap option_type e
+
+  none_name : (o : DialectOp) (k : ℕ) → o.result ≡ None → result_name o.name o.result k ≡ []
+  none_name o k e = ap (λ (r : Option TypeTree). result_name o.name r k) e
+
+  no_result : (o : DialectOp) (k : ℕ) → o.result ≡ None → HasNoResult (inst g n k o)
+  no_result o k e = record { type = none_type o e; name = none_name o k e }
+
+  first_target : (ss : List Successor) (count : ℕ) → length ss ≡ suc count → All (λ (s : Successor). IsTarget made (target_for g n s)) ss → IsTarget made (target_at g n ss 0)
+  first_target [] count e h = absurd (omega (arith, e))
+  first_target (s ∷ ss) count e h = All-head (λ (s : Successor). IsTarget made (target_for g n s)) s ss h
+
+  second_target : (ss : List Successor) (count : ℕ) → length ss ≡ suc (suc count) → All (λ (s : Successor). IsTarget made (target_for g n s)) ss → IsTarget made (target_at g n ss 1)
+  second_target [] count e h = absurd (omega (arith, e))
+  second_target (s ∷ []) count e h = absurd (omega (arith, e))
+  second_target (s ∷ (t ∷ ss)) count e h = All-head (λ (s : Successor). IsTarget made (target_for g n s)) t ss (All-tail (λ (s : Successor). IsTarget made (target_for g n s)) s (t ∷ ss) h)
+
+  result_type : F.result_of made.type ≡ type_of (result_of g.type)
+  result_type = ap (λ (t : TypeTree). F.result_of (type_of t)) form.type ∙ ap (λ (t : TypeTree). type_of (result_of t)) (sym form.type)
+
+  instruction_form : (b k : ℕ) (o : DialectOp) (kind : Kind) → IsFormKind g o kind → is_constant_kind kind ≡ false → IsPlainOrNone (result_name o.name o.result k) → All (λ (s : Successor). IsTarget made (target_for g n s)) o.successors
+      → IsFormInstruction made b (inst g n k o) (instruction_for g n kind o.operands o.successors)
+  instruction_form b k o (ConstantOp value) h other name targets = cc
+  instruction_form b k o (AddOp flags) h other name targets =
+      let is : type_of h.0 ≡ option_type o.result = sym (ap option_type h.5) in
+      subst (λ (vs : List Value). IsFormInstruction made b (inst g n k o) (instruction_for g n (AddOp flags) vs o.successors)) (sym h.3)
+      (subst (λ (u : L.TypeTree). F.IsOperand made u (operand_for g n h.1)) is (operand_form g form n (entries g n) h.1 h.0 h.6), subst (λ (u : L.TypeTree). F.IsOperand made u (operand_for g n h.2)) is (operand_form g form n (entries g n) h.2 h.0 h.7), name)
+  instruction_form b k o (ICmpOp predicate) h other name targets =
+      subst (λ (vs : List Value). IsFormInstruction made b (inst g n k o) (instruction_for g n (ICmpOp predicate) vs o.successors)) (sym h.3)
+      ((type_of h.0, operand_form g form n (entries g n) h.1 h.0 h.6, operand_form g form n (entries g n) h.2 h.0 h.7), ap option_type h.5, name)
+  instruction_form b k o BrOp h other name targets = (first_target o.successors 0 h.1.count_is targets, no_result o k h.1.result)
+  instruction_form b k o CondBrOp h other name targets =
+      subst (λ (vs : List Value). IsFormInstruction made b (inst g n k o) (instruction_for g n CondBrOp vs o.successors)) (sym h.1)
+      (operand_form g form n (entries g n) h.0 (IntegerType 1) h.2, first_target o.successors 1 h.3.count_is targets, second_target o.successors 0 h.3.count_is targets, no_result o k h.3.result)
+  instruction_form b k o ReturnOp h other name targets = ⊎_elim
+      (λ none. subst (λ (vs : List Value). IsFormInstruction made b (inst g n k o) (instruction_for g n ReturnOp vs o.successors)) (sym none.0) (result_type ∙ none.1, no_result o k h.1.result))
+      (λ one. subst (λ (vs : List Value). IsFormInstruction made b (inst g n k o) (instruction_for g n ReturnOp vs o.successors)) (sym one.1)
+      (subst (λ (u : L.TypeTree). F.IsOperand made u (operand_for g n one.0)) (sym result_type) (operand_form g form n (entries g n) one.0 (result_of g.type) one.2), no_result o k h.1.result))
+      (returned g (result_of g.type) o.operands h.0)
+  instruction_form b k o UnreachableOp h other name targets = no_result o k h.1.result
+
+  insts_form : (b k : ℕ) (os : List DialectOp) → number_behind k os < 2 ^ 64
+      → ((i m : ℕ) (o : DialectOp) → slice_get os i ≡ Some o → is_constant o ≡ false → m < 2 ^ 64 → IsFormInstruction made b (inst g n m o) (inst g n m o).instruction) → All (λ (p : Placed). IsFormInstruction made b p p.instruction) (insts g n k os)
+  insts_form b k [] small h = All-nil (λ (p : Placed). IsFormInstruction made b p p.instruction)
+  insts_form b k (o ∷ os) small h = by (is_constant o) refl (insts_form b (number_after o.result k) os small (λ i m x at. h (suc i) m x at))
+    where
+      by : (t : Bool) → is_constant o ≡ t → All (λ (p : Placed). IsFormInstruction made b p p.instruction) (insts g n (number_after o.result k) os)
+          → All (λ (p : Placed). IsFormInstruction made b p p.instruction) (if t then insts g n (number_after o.result k) os else inst g n k o ∷ insts g n (number_after o.result k) os)
+      by true e r = r
+      by false e r = All-cons (λ (p : Placed). IsFormInstruction made b p p.instruction) (inst g n k o) (insts g n (number_after o.result k) os) (h 0 k o refl e (let l = behind_le k (o ∷ os) in omega (arith, small, l))) r
+
+  module _ (accepted : IsAccepted g) (targets : HasTargets g) (small : number_past 0 g.blocks < 2 ^ 64) where
+    has_target : (j l : ℕ) (c : DialectBlock) (s : Successor) → slice_get g.blocks j ≡ Some c → slice_get (edges_of c) l ≡ Some s → HasTarget g s
+    has_target j l c s at at' = edge_target g s (edge_form g form n j l c s at at') (all_at (FitsTarget g) (edges_of c) l s (accepted.edges j c at).targets at')
+
+    op_leads : (j i : ℕ) (c : DialectBlock) (o : DialectOp) → slice_get g.blocks j ≡ Some c → slice_get c.ops i ≡ Some o → All (λ (s : Successor). IsTarget made (target_for g n s)) o.successors
+    op_leads j i c o at at' = all_from (λ (s : Successor). IsTarget made (target_for g n s)) o.successors (λ l s at''. let m = edge_among c.ops i l o s at' at'' in target_form s (has_target j m.0 c s at m.1))
+
+    -- ---- phis
+
+    -- an edge leads to a block, or to another
+    leads_to : (t : ℕ) (c : DialectBlock) (i : ℕ) (ty : TypeTree) → slice_get g.blocks (suc t) ≡ Some c → slice_get c.args i ≡ Some ty → (s : Successor) → HasTarget g s → LeadsTo g n (record { 0 = c.number }) (n.block + (0 + suc t)) i s
+    leads_to t c i ty at type s h = ⊎_elim
+        (λ same.
+        let place : suc h.place ≡ suc t = form.block_numbers (suc h.place) (suc t) h.block c h.here at (h.number ∙ same) in
+        let is : h.block ≡ c = same_Some h.block c (sym h.here ∙ ap (slice_get g.blocks) place ∙ at) in
+        let count : length s.args ≡ length c.args = h.count ∙ ap (λ (x : DialectBlock). length x.args) is in
+        inl (same, (let l = slice_get_within c.args i ty type in omega (arith, count, l)), to ∙ ap (λ (m : ℕ). n.block + m) (place ∙ (let e : suc t ≡ 0 + suc t = omega arith in e))))
+        (λ other. inr (other, λ e. other (sym h.number ∙ ap (λ (x : DialectBlock). x.number) (same_Some h.block c (sym h.here ∙ ap (slice_get g.blocks) (let k = sym to ∙ e in let l : suc h.place ≡ suc t = omega (arith, k) in l) ∙ at)))))
+        (cases_eq s.block.0 c.number)
+      where
+        to : target_for g n s ≡ n.block + suc h.place
+        to = ap (λ (m : ℕ). n.block + m) (place_is g form (suc h.place) s.block.0 h.block h.here h.number)
+
+    phi_counts : (t : ℕ) (c : DialectBlock) (i : ℕ) (ty : TypeTree) → slice_get g.blocks (suc t) ≡ Some c → slice_get c.args i ≡ Some ty → (p : ℕ)
+        → count_of p (map (λ (e : Operand × ℕ). e.1) (entries g n (Argument (record { 0 = c.number }) i))) ≡ F.edges_between made p (n.block + (0 + suc t))
+    phi_counts t c i ty at type p =
+        entries_count g n form (entries g n) (record { 0 = c.number }) (n.block + (0 + suc t)) i p 0 0 g.blocks (λ j d at'. (j, at')) (λ j l d s at' at''. leads_to t c i ty at type s (has_target j l d s at' at''))
+
+    phi_alike : (b : BlockRef) (i : ℕ) (k l : ℕ) (x y : Operand × ℕ) → slice_get (entries g n (Argument b i)) k ≡ Some x → slice_get (entries g n (Argument b i)) l ≡ Some y → x.1 ≡ y.1 → x.0 ≡ y.0
+    phi_alike b i k l x y at at' e =
+        let p = comes_by g n 0 g.blocks b i k x at in
+        let q = comes_by g n 0 g.blocks b i l y at' in
+        let place : p.at ≡ q.at = let u = p.source in let v = q.source in omega (arith, u, v, e) in
+        let block : p.block ≡ q.block = same_Some p.block q.block (sym p.here ∙ ap (slice_get g.blocks) place ∙ q.here) in
+        let there : slice_get (edges_of p.block) q.edge_at ≡ Some q.edge = ap (λ (c : DialectBlock). slice_get (edges_of c) q.edge_at) block ∙ q.there in
+        let to : p.edge.block ≡ q.edge.block = ap (λ (m : ℕ). let b : BlockRef = record { 0 = m } in b) (p.to ∙ sym q.to) in
+        let args = (accepted.edges p.at p.block p.here).equal p.edge_at q.edge_at p.edge q.edge p.there there to in
+        let value : p.value ≡ q.value = same_Some p.value q.value (sym p.passes ∙ ap (λ (vs : List Value). slice_get vs i) args ∙ q.passes) in
+        p.is ∙ ap (operand_for g n) value ∙ sym q.is
+
+    -- an entry is an operand of the argument's type
+    phi_operand : (t : ℕ) (c : DialectBlock) (i : ℕ) (ty : TypeTree) → slice_get g.blocks (suc t) ≡ Some c → slice_get c.args i ≡ Some ty → (l : ℕ) (x : Operand × ℕ) → slice_get (entries g n (Argument (record { 0 = c.number }) i)) l ≡ Some x → F.IsOperand made (type_of ty) x.0
+    phi_operand t c i ty at type l x at' =
+        let p = comes_by g n 0 g.blocks (record { 0 = c.number }) i l x at' in
+        let good = edge_form g form n p.at p.edge_at p.block p.edge p.here p.there in
+        let typed : value_type g p.value ≡ Some ty = good.typed (suc t) c i p.value ty at (sym p.to) p.passes type in
+        let short = all_at IsShortInt c.args i ty (block_form g form (suc t) c at).args type in
+        subst (F.IsOperand made (type_of ty)) (sym p.is) (operand_form g form n (entries g n) p.value ty (record { typed = typed; short = short }))
+
+    phi_some : (t : ℕ) (c : DialectBlock) (i : ℕ) (ty : TypeTree) → slice_get g.blocks (suc t) ≡ Some c → slice_get c.args i ≡ Some ty → entries g n (Argument (record { 0 = c.number }) i) ≡ [] → ⊥
+    phi_some t c i ty at type none =
+        let some : c.args ≡ [] → ⊥ = λ e. none-some ty (sym (ap (λ (ts : List TypeTree). slice_get ts i) e) ∙ type) in
+        let r = targets t c at some in
+        let h = has_target r.0 r.1 r.2 r.3 r.4 r.5 in
+        let place : suc h.place ≡ suc t = form.block_numbers (suc h.place) (suc t) h.block c h.here at (h.number ∙ r.6) in
+        let is : h.block ≡ c = same_Some h.block c (sym h.here ∙ ap (slice_get g.blocks) place ∙ at) in
+        let count : length r.3.args ≡ length c.args = h.count ∙ ap (λ (x : DialectBlock). length x.args) is in
+        let v = item_there r.3.args i (let l = slice_get_within c.args i ty type in omega (arith, count, l)) in
+        let equal = (accepted.edges r.0 r.2 r.4).equal in
+        let found = first_entry g n 0 g.blocks r.0 r.2 (n.block + (0 + r.0)) i (record { 0 = c.number }) v.0 r.3.args r.1 r.3 r.4 refl r.5 r.6 (λ k u there to. equal k r.1 u r.3 there r.5 (ap (λ (m : ℕ). let b : BlockRef = record { 0 = m } in b) (to ∙ sym r.6))) v.1 in
+        none-some (operand_for g n v.0, n.block + (0 + r.0)) (sym (ap (find (is_from g n (n.block + (0 + r.0)))) none) ∙ found)
+
+    value_plain : (k : ℕ) → k < 2 ^ 64 → IsPlainOrNone (value_name None k)
+    value_plain k lt = bare_plain 118 [] k lt refl refl
+
+    phis_form : (t : ℕ) (c : DialectBlock) → slice_get g.blocks (suc t) ≡ Some c → (i k : ℕ) (ts : List TypeTree) → k + length ts < 2 ^ 64 → ((m : ℕ) (ty : TypeTree) → slice_get ts m ≡ Some ty → slice_get c.args (i + m) ≡ Some ty)
+        → All (λ (p : Placed). IsFormInstruction made (n.block + (0 + suc t)) p p.instruction) (phis g n (entries g n) c.number i k ts)
+    phis_form t c at i k [] lt are = All-nil (λ (p : Placed). IsFormInstruction made (n.block + (0 + suc t)) p p.instruction)
+    phis_form t c at i k (ty ∷ ts) lt are =
+        let v = Argument (record { 0 = c.number }) i in
+        let type : slice_get c.args i ≡ Some ty = ap (slice_get c.args) (let e : i ≡ i + 0 = omega arith in e) ∙ are 0 ty refl in
+        All-cons (λ (p : Placed). IsFormInstruction made (n.block + (0 + suc t)) p p.instruction) _ (phis g n (entries g n) c.number (suc i) (k + 1) ts) (
+          all_from (λ (e : Operand × ℕ). F.IsOperand made (type_of ty) e.0) (entries g n v) (λ l x at'. phi_operand t c i ty at type l x at'),
+          record { counts = phi_counts t c i ty at type; alike = phi_alike (record { 0 = c.number }) i; some = phi_some t c i ty at type },
+          to_short ty (all_at IsShortInt c.args i ty (block_form g form (suc t) c at).args type),
+          value_plain k (omega (arith, lt)),
+        ) (phis_form t c at (suc i) (k + 1) ts (omega (arith, lt)) (λ m u at'. ap (slice_get c.args) (let e : suc i + m ≡ i + suc m = omega arith in e) ∙ are (suc m) u at'))
+
+    -- ---- blocks
+
+    instructions_form : (j k : ℕ) (c : DialectBlock) → slice_get g.blocks j ≡ Some c → number_behind (k + length c.args) c.ops < 2 ^ 64
+        → All (λ (p : Placed). IsFormInstruction made (n.block + (0 + j)) p p.instruction) (block_made g n (entries g n) (0 + j) k c).instructions
+    instructions_form j k c at lt =
+        let P : Placed → Type 0 = λ p. IsFormInstruction made (n.block + (0 + j)) p p.instruction in
+        All-append P (block_phis g n (entries g n) (0 + j) k c) (insts g n (k + length c.args) c.ops)
+        (subst (λ (q : ℕ). All P (block_phis g n (entries g n) q k c)) (let e : j ≡ 0 + j = omega arith in e) (front j at))
+        (insts_form (n.block + (0 + j)) (k + length c.args) c.ops lt (λ i m o at' other small. instruction_form (n.block + (0 + j)) m o o.kind (op_form g form j i c o at at').kind other (((accepted.blocks j c at).ops i o at').named other m small) (op_leads j i c o at at')))
+      where
+        front : (j : ℕ) → slice_get g.blocks j ≡ Some c → All (λ (p : Placed). IsFormInstruction made (n.block + (0 + j)) p p.instruction) (block_phis g n (entries g n) j k c)
+        front zero at = All-nil (λ (p : Placed). IsFormInstruction made (n.block + (0 + zero)) p p.instruction)
+        front (suc t) at = phis_form t c at 0 k c.args (let l = behind_le (k + length c.args) c.ops in omega (arith, l, lt)) (λ m ty at'. ap (slice_get c.args) (let e : 0 + m ≡ m = omega arith in e) ∙ at')
+
+    made_block_form : (j : ℕ) (c : DialectBlock) → slice_get g.blocks j ≡ Some c → IsFormBlock made (block_made g n (entries g n) (0 + j) (number_past 0 (take j g.blocks)) c)
+    made_block_form j c at =
+        let k = number_past 0 (take j g.blocks) in
+        let past = block_past g.blocks j 0 c at in
+        record {
+          label = subst (λ (q : ℕ). IsPlainOrNone (block_name c.label q)) (let e : j ≡ 0 + j = omega arith in e) (accepted.blocks j c at).label;
+          instructions = instructions_form j k c at (omega (arith, past, small));
+          phis = phis_first (block_phis g n (entries g n) (0 + j) k c) (insts g n (k + length c.args) c.ops) (block_phis_phi (entries g n) (0 + j) k c) (insts_no_phi (k + length c.args) c.ops);
+          ends = block_ends (0 + j) k j c at;
+        }
+
+    pub made_form : IsFormFunction made
+    made_form = record {
+      name = plain_is g.name form.name form.named;
+      result = type_of form.result;
+      types = types_of form.types;
+      type = ap type_of form.type;
+      returns = short_result form.result form.returns;
+      takes = short_ints form.types form.takes;
+      space = refl;
+      params = params_count g form n (entries g n) ∙ ap (λ (ts : List TypeTree). length ts) form.params ∙ sym (type_count form.types);
+      param_names = unnamed_plain (entry_args g n);
+      body = λ e. none-some form.entry (sym (ap (λ (bs : List Block). option_map (λ (b : Block). form.entry) (slice_get bs 0)) e) ∙ ap (option_map (λ (b : Block). form.entry)) (made_at g n (entries g n) 0 0 g.blocks 0 form.entry (entry_at g form)));
+      blocks = all_from (IsFormBlock made) made.blocks (λ j b at. let r = made_from g n (entries g n) 0 0 g.blocks j b at in subst (IsFormBlock made) (sym r.2) (made_block_form j r.0 r.1));
+      block_numbers = numbers_distinct (λ (b : Block). b.number) made.blocks (made_numbered g n (entries g n) 0 0 g.blocks);
+      numbers = numbers_distinct (λ (p : Placed). p.number) (placed_in made) (placed_numbered g form n (entries g n));
     }
-
-pub next_in : (t : Task) (c : ContextData) (ops : List OpRef) (i : ℕ) (d : OpRef) (body0 body : Body) (m0 m : Module) → IsBegun t c ops body0 m0 → i < length ops
-    → IsBuilding t (filter_map (op_at (type_trees c.types) c.ops) (take i ops)) body m → IsNextIn t (filter_map (op_at (type_trees c.types) c.ops) (take i ops)) c (get_or ops i d) body m
-next_in t c ops i d body0 body m0 m begun lt h = record {
-  building = h;
-  form = λ o is.
-      let r = filter_map_at (op_at (type_trees c.types) c.ops) ops i d o lt is in
-      form_at t begun.form (filter_map (op_at (type_trees c.types) c.ops) (take i ops)) r.0 o begun.block (sym begun.are ∙ r.1);
-}
-
--- ---- constants first
-
-pub constants_are : (hoisted rest : List DialectOp) → All (λ (o : DialectOp). is_constant o ≡ true) hoisted → All (λ (o : DialectOp). is_constant o ≡ false) rest → constants_of (hoisted ++ rest) ≡ hoisted
-constants_are hoisted rest h k = filter-append is_constant hoisted rest ∙ ap (λ (xs : List DialectOp). xs ++ constants_of rest) (filter_all is_constant hoisted h) ∙ ap (λ (xs : List DialectOp). hoisted ++ xs) (filter_none is_constant rest k) ∙ append-nil hoisted
-
-pub others_are : (hoisted rest : List DialectOp) → All (λ (o : DialectOp). is_constant o ≡ true) hoisted → All (λ (o : DialectOp). is_constant o ≡ false) rest → others_of (hoisted ++ rest) ≡ rest
-others_are hoisted rest h k =
-    let p : DialectOp → Bool = λ o. not (is_constant o) in
-    filter-append p hoisted rest ∙ ap (λ (xs : List DialectOp). xs ++ others_of rest) (filter_none p hoisted (All-weaker (λ (o : DialectOp). is_constant o ≡ true) (λ (o : DialectOp). p o ≡ false) (λ o e. ap not e) hoisted h))
-    ∙ filter_all p rest (All-weaker (λ (o : DialectOp). is_constant o ≡ false) (λ (o : DialectOp). p o ≡ true) (λ o e. ap not e) rest k)

@@ -1,5 +1,5 @@
 -- What a module of LLVM keeps as it grows.
-use Rattle.std.proofs.Common.{◌≡◌, ◌<◌, ◌⊎◌, inl, inr, ℕ, zero, suc, List, [], ◌∷◌, ◌++◌, Option, Some, None, All, length, map, slice_get, refl, sym, ap, subst, ◌∙◌, arith, append_assoc, length-append}
+use Rattle.std.proofs.Common.{◌≡◌, ◌<◌, ◌⊎◌, inl, inr, ℕ, zero, suc, Bool, true, false, nat_eq, eqb-true, eq-eqb, List, [], ◌∷◌, ◌++◌, Option, Some, None, All, length, map, slice_get, refl, sym, ap, subst, ◌∙◌, arith, append_assoc, length-append}
 use Rattle.std.specs.Option.{option_map, option_map_or}
 use Rattle.std.proofs.lemmas.List.{append-nil}
 use Rattle.std.proofs.lemmas.List.Elements.{All-weaker, All-head, All-tail}
@@ -11,32 +11,44 @@ use Rattle.llvm_core.specs.declared.consts.LLVMConstKind.{LLVMConstKind}
 use Rattle.llvm_core.specs.declared.consts.LLVMConstKind.TheVariants as C
 use Rattle.llvm_core.specs.declared.code.LLVMValue.{LLVMValue}
 use Rattle.llvm_core.specs.declared.code.LLVMValue.TheVariants as V
+use Rattle.llvm_core.specs.declared.numbers.LLVMInstRef.{LLVMInstRef}
+use Rattle.llvm_core.specs.declared.code.PhiEntry.{PhiEntry}
+use Rattle.llvm_core.specs.declared.code.LLVMInst.{LLVMInst}
+use Rattle.llvm_core.specs.declared.code.LLVMInst.TheVariants as I
+use Rattle.llvm_core.specs.Code as code
+use Rattle.llvm_core.specs.Code.{code_of, with_code, with_change, with_changed_inst}
+use Rattle.llvm_core.proofs.ChangeLemmas.{slice_get-changed, slice_get-unchanged}
 use Rattle.llvm_core.specs.declared.code.FunctionData.{FunctionData}
 use Rattle.llvm_core.specs.declared.code.InstData.{InstData}
 use Rattle.llvm_core.specs.Interned.{Interned}
 use Rattle.llvm_core.specs.Module.{Module}
 use Rattle.llvm_core.specs.Sound.{IsModule}
-use Rattle.llvm_core.specs.Parts.{IsTypeOver, IsValue, const_type, param_types, type_params, kind_params, value_type}
+use Rattle.llvm_core.specs.Parts.{IsTypeOver, IsValue, IsPhi, is_phi, const_type, param_types, type_params, kind_params, value_type}
 use Rattle.llvm_core.specs.Data as L
 use Rattle.llvm_core.specs.Data.{TypeTree, TypeTrees, NoTypes, ThenType, VoidType, IntType, FunctionType, type_at, types_at, const_at, trees_of, operand_of, type_trees, const_trees, IntConst}
 use Rattle.llvm_core.proofs.ListLemmas.{slice_get-kept}
 use Rattle.llvm_core.proofs.TreeLemmas.{type_at-kept, const_trees-retyped, const_at-kept}
 use Rattle.llvm_core.proofs.DataLemmas.{int_tree_of, void_tree_of, function_tree_of, there}
-use Rattle.to_llvm_ir.specs.Growth.{Grows, IsTypeOf, AreTypesOf, HasType}
+use Rattle.to_llvm_ir.specs.Growth.{Grows, KeepsInst, IsTypeOf, AreTypesOf, HasType}
 
 -- ---- growth
 
-pub grows_refl : (m : Module) → Grows m m
-grows_refl m = record {
-  more_types = [];
-  types = sym (append-nil m.types);
-  more_consts = [];
-  consts = sym (append-nil m.consts);
-  functions = refl;
-  blocks = refl;
-  more_insts = [];
-  insts = sym (append-nil m.insts);
+pub keeps_same : (x : InstData) → KeepsInst x x
+keeps_same x = record { type = refl; phi = λ e. e }
+
+-- functions and instructions stay
+pub grows_by : (old new : Module) (more_types : List LLVMTypeKind) (more_consts : List LLVMConstKind) → new.types ≡ old.types ++ more_types → new.consts ≡ old.consts ++ more_consts → new.functions ≡ old.functions → new.insts ≡ old.insts → Grows old new
+grows_by old new more_types more_consts types consts functions insts = record {
+  more_types = more_types;
+  types = types;
+  more_consts = more_consts;
+  consts = consts;
+  functions = λ f x at. (x, ap (λ (xs : List FunctionData). slice_get xs f) functions ∙ at, refl);
+  insts = λ i x at. (x, ap (λ (xs : List InstData). slice_get xs i) insts ∙ at, keeps_same x);
 }
+
+pub grows_refl : (m : Module) → Grows m m
+grows_refl m = grows_by m m [] [] (sym (append-nil m.types)) (sym (append-nil m.consts)) refl refl
 
 appended : {X : Type 0} (xs ys zs us vs : List X) → ys ≡ xs ++ us → zs ≡ ys ++ vs → zs ≡ xs ++ (us ++ vs)
 appended xs ys zs us vs e f = f ∙ ap (λ (ws : List _). ws ++ vs) e ∙ append_assoc xs us vs
@@ -47,10 +59,8 @@ grows_then a b c g h = record {
   types = appended a.types b.types c.types g.more_types h.more_types g.types h.types;
   more_consts = g.more_consts ++ h.more_consts;
   consts = appended a.consts b.consts c.consts g.more_consts h.more_consts g.consts h.consts;
-  functions = h.functions ∙ g.functions;
-  blocks = h.blocks ∙ g.blocks;
-  more_insts = g.more_insts ++ h.more_insts;
-  insts = appended a.insts b.insts c.insts g.more_insts h.more_insts g.insts h.insts;
+  functions = λ f x at. let p = g.functions f x at in let q = h.functions f p.0 p.1 in (q.0, q.1, q.2 ∙ p.2);
+  insts = λ i x at. let p = g.insts i x at in let q = h.insts i p.0 p.1 in (q.0, q.1, record { type = q.2.type ∙ p.2.type; phi = λ e. q.2.phi (p.2.phi e) });
 }
 
 interned_more : {X : Type 0} (old new : List X) (k : X) (n : ℕ) → Interned old new k n → (more : List X) × (new ≡ old ++ more)
@@ -62,28 +72,14 @@ interned_more old new k n h = by h.only
 
 -- a type more, or a constant
 pub grows_type : (old new : Module) (k : LLVMTypeKind) (n : ℕ) → Interned old.types new.types k n → new ≡ record old { types = new.types } → Grows old new
-grows_type old new k n h rest = let m = interned_more old.types new.types k n h in record {
-  more_types = m.0;
-  types = m.1;
-  more_consts = [];
-  consts = ap (λ (x : Module). x.consts) rest ∙ sym (append-nil old.consts);
-  functions = ap (λ (x : Module). x.functions) rest;
-  blocks = ap (λ (x : Module). length x.blocks) rest;
-  more_insts = [];
-  insts = ap (λ (x : Module). x.insts) rest ∙ sym (append-nil old.insts);
-}
+grows_type old new k n h rest =
+    let m = interned_more old.types new.types k n h in
+    grows_by old new m.0 [] m.1 (ap (λ (x : Module). x.consts) rest ∙ sym (append-nil old.consts)) (ap (λ (x : Module). x.functions) rest) (ap (λ (x : Module). x.insts) rest)
 
 pub grows_const : (old new : Module) (k : LLVMConstKind) (n : ℕ) → Interned old.consts new.consts k n → new ≡ record old { consts = new.consts } → Grows old new
-grows_const old new k n h rest = let m = interned_more old.consts new.consts k n h in record {
-  more_types = [];
-  types = ap (λ (x : Module). x.types) rest ∙ sym (append-nil old.types);
-  more_consts = m.0;
-  consts = m.1;
-  functions = ap (λ (x : Module). x.functions) rest;
-  blocks = ap (λ (x : Module). length x.blocks) rest;
-  more_insts = [];
-  insts = ap (λ (x : Module). x.insts) rest ∙ sym (append-nil old.insts);
-}
+grows_const old new k n h rest =
+    let m = interned_more old.consts new.consts k n h in
+    grows_by old new [] m.0 (ap (λ (x : Module). x.types) rest ∙ sym (append-nil old.types)) m.1 (ap (λ (x : Module). x.functions) rest) (ap (λ (x : Module). x.insts) rest)
 
 -- ---- types by number
 
@@ -143,14 +139,15 @@ value_type_kept old new (V.Inst i) t g h = by (slice_get old.insts i.0) refl h
   where
     by : (o : Option InstData) → slice_get old.insts i.0 ≡ o → option_map (λ (x : InstData). x.ty) o ≡ Some t → option_map (λ (x : InstData). x.ty) (slice_get new.insts i.0) ≡ Some t
     by None e k = cc
-    by (Some x) e k = ap (λ (is : List InstData). option_map (λ (x : InstData). x.ty) (slice_get is i.0)) g.insts ∙ ap (option_map (λ (x : InstData). x.ty)) (slice_get-kept old.insts g.more_insts i.0 x e) ∙ k
+    by (Some x) e k = let y = g.insts i.0 x e in ap (option_map (λ (x : InstData). x.ty)) y.1 ∙ ap Some y.2.type ∙ k
 value_type_kept old new (V.Param f place) t g h = by (slice_get old.functions f.0) refl h
   where
     by : (o : Option FunctionData) → slice_get old.functions f.0 ≡ o → slice_get (option_map_or (param_types old) o []) place ≡ Some t → slice_get (option_map_or (param_types new) (slice_get new.functions f.0) []) place ≡ Some t
     by None e k = cc
     by (Some x) e k =
-        ap (λ (fs : List FunctionData). slice_get (option_map_or (param_types new) (slice_get fs f.0) []) place) g.functions
-        ∙ ap (λ (o : Option FunctionData). slice_get (option_map_or (param_types new) o []) place) e
+        let y = g.functions f.0 x e in
+        ap (λ (o : Option FunctionData). slice_get (option_map_or (param_types new) o []) place) y.1
+        ∙ ap (λ (ty : LLVMType). slice_get (type_params new.types ty) place) y.2
         ∙ ap (λ (ks : List LLVMTypeKind). slice_get (type_params ks x.ty) place) g.types
         ∙ params_kept old.types g.more_types x.ty place t k
 
@@ -181,6 +178,7 @@ type_there m (V.Const c) t s h = by (slice_get m.consts c.0) refl h
   where
     kind : (k : LLVMConstKind) → slice_get m.consts c.0 ≡ Some k → (const_type k).0 < length m.types
     kind (C.Int u v) e = let p = s.consts c.0 (C.Int u v) e in slice_get_within m.types u.0 _ p.1
+    kind (C.Placeholder number u) e = s.consts c.0 (C.Placeholder number u) e
 
     by : (o : Option LLVMConstKind) → slice_get m.consts c.0 ≡ o → option_map const_type o ≡ Some t → t.0 < length m.types
     by None e k = cc
@@ -225,3 +223,55 @@ operand_kept old new (V.Const c) t s g h =
     ∙ ap (λ (cs : List L.ConstTree). const_at cs c) (const_trees-retyped old.types g.more_types old.consts s.consts))
 operand_kept old new (V.Param f place) t s g h = refl
 operand_kept old new (V.Inst i) t s g h = refl
+
+-- a phi stays one
+pub phi_kept : (old new : Module) (i : LLVMInstRef) → Grows old new → IsPhi old.insts i → IsPhi new.insts i
+phi_kept old new i g h = let y = g.insts i.0 h.0 h.1 in (y.0, y.1, y.2.phi h.2)
+
+-- ---- changes of the code
+
+-- an instruction more
+pub grows_inst : (old new : Module) (more_types : List LLVMTypeKind) (x : InstData) → new.types ≡ old.types ++ more_types → new.consts ≡ old.consts → new.functions ≡ old.functions → new.insts ≡ old.insts ++ x ∷ [] → Grows old new
+grows_inst old new more_types x types consts functions insts = record {
+  more_types = more_types;
+  types = types;
+  more_consts = [];
+  consts = consts ∙ sym (append-nil old.consts);
+  functions = λ f y at. (y, ap (λ (xs : List FunctionData). slice_get xs f) functions ∙ at, refl);
+  insts = λ i y at. (y, ap (λ (xs : List InstData). slice_get xs i) insts ∙ slice_get-kept old.insts (x ∷ []) i y at, keeps_same y);
+}
+
+changed_keeps : (e : PhiEntry) (inst : LLVMInst) → is_phi inst ≡ true → is_phi (code.with_entry inst e) ≡ true
+changed_keeps e (I.Phi type entries) h = refl
+changed_keeps e (I.Add lhs rhs flags) h = cc
+changed_keeps e (I.ICmp lhs rhs predicate) h = cc
+changed_keeps e (I.Br target) h = cc
+changed_keeps e (I.CondBr condition first second) h = cc
+changed_keeps e (I.Ret value) h = cc
+changed_keeps e I.Unreachable h = cc
+
+-- an entry more in a phi
+pub grows_entry : (old new : Module) (phi : LLVMInstRef) (e : PhiEntry) → new ≡ with_code old (with_changed_inst (code_of old) phi (λ i. code.with_entry i e)) → Grows old new
+grows_entry old new phi e is = record {
+  more_types = [];
+  types = ap (λ (m : Module). m.types) is ∙ sym (append-nil old.types);
+  more_consts = [];
+  consts = ap (λ (m : Module). m.consts) is ∙ sym (append-nil old.consts);
+  functions = λ f x at. (x, ap (λ (m : Module). slice_get m.functions f) is ∙ at, refl);
+  insts = λ i x at. by i x at (nat_eq i phi.0) refl;
+}
+  where
+    by : (i : ℕ) (x : InstData) → slice_get old.insts i ≡ Some x → (b : Bool) → nat_eq i phi.0 ≡ b → (y : InstData) × (slice_get new.insts i ≡ Some y) × KeepsInst x y
+    by i x at true same =
+        let here : i ≡ phi.0 = eqb-true i phi.0 same in (
+          record x { inst = code.with_entry x.inst e },
+          ap (λ (m : Module). slice_get m.insts i) is ∙ ap (slice_get (with_change (λ (x : InstData). record x { inst = code.with_entry x.inst e }) phi.0 old.insts)) here
+              ∙ slice_get-changed (λ (x : InstData). record x { inst = code.with_entry x.inst e }) phi.0 old.insts ∙ ap (λ (k : ℕ). option_map (λ (x : InstData). record x { inst = code.with_entry x.inst e }) (slice_get old.insts k)) (sym here)
+              ∙ ap (option_map (λ (x : InstData). record x { inst = code.with_entry x.inst e })) at,
+          record { type = refl; phi = changed_keeps e x.inst },
+        )
+    by i x at false differs = (
+      x,
+      ap (λ (m : Module). slice_get m.insts i) is ∙ slice_get-unchanged (λ (x : InstData). record x { inst = code.with_entry x.inst e }) phi.0 i old.insts (λ here. let k : true ≡ false = sym (eq-eqb i phi.0 here) ∙ differs in cc) ∙ at,
+      keeps_same x,
+    )

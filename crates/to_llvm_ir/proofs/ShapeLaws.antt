@@ -1,31 +1,38 @@
--- An exported function has the shape of the dialect's.
-use Rattle.std.proofs.Common.{◌≡◌, ◌+◌, ℕ, zero, suc, List, [], ◌∷◌, ◌++◌, Option, Some, None, length, map, take, slice_get, refl, sym, ap, subst, ◌∙◌, arith}
-use Rattle.std.specs.List.{filter_map, flat_map, cons_option}
-use Rattle.std.proofs.lemmas.List.{map-append}
-use Rattle.llvm_core.specs.declared.code.OverflowFlags.{OverflowFlags}
+-- The function that is made has the shape of the dialect's.
+use Rattle.std.proofs.Common.{◌≡◌, ◌+◌, ℕ, zero, suc, Bool, true, false, not, nat_eq, if◌then◌else◌, ◌⊎◌, inl, inr, List, [], ◌∷◌, ◌++◌, Option, Some, None, All, length, map, take, slice_get, refl, sym, ap, subst, ◌∙◌, arith, ⊎_elim}
+use Rattle.std.specs.List.{filter_map, cons_option, find}
+use Rattle.std.specs.Option.{option_map, option_map_or}
+use Rattle.std.proofs.lemmas.List.{map-append, append-nil}
+use Rattle.std.proofs.lemmas.List.Elements.{filter_map-append, filter-append, All-weaker}
+use Rattle.std.proofs.lemmas.Option.{slice_get-map}
 use Rattle.llvm_core.specs.Data as L
-use Rattle.llvm_core.specs.Data.{Placed, Operand, Constant, Parameter, Instruction, Add, Return, Function, Block, ModuleData, operand_type}
-use Rattle.dialect_types.specs.Trees.{TypeTree, VoidType, IntegerType, FuncType, AttrTree, IntegerAttr}
+use Rattle.llvm_core.specs.Data.{Placed, Operand, Instruction, Function, Block, ModuleData, operand_type, phi_entries, targets}
+use Rattle.dialect_types.specs.Trees.{TypeTree, VoidType, IntegerType, FuncType}
+use Rattle.dialect_core.specs.declared.numbers.BlockRef.{BlockRef}
 use Rattle.dialect_core.specs.declared.ops.Value.{Value}
-use Rattle.dialect_core.specs.declared.ops.Value.TheVariants.{Result, Argument}
+use Rattle.dialect_core.specs.declared.ops.Value.TheVariants.{Argument}
 use Rattle.dialect_core.specs.declared.ops.Successor.{Successor}
-use Rattle.dialect_core.specs.declared.overflow.IntegerOverflowFlagsAttr.{IntegerOverflowFlagsAttr}
-use Rattle.dialect_core.specs.Data.{DialectOp, DialectBlock, Func, Kind, ConstantOp, AddOp, ReturnOp, value_type}
-use Rattle.dialect_core.specs.Form.{IsFormFunc, IsFormKind, Returns, result_of}
+use Rattle.dialect_core.specs.Data.{DialectOp, DialectBlock, Func, Kind, ConstantOp, AddOp, ICmpOp, BrOp, CondBrOp, ReturnOp, UnreachableOp, value_type}
+use Rattle.dialect_core.specs.Form.{IsFormFunc, IsFormKind, IsOperand, Returns, result_of, FitsTarget, HasEqualEdges, IsExportable, is_constant, is_constant_kind, others_of, edges_of}
 use Rattle.meaning.specs.Terms as Op
-use Rattle.meaning.specs.Terms.{Term, rename, rename_type, rename_types, rename_immediate, overflow_immediates}
-use Rattle.meaning.specs.Machine.{Row, Action, Applies, At}
+use Rattle.meaning.specs.Terms.{Term, Predicate, rename, rename_type, rename_types, rename_immediate, overflow_immediates}
+use Rattle.meaning.specs.Machine.{Row, Action, Applies, At, Operand as MachineOperand, Block as MachineBlock}
 use Rattle.meaning.specs.Pairs.{Matched, BothOrNone}
 use Rattle.meaning.specs.Examples.{same_places}
 use Rattle.meaning.specs.Llvm as llvm
 use Rattle.meaning.specs.Llvm.{Key, ParamKey, ResultKey}
 use Rattle.meaning.specs.Dialect as dialect
-use Rattle.meaning.specs.Dialect.{type_of, option_type, attr_term}
+use Rattle.meaning.specs.Dialect.{type_of, option_type, attr_term, argument_moves, predicate_of}
 use Rattle.meaning.specs.Shape as S
-use Rattle.meaning.specs.Shape.{SameAction, SameRow, SameBlock, SameBlocks, SameShape, among, term_among}
-use Rattle.to_llvm_ir.specs.Pairing.{const_of, flags_of, StandsFor, SameKind}
-use Rattle.to_llvm_ir.proofs.TargetLaws.{IsTarget, other_at, operand_typed, stands_full, placed_numbered}
-use Rattle.to_llvm_ir.proofs.PlanLaws.{plan, is_plan, starts, value_at_is, rows, among_at, term_at, hoisted_numbered, param_stands}
+use Rattle.meaning.specs.Shape.{SameAction, SameRow, SameBlock, SameBlocks, SameShape, SameEdge, SameMove, IsFront}
+use Rattle.to_llvm_ir.specs.Exported.{number_after}
+use Rattle.to_llvm_ir.specs.Made.{Numbers, result, number_of, operand_for, instruction_for, inst, insts, phis, block_phis, block_made, function_made, entries, number_past}
+use Rattle.to_llvm_ir.specs.Links.{HasTarget}
+use Rattle.to_llvm_ir.proofs.ListLaws.{all_at, find_numbered, position_numbered, filter_all, filter_none}
+use Rattle.to_llvm_ir.proofs.LookupLaws.{op_form, argument_among, result_among, place_is, block_found, entry_at, first_is_entry}
+use Rattle.to_llvm_ir.proofs.PlacedLaws.{operand_typed}
+use Rattle.to_llvm_ir.proofs.PlanLaws.{plan, is_plan, starts, value_at, rows, stands}
+use Rattle.to_llvm_ir.proofs.EdgeLaws.{made_at, made_none, made_numbered, target_for, block_leads, edge_form, edge_target, first_entry}
 
 -- ---- the match that leaves all where it is
 
@@ -39,140 +46,278 @@ mutual
   types_same L.NoTypes = refl
   types_same (L.ThenType t ts) = let e = type_same t in let f = types_same ts in cc
 
-integer_same : (t : TypeTree) (n : ℕ) → rename same_places (llvm.int_of (type_of t) n) ≡ llvm.int_of (type_of t) n
-integer_same VoidType n = refl
-integer_same (IntegerType w) n = refl
-integer_same (FuncType r ps v) n = refl
+-- what a return has
+pub returned : (g : Func) (t : TypeTree) (vs : List Value) → Returns g t vs → ((vs ≡ []) × (type_of t ≡ L.VoidType)) ⊎ ((v : Value) × (vs ≡ v ∷ []) × IsOperand g t v)
+returned g VoidType [] h = inl (refl, refl)
+returned g (IntegerType w) [] h = absurd h
+returned g (FuncType r ps v) [] h = absurd h
+returned g VoidType (v ∷ []) h = inr (v, refl, h)
+returned g (IntegerType w) (v ∷ []) h = inr (v, refl, h)
+returned g (FuncType r ps x) (v ∷ []) h = inr (v, refl, h)
+returned g VoidType (v ∷ (u ∷ vs)) h = absurd h
+returned g (IntegerType w) (v ∷ (u ∷ vs)) h = absurd h
+returned g (FuncType r ps x) (v ∷ (u ∷ vs)) h = absurd h
 
-constant_same : (d : ModuleData) (value : AttrTree) → rename same_places (llvm.const_term d (const_of value)) ≡ attr_term value
-constant_same d (IntegerAttr t n) = integer_same t n
+-- edges that are made one by one
+edges_match : {A B X : Type 0} (P : A → B → Type 0) (f : ℕ → A) (t : X → ℕ) (h : X → B) (xs : List X) → ((i : ℕ) (x : X) → slice_get xs i ≡ Some x → P (f (t x)) (h x)) → Matched P (map f (map t xs)) (map h xs)
+edges_match P f t h [] same = tt
+edges_match P f t h (x ∷ xs) same = (same 0 x refl, edges_match P f t h xs (λ i y at. same (suc i) y at))
 
--- ---- lists
+module _ (g : Func) (form : IsFormFunc g) (n : Numbers) (d : ModuleData) where
+  abbrev made : Function
+  made = function_made g n (entries g n)
 
-matched_map : {A B X Y : Type 0} (P : A → B → Type 0) (f : X → A) (h : Y → B) (xs : List X) (ys : List Y) → length xs ≡ length ys → ((i : ℕ) (x : X) (y : Y) → slice_get xs i ≡ Some x → slice_get ys i ≡ Some y → P (f x) (h y)) → Matched P (map f xs) (map h ys)
-matched_map P f h [] [] e same = tt
-matched_map P f h [] (y ∷ ys) e same = absurd (omega (arith, e))
-matched_map P f h (x ∷ xs) [] e same = absurd (omega (arith, e))
-matched_map P f h (x ∷ xs) (y ∷ ys) e same = (same 0 x y refl refl, matched_map P f h xs ys (omega (arith, e)) (λ i a b p q. same (suc i) a b p q))
+  abbrev plan_value : ℕ → Option Value
+  plan_value m = (plan g form n).value (ResultKey m)
 
-flat_none : {X Y : Type 0} (f : X → List Y) (xs : List X) → ((i : ℕ) (x : X) → slice_get xs i ≡ Some x → f x ≡ []) → flat_map f xs ≡ []
-flat_none f [] h = refl
-flat_none f (x ∷ xs) h = ap (λ ys. ys ++ flat_map f xs) (h 0 x refl) ∙ flat_none f xs (λ i y at. h (suc i) y at)
+  abbrev Alike : MachineOperand Key → MachineOperand Value → Type 0
+  Alike = S.StandsFor same_places (plan g form n)
 
--- ---- rows of LLVM
-
-abbrev llvm_row : ModuleData → Function → Placed → Row Key
-llvm_row d f p = record { action = llvm.action d f p; result = ResultKey p.number }
-
-no_targets : (x : Instruction) → llvm.targets x ≡ []
-no_targets (Add lhs rhs flags) = refl
-no_targets (Return value) = refl
-
-is_row : (d : ModuleData) (f : Function) (p : Placed) (x : Instruction) → llvm.row d f p (llvm.phi_entries x) ≡ Some (llvm_row d f p)
-is_row d f p (Add lhs rhs flags) = refl
-is_row d f p (Return value) = refl
-
-rows_are : (d : ModuleData) (f : Function) (ps : List Placed) → filter_map (λ (p : Placed). llvm.row d f p (llvm.phi_entries p.instruction)) ps ≡ map (llvm_row d f) ps
-rows_are d f [] = refl
-rows_are d f (p ∷ ps) =
-    ap (λ (o : Option (Row Key)). cons_option o (filter_map (λ (p : Placed). llvm.row d f p (llvm.phi_entries p.instruction)) ps)) (is_row d f p p.instruction) ∙ ap (λ (rs : List (Row Key)). llvm_row d f p ∷ rs) (rows_are d f ps)
-
-module _ (g : Func) (form : IsFormFunc g) (f : Function) (b : Block) (h : IsTarget g form f b) (d : ModuleData) where
-  -- ---- operands
-
-  stands : (v : Value) (o : Operand) → StandsFor form.block f.number form.hoisted form.rest b.instructions v o → S.StandsFor same_places (plan g form f b h) (llvm.operand d o) (At v)
-  stands (Argument c i) (Parameter n j) s = param_stands g form f b h c i n j s.0 s.1 s.2 s.3
-  stands (Argument c i) (Constant k) s = absurd s
-  stands (Argument c i) (L.Result n) s = absurd s
-  stands (Result r) (Parameter n j) s = absurd s
-  stands (Result r) (Constant k) s = (
-    among_at g form.hoisted s.0 r.0 s.1 s.3 s.4,
-    ap (λ (c : L.ConstTree). rename same_places (llvm.const_term d c)) s.6 ∙ constant_same d s.2 ∙ sym (term_at g form.hoisted s.0 r.0 s.1 s.2 form.constants (hoisted_numbered g form f b h) s.3 s.4 s.5),
-  )
-  stands (Result r) (L.Result n) s =
-      value_at_is b.instructions form.rest s.0 n s.2 s.1 (placed_numbered b.instructions h.numbers) s.4 s.3 s.6 ∙ ap (λ (m : ℕ). Some (Result (record { 0 = m }))) s.5
-
-  typed_alike : (i : ℕ) (v : Value) (o : Operand) (t : TypeTree) → StandsFor form.block f.number form.hoisted (take i form.rest) (take i b.instructions) v o → value_type g v ≡ Some t → rename_type same_places (operand_type f o) ≡ option_type (value_type g v)
-  typed_alike i v o t s typed = type_same (operand_type f o) ∙ operand_typed g form f b h v o t (stands_full g form f b h i v o s) typed ∙ ap option_type (sym typed)
+  typed_alike : (v : Value) (t : TypeTree) → value_type g v ≡ Some t → rename_type same_places (operand_type made (operand_for g n v)) ≡ option_type (value_type g v)
+  typed_alike v t e = type_same (operand_type made (operand_for g n v)) ∙ operand_typed g form n (entries g n) v t e ∙ ap option_type (sym e)
 
   -- ---- rows
 
-  abbrev act : Placed → Instruction → Action Key
-  act p x = Applies (llvm.row_of d x).0 (llvm.row_of d x).1 p.type (map (operand_type f) (llvm.row_of d x).2) (map (llvm.operand d) (llvm.row_of d x).2)
+  abbrev act : DialectOp → Instruction → Action Key
+  act o x = Applies (llvm.row_of d x).0 (llvm.row_of d x).1 (option_type o.result) (map (operand_type made) (llvm.row_of d x).2) (map (llvm.operand d) (llvm.row_of d x).2)
 
-  flags_alike : (wraps : OverflowFlags) (flags : IntegerOverflowFlagsAttr) → wraps ≡ flags_of flags → map (rename_immediate same_places) (overflow_immediates wraps.nsw wraps.nuw) ≡ overflow_immediates flags.nsw flags.nuw
-  flags_alike wraps flags e = ap (λ (w : OverflowFlags). map (rename_immediate same_places) (overflow_immediates w.nsw w.nuw)) e
+  abbrev applied : DialectOp → Op.Opcode → List Op.Immediate → List Value → Action Value
+  applied o opcode is vs = Applies opcode is (option_type o.result) (map (λ (v : Value). option_type (value_type g v)) vs) (map At vs)
 
-  returned_typed : (before : List DialectOp) (t : TypeTree) (v : Value) → Returns g form.block before t (v ∷ []) → value_type g v ≡ Some t
-  returned_typed before VoidType v r = r.typed
-  returned_typed before (IntegerType w) v r = r.typed
-  returned_typed before (FuncType q ps x) v r = r.typed
-
-  actions : (i : ℕ) (before : List DialectOp) (o : DialectOp) (p : Placed) (k : Kind) (x : Instruction) → IsFormKind g form.block before o k → SameKind form.block f.number form.hoisted (take i form.rest) (take i b.instructions) o.operands k x
-      → p.type ≡ option_type o.result → SameAction same_places (plan g form f b h) (act p x) (dialect.action g o k)
-  actions i before o p (AddOp flags) (Add lhs rhs wraps) kind same type =
-      let e : kind.1 ∷ kind.2 ∷ [] ≡ same.0 ∷ same.1 ∷ [] = sym kind.3 ∙ same.2 in
-      let left : kind.1 ≡ same.0 = cc in
-      let right : kind.2 ≡ same.1 = cc in
-      let t = kind.0 in
-      let lhs_type = typed_alike i same.0 lhs t same.4 (ap (value_type g) (sym left) ∙ kind.5.typed) in
-      let rhs_type = typed_alike i same.1 rhs t same.5 (ap (value_type g) (sym right) ∙ kind.6.typed) in
-      subst (λ (vs : List Value). SameAction same_places (plan g form f b h) (act p (Add lhs rhs wraps)) (Applies Op.Add (overflow_immediates flags.nsw flags.nuw) (option_type o.result) (map (λ (v : Value). option_type (value_type g v)) vs) (map At vs))) (sym same.2) (
+  actions : (o : DialectOp) (k : Kind) → IsFormKind g o k → is_constant o ≡ false → k ≡ o.kind → SameAction same_places (plan g form n) (act o (instruction_for g n k o.operands o.successors)) (dialect.action g o k)
+  actions o (ConstantOp value) h other is = let e : true ≡ false = ap is_constant_kind is ∙ other in cc
+  actions o (AddOp flags) h other is =
+      subst (λ (vs : List Value). SameAction same_places (plan g form n) (act o (instruction_for g n (AddOp flags) vs o.successors)) (applied o Op.Add (overflow_immediates flags.nsw flags.nuw) vs)) (sym h.3) (
         refl,
-        flags_alike wraps flags same.3,
-        type_same p.type ∙ type,
-        cc,
-        (stands same.0 lhs (stands_full g form f b h i same.0 lhs same.4), (stands same.1 rhs (stands_full g form f b h i same.1 rhs same.5), tt)),
+        refl,
+        type_same (option_type o.result),
+        (let e = typed_alike h.1 h.0 h.6.typed in let f = typed_alike h.2 h.0 h.7.typed in cc),
+        (stands g form n d h.1 h.0 h.6.typed, (stands g form n d h.2 h.0 h.7.typed, tt)),
       )
-  actions i before o p ReturnOp (Return None) kind same type =
-      subst (λ (vs : List Value). SameAction same_places (plan g form f b h) (act p (Return None)) (Applies Op.Ret [] (option_type o.result) (map (λ (v : Value). option_type (value_type g v)) vs) (map At vs))) (sym same)
-      (refl, refl, type_same p.type ∙ type, refl, tt)
-  actions i before o p ReturnOp (Return (Some x)) kind same type =
-      let typed = returned_typed before (result_of g.type) same.0 (subst (Returns g form.block before (result_of g.type)) same.1 kind.1) in
-      let alike = typed_alike i same.0 x (result_of g.type) same.2 typed in
-      subst (λ (vs : List Value). SameAction same_places (plan g form f b h) (act p (Return (Some x))) (Applies Op.Ret [] (option_type o.result) (map (λ (v : Value). option_type (value_type g v)) vs) (map At vs))) (sym same.1)
-      (refl, refl, type_same p.type ∙ type, ap (λ (y : L.TypeTree). y ∷ []) alike, (stands same.0 x (stands_full g form f b h i same.0 x same.2), tt))
-  actions i before o p (ConstantOp value) x kind same type = absurd same
-  actions i before o p (AddOp flags) (Return x) kind same type = absurd same
-  actions i before o p ReturnOp (Add lhs rhs wraps) kind same type = absurd same
+  actions o (ICmpOp predicate) h other is =
+      subst (λ (vs : List Value). SameAction same_places (plan g form n) (act o (instruction_for g n (ICmpOp predicate) vs o.successors)) (applied o Op.ICmp (Predicate (predicate_of predicate) ∷ []) vs)) (sym h.3) (
+        refl,
+        refl,
+        type_same (option_type o.result),
+        (let e = typed_alike h.1 h.0 h.6.typed in let f = typed_alike h.2 h.0 h.7.typed in cc),
+        (stands g form n d h.1 h.0 h.6.typed, (stands g form n d h.2 h.0 h.7.typed, tt)),
+      )
+  actions o BrOp h other is =
+      subst (λ (vs : List Value). SameAction same_places (plan g form n) (act o (instruction_for g n BrOp vs o.successors)) (applied o Op.Br [] vs)) (sym h.0)
+      (refl, refl, type_same (option_type o.result), refl, tt)
+  actions o CondBrOp h other is =
+      subst (λ (vs : List Value). SameAction same_places (plan g form n) (act o (instruction_for g n CondBrOp vs o.successors)) (applied o Op.CondBr [] vs)) (sym h.1)
+      (refl, refl, type_same (option_type o.result), (let e = typed_alike h.0 (IntegerType 1) h.2.typed in cc), (stands g form n d h.0 (IntegerType 1) h.2.typed, tt))
+  actions o ReturnOp h other is = ⊎_elim
+      (λ none. subst (λ (vs : List Value). SameAction same_places (plan g form n) (act o (instruction_for g n ReturnOp vs o.successors)) (applied o Op.Ret [] vs)) (sym none.0)
+      (refl, refl, type_same (option_type o.result), refl, tt))
+      (λ one. subst (λ (vs : List Value). SameAction same_places (plan g form n) (act o (instruction_for g n ReturnOp vs o.successors)) (applied o Op.Ret [] vs)) (sym one.1)
+      (refl, refl, type_same (option_type o.result), (let e = typed_alike one.0 (result_of g.type) one.2.typed in cc), (stands g form n d one.0 (result_of g.type) one.2.typed, tt)))
+      (returned g (result_of g.type) o.operands h.0)
+  actions o UnreachableOp h other is =
+      subst (λ (vs : List Value). SameAction same_places (plan g form n) (act o (instruction_for g n UnreachableOp vs o.successors)) (applied o Op.Unreachable [] vs)) (sym h.0)
+      (refl, refl, type_same (option_type o.result), refl, tt)
 
-  row_pair : (i : ℕ) (p : Placed) (o : DialectOp) → slice_get b.instructions i ≡ Some p → slice_get form.rest i ≡ Some o → SameRow same_places (plan g form f b h) (llvm_row d f p) (dialect.row g o)
-  row_pair i p o at at' =
-      let s = h.paired.each i o p at' at in
-      let k = form.each (length form.hoisted + i) o (other_at g form f b h i o at') in
-      record {
-        action = actions i (take (length form.hoisted + i) form.block.ops) o p o.kind p.instruction k.kind s.kind s.type;
-        result = value_at_is b.instructions form.rest i p.number p o (placed_numbered b.instructions h.numbers) at at' refl;
-      }
+  abbrev llvm_row : Placed → Row Key
+  llvm_row p = record { action = llvm.action d made p; result = ResultKey p.number }
 
-  -- ---- the block
+  row_pair : (j i k : ℕ) (c : DialectBlock) (o : DialectOp) → slice_get g.blocks j ≡ Some c → slice_get c.ops i ≡ Some o → is_constant o ≡ false → SameRow same_places (plan g form n) (llvm_row (inst g n k o)) (dialect.row g o)
+  row_pair j i k c o at at' other =
+      let r = result_among g j i c o at at' other in
+      record { action = actions o o.kind (op_form g form j i c o at at').kind other refl; result = value_at g form n r.0 (result o) r.1 }
 
-  no_successors : flat_map (λ (o : DialectOp). o.successors) form.block.ops ≡ []
-  no_successors = flat_none (λ (o : DialectOp). o.successors) form.block.ops (λ i o at. (form.each i o at).ends)
+  is_row : (k : Kind) (vs : List Value) (ss : List Successor) → phi_entries (instruction_for g n k vs ss) ≡ None
+  is_row (ConstantOp value) vs ss = refl
+  is_row (AddOp flags) vs ss = refl
+  is_row (ICmpOp predicate) vs ss = refl
+  is_row BrOp vs ss = refl
+  is_row CondBrOp vs ss = refl
+  is_row ReturnOp vs ss = refl
+  is_row UnreachableOp vs ss = refl
 
-  block_pair : SameBlock same_places (plan g form f b h) (λ n. n) 0 (llvm.block d f b) (dialect.block g form.block)
-  block_pair = record {
-    front = rows g form.hoisted;
-    rest = rows g form.rest;
-    rows = ap (map (dialect.row g)) form.ops ∙ map-append (dialect.row g) form.hoisted form.rest;
-    leads = refl;
-    pairs = subst (λ (rs : List (Row Key)). Matched (SameRow same_places (plan g form f b h)) rs (rows g form.rest)) (sym (rows_are d f b.instructions))
-        (matched_map (SameRow same_places (plan g form f b h)) (llvm_row d f) (dialect.row g) b.instructions form.rest h.paired.count row_pair);
-    edges = let e = flat_none (λ (p : Placed). llvm.targets p.instruction) b.instructions (λ i p at. no_targets p.instruction) in
-        subst (λ (ts : List ℕ). Matched (S.SameEdge same_places (plan g form f b h) (λ n. n)) (map (llvm.edge d f b.number) ts) (map (dialect.edge g) (flat_map (λ (o : DialectOp). o.successors) form.block.ops))) (sym e)
-        (subst (λ (ss : List Successor). Matched (S.SameEdge same_places (plan g form f b h) (λ n. n)) [] (map (dialect.edge g) ss)) (sym no_successors) tt);
-  }
+  abbrev row_for : Placed → Option (Row Key)
+  row_for p = llvm.row d made p (phi_entries p.instruction)
 
-  blocks_pair : (place : ℕ) → BothOrNone (SameBlock same_places (plan g form f b h) (λ n. n) place) (slice_get (llvm.block d f b ∷ []) place) (slice_get (dialect.block g form.block ∷ []) place)
-  blocks_pair zero = block_pair
-  blocks_pair (suc n) = tt
+  insts_rows : (k : ℕ) (os : List DialectOp) → ((i : ℕ) (o : DialectOp) → slice_get os i ≡ Some o → (k : ℕ) → is_constant o ≡ false → SameRow same_places (plan g form n) (llvm_row (inst g n k o)) (dialect.row g o))
+      → Matched (SameRow same_places (plan g form n)) (filter_map row_for (insts g n k os)) (map (dialect.row g) (others_of os))
+  insts_rows k [] h = tt
+  insts_rows k (o ∷ os) h = by (is_constant o) refl (insts_rows (number_after o.result k) os (λ i x at. h (suc i) x at))
+    where
+      by : (t : Bool) → is_constant o ≡ t → Matched (SameRow same_places (plan g form n)) (filter_map row_for (insts g n (number_after o.result k) os)) (map (dialect.row g) (others_of os))
+          → Matched (SameRow same_places (plan g form n)) (filter_map row_for (if t then insts g n (number_after o.result k) os else inst g n k o ∷ insts g n (number_after o.result k) os)) (map (dialect.row g) (if not t then o ∷ others_of os else others_of os))
+      by true e m = m
+      by false e m =
+          subst (λ (x : Option (List (Operand × ℕ))). Matched (SameRow same_places (plan g form n)) (cons_option (llvm.row d made (inst g n k o) x) (filter_map row_for (insts g n (number_after o.result k) os))) (dialect.row g o ∷ map (dialect.row g) (others_of os)))
+          (sym (is_row o.kind o.operands o.successors)) (h 0 o refl k e, m)
 
-  pub same_shape : SameShape same_places d f g
-  same_shape = record {
-    plan = plan g form f b h;
-    is_plan = is_plan g form f b h;
-    starts = starts g form f b h;
-    same = subst (λ (bs : List Block). SameBlocks same_places (plan g form f b h) (λ n. n) (map (llvm.block d f) bs) (map (dialect.block g) g.blocks)) (sym h.blocks)
-        (subst (λ (bs : List DialectBlock). SameBlocks same_places (plan g form f b h) (λ n. n) (llvm.block d f b ∷ []) (map (dialect.block g) bs)) (sym form.only)
-        (record { entry = (llvm.block d f b, refl); first = refl; blocks = blocks_pair }));
-  }
+  phis_rows : (b i k : ℕ) (ts : List TypeTree) → filter_map row_for (phis g n (entries g n) b i k ts) ≡ []
+  phis_rows b i k [] = refl
+  phis_rows b i k (t ∷ ts) = phis_rows b (suc i) (k + 1) ts
+
+  block_phis_rows : (p k : ℕ) (c : DialectBlock) → filter_map row_for (block_phis g n (entries g n) p k c) ≡ []
+  block_phis_rows zero k c = refl
+  block_phis_rows (suc p) k c = phis_rows c.number 0 k c.args
+
+  block_rows : (p k j : ℕ) (c : DialectBlock) → slice_get g.blocks j ≡ Some c → Matched (SameRow same_places (plan g form n)) (filter_map row_for (block_made g n (entries g n) p k c).instructions) (map (dialect.row g) (others_of c.ops))
+  block_rows p k j c at =
+      subst (λ (rs : List (Row Key)). Matched (SameRow same_places (plan g form n)) rs (map (dialect.row g) (others_of c.ops)))
+      (sym (filter_map-append row_for (block_phis g n (entries g n) p k c) (insts g n (k + length c.args) c.ops) ∙ ap (λ (rs : List (Row Key)). rs ++ filter_map row_for (insts g n (k + length c.args) c.ops)) (block_phis_rows p k c)))
+      (insts_rows (k + length c.args) c.ops (λ i o at' l other. row_pair j i l c o at at' other))
+
+  -- ---- edges
+
+  no_move : (from : ℕ) (k : ℕ) (os : List DialectOp) → filter_map (llvm.phi_move d from) (insts g n k os) ≡ []
+  no_move from k [] = refl
+  no_move from k (o ∷ os) = by (is_constant o) (no_move from (number_after o.result k) os)
+    where
+      by : (t : Bool) → filter_map (llvm.phi_move d from) (insts g n (number_after o.result k) os) ≡ [] → filter_map (llvm.phi_move d from) (if t then insts g n (number_after o.result k) os else inst g n k o ∷ insts g n (number_after o.result k) os) ≡ []
+      by true e = e
+      by false e =
+          ap (λ (x : Option (List (Operand × ℕ))). cons_option (option_map (λ (es : List (Operand × ℕ)). (ResultKey (number_of g n (result o)), llvm.entry_for d from es)) x) (filter_map (llvm.phi_move d from) (insts g n (number_after o.result k) os))) (is_row o.kind o.operands o.successors)
+          ∙ e
+
+  moves_match : (from b i k : ℕ) (ts : List TypeTree) (vs : List Value) → length vs ≡ length ts
+      → ((j : ℕ) (t : TypeTree) → slice_get ts j ≡ Some t → plan_value (number_of g n (Argument (record { 0 = b }) (i + j))) ≡ Some (Argument (record { 0 = b }) (i + j)))
+      → ((j : ℕ) (v : Value) → slice_get vs j ≡ Some v → BothOrNone Alike (llvm.entry_for d from (entries g n (Argument (record { 0 = b }) (i + j)))) (Some (At v)))
+      → Matched (SameMove same_places (plan g form n)) (filter_map (llvm.phi_move d from) (phis g n (entries g n) b i k ts)) (argument_moves (record { 0 = b }) i (length ts) vs)
+  moves_match from b i k [] [] e h q = tt
+  moves_match from b i k [] (v ∷ vs) e h q = absurd (omega (arith, e))
+  moves_match from b i k (t ∷ ts) [] e h q = absurd (omega (arith, e))
+  moves_match from b i k (t ∷ ts) (v ∷ vs) e h q =
+      let z : i + 0 ≡ i = omega arith in (
+        record {
+          target = subst (λ (m : ℕ). plan_value (number_of g n (Argument (record { 0 = b }) m)) ≡ Some (Argument (record { 0 = b }) m)) z (h 0 t refl);
+          source = subst (λ (m : ℕ). BothOrNone Alike (llvm.entry_for d from (entries g n (Argument (record { 0 = b }) m))) (Some (At v))) z (q 0 v refl);
+        },
+        moves_match from b (suc i) (k + 1) ts vs (omega (arith, e))
+            (λ j u at. subst (λ (m : ℕ). plan_value (number_of g n (Argument (record { 0 = b }) m)) ≡ Some (Argument (record { 0 = b }) m)) (let x : i + suc j ≡ suc i + j = omega arith in x) (h (suc j) u at))
+            (λ j u at. subst (λ (m : ℕ). BothOrNone Alike (llvm.entry_for d from (entries g n (Argument (record { 0 = b }) m))) (Some (At u))) (let x : i + suc j ≡ suc i + j = omega arith in x) (q (suc j) u at)),
+      )
+
+  module _ (fits : IsExportable g) where
+    -- what a phi takes on an edge stands for what the edge passes
+    entry_alike : (j l i : ℕ) (c : DialectBlock) (s : Successor) (v : Value) (t : TypeTree) → slice_get g.blocks j ≡ Some c → slice_get (edges_of c) l ≡ Some s → slice_get s.args i ≡ Some v → value_type g v ≡ Some t
+        → BothOrNone Alike (llvm.entry_for d (n.block + (0 + j)) (entries g n (Argument s.block i))) (Some (At v))
+    entry_alike j l i c s v t at at' passes typed =
+        let equal = all_at HasEqualEdges g.blocks j c fits.equal at in
+        let found = first_entry g n 0 g.blocks j c (n.block + (0 + j)) i s.block v s.args l s at refl at' refl (λ k u there to. equal k l u s there at' (same_block u s to)) passes in
+        subst (λ (o : Option (Operand × ℕ)). BothOrNone Alike (option_map (λ (e : Operand × ℕ). llvm.operand d e.0) o) (Some (At v))) (sym found) (stands g form n d v t typed)
+      where
+        same_block : (u s : Successor) → u.block.0 ≡ s.block.0 → u.block ≡ s.block
+        same_block u s e = ap (λ (m : ℕ). let b : BlockRef = record { 0 = m } in b) e
+
+    -- the block that an edge leads to
+    target_place : (s : Successor) (h : HasTarget g s) → target_for g n s ≡ n.block + (0 + suc h.place)
+    target_place s h = ap (λ (m : ℕ). n.block + m) (place_is g form (suc h.place) s.block.0 h.block h.here h.number) ∙ (let e : n.block + suc h.place ≡ n.block + (0 + suc h.place) = omega arith in e)
+
+    passed_alike : (j l i : ℕ) (c : DialectBlock) (s : Successor) (v : Value) → slice_get g.blocks j ≡ Some c → slice_get (edges_of c) l ≡ Some s → slice_get s.args i ≡ Some v
+        → BothOrNone Alike (llvm.entry_for d (n.block + (0 + j)) (entries g n (Argument s.block i))) (Some (At v))
+    passed_alike j l i c s v at at' at'' =
+        let good = edge_form g form n j l c s at at' in
+        let typed = all_at (λ (v : Value). (type : TypeTree) × IsOperand g type v) s.args i v good.args at'' in
+        entry_alike j l i c s v typed.0 at at' at'' typed.1.typed
+
+    target_moves : (j l : ℕ) (c : DialectBlock) (s : Successor) → slice_get g.blocks j ≡ Some c → slice_get (edges_of c) l ≡ Some s → (h : HasTarget g s)
+        → Matched (SameMove same_places (plan g form n)) (filter_map (llvm.phi_move d (n.block + (0 + j))) (block_made g n (entries g n) (0 + suc h.place) (number_past 0 (take (suc h.place) g.blocks)) h.block).instructions) (argument_moves (record { 0 = h.block.number }) 0 (length h.block.args) s.args)
+    target_moves j l c s at at' h =
+        let from = n.block + (0 + j) in
+        let b = h.block in
+        let k = number_past 0 (take (suc h.place) g.blocks) in
+        let z : 0 + suc h.place ≡ suc h.place = omega arith in
+        let same : (let r : BlockRef = record { 0 = b.number } in r) ≡ s.block = ap (λ (m : ℕ). let r : BlockRef = record { 0 = m } in r) h.number in
+        let moves = moves_match from b.number 0 k b.args s.args h.count
+        (λ i t at''. let r = argument_among g h.place i b t h.here at'' in subst (λ (m : ℕ). plan_value (number_of g n (Argument (record { 0 = b.number }) m)) ≡ Some (Argument (record { 0 = b.number }) m)) (let e : i ≡ 0 + i = omega arith in e) (value_at g form n r.0 (Argument (record { 0 = b.number }) i) r.1))
+        (λ i v at''. subst (λ (m : ℕ). BothOrNone Alike (llvm.entry_for d from (entries g n (Argument (record { 0 = b.number }) m))) (Some (At v))) (let e : i ≡ 0 + i = omega arith in e)
+        (subst (λ (r : BlockRef). BothOrNone Alike (llvm.entry_for d from (entries g n (Argument r i))) (Some (At v))) (sym same) (passed_alike j l i c s v at at' at''))) in
+        subst (λ (p : ℕ). Matched (SameMove same_places (plan g form n)) (filter_map (llvm.phi_move d from) (block_made g n (entries g n) p k b).instructions) (argument_moves (record { 0 = b.number }) 0 (length b.args) s.args)) (sym z)
+        (subst (λ (ms : List (Key × Option (MachineOperand Key))). Matched (SameMove same_places (plan g form n)) ms (argument_moves (record { 0 = b.number }) 0 (length b.args) s.args))
+        (sym (filter_map-append (llvm.phi_move d from) (phis g n (entries g n) b.number 0 k b.args) (insts g n (k + length b.args) b.ops)
+        ∙ ap (λ (ms : List (Key × Option (MachineOperand Key))). filter_map (llvm.phi_move d from) (phis g n (entries g n) b.number 0 k b.args) ++ ms) (no_move from (k + length b.args) b.ops)
+        ∙ append-nil (filter_map (llvm.phi_move d from) (phis g n (entries g n) b.number 0 k b.args)))) moves)
+
+    edge_pair : (j l : ℕ) (c : DialectBlock) (s : Successor) → slice_get g.blocks j ≡ Some c → slice_get (edges_of c) l ≡ Some s → SameEdge same_places (plan g form n) (λ m. m) (llvm.edge d made (n.block + (0 + j)) (target_for g n s)) (dialect.edge g s)
+    edge_pair j l c s at at' =
+        let good = edge_form g form n j l c s at at' in
+        let h = edge_target g s good (all_at (FitsTarget g) (edges_of c) l s (all_at (λ (b : DialectBlock). All (FitsTarget g) (edges_of b)) g.blocks j c fits.targets at) at') in
+        let b = h.block in
+        let k = number_past 0 (take (suc h.place) g.blocks) in
+        let made_b = block_made g n (entries g n) (0 + suc h.place) k b in
+        let there = made_at g n (entries g n) 0 0 g.blocks (suc h.place) b h.here in
+        let numbers = made_numbered g n (entries g n) 0 0 g.blocks in
+        let to = target_place s h in
+        let place : llvm.place_of made.blocks (target_for g n s) ≡ dialect.place_of g.blocks s.block.0 =
+        ap (λ (o : Option ℕ). option_map_or (λ i. i) o (length made.blocks)) (position_numbered (λ (x : Block). x.number) made.blocks (suc h.place) (target_for g n s) 0 made_b numbers there (sym to))
+        ∙ (let e : 0 + suc h.place ≡ suc h.place = omega arith in e) ∙ sym (place_is g form (suc h.place) s.block.0 b h.here h.number) in
+        let llvm_block : find (λ (x : Block). nat_eq x.number (target_for g n s)) made.blocks ≡ Some made_b = find_numbered (λ (x : Block). x.number) made.blocks (suc h.place) (target_for g n s) made_b numbers there (sym to) in
+        let dialect_block = block_found g form (suc h.place) s.block.0 b h.here h.number in
+        let same_block : s.block ≡ (let r : BlockRef = record { 0 = b.number } in r) = ap (λ (m : ℕ). let r : BlockRef = record { 0 = m } in r) (sym h.number) in
+        record {
+          to = place;
+          moves = subst (λ (o : Option Block). Matched (SameMove same_places (plan g form n)) (option_map_or (λ (x : Block). filter_map (llvm.phi_move d (n.block + (0 + j))) x.instructions) o []) (dialect.edge g s).moves) (sym llvm_block)
+              (subst (λ (o : Option DialectBlock). Matched (SameMove same_places (plan g form n)) (filter_map (llvm.phi_move d (n.block + (0 + j))) made_b.instructions) (option_map_or (λ (x : DialectBlock). argument_moves s.block 0 (length x.args) s.args) o [])) (sym dialect_block)
+              (subst (λ (r : BlockRef). Matched (SameMove same_places (plan g form n)) (filter_map (llvm.phi_move d (n.block + (0 + j))) made_b.instructions) (argument_moves r 0 (length b.args) s.args)) (sym same_block)
+              (target_moves j l c s at at' h)));
+        }
+
+    -- ---- blocks
+
+    front_of : (j : ℕ) (c : DialectBlock) → slice_get g.blocks j ≡ Some c → (front : List (Row Value)) × (map (dialect.row g) c.ops ≡ front ++ map (dialect.row g) (others_of c.ops)) × IsFront same_places (plan g form n) j front
+    front_of zero c at =
+        let e = first_is_entry g form c at in
+        let h = form.constants in
+        let p : DialectOp → Bool = λ o. not (is_constant o) in
+        let others : others_of c.ops ≡ h.rest =
+        ap (λ (x : DialectBlock). others_of x.ops) e ∙ ap others_of h.are ∙ filter-append p h.hoisted h.rest
+        ∙ ap (λ (os : List DialectOp). os ++ others_of h.rest) (filter_none p h.hoisted (All-weaker (λ (o : DialectOp). is_constant o ≡ true) (λ (o : DialectOp). p o ≡ false) (λ o q. ap not q) h.hoisted h.constants))
+        ∙ filter_all p h.rest (All-weaker (λ (o : DialectOp). is_constant o ≡ false) (λ (o : DialectOp). p o ≡ true) (λ o q. ap not q) h.rest h.others) in (
+          rows g h.hoisted,
+          ap (λ (x : DialectBlock). map (dialect.row g) x.ops) e ∙ ap (map (dialect.row g)) h.are ∙ map-append (dialect.row g) h.hoisted h.rest ∙ ap (λ (os : List DialectOp). map (dialect.row g) h.hoisted ++ map (dialect.row g) os) (sym others),
+          refl,
+        )
+    front_of (suc j) c at =
+        let more : slice_get form.more j ≡ Some c = ap (λ (bs : List DialectBlock). slice_get bs (suc j)) (sym form.body) ∙ at in
+        let none = all_at (λ (b : DialectBlock). All (λ (o : DialectOp). is_constant o ≡ false) b.ops) form.more j c form.others more in
+        let p : DialectOp → Bool = λ o. not (is_constant o) in
+        let others : others_of c.ops ≡ c.ops = filter_all p c.ops (All-weaker (λ (o : DialectOp). is_constant o ≡ false) (λ (o : DialectOp). p o ≡ true) (λ o q. ap not q) c.ops none) in (
+          [],
+          ap (map (dialect.row g)) (sym others),
+          record { closed = tt; values = λ k w e. refl; hoisted = λ w e. refl },
+        )
+
+    block_pair : (j : ℕ) (c : DialectBlock) → slice_get g.blocks j ≡ Some c → SameBlock same_places (plan g form n) (λ m. m) j (llvm.block d made (block_made g n (entries g n) (0 + j) (number_past 0 (take j g.blocks)) c)) (dialect.block g c)
+    block_pair j c at =
+        let k = number_past 0 (take j g.blocks) in
+        let front = front_of j c at in
+        record {
+          front = front.0;
+          rest = map (dialect.row g) (others_of c.ops);
+          rows = front.1;
+          leads = front.2;
+          pairs = block_rows (0 + j) k j c at;
+          edges = subst (λ (ts : List ℕ). Matched (SameEdge same_places (plan g form n) (λ m. m)) (map (llvm.edge d made (n.block + (0 + j))) ts) (map (dialect.edge g) (edges_of c))) (sym (block_leads g n form (entries g n) (0 + j) k j c at))
+              (edges_match (SameEdge same_places (plan g form n) (λ m. m)) (llvm.edge d made (n.block + (0 + j))) (target_for g n) (dialect.edge g) (edges_of c) (λ l s at'. edge_pair j l c s at at'));
+        }
+
+    blocks_pair : (j : ℕ) (o : Option DialectBlock) → slice_get g.blocks j ≡ o
+        → BothOrNone (SameBlock same_places (plan g form n) (λ m. m) j) (slice_get (map (llvm.block d made) made.blocks) j) (slice_get (map (dialect.block g) g.blocks) j)
+    blocks_pair j None e =
+        let x : slice_get (map (llvm.block d made) made.blocks) j ≡ None = slice_get-map (llvm.block d made) made.blocks j ∙ ap (option_map (llvm.block d made)) (made_none g n (entries g n) 0 0 g.blocks j e) in
+        let y : slice_get (map (dialect.block g) g.blocks) j ≡ None = slice_get-map (dialect.block g) g.blocks j ∙ ap (option_map (dialect.block g)) e in
+        rw (x, y) tt
+    blocks_pair j (Some c) e =
+        let x = slice_get-map (llvm.block d made) made.blocks j ∙ ap (option_map (llvm.block d made)) (made_at g n (entries g n) 0 0 g.blocks j c e) in
+        let y = slice_get-map (dialect.block g) g.blocks j ∙ ap (option_map (dialect.block g)) e in
+        subst (λ (o : Option (MachineBlock Key)). BothOrNone (SameBlock same_places (plan g form n) (λ m. m) j) o (slice_get (map (dialect.block g) g.blocks) j)) (sym x)
+        (subst (λ (o : Option (MachineBlock Value)). BothOrNone (SameBlock same_places (plan g form n) (λ m. m) j) (Some (llvm.block d made (block_made g n (entries g n) (0 + j) (number_past 0 (take j g.blocks)) c))) o) (sym y) (block_pair j c e))
+
+    pub same_shape : SameShape same_places d made g
+    same_shape = record {
+      plan = plan g form n;
+      is_plan = is_plan g form n;
+      starts = starts g form n (entries g n);
+      same = record {
+        entry = (llvm.block d made (block_made g n (entries g n) (0 + 0) (number_past 0 (take 0 g.blocks)) form.entry), slice_get-map (llvm.block d made) made.blocks 0 ∙ ap (option_map (llvm.block d made)) (made_at g n (entries g n) 0 0 g.blocks 0 form.entry (entry_at g form)));
+        first = refl;
+        blocks = λ j. blocks_pair j (slice_get g.blocks j) refl;
+      };
+    }

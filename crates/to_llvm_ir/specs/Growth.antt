@@ -1,27 +1,31 @@
--- A module of LLVM that grows while types, constants and instructions are added: what was there stays.
-use Rattle.std.specs.Prelude.{◌≡◌, ◌<◌, false, List, ◌++◌, length, map, All, Some}
+-- A module of LLVM that grows: what was there keeps its type.
+use Rattle.std.specs.Prelude.{◌≡◌, ◌<◌, ℕ, true, false, List, ◌++◌, length, map, slice_get, All, Some}
 use Rattle.llvm_core.specs.declared.numbers.LLVMType.{LLVMType}
 use Rattle.llvm_core.specs.declared.types.LLVMTypeKind.{LLVMTypeKind}
 use Rattle.llvm_core.specs.declared.consts.LLVMConstKind.{LLVMConstKind}
 use Rattle.llvm_core.specs.declared.code.LLVMValue.{LLVMValue}
+use Rattle.llvm_core.specs.declared.code.FunctionData.{FunctionData}
 use Rattle.llvm_core.specs.declared.code.InstData.{InstData}
 use Rattle.llvm_core.specs.Module.{Module}
-use Rattle.llvm_core.specs.Parts.{value_type}
+use Rattle.llvm_core.specs.Parts.{value_type, is_phi}
 use Rattle.llvm_core.specs.Data as L
 use Rattle.llvm_core.specs.Data.{trees_of}
 use Rattle.dialect_types.specs.Trees.{TypeTree, TypeTrees, FuncType}
 use Rattle.dialect_core.specs.Form.{IsShortInt, IsShortResult, types_list}
 
--- types, constants and instructions are new at most, each last
+-- the instruction keeps its type, and a phi stays one
+pub record KeepsInst (x y : InstData) : Type 0 where
+  pub type : y.ty ≡ x.ty
+  pub phi : is_phi x.inst ≡ true → is_phi y.inst ≡ true
+
+-- types and constants are new at most, each last; functions and instructions keep their types
 pub record Grows (old new : Module) : Type 0 where
   pub more_types : List LLVMTypeKind
   pub types : new.types ≡ old.types ++ more_types
   pub more_consts : List LLVMConstKind
   pub consts : new.consts ≡ old.consts ++ more_consts
-  pub functions : new.functions ≡ old.functions
-  pub blocks : length new.blocks ≡ length old.blocks
-  pub more_insts : List InstData
-  pub insts : new.insts ≡ old.insts ++ more_insts
+  pub functions : (f : ℕ) (x : FunctionData) → slice_get old.functions f ≡ Some x → (y : FunctionData) × (slice_get new.functions f ≡ Some y) × (y.ty ≡ x.ty)
+  pub insts : (i : ℕ) (x : InstData) → slice_get old.insts i ≡ Some x → (y : InstData) × (slice_get new.insts i ≡ Some y) × KeepsInst x y
 
 -- the number of a type with that tree
 abbrev pub IsTypeOf : Module → LLVMType → L.TypeTree → Type 0

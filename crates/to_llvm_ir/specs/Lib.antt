@@ -1,7 +1,12 @@
 -- The definitions that clauses cite.
 pub mod Exported
+pub mod Made
+pub mod Accepted
 pub mod Held
 pub mod Growth
-pub mod Pairing
+pub mod States
+pub mod Causes
+pub mod Opening
 pub mod Bodies
+pub mod Links
 pub mod Functions

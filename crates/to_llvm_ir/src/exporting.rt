@@ -1,135 +1,125 @@
 //! Dialect module to LLVM module.
 
-ghost use Rattle.std.specs.Prelude.{◌≡◌, ◌<◌, ◌∷◌, [], Some, All, length, IfOk, OnOk};
+ghost use Rattle.std.specs.Prelude.{◌≡◌, ◌<◌, ◌∷◌, [], Some, None, All, length, IfOk, IfErr, OnOk};
 ghost use Rattle.llvm_core.specs.Data as lists;
 ghost use Rattle.dialect_types.specs.Trees.{type_trees};
-ghost use Rattle.dialect_core.specs.Data.{Func, DialectBlock, IsTyped, block_in, func_in, name_at, data_of};
+ghost use Rattle.dialect_core.specs.Data.{Func, DialectModule, IsTyped, func_in, data_of};
 ghost use Rattle.dialect_core.specs.Form.{IsFormFunc};
-ghost use Rattle.to_llvm_ir.specs.Exported.{IsExported};
+ghost use Rattle.to_llvm_ir.specs.Causes.{IsFuncCause};
+ghost use Rattle.to_llvm_ir.specs.Exported.{IsExported, IsCause};
 ghost use Rattle.to_llvm_ir.specs.Held.{IsReadable};
-ghost use Rattle.to_llvm_ir.specs.Bodies.{IsStarted};
-ghost use Rattle.to_llvm_ir.specs.Functions.{AddsFunction, AddsFunctions, blocks_of, functions_in};
+ghost use Rattle.to_llvm_ir.specs.Opening.{IsDeclared};
+ghost use Rattle.to_llvm_ir.specs.States.{Task, IsTask};
+ghost use Rattle.to_llvm_ir.specs.Functions.{AddsFunction, AddsFunctions, IsStarted, functions_in};
 
-use crate::names::block_name;
-use crate::operations::export_ops;
+use crate::bodies::convert_blocks;
+use crate::edges::add_edges;
+use crate::numbers::check_few;
+use crate::opening::append_blocks;
+use crate::operations::name_of;
+use crate::to_llvm_err::ToLLVMErr;
 use crate::types::function_type;
-use crate::values::Body;
 use dialect_core::context::Context;
-use dialect_core::numbers::{BlockRef, ModuleOp, OpRef};
+use dialect_core::numbers::{ModuleOp, OpRef};
 use llvm_core::module::LLVMModule;
+use llvm_core::numbers::LLVMFunction;
 use std::alloc::{AllocError, Global};
 
-/// The name of an operation, empty where it has none.
-fn name_of(ctx: &Context, op: OpRef) -> &str
-    requires { op.0 < length ctx.now.ops }
-    ensures { result.now ≡ name_at ctx.now.ops op.0 }
-{
-    match ctx.op_name(op) {
-        Some(name) => name.as_str(),
-        None => "",
-    }
-}
-
-/// The only block of a function.
-fn entry_of(ctx: &Context, op: OpRef) -> BlockRef
-    requires within { op.0 < length ctx.now.ops }
-    requires one { (b : DialectBlock) × (blocks_of ctx.now op ≡ b ∷ []) }
-    ensures block { (b : DialectBlock) → blocks_of ctx.now op ≡ b ∷ [] → block_in (type_trees ctx.now.types) ctx.now result ≡ Some b }
-    ensures within { result.0 < length ctx.now.blocks }
-{
-    ctx.op_blocks(op)[0]
-}
-
-/// A function with an empty block, and what its parameters stand for.
+/// A function of the type and the name of that which an operation is, without blocks.
 fn start_func(
     alloc: Global,
     ctx: &Context,
     op: OpRef,
-    block: BlockRef,
     back: &mut LLVMModule,
-) -> Result<Body, AllocError>
+) -> Result<LLVMFunction, AllocError>
     requires typed { IsTyped ctx.now }
     requires within { op.0 < length ctx.now.ops }
-    requires block { block.0 < length ctx.now.blocks }
     requires form { (g : Func) × (func_in (type_trees ctx.now.types) ctx.now op ≡ Some g) × IsFormFunc g }
-    ensures { (g : Func) (form : IsFormFunc g) → func_in (type_trees ctx.now.types) ctx.now op ≡ Some g → block_in (type_trees ctx.now.types) ctx.now block ≡ Some form.block → IfOk result (λ body. IsStarted g form.block (lists.data_of back.old) body back.new) }
+    ensures { (g : Func) → func_in (type_trees ctx.now.types) ctx.now op ≡ Some g → IsFormFunc g → IfOk result (λ f. IsStarted ctx.now g f back.old back.new) }
 {
     let ty = function_type(alloc, ctx, ctx.symbol_type(op), back)?;
     let f = back.add_function(name_of(ctx, op), ty, 0)?;
-    let label = block_name(alloc, ctx.block_label(block), 0)?;
-    let target = back.append_block(f, label.as_str())?;
-    let mut body = Body::new(alloc, target);
-    body.set_arguments(block, ctx.block_args(block).len(), f)?;
-    Ok(body)
+    Ok(f)
 }
 
 /// The function that an operation is, as the last of the module.
-fn export_func(
+fn convert_func(
     alloc: Global,
     ctx: &Context,
     op: OpRef,
     back: &mut LLVMModule,
-) -> Result<(), AllocError>
+) -> Result<(), ToLLVMErr>
     requires typed { IsTyped ctx.now }
     requires within { op.0 < length ctx.now.ops }
     requires form { (g : Func) × (func_in (type_trees ctx.now.types) ctx.now op ≡ Some g) × IsFormFunc g }
-    ensures { (g : Func) → func_in (type_trees ctx.now.types) ctx.now op ≡ Some g → OnOk result (AddsFunction g (lists.data_of back.old) (lists.data_of back.new)) }
+    ensures ok { (g : Func) → func_in (type_trees ctx.now.types) ctx.now op ≡ Some g → IsFormFunc g → OnOk result (AddsFunction g (lists.data_of back.old) (lists.data_of back.new)) }
+    ensures cause { (g : Func) → func_in (type_trees ctx.now.types) ctx.now op ≡ Some g → IsFormFunc g → IfErr result (IsFuncCause ctx.now g) }
 {
-    let block = entry_of(ctx, op);
-    let mut body = start_func(alloc, ctx, op, block, back)?;
-    let ops = ctx.block_ops(block)?;
-    export_ops(alloc, ctx, ops.as_slice(), &mut body, back)?;
-    Ok(())
+    let list = ctx.op_blocks(op);
+    check_few(list.len())?;
+    check_few(back.functions() as usize)?;
+    let f = start_func(alloc, ctx, op, back)?;
+    let blocks = append_blocks(alloc, ctx, list, f, back)?;
+    let values = convert_blocks(alloc, ctx, list, f, &blocks, back)?;
+    add_edges(alloc, ctx, list, &blocks, &values, back)
 }
 
 /// The function that an operation is where it is one, as the last of the module.
-fn export_held(
+fn convert_held(
     alloc: Global,
     ctx: &Context,
     op: OpRef,
     back: &mut LLVMModule,
-) -> Result<(), AllocError>
+) -> Result<(), ToLLVMErr>
     requires typed { IsTyped ctx.now }
     requires within { op.0 < length ctx.now.ops }
     requires form { (g : Func) → func_in (type_trees ctx.now.types) ctx.now op ≡ Some g → IsFormFunc g }
-    ensures { OnOk result (AddsFunctions (functions_in ctx.now (op ∷ [])) (lists.data_of back.old) (lists.data_of back.new)) }
+    ensures ok { OnOk result (AddsFunctions (functions_in ctx.now (op ∷ [])) (lists.data_of back.old) (lists.data_of back.new)) }
+    ensures cause { IfErr result (λ e. (g : Func) → func_in (type_trees ctx.now.types) ctx.now op ≡ Some g → IsFuncCause ctx.now g e) }
+    ensures skipped { func_in (type_trees ctx.now.types) ctx.now op ≡ None → result ≡ Ok tt }
 {
     if !ctx.has_symbol(op) {
         return Ok(());
     }
-    export_func(alloc, ctx, op, back)?;
-    Ok(())
+    convert_func(alloc, ctx, op, back)
 }
 
 /// The functions among operations of a module, in order, as the last of the module.
-fn export_functions(
+fn convert_functions(
     alloc: Global,
     ctx: &Context,
     ops: &[OpRef],
     back: &mut LLVMModule,
-) -> Result<(), AllocError>
+) -> Result<(), ToLLVMErr>
     requires typed { IsTyped ctx.now }
     requires within { All (λ o. o.0 < length ctx.now.ops) ops.now }
     requires forms { All IsFormFunc (functions_in ctx.now ops.now) }
-    ensures { OnOk result (AddsFunctions (functions_in ctx.now ops.now) (lists.data_of back.old) (lists.data_of back.new)) }
+    ensures ok { OnOk result (AddsFunctions (functions_in ctx.now ops.now) (lists.data_of back.old) (lists.data_of back.new)) }
+    ensures cause { (d : DialectModule) → d.functions ≡ functions_in ctx.now ops.now → IfErr result (IsCause ctx.now d) }
 {
     for op in ops {
-        export_held(alloc, ctx, *op, back)?;
+        convert_held(alloc, ctx, *op, back)?;
     }
     Ok(())
 }
 
 /// An LLVM module with a function for each function of a dialect module, in order, under its names.
-pub fn export_module(
+///
+/// `UndefinedValue` where a value is used where it does not stand before, the blocks taken in order;
+/// `UndefinedBlock` where an edge leads to no block of its function; `NumBlockArgsNumPhisMismatch` where an edge
+/// passes another number of values than its target has arguments; `EdgeArgsDiffer` where two edges of one block
+/// pass different values to one block; `NoMemory` where memory is not enough.
+pub fn convert_module(
     alloc: Global,
     ctx: &Context,
     module: ModuleOp,
-) -> Result<LLVMModule, AllocError>
+) -> Result<LLVMModule, ToLLVMErr>
     requires { IsReadable ctx.now «module».0.0 }
-    ensures { IfOk result (λ back. IsExported (data_of ctx.now «module».0.0) back) }
+    ensures exported { IfOk result (λ back. IsExported (data_of ctx.now «module».0.0) back) }
+    ensures cause { IfErr result (λ e. IsCause ctx.now (data_of ctx.now «module».0.0) e) }
 {
     let mut back = LLVMModule::new(alloc, name_of(ctx, module.0))?;
     let ops = ctx.held_ops(module.0)?;
-    export_functions(alloc, ctx, ops.as_slice(), &mut back)?;
+    convert_functions(alloc, ctx, ops.as_slice(), &mut back)?;
     Ok(back)
 }

@@ -1,6 +1,6 @@
 //! The names that blocks and results get.
 
-ghost use Rattle.std.specs.Prelude.{◌≡◌, ◌<◌, ◌^◌, IfOk, IfSome, string_bytes};
+ghost use Rattle.std.specs.Prelude.{◌≡◌, ◌<◌, ◌^◌, ℕ, IfOk, IfSome, string_bytes};
 ghost use Rattle.std.specs.Option.{option_copied};
 ghost use Rattle.llvm_core.specs.Names.{IsPlainOrNone};
 ghost use Rattle.dialect_types.specs.Names.{IsPlainName};
@@ -16,7 +16,7 @@ pub fn block_name(
     place: u32,
 ) -> Result<String, AllocError>
     ensures name { IfOk result (λ name. string_bytes name ≡ block_name (option_copied label.entry) place) }
-    ensures plain { IfOk result (λ name. IfSome (option_copied label.entry) IsPlainName → IsPlainOrNone (string_bytes name)) }
+    ensures plain { IfSome (option_copied label.entry) IsPlainName → (k : ℕ) → k < 2 ^ 64 → IsPlainOrNone (block_name (option_copied label.entry) k) }
 {
     match label {
         Some(label) => format!(in alloc; "{}_block{place}", label.as_str()),
@@ -31,7 +31,7 @@ pub fn value_name(
     number: u64,
 ) -> Result<String, AllocError>
     ensures name { IfOk result (λ name. string_bytes name ≡ value_name (option_copied given.entry) number) }
-    ensures plain { IfOk result (λ name. IfSome (option_copied given.entry) IsPlainName → IsPlainOrNone (string_bytes name)) }
+    ensures plain { IfSome (option_copied given.entry) IsPlainName → (k : ℕ) → k < 2 ^ 64 → IsPlainOrNone (value_name (option_copied given.entry) k) }
 {
     match given {
         Some(given) => format!(in alloc; "{}_v{number}", given.as_str()),

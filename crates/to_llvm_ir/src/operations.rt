@@ -1,27 +1,100 @@
 //! Operations of a block, turned into constants and instructions.
 
-ghost use Rattle.std.specs.Prelude.{◌≡◌, ◌<◌, ◌++◌, ◌∷◌, [], List, Some, All, length, OnOk};
+ghost use Rattle.std.specs.Prelude.{◌≡◌, ◌<◌, ◌≤◌, ◌^◌, ◌+◌, ℕ, suc, List, false, Some, None, All, length, slice_get, IfOk, IfErr, OnOk};
 ghost use Rattle.std.specs.List.{filter_map};
+ghost use Rattle.std.specs.Option.{option_map};
+ghost use Rattle.llvm_core.specs.Module.{Module};
+ghost use Rattle.llvm_core.specs.Names.{IsPlainOrNone};
+ghost use Rattle.llvm_core.specs.Parts.{HasValues, result_type};
 ghost use Rattle.dialect_types.specs.declared.attrs.ConstAttr.TheVariants as attrs;
-ghost use Rattle.dialect_types.specs.Trees.{type_trees};
+ghost use Rattle.dialect_types.specs.Trees.{TypeTree, type_trees};
 ghost use Rattle.dialect_core.specs.declared.ops.OpKind.TheVariants as kinds;
-ghost use Rattle.dialect_core.specs.ContextData.{kind_at};
-ghost use Rattle.dialect_core.specs.Data.{DialectOp, IsTyped, op_at};
-ghost use Rattle.to_llvm_ir.specs.Bodies.{Task, IsBuilding, IsNext, IsNextIn, IsBegun};
+ghost use Rattle.dialect_core.specs.ContextData.{kind_at, IsValueWithin, IsSuccessorWithin};
+ghost use Rattle.dialect_core.specs.Data.{DialectBlock, DialectOp, IsTyped, op_at, name_at};
+ghost use Rattle.dialect_core.specs.Form.{is_constant};
+ghost use Rattle.to_llvm_ir.specs.Exported.{result_name};
+ghost use Rattle.to_llvm_ir.specs.Accepted.{IsAcceptedOp};
+ghost use Rattle.to_llvm_ir.specs.Causes.{IsFuncCause, given_name};
+ghost use Rattle.to_llvm_ir.specs.States.{Task, Spot, IsSpot, IsNext, IsUsed, IsUse, IsLead, IsMade, IsBegun, IsAtOp, IsBehindSpot, AreAllMapped, found};
 
+use crate::blocks::{Blocks, find_target};
 use crate::names::value_name;
+use crate::predicates::convert_ipredicate;
+use crate::to_llvm_err::ToLLVMErr;
 use crate::types::value_type;
-use crate::values::Body;
+use crate::values::Values;
 use dialect_core::context::Context;
 use dialect_core::numbers::OpRef;
-use dialect_core::ops::{OpKind, Value};
+use dialect_core::ops::{OpKind, Successor, Value};
 use dialect_core::overflow::IntegerOverflowFlagsAttr;
+use dialect_core::predicates::ICmpPredicateAttr;
 use dialect_types::attrs::ConstAttr;
 use dialect_types::types::TypeHandle;
 use llvm_core::code::{LLVMInst, LLVMValue, OverflowFlags};
 use llvm_core::consts::LLVMConstKind;
 use llvm_core::module::LLVMModule;
+use llvm_core::numbers::LLVMBasicBlock;
+use llvm_core::text::Text;
 use std::alloc::{AllocError, Global};
+
+/// The name of an operation, empty where it has none.
+pub fn name_of(ctx: &Context, op: OpRef) -> &str
+    requires { op.0 < length ctx.now.ops }
+    ensures { result.now ≡ name_at ctx.now.ops op.0 }
+{
+    match ctx.op_name(op) {
+        Some(name) => name.as_str(),
+        None => "",
+    }
+}
+
+/// The given name of a value, empty where it has none.
+fn given_name(alloc: Global, ctx: &Context, value: Value) -> Result<Text, AllocError>
+    requires { IsValueWithin (length ctx.now.ops) (length ctx.now.blocks) value }
+    ensures { IfOk result (λ name. name ≡ given_name ctx.now value) }
+{
+    match value {
+        Value::Result(op) => Text::copy(alloc, name_of(ctx, op)),
+        Value::Argument(..) => Text::copy(alloc, ""),
+    }
+}
+
+/// What stands for a value that an operation uses. `UndefinedValue` where it does not stand before.
+fn known(
+    alloc: Global,
+    ctx: &Context,
+    value: Value,
+    values: &Values,
+) -> Result<LLVMValue, ToLLVMErr>
+    requires { IsValueWithin (length ctx.now.ops) (length ctx.now.blocks) value }
+    ensures found { IfOk result (λ x. found values.now value ≡ Some x) }
+    ensures ok { (s : Spot) (op : OpRef) (m : Module) (type : TypeTree) → IsNext ctx.now op s values.now m → IsUsed s value type → IfOk result (IsUse s m value type) }
+    ensures cause { (s : Spot) (op : OpRef) (m : Module) (type : TypeTree) → IsNext ctx.now op s values.now m → IsUsed s value type → IfErr result (IsFuncCause ctx.now s.task.source) }
+{
+    match values.get(value) {
+        Some(stands) => Ok(stands),
+        None => Err(ToLLVMErr::UndefinedValue(given_name(alloc, ctx, value)?)),
+    }
+}
+
+/// The block that an edge leads to, whose values are known.
+fn lead(
+    alloc: Global,
+    ctx: &Context,
+    edge: &Successor,
+    blocks: &Blocks,
+    values: &Values,
+) -> Result<LLVMBasicBlock, ToLLVMErr>
+    requires { IsSuccessorWithin (length ctx.now.ops) (length ctx.now.blocks) edge.now }
+    ensures ok { (s : Spot) (op : OpRef) (m : Module) (l : ℕ) → IsNext ctx.now op s values.now m → AreAllMapped s.task blocks.now → slice_get s.op.successors l ≡ Some edge.now → IfOk result (IsLead s m edge.now) }
+    ensures cause { (s : Spot) (op : OpRef) (m : Module) (l : ℕ) → IsNext ctx.now op s values.now m → AreAllMapped s.task blocks.now → slice_get s.op.successors l ≡ Some edge.now → IfErr result (IsFuncCause ctx.now s.task.source) }
+{
+    for value in edge.args.as_slice() {
+        known(alloc, ctx, *value, values)?;
+    }
+    let target = find_target(alloc, ctx, edge, blocks)?;
+    Ok(target.block)
+}
 
 /// The type and the value of a constant.
 fn parts_of(value: &ConstAttr) -> (TypeHandle, u64)
@@ -33,109 +106,231 @@ fn parts_of(value: &ConstAttr) -> (TypeHandle, u64)
 }
 
 /// A constant of LLVM for a constant.
-fn export_constant(
+fn convert_constant(
     ctx: &Context,
     op: OpRef,
     value: &ConstAttr,
-    body: &mut Body,
+    values: &mut Values,
     back: &mut LLVMModule,
 ) -> Result<(), AllocError>
     requires typed { IsTyped ctx.now }
-    requires within { op.0 < length ctx.now.ops }
     requires kind { kind_at ctx.now.ops op ≡ Some (kinds.Constant value.now) }
-    requires next { (t : Task) × (done : List DialectOp) × (o : DialectOp) × IsNext t done ctx.now op o body.old back.old }
-    ensures { (t : Task) (done : List DialectOp) (o : DialectOp) → IsNext t done ctx.now op o body.old back.old → OnOk result (IsBuilding t (done ++ o ∷ []) body.new back.new) }
+    requires spot { (s : Spot) × IsNext ctx.now op s values.old back.old }
+    ensures { (s : Spot) → IsNext ctx.now op s values.old back.old → OnOk result (IsBehindSpot s values.new back.new) }
 {
     let (ty, number) = parts_of(value);
     let ty = value_type(ctx, ty, back)?;
     let c = back.const_get(LLVMConstKind::Int(ty, u128::from(number)))?;
-    body.set(Value::Result(op), LLVMValue::Const(c))?;
+    values.set(Value::Result(op), LLVMValue::Const(c))?;
     Ok(())
 }
 
 /// An `add` for an `llvm.add`.
-fn export_add(
+fn convert_add(
     alloc: Global,
     ctx: &Context,
     op: OpRef,
     flags: IntegerOverflowFlagsAttr,
-    body: &mut Body,
-    back: &mut LLVMModule,
-) -> Result<(), AllocError>
+    values: &Values,
+) -> Result<LLVMInst, ToLLVMErr>
     requires within { op.0 < length ctx.now.ops }
     requires kind { kind_at ctx.now.ops op ≡ Some (kinds.Add flags) }
-    requires next { (t : Task) × (done : List DialectOp) × (o : DialectOp) × IsNext t done ctx.now op o body.old back.old }
-    ensures { (t : Task) (done : List DialectOp) (o : DialectOp) → IsNext t done ctx.now op o body.old back.old → OnOk result (IsBuilding t (done ++ o ∷ []) body.new back.new) }
+    requires spot { (s : Spot) × IsSpot ctx.now op s }
+    ensures ok { (s : Spot) (m : Module) → IsNext ctx.now op s values.now m → IfOk result (IsMade s m) }
+    ensures cause { (s : Spot) (m : Module) → IsNext ctx.now op s values.now m → IfErr result (IsFuncCause ctx.now s.task.source) }
 {
     let operands = ctx.op_operands(op);
-    let lhs = body.value(operands[0]);
-    let rhs = body.value(operands[1]);
+    let lhs = known(alloc, ctx, operands[0], values)?;
+    let rhs = known(alloc, ctx, operands[1], values)?;
     let flags = OverflowFlags {
         nuw: flags.nuw,
         nsw: flags.nsw,
     };
-    let name = value_name(alloc, ctx.op_name(op), body.next)?;
-    let i = back.build(body.block, LLVMInst::Add(lhs, rhs, flags), name.as_str())?;
-    body.set(Value::Result(op), LLVMValue::Inst(i))?;
-    Ok(())
+    Ok(LLVMInst::Add(lhs, rhs, flags))
+}
+
+/// An `icmp` for an `llvm.icmp`.
+fn convert_icmp(
+    alloc: Global,
+    ctx: &Context,
+    op: OpRef,
+    predicate: ICmpPredicateAttr,
+    values: &Values,
+) -> Result<LLVMInst, ToLLVMErr>
+    requires within { op.0 < length ctx.now.ops }
+    requires kind { kind_at ctx.now.ops op ≡ Some (kinds.ICmp predicate) }
+    requires spot { (s : Spot) × IsSpot ctx.now op s }
+    ensures ok { (s : Spot) (m : Module) → IsNext ctx.now op s values.now m → IfOk result (IsMade s m) }
+    ensures cause { (s : Spot) (m : Module) → IsNext ctx.now op s values.now m → IfErr result (IsFuncCause ctx.now s.task.source) }
+{
+    let operands = ctx.op_operands(op);
+    let lhs = known(alloc, ctx, operands[0], values)?;
+    let rhs = known(alloc, ctx, operands[1], values)?;
+    Ok(LLVMInst::ICmp(lhs, rhs, convert_ipredicate(predicate)))
+}
+
+/// A `br` for an `llvm.br`.
+fn convert_br(
+    alloc: Global,
+    ctx: &Context,
+    op: OpRef,
+    blocks: &Blocks,
+    values: &Values,
+) -> Result<LLVMInst, ToLLVMErr>
+    requires within { op.0 < length ctx.now.ops }
+    requires kind { kind_at ctx.now.ops op ≡ Some kinds.Br }
+    requires spot { (s : Spot) × IsSpot ctx.now op s }
+    ensures ok { (s : Spot) (m : Module) → IsNext ctx.now op s values.now m → AreAllMapped s.task blocks.now → IfOk result (IsMade s m) }
+    ensures cause { (s : Spot) (m : Module) → IsNext ctx.now op s values.now m → AreAllMapped s.task blocks.now → IfErr result (IsFuncCause ctx.now s.task.source) }
+{
+    let edges = ctx.op_successors(op);
+    let target = lead(alloc, ctx, &edges[0], blocks, values)?;
+    Ok(LLVMInst::Br(target))
+}
+
+/// A `br` on a condition for an `llvm.cond_br`.
+fn convert_cond_br(
+    alloc: Global,
+    ctx: &Context,
+    op: OpRef,
+    blocks: &Blocks,
+    values: &Values,
+) -> Result<LLVMInst, ToLLVMErr>
+    requires within { op.0 < length ctx.now.ops }
+    requires kind { kind_at ctx.now.ops op ≡ Some kinds.CondBr }
+    requires spot { (s : Spot) × IsSpot ctx.now op s }
+    ensures ok { (s : Spot) (m : Module) → IsNext ctx.now op s values.now m → AreAllMapped s.task blocks.now → IfOk result (IsMade s m) }
+    ensures cause { (s : Spot) (m : Module) → IsNext ctx.now op s values.now m → AreAllMapped s.task blocks.now → IfErr result (IsFuncCause ctx.now s.task.source) }
+{
+    let operands = ctx.op_operands(op);
+    let condition = known(alloc, ctx, operands[0], values)?;
+    let edges = ctx.op_successors(op);
+    let first = lead(alloc, ctx, &edges[0], blocks, values)?;
+    let second = lead(alloc, ctx, &edges[1], blocks, values)?;
+    Ok(LLVMInst::CondBr(condition, first, second))
 }
 
 /// A `ret` for an `llvm.return`.
-fn export_return(
+fn convert_return(
+    alloc: Global,
     ctx: &Context,
     op: OpRef,
-    body: &Body,
+    values: &Values,
+) -> Result<LLVMInst, ToLLVMErr>
+    requires within { op.0 < length ctx.now.ops }
+    requires kind { kind_at ctx.now.ops op ≡ Some kinds.Return }
+    ensures ok { (s : Spot) (m : Module) → IsNext ctx.now op s values.now m → IfOk result (IsMade s m) }
+    ensures cause { (s : Spot) (m : Module) → IsNext ctx.now op s values.now m → IfErr result (IsFuncCause ctx.now s.task.source) }
+{
+    let operands = ctx.op_operands(op);
+    if operands.is_empty() {
+        return Ok(LLVMInst::Ret(None));
+    }
+    let value = known(alloc, ctx, operands[0], values)?;
+    Ok(LLVMInst::Ret(Some(value)))
+}
+
+/// The instruction that an operation becomes. A constant, a module or a function becomes none.
+fn convert_inst(
+    alloc: Global,
+    ctx: &Context,
+    op: OpRef,
+    blocks: &Blocks,
+    values: &Values,
+) -> Result<LLVMInst, ToLLVMErr>
+    requires within { op.0 < length ctx.now.ops }
+    requires spot { (s : Spot) × IsSpot ctx.now op s }
+    requires some { (s : Spot) → IsSpot ctx.now op s → is_constant s.op ≡ false }
+    ensures ok { (s : Spot) (m : Module) → IsNext ctx.now op s values.now m → AreAllMapped s.task blocks.now → IfOk result (IsMade s m) }
+    ensures cause { (s : Spot) (m : Module) → IsNext ctx.now op s values.now m → AreAllMapped s.task blocks.now → IfErr result (IsFuncCause ctx.now s.task.source) }
+{
+    match ctx.op_kind(op) {
+        OpKind::Add(flags) => convert_add(alloc, ctx, op, *flags, values),
+        OpKind::ICmp(predicate) => convert_icmp(alloc, ctx, op, *predicate, values),
+        OpKind::Br => convert_br(alloc, ctx, op, blocks, values),
+        OpKind::CondBr => convert_cond_br(alloc, ctx, op, blocks, values),
+        OpKind::Return => convert_return(alloc, ctx, op, values),
+        OpKind::Unreachable => Ok(LLVMInst::Unreachable),
+        OpKind::Constant(_) | OpKind::Module | OpKind::Func => unreachable!(),
+    }
+}
+
+/// Appends the instruction that an operation became, under its name where it has a result.
+fn place_inst(
+    alloc: Global,
+    ctx: &Context,
+    op: OpRef,
+    inst: LLVMInst,
+    block: LLVMBasicBlock,
+    values: &mut Values,
     back: &mut LLVMModule,
 ) -> Result<(), AllocError>
     requires within { op.0 < length ctx.now.ops }
-    requires kind { kind_at ctx.now.ops op ≡ Some kinds.Return }
-    requires next { (t : Task) × (done : List DialectOp) × (o : DialectOp) × IsNext t done ctx.now op o body.now back.old }
-    ensures { (t : Task) (done : List DialectOp) (o : DialectOp) → IsNext t done ctx.now op o body.now back.old → OnOk result (IsBuilding t (done ++ o ∷ []) body.now back.new) }
+    requires spot { (s : Spot) × IsNext ctx.now op s values.old back.old × IsMade s back.old inst × (block.0 ≡ s.task.numbers.block + s.place) }
+    ensures ok { (s : Spot) → IsNext ctx.now op s values.old back.old → IsMade s back.old inst → block.0 ≡ s.task.numbers.block + s.place → OnOk result (IsBehindSpot s values.new back.new) }
+    ensures named { (s : Spot) → IsSpot ctx.now op s → OnOk result ((k : ℕ) → k < 2 ^ 64 → IsPlainOrNone (result_name s.op.name s.op.result k)) }
 {
-    let value = match ctx.op_operands(op) {
-        [] => None,
-        [value, ..] => Some(body.value(*value)),
-    };
-    back.build(body.block, LLVMInst::Ret(value), "")?;
+    if ctx.result_type(op).is_none() {
+        back.build(block, inst, "")?;
+        return Ok(());
+    }
+    let name = value_name(alloc, ctx.op_name(op), values.next)?;
+    let i = back.build(block, inst, name.as_str())?;
+    values.set(Value::Result(op), LLVMValue::Inst(i))?;
     Ok(())
 }
 
 /// What an operation becomes. A module or a function is no operation of a block.
-fn export_op(
+fn convert_op(
     alloc: Global,
     ctx: &Context,
     op: OpRef,
-    body: &mut Body,
+    blocks: &Blocks,
+    block: LLVMBasicBlock,
+    values: &mut Values,
     back: &mut LLVMModule,
-) -> Result<(), AllocError>
+) -> Result<(), ToLLVMErr>
     requires typed { IsTyped ctx.now }
     requires within { op.0 < length ctx.now.ops }
-    requires next { (t : Task) × (done : List DialectOp) × IsNextIn t done ctx.now op body.old back.old }
-    ensures { (t : Task) (done : List DialectOp) → IsNextIn t done ctx.now op body.old back.old → OnOk result (IsBuilding t (done ++ filter_map (op_at (type_trees ctx.now.types) ctx.now.ops) (op ∷ [])) body.new back.new) }
+    requires spot { (o : DialectOp) → op_at (type_trees ctx.now.types) ctx.now.ops op ≡ Some o → (s : Spot) × IsNext ctx.now op s values.old back.old × AreAllMapped s.task blocks.now × (block.0 ≡ s.task.numbers.block + s.place) }
+    ensures skipped { op_at (type_trees ctx.now.types) ctx.now.ops op ≡ None → (result ≡ Ok tt) × (values.new ≡ values.old) × (back.new ≡ back.old) }
+    ensures ok { (s : Spot) → IsNext ctx.now op s values.old back.old → AreAllMapped s.task blocks.now → block.0 ≡ s.task.numbers.block + s.place → OnOk result (IsBehindSpot s values.new back.new) }
+    ensures accepted { (s : Spot) → IsNext ctx.now op s values.old back.old → AreAllMapped s.task blocks.now → OnOk result (IsAcceptedOp s.task.source s.place s.at s.op) }
+    ensures cause { (s : Spot) → IsNext ctx.now op s values.old back.old → AreAllMapped s.task blocks.now → IfErr result (IsFuncCause ctx.now s.task.source) }
 {
     match ctx.op_kind(op) {
-        OpKind::Constant(value) => export_constant(ctx, op, value, body, back),
-        OpKind::Add(flags) => export_add(alloc, ctx, op, *flags, body, back),
-        OpKind::Return => export_return(ctx, op, body, back),
         OpKind::Module | OpKind::Func => Ok(()),
+        OpKind::Constant(value) => {
+            convert_constant(ctx, op, value, values, back)?;
+            Ok(())
+        }
+        _ => {
+            let inst = convert_inst(alloc, ctx, op, blocks, values)?;
+            place_inst(alloc, ctx, op, inst, block, values, back)?;
+            Ok(())
+        }
     }
 }
 
 /// What the operations of a block become, in order.
-pub fn export_ops(
+pub fn convert_ops(
     alloc: Global,
     ctx: &Context,
     ops: &[OpRef],
-    body: &mut Body,
+    blocks: &Blocks,
+    block: LLVMBasicBlock,
+    values: &mut Values,
     back: &mut LLVMModule,
-) -> Result<(), AllocError>
+) -> Result<(), ToLLVMErr>
     requires typed { IsTyped ctx.now }
     requires within { All (λ o. o.0 < length ctx.now.ops) ops.now }
-    requires begun { (t : Task) × IsBegun t ctx.now ops.now body.old back.old }
-    ensures { (t : Task) → IsBegun t ctx.now ops.now body.old back.old → OnOk result (IsBuilding t t.block.ops body.new back.new) }
+    requires begun { (t : Task) × (j : ℕ) × (c : DialectBlock) × IsBegun ctx.now t j c ops.now blocks.now block values.old back.old }
+    ensures ok { (t : Task) (j : ℕ) (c : DialectBlock) → IsBegun ctx.now t j c ops.now blocks.now block values.old back.old → OnOk result (IsAtOp t j c (length c.ops) values.new back.new) }
+    ensures accepted { (t : Task) (j : ℕ) (c : DialectBlock) → IsBegun ctx.now t j c ops.now blocks.now block values.old back.old → OnOk result ((i : ℕ) (o : DialectOp) → slice_get c.ops i ≡ Some o → IsAcceptedOp t.source j i o) }
+    ensures cause { (t : Task) (j : ℕ) (c : DialectBlock) → IsBegun ctx.now t j c ops.now blocks.now block values.old back.old → IfErr result (IsFuncCause ctx.now t.source) }
 {
     for op in ops {
-        export_op(alloc, ctx, *op, body, back)?;
+        convert_op(alloc, ctx, *op, blocks, block, values, back)?;
     }
     Ok(())
 }

@@ -27,6 +27,7 @@ pub fn value_type(
     requires short { IsShortResult (type_at (type_trees ctx.now.types) ty) }
     ensures tree { IfOk result (λ t. IsTypeOf back.new t (type_of (type_at (type_trees ctx.now.types) ty))) }
     ensures grows { OnOk result (Grows back.old back.new) }
+    ensures rest { OnOk result (back.new ≡ record back.old { types = back.new.types }) }
     ensures data { OnOk result (lists.data_of back.new ≡ lists.data_of back.old) }
     ensures sound { OnOk result (IsModule back.new) }
 {
@@ -50,6 +51,7 @@ fn param_types(
     requires sound { IsModule back.old }
     ensures types { IfOk result (λ ts. AreTypesOf back.new ts (map (λ t. type_of (type_at (type_trees ctx.now.types) t)) params.now)) }
     ensures grows { OnOk result (Grows back.old back.new) }
+    ensures rest { OnOk result (back.new ≡ record back.old { types = back.new.types }) }
     ensures data { OnOk result (lists.data_of back.new ≡ lists.data_of back.old) }
     ensures sound { OnOk result (IsModule back.new) }
 {
@@ -73,6 +75,7 @@ pub fn function_type(
     ensures function { IfOk result (λ t. IsFunctionType back.new.types t) }
     ensures tree { IfOk result (λ t. IsTypeOf back.new t (type_of (type_at (type_trees ctx.now.types) ty))) }
     ensures grows { OnOk result (Grows back.old back.new) }
+    ensures rest { OnOk result (back.new ≡ record back.old { types = back.new.types }) }
     ensures data { OnOk result (lists.data_of back.new ≡ lists.data_of back.old) }
     ensures sound { OnOk result (IsModule back.new) }
 {

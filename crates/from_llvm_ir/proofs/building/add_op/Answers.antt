@@ -1,16 +1,26 @@
 -- What `building::add_op` owes besides what the check finds.
-use Rattle.dialect_core.specs.declared.ops.OpKind.TheVariants as K
+use Rattle.std.proofs.Common.{length, ap, ◌∙◌}
+use Rattle.dialect_core.specs.ContextData.{ContextData}
 use Rattle.from_llvm_ir.specs.Building.{op_data}
-use Rattle.from_llvm_ir.proofs.OpLaws.{stands_op, stands_plain}
-use Rattle.from_llvm_ir.proofs.UnderLaws.{added_under}
+use Rattle.from_llvm_ir.proofs.BuildLaws.{length-push}
+use Rattle.from_llvm_ir.proofs.OpLaws.{kind_of_new, stands_plain}
+use Rattle.from_llvm_ir.proofs.UnderLaws.{added_open, open_within}
 use Rattle.from_llvm_ir.proofs.building.add_op.Goals as goal
+
+pub insert_at_back-requires-clause-block : goal.insert_at_back-requires-clause-block
+insert_at_back-requires-clause-block g c =
+    let o = c.requires.open in
+    rw c.in_ok-op.ensures.ok (open_within o.0 o.1 c.args.ctx.now c.args.block o.2 o.3 o.4 o.5)
 
 pub insert_at_back-requires-clause-stands : goal.insert_at_back-requires-clause-stands
 insert_at_back-requires-clause-stands g c =
-    let stands = stands_op c.args.ctx.now c.create_named.new.ctx c.args.block c.in_ok-op.op (op_data c.args.kind c.args.name c.args.operands.now c.args.result_ty) K.Func c.requires.under.2.holder c.in_ok-op.ensures.ok c.in_ok-op.ensures.number in
-    stands_plain c.create_named.new.ctx.ops c.create_named.new.ctx.blocks c.in_ok-op.op c.args.block c.args.kind c.requires.plain stands.0
+    let stands = kind_of_new c.args.ctx.now c.create_named.new.ctx c.in_ok-op.op (op_data c.args.kind c.args.name c.args.operands.now c.args.successors.now c.args.result_ty) c.in_ok-op.ensures.ok c.in_ok-op.ensures.number in
+    stands_plain c.create_named.new.ctx.ops c.create_named.new.ctx.blocks c.in_ok-op.op c.args.block c.args.kind c.requires.plain stands
 
 pub returns-clause-added : goal.returns-clause-added
-returns-clause-added g c = λ fr os k is h.
-    added_under fr c.args.ctx.now c.create_named.new.ctx c.insert_at_back.new.self c.args.block os c.in_ok-op.op c.args.kind c.args.name c.args.operands.now c.args.result_ty k h is
-    c.in_ok-op.ensures.ok c.in_ok-op.ensures.number (c.in_ok-op.ensures.data fr.m h.building.there) (c.insert_at_back.ensures.typed (c.in_ok-op.ensures.typed h.building.typed)) c.insert_at_back.ensures.appended c.insert_at_back.ensures.data_op
+returns-clause-added g c = λ h base left now right k is u.
+    added_open h base c.args.ctx.now c.create_named.new.ctx c.insert_at_back.new.self c.args.block left now right c.in_ok-op.op c.args.kind c.args.name c.args.operands.now c.args.successors.now c.args.result_ty k u is
+    c.in_ok-op.ensures.ok c.in_ok-op.ensures.number (c.in_ok-op.ensures.data h.m u.under.building.there) (c.insert_at_back.ensures.typed (c.in_ok-op.ensures.typed u.under.building.typed)) c.insert_at_back.ensures.appended c.insert_at_back.ensures.data_op
+
+pub returns-clause-count : goal.returns-clause-count
+returns-clause-count g c = ap (λ (x : ContextData). length x.ops) c.insert_at_back.ensures.appended ∙ ap (λ (x : ContextData). length x.ops) c.in_ok-op.ensures.ok ∙ length-push c.args.ctx.now.ops _

@@ -1,41 +1,37 @@
 -- What `constants::hoist_constants` owes besides what the check finds.
-use Rattle.std.proofs.Common.{List, [], ◌++◌, take, sym, ap, subst, ◌∙◌, arith}
-use Rattle.std.specs.List.{filter_map, AllByRecursion}
-use Rattle.llvm_core.specs.Data as L
-use Rattle.llvm_core.specs.Data.{ConstTree, data_of}
-use Rattle.meaning.specs.Llvm.{row_of}
-use Rattle.from_llvm_ir.specs.Imported.{constant_in, constants_used}
-use Rattle.from_llvm_ir.specs.Body.{IsBody, IsFittingOperand}
-use Rattle.from_llvm_ir.proofs.ListedLaws.{listed_at, instruction_is, used_more, used_all, fitting_operands}
+use Rattle.std.proofs.Common.{sym, subst, List, arith}
+use Rattle.std.specs.List.{flat_map}
+use Rattle.std.proofs.lemmas.List.{take_all}
+use Rattle.llvm_core.specs.Data.{Block, data_of}
+use Rattle.from_llvm_ir.specs.Imported.{constants_in, rest_of}
+use Rattle.from_llvm_ir.specs.Known.{blocks_of}
+use Rattle.from_llvm_ir.specs.Body.{IsHoisting}
+use Rattle.from_llvm_ir.proofs.PlaceLaws.{flat_next}
+use Rattle.from_llvm_ir.proofs.SourceLaws.{function_within}
+use Rattle.from_llvm_ir.proofs.FrameLaws.{named_at, frame_length}
 use Rattle.from_llvm_ir.proofs.constants.hoist_constants.Goals as goal
 
-pub loop-i-init : goal.loop-i-init
-loop-i-init g c = λ h ps listed fr f b. b
+pub blocks-blocks-requires : goal.blocks-blocks-requires
+blocks-blocks-requires g c = function_within c.args.source.now c.args.f c.requires.0.source c.requires.1.source
 
-pub hoist_operands-requires-clause-sound : goal.hoist_operands-requires-clause-sound
-hoist_operands-requires-clause-sound g c = c.requires.listed.2.sound
+pub bounds-blocks-place : goal.bounds-blocks-place
+bounds-blocks-place g c = (named_at c.args.source.now c.args.f c.requires.0 c.args.order.now c.blocks-blocks.result.now c.loop-place.place-index c.requires.1 c.requires.2 c.blocks-blocks.ensures.blocks c.loop-place-test.true).within
 
-pub hoist_operands-requires-clause-apart : goal.hoist_operands-requires-clause-apart
-hoist_operands-requires-clause-apart g c = c.requires.listed.2.apart
+pub hoist_block-requires-clause-site : goal.hoist_block-requires-clause-site
+hoist_block-requires-clause-site g c =
+    let r = c.requires in
+    let x = named_at c.args.source.now c.args.f r.0 c.args.order.now c.blocks-blocks.result.now c.loop-place.place-index r.1 r.2 c.blocks-blocks.ensures.blocks c.loop-place-test.true in
+    (c.args.f, r.0.source, _, x.block, r.1.source, r.3, x.is)
 
-pub hoist_operands-requires-clause-fitting : goal.hoist_operands-requires-clause-fitting
-hoist_operands-requires-clause-fitting g c =
-    let x = listed_at c.args.source.now c.requires.listed.0 c.args.insts.now c.requires.listed.1 c.loop-i.i-index (record { 0 = 0 }) c.requires.listed.2 c.loop-i-test.true in
-    subst (λ (i : L.Instruction). AllByRecursion IsFittingOperand (row_of (data_of c.args.source.now) i).2) (instruction_is c.args.source.now c.requires.listed.0 _ _ x.placed c.inst.result.now x.next c.inst.ensures.inst)
-    (fitting_operands (data_of c.args.source.now) c.requires.listed.0 _ x.placed x.placed.instruction x.next.form)
-
-pub hoist_operands-requires-clause-body : goal.hoist_operands-requires-clause-body
-hoist_operands-requires-clause-body g c = let b = c.requires.body in (b.0, b.1, _, c.loop-i.invariant c.requires.listed.0 c.requires.listed.1 c.requires.listed.2 b.0 b.1 b.2)
-
-pub loop-i-preserved : goal.loop-i-preserved
-loop-i-preserved g c = λ h ps listed fr f b.
+pub loop-place-preserved : goal.loop-place-preserved
+loop-place-preserved g c = λ fr framed order noted hoisting number.
     let m = c.args.source.now in
-    let x = listed_at m h c.args.insts.now ps c.loop-i.i-index (record { 0 = 0 }) listed c.loop-i-test.true in
-    subst (λ (us : List ConstTree). IsBody fr m f c.hoist_operands.new.ctx c.args.block c.hoist_operands.new.values us [])
-    (ap (λ (i : L.Instruction). constants_used (data_of m) (take c.loop-i.i-index ps) ++ filter_map constant_in (row_of (data_of m) i).2) (sym (instruction_is m h _ _ x.placed c.inst.result.now x.next c.inst.ensures.inst)) ∙ sym (used_more (data_of m) ps c.loop-i.i-index x.placed x.here))
-    (c.in_ok-hoist_operands.ensures fr f _ (c.loop-i.invariant h ps listed fr f b))
+    let x = named_at m c.args.f fr c.args.order.now c.blocks-blocks.result.now c.loop-place.place-index framed order c.blocks-blocks.ensures.blocks c.loop-place-test.true in
+    subst (IsHoisting fr m c.hoist_block.new.ctx c.hoist_block.new.values) (sym (flat_next (λ (b : Block). flat_map (constants_in (data_of m) fr.source b) (rest_of b)) (blocks_of fr) c.loop-place.place-index x.block x.here))
+    (c.in_ok-hoist_block.ensures c.args.f fr.source _ x.block framed.source noted x.is fr _ (c.loop-place.invariant fr framed order noted hoisting number) number)
 
 pub returns : goal.returns
-returns g c = λ h ps listed fr f b.
-    subst (λ (us : List ConstTree). IsBody fr c.args.source.now f c.loop-i.ctx c.args.block c.loop-i.values us []) (used_all (data_of c.args.source.now) ps c.loop-i.i-index (omega (arith, listed.long, c.loop-i-test.false)))
-    (c.loop-i.invariant h ps listed fr f b)
+returns g c = λ fr framed order noted hoisting number.
+    let m = c.args.source.now in
+    subst (λ (bs : List Block). IsHoisting fr m c.loop-place.ctx c.loop-place.values (flat_map (λ (b : Block). flat_map (constants_in (data_of m) fr.source b) (rest_of b)) bs)) (take_all c.loop-place.place-index (blocks_of fr) (omega (arith, frame_length m c.args.f fr c.args.order.now framed order, c.loop-place-test.false)))
+    (c.loop-place.invariant fr framed order noted hoisting number)

@@ -1,10 +1,10 @@
 -- What the loop of `operations::import_insts` keeps.
-use Rattle.std.proofs.Common.{◌≡◌, List, [], length, take}
-use Rattle.llvm_core.specs.Data.{Function, Placed, data_of}
-use Rattle.from_llvm_ir.specs.Imported.{constants_used}
-use Rattle.from_llvm_ir.specs.Building.{Frame}
-use Rattle.from_llvm_ir.specs.Body.{AreListed, IsBody}
+use Rattle.std.proofs.Common.{ℕ}
+use Rattle.llvm_core.specs.declared.numbers.LLVMFunction.{LLVMFunction}
+use Rattle.llvm_core.specs.Data.{Block}
+use Rattle.from_llvm_ir.specs.Known.{Frame}
+use Rattle.from_llvm_ir.specs.Body.{IsBegun, IsBody}
 use Rattle.from_llvm_ir.proofs.operations.import_insts.Given as goal
 
-abbrev pub invariant-loop-i : goal.invariant-loop-i
-invariant-loop-i g l = (h : Function) → (ps : List Placed) → (fr : Frame) → AreListed l.source h l.insts ps → length h.params ≡ length fr.args → IsBody fr l.source h.number l.fn.ctx l.block l.fn.values (constants_used (data_of l.source) ps) [] → IsBody fr l.source h.number l.ctx l.block l.values (constants_used (data_of l.source) ps) (take l.i-index ps)
+abbrev pub invariant-loop-place : goal.invariant-loop-place
+invariant-loop-place g l = (fr : Frame) → (f : LLVMFunction) → (j : ℕ) → (b : Block) → IsBegun fr l.source f l.targets l.entries l.fn.ctx l.fn.values l.from l.block j b → IsBody fr l.source l.ctx l.values j l.place b

@@ -1,8 +1,12 @@
--- A constant prints the text of its data.
-use Rattle.ll_print.proofs.TextLaws.{put_is, const_text-int}
+-- A constant prints the text of its kind.
+use Rattle.std.proofs.Common.{sym}
+use Rattle.std.proofs.lemmas.List.{append-nil}
+use Rattle.ll_print.proofs.TextLaws.{ok_is, put_is, const_text-int, const_text-placeholder}
 use Rattle.ll_print.proofs.constants.put_const.Goals as goal
 
-pub returns : goal.returns
-returns c =
-    put_is _ _ _ _ c.in_ok-put_int.ensures
-    (const_text-int c.args.m.now c.args.c _ _ _ c.requires.sound (rw c.int_parts-value.ensures at c.const_kind.ensures.kind) (rw c.in-Int.is at c.type_kind.ensures.kind))
+pub returns-in-Int : goal.returns-in-Int
+returns-in-Int c = ok_is _ _ _ _ _ c.put_typed.ensures (const_text-int c.args.m.now c.args.c c.in-Int.ty c.in-Int.value (rw c.in-Int.is at c.const_kind.ensures.kind))
+
+pub returns-in-Placeholder : goal.returns-in-Placeholder
+returns-in-Placeholder c =
+    put_is _ _ _ _ (sym (append-nil c.args.out.now.items)) (const_text-placeholder c.args.m.now c.args.c c.in-Placeholder.field-0 c.in-Placeholder.field-1 (rw c.in-Placeholder.is at c.const_kind.ensures.kind))

@@ -9,10 +9,10 @@ use Rattle.ll_print.proofs.instructions.put_result.Goals as goal
 pub returns-in-Void : goal.returns-in-Void
 returns-in-Void c =
     put_is _ _ _ _ (sym (append-nil c.args.out.now.items))
-    (void_gives c.args.m.now (function_in c.args.m.now c.args.numbers.now.function) c.args.i c.type_of.result c.requires.printing.sound c.type_of.ensures.ty (rw c.in-Void.is at c.type_kind.ensures.kind))
+    (void_gives c.args.m.now (function_in c.args.m.now c.args.numbers.now.function) c.args.i c.args.ty c.requires.printing.sound c.requires.ty (rw c.in-Void.is at c.type_kind.ensures.kind))
 
 pub returns-in_ok-extend_from_slice-in_default : goal.returns-in_ok-extend_from_slice-in_default
 returns-in_ok-extend_from_slice-in_default c =
     put_is _ _ _ _ (put_two _ _ _ _ _ c.in_ok-put_local-in_default.ensures c.in_ok-extend_from_slice-in_default.ensures.items)
-    (result_gives c.args.m.now c.args.numbers.now c.args.i c.type_of.result c.type_kind.result.now c.inst_name.result.now c.requires.printing c.type_of.ensures.ty c.inst_name.ensures c.type_kind.ensures.kind c.in_default.not-Void
-    ∙ ap (λ (k : ℕ). named_text c.inst_name.result.now k ++ codes " = ") (sym c.number.ensures))
+    (result_gives c.args.m.now c.args.numbers.now c.args.i c.args.ty c.type_kind.result.now c.inst_name.result.now c.requires.printing c.requires.ty c.inst_name.ensures c.type_kind.ensures.kind c.in_default.not-Void
+    ∙ ap (λ (k : ℕ). named_text c.inst_name.result.now k ++ codes " = ") (sym c.number-number.ensures))

@@ -8,4 +8,4 @@ use Rattle.ll_print.proofs.numbering.count_block.Goals as goal
 pub returns : goal.returns
 returns c =
     subst (Counts c.args.numbers.now c.count_insts.new.numbers) (sym (unnamed_of-block c.args.m.now c.args.b c.block_name.result.now c.instructions.result.now c.block_name.ensures c.instructions.ensures.insts))
-    (counts_then _ c.count_block.new.self _ _ _ c.in_ok-count_block.ensures c.in_ok-count_insts.ensures)
+    (counts_then _ c.count_unnamed.new.self _ _ _ c.in_ok-count_unnamed.ensures c.in_ok-count_insts.ensures)

@@ -13,7 +13,7 @@ param_name-requires c = param_within c.args.m.now c.args.numbers.now.function c.
 
 pub loop-place-preserved : goal.loop-place-preserved
 loop-place-preserved c =
-    counts_param_more c.args.m.now c.args.numbers.now.function c.args.numbers.now c.loop-place.numbers c.count_param.new.self c.loop-place.place c.param_name.result.now c.param_name.ensures c.loop-place.invariant c.in_ok-count_param.ensures
+    counts_param_more c.args.m.now c.args.numbers.now.function c.args.numbers.now c.loop-place.numbers c.count_unnamed.new.self c.loop-place.place c.param_name.result.now c.param_name.ensures c.loop-place.invariant c.in_ok-count_unnamed.ensures
 
 pub returns : goal.returns
 returns c = counts_params_all (function_in c.args.m.now c.args.numbers.now.function).params c.args.numbers.now c.loop-place.numbers c.loop-place.place (omega (arith, c.requires.all, c.loop-place-test.false)) c.loop-place.invariant

@@ -4,7 +4,7 @@ use Rattle.ll_print.proofs.SpelledLaws.{module_spelled, module_lines}
 use Rattle.ll_print.proofs.printer.print_ll.Goals as goal
 
 pub returns-clause-spelled : goal.returns-clause-spelled
-returns-clause-spelled c = module_spelled (data_of c.args.«module».now) c.requires.form c.requires.name c.requires.names c.requires.few
+returns-clause-spelled c = module_spelled (data_of c.args.«module».now) c.requires.form c.requires.name c.requires.names c.in_ok-text.ensures.numbers
 
 pub returns-clause-lines : goal.returns-clause-lines
 returns-clause-lines c = λ named. module_lines (data_of c.args.«module».now) named

@@ -10,7 +10,7 @@ pub loop-param-preserved : goal.loop-param-preserved
 loop-param-preserved c =
     let i = c.loop-param.invariant in
     record {
-      place = c.in-Some.ensures.1 ∙ ap (λ (n : ℕ). n + 1) i.place;
+      place = c.in_ok-place.ensures.next ∙ ap (λ (n : ℕ). n + 1) i.place;
       says = params_more c.args.f.0 c.loop-param.place c.loop-param.param-index c.args.params.now _ c.args.module.now c.loop-param.module c.name_param.new.module c.args.scope.now c.loop-param.scope c.name_param.new.scope c.loop-param-test.true i.place i.says c.in_ok-name_param.ensures.says;
       keeps = keeps_both c.args.f c.args.module.now c.loop-param.module c.name_param.new.module i.keeps c.in_ok-name_param.ensures.keeps;
     }

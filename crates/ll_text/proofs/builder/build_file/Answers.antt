@@ -1,5 +1,5 @@
 -- What `builder::build_file` owes besides what the check finds.
-use Rattle.std.proofs.Common.{ap, sym, subst, []}
+use Rattle.std.proofs.Common.{length, ap, sym, subst, []}
 use Rattle.llvm_core.specs.Module.{Module}
 use Rattle.llvm_core.specs.Names.{is_plain}
 use Rattle.ll_text.specs.Text.{Text}
@@ -12,30 +12,39 @@ use Rattle.ll_text.proofs.UnsaidLaws.{unsaid_functions}
 use Rattle.ll_text.proofs.builder.build_file.Goals as goal
 
 pub loop-function-init : goal.loop-function-init
-loop-function-init c = let e = c.in_ok-module.ensures.stores in subst (λ (n : Text). IsBuiltOf n [] c.in_ok-module.module) (sym (ap (λ (m : Module). m.name) e)) (none_built _ _ e)
+loop-function-init c =
+    let e = c.in_ok-module.ensures.stores in
+    record {
+      built = subst (λ (n : Text). IsBuiltOf n [] c.in_ok-module.module) (sym (ap (λ (m : Module). m.name) e)) (none_built _ _ e);
+      next = sym (ap (λ (m : Module). length m.insts) e);
+    }
 
 pub loop-function-preserved : goal.loop-function-preserved
 loop-function-preserved c =
     let value = c.as_slice-function-items.ensures.value in
-    built_more _ c.args.file.now.functions.items c.loop-function.function-index c.function-item.result _ (rw value at c.loop-function-test.true) (rw value at c.function-item.is) (c.in_ok-add_function.ensures.adds _ _ c.loop-function.invariant)
+    let i = c.loop-function.invariant in
+    record {
+      built = built_more _ c.args.file.now.functions.items c.loop-function.function-index c.function-item.result _ (rw value at c.loop-function-test.true) (rw value at c.function-item.is) (c.in_ok-next.ensures.adds _ _ i.built);
+      next = c.in_ok-next.ensures.behind;
+    }
 
 pub returns-clause-says : goal.returns-clause-says
 returns-clause-says c =
     let value = c.as_slice-function-items.ensures.value in
     let name = ap (λ (m : Module). m.name) c.in_ok-module.ensures.stores in
     file_said (file_view c.args.file.now) _ _ (subst (IsSource is_plain 64 (name_view c.args.file.now.source)) (sym name) c.in_ok-source_name.ensures.says)
-    (all_built _ c.args.file.now.functions.items _ _ (rw value at c.loop-function-test.false) c.loop-function.invariant)
-
-pub returns-clause-returns : goal.returns-clause-returns
-returns-clause-returns c = let value = c.as_slice-function-items.ensures.value in (all_built _ c.args.file.now.functions.items _ _ (rw value at c.loop-function-test.false) c.loop-function.invariant).fits
+    (all_built _ c.args.file.now.functions.items _ _ (rw value at c.loop-function-test.false) c.loop-function.invariant.built)
 
 pub returns-clause-numbered : goal.returns-clause-numbered
-returns-clause-numbered c = let value = c.as_slice-function-items.ensures.value in (all_built _ c.args.file.now.functions.items _ _ (rw value at c.loop-function-test.false) c.loop-function.invariant).numbered
+returns-clause-numbered c =
+    let value = c.as_slice-function-items.ensures.value in
+    let all = all_built _ c.args.file.now.functions.items _ _ (rw value at c.loop-function-test.false) c.loop-function.invariant.built in
+    all.numbered
 
-pub returns-in_err-add_function-clause-not_yet : goal.returns-in_err-add_function-clause-not_yet
-returns-in_err-add_function-clause-not_yet c = λ e d h fits.
-    let x = c.in_err-add_function in
-    let r = c.from_residual-in_err-add_function in
+pub returns-in_err-next-clause-not_yet : goal.returns-in_err-next-clause-not_yet
+returns-in_err-next-clause-not_yet c = λ e d h.
+    let x = c.in_err-next in
+    let r = c.from_residual-in_err-next in
     let value = c.as_slice-function-items.ensures.value in
     unsaid_functions c.args.file.now.functions.items d.functions c.loop-function.function-index c.function-item.result (rw value at c.loop-function-test.true) (rw value at c.function-item.is)
-    (x.ensures.not_yet (passed_on r.result x.field-0.0 r.ensures.1 e)) h.functions fits
+    (x.ensures.not_yet (passed_on r.result x.field-0.0 r.ensures.1 e)) h.functions

@@ -1,8 +1,11 @@
 -- The module built so far has the functions so far.
-use Rattle.std.proofs.Common.{map, take}
+use Rattle.std.proofs.Common.{◌≡◌, length, map, take}
 use Rattle.ll_text.specs.TreeView.{function_view}
 use Rattle.ll_text.specs.Bodies.{IsBuiltOf}
 use Rattle.ll_text.proofs.builder.build_file.Given as goal
 
 abbrev pub invariant-loop-function : goal.invariant-loop-function
-invariant-loop-function l = IsBuiltOf l.initial.module.name (map function_view (take l.function-index l.file.functions.items)) l.module
+invariant-loop-function l = record {
+  built : IsBuiltOf l.initial.module.name (map function_view (take l.function-index l.file.functions.items)) l.module;
+  next : l.next ≡ length l.module.insts;
+}

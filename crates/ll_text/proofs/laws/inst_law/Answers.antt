@@ -1,16 +1,16 @@
 -- The laws of an instruction.
 use Rattle.ll_text.specs.Tree.{inst, IsInst}
 use Rattle.ll_text.specs.Reading.{inst_at}
-use Rattle.ll_text.specs.Productions.{Anything}
+use Rattle.ll_text.specs.Productions.{NoComma}
 use Rattle.ll_text.proofs.InstLaws.{inst_takes, inst_again}
 use Rattle.ll_text.proofs.ProductionLaws.{one_from_back}
 use Rattle.ll_text.proofs.laws.inst_law.Goals as goal
 
 pub returns-clause-one : goal.returns-clause-one
-returns-clause-one c = one_from_back inst IsInst Anything inst_at (λ i us fits follows. inst_again i us fits)
+returns-clause-one c = one_from_back inst IsInst NoComma inst_at inst_again
 
 pub returns-clause-written : goal.returns-clause-written
 returns-clause-written c = inst_takes
 
 pub returns-clause-back : goal.returns-clause-back
-returns-clause-back c = λ i us fits follows. inst_again i us fits
+returns-clause-back c = inst_again

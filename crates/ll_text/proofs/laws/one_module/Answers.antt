@@ -1,5 +1,5 @@
 -- Two modules of one text are one.
-use Rattle.ll_text.proofs.OneModuleLaws.{one_of_tokens}
+use Rattle.ll_text.proofs.ReadLaws.{one_of_tokens}
 use Rattle.ll_text.proofs.laws.one_module.Goals as goal
 
 pub returns : goal.returns

@@ -5,8 +5,8 @@ use Rattle.ll_text.specs.declared.read_err.ReadErr.TheVariants as errors
 use Rattle.ll_text.specs.TokenView.{texts_of}
 use Rattle.ll_text.specs.TreeView.{file_view}
 use Rattle.ll_text.proofs.MeaningLaws.{wider_file}
-use Rattle.ll_text.proofs.FormLaws.{form_of, source_plain}
-use Rattle.ll_text.proofs.ReadLaws.{form_said, checked_of_said}
+use Rattle.ll_text.proofs.FormLaws.{source_plain}
+use Rattle.ll_text.proofs.ReadLaws.{form_said, checked_of_said, form_of_built}
 use Rattle.ll_text.proofs.read.read_ll.Goals as goal
 
 pub returns-clause-spelled : goal.returns-clause-spelled
@@ -25,7 +25,10 @@ returns-clause-spelled c =
     )
 
 pub returns-clause-form : goal.returns-clause-form
-returns-clause-form c = let e = c.in_ok-built.ensures in form_of (file_view c.in_ok-tree.tree) _ e.says e.returns e.numbered
+returns-clause-form c =
+    let e = c.in_ok-built.ensures in
+    let sound : IsModule c.in_ok-built.built = subst IsModule c.built.view_is c.built.invariant in
+    form_of_built (file_view c.in_ok-tree.tree) c.in_ok-built.built sound c.in_ok-check_built.ensures.checked e.says e.numbered
 
 pub returns-clause-name : goal.returns-clause-name
 returns-clause-name c = source_plain _ _ c.in_ok-built.ensures.says.source
@@ -46,4 +49,4 @@ returns-in_err-built-clause-not_yet c = λ e spelled.
     let found = rw c.as_slice.ensures.value at c.in_ok-tree.ensures.found in
     let t = file_view c.in_ok-tree.tree in
     let said = form_said c.args.bytes.now _ t spelled c.in_ok-tokens.ensures.found found in
-    c.build_file.ensures.not_yet refused said.said said.says said.fits
+    c.build_file.ensures.not_yet refused said.said said.says

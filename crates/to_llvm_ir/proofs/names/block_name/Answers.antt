@@ -1,11 +1,10 @@
 -- The texts of the two literals, and that they are plain.
-use Rattle.std.proofs.Common.{◌≡◌, ◌++◌, Some, IfSome, ap, sym, subst, ◌∙◌, append_assoc, string_bytes, arith, refl}
+use Rattle.std.proofs.Common.{◌≡◌, ◌++◌, ℕ, Some, None, Option, List, ap, sym, subst, ◌∙◌, append_assoc, string_bytes, refl}
 use Rattle.std.specs.Prelude.{codes}
 use Rattle.std.specs.Fmt.{decimal}
 use Rattle.std.specs.Option.{option_copied}
 use Rattle.std.proofs.lemmas.Result.{IfOk-weaker}
 use Rattle.llvm_core.specs.Names.{IsPlainOrNone}
-use Rattle.dialect_types.specs.Names.{IsPlainName}
 use Rattle.to_llvm_ir.specs.Exported.{block_name}
 use Rattle.to_llvm_ir.proofs.NameLaws.{given_plain, bare_plain}
 use Rattle.to_llvm_ir.proofs.names.block_name.Goals as goal
@@ -19,16 +18,13 @@ returns-in-Some-clause-name c =
     (λ s wrote. wrote ∙ sym (append_assoc label (codes "_block") (decimal place)) ∙ ap (λ l. block_name l place) same) c.format.ensures.ok
 
 pub returns-in-Some-clause-plain : goal.returns-in-Some-clause-plain
-returns-in-Some-clause-plain c =
+returns-in-Some-clause-plain c = λ plain k lt.
     let label = c.as_str.result.now in
-    let place = c.args.place in
     let same : option_copied c.args.label ≡ Some label = ap option_copied c.in-Some.is ∙ ap Some (sym c.as_str.ensures.text) in
-    IfOk-weaker c.format.result (λ s. string_bytes s ≡ label ++ (codes "_block" ++ decimal place)) (λ s. IfSome (option_copied c.args.label) IsPlainName → IsPlainOrNone (string_bytes s))
-    (λ s wrote plain.
-    subst IsPlainOrNone (sym wrote) (given_plain label (codes "_block") place (omega (arith, c.ranges.place.fits)) (rw c.as_str.ensures.text c.as_str.ensures.legal) (rw same at plain) refl)) c.format.ensures.ok
+    subst (λ (l : Option (List ℕ)). IsPlainOrNone (block_name l k)) (sym same)
+    (subst IsPlainOrNone (sym (append_assoc label (codes "_block") (decimal k))) (given_plain label (codes "_block") k lt (rw c.as_str.ensures.text c.as_str.ensures.legal) (rw same at plain) refl))
 
 pub returns-in-None-clause-plain : goal.returns-in-None-clause-plain
-returns-in-None-clause-plain c =
-    let place = c.args.place in
-    IfOk-weaker c.format-in-None.result (λ s. string_bytes s ≡ codes "block" ++ decimal place) (λ s. IfSome (option_copied c.args.label) IsPlainName → IsPlainOrNone (string_bytes s))
-    (λ s wrote plain. subst IsPlainOrNone (sym wrote) (bare_plain 98 (codes "lock") place (omega (arith, c.ranges.place.fits)) refl refl)) c.format-in-None.ensures.ok
+returns-in-None-clause-plain c = λ plain k lt.
+    let same : option_copied c.args.label ≡ None = ap option_copied c.in-None.is in
+    subst (λ (l : Option (List ℕ)). IsPlainOrNone (block_name l k)) (sym same) (bare_plain 98 (codes "lock") k lt refl refl)

@@ -1,5 +1,6 @@
 -- The parts of the type are those of the form.
-use Rattle.std.proofs.Common.{◌∙◌, List, All, ◌<◌, length, map, sym, subst}
+use Rattle.std.proofs.Common.{◌∙◌, ap, List, All, ◌<◌, length, map, sym, subst}
+use Rattle.llvm_core.specs.Module.{Module}
 use Rattle.dialect_types.specs.declared.types.TypeHandle.{TypeHandle}
 use Rattle.dialect_types.specs.Trees.{type_at, type_trees}
 use Rattle.dialect_core.specs.Form.{IsShortInt}
@@ -33,6 +34,7 @@ returns c =
       function = made.0;
       tree = made.1;
       grows = grows_then _ _ _ one.grows (grows_then _ _ _ two.grows grown);
+      rest = last.rest ∙ ap (λ (m : Module). let n : Module = record m { types = c.type_get.new.self.types } in n) (two.rest ∙ ap (λ (m : Module). let n : Module = record m { types = c.param_types.new.back.types } in n) one.rest);
       «data» = last.data ∙ two.data ∙ one.data;
       sound = last.sound;
     }

@@ -1,6 +1,6 @@
 -- The goals of `module::LLVMModule::add_function` that the tactics leave.
 use Rattle.llvm_core.proofs.SoundLemmas.{function_added, declared_in}
-use Rattle.std.proofs.Common.{map, [], ap, sym, ◌∙◌}
+use Rattle.std.proofs.Common.{map, [], ap, sym, ◌∙◌, refl}
 use Rattle.std.specs.Option.{option_map_or}
 use Rattle.llvm_core.specs.Parts.{kind_params}
 use Rattle.llvm_core.specs.contracts.module.LLVMModule.{the_view}
@@ -12,7 +12,7 @@ invariant_of-self-2 c =
     let typed = rw (← c.self.view_is) at c.requires in
     let names = rw c.params_of.ensures at c.in_ok-params.ensures in
     rw c.in_ok-f.ensures.ok
-    (function_added _ _ c.self.invariant (declared_in _ c.args.name.now c.args.ty c.args.space c.in_ok-params.params c.value.result.now typed c.value.ensures names))
+    (function_added _ _ c.self.invariant (declared_in _ c.args.name.now c.args.ty c.args.space c.in_ok-params.params c.value.result.now typed c.value.ensures names) refl)
 
 pub returns-clause-sound : goal.returns-clause-sound
 returns-clause-sound c = invariant_of-self-2 c

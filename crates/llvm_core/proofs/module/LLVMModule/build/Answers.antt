@@ -9,8 +9,9 @@ pub invariant_of-self-2 : goal.invariant_of-self-2
 invariant_of-self-2 c =
     let same = rw (← c.self.view_is) at c.in_ok-ty.ensures.rest in
     let within = rw (← c.self.view_is) at c.in_ok-ty.ensures.within in
+    let typed = rw (← c.self.view_is) at c.in_ok-ty.ensures.ty in
     rw c.in_ok-i.ensures.ok
-    (inst_built c.args.self.now _ c.args.block c.in_ok-i.i c.args.name.now c.in_ok-ty.ty c.args.inst c.self.invariant same c.requires.block c.in_ok-i.ensures.number within c.requires.values)
+    (inst_built c.args.self.now _ c.args.block c.in_ok-i.i c.args.name.now c.in_ok-ty.ty c.args.inst c.in_ok-ty.ensures.kept c.self.invariant same c.requires.block c.in_ok-i.ensures.number within typed c.requires.values)
 
 pub returns-clause-sound : goal.returns-clause-sound
 returns-clause-sound c = invariant_of-self-2 c

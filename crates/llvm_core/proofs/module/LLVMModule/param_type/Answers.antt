@@ -1,5 +1,5 @@
 -- The goals of `module::LLVMModule::param_type` that the tactics leave.
-use Rattle.llvm_core.proofs.SoundLemmas.{param_within}
+use Rattle.llvm_core.proofs.WithinLemmas.{param_within}
 use Rattle.llvm_core.proofs.module.LLVMModule.param_type.Goals as goal
 
 pub returns-clause-within : goal.returns-clause-within

@@ -1,0 +1,44 @@
+-- Refusals of values that are not known yet.
+use Rattle.std.proofs.Common.{ℕ, ◌≡◌, sym, ap, subst, ◌∙◌, List, [], ◌∷◌, Some, map, slice_get}
+use Rattle.std.specs.List.{flat_map}
+use Rattle.std.specs.Option.{option_map}
+use Rattle.std.specs.Prelude as R
+use Rattle.std.specs.Result.{IfErr, IsErrAnd}
+use Rattle.std.proofs.lemmas.Result.{err_from_is_err_and}
+use Rattle.std.proofs.lemmas.Option.{slice_get-map, same_Some}
+use Rattle.llvm_core.specs.declared.numbers.LLVMBasicBlock.{LLVMBasicBlock}
+use Rattle.llvm_core.specs.declared.code.LLVMValue.{LLVMValue}
+use Rattle.llvm_core.specs.Module.{Module}
+use Rattle.llvm_core.specs.Data as L
+use Rattle.llvm_core.specs.Data.{trees_of, operand_of}
+use Rattle.from_llvm_ir.specs.declared.conversion_err.ConversionErr.{ConversionErr}
+use Rattle.from_llvm_ir.specs.declared.conversion_err.ConversionErr.TheVariants as E
+use Rattle.from_llvm_ir.specs.declared.values.Values.{Values}
+use Rattle.from_llvm_ir.specs.Imported.{IsIn}
+use Rattle.from_llvm_ir.specs.Values.{IsForward}
+use Rattle.from_llvm_ir.proofs.PlaceLaws.{flat_at}
+
+-- among more operands
+pub forward_more : (m : Module) (values : Values) (os us : List L.Operand) (e : ConversionErr) → ((o : L.Operand) → IsIn os o → IsIn us o) → IsForward m values os e → IsForward m values us e
+forward_more m values os us (E.ForwardUse name v) k h = record { inst = h.inst; value = h.value; row = h.row; at = h.at; named = h.named; used = k (L.Result h.inst.0) h.used; unknown = h.unknown }
+forward_more m values os us E.NoMemory k h = tt
+
+only_one : (o p : L.Operand) → IsIn (o ∷ []) p → o ≡ p
+only_one o p (ℕ.zero, at) = same_Some o p at
+only_one o p (ℕ.suc i, at) = absurd (let no : ⊥ = cc in no)
+
+-- a value of a list
+pub forward_at : (m : Module) (values : Values) (vs : List LLVMValue) (i : ℕ) (v : LLVMValue) (e : ConversionErr) → slice_get vs i ≡ Some v → IsForward m values (operand_of (trees_of m) v ∷ []) e → IsForward m values (map (operand_of (trees_of m)) vs) e
+forward_at m values vs i v e at h =
+    forward_more m values (operand_of (trees_of m) v ∷ []) (map (operand_of (trees_of m)) vs) e
+    (λ o is_in. (i, slice_get-map (operand_of (trees_of m)) vs i ∙ ap (option_map (operand_of (trees_of m))) at ∙ ap Some (only_one (operand_of (trees_of m) v) o is_in))) h
+
+-- a target of a list
+pub forward_flat : (m : Module) (values : Values) (f : ℕ → List L.Operand) (ts : List LLVMBasicBlock) (i : ℕ) (t : LLVMBasicBlock) (e : ConversionErr) → slice_get ts i ≡ Some t → IsForward m values (f t.0) e → IsForward m values (flat_map f (map (λ (x : LLVMBasicBlock). x.0) ts)) e
+forward_flat m values f ts i t e at h =
+    forward_more m values (f t.0) (flat_map f (map (λ (x : LLVMBasicBlock). x.0) ts)) e
+    (λ o is_in. flat_at f (map (λ (x : LLVMBasicBlock). x.0) ts) i t.0 is_in.0 o (slice_get-map (λ (x : LLVMBasicBlock). x.0) ts i ∙ ap (option_map (λ (x : LLVMBasicBlock). x.0)) at) is_in.1) h
+
+-- the error that a `?` passes on
+pub passed_on : {T : Type 0} (r : R.Result T ConversionErr) (e : ConversionErr) (Q : ConversionErr → Type 0) → IsErrAnd r (λ x. x ≡ e) → Q e → IfErr r Q
+passed_on r e Q h q = let p = err_from_is_err_and r h in let at : R.Err e ≡ r = ap (λ x. R.Err x) (sym p.2) ∙ sym p.1 in subst (λ x. IfErr x Q) at q

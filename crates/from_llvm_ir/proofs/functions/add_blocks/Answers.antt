@@ -1,0 +1,61 @@
+-- What `functions::add_blocks` owes besides what the check finds.
+use Rattle.std.proofs.Common.{◌≡◌, ◌+◌, ◌∙◌, ap, sym, subst, slice_get, arith}
+use Rattle.from_llvm_ir.specs.Known.{blocks_of}
+use Rattle.from_llvm_ir.specs.Body.{HasHeads}
+use Rattle.from_llvm_ir.proofs.SourceLaws.{function_within, block_number}
+use Rattle.from_llvm_ir.proofs.FrameLaws.{named_at, frame_length}
+use Rattle.from_llvm_ir.proofs.StartLaws.{blocks_there, order_there, first_at, behind, more_targets, all_targets}
+use Rattle.from_llvm_ir.proofs.functions.add_blocks.Goals as goal
+
+pub blocks-blocks-requires : goal.blocks-blocks-requires
+blocks-blocks-requires c = function_within c.args.source.now c.args.f c.requires.0.source c.requires.1.source
+
+pub bounds-blocks-0 : goal.bounds-blocks-0
+bounds-blocks-0 c = blocks_there c.args.source.now c.args.f c.requires.0.source c.blocks-blocks.result.now c.requires.1.source c.blocks-blocks.ensures.blocks
+
+pub loop-j-init : goal.loop-j-init
+loop-j-init c =
+    let m = c.args.source.now in
+    record {
+      behind = omega arith;
+      within = (let some = order_there m c.args.f c.requires.0 c.args.order.now c.requires.1 c.requires.2 in omega (arith, some));
+      heads = λ fr framed order h. c.in_ok-add_entry.ensures.heads fr framed h;
+      targets = λ fr framed order h.
+          let x = first_at m c.args.f fr c.blocks-blocks.result.now (record { 0 = 0 }) framed c.blocks-blocks.ensures.blocks in
+          more_targets m c.args.f fr c.new-targets.result c.set.new.self 0 x.block _ c.in_ok-add_entry.field-0 framed c.in_ok-set.ensures x.here (block_number m fr.source _ 0 x.block x.is)
+          (let e = c.in_ok-add_entry.ensures.number fr h in omega (arith, e)) (λ place b lt at. absurd (omega (arith, lt)));
+    }
+
+pub bounds-blocks-order : goal.bounds-blocks-order
+bounds-blocks-order c = (named_at c.args.source.now c.args.f c.requires.0 c.args.order.now c.blocks-blocks.result.now c.loop-j.j c.requires.1 c.requires.2 c.blocks-blocks.ensures.blocks c.loop-j-test.true).within
+
+pub add_later_block-requires : goal.add_later_block-requires
+add_later_block-requires c =
+    let r = c.requires in
+    let x = named_at c.args.source.now c.args.f r.0 c.args.order.now c.blocks-blocks.result.now c.loop-j.j r.1 r.2 c.blocks-blocks.ensures.blocks c.loop-j-test.true in
+    let p = behind c.loop-j.j c.loop-j.invariant.behind in
+    (r.0, c.args.f, p.0, _, x.block, r.1, x.is, ap (slice_get (blocks_of r.0)) (sym p.1) ∙ x.here, subst (HasHeads r.0 c.args.func c.loop-j.ctx) p.1 (c.loop-j.invariant.heads r.0 r.1 r.2 r.3))
+
+pub loop-j-preserved : goal.loop-j-preserved
+loop-j-preserved c =
+    let m = c.args.source.now in
+    let ns = c.blocks-blocks.result.now in
+    let j = c.loop-j.j in
+    let p = behind j c.loop-j.invariant.behind in
+    record {
+      behind = omega (arith, c.loop-j.invariant.behind);
+      within = omega (arith, c.loop-j-test.true);
+      heads = λ fr framed order h.
+          let x = named_at m c.args.f fr c.args.order.now ns j framed order c.blocks-blocks.ensures.blocks c.loop-j-test.true in
+          let next : p.0 + 2 ≡ j + 1 = omega (arith, p.1) in
+          subst (HasHeads fr c.args.func c.add_later_block.new.ctx) next
+          (c.in_ok-add_later_block.ensures.heads fr c.args.f p.0 _ x.block framed x.is (ap (slice_get (blocks_of fr)) (sym p.1) ∙ x.here) (subst (HasHeads fr c.args.func c.loop-j.ctx) p.1 (c.loop-j.invariant.heads fr framed order h)));
+      targets = λ fr framed order h.
+          let x = named_at m c.args.f fr c.args.order.now ns j framed order c.blocks-blocks.ensures.blocks c.loop-j-test.true in
+          more_targets m c.args.f fr c.loop-j.targets c.set-in-loop-j.new.self j x.block _ c.in_ok-add_later_block.field-0 framed c.in_ok-set-2.ensures x.here (block_number m fr.source _ _ x.block x.is)
+          (c.in_ok-add_later_block.ensures.number fr j (c.loop-j.invariant.heads fr framed order h)) (c.loop-j.invariant.targets fr framed order h);
+    }
+
+pub returns-clause-targets : goal.returns-clause-targets
+returns-clause-targets c = λ fr framed order h.
+    all_targets fr c.loop-j.targets c.loop-j.j (omega (arith, frame_length c.args.source.now c.args.f fr c.args.order.now framed order, c.loop-j-test.false)) (c.loop-j.invariant.targets fr framed order h)

@@ -1,0 +1,14 @@
+-- What the loop of `functions::add_blocks` keeps.
+use Rattle.std.proofs.Common.{◌≡◌, ◌≤◌, length}
+use Rattle.from_llvm_ir.specs.Known.{Frame}
+use Rattle.from_llvm_ir.specs.Body.{HasHeads, IsFramed}
+use Rattle.from_llvm_ir.proofs.StartLaws.{AreTargetsTo}
+use Rattle.from_llvm_ir.proofs.functions.add_blocks.Given as goal
+
+abbrev pub invariant-loop-j : goal.invariant-loop-j
+invariant-loop-j l = record {
+  behind : 1 ≤ l.j;
+  within : l.j ≤ length l.order;
+  heads : (fr : Frame) → IsFramed l.source l.fn.f fr → fr.order ≡ l.order → HasHeads fr l.func l.fn.ctx 0 → HasHeads fr l.func l.ctx l.j;
+  targets : (fr : Frame) → IsFramed l.source l.fn.f fr → fr.order ≡ l.order → HasHeads fr l.func l.fn.ctx 0 → AreTargetsTo fr l.targets l.j;
+}

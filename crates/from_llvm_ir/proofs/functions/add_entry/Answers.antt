@@ -1,0 +1,17 @@
+-- What `functions::add_entry` owes besides what the check finds.
+use Rattle.std.proofs.Common.{◌∙◌, [], Some, ap, refl, map, codes}
+use Rattle.dialect_types.specs.Trees.{type_at, type_trees}
+use Rattle.from_llvm_ir.proofs.NameLaws.{plain_stays}
+use Rattle.from_llvm_ir.proofs.StartLaws.{more_heads, first_source}
+use Rattle.from_llvm_ir.proofs.functions.add_entry.Goals as goal
+
+pub returns-clause-heads : goal.returns-clause-heads
+returns-clause-heads c = λ fr framed h.
+    let b = first_source c.args.source.now c.args.f fr framed in
+    let ctx = c.import_params.new.ctx in
+    more_heads fr c.args.func c.args.ctx.now ctx c.add_func_block.new.ctx 0 b.0
+    (record { number = c.in_ok-block.block.0; label = Some c.in_ok-label.label; args = map (type_at (type_trees ctx.types)) c.as_slice.result.now; ops = [] })
+    h c.import_params.ensures.grown b.1 c.in_ok-block.ensures.number
+    (ap Some (c.in_ok-label.ensures ∙ plain_stays (codes "entry") refl))
+    (ap (map (type_at (type_trees ctx.types))) c.as_slice.ensures.value ∙ c.in_ok-args.ensures.types fr.source framed.source)
+    refl c.in_ok-block.ensures.building c.in_ok-block.ensures.func c.in_ok-block.ensures.count

@@ -1,0 +1,23 @@
+-- What `functions::declare` owes besides what the check finds.
+use Rattle.std.proofs.Common.{ℕ, List, sym, subst, All, length}
+use Rattle.dialect_types.specs.Trees.{TypeTree, type_at, type_trees}
+use Rattle.dialect_core.specs.declared.ops.BlockData.{BlockData}
+use Rattle.dialect_core.specs.Data.{with_func}
+use Rattle.from_llvm_ir.specs.Imported.{IsBuilding, IsBelow}
+use Rattle.from_llvm_ir.specs.Building.{bare_func}
+use Rattle.from_llvm_ir.proofs.UnderLaws.{typed_building}
+use Rattle.from_llvm_ir.proofs.functions.declare.Goals as goal
+
+pub add_func-requires-clause-module : goal.add_func-requires-clause-module
+add_func-requires-clause-module g c = let h = c.requires.«module» in (h.0, h.1, typed_building c.args.ctx.now c.import_function_type.new.ctx h.0 c.args.body h.1 h.2 c.import_function_type.ensures.grown)
+
+pub returns-clause-declared : goal.returns-clause-declared
+returns-clause-declared g c = λ f h m d b.
+    let typed = typed_building c.args.ctx.now c.import_function_type.new.ctx m c.args.body d b c.import_function_type.ensures.grown in
+    let n = c.in_ok-func.func.0.0 in
+    record {
+      building = subst (λ (t : TypeTree). IsBuilding c.add_func.new.ctx m c.args.body (with_func d (bare_func n f.name t))) (c.in_ok-ty.ensures.ty f h)
+          (subst (λ (name : List ℕ). IsBuilding c.add_func.new.ctx m c.args.body (with_func d (bare_func n name (type_at (type_trees c.import_function_type.new.ctx.types) c.in_ok-ty.ty)))) (c.requires.name f h) (c.in_ok-func.ensures.building m d typed));
+      before = subst (λ (k : ℕ). All (IsBelow k (length c.add_func.new.ctx.blocks)) d.functions) (sym c.in_ok-func.ensures.number)
+          (subst (λ (bs : List BlockData). All (IsBelow (length c.import_function_type.new.ctx.ops) (length bs)) d.functions) (sym c.in_ok-func.ensures.blocks) typed.below);
+    }

@@ -1,0 +1,54 @@
+-- What `functions::import_body` owes besides what the check finds.
+use Rattle.std.proofs.Common.{refl}
+use Rattle.from_llvm_ir.proofs.ForwardLaws.{passed_on}
+use Rattle.from_llvm_ir.proofs.SourceLaws.{function_within}
+use Rattle.from_llvm_ir.proofs.StartLaws.{blocks_there, first_target, started, not_filled}
+use Rattle.from_llvm_ir.proofs.functions.import_body.Goals as goal
+
+pub blocks-requires : goal.blocks-requires
+blocks-requires g c = function_within c.args.source.now c.args.f c.requires.0.source c.requires.1.source
+
+pub bounds-blocks-0 : goal.bounds-blocks-0
+bounds-blocks-0 g c = blocks_there c.args.source.now c.args.f c.requires.0.source c.blocks-2.result.now c.requires.1.source c.blocks-2.ensures.blocks
+
+pub of-block-requires : goal.of-block-requires
+of-block-requires g c =
+    let r = c.requires in
+    rw (first_target c.args.source.now c.args.f r.0 c.blocks-2.result.now (record { 0 = 0 }) c.in_ok-targets.targets r.1 c.blocks-2.ensures.blocks (c.in_ok-targets.ensures.targets r.0 r.1 r.2 r.3)) refl
+
+pub hoist_constants-requires : goal.hoist_constants-requires
+hoist_constants-requires g c =
+    let r = c.requires in
+    let s = started c.args.source.now c.args.f r.0 c.args.func c.add_blocks.new.ctx c.in_ok-values.values c.args.order.now c.blocks-2.result.now (record { 0 = 0 }) c.in_ok-targets.targets c.of-block.result c.param_count.result r.1 r.2
+    c.blocks-2.ensures.blocks (c.in_ok-targets.ensures.targets r.0 r.1 r.2 r.3) c.of-block.ensures (c.in_ok-targets.ensures.heads r.0 r.1 r.2 r.3) (c.param_count.ensures r.0.source r.1.source) c.in_ok-values.ensures in
+    (r.0, r.1, r.2, c.in_ok-entries.ensures r.0.source r.1.source, s.hoisting, s.first)
+
+pub import_blocks-requires : goal.import_blocks-requires
+import_blocks-requires g c =
+    let r = c.requires in
+    let m = c.args.source.now in
+    let noted = c.in_ok-entries.ensures r.0.source r.1.source in
+    let leads = c.in_ok-targets.ensures.targets r.0 r.1 r.2 r.3 in
+    let s = started m c.args.f r.0 c.args.func c.add_blocks.new.ctx c.in_ok-values.values c.args.order.now c.blocks-2.result.now (record { 0 = 0 }) c.in_ok-targets.targets c.of-block.result c.param_count.result r.1 r.2
+    c.blocks-2.ensures.blocks leads c.of-block.ensures (c.in_ok-targets.ensures.heads r.0 r.1 r.2 r.3) (c.param_count.ensures r.0.source r.1.source) c.in_ok-values.ensures in
+    (r.0, r.1, r.2, leads, noted, not_filled r.0 m c.hoist_constants.new.ctx c.hoist_constants.new.values (c.in_ok-hoist_constants.ensures r.0 r.1 r.2 noted s.hoisting s.first))
+
+pub returns-in_err-import_blocks-clause-err : goal.returns-in_err-import_blocks-clause-err
+returns-in_err-import_blocks-clause-err g c =
+    passed_on c.from_residual-in_err-import_blocks.result c.in_err-import_blocks.field-0.0 _ c.from_residual-in_err-import_blocks.ensures.1
+    (λ fr framed order h.
+    let m = c.args.source.now in
+    let noted = c.in_ok-entries.ensures fr.source framed.source in
+    let leads = c.in_ok-targets.ensures.targets fr framed order h in
+    let s = started m c.args.f fr c.args.func c.add_blocks.new.ctx c.in_ok-values.values c.args.order.now c.blocks-2.result.now (record { 0 = 0 }) c.in_ok-targets.targets c.of-block.result c.param_count.result framed order
+    c.blocks-2.ensures.blocks leads c.of-block.ensures (c.in_ok-targets.ensures.heads fr framed order h) (c.param_count.ensures fr.source framed.source) c.in_ok-values.ensures in
+    c.in_err-import_blocks.ensures.err fr framed order leads noted (not_filled fr m c.hoist_constants.new.ctx c.hoist_constants.new.values (c.in_ok-hoist_constants.ensures fr framed order noted s.hoisting s.first)))
+
+pub returns-clause-ok : goal.returns-clause-ok
+returns-clause-ok g c = λ fr framed order h.
+    let m = c.args.source.now in
+    let noted = c.in_ok-entries.ensures fr.source framed.source in
+    let leads = c.in_ok-targets.ensures.targets fr framed order h in
+    let s = started m c.args.f fr c.args.func c.add_blocks.new.ctx c.in_ok-values.values c.args.order.now c.blocks-2.result.now (record { 0 = 0 }) c.in_ok-targets.targets c.of-block.result c.param_count.result framed order
+    c.blocks-2.ensures.blocks leads c.of-block.ensures (c.in_ok-targets.ensures.heads fr framed order h) (c.param_count.ensures fr.source framed.source) c.in_ok-values.ensures in
+    (c.import_blocks.new.values, c.in_ok-import_blocks.ensures.ok fr framed order leads noted (not_filled fr m c.hoist_constants.new.ctx c.hoist_constants.new.values (c.in_ok-hoist_constants.ensures fr framed order noted s.hoisting s.first)))

@@ -1,5 +1,0 @@
--- The ledger under which `importing::import_module` counts.
-use Rattle.from_llvm_ir.proofs.importing.import_module.Given as goal
-
-abbrev pub ghosts-import_counted : goal.ghosts-import_counted
-ghosts-import_counted a = record { name = a.blank.name; parts = a.blank.parts }

@@ -1,0 +1,49 @@
+-- What `operations::import_blocks` owes besides what the check finds.
+use Rattle.std.proofs.Common.{ℕ, refl, sym, subst, arith}
+use Rattle.std.specs.Prelude.{IsSome}
+use Rattle.from_llvm_ir.specs.Body.{IsFilled}
+use Rattle.from_llvm_ir.proofs.ForwardLaws.{passed_on}
+use Rattle.from_llvm_ir.proofs.SourceLaws.{function_within}
+use Rattle.from_llvm_ir.proofs.FrameLaws.{named_at}
+use Rattle.from_llvm_ir.proofs.BodyLaws.{begins_at, target_named}
+use Rattle.from_llvm_ir.proofs.operations.import_blocks.Goals as goal
+
+pub blocks-blocks-requires : goal.blocks-blocks-requires
+blocks-blocks-requires g c = function_within c.args.source.now c.args.f c.requires.0.source c.requires.1.source
+
+pub loop-place-init : goal.loop-place-init
+loop-place-init g c = λ fr framed order leads noted filled. filled
+
+pub bounds-blocks-place : goal.bounds-blocks-place
+bounds-blocks-place g c = (named_at c.args.source.now c.args.f c.requires.0 c.args.order.now c.blocks-blocks.result.now c.loop-place.place-index c.requires.1 c.requires.2 c.blocks-blocks.ensures.blocks c.loop-place-test.true).within
+
+pub of-requires : goal.of-requires
+of-requires g c =
+    let r = c.requires in
+    let x = named_at c.args.source.now c.args.f r.0 c.args.order.now c.blocks-blocks.result.now c.loop-place.place-index r.1 r.2 c.blocks-blocks.ensures.blocks c.loop-place-test.true in
+    subst IsSome (sym (target_named c.args.source.now r.0 c.args.targets.now c.args.order.now c.blocks-blocks.result.now c.loop-place.place-index r.3 x)) refl
+
+pub import_insts-requires : goal.import_insts-requires
+import_insts-requires g c =
+    let r = c.requires in
+    let m = c.args.source.now in
+    let x = named_at m c.args.f r.0 c.args.order.now c.blocks-blocks.result.now c.loop-place.place-index r.1 r.2 c.blocks-blocks.ensures.blocks c.loop-place-test.true in
+    (r.0, c.args.f, c.loop-place.place-index, x.block, begins_at m c.args.f r.0 c.args.targets.now c.args.entries.now c.loop-place.ctx c.loop-place.values c.args.order.now c.blocks-blocks.result.now c.loop-place.place-index c.of.result r.1 r.3 r.4 x c.of.ensures (c.loop-place.invariant r.0 r.1 r.2 r.3 r.4 r.5))
+
+pub returns-in_err-import_insts-clause-err : goal.returns-in_err-import_insts-clause-err
+returns-in_err-import_insts-clause-err g c =
+    passed_on c.from_residual.result c.in_err-import_insts.field-0.0 _ c.from_residual.ensures.1
+    (λ fr framed order leads noted filled.
+    let m = c.args.source.now in
+    let x = named_at m c.args.f fr c.args.order.now c.blocks-blocks.result.now c.loop-place.place-index framed order c.blocks-blocks.ensures.blocks c.loop-place-test.true in
+    c.in_err-import_insts.ensures.err fr c.args.f c.loop-place.place-index x.block (begins_at m c.args.f fr c.args.targets.now c.args.entries.now c.loop-place.ctx c.loop-place.values c.args.order.now c.blocks-blocks.result.now c.loop-place.place-index c.of.result framed leads noted x c.of.ensures (c.loop-place.invariant fr framed order leads noted filled)))
+
+pub loop-place-preserved : goal.loop-place-preserved
+loop-place-preserved g c = λ fr framed order leads noted filled.
+    let m = c.args.source.now in
+    let x = named_at m c.args.f fr c.args.order.now c.blocks-blocks.result.now c.loop-place.place-index framed order c.blocks-blocks.ensures.blocks c.loop-place-test.true in
+    c.in_ok-import_insts.ensures.ok fr c.args.f c.loop-place.place-index x.block (begins_at m c.args.f fr c.args.targets.now c.args.entries.now c.loop-place.ctx c.loop-place.values c.args.order.now c.blocks-blocks.result.now c.loop-place.place-index c.of.result framed leads noted x c.of.ensures (c.loop-place.invariant fr framed order leads noted filled))
+
+pub returns-clause-ok : goal.returns-clause-ok
+returns-clause-ok g c = λ fr framed order leads noted filled.
+    subst (λ (n : ℕ). IsFilled fr c.args.source.now c.loop-place.ctx c.loop-place.values n) (omega (arith, c.loop-place-test.false, c.loop-place.auto.place-index-end)) (c.loop-place.invariant fr framed order leads noted filled)

@@ -1,0 +1,43 @@
+//! Why an import refuses a module.
+
+ghost use Rattle.std.specs.Prelude.{◌≡◌};
+ghost use Rattle.from_llvm_ir.specs.declared.conversion_err.ConversionErr.TheVariants.{NoMemory};
+
+use llvm_core::code::LLVMValue;
+use llvm_core::text::Text;
+use std::alloc::{AllocError, AllocFailed};
+use std::fmt;
+use thiserror::Error;
+
+/// Why an import refuses a module.
+#[derive(Drop, Error)]
+pub enum ConversionErr {
+    /// The result of an instruction is used where it does not stand before, the blocks taken in the order of the import: its name, empty where it has none, and the result.
+    #[error("ForwardUse")]
+    ForwardUse(Text, LLVMValue),
+    /// Memory is wanting.
+    #[error("NoMemory")]
+    NoMemory,
+}
+
+impl fmt::Debug for ConversionErr {
+    fn fmt<W: fmt::Write>(&self, f: &mut fmt::Formatter<W>) -> fmt::Result {
+        write!(f, "{self}")
+    }
+}
+
+impl From<AllocError> for ConversionErr {
+    ghost from_gives = { λ _ e. e ≡ NoMemory };
+
+    fn from(_e: AllocError) -> ConversionErr {
+        ConversionErr::NoMemory
+    }
+}
+
+impl<T: Drop> From<AllocFailed<T>> for ConversionErr {
+    ghost from_gives = { λ _ e. e ≡ NoMemory };
+
+    fn from(_e: AllocFailed<T>) -> ConversionErr {
+        ConversionErr::NoMemory
+    }
+}

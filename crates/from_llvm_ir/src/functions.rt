@@ -1,0 +1,216 @@
+//! A function with its body.
+
+ghost use Rattle.std.specs.Prelude.{◌≡◌, ◌+◌, ℕ, List, [], IfErr, IfOk, OnOk, Some, length, slice_get};
+ghost use Rattle.dialect_core.specs.declared.ops.OpKind.TheVariants as kinds;
+ghost use Rattle.dialect_core.specs.ContextData.{kind_at};
+ghost use Rattle.from_llvm_ir.specs.declared.values.Values.{Values};
+ghost use Rattle.llvm_core.specs.Module.{Module};
+ghost use Rattle.llvm_core.specs.Data.{Block, Function, data_of};
+ghost use Rattle.dialect_core.specs.Data.{DialectModule, Func, with_func};
+ghost use Rattle.from_llvm_ir.specs.Imported.{ImportedFunction, IsBuilding, counting};
+ghost use Rattle.from_llvm_ir.specs.Order.{IsInverse};
+ghost use Rattle.from_llvm_ir.specs.Source.{IsSource, IsBlockOf};
+ghost use Rattle.from_llvm_ir.specs.Known.{Frame, Notes, knows, blocks_of};
+ghost use Rattle.from_llvm_ir.specs.Body.{AreTargets, HasHeads, IsFilled, IsFramed, IsLate};
+ghost use Rattle.from_llvm_ir.specs.Importing.{IsDeclared};
+
+use crate::building::{add_func, add_func_block};
+use crate::constants::hoist_constants;
+use crate::conversion_err::ConversionErr;
+use crate::entries::entries_of;
+use crate::matching::FunctionBlocks;
+use crate::operations::{given, import_blocks};
+use crate::order::{block_order, place_of, places_of};
+use crate::targets::Targets;
+use crate::types::{import_function_type, import_params, import_phi_types, param_count};
+use crate::values::Values;
+use dialect_core::context::Context;
+use dialect_core::numbers::{BlockRef, FuncOp};
+use dialect_core::ops::Value;
+use dialect_core::steps::Steps;
+use dialect_types::identifier::Identifier;
+use dialect_types::legaliser::Legaliser;
+use llvm_core::code::LLVMValue;
+use llvm_core::module::LLVMModule;
+use llvm_core::numbers::{LLVMBasicBlock, LLVMFunction};
+use std::alloc::{AllocError, Global};
+use std::sync::ledger::Ledger;
+
+/// The first block: its label, and an argument for each parameter.
+fn add_entry(
+    alloc: Global,
+    ctx: &mut Context,
+    names: &mut Legaliser,
+    source: &LLVMModule,
+    f: LLVMFunction,
+    func: FuncOp,
+) -> Result<BlockRef, AllocError>
+    requires { (fr : Frame) × IsFramed source.now f fr × HasHeads fr func ctx.old 0 }
+    ensures heads { OnOk result ((fr : Frame) → IsFramed source.now f fr → HasHeads fr func ctx.old 0 → HasHeads fr func ctx.new 1) }
+    ensures number { IfOk result (λ b. (fr : Frame) → HasHeads fr func ctx.old 0 → b.0 ≡ fr.base) }
+{
+    let label = names.legalise("entry")?;
+    let args = import_params(alloc, ctx, source, f)?;
+    let block = add_func_block(ctx, func, Some(label), args.as_slice())?;
+    Ok(block)
+}
+
+/// Another block: its name, and an argument for each phi.
+fn add_later_block(
+    alloc: Global,
+    ctx: &mut Context,
+    names: &mut Legaliser,
+    source: &LLVMModule,
+    func: FuncOp,
+    from: LLVMBasicBlock,
+) -> Result<BlockRef, AllocError>
+    requires { (fr : Frame) × (f : LLVMFunction) × (j : ℕ) × (place : ℕ) × (b : Block) × IsFramed source.now f fr × IsBlockOf source.now fr.source from place b × (slice_get (blocks_of fr) (j + 1) ≡ Some b) × HasHeads fr func ctx.old (j + 1) }
+    ensures heads { OnOk result ((fr : Frame) → (f : LLVMFunction) → (j place : ℕ) → (b : Block) → IsFramed source.now f fr → IsBlockOf source.now fr.source from place b → slice_get (blocks_of fr) (j + 1) ≡ Some b → HasHeads fr func ctx.old (j + 1)
+        → HasHeads fr func ctx.new (j + 2)) }
+    ensures number { IfOk result (λ n. (fr : Frame) → (j : ℕ) → HasHeads fr func ctx.old j → n.0 ≡ fr.base + j) }
+{
+    let label = given(names, source.block_name(from))?;
+    let args = import_phi_types(alloc, ctx, source, from)?;
+    let block = add_func_block(ctx, func, label, args.as_slice())?;
+    Ok(block)
+}
+
+/// The blocks of a function in an order, without operations.
+fn add_blocks(
+    alloc: Global,
+    ctx: &mut Context,
+    names: &mut Legaliser,
+    source: &LLVMModule,
+    f: LLVMFunction,
+    func: FuncOp,
+    order: &[u32],
+) -> Result<Targets, AllocError>
+    requires { (fr : Frame) × IsFramed source.now f fr × (fr.order ≡ order.now) × HasHeads fr func ctx.old 0 }
+    ensures targets { IfOk result (λ t. (fr : Frame) → IsFramed source.now f fr → fr.order ≡ order.now → HasHeads fr func ctx.old 0 → AreTargets fr t) }
+    ensures heads { OnOk result ((fr : Frame) → IsFramed source.now f fr → fr.order ≡ order.now → HasHeads fr func ctx.old 0 → HasHeads fr func ctx.new (length order.now)) }
+{
+    let blocks = source.blocks(f);
+    let mut targets = Targets::new(alloc);
+    targets.set(blocks[0], add_entry(alloc, ctx, names, source, f, func)?)?;
+    for j in 1..order.len() {
+        let from = blocks[order[j] as usize];
+        targets.set(
+            from,
+            add_later_block(alloc, ctx, names, source, func, from)?,
+        )?;
+    }
+    Ok(targets)
+}
+
+/// Each parameter of a function by the argument of its first block at the same place.
+fn parameters(
+    alloc: Global,
+    f: LLVMFunction,
+    block: BlockRef,
+    count: usize,
+) -> Result<Values, AllocError>
+    ensures { IfOk result (λ values. (m : Module) → (fr : Frame) → fr.source.number ≡ f.0 → length fr.source.params ≡ count → block.0 ≡ fr.base → Notes m values (knows fr [] [] [] [])) }
+{
+    let mut values = Values::new(alloc);
+    for i in 0..count {
+        let place = place_of(i)?;
+        values.set(LLVMValue::Param(f, place), Value::Argument(block, place))?;
+    }
+    Ok(values)
+}
+
+/// The body of a function, in a function of the dialect that has no block yet.
+fn import_body<L: Ledger>(
+    alloc: Global,
+    ctx: &mut Context,
+    names: &mut Legaliser,
+    source: &LLVMModule,
+    f: LLVMFunction,
+    func: FuncOp,
+    order: &[u32],
+    steps: &mut Steps<L>,
+) -> Result<(), ConversionErr>
+    requires { (fr : Frame) × IsFramed source.now f fr × (fr.order ≡ order.now) × HasHeads fr func ctx.old 0 }
+    ensures ok { OnOk result ((fr : Frame) → IsFramed source.now f fr → fr.order ≡ order.now → HasHeads fr func ctx.old 0
+        → (values : Values) × IsFilled fr source.now ctx.new values (length order.now)) }
+    ensures err { IfErr result (λ e. (fr : Frame) → IsFramed source.now f fr → fr.order ≡ order.now → HasHeads fr func ctx.old 0
+        → (places : List ℕ) → IsInverse fr.order places → IsLate fr.source places e) }
+{
+    let entries = entries_of(alloc, source, f)?;
+    let targets = add_blocks(alloc, ctx, names, source, f, func, order)?;
+    let block = targets.of(source.blocks(f)[0]);
+    let mut values = parameters(alloc, f, block, param_count(source, f))?;
+    hoist_constants(
+        alloc,
+        ctx,
+        source,
+        &entries,
+        &mut values,
+        block,
+        f,
+        order,
+        steps,
+    )?;
+    import_blocks(
+        alloc,
+        ctx,
+        names,
+        source,
+        &targets,
+        &entries,
+        &mut values,
+        f,
+        order,
+        steps,
+    )?;
+    Ok(())
+}
+
+/// A function of the dialect without a body, for one of the source.
+fn declare<L: Ledger>(
+    alloc: Global,
+    ctx: &mut Context,
+    source: &LLVMModule,
+    f: LLVMFunction,
+    name: Identifier,
+    body: BlockRef,
+    steps: &mut Steps<L>,
+) -> Result<FuncOp, AllocError>
+    requires source { (g : Function) × IsSource source.now f g }
+    requires name { (g : Function) → IsSource source.now f g → name ≡ g.name }
+    requires module { (m : ℕ) × (d : DialectModule) × IsBuilding ctx.old m body d }
+    ensures declared { IfOk result (λ n. (g : Function) → IsSource source.now f g → (m : ℕ) → (d : DialectModule) → IsBuilding ctx.old m body d → IsDeclared g ctx.new m body d n.0.0) }
+    ensures func { IfOk result (λ n. kind_at ctx.new.ops n.0 ≡ Some kinds.Func) }
+{
+    let ty = import_function_type(alloc, ctx, source, f)?;
+    let func = add_func(ctx, body, name, ty, steps)?;
+    Ok(func)
+}
+
+/// A function of the dialect for one of the source, and the places of its blocks.
+pub fn import_function<L: Ledger>(
+    alloc: Global,
+    ctx: &mut Context,
+    names: &mut Legaliser,
+    source: &LLVMModule,
+    f: LLVMFunction,
+    name: Identifier,
+    body: BlockRef,
+    steps: &mut Steps<L>,
+) -> Result<FunctionBlocks, ConversionErr>
+    requires source { (g : Function) × IsSource source.now f g }
+    requires name { (g : Function) → IsSource source.now f g → name ≡ g.name }
+    requires module { (m : ℕ) × (d : DialectModule) × IsBuilding ctx.old m body d }
+    ensures ok { IfOk result (λ x. (g : Function) → IsSource source.now f g → (m : ℕ) → (d : DialectModule) → IsBuilding ctx.old m body d
+        → (y : Func) × ImportedFunction (data_of source.now) g x y × IsBuilding ctx.new m body (with_func d y)) }
+    ensures err { IfErr result (λ e. (g : Function) → IsSource source.now f g → IsLate g (counting 0 g.blocks) e) }
+{
+    let order = block_order(alloc, source.blocks(f))?;
+    let func = declare(alloc, ctx, source, f, name, body, steps)?;
+    import_body(alloc, ctx, names, source, f, func, order.as_slice(), steps)?;
+    let places = places_of(alloc, order.as_slice())?;
+    Ok(FunctionBlocks {
+        function: f,
+        places,
+    })
+}

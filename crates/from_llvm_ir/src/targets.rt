@@ -1,0 +1,99 @@
+//! Which block of the dialect stands for each of a source function, and the edges that lead there.
+
+ghost use Rattle.std.specs.Prelude.{◌≡◌, ℕ, nat_eq, IfErr, IfOk, OnOk, IsSome, None, Some, if◌then◌else◌, map, slice_get};
+ghost use Rattle.std.specs.List.{flat_map};
+ghost use Rattle.llvm_core.specs.Data.{Function};
+ghost use Rattle.meaning.specs.Pairs.{Matched};
+ghost use Rattle.from_llvm_ir.specs.Imported.{passed};
+ghost use Rattle.from_llvm_ir.specs.Values.{target_at, IsForward};
+ghost use Rattle.from_llvm_ir.specs.Edges.{IsKnownEdge, IsReady};
+
+use crate::conversion_err::ConversionErr;
+use crate::entries::{Entries, edge_values};
+use crate::values::{Values, known_values};
+use dialect_core::numbers::BlockRef;
+use dialect_core::ops::Successor;
+use dialect_types::items::Items;
+use llvm_core::module::LLVMModule;
+use llvm_core::numbers::{LLVMBasicBlock, LLVMFunction};
+use std::alloc::{AllocError, Global};
+use std::collections::HashMap;
+
+/// The blocks of the dialect that stand for those of a source function.
+#[derive(Drop)]
+pub struct Targets {
+    pub map: HashMap<LLVMBasicBlock, BlockRef>,
+}
+
+impl Targets {
+    /// No blocks.
+    pub fn new(alloc: Global) -> Targets
+        ensures { (n : LLVMBasicBlock) → target_at result n ≡ None }
+    {
+        Targets {
+            map: HashMap::new(alloc),
+        }
+    }
+
+    /// The block that stands for one of the source.
+    pub fn of(&self, block: LLVMBasicBlock) -> BlockRef
+        requires { IsSome (target_at self.now block) }
+        ensures { target_at self.now block ≡ Some result }
+    {
+        match self.map.get(&block) {
+            Some(target) => *target,
+            None => unreachable!(),
+        }
+    }
+
+    /// Notes the block that stands for one of the source.
+    pub fn set(&mut self, block: LLVMBasicBlock, to: BlockRef) -> Result<(), AllocError>
+        ensures { OnOk result ((q : LLVMBasicBlock) → target_at self.new q ≡ (if nat_eq block.0 q.0 then Some to else target_at self.old q)) }
+    {
+        self.map.insert(block, to)?;
+        Ok(())
+    }
+}
+
+/// The edge of the dialect for one of the source.
+fn known_edge(
+    alloc: Global,
+    source: &LLVMModule,
+    values: &Values,
+    targets: &Targets,
+    entries: &Entries,
+    from: LLVMBasicBlock,
+    to: LLVMBasicBlock,
+) -> Result<Successor, ConversionErr>
+    requires { (f : LLVMFunction) × (g : Function) × IsReady source.now f g values.now targets.now entries.now from to }
+    ensures ok { IfOk result (λ s. (f : LLVMFunction) → (g : Function) → IsReady source.now f g values.now targets.now entries.now from to → IsKnownEdge source.now g values.now targets.now from to s) }
+    ensures err { IfErr result (λ e. (f : LLVMFunction) → (g : Function) → IsReady source.now f g values.now targets.now entries.now from to → IsForward source.now values.now (passed g from.0 to.0) e) }
+{
+    let taken = edge_values(alloc, source, entries, from, to)?;
+    let args = known_values(alloc, source, values, taken.as_slice())?;
+    Ok(Successor {
+        block: targets.of(to),
+        args: Items::from_vec(args),
+    })
+}
+
+/// The edges of the dialect for those of the source, from a block to others.
+pub fn known_edges(
+    alloc: Global,
+    source: &LLVMModule,
+    values: &Values,
+    targets: &Targets,
+    entries: &Entries,
+    from: LLVMBasicBlock,
+    to: &[LLVMBasicBlock],
+) -> Result<Vec<Successor>, ConversionErr>
+    requires { (f : LLVMFunction) × (g : Function) × ((j : ℕ) → (t : LLVMBasicBlock) → slice_get to.now j ≡ Some t → IsReady source.now f g values.now targets.now entries.now from t) }
+    ensures ok { IfOk result (λ ss. (f : LLVMFunction) → (g : Function) → ((j : ℕ) → (t : LLVMBasicBlock) → slice_get to.now j ≡ Some t → IsReady source.now f g values.now targets.now entries.now from t) → Matched (IsKnownEdge source.now g values.now targets.now from) to.now ss.items) }
+    ensures err { IfErr result (λ e. (f : LLVMFunction) → (g : Function) → ((j : ℕ) → (t : LLVMBasicBlock) → slice_get to.now j ≡ Some t → IsReady source.now f g values.now targets.now entries.now from t) → IsForward source.now values.now (flat_map (passed g from.0) (map (λ t. t.0) to.now)) e) }
+{
+    let mut edges = Vec::new(alloc);
+    for target in to {
+        edges.push(known_edge(alloc, source, values, targets, entries, from, *target)?)?;
+    }
+    Ok(edges)
+}

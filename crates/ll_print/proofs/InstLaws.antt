@@ -1,0 +1,154 @@
+-- The instructions of a block: their lines are cut into the tokens of trees that say them, and define their results.
+use Rattle.std.proofs.Common.{◌≡◌, ℕ, suc, ◌-◌, Bool, true, false, not, ◌&&◌, ◌||◌, List, [], ◌∷◌, ◌++◌, length, length-append, take, slice_get, Option, Some, None, append_assoc, refl, ap, sym, ◌∙◌, subst, arith}
+use Rattle.std.specs.List.{flat_map, list_any, AllByRecursion}
+use Rattle.std.specs.Option.{option_map_or}
+use Rattle.std.proofs.lemmas.Bool.{and_parts}
+use Rattle.std.proofs.lemmas.List.{append-nil, take_at}
+use Rattle.llvm_core.specs.Checked.{ends_in_only}
+use Rattle.llvm_core.specs.Data.{TypeTree, VoidType, IntType, Instruction, Add, ICmp, Phi, Br, CondBr, Return, Unreachable, Result, Placed, Function, operand_type, placed_in}
+use Rattle.llvm_core.specs.Form.{IsFormInstruction, is_terminator, is_last}
+use Rattle.llvm_core.proofs.ListLemmas.{slice_get-push}
+use Rattle.ll_text.specs.Text.{Text, is_bare}
+use Rattle.ll_text.specs.Tree as tree
+use Rattle.ll_text.specs.Tree.{inst, IsInst}
+use Rattle.ll_text.specs.Spelling.{widest}
+use Rattle.ll_text.specs.Meaning.{◌>>=◌, Local, ValueLocal, local_key, define_written, written_name, named_inst, AreNamed, AreInstructions}
+use Rattle.ll_text.proofs.CuttingLaws.{Writes, nothing, joined}
+use Rattle.ll_print.specs.Printing.{ResultOf, local_text, placed_text}
+use Rattle.ll_print.proofs.DefineLaws.{defines}
+use Rattle.ll_print.proofs.EdgeLaws.{target_block}
+use Rattle.ll_print.proofs.LineLaws.{IsTree, IsEnd, add_printed, icmp_printed, return_void_printed, return_printed, br_printed, cond_br_printed, unreachable_printed}
+use Rattle.ll_print.proofs.NameLaws.{local_says}
+use Rattle.ll_print.proofs.OperandLaws.{IsPrintable, local_of, width_in, scope_after, scope_of, placed_name, placed_found, block_prints}
+use Rattle.ll_print.proofs.PhiLaws.{phi_printed}
+use Rattle.ll_print.proofs.ScopeLaws.{Thing}
+use Rattle.ll_print.proofs.ThingLaws.{result_thing, result_things, things}
+
+-- ---- instructions by their kind
+
+inst_printed : (f : Function) → IsPrintable f → (n : ℕ) (p : Placed) (i : Instruction) → p.instruction ≡ i → IsFormInstruction f n p i → is_terminator i ≡ false → (t : tree.Inst) × IsTree f p t
+inst_printed f h n p (Add lhs rhs flags) is form e = add_printed f h p lhs rhs flags is form.0 form.1 form.2
+inst_printed f h n p (ICmp lhs rhs predicate) is form e = icmp_printed f h p lhs rhs predicate form.0.0 is form.1 form.0.1 form.0.2 form.2
+inst_printed f h n p (Phi entries) is form e = phi_printed f h n p entries is form.0 form.1 form.2 form.3
+inst_printed f h n p (Br target) is form e = absurd cc
+inst_printed f h n p (CondBr condition first second) is form e = absurd cc
+inst_printed f h n p (Return value) is form e = absurd cc
+inst_printed f h n p Unreachable is form e = absurd cc
+
+pub end_printed : (f : Function) → IsPrintable f → (n : ℕ) (p : Placed) (i : Instruction) → p.instruction ≡ i → IsFormInstruction f n p i → is_terminator i ≡ true → (t : tree.Terminator) × IsEnd f p t
+end_printed f h n p (Add lhs rhs flags) is form e = absurd cc
+end_printed f h n p (ICmp lhs rhs predicate) is form e = absurd cc
+end_printed f h n p (Phi entries) is form e = absurd cc
+end_printed f h n p (Br target) is form e = br_printed f p target is (block_prints f h target (target_block f target form.0)) form.1
+end_printed f h n p (CondBr condition first second) is form e =
+    cond_br_printed f h p condition first second is form.0 (block_prints f h first (target_block f first form.1)) (block_prints f h second (target_block f second form.2)) form.3
+end_printed f h n p (Return None) is form e = return_void_printed f p is form.1
+end_printed f h n p (Return (Some o)) is form e = return_printed f h p o _ is form.0 form.1
+end_printed f h n p Unreachable is form e = unreachable_printed f p is form
+
+-- ---- instructions in order
+
+abbrev pub AreTrees : Function → List tree.Inst → List Placed → Type 0
+AreTrees f [] [] = Unit {0}
+AreTrees f (t ∷ ts) (p ∷ ps) = IsTree f p t × AreTrees f ts ps
+AreTrees f [] (p ∷ ps) = ⊥
+AreTrees f (t ∷ ts) [] = ⊥
+
+or_false : (a b : Bool) → (a || b) ≡ false → (a ≡ false) × (b ≡ false)
+or_false true b h = absurd cc
+or_false false b h = (refl, h)
+
+pub insts_printed : (f : Function) → IsPrintable f → (n : ℕ) (ps : List Placed) → ((i : ℕ) (p : Placed) → slice_get ps i ≡ Some p → IsFormInstruction f n p p.instruction) → list_any is_last ps ≡ false → (ts : List tree.Inst) × AreTrees f ts ps
+insts_printed f h n [] form none = ([], tt)
+insts_printed f h n (p ∷ ps) form none =
+    let parts = or_false (is_last p) (list_any is_last ps) none in
+    let one = inst_printed f h n p p.instruction refl (form 0 p refl) parts.0 in
+    let more = insts_printed f h n ps (λ i q at. form (suc i) q at) parts.1 in
+    (one.0 ∷ more.0, (one.1, more.1))
+
+pub trees_write : (f : Function) (ts : List tree.Inst) (ps : List Placed) → AreTrees f ts ps → Writes (flat_map (placed_text f) ps) (flat_map inst ts)
+trees_write f [] [] are = nothing
+trees_write f (t ∷ ts) (p ∷ ps) are = joined are.0.writes (trees_write f ts ps are.1)
+trees_write f [] (p ∷ ps) are = absurd are
+trees_write f (t ∷ ts) [] are = absurd are
+
+pub trees_kind : (f : Function) (ts : List tree.Inst) (ps : List Placed) → AreTrees f ts ps → AllByRecursion IsInst ts
+trees_kind f [] [] are = tt
+trees_kind f (t ∷ ts) (p ∷ ps) are = (are.0.kinds, trees_kind f ts ps are.1)
+trees_kind f [] (p ∷ ps) are = absurd are
+trees_kind f (t ∷ ts) [] are = absurd are
+
+pub trees_say : (f : Function) (ts : List tree.Inst) (ps : List Placed) → AreTrees f ts ps → AreInstructions is_bare widest (scope_of f) ts ps
+trees_say f [] [] are = tt
+trees_say f (t ∷ ts) (p ∷ ps) are = (are.0.says, trees_say f ts ps are.1)
+trees_say f [] (p ∷ ps) are = absurd are
+trees_say f (t ∷ ts) [] are = absurd are
+
+-- ---- what they define
+
+-- an instruction of the function
+abbrev pub IsPlaced : Function → Placed → Type 0
+IsPlaced f p = (i : ℕ) × (slice_get (placed_in f) i ≡ Some p)
+
+inst_defines : (f : Function) → IsPrintable f → (done rest : List Thing) (p : Placed) (t : tree.Inst) → IsTree f p t → IsPlaced f p → things f ≡ done ++ (result_thing p.type p ++ rest)
+    → named_inst is_bare widest (scope_after f done) p.number t ≡ Some (p.name, scope_after f (done ++ result_thing p.type p))
+unfolding named_inst
+inst_defines f h done rest p t is at whole =
+    let thing : Thing = record { name = p.name; place = ResultOf p.number } in
+    let one : result_thing p.type p ≡ thing ∷ [] = ap (λ (type : TypeTree). result_thing type p) is.typed in
+    let here : things f ≡ done ++ thing ∷ rest = whole ∙ ap (λ (ts : List Thing). done ++ (ts ++ rest)) one in
+    let type : operand_type f (Result p.number) ≡ IntType is.width = ap (λ (o : Option Placed). option_map_or (λ (x : Placed). x.type) o VoidType) (placed_found f h.form at.0 p at.1) ∙ is.typed in
+    let local : ValueLocal (Result p.number) is.width ≡ local_of f (ResultOf p.number) = ap (λ (type : TypeTree). ValueLocal (Result p.number) (width_in type)) (sym type) in
+    let says = local_says f p.name (ResultOf p.number) h.few (placed_name f h.form at.0 p at.1) in
+    ap (λ (o : Option ℕ). o >>= (λ (w : ℕ). define_written is_bare widest (scope_after f done) (ValueLocal (Result p.number) w) (local_key is_bare widest) (written_name t))) is.result
+    ∙ ap (λ (o : Option Text). define_written is_bare widest (scope_after f done) (ValueLocal (Result p.number) is.width) (local_key is_bare widest) o) is.name
+    ∙ ap (λ (x : Local). define_written is_bare widest (scope_after f done) x (local_key is_bare widest) (Some (local_text f p.name (ResultOf p.number)))) local
+    ∙ defines f h done rest thing (local_key is_bare widest) (local_text f p.name (ResultOf p.number)) here says
+    ∙ ap (λ (ts : List Thing). Some (p.name, scope_after f (done ++ ts))) (sym one)
+
+pub trees_define : (f : Function) → IsPrintable f → (done rest : List Thing) (ts : List tree.Inst) (ps : List Placed) → AreTrees f ts ps → ((i : ℕ) (p : Placed) → slice_get ps i ≡ Some p → IsPlaced f p) → things f ≡ done ++ (result_things ps ++ rest)
+    → AreNamed is_bare widest (scope_after f done) ts ps (scope_after f (done ++ result_things ps))
+trees_define f h done rest [] [] are placed whole = ap (scope_after f) (sym (append-nil done))
+trees_define f h done rest [] (p ∷ ps) are placed whole = absurd are
+trees_define f h done rest (t ∷ ts) [] are placed whole = absurd are
+trees_define f h done rest (t ∷ ts) (p ∷ ps) are placed whole =
+    let one = result_thing p.type p in
+    let here : things f ≡ done ++ (one ++ (result_things ps ++ rest)) = whole ∙ ap (λ (us : List Thing). done ++ us) (append_assoc one (result_things ps) rest) in
+    let later : things f ≡ (done ++ one) ++ (result_things ps ++ rest) = here ∙ sym (append_assoc done one (result_things ps ++ rest)) in
+    let further = trees_define f h (done ++ one) rest ts ps are.1 (λ i q at. placed (suc i) q at) later in (
+      scope_after f (done ++ one),
+      inst_defines f h done (result_things ps ++ rest) p t are.0 (placed 0 p refl) here,
+      subst (λ (us : List Thing). AreNamed is_bare widest (scope_after f (done ++ one)) ts ps (scope_after f us)) (append_assoc done one (result_things ps)) further,
+    )
+
+-- ---- the instructions of a block
+
+-- instructions, and the one that ends the block
+pub record IsSplit (ps : List Placed) : Type 0 where
+  pub front : List Placed
+  pub last : Placed
+  pub are : ps ≡ front ++ last ∷ []
+  pub none : list_any is_last front ≡ false
+  pub ends : is_last last ≡ true
+
+cut_last : (p : Placed) (ps : List Placed) → (front : List Placed) × (last : Placed) × (p ∷ ps ≡ front ++ last ∷ [])
+cut_last p [] = ([], p, refl)
+cut_last p (q ∷ ps) = let o = cut_last q ps in (p ∷ o.0, o.1, ap (λ (qs : List Placed). p ∷ qs) o.2)
+
+not_true : (b : Bool) → not b ≡ true → b ≡ false
+not_true true h = absurd cc
+not_true false h = refl
+
+ends_at : (ps : List Placed) (p : Placed) → ends_in_only is_last (ps ++ p ∷ []) ≡ (is_last p && not (list_any is_last ps))
+ends_at ps p =
+    let size : length (ps ++ p ∷ []) - 1 ≡ length ps = omega (arith, length-append ps (p ∷ [])) in
+    let here = slice_get-push ps p (length ps) refl in
+    let front : take (length ps) (ps ++ p ∷ []) ≡ ps = take_at ps (p ∷ []) (length ps) refl in
+    rw (size, here, front) refl
+
+pub split : (ps : List Placed) → ends_in_only is_last ps ≡ true → IsSplit ps
+split [] h = absurd cc
+split (p ∷ ps) h =
+    let o = cut_last p ps in
+    let parts = and_parts (is_last o.1) (not (list_any is_last o.0)) (sym (ends_at o.0 o.1) ∙ ap (ends_in_only is_last) (sym o.2) ∙ h) in
+    record { front = o.0; last = o.1; are = o.2; none = not_true (list_any is_last o.0) parts.1; ends = parts.0 }

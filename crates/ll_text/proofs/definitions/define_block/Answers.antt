@@ -1,0 +1,24 @@
+-- What `definitions::define_block` owes besides what the check finds.
+use Rattle.ll_text.specs.TreeView.{block_view}
+use Rattle.ll_text.proofs.NumberedLaws.{block_takes, label_refused, insts_refused}
+use Rattle.ll_text.proofs.RefusalLaws.{passed_on}
+use Rattle.ll_text.proofs.definitions.define_block.Goals as goal
+
+pub returns-clause-ok : goal.returns-clause-ok
+returns-clause-ok c =
+    let v = c.as_slice.ensures.value in
+    let ok = rw v at c.in_ok-end.ensures.ok in
+    block_takes c.args.scope.now c.start_block.new.scope c.define_results.new.scope _ c.args.number (block_view c.args.block.now) c.in_ok-first.ensures.ok ok
+
+pub returns-in_err-first-clause-not_yet : goal.returns-in_err-first-clause-not_yet
+returns-in_err-first-clause-not_yet c = λ e.
+    let x = c.in_err-first in
+    label_refused c.args.scope.now _ c.args.number (block_view c.args.block.now) (x.ensures.not_yet (passed_on c.from_residual.result x.field-0.0 c.from_residual.ensures.1 e))
+
+pub returns-in_err-end-clause-not_yet : goal.returns-in_err-end-clause-not_yet
+returns-in_err-end-clause-not_yet c = λ e.
+    let x = c.in_err-end in
+    let f = c.from_residual-in_err-end in
+    let v = c.as_slice.ensures.value in
+    let none = rw v at (x.ensures.not_yet (passed_on f.result x.field-0.0 f.ensures.1 e)) in
+    insts_refused c.args.scope.now c.start_block.new.scope _ c.args.number (block_view c.args.block.now) c.in_ok-first.ensures.ok none

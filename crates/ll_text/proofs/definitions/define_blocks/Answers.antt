@@ -1,0 +1,43 @@
+-- What `definitions::define_blocks` owes besides what the check finds.
+use Rattle.std.proofs.Common.{[], ◌∷◌}
+use Rattle.ll_text.specs.TreeView.{function_view}
+use Rattle.ll_text.proofs.NumberedLaws.{entry_takes, entry_refused, more_refused}
+use Rattle.ll_text.proofs.DefiningLaws.{blocks_after, appended_entry}
+use Rattle.ll_text.proofs.RefusalLaws.{passed_on}
+use Rattle.ll_text.proofs.definitions.define_blocks.Goals as goal
+
+pub returns-clause-ok : goal.returns-clause-ok
+returns-clause-ok c =
+    let f = function_view c.args.function.now in
+    let v = c.as_slice.ensures.value in
+    let e = c.in_ok-first.ensures in
+    let ok = rw v at c.in_ok-end.ensures.ok in
+    let at = blocks_after c.args.f (f.entry ∷ []) c.args.module.now c.define_block.new.module e.adds in
+    entry_takes c.args.scope.now c.define_block.new.scope c.define_more.new.scope _ _ c.args.number c.in_ok-first.next f.entry f.more at e.behind e.ok ok
+
+pub returns-clause-adds : goal.returns-clause-adds
+returns-clause-adds c =
+    let f = function_view c.args.function.now in
+    let v = c.as_slice.ensures.value in
+    let more = rw v at c.in_ok-end.ensures.adds in
+    appended_entry c.args.f f.entry f.more c.args.module.now c.define_block.new.module c.define_more.new.module c.in_ok-first.ensures.adds more
+
+pub returns-in_err-first-clause-not_yet : goal.returns-in_err-first-clause-not_yet
+returns-in_err-first-clause-not_yet c = λ e.
+    let f = function_view c.args.function.now in
+    let x = c.in_err-first in
+    entry_refused c.args.scope.now _ c.args.number f.entry f.more (x.ensures.not_yet (passed_on c.from_residual.result x.field-0.0 c.from_residual.ensures.1 e))
+
+pub returns-in_err-end-clause-not_yet : goal.returns-in_err-end-clause-not_yet
+returns-in_err-end-clause-not_yet c = λ e.
+    let f = function_view c.args.function.now in
+    let v = c.as_slice.ensures.value in
+    let x = c.in_err-end in
+    let r = c.from_residual-in_err-end in
+    let o = c.in_ok-first.ensures in
+    let none = rw v at (x.ensures.not_yet (passed_on r.result x.field-0.0 r.ensures.1 e)) in
+    let at = blocks_after c.args.f (f.entry ∷ []) c.args.module.now c.define_block.new.module o.adds in
+    more_refused c.args.scope.now c.define_block.new.scope _ _ c.args.number c.in_ok-first.next f.entry f.more at o.behind o.ok none
+
+pub returns-clause-sound : goal.returns-clause-sound
+returns-clause-sound c = let a = c.in_ok-end.ensures.adds in a.sound c.in_ok-first.ensures.sound

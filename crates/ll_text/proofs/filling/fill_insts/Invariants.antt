@@ -1,0 +1,16 @@
+-- The instructions so far are filled in.
+use Rattle.std.proofs.Common.{◌≡◌, ◌+◌, length, map, take}
+use Rattle.ll_text.specs.TreeView.{inst_view}
+use Rattle.ll_text.specs.Meaning.{Scope}
+use Rattle.ll_text.specs.ScopeView.{Knows}
+use Rattle.ll_text.specs.Building.{Keeps}
+use Rattle.ll_text.specs.Filling.{FillsInsts}
+use Rattle.ll_text.proofs.filling.fill_insts.Given as goal
+
+abbrev pub invariant-loop-inst : goal.invariant-loop-inst
+invariant-loop-inst l = record {
+  next : l.next ≡ l.number + l.inst-index;
+  fills : (s : Scope) → Knows l.scope s → FillsInsts s l.number (map inst_view (take l.inst-index l.insts)) l.fn.module l.module;
+  keeps : Keeps l.fn.module l.module;
+  same : length l.module.insts ≡ length l.fn.module.insts;
+}

@@ -1,0 +1,17 @@
+-- The blocks so far are filled in.
+use Rattle.std.proofs.Common.{◌≡◌, length, map, take}
+use Rattle.ll_text.specs.TreeView.{block_view}
+use Rattle.ll_text.specs.Meaning.{Scope}
+use Rattle.ll_text.specs.ScopeView.{Knows}
+use Rattle.ll_text.specs.Numbered.{behind_all}
+use Rattle.ll_text.specs.Building.{Keeps}
+use Rattle.ll_text.specs.Filling.{FillsBodies}
+use Rattle.ll_text.proofs.filling.fill_more.Given as goal
+
+abbrev pub invariant-loop-block : goal.invariant-loop-block
+invariant-loop-block l = record {
+  next : l.next ≡ behind_all l.number (map block_view (take l.block-index l.blocks));
+  fills : (s : Scope) → Knows l.scope s → FillsBodies s l.number (map block_view (take l.block-index l.blocks)) l.fn.module l.module;
+  keeps : Keeps l.fn.module l.module;
+  same : length l.module.insts ≡ length l.fn.module.insts;
+}

@@ -1,0 +1,44 @@
+-- What `instructions::build_blocks` owes besides what the check finds.
+use Rattle.std.proofs.lemmas.Result.{on_ok_weaker}
+use Rattle.ll_text.specs.TreeView.{function_view}
+use Rattle.ll_text.specs.Opening.{open_inst, open_terminator}
+use Rattle.ll_text.proofs.ModuleLaws.{keeps_then, ready_kept}
+use Rattle.ll_text.proofs.InstructionLaws.{on_ok_both}
+use Rattle.ll_text.proofs.AddedLaws.{entry_added, entry_built, entry_unplaced, more_unplaced}
+use Rattle.ll_text.proofs.RefusalLaws.{passed_on}
+use Rattle.ll_text.proofs.instructions.build_blocks.Goals as goal
+
+pub build_more-requires-clause-ready : goal.build_more-requires-clause-ready
+build_more-requires-clause-ready c = ready_kept _ c.args.module.now c.build_block.new.module c.args.scope.now c.in_ok-build_block.ensures.keeps c.requires.ready
+
+pub returns-clause-adds : goal.returns-clause-adds
+returns-clause-adds c = on_ok_weaker c.build_more.result (λ adds s knows.
+    let f = function_view c.args.function.now in
+    let v = c.as_slice.ensures.value in
+    let e = c.in_ok-build_block.ensures in
+    let more = rw v at (adds s knows) in
+    entry_added s f.entry f.more c.args.number c.in_ok-next_number.field-0 c.args.module.now c.build_block.new.module c.build_more.new.module c.in_ok-next_number.ensures.next e.count (e.adds s knows) more) c.build_more.ensures.adds
+
+pub returns-clause-built : goal.returns-clause-built
+returns-clause-built c = on_ok_both c.build_more.result c.build_more.ensures.built c.build_more.ensures.keeps (λ built keeps.
+    let f = function_view c.args.function.now in
+    let v = c.as_slice.ensures.value in
+    let e = c.in_ok-build_block.ensures in
+    let more = rw v at built in
+    entry_built _ _ f.entry f.more c.build_block.new.module c.build_more.new.module e.count keeps e.built more)
+
+pub returns-clause-keeps : goal.returns-clause-keeps
+returns-clause-keeps c = on_ok_weaker c.build_more.result (λ keeps. keeps_then c.args.module.now c.build_block.new.module c.build_more.new.module c.in_ok-build_block.ensures.keeps keeps) c.build_more.ensures.keeps
+
+pub returns-in_err-build_block-clause-not_yet : goal.returns-in_err-build_block-clause-not_yet
+returns-in_err-build_block-clause-not_yet c = λ e s knows.
+    let f = function_view c.args.function.now in
+    let x = c.in_err-build_block in
+    entry_unplaced (open_inst s) (open_terminator s) _ f.entry f.more (x.ensures.not_yet (passed_on c.from_residual.result x.field-0.0 c.from_residual.ensures.1 e) s knows)
+
+pub returns-clause-not_yet : goal.returns-clause-not_yet
+returns-clause-not_yet c = λ e s knows.
+    let f = function_view c.args.function.now in
+    let v = c.as_slice.ensures.value in
+    let none = rw v at (c.build_more.ensures.not_yet e s knows) in
+    more_unplaced (open_inst s) (open_terminator s) _ _ f.entry f.more c.in_ok-build_block.ensures.count none

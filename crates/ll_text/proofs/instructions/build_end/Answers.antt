@@ -1,0 +1,30 @@
+-- What `instructions::build_end` owes besides what the check finds.
+use Rattle.std.proofs.Common.{ℕ, length, ap, ◌∙◌, subst, refl}
+use Rattle.llvm_core.specs.Module.{Module}
+use Rattle.ll_text.specs.TreeView.{terminator_view}
+use Rattle.ll_text.specs.Building.{HasEndSlots}
+use Rattle.ll_text.proofs.ModuleLaws.{interns_keep, keeps_then}
+use Rattle.ll_text.proofs.BuildLaws.{build_keeps, end_built, end_added}
+use Rattle.ll_text.proofs.instructions.build_end.Goals as goal
+
+pub returns-clause-adds : goal.returns-clause-adds
+returns-clause-adds c = λ s knows.
+    let m = c.in_ok-made.ensures in
+    let e = c.in_ok-build.ensures in
+    end_added s (terminator_view c.args.end.now) c.args.module.now c.make_end.new.module c.build.new.self c.args.block c.in_ok-build.field-0 _ c.in_ok-made.made m.rest m.made (m.says s knows)
+    (record { ty = e.ok.0; result = e.ok.1; is = e.ok.2; sound = e.sound }) e.number e.data refl
+
+pub returns-clause-built : goal.returns-clause-built
+returns-clause-built c =
+    let m = c.in_ok-made.ensures in
+    let e = c.in_ok-build.ensures in
+    let count = ap (λ (x : Module). length x.insts) m.rest.rest in
+    subst (λ (k : ℕ). HasEndSlots c.build.new.self k (terminator_view c.args.end.now)) (e.number ∙ count)
+    (end_built (terminator_view c.args.end.now) c.make_end.new.module c.build.new.self c.args.block c.in_ok-build.field-0 _ c.in_ok-made.made m.made (record { ty = e.ok.0; result = e.ok.1; is = e.ok.2; sound = e.sound }) e.number)
+
+pub returns-clause-keeps : goal.returns-clause-keeps
+returns-clause-keeps c =
+    let m = c.in_ok-made.ensures in
+    let e = c.in_ok-build.ensures in
+    keeps_then c.args.module.now c.make_end.new.module c.build.new.self (interns_keep _ _ m.rest c.requires.ready.sound)
+    (build_keeps c.make_end.new.module c.build.new.self c.args.block c.in_ok-build.field-0 _ c.in_ok-made.made (record { ty = e.ok.0; result = e.ok.1; is = e.ok.2; sound = e.sound }))

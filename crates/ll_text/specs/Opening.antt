@@ -1,0 +1,57 @@
+-- Instructions as they are built first: where an operand is a result stands a placeholder, and phis have no entries.
+use Rattle.std.specs.Prelude.{ℕ, [], Option, Some, None}
+use Rattle.std.specs.Option.{option_map}
+use Rattle.llvm_core.specs.Names.{is_plain}
+use Rattle.llvm_core.specs.Data as L
+use Rattle.llvm_core.specs.Data.{TypeTree, IntType, Operand, Constant, Parameter, Result, PlaceholderConst}
+use Rattle.ll_text.specs.Text.{Text}
+use Rattle.ll_text.specs.Tree.{Inst, Add, ICmp, Phi, Terminator, ReturnVoid, Return, Br, CondBr, Unreachable}
+use Rattle.ll_text.specs.Meaning.{◌>>=◌, Scope, bit_width, predicate_of, int_width, value_of, block_of}
+
+-- what stands for a result of a width
+abbrev pub placeholder : ℕ → Operand
+placeholder w = Constant (PlaceholderConst 0 (IntType w))
+
+-- a result waits, every other operand is there
+abbrev pub open_operand : ℕ → Operand → Operand
+open_operand w (Constant c) = Constant c
+open_operand w (Parameter f i) = Parameter f i
+open_operand w (Result n) = placeholder w
+
+abbrev pub open_value : Scope → ℕ → Text → Option Operand
+open_value s w t = option_map (open_operand w) (value_of is_plain 64 s w t)
+
+-- a line for each kind
+unfoldable pub open_inst : Scope → Inst → Option (TypeTree × L.Instruction)
+open_inst s (Add name nuw nsw type lhs rhs) = do
+  w ← int_width is_plain 64 type
+  a ← open_value s w lhs
+  b ← open_value s w rhs
+  Some (IntType w, L.Add a b (record { nuw = nuw; nsw = nsw }))
+open_inst s (ICmp name predicate type lhs rhs) = do
+  w ← int_width is_plain 64 type
+  a ← open_value s w lhs
+  b ← open_value s w rhs
+  p ← predicate_of predicate
+  Some (IntType 1, L.ICmp a b p)
+open_inst s (Phi name type first more) = do
+  w ← int_width is_plain 64 type
+  Some (IntType w, L.Phi [])
+
+-- a line for each kind
+unfoldable pub open_terminator : Scope → Terminator → Option L.Instruction
+open_terminator s ReturnVoid = Some (L.Return None)
+open_terminator s (Return type value) = do
+  w ← int_width is_plain 64 type
+  o ← open_value s w value
+  Some (L.Return (Some o))
+open_terminator s (Br target) = do
+  b ← block_of is_plain 64 s target
+  Some (L.Br b)
+open_terminator s (CondBr type condition first second) = do
+  w ← bit_width (int_width is_plain 64 type)
+  c ← open_value s w condition
+  a ← block_of is_plain 64 s first
+  b ← block_of is_plain 64 s second
+  Some (L.CondBr c a b)
+open_terminator s Unreachable = Some L.Unreachable

@@ -1,0 +1,63 @@
+//! The entries of phis.
+
+ghost use Rattle.std.specs.Prelude.{◌≡◌, ◌≤◌, true, None, Err, OnOk, ◌∷◌, [], length, map};
+ghost use Rattle.llvm_core.specs.Names.{is_plain};
+ghost use Rattle.ll_text.specs.Meaning as meaning;
+ghost use Rattle.ll_text.specs.Meaning.{entries_data};
+ghost use Rattle.ll_text.specs.ScopeView.{Knows, Refuses};
+ghost use Rattle.ll_text.specs.TreeView.{incoming_view};
+ghost use Rattle.ll_text.specs.Building.{IsReady, IsPhiAt, Keeps};
+ghost use Rattle.ll_text.specs.Filling.{AddsEntries};
+
+use crate::operands::{operand, target};
+use crate::read_err::ReadErr;
+use crate::scope::Scope;
+use crate::tree::Incoming;
+use llvm_core::module::LLVMModule;
+use llvm_core::numbers::LLVMInstRef;
+
+/// Appends an entry to a phi of integers of a width.
+pub fn add_entry<'a>(
+    module: &mut LLVMModule,
+    scope: &Scope<'a>,
+    phi: LLVMInstRef,
+    width: u32,
+    entry: Incoming<'a>,
+) -> Result<(), ReadErr>
+    requires least { 1 ≤ width }
+    requires most { width ≤ 64 }
+    requires ready { IsReady true module.old scope.now }
+    requires phi { IsPhiAt module.old phi.0 }
+    ensures adds { OnOk result ((s : meaning.Scope) → Knows scope.now s → AddsEntries s width (incoming_view entry.entry ∷ []) phi.0 module.old module.new) }
+    ensures keeps { OnOk result (Keeps module.old module.new) }
+    ensures same { OnOk result (length module.new.insts ≡ length module.old.insts) }
+    ensures not_yet { result ≡ Err ReadErr.NotYet → Refuses scope.now (λ s. entries_data is_plain 64 s width (incoming_view entry.entry ∷ [])) }
+{
+    let value = operand(module, scope, width, entry.value)?;
+    let block = target(scope, entry.block)?;
+    module.add_incoming(phi, value, block)?;
+    Ok(())
+}
+
+/// Appends entries to a phi of integers of a width, in order.
+pub fn add_entries<'a>(
+    module: &mut LLVMModule,
+    scope: &Scope<'a>,
+    phi: LLVMInstRef,
+    width: u32,
+    entries: &[Incoming<'a>],
+) -> Result<(), ReadErr>
+    requires least { 1 ≤ width }
+    requires most { width ≤ 64 }
+    requires ready { IsReady true module.old scope.now }
+    requires phi { IsPhiAt module.old phi.0 }
+    ensures adds { OnOk result ((s : meaning.Scope) → Knows scope.now s → AddsEntries s width (map incoming_view entries.now) phi.0 module.old module.new) }
+    ensures keeps { OnOk result (Keeps module.old module.new) }
+    ensures same { OnOk result (length module.new.insts ≡ length module.old.insts) }
+    ensures not_yet { result ≡ Err ReadErr.NotYet → Refuses scope.now (λ s. entries_data is_plain 64 s width (map incoming_view entries.now)) }
+{
+    for entry in entries {
+        add_entry(module, scope, phi, width, *entry)?;
+    }
+    Ok(())
+}

@@ -1,0 +1,165 @@
+-- What is right in a module stays right in one that has more.
+use Rattle.std.proofs.Common.{◌≡◌, ◌<◌, ◌≤◌, ℕ, Bool, false, ◌&&◌, nat_eq, if◌then◌else◌, List, [], Option, Some, None, length, slice_get, sym, ap, ◌∙◌, refl, arith, subst}
+use Rattle.std.specs.Option.{option_map, option_map_or}
+use Rattle.std.proofs.lemmas.List.Elements.{All-weaker}
+use Rattle.llvm_core.specs.declared.numbers.LLVMType.{LLVMType}
+use Rattle.llvm_core.specs.declared.numbers.LLVMFunction.{LLVMFunction}
+use Rattle.llvm_core.specs.declared.numbers.LLVMBasicBlock.{LLVMBasicBlock}
+use Rattle.llvm_core.specs.declared.numbers.LLVMInstRef.{LLVMInstRef}
+use Rattle.llvm_core.specs.declared.types.LLVMTypeKind.{LLVMTypeKind}
+use Rattle.llvm_core.specs.declared.types.LLVMTypeKind.TheVariants as T
+use Rattle.llvm_core.specs.declared.types.ResultType.{ResultType}
+use Rattle.llvm_core.specs.declared.types.ResultType.TheVariants as R
+use Rattle.llvm_core.specs.declared.consts.LLVMConstKind.{LLVMConstKind}
+use Rattle.llvm_core.specs.declared.consts.LLVMConstKind.TheVariants as C
+use Rattle.llvm_core.specs.declared.code.LLVMValue.{LLVMValue}
+use Rattle.llvm_core.specs.declared.code.LLVMValue.TheVariants as V
+use Rattle.llvm_core.specs.declared.code.PhiEntry.{PhiEntry}
+use Rattle.llvm_core.specs.declared.code.LLVMInst.{LLVMInst}
+use Rattle.llvm_core.specs.declared.code.LLVMInst.TheVariants as I
+use Rattle.llvm_core.specs.declared.code.FunctionData.{FunctionData}
+use Rattle.llvm_core.specs.declared.code.BlockData.{BlockData}
+use Rattle.llvm_core.specs.declared.code.InstData.{InstData}
+use Rattle.llvm_core.specs.Module.{Module}
+use Rattle.llvm_core.specs.Code.{param_names}
+use Rattle.llvm_core.specs.Parts.{IsConstOver, IsFunctionType, IsValue, HasValues, IsBlock, IsEntry, const_type, type_params, kind_params, param_types, is_int, is_kind, both_type, value_type, result_type}
+use Rattle.llvm_core.specs.Sound.{IsFunctionIn, IsBlockIn, IsInstIn, IsListedBlock, IsListedInst, StandsFor, IsModule}
+use Rattle.llvm_core.proofs.DataLemmas.{there}
+use Rattle.llvm_core.proofs.WithinLemmas.{value_type_within, param_there}
+use Rattle.llvm_core.proofs.ListedLemmas.{KeepsLists}
+
+-- what a function and a block list
+abbrev pub blocks_of : FunctionData → List LLVMBasicBlock
+blocks_of x = x.blocks
+
+abbrev pub insts_of : BlockData → List LLVMInstRef
+insts_of x = x.insts
+
+-- each item of xs has one in ys, with the same type
+abbrev pub KeepsTypes : {X : Type 0} → (X → LLVMType) → List X → List X → Type 0
+KeepsTypes {X} type xs ys = (i : ℕ) (x : X) → slice_get xs i ≡ Some x → (y : X) × (slice_get ys i ≡ Some y) × (type y ≡ type x)
+
+abbrev pub function_type : FunctionData → LLVMType
+function_type x = x.ty
+
+abbrev pub inst_type : InstData → LLVMType
+inst_type x = x.ty
+
+-- n has all that m has
+pub record Grows (m n : Module) : Type 0 where
+  pub types : (i : ℕ) (k : LLVMTypeKind) → slice_get m.types i ≡ Some k → slice_get n.types i ≡ Some k
+  pub consts : (i : ℕ) (k : LLVMConstKind) → slice_get m.consts i ≡ Some k → slice_get n.consts i ≡ Some k
+  pub function_types : KeepsTypes function_type m.functions n.functions
+  pub inst_types : KeepsTypes inst_type m.insts n.insts
+  pub type_count : length m.types ≤ length n.types
+  pub const_count : length m.consts ≤ length n.consts
+  pub function_count : length m.functions ≤ length n.functions
+  pub block_count : length m.blocks ≤ length n.blocks
+  pub inst_count : length m.insts ≤ length n.insts
+  pub params : (f : LLVMFunction) → length (param_names m.functions f) ≤ length (param_names n.functions f)
+  pub block_lists : KeepsLists blocks_of m.functions n.functions
+  pub inst_lists : KeepsLists insts_of m.blocks n.blocks
+
+-- ---- what is right stays right in a module that has more
+
+pub const_kept : (m n : Module) → Grows m n → (k : LLVMConstKind) → IsConstOver m.types k → IsConstOver n.types k
+const_kept m n g (C.Int t v) h = (h.0, g.types t.0 _ h.1, h.2)
+const_kept m n g (C.Placeholder number t) h = omega (arith, g.type_count, h)
+
+pub params_kept : (m n : Module) → Grows m n → (t : LLVMType) → IsFunctionType m.types t → type_params m.types t ≡ type_params n.types t
+params_kept m n g t h = ap (λ o. option_map_or kind_params o []) (h.1 ∙ sym (g.types t.0 h.0 h.1))
+
+pub function_kept : (m n : Module) → Grows m n → (x : FunctionData) → IsFunctionIn m x → IsFunctionIn n x
+function_kept m n g x h = record {
+  typed = (h.typed.0, g.types x.ty.0 _ h.typed.1, h.typed.2);
+  params = h.params ∙ ap length (params_kept m n g x.ty h.typed);
+  blocks = All-weaker (λ (b : LLVMBasicBlock). b.0 < length m.blocks) (λ (b : LLVMBasicBlock). b.0 < length n.blocks) (λ b lt. omega (arith, g.block_count)) x.blocks h.blocks;
+}
+
+pub block_kept : (m n : Module) → Grows m n → (x : BlockData) → IsBlockIn m x → IsBlockIn n x
+block_kept m n g x h = record {
+  function = omega (arith, g.function_count, h.function);
+  insts = All-weaker (λ (i : LLVMInstRef). i.0 < length m.insts) (λ (i : LLVMInstRef). i.0 < length n.insts) (λ i lt. omega (arith, g.inst_count)) x.insts h.insts;
+}
+
+pub value_kept : (m n : Module) → Grows m n → (v : LLVMValue) → IsValue m v → IsValue n v
+value_kept m n g (V.Const c) h = omega (arith, g.const_count)
+value_kept m n g (V.Param f place) h = omega (arith, g.params f)
+value_kept m n g (V.Inst i) h = omega (arith, g.inst_count)
+
+block_there : (m n : Module) → Grows m n → (b : LLVMBasicBlock) → IsBlock m b → IsBlock n b
+block_there m n g b h = omega (arith, g.block_count, h)
+
+entry_kept : (m n : Module) → Grows m n → (e : PhiEntry) → IsEntry m e → IsEntry n e
+entry_kept m n g e h = (value_kept m n g e.value h.0, block_there m n g e.block h.1)
+
+pub values_kept : (m n : Module) → Grows m n → (i : LLVMInst) → HasValues m i → HasValues n i
+values_kept m n g (I.Add lhs rhs flags) h = (value_kept m n g lhs h.0, value_kept m n g rhs h.1)
+values_kept m n g (I.ICmp lhs rhs predicate) h = (value_kept m n g lhs h.0, value_kept m n g rhs h.1)
+values_kept m n g (I.Phi type entries) h = (omega (arith, g.type_count, h.0), All-weaker (IsEntry m) (IsEntry n) (entry_kept m n g) entries h.1)
+values_kept m n g (I.Br target) h = block_there m n g target h
+values_kept m n g (I.CondBr condition first second) h = (value_kept m n g condition h.0, block_there m n g first h.1, block_there m n g second h.2)
+values_kept m n g (I.Ret None) h = h
+values_kept m n g (I.Ret (Some v)) h = value_kept m n g v h
+values_kept m n g I.Unreachable h = h
+
+-- ---- types of values
+
+value_type_kept : (m n : Module) → Grows m n → IsModule m → (v : LLVMValue) → IsValue m v → value_type n v ≡ value_type m v
+value_type_kept m n g s (V.Const c) h =
+    let k = there m.consts c.0 h in
+    ap (option_map const_type) (g.consts c.0 k.0 k.1 ∙ sym k.1)
+value_type_kept m n g s (V.Param f place) h =
+    let p = param_there m f place s h in
+    let q = g.function_types f.0 p.function p.here in
+    let same : param_types n q.0 ≡ param_types m p.function =
+    (ap (λ (t : LLVMType). type_params n.types t) q.2 ∙ sym (params_kept m n g p.function.ty (s.functions f.0 p.function p.here).typed)) in
+    ap (λ o. slice_get (option_map_or (param_types n) o []) place) q.1 ∙ ap (λ ts. slice_get ts place) same
+    ∙ ap (λ o. slice_get (option_map_or (param_types m) o []) place) (sym p.here)
+value_type_kept m n g s (V.Inst i) h =
+    let x = there m.insts i.0 h in
+    let y = g.inst_types i.0 x.0 x.1 in
+    ap (option_map inst_type) y.1 ∙ ap Some y.2 ∙ ap (option_map inst_type) (sym x.1)
+
+is_kind_kept : (m n : Module) → Grows m n → (p : LLVMTypeKind → Bool) (t : LLVMType) → t.0 < length m.types → is_kind p n.types t ≡ is_kind p m.types t
+is_kind_kept m n g p t lt = let k = there m.types t.0 lt in ap (λ o. option_map_or p o false) (g.types t.0 k.0 k.1 ∙ sym k.1)
+
+both_kept : (m n : Module) → Grows m n → (a b : Option LLVMType) → ((t : LLVMType) → a ≡ Some t → t.0 < length m.types) → both_type n.types a b ≡ both_type m.types a b
+both_kept m n g None b within = refl
+both_kept m n g (Some a) None within = refl
+both_kept m n g (Some a) (Some b) within = ap (λ (int : Bool). if nat_eq a.0 b.0 && int then Some a else None) (is_kind_kept m n g is_int a (within a refl))
+
+sides_kept : (m n : Module) → Grows m n → IsModule m → (lhs rhs : LLVMValue) → IsValue m lhs → IsValue m rhs
+    → both_type n.types (value_type n lhs) (value_type n rhs) ≡ both_type m.types (value_type m lhs) (value_type m rhs)
+sides_kept m n g s lhs rhs p q =
+    ap (λ a. both_type n.types a (value_type n rhs)) (value_type_kept m n g s lhs p) ∙ ap (both_type n.types (value_type m lhs)) (value_type_kept m n g s rhs q)
+    ∙ both_kept m n g (value_type m lhs) (value_type m rhs) (λ t e. value_type_within m lhs t s p e)
+
+-- the type of a result stays
+pub result_kept : (m n : Module) → Grows m n → IsModule m → (i : LLVMInst) → HasValues m i → result_type n i ≡ result_type m i
+result_kept m n g s (I.Add lhs rhs flags) h = ap (option_map R.There) (sides_kept m n g s lhs rhs h.0 h.1)
+result_kept m n g s (I.ICmp lhs rhs predicate) h = ap (option_map (λ _. R.Bit)) (sides_kept m n g s lhs rhs h.0 h.1)
+result_kept m n g s (I.Phi type entries) h = refl
+result_kept m n g s (I.Br target) h = refl
+result_kept m n g s (I.CondBr condition first second) h = refl
+result_kept m n g s (I.Ret v) h = refl
+result_kept m n g s I.Unreachable h = refl
+
+pub stands_kept : (m n : Module) → Grows m n → (r : Option ResultType) (ty : LLVMType) → StandsFor m.types r ty → StandsFor n.types r ty
+stands_kept m n g None ty h = g.types ty.0 T.Void h
+stands_kept m n g (Some (R.There t)) ty h = h
+stands_kept m n g (Some R.Bit) ty h = g.types ty.0 (T.Int 1) h
+
+pub inst_kept : (m n : Module) → Grows m n → IsModule m → (x : InstData) → IsInstIn m x → IsInstIn n x
+inst_kept m n g s x h = record {
+  block = omega (arith, g.block_count, h.block);
+  typed = omega (arith, g.type_count, h.typed);
+  result = subst (λ (r : Option ResultType). StandsFor n.types r x.ty) (sym (result_kept m n g s x.inst h.values)) (stands_kept m n g (result_type m x.inst) x.ty h.result);
+  values = values_kept m n g x.inst h.values;
+}
+
+pub listed_block_kept : (m n : Module) → Grows m n → (b : ℕ) (y : BlockData) → IsListedBlock m b y → IsListedBlock n b y
+listed_block_kept m n g b y h = let k = g.block_lists y.function.0 h.0 h.2 in (k.0, h.1, k.1, k.2 h.1 _ h.3)
+
+pub listed_inst_kept : (m n : Module) → Grows m n → (i : ℕ) (z : InstData) → IsListedInst m i z → IsListedInst n i z
+listed_inst_kept m n g i z h = let k = g.inst_lists z.block.0 h.0 h.2 in (k.0, h.1, k.1, k.2 h.1 _ h.3)

@@ -1,0 +1,145 @@
+//! The edges between blocks, counted once for the whole module, and the rules that rest on them.
+
+ghost use Rattle.std.specs.Prelude.{◌≡◌, ◌<◌, ℕ, [], ◌∷◌, All, IfErr, IfOk, OnOk, Some, length, slice_get};
+ghost use Rattle.llvm_core.specs.declared.check_err.Place.TheVariants as places;
+ghost use Rattle.llvm_core.specs.declared.check_err.CheckErr.TheVariants as errors;
+ghost use Rattle.llvm_core.specs.Edges.{targets, targets_from, tally, Gains, HasIncoming};
+ghost use Rattle.llvm_core.specs.Checked.{Fails, MayAnswer, IsCheckedEdges};
+
+use crate::check_err::{CheckErr, Place};
+use crate::code::LLVMInst;
+use crate::items::Items;
+use crate::module::LLVMModule;
+use crate::numbers::{LLVMBasicBlock, LLVMFunction, LLVMInstRef};
+use crate::phis::{fits_edges, has_two_values};
+use std::alloc::{AllocError, Global};
+
+/// An empty list for each block.
+fn no_edges(alloc: Global, blocks: u32) -> Result<Vec<Items<u32>>, AllocError>
+    ensures len { IfOk result (λ lists. length lists.items ≡ blocks) }
+    ensures none { IfOk result (λ lists. (p b : ℕ) → tally lists.items p b ≡ 0) }
+{
+    let mut lists = Vec::new(alloc);
+    for _block in 0..blocks {
+        lists.push(Items::new(alloc))?;
+    }
+    Ok(lists)
+}
+
+/// Notes an edge in the list of its target.
+fn push_edge(lists: &mut [Items<u32>], from: u32, to: LLVMBasicBlock) -> Result<(), AllocError>
+    requires { to.0 < length lists.old }
+    ensures { OnOk result (Gains lists.old lists.new from (to.0 ∷ [])) }
+{
+    lists[to.0 as usize].push(from)?;
+    Ok(())
+}
+
+/// Notes the edges of an instruction of the block `from`.
+fn push_targets(lists: &mut [Items<u32>], from: u32, inst: &LLVMInst) -> Result<(), AllocError>
+    requires { All (λ b. b < length lists.old) (targets inst.now) }
+    ensures { OnOk result (Gains lists.old lists.new from (targets inst.now)) }
+{
+    match inst {
+        LLVMInst::Br(target) => push_edge(lists, from, *target),
+        LLVMInst::CondBr(_, yes, no) => {
+            push_edge(lists, from, *yes)?;
+            push_edge(lists, from, *no)
+        }
+        _ => Ok(()),
+    }
+}
+
+/// Notes the edges of a block.
+fn push_block_edges(
+    m: &LLVMModule,
+    b: LLVMBasicBlock,
+    lists: &mut [Items<u32>],
+) -> Result<(), AllocError>
+    requires block { b.0 < length m.now.blocks }
+    requires lists { length lists.old ≡ length m.now.blocks }
+    ensures { OnOk result (Gains lists.old lists.new b.0 (targets_from m.now b.0)) }
+{
+    for inst in m.instructions(b) {
+        push_targets(lists, b.0, m.inst(*inst))?;
+    }
+    Ok(())
+}
+
+/// For each block the numbers of the blocks that lead to it, once for each edge.
+fn incoming(m: &LLVMModule) -> Result<Vec<Items<u32>>, AllocError>
+    ensures { IfOk result (λ lists. HasIncoming m.now lists.items) }
+{
+    let mut lists = no_edges(m.allocator(), m.block_count())?;
+    for b in 0..m.block_count() {
+        push_block_edges(m, LLVMBasicBlock(b), lists.as_mut_slice())?;
+    }
+    Ok(lists)
+}
+
+/// A phi has an entry for each edge, and one value for each block.
+fn check_phi(m: &LLVMModule, i: LLVMInstRef, lists: &[Items<u32>]) -> Result<(), CheckErr>
+    requires inst { i.0 < length m.now.insts }
+    requires edges { HasIncoming m.now lists.now }
+    ensures ok { OnOk result (¬ Fails m.now (errors.PhiEntries (places.Inst i.0))) }
+    ensures err { IfErr result (λ e. MayAnswer m.now e) }
+{
+    let entries = match m.inst(i) {
+        LLVMInst::Phi(_, entries) => entries.as_slice(),
+        _ => return Ok(()),
+    };
+    let from = lists[m.inst_block(i).0 as usize].as_slice();
+    if from.is_empty()
+        || has_two_values(m.allocator(), entries)?
+        || !fits_edges(m.allocator(), from, entries)?
+    {
+        return Err(CheckErr::PhiEntries(Place::Inst(i.0)));
+    }
+    Ok(())
+}
+
+fn check_phis(m: &LLVMModule, lists: &[Items<u32>]) -> Result<(), CheckErr>
+    requires { HasIncoming m.now lists.now }
+    ensures ok { OnOk result ((i : ℕ) → i < length m.now.insts → ¬ Fails m.now (errors.PhiEntries (places.Inst i))) }
+    ensures err { IfErr result (λ e. MayAnswer m.now e) }
+{
+    for i in 0..m.inst_count() {
+        check_phi(m, LLVMInstRef(i), lists)?;
+    }
+    Ok(())
+}
+
+/// No edge goes to the first block of a function.
+fn check_first(m: &LLVMModule, f: LLVMFunction, lists: &[Items<u32>]) -> Result<(), CheckErr>
+    requires function { f.0 < length m.now.functions }
+    requires edges { HasIncoming m.now lists.now }
+    ensures ok { OnOk result (¬ Fails m.now (errors.EntryHasPreds (places.Function f.0))) }
+    ensures err { IfErr result (λ e. Fails m.now e) }
+{
+    let blocks = m.blocks(f);
+    if !blocks.is_empty() && !lists[blocks[0].0 as usize].as_slice().is_empty() {
+        return Err(CheckErr::EntryHasPreds(Place::Function(f.0)));
+    }
+    Ok(())
+}
+
+fn check_firsts(m: &LLVMModule, lists: &[Items<u32>]) -> Result<(), CheckErr>
+    requires { HasIncoming m.now lists.now }
+    ensures ok { OnOk result ((f : ℕ) → f < length m.now.functions → ¬ Fails m.now (errors.EntryHasPreds (places.Function f))) }
+    ensures err { IfErr result (λ e. Fails m.now e) }
+{
+    for f in 0..m.functions() {
+        check_first(m, LLVMFunction(f), lists)?;
+    }
+    Ok(())
+}
+
+/// The rules that rest on edges.
+pub fn check_edges(m: &LLVMModule) -> Result<(), CheckErr>
+    ensures ok { OnOk result (IsCheckedEdges m.now) }
+    ensures err { IfErr result (λ e. MayAnswer m.now e) }
+{
+    let lists = incoming(m)?;
+    check_phis(m, lists.as_slice())?;
+    check_firsts(m, lists.as_slice())
+}

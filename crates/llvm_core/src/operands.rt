@@ -1,0 +1,238 @@
+//! What an instruction asks of its operands.
+
+ghost use Rattle.std.specs.Prelude.{◌≡◌, ◌<◌, All, IfErr, IsTrue, OnOk, Some, false, length, slice_get};
+ghost use Rattle.std.specs.List.{list_any};
+ghost use Rattle.std.specs.Option.{option_map};
+ghost use Rattle.llvm_core.specs.declared.check_err.Place.TheVariants as places;
+ghost use Rattle.llvm_core.specs.declared.check_err.CheckErr.TheVariants as errors;
+ghost use Rattle.llvm_core.specs.Parts.{IsValue, IsEntry, HasValues, operands, is_function};
+ghost use Rattle.llvm_core.specs.Checked.{is_void, MisfitsPhi, returns_void, return_type, home, is_outside, is_block_outside, is_entry_outside, reaches_outside, is_bit, is_placeholder, HasOtherType, Fails, IsCheckedInst};
+
+use crate::check_err::{CheckErr, Place};
+use crate::code::{LLVMInst, LLVMValue, PhiEntry};
+use crate::consts::LLVMConstKind;
+use crate::module::LLVMModule;
+use crate::numbers::{LLVMBasicBlock, LLVMFunction, LLVMInstRef, LLVMType};
+use crate::types::LLVMTypeKind;
+
+/// The number of entries from which on a list is too long.
+pub const TOO_LONG: usize = 1 << 31;
+
+pub fn is_void(kind: &LLVMTypeKind) -> bool
+    ensures { result ≡ is_void kind.now }
+{
+    matches!(kind, LLVMTypeKind::Void)
+}
+
+pub fn is_function(kind: &LLVMTypeKind) -> bool
+    ensures { result ≡ is_function kind.now }
+{
+    matches!(kind, LLVMTypeKind::Function { .. })
+}
+
+/// The function that holds an instruction.
+fn home(m: &LLVMModule, i: LLVMInstRef) -> LLVMFunction
+    requires { i.0 < length m.now.insts }
+    ensures home { option_map (home m.now) (slice_get m.now.insts i.0) ≡ Some result }
+    ensures within { result.0 < length m.now.functions }
+{
+    m.block_function(m.inst_block(i))
+}
+
+/// The type of what a function returns.
+fn return_type(m: &LLVMModule, f: LLVMFunction) -> LLVMType
+    requires { f.0 < length m.now.functions }
+    ensures ty { return_type m.now f ≡ Some result }
+    ensures within { result.0 < length m.now.types }
+{
+    match m.type_kind(m.function_type(f)) {
+        LLVMTypeKind::Function { result, .. } => *result,
+        _ => unreachable!(),
+    }
+}
+
+fn returns_void(m: &LLVMModule, f: LLVMFunction) -> bool
+    requires { f.0 < length m.now.functions }
+    ensures { result ≡ returns_void m.now f }
+{
+    is_void(m.type_kind(return_type(m, f)))
+}
+
+fn is_bit(kind: &LLVMTypeKind) -> bool
+    ensures { result ≡ is_bit kind.now }
+{
+    match kind {
+        LLVMTypeKind::Int(width) => *width == 1,
+        _ => false,
+    }
+}
+
+/// Whether an entry's value is of another type than `ty`.
+fn has_other_type(m: &LLVMModule, ty: LLVMType, entries: &[PhiEntry]) -> bool
+    requires { All (IsEntry m.now) entries.now }
+    ensures yes { IsTrue result → HasOtherType m.now ty entries.now }
+    ensures no { result ≡ false → ¬ HasOtherType m.now ty entries.now }
+{
+    for entry in entries {
+        if m.type_of(entry.value) != ty {
+            return true;
+        }
+    }
+    false
+}
+
+/// Whether a phi of type `ty` may have these entries, as far as types go.
+fn fits_phi(m: &LLVMModule, ty: LLVMType, entries: &[PhiEntry]) -> bool
+    requires { (ty.0 < length m.now.types) × All (IsEntry m.now) entries.now }
+    ensures yes { IsTrue result → ¬ MisfitsPhi m.now ty entries.now }
+    ensures no { result ≡ false → MisfitsPhi m.now ty entries.now }
+{
+    let kind = m.type_kind(ty);
+    !is_void(kind) && !is_function(kind) && !has_other_type(m, ty, entries)
+}
+
+fn check_operand_types(m: &LLVMModule, i: LLVMInstRef) -> Result<(), CheckErr>
+    requires { i.0 < length m.now.insts }
+    ensures ok { OnOk result (¬ Fails m.now (errors.OperandType (places.Inst i.0))) }
+    ensures err { IfErr result (λ e. Fails m.now e) }
+{
+    let fits = match m.inst(i) {
+        LLVMInst::Add(..) => m.result_type(m.inst(i)).is_some(),
+        LLVMInst::ICmp(..) => m.result_type(m.inst(i)).is_some(),
+        LLVMInst::Phi(ty, entries) => fits_phi(m, *ty, entries.as_slice()),
+        LLVMInst::Br(_) => true,
+        LLVMInst::CondBr(condition, _, _) => is_bit(m.type_kind(m.type_of(*condition))),
+        LLVMInst::Ret(None) => true,
+        LLVMInst::Ret(Some(value)) => m.type_of(*value) == return_type(m, home(m, i)),
+        LLVMInst::Unreachable => true,
+    };
+    if !fits {
+        return Err(CheckErr::OperandType(Place::Inst(i.0)));
+    }
+    Ok(())
+}
+
+fn check_operand_count(m: &LLVMModule, i: LLVMInstRef) -> Result<(), CheckErr>
+    requires { i.0 < length m.now.insts }
+    ensures ok { OnOk result (¬ Fails m.now (errors.OperandCount (places.Inst i.0))) }
+    ensures err { IfErr result (λ e. Fails m.now e) }
+{
+    let fits = match m.inst(i) {
+        LLVMInst::Ret(value) => value.is_none() == returns_void(m, home(m, i)),
+        _ => true,
+    };
+    if !fits {
+        return Err(CheckErr::OperandCount(Place::Inst(i.0)));
+    }
+    Ok(())
+}
+
+fn is_placeholder(kind: &LLVMConstKind) -> bool
+    ensures { result ≡ is_placeholder kind.now }
+{
+    matches!(kind, LLVMConstKind::Placeholder(..))
+}
+
+/// Whether a value is a parameter or result of another function than `f`, or a placeholder.
+fn is_outside(m: &LLVMModule, f: LLVMFunction, value: LLVMValue) -> bool
+    requires { IsValue m.now value }
+    ensures { result ≡ is_outside m.now f value }
+{
+    match value {
+        LLVMValue::Const(c) => is_placeholder(m.const_kind(c)),
+        LLVMValue::Param(g, _) => g.0 != f.0,
+        LLVMValue::Inst(i) => home(m, i).0 != f.0,
+    }
+}
+
+/// Whether a block is one of another function than `f`.
+fn is_block_outside(m: &LLVMModule, f: LLVMFunction, b: LLVMBasicBlock) -> bool
+    requires { b.0 < length m.now.blocks }
+    ensures { result ≡ is_block_outside m.now f b }
+{
+    m.block_function(b).0 != f.0
+}
+
+/// Whether an entry's value or block is one of another function than `f`.
+fn has_entry_outside(m: &LLVMModule, f: LLVMFunction, entries: &[PhiEntry]) -> bool
+    requires { All (IsEntry m.now) entries.now }
+    ensures { result ≡ list_any (is_entry_outside m.now f) entries.now }
+{
+    for entry in entries {
+        if is_outside(m, f, entry.value) || is_block_outside(m, f, entry.block) {
+            return true;
+        }
+    }
+    false
+}
+
+/// Whether an instruction names something of another function than `f`.
+fn reaches_outside(m: &LLVMModule, f: LLVMFunction, inst: &LLVMInst) -> bool
+    requires { HasValues m.now inst.now }
+    ensures { result ≡ reaches_outside m.now f inst.now }
+{
+    match inst {
+        LLVMInst::Add(lhs, rhs, _) => is_outside(m, f, *lhs) || is_outside(m, f, *rhs),
+        LLVMInst::ICmp(lhs, rhs, _) => is_outside(m, f, *lhs) || is_outside(m, f, *rhs),
+        LLVMInst::Phi(_, entries) => has_entry_outside(m, f, entries.as_slice()),
+        LLVMInst::Br(target) => is_block_outside(m, f, *target),
+        LLVMInst::CondBr(condition, yes, no) => {
+            is_outside(m, f, *condition)
+                || is_block_outside(m, f, *yes)
+                || is_block_outside(m, f, *no)
+        }
+        LLVMInst::Ret(None) => false,
+        LLVMInst::Ret(Some(value)) => is_outside(m, f, *value),
+        LLVMInst::Unreachable => false,
+    }
+}
+
+fn check_operands_inside(m: &LLVMModule, i: LLVMInstRef) -> Result<(), CheckErr>
+    requires { i.0 < length m.now.insts }
+    ensures ok { OnOk result (¬ Fails m.now (errors.BlockOutside (places.Inst i.0))) }
+    ensures err { IfErr result (λ e. Fails m.now e) }
+{
+    if reaches_outside(m, home(m, i), m.inst(i)) {
+        return Err(CheckErr::BlockOutside(Place::Inst(i.0)));
+    }
+    Ok(())
+}
+
+/// How many operands an instruction has.
+fn operand_count(inst: &LLVMInst) -> usize
+    ensures { result ≡ length (operands inst.now) }
+{
+    match inst {
+        LLVMInst::Add(..) => 2,
+        LLVMInst::ICmp(..) => 2,
+        LLVMInst::Phi(_, entries) => entries.as_slice().len(),
+        LLVMInst::Br(_) => 0,
+        LLVMInst::CondBr(..) => 1,
+        LLVMInst::Ret(None) => 0,
+        LLVMInst::Ret(Some(_)) => 1,
+        LLVMInst::Unreachable => 0,
+    }
+}
+
+fn check_operand_list(m: &LLVMModule, i: LLVMInstRef) -> Result<(), CheckErr>
+    requires { i.0 < length m.now.insts }
+    ensures ok { OnOk result (¬ Fails m.now (errors.ListTooLong (places.Inst i.0))) }
+    ensures err { IfErr result (λ e. Fails m.now e) }
+{
+    if operand_count(m.inst(i)) >= TOO_LONG {
+        return Err(CheckErr::ListTooLong(Place::Inst(i.0)));
+    }
+    Ok(())
+}
+
+/// What is asked of one instruction, its edges aside.
+pub fn check_inst(m: &LLVMModule, i: LLVMInstRef) -> Result<(), CheckErr>
+    requires { i.0 < length m.now.insts }
+    ensures ok { OnOk result (IsCheckedInst m.now i.0) }
+    ensures err { IfErr result (λ e. Fails m.now e) }
+{
+    check_operand_types(m, i)?;
+    check_operand_count(m, i)?;
+    check_operands_inside(m, i)?;
+    check_operand_list(m, i)
+}

@@ -1,0 +1,76 @@
+//! What is asked of the phis of a block and of a phi's entries.
+
+ghost use Rattle.std.specs.Prelude.{◌≡◌, ◌<◌, ℕ, All, IfOk, IsTrue, false, length};
+ghost use Rattle.llvm_core.specs.Parts.{is_phi};
+ghost use Rattle.llvm_core.specs.Edges.{count_of};
+ghost use Rattle.llvm_core.specs.Checked.{HasLatePhi, HasTwoValues, sources};
+ghost use Rattle.std.specs.List.Sorted.{IsPermutation, IsSorted};
+ghost use Rattle.std.specs.Ordering.{nat_cmp};
+
+use crate::code::{LLVMInst, PhiEntry};
+use crate::module::LLVMModule;
+use crate::numbers::LLVMInstRef;
+use indexmap::IndexMap;
+use std::alloc::{AllocError, Global};
+
+fn is_phi(inst: &LLVMInst) -> bool
+    ensures { result ≡ is_phi inst.now }
+{
+    matches!(inst, LLVMInst::Phi(..))
+}
+
+/// Whether a phi stands behind what is no phi.
+pub fn has_late_phi(m: &LLVMModule, insts: &[LLVMInstRef]) -> bool
+    requires { All (λ i. i.0 < length m.now.insts) insts.now }
+    ensures yes { IsTrue result → HasLatePhi m.now insts.now }
+    ensures no { result ≡ false → ¬ HasLatePhi m.now insts.now }
+{
+    let mut behind = false;
+    for inst in insts {
+        if !is_phi(m.inst(*inst)) {
+            behind = true;
+        } else if behind {
+            return true;
+        }
+    }
+    false
+}
+
+/// Whether two entries for one block have two values.
+pub fn has_two_values(alloc: Global, entries: &[PhiEntry]) -> Result<bool, AllocError>
+    ensures yes { IfOk result (λ two. IsTrue two → HasTwoValues entries.now) }
+    ensures no { IfOk result (λ two. two ≡ false → ¬ HasTwoValues entries.now) }
+{
+    let mut values = IndexMap::new(alloc);
+    for entry in entries {
+        if let Some(value) = values.insert(entry.block.0, entry.value)? {
+            if value != entry.value {
+                return Ok(true);
+            }
+        }
+    }
+    Ok(false)
+}
+
+/// The numbers of the blocks that entries are for, in ascending order.
+fn sorted_sources(alloc: Global, entries: &[PhiEntry]) -> Result<Vec<u32>, AllocError>
+    ensures sorted { IfOk result (λ from. IsSorted nat_cmp from.items) }
+    ensures same { IfOk result (λ from. IsPermutation (sources entries.now) from.items) }
+{
+    let mut from = Vec::new(alloc);
+    for entry in entries {
+        from.push(entry.block.0)?;
+    }
+    from.sort()?;
+    Ok(from)
+}
+
+/// Whether each block stands among the entries as often as in `from`.
+pub fn fits_edges(alloc: Global, from: &[u32], entries: &[PhiEntry]) -> Result<bool, AllocError>
+    ensures yes { IfOk result (λ fits. IsTrue fits → (p : ℕ) → count_of p (sources entries.now) ≡ count_of p from.now) }
+    ensures no { IfOk result (λ fits. fits ≡ false → ¬ ((p : ℕ) → count_of p (sources entries.now) ≡ count_of p from.now)) }
+{
+    let mut from = Vec::from_slice(alloc, from)?;
+    from.sort()?;
+    Ok(sorted_sources(alloc, entries)? == from)
+}

@@ -1,0 +1,224 @@
+-- Blocks of the function that is made, by their places and numbers, and the edges between them.
+use Rattle.std.proofs.Common.{◌≡◌, ◌+◌, ℕ, zero, suc, Bool, true, false, nat_eq, if◌then◌else◌, List, [], ◌∷◌, ◌++◌, Option, Some, None, All, length, map, take, slice_get, refl, sym, ap, subst, ◌∙◌, arith, ⊎_elim, eq-eqb, ne_eqb, eqb-true}
+use Rattle.std.specs.List.{flat_map, find}
+use Rattle.std.specs.Option.{option_or}
+use Rattle.std.proofs.lemmas.Option.{same_Some, none-some}
+use Rattle.std.proofs.lemmas.Bool.{cond-true, cond-false}
+use Rattle.std.proofs.lemmas.List.{map-append}
+use Rattle.std.proofs.lemmas.List.Concat.{flat_map-append}
+use Rattle.std.proofs.lemmas.List.Folds.{find-append}
+use Rattle.llvm_core.proofs.ListLemmas.{slice_get-kept}
+use Rattle.llvm_core.specs.Data.{Operand, Placed, Block, targets}
+use Rattle.dialect_types.specs.Trees.{TypeTree, IntegerAttr}
+use Rattle.dialect_core.specs.declared.numbers.BlockRef.{BlockRef}
+use Rattle.dialect_core.specs.declared.ops.Value.{Value}
+use Rattle.dialect_core.specs.declared.ops.Value.TheVariants.{Result, Argument}
+use Rattle.dialect_core.specs.declared.ops.Successor.{Successor}
+use Rattle.dialect_core.specs.Data.{DialectOp, DialectBlock, Func, Kind, ConstantOp, AddOp, ICmpOp, BrOp, CondBrOp, ReturnOp, UnreachableOp}
+use Rattle.dialect_core.specs.Form.{IsFormFunc, IsFormKind, IsFormEdge, FitsTarget, edges_of, is_constant, is_constant_kind}
+use Rattle.to_llvm_ir.specs.Exported.{number_after, number_behind}
+use Rattle.to_llvm_ir.specs.Made.{Numbers, block_for, operand_for, target_at, instruction_for, inst, insts, phis, block_phis, block_made, blocks_made, passed_to, passed, entry_with, entries_from, number_past}
+use Rattle.to_llvm_ir.specs.Links.{HasTarget}
+use Rattle.to_llvm_ir.proofs.ListLaws.{AreNumbered, all_at, all_from, append_cases, at_behind}
+use Rattle.to_llvm_ir.proofs.LookupLaws.{op_form}
+
+-- ---- blocks by their places
+
+pub made_at : (g : Func) (n : Numbers) (given : Value → List (Operand × ℕ)) (p k : ℕ) (cs : List DialectBlock) (j : ℕ) (c : DialectBlock) → slice_get cs j ≡ Some c
+    → slice_get (blocks_made g n given p k cs) j ≡ Some (block_made g n given (p + j) (number_past k (take j cs)) c)
+made_at g n given p k [] j c at = absurd (none-some c at)
+made_at g n given p k (d ∷ cs) zero c at = ap (λ (x : DialectBlock). Some (block_made g n given p k x)) (same_Some d c at) ∙ ap (λ (q : ℕ). Some (block_made g n given q k c)) (let e : p ≡ p + 0 = omega arith in e)
+made_at g n given p k (d ∷ cs) (suc j) c at =
+    made_at g n given (suc p) (number_behind (k + length d.args) d.ops) cs j c at ∙ ap (λ (q : ℕ). Some (block_made g n given q (number_past (number_behind (k + length d.args) d.ops) (take j cs)) c)) (let e : suc p + j ≡ p + suc j = omega arith in e)
+
+pub made_none : (g : Func) (n : Numbers) (given : Value → List (Operand × ℕ)) (p k : ℕ) (cs : List DialectBlock) (j : ℕ) → slice_get cs j ≡ None → slice_get (blocks_made g n given p k cs) j ≡ None
+made_none g n given p k [] j e = refl
+made_none g n given p k (d ∷ cs) zero e = cc
+made_none g n given p k (d ∷ cs) (suc j) e = made_none g n given (suc p) (number_behind (k + length d.args) d.ops) cs j e
+
+pub made_from : (g : Func) (n : Numbers) (given : Value → List (Operand × ℕ)) (p k : ℕ) (cs : List DialectBlock) (j : ℕ) (b : Block) → slice_get (blocks_made g n given p k cs) j ≡ Some b
+    → (c : DialectBlock) × (slice_get cs j ≡ Some c) × (b ≡ block_made g n given (p + j) (number_past k (take j cs)) c)
+made_from g n given p k cs j b at = by (slice_get cs j) refl
+  where
+    by : (o : Option DialectBlock) → slice_get cs j ≡ o → (c : DialectBlock) × (slice_get cs j ≡ Some c) × (b ≡ block_made g n given (p + j) (number_past k (take j cs)) c)
+    by None e = absurd (none-some b (sym (made_none g n given p k cs j e) ∙ at))
+    by (Some c) e = (c, e, same_Some b _ (sym at ∙ made_at g n given p k cs j c e))
+
+-- numbers of blocks count on
+pub made_numbered : (g : Func) (n : Numbers) (given : Value → List (Operand × ℕ)) (p k : ℕ) (cs : List DialectBlock) → AreNumbered (λ (b : Block). b.number) (blocks_made g n given p k cs)
+made_numbered g n given p k cs i j a b at at' e =
+    let x = made_from g n given p k cs i a at in
+    let y = made_from g n given p k cs j b at' in
+    let e1 : a.number ≡ n.block + (p + i) = ap (λ (z : Block). z.number) x.2 in
+    let e2 : b.number ≡ n.block + (p + j) = ap (λ (z : Block). z.number) y.2 in
+    omega (arith, e, e1, e2)
+
+-- ---- targets
+
+module _ (g : Func) (n : Numbers) where
+  abbrev pub target_for : Successor → ℕ
+  target_for s = block_for g n s.block.0
+
+  one_target : (ss : List Successor) → length ss ≡ 1 → target_at g n ss 0 ∷ [] ≡ map target_for ss
+  one_target [] e = absurd (omega (arith, e))
+  one_target (s ∷ []) e = refl
+  one_target (s ∷ (t ∷ ss)) e = absurd (omega (arith, e))
+
+  two_targets : (ss : List Successor) → length ss ≡ 2 → target_at g n ss 0 ∷ target_at g n ss 1 ∷ [] ≡ map target_for ss
+  two_targets [] e = absurd (omega (arith, e))
+  two_targets (s ∷ []) e = absurd (omega (arith, e))
+  two_targets (s ∷ (t ∷ [])) e = refl
+  two_targets (s ∷ (t ∷ (u ∷ ss))) e = absurd (omega (arith, e))
+
+  no_target : (ss : List Successor) → length ss ≡ 0 → [] ≡ map target_for ss
+  no_target [] e = refl
+  no_target (s ∷ ss) e = absurd (omega (arith, e))
+
+  no_targets : (ss : List Successor) → ss ≡ [] → [] ≡ map target_for ss
+  no_targets ss e = sym (ap (map target_for) e)
+
+  -- an instruction leads where the operation does
+  pub op_targets : (o : DialectOp) (k : Kind) → IsFormKind g o k → targets (instruction_for g n k o.operands o.successors) ≡ map target_for o.successors
+  op_targets o (ConstantOp (IntegerAttr t v)) h = no_targets o.successors h.3
+  op_targets o (AddOp flags) h = no_targets o.successors h.4
+  op_targets o (ICmpOp predicate) h = no_targets o.successors h.4
+  op_targets o BrOp h = one_target o.successors h.1.count_is
+  op_targets o CondBrOp h = two_targets o.successors h.3.count_is
+  op_targets o ReturnOp h = no_target o.successors h.1.count_is
+  op_targets o UnreachableOp h = no_target o.successors h.1.count_is
+
+  pub constant_ends : (o : DialectOp) (k : Kind) → is_constant_kind k ≡ true → IsFormKind g o k → o.successors ≡ []
+  constant_ends o (ConstantOp (IntegerAttr t v)) e h = h.3
+  constant_ends o (AddOp flags) e h = cc
+  constant_ends o (ICmpOp predicate) e h = cc
+  constant_ends o BrOp e h = cc
+  constant_ends o CondBrOp e h = cc
+  constant_ends o ReturnOp e h = cc
+  constant_ends o UnreachableOp e h = cc
+
+  none_form : (o : DialectOp) → o.successors ≡ [] → All (IsFormEdge g) o.successors
+  none_form o e = subst (All (IsFormEdge g)) (sym e) (all_from (IsFormEdge g) [] (λ i s at. absurd (none-some s at)))
+
+  pub op_edges : (o : DialectOp) (k : Kind) → IsFormKind g o k → All (IsFormEdge g) o.successors
+  op_edges o (ConstantOp (IntegerAttr t v)) h = none_form o h.3
+  op_edges o (AddOp flags) h = none_form o h.4
+  op_edges o (ICmpOp predicate) h = none_form o h.4
+  op_edges o BrOp h = h.1.edges
+  op_edges o CondBrOp h = h.3.edges
+  op_edges o ReturnOp h = h.1.edges
+  op_edges o UnreachableOp h = h.1.edges
+
+  abbrev pub leads : Placed → List ℕ
+  leads p = targets p.instruction
+
+  pub insts_lead : (k : ℕ) (os : List DialectOp) → ((i : ℕ) (o : DialectOp) → slice_get os i ≡ Some o → IsFormKind g o o.kind) → flat_map leads (insts g n k os) ≡ map target_for (flat_map (λ (o : DialectOp). o.successors) os)
+  insts_lead k [] h = refl
+  insts_lead k (o ∷ os) h = by (is_constant o) refl (insts_lead (number_after o.result k) os (λ i x at. h (suc i) x at)) ∙ sym (map-append target_for o.successors (flat_map (λ (o : DialectOp). o.successors) os))
+    where
+      by : (t : Bool) → is_constant o ≡ t → flat_map leads (insts g n (number_after o.result k) os) ≡ map target_for (flat_map (λ (o : DialectOp). o.successors) os)
+          → flat_map leads (if t then insts g n (number_after o.result k) os else inst g n k o ∷ insts g n (number_after o.result k) os) ≡ map target_for o.successors ++ map target_for (flat_map (λ (o : DialectOp). o.successors) os)
+      by true e r = r ∙ ap (λ (ss : List Successor). map target_for ss ++ map target_for (flat_map (λ (o : DialectOp). o.successors) os)) (sym (constant_ends o o.kind e (h 0 o refl)))
+      by false e r = ap (λ (ts : List ℕ). targets (instruction_for g n o.kind o.operands o.successors) ++ ts) r ∙ ap (λ (ts : List ℕ). ts ++ map target_for (flat_map (λ (o : DialectOp). o.successors) os)) (op_targets o o.kind (h 0 o refl))
+
+  phis_lead : (given : Value → List (Operand × ℕ)) (b i k : ℕ) (ts : List TypeTree) → flat_map leads (phis g n given b i k ts) ≡ []
+  phis_lead given b i k [] = refl
+  phis_lead given b i k (t ∷ ts) = phis_lead given b (suc i) (k + 1) ts
+
+  block_phis_lead : (given : Value → List (Operand × ℕ)) (p k : ℕ) (c : DialectBlock) → flat_map leads (block_phis g n given p k c) ≡ []
+  block_phis_lead given zero k c = refl
+  block_phis_lead given (suc p) k c = phis_lead given c.number 0 k c.args
+
+  pub block_leads : (form : IsFormFunc g) (given : Value → List (Operand × ℕ)) (p k j : ℕ) (c : DialectBlock) → slice_get g.blocks j ≡ Some c → flat_map leads (block_made g n given p k c).instructions ≡ map target_for (edges_of c)
+  block_leads form given p k j c at =
+      flat_map-append leads (block_phis g n given p k c) (insts g n (k + length c.args) c.ops)
+      ∙ ap (λ (ts : List ℕ). ts ++ flat_map leads (insts g n (k + length c.args) c.ops)) (block_phis_lead given p k c)
+      ∙ insts_lead (k + length c.args) c.ops (λ i o at'. (op_form g form j i c o at at').kind)
+
+-- an edge of a block is one of an operation's
+pub edge_from : (os : List DialectOp) (i : ℕ) (s : Successor) → slice_get (flat_map (λ (o : DialectOp). o.successors) os) i ≡ Some s → (j : ℕ) × (o : DialectOp) × (k : ℕ) × (slice_get os j ≡ Some o) × (slice_get o.successors k ≡ Some s)
+edge_from [] i s at = absurd (none-some s at)
+edge_from (o ∷ os) i s at = ⊎_elim
+    (λ here. (0, o, i, refl, here))
+    (λ later. let r = edge_from os later.0 s later.2 in (suc r.0, r.1, r.2, r.3, r.4))
+    (append_cases o.successors (flat_map (λ (o : DialectOp). o.successors) os) i s at)
+
+-- and one of an operation's is one of the block
+pub edge_among : (os : List DialectOp) (i l : ℕ) (o : DialectOp) (s : Successor) → slice_get os i ≡ Some o → slice_get o.successors l ≡ Some s → (m : ℕ) × (slice_get (flat_map (λ (o : DialectOp). o.successors) os) m ≡ Some s)
+edge_among [] i l o s at at' = absurd (none-some o at)
+edge_among (x ∷ os) zero l o s at at' = (l, slice_get-kept x.successors (flat_map (λ (o : DialectOp). o.successors) os) l s (ap (λ (y : DialectOp). slice_get y.successors l) (same_Some x o at) ∙ at'))
+edge_among (x ∷ os) (suc i) l o s at at' = let r = edge_among os i l o s at at' in (length x.successors + r.0, at_behind x.successors (flat_map (λ (o : DialectOp). o.successors) os) r.0 ∙ r.1)
+
+pub edge_form : (g : Func) (form : IsFormFunc g) (n : Numbers) (j i : ℕ) (c : DialectBlock) (s : Successor) → slice_get g.blocks j ≡ Some c → slice_get (edges_of c) i ≡ Some s → IsFormEdge g s
+edge_form g form n j i c s at at' = let r = edge_from c.ops i s at' in all_at (IsFormEdge g) r.1.successors r.2 s (op_edges g n r.1 r.1.kind (op_form g form j r.0 c r.1 at r.3).kind) r.4
+
+pub edge_target : (g : Func) (s : Successor) → IsFormEdge g s → FitsTarget g s → HasTarget g s
+edge_target g s form fits = by fits.0 fits.2
+  where
+    by : (i : ℕ) → slice_get g.blocks i ≡ Some fits.1 → HasTarget g s
+    by zero at = absurd (form.no_entry fits.1 at (sym fits.3))
+    by (suc i) at = record { place = i; block = fits.1; here = at; number = fits.3; count = fits.4 }
+
+-- ---- what a phi takes on an edge
+
+module _ (g : Func) (n : Numbers) where
+  abbrev pub is_from : ℕ → Operand × ℕ → Bool
+  is_from from e = nat_eq e.1 from
+
+  other_entry : (p from : ℕ) (v : Option Value) → (p ≡ from → ⊥) → find (is_from from) (entry_with g n p v) ≡ None
+  other_entry p from None ne = refl
+  other_entry p from (Some v) ne = cond-false (nat_eq p from) (Some (operand_for g n v, p)) None (ne_eqb p from ne)
+
+  other_passed : (b : BlockRef) (vs : List Value) (p from : ℕ) (v : Value) → (p ≡ from → ⊥) → find (is_from from) (passed_to g n b vs p v) ≡ None
+  other_passed b vs p from (Result r) ne = refl
+  other_passed b vs p from (Argument c i) ne = by (nat_eq c.0 b.0)
+    where
+      by : (t : Bool) → find (is_from from) (if t then entry_with g n p (slice_get vs i) else []) ≡ None
+      by true = other_entry p from (slice_get vs i) ne
+      by false = refl
+
+  pub other_edges : (ss : List Successor) (p from : ℕ) (v : Value) → (p ≡ from → ⊥) → find (is_from from) (passed g n p ss v) ≡ None
+  other_edges [] p from v ne = refl
+  other_edges (s ∷ ss) p from v ne =
+      find-append (is_from from) (passed_to g n s.block s.args p v) (passed g n p ss v)
+      ∙ ap (λ (o : Option (Operand × ℕ)). option_or o (find (is_from from) (passed g n p ss v))) (other_passed s.block s.args p from v ne)
+      ∙ other_edges ss p from v ne
+
+  -- the first edge to the block passes what each of them does
+  pub first_edge : (ss : List Successor) (from i : ℕ) (b : BlockRef) (v : Value) (vs : List Value) (j : ℕ) (s : Successor) → slice_get ss j ≡ Some s → s.block.0 ≡ b.0
+      → ((k : ℕ) (t : Successor) → slice_get ss k ≡ Some t → t.block.0 ≡ b.0 → t.args ≡ vs) → slice_get vs i ≡ Some v → find (is_from from) (passed g n from ss (Argument b i)) ≡ Some (operand_for g n v, from)
+  first_edge [] from i b v vs j s at to same passes = absurd (none-some s at)
+  first_edge (t ∷ ss) from i b v vs j s at to same passes = by (nat_eq b.0 t.block.0) refl (λ k at'. first_edge ss from i b v vs k s at' to (λ l u at''. same (suc l) u at'') passes)
+    where
+      behind : (j : ℕ) → slice_get (t ∷ ss) j ≡ Some s → (t.block.0 ≡ b.0 → ⊥) → (k : ℕ) × (slice_get ss k ≡ Some s)
+      behind zero e ne = absurd (ne (ap (λ (x : Successor). x.block.0) (same_Some t s e) ∙ to))
+      behind (suc k) e ne = (k, e)
+
+      by : (q : Bool) → nat_eq b.0 t.block.0 ≡ q → ((k : ℕ) → slice_get ss k ≡ Some s → find (is_from from) (passed g n from ss (Argument b i)) ≡ Some (operand_for g n v, from))
+          → find (is_from from) ((if q then entry_with g n from (slice_get t.args i) else []) ++ passed g n from ss (Argument b i)) ≡ Some (operand_for g n v, from)
+      by true e later =
+          let args : t.args ≡ vs = same 0 t refl (sym (eqb-true b.0 t.block.0 e)) in
+          ap (λ (ws : List Value). find (is_from from) (entry_with g n from (slice_get ws i) ++ passed g n from ss (Argument b i))) args
+          ∙ ap (λ (o : Option Value). find (is_from from) (entry_with g n from o ++ passed g n from ss (Argument b i))) passes
+          ∙ cond-true (nat_eq from from) (Some (operand_for g n v, from)) (find (is_from from) (passed g n from ss (Argument b i))) (eq-eqb from from refl)
+      by false e later =
+          let ne : t.block.0 ≡ b.0 → ⊥ = λ f. let k = eq-eqb b.0 t.block.0 (sym f) in let never : true ≡ false = sym k ∙ e in cc in
+          let r = behind j at ne in
+          later r.0 r.1
+
+  -- of all entries of a phi, the first that is for the block
+  pub first_entry : (place : ℕ) (cs : List DialectBlock) (j : ℕ) (c : DialectBlock) (from i : ℕ) (b : BlockRef) (v : Value) (vs : List Value) (k : ℕ) (s : Successor) → slice_get cs j ≡ Some c → from ≡ n.block + (place + j)
+      → slice_get (edges_of c) k ≡ Some s → s.block.0 ≡ b.0 → ((l : ℕ) (t : Successor) → slice_get (edges_of c) l ≡ Some t → t.block.0 ≡ b.0 → t.args ≡ vs) → slice_get vs i ≡ Some v
+      → find (is_from from) (entries_from g n place cs (Argument b i)) ≡ Some (operand_for g n v, from)
+  first_entry place [] j c from i b v vs k s at is at' to same passes = absurd (none-some c at)
+  first_entry place (d ∷ cs) zero c from i b v vs k s at is at' to same passes =
+      let e : n.block + place ≡ from = omega (arith, is) in
+      let one : find (is_from from) (passed g n (n.block + place) (edges_of d) (Argument b i)) ≡ Some (operand_for g n v, from) =
+      ap (λ (x : DialectBlock). find (is_from from) (passed g n (n.block + place) (edges_of x) (Argument b i))) (same_Some d c at)
+      ∙ ap (λ (p : ℕ). find (is_from from) (passed g n p (edges_of c) (Argument b i))) e ∙ first_edge (edges_of c) from i b v vs k s at' to same passes in
+      find-append (is_from from) (passed g n (n.block + place) (edges_of d) (Argument b i)) (entries_from g n (suc place) cs (Argument b i))
+      ∙ ap (λ (o : Option (Operand × ℕ)). option_or o (find (is_from from) (entries_from g n (suc place) cs (Argument b i)))) one
+  first_entry place (d ∷ cs) (suc j) c from i b v vs k s at is at' to same passes =
+      let ne : n.block + place ≡ from → ⊥ = λ e. omega (arith, is, e) in
+      find-append (is_from from) (passed g n (n.block + place) (edges_of d) (Argument b i)) (entries_from g n (suc place) cs (Argument b i))
+      ∙ ap (λ (o : Option (Operand × ℕ)). option_or o (find (is_from from) (entries_from g n (suc place) cs (Argument b i)))) (other_edges (edges_of d) (n.block + place) from (Argument b i) ne)
+      ∙ first_entry (suc place) cs j c from i b v vs k s at (is ∙ (let e : n.block + (place + suc j) ≡ n.block + (suc place + j) = omega arith in e)) at' to same passes

@@ -1,0 +1,140 @@
+-- Blocks, operations and values of a function of the form, looked up by their numbers.
+use Rattle.std.proofs.Common.{◌≡◌, ◌+◌, ℕ, zero, suc, Bool, true, false, not, nat_eq, if◌then◌else◌, List, [], ◌∷◌, ◌++◌, Option, Some, length, slice_get, refl, sym, ap, ◌∙◌, arith, ⊎_elim, eq-eqb, ne_eqb}
+use Rattle.std.specs.List.{flat_map, find}
+use Rattle.std.specs.Option.{option_map, option_map_or, option_and_then}
+use Rattle.std.proofs.lemmas.Option.{same_Some, none-some, slice_get-map, option_and_then_some}
+use Rattle.std.proofs.lemmas.Bool.{cond-true}
+use Rattle.llvm_core.proofs.ListLemmas.{slice_get-kept}
+use Rattle.dialect_types.specs.Trees.{TypeTree}
+use Rattle.dialect_core.specs.declared.numbers.BlockRef.{BlockRef}
+use Rattle.dialect_core.specs.declared.numbers.OpRef.{OpRef}
+use Rattle.dialect_core.specs.declared.ops.Value.{Value}
+use Rattle.dialect_core.specs.declared.ops.Value.TheVariants.{Result, Argument}
+use Rattle.dialect_core.specs.Data.{DialectOp, DialectBlock, Func, ops_in, value_type}
+use Rattle.dialect_core.specs.Form.{IsFormFunc, IsFormBlock, IsFormOp, is_constant, others_of}
+use Rattle.meaning.specs.Dialect.{place_of}
+use Rattle.to_llvm_ir.specs.Made.{result, phi_values, result_values, values_from, values, is_entry}
+use Rattle.to_llvm_ir.proofs.ListLaws.{all_at, at_behind, append_cases, find_numbered, found_numbered, position_numbered}
+use Rattle.to_llvm_ir.proofs.PlaceLaws.{argument_at}
+
+-- ---- the operations of blocks
+
+-- an operation of a block is one of all
+pub op_among : (cs : List DialectBlock) (j k : ℕ) (c : DialectBlock) (o : DialectOp) → slice_get cs j ≡ Some c → slice_get c.ops k ≡ Some o → (i : ℕ) × (slice_get (flat_map (λ (c : DialectBlock). c.ops) cs) i ≡ Some o)
+op_among [] j k c o at at' = absurd (none-some c at)
+op_among (d ∷ cs) zero k c o at at' = (k, slice_get-kept d.ops (flat_map (λ (c : DialectBlock). c.ops) cs) k o (ap (λ (x : DialectBlock). slice_get x.ops k) (same_Some d c at) ∙ at'))
+op_among (d ∷ cs) (suc j) k c o at at' = let r = op_among cs j k c o at at' in (length d.ops + r.0, at_behind d.ops (flat_map (λ (c : DialectBlock). c.ops) cs) r.0 ∙ r.1)
+
+-- one of all is an operation of a block
+pub op_of_block : (cs : List DialectBlock) (i : ℕ) (o : DialectOp) → slice_get (flat_map (λ (c : DialectBlock). c.ops) cs) i ≡ Some o → (j : ℕ) × (k : ℕ) × (c : DialectBlock) × (slice_get cs j ≡ Some c) × (slice_get c.ops k ≡ Some o)
+op_of_block [] i o at = absurd (none-some o at)
+op_of_block (d ∷ cs) i o at = ⊎_elim
+    (λ here. (0, i, d, refl, here))
+    (λ later. let r = op_of_block cs later.0 o later.2 in (suc r.0, r.1, r.2, r.3, r.4))
+    (append_cases d.ops (flat_map (λ (c : DialectBlock). c.ops) cs) i o at)
+
+-- ---- values by their places
+
+other_at : (os : List DialectOp) (k : ℕ) (o : DialectOp) → slice_get os k ≡ Some o → is_constant o ≡ false → (i : ℕ) × (slice_get (others_of os) i ≡ Some o)
+other_at [] k o at other = absurd (none-some o at)
+other_at (x ∷ os) zero o at other =
+    let same : x ≡ o = same_Some x o at in
+    (0, ap (λ (xs : List DialectOp). slice_get xs 0) (cond-true (not (is_constant x)) (x ∷ others_of os) (others_of os) (ap not (ap is_constant same ∙ other))) ∙ ap Some same)
+other_at (x ∷ os) (suc k) o at other = by (is_constant x) (other_at os k o at other)
+  where
+    by : (t : Bool) → (i : ℕ) × (slice_get (others_of os) i ≡ Some o) → (i : ℕ) × (slice_get (if not t then x ∷ others_of os else others_of os) i ≡ Some o)
+    by true r = r
+    by false r = (suc r.0, r.1)
+
+-- what a block gives stands behind what those before it give
+pub among_values : (p : ℕ) (cs : List DialectBlock) (j i : ℕ) (c : DialectBlock) (v : Value) → slice_get cs j ≡ Some c → slice_get (phi_values (p + j) c ++ result_values c.ops) i ≡ Some v → (k : ℕ) × (slice_get (values_from p cs) k ≡ Some v)
+among_values p [] j i c v at at' = absurd (none-some c at)
+among_values p (d ∷ cs) zero i c v at at' =
+    let here : slice_get (phi_values p d ++ result_values d.ops) i ≡ Some v = ap (λ (x : DialectBlock). slice_get (phi_values p x ++ result_values x.ops) i) (same_Some d c at) ∙ ap (λ (q : ℕ). slice_get (phi_values q c ++ result_values c.ops) i) (let e : p ≡ p + 0 = omega arith in e) ∙ at' in
+    (i, slice_get-kept (phi_values p d ++ result_values d.ops) (values_from (suc p) cs) i v here)
+among_values p (d ∷ cs) (suc j) i c v at at' =
+    let r = among_values (suc p) cs j i c v at (ap (λ (q : ℕ). slice_get (phi_values q c ++ result_values c.ops) i) (let e : suc p + j ≡ p + suc j = omega arith in e) ∙ at') in
+    (length (phi_values p d ++ result_values d.ops) + r.0, at_behind (phi_values p d ++ result_values d.ops) (values_from (suc p) cs) r.0 ∙ r.1)
+
+pub argument_among : (g : Func) (j i : ℕ) (c : DialectBlock) (t : TypeTree) → slice_get g.blocks (suc j) ≡ Some c → slice_get c.args i ≡ Some t → (k : ℕ) × (slice_get (values g) k ≡ Some (Argument (record { 0 = c.number }) i))
+argument_among g j i c t at at' =
+    among_values 0 g.blocks (suc j) i c (Argument (record { 0 = c.number }) i) at
+    (slice_get-kept (phi_values (0 + suc j) c) (result_values c.ops) i (Argument (record { 0 = c.number }) i)
+    (ap (λ (q : ℕ). slice_get (phi_values q c) i) (let e : 0 + suc j ≡ suc j = omega arith in e) ∙ argument_at c.number 0 c.args i t at' ∙ ap (λ (m : ℕ). Some (Argument (record { 0 = c.number }) m)) (let e : 0 + i ≡ i = omega arith in e)))
+
+pub result_among : (g : Func) (j k : ℕ) (c : DialectBlock) (o : DialectOp) → slice_get g.blocks j ≡ Some c → slice_get c.ops k ≡ Some o → is_constant o ≡ false → (i : ℕ) × (slice_get (values g) i ≡ Some (result o))
+result_among g j k c o at at' other =
+    let r = other_at c.ops k o at' other in
+    among_values 0 g.blocks j (length (phi_values (0 + j) c) + r.0) c (result o) at
+    (at_behind (phi_values (0 + j) c) (result_values c.ops) r.0 ∙ slice_get-map result (others_of c.ops) r.0 ∙ ap (option_map result) r.1)
+
+-- ---- what the form says
+
+module _ (g : Func) (form : IsFormFunc g) where
+  pub block_form : (j : ℕ) (c : DialectBlock) → slice_get g.blocks j ≡ Some c → IsFormBlock g c
+  block_form j c at = all_at (IsFormBlock g) g.blocks j c form.blocks at
+
+  pub op_form : (j k : ℕ) (c : DialectBlock) (o : DialectOp) → slice_get g.blocks j ≡ Some c → slice_get c.ops k ≡ Some o → IsFormOp g o
+  op_form j k c o at at' = all_at (IsFormOp g) c.ops k o (block_form j c at).ops at'
+
+  pub block_found : (j b : ℕ) (c : DialectBlock) → slice_get g.blocks j ≡ Some c → c.number ≡ b → find (λ (x : DialectBlock). nat_eq x.number b) g.blocks ≡ Some c
+  block_found j b c at is = find_numbered (λ (x : DialectBlock). x.number) g.blocks j b c form.block_numbers at is
+
+  pub argument_type : (j i : ℕ) (b : BlockRef) (c : DialectBlock) → slice_get g.blocks j ≡ Some c → c.number ≡ b.0 → value_type g (Argument b i) ≡ slice_get c.args i
+  argument_type j i b c at is = ap (option_and_then (λ (x : DialectBlock). slice_get x.args i)) (block_found j b.0 c at is)
+
+  pub op_found : (j k r : ℕ) (c : DialectBlock) (o : DialectOp) → slice_get g.blocks j ≡ Some c → slice_get c.ops k ≡ Some o → o.number ≡ r → find (λ (x : DialectOp). nat_eq x.number r) (ops_in g) ≡ Some o
+  op_found j k r c o at at' is = let i = op_among g.blocks j k c o at at' in find_numbered (λ (x : DialectOp). x.number) (ops_in g) i.0 r o form.numbers i.1 is
+
+  pub result_type : (j k : ℕ) (r : OpRef) (c : DialectBlock) (o : DialectOp) → slice_get g.blocks j ≡ Some c → slice_get c.ops k ≡ Some o → o.number ≡ r.0 → value_type g (Result r) ≡ o.result
+  result_type j k r c o at at' is = ap (option_and_then (λ (x : DialectOp). x.result)) (op_found j k r.0 c o at at' is)
+
+  pub place_is : (j b : ℕ) (c : DialectBlock) → slice_get g.blocks j ≡ Some c → c.number ≡ b → place_of g.blocks b ≡ j
+  place_is j b c at is =
+      ap (λ (o : Option ℕ). option_map_or (λ i. i) o (length g.blocks)) (position_numbered (λ (x : DialectBlock). x.number) g.blocks j b 0 c form.block_numbers at is) ∙ (let e : 0 + j ≡ j = omega arith in e)
+
+  pub entry_at : slice_get g.blocks 0 ≡ Some form.entry
+  entry_at = ap (λ (bs : List DialectBlock). slice_get bs 0) form.body
+
+  pub first_is_entry : (c : DialectBlock) → slice_get g.blocks 0 ≡ Some c → c ≡ form.entry
+  first_is_entry c at = same_Some c form.entry (sym at ∙ entry_at)
+
+  pub entry_is : (b : ℕ) (c : DialectBlock) → slice_get g.blocks 0 ≡ Some c → c.number ≡ b → is_entry g b ≡ true
+  entry_is b c at is = ap (λ (o : Option DialectBlock). option_map_or (λ (x : DialectBlock). nat_eq x.number b) o false) at ∙ eq-eqb c.number b is
+
+  pub entry_is_not : (j b : ℕ) (c : DialectBlock) → slice_get g.blocks (suc j) ≡ Some c → c.number ≡ b → is_entry g b ≡ false
+  entry_is_not j b c at is =
+      ap (λ (o : Option DialectBlock). option_map_or (λ (x : DialectBlock). nat_eq x.number b) o false) entry_at
+      ∙ ne_eqb form.entry.number b (λ e. let k : 0 ≡ suc j = form.block_numbers 0 (suc j) form.entry c entry_at at (e ∙ sym is) in omega (arith, k))
+
+  -- ---- where a typed value stands
+
+  pub record IsArgumentOf (b : BlockRef) (i : ℕ) (t : TypeTree) : Type 0 where
+    pub place : ℕ
+    pub block : DialectBlock
+    pub here : slice_get g.blocks place ≡ Some block
+    pub number : block.number ≡ b.0
+    pub type : slice_get block.args i ≡ Some t
+
+  pub argument_of : (b : BlockRef) (i : ℕ) (t : TypeTree) → value_type g (Argument b i) ≡ Some t → IsArgumentOf b i t
+  argument_of b i t e = option_and_then_some (λ (x : DialectBlock). slice_get x.args i) (find (λ (x : DialectBlock). nat_eq x.number b.0) g.blocks) t e (λ c at type.
+      let f = found_numbered (λ (x : DialectBlock). x.number) g.blocks b.0 c at in
+      let r : IsArgumentOf b i t = record { place = f.0; block = c; here = f.1; number = f.2; type = type } in
+      r)
+
+  pub record IsResultOf (r : OpRef) (t : TypeTree) : Type 0 where
+    pub place : ℕ
+    pub block : DialectBlock
+    pub here : slice_get g.blocks place ≡ Some block
+    pub at : ℕ
+    pub op : DialectOp
+    pub there : slice_get block.ops at ≡ Some op
+    pub number : op.number ≡ r.0
+    pub type : op.result ≡ Some t
+
+  pub result_of : (r : OpRef) (t : TypeTree) → value_type g (Result r) ≡ Some t → IsResultOf r t
+  result_of r t e = option_and_then_some (λ (x : DialectOp). x.result) (find (λ (x : DialectOp). nat_eq x.number r.0) (ops_in g)) t e (λ o at type.
+      let f = found_numbered (λ (x : DialectOp). x.number) (ops_in g) r.0 o at in
+      let b = op_of_block g.blocks f.0 o f.1 in
+      let h : IsResultOf r t = record { place = b.0; block = b.2; here = b.3; at = b.1; op = o; there = b.4; number = f.2; type = type } in
+      h)

@@ -1,0 +1,240 @@
+-- What the context tells of an operation, and what its form says then.
+use Rattle.std.proofs.Common.{◌≡◌, ◌<◌, ◌^◌, ℕ, zero, suc, true, false, List, [], ◌∷◌, Option, Some, None, length, slice_get, get_or, refl, sym, ap, subst, ◌∙◌}
+use Rattle.std.specs.Prelude.{IsErrAnd, IfErr, Result}
+use Rattle.std.specs.List.{Contains, flat_map}
+use Rattle.std.specs.Option.{option_map, option_and_then}
+use Rattle.std.proofs.lemmas.Result.{err_from_is_err_and}
+use Rattle.std.proofs.lemmas.Option.{same_Some, none-some, get_or_from_slice_get, slice_get_within}
+use Rattle.std.proofs.lemmas.List.Elements.{Contains-append_left, Contains-append_right}
+use Rattle.llvm_core.specs.declared.numbers.LLVMType.{LLVMType}
+use Rattle.llvm_core.specs.declared.types.LLVMTypeKind.TheVariants as T
+use Rattle.llvm_core.specs.declared.code.LLVMValue.{LLVMValue}
+use Rattle.llvm_core.specs.Module.{Module}
+use Rattle.llvm_core.specs.Sound.{IsModule}
+use Rattle.llvm_core.specs.Parts.{IsValue}
+use Rattle.llvm_core.specs.Data as L
+use Rattle.llvm_core.specs.Data.{trees_of, operand_of}
+use Rattle.dialect_types.specs.declared.types.TypeHandle.{TypeHandle}
+use Rattle.dialect_types.specs.declared.attrs.ConstAttr.{ConstAttr}
+use Rattle.dialect_types.specs.declared.attrs.ConstAttr.TheVariants as A
+use Rattle.dialect_types.specs.Trees.{TypeTree, VoidType, IntegerType, FuncType, IntegerAttr, type_at, type_trees, attr_tree}
+use Rattle.dialect_core.specs.declared.numbers.OpRef.{OpRef}
+use Rattle.dialect_core.specs.declared.ops.Value.{Value}
+use Rattle.dialect_core.specs.declared.ops.Successor.{Successor}
+use Rattle.dialect_core.specs.declared.ops.OpKind.{OpKind}
+use Rattle.dialect_core.specs.declared.ops.OpKind.TheVariants as K
+use Rattle.dialect_core.specs.declared.ops.OpData.{OpData}
+use Rattle.dialect_core.specs.ContextData.{ContextData, kind_at}
+use Rattle.dialect_core.specs.Data.{HasKindTypesBelow, IsTyped, Kind, ConstantOp, AddOp, ICmpOp, BrOp, CondBrOp, ReturnOp, UnreachableOp, DialectOp, kind_of, op_of, op_at, value_type}
+use Rattle.dialect_core.specs.Form.{IsShortInt, IsFitting, IsFormKind, IsFormOp, uses_of, is_constant, is_constant_kind}
+use Rattle.meaning.specs.Dialect.{type_of}
+use Rattle.to_llvm_ir.specs.Growth.{HasType, IsTypeOf}
+use Rattle.to_llvm_ir.specs.Made.{result}
+use Rattle.to_llvm_ir.specs.States.{Spot, IsSpot, IsUsed, IsUse}
+use Rattle.to_llvm_ir.proofs.ListLaws.{contains_at}
+use Rattle.to_llvm_ir.proofs.LookupLaws.{op_form, result_type}
+use Rattle.to_llvm_ir.proofs.GrowthLaws.{int_at, value_there}
+
+-- ---- results
+
+-- an error that is passed on
+pub passed : {T E : Type 0} (r : Result T E) (e : E) (P : E → Type 0) → IsErrAnd r (λ y. y ≡ e) → P e → IfErr r P
+passed r e P h p = let q = err_from_is_err_and r h in rw q.1 (subst P (sym q.2) p)
+
+-- ---- what the context has under the number of an operation
+
+pub record OpParts (ts : List TypeTree) (ops : List OpData) (op : OpRef) (o : DialectOp) : Type 0 where
+  pub kept : OpData
+  pub there : slice_get ops op.0 ≡ Some kept
+  pub kind : kind_of ts kept.kind ≡ Some o.kind
+  pub number : o.number ≡ op.0
+  pub name : o.name ≡ kept.name
+  pub operands : o.operands ≡ kept.operands
+  pub successors : o.successors ≡ kept.successors
+  pub result : o.result ≡ option_map (type_at ts) kept.result
+
+pub op_parts : (ts : List TypeTree) (ops : List OpData) (op : OpRef) (o : DialectOp) → op_at ts ops op ≡ Some o → OpParts ts ops op o
+op_parts ts ops op o h = by (slice_get ops op.0) refl h
+  where
+    made : (x : OpData) (k : Option Kind) → slice_get ops op.0 ≡ Some x → kind_of ts x.kind ≡ k
+        → option_map (λ (k : Kind). let o : DialectOp = record { number = op.0; name = x.name; kind = k; operands = x.operands; successors = x.successors; result = option_map (type_at ts) x.result } in o) k ≡ Some o → OpParts ts ops op o
+    made x None e f g = absurd (none-some o g)
+    made x (Some k) e f g =
+        let is = same_Some _ o g in
+        record {
+          kept = x;
+          there = e;
+          kind = f ∙ ap (λ (y : DialectOp). Some y.kind) is;
+          number = ap (λ (y : DialectOp). y.number) (sym is);
+          name = ap (λ (y : DialectOp). y.name) (sym is);
+          operands = ap (λ (y : DialectOp). y.operands) (sym is);
+          successors = ap (λ (y : DialectOp). y.successors) (sym is);
+          result = ap (λ (y : DialectOp). y.result) (sym is);
+        }
+
+    by : (x : Option OpData) → slice_get ops op.0 ≡ x → option_and_then (op_of ts op) x ≡ Some o → OpParts ts ops op o
+    by None e g = absurd (none-some o g)
+    by (Some x) e g = made x (kind_of ts x.kind) e refl g
+
+pub kind_is : (ts : List TypeTree) (ops : List OpData) (op : OpRef) (o : DialectOp) (k : OpKind) → OpParts ts ops op o → kind_at ops op ≡ Some k → kind_of ts k ≡ Some o.kind
+kind_is ts ops op o k h at =
+    let same : h.kept.kind ≡ k = same_Some h.kept.kind k (ap (option_map (λ (x : OpData). x.kind)) (sym h.there) ∙ at) in
+    ap (kind_of ts) (sym same) ∙ h.kind
+
+pub operands_are : (ts : List TypeTree) (ops : List OpData) (op : OpRef) (o : DialectOp) (vs : List Value) → OpParts ts ops op o → option_map (λ (x : OpData). x.operands) (slice_get ops op.0) ≡ Some vs → o.operands ≡ vs
+operands_are ts ops op o vs h at = h.operands ∙ same_Some h.kept.operands vs (ap (option_map (λ (x : OpData). x.operands)) (sym h.there) ∙ at)
+
+pub successors_are : (ts : List TypeTree) (ops : List OpData) (op : OpRef) (o : DialectOp) (ss : List Successor) → OpParts ts ops op o → option_map (λ (x : OpData). x.successors) (slice_get ops op.0) ≡ Some ss → o.successors ≡ ss
+successors_are ts ops op o ss h at = h.successors ∙ same_Some h.kept.successors ss (ap (option_map (λ (x : OpData). x.successors)) (sym h.there) ∙ at)
+
+pub name_is : (ts : List TypeTree) (ops : List OpData) (op : OpRef) (o : DialectOp) (n : Option (List ℕ)) → OpParts ts ops op o → option_map (λ (x : OpData). x.name) (slice_get ops op.0) ≡ Some n → o.name ≡ n
+name_is ts ops op o n h at = h.name ∙ same_Some h.kept.name n (ap (option_map (λ (x : OpData). x.name)) (sym h.there) ∙ at)
+
+pub result_is : (ts : List TypeTree) (ops : List OpData) (op : OpRef) (o : DialectOp) (r : Option TypeHandle) → OpParts ts ops op o → option_map (λ (x : OpData). x.result) (slice_get ops op.0) ≡ Some r → o.result ≡ option_map (type_at ts) r
+result_is ts ops op o r h at = h.result ∙ ap (option_map (type_at ts)) (same_Some h.kept.result r (ap (option_map (λ (x : OpData). x.result)) (sym h.there) ∙ at))
+
+-- ---- the form at a spot
+
+pub spot_form : (c : ContextData) (op : OpRef) (s : Spot) → IsSpot c op s → IsFormOp s.task.source s.op
+spot_form c op s h = op_form s.task.source h.task.form s.place s.at s.block s.op h.here h.there
+
+pub spot_parts : (c : ContextData) (op : OpRef) (s : Spot) → IsSpot c op s → OpParts (type_trees c.types) c.ops op s.op
+spot_parts c op s h = op_parts (type_trees c.types) c.ops op s.op h.is
+
+-- the kind of the operation, and what it asks
+pub spot_kind : (c : ContextData) (op : OpRef) (s : Spot) (k : OpKind) (kind : Kind) → IsSpot c op s → kind_at c.ops op ≡ Some k → kind_of (type_trees c.types) k ≡ Some kind → (s.op.kind ≡ kind) × IsFormKind s.task.source s.op kind
+spot_kind c op s k kind h at is =
+    let same : s.op.kind ≡ kind = same_Some s.op.kind kind (sym (kind_is (type_trees c.types) c.ops op s.op k (spot_parts c op s h) at) ∙ is) in
+    (same, subst (IsFormKind s.task.source s.op) same (spot_form c op s h).kind)
+
+pub spot_type : (c : ContextData) (op : OpRef) (s : Spot) → IsSpot c op s → value_type s.task.source (result s.op) ≡ s.op.result
+spot_type c op s h = result_type s.task.source h.task.form s.place s.at (record { 0 = s.op.number }) s.block s.op h.here h.there refl
+
+-- ---- operands by their places
+
+-- the operand at a place of a list that the context answered
+pub used_at : (s : Spot) (xs : List Value) (i : ℕ) (d v : Value) (type : TypeTree) → s.op.operands ≡ xs → slice_get s.op.operands i ≡ Some v → value_type s.task.source v ≡ Some type → IsUsed s (get_or xs i d) type
+used_at s xs i d v type are at typed =
+    let is : get_or xs i d ≡ v = get_or_from_slice_get xs i v d (ap (λ (ys : List Value). slice_get ys i) (sym are) ∙ at) in
+    record {
+      among = subst (Contains (uses_of s.op)) (sym is) (Contains-append_left s.op.operands (flat_map (λ (e : Successor). e.args) s.op.successors) v (contains_at s.op.operands i v at));
+      typed = ap (value_type s.task.source) is ∙ typed;
+    }
+
+pub use_at : (s : Spot) (m : Module) (xs : List Value) (i : ℕ) (d v : Value) (type : TypeTree) (x : LLVMValue) → s.op.operands ≡ xs → slice_get s.op.operands i ≡ Some v → IsUse s m (get_or xs i d) type x → IsUse s m v type x
+use_at s m xs i d v type x are at h = subst (λ (w : Value). IsUse s m w type x) (get_or_from_slice_get xs i v d (ap (λ (ys : List Value). slice_get ys i) (sym are) ∙ at)) h
+
+pub operand_count : (s : Spot) (xs : List Value) (i : ℕ) (v : Value) → s.op.operands ≡ xs → slice_get s.op.operands i ≡ Some v → i < length xs
+operand_count s xs i v are at = slice_get_within xs i v (ap (λ (ys : List Value). slice_get ys i) (sym are) ∙ at)
+
+-- a value that an edge passes
+pub passed_used : (s : Spot) (l i : ℕ) (e : Successor) (v : Value) (type : TypeTree) → slice_get s.op.successors l ≡ Some e → slice_get e.args i ≡ Some v → value_type s.task.source v ≡ Some type → IsUsed s v type
+passed_used s l i e v type at at' typed = record {
+  among = Contains-append_right s.op.operands (flat_map (λ (e : Successor). e.args) s.op.successors) v (among s.op.successors l at);
+  typed = typed;
+}
+  where
+    among : (ss : List Successor) (l : ℕ) → slice_get ss l ≡ Some e → Contains (flat_map (λ (e : Successor). e.args) ss) v
+    among [] l at = absurd (none-some e at)
+    among (t ∷ ss) zero at = Contains-append_left t.args (flat_map (λ (e : Successor). e.args) ss) v (contains_at t.args i v (ap (λ (x : Successor). slice_get x.args i) (same_Some t e at) ∙ at'))
+    among (t ∷ ss) (suc l) at = Contains-append_right t.args (flat_map (λ (e : Successor). e.args) ss) v (among ss l at)
+
+pub typed_there : (m : Module) (x : LLVMValue) (tree : L.TypeTree) → IsModule m → HasType m x tree → IsValue m x
+typed_there m x tree s h = value_there m x h.0 s h.1
+
+-- an integer of the dialect becomes one of LLVM
+pub short_is : (type : TypeTree) → IsShortInt type → (w : ℕ) × (type_of type ≡ L.IntType w)
+short_is VoidType h = absurd h
+short_is (IntegerType w) h = (w, refl)
+short_is (FuncType r ps v) h = absurd h
+
+-- ---- constants
+
+pub record ConstantParts (o : DialectOp) (type : TypeTree) (value : ℕ) : Type 0 where
+  pub kind : o.kind ≡ ConstantOp (IntegerAttr type value)
+  pub constant : is_constant o ≡ true
+  pub width : ℕ
+  pub type_is : type ≡ IntegerType width
+  pub short : IsShortInt type
+  pub fits : value < 2 ^ width
+  pub result : o.result ≡ Some type
+  pub operands : o.operands ≡ []
+  pub successors : o.successors ≡ []
+
+pub constant_parts : (c : ContextData) (op : OpRef) (s : Spot) (value : ConstAttr) (ty : TypeHandle) (n : ℕ) → IsSpot c op s → kind_at c.ops op ≡ Some (K.Constant value) → value ≡ A.Integer ty n → ConstantParts s.op (type_at (type_trees c.types) ty) n
+constant_parts c op s value ty n h at value_is =
+    let ts = type_trees c.types in
+    let k = spot_kind c op s (K.Constant value) (ConstantOp (IntegerAttr (type_at ts ty) n)) h at (ap (λ (v : ConstAttr). Some (ConstantOp (attr_tree ts v))) value_is) in
+    let width = wide (type_at ts ty) k.1.0 k.1.1 in
+    record { kind = k.0; constant = ap is_constant_kind k.0; width = width.0; type_is = width.1; short = k.1.0; fits = width.2; result = k.1.4; operands = k.1.2; successors = k.1.3 }
+  where
+    wide : (type : TypeTree) → IsShortInt type → IsFitting type n → (w : ℕ) × (type ≡ IntegerType w) × (n < 2 ^ w)
+    wide VoidType short fits = absurd short
+    wide (IntegerType w) short fits = (w, refl, fits)
+    wide (FuncType r ps v) short fits = absurd short
+
+-- the number of its type is there
+pub constant_type_there : (c : ContextData) (op : OpRef) (value : ConstAttr) (ty : TypeHandle) (n : ℕ) → IsTyped c → kind_at c.ops op ≡ Some (K.Constant value) → value ≡ A.Integer ty n → ty.0 < length c.types
+constant_type_there c op value ty n typed at value_is = by (slice_get c.ops op.0) refl at
+  where
+    by : (x : Option OpData) → slice_get c.ops op.0 ≡ x → option_map (λ (x : OpData). x.kind) x ≡ Some (K.Constant value) → ty.0 < length c.types
+    by None e f = absurd (none-some _ f)
+    by (Some x) e f =
+        let kind : x.kind ≡ K.Constant (A.Integer ty n) = same_Some x.kind (K.Constant value) f ∙ ap K.Constant value_is in
+        subst (HasKindTypesBelow (length c.types)) kind (typed.ops op.0 x e).kind
+
+-- the constant of LLVM fits its type
+pub constant_fits : (m : Module) (o : DialectOp) (type : TypeTree) (value from : ℕ) (ty : LLVMType) → IsModule m → ConstantParts o type value → IsTypeOf m ty (type_of type) → from ≡ value → (w : ℕ) × (slice_get m.types ty.0 ≡ Some (T.Int w)) × (from < 2 ^ w)
+constant_fits m o type value from ty s parts ty_is from_is =
+    (parts.width, int_at m ty parts.width s (subst (λ (x : TypeTree). IsTypeOf m ty (type_of x)) parts.type_is ty_is), subst (λ (n : ℕ). n < 2 ^ parts.width) (sym from_is) parts.fits)
+
+-- ---- which kinds are operations of a block
+
+pub op_there : (ts : List TypeTree) (ops : List OpData) (op : OpRef) (k : OpKind) (kind : Kind) → kind_at ops op ≡ Some k → kind_of ts k ≡ Some kind → (o : DialectOp) × (op_at ts ops op ≡ Some o)
+op_there ts ops op k kind at is = by (slice_get ops op.0) at
+  where
+    by : (x : Option OpData) → option_map (λ (x : OpData). x.kind) x ≡ Some k → (o : DialectOp) × (option_and_then (op_of ts op) x ≡ Some o)
+    by None e = absurd (none-some k e)
+    by (Some x) e = (_, ap (option_map _) (ap (kind_of ts) (same_Some x.kind k e) ∙ is))
+
+pub op_missing : (ts : List TypeTree) (ops : List OpData) (op : OpRef) (k : OpKind) → kind_at ops op ≡ Some k → kind_of ts k ≡ None → op_at ts ops op ≡ None
+op_missing ts ops op k at is = by (slice_get ops op.0) at
+  where
+    by : (x : Option OpData) → option_map (λ (x : OpData). x.kind) x ≡ Some k → option_and_then (op_of ts op) x ≡ None
+    by None e = refl
+    by (Some x) e = ap (option_map _) (ap (kind_of ts) (same_Some x.kind k e) ∙ is)
+
+-- any other kind than a module's and a function's is one of a block's operation
+pub kind_there : (ts : List TypeTree) (k : OpKind) → (k ≡ K.Module → ⊥) → (k ≡ K.Func → ⊥) → (kind : Kind) × (kind_of ts k ≡ Some kind)
+kind_there ts K.Module h f = absurd (h refl)
+kind_there ts K.Func h f = absurd (f refl)
+kind_there ts (K.Constant value) h f = (ConstantOp (attr_tree ts value), refl)
+kind_there ts (K.Add flags) h f = (AddOp flags, refl)
+kind_there ts (K.ICmp predicate) h f = (ICmpOp predicate, refl)
+kind_there ts K.Br h f = (BrOp, refl)
+kind_there ts K.CondBr h f = (CondBrOp, refl)
+kind_there ts K.Return h f = (ReturnOp, refl)
+kind_there ts K.Unreachable h f = (UnreachableOp, refl)
+
+kind_other : (ts : List TypeTree) (k : OpKind) (kind : Kind) → ((value : ConstAttr) → k ≡ K.Constant value → ⊥) → kind_of ts k ≡ Some kind → is_constant_kind kind ≡ false
+kind_other ts K.Module kind h e = absurd (none-some kind e)
+kind_other ts K.Func kind h e = absurd (none-some kind e)
+kind_other ts (K.Constant value) kind h e = absurd (h value refl)
+kind_other ts (K.Add flags) kind h e = ap is_constant_kind (sym (same_Some (AddOp flags) kind e))
+kind_other ts (K.ICmp predicate) kind h e = ap is_constant_kind (sym (same_Some (ICmpOp predicate) kind e))
+kind_other ts K.Br kind h e = ap is_constant_kind (sym (same_Some BrOp kind e))
+kind_other ts K.CondBr kind h e = ap is_constant_kind (sym (same_Some CondBrOp kind e))
+kind_other ts K.Return kind h e = ap is_constant_kind (sym (same_Some ReturnOp kind e))
+kind_other ts K.Unreachable kind h e = ap is_constant_kind (sym (same_Some UnreachableOp kind e))
+
+-- and where it is no constant's, the operation is none
+pub spot_other : (c : ContextData) (op : OpRef) (s : Spot) (k : OpKind) → IsSpot c op s → kind_at c.ops op ≡ Some k → ((value : ConstAttr) → k ≡ K.Constant value → ⊥) → is_constant s.op ≡ false
+spot_other c op s k h at other = kind_other (type_trees c.types) k s.op.kind other (kind_is (type_trees c.types) c.ops op s.op k (spot_parts c op s h) at)
+
+-- there is no spot where the context has a module or a function
+pub no_spot : (c : ContextData) (op : OpRef) (s : Spot) (k : OpKind) → IsSpot c op s → kind_at c.ops op ≡ Some k → kind_of (type_trees c.types) k ≡ None → ⊥
+no_spot c op s k h at none = none-some s.op (sym (op_missing (type_trees c.types) c.ops op k at none) ∙ h.is)
+
+-- a constant has neither operands nor successors
+pub constant_bare : (c : ContextData) (op : OpRef) (s : Spot) (value : ConstAttr) → IsSpot c op s → kind_at c.ops op ≡ Some (K.Constant value) → (s.op.operands ≡ []) × (s.op.successors ≡ []) × (is_constant s.op ≡ true)
+constant_bare c op s (A.Integer ty n) h at = let p = constant_parts c op s (A.Integer ty n) ty n h at refl in (p.operands, p.successors, p.constant)

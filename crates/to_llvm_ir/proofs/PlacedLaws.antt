@@ -1,0 +1,230 @@
+-- The instructions of the function that is made: one for each value, in order.
+use Rattle.std.proofs.Common.{◌≡◌, ◌+◌, ℕ, zero, suc, Bool, true, false, not, nat_eq, if◌then◌else◌, List, [], ◌∷◌, ◌++◌, Option, Some, All, length, map, slice_get, refl, sym, ap, subst, ◌∙◌, arith, eq-eqb}
+use Rattle.std.specs.List.{flat_map}
+use Rattle.std.specs.Option.{option_map_or}
+use Rattle.std.proofs.lemmas.Option.{same_Some, none-some, slice_get_within}
+use Rattle.std.proofs.lemmas.Bool.{cond-true, cond-false}
+use Rattle.std.proofs.lemmas.List.{length-map}
+use Rattle.llvm_core.specs.Interned.{IsDistinctList}
+use Rattle.llvm_core.specs.Data as L
+use Rattle.llvm_core.specs.Data.{Operand, Placed, Block, Function, placed_in, operand_type}
+use Rattle.llvm_core.specs.Form as F
+use Rattle.dialect_types.specs.Trees.{TypeTree, TypeTrees, VoidType, IntegerType, FuncType, NoTypes, ThenType, AttrTree, IntegerAttr}
+use Rattle.dialect_core.specs.declared.numbers.BlockRef.{BlockRef}
+use Rattle.dialect_core.specs.declared.numbers.OpRef.{OpRef}
+use Rattle.dialect_core.specs.declared.ops.Value.{Value}
+use Rattle.dialect_core.specs.declared.ops.Value.TheVariants.{Result, Argument}
+use Rattle.dialect_core.specs.Data.{DialectOp, DialectBlock, Func, Kind, ConstantOp, AddOp, ICmpOp, BrOp, CondBrOp, ReturnOp, UnreachableOp, value_type}
+use Rattle.dialect_core.specs.Form.{IsFormFunc, IsFormKind, IsShortInt, IsFitting, IsOperand, is_constant, is_constant_kind, others_of, types_list}
+use Rattle.meaning.specs.Pairs.{Matched}
+use Rattle.meaning.specs.Dialect.{type_of, types_of, option_type}
+use Rattle.to_llvm_ir.specs.Exported.{number_after, number_behind}
+use Rattle.to_llvm_ir.specs.Made.{Numbers, result, arguments_from, phi_values, result_values, values_from, values, const_of, constant_or, is_entry, number_of, operand_for, inst, insts, phis, block_phis, block_made, blocks_made, function_made, entry_args}
+use Rattle.to_llvm_ir.proofs.ListLaws.{AreNumbered, find_numbered, all_at}
+use Rattle.to_llvm_ir.proofs.PlaceLaws.{place_at, from_distinct}
+use Rattle.to_llvm_ir.proofs.LookupLaws.{argument_type, result_type, argument_of, result_of, argument_among, result_among, op_found, op_form, entry_at, entry_is, entry_is_not, first_is_entry, IsResultOf}
+
+-- ---- matched lists
+
+pub matched_append : {A B : Type 0} (P : A → B → Type 0) (xs us : List A) (ys vs : List B) → Matched P xs ys → Matched P us vs → Matched P (xs ++ us) (ys ++ vs)
+matched_append P [] us [] vs m h = h
+matched_append P [] us (y ∷ ys) vs m h = absurd m
+matched_append P (x ∷ xs) us [] vs m h = absurd m
+matched_append P (x ∷ xs) us (y ∷ ys) vs m h = (m.0, matched_append P xs us ys vs m.1 h)
+
+pub matched_at : {A B : Type 0} (P : A → B → Type 0) (xs : List A) (ys : List B) (i : ℕ) (x : A) → Matched P xs ys → slice_get xs i ≡ Some x → (y : B) × (slice_get ys i ≡ Some y) × P x y
+matched_at P [] ys i x m at = absurd (none-some x at)
+matched_at P (z ∷ xs) [] i x m at = absurd m
+matched_at P (z ∷ xs) (y ∷ ys) zero x m at = (y, refl, subst (λ w. P w y) (same_Some z x at) m.0)
+matched_at P (z ∷ xs) (y ∷ ys) (suc i) x m at = matched_at P xs ys i x m.1 at
+
+pub matched_back : {A B : Type 0} (P : A → B → Type 0) (xs : List A) (ys : List B) (i : ℕ) (y : B) → Matched P xs ys → slice_get ys i ≡ Some y → (x : A) × (slice_get xs i ≡ Some x) × P x y
+matched_back P xs [] i y m at = absurd (none-some y at)
+matched_back P [] (z ∷ ys) i y m at = absurd m
+matched_back P (x ∷ xs) (z ∷ ys) zero y m at = (x, refl, subst (λ w. P x w) (same_Some z y at) m.0)
+matched_back P (x ∷ xs) (z ∷ ys) (suc i) y m at = matched_back P xs ys i y m.1 at
+
+-- ---- the instruction of a value
+
+pub record IsPlaced (g : Func) (n : Numbers) (v : Value) (p : Placed) : Type 0 where
+  pub number : p.number ≡ number_of g n v
+  pub type : p.type ≡ option_type (value_type g v)
+
+module _ (g : Func) (form : IsFormFunc g) (n : Numbers) (given : Value → List (Operand × ℕ)) where
+  phis_placed : (b i k : ℕ) (ts : List TypeTree) → ((j : ℕ) (t : TypeTree) → slice_get ts j ≡ Some t → value_type g (Argument (record { 0 = b }) (i + j)) ≡ Some t) → Matched (IsPlaced g n) (arguments_from b i ts) (phis g n given b i k ts)
+  phis_placed b i k [] h = tt
+  phis_placed b i k (t ∷ ts) h =
+      let here : value_type g (Argument (record { 0 = b }) i) ≡ Some t = ap (λ (j : ℕ). value_type g (Argument (record { 0 = b }) j)) (let e : i ≡ i + 0 = omega arith in e) ∙ h 0 t refl in (
+        record { number = refl; type = sym (ap option_type here) },
+        phis_placed b (suc i) (k + 1) ts (λ j u at. ap (λ (j : ℕ). value_type g (Argument (record { 0 = b }) j)) (let e : suc i + j ≡ i + suc j = omega arith in e) ∙ h (suc j) u at),
+      )
+
+  insts_placed : (k : ℕ) (os : List DialectOp) → ((j : ℕ) (o : DialectOp) → slice_get os j ≡ Some o → value_type g (result o) ≡ o.result) → Matched (IsPlaced g n) (result_values os) (insts g n k os)
+  insts_placed k [] h = tt
+  insts_placed k (o ∷ os) h = by (is_constant o) (insts_placed (number_after o.result k) os (λ j x at. h (suc j) x at))
+    where
+      by : (t : Bool) → Matched (IsPlaced g n) (result_values os) (insts g n (number_after o.result k) os)
+          → Matched (IsPlaced g n) (map result (if not t then o ∷ others_of os else others_of os)) (if t then insts g n (number_after o.result k) os else inst g n k o ∷ insts g n (number_after o.result k) os)
+      by true m = m
+      by false m = (record { number = refl; type = sym (ap option_type (h 0 o refl)) }, m)
+
+  pub block_placed : (place k : ℕ) (c : DialectBlock) → slice_get g.blocks place ≡ Some c → Matched (IsPlaced g n) (phi_values place c ++ result_values c.ops) (block_made g n given place k c).instructions
+  block_placed place k c at =
+      matched_append (IsPlaced g n) (phi_values place c) (result_values c.ops) (block_phis g n given place k c) (insts g n (k + length c.args) c.ops) (front place at)
+      (insts_placed (k + length c.args) c.ops (λ j o at'. result_type g form place j (record { 0 = o.number }) c o at at' refl))
+    where
+      front : (place : ℕ) → slice_get g.blocks place ≡ Some c → Matched (IsPlaced g n) (phi_values place c) (block_phis g n given place k c)
+      front zero at = tt
+      front (suc p) at = phis_placed c.number 0 k c.args (λ j t at'. argument_type g form (suc p) (0 + j) (record { 0 = c.number }) c at refl ∙ ap (slice_get c.args) (let e : 0 + j ≡ j = omega arith in e) ∙ at')
+
+  blocks_placed : (place k : ℕ) (cs : List DialectBlock) → ((j : ℕ) (c : DialectBlock) → slice_get cs j ≡ Some c → slice_get g.blocks (place + j) ≡ Some c) → Matched (IsPlaced g n) (values_from place cs) (flat_map (λ (b : Block). b.instructions) (blocks_made g n given place k cs))
+  blocks_placed place k [] h = tt
+  blocks_placed place k (c ∷ cs) h =
+      matched_append (IsPlaced g n) (phi_values place c ++ result_values c.ops) (values_from (suc place) cs) (block_made g n given place k c).instructions
+      (flat_map (λ (b : Block). b.instructions) (blocks_made g n given (suc place) (number_behind (k + length c.args) c.ops) cs))
+      (block_placed place k c (ap (slice_get g.blocks) (let e : place ≡ place + 0 = omega arith in e) ∙ h 0 c refl))
+      (blocks_placed (suc place) (number_behind (k + length c.args) c.ops) cs (λ j d at. ap (slice_get g.blocks) (let e : suc place + j ≡ place + suc j = omega arith in e) ∙ h (suc j) d at))
+
+  abbrev pub made : Function
+  made = function_made g n given
+
+  pub placed : Matched (IsPlaced g n) (values g) (placed_in made)
+  placed = blocks_placed 0 0 g.blocks (λ j c at. ap (slice_get g.blocks) (let e : 0 + j ≡ j = omega arith in e) ∙ at)
+
+  pub values_distinct : IsDistinctList (values g)
+  values_distinct = from_distinct 0 g.blocks form.block_numbers form.numbers
+
+  pub number_at : (i : ℕ) (v : Value) → slice_get (values g) i ≡ Some v → number_of g n v ≡ n.inst + i
+  number_at i v at = ap (λ (j : ℕ). n.inst + j) (place_at v (values g) i values_distinct at)
+
+  pub placed_numbered : AreNumbered (λ (p : Placed). p.number) (placed_in made)
+  placed_numbered i j a b at at' e =
+      let p = matched_back (IsPlaced g n) (values g) (placed_in made) i a placed at in
+      let q = matched_back (IsPlaced g n) (values g) (placed_in made) j b placed at' in
+      let h = number_at i p.0 p.1 in
+      let k = number_at j q.0 q.1 in
+      let x = p.2.number in
+      let y = q.2.number in
+      omega (arith, e, h, k, x, y)
+
+  -- the result of the instruction of a value
+  pub result_typed : (i : ℕ) (v : Value) → slice_get (values g) i ≡ Some v → operand_type made (L.Result (number_of g n v)) ≡ option_type (value_type g v)
+  result_typed i v at =
+      let p = matched_at (IsPlaced g n) (values g) (placed_in made) i v placed at in
+      ap (λ (o : Option Placed). option_map_or (λ (x : Placed). x.type) o L.VoidType) (find_numbered (λ (x : Placed). x.number) (placed_in made) i (number_of g n v) p.0 placed_numbered p.1 p.2.number) ∙ p.2.type
+
+  pub result_there : (i : ℕ) (v : Value) → slice_get (values g) i ≡ Some v → F.HasNumber (number_of g n v) (placed_in made)
+  result_there i v at = let p = matched_at (IsPlaced g n) (values g) (placed_in made) i v placed at in (i, p.0, p.1, p.2.number)
+
+  -- ---- parameters
+
+  pub params_count : length made.params ≡ length form.entry.args
+  params_count = length-map (entry_args g n) (λ (t : TypeTree). let none : List ℕ = [] in none) ∙ ap (λ (o : Option DialectBlock). length (option_map_or (λ (c : DialectBlock). c.args) o [])) (entry_at g form)
+
+  nth_is : (ts : TypeTrees) (i : ℕ) (t : TypeTree) → slice_get (types_list ts) i ≡ Some t → L.nth_type (types_of ts) i ≡ type_of t
+  nth_is NoTypes i t at = absurd (none-some t at)
+  nth_is (ThenType u ts) zero t at = ap type_of (same_Some u t at)
+  nth_is (ThenType u ts) (suc i) t at = nth_is ts i t at
+
+  param_typed : (i : ℕ) (t : TypeTree) → slice_get form.entry.args i ≡ Some t → operand_type made (L.Parameter n.function i) ≡ type_of t
+  param_typed i t at =
+      cond-true (nat_eq n.function n.function) (L.param_type made.type i) L.VoidType (eq-eqb n.function n.function refl)
+      ∙ ap (λ (x : TypeTree). L.param_type (type_of x) i) form.type
+      ∙ nth_is form.types i t (ap (λ (ts : List TypeTree). slice_get ts i) (sym form.params) ∙ at)
+
+  -- ---- operands by where they come from
+
+  pub argument_operand : (i : ℕ) (b : BlockRef) → is_entry g b.0 ≡ false → operand_for g n (Argument b i) ≡ L.Result (number_of g n (Argument b i))
+  argument_operand i b other = cond-false (is_entry g b.0) (L.Parameter n.function i) (L.Result (number_of g n (Argument b i))) other
+
+  pub param_operand : (i : ℕ) (b : BlockRef) → is_entry g b.0 ≡ true → operand_for g n (Argument b i) ≡ L.Parameter n.function i
+  param_operand i b entry = cond-true (is_entry g b.0) (L.Parameter n.function i) (L.Result (number_of g n (Argument b i))) entry
+
+  op_operand : (j k : ℕ) (r : OpRef) (c : DialectBlock) (o : DialectOp) → slice_get g.blocks j ≡ Some c → slice_get c.ops k ≡ Some o → o.number ≡ r.0 → operand_for g n (Result r) ≡ constant_or (L.Result (number_of g n (Result r))) o.kind
+  op_operand j k r c o at at' is = ap (λ (x : Option DialectOp). option_map_or (λ (o : DialectOp). constant_or (L.Result (number_of g n (Result r))) o.kind) x (L.Result (number_of g n (Result r)))) (op_found g form j k r.0 c o at at' is)
+
+  pub constant_operand : (j k : ℕ) (r : OpRef) (c : DialectBlock) (o : DialectOp) (value : AttrTree) → slice_get g.blocks j ≡ Some c → slice_get c.ops k ≡ Some o → o.number ≡ r.0 → o.kind ≡ ConstantOp value → operand_for g n (Result r) ≡ L.Constant (const_of value)
+  constant_operand j k r c o value at at' is kind = op_operand j k r c o at at' is ∙ ap (constant_or (L.Result (number_of g n (Result r)))) kind
+
+  other_kind : (x : Operand) (k : Kind) → is_constant_kind k ≡ false → constant_or x k ≡ x
+  other_kind x (ConstantOp value) e = cc
+  other_kind x (AddOp flags) e = refl
+  other_kind x (ICmpOp predicate) e = refl
+  other_kind x BrOp e = refl
+  other_kind x CondBrOp e = refl
+  other_kind x ReturnOp e = refl
+  other_kind x UnreachableOp e = refl
+
+  pub result_operand : (j k : ℕ) (r : OpRef) (c : DialectBlock) (o : DialectOp) → slice_get g.blocks j ≡ Some c → slice_get c.ops k ≡ Some o → o.number ≡ r.0 → is_constant o ≡ false → operand_for g n (Result r) ≡ L.Result (number_of g n (Result r))
+  result_operand j k r c o at at' is other = op_operand j k r c o at at' is ∙ other_kind (L.Result (number_of g n (Result r))) o.kind other
+
+  -- ---- what an operand is: a parameter, a constant, or the result of an instruction
+
+  pub data OperandIs (v : Value) (t : TypeTree) : Type 0 where
+    IsParam : (i : ℕ) (b : BlockRef) → v ≡ Argument b i → b.0 ≡ form.entry.number → slice_get form.entry.args i ≡ Some t → operand_for g n v ≡ L.Parameter n.function i → OperandIs v t
+    IsConst : (k : ℕ) (o : DialectOp) (value : AttrTree) → slice_get form.entry.ops k ≡ Some o → v ≡ result o → o.kind ≡ ConstantOp value → o.result ≡ Some t → IsFormKind g o o.kind → operand_for g n v ≡ L.Constant (const_of value) → OperandIs v t
+    IsInst : (i : ℕ) → slice_get (values g) i ≡ Some v → operand_for g n v ≡ L.Result (number_of g n v) → OperandIs v t
+
+  argument_is : (b : BlockRef) (i : ℕ) (t : TypeTree) (place : ℕ) (c : DialectBlock) → slice_get g.blocks place ≡ Some c → c.number ≡ b.0 → slice_get c.args i ≡ Some t → OperandIs (Argument b i) t
+  argument_is b i t zero c at is type =
+      let e = first_is_entry g form c at in
+      IsParam i b refl (sym is ∙ ap (λ (x : DialectBlock). x.number) e) (ap (λ (x : DialectBlock). slice_get x.args i) (sym e) ∙ type) (param_operand i b (entry_is g form b.0 c at is))
+  argument_is b i t (suc p) c at is type =
+      let r = argument_among g p i c t at type in
+      let same : Argument (record { 0 = c.number }) i ≡ Argument b i = ap (λ (m : ℕ). Argument (record { 0 = m }) i) is in
+      IsInst r.0 (r.1 ∙ ap Some same) (argument_operand i b (entry_is_not g form p b.0 c at is))
+
+  constant_is : (r : OpRef) (t : TypeTree) (place k : ℕ) (c : DialectBlock) (o : DialectOp) (kind : Kind) → slice_get g.blocks place ≡ Some c → slice_get c.ops k ≡ Some o → o.number ≡ r.0 → o.result ≡ Some t → o.kind ≡ kind → is_constant_kind kind ≡ true → OperandIs (Result r) t
+  constant_is r t zero k c o (ConstantOp value) at at' is type kind e =
+      let same = first_is_entry g form c at in
+      IsConst k o value (ap (λ (x : DialectBlock). slice_get x.ops k) (sym same) ∙ at') (ap (λ (m : ℕ). Result (record { 0 = m })) (sym is)) kind type (op_form g form 0 k c o at at').kind (constant_operand 0 k r c o value at at' is kind)
+  constant_is r t (suc p) k c o (ConstantOp value) at at' is type kind e =
+      let more : slice_get form.more p ≡ Some c = ap (λ (bs : List DialectBlock). slice_get bs (suc p)) (sym form.body) ∙ at in
+      let none : is_constant o ≡ false = all_at (λ (o : DialectOp). is_constant o ≡ false) c.ops k o (all_at (λ (b : DialectBlock). All (λ (o : DialectOp). is_constant o ≡ false) b.ops) form.more p c form.others more) at' in
+      let yes : is_constant o ≡ true = ap is_constant_kind kind in
+      absurd (let no : true ≡ false = sym yes ∙ none in cc)
+  constant_is r t place k c o (AddOp flags) at at' is type kind e = cc
+  constant_is r t place k c o (ICmpOp predicate) at at' is type kind e = cc
+  constant_is r t place k c o BrOp at at' is type kind e = cc
+  constant_is r t place k c o CondBrOp at at' is type kind e = cc
+  constant_is r t place k c o ReturnOp at at' is type kind e = cc
+  constant_is r t place k c o UnreachableOp at at' is type kind e = cc
+
+  result_is : (r : OpRef) (t : TypeTree) (h : IsResultOf g form r t) → (b : Bool) → is_constant h.op ≡ b → OperandIs (Result r) t
+  result_is r t h true e = constant_is r t h.place h.at h.block h.op h.op.kind h.here h.there h.number h.type refl e
+  result_is r t h false e =
+      let i = result_among g h.place h.at h.block h.op h.here h.there e in
+      IsInst i.0 (i.1 ∙ ap (λ (m : ℕ). Some (Result (record { 0 = m }))) h.number) (result_operand h.place h.at r h.block h.op h.here h.there h.number e)
+
+  pub operand_is : (v : Value) (t : TypeTree) → value_type g v ≡ Some t → OperandIs v t
+  operand_is (Argument b i) t e = let h = argument_of g form b i t e in argument_is b i t h.place h.block h.here h.number h.type
+  operand_is (Result r) t e = let h = result_of g form r t e in result_is r t h (is_constant h.op) refl
+
+  -- ---- operands of the form
+
+  short_int : (t : TypeTree) → IsShortInt t → F.IsShortInt (type_of t)
+  short_int VoidType h = absurd h
+  short_int (IntegerType w) h = h
+  short_int (FuncType r ps v) h = absurd h
+
+  const_fits : (value : AttrTree) (k : Kind) (o : DialectOp) (t : TypeTree) → k ≡ ConstantOp value → o.result ≡ Some t → IsFormKind g o k → F.IsFitting (const_of value) × (L.const_type (const_of value) ≡ type_of t)
+  const_fits (IntegerAttr u m) k o t kind type h = let p = subst (IsFormKind g o) kind h in (fits u m p.0 p.1, ap type_of (same_Some u t (sym p.4 ∙ type)))
+    where
+      fits : (u : TypeTree) (m : ℕ) → IsShortInt u → IsFitting u m → F.IsFitting (const_of (IntegerAttr u m))
+      fits VoidType m short fit = absurd short
+      fits (IntegerType w) m short fit = fit
+      fits (FuncType r ps v) m short fit = absurd short
+
+  operand_typed_as : (v : Value) (t : TypeTree) → value_type g v ≡ Some t → OperandIs v t → F.IsOperandOf made (operand_for g n v) × (operand_type made (operand_for g n v) ≡ type_of t)
+  operand_typed_as v t e (IsParam i b is entry type operand) = (
+    subst (F.IsOperandOf made) (sym operand) (refl, (let c = params_count in let lt = slice_get_within form.entry.args i t type in omega (arith, c, lt))),
+    ap (operand_type made) operand ∙ param_typed i t type,
+  )
+  operand_typed_as v t e (IsConst k o value at is kind type h operand) = let c = const_fits value o.kind o t kind type h in (subst (F.IsOperandOf made) (sym operand) c.0, ap (operand_type made) operand ∙ c.1)
+  operand_typed_as v t e (IsInst i at operand) = (subst (F.IsOperandOf made) (sym operand) (result_there i v at), ap (operand_type made) operand ∙ result_typed i v at ∙ ap option_type e)
+
+  pub operand_typed : (v : Value) (t : TypeTree) → value_type g v ≡ Some t → operand_type made (operand_for g n v) ≡ type_of t
+  operand_typed v t e = (operand_typed_as v t e (operand_is v t e)).1
+
+  pub operand_form : (v : Value) (t : TypeTree) → IsOperand g t v → F.IsOperand made (type_of t) (operand_for g n v)
+  operand_form v t h = let p = operand_typed_as v t h.typed (operand_is v t h.typed) in record { stands = p.0; typed = p.1; short = short_int t h.short }

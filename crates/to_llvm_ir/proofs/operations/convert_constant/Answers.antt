@@ -1,0 +1,28 @@
+-- The constant has the value and the type of the operation's.
+use Rattle.dialect_types.specs.Trees.{type_at, type_trees}
+use Rattle.to_llvm_ir.proofs.TypeLaws.{short_result}
+use Rattle.to_llvm_ir.proofs.OpLaws.{constant_parts, constant_type_there, constant_fits}
+use Rattle.to_llvm_ir.proofs.StepLaws.{constant_done}
+use Rattle.to_llvm_ir.proofs.operations.convert_constant.Goals as goal
+
+pub value_type-requires-clause-within : goal.value_type-requires-clause-within
+value_type-requires-clause-within c = constant_type_there c.args.ctx.now c.args.op c.args.value.now _ _ c.requires.typed c.requires.kind c.parts_of-number.ensures
+
+pub value_type-requires-clause-short : goal.value_type-requires-clause-short
+value_type-requires-clause-short c =
+    let parts = constant_parts c.args.ctx.now c.args.op c.requires.spot.0 c.args.value.now _ _ c.requires.spot.1.spot c.requires.kind c.parts_of-number.ensures in
+    short_result _ parts.short
+
+pub const_get-requires : goal.const_get-requires
+const_get-requires c =
+    let parts = constant_parts c.args.ctx.now c.args.op c.requires.spot.0 c.args.value.now _ _ c.requires.spot.1.spot c.requires.kind c.parts_of-number.ensures in
+    constant_fits c.value_type.new.back c.requires.spot.0.op _ c.parts_of-number.result.1 c.from.result c.in_ok-ty.ty c.in_ok-ty.ensures.sound parts c.in_ok-ty.ensures.tree c.from.ensures
+
+pub returns : goal.returns
+returns c = λ s next.
+    let parts = constant_parts c.args.ctx.now c.args.op s c.args.value.now _ _ next.spot c.requires.kind c.parts_of-number.ensures in
+    let type = c.in_ok-ty.ensures in
+    let made = c.in_ok-c.ensures in
+    let set = c.in_ok-set.ensures in
+    constant_done c.args.ctx.now c.args.op s c.args.values.now c.args.back.now next (type_at (type_trees c.args.ctx.now.types) c.parts_of-number.result.0) c.parts_of-number.result.1 c.from.result c.in_ok-ty.ty c.in_ok-c.c c.value_type.new.back c.const_get.new.self c.set.new.self
+    parts type.tree type.grows type.rest type.data c.from.ensures made.interned made.rest made.data made.sound set.next set.found

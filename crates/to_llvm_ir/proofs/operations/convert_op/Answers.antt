@@ -1,0 +1,46 @@
+-- Each kind has its function; a module or a function is no operation of a block.
+use Rattle.std.proofs.Common.{◌≡◌, ◌∙◌, ◌++◌, All, true, false, List, [], Some, refl, sym, ap, subst, ⊎_elim}
+use Rattle.std.specs.List.{flat_map}
+use Rattle.std.proofs.lemmas.List.Elements.{All-nil}
+use Rattle.dialect_types.specs.Trees.{type_trees}
+use Rattle.dialect_core.specs.declared.ops.Value.{Value}
+use Rattle.dialect_core.specs.declared.ops.Successor.{Successor}
+use Rattle.dialect_core.specs.declared.ops.OpKind.TheVariants as K
+use Rattle.dialect_core.specs.Form.{StandsBefore}
+use Rattle.to_llvm_ir.proofs.OpLaws.{op_there, kind_there, spot_other, no_spot, constant_bare}
+use Rattle.to_llvm_ir.proofs.operations.convert_op.Goals as goal
+
+pub convert_constant-requires-clause-spot : goal.convert_constant-requires-clause-spot
+convert_constant-requires-clause-spot c =
+    let there = op_there (type_trees c.args.ctx.now.types) c.args.ctx.now.ops c.args.op (K.Constant c.in-Constant.value) _ (c.op_kind.ensures.kind ∙ ap Some c.in-Constant.is) refl in
+    let s = c.requires.spot there.0 there.1 in
+    (s.0, s.1)
+
+pub convert_inst-requires : goal.convert_inst-requires
+convert_inst-requires c =
+    let kind = kind_there (type_trees c.args.ctx.now.types) c.op_kind.result.now c.in_default.not-Module c.in_default.not-Func in
+    let there = op_there (type_trees c.args.ctx.now.types) c.args.ctx.now.ops c.args.op c.op_kind.result.now kind.0 c.op_kind.ensures.kind kind.1 in
+    let s = c.requires.spot there.0 there.1 in
+    record { within = c.requires.within; spot = (s.0, s.1.spot); some = λ t spot. spot_other c.args.ctx.now c.args.op t c.op_kind.result.now spot c.op_kind.ensures.kind c.in_default.not-Constant }
+
+pub place_inst-requires : goal.place_inst-requires
+place_inst-requires c =
+    let kind = kind_there (type_trees c.args.ctx.now.types) c.op_kind.result.now c.in_default.not-Module c.in_default.not-Func in
+    let there = op_there (type_trees c.args.ctx.now.types) c.args.ctx.now.ops c.args.op c.op_kind.result.now kind.0 c.op_kind.ensures.kind kind.1 in
+    let s = c.requires.spot there.0 there.1 in
+    record { within = c.requires.within; spot = (s.0, s.1, c.in_ok-inst-in_default.ensures.ok s.0 c.args.back.now s.1 s.2, s.3) }
+
+pub returns-in_ok-convert_constant-in-Constant-clause-accepted : goal.returns-in_ok-convert_constant-in-Constant-clause-accepted
+returns-in_ok-convert_constant-in-Constant-clause-accepted c = λ s next mapped.
+    let parts = constant_bare c.args.ctx.now c.args.op s c.in-Constant.value next.spot (c.op_kind.ensures.kind ∙ ap Some c.in-Constant.is) in
+    record {
+      uses = subst (λ (vs : List Value). All (StandsBefore s.task.source s.place s.at) (vs ++ flat_map (λ (e : Successor). e.args) s.op.successors)) (sym parts.0)
+          (subst (λ (es : List Successor). All (StandsBefore s.task.source s.place s.at) ([] ++ flat_map (λ (e : Successor). e.args) es)) (sym parts.1) (All-nil (StandsBefore s.task.source s.place s.at)));
+      named = λ other. absurd (let e : true ≡ false = sym parts.2 ∙ other in cc);
+    }
+
+pub returns-in-Module-clause-ok : goal.returns-in-Module-clause-ok
+returns-in-Module-clause-ok c = λ s next mapped here. ⊎_elim
+    (λ is. absurd (no_spot c.args.ctx.now c.args.op s K.Module next.spot (c.op_kind.ensures.kind ∙ ap Some is) refl))
+    (λ is. absurd (no_spot c.args.ctx.now c.args.op s K.Func next.spot (c.op_kind.ensures.kind ∙ ap Some is) refl))
+    c.in-Module.is

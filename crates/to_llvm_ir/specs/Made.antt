@@ -1,0 +1,200 @@
+-- The function of LLVM that an export makes of a function of the dialect, as one term.
+use Rattle.std.specs.Prelude.{◌+◌, ℕ, zero, suc, Bool, false, nat_eq, if◌then◌else◌, List, [], ◌∷◌, ◌++◌, Option, Some, None, length, map, slice_get}
+use Rattle.std.specs.List.{flat_map, find}
+use Rattle.std.specs.Option.{option_map, option_map_or}
+use Rattle.llvm_core.specs.declared.code.OverflowFlags.{OverflowFlags}
+use Rattle.llvm_core.specs.Data as L
+use Rattle.llvm_core.specs.Data.{ConstTree, IntConst, Operand, Parameter, Constant, Instruction, Placed}
+use Rattle.dialect_types.specs.Trees.{TypeTree, AttrTree, IntegerAttr}
+use Rattle.dialect_core.specs.declared.numbers.BlockRef.{BlockRef}
+use Rattle.dialect_core.specs.declared.ops.Value.{Value}
+use Rattle.dialect_core.specs.declared.ops.Value.TheVariants.{Result, Argument}
+use Rattle.dialect_core.specs.declared.ops.Successor.{Successor}
+use Rattle.dialect_core.specs.declared.overflow.IntegerOverflowFlagsAttr.{IntegerOverflowFlagsAttr}
+use Rattle.dialect_core.specs.Data.{DialectOp, DialectBlock, Func, Kind, ConstantOp, AddOp, ICmpOp, BrOp, CondBrOp, ReturnOp, UnreachableOp, ops_in}
+use Rattle.dialect_core.specs.Form.{is_constant, others_of, edges_of}
+use Rattle.meaning.specs.Dialect.{type_of, option_type, same_value, place_of, predicate_of}
+use Rattle.to_llvm_ir.specs.Exported.{block_name, value_name, result_name, number_after, number_behind}
+
+-- the number of the function, of its first block and of its first instruction: further ones count on
+pub record Numbers : Type 0 where
+  pub function : ℕ
+  pub block : ℕ
+  pub inst : ℕ
+
+-- ---- values, in the order in which they become instructions
+
+abbrev pub result : DialectOp → Value
+result o = Result (record { 0 = o.number })
+
+-- the first arguments of the block of a number, from a place on
+abbrev pub arguments_from : (block place : ℕ) → List TypeTree → List Value
+arguments_from b i [] = []
+arguments_from b i (t ∷ ts) = Argument (record { 0 = b }) i ∷ arguments_from b (suc i) ts
+
+abbrev pub arguments_of : DialectBlock → List Value
+arguments_of c = arguments_from c.number 0 c.args
+
+-- the entry has no phis
+abbrev pub phi_values : (place : ℕ) → DialectBlock → List Value
+phi_values zero c = []
+phi_values (suc n) c = arguments_of c
+
+-- of each operation but a constant, whether it has a result or not
+abbrev pub result_values : List DialectOp → List Value
+result_values os = map result (others_of os)
+
+abbrev pub values_from : (place : ℕ) → List DialectBlock → List Value
+values_from place [] = []
+values_from place (c ∷ cs) = (phi_values place c ++ result_values c.ops) ++ values_from (suc place) cs
+
+abbrev pub values : Func → List Value
+values g = values_from 0 g.blocks
+
+-- the place of a value in a list, the length where it is not in it
+abbrev pub place_in : Value → List Value → ℕ
+place_in v [] = 0
+place_in v (x ∷ xs) = if same_value x v then 0 else suc (place_in v xs)
+
+-- ---- operands
+
+abbrev pub const_of : AttrTree → ConstTree
+const_of (IntegerAttr type value) = IntConst (type_of type) value
+
+abbrev pub flags_of : IntegerOverflowFlagsAttr → OverflowFlags
+flags_of flags = record { nuw = flags.nuw; nsw = flags.nsw }
+
+-- the constant where there is one, else the other operand
+abbrev pub constant_or : Operand → Kind → Operand
+constant_or x (ConstantOp value) = Constant (const_of value)
+constant_or x _ = x
+
+abbrev pub is_entry : Func → ℕ → Bool
+is_entry g b = option_map_or (λ (c : DialectBlock). nat_eq c.number b) (slice_get g.blocks 0) false
+
+module _ (g : Func) (n : Numbers) where
+  -- the number of the instruction that a value becomes
+  abbrev pub number_of : Value → ℕ
+  number_of v = n.inst + place_in v (values g)
+
+  -- what an operand becomes
+  abbrev pub operand_for : Value → Operand
+  operand_for (Argument b i) = if is_entry g b.0 then Parameter n.function i else L.Result (number_of (Argument b i))
+  operand_for (Result r) = option_map_or (λ (o : DialectOp). constant_or (L.Result (number_of (Result r))) o.kind) (find (λ (o : DialectOp). nat_eq o.number r.0) (ops_in g)) (L.Result (number_of (Result r)))
+
+  -- the number of what the block of a number becomes
+  abbrev pub block_for : ℕ → ℕ
+  block_for b = n.block + place_of g.blocks b
+
+  -- ---- instructions
+
+  abbrev pub operand_at : List Value → ℕ → Operand
+  operand_at vs i = option_map_or operand_for (slice_get vs i) (Parameter 0 0)
+
+  abbrev pub target_at : List Successor → ℕ → ℕ
+  target_at ss i = option_map_or (λ (s : Successor). block_for s.block.0) (slice_get ss i) 0
+
+  -- a line for each kind; a constant becomes no instruction
+  abbrev pub instruction_for : Kind → List Value → List Successor → Instruction
+  instruction_for (ConstantOp value) vs ss = L.Unreachable
+  instruction_for (AddOp flags) vs ss = L.Add (operand_at vs 0) (operand_at vs 1) (flags_of flags)
+  instruction_for (ICmpOp predicate) vs ss = L.ICmp (operand_at vs 0) (operand_at vs 1) (predicate_of predicate)
+  instruction_for BrOp vs ss = L.Br (target_at ss 0)
+  instruction_for CondBrOp vs ss = L.CondBr (operand_at vs 0) (target_at ss 0) (target_at ss 1)
+  instruction_for ReturnOp vs ss = L.Return (option_map operand_for (slice_get vs 0))
+  instruction_for UnreachableOp vs ss = L.Unreachable
+
+  -- the instruction that an operation becomes, where the next value has the number k
+  abbrev pub inst : ℕ → DialectOp → Placed
+  inst k o = record {
+    number = number_of (result o);
+    name = result_name o.name o.result k;
+    type = option_type o.result;
+    instruction = instruction_for o.kind o.operands o.successors;
+  }
+
+  abbrev pub insts : ℕ → List DialectOp → List Placed
+  insts k [] = []
+  insts k (o ∷ os) = if is_constant o then insts (number_after o.result k) os else inst k o ∷ insts (number_after o.result k) os
+
+  -- ---- phis, each with the entries that it is given
+
+  -- what an edge from the block of the number p passes to an argument
+  abbrev pub entry_with : ℕ → Option Value → List (Operand × ℕ)
+  entry_with p None = []
+  entry_with p (Some v) = (operand_for v, p) ∷ []
+
+  abbrev pub passed_to : (b : BlockRef) → List Value → (p : ℕ) → Value → List (Operand × ℕ)
+  passed_to b vs p (Argument c i) = if nat_eq c.0 b.0 then entry_with p (slice_get vs i) else []
+  passed_to b vs p (Result r) = []
+
+  -- what edges from the block of the number p pass
+  abbrev pub passed : ℕ → List Successor → Value → List (Operand × ℕ)
+  passed p ss v = flat_map (λ (s : Successor). passed_to s.block s.args p v) ss
+
+  -- what the edges of blocks pass, of which the first stands at a place
+  abbrev pub entries_from : ℕ → List DialectBlock → Value → List (Operand × ℕ)
+  entries_from place [] v = []
+  entries_from place (c ∷ cs) v = passed (n.block + place) (edges_of c) v ++ entries_from (suc place) cs v
+
+  abbrev pub entries : Value → List (Operand × ℕ)
+  entries v = entries_from 0 g.blocks v
+
+  module _ (given : Value → List (Operand × ℕ)) where
+    abbrev pub phis : (block place k : ℕ) → List TypeTree → List Placed
+    phis b i k [] = []
+    phis b i k (t ∷ ts) =
+        (record { number = number_of (Argument (record { 0 = b }) i); name = value_name None k; type = type_of t; instruction = L.Phi (given (Argument (record { 0 = b }) i)) }) ∷ phis b (suc i) (k + 1) ts
+
+    abbrev pub block_phis : (place k : ℕ) → DialectBlock → List Placed
+    block_phis zero k c = []
+    block_phis (suc p) k c = phis c.number 0 k c.args
+
+    -- ---- blocks
+
+    abbrev pub block_made : (place k : ℕ) → DialectBlock → L.Block
+    block_made place k c = record {
+      number = n.block + place;
+      name = block_name c.label place;
+      instructions = block_phis place k c ++ insts (k + length c.args) c.ops;
+    }
+
+    abbrev pub blocks_made : (place k : ℕ) → List DialectBlock → List L.Block
+    blocks_made place k [] = []
+    blocks_made place k (c ∷ cs) = block_made place k c ∷ blocks_made (suc place) (number_behind (k + length c.args) c.ops) cs
+
+  -- a block without instructions
+  abbrev pub empty_block : (place : ℕ) → DialectBlock → L.Block
+  empty_block place c = record { number = n.block + place; name = block_name c.label place; instructions = [] }
+
+  abbrev pub empty_blocks : (place : ℕ) → List DialectBlock → List L.Block
+  empty_blocks place [] = []
+  empty_blocks place (c ∷ cs) = empty_block place c ∷ empty_blocks (suc place) cs
+
+  -- ---- the function
+
+  abbrev pub entry_args : List TypeTree
+  entry_args = option_map_or (λ (c : DialectBlock). c.args) (slice_get g.blocks 0) []
+
+  -- the function with those blocks
+  abbrev pub function_with : List L.Block → L.Function
+  function_with blocks = record {
+    number = n.function;
+    name = g.name;
+    type = type_of g.type;
+    space = 0;
+    params = map (λ (t : TypeTree). []) entry_args;
+    blocks = blocks;
+  }
+
+  abbrev pub function_made : (Value → List (Operand × ℕ)) → L.Function
+  function_made given = function_with (blocks_made given 0 0 g.blocks)
+
+-- phis have no entries at first
+abbrev pub no_entries : Value → List (Operand × ℕ)
+no_entries v = []
+
+-- the number of the first value behind blocks, of which the first begins with the number k
+abbrev pub number_past : ℕ → List DialectBlock → ℕ
+number_past k [] = k
+number_past k (c ∷ cs) = number_past (number_behind (k + length c.args) c.ops) cs

@@ -1,0 +1,61 @@
+-- An export has no cause to refuse what an import made.
+use Rattle.std.proofs.Common.{ℕ, ◌≡◌, sym, ◌∙◌, ap, List, length, slice_get, All}
+use Rattle.std.proofs.lemmas.List.Elements.{All-contains}
+use Rattle.llvm_core.proofs.DataLemmas.{within_at}
+use Rattle.dialect_core.specs.Data.{DialectModule, DialectBlock}
+use Rattle.dialect_core.specs.ContextData.{ContextData}
+use Rattle.dialect_core.specs.Form.{IsFormFunc, IsExportable, FitsTarget, HasEqualEdges, StandsBefore, edges_of, uses_of}
+use Rattle.llvm_core.specs.Data.{ModuleData}
+use Rattle.from_llvm_ir.specs.Imported as Import
+use Rattle.from_llvm_ir.specs.declared.conversion_err.ConversionErr.{ConversionErr}
+use Rattle.from_llvm_ir.specs.declared.conversion_err.ConversionErr.TheVariants as C
+use Rattle.to_llvm_ir.specs.Exported as X
+use Rattle.to_llvm_ir.specs.Exported.{HasBlockAt, HasEdge, IsEarlyUse, LeadsOutside, IsMismatched, HasOtherEdge}
+use Rattle.to_llvm_ir.specs.declared.to_llvm_err.ToLLVMErr.{ToLLVMErr}
+use Rattle.to_llvm_ir.specs.declared.to_llvm_err.ToLLVMErr.TheVariants as E
+use Rattle.transfer.specs.Same.{of_import, of_export, IsCause}
+
+module _ (d : DialectModule) (forms : All IsFormFunc d.functions) (fit : All IsExportable d.functions) where
+  exportable : (b : HasBlockAt d) → IsExportable b.function
+  exportable b = within_at d.functions IsExportable fit b.place b.function b.here
+
+  -- what the edge's target has
+  target : (e : HasEdge d) → FitsTarget e.block.function e.edge
+  target e =
+      let edges = within_at e.block.function.blocks (λ (b : DialectBlock). All (FitsTarget e.block.function) (edges_of b)) (exportable e.block).targets e.block.block e.block.is e.block.there in
+      within_at (edges_of e.block.is) (FitsTarget e.block.function) edges e.place e.edge e.at
+
+  no_early_use : (name : List ℕ) → ¬ IsEarlyUse d name
+  no_early_use name h =
+      let all = (exportable h.block).in_order h.block.block h.place h.block.is h.op h.block.there h.at in
+      h.early (All-contains (StandsBefore h.block.function h.block.block h.place) (uses_of h.op) h.value all h.used)
+
+  never_outside : (c : ContextData) (label : List ℕ) → ¬ LeadsOutside c d label
+  never_outside c label h =
+      let (i, b, at, is, same) = target h.edge in
+      within_at h.edge.block.function.blocks (λ (b : DialectBlock). ¬ (b.number ≡ h.edge.edge.block.0)) h.outside i b at is
+
+  never_mismatched : ¬ IsMismatched d
+  never_mismatched h =
+      let (i, b, at, is, same) = target h.edge in
+      let form = within_at d.functions IsFormFunc forms h.edge.block.place h.edge.block.function h.edge.block.here in
+      let one : i ≡ h.at = form.block_numbers i h.at b h.target at h.there (is ∙ sym h.leads) in
+      let b_is : b ≡ h.target = let e = sym at ∙ ap (slice_get h.edge.block.function.blocks) one ∙ h.there in cc in
+      h.differs (same ∙ ap (λ (x : DialectBlock). length x.args) b_is)
+
+  never_other : (p t : ℕ) → ¬ HasOtherEdge d p t
+  never_other p t h =
+      let equal = within_at h.edge.block.function.blocks HasEqualEdges (exportable h.edge.block).equal h.edge.block.block h.edge.block.is h.edge.block.there in
+      h.differs (equal h.other_place h.edge.place h.other h.edge.edge h.at h.edge.at h.same)
+
+  -- so no refusal of an export comes out
+  pub of_export_cause : (c : ContextData) (m : ModuleData) (e : ToLLVMErr) → X.IsCause c d e → IsCause m (of_export e)
+  of_export_cause c m (E.UndefinedValue name) h = absurd (no_early_use name h)
+  of_export_cause c m (E.UndefinedBlock label) h = absurd (never_outside c label h)
+  of_export_cause c m E.NumBlockArgsNumPhisMismatch h = absurd (never_mismatched h)
+  of_export_cause c m (E.EdgeArgsDiffer p t) h = absurd (never_other p t h)
+  of_export_cause c m E.NoMemory h = tt
+
+pub of_import_cause : (m : ModuleData) (e : ConversionErr) → Import.IsCause m e → IsCause m (of_import e)
+of_import_cause m (C.ForwardUse name v) h = h
+of_import_cause m C.NoMemory h = tt

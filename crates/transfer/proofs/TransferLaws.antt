@@ -1,0 +1,202 @@
+-- From what the import and the export made to what `transfer` promises.
+use Rattle.std.proofs.Common.{ℕ, suc, ◌≡◌, ◌<◌, refl, sym, ◌∙◌, ap, subst, Bool, true, false, not, List, [], ◌∷◌, Some, map, filter, length, slice_get, All, arith}
+use Rattle.std.proofs.lemmas.List.Elements.{All-nil, All-cons, All-head, All-tail}
+use Rattle.std.proofs.lemmas.Option.{slice_get_within}
+use Rattle.llvm_core.specs.Module.{Module}
+use Rattle.llvm_core.specs.Interned.{IsDistinctList}
+use Rattle.llvm_core.specs.Form.{IsForm, IsFormFunction, IsFewIn, HasDistinctNames, HasFew, local_names}
+use Rattle.llvm_core.specs.Data as L
+use Rattle.llvm_core.specs.Data.{ModuleData, AreApart, data_of}
+use Rattle.llvm_core.proofs.DataLemmas.{within_at, there, function_at, function_count}
+use Rattle.llvm_core.proofs.FormNames.{own_of_plain}
+use Rattle.dialect_core.specs.Data as D
+use Rattle.dialect_core.specs.Form.{IsFormFunc, IsExportable}
+use Rattle.meaning.specs.Pairs.{Matched}
+use Rattle.meaning.specs.Code.{Entry, IsDistinctNames, SameNamed, SameCode, names_of}
+use Rattle.meaning.specs.Llvm as Llvm
+use Rattle.meaning.specs.Dialect as Dialect
+use Rattle.meaning.proofs.CodeLaws.{same_code}
+use Rattle.from_llvm_ir.specs.declared.importing.Imported.{Imported}
+use Rattle.from_llvm_ir.specs.declared.matching.FunctionBlocks.{FunctionBlocks}
+use Rattle.from_llvm_ir.specs.Match.{match_of}
+use Rattle.from_llvm_ir.specs.Imported.{AreImported, NoneImported, ThenImported, IsImported, imported_data}
+use Rattle.to_llvm_ir.specs.Exported.{ExportedFunction, IsExported}
+use Rattle.to_llvm_ir.specs.Held.{IsReadable}
+use Rattle.transfer.specs.declared.transferred.Transferred.{Transferred}
+use Rattle.transfer.specs.Same.{SameThroughout}
+use Rattle.transfer.proofs.ListLaws.{matched_of, matched_at, matched_map, all_of, all_second}
+use Rattle.transfer.proofs.MatchLaws.{function_names, partner, count_imported, matched_place}
+use Rattle.transfer.proofs.SameFunctions.{imported_entry, entry_back, form_back}
+
+-- ---- modules of the form have no intrinsics
+
+not_true : (b : Bool) → (b ≡ true → ⊥) → b ≡ false
+not_true true h = absurd (h refl)
+not_true false h = refl
+
+own : (f : L.Function) → IsFormFunction f → not (Llvm.is_intrinsic f) ≡ true
+own f form = ap not (not_true (Llvm.is_intrinsic f) (own_of_plain f.name form.name))
+
+all_kept : (fs : List L.Function) → All IsFormFunction fs → filter (λ (f : L.Function). not (Llvm.is_intrinsic f)) fs ≡ fs
+all_kept [] h = refl
+all_kept (f ∷ fs) h = rw (own f (All-head IsFormFunction f fs h), all_kept fs (All-tail IsFormFunction f fs h)) refl
+
+entries_names : (d : ModuleData) (fs : List L.Function) → map (λ (e : Entry). e.name) (map (Llvm.entry d) fs) ≡ function_names fs
+entries_names d [] = refl
+entries_names d (f ∷ fs) = rw (entries_names d fs) refl
+
+distinct_code : (d : ModuleData) → All IsFormFunction d.functions → IsDistinctNames (function_names d.functions) → IsDistinctNames (names_of (Llvm.code_of d))
+distinct_code d form h = subst IsDistinctNames (sym (ap (λ (fs : List L.Function). map (λ (e : Entry). e.name) (map (Llvm.entry d) fs)) (all_kept d.functions form) ∙ entries_names d d.functions)) h
+
+-- ---- matched lists
+
+count_matched : {A B : Type 0} (P : A → B → Type 0) (xs : List A) (ys : List B) → Matched P xs ys → length ys ≡ length xs
+count_matched P [] [] h = refl
+count_matched P (x ∷ xs) (y ∷ ys) h = ap suc (count_matched P xs ys h.1)
+count_matched P [] (y ∷ ys) h = absurd h
+count_matched P (x ∷ xs) [] h = absurd h
+
+names_exported : (d : ModuleData) (gs : List D.Func) (fs : List L.Function) → Matched (ExportedFunction d) gs fs → function_names fs ≡ map (λ (g : D.Func). g.name) gs
+names_exported d [] [] h = refl
+names_exported d (g ∷ gs) (f ∷ fs) h = rw (h.0.name, names_exported d gs fs h.1) refl
+names_exported d [] (f ∷ fs) h = absurd h
+names_exported d (g ∷ gs) [] h = absurd h
+
+-- ---- what the import made
+
+pub forms_imported : (d : ModuleData) (fs : List L.Function) (xs : List FunctionBlocks) (gs : List D.Func) → AreImported d fs xs gs → All IsFormFunc gs
+forms_imported d [] [] [] NoneImported = All-nil IsFormFunc
+forms_imported d (f ∷ fs) (x ∷ xs) (g ∷ gs) (ThenImported _ _ _ _ _ _ one more) = All-cons IsFormFunc g gs one.form (forms_imported d fs xs gs more)
+forms_imported d [] [] (g ∷ gs) h = elim h [ ]
+forms_imported d [] (x ∷ xs) gs h = elim h [ ]
+forms_imported d (f ∷ fs) [] gs h = elim h [ ]
+forms_imported d (f ∷ fs) (x ∷ xs) [] h = elim h [ ]
+
+pub exportable_imported : (d : ModuleData) (fs : List L.Function) (xs : List FunctionBlocks) (gs : List D.Func) → AreImported d fs xs gs → All IsExportable gs
+exportable_imported d [] [] [] NoneImported = All-nil IsExportable
+exportable_imported d (f ∷ fs) (x ∷ xs) (g ∷ gs) (ThenImported _ _ _ _ _ _ one more) = All-cons IsExportable g gs one.exportable (exportable_imported d fs xs gs more)
+exportable_imported d [] [] (g ∷ gs) h = elim h [ ]
+exportable_imported d [] (x ∷ xs) gs h = elim h [ ]
+exportable_imported d (f ∷ fs) [] gs h = elim h [ ]
+exportable_imported d (f ∷ fs) (x ∷ xs) [] h = elim h [ ]
+
+names_imported : (d : ModuleData) (fs : List L.Function) (xs : List FunctionBlocks) (gs : List D.Func) → AreImported d fs xs gs → map (λ (g : D.Func). g.name) gs ≡ function_names fs
+names_imported d [] [] [] NoneImported = refl
+names_imported d (f ∷ fs) (x ∷ xs) (g ∷ gs) (ThenImported _ _ _ _ _ _ one more) = rw (one.name, names_imported d fs xs gs more) refl
+names_imported d [] [] (g ∷ gs) h = elim h [ ]
+names_imported d [] (x ∷ xs) gs h = elim h [ ]
+names_imported d (f ∷ fs) [] gs h = elim h [ ]
+names_imported d (f ∷ fs) (x ∷ xs) [] h = elim h [ ]
+
+-- what the export needs of what the import made
+pub readable : (d : ModuleData) (i : Imported) → IsImported d i → IsReadable i.ctx i.module.0.0
+readable d i h = record {
+  there = h.building.there;
+  kind = h.building.held.kind;
+  body = h.body;
+  region = h.building.held.region;
+  typed = h.building.typed;
+  functions = forms_imported d d.functions i.blocks (imported_data i).functions h.functions;
+}
+
+-- ---- entries, place by place
+
+module _ (d : ModuleData) (xs : List FunctionBlocks) (gs : List D.Func) (form : All IsFormFunction d.functions) (distinct : IsDistinctNames (function_names d.functions))
+    (numbered : (i : ℕ) (f : L.Function) → slice_get d.functions i ≡ Some f → f.number ≡ i) (h : AreImported d d.functions xs gs) where
+  form_at : (i : ℕ) (f : L.Function) → slice_get d.functions i ≡ Some f → IsFormFunction f
+  form_at i f at = within_at d.functions IsFormFunction form i f at
+
+  entries_there : Matched (λ (f : L.Function) (g : D.Func). SameNamed (match_of d xs) (Llvm.entry d f) (Dialect.entry g)) d.functions gs
+  entries_there = matched_of (λ (f : L.Function) (g : D.Func). SameNamed (match_of d xs) (Llvm.entry d f) (Dialect.entry g)) d.functions gs (sym (count_imported d d.functions xs gs h).1) (λ i f g at gt.
+      let p = partner d d.functions xs gs h i f at in
+      let same : p.func ≡ g = let e = sym p.func_at ∙ gt in cc in
+      subst (λ (g : D.Func). SameNamed (match_of d xs) (Llvm.entry d f) (Dialect.entry g)) same
+      (imported_entry (match_of d xs) d f p.entry p.func (matched_place d xs gs distinct numbered h i f p.entry at p.entry_at) (form_at i f at) p.imported))
+
+  module _ (d' : ModuleData) (k : Matched (ExportedFunction d') gs d'.functions) where
+    exported_at : (i : ℕ) (g : D.Func) (f' : L.Function) → slice_get gs i ≡ Some g → slice_get d'.functions i ≡ Some f' → ExportedFunction d' g f'
+    exported_at i g f' at bt = matched_at (ExportedFunction d') gs d'.functions k i g f' at bt
+
+    entries_back : Matched (λ (f f' : L.Function). SameNamed (match_of d xs) (Llvm.entry d f) (Llvm.entry d' f')) d.functions d'.functions
+    entries_back = matched_of (λ (f f' : L.Function). SameNamed (match_of d xs) (Llvm.entry d f) (Llvm.entry d' f')) d.functions d'.functions
+        (sym (count_matched (ExportedFunction d') gs d'.functions k ∙ (count_imported d d.functions xs gs h).1)) (λ i f f' at bt.
+        let p = partner d d.functions xs gs h i f at in
+        entry_back (match_of d xs) d f p.entry p.func (matched_place d xs gs distinct numbered h i f p.entry at p.entry_at) (form_at i f at) p.imported d' f'
+        (exported_at i p.func f' p.func_at bt))
+
+    pub forms_back : All IsFormFunction d'.functions
+    forms_back = all_of d'.functions IsFormFunction (λ i f' bt.
+        let small : i < length d.functions = let s = slice_get_within d'.functions i f' bt in let c = count_matched (ExportedFunction d') gs d'.functions k in let e = (count_imported d d.functions xs gs h).1 in omega (arith, s, c, e) in
+        let (f, at) = there d.functions i small in
+        let p = partner d d.functions xs gs h i f at in
+        form_back (match_of d xs) d f p.entry p.func (matched_place d xs gs distinct numbered h i f p.entry at p.entry_at) (form_at i f at) p.imported d' f' (exported_at i p.func f' p.func_at bt))
+
+-- ---- modules
+
+function_numbered : (m : Module) (i : ℕ) (f : L.Function) → slice_get (data_of m).functions i ≡ Some f → f.number ≡ i
+function_numbered m i f at =
+    let small = slice_get_within (data_of m).functions i f at in
+    let (x, here) = there m.functions i (let c = function_count m in omega (arith, small, c)) in
+    let same = sym (function_at m i x here) ∙ at in
+    cc same
+
+abbrev pub transferred_of : Imported → Module → Transferred
+transferred_of i back = record { ctx = i.ctx; dialect = i.module; back = back; blocks = i.blocks }
+
+abbrev HasOwnLocals : L.Function → Type 0
+HasOwnLocals f = IsDistinctList (local_names f)
+
+module _ (m back : Module) (i : Imported) (form : IsForm (data_of m)) (distinct : HasDistinctNames (data_of m))
+    (imported : IsImported (data_of m) i) (exported : IsExported (imported_data i) back) where
+  pub form_of_back : IsForm (data_of back)
+  form_of_back = forms_back (data_of m) i.blocks (imported_data i).functions form distinct.functions (function_numbered m) imported.functions (data_of back) exported.functions
+
+  names_back : function_names (data_of back).functions ≡ function_names (data_of m).functions
+  names_back =
+      names_exported (data_of back) (imported_data i).functions (data_of back).functions exported.functions
+      ∙ names_imported (data_of m) (data_of m).functions i.blocks (imported_data i).functions imported.functions
+
+  same_dialect : SameCode (match_of (data_of m) i.blocks) (Llvm.code_of (data_of m)) (Dialect.code_of (imported_data i))
+  same_dialect =
+      let match = match_of (data_of m) i.blocks in
+      let pairs = matched_map (SameNamed match) (Llvm.entry (data_of m)) Dialect.entry (data_of m).functions (imported_data i).functions
+      (entries_there (data_of m) i.blocks (imported_data i).functions form distinct.functions (function_numbered m) imported.functions) in
+      same_code match (Llvm.code_of (data_of m)) (Dialect.code_of (imported_data i)) (distinct_code (data_of m) form distinct.functions) (rw (all_kept (data_of m).functions form) pairs)
+
+  same_back : SameCode (match_of (data_of m) i.blocks) (Llvm.code_of (data_of m)) (Llvm.code_of (data_of back))
+  same_back =
+      let match = match_of (data_of m) i.blocks in
+      let pairs = matched_map (SameNamed match) (Llvm.entry (data_of m)) (Llvm.entry (data_of back)) (data_of m).functions (data_of back).functions
+      (entries_back (data_of m) i.blocks (imported_data i).functions form distinct.functions (function_numbered m) imported.functions (data_of back) exported.functions) in
+      same_code match (Llvm.code_of (data_of m)) (Llvm.code_of (data_of back)) (distinct_code (data_of m) form distinct.functions)
+      (rw (all_kept (data_of m).functions form, all_kept (data_of back).functions form_of_back) pairs)
+
+  pub same_throughout : SameThroughout (data_of m) (transferred_of i back)
+  same_throughout = record {
+    dialect = same_dialect;
+    back = same_back;
+    name = imported.name;
+    back_name = exported.name;
+    functions = names_imported (data_of m) (data_of m).functions i.blocks (imported_data i).functions imported.functions;
+    back_functions = names_back;
+    imported = imported.functions;
+    exported = exported.functions;
+  }
+
+  exported_locals : (g : D.Func) (f : L.Function) → ExportedFunction (data_of back) g f → HasOwnLocals f
+  exported_locals g f h = h.locals
+
+  exported_few : (g : D.Func) (f : L.Function) → ExportedFunction (data_of back) g f → IsFewIn f
+  exported_few g f h = h.few
+
+  pub distinct_back : HasDistinctNames (data_of back)
+  distinct_back = record {
+    functions = subst (λ (ns : List (List ℕ)). IsDistinctList ns) (sym names_back) distinct.functions;
+    locals = all_second (ExportedFunction (data_of back)) HasOwnLocals exported_locals (imported_data i).functions (data_of back).functions exported.functions;
+  }
+
+  pub few_back : HasFew (data_of back)
+  few_back = record {
+    functions = exported.few;
+    each = all_second (ExportedFunction (data_of back)) IsFewIn exported_few (imported_data i).functions (data_of back).functions exported.functions;
+  }

@@ -1,0 +1,2 @@
+-- The definitions that clauses cite.
+pub mod Same

@@ -1,0 +1,62 @@
+-- What a module, its dialect module and its module back have in common, and why a module is refused.
+use Rattle.std.specs.Prelude.{◌≡◌, map}
+use Rattle.llvm_core.specs.Data as L
+use Rattle.llvm_core.specs.Data.{ModuleData}
+use Rattle.dialect_types.specs.Names.{legal_name}
+use Rattle.dialect_core.specs.Data as D
+use Rattle.meaning.specs.Pairs.{Matched}
+use Rattle.meaning.specs.Code.{SameCode}
+use Rattle.meaning.specs.Llvm as Llvm
+use Rattle.meaning.specs.Dialect as Dialect
+use Rattle.from_llvm_ir.specs.Match.{match_of}
+use Rattle.from_llvm_ir.specs.Imported.{AreImported}
+use Rattle.from_llvm_ir.specs.Imported as Import
+use Rattle.to_llvm_ir.specs.Exported.{ExportedFunction}
+use Rattle.from_llvm_ir.specs.declared.conversion_err.ConversionErr.{ConversionErr}
+use Rattle.from_llvm_ir.specs.declared.conversion_err.ConversionErr.TheVariants as C
+use Rattle.to_llvm_ir.specs.declared.to_llvm_err.ToLLVMErr.{ToLLVMErr}
+use Rattle.to_llvm_ir.specs.declared.to_llvm_err.ToLLVMErr.TheVariants as X
+use Rattle.transfer.specs.declared.transferred.Transferred.{Transferred}
+use Rattle.transfer.specs.declared.transfer_err.TransferErr.{TransferErr}
+use Rattle.transfer.specs.declared.transfer_err.TransferErr.TheVariants as E
+
+-- the data of the dialect module and of the module back
+abbrev pub dialect_of : Transferred → D.DialectModule
+dialect_of t = D.data_of t.ctx t.dialect.0.0
+
+abbrev pub back_of : Transferred → ModuleData
+back_of t = L.data_of t.back
+
+-- The three modules have the same code under the match, and the same names in the same order; function by
+-- function the dialect module is made by the rules of the import, and the module back by those of the export.
+pub record SameThroughout (m : ModuleData) (t : Transferred) : Type 0 where
+  pub dialect : SameCode (match_of m t.blocks) (Llvm.code_of m) (Dialect.code_of (dialect_of t))
+  pub back : SameCode (match_of m t.blocks) (Llvm.code_of m) (Llvm.code_of (back_of t))
+  pub name : (dialect_of t).name ≡ legal_name m.name
+  pub back_name : (back_of t).name ≡ (dialect_of t).name
+  pub functions : map (λ (f : D.Func). f.name) (dialect_of t).functions ≡ map (λ (f : L.Function). f.name) m.functions
+  pub back_functions : map (λ (f : L.Function). f.name) (back_of t).functions ≡ map (λ (f : L.Function). f.name) m.functions
+  pub imported : AreImported m m.functions t.blocks (dialect_of t).functions
+  pub exported : Matched (ExportedFunction (back_of t)) (dialect_of t).functions (back_of t).functions
+
+-- ---- refusals
+
+-- a refusal of the import, whose want of memory has an answer of its own
+abbrev pub of_import : ConversionErr → TransferErr
+of_import (C.ForwardUse name v) = E.Import (C.ForwardUse name v)
+of_import C.NoMemory = E.NoMemory
+
+abbrev pub of_export : ToLLVMErr → TransferErr
+of_export (X.UndefinedValue name) = E.Export (X.UndefinedValue name)
+of_export (X.UndefinedBlock label) = E.Export (X.UndefinedBlock label)
+of_export X.NumBlockArgsNumPhisMismatch = E.Export X.NumBlockArgsNumPhisMismatch
+of_export (X.EdgeArgsDiffer from to) = E.Export (X.EdgeArgsDiffer from to)
+of_export X.NoMemory = E.NoMemory
+
+-- why a module of these data is refused: only where the import has a cause; want of memory needs none, and never
+-- stands inside
+abbrev pub IsCause : ModuleData → TransferErr → Type 0
+IsCause d (E.Import C.NoMemory) = ⊥
+IsCause d (E.Import (C.ForwardUse name v)) = Import.IsCause d (C.ForwardUse name v)
+IsCause d (E.Export e) = ⊥
+IsCause d E.NoMemory = Unit {0}
