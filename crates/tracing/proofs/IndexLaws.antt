@@ -1,0 +1,205 @@
+-- The index of a function of LLVM: what its phis take, and where its blocks stand.
+use Rattle.std.proofs.Common.{◌≡◌, ◌<◌, ◌≤◌, ◌+◌, ℕ, suc, Bool, true, false, cond, if◌then◌else◌, List, [], ◌∷◌, ◌++◌, Option, Some, None, length, map, filter, take, slice_get, get_or, nat_eq, refl, sym, ap, subst, ◌∙◌, arith, All}
+use Rattle.std.specs.List.{filter_map, find, cons_option}
+use Rattle.std.specs.Option.{option_map}
+use Rattle.std.proofs.lemmas.List.{append-nil, take_more, take_all}
+use Rattle.std.proofs.lemmas.List.Elements.{All-head, All-tail}
+use Rattle.std.proofs.lemmas.Option.{none-some, slice_get-get_or}
+use Rattle.llvm_core.specs.declared.numbers.LLVMBasicBlock.{LLVMBasicBlock}
+use Rattle.llvm_core.specs.declared.numbers.LLVMInstRef.{LLVMInstRef}
+use Rattle.llvm_core.specs.declared.code.LLVMInst.{LLVMInst}
+use Rattle.llvm_core.specs.declared.code.LLVMInst.TheVariants as I
+use Rattle.llvm_core.specs.declared.code.PhiEntry.{PhiEntry}
+use Rattle.llvm_core.specs.declared.code.LLVMValue.TheVariants as V
+use Rattle.llvm_core.specs.declared.numbers.LLVMType.{LLVMType}
+use Rattle.llvm_core.specs.Parts.{is_phi as phi_of}
+use Rattle.indexmap.specs.IndexMap.{get}
+use Rattle.tracing.specs.declared.llvm_index.Phi.{Phi}
+use Rattle.tracing.specs.declared.body.Slot.TheVariants.{Result}
+use Rattle.tracing.specs.Bodies.{source_of}
+use Rattle.tracing.proofs.LlvmLaws.{kept_at}
+use Rattle.tracing.proofs.RunLaws.{matched_push}
+use Rattle.llvm_core.specs.declared.code.BlockData.{BlockData}
+use Rattle.llvm_core.specs.declared.code.FunctionData.{FunctionData}
+use Rattle.llvm_core.specs.Module.{Module}
+use Rattle.llvm_core.specs.Data as D
+use Rattle.llvm_core.specs.Data.{Placed, Block, Instruction, trees_of, entry_of, operand_of, instruction_of, phi_entries, placed_at, block_at, block_of, data_of}
+use Rattle.llvm_core.specs.Form.{is_phi, IsFormInstruction, IsFormBlock}
+use Rattle.llvm_core.proofs.ListLemmas.{some_same}
+use Rattle.llvm_core.proofs.DataLemmas.{blocks_there, insts_there, slice_get-filter_map_all, within_at, length-filter_map_all}
+use Rattle.meaning.specs.Machine as M
+use Rattle.meaning.specs.Pairs.{Matched}
+use Rattle.llvm_core.specs.declared.types.LLVMTypeKind.{LLVMTypeKind}
+use Rattle.llvm_core.specs.declared.types.LLVMTypeKind.TheVariants as T
+use Rattle.llvm_core.specs.Parts.{is_function}
+use Rattle.std.specs.Prelude.{IsTrue}
+use Rattle.llvm_core.proofs.DataLemmas.{function_tree_of}
+use Rattle.tracing.specs.Bodies.{start_of}
+use Rattle.meaning.specs.Llvm.{entry_for, operand, arity, count_types, start, Key, ParamKey, ResultKey}
+use Rattle.tracing.specs.Renamed.{renamed}
+use Rattle.tracing.specs.declared.body.Slot.{Slot}
+use Rattle.tracing.specs.LlvmBodies.{slot_of, first_of, operand_in, InForm, data_in, IsPlacedIn, ArePlacedIn, IsBlockIn, IsPhiOf}
+
+module _ (m : Module) (from : ℕ) where
+  abbrev pub taken_of : List PhiEntry → Option (M.Operand Slot)
+  taken_of es = option_map (renamed slot_of) (entry_for (data_of m) from (map (entry_of (trees_of m)) es))
+
+  abbrev pub here_of : PhiEntry → Option (M.Operand Slot)
+  here_of e = if nat_eq e.block.0 from then Some (operand_in m e.value) else None
+
+  abbrev shown : Option (D.Operand × ℕ) → Option (M.Operand Slot)
+  shown o = option_map (renamed slot_of) (option_map (λ (x : D.Operand × ℕ). operand (data_of m) x.0) o)
+
+  -- one entry more counts where no earlier one is for the block
+  taken_push : (es : List PhiEntry) (e : PhiEntry) → taken_of (es ++ e ∷ []) ≡ first_of (taken_of es) (here_of e)
+  taken_push [] e = by (nat_eq e.block.0 from)
+    where
+      by : (b : Bool) → option_map (renamed slot_of) (option_map (λ (x : D.Operand × ℕ). operand (data_of m) x.0) (cond b (Some (entry_of (trees_of m) e)) None)) ≡ (if b then Some (operand_in m e.value) else None)
+      by true = refl
+      by false = refl
+  taken_push (x ∷ es) e = by (nat_eq x.block.0 from) (taken_push es e)
+    where
+      by : (b : Bool) → taken_of (es ++ e ∷ []) ≡ first_of (taken_of es) (here_of e)
+          → shown (cond b (Some (entry_of (trees_of m) x)) (find (λ (e : D.Operand × ℕ). nat_eq e.1 from) (map (entry_of (trees_of m)) (es ++ e ∷ []))))
+          ≡ first_of (shown (cond b (Some (entry_of (trees_of m) x)) (find (λ (e : D.Operand × ℕ). nat_eq e.1 from) (map (entry_of (trees_of m)) es)))) (here_of e)
+      by true h = refl
+      by false h = h
+
+  pub taken_step : (es : List PhiEntry) (i : ℕ) (d : PhiEntry) → i < length es → taken_of (take (i + 1) es) ≡ first_of (taken_of (take i es)) (here_of (get_or es i d))
+  taken_step es i d lt = ap taken_of (take_more es i d lt) ∙ taken_push (take i es) (get_or es i d)
+
+-- ---- blocks and their instructions
+
+module _ (m : Module) (h : InForm m) where
+  pub block_there : (bs : List LLVMBasicBlock) → h.function.blocks ≡ bs → (i : ℕ) (b : LLVMBasicBlock) → slice_get bs i ≡ Some b → (y : Block) × IsBlockIn m h b y × (slice_get (data_in m h).blocks i ≡ Some y)
+  block_there bs are i b at =
+      let listed : slice_get h.function.blocks i ≡ Some b = ap (λ (xs : List LLVMBasicBlock). slice_get xs i) are ∙ at in
+      let all = blocks_there m h.function.blocks (h.sound.functions h.number h.function h.at).blocks in
+      let y = all i b listed in
+      let stands = slice_get-filter_map_all (block_at (trees_of m) m.blocks m.insts) h.function.blocks all i b y.0 listed y.1 in
+      (y.0, record { place = i; at = stands; here = y.1 }, stands)
+
+  pub block_count : length (data_in m h).blocks ≡ length h.function.blocks
+  block_count = length-filter_map_all (block_at (trees_of m) m.blocks m.insts) h.function.blocks (blocks_there m h.function.blocks (h.sound.functions h.number h.function h.at).blocks)
+
+  placed_each : (b : ℕ) (is : List LLVMInstRef) → ((j : ℕ) (i : LLVMInstRef) → slice_get is j ≡ Some i → (p : Placed) × (placed_at (trees_of m) m.insts i ≡ Some p))
+      → All (λ (p : Placed). IsFormInstruction (data_in m h) b p p.instruction) (filter_map (placed_at (trees_of m) m.insts) is) → ArePlacedIn m h b is (filter_map (placed_at (trees_of m) m.insts) is)
+  placed_each b [] all form = tt
+  placed_each b (i ∷ is) all form =
+      let here = all 0 i refl in
+      let P : Placed → Type 0 = λ p. IsFormInstruction (data_in m h) b p p.instruction in
+      let rest = filter_map (placed_at (trees_of m) m.insts) is in
+      let both : All P (here.0 ∷ rest) = subst (λ (o : Option Placed). All P (cons_option o rest)) here.1 form in
+      subst (λ (o : Option Placed). ArePlacedIn m h b (i ∷ is) (cons_option o rest)) (sym here.1)
+      (record { here = here.1; form = All-head P here.0 rest both }, placed_each b is (λ j k at. all (suc j) k at) (All-tail P here.0 rest both))
+
+  -- the instructions of a block, one by one
+  pub insts_placed : (b : LLVMBasicBlock) (y : Block) (is : List LLVMInstRef) → IsBlockIn m h b y → option_map (λ (x : BlockData). x.insts) (slice_get m.blocks b.0) ≡ Some is → ArePlacedIn m h b.0 is y.instructions
+  insts_placed b y is at listed = by (slice_get m.blocks b.0) refl at.here listed
+    where
+      by : (o : Option BlockData) → slice_get m.blocks b.0 ≡ o → option_map (block_of (trees_of m) m.insts b) o ≡ Some y → option_map (λ (x : BlockData). x.insts) o ≡ Some is → ArePlacedIn m h b.0 is y.instructions
+      by None e k l = absurd (none-some y k)
+      by (Some x) e k l =
+          let shown : block_of (trees_of m) m.insts b x ≡ y = some_same _ y k in
+          let same : x.insts ≡ is = some_same x.insts is l in
+          let form = within_at (data_in m h).blocks (IsFormBlock (data_in m h)) h.form.blocks at.place y at.at in
+          let number : y.number ≡ b.0 = sym (ap (λ (z : Block). z.number) shown) in
+          let forms : All (λ (p : Placed). IsFormInstruction (data_in m h) b.0 p p.instruction) (block_of (trees_of m) m.insts b x).instructions =
+          subst (λ (z : Block). All (λ (p : Placed). IsFormInstruction (data_in m h) b.0 p p.instruction) z.instructions) (sym shown) (subst (λ (n : ℕ). All (λ (p : Placed). IsFormInstruction (data_in m h) n p p.instruction) y.instructions) number form.instructions) in
+          let placed = placed_each b.0 x.insts (insts_there m x.insts (h.sound.blocks b.0 x e).insts) forms in
+          subst (λ (js : List LLVMInstRef). ArePlacedIn m h b.0 js y.instructions) same (subst (λ (z : Block). ArePlacedIn m h b.0 x.insts z.instructions) shown placed)
+
+-- a function's blocks as its module lists them
+pub blocks_are : (m : Module) (h : InForm m) (f : ℕ) (bs : List LLVMBasicBlock) → h.number ≡ f → option_map (λ (x : FunctionData). x.blocks) (slice_get m.functions f) ≡ Some bs → h.function.blocks ≡ bs
+blocks_are m h f bs is at = some_same h.function.blocks bs (sym (ap (λ (n : ℕ). option_map (λ (x : FunctionData). x.blocks) (slice_get m.functions n)) (sym is) ∙ ap (option_map (λ (x : FunctionData). x.blocks)) h.at) ∙ at)
+
+abbrev pub some_entry : PhiEntry
+some_entry = record { value = V.Const (record { 0 = 0 }); block = record { 0 = 0 } }
+
+-- ---- phis
+
+pub not_phi : (inst : LLVMInst) → ((t : LLVMType) (es : List PhiEntry) → inst ≡ I.Phi t es → ⊥) → phi_of inst ≡ false
+not_phi (I.Add lhs rhs flags) h = refl
+not_phi (I.ICmp lhs rhs predicate) h = refl
+not_phi (I.Phi t es) h = absurd (h t es refl)
+not_phi (I.Br target) h = refl
+not_phi (I.CondBr condition first second) h = refl
+not_phi (I.Ret value) h = refl
+not_phi I.Unreachable h = refl
+
+module _ (m : Module) where
+  pub no_more : (xs : List Phi) (ps : List Placed) (p : Placed) → is_phi p ≡ false → Matched (IsPhiOf m) xs ps → Matched (IsPhiOf m) xs (ps ++ filter is_phi (p ∷ []))
+  no_more xs ps p none h = rw none (subst (Matched (IsPhiOf m) xs) (sym (append-nil ps)) h)
+
+  pub one_more : (xs : List Phi) (ps : List Placed) (x : Phi) (p : Placed) → is_phi p ≡ true → IsPhiOf m x p → Matched (IsPhiOf m) xs ps → Matched (IsPhiOf m) (xs ++ x ∷ []) (ps ++ filter is_phi (p ∷ []))
+  one_more xs ps x p some is h = rw some (matched_push (IsPhiOf m) xs ps x p h is)
+
+  pub is_phi_of : (h : InForm m) (b : ℕ) (i : LLVMInstRef) (p : Placed) (t : LLVMType) (es : List PhiEntry) (x : Phi) → IsPlacedIn m h b i p → p.instruction ≡ instruction_of (trees_of m) (I.Phi t es)
+      → x.slot ≡ Result i.0 → ((from : ℕ) → option_map source_of (get nat_eq x.incoming from) ≡ taken_of m from es) → IsPhiOf m x p
+  is_phi_of h b i p t es x at e slot takes = record {
+    entries = map (entry_of (trees_of m)) es;
+    are = ap phi_entries e;
+    slot = slot ∙ ap Result (sym (ap (λ (q : Placed). q.number) (kept_at m h b i p at).is));
+    incoming = takes;
+  }
+
+-- ---- the block at a place of a function's list
+
+abbrev pub some_block : LLVMBasicBlock
+some_block = record { 0 = 0 }
+
+-- its data, and its instructions
+pub record IsBlockAt (m : Module) (h : InForm m) (bs : List LLVMBasicBlock) (i : ℕ) : Type 0 where
+  pub block : Block
+  pub fits : IsBlockIn m h (get_or bs i some_block) block
+  pub at : slice_get (data_in m h).blocks i ≡ Some block
+
+pub block_at_place : (m : Module) (h : InForm m) (f : ℕ) (bs : List LLVMBasicBlock) (i : ℕ) → h.number ≡ f → option_map (λ (x : FunctionData). x.blocks) (slice_get m.functions f) ≡ Some bs → i < length bs → IsBlockAt m h bs i
+block_at_place m h f bs i is listed lt =
+    let y = block_there m h bs (blocks_are m h f bs is listed) i (get_or bs i some_block) (slice_get-get_or bs i some_block lt) in
+    record { block = y.0; fits = y.1; at = y.2 }
+
+pub all_blocks : (m : Module) (h : InForm m) (f : ℕ) (bs : List LLVMBasicBlock) (i : ℕ) → h.number ≡ f → option_map (λ (x : FunctionData). x.blocks) (slice_get m.functions f) ≡ Some bs → length bs ≤ i → take i (data_in m h).blocks ≡ (data_in m h).blocks
+all_blocks m h f bs i is listed le =
+    let same = ap length (blocks_are m h f bs is listed) in
+    take_all i (data_in m h).blocks (omega (arith, le, same, block_count m h))
+
+-- the numbers of a function's blocks are those of its list
+pub numbers_are : (m : Module) (h : InForm m) (f : ℕ) (bs : List LLVMBasicBlock) → h.number ≡ f → option_map (λ (x : FunctionData). x.blocks) (slice_get m.functions f) ≡ Some bs → map (λ (b : LLVMBasicBlock). b.0) bs ≡ map (λ (y : Block). y.number) (data_in m h).blocks
+numbers_are m h f bs is listed =
+    ap (map (λ (b : LLVMBasicBlock). b.0)) (sym (blocks_are m h f bs is listed)) ∙ same h.function.blocks (blocks_there m h.function.blocks (h.sound.functions h.number h.function h.at).blocks)
+  where
+    one : (b : LLVMBasicBlock) (y : Block) (o : Option BlockData) → option_map (block_of (trees_of m) m.insts b) o ≡ Some y → b.0 ≡ y.number
+    one b y None e = absurd (none-some y e)
+    one b y (Some x) e = ap (λ (z : Block). z.number) (some_same (block_of (trees_of m) m.insts b x) y e)
+
+    same : (bs : List LLVMBasicBlock) → ((i : ℕ) (b : LLVMBasicBlock) → slice_get bs i ≡ Some b → (y : Block) × (block_at (trees_of m) m.blocks m.insts b ≡ Some y))
+        → map (λ (b : LLVMBasicBlock). b.0) bs ≡ map (λ (y : Block). y.number) (filter_map (block_at (trees_of m) m.blocks m.insts) bs)
+    same [] all = refl
+    same (b ∷ bs) all =
+        let here = all 0 b refl in
+        let first = one b here.0 (slice_get m.blocks b.0) here.1 in
+        let rest = same bs (λ i c at. all (suc i) c at) in
+        subst (λ (o : Option Block). b.0 ∷ map (λ (b : LLVMBasicBlock). b.0) bs ≡ map (λ (y : Block). y.number) (cons_option o (filter_map (block_at (trees_of m) m.blocks m.insts) bs))) (sym here.1) (cc)
+
+-- ---- parameters
+
+count_is : (ts : List D.TypeTree) (xs : List LLVMType) → count_types (D.types_at ts xs) ≡ length xs
+count_is ts [] = refl
+count_is ts (x ∷ xs) = ap suc (count_is ts xs)
+
+pub arity_is : (m : Module) (h : InForm m) (f : ℕ) (t r : LLVMType) (ps : List LLVMType) (v : Bool) → h.number ≡ f → option_map (λ (x : FunctionData). x.ty) (slice_get m.functions f) ≡ Some t → slice_get m.types t.0 ≡ Some (T.Function r ps v) → arity (data_in m h).type ≡ length ps
+arity_is m h f t r ps v is at kind =
+    let same : h.function.ty ≡ t = some_same h.function.ty t (sym (ap (λ (n : ℕ). option_map (λ (x : FunctionData). x.ty) (slice_get m.functions n)) (sym is) ∙ ap (option_map (λ (x : FunctionData). x.ty)) h.at) ∙ at) in
+    let tree = ap (D.type_at (trees_of m).types) same ∙ function_tree_of m t r ps v h.sound kind in
+    ap arity tree ∙ count_is (trees_of m).types ps
+
+-- a function of the module has a function type
+pub typed_function : (m : Module) (k : LLVMTypeKind) → IsTrue (is_function k) → ((r : LLVMType) (ps : List LLVMType) (v : Bool) → k ≡ T.Function r ps v → ⊥) → ⊥
+typed_function m T.Void t h = cc
+typed_function m (T.Int w) t h = cc
+typed_function m (T.Function r ps v) t h = h r ps v refl
+
+pub start_is : (g : D.Function) (holder inputs : ℕ) → g.number ≡ holder → inputs ≡ arity g.type → (k : Key) → start_of holder inputs (slot_of k) ≡ start g k
+start_is g holder inputs is count (ParamKey f i) = rw (sym is, count) refl
+start_is g holder inputs is count (ResultKey n) = refl

@@ -1,0 +1,12 @@
+-- The lemmas of the crate.
+pub mod NodeLaws
+pub mod TableLaws
+pub mod RunLaws
+pub mod MoveLaws
+pub mod Renaming
+pub mod PlaceLaws
+pub mod LlvmLaws
+pub mod ListLaws
+pub mod IndexLaws
+pub mod EdgeLaws
+pub mod TraceLaws

@@ -1,0 +1,37 @@
+-- From the trace of a body, as the program keeps it, to that of a function.
+use Rattle.std.proofs.Common.{◌≡◌, ◌<◌, ℕ, List, Some, length, map, slice_get, refl, sym, ap, ◌∙◌}
+use Rattle.llvm_core.specs.Module.{Module}
+use Rattle.llvm_core.specs.Sound.{IsModule}
+use Rattle.llvm_core.specs.Data.{Function, data_of}
+use Rattle.llvm_core.specs.Form.{IsForm, IsFormFunction}
+use Rattle.llvm_core.proofs.ListLemmas.{some_same}
+use Rattle.llvm_core.proofs.DataLemmas.{there, function_at, within_at}
+use Rattle.meaning.specs.Machine as M
+use Rattle.meaning.specs.Machine.{Item}
+use Rattle.meaning.specs.Llvm as Llvm
+use Rattle.meaning.specs.Llvm.{Key, ParamKey, ResultKey, same_key}
+use Rattle.tracing.specs.declared.body.Slot.{Slot}
+use Rattle.tracing.specs.Bodies.{same_slot}
+use Rattle.tracing.specs.Renamed.{renamed_code}
+use Rattle.tracing.specs.LlvmBodies.{slot_of, InForm, data_in}
+use Rattle.tracing.proofs.Renaming.{renamed_trace}
+
+keys_apart : (a b : Key) → same_slot (slot_of a) (slot_of b) ≡ same_key a b
+keys_apart (ParamKey f i) (ParamKey g j) = refl
+keys_apart (ResultKey n) (ResultKey k) = refl
+keys_apart (ParamKey f i) (ResultKey k) = refl
+keys_apart (ResultKey n) (ParamKey g j) = refl
+
+abbrev pub in_form : (m : Module) (f : ℕ) → IsModule m → IsForm (data_of m) → f < length m.functions → InForm m
+in_form m f sound form lt =
+    let x = there m.functions f lt in
+    record { number = f; function = x.0; sound = sound; at = x.1; form = within_at (data_of m).functions IsFormFunction form f _ (function_at m f x.0 x.1) }
+
+pub llvm_trace : (m : Module) (h : InForm m) (x : Function) (cs : List ℕ) (start : Slot → _) (code : List (M.Block Slot)) (items : List Item) → slice_get (data_of m).functions h.number ≡ Some x
+    → items ≡ M.trace Slot same_slot start code cs → code ≡ renamed_code slot_of (map (Llvm.block (data_of m) (data_in m h)) (data_in m h).blocks) → ((k : Key) → start (slot_of k) ≡ Llvm.start (data_in m h) k)
+    → items ≡ (Llvm.body (data_of m) x).trace cs
+llvm_trace m h x cs start code items at is code_is same =
+    let function = some_same (data_in m h) x (sym (function_at m h.number h.function h.at) ∙ at) in
+    is ∙ ap (λ (c : List (M.Block Slot)). M.trace Slot same_slot start c cs) code_is
+    ∙ renamed_trace Key Slot same_key same_slot slot_of keys_apart (map (Llvm.block (data_of m) (data_in m h)) (data_in m h).blocks) (Llvm.start (data_in m h)) start same cs
+    ∙ ap (λ (g : Function). (Llvm.body (data_of m) g).trace cs) function

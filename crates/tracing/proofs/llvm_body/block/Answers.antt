@@ -1,0 +1,22 @@
+-- What `llvm_body::block` owes besides what the check finds.
+use Rattle.tracing.proofs.IndexLaws.{insts_placed}
+use Rattle.tracing.proofs.EdgeLaws.{block_is, block_number}
+use Rattle.tracing.proofs.llvm_body.block.Goals as goal
+
+pub rows-requires : goal.rows-requires
+rows-requires c =
+    let h = c.requires.block.0 in
+    let y = c.requires.block.1 in
+    (h, c.args.b.0, y.instructions, insts_placed c.args.m.now h c.args.b y c.instructions-insts.result.now c.requires.block.2 c.instructions-insts.ensures.insts)
+
+pub block_edges-requires : goal.block_edges-requires
+block_edges-requires c =
+    let h = c.requires.block.0 in
+    let y = c.requires.block.1 in
+    (h, c.args.b.0, y.instructions, insts_placed c.args.m.now h c.args.b y c.instructions-insts.result.now c.requires.block.2 c.instructions-insts.ensures.insts)
+
+pub returns : goal.returns
+returns c = λ h y at index.
+    let m = c.args.m.now in
+    let placed = insts_placed m h c.args.b y c.instructions-insts.result.now at c.instructions-insts.ensures.insts in
+    block_is m h c.args.index.now index _ y c.args.b.0 (block_number m h c.args.b y at) (c.in_ok-rows.ensures h c.args.b.0 y.instructions placed) (c.in_ok-block_edges.ensures h c.args.b.0 y.instructions placed)

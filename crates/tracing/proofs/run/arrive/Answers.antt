@@ -1,0 +1,13 @@
+-- What `run::arrive` owes besides what the check finds.
+use Rattle.std.proofs.Common.{refl}
+use Rattle.meaning.specs.Machine as M
+use Rattle.meaning.specs.Machine.{State}
+use Rattle.tracing.proofs.run.arrive.Goals as goal
+
+pub straight-requires : goal.straight-requires
+straight-requires c =
+    let h = c.requires.1 in
+    (_, c.in_ok-note.ensures.at (record c.requires.0 { block = c.args.to }) (M.Entered c.args.to) (record { block = refl; count = h.count; env = h.env; shown = h.shown }) refl)
+
+pub returns : goal.returns
+returns c = λ s h. c.in_ok-straight.ensures _ (c.in_ok-note.ensures.at (record s { block = c.args.to }) (M.Entered c.args.to) (record { block = refl; count = h.count; env = h.env; shown = h.shown }) refl)

@@ -1,0 +1,19 @@
+-- What `run::jump` owes besides what the check finds.
+use Rattle.std.proofs.Common.{◌∙◌, List, slice_get, sym, ap}
+use Rattle.tracing.specs.declared.body.Edge.{Edge}
+use Rattle.tracing.specs.declared.body.Block.{Block}
+use Rattle.tracing.proofs.MoveLaws.{found, goes, leads}
+use Rattle.tracing.proofs.run.jump.Goals as goal
+
+pub returns : goal.returns
+returns c = λ s h.
+    let is = c.as_slice-code.ensures in
+    let code = c.as_slice-code.result.now in
+    let b = c.in-Some.ensures.lookup in
+    let e = c.in-Some-get.ensures.lookup in
+    let t = c.in-Some-get-2.ensures.lookup in
+    let block = ap (slice_get _) (sym h.block) ∙ ap (λ (xs : List Block). slice_get xs c.args.run.now.block) (sym is) ∙ found code c.args.run.now.block c.in-Some.block.now b.3.0 b.1 in
+    let edge = ap (λ (xs : List Edge). slice_get xs c.args.choice) (sym c.as_slice.ensures) ∙ found c.as_slice.result.now c.args.choice c.in-Some-get.edge.now e.3.0 e.1 in
+    let target = ap (λ (xs : List Block). slice_get xs c.in-Some-get.edge.now.to) (sym is) ∙ found code c.in-Some-get.edge.now.to c.in-Some-get-2.target.now t.3.0 t.1 in
+    let followed = rw c.params_of.ensures at (c.in_ok-follow.ensures s h) in
+    leads c.follow.new.run s _ _ (goes c.args.body.now.params _ s c.args.choice c.in-Some.block.now c.in-Some-get.edge.now c.in-Some-get-2.target.now block edge target) followed

@@ -1,0 +1,13 @@
+-- What holds in the loop of `run::straight`.
+use Rattle.std.specs.Prelude.{map, take}
+use Rattle.meaning.specs.Machine as M
+use Rattle.meaning.specs.Machine.{State}
+use Rattle.tracing.specs.declared.body.Slot.{Slot}
+use Rattle.tracing.specs.Bodies.{same_slot, row_of}
+use Rattle.tracing.specs.Runs.{IsAt}
+use Rattle.tracing.proofs.run.straight.Given as goal
+
+abbrev pub invariant-loop-row : goal.invariant-loop-row
+invariant-loop-row l = record {
+  at : (s : State Slot) → IsAt l.fn.run s → IsAt l.run (M.straight Slot same_slot s (map row_of (take l.row-index l.rows)));
+}

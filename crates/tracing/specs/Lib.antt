@@ -1,0 +1,6 @@
+-- The definitions that clauses cite.
+pub mod Table
+pub mod Bodies
+pub mod Runs
+pub mod Renamed
+pub mod LlvmBodies

@@ -1,0 +1,113 @@
+-- What the body of a function of LLVM is made of.
+use Rattle.std.specs.Prelude.{◌≡◌, ℕ, List, [], Option, Some, None, map, filter, slice_get, nat_eq}
+use Rattle.indexmap.specs.IndexMap.{get}
+use Rattle.std.specs.List.{filter_map, position_or_len}
+use Rattle.std.specs.Option.{option_map, option_map_or}
+use Rattle.llvm_core.specs.declared.numbers.LLVMInstRef.{LLVMInstRef}
+use Rattle.llvm_core.specs.declared.numbers.LLVMBasicBlock.{LLVMBasicBlock}
+use Rattle.llvm_core.specs.declared.code.LLVMValue.{LLVMValue}
+use Rattle.llvm_core.specs.declared.code.FunctionData.{FunctionData}
+use Rattle.llvm_core.specs.Module.{Module}
+use Rattle.llvm_core.specs.Sound.{IsModule}
+use Rattle.llvm_core.specs.Parts.{IsValue}
+use Rattle.llvm_core.specs.Data as L
+use Rattle.llvm_core.specs.Data.{Placed, Function, trees_of, function_of, block_at, placed_at, operand_of, operand_type, phi_entries, data_of}
+use Rattle.llvm_core.specs.Form.{IsShortInt, IsOperandOf, IsFormInstruction, IsFormFunction, is_phi}
+use Rattle.meaning.specs.Machine as M
+use Rattle.meaning.specs.Llvm.{Key, ParamKey, ResultKey, operand, row, entry_for}
+use Rattle.meaning.specs.Pairs.{Matched}
+use Rattle.tracing.specs.declared.body.Slot.{Slot}
+use Rattle.tracing.specs.declared.body.Slot.TheVariants.{Input, Result}
+use Rattle.tracing.specs.declared.body.Source.{Source}
+use Rattle.tracing.specs.declared.body.Edge.{Edge}
+use Rattle.tracing.specs.declared.llvm_index.Phi.{Phi}
+use Rattle.tracing.specs.declared.llvm_index.Index.{Index}
+use Rattle.tracing.specs.Bodies.{source_of}
+use Rattle.tracing.specs.Renamed.{renamed, renamed_row}
+
+abbrev pub slot_of : Key → Slot
+slot_of (ParamKey f i) = Input f i
+slot_of (ResultKey n) = Result n
+
+-- a function of the form, in a module
+pub record InForm (m : Module) : Type 0 where
+  pub number : ℕ
+  pub function : FunctionData
+  pub sound : IsModule m
+  pub at : slice_get m.functions number ≡ Some function
+  pub form : IsFormFunction (function_of (trees_of m) m.blocks m.insts (number, function))
+
+-- its data
+abbrev pub data_in : (m : Module) → InForm m → Function
+data_in m h = function_of (trees_of m) m.blocks m.insts (h.number, h.function)
+
+abbrev pub operand_in : Module → LLVMValue → M.Operand Slot
+operand_in m v = renamed slot_of (operand (data_of m) (operand_of (trees_of m) v))
+
+-- the value is one of the function, of an integer type
+pub record IsUsed (m : Module) (h : InForm m) (v : LLVMValue) : Type 0 where
+  pub here : IsValue m v
+  pub stands : IsOperandOf (data_in m h) (operand_of (trees_of m) v)
+  pub short : IsShortInt (operand_type (data_in m h) (operand_of (trees_of m) v))
+
+-- the instruction i is p, of the block of the number b
+pub record IsPlacedIn (m : Module) (h : InForm m) (b : ℕ) (i : LLVMInstRef) (p : Placed) : Type 0 where
+  pub here : placed_at (trees_of m) m.insts i ≡ Some p
+  pub form : IsFormInstruction (data_in m h) b p p.instruction
+
+abbrev pub ArePlacedIn : (m : Module) → InForm m → ℕ → List LLVMInstRef → List Placed → Type 0
+ArePlacedIn m h b is ps = Matched (IsPlacedIn m h b) is ps
+
+-- the row of an instruction, none for a phi
+abbrev pub row_in : (m : Module) → InForm m → Placed → Option (M.Row Slot)
+row_in m h p = option_map (renamed_row slot_of) (row (data_of m) (data_in m h) p (phi_entries p.instruction))
+
+abbrev pub rows_in : (m : Module) → InForm m → List Placed → List (M.Row Slot)
+rows_in m h ps = filter_map (row_in m h) ps
+
+-- ---- phis and edges
+
+abbrev pub first_of : {X : Type 0} → Option X → Option X → Option X
+first_of None y = y
+first_of (Some x) y = Some x
+
+-- the phi's slot, and what it takes for each block that an edge comes from
+pub record IsPhiOf (m : Module) (x : Phi) (p : Placed) : Type 0 where
+  pub entries : List (L.Operand × ℕ)
+  pub are : phi_entries p.instruction ≡ Some entries
+  pub slot : x.slot ≡ Result p.number
+  pub incoming : (from : ℕ) → option_map source_of (get nat_eq x.incoming from) ≡ option_map (renamed slot_of) (entry_for (data_of m) from entries)
+
+-- the phis of instructions, in order
+abbrev pub ArePhisOf : Module → List Phi → List Placed → Type 0
+ArePhisOf m xs ps = Matched (IsPhiOf m) xs (filter is_phi ps)
+
+abbrev pub slots_of : List Phi → List Slot
+slots_of xs = map (λ (x : Phi). x.slot) xs
+
+-- what phis take on an edge from that block
+abbrev pub taken_from : ℕ → List Phi → List (Option Source)
+taken_from from xs = map (λ (x : Phi). get nat_eq x.incoming from) xs
+
+-- ---- blocks
+
+-- the block b is y, which stands in the function
+pub record IsBlockIn (m : Module) (h : InForm m) (b : LLVMBasicBlock) (y : L.Block) : Type 0 where
+  pub place : ℕ
+  pub at : slice_get (data_in m h).blocks place ≡ Some y
+  pub here : block_at (trees_of m) m.blocks m.insts b ≡ Some y
+
+-- the phis of each block, and the place of each by its number
+pub record IsIndexOf (m : Module) (h : InForm m) (x : Index) : Type 0 where
+  pub places : x.places ≡ map (λ (y : L.Block). y.number) (data_in m h).blocks
+  pub phis : Matched (λ (xs : List Phi) (y : L.Block). ArePhisOf m xs y.instructions) x.phis (data_in m h).blocks
+
+abbrev pub params_in : Index → List (List Slot)
+params_in x = map slots_of x.phis
+
+abbrev pub phis_at : Index → ℕ → List Phi
+phis_at x place = option_map_or (λ (xs : List Phi). xs) (slice_get x.phis place) []
+
+-- an edge to the block of that number
+abbrev pub edge_to : Index → (from to : ℕ) → Edge
+edge_to x from to = record { to = position_or_len (nat_eq to) x.places; sources = taken_from from (phis_at x (position_or_len (nat_eq to) x.places)) }

@@ -1,0 +1,68 @@
+//! What runs see of the body of a function, whichever side it is of.
+
+use crate::table::Opcode;
+use crate::trace::Imms;
+use llvm_core::items::Items;
+
+/// What sets a term in a run.
+#[derive(Clone, Copy, PartialEq, Eq, Hash, Debug, Drop)]
+pub enum Slot {
+    /// What is handed to a function or to a block of a number, by its place: a parameter or an argument.
+    Input(u32, u32),
+    /// The result of the instruction or operation of a number.
+    Result(u32),
+}
+
+/// An operand.
+#[derive(Clone, Copy, Drop)]
+pub enum Source {
+    At(Slot),
+    /// An integer of a width.
+    Int(u32, u128),
+    /// What stands for nothing yet, as a placeholder.
+    Unset,
+}
+
+/// What an instruction or operation does.
+#[derive(Drop)]
+pub enum Action {
+    /// It holds an integer of a width.
+    Holds(u32, u128),
+    /// It applies its kind to operands.
+    Applies {
+        opcode: Opcode,
+        imms: Imms,
+        operands: Items<Source>,
+    },
+}
+
+/// An instruction that is no phi, or an operation.
+#[derive(Drop)]
+pub struct Row {
+    pub action: Action,
+    pub result: Slot,
+}
+
+/// An edge: the place of the block where it leads, and in order what the phis or arguments there take.
+#[derive(Drop)]
+pub struct Edge {
+    pub to: u32,
+    pub sources: Items<Option<Source>>,
+}
+
+/// A block: its instructions that are no phis, or its operations, and its edges.
+#[derive(Drop)]
+pub struct Block {
+    pub rows: Items<Row>,
+    pub edges: Items<Edge>,
+}
+
+/// A body: what its parameters are handed to and how many there are, the phis or arguments of each block, and its
+/// blocks.
+#[derive(Drop)]
+pub struct Body {
+    pub holder: u32,
+    pub inputs: u32,
+    pub params: Items<Items<Slot>>,
+    pub blocks: Items<Block>,
+}

@@ -1,0 +1,188 @@
+//! The body of a function of LLVM, for runs.
+
+ghost use Rattle.std.specs.Prelude.{◌≡◌, ◌<◌, ◌++◌, [], ℕ, List, IfOk, OnOk, length, map, slice_get};
+ghost use Rattle.std.specs.List.{flat_map};
+ghost use Rattle.std.specs.Option.{option_map_or};
+ghost use Rattle.llvm_core.specs.Edges.{targets as leads_to};
+ghost use Rattle.llvm_core.specs.Data as lists;
+ghost use Rattle.llvm_core.specs.Data.{Placed, targets, data_of};
+ghost use Rattle.meaning.specs.Llvm as llvm;
+ghost use Rattle.tracing.specs.Bodies.{block_of, code_of, start_of};
+ghost use Rattle.tracing.specs.Renamed.{renamed_block, renamed_code};
+ghost use Rattle.tracing.specs.LlvmBodies.{slot_of, InForm, data_in, ArePlacedIn, IsIndexOf, IsBlockIn, slots_of, taken_from, phis_at, params_in, edge_to};
+
+use crate::body::{Block, Body, Edge, Slot, Source};
+use crate::llvm_index::{Index, Phi, index_of};
+use crate::llvm_rows::rows;
+use llvm_core::code::LLVMInst;
+use llvm_core::items::Items;
+use llvm_core::module::LLVMModule;
+use llvm_core::numbers::{LLVMBasicBlock, LLVMFunction, LLVMInstRef};
+use llvm_core::types::LLVMTypeKind;
+use std::alloc::{AllocError, Global};
+
+/// What phis take on an edge from a block.
+fn taken(alloc: Global, phis: &[Phi], from: u32) -> Result<Items<Option<Source>>, AllocError>
+    ensures { IfOk result (λ sources. sources ≡ taken_from from phis.now) }
+{
+    let mut sources = Items::new(alloc);
+    for phi in phis {
+        sources.push(phi.incoming.get(&from).copied())?;
+    }
+    Ok(sources)
+}
+
+/// The phis of the block at a place.
+fn phis_at(index: &Index, place: u32) -> &[Phi]
+    ensures { result.now ≡ phis_at index.now place }
+{
+    match index.phis.as_slice().get(place as usize) {
+        Some(phis) => phis.as_slice(),
+        None => &[],
+    }
+}
+
+/// An edge from a block to another.
+fn edge(alloc: Global, index: &Index, from: u32, to: LLVMBasicBlock) -> Result<Edge, AllocError>
+    ensures { IfOk result (λ e. e ≡ edge_to index.now from to.0) }
+{
+    let place = index.places.place(to.0);
+    let sources = taken(alloc, phis_at(index, place), from)?;
+    Ok(Edge { to: place, sources })
+}
+
+/// Appends the edges of an instruction: a line for each kind that leads to blocks.
+fn push_edges(
+    alloc: Global,
+    index: &Index,
+    from: u32,
+    inst: &LLVMInst,
+    edges: &mut Items<Edge>,
+) -> Result<(), AllocError>
+    ensures { OnOk result (edges.new ≡ edges.old ++ map (edge_to index.now from) (leads_to inst.now)) }
+{
+    match inst {
+        LLVMInst::Br(target) => {
+            edges.push(edge(alloc, index, from, *target)?)?;
+            Ok(())
+        }
+        LLVMInst::CondBr(_, yes, no) => {
+            edges.push(edge(alloc, index, from, *yes)?)?;
+            edges.push(edge(alloc, index, from, *no)?)?;
+            Ok(())
+        }
+        _ => Ok(()),
+    }
+}
+
+/// The edges of the instructions of a block.
+fn block_edges(
+    alloc: Global,
+    m: &LLVMModule,
+    index: &Index,
+    from: u32,
+    insts: &[LLVMInstRef],
+) -> Result<Items<Edge>, AllocError>
+    requires { (h : InForm m.now) × (b : ℕ) × (ps : List Placed) × ArePlacedIn m.now h b insts.now ps }
+    ensures { IfOk result (λ es. (h : InForm m.now) → (b : ℕ) → (ps : List Placed) → ArePlacedIn m.now h b insts.now ps → es ≡ map (edge_to index.now from) (flat_map (λ p. targets p.instruction) ps)) }
+{
+    let mut edges = Items::new(alloc);
+    for i in insts {
+        push_edges(alloc, index, from, m.inst(*i), &mut edges)?;
+    }
+    Ok(edges)
+}
+
+fn block(
+    alloc: Global,
+    m: &LLVMModule,
+    index: &Index,
+    b: LLVMBasicBlock,
+) -> Result<Block, AllocError>
+    requires within { b.0 < length m.now.blocks }
+    requires block { (h : InForm m.now) × (y : lists.Block) × IsBlockIn m.now h b y }
+    ensures { IfOk result (λ r. (h : InForm m.now) → (y : lists.Block) → IsBlockIn m.now h b y → IsIndexOf m.now h index.now → block_of (params_in index.now) r ≡ renamed_block slot_of (llvm.block (data_of m.now) (data_in m.now h) y)) }
+{
+    let insts = m.instructions(b);
+    Ok(Block {
+        rows: rows(alloc, m, insts)?,
+        edges: block_edges(alloc, m, index, b.0, insts)?,
+    })
+}
+
+/// The blocks of a function.
+fn blocks(
+    alloc: Global,
+    m: &LLVMModule,
+    index: &Index,
+    f: LLVMFunction,
+) -> Result<Items<Block>, AllocError>
+    requires { (h : InForm m.now) × (h.number ≡ f.0) }
+    ensures { IfOk result (λ bs. (h : InForm m.now) → h.number ≡ f.0 → IsIndexOf m.now h index.now → code_of (params_in index.now) bs ≡ renamed_code slot_of (map (llvm.block (data_of m.now) (data_in m.now h)) (data_in m.now h).blocks)) }
+{
+    let mut blocks = Items::new(alloc);
+    for b in m.blocks(f) {
+        let made = block(alloc, m, index, *b)?;
+        blocks.push(made)?;
+    }
+    Ok(blocks)
+}
+
+fn slots(alloc: Global, phis: &[Phi]) -> Result<Items<Slot>, AllocError>
+    ensures { IfOk result (λ slots. slots ≡ slots_of phis.now) }
+{
+    let mut slots = Items::new(alloc);
+    for phi in phis {
+        slots.push(phi.slot)?;
+    }
+    Ok(slots)
+}
+
+/// The slots of the phis of each block.
+fn params(alloc: Global, index: &Index) -> Result<Items<Items<Slot>>, AllocError>
+    ensures { IfOk result (λ params. params ≡ params_in index.now) }
+{
+    let mut params = Items::new(alloc);
+    for phis in index.phis.as_slice() {
+        let made = slots(alloc, phis.as_slice())?;
+        params.push(made)?;
+    }
+    Ok(params)
+}
+
+/// How many parameters a function has.
+fn param_count(m: &LLVMModule, f: LLVMFunction) -> usize
+    requires { (h : InForm m.now) × (h.number ≡ f.0) }
+    ensures { (h : InForm m.now) → h.number ≡ f.0 → result ≡ llvm.arity (data_in m.now h).type }
+{
+    match m.type_kind(m.function_type(f)) {
+        LLVMTypeKind::Function { params, .. } => params.as_slice().len(),
+        _ => unreachable!(),
+    }
+}
+
+fn inputs(m: &LLVMModule, f: LLVMFunction) -> Result<u32, AllocError>
+    requires { (h : InForm m.now) × (h.number ≡ f.0) }
+    ensures { IfOk result (λ n. (h : InForm m.now) → h.number ≡ f.0 → n ≡ llvm.arity (data_in m.now h).type) }
+{
+    let count = param_count(m, f);
+    if count > u32::MAX as usize {
+        return Err(AllocError);
+    }
+    Ok(count as u32)
+}
+
+/// The body of a function of the form.
+pub fn llvm_body(alloc: Global, m: &LLVMModule, f: LLVMFunction) -> Result<Body, AllocError>
+    requires { (h : InForm m.now) × (h.number ≡ f.0) }
+    ensures code { IfOk result (λ body. (h : InForm m.now) → h.number ≡ f.0 → code_of body.params body.blocks ≡ renamed_code slot_of (map (llvm.block (data_of m.now) (data_in m.now h)) (data_in m.now h).blocks)) }
+    ensures start { IfOk result (λ body. (h : InForm m.now) → h.number ≡ f.0 → (k : llvm.Key) → start_of body.holder body.inputs (slot_of k) ≡ llvm.start (data_in m.now h) k) }
+{
+    let index = index_of(alloc, m, f)?;
+    Ok(Body {
+        holder: f.0,
+        inputs: inputs(m, f)?,
+        params: params(alloc, &index)?,
+        blocks: blocks(alloc, m, &index, f)?,
+    })
+}

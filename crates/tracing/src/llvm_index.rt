@@ -1,0 +1,143 @@
+//! What is asked of a function of LLVM for each edge, made once: the place of each block, and what its phis take.
+
+ghost use Rattle.std.specs.Prelude.{◌≡◌, ◌<◌, ◌++◌, ◌∷◌, [], ℕ, List, All, IfOk, OnOk, None, Some, if◌then◌else◌, filter, length, map, nat_eq};
+ghost use Rattle.std.specs.Option.{option_map};
+ghost use Rattle.indexmap.specs.IndexMap.{get};
+ghost use Rattle.llvm_core.specs.Sound.{IsModule};
+ghost use Rattle.llvm_core.specs.Parts.{IsEntry};
+ghost use Rattle.llvm_core.specs.Data.{Placed, entry_of, trees_of, data_of};
+ghost use Rattle.llvm_core.specs.Form as form;
+ghost use Rattle.meaning.specs.Llvm as llvm;
+ghost use Rattle.meaning.specs.Pairs.{Matched};
+ghost use Rattle.tracing.specs.Bodies.{source_of};
+ghost use Rattle.tracing.specs.Renamed.{renamed};
+ghost use Rattle.tracing.specs.LlvmBodies.{slot_of, first_of, operand_in, InForm, data_in, ArePlacedIn, IsPlacedIn, IsPhiOf, ArePhisOf, IsIndexOf, IsBlockIn};
+
+use crate::body::{Slot, Source};
+use crate::llvm_rows::source;
+use crate::places::{Places, places_of};
+use indexmap::IndexMap;
+use llvm_core::code::{LLVMInst, PhiEntry};
+use llvm_core::items::Items;
+use llvm_core::module::LLVMModule;
+use llvm_core::numbers::{LLVMBasicBlock, LLVMFunction, LLVMInstRef};
+use std::alloc::{AllocError, Global};
+
+/// A phi: what it sets, and what it takes for each block that an edge comes from.
+#[derive(Drop)]
+pub struct Phi {
+    pub slot: Slot,
+    pub incoming: IndexMap<u32, Source>,
+}
+
+/// The place of each block of a function, and the phis of each.
+#[derive(Drop)]
+pub struct Index {
+    pub places: Places,
+    pub phis: Items<Items<Phi>>,
+}
+
+/// Notes an entry of a phi, unless there is an earlier one for its block.
+fn note_entry(
+    m: &LLVMModule,
+    incoming: &mut IndexMap<u32, Source>,
+    entry: PhiEntry,
+) -> Result<(), AllocError>
+    requires sound { IsModule m.now }
+    requires entry { IsEntry m.now entry }
+    ensures { OnOk result ((from : ℕ) → option_map source_of (get nat_eq incoming.new from) ≡ first_of (option_map source_of (get nat_eq incoming.old from)) (if nat_eq entry.block.0 from then Some (operand_in m.now entry.value) else None)) }
+{
+    if incoming.contains_key(&entry.block.0) {
+        return Ok(());
+    }
+    incoming.insert(entry.block.0, source(m, entry.value))?;
+    Ok(())
+}
+
+/// What a phi with these entries takes for each block that an edge comes from.
+fn incoming(
+    alloc: Global,
+    m: &LLVMModule,
+    entries: &[PhiEntry],
+) -> Result<IndexMap<u32, Source>, AllocError>
+    requires sound { IsModule m.now }
+    requires entries { All (IsEntry m.now) entries.now }
+    ensures { IfOk result (λ incoming. (from : ℕ) → option_map source_of (get nat_eq incoming from) ≡ option_map (renamed slot_of) (llvm.entry_for (data_of m.now) from (map (entry_of (trees_of m.now)) entries.now))) }
+{
+    let mut incoming = IndexMap::new(alloc);
+    for entry in entries {
+        note_entry(m, &mut incoming, *entry)?;
+    }
+    Ok(incoming)
+}
+
+/// Appends a phi, where the instruction is one.
+fn push_phi(
+    alloc: Global,
+    m: &LLVMModule,
+    i: LLVMInstRef,
+    phis: &mut Items<Phi>,
+) -> Result<(), AllocError>
+    requires { (h : InForm m.now) × (b : ℕ) × (p : Placed) × IsPlacedIn m.now h b i p }
+    ensures { OnOk result ((h : InForm m.now) → (b : ℕ) → (p : Placed) → IsPlacedIn m.now h b i p → (xs : List Placed) → Matched (IsPhiOf m.now) phis.old xs → Matched (IsPhiOf m.now) phis.new (xs ++ filter form.is_phi (p ∷ []))) }
+{
+    match m.inst(i) {
+        LLVMInst::Phi(_, entries) => {
+            let incoming = incoming(alloc, m, entries.as_slice())?;
+            phis.push(Phi {
+                slot: Slot::Result(i.0),
+                incoming,
+            })?;
+            Ok(())
+        }
+        _ => Ok(()),
+    }
+}
+
+/// The phis among instructions.
+fn phis(alloc: Global, m: &LLVMModule, insts: &[LLVMInstRef]) -> Result<Items<Phi>, AllocError>
+    requires { (h : InForm m.now) × (b : ℕ) × (ps : List Placed) × ArePlacedIn m.now h b insts.now ps }
+    ensures { IfOk result (λ xs. (h : InForm m.now) → (b : ℕ) → (ps : List Placed) → ArePlacedIn m.now h b insts.now ps → ArePhisOf m.now xs ps) }
+{
+    let mut phis = Items::new(alloc);
+    for i in insts {
+        push_phi(alloc, m, *i, &mut phis)?;
+    }
+    Ok(phis)
+}
+
+/// The phis of each block of a function.
+fn all_phis(alloc: Global, m: &LLVMModule, f: LLVMFunction) -> Result<Items<Items<Phi>>, AllocError>
+    requires { (h : InForm m.now) × (h.number ≡ f.0) }
+    ensures { IfOk result (λ xs. (h : InForm m.now) → h.number ≡ f.0 → Matched (λ xs y. ArePhisOf m.now xs y.instructions) xs (data_in m.now h).blocks) }
+{
+    let mut all = Items::new(alloc);
+    for b in m.blocks(f) {
+        let block_phis = phis(alloc, m, m.instructions(*b))?;
+        all.push(block_phis)?;
+    }
+    Ok(all)
+}
+
+/// The numbers of the blocks of a function.
+fn numbers(alloc: Global, blocks: &[LLVMBasicBlock]) -> Result<Vec<u32>, AllocError>
+    ensures { IfOk result (λ ns. ns.items ≡ map (λ b. b.0) blocks.now) }
+{
+    let mut numbers = Vec::new(alloc);
+    for b in blocks {
+        numbers.push(b.0)?;
+    }
+    Ok(numbers)
+}
+
+/// The index of a function.
+pub fn index_of(alloc: Global, m: &LLVMModule, f: LLVMFunction) -> Result<Index, AllocError>
+    requires { (h : InForm m.now) × (h.number ≡ f.0) }
+    ensures { IfOk result (λ index. (h : InForm m.now) → h.number ≡ f.0 → IsIndexOf m.now h index) }
+{
+    let numbers = numbers(alloc, m.blocks(f))?;
+    Ok(Index {
+        places: places_of(alloc, numbers.as_slice())?,
+        phis: all_phis(alloc, m, f)?,
+    })
+}

@@ -1,0 +1,214 @@
+//! The instructions of a function of LLVM, as rows of a body.
+
+ghost use Rattle.std.specs.Prelude.{◌≡◌, ◌<◌, ℕ, [], ◌++◌, List, All, IfOk, OnOk, Some, false, length, map, slice_get};
+ghost use Rattle.std.specs.List.{cons_option};
+ghost use Rattle.llvm_core.specs.declared.code.LLVMValue.TheVariants as values;
+ghost use Rattle.llvm_core.specs.Sound.{IsModule};
+ghost use Rattle.llvm_core.specs.declared.types.LLVMTypeKind.TheVariants as types;
+ghost use Rattle.llvm_core.specs.Parts.{IsValue, operands, is_phi};
+ghost use Rattle.llvm_core.specs.Data.{IntType, ModuleData, Trees, Placed, type_at, const_at, operand_of, operand_type, instruction_of, trees_of, data_of};
+ghost use Rattle.llvm_core.specs.Form.{IsShortResult};
+ghost use Rattle.llvm_core.specs.Form as form;
+ghost use Rattle.meaning.specs.Machine as machine;
+ghost use Rattle.meaning.specs.Llvm as llvm;
+ghost use Rattle.tracing.specs.Table.{tree_of, opcode_of, immediates_of};
+ghost use Rattle.tracing.specs.Bodies.{source_of, action_of, row_of};
+ghost use Rattle.tracing.specs.Renamed.{renamed_action};
+ghost use Rattle.tracing.specs.LlvmBodies.{slot_of, InForm, data_in, operand_in, IsUsed, IsPlacedIn, ArePlacedIn, row_in, rows_in};
+
+use crate::body::{Action, Row, Slot, Source};
+use crate::table::{Immediates, Opcode, ValueType};
+use crate::trace::Imms;
+use llvm_core::code::{LLVMInst, LLVMValue};
+use llvm_core::consts::LLVMConstKind;
+use llvm_core::items::Items;
+use llvm_core::module::LLVMModule;
+use llvm_core::numbers::{LLVMConst, LLVMInstRef, LLVMType};
+use llvm_core::types::LLVMTypeKind;
+use std::alloc::{AllocError, Global};
+
+/// The type of a value, or void.
+fn value_type(m: &LLVMModule, ty: LLVMType) -> ValueType
+    requires sound { IsModule m.now }
+    requires within { ty.0 < length m.now.types }
+    requires short { IsShortResult (type_at (trees_of m.now).types ty) }
+    ensures { tree_of result ≡ type_at (trees_of m.now).types ty }
+{
+    match m.type_kind(ty) {
+        LLVMTypeKind::Void => ValueType::Void,
+        LLVMTypeKind::Int(width) => ValueType::Int(*width),
+        LLVMTypeKind::Function { .. } => unreachable!(),
+    }
+}
+
+fn int_width(m: &LLVMModule, ty: LLVMType) -> u32
+    requires sound { IsModule m.now }
+    requires int { (width : ℕ) × (slice_get m.now.types ty.0 ≡ Some (types.Int width)) }
+    ensures { type_at (trees_of m.now).types ty ≡ IntType result }
+{
+    match m.type_kind(ty) {
+        LLVMTypeKind::Int(width) => *width,
+        _ => unreachable!(),
+    }
+}
+
+fn constant(m: &LLVMModule, c: LLVMConst) -> Source
+    requires sound { IsModule m.now }
+    requires within { c.0 < length m.now.consts }
+    ensures { source_of result ≡ machine.Fixed (llvm.const_term (data_of m.now) (const_at (trees_of m.now).consts c)) }
+{
+    match m.const_kind(c) {
+        LLVMConstKind::Int(ty, value) => Source::Int(int_width(m, *ty), *value),
+        LLVMConstKind::Placeholder(..) => Source::Unset,
+    }
+}
+
+/// An operand.
+pub fn source(m: &LLVMModule, v: LLVMValue) -> Source
+    requires sound { IsModule m.now }
+    requires value { IsValue m.now v }
+    ensures { source_of result ≡ operand_in m.now v }
+{
+    match v {
+        LLVMValue::Const(c) => constant(m, c),
+        LLVMValue::Param(f, place) => Source::At(Slot::Input(f.0, place)),
+        LLVMValue::Inst(i) => Source::At(Slot::Result(i.0)),
+    }
+}
+
+fn operand_type(m: &LLVMModule, v: LLVMValue) -> ValueType
+    requires { (h : InForm m.now) × IsUsed m.now h v }
+    ensures { (h : InForm m.now) → IsUsed m.now h v → tree_of result ≡ operand_type (data_in m.now h) (operand_of (trees_of m.now) v) }
+{
+    value_type(m, m.type_of(v))
+}
+
+/// What an instruction is: a line for each kind.
+fn opcode(inst: &LLVMInst) -> Opcode
+    ensures { (d : ModuleData) → (t : Trees) → opcode_of result ≡ (llvm.row_of d (instruction_of t inst.now)).0 }
+{
+    match inst {
+        LLVMInst::Add(..) => Opcode::Add,
+        LLVMInst::ICmp(..) => Opcode::ICmp,
+        LLVMInst::Phi(..) => Opcode::Phi,
+        LLVMInst::Br(..) => Opcode::Br,
+        LLVMInst::CondBr(..) => Opcode::CondBr,
+        LLVMInst::Ret(..) => Opcode::Ret,
+        LLVMInst::Unreachable => Opcode::Unreachable,
+    }
+}
+
+fn immediates(inst: &LLVMInst) -> Immediates
+    ensures { (d : ModuleData) → (t : Trees) → immediates_of result ≡ (llvm.row_of d (instruction_of t inst.now)).1 }
+{
+    match inst {
+        LLVMInst::Add(_, _, flags) => Immediates::Overflow {
+            nsw: flags.nsw,
+            nuw: flags.nuw,
+        },
+        LLVMInst::ICmp(_, _, predicate) => Immediates::Predicate(*predicate),
+        _ => Immediates::None,
+    }
+}
+
+/// The operands of an instruction that is no phi, in order: a line for each kind that has some.
+fn values(alloc: Global, inst: &LLVMInst) -> Result<Vec<LLVMValue>, AllocError>
+    requires { is_phi inst.now ≡ false }
+    ensures { IfOk result (λ vs. vs.items ≡ operands inst.now) }
+{
+    let values = match inst {
+        LLVMInst::Add(lhs, rhs, _) => Vec::from_slice(alloc, &[*lhs, *rhs])?,
+        LLVMInst::ICmp(lhs, rhs, _) => Vec::from_slice(alloc, &[*lhs, *rhs])?,
+        LLVMInst::CondBr(condition, _, _) => Vec::from_slice(alloc, &[*condition])?,
+        LLVMInst::Ret(Some(value)) => Vec::from_slice(alloc, &[*value])?,
+        _ => Vec::new(alloc),
+    };
+    Ok(values)
+}
+
+pub fn is_phi(inst: &LLVMInst) -> bool
+    ensures { result ≡ is_phi inst.now }
+{
+    matches!(inst, LLVMInst::Phi(..))
+}
+
+fn operand_types(
+    alloc: Global,
+    m: &LLVMModule,
+    values: &[LLVMValue],
+) -> Result<Items<ValueType>, AllocError>
+    requires { (h : InForm m.now) × All (IsUsed m.now h) values.now }
+    ensures { IfOk result (λ ts. (h : InForm m.now) → All (IsUsed m.now h) values.now → map tree_of ts ≡ map (λ v. operand_type (data_in m.now h) (operand_of (trees_of m.now) v)) values.now) }
+{
+    let mut types = Items::new(alloc);
+    for value in values {
+        types.push(operand_type(m, *value))?;
+    }
+    Ok(types)
+}
+
+fn sources(alloc: Global, m: &LLVMModule, values: &[LLVMValue]) -> Result<Items<Source>, AllocError>
+    requires sound { IsModule m.now }
+    requires values { All (IsValue m.now) values.now }
+    ensures { IfOk result (λ ss. map source_of ss ≡ map (operand_in m.now) values.now) }
+{
+    let mut sources = Items::new(alloc);
+    for value in values {
+        sources.push(source(m, *value))?;
+    }
+    Ok(sources)
+}
+
+/// What an instruction that is no phi does.
+fn action(alloc: Global, m: &LLVMModule, i: LLVMInstRef) -> Result<Action, AllocError>
+    requires { (h : InForm m.now) × (b : ℕ) × (p : Placed) × IsPlacedIn m.now h b i p × (form.is_phi p ≡ false) }
+    ensures { IfOk result (λ a. (h : InForm m.now) → (b : ℕ) → (p : Placed) → IsPlacedIn m.now h b i p → action_of a ≡ renamed_action slot_of (llvm.action (data_of m.now) (data_in m.now h) p)) }
+{
+    let inst = m.inst(i);
+    let values = values(alloc, inst)?;
+    let operand_types = operand_types(alloc, m, values.as_slice())?;
+    let operands = sources(alloc, m, values.as_slice())?;
+    let imms = Imms {
+        immediates: immediates(inst),
+        ty: value_type(m, m.type_of(LLVMValue::Inst(i))),
+        operand_types,
+    };
+    Ok(Action::Applies {
+        opcode: opcode(inst),
+        imms,
+        operands,
+    })
+}
+
+/// Appends the row of an instruction, unless it is a phi.
+fn push_row(
+    alloc: Global,
+    m: &LLVMModule,
+    i: LLVMInstRef,
+    rows: &mut Items<Row>,
+) -> Result<(), AllocError>
+    requires { (h : InForm m.now) × (b : ℕ) × (p : Placed) × IsPlacedIn m.now h b i p }
+    ensures { OnOk result ((h : InForm m.now) → (b : ℕ) → (p : Placed) → IsPlacedIn m.now h b i p → map row_of rows.new ≡ map row_of rows.old ++ cons_option (row_in m.now h p) []) }
+{
+    if is_phi(m.inst(i)) {
+        return Ok(());
+    }
+    let action = action(alloc, m, i)?;
+    rows.push(Row {
+        action,
+        result: Slot::Result(i.0),
+    })?;
+    Ok(())
+}
+
+/// The rows of the instructions of a block.
+pub fn rows(alloc: Global, m: &LLVMModule, insts: &[LLVMInstRef]) -> Result<Items<Row>, AllocError>
+    requires { (h : InForm m.now) × (b : ℕ) × (ps : List Placed) × ArePlacedIn m.now h b insts.now ps }
+    ensures { IfOk result (λ rows. (h : InForm m.now) → (b : ℕ) → (ps : List Placed) → ArePlacedIn m.now h b insts.now ps → map row_of rows ≡ rows_in m.now h ps) }
+{
+    let mut rows = Items::new(alloc);
+    for i in insts {
+        push_row(alloc, m, *i, &mut rows)?;
+    }
+    Ok(rows)
+}

@@ -1,0 +1,413 @@
+//! Runs of a body, with the terms of values in a table.
+
+ghost use Rattle.std.specs.Prelude.{◌≡◌, ◌<◌, ℕ, List, IfOk, OnOk, All, length, map, slice_get, Some};
+ghost use Rattle.std.specs.Option.{option_map};
+ghost use Rattle.meaning.specs.Terms as terms;
+ghost use Rattle.meaning.specs.Terms.{Term};
+ghost use Rattle.meaning.specs.Machine as machine;
+ghost use Rattle.meaning.specs.Machine.{State};
+ghost use Rattle.llvm_core.specs.Interned.{IsDistinctList};
+ghost use Rattle.tracing.specs.Table.{IsGrounded, HasPartsBelow, node_term, opcode_of, immediates_of, tree_of};
+ghost use Rattle.tracing.specs.Table as table;
+ghost use Rattle.tracing.specs.Bodies.{same_slot, source_of, action_of, row_of, moves_from, given, params_at, code_of, start_of};
+ghost use Rattle.tracing.specs.Runs.{is_built, with_each, IsAt, IsRun, Names, AllNamed, Keeps, IsJumped, ShowsItem, HasPlacesBelow, item_of};
+
+use crate::body::{Action, Block, Body, Edge, Row, Slot, Source};
+use crate::table::{Immediates, Opcode, TermNode, TermTable};
+use crate::trace::{Imms, Trace, TraceItem};
+use indexmap::IndexMap;
+use llvm_core::items::Items;
+use std::alloc::{AllocError, Global};
+
+/// A run so far: the block it is in, the place of each value's term, how many events there were, and what was shown.
+#[derive(Drop)]
+pub struct Run {
+    alloc: Global,
+    table: TermTable,
+    env: IndexMap<Slot, u32>,
+    block: u32,
+    count: u32,
+    items: Vec<TraceItem>,
+}
+
+/// The place of a term that the table may not have yet.
+fn intern(run: &mut Run, node: TermNode) -> Result<u32, AllocError>
+    requires { HasPartsBelow (length run.old.table) node }
+    ensures at { IfOk result (λ k. (s : State Slot) → IsAt run.old s → IsAt run.new s) }
+    ensures named { IfOk result (λ k. Names run.new.table k (node_term (table.terms run.old.table) node)) }
+    ensures kept { OnOk result (Keeps run.old.table run.new.table) }
+{
+    let place = run.table.intern(node)?;
+    Ok(place)
+}
+
+/// Gives a value the term at a place.
+fn set(run: &mut Run, slot: Slot, place: u32) -> Result<(), AllocError>
+    ensures table { OnOk result (run.new.table ≡ run.old.table) }
+    ensures at { OnOk result ((s : State Slot) → (t : Term) → IsAt run.old s → Names run.old.table place t → IsAt run.new (machine.set_in Slot same_slot s slot t)) }
+{
+    run.env.insert(slot, place)?;
+    Ok(())
+}
+
+/// Shows an item.
+fn note(run: &mut Run, item: TraceItem) -> Result<(), AllocError>
+    ensures table { OnOk result (run.new.table ≡ run.old.table) }
+    ensures at { OnOk result ((s : State Slot) → (i : machine.Item) → IsAt run.old s → ShowsItem run.old.table item i → IsAt run.new (machine.shows Slot same_slot s i)) }
+{
+    run.items.push(item)?;
+    Ok(())
+}
+
+/// The place of a value's term, which is unset where it has none.
+fn read_slot(run: &mut Run, slot: Slot) -> Result<u32, AllocError>
+    ensures at { IfOk result (λ k. (s : State Slot) → IsAt run.old s → IsAt run.new s × Names run.new.table k (s.env slot)) }
+    ensures kept { OnOk result (Keeps run.old.table run.new.table) }
+{
+    let found = run.env.get(&slot).copied();
+    match found {
+        Some(place) => Ok(place),
+        None => {
+            let place = intern(run, TermNode::Unset)?;
+            Ok(place)
+        }
+    }
+}
+
+/// The place of an operand's term.
+fn read(run: &mut Run, source: Source) -> Result<u32, AllocError>
+    ensures at { IfOk result (λ k. (s : State Slot) → IsAt run.old s → IsAt run.new s × Names run.new.table k (machine.read s.env (source_of source))) }
+    ensures kept { OnOk result (Keeps run.old.table run.new.table) }
+{
+    match source {
+        Source::At(slot) => {
+            let place = read_slot(run, slot)?;
+            Ok(place)
+        }
+        Source::Int(width, value) => {
+            let place = intern(run, TermNode::Int(width, value))?;
+            Ok(place)
+        }
+        Source::Unset => {
+            let place = intern(run, TermNode::Unset)?;
+            Ok(place)
+        }
+    }
+}
+
+/// The places of the terms of operands.
+fn read_all(run: &mut Run, sources: &[Source]) -> Result<Vec<u32>, AllocError>
+    requires { IsRun run.old }
+    ensures at { IfOk result (λ ks. (s : State Slot) → IsAt run.old s → IsAt run.new s × AllNamed run.new.table ks.items (map (machine.read s.env) (map source_of sources.now))) }
+    ensures within { IfOk result (λ ks. All (λ k. k < length run.new.table) ks.items) }
+{
+    let mut places = Vec::new(run.alloc);
+    for source in sources {
+        let place = read(run, *source)?;
+        places.push(place)?;
+    }
+    Ok(places)
+}
+
+/// A value holds an integer.
+fn hold(run: &mut Run, slot: Slot, width: u32, value: u128) -> Result<(), AllocError>
+    ensures { OnOk result ((s : State Slot) → IsAt run.old s → IsAt run.new (machine.set_in Slot same_slot s slot (terms.Int width value))) }
+{
+    let place = intern(run, TermNode::Int(width, value))?;
+    set(run, slot, place)?;
+    Ok(())
+}
+
+/// A value is the expression of a silent kind.
+fn build(
+    run: &mut Run,
+    slot: Slot,
+    opcode: Opcode,
+    imms: &Imms,
+    places: Vec<u32>,
+) -> Result<(), AllocError>
+    requires { All (λ k. k < length run.old.table) places.items }
+    ensures { OnOk result ((s : State Slot) → (ts : List Term) → IsAt run.old s → AllNamed run.old.table places.items ts
+        → IsAt run.new (machine.set_in Slot same_slot s slot (terms.Expr (opcode_of opcode) (immediates_of imms.now.immediates) (tree_of imms.now.ty) (terms.terms_of ts)))) }
+{
+    let node = TermNode::Expr {
+        opcode,
+        immediates: imms.immediates,
+        ty: imms.ty,
+        operands: Items::from_vec(places),
+    };
+    let place = intern(run, node)?;
+    set(run, slot, place)?;
+    Ok(())
+}
+
+fn copy_imms(alloc: Global, imms: &Imms) -> Result<Imms, AllocError>
+    ensures { IfOk result (λ copy. copy ≡ imms.now) }
+{
+    let types = Vec::from_slice(alloc, imms.operand_types.as_slice())?;
+    Ok(Imms {
+        immediates: imms.immediates,
+        ty: imms.ty,
+        operand_types: Items::from_vec(types),
+    })
+}
+
+/// Shows an event, whose answer is the result.
+fn show(
+    run: &mut Run,
+    slot: Slot,
+    opcode: Opcode,
+    imms: &Imms,
+    places: Vec<u32>,
+) -> Result<(), AllocError>
+    ensures { OnOk result ((s : State Slot) → (ts : List Term) → IsAt run.old s → AllNamed run.old.table places.items ts
+        → IsAt run.new (machine.answered Slot same_slot s slot (machine.Event (opcode_of opcode) (immediates_of imms.now.immediates) (tree_of imms.now.ty) (map tree_of imms.now.operand_types) ts))) }
+{
+    let count = run.count;
+    if count >= u32::MAX {
+        return Err(AllocError);
+    }
+    let event = TraceItem::Event {
+        opcode,
+        imms: copy_imms(run.alloc, imms)?,
+        operands: places,
+    };
+    note(run, event)?;
+    let place = intern(run, TermNode::Answer(count))?;
+    set(run, slot, place)?;
+    run.count = count + 1;
+    Ok(())
+}
+
+/// Whether a kind only builds an expression: a line for each kind.
+fn is_silent(opcode: Opcode) -> bool
+    ensures { result ≡ is_built (terms.family (opcode_of opcode)) }
+{
+    match opcode {
+        Opcode::Add => true,
+        Opcode::ICmp => false,
+        Opcode::Phi => false,
+        Opcode::Br => false,
+        Opcode::CondBr => false,
+        Opcode::Ret => false,
+        Opcode::Unreachable => false,
+    }
+}
+
+/// A row.
+fn apply(run: &mut Run, row: &Row) -> Result<(), AllocError>
+    requires { IsRun run.old }
+    ensures { OnOk result ((s : State Slot) → IsAt run.old s → IsAt run.new (machine.apply Slot same_slot s row.now.result (action_of row.now.action))) }
+{
+    match &row.action {
+        Action::Holds(width, value) => {
+            hold(run, row.result, *width, *value)?;
+            Ok(())
+        }
+        Action::Applies {
+            opcode,
+            imms,
+            operands,
+        } => {
+            let places = read_all(run, operands.as_slice())?;
+            if is_silent(*opcode) {
+                build(run, row.result, *opcode, imms, places)?;
+                Ok(())
+            } else {
+                show(run, row.result, *opcode, imms, places)?;
+                Ok(())
+            }
+        }
+    }
+}
+
+/// The rows of a block.
+fn straight(run: &mut Run, rows: &[Row]) -> Result<(), AllocError>
+    requires { IsRun run.old }
+    ensures { OnOk result ((s : State Slot) → IsAt run.old s → IsAt run.new (machine.straight Slot same_slot s (map row_of rows.now))) }
+{
+    for row in rows {
+        apply(run, row)?;
+    }
+    Ok(())
+}
+
+/// What an edge hands to the phi or argument at a place, None where it hands nothing.
+fn given_at(sources: &[Option<Source>], at: usize) -> Option<Source>
+    ensures { option_map source_of result ≡ given sources.now at }
+{
+    match sources.get(at) {
+        Some(source) => *source,
+        None => None,
+    }
+}
+
+/// The place of what an edge hands to a phi or argument, which is unset where it hands nothing.
+fn read_given(run: &mut Run, source: Option<Source>) -> Result<u32, AllocError>
+    ensures at { IfOk result (λ k. (s : State Slot) → IsAt run.old s → IsAt run.new s × Names run.new.table k (machine.read_move s.env (option_map source_of source))) }
+    ensures kept { OnOk result (Keeps run.old.table run.new.table) }
+{
+    match source {
+        Some(source) => {
+            let place = read(run, source)?;
+            Ok(place)
+        }
+        None => {
+            let place = intern(run, TermNode::Unset)?;
+            Ok(place)
+        }
+    }
+}
+
+/// The places of what an edge hands to phis or arguments.
+fn read_moves(
+    run: &mut Run,
+    params: &[Slot],
+    sources: &[Option<Source>],
+) -> Result<Vec<u32>, AllocError>
+    ensures at { IfOk result (λ ks. (s : State Slot) → IsAt run.old s → IsAt run.new s × AllNamed run.new.table ks.items (map (λ m. machine.read_move s.env m.1) (moves_from 0 params.now sources.now))) }
+    ensures len { IfOk result (λ ks. length ks.items ≡ length params.now) }
+{
+    let mut places = Vec::new(run.alloc);
+    for at in 0..params.len() {
+        let place = read_given(run, given_at(sources, at))?;
+        places.push(place)?;
+    }
+    Ok(places)
+}
+
+/// Gives values the terms at places, each in turn.
+fn set_all(run: &mut Run, slots: &[Slot], places: &[u32]) -> Result<(), AllocError>
+    requires { length places.now ≡ length slots.now }
+    ensures { OnOk result ((s : State Slot) → (ts : List Term) → IsAt run.old s → AllNamed run.old.table places.now ts → IsAt run.new (with_each s slots.now ts)) }
+{
+    for at in 0..slots.len() {
+        set(run, slots[at], places[at])?;
+    }
+    Ok(())
+}
+
+/// What an edge hands to the phis or arguments of its target, all read before any is set.
+fn move_all(run: &mut Run, params: &[Slot], sources: &[Option<Source>]) -> Result<(), AllocError>
+    ensures { OnOk result ((s : State Slot) → IsAt run.old s → IsAt run.new (machine.move Slot same_slot s (moves_from 0 params.now sources.now))) }
+{
+    let places = read_moves(run, params, sources)?;
+    set_all(run, params, places.as_slice())?;
+    Ok(())
+}
+
+/// Enters a block and runs it to its end.
+fn arrive(run: &mut Run, to: u32, rows: &[Row]) -> Result<(), AllocError>
+    requires { IsRun run.old }
+    ensures { OnOk result ((s : State Slot) → IsAt run.old s → IsAt run.new (machine.arrive Slot same_slot s to (map row_of rows.now))) }
+{
+    run.block = to;
+    note(run, TraceItem::Block(to))?;
+    straight(run, rows)?;
+    Ok(())
+}
+
+/// Takes an edge to a block, given the phis or arguments there.
+fn follow(run: &mut Run, edge: &Edge, params: &[Slot], target: &Block) -> Result<(), AllocError>
+    requires { IsRun run.old }
+    ensures { OnOk result ((s : State Slot) → IsAt run.old s
+        → IsAt run.new (machine.arrive Slot same_slot (machine.move Slot same_slot s (moves_from 0 params.now edge.now.sources)) edge.now.to (map row_of target.now.rows))) }
+{
+    move_all(run, params, edge.sources.as_slice())?;
+    arrive(run, edge.to, target.rows.as_slice())?;
+    Ok(())
+}
+
+/// The phis or arguments of the block at a place.
+fn params_of(body: &Body, at: u32) -> &[Slot]
+    ensures { result.now ≡ params_at body.now.params at }
+{
+    match body.params.as_slice().get(at as usize) {
+        Some(params) => params.as_slice(),
+        None => &[],
+    }
+}
+
+/// Takes the edge that a choice names, and answers whether there is one that leads to a block.
+fn jump(run: &mut Run, body: &Body, choice: u32) -> Result<bool, AllocError>
+    requires { IsRun run.old }
+    ensures { IfOk result (λ went. (s : State Slot) → IsAt run.old s → IsJumped run.new went s (machine.jump Slot same_slot (code_of body.now.params body.now.blocks) s choice)) }
+{
+    let code = body.blocks.as_slice();
+    let Some(block) = code.get(run.block as usize) else {
+        return Ok(false)
+    };
+    let Some(edge) = block.edges.as_slice().get(choice as usize) else {
+        return Ok(false)
+    };
+    let Some(target) = code.get(edge.to as usize) else {
+        return Ok(false)
+    };
+    follow(run, edge, params_of(body, edge.to), target)?;
+    Ok(true)
+}
+
+/// Runs on, with a choice for each jump, until the choices end or one names no edge.
+fn run_on(run: &mut Run, body: &Body, choices: &[u32]) -> Result<(), AllocError>
+    requires { IsRun run.old }
+    ensures { OnOk result ((s : State Slot) → IsAt run.old s → IsAt run.new (machine.run Slot same_slot (code_of body.now.params body.now.blocks) choices.now s)) }
+{
+    for choice in choices {
+        if !jump(run, body, *choice)? {
+            return Ok(());
+        }
+    }
+    Ok(())
+}
+
+/// A run before its first block, with its parameters set.
+fn begin(alloc: Global, holder: u32, inputs: u32) -> Result<Run, AllocError>
+    ensures { IfOk result (λ run. IsAt run (machine.begin Slot same_slot (start_of holder inputs))) }
+{
+    let mut run = Run {
+        alloc,
+        table: TermTable::new(alloc),
+        env: IndexMap::new(alloc),
+        block: 0,
+        count: 0,
+        items: Vec::new(alloc),
+    };
+    for place in 0..inputs {
+        let term = intern(&mut run, TermNode::Param(place))?;
+        set(&mut run, Slot::Input(holder, place), term)?;
+    }
+    Ok(run)
+}
+
+/// A run that is at the end of the first block.
+fn first(alloc: Global, body: &Body) -> Result<Run, AllocError>
+    ensures { IfOk result (λ run. IsAt run (machine.first Slot same_slot (start_of body.now.holder body.now.inputs) (code_of body.now.params body.now.blocks))) }
+{
+    let mut run = begin(alloc, body.holder, body.inputs)?;
+    match body.blocks.as_slice().first() {
+        Some(block) => {
+            arrive(&mut run, 0, block.rows.as_slice())?;
+            Ok(run)
+        }
+        None => Ok(run),
+    }
+}
+
+/// The trace of a body, for a list of choices.
+pub fn trace_body(alloc: Global, body: &Body, choices: &[u32]) -> Result<Trace, AllocError>
+    ensures exact { IfOk result (λ t. map (item_of (table.terms t.terms)) t.items.items ≡ machine.trace Slot same_slot (start_of body.now.holder body.now.inputs) (code_of body.now.params body.now.blocks) choices.now) }
+    ensures within { IfOk result (λ t. All (HasPlacesBelow (length t.terms)) t.items.items) }
+    ensures shared { IfOk result (λ t. IsDistinctList (table.terms t.terms)) }
+    ensures grounded { IfOk result (λ t. IsGrounded t.terms) }
+{
+    let mut run = first(alloc, body)?;
+    run_on(&mut run, body, choices)?;
+    let Run { table, items, .. } = run;
+
+    // This tells the proof what is true of every table.
+    let _ = table.len();
+    Ok(Trace {
+        terms: table,
+        items,
+    })
+}

@@ -1,0 +1,37 @@
+//! The trace of a function, for a list of branch choices: the blocks that it enters and its events.
+
+ghost use Rattle.std.specs.Prelude.{◌≡◌, ◌<◌, All, IfOk, Some, length, map, slice_get};
+ghost use Rattle.llvm_core.specs.Interned.{IsDistinctList};
+ghost use Rattle.llvm_core.specs.Data.{Function, data_of};
+ghost use Rattle.llvm_core.specs.Form.{IsForm};
+ghost use Rattle.meaning.specs.Llvm as llvm;
+ghost use Rattle.tracing.specs.Table.{terms, IsGrounded};
+ghost use Rattle.tracing.specs.Runs.{item_of, HasPlacesBelow};
+
+use crate::llvm_body::llvm_body;
+use crate::run::trace_body;
+use crate::trace::Trace;
+use llvm_core::module::LLVMModule;
+use llvm_core::numbers::LLVMFunction;
+use std::alloc::{AllocError, Global};
+
+/// The trace of a function of a module of the form. Each term of the table stands once, behind its parts.
+pub fn trace_of_llvm(
+    alloc: Global,
+    module: &LLVMModule,
+    f: LLVMFunction,
+    choices: &[u32],
+) -> Result<Trace, AllocError>
+    requires form { IsForm (data_of «module».now) }
+    requires function { f.0 < length «module».now.functions }
+    ensures exact { IfOk result (λ t. (x : Function) → slice_get (data_of «module».now).functions f.0 ≡ Some x → map (item_of (terms t.terms)) t.items.items ≡ (llvm.body (data_of «module».now) x).trace choices.now) }
+    ensures within { IfOk result (λ t. All (HasPlacesBelow (length t.terms)) t.items.items) }
+    ensures shared { IfOk result (λ t. IsDistinctList (terms t.terms)) }
+    ensures parts { IfOk result (λ t. IsGrounded t.terms) }
+{
+    // This tells the proof what is true of every module.
+    let _count = module.functions();
+    let body = llvm_body(alloc, module, f)?;
+    let trace = trace_body(alloc, &body, choices)?;
+    Ok(trace)
+}
