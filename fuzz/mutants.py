@@ -9,14 +9,12 @@ text that ends with status 0, and the module back that is printed of it, unless 
 definition does not dominate a use, which is not looked at here; earlier ones refuse numbers that leave some out.
 """
 import collections
-import pathlib
 import random
 import re
-import shutil
-import subprocess
 import sys
 
-ROOT = pathlib.Path(__file__).resolve().parent.parent
+import runs
+
 TOKEN = re.compile(rb"\s+|;[^\n]*|[@%]?[A-Za-z0-9$._-]+:?|\"[^\"]*\"|.", re.S)
 EXTRA = [b"%", b"@", b"0", b"1", b"-1", b"i1", b"i32", b"i64", b"i65", b"void", b"add", b"ret", b"nuw",
          b"nsw", b",", b"(", b")", b"{", b"}", b"=", b":", b"define", b"%0", b"%a", b"7:", b"\n", b"true", b"\xff", b"br", b"label", b"phi", b"icmp", b"eq",
@@ -54,34 +52,17 @@ def mutate_tokens(rng, text):
     return b"".join(tokens)
 
 
-def assembler_of_19():
-    """An installed `llvm-as` of version 19 or later, none where there is none."""
-    for name in ["llvm-as-19", "llvm-as"]:
-        path = shutil.which(name)
-        if path is None:
-            continue
-        said = subprocess.run([path, "--version"], capture_output=True, text=True).stdout
-        version = re.search(r"version (\d+)", said)
-        if version and int(version[1]) >= 19:
-            return path
-    return None
-
-
 def taken(assembler, text):
-    """Whether LLVM's assembler takes a text; yes where none is installed."""
-    if assembler is None:
-        return True
-    done = subprocess.run([assembler, "-o", "/dev/null", "-"], input=text, capture_output=True)
-    return done.returncode == 0 or b"does not dominate all uses" in done.stderr
+    """Whether LLVM's assembler takes a text, dominance aside; yes where none is installed."""
+    status, said = runs.assembled(assembler, text)
+    return status == 0 or b"does not dominate all uses" in said
 
 
 def fault_of(program, assembler, text, counts):
     """What is wrong with the answer to a text, none where nothing is."""
-    try:
-        done = subprocess.run([program, "round"], input=text, capture_output=True, timeout=10)
-    except subprocess.TimeoutExpired:
+    done = runs.round_of(program, text, counts)
+    if done is None:
         return "hangs"
-    counts[done.returncode] += 1
     if done.returncode in (6, 7):
         return f"output beside status {done.returncode}" if done.stdout else None
     if done.returncode != 0:
@@ -95,12 +76,10 @@ def fault_of(program, assembler, text, counts):
 
 
 def main():
-    seed = int(sys.argv[1]) if len(sys.argv) > 1 else 1
-    count = int(sys.argv[2]) if len(sys.argv) > 2 else 20000
-    subprocess.run([str(ROOT / "round_ll"), "round"], stdin=subprocess.DEVNULL, stdout=subprocess.DEVNULL, check=True)
-    program = str(ROOT / "crates/round_ll/out/round_ll")
-    assembler = assembler_of_19()
-    examples = [path.read_bytes() for path in sorted((ROOT / "examples").glob("*.ll"))]
+    seed, count = runs.arguments(20000)
+    program = runs.built()
+    assembler = runs.tool_of_19("llvm-as")
+    examples = [path.read_bytes() for path in sorted((runs.ROOT / "examples").glob("*.ll"))]
     rng, counts, faults = random.Random(seed), collections.Counter(), 0
     for _ in range(count):
         text = rng.choice(examples)
@@ -110,8 +89,7 @@ def main():
         if fault:
             faults += 1
             print(f"{fault}: {text!r}")
-    shown = ", ".join(f"status {status}: {n}" for status, n in sorted(counts.items()))
-    print(f"seed {seed}, {count} mutants; {shown}; {faults} faults; llvm-as: {assembler or 'none'}")
+    print(f"{runs.summary(seed, count, 'mutants', counts, faults)}; llvm-as: {assembler or 'none'}")
     sys.exit(1 if faults else 0)
 
 
