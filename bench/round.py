@@ -3,13 +3,15 @@
 
 First texts of 1, 4 and 16 MiB of two kinds: functions that each return an integer, and functions of a hundred adds
 each. Then control flow, a tenth of each text and the whole: many blocks that all branch to one block with three
-phis, a ladder of conditional branches, and functions of a hundred blocks.
+phis, a ladder of conditional branches, functions of a hundred blocks, a chain of blocks that stands in the text from
+its end, and a web of blocks that branch anywhere.
 Beside each stands `opt -S -passes=verify` of an installed LLVM, where there is one.
 A last line for each kind says how the time per byte of the largest stands to that of the smallest; more than 1.5
 is more than wanted.
 """
 import os
 import pathlib
+import random
 import resource
 import shutil
 import subprocess
@@ -84,6 +86,23 @@ def hundreds(count):
     return text_of(hundred, LIMIT * count // 10000, count)
 
 
+def chain(count):
+    """A chain of blocks, the last one first in the text."""
+    blocks = [f"b{k}:\n  br label %b{k + 1}\n" for k in range(count)]
+    return "define void @chain() {\n  br label %b0\n" + f"b{count}:\n  ret void\n" + "".join(reversed(blocks)) + "}\n"
+
+
+def web(count):
+    """Blocks that each branch to the next one and anywhere, in any order: as many edges as twice the blocks."""
+    rng, blocks = random.Random(1), []
+    for k in range(count):
+        yes, no = (min(count - 1, k + 1), rng.randrange(1, count))
+        blocks.append(f"b{k}:\n  %t{k} = icmp ult i32 %x, {k}\n  br i1 %t{k}, label %b{yes}, label %b{no}\n")
+    rest = blocks[1:]
+    rng.shuffle(rest)
+    return ("define void @web(i32 %n) {\n  %x = add i32 %n, 1\n  br label %b0\n" + "".join(blocks[:1] + rest) + "}\n")
+
+
 def text_of(item_of, size, count=None):
     """Functions, at most as many as the count, shorter than the size by one function's bytes at most."""
     lines, length, number = [], 0, 0
@@ -117,7 +136,7 @@ def main():
     for item_of in (answer, sums):
         print(item_of.__doc__)
         compare(built, opt, [(f"{size} MiB", text_of, item_of, size * MIB) for size in (1, 4, 16)])
-    for whole_of, count in ((fan, 20000), (ladder, 50000), (hundreds, 10000)):
+    for whole_of, count in ((fan, 20000), (ladder, 50000), (hundreds, 10000), (chain, 100000), (web, 150000)):
         print(whole_of.__doc__)
         compare(built, opt, [("tenth", whole_of, count // 10), ("whole", whole_of, count)])
 

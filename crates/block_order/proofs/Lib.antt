@@ -7,3 +7,5 @@ pub mod OrderingLemmas
 pub mod ExploredLemmas
 pub mod OrderLemmas
 pub mod LawLemmas
+pub mod TreeLemmas
+pub mod DominanceLemmas

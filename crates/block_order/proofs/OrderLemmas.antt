@@ -16,7 +16,7 @@ use Rattle.block_order.proofs.ExploredLemmas.{IsExplored, explored}
 
 -- ---- no node is met at first
 
-none_met : (n x : ℕ) → ¬ IsMet (replicate n false) x
+pub none_met : (n x : ℕ) → ¬ IsMet (replicate n false) x
 none_met n x h =
     let within : x < n = omega (arith, met-within (replicate n false) x h, length-replicate n false) in
     cc (h, get_or-replicate n x false false within)
@@ -103,7 +103,7 @@ listed_more g met inside after root roots part rest e l = record {
 }
 
 -- one root of the graph
-explored_root : (g : List (List ℕ)) (met after : List Bool) (root : ℕ) (part : List ℕ) → IsGraph g → length met ≡ length g → root < length g → Explores g met (root ∷ []) part after → IsExplored g met (root ∷ []) part after
+pub explored_root : (g : List (List ℕ)) (met after : List Bool) (root : ℕ) (part : List ℕ) → IsGraph g → length met ≡ length g → root < length g → Explores g met (root ∷ []) part after → IsExplored g met (root ∷ []) part after
 explored_root g met after root part graph fits within d = explored g met (root ∷ []) part after graph fits (λ y h. subst (λ v. v < length g) (contains_one root y h) within) d
 
 listed : (g : List (List ℕ)) (met : List Bool) (roots out : List ℕ) → IsGraph g → length met ≡ length g → ((y : ℕ) → Contains roots y → y < length g) → ExploresEach g met roots out → (after : List Bool) × IsListed g met roots out after

@@ -22,3 +22,7 @@ Reaches g a b = (w : List ℕ) × IsWalk g a b w
 -- every walk from a to b passes d
 abbrev pub EachWalkPasses : List (List ℕ) → (a b d : ℕ) → Type 0
 EachWalkPasses g a b d = (w : List ℕ) → IsWalk g a b w → Contains w d
+
+-- some walk from a to b misses d
+abbrev pub SomeWalkMisses : List (List ℕ) → (a b d : ℕ) → Type 0
+SomeWalkMisses g a b d = (w : List ℕ) × IsWalk g a b w × ¬ Contains w d

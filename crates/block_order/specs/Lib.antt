@@ -4,3 +4,5 @@ pub mod Order
 pub mod Marks
 pub mod DepthFirst
 pub mod Walking
+pub mod Tree
+pub mod Dominance

@@ -1,13 +1,14 @@
 -- What the links answer of a block's first operation and of the operation after another.
 use Rattle.std.proofs.Common.{◌≡◌, ◌<◌, ℕ, Bool, true, false, nat_eq, if◌then◌else◌, List, [], ◌∷◌, Option, Some, None, length, slice_get, get_or, ap, sym, subst, ◌∙◌, refl, arith}
 use Rattle.std.specs.Option.{option_map, option_and_then, IfSome}
-use Rattle.std.proofs.lemmas.Option.{slice_get-get_or, slice_get-map, get_or_from_slice_get}
+use Rattle.std.specs.Prelude.{unwrap_or}
+use Rattle.std.proofs.lemmas.Option.{slice_get-get_or, slice_get-map, slice_get_within, get_or_from_slice_get, unwrap_or-slice_get}
 use Rattle.std.proofs.lemmas.List.{length-map}
 use Rattle.dialect_core.specs.declared.numbers.OpRef.{OpRef}
 use Rattle.dialect_core.specs.declared.numbers.BlockRef.{BlockRef}
 use Rattle.dialect_core.specs.declared.lists.Link.{Link}
 use Rattle.dialect_core.specs.declared.lists.Ends.{Ends}
-use Rattle.dialect_core.specs.Lists.{list_at, next_of, next_in, AllApart}
+use Rattle.dialect_core.specs.Lists.{list_at, next_of, next_in, Has, AllApart}
 use Rattle.dialect_core.specs.Links.{parents_of, lists_of, list_from, block_at, next_at, IsChain, AllOf, IsAttached, IsLinked}
 use Rattle.dialect_core.proofs.ChainLemmas.{next-chain, block_within}
 use Rattle.dialect_core.proofs.AppendLemmas.{listed}
@@ -107,3 +108,22 @@ read_next links ends op x h there is_x = sym (next_is links ends op h ∙ link_i
 
 pub read_within : (links : List Link) (ends : List (Option Ends)) (op : OpRef) (x : Link) → IsLinked links ends → op.0 < length (parents_of links) → x ≡ get_or links op.0 x → IfSome x.next (λ (o : OpRef). o.0 < length (parents_of links))
 read_within links ends op x h there is_x = rw (← link_is links op x there is_x) (next_within links ends op h)
+
+-- ---- all operations and blocks
+
+-- an operation with a block stands in its list
+pub all_listed : (links : List Link) (ends : List (Option Ends)) → IsLinked links ends → (o : OpRef) (b : BlockRef) → slice_get (parents_of links) o.0 ≡ Some (Some b) → Has o.0 (list_at (lists_of links ends) b)
+all_listed links ends h o b at =
+    let block : block_at links o ≡ Some b = sym (parent_is links o) ∙ ap (option_and_then (λ (p : Option BlockRef). p)) at in
+    let there = subst (IsAttached links ends o) block (h.attached o) in
+    subst (Has o.0) (sym (list_there links ends b there.0)) there.1
+
+-- no list has an operation twice
+pub all_apart : (links : List Link) (ends : List (Option Ends)) → IsLinked links ends → (b : BlockRef) → AllApart (list_at (lists_of links ends) b)
+all_apart links ends h b = by (slice_get (lists_of links ends) b.0) refl
+  where
+    by : (xs : Option (List OpRef)) → slice_get (lists_of links ends) b.0 ≡ xs → AllApart (list_at (lists_of links ends) b)
+    by None gone = subst AllApart (sym (sym (unwrap_or-slice_get (lists_of links ends) b.0 []) ∙ ap (λ (xs : Option (List OpRef)). unwrap_or xs []) gone)) tt
+    by (Some xs) at =
+        let within = block_there links ends b.0 (slice_get_within (lists_of links ends) b.0 xs at) in
+        subst AllApart (sym (list_there links ends b within)) (h.chains b.0 (get_or ends b.0 None) (slice_get-get_or ends b.0 None within)).apart

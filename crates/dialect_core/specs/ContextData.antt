@@ -128,3 +128,18 @@ pub record IsContext (ops : List OpData) (blocks : List BlockData) (parents : Li
   pub within : (o : ℕ) (x : OpData) → slice_get ops o ≡ Some x → IsOpWithin (length ops) (length blocks) x
   pub standing : (b : ℕ) (xs : List OpRef) → slice_get lists b ≡ Some xs → All (λ (o : OpRef). slice_get parents o.0 ≡ Some (Some (record { 0 = b }))) xs
   pub holders : (b : ℕ) (x : BlockData) → slice_get blocks b ≡ Some x → x.holder.0 < length ops
+
+-- the operation that holds the block of the number b
+abbrev pub holder_at : List BlockData → ℕ → Option ℕ
+holder_at blocks b = option_map (λ (x : BlockData). x.holder.0) (slice_get blocks b)
+
+-- the blocks of each region are those that its operation holds, and each stands there once
+pub record AreRegions (region : ℕ → List BlockRef) (holder : ℕ → Option ℕ) : Type 0 where
+  pub ours : (o k : ℕ) (b : BlockRef) → slice_get (region o) k ≡ Some b → holder b.0 ≡ Some o
+  pub listed : (o b : ℕ) → holder b ≡ Some o → (k : ℕ) × (slice_get (region o) k ≡ Some (record { 0 = b }))
+  pub once : (o i j : ℕ) (b : BlockRef) → slice_get (region o) i ≡ Some b → slice_get (region o) j ≡ Some b → i ≡ j
+
+-- what a context keeps: what is named is there, and each region has the blocks that its operation holds
+pub record IsKept (ops : List OpData) (blocks : List BlockData) (parents : List (Option BlockRef)) (lists : List (List OpRef)) : Type 0 where
+  pub numbers : IsContext ops blocks parents lists
+  pub regions : AreRegions (region_at ops) (holder_at blocks)

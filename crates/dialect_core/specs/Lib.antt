@@ -7,3 +7,5 @@ pub mod Links
 pub mod Lists
 pub mod Numbering
 pub mod Text
+pub mod WellFormed
+pub mod Checking

@@ -1,5 +1,5 @@
 -- The lists of operations that blocks hold.
-use Rattle.std.specs.Prelude.{◌≡◌, ◌⊎◌, ℕ, List, [], ◌∷◌, Option, None, nat_eq, if◌then◌else◌, slice_get, slice_set, slice_index_or}
+use Rattle.std.specs.Prelude.{◌≡◌, ◌⊎◌, ℕ, List, [], ◌∷◌, Option, Some, None, nat_eq, if◌then◌else◌, slice_get, slice_set, slice_index_or}
 use Rattle.std.specs.Option.{option_map_or, option_and_then}
 use Rattle.dialect_core.specs.declared.numbers.OpRef.{OpRef}
 use Rattle.dialect_core.specs.declared.numbers.BlockRef.{BlockRef}
@@ -25,6 +25,20 @@ list_at lists b = slice_index_or lists b.0 []
 -- the operation after another in its block
 abbrev pub next_in : Lists → OpRef → Option OpRef
 next_in l op = option_and_then (λ b. next_of op.0 (list_at l.lists b)) (option_and_then (λ p. p) (slice_get l.parents op.0))
+
+-- x is an item of the list
+abbrev pub Stands : {X : Type 0} → X → List X → Type 0
+Stands x xs = (k : ℕ) × (slice_get xs k ≡ Some x)
+
+-- no item stands twice
+abbrev pub Once : {X : Type 0} → List X → Type 0
+Once {X} xs = (i j : ℕ) (x : X) → slice_get xs i ≡ Some x → slice_get xs j ≡ Some x → i ≡ j
+
+-- what is left of a block's list from an operation on
+abbrev pub from_op : Option OpRef → List OpRef → List OpRef
+from_op None xs = []
+from_op (Some o) [] = []
+from_op (Some o) (x ∷ xs) = if nat_eq x.0 o.0 then x ∷ xs else from_op (Some o) xs
 
 -- the operation of the number n is among xs
 abbrev pub Has : ℕ → List OpRef → Type 0

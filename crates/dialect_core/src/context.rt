@@ -7,9 +7,11 @@ ghost use Rattle.dialect_types.specs.Trees.{type_at, type_trees};
 ghost use Rattle.dialect_core.specs.Data.{DialectOp, Func, op_at, func_in, data_of, with_func, with_func_block, with_block_op, with_block_arg, HasKindTypesBelow, IsTypedOp, IsTyped};
 ghost use Rattle.dialect_core.specs.ContextData.{empty_context, with_op, with_block, with_argument, with_name, with_appended, is_plain, HoldsMore, StandsIn, IsValueWithin, IsSuccessorWithin, IsOpWithin, region_at};
 
+mod holding;
 mod lending;
 mod reading;
 mod text;
+mod well_formed;
 
 use crate::linkage::LinkageAttr;
 use crate::lists::OpLists;
@@ -35,7 +37,7 @@ pub struct Context {
 }
 
 impl Model for Context {
-    ghost use Rattle.dialect_core.specs.ContextData.{ContextData, IsContext};
+    ghost use Rattle.dialect_core.specs.ContextData.{ContextData, IsKept};
 
     ghost Value = { ContextData };
 
@@ -47,7 +49,7 @@ impl Model for Context {
       lists = c.lists.lists;
     } };
 
-    ghost invariant = { λ c. IsContext c.ops.items c.blocks.items c.lists.parents c.lists.lists };
+    ghost invariant = { λ c. IsKept c.ops.items c.blocks.items c.lists.parents c.lists.lists };
 }
 
 impl Context {
@@ -201,7 +203,8 @@ impl Context {
 
     /// Keeps a new operation, and answers its number.
     fn add(&mut self, op_data: OpData) -> Result<OpRef, AllocError>
-        requires { IsOpWithin (length self.old.ops) (length self.old.blocks) op_data }
+        requires within { IsOpWithin (length self.old.ops) (length self.old.blocks) op_data }
+        requires no_region { op_data.blocks ≡ [] }
         ensures ok { OnOk result (self.new ≡ with_op self.old op_data) }
         ensures number { IfOk result (λ o. o.0 ≡ length self.old.ops) }
         ensures free { IfOk result (λ o. slice_get self.new.parents o.0 ≡ Some None) }

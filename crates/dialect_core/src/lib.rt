@@ -3,13 +3,18 @@
 
 pub mod context;
 mod counting;
+pub mod laws;
 pub mod linkage;
 pub mod lists;
 mod module_printing;
 pub mod numbering;
 pub mod numbers;
+mod op_tests;
 pub mod ops;
 pub mod overflow;
 pub mod predicates;
 mod printing;
 pub mod steps;
+mod type_tests;
+mod value_tests;
+mod well_formed;

@@ -2,7 +2,7 @@
 
 ghost use Rattle.std.specs.Prelude.{◌≡◌, ◌<◌, ◌++◌, ◌∷◌, [], None, Some, length, slice_get, slice_set, OnOk, OnErr, IfOk, IfSome};
 ghost use Rattle.std.specs.Option.{option_map, option_map_or};
-ghost use Rattle.dialect_core.specs.Lists.{AllApart, Lists, list_at, with_change, next_in};
+ghost use Rattle.dialect_core.specs.Lists.{AllApart, Has, Lists, list_at, with_change, next_in};
 ghost use Rattle.dialect_core.specs.Links.{with_next};
 
 use crate::numbers::{BlockRef, OpRef};
@@ -117,6 +117,15 @@ impl OpLists {
         ensures within { IfSome result (λ o. o.0 < length self.now.parents) }
     {
         self.links[op.0 as usize].next
+    }
+
+    /// How many operations there are. Each stands in the list of its block, and no list has one twice.
+    pub fn len(&self) -> usize
+        ensures len { result ≡ length self.now.parents }
+        ensures listed { (o : OpRef) (b : BlockRef) → slice_get self.now.parents o.0 ≡ Some (Some b) → Has o.0 (list_at self.now.lists b) }
+        ensures apart { (b : BlockRef) → AllApart (list_at self.now.lists b) }
+    {
+        self.links.len()
     }
 
     /// The block that an operation stands in.

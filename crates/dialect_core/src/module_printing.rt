@@ -214,7 +214,7 @@ fn print_func_head(
 }
 
 /// The name of a module or function, empty where it has none.
-fn name_of(ctx: &Context, op: OpRef) -> &str
+pub fn name_of(ctx: &Context, op: OpRef) -> &str
     requires { op.0 < length ctx.now.ops }
     ensures { result.now ≡ name_at ctx.now.ops op.0 }
 {

@@ -13,6 +13,7 @@ pub mod EntryLaws
 pub mod PassLaws
 pub mod TakenLaws
 pub mod UsedLaws
+pub mod GraphLaws
 pub mod ForwardLaws
 pub mod Whole
 pub mod EdgeLaws
@@ -24,6 +25,8 @@ pub mod HoistLaws
 pub mod FrameLaws
 pub mod ReadyLaws
 pub mod RefusalLaws
+pub mod UndefinedLaws
+pub mod OrderedLaws
 pub mod OperationLaws
 pub mod HoistedLaws
 pub mod PlanLaws
@@ -33,3 +36,9 @@ pub mod WholeLaws
 pub mod BodyLaws
 pub mod StartLaws
 pub mod ModuleLaws
+pub mod SiteLaws
+pub mod UseLaws
+pub mod PairLaws
+pub mod MatchedLaws
+pub mod CodeLaws
+pub mod SameLaws

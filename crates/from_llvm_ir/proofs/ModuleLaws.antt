@@ -20,9 +20,9 @@ use Rattle.from_llvm_ir.specs.declared.importing.Imported.{Imported}
 use Rattle.from_llvm_ir.specs.declared.matching.FunctionBlocks.{FunctionBlocks}
 use Rattle.from_llvm_ir.specs.declared.conversion_err.ConversionErr.{ConversionErr}
 use Rattle.from_llvm_ir.specs.declared.conversion_err.ConversionErr.TheVariants as E
-use Rattle.from_llvm_ir.specs.Imported.{AreImported, NoneImported, ThenImported, ImportedFunction, IsBuilding, IsCause, IsImported, counting, imported_data}
+use Rattle.from_llvm_ir.specs.Imported.{AreImported, NoneImported, ThenImported, ImportedFunction, IsBuilding, IsImported, imported_data}
+use Rattle.from_llvm_ir.specs.Refusals.{IsCause, IsRefusalOfFunction}
 use Rattle.from_llvm_ir.specs.Source.{IsSource}
-use Rattle.from_llvm_ir.specs.Body.{IsLate}
 use Rattle.from_llvm_ir.specs.Importing.{IsImportedTo}
 use Rattle.from_llvm_ir.specs.Building.{module_named}
 use Rattle.from_llvm_ir.proofs.ListLaws.{take_next}
@@ -97,9 +97,9 @@ imported_whole m i body h =
     }
 
 -- what refuses a function refuses the module
-pub late_cause : (m : Module) (f : LLVMFunction) (g : L.Function) (e : ConversionErr) → IsSource m f g → IsLate g (counting 0 g.blocks) e → IsCause (source_of m) e
-late_cause m f g (E.ForwardUse name v) h late = record { place = f.0; f = g; at = h.at; refused = late }
-late_cause m f g E.NoMemory h late = tt
+pub function_cause : (m : Module) (f : LLVMFunction) (g : L.Function) (e : ConversionErr) → IsSource m f g → IsRefusalOfFunction g e → IsCause (source_of m) e
+function_cause m f g (E.UndefinedValue name v) h refused = record { place = f.0; f = g; at = h.at; refused = refused }
+function_cause m f g E.NoMemory h refused = tt
 
 -- the name that was given to a function
 pub name_given : (fs : List L.Function) (names : List (List ℕ)) (k : ℕ) (g : L.Function) (x : List ℕ) → names ≡ map (λ (f : L.Function). f.name) fs → slice_get fs k ≡ Some g → x ≡ get_or names k x → x ≡ g.name

@@ -1,10 +1,9 @@
 -- The blocks of a function in an order.
-use Rattle.std.proofs.Common.{ℕ, ◌≡◌, ◌≢◌, ◌<◌, ◌+◌, ◌++◌, inl, inr, take, get_or, slice_set, refl, sym, ap, ◌∙◌, Bool, true, false, cond, nat_eq, List, [], ◌∷◌, Some, length, map, slice_get, arith, eq-eqb}
+use Rattle.std.proofs.Common.{ℕ, ◌≡◌, ◌≢◌, ◌<◌, ◌+◌, inl, inr, get_or, slice_set, refl, sym, ap, ◌∙◌, Bool, true, false, cond, nat_eq, List, [], ◌∷◌, Some, length, map, slice_get, arith, eq-eqb}
 use Rattle.std.specs.Prelude.{slice_index_or}
 use Rattle.std.specs.List.{position_from}
 use Rattle.std.specs.Option.{option_and_then}
 use Rattle.std.proofs.lemmas.Bool.{cases_lt}
-use Rattle.std.proofs.lemmas.List.{length-take-le, take_more, same_lists}
 use Rattle.std.proofs.lemmas.List.Elements.{All-get_or}
 use Rattle.std.proofs.lemmas.Option.{slice_get_within, same_Some, get_or_from_slice_get, slice_get-get_or}
 use Rattle.dialect_core.proofs.ListLemmas.{slice_get-set_same, slice_get-set_other}
@@ -26,12 +25,6 @@ counting_at n (x ∷ xs) (ℕ.suc i) lt = counting_at (ℕ.suc n) xs i (omega ar
 pub length-counting : {A : Type 0} (n : ℕ) (xs : List A) → length (counting n xs) ≡ length xs
 length-counting n [] = refl
 length-counting n (x ∷ xs) = ap ℕ.suc (length-counting (ℕ.suc n) xs)
-
-pub counting_alike : {A B : Type 0} (n : ℕ) (xs : List A) (ys : List B) → length xs ≡ length ys → counting n xs ≡ counting n ys
-counting_alike n [] [] e = refl
-counting_alike n [] (y ∷ ys) e = absurd (omega (arith, e))
-counting_alike n (x ∷ xs) [] e = absurd (omega (arith, e))
-counting_alike n (x ∷ xs) (y ∷ ys) e = ap (λ (zs : List ℕ). n ∷ zs) (counting_alike (ℕ.suc n) xs ys (omega (arith, e)))
 
 -- ---- the place of a number in a list of distinct ones
 
@@ -136,42 +129,6 @@ inverse_places n order places h inverse count = record {
   onto = λ p lt. let o = there order p (omega (arith, lt, h.count)) in (o.0, inverse p o.0 o.1);
   first = λ lt. inverse 0 0 (h.first lt);
 }
-
--- ---- the order of the text
-
-counting_push : {A : Type 0} (n : ℕ) (xs : List A) (x : A) → counting n (xs ++ x ∷ []) ≡ counting n xs ++ (n + length xs) ∷ []
-counting_push n [] x = ap (λ (m : ℕ). m ∷ []) (let e : n ≡ n + 0 = omega arith in e)
-counting_push n (y ∷ xs) x = ap (λ (zs : List ℕ). n ∷ zs) (counting_push (ℕ.suc n) xs x ∙ ap (λ (m : ℕ). counting (ℕ.suc n) xs ++ m ∷ []) (let e : ℕ.suc n + length xs ≡ n + ℕ.suc (length xs) = omega arith in e))
-
-pub counting_next : {A : Type 0} (xs : List A) (i : ℕ) (ys : List ℕ) (d : A) → i < length xs → ys ≡ counting 0 (take i xs) → ys ++ i ∷ [] ≡ counting 0 (take (i + 1) xs)
-counting_next {A = A} xs i ys d lt h =
-    ap (λ (zs : List ℕ). zs ++ i ∷ []) h
-    ∙ ap (λ (m : ℕ). counting 0 (take i xs) ++ m ∷ []) (let e : i ≡ 0 + length (take i xs) = (let l = length-take-le i xs (omega (arith, lt)) in omega (arith, l)) in e)
-    ∙ sym (counting_push 0 (take i xs) (get_or xs i d))
-    ∙ ap (counting 0) (sym (take_more xs i d lt))
-
-counted_at : {A : Type 0} (n : ℕ) (xs : List A) (i p : ℕ) → slice_get (counting n xs) i ≡ Some p → p ≡ n + i
-counted_at n xs i p at =
-    let lt = slice_get_within (counting n xs) i p at in
-    same_Some p (n + i) (sym at ∙ counting_at n xs i (omega (arith, lt, length-counting n xs)))
-
-pub counting_places : {A : Type 0} (xs : List A) → IsPlaces (length xs) (counting 0 xs)
-counting_places xs = record {
-  count = length-counting 0 xs;
-  within = λ i d lt. let e = counted_at 0 xs i (get_or (counting 0 xs) i d) (slice_get-get_or (counting 0 xs) i d lt) in omega (arith, e, lt, length-counting 0 xs);
-  apart = λ i j x at_i at_j. let a = counted_at 0 xs i x at_i in let b = counted_at 0 xs j x at_j in omega (arith, a, b);
-  onto = λ p lt. (p, counting_at 0 xs p lt ∙ ap Some (let e : 0 + p ≡ p = omega arith in e));
-  first = λ lt. counting_at 0 xs 0 lt;
-}
-
--- counting is its own inverse
-pub counting_inverse : {A : Type 0} (xs : List A) (places : List ℕ) → IsInverse (counting 0 xs) places → length places ≡ length xs → places ≡ counting 0 xs
-counting_inverse xs places inverse count = same_lists places (counting 0 xs) (count ∙ sym (length-counting 0 xs)) (λ i d lt. at_place i d lt)
-  where
-    at_place : (i d : ℕ) → i < length places → get_or places i d ≡ get_or (counting 0 xs) i d
-    at_place i d lt =
-        let at : slice_get (counting 0 xs) i ≡ Some i = counting_at 0 xs i (omega (arith, lt, count)) ∙ ap Some (let e : 0 + i ≡ i = omega arith in e) in
-        get_or_from_slice_get places i i d (inverse i i at) ∙ sym (get_or_from_slice_get (counting 0 xs) i i d at)
 
 -- ---- an order turned round
 

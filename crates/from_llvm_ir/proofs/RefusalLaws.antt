@@ -50,7 +50,7 @@ beside_some {X = X} {Y = Y} test (z ∷ xs) (y ∷ ys) (suc i) x n at passes = b
 
 -- ---- what an instruction uses is an operand of the function
 
-used_usable : (g : L.Function) (form : LF.IsFormFunction g) (place x : ℕ) (b : L.Block) (p : Placed) → slice_get g.blocks place ≡ Some b → slice_get b.instructions x ≡ Some p → LF.is_phi p ≡ false → (o : L.Operand) → IsIn (used_by g b p) o → IsUsable g o
+pub used_usable : (g : L.Function) (form : LF.IsFormFunction g) (place x : ℕ) (b : L.Block) (p : Placed) → slice_get g.blocks place ≡ Some b → slice_get b.instructions x ≡ Some p → LF.is_phi p ≡ false → (o : L.Operand) → IsIn (used_by g b p) o → IsUsable g o
 used_usable g form place x b p at here other o is_in = elim (split_at (LF.operands_of p.instruction) (flat_map (passed g b.number) (L.targets p.instruction)) is_in.0 o is_in.1) [
   | inl a ↦ operands_usable g form b.number p p.instruction (inst_form g form place x b p at here) (no_phi_is p other) is_in.0 o a
   | inr z ↦
@@ -163,7 +163,7 @@ module _ (fr : Frame) (m : Module) (f : LLVMFunction) (targets : Targets) (entri
 
     -- so the function is refused
     pub late : (os : List L.Operand) (e : ConversionErr) → ((o : L.Operand) → IsIn os o → IsIn (used_by g b p) o) → IsForward m values os e → IsLate g places e
-    late os (E.ForwardUse name v) more u =
+    late os (E.UndefinedValue name v) more u =
         let is_in = more (L.Result u.inst.0) u.used in
         let usable = used_usable g h.framed.source.form h.place x b p h.of_block.at h.inst.at other (L.Result u.inst.0) is_in in
         record {

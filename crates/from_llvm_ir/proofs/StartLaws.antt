@@ -27,14 +27,16 @@ use Rattle.dialect_core.specs.declared.ops.OpKind.TheVariants as O
 use Rattle.dialect_core.specs.ContextData.{ContextData, kind_at}
 use Rattle.dialect_core.specs.Data.{DialectModule, Func, DialectBlock, DialectOp, with_func, with_func_block}
 use Rattle.dialect_core.proofs.ListLemmas.{push_cases}
+use Rattle.block_order.specs.DepthFirst.{IsDepthFirst}
 use Rattle.from_llvm_ir.specs.declared.matching.FunctionBlocks.{FunctionBlocks}
 use Rattle.from_llvm_ir.specs.declared.targets.Targets.{Targets}
 use Rattle.from_llvm_ir.specs.declared.values.Values.{Values}
 use Rattle.from_llvm_ir.specs.Match.{IsPlaces}
 use Rattle.from_llvm_ir.specs.Order.{IsInverse}
+use Rattle.from_llvm_ir.specs.Walks.{graph_of, HasDominatedUses}
 use Rattle.from_llvm_ir.specs.Types.{GrowsTypes, type_from}
 use Rattle.from_llvm_ir.specs.Values.{target_at, value_at, IsNoted}
-use Rattle.from_llvm_ir.specs.Imported.{FirstUses, NoUses, UsedAgain, UsedFirst, ImportedFunction, IsBuilding, IsBelow, counting, front_for, given_name, label_for, phis_of}
+use Rattle.from_llvm_ir.specs.Imported.{FirstUses, NoUses, UsedAgain, UsedFirst, ImportedFunction, IsBuilding, IsBelow, front_for, given_name, label_for, phis_of}
 use Rattle.from_llvm_ir.specs.Building.{AreBare, AreFresh, AreNumbered, IsUnder, bare_func, with_blocks, with_ops, ops_of}
 use Rattle.from_llvm_ir.specs.Source.{IsSource, IsBlockOf}
 use Rattle.from_llvm_ir.specs.Known.{Frame, Known, Stands, Notes, IsOlder, IsKnown, blocks_of, knows, value_of}
@@ -44,7 +46,7 @@ use Rattle.from_llvm_ir.specs.Importing.{IsDeclared}
 use Rattle.from_llvm_ir.proofs.BuildLaws.{length-push}
 use Rattle.from_llvm_ir.proofs.UnderLaws.{block_taken, typed_building}
 use Rattle.from_llvm_ir.proofs.PlaceLaws.{flat_none, number_apart}
-use Rattle.from_llvm_ir.proofs.OrderLaws.{counting_at, length-counting, ordered_length, ordered_here, ordered_apart}
+use Rattle.from_llvm_ir.proofs.OrderLaws.{ordered_length, ordered_here, ordered_apart}
 use Rattle.from_llvm_ir.proofs.SourceLaws.{block_listed_at, block_number, blocks_listed, number_is}
 use Rattle.from_llvm_ir.proofs.FrameLaws.{frame_length}
 use Rattle.from_llvm_ir.proofs.ValueLaws.{key_decides}
@@ -395,26 +397,9 @@ module _ (m : Module) (f : LLVMFunction) (fr : Frame) (c : ContextData) (values 
   func_is : the_func framed.func.0 k h.left ≡ with_blocks fr.home h.left
   func_is = ap (λ (g : Func). record g { blocks = h.left }) (sym framed.func.1)
 
-  pub function_whole : (x : FunctionBlocks) → x.function ≡ f → IsInverse fr.order x.places → IsPlaces (length fr.source.blocks) x.places → (y : Func) × ImportedFunction (data_of m) fr.source x y × IsBuilding c fr.home.m fr.home.body (with_func fr.home.before y)
-  function_whole x is inverse places = (
+  pub function_whole : (x : FunctionBlocks) → x.function ≡ f → IsInverse fr.order x.places → IsPlaces (length fr.source.blocks) x.places → IsDepthFirst (graph_of fr.source) fr.order → HasDominatedUses fr.source → (y : Func) × ImportedFunction (data_of m) fr.source x y × IsBuilding c fr.home.m fr.home.body (with_func fr.home.before y)
+  function_whole x is inverse places depth_first dominated = (
     the_func framed.func.0 k h.left,
-    imported (data_of m) framed.func.0 k h.left whole x inverse places (ap (λ (g : LLVMFunction). g.0) is ∙ sym framed.number) h.known.first_uses,
+    imported (data_of m) framed.func.0 k h.left whole x inverse places (ap (λ (g : LLVMFunction). g.0) is ∙ sym framed.number) depth_first dominated h.known.first_uses,
     subst (λ (y : Func). IsBuilding c fr.home.m fr.home.body (with_func fr.home.before y)) (sym func_is) under_left.building,
   )
-
--- ---- the order of the text
-
--- counting has the counting of as many items as its inverse
-pub counting_turned : {A B : Type 0} (xs : List A) (ys : List B) → length xs ≡ length ys → IsInverse (counting 0 xs) (counting 0 ys)
-counting_turned xs ys long j i at =
-    let lt : j < length xs = (let w = slice_get_within (counting 0 xs) j i at in omega (arith, w, length-counting 0 xs)) in
-    let is : 0 + j ≡ i = same_Some (0 + j) i (sym (counting_at 0 xs j lt) ∙ at) in
-    let same : i ≡ j = omega (arith, is) in
-    ap (slice_get (counting 0 ys)) same ∙ counting_at 0 ys j (omega (arith, lt, long)) ∙ ap Some (let e : 0 + j ≡ j = omega arith in e)
-
--- an order of as many blocks as are listed
-pub text_places : (m : Module) (f : LLVMFunction) (g : L.Function) (ns : List LLVMBasicBlock) (os order : List ℕ) → IsSource m f g → option_map (λ (x : FunctionData). x.blocks) (slice_get m.functions f.0) ≡ Some ns → IsPlaces (length ns) os → order ≡ os → IsPlaces (length g.blocks) order
-text_places m f g ns os order h has places same = subst (IsPlaces (length g.blocks)) (sym same) (subst (λ (n : ℕ). IsPlaces n os) (blocks_listed m f g h ns has).long places)
-
-pub text_turned : (m : Module) (f : LLVMFunction) (g : L.Function) (ns : List LLVMBasicBlock) (os order : List ℕ) → IsSource m f g → option_map (λ (x : FunctionData). x.blocks) (slice_get m.functions f.0) ≡ Some ns → os ≡ counting 0 ns → order ≡ os → IsInverse order (counting 0 g.blocks)
-text_turned m f g ns os order h has counted same = subst (λ (xs : List ℕ). IsInverse xs (counting 0 g.blocks)) (sym (same ∙ counted)) (counting_turned ns g.blocks (blocks_listed m f g h ns has).long)

@@ -53,7 +53,7 @@ operands_there m (I.Ret (Some x)) e h zero v at = subst (IsValue m) (same_Some x
 operands_there m (I.Ret (Some x)) e h (suc j) v at = absurd (none-some v at)
 operands_there m I.Unreachable e h j v at = absurd (none-some v at)
 
-targets_same : (t : Trees) (inst : LLVMInst) → map (λ (b : LLVMBasicBlock). b.0) (target_blocks inst) ≡ L.targets (instruction_of t inst)
+pub targets_same : (t : Trees) (inst : LLVMInst) → map (λ (b : LLVMBasicBlock). b.0) (target_blocks inst) ≡ L.targets (instruction_of t inst)
 targets_same t (I.Add l r f) = refl
 targets_same t (I.ICmp l r q) = refl
 targets_same t (I.Phi type es) = refl

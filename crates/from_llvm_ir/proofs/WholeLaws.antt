@@ -10,11 +10,13 @@ use Rattle.llvm_core.proofs.DataLemmas.{there}
 use Rattle.dialect_core.specs.Data.{DialectOp, DialectBlock}
 use Rattle.meaning.specs.Pairs.{BothOrNone}
 use Rattle.meaning.specs.Dialect.{type_of}
+use Rattle.block_order.specs.DepthFirst.{IsDepthFirst}
 use Rattle.from_llvm_ir.specs.declared.matching.FunctionBlocks.{FunctionBlocks}
 use Rattle.from_llvm_ir.specs.Match.{IsPlaces, place_at}
 use Rattle.from_llvm_ir.specs.Types.{type_from}
 use Rattle.from_llvm_ir.specs.Order.{IsInverse}
 use Rattle.from_llvm_ir.specs.Imported.{FirstUses, Makes, IsImportedBlock, ImportedFunction, HasGivenName, constants_in, constants_used, rest_of, phis_of, front_for, label_for}
+use Rattle.from_llvm_ir.specs.Walks.{graph_of, HasDominatedUses}
 use Rattle.from_llvm_ir.specs.Known.{Known, IsConstantOp, blocks_of}
 use Rattle.from_llvm_ir.specs.Converted.{IsRow, IsConverted, args_for}
 use Rattle.from_llvm_ir.proofs.ListLaws.{matched_weaker}
@@ -80,10 +82,12 @@ module _ (d : L.ModuleData) (n : ℕ) (k : Known) (cs : List DialectBlock) (h : 
   uses_are : constants_used d g x.places ≡ flat_map (λ (b : L.Block). flat_map (constants_in d g b) (rest_of b)) (blocks_of k.frame)
   uses_are = ap (flat_map (λ (b : L.Block). flat_map (constants_in d g b) (rest_of b))) (in_order_is k.frame.order g.blocks h.order x.places inverse p)
 
-  pub imported : x.function.0 ≡ g.number → FirstUses (flat_map (λ (b : L.Block). flat_map (constants_in d g b) (rest_of b)) (blocks_of k.frame)) k.constants → ImportedFunction d g x (the_func n k cs)
-  imported number uses = record {
+  pub imported : x.function.0 ≡ g.number → IsDepthFirst (graph_of g) k.frame.order → HasDominatedUses g → FirstUses (flat_map (λ (b : L.Block). flat_map (constants_in d g b) (rest_of b)) (blocks_of k.frame)) k.constants → ImportedFunction d g x (the_func n k cs)
+  imported number depth_first dominated uses = record {
     function = number;
     places = p;
+    order = (k.frame.order, depth_first, inverse);
+    uses = dominated;
     name = refl;
     type = type_back g.type;
     form = form_of n k cs h;

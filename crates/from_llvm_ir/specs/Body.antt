@@ -149,7 +149,7 @@ pub record IsBegun (fr : Frame) (m : Module) (f : LLVMFunction) (targets : Targe
 
 -- ---- refusals
 
--- why a function is refused, whose blocks have these places
+-- why an import stops in a function whose blocks have these places
 abbrev pub IsLate : L.Function → (places : List ℕ) → ConversionErr → Type 0
-IsLate g places (E.ForwardUse name v) = IsRefused g places name v
+IsLate g places (E.UndefinedValue name v) = IsRefused g places name v
 IsLate g places E.NoMemory = Unit {0}

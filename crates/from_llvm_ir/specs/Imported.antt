@@ -22,11 +22,12 @@ use Rattle.meaning.specs.Pairs.{Matched, BothOrNone}
 use Rattle.meaning.specs.Llvm.{row_of}
 use Rattle.meaning.specs.Dialect.{type_of}
 use Rattle.meaning.specs.Shape.{SameShape}
+use Rattle.block_order.specs.DepthFirst.{IsDepthFirst}
 use Rattle.from_llvm_ir.specs.Match.{IsPlaces, place_at}
+use Rattle.from_llvm_ir.specs.Order.{IsInverse}
+use Rattle.from_llvm_ir.specs.Walks.{graph_of, HasDominatedUses}
 use Rattle.from_llvm_ir.specs.declared.matching.FunctionBlocks.{FunctionBlocks}
 use Rattle.from_llvm_ir.specs.declared.importing.Imported.{Imported}
-use Rattle.from_llvm_ir.specs.declared.conversion_err.ConversionErr.{ConversionErr}
-use Rattle.from_llvm_ir.specs.declared.conversion_err.ConversionErr.TheVariants as E
 
 -- ---- constants
 
@@ -118,12 +119,14 @@ in_order places blocks = filter_map (λ (j : ℕ). option_and_then (slice_get bl
 abbrev pub constants_used : L.ModuleData → L.Function → List ℕ → List ConstTree
 constants_used d f places = flat_map (λ (b : L.Block). flat_map (constants_in d f b) (rest_of b)) (in_order places f.blocks)
 
--- The function g stands for the function f of the module d: the constants that it uses once each in order of first
--- use, block by block an operation for each instruction, and under every match that puts its blocks at these
--- places the same shape.
+-- The function g stands for the function f of the module d: its blocks in the depth-first order of their graph, where
+-- each definition dominates its uses; the constants that it uses once each in order of first use, block by block an
+-- operation for each instruction, and under every match that puts its blocks at these places the same shape.
 pub record ImportedFunction (d : L.ModuleData) (f : L.Function) (x : FunctionBlocks) (g : Func) : Type 0 where
   pub function : x.function.0 ≡ f.number
   pub places : IsPlaces (length f.blocks) x.places
+  pub order : (o : List ℕ) × IsDepthFirst (graph_of f) o × IsInverse o x.places
+  pub uses : HasDominatedUses f
   pub name : g.name ≡ f.name
   pub type : type_of g.type ≡ f.type
   pub form : IsFormFunc g
@@ -178,7 +181,7 @@ pub record IsImported (d : L.ModuleData) (i : Imported) : Type 0 where
   pub name : (imported_data i).name ≡ legal_name d.name
   pub functions : AreImported d d.functions i.blocks (imported_data i).functions
 
--- ---- refusals
+-- ---- uses before a definition, of which inner contracts speak
 
 -- an instruction of the block b that is no phi uses the result of the instruction n
 abbrev pub IsUsedBy : L.Function → L.Block → Placed → ℕ → Type 0
@@ -203,21 +206,10 @@ pub record IsEarlyUse (f : L.Function) (places : List ℕ) (n : ℕ) : Type 0 wh
 abbrev pub name_in : L.Function → ℕ → List ℕ
 name_in f n = option_map_or (λ (p : Placed). p.name) (find (λ (p : Placed). nat_eq p.number n) (placed_in f)) []
 
--- the value is the result of an instruction of f, used where it does not stand before, and has that name
+-- the value is the result of an instruction of f, used where it does not stand before, and has that name: what stops
+-- an import whose blocks have these places
 pub record IsRefused (f : L.Function) (places : List ℕ) (name : List ℕ) (v : LLVMValue) : Type 0 where
   pub inst : LLVMInstRef
   pub value : v ≡ V.Inst inst
   pub early : IsEarlyUse f places inst.0
   pub named : name ≡ name_in f inst.0
-
--- a function of the module has such a use, its blocks taken in the order of the text
-pub record HasForwardUse (d : L.ModuleData) (name : List ℕ) (v : LLVMValue) : Type 0 where
-  pub place : ℕ
-  pub f : L.Function
-  pub at : slice_get d.functions place ≡ Some f
-  pub refused : IsRefused f (counting 0 f.blocks) name v
-
--- why an import refuses a module whose data are d; want of memory needs no reason
-abbrev pub IsCause : L.ModuleData → ConversionErr → Type 0
-IsCause d (E.ForwardUse name v) = HasForwardUse d name v
-IsCause d E.NoMemory = Unit {0}

@@ -12,3 +12,7 @@ pub mod Known
 pub mod Converted
 pub mod Body
 pub mod Importing
+pub mod Walks
+pub mod Refusals
+pub mod Graph
+pub mod Uses

@@ -12,9 +12,11 @@ use thiserror::Error;
 /// Why an import refuses a module.
 #[derive(Drop, Error)]
 pub enum ConversionErr {
-    /// The result of an instruction is used where it does not stand before, the blocks taken in the order of the import: its name, empty where it has none, and the result.
-    #[error("ForwardUse")]
-    ForwardUse(Text, LLVMValue),
+    /// The result of an instruction is used where it is not defined: its name, empty where it has none, and the
+    /// result. Some walk to the use misses the definition; or no walk reaches the use, nor the definition, which is
+    /// in another block; or they share a block, and the definition is not ahead of the use.
+    #[error("UndefinedValue")]
+    UndefinedValue(Text, LLVMValue),
     /// Memory is wanting.
     #[error("NoMemory")]
     NoMemory,

@@ -7,12 +7,13 @@ ghost use Rattle.from_llvm_ir.specs.declared.values.Values.{Values};
 ghost use Rattle.llvm_core.specs.Module.{Module};
 ghost use Rattle.llvm_core.specs.Data.{Block, Function, data_of};
 ghost use Rattle.dialect_core.specs.Data.{DialectModule, Func, with_func};
-ghost use Rattle.from_llvm_ir.specs.Imported.{ImportedFunction, IsBuilding, counting};
+ghost use Rattle.from_llvm_ir.specs.Imported.{ImportedFunction, IsBuilding};
 ghost use Rattle.from_llvm_ir.specs.Order.{IsInverse};
 ghost use Rattle.from_llvm_ir.specs.Source.{IsSource, IsBlockOf};
 ghost use Rattle.from_llvm_ir.specs.Known.{Frame, Notes, knows, blocks_of};
 ghost use Rattle.from_llvm_ir.specs.Body.{AreTargets, HasHeads, IsFilled, IsFramed, IsLate};
 ghost use Rattle.from_llvm_ir.specs.Importing.{IsDeclared};
+ghost use Rattle.from_llvm_ir.specs.Refusals.{IsRefusalOfFunction};
 
 use crate::building::{add_func, add_func_block};
 use crate::constants::hoist_constants;
@@ -20,10 +21,12 @@ use crate::conversion_err::ConversionErr;
 use crate::entries::entries_of;
 use crate::matching::FunctionBlocks;
 use crate::operations::{given, import_blocks};
-use crate::order::{block_order, place_of, places_of};
+use crate::order::{graph, place_of, places_of};
 use crate::targets::Targets;
 use crate::types::{import_function_type, import_params, import_phi_types, param_count};
+use crate::uses::check_uses;
 use crate::values::Values;
+use block_order::ordering::rpo;
 use dialect_core::context::Context;
 use dialect_core::numbers::{BlockRef, FuncOp};
 use dialect_core::ops::Value;
@@ -187,7 +190,8 @@ fn declare<L: Ledger>(
     Ok(func)
 }
 
-/// A function of the dialect for one of the source, and the places of its blocks.
+/// A function of the dialect for one of the source, its blocks in depth-first order, and their places. Refuses a
+/// function that uses the result of an instruction where it is not defined: `UndefinedValue`.
 pub fn import_function<L: Ledger>(
     alloc: Global,
     ctx: &mut Context,
@@ -203,12 +207,14 @@ pub fn import_function<L: Ledger>(
     requires module { (m : ℕ) × (d : DialectModule) × IsBuilding ctx.old m body d }
     ensures ok { IfOk result (λ x. (g : Function) → IsSource source.now f g → (m : ℕ) → (d : DialectModule) → IsBuilding ctx.old m body d
         → (y : Func) × ImportedFunction (data_of source.now) g x y × IsBuilding ctx.new m body (with_func d y)) }
-    ensures err { IfErr result (λ e. (g : Function) → IsSource source.now f g → IsLate g (counting 0 g.blocks) e) }
+    ensures err { IfErr result (λ e. (g : Function) → IsSource source.now f g → IsRefusalOfFunction g e) }
 {
-    let order = block_order(alloc, source.blocks(f))?;
+    let succs = graph(alloc, source, f)?;
+    let order = rpo(alloc, &succs)?;
+    check_uses(alloc, source, f, succs)?;
+    let places = places_of(alloc, order.as_slice())?;
     let func = declare(alloc, ctx, source, f, name, body, steps)?;
     import_body(alloc, ctx, names, source, f, func, order.as_slice(), steps)?;
-    let places = places_of(alloc, order.as_slice())?;
     Ok(FunctionBlocks {
         function: f,
         places,

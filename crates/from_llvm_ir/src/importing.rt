@@ -4,10 +4,15 @@ ghost use Rattle.std.specs.Prelude.{◌≡◌, ◌<◌, List, ℕ, IfErr, IfOk, 
 ghost use Rattle.llvm_core.specs.Data.{data_of};
 ghost use Rattle.llvm_core.specs.Names.{IsPlainOrNone};
 ghost use Rattle.llvm_core.specs.Form.{IsForm};
+ghost use Rattle.meaning.specs.Code.{SameCode, IsDistinctNames};
+ghost use Rattle.meaning.specs.Llvm as llvm;
+ghost use Rattle.meaning.specs.Dialect as dialect;
 ghost use Rattle.dialect_types.specs.Names.{legal_name};
 ghost use Rattle.dialect_core.specs.ContextData.{empty_context};
-ghost use Rattle.from_llvm_ir.specs.Imported.{IsBuilding, IsCause, IsImported};
+ghost use Rattle.from_llvm_ir.specs.Match.{match_of};
+ghost use Rattle.from_llvm_ir.specs.Imported.{IsBuilding, IsImported, imported_data};
 ghost use Rattle.from_llvm_ir.specs.Importing.{IsImportedTo};
+ghost use Rattle.from_llvm_ir.specs.Refusals.{IsCause};
 ghost use Rattle.from_llvm_ir.specs.Building.{module_named};
 
 use crate::conversion_err::ConversionErr;
@@ -116,11 +121,12 @@ fn import_counted<L: Ledger>(
 }
 
 /// A dialect module whose functions stand for those of a module of the form, in order, and the match of blocks.
-/// Refuses a function that uses the result of an instruction where it does not stand before: `ForwardUse`.
+/// Refuses a function that uses the result of an instruction where it is not defined: `UndefinedValue`.
 pub fn convert_module(alloc: Global, source: &LLVMModule) -> Result<Imported, ConversionErr>
     requires form { IsForm (data_of source.now) }
     requires name { IsPlainOrNone source.now.name }
     ensures imported { IfOk result (λ i. IsImported (data_of source.now) i) }
+    ensures same { IsDistinctNames (map (λ g. g.name) (data_of source.now).functions) → IfOk result (λ i. SameCode (match_of (data_of source.now) i.blocks) (llvm.code_of (data_of source.now)) (dialect.code_of (imported_data i))) }
     ensures cause { IfErr result (λ e. IsCause (data_of source.now) e) }
 {
     import_counted::<Brand>(alloc, source, Blank::new(1))

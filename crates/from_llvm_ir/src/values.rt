@@ -53,12 +53,12 @@ impl Values {
 }
 
 /// The refusal of a value that is not known yet.
-fn forward_use(alloc: Global, source: &LLVMModule, i: LLVMInstRef) -> ConversionErr
+fn undefined_value(alloc: Global, source: &LLVMModule, i: LLVMInstRef) -> ConversionErr
     requires { i.0 < length source.now.insts }
     ensures { IsRefusalOf source.now i result }
 {
     match Text::copy(alloc, source.inst_name(i)) {
-        Ok(name) => ConversionErr::ForwardUse(name, LLVMValue::Inst(i)),
+        Ok(name) => ConversionErr::UndefinedValue(name, LLVMValue::Inst(i)),
         Err(_) => ConversionErr::NoMemory,
     }
 }
@@ -77,7 +77,7 @@ fn known_value(
     match values.get(value) {
         Some(known) => Ok(known),
         None => match value {
-            LLVMValue::Inst(i) => Err(forward_use(alloc, source, i)),
+            LLVMValue::Inst(i) => Err(undefined_value(alloc, source, i)),
             LLVMValue::Const(_) | LLVMValue::Param(..) => unreachable!(),
         },
     }

@@ -4,7 +4,7 @@ use Rattle.std.specs.List.{prefix_len, list_all}
 use Rattle.std.proofs.lemmas.Bool.Decides.{nat_tests}
 use Rattle.llvm_core.specs.Names.{is_digit}
 use Rattle.ll_text.specs.Text.{Text, is_name_byte, is_bare, global, label, quoted}
-use Rattle.ll_text.specs.Tokens.{is_blank, is_sign, is_sigil, is_word_start, is_word_byte, in_string, name_at, string_at, digits_at, minus_at, word_at, piece_at}
+use Rattle.ll_text.specs.Tokens.{is_blank, is_sign, is_sigil, is_word_start, is_word_byte, in_string, name_at, string_at, begins_hex, digits_at, minus_at, word_at, piece_at}
 use Rattle.ll_text.proofs.LiteralLaws.{and_split}
 use Rattle.ll_text.proofs.CuttingLaws.{Alone}
 
@@ -51,6 +51,21 @@ stop_digit b s = fails (is_digit b) (is_name_byte b) (digit_in_name b) s.name
 
 stop_word : (b : ℕ) → IsStop b → is_word_byte b ≡ false
 stop_word b s = fails (is_word_byte b) (is_name_byte b) (word_in_name b) s.name
+
+x_in_name : (b : ℕ) → (b == 120) ≡ true → is_name_byte b ≡ true
+x_in_name b h = grind (arith, nat_tests)
+
+digit_no_x : (b : ℕ) → is_digit b ≡ true → (b == 120) ≡ false
+digit_no_x b h = grind (arith, nat_tests)
+
+both_fail : (x y : Bool) → y ≡ false → (x && y) ≡ false
+both_fail true y h = h
+both_fail false y h = refl
+
+-- digits before a byte that ends them are no hexadecimal number
+no_hex : (s : ℕ) (b : ℕ) (bs rest : List ℕ) → IsStop s → list_all is_digit bs ≡ true → begins_hex (b ∷ bs ++ s ∷ rest) ≡ false
+no_hex s b [] rest stop h = both_fail (b == 48) (s == 120) (fails (s == 120) (is_name_byte s) (x_in_name s) stop.name)
+no_hex s b (d ∷ bs) rest stop h = let k = and_split (is_digit d) (list_all is_digit bs) h in both_fail (b == 48) (d == 120) (digit_no_x d k.0)
 
 -- ---- bytes that a piece begins with
 
@@ -109,8 +124,10 @@ unfolding digits_at
 alone_digits s b bs stop d h = record {
   some = omega arith;
   piece = λ rest.
-      let run = prefix_len-run is_digit (b ∷ bs) s rest (rw (d, h) refl) (stop_digit s stop) in
-      digit_piece b (bs ++ s ∷ rest) d ∙ rw (run, slice_index-behind (b ∷ bs) s rest, stop.colon) refl;
+      let all : list_all is_digit (b ∷ bs) ≡ true = rw (d, h) refl in
+      let names = prefix_len-run is_name_byte (b ∷ bs) s rest (weaker is_digit is_name_byte (b ∷ bs) digit_in_name all) stop.name in
+      let run = prefix_len-run is_digit (b ∷ bs) s rest all (stop_digit s stop) in
+      digit_piece b (bs ++ s ∷ rest) d ∙ rw (names, slice_index-behind (b ∷ bs) s rest, stop.colon, no_hex s b bs rest stop h, run) refl;
 }
 
 -- a minus and digits
@@ -199,7 +216,8 @@ unfolding digits_at
 alone_number_label b bs d h = record {
   some = omega arith;
   piece = λ rest.
-      let run = prefix_len-run is_digit (b ∷ bs) 58 (10 ∷ rest) (rw (d, h) refl) refl in
+      let all : list_all is_digit (b ∷ bs) ≡ true = rw (d, h) refl in
+      let run = prefix_len-run is_name_byte (b ∷ bs) 58 (10 ∷ rest) (weaker is_digit is_name_byte (b ∷ bs) digit_in_name all) refl in
       let len : 1 + suc (length bs) ≡ length (label (b ∷ bs)) = omega (arith, length-append (b ∷ bs) (58 ∷ [])) in
       rw (append_assoc (b ∷ bs) (58 ∷ []) (10 ∷ rest)) (digit_piece b (bs ++ 58 ∷ 10 ∷ rest) d ∙ rw (run, slice_index-behind (b ∷ bs) 58 (10 ∷ rest), len) refl);
 }

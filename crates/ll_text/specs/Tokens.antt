@@ -1,5 +1,5 @@
 -- The tokens that the bytes of a text are cut into; each is as long as it can be, and is its text.
-use Rattle.std.specs.Prelude.{ℕ, zero, suc, ◌+◌, ◌-◌, Bool, true, false, ◌||◌, not, List, [], ◌∷◌, take, Option, Some, None, ◌==◌, if◌then◌else◌, slice_index}
+use Rattle.std.specs.Prelude.{ℕ, zero, suc, ◌+◌, ◌-◌, Bool, true, false, ◌||◌, ◌&&◌, not, List, [], ◌∷◌, take, Option, Some, None, ◌==◌, if◌then◌else◌, slice_index}
 use Rattle.std.specs.List.{prefix_len}
 use Rattle.std.specs.Option.{option_map}
 use Rattle.llvm_core.specs.Names.{is_digit, is_letter}
@@ -59,11 +59,16 @@ name_at (b ∷ bs) =
 unfoldable pub string_at : List ℕ → Found
 string_at bs = if slice_index bs (prefix_len in_string bs) == 34 then token (2 + prefix_len in_string bs) else None
 
--- digits, with the colon that makes them a label
+-- 0x, which begins a hexadecimal number
+abbrev pub begins_hex : List ℕ → Bool
+begins_hex bytes = slice_index bytes 0 == 48 && slice_index bytes 1 == 120
+
+-- digits, or a label: where a colon ends the name bytes that begin with them, these are one token
 unfoldable pub digits_at : List ℕ → Found
 digits_at bytes =
-    if slice_index bytes (prefix_len is_digit bytes) == 58 then token (1 + prefix_len is_digit bytes)
-    else token (prefix_len is_digit bytes)
+    if slice_index bytes (prefix_len is_name_byte bytes) == 58 then token (1 + prefix_len is_name_byte bytes)
+    else (if begins_hex bytes then None
+    else token (prefix_len is_digit bytes))
 
 -- digits behind their minus
 unfoldable pub minus_at : List ℕ → Found

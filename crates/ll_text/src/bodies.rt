@@ -28,57 +28,57 @@ use std::alloc::Global;
 /// Adds a function without blocks and without names of parameters.
 fn declare(
     alloc: Global,
-    module: &mut LLVMModule,
+    draft: &mut LLVMModule,
     function: &Function<'_>,
 ) -> Result<LLVMFunction, ReadErr>
-    ensures declares { IfOk result (λ f. Declares (function_view function.now) f module.old module.new) }
+    ensures declares { IfOk result (λ f. Declares (function_view function.now) f draft.old draft.new) }
     ensures not_yet { result ≡ Err ReadErr.NotYet → (d : L.Function) → ¬ IsFunctionOf is_plain 64 (function_view function.now) d }
 {
     let Some(name) = global_name(function.name.text) else {
         return Err(ReadErr::NotYet);
     };
     let returns = result_width(function.result)?;
-    let ty = signature(alloc, module, returns, function.params.as_slice())?;
-    let f = module.add_function(name, ty, 0)?;
+    let ty = signature(alloc, draft, returns, function.params.as_slice())?;
+    let f = draft.add_function(name, ty, 0)?;
     Ok(f)
 }
 
 /// Names the parameter of a function at a place.
 fn name_param<'a>(
-    module: &mut LLVMModule,
+    draft: &mut LLVMModule,
     scope: &mut Scope<'a>,
     f: LLVMFunction,
     place: u32,
     param: &Param<'a>,
 ) -> Result<(), ReadErr>
-    requires { (widths : List ℕ) × IsDeclared module.old f widths × (place < length widths) }
-    ensures says { OnOk result ((s : meaning.Scope) → Knows scope.old s → NamesParam f.0 place s (param_view param.now) module.old module.new scope.new) }
-    ensures keeps { OnOk result (KeepsBodies f module.old module.new) }
+    requires { (widths : List ℕ) × IsDeclared draft.old f widths × (place < length widths) }
+    ensures says { OnOk result ((s : meaning.Scope) → Knows scope.old s → NamesParam f.0 place s (param_view param.now) draft.old draft.new scope.new) }
+    ensures keeps { OnOk result (KeepsBodies f draft.old draft.new) }
     ensures not_yet { result ≡ Err ReadErr.NotYet → (s t : meaning.Scope) → Knows scope.old s → Alike s t → (g i : ℕ) → param_data is_plain 64 t g i (param_view param.now) ≡ None }
 {
     let Some(width) = int_width(param.ty.text) else {
         return Err(ReadErr::NotYet);
     };
     let key = written_local(param.name)?;
-    module.set_param_name(f, place, key_name(key))?;
+    draft.set_param_name(f, place, key_name(key))?;
     scope.define(Local::Param(f, place, width), key)
 }
 
 /// Names the parameters of a function.
 fn name_params<'a>(
-    module: &mut LLVMModule,
+    draft: &mut LLVMModule,
     scope: &mut Scope<'a>,
     f: LLVMFunction,
     params: &[Param<'a>],
 ) -> Result<(), ReadErr>
-    requires { (widths : List ℕ) × IsDeclared module.old f widths × (length params.now ≡ length widths) }
-    ensures says { OnOk result ((s : meaning.Scope) → Knows scope.old s → NamesParams f.0 s (map param_view params.now) module.old module.new scope.new) }
-    ensures keeps { OnOk result (KeepsBodies f module.old module.new) }
+    requires { (widths : List ℕ) × IsDeclared draft.old f widths × (length params.now ≡ length widths) }
+    ensures says { OnOk result ((s : meaning.Scope) → Knows scope.old s → NamesParams f.0 s (map param_view params.now) draft.old draft.new scope.new) }
+    ensures keeps { OnOk result (KeepsBodies f draft.old draft.new) }
     ensures not_yet { result ≡ Err ReadErr.NotYet → (s t : meaning.Scope) → Knows scope.old s → Alike s t → (g : ℕ) (types : L.TypeTrees) (names : List Text) (u : meaning.Scope) → ¬ AreParams is_plain 64 g 0 t (map param_view params.now) types names u }
 {
     let mut place: u32 = 0;
     for param in params {
-        name_param(module, scope, f, place, param)?;
+        name_param(draft, scope, f, place, param)?;
         place = next_number(place)?;
     }
     Ok(())
@@ -87,20 +87,20 @@ fn name_params<'a>(
 /// Adds the function that a text says, whose first instruction has that number, and tells the number behind them.
 pub fn add_function(
     alloc: Global,
-    module: &mut LLVMModule,
+    draft: &mut LLVMModule,
     number: u32,
     function: &Function<'_>,
 ) -> Result<u32, ReadErr>
-    requires { number ≡ length module.old.insts }
-    ensures adds { OnOk result ((name : Text) (fs : List tree.Function) → IsBuiltOf name fs module.old → IsBuiltOf name (fs ++ function_view function.now ∷ []) module.new) }
-    ensures behind { IfOk result (λ n. n ≡ length module.new.insts) }
+    requires { number ≡ length draft.old.insts }
+    ensures adds { OnOk result ((name : Text) (fs : List tree.Function) → IsBuiltOf name fs draft.old → IsBuiltOf name (fs ++ function_view function.now ∷ []) draft.new) }
+    ensures behind { IfOk result (λ n. n ≡ length draft.new.insts) }
     ensures not_yet { result ≡ Err ReadErr.NotYet → (d : L.Function) → ¬ IsFunctionOf is_plain 64 (function_view function.now) d }
 {
-    let f = declare(alloc, module, function)?;
+    let f = declare(alloc, draft, function)?;
     let mut scope = Scope::new(alloc);
-    name_params(module, &mut scope, f, function.params.as_slice())?;
-    let (block, end) = define_blocks(module, &mut scope, f, number, function)?;
-    build_blocks(alloc, module, &scope, block.0, function)?;
-    fill_blocks(module, &scope, number, function)?;
+    name_params(draft, &mut scope, f, function.params.as_slice())?;
+    let (block, end) = define_blocks(draft, &mut scope, f, number, function)?;
+    build_blocks(alloc, draft, &scope, block.0, function)?;
+    fill_blocks(draft, &scope, number, function)?;
     Ok(end)
 }

@@ -39,10 +39,10 @@ pub fn build_file(alloc: Global, file: &File<'_>) -> Result<LLVMModule, ReadErr>
     ensures numbered { IfOk result (λ m. IsNumbered (data_of m)) }
     ensures not_yet { result ≡ Err ReadErr.NotYet → (d : ModuleData) → ¬ IsFileOf is_plain 64 (file_view file.now) d }
 {
-    let mut module = LLVMModule::new(alloc, source_name(file.source)?)?;
+    let mut draft = LLVMModule::new(alloc, source_name(file.source)?)?;
     let mut next: u32 = 0;
     for function in file.functions.as_slice() {
-        next = add_function(alloc, &mut module, next, function)?;
+        next = add_function(alloc, &mut draft, next, function)?;
     }
-    Ok(module)
+    Ok(draft)
 }

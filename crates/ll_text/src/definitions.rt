@@ -73,20 +73,20 @@ fn define_results<'a>(
 
 /// Appends a block to a function, and defines its label where one is written.
 fn start_block<'a>(
-    module: &mut LLVMModule,
+    draft: &mut LLVMModule,
     scope: &mut Scope<'a>,
     f: LLVMFunction,
     block: &Block<'a>,
 ) -> Result<LLVMBasicBlock, ReadErr>
-    requires { f.0 < length module.old.functions }
-    ensures number { IfOk result (λ b. b.0 ≡ length module.old.blocks) }
-    ensures ok { OnOk result (Takes scope.old scope.new (λ s. named_label s (length module.old.blocks) (block_view block.now))) }
-    ensures adds { OnOk result (AddsBlocks f (blocks_with (length module.old.blocks) (block_view block.now ∷ []) []) module.old module.new) }
-    ensures sound { OnOk result (IsModule module.new) }
-    ensures not_yet { result ≡ Err ReadErr.NotYet → Refuses scope.old (λ s. named_label s (length module.old.blocks) (block_view block.now)) }
+    requires { f.0 < length draft.old.functions }
+    ensures number { IfOk result (λ b. b.0 ≡ length draft.old.blocks) }
+    ensures ok { OnOk result (Takes scope.old scope.new (λ s. named_label s (length draft.old.blocks) (block_view block.now))) }
+    ensures adds { OnOk result (AddsBlocks f (blocks_with (length draft.old.blocks) (block_view block.now ∷ []) []) draft.old draft.new) }
+    ensures sound { OnOk result (IsModule draft.new) }
+    ensures not_yet { result ≡ Err ReadErr.NotYet → Refuses scope.old (λ s. named_label s (length draft.old.blocks) (block_view block.now)) }
 {
     let key = written_label(block.label)?;
-    let number = module.append_block(f, key_name(key))?;
+    let number = draft.append_block(f, key_name(key))?;
     scope.define(Local::Block(number), key)?;
     Ok(number)
 }
@@ -94,42 +94,42 @@ fn start_block<'a>(
 /// Appends a block to a function, defines its label and the results of its instructions, the first of which has
 /// that number. Tells the block, and the number behind the instructions.
 fn define_block<'a>(
-    module: &mut LLVMModule,
+    draft: &mut LLVMModule,
     scope: &mut Scope<'a>,
     f: LLVMFunction,
     number: u32,
     block: &Block<'a>,
 ) -> Result<(LLVMBasicBlock, u32), ReadErr>
-    requires { f.0 < length module.old.functions }
-    ensures ok { OnOk result (Takes scope.old scope.new (λ s. named_block s (length module.old.blocks) number (block_view block.now))) }
-    ensures number { IfOk result (λ p. p.0.0 ≡ length module.old.blocks) }
+    requires { f.0 < length draft.old.functions }
+    ensures ok { OnOk result (Takes scope.old scope.new (λ s. named_block s (length draft.old.blocks) number (block_view block.now))) }
+    ensures number { IfOk result (λ p. p.0.0 ≡ length draft.old.blocks) }
     ensures behind { IfOk result (λ p. p.1 ≡ behind number (block_view block.now)) }
-    ensures adds { OnOk result (AddsBlocks f (blocks_with (length module.old.blocks) (block_view block.now ∷ []) []) module.old module.new) }
-    ensures sound { OnOk result (IsModule module.new) }
-    ensures not_yet { result ≡ Err ReadErr.NotYet → Refuses scope.old (λ s. named_block s (length module.old.blocks) number (block_view block.now)) }
+    ensures adds { OnOk result (AddsBlocks f (blocks_with (length draft.old.blocks) (block_view block.now ∷ []) []) draft.old draft.new) }
+    ensures sound { OnOk result (IsModule draft.new) }
+    ensures not_yet { result ≡ Err ReadErr.NotYet → Refuses scope.old (λ s. named_block s (length draft.old.blocks) number (block_view block.now)) }
 {
-    let first = start_block(module, scope, f, block)?;
+    let first = start_block(draft, scope, f, block)?;
     let end = define_results(scope, number, block.insts.as_slice())?;
     Ok((first, next_number(end)?))
 }
 
 /// Likewise of blocks in order.
 fn define_more<'a>(
-    module: &mut LLVMModule,
+    draft: &mut LLVMModule,
     scope: &mut Scope<'a>,
     f: LLVMFunction,
     number: u32,
     blocks: &[Block<'a>],
 ) -> Result<u32, ReadErr>
-    requires { f.0 < length module.old.functions }
-    ensures ok { OnOk result (Takes scope.old scope.new (λ s. named_blocks s (length module.old.blocks) number (map block_view blocks.now))) }
+    requires { f.0 < length draft.old.functions }
+    ensures ok { OnOk result (Takes scope.old scope.new (λ s. named_blocks s (length draft.old.blocks) number (map block_view blocks.now))) }
     ensures behind { IfOk result (λ n. n ≡ behind_all number (map block_view blocks.now)) }
-    ensures adds { OnOk result (AddsBlocks f (blocks_with (length module.old.blocks) (map block_view blocks.now) []) module.old module.new) }
-    ensures not_yet { result ≡ Err ReadErr.NotYet → Refuses scope.old (λ s. named_blocks s (length module.old.blocks) number (map block_view blocks.now)) }
+    ensures adds { OnOk result (AddsBlocks f (blocks_with (length draft.old.blocks) (map block_view blocks.now) []) draft.old draft.new) }
+    ensures not_yet { result ≡ Err ReadErr.NotYet → Refuses scope.old (λ s. named_blocks s (length draft.old.blocks) number (map block_view blocks.now)) }
 {
     let mut next = number;
     for block in blocks {
-        let (_, behind) = define_block(module, scope, f, next, block)?;
+        let (_, behind) = define_block(draft, scope, f, next, block)?;
         next = behind;
     }
     Ok(next)
@@ -138,21 +138,21 @@ fn define_more<'a>(
 /// Appends the blocks of a function, and defines their labels and the results of their instructions, the first of
 /// which has that number. Tells the first block, and the number behind the instructions.
 pub fn define_blocks<'a>(
-    module: &mut LLVMModule,
+    draft: &mut LLVMModule,
     scope: &mut Scope<'a>,
     f: LLVMFunction,
     number: u32,
     function: &Function<'a>,
 ) -> Result<(LLVMBasicBlock, u32), ReadErr>
-    requires { f.0 < length module.old.functions }
-    ensures ok { OnOk result (Takes scope.old scope.new (λ s. named_blocks s (length module.old.blocks) number (tree.blocks_of (function_view function.now)))) }
-    ensures number { IfOk result (λ p. p.0.0 ≡ length module.old.blocks) }
+    requires { f.0 < length draft.old.functions }
+    ensures ok { OnOk result (Takes scope.old scope.new (λ s. named_blocks s (length draft.old.blocks) number (tree.blocks_of (function_view function.now)))) }
+    ensures number { IfOk result (λ p. p.0.0 ≡ length draft.old.blocks) }
     ensures behind { IfOk result (λ p. p.1 ≡ behind_all number (tree.blocks_of (function_view function.now))) }
-    ensures adds { OnOk result (AddsBlocks f (blocks_with (length module.old.blocks) (tree.blocks_of (function_view function.now)) []) module.old module.new) }
-    ensures sound { OnOk result (IsModule module.new) }
-    ensures not_yet { result ≡ Err ReadErr.NotYet → Refuses scope.old (λ s. named_blocks s (length module.old.blocks) number (tree.blocks_of (function_view function.now))) }
+    ensures adds { OnOk result (AddsBlocks f (blocks_with (length draft.old.blocks) (tree.blocks_of (function_view function.now)) []) draft.old draft.new) }
+    ensures sound { OnOk result (IsModule draft.new) }
+    ensures not_yet { result ≡ Err ReadErr.NotYet → Refuses scope.old (λ s. named_blocks s (length draft.old.blocks) number (tree.blocks_of (function_view function.now))) }
 {
-    let (first, next) = define_block(module, scope, f, number, &function.entry)?;
-    let end = define_more(module, scope, f, next, function.more.as_slice())?;
+    let (first, next) = define_block(draft, scope, f, number, &function.entry)?;
+    let end = define_more(draft, scope, f, next, function.more.as_slice())?;
     Ok((first, end))
 }

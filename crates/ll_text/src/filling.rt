@@ -43,64 +43,64 @@ fn result_of<'a>(scope: &Scope<'a>, token: Token<'a>) -> Option<LLVMInstRef>
 
 /// Puts the result that an operand names in place of what stands for it.
 fn fill_operand<'a>(
-    module: &mut LLVMModule,
+    draft: &mut LLVMModule,
     scope: &Scope<'a>,
     inst: LLVMInstRef,
     place: u32,
     token: Token<'a>,
 )
-    requires ready { IsReady true module.old scope.now }
-    requires open { HasOpen module.old scope.now inst.0 place (text_of token) }
-    ensures data { (s : meaning.Scope) → Knows scope.now s → data_of module.new ≡ changed (data_of module.old) (at_number inst.0 (put_result place (result_of s (text_of token.entry)))) }
-    ensures keeps { Keeps module.old module.new }
-    ensures same { length module.new.insts ≡ length module.old.insts }
+    requires ready { IsReady true draft.old scope.now }
+    requires open { HasOpen draft.old scope.now inst.0 place (text_of token) }
+    ensures data { (s : meaning.Scope) → Knows scope.now s → data_of draft.new ≡ changed (data_of draft.old) (at_number inst.0 (put_result place (result_of s (text_of token.entry)))) }
+    ensures keeps { Keeps draft.old draft.new }
+    ensures same { length draft.new.insts ≡ length draft.old.insts }
 {
     if let Some(result) = result_of(scope, token) {
-        module.set_operand(inst, place, LLVMValue::Inst(result));
+        draft.set_operand(inst, place, LLVMValue::Inst(result));
     }
 }
 
 /// Puts the results that both operands of an operation name in place of what stands for them.
 fn fill_both<'a>(
-    module: &mut LLVMModule,
+    draft: &mut LLVMModule,
     scope: &Scope<'a>,
     inst: LLVMInstRef,
     lhs: Token<'a>,
     rhs: Token<'a>,
 )
-    requires ready { IsReady true module.old scope.now }
-    requires lhs { HasOpen module.old scope.now inst.0 0 (text_of lhs) }
-    requires rhs { HasOpen module.old scope.now inst.0 1 (text_of rhs) }
-    ensures data { (s : meaning.Scope) → Knows scope.now s → data_of module.new ≡ changed (data_of module.old) (at_number inst.0 (λ i. put_result 1 (result_of s (text_of rhs.entry)) (put_result 0 (result_of s (text_of lhs.entry)) i))) }
-    ensures keeps { Keeps module.old module.new }
-    ensures same { length module.new.insts ≡ length module.old.insts }
+    requires ready { IsReady true draft.old scope.now }
+    requires lhs { HasOpen draft.old scope.now inst.0 0 (text_of lhs) }
+    requires rhs { HasOpen draft.old scope.now inst.0 1 (text_of rhs) }
+    ensures data { (s : meaning.Scope) → Knows scope.now s → data_of draft.new ≡ changed (data_of draft.old) (at_number inst.0 (λ i. put_result 1 (result_of s (text_of rhs.entry)) (put_result 0 (result_of s (text_of lhs.entry)) i))) }
+    ensures keeps { Keeps draft.old draft.new }
+    ensures same { length draft.new.insts ≡ length draft.old.insts }
 {
-    fill_operand(module, scope, inst, 0, lhs);
-    fill_operand(module, scope, inst, 1, rhs);
+    fill_operand(draft, scope, inst, 0, lhs);
+    fill_operand(draft, scope, inst, 1, rhs);
 }
 
 /// Fills in an instruction that is built.
 fn fill_inst<'a>(
-    module: &mut LLVMModule,
+    draft: &mut LLVMModule,
     scope: &Scope<'a>,
     number: u32,
     inst: &Inst<'a>,
 ) -> Result<(), ReadErr>
-    requires ready { IsReady true module.old scope.now }
-    requires open { (s : meaning.Scope) × Knows scope.now s × IsOpen module.old s number (inst_view inst.now) }
-    ensures fills { OnOk result ((s : meaning.Scope) → Knows scope.now s → FillsInst s number (inst_view inst.now) module.old module.new) }
-    ensures keeps { OnOk result (Keeps module.old module.new) }
-    ensures same { OnOk result (length module.new.insts ≡ length module.old.insts) }
+    requires ready { IsReady true draft.old scope.now }
+    requires open { (s : meaning.Scope) × Knows scope.now s × IsOpen draft.old s number (inst_view inst.now) }
+    ensures fills { OnOk result ((s : meaning.Scope) → Knows scope.now s → FillsInst s number (inst_view inst.now) draft.old draft.new) }
+    ensures keeps { OnOk result (Keeps draft.old draft.new) }
+    ensures same { OnOk result (length draft.new.insts ≡ length draft.old.insts) }
     ensures not_yet { result ≡ Err ReadErr.NotYet → Refuses scope.now (λ s. inst_data is_plain 64 s (inst_view inst.now)) }
 {
     let at = LLVMInstRef(number);
     match inst {
         Inst::Add { lhs, rhs, .. } => {
-            fill_both(module, scope, at, *lhs, *rhs);
+            fill_both(draft, scope, at, *lhs, *rhs);
             Ok(())
         }
         Inst::ICmp { lhs, rhs, .. } => {
-            fill_both(module, scope, at, *lhs, *rhs);
+            fill_both(draft, scope, at, *lhs, *rhs);
             Ok(())
         }
         Inst::Phi {
@@ -112,24 +112,24 @@ fn fill_inst<'a>(
             let Some(width) = int_width(ty.text) else {
                 return Err(ReadErr::NotYet);
             };
-            add_entry(module, scope, at, width, *first)?;
-            add_entries(module, scope, at, width, more.as_slice())
+            add_entry(draft, scope, at, width, *first)?;
+            add_entries(draft, scope, at, width, more.as_slice())
         }
     }
 }
 
 /// Fills in a terminator that is built.
-fn fill_end<'a>(module: &mut LLVMModule, scope: &Scope<'a>, number: u32, end: &Terminator<'a>)
-    requires ready { IsReady true module.old scope.now }
-    requires open { (s : meaning.Scope) × Knows scope.now s × IsOpenEnd module.old s number (terminator_view end.now) }
-    ensures fills { (s : meaning.Scope) → Knows scope.now s → FillsEnd s number (terminator_view end.now) module.old module.new }
-    ensures keeps { Keeps module.old module.new }
-    ensures same { length module.new.insts ≡ length module.old.insts }
+fn fill_end<'a>(draft: &mut LLVMModule, scope: &Scope<'a>, number: u32, end: &Terminator<'a>)
+    requires ready { IsReady true draft.old scope.now }
+    requires open { (s : meaning.Scope) × Knows scope.now s × IsOpenEnd draft.old s number (terminator_view end.now) }
+    ensures fills { (s : meaning.Scope) → Knows scope.now s → FillsEnd s number (terminator_view end.now) draft.old draft.new }
+    ensures keeps { Keeps draft.old draft.new }
+    ensures same { length draft.new.insts ≡ length draft.old.insts }
 {
     let at = LLVMInstRef(number);
     match end {
-        Terminator::Return { value, .. } => fill_operand(module, scope, at, 0, *value),
-        Terminator::CondBr { condition, .. } => fill_operand(module, scope, at, 0, *condition),
+        Terminator::Return { value, .. } => fill_operand(draft, scope, at, 0, *value),
+        Terminator::CondBr { condition, .. } => fill_operand(draft, scope, at, 0, *condition),
         Terminator::ReturnVoid => (),
         Terminator::Br { .. } => (),
         Terminator::Unreachable => (),
@@ -138,22 +138,22 @@ fn fill_end<'a>(module: &mut LLVMModule, scope: &Scope<'a>, number: u32, end: &T
 
 /// Fills in the instructions of a block but its terminator, and tells the number behind them.
 fn fill_insts<'a>(
-    module: &mut LLVMModule,
+    draft: &mut LLVMModule,
     scope: &Scope<'a>,
     number: u32,
     insts: &[Inst<'a>],
 ) -> Result<u32, ReadErr>
-    requires ready { IsReady true module.old scope.now }
-    requires open { (s : meaning.Scope) × Knows scope.now s × EachInst (IsOpen module.old s) number (map inst_view insts.now) }
-    ensures fills { OnOk result ((s : meaning.Scope) → Knows scope.now s → FillsInsts s number (map inst_view insts.now) module.old module.new) }
+    requires ready { IsReady true draft.old scope.now }
+    requires open { (s : meaning.Scope) × Knows scope.now s × EachInst (IsOpen draft.old s) number (map inst_view insts.now) }
+    ensures fills { OnOk result ((s : meaning.Scope) → Knows scope.now s → FillsInsts s number (map inst_view insts.now) draft.old draft.new) }
     ensures behind { IfOk result (λ n. n ≡ number + length insts.now) }
-    ensures keeps { OnOk result (Keeps module.old module.new) }
-    ensures same { OnOk result (length module.new.insts ≡ length module.old.insts) }
+    ensures keeps { OnOk result (Keeps draft.old draft.new) }
+    ensures same { OnOk result (length draft.new.insts ≡ length draft.old.insts) }
     ensures not_yet { result ≡ Err ReadErr.NotYet → Refuses scope.now (λ s. placed_insts (inst_data is_plain 64 s) (terminator_data is_plain 64 s) number (map inst_view insts.now)) }
 {
     let mut next = number;
     for inst in insts {
-        fill_inst(module, scope, next, inst)?;
+        fill_inst(draft, scope, next, inst)?;
         next = next_number(next)?;
     }
     Ok(next)
@@ -161,59 +161,59 @@ fn fill_insts<'a>(
 
 /// Fills in the instructions of a block, and tells the number behind them.
 fn fill_block<'a>(
-    module: &mut LLVMModule,
+    draft: &mut LLVMModule,
     scope: &Scope<'a>,
     number: u32,
     block: &Block<'a>,
 ) -> Result<u32, ReadErr>
-    requires ready { IsReady true module.old scope.now }
-    requires open { (s : meaning.Scope) × Knows scope.now s × EachIn (IsOpen module.old s) (IsOpenEnd module.old s) number (block_view block.now) }
-    ensures fills { OnOk result ((s : meaning.Scope) → Knows scope.now s → FillsBody s number (block_view block.now) module.old module.new) }
+    requires ready { IsReady true draft.old scope.now }
+    requires open { (s : meaning.Scope) × Knows scope.now s × EachIn (IsOpen draft.old s) (IsOpenEnd draft.old s) number (block_view block.now) }
+    ensures fills { OnOk result ((s : meaning.Scope) → Knows scope.now s → FillsBody s number (block_view block.now) draft.old draft.new) }
     ensures behind { IfOk result (λ n. n ≡ behind number (block_view block.now)) }
-    ensures keeps { OnOk result (Keeps module.old module.new) }
-    ensures same { OnOk result (length module.new.insts ≡ length module.old.insts) }
+    ensures keeps { OnOk result (Keeps draft.old draft.new) }
+    ensures same { OnOk result (length draft.new.insts ≡ length draft.old.insts) }
     ensures not_yet { result ≡ Err ReadErr.NotYet → Refuses scope.now (λ s. placed_block (inst_data is_plain 64 s) (terminator_data is_plain 64 s) number (block_view block.now)) }
 {
-    let end = fill_insts(module, scope, number, block.insts.as_slice())?;
-    fill_end(module, scope, end, &block.end);
+    let end = fill_insts(draft, scope, number, block.insts.as_slice())?;
+    fill_end(draft, scope, end, &block.end);
     next_number(end)
 }
 
 /// Fills in the instructions of blocks in order.
 fn fill_more<'a>(
-    module: &mut LLVMModule,
+    draft: &mut LLVMModule,
     scope: &Scope<'a>,
     number: u32,
     blocks: &[Block<'a>],
 ) -> Result<(), ReadErr>
-    requires ready { IsReady true module.old scope.now }
-    requires open { (s : meaning.Scope) × Knows scope.now s × EachBlock (IsOpen module.old s) (IsOpenEnd module.old s) number (map block_view blocks.now) }
-    ensures fills { OnOk result ((s : meaning.Scope) → Knows scope.now s → FillsBodies s number (map block_view blocks.now) module.old module.new) }
-    ensures keeps { OnOk result (Keeps module.old module.new) }
-    ensures same { OnOk result (length module.new.insts ≡ length module.old.insts) }
+    requires ready { IsReady true draft.old scope.now }
+    requires open { (s : meaning.Scope) × Knows scope.now s × EachBlock (IsOpen draft.old s) (IsOpenEnd draft.old s) number (map block_view blocks.now) }
+    ensures fills { OnOk result ((s : meaning.Scope) → Knows scope.now s → FillsBodies s number (map block_view blocks.now) draft.old draft.new) }
+    ensures keeps { OnOk result (Keeps draft.old draft.new) }
+    ensures same { OnOk result (length draft.new.insts ≡ length draft.old.insts) }
     ensures not_yet { result ≡ Err ReadErr.NotYet → Refuses scope.now (λ s. placed_blocks (inst_data is_plain 64 s) (terminator_data is_plain 64 s) number (map block_view blocks.now)) }
 {
     let mut next = number;
     for block in blocks {
-        next = fill_block(module, scope, next, block)?;
+        next = fill_block(draft, scope, next, block)?;
     }
     Ok(())
 }
 
 /// Fills in the instructions of the blocks of a function, the first of which has that number.
 pub fn fill_blocks<'a>(
-    module: &mut LLVMModule,
+    draft: &mut LLVMModule,
     scope: &Scope<'a>,
     number: u32,
     function: &Function<'a>,
 ) -> Result<(), ReadErr>
-    requires ready { IsReady true module.old scope.now }
-    requires open { (s : meaning.Scope) × Knows scope.now s × EachBlock (IsOpen module.old s) (IsOpenEnd module.old s) number (blocks_of (function_view function.now)) }
-    ensures fills { OnOk result ((s : meaning.Scope) → Knows scope.now s → FillsBodies s number (blocks_of (function_view function.now)) module.old module.new) }
-    ensures keeps { OnOk result (Keeps module.old module.new) }
-    ensures same { OnOk result (length module.new.insts ≡ length module.old.insts) }
+    requires ready { IsReady true draft.old scope.now }
+    requires open { (s : meaning.Scope) × Knows scope.now s × EachBlock (IsOpen draft.old s) (IsOpenEnd draft.old s) number (blocks_of (function_view function.now)) }
+    ensures fills { OnOk result ((s : meaning.Scope) → Knows scope.now s → FillsBodies s number (blocks_of (function_view function.now)) draft.old draft.new) }
+    ensures keeps { OnOk result (Keeps draft.old draft.new) }
+    ensures same { OnOk result (length draft.new.insts ≡ length draft.old.insts) }
     ensures not_yet { result ≡ Err ReadErr.NotYet → Refuses scope.now (λ s. placed_blocks (inst_data is_plain 64 s) (terminator_data is_plain 64 s) number (blocks_of (function_view function.now))) }
 {
-    let next = fill_block(module, scope, number, &function.entry)?;
-    fill_more(module, scope, next, function.more.as_slice())
+    let next = fill_block(draft, scope, number, &function.entry)?;
+    fill_more(draft, scope, next, function.more.as_slice())
 }

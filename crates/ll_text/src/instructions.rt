@@ -29,7 +29,7 @@ use std::alloc::Global;
 
 /// Both operands of an operation, or what stands for them.
 fn both<'a>(
-    module: &mut LLVMModule,
+    draft: &mut LLVMModule,
     scope: &Scope<'a>,
     width: u32,
     lhs: Token<'a>,
@@ -37,33 +37,33 @@ fn both<'a>(
 ) -> Result<(LLVMValue, LLVMValue), ReadErr>
     requires least { 1 ≤ width }
     requires most { width ≤ 64 }
-    requires ready { IsReady false module.old scope.now }
-    ensures left { IfOk result (λ p. IsValueOf module.new p.0 width) }
-    ensures right { IfOk result (λ p. IsValueOf module.new p.1 width) }
-    ensures lhs { IfOk result (λ p. (s : meaning.Scope) → Knows scope.now s → OpensValue s width (text_of lhs.entry) module.new p.0) }
-    ensures rhs { IfOk result (λ p. (s : meaning.Scope) → Knows scope.now s → OpensValue s width (text_of rhs.entry) module.new p.1) }
-    ensures rest { OnOk result (OnlyInterns module.old module.new) }
+    requires ready { IsReady false draft.old scope.now }
+    ensures left { IfOk result (λ p. IsValueOf draft.new p.0 width) }
+    ensures right { IfOk result (λ p. IsValueOf draft.new p.1 width) }
+    ensures lhs { IfOk result (λ p. (s : meaning.Scope) → Knows scope.now s → OpensValue s width (text_of lhs.entry) draft.new p.0) }
+    ensures rhs { IfOk result (λ p. (s : meaning.Scope) → Knows scope.now s → OpensValue s width (text_of rhs.entry) draft.new p.1) }
+    ensures rest { OnOk result (OnlyInterns draft.old draft.new) }
     ensures not_yet { result ≡ Err ReadErr.NotYet → (s : meaning.Scope) → Knows scope.now s → (value_of is_plain 64 s width (text_of lhs.entry) ≡ None) ⊎ (value_of is_plain 64 s width (text_of rhs.entry) ≡ None) }
 {
-    let a = open_operand(module, scope, width, lhs)?;
-    let b = open_operand(module, scope, width, rhs)?;
+    let a = open_operand(draft, scope, width, lhs)?;
+    let b = open_operand(draft, scope, width, rhs)?;
     Ok((a, b))
 }
 
 /// The instruction that a text says, with a placeholder for each operand that is a result; a phi without entries.
 fn make_inst<'a>(
     alloc: Global,
-    module: &mut LLVMModule,
+    draft: &mut LLVMModule,
     scope: &Scope<'a>,
     inst: &Inst<'a>,
 ) -> Result<LLVMInst, ReadErr>
-    requires ready { IsReady false module.old scope.now }
-    ensures made { IfOk result (λ x. IsMade (inst_view inst.now) module.new x) }
-    ensures says { IfOk result (λ x. (s : meaning.Scope) → Knows scope.now s → SaysInst s (inst_view inst.now) module.new x) }
-    ensures rest { OnOk result (OnlyInterns module.old module.new) }
+    requires ready { IsReady false draft.old scope.now }
+    ensures made { IfOk result (λ x. IsMade (inst_view inst.now) draft.new x) }
+    ensures says { IfOk result (λ x. (s : meaning.Scope) → Knows scope.now s → SaysInst s (inst_view inst.now) draft.new x) }
+    ensures rest { OnOk result (OnlyInterns draft.old draft.new) }
     ensures not_yet { result ≡ Err ReadErr.NotYet → Refuses scope.now (λ s. open_inst s (inst_view inst.now)) }
 {
-    match inst {
+    match *inst {
         Inst::Add {
             nuw,
             nsw,
@@ -75,12 +75,8 @@ fn make_inst<'a>(
             let Some(width) = int_width(ty.text) else {
                 return Err(ReadErr::NotYet);
             };
-            let (a, b) = both(module, scope, width, *lhs, *rhs)?;
-            let flags = OverflowFlags {
-                nuw: *nuw,
-                nsw: *nsw,
-            };
-            Ok(LLVMInst::Add(a, b, flags))
+            let (a, b) = both(draft, scope, width, lhs, rhs)?;
+            Ok(LLVMInst::Add(a, b, OverflowFlags { nuw, nsw }))
         }
         Inst::ICmp {
             predicate: word,
@@ -95,14 +91,14 @@ fn make_inst<'a>(
             let Some(compare) = predicate(word.text) else {
                 return Err(ReadErr::NotYet);
             };
-            let (a, b) = both(module, scope, width, *lhs, *rhs)?;
+            let (a, b) = both(draft, scope, width, lhs, rhs)?;
             Ok(LLVMInst::ICmp(a, b, compare))
         }
         Inst::Phi { ty, .. } => {
             let Some(width) = int_width(ty.text) else {
                 return Err(ReadErr::NotYet);
             };
-            let ty = module.type_get(LLVMTypeKind::Int(width))?;
+            let ty = draft.type_get(LLVMTypeKind::Int(width))?;
             Ok(LLVMInst::Phi(ty, Items::new(alloc)))
         }
     }
@@ -110,14 +106,14 @@ fn make_inst<'a>(
 
 /// The terminator that a text says, with a placeholder where its operand is a result.
 fn make_end<'a>(
-    module: &mut LLVMModule,
+    draft: &mut LLVMModule,
     scope: &Scope<'a>,
     end: &Terminator<'a>,
 ) -> Result<LLVMInst, ReadErr>
-    requires ready { IsReady false module.old scope.now }
-    ensures made { IfOk result (λ x. IsMadeEnd (terminator_view end.now) module.new x) }
-    ensures says { IfOk result (λ x. (s : meaning.Scope) → Knows scope.now s → SaysEnd s (terminator_view end.now) module.new x) }
-    ensures rest { OnOk result (OnlyInterns module.old module.new) }
+    requires ready { IsReady false draft.old scope.now }
+    ensures made { IfOk result (λ x. IsMadeEnd (terminator_view end.now) draft.new x) }
+    ensures says { IfOk result (λ x. (s : meaning.Scope) → Knows scope.now s → SaysEnd s (terminator_view end.now) draft.new x) }
+    ensures rest { OnOk result (OnlyInterns draft.old draft.new) }
     ensures not_yet { result ≡ Err ReadErr.NotYet → Refuses scope.now (λ s. open_terminator s (terminator_view end.now)) }
 {
     match end {
@@ -126,7 +122,7 @@ fn make_end<'a>(
             let Some(width) = int_width(ty.text) else {
                 return Err(ReadErr::NotYet);
             };
-            let value = open_operand(module, scope, width, *value)?;
+            let value = open_operand(draft, scope, width, *value)?;
             Ok(LLVMInst::Ret(Some(value)))
         }
         Terminator::Br { target: block } => Ok(LLVMInst::Br(target(scope, *block)?)),
@@ -139,7 +135,7 @@ fn make_end<'a>(
             let Some(width) = bit_width(ty.text) else {
                 return Err(ReadErr::NotYet);
             };
-            let condition = open_operand(module, scope, width, *condition)?;
+            let condition = open_operand(draft, scope, width, *condition)?;
             let first = target(scope, *first)?;
             let second = target(scope, *second)?;
             Ok(LLVMInst::CondBr(condition, first, second))
@@ -151,62 +147,62 @@ fn make_end<'a>(
 /// Builds an instruction as the last of a block.
 fn build_inst<'a>(
     alloc: Global,
-    module: &mut LLVMModule,
+    draft: &mut LLVMModule,
     scope: &Scope<'a>,
     block: LLVMBasicBlock,
     inst: &Inst<'a>,
 ) -> Result<(), ReadErr>
-    requires block { block.0 < length module.old.blocks }
-    requires ready { IsReady false module.old scope.now }
-    ensures adds { OnOk result ((s : meaning.Scope) → Knows scope.now s → AddsInst s (inst_view inst.now) block.0 module.old module.new) }
-    ensures built { OnOk result (IsBuilt module.new (length module.old.insts) (inst_view inst.now)) }
-    ensures keeps { OnOk result (Keeps module.old module.new) }
-    ensures count { OnOk result (length module.new.insts ≡ length module.old.insts + 1) }
+    requires block { block.0 < length draft.old.blocks }
+    requires ready { IsReady false draft.old scope.now }
+    ensures adds { OnOk result ((s : meaning.Scope) → Knows scope.now s → AddsInst s (inst_view inst.now) block.0 draft.old draft.new) }
+    ensures built { OnOk result (IsBuilt draft.new (length draft.old.insts) (inst_view inst.now)) }
+    ensures keeps { OnOk result (Keeps draft.old draft.new) }
+    ensures count { OnOk result (length draft.new.insts ≡ length draft.old.insts + 1) }
     ensures not_yet { result ≡ Err ReadErr.NotYet → Refuses scope.now (λ s. open_inst s (inst_view inst.now)) }
 {
-    let made = make_inst(alloc, module, scope, inst)?;
-    module.build(block, made, result_name(written_name(inst)))?;
+    let made = make_inst(alloc, draft, scope, inst)?;
+    draft.build(block, made, result_name(written_name(inst)))?;
     Ok(())
 }
 
 /// Builds the terminator of a block as its last instruction.
 fn build_end<'a>(
-    module: &mut LLVMModule,
+    draft: &mut LLVMModule,
     scope: &Scope<'a>,
     block: LLVMBasicBlock,
     end: &Terminator<'a>,
 ) -> Result<(), ReadErr>
-    requires block { block.0 < length module.old.blocks }
-    requires ready { IsReady false module.old scope.now }
-    ensures adds { OnOk result ((s : meaning.Scope) → Knows scope.now s → AddsEnd s (terminator_view end.now) block.0 module.old module.new) }
-    ensures built { OnOk result (HasEndSlots module.new (length module.old.insts) (terminator_view end.now)) }
-    ensures keeps { OnOk result (Keeps module.old module.new) }
-    ensures count { OnOk result (length module.new.insts ≡ length module.old.insts + 1) }
+    requires block { block.0 < length draft.old.blocks }
+    requires ready { IsReady false draft.old scope.now }
+    ensures adds { OnOk result ((s : meaning.Scope) → Knows scope.now s → AddsEnd s (terminator_view end.now) block.0 draft.old draft.new) }
+    ensures built { OnOk result (HasEndSlots draft.new (length draft.old.insts) (terminator_view end.now)) }
+    ensures keeps { OnOk result (Keeps draft.old draft.new) }
+    ensures count { OnOk result (length draft.new.insts ≡ length draft.old.insts + 1) }
     ensures not_yet { result ≡ Err ReadErr.NotYet → Refuses scope.now (λ s. open_terminator s (terminator_view end.now)) }
 {
-    let made = make_end(module, scope, end)?;
-    module.build(block, made, "")?;
+    let made = make_end(draft, scope, end)?;
+    draft.build(block, made, "")?;
     Ok(())
 }
 
 /// Builds the instructions of a block but its terminator.
 fn build_insts<'a>(
     alloc: Global,
-    module: &mut LLVMModule,
+    draft: &mut LLVMModule,
     scope: &Scope<'a>,
     block: LLVMBasicBlock,
     insts: &[Inst<'a>],
 ) -> Result<(), ReadErr>
-    requires block { block.0 < length module.old.blocks }
-    requires ready { IsReady false module.old scope.now }
-    ensures adds { OnOk result ((s : meaning.Scope) → Knows scope.now s → AddsInsts s (map inst_view insts.now) block.0 module.old module.new) }
-    ensures built { OnOk result (EachInst (IsBuilt module.new) (length module.old.insts) (map inst_view insts.now)) }
-    ensures keeps { OnOk result (Keeps module.old module.new) }
-    ensures count { OnOk result (length module.new.insts ≡ length module.old.insts + length insts.now) }
-    ensures not_yet { result ≡ Err ReadErr.NotYet → Refuses scope.now (λ s. placed_insts (open_inst s) (open_terminator s) (length module.old.insts) (map inst_view insts.now)) }
+    requires block { block.0 < length draft.old.blocks }
+    requires ready { IsReady false draft.old scope.now }
+    ensures adds { OnOk result ((s : meaning.Scope) → Knows scope.now s → AddsInsts s (map inst_view insts.now) block.0 draft.old draft.new) }
+    ensures built { OnOk result (EachInst (IsBuilt draft.new) (length draft.old.insts) (map inst_view insts.now)) }
+    ensures keeps { OnOk result (Keeps draft.old draft.new) }
+    ensures count { OnOk result (length draft.new.insts ≡ length draft.old.insts + length insts.now) }
+    ensures not_yet { result ≡ Err ReadErr.NotYet → Refuses scope.now (λ s. placed_insts (open_inst s) (open_terminator s) (length draft.old.insts) (map inst_view insts.now)) }
 {
     for inst in insts {
-        build_inst(alloc, module, scope, block, inst)?;
+        build_inst(alloc, draft, scope, block, inst)?;
     }
     Ok(())
 }
@@ -214,42 +210,42 @@ fn build_insts<'a>(
 /// Builds the instructions of a block.
 fn build_block<'a>(
     alloc: Global,
-    module: &mut LLVMModule,
+    draft: &mut LLVMModule,
     scope: &Scope<'a>,
     number: LLVMBasicBlock,
     block: &Block<'a>,
 ) -> Result<(), ReadErr>
-    requires block { number.0 < length module.old.blocks }
-    requires ready { IsReady false module.old scope.now }
-    ensures adds { OnOk result ((s : meaning.Scope) → Knows scope.now s → AddsBody s (block_view block.now) number.0 module.old module.new) }
-    ensures built { OnOk result (EachIn (IsBuilt module.new) (HasEndSlots module.new) (length module.old.insts) (block_view block.now)) }
-    ensures keeps { OnOk result (Keeps module.old module.new) }
-    ensures count { OnOk result (length module.new.insts ≡ behind (length module.old.insts) (block_view block.now)) }
-    ensures not_yet { result ≡ Err ReadErr.NotYet → Refuses scope.now (λ s. placed_block (open_inst s) (open_terminator s) (length module.old.insts) (block_view block.now)) }
+    requires block { number.0 < length draft.old.blocks }
+    requires ready { IsReady false draft.old scope.now }
+    ensures adds { OnOk result ((s : meaning.Scope) → Knows scope.now s → AddsBody s (block_view block.now) number.0 draft.old draft.new) }
+    ensures built { OnOk result (EachIn (IsBuilt draft.new) (HasEndSlots draft.new) (length draft.old.insts) (block_view block.now)) }
+    ensures keeps { OnOk result (Keeps draft.old draft.new) }
+    ensures count { OnOk result (length draft.new.insts ≡ behind (length draft.old.insts) (block_view block.now)) }
+    ensures not_yet { result ≡ Err ReadErr.NotYet → Refuses scope.now (λ s. placed_block (open_inst s) (open_terminator s) (length draft.old.insts) (block_view block.now)) }
 {
-    build_insts(alloc, module, scope, number, block.insts.as_slice())?;
-    build_end(module, scope, number, &block.end)
+    build_insts(alloc, draft, scope, number, block.insts.as_slice())?;
+    build_end(draft, scope, number, &block.end)
 }
 
 /// Builds the instructions of blocks in order, the first of which has that number.
 fn build_more<'a>(
     alloc: Global,
-    module: &mut LLVMModule,
+    draft: &mut LLVMModule,
     scope: &Scope<'a>,
     number: u32,
     blocks: &[Block<'a>],
 ) -> Result<(), ReadErr>
-    requires blocks { number + length blocks.now ≤ length module.old.blocks }
-    requires ready { IsReady false module.old scope.now }
-    ensures adds { OnOk result ((s : meaning.Scope) → Knows scope.now s → AddsBodies s (map block_view blocks.now) number module.old module.new) }
-    ensures built { OnOk result (EachBlock (IsBuilt module.new) (HasEndSlots module.new) (length module.old.insts) (map block_view blocks.now)) }
-    ensures keeps { OnOk result (Keeps module.old module.new) }
-    ensures count { OnOk result (length module.new.insts ≡ behind_all (length module.old.insts) (map block_view blocks.now)) }
-    ensures not_yet { result ≡ Err ReadErr.NotYet → Refuses scope.now (λ s. placed_blocks (open_inst s) (open_terminator s) (length module.old.insts) (map block_view blocks.now)) }
+    requires blocks { number + length blocks.now ≤ length draft.old.blocks }
+    requires ready { IsReady false draft.old scope.now }
+    ensures adds { OnOk result ((s : meaning.Scope) → Knows scope.now s → AddsBodies s (map block_view blocks.now) number draft.old draft.new) }
+    ensures built { OnOk result (EachBlock (IsBuilt draft.new) (HasEndSlots draft.new) (length draft.old.insts) (map block_view blocks.now)) }
+    ensures keeps { OnOk result (Keeps draft.old draft.new) }
+    ensures count { OnOk result (length draft.new.insts ≡ behind_all (length draft.old.insts) (map block_view blocks.now)) }
+    ensures not_yet { result ≡ Err ReadErr.NotYet → Refuses scope.now (λ s. placed_blocks (open_inst s) (open_terminator s) (length draft.old.insts) (map block_view blocks.now)) }
 {
     let mut next = number;
     for block in blocks {
-        build_block(alloc, module, scope, LLVMBasicBlock(next), block)?;
+        build_block(alloc, draft, scope, LLVMBasicBlock(next), block)?;
         next = next_number(next)?;
     }
     Ok(())
@@ -258,29 +254,23 @@ fn build_more<'a>(
 /// Builds the instructions of the blocks of a function, the first of which has that number.
 pub fn build_blocks<'a>(
     alloc: Global,
-    module: &mut LLVMModule,
+    draft: &mut LLVMModule,
     scope: &Scope<'a>,
     number: u32,
     function: &Function<'a>,
 ) -> Result<(), ReadErr>
-    requires blocks { number + length (blocks_of (function_view function.now)) ≤ length module.old.blocks }
-    requires ready { IsReady false module.old scope.now }
-    ensures adds { OnOk result ((s : meaning.Scope) → Knows scope.now s → AddsBodies s (blocks_of (function_view function.now)) number module.old module.new) }
-    ensures built { OnOk result (EachBlock (IsBuilt module.new) (HasEndSlots module.new) (length module.old.insts) (blocks_of (function_view function.now))) }
-    ensures keeps { OnOk result (Keeps module.old module.new) }
-    ensures count { OnOk result (length module.new.insts ≡ behind_all (length module.old.insts) (blocks_of (function_view function.now))) }
-    ensures not_yet { result ≡ Err ReadErr.NotYet → Refuses scope.now (λ s. placed_blocks (open_inst s) (open_terminator s) (length module.old.insts) (blocks_of (function_view function.now))) }
+    requires blocks { number + length (blocks_of (function_view function.now)) ≤ length draft.old.blocks }
+    requires ready { IsReady false draft.old scope.now }
+    ensures adds { OnOk result ((s : meaning.Scope) → Knows scope.now s → AddsBodies s (blocks_of (function_view function.now)) number draft.old draft.new) }
+    ensures built { OnOk result (EachBlock (IsBuilt draft.new) (HasEndSlots draft.new) (length draft.old.insts) (blocks_of (function_view function.now))) }
+    ensures keeps { OnOk result (Keeps draft.old draft.new) }
+    ensures count { OnOk result (length draft.new.insts ≡ behind_all (length draft.old.insts) (blocks_of (function_view function.now))) }
+    ensures not_yet { result ≡ Err ReadErr.NotYet → Refuses scope.now (λ s. placed_blocks (open_inst s) (open_terminator s) (length draft.old.insts) (blocks_of (function_view function.now))) }
 {
-    build_block(
-        alloc,
-        module,
-        scope,
-        LLVMBasicBlock(number),
-        &function.entry,
-    )?;
+    build_block(alloc, draft, scope, LLVMBasicBlock(number), &function.entry)?;
     build_more(
         alloc,
-        module,
+        draft,
         scope,
         next_number(number)?,
         function.more.as_slice(),

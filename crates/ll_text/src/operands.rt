@@ -43,94 +43,94 @@ fn local<'a>(scope: &Scope<'a>, width: u32, text: &'a [u8]) -> Result<LLVMValue,
 }
 
 /// The constant of a literal at a width.
-fn constant(module: &mut LLVMModule, width: u32, text: &[u8]) -> Result<LLVMValue, ReadErr>
+fn constant(draft: &mut LLVMModule, width: u32, text: &[u8]) -> Result<LLVMValue, ReadErr>
     requires least { 1 ≤ width }
     requires most { width ≤ 64 }
-    ensures value { IfOk result (λ v. SaysConstant width text.now module.new v) }
-    ensures rest { OnOk result (OnlyInterns module.old module.new) }
+    ensures value { IfOk result (λ v. SaysConstant width text.now draft.new v) }
+    ensures rest { OnOk result (OnlyInterns draft.old draft.new) }
     ensures not_yet { result ≡ Err ReadErr.NotYet → const_value width text.now ≡ None }
 {
     let Some(value) = const_value(text, width) else {
         return Err(ReadErr::NotYet);
     };
-    let ty = module.type_get(LLVMTypeKind::Int(width))?;
-    let c = module.const_get(LLVMConstKind::Int(ty, value))?;
+    let ty = draft.type_get(LLVMTypeKind::Int(width))?;
+    let c = draft.const_get(LLVMConstKind::Int(ty, value))?;
     Ok(LLVMValue::Const(c))
 }
 
 /// What stands for a result of a width that is not built yet.
-fn placeholder(module: &mut LLVMModule, width: u32) -> Result<LLVMValue, AllocError>
+fn placeholder(draft: &mut LLVMModule, width: u32) -> Result<LLVMValue, AllocError>
     requires least { 1 ≤ width }
     requires most { width ≤ 64 }
-    ensures value { IfOk result (λ v. operand_of (trees_of module.new) v ≡ placeholder width) }
-    ensures stands { IfOk result (λ v. IsValueOf module.new v width) }
-    ensures rest { OnOk result (OnlyInterns module.old module.new) }
+    ensures value { IfOk result (λ v. operand_of (trees_of draft.new) v ≡ placeholder width) }
+    ensures stands { IfOk result (λ v. IsValueOf draft.new v width) }
+    ensures rest { OnOk result (OnlyInterns draft.old draft.new) }
 {
-    let ty = module.type_get(LLVMTypeKind::Int(width))?;
-    let c = module.const_get(LLVMConstKind::Placeholder(0, ty))?;
+    let ty = draft.type_get(LLVMTypeKind::Int(width))?;
+    let c = draft.const_get(LLVMConstKind::Placeholder(0, ty))?;
     Ok(LLVMValue::Const(c))
 }
 
 /// The value of an operand of a width: a parameter, a result that is built, or a constant.
 pub fn operand<'a>(
-    module: &mut LLVMModule,
+    draft: &mut LLVMModule,
     scope: &Scope<'a>,
     width: u32,
     token: Token<'a>,
 ) -> Result<LLVMValue, ReadErr>
     requires least { 1 ≤ width }
     requires most { width ≤ 64 }
-    requires ready { IsReady true module.old scope.now }
-    ensures stands { IfOk result (λ v. IsValueOf module.new v width) }
-    ensures value { IfOk result (λ v. (s : meaning.Scope) → Knows scope.now s → SaysValue s width (text_of token.entry) module.new v) }
-    ensures rest { OnOk result (OnlyInterns module.old module.new) }
+    requires ready { IsReady true draft.old scope.now }
+    ensures stands { IfOk result (λ v. IsValueOf draft.new v width) }
+    ensures value { IfOk result (λ v. (s : meaning.Scope) → Knows scope.now s → SaysValue s width (text_of token.entry) draft.new v) }
+    ensures rest { OnOk result (OnlyInterns draft.old draft.new) }
     ensures not_yet { result ≡ Err ReadErr.NotYet → Refuses scope.now (λ s. value_of is_plain 64 s width (text_of token.entry)) }
 {
     match token.text {
         [b'%', ..] => local(scope, width, token.text),
-        _ => constant(module, width, token.text),
+        _ => constant(draft, width, token.text),
     }
 }
 
 /// The value of an operand of a width, or a placeholder for a result.
 pub fn open_operand<'a>(
-    module: &mut LLVMModule,
+    draft: &mut LLVMModule,
     scope: &Scope<'a>,
     width: u32,
     token: Token<'a>,
 ) -> Result<LLVMValue, ReadErr>
     requires least { 1 ≤ width }
     requires most { width ≤ 64 }
-    requires ready { IsReady false module.old scope.now }
-    ensures stands { IfOk result (λ v. IsValueOf module.new v width) }
-    ensures value { IfOk result (λ v. (s : meaning.Scope) → Knows scope.now s → OpensValue s width (text_of token.entry) module.new v) }
-    ensures rest { OnOk result (OnlyInterns module.old module.new) }
+    requires ready { IsReady false draft.old scope.now }
+    ensures stands { IfOk result (λ v. IsValueOf draft.new v width) }
+    ensures value { IfOk result (λ v. (s : meaning.Scope) → Knows scope.now s → OpensValue s width (text_of token.entry) draft.new v) }
+    ensures rest { OnOk result (OnlyInterns draft.old draft.new) }
     ensures not_yet { result ≡ Err ReadErr.NotYet → Refuses scope.now (λ s. value_of is_plain 64 s width (text_of token.entry)) }
 {
     match token.text {
-        [b'%', ..] => open_local(module, scope, width, token.text),
-        _ => constant(module, width, token.text),
+        [b'%', ..] => open_local(draft, scope, width, token.text),
+        _ => constant(draft, width, token.text),
     }
 }
 
 /// A parameter of a width, or a placeholder for a result.
 fn open_local<'a>(
-    module: &mut LLVMModule,
+    draft: &mut LLVMModule,
     scope: &Scope<'a>,
     width: u32,
     text: &'a [u8],
 ) -> Result<LLVMValue, ReadErr>
     requires least { 1 ≤ width }
     requires most { width ≤ 64 }
-    requires ready { IsReady false module.old scope.now }
+    requires ready { IsReady false draft.old scope.now }
     requires local { is_local text.now ≡ true }
-    ensures stands { IfOk result (λ v. IsValueOf module.new v width) }
-    ensures value { IfOk result (λ v. (s : meaning.Scope) → Knows scope.now s → OpensValue s width text.now module.new v) }
-    ensures rest { OnOk result (OnlyInterns module.old module.new) }
+    ensures stands { IfOk result (λ v. IsValueOf draft.new v width) }
+    ensures value { IfOk result (λ v. (s : meaning.Scope) → Knows scope.now s → OpensValue s width text.now draft.new v) }
+    ensures rest { OnOk result (OnlyInterns draft.old draft.new) }
     ensures not_yet { result ≡ Err ReadErr.NotYet → Refuses scope.now (λ s. value_of is_plain 64 s width text.now) }
 {
     match local(scope, width, text)? {
-        LLVMValue::Inst(_) => Ok(placeholder(module, width)?),
+        LLVMValue::Inst(_) => Ok(placeholder(draft, width)?),
         value => Ok(value),
     }
 }

@@ -18,7 +18,7 @@ use llvm_core::numbers::LLVMInstRef;
 
 /// Appends an entry to a phi of integers of a width.
 pub fn add_entry<'a>(
-    module: &mut LLVMModule,
+    draft: &mut LLVMModule,
     scope: &Scope<'a>,
     phi: LLVMInstRef,
     width: u32,
@@ -26,22 +26,22 @@ pub fn add_entry<'a>(
 ) -> Result<(), ReadErr>
     requires least { 1 ≤ width }
     requires most { width ≤ 64 }
-    requires ready { IsReady true module.old scope.now }
-    requires phi { IsPhiAt module.old phi.0 }
-    ensures adds { OnOk result ((s : meaning.Scope) → Knows scope.now s → AddsEntries s width (incoming_view entry.entry ∷ []) phi.0 module.old module.new) }
-    ensures keeps { OnOk result (Keeps module.old module.new) }
-    ensures same { OnOk result (length module.new.insts ≡ length module.old.insts) }
+    requires ready { IsReady true draft.old scope.now }
+    requires phi { IsPhiAt draft.old phi.0 }
+    ensures adds { OnOk result ((s : meaning.Scope) → Knows scope.now s → AddsEntries s width (incoming_view entry.entry ∷ []) phi.0 draft.old draft.new) }
+    ensures keeps { OnOk result (Keeps draft.old draft.new) }
+    ensures same { OnOk result (length draft.new.insts ≡ length draft.old.insts) }
     ensures not_yet { result ≡ Err ReadErr.NotYet → Refuses scope.now (λ s. entries_data is_plain 64 s width (incoming_view entry.entry ∷ [])) }
 {
-    let value = operand(module, scope, width, entry.value)?;
+    let value = operand(draft, scope, width, entry.value)?;
     let block = target(scope, entry.block)?;
-    module.add_incoming(phi, value, block)?;
+    draft.add_incoming(phi, value, block)?;
     Ok(())
 }
 
 /// Appends entries to a phi of integers of a width, in order.
 pub fn add_entries<'a>(
-    module: &mut LLVMModule,
+    draft: &mut LLVMModule,
     scope: &Scope<'a>,
     phi: LLVMInstRef,
     width: u32,
@@ -49,15 +49,15 @@ pub fn add_entries<'a>(
 ) -> Result<(), ReadErr>
     requires least { 1 ≤ width }
     requires most { width ≤ 64 }
-    requires ready { IsReady true module.old scope.now }
-    requires phi { IsPhiAt module.old phi.0 }
-    ensures adds { OnOk result ((s : meaning.Scope) → Knows scope.now s → AddsEntries s width (map incoming_view entries.now) phi.0 module.old module.new) }
-    ensures keeps { OnOk result (Keeps module.old module.new) }
-    ensures same { OnOk result (length module.new.insts ≡ length module.old.insts) }
+    requires ready { IsReady true draft.old scope.now }
+    requires phi { IsPhiAt draft.old phi.0 }
+    ensures adds { OnOk result ((s : meaning.Scope) → Knows scope.now s → AddsEntries s width (map incoming_view entries.now) phi.0 draft.old draft.new) }
+    ensures keeps { OnOk result (Keeps draft.old draft.new) }
+    ensures same { OnOk result (length draft.new.insts ≡ length draft.old.insts) }
     ensures not_yet { result ≡ Err ReadErr.NotYet → Refuses scope.now (λ s. entries_data is_plain 64 s width (map incoming_view entries.now)) }
 {
     for entry in entries {
-        add_entry(module, scope, phi, width, *entry)?;
+        add_entry(draft, scope, phi, width, *entry)?;
     }
     Ok(())
 }

@@ -102,19 +102,21 @@ fn string_at(bytes: &[u8]) -> Option<Piece>
     }
 }
 
-/// Digits, with the colon that makes them a label.
+/// Digits, or a label. `run` is how many bytes of a name the text begins with.
 #[tactic(auto, unfolding(crate::specs::Tokens::digits_at))]
-fn digits_at(bytes: &[u8]) -> Option<Piece>
-    requires { 1 ≤ prefix_len is_digit bytes.now }
+fn digits_at(bytes: &[u8], run: usize) -> Option<Piece>
+    requires digits { 1 ≤ prefix_len is_digit bytes.now }
+    requires run { run ≡ prefix_len is_name_byte bytes.now }
     ensures gives { result ≡ digits_at bytes.now }
     ensures within { IfSome result (λ p. (1 ≤ p.len) × (p.len ≤ length bytes.now)) }
 {
-    let n = digits_len(bytes);
-    if n < bytes.len() && bytes[n] == b':' {
-        token(1 + n)
-    } else {
-        token(n)
+    if run < bytes.len() && bytes[run] == b':' {
+        return token(1 + run);
     }
+    if bytes.len() > 1 && bytes[0] == b'0' && bytes[1] == b'x' {
+        return None;
+    }
+    token(digits_len(bytes))
 }
 
 /// Digits behind their minus.
@@ -177,7 +179,7 @@ pub fn piece_at(bytes: &[u8], run: usize) -> Option<Piece>
         return string_at(rest);
     }
     if is_digit(b) {
-        return digits_at(bytes);
+        return digits_at(bytes, run);
     }
     if is_name_byte(b) {
         return word_at(bytes, b, rest, run);

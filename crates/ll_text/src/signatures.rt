@@ -35,33 +35,33 @@ pub fn result_width(ty: Option<Token<'_>>) -> Result<Option<u32>, ReadErr>
 }
 
 /// The type that a function returns.
-fn result_type(module: &mut LLVMModule, returns: Option<u32>) -> Result<LLVMType, AllocError>
+fn result_type(draft: &mut LLVMModule, returns: Option<u32>) -> Result<LLVMType, AllocError>
     requires least { IfSome returns (λ w. 1 ≤ w) }
     requires most { IfSome returns (λ w. w ≤ 64) }
-    ensures here { IfOk result (λ t. slice_get module.new.types t.0 ≡ Some (returned_kind returns)) }
-    ensures rest { OnOk result (OnlyInterns module.old module.new) }
+    ensures here { IfOk result (λ t. slice_get draft.new.types t.0 ≡ Some (returned_kind returns)) }
+    ensures rest { OnOk result (OnlyInterns draft.old draft.new) }
 {
     let ty = match returns {
-        Some(width) => module.type_get(LLVMTypeKind::Int(width))?,
-        None => module.type_get(LLVMTypeKind::Void)?,
+        Some(width) => draft.type_get(LLVMTypeKind::Int(width))?,
+        None => draft.type_get(LLVMTypeKind::Void)?,
     };
     Ok(ty)
 }
 
 /// The type of one parameter, put behind those of the parameters before it.
 fn push_type(
-    module: &mut LLVMModule,
+    draft: &mut LLVMModule,
     types: &mut Items<LLVMType>,
     param: &Param<'_>,
 ) -> Result<(), ReadErr>
-    ensures types { OnOk result ((ps : List tree.Param) → HasParams ps module.old.types types.old → HasParams (ps ++ param_view param.now ∷ []) module.new.types types.new) }
-    ensures rest { OnOk result (OnlyInterns module.old module.new) }
+    ensures types { OnOk result ((ps : List tree.Param) → HasParams ps draft.old.types types.old → HasParams (ps ++ param_view param.now ∷ []) draft.new.types types.new) }
+    ensures rest { OnOk result (OnlyInterns draft.old draft.new) }
     ensures not_yet { result ≡ Err ReadErr.NotYet → int_width is_plain 64 (param_view param.now).type ≡ None }
 {
     let Some(width) = int_width(param.ty.text) else {
         return Err(ReadErr::NotYet);
     };
-    let ty = module.type_get(LLVMTypeKind::Int(width))?;
+    let ty = draft.type_get(LLVMTypeKind::Int(width))?;
     types.push(ty)?;
     Ok(())
 }
@@ -69,16 +69,16 @@ fn push_type(
 /// The types of parameters.
 fn param_types(
     alloc: Global,
-    module: &mut LLVMModule,
+    draft: &mut LLVMModule,
     params: &[Param<'_>],
 ) -> Result<Items<LLVMType>, ReadErr>
-    ensures types { IfOk result (λ ts. HasParams (map param_view params.now) module.new.types ts) }
-    ensures rest { OnOk result (OnlyInterns module.old module.new) }
+    ensures types { IfOk result (λ ts. HasParams (map param_view params.now) draft.new.types ts) }
+    ensures rest { OnOk result (OnlyInterns draft.old draft.new) }
     ensures not_yet { result ≡ Err ReadErr.NotYet → (widths : List ℕ) → ¬ AreWidths (map param_view params.now) widths }
 {
     let mut types = Items::new(alloc);
     for param in params {
-        push_type(module, &mut types, param)?;
+        push_type(draft, &mut types, param)?;
     }
     Ok(types)
 }
@@ -86,19 +86,19 @@ fn param_types(
 /// The type of a function that takes the parameters and returns an integer of a width, or nothing.
 pub fn signature(
     alloc: Global,
-    module: &mut LLVMModule,
+    draft: &mut LLVMModule,
     returns: Option<u32>,
     params: &[Param<'_>],
 ) -> Result<LLVMType, ReadErr>
     requires least { IfSome returns (λ w. 1 ≤ w) }
     requires most { IfSome returns (λ w. w ≤ 64) }
-    ensures ty { IfOk result (λ t. HasSignature (map param_view params.now) module.new t returns) }
-    ensures rest { OnOk result (OnlyInterns module.old module.new) }
+    ensures ty { IfOk result (λ t. HasSignature (map param_view params.now) draft.new t returns) }
+    ensures rest { OnOk result (OnlyInterns draft.old draft.new) }
     ensures not_yet { result ≡ Err ReadErr.NotYet → (widths : List ℕ) → ¬ AreWidths (map param_view params.now) widths }
 {
-    let result = result_type(module, returns)?;
-    let params = param_types(alloc, module, params)?;
-    let ty = module.type_get(LLVMTypeKind::Function {
+    let result = result_type(draft, returns)?;
+    let params = param_types(alloc, draft, params)?;
+    let ty = draft.type_get(LLVMTypeKind::Function {
         result,
         params,
         variadic: false,

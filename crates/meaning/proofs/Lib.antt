@@ -9,3 +9,4 @@ pub mod Fronts
 pub mod Simulation
 pub mod ShapeLaws
 pub mod ShapeExample
+pub mod EntryLaws

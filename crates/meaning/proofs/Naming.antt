@@ -1,11 +1,12 @@
 -- Terms under a match: what a silent kind makes of renamed operands, and the match that changes nothing.
 use Rattle.std.proofs.Common.{ℕ, ◌≡◌, ◌∙◌, List, [], ◌∷◌, map, map-id, option_map, refl, ap}
 use mathlib.Core.Path.{fun_ext}
-use Rattle.llvm_core.specs.Data.{TypeTree, VoidType, IntType, FunctionType, TypeTrees, NoTypes, ThenType}
-use Rattle.meaning.specs.Terms.{Match, Opcode, Immediate, Flag, Number, Predicate, Family, Shows, Builds, family, made_by, silent, Term, Param, Answer, Unset, Int, ListOf, Expr, Insert, Terms, NoTerms, ThenTerm, Path, Places, PlaceOf, terms_of, rename, rename_all, rename_path, rename_immediate, rename_type, rename_types}
+use Rattle.llvm_core.specs.Data.{TypeTree}
+use Rattle.meaning.specs.Terms.{Match, Opcode, Immediate, Flag, Number, Predicate, Family, Shows, Builds, family, made_by, silent, Term, Param, Answer, Unset, Int, ListOf, Expr, Insert, Terms, NoTerms, ThenTerm, Path, Places, PlaceOf, terms_of, rename, rename_all, rename_path, rename_immediate, rename_type}
 use Rattle.meaning.specs.Machine.{Item, Entered, Event}
 use Rattle.meaning.specs.Code.{under}
 use Rattle.meaning.specs.Examples.{same_places}
+use Rattle.meaning.proofs.EntryLaws.{type_stays}
 
 -- ---- silent kinds
 
@@ -26,16 +27,6 @@ rename-silent match o is ty ts = rename-made_by match (family o) o is ty ts
 map_same : {A : Type 0} (f : A → A) → ((x : A) → f x ≡ x) → (xs : List A) → map f xs ≡ xs
 map_same f h xs = ap (λ (g : _ → _). map g xs) (fun_ext h) ∙ map-id xs
 
-mutual
-  type_same : (ty : TypeTree) → rename_type same_places ty ≡ ty
-  type_same VoidType = refl
-  type_same (IntType w) = refl
-  type_same (FunctionType r ps v) = cc (type_same r, types_same ps)
-
-  types_same : (tys : TypeTrees) → rename_types same_places tys ≡ tys
-  types_same NoTypes = refl
-  types_same (ThenType ty tys) = cc (type_same ty, types_same tys)
-
 immediate_same : (i : Immediate) → rename_immediate same_places i ≡ i
 immediate_same (Flag b) = refl
 immediate_same (Number n) = refl
@@ -47,9 +38,9 @@ mutual
   term_same (Answer n) = refl
   term_same Unset = refl
   term_same (Int w v) = refl
-  term_same (ListOf ty ts) = cc (type_same ty, terms_same ts)
-  term_same (Expr o is ty ts) = cc (map_same (rename_immediate same_places) immediate_same is, type_same ty, terms_same ts)
-  term_same (Insert ty a p e) = cc (type_same ty, term_same a, path_same p, term_same e)
+  term_same (ListOf ty ts) = cc (type_stays same_places ty, terms_same ts)
+  term_same (Expr o is ty ts) = cc (map_same (rename_immediate same_places) immediate_same is, type_stays same_places ty, terms_same ts)
+  term_same (Insert ty a p e) = cc (type_stays same_places ty, term_same a, path_same p, term_same e)
 
   terms_same : (ts : Terms) → rename_all same_places ts ≡ ts
   terms_same NoTerms = refl
@@ -61,7 +52,7 @@ mutual
 
 item_same : (n : List ℕ) (i : Item) → under same_places n i ≡ i
 item_same n (Entered b) = refl
-item_same n (Event o is ty tys ts) = cc (map_same (rename_immediate same_places) immediate_same is, type_same ty, map_same (rename_type same_places) type_same tys, map_same (rename same_places) term_same ts)
+item_same n (Event o is ty tys ts) = cc (map_same (rename_immediate same_places) immediate_same is, type_stays same_places ty, map_same (rename_type same_places) (type_stays same_places) tys, map_same (rename same_places) term_same ts)
 
 pub items_same : (n : List ℕ) (items : List Item) → map (under same_places n) items ≡ items
 items_same n items = map_same (under same_places n) (item_same n) items

@@ -26,7 +26,7 @@ status_of NoMemory = 8
 
 -- of a refusal of the translation: the half, the kind, and the name where it carries one
 abbrev pub refusal_head : TransferErr → List ℕ
-refusal_head (T.Import (C.ForwardUse name v)) = codes "import ForwardUse: "
+refusal_head (T.Import (C.UndefinedValue name v)) = codes "import UndefinedValue: "
 refusal_head (T.Import C.NoMemory) = codes "import NoMemory"
 refusal_head (T.Export (X.UndefinedValue name)) = codes "export UndefinedValue: "
 refusal_head (T.Export (X.UndefinedBlock label)) = codes "export UndefinedBlock: "
@@ -36,7 +36,7 @@ refusal_head (T.Export X.NoMemory) = codes "export NoMemory"
 refusal_head T.NoMemory = codes "NoMemory"
 
 abbrev pub refusal_name : TransferErr → List ℕ
-refusal_name (T.Import (C.ForwardUse name v)) = name
+refusal_name (T.Import (C.UndefinedValue name v)) = name
 refusal_name (T.Export (X.UndefinedValue name)) = name
 refusal_name (T.Export (X.UndefinedBlock label)) = label
 refusal_name _ = []

@@ -94,7 +94,7 @@ fn refusal_head(e: &TransferErr) -> &'static str
     ensures { result.now ≡ refusal_head e.now }
 {
     match e {
-        TransferErr::Import(ConversionErr::ForwardUse(..)) => "import ForwardUse: ",
+        TransferErr::Import(ConversionErr::UndefinedValue(..)) => "import UndefinedValue: ",
         TransferErr::Import(ConversionErr::NoMemory) => "import NoMemory",
         TransferErr::Export(ToLLVMErr::UndefinedValue(_)) => "export UndefinedValue: ",
         TransferErr::Export(ToLLVMErr::UndefinedBlock(_)) => "export UndefinedBlock: ",
@@ -112,7 +112,7 @@ fn refusal_name(e: &TransferErr) -> &str
     ensures { result.now ≡ refusal_name e.now }
 {
     match e {
-        TransferErr::Import(ConversionErr::ForwardUse(name, _)) => name.as_str(),
+        TransferErr::Import(ConversionErr::UndefinedValue(name, _)) => name.as_str(),
         TransferErr::Export(ToLLVMErr::UndefinedValue(name)) => name.as_str(),
         TransferErr::Export(ToLLVMErr::UndefinedBlock(label)) => label.as_str(),
         _ => "",

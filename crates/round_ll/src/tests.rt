@@ -3,8 +3,9 @@
 mod faults;
 mod outside_form;
 mod rows;
+mod undefined;
 
-use self::outside_form::{EARLY, OUTSIDE, OUTSIDE_BRANCHES};
+use self::outside_form::OUTSIDE;
 use self::rows::branches::branches;
 use self::rows::constants::constants;
 use self::rows::files::files;
@@ -12,9 +13,11 @@ use self::rows::hoisted::hoisted;
 use self::rows::labels::labels;
 use self::rows::loops::loops;
 use self::rows::numbered::numbered;
+use self::rows::orders::orders;
 use self::rows::parameters::parameters;
 use self::rows::phis::phis;
 use self::rows::sums::sums;
+use self::undefined::UNDEFINED;
 use crate::ended::Ended;
 use crate::outside::{MemorySink, MemorySource};
 use crate::run::run;
@@ -39,11 +42,16 @@ fn words_of(alloc: Global, words: &[&str]) -> Result<Vec<String>, AllocError> {
     Ok(owned)
 }
 
-/// Runs the program over a text in memory.
-fn answer_to(alloc: Global, words: &[&str], text: &[u8]) -> Result<Answer, AllocError> {
+/// Runs the program over a text in memory, with memory for so many bytes of output.
+fn answer_in_room(
+    alloc: Global,
+    words: &[&str],
+    text: &[u8],
+    room: usize,
+) -> Result<Answer, AllocError> {
     let words = words_of(alloc, words)?;
     let mut source = MemorySource::new(alloc, text, 1 << 20, &[])?;
-    let mut out = MemorySink::new(alloc, 1 << 20, 1 << 20, &[])?;
+    let mut out = MemorySink::new(alloc, room, 1 << 20, &[])?;
     let mut err = MemorySink::new(alloc, 1 << 10, 1 << 10, &[])?;
     let ended = run(alloc, words.as_slice(), &mut source, &mut out, &mut err);
     Ok(Answer {
@@ -51,6 +59,11 @@ fn answer_to(alloc: Global, words: &[&str], text: &[u8]) -> Result<Answer, Alloc
         out: Vec::from_slice(alloc, out.bytes())?,
         err: Vec::from_slice(alloc, err.bytes())?,
     })
+}
+
+/// Runs the program over a text in memory.
+fn answer_to(alloc: Global, words: &[&str], text: &[u8]) -> Result<Answer, AllocError> {
+    answer_in_room(alloc, words, text, 1 << 20)
 }
 
 const EMPTY_OUT: &str = "builtin.module @_ {
@@ -78,6 +91,7 @@ fn texts_of_the_form_go_round(rt: HostRuntime) -> Result<(), Fail> {
         loops(),
         phis(),
         numbered(),
+        orders(),
     ] {
         for row in rows {
             let answer = answer_to(rt.alloc(), &["round"], row.text.as_bytes())?;
@@ -91,20 +105,22 @@ fn texts_of_the_form_go_round(rt: HostRuntime) -> Result<(), Fail> {
 
 #[test]
 fn other_texts_are_refused(rt: HostRuntime) -> Result<(), Fail> {
-    for text in OUTSIDE.iter().chain(&OUTSIDE_BRANCHES) {
-        let answer = answer_to(rt.alloc(), &["round"], text.as_bytes())?;
-        assert_eq!(rt; answer.status, 6, "{text}");
-        assert_eq!(rt; answer.out.len(), 0);
-        assert_eq!(rt; answer.err.as_slice(), b"NotYet\n".as_slice());
+    for texts in &OUTSIDE {
+        for text in texts.lines() {
+            let answer = answer_to(rt.alloc(), &["round"], text.as_bytes())?;
+            assert_eq!(rt; answer.status, 6, "{text}");
+            assert_eq!(rt; answer.out.len(), 0);
+            assert_eq!(rt; answer.err.as_slice(), b"NotYet\n".as_slice());
+        }
     }
     Ok(())
 }
 
 #[test]
-fn uses_before_a_definition_are_refused(rt: HostRuntime) -> Result<(), Fail> {
-    for (text, name) in &EARLY {
+fn undefined_values_are_refused(rt: HostRuntime) -> Result<(), Fail> {
+    for (text, name) in &UNDEFINED {
         let answer = answer_to(rt.alloc(), &["round"], text.as_bytes())?;
-        let line = format!(in rt.alloc(); "import ForwardUse: {name}\n")?;
+        let line = format!(in rt.alloc(); "import UndefinedValue: {name}\n")?;
         assert_eq!(rt; answer.status, 7, "{text}");
         assert_eq!(rt; answer.out.len(), 0);
         assert_eq!(rt; answer.err.as_slice(), line.as_bytes());
@@ -172,5 +188,27 @@ fn many_functions_share_types_and_constants(rt: HostRuntime) -> Result<(), Fail>
     }
     let last = "\nblocks @f999 0\n";
     assert!(rt; out.bytes().ends_with(last.as_bytes()));
+    Ok(())
+}
+
+/// How many blocks the chain has behind its entry.
+const CHAIN: u32 = 100_000;
+
+#[test]
+fn a_long_chain_of_blocks_goes_round_from_its_end(rt: HostRuntime) -> Result<(), Fail> {
+    let alloc = rt.alloc();
+    let mut text = String::new(alloc);
+    text.push_str("define void @chain() {\n  br label %b0\n")?;
+    let last = format!(in alloc; "b{CHAIN}:\n  ret void\n")?;
+    text.push_str(last.as_str())?;
+    for k in (0..CHAIN).rev() {
+        let next = k + 1;
+        let block = format!(in alloc; "b{k}:\n  br label %b{next}\n")?;
+        text.push_str(block.as_str())?;
+    }
+    text.push_str("}\n")?;
+    let answer = answer_in_room(alloc, &["round"], text.as_bytes(), 1 << 24)?;
+    assert_eq!(rt; answer.status, 0);
+    assert!(rt; answer.out.as_slice().ends_with(b" 3 2 1\n".as_slice()));
     Ok(())
 }

@@ -1,8 +1,8 @@
--- The entries of phis and the edges of the function that is made: as many for each source, and where each comes from.
+-- The entries of phis and the edges of the function that is made: one for each edge, in order, and where each comes from.
 use Rattle.std.proofs.Common.{◌≡◌, ◌<◌, ◌⊎◌, inl, inr, ◌+◌, ℕ, zero, suc, Bool, true, false, nat_eq, if◌then◌else◌, List, [], ◌∷◌, ◌++◌, Option, Some, None, length, map, filter, slice_get, refl, sym, ap, ◌∙◌, arith, ⊎_elim, eq-eqb, ne_eqb, eqb-true, length-append}
 use Rattle.std.specs.List.{flat_map}
 use Rattle.std.proofs.lemmas.Option.{same_Some, none-some}
-use Rattle.std.proofs.lemmas.Bool.{cond-true, cond-false}
+use Rattle.std.proofs.lemmas.Bool.{cond-true, cond-false, cases_eq}
 use Rattle.std.proofs.lemmas.List.{map-append}
 use Rattle.std.proofs.lemmas.List.Elements.{filter-append}
 use Rattle.llvm_core.specs.Edges.{count_of}
@@ -14,7 +14,7 @@ use Rattle.dialect_core.specs.declared.ops.Value.TheVariants.{Argument}
 use Rattle.dialect_core.specs.declared.ops.Successor.{Successor}
 use Rattle.dialect_core.specs.Data.{DialectBlock, Func}
 use Rattle.dialect_core.specs.Form.{IsFormFunc, edges_of}
-use Rattle.to_llvm_ir.specs.Exported.{number_behind}
+use Rattle.to_llvm_ir.specs.Exported.{number_behind, edge_sources}
 use Rattle.to_llvm_ir.specs.Made.{Numbers, operand_for, block_made, blocks_made, passed_to, passed, entry_with, entries_from}
 use Rattle.to_llvm_ir.proofs.ListLaws.{item_there, append_cases}
 use Rattle.to_llvm_ir.proofs.EdgeLaws.{target_for, block_leads}
@@ -22,91 +22,82 @@ use Rattle.to_llvm_ir.proofs.EdgeLaws.{target_for, block_leads}
 count_append : (m : ℕ) (xs ys : List ℕ) → count_of m (xs ++ ys) ≡ count_of m xs + count_of m ys
 count_append m xs ys = ap (λ (zs : List ℕ). length zs) (filter-append (nat_eq m) xs ys) ∙ length-append (filter (nat_eq m) xs) (filter (nat_eq m) ys)
 
-count_one : (m x : ℕ) → count_of m (x ∷ []) ≡ (if nat_eq m x then 1 else 0)
-count_one m x = by (nat_eq m x)
+both_parts : {X : Type 0} (xs ys us vs : List X) → xs ≡ us → ys ≡ vs → xs ++ ys ≡ us ++ vs
+both_parts xs ys us vs e f = cc
+
+-- ---- edges by where they come from
+
+-- one number for each of a list
+abbrev each_from : ℕ → List ℕ → List ℕ
+each_from q ts = map (λ (t : ℕ). q) ts
+
+each_count : (p q : ℕ) (ts : List ℕ) → count_of p (each_from q ts) ≡ (if nat_eq q p then length ts else 0)
+each_count p q ts = ⊎_elim
+    (λ same. all_there p q ts (sym same) ∙ sym (cond-true (nat_eq q p) (length ts) 0 (eq-eqb q p same)))
+    (λ differs. none_there p q ts (λ e. differs (sym e)) ∙ sym (cond-false (nat_eq q p) (length ts) 0 (ne_eqb q p differs)))
+    (cases_eq q p)
   where
-    by : (t : Bool) → length (if t then x ∷ [] else []) ≡ (if t then 1 else 0)
-    by true = refl
-    by false = refl
+    all_there : (p q : ℕ) (ts : List ℕ) → p ≡ q → count_of p (each_from q ts) ≡ length ts
+    all_there p q [] e = refl
+    all_there p q (t ∷ ts) e = ap (λ (xs : List ℕ). length xs) (cond-true (nat_eq p q) (q ∷ filter (nat_eq p) (each_from q ts)) (filter (nat_eq p) (each_from q ts)) (eq-eqb p q e)) ∙ ap suc (all_there p q ts e)
+
+    none_there : (p q : ℕ) (ts : List ℕ) → (p ≡ q → ⊥) → count_of p (each_from q ts) ≡ 0
+    none_there p q [] ne = refl
+    none_there p q (t ∷ ts) ne = ap (λ (xs : List ℕ). length xs) (cond-false (nat_eq p q) (q ∷ filter (nat_eq p) (each_from q ts)) (filter (nat_eq p) (each_from q ts)) (ne_eqb p q ne)) ∙ none_there p q ts ne
+
+-- so often does a block stand among them as it leads there
+pub sources_count : (p T : ℕ) (bs : List Block) → count_of p (edge_sources T bs) ≡ count_of T (flat_map F.targets_of (filter (λ (x : Block). nat_eq x.number p) bs))
+sources_count p T [] = refl
+sources_count p T (x ∷ bs) =
+    count_append p (each_from x.number (filter (nat_eq T) (F.targets_of x))) (edge_sources T bs)
+    ∙ by (nat_eq x.number p) _ _ (each_count p x.number (filter (nat_eq T) (F.targets_of x))) (sources_count p T bs)
+  where
+    by : (t : Bool) (u v : ℕ) → u ≡ (if t then count_of T (F.targets_of x) else 0) → v ≡ count_of T (flat_map F.targets_of (filter (λ (x : Block). nat_eq x.number p) bs))
+        → u + v ≡ count_of T (flat_map F.targets_of (if t then x ∷ filter (λ (x : Block). nat_eq x.number p) bs else filter (λ (x : Block). nat_eq x.number p) bs))
+    by true u v e f = let s = count_append T (F.targets_of x) (flat_map F.targets_of (filter (λ (x : Block). nat_eq x.number p) bs)) in omega (arith, e, f, s)
+    by false u v e f = omega (arith, e, f)
 
 -- edges to another block than that of the number T are of no matter to it
 abbrev pub LeadsTo : Func → Numbers → BlockRef → ℕ → (i : ℕ) → Successor → Type 0
 LeadsTo g n b T i s = ((s.block.0 ≡ b.0) × (i < length s.args) × (target_for g n s ≡ T)) ⊎ ((s.block.0 ≡ b.0 → ⊥) × (target_for g n s ≡ T → ⊥))
 
-abbrev one_or_none : Bool → ℕ
-one_or_none t = if t then 1 else 0
-
-abbrev only_if : Bool → ℕ → ℕ
-only_if t k = if t then k else 0
-
 module _ (g : Func) (n : Numbers) where
   abbrev pub sources : List (Operand × ℕ) → List ℕ
   sources es = map (λ (e : Operand × ℕ). e.1) es
 
-  -- ---- as many entries as edges
+  -- ---- an entry for each edge
 
-  one_edge : (b : BlockRef) (T i q p : ℕ) (s : Successor) → LeadsTo g n b T i s → count_of p (sources (passed_to g n s.block s.args q (Argument b i))) ≡ (if nat_eq q p then count_of T (target_for g n s ∷ []) else 0)
-  one_edge b T i q p s (inl h) =
+  one_edge : (b : BlockRef) (T i q : ℕ) (s : Successor) → LeadsTo g n b T i s → sources (passed_to g n s.block s.args q (Argument b i)) ≡ each_from q (filter (nat_eq T) (target_for g n s ∷ []))
+  one_edge b T i q s (inl h) =
       let v = item_there s.args i h.1 in
       let here : passed_to g n s.block s.args q (Argument b i) ≡ (operand_for g n v.0, q) ∷ [] =
       cond-true (nat_eq b.0 s.block.0) (entry_with g n q (slice_get s.args i)) [] (eq-eqb b.0 s.block.0 (sym h.0)) ∙ ap (entry_with g n q) v.1 in
-      ap (λ (es : List (Operand × ℕ)). count_of p (sources es)) here ∙ count_one p q ∙ turned (nat_eq p q) (nat_eq q p) (same_test p q)
-      ∙ ap (λ (k : ℕ). if nat_eq q p then k else 0) (sym (count_one T (target_for g n s) ∙ cond-true (nat_eq T (target_for g n s)) 1 0 (eq-eqb T (target_for g n s) (sym h.2))))
-    where
-      turned : (t u : Bool) → t ≡ u → one_or_none t ≡ one_or_none u
-      turned t u e = ap one_or_none e
-
-      same_test : (p q : ℕ) → nat_eq p q ≡ nat_eq q p
-      same_test p q = by (nat_eq p q) refl
-        where
-          by : (t : Bool) → nat_eq p q ≡ t → t ≡ nat_eq q p
-          by true e = sym (eq-eqb q p (sym (eqb-true p q e)))
-          by false e = sym (ne_eqb q p (λ f. let k : true ≡ false = sym (eq-eqb p q (sym f)) ∙ e in cc))
-  one_edge b T i q p s (inr h) =
+      ap sources here ∙ ap (each_from q) (sym (cond-true (nat_eq T (target_for g n s)) (target_for g n s ∷ []) [] (eq-eqb T (target_for g n s) (sym h.2))))
+  one_edge b T i q s (inr h) =
       let none : passed_to g n s.block s.args q (Argument b i) ≡ [] = cond-false (nat_eq b.0 s.block.0) (entry_with g n q (slice_get s.args i)) [] (ne_eqb b.0 s.block.0 (λ e. h.0 (sym e))) in
-      ap (λ (es : List (Operand × ℕ)). count_of p (sources es)) none ∙ sym (nothing (nat_eq q p) (count_of T (target_for g n s ∷ [])) (count_one T (target_for g n s) ∙ cond-false (nat_eq T (target_for g n s)) 1 0 (ne_eqb T (target_for g n s) (λ e. h.1 (sym e)))))
-    where
-      nothing : (t : Bool) (k : ℕ) → k ≡ 0 → (if t then k else 0) ≡ 0
-      nothing true k e = e
-      nothing false k e = refl
+      ap sources none ∙ ap (each_from q) (sym (cond-false (nat_eq T (target_for g n s)) (target_for g n s ∷ []) [] (ne_eqb T (target_for g n s) (λ e. h.1 (sym e)))))
 
-  edges_count : (b : BlockRef) (T i q p : ℕ) (ss : List Successor) → ((k : ℕ) (s : Successor) → slice_get ss k ≡ Some s → LeadsTo g n b T i s) → count_of p (sources (passed g n q ss (Argument b i))) ≡ (if nat_eq q p then count_of T (map (target_for g n) ss) else 0)
-  edges_count b T i q p [] h = sym (by (nat_eq q p))
-    where
-      by : (t : Bool) → only_if t 0 ≡ 0
-      by true = refl
-      by false = refl
-  edges_count b T i q p (s ∷ ss) h =
-      ap (count_of p) (map-append (λ (e : Operand × ℕ). e.1) (passed_to g n s.block s.args q (Argument b i)) (passed g n q ss (Argument b i)))
-      ∙ count_append p (sources (passed_to g n s.block s.args q (Argument b i))) (sources (passed g n q ss (Argument b i)))
-      ∙ sums (nat_eq q p) (count_of T (target_for g n s ∷ [])) (count_of T (map (target_for g n) ss)) _ _ (one_edge b T i q p s (h 0 s refl)) (edges_count b T i q p ss (λ k t at. h (suc k) t at))
-      ∙ ap (λ (k : ℕ). if nat_eq q p then k else 0) (sym (count_append T (target_for g n s ∷ []) (map (target_for g n) ss)))
-    where
-      sums : (t : Bool) (x y u v : ℕ) → u ≡ (if t then x else 0) → v ≡ (if t then y else 0) → u + v ≡ (if t then x + y else 0)
-      sums true x y u v e f = omega (arith, e, f)
-      sums false x y u v e f = omega (arith, e, f)
+  edges_sources : (b : BlockRef) (T i q : ℕ) (ss : List Successor) → ((k : ℕ) (s : Successor) → slice_get ss k ≡ Some s → LeadsTo g n b T i s) → sources (passed g n q ss (Argument b i)) ≡ each_from q (filter (nat_eq T) (map (target_for g n) ss))
+  edges_sources b T i q [] h = refl
+  edges_sources b T i q (s ∷ ss) h =
+      map-append (λ (e : Operand × ℕ). e.1) (passed_to g n s.block s.args q (Argument b i)) (passed g n q ss (Argument b i))
+      ∙ both_parts (sources (passed_to g n s.block s.args q (Argument b i))) (sources (passed g n q ss (Argument b i))) (each_from q (filter (nat_eq T) (target_for g n s ∷ []))) (each_from q (filter (nat_eq T) (map (target_for g n) ss)))
+      (one_edge b T i q s (h 0 s refl)) (edges_sources b T i q ss (λ k t at. h (suc k) t at))
+      ∙ sym (ap (each_from q) (filter-append (nat_eq T) (target_for g n s ∷ []) (map (target_for g n) ss)) ∙ map-append (λ (t : ℕ). q) (filter (nat_eq T) (target_for g n s ∷ [])) (filter (nat_eq T) (map (target_for g n) ss)))
 
-  pub entries_count : (form : IsFormFunc g) (given : Value → List (Operand × ℕ)) (b : BlockRef) (T i p place k : ℕ) (cs : List DialectBlock)
+  pub entries_sources : (form : IsFormFunc g) (given : Value → List (Operand × ℕ)) (b : BlockRef) (T i place k : ℕ) (cs : List DialectBlock)
       → ((j : ℕ) (c : DialectBlock) → slice_get cs j ≡ Some c → (l : ℕ) × (slice_get g.blocks l ≡ Some c))
       → ((j l : ℕ) (c : DialectBlock) (s : Successor) → slice_get cs j ≡ Some c → slice_get (edges_of c) l ≡ Some s → LeadsTo g n b T i s)
-      → count_of p (sources (entries_from g n place cs (Argument b i))) ≡ count_of T (flat_map F.targets_of (filter (λ (x : Block). nat_eq x.number p) (blocks_made g n given place k cs)))
-  entries_count form given b T i p place k [] there h = refl
-  entries_count form given b T i p place k (c ∷ cs) there h =
+      → sources (entries_from g n place cs (Argument b i)) ≡ edge_sources T (blocks_made g n given place k cs)
+  entries_sources form given b T i place k [] there h = refl
+  entries_sources form given b T i place k (c ∷ cs) there h =
       let q = n.block + place in
-      let made = block_made g n given place k c in
-      let rest = blocks_made g n given (suc place) (number_behind (k + length c.args) c.ops) cs in
       let l = there 0 c refl in
-      let one = edges_count b T i q p (edges_of c) (λ m s at. h 0 m c s refl at) in
-      let targets : F.targets_of made ≡ map (target_for g n) (edges_of c) = block_leads g n form given place k l.0 c l.1 in
-      ap (count_of p) (map-append (λ (e : Operand × ℕ). e.1) (passed g n q (edges_of c) (Argument b i)) (entries_from g n (suc place) cs (Argument b i)))
-      ∙ count_append p (sources (passed g n q (edges_of c) (Argument b i))) (sources (entries_from g n (suc place) cs (Argument b i)))
-      ∙ by (nat_eq q p) made rest _ _ (one ∙ ap (λ (ts : List ℕ). if nat_eq q p then count_of T ts else 0) (sym targets))
-      (entries_count form given b T i p (suc place) (number_behind (k + length c.args) c.ops) cs (λ j d at. there (suc j) d at) (λ j m d s at at'. h (suc j) m d s at at'))
-    where
-      by : (t : Bool) (x : Block) (bs : List Block) (u v : ℕ) → u ≡ (if t then count_of T (F.targets_of x) else 0) → v ≡ count_of T (flat_map F.targets_of (filter (λ (x : Block). nat_eq x.number p) bs))
-          → u + v ≡ count_of T (flat_map F.targets_of (if t then x ∷ filter (λ (x : Block). nat_eq x.number p) bs else filter (λ (x : Block). nat_eq x.number p) bs))
-      by true x bs u v e f = let s = count_append T (F.targets_of x) (flat_map F.targets_of (filter (λ (x : Block). nat_eq x.number p) bs)) in omega (arith, e, f, s)
-      by false x bs u v e f = omega (arith, e, f)
+      map-append (λ (e : Operand × ℕ). e.1) (passed g n q (edges_of c) (Argument b i)) (entries_from g n (suc place) cs (Argument b i))
+      ∙ both_parts (sources (passed g n q (edges_of c) (Argument b i))) (sources (entries_from g n (suc place) cs (Argument b i)))
+      (each_from q (filter (nat_eq T) (F.targets_of (block_made g n given place k c)))) (edge_sources T (blocks_made g n given (suc place) (number_behind (k + length c.args) c.ops) cs))
+      (edges_sources b T i q (edges_of c) (λ m s at. h 0 m c s refl at) ∙ ap (λ (ts : List ℕ). each_from q (filter (nat_eq T) ts)) (sym (block_leads g n form given place k l.0 c l.1)))
+      (entries_sources form given b T i (suc place) (number_behind (k + length c.args) c.ops) cs (λ j d at. there (suc j) d at) (λ j m d s at at'. h (suc j) m d s at at'))
 
   -- ---- where an entry comes from
 

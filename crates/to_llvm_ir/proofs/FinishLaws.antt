@@ -147,6 +147,7 @@ exported_in d d' g f h = record {
   shape = any_module same_places d d' f g h.shape;
   params = h.params;
   names = h.names;
+  phis = h.phis;
   locals = h.locals;
   few = h.few;
   form = h.form;

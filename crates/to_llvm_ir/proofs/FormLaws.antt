@@ -1,10 +1,9 @@
 -- The function that is made is of the form.
-use Rattle.std.proofs.Common.{◌≡◌, ◌<◌, ◌≤◌, inl, inr, ◌+◌, ◌-◌, ◌^◌, ◌&&◌, ◌||◌, ℕ, zero, suc, Bool, true, false, not, if◌then◌else◌, List, [], ◌∷◌, ◌++◌, Option, Some, None, All, length, map, take, slice_get, refl, sym, ap, subst, ◌∙◌, arith, ⊎_elim}
-use Rattle.std.specs.Prelude.{is_some}
+use Rattle.std.proofs.Common.{◌≡◌, ◌<◌, ◌≤◌, ◌+◌, ◌-◌, ◌^◌, ◌&&◌, ◌||◌, ℕ, zero, suc, Bool, true, false, not, if◌then◌else◌, List, [], ◌∷◌, ◌++◌, Option, Some, None, All, length, map, take, slice_get, refl, sym, ap, subst, ◌∙◌, arith, ⊎_elim}
 use Rattle.std.specs.List.{find, list_any}
 use Rattle.std.specs.Option.{option_map, option_map_or}
 use Rattle.std.proofs.lemmas.Option.{same_Some, none-some, slice_get_within, slice_get-map}
-use Rattle.std.proofs.lemmas.Bool.{cond-false, and_from, or_from, cases_eq}
+use Rattle.std.proofs.lemmas.Bool.{cond-false, and_from, or_from}
 use Rattle.std.proofs.lemmas.List.{append_assoc, length_push, take_at}
 use Rattle.std.proofs.lemmas.List.Elements.{All-nil, All-cons, All-head, All-tail, All-append}
 use Rattle.llvm_core.specs.Checked.{ends_in_only}
@@ -12,28 +11,29 @@ use Rattle.llvm_core.specs.Edges.{count_of}
 use Rattle.llvm_core.specs.Interned.{IsDistinctList}
 use Rattle.llvm_core.specs.Names.{IsPlainOrNone}
 use Rattle.llvm_core.specs.Data as L
-use Rattle.llvm_core.specs.Data.{Operand, Placed, Block, Function, Instruction, placed_in}
+use Rattle.llvm_core.specs.Data.{Operand, Placed, Block, Function, placed_in}
 use Rattle.llvm_core.specs.Form as F
-use Rattle.llvm_core.specs.Form.{IsFormFunction, IsFormInstruction, IsFormBlock, HasNoResult, FitsEdges, IsTarget, is_last, is_phi}
-use Rattle.llvm_core.proofs.ListLemmas.{slice_get-push, slice_get-kept}
+use Rattle.llvm_core.specs.Form.{IsFormFunction, IsFormInstruction, IsFormBlock, HasNoResult, IsTarget, is_last}
+use Rattle.llvm_core.proofs.ListLemmas.{slice_get-push}
 use Rattle.dialect_types.specs.Trees.{TypeTree, TypeTrees, VoidType, IntegerType, FuncType, NoTypes, ThenType}
 use Rattle.dialect_core.specs.declared.numbers.BlockRef.{BlockRef}
 use Rattle.dialect_core.specs.declared.ops.Value.{Value}
 use Rattle.dialect_core.specs.declared.ops.Value.TheVariants.{Argument}
 use Rattle.dialect_core.specs.declared.ops.Successor.{Successor}
 use Rattle.dialect_core.specs.Data.{DialectOp, DialectBlock, Func, Kind, ConstantOp, AddOp, ICmpOp, BrOp, CondBrOp, ReturnOp, UnreachableOp, value_type}
-use Rattle.dialect_core.specs.Form.{IsFormFunc, IsFormKind, IsShortInt, IsShortResult, FitsTarget, HasTargets, result_of, types_list, edges_of, is_constant, is_constant_kind, is_terminator, is_terminator_kind}
+use Rattle.dialect_core.specs.Form.{IsFormFunc, IsFormKind, IsShortInt, IsShortResult, HasTargets, result_of, types_list, is_constant, is_constant_kind, is_terminator, is_terminator_kind}
 use Rattle.meaning.specs.Dialect.{type_of, types_of, option_type}
 use Rattle.to_llvm_ir.specs.Exported.{block_name, value_name, result_name, number_after, number_behind}
 use Rattle.to_llvm_ir.specs.Made.{Numbers, operand_for, target_at, instruction_for, inst, insts, phis, block_phis, block_made, function_made, entries, number_past, entry_args}
 use Rattle.to_llvm_ir.specs.Accepted.{IsAccepted}
 use Rattle.to_llvm_ir.specs.Links.{HasTarget}
-use Rattle.to_llvm_ir.proofs.ListLaws.{AreNumbered, all_at, all_from, append_cases, item_there}
+use Rattle.to_llvm_ir.proofs.ListLaws.{AreNumbered, all_at, all_from, item_there}
 use Rattle.to_llvm_ir.proofs.NameLaws.{plain_is, bare_plain}
 use Rattle.to_llvm_ir.proofs.LookupLaws.{block_form, op_form, entry_at, place_is}
 use Rattle.to_llvm_ir.proofs.PlacedLaws.{placed_numbered, params_count, operand_form}
-use Rattle.to_llvm_ir.proofs.EdgeLaws.{made_at, made_from, made_numbered, target_for, edge_among, edge_form, edge_target, is_from, first_entry}
-use Rattle.to_llvm_ir.proofs.CountLaws.{LeadsTo, entries_count, comes_by}
+use Rattle.to_llvm_ir.proofs.EdgeLaws.{made_at, made_from, made_numbered, target_for, edge_among, edge_form, is_from, first_entry}
+use Rattle.to_llvm_ir.proofs.CountLaws.{sources_count, comes_by}
+use Rattle.to_llvm_ir.proofs.PhiLaws.{insts_no_phi, block_phis_phi, phis_first, has_target, phi_sources, phi_alike}
 use Rattle.to_llvm_ir.proofs.ShapeLaws.{returned}
 
 -- ---- numbers of values
@@ -173,44 +173,6 @@ module _ (g : Func) (form : IsFormFunc g) (n : Numbers) where
       (any_append is_last (block_phis g n (entries g n) p k c) (insts g n m e.front) (block_phis_open (entries g n) p k c) (insts_open m e.front e.before))
       (ends_alike e.last.kind e.last.operands e.last.successors other ∙ e.ends)
 
-  -- ---- phis first
-
-  no_phi : (k : Kind) (vs : List Value) (ss : List Successor) → L.phi_entries (instruction_for g n k vs ss) ≡ None
-  no_phi (ConstantOp value) vs ss = refl
-  no_phi (AddOp flags) vs ss = refl
-  no_phi (ICmpOp predicate) vs ss = refl
-  no_phi BrOp vs ss = refl
-  no_phi CondBrOp vs ss = refl
-  no_phi ReturnOp vs ss = refl
-  no_phi UnreachableOp vs ss = refl
-
-  insts_no_phi : (k : ℕ) (os : List DialectOp) → All (λ (p : Placed). is_phi p ≡ false) (insts g n k os)
-  insts_no_phi k [] = All-nil (λ (p : Placed). is_phi p ≡ false)
-  insts_no_phi k (o ∷ os) = by (is_constant o) (insts_no_phi (number_after o.result k) os)
-    where
-      by : (t : Bool) → All (λ (p : Placed). is_phi p ≡ false) (insts g n (number_after o.result k) os) → All (λ (p : Placed). is_phi p ≡ false) (if t then insts g n (number_after o.result k) os else inst g n k o ∷ insts g n (number_after o.result k) os)
-      by true r = r
-      by false r = All-cons (λ (p : Placed). is_phi p ≡ false) (inst g n k o) (insts g n (number_after o.result k) os) (ap (λ (x : Option (List (Operand × ℕ))). is_some x) (no_phi o.kind o.operands o.successors)) r
-
-  phis_phi : (given : Value → List (Operand × ℕ)) (b i k : ℕ) (ts : List TypeTree) → All (λ (p : Placed). is_phi p ≡ true) (phis g n given b i k ts)
-  phis_phi given b i k [] = All-nil (λ (p : Placed). is_phi p ≡ true)
-  phis_phi given b i k (t ∷ ts) = All-cons (λ (p : Placed). is_phi p ≡ true) _ (phis g n given b (suc i) (k + 1) ts) refl (phis_phi given b (suc i) (k + 1) ts)
-
-  block_phis_phi : (given : Value → List (Operand × ℕ)) (p k : ℕ) (c : DialectBlock) → All (λ (p : Placed). is_phi p ≡ true) (block_phis g n given p k c)
-  block_phis_phi given zero k c = All-nil (λ (p : Placed). is_phi p ≡ true)
-  block_phis_phi given (suc p) k c = phis_phi given c.number 0 k c.args
-
-  phis_first : (xs ys : List Placed) → All (λ (p : Placed). is_phi p ≡ true) xs → All (λ (p : Placed). is_phi p ≡ false) ys → F.HasPhisFirst (xs ++ ys)
-  phis_first xs ys h k i j x y lt at at' none = ⊎_elim
-      (λ early.
-      let in_front : i < length xs = let l = slice_get_within xs j y early in omega (arith, lt, l) in
-      let first = item_there xs i in_front in
-      let same : first.0 ≡ x = same_Some first.0 x (sym (slice_get-kept xs ys i first.0 first.1) ∙ at) in
-      let yep = all_at (λ (p : Placed). is_phi p ≡ true) xs i first.0 h first.1 in
-      absurd (let e : true ≡ false = sym yep ∙ ap is_phi same ∙ none in cc))
-      (λ late. all_at (λ (p : Placed). is_phi p ≡ false) ys late.0 y k late.2)
-      (append_cases xs ys j y at')
-
   -- ---- targets
 
   target_form : (s : Successor) → HasTarget g s → IsTarget made (target_for g n s)
@@ -277,44 +239,15 @@ module _ (g : Func) (form : IsFormFunc g) (n : Numbers) where
       by false e r = All-cons (λ (p : Placed). IsFormInstruction made b p p.instruction) (inst g n k o) (insts g n (number_after o.result k) os) (h 0 k o refl e (let l = behind_le k (o ∷ os) in omega (arith, small, l))) r
 
   module _ (accepted : IsAccepted g) (targets : HasTargets g) (small : number_past 0 g.blocks < 2 ^ 64) where
-    has_target : (j l : ℕ) (c : DialectBlock) (s : Successor) → slice_get g.blocks j ≡ Some c → slice_get (edges_of c) l ≡ Some s → HasTarget g s
-    has_target j l c s at at' = edge_target g s (edge_form g form n j l c s at at') (all_at (FitsTarget g) (edges_of c) l s (accepted.edges j c at).targets at')
-
     op_leads : (j i : ℕ) (c : DialectBlock) (o : DialectOp) → slice_get g.blocks j ≡ Some c → slice_get c.ops i ≡ Some o → All (λ (s : Successor). IsTarget made (target_for g n s)) o.successors
-    op_leads j i c o at at' = all_from (λ (s : Successor). IsTarget made (target_for g n s)) o.successors (λ l s at''. let m = edge_among c.ops i l o s at' at'' in target_form s (has_target j m.0 c s at m.1))
+    op_leads j i c o at at' = all_from (λ (s : Successor). IsTarget made (target_for g n s)) o.successors (λ l s at''. let m = edge_among c.ops i l o s at' at'' in target_form s (has_target g form n accepted j m.0 c s at m.1))
 
     -- ---- phis
-
-    -- an edge leads to a block, or to another
-    leads_to : (t : ℕ) (c : DialectBlock) (i : ℕ) (ty : TypeTree) → slice_get g.blocks (suc t) ≡ Some c → slice_get c.args i ≡ Some ty → (s : Successor) → HasTarget g s → LeadsTo g n (record { 0 = c.number }) (n.block + (0 + suc t)) i s
-    leads_to t c i ty at type s h = ⊎_elim
-        (λ same.
-        let place : suc h.place ≡ suc t = form.block_numbers (suc h.place) (suc t) h.block c h.here at (h.number ∙ same) in
-        let is : h.block ≡ c = same_Some h.block c (sym h.here ∙ ap (slice_get g.blocks) place ∙ at) in
-        let count : length s.args ≡ length c.args = h.count ∙ ap (λ (x : DialectBlock). length x.args) is in
-        inl (same, (let l = slice_get_within c.args i ty type in omega (arith, count, l)), to ∙ ap (λ (m : ℕ). n.block + m) (place ∙ (let e : suc t ≡ 0 + suc t = omega arith in e))))
-        (λ other. inr (other, λ e. other (sym h.number ∙ ap (λ (x : DialectBlock). x.number) (same_Some h.block c (sym h.here ∙ ap (slice_get g.blocks) (let k = sym to ∙ e in let l : suc h.place ≡ suc t = omega (arith, k) in l) ∙ at)))))
-        (cases_eq s.block.0 c.number)
-      where
-        to : target_for g n s ≡ n.block + suc h.place
-        to = ap (λ (m : ℕ). n.block + m) (place_is g form (suc h.place) s.block.0 h.block h.here h.number)
 
     phi_counts : (t : ℕ) (c : DialectBlock) (i : ℕ) (ty : TypeTree) → slice_get g.blocks (suc t) ≡ Some c → slice_get c.args i ≡ Some ty → (p : ℕ)
         → count_of p (map (λ (e : Operand × ℕ). e.1) (entries g n (Argument (record { 0 = c.number }) i))) ≡ F.edges_between made p (n.block + (0 + suc t))
     phi_counts t c i ty at type p =
-        entries_count g n form (entries g n) (record { 0 = c.number }) (n.block + (0 + suc t)) i p 0 0 g.blocks (λ j d at'. (j, at')) (λ j l d s at' at''. leads_to t c i ty at type s (has_target j l d s at' at''))
-
-    phi_alike : (b : BlockRef) (i : ℕ) (k l : ℕ) (x y : Operand × ℕ) → slice_get (entries g n (Argument b i)) k ≡ Some x → slice_get (entries g n (Argument b i)) l ≡ Some y → x.1 ≡ y.1 → x.0 ≡ y.0
-    phi_alike b i k l x y at at' e =
-        let p = comes_by g n 0 g.blocks b i k x at in
-        let q = comes_by g n 0 g.blocks b i l y at' in
-        let place : p.at ≡ q.at = let u = p.source in let v = q.source in omega (arith, u, v, e) in
-        let block : p.block ≡ q.block = same_Some p.block q.block (sym p.here ∙ ap (slice_get g.blocks) place ∙ q.here) in
-        let there : slice_get (edges_of p.block) q.edge_at ≡ Some q.edge = ap (λ (c : DialectBlock). slice_get (edges_of c) q.edge_at) block ∙ q.there in
-        let to : p.edge.block ≡ q.edge.block = ap (λ (m : ℕ). let b : BlockRef = record { 0 = m } in b) (p.to ∙ sym q.to) in
-        let args = (accepted.edges p.at p.block p.here).equal p.edge_at q.edge_at p.edge q.edge p.there there to in
-        let value : p.value ≡ q.value = same_Some p.value q.value (sym p.passes ∙ ap (λ (vs : List Value). slice_get vs i) args ∙ q.passes) in
-        p.is ∙ ap (operand_for g n) value ∙ sym q.is
+        ap (count_of p) (phi_sources g form n accepted t c (n.block + (0 + suc t)) i ty at type (omega arith)) ∙ sources_count p (n.block + (0 + suc t)) made.blocks
 
     -- an entry is an operand of the argument's type
     phi_operand : (t : ℕ) (c : DialectBlock) (i : ℕ) (ty : TypeTree) → slice_get g.blocks (suc t) ≡ Some c → slice_get c.args i ≡ Some ty → (l : ℕ) (x : Operand × ℕ) → slice_get (entries g n (Argument (record { 0 = c.number }) i)) l ≡ Some x → F.IsOperand made (type_of ty) x.0
@@ -329,7 +262,7 @@ module _ (g : Func) (form : IsFormFunc g) (n : Numbers) where
     phi_some t c i ty at type none =
         let some : c.args ≡ [] → ⊥ = λ e. none-some ty (sym (ap (λ (ts : List TypeTree). slice_get ts i) e) ∙ type) in
         let r = targets t c at some in
-        let h = has_target r.0 r.1 r.2 r.3 r.4 r.5 in
+        let h = has_target g form n accepted r.0 r.1 r.2 r.3 r.4 r.5 in
         let place : suc h.place ≡ suc t = form.block_numbers (suc h.place) (suc t) h.block c h.here at (h.number ∙ r.6) in
         let is : h.block ≡ c = same_Some h.block c (sym h.here ∙ ap (slice_get g.blocks) place ∙ at) in
         let count : length r.3.args ≡ length c.args = h.count ∙ ap (λ (x : DialectBlock). length x.args) is in
@@ -349,7 +282,7 @@ module _ (g : Func) (form : IsFormFunc g) (n : Numbers) where
         let type : slice_get c.args i ≡ Some ty = ap (slice_get c.args) (let e : i ≡ i + 0 = omega arith in e) ∙ are 0 ty refl in
         All-cons (λ (p : Placed). IsFormInstruction made (n.block + (0 + suc t)) p p.instruction) _ (phis g n (entries g n) c.number (suc i) (k + 1) ts) (
           all_from (λ (e : Operand × ℕ). F.IsOperand made (type_of ty) e.0) (entries g n v) (λ l x at'. phi_operand t c i ty at type l x at'),
-          record { counts = phi_counts t c i ty at type; alike = phi_alike (record { 0 = c.number }) i; some = phi_some t c i ty at type },
+          record { counts = phi_counts t c i ty at type; alike = phi_alike g form n accepted (record { 0 = c.number }) i; some = phi_some t c i ty at type },
           to_short ty (all_at IsShortInt c.args i ty (block_form g form (suc t) c at).args type),
           value_plain k (omega (arith, lt)),
         ) (phis_form t c at (suc i) (k + 1) ts (omega (arith, lt)) (λ m u at'. ap (slice_get c.args) (let e : suc i + m ≡ i + suc m = omega arith in e) ∙ are (suc m) u at'))
@@ -375,7 +308,7 @@ module _ (g : Func) (form : IsFormFunc g) (n : Numbers) where
         record {
           label = subst (λ (q : ℕ). IsPlainOrNone (block_name c.label q)) (let e : j ≡ 0 + j = omega arith in e) (accepted.blocks j c at).label;
           instructions = instructions_form j k c at (omega (arith, past, small));
-          phis = phis_first (block_phis g n (entries g n) (0 + j) k c) (insts g n (k + length c.args) c.ops) (block_phis_phi (entries g n) (0 + j) k c) (insts_no_phi (k + length c.args) c.ops);
+          phis = phis_first (block_phis g n (entries g n) (0 + j) k c) (insts g n (k + length c.args) c.ops) (block_phis_phi g n (entries g n) (0 + j) k c) (insts_no_phi g n (k + length c.args) c.ops);
           ends = block_ends (0 + j) k j c at;
         }
 

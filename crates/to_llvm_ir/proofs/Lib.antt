@@ -23,6 +23,7 @@ pub mod OpLaws
 pub mod OpeningLaws
 pub mod OpsLaws
 pub mod PassLaws
+pub mod PhiLaws
 pub mod PlaceLaws
 pub mod PlacedLaws
 pub mod PlanLaws
@@ -34,3 +35,4 @@ pub mod UseLaws
 pub mod ValueLaws
 pub mod FinishLaws
 pub mod StartedLaws
+pub mod CodeLaws

@@ -75,10 +75,10 @@ all_push P xs ys x e all h = subst (All P) (sym e) (all_from P (xs ++ x ∷ []) 
     only_item (suc i) x y at = absurd (none-some y at)
 
 -- the edge that is next
-pub edge_next : (c : ContextData) (op : OpRef) (s : Spot) (from : Target) (blocks : Blocks) (given : Given) (values : Values) (start m : Module) (edges : List Successor) (i : ℕ) (e : Successor) → e ≡ get_or edges i e → IsOpLinked c op s from blocks given values start
+pub linked_next : (c : ContextData) (op : OpRef) (s : Spot) (from : Target) (blocks : Blocks) (given : Given) (values : Values) (start m : Module) (edges : List Successor) (i : ℕ) (e : Successor) → e ≡ get_or edges i e → IsOpLinked c op s from blocks given values start
     → option_map (λ (x : OpData). x.successors) (slice_get c.ops op.0) ≡ Some edges → i < length edges → IsLinking s.task (more s.task given from.block.0 (take i s.op.successors)) values m
     → IsLinkedTo c op s i e from.block blocks (more s.task given from.block.0 (take i s.op.successors)) values m
-edge_next c op s from blocks given values start m edges i e item h is lt state = record {
+linked_next c op s from blocks given values start m edges i e item h is lt state = record {
   spot = h.spot;
   mapped = h.mapped;
   at = ap (λ (ss : List Successor). slice_get ss i) (edges_are c op s edges h.spot is) ∙ slice_get-get_or edges i e lt ∙ ap Some (sym item);

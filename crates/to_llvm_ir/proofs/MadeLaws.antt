@@ -10,6 +10,7 @@ use Rattle.to_llvm_ir.specs.Made.{Numbers, function_made, entries, number_past}
 use Rattle.to_llvm_ir.specs.Accepted.{IsAccepted}
 use Rattle.to_llvm_ir.proofs.ListLaws.{all_from}
 use Rattle.to_llvm_ir.proofs.ShapeLaws.{same_shape}
+use Rattle.to_llvm_ir.proofs.PhiLaws.{made_phis}
 use Rattle.to_llvm_ir.proofs.FormLaws.{made_form}
 use Rattle.to_llvm_ir.proofs.FewLaws.{made_few}
 use Rattle.to_llvm_ir.proofs.DistinctLaws.{blocks_named, distinct_locals}
@@ -34,6 +35,7 @@ exported d g form n h small = record {
   shape = same_shape g form n d (exportable g h);
   params = unnamed _;
   names = blocks_named g n (entries g n) 0 0 g.blocks;
+  phis = made_phis g form n h;
   locals = distinct_locals g n (entries g n) (let few = h.few in omega (arith, few)) (omega (arith, small));
   few = made_few g n form h;
   form = λ targets. made_form g form n h targets small;

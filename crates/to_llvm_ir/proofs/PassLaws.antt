@@ -7,8 +7,7 @@ use Rattle.std.proofs.lemmas.List.{append-nil, take_all}
 use Rattle.std.proofs.lemmas.List.Elements.{All-weaker}
 use Rattle.llvm_core.specs.declared.numbers.LLVMBasicBlock.{LLVMBasicBlock}
 use Rattle.llvm_core.specs.Module.{Module}
-use Rattle.llvm_core.specs.Data as L
-use Rattle.llvm_core.specs.Data.{Operand, Placed, Block, with_function}
+use Rattle.llvm_core.specs.Data.{Operand}
 use Rattle.dialect_types.specs.Trees.{TypeTree, type_trees}
 use Rattle.dialect_types.specs.declared.types.TypeHandle.{TypeHandle}
 use Rattle.dialect_core.specs.declared.numbers.BlockRef.{BlockRef}
@@ -20,15 +19,14 @@ use Rattle.dialect_core.specs.declared.ops.BlockData.{BlockData}
 use Rattle.dialect_core.specs.ContextData.{ContextData}
 use Rattle.dialect_core.specs.Data.{DialectBlock, Func, block_in}
 use Rattle.dialect_core.specs.Form.{FitsTarget, IsOperand}
-use Rattle.meaning.specs.Dialect.{type_of, same_value}
+use Rattle.meaning.specs.Dialect.{same_value}
 use Rattle.meaning.proofs.SameValues.{same_value-Decides}
 use Rattle.to_llvm_ir.specs.declared.to_llvm_err.ToLLVMErr.TheVariants as E
 use Rattle.to_llvm_ir.specs.declared.values.Values.{Values}
 use Rattle.to_llvm_ir.specs.declared.blocks.Blocks.{Blocks}
 use Rattle.to_llvm_ir.specs.declared.blocks.Target.{Target}
-use Rattle.to_llvm_ir.specs.Exported.{value_name, number_behind}
 use Rattle.to_llvm_ir.specs.Causes.{IsFuncCause}
-use Rattle.to_llvm_ir.specs.Made.{Numbers, number_of, operand_for, entry_with, passed_to, insts, phis, block_made, blocks_made, function_with}
+use Rattle.to_llvm_ir.specs.Made.{Numbers, operand_for, entry_with, passed_to}
 use Rattle.to_llvm_ir.specs.States.{Task, IsTask, Spot, IsSpot, IsBlockAt, IsLinking, AreAllMapped, found_block}
 use Rattle.to_llvm_ir.specs.Links.{Given, IsTypedValue, IsEntryNext, IsEdgeNext, IsLinkedTo}
 use Rattle.to_llvm_ir.proofs.ListLaws.{all_at, item_there}
@@ -39,35 +37,7 @@ use Rattle.to_llvm_ir.proofs.LeadLaws.{spot_edge}
 use Rattle.to_llvm_ir.proofs.ArgumentLaws.{args_count}
 use Rattle.to_llvm_ir.proofs.EdgeLaws.{edge_among, edge_target}
 use Rattle.to_llvm_ir.proofs.EntryLaws.{giving}
-
--- ---- equal entries make equal functions
-
-module _ (g : Func) (n : Numbers) (given other : Given) (same : (v : Value) → given v ≡ other v) where
-  phis_same : (b i k : ℕ) (ts : List TypeTree) → phis g n given b i k ts ≡ phis g n other b i k ts
-  phis_same b i k [] = refl
-  phis_same b i k (t ∷ ts) =
-      ap (λ (es : List (Operand × ℕ)). (record { number = number_of g n (Argument (record { 0 = b }) i); name = value_name None k; type = type_of t; instruction = L.Phi es }) ∷ phis g n given b (suc i) (k + 1) ts) (same (Argument (record { 0 = b }) i))
-      ∙ ap (λ (ps : List Placed). (record { number = number_of g n (Argument (record { 0 = b }) i); name = value_name None k; type = type_of t; instruction = L.Phi (other (Argument (record { 0 = b }) i)) }) ∷ ps) (phis_same b (suc i) (k + 1) ts)
-
-  block_same : (p k : ℕ) (c : DialectBlock) → block_made g n given p k c ≡ block_made g n other p k c
-  block_same zero k c = refl
-  block_same (suc p) k c = ap (λ (ps : List Placed). record (block_made g n given (suc p) k c) { instructions = ps ++ insts g n (k + length c.args) c.ops }) (phis_same c.number 0 k c.args)
-
-  blocks_same : (p k : ℕ) (cs : List DialectBlock) → blocks_made g n given p k cs ≡ blocks_made g n other p k cs
-  blocks_same p k [] = refl
-  blocks_same p k (c ∷ cs) =
-      ap (λ (b : Block). b ∷ blocks_made g n given (suc p) (number_behind (k + length c.args) c.ops) cs) (block_same p k c)
-      ∙ ap (λ (bs : List Block). block_made g n other p k c ∷ bs) (blocks_same (suc p) (number_behind (k + length c.args) c.ops) cs)
-
-pub linked_same : (t : Task) (given other : Given) (known : Values) (m : Module) → ((v : Value) → given v ≡ other v) → IsLinking t given known m → IsLinking t other known m
-linked_same t given other known m same s = record {
-  is = s.is ∙ ap (λ (bs : List Block). with_function t.before (function_with t.source t.numbers bs)) (blocks_same t.source t.numbers given other same 0 0 t.source.blocks);
-  sound = s.sound;
-  block_count = s.block_count;
-  inst_count = s.inst_count;
-  next = s.next;
-  known = s.known;
-}
+use Rattle.to_llvm_ir.proofs.GivenLaws.{linking_same}
 
 -- ---- the first items of a list
 
@@ -160,7 +130,7 @@ entry_next t e from given now known start m i x h at s =
     }
 
 pub entries_begun : (t : Task) (e : Successor) (from : LLVMBasicBlock) (given : Given) (known : Values) (m : Module) → IsLinking t given known m → IsLinking t (upto_value t.source t.numbers e.block from.0 given (take 0 e.args)) known m
-entries_begun t e from given known m s = linked_same t given (upto_value t.source t.numbers e.block from.0 given []) known m (none_passed t.source t.numbers e.block from.0 given) s
+entries_begun t e from given known m s = linking_same t given (upto_value t.source t.numbers e.block from.0 given []) (none_passed t.source t.numbers e.block from.0 given) known m s
 
 pub entries_more : (t : Task) (e : Successor) (from : LLVMBasicBlock) (given : Given) (known : Values) (m : Module) (i : ℕ) (x : Value) → slice_get e.args i ≡ Some x
     → IsLinking t (giving (upto_value t.source t.numbers e.block from.0 given (take i e.args)) (Argument e.block i) (operand_for t.source t.numbers x, from.0)) known m
@@ -168,8 +138,8 @@ pub entries_more : (t : Task) (e : Successor) (from : LLVMBasicBlock) (given : G
 entries_more t e from given known m i x at s =
     let one : i + 1 ≡ suc i = omega arith in
     subst (λ (k : ℕ). IsLinking t (upto_value t.source t.numbers e.block from.0 given (take k e.args)) known m) (sym one)
-    (linked_same t (giving (upto_value t.source t.numbers e.block from.0 given (take i e.args)) (Argument e.block i) (operand_for t.source t.numbers x, from.0)) (upto_value t.source t.numbers e.block from.0 given (take (suc i) e.args)) known m
-    (one_passed t.source t.numbers e.block from.0 given i x e.args at) s)
+    (linking_same t (giving (upto_value t.source t.numbers e.block from.0 given (take i e.args)) (Argument e.block i) (operand_for t.source t.numbers x, from.0)) (upto_value t.source t.numbers e.block from.0 given (take (suc i) e.args))
+    (one_passed t.source t.numbers e.block from.0 given i x e.args at) known m s)
 
 pub entries_done : (t : Task) (e : Successor) (from : LLVMBasicBlock) (given : Given) (known : Values) (m : Module) (i : ℕ) → i ≡ length e.args → IsLinking t (upto_value t.source t.numbers e.block from.0 given (take i e.args)) known m
     → IsLinking t (upto_value t.source t.numbers e.block from.0 given e.args) known m

@@ -33,6 +33,7 @@ use Rattle.to_llvm_ir.proofs.LookupLaws.{op_form, argument_among, result_among, 
 use Rattle.to_llvm_ir.proofs.PlacedLaws.{operand_typed}
 use Rattle.to_llvm_ir.proofs.PlanLaws.{plan, is_plan, starts, value_at, rows, stands}
 use Rattle.to_llvm_ir.proofs.EdgeLaws.{made_at, made_none, made_numbered, target_for, block_leads, edge_form, edge_target, first_entry}
+use Rattle.to_llvm_ir.proofs.PhiLaws.{no_phi}
 
 -- ---- the match that leaves all where it is
 
@@ -126,15 +127,6 @@ module _ (g : Func) (form : IsFormFunc g) (n : Numbers) (d : ModuleData) where
       let r = result_among g j i c o at at' other in
       record { action = actions o o.kind (op_form g form j i c o at at').kind other refl; result = value_at g form n r.0 (result o) r.1 }
 
-  is_row : (k : Kind) (vs : List Value) (ss : List Successor) → phi_entries (instruction_for g n k vs ss) ≡ None
-  is_row (ConstantOp value) vs ss = refl
-  is_row (AddOp flags) vs ss = refl
-  is_row (ICmpOp predicate) vs ss = refl
-  is_row BrOp vs ss = refl
-  is_row CondBrOp vs ss = refl
-  is_row ReturnOp vs ss = refl
-  is_row UnreachableOp vs ss = refl
-
   abbrev row_for : Placed → Option (Row Key)
   row_for p = llvm.row d made p (phi_entries p.instruction)
 
@@ -148,7 +140,7 @@ module _ (g : Func) (form : IsFormFunc g) (n : Numbers) (d : ModuleData) where
       by true e m = m
       by false e m =
           subst (λ (x : Option (List (Operand × ℕ))). Matched (SameRow same_places (plan g form n)) (cons_option (llvm.row d made (inst g n k o) x) (filter_map row_for (insts g n (number_after o.result k) os))) (dialect.row g o ∷ map (dialect.row g) (others_of os)))
-          (sym (is_row o.kind o.operands o.successors)) (h 0 o refl k e, m)
+          (sym (no_phi g n o.kind o.operands o.successors)) (h 0 o refl k e, m)
 
   phis_rows : (b i k : ℕ) (ts : List TypeTree) → filter_map row_for (phis g n (entries g n) b i k ts) ≡ []
   phis_rows b i k [] = refl
@@ -173,7 +165,7 @@ module _ (g : Func) (form : IsFormFunc g) (n : Numbers) (d : ModuleData) where
       by : (t : Bool) → filter_map (llvm.phi_move d from) (insts g n (number_after o.result k) os) ≡ [] → filter_map (llvm.phi_move d from) (if t then insts g n (number_after o.result k) os else inst g n k o ∷ insts g n (number_after o.result k) os) ≡ []
       by true e = e
       by false e =
-          ap (λ (x : Option (List (Operand × ℕ))). cons_option (option_map (λ (es : List (Operand × ℕ)). (ResultKey (number_of g n (result o)), llvm.entry_for d from es)) x) (filter_map (llvm.phi_move d from) (insts g n (number_after o.result k) os))) (is_row o.kind o.operands o.successors)
+          ap (λ (x : Option (List (Operand × ℕ))). cons_option (option_map (λ (es : List (Operand × ℕ)). (ResultKey (number_of g n (result o)), llvm.entry_for d from es)) x) (filter_map (llvm.phi_move d from) (insts g n (number_after o.result k) os))) (no_phi g n o.kind o.operands o.successors)
           ∙ e
 
   moves_match : (from b i k : ℕ) (ts : List TypeTree) (vs : List Value) → length vs ≡ length ts

@@ -1,13 +1,13 @@
 -- What an export has made: an LLVM module whose functions stand for those of a dialect module.
-use Rattle.std.specs.Prelude.{ℕ, zero, suc, ◌≡◌, ◌<◌, ◌+◌, ◌^◌, nat_eq, if◌then◌else◌, List, [], ◌∷◌, ◌++◌, Option, Some, None, All, Contains, length, map, slice_get, unwrap_or, codes}
+use Rattle.std.specs.Prelude.{ℕ, zero, suc, ◌≡◌, ◌<◌, ◌+◌, ◌^◌, nat_eq, if◌then◌else◌, List, [], ◌∷◌, ◌++◌, Option, Some, None, All, IfSome, Contains, length, map, filter, slice_get, unwrap_or, codes}
 use Rattle.std.specs.Option.{option_map_or}
-use Rattle.std.specs.List.{find}
+use Rattle.std.specs.List.{find, flat_map}
 use Rattle.std.specs.Fmt.{decimal}
 use Rattle.llvm_core.specs.Module.{Module}
 use Rattle.llvm_core.specs.Interned.{IsDistinctList}
 use Rattle.llvm_core.specs.Data as L
-use Rattle.llvm_core.specs.Data.{Placed, data_of}
-use Rattle.llvm_core.specs.Form.{IsFormFunction, IsFewIn, local_names}
+use Rattle.llvm_core.specs.Data.{Operand, Placed, data_of, phi_entries}
+use Rattle.llvm_core.specs.Form.{IsFormFunction, IsFewIn, HasPhisFirst, is_phi, targets_of, local_names}
 use Rattle.dialect_types.specs.Trees.{TypeTree}
 use Rattle.dialect_core.specs.declared.numbers.BlockRef.{BlockRef}
 use Rattle.dialect_core.specs.declared.ops.Value.{Value}
@@ -17,7 +17,7 @@ use Rattle.dialect_core.specs.declared.ops.BlockData.{BlockData}
 use Rattle.dialect_core.specs.ContextData.{ContextData}
 use Rattle.dialect_core.specs.Data.{DialectModule, DialectBlock, DialectOp, Func, ops_in}
 use Rattle.dialect_core.specs.Form.{is_constant, uses_of, edges_of, StandsBefore, HasTargets}
-use Rattle.meaning.specs.Pairs.{Matched}
+use Rattle.meaning.specs.Pairs.{Matched, BothOrNone}
 use Rattle.meaning.specs.Dialect.{type_of}
 use Rattle.meaning.specs.Shape.{SameShape}
 use Rattle.meaning.specs.Examples.{same_places}
@@ -81,6 +81,31 @@ AreNamed place k [] [] = Unit {0}
 AreNamed place k (c ∷ cs) (b ∷ bs) = HasNames place k c b × AreNamed (suc place) (number_behind (k + length c.args) c.ops) cs bs
 AreNamed place k _ _ = ⊥
 
+-- ---- phis
+
+-- the types of the phis that a block's arguments become; the entry has none, since its arguments are the parameters
+abbrev pub phi_types : (place : ℕ) → List TypeTree → List L.TypeTree
+phi_types zero types = []
+phi_types (suc n) types = map type_of types
+
+-- the blocks that edges to the block of the number n come from, edge by edge: the blocks in order, of each its
+-- targets in order
+abbrev pub edge_sources : ℕ → List L.Block → List ℕ
+edge_sources n blocks = flat_map (λ (b : L.Block). map (λ (t : ℕ). b.number) (filter (nat_eq n) (targets_of b))) blocks
+
+-- the entries of a phi of the block of the number n: one for each edge that leads there, in the order of the edges,
+-- and those for one block have one operand
+pub record HasEdges (f : L.Function) (n : ℕ) (entries : List (Operand × ℕ)) : Type 0 where
+  pub sources : map (λ (e : Operand × ℕ). e.1) entries ≡ edge_sources n f.blocks
+  pub alike : (i j : ℕ) (x y : Operand × ℕ) → slice_get entries i ≡ Some x → slice_get entries j ≡ Some y → x.1 ≡ y.1 → x.0 ≡ y.0
+
+-- the block at a place of the function f begins with a phi for each argument of the dialect's block, in order, of its
+-- type, and has no others
+pub record HasPhis (f : L.Function) (place : ℕ) (c : DialectBlock) (b : L.Block) : Type 0 where
+  pub types : map (λ (p : Placed). p.type) (filter is_phi b.instructions) ≡ phi_types place c.args
+  pub first : HasPhisFirst b.instructions
+  pub entries : All (λ (p : Placed). IfSome (phi_entries p.instruction) (HasEdges f b.number)) b.instructions
+
 -- ---- functions and modules
 
 -- the function f of the module d stands for the function g of the dialect
@@ -92,6 +117,8 @@ pub record ExportedFunction (d : L.ModuleData) (g : Func) (f : L.Function) : Typ
   -- parameters have no names
   pub params : All (λ (n : List ℕ). n ≡ []) f.params
   pub names : AreNamed 0 0 g.blocks f.blocks
+  -- whether an edge leads to the block or not
+  pub phis : (place : ℕ) → BothOrNone (HasPhis f place) (slice_get g.blocks place) (slice_get f.blocks place)
   pub locals : IsDistinctList (local_names f)
   pub few : IsFewIn f
   -- where each block with arguments is an edge's target, each phi has an edge

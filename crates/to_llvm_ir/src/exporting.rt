@@ -1,10 +1,14 @@
 //! Dialect module to LLVM module.
 
-ghost use Rattle.std.specs.Prelude.{◌≡◌, ◌<◌, ◌∷◌, [], Some, None, All, length, IfOk, IfErr, OnOk};
+ghost use Rattle.std.specs.Prelude.{◌≡◌, ◌<◌, ◌∷◌, [], Some, None, All, length, map, IfOk, IfErr, OnOk};
 ghost use Rattle.llvm_core.specs.Data as lists;
 ghost use Rattle.dialect_types.specs.Trees.{type_trees};
 ghost use Rattle.dialect_core.specs.Data.{Func, DialectModule, IsTyped, func_in, data_of};
 ghost use Rattle.dialect_core.specs.Form.{IsFormFunc};
+ghost use Rattle.meaning.specs.Code.{SameCode, IsDistinctNames};
+ghost use Rattle.meaning.specs.Examples.{same_places};
+ghost use Rattle.meaning.specs.Llvm as llvm;
+ghost use Rattle.meaning.specs.Dialect as dialect;
 ghost use Rattle.to_llvm_ir.specs.Causes.{IsFuncCause};
 ghost use Rattle.to_llvm_ir.specs.Exported.{IsExported, IsCause};
 ghost use Rattle.to_llvm_ir.specs.Held.{IsReadable};
@@ -116,6 +120,7 @@ pub fn convert_module(
 ) -> Result<LLVMModule, ToLLVMErr>
     requires { IsReadable ctx.now «module».0.0 }
     ensures exported { IfOk result (λ back. IsExported (data_of ctx.now «module».0.0) back) }
+    ensures same { IsDistinctNames (map (λ g. g.name) (data_of ctx.now «module».0.0).functions) → IfOk result (λ back. SameCode same_places (llvm.code_of (lists.data_of back)) (dialect.code_of (data_of ctx.now «module».0.0))) }
     ensures cause { IfErr result (λ e. IsCause ctx.now (data_of ctx.now «module».0.0) e) }
 {
     let mut back = LLVMModule::new(alloc, name_of(ctx, module.0))?;

@@ -10,3 +10,6 @@ pub mod ListLaws
 pub mod IndexLaws
 pub mod EdgeLaws
 pub mod TraceLaws
+pub mod DialectLaws
+pub mod DialectEdgeLaws
+pub mod DialectBlockLaws

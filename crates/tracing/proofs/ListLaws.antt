@@ -27,7 +27,7 @@ mapped_twice f g (x ∷ xs) = ap (λ l. f (g x) ∷ l) (mapped_twice f g xs)
 
 -- ---- by what stands at a place
 
-take_next : {A : Type 0} (xs : List A) (i : ℕ) (x : A) → slice_get xs i ≡ Some x → take (i + 1) xs ≡ take i xs ++ x ∷ []
+pub take_next : {A : Type 0} (xs : List A) (i : ℕ) (x : A) → slice_get xs i ≡ Some x → take (i + 1) xs ≡ take i xs ++ x ∷ []
 take_next xs i x at = take_more xs i x (slice_get_within xs i x at) ∙ ap (λ y. take i xs ++ y ∷ []) (get_or_from_slice_get xs i x x at)
 
 pub given_next : {A B : Type 0} (h : A → Option B) (bs : List B) (xs : List A) (i : ℕ) (x : A) → slice_get xs i ≡ Some x → bs ≡ filter_map h (take i xs) → bs ++ cons_option (h x) [] ≡ filter_map h (take (i + 1) xs)

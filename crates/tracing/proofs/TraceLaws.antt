@@ -6,15 +6,22 @@ use Rattle.llvm_core.specs.Data.{Function, data_of}
 use Rattle.llvm_core.specs.Form.{IsForm, IsFormFunction}
 use Rattle.llvm_core.proofs.ListLemmas.{some_same}
 use Rattle.llvm_core.proofs.DataLemmas.{there, function_at, within_at}
+use Rattle.dialect_core.specs.declared.ops.Value.{Value}
+use Rattle.dialect_core.specs.ContextData.{ContextData}
 use Rattle.meaning.specs.Machine as M
 use Rattle.meaning.specs.Machine.{Item}
 use Rattle.meaning.specs.Llvm as Llvm
+use Rattle.meaning.specs.Dialect as Dialect
+use Rattle.meaning.specs.Dialect.{same_value}
 use Rattle.meaning.specs.Llvm.{Key, ParamKey, ResultKey, same_key}
 use Rattle.tracing.specs.declared.body.Slot.{Slot}
 use Rattle.tracing.specs.Bodies.{same_slot}
 use Rattle.tracing.specs.Renamed.{renamed_code}
 use Rattle.tracing.specs.LlvmBodies.{slot_of, InForm, data_in}
+use Rattle.tracing.specs.DialectBodies.{InContext}
+use Rattle.tracing.specs.DialectBodies.{slot_of as slot_of_value}
 use Rattle.tracing.proofs.Renaming.{renamed_trace}
+use Rattle.tracing.proofs.DialectLaws.{values_apart}
 
 keys_apart : (a b : Key) → same_slot (slot_of a) (slot_of b) ≡ same_key a b
 keys_apart (ParamKey f i) (ParamKey g j) = refl
@@ -35,3 +42,9 @@ llvm_trace m h x cs start code items at is code_is same =
     is ∙ ap (λ (c : List (M.Block Slot)). M.trace Slot same_slot start c cs) code_is
     ∙ renamed_trace Key Slot same_key same_slot slot_of keys_apart (map (Llvm.block (data_of m) (data_in m h)) (data_in m h).blocks) (Llvm.start (data_in m h)) start same cs
     ∙ ap (λ (g : Function). (Llvm.body (data_of m) g).trace cs) function
+
+pub dialect_trace : (c : ContextData) (h : InContext c) (cs : List ℕ) (start : Slot → _) (code : List (M.Block Slot)) (items : List Item)
+    → items ≡ M.trace Slot same_slot start code cs → code ≡ renamed_code slot_of_value (map (Dialect.block h.function) h.function.blocks) → ((v : Value) → start (slot_of_value v) ≡ Dialect.start h.function.blocks v) → items ≡ (Dialect.body h.function).trace cs
+dialect_trace c h cs start code items is code_is same =
+    is ∙ ap (λ (c : List (M.Block Slot)). M.trace Slot same_slot start c cs) code_is
+    ∙ renamed_trace Value Slot same_value same_slot slot_of_value values_apart (map (Dialect.block h.function) h.function.blocks) (Dialect.start h.function.blocks) start same cs

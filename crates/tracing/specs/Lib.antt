@@ -4,3 +4,5 @@ pub mod Bodies
 pub mod Runs
 pub mod Renamed
 pub mod LlvmBodies
+pub mod DialectBodies
+pub mod DialectEdges

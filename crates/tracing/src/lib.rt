@@ -2,6 +2,8 @@
 #![tactic(auto)]
 
 mod body;
+mod dialect_body;
+mod dialect_rows;
 mod llvm_body;
 mod llvm_index;
 mod llvm_rows;

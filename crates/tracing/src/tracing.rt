@@ -5,17 +5,23 @@ ghost use Rattle.llvm_core.specs.Interned.{IsDistinctList};
 ghost use Rattle.llvm_core.specs.Data.{Function, data_of};
 ghost use Rattle.llvm_core.specs.Form.{IsForm};
 ghost use Rattle.meaning.specs.Llvm as llvm;
+ghost use Rattle.meaning.specs.Dialect as dialect;
 ghost use Rattle.tracing.specs.Table.{terms, IsGrounded};
 ghost use Rattle.tracing.specs.Runs.{item_of, HasPlacesBelow};
+ghost use Rattle.tracing.specs.DialectBodies.{InContext};
 
+use crate::dialect_body::dialect_body;
 use crate::llvm_body::llvm_body;
 use crate::run::trace_body;
 use crate::trace::Trace;
+use dialect_core::context::Context;
+use dialect_core::numbers::FuncOp;
 use llvm_core::module::LLVMModule;
 use llvm_core::numbers::LLVMFunction;
 use std::alloc::{AllocError, Global};
 
 /// The trace of a function of a module of the form. Each term of the table stands once, behind its parts.
+/// It is an error where there is no memory.
 pub fn trace_of_llvm(
     alloc: Global,
     module: &LLVMModule,
@@ -32,6 +38,26 @@ pub fn trace_of_llvm(
     // This tells the proof what is true of every module.
     let _count = module.functions();
     let body = llvm_body(alloc, module, f)?;
+    let trace = trace_body(alloc, &body, choices)?;
+    Ok(trace)
+}
+
+/// The trace of a function of a dialect module of the form. Each term of the table stands once, behind its parts.
+/// The function's number decides, so the module that it stands in is no argument. It is an error where there is no
+/// memory.
+pub fn trace_of_dialect(
+    alloc: Global,
+    ctx: &Context,
+    f: FuncOp,
+    choices: &[u32],
+) -> Result<Trace, AllocError>
+    requires { (h : InContext ctx.now) × (h.op ≡ f.0) }
+    ensures exact { IfOk result (λ t. (h : InContext ctx.now) → h.op ≡ f.0 → map (item_of (terms t.terms)) t.items.items ≡ (dialect.body h.function).trace choices.now) }
+    ensures within { IfOk result (λ t. All (HasPlacesBelow (length t.terms)) t.items.items) }
+    ensures shared { IfOk result (λ t. IsDistinctList (terms t.terms)) }
+    ensures parts { IfOk result (λ t. IsGrounded t.terms) }
+{
+    let body = dialect_body(alloc, ctx, f)?;
     let trace = trace_body(alloc, &body, choices)?;
     Ok(trace)
 }

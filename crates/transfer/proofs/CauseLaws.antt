@@ -1,18 +1,22 @@
 -- An export has no cause to refuse what an import made.
-use Rattle.std.proofs.Common.{ℕ, ◌≡◌, sym, ◌∙◌, ap, List, length, slice_get, All}
+use Rattle.std.proofs.Common.{ℕ, ◌≡◌, refl, sym, ◌∙◌, ap, List, length, slice_get, All}
 use Rattle.std.proofs.lemmas.List.Elements.{All-contains}
 use Rattle.llvm_core.proofs.DataLemmas.{within_at}
 use Rattle.dialect_core.specs.Data.{DialectModule, DialectBlock}
 use Rattle.dialect_core.specs.ContextData.{ContextData}
 use Rattle.dialect_core.specs.Form.{IsFormFunc, IsExportable, FitsTarget, HasEqualEdges, StandsBefore, edges_of, uses_of}
 use Rattle.llvm_core.specs.Data.{ModuleData}
-use Rattle.from_llvm_ir.specs.Imported as Import
+use Rattle.from_llvm_ir.specs.Refusals as Import
 use Rattle.from_llvm_ir.specs.declared.conversion_err.ConversionErr.{ConversionErr}
 use Rattle.from_llvm_ir.specs.declared.conversion_err.ConversionErr.TheVariants as C
 use Rattle.to_llvm_ir.specs.Exported as X
 use Rattle.to_llvm_ir.specs.Exported.{HasBlockAt, HasEdge, IsEarlyUse, LeadsOutside, IsMismatched, HasOtherEdge}
 use Rattle.to_llvm_ir.specs.declared.to_llvm_err.ToLLVMErr.{ToLLVMErr}
 use Rattle.to_llvm_ir.specs.declared.to_llvm_err.ToLLVMErr.TheVariants as E
+use Rattle.from_llvm_ir.specs.Refusals.{IsValid}
+use Rattle.from_llvm_ir.proofs.UndefinedLaws.{no_undefined_use}
+use Rattle.transfer.specs.declared.transfer_err.TransferErr.{TransferErr}
+use Rattle.transfer.specs.declared.transfer_err.TransferErr.TheVariants as T
 use Rattle.transfer.specs.Same.{of_import, of_export, IsCause}
 
 module _ (d : DialectModule) (forms : All IsFormFunc d.functions) (fit : All IsExportable d.functions) where
@@ -57,5 +61,12 @@ module _ (d : DialectModule) (forms : All IsFormFunc d.functions) (fit : All IsE
   of_export_cause c m E.NoMemory h = tt
 
 pub of_import_cause : (m : ModuleData) (e : ConversionErr) → Import.IsCause m e → IsCause m (of_import e)
-of_import_cause m (C.ForwardUse name v) h = h
+of_import_cause m (C.UndefinedValue name v) h = h
 of_import_cause m C.NoMemory h = tt
+
+-- a module whose uses are valid is refused for want of memory alone
+pub only_memory : (m : ModuleData) (e : TransferErr) → IsCause m e → IsValid m → e ≡ T.NoMemory
+only_memory m (T.Import (C.UndefinedValue name v)) h valid = absurd (no_undefined_use m valid name v h)
+only_memory m (T.Import C.NoMemory) h valid = absurd h
+only_memory m (T.Export e) h valid = absurd h
+only_memory m T.NoMemory h valid = refl

@@ -1,130 +1,26 @@
--- Functions that an import and an export made have the code of those that they stand for.
-use Rattle.std.proofs.Common.{ℕ, zero, suc, ◌≡◌, ◌<◌, ◌≤◌, refl, sym, ◌∙◌, ap, Bool, true, if◌then◌else◌, List, [], ◌∷◌, Some, None, length, slice_get, slice_index_or, nat_lt, arith}
-use Rattle.std.proofs.lemmas.Bool.{lt-ltb}
-use Rattle.std.proofs.lemmas.Option.{slice_get_within}
+-- A function that an export made of what an import made has the code of the source.
+use Rattle.std.proofs.Common.{ℕ, ◌≡◌, sym, ◌∙◌, ap, true, List, length}
 use Rattle.llvm_core.specs.Data as L
-use Rattle.llvm_core.specs.Data.{ModuleData, TypeTree, VoidType, IntType, FunctionType, TypeTrees, NoTypes, ThenType}
+use Rattle.llvm_core.specs.Data.{ModuleData}
 use Rattle.llvm_core.specs.Form.{IsFormFunction}
-use Rattle.llvm_core.proofs.DataLemmas.{within_at, there}
 use Rattle.dialect_core.specs.Data as D
-use Rattle.meaning.specs.Terms.{Match, rename_type, rename_types}
-use Rattle.meaning.specs.Code.{Body, FunctionSymbol, External, SameNamed, SameBody, SameBodies, IsOneToOne, rename_symbol}
+use Rattle.meaning.specs.Terms.{Match}
+use Rattle.meaning.specs.Code.{FunctionSymbol, External, SameNamed, SameBody}
 use Rattle.meaning.specs.Examples.{same_places}
 use Rattle.meaning.specs.Llvm as Llvm
 use Rattle.meaning.specs.Dialect as Dialect
-use Rattle.meaning.specs.Dialect.{type_of}
 use Rattle.meaning.proofs.Naming.{items_same}
 use Rattle.meaning.proofs.ShapeLaws.{same_shape}
+use Rattle.meaning.proofs.EntryLaws.{some_blocks, same_symbol, both}
 use Rattle.from_llvm_ir.specs.declared.matching.FunctionBlocks.{FunctionBlocks}
-use Rattle.from_llvm_ir.specs.Match.{IsPlaces, place_at}
-use Rattle.from_llvm_ir.specs.Imported.{ImportedFunction, IsImportedBlock}
-use Rattle.to_llvm_ir.specs.Exported.{ExportedFunction, AreNamed}
-use Rattle.transfer.proofs.ListLaws.{same_length}
-
--- ---- types under a match: no struct is held yet
-mutual
-  type_stays : (match : Match) (t : TypeTree) → rename_type match t ≡ t
-  type_stays match VoidType = refl
-  type_stays match (IntType w) = refl
-  type_stays match (FunctionType r ps v) = cc (type_stays match r, types_stay match ps)
-
-  types_stay : (match : Match) (ts : TypeTrees) → rename_types match ts ≡ ts
-  types_stay match NoTypes = refl
-  types_stay match (ThenType t ts) = cc (type_stays match t, types_stay match ts)
-
--- ---- blocks
-
--- a function with a block has a body
-some_blocks : {B : Type 0} (bs : List B) → ¬ (bs ≡ []) → nat_lt 0 (length bs) ≡ true
-some_blocks [] h = absurd (h refl)
-some_blocks (b ∷ bs) h = lt-ltb 0 (suc (length bs)) (omega arith)
-
-not_empty : {A B : Type 0} (xs : List A) (ys : List B) → length ys ≡ length xs → ¬ (xs ≡ []) → ¬ (ys ≡ [])
-not_empty [] ys same h e = h refl
-not_empty (x ∷ xs) ys same h e = let n = ap length e in absurd (omega (arith, same, n))
-
-index_inside : (ps : List ℕ) (i p d : ℕ) → slice_get ps i ≡ Some p → slice_index_or ps i d ≡ p
-index_inside [] i p d e = absurd (let no : ⊥ = cc in no)
-index_inside (q ∷ qs) zero p d e = let same : q ≡ p = cc in same
-index_inside (q ∷ qs) (suc i) p d e = index_inside qs i p d e
-
-index_past : (ps : List ℕ) (i d : ℕ) → length ps ≤ i → slice_index_or ps i d ≡ d
-index_past [] i d h = refl
-index_past (q ∷ qs) zero d h = absurd (omega (arith, h))
-index_past (q ∷ qs) (suc i) d h = index_past qs i d (omega (arith, h))
-
--- the dialect has as many blocks as the source
-same_blocks : (d : ModuleData) (f : L.Function) (x : FunctionBlocks) (g : D.Func) → ImportedFunction d f x g → length g.blocks ≡ length f.blocks
-same_blocks d f x g h =
-    same_length (IsImportedBlock h.hoisted) f.blocks g.blocks (λ (b : ℕ). place_at b x)
-    (λ p small. let (i, at) = h.places.onto p small in (i, (let s = slice_get_within x.places i p at in let c = h.places.count in omega (arith, s, c)), index_inside x.places i p i at))
-    (index_past x.places (length f.blocks) (length f.blocks) (let c = h.places.count in omega (arith, c)))
-    h.blocks
-
--- the match is one-to-one
-one_to_one : (x : FunctionBlocks) (n m : ℕ) (here : ℕ → ℕ) → IsPlaces n x.places → ((b : ℕ) → here b ≡ place_at b x) → m ≡ n → IsOneToOne here n m
-one_to_one x n m here h is same = record {
-  onto = λ j small.
-      let (i, at) = h.onto j (omega (arith, small, same)) in
-      let inside : i < n = let s = slice_get_within x.places i j at in let c = h.count in omega (arith, s, c) in
-      (i, inside, is i ∙ index_inside x.places i j i at);
-  within = λ i small.
-      let (p, at) = there x.places i (let c = h.count in omega (arith, small, c)) in
-      let low : p < n = within_at x.places (λ (q : ℕ). q < n) h.within i p at in
-      let e : here i ≡ p = is i ∙ index_inside x.places i p i at in
-      omega (arith, low, e, same);
-  apart = λ i j si sj e.
-      let (p, at) = there x.places i (let c = h.count in omega (arith, si, c)) in
-      let (q, bt) = there x.places j (let c = h.count in omega (arith, sj, c)) in
-      let one : p ≡ q = sym (index_inside x.places i p i at) ∙ sym (is i) ∙ e ∙ is j ∙ index_inside x.places j q j bt in
-      h.apart i j p at (bt ∙ ap Some (sym one));
-}
-
-named_count : (cs : List D.DialectBlock) (bs : List L.Block) (place k : ℕ) → AreNamed place k cs bs → length bs ≡ length cs
-named_count [] [] place k h = refl
-named_count (c ∷ cs) (b ∷ bs) place k h = ap suc (named_count cs bs _ _ h.1)
-named_count [] (b ∷ bs) place k h = absurd h
-named_count (c ∷ cs) [] place k h = absurd h
-
--- ---- functions
-
--- two symbols of functions of one type
-same_symbol : (match : Match) (t u : TypeTree) (s : ℕ) (b c : Bool) → t ≡ u → s ≡ 0 → b ≡ c → rename_symbol match (FunctionSymbol t External s b) ≡ FunctionSymbol u External 0 c
-same_symbol match t u s b c type space body = cc (type_stays match t, type, space, body)
-
-both : (match : Match) (n : List ℕ) (b c : Bool) (x y : Body) → b ≡ true → c ≡ true → SameBody match n x y → SameBodies match n (if b then Some x else None) (if c then Some y else None)
-both match n b c x y hb hc same = rw (hb, hc) same
-
--- ---- a function and what an import made of it
+use Rattle.from_llvm_ir.specs.Match.{place_at}
+use Rattle.from_llvm_ir.specs.Imported.{ImportedFunction}
+use Rattle.from_llvm_ir.proofs.CodeLaws.{same_blocks, one_to_one, has, imported_body}
+use Rattle.to_llvm_ir.specs.Exported.{ExportedFunction}
+use Rattle.to_llvm_ir.proofs.CodeLaws.{named_count}
 
 module _ (match : Match) (d : ModuleData) (f : L.Function) (x : FunctionBlocks) (g : D.Func) (here : (b : ℕ) → match.block f.name b ≡ place_at b x)
     (form : IsFormFunction f) (h : ImportedFunction d f x g) where
-  has : Llvm.has_blocks f ≡ true
-  has = some_blocks f.blocks form.body
-
-  has_dialect : Dialect.has_blocks g ≡ true
-  has_dialect = some_blocks g.blocks (not_empty f.blocks g.blocks (same_blocks d f x g h) form.body)
-
-  imported_body : SameBody match f.name (Llvm.body d f) (Dialect.body g)
-  imported_body = record {
-    blocks = one_to_one x (length f.blocks) (length g.blocks) (match.block f.name) h.places here (same_blocks d f x g h);
-    traces = same_shape match d f g (h.shape match here);
-  }
-
-  linked : FunctionSymbol (type_of g.type) (Dialect.linkage g.linkage) 0 (Dialect.has_blocks g) ≡ FunctionSymbol (type_of g.type) External 0 (Dialect.has_blocks g)
-  linked = rw h.form.linkage refl
-
-  pub imported_entry : SameNamed match (Llvm.entry d f) (Dialect.entry g)
-  imported_entry = record {
-    name = sym h.name;
-    entry = record {
-      symbol = same_symbol match f.type (type_of g.type) f.space (Llvm.has_blocks f) (Dialect.has_blocks g) (sym h.type) form.space (has ∙ sym has_dialect) ∙ sym linked;
-      body = both match f.name (Llvm.has_blocks f) (Dialect.has_blocks g) (Llvm.body d f) (Dialect.body g) has has_dialect imported_body;
-    };
-  }
-
-  -- ---- and what an export made of that
-
   module _ (d' : ModuleData) (f' : L.Function) (k : ExportedFunction d' g f') where
     back_blocks : length f'.blocks ≡ length f.blocks
     back_blocks = named_count g.blocks f'.blocks 0 0 k.names ∙ same_blocks d f x g h
@@ -142,7 +38,7 @@ module _ (match : Match) (d : ModuleData) (f : L.Function) (x : FunctionBlocks) 
     body_back : SameBody match f.name (Llvm.body d f) (Llvm.body d' f')
     body_back = record {
       blocks = one_to_one x (length f.blocks) (length f'.blocks) (match.block f.name) h.places here back_blocks;
-      traces = λ cs. imported_body.traces cs ∙ sym (trace_back cs);
+      traces = λ cs. (imported_body match d f x g here form h).traces cs ∙ sym (trace_back cs);
     }
 
     pub entry_back : SameNamed match (Llvm.entry d f) (Llvm.entry d' f')
@@ -150,8 +46,8 @@ module _ (match : Match) (d : ModuleData) (f : L.Function) (x : FunctionBlocks) 
       name = sym h.name ∙ sym k.name;
       entry = record {
         symbol =
-            same_symbol match f.type f'.type f.space (Llvm.has_blocks f) (Llvm.has_blocks f') (sym h.type ∙ sym k.type) form.space (has ∙ sym has_back)
+            same_symbol match f.type f'.type f.space (Llvm.has_blocks f) (Llvm.has_blocks f') (sym h.type ∙ sym k.type) form.space (has match d f x g here form h ∙ sym has_back)
             ∙ ap (λ (s : ℕ). FunctionSymbol f'.type External s (Llvm.has_blocks f')) (sym form_back.space);
-        body = both match f.name (Llvm.has_blocks f) (Llvm.has_blocks f') (Llvm.body d f) (Llvm.body d' f') has has_back body_back;
+        body = both match f.name (Llvm.has_blocks f) (Llvm.has_blocks f') (Llvm.body d f) (Llvm.body d' f') (has match d f x g here form h) has_back body_back;
       };
     }

@@ -16,6 +16,7 @@ use Rattle.meaning.specs.Code.{Entry, IsDistinctNames, SameNamed, SameCode, name
 use Rattle.meaning.specs.Llvm as Llvm
 use Rattle.meaning.specs.Dialect as Dialect
 use Rattle.meaning.proofs.CodeLaws.{same_code}
+use Rattle.meaning.proofs.EntryLaws.{all_kept, distinct_code}
 use Rattle.from_llvm_ir.specs.declared.importing.Imported.{Imported}
 use Rattle.from_llvm_ir.specs.declared.matching.FunctionBlocks.{FunctionBlocks}
 use Rattle.from_llvm_ir.specs.Match.{match_of}
@@ -24,29 +25,11 @@ use Rattle.to_llvm_ir.specs.Exported.{ExportedFunction, IsExported}
 use Rattle.to_llvm_ir.specs.Held.{IsReadable}
 use Rattle.transfer.specs.declared.transferred.Transferred.{Transferred}
 use Rattle.transfer.specs.Same.{SameThroughout}
-use Rattle.transfer.proofs.ListLaws.{matched_of, matched_at, matched_map, all_of, all_second}
-use Rattle.transfer.proofs.MatchLaws.{function_names, partner, count_imported, matched_place}
-use Rattle.transfer.proofs.SameFunctions.{imported_entry, entry_back, form_back}
-
--- ---- modules of the form have no intrinsics
-
-not_true : (b : Bool) → (b ≡ true → ⊥) → b ≡ false
-not_true true h = absurd (h refl)
-not_true false h = refl
-
-own : (f : L.Function) → IsFormFunction f → not (Llvm.is_intrinsic f) ≡ true
-own f form = ap not (not_true (Llvm.is_intrinsic f) (own_of_plain f.name form.name))
-
-all_kept : (fs : List L.Function) → All IsFormFunction fs → filter (λ (f : L.Function). not (Llvm.is_intrinsic f)) fs ≡ fs
-all_kept [] h = refl
-all_kept (f ∷ fs) h = rw (own f (All-head IsFormFunction f fs h), all_kept fs (All-tail IsFormFunction f fs h)) refl
-
-entries_names : (d : ModuleData) (fs : List L.Function) → map (λ (e : Entry). e.name) (map (Llvm.entry d) fs) ≡ function_names fs
-entries_names d [] = refl
-entries_names d (f ∷ fs) = rw (entries_names d fs) refl
-
-distinct_code : (d : ModuleData) → All IsFormFunction d.functions → IsDistinctNames (function_names d.functions) → IsDistinctNames (names_of (Llvm.code_of d))
-distinct_code d form h = subst IsDistinctNames (sym (ap (λ (fs : List L.Function). map (λ (e : Entry). e.name) (map (Llvm.entry d) fs)) (all_kept d.functions form) ∙ entries_names d d.functions)) h
+use Rattle.from_llvm_ir.proofs.PairLaws.{matched_of, matched_at, matched_map, all_of, all_second}
+use Rattle.from_llvm_ir.proofs.MatchedLaws.{function_names, partner, count_imported, matched_place}
+use Rattle.from_llvm_ir.proofs.SameLaws.{function_numbered, plain_names, same_imported}
+use Rattle.to_llvm_ir.proofs.CodeLaws.{names_exported}
+use Rattle.transfer.proofs.SameFunctions.{entry_back, form_back}
 
 -- ---- matched lists
 
@@ -55,12 +38,6 @@ count_matched P [] [] h = refl
 count_matched P (x ∷ xs) (y ∷ ys) h = ap suc (count_matched P xs ys h.1)
 count_matched P [] (y ∷ ys) h = absurd h
 count_matched P (x ∷ xs) [] h = absurd h
-
-names_exported : (d : ModuleData) (gs : List D.Func) (fs : List L.Function) → Matched (ExportedFunction d) gs fs → function_names fs ≡ map (λ (g : D.Func). g.name) gs
-names_exported d [] [] h = refl
-names_exported d (g ∷ gs) (f ∷ fs) h = rw (h.0.name, names_exported d gs fs h.1) refl
-names_exported d [] (f ∷ fs) h = absurd h
-names_exported d (g ∷ gs) [] h = absurd h
 
 -- ---- what the import made
 
@@ -106,13 +83,6 @@ module _ (d : ModuleData) (xs : List FunctionBlocks) (gs : List D.Func) (form : 
   form_at : (i : ℕ) (f : L.Function) → slice_get d.functions i ≡ Some f → IsFormFunction f
   form_at i f at = within_at d.functions IsFormFunction form i f at
 
-  entries_there : Matched (λ (f : L.Function) (g : D.Func). SameNamed (match_of d xs) (Llvm.entry d f) (Dialect.entry g)) d.functions gs
-  entries_there = matched_of (λ (f : L.Function) (g : D.Func). SameNamed (match_of d xs) (Llvm.entry d f) (Dialect.entry g)) d.functions gs (sym (count_imported d d.functions xs gs h).1) (λ i f g at gt.
-      let p = partner d d.functions xs gs h i f at in
-      let same : p.func ≡ g = let e = sym p.func_at ∙ gt in cc in
-      subst (λ (g : D.Func). SameNamed (match_of d xs) (Llvm.entry d f) (Dialect.entry g)) same
-      (imported_entry (match_of d xs) d f p.entry p.func (matched_place d xs gs distinct numbered h i f p.entry at p.entry_at) (form_at i f at) p.imported))
-
   module _ (d' : ModuleData) (k : Matched (ExportedFunction d') gs d'.functions) where
     exported_at : (i : ℕ) (g : D.Func) (f' : L.Function) → slice_get gs i ≡ Some g → slice_get d'.functions i ≡ Some f' → ExportedFunction d' g f'
     exported_at i g f' at bt = matched_at (ExportedFunction d') gs d'.functions k i g f' at bt
@@ -133,13 +103,6 @@ module _ (d : ModuleData) (xs : List FunctionBlocks) (gs : List D.Func) (form : 
 
 -- ---- modules
 
-function_numbered : (m : Module) (i : ℕ) (f : L.Function) → slice_get (data_of m).functions i ≡ Some f → f.number ≡ i
-function_numbered m i f at =
-    let small = slice_get_within (data_of m).functions i f at in
-    let (x, here) = there m.functions i (let c = function_count m in omega (arith, small, c)) in
-    let same = sym (function_at m i x here) ∙ at in
-    cc same
-
 abbrev pub transferred_of : Imported → Module → Transferred
 transferred_of i back = record { ctx = i.ctx; dialect = i.module; back = back; blocks = i.blocks }
 
@@ -156,24 +119,17 @@ module _ (m back : Module) (i : Imported) (form : IsForm (data_of m)) (distinct 
       names_exported (data_of back) (imported_data i).functions (data_of back).functions exported.functions
       ∙ names_imported (data_of m) (data_of m).functions i.blocks (imported_data i).functions imported.functions
 
-  same_dialect : SameCode (match_of (data_of m) i.blocks) (Llvm.code_of (data_of m)) (Dialect.code_of (imported_data i))
-  same_dialect =
-      let match = match_of (data_of m) i.blocks in
-      let pairs = matched_map (SameNamed match) (Llvm.entry (data_of m)) Dialect.entry (data_of m).functions (imported_data i).functions
-      (entries_there (data_of m) i.blocks (imported_data i).functions form distinct.functions (function_numbered m) imported.functions) in
-      same_code match (Llvm.code_of (data_of m)) (Dialect.code_of (imported_data i)) (distinct_code (data_of m) form distinct.functions) (rw (all_kept (data_of m).functions form) pairs)
-
   same_back : SameCode (match_of (data_of m) i.blocks) (Llvm.code_of (data_of m)) (Llvm.code_of (data_of back))
   same_back =
       let match = match_of (data_of m) i.blocks in
       let pairs = matched_map (SameNamed match) (Llvm.entry (data_of m)) (Llvm.entry (data_of back)) (data_of m).functions (data_of back).functions
       (entries_back (data_of m) i.blocks (imported_data i).functions form distinct.functions (function_numbered m) imported.functions (data_of back) exported.functions) in
-      same_code match (Llvm.code_of (data_of m)) (Llvm.code_of (data_of back)) (distinct_code (data_of m) form distinct.functions)
-      (rw (all_kept (data_of m).functions form, all_kept (data_of back).functions form_of_back) pairs)
+      same_code match (Llvm.code_of (data_of m)) (Llvm.code_of (data_of back)) (distinct_code (data_of m) (plain_names (data_of m).functions form) distinct.functions)
+      (rw (all_kept (data_of m).functions (plain_names (data_of m).functions form), all_kept (data_of back).functions (plain_names (data_of back).functions form_of_back)) pairs)
 
   pub same_throughout : SameThroughout (data_of m) (transferred_of i back)
   same_throughout = record {
-    dialect = same_dialect;
+    dialect = same_imported m i form imported distinct.functions;
     back = same_back;
     name = imported.name;
     back_name = exported.name;

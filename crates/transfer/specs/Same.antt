@@ -10,7 +10,7 @@ use Rattle.meaning.specs.Llvm as Llvm
 use Rattle.meaning.specs.Dialect as Dialect
 use Rattle.from_llvm_ir.specs.Match.{match_of}
 use Rattle.from_llvm_ir.specs.Imported.{AreImported}
-use Rattle.from_llvm_ir.specs.Imported as Import
+use Rattle.from_llvm_ir.specs.Refusals as Import
 use Rattle.to_llvm_ir.specs.Exported.{ExportedFunction}
 use Rattle.from_llvm_ir.specs.declared.conversion_err.ConversionErr.{ConversionErr}
 use Rattle.from_llvm_ir.specs.declared.conversion_err.ConversionErr.TheVariants as C
@@ -43,7 +43,7 @@ pub record SameThroughout (m : ModuleData) (t : Transferred) : Type 0 where
 
 -- a refusal of the import, whose want of memory has an answer of its own
 abbrev pub of_import : ConversionErr → TransferErr
-of_import (C.ForwardUse name v) = E.Import (C.ForwardUse name v)
+of_import (C.UndefinedValue name v) = E.Import (C.UndefinedValue name v)
 of_import C.NoMemory = E.NoMemory
 
 abbrev pub of_export : ToLLVMErr → TransferErr
@@ -57,6 +57,6 @@ of_export X.NoMemory = E.NoMemory
 -- stands inside
 abbrev pub IsCause : ModuleData → TransferErr → Type 0
 IsCause d (E.Import C.NoMemory) = ⊥
-IsCause d (E.Import (C.ForwardUse name v)) = Import.IsCause d (C.ForwardUse name v)
+IsCause d (E.Import (C.UndefinedValue name v)) = Import.IsCause d (C.UndefinedValue name v)
 IsCause d (E.Export e) = ⊥
 IsCause d E.NoMemory = Unit {0}

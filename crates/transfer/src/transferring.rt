@@ -7,6 +7,8 @@ ghost use Rattle.llvm_core.specs.Data.{data_of, AreApart};
 ghost use Rattle.llvm_core.specs.Names.{IsPlainOrNone};
 ghost use Rattle.llvm_core.specs.Form.{IsForm};
 ghost use Rattle.dialect_core.specs.Data.{IsTyped};
+ghost use Rattle.from_llvm_ir.specs.Refusals.{IsValid};
+ghost use Rattle.transfer.specs.declared.transfer_err.TransferErr.TheVariants as refusals;
 ghost use Rattle.transfer.specs.Same.{SameThroughout, IsCause};
 
 use crate::transfer_err::TransferErr;
@@ -25,7 +27,8 @@ fn know_sound(m: &LLVMModule)
 }
 
 /// The dialect module of a checked module of the form, the module back, and the match of blocks. The module
-/// back is checked. It is refused only where the import refuses it: the export takes all that an import makes.
+/// back is checked. It is refused only where the import refuses it: the export takes all that an import makes. So a
+/// module whose uses are valid is answered `Ok` or `NoMemory`.
 pub fn transfer(alloc: Global, module: &LLVMModule) -> Result<Transferred, TransferErr>
     requires form { IsForm (data_of module.now) }
     requires name { IsPlainOrNone module.now.name }
@@ -36,6 +39,7 @@ pub fn transfer(alloc: Global, module: &LLVMModule) -> Result<Transferred, Trans
     ensures there { IfOk result (λ t. t.dialect.0.0 < length t.ctx.ops) }
     ensures typed { IfOk result (λ t. IsTyped t.ctx) }
     ensures cause { IfErr result (λ e. IsCause (data_of module.now) e) }
+    ensures complete { IsValid (data_of module.now) → IfErr result (λ e. e ≡ refusals.NoMemory) }
 {
     know_sound(module);
     let imported = import(alloc, module)?;

@@ -9,6 +9,7 @@ pub mod hoisted;
 pub mod labels;
 pub mod loops;
 pub mod numbered;
+pub mod orders;
 pub mod parameters;
 pub mod phis;
 pub mod sums;

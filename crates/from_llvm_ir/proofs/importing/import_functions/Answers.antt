@@ -7,7 +7,7 @@ use Rattle.from_llvm_ir.specs.declared.matching.FunctionBlocks.{FunctionBlocks}
 use Rattle.from_llvm_ir.specs.Importing.{IsImportedTo}
 use Rattle.from_llvm_ir.proofs.SourceLaws.{source_at}
 use Rattle.from_llvm_ir.proofs.ForwardLaws.{passed_on}
-use Rattle.from_llvm_ir.proofs.ModuleLaws.{imported_none, imported_more, late_cause, name_given}
+use Rattle.from_llvm_ir.proofs.ModuleLaws.{imported_none, imported_more, function_cause, name_given}
 use Rattle.from_llvm_ir.proofs.importing.import_functions.Goals as goal
 
 pub index-requires : goal.index-requires
@@ -28,7 +28,7 @@ pub returns-in_err-import_function-clause-err : goal.returns-in_err-import_funct
 returns-in_err-import_function-clause-err g c =
     let s = source_at c.args.source.now c.loop-f.f c.functions-f-end.ensures.sound c.requires.form (omega (arith, c.functions-f-end.ensures.len, c.loop-f-test.true)) in
     passed_on c.from_residual-in_err-import_function.result c.in_err-import_function.field-0.0 _ c.from_residual-in_err-import_function.ensures.1
-    (late_cause c.args.source.now (record { 0 = c.loop-f.f }) s.0 c.in_err-import_function.field-0.0 s.1 (c.in_err-import_function.ensures.err s.0 s.1))
+    (function_cause c.args.source.now (record { 0 = c.loop-f.f }) s.0 c.in_err-import_function.field-0.0 s.1 (c.in_err-import_function.ensures.err s.0 s.1))
 
 pub loop-f-init : goal.loop-f-init
 loop-f-init g c = record {

@@ -9,7 +9,7 @@ use Rattle.ll_text.proofs.bodies.declare.Goals as goal
 pub returns-clause-declares : goal.returns-clause-declares
 returns-clause-declares c =
     let e = c.in_ok-f.ensures in
-    declares (function_view c.args.function.now) c.in_ok-f.f c.in_ok-returns.returns c.args.module.now c.signature.new.module c.add_function.new.self c.in_ok-ty.ty c.in-Some.name.now
+    declares (function_view c.args.function.now) c.in_ok-f.f c.in_ok-returns.returns c.args.draft.now c.signature.new.draft c.add_function.new.self c.in_ok-ty.ty c.in-Some.name.now
     c.in-Some.ensures.name c.in_ok-returns.ensures.width (rw c.as_slice.ensures.value at c.in_ok-ty.ensures.ty) c.in_ok-ty.ensures.rest e.number e.ok e.data
 
 pub returns-in_err-ty-clause-not_yet : goal.returns-in_err-ty-clause-not_yet

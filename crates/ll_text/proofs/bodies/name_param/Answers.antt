@@ -11,11 +11,11 @@ use Rattle.ll_text.proofs.bodies.name_param.Goals as goal
 pub returns-clause-says : goal.returns-clause-says
 returns-clause-says c = on_ok_weaker c.define.result (λ d s knows.
     let t = d s knows in
-    param_named s t.0 c.args.f.0 c.args.place c.in-Some.width (param_view c.args.param.now) (option_key c.in_ok-key.key) _ c.args.module.now c.set_param_name.new.self c.define.new.self
+    param_named s t.0 c.args.f.0 c.args.place c.in-Some.width (param_view c.args.param.now) (option_key c.in_ok-key.key) _ c.args.draft.now c.set_param_name.new.self c.define.new.self
     c.in-Some.ensures.width c.in_ok-key.ensures.key c.key_name.ensures c.in_ok-set_param_name.ensures.data t.1 t.2) c.define.ensures.ok
 
 pub returns-clause-keeps : goal.returns-clause-keeps
-returns-clause-keeps c = on_ok_weaker c.define.result (λ d. param_keeps c.args.f c.args.module.now c.set_param_name.new.self c.args.place _ c.in_ok-set_param_name.ensures.ok) c.define.ensures.ok
+returns-clause-keeps c = on_ok_weaker c.define.result (λ d. param_keeps c.args.f c.args.draft.now c.set_param_name.new.self c.args.place _ c.in_ok-set_param_name.ensures.ok) c.define.ensures.ok
 
 pub returns-in_default-clause-not_yet : goal.returns-in_default-clause-not_yet
 returns-in_default-clause-not_yet c = λ e s t knows alike g i. param_untyped t g i (param_view c.args.param.now) c.in_default.ensures.none

@@ -9,6 +9,6 @@ use Rattle.ll_text.proofs.bodies.name_params.Given as goal
 abbrev pub invariant-loop-param : goal.invariant-loop-param
 invariant-loop-param l = record {
   place : l.place ≡ l.param-index;
-  says : (s : Scope) → Knows l.fn.scope s → NamesParams l.f.0 s (map param_view (take l.param-index l.params)) l.fn.module l.module l.scope;
-  keeps : KeepsBodies l.f l.fn.module l.module;
+  says : (s : Scope) → Knows l.fn.scope s → NamesParams l.f.0 s (map param_view (take l.param-index l.params)) l.fn.draft l.draft l.scope;
+  keeps : KeepsBodies l.f l.fn.draft l.draft;
 }

@@ -13,9 +13,9 @@ use Rattle.ll_text.proofs.builder.build_file.Goals as goal
 
 pub loop-function-init : goal.loop-function-init
 loop-function-init c =
-    let e = c.in_ok-module.ensures.stores in
+    let e = c.in_ok-draft.ensures.stores in
     record {
-      built = subst (λ (n : Text). IsBuiltOf n [] c.in_ok-module.module) (sym (ap (λ (m : Module). m.name) e)) (none_built _ _ e);
+      built = subst (λ (n : Text). IsBuiltOf n [] c.in_ok-draft.draft) (sym (ap (λ (m : Module). m.name) e)) (none_built _ _ e);
       next = sym (ap (λ (m : Module). length m.insts) e);
     }
 
@@ -31,7 +31,7 @@ loop-function-preserved c =
 pub returns-clause-says : goal.returns-clause-says
 returns-clause-says c =
     let value = c.as_slice-function-items.ensures.value in
-    let name = ap (λ (m : Module). m.name) c.in_ok-module.ensures.stores in
+    let name = ap (λ (m : Module). m.name) c.in_ok-draft.ensures.stores in
     file_said (file_view c.args.file.now) _ _ (subst (IsSource is_plain 64 (name_view c.args.file.now.source)) (sym name) c.in_ok-source_name.ensures.says)
     (all_built _ c.args.file.now.functions.items _ _ (rw value at c.loop-function-test.false) c.loop-function.invariant.built)
 

@@ -6,6 +6,6 @@ use Rattle.ll_text.proofs.builder.build_file.Given as goal
 
 abbrev pub invariant-loop-function : goal.invariant-loop-function
 invariant-loop-function l = record {
-  built : IsBuiltOf l.initial.module.name (map function_view (take l.function-index l.file.functions.items)) l.module;
-  next : l.next ≡ length l.module.insts;
+  built : IsBuiltOf l.initial.draft.name (map function_view (take l.function-index l.file.functions.items)) l.draft;
+  next : l.next ≡ length l.draft.insts;
 }

@@ -12,7 +12,7 @@ returns-clause-ok c =
     let v = c.as_slice.ensures.value in
     let e = c.in_ok-first.ensures in
     let ok = rw v at c.in_ok-end.ensures.ok in
-    let at = blocks_after c.args.f (f.entry ∷ []) c.args.module.now c.define_block.new.module e.adds in
+    let at = blocks_after c.args.f (f.entry ∷ []) c.args.draft.now c.define_block.new.draft e.adds in
     entry_takes c.args.scope.now c.define_block.new.scope c.define_more.new.scope _ _ c.args.number c.in_ok-first.next f.entry f.more at e.behind e.ok ok
 
 pub returns-clause-adds : goal.returns-clause-adds
@@ -20,7 +20,7 @@ returns-clause-adds c =
     let f = function_view c.args.function.now in
     let v = c.as_slice.ensures.value in
     let more = rw v at c.in_ok-end.ensures.adds in
-    appended_entry c.args.f f.entry f.more c.args.module.now c.define_block.new.module c.define_more.new.module c.in_ok-first.ensures.adds more
+    appended_entry c.args.f f.entry f.more c.args.draft.now c.define_block.new.draft c.define_more.new.draft c.in_ok-first.ensures.adds more
 
 pub returns-in_err-first-clause-not_yet : goal.returns-in_err-first-clause-not_yet
 returns-in_err-first-clause-not_yet c = λ e.
@@ -36,7 +36,7 @@ returns-in_err-end-clause-not_yet c = λ e.
     let r = c.from_residual-in_err-end in
     let o = c.in_ok-first.ensures in
     let none = rw v at (x.ensures.not_yet (passed_on r.result x.field-0.0 r.ensures.1 e)) in
-    let at = blocks_after c.args.f (f.entry ∷ []) c.args.module.now c.define_block.new.module o.adds in
+    let at = blocks_after c.args.f (f.entry ∷ []) c.args.draft.now c.define_block.new.draft o.adds in
     more_refused c.args.scope.now c.define_block.new.scope _ _ c.args.number c.in_ok-first.next f.entry f.more at o.behind o.ok none
 
 pub returns-clause-sound : goal.returns-clause-sound

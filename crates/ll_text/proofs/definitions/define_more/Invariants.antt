@@ -9,6 +9,6 @@ use Rattle.ll_text.proofs.definitions.define_more.Given as goal
 abbrev pub invariant-loop-block : goal.invariant-loop-block
 invariant-loop-block l = record {
   next : l.next ≡ behind_all l.number (map block_view (take l.block-index l.blocks));
-  named : Takes l.fn.scope l.scope (λ s. named_blocks s (length l.fn.module.blocks) l.number (map block_view (take l.block-index l.blocks)));
-  adds : AddsBlocks l.f (blocks_with (length l.fn.module.blocks) (map block_view (take l.block-index l.blocks)) []) l.fn.module l.module;
+  named : Takes l.fn.scope l.scope (λ s. named_blocks s (length l.fn.draft.blocks) l.number (map block_view (take l.block-index l.blocks)));
+  adds : AddsBlocks l.f (blocks_with (length l.fn.draft.blocks) (map block_view (take l.block-index l.blocks)) []) l.fn.draft l.draft;
 }

@@ -15,7 +15,7 @@ returns-clause-ok c = λ s knows.
 pub returns-clause-adds : goal.returns-clause-adds
 returns-clause-adds c =
     let e = c.in_ok-number.ensures in
-    block_added c.args.f c.args.module.now c.append_block.new.self c.in_ok-number.number _ (block_view c.args.block.now) e.ok e.data e.number (c.key_name.ensures ∙ sym (ap name_said c.in_ok-key.ensures.key)) e.sound
+    block_added c.args.f c.args.draft.now c.append_block.new.self c.in_ok-number.number _ (block_view c.args.block.now) e.ok e.data e.number (c.key_name.ensures ∙ sym (ap name_said c.in_ok-key.ensures.key)) e.sound
 
 pub returns-in_err-key-clause-not_yet : goal.returns-in_err-key-clause-not_yet
 returns-in_err-key-clause-not_yet c = λ e s knows.

@@ -16,7 +16,7 @@ pub fill_insts-requires-clause-open : goal.fill_insts-requires-clause-open
 fill_insts-requires-clause-open c = let o = c.requires.open in let v = c.as_slice.ensures.value in (o.0, o.1, rw v o.2.0)
 
 pub fill_end-requires-clause-ready : goal.fill_end-requires-clause-ready
-fill_end-requires-clause-ready c = ready_kept _ c.args.module.now c.fill_insts.new.module c.args.scope.now c.in_ok-end.ensures.keeps c.requires.ready
+fill_end-requires-clause-ready c = ready_kept _ c.args.draft.now c.fill_insts.new.draft c.args.scope.now c.in_ok-end.ensures.keeps c.requires.ready
 
 pub fill_end-requires-clause-open : goal.fill_end-requires-clause-open
 fill_end-requires-clause-open c =
@@ -26,7 +26,7 @@ fill_end-requires-clause-open c =
     let behind = rw v at c.in_ok-end.ensures.behind in
     let many = length-map c.args.block.now.insts.items inst_view in
     let e : c.args.number + length b.insts ≡ c.in_ok-end.end = omega (arith, behind, many) in
-    (o.0, o.1, end_open_kept c.args.module.now c.fill_insts.new.module o.0 c.in_ok-end.end b.end c.in_ok-end.ensures.keeps (subst (λ k. IsOpenEnd c.args.module.now o.0 k b.end) e o.2.1))
+    (o.0, o.1, end_open_kept c.args.draft.now c.fill_insts.new.draft o.0 c.in_ok-end.end b.end c.in_ok-end.ensures.keeps (subst (λ k. IsOpenEnd c.args.draft.now o.0 k b.end) e o.2.1))
 
 pub returns-clause-fills : goal.returns-clause-fills
 returns-clause-fills c = on_ok_of c.next_number.result (λ s knows.
@@ -35,10 +35,10 @@ returns-clause-fills c = on_ok_of c.next_number.result (λ s knows.
     let behind = rw v at c.in_ok-end.ensures.behind in
     let fills = rw v at c.in_ok-end.ensures.fills in
     let many = length-map c.args.block.now.insts.items inst_view in
-    body_filled s c.args.number c.in_ok-end.end b c.args.module.now c.fill_insts.new.module c.fill_end.new.module (omega (arith, behind, many)) (fills s knows) (c.fill_end.ensures.fills s knows))
+    body_filled s c.args.number c.in_ok-end.end b c.args.draft.now c.fill_insts.new.draft c.fill_end.new.draft (omega (arith, behind, many)) (fills s knows) (c.fill_end.ensures.fills s knows))
 
 pub returns-clause-keeps : goal.returns-clause-keeps
-returns-clause-keeps c = on_ok_of c.next_number.result (keeps_then c.args.module.now c.fill_insts.new.module c.fill_end.new.module c.in_ok-end.ensures.keeps c.fill_end.ensures.keeps)
+returns-clause-keeps c = on_ok_of c.next_number.result (keeps_then c.args.draft.now c.fill_insts.new.draft c.fill_end.new.draft c.in_ok-end.ensures.keeps c.fill_end.ensures.keeps)
 
 pub returns-in_err-end-clause-not_yet : goal.returns-in_err-end-clause-not_yet
 returns-in_err-end-clause-not_yet c = λ e s knows.

@@ -12,13 +12,13 @@ pub fill_operand-requires-clause-open : goal.fill_operand-requires-clause-open
 fill_operand-requires-clause-open c =
     let o = c.requires.open in
     let i = c.in-Return in
-    return_waits c.args.module.now c.args.scope.now o.0 c.args.number (text_of i.ty) (text_of i.value) o.1 (subst (λ t. IsOpenEnd c.args.module.now o.0 c.args.number (terminator_view t)) i.is o.2)
+    return_waits c.args.draft.now c.args.scope.now o.0 c.args.number (text_of i.ty) (text_of i.value) o.1 (subst (λ t. IsOpenEnd c.args.draft.now o.0 c.args.number (terminator_view t)) i.is o.2)
 
 pub fill_operand-requires-in-CondBr-clause-open : goal.fill_operand-requires-in-CondBr-clause-open
 fill_operand-requires-in-CondBr-clause-open c =
     let o = c.requires.open in
     let i = c.in-CondBr in
-    cond_waits c.args.module.now c.args.scope.now o.0 c.args.number (text_of i.ty) (text_of i.condition) (text_of i.first) (text_of i.second) o.1 (subst (λ t. IsOpenEnd c.args.module.now o.0 c.args.number (terminator_view t)) i.is o.2)
+    cond_waits c.args.draft.now c.args.scope.now o.0 c.args.number (text_of i.ty) (text_of i.condition) (text_of i.first) (text_of i.second) o.1 (subst (λ t. IsOpenEnd c.args.draft.now o.0 c.args.number (terminator_view t)) i.is o.2)
 
 pub returns-in-Return-clause-fills : goal.returns-in-Return-clause-fills
 returns-in-Return-clause-fills c = λ s knows. let i = c.in-Return in rw c.in-Return.is (record { change = _; turns = return_turns s (text_of i.ty) (text_of i.value); data_is = c.fill_operand.ensures.data s knows })
@@ -29,10 +29,10 @@ returns-in-CondBr-clause-fills c = λ s knows.
     rw c.in-CondBr.is (record { change = _; turns = cond_turns s (text_of i.ty) (text_of i.condition) (text_of i.first) (text_of i.second); data_is = c.fill_operand-in-CondBr.ensures.data s knows })
 
 pub returns-in-ReturnVoid-clause-fills : goal.returns-in-ReturnVoid-clause-fills
-returns-in-ReturnVoid-clause-fills c = λ s knows. rw c.in-ReturnVoid.is (record { change = λ i. i; turns = void_turns s; data_is = changed_by_none (data_of c.args.module.now) c.args.number (λ i. i) (λ i. refl) })
+returns-in-ReturnVoid-clause-fills c = λ s knows. rw c.in-ReturnVoid.is (record { change = λ i. i; turns = void_turns s; data_is = changed_by_none (data_of c.args.draft.now) c.args.number (λ i. i) (λ i. refl) })
 
 pub returns-in-Br-clause-fills : goal.returns-in-Br-clause-fills
-returns-in-Br-clause-fills c = λ s knows. rw c.in-Br.is (record { change = λ i. i; turns = br_turns s (text_of c.in-Br.target); data_is = changed_by_none (data_of c.args.module.now) c.args.number (λ i. i) (λ i. refl) })
+returns-in-Br-clause-fills c = λ s knows. rw c.in-Br.is (record { change = λ i. i; turns = br_turns s (text_of c.in-Br.target); data_is = changed_by_none (data_of c.args.draft.now) c.args.number (λ i. i) (λ i. refl) })
 
 pub returns-in-Unreachable-clause-fills : goal.returns-in-Unreachable-clause-fills
-returns-in-Unreachable-clause-fills c = λ s knows. rw c.in-Unreachable.is (record { change = λ i. i; turns = unreachable_turns s; data_is = changed_by_none (data_of c.args.module.now) c.args.number (λ i. i) (λ i. refl) })
+returns-in-Unreachable-clause-fills c = λ s knows. rw c.in-Unreachable.is (record { change = λ i. i; turns = unreachable_turns s; data_is = changed_by_none (data_of c.args.draft.now) c.args.number (λ i. i) (λ i. refl) })

@@ -14,28 +14,28 @@ pub fill_both-requires-clause-lhs : goal.fill_both-requires-clause-lhs
 fill_both-requires-clause-lhs c =
     let o = c.requires.open in
     let i = c.in-Add in
-    (add_waits c.args.module.now c.args.scope.now o.0 c.args.number (name_view i.name) i.nuw i.nsw (text_of i.ty) (text_of i.lhs) (text_of i.rhs) o.1 (subst (λ t. IsOpen c.args.module.now o.0 c.args.number (inst_view t)) i.is o.2)).0
+    (add_waits c.args.draft.now c.args.scope.now o.0 c.args.number (name_view i.name) i.nuw i.nsw (text_of i.ty) (text_of i.lhs) (text_of i.rhs) o.1 (subst (λ t. IsOpen c.args.draft.now o.0 c.args.number (inst_view t)) i.is o.2)).0
 
 pub fill_both-requires-clause-rhs : goal.fill_both-requires-clause-rhs
 fill_both-requires-clause-rhs c =
     let o = c.requires.open in
     let i = c.in-Add in
-    (add_waits c.args.module.now c.args.scope.now o.0 c.args.number (name_view i.name) i.nuw i.nsw (text_of i.ty) (text_of i.lhs) (text_of i.rhs) o.1 (subst (λ t. IsOpen c.args.module.now o.0 c.args.number (inst_view t)) i.is o.2)).1
+    (add_waits c.args.draft.now c.args.scope.now o.0 c.args.number (name_view i.name) i.nuw i.nsw (text_of i.ty) (text_of i.lhs) (text_of i.rhs) o.1 (subst (λ t. IsOpen c.args.draft.now o.0 c.args.number (inst_view t)) i.is o.2)).1
 
 pub fill_both-requires-in-ICmp-clause-lhs : goal.fill_both-requires-in-ICmp-clause-lhs
 fill_both-requires-in-ICmp-clause-lhs c =
     let o = c.requires.open in
     let i = c.in-ICmp in
-    (icmp_waits c.args.module.now c.args.scope.now o.0 c.args.number (name_view i.name) (text_of i.predicate) (text_of i.ty) (text_of i.lhs) (text_of i.rhs) o.1 (subst (λ t. IsOpen c.args.module.now o.0 c.args.number (inst_view t)) i.is o.2)).0
+    (icmp_waits c.args.draft.now c.args.scope.now o.0 c.args.number (name_view i.name) (text_of i.predicate) (text_of i.ty) (text_of i.lhs) (text_of i.rhs) o.1 (subst (λ t. IsOpen c.args.draft.now o.0 c.args.number (inst_view t)) i.is o.2)).0
 
 pub fill_both-requires-in-ICmp-clause-rhs : goal.fill_both-requires-in-ICmp-clause-rhs
 fill_both-requires-in-ICmp-clause-rhs c =
     let o = c.requires.open in
     let i = c.in-ICmp in
-    (icmp_waits c.args.module.now c.args.scope.now o.0 c.args.number (name_view i.name) (text_of i.predicate) (text_of i.ty) (text_of i.lhs) (text_of i.rhs) o.1 (subst (λ t. IsOpen c.args.module.now o.0 c.args.number (inst_view t)) i.is o.2)).1
+    (icmp_waits c.args.draft.now c.args.scope.now o.0 c.args.number (name_view i.name) (text_of i.predicate) (text_of i.ty) (text_of i.lhs) (text_of i.rhs) o.1 (subst (λ t. IsOpen c.args.draft.now o.0 c.args.number (inst_view t)) i.is o.2)).1
 
 pub add_entries-requires-clause-ready : goal.add_entries-requires-clause-ready
-add_entries-requires-clause-ready c = ready_kept _ c.args.module.now c.add_entry.new.module c.args.scope.now c.in_ok-add_entry-in-Phi.ensures.keeps c.requires.ready
+add_entries-requires-clause-ready c = ready_kept _ c.args.draft.now c.add_entry.new.draft c.args.scope.now c.in_ok-add_entry-in-Phi.ensures.keeps c.requires.ready
 
 pub returns-in-Add-clause-fills : goal.returns-in-Add-clause-fills
 returns-in-Add-clause-fills c = λ s knows.
@@ -52,11 +52,11 @@ returns-in_ok-add_entry-in-Phi-clause-fills c = on_ok_weaker c.add_entries.resul
     let i = c.in-Phi in
     let v = c.as_slice.ensures.value in
     let more = rw v at (adds s knows) in
-    let all = entries_then s c.in-Some.width c.args.number (incoming_view i.first ∷ []) (map incoming_view i.more.items) c.args.module.now c.add_entry.new.module c.add_entries.new.module (c.in_ok-add_entry-in-Phi.ensures.adds s knows) more in
+    let all = entries_then s c.in-Some.width c.args.number (incoming_view i.first ∷ []) (map incoming_view i.more.items) c.args.draft.now c.add_entry.new.draft c.add_entries.new.draft (c.in_ok-add_entry-in-Phi.ensures.adds s knows) more in
     rw c.in-Phi.is (record { change = _; turns = phi_turns s (name_view i.name) (text_of i.ty) (incoming_view i.first) (map incoming_view i.more.items) c.in-Some.width all.entries c.in-Some.ensures.width all.says; data_is = all.data_is })) c.add_entries.ensures.adds
 
 pub returns-in_ok-add_entry-in-Phi-clause-keeps : goal.returns-in_ok-add_entry-in-Phi-clause-keeps
-returns-in_ok-add_entry-in-Phi-clause-keeps c = on_ok_weaker c.add_entries.result (λ keeps. keeps_then c.args.module.now c.add_entry.new.module c.add_entries.new.module c.in_ok-add_entry-in-Phi.ensures.keeps keeps) c.add_entries.ensures.keeps
+returns-in_ok-add_entry-in-Phi-clause-keeps c = on_ok_weaker c.add_entries.result (λ keeps. keeps_then c.args.draft.now c.add_entry.new.draft c.add_entries.new.draft c.in_ok-add_entry-in-Phi.ensures.keeps keeps) c.add_entries.ensures.keeps
 
 pub returns-in_default-clause-not_yet : goal.returns-in_default-clause-not_yet
 returns-in_default-clause-not_yet c = λ e s knows.

@@ -10,7 +10,7 @@ use Rattle.ll_text.proofs.filling.fill_insts.Given as goal
 abbrev pub invariant-loop-inst : goal.invariant-loop-inst
 invariant-loop-inst l = record {
   next : l.next ≡ l.number + l.inst-index;
-  fills : (s : Scope) → Knows l.scope s → FillsInsts s l.number (map inst_view (take l.inst-index l.insts)) l.fn.module l.module;
-  keeps : Keeps l.fn.module l.module;
-  same : length l.module.insts ≡ length l.fn.module.insts;
+  fills : (s : Scope) → Knows l.scope s → FillsInsts s l.number (map inst_view (take l.inst-index l.insts)) l.fn.draft l.draft;
+  keeps : Keeps l.fn.draft l.draft;
+  same : length l.draft.insts ≡ length l.fn.draft.insts;
 }

@@ -10,16 +10,16 @@ use Rattle.ll_text.proofs.RefusalLaws.{passed_on}
 use Rattle.ll_text.proofs.filling.fill_more.Goals as goal
 
 pub loop-block-init : goal.loop-block-init
-loop-block-init c = record { next = refl; fills = λ s knows. no_body_filled s c.args.number c.args.module.now; keeps = keeps_self c.args.module.now c.requires.ready.sound; same = refl }
+loop-block-init c = record { next = refl; fills = λ s knows. no_body_filled s c.args.number c.args.draft.now; keeps = keeps_self c.args.draft.now c.requires.ready.sound; same = refl }
 
 pub fill_block-requires-clause-ready : goal.fill_block-requires-clause-ready
-fill_block-requires-clause-ready c = ready_kept _ c.args.module.now c.loop-block.module c.args.scope.now c.loop-block.invariant.keeps c.requires.ready
+fill_block-requires-clause-ready c = ready_kept _ c.args.draft.now c.loop-block.draft c.args.scope.now c.loop-block.invariant.keeps c.requires.ready
 
 pub fill_block-requires-clause-open : goal.fill_block-requires-clause-open
 fill_block-requires-clause-open c =
     let o = c.requires.open in
     let i = c.loop-block.invariant in
-    (o.0, o.1, body_open block_view c.args.blocks.now c.args.module.now c.loop-block.module o.0 c.args.number c.loop-block.next c.loop-block.block-index c.block-item.result c.loop-block-test.true c.block-item.is i.next i.keeps o.2)
+    (o.0, o.1, body_open block_view c.args.blocks.now c.args.draft.now c.loop-block.draft o.0 c.args.number c.loop-block.next c.loop-block.block-index c.block-item.result c.loop-block-test.true c.block-item.is i.next i.keeps o.2)
 
 pub loop-block-preserved : goal.loop-block-preserved
 loop-block-preserved c =
@@ -27,8 +27,8 @@ loop-block-preserved c =
     let e = c.in_ok-next.ensures in
     record {
       next = e.behind ∙ behind_more block_view c.args.blocks.now c.args.number c.loop-block.next c.loop-block.block-index c.block-item.result c.loop-block-test.true c.block-item.is i.next;
-      fills = bodies_more block_view c.args.blocks.now c.args.scope.now c.args.number c.loop-block.next c.loop-block.block-index c.block-item.result c.args.module.now c.loop-block.module c.fill_block.new.module c.loop-block-test.true c.block-item.is i.next i.fills e.fills;
-      keeps = keeps_then c.args.module.now c.loop-block.module c.fill_block.new.module i.keeps e.keeps;
+      fills = bodies_more block_view c.args.blocks.now c.args.scope.now c.args.number c.loop-block.next c.loop-block.block-index c.block-item.result c.args.draft.now c.loop-block.draft c.fill_block.new.draft c.loop-block-test.true c.block-item.is i.next i.fills e.fills;
+      keeps = keeps_then c.args.draft.now c.loop-block.draft c.fill_block.new.draft i.keeps e.keeps;
       same = e.same ∙ i.same;
     }
 

@@ -11,7 +11,7 @@ use Rattle.ll_text.proofs.filling.fill_more.Given as goal
 abbrev pub invariant-loop-block : goal.invariant-loop-block
 invariant-loop-block l = record {
   next : l.next ≡ behind_all l.number (map block_view (take l.block-index l.blocks));
-  fills : (s : Scope) → Knows l.scope s → FillsBodies s l.number (map block_view (take l.block-index l.blocks)) l.fn.module l.module;
-  keeps : Keeps l.fn.module l.module;
-  same : length l.module.insts ≡ length l.fn.module.insts;
+  fills : (s : Scope) → Knows l.scope s → FillsBodies s l.number (map block_view (take l.block-index l.blocks)) l.fn.draft l.draft;
+  keeps : Keeps l.fn.draft l.draft;
+  same : length l.draft.insts ≡ length l.fn.draft.insts;
 }

@@ -14,22 +14,22 @@ pub build_end-requires-clause-block : goal.build_end-requires-clause-block
 build_end-requires-clause-block c = let k = c.in_ok-build_insts.ensures.keeps in let e = k.blocks in omega (arith, e, c.requires.block)
 
 pub build_end-requires-clause-ready : goal.build_end-requires-clause-ready
-build_end-requires-clause-ready c = ready_kept _ c.args.module.now c.build_insts.new.module c.args.scope.now c.in_ok-build_insts.ensures.keeps c.requires.ready
+build_end-requires-clause-ready c = ready_kept _ c.args.draft.now c.build_insts.new.draft c.args.scope.now c.in_ok-build_insts.ensures.keeps c.requires.ready
 
 pub returns-clause-adds : goal.returns-clause-adds
 returns-clause-adds c = on_ok_weaker c.build_end.result (λ adds s knows.
     let e = rw c.as_slice.ensures.value at c.in_ok-build_insts.ensures in
     let many = length-map c.args.block.now.insts.items inst_view in
-    body_added s (block_view c.args.block.now) c.args.number.0 c.args.module.now c.build_insts.new.module c.build_end.new.module (let x = e.count in omega (arith, x, many)) (e.adds s knows) (adds s knows)) c.build_end.ensures.adds
+    body_added s (block_view c.args.block.now) c.args.number.0 c.args.draft.now c.build_insts.new.draft c.build_end.new.draft (let x = e.count in omega (arith, x, many)) (e.adds s knows) (adds s knows)) c.build_end.ensures.adds
 
 pub returns-clause-built : goal.returns-clause-built
 returns-clause-built c = on_ok_both c.build_end.result c.build_end.ensures.built c.build_end.ensures.keeps (λ built keeps.
     let e = rw c.as_slice.ensures.value at c.in_ok-build_insts.ensures in
     let many = length-map c.args.block.now.insts.items inst_view in
-    body_built _ _ (block_view c.args.block.now) c.build_insts.new.module c.build_end.new.module (let x = e.count in omega (arith, x, many)) keeps e.built built)
+    body_built _ _ (block_view c.args.block.now) c.build_insts.new.draft c.build_end.new.draft (let x = e.count in omega (arith, x, many)) keeps e.built built)
 
 pub returns-clause-keeps : goal.returns-clause-keeps
-returns-clause-keeps c = on_ok_weaker c.build_end.result (λ keeps. keeps_then c.args.module.now c.build_insts.new.module c.build_end.new.module c.in_ok-build_insts.ensures.keeps keeps) c.build_end.ensures.keeps
+returns-clause-keeps c = on_ok_weaker c.build_end.result (λ keeps. keeps_then c.args.draft.now c.build_insts.new.draft c.build_end.new.draft c.in_ok-build_insts.ensures.keeps keeps) c.build_end.ensures.keeps
 
 pub returns-clause-count : goal.returns-clause-count
 returns-clause-count c = on_ok_weaker c.build_end.result (λ count.

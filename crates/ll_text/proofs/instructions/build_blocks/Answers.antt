@@ -9,7 +9,7 @@ use Rattle.ll_text.proofs.RefusalLaws.{passed_on}
 use Rattle.ll_text.proofs.instructions.build_blocks.Goals as goal
 
 pub build_more-requires-clause-ready : goal.build_more-requires-clause-ready
-build_more-requires-clause-ready c = ready_kept _ c.args.module.now c.build_block.new.module c.args.scope.now c.in_ok-build_block.ensures.keeps c.requires.ready
+build_more-requires-clause-ready c = ready_kept _ c.args.draft.now c.build_block.new.draft c.args.scope.now c.in_ok-build_block.ensures.keeps c.requires.ready
 
 pub returns-clause-adds : goal.returns-clause-adds
 returns-clause-adds c = on_ok_weaker c.build_more.result (λ adds s knows.
@@ -17,7 +17,7 @@ returns-clause-adds c = on_ok_weaker c.build_more.result (λ adds s knows.
     let v = c.as_slice.ensures.value in
     let e = c.in_ok-build_block.ensures in
     let more = rw v at (adds s knows) in
-    entry_added s f.entry f.more c.args.number c.in_ok-next_number.field-0 c.args.module.now c.build_block.new.module c.build_more.new.module c.in_ok-next_number.ensures.next e.count (e.adds s knows) more) c.build_more.ensures.adds
+    entry_added s f.entry f.more c.args.number c.in_ok-next_number.field-0 c.args.draft.now c.build_block.new.draft c.build_more.new.draft c.in_ok-next_number.ensures.next e.count (e.adds s knows) more) c.build_more.ensures.adds
 
 pub returns-clause-built : goal.returns-clause-built
 returns-clause-built c = on_ok_both c.build_more.result c.build_more.ensures.built c.build_more.ensures.keeps (λ built keeps.
@@ -25,10 +25,10 @@ returns-clause-built c = on_ok_both c.build_more.result c.build_more.ensures.bui
     let v = c.as_slice.ensures.value in
     let e = c.in_ok-build_block.ensures in
     let more = rw v at built in
-    entry_built _ _ f.entry f.more c.build_block.new.module c.build_more.new.module e.count keeps e.built more)
+    entry_built _ _ f.entry f.more c.build_block.new.draft c.build_more.new.draft e.count keeps e.built more)
 
 pub returns-clause-keeps : goal.returns-clause-keeps
-returns-clause-keeps c = on_ok_weaker c.build_more.result (λ keeps. keeps_then c.args.module.now c.build_block.new.module c.build_more.new.module c.in_ok-build_block.ensures.keeps keeps) c.build_more.ensures.keeps
+returns-clause-keeps c = on_ok_weaker c.build_more.result (λ keeps. keeps_then c.args.draft.now c.build_block.new.draft c.build_more.new.draft c.in_ok-build_block.ensures.keeps keeps) c.build_more.ensures.keeps
 
 pub returns-in_err-build_block-clause-not_yet : goal.returns-in_err-build_block-clause-not_yet
 returns-in_err-build_block-clause-not_yet c = λ e s knows.

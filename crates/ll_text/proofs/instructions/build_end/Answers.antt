@@ -11,7 +11,7 @@ pub returns-clause-adds : goal.returns-clause-adds
 returns-clause-adds c = λ s knows.
     let m = c.in_ok-made.ensures in
     let e = c.in_ok-build.ensures in
-    end_added s (terminator_view c.args.end.now) c.args.module.now c.make_end.new.module c.build.new.self c.args.block c.in_ok-build.field-0 _ c.in_ok-made.made m.rest m.made (m.says s knows)
+    end_added s (terminator_view c.args.end.now) c.args.draft.now c.make_end.new.draft c.build.new.self c.args.block c.in_ok-build.field-0 _ c.in_ok-made.made m.rest m.made (m.says s knows)
     (record { ty = e.ok.0; result = e.ok.1; is = e.ok.2; sound = e.sound }) e.number e.data refl
 
 pub returns-clause-built : goal.returns-clause-built
@@ -20,11 +20,11 @@ returns-clause-built c =
     let e = c.in_ok-build.ensures in
     let count = ap (λ (x : Module). length x.insts) m.rest.rest in
     subst (λ (k : ℕ). HasEndSlots c.build.new.self k (terminator_view c.args.end.now)) (e.number ∙ count)
-    (end_built (terminator_view c.args.end.now) c.make_end.new.module c.build.new.self c.args.block c.in_ok-build.field-0 _ c.in_ok-made.made m.made (record { ty = e.ok.0; result = e.ok.1; is = e.ok.2; sound = e.sound }) e.number)
+    (end_built (terminator_view c.args.end.now) c.make_end.new.draft c.build.new.self c.args.block c.in_ok-build.field-0 _ c.in_ok-made.made m.made (record { ty = e.ok.0; result = e.ok.1; is = e.ok.2; sound = e.sound }) e.number)
 
 pub returns-clause-keeps : goal.returns-clause-keeps
 returns-clause-keeps c =
     let m = c.in_ok-made.ensures in
     let e = c.in_ok-build.ensures in
-    keeps_then c.args.module.now c.make_end.new.module c.build.new.self (interns_keep _ _ m.rest c.requires.ready.sound)
-    (build_keeps c.make_end.new.module c.build.new.self c.args.block c.in_ok-build.field-0 _ c.in_ok-made.made (record { ty = e.ok.0; result = e.ok.1; is = e.ok.2; sound = e.sound }))
+    keeps_then c.args.draft.now c.make_end.new.draft c.build.new.self (interns_keep _ _ m.rest c.requires.ready.sound)
+    (build_keeps c.make_end.new.draft c.build.new.self c.args.block c.in_ok-build.field-0 _ c.in_ok-made.made (record { ty = e.ok.0; result = e.ok.1; is = e.ok.2; sound = e.sound }))

@@ -14,7 +14,7 @@ pub returns-clause-adds : goal.returns-clause-adds
 returns-clause-adds c = λ s knows.
     let m = c.in_ok-made.ensures in
     let e = c.in_ok-build.ensures in
-    inst_added s (inst_view c.args.inst.now) c.args.module.now c.make_inst.new.module c.build.new.self c.args.block c.in_ok-build.field-0 _ c.in_ok-made.made m.rest (m.rest.sound c.requires.ready.sound) m.made (m.says s knows)
+    inst_added s (inst_view c.args.inst.now) c.args.draft.now c.make_inst.new.draft c.build.new.self c.args.block c.in_ok-build.field-0 _ c.in_ok-made.made m.rest (m.rest.sound c.requires.ready.sound) m.made (m.says s knows)
     (record { ty = e.ok.0; result = e.ok.1; is = e.ok.2; sound = e.sound }) e.number e.data (c.result_name.ensures ∙ ap (λ o. name_said (optional_key is_plain 64 (local_key is_plain 64) o)) c.written_name.ensures)
 
 pub returns-clause-built : goal.returns-clause-built
@@ -23,11 +23,11 @@ returns-clause-built c =
     let e = c.in_ok-build.ensures in
     let count = ap (λ (x : Module). length x.insts) m.rest.rest in
     subst (λ (k : ℕ). IsBuilt c.build.new.self k (inst_view c.args.inst.now)) (e.number ∙ count)
-    (inst_built (inst_view c.args.inst.now) c.make_inst.new.module c.build.new.self c.args.block c.in_ok-build.field-0 _ c.in_ok-made.made m.made (record { ty = e.ok.0; result = e.ok.1; is = e.ok.2; sound = e.sound }) e.number)
+    (inst_built (inst_view c.args.inst.now) c.make_inst.new.draft c.build.new.self c.args.block c.in_ok-build.field-0 _ c.in_ok-made.made m.made (record { ty = e.ok.0; result = e.ok.1; is = e.ok.2; sound = e.sound }) e.number)
 
 pub returns-clause-keeps : goal.returns-clause-keeps
 returns-clause-keeps c =
     let m = c.in_ok-made.ensures in
     let e = c.in_ok-build.ensures in
-    keeps_then c.args.module.now c.make_inst.new.module c.build.new.self (interns_keep _ _ m.rest c.requires.ready.sound)
-    (build_keeps c.make_inst.new.module c.build.new.self c.args.block c.in_ok-build.field-0 _ c.in_ok-made.made (record { ty = e.ok.0; result = e.ok.1; is = e.ok.2; sound = e.sound }))
+    keeps_then c.args.draft.now c.make_inst.new.draft c.build.new.self (interns_keep _ _ m.rest c.requires.ready.sound)
+    (build_keeps c.make_inst.new.draft c.build.new.self c.args.block c.in_ok-build.field-0 _ c.in_ok-made.made (record { ty = e.ok.0; result = e.ok.1; is = e.ok.2; sound = e.sound }))

@@ -8,22 +8,22 @@ use Rattle.ll_text.proofs.RefusalLaws.{passed_on}
 use Rattle.ll_text.proofs.instructions.build_insts.Goals as goal
 
 pub loop-inst-init : goal.loop-inst-init
-loop-inst-init c = record { adds = λ s knows. none_added s c.args.block.0 c.args.module.now; built = tt; keeps = keeps_self c.args.module.now c.requires.ready.sound; count = omega arith }
+loop-inst-init c = record { adds = λ s knows. none_added s c.args.block.0 c.args.draft.now; built = tt; keeps = keeps_self c.args.draft.now c.requires.ready.sound; count = omega arith }
 
 pub build_inst-requires-clause-block : goal.build_inst-requires-clause-block
 build_inst-requires-clause-block c = let k = c.loop-inst.invariant.keeps in let e = k.blocks in omega (arith, e, c.requires.block)
 
 pub build_inst-requires-clause-ready : goal.build_inst-requires-clause-ready
-build_inst-requires-clause-ready c = ready_kept _ c.args.module.now c.loop-inst.module c.args.scope.now c.loop-inst.invariant.keeps c.requires.ready
+build_inst-requires-clause-ready c = ready_kept _ c.args.draft.now c.loop-inst.draft c.args.scope.now c.loop-inst.invariant.keeps c.requires.ready
 
 pub loop-inst-preserved : goal.loop-inst-preserved
 loop-inst-preserved c =
     let i = c.loop-inst.invariant in
     let e = c.in_ok-build_inst.ensures in
     record {
-      adds = insts_more inst_view c.args.insts.now c.args.scope.now c.args.block.0 c.loop-inst.inst-index c.inst-item.result c.args.module.now c.loop-inst.module c.build_inst.new.module c.loop-inst-test.true c.inst-item.is i.count i.adds e.adds;
-      built = insts_built inst_view c.args.insts.now c.loop-inst.inst-index c.inst-item.result _ _ c.loop-inst.module c.build_inst.new.module c.loop-inst-test.true c.inst-item.is i.count e.keeps i.built e.built;
-      keeps = keeps_then c.args.module.now c.loop-inst.module c.build_inst.new.module i.keeps e.keeps;
+      adds = insts_more inst_view c.args.insts.now c.args.scope.now c.args.block.0 c.loop-inst.inst-index c.inst-item.result c.args.draft.now c.loop-inst.draft c.build_inst.new.draft c.loop-inst-test.true c.inst-item.is i.count i.adds e.adds;
+      built = insts_built inst_view c.args.insts.now c.loop-inst.inst-index c.inst-item.result _ _ c.loop-inst.draft c.build_inst.new.draft c.loop-inst-test.true c.inst-item.is i.count e.keeps i.built e.built;
+      keeps = keeps_then c.args.draft.now c.loop-inst.draft c.build_inst.new.draft i.keeps e.keeps;
       count = let x = i.count in let y = e.count in omega (arith, x, y);
     }
 

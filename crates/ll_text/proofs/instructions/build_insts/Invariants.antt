@@ -10,8 +10,8 @@ use Rattle.ll_text.proofs.instructions.build_insts.Given as goal
 
 abbrev pub invariant-loop-inst : goal.invariant-loop-inst
 invariant-loop-inst l = record {
-  adds : (s : Scope) → Knows l.scope s → AddsInsts s (map inst_view (take l.inst-index l.insts)) l.block.0 l.fn.module l.module;
-  built : EachInst (IsBuilt l.module) (length l.fn.module.insts) (map inst_view (take l.inst-index l.insts));
-  keeps : Keeps l.fn.module l.module;
-  count : length l.module.insts ≡ length l.fn.module.insts + l.inst-index;
+  adds : (s : Scope) → Knows l.scope s → AddsInsts s (map inst_view (take l.inst-index l.insts)) l.block.0 l.fn.draft l.draft;
+  built : EachInst (IsBuilt l.draft) (length l.fn.draft.insts) (map inst_view (take l.inst-index l.insts));
+  keeps : Keeps l.fn.draft l.draft;
+  count : length l.draft.insts ≡ length l.fn.draft.insts + l.inst-index;
 }

@@ -8,7 +8,7 @@ use Rattle.ll_text.proofs.RefusalLaws.{passed_on}
 use Rattle.ll_text.proofs.instructions.build_more.Goals as goal
 
 pub loop-block-init : goal.loop-block-init
-loop-block-init c = record { next = omega arith; adds = λ s knows. no_bodies_added s c.args.number c.args.module.now; built = tt; keeps = keeps_self c.args.module.now c.requires.ready.sound; count = refl }
+loop-block-init c = record { next = omega arith; adds = λ s knows. no_bodies_added s c.args.number c.args.draft.now; built = tt; keeps = keeps_self c.args.draft.now c.requires.ready.sound; count = refl }
 
 pub build_block-requires-clause-block : goal.build_block-requires-clause-block
 build_block-requires-clause-block c =
@@ -19,7 +19,7 @@ build_block-requires-clause-block c =
     omega (arith, e, n, c.requires.blocks, c.loop-block-test.true)
 
 pub build_block-requires-clause-ready : goal.build_block-requires-clause-ready
-build_block-requires-clause-ready c = ready_kept _ c.args.module.now c.loop-block.module c.args.scope.now c.loop-block.invariant.keeps c.requires.ready
+build_block-requires-clause-ready c = ready_kept _ c.args.draft.now c.loop-block.draft c.args.scope.now c.loop-block.invariant.keeps c.requires.ready
 
 pub loop-block-preserved : goal.loop-block-preserved
 loop-block-preserved c =
@@ -27,9 +27,9 @@ loop-block-preserved c =
     let e = c.in_ok-build_block.ensures in
     record {
       next = let n = i.next in let m = c.in_ok-next.ensures.next in omega (arith, n, m);
-      adds = bodies_more block_view c.args.blocks.now c.args.scope.now c.args.number _ c.loop-block.block-index c.block-item.result c.args.module.now c.loop-block.module c.build_block.new.module c.loop-block-test.true c.block-item.is i.next i.count i.adds e.adds;
-      built = bodies_built block_view c.args.blocks.now c.loop-block.block-index c.block-item.result _ _ c.loop-block.module c.build_block.new.module c.loop-block-test.true c.block-item.is i.count e.keeps i.built e.built;
-      keeps = keeps_then c.args.module.now c.loop-block.module c.build_block.new.module i.keeps e.keeps;
+      adds = bodies_more block_view c.args.blocks.now c.args.scope.now c.args.number _ c.loop-block.block-index c.block-item.result c.args.draft.now c.loop-block.draft c.build_block.new.draft c.loop-block-test.true c.block-item.is i.next i.count i.adds e.adds;
+      built = bodies_built block_view c.args.blocks.now c.loop-block.block-index c.block-item.result _ _ c.loop-block.draft c.build_block.new.draft c.loop-block-test.true c.block-item.is i.count e.keeps i.built e.built;
+      keeps = keeps_then c.args.draft.now c.loop-block.draft c.build_block.new.draft i.keeps e.keeps;
       count = e.count ∙ behind_more block_view c.args.blocks.now _ _ c.loop-block.block-index c.block-item.result c.loop-block-test.true c.block-item.is i.count;
     }
 

@@ -11,8 +11,8 @@ use Rattle.ll_text.proofs.instructions.build_more.Given as goal
 abbrev pub invariant-loop-block : goal.invariant-loop-block
 invariant-loop-block l = record {
   next : l.next ≡ l.number + l.block-index;
-  adds : (s : Scope) → Knows l.scope s → AddsBodies s (map block_view (take l.block-index l.blocks)) l.number l.fn.module l.module;
-  built : EachBlock (IsBuilt l.module) (HasEndSlots l.module) (length l.fn.module.insts) (map block_view (take l.block-index l.blocks));
-  keeps : Keeps l.fn.module l.module;
-  count : length l.module.insts ≡ behind_all (length l.fn.module.insts) (map block_view (take l.block-index l.blocks));
+  adds : (s : Scope) → Knows l.scope s → AddsBodies s (map block_view (take l.block-index l.blocks)) l.number l.fn.draft l.draft;
+  built : EachBlock (IsBuilt l.draft) (HasEndSlots l.draft) (length l.fn.draft.insts) (map block_view (take l.block-index l.blocks));
+  keeps : Keeps l.fn.draft l.draft;
+  count : length l.draft.insts ≡ behind_all (length l.fn.draft.insts) (map block_view (take l.block-index l.blocks));
 }

@@ -9,10 +9,10 @@ use Rattle.ll_text.proofs.RefusalLaws.{passed_on}
 use Rattle.ll_text.proofs.phis.add_entries.Goals as goal
 
 pub loop-entry-init : goal.loop-entry-init
-loop-entry-init c = record { adds = λ s knows. no_entries s c.args.width c.args.phi.0 c.args.module.now; keeps = keeps_self c.args.module.now c.requires.ready.sound; same = refl }
+loop-entry-init c = record { adds = λ s knows. no_entries s c.args.width c.args.phi.0 c.args.draft.now; keeps = keeps_self c.args.draft.now c.requires.ready.sound; same = refl }
 
 pub add_entry-requires-clause-ready : goal.add_entry-requires-clause-ready
-add_entry-requires-clause-ready c = ready_kept _ c.args.module.now c.loop-entry.module c.args.scope.now c.loop-entry.invariant.keeps c.requires.ready
+add_entry-requires-clause-ready c = ready_kept _ c.args.draft.now c.loop-entry.draft c.args.scope.now c.loop-entry.invariant.keeps c.requires.ready
 
 pub add_entry-requires-clause-phi : goal.add_entry-requires-clause-phi
 add_entry-requires-clause-phi c = let k = c.loop-entry.invariant.keeps in k.phis c.args.phi.0 c.requires.phi
@@ -22,9 +22,9 @@ loop-entry-preserved c =
     let i = c.loop-entry.invariant in
     let e = c.in_ok-add_entry.ensures in
     record {
-      adds = entries_more incoming_view c.args.entries.now c.args.scope.now c.args.width c.args.phi.0 c.loop-entry.entry-index _ c.args.module.now c.loop-entry.module c.add_entry.new.module c.loop-entry-test.true
+      adds = entries_more incoming_view c.args.entries.now c.args.scope.now c.args.width c.args.phi.0 c.loop-entry.entry-index _ c.args.draft.now c.loop-entry.draft c.add_entry.new.draft c.loop-entry-test.true
           (item_here c.args.entries.now c.loop-entry.entry-index _ _ c.loop-entry-test.true) i.adds e.adds;
-      keeps = keeps_then c.args.module.now c.loop-entry.module c.add_entry.new.module i.keeps e.keeps;
+      keeps = keeps_then c.args.draft.now c.loop-entry.draft c.add_entry.new.draft i.keeps e.keeps;
       same = e.same ∙ i.same;
     }
 

@@ -9,7 +9,7 @@ use Rattle.ll_text.proofs.phis.add_entries.Given as goal
 
 abbrev pub invariant-loop-entry : goal.invariant-loop-entry
 invariant-loop-entry l = record {
-  adds : (s : Scope) → Knows l.scope s → AddsEntries s l.width (map incoming_view (take l.entry-index l.entries)) l.phi.0 l.fn.module l.module;
-  keeps : Keeps l.fn.module l.module;
-  same : length l.module.insts ≡ length l.fn.module.insts;
+  adds : (s : Scope) → Knows l.scope s → AddsEntries s l.width (map incoming_view (take l.entry-index l.entries)) l.phi.0 l.fn.draft l.draft;
+  keeps : Keeps l.fn.draft l.draft;
+  same : length l.draft.insts ≡ length l.fn.draft.insts;
 }

@@ -8,7 +8,7 @@ use Rattle.ll_text.proofs.signatures.param_types.Goals as goal
 pub loop-param-init : goal.loop-param-init
 loop-param-init c = record {
   types = record { widths = []; written = tt; ints = rw c.new-types.ensures tt };
-  rest = none_interned c.args.module.now;
+  rest = none_interned c.args.draft.now;
 }
 
 pub returns-in_err-push_type-clause-not_yet : goal.returns-in_err-push_type-clause-not_yet

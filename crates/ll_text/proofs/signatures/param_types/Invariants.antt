@@ -7,6 +7,6 @@ use Rattle.ll_text.proofs.signatures.param_types.Given as goal
 
 abbrev pub invariant-loop-param : goal.invariant-loop-param
 invariant-loop-param l = record {
-  types : HasParams (map param_view (take l.param-index l.params)) l.module.types l.types;
-  rest : OnlyInterns l.fn.module l.module;
+  types : HasParams (map param_view (take l.param-index l.params)) l.draft.types l.types;
+  rest : OnlyInterns l.fn.draft l.draft;
 }

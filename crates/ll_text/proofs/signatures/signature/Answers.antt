@@ -5,9 +5,9 @@ use Rattle.ll_text.proofs.signatures.signature.Goals as goal
 pub type_get-requires : goal.type_get-requires
 type_get-requires c =
     let only = c.in_ok-params.ensures.rest in
-    type_over c.result_type.new.module.types c.param_types.new.module.types only.more_types _ c.in_ok-result.result _ c.in_ok-params.params only.types c.in_ok-result.ensures.here c.in_ok-params.ensures.types
+    type_over c.result_type.new.draft.types c.param_types.new.draft.types only.more_types _ c.in_ok-result.result _ c.in_ok-params.params only.types c.in_ok-result.ensures.here c.in_ok-params.ensures.types
 
 pub returns-clause-ty : goal.returns-clause-ty
 returns-clause-ty c =
-    signed _ c.result_type.new.module c.param_types.new.module c.type_get.new.self c.args.returns c.in_ok-result.result c.in_ok-ty.ty c.in_ok-params.params
+    signed _ c.result_type.new.draft c.param_types.new.draft c.type_get.new.self c.args.returns c.in_ok-result.result c.in_ok-ty.ty c.in_ok-params.params
     c.in_ok-params.ensures.rest c.in_ok-result.ensures.here c.in_ok-params.ensures.types c.in_ok-ty.ensures.interned c.in_ok-ty.ensures.sound

@@ -43,12 +43,12 @@ other:
   ^0:entry(%0: builtin.integer i32, %1: builtin.integer i32):
     %2 = llvm.constant() {value = builtin.integer <1: i32>} : builtin.integer i32
     %3:c = llvm.icmp(%0, %1) {predicate = ULT} : builtin.integer i1
-    llvm.cond_br(%3)[^1(), ^2()]
-  ^1:less():
+    llvm.cond_br(%3)[^2(), ^1()]
+  ^1:other():
+    llvm.return(%1)
+  ^2:less():
     %4:x = llvm.add(%0, %2) {nuw} : builtin.integer i32
     llvm.return(%4)
-  ^2:other():
-    llvm.return(%1)
   }
 }
 ;; llvm
@@ -57,17 +57,17 @@ source_filename = \"_\"
 define i32 @f(i32 %0, i32 %1) {
 entry_block0:
   %c_v3 = icmp ult i32 %0, %1
-  br i1 %c_v3, label %less_block1, label %other_block2
+  br i1 %c_v3, label %less_block2, label %other_block1
 
-less_block1:
+other_block1:
+  ret i32 %1
+
+less_block2:
   %x_v4 = add nuw i32 %0, 1
   ret i32 %x_v4
-
-other_block2:
-  ret i32 %1
 }
 ;; report
-blocks @f 0 1 2
+blocks @f 0 2 1
 ",
     },
     Row {
@@ -165,22 +165,22 @@ default: unreachable
     %1 = llvm.constant() {value = builtin.integer <0: i8>} : builtin.integer i8
     %2 = llvm.constant() {value = builtin.integer <1: i8>} : builtin.integer i8
     %3 = llvm.constant() {value = builtin.integer <2: i8>} : builtin.integer i8
-    %4 = llvm.constant() {value = builtin.integer <10: i8>} : builtin.integer i8
-    %5 = llvm.constant() {value = builtin.integer <255: i8>} : builtin.integer i8
+    %4 = llvm.constant() {value = builtin.integer <255: i8>} : builtin.integer i8
+    %5 = llvm.constant() {value = builtin.integer <10: i8>} : builtin.integer i8
     %6:is0 = llvm.icmp(%0, %1) {predicate = EQ} : builtin.integer i1
-    llvm.cond_br(%6)[^3(), ^1()]
+    llvm.cond_br(%6)[^5(), ^1()]
   ^1:test1():
     %7:is1 = llvm.icmp(%0, %2) {predicate = EQ} : builtin.integer i1
     llvm.cond_br(%7)[^4(), ^2()]
   ^2:test2():
     %8:is2 = llvm.icmp(%3, %0) {predicate = EQ} : builtin.integer i1
-    llvm.cond_br(%8)[^3(), ^5()]
-  ^3:case0():
-    llvm.return(%4)
-  ^4:case1():
-    llvm.return(%5)
-  ^5:default():
+    llvm.cond_br(%8)[^5(), ^3()]
+  ^3:default():
     llvm.unreachable()
+  ^4:case1():
+    llvm.return(%4)
+  ^5:case0():
+    llvm.return(%5)
   }
 }
 ;; llvm
@@ -189,7 +189,7 @@ source_filename = \"_\"
 define i8 @f(i8 %0) {
 entry_block0:
   %is0_v6 = icmp eq i8 %0, 0
-  br i1 %is0_v6, label %case0_block3, label %test1_block1
+  br i1 %is0_v6, label %case0_block5, label %test1_block1
 
 test1_block1:
   %is1_v7 = icmp eq i8 %0, 1
@@ -197,19 +197,19 @@ test1_block1:
 
 test2_block2:
   %is2_v8 = icmp eq i8 2, %0
-  br i1 %is2_v8, label %case0_block3, label %default_block5
+  br i1 %is2_v8, label %case0_block5, label %default_block3
 
-case0_block3:
-  ret i8 10
+default_block3:
+  unreachable
 
 case1_block4:
   ret i8 -1
 
-default_block5:
-  unreachable
+case0_block5:
+  ret i8 10
 }
 ;; report
-blocks @f 0 1 2 3 4 5
+blocks @f 0 1 2 5 4 3
 ",
     },
     Row {
@@ -225,11 +225,11 @@ define i1 @g(i1 %x) { a: br i1 %x, label %b, label %c b: ret i1 %x c: ret i1 fal
   llvm.func @g : llvm.func <builtin.integer i1 (builtin.integer i1) variadic = false> {linkage = ExternalLinkage} {
   ^0:entry(%0: builtin.integer i1):
     %1 = llvm.constant() {value = builtin.integer <0: i1>} : builtin.integer i1
-    llvm.cond_br(%0)[^1(), ^2()]
-  ^1:b():
-    llvm.return(%0)
-  ^2:c():
+    llvm.cond_br(%0)[^2(), ^1()]
+  ^1:c():
     llvm.return(%1)
+  ^2:b():
+    llvm.return(%0)
   }
 }
 ;; llvm
@@ -245,17 +245,17 @@ b_block1:
 
 define i1 @g(i1 %0) {
 entry_block0:
-  br i1 %0, label %b_block1, label %c_block2
+  br i1 %0, label %b_block2, label %c_block1
 
-b_block1:
-  ret i1 %0
-
-c_block2:
+c_block1:
   ret i1 false
+
+b_block2:
+  ret i1 %0
 }
 ;; report
 blocks @f 0 1
-blocks @g 0 1 2
+blocks @g 0 2 1
 ",
     },
     Row {
@@ -322,16 +322,16 @@ c:
     %3 = llvm.constant() {value = builtin.integer <0: i1>} : builtin.integer i1
     %4 = llvm.constant() {value = builtin.integer <3: i8>} : builtin.integer i8
     %5 = llvm.constant() {value = builtin.integer <255: i8>} : builtin.integer i8
-    llvm.cond_br(%0)[^1(), ^2()]
+    llvm.cond_br(%0)[^1(), ^3()]
   ^1:a():
     %6:x = llvm.add(%1, %2) : builtin.integer i64
-    llvm.cond_br(%3)[^2(), ^3()]
-  ^2:b():
-    llvm.return(%2)
-  ^3:c():
+    llvm.cond_br(%3)[^3(), ^2()]
+  ^2:c():
     %7:y = llvm.icmp(%4, %5) {predicate = SGT} : builtin.integer i1
     %8:z = llvm.icmp(%7, %0) {predicate = EQ} : builtin.integer i1
     llvm.return(%6)
+  ^3:b():
+    llvm.return(%2)
   }
 }
 ;; llvm
@@ -339,22 +339,22 @@ source_filename = \"_\"
 
 define i64 @f() {
 entry_block0:
-  br i1 true, label %a_block1, label %b_block2
+  br i1 true, label %a_block1, label %b_block3
 
 a_block1:
   %x_v6 = add i64 3, 1
-  br i1 false, label %b_block2, label %c_block3
+  br i1 false, label %b_block3, label %c_block2
 
-b_block2:
-  ret i64 1
-
-c_block3:
+c_block2:
   %y_v7 = icmp sgt i8 3, -1
   %z_v8 = icmp eq i1 %y_v7, true
   ret i64 %x_v6
+
+b_block3:
+  ret i64 1
 }
 ;; report
-blocks @f 0 1 2 3
+blocks @f 0 1 3 2
 ",
     },
     Row {

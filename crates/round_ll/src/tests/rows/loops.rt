@@ -260,17 +260,17 @@ exit: ret i32 %x
         out: "builtin.module @_ {
   llvm.func @f : llvm.func <builtin.integer i32 (builtin.integer i32, builtin.integer i1, builtin.integer i1) variadic = false> {linkage = ExternalLinkage} {
   ^0:entry(%0: builtin.integer i32, %1: builtin.integer i1, %2: builtin.integer i1):
-    %3 = llvm.constant() {value = builtin.integer <1: i32>} : builtin.integer i32
-    %4 = llvm.constant() {value = builtin.integer <2: i32>} : builtin.integer i32
+    %3 = llvm.constant() {value = builtin.integer <2: i32>} : builtin.integer i32
+    %4 = llvm.constant() {value = builtin.integer <1: i32>} : builtin.integer i32
     llvm.br()[^1(%0)]
   ^1:head(%5: builtin.integer i32):
-    llvm.cond_br(%1)[^2(), ^3()]
-  ^2:left():
-    %6:y = llvm.add(%5, %3) : builtin.integer i32
-    llvm.cond_br(%2)[^1(%6), ^4()]
-  ^3:right():
-    %7:z = llvm.add(%5, %4) : builtin.integer i32
-    llvm.cond_br(%2)[^4(), ^1(%7)]
+    llvm.cond_br(%1)[^3(), ^2()]
+  ^2:right():
+    %6:z = llvm.add(%5, %3) : builtin.integer i32
+    llvm.cond_br(%2)[^4(), ^1(%6)]
+  ^3:left():
+    %7:y = llvm.add(%5, %4) : builtin.integer i32
+    llvm.cond_br(%2)[^1(%7), ^4()]
   ^4:exit():
     llvm.return(%5)
   }
@@ -283,22 +283,22 @@ entry_block0:
   br label %head_block1
 
 head_block1:
-  %v5 = phi i32 [ %0, %entry_block0 ], [ %y_v6, %left_block2 ], [ %z_v7, %right_block3 ]
-  br i1 %1, label %left_block2, label %right_block3
+  %v5 = phi i32 [ %0, %entry_block0 ], [ %z_v6, %right_block2 ], [ %y_v7, %left_block3 ]
+  br i1 %1, label %left_block3, label %right_block2
 
-left_block2:
-  %y_v6 = add i32 %v5, 1
-  br i1 %2, label %head_block1, label %exit_block4
-
-right_block3:
-  %z_v7 = add i32 %v5, 2
+right_block2:
+  %z_v6 = add i32 %v5, 2
   br i1 %2, label %exit_block4, label %head_block1
+
+left_block3:
+  %y_v7 = add i32 %v5, 1
+  br i1 %2, label %head_block1, label %exit_block4
 
 exit_block4:
   ret i32 %v5
 }
 ;; report
-blocks @f 0 1 2 3 4
+blocks @f 0 1 3 2 4
 ",
     },
     Row {

@@ -21,17 +21,17 @@ end:
         out: "builtin.module @_ {
   llvm.func @f : llvm.func <builtin.integer i32 (builtin.integer i32, builtin.integer i1) variadic = false> {linkage = ExternalLinkage} {
   ^0:entry(%0: builtin.integer i32, %1: builtin.integer i1):
-    llvm.cond_br(%1)[^1(), ^2()]
+    llvm.cond_br(%1)[^4(), ^1()]
   ^1():
-    llvm.br()[^3()]
+    llvm.br()[^2()]
   ^2():
-    llvm.br()[^4()]
+    llvm.br()[^3()]
   ^3():
-    llvm.cond_br(%1)[^5(), ^6()]
-  ^4():
-    llvm.br()[^7()]
-  ^5():
     llvm.br()[^8()]
+  ^4():
+    llvm.br()[^5()]
+  ^5():
+    llvm.cond_br(%1)[^7(), ^6()]
   ^6():
     llvm.br()[^8()]
   ^7():
@@ -47,22 +47,22 @@ source_filename = \"_\"
 
 define i32 @f(i32 %0, i1 %1) {
 entry_block0:
-  br i1 %1, label %block1, label %block2
+  br i1 %1, label %block4, label %block1
 
 block1:
-  br label %block3
+  br label %block2
 
 block2:
-  br label %block4
+  br label %block3
 
 block3:
-  br i1 %1, label %block5, label %block6
+  br label %block8
 
 block4:
-  br label %block7
+  br label %block5
 
 block5:
-  br label %block8
+  br i1 %1, label %block7, label %block6
 
 block6:
   br label %block8
@@ -77,7 +77,7 @@ end_block9:
   ret i32 %0
 }
 ;; report
-blocks @f 0 1 2 3 4 5 6 7 8 9
+blocks @f 0 4 1 5 2 7 6 3 8 9
 ",
     },
     Row {
@@ -88,11 +88,11 @@ blocks @f 0 1 2 3 4 5 6 7 8 9
     %1 = llvm.constant() {value = builtin.integer <0: i32>} : builtin.integer i32
     %2 = llvm.constant() {value = builtin.integer <1: i32>} : builtin.integer i32
     %3 = llvm.icmp(%0, %1) {predicate = NE} : builtin.integer i1
-    llvm.cond_br(%3)[^1(), ^2()]
+    llvm.cond_br(%3)[^2(), ^1()]
   ^1():
-    llvm.return(%2)
-  ^2():
     llvm.return(%0)
+  ^2():
+    llvm.return(%2)
   }
 }
 ;; llvm
@@ -101,16 +101,16 @@ source_filename = \"_\"
 define i32 @f(i32 %0) {
 entry_block0:
   %v3 = icmp ne i32 %0, 0
-  br i1 %v3, label %block1, label %block2
+  br i1 %v3, label %block2, label %block1
 
 block1:
-  ret i32 1
+  ret i32 %0
 
 block2:
-  ret i32 %0
+  ret i32 1
 }
 ;; report
-blocks @f 0 1 2
+blocks @f 0 2 1
 ",
     },
     Row {
@@ -118,13 +118,13 @@ blocks @f 0 1 2
         out: "builtin.module @_ {
   llvm.func @br : llvm.func <llvm.void (builtin.integer i1) variadic = false> {linkage = ExternalLinkage} {
   ^0:entry(%0: builtin.integer i1):
-    llvm.cond_br(%0)[^1(), ^3()]
-  ^1:label():
-    llvm.unreachable()
-  ^2():
-    llvm.unreachable()
-  ^3:ret():
+    llvm.cond_br(%0)[^2(), ^1()]
+  ^1:ret():
     llvm.return()
+  ^2:label():
+    llvm.unreachable()
+  ^3():
+    llvm.unreachable()
   ^4():
     llvm.return()
   }
@@ -134,22 +134,22 @@ source_filename = \"_\"
 
 define void @br(i1 %0) {
 entry_block0:
-  br i1 %0, label %label_block1, label %ret_block3
+  br i1 %0, label %label_block2, label %ret_block1
 
-label_block1:
-  unreachable
-
-block2:
-  unreachable
-
-ret_block3:
+ret_block1:
   ret void
+
+label_block2:
+  unreachable
+
+block3:
+  unreachable
 
 block4:
   ret void
 }
 ;; report
-blocks @br 0 1 2 3 4
+blocks @br 0 2 3 1 4
 ",
     },
     Row {
@@ -288,22 +288,22 @@ b:
         out: "builtin.module @_ {
   llvm.func @f : llvm.func <builtin.integer i32 (builtin.integer i32, builtin.integer i1) variadic = false> {linkage = ExternalLinkage} {
   ^0:entry(%0: builtin.integer i32, %1: builtin.integer i1):
-    %2 = llvm.constant() {value = builtin.integer <7: i32>} : builtin.integer i32
-    %3 = llvm.constant() {value = builtin.integer <8: i32>} : builtin.integer i32
-    llvm.cond_br(%1)[^1(), ^2()]
-  ^1():
+    %2 = llvm.constant() {value = builtin.integer <8: i32>} : builtin.integer i32
+    %3 = llvm.constant() {value = builtin.integer <7: i32>} : builtin.integer i32
+    llvm.cond_br(%1)[^5(), ^1()]
+  ^1:b():
     %4 = llvm.add(%0, %2) : builtin.integer i32
+    llvm.br()[^2(%4)]
+  ^2(%5: builtin.integer i32):
+    %6 = llvm.icmp(%5, %0) {predicate = EQ} : builtin.integer i1
+    llvm.cond_br(%6)[^4(), ^3()]
+  ^3():
     llvm.return(%4)
-  ^2:b():
-    %5 = llvm.add(%0, %3) : builtin.integer i32
-    llvm.br()[^3(%5)]
-  ^3(%6: builtin.integer i32):
-    %7 = llvm.icmp(%6, %0) {predicate = EQ} : builtin.integer i1
-    llvm.cond_br(%7)[^4(), ^5()]
   ^4():
-    llvm.return(%6)
-  ^5():
     llvm.return(%5)
+  ^5():
+    %7 = llvm.add(%0, %3) : builtin.integer i32
+    llvm.return(%7)
   }
 }
 ;; llvm
@@ -311,29 +311,29 @@ source_filename = \"_\"
 
 define i32 @f(i32 %0, i1 %1) {
 entry_block0:
-  br i1 %1, label %block1, label %b_block2
+  br i1 %1, label %block5, label %b_block1
 
-block1:
-  %v4 = add i32 %0, 7
-  ret i32 %v4
+b_block1:
+  %v4 = add i32 %0, 8
+  br label %block2
 
-b_block2:
-  %v5 = add i32 %0, 8
-  br label %block3
+block2:
+  %v5 = phi i32 [ %v4, %b_block1 ]
+  %v6 = icmp eq i32 %v5, %0
+  br i1 %v6, label %block4, label %block3
 
 block3:
-  %v6 = phi i32 [ %v5, %b_block2 ]
-  %v7 = icmp eq i32 %v6, %0
-  br i1 %v7, label %block4, label %block5
+  ret i32 %v4
 
 block4:
-  ret i32 %v6
+  ret i32 %v5
 
 block5:
-  ret i32 %v5
+  %v7 = add i32 %0, 7
+  ret i32 %v7
 }
 ;; report
-blocks @f 0 1 2 3 4 5
+blocks @f 0 5 1 2 4 3
 ",
     },
     Row {
@@ -353,17 +353,17 @@ y:
         out: "builtin.module @_ {
   llvm.func @f : llvm.func <builtin.integer i32 (builtin.integer i1, builtin.integer i32) variadic = false> {linkage = ExternalLinkage} {
   ^0:entry(%0: builtin.integer i1, %1: builtin.integer i32):
-    %2 = llvm.constant() {value = builtin.integer <2: i32>} : builtin.integer i32
-    %3 = llvm.constant() {value = builtin.integer <3: i32>} : builtin.integer i32
-    %4 = llvm.constant() {value = builtin.integer <1: i32>} : builtin.integer i32
-    llvm.cond_br(%0)[^1(), ^2()]
+    %2 = llvm.constant() {value = builtin.integer <3: i32>} : builtin.integer i32
+    %3 = llvm.constant() {value = builtin.integer <1: i32>} : builtin.integer i32
+    %4 = llvm.constant() {value = builtin.integer <2: i32>} : builtin.integer i32
+    llvm.cond_br(%0)[^2(), ^1()]
   ^1():
-    llvm.cond_br(%0)[^3(%1), ^4(%2)]
+    llvm.cond_br(%0)[^3(%2), ^4(%3)]
   ^2():
-    llvm.cond_br(%0)[^4(%3), ^3(%4)]
-  ^3:x(%5: builtin.integer i32):
+    llvm.cond_br(%0)[^4(%1), ^3(%4)]
+  ^3:y(%5: builtin.integer i32):
     llvm.return(%5)
-  ^4:y(%6: builtin.integer i32):
+  ^4:x(%6: builtin.integer i32):
     llvm.return(%6)
   }
 }
@@ -372,24 +372,24 @@ source_filename = \"_\"
 
 define i32 @f(i1 %0, i32 %1) {
 entry_block0:
-  br i1 %0, label %block1, label %block2
+  br i1 %0, label %block2, label %block1
 
 block1:
-  br i1 %0, label %x_block3, label %y_block4
+  br i1 %0, label %y_block3, label %x_block4
 
 block2:
-  br i1 %0, label %y_block4, label %x_block3
+  br i1 %0, label %x_block4, label %y_block3
 
-x_block3:
-  %v5 = phi i32 [ %1, %block1 ], [ 1, %block2 ]
+y_block3:
+  %v5 = phi i32 [ 3, %block1 ], [ 2, %block2 ]
   ret i32 %v5
 
-y_block4:
-  %v6 = phi i32 [ 2, %block1 ], [ 3, %block2 ]
+x_block4:
+  %v6 = phi i32 [ 1, %block1 ], [ %1, %block2 ]
   ret i32 %v6
 }
 ;; report
-blocks @f 0 1 2 3 4
+blocks @f 0 2 1 4 3
 ",
     },
 ];

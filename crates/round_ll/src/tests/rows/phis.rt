@@ -18,11 +18,11 @@ join:
         out: "builtin.module @_ {
   llvm.func @f : llvm.func <builtin.integer i32 (builtin.integer i1, builtin.integer i32, builtin.integer i32) variadic = false> {linkage = ExternalLinkage} {
   ^0:entry(%0: builtin.integer i1, %1: builtin.integer i32, %2: builtin.integer i32):
-    llvm.cond_br(%0)[^1(), ^2()]
-  ^1:left():
-    llvm.br()[^3(%1)]
-  ^2:right():
+    llvm.cond_br(%0)[^2(), ^1()]
+  ^1:right():
     llvm.br()[^3(%2)]
+  ^2:left():
+    llvm.br()[^3(%1)]
   ^3:join(%3: builtin.integer i32):
     llvm.return(%3)
   }
@@ -32,20 +32,20 @@ source_filename = \"_\"
 
 define i32 @f(i1 %0, i32 %1, i32 %2) {
 entry_block0:
-  br i1 %0, label %left_block1, label %right_block2
+  br i1 %0, label %left_block2, label %right_block1
 
-left_block1:
+right_block1:
   br label %join_block3
 
-right_block2:
+left_block2:
   br label %join_block3
 
 join_block3:
-  %v3 = phi i32 [ %1, %left_block1 ], [ %2, %right_block2 ]
+  %v3 = phi i32 [ %2, %right_block1 ], [ %1, %left_block2 ]
   ret i32 %v3
 }
 ;; report
-blocks @f 0 1 2 3
+blocks @f 0 2 1 3
 ",
     },
     Row {
@@ -299,11 +299,11 @@ no:
     %5:p = llvm.icmp(%1, %3) {predicate = EQ} : builtin.integer i1
     llvm.br()[^2(%5, %1)]
   ^2:join(%6: builtin.integer i1, %7: builtin.integer i64):
-    llvm.cond_br(%6)[^3(), ^4()]
-  ^3:yes():
-    llvm.return(%7)
-  ^4:no():
+    llvm.cond_br(%6)[^4(), ^3()]
+  ^3:no():
     llvm.return(%4)
+  ^4:yes():
+    llvm.return(%7)
   }
 }
 ;; llvm
@@ -320,16 +320,16 @@ then_block1:
 join_block2:
   %v6 = phi i1 [ true, %entry_block0 ], [ %p_v5, %then_block1 ]
   %v7 = phi i64 [ -9223372036854775808, %entry_block0 ], [ %1, %then_block1 ]
-  br i1 %v6, label %yes_block3, label %no_block4
+  br i1 %v6, label %yes_block4, label %no_block3
 
-yes_block3:
-  ret i64 %v7
-
-no_block4:
+no_block3:
   ret i64 -1
+
+yes_block4:
+  ret i64 %v7
 }
 ;; report
-blocks @f 0 1 2 3 4
+blocks @f 0 1 2 4 3
 ",
     },
     Row {
@@ -347,12 +347,12 @@ join:
   llvm.func @f : llvm.func <builtin.integer i32 (builtin.integer i32) variadic = false> {linkage = ExternalLinkage} {
   ^0:entry(%0: builtin.integer i32):
     %1 = llvm.constant() {value = builtin.integer <1: i1>} : builtin.integer i1
-    llvm.br()[^2(%0)]
-  ^1:dead():
-    %2:x = llvm.add(%0, %0) : builtin.integer i32
-    llvm.cond_br(%1)[^2(%2), ^1()]
-  ^2:join(%3: builtin.integer i32):
-    llvm.return(%3)
+    llvm.br()[^1(%0)]
+  ^1:join(%2: builtin.integer i32):
+    llvm.return(%2)
+  ^2:dead():
+    %3:x = llvm.add(%0, %0) : builtin.integer i32
+    llvm.cond_br(%1)[^1(%3), ^2()]
   }
 }
 ;; llvm
@@ -360,18 +360,18 @@ source_filename = \"_\"
 
 define i32 @f(i32 %0) {
 entry_block0:
-  br label %join_block2
+  br label %join_block1
 
-dead_block1:
-  %x_v2 = add i32 %0, %0
-  br i1 true, label %join_block2, label %dead_block1
+join_block1:
+  %v2 = phi i32 [ %0, %entry_block0 ], [ %x_v3, %dead_block2 ]
+  ret i32 %v2
 
-join_block2:
-  %v3 = phi i32 [ %0, %entry_block0 ], [ %x_v2, %dead_block1 ]
-  ret i32 %v3
+dead_block2:
+  %x_v3 = add i32 %0, %0
+  br i1 true, label %join_block1, label %dead_block2
 }
 ;; report
-blocks @f 0 1 2
+blocks @f 0 2 1
 ",
     },
     Row {
@@ -395,14 +395,14 @@ out:
     %1 = llvm.constant() {value = builtin.integer <0: i8>} : builtin.integer i8
     %2 = llvm.constant() {value = builtin.integer <100: i8>} : builtin.integer i8
     %3:p = llvm.icmp(%0, %1) {predicate = SLT} : builtin.integer i1
-    llvm.cond_br(%3)[^2(), ^1()]
+    llvm.cond_br(%3)[^3(), ^1()]
   ^1:next():
     %4:q = llvm.icmp(%0, %2) {predicate = SGT} : builtin.integer i1
-    llvm.cond_br(%4)[^3(), ^4(%0)]
-  ^2:low():
-    llvm.br()[^4(%1)]
-  ^3:high():
+    llvm.cond_br(%4)[^2(), ^4(%0)]
+  ^2:high():
     llvm.br()[^4(%2)]
+  ^3:low():
+    llvm.br()[^4(%1)]
   ^4:out(%5: builtin.integer i8):
     llvm.return(%5)
   }
@@ -413,24 +413,24 @@ source_filename = \"_\"
 define i8 @f(i8 %0) {
 entry_block0:
   %p_v3 = icmp slt i8 %0, 0
-  br i1 %p_v3, label %low_block2, label %next_block1
+  br i1 %p_v3, label %low_block3, label %next_block1
 
 next_block1:
   %q_v4 = icmp sgt i8 %0, 100
-  br i1 %q_v4, label %high_block3, label %out_block4
+  br i1 %q_v4, label %high_block2, label %out_block4
 
-low_block2:
+high_block2:
   br label %out_block4
 
-high_block3:
+low_block3:
   br label %out_block4
 
 out_block4:
-  %v5 = phi i8 [ %0, %next_block1 ], [ 0, %low_block2 ], [ 100, %high_block3 ]
+  %v5 = phi i8 [ %0, %next_block1 ], [ 100, %high_block2 ], [ 0, %low_block3 ]
   ret i8 %v5
 }
 ;; report
-blocks @f 0 1 2 3 4
+blocks @f 0 1 3 2 4
 ",
     },
     Row {

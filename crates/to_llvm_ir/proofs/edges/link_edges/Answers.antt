@@ -8,7 +8,7 @@ use Rattle.to_llvm_ir.specs.Links.{AreEqualEdges}
 use Rattle.to_llvm_ir.specs.States.{IsLinking}
 use Rattle.to_llvm_ir.proofs.OpLaws.{passed}
 use Rattle.to_llvm_ir.proofs.SuccessorLaws.{few_edges}
-use Rattle.to_llvm_ir.proofs.LinkedLaws.{more, more_none, more_edge, edges_are, edge_next, edge_more, edges_done, all_push}
+use Rattle.to_llvm_ir.proofs.LinkedLaws.{more, more_none, more_edge, edges_are, linked_next, edge_more, edges_done, all_push}
 use Rattle.to_llvm_ir.proofs.edges.link_edges.Goals as goal
 
 pub loop-edge-init : goal.loop-edge-init
@@ -26,7 +26,7 @@ add_edge-requires-clause-next c =
       c.args.op,
       c.loop-edge.edge-index,
       more s.task given c.args.from.block.0 (take c.loop-edge.edge-index s.op.successors),
-      edge_next c.args.ctx.now c.args.op s c.args.from c.args.blocks.now given c.args.values.now c.args.back.now c.loop-edge.back c.op_successors-edges.result.now c.loop-edge.edge-index c.edge-item.result c.edge-item.is h c.op_successors-edges.ensures.successors c.loop-edge-test.true (c.loop-edge.invariant.state s given h),
+      linked_next c.args.ctx.now c.args.op s c.args.from c.args.blocks.now given c.args.values.now c.args.back.now c.loop-edge.back c.op_successors-edges.result.now c.loop-edge.edge-index c.edge-item.result c.edge-item.is h c.op_successors-edges.ensures.successors c.loop-edge-test.true (c.loop-edge.invariant.state s given h),
     )
 
 pub returns-in_err-check_equal-clause-cause : goal.returns-in_err-check_equal-clause-cause
@@ -36,19 +36,19 @@ returns-in_err-check_equal-clause-cause c = λ s given h.
 
 pub returns-in_err-add_edge-clause-cause : goal.returns-in_err-add_edge-clause-cause
 returns-in_err-add_edge-clause-cause c = λ s given h.
-    let next = edge_next c.args.ctx.now c.args.op s c.args.from c.args.blocks.now given c.args.values.now c.args.back.now c.loop-edge.back c.op_successors-edges.result.now c.loop-edge.edge-index c.edge-item.result c.edge-item.is h c.op_successors-edges.ensures.successors c.loop-edge-test.true (c.loop-edge.invariant.state s given h) in
+    let next = linked_next c.args.ctx.now c.args.op s c.args.from c.args.blocks.now given c.args.values.now c.args.back.now c.loop-edge.back c.op_successors-edges.result.now c.loop-edge.edge-index c.edge-item.result c.edge-item.is h c.op_successors-edges.ensures.successors c.loop-edge-test.true (c.loop-edge.invariant.state s given h) in
     passed c.from_residual-in_err-add_edge.result c.in_err-add_edge.field-0.0 (IsFuncCause c.args.ctx.now s.task.source) c.from_residual-in_err-add_edge.ensures.1
     (c.in_err-add_edge.ensures.cause s c.args.op c.loop-edge.edge-index (more s.task given c.args.from.block.0 (take c.loop-edge.edge-index s.op.successors)) next)
 
 pub loop-edge-preserved : goal.loop-edge-preserved
 loop-edge-preserved c = record {
   state = λ s given h.
-      let next = edge_next c.args.ctx.now c.args.op s c.args.from c.args.blocks.now given c.args.values.now c.args.back.now c.loop-edge.back c.op_successors-edges.result.now c.loop-edge.edge-index c.edge-item.result c.edge-item.is h c.op_successors-edges.ensures.successors c.loop-edge-test.true (c.loop-edge.invariant.state s given h) in
+      let next = linked_next c.args.ctx.now c.args.op s c.args.from c.args.blocks.now given c.args.values.now c.args.back.now c.loop-edge.back c.op_successors-edges.result.now c.loop-edge.edge-index c.edge-item.result c.edge-item.is h c.op_successors-edges.ensures.successors c.loop-edge-test.true (c.loop-edge.invariant.state s given h) in
       more_edge s.task given c.args.from.block.0 (take c.loop-edge.edge-index s.op.successors) (take (c.loop-edge.edge-index + 1) s.op.successors) c.edge-item.result c.args.values.now c.add_edge.new.back
       (edge_more s.op.successors c.loop-edge.edge-index c.edge-item.result next.at)
       (c.in_ok-add_edge.ensures.ok s c.args.op c.loop-edge.edge-index (more s.task given c.args.from.block.0 (take c.loop-edge.edge-index s.op.successors)) next);
   fits = λ s given h.
-      let next = edge_next c.args.ctx.now c.args.op s c.args.from c.args.blocks.now given c.args.values.now c.args.back.now c.loop-edge.back c.op_successors-edges.result.now c.loop-edge.edge-index c.edge-item.result c.edge-item.is h c.op_successors-edges.ensures.successors c.loop-edge-test.true (c.loop-edge.invariant.state s given h) in
+      let next = linked_next c.args.ctx.now c.args.op s c.args.from c.args.blocks.now given c.args.values.now c.args.back.now c.loop-edge.back c.op_successors-edges.result.now c.loop-edge.edge-index c.edge-item.result c.edge-item.is h c.op_successors-edges.ensures.successors c.loop-edge-test.true (c.loop-edge.invariant.state s given h) in
       all_push (FitsTarget s.task.source) (take c.loop-edge.edge-index s.op.successors) (take (c.loop-edge.edge-index + 1) s.op.successors) c.edge-item.result (edge_more s.op.successors c.loop-edge.edge-index c.edge-item.result next.at)
       (c.loop-edge.invariant.fits s given h)
       (c.in_ok-add_edge.ensures.fits s c.args.op c.loop-edge.edge-index (more s.task given c.args.from.block.0 (take c.loop-edge.edge-index s.op.successors)) next);

@@ -6,6 +6,7 @@ use Rattle.to_llvm_ir.specs.Exported.{IsCause}
 use Rattle.to_llvm_ir.specs.Functions.{functions_in}
 use Rattle.to_llvm_ir.proofs.OpLaws.{passed}
 use Rattle.to_llvm_ir.proofs.FinishLaws.{forms_held, all_exported}
+use Rattle.to_llvm_ir.proofs.CodeLaws.{same_exported}
 use Rattle.to_llvm_ir.proofs.exporting.convert_module.Goals as goal
 
 pub convert_functions-requires-clause-forms : goal.convert_functions-requires-clause-forms
@@ -22,3 +23,9 @@ pub returns-clause-exported : goal.returns-clause-exported
 returns-clause-exported c =
     all_exported c.args.ctx.now c.args.«module».0.0 c.as_slice.result.now _ (L.data_of c.in_ok-back.back) c.convert_functions.new.back
     (c.as_slice.ensures.value ∙ c.in_ok-ops.ensures.ops) c.in_ok-back.ensures.data c.name_of.ensures c.in_ok-convert_functions.ensures.ok
+
+pub returns-clause-same : goal.returns-clause-same
+returns-clause-same c = λ distinct.
+    let made = all_exported c.args.ctx.now c.args.«module».0.0 c.as_slice.result.now _ (L.data_of c.in_ok-back.back) c.convert_functions.new.back
+    (c.as_slice.ensures.value ∙ c.in_ok-ops.ensures.ops) c.in_ok-back.ensures.data c.name_of.ensures c.in_ok-convert_functions.ensures.ok in
+    same_exported (D.data_of c.args.ctx.now c.args.«module».0.0) (L.data_of c.convert_functions.new.back) c.requires.functions made.functions distinct

@@ -1,11 +1,15 @@
 -- What `transferring::transfer` owes besides what the check finds.
-use Rattle.std.proofs.Common.{rules}
+use Rattle.std.proofs.Common.{◌≡◌, IfErr, rules}
+use Rattle.std.proofs.lemmas.Result.{IfErr-weaker}
+use Rattle.transfer.specs.declared.transfer_err.TransferErr.{TransferErr}
+use Rattle.transfer.specs.declared.transfer_err.TransferErr.TheVariants as T
+use Rattle.transfer.specs.Same.{IsCause}
 use Rattle.llvm_core.specs.Data.{data_of}
 use Rattle.llvm_core.proofs.DistinctLaws.{distinct_of_checked}
 use Rattle.llvm_core.proofs.FormLaws.{checked_of_form}
 use Rattle.from_llvm_ir.specs.Imported.{imported_data}
 use Rattle.transfer.proofs.TransferLaws.{readable, forms_imported, exportable_imported, same_throughout, form_of_back, distinct_back, few_back}
-use Rattle.transfer.proofs.CauseLaws.{of_export_cause}
+use Rattle.transfer.proofs.CauseLaws.{of_import_cause, of_export_cause, only_memory}
 use Rattle.transfer.proofs.transferring.transfer.Goals as goal
 
 pub convert_module-requires-2 : goal.convert_module-requires-2
@@ -39,3 +43,15 @@ returns-in_err-back-clause-cause c =
     let e = c.in_err-back.field-0.0 in
     let cause = of_export_cause d forms fit c.in_ok-imported.imported.ctx m e c.in_err-back.ensures.cause in
     search rules
+
+pub returns-in_err-back-clause-complete : goal.returns-in_err-back-clause-complete
+returns-in_err-back-clause-complete c = λ valid.
+    let m = data_of c.args.module.now in
+    IfErr-weaker c.from_residual-in_err-back.result (IsCause m) (λ (e : TransferErr). e ≡ T.NoMemory) (λ e h. only_memory m e h valid) (returns-in_err-back-clause-cause c)
+
+pub returns-in_err-imported-clause-complete : goal.returns-in_err-imported-clause-complete
+returns-in_err-imported-clause-complete c = λ valid.
+    let m = data_of c.args.module.now in
+    let cause : IfErr c.from_residual.result (IsCause m) =
+    let h = of_import_cause m c.in_err-imported.field-0.0 c.in_err-imported.ensures.cause in search rules in
+    IfErr-weaker c.from_residual.result (IsCause m) (λ (e : TransferErr). e ≡ T.NoMemory) (λ e h. only_memory m e h valid) cause

@@ -5,6 +5,7 @@ use Rattle.dialect_core.proofs.ContextLemmas.{context, holder_there, region_kept
 use Rattle.dialect_core.specs.Data.{data_of, IsTyped}
 use Rattle.dialect_core.specs.ContextData.{ContextData}
 use Rattle.dialect_core.proofs.NewBlockLemmas.{new_block_data}
+use Rattle.dialect_core.proofs.RegionLemmas.{new_block_regions}
 use Rattle.dialect_core.proofs.TypedLemmas.{block_typed}
 use Rattle.dialect_core.proofs.context.Context.add_block.Goals as goal
 
@@ -13,9 +14,14 @@ invariant_of-self-2 c =
     let holder = rw (← c.self.view_is) at c.requires.holder in
     let there = holder_there c.self.inside.ops.items c.args.holder holder in
     rw (ap (λ (l : Lists). l.parents) c.in_ok-number.ensures.ok)
-    (region_kept c.self.inside.ops.items c.self.inside.blocks.items _ c.push.new.self.items c.self.inside.lists.parents c.self.inside.lists.lists _ c.args.holder c.index_mut-op.result.now c.add_block.new.region c.in_ok-number.number
-    (record { holder = c.args.holder; label = c.args.label; args = c.from_vec-args.result }) c.self.invariant there
-    c.index_mut-op.ensures.value c.in_ok-number.ensures.region c.in_ok-number.ensures.number refl c.in_ok-reserve.ensures.items c.in-Ok.ensures.items (ap (λ (l : Lists). l.lists) c.in_ok-number.ensures.ok))
+    (record {
+      numbers = region_kept c.self.inside.ops.items c.self.inside.blocks.items _ c.push.new.self.items c.self.inside.lists.parents c.self.inside.lists.lists _ c.args.holder c.index_mut-op.result.now c.add_block.new.region c.in_ok-number.number
+          (record { holder = c.args.holder; label = c.args.label; args = c.from_vec-args.result }) c.self.invariant.numbers there
+          c.index_mut-op.ensures.value c.in_ok-number.ensures.region c.in_ok-number.ensures.number refl c.in_ok-reserve.ensures.items c.in-Ok.ensures.items (ap (λ (l : Lists). l.lists) c.in_ok-number.ensures.ok);
+      regions = new_block_regions c.self.inside.ops.items c.self.inside.blocks.items _ c.push.new.self.items c.args.holder c.index_mut-op.result.now c.add_block.new.region c.in_ok-number.number
+          (record { holder = c.args.holder; label = c.args.label; args = c.from_vec-args.result }) c.self.invariant.regions there c.index_mut-op.ensures.value c.in_ok-number.ensures.region
+          (c.in_ok-number.ensures.number ∙ c.self.invariant.numbers.list_each) refl c.in_ok-reserve.ensures.items c.in-Ok.ensures.items;
+    })
 
 pub returns-clause-ok : goal.returns-clause-ok
 returns-clause-ok c =
@@ -32,7 +38,7 @@ returns-clause-data c =
     let viewed = block_view c.self.inside.types c.self.inside.ops.items c.self.inside.blocks.items _ c.push.new.self.items c.self.inside.lists.parents c.self.inside.lists.lists c.add_block.new.self.lists c.in_ok-number.number c.args.holder c.args.label c.from_vec-args.result c.args.args.now c.index_mut-op.result.now c.add_block.new.region there
     c.index_mut-op.ensures.value c.in_ok-number.ensures.region c.in_ok-reserve.ensures.items c.in-Ok.ensures.items (c.from_vec-args.ensures ∙ c.in_ok-from_slice.ensures.items) (ap (λ (l : Lists). l.lists) c.in_ok-number.ensures.ok) in
     rw (← c.self.view_is, ap (λ (l : Lists). l.parents) c.in_ok-number.ensures.ok)
-    (λ m. ap (λ (d : ContextData). data_of d m) viewed ∙ new_block_data (context c.self.inside.types c.self.inside.ops.items c.self.inside.blocks.items c.self.inside.lists.parents c.self.inside.lists.lists) c.in_ok-number.number (record { holder = c.args.holder; label = c.args.label; args = c.args.args.now }) c.self.invariant (c.in_ok-number.ensures.number ∙ c.self.invariant.list_each) m)
+    (λ m. ap (λ (d : ContextData). data_of d m) viewed ∙ new_block_data (context c.self.inside.types c.self.inside.ops.items c.self.inside.blocks.items c.self.inside.lists.parents c.self.inside.lists.lists) c.in_ok-number.number (record { holder = c.args.holder; label = c.args.label; args = c.args.args.now }) c.self.invariant.numbers (c.in_ok-number.ensures.number ∙ c.self.invariant.numbers.list_each) m)
 
 pub returns-clause-typed : goal.returns-clause-typed
 returns-clause-typed c =

@@ -18,4 +18,4 @@ returns-clause-within c =
     let listed = rw (← c.self.view_is) at same in
     let standing = rw (← c.self.view_is) at c.first_op-next.ensures.standing in
     rw (← c.self.view_is)
-    (listed_within c.self.inside.lists.parents _ c.args.block (list_at c.self.inside.lists.lists c.args.block) c.loop-next.ops.items c.self.invariant.parent_each listed standing)
+    (listed_within c.self.inside.lists.parents _ c.args.block (list_at c.self.inside.lists.lists c.args.block) c.loop-next.ops.items c.self.invariant.numbers.parent_each listed standing)

@@ -1,11 +1,12 @@
 -- What `context::Context::push_argument` owes besides what the check finds.
-use Rattle.std.proofs.Common.{Some, length, sym, subst, ap, ◌∙◌}
+use Rattle.std.proofs.Common.{Some, length, sym, subst, ap, refl, ◌∙◌}
 use Rattle.std.proofs.lemmas.Option.{slice_get-get_or}
 use Rattle.std.specs.Option.{option_map}
 use Rattle.dialect_core.specs.declared.ops.BlockData.{BlockData}
 use Rattle.dialect_core.proofs.ContextLemmas.{context, set_block_kept, block_holder_within, argument_view}
 use Rattle.dialect_core.specs.Data.{data_of, IsTyped}
-use Rattle.dialect_core.specs.ContextData.{ContextData}
+use Rattle.dialect_core.specs.ContextData.{ContextData, region_at, holder_at}
+use Rattle.dialect_core.proofs.RegionLemmas.{same_regions, set_holder}
 use Rattle.dialect_core.proofs.ArgumentLemmas.{argument_data}
 use Rattle.dialect_core.proofs.TypedLemmas.{argument_typed}
 use Rattle.dialect_core.proofs.context.Context.push_argument.Goals as goal
@@ -13,8 +14,12 @@ use Rattle.dialect_core.proofs.context.Context.push_argument.Goals as goal
 pub invariant_of-self-2 : goal.invariant_of-self-2
 invariant_of-self-2 c =
     let there = rw (← c.self.view_is) at c.requires.block in
-    set_block_kept c.self.inside.ops.items c.self.inside.blocks.items c.self.inside.lists.parents c.self.inside.lists.lists c.args.block.0 _ c.self.invariant
-    (block_holder_within c.self.inside.ops.items c.self.inside.blocks.items c.self.inside.lists.parents c.self.inside.lists.lists c.args.block.0 c.index_mut-data.result.now c.self.invariant there c.index_mut-data.ensures.value)
+    let at = slice_get-get_or c.self.inside.blocks.items c.args.block.0 c.index_mut-data.result.now there ∙ ap Some (sym c.index_mut-data.ensures.value) in
+    record {
+      numbers = set_block_kept c.self.inside.ops.items c.self.inside.blocks.items c.self.inside.lists.parents c.self.inside.lists.lists c.args.block.0 _ c.self.invariant.numbers
+          (block_holder_within c.self.inside.ops.items c.self.inside.blocks.items c.self.inside.lists.parents c.self.inside.lists.lists c.args.block.0 c.index_mut-data.result.now c.self.invariant.numbers there c.index_mut-data.ensures.value);
+      regions = same_regions (region_at c.self.inside.ops.items) _ (holder_at c.self.inside.blocks.items) _ (λ o. refl) (λ b. set_holder c.self.inside.blocks.items _ c.index_mut-data.result.now c.args.block.0 b at refl) c.self.invariant.regions;
+    }
 
 pub returns-clause-ok : goal.returns-clause-ok
 returns-clause-ok c =

@@ -1,0 +1,113 @@
+-- A well-formed function that is narrow is of the form.
+use Rattle.std.proofs.Common.{◌≡◌, ℕ, nat_eq, Bool, false, List, [], Option, Some, None, All, length, slice_get, ap, sym, subst, ◌∙◌, refl, arith}
+use Rattle.std.specs.Prelude.{IfSome}
+use Rattle.std.specs.List.{find}
+use Rattle.std.specs.Option.{option_and_then}
+use Rattle.std.proofs.lemmas.Option.{none-some, same_Some}
+use Rattle.dialect_types.specs.Trees.{TypeTree, VoidType, IntegerType, FuncType, TypeTrees, IntegerAttr}
+use Rattle.dialect_core.specs.declared.ops.Value.{Value}
+use Rattle.dialect_core.specs.declared.ops.Value.TheVariants.{Result, Argument}
+use Rattle.dialect_core.specs.declared.ops.Successor.{Successor}
+use Rattle.dialect_core.specs.Data.{Kind, ConstantOp, AddOp, ICmpOp, BrOp, CondBrOp, ReturnOp, UnreachableOp, DialectOp, DialectBlock, Func, ops_in, value_type}
+use Rattle.dialect_core.specs.Form.{IsShortInt, IsShortResult, IsOperand, IsFormEdge, IsFormKind, IsFormOp, IsFormBlock, IsFormFunc, Leads, Returns, result_of, types_list}
+use Rattle.dialect_core.specs.WellFormed.{AreEdges, IsEdge, IsOfKind, IsWellFormedOp, IsWellFormedBlock, IsWellFormedFunc, IsNarrowOp, IsNarrowBlock, IsNarrowFunc, IsNarrowSignature, Returned, IsValueOf, params_of}
+use Rattle.dialect_core.proofs.HoldLemmas.{flat_stands}
+use Rattle.dialect_core.proofs.FuncLemmas.{find_there}
+use Rattle.dialect_core.proofs.LineLemmas.{all_at, at_all}
+
+short_of : (o : Option TypeTree) (t : TypeTree) → IfSome o IsShortInt → o ≡ Some t → IsShortInt t
+short_of None t h e = absurd (none-some t e)
+short_of (Some s) t h e = subst IsShortInt (same_Some s t e) h
+
+module _ (g : Func) (narrow : All IsNarrowBlock g.blocks) where
+  -- every value of the function is of 1 to 64 bits
+  short : (v : Value) (t : TypeTree) → value_type g v ≡ Some t → IsShortInt t
+  short (Result r) t h = by (find (λ (o : DialectOp). nat_eq o.number r.0) (ops_in g)) refl h
+    where
+      by : (o : Option DialectOp) → find (λ (o : DialectOp). nat_eq o.number r.0) (ops_in g) ≡ o → option_and_then (λ (o : DialectOp). o.result) o ≡ Some t → IsShortInt t
+      by None is e = absurd (none-some t e)
+      by (Some o) is e =
+          let w = find_there (λ (o : DialectOp). nat_eq o.number r.0) (ops_in g) o is in
+          let b = flat_stands (λ (b : DialectBlock). b.ops) g.blocks o w.0 w.1 in
+          short_of o.result t (all_at IsNarrowOp b.0.ops (all_at IsNarrowBlock g.blocks narrow b.1.0 b.0 b.1.1).ops b.2.0 o b.2.1).result e
+  short (Argument b i) t h = by (find (λ (x : DialectBlock). nat_eq x.number b.0) g.blocks) refl h
+    where
+      by : (x : Option DialectBlock) → find (λ (x : DialectBlock). nat_eq x.number b.0) g.blocks ≡ x → option_and_then (λ (x : DialectBlock). slice_get x.args i) x ≡ Some t → IsShortInt t
+      by None is e = absurd (none-some t e)
+      by (Some x) is e =
+          let w = find_there (λ (x : DialectBlock). nat_eq x.number b.0) g.blocks x is in
+          all_at IsShortInt x.args (all_at IsNarrowBlock g.blocks narrow w.0 x w.1).args i t e
+
+  operand : (t : TypeTree) (v : Value) → value_type g v ≡ Some t → IsOperand g t v
+  operand t v h = record { typed = h; short = short v t h }
+
+  edge : (s : Successor) → IsEdge g s → IsFormEdge g s
+  edge s e = record {
+    no_entry = e.no_entry;
+    args = at_all (λ (v : Value). (type : TypeTree) × IsOperand g type v) s.args (λ k v at. let w = all_at (IsValueOf g) s.args e.args k v at in (w.0, operand w.0 v w.1));
+    typed = e.typed;
+  }
+
+  leads : (o : DialectOp) (n : ℕ) → o.result ≡ None → AreEdges g n o.successors → Leads g o n
+  leads o n own e = record { result = own; count_is = e.0; edges = at_all (IsFormEdge g) o.successors (λ k s at. edge s (all_at (IsEdge g) o.successors e.1 k s at)) }
+
+  no_edges : (o : DialectOp) → o.result ≡ None → o.successors ≡ [] → Leads g o 0
+  no_edges o own e = record { result = own; count_is = ap length e; edges = let P : List Successor → Type 0 = All (IsFormEdge g) in subst P (sym e) (λ k d l. absurd (omega arith)) }
+
+  returned : (t : TypeTree) (vs : List Value) → Returned g t vs → Returns g t vs
+  returned VoidType vs h = let P : List Value → Type 0 = Returns g VoidType in subst P (sym h) tt
+  returned (IntegerType w) vs h = let P : List Value → Type 0 = Returns g (IntegerType w) in subst P (sym h.1) (operand (IntegerType w) h.0 h.2)
+  returned (FuncType r ps v) vs h = let P : List Value → Type 0 = Returns g (FuncType r ps v) in subst P (sym h.1) (operand (FuncType r ps v) h.0 h.2)
+
+  kind : (o : DialectOp) (k : Kind) → IfSome o.result IsShortInt → IsOfKind g o.operands o.result o.successors k → IsFormKind g o k
+  kind o (ConstantOp (IntegerAttr t v)) s h = (short_of o.result t s h.2, h.1, h.3, h.4, h.2)
+  kind o (AddOp flags) s h = (h.0, h.1.lhs, h.1.rhs, h.1.are, h.3, h.2, operand h.0 h.1.lhs h.1.left, operand h.0 h.1.rhs h.1.right)
+  kind o (ICmpOp p) s h = (h.0.0, h.0.1.lhs, h.0.1.rhs, h.0.1.are, h.2, h.1, operand h.0.0 h.0.1.lhs h.0.1.left, operand h.0.0 h.0.1.rhs h.0.1.right)
+  kind o BrOp s h = (h.0, leads o 1 h.1 h.2)
+  kind o CondBrOp s h = (h.0.0, h.0.1, operand (IntegerType 1) h.0.0 h.0.2, leads o 2 h.1 h.2)
+  kind o ReturnOp s h = (returned (result_of g.type) o.operands h.0, no_edges o h.1 h.2)
+  kind o UnreachableOp s h = (h.0, no_edges o h.1 h.2)
+
+  form_block : (b : DialectBlock) → IsWellFormedBlock g b → IsNarrowBlock b → IsFormBlock g b
+  form_block b w n = record {
+    label = n.label;
+    args = n.args;
+    ops = at_all (IsFormOp g) b.ops (λ k o at. let m = all_at IsNarrowOp b.ops n.ops k o at in record { kind = kind o o.kind m.result (all_at (IsWellFormedOp g) b.ops w.ops k o at); name = m.name });
+    ends = w.ends;
+  }
+
+-- the parts of a narrow signature
+pub record Narrow (t : TypeTree) : Type 0 where
+  pub result : TypeTree
+  pub types : TypeTrees
+  pub is : t ≡ FuncType result types false
+  pub returns : IsShortResult result
+  pub takes : All IsShortInt (types_list types)
+
+narrow_parts : (t : TypeTree) → IsNarrowSignature t → Narrow t
+narrow_parts VoidType h = absurd h
+narrow_parts (IntegerType w) h = absurd h
+narrow_parts (FuncType r ps v) h = record { result = r; types = ps; is = ap (λ (v : Bool). FuncType r ps v) h.2; returns = h.0; takes = h.1 }
+
+pub form_of : (g : Func) → IsWellFormedFunc g → IsNarrowFunc g → IsFormFunc g
+form_of g w n =
+    let p = narrow_parts g.type n.signature in
+    record {
+      name = n.name;
+      named = w.named;
+      result = p.result;
+      types = p.types;
+      type = p.is;
+      returns = p.returns;
+      takes = p.takes;
+      linkage = n.linkage;
+      entry = n.constants.entry;
+      more = n.constants.more;
+      body = n.constants.are;
+      params = w.params n.constants.entry (ap (λ (bs : List DialectBlock). slice_get bs 0) n.constants.are) ∙ ap params_of p.is;
+      blocks = at_all (IsFormBlock g) g.blocks (λ k b at. form_block g n.blocks b (all_at (IsWellFormedBlock g) g.blocks w.blocks k b at) (all_at IsNarrowBlock g.blocks n.blocks k b at));
+      constants = n.constants.first;
+      others = n.constants.others;
+      block_numbers = w.block_numbers;
+      numbers = w.numbers;
+    }

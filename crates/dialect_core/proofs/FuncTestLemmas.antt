@@ -1,0 +1,275 @@
+-- What tests of blocks, functions and modules find.
+use Rattle.std.proofs.Common.{◌≡◌, ◌<◌, ℕ, zero, suc, Bool, true, false, List, [], ◌∷◌, Option, Some, None, All, length, map, slice_get, get_or, ap, sym, subst, ◌∙◌, refl, arith}
+use Rattle.std.specs.Prelude.{IsTrue, ◌↔◌, is_some, unwrap_or}
+use Rattle.std.specs.List.{filter_map, flat_map}
+use Rattle.std.specs.Option.{option_map, option_map_or, option_and_then}
+use Rattle.std.proofs.lemmas.Option.{none-some, same_Some}
+use Rattle.std.proofs.lemmas.List.{append-nil}
+use Rattle.dialect_types.specs.declared.types.TypeHandle.{TypeHandle}
+use Rattle.dialect_types.specs.Trees.{TypeTree, VoidType, type_at, type_trees}
+use Rattle.dialect_core.specs.declared.numbers.OpRef.{OpRef}
+use Rattle.dialect_core.specs.declared.numbers.BlockRef.{BlockRef}
+use Rattle.dialect_core.specs.declared.linkage.LinkageAttr.{LinkageAttr}
+use Rattle.dialect_core.specs.declared.linkage.LinkageAttr.TheVariants.{GhostLinkage}
+use Rattle.dialect_core.specs.declared.ops.Symbol.{Symbol}
+use Rattle.dialect_core.specs.declared.ops.OpKind.TheVariants as K
+use Rattle.dialect_core.specs.declared.ops.OpData.{OpData}
+use Rattle.dialect_core.specs.declared.ops.BlockData.{BlockData}
+use Rattle.dialect_core.specs.Lists.{Once, list_at}
+use Rattle.dialect_core.specs.ContextData.{ContextData, IsSymbol, kind_at, symbol_at, region_at}
+use Rattle.dialect_core.specs.Data.{DialectOp, DialectBlock, Func, op_at, block_in, block_of, func_of, func_in, held, data_of, name_at}
+use Rattle.dialect_core.specs.WellFormed.{IsInteger, IsSignature, IsPlainAt, IsWellFormedBlock, IsWellFormedFunc, IsWellFormed, has_word, params_of}
+use Rattle.dialect_core.specs.Checking.{AreApartFrom, AreFuncLines, AreLines, IsBlockAt, IsFuncAt, IsHead, block_at, func_at, tree_at}
+use Rattle.dialect_core.proofs.ChainLemmas.{same_op}
+use Rattle.dialect_core.proofs.HoldLemmas.{flat_stands, stands_flat}
+use Rattle.dialect_core.proofs.TestLemmas.{same_block}
+use Rattle.dialect_core.proofs.TypeTestLemmas.{all_map, map_all}
+use Rattle.dialect_core.proofs.OpTestLemmas.{func_type}
+use Rattle.dialect_core.proofs.FuncLemmas.{blocks_are, ops_are, block_there, block_number, op_number, made_of, entry_data}
+use Rattle.dialect_core.proofs.LineLemmas.{all_at, at_all, lines_are, none_end, plain_op, same_place, numbers_once}
+
+-- ---- blocks
+
+is_none_of : {X : Type 0} (o : Option X) → is_some o ≡ false → o ≡ None
+is_none_of None h = refl
+is_none_of (Some x) h = absurd (let e : true ≡ false = h in cc)
+
+is_some_of : {X : Type 0} (o : Option X) → is_some o ≡ true → o ≡ None → ⊥
+is_some_of None h e = let k : false ≡ true = h in cc
+is_some_of (Some x) h e = none-some x (sym e)
+
+module _ (c : ContextData) (g : Func) (b : BlockRef) where
+  block_ops : (block_at c b).ops ≡ filter_map (op_at (type_trees c.types) c.ops) (list_at c.lists b)
+  unfolding block_at
+  block_ops = refl
+
+  block_args : (args : List TypeHandle) → option_map (λ (x : BlockData). x.args) (slice_get c.blocks b.0) ≡ Some args → (block_at c b).args ≡ map (tree_at c) args
+  unfolding block_at
+  block_args args h = by (slice_get c.blocks b.0) h
+    where
+      by : (x : Option BlockData) → option_map (λ (x : BlockData). x.args) x ≡ Some args → map (tree_at c) (option_map_or (λ (x : BlockData). x.args) x []) ≡ map (tree_at c) args
+      by None e = absurd (none-some args e)
+      by (Some x) e = ap (map (tree_at c)) (same_Some x.args args e)
+
+  pub block_none : (first : Option OpRef) → first ≡ slice_get (list_at c.lists b) 0 → is_some first ≡ false → IsBlockAt c g b → ⊥
+  unfolding block_at
+  block_none first head gone h = none_end c g (list_at c.lists b) (sym head ∙ is_none_of first gone) h.block.ends
+
+  module _ (args : List TypeHandle) (are : option_map (λ (x : BlockData). x.args) (slice_get c.blocks b.0) ≡ Some args) where
+    pub block_wide : (All (λ (t : TypeHandle). IsInteger (tree_at c t)) args → ⊥) → IsBlockAt c g b → ⊥
+    block_wide wide h = let P : List TypeTree → Type 0 = All IsInteger in wide (λ k d l. map_all IsInteger (tree_at c) args (subst P (block_args args are) h.block.args) k d l)
+
+    pub block_is : (first : Option OpRef) (t : Bool) → first ≡ slice_get (list_at c.lists b) 0 → is_some first ≡ true → All (λ (t : TypeHandle). IsInteger (tree_at c t)) args → (IsTrue t ↔ AreLines c g (list_at c.lists b)) → IsTrue t ↔ IsBlockAt c g b
+    unfolding block_at
+    block_is first t head some integers h =
+        let lines = lines_are c g (list_at c.lists b) (λ e. is_some_of first some (head ∙ e)) in
+        let P : List TypeTree → Type 0 = All IsInteger in (
+          λ w. let l = lines.0 (h.0 w) in record {
+            plain = l.0;
+            block = record { args = subst P (sym (block_args args are)) (λ k d e. all_map IsInteger (tree_at c) args integers k d e); ops = l.1; ends = l.2 };
+          },
+          λ w. h.1 (lines.1 (w.plain, w.block.ops, w.block.ends)),
+        )
+
+  pub block_data : b.0 < length c.blocks → block_in (type_trees c.types) c b ≡ Some (block_at c b)
+  unfolding block_at
+  block_data within = by (slice_get c.blocks b.0) (block_there (type_trees c.types) c b within)
+    where
+      by : (x : Option BlockData) → (y : BlockData) × (x ≡ Some y) × (option_map (block_of (type_trees c.types) c b) x ≡ Some (block_of (type_trees c.types) c b y))
+          → option_map (block_of (type_trees c.types) c b) x ≡ Some (record { number = b.0; label = option_and_then (λ (x : BlockData). x.label) x; args = map (tree_at c) (option_map_or (λ (x : BlockData). x.args) x []); ops = filter_map (op_at (type_trees c.types) c.ops) (list_at c.lists b) })
+      by None w = absurd (none-some w.0 w.1)
+      by (Some x) w = refl
+
+-- ---- functions
+
+module _ (c : ContextData) (f : OpRef) where
+  pub func_name : (func_at c f).name ≡ name_at c.ops f.0
+  unfolding func_at
+  func_name = refl
+
+  pub func_linkage : (l : LinkageAttr) → option_map (λ (s : Symbol). s.linkage) (symbol_at c.ops f) ≡ Some l → (func_at c f).linkage ≡ l
+  unfolding func_at
+  func_linkage l h = by (symbol_at c.ops f) h
+    where
+      by : (s : Option Symbol) → option_map (λ (s : Symbol). s.linkage) s ≡ Some l → option_map_or (λ (s : Symbol). s.linkage) s GhostLinkage ≡ l
+      by None e = absurd (none-some l e)
+      by (Some s) e = same_Some s.linkage l e
+
+  pub func_data : IsSymbol c.ops f → func_in (type_trees c.types) c f ≡ Some (func_at c f)
+  unfolding func_at
+  func_data h = by (slice_get c.ops f.0) h.0 h.1
+    where
+      with_symbol : (x : OpData) (s : Option Symbol) (t : Symbol) → s ≡ Some t
+          → option_map {U = Func} (λ (s : Symbol). record { number = f.0; name = unwrap_or x.name []; type = type_at (type_trees c.types) s.ty; linkage = s.linkage; blocks = filter_map (block_in (type_trees c.types) c) x.blocks }) s
+          ≡ Some (record { number = f.0; name = unwrap_or x.name []; type = option_map_or (λ (s : Symbol). tree_at c s.ty) s VoidType; linkage = option_map_or (λ (s : Symbol). s.linkage) s GhostLinkage; blocks = filter_map (block_in (type_trees c.types) c) x.blocks })
+      with_symbol x None t e = absurd (none-some t e)
+      with_symbol x (Some s) t e = refl
+
+      by : (x : Option OpData) (s : Symbol) → option_and_then (λ (x : OpData). x.symbol) x ≡ Some s
+          → option_and_then (func_of (type_trees c.types) c f) x
+          ≡ Some (record { number = f.0; name = option_map_or (λ (x : OpData). unwrap_or x.name []) x []; type = option_map_or (λ (s : Symbol). tree_at c s.ty) (option_and_then (λ (x : OpData). x.symbol) x) VoidType; linkage = option_map_or (λ (s : Symbol). s.linkage) (option_and_then (λ (x : OpData). x.symbol) x) GhostLinkage; blocks = filter_map (block_in (type_trees c.types) c) (option_map_or (λ (x : OpData). x.blocks) x []) })
+      by None s e = absurd (none-some s e)
+      by (Some x) s e = with_symbol x x.symbol s e
+
+  pub head_is : (l : LinkageAttr) (ty : TypeHandle) (t : Bool) → option_map (λ (s : Symbol). s.linkage) (symbol_at c.ops f) ≡ Some l → option_map (λ (s : Symbol). s.ty) (symbol_at c.ops f) ≡ Some ty → ¬ (name_at c.ops f.0 ≡ []) → has_word l ≡ true → (IsTrue t ↔ IsSignature (tree_at c ty)) → IsTrue t ↔ IsHead (func_at c f)
+  head_is l ty t linkage type named word h = (
+    λ w. record { named = λ e. named (sym func_name ∙ e); linkage = ap has_word (func_linkage l linkage) ∙ word; signature = subst IsSignature (sym (func_type c f ty type)) (h.0 w) },
+    λ w. h.1 (subst IsSignature (func_type c f ty type) w.signature),
+  )
+
+  module _ (there : (k : ℕ) (b : BlockRef) → slice_get (region_at c.ops f.0) k ≡ Some b → b.0 < length c.blocks) where
+    pub entry_is : (b : BlockRef) (args : List TypeHandle) (ty : TypeHandle) (t : Bool) → slice_get (region_at c.ops f.0) 0 ≡ Some b → option_map (λ (x : BlockData). x.args) (slice_get c.blocks b.0) ≡ Some args → option_map (λ (s : Symbol). s.ty) (symbol_at c.ops f) ≡ Some ty → (IsTrue t ↔ map (tree_at c) args ≡ params_of (tree_at c ty))
+        → IsTrue t ↔ ((d : DialectBlock) → slice_get (func_at c f).blocks 0 ≡ Some d → d.args ≡ params_of (func_at c f).type)
+    entry_is b args ty t first are type h =
+        let data_is = entry_data c f there b first ∙ block_data c (func_at c f) b (there 0 b first) in
+        let args_are = block_args c (func_at c f) b args are in
+        let type_is = func_type c f ty type in (
+          λ w d at. ap (λ (d : DialectBlock). d.args) (same_Some d (block_at c b) (sym at ∙ data_is)) ∙ args_are ∙ h.0 w ∙ ap params_of (sym type_is),
+          λ w. h.1 (sym args_are ∙ w (block_at c b) data_is ∙ ap params_of type_is),
+        )
+
+    each_block : All (IsBlockAt c (func_at c f)) (region_at c.ops f.0) → All (IsPlainAt c) (held c f.0) × All (IsWellFormedBlock (func_at c f)) (func_at c f).blocks
+    each_block h = (
+      λ k d l. at_all (IsPlainAt c) (held c f.0) (λ k o at.
+          let w = flat_stands (list_at c.lists) (region_at c.ops f.0) o k at in
+          all_at (IsPlainAt c) (list_at c.lists w.0) (all_at (IsBlockAt c (func_at c f)) (region_at c.ops f.0) h w.1.0 w.0 w.1.1).plain w.2.0 o w.2.1) k d l,
+      λ k d l. at_all (IsWellFormedBlock (func_at c f)) (func_at c f).blocks (λ i y at.
+          let w = made_of (block_in (type_trees c.types) c) (region_at c.ops f.0) i y (ap (λ (xs : List DialectBlock). slice_get xs i) (sym (blocks_are c f there)) ∙ at) in
+          let same : block_at c w.0 ≡ y = same_Some (block_at c w.0) y (sym (block_data c (func_at c f) w.0 (there w.1.0 w.0 w.1.1)) ∙ w.2) in
+          subst (IsWellFormedBlock (func_at c f)) same (all_at (IsBlockAt c (func_at c f)) (region_at c.ops f.0) h w.1.0 w.0 w.1.1).block) k d l,
+    )
+
+    block_some : (k : ℕ) (b : BlockRef) → slice_get (region_at c.ops f.0) k ≡ Some b → (y : DialectBlock) × (block_in (type_trees c.types) c b ≡ Some y)
+    block_some k b at = (block_at c b, block_data c (func_at c f) b (there k b at))
+
+    from_blocks : All (IsPlainAt c) (held c f.0) → All (IsWellFormedBlock (func_at c f)) (func_at c f).blocks → All (IsBlockAt c (func_at c f)) (region_at c.ops f.0)
+    from_blocks plain blocks = at_all (IsBlockAt c (func_at c f)) (region_at c.ops f.0) (λ k b at. record {
+      plain = at_all (IsPlainAt c) (list_at c.lists b) (λ j o there_o.
+          let w = stands_flat (list_at c.lists) (region_at c.ops f.0) b o k at (j, there_o) in
+          all_at (IsPlainAt c) (held c f.0) plain w.0 o w.1);
+      block = all_at (IsWellFormedBlock (func_at c f)) (func_at c f).blocks blocks k (block_at c b)
+          (ap (λ (xs : List DialectBlock). slice_get xs k) (blocks_are c f there) ∙ same_place (block_in (type_trees c.types) c) (region_at c.ops f.0) block_some k ∙ ap (option_and_then (block_in (type_trees c.types) c)) at ∙ block_data c (func_at c f) b (there k b at));
+    })
+
+    pub body_is : (region : List BlockRef) (t : Bool) → region ≡ region_at c.ops f.0 → Once region → Once (held c f.0) → kind_at c.ops f ≡ Some K.Func → IsHead (func_at c f) → ((d : DialectBlock) → slice_get (func_at c f).blocks 0 ≡ Some d → d.args ≡ params_of (func_at c f).type)
+        → (IsTrue t ↔ All (IsBlockAt c (func_at c f)) region) → IsTrue t ↔ IsFuncAt c f
+    body_is region t is once ops_once kind head entry h =
+        let P : List BlockRef → Type 0 = λ bs. IsTrue t ↔ All (IsBlockAt c (func_at c f)) bs in
+        let Q : List BlockRef → Type 0 = λ bs. (i j : ℕ) (b : BlockRef) → slice_get bs i ≡ Some b → slice_get bs j ≡ Some b → i ≡ j in
+        let blocks = subst P is h in
+        let region_once = subst Q is once in (
+          λ w. let each = each_block (blocks.0 w) in record {
+            kind = kind;
+            plain = each.0;
+            func = record {
+              named = head.named;
+              linkage = head.linkage;
+              signature = head.signature;
+              params = entry;
+              blocks = each.1;
+              block_numbers = λ i j a b p q same. numbers_once (block_in (type_trees c.types) c) (λ (x : DialectBlock). x.number) (λ (b : BlockRef). b.0) (block_number (type_trees c.types) c) same_block (region_at c.ops f.0) block_some region_once i j a b
+                  (ap (λ (xs : List DialectBlock). slice_get xs i) (sym (blocks_are c f there)) ∙ p) (ap (λ (xs : List DialectBlock). slice_get xs j) (sym (blocks_are c f there)) ∙ q) same;
+              numbers = λ i j a b p q same. numbers_once (op_at (type_trees c.types) c.ops) (λ (x : DialectOp). x.number) (λ (o : OpRef). o.0) (op_number (type_trees c.types) c.ops) same_op (held c f.0)
+                  (λ k o at. let d = plain_op c o (all_at (IsPlainAt c) (held c f.0) each.0 k o at) in (d.0, d.1)) ops_once i j a b
+                  (ap (λ (xs : List DialectOp). slice_get xs i) (sym (ops_are c f there)) ∙ p) (ap (λ (xs : List DialectOp). slice_get xs j) (sym (ops_are c f there)) ∙ q) same;
+            };
+          },
+          λ w. blocks.1 (from_blocks w.plain w.func.blocks),
+        )
+
+-- ---- modules
+
+-- a list of one item
+pub one_item : {X : Type 0} (xs : List X) (d : X) → length xs ≡ 1 → xs ≡ get_or xs 0 d ∷ []
+one_item [] d h = absurd (omega arith)
+one_item (x ∷ []) d h = refl
+one_item (x ∷ (y ∷ xs)) d h = absurd (omega arith)
+
+module _ (c : ContextData) where
+  apart_at : (name : List ℕ) (xs : List OpRef) → AreApartFrom c name xs → (k : ℕ) (o : OpRef) → slice_get xs k ≡ Some o → name_at c.ops o.0 ≡ name → ⊥
+  apart_at name [] h k o at same = none-some o at
+  apart_at name (x ∷ xs) h zero o at same = h.0 (ap (λ (o : OpRef). name_at c.ops o.0) (same_Some x o at) ∙ same)
+  apart_at name (x ∷ xs) h (suc k) o at same = apart_at name xs h.1 k o at same
+
+  at_apart : (name : List ℕ) (xs : List OpRef) → ((k : ℕ) (o : OpRef) → slice_get xs k ≡ Some o → name_at c.ops o.0 ≡ name → ⊥) → AreApartFrom c name xs
+  at_apart name [] h = tt
+  at_apart name (x ∷ xs) h = (h 0 x refl, at_apart name xs (λ k o at. h (suc k) o at))
+
+  abbrev NamesOnce : List OpRef → Type 0
+  NamesOnce xs = (i j : ℕ) (p q : OpRef) → slice_get xs i ≡ Some p → slice_get xs j ≡ Some q → name_at c.ops p.0 ≡ name_at c.ops q.0 → i ≡ j
+
+  funcs_at : (xs : List OpRef) → AreFuncLines c xs → (k : ℕ) (o : OpRef) → slice_get xs k ≡ Some o → IsFuncAt c o
+  funcs_at [] h k o at = absurd (none-some o at)
+  funcs_at (x ∷ xs) h zero o at = subst (IsFuncAt c) (same_Some x o at) h.0.0
+  funcs_at (x ∷ xs) h (suc k) o at = funcs_at xs h.1 k o at
+
+  names_at : (xs : List OpRef) → AreFuncLines c xs → (i j : ℕ) (p q : OpRef) → slice_get xs i ≡ Some p → slice_get xs j ≡ Some q → name_at c.ops p.0 ≡ name_at c.ops q.0 → i ≡ j
+  names_at [] h i j p q a b same = absurd (none-some p a)
+  names_at (x ∷ xs) h zero zero p q a b same = refl
+  names_at (x ∷ xs) h zero (suc j) p q a b same = absurd (apart_at (name_at c.ops x.0) xs h.0.1 j q b (sym same ∙ ap (λ (o : OpRef). name_at c.ops o.0) (sym (same_Some x p a))))
+  names_at (x ∷ xs) h (suc i) zero p q a b same = absurd (apart_at (name_at c.ops x.0) xs h.0.1 i p a (same ∙ ap (λ (o : OpRef). name_at c.ops o.0) (sym (same_Some x q b))))
+  names_at (x ∷ xs) h (suc i) (suc j) p q a b same = ap suc (names_at xs h.1 i j p q a b same)
+
+  suc_is : (a b : ℕ) → suc a ≡ suc b → a ≡ b
+  suc_is a b e = omega arith
+
+  lines_of : (xs : List OpRef) → ((k : ℕ) (o : OpRef) → slice_get xs k ≡ Some o → IsFuncAt c o) → NamesOnce xs → AreFuncLines c xs
+  lines_of [] funcs names = tt
+  lines_of (x ∷ xs) funcs names = (
+    (funcs 0 x refl, at_apart (name_at c.ops x.0) xs (λ k o at same. let e : suc k ≡ 0 = names (suc k) 0 o x at refl same in omega arith)),
+    lines_of xs (λ k o at. funcs (suc k) o at) (λ i j p q a b same. suc_is i j (names (suc i) (suc j) p q a b same)),
+  )
+
+  module _ (symbols : (o : OpRef) → kind_at c.ops o ≡ Some K.Func → IsSymbol c.ops o) (m : ℕ) (body : BlockRef) (region : region_at c.ops m ≡ body ∷ []) where
+    held_is : held c m ≡ list_at c.lists body
+    held_is = ap (flat_map (list_at c.lists)) region ∙ append-nil (list_at c.lists body)
+
+    abbrev fs : List Func
+    fs = (data_of c m).functions
+
+    module _ (kinds : (k : ℕ) (o : OpRef) → slice_get (held c m) k ≡ Some o → kind_at c.ops o ≡ Some K.Func) where
+      some_func : (k : ℕ) (o : OpRef) → slice_get (held c m) k ≡ Some o → (g : Func) × (func_in (type_trees c.types) c o ≡ Some g)
+      some_func k o at = (func_at c o, func_data c o (symbols o (kinds k o at)))
+
+      func_there : (k : ℕ) (o : OpRef) → slice_get (held c m) k ≡ Some o → slice_get fs k ≡ Some (func_at c o)
+      func_there k o at = same_place (func_in (type_trees c.types) c) (held c m) some_func k ∙ ap (option_and_then (func_in (type_trees c.types) c)) at ∙ func_data c o (symbols o (kinds k o at))
+
+      there_func : (k : ℕ) (g : Func) → slice_get fs k ≡ Some g → (o : OpRef) × (slice_get (held c m) k ≡ Some o) × (func_at c o ≡ g)
+      there_func k g at = by (slice_get (held c m) k) refl (sym (same_place (func_in (type_trees c.types) c) (held c m) some_func k) ∙ at)
+        where
+          by : (o : Option OpRef) → slice_get (held c m) k ≡ o → option_and_then (func_in (type_trees c.types) c) o ≡ Some g → (o : OpRef) × (slice_get (held c m) k ≡ Some o) × (func_at c o ≡ g)
+          by None is e = absurd (none-some g e)
+          by (Some o) is e = (o, is, same_Some (func_at c o) g (sym (func_data c o (symbols o (kinds k o is))) ∙ e))
+
+    to_module : kind_at c.ops (record { 0 = m }) ≡ Some K.Module → AreFuncLines c (held c m) → IsWellFormed c m
+    to_module kind h =
+        let kinds = λ (k : ℕ) (o : OpRef) (at : slice_get (held c m) k ≡ Some o). (funcs_at (held c m) h k o at).kind in
+        record {
+          kind = kind;
+          body = body;
+          region = region;
+          funcs_alone = at_all (λ (o : OpRef). kind_at c.ops o ≡ Some K.Func) (held c m) kinds;
+          plain = at_all (λ (o : OpRef). All (IsPlainAt c) (held c o.0)) (held c m) (λ k o at. (funcs_at (held c m) h k o at).plain);
+          functions = at_all IsWellFormedFunc fs (λ k g at. let w = there_func kinds k g at in subst IsWellFormedFunc w.2 (funcs_at (held c m) h k w.0 w.1).func);
+          names = λ i j f g a b same.
+              let p = there_func kinds i f a in
+              let q = there_func kinds j g b in
+              names_at (held c m) h i j p.0 q.0 p.1 q.1 (sym (func_name c p.0) ∙ ap (λ (g : Func). g.name) p.2 ∙ same ∙ ap (λ (g : Func). g.name) (sym q.2) ∙ func_name c q.0);
+        }
+
+    from_module : IsWellFormed c m → AreFuncLines c (held c m)
+    from_module w =
+        let kinds = λ (k : ℕ) (o : OpRef) (at : slice_get (held c m) k ≡ Some o). all_at (λ (o : OpRef). kind_at c.ops o ≡ Some K.Func) (held c m) w.funcs_alone k o at in
+        lines_of (held c m)
+        (λ k o at. record {
+          kind = kinds k o at;
+          plain = all_at (λ (o : OpRef). All (IsPlainAt c) (held c o.0)) (held c m) w.plain k o at;
+          func = all_at IsWellFormedFunc fs w.functions k (func_at c o) (func_there kinds k o at);
+        })
+        (λ i j p q a b same. w.names i j (func_at c p) (func_at c q) (func_there kinds i p a) (func_there kinds j q b) (func_name c p ∙ same ∙ sym (func_name c q)))
+
+    pub module_is : (t : Bool) → kind_at c.ops (record { 0 = m }) ≡ Some K.Module → (IsTrue t ↔ AreFuncLines c (list_at c.lists body)) → IsTrue t ↔ IsWellFormed c m
+    module_is t kind h =
+        let P : List OpRef → Type 0 = λ xs. IsTrue t ↔ AreFuncLines c xs in
+        let lines = subst P (sym held_is) h in
+        (λ w. to_module kind (lines.0 w), λ w. lines.1 (from_module w))

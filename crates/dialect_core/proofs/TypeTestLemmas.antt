@@ -1,0 +1,107 @@
+-- What tests of types find.
+use Rattle.std.proofs.Common.{◌≡◌, ◌<◌, ◌≤◌, ◌^◌, ◌*◌, ◌/◌, ℕ, zero, suc, Bool, true, false, nat_eq, List, [], ◌∷◌, All, length, map, get_or, ap, sym, subst, ◌∙◌, refl, arith}
+use Rattle.std.specs.Prelude.{IsTrue, ◌↔◌}
+use Rattle.std.proofs.Math.Nat.{pow-le-pow_right}
+use Rattle.dialect_types.specs.declared.types.TypeHandle.{TypeHandle}
+use Rattle.dialect_types.specs.declared.types.TypeKind.{TypeKind}
+use Rattle.dialect_types.specs.declared.types.TypeKind.TheVariants.{Func}
+use Rattle.dialect_types.specs.Trees.{TypeTree, type_at, types_at, type_tree, AllBelow, HasPartsBelow}
+use Rattle.dialect_core.specs.Form.{IsShortInt, IsShortResult, types_list}
+use Rattle.dialect_core.specs.WellFormed.{IsInteger, IsReturned, IsSignature, IsNarrowSignature, params_of}
+use Rattle.dialect_core.proofs.TestLemmas.{true_same, same_true}
+
+-- ---- all items
+
+-- a fact of all items of a list is one of all that f makes of them
+pub map_at : {X Y : Type 0} (f : X → Y) (xs : List X) (k : ℕ) (d : X) (e : Y) → k < length xs → get_or (map f xs) k e ≡ f (get_or xs k d)
+map_at f [] k d e l = absurd (omega arith)
+map_at f (x ∷ xs) zero d e l = refl
+map_at f (x ∷ xs) (suc k) d e l = map_at f xs k d e (omega arith)
+
+pub map_length : {X Y : Type 0} (f : X → Y) (xs : List X) → length (map f xs) ≡ length xs
+map_length f [] = refl
+map_length f (x ∷ xs) = ap suc (map_length f xs)
+
+pub same_at : {X : Type 0} (xs : List X) (k : ℕ) (d e : X) → k < length xs → get_or xs k d ≡ get_or xs k e
+same_at [] k d e l = absurd (omega arith)
+same_at (x ∷ xs) zero d e l = refl
+same_at (x ∷ xs) (suc k) d e l = same_at xs k d e (omega arith)
+
+pub all_map : {X Y : Type 0} (P : Y → Type 0) (f : X → Y) (xs : List X) → All (λ (x : X). P (f x)) xs → All P (map f xs)
+all_map P f [] h k e l = absurd (omega arith)
+all_map P f (x ∷ xs) h zero e l = h 0 x (omega arith)
+all_map P f (x ∷ xs) h (suc k) e l = all_map P f xs (λ j d within. h (suc j) d (omega arith)) k e (omega arith)
+
+pub map_all : {X Y : Type 0} (P : Y → Type 0) (f : X → Y) (xs : List X) → All P (map f xs) → All (λ (x : X). P (f x)) xs
+map_all P f xs h k d l = subst P (map_at f xs k d (f d) l) (h k (f d) (omega (arith, map_length f xs)))
+
+-- ---- lists of types
+
+pub map_same_from : {X Y : Type 0} (f : X → Y) (xs ys : List X) → length xs ≡ length ys → ((k : ℕ) (d : X) → k < length xs → f (get_or xs k d) ≡ f (get_or ys k d)) → map f xs ≡ map f ys
+map_same_from f [] [] few h = refl
+map_same_from f [] (y ∷ ys) few h = absurd (omega arith)
+map_same_from f (x ∷ xs) [] few h = absurd (omega arith)
+map_same_from f (x ∷ xs) (y ∷ ys) few h =
+    let e = h 0 x (omega arith) in
+    let rest = map_same_from f xs ys (omega arith) (λ k d l. h (suc k) d (omega arith)) in
+    cc
+
+pub map_same_at : {X Y : Type 0} (f : X → Y) (xs ys : List X) (k : ℕ) (d : X) → map f xs ≡ map f ys → k < length xs → f (get_or xs k d) ≡ f (get_or ys k d)
+map_same_at f xs ys k d same l =
+    let few : length ys ≡ length xs = omega (arith, map_length f xs, map_length f ys, ap length same) in
+    sym (map_at f xs k d (f d) l) ∙ ap (λ zs. get_or zs k (f d)) same ∙ map_at f ys k d (f d) (omega arith)
+
+-- ---- function types
+
+pub listed_types : (ts : List TypeTree) (xs : List TypeHandle) → types_list (types_at ts xs) ≡ map (type_at ts) xs
+listed_types ts [] = refl
+listed_types ts (x ∷ xs) = ap (λ (ys : List TypeTree). type_at ts x ∷ ys) (listed_types ts xs)
+
+all_below : (n m : ℕ) (xs : List TypeHandle) → AllBelow n xs → n < m → All (λ (t : TypeHandle). t.0 < m) xs
+all_below n m [] h more k d l = absurd (omega arith)
+all_below n m (x ∷ xs) h more zero d l = omega (arith, h.0)
+all_below n m (x ∷ xs) h more (suc k) d l = all_below n m xs h.1 more k d (omega arith)
+
+-- what a function type takes is there
+pub params_below : (n m : ℕ) (k : TypeKind) (r : TypeHandle) (ps xs : List TypeHandle) (v : Bool) → k ≡ Func r ps v → HasPartsBelow n k → n < m → xs ≡ ps → All (λ (t : TypeHandle). t.0 < m) xs
+params_below n m k r ps xs v is h more are =
+    let P : TypeKind → Type 0 = HasPartsBelow n in
+    let parts : HasPartsBelow n (Func r ps v) = subst P is h in
+    rw are (all_below n m ps parts.1 more)
+
+module _ (ts : List TypeTree) (t : TypeTree) (k : TypeKind) (r : TypeHandle) (ps xs : List TypeHandle) (v : Bool) (is : k ≡ Func r ps v) (tree : t ≡ type_tree ts k) (are : xs ≡ ps) where
+  tree_is : t ≡ type_tree ts (Func r ps v)
+  tree_is = tree ∙ ap (type_tree ts) is
+
+  all_params : (P : TypeTree → Type 0) → All (λ (x : TypeHandle). P (type_at ts x)) xs ↔ All P (types_list (types_at ts ps))
+  all_params P = rw (are, listed_types) ((λ h k d l. all_map P (type_at ts) ps h k d l), (λ h k d l. map_all P (type_at ts) ps h k d l))
+
+  pub signature_is : IsReturned (type_at ts r) → All (λ (x : TypeHandle). IsInteger (type_at ts x)) xs ↔ IsSignature t
+  signature_is returned = rw tree_is ((λ h. (returned, (all_params IsInteger).0 h)), (λ h. (all_params IsInteger).1 h.1))
+
+  pub narrow_is : v ≡ false → (IsShortResult (type_at ts r) × All (λ (x : TypeHandle). IsShortInt (type_at ts x)) xs) ↔ IsNarrowSignature t
+  narrow_is fixed = rw tree_is ((λ h. (h.0, (all_params IsShortInt).0 h.1, fixed)), (λ h. (h.0, (all_params IsShortInt).1 h.1)))
+
+  pub not_narrow : v ≡ true → IsNarrowSignature t → IsTrue false
+  not_narrow more h = let n : IsNarrowSignature (type_tree ts (Func r ps v)) = subst IsNarrowSignature tree_is h in sym n.2 ∙ more
+
+  pub takes_are : (taken : List TypeHandle) → map (type_at ts) taken ≡ map (type_at ts) xs ↔ map (type_at ts) taken ≡ params_of t
+  takes_are taken = rw (tree_is, listed_types, are) ((λ h. h), (λ h. h))
+
+-- ---- values
+
+pub wide_fits : (value width : ℕ) → value < 2 ^ 64 → 64 ≤ width → value < 2 ^ width
+wide_fits value width fits wide = let more : 2 ^ 64 ≤ 2 ^ width = pow-le-pow_right (omega arith) wide in omega arith
+
+pub shifted_out : (value power : ℕ) → 0 < power → IsTrue (nat_eq (value / power) 0) ↔ value < power
+shifted_out value power some = (λ h. below (true_same (nat_eq (value / power) 0) (value / power) 0 refl h), λ h. same_true (nat_eq (value / power) 0) (value / power) 0 refl (zero_of h))
+  where
+    below : value / power ≡ 0 → value < power
+    below e = let p : power * (value / power) ≡ power * 0 = ap (λ (q : ℕ). power * q) e in omega arith
+
+    by : (q : ℕ) → value / power ≡ q → value < power → q ≡ 0
+    by zero e h = refl
+    by (suc q) e h = let p : power * (value / power) ≡ power * suc q = ap (λ (q : ℕ). power * q) e in absurd (omega arith)
+
+    zero_of : value < power → value / power ≡ 0
+    zero_of h = by (value / power) refl h

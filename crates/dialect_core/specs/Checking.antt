@@ -1,0 +1,119 @@
+-- What the tests of well-formedness speak of: the data of a function and of a block of a context, and the lines of a list.
+use Rattle.std.specs.Prelude.{◌≡◌, ℕ, nat_eq, Bool, true, false, List, [], ◌∷◌, Option, Some, All, map, slice_get, is_none}
+use Rattle.std.specs.List.{filter_map, find}
+use Rattle.std.specs.Option.{option_map, option_map_or, option_and_then}
+use Rattle.dialect_types.specs.declared.types.TypeHandle.{TypeHandle}
+use Rattle.dialect_types.specs.Trees.{TypeTree, VoidType, AttrTree, IntegerAttr, type_at, type_trees}
+use Rattle.dialect_core.specs.declared.numbers.OpRef.{OpRef}
+use Rattle.dialect_core.specs.declared.numbers.BlockRef.{BlockRef}
+use Rattle.dialect_core.specs.declared.linkage.LinkageAttr.TheVariants as L
+use Rattle.dialect_core.specs.declared.ops.Value.{Value}
+use Rattle.dialect_core.specs.declared.ops.Successor.{Successor}
+use Rattle.dialect_core.specs.declared.ops.Symbol.{Symbol}
+use Rattle.dialect_core.specs.declared.ops.OpKind.{OpKind}
+use Rattle.dialect_core.specs.declared.ops.OpKind.TheVariants as K
+use Rattle.dialect_core.specs.declared.ops.OpData.{OpData}
+use Rattle.dialect_core.specs.declared.ops.BlockData.{BlockData}
+use Rattle.dialect_core.specs.Lists.{list_at}
+use Rattle.dialect_core.specs.ContextData.{ContextData, kind_at, region_at, symbol_at}
+use Rattle.dialect_core.specs.Data.{Kind, DialectOp, DialectBlock, Func, kind_of, op_at, block_in, name_at, held, value_type}
+use Rattle.dialect_core.specs.Form.{IsFitting}
+use Rattle.dialect_core.specs.WellFormed.{IsInteger, IsSignature, has_word, IsOfKind, IsWellFormedOp, IsWellFormedBlock, IsWellFormedFunc, IsPlainAt, IsValueOf}
+
+-- the tree of a type of the context
+abbrev pub tree_at : ContextData → TypeHandle → TypeTree
+tree_at c t = type_at (type_trees c.types) t
+
+-- the data of a function that is there
+unfoldable pub func_at : ContextData → OpRef → Func
+func_at c o = record {
+  number = o.0;
+  name = name_at c.ops o.0;
+  type = option_map_or (λ (s : Symbol). tree_at c s.ty) (symbol_at c.ops o) VoidType;
+  linkage = option_map_or (λ (s : Symbol). s.linkage) (symbol_at c.ops o) L.GhostLinkage;
+  blocks = filter_map (block_in (type_trees c.types) c) (region_at c.ops o.0);
+}
+
+-- the data of a block that is there
+unfoldable pub block_at : ContextData → BlockRef → DialectBlock
+block_at c b = record {
+  number = b.0;
+  label = option_and_then (λ (x : BlockData). x.label) (slice_get c.blocks b.0);
+  args = map (tree_at c) (option_map_or (λ (x : BlockData). x.args) (slice_get c.blocks b.0) []);
+  ops = filter_map (op_at (type_trees c.types) c.ops) (list_at c.lists b);
+}
+
+-- the types that a block of the function takes, none where it has no such block
+abbrev pub target_args : Func → BlockRef → List TypeTree
+target_args g b = option_map_or (λ (x : DialectBlock). x.args) (find (λ (x : DialectBlock). nat_eq x.number b.0) g.blocks) []
+
+-- a value that an edge passes where the target wants one of that type, or nothing
+pub record Passes (g : Func) (wanted : Option TypeTree) (v : Value) : Type 0 where
+  pub value : IsValueOf g v
+  pub typed : (type : TypeTree) → wanted ≡ Some type → value_type g v ≡ Some type
+
+-- values of the function that have the types that are wanted at their places
+abbrev pub PassesEach : Func → List TypeTree → List Value → Type 0
+PassesEach g wanted vs = (place : ℕ) (v : Value) → slice_get vs place ≡ Some v → Passes g (slice_get wanted place) v
+
+-- a constant of that type, which fits it
+abbrev pub IsConstantOf : Option TypeTree → AttrTree → Type 0
+IsConstantOf own (IntegerAttr type value) = IsInteger type × IsFitting type value × (own ≡ Some type)
+
+-- the kind is one of a function's block, and the operation is as its kind is
+abbrev pub IsKindAt : ContextData → Func → OpKind → List Value → Option TypeHandle → List Successor → Type 0
+IsKindAt c g kind operands own edges = (k : Kind) × (kind_of (type_trees c.types) kind ≡ Some k) × IsOfKind g operands (option_map (tree_at c) own) edges k
+
+-- the operation may stand in a function's block, and is as its kind is
+abbrev pub IsOpAt : ContextData → Func → OpRef → Type 0
+IsOpAt c g o = (d : DialectOp) × (op_at (type_trees c.types) c.ops o ≡ Some d) × IsWellFormedOp g d
+
+abbrev pub ends_kind : OpKind → Bool
+ends_kind K.Br = true
+ends_kind K.CondBr = true
+ends_kind K.Return = true
+ends_kind K.Unreachable = true
+ends_kind _ = false
+
+-- a terminator
+abbrev pub ends_at : ContextData → OpRef → Bool
+ends_at c o = option_map_or (λ (x : OpData). ends_kind x.kind) (slice_get c.ops o.0) false
+
+-- an operation with the one after it in its block: it is a terminator where there is none
+pub record IsLine (c : ContextData) (g : Func) (o : OpRef) (next : Option OpRef) : Type 0 where
+  pub fits : IsOpAt c g o
+  pub ends : ends_at c o ≡ is_none next
+
+-- each operation holds with those after it
+abbrev pub Each : (OpRef → List OpRef → Type 0) → List OpRef → Type 0
+Each P [] = Unit {0}
+Each P (x ∷ xs) = P x xs × Each P xs
+
+-- each is a line before those after it
+abbrev pub AreLines : ContextData → Func → List OpRef → Type 0
+AreLines c g os = Each (λ (o : OpRef) (rest : List OpRef). IsLine c g o (slice_get rest 0)) os
+
+-- the block holds neither functions nor modules, and its data are well-formed
+pub record IsBlockAt (c : ContextData) (g : Func) (b : BlockRef) : Type 0 where
+  pub plain : All (IsPlainAt c) (list_at c.lists b)
+  pub block : IsWellFormedBlock g (block_at c b)
+
+-- the name, the linkage and the type of a function are well-formed
+pub record IsHead (g : Func) : Type 0 where
+  pub named : ¬ (g.name ≡ [])
+  pub linkage : has_word g.linkage ≡ true
+  pub signature : IsSignature g.type
+
+-- the operation is a function, whose blocks hold neither functions nor modules, and whose data are well-formed
+pub record IsFuncAt (c : ContextData) (o : OpRef) : Type 0 where
+  pub kind : kind_at c.ops o ≡ Some K.Func
+  pub plain : All (IsPlainAt c) (held c o.0)
+  pub func : IsWellFormedFunc (func_at c o)
+
+-- none of the operations has the name
+abbrev pub AreApartFrom : ContextData → List ℕ → List OpRef → Type 0
+AreApartFrom c name os = Each (λ (p : OpRef) (rest : List OpRef). ¬ (name_at c.ops p.0 ≡ name)) os
+
+-- each is such a function, and none of those after it has its name
+abbrev pub AreFuncLines : ContextData → List OpRef → Type 0
+AreFuncLines c os = Each (λ (o : OpRef) (rest : List OpRef). IsFuncAt c o × AreApartFrom c (name_at c.ops o.0) rest) os

@@ -1,0 +1,171 @@
+-- Well-formed modules: the rules of the dialect for the kinds of operations that there are, and what the form that is
+-- translated today (`IsFormFunc`) asks besides.
+use Rattle.std.specs.Prelude.{◌≡◌, ◌≤◌, ◌^◌, ℕ, Bool, true, false, List, [], ◌∷◌, length, slice_get, Option, Some, None, All, IfSome}
+use Rattle.dialect_types.specs.Trees.{TypeTree, VoidType, IntegerType, FuncType, IntegerAttr}
+use Rattle.dialect_types.specs.Names.{IsPlainName}
+use Rattle.dialect_core.specs.declared.numbers.OpRef.{OpRef}
+use Rattle.dialect_core.specs.declared.numbers.BlockRef.{BlockRef}
+use Rattle.dialect_core.specs.declared.linkage.LinkageAttr.{LinkageAttr}
+use Rattle.dialect_core.specs.declared.linkage.LinkageAttr.TheVariants as L
+use Rattle.dialect_core.specs.declared.ops.Value.{Value}
+use Rattle.dialect_core.specs.declared.ops.Successor.{Successor}
+use Rattle.dialect_core.specs.declared.ops.OpKind.TheVariants as K
+use Rattle.dialect_core.specs.ContextData.{ContextData, kind_at, region_at, is_plain}
+use Rattle.dialect_core.specs.Data.{Kind, ConstantOp, AddOp, ICmpOp, BrOp, CondBrOp, ReturnOp, UnreachableOp, DialectOp, DialectBlock, Func, held, data_of, ops_in, value_type}
+use Rattle.dialect_core.specs.Form.{IsFitting, IsShortInt, IsShortResult, EndsInOnly, HasConstantsFirst, is_constant, types_list, result_of}
+
+-- ---- types
+
+-- an integer type: of 1 to 2^23 bits
+abbrev pub IsInteger : TypeTree → Type 0
+IsInteger (IntegerType w) = (1 ≤ w) × (w ≤ 2 ^ 23)
+IsInteger _ = ⊥
+
+-- what a function returns: nothing, or an integer
+abbrev pub IsReturned : TypeTree → Type 0
+IsReturned VoidType = Unit {0}
+IsReturned t = IsInteger t
+
+-- the type of a function: void stands only as its result, and it stands in no other type
+abbrev pub IsSignature : TypeTree → Type 0
+IsSignature (FuncType result params variadic) = IsReturned result × All IsInteger (types_list params)
+IsSignature _ = ⊥
+
+-- what a function of that type takes
+abbrev pub params_of : TypeTree → List TypeTree
+params_of (FuncType result params variadic) = types_list params
+params_of _ = []
+
+-- ---- operations
+
+-- a value of the function: a result of one of its operations, or an argument of one of its blocks
+abbrev pub IsValueOf : Func → Value → Type 0
+IsValueOf g v = (type : TypeTree) × (value_type g v ≡ Some type)
+
+-- two values of one integer type
+pub record AreIntegers (g : Func) (type : TypeTree) (vs : List Value) : Type 0 where
+  pub lhs : Value
+  pub rhs : Value
+  pub are : vs ≡ lhs ∷ rhs ∷ []
+  pub integer : IsInteger type
+  pub left : value_type g lhs ≡ Some type
+  pub right : value_type g rhs ≡ Some type
+
+-- what a return has: nothing in a function that returns nothing, else one value of the type that is returned
+abbrev pub Returned : Func → TypeTree → List Value → Type 0
+Returned g VoidType vs = vs ≡ []
+Returned g type vs = (v : Value) × (vs ≡ v ∷ []) × (value_type g v ≡ Some type)
+
+-- An edge does not go to the first block. It passes values of the function, and where the target has an argument at the
+-- place of such a value, the two have one type.
+pub record IsEdge (g : Func) (s : Successor) : Type 0 where
+  pub no_entry : (b : DialectBlock) → slice_get g.blocks 0 ≡ Some b → ¬ (s.block.0 ≡ b.number)
+  pub args : All (IsValueOf g) s.args
+  pub typed : (i : ℕ) (b : DialectBlock) (place : ℕ) (v : Value) (type : TypeTree)
+      → slice_get g.blocks i ≡ Some b → b.number ≡ s.block.0 → slice_get s.args place ≡ Some v → slice_get b.args place ≡ Some type → value_type g v ≡ Some type
+
+-- as many edges
+abbrev pub AreEdges : Func → ℕ → List Successor → Type 0
+AreEdges g count ss = (length ss ≡ count) × All (IsEdge g) ss
+
+-- the operands, the result and the edges of an operation: a line for each kind
+abbrev pub IsOfKind : Func → List Value → Option TypeTree → List Successor → Kind → Type 0
+IsOfKind g operands own edges (ConstantOp (IntegerAttr type value)) = IsInteger type × IsFitting type value × (own ≡ Some type) × (operands ≡ []) × (edges ≡ [])
+IsOfKind g operands own edges (AddOp flags) = (type : TypeTree) × AreIntegers g type operands × (own ≡ Some type) × (edges ≡ [])
+IsOfKind g operands own edges (ICmpOp predicate) = ((type : TypeTree) × AreIntegers g type operands) × (own ≡ Some (IntegerType 1)) × (edges ≡ [])
+IsOfKind g operands own edges BrOp = (operands ≡ []) × (own ≡ None) × AreEdges g 1 edges
+IsOfKind g operands own edges CondBrOp = ((condition : Value) × (operands ≡ condition ∷ []) × (value_type g condition ≡ Some (IntegerType 1))) × (own ≡ None) × AreEdges g 2 edges
+IsOfKind g operands own edges ReturnOp = Returned g (result_of g.type) operands × (own ≡ None) × (edges ≡ [])
+IsOfKind g operands own edges UnreachableOp = (operands ≡ []) × (own ≡ None) × (edges ≡ [])
+
+-- an operation of the function
+abbrev pub IsWellFormedOp : Func → DialectOp → Type 0
+IsWellFormedOp g o = IsOfKind g o.operands o.result o.successors o.kind
+
+-- ---- blocks and functions
+
+-- a block of the function: its arguments are integers, and one terminator stands in it, last
+pub record IsWellFormedBlock (g : Func) (b : DialectBlock) : Type 0 where
+  pub args : All IsInteger b.args
+  pub ops : All (IsWellFormedOp g) b.ops
+  pub ends : EndsInOnly b.ops
+
+-- a linkage that has a word in a text
+abbrev pub has_word : LinkageAttr → Bool
+has_word L.LinkOnceODRAutoHideLinkage = false
+has_word L.DLLImportLinkage = false
+has_word L.DLLExportLinkage = false
+has_word L.LinkerPrivateLinkage = false
+has_word L.LinkerPrivateWeakLinkage = false
+has_word L.GhostLinkage = false
+has_word _ = true
+
+-- a function, with a body or without: the first block takes what the function takes, and no number of a block or of an
+-- operation stands twice
+pub record IsWellFormedFunc (g : Func) : Type 0 where
+  pub named : ¬ (g.name ≡ [])
+  pub linkage : has_word g.linkage ≡ true
+  pub signature : IsSignature g.type
+  pub params : (b : DialectBlock) → slice_get g.blocks 0 ≡ Some b → b.args ≡ params_of g.type
+  pub blocks : All (IsWellFormedBlock g) g.blocks
+  pub block_numbers : (i j : ℕ) (a b : DialectBlock) → slice_get g.blocks i ≡ Some a → slice_get g.blocks j ≡ Some b → a.number ≡ b.number → i ≡ j
+  pub numbers : (i j : ℕ) (a b : DialectOp) → slice_get (ops_in g) i ≡ Some a → slice_get (ops_in g) j ≡ Some b → a.number ≡ b.number → i ≡ j
+
+-- ---- modules
+
+-- no two functions have one name
+abbrev pub HasNamesApart : List Func → Type 0
+HasNamesApart fs = (i j : ℕ) (f g : Func) → slice_get fs i ≡ Some f → slice_get fs j ≡ Some g → f.name ≡ g.name → i ≡ j
+
+-- an operation that is neither a module nor a function
+abbrev pub IsPlainAt : ContextData → OpRef → Type 0
+IsPlainAt c o = (k : _) × (kind_at c.ops o ≡ Some k) × (is_plain k ≡ true)
+
+-- The operation of the number m is a module of one block. That block holds functions alone, whose blocks hold neither
+-- functions nor modules: the data leave such out, so these rules speak of the context.
+pub record IsWellFormed (c : ContextData) (m : ℕ) : Type 0 where
+  pub kind : kind_at c.ops (record { 0 = m }) ≡ Some K.Module
+  pub body : BlockRef
+  pub region : region_at c.ops m ≡ body ∷ []
+  pub funcs_alone : All (λ (o : OpRef). kind_at c.ops o ≡ Some K.Func) (held c m)
+  pub plain : All (λ (o : OpRef). All (IsPlainAt c) (held c o.0)) (held c m)
+  pub functions : All IsWellFormedFunc (data_of c m).functions
+  pub names : HasNamesApart (data_of c m).functions
+
+-- ---- what the form asks besides
+
+-- an operation of the form: its result, where it has one, is of 1 to 64 bits, and its name is plain
+pub record IsNarrowOp (o : DialectOp) : Type 0 where
+  pub result : IfSome o.result IsShortInt
+  pub name : IfSome o.name IsPlainName
+
+-- a block of the form: its arguments are of 1 to 64 bits, and its label is plain
+pub record IsNarrowBlock (b : DialectBlock) : Type 0 where
+  pub args : All IsShortInt b.args
+  pub ops : All IsNarrowOp b.ops
+  pub label : IfSome b.label IsPlainName
+
+-- the types that a function takes and returns are of 1 to 64 bits, and it is not variadic
+abbrev pub IsNarrowSignature : TypeTree → Type 0
+IsNarrowSignature (FuncType result params variadic) = IsShortResult result × All IsShortInt (types_list params) × (variadic ≡ false)
+IsNarrowSignature _ = ⊥
+
+-- the constants of a function stand in its first block, before all else
+pub record HasConstantsInEntry (blocks : List DialectBlock) : Type 0 where
+  pub entry : DialectBlock
+  pub more : List DialectBlock
+  pub are : blocks ≡ entry ∷ more
+  pub first : HasConstantsFirst entry.ops
+  pub others : All (λ (b : DialectBlock). All (λ (o : DialectOp). is_constant o ≡ false) b.ops) more
+
+-- a function of the form, as far as that is narrower: it has a body and external linkage
+pub record IsNarrowFunc (g : Func) : Type 0 where
+  pub name : IsPlainName g.name
+  pub linkage : g.linkage ≡ L.ExternalLinkage
+  pub signature : IsNarrowSignature g.type
+  pub blocks : All IsNarrowBlock g.blocks
+  pub constants : HasConstantsInEntry g.blocks
+
+-- each function of the module is so
+abbrev pub IsNarrow : ContextData → ℕ → Type 0
+IsNarrow c m = All IsNarrowFunc (data_of c m).functions

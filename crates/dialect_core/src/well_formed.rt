@@ -1,0 +1,242 @@
+//! Tests of blocks, functions and modules: whether they keep the rules of the dialect.
+
+ghost use Rattle.std.specs.Prelude.{◌≡◌, ◌<◌, ◌↔◌, ◌∷◌, [], IsTrue, IfSome, All, Some, length, slice_get};
+ghost use Rattle.dialect_core.specs.declared.ops.OpKind.TheVariants as kinds;
+ghost use Rattle.dialect_core.specs.Lists.{list_at, from_op};
+ghost use Rattle.dialect_core.specs.ContextData.{IsSymbol, kind_at};
+ghost use Rattle.dialect_core.specs.Data.{DialectBlock, IsTyped, name_at};
+ghost use Rattle.dialect_core.specs.WellFormed.{IsWellFormed, has_word, params_of};
+ghost use Rattle.dialect_core.specs.Checking.{AreApartFrom, AreFuncLines, AreLines, IsBlockAt, IsFuncAt, IsHead, IsLine, func_at};
+
+use crate::context::Context;
+use crate::linkage::LinkageAttr;
+use crate::module_printing::name_of;
+use crate::numbers::{BlockRef, ModuleOp, OpRef};
+use crate::op_tests::{is_ending, op_fits};
+use crate::ops::OpKind;
+use crate::type_tests::{all_integers, is_signature, takes};
+
+/// The operation after another in a block. What is left of the block's list from the one is it and what is left from
+/// the other.
+fn next_in_block(ctx: &Context, block: BlockRef, op: OpRef) -> Option<OpRef>
+    requires block { block.0 < length ctx.now.blocks }
+    requires op { op.0 < length ctx.now.ops }
+    requires here { Some op ≡ slice_get (from_op (Some op) (list_at ctx.now.lists block)) 0 }
+    ensures rest { from_op (Some op) (list_at ctx.now.lists block) ≡ op ∷ from_op result (list_at ctx.now.lists block) }
+    ensures head { result ≡ slice_get (from_op result (list_at ctx.now.lists block)) 0 }
+    ensures within { IfSome result (λ o. o.0 < length ctx.now.ops) }
+{
+    let _first = ctx.first_op(block);
+    ctx.next_op(op)
+}
+
+/// The first operation of a block. What is left of its list from that one is the list.
+fn first_in_block(ctx: &Context, block: BlockRef) -> Option<OpRef>
+    requires { block.0 < length ctx.now.blocks }
+    ensures rest { from_op result (list_at ctx.now.lists block) ≡ list_at ctx.now.lists block }
+    ensures head { result ≡ slice_get (list_at ctx.now.lists block) 0 }
+    ensures within { IfSome result (λ o. o.0 < length ctx.now.ops) }
+{
+    ctx.first_op(block)
+}
+
+/// Whether an operation of the function is as its kind is, and is a terminator just where none comes after it.
+fn line_fits(ctx: &Context, func: OpRef, op: OpRef, next: Option<OpRef>) -> bool
+    requires func { IsSymbol ctx.now.ops func }
+    requires within { func.0 < length ctx.now.ops }
+    requires op { op.0 < length ctx.now.ops }
+    requires typed { IsTyped ctx.now }
+    ensures { IsTrue result ↔ IsLine ctx.now (func_at ctx.now func) op next }
+{
+    is_ending(ctx.op_kind(op)) == next.is_none() && op_fits(ctx, func, op)
+}
+
+/// Whether the operations of a block are as their kinds are, with terminators just at its end.
+fn lines_fit(ctx: &Context, func: OpRef, block: BlockRef) -> bool
+    requires func { IsSymbol ctx.now.ops func }
+    requires within { func.0 < length ctx.now.ops }
+    requires block { block.0 < length ctx.now.blocks }
+    requires typed { IsTyped ctx.now }
+    ensures { IsTrue result ↔ AreLines ctx.now (func_at ctx.now func) (list_at ctx.now.lists block) }
+{
+    let mut next = first_in_block(ctx, block);
+    while let Some(op) = next {
+        let after = next_in_block(ctx, block, op);
+        if !line_fits(ctx, func, op, after) {
+            return false;
+        }
+        next = after;
+    }
+    true
+}
+
+/// Whether a block of the function is well-formed: its arguments are integers, and one terminator stands in it, last.
+fn block_fits(ctx: &Context, func: OpRef, block: BlockRef) -> bool
+    requires func { IsSymbol ctx.now.ops func }
+    requires within { func.0 < length ctx.now.ops }
+    requires block { block.0 < length ctx.now.blocks }
+    requires typed { IsTyped ctx.now }
+    ensures { IsTrue result ↔ IsBlockAt ctx.now (func_at ctx.now func) block }
+{
+    if first_in_block(ctx, block).is_none() {
+        return false;
+    }
+    if !all_integers(ctx.types(), ctx.block_args(block)) {
+        return false;
+    }
+    lines_fit(ctx, func, block)
+}
+
+/// Whether blocks of the function are well-formed.
+fn blocks_fit(ctx: &Context, func: OpRef, blocks: &[BlockRef]) -> bool
+    requires func { IsSymbol ctx.now.ops func }
+    requires within { func.0 < length ctx.now.ops }
+    requires blocks { All (λ b. b.0 < length ctx.now.blocks) blocks.now }
+    requires typed { IsTyped ctx.now }
+    ensures { IsTrue result ↔ All (IsBlockAt ctx.now (func_at ctx.now func)) blocks.now }
+{
+    for block in blocks {
+        if !block_fits(ctx, func, *block) {
+            return false;
+        }
+    }
+    true
+}
+
+/// Whether a linkage has a word in a text.
+fn is_written(linkage: LinkageAttr) -> bool
+    ensures { result ≡ has_word linkage }
+{
+    match linkage {
+        LinkageAttr::LinkOnceODRAutoHideLinkage
+        | LinkageAttr::DLLImportLinkage
+        | LinkageAttr::DLLExportLinkage
+        | LinkageAttr::LinkerPrivateLinkage
+        | LinkageAttr::LinkerPrivateWeakLinkage
+        | LinkageAttr::GhostLinkage => false,
+        LinkageAttr::ExternalLinkage
+        | LinkageAttr::AvailableExternallyLinkage
+        | LinkageAttr::LinkOnceAnyLinkage
+        | LinkageAttr::LinkOnceODRLinkage
+        | LinkageAttr::WeakAnyLinkage
+        | LinkageAttr::WeakODRLinkage
+        | LinkageAttr::AppendingLinkage
+        | LinkageAttr::InternalLinkage
+        | LinkageAttr::PrivateLinkage
+        | LinkageAttr::ExternalWeakLinkage
+        | LinkageAttr::CommonLinkage => true,
+    }
+}
+
+/// Whether the first block of a function takes what the function takes.
+fn entry_fits(ctx: &Context, func: OpRef) -> bool
+    requires func { IsSymbol ctx.now.ops func }
+    requires within { func.0 < length ctx.now.ops }
+    requires typed { IsTyped ctx.now }
+    ensures { IsTrue result ↔ ((b : DialectBlock) → slice_get (func_at ctx.now func).blocks 0 ≡ Some b → b.args ≡ params_of (func_at ctx.now func).type) }
+{
+    match ctx.region(func).first() {
+        Some(entry) => takes(ctx.types(), ctx.symbol_type(func), ctx.block_args(*entry)),
+        None => true,
+    }
+}
+
+/// Whether the head of a function is well-formed: its name, its linkage and its type.
+fn head_fits(ctx: &Context, func: OpRef) -> bool
+    requires func { IsSymbol ctx.now.ops func }
+    requires within { func.0 < length ctx.now.ops }
+    requires typed { IsTyped ctx.now }
+    ensures { IsTrue result ↔ IsHead (func_at ctx.now func) }
+{
+    if name_of(ctx, func).is_empty() {
+        return false;
+    }
+    if !is_written(ctx.symbol_linkage(func)) {
+        return false;
+    }
+    is_signature(ctx.types(), ctx.symbol_type(func))
+}
+
+/// Whether a function is well-formed, and its blocks hold neither functions nor modules.
+fn body_fits(ctx: &Context, func: OpRef) -> bool
+    requires func { IsSymbol ctx.now.ops func }
+    requires within { func.0 < length ctx.now.ops }
+    requires typed { IsTyped ctx.now }
+    requires kind { kind_at ctx.now.ops func ≡ Some kinds.Func }
+    ensures { IsTrue result ↔ IsFuncAt ctx.now func }
+{
+    let region = ctx.region(func);
+    if !head_fits(ctx, func) {
+        return false;
+    }
+    if !entry_fits(ctx, func) {
+        return false;
+    }
+    blocks_fit(ctx, func, region)
+}
+
+/// Whether an operation is a function that is well-formed, and whose blocks hold neither functions nor modules.
+fn func_fits(ctx: &Context, op: OpRef) -> bool
+    requires op { op.0 < length ctx.now.ops }
+    requires typed { IsTyped ctx.now }
+    ensures { IsTrue result ↔ IsFuncAt ctx.now op }
+{
+    match ctx.op_kind(op) {
+        OpKind::Func => body_fits(ctx, op),
+        _ => false,
+    }
+}
+
+/// Whether no operation of a block from one on has the name.
+fn is_name_free(ctx: &Context, block: BlockRef, from: Option<OpRef>, name: &str) -> bool
+    requires block { block.0 < length ctx.now.blocks }
+    requires from { IfSome from (λ o. o.0 < length ctx.now.ops) }
+    requires here { from ≡ slice_get (from_op from (list_at ctx.now.lists block)) 0 }
+    ensures { IsTrue result ↔ AreApartFrom ctx.now name.now (from_op from (list_at ctx.now.lists block)) }
+{
+    let mut next = from;
+    while let Some(op) = next {
+        let after = next_in_block(ctx, block, op);
+        if name_of(ctx, op) == name {
+            return false;
+        }
+        next = after;
+    }
+    true
+}
+
+/// Whether the operations of a block are well-formed functions of different names. Each name is compared with those of
+/// all later functions, since there is no memory to note it in: so this takes a square of the functions' number.
+fn funcs_fit(ctx: &Context, block: BlockRef) -> bool
+    requires block { block.0 < length ctx.now.blocks }
+    requires typed { IsTyped ctx.now }
+    ensures { IsTrue result ↔ AreFuncLines ctx.now (list_at ctx.now.lists block) }
+{
+    let mut next = first_in_block(ctx, block);
+    while let Some(op) = next {
+        let after = next_in_block(ctx, block, op);
+        if !func_fits(ctx, op) {
+            return false;
+        }
+        if !is_name_free(ctx, block, after, name_of(ctx, op)) {
+            return false;
+        }
+        next = after;
+    }
+    true
+}
+
+/// Whether an operation is a module that is well-formed.
+pub fn well_formed(ctx: &Context, root: ModuleOp) -> bool
+    requires root { root.0.0 < length ctx.now.ops }
+    requires typed { IsTyped ctx.now }
+    ensures { IsTrue result ↔ IsWellFormed ctx.now root.0.0 }
+{
+    let OpKind::Module = ctx.op_kind(root.0) else {
+        return false;
+    };
+    match ctx.region(root.0) {
+        [body] => funcs_fit(ctx, *body),
+        _ => false,
+    }
+}

@@ -1,0 +1,87 @@
+-- A function that an import made has the code of the one that it stands for.
+use Rattle.std.proofs.Common.{ℕ, zero, suc, ◌≡◌, ◌<◌, ◌≤◌, refl, sym, ◌∙◌, ap, Bool, true, if◌then◌else◌, List, [], ◌∷◌, Some, None, length, slice_get, slice_index_or, nat_lt, arith}
+use Rattle.std.proofs.lemmas.Bool.{lt-ltb}
+use Rattle.std.proofs.lemmas.Option.{slice_get_within}
+use Rattle.llvm_core.specs.Data as L
+use Rattle.llvm_core.specs.Data.{ModuleData, TypeTree, VoidType, IntType, FunctionType, TypeTrees, NoTypes, ThenType}
+use Rattle.llvm_core.specs.Form.{IsFormFunction}
+use Rattle.llvm_core.proofs.DataLemmas.{within_at, there}
+use Rattle.dialect_core.specs.Data as D
+use Rattle.meaning.specs.Terms.{Match, rename_type, rename_types}
+use Rattle.meaning.specs.Code.{Body, FunctionSymbol, External, SameNamed, SameBody, SameBodies, IsOneToOne, rename_symbol}
+use Rattle.meaning.specs.Llvm as Llvm
+use Rattle.meaning.specs.Dialect as Dialect
+use Rattle.meaning.specs.Dialect.{type_of}
+use Rattle.meaning.proofs.ShapeLaws.{same_shape}
+use Rattle.meaning.proofs.EntryLaws.{some_blocks, not_empty, same_symbol, both}
+use Rattle.from_llvm_ir.specs.declared.matching.FunctionBlocks.{FunctionBlocks}
+use Rattle.from_llvm_ir.specs.Match.{IsPlaces, place_at}
+use Rattle.from_llvm_ir.specs.Imported.{ImportedFunction, IsImportedBlock}
+use Rattle.from_llvm_ir.proofs.PairLaws.{same_length}
+
+-- ---- blocks
+
+index_inside : (ps : List ℕ) (i p d : ℕ) → slice_get ps i ≡ Some p → slice_index_or ps i d ≡ p
+index_inside [] i p d e = absurd (let no : ⊥ = cc in no)
+index_inside (q ∷ qs) zero p d e = let same : q ≡ p = cc in same
+index_inside (q ∷ qs) (suc i) p d e = index_inside qs i p d e
+
+index_past : (ps : List ℕ) (i d : ℕ) → length ps ≤ i → slice_index_or ps i d ≡ d
+index_past [] i d h = refl
+index_past (q ∷ qs) zero d h = absurd (omega (arith, h))
+index_past (q ∷ qs) (suc i) d h = index_past qs i d (omega (arith, h))
+
+-- the dialect has as many blocks as the source
+pub same_blocks : (d : ModuleData) (f : L.Function) (x : FunctionBlocks) (g : D.Func) → ImportedFunction d f x g → length g.blocks ≡ length f.blocks
+same_blocks d f x g h =
+    same_length (IsImportedBlock h.hoisted) f.blocks g.blocks (λ (b : ℕ). place_at b x)
+    (λ p small. let (i, at) = h.places.onto p small in (i, (let s = slice_get_within x.places i p at in let c = h.places.count in omega (arith, s, c)), index_inside x.places i p i at))
+    (index_past x.places (length f.blocks) (length f.blocks) (let c = h.places.count in omega (arith, c)))
+    h.blocks
+
+-- the match is one-to-one
+pub one_to_one : (x : FunctionBlocks) (n m : ℕ) (here : ℕ → ℕ) → IsPlaces n x.places → ((b : ℕ) → here b ≡ place_at b x) → m ≡ n → IsOneToOne here n m
+one_to_one x n m here h is same = record {
+  onto = λ j small.
+      let (i, at) = h.onto j (omega (arith, small, same)) in
+      let inside : i < n = let s = slice_get_within x.places i j at in let c = h.count in omega (arith, s, c) in
+      (i, inside, is i ∙ index_inside x.places i j i at);
+  within = λ i small.
+      let (p, at) = there x.places i (let c = h.count in omega (arith, small, c)) in
+      let low : p < n = within_at x.places (λ (q : ℕ). q < n) h.within i p at in
+      let e : here i ≡ p = is i ∙ index_inside x.places i p i at in
+      omega (arith, low, e, same);
+  apart = λ i j si sj e.
+      let (p, at) = there x.places i (let c = h.count in omega (arith, si, c)) in
+      let (q, bt) = there x.places j (let c = h.count in omega (arith, sj, c)) in
+      let one : p ≡ q = sym (index_inside x.places i p i at) ∙ sym (is i) ∙ e ∙ is j ∙ index_inside x.places j q j bt in
+      h.apart i j p at (bt ∙ ap Some (sym one));
+}
+
+-- ---- a function and what an import made of it
+
+module _ (match : Match) (d : ModuleData) (f : L.Function) (x : FunctionBlocks) (g : D.Func) (here : (b : ℕ) → match.block f.name b ≡ place_at b x)
+    (form : IsFormFunction f) (h : ImportedFunction d f x g) where
+  pub has : Llvm.has_blocks f ≡ true
+  has = some_blocks f.blocks form.body
+
+  has_dialect : Dialect.has_blocks g ≡ true
+  has_dialect = some_blocks g.blocks (not_empty f.blocks g.blocks (same_blocks d f x g h) form.body)
+
+  pub imported_body : SameBody match f.name (Llvm.body d f) (Dialect.body g)
+  imported_body = record {
+    blocks = one_to_one x (length f.blocks) (length g.blocks) (match.block f.name) h.places here (same_blocks d f x g h);
+    traces = same_shape match d f g (h.shape match here);
+  }
+
+  linked : FunctionSymbol (type_of g.type) (Dialect.linkage g.linkage) 0 (Dialect.has_blocks g) ≡ FunctionSymbol (type_of g.type) External 0 (Dialect.has_blocks g)
+  linked = rw h.form.linkage refl
+
+  pub imported_entry : SameNamed match (Llvm.entry d f) (Dialect.entry g)
+  imported_entry = record {
+    name = sym h.name;
+    entry = record {
+      symbol = same_symbol match f.type (type_of g.type) f.space (Llvm.has_blocks f) (Dialect.has_blocks g) (sym h.type) form.space (has ∙ sym has_dialect) ∙ sym linked;
+      body = both match f.name (Llvm.has_blocks f) (Dialect.has_blocks g) (Llvm.body d f) (Dialect.body g) has has_dialect imported_body;
+    };
+  }

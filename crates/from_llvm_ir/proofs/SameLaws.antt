@@ -1,0 +1,58 @@
+-- A module that an import made has the code of its source.
+use Rattle.std.proofs.Common.{ℕ, ◌≡◌, refl, sym, ◌∙◌, ap, subst, Bool, true, false, not, List, [], ◌∷◌, Some, map, filter, slice_get, All, arith}
+use Rattle.std.proofs.lemmas.List.Elements.{All-nil, All-cons, All-head, All-tail}
+use Rattle.std.proofs.lemmas.Option.{slice_get_within}
+use Rattle.llvm_core.specs.Module.{Module}
+use Rattle.llvm_core.specs.Form.{IsForm, IsFormFunction}
+use Rattle.llvm_core.specs.Data as L
+use Rattle.llvm_core.specs.Data.{ModuleData, data_of}
+use Rattle.llvm_core.proofs.DataLemmas.{within_at, there, function_at, function_count}
+use Rattle.dialect_core.specs.Data as D
+use Rattle.meaning.specs.Pairs.{Matched}
+use Rattle.meaning.specs.Code.{Entry, IsDistinctNames, SameNamed, SameCode, names_of}
+use Rattle.meaning.specs.Llvm as Llvm
+use Rattle.meaning.specs.Dialect as Dialect
+use Rattle.meaning.proofs.CodeLaws.{same_code}
+use Rattle.meaning.proofs.EntryLaws.{HasPlainName, all_kept, distinct_code}
+use Rattle.from_llvm_ir.specs.declared.importing.Imported.{Imported}
+use Rattle.from_llvm_ir.specs.declared.matching.FunctionBlocks.{FunctionBlocks}
+use Rattle.from_llvm_ir.specs.Match.{match_of}
+use Rattle.from_llvm_ir.specs.Imported.{AreImported, IsImported, imported_data}
+use Rattle.from_llvm_ir.proofs.PairLaws.{matched_of, matched_map}
+use Rattle.from_llvm_ir.proofs.MatchedLaws.{function_names, partner, count_imported, matched_place}
+use Rattle.from_llvm_ir.proofs.CodeLaws.{imported_entry}
+
+pub plain_names : (fs : List L.Function) → All IsFormFunction fs → All HasPlainName fs
+plain_names [] h = All-nil HasPlainName
+plain_names (f ∷ fs) h = All-cons HasPlainName f fs (All-head IsFormFunction f fs h).name (plain_names fs (All-tail IsFormFunction f fs h))
+
+-- ---- entries, place by place
+
+module _ (d : ModuleData) (xs : List FunctionBlocks) (gs : List D.Func) (form : All IsFormFunction d.functions) (distinct : IsDistinctNames (function_names d.functions))
+    (numbered : (i : ℕ) (f : L.Function) → slice_get d.functions i ≡ Some f → f.number ≡ i) (h : AreImported d d.functions xs gs) where
+  entries_there : Matched (λ (f : L.Function) (g : D.Func). SameNamed (match_of d xs) (Llvm.entry d f) (Dialect.entry g)) d.functions gs
+  entries_there = matched_of (λ (f : L.Function) (g : D.Func). SameNamed (match_of d xs) (Llvm.entry d f) (Dialect.entry g)) d.functions gs (sym (count_imported d d.functions xs gs h).1) (λ i f g at gt.
+      let p = partner d d.functions xs gs h i f at in
+      let same : p.func ≡ g = let e = sym p.func_at ∙ gt in cc in
+      subst (λ (g : D.Func). SameNamed (match_of d xs) (Llvm.entry d f) (Dialect.entry g)) same
+      (imported_entry (match_of d xs) d f p.entry p.func (matched_place d xs gs distinct numbered h i f p.entry at p.entry_at) (within_at d.functions IsFormFunction form i f at) p.imported))
+
+  pub same_dialect : (target : D.DialectModule) → target.functions ≡ gs → SameCode (match_of d xs) (Llvm.code_of d) (Dialect.code_of target)
+  same_dialect target are =
+      let match = match_of d xs in
+      let pairs = matched_map (SameNamed match) (Llvm.entry d) Dialect.entry d.functions gs entries_there in
+      same_code match (Llvm.code_of d) (Dialect.code_of target) (distinct_code d (plain_names d.functions form) distinct) (rw (all_kept d.functions (plain_names d.functions form), are) pairs)
+
+-- ---- modules
+
+pub function_numbered : (m : Module) (i : ℕ) (f : L.Function) → slice_get (data_of m).functions i ≡ Some f → f.number ≡ i
+function_numbered m i f at =
+    let small = slice_get_within (data_of m).functions i f at in
+    let (x, here) = there m.functions i (let c = function_count m in omega (arith, small, c)) in
+    let same = sym (function_at m i x here) ∙ at in
+    cc same
+
+pub same_imported : (m : Module) (i : Imported) → IsForm (data_of m) → IsImported (data_of m) i
+    → IsDistinctNames (function_names (data_of m).functions) → SameCode (match_of (data_of m) i.blocks) (Llvm.code_of (data_of m)) (Dialect.code_of (imported_data i))
+same_imported m i form h distinct =
+    same_dialect (data_of m) i.blocks (imported_data i).functions form distinct (function_numbered m) h.functions (imported_data i) refl

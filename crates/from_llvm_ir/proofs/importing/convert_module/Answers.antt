@@ -1,0 +1,18 @@
+-- What `importing::convert_module` owes besides what the check finds.
+use Rattle.std.proofs.Common.{List, ℕ, map}
+use Rattle.std.proofs.lemmas.Result.{IfOk-weaker}
+use Rattle.llvm_core.specs.Data.{data_of}
+use Rattle.meaning.specs.Code.{SameCode}
+use Rattle.meaning.specs.Llvm as Llvm
+use Rattle.meaning.specs.Dialect as Dialect
+use Rattle.from_llvm_ir.specs.declared.importing.Imported.{Imported}
+use Rattle.from_llvm_ir.specs.Match.{match_of}
+use Rattle.from_llvm_ir.specs.Imported.{IsImported, imported_data}
+use Rattle.from_llvm_ir.proofs.SameLaws.{same_imported}
+use Rattle.from_llvm_ir.proofs.importing.convert_module.Goals as goal
+
+pub returns-clause-same : goal.returns-clause-same
+returns-clause-same c = λ distinct.
+    let d = data_of c.args.source.now in
+    IfOk-weaker c.import_counted.result (IsImported d) (λ (i : Imported). SameCode (match_of d i.blocks) (Llvm.code_of d) (Dialect.code_of (imported_data i)))
+    (λ i made. same_imported c.args.source.now i c.requires.form made distinct) c.import_counted.ensures.imported

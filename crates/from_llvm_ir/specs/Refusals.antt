@@ -1,0 +1,38 @@
+-- Why an import refuses a function, and a module.
+use Rattle.std.specs.Prelude.{ℕ, ◌≡◌, List, Some, All, slice_get}
+use Rattle.llvm_core.specs.Data as L
+use Rattle.llvm_core.specs.declared.numbers.LLVMInstRef.{LLVMInstRef}
+use Rattle.llvm_core.specs.declared.code.LLVMValue.{LLVMValue}
+use Rattle.llvm_core.specs.declared.code.LLVMValue.TheVariants as V
+use Rattle.from_llvm_ir.specs.declared.conversion_err.ConversionErr.{ConversionErr}
+use Rattle.from_llvm_ir.specs.declared.conversion_err.ConversionErr.TheVariants as E
+use Rattle.from_llvm_ir.specs.Imported.{name_in}
+use Rattle.from_llvm_ir.specs.Walks.{HasValidUses, IsUndefined}
+
+-- the value is the result of an instruction of f that is used where it is not defined, and has that name
+pub record IsRefusedUse (f : L.Function) (name : List ℕ) (v : LLVMValue) : Type 0 where
+  pub inst : LLVMInstRef
+  pub value : v ≡ V.Inst inst
+  pub undefined : IsUndefined f inst.0
+  pub named : name ≡ name_in f inst.0
+
+-- why a function is refused; want of memory needs no reason
+abbrev pub IsRefusalOfFunction : L.Function → ConversionErr → Type 0
+IsRefusalOfFunction f (E.UndefinedValue name v) = IsRefusedUse f name v
+IsRefusalOfFunction f E.NoMemory = Unit {0}
+
+-- a function of the module is refused for such a use
+pub record HasUndefinedUse (d : L.ModuleData) (name : List ℕ) (v : LLVMValue) : Type 0 where
+  pub place : ℕ
+  pub f : L.Function
+  pub at : slice_get d.functions place ≡ Some f
+  pub refused : IsRefusedUse f name v
+
+-- why an import refuses a module whose data are d; want of memory needs no reason
+abbrev pub IsCause : L.ModuleData → ConversionErr → Type 0
+IsCause d (E.UndefinedValue name v) = HasUndefinedUse d name v
+IsCause d E.NoMemory = Unit {0}
+
+-- in each function each use is valid
+abbrev pub IsValid : L.ModuleData → Type 0
+IsValid d = All HasValidUses d.functions

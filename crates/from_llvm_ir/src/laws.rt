@@ -1,0 +1,11 @@
+//! What the definitions give, for every module.
+
+ghost use Rattle.std.specs.Prelude.{ℕ, List};
+ghost use Rattle.llvm_core.specs.declared.code.LLVMValue.{LLVMValue};
+ghost use Rattle.llvm_core.specs.Data.{ModuleData};
+ghost use Rattle.from_llvm_ir.specs.Refusals.{HasUndefinedUse, IsValid};
+
+/// A module whose uses are valid has none that is refused.
+pub fn valid_law()
+    ensures { (d : ModuleData) → IsValid d → (name : List ℕ) → (v : LLVMValue) → ¬ HasUndefinedUse d name v }
+{}

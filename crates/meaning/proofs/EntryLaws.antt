@@ -1,0 +1,63 @@
+-- Entries of functions with a body: their symbols, their bodies, and that a module of plain names leaves none out.
+use Rattle.std.proofs.Common.{ℕ, suc, ◌≡◌, ◌<◌, refl, sym, ◌∙◌, ap, subst, Bool, true, false, not, if◌then◌else◌, List, [], ◌∷◌, Some, None, map, filter, length, nat_lt, All, arith}
+use Rattle.std.proofs.lemmas.Bool.{lt-ltb}
+use Rattle.std.proofs.lemmas.List.Elements.{All-head, All-tail}
+use Rattle.llvm_core.specs.Names.{is_plain}
+use Rattle.llvm_core.specs.Data as L
+use Rattle.llvm_core.specs.Data.{ModuleData, TypeTree, VoidType, IntType, FunctionType, TypeTrees, NoTypes, ThenType}
+use Rattle.llvm_core.proofs.FormNames.{own_of_plain}
+use Rattle.meaning.specs.Terms.{Match, rename_type, rename_types}
+use Rattle.meaning.specs.Code.{Body, Entry, FunctionSymbol, External, SameBody, SameBodies, IsDistinctNames, names_of, rename_symbol}
+use Rattle.meaning.specs.Llvm as Llvm
+
+-- ---- types under a match: no struct is held yet
+mutual
+  pub type_stays : (match : Match) (t : TypeTree) → rename_type match t ≡ t
+  type_stays match VoidType = refl
+  type_stays match (IntType w) = refl
+  type_stays match (FunctionType r ps v) = cc (type_stays match r, types_stay match ps)
+
+  types_stay : (match : Match) (ts : TypeTrees) → rename_types match ts ≡ ts
+  types_stay match NoTypes = refl
+  types_stay match (ThenType t ts) = cc (type_stays match t, types_stay match ts)
+
+-- ---- symbols and bodies
+
+-- a function with a block has a body
+pub some_blocks : {B : Type 0} (bs : List B) → ¬ (bs ≡ []) → nat_lt 0 (length bs) ≡ true
+some_blocks [] h = absurd (h refl)
+some_blocks (b ∷ bs) h = lt-ltb 0 (suc (length bs)) (omega arith)
+
+pub not_empty : {A B : Type 0} (xs : List A) (ys : List B) → length ys ≡ length xs → ¬ (xs ≡ []) → ¬ (ys ≡ [])
+not_empty [] ys same h e = h refl
+not_empty (x ∷ xs) ys same h e = let n = ap length e in absurd (omega (arith, same, n))
+
+-- two symbols of functions of one type
+pub same_symbol : (match : Match) (t u : TypeTree) (s : ℕ) (b c : Bool) → t ≡ u → s ≡ 0 → b ≡ c → rename_symbol match (FunctionSymbol t External s b) ≡ FunctionSymbol u External 0 c
+same_symbol match t u s b c type space body = cc (type_stays match t, type, space, body)
+
+pub both : (match : Match) (n : List ℕ) (b c : Bool) (x y : Body) → b ≡ true → c ≡ true → SameBody match n x y → SameBodies match n (if b then Some x else None) (if c then Some y else None)
+both match n b c x y hb hc same = rw (hb, hc) same
+
+-- ---- plain names are no names of intrinsics
+
+not_true : (b : Bool) → (b ≡ true → ⊥) → b ≡ false
+not_true true h = absurd (h refl)
+not_true false h = refl
+
+abbrev pub HasPlainName : L.Function → Type 0
+HasPlainName f = is_plain f.name ≡ true
+
+own : (f : L.Function) → HasPlainName f → not (Llvm.is_intrinsic f) ≡ true
+own f plain = ap not (not_true (Llvm.is_intrinsic f) (own_of_plain f.name plain))
+
+pub all_kept : (fs : List L.Function) → All HasPlainName fs → filter (λ (f : L.Function). not (Llvm.is_intrinsic f)) fs ≡ fs
+all_kept [] h = refl
+all_kept (f ∷ fs) h = rw (own f (All-head HasPlainName f fs h), all_kept fs (All-tail HasPlainName f fs h)) refl
+
+entries_names : (d : ModuleData) (fs : List L.Function) → map (λ (e : Entry). e.name) (map (Llvm.entry d) fs) ≡ map (λ (f : L.Function). f.name) fs
+entries_names d [] = refl
+entries_names d (f ∷ fs) = rw (entries_names d fs) refl
+
+pub distinct_code : (d : ModuleData) → All HasPlainName d.functions → IsDistinctNames (map (λ (f : L.Function). f.name) d.functions) → IsDistinctNames (names_of (Llvm.code_of d))
+distinct_code d plain h = subst IsDistinctNames (sym (ap (λ (fs : List L.Function). map (λ (e : Entry). e.name) (map (Llvm.entry d) fs)) (all_kept d.functions plain) ∙ entries_names d d.functions)) h

@@ -1,0 +1,98 @@
+-- The edges of a function of the dialect, by the places of its blocks.
+use Rattle.std.proofs.Common.{◌≡◌, ◌+◌, ℕ, zero, suc, Bool, List, [], ◌∷◌, Option, Some, None, map, slice_get, nat_eq, length, refl, sym, ap, subst, ◌∙◌, arith}
+use Rattle.std.specs.List.{find, flat_map, position_or_len}
+use Rattle.std.specs.Option.{option_map, option_map_or}
+use Rattle.std.proofs.lemmas.List.Folds.{find_at}
+use Rattle.std.proofs.lemmas.Option.{slice_get-map}
+use Rattle.dialect_core.specs.declared.numbers.BlockRef.{BlockRef}
+use Rattle.dialect_core.specs.declared.ops.Value.{Value}
+use Rattle.dialect_core.specs.declared.ops.Successor.{Successor}
+use Rattle.dialect_core.specs.ContextData.{ContextData}
+use Rattle.dialect_core.specs.Data.{DialectBlock, DialectOp, Func}
+use Rattle.meaning.specs.Machine as M
+use Rattle.meaning.specs.Dialect.{argument_moves, row, edge, block}
+use Rattle.tracing.specs.declared.body.Slot.{Slot}
+use Rattle.tracing.specs.declared.body.Slot.TheVariants.{Input}
+use Rattle.tracing.specs.declared.body.Source.{Source}
+use Rattle.tracing.specs.declared.body.Block as B
+use Rattle.tracing.specs.Bodies.{given, moves_from, params_at, row_of, edge_of, block_of}
+use Rattle.tracing.specs.Renamed.{renamed_row, renamed_move, renamed_edge, renamed_block}
+use Rattle.tracing.specs.DialectBodies.{slot_of, InContext, rows_of}
+use Rattle.tracing.specs.DialectEdges.{inputs_from, inputs_of, params_of, numbers_of, handed, edge_to}
+use Rattle.tracing.proofs.ListLaws.{mapped_twice}
+use Rattle.tracing.proofs.PlaceLaws.{place_by_number}
+use Rattle.tracing.proofs.EdgeLaws.{place_is}
+use Rattle.tracing.proofs.DialectLaws.{found}
+
+-- ---- what an edge hands over, argument by argument
+
+abbrev Move : Type 0
+Move = Slot × Option (M.Operand Slot)
+
+nothing : (k : ℕ) → given [] k ≡ None
+nothing k = refl
+
+-- the arguments from a place on, where what stands from that place on is what is handed over for values
+pub moves_by : (b : BlockRef) (n i : ℕ) (vs : List Value) (sources : List (Option Source)) → ((k : ℕ) → given sources (i + k) ≡ given (map handed vs) k) → moves_from i (inputs_from b.0 i n) sources ≡ map (renamed_move slot_of) (argument_moves b i n vs)
+moves_by b zero i vs sources h = refl
+moves_by b (suc n) i [] sources h =
+    let first : i + 0 ≡ i = omega arith in
+    let here : given sources i ≡ None = subst (λ (j : ℕ). given sources j ≡ None) first (h 0 ∙ nothing 0) in
+    let rest = moves_by b n (suc i) [] sources (λ k. let next : i + suc k ≡ suc i + k = omega arith in subst (λ (j : ℕ). given sources j ≡ given [] k) next (h (suc k) ∙ nothing (suc k) ∙ sym (nothing k))) in
+    ap (λ (o : Option (M.Operand Slot)). let m : Move = (Input b.0 i, o) in m ∷ moves_from (suc i) (inputs_from b.0 (suc i) n) sources) here
+    ∙ ap (λ (l : List Move). let m : Move = (Input b.0 i, None) in m ∷ l) rest
+moves_by b (suc n) i (v ∷ vs) sources h =
+    let first : i + 0 ≡ i = omega arith in
+    let o : Option (M.Operand Slot) = Some (M.At (slot_of v)) in
+    let here : given sources i ≡ o = subst (λ (j : ℕ). given sources j ≡ o) first (h 0) in
+    let rest = moves_by b n (suc i) vs sources (λ k. let next : i + suc k ≡ suc i + k = omega arith in subst (λ (j : ℕ). given sources j ≡ given (map handed vs) k) next (h (suc k))) in
+    ap (λ (p : Option (M.Operand Slot)). let m : Move = (Input b.0 i, p) in m ∷ moves_from (suc i) (inputs_from b.0 (suc i) n) sources) here
+    ∙ ap (λ (l : List Move). let m : Move = (Input b.0 i, o) in m ∷ l) rest
+
+-- ---- an edge
+
+-- the block that is found by its number has it
+found_number : (ys : List DialectBlock) (n : ℕ) (y : DialectBlock) → find (λ (z : DialectBlock). nat_eq z.number n) ys ≡ Some y → y.number ≡ n
+found_number ys n y e = (found (λ (z : DialectBlock). Unit {0}) (λ (z : DialectBlock). z.number) ys n y e (λ k d lt. tt)).is
+
+module _ (g : Func) (s : Successor) where
+  abbrev there : DialectBlock → Bool
+  there y = nat_eq y.number s.block.0
+
+  abbrev place : ℕ
+  place = position_or_len there g.blocks
+
+  moves_to : (o : Option DialectBlock) → find there g.blocks ≡ o
+      → moves_from 0 (option_map_or (λ (ps : List Slot). ps) (option_map inputs_of o) []) (map handed s.args) ≡ map (renamed_move slot_of) (option_map_or (λ (y : DialectBlock). argument_moves s.block 0 (length y.args) s.args) o [])
+  moves_to None e = refl
+  moves_to (Some y) e =
+      ap (λ (n : ℕ). moves_from 0 (inputs_from n 0 (length y.args)) (map handed s.args)) (found_number g.blocks s.block.0 y e)
+      ∙ moves_by s.block (length y.args) 0 s.args (map handed s.args) (λ k. let e : 0 + k ≡ k = omega arith in ap (given (map handed s.args)) e)
+
+  edge_at : (n : ℕ) → n ≡ place → edge_of (params_of g) (record { to = n; sources = map handed s.args }) ≡ renamed_edge slot_of (edge g s)
+  edge_at n e =
+      let bs = g.blocks in
+      let moves : moves_from 0 (params_at (params_of g) n) (map handed s.args) ≡ map (renamed_move slot_of) (edge g s).moves =
+      ap (λ (o : Option (List Slot)). moves_from 0 (option_map_or (λ (ps : List Slot). ps) o []) (map handed s.args)) (slice_get-map inputs_of bs n)
+      ∙ ap (λ (o : Option DialectBlock). moves_from 0 (option_map_or (λ (ps : List Slot). ps) (option_map inputs_of o) []) (map handed s.args)) (ap (slice_get bs) e ∙ sym (find_at there bs))
+      ∙ moves_to (find there bs) refl in
+      let leads : n ≡ (edge g s).to = e ∙ sym (place_is there bs) in
+      λ i. record { to = leads i; moves = moves i }
+
+  edge_is : (numbers : List ℕ) → numbers ≡ numbers_of g → edge_of (params_of g) (edge_to numbers s) ≡ renamed_edge slot_of (edge g s)
+  edge_is numbers are = edge_at (position_or_len (nat_eq s.block.0) numbers) (ap (position_or_len (nat_eq s.block.0)) are ∙ place_by_number (λ (y : DialectBlock). y.number) s.block.0 g.blocks)
+
+edges_are : (g : Func) (numbers : List ℕ) → numbers ≡ numbers_of g → (ss : List Successor) → map (edge_of (params_of g)) (map (edge_to numbers) ss) ≡ map (renamed_edge slot_of) (map (edge g) ss)
+edges_are g numbers are [] = refl
+edges_are g numbers are (s ∷ ss) = let e = edge_is g s numbers are in let rest = edges_are g numbers are ss in cc
+
+-- ---- a block
+
+pub block_is : (c : ContextData) (h : InContext c) (r : B.Block) (y : DialectBlock) (numbers : List ℕ) → numbers ≡ numbers_of h.function → map row_of r.rows ≡ rows_of c h y.ops
+    → r.edges ≡ map (edge_to numbers) (flat_map (λ (o : DialectOp). o.successors) y.ops) → block_of (params_of h.function) r ≡ renamed_block slot_of (block h.function y)
+block_is c h r y numbers are rows edges =
+    let g = h.function in
+    let ss = flat_map (λ (o : DialectOp). o.successors) y.ops in
+    let all_rows = rows ∙ sym (mapped_twice (renamed_row slot_of) (row g) y.ops) in
+    let all_edges = ap (map (edge_of (params_of g))) edges ∙ edges_are g numbers are ss in
+    λ i. record { rows = all_rows i; edges = all_edges i }

@@ -1,0 +1,28 @@
+-- What `dialect_body::block` owes besides what the check finds.
+use Rattle.std.proofs.Common.{List, sym, subst, ◌∙◌}
+use Rattle.dialect_core.specs.declared.numbers.OpRef.{OpRef}
+use Rattle.tracing.specs.DialectBodies.{AreOpsIn}
+use Rattle.tracing.proofs.DialectEdgeLaws.{block_is}
+use Rattle.tracing.proofs.DialectBlockLaws.{ops_are}
+use Rattle.tracing.proofs.dialect_body.block.Goals as goal
+
+pub rows-requires : goal.rows-requires
+rows-requires c =
+    let h = c.requires.block.0 in
+    let y = c.requires.block.1 in
+    let listed = c.as_slice.ensures.value ∙ c.in_ok-ops.ensures in
+    (h, y.ops, subst (λ (rs : List OpRef). AreOpsIn c.args.ctx.now h rs y.ops) (sym listed) (ops_are c.args.ctx.now h c.args.b y c.requires.block.2))
+
+pub edges-requires : goal.edges-requires
+edges-requires c =
+    let h = c.requires.block.0 in
+    let y = c.requires.block.1 in
+    let listed = c.as_slice-2.ensures.value ∙ c.in_ok-ops.ensures in
+    (h, y.ops, subst (λ (rs : List OpRef). AreOpsIn c.args.ctx.now h rs y.ops) (sym listed) (ops_are c.args.ctx.now h c.args.b y c.requires.block.2))
+
+pub returns : goal.returns
+returns c = λ h y at numbers.
+    let ops = ops_are c.args.ctx.now h c.args.b y at in
+    let first = subst (λ (rs : List OpRef). AreOpsIn c.args.ctx.now h rs y.ops) (sym (c.as_slice.ensures.value ∙ c.in_ok-ops.ensures)) ops in
+    let second = subst (λ (rs : List OpRef). AreOpsIn c.args.ctx.now h rs y.ops) (sym (c.as_slice-2.ensures.value ∙ c.in_ok-ops.ensures)) ops in
+    block_is c.args.ctx.now h _ y c.args.places.now numbers (c.in_ok-rows.ensures h y.ops first) (c.in_ok-edges.ensures h y.ops second)

@@ -1,0 +1,14 @@
+-- What holds in the loop of `dialect_body::blocks`.
+use Rattle.std.specs.Prelude.{◌≡◌, map, take}
+use Rattle.dialect_core.specs.Data.{DialectBlock}
+use Rattle.meaning.specs.Dialect.{block}
+use Rattle.tracing.specs.Bodies.{block_of}
+use Rattle.tracing.specs.Renamed.{renamed_block}
+use Rattle.tracing.specs.DialectBodies.{slot_of, InContext}
+use Rattle.tracing.specs.DialectEdges.{params_of, numbers_of, AreBlocksIn}
+use Rattle.tracing.proofs.dialect_body.blocks.Given as goal
+
+abbrev pub invariant-loop-b : goal.invariant-loop-b
+invariant-loop-b l = record {
+  at : (h : InContext l.ctx) → AreBlocksIn l.ctx h l.list → l.places ≡ numbers_of h.function → map (block_of (params_of h.function)) l.blocks ≡ map (λ (y : DialectBlock). renamed_block slot_of (block h.function y)) (take l.b-index h.function.blocks);
+}

@@ -1,0 +1,198 @@
+//! The body of a function of the dialect, for runs.
+
+ghost use Rattle.std.specs.Prelude.{◌≡◌, ◌<◌, ◌++◌, List, All, IfOk, OnOk, length, map};
+ghost use Rattle.std.specs.List.{flat_map};
+ghost use Rattle.dialect_core.specs.declared.ops.Value as values;
+ghost use Rattle.dialect_core.specs.Data.{DialectBlock, DialectOp};
+ghost use Rattle.meaning.specs.Dialect as dialect;
+ghost use Rattle.tracing.specs.Bodies.{block_of, code_of, start_of};
+ghost use Rattle.tracing.specs.Renamed.{renamed_block, renamed_code};
+ghost use Rattle.tracing.specs.DialectBodies.{slot_of, InContext, AreOpsIn};
+ghost use Rattle.tracing.specs.DialectEdges.{inputs_of, params_of, numbers_of, handed, edge_to, IsBlockIn, AreBlocksIn, is_op, body_ops};
+
+use crate::body::{Block, Body, Edge, Slot, Source};
+use crate::dialect_rows::{rows, slot};
+use crate::places::{Places, places_of};
+use dialect_core::context::Context;
+use dialect_core::numbers::{BlockRef, FuncOp, OpRef};
+use dialect_core::ops::{OpKind, Successor, Value};
+use llvm_core::items::Items;
+use std::alloc::{AllocError, Global};
+
+/// What an edge hands over for values.
+fn sources(alloc: Global, args: &[Value]) -> Result<Items<Option<Source>>, AllocError>
+    ensures { IfOk result (λ sources. sources ≡ map handed args.now) }
+{
+    let mut sources = Items::new(alloc);
+    for arg in args {
+        sources.push(Some(Source::At(slot(*arg))))?;
+    }
+    Ok(sources)
+}
+
+/// The edge that a successor is.
+fn edge(alloc: Global, places: &Places, successor: &Successor) -> Result<Edge, AllocError>
+    ensures { IfOk result (λ e. e ≡ edge_to places.now successor.now) }
+{
+    Ok(Edge {
+        to: places.place(successor.block.0),
+        sources: sources(alloc, successor.args.as_slice())?,
+    })
+}
+
+/// Appends the edges that successors are.
+fn push_edges(
+    alloc: Global,
+    places: &Places,
+    successors: &[Successor],
+    edges: &mut Items<Edge>,
+) -> Result<(), AllocError>
+    ensures { OnOk result (edges.new ≡ edges.old ++ map (edge_to places.now) successors.now) }
+{
+    for successor in successors {
+        edges.push(edge(alloc, places, successor)?)?;
+    }
+    Ok(())
+}
+
+/// The edges of the operations of a block.
+fn edges(
+    alloc: Global,
+    ctx: &Context,
+    places: &Places,
+    ops: &[OpRef],
+) -> Result<Items<Edge>, AllocError>
+    requires { (h : InContext ctx.now) × (os : List DialectOp) × AreOpsIn ctx.now h ops.now os }
+    ensures { IfOk result (λ es. (h : InContext ctx.now) → (os : List DialectOp) → AreOpsIn ctx.now h ops.now os → es ≡ map (edge_to places.now) (flat_map (λ o. o.successors) os)) }
+{
+    let mut edges = Items::new(alloc);
+    for op in ops {
+        push_edges(alloc, places, ctx.op_successors(*op), &mut edges)?;
+    }
+    Ok(edges)
+}
+
+/// Whether an operation is neither a module nor a function.
+fn is_op(ctx: &Context, op: OpRef) -> bool
+    requires { op.0 < length ctx.now.ops }
+    ensures { result ≡ is_op ctx.now op }
+{
+    match ctx.op_kind(op) {
+        OpKind::Module | OpKind::Func => false,
+        _ => true,
+    }
+}
+
+/// The operations of a block that are no modules and no functions.
+fn ops_of(alloc: Global, ctx: &Context, b: BlockRef) -> Result<Vec<OpRef>, AllocError>
+    requires { b.0 < length ctx.now.blocks }
+    ensures { IfOk result (λ ops. ops.items ≡ body_ops ctx.now b) }
+{
+    let mut ops = Vec::new(alloc);
+    for op in ctx.block_ops(b)?.as_slice() {
+        if is_op(ctx, *op) {
+            ops.push(*op)?;
+        }
+    }
+    Ok(ops)
+}
+
+fn block(alloc: Global, ctx: &Context, places: &Places, b: BlockRef) -> Result<Block, AllocError>
+    requires within { b.0 < length ctx.now.blocks }
+    requires block { (h : InContext ctx.now) × (y : DialectBlock) × IsBlockIn ctx.now h b y }
+    ensures { IfOk result (λ r. (h : InContext ctx.now) → (y : DialectBlock) → IsBlockIn ctx.now h b y → places.now ≡ numbers_of h.function → block_of (params_of h.function) r ≡ renamed_block slot_of (dialect.block h.function y)) }
+{
+    let ops = ops_of(alloc, ctx, b)?;
+    Ok(Block {
+        rows: rows(alloc, ctx, ops.as_slice())?,
+        edges: edges(alloc, ctx, places, ops.as_slice())?,
+    })
+}
+
+/// The blocks of a function, of which this is the list.
+fn blocks(
+    alloc: Global,
+    ctx: &Context,
+    places: &Places,
+    list: &[BlockRef],
+) -> Result<Items<Block>, AllocError>
+    requires within { All (λ b. b.0 < length ctx.now.blocks) list.now }
+    requires blocks { (h : InContext ctx.now) × AreBlocksIn ctx.now h list.now }
+    ensures { IfOk result (λ bs. (h : InContext ctx.now) → AreBlocksIn ctx.now h list.now → places.now ≡ numbers_of h.function → code_of (params_of h.function) bs ≡ renamed_code slot_of (map (dialect.block h.function) h.function.blocks)) }
+{
+    let mut blocks = Items::new(alloc);
+    for b in list {
+        let made = block(alloc, ctx, places, *b)?;
+        blocks.push(made)?;
+    }
+    Ok(blocks)
+}
+
+/// How many arguments a block has.
+fn arg_count(ctx: &Context, b: BlockRef) -> Result<u32, AllocError>
+    requires { b.0 < length ctx.now.blocks }
+    ensures { IfOk result (λ n. (h : InContext ctx.now) → (y : DialectBlock) → IsBlockIn ctx.now h b y → n ≡ length y.args) }
+{
+    let count = ctx.block_args(b).len();
+    if count > u32::MAX as usize {
+        return Err(AllocError);
+    }
+    Ok(count as u32)
+}
+
+/// The arguments of a block.
+fn inputs(alloc: Global, ctx: &Context, b: BlockRef) -> Result<Items<Slot>, AllocError>
+    requires { b.0 < length ctx.now.blocks }
+    ensures { IfOk result (λ slots. (h : InContext ctx.now) → (y : DialectBlock) → IsBlockIn ctx.now h b y → slots ≡ inputs_of y) }
+{
+    let count = arg_count(ctx, b)?;
+    let mut inputs = Items::new(alloc);
+    for place in 0..count {
+        inputs.push(Slot::Input(b.0, place))?;
+    }
+    Ok(inputs)
+}
+
+/// The arguments of each block of a function, of which this is the list.
+fn params(alloc: Global, ctx: &Context, list: &[BlockRef]) -> Result<Items<Items<Slot>>, AllocError>
+    requires { All (λ b. b.0 < length ctx.now.blocks) list.now }
+    ensures { IfOk result (λ params. (h : InContext ctx.now) → AreBlocksIn ctx.now h list.now → params ≡ params_of h.function) }
+{
+    let mut params = Items::new(alloc);
+    for b in list {
+        let made = inputs(alloc, ctx, *b)?;
+        params.push(made)?;
+    }
+    Ok(params)
+}
+
+/// The numbers of blocks.
+fn numbers(alloc: Global, list: &[BlockRef]) -> Result<Vec<u32>, AllocError>
+    ensures { IfOk result (λ ns. ns.items ≡ map (λ b. b.0) list.now) }
+{
+    let mut numbers = Vec::new(alloc);
+    for b in list {
+        numbers.push(b.0)?;
+    }
+    Ok(numbers)
+}
+
+/// The body of a function of the form.
+pub fn dialect_body(alloc: Global, ctx: &Context, f: FuncOp) -> Result<Body, AllocError>
+    requires { (h : InContext ctx.now) × (h.op ≡ f.0) }
+    ensures code { IfOk result (λ body. (h : InContext ctx.now) → h.op ≡ f.0 → code_of body.params body.blocks ≡ renamed_code slot_of (map (dialect.block h.function) h.function.blocks)) }
+    ensures start { IfOk result (λ body. (h : InContext ctx.now) → h.op ≡ f.0 → (v : values.Value) → start_of body.holder body.inputs (slot_of v) ≡ dialect.start h.function.blocks v) }
+{
+    let list = ctx.op_blocks(f.0);
+    let numbers = numbers(alloc, list)?;
+    let places = places_of(alloc, numbers.as_slice())?;
+
+    // A function of the form has a first block.
+    let entry = list[0];
+    Ok(Body {
+        holder: entry.0,
+        inputs: arg_count(ctx, entry)?,
+        params: params(alloc, ctx, list)?,
+        blocks: blocks(alloc, ctx, &places, list)?,
+    })
+}

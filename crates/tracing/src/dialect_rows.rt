@@ -1,0 +1,224 @@
+//! The operations of a function of the dialect, as rows of a body.
+
+ghost use Rattle.std.specs.Prelude.{◌≡◌, ◌<◌, ℕ, List, All, IfOk, IfSome, Some, length, map, slice_get};
+ghost use Rattle.dialect_types.specs.declared.attrs.ConstAttr.TheVariants as attrs;
+ghost use Rattle.dialect_types.specs.Trees.{TypeTree, IntegerType, IntegerAttr, HasTypesBelow, type_at, type_trees, attr_tree};
+ghost use Rattle.dialect_core.specs.Data.{DialectBlock, DialectOp, IsTyped, block_in, op_at, value_type};
+ghost use Rattle.dialect_core.specs.Form.{IsShortInt};
+ghost use Rattle.meaning.specs.Machine as machine;
+ghost use Rattle.meaning.specs.Dialect as dialect;
+ghost use Rattle.meaning.specs.Dialect.{predicate_of, option_type, type_of};
+ghost use Rattle.tracing.specs.Table.{tree_of, opcode_of, immediates_of};
+ghost use Rattle.tracing.specs.Bodies.{source_of, action_of, row_of};
+ghost use Rattle.tracing.specs.Renamed.{renamed_action, renamed_row};
+ghost use Rattle.tracing.specs.DialectBodies.{slot_of, InContext, AreOpsIn, IsOpIn, IsUsed, rows_of};
+
+use crate::body::{Action, Row, Slot, Source};
+use crate::table::{Immediates, Opcode, ValueType};
+use crate::trace::Imms;
+use dialect_core::context::Context;
+use dialect_core::numbers::{BlockRef, OpRef};
+use dialect_core::ops::{OpKind, Value};
+use dialect_core::predicates::ICmpPredicateAttr;
+use dialect_types::attrs::ConstAttr;
+use dialect_types::types::{TypeHandle, TypeKind};
+use llvm_core::code::LLVMIntPredicate;
+use llvm_core::items::Items;
+use std::alloc::{AllocError, Global};
+
+/// The type of a value.
+fn value_type(ctx: &Context, ty: TypeHandle) -> ValueType
+    requires within { ty.0 < length ctx.now.types }
+    requires short { IsShortInt (type_at (type_trees ctx.now.types) ty) }
+    ensures { tree_of result ≡ type_of (type_at (type_trees ctx.now.types) ty) }
+{
+    ValueType::Int(int_width(ctx, ty))
+}
+
+fn int_width(ctx: &Context, ty: TypeHandle) -> u32
+    requires within { ty.0 < length ctx.now.types }
+    requires short { IsShortInt (type_at (type_trees ctx.now.types) ty) }
+    ensures { type_at (type_trees ctx.now.types) ty ≡ IntegerType result }
+{
+    match ctx.types().kind(ty) {
+        TypeKind::Integer(width) => *width,
+        _ => unreachable!(),
+    }
+}
+
+/// The type of the result of an operation, void where it has none.
+fn result_type(ctx: &Context, op: OpRef) -> ValueType
+    requires typed { IsTyped ctx.now }
+    requires here { (o : DialectOp) × (op_at (type_trees ctx.now.types) ctx.now.ops op ≡ Some o) × IfSome o.result IsShortInt }
+    ensures { (o : DialectOp) → op_at (type_trees ctx.now.types) ctx.now.ops op ≡ Some o → tree_of result ≡ option_type o.result }
+{
+    match ctx.result_type(op) {
+        Some(ty) => value_type(ctx, ty),
+        None => ValueType::Void,
+    }
+}
+
+fn argument_type(ctx: &Context, block: BlockRef, place: u32) -> ValueType
+    requires typed { IsTyped ctx.now }
+    requires here { (b : DialectBlock) × (type : TypeTree) × (block_in (type_trees ctx.now.types) ctx.now block ≡ Some b) × (slice_get b.args place ≡ Some type) × IsShortInt type }
+    ensures { (b : DialectBlock) → (type : TypeTree) → block_in (type_trees ctx.now.types) ctx.now block ≡ Some b → slice_get b.args place ≡ Some type → tree_of result ≡ type_of type }
+{
+    value_type(ctx, ctx.block_args(block)[place as usize])
+}
+
+fn operand_type(ctx: &Context, v: Value) -> ValueType
+    requires { (h : InContext ctx.now) × IsUsed ctx.now h v }
+    ensures { (h : InContext ctx.now) → IsUsed ctx.now h v → tree_of result ≡ option_type (value_type h.function v) }
+{
+    match v {
+        Value::Result(op) => result_type(ctx, op),
+        Value::Argument(block, place) => argument_type(ctx, block, place),
+    }
+}
+
+/// What sets the term of a value in a run.
+pub fn slot(v: Value) -> Slot
+    ensures { result ≡ slot_of v }
+{
+    match v {
+        Value::Result(op) => Slot::Result(op.0),
+        Value::Argument(block, place) => Slot::Input(block.0, place),
+    }
+}
+
+fn operand_types(
+    alloc: Global,
+    ctx: &Context,
+    values: &[Value],
+) -> Result<Items<ValueType>, AllocError>
+    requires { (h : InContext ctx.now) × All (IsUsed ctx.now h) values.now }
+    ensures { IfOk result (λ ts. (h : InContext ctx.now) → All (IsUsed ctx.now h) values.now → map tree_of ts ≡ map (λ v. option_type (value_type h.function v)) values.now) }
+{
+    let mut types = Items::new(alloc);
+    for value in values {
+        types.push(operand_type(ctx, *value))?;
+    }
+    Ok(types)
+}
+
+fn sources(alloc: Global, values: &[Value]) -> Result<Items<Source>, AllocError>
+    ensures { IfOk result (λ ss. map source_of ss ≡ map (λ v. machine.At (slot_of v)) values.now) }
+{
+    let mut sources = Items::new(alloc);
+    for value in values {
+        sources.push(Source::At(slot(*value)))?;
+    }
+    Ok(sources)
+}
+
+/// The predicate of LLVM that one of the dialect stands for.
+fn predicate(predicate: ICmpPredicateAttr) -> LLVMIntPredicate
+    ensures { result ≡ predicate_of predicate }
+{
+    match predicate {
+        ICmpPredicateAttr::EQ => LLVMIntPredicate::LLVMIntEQ,
+        ICmpPredicateAttr::NE => LLVMIntPredicate::LLVMIntNE,
+        ICmpPredicateAttr::UGT => LLVMIntPredicate::LLVMIntUGT,
+        ICmpPredicateAttr::UGE => LLVMIntPredicate::LLVMIntUGE,
+        ICmpPredicateAttr::ULT => LLVMIntPredicate::LLVMIntULT,
+        ICmpPredicateAttr::ULE => LLVMIntPredicate::LLVMIntULE,
+        ICmpPredicateAttr::SGT => LLVMIntPredicate::LLVMIntSGT,
+        ICmpPredicateAttr::SGE => LLVMIntPredicate::LLVMIntSGE,
+        ICmpPredicateAttr::SLT => LLVMIntPredicate::LLVMIntSLT,
+        ICmpPredicateAttr::SLE => LLVMIntPredicate::LLVMIntSLE,
+    }
+}
+
+/// The type and the value of a constant.
+fn parts_of(value: &ConstAttr) -> (TypeHandle, u64)
+    ensures { value.now ≡ attrs.Integer result.0 result.1 }
+{
+    match value {
+        ConstAttr::Integer(ty, number) => (*ty, *number),
+    }
+}
+
+/// What a constant operation does: it holds its constant.
+fn constant(ctx: &Context, value: &ConstAttr) -> Action
+    requires within { HasTypesBelow (length ctx.now.types) value.now }
+    requires short { (type : TypeTree) → (number : ℕ) → attr_tree (type_trees ctx.now.types) value.now ≡ IntegerAttr type number → IsShortInt type }
+    ensures { action_of result ≡ machine.Holds (dialect.attr_term (attr_tree (type_trees ctx.now.types) value.now)) }
+{
+    let (ty, number) = parts_of(value);
+    Action::Holds(int_width(ctx, ty), u128::from(number))
+}
+
+/// What an operation does that applies its kind to its operands.
+fn applied(
+    alloc: Global,
+    ctx: &Context,
+    op: OpRef,
+    opcode: Opcode,
+    immediates: Immediates,
+) -> Result<Action, AllocError>
+    requires { (h : InContext ctx.now) × (o : DialectOp) × IsOpIn ctx.now h op o }
+    ensures { IfOk result (λ a. (h : InContext ctx.now) → (o : DialectOp) → IsOpIn ctx.now h op o → action_of a ≡ renamed_action slot_of (dialect.applies h.function o (opcode_of opcode) (immediates_of immediates))) }
+{
+    let values = ctx.op_operands(op);
+    let operand_types = operand_types(alloc, ctx, values)?;
+    let operands = sources(alloc, values)?;
+    let imms = Imms {
+        immediates,
+        ty: result_type(ctx, op),
+        operand_types,
+    };
+    Ok(Action::Applies {
+        opcode,
+        imms,
+        operands,
+    })
+}
+
+/// What an operation does: a line for each kind.
+fn action(alloc: Global, ctx: &Context, op: OpRef) -> Result<Action, AllocError>
+    requires { (h : InContext ctx.now) × (o : DialectOp) × IsOpIn ctx.now h op o }
+    ensures { IfOk result (λ a. (h : InContext ctx.now) → (o : DialectOp) → IsOpIn ctx.now h op o → action_of a ≡ renamed_action slot_of (dialect.action h.function o o.kind)) }
+{
+    match ctx.op_kind(op) {
+        OpKind::Constant(value) => Ok(constant(ctx, value)),
+        OpKind::Add(flags) => {
+            let immediates = Immediates::Overflow {
+                nsw: flags.nsw,
+                nuw: flags.nuw,
+            };
+            applied(alloc, ctx, op, Opcode::Add, immediates)
+        }
+        OpKind::ICmp(by) => {
+            let immediates = Immediates::Predicate(predicate(*by));
+            applied(alloc, ctx, op, Opcode::ICmp, immediates)
+        }
+        OpKind::Br => applied(alloc, ctx, op, Opcode::Br, Immediates::None),
+        OpKind::CondBr => applied(alloc, ctx, op, Opcode::CondBr, Immediates::None),
+        OpKind::Return => applied(alloc, ctx, op, Opcode::Ret, Immediates::None),
+        OpKind::Unreachable => applied(alloc, ctx, op, Opcode::Unreachable, Immediates::None),
+        OpKind::Module | OpKind::Func => unreachable!(),
+    }
+}
+
+fn row(alloc: Global, ctx: &Context, op: OpRef) -> Result<Row, AllocError>
+    requires { (h : InContext ctx.now) × (o : DialectOp) × IsOpIn ctx.now h op o }
+    ensures { IfOk result (λ r. (h : InContext ctx.now) → (o : DialectOp) → IsOpIn ctx.now h op o → row_of r ≡ renamed_row slot_of (dialect.row h.function o)) }
+{
+    let action = action(alloc, ctx, op)?;
+    Ok(Row {
+        action,
+        result: Slot::Result(op.0),
+    })
+}
+
+/// The rows of the operations of a block.
+pub fn rows(alloc: Global, ctx: &Context, ops: &[OpRef]) -> Result<Items<Row>, AllocError>
+    requires { (h : InContext ctx.now) × (os : List DialectOp) × AreOpsIn ctx.now h ops.now os }
+    ensures { IfOk result (λ rows. (h : InContext ctx.now) → (os : List DialectOp) → AreOpsIn ctx.now h ops.now os → map row_of rows ≡ rows_of ctx.now h os) }
+{
+    let mut rows = Items::new(alloc);
+    for op in ops {
+        rows.push(row(alloc, ctx, *op)?)?;
+    }
+    Ok(rows)
+}
