@@ -131,7 +131,7 @@ def measure(command, path):
 def main():
     program = [str(ROOT / "round_ll"), "round"]
     subprocess.run(program, stdin=subprocess.DEVNULL, stdout=subprocess.DEVNULL, check=True)
-    built = [str(ROOT / "crates/round_ll/out/round_ll"), "round"]
+    built = [str(ROOT / "crates/program/out/program"), "round"]
     opt = next(filter(None, map(shutil.which, ["opt-19", "opt"])), None)
     for item_of in (answer, sums):
         print(item_of.__doc__)

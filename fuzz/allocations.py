@@ -15,7 +15,7 @@ import sys
 import tempfile
 
 ROOT = pathlib.Path(__file__).resolve().parent.parent
-PROGRAM = str(ROOT / "crates/round_ll/out/round_ll")
+PROGRAM = str(ROOT / "crates/program/out/program")
 
 
 def run(shim, text, **settings):

@@ -17,7 +17,7 @@ def arguments(count):
 def built():
     """The path of `round_ll`, built where it is not built yet."""
     subprocess.run([str(ROOT / "round_ll"), "round"], stdin=subprocess.DEVNULL, stdout=subprocess.DEVNULL, check=True)
-    return str(ROOT / "crates/round_ll/out/round_ll")
+    return str(ROOT / "crates/program/out/program")
 
 
 def tool_of_19(tool):

@@ -60,7 +60,7 @@ module _ (g : Func) (narrow : All IsNarrowBlock g.blocks) where
   returned (FuncType r ps v) vs h = let P : List Value → Type 0 = Returns g (FuncType r ps v) in subst P (sym h.1) (operand (FuncType r ps v) h.0 h.2)
 
   kind : (o : DialectOp) (k : Kind) → IfSome o.result IsShortInt → IsOfKind g o.operands o.result o.successors k → IsFormKind g o k
-  kind o (ConstantOp (IntegerAttr t v)) s h = (short_of o.result t s h.2, h.1, h.3, h.4, h.2)
+  kind o (ConstantOp (IntegerAttr t v)) s h = (h.0, h.1, h.3, h.4, h.2)
   kind o (AddOp flags) s h = (h.0, h.1.lhs, h.1.rhs, h.1.are, h.3, h.2, operand h.0 h.1.lhs h.1.left, operand h.0 h.1.rhs h.1.right)
   kind o (ICmpOp p) s h = (h.0.0, h.0.1.lhs, h.0.1.rhs, h.0.1.are, h.2, h.1, operand h.0.0 h.0.1.lhs h.0.1.left, operand h.0.0 h.0.1.rhs h.0.1.right)
   kind o BrOp s h = (h.0, leads o 1 h.1 h.2)

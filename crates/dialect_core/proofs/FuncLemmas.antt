@@ -17,7 +17,7 @@ use Rattle.dialect_core.specs.declared.ops.BlockData.{BlockData}
 use Rattle.dialect_core.specs.Lists.{Stands, list_at}
 use Rattle.dialect_core.specs.ContextData.{ContextData, region_at}
 use Rattle.dialect_core.specs.Data.{Kind, DialectOp, DialectBlock, Func, kind_of, op_of, op_at, block_of, block_in, held, ops_in, value_type}
-use Rattle.dialect_core.specs.WellFormed.{IsEdge}
+use Rattle.dialect_core.specs.WellFormed.{IsEdge, IsFirst, IsPastFirsts}
 use Rattle.dialect_core.specs.Checking.{PassesEach, func_at, target_args, tree_at}
 use Rattle.dialect_core.proofs.ChainLemmas.{same_op}
 use Rattle.dialect_core.proofs.TestLemmas.{same_block, no_true}
@@ -282,3 +282,17 @@ edge_is c f there s wanted args t past is are h =
     let Q : List Value → Type 0 = λ vs. IsTrue t ↔ PassesEach (func_at c f) (target_args (func_at c f) s.block) vs in
     let k : IsTrue t ↔ PassesEach (func_at c f) (target_args (func_at c f) s.block) s.args = subst Q are (subst P is h) in
     (λ yes. edge_from c f there s past (k.0 yes), λ e. k.1 (edge_passes (func_at c f) s e))
+
+-- the edges of an operation, as they are read
+pub past_firsts_is : (c : ContextData) (o : OpRef) (edges : List Successor) (t : Bool) → option_map (λ (x : OpData). x.successors) (slice_get c.ops o.0) ≡ Some edges → (IsTrue t ↔ All (λ (s : Successor). ¬ IsFirst c s.block) edges) → IsTrue t ↔ IsPastFirsts c o
+past_firsts_is c o edges t are h = by (slice_get c.ops o.0) refl are
+  where
+    P : List Successor → Type 0
+    P = All (λ (s : Successor). ¬ IsFirst c s.block)
+
+    by : (x : Option OpData) → slice_get c.ops o.0 ≡ x → option_map (λ (x : OpData). x.successors) x ≡ Some edges → IsTrue t ↔ IsPastFirsts c o
+    by None at e = absurd (none-some edges e)
+    by (Some x) at e = (
+      λ yes y there. subst P (sym (same_Some x.successors edges e) ∙ ap (λ (x : OpData). x.successors) (same_Some x y (sym at ∙ there))) (h.0 yes),
+      λ w. h.1 (subst P (same_Some x.successors edges e) (w x at)),
+    )

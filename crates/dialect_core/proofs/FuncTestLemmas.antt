@@ -1,5 +1,5 @@
 -- What tests of blocks, functions and modules find.
-use Rattle.std.proofs.Common.{◌≡◌, ◌<◌, ℕ, zero, suc, Bool, true, false, List, [], ◌∷◌, Option, Some, None, All, length, map, slice_get, get_or, ap, sym, subst, ◌∙◌, refl, arith}
+use Rattle.std.proofs.Common.{◌≡◌, ◌<◌, ◌≤◌, ℕ, zero, suc, Bool, true, false, List, [], ◌∷◌, Option, Some, None, All, length, map, slice_get, get_or, ap, sym, subst, ◌∙◌, refl, arith}
 use Rattle.std.specs.Prelude.{IsTrue, ◌↔◌, is_some, unwrap_or}
 use Rattle.std.specs.List.{filter_map, flat_map}
 use Rattle.std.specs.Option.{option_map, option_map_or, option_and_then}
@@ -18,14 +18,14 @@ use Rattle.dialect_core.specs.declared.ops.BlockData.{BlockData}
 use Rattle.dialect_core.specs.Lists.{Once, list_at}
 use Rattle.dialect_core.specs.ContextData.{ContextData, IsSymbol, kind_at, symbol_at, region_at}
 use Rattle.dialect_core.specs.Data.{DialectOp, DialectBlock, Func, op_at, block_in, block_of, func_of, func_in, held, data_of, name_at}
-use Rattle.dialect_core.specs.WellFormed.{IsInteger, IsSignature, IsPlainAt, IsWellFormedBlock, IsWellFormedFunc, IsWellFormed, has_word, params_of}
+use Rattle.dialect_core.specs.WellFormed.{IsInteger, IsSignature, IsPlainAt, IsPastFirsts, IsWellFormedBlock, IsWellFormedFunc, IsWellFormed, params_of, suits, suits_body, suits_declaration}
 use Rattle.dialect_core.specs.Checking.{AreApartFrom, AreFuncLines, AreLines, IsBlockAt, IsFuncAt, IsHead, block_at, func_at, tree_at}
 use Rattle.dialect_core.proofs.ChainLemmas.{same_op}
 use Rattle.dialect_core.proofs.HoldLemmas.{flat_stands, stands_flat}
-use Rattle.dialect_core.proofs.TestLemmas.{same_block}
+use Rattle.dialect_core.proofs.TestLemmas.{always, never, same_block}
 use Rattle.dialect_core.proofs.TypeTestLemmas.{all_map, map_all}
 use Rattle.dialect_core.proofs.OpTestLemmas.{func_type}
-use Rattle.dialect_core.proofs.FuncLemmas.{blocks_are, ops_are, block_there, block_number, op_number, made_of, entry_data}
+use Rattle.dialect_core.proofs.FuncLemmas.{blocks_are, ops_are, block_there, block_number, op_number, made_of, entry_data, entry_there, no_entry}
 use Rattle.dialect_core.proofs.LineLemmas.{all_at, at_all, lines_are, none_end, plain_op, same_place, numbers_once}
 
 -- ---- blocks
@@ -66,9 +66,10 @@ module _ (c : ContextData) (g : Func) (b : BlockRef) where
         let P : List TypeTree → Type 0 = All IsInteger in (
           λ w. let l = lines.0 (h.0 w) in record {
             plain = l.0;
-            block = record { args = subst P (sym (block_args args are)) (λ k d e. all_map IsInteger (tree_at c) args integers k d e); ops = l.1; ends = l.2 };
+            past_firsts = l.1;
+            block = record { args = subst P (sym (block_args args are)) (λ k d e. all_map IsInteger (tree_at c) args integers k d e); ops = l.2; ends = l.3 };
           },
-          λ w. h.1 (lines.1 (w.plain, w.block.ops, w.block.ends)),
+          λ w. h.1 (lines.1 (w.plain, w.past_firsts, w.block.ops, w.block.ends)),
         )
 
   pub block_data : b.0 < length c.blocks → block_in (type_trees c.types) c b ≡ Some (block_at c b)
@@ -81,6 +82,14 @@ module _ (c : ContextData) (g : Func) (b : BlockRef) where
       by (Some x) w = refl
 
 -- ---- functions
+
+suits_first : (bs : List DialectBlock) (l : LinkageAttr) (d : DialectBlock) → slice_get bs 0 ≡ Some d → suits bs l ≡ suits_body l
+suits_first [] l d at = absurd (none-some d at)
+suits_first (b ∷ bs) l d at = refl
+
+suits_empty : (bs : List DialectBlock) (l : LinkageAttr) → ((d : DialectBlock) → slice_get bs 0 ≡ Some d → ⊥) → suits bs l ≡ suits_declaration l
+suits_empty [] l none = refl
+suits_empty (b ∷ bs) l none = absurd (none b refl)
 
 module _ (c : ContextData) (f : OpRef) where
   pub func_name : (func_at c f).name ≡ name_at c.ops f.0
@@ -111,9 +120,9 @@ module _ (c : ContextData) (f : OpRef) where
       by None s e = absurd (none-some s e)
       by (Some x) s e = with_symbol x x.symbol s e
 
-  pub head_is : (l : LinkageAttr) (ty : TypeHandle) (t : Bool) → option_map (λ (s : Symbol). s.linkage) (symbol_at c.ops f) ≡ Some l → option_map (λ (s : Symbol). s.ty) (symbol_at c.ops f) ≡ Some ty → ¬ (name_at c.ops f.0 ≡ []) → has_word l ≡ true → (IsTrue t ↔ IsSignature (tree_at c ty)) → IsTrue t ↔ IsHead (func_at c f)
-  head_is l ty t linkage type named word h = (
-    λ w. record { named = λ e. named (sym func_name ∙ e); linkage = ap has_word (func_linkage l linkage) ∙ word; signature = subst IsSignature (sym (func_type c f ty type)) (h.0 w) },
+  pub head_is : (ty : TypeHandle) (t : Bool) → option_map (λ (s : Symbol). s.ty) (symbol_at c.ops f) ≡ Some ty → ¬ (name_at c.ops f.0 ≡ []) → suits (func_at c f).blocks (func_at c f).linkage ≡ true → (IsTrue t ↔ IsSignature (tree_at c ty)) → IsTrue t ↔ IsHead (func_at c f)
+  head_is ty t type named linkage h = (
+    λ w. record { named = λ e. named (sym func_name ∙ e); linkage = linkage; signature = subst IsSignature (sym (func_type c f ty type)) (h.0 w) },
     λ w. h.1 (subst IsSignature (func_type c f ty type) w.signature),
   )
 
@@ -128,11 +137,30 @@ module _ (c : ContextData) (f : OpRef) where
           λ w. h.1 (sym args_are ∙ w (block_at c b) data_is ∙ ap params_of type_is),
         )
 
-    each_block : All (IsBlockAt c (func_at c f)) (region_at c.ops f.0) → All (IsPlainAt c) (held c f.0) × All (IsWellFormedBlock (func_at c f)) (func_at c f).blocks
+    -- the linkage of a function with a first block, and of one without
+    pub linkage_body : (l : LinkageAttr) (b : BlockRef) (t : Bool) → option_map (λ (s : Symbol). s.linkage) (symbol_at c.ops f) ≡ Some l → slice_get (region_at c.ops f.0) 0 ≡ Some b → t ≡ suits_body l → t ≡ suits (func_at c f).blocks (func_at c f).linkage
+    linkage_body l b t linkage first is =
+        let d = entry_there c f there b first in
+        is ∙ ap suits_body (sym (func_linkage l linkage)) ∙ sym (suits_first (func_at c f).blocks (func_at c f).linkage d.0 d.1)
+
+    pub linkage_alone : (l : LinkageAttr) (t : Bool) → option_map (λ (s : Symbol). s.linkage) (symbol_at c.ops f) ≡ Some l → slice_get (region_at c.ops f.0) 0 ≡ None → t ≡ suits_declaration l → t ≡ suits (func_at c f).blocks (func_at c f).linkage
+    linkage_alone l t linkage none is = is ∙ ap suits_declaration (sym (func_linkage l linkage)) ∙ sym (suits_empty (func_at c f).blocks (func_at c f).linkage (no_entry c f there none))
+
+    -- what holds of the operations of each block holds of those of the function
+    of_blocks : (P : OpRef → Type 0) → ((k : ℕ) (b : BlockRef) → slice_get (region_at c.ops f.0) k ≡ Some b → All P (list_at c.lists b)) → All P (held c f.0)
+    of_blocks P h = at_all P (held c f.0) (λ k o at.
+        let w = flat_stands (list_at c.lists) (region_at c.ops f.0) o k at in
+        all_at P (list_at c.lists w.0) (h w.1.0 w.0 w.1.1) w.2.0 o w.2.1)
+
+    to_blocks : (P : OpRef → Type 0) → All P (held c f.0) → (k : ℕ) (b : BlockRef) → slice_get (region_at c.ops f.0) k ≡ Some b → All P (list_at c.lists b)
+    to_blocks P h k b at = at_all P (list_at c.lists b) (λ j o there_o.
+        let w = stands_flat (list_at c.lists) (region_at c.ops f.0) b o k at (j, there_o) in
+        all_at P (held c f.0) h w.0 o w.1)
+
+    each_block : All (IsBlockAt c (func_at c f)) (region_at c.ops f.0) → All (IsPlainAt c) (held c f.0) × All (IsPastFirsts c) (held c f.0) × All (IsWellFormedBlock (func_at c f)) (func_at c f).blocks
     each_block h = (
-      λ k d l. at_all (IsPlainAt c) (held c f.0) (λ k o at.
-          let w = flat_stands (list_at c.lists) (region_at c.ops f.0) o k at in
-          all_at (IsPlainAt c) (list_at c.lists w.0) (all_at (IsBlockAt c (func_at c f)) (region_at c.ops f.0) h w.1.0 w.0 w.1.1).plain w.2.0 o w.2.1) k d l,
+      λ k d l. of_blocks (IsPlainAt c) (λ k b at. (all_at (IsBlockAt c (func_at c f)) (region_at c.ops f.0) h k b at).plain) k d l,
+      λ k d l. of_blocks (IsPastFirsts c) (λ k b at. (all_at (IsBlockAt c (func_at c f)) (region_at c.ops f.0) h k b at).past_firsts) k d l,
       λ k d l. at_all (IsWellFormedBlock (func_at c f)) (func_at c f).blocks (λ i y at.
           let w = made_of (block_in (type_trees c.types) c) (region_at c.ops f.0) i y (ap (λ (xs : List DialectBlock). slice_get xs i) (sym (blocks_are c f there)) ∙ at) in
           let same : block_at c w.0 ≡ y = same_Some (block_at c w.0) y (sym (block_data c (func_at c f) w.0 (there w.1.0 w.0 w.1.1)) ∙ w.2) in
@@ -142,11 +170,10 @@ module _ (c : ContextData) (f : OpRef) where
     block_some : (k : ℕ) (b : BlockRef) → slice_get (region_at c.ops f.0) k ≡ Some b → (y : DialectBlock) × (block_in (type_trees c.types) c b ≡ Some y)
     block_some k b at = (block_at c b, block_data c (func_at c f) b (there k b at))
 
-    from_blocks : All (IsPlainAt c) (held c f.0) → All (IsWellFormedBlock (func_at c f)) (func_at c f).blocks → All (IsBlockAt c (func_at c f)) (region_at c.ops f.0)
-    from_blocks plain blocks = at_all (IsBlockAt c (func_at c f)) (region_at c.ops f.0) (λ k b at. record {
-      plain = at_all (IsPlainAt c) (list_at c.lists b) (λ j o there_o.
-          let w = stands_flat (list_at c.lists) (region_at c.ops f.0) b o k at (j, there_o) in
-          all_at (IsPlainAt c) (held c f.0) plain w.0 o w.1);
+    from_blocks : All (IsPlainAt c) (held c f.0) → All (IsPastFirsts c) (held c f.0) → All (IsWellFormedBlock (func_at c f)) (func_at c f).blocks → All (IsBlockAt c (func_at c f)) (region_at c.ops f.0)
+    from_blocks plain past blocks = at_all (IsBlockAt c (func_at c f)) (region_at c.ops f.0) (λ k b at. record {
+      plain = to_blocks (IsPlainAt c) plain k b at;
+      past_firsts = to_blocks (IsPastFirsts c) past k b at;
       block = all_at (IsWellFormedBlock (func_at c f)) (func_at c f).blocks blocks k (block_at c b)
           (ap (λ (xs : List DialectBlock). slice_get xs k) (blocks_are c f there) ∙ same_place (block_in (type_trees c.types) c) (region_at c.ops f.0) block_some k ∙ ap (option_and_then (block_in (type_trees c.types) c)) at ∙ block_data c (func_at c f) b (there k b at));
     })
@@ -161,12 +188,13 @@ module _ (c : ContextData) (f : OpRef) where
           λ w. let each = each_block (blocks.0 w) in record {
             kind = kind;
             plain = each.0;
+            past_firsts = each.1;
             func = record {
               named = head.named;
               linkage = head.linkage;
               signature = head.signature;
               params = entry;
-              blocks = each.1;
+              blocks = each.2;
               block_numbers = λ i j a b p q same. numbers_once (block_in (type_trees c.types) c) (λ (x : DialectBlock). x.number) (λ (b : BlockRef). b.0) (block_number (type_trees c.types) c) same_block (region_at c.ops f.0) block_some region_once i j a b
                   (ap (λ (xs : List DialectBlock). slice_get xs i) (sym (blocks_are c f there)) ∙ p) (ap (λ (xs : List DialectBlock). slice_get xs j) (sym (blocks_are c f there)) ∙ q) same;
               numbers = λ i j a b p q same. numbers_once (op_at (type_trees c.types) c.ops) (λ (x : DialectOp). x.number) (λ (o : OpRef). o.0) (op_number (type_trees c.types) c.ops) same_op (held c f.0)
@@ -174,7 +202,7 @@ module _ (c : ContextData) (f : OpRef) where
                   (ap (λ (xs : List DialectOp). slice_get xs i) (sym (ops_are c f there)) ∙ p) (ap (λ (xs : List DialectOp). slice_get xs j) (sym (ops_are c f there)) ∙ q) same;
             };
           },
-          λ w. blocks.1 (from_blocks w.plain w.func.blocks),
+          λ w. blocks.1 (from_blocks w.plain w.past_firsts w.func.blocks),
         )
 
 -- ---- modules
@@ -220,10 +248,7 @@ module _ (c : ContextData) where
     lines_of xs (λ k o at. funcs (suc k) o at) (λ i j p q a b same. suc_is i j (names (suc i) (suc j) p q a b same)),
   )
 
-  module _ (symbols : (o : OpRef) → kind_at c.ops o ≡ Some K.Func → IsSymbol c.ops o) (m : ℕ) (body : BlockRef) (region : region_at c.ops m ≡ body ∷ []) where
-    held_is : held c m ≡ list_at c.lists body
-    held_is = ap (flat_map (list_at c.lists)) region ∙ append-nil (list_at c.lists body)
-
+  module _ (symbols : (o : OpRef) → kind_at c.ops o ≡ Some K.Func → IsSymbol c.ops o) (m : ℕ) where
     abbrev fs : List Func
     fs = (data_of c m).functions
 
@@ -231,7 +256,7 @@ module _ (c : ContextData) where
       some_func : (k : ℕ) (o : OpRef) → slice_get (held c m) k ≡ Some o → (g : Func) × (func_in (type_trees c.types) c o ≡ Some g)
       some_func k o at = (func_at c o, func_data c o (symbols o (kinds k o at)))
 
-      func_there : (k : ℕ) (o : OpRef) → slice_get (held c m) k ≡ Some o → slice_get fs k ≡ Some (func_at c o)
+      pub func_there : (k : ℕ) (o : OpRef) → slice_get (held c m) k ≡ Some o → slice_get fs k ≡ Some (func_at c o)
       func_there k o at = same_place (func_in (type_trees c.types) c) (held c m) some_func k ∙ ap (option_and_then (func_in (type_trees c.types) c)) at ∙ func_data c o (symbols o (kinds k o at))
 
       there_func : (k : ℕ) (g : Func) → slice_get fs k ≡ Some g → (o : OpRef) × (slice_get (held c m) k ≡ Some o) × (func_at c o ≡ g)
@@ -241,15 +266,15 @@ module _ (c : ContextData) where
           by None is e = absurd (none-some g e)
           by (Some o) is e = (o, is, same_Some (func_at c o) g (sym (func_data c o (symbols o (kinds k o is))) ∙ e))
 
-    to_module : kind_at c.ops (record { 0 = m }) ≡ Some K.Module → AreFuncLines c (held c m) → IsWellFormed c m
-    to_module kind h =
+    to_module : kind_at c.ops (record { 0 = m }) ≡ Some K.Module → length (region_at c.ops m) ≤ 1 → AreFuncLines c (held c m) → IsWellFormed c m
+    to_module kind few h =
         let kinds = λ (k : ℕ) (o : OpRef) (at : slice_get (held c m) k ≡ Some o). (funcs_at (held c m) h k o at).kind in
         record {
           kind = kind;
-          body = body;
-          region = region;
+          region = few;
           funcs_alone = at_all (λ (o : OpRef). kind_at c.ops o ≡ Some K.Func) (held c m) kinds;
           plain = at_all (λ (o : OpRef). All (IsPlainAt c) (held c o.0)) (held c m) (λ k o at. (funcs_at (held c m) h k o at).plain);
+          past_firsts = at_all (λ (o : OpRef). All (IsPastFirsts c) (held c o.0)) (held c m) (λ k o at. (funcs_at (held c m) h k o at).past_firsts);
           functions = at_all IsWellFormedFunc fs (λ k g at. let w = there_func kinds k g at in subst IsWellFormedFunc w.2 (funcs_at (held c m) h k w.0 w.1).func);
           names = λ i j f g a b same.
               let p = there_func kinds i f a in
@@ -264,12 +289,25 @@ module _ (c : ContextData) where
         (λ k o at. record {
           kind = kinds k o at;
           plain = all_at (λ (o : OpRef). All (IsPlainAt c) (held c o.0)) (held c m) w.plain k o at;
+          past_firsts = all_at (λ (o : OpRef). All (IsPastFirsts c) (held c o.0)) (held c m) w.past_firsts k o at;
           func = all_at IsWellFormedFunc fs w.functions k (func_at c o) (func_there kinds k o at);
         })
         (λ i j p q a b same. w.names i j (func_at c p) (func_at c q) (func_there kinds i p a) (func_there kinds j q b) (func_name c p ∙ same ∙ sym (func_name c q)))
 
-    pub module_is : (t : Bool) → kind_at c.ops (record { 0 = m }) ≡ Some K.Module → (IsTrue t ↔ AreFuncLines c (list_at c.lists body)) → IsTrue t ↔ IsWellFormed c m
-    module_is t kind h =
+    pub module_is : (body : BlockRef) (t : Bool) → region_at c.ops m ≡ body ∷ [] → kind_at c.ops (record { 0 = m }) ≡ Some K.Module → (IsTrue t ↔ AreFuncLines c (list_at c.lists body)) → IsTrue t ↔ IsWellFormed c m
+    module_is body t region kind h =
         let P : List OpRef → Type 0 = λ xs. IsTrue t ↔ AreFuncLines c xs in
+        let held_is : held c m ≡ list_at c.lists body = ap (flat_map (list_at c.lists)) region ∙ append-nil (list_at c.lists body) in
         let lines = subst P (sym held_is) h in
-        (λ w. to_module kind (lines.0 w), λ w. lines.1 (from_module w))
+        let few : length (region_at c.ops m) ≤ 1 = omega (arith, ap length region) in
+        (λ w. to_module kind few (lines.0 w), λ w. lines.1 (from_module w))
+
+    -- a module without a block has no functions
+    pub module_bare : region_at c.ops m ≡ [] → kind_at c.ops (record { 0 = m }) ≡ Some K.Module → IsTrue true ↔ IsWellFormed c m
+    module_bare region kind =
+        let P : List OpRef → Type 0 = AreFuncLines c in
+        let none : AreFuncLines c (held c m) = subst P (sym (ap (flat_map (list_at c.lists)) region)) tt in
+        always (to_module kind (omega (arith, ap length region)) none)
+
+    pub module_crowded : (region : List BlockRef) → region ≡ region_at c.ops m → 1 < length region → IsTrue false ↔ IsWellFormed c m
+    module_crowded region is more = never (λ w. let few : length (region_at c.ops m) ≤ 1 = w.region in omega (arith, ap length is))

@@ -1,8 +1,8 @@
 -- What an operation holds: the blocks of its region, and the operations that stand in them, each once.
-use Rattle.std.proofs.Common.{◌≡◌, ◌⊎◌, ℕ, zero, suc, true, false, List, [], ◌∷◌, ◌++◌, Option, Some, None, slice_get, ap, sym, ◌∙◌, refl, inl, inr, subst, arith}
+use Rattle.std.proofs.Common.{◌≡◌, ◌⊎◌, ℕ, zero, suc, Bool, true, false, nat_eq, List, [], ◌∷◌, ◌++◌, Option, Some, None, slice_get, ap, sym, ◌∙◌, refl, inl, inr, subst, arith}
 use Rattle.std.specs.List.{flat_map}
 use Rattle.std.specs.Option.{option_map, option_map_or, option_and_then}
-use Rattle.std.specs.Prelude.{is_some}
+use Rattle.std.specs.Prelude.{is_some, IsTrue, ◌↔◌}
 use Rattle.std.proofs.lemmas.Option.{none-some, same_Some}
 use Rattle.dialect_core.specs.declared.numbers.OpRef.{OpRef}
 use Rattle.dialect_core.specs.declared.numbers.BlockRef.{BlockRef}
@@ -13,8 +13,10 @@ use Rattle.dialect_core.specs.declared.ops.BlockData.{BlockData}
 use Rattle.dialect_core.specs.Lists.{Has, AllApart, Stands, Once, list_at}
 use Rattle.dialect_core.specs.ContextData.{ContextData, IsKept, IsSymbol, is_func, kind_at, region_at, holder_at}
 use Rattle.dialect_core.specs.Data.{held}
+use Rattle.dialect_core.specs.WellFormed.{IsFirst}
 use Rattle.dialect_core.proofs.ChainLemmas.{same_op}
 use Rattle.dialect_core.proofs.DataLemmas.{standing_at}
+use Rattle.dialect_core.proofs.TestLemmas.{never, same_block, true_same, same_true}
 
 pub has_stands : (o : OpRef) (xs : List OpRef) → Has o.0 xs → Stands o xs
 has_stands o [] h = absurd h
@@ -129,6 +131,21 @@ module _ (c : ContextData) (h : IsKept c.ops c.blocks c.parents c.lists) where
 
   pub block_held : (b : BlockRef) (o p : OpRef) → option_map (λ (x : BlockData). x.holder) (slice_get c.blocks b.0) ≡ Some o → Stands b (region_at c.ops p.0) → o ≡ p
   block_held b o p is t = same_op o p (same_Some o.0 p.0 (sym (holder_is b o is) ∙ h.regions.ours p.0 t.0 b t.1))
+
+  -- a block is first where it is the first that its holder has
+  first_here : (b : BlockRef) (o : OpRef) (bs : List BlockRef) → option_map (λ (x : BlockData). x.holder) (slice_get c.blocks b.0) ≡ Some o → option_map (λ (x : OpData). x.blocks) (slice_get c.ops o.0) ≡ Some bs → IsFirst c b → slice_get bs 0 ≡ Some b
+  first_here b o bs is are w =
+      let same : o.0 ≡ w.0 = same_Some o.0 w.0 (sym (holder_is b o is) ∙ h.regions.ours w.0 0 b w.1) in
+      ap (λ (bs : List BlockRef). slice_get bs 0) (region_read c.ops o.0 bs are) ∙ ap (λ (n : ℕ). slice_get (region_at c.ops n) 0) same ∙ w.1
+
+  pub first_is : (b : BlockRef) (o : OpRef) (bs : List BlockRef) (first : BlockRef) (t : Bool) → option_map (λ (x : BlockData). x.holder) (slice_get c.blocks b.0) ≡ Some o → option_map (λ (x : OpData). x.blocks) (slice_get c.ops o.0) ≡ Some bs → slice_get bs 0 ≡ Some first → t ≡ nat_eq first.0 b.0 → IsTrue t ↔ IsFirst c b
+  first_is b o bs first t is are at test = (
+    λ yes. (o.0, ap (λ (bs : List BlockRef). slice_get bs 0) (sym (region_read c.ops o.0 bs are)) ∙ at ∙ ap Some (same_block first b (true_same t first.0 b.0 test yes))),
+    λ w. same_true t first.0 b.0 test (ap (λ (b : BlockRef). b.0) (same_Some first b (sym at ∙ first_here b o bs is are w))),
+  )
+
+  pub never_first : (b : BlockRef) (o : OpRef) (bs : List BlockRef) → option_map (λ (x : BlockData). x.holder) (slice_get c.blocks b.0) ≡ Some o → option_map (λ (x : OpData). x.blocks) (slice_get c.ops o.0) ≡ Some bs → slice_get bs 0 ≡ None → IsTrue false ↔ IsFirst c b
+  never_first b o bs is are none = never (λ w. none-some b (sym none ∙ first_here b o bs is are w))
 
   -- an operation stands where its block does
   pub held_op : ((o : OpRef) (b : BlockRef) → slice_get c.parents o.0 ≡ Some (Some b) → Has o.0 (list_at c.lists b)) → (b : BlockRef) (o p : OpRef) → slice_get c.parents o.0 ≡ Some (Some b) → Stands b (region_at c.ops p.0) → Stands o (held c p.0)

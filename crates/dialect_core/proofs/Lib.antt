@@ -20,9 +20,11 @@ pub mod AppendLemmas
 pub mod WalkLemmas
 pub mod NumberLemmas
 pub mod FormLaws
+pub mod WellLaws
 pub mod FuncLemmas
 pub mod FromLemmas
 pub mod FuncTestLemmas
+pub mod OwnEdgeLaws
 pub mod HeldLemmas
 pub mod HoldLemmas
 pub mod CountLemmas

@@ -1,6 +1,6 @@
 -- The operations of a block, and a function's blocks, as the tests of well-formedness find them.
-use Rattle.std.proofs.Common.{◌≡◌, ℕ, zero, suc, true, false, List, [], ◌∷◌, ◌++◌, Option, Some, None, All, length, slice_get, get_or, ap, sym, subst, ◌∙◌, refl, arith}
-use Rattle.std.specs.Prelude.{◌↔◌}
+use Rattle.std.proofs.Common.{◌≡◌, ℕ, zero, suc, Bool, true, false, List, [], ◌∷◌, ◌++◌, Option, Some, None, All, length, slice_get, get_or, ap, sym, subst, ◌∙◌, refl, arith}
+use Rattle.std.specs.Prelude.{IsTrue, ◌↔◌, is_none}
 use Rattle.std.specs.List.{filter_map, cons_option}
 use Rattle.std.specs.Option.{option_map, option_map_or, option_and_then}
 use Rattle.std.proofs.lemmas.Option.{slice_get_within, slice_get-get_or, get_or_from_slice_get, none-some, same_Some}
@@ -13,8 +13,8 @@ use Rattle.dialect_core.specs.Lists.{Once}
 use Rattle.dialect_core.specs.ContextData.{ContextData, is_plain}
 use Rattle.dialect_core.specs.Data.{Kind, DialectOp, Func, kind_of, op_of, op_at}
 use Rattle.dialect_core.specs.Form.{EndsInOnly, is_terminator, is_terminator_kind}
-use Rattle.dialect_core.specs.WellFormed.{IsPlainAt, IsWellFormedOp}
-use Rattle.dialect_core.specs.Checking.{AreLines, ends_kind, ends_at}
+use Rattle.dialect_core.specs.WellFormed.{IsPlainAt, IsPastFirsts, IsWellFormedOp}
+use Rattle.dialect_core.specs.Checking.{AreLines, IsLine, IsOpAt, ends_kind, ends_at}
 
 -- ---- all items, by their places
 
@@ -89,9 +89,21 @@ module _ (c : ContextData) where
   -- ---- lines
 
   module _ (g : Func) where
+    -- an operation by its kind
+    pub line_is : (o : OpRef) (next : Option OpRef) (kind : OpKind) (t : Bool) → option_map (λ (x : OpData). x.kind) (slice_get c.ops o.0) ≡ Some kind → ends_kind kind ≡ is_none next → IsPastFirsts c o → (IsTrue t ↔ IsOpAt c g o) → IsTrue t ↔ IsLine c g o next
+    line_is o next kind t is ends past h = (λ yes. record { fits = h.0 yes; ends = kind_ends (slice_get c.ops o.0) is ∙ ends; past_firsts = past }, λ w. h.1 w.fits)
+      where
+        kind_ends : (x : Option OpData) → option_map (λ (x : OpData). x.kind) x ≡ Some kind → option_map_or (λ (x : OpData). ends_kind x.kind) x false ≡ ends_kind kind
+        kind_ends None e = absurd (none-some kind e)
+        kind_ends (Some x) e = ap ends_kind (same_Some x.kind kind e)
+
     pub lines_plain : (xs : List OpRef) → AreLines c g xs → All (IsPlainAt c) xs
     lines_plain [] h = all_none (IsPlainAt c)
     lines_plain (x ∷ xs) h = λ k d l. all_cons (IsPlainAt c) x xs (op_plain x h.0.fits.0 h.0.fits.1) (lines_plain xs h.1) k d l
+
+    pub lines_past : (xs : List OpRef) → AreLines c g xs → All (IsPastFirsts c) xs
+    lines_past [] h = all_none (IsPastFirsts c)
+    lines_past (x ∷ xs) h = λ k d l. all_cons (IsPastFirsts c) x xs h.0.past_firsts (lines_past xs h.1) k d l
 
     with_head : (x : OpRef) (xs : List OpRef) (d : DialectOp) → op x ≡ Some d → filter_map op (x ∷ xs) ≡ d ∷ filter_map op xs
     with_head x xs d is = ap (λ (o : Option DialectOp). cons_option o (filter_map op xs)) is
@@ -138,21 +150,21 @@ module _ (c : ContextData) where
             let rest : f ∷ os ≡ front ++ e.last ∷ [] = cc in
             (ap is_terminator same ∙ before 0 h (omega arith), record { front = front; last = e.last; are = rest; ends = e.ends; before = λ k d l. all_tail (λ (o : DialectOp). is_terminator o ≡ false) h front before k d l })
 
-    pub lines_from : (x : OpRef) (xs : List OpRef) → All (IsPlainAt c) (x ∷ xs) → All (IsWellFormedOp g) (filter_map op (x ∷ xs)) → EndsInOnly (filter_map op (x ∷ xs)) → AreLines c g (x ∷ xs)
-    lines_from x [] plain ops ends =
+    pub lines_from : (x : OpRef) (xs : List OpRef) → All (IsPlainAt c) (x ∷ xs) → All (IsPastFirsts c) (x ∷ xs) → All (IsWellFormedOp g) (filter_map op (x ∷ xs)) → EndsInOnly (filter_map op (x ∷ xs)) → AreLines c g (x ∷ xs)
+    lines_from x [] plain past ops ends =
         let p = plain_op x (plain 0 x (omega arith)) in
         let P : List DialectOp → Type 0 = All (IsWellFormedOp g) in
         let mine = subst P (with_head x [] p.0 p.1) ops in
-        (record { fits = (p.0, p.1, mine 0 p.0 (omega arith)); ends = sym p.2 ∙ ends_one p.0 (subst EndsInOnly (with_head x [] p.0 p.1) ends) }, tt)
-    lines_from x (y ∷ ys) plain ops ends =
+        (record { fits = (p.0, p.1, mine 0 p.0 (omega arith)); ends = sym p.2 ∙ ends_one p.0 (subst EndsInOnly (with_head x [] p.0 p.1) ends); past_firsts = past 0 x (omega arith) }, tt)
+    lines_from x (y ∷ ys) plain past ops ends =
         let p = plain_op x (plain 0 x (omega arith)) in
         let q = plain_op y (plain 1 x (omega arith)) in
         let P : List DialectOp → Type 0 = All (IsWellFormedOp g) in
         let mine = subst P (with_head x (y ∷ ys) p.0 p.1) ops in
         let both = with_head x (y ∷ ys) p.0 p.1 ∙ ap (λ (os : List DialectOp). p.0 ∷ os) (with_head y ys q.0 q.1) in
         let split = ends_more p.0 q.0 (filter_map op ys) (subst EndsInOnly both ends) in (
-          record { fits = (p.0, p.1, mine 0 p.0 (omega arith)); ends = sym p.2 ∙ split.0 },
-          lines_from y ys (λ k d l. all_tail (IsPlainAt c) x (y ∷ ys) plain k d l) (λ k d l. all_tail (IsWellFormedOp g) p.0 (filter_map op (y ∷ ys)) mine k d l) (subst EndsInOnly (sym (with_head y ys q.0 q.1)) split.1),
+          record { fits = (p.0, p.1, mine 0 p.0 (omega arith)); ends = sym p.2 ∙ split.0; past_firsts = past 0 x (omega arith) },
+          lines_from y ys (λ k d l. all_tail (IsPlainAt c) x (y ∷ ys) plain k d l) (λ k d l. all_tail (IsPastFirsts c) x (y ∷ ys) past k d l) (λ k d l. all_tail (IsWellFormedOp g) p.0 (filter_map op (y ∷ ys)) mine k d l) (subst EndsInOnly (sym (with_head y ys q.0 q.1)) split.1),
         )
 
     no_end : EndsInOnly [] → ⊥
@@ -168,9 +180,9 @@ module _ (c : ContextData) where
     none_end (x ∷ xs) is e = none-some x (sym is)
 
     -- the operations of a block that has some
-    pub lines_are : (xs : List OpRef) → ¬ (slice_get xs 0 ≡ None) → AreLines c g xs ↔ (All (IsPlainAt c) xs × All (IsWellFormedOp g) (filter_map op xs) × EndsInOnly (filter_map op xs))
+    pub lines_are : (xs : List OpRef) → ¬ (slice_get xs 0 ≡ None) → AreLines c g xs ↔ (All (IsPlainAt c) xs × All (IsPastFirsts c) xs × All (IsWellFormedOp g) (filter_map op xs) × EndsInOnly (filter_map op xs))
     lines_are [] some = absurd (some refl)
-    lines_are (x ∷ xs) some = (λ h. (lines_plain (x ∷ xs) h, lines_ops (x ∷ xs) h, lines_end x xs h), λ h. lines_from x xs h.0 h.1 h.2)
+    lines_are (x ∷ xs) some = (λ h. (lines_plain (x ∷ xs) h, lines_past (x ∷ xs) h, lines_ops (x ∷ xs) h, lines_end x xs h), λ h. lines_from x xs h.0 h.1 h.2 h.3)
 
 -- ---- places
 
@@ -180,7 +192,7 @@ same_place f [] h i = refl
 same_place f (x ∷ xs) h zero = let y = h 0 x refl in ap (λ (o : Option _). slice_get (cons_option o (filter_map f xs)) 0) y.1 ∙ sym y.1
 same_place f (x ∷ xs) h (suc i) = let y = h 0 x refl in ap (λ (o : Option _). slice_get (cons_option o (filter_map f xs)) (suc i)) y.1 ∙ same_place f xs (λ k z at. h (suc k) z at) i
 
-then_some : {X Y : Type 0} (f : X → Option Y) (o : Option X) (y : Y) → option_and_then f o ≡ Some y → (x : X) × (o ≡ Some x) × (f x ≡ Some y)
+pub then_some : {X Y : Type 0} (f : X → Option Y) (o : Option X) (y : Y) → option_and_then f o ≡ Some y → (x : X) × (o ≡ Some x) × (f x ≡ Some y)
 then_some f None y h = absurd (none-some y h)
 then_some f (Some x) y h = (x, refl, h)
 

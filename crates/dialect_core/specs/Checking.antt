@@ -17,8 +17,8 @@ use Rattle.dialect_core.specs.declared.ops.BlockData.{BlockData}
 use Rattle.dialect_core.specs.Lists.{list_at}
 use Rattle.dialect_core.specs.ContextData.{ContextData, kind_at, region_at, symbol_at}
 use Rattle.dialect_core.specs.Data.{Kind, DialectOp, DialectBlock, Func, kind_of, op_at, block_in, name_at, held, value_type}
-use Rattle.dialect_core.specs.Form.{IsFitting}
-use Rattle.dialect_core.specs.WellFormed.{IsInteger, IsSignature, has_word, IsOfKind, IsWellFormedOp, IsWellFormedBlock, IsWellFormedFunc, IsPlainAt, IsValueOf}
+use Rattle.dialect_core.specs.Form.{IsFitting, IsShortInt}
+use Rattle.dialect_core.specs.WellFormed.{IsSignature, suits, IsOfKind, IsWellFormedOp, IsWellFormedBlock, IsWellFormedFunc, IsPlainAt, IsPastFirsts, IsValueOf}
 
 -- the tree of a type of the context
 abbrev pub tree_at : ContextData → TypeHandle → TypeTree
@@ -56,9 +56,9 @@ pub record Passes (g : Func) (wanted : Option TypeTree) (v : Value) : Type 0 whe
 abbrev pub PassesEach : Func → List TypeTree → List Value → Type 0
 PassesEach g wanted vs = (place : ℕ) (v : Value) → slice_get vs place ≡ Some v → Passes g (slice_get wanted place) v
 
--- a constant of that type, which fits it
+-- a constant of that type, which fits it, of 1 to 64 bits
 abbrev pub IsConstantOf : Option TypeTree → AttrTree → Type 0
-IsConstantOf own (IntegerAttr type value) = IsInteger type × IsFitting type value × (own ≡ Some type)
+IsConstantOf own (IntegerAttr type value) = IsShortInt type × IsFitting type value × (own ≡ Some type)
 
 -- the kind is one of a function's block, and the operation is as its kind is
 abbrev pub IsKindAt : ContextData → Func → OpKind → List Value → Option TypeHandle → List Successor → Type 0
@@ -79,10 +79,12 @@ ends_kind _ = false
 abbrev pub ends_at : ContextData → OpRef → Bool
 ends_at c o = option_map_or (λ (x : OpData). ends_kind x.kind) (slice_get c.ops o.0) false
 
--- an operation with the one after it in its block: it is a terminator where there is none
+-- an operation with the one after it in its block: it is a terminator where there is none, and no edge of it goes to a
+-- first block
 pub record IsLine (c : ContextData) (g : Func) (o : OpRef) (next : Option OpRef) : Type 0 where
   pub fits : IsOpAt c g o
   pub ends : ends_at c o ≡ is_none next
+  pub past_firsts : IsPastFirsts c o
 
 -- each operation holds with those after it
 abbrev pub Each : (OpRef → List OpRef → Type 0) → List OpRef → Type 0
@@ -93,21 +95,24 @@ Each P (x ∷ xs) = P x xs × Each P xs
 abbrev pub AreLines : ContextData → Func → List OpRef → Type 0
 AreLines c g os = Each (λ (o : OpRef) (rest : List OpRef). IsLine c g o (slice_get rest 0)) os
 
--- the block holds neither functions nor modules, and its data are well-formed
+-- the block holds neither functions nor modules, no edge of it goes to a first block, and its data are well-formed
 pub record IsBlockAt (c : ContextData) (g : Func) (b : BlockRef) : Type 0 where
   pub plain : All (IsPlainAt c) (list_at c.lists b)
+  pub past_firsts : All (IsPastFirsts c) (list_at c.lists b)
   pub block : IsWellFormedBlock g (block_at c b)
 
 -- the name, the linkage and the type of a function are well-formed
 pub record IsHead (g : Func) : Type 0 where
   pub named : ¬ (g.name ≡ [])
-  pub linkage : has_word g.linkage ≡ true
+  pub linkage : suits g.blocks g.linkage ≡ true
   pub signature : IsSignature g.type
 
--- the operation is a function, whose blocks hold neither functions nor modules, and whose data are well-formed
+-- the operation is a function, whose blocks hold neither functions nor modules, of which no edge goes to a first block,
+-- and whose data are well-formed
 pub record IsFuncAt (c : ContextData) (o : OpRef) : Type 0 where
   pub kind : kind_at c.ops o ≡ Some K.Func
   pub plain : All (IsPlainAt c) (held c o.0)
+  pub past_firsts : All (IsPastFirsts c) (held c o.0)
   pub func : IsWellFormedFunc (func_at c o)
 
 -- none of the operations has the name

@@ -10,6 +10,7 @@ use Rattle.dialect_core.specs.declared.linkage.LinkageAttr.TheVariants as L
 use Rattle.dialect_core.specs.declared.ops.Value.{Value}
 use Rattle.dialect_core.specs.declared.ops.Successor.{Successor}
 use Rattle.dialect_core.specs.declared.ops.OpKind.TheVariants as K
+use Rattle.dialect_core.specs.declared.ops.OpData.{OpData}
 use Rattle.dialect_core.specs.ContextData.{ContextData, kind_at, region_at, is_plain}
 use Rattle.dialect_core.specs.Data.{Kind, ConstantOp, AddOp, ICmpOp, BrOp, CondBrOp, ReturnOp, UnreachableOp, DialectOp, DialectBlock, Func, held, data_of, ops_in, value_type}
 use Rattle.dialect_core.specs.Form.{IsFitting, IsShortInt, IsShortResult, EndsInOnly, HasConstantsFirst, is_constant, types_list, result_of}
@@ -56,8 +57,9 @@ abbrev pub Returned : Func → TypeTree → List Value → Type 0
 Returned g VoidType vs = vs ≡ []
 Returned g type vs = (v : Value) × (vs ≡ v ∷ []) × (value_type g v ≡ Some type)
 
--- An edge does not go to the first block. It passes values of the function, and where the target has an argument at the
--- place of such a value, the two have one type.
+-- An edge does not go to the function's first block; `IsWellFormed` says that it goes to no other first block either. It
+-- passes values of the function, and where the target has an argument at the place of such a value, the two have one
+-- type.
 pub record IsEdge (g : Func) (s : Successor) : Type 0 where
   pub no_entry : (b : DialectBlock) → slice_get g.blocks 0 ≡ Some b → ¬ (s.block.0 ≡ b.number)
   pub args : All (IsValueOf g) s.args
@@ -68,9 +70,10 @@ pub record IsEdge (g : Func) (s : Successor) : Type 0 where
 abbrev pub AreEdges : Func → ℕ → List Successor → Type 0
 AreEdges g count ss = (length ss ≡ count) × All (IsEdge g) ss
 
--- the operands, the result and the edges of an operation: a line for each kind
+-- The operands, the result and the edges of an operation: a line for each kind. A constant has 1 to 64 bits, since an
+-- integer attribute holds no more, and its value fits them.
 abbrev pub IsOfKind : Func → List Value → Option TypeTree → List Successor → Kind → Type 0
-IsOfKind g operands own edges (ConstantOp (IntegerAttr type value)) = IsInteger type × IsFitting type value × (own ≡ Some type) × (operands ≡ []) × (edges ≡ [])
+IsOfKind g operands own edges (ConstantOp (IntegerAttr type value)) = IsShortInt type × IsFitting type value × (own ≡ Some type) × (operands ≡ []) × (edges ≡ [])
 IsOfKind g operands own edges (AddOp flags) = (type : TypeTree) × AreIntegers g type operands × (own ≡ Some type) × (edges ≡ [])
 IsOfKind g operands own edges (ICmpOp predicate) = ((type : TypeTree) × AreIntegers g type operands) × (own ≡ Some (IntegerType 1)) × (edges ≡ [])
 IsOfKind g operands own edges BrOp = (operands ≡ []) × (own ≡ None) × AreEdges g 1 edges
@@ -90,21 +93,35 @@ pub record IsWellFormedBlock (g : Func) (b : DialectBlock) : Type 0 where
   pub ops : All (IsWellFormedOp g) b.ops
   pub ends : EndsInOnly b.ops
 
--- a linkage that has a word in a text
-abbrev pub has_word : LinkageAttr → Bool
-has_word L.LinkOnceODRAutoHideLinkage = false
-has_word L.DLLImportLinkage = false
-has_word L.DLLExportLinkage = false
-has_word L.LinkerPrivateLinkage = false
-has_word L.LinkerPrivateWeakLinkage = false
-has_word L.GhostLinkage = false
-has_word _ = true
+-- a linkage that a function without a body may have
+abbrev pub suits_declaration : LinkageAttr → Bool
+suits_declaration L.ExternalLinkage = true
+suits_declaration L.ExternalWeakLinkage = true
+suits_declaration _ = false
 
--- a function, with a body or without: the first block takes what the function takes, and no number of a block or of an
--- operation stands twice
+-- a linkage that a function with a body may have: one that has a word in a text, and is none of extern_weak, common and
+-- appending
+abbrev pub suits_body : LinkageAttr → Bool
+suits_body L.ExternalLinkage = true
+suits_body L.AvailableExternallyLinkage = true
+suits_body L.LinkOnceAnyLinkage = true
+suits_body L.LinkOnceODRLinkage = true
+suits_body L.WeakAnyLinkage = true
+suits_body L.WeakODRLinkage = true
+suits_body L.InternalLinkage = true
+suits_body L.PrivateLinkage = true
+suits_body _ = false
+
+-- a linkage that a function with these blocks may have
+abbrev pub suits : List DialectBlock → LinkageAttr → Bool
+suits [] linkage = suits_declaration linkage
+suits (entry ∷ more) linkage = suits_body linkage
+
+-- a function, with a body or without: its linkage is one for the body that it has or lacks, the first block takes what
+-- the function takes, and no number of a block or of an operation stands twice
 pub record IsWellFormedFunc (g : Func) : Type 0 where
   pub named : ¬ (g.name ≡ [])
-  pub linkage : has_word g.linkage ≡ true
+  pub linkage : suits g.blocks g.linkage ≡ true
   pub signature : IsSignature g.type
   pub params : (b : DialectBlock) → slice_get g.blocks 0 ≡ Some b → b.args ≡ params_of g.type
   pub blocks : All (IsWellFormedBlock g) g.blocks
@@ -121,14 +138,23 @@ HasNamesApart fs = (i j : ℕ) (f g : Func) → slice_get fs i ≡ Some f → sl
 abbrev pub IsPlainAt : ContextData → OpRef → Type 0
 IsPlainAt c o = (k : _) × (kind_at c.ops o ≡ Some k) × (is_plain k ≡ true)
 
--- The operation of the number m is a module of one block. That block holds functions alone, whose blocks hold neither
--- functions nor modules: the data leave such out, so these rules speak of the context.
+-- the block is the first of the region of an operation of the context
+abbrev pub IsFirst : ContextData → BlockRef → Type 0
+IsFirst c b = (holder : ℕ) × (slice_get (region_at c.ops holder) 0 ≡ Some b)
+
+-- no edge of the operation goes to a first block
+abbrev pub IsPastFirsts : ContextData → OpRef → Type 0
+IsPastFirsts c o = (x : OpData) → slice_get c.ops o.0 ≡ Some x → All (λ (s : Successor). ¬ IsFirst c s.block) x.successors
+
+-- The operation of the number m is a module of at most one block. That block holds functions alone, whose blocks hold
+-- neither functions nor modules: the data leave such out, so these rules speak of the context. So does the rule that no
+-- edge goes to the first block of a region, be it of this function, of another or of a module.
 pub record IsWellFormed (c : ContextData) (m : ℕ) : Type 0 where
   pub kind : kind_at c.ops (record { 0 = m }) ≡ Some K.Module
-  pub body : BlockRef
-  pub region : region_at c.ops m ≡ body ∷ []
+  pub region : length (region_at c.ops m) ≤ 1
   pub funcs_alone : All (λ (o : OpRef). kind_at c.ops o ≡ Some K.Func) (held c m)
   pub plain : All (λ (o : OpRef). All (IsPlainAt c) (held c o.0)) (held c m)
+  pub past_firsts : All (λ (o : OpRef). All (IsPastFirsts c) (held c o.0)) (held c m)
   pub functions : All IsWellFormedFunc (data_of c m).functions
   pub names : HasNamesApart (data_of c m).functions
 

@@ -20,7 +20,7 @@ use dialect_types::attrs::ConstAttr;
 use dialect_types::type_store::TypeStore;
 use dialect_types::types::{TypeHandle, TypeKind};
 
-/// Whether a constant is an integer that fits its type, and its operation has that type.
+/// Whether a constant is an integer of 1 to 64 bits that fits its type, and its operation has that type.
 fn constant_fits(types: &TypeStore, value: &ConstAttr, own: Option<TypeHandle>) -> bool
     requires value { HasTypesBelow (length types.now) value.now }
     requires own { IfSome own (λ t. t.0 < length types.now) }

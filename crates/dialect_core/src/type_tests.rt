@@ -11,7 +11,7 @@ use dialect_types::types::{TypeHandle, TypeKind};
 /// The greatest width of an integer type in bits, 2^23.
 const MAX_WIDTH: u32 = 8_388_608;
 
-/// The greatest width that the form has.
+/// The greatest width of an integer constant, and of the integers of the form.
 const MAX_SHORT: u32 = 64;
 
 /// Whether two types are the same.
@@ -184,14 +184,14 @@ fn fits_width(value: u64, width: u32) -> bool
     }
 }
 
-/// Whether a type is an integer type that a value fits.
+/// Whether a type is an integer type of 1 to 64 bits that a value fits.
 pub fn is_fitting(types: &TypeStore, ty: TypeHandle, value: u64) -> bool
     requires { ty.0 < length types.now }
-    ensures { IsTrue result ↔ IsInteger (type_at (type_trees types.now) ty) × IsFitting (type_at (type_trees types.now) ty) value }
+    ensures { IsTrue result ↔ IsShortInt (type_at (type_trees types.now) ty) × IsFitting (type_at (type_trees types.now) ty) value }
 {
     match types.kind(ty) {
         TypeKind::Integer(width) => {
-            1 <= *width && *width <= MAX_WIDTH && fits_width(value, *width)
+            1 <= *width && *width <= MAX_SHORT && fits_width(value, *width)
         }
         _ => false,
     }

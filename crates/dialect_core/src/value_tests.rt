@@ -5,7 +5,7 @@ ghost use Rattle.std.specs.Option.{option_map, option_and_then};
 ghost use Rattle.dialect_types.specs.Trees.{TypeTree, type_at, type_trees};
 ghost use Rattle.dialect_core.specs.ContextData.{IsValueWithin, IsSuccessorWithin, region_at};
 ghost use Rattle.dialect_core.specs.Data.{DialectBlock, DialectOp, IsTyped, op_at, block_in, value_type};
-ghost use Rattle.dialect_core.specs.WellFormed.{AreEdges, IsEdge};
+ghost use Rattle.dialect_core.specs.WellFormed.{AreEdges, IsEdge, IsFirst, IsPastFirsts};
 ghost use Rattle.dialect_core.specs.Checking.{Passes, PassesEach, func_at, target_args, tree_at};
 
 use crate::context::Context;
@@ -170,4 +170,25 @@ pub fn edges_fit(ctx: &Context, func: OpRef, edges: &[Successor], count: usize) 
     ensures { IsTrue result ↔ AreEdges (func_at ctx.now func) count edges.now }
 {
     edges.len() == count && all_edges_fit(ctx, func, edges)
+}
+
+/// Whether none of these edges goes to the first block of a region.
+fn are_past_firsts(ctx: &Context, edges: &[Successor]) -> bool
+    requires { All (IsSuccessorWithin (length ctx.now.ops) (length ctx.now.blocks)) edges.now }
+    ensures { IsTrue result ↔ All (λ s. ¬ IsFirst ctx.now s.block) edges.now }
+{
+    for edge in edges {
+        if ctx.is_first_block(edge.block) {
+            return false;
+        }
+    }
+    true
+}
+
+/// Whether no edge of an operation goes to the first block of a region.
+pub fn is_past_firsts(ctx: &Context, op: OpRef) -> bool
+    requires { op.0 < length ctx.now.ops }
+    ensures { IsTrue result ↔ IsPastFirsts ctx.now op }
+{
+    are_past_firsts(ctx, ctx.op_successors(op))
 }

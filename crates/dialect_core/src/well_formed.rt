@@ -5,7 +5,7 @@ ghost use Rattle.dialect_core.specs.declared.ops.OpKind.TheVariants as kinds;
 ghost use Rattle.dialect_core.specs.Lists.{list_at, from_op};
 ghost use Rattle.dialect_core.specs.ContextData.{IsSymbol, kind_at};
 ghost use Rattle.dialect_core.specs.Data.{DialectBlock, IsTyped, name_at};
-ghost use Rattle.dialect_core.specs.WellFormed.{IsWellFormed, has_word, params_of};
+ghost use Rattle.dialect_core.specs.WellFormed.{IsWellFormed, params_of, suits, suits_body, suits_declaration};
 ghost use Rattle.dialect_core.specs.Checking.{AreApartFrom, AreFuncLines, AreLines, IsBlockAt, IsFuncAt, IsHead, IsLine, func_at};
 
 use crate::context::Context;
@@ -15,6 +15,7 @@ use crate::numbers::{BlockRef, ModuleOp, OpRef};
 use crate::op_tests::{is_ending, op_fits};
 use crate::ops::OpKind;
 use crate::type_tests::{all_integers, is_signature, takes};
+use crate::value_tests::is_past_firsts;
 
 /// The operation after another in a block. What is left of the block's list from the one is it and what is left from
 /// the other.
@@ -40,7 +41,8 @@ fn first_in_block(ctx: &Context, block: BlockRef) -> Option<OpRef>
     ctx.first_op(block)
 }
 
-/// Whether an operation of the function is as its kind is, and is a terminator just where none comes after it.
+/// Whether an operation of the function is as its kind is, is a terminator just where none comes after it, and leads to
+/// no first block.
 fn line_fits(ctx: &Context, func: OpRef, op: OpRef, next: Option<OpRef>) -> bool
     requires func { IsSymbol ctx.now.ops func }
     requires within { func.0 < length ctx.now.ops }
@@ -48,10 +50,14 @@ fn line_fits(ctx: &Context, func: OpRef, op: OpRef, next: Option<OpRef>) -> bool
     requires typed { IsTyped ctx.now }
     ensures { IsTrue result ↔ IsLine ctx.now (func_at ctx.now func) op next }
 {
+    if !is_past_firsts(ctx, op) {
+        return false;
+    }
     is_ending(ctx.op_kind(op)) == next.is_none() && op_fits(ctx, func, op)
 }
 
-/// Whether the operations of a block are as their kinds are, with terminators just at its end.
+/// Whether the operations of a block are as their kinds are, with terminators just at its end, which lead to no first
+/// block.
 fn lines_fit(ctx: &Context, func: OpRef, block: BlockRef) -> bool
     requires func { IsSymbol ctx.now.ops func }
     requires within { func.0 < length ctx.now.ops }
@@ -70,7 +76,8 @@ fn lines_fit(ctx: &Context, func: OpRef, block: BlockRef) -> bool
     true
 }
 
-/// Whether a block of the function is well-formed: its arguments are integers, and one terminator stands in it, last.
+/// Whether a block of the function is well-formed: its arguments are integers, and one terminator stands in it, last,
+/// which leads to no first block.
 fn block_fits(ctx: &Context, func: OpRef, block: BlockRef) -> bool
     requires func { IsSymbol ctx.now.ops func }
     requires within { func.0 < length ctx.now.ops }
@@ -103,19 +110,13 @@ fn blocks_fit(ctx: &Context, func: OpRef, blocks: &[BlockRef]) -> bool
     true
 }
 
-/// Whether a linkage has a word in a text.
-fn is_written(linkage: LinkageAttr) -> bool
-    ensures { result ≡ has_word linkage }
+/// Whether a function without a body may have the linkage.
+fn is_for_declaration(linkage: LinkageAttr) -> bool
+    ensures { result ≡ suits_declaration linkage }
 {
     match linkage {
-        LinkageAttr::LinkOnceODRAutoHideLinkage
-        | LinkageAttr::DLLImportLinkage
-        | LinkageAttr::DLLExportLinkage
-        | LinkageAttr::LinkerPrivateLinkage
-        | LinkageAttr::LinkerPrivateWeakLinkage
-        | LinkageAttr::GhostLinkage => false,
-        LinkageAttr::ExternalLinkage
-        | LinkageAttr::AvailableExternallyLinkage
+        LinkageAttr::ExternalLinkage | LinkageAttr::ExternalWeakLinkage => true,
+        LinkageAttr::AvailableExternallyLinkage
         | LinkageAttr::LinkOnceAnyLinkage
         | LinkageAttr::LinkOnceODRLinkage
         | LinkageAttr::WeakAnyLinkage
@@ -123,8 +124,51 @@ fn is_written(linkage: LinkageAttr) -> bool
         | LinkageAttr::AppendingLinkage
         | LinkageAttr::InternalLinkage
         | LinkageAttr::PrivateLinkage
+        | LinkageAttr::CommonLinkage
+        | LinkageAttr::LinkOnceODRAutoHideLinkage
+        | LinkageAttr::DLLImportLinkage
+        | LinkageAttr::DLLExportLinkage
+        | LinkageAttr::LinkerPrivateLinkage
+        | LinkageAttr::LinkerPrivateWeakLinkage
+        | LinkageAttr::GhostLinkage => false,
+    }
+}
+
+/// Whether a function with a body may have the linkage.
+fn is_for_body(linkage: LinkageAttr) -> bool
+    ensures { result ≡ suits_body linkage }
+{
+    match linkage {
+        LinkageAttr::ExternalLinkage
+        | LinkageAttr::AvailableExternallyLinkage
+        | LinkageAttr::LinkOnceAnyLinkage
+        | LinkageAttr::LinkOnceODRLinkage
+        | LinkageAttr::WeakAnyLinkage
+        | LinkageAttr::WeakODRLinkage
+        | LinkageAttr::InternalLinkage
+        | LinkageAttr::PrivateLinkage => true,
+        LinkageAttr::AppendingLinkage
         | LinkageAttr::ExternalWeakLinkage
-        | LinkageAttr::CommonLinkage => true,
+        | LinkageAttr::CommonLinkage
+        | LinkageAttr::LinkOnceODRAutoHideLinkage
+        | LinkageAttr::DLLImportLinkage
+        | LinkageAttr::DLLExportLinkage
+        | LinkageAttr::LinkerPrivateLinkage
+        | LinkageAttr::LinkerPrivateWeakLinkage
+        | LinkageAttr::GhostLinkage => false,
+    }
+}
+
+/// Whether the linkage of a function is one for the body that it has, or for none.
+fn linkage_fits(ctx: &Context, func: OpRef) -> bool
+    requires func { IsSymbol ctx.now.ops func }
+    requires within { func.0 < length ctx.now.ops }
+    ensures { result ≡ suits (func_at ctx.now func).blocks (func_at ctx.now func).linkage }
+{
+    let linkage = ctx.symbol_linkage(func);
+    match ctx.region(func).first() {
+        Some(_) => is_for_body(linkage),
+        None => is_for_declaration(linkage),
     }
 }
 
@@ -151,13 +195,13 @@ fn head_fits(ctx: &Context, func: OpRef) -> bool
     if name_of(ctx, func).is_empty() {
         return false;
     }
-    if !is_written(ctx.symbol_linkage(func)) {
+    if !linkage_fits(ctx, func) {
         return false;
     }
     is_signature(ctx.types(), ctx.symbol_type(func))
 }
 
-/// Whether a function is well-formed, and its blocks hold neither functions nor modules.
+/// Whether a function is well-formed, its blocks hold neither functions nor modules, and lead to no first block.
 fn body_fits(ctx: &Context, func: OpRef) -> bool
     requires func { IsSymbol ctx.now.ops func }
     requires within { func.0 < length ctx.now.ops }
@@ -175,7 +219,8 @@ fn body_fits(ctx: &Context, func: OpRef) -> bool
     blocks_fit(ctx, func, region)
 }
 
-/// Whether an operation is a function that is well-formed, and whose blocks hold neither functions nor modules.
+/// Whether an operation is a function that is well-formed, and whose blocks hold neither functions nor modules and lead
+/// to no first block.
 fn func_fits(ctx: &Context, op: OpRef) -> bool
     requires op { op.0 < length ctx.now.ops }
     requires typed { IsTyped ctx.now }
@@ -236,6 +281,7 @@ pub fn well_formed(ctx: &Context, root: ModuleOp) -> bool
         return false;
     };
     match ctx.region(root.0) {
+        [] => true,
         [body] => funcs_fit(ctx, *body),
         _ => false,
     }

@@ -1,9 +1,8 @@
 -- A dialect module as the import builds it, step by step.
-use Rattle.std.proofs.Common.{ℕ, ◌≡◌, ◌<◌, ◌≤◌, ◌+◌, inl, refl, ap, ◌∙◌, List, [], ◌∷◌, ◌++◌, Option, Some, None, All, length, map, slice_get, nat_eq, Bool, true, false, if◌then◌else◌, arith, length-append}
+use Rattle.std.proofs.Common.{ℕ, ◌≡◌, ◌<◌, ◌≤◌, ◌+◌, inl, refl, sym, ap, subst, ◌∙◌, List, [], ◌∷◌, ◌++◌, Option, Some, None, All, length, map, slice_get, nat_eq, Bool, true, false, if◌then◌else◌, arith, length-append}
 use Rattle.std.specs.Option.{option_map, option_map_or, option_and_then}
 use Rattle.std.proofs.lemmas.List.Elements.{All-nil, All-push, All-map, All-weaker}
 use Rattle.std.proofs.lemmas.Bool.{eqb-true}
-use Rattle.std.proofs.lemmas.Option.{slice_get_within}
 use Rattle.dialect_types.specs.declared.types.TypeHandle.{TypeHandle}
 use Rattle.dialect_types.specs.Trees.{type_at, type_trees}
 use Rattle.dialect_core.specs.declared.numbers.OpRef.{OpRef}
@@ -18,8 +17,9 @@ use Rattle.dialect_core.specs.Data.{DialectModule, Func, DialectBlock, IsTyped, 
 use Rattle.dialect_core.specs.Lists.{with_change}
 use Rattle.dialect_core.proofs.ListLemmas.{slice_get-append, slice_get-last}
 use Rattle.dialect_core.proofs.FilterLemmas.{change_get, change_length}
-use Rattle.from_llvm_ir.specs.Imported.{IsHeld, IsBuilding, IsBelow}
+use Rattle.from_llvm_ir.specs.Imported.{HasFuncsApart, IsHeld, IsBuilding, IsBelow}
 use Rattle.from_llvm_ir.specs.Building.{bare_func}
+use Rattle.from_llvm_ir.proofs.ApartLaws.{kind_there, op_apart, func_apart, block_apart}
 
 pub length-push : {X : Type 0} (xs : List X) (x : X) → length (xs ++ x ∷ []) ≡ length xs + 1
 length-push xs x = length-append xs (x ∷ [])
@@ -27,13 +27,6 @@ length-push xs x = length-append xs (x ∷ [])
 -- an operation that is there stays where it is
 still : (ops : List OpData) (x : OpData) (i : ℕ) → i < length ops → slice_get (ops ++ x ∷ []) i ≡ slice_get ops i
 still ops x i small = slice_get-append ops (x ∷ []) i small
-
-pub kind_there : (ops : List OpData) (o : OpRef) (k : OpKind) → kind_at ops o ≡ Some k → o.0 < length ops
-kind_there ops o k h = by (slice_get ops o.0) refl h
-  where
-    by : (v : Option OpData) → slice_get ops o.0 ≡ v → option_map (λ (x : OpData). x.kind) v ≡ Some k → o.0 < length ops
-    by None e h = absurd (let no : ⊥ = cc h in no)
-    by (Some x) e h = slice_get_within ops o.0 x e
 
 pub holder_kept : (ops : List OpData) (x : OpData) (v : Option BlockData) (k : OpKind) → option_and_then (λ (b : BlockData). kind_at ops b.holder) v ≡ Some k → option_and_then (λ (b : BlockData). kind_at (ops ++ x ∷ []) b.holder) v ≡ Some k
 holder_kept ops x None k h = h
@@ -89,8 +82,11 @@ added_func c0 c1 c2 m body d o name ty h e1 number data1 typed e2 data2 =
     let f = bare_func o.0 name (type_at (type_trees c0.types) ty) in
     let region1 : region_at c1.ops m ≡ body ∷ [] = rw e1 (region_kept c0.ops (func_data name ty) m h.there ∙ h.held.region) in
     let here : func_in (type_trees c1.types) c1 o ≡ Some f = func_here c0 c1 o name ty e1 number in
+    let kind1 : kind_at c1.ops o ≡ Some K.Func = (stands_func c0 c1 body o name ty m d h e1 number).0 in
+    let apart1 : HasFuncsApart c1 body = subst (λ (c : ContextData). HasFuncsApart c body) (sym e1) (op_apart c0 (func_data name ty) body h.apart) in
     record {
       held = held_op c0 c2 (func_data name ty) m body h.held ops blocks;
+      apart = subst (λ (c : ContextData). HasFuncsApart c body) (sym e2) (func_apart c1 o body apart1 kind1);
       is = data2 f here m region1 ∙ ap (λ (x : DialectModule). with_func x f) (data1 ∙ h.is);
       there = rw ops (omega (arith, h.there, length-push c0.ops (func_data name ty)));
       typed = typed;
@@ -174,6 +170,7 @@ added_block c0 c1 m body d b f label args h func e number is typed =
         holder = rw (ops, blocks)
             (holder_change c0.ops b f.0 (slice_get (c0.blocks ++ x ∷ []) body.0) ∙ ap (option_and_then (λ (y : BlockData). kind_at c0.ops y.holder)) (block_still c0.blocks x body.0 h.held.block) ∙ h.held.holder);
       };
+      apart = subst (λ (c : ContextData). HasFuncsApart c body) (sym e) (block_apart c0 b body x h.apart);
       is = is ∙ ap (λ (y : DialectModule). with_func_block y f.0 (new_block c0 b label args)) h.is;
       there = rw ops (omega (arith, h.there, change_length (region_more b) f.0 c0.ops));
       typed = typed;

@@ -1,14 +1,13 @@
 -- A function that an import made has the code of the one that it stands for.
-use Rattle.std.proofs.Common.{ℕ, zero, suc, ◌≡◌, ◌<◌, ◌≤◌, refl, sym, ◌∙◌, ap, Bool, true, if◌then◌else◌, List, [], ◌∷◌, Some, None, length, slice_get, slice_index_or, nat_lt, arith}
-use Rattle.std.proofs.lemmas.Bool.{lt-ltb}
+use Rattle.std.proofs.Common.{ℕ, zero, suc, ◌≡◌, ◌<◌, ◌≤◌, refl, sym, ◌∙◌, ap, true, List, [], ◌∷◌, Some, length, slice_get, slice_index_or, arith}
 use Rattle.std.proofs.lemmas.Option.{slice_get_within}
 use Rattle.llvm_core.specs.Data as L
 use Rattle.llvm_core.specs.Data.{ModuleData, TypeTree, VoidType, IntType, FunctionType, TypeTrees, NoTypes, ThenType}
 use Rattle.llvm_core.specs.Form.{IsFormFunction}
 use Rattle.llvm_core.proofs.DataLemmas.{within_at, there}
 use Rattle.dialect_core.specs.Data as D
-use Rattle.meaning.specs.Terms.{Match, rename_type, rename_types}
-use Rattle.meaning.specs.Code.{Body, FunctionSymbol, External, SameNamed, SameBody, SameBodies, IsOneToOne, rename_symbol}
+use Rattle.meaning.specs.Terms.{Match}
+use Rattle.meaning.specs.Code.{FunctionSymbol, External, SameNamed, SameBody, IsOneToOne}
 use Rattle.meaning.specs.Llvm as Llvm
 use Rattle.meaning.specs.Dialect as Dialect
 use Rattle.meaning.specs.Dialect.{type_of}

@@ -5,6 +5,7 @@ pub mod MatchLaws
 pub mod NameLaws
 pub mod PlaceLaws
 pub mod OrderLaws
+pub mod ApartLaws
 pub mod BuildLaws
 pub mod OpLaws
 pub mod UnderLaws
@@ -35,10 +36,11 @@ pub mod ShapeLaws
 pub mod WholeLaws
 pub mod BodyLaws
 pub mod StartLaws
-pub mod ModuleLaws
 pub mod SiteLaws
 pub mod UseLaws
 pub mod PairLaws
 pub mod MatchedLaws
+pub mod WellLaws
+pub mod ModuleLaws
 pub mod CodeLaws
 pub mod SameLaws

@@ -1,13 +1,15 @@
 -- The match puts the blocks of each function where the import did.
-use Rattle.std.proofs.Common.{ℕ, zero, suc, ◌≡◌, ◌<◌, true, List, [], ◌∷◌, Some, map, length, slice_get, nat_eq, refl, sym, ◌∙◌, ap, subst, arith}
+use Rattle.std.proofs.Common.{ℕ, zero, suc, ◌≡◌, ◌<◌, true, List, [], ◌∷◌, Some, All, map, length, slice_get, nat_eq, refl, sym, ◌∙◌, ap, subst, arith}
 use Rattle.std.specs.Str.{bytes_eq}
 use Rattle.std.specs.List.{find}
 use Rattle.std.specs.Option.{option_map}
 use Rattle.std.proofs.lemmas.Bool.{eq-eqb, eqb-true}
+use Rattle.std.proofs.lemmas.List.Elements.{All-nil, All-cons}
 use Rattle.std.proofs.lemmas.Option.{slice_get-map, slice_get_within}
 use Rattle.std.proofs.lemmas.Slice.Eq.{bytes_eq-Decides}
 use Rattle.llvm_core.specs.Data.{ModuleData, Function}
 use Rattle.dialect_core.specs.Data as D
+use Rattle.dialect_core.specs.Form.{IsFormFunc, IsExportable}
 use Rattle.meaning.specs.Code.{IsDistinctNames}
 use Rattle.from_llvm_ir.specs.declared.matching.FunctionBlocks.{FunctionBlocks}
 use Rattle.from_llvm_ir.specs.Match.{place_at, match_of}
@@ -49,6 +51,31 @@ count_imported d [] [] (g ∷ gs) h = elim h [ ]
 count_imported d [] (x ∷ xs) gs h = elim h [ ]
 count_imported d (f ∷ fs) [] gs h = elim h [ ]
 count_imported d (f ∷ fs) (x ∷ xs) [] h = elim h [ ]
+
+-- what each function of the dialect is, and its name
+pub forms_imported : (d : ModuleData) (fs : List Function) (xs : List FunctionBlocks) (gs : List D.Func) → AreImported d fs xs gs → All IsFormFunc gs
+forms_imported d [] [] [] NoneImported = All-nil IsFormFunc
+forms_imported d (f ∷ fs) (x ∷ xs) (g ∷ gs) (ThenImported _ _ _ _ _ _ one more) = All-cons IsFormFunc g gs one.form (forms_imported d fs xs gs more)
+forms_imported d [] [] (g ∷ gs) h = elim h [ ]
+forms_imported d [] (x ∷ xs) gs h = elim h [ ]
+forms_imported d (f ∷ fs) [] gs h = elim h [ ]
+forms_imported d (f ∷ fs) (x ∷ xs) [] h = elim h [ ]
+
+pub exportable_imported : (d : ModuleData) (fs : List Function) (xs : List FunctionBlocks) (gs : List D.Func) → AreImported d fs xs gs → All IsExportable gs
+exportable_imported d [] [] [] NoneImported = All-nil IsExportable
+exportable_imported d (f ∷ fs) (x ∷ xs) (g ∷ gs) (ThenImported _ _ _ _ _ _ one more) = All-cons IsExportable g gs one.exportable (exportable_imported d fs xs gs more)
+exportable_imported d [] [] (g ∷ gs) h = elim h [ ]
+exportable_imported d [] (x ∷ xs) gs h = elim h [ ]
+exportable_imported d (f ∷ fs) [] gs h = elim h [ ]
+exportable_imported d (f ∷ fs) (x ∷ xs) [] h = elim h [ ]
+
+pub names_imported : (d : ModuleData) (fs : List Function) (xs : List FunctionBlocks) (gs : List D.Func) → AreImported d fs xs gs → map (λ (g : D.Func). g.name) gs ≡ function_names fs
+names_imported d [] [] [] NoneImported = refl
+names_imported d (f ∷ fs) (x ∷ xs) (g ∷ gs) (ThenImported _ _ _ _ _ _ one more) = rw (one.name, names_imported d fs xs gs more) refl
+names_imported d [] [] (g ∷ gs) h = elim h [ ]
+names_imported d [] (x ∷ xs) gs h = elim h [ ]
+names_imported d (f ∷ fs) [] gs h = elim h [ ]
+names_imported d (f ∷ fs) (x ∷ xs) [] h = elim h [ ]
 
 -- ---- look-ups
 

@@ -14,18 +14,20 @@ use Rattle.dialect_core.specs.declared.numbers.BlockRef.{BlockRef}
 use Rattle.dialect_core.specs.declared.numbers.OpRef.{OpRef}
 use Rattle.dialect_core.specs.declared.ops.OpData.{OpData}
 use Rattle.dialect_core.specs.declared.ops.OpKind.TheVariants as K
-use Rattle.dialect_core.specs.ContextData.{ContextData, empty_context, with_op, with_block, HoldsMore}
+use Rattle.dialect_core.specs.ContextData.{ContextData, AreRegions, IsSymbol, empty_context, with_op, with_block, HoldsMore, holder_at, kind_at, region_at}
 use Rattle.dialect_core.specs.Data.{DialectModule, Func, IsTyped, with_func, data_of}
 use Rattle.from_llvm_ir.specs.declared.importing.Imported.{Imported}
 use Rattle.from_llvm_ir.specs.declared.matching.FunctionBlocks.{FunctionBlocks}
 use Rattle.from_llvm_ir.specs.declared.conversion_err.ConversionErr.{ConversionErr}
 use Rattle.from_llvm_ir.specs.declared.conversion_err.ConversionErr.TheVariants as E
-use Rattle.from_llvm_ir.specs.Imported.{AreImported, NoneImported, ThenImported, ImportedFunction, IsBuilding, IsImported, imported_data}
+use Rattle.from_llvm_ir.specs.Imported.{HasFuncsApart, AreImported, NoneImported, ThenImported, ImportedFunction, IsBuilding, IsImported, imported_data}
 use Rattle.from_llvm_ir.specs.Refusals.{IsCause, IsRefusalOfFunction}
 use Rattle.from_llvm_ir.specs.Source.{IsSource}
 use Rattle.from_llvm_ir.specs.Importing.{IsImportedTo}
 use Rattle.from_llvm_ir.specs.Building.{module_named}
+use Rattle.from_llvm_ir.proofs.ApartLaws.{empty_apart, op_apart, block_apart}
 use Rattle.from_llvm_ir.proofs.ListLaws.{take_next}
+use Rattle.from_llvm_ir.proofs.WellLaws.{well_formed}
 
 abbrev pub module_op : List ℕ → OpData
 module_op name = record { kind = K.Module; name = Some name; operands = []; successors = []; result = None; symbol = None; blocks = [] }
@@ -53,6 +55,8 @@ started c0 c1 c2 o b name e0 e1 number e2 place is typed =
         block = rw (c2_is, b0) (omega arith);
         holder = rw (c2_is, b0, n0) refl;
       };
+      apart = subst (λ (c : ContextData). HasFuncsApart c b) (sym c2_is)
+          (block_apart (with_op empty_context (module_op name)) b b (record { holder = o; label = None; args = [] }) (op_apart empty_context (module_op name) b (empty_apart b)));
       is = is;
       there = rw (c2_is, n0) (omega arith);
       typed = typed;
@@ -84,16 +88,20 @@ imported_more d k g c c' o body name xs x h at one = record {
 }
 
 -- the module is imported when all functions are
-pub imported_whole : (m : Module) (i : Imported) (body : BlockRef) → IsImportedTo (source_of m) (length m.functions) i.ctx i.«module».0.0 body (legal_name m.name) i.blocks → IsImported (source_of m) i
-imported_whole m i body h =
+pub imported_whole : (m : Module) (i : Imported) (body : BlockRef) → AreRegions (region_at i.ctx.ops) (holder_at i.ctx.blocks) → ((o : OpRef) → kind_at i.ctx.ops o ≡ Some K.Func → IsSymbol i.ctx.ops o)
+    → IsImportedTo (source_of m) (length m.functions) i.ctx i.«module».0.0 body (legal_name m.name) i.blocks → IsImported (source_of m) i
+imported_whole m i body regions symbols h =
     let same : imported_data i ≡ h.so_far = h.building.is in
     let all = take_all (length m.functions) (source_of m).functions (omega (arith, function_count m)) in
+    let building = subst (λ (d : DialectModule). IsBuilding i.ctx i.«module».0.0 body d) (sym same) h.building in
+    let functions = subst (λ (d : DialectModule). AreImported (source_of m) (source_of m).functions i.blocks d.functions) (sym same)
+    (subst (λ (fs : List L.Function). AreImported (source_of m) fs i.blocks h.so_far.functions) all h.functions) in
     record {
       body = body;
-      building = subst (λ (d : DialectModule). IsBuilding i.ctx i.«module».0.0 body d) (sym same) h.building;
+      building = building;
       name = ap (λ (d : DialectModule). d.name) same ∙ h.name_is;
-      functions = subst (λ (d : DialectModule). AreImported (source_of m) (source_of m).functions i.blocks d.functions) (sym same)
-          (subst (λ (fs : List L.Function). AreImported (source_of m) fs i.blocks h.so_far.functions) all h.functions);
+      functions = functions;
+      well_formed = well_formed (source_of m) i.ctx i.«module».0.0 body i.blocks building functions regions symbols;
     }
 
 -- what refuses a function refuses the module

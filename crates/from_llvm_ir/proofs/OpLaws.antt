@@ -1,5 +1,5 @@
 -- An operation more in a dialect module that the import builds.
-use Rattle.std.proofs.Common.{ℕ, ◌≡◌, ◌<◌, refl, ap, subst, ◌∙◌, List, [], ◌∷◌, ◌++◌, Option, Some, None, IsTrue, All, length, map, slice_get, slice_set, nat_eq, Bool, true, false, if◌then◌else◌, arith}
+use Rattle.std.proofs.Common.{ℕ, ◌≡◌, ◌<◌, refl, sym, ap, subst, ◌∙◌, List, [], ◌∷◌, ◌++◌, Option, Some, None, IsTrue, All, length, map, slice_get, slice_set, nat_eq, Bool, true, false, if◌then◌else◌, arith}
 use Rattle.std.specs.Option.{option_map, option_map_or, option_and_then}
 use Rattle.std.proofs.lemmas.List.Elements.{All-map, All-weaker}
 use Rattle.dialect_types.specs.declared.types.TypeHandle.{TypeHandle}
@@ -16,8 +16,9 @@ use Rattle.dialect_core.specs.ContextData.{ContextData, with_op, with_appended, 
 use Rattle.dialect_core.specs.Lists.{with_change}
 use Rattle.dialect_core.specs.Data.{DialectModule, Func, DialectBlock, DialectOp, IsTyped, data_of, Kind, kind_of, op_of, op_at, with_block_op}
 use Rattle.dialect_core.proofs.ListLemmas.{slice_get-last}
-use Rattle.from_llvm_ir.specs.Imported.{IsBuilding, IsBelow}
+use Rattle.from_llvm_ir.specs.Imported.{HasFuncsApart, IsBuilding, IsBelow}
 use Rattle.from_llvm_ir.specs.Building.{op_data, new_op}
+use Rattle.from_llvm_ir.proofs.ApartLaws.{op_apart, plain_apart}
 use Rattle.from_llvm_ir.proofs.BuildLaws.{length-push, at_end, held_op, below_more}
 
 pub kind_of_new : (c0 c1 : ContextData) (o : OpRef) (x : OpData) → c1 ≡ with_op c0 x → o.0 ≡ length c0.ops → kind_at c1.ops o ≡ Some x.kind
@@ -49,6 +50,8 @@ op_here ts ops x o k is at = ap (option_and_then (op_of ts o)) at ∙ ap (option
 
 pub added_op : (c0 c1 c2 : ContextData) (m : ℕ) (body : BlockRef) (d : DialectModule) (b : BlockRef) (o : OpRef) (kind : OpKind) (name : Option (List ℕ)) (operands : List Value) (successors : List Successor) (result : Option TypeHandle) (k : Kind)
     → IsBuilding c0 m body d
+    → ¬ (body.0 ≡ b.0)
+    → IsTrue (is_plain kind)
     → kind_of (type_trees c0.types) kind ≡ Some k
     → c1 ≡ with_op c0 (op_data kind name operands successors result)
     → o.0 ≡ length c0.ops
@@ -57,14 +60,16 @@ pub added_op : (c0 c1 c2 : ContextData) (m : ℕ) (body : BlockRef) (d : Dialect
     → c2 ≡ with_appended c1 o b
     → ((x : DialectOp) → op_at (type_trees c1.types) c1.ops o ≡ Some x → (m : ℕ) → data_of c2 m ≡ with_block_op (data_of c1 m) b.0 x)
     → IsBuilding c2 m body (with_block_op d b.0 (new_op o.0 name k operands successors (option_map (type_at (type_trees c0.types)) result)))
-added_op c0 c1 c2 m body d b o kind name operands successors result k h is e1 number data1 typed e2 data2 =
+added_op c0 c1 c2 m body d b o kind name operands successors result k h away plain is e1 number data1 typed e2 data2 =
     let x = op_data kind name operands successors result in
     let ops : c2.ops ≡ c0.ops ++ x ∷ [] = ap (λ (c : ContextData). c.ops) e2 ∙ ap (λ (c : ContextData). c.ops) e1 in
     let blocks : c2.blocks ≡ c0.blocks = ap (λ (c : ContextData). c.blocks) e2 ∙ ap (λ (c : ContextData). c.blocks) e1 in
     let y = new_op o.0 name k operands successors (option_map (type_at (type_trees c0.types)) result) in
     let here : op_at (type_trees c1.types) c1.ops o ≡ Some y = rw e1 (op_here (type_trees c0.types) (c0.ops ++ x ∷ []) x o k is (at_end c0.ops x o number)) in
+    let apart1 : HasFuncsApart c1 body = subst (λ (c : ContextData). HasFuncsApart c body) (sym e1) (op_apart c0 x body h.apart) in
     record {
       held = held_op c0 c2 x m body h.held ops blocks;
+      apart = subst (λ (c : ContextData). HasFuncsApart c body) (sym e2) (plain_apart c1 o b body apart1 (kind, kind_of_new c0 c1 o x e1 number, plain) away);
       is = data2 y here m ∙ ap (λ (z : DialectModule). with_block_op z b.0 y) (data1 ∙ h.is);
       there = rw ops (omega (arith, h.there, length-push c0.ops x));
       typed = typed;

@@ -1,5 +1,5 @@
 -- A module that an import made has the code of its source.
-use Rattle.std.proofs.Common.{ℕ, ◌≡◌, refl, sym, ◌∙◌, ap, subst, Bool, true, false, not, List, [], ◌∷◌, Some, map, filter, slice_get, All, arith}
+use Rattle.std.proofs.Common.{ℕ, ◌≡◌, refl, sym, ◌∙◌, subst, List, [], ◌∷◌, Some, slice_get, All, arith}
 use Rattle.std.proofs.lemmas.List.Elements.{All-nil, All-cons, All-head, All-tail}
 use Rattle.std.proofs.lemmas.Option.{slice_get_within}
 use Rattle.llvm_core.specs.Module.{Module}
@@ -9,7 +9,7 @@ use Rattle.llvm_core.specs.Data.{ModuleData, data_of}
 use Rattle.llvm_core.proofs.DataLemmas.{within_at, there, function_at, function_count}
 use Rattle.dialect_core.specs.Data as D
 use Rattle.meaning.specs.Pairs.{Matched}
-use Rattle.meaning.specs.Code.{Entry, IsDistinctNames, SameNamed, SameCode, names_of}
+use Rattle.meaning.specs.Code.{IsDistinctNames, SameNamed, SameCode}
 use Rattle.meaning.specs.Llvm as Llvm
 use Rattle.meaning.specs.Dialect as Dialect
 use Rattle.meaning.proofs.CodeLaws.{same_code}

@@ -64,6 +64,7 @@ more_heads fr func c c' c1 j b x h grown here number label args ops added kind l
     let same : length c'.blocks ≡ length c.blocks = ap (λ (k : ContextData). length k.blocks) grown.rest in
     record {
       heads = h.heads ++ x ∷ [];
+      above = h.above;
       building = subst (IsBuilding c1 fr.home.m fr.home.body) (block_taken fr.home.before (with_blocks fr.home h.heads) func.0.0 fr.base x h.number h.before)
           (added fr.home.m fr.home.body _ (typed_building c c' fr.home.m fr.home.body _ h.building grown));
       kind = kind;
@@ -237,6 +238,7 @@ framed m body d n g order base = record {
 pub no_heads : (g : L.Function) (c : ContextData) (m : ℕ) (body : BlockRef) (d : DialectModule) (func : FuncOp) (order : List ℕ) → IsDeclared g c m body d func.0.0 → kind_at c.ops func.0 ≡ Some O.Func → HasHeads (framed m body d func.0.0 g order (length c.blocks)) func c 0
 no_heads g c m body d func order h kind = record {
   heads = [];
+  above = h.building.held.block;
   building = h.building;
   kind = kind;
   number = refl;
@@ -278,6 +280,7 @@ not_hoisting m f fr func c values n framed is h notes = by h.heads h.building (h
           entry = x;
           more = xs;
           under = subst (IsUnder fr.home fr.base c) same (record {
+            above = h.above;
             building = building;
             numbered = numbered fr (x ∷ xs) count are;
             before = below_base func.0.0 fr.base fr.home.before.functions h.before;

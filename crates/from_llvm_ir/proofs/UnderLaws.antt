@@ -1,5 +1,5 @@
 -- The last function of a dialect module, whose blocks grow.
-use Rattle.std.proofs.Common.{ℕ, ◌≡◌, ◌≢◌, ◌<◌, ◌≤◌, ◌+◌, ◌⊎◌, inl, inr, refl, sym, ap, subst, ◌∙◌, List, [], ◌∷◌, ◌++◌, Option, Some, All, length, map, slice_get, nat_eq, if◌then◌else◌, arith, eq-eqb, ne_eqb}
+use Rattle.std.proofs.Common.{ℕ, ◌≡◌, ◌≢◌, ◌<◌, ◌≤◌, ◌+◌, ◌⊎◌, inl, inr, refl, sym, ap, subst, ◌∙◌, List, [], ◌∷◌, ◌++◌, Option, Some, IsTrue, All, length, map, slice_get, nat_eq, if◌then◌else◌, arith, eq-eqb, ne_eqb}
 use Rattle.std.specs.Option.{option_map}
 use Rattle.std.proofs.lemmas.List.{map-append, append_assoc, append-nil}
 use Rattle.std.proofs.lemmas.List.Concat.{flat_map-append}
@@ -14,7 +14,7 @@ use Rattle.dialect_core.specs.declared.ops.Value.{Value}
 use Rattle.dialect_core.specs.declared.ops.Successor.{Successor}
 use Rattle.dialect_core.specs.declared.ops.OpKind.{OpKind}
 use Rattle.dialect_core.specs.declared.ops.OpData.{OpData}
-use Rattle.dialect_core.specs.ContextData.{ContextData, with_op, with_appended}
+use Rattle.dialect_core.specs.ContextData.{ContextData, with_op, with_appended, is_plain}
 use Rattle.dialect_core.specs.Data.{DialectModule, Func, DialectBlock, DialectOp, Kind, IsTyped, data_of, kind_of, op_at, more_block, with_func, with_func_block, with_block_op}
 use Rattle.dialect_core.proofs.ListLemmas.{push_cases}
 use Rattle.dialect_core.proofs.TypeLemmas.{more_types_data}
@@ -156,6 +156,7 @@ block_taken d f n k x number h =
 
 pub added_open : (h : Home) (base : ℕ) (c0 c1 c2 : ContextData) (b : BlockRef) (left : List DialectBlock) (now : DialectBlock) (right : List DialectBlock) (o : OpRef) (kind : OpKind) (name : Option (List ℕ)) (operands : List Value) (successors : List Successor) (result : Option TypeHandle) (k : Kind)
     → IsOpen h base c0 b left now right
+    → IsTrue (is_plain kind)
     → kind_of (type_trees c0.types) kind ≡ Some k
     → c1 ≡ with_op c0 (op_data kind name operands successors result)
     → o.0 ≡ length c0.ops
@@ -164,15 +165,18 @@ pub added_open : (h : Home) (base : ℕ) (c0 c1 c2 : ContextData) (b : BlockRef)
     → c2 ≡ with_appended c1 o b
     → ((x : DialectOp) → op_at (type_trees c1.types) c1.ops o ≡ Some x → (m : ℕ) → data_of c2 m ≡ with_block_op (data_of c1 m) b.0 x)
     → IsOpen h base c2 b left (with_ops now (now.ops ++ new_op o.0 name k operands successors (option_map (type_at (type_trees c0.types)) result) ∷ [])) right
-added_open h base c0 c1 c2 b left now right o kind name operands successors result k u is e1 number data1 typed e2 data2 =
+added_open h base c0 c1 c2 b left now right o kind name operands successors result k u plain is e1 number data1 typed e2 data2 =
     let x = op_data kind name operands successors result in
     let y = new_op o.0 name k operands successors (option_map (type_at (type_trees c0.types)) result) in
-    let building = added_op c0 c1 c2 h.m h.body (with_func h.before (with_blocks h (left ++ now ∷ right))) b o kind name operands successors result k u.under.building is e1 number data1 typed e2 data2 in
+    let place = u.under.numbered (length left + 0) now (kept_behind left (now ∷ right) 0) in
+    let away : ¬ (h.body.0 ≡ b.0) = λ same. omega (arith, same, place, u.number, u.under.above) in
+    let building = added_op c0 c1 c2 h.m h.body (with_func h.before (with_blocks h (left ++ now ∷ right))) b o kind name operands successors result k u.under.building away plain is e1 number data1 typed e2 data2 in
     let ops : c2.ops ≡ c0.ops ++ x ∷ [] = ap (λ (c : ContextData). c.ops) e2 ∙ ap (λ (c : ContextData). c.ops) e1 in
     let fresh : AreFresh (length c2.ops) (ops_of (left ++ now ∷ right) ++ y ∷ []) =
     subst (λ (n : ℕ). AreFresh n (ops_of (left ++ now ∷ right) ++ y ∷ [])) (sym (ap (λ (xs : List OpData). length xs) ops ∙ length-push c0.ops x)) (push_fresh (length c0.ops) (ops_of (left ++ now ∷ right)) y u.under.fresh number) in
     record {
       under = record {
+        above = u.under.above;
         building = subst (IsBuilding c2 h.m h.body) (op_taken h base left now right b.0 y u.number u.under.numbered u.under.before) building;
         numbered = numbered_with base left now (now.ops ++ y ∷ []) right u.under.numbered;
         before = u.under.before;
@@ -187,6 +191,7 @@ added_open h base c0 c1 c2 b left now right o kind name operands successors resu
 pub typed_building : (c c' : ContextData) (m : ℕ) (body : BlockRef) (d : DialectModule) → IsBuilding c m body d → GrowsTypes c c' → IsBuilding c' m body d
 typed_building c c' m body d h g = subst (λ (x : ContextData). IsBuilding x m body d) (sym g.rest) (record {
   held = record { kind = h.held.kind; region = h.held.region; block = h.held.block; holder = h.held.holder };
+  apart = record { funcs = h.apart.funcs; plain = h.apart.plain };
   is = more_types_data c c'.types h.typed g.more.kept m ∙ h.is;
   there = h.there;
   typed = more_types_typed c c'.types h.typed g.more.longer;
@@ -195,6 +200,7 @@ typed_building c c' m body d h g = subst (λ (x : ContextData). IsBuilding x m b
 
 pub typed_under : (h : Home) (base : ℕ) (c c' : ContextData) (bs : List DialectBlock) → IsUnder h base c bs → GrowsTypes c c' → IsUnder h base c' bs
 typed_under h base c c' bs u g = record {
+  above = u.above;
   building = typed_building c c' h.m h.body _ u.building g;
   numbered = u.numbered;
   before = u.before;

@@ -27,7 +27,7 @@ use Rattle.from_llvm_ir.proofs.PassLaws.{no_phi_is, inst_form, operands_usable, 
 
 -- ---- the parts of an instruction
 
-operands_same : (t : Trees) (inst : LLVMInst) → is_phi inst ≡ false → map (operand_of t) (operands inst) ≡ LF.operands_of (instruction_of t inst)
+pub operands_same : (t : Trees) (inst : LLVMInst) → is_phi inst ≡ false → map (operand_of t) (operands inst) ≡ LF.operands_of (instruction_of t inst)
 operands_same t (I.Add l r f) e = refl
 operands_same t (I.ICmp l r q) e = refl
 operands_same t (I.Phi type es) e = absurd (let no : ⊥ = cc in no)

@@ -1,5 +1,5 @@
 -- A function under construction: its constants are hoisted, then its blocks are filled, one by one.
-use Rattle.std.specs.Prelude.{ℕ, ◌≡◌, ◌+◌, ◌++◌, not, List, [], ◌∷◌, Some, All, filter, length, take, slice_get}
+use Rattle.std.specs.Prelude.{ℕ, ◌≡◌, ◌<◌, ◌+◌, ◌++◌, not, List, [], ◌∷◌, Some, All, filter, length, take, slice_get}
 use Rattle.std.specs.List.{flat_map}
 use Rattle.llvm_core.specs.declared.numbers.LLVMBasicBlock.{LLVMBasicBlock}
 use Rattle.llvm_core.specs.declared.numbers.LLVMFunction.{LLVMFunction}
@@ -55,6 +55,7 @@ all_uses m fr = flat_map (λ (b : L.Block). flat_map (constants_in (data_of m) f
 -- the operation of the number n is a function, and has the first blocks in order, without operations
 pub record HasHeads (fr : Frame) (func : FuncOp) (c : ContextData) (j : ℕ) : Type 0 where
   pub heads : List DialectBlock
+  pub above : fr.home.body.0 < fr.base
   pub building : IsBuilding c fr.home.m fr.home.body (with_func fr.home.before (with_blocks fr.home heads))
   pub kind : kind_at c.ops func.0 ≡ Some K.Func
   pub number : fr.home.func.number ≡ func.0.0

@@ -60,8 +60,9 @@ abbrev pub AreNumbered : ℕ → List DialectBlock → Type 0
 AreNumbered base bs = (i : ℕ) (b : DialectBlock) → slice_get bs i ≡ Some b → b.number ≡ base + i
 
 -- the context holds the module whose last function has these blocks, numbered from `base` on, where the functions
--- before have none
+-- before and the module have none
 pub record IsUnder (h : Home) (base : ℕ) (c : ContextData) (bs : List DialectBlock) : Type 0 where
+  pub above : h.body.0 < base
   pub building : IsBuilding c h.m h.body (with_func h.before (with_blocks h bs))
   pub numbered : AreNumbered base bs
   pub before : All (λ (f : Func). All (λ (x : DialectBlock). x.number < base) f.blocks) h.before.functions

@@ -10,15 +10,19 @@ use Rattle.llvm_core.specs.Data.{ConstTree, IntConst, IntType, Placed, targets, 
 use Rattle.llvm_core.specs.Form.{is_phi, operands_of}
 use Rattle.dialect_types.specs.Names.{legal_name}
 use Rattle.dialect_types.specs.Trees.{IntegerAttr, IntegerType}
+use Rattle.dialect_core.specs.declared.numbers.OpRef.{OpRef}
 use Rattle.dialect_core.specs.declared.numbers.BlockRef.{BlockRef}
 use Rattle.dialect_core.specs.declared.ops.OpKind.{OpKind}
-use Rattle.dialect_core.specs.declared.ops.OpKind.TheVariants.{Module}
+use Rattle.dialect_core.specs.declared.ops.OpKind.TheVariants.{Module, Func as FuncKind}
 use Rattle.dialect_core.specs.declared.ops.BlockData.{BlockData}
+use Rattle.dialect_core.specs.Lists.{list_at}
 use Rattle.dialect_core.specs.ContextData.{ContextData, kind_at, region_at}
 use Rattle.dialect_core.specs.Data.{DialectModule, DialectBlock, DialectOp, Func, ConstantOp, IsTyped, data_of}
 use Rattle.dialect_core.specs.Form.{IsFormFunc, IsExportable, HasTargets}
+use Rattle.dialect_core.specs.WellFormed.{IsPlainAt, IsWellFormed}
 use Rattle.meaning.specs.Terms.{Match}
 use Rattle.meaning.specs.Pairs.{Matched, BothOrNone}
+use Rattle.meaning.specs.Code.{IsDistinctNames}
 use Rattle.meaning.specs.Llvm.{row_of}
 use Rattle.meaning.specs.Dialect.{type_of}
 use Rattle.meaning.specs.Shape.{SameShape}
@@ -156,9 +160,15 @@ pub record IsHeld (c : ContextData) (m : ℕ) (body : BlockRef) : Type 0 where
   pub block : body.0 < length c.blocks
   pub holder : holder_kind c body ≡ Some Module
 
+-- functions alone stand in the block for functions, and neither functions nor modules in any other
+pub record HasFuncsApart (c : ContextData) (body : BlockRef) : Type 0 where
+  pub funcs : All (λ (o : OpRef). kind_at c.ops o ≡ Some FuncKind) (list_at c.lists body)
+  pub plain : (b : BlockRef) → ¬ (b.0 ≡ body.0) → All (IsPlainAt c) (list_at c.lists b)
+
 -- the context holds a module, with one block for its functions, and its data are d
 pub record IsBuilding (c : ContextData) (m : ℕ) (body : BlockRef) (d : DialectModule) : Type 0 where
   pub held : IsHeld c m body
+  pub apart : HasFuncsApart c body
   pub is : data_of c m ≡ d
   pub there : m < length c.ops
   pub typed : IsTyped c
@@ -174,12 +184,14 @@ pub data AreImported (d : L.ModuleData) : List L.Function → List FunctionBlock
   ThenImported : (f : L.Function) (x : FunctionBlocks) (g : Func) (fs : List L.Function) (xs : List FunctionBlocks) (gs : List Func)
       → ImportedFunction d f x g → AreImported d fs xs gs → AreImported d (f ∷ fs) (x ∷ xs) (g ∷ gs)
 
--- the dialect module has the functions of the source in order, and the match covers the source
+-- The dialect module has the functions of the source in order, and the match covers the source. Where no two functions
+-- of the source have one name, it keeps every rule of the dialect.
 pub record IsImported (d : L.ModuleData) (i : Imported) : Type 0 where
   pub body : BlockRef
   pub building : IsBuilding i.ctx i.module.0.0 body (imported_data i)
   pub name : (imported_data i).name ≡ legal_name d.name
   pub functions : AreImported d d.functions i.blocks (imported_data i).functions
+  pub well_formed : IsDistinctNames (map (λ (f : L.Function). f.name) d.functions) → IsWellFormed i.ctx i.module.0.0
 
 -- ---- uses before a definition, of which inner contracts speak
 

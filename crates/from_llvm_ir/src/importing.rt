@@ -1,6 +1,6 @@
 //! LLVM module to dialect module.
 
-ghost use Rattle.std.specs.Prelude.{◌≡◌, ◌<◌, List, ℕ, IfErr, IfOk, length, map};
+ghost use Rattle.std.specs.Prelude.{◌≡◌, ◌<◌, List, ℕ, IfErr, IfOk, Some, length, map};
 ghost use Rattle.llvm_core.specs.Data.{data_of};
 ghost use Rattle.llvm_core.specs.Names.{IsPlainOrNone};
 ghost use Rattle.llvm_core.specs.Form.{IsForm};
@@ -8,7 +8,9 @@ ghost use Rattle.meaning.specs.Code.{SameCode, IsDistinctNames};
 ghost use Rattle.meaning.specs.Llvm as llvm;
 ghost use Rattle.meaning.specs.Dialect as dialect;
 ghost use Rattle.dialect_types.specs.Names.{legal_name};
-ghost use Rattle.dialect_core.specs.ContextData.{empty_context};
+ghost use Rattle.dialect_core.specs.declared.numbers.OpRef.{OpRef};
+ghost use Rattle.dialect_core.specs.declared.ops.OpKind.TheVariants as kinds;
+ghost use Rattle.dialect_core.specs.ContextData.{AreRegions, IsSymbol, empty_context, holder_at, kind_at, region_at};
 ghost use Rattle.from_llvm_ir.specs.Match.{match_of};
 ghost use Rattle.from_llvm_ir.specs.Imported.{IsBuilding, IsImported, imported_data};
 ghost use Rattle.from_llvm_ir.specs.Importing.{IsImportedTo};
@@ -94,6 +96,17 @@ fn start_module(
     Ok((module, body))
 }
 
+/// Each block stands in the region of the operation that holds it and in no other, and a function has a type and a
+/// linkage: a context keeps that. This only reads, and is for the proof of its caller.
+fn know_kept(ctx: &Context, root: ModuleOp)
+    requires { root.0.0 < length ctx.now.ops }
+    ensures regions { AreRegions (region_at ctx.now.ops) (holder_at ctx.now.blocks) }
+    ensures symbols { (o : OpRef) → kind_at ctx.now.ops o ≡ Some kinds.Func → IsSymbol ctx.now.ops o }
+{
+    ctx.keeps_regions();
+    let _blocks = ctx.region(root.0);
+}
+
 /// The import, with its steps in a ledger.
 fn import_counted<L: Ledger>(
     alloc: Global,
@@ -113,6 +126,7 @@ fn import_counted<L: Ledger>(
     let mut steps = Steps::<L>::new(blank);
     let (module, body) = start_module(&mut ctx, &mut names, source)?;
     let blocks = import_functions(alloc, &mut ctx, &mut names, source, body, &mut steps)?;
+    know_kept(&ctx, module);
     Ok(Imported {
         ctx,
         module,

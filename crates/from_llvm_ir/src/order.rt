@@ -44,7 +44,7 @@ impl Places {
     }
 
     /// The place of a block.
-    fn of(&self, block: LLVMBasicBlock) -> u32
+    pub fn of(&self, block: LLVMBasicBlock) -> u32
         requires { IsSome (noted_place self.now block) }
         ensures { noted_place self.now block ≡ Some result }
     {
@@ -64,7 +64,11 @@ impl Places {
 }
 
 /// The place of each block of a function.
-fn text_places(alloc: Global, source: &LLVMModule, f: LLVMFunction) -> Result<Places, AllocError>
+pub fn text_places(
+    alloc: Global,
+    source: &LLVMModule,
+    f: LLVMFunction,
+) -> Result<Places, AllocError>
     requires { (g : Function) × IsSource source.now f g }
     ensures { IfOk result (λ places. (g : Function) → IsSource source.now f g → ArePlacesOf g places) }
 {

@@ -52,8 +52,8 @@ impl Values {
     }
 }
 
-/// The refusal of a value that is not known yet.
-fn undefined_value(alloc: Global, source: &LLVMModule, i: LLVMInstRef) -> ConversionErr
+/// The refusal of the result of an instruction that is used where it is not defined, or not known yet.
+pub fn undefined_value(alloc: Global, source: &LLVMModule, i: LLVMInstRef) -> ConversionErr
     requires { i.0 < length source.now.insts }
     ensures { IsRefusalOf source.now i result }
 {

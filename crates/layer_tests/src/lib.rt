@@ -1,10 +1,27 @@
-//! Tests of crates below, in a crate of their own, since a crate with tests is proved twice: what `check` answers to
-//! modules made by hand that no text of the form says, the depth-first order and the dominance of all small graphs.
+//! Tests of crates below, in a crate of their own, since a crate with tests is proved twice: what `check`, `well_formed`
+//! and the export answer to modules made by hand, the traces of a loop, the depth-first order and the dominance of small
+//! graphs, sources and sinks, and `run` over faults and long texts.
 #![tactic(auto)]
 
 #[cfg(test)]
 mod dominance;
 #[cfg(test)]
+mod exports;
+#[cfg(test)]
+mod faults;
+#[cfg(test)]
+mod hand;
+#[cfg(test)]
 mod modules;
 #[cfg(test)]
 mod orders;
+#[cfg(test)]
+mod outside;
+#[cfg(test)]
+mod rules;
+#[cfg(test)]
+mod runs;
+#[cfg(test)]
+mod texts;
+#[cfg(test)]
+mod traces;

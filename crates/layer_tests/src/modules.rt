@@ -1,247 +1,332 @@
-//! Modules made by hand that break one rule, and what the check answers.
+//! Modules made by hand, each by a row of calls, that break one rule or none, and what the check answers.
 
-ghost use Rattle.std.specs.Prelude.{◌≡◌, ◌<◌, ◌≤◌, ◌^◌, IfOk, IfSome, Some, length};
-ghost use Rattle.llvm_core.specs.Code.{param_names};
-ghost use Rattle.llvm_core.specs.Parts.{IsValue};
+ghost use Rattle.std.specs.Prelude.{◌≡◌, ◌<◌, ◌≤◌, ◌^◌, All, IfSome, Some, length, slice_get};
+ghost use Rattle.llvm_core.specs.declared.types.LLVMTypeKind.TheVariants as kinds;
+ghost use Rattle.llvm_core.specs.Parts.{IsBlock, IsValue, HasValues};
 
-use llvm_core::check_err::{CheckErr, Place};
 use llvm_core::checking::check;
-use llvm_core::code::{LLVMInst, LLVMValue};
+use llvm_core::code::{LLVMInst, LLVMIntPredicate, LLVMValue, OverflowFlags};
 use llvm_core::consts::LLVMConstKind;
 use llvm_core::items::Items;
 use llvm_core::module::LLVMModule;
-use llvm_core::numbers::LLVMFunction;
+use llvm_core::numbers::{LLVMBasicBlock, LLVMFunction, LLVMInstRef, LLVMType};
 use llvm_core::types::LLVMTypeKind;
-use std::alloc::{AllocError, Global};
+use std::alloc::Global;
+use std::str::SplitWhitespace;
 use std::test::Fail;
 
-mod adds;
-mod branches;
+// What the check answers, and the calls that make the module:
+//
+//     int NAME WIDTH                  a function of two parameters of a width that returns such an integer
+//     void NAME SPACE                 a function of no parameters that returns nothing
+//     takes_void                      a function that takes and returns void
+//     name FUNCTION PLACE NAME        names a parameter
+//     block FUNCTION NAME             a new last block
+//     in BLOCK INSTRUCTION            a new last instruction
+//     entry VALUE BLOCK RESULT        a new entry of the phi that is the result
+//
+//     instruction                     add VALUE VALUE NAME, icmp VALUE VALUE, phi NAME of 64 bits without entries,
+//                                     br BLOCK, cond VALUE BLOCK BLOCK, ret VALUE, ret_void, unreachable
+//     value                           zero WIDTH, hole (a placeholder), param FUNCTION PLACE, result RESULT
+//     block                           FUNCTION PLACE
+//     result                          BLOCK PLACE
+//
+// A name `-` is none. Functions, and the blocks and parameters of one, and the instructions of a block, are counted
+// from 0. `fork` begins with the calls of `FORK`.
+const ROWS: &str = "\
+Ok(()): int id 64; name 0 0 x; block 0 entry; in 0 0 ret param 0 0
+Err(NameTwice(Function(2))): void f 0; void g 0; void f 0
+Err(NameTwice(Function(0))): void - 0
+Err(NameTwice(Function(0))): void a\0 0
+Err(NameTwice(Function(0))): int f 8; name 0 0 a; block 0 a; in 0 0 ret param 0 0
+Err(NoTerminator(Block(0))): void f 0; block 0 -
+Err(OperandType(Inst(0))): int f 8; block 0 -; in 0 0 ret zero 64
+Err(OperandType(Function(0))): takes_void
+Err(OperandCount(Inst(0))): int f 8; block 0 -; in 0 0 ret_void
+Err(BlockOutside(Inst(0))): int f 8; int g 8; block 0 -; in 0 0 ret param 1 0
+Err(IntrinsicBody(Function(0))): void llvm.x 0; block 0 -; in 0 0 ret_void
+Err(FunctionSpace(Function(0))): void f 1
+Ok(()): int g 32; name 0 0 a; name 0 1 b; block 0 entry; in 0 0 add param 0 0 param 0 1 s; in 0 0 ret result 0 0 0
+Err(OperandType(Inst(0))): int f 8; block 0 entry; in 0 0 add param 0 0 zero 64 s; in 0 0 ret result 0 0 0
+Err(OperandType(Inst(1))): void f 0; block 0 -; in 0 0 ret_void; block 0 -; in 0 1 add result 0 0 0 result 0 0 0 -; in 0 1 ret_void
+Err(BlockOutside(Inst(0))): int f 64; int g 64; block 0 entry; in 0 0 add param 1 0 zero 64 s; in 0 0 ret result 0 0 0
+Err(BlockOutside(Inst(2))): int f 64; int g 64; block 0 -; in 0 0 add zero 64 zero 64 -; in 0 0 ret result 0 0 0; block 1 entry; in 1 0 add zero 64 result 0 0 0 s; in 1 0 ret result 1 0 0
+Err(NameTwice(Function(0))): int f 64; block 0 -; in 0 0 add param 0 0 param 0 0 s; in 0 0 add param 0 0 param 0 0 s; in 0 0 ret param 0 0
+Err(NoTerminator(Block(0))): int f 64; block 0 -; in 0 0 ret param 0 0; in 0 0 add param 0 0 param 0 0 -
+Err(NoTerminator(Block(0))): int f 64; block 0 -; in 0 0 add param 0 0 param 0 0 -
+Ok(()): fork; in 0 3 phi p; entry zero 64 0 1 0 3 0; entry param 0 0 0 2 0 3 0; in 0 3 ret result 0 3 0
+Err(PhiPlace(Block(4))): fork; in 0 3 icmp zero 64 zero 64; in 0 3 phi p; entry zero 64 0 1 0 3 1; entry zero 64 0 2 0 3 1; in 0 3 ret result 0 3 1
+Err(OperandType(Inst(5))): fork; in 0 3 phi p; entry zero 64 0 1 0 3 0; entry zero 8 0 2 0 3 0; in 0 3 ret result 0 3 0
+Err(PhiEntries(Inst(5))): fork; in 0 3 phi p; entry zero 64 0 1 0 3 0; entry zero 64 0 1 0 3 0; in 0 3 ret result 0 3 0
+Err(BlockOutside(Inst(5))): fork; in 0 3 phi p; entry zero 64 0 1 0 3 0; entry param 0 0 1 0 0 3 0; in 0 3 ret result 0 3 0
+Err(PhiEntries(Inst(2))): int f 64; block 0 -; block 0 -; in 0 0 icmp zero 64 param 0 0; in 0 0 cond result 0 0 0 0 1 0 1; in 0 1 phi p; entry zero 64 0 0 0 1 0; entry param 0 0 0 0 0 1 0; in 0 1 ret result 0 1 0
+Err(PhiEntries(Inst(0))): int f 64; block 0 -; in 0 0 phi -; in 0 0 ret result 0 0 0
+Err(EntryHasPreds(Function(0))): int f 64; block 0 -; in 0 0 br 0 0
+Err(OperandType(Inst(0))): int f 64; block 0 -; in 0 0 icmp zero 64 zero 8; in 0 0 unreachable
+Err(OperandType(Inst(0))): int f 64; block 0 -; block 0 -; in 0 0 cond zero 64 0 1 0 1; in 0 1 unreachable
+Err(BlockOutside(Inst(2))): int f 64; int g 64; block 1 -; block 0 -; block 0 -; in 1 0 unreachable; in 0 1 unreachable; in 0 0 br 1 0
+Err(BlockOutside(Inst(3))): int f 64; int g 64; block 1 -; block 0 -; block 0 -; in 1 0 unreachable; in 0 1 unreachable; in 0 0 icmp zero 64 zero 64; in 0 0 cond result 0 0 0 0 1 1 0
+Err(BlockOutside(Inst(0))): int f 64; block 0 -; in 0 0 ret hole
+";
 
-// ---- modules
+/// Two functions: the first block of the one leads to two, which lead to its last; the other has a block.
+const FORK: &str =
+    "int f 64; int g 64; block 1 -; block 0 entry; block 0 left; block 0 right; block 0 -; \
+    in 1 0 unreachable; in 0 0 icmp zero 64 zero 64; in 0 0 cond result 0 0 0 0 1 0 2; in 0 1 br 0 3; in 0 2 br 0 3";
 
-/// A function of no parameters that returns nothing.
-fn void_function(
-    alloc: Global,
-    m: &mut LLVMModule,
-    name: &str,
-    space: u32,
-) -> Result<LLVMFunction, AllocError>
-    ensures { IfOk result (λ f. f.0 < length m.new.functions) }
+// ---- what words name: None says that it is not there, or no memory
+
+fn number(words: &mut SplitWhitespace<'_>) -> Option<u32> {
+    words.next()?.parse::<u32>().ok()
+}
+
+fn name<'a>(words: &mut SplitWhitespace<'a>) -> Option<&'a str> {
+    let word = words.next()?;
+    if word == "-" { Some("") } else { Some(word) }
+}
+
+fn function(m: &LLVMModule, words: &mut SplitWhitespace<'_>) -> Option<LLVMFunction>
+    ensures { IfSome result (λ f. f.0 < length m.now.functions) }
 {
-    let void = m.type_get(LLVMTypeKind::Void)?;
-    let ty = m.type_get(LLVMTypeKind::Function {
-        result: void,
-        params: Items::new(alloc),
-        variadic: false,
-    })?;
-    m.add_function(name, ty, space)
-}
-
-/// A function of one parameter that returns its type.
-fn int_function(
-    alloc: Global,
-    m: &mut LLVMModule,
-    name: &str,
-    width: u32,
-) -> Result<LLVMFunction, AllocError>
-    requires least { 1 ≤ width }
-    requires most { width ≤ 2 ^ 23 }
-    ensures function { IfOk result (λ f. f.0 < length m.new.functions) }
-    ensures kept { length m.old.functions ≤ length m.new.functions }
-    ensures param { IfOk result (λ f. 0 < length (param_names m.new.functions f)) }
-{
-    let int = m.type_get(LLVMTypeKind::Int(width))?;
-    let params = Items::from_vec([int].to_vec(alloc)?);
-    let ty = m.type_get(LLVMTypeKind::Function {
-        result: int,
-        params,
-        variadic: false,
-    })?;
-    m.add_function(name, ty, 0)
-}
-
-/// A block with a `ret` alone.
-fn ret(
-    m: &mut LLVMModule,
-    f: LLVMFunction,
-    label: &str,
-    value: Option<LLVMValue>,
-) -> Result<(), AllocError>
-    requires function { f.0 < length m.old.functions }
-    requires value { IfSome value (IsValue m.old) }
-{
-    let b = m.append_block(f, label)?;
-    m.build(b, LLVMInst::Ret(value), "")?;
-    Ok(())
-}
-
-/// The constant 7 of 64 bits.
-fn seven(m: &mut LLVMModule) -> Result<LLVMValue, AllocError>
-    ensures value { IfOk result (λ v. IsValue m.new v) }
-    ensures functions { m.new.functions ≡ m.old.functions }
-{
-    let int = m.type_get(LLVMTypeKind::Int(64))?;
-    let c = m.const_get(LLVMConstKind::Int(int, 7))?;
-    Ok(LLVMValue::Const(c))
-}
-
-fn identity(alloc: Global, m: &mut LLVMModule) -> Result<(), AllocError> {
-    let f = int_function(alloc, m, "id", 64)?;
-    m.set_param_name(f, 0, "x")?;
-    ret(m, f, "entry", Some(LLVMValue::Param(f, 0)))
-}
-
-// ---- what the check refuses
-
-fn shared_name(alloc: Global, m: &mut LLVMModule) -> Result<(), AllocError> {
-    void_function(alloc, m, "f", 0)?;
-    void_function(alloc, m, "g", 0)?;
-    void_function(alloc, m, "f", 0)?;
-    Ok(())
-}
-
-fn empty_name(alloc: Global, m: &mut LLVMModule) -> Result<(), AllocError> {
-    void_function(alloc, m, "", 0)?;
-    Ok(())
-}
-
-fn zero_byte(alloc: Global, m: &mut LLVMModule) -> Result<(), AllocError> {
-    void_function(alloc, m, "a\0", 0)?;
-    Ok(())
-}
-
-fn shared_label(alloc: Global, m: &mut LLVMModule) -> Result<(), AllocError> {
-    let f = int_function(alloc, m, "f", 8)?;
-    m.set_param_name(f, 0, "a")?;
-    ret(m, f, "a", Some(LLVMValue::Param(f, 0)))
-}
-
-fn open_block(alloc: Global, m: &mut LLVMModule) -> Result<(), AllocError> {
-    let f = void_function(alloc, m, "f", 0)?;
-    m.append_block(f, "")?;
-    Ok(())
-}
-
-fn wrong_type(alloc: Global, m: &mut LLVMModule) -> Result<(), AllocError> {
-    let f = int_function(alloc, m, "f", 8)?;
-    let value = seven(m)?;
-    ret(m, f, "", Some(value))
-}
-
-fn no_value(alloc: Global, m: &mut LLVMModule) -> Result<(), AllocError> {
-    let f = int_function(alloc, m, "f", 8)?;
-    ret(m, f, "", None)
-}
-
-fn void_param(alloc: Global, m: &mut LLVMModule) -> Result<(), AllocError> {
-    let void = m.type_get(LLVMTypeKind::Void)?;
-    let ty = m.type_get(LLVMTypeKind::Function {
-        result: void,
-        params: Items::from_vec([void].to_vec(alloc)?),
-        variadic: false,
-    })?;
-    m.add_function("f", ty, 0)?;
-    Ok(())
-}
-
-fn other_param(alloc: Global, m: &mut LLVMModule) -> Result<(), AllocError> {
-    let f = int_function(alloc, m, "f", 8)?;
-    let g = int_function(alloc, m, "g", 8)?;
-    ret(m, f, "", Some(LLVMValue::Param(g, 0)))
-}
-
-fn intrinsic_body(alloc: Global, m: &mut LLVMModule) -> Result<(), AllocError> {
-    let f = void_function(alloc, m, "llvm.x", 0)?;
-    ret(m, f, "", None)
-}
-
-fn other_space(alloc: Global, m: &mut LLVMModule) -> Result<(), AllocError> {
-    void_function(alloc, m, "f", 1)?;
-    Ok(())
-}
-
-/// A module that breaks one rule, or none.
-#[derive(Clone, Copy, Debug, Drop)]
-enum Case {
-    Fine,
-    SharedName,
-    EmptyName,
-    ZeroByte,
-    SharedLabel,
-    OpenBlock,
-    WrongType,
-    VoidParam,
-    NoValue,
-    OtherParam,
-    IntrinsicBody,
-    OtherSpace,
-}
-
-fn make(alloc: Global, m: &mut LLVMModule, case: Case) -> Result<(), AllocError> {
-    match case {
-        Case::Fine => identity(alloc, m),
-        Case::SharedName => shared_name(alloc, m),
-        Case::EmptyName => empty_name(alloc, m),
-        Case::ZeroByte => zero_byte(alloc, m),
-        Case::SharedLabel => shared_label(alloc, m),
-        Case::OpenBlock => open_block(alloc, m),
-        Case::WrongType => wrong_type(alloc, m),
-        Case::VoidParam => void_param(alloc, m),
-        Case::NoValue => no_value(alloc, m),
-        Case::OtherParam => other_param(alloc, m),
-        Case::IntrinsicBody => intrinsic_body(alloc, m),
-        Case::OtherSpace => other_space(alloc, m),
+    let f = number(words)?;
+    if f < m.functions() {
+        Some(LLVMFunction(f))
+    } else {
+        None
     }
 }
 
-fn answer(alloc: Global, case: Case) -> Result<Result<(), CheckErr>, AllocError> {
-    let mut m = LLVMModule::new(alloc, "m")?;
-    make(alloc, &mut m, case)?;
-    Ok(check(&m))
+fn block(m: &LLVMModule, words: &mut SplitWhitespace<'_>) -> Option<LLVMBasicBlock>
+    ensures { IfSome result (IsBlock m.now) }
+{
+    let f = function(m, words)?;
+    let place = number(words)?;
+    m.blocks(f).get(place as usize).copied()
+}
+
+fn result(m: &LLVMModule, words: &mut SplitWhitespace<'_>) -> Option<LLVMInstRef>
+    ensures { IfSome result (λ i. i.0 < length m.now.insts) }
+{
+    let block = block(m, words)?;
+    let place = number(words)?;
+    m.instructions(block).get(place as usize).copied()
+}
+
+fn param(m: &LLVMModule, words: &mut SplitWhitespace<'_>) -> Option<LLVMValue>
+    ensures { IfSome result (IsValue m.now) }
+{
+    let f = function(m, words)?;
+    let place = number(words)?;
+    match m.type_kind(m.function_type(f)) {
+        LLVMTypeKind::Function { params, .. } => {
+            if (place as usize) < params.as_slice().len() {
+                Some(LLVMValue::Param(f, place))
+            } else {
+                None
+            }
+        }
+        _ => None,
+    }
+}
+
+// ---- values
+
+/// An integer type.
+fn int(m: &mut LLVMModule, width: u32) -> Option<LLVMType>
+    ensures kind { IfSome result (λ t. slice_get m.new.types t.0 ≡ Some (kinds.Int width)) }
+    ensures within { IfSome result (λ t. t.0 < length m.new.types) }
+    ensures kept { m.new ≡ record m.old { types = m.new.types } }
+{
+    if width == 0 || 64 < width {
+        return None;
+    }
+    m.type_get(LLVMTypeKind::Int(width)).ok()
+}
+
+fn zero(m: &mut LLVMModule, width: u32) -> Option<LLVMValue>
+    ensures value { IfSome result (IsValue m.new) }
+    ensures blocks { m.new.blocks ≡ m.old.blocks }
+    ensures kept { (v : LLVMValue) → IsValue m.old v → IsValue m.new v }
+{
+    let int = int(m, width)?;
+    let zero = m.const_get(LLVMConstKind::Int(int, 0)).ok()?;
+    Some(LLVMValue::Const(zero))
+}
+
+/// A placeholder of 64 bits.
+fn hole(m: &mut LLVMModule) -> Option<LLVMValue>
+    ensures value { IfSome result (IsValue m.new) }
+    ensures blocks { m.new.blocks ≡ m.old.blocks }
+    ensures kept { (v : LLVMValue) → IsValue m.old v → IsValue m.new v }
+{
+    let int = int(m, 64)?;
+    let hole = m.const_get(LLVMConstKind::Placeholder(0, int)).ok()?;
+    Some(LLVMValue::Const(hole))
+}
+
+fn value(m: &mut LLVMModule, words: &mut SplitWhitespace<'_>) -> Option<LLVMValue>
+    ensures value { IfSome result (IsValue m.new) }
+    ensures blocks { m.new.blocks ≡ m.old.blocks }
+    ensures kept { (v : LLVMValue) → IsValue m.old v → IsValue m.new v }
+{
+    match words.next()? {
+        "zero" => zero(m, number(words)?),
+        "hole" => hole(m),
+        "param" => param(m, words),
+        "result" => Some(LLVMValue::Inst(result(m, words)?)),
+        _ => None,
+    }
+}
+
+// ---- calls
+
+/// An instruction and its name.
+fn inst<'a>(
+    alloc: Global,
+    m: &mut LLVMModule,
+    words: &mut SplitWhitespace<'a>,
+) -> Option<(LLVMInst, &'a str)>
+    ensures values { IfSome result (λ i. HasValues m.new i.0) }
+    ensures blocks { m.new.blocks ≡ m.old.blocks }
+{
+    let inst = match words.next()? {
+        "add" => {
+            let lhs = value(m, words)?;
+            let rhs = value(m, words)?;
+            let flags = OverflowFlags {
+                nuw: false,
+                nsw: true,
+            };
+            return Some((LLVMInst::Add(lhs, rhs, flags), name(words)?));
+        }
+        "icmp" => {
+            let lhs = value(m, words)?;
+            let rhs = value(m, words)?;
+            LLVMInst::ICmp(lhs, rhs, LLVMIntPredicate::LLVMIntEQ)
+        }
+        "phi" => {
+            let int = int(m, 64)?;
+            return Some((LLVMInst::Phi(int, Items::new(alloc)), name(words)?));
+        }
+        "br" => LLVMInst::Br(block(m, words)?),
+        "cond" => {
+            let condition = value(m, words)?;
+            LLVMInst::CondBr(condition, block(m, words)?, block(m, words)?)
+        }
+        "ret" => LLVMInst::Ret(Some(value(m, words)?)),
+        "ret_void" => LLVMInst::Ret(None),
+        "unreachable" => LLVMInst::Unreachable,
+        _ => return None,
+    };
+    Some((inst, ""))
+}
+
+/// A new last instruction of a block, with its name where it has a result.
+fn build(alloc: Global, m: &mut LLVMModule, words: &mut SplitWhitespace<'_>) -> Option<()> {
+    let block = block(m, words)?;
+    let (inst, name) = inst(alloc, m, words)?;
+    let name = if m.result_type(&inst).is_some() {
+        name
+    } else {
+        ""
+    };
+    m.build(block, inst, name).ok()?;
+    Some(())
+}
+
+fn entry(m: &mut LLVMModule, words: &mut SplitWhitespace<'_>) -> Option<()> {
+    let value = value(m, words)?;
+    let block = block(m, words)?;
+    let phi = result(m, words)?;
+    if let LLVMInst::Phi(..) = m.inst(phi) {
+        m.add_incoming(phi, value, block).ok()?;
+    }
+    Some(())
+}
+
+fn add_function(
+    m: &mut LLVMModule,
+    name: &str,
+    space: u32,
+    ty: LLVMType,
+    params: Items<LLVMType>,
+) -> Option<()>
+    requires returned { ty.0 < length m.old.types }
+    requires params { All (λ t. t.0 < length m.old.types) params }
+{
+    let kind = LLVMTypeKind::Function {
+        result: ty,
+        params,
+        variadic: false,
+    };
+    let ty = m.type_get(kind).ok()?;
+    m.add_function(name, ty, space).ok()?;
+    Some(())
+}
+
+/// A call.
+fn call(alloc: Global, m: &mut LLVMModule, text: &str) -> Option<()> {
+    let mut words = text.split_whitespace();
+    let words = &mut words;
+    match words.next()? {
+        "int" => {
+            let name = name(words)?;
+            let int = int(m, number(words)?)?;
+            let params = Items::from_vec([int, int].to_vec(alloc).ok()?);
+            add_function(m, name, 0, int, params)
+        }
+        "void" => {
+            let name = name(words)?;
+            let void = m.type_get(LLVMTypeKind::Void).ok()?;
+            add_function(m, name, number(words)?, void, Items::new(alloc))
+        }
+        "takes_void" => {
+            let void = m.type_get(LLVMTypeKind::Void).ok()?;
+            let params = Items::from_vec([void].to_vec(alloc).ok()?);
+            add_function(m, "f", 0, void, params)
+        }
+        "name" => match param(m, words)? {
+            LLVMValue::Param(f, place) => m.set_param_name(f, place, name(words)?).ok(),
+            _ => None,
+        },
+        "block" => {
+            let f = function(m, words)?;
+            m.append_block(f, name(words)?).ok()?;
+            Some(())
+        }
+        "in" => build(alloc, m, words),
+        "entry" => entry(m, words),
+        _ => None,
+    }
+}
+
+fn make(alloc: Global, m: &mut LLVMModule, calls: &str) -> Option<()> {
+    for text in calls.split(';') {
+        call(alloc, m, text)?;
+    }
+    Some(())
+}
+
+/// What the check answers to the module of a row, in words.
+fn answer(alloc: Global, calls: &str) -> Option<String> {
+    let mut m = LLVMModule::new(alloc, "m").ok()?;
+    let rest = match calls.strip_prefix(" fork;") {
+        Some(rest) => {
+            make(alloc, &mut m, FORK)?;
+            rest
+        }
+        None => calls,
+    };
+    make(alloc, &mut m, rest)?;
+    format!(in alloc; "{:?}", check(&m)).ok()
 }
 
 #[test]
-fn answers_each_rule(rt: HostRuntime) -> Result<(), Fail> {
-    for (case, want) in [
-        (Case::Fine, Ok(())),
-        (
-            Case::SharedName,
-            Err(CheckErr::NameTwice(Place::Function(2))),
-        ),
-        (
-            Case::EmptyName,
-            Err(CheckErr::NameTwice(Place::Function(0))),
-        ),
-        (Case::ZeroByte, Err(CheckErr::NameTwice(Place::Function(0)))),
-        (
-            Case::SharedLabel,
-            Err(CheckErr::NameTwice(Place::Function(0))),
-        ),
-        (
-            Case::OpenBlock,
-            Err(CheckErr::NoTerminator(Place::Block(0))),
-        ),
-        (Case::WrongType, Err(CheckErr::OperandType(Place::Inst(0)))),
-        (
-            Case::VoidParam,
-            Err(CheckErr::OperandType(Place::Function(0))),
-        ),
-        (Case::NoValue, Err(CheckErr::OperandCount(Place::Inst(0)))),
-        (
-            Case::OtherParam,
-            Err(CheckErr::BlockOutside(Place::Inst(0))),
-        ),
-        (
-            Case::IntrinsicBody,
-            Err(CheckErr::IntrinsicBody(Place::Function(0))),
-        ),
-        (
-            Case::OtherSpace,
-            Err(CheckErr::FunctionSpace(Place::Function(0))),
-        ),
-    ] {
-        assert_eq!(rt; answer(rt.alloc(), case)?, want, "at {case:?}");
+fn answers_each_row(rt: HostRuntime) -> Result<(), Fail> {
+    for row in ROWS.lines() {
+        let (want, calls) = row.split_once(':').unwrap_or((row, ""));
+        let answer = answer(rt.alloc(), calls);
+        assert_eq!(rt; answer.as_deref(), Some(want), "at {calls}");
     }
     Ok(())
 }

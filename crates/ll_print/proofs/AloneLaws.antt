@@ -3,10 +3,10 @@ use Rattle.std.proofs.Common.{◌≡◌, ℕ, suc, Bool, true, false, ◌&&◌, 
 use Rattle.std.specs.List.{prefix_len, list_all}
 use Rattle.std.proofs.lemmas.Bool.Decides.{nat_tests}
 use Rattle.llvm_core.specs.Names.{is_digit}
-use Rattle.ll_text.specs.Text.{Text, is_name_byte, is_bare, global, label, quoted}
-use Rattle.ll_text.specs.Tokens.{is_blank, is_sign, is_sigil, is_word_start, is_word_byte, in_string, name_at, string_at, begins_hex, digits_at, minus_at, word_at, piece_at}
-use Rattle.ll_text.proofs.LiteralLaws.{and_split}
-use Rattle.ll_text.proofs.CuttingLaws.{Alone}
+use Rattle.ll_tree.specs.Text.{Text, is_name_byte, is_bare, global, label, quoted}
+use Rattle.ll_tree.specs.Tokens.{is_blank, is_sign, is_sigil, is_word_start, is_word_byte, in_string, name_at, string_at, begins_hex, digits_at, minus_at, word_at, piece_at}
+use Rattle.ll_tree.proofs.LiteralLaws.{and_split}
+use Rattle.ll_tree.proofs.CuttingLaws.{Alone}
 
 -- a byte that ends a name, a number and a word, and makes no label
 pub record IsStop (b : ℕ) : Type 0 where

@@ -8,7 +8,7 @@ use Rattle.llvm_core.specs.Interned.{IsDistinctList}
 use Rattle.llvm_core.specs.Data.{TypeTree, VoidType, IntType, FunctionType, Placed, Block, Function, placed_in}
 use Rattle.llvm_core.specs.Form.{HasNumber}
 use Rattle.llvm_core.proofs.ListLemmas.{slice_get-kept}
-use Rattle.ll_text.specs.Text.{Text}
+use Rattle.ll_tree.specs.Text.{Text}
 use Rattle.ll_print.specs.Printing.{Unnamed, ParamAt, BlockOf, ResultOf, same_unnamed, if_unnamed}
 use Rattle.ll_print.specs.Parts.{HasBlockNumber}
 use Rattle.ll_print.proofs.PositionLaws.{position, position_cons, position_behind, same_self, same_is}

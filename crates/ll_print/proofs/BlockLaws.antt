@@ -8,12 +8,12 @@ use Rattle.llvm_core.specs.Data.{TypeTree, Placed, Block, Function}
 use Rattle.llvm_core.specs.Form.{IsFormInstruction, IsFormBlock}
 use Rattle.llvm_core.proofs.ListLemmas.{some_same, slice_get-kept}
 use Rattle.llvm_core.proofs.DataLemmas.{within_at}
-use Rattle.ll_text.specs.Text.{Text, is_bare, label}
-use Rattle.ll_text.specs.Tree as tree
-use Rattle.ll_text.specs.Tree.{IfPresent, is_label, inst, terminator, block, optional, IsBlock}
+use Rattle.ll_tree.specs.Text.{Text, is_bare, label}
+use Rattle.ll_tree.specs.Tree as tree
+use Rattle.ll_tree.specs.Tree.{IfPresent, is_label, inst, terminator, block, optional, IsBlock}
 use Rattle.ll_text.specs.Spelling.{widest}
 use Rattle.ll_text.specs.Meaning.{BlockLocal, label_key, define_written, AreNamed, NamesBlock, NameBlocks, IsBlockOf, AreBlocks}
-use Rattle.ll_text.proofs.CuttingLaws.{Writes, nothing, joined, same, writes_end, writes_line}
+use Rattle.ll_tree.proofs.CuttingLaws.{Writes, nothing, joined, same, writes_end, writes_line}
 use Rattle.ll_print.specs.Printing.{BlockOf, placed_text, label_text, block_text, entry_label_text}
 use Rattle.ll_print.specs.Parts.{entry_lines}
 use Rattle.ll_print.proofs.ApartLaws.{behind_at}

@@ -5,9 +5,9 @@ use Rattle.std.proofs.lemmas.Bool.Decides.{nat_tests}
 use Rattle.std.proofs.lemmas.Nat.{pow_pos}
 use Rattle.std.proofs.Math.Nat.{pow-le-pow_right}
 use Rattle.llvm_core.specs.Names.{is_digit}
-use Rattle.ll_text.specs.Text.{Text}
-use Rattle.ll_text.specs.Tree.{is_local, is_operand}
-use Rattle.ll_text.proofs.CuttingLaws.{Alone}
+use Rattle.ll_tree.specs.Text.{Text}
+use Rattle.ll_tree.specs.Tree.{is_local, is_operand}
+use Rattle.ll_tree.proofs.CuttingLaws.{Alone}
 use Rattle.ll_print.specs.Printing.{signed_text, int_text}
 use Rattle.ll_print.proofs.AloneLaws.{IsStop, alone_digits, alone_minus, alone_word}
 use Rattle.ll_print.proofs.DecimalLaws.{IsDecimal, IsDecimal-decimal}

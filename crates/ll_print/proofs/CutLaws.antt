@@ -1,11 +1,11 @@
 -- Pieces of the layout, cut into their tokens whatever follows.
 use Rattle.std.proofs.Common.{◌≡◌, ℕ, true, false, ◌==◌, codes, ◌≤◌, List, [], ◌∷◌, ◌++◌, Some, length, length-append, take, drop, append_assoc, refl, ◌∙◌, arith}
 use Rattle.std.proofs.lemmas.List.{take_at, drop_at}
-use Rattle.ll_text.specs.Text.{Text}
-use Rattle.ll_text.specs.declared.pieces.Piece.{Piece}
-use Rattle.ll_text.specs.Tokens.{is_blank, is_sign, token, piece_at}
-use Rattle.ll_text.proofs.TokenLaws.{steps}
-use Rattle.ll_text.proofs.CuttingLaws.{Cut, Writes, Alone, joined, same, writes_spaced, alone_equals}
+use Rattle.ll_tree.specs.Text.{Text}
+use Rattle.ll_tree.specs.declared.pieces.Piece.{Piece}
+use Rattle.ll_tree.specs.Tokens.{is_blank, is_sign, token, piece_at}
+use Rattle.ll_tree.proofs.TokenLaws.{steps}
+use Rattle.ll_tree.proofs.CuttingLaws.{Cut, Writes, Alone, joined, same, writes_spaced, alone_equals}
 use Rattle.ll_print.proofs.AloneLaws.{IsStop}
 
 -- a piece that is a token

@@ -10,9 +10,9 @@ use Rattle.std.proofs.Math.Nat.{pow-le-pow_right}
 use Rattle.std.proofs.lemmas.Str.Parse.{IsDigitsTest, FoldsDigits, IsNumeralModel, numerals_by_fold}
 use Rattle.std.proofs.lemmas.Fmt.{decimal_nonempty, digits_decimal, digits_value-decimal}
 use Rattle.llvm_core.specs.Names.{is_digit}
-use Rattle.ll_text.specs.Text.{Text, number_of, value_after, if_number, at_width, const_value, width_of}
+use Rattle.ll_tree.specs.Text.{Text, number_of, value_after, if_number, at_width, const_value, width_of}
 use Rattle.ll_print.specs.Printing.{signed_text, int_text}
-use Rattle.ll_text.proofs.LiteralLaws.{and_split, number_of_digits}
+use Rattle.ll_tree.proofs.LiteralLaws.{and_split, number_of_digits}
 
 -- a text of decimal digits that says the number
 pub record IsDecimal (t : Text) (n : ℕ) : Type 0 where

@@ -3,9 +3,10 @@ use Rattle.std.proofs.Common.{◌≡◌, ◌≤◌, List, [], ◌∷◌, ◌++�
 use Rattle.std.specs.Option.{option_map}
 use Rattle.std.proofs.lemmas.Grind.{flat_map-append}
 use Rattle.llvm_core.specs.Data.{Function}
-use Rattle.ll_text.specs.Text.{Text, is_bare, number_limit}
+use Rattle.ll_tree.specs.Text.{Text, is_bare, number_limit}
 use Rattle.ll_text.specs.Spelling.{widest}
-use Rattle.ll_text.specs.Meaning.{◌>>=◌, Key, Scope, empty_scope, define, define_written}
+use Rattle.ll_tree.specs.Chain.{◌>>=◌}
+use Rattle.ll_text.specs.Meaning.{Key, Scope, empty_scope, define, define_written}
 use Rattle.ll_print.specs.Printing.{Unnamed, if_unnamed}
 use Rattle.ll_print.proofs.ApartLaws.{Apart, apart_things, new_next}
 use Rattle.ll_print.proofs.NameLaws.{key_in}

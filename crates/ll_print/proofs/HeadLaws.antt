@@ -4,9 +4,9 @@ use Rattle.std.specs.List.{flat_map, AllByRecursion}
 use Rattle.llvm_core.specs.Names.{IsPlainOrNone}
 use Rattle.llvm_core.specs.Data.{TypeTree, VoidType, IntType, FunctionType, TypeTrees, NoTypes, ThenType, Function, param_type, nth_type}
 use Rattle.llvm_core.specs.Form.{AreShortInts, count_types, IsShortResult}
-use Rattle.ll_text.specs.Text.{Text, global}
-use Rattle.ll_text.specs.Tree.{is_int_type, next_param, params, result_type, IsParam, IfPresent}
-use Rattle.ll_text.proofs.CuttingLaws.{Cut, Writes, Alone, writes_spaced}
+use Rattle.ll_tree.specs.Text.{Text, global}
+use Rattle.ll_tree.specs.Tree.{is_int_type, next_param, params, result_type, IsParam, IfPresent}
+use Rattle.ll_tree.proofs.CuttingLaws.{Cut, Writes, Alone, writes_spaced}
 use Rattle.ll_text.proofs.MeaningLaws.{plain_bare}
 use Rattle.ll_print.specs.Printing.{ParamAt, type_text, local_text, params_text}
 use Rattle.ll_print.proofs.AloneLaws.{IsStop, alone_global}

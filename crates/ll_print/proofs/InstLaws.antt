@@ -8,12 +8,13 @@ use Rattle.llvm_core.specs.Checked.{ends_in_only}
 use Rattle.llvm_core.specs.Data.{TypeTree, VoidType, IntType, Instruction, Add, ICmp, Phi, Br, CondBr, Return, Unreachable, Result, Placed, Function, operand_type, placed_in}
 use Rattle.llvm_core.specs.Form.{IsFormInstruction, is_terminator, is_last}
 use Rattle.llvm_core.proofs.ListLemmas.{slice_get-push}
-use Rattle.ll_text.specs.Text.{Text, is_bare}
-use Rattle.ll_text.specs.Tree as tree
-use Rattle.ll_text.specs.Tree.{inst, IsInst}
+use Rattle.ll_tree.specs.Text.{Text, is_bare}
+use Rattle.ll_tree.specs.Tree as tree
+use Rattle.ll_tree.specs.Tree.{inst, IsInst}
 use Rattle.ll_text.specs.Spelling.{widest}
-use Rattle.ll_text.specs.Meaning.{◌>>=◌, Local, ValueLocal, local_key, define_written, written_name, named_inst, AreNamed, AreInstructions}
-use Rattle.ll_text.proofs.CuttingLaws.{Writes, nothing, joined}
+use Rattle.ll_tree.specs.Chain.{◌>>=◌}
+use Rattle.ll_text.specs.Meaning.{Local, ValueLocal, local_key, define_written, written_name, named_inst, AreNamed, AreInstructions}
+use Rattle.ll_tree.proofs.CuttingLaws.{Writes, nothing, joined}
 use Rattle.ll_print.specs.Printing.{ResultOf, local_text, placed_text}
 use Rattle.ll_print.proofs.DefineLaws.{defines}
 use Rattle.ll_print.proofs.EdgeLaws.{target_block}

@@ -6,12 +6,12 @@ use Rattle.llvm_core.specs.declared.code.LLVMIntPredicate.TheVariants as P
 use Rattle.llvm_core.specs.Names.{IsPlainOrNone}
 use Rattle.llvm_core.specs.Data.{TypeTree, VoidType, IntType, FunctionType, Operand, Instruction, Add, ICmp, Br, CondBr, Return, Unreachable, Placed, Function, operand_type}
 use Rattle.llvm_core.specs.Form.{IsShortInt, IsOperand, HasNoResult}
-use Rattle.ll_text.specs.Text.{Text, is_bare}
-use Rattle.ll_text.specs.Tree as tree
-use Rattle.ll_text.specs.Tree.{is_int_type, is_predicate, flag, inst, terminator, IsInst, IsTerminator}
+use Rattle.ll_tree.specs.Text.{Text, is_bare}
+use Rattle.ll_tree.specs.Tree as tree
+use Rattle.ll_tree.specs.Tree.{is_int_type, is_predicate, flag, inst, terminator, IsInst, IsTerminator}
 use Rattle.ll_text.specs.Spelling.{widest}
 use Rattle.ll_text.specs.Meaning.{int_width, predicate_of, written_name, result_width, inst_data, terminator_data, IsTerminatorOf}
-use Rattle.ll_text.proofs.CuttingLaws.{Writes, Alone, nothing, joined, same, writes_indent, writes_spaced, writes_line, alone_ret}
+use Rattle.ll_tree.proofs.CuttingLaws.{Writes, Alone, nothing, joined, same, writes_indent, writes_spaced, writes_line, alone_ret}
 use Rattle.ll_print.specs.Printing.{ResultOf, type_text, local_text, operand_text, block_ref, flag_text, predicate_text, instruction_text, placed_text}
 use Rattle.ll_print.proofs.AloneLaws.{IsStop, alone_word}
 use Rattle.ll_print.proofs.CutLaws.{stop_space, stop_line, stop_comma, writes_comma, writes_equals}

@@ -8,11 +8,11 @@ use Rattle.std.proofs.lemmas.Bool.Decides.{nat_tests}
 use Rattle.std.proofs.lemmas.List.{take_at, drop_at}
 use Rattle.llvm_core.specs.Names.{is_digit, is_letter, is_plain_byte, is_plain, IsPlainOrNone}
 use Rattle.llvm_core.specs.Data.{IntType, Function}
-use Rattle.ll_text.specs.Text.{Text, is_bare, global, label, quoted, number_of, number_limit}
-use Rattle.ll_text.specs.Tree.{is_local, is_label, is_string, is_digits, is_int_type}
+use Rattle.ll_tree.specs.Text.{Text, is_bare, global, label, quoted, number_of, number_limit}
+use Rattle.ll_tree.specs.Tree.{is_local, is_label, is_string, is_digits, is_int_type}
 use Rattle.ll_text.specs.Spelling.{widest}
 use Rattle.ll_text.specs.Meaning.{Key, Named, Numbered, legal_width, int_width, key_of, local_key, label_key, global_name, string_name}
-use Rattle.ll_text.proofs.CuttingLaws.{Alone}
+use Rattle.ll_tree.proofs.CuttingLaws.{Alone}
 use Rattle.ll_text.proofs.MeaningLaws.{plain_bare}
 use Rattle.ll_print.specs.Printing.{Unnamed, type_text, unnamed_number, unnamed_in, local_text}
 use Rattle.ll_print.proofs.AloneLaws.{IsStop, alone_type, alone_named, alone_numbered, alone_label, alone_number_label}

@@ -9,11 +9,11 @@ use Rattle.llvm_core.specs.Data.{TypeTree, VoidType, IntType, FunctionType, Cons
 use Rattle.llvm_core.specs.Form.{IsFitting, IsOperandOf, IsOperand, HasNoResult, IsFormInstruction, IsFormBlock, IsFormFunction, local_names}
 use Rattle.llvm_core.proofs.ListLemmas.{some_same}
 use Rattle.llvm_core.proofs.DataLemmas.{within_at}
-use Rattle.ll_text.specs.Text.{Text, is_bare, number_limit}
-use Rattle.ll_text.specs.Tree.{is_local, is_operand}
+use Rattle.ll_tree.specs.Text.{Text, is_bare, number_limit}
+use Rattle.ll_tree.specs.Tree.{is_local, is_operand}
 use Rattle.ll_text.specs.Spelling.{widest}
 use Rattle.ll_text.specs.Meaning.{Numbered, Local, ValueLocal, BlockLocal, Scope, empty_scope, value_of, block_of}
-use Rattle.ll_text.proofs.CuttingLaws.{Alone}
+use Rattle.ll_tree.proofs.CuttingLaws.{Alone}
 use Rattle.ll_print.specs.Printing.{Unnamed, ParamAt, BlockOf, ResultOf, unnamed_in, local_text, int_text, operand_text, block_ref}
 use Rattle.ll_print.specs.Parts.{HasBlockNumber}
 use Rattle.ll_print.proofs.AloneLaws.{IsStop}

@@ -6,12 +6,12 @@ use Rattle.llvm_core.specs.Names.{IsPlainOrNone}
 use Rattle.llvm_core.specs.Data.{IntType, Operand, Phi, Placed, Function}
 use Rattle.llvm_core.specs.Form.{IsOperand, IsShortInt, FitsEdges}
 use Rattle.llvm_core.proofs.DataLemmas.{within_at}
-use Rattle.ll_text.specs.Text.{is_bare}
-use Rattle.ll_text.specs.Tree as tree
-use Rattle.ll_text.specs.Tree.{Incoming, incoming, next_incoming, IsIncoming}
+use Rattle.ll_tree.specs.Text.{is_bare}
+use Rattle.ll_tree.specs.Tree as tree
+use Rattle.ll_tree.specs.Tree.{Incoming, incoming, next_incoming, IsIncoming}
 use Rattle.ll_text.specs.Spelling.{widest}
 use Rattle.ll_text.specs.Meaning.{entries_data, inst_data}
-use Rattle.ll_text.proofs.CuttingLaws.{Writes, nothing, joined, same, writes_end, writes_spaced}
+use Rattle.ll_tree.proofs.CuttingLaws.{Writes, nothing, joined, same, writes_end, writes_spaced}
 use Rattle.ll_print.specs.Printing.{ResultOf, type_text, local_text, operand_text, block_ref, entry_text, next_entry_text, entries_text}
 use Rattle.ll_print.specs.Parts.{HasBlockNumber}
 use Rattle.ll_print.proofs.AloneLaws.{alone_word}

@@ -6,10 +6,11 @@ use Rattle.std.proofs.lemmas.List.{append-nil}
 use Rattle.llvm_core.specs.Names.{IsPlainOrNone}
 use Rattle.llvm_core.specs.Data.{TypeTree, VoidType, IntType, FunctionType, TypeTrees, NoTypes, ThenType, Parameter, Block, Function, param_type, nth_type}
 use Rattle.llvm_core.specs.Form.{IsShortResult, AreShortInts, count_types, result_of}
-use Rattle.ll_text.specs.Text.{Text, is_bare}
-use Rattle.ll_text.specs.Tree as tree
+use Rattle.ll_tree.specs.Text.{Text, is_bare}
+use Rattle.ll_tree.specs.Tree as tree
 use Rattle.ll_text.specs.Spelling.{widest}
-use Rattle.ll_text.specs.Meaning.{◌>>=◌, Local, ValueLocal, Scope, int_width, local_key, define_written, param_data, result_data, AreParams, NameBlocks, AreBlocks, IsFunctionOf}
+use Rattle.ll_tree.specs.Chain.{◌>>=◌}
+use Rattle.ll_text.specs.Meaning.{Local, ValueLocal, Scope, int_width, local_key, define_written, param_data, result_data, AreParams, NameBlocks, AreBlocks, IsFunctionOf}
 use Rattle.ll_print.specs.Printing.{ParamAt, local_text, type_text}
 use Rattle.ll_print.specs.Parts.{entry_lines}
 use Rattle.ll_print.proofs.BlockLaws.{IsBlockTree, AreBlockTrees, blocks_say, blocks_define}

@@ -6,7 +6,7 @@ use Rattle.std.proofs.lemmas.Grind.{flat_map-append}
 use Rattle.std.proofs.lemmas.Slice.Eq.{bytes_eq-Decides}
 use Rattle.llvm_core.specs.Interned.{IsDistinctList}
 use Rattle.llvm_core.specs.Checked.{named}
-use Rattle.ll_text.specs.Text.{Text, number_limit}
+use Rattle.ll_tree.specs.Text.{Text, number_limit}
 use Rattle.ll_text.specs.Meaning.{Key, Named, Numbered, Local, Scope, empty_scope, with_key, define}
 use Rattle.ll_print.specs.Printing.{Unnamed, same_unnamed, if_unnamed}
 use Rattle.ll_print.proofs.PositionLaws.{position, position_cons, position_here, position_behind, same_self, same_is}

@@ -6,13 +6,13 @@ use Rattle.std.proofs.lemmas.List.Elements.{All-tail}
 use Rattle.llvm_core.specs.Interned.{IsDistinctList}
 use Rattle.llvm_core.specs.Data.{Block, Function, ModuleData}
 use Rattle.llvm_core.specs.Form.{IsFormFunction, IsForm, HasDistinctNames, IsShortResult, result_of, local_names}
-use Rattle.ll_text.specs.Text.{Text, is_bare, global, quoted}
-use Rattle.ll_text.specs.Tokens.{tokens_from, tokens_of}
-use Rattle.ll_text.specs.Tree as tree
-use Rattle.ll_text.specs.Tree.{IfPresent, is_string, IsFunction, file, source, params, result_type, block, function}
+use Rattle.ll_tree.specs.Text.{Text, is_bare, global, quoted}
+use Rattle.ll_tree.specs.Tokens.{tokens_from, tokens_of}
+use Rattle.ll_tree.specs.Tree as tree
+use Rattle.ll_tree.specs.Tree.{IfPresent, is_string, IsFunction, file, source, params, result_type, block, function}
 use Rattle.ll_text.specs.Spelling.{widest, Spells}
 use Rattle.ll_text.specs.Meaning.{IsFunctionOf, AreFunctions, IsSource}
-use Rattle.ll_text.proofs.CuttingLaws.{Cut, Writes, nothing, joined, same, writes_end, writes_spaced, writes_line, writes_tail, alone_define, alone_source, alone_equals}
+use Rattle.ll_tree.proofs.CuttingLaws.{Cut, Writes, nothing, joined, same, writes_end, writes_spaced, writes_line, writes_tail, alone_define, alone_source, alone_equals}
 use Rattle.ll_print.specs.Printing.{type_text, params_text, block_text, blocks_text, function_text, source_text, module_text, IsBareOrNone, EndsLine}
 use Rattle.ll_print.specs.Parts.{entry_lines, IsNumberable, AreNumberable}
 use Rattle.ll_print.proofs.AloneLaws.{alone_quoted}

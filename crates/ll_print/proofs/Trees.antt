@@ -2,8 +2,8 @@
 use Rattle.std.proofs.Common.{ℕ, suc, List, [], ◌∷◌, Option, Some, None}
 use Rattle.llvm_core.specs.Data.{TypeTree, VoidType, Function, param_type}
 use Rattle.llvm_core.specs.Form.{result_of}
-use Rattle.ll_text.specs.Text.{Text, global, quoted}
-use Rattle.ll_text.specs.Tree as tree
+use Rattle.ll_tree.specs.Text.{Text, global, quoted}
+use Rattle.ll_tree.specs.Tree as tree
 use Rattle.ll_print.specs.Printing.{ParamAt, type_text, local_text}
 
 abbrev pub param_trees : Function → (place : ℕ) → List Text → List tree.Param

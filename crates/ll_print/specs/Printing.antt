@@ -6,7 +6,7 @@ use Rattle.llvm_core.specs.declared.code.LLVMIntPredicate.{LLVMIntPredicate}
 use Rattle.llvm_core.specs.declared.code.LLVMIntPredicate.TheVariants as P
 use Rattle.llvm_core.specs.Data.{TypeTree, VoidType, IntType, FunctionType, ConstTree, IntConst, PlaceholderConst, Operand, Constant, Parameter, Result, Instruction, Add, ICmp, Phi, Br, CondBr, Return, Unreachable, Placed, Block, Function, ModuleData, operand_type, placed_in, param_type}
 use Rattle.llvm_core.specs.Form.{result_of}
-use Rattle.ll_text.specs.Text.{Text, is_bare, global, quoted}
+use Rattle.ll_tree.specs.Text.{Text, is_bare, global, quoted}
 
 -- ---- types and constants
 

@@ -3,9 +3,10 @@ use Rattle.std.proofs.Common.{◌≡◌, ℕ, suc, ◌+◌, Bool, true, false, n
 use Rattle.std.specs.Option.{option_map}
 use Rattle.llvm_core.specs.Names.{is_plain}
 use Rattle.llvm_core.specs.Data.{VoidType, IntType, FunctionType, TypeTrees, NoTypes, ThenType, Operand, Parameter, Result}
-use Rattle.ll_text.specs.Text.{Text, number_limit, const_value}
-use Rattle.ll_text.specs.Tree.{is_local, Inst, Add, ICmp, Phi, Incoming, Terminator, ReturnVoid, Return, Br, CondBr, Unreachable, Param}
-use Rattle.ll_text.specs.Meaning.{◌>>=◌, Key, Named, Numbered, same_key, Local, ValueLocal, BlockLocal, Scope, with_key, counted, define, option_block, bit_width, predicate_of, written_name, result_width, value_of_width, constant, int_width, local_key, label_key, optional_key, value_of, block_of, define_written, named_inst, entries_data, inst_data, terminator_data, param_data, AreParams}
+use Rattle.ll_tree.specs.Text.{Text, number_limit, const_value}
+use Rattle.ll_tree.specs.Tree.{is_local, Inst, Add, ICmp, Phi, Incoming, Terminator, ReturnVoid, Return, Br, CondBr, Unreachable, Param}
+use Rattle.ll_tree.specs.Chain.{◌>>=◌}
+use Rattle.ll_text.specs.Meaning.{Key, Named, Numbered, same_key, Local, ValueLocal, BlockLocal, Scope, with_key, counted, define, option_block, bit_width, predicate_of, written_name, result_width, value_of_width, constant, int_width, local_key, label_key, optional_key, value_of, block_of, define_written, named_inst, entries_data, inst_data, terminator_data, param_data, AreParams}
 use Rattle.ll_text.specs.Refusals.{kind_of, Alike}
 
 -- ---- two answers that go together

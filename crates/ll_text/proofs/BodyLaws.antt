@@ -16,10 +16,10 @@ use Rattle.llvm_core.specs.Data as L
 use Rattle.llvm_core.specs.Data.{TypeTree, IntType, FunctionType, TypeTrees, NoTypes, ThenType, ModuleData, type_at, trees_of, data_of, with_function, with_param}
 use Rattle.llvm_core.proofs.ListLemmas.{slice_get-push, length-slice_set}
 use Rattle.llvm_core.proofs.ChangeLemmas.{slice_get-changed}
-use Rattle.ll_text.specs.Text.{Text}
-use Rattle.ll_text.specs.Tree.{Param, Function}
-use Rattle.ll_text.specs.declared.tree.Param as code_param
-use Rattle.ll_text.specs.TreeView.{param_view}
+use Rattle.ll_tree.specs.Text.{Text}
+use Rattle.ll_tree.specs.Tree.{Param, Function}
+use Rattle.ll_tree.specs.declared.tree.Param as code_param
+use Rattle.ll_tree.specs.TreeView.{param_view}
 use Rattle.ll_text.specs.Meaning.{Key, ValueLocal, Scope, int_width, local_key, optional_key, global_name, result_data, define, define_written, param_data, AreParams}
 use Rattle.ll_text.specs.declared.scope.Scope as code
 use Rattle.ll_text.specs.ScopeView.{key_name, Knows}

@@ -23,8 +23,8 @@ use Rattle.llvm_core.specs.Parts.{IsValue, IsResultType, both_type, is_phi, valu
 use Rattle.llvm_core.specs.Data.{TypeTree, IntType, VoidType, Placed, ModuleData, tree_of_result, trees_of, instruction_of, result_tree, data_of, with_instruction}
 use Rattle.llvm_core.proofs.ListLemmas.{slice_get-kept, slice_get-push, length-with_change}
 use Rattle.llvm_core.proofs.DataLemmas.{int_tree_of}
-use Rattle.ll_text.specs.Text.{Text}
-use Rattle.ll_text.specs.Tree.{Inst, Terminator}
+use Rattle.ll_tree.specs.Text.{Text}
+use Rattle.ll_tree.specs.Tree.{Inst, Terminator}
 use Rattle.ll_text.specs.Meaning.{Scope}
 use Rattle.ll_text.specs.Numbered.{result_name}
 use Rattle.ll_text.specs.Building.{IsValueOf, OnlyInterns, HasOperand, HasSlot, HasEndSlots, IsPhiAt, IsBuilt, Keeps, IsResultOf, Gives, IsMade, SaysInst, IsMadeEnd, SaysEnd, AddsInst, AddsEnd}

@@ -14,8 +14,8 @@ use Rattle.llvm_core.specs.Parts.{type_params, param_types}
 use Rattle.llvm_core.specs.Data as L
 use Rattle.llvm_core.specs.Data.{FunctionType, Parameter, Placed, Block, ModuleData, data_of, with_function}
 use Rattle.llvm_core.proofs.DataLemmas.{function_count}
-use Rattle.ll_text.specs.Text.{Text}
-use Rattle.ll_text.specs.Tree.{Param, Function, blocks_of}
+use Rattle.ll_tree.specs.Text.{Text}
+use Rattle.ll_tree.specs.Tree.{Param, Function, blocks_of}
 use Rattle.ll_text.specs.Spelling.{counting, blocks_in, placed_in, IsNumbered}
 use Rattle.ll_text.specs.Meaning.{Local, ValueLocal, Scope, empty_scope, local_key, inst_data, terminator_data, AreParams, IsFunctionOf, AreFunctions}
 use Rattle.ll_text.specs.Refusals.{Alike}

@@ -3,9 +3,9 @@ use Rattle.std.proofs.Common.{◌≡◌, ◌≢◌, ◌<◌, ◌+◌, inl, ℕ, 
 use Rattle.std.specs.List.{AllByRecursion, flat_map}
 use Rattle.std.proofs.lemmas.List.{append-nil}
 use Rattle.llvm_core.specs.Data.{TypeTree, Instruction, Placed, Block, Function, ModuleData, with_function, with_param, with_block, with_instruction, with_instruction_in}
-use Rattle.ll_text.specs.Text.{Text}
+use Rattle.ll_tree.specs.Text.{Text}
 use Rattle.ll_text.specs.Spelling.{counting, blocks_in, placed_in, IsNumbered}
-use Rattle.ll_text.specs.Tree as tree
+use Rattle.ll_tree.specs.Tree as tree
 use Rattle.ll_text.specs.Numbered.{label_name, blocks_with}
 use Rattle.ll_text.specs.Bodies.{with_params, with_blocks, with_instructions, with_bodies}
 use Rattle.ll_text.specs.Filling.{changed_in, changed_block, changed_function, changed, IsWithin}

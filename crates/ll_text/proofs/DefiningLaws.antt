@@ -11,10 +11,11 @@ use Rattle.llvm_core.specs.Sound.{IsModule}
 use Rattle.llvm_core.specs.Names.{is_plain}
 use Rattle.llvm_core.specs.Data.{Result, Block, ModuleData, data_of, with_block}
 use Rattle.llvm_core.proofs.ListLemmas.{length-with_change}
-use Rattle.ll_text.specs.Text.{Text}
-use Rattle.ll_text.specs.Tree as tree
-use Rattle.ll_text.specs.Tree.{Inst}
-use Rattle.ll_text.specs.Meaning.{◌>>=◌, Key, Local, ValueLocal, BlockLocal, Scope, written_name, result_width, local_key, label_key, optional_key, define, define_written, named_inst}
+use Rattle.ll_tree.specs.Text.{Text}
+use Rattle.ll_tree.specs.Tree as tree
+use Rattle.ll_tree.specs.Tree.{Inst}
+use Rattle.ll_tree.specs.Chain.{◌>>=◌}
+use Rattle.ll_text.specs.Meaning.{Key, Local, ValueLocal, BlockLocal, Scope, written_name, result_width, local_key, label_key, optional_key, define, define_written, named_inst}
 use Rattle.ll_text.specs.Numbered.{label_name, named_result, named_label, blocks_with}
 use Rattle.ll_text.specs.Bodies.{with_blocks, AddsBlocks}
 use Rattle.ll_text.proofs.OptionLaws.{some_bound, none_bound, not_bound}

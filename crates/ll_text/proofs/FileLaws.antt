@@ -4,10 +4,10 @@ use Rattle.std.proofs.lemmas.List.{map_more, take_all}
 use Rattle.llvm_core.specs.Module.{Module}
 use Rattle.llvm_core.specs.Names.{is_plain}
 use Rattle.llvm_core.specs.Data.{data_of}
-use Rattle.ll_text.specs.Text.{Text}
-use Rattle.ll_text.specs.Tree as tree
-use Rattle.ll_text.specs.declared.tree.Function.{Function}
-use Rattle.ll_text.specs.TreeView.{function_view}
+use Rattle.ll_tree.specs.Text.{Text}
+use Rattle.ll_tree.specs.Tree as tree
+use Rattle.ll_tree.specs.declared.tree.Function.{Function}
+use Rattle.ll_tree.specs.TreeView.{function_view}
 use Rattle.ll_text.specs.Meaning.{IsSource, IsFileOf}
 use Rattle.ll_text.specs.Bodies.{IsBuiltOf}
 

@@ -4,8 +4,8 @@ use Rattle.std.proofs.Math.Path.{fun_ext}
 use Rattle.std.proofs.lemmas.List.{map-id}
 use Rattle.llvm_core.specs.Module.{Module}
 use Rattle.llvm_core.specs.Data.{Instruction, Placed, Block, Function, ModuleData, with_change_of, with_changed, data_of}
-use Rattle.ll_text.specs.Tree as tree
-use Rattle.ll_text.specs.Tree.{Inst, Terminator}
+use Rattle.ll_tree.specs.Tree as tree
+use Rattle.ll_tree.specs.Tree.{Inst, Terminator}
 use Rattle.ll_text.specs.Meaning.{Scope}
 use Rattle.ll_text.specs.Numbered.{behind, behind_all, EachIn, EachBlock}
 use Rattle.ll_text.specs.Filling.{changed_in, changed_block, changed_function, changed, at_number, IsWithin, Turns, TurnsEnd, FillsInst, FillsEnd, FillsInsts, FillsBody, FillsBodies}

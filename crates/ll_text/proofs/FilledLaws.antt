@@ -12,9 +12,10 @@ use Rattle.llvm_core.specs.Data as L
 use Rattle.llvm_core.specs.Data.{TypeTree, IntType, Operand, Constant, Parameter, Result, Instruction, ModuleData, with_operand, with_changed, data_of}
 use Rattle.llvm_core.specs.declared.code.OverflowFlags.{OverflowFlags}
 use Rattle.llvm_core.specs.declared.code.LLVMIntPredicate.{LLVMIntPredicate}
-use Rattle.ll_text.specs.Text.{Text, const_value}
-use Rattle.ll_text.specs.Tree.{is_local, Add, ICmp, Phi, Incoming, ReturnVoid, Return, Br, CondBr, Unreachable}
-use Rattle.ll_text.specs.Meaning.{◌>>=◌, Local, ValueLocal, Scope, value_of_width, constant, bit_width, predicate_of, int_width, local_key, value_of, block_of, entries_data, inst_data, terminator_data}
+use Rattle.ll_tree.specs.Text.{Text, const_value}
+use Rattle.ll_tree.specs.Tree.{is_local, Add, ICmp, Phi, Incoming, ReturnVoid, Return, Br, CondBr, Unreachable}
+use Rattle.ll_tree.specs.Chain.{◌>>=◌}
+use Rattle.ll_text.specs.Meaning.{Local, ValueLocal, Scope, value_of_width, constant, bit_width, predicate_of, int_width, local_key, value_of, block_of, entries_data, inst_data, terminator_data}
 use Rattle.ll_text.specs.declared.scope.Scope as code
 use Rattle.ll_text.specs.ScopeView.{key_view, local_view, Knows}
 use Rattle.ll_text.specs.Opening.{open_operand, open_value, open_inst, open_terminator}

@@ -2,8 +2,8 @@
 use Rattle.std.proofs.Common.{◌≡◌, ◌<◌, ◌+◌, ℕ, suc, List, length, get_or, take, drop, map, ap, sym, ◌∙◌, subst, arith}
 use Rattle.llvm_core.specs.Module.{Module}
 use Rattle.llvm_core.specs.Names.{is_plain}
-use Rattle.ll_text.specs.Tree as tree
-use Rattle.ll_text.specs.Tree.{Inst, Terminator}
+use Rattle.ll_tree.specs.Tree as tree
+use Rattle.ll_tree.specs.Tree.{Inst, Terminator}
 use Rattle.ll_text.specs.Meaning.{Scope, inst_data, terminator_data}
 use Rattle.ll_text.specs.declared.scope.Scope as code
 use Rattle.ll_text.specs.ScopeView.{Knows, Refuses}

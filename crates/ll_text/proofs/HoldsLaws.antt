@@ -6,11 +6,12 @@ use Rattle.std.proofs.lemmas.Option.{cond_some, same_Some, some_pair_parts}
 use Rattle.llvm_core.specs.Interned.{IsDistinctList}
 use Rattle.llvm_core.specs.Data as L
 use Rattle.llvm_core.specs.Data.{TypeTree, VoidType, IntType, FunctionType, TypeTrees, NoTypes, ThenType, Operand, Parameter, Result, Placed, Block, operand_type, nth_type, placed_in}
-use Rattle.ll_text.specs.Text.{Text, number_limit, const_value}
-use Rattle.ll_text.specs.Tree as tree
-use Rattle.ll_text.specs.Tree.{is_local, Inst, Add, ICmp, Phi, Param, Function, blocks_of}
-use Rattle.ll_text.specs.Meaning.{◌>>=◌, Key, Named, Numbered, same_key, Local, ValueLocal, BlockLocal, Scope, empty_scope, with_key, counted, define, value_of_width, constant, written_name, predicate_of, int_width, local_key, label_key, optional_key, value_of, define_written, result_width, named_inst, AreNamed, NamesBlock, NameBlocks, entries_data, inst_data, AreInstructions, IsTerminatorOf, IsBlockOf, AreBlocks, param_data, AreParams, IsFunctionOf}
-use Rattle.ll_text.proofs.Steps.{bind_some}
+use Rattle.ll_tree.specs.Text.{Text, number_limit, const_value}
+use Rattle.ll_tree.specs.Tree as tree
+use Rattle.ll_tree.specs.Tree.{is_local, Inst, Add, ICmp, Phi, Param, Function, blocks_of}
+use Rattle.ll_tree.specs.Chain.{◌>>=◌}
+use Rattle.ll_text.specs.Meaning.{Key, Named, Numbered, same_key, Local, ValueLocal, BlockLocal, Scope, empty_scope, with_key, counted, define, value_of_width, constant, written_name, predicate_of, int_width, local_key, label_key, optional_key, value_of, define_written, result_width, named_inst, AreNamed, NamesBlock, NameBlocks, entries_data, inst_data, AreInstructions, IsTerminatorOf, IsBlockOf, AreBlocks, param_data, AreParams, IsFunctionOf}
+use Rattle.ll_tree.proofs.Steps.{bind_some}
 use Rattle.ll_text.proofs.PlainLaws.{mapped}
 use Rattle.ll_text.proofs.ListLaws.{all_each, all_front, all_flat, front_same, found}
 

@@ -5,8 +5,9 @@ use Rattle.llvm_core.specs.Names.{is_plain}
 use Rattle.llvm_core.specs.Data.{Operand, Instruction, Phi, ModuleData, with_entry, with_changed, data_of}
 use Rattle.std.proofs.Common.{append_assoc}
 use Rattle.std.proofs.Math.Path.{fun_ext}
-use Rattle.ll_text.specs.Tree.{Incoming}
-use Rattle.ll_text.specs.Meaning.{◌>>=◌, Scope, value_of, block_of, entries_data}
+use Rattle.ll_tree.specs.Tree.{Incoming}
+use Rattle.ll_tree.specs.Chain.{◌>>=◌}
+use Rattle.ll_text.specs.Meaning.{Scope, value_of, block_of, entries_data}
 use Rattle.ll_text.specs.declared.scope.Scope as code
 use Rattle.ll_text.specs.ScopeView.{Knows, Refuses}
 use Rattle.ll_text.specs.Filling.{changed, at_number, with_entries, AddsEntries}

@@ -15,9 +15,10 @@ use Rattle.llvm_core.specs.Sound.{IsModule}
 use Rattle.llvm_core.specs.Names.{is_plain}
 use Rattle.llvm_core.specs.Parts.{IsEntry}
 use Rattle.llvm_core.specs.Data.{Operand, trees_of, operand_of}
-use Rattle.ll_text.specs.Text.{Text}
-use Rattle.ll_text.specs.Tree.{Add, ICmp, Phi, Incoming, ReturnVoid, Return, Br, CondBr, Unreachable}
-use Rattle.ll_text.specs.Meaning.{◌>>=◌, Scope, bit_width, predicate_of, int_width, value_of, block_of}
+use Rattle.ll_tree.specs.Text.{Text}
+use Rattle.ll_tree.specs.Tree.{Add, ICmp, Phi, Incoming, ReturnVoid, Return, Br, CondBr, Unreachable}
+use Rattle.ll_tree.specs.Chain.{◌>>=◌}
+use Rattle.ll_text.specs.Meaning.{Scope, bit_width, predicate_of, int_width, value_of, block_of}
 use Rattle.ll_text.specs.declared.scope.Scope as code
 use Rattle.ll_text.specs.ScopeView.{Knows}
 use Rattle.ll_text.specs.Opening.{open_operand, open_value, open_inst, open_terminator}

@@ -5,12 +5,13 @@ use Rattle.std.proofs.lemmas.Bool.Decides.{nat_tests}
 use Rattle.llvm_core.specs.Names.{is_plain, IsPlainOrNone}
 use Rattle.llvm_core.proofs.ListLemmas.{some_same}
 use Rattle.llvm_core.specs.Data.{Operand}
-use Rattle.ll_text.specs.Text.{Text, width_of, const_value, number_of, number_limit}
-use Rattle.ll_text.specs.Tree.{is_local, is_digits}
+use Rattle.ll_tree.specs.Text.{Text, width_of, const_value, number_of, number_limit}
+use Rattle.ll_tree.specs.Tree.{is_local, is_digits}
 use Rattle.ll_text.specs.ScopeView.{key_name}
 use Rattle.ll_text.specs.Numbered.{name_said}
 use Rattle.ll_text.specs.Building.{AllKnown, AllLocals}
-use Rattle.ll_text.specs.Meaning.{◌>>=◌, Key, Named, Numbered, same_key, Local, ValueLocal, BlockLocal, Scope, empty_scope, with_key, counted, define, legal_width, value_of_width, constant, int_width, key_of, optional_key, global_name, string_name, value_of, define_written, local_key, label_key}
+use Rattle.ll_tree.specs.Chain.{◌>>=◌}
+use Rattle.ll_text.specs.Meaning.{Key, Named, Numbered, same_key, Local, ValueLocal, BlockLocal, Scope, empty_scope, with_key, counted, define, legal_width, value_of_width, constant, int_width, key_of, optional_key, global_name, string_name, value_of, define_written, local_key, label_key}
 
 -- ---- steps that give something
 

@@ -7,11 +7,12 @@ use Rattle.std.proofs.lemmas.Bool.Decides.{nat_tests}
 use Rattle.llvm_core.specs.Names.{is_digit, is_letter, is_plain, is_plain_byte}
 use Rattle.llvm_core.specs.Data as L
 use Rattle.llvm_core.specs.Data.{TypeTree, VoidType, IntType, FunctionType, TypeTrees, NoTypes, ThenType, Operand, Placed, Block, ModuleData}
-use Rattle.ll_text.specs.Text.{Text, is_bare, is_name_byte, width_of}
-use Rattle.ll_text.specs.Tree as tree
-use Rattle.ll_text.specs.Tree.{is_local, is_digits, Incoming, Inst, Add, ICmp, Phi, Terminator, ReturnVoid, Return, Br, CondBr, Unreachable, Param, Function, File, blocks_of}
+use Rattle.ll_tree.specs.Text.{Text, is_bare, is_name_byte, width_of}
+use Rattle.ll_tree.specs.Tree as tree
+use Rattle.ll_tree.specs.Tree.{is_local, is_digits, Incoming, Inst, Add, ICmp, Phi, Terminator, ReturnVoid, Return, Br, CondBr, Unreachable, Param, Function, File, blocks_of}
 use Rattle.ll_text.specs.Spelling.{widest}
-use Rattle.ll_text.specs.Meaning.{◌>>=◌, Key, Named, Local, ValueLocal, BlockLocal, Scope, empty_scope, legal_width, bit_width, written_name, int_width, key_of, local_key, label_key, optional_key, global_name, string_name, value_of, block_of, define_written, result_width, named_inst, AreNamed, NamesBlock, NameBlocks, entries_data, inst_data, terminator_data, AreInstructions, IsBlockOf, AreBlocks, param_data, result_data, AreParams, IsFunctionOf, AreFunctions, IsSource, IsFileOf}
+use Rattle.ll_tree.specs.Chain.{◌>>=◌}
+use Rattle.ll_text.specs.Meaning.{Key, Named, Local, ValueLocal, BlockLocal, Scope, empty_scope, legal_width, bit_width, written_name, int_width, key_of, local_key, label_key, optional_key, global_name, string_name, value_of, block_of, define_written, result_width, named_inst, AreNamed, NamesBlock, NameBlocks, entries_data, inst_data, terminator_data, AreInstructions, IsBlockOf, AreBlocks, param_data, result_data, AreParams, IsFunctionOf, AreFunctions, IsSource, IsFileOf}
 
 -- ---- what is given stays given
 

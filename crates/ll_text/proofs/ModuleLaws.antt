@@ -24,8 +24,8 @@ use Rattle.llvm_core.specs.Data.{ConstTree, PlaceholderConst, IntConst, IntType,
 use Rattle.llvm_core.proofs.ListLemmas.{slice_get-kept}
 use Rattle.llvm_core.proofs.DataLemmas.{int_tree_of, int_const_of, placeholder_const_of}
 use Rattle.llvm_core.proofs.TreeLemmas.{const_at-kept, const_trees-retyped}
-use Rattle.ll_text.specs.Text.{Text, const_value}
-use Rattle.ll_text.specs.Tree.{Inst, Add, ICmp, Phi, Terminator, ReturnVoid, Return, Br, CondBr, Unreachable}
+use Rattle.ll_tree.specs.Text.{Text, const_value}
+use Rattle.ll_tree.specs.Tree.{Inst, Add, ICmp, Phi, Terminator, ReturnVoid, Return, Br, CondBr, Unreachable}
 use Rattle.ll_text.specs.Meaning.{Local, ValueLocal, BlockLocal, Scope}
 use Rattle.ll_text.specs.declared.scope.Scope as code
 use Rattle.ll_text.specs.declared.scope.Local as code_local

@@ -2,9 +2,9 @@
 use Rattle.std.proofs.Common.{◌≡◌, ℕ, suc, ◌+◌, ◌<◌, ◌≤◌, List, [], ◌∷◌, length, Some, refl, ap, ◌∙◌, subst, arith}
 use Rattle.llvm_core.specs.Names.{is_plain}
 use Rattle.llvm_core.specs.Data.{Result, Placed, Block}
-use Rattle.ll_text.specs.Text.{Text}
-use Rattle.ll_text.specs.Tree as tree
-use Rattle.ll_text.specs.Tree.{Inst, Terminator}
+use Rattle.ll_tree.specs.Text.{Text}
+use Rattle.ll_tree.specs.Tree as tree
+use Rattle.ll_tree.specs.Tree.{Inst, Terminator}
 use Rattle.ll_text.specs.Meaning.{Local, ValueLocal, BlockLocal, Scope, written_name, result_width, local_key, label_key, define_written, named_inst, AreNamed, NameBlocks}
 use Rattle.ll_text.specs.Refusals.{Alike}
 use Rattle.ll_text.specs.Numbered.{result_name, label_name, behind, EachInst, EachBlock, named_result, named_insts, named_label, named_block, named_blocks}

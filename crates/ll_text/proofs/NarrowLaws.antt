@@ -9,12 +9,12 @@ use Rattle.llvm_core.specs.Names.{is_plain, IsPlainOrNone}
 use Rattle.llvm_core.specs.Data as L
 use Rattle.llvm_core.specs.Data.{TypeTree, VoidType, IntType, FunctionType, TypeTrees, NoTypes, ThenType, Operand, Placed, Block, ModuleData, operand_type}
 use Rattle.llvm_core.specs.Form.{IsShortInt, IsShortResult, AreShortInts, IsOperand, result_of, IsFormInstruction, IsFormBlock, IsFormFunction, IsForm}
-use Rattle.ll_text.specs.Text.{Text, is_bare}
-use Rattle.ll_text.specs.Tree as tree
-use Rattle.ll_text.specs.Tree.{Incoming, Inst, Add, ICmp, Phi, Terminator, ReturnVoid, Return, Br, CondBr, Unreachable, Param, Function, File, blocks_of}
+use Rattle.ll_tree.specs.Text.{Text, is_bare}
+use Rattle.ll_tree.specs.Tree as tree
+use Rattle.ll_tree.specs.Tree.{Incoming, Inst, Add, ICmp, Phi, Terminator, ReturnVoid, Return, Br, CondBr, Unreachable, Param, Function, File, blocks_of}
 use Rattle.ll_text.specs.Spelling.{widest}
 use Rattle.ll_text.specs.Meaning.{ValueLocal, BlockLocal, Scope, empty_scope, bit_width, predicate_of, written_name, int_width, local_key, value_of, block_of, define_written, result_width, named_inst, AreNamed, NamesBlock, NameBlocks, entries_data, inst_data, terminator_data, AreInstructions, IsBlockOf, AreBlocks, param_data, result_data, AreParams, IsFunctionOf, AreFunctions, IsSource, IsFileOf}
-use Rattle.ll_text.proofs.Steps.{bind_some}
+use Rattle.ll_tree.proofs.Steps.{bind_some}
 use Rattle.ll_text.proofs.PlainLaws.{mapped, short_result}
 use Rattle.ll_text.proofs.ListLaws.{all_front, all_back, all_weaker}
 use Rattle.ll_text.proofs.HoldsLaws.{Holds, Typed, param_is, SaysBlock, SayBlocks, say_blocks, result_is, scope_typed, value_typed}

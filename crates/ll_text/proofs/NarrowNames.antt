@@ -6,11 +6,12 @@ use Rattle.std.proofs.lemmas.Slice.Eq.{bytes_eq-Decides}
 use Rattle.llvm_core.specs.Names.{is_plain, IsPlainOrNone}
 use Rattle.llvm_core.specs.Data.{IntType, Operand}
 use Rattle.llvm_core.specs.Form.{IsShortInt}
-use Rattle.ll_text.specs.Text.{Text, is_bare, width_of, number_of, number_limit, const_value}
-use Rattle.ll_text.specs.Tree.{is_local, is_digits}
+use Rattle.ll_tree.specs.Text.{Text, is_bare, width_of, number_of, number_limit, const_value}
+use Rattle.ll_tree.specs.Tree.{is_local, is_digits}
 use Rattle.ll_text.specs.Spelling.{widest}
-use Rattle.ll_text.specs.Meaning.{◌>>=◌, Key, Named, Numbered, same_key, Local, Scope, empty_scope, with_key, counted, define, legal_width, bit_width, value_of_width, option_block, constant, int_width, key_of, local_key, optional_key, global_name, string_name, value_of, block_of, define_written}
-use Rattle.ll_text.proofs.Steps.{bind_some}
+use Rattle.ll_tree.specs.Chain.{◌>>=◌}
+use Rattle.ll_text.specs.Meaning.{Key, Named, Numbered, same_key, Local, Scope, empty_scope, with_key, counted, define, legal_width, bit_width, value_of_width, option_block, constant, int_width, key_of, local_key, optional_key, global_name, string_name, value_of, block_of, define_written}
+use Rattle.ll_tree.proofs.Steps.{bind_some}
 use Rattle.ll_text.proofs.PlainLaws.{mapped, IsPlainKey, IsPlainOption}
 
 -- a step that gives something leads on

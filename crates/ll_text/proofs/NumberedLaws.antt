@@ -3,9 +3,10 @@ use Rattle.std.proofs.Common.{◌≡◌, ℕ, zero, suc, ◌+◌, ◌<◌, ◌�
 use Rattle.std.proofs.lemmas.List.{length-map, length-take-le, map_more, take_all}
 use Rattle.llvm_core.specs.Data as L
 use Rattle.llvm_core.specs.Data.{TypeTree, VoidType, Placed}
-use Rattle.ll_text.specs.Tree as tree
-use Rattle.ll_text.specs.Tree.{Inst, Terminator}
-use Rattle.ll_text.specs.Meaning.{◌>>=◌, Scope}
+use Rattle.ll_tree.specs.Tree as tree
+use Rattle.ll_tree.specs.Tree.{Inst, Terminator}
+use Rattle.ll_tree.specs.Chain.{◌>>=◌}
+use Rattle.ll_text.specs.Meaning.{Scope}
 use Rattle.ll_text.specs.declared.scope.Scope as code
 use Rattle.ll_text.specs.ScopeView.{Takes, Refuses}
 use Rattle.ll_text.specs.Numbered.{result_name, behind, behind_all, EachInst, EachIn, EachBlock, named_result, named_insts, named_label, named_block, named_blocks, placed_insts, placed_end, placed_block, placed_blocks}

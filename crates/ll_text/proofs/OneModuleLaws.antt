@@ -3,8 +3,8 @@ use Rattle.std.proofs.Common.{◌≡◌, ℕ, suc, ◌+◌, List, [], ◌∷◌,
 use Rattle.std.proofs.lemmas.Option.{same_Some}
 use Rattle.llvm_core.specs.Data as L
 use Rattle.llvm_core.specs.Data.{Operand, Constant, Parameter, Result, Instruction, Add, ICmp, Phi, Br, CondBr, Return, Unreachable, Placed, Block, ModuleData, placed_in}
-use Rattle.ll_text.specs.Text.{Text, is_bare}
-use Rattle.ll_text.specs.Tree.{Function, File}
+use Rattle.ll_tree.specs.Text.{Text, is_bare}
+use Rattle.ll_tree.specs.Tree.{Function, File}
 use Rattle.ll_text.specs.Meaning.{AreFunctions, IsSource, IsFileOf}
 use Rattle.ll_text.specs.Spelling.{widest, Spelled, IsNumbered}
 use Rattle.ll_text.proofs.NumberLaws.{block_numbers, result_numbers, numbers_same, NumberedFrom, from_numbered, split}

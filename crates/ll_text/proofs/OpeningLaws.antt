@@ -2,8 +2,8 @@
 use Rattle.std.proofs.Common.{ℕ, Option, Some, None, refl}
 use Rattle.std.specs.Option.{option_map}
 use Rattle.llvm_core.specs.Names.{is_plain}
-use Rattle.ll_text.specs.Text.{Text}
-use Rattle.ll_text.specs.Tree.{Inst, Add, ICmp, Phi, Terminator, ReturnVoid, Return, Br, CondBr, Unreachable}
+use Rattle.ll_tree.specs.Text.{Text}
+use Rattle.ll_tree.specs.Tree.{Inst, Add, ICmp, Phi, Terminator, ReturnVoid, Return, Br, CondBr, Unreachable}
 use Rattle.ll_text.specs.Meaning.{Scope, bit_width, predicate_of, int_width, value_of, block_of, inst_data, terminator_data}
 use Rattle.ll_text.specs.Opening.{open_operand, open_value, open_inst, open_terminator}
 use Rattle.ll_text.proofs.OptionLaws.{Weaker, bind_weaker, same_weaker, some_weaker}

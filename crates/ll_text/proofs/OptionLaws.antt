@@ -1,6 +1,6 @@
 -- Steps that may give nothing, one after another.
 use Rattle.std.proofs.Common.{◌≡◌, List, [], ◌∷◌, ◌++◌, Option, Some, None, refl, ap, ◌∙◌}
-use Rattle.ll_text.specs.Meaning.{◌>>=◌}
+use Rattle.ll_tree.specs.Chain.{◌>>=◌}
 
 pub none_bound : {A B : Type 0} (x : Option A) (f : A → Option B) → x ≡ None → (x >>= f) ≡ None
 none_bound x f e = ap (λ o. o >>= f) e

@@ -4,8 +4,8 @@ use Rattle.std.proofs.lemmas.List.{map-append}
 use Rattle.llvm_core.specs.Names.{is_plain}
 use Rattle.llvm_core.specs.Module.{Module}
 use Rattle.llvm_core.specs.Data.{TypeTree, VoidType, Instruction, Placed, Block}
-use Rattle.ll_text.specs.Tree as tree
-use Rattle.ll_text.specs.Tree.{Inst, Terminator}
+use Rattle.ll_tree.specs.Tree as tree
+use Rattle.ll_tree.specs.Tree.{Inst, Terminator}
 use Rattle.ll_text.specs.Spelling.{counting}
 use Rattle.ll_text.specs.Meaning.{Scope, inst_data, terminator_data, AreNamed, NameBlocks, AreInstructions, IsBlockOf, AreBlocks}
 use Rattle.ll_text.specs.Numbered.{result_name, behind, behind_all, EachInst, EachIn, EachBlock, named_insts, named_blocks, placed_insts, placed_end, placed_block, placed_blocks, blocks_with}

@@ -6,10 +6,10 @@ use Rattle.std.proofs.lemmas.Option.{cond_some}
 use Rattle.llvm_core.specs.Names.{is_plain, IsPlainOrNone}
 use Rattle.llvm_core.specs.Data.{TypeTree, VoidType, IntType, FunctionType}
 use Rattle.llvm_core.specs.Form.{IsShortInt, IsShortResult}
-use Rattle.ll_text.specs.Text.{Text, width_of, number_of, number_limit}
-use Rattle.ll_text.specs.Tree.{is_digits}
+use Rattle.ll_tree.specs.Text.{Text, width_of, number_of, number_limit}
+use Rattle.ll_tree.specs.Tree.{is_digits}
 use Rattle.ll_text.specs.Meaning.{Key, Named, Numbered, Local, Scope, with_key, counted, define, legal_width, int_width, key_of, local_key, label_key, optional_key, global_name, string_name, define_written}
-use Rattle.ll_text.proofs.Steps.{bind_some}
+use Rattle.ll_tree.proofs.Steps.{bind_some}
 
 -- an item that a map made
 pub mapped : {A B : Type 0} (f : A → B) (x : Option A) (b : B) → option_map f x ≡ Some b → (a : A) × (x ≡ Some a) × (f a ≡ b)

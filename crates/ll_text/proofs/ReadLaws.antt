@@ -12,15 +12,15 @@ use Rattle.llvm_core.proofs.ApartLemmas.{apart}
 use Rattle.llvm_core.proofs.CheckedForm.{form_of_checked}
 use Rattle.llvm_core.proofs.DistinctLaws.{distinct_of_checked, few_of_checked}
 use Rattle.llvm_core.proofs.FormLaws.{checked_of_form}
-use Rattle.ll_text.specs.Text.{Text, is_bare}
-use Rattle.ll_text.specs.Tokens.{tokens_of}
-use Rattle.ll_text.specs.Tree.{File, IsFile, file}
+use Rattle.ll_tree.specs.Text.{Text, is_bare}
+use Rattle.ll_tree.specs.Tokens.{tokens_of}
+use Rattle.ll_tree.specs.Tree.{File, IsFile, file}
 use Rattle.ll_text.specs.Meaning.{IsFileOf}
 use Rattle.ll_text.specs.Spelling.{widest, IsNumbered, IsReadable, Spelled, IsSpelled}
 use Rattle.ll_text.proofs.FormLaws.{narrow_of}
 use Rattle.ll_text.proofs.NarrowLaws.{narrow_file}
 use Rattle.ll_text.proofs.OneModuleLaws.{one_spelled}
-use Rattle.ll_text.proofs.ReaderLaws.{one_file}
+use Rattle.ll_tree.proofs.ReaderLaws.{one_file}
 use Rattle.ll_text.proofs.RenumberLaws.{form_renumbered, names_renumbered, few_renumbered}
 
 -- a module is not checked where the check answers a rule

@@ -5,15 +5,16 @@ use Rattle.std.specs.Option.{option_map}
 use Rattle.std.specs.Result.{IsErrAnd}
 use Rattle.std.proofs.lemmas.Result.{err_from_is_err_and}
 use Rattle.llvm_core.specs.Names.{is_plain}
-use Rattle.ll_text.specs.Text.{Text}
+use Rattle.ll_tree.specs.Text.{Text}
 use Rattle.llvm_core.specs.Data.{Parameter}
-use Rattle.ll_text.specs.Tree.{is_local, Param}
-use Rattle.ll_text.specs.Meaning.{◌>>=◌, Key, Named, Numbered, Local, ValueLocal, Scope, define, int_width, local_key, optional_key, option_block, value_of_width, value_of, block_of, define_written, param_data}
+use Rattle.ll_tree.specs.Tree.{is_local, Param}
+use Rattle.ll_tree.specs.Chain.{◌>>=◌}
+use Rattle.ll_text.specs.Meaning.{Key, Named, Numbered, Local, ValueLocal, Scope, define, int_width, local_key, optional_key, option_block, value_of_width, value_of, block_of, define_written, param_data}
 use Rattle.ll_text.specs.Refusals.{IsNoKey, Alike}
 use Rattle.ll_text.specs.declared.scope.Key.TheVariants as code_key
 use Rattle.ll_text.specs.declared.scope.Scope as code
-use Rattle.ll_text.specs.declared.read_err.ReadErr.{ReadErr}
-use Rattle.ll_text.specs.declared.read_err.ReadErr.TheVariants.{NotYet}
+use Rattle.ll_tree.specs.declared.read_err.ReadErr.{ReadErr}
+use Rattle.ll_tree.specs.declared.read_err.ReadErr.TheVariants.{NotYet}
 use Rattle.ll_text.specs.ScopeView.{local_view, Knows}
 use Rattle.ll_text.specs.Filling.{result_number, result_of}
 use Rattle.ll_text.proofs.AlikeLaws.{define_none}

@@ -6,8 +6,8 @@ use Rattle.llvm_core.specs.Interned.{IsDistinctList}
 use Rattle.llvm_core.specs.Data as L
 use Rattle.llvm_core.specs.Data.{Placed, Block, ModuleData, placed_in}
 use Rattle.llvm_core.specs.Form.{IsFormFunction, IsForm, local_names, HasDistinctNames, IsFewIn, HasFew}
-use Rattle.ll_text.specs.Text.{Text}
-use Rattle.ll_text.specs.Tree.{Function, File}
+use Rattle.ll_tree.specs.Text.{Text}
+use Rattle.ll_tree.specs.Tree.{Function, File}
 use Rattle.ll_text.specs.Meaning.{AreFunctions, IsFileOf}
 use Rattle.ll_text.specs.Spelling.{IsNumbered}
 use Rattle.ll_text.proofs.NumberLaws.{distinct, NumberedFrom, from_numbered, split}

@@ -2,7 +2,7 @@
 use Rattle.std.proofs.Common.{◌≡◌, ℕ, ◌+◌, ◌<◌, ◌≤◌, Bool, true, false, nat_eq, [], Option, Some, None, refl, ap, sym, ◌∙◌, cond, if◌then◌else◌, subst, lt-ltb, le-leb, arith}
 use Rattle.std.specs.Option.{option_map}
 use Rattle.std.proofs.lemmas.Bool.Decides.{nat_tests}
-use Rattle.ll_text.specs.Text.{number_limit}
+use Rattle.ll_tree.specs.Text.{number_limit}
 use Rattle.ll_text.specs.Meaning as spec
 use Rattle.ll_text.specs.Meaning.{same_key}
 use Rattle.ll_text.specs.declared.scope.Key.{Key}

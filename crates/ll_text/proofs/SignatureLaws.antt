@@ -14,7 +14,7 @@ use Rattle.llvm_core.specs.Parts.{IsTypeOver, type_params, kind_params}
 use Rattle.llvm_core.specs.Data.{TypeTree, FunctionType, TypeTrees, type_at, types_at, trees_of}
 use Rattle.llvm_core.proofs.ListLemmas.{slice_get-kept}
 use Rattle.llvm_core.proofs.DataLemmas.{int_tree_of, void_tree_of, function_tree_of}
-use Rattle.ll_text.specs.Tree.{Param}
+use Rattle.ll_tree.specs.Tree.{Param}
 use Rattle.ll_text.specs.Meaning.{int_width}
 use Rattle.ll_text.specs.Building.{OnlyInterns}
 use Rattle.ll_text.specs.Signatures.{returned, returned_kind, int_types, AreWidths, AreInts, HasParams, HasSignature}

@@ -4,11 +4,11 @@ use Rattle.llvm_core.specs.Module.{Module}
 use Rattle.llvm_core.specs.Names.{is_plain}
 use Rattle.llvm_core.specs.Data as L
 use Rattle.llvm_core.specs.Data.{VoidType, IntType, FunctionType, TypeTrees, NoTypes, ThenType}
-use Rattle.ll_text.specs.Text.{Text}
-use Rattle.ll_text.specs.Tree.{Param, Function}
-use Rattle.ll_text.specs.declared.tree.Param as code_param
-use Rattle.ll_text.specs.declared.tree.Function as code_function
-use Rattle.ll_text.specs.TreeView.{param_view, function_view}
+use Rattle.ll_tree.specs.Text.{Text}
+use Rattle.ll_tree.specs.Tree.{Param, Function}
+use Rattle.ll_tree.specs.declared.tree.Param as code_param
+use Rattle.ll_tree.specs.declared.tree.Function as code_function
+use Rattle.ll_tree.specs.TreeView.{param_view, function_view}
 use Rattle.ll_text.specs.Meaning.{Scope, empty_scope, int_width, param_data, AreParams, IsFunctionOf, AreFunctions}
 use Rattle.ll_text.specs.Refusals.{Alike}
 use Rattle.ll_text.specs.declared.scope.Scope as code

@@ -6,9 +6,9 @@ use Rattle.llvm_core.specs.Sound.{IsModule}
 use Rattle.llvm_core.specs.Names.{is_plain}
 use Rattle.llvm_core.specs.Data as L
 use Rattle.llvm_core.specs.Data.{FunctionType, Placed, ModuleData, data_of, with_function, with_param, with_block, with_instruction}
-use Rattle.ll_text.specs.Text.{Text}
-use Rattle.ll_text.specs.Tree as tree
-use Rattle.ll_text.specs.Tree.{Inst, Param, Function}
+use Rattle.ll_tree.specs.Text.{Text}
+use Rattle.ll_tree.specs.Tree as tree
+use Rattle.ll_tree.specs.Tree.{Inst, Param, Function}
 use Rattle.ll_text.specs.Meaning.{Scope, global_name, result_data, param_data, AreParams, AreFunctions}
 use Rattle.ll_text.specs.Spelling.{blocks_in, placed_in, IsNumbered}
 use Rattle.ll_text.specs.declared.scope.Scope as code

@@ -21,8 +21,8 @@ use Rattle.ll_text.specs.declared.scope.Scope as code
 use Rattle.ll_text.specs.declared.scope.Key as code_key
 use Rattle.ll_text.specs.declared.scope.Local as code_local
 use Rattle.ll_text.specs.ScopeView.{local_view, local_at, Knows}
-use Rattle.ll_text.specs.Tree.{Inst, Add, ICmp, Phi, Terminator, ReturnVoid, Return, Br, CondBr, Unreachable}
-use Rattle.ll_text.specs.Text.{Text, const_value}
+use Rattle.ll_tree.specs.Tree.{Inst, Add, ICmp, Phi, Terminator, ReturnVoid, Return, Br, CondBr, Unreachable}
+use Rattle.ll_tree.specs.Text.{Text, const_value}
 use Rattle.ll_text.specs.Meaning.{Key, Local, ValueLocal, BlockLocal, Scope, value_of, block_of, constant, int_width, result_width}
 use Rattle.ll_text.specs.Numbered.{result_name}
 use Rattle.ll_text.specs.Opening.{open_value, open_inst, open_terminator}

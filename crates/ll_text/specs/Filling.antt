@@ -5,10 +5,11 @@ use Rattle.llvm_core.specs.Module.{Module}
 use Rattle.llvm_core.specs.Names.{is_plain}
 use Rattle.llvm_core.specs.Data as L
 use Rattle.llvm_core.specs.Data.{TypeTree, Operand, Result, Instruction, Placed, Block, ModuleData, with_operand, with_entry, data_of}
-use Rattle.ll_text.specs.Text.{Text}
-use Rattle.ll_text.specs.Tree as tree
-use Rattle.ll_text.specs.Tree.{is_local, Inst, Terminator, Incoming}
-use Rattle.ll_text.specs.Meaning.{◌>>=◌, Local, ValueLocal, BlockLocal, Scope, local_key, value_of, entries_data, inst_data, terminator_data}
+use Rattle.ll_tree.specs.Text.{Text}
+use Rattle.ll_tree.specs.Tree as tree
+use Rattle.ll_tree.specs.Tree.{is_local, Inst, Terminator, Incoming}
+use Rattle.ll_tree.specs.Chain.{◌>>=◌}
+use Rattle.ll_text.specs.Meaning.{Local, ValueLocal, BlockLocal, Scope, local_key, value_of, entries_data, inst_data, terminator_data}
 use Rattle.ll_text.specs.declared.scope.Scope as code
 use Rattle.ll_text.specs.declared.scope.Key as code_key
 use Rattle.ll_text.specs.declared.scope.Local as code_local

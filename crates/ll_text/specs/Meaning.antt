@@ -7,20 +7,16 @@ use Rattle.llvm_core.specs.declared.code.LLVMIntPredicate.TheVariants as P
 use Rattle.std.specs.Option.{option_map}
 use Rattle.llvm_core.specs.Data as L
 use Rattle.llvm_core.specs.Data.{TypeTree, VoidType, IntType, FunctionType, TypeTrees, NoTypes, ThenType, Operand, Placed, Block, ModuleData}
-use Rattle.ll_text.specs.Text.{Text, number_of, number_limit, width_of, const_value}
-use Rattle.ll_text.specs.Tree as tree
-use Rattle.ll_text.specs.Tree.{is_local, is_digits, Inst, Add, ICmp, Phi, Incoming, Terminator, ReturnVoid, Return, Br, CondBr, Unreachable, Param, Function, File, blocks_of}
+use Rattle.ll_tree.specs.Chain.{◌>>=◌}
+use Rattle.ll_tree.specs.Text.{Text, number_of, number_limit, width_of, const_value}
+use Rattle.ll_tree.specs.Tree as tree
+use Rattle.ll_tree.specs.Tree.{is_local, is_digits, Inst, Add, ICmp, Phi, Incoming, Terminator, ReturnVoid, Return, Br, CondBr, Unreachable, Param, Function, File, blocks_of}
 
 -- the words of the predicates
 abbrev pub predicate_words : List (Text × LLVMIntPredicate)
 predicate_words =
     (codes "eq", P.LLVMIntEQ) ∷ (codes "ne", P.LLVMIntNE) ∷ (codes "ugt", P.LLVMIntUGT) ∷ (codes "uge", P.LLVMIntUGE) ∷ (codes "ult", P.LLVMIntULT)
     ∷ (codes "ule", P.LLVMIntULE) ∷ (codes "sgt", P.LLVMIntSGT) ∷ (codes "sge", P.LLVMIntSGE) ∷ (codes "slt", P.LLVMIntSLT) ∷ (codes "sle", P.LLVMIntSLE) ∷ []
-
-infixl 10 ◌>>=◌
-abbrev pub ◌>>=◌ : {A B : Type 0} → Option A → (A → Option B) → Option B
-None >>= f = None
-(Some x) >>= f = f x
 
 -- ---- names and numbers
 

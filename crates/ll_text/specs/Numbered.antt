@@ -5,10 +5,11 @@ use Rattle.std.specs.Option.{option_map_or}
 use Rattle.llvm_core.specs.Names.{is_plain}
 use Rattle.llvm_core.specs.Data as L
 use Rattle.llvm_core.specs.Data.{TypeTree, VoidType, Placed}
-use Rattle.ll_text.specs.Text.{Text}
-use Rattle.ll_text.specs.Tree as tree
-use Rattle.ll_text.specs.Tree.{Inst, Terminator}
-use Rattle.ll_text.specs.Meaning.{◌>>=◌, Key, BlockLocal, Scope, written_name, local_key, label_key, optional_key, define_written, named_inst}
+use Rattle.ll_tree.specs.Text.{Text}
+use Rattle.ll_tree.specs.Tree as tree
+use Rattle.ll_tree.specs.Tree.{Inst, Terminator}
+use Rattle.ll_tree.specs.Chain.{◌>>=◌}
+use Rattle.ll_text.specs.Meaning.{Key, BlockLocal, Scope, written_name, local_key, label_key, optional_key, define_written, named_inst}
 use Rattle.ll_text.specs.ScopeView.{key_name}
 
 -- ---- names

@@ -4,9 +4,10 @@ use Rattle.std.specs.Option.{option_map}
 use Rattle.llvm_core.specs.Names.{is_plain}
 use Rattle.llvm_core.specs.Data as L
 use Rattle.llvm_core.specs.Data.{TypeTree, IntType, Operand, Constant, Parameter, Result, PlaceholderConst}
-use Rattle.ll_text.specs.Text.{Text}
-use Rattle.ll_text.specs.Tree.{Inst, Add, ICmp, Phi, Terminator, ReturnVoid, Return, Br, CondBr, Unreachable}
-use Rattle.ll_text.specs.Meaning.{◌>>=◌, Scope, bit_width, predicate_of, int_width, value_of, block_of}
+use Rattle.ll_tree.specs.Text.{Text}
+use Rattle.ll_tree.specs.Tree.{Inst, Add, ICmp, Phi, Terminator, ReturnVoid, Return, Br, CondBr, Unreachable}
+use Rattle.ll_tree.specs.Chain.{◌>>=◌}
+use Rattle.ll_text.specs.Meaning.{Scope, bit_width, predicate_of, int_width, value_of, block_of}
 
 -- what stands for a result of a width
 abbrev pub placeholder : ℕ → Operand

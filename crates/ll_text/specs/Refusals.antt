@@ -2,7 +2,7 @@
 -- define nothing.
 use Rattle.std.specs.Prelude.{◌≡◌, ◌≤◌, ℕ, Option, Some, None}
 use Rattle.std.specs.Option.{option_map}
-use Rattle.ll_text.specs.Text.{number_limit}
+use Rattle.ll_tree.specs.Text.{number_limit}
 use Rattle.ll_text.specs.Meaning.{Key, Named, Numbered, Local, ValueLocal, BlockLocal, Scope}
 
 -- what a local is, without its number

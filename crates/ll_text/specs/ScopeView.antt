@@ -3,7 +3,7 @@ use Rattle.std.specs.Prelude.{◌≡◌, ◌≤◌, ℕ, [], Option, Some, None}
 use Rattle.std.specs.Option.{option_map}
 use Rattle.std.specs.HashMap.{get}
 use Rattle.llvm_core.specs.Data as L
-use Rattle.ll_text.specs.Text.{Text, number_limit}
+use Rattle.ll_tree.specs.Text.{Text, number_limit}
 use Rattle.ll_text.specs.Meaning as spec
 use Rattle.ll_text.specs.declared.scope.Key.{Key}
 use Rattle.ll_text.specs.declared.scope.Key.TheVariants.{Named, Numbered}

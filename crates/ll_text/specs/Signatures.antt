@@ -9,7 +9,7 @@ use Rattle.llvm_core.specs.Module.{Module}
 use Rattle.llvm_core.specs.Names.{is_plain}
 use Rattle.llvm_core.specs.Parts.{IsFunctionType, type_params}
 use Rattle.llvm_core.specs.Data.{TypeTree, VoidType, IntType, FunctionType, TypeTrees, NoTypes, ThenType, type_at, trees_of}
-use Rattle.ll_text.specs.Tree.{Param}
+use Rattle.ll_tree.specs.Tree.{Param}
 use Rattle.ll_text.specs.Meaning.{int_width}
 
 -- the type that a function returns: none for void

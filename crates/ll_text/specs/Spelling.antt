@@ -7,9 +7,9 @@ use Rattle.llvm_core.specs.Checked.{IsChecked}
 use Rattle.llvm_core.specs.Form.{IsForm}
 use Rattle.llvm_core.specs.Names.{IsPlainOrNone}
 use Rattle.llvm_core.specs.Data.{Placed, Block, Function, ModuleData, data_of}
-use Rattle.ll_text.specs.Text.{Text, is_bare}
-use Rattle.ll_text.specs.Tokens.{tokens_of}
-use Rattle.ll_text.specs.Tree.{File, IsFile, file}
+use Rattle.ll_tree.specs.Text.{Text, is_bare}
+use Rattle.ll_tree.specs.Tokens.{tokens_of}
+use Rattle.ll_tree.specs.Tree.{File, IsFile, file}
 use Rattle.ll_text.specs.Meaning.{IsFileOf}
 
 -- integer types have 1 to 2^23 bits

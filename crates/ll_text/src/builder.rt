@@ -3,18 +3,18 @@
 ghost use Rattle.std.specs.Prelude.{◌≡◌, List, Err, map, IfOk};
 ghost use Rattle.llvm_core.specs.Names.{is_plain};
 ghost use Rattle.llvm_core.specs.Data.{ModuleData, data_of};
-ghost use Rattle.ll_text.specs.Text.{Text};
-ghost use Rattle.ll_text.specs.Tree as tree;
-ghost use Rattle.ll_text.specs.TreeView.{name_view, file_view};
+ghost use Rattle.ll_tree.specs.Text.{Text};
+ghost use Rattle.ll_tree.specs.Tree as tree;
+ghost use Rattle.ll_tree.specs.TreeView.{name_view, file_view};
 ghost use Rattle.ll_text.specs.Meaning.{IsSource, IsFileOf};
 ghost use Rattle.ll_text.specs.Spelling.{IsNumbered};
 ghost use Rattle.ll_text.specs.Bodies.{IsBuiltOf};
 
 use crate::bodies::add_function;
 use crate::names::string_name;
-use crate::read_err::ReadErr;
-use crate::tokens::Token;
-use crate::tree::File;
+use ll_tree::read_err::ReadErr;
+use ll_tree::tokens::Token;
+use ll_tree::tree::File;
 use llvm_core::module::LLVMModule;
 use std::alloc::Global;
 

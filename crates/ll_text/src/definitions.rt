@@ -3,18 +3,18 @@
 ghost use Rattle.std.specs.Prelude.{◌≡◌, ◌+◌, ◌<◌, ◌∷◌, [], None, Some, Err, IfSome, IfNone, IfOk, OnOk, length, map};
 ghost use Rattle.llvm_core.specs.Names.{is_plain};
 ghost use Rattle.llvm_core.specs.Sound.{IsModule};
-ghost use Rattle.ll_text.specs.Tree as tree;
-ghost use Rattle.ll_text.specs.TreeView.{name_view, inst_view, block_view, function_view};
+ghost use Rattle.ll_tree.specs.Tree as tree;
+ghost use Rattle.ll_tree.specs.TreeView.{name_view, inst_view, block_view, function_view};
 ghost use Rattle.ll_text.specs.Meaning.{written_name, result_width};
 ghost use Rattle.ll_text.specs.ScopeView.{Takes, Refuses};
 ghost use Rattle.ll_text.specs.Numbered.{behind, behind_all, named_result, named_insts, named_label, named_block, named_blocks, blocks_with};
 ghost use Rattle.ll_text.specs.Bodies.{AddsBlocks};
 
 use crate::names::{int_width, key_name, next_number, written_label, written_local};
-use crate::read_err::ReadErr;
 use crate::scope::{Local, Scope};
-use crate::tokens::Token;
-use crate::tree::{Block, Function, Inst};
+use ll_tree::read_err::ReadErr;
+use ll_tree::tokens::Token;
+use ll_tree::tree::{Block, Function, Inst};
 use llvm_core::module::LLVMModule;
 use llvm_core::numbers::{LLVMBasicBlock, LLVMFunction, LLVMInstRef};
 

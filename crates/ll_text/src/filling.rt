@@ -4,9 +4,9 @@ ghost use Rattle.std.specs.Prelude.{◌≡◌, ◌+◌, true, None, Err, IfSome,
 ghost use Rattle.std.specs.Option.{option_map};
 ghost use Rattle.llvm_core.specs.Names.{is_plain};
 ghost use Rattle.llvm_core.specs.Data.{data_of};
-ghost use Rattle.ll_text.specs.Tree.{blocks_of};
-ghost use Rattle.ll_text.specs.TokenView.{text_of};
-ghost use Rattle.ll_text.specs.TreeView.{inst_view, terminator_view, block_view, function_view};
+ghost use Rattle.ll_tree.specs.Tree.{blocks_of};
+ghost use Rattle.ll_tree.specs.TokenView.{text_of};
+ghost use Rattle.ll_tree.specs.TreeView.{inst_view, terminator_view, block_view, function_view};
 ghost use Rattle.ll_text.specs.Meaning as meaning;
 ghost use Rattle.ll_text.specs.Meaning.{inst_data, terminator_data};
 ghost use Rattle.ll_text.specs.ScopeView.{Knows, Refuses};
@@ -16,10 +16,10 @@ ghost use Rattle.ll_text.specs.Filling.{changed, at_number, result_of, put_resul
 
 use crate::names::{int_width, local_key, next_number};
 use crate::phis::{add_entries, add_entry};
-use crate::read_err::ReadErr;
 use crate::scope::{Local, Scope};
-use crate::tokens::Token;
-use crate::tree::{Block, Function, Inst, Terminator};
+use ll_tree::read_err::ReadErr;
+use ll_tree::tokens::Token;
+use ll_tree::tree::{Block, Function, Inst, Terminator};
 use llvm_core::code::LLVMValue;
 use llvm_core::module::LLVMModule;
 use llvm_core::numbers::LLVMInstRef;

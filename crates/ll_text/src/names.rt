@@ -7,12 +7,12 @@ ghost use Rattle.ll_text.specs.Meaning.{key_of, local_key, label_key, optional_k
 ghost use Rattle.ll_text.specs.Refusals.{IsNoKey};
 ghost use Rattle.ll_text.specs.ScopeView.{key_view, option_key, key_name};
 ghost use Rattle.ll_text.specs.Numbered.{name_said};
-ghost use Rattle.ll_text.specs.TreeView.{name_view};
+ghost use Rattle.ll_tree.specs.TreeView.{name_view};
 
-use crate::literals::{number, plain_name};
-use crate::read_err::ReadErr;
 use crate::scope::Key;
-use crate::tokens::Token;
+use ll_tree::literals::{number, plain_name};
+use ll_tree::read_err::ReadErr;
+use ll_tree::tokens::Token;
 use llvm_core::code::LLVMIntPredicate;
 
 /// The key that a plain name or digits say.

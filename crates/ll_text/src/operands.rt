@@ -3,20 +3,20 @@
 ghost use Rattle.std.specs.Prelude.{◌≡◌, ◌≤◌, true, false, None, Err, IfOk, OnOk};
 ghost use Rattle.llvm_core.specs.Names.{is_plain};
 ghost use Rattle.llvm_core.specs.Data.{trees_of, operand_of};
-ghost use Rattle.ll_text.specs.Tree.{is_local};
-ghost use Rattle.ll_text.specs.Text.{const_value};
-ghost use Rattle.ll_text.specs.TokenView.{text_of};
+ghost use Rattle.ll_tree.specs.Tree.{is_local};
+ghost use Rattle.ll_tree.specs.Text.{const_value};
+ghost use Rattle.ll_tree.specs.TokenView.{text_of};
 ghost use Rattle.ll_text.specs.Meaning as meaning;
 ghost use Rattle.ll_text.specs.Meaning.{value_of, block_of};
 ghost use Rattle.ll_text.specs.ScopeView.{Knows, Refuses};
 ghost use Rattle.ll_text.specs.Opening.{placeholder};
 ghost use Rattle.ll_text.specs.Building.{IsValueOf, IsReady, OnlyInterns, IsLocalOf, IsTargetOf, SaysConstant, SaysValue, OpensValue};
 
-use crate::literals::const_value;
 use crate::names::local_key;
-use crate::read_err::ReadErr;
 use crate::scope::{Local, Scope};
-use crate::tokens::Token;
+use ll_tree::literals::const_value;
+use ll_tree::read_err::ReadErr;
+use ll_tree::tokens::Token;
 use llvm_core::code::LLVMValue;
 use llvm_core::consts::LLVMConstKind;
 use llvm_core::module::LLVMModule;

@@ -5,14 +5,14 @@ ghost use Rattle.llvm_core.specs.Names.{is_plain};
 ghost use Rattle.ll_text.specs.Meaning as meaning;
 ghost use Rattle.ll_text.specs.Meaning.{entries_data};
 ghost use Rattle.ll_text.specs.ScopeView.{Knows, Refuses};
-ghost use Rattle.ll_text.specs.TreeView.{incoming_view};
+ghost use Rattle.ll_tree.specs.TreeView.{incoming_view};
 ghost use Rattle.ll_text.specs.Building.{IsReady, IsPhiAt, Keeps};
 ghost use Rattle.ll_text.specs.Filling.{AddsEntries};
 
 use crate::operands::{operand, target};
-use crate::read_err::ReadErr;
 use crate::scope::Scope;
-use crate::tree::Incoming;
+use ll_tree::read_err::ReadErr;
+use ll_tree::tree::Incoming;
 use llvm_core::module::LLVMModule;
 use llvm_core::numbers::LLVMInstRef;
 

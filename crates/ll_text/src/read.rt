@@ -6,13 +6,13 @@ ghost use Rattle.llvm_core.specs.Data.{data_of};
 ghost use Rattle.llvm_core.specs.Form.{IsForm};
 ghost use Rattle.llvm_core.specs.Names.{IsPlainOrNone};
 ghost use Rattle.llvm_core.specs.Sound.{IsModule};
-ghost use Rattle.ll_text.specs.declared.read_err.ReadErr.TheVariants as errors;
+ghost use Rattle.ll_tree.specs.declared.read_err.ReadErr.TheVariants as errors;
 ghost use Rattle.ll_text.specs.Spelling.{Spells, IsSpelled, IsNumbered};
 
 use crate::builder::build_file;
-use crate::read_err::ReadErr;
-use crate::reader::read_tree;
-use crate::tokens::tokens;
+use ll_tree::read_err::ReadErr;
+use ll_tree::reader::read_tree;
+use ll_tree::tokens::tokens;
 use llvm_core::check_err::CheckErr;
 use llvm_core::checking::check;
 use llvm_core::module::LLVMModule;

@@ -5,7 +5,7 @@ ghost use Rattle.ll_text.specs.Meaning as meaning;
 ghost use Rattle.ll_text.specs.Meaning.{empty_scope, counted};
 ghost use Rattle.ll_text.specs.ScopeView.{option_key, local_view, local_at, Knows, Counts, Defines};
 
-use crate::read_err::ReadErr;
+use ll_tree::read_err::ReadErr;
 use llvm_core::numbers::{LLVMBasicBlock, LLVMFunction, LLVMInstRef};
 use std::alloc::Global;
 use std::collections::HashMap;

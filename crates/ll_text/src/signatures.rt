@@ -3,15 +3,15 @@
 ghost use Rattle.std.specs.Prelude.{◌≡◌, ◌≤◌, ◌++◌, ◌∷◌, [], ℕ, List, None, Some, Err, IfSome, IfOk, OnOk, map, slice_get};
 ghost use Rattle.llvm_core.specs.Names.{is_plain};
 ghost use Rattle.ll_text.specs.Meaning.{int_width, result_data};
-ghost use Rattle.ll_text.specs.Tree as tree;
-ghost use Rattle.ll_text.specs.TreeView.{name_view, param_view};
+ghost use Rattle.ll_tree.specs.Tree as tree;
+ghost use Rattle.ll_tree.specs.TreeView.{name_view, param_view};
 ghost use Rattle.ll_text.specs.Building.{OnlyInterns};
 ghost use Rattle.ll_text.specs.Signatures.{returned, returned_kind, AreWidths, HasParams, HasSignature};
 
 use crate::names::int_width;
-use crate::read_err::ReadErr;
-use crate::tokens::Token;
-use crate::tree::Param;
+use ll_tree::read_err::ReadErr;
+use ll_tree::tokens::Token;
+use ll_tree::tree::Param;
 use llvm_core::items::Items;
 use llvm_core::module::LLVMModule;
 use llvm_core::numbers::LLVMType;

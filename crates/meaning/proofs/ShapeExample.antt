@@ -12,16 +12,16 @@ use Rattle.meaning.specs.Dialect as dialect
 use Rattle.meaning.specs.Shape.{Plan, IsPlan, among, SameBlock, SameShape}
 use Rattle.meaning.specs.Examples.{same_places, sums, sums_module, sums_func}
 
-abbrev first_arg : Value
+abbrev pub first_arg : Value
 first_arg = Argument (record { 0 = 1 }) 0
 
-abbrev second_arg : Value
+abbrev pub second_arg : Value
 second_arg = Argument (record { 0 = 1 }) 1
 
-abbrev result : ℕ → Value
+abbrev pub result : ℕ → Value
 result n = Result (record { 0 = n })
 
-abbrev value_of : Key → Option Value
+abbrev pub value_of : Key → Option Value
 value_of (ParamKey zero zero) = Some first_arg
 value_of (ParamKey zero (suc zero)) = Some second_arg
 value_of (ResultKey zero) = Some (result 3)
@@ -30,14 +30,14 @@ value_of (ResultKey (suc (suc zero))) = Some (result 5)
 value_of _ = None
 
 -- the rows of the dialect's one block, of which the first is the constant
-abbrev rows : List (Row Value)
+abbrev pub rows : List (Row Value)
 rows = flat_map (λ (b : Block Value). b.rows) (map (dialect.block sums_func) sums_func.blocks)
 
-abbrev plan : Plan
+abbrev pub plan : Plan
 plan = record { value = value_of; hoisted = take 1 rows }
 
 -- what holds of each key and its value
-each : (P : Key → Value → Type 0) → P (ParamKey 0 0) first_arg → P (ParamKey 0 1) second_arg → P (ResultKey 0) (result 3) → P (ResultKey 1) (result 4) → P (ResultKey 2) (result 5) → (k : Key) (w : Value) → value_of k ≡ Some w → P k w
+pub each : (P : Key → Value → Type 0) → P (ParamKey 0 0) first_arg → P (ParamKey 0 1) second_arg → P (ResultKey 0) (result 3) → P (ResultKey 1) (result 4) → P (ResultKey 2) (result 5) → (k : Key) (w : Value) → value_of k ≡ Some w → P k w
 each P a b c d e (ParamKey zero zero) w h = subst (P (ParamKey 0 0)) (same_Some first_arg w h) a
 each P a b c d e (ParamKey zero (suc zero)) w h = subst (P (ParamKey 0 1)) (same_Some second_arg w h) b
 each P a b c d e (ParamKey zero (suc (suc i))) w h = absurd (none-some w h)
@@ -55,7 +55,7 @@ key_of (Result r) = ResultKey (r.0 - 3)
 key_of_value : (k : Key) (w : Value) → value_of k ≡ Some w → key_of w ≡ k
 key_of_value = each (λ k w. key_of w ≡ k) refl refl refl refl refl
 
-is_plan : IsPlan plan
+pub is_plan : IsPlan plan
 is_plan = record {
   closed = (tt, tt, tt);
   one_to_one = λ j k w p q. sym (key_of_value j w p) ∙ key_of_value k w q;

@@ -6,4 +6,6 @@ pub mod Llvm
 pub mod Dialect
 pub mod Pairs
 pub mod Shape
+pub mod Woven
 pub mod Examples
+pub mod WovenExamples

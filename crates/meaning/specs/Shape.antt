@@ -45,8 +45,8 @@ term_among rows w = (straight Value same_value (begin Value same_value (λ (v : 
 
 -- ---- what stands for what
 
--- for each parameter and result of LLVM the value that stands for it, and the rows that stand first in the
--- entry for constants
+-- for each parameter and result of LLVM the value that stands for it, and the rows for constants, which stand first in
+-- the entry (in a `WovenShape` of Woven.antt they stand anywhere)
 pub record Plan : Type 0 where
   pub value : Key → Option Value
   pub hoisted : List (Row Value)

@@ -9,7 +9,9 @@ ghost use Rattle.meaning.specs.Llvm as llvm;
 ghost use Rattle.meaning.specs.Dialect as dialect;
 ghost use Rattle.dialect_core.specs.declared.ops.Value.{Value};
 ghost use Rattle.meaning.specs.Shape.{SameShape};
+ghost use Rattle.meaning.specs.Woven.{WovenShape, SetsConstantsFirst, func_reads_unset};
 ghost use Rattle.meaning.specs.Examples.{answer, answer_dialect, echo, echo_module, same_places, pair_of, sums, sums_module, sums_func, sums_dialect, sum_of, swap_module, swap_dialect, branched, tested, gave, lacking_module, lacking_dialect, lacking, lacking_func};
+ghost use Rattle.meaning.specs.WovenExamples.{late, late_module, late_func, late_dialect, plus, plus_one, mixed_func, mixed_dialect};
 
 /// `define i32 @f() { ret i32 7 }`, its symbol, its trace on both sides, and that the two have the same code.
 pub fn answer_means()
@@ -53,4 +55,25 @@ pub fn lacking_means()
     ensures dialect_trace { dialect.traces_of lacking_dialect (0 ∷ []) ≡ llvm.traces_of lacking_module (0 ∷ []) }
     ensures unset { reads_unset llvm.Key llvm.same_key (llvm.start lacking) (map (llvm.block lacking_module lacking) lacking.blocks) (0 ∷ []) ≡ true }
     ensures dialect_unset { reads_unset Value dialect.same_value (dialect.start lacking_func.blocks) (map (dialect.block lacking_func) lacking_func.blocks) (0 ∷ []) ≡ true }
+{}
+
+/// A loop that sets the constant it adds, as `late` and `late_dialect` of the example modules, which has the woven shape:
+/// run through the loop it gives what LLVM does, and past it the constant is read before it is set, so that the traces
+/// differ.
+pub fn late_means()
+    ensures shape { WovenShape same_places late_module late late_func }
+    ensures trace { llvm.traces_of late_module (0 ∷ 0 ∷ 1 ∷ []) ≡ (Entered 0 ∷ tested (Param 1) ∷ Entered 1 ∷ tested (Param 1) ∷ Entered 1 ∷ tested (Param 1) ∷ Entered 2 ∷ gave 32 (plus_one (plus_one (plus_one (Param 0)))) ∷ []) ∷ [] }
+    ensures dialect_trace { dialect.traces_of late_dialect (0 ∷ 0 ∷ 1 ∷ []) ≡ llvm.traces_of late_module (0 ∷ 0 ∷ 1 ∷ []) }
+    ensures set { func_reads_unset late_func (0 ∷ 0 ∷ 1 ∷ []) ≡ false }
+    ensures past { llvm.traces_of late_module (1 ∷ []) ≡ (Entered 0 ∷ tested (Param 1) ∷ Entered 2 ∷ gave 32 (plus_one (Param 0)) ∷ []) ∷ [] }
+    ensures dialect_past { dialect.traces_of late_dialect (1 ∷ []) ≡ (Entered 0 ∷ tested (Param 1) ∷ Entered 2 ∷ gave 32 (plus Unset (Param 0)) ∷ []) ∷ [] }
+    ensures unset { func_reads_unset late_func (1 ∷ []) ≡ true }
+    ensures differ { ¬ (dialect.traces_of late_dialect (1 ∷ []) ≡ llvm.traces_of late_module (1 ∷ [])) }
+{}
+
+/// The sums with the constant between them: the woven shape, the first block sets the constant before it is read, and
+/// the trace is that of LLVM.
+pub fn mixed_means()
+    ensures shape { (h : WovenShape same_places sums_module sums mixed_func) × SetsConstantsFirst h.plan (map (dialect.block mixed_func) mixed_func.blocks) }
+    ensures trace { dialect.traces_of mixed_dialect [] ≡ llvm.traces_of sums_module [] }
 {}

@@ -8,6 +8,7 @@ ghost use Rattle.dialect_core.specs.Data.{Func};
 ghost use Rattle.meaning.specs.Machine.{Item, Block, trace};
 ghost use Rattle.meaning.specs.Code.{Code, SameNamed, SameCode, IsDistinctNames, names_of, under};
 ghost use Rattle.meaning.specs.Shape.{SameShape};
+ghost use Rattle.meaning.specs.Woven.{WovenLaw, WovenFirstLaw};
 ghost use Rattle.meaning.specs.Examples.{same_places};
 ghost use Rattle.meaning.specs.Llvm as llvm;
 ghost use Rattle.meaning.specs.Llvm.{Key, same_key};
@@ -27,6 +28,17 @@ pub fn same_code_law()
 /// match, for every list of branch choices.
 pub fn same_shape_law()
     ensures { (match : Match) → (d : ModuleData) → (f : Function) → (g : Func) → SameShape match d f g → (choices : List ℕ) → map (under match f.name) ((llvm.body d f).trace choices) ≡ (dialect.body g).trace choices }
+{}
+
+/// The same where rows for constants stand at any places of any blocks, for every list of choices by which the
+/// function of the dialect reads no unset value: a constant may there be read before it is set, which none of LLVM is.
+pub fn woven_law()
+    ensures { WovenLaw }
+{}
+
+/// And for every list of choices, where the first block sets every constant before what reads it.
+pub fn woven_first_law()
+    ensures { WovenFirstLaw }
 {}
 
 /// A match that leaves all where it is changes nothing.

@@ -1,6 +1,6 @@
 -- How the answer of the program follows from what its two halves did, and what it means for bytes that spell a module.
 use Rattle.std.proofs.Common.{List, ℕ, ◌≡◌, ◌≤◌, ◌^◌, length, [], Option, Some, None, sym, ◌∙◌, ap, subst, arith}
-use Rattle.ll_text.specs.declared.read_err.ReadErr.TheVariants as read
+use Rattle.ll_tree.specs.declared.read_err.ReadErr.TheVariants as read
 use Rattle.ll_text.specs.Spelling.{IsSpelled, IsNumbered, Spelled, Spells}
 use Rattle.ll_text.proofs.ReadLaws.{one_of_tokens}
 use Rattle.llvm_core.specs.Data.{ModuleData, data_of}

@@ -10,8 +10,6 @@ mod sink;
 mod source;
 mod std_objects;
 mod sure_source;
-#[cfg(test)]
-mod tests;
 
 pub use all_bytes::{MAX_INPUT, ReadAllError, read_all, write_all};
 pub use failed::Failed;

@@ -17,28 +17,31 @@ use Rattle.llvm_core.specs.Parts.{IsPhi, is_phi, result_type}
 use Rattle.llvm_core.specs.Data as L
 use Rattle.llvm_core.specs.Data.{Placed, ModuleData, data_of, trees_of, with_function, with_instruction}
 use Rattle.dialect_types.specs.Trees.{TypeTree, type_at, type_trees}
+use Rattle.block_order.specs.Order.{IsOrder}
 use Rattle.dialect_core.specs.declared.numbers.BlockRef.{BlockRef}
 use Rattle.dialect_core.specs.declared.ops.Value.{Value}
 use Rattle.dialect_core.specs.declared.ops.Value.TheVariants.{Argument}
 use Rattle.dialect_types.specs.declared.types.TypeHandle.{TypeHandle}
 use Rattle.dialect_core.specs.declared.ops.BlockData.{BlockData}
-use Rattle.dialect_core.specs.Form.{IsShortInt}
+use Rattle.dialect_core.specs.Form.{IsFormFunc, IsShortInt}
 use Rattle.dialect_core.specs.ContextData.{ContextData}
 use Rattle.dialect_core.specs.Data.{DialectBlock, Func}
 use Rattle.meaning.specs.Dialect.{type_of}
 use Rattle.to_llvm_ir.specs.declared.values.Values.{Values}
+use Rattle.to_llvm_ir.specs.Order.{turn_of}
 use Rattle.to_llvm_ir.specs.Exported.{value_name}
-use Rattle.to_llvm_ir.specs.Made.{Numbers, arguments_from, arguments_of, phi_values, result_values, values_from, values, number_of, phis, block_phis, function_with, no_entries}
+use Rattle.to_llvm_ir.specs.Made.{Numbers, arguments_from, arguments_of, phi_values, result_values, values_by, number_of, phis, block_phis, function_with, no_entries}
 use Rattle.to_llvm_ir.specs.Growth.{Grows, IsTypeOf, HasType}
-use Rattle.to_llvm_ir.specs.States.{found, AreKnown, Task, IsAtArgument, IsAtOp, IsBlockAt, blocks_within, seen_before, first_at, upto}
+use Rattle.to_llvm_ir.specs.States.{found, AreKnown, Task, IsAtArgument, IsAtOp, IsBlockAt, blocks_within, seen_to, values_to, turn, first_at, upto}
 use Rattle.to_llvm_ir.specs.Opening.{HasParams}
 use Rattle.to_llvm_ir.proofs.ListLaws.{all_at, item_there, take_suc, split_at, at_middle}
 use Rattle.to_llvm_ir.proofs.LookupLaws.{block_form, argument_type, entry_is, entry_is_not}
+use Rattle.to_llvm_ir.proofs.TurnLaws.{by_split}
 use Rattle.to_llvm_ir.proofs.PlacedLaws.{number_at, argument_operand, param_operand}
 use Rattle.to_llvm_ir.proofs.ContextLaws.{block_parts}
 use Rattle.to_llvm_ir.proofs.GrowthLaws.{grows_refl, grows_then}
 use Rattle.to_llvm_ir.proofs.BuildLaws.{IsBuilt, grows_built, built_blocks, built_insts, built_there, built_type, data_within}
-use Rattle.to_llvm_ir.proofs.StepLaws.{placed, same_placed, values_split}
+use Rattle.to_llvm_ir.proofs.StepLaws.{placed, same_placed}
 use Rattle.to_llvm_ir.proofs.KnownLaws.{known_set}
 use Rattle.to_llvm_ir.proofs.ValueLaws.{IsSet}
 
@@ -72,22 +75,22 @@ arguments_split c i type at =
     ap (arguments_from c.number 0) s.0 ∙ arguments_append c.number 0 (take i c.args) (type ∷ drop (suc i) c.args)
     ∙ ap (λ (k : ℕ). arguments_of (upto i c) ++ arguments_from c.number k (type ∷ drop (suc i) c.args)) (let len = s.1 in let e : 0 + length (take i c.args) ≡ i = omega (arith, len) in e)
 
-argument_here : (g : Func) (p i : ℕ) (c : DialectBlock) (type : TypeTree) → slice_get g.blocks (suc p) ≡ Some c → slice_get c.args i ≡ Some type
-    → slice_get (values g) (length (values_from 0 (take (suc p) g.blocks) ++ phi_values (suc p) (upto i c))) ≡ Some (Argument (record { 0 = c.number }) i)
-argument_here g p i c type at at' =
-    let a = values_from 0 (take (suc p) g.blocks) in
+argument_here : (g : Func) (form : IsFormFunc g) (order : List ℕ) (h : IsOrder (length g.blocks) order) (p i : ℕ) (c : DialectBlock) (type : TypeTree) → slice_get g.blocks (suc p) ≡ Some c → slice_get c.args i ≡ Some type
+    → slice_get (values_by order g) (length (values_by (take (turn_of order (suc p)) order) g ++ phi_values (suc p) (upto i c))) ≡ Some (Argument (record { 0 = c.number }) i)
+argument_here g form order h p i c type at at' =
+    let a = values_by (take (turn_of order (suc p)) order) g in
     let b = arguments_of (upto i c) in
     let v = Argument (record { 0 = c.number }) i in
     let more = arguments_from c.number (suc i) (drop (suc i) c.args) in
-    let rest = values_from (suc (suc p)) (drop (suc (suc p)) g.blocks) in
-    let whole : values g ≡ (a ++ b) ++ v ∷ ((more ++ result_values c.ops) ++ rest) =
-    values_split g (suc p) c at ∙ ap (λ (vs : List Value). a ++ ((vs ++ result_values c.ops) ++ rest)) (arguments_split c i type at')
+    let rest = values_by (drop (suc (turn_of order (suc p))) order) g in
+    let whole : values_by order g ≡ (a ++ b) ++ v ∷ ((more ++ result_values c.ops) ++ rest) =
+    by_split g form order h (suc p) c at ∙ ap (λ (vs : List Value). a ++ ((vs ++ result_values c.ops) ++ rest)) (arguments_split c i type at')
     ∙ ap (λ (vs : List Value). a ++ (vs ++ rest)) (append_assoc b (v ∷ more) (result_values c.ops)) ∙ ap (λ (vs : List Value). a ++ vs) (append_assoc b (v ∷ (more ++ result_values c.ops)) rest) ∙ sym (append_assoc a b (v ∷ ((more ++ result_values c.ops) ++ rest))) in
     ap (λ (vs : List Value). slice_get vs (length (a ++ b))) whole ∙ at_middle (a ++ b) v ((more ++ result_values c.ops) ++ rest)
 
-seen_more : (g : Func) (j i : ℕ) (c : DialectBlock) (type : TypeTree) → slice_get c.args i ≡ Some type → seen_before g j ++ arguments_of (upto (suc i) c) ≡ (seen_before g j ++ arguments_of (upto i c)) ++ Argument (record { 0 = c.number }) i ∷ []
-seen_more g j i c type at =
-    ap (λ (vs : List Value). seen_before g j ++ vs) (arguments_more c i type at) ∙ sym (append_assoc (seen_before g j) (arguments_of (upto i c)) (Argument (record { 0 = c.number }) i ∷ []))
+seen_more : (seen : List Value) (i : ℕ) (c : DialectBlock) (type : TypeTree) → slice_get c.args i ≡ Some type → seen ++ arguments_of (upto (suc i) c) ≡ (seen ++ arguments_of (upto i c)) ++ Argument (record { 0 = c.number }) i ∷ []
+seen_more seen i c type at =
+    ap (λ (vs : List Value). seen ++ vs) (arguments_more c i type at) ∙ sym (append_assoc seen (arguments_of (upto i c)) (Argument (record { 0 = c.number }) i ∷ []))
 
 -- a block of the context has its number
 pub block_number : (x : ContextData) (t : Task) (j : ℕ) (c : DialectBlock) (b : BlockRef) → IsBlockAt x t j c b → c.number ≡ b.0
@@ -104,15 +107,15 @@ param_more x t c b f m i old new h params lt s counted set =
     let type = item_there c.args i lt in
     let number = block_number x t 0 c b h in
     let typed = argument_type t.source h.task.form 0 i (record { 0 = c.number }) c h.here refl ∙ type.1 in
-    let operand = param_operand t.source h.task.form t.numbers no_entries i (record { 0 = c.number }) (entry_is t.source h.task.form c.number c h.here refl) in
+    let operand = param_operand t.source h.task.form t.numbers h.task.order.once no_entries i (record { 0 = c.number }) (entry_is t.source h.task.form c.number c h.here refl) in
     record {
       is = s.is;
       sound = s.sound;
       block_count = s.block_count;
       inst_count = s.inst_count;
       next = counted ∙ (let e = s.next in let k : old.next + 1 ≡ first_at t.source 0 + suc i = omega (arith, e) in k);
-      known = subst (λ (vs : List Value). AreKnown t.source t.numbers vs new m) (sym (seen_more t.source 0 i c type.0 type.1))
-          (known_set t.source t.numbers (seen_before t.source 0 ++ arguments_of (upto i c)) old new m m (Argument (record { 0 = c.number }) i) (V.Param f i) type.0 s.sound (grows_refl m) typed
+      known = subst (λ (vs : List Value). AreKnown t.source t.numbers vs new m) (sym (seen_more (seen_to t (turn t 0)) i c type.0 type.1))
+          (known_set t.source t.numbers (seen_to t (turn t 0) ++ arguments_of (upto i c)) old new m m (Argument (record { 0 = c.number }) i) (V.Param f i) type.0 s.sound (grows_refl m) typed
           (subst (λ (v : Value). IsSet (found old) (found new) v (V.Param f i)) (same_argument c b i number) set)
           (record {
             typed = params.typed i type.0 type.1;
@@ -146,7 +149,7 @@ module _ (x : ContextData) (t : Task) (p : ℕ) (c : DialectBlock) (b : BlockRef
   insts_same = ap (λ (y : Module). length y.insts) rest1
 
   number_is : phi.0 ≡ number_of g n v
-  number_is = last ∙ insts_same ∙ s.inst_count ∙ sym (number_at g h.task.form n no_entries _ v (argument_here g p i c type h.here at))
+  number_is = last ∙ insts_same ∙ s.inst_count ∙ sym (number_at g h.task.form n h.task.order.once no_entries _ v (argument_here g h.task.form n.order h.task.order.once p i c type h.here at))
 
   result_is : L.result_tree m1 inst ≡ type_of type
   result_is = ap (L.result_tree m1) inst_is ∙ typed.1
@@ -161,9 +164,9 @@ module _ (x : ContextData) (t : Task) (p : ℕ) (c : DialectBlock) (b : BlockRef
       ∙ ap (λ (k : ℕ). phis g n no_entries c.number 0 first (take i c.args) ++ phis g n no_entries c.number k (first + length (take i c.args)) (type ∷ [])) (let e : 0 + length (take i c.args) ≡ i = omega (arith, len) in e)
       ∙ ap (λ (k : ℕ). phis g n no_entries c.number 0 first (take i c.args) ++ phis g n no_entries c.number i (first + k) (type ∷ [])) len
 
-  count_is : length m2.insts ≡ n.inst + length (values_from 0 (take (suc p) g.blocks) ++ phi_values (suc p) (upto (suc i) c))
+  count_is : length m2.insts ≡ n.inst + length (values_to t (turn t (suc p)) ++ phi_values (suc p) (upto (suc i) c))
   count_is =
-      let a = values_from 0 (take (suc p) g.blocks) in
+      let a = values_to t (turn t (suc p)) in
       let e = built_insts m1 m2 target phi name inst built in
       let f = s.inst_count in
       let k : length (a ++ arguments_of (upto (suc i) c)) ≡ length (a ++ arguments_of (upto i c)) + 1 =
@@ -182,18 +185,18 @@ module _ (x : ContextData) (t : Task) (p : ℕ) (c : DialectBlock) (b : BlockRef
   pub phi_more : IsAtArgument t (suc p) c (suc i) new m2
   phi_more =
       let type_is = argument_type g h.task.form (suc p) i (record { 0 = c.number }) c h.here refl ∙ at in
-      let operand = argument_operand g h.task.form n no_entries i (record { 0 = c.number }) (entry_is_not g h.task.form p c.number c h.here refl) in
+      let operand = argument_operand g h.task.form n h.task.order.once no_entries i (record { 0 = c.number }) (entry_is_not g h.task.form p c.number c h.here refl) in
       record {
         is = made ∙ ap (λ (d : ModuleData). with_instruction d target.0 (placed phi name m1 inst)) (data1 ∙ s.is)
-            ∙ data_within t (suc p) c (phis g n no_entries c.number 0 first (take i c.args)) target.0 (placed phi name m1 inst) h.task.blocks (split_at g.blocks (suc p) c h.here).1 here
-            ∙ ap (λ (q : Placed). with_function t.before (function_with g n (blocks_within t (suc p) c (phis g n no_entries c.number 0 first (take i c.args) ++ q ∷ [])))) placed_is
-            ∙ ap (λ (qs : List Placed). with_function t.before (function_with g n (blocks_within t (suc p) c qs))) (sym phis_more);
+            ∙ data_within t (suc p) (phis g n no_entries c.number 0 first (take i c.args)) target.0 (placed phi name m1 inst) h.task.blocks here
+            ∙ ap (λ (q : Placed). with_function t.before (function_with g n (blocks_within t (suc p) (phis g n no_entries c.number 0 first (take i c.args) ++ q ∷ [])))) placed_is
+            ∙ ap (λ (qs : List Placed). with_function t.before (function_with g n (blocks_within t (suc p) qs))) (sym phis_more);
         sound = sound;
         block_count = built_blocks m1 m2 target phi name inst built ∙ ap (λ (y : Module). length y.blocks) rest1 ∙ s.block_count;
         inst_count = count_is;
         next = counted ∙ (let e = s.next in let k : old.next + 1 ≡ first + suc i = omega (arith, e) in k);
-        known = subst (λ (vs : List Value). AreKnown g n vs new m2) (sym (seen_more g (suc p) i c type at))
-            (known_set g n (seen_before g (suc p) ++ arguments_of (upto i c)) old new m m2 v (V.Inst phi) type s.sound grows type_is
+        known = subst (λ (vs : List Value). AreKnown g n vs new m2) (sym (seen_more (seen_to t (turn t (suc p))) i c type at))
+            (known_set g n (seen_to t (turn t (suc p)) ++ arguments_of (upto i c)) old new m m2 v (V.Inst phi) type s.sound grows type_is
             (subst (λ (w : Value). IsSet (found old) (found new) w (V.Inst phi)) (same_argument c b i (block_number x t (suc p) c b h)) set)
             (record {
               typed = subst (HasType m2 (V.Inst phi)) result_is (built_type m1 m2 target phi name inst (R.There ty) built last (ap (result_type m1) inst_is) sound);
@@ -204,7 +207,7 @@ module _ (x : ContextData) (t : Task) (p : ℕ) (c : DialectBlock) (b : BlockRef
 
 -- ---- all arguments
 
-whole : (c : DialectBlock) → upto (length c.args) c ≡ c
+pub whole : (c : DialectBlock) → upto (length c.args) c ≡ c
 whole c = ap (λ (ts : List TypeTree). record c { args = ts }) (take_all (length c.args) c.args (omega arith))
 
 -- with all arguments done, the operations are next
@@ -212,14 +215,14 @@ pub arguments_done : (t : Task) (j : ℕ) (c : DialectBlock) (values' : Values) 
 arguments_done t j c values' m s =
     let first = first_at t.source j in
     record {
-      is = s.is ∙ ap (λ (d : DialectBlock). with_function t.before (function_with t.source t.numbers (blocks_within t j c (block_phis t.source t.numbers no_entries j first d)))) (whole c)
-          ∙ ap (λ (ps : List Placed). with_function t.before (function_with t.source t.numbers (blocks_within t j c ps))) (sym (append-nil (block_phis t.source t.numbers no_entries j first c)));
+      is = s.is ∙ ap (λ (d : DialectBlock). with_function t.before (function_with t.source t.numbers (blocks_within t j (block_phis t.source t.numbers no_entries j first d)))) (whole c)
+          ∙ ap (λ (ps : List Placed). with_function t.before (function_with t.source t.numbers (blocks_within t j ps))) (sym (append-nil (block_phis t.source t.numbers no_entries j first c)));
       sound = s.sound;
       block_count = s.block_count;
-      inst_count = s.inst_count ∙ ap (λ (d : DialectBlock). t.numbers.inst + length (values_from 0 (take j t.source.blocks) ++ phi_values j d)) (whole c)
-          ∙ ap (λ (vs : List Value). t.numbers.inst + length (values_from 0 (take j t.source.blocks) ++ vs)) (sym (append-nil (phi_values j c)));
+      inst_count = s.inst_count ∙ ap (λ (d : DialectBlock). t.numbers.inst + length (values_to t (turn t j) ++ phi_values j d)) (whole c)
+          ∙ ap (λ (vs : List Value). t.numbers.inst + length (values_to t (turn t j) ++ vs)) (sym (append-nil (phi_values j c)));
       next = s.next;
-      known = subst (λ (vs : List Value). AreKnown t.source t.numbers vs values' m) (ap (λ (d : DialectBlock). seen_before t.source j ++ arguments_of d) (whole c) ∙ ap (λ (vs : List Value). seen_before t.source j ++ vs) (sym (append-nil (arguments_of c)))) s.known;
+      known = subst (λ (vs : List Value). AreKnown t.source t.numbers vs values' m) (ap (λ (d : DialectBlock). seen_to t (turn t j) ++ arguments_of d) (whole c) ∙ ap (λ (vs : List Value). seen_to t (turn t j) ++ vs) (sym (append-nil (arguments_of c)))) s.known;
     }
 
 -- ---- the types of arguments, as the context answers them

@@ -1,9 +1,9 @@
 -- An instruction more in a module: what grows, the type of its result, and the data.
-use Rattle.std.proofs.Common.{◌≡◌, ◌<◌, ◌≤◌, ◌⊎◌, inl, inr, ◌+◌, ℕ, suc, nat_eq, List, [], ◌∷◌, ◌++◌, Option, Some, None, All, length, map, take, drop, slice_get, refl, sym, ap, subst, ◌∙◌, arith, eq-eqb, ne_eqb}
+use Rattle.std.proofs.Common.{◌≡◌, ◌<◌, ◌⊎◌, inl, inr, ◌+◌, ℕ, nat_eq, if◌then◌else◌, List, [], ◌∷◌, ◌++◌, Option, Some, None, All, length, map, slice_get, refl, sym, ap, subst, ◌∙◌, arith, ne_eqb}
 use Rattle.std.specs.Option.{option_map, option_map_or}
-use Rattle.std.proofs.lemmas.Bool.{cond-true, cond-false}
-use Rattle.std.proofs.lemmas.List.{append-nil, map_push, map-append, length_push}
-use Rattle.std.proofs.lemmas.List.Elements.{All-nil, All-cons, All-head, All-tail, All-weaker}
+use Rattle.std.proofs.lemmas.Bool.{cond-false}
+use Rattle.std.proofs.lemmas.List.{append-nil, map_push, length_push}
+use Rattle.std.proofs.lemmas.List.Elements.{All-head, All-tail, All-weaker}
 use Rattle.llvm_core.specs.declared.numbers.LLVMType.{LLVMType}
 use Rattle.llvm_core.specs.declared.numbers.LLVMBasicBlock.{LLVMBasicBlock}
 use Rattle.llvm_core.specs.declared.numbers.LLVMInstRef.{LLVMInstRef}
@@ -23,12 +23,11 @@ use Rattle.llvm_core.specs.Data as L
 use Rattle.llvm_core.specs.Data.{IntType, Operand, Placed, Block, Function, ModuleData, trees_of, type_at, instruction_of, result_tree, data_of, with_function, with_instruction, with_instruction_in, AllBlocks}
 use Rattle.llvm_core.proofs.ListLemmas.{length-with_change, slice_get-push}
 use Rattle.llvm_core.proofs.DataLemmas.{int_tree_of}
-use Rattle.dialect_core.specs.Data.{DialectBlock, Func}
-use Rattle.to_llvm_ir.specs.Exported.{number_behind}
-use Rattle.to_llvm_ir.specs.Made.{Numbers, blocks_made, block_made, empty_block, empty_blocks, function_with, no_entries}
+use Rattle.to_llvm_ir.specs.Made.{function_with}
 use Rattle.to_llvm_ir.specs.Growth.{Grows, HasType}
-use Rattle.to_llvm_ir.specs.States.{Task, blocks_within}
+use Rattle.to_llvm_ir.specs.States.{Task, turn, filled_to, blocks_within}
 use Rattle.to_llvm_ir.proofs.GrowthLaws.{grows_inst}
+use Rattle.to_llvm_ir.proofs.FilledLaws.{Contents, with_more, place_more}
 
 -- what `build` says of the module
 abbrev pub IsBuilt : (old new : Module) → LLVMBasicBlock → LLVMInstRef → List ℕ → LLVMInst → Type 0
@@ -95,31 +94,16 @@ functions_other n p (f ∷ fs) h =
     let r = functions_other n p fs (All-tail (λ (f : Function). All (λ (b : Block). b.number ≡ n → ⊥) f.blocks) f fs h) in
     cc
 
-made_other : (g : Func) (n : Numbers) (m p k : ℕ) (cs : List DialectBlock) → n.block + (p + length cs) ≤ m → All (λ (b : Block). b.number ≡ m → ⊥) (blocks_made g n no_entries p k cs)
-made_other g n m p k [] le = All-nil (λ (b : Block). b.number ≡ m → ⊥)
-made_other g n m p k (c ∷ cs) le = All-cons (λ (b : Block). b.number ≡ m → ⊥) (block_made g n no_entries p k c) (blocks_made g n no_entries (suc p) (number_behind (k + length c.args) c.ops) cs) (λ e. omega (arith, le, e)) (made_other g n m (suc p) (number_behind (k + length c.args) c.ops) cs (omega (arith, le)))
-
-empty_other : (g : Func) (n : Numbers) (m p : ℕ) (cs : List DialectBlock) → m < n.block + p → All (λ (b : Block). b.number ≡ m → ⊥) (empty_blocks g n p cs)
-empty_other g n m p [] lt = All-nil (λ (b : Block). b.number ≡ m → ⊥)
-empty_other g n m p (c ∷ cs) lt = All-cons (λ (b : Block). b.number ≡ m → ⊥) (empty_block g n p c) (empty_blocks g n (suc p) cs) (λ e. omega (arith, lt, e)) (empty_other g n m (suc p) cs (omega (arith, lt)))
-
 -- the block at the place has the instruction last
-pub data_within : (t : Task) (j : ℕ) (c : DialectBlock) (ps : List Placed) (m : ℕ) (p : Placed) → AllBlocks (λ (b : Block). b.number < t.numbers.block) t.before → length (take j t.source.blocks) ≡ j → m ≡ t.numbers.block + j
-    → with_instruction (with_function t.before (function_with t.source t.numbers (blocks_within t j c ps))) m p ≡ with_function t.before (function_with t.source t.numbers (blocks_within t j c (ps ++ p ∷ [])))
-data_within t j c ps m p before len is =
+pub data_within : (t : Task) (j : ℕ) (ps : List Placed) (m : ℕ) (p : Placed) → AllBlocks (λ (b : Block). b.number < t.numbers.block) t.before → m ≡ t.numbers.block + j
+    → with_instruction (with_function t.before (function_with t.source t.numbers (blocks_within t j ps))) m p ≡ with_function t.before (function_with t.source t.numbers (blocks_within t j (ps ++ p ∷ [])))
+data_within t j ps m p before is =
     let h : Function → Function = λ f. record f { blocks = map (with_instruction_in m p) f.blocks } in
-    let here : Block = record (empty_block t.source t.numbers j c) { instructions = ps } in
-    let front = blocks_made t.source t.numbers no_entries 0 0 (take j t.source.blocks) in
-    let back = empty_blocks t.source t.numbers (suc j) (drop (suc j) t.source.blocks) in
+    let f : Contents = filled_to t (turn t j) in
     let others : All (λ (f : Function). All (λ (b : Block). b.number ≡ m → ⊥) f.blocks) t.before.functions =
     All-weaker (λ (f : Function). All (λ (b : Block). b.number < t.numbers.block) f.blocks) (λ (f : Function). All (λ (b : Block). b.number ≡ m → ⊥) f.blocks) (λ f all. All-weaker (λ (b : Block). b.number < t.numbers.block) (λ (b : Block). b.number ≡ m → ⊥) (λ b lt e. omega (arith, lt, e, is)) f.blocks all) t.before.functions before in
-    let one : with_instruction_in m p here ≡ record (empty_block t.source t.numbers j c) { instructions = ps ++ p ∷ [] } =
-    cond-true (nat_eq here.number m) (record here { instructions = ps ++ p ∷ [] }) here (eq-eqb here.number m (sym is)) in
-    let e = block_other m p front (made_other t.source t.numbers m 0 0 (take j t.source.blocks) (omega (arith, len, is))) in
-    let f = block_other m p back (empty_other t.source t.numbers m (suc j) (drop (suc j) t.source.blocks) (omega (arith, is))) in
-    let blocks : map (with_instruction_in m p) (front ++ here ∷ back) ≡ blocks_within t j c (ps ++ p ∷ []) =
-    map-append (with_instruction_in m p) front (here ∷ back) ∙ ap (λ (bs : List Block). bs ++ with_instruction_in m p here ∷ map (with_instruction_in m p) back) e
-    ∙ ap (λ (b : Block). front ++ b ∷ map (with_instruction_in m p) back) one ∙ ap (λ (bs : List Block). front ++ (record (empty_block t.source t.numbers j c) { instructions = ps ++ p ∷ [] }) ∷ bs) f in
-    let last : h (function_with t.source t.numbers (blocks_within t j c ps)) ≡ function_with t.source t.numbers (blocks_within t j c (ps ++ p ∷ [])) = ap (function_with t.source t.numbers) blocks in
-    let fs = map_push h t.before.functions (function_with t.source t.numbers (blocks_within t j c ps)) ∙ ap (λ (xs : List Function). xs ++ h (function_with t.source t.numbers (blocks_within t j c ps)) ∷ []) (functions_other m p t.before.functions others) ∙ ap (λ (x : Function). t.before.functions ++ x ∷ []) last in
+    let blocks : map (with_instruction_in m p) (blocks_within t j ps) ≡ blocks_within t j (ps ++ p ∷ []) =
+    with_more t.source t.numbers (λ q c. if nat_eq q j then ps else f q c) (λ q c. if nat_eq q j then ps ++ p ∷ [] else f q c) m p 0 t.source.blocks (place_more t.source t.numbers f j m ps p is) in
+    let last : h (function_with t.source t.numbers (blocks_within t j ps)) ≡ function_with t.source t.numbers (blocks_within t j (ps ++ p ∷ [])) = ap (function_with t.source t.numbers) blocks in
+    let fs = map_push h t.before.functions (function_with t.source t.numbers (blocks_within t j ps)) ∙ ap (λ (xs : List Function). xs ++ h (function_with t.source t.numbers (blocks_within t j ps)) ∷ []) (functions_other m p t.before.functions others) ∙ ap (λ (x : Function). t.before.functions ++ x ∷ []) last in
     ap (λ (xs : List Function). record t.before { functions = xs }) fs

@@ -1,9 +1,10 @@
 -- The entries of phis and the edges of the function that is made: one for each edge, in order, and where each comes from.
-use Rattle.std.proofs.Common.{◌≡◌, ◌<◌, ◌⊎◌, inl, inr, ◌+◌, ℕ, zero, suc, Bool, true, false, nat_eq, if◌then◌else◌, List, [], ◌∷◌, ◌++◌, Option, Some, None, length, map, filter, slice_get, refl, sym, ap, ◌∙◌, arith, ⊎_elim, eq-eqb, ne_eqb, eqb-true, length-append}
-use Rattle.std.specs.List.{flat_map}
+use Rattle.std.proofs.Common.{◌≡◌, ◌<◌, ◌⊎◌, inl, inr, ◌+◌, ℕ, zero, suc, Bool, true, false, nat_eq, if◌then◌else◌, List, [], ◌∷◌, ◌++◌, Option, Some, None, length, map, filter, take, slice_get, refl, sym, ap, ◌∙◌, arith, ⊎_elim, eq-eqb, ne_eqb, eqb-true, length-append}
+use Rattle.std.specs.List.{flat_map, filter_map, cons_option}
+use Rattle.std.specs.Option.{option_map_or}
 use Rattle.std.proofs.lemmas.Option.{same_Some, none-some}
 use Rattle.std.proofs.lemmas.Bool.{cond-true, cond-false, cases_eq}
-use Rattle.std.proofs.lemmas.List.{map-append}
+use Rattle.std.proofs.lemmas.List.{map-append, append-nil}
 use Rattle.std.proofs.lemmas.List.Elements.{filter-append}
 use Rattle.llvm_core.specs.Edges.{count_of}
 use Rattle.llvm_core.specs.Data.{Operand, Block}
@@ -14,10 +15,11 @@ use Rattle.dialect_core.specs.declared.ops.Value.TheVariants.{Argument}
 use Rattle.dialect_core.specs.declared.ops.Successor.{Successor}
 use Rattle.dialect_core.specs.Data.{DialectBlock, Func}
 use Rattle.dialect_core.specs.Form.{IsFormFunc, edges_of}
-use Rattle.to_llvm_ir.specs.Exported.{number_behind, edge_sources}
-use Rattle.to_llvm_ir.specs.Made.{Numbers, operand_for, block_made, blocks_made, passed_to, passed, entry_with, entries_from}
+use Rattle.to_llvm_ir.specs.Exported.{edge_sources}
+use Rattle.to_llvm_ir.specs.Made.{Numbers, operand_for, block_made, blocks_made, passed_to, passed, entry_with, block_passes, entries_from, number_past}
 use Rattle.to_llvm_ir.proofs.ListLaws.{item_there, append_cases}
-use Rattle.to_llvm_ir.proofs.EdgeLaws.{target_for, block_leads}
+use Rattle.to_llvm_ir.proofs.TurnLaws.{flat_from}
+use Rattle.to_llvm_ir.proofs.EdgeLaws.{target_for, block_leads, made_at}
 
 count_append : (m : ℕ) (xs ys : List ℕ) → count_of m (xs ++ ys) ≡ count_of m xs + count_of m ys
 count_append m xs ys = ap (λ (zs : List ℕ). length zs) (filter-append (nat_eq m) xs ys) ∙ length-append (filter (nat_eq m) xs) (filter (nat_eq m) ys)
@@ -85,26 +87,34 @@ module _ (g : Func) (n : Numbers) where
       (one_edge b T i q s (h 0 s refl)) (edges_sources b T i q ss (λ k t at. h (suc k) t at))
       ∙ sym (ap (each_from q) (filter-append (nat_eq T) (target_for g n s ∷ []) (map (target_for g n) ss)) ∙ map-append (λ (t : ℕ). q) (filter (nat_eq T) (target_for g n s ∷ [])) (filter (nat_eq T) (map (target_for g n) ss)))
 
-  pub entries_sources : (form : IsFormFunc g) (given : Value → List (Operand × ℕ)) (b : BlockRef) (T i place k : ℕ) (cs : List DialectBlock)
-      → ((j : ℕ) (c : DialectBlock) → slice_get cs j ≡ Some c → (l : ℕ) × (slice_get g.blocks l ≡ Some c))
-      → ((j l : ℕ) (c : DialectBlock) (s : Successor) → slice_get cs j ≡ Some c → slice_get (edges_of c) l ≡ Some s → LeadsTo g n b T i s)
-      → sources (entries_from g n place cs (Argument b i)) ≡ edge_sources T (blocks_made g n given place k cs)
-  entries_sources form given b T i place k [] there h = refl
-  entries_sources form given b T i place k (c ∷ cs) there h =
-      let q = n.block + place in
-      let l = there 0 c refl in
-      map-append (λ (e : Operand × ℕ). e.1) (passed g n q (edges_of c) (Argument b i)) (entries_from g n (suc place) cs (Argument b i))
-      ∙ both_parts (sources (passed g n q (edges_of c) (Argument b i))) (sources (entries_from g n (suc place) cs (Argument b i)))
-      (each_from q (filter (nat_eq T) (F.targets_of (block_made g n given place k c)))) (edge_sources T (blocks_made g n given (suc place) (number_behind (k + length c.args) c.ops) cs))
-      (edges_sources b T i q (edges_of c) (λ m s at. h 0 m c s refl at) ∙ ap (λ (ts : List ℕ). each_from q (filter (nat_eq T) ts)) (sym (block_leads g n form given place k l.0 c l.1)))
-      (entries_sources form given b T i (suc place) (number_behind (k + length c.args) c.ops) cs (λ j d at. there (suc j) d at) (λ j m d s at at'. h (suc j) m d s at at'))
+  pub entries_sources : (form : IsFormFunc g) (given : Value → List (Operand × ℕ)) (b : BlockRef) (T i : ℕ) (ps : List ℕ) → ((j p : ℕ) → slice_get ps j ≡ Some p → p < length g.blocks)
+      → ((j l : ℕ) (c : DialectBlock) (s : Successor) → slice_get g.blocks j ≡ Some c → slice_get (edges_of c) l ≡ Some s → LeadsTo g n b T i s)
+      → sources (entries_from g n ps (Argument b i)) ≡ edge_sources T (filter_map (slice_get (blocks_made g n given 0 0 g.blocks)) ps)
+  entries_sources form given b T i [] there h = refl
+  entries_sources form given b T i (p ∷ ps) there h =
+      let made = blocks_made g n given 0 0 g.blocks in
+      let c = item_there g.blocks p (there 0 p refl) in
+      let q = n.block + p in
+      let k = number_past 0 (take p g.blocks) in
+      let block = block_made g n given (0 + p) k c.0 in
+      let z : n.block + (0 + p) ≡ q = omega arith in
+      let here : sources (block_passes g n (Argument b i) p) ≡ edge_sources T (block ∷ []) =
+      ap (λ (o : Option DialectBlock). sources (option_map_or (λ (x : DialectBlock). passed g n q (edges_of x) (Argument b i)) o [])) c.1
+      ∙ edges_sources b T i q (edges_of c.0) (λ m s at. h p m c.0 s c.1 at)
+      ∙ ap (λ (ts : List ℕ). each_from q (filter (nat_eq T) ts)) (sym (block_leads g n form given (0 + p) k p c.0 c.1))
+      ∙ ap (λ (r : ℕ). each_from r (filter (nat_eq T) (F.targets_of block))) (sym z) ∙ sym (append-nil (each_from (n.block + (0 + p)) (filter (nat_eq T) (F.targets_of block)))) in
+      map-append (λ (e : Operand × ℕ). e.1) (block_passes g n (Argument b i) p) (entries_from g n ps (Argument b i))
+      ∙ both_parts (sources (block_passes g n (Argument b i) p)) (sources (entries_from g n ps (Argument b i))) (edge_sources T (block ∷ [])) (edge_sources T (filter_map (slice_get made) ps))
+      here (entries_sources form given b T i ps (λ j r at. there (suc j) r at) h)
+      ∙ sym (ap (λ (o : Option Block). edge_sources T (cons_option o (filter_map (slice_get made) ps))) (made_at g n given 0 0 g.blocks p c.0 c.1)
+      ∙ ap (λ (xs : List ℕ). xs ++ edge_sources T (filter_map (slice_get made) ps)) (sym (append-nil (each_from (n.block + (0 + p)) (filter (nat_eq T) (F.targets_of block))))))
 
   -- ---- where an entry comes from
 
-  pub record ComesBy (place : ℕ) (cs : List DialectBlock) (b : BlockRef) (i : ℕ) (x : Operand × ℕ) : Type 0 where
+  pub record ComesBy (b : BlockRef) (i : ℕ) (x : Operand × ℕ) : Type 0 where
     pub at : ℕ
     pub block : DialectBlock
-    pub here : slice_get cs at ≡ Some block
+    pub here : slice_get g.blocks at ≡ Some block
     pub edge_at : ℕ
     pub edge : Successor
     pub there : slice_get (edges_of block) edge_at ≡ Some edge
@@ -112,7 +122,7 @@ module _ (g : Func) (n : Numbers) where
     pub value : Value
     pub passes : slice_get edge.args i ≡ Some value
     pub is : x.0 ≡ operand_for g n value
-    pub source : x.1 ≡ n.block + (place + at)
+    pub source : x.1 ≡ n.block + at
 
   -- an edge among some
   pub record PassedBy (q : ℕ) (ss : List Successor) (b : BlockRef) (i : ℕ) (x : Operand × ℕ) : Type 0 where
@@ -144,11 +154,13 @@ module _ (g : Func) (n : Numbers) where
       (λ later. let r = passed_by q ss b i later.0 x later.2 in record { at = suc r.at; edge = r.edge; here = r.here; to = r.to; value = r.value; passes = r.passes; is = r.is; source = r.source })
       (append_cases (passed_to g n s.block s.args q (Argument b i)) (passed g n q ss (Argument b i)) l x at)
 
-  pub comes_by : (place : ℕ) (cs : List DialectBlock) (b : BlockRef) (i l : ℕ) (x : Operand × ℕ) → slice_get (entries_from g n place cs (Argument b i)) l ≡ Some x → ComesBy place cs b i x
-  comes_by place [] b i l x at = absurd (none-some x at)
-  comes_by place (c ∷ cs) b i l x at = ⊎_elim
-      (λ here. let r = passed_by (n.block + place) (edges_of c) b i l x here in record { at = 0; block = c; here = refl; edge_at = r.at; edge = r.edge; there = r.here; to = r.to; value = r.value; passes = r.passes; is = r.is; source = r.source ∙ (let e : n.block + place ≡ n.block + (place + 0) = omega arith in e) })
-      (λ later.
-      let r = comes_by (suc place) cs b i later.0 x later.2 in
-      record { at = suc r.at; block = r.block; here = r.here; edge_at = r.edge_at; edge = r.edge; there = r.there; to = r.to; value = r.value; passes = r.passes; is = r.is; source = r.source ∙ (let e : n.block + (suc place + r.at) ≡ n.block + (place + suc r.at) = omega arith in e) })
-      (append_cases (passed g n (n.block + place) (edges_of c) (Argument b i)) (entries_from g n (suc place) cs (Argument b i)) l x at)
+  pub comes_by : (ps : List ℕ) (b : BlockRef) (i l : ℕ) (x : Operand × ℕ) → slice_get (entries_from g n ps (Argument b i)) l ≡ Some x → ComesBy b i x
+  comes_by ps b i l x at =
+      let r = flat_from (block_passes g n (Argument b i)) ps l x at in
+      by r.2 (slice_get g.blocks r.2) refl r.1 r.4
+    where
+      by : (p : ℕ) (o : Option DialectBlock) → slice_get g.blocks p ≡ o → (m : ℕ) → slice_get (option_map_or (λ (c : DialectBlock). passed g n (n.block + p) (edges_of c) (Argument b i)) o []) m ≡ Some x → ComesBy b i x
+      by p None e m at = absurd (none-some x at)
+      by p (Some c) e m at =
+          let r = passed_by (n.block + p) (edges_of c) b i m x at in
+          record { at = p; block = c; here = e; edge_at = r.at; edge = r.edge; there = r.here; to = r.to; value = r.value; passes = r.passes; is = r.is; source = r.source }

@@ -1,9 +1,9 @@
 -- Blocks of the function that is made, by their places and numbers, and the edges between them.
 use Rattle.std.proofs.Common.{◌≡◌, ◌+◌, ℕ, zero, suc, Bool, true, false, nat_eq, if◌then◌else◌, List, [], ◌∷◌, ◌++◌, Option, Some, None, All, length, map, take, slice_get, refl, sym, ap, subst, ◌∙◌, arith, ⊎_elim, eq-eqb, ne_eqb, eqb-true}
 use Rattle.std.specs.List.{flat_map, find}
-use Rattle.std.specs.Option.{option_or}
+use Rattle.std.specs.Option.{option_map_or, option_or}
 use Rattle.std.proofs.lemmas.Option.{same_Some, none-some}
-use Rattle.std.proofs.lemmas.Bool.{cond-true, cond-false}
+use Rattle.std.proofs.lemmas.Bool.{cond-true, cond-false, cases_eq}
 use Rattle.std.proofs.lemmas.List.{map-append}
 use Rattle.std.proofs.lemmas.List.Concat.{flat_map-append}
 use Rattle.std.proofs.lemmas.List.Folds.{find-append}
@@ -17,7 +17,7 @@ use Rattle.dialect_core.specs.declared.ops.Successor.{Successor}
 use Rattle.dialect_core.specs.Data.{DialectOp, DialectBlock, Func, Kind, ConstantOp, AddOp, ICmpOp, BrOp, CondBrOp, ReturnOp, UnreachableOp}
 use Rattle.dialect_core.specs.Form.{IsFormFunc, IsFormKind, IsFormEdge, FitsTarget, edges_of, is_constant, is_constant_kind}
 use Rattle.to_llvm_ir.specs.Exported.{number_after, number_behind}
-use Rattle.to_llvm_ir.specs.Made.{Numbers, block_for, operand_for, target_at, instruction_for, inst, insts, phis, block_phis, block_made, blocks_made, passed_to, passed, entry_with, entries_from, number_past}
+use Rattle.to_llvm_ir.specs.Made.{Numbers, block_for, operand_for, target_at, instruction_for, inst, insts, phis, block_phis, block_made, blocks_made, passed_to, passed, entry_with, block_passes, entries_from, number_past}
 use Rattle.to_llvm_ir.specs.Links.{HasTarget}
 use Rattle.to_llvm_ir.proofs.ListLaws.{AreNumbered, all_at, all_from, append_cases, at_behind}
 use Rattle.to_llvm_ir.proofs.LookupLaws.{op_form}
@@ -43,6 +43,10 @@ made_from g n given p k cs j b at = by (slice_get cs j) refl
     by : (o : Option DialectBlock) → slice_get cs j ≡ o → (c : DialectBlock) × (slice_get cs j ≡ Some c) × (b ≡ block_made g n given (p + j) (number_past k (take j cs)) c)
     by None e = absurd (none-some b (sym (made_none g n given p k cs j e) ∙ at))
     by (Some c) e = (c, e, same_Some b _ (sym at ∙ made_at g n given p k cs j c e))
+
+pub blocks_count : (g : Func) (n : Numbers) (given : Value → List (Operand × ℕ)) (p k : ℕ) (cs : List DialectBlock) → length (blocks_made g n given p k cs) ≡ length cs
+blocks_count g n given p k [] = refl
+blocks_count g n given p k (c ∷ cs) = ap suc (blocks_count g n given (suc p) (number_behind (k + length c.args) c.ops) cs)
 
 -- numbers of blocks count on
 pub made_numbered : (g : Func) (n : Numbers) (given : Value → List (Operand × ℕ)) (p k : ℕ) (cs : List DialectBlock) → AreNumbered (λ (b : Block). b.number) (blocks_made g n given p k cs)
@@ -206,19 +210,32 @@ module _ (g : Func) (n : Numbers) where
           later r.0 r.1
 
   -- of all entries of a phi, the first that is for the block
-  pub first_entry : (place : ℕ) (cs : List DialectBlock) (j : ℕ) (c : DialectBlock) (from i : ℕ) (b : BlockRef) (v : Value) (vs : List Value) (k : ℕ) (s : Successor) → slice_get cs j ≡ Some c → from ≡ n.block + (place + j)
+  pub first_entry : (ps : List ℕ) (m j : ℕ) (c : DialectBlock) (from i : ℕ) (b : BlockRef) (v : Value) (vs : List Value) (k : ℕ) (s : Successor) → slice_get ps m ≡ Some j → slice_get g.blocks j ≡ Some c → from ≡ n.block + j
       → slice_get (edges_of c) k ≡ Some s → s.block.0 ≡ b.0 → ((l : ℕ) (t : Successor) → slice_get (edges_of c) l ≡ Some t → t.block.0 ≡ b.0 → t.args ≡ vs) → slice_get vs i ≡ Some v
-      → find (is_from from) (entries_from g n place cs (Argument b i)) ≡ Some (operand_for g n v, from)
-  first_entry place [] j c from i b v vs k s at is at' to same passes = absurd (none-some c at)
-  first_entry place (d ∷ cs) zero c from i b v vs k s at is at' to same passes =
-      let e : n.block + place ≡ from = omega (arith, is) in
-      let one : find (is_from from) (passed g n (n.block + place) (edges_of d) (Argument b i)) ≡ Some (operand_for g n v, from) =
-      ap (λ (x : DialectBlock). find (is_from from) (passed g n (n.block + place) (edges_of x) (Argument b i))) (same_Some d c at)
-      ∙ ap (λ (p : ℕ). find (is_from from) (passed g n p (edges_of c) (Argument b i))) e ∙ first_edge (edges_of c) from i b v vs k s at' to same passes in
-      find-append (is_from from) (passed g n (n.block + place) (edges_of d) (Argument b i)) (entries_from g n (suc place) cs (Argument b i))
-      ∙ ap (λ (o : Option (Operand × ℕ)). option_or o (find (is_from from) (entries_from g n (suc place) cs (Argument b i)))) one
-  first_entry place (d ∷ cs) (suc j) c from i b v vs k s at is at' to same passes =
-      let ne : n.block + place ≡ from → ⊥ = λ e. omega (arith, is, e) in
-      find-append (is_from from) (passed g n (n.block + place) (edges_of d) (Argument b i)) (entries_from g n (suc place) cs (Argument b i))
-      ∙ ap (λ (o : Option (Operand × ℕ)). option_or o (find (is_from from) (entries_from g n (suc place) cs (Argument b i)))) (other_edges (edges_of d) (n.block + place) from (Argument b i) ne)
-      ∙ first_entry (suc place) cs j c from i b v vs k s at (is ∙ (let e : n.block + (place + suc j) ≡ n.block + (suc place + j) = omega arith in e)) at' to same passes
+      → find (is_from from) (entries_from g n ps (Argument b i)) ≡ Some (operand_for g n v, from)
+  first_entry [] m j c from i b v vs k s named at is at' to same passes = absurd (none-some j named)
+  first_entry (p ∷ ps) m j c from i b v vs k s named at is at' to same passes =
+      find-append (is_from from) (block_passes g n (Argument b i) p) (entries_from g n ps (Argument b i))
+      ∙ ⊎_elim here (λ ne. later (λ l named'. first_entry ps l j c from i b v vs k s named' at is at' to same passes) ne) (cases_eq p j)
+    where
+      here : p ≡ j → option_or (find (is_from from) (block_passes g n (Argument b i) p)) (find (is_from from) (entries_from g n ps (Argument b i))) ≡ Some (operand_for g n v, from)
+      here e =
+          let one : find (is_from from) (block_passes g n (Argument b i) p) ≡ Some (operand_for g n v, from) =
+          ap (λ (q : ℕ). find (is_from from) (block_passes g n (Argument b i) q)) e
+          ∙ ap (λ (o : Option DialectBlock). find (is_from from) (option_map_or (λ (x : DialectBlock). passed g n (n.block + j) (edges_of x) (Argument b i)) o [])) at
+          ∙ ap (λ (q : ℕ). find (is_from from) (passed g n q (edges_of c) (Argument b i))) (sym is) ∙ first_edge (edges_of c) from i b v vs k s at' to same passes in
+          ap (λ (o : Option (Operand × ℕ)). option_or o (find (is_from from) (entries_from g n ps (Argument b i)))) one
+
+      other : (o : Option DialectBlock) → (n.block + p ≡ from → ⊥) → find (is_from from) (option_map_or (λ (x : DialectBlock). passed g n (n.block + p) (edges_of x) (Argument b i)) o []) ≡ None
+      other None ne = refl
+      other (Some x) ne = other_edges (edges_of x) (n.block + p) from (Argument b i) ne
+
+      behind : (m : ℕ) → slice_get (p ∷ ps) m ≡ Some j → (p ≡ j → ⊥) → (l : ℕ) × (slice_get ps l ≡ Some j)
+      behind zero e ne = absurd (ne (same_Some p j e))
+      behind (suc l) e ne = (l, e)
+
+      later : ((l : ℕ) → slice_get ps l ≡ Some j → find (is_from from) (entries_from g n ps (Argument b i)) ≡ Some (operand_for g n v, from)) → (p ≡ j → ⊥) → option_or (find (is_from from) (block_passes g n (Argument b i) p)) (find (is_from from) (entries_from g n ps (Argument b i))) ≡ Some (operand_for g n v, from)
+      later rest ne =
+          let l = behind m named ne in
+          ap (λ (o : Option (Operand × ℕ)). option_or o (find (is_from from) (entries_from g n ps (Argument b i)))) (other (slice_get g.blocks p) (λ e. ne (omega (arith, e, is))))
+          ∙ rest l.0 l.1

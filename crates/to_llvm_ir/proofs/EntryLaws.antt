@@ -19,6 +19,7 @@ use Rattle.llvm_core.specs.Data as L
 use Rattle.llvm_core.specs.Data.{Operand, Placed, Block, Function, ModuleData, data_of, trees_of, operand_of, with_function, with_entry, with_change_of, with_changed, AllPlaced}
 use Rattle.llvm_core.proofs.ListLemmas.{length-with_change}
 use Rattle.dialect_types.specs.Trees.{TypeTree}
+use Rattle.block_order.specs.Order.{IsOrder}
 use Rattle.dialect_core.specs.declared.ops.Value.{Value}
 use Rattle.dialect_core.specs.declared.ops.Value.TheVariants.{Result, Argument}
 use Rattle.dialect_core.specs.Data.{DialectOp, DialectBlock, Func}
@@ -27,12 +28,13 @@ use Rattle.meaning.specs.Dialect.{type_of, same_value}
 use Rattle.meaning.proofs.SameValues.{same_value-Decides}
 use Rattle.to_llvm_ir.specs.declared.values.Values.{Values}
 use Rattle.to_llvm_ir.specs.Exported.{value_name, number_after, number_behind}
-use Rattle.to_llvm_ir.specs.Made.{Numbers, result, arguments_of, values, number_of, operand_for, inst, insts, phis, block_phis, block_made, blocks_made, function_with, no_entries}
+use Rattle.to_llvm_ir.specs.Made.{Numbers, result, arguments_of, values_by, number_of, operand_for, inst, insts, phis, block_phis, block_made, blocks_made, function_with, no_entries}
 use Rattle.to_llvm_ir.specs.States.{Task, IsLinking, IsKnown, IsArgument, Has, all_values, found}
 use Rattle.to_llvm_ir.specs.Links.{Given, IsTypedValue, IsEntryNext}
 use Rattle.to_llvm_ir.proofs.GrowthLaws.{grows_entry}
 use Rattle.to_llvm_ir.proofs.KnownLaws.{has_left, has_right, has_flat, has_argument, has_result, all_known}
-use Rattle.to_llvm_ir.proofs.LookupLaws.{argument_among, result_among, argument_of, result_of, entry_is_not}
+use Rattle.to_llvm_ir.proofs.TurnLaws.{argument_among, result_among, values_by_from}
+use Rattle.to_llvm_ir.proofs.LookupLaws.{argument_of, result_of, entry_is_not}
 use Rattle.to_llvm_ir.proofs.PlaceLaws.{comes_from}
 use Rattle.to_llvm_ir.proofs.PlacedLaws.{number_at, argument_operand}
 
@@ -49,25 +51,25 @@ adding m o p = with_change_of m (λ i. with_entry i o p)
 abbrev pub adding_in : ℕ → Operand → ℕ → Block → Block
 adding_in m o p b = record b { instructions = map (adding m o p) b.instructions }
 
-module _ (g : Func) (form : IsFormFunc g) (n : Numbers) (given : Given) (v : Value) (place : ℕ) (at : slice_get (values g) place ≡ Some v) (is_argument : IsArgument v) (m : ℕ) (number : m ≡ number_of g n v) (o : Operand) (p : ℕ) where
+module _ (g : Func) (form : IsFormFunc g) (n : Numbers) (order : IsOrder (length g.blocks) n.order) (given : Given) (v : Value) (place : ℕ) (at : slice_get (values_by n.order g) place ≡ Some v) (is_argument : IsArgument v) (m : ℕ) (number : m ≡ number_of g n v) (o : Operand) (p : ℕ) where
   abbrev new : Given
   new = giving given v (o, p)
 
   m_is : m ≡ n.inst + place
-  m_is = number ∙ number_at g form n given place v at
+  m_is = number ∙ number_at g form n order given place v at
 
   -- of the values, only v has its number
-  one_number : (i : ℕ) (w : Value) → slice_get (values g) i ≡ Some w → number_of g n w ≡ m → v ≡ w
+  one_number : (i : ℕ) (w : Value) → slice_get (values_by n.order g) i ≡ Some w → number_of g n w ≡ m → v ≡ w
   one_number i w at' e =
-      let a = number_at g form n given i w at' in
+      let a = number_at g form n order given i w at' in
       let b = m_is in
       let same : place ≡ i = omega (arith, a, b, e) in
-      same_Some v w (sym at ∙ ap (slice_get (values g)) same ∙ at')
+      same_Some v w (sym at ∙ ap (slice_get (values_by n.order g)) same ∙ at')
 
   abbrev phi_of : Value → List ℕ → L.TypeTree → Placed
   phi_of w name type = record { number = number_of g n w; name = name; type = type; instruction = L.Phi (given w) }
 
-  phi_changed : (w : Value) (name : List ℕ) (type : L.TypeTree) (i : ℕ) → slice_get (values g) i ≡ Some w
+  phi_changed : (w : Value) (name : List ℕ) (type : L.TypeTree) (i : ℕ) → slice_get (values_by n.order g) i ≡ Some w
       → adding m o p (record { number = number_of g n w; name = name; type = type; instruction = L.Phi (given w) }) ≡ record { number = number_of g n w; name = name; type = type; instruction = L.Phi (new w) }
   phi_changed w name type i at' = by (nat_eq (number_of g n w) m) refl
     where
@@ -85,11 +87,11 @@ module _ (g : Func) (form : IsFormFunc g) (n : Numbers) (given : Given) (v : Val
           cond-false (nat_eq (number_of g n w) m) (record (phi_of w name type) { instruction = L.Phi (given w ++ (o, p) ∷ []) }) (phi_of w name type) e
           ∙ ap (λ (es : List (Operand × ℕ)). record (phi_of w name type) { instruction = L.Phi es }) (sym (cond-false (same_value v w) (given w ++ (o, p) ∷ []) (given w) ne))
 
-  phis_changed : (b i k : ℕ) (ts : List TypeTree) → ((j : ℕ) (t : TypeTree) → slice_get ts j ≡ Some t → (x : ℕ) × (slice_get (values g) x ≡ Some (Argument (record { 0 = b }) (i + j)))) → map (adding m o p) (phis g n given b i k ts) ≡ phis g n new b i k ts
+  phis_changed : (b i k : ℕ) (ts : List TypeTree) → ((j : ℕ) (t : TypeTree) → slice_get ts j ≡ Some t → (x : ℕ) × (slice_get (values_by n.order g) x ≡ Some (Argument (record { 0 = b }) (i + j)))) → map (adding m o p) (phis g n given b i k ts) ≡ phis g n new b i k ts
   phis_changed b i k [] h = refl
   phis_changed b i k (t ∷ ts) h =
       let x = h 0 t refl in
-      let here : slice_get (values g) x.0 ≡ Some (Argument (record { 0 = b }) i) = x.1 ∙ ap (λ (q : ℕ). Some (Argument (record { 0 = b }) q)) (let e : i + 0 ≡ i = omega arith in e) in
+      let here : slice_get (values_by n.order g) x.0 ≡ Some (Argument (record { 0 = b }) i) = x.1 ∙ ap (λ (q : ℕ). Some (Argument (record { 0 = b }) q)) (let e : i + 0 ≡ i = omega arith in e) in
       let one = phi_changed (Argument (record { 0 = b }) i) (value_name None k) (type_of t) x.0 here in
       let rest = phis_changed b (suc i) (k + 1) ts (λ j u at'. let y = h (suc j) u at' in (y.0, y.1 ∙ ap (λ (q : ℕ). Some (Argument (record { 0 = b }) q)) (let e : i + suc j ≡ suc i + j = omega arith in e))) in
       ap (λ (q : Placed). q ∷ map (adding m o p) (phis g n given b (suc i) (k + 1) ts)) one
@@ -98,7 +100,7 @@ module _ (g : Func) (form : IsFormFunc g) (n : Numbers) (given : Given) (v : Val
   no_result : (x : DialectOp) → v ≡ result x → ⊥
   no_result x e = subst IsArgument e is_argument
 
-  insts_changed : (k : ℕ) (os : List DialectOp) → ((i : ℕ) (x : DialectOp) → slice_get os i ≡ Some x → is_constant x ≡ false → (j : ℕ) × (slice_get (values g) j ≡ Some (result x))) → map (adding m o p) (insts g n k os) ≡ insts g n k os
+  insts_changed : (k : ℕ) (os : List DialectOp) → ((i : ℕ) (x : DialectOp) → slice_get os i ≡ Some x → is_constant x ≡ false → (j : ℕ) × (slice_get (values_by n.order g) j ≡ Some (result x))) → map (adding m o p) (insts g n k os) ≡ insts g n k os
   insts_changed k [] h = refl
   insts_changed k (x ∷ os) h = by (is_constant x) refl (insts_changed (number_after x.result k) os (λ i y at'. h (suc i) y at'))
     where
@@ -116,11 +118,11 @@ module _ (g : Func) (form : IsFormFunc g) (n : Numbers) (given : Given) (v : Val
       ap (λ (ps : List Placed). record (block_made g n given q k c) { instructions = ps })
       (map-append (adding m o p) (block_phis g n given q k c) (insts g n (k + length c.args) c.ops)
       ∙ ap (λ (ps : List Placed). ps ++ map (adding m o p) (insts g n (k + length c.args) c.ops)) (front q here)
-      ∙ ap (λ (ps : List Placed). block_phis g n new q k c ++ ps) (insts_changed (k + length c.args) c.ops (λ i x at' e. result_among g q i c x here at' e)))
+      ∙ ap (λ (ps : List Placed). block_phis g n new q k c ++ ps) (insts_changed (k + length c.args) c.ops (λ i x at' e. result_among g form n.order order q i c x here at' e)))
     where
       front : (q : ℕ) → slice_get g.blocks q ≡ Some c → map (adding m o p) (block_phis g n given q k c) ≡ block_phis g n new q k c
       front zero here = refl
-      front (suc r) here = phis_changed c.number 0 k c.args (λ j t at'. let x = argument_among g r j c t here at' in (x.0, x.1 ∙ ap (λ (i : ℕ). Some (Argument (record { 0 = c.number }) i)) (let e : j ≡ 0 + j = omega arith in e)))
+      front (suc r) here = phis_changed c.number 0 k c.args (λ j t at'. let x = argument_among g form n.order order r j c t here at' in (x.0, x.1 ∙ ap (λ (i : ℕ). Some (Argument (record { 0 = c.number }) i)) (let e : j ≡ 0 + j = omega arith in e)))
 
   blocks_changed : (q k : ℕ) (cs : List DialectBlock) → ((j : ℕ) (c : DialectBlock) → slice_get cs j ≡ Some c → slice_get g.blocks (q + j) ≡ Some c) → map (adding_in m o p) (blocks_made g n given q k cs) ≡ blocks_made g n new q k cs
   blocks_changed q k [] h = refl
@@ -186,13 +188,16 @@ pub value_known : (t : Task) (v : Value) (given : Given) (known : Values) (m : M
 value_known t v given known m form s h = s.known.known v h.0 (typed_seen t.source form v h) h.1
 
 -- a value of the function that is an argument is no parameter
-pub phi_operand : (g : Func) (form : IsFormFunc g) (n : Numbers) (v : Value) (place : ℕ) → slice_get (values g) place ≡ Some v → IsArgument v → operand_for g n v ≡ L.Result (number_of g n v)
-phi_operand g form n (Argument b i) place at is = let c = comes_from 0 g.blocks place (Argument b i) at in by c.0 c.1 c.2 c.3 c.4
+pub phi_operand : (g : Func) (form : IsFormFunc g) (n : Numbers) (order : IsOrder (length g.blocks) n.order) (v : Value) (place : ℕ) → slice_get (values_by n.order g) place ≡ Some v → IsArgument v → operand_for g n v ≡ L.Result (number_of g n v)
+phi_operand g form n order (Argument b i) place at is =
+    let w = values_by_from g form n.order order place (Argument b i) at in
+    let c = comes_from 0 g.blocks w.0 (Argument b i) w.1 in
+    by c.0 c.1 c.2 c.3 c.4
   where
     by : (j : ℕ) (c : DialectBlock) → slice_get g.blocks j ≡ Some c → c.number ≡ b.0 → 0 < 0 + j → operand_for g n (Argument b i) ≡ L.Result (number_of g n (Argument b i))
     by zero c here same lt = absurd (omega (arith, lt))
-    by (suc j) c here same lt = argument_operand g form n no_entries i b (entry_is_not g form j b.0 c here same)
-phi_operand g form n (Result r) place at is = absurd is
+    by (suc j) c here same lt = argument_operand g form n order no_entries i b (entry_is_not g form j b.0 c here same)
+phi_operand g form n order (Result r) place at is = absurd is
 
 pub record IsPhiFor (t : Task) (v : Value) (known : Values) (m : Module) : Type 0 where
   pub phi : LLVMInstRef
@@ -204,7 +209,7 @@ pub record IsPhiFor (t : Task) (v : Value) (known : Values) (m : Module) : Type 
 pub argument_phi : (t : Task) (v w : Value) (from : LLVMBasicBlock) (given : Given) (known : Values) (m : Module) → IsEntryNext t v w from given known m → IsPhiFor t v known m
 argument_phi t v w from given known m h =
     let k = value_known t v given known m h.form h.state h.typed in
-    by k.value k.found (k.stands ∙ phi_operand t.source h.form t.numbers v h.place h.at h.is_argument) (λ i e. k.phi i e h.is_argument)
+    by k.value k.found (k.stands ∙ phi_operand t.source h.form t.numbers h.order.once v h.place h.at h.is_argument) (λ i e. k.phi i e h.is_argument)
   where
     by : (x : LLVMValue) → found known v ≡ Some x → operand_of (trees_of m) x ≡ L.Result (number_of t.source t.numbers v) → ((i : LLVMInstRef) → x ≡ V.Inst i → IsPhi m.insts i) → IsPhiFor t v known m
     by (V.Const c) f e is = absurd (let no : ⊥ = cc in no)
@@ -229,7 +234,7 @@ entry_done t v w from given known m m2 phi x h at at' is changed sound =
     record {
       is = changed ∙ ap (λ (d : ModuleData). with_changed d phi.0 (λ i. with_entry i (operand_of (trees_of m) x) from.0)) s.is
           ∙ ap (λ (o : Operand). with_changed (with_function t.before (function_with t.source t.numbers (blocks_made t.source t.numbers given 0 0 t.source.blocks))) phi.0 (λ i. with_entry i o from.0)) operand
-          ∙ entry_data t.source h.form t.numbers given v h.place h.at h.is_argument phi.0 number (operand_for t.source t.numbers w) from.0 t.before h.insts;
+          ∙ entry_data t.source h.form t.numbers h.order.once given v h.place h.at h.is_argument phi.0 number (operand_for t.source t.numbers w) from.0 t.before h.insts;
       sound = sound;
       block_count = ap (λ (y : Module). length y.blocks) is ∙ s.block_count;
       inst_count = ap (λ (y : Module). length y.insts) is ∙ length-with_change (λ (y : InstData). record y { inst = code.with_entry y.inst (record { value = x; block = from }) }) phi.0 m.insts ∙ s.inst_count;

@@ -1,7 +1,7 @@
 -- The lists of the function that is made are short.
 use Rattle.std.proofs.Common.{◌≡◌, ◌<◌, ◌≤◌, ◌^◌, ◌+◌, ◌*◌, ℕ, zero, suc, Bool, true, false, nat_eq, if◌then◌else◌, List, [], ◌∷◌, ◌++◌, Option, Some, None, All, length, take, slice_get, refl, ap, ◌∙◌, arith, length-append}
 use Rattle.std.specs.List.{flat_map}
-use Rattle.std.specs.Option.{option_map}
+use Rattle.std.specs.Option.{option_map, option_map_or}
 use Rattle.std.proofs.lemmas.List.{length-map, append-nil}
 use Rattle.std.proofs.lemmas.List.Concat.{flat_map-append}
 use Rattle.std.proofs.lemmas.List.Elements.{All-nil, All-cons, All-head, All-tail, All-append}
@@ -10,6 +10,7 @@ use Rattle.llvm_core.specs.Data as L
 use Rattle.llvm_core.specs.Data.{Operand, Placed, Block, Function}
 use Rattle.llvm_core.specs.Form.{IsFewIn, operands_of}
 use Rattle.dialect_types.specs.Trees.{TypeTree, IntegerAttr}
+use Rattle.block_order.specs.Order.{IsOrder}
 use Rattle.dialect_core.specs.declared.numbers.BlockRef.{BlockRef}
 use Rattle.dialect_core.specs.declared.ops.Value.{Value}
 use Rattle.dialect_core.specs.declared.ops.Value.TheVariants.{Result, Argument}
@@ -17,12 +18,12 @@ use Rattle.dialect_core.specs.declared.ops.Successor.{Successor}
 use Rattle.dialect_core.specs.Data.{DialectOp, DialectBlock, Func, Kind, ConstantOp, AddOp, ICmpOp, BrOp, CondBrOp, ReturnOp, UnreachableOp}
 use Rattle.dialect_core.specs.Form.{IsFormFunc, IsFormKind, is_constant, is_terminator, is_terminator_kind, edges_of}
 use Rattle.to_llvm_ir.specs.Exported.{number_after, number_behind}
-use Rattle.to_llvm_ir.specs.Made.{Numbers, operand_for, instruction_for, inst, insts, phis, block_phis, block_made, blocks_made, function_made, passed_to, passed, entry_with, entries_from, entries, number_past}
+use Rattle.to_llvm_ir.specs.Made.{Numbers, operand_for, instruction_for, inst, insts, phis, block_phis, block_made, blocks_made, function_made, passed_to, passed, entry_with, block_passes, entries_from, entries, number_past}
 use Rattle.to_llvm_ir.specs.Accepted.{IsAccepted}
 use Rattle.to_llvm_ir.proofs.ListLaws.{all_from}
 use Rattle.to_llvm_ir.proofs.LookupLaws.{block_form, op_form, entry_at}
 use Rattle.to_llvm_ir.proofs.PlacedLaws.{params_count}
-use Rattle.to_llvm_ir.proofs.EdgeLaws.{made_from}
+use Rattle.to_llvm_ir.proofs.EdgeLaws.{made_from, blocks_count}
 
 -- ---- edges
 
@@ -87,14 +88,17 @@ module _ (g : Func) (n : Numbers) where
       let rest = few_passed p ss v in
       omega (arith, e, one, rest)
 
-  few_entries : (place : ℕ) (cs : List DialectBlock) (v : Value) → ((j : ℕ) (c : DialectBlock) → slice_get cs j ≡ Some c → length (edges_of c) ≤ 2) → length (entries_from g n place cs v) ≤ 2 * length cs
-  few_entries place [] v h = omega arith
-  few_entries place (c ∷ cs) v h =
-      let e = length-append (passed g n (n.block + place) (edges_of c) v) (entries_from g n (suc place) cs v) in
-      let one = few_passed (n.block + place) (edges_of c) v in
-      let two = h 0 c refl in
-      let rest = few_entries (suc place) cs v (λ j d at. h (suc j) d at) in
-      omega (arith, e, one, two, rest)
+  few_entries : (ps : List ℕ) (v : Value) → ((j : ℕ) (c : DialectBlock) → slice_get g.blocks j ≡ Some c → length (edges_of c) ≤ 2) → length (entries_from g n ps v) ≤ 2 * length ps
+  few_entries [] v h = omega arith
+  few_entries (p ∷ ps) v h =
+      let e = length-append (block_passes g n v p) (entries_from g n ps v) in
+      let one = by (slice_get g.blocks p) refl in
+      let rest = few_entries ps v h in
+      omega (arith, e, one, rest)
+    where
+      by : (o : Option DialectBlock) → slice_get g.blocks p ≡ o → length (option_map_or (λ (c : DialectBlock). passed g n (n.block + p) (edges_of c) v) o []) ≤ 2
+      by None e = omega arith
+      by (Some c) e = let one = few_passed (n.block + p) (edges_of c) v in let two = h p c e in omega (arith, one, two)
 
   -- ---- instructions
 
@@ -113,10 +117,6 @@ module _ (g : Func) (n : Numbers) where
       by : (t : Bool) → length (insts g n (number_after o.result k) os) ≤ length os → length (if t then insts g n (number_after o.result k) os else inst g n k o ∷ insts g n (number_after o.result k) os) ≤ suc (length os)
       by true h = omega (arith, h)
       by false h = omega (arith, h)
-
-  pub blocks_count : (given : Value → List (Operand × ℕ)) (p k : ℕ) (cs : List DialectBlock) → length (blocks_made g n given p k cs) ≡ length cs
-  blocks_count given p k [] = refl
-  blocks_count given p k (c ∷ cs) = ap suc (blocks_count given (suc p) (number_behind (k + length c.args) c.ops) cs)
 
   -- ---- operands
 
@@ -165,10 +165,10 @@ module _ (g : Func) (n : Numbers) where
       All-append IsFewOf (block_made g n given p k c).instructions (flat_map (λ (b : Block). b.instructions) (blocks_made g n given (suc p) (number_behind (k + length c.args) c.ops) cs))
       (block_few given h p k c) (blocks_few given h (suc p) (number_behind (k + length c.args) c.ops) cs)
 
-  pub made_few : (form : IsFormFunc g) → IsAccepted g → IsFewIn (function_made g n (entries g n))
-  made_few form accepted = record {
-    params = let e = params_count g form n (entries g n) in let few = (accepted.blocks 0 form.entry (entry_at g form)).args in omega (arith, e, few);
-    blocks = let e = blocks_count (entries g n) 0 0 g.blocks in let few = accepted.few in omega (arith, e, few);
+  pub made_few : (form : IsFormFunc g) → IsOrder (length g.blocks) n.order → IsAccepted n.order g → IsFewIn (function_made g n (entries g n))
+  made_few form order accepted = record {
+    params = let e = params_count g form n order (entries g n) in let few = (accepted.blocks 0 form.entry (entry_at g form)).args in omega (arith, e, few);
+    blocks = let e = blocks_count g n (entries g n) 0 0 g.blocks in let few = accepted.few in omega (arith, e, few);
     instructions = all_from (λ (b : Block). length b.instructions < 2 ^ 31) (function_made g n (entries g n)).blocks (λ j b at.
         let r = made_from g n (entries g n) 0 0 g.blocks j b at in
         let a = accepted.blocks j r.0 r.1 in
@@ -180,5 +180,5 @@ module _ (g : Func) (n : Numbers) where
         let few = a.args in
         let few' = a.few in
         omega (arith, len, both, front, rest, few, few'));
-    operands = blocks_few (entries g n) (λ v. let e = few_entries 0 g.blocks v (λ j c at. few_edges g form j c at) in let few = accepted.few in omega (arith, e, few)) 0 0 g.blocks;
+    operands = blocks_few (entries g n) (λ v. let e = few_entries n.order v (λ j c at. few_edges g form j c at) in let few = accepted.few in let count = order.count in omega (arith, e, few, count)) 0 0 g.blocks;
   }

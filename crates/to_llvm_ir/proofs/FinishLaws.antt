@@ -22,12 +22,14 @@ use Rattle.meaning.specs.Pairs.{Matched}
 use Rattle.meaning.specs.Examples.{same_places}
 use Rattle.meaning.proofs.ShapeLaws.{any_module}
 use Rattle.to_llvm_ir.specs.declared.values.Values.{Values}
+use Rattle.to_llvm_ir.specs.Order.{IsTaken}
 use Rattle.to_llvm_ir.specs.Exported.{ExportedFunction, IsExported, block_name, number_after, number_behind}
 use Rattle.to_llvm_ir.specs.Accepted.{IsAccepted, AreAcceptedEdges}
 use Rattle.to_llvm_ir.specs.Bodies.{IsBodyAccepted}
 use Rattle.to_llvm_ir.specs.Made.{function_made, entries, number_past}
 use Rattle.to_llvm_ir.specs.Opening.{AreBlocks}
 use Rattle.to_llvm_ir.specs.States.{Task, IsTask, IsLinking}
+use Rattle.to_llvm_ir.specs.Ordering.{AreBlocksOf}
 use Rattle.to_llvm_ir.specs.Functions.{AddsFunction, AddsFunctions, HasExported, functions_in}
 use Rattle.to_llvm_ir.proofs.ContextLaws.{known, func_parts}
 use Rattle.to_llvm_ir.proofs.ListLaws.{item_there, all_at, at_middle, filter_map_more, filter_map_at}
@@ -77,13 +79,27 @@ are_blocks c op t bs task is has small = record {
       );
 }
 
+pub blocks_of_func : (c : ContextData) (op : OpRef) (g : Func) (bs : List BlockRef) → IsFormFunc g → func_in (type_trees c.types) c op ≡ Some g → option_map (λ (x : OpData). x.blocks) (slice_get c.ops op.0) ≡ Some bs → All (λ (b : BlockRef). b.0 < length c.blocks) bs → AreBlocksOf c g bs
+blocks_of_func c op g bs form is has small = record {
+  form = form;
+  count = count_is c op g bs is has small;
+  each = λ i b at.
+      let d = each_block c bs small i b at in (
+        d.0,
+        record {
+          here = ap (λ (ds : List DialectBlock). slice_get ds i) (list_is c op g bs is has) ∙ slice_get-filter_map_all (block_in (type_trees c.types) c) bs (each_block c bs small) i b d.0 at d.1;
+          is = d.1;
+        },
+      );
+}
+
 -- ---- one function
 
-pub accepted : (g : Func) → length g.blocks < 2 ^ 30
+pub accepted : (order : List ℕ) (g : Func) → length g.blocks < 2 ^ 30
     → ((j : ℕ) (c : DialectBlock) → slice_get g.blocks j ≡ Some c → IsPlainOrNone (block_name c.label j))
-    → ((j : ℕ) (c : DialectBlock) → slice_get g.blocks j ≡ Some c → IsBodyAccepted g j c)
-    → ((j : ℕ) (c : DialectBlock) → slice_get g.blocks j ≡ Some c → AreAcceptedEdges g c) → IsAccepted g
-accepted g few labelled bodies edges = record {
+    → ((j : ℕ) (c : DialectBlock) → slice_get g.blocks j ≡ Some c → IsBodyAccepted order g j c)
+    → ((j : ℕ) (c : DialectBlock) → slice_get g.blocks j ≡ Some c → AreAcceptedEdges g c) → IsAccepted order g
+accepted order g few labelled bodies edges = record {
   few = few;
   blocks = λ j c at. record { label = labelled j c at; args = (bodies j c at).args; few = (bodies j c at).few; ops = (bodies j c at).ops };
   edges = edges;
@@ -113,8 +129,8 @@ past_few k (c ∷ cs) h =
     omega (arith, e, r, args, ops)
 
 -- fewer than 2^30 blocks of fewer than 2^31 values
-pub few_values : (g : Func) → IsAccepted g → number_past 0 g.blocks < 2 ^ 64
-few_values g h =
+pub few_values : (order : List ℕ) (g : Func) → IsAccepted order g → number_past 0 g.blocks < 2 ^ 64
+few_values order g h =
     let few = h.few in
     let r = past_few 0 g.blocks (λ j c at. ((h.blocks j c at).args, (h.blocks j c at).few)) in
     omega (arith, few, r)
@@ -125,14 +141,14 @@ few_values g h =
 functions_count : (m : Module) → length (L.data_of m).functions ≡ length m.functions
 functions_count m = length-map (enumerate_from 0 m.functions) (function_of (trees_of m) m.blocks m.insts) ∙ length-enumerate_from 0 m.functions
 
-pub finished : (t : Task) (form : IsFormFunc t.source) (old : Module) (known : Values) (m : Module) → t.before ≡ L.data_of old → length old.functions < 2 ^ 30 → IsAccepted t.source → IsLinking t (entries t.source t.numbers) known m → AddsFunction t.source (L.data_of old) (L.data_of m)
-finished t form old known m before few h s =
+pub finished : (t : Task) (form : IsFormFunc t.source) (taken : IsTaken t.source t.numbers.order) (old : Module) (known : Values) (m : Module) → t.before ≡ L.data_of old → length old.functions < 2 ^ 30 → IsAccepted t.numbers.order t.source → IsLinking t (entries t.source t.numbers) known m → AddsFunction t.source (L.data_of old) (L.data_of m)
+finished t form taken old known m before few h s =
     let f : Function = function_made t.source t.numbers (entries t.source t.numbers) in
     let is : L.data_of m ≡ with_function (L.data_of old) f = s.is ∙ ap (λ (d : ModuleData). with_function d f) before in
     record {
       function = f;
       is = is;
-      stands = exported (L.data_of m) t.source form t.numbers h (few_values t.source h);
+      stands = exported (L.data_of m) t.source form t.numbers taken h (few_values t.numbers.order t.source h);
       few = let e = ap (λ (d : ModuleData). length d.functions) is in let k = length_push (L.data_of old).functions f in let n = functions_count old in omega (arith, e, k, n, few);
     }
 
@@ -147,6 +163,8 @@ exported_in d d' g f h = record {
   shape = any_module same_places d d' f g h.shape;
   params = h.params;
   names = h.names;
+  order = h.order;
+  is_order = h.is_order;
   phis = h.phis;
   locals = h.locals;
   few = h.few;

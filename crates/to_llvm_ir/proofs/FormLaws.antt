@@ -1,6 +1,6 @@
 -- The function that is made is of the form.
 use Rattle.std.proofs.Common.{◌≡◌, ◌<◌, ◌≤◌, ◌+◌, ◌-◌, ◌^◌, ◌&&◌, ◌||◌, ℕ, zero, suc, Bool, true, false, not, if◌then◌else◌, List, [], ◌∷◌, ◌++◌, Option, Some, None, All, length, map, take, slice_get, refl, sym, ap, subst, ◌∙◌, arith, ⊎_elim}
-use Rattle.std.specs.List.{find, list_any}
+use Rattle.std.specs.List.{find, flat_map, list_any}
 use Rattle.std.specs.Option.{option_map, option_map_or}
 use Rattle.std.proofs.lemmas.Option.{same_Some, none-some, slice_get_within, slice_get-map}
 use Rattle.std.proofs.lemmas.Bool.{cond-false, and_from, or_from}
@@ -16,6 +16,7 @@ use Rattle.llvm_core.specs.Form as F
 use Rattle.llvm_core.specs.Form.{IsFormFunction, IsFormInstruction, IsFormBlock, HasNoResult, IsTarget, is_last}
 use Rattle.llvm_core.proofs.ListLemmas.{slice_get-push}
 use Rattle.dialect_types.specs.Trees.{TypeTree, TypeTrees, VoidType, IntegerType, FuncType, NoTypes, ThenType}
+use Rattle.block_order.specs.Order.{IsOrder}
 use Rattle.dialect_core.specs.declared.numbers.BlockRef.{BlockRef}
 use Rattle.dialect_core.specs.declared.ops.Value.{Value}
 use Rattle.dialect_core.specs.declared.ops.Value.TheVariants.{Argument}
@@ -23,18 +24,21 @@ use Rattle.dialect_core.specs.declared.ops.Successor.{Successor}
 use Rattle.dialect_core.specs.Data.{DialectOp, DialectBlock, Func, Kind, ConstantOp, AddOp, ICmpOp, BrOp, CondBrOp, ReturnOp, UnreachableOp, value_type}
 use Rattle.dialect_core.specs.Form.{IsFormFunc, IsFormKind, IsShortInt, IsShortResult, HasTargets, result_of, types_list, is_constant, is_constant_kind, is_terminator, is_terminator_kind}
 use Rattle.meaning.specs.Dialect.{type_of, types_of, option_type}
-use Rattle.to_llvm_ir.specs.Exported.{block_name, value_name, result_name, number_after, number_behind}
+use Rattle.to_llvm_ir.specs.Order.{turn_of}
+use Rattle.to_llvm_ir.specs.Exported.{blocks_by, block_name, value_name, result_name, number_after, number_behind}
 use Rattle.to_llvm_ir.specs.Made.{Numbers, operand_for, target_at, instruction_for, inst, insts, phis, block_phis, block_made, function_made, entries, number_past, entry_args}
 use Rattle.to_llvm_ir.specs.Accepted.{IsAccepted}
 use Rattle.to_llvm_ir.specs.Links.{HasTarget}
 use Rattle.to_llvm_ir.proofs.ListLaws.{AreNumbered, all_at, all_from, item_there}
 use Rattle.to_llvm_ir.proofs.NameLaws.{plain_is, bare_plain}
+use Rattle.to_llvm_ir.proofs.TurnLaws.{turn_at, filter_taken}
 use Rattle.to_llvm_ir.proofs.LookupLaws.{block_form, op_form, entry_at, place_is}
 use Rattle.to_llvm_ir.proofs.PlacedLaws.{placed_numbered, params_count, operand_form}
 use Rattle.to_llvm_ir.proofs.EdgeLaws.{made_at, made_from, made_numbered, target_for, edge_among, edge_form, is_from, first_entry}
 use Rattle.to_llvm_ir.proofs.CountLaws.{sources_count, comes_by}
 use Rattle.to_llvm_ir.proofs.PhiLaws.{insts_no_phi, block_phis_phi, phis_first, has_target, phi_sources, phi_alike}
 use Rattle.to_llvm_ir.proofs.ShapeLaws.{returned}
+use Rattle.to_llvm_ir.proofs.EdgeLaws.{blocks_count}
 
 -- ---- numbers of values
 
@@ -109,7 +113,7 @@ any_append {X} p (x ∷ xs) ys h k = by (p x) h (λ e. any_append p xs ys e k)
     by true e f = cc
     by false e f = f e
 
-module _ (g : Func) (form : IsFormFunc g) (n : Numbers) where
+module _ (g : Func) (form : IsFormFunc g) (n : Numbers) (order : IsOrder (length g.blocks) n.order) where
   abbrev made : Function
   made = function_made g n (entries g n)
 
@@ -213,18 +217,18 @@ module _ (g : Func) (form : IsFormFunc g) (n : Numbers) where
   instruction_form b k o (AddOp flags) h other name targets =
       let is : type_of h.0 ≡ option_type o.result = sym (ap option_type h.5) in
       subst (λ (vs : List Value). IsFormInstruction made b (inst g n k o) (instruction_for g n (AddOp flags) vs o.successors)) (sym h.3)
-      (subst (λ (u : L.TypeTree). F.IsOperand made u (operand_for g n h.1)) is (operand_form g form n (entries g n) h.1 h.0 h.6), subst (λ (u : L.TypeTree). F.IsOperand made u (operand_for g n h.2)) is (operand_form g form n (entries g n) h.2 h.0 h.7), name)
+      (subst (λ (u : L.TypeTree). F.IsOperand made u (operand_for g n h.1)) is (operand_form g form n order (entries g n) h.1 h.0 h.6), subst (λ (u : L.TypeTree). F.IsOperand made u (operand_for g n h.2)) is (operand_form g form n order (entries g n) h.2 h.0 h.7), name)
   instruction_form b k o (ICmpOp predicate) h other name targets =
       subst (λ (vs : List Value). IsFormInstruction made b (inst g n k o) (instruction_for g n (ICmpOp predicate) vs o.successors)) (sym h.3)
-      ((type_of h.0, operand_form g form n (entries g n) h.1 h.0 h.6, operand_form g form n (entries g n) h.2 h.0 h.7), ap option_type h.5, name)
+      ((type_of h.0, operand_form g form n order (entries g n) h.1 h.0 h.6, operand_form g form n order (entries g n) h.2 h.0 h.7), ap option_type h.5, name)
   instruction_form b k o BrOp h other name targets = (first_target o.successors 0 h.1.count_is targets, no_result o k h.1.result)
   instruction_form b k o CondBrOp h other name targets =
       subst (λ (vs : List Value). IsFormInstruction made b (inst g n k o) (instruction_for g n CondBrOp vs o.successors)) (sym h.1)
-      (operand_form g form n (entries g n) h.0 (IntegerType 1) h.2, first_target o.successors 1 h.3.count_is targets, second_target o.successors 0 h.3.count_is targets, no_result o k h.3.result)
+      (operand_form g form n order (entries g n) h.0 (IntegerType 1) h.2, first_target o.successors 1 h.3.count_is targets, second_target o.successors 0 h.3.count_is targets, no_result o k h.3.result)
   instruction_form b k o ReturnOp h other name targets = ⊎_elim
       (λ none. subst (λ (vs : List Value). IsFormInstruction made b (inst g n k o) (instruction_for g n ReturnOp vs o.successors)) (sym none.0) (result_type ∙ none.1, no_result o k h.1.result))
       (λ one. subst (λ (vs : List Value). IsFormInstruction made b (inst g n k o) (instruction_for g n ReturnOp vs o.successors)) (sym one.1)
-      (subst (λ (u : L.TypeTree). F.IsOperand made u (operand_for g n one.0)) (sym result_type) (operand_form g form n (entries g n) one.0 (result_of g.type) one.2), no_result o k h.1.result))
+      (subst (λ (u : L.TypeTree). F.IsOperand made u (operand_for g n one.0)) (sym result_type) (operand_form g form n order (entries g n) one.0 (result_of g.type) one.2), no_result o k h.1.result))
       (returned g (result_of g.type) o.operands h.0)
   instruction_form b k o UnreachableOp h other name targets = no_result o k h.1.result
 
@@ -238,38 +242,40 @@ module _ (g : Func) (form : IsFormFunc g) (n : Numbers) where
       by true e r = r
       by false e r = All-cons (λ (p : Placed). IsFormInstruction made b p p.instruction) (inst g n k o) (insts g n (number_after o.result k) os) (h 0 k o refl e (let l = behind_le k (o ∷ os) in omega (arith, small, l))) r
 
-  module _ (accepted : IsAccepted g) (targets : HasTargets g) (small : number_past 0 g.blocks < 2 ^ 64) where
+  module _ (accepted : IsAccepted n.order g) (targets : HasTargets g) (small : number_past 0 g.blocks < 2 ^ 64) where
     op_leads : (j i : ℕ) (c : DialectBlock) (o : DialectOp) → slice_get g.blocks j ≡ Some c → slice_get c.ops i ≡ Some o → All (λ (s : Successor). IsTarget made (target_for g n s)) o.successors
-    op_leads j i c o at at' = all_from (λ (s : Successor). IsTarget made (target_for g n s)) o.successors (λ l s at''. let m = edge_among c.ops i l o s at' at'' in target_form s (has_target g form n accepted j m.0 c s at m.1))
+    op_leads j i c o at at' = all_from (λ (s : Successor). IsTarget made (target_for g n s)) o.successors (λ l s at''. let m = edge_among c.ops i l o s at' at'' in target_form s (has_target g form n order accepted j m.0 c s at m.1))
 
     -- ---- phis
 
     phi_counts : (t : ℕ) (c : DialectBlock) (i : ℕ) (ty : TypeTree) → slice_get g.blocks (suc t) ≡ Some c → slice_get c.args i ≡ Some ty → (p : ℕ)
         → count_of p (map (λ (e : Operand × ℕ). e.1) (entries g n (Argument (record { 0 = c.number }) i))) ≡ F.edges_between made p (n.block + (0 + suc t))
     phi_counts t c i ty at type p =
-        ap (count_of p) (phi_sources g form n accepted t c (n.block + (0 + suc t)) i ty at type (omega arith)) ∙ sources_count p (n.block + (0 + suc t)) made.blocks
+        ap (count_of p) (phi_sources g form n order accepted t c (n.block + (0 + suc t)) i ty at type (omega arith)) ∙ sources_count p (n.block + (0 + suc t)) (blocks_by n.order made)
+        ∙ ap (λ (bs : List Block). count_of (n.block + (0 + suc t)) (flat_map F.targets_of bs))
+        (filter_taken (λ (b : Block). b.number) p made.blocks n.order (subst (λ (k : ℕ). IsOrder k n.order) (sym (blocks_count g n (entries g n) 0 0 g.blocks)) order) (made_numbered g n (entries g n) 0 0 g.blocks))
 
     -- an entry is an operand of the argument's type
     phi_operand : (t : ℕ) (c : DialectBlock) (i : ℕ) (ty : TypeTree) → slice_get g.blocks (suc t) ≡ Some c → slice_get c.args i ≡ Some ty → (l : ℕ) (x : Operand × ℕ) → slice_get (entries g n (Argument (record { 0 = c.number }) i)) l ≡ Some x → F.IsOperand made (type_of ty) x.0
     phi_operand t c i ty at type l x at' =
-        let p = comes_by g n 0 g.blocks (record { 0 = c.number }) i l x at' in
+        let p = comes_by g n n.order (record { 0 = c.number }) i l x at' in
         let good = edge_form g form n p.at p.edge_at p.block p.edge p.here p.there in
         let typed : value_type g p.value ≡ Some ty = good.typed (suc t) c i p.value ty at (sym p.to) p.passes type in
         let short = all_at IsShortInt c.args i ty (block_form g form (suc t) c at).args type in
-        subst (F.IsOperand made (type_of ty)) (sym p.is) (operand_form g form n (entries g n) p.value ty (record { typed = typed; short = short }))
+        subst (F.IsOperand made (type_of ty)) (sym p.is) (operand_form g form n order (entries g n) p.value ty (record { typed = typed; short = short }))
 
     phi_some : (t : ℕ) (c : DialectBlock) (i : ℕ) (ty : TypeTree) → slice_get g.blocks (suc t) ≡ Some c → slice_get c.args i ≡ Some ty → entries g n (Argument (record { 0 = c.number }) i) ≡ [] → ⊥
     phi_some t c i ty at type none =
         let some : c.args ≡ [] → ⊥ = λ e. none-some ty (sym (ap (λ (ts : List TypeTree). slice_get ts i) e) ∙ type) in
         let r = targets t c at some in
-        let h = has_target g form n accepted r.0 r.1 r.2 r.3 r.4 r.5 in
+        let h = has_target g form n order accepted r.0 r.1 r.2 r.3 r.4 r.5 in
         let place : suc h.place ≡ suc t = form.block_numbers (suc h.place) (suc t) h.block c h.here at (h.number ∙ r.6) in
         let is : h.block ≡ c = same_Some h.block c (sym h.here ∙ ap (slice_get g.blocks) place ∙ at) in
         let count : length r.3.args ≡ length c.args = h.count ∙ ap (λ (x : DialectBlock). length x.args) is in
         let v = item_there r.3.args i (let l = slice_get_within c.args i ty type in omega (arith, count, l)) in
         let equal = (accepted.edges r.0 r.2 r.4).equal in
-        let found = first_entry g n 0 g.blocks r.0 r.2 (n.block + (0 + r.0)) i (record { 0 = c.number }) v.0 r.3.args r.1 r.3 r.4 refl r.5 r.6 (λ k u there to. equal k r.1 u r.3 there r.5 (ap (λ (m : ℕ). let b : BlockRef = record { 0 = m } in b) (to ∙ sym r.6))) v.1 in
-        none-some (operand_for g n v.0, n.block + (0 + r.0)) (sym (ap (find (is_from g n (n.block + (0 + r.0)))) none) ∙ found)
+        let found = first_entry g n n.order (turn_of n.order r.0) r.0 r.2 (n.block + r.0) i (record { 0 = c.number }) v.0 r.3.args r.1 r.3 (turn_at (length g.blocks) n.order order r.0 (slice_get_within g.blocks r.0 r.2 r.4)) r.4 refl r.5 r.6 (λ k u there to. equal k r.1 u r.3 there r.5 (ap (λ (m : ℕ). let b : BlockRef = record { 0 = m } in b) (to ∙ sym r.6))) v.1 in
+        none-some (operand_for g n v.0, n.block + r.0) (sym (ap (find (is_from g n (n.block + r.0))) none) ∙ found)
 
     value_plain : (k : ℕ) → k < 2 ^ 64 → IsPlainOrNone (value_name None k)
     value_plain k lt = bare_plain 118 [] k lt refl refl
@@ -282,7 +288,7 @@ module _ (g : Func) (form : IsFormFunc g) (n : Numbers) where
         let type : slice_get c.args i ≡ Some ty = ap (slice_get c.args) (let e : i ≡ i + 0 = omega arith in e) ∙ are 0 ty refl in
         All-cons (λ (p : Placed). IsFormInstruction made (n.block + (0 + suc t)) p p.instruction) _ (phis g n (entries g n) c.number (suc i) (k + 1) ts) (
           all_from (λ (e : Operand × ℕ). F.IsOperand made (type_of ty) e.0) (entries g n v) (λ l x at'. phi_operand t c i ty at type l x at'),
-          record { counts = phi_counts t c i ty at type; alike = phi_alike g form n accepted (record { 0 = c.number }) i; some = phi_some t c i ty at type },
+          record { counts = phi_counts t c i ty at type; alike = phi_alike g form n order accepted (record { 0 = c.number }) i; some = phi_some t c i ty at type },
           to_short ty (all_at IsShortInt c.args i ty (block_form g form (suc t) c at).args type),
           value_plain k (omega (arith, lt)),
         ) (phis_form t c at (suc i) (k + 1) ts (omega (arith, lt)) (λ m u at'. ap (slice_get c.args) (let e : suc i + m ≡ i + suc m = omega arith in e) ∙ are (suc m) u at'))
@@ -321,10 +327,10 @@ module _ (g : Func) (form : IsFormFunc g) (n : Numbers) where
       returns = short_result form.result form.returns;
       takes = short_ints form.types form.takes;
       space = refl;
-      params = params_count g form n (entries g n) ∙ ap (λ (ts : List TypeTree). length ts) form.params ∙ sym (type_count form.types);
+      params = params_count g form n order (entries g n) ∙ ap (λ (ts : List TypeTree). length ts) form.params ∙ sym (type_count form.types);
       param_names = unnamed_plain (entry_args g n);
       body = λ e. none-some form.entry (sym (ap (λ (bs : List Block). option_map (λ (b : Block). form.entry) (slice_get bs 0)) e) ∙ ap (option_map (λ (b : Block). form.entry)) (made_at g n (entries g n) 0 0 g.blocks 0 form.entry (entry_at g form)));
       blocks = all_from (IsFormBlock made) made.blocks (λ j b at. let r = made_from g n (entries g n) 0 0 g.blocks j b at in subst (IsFormBlock made) (sym r.2) (made_block_form j r.0 r.1));
       block_numbers = numbers_distinct (λ (b : Block). b.number) made.blocks (made_numbered g n (entries g n) 0 0 g.blocks);
-      numbers = numbers_distinct (λ (p : Placed). p.number) (placed_in made) (placed_numbered g form n (entries g n));
+      numbers = numbers_distinct (λ (p : Placed). p.number) (placed_in made) (placed_numbered g form n order (entries g n));
     }

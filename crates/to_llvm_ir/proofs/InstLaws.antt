@@ -26,8 +26,9 @@ use Rattle.dialect_core.specs.declared.ops.Successor.{Successor}
 use Rattle.dialect_core.specs.declared.overflow.IntegerOverflowFlagsAttr.{IntegerOverflowFlagsAttr}
 use Rattle.dialect_core.specs.declared.predicates.ICmpPredicateAttr.{ICmpPredicateAttr}
 use Rattle.dialect_core.specs.Data.{DialectOp, Kind, AddOp, ICmpOp, BrOp, CondBrOp, ReturnOp, UnreachableOp}
-use Rattle.dialect_core.specs.Form.{IsFormKind, IsOperand, StandsBefore, uses_of, is_constant_kind, result_of}
+use Rattle.dialect_core.specs.Form.{IsFormKind, IsOperand, uses_of, is_constant_kind, result_of}
 use Rattle.meaning.specs.Dialect.{type_of, option_type, predicate_of}
+use Rattle.to_llvm_ir.specs.Order.{StandsBeforeIn}
 use Rattle.to_llvm_ir.specs.Made.{flags_of, operand_for, block_for, instruction_for}
 use Rattle.to_llvm_ir.specs.Growth.{HasType}
 use Rattle.to_llvm_ir.specs.States.{Spot, IsUse, IsLead, IsMade}
@@ -99,7 +100,7 @@ void_within s m inst h t e = absurd (none-some t (sym h.made ∙ e))
 
 module _ (s : Spot) (m : Module) (sound : IsModule m) where
   abbrev Before : Value → Type 0
-  Before = StandsBefore s.task.source s.place s.at
+  Before = StandsBeforeIn s.task.numbers.order s.task.source s.place s.at
 
   abbrev made_as : Kind → List Value → List Successor → L.Instruction
   made_as = instruction_for s.task.source s.task.numbers

@@ -136,6 +136,17 @@ one_known g n values values' m m' v type s grows same h = record {
 pub all_known : (g : Func) (n : Numbers) (seen : List Value) (values : Values) (m m' : Module) → IsModule m → Grows m m' → AreKnown g n seen values m → AreKnown g n seen values m'
 all_known g n seen values m m' s grows h = record { known = λ v type has typed. one_known g n values values m m' v type s grows refl (h.known v type has typed); only = h.only }
 
+-- the same values in another list
+pub known_other : (g : Func) (n : Numbers) (seen seen' : List Value) (values : Values) (m : Module) → ((v : Value) → Has seen' v → Has seen v) → ((v : Value) → Has seen v → Has seen' v) → AreKnown g n seen values m → AreKnown g n seen' values m
+known_other g n seen seen' values m back on h = record { known = λ v type has typed. h.known v type (back v has) typed; only = λ v x at. on v (h.only v x at) }
+
+-- another number for the next value
+pub known_count : (g : Func) (n : Numbers) (seen : List Value) (values values' : Values) (m : Module) → ((v : Value) → found values' v ≡ found values v) → AreKnown g n seen values m → AreKnown g n seen values' m
+known_count g n seen values values' m same h = record {
+  known = λ v type has typed. let k = h.known v type has typed in record { value = k.value; found = same v ∙ k.found; typed = k.typed; stands = k.stands; phi = k.phi };
+  only = λ v x at. h.only v x (sym (same v) ∙ at);
+}
+
 -- one more value, which has no type
 pub known_void : (g : Func) (n : Numbers) (seen : List Value) (values : Values) (m m' : Module) (v : Value) → IsModule m → Grows m m' → value_type g v ≡ None → AreKnown g n seen values m → AreKnown g n (seen ++ v ∷ []) values m'
 known_void g n seen values m m' v s grows none h = record {

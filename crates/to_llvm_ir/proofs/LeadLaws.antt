@@ -7,7 +7,8 @@ use Rattle.dialect_core.specs.declared.numbers.OpRef.{OpRef}
 use Rattle.dialect_core.specs.declared.ops.Value.{Value}
 use Rattle.dialect_core.specs.declared.ops.Successor.{Successor}
 use Rattle.dialect_core.specs.ContextData.{ContextData}
-use Rattle.dialect_core.specs.Form.{IsFormEdge, IsOperand, StandsBefore}
+use Rattle.dialect_core.specs.Form.{IsFormEdge, IsOperand}
+use Rattle.to_llvm_ir.specs.Order.{StandsBeforeIn}
 use Rattle.to_llvm_ir.specs.declared.values.Values.{Values}
 use Rattle.to_llvm_ir.specs.declared.blocks.Blocks.{Blocks}
 use Rattle.to_llvm_ir.specs.declared.blocks.Target.{Target}
@@ -27,7 +28,7 @@ passed_as c op s l i e xs d h at are lt =
     let typed = all_at (λ (v : Value). (type : TypeTree) × IsOperand s.task.source type v) e.args i (get_or xs i d) form.args there in
     (typed.0, passed_used s l i e (get_or xs i d) typed.0 at there typed.1.typed)
 
-pub lead_is : (c : ContextData) (op : OpRef) (s : Spot) (values : Values) (m : Module) (blocks : Blocks) (e : Successor) (x : Target) → IsNext c op s values m → AreAllMapped s.task blocks → found_block blocks e.block ≡ Some x → All (StandsBefore s.task.source s.place s.at) e.args → IsLead s m e x.block
+pub lead_is : (c : ContextData) (op : OpRef) (s : Spot) (values : Values) (m : Module) (blocks : Blocks) (e : Successor) (x : Target) → IsNext c op s values m → AreAllMapped s.task blocks → found_block blocks e.block ≡ Some x → All (StandsBeforeIn s.task.numbers.order s.task.source s.place s.at) e.args → IsLead s m e x.block
 lead_is c op s values m blocks e x next mapped at before =
     let h = mapped.only e.block x at in
     let place = place_is s.task.source next.spot.task.form h.place e.block.0 h.block h.here h.number in

@@ -8,6 +8,7 @@ pub mod DistinctLaws
 pub mod EdgeLaws
 pub mod EntryLaws
 pub mod FewLaws
+pub mod FilledLaws
 pub mod FormLaws
 pub mod GivenLaws
 pub mod GrowthLaws
@@ -19,9 +20,12 @@ pub mod ListLaws
 pub mod LookupLaws
 pub mod MadeLaws
 pub mod NameLaws
+pub mod NumberingLaws
 pub mod OpLaws
 pub mod OpeningLaws
 pub mod OpsLaws
+pub mod OrderingLaws
+pub mod GraphLaws
 pub mod PassLaws
 pub mod PhiLaws
 pub mod PlaceLaws
@@ -30,9 +34,14 @@ pub mod PlanLaws
 pub mod ShapeLaws
 pub mod StepLaws
 pub mod SuccessorLaws
+pub mod TurnLaws
 pub mod TypeLaws
 pub mod UseLaws
 pub mod ValueLaws
 pub mod FinishLaws
 pub mod StartedLaws
 pub mod CodeLaws
+pub mod NarrowLaws
+pub mod OpDataLaws
+pub mod FuncDataLaws
+pub mod ReadableLaws

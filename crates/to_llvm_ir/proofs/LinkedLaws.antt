@@ -1,5 +1,5 @@
 -- The entries of phis, one edge, one operation and one block after another.
-use Rattle.std.proofs.Common.{◌≡◌, ◌<◌, ◌≤◌, ◌+◌, ℕ, zero, suc, List, [], ◌∷◌, ◌++◌, Some, None, All, length, take, slice_get, get_or, refl, sym, ap, subst, ◌∙◌, arith, append_assoc, ⊎_elim}
+use Rattle.std.proofs.Common.{◌≡◌, ◌<◌, ◌≤◌, ◌+◌, ℕ, zero, suc, List, [], ◌∷◌, ◌++◌, Option, Some, None, All, length, take, slice_get, get_or, refl, sym, ap, subst, ◌∙◌, arith, append_assoc, ⊎_elim}
 use Rattle.std.proofs.lemmas.Bool.{cases_eq}
 use Rattle.std.proofs.lemmas.Option.{same_Some, none-some, slice_get_within, slice_get-get_or}
 use Rattle.std.proofs.lemmas.List.{append-nil, take_all}
@@ -12,7 +12,7 @@ use Rattle.dialect_core.specs.declared.numbers.BlockRef.{BlockRef}
 use Rattle.dialect_core.specs.declared.ops.Value.{Value}
 use Rattle.dialect_core.specs.declared.ops.Successor.{Successor}
 use Rattle.dialect_core.specs.declared.ops.OpData.{OpData}
-use Rattle.std.specs.Option.{option_map}
+use Rattle.std.specs.Option.{option_map, option_map_or}
 use Rattle.dialect_core.specs.ContextData.{ContextData}
 use Rattle.dialect_core.specs.Data.{DialectOp, DialectBlock, Func, op_at}
 use Rattle.dialect_core.specs.Form.{IsFormFunc, FitsTarget, edges_of}
@@ -20,10 +20,10 @@ use Rattle.to_llvm_ir.specs.declared.values.Values.{Values}
 use Rattle.to_llvm_ir.specs.declared.blocks.Blocks.{Blocks}
 use Rattle.to_llvm_ir.specs.declared.blocks.Target.{Target}
 use Rattle.to_llvm_ir.specs.Accepted.{AreAcceptedEdges}
-use Rattle.to_llvm_ir.specs.Made.{Numbers, passed_to, passed, entries_from, entries}
+use Rattle.to_llvm_ir.specs.Made.{Numbers, passed_to, passed, block_passes, entries_from, entries}
 use Rattle.to_llvm_ir.specs.Links.{Given, AreEqualEdges, IsLinkedTo, IsOpLinked, IsBlockLinked}
 use Rattle.to_llvm_ir.specs.States.{Task, Spot, IsSpot, IsListed, IsLinking, found_block}
-use Rattle.to_llvm_ir.proofs.ListLaws.{all_at, all_from, append_cases, split_at, take_suc}
+use Rattle.to_llvm_ir.proofs.ListLaws.{all_at, all_from, append_cases, take_suc}
 use Rattle.dialect_core.specs.Lists.{list_at}
 use Rattle.to_llvm_ir.proofs.BodyLaws.{listed, target_here}
 use Rattle.to_llvm_ir.proofs.OpLaws.{spot_parts, successors_are}
@@ -151,26 +151,19 @@ linked_accepted t form j c given values m at h =
 
 -- ---- the edges of the blocks
 
-pub entries_push : (g : Func) (n : Numbers) (p : ℕ) (cs : List DialectBlock) (c : DialectBlock) (v : Value) → entries_from g n p (cs ++ c ∷ []) v ≡ entries_from g n p cs v ++ passed g n (n.block + (p + length cs)) (edges_of c) v
-entries_push g n p [] c v = append-nil (passed g n (n.block + p) (edges_of c) v) ∙ ap (λ (q : ℕ). passed g n (n.block + q) (edges_of c) v) (let e : p ≡ p + 0 = omega arith in e)
-entries_push g n p (d ∷ cs) c v =
-    ap (λ (es : List (Operand × ℕ)). passed g n (n.block + p) (edges_of d) v ++ es) (entries_push g n (suc p) cs c v ∙ ap (λ (q : ℕ). entries_from g n (suc p) cs v ++ passed g n (n.block + q) (edges_of c) v) (let e : suc p + length cs ≡ p + suc (length cs) = omega arith in e))
-    ∙ sym (append_assoc (passed g n (n.block + p) (edges_of d) v) (entries_from g n (suc p) cs v) (passed g n (n.block + (p + suc (length cs))) (edges_of c) v))
-
 abbrev pub entries_to : Task → ℕ → Given
-entries_to t j = entries_from t.source t.numbers 0 (take j t.source.blocks)
+entries_to t j = entries_from t.source t.numbers (take j t.numbers.order)
 
-pub entries_more : (t : Task) (j : ℕ) (c : DialectBlock) (values : Values) (m : Module) → slice_get t.source.blocks j ≡ Some c → IsLinking t (more t (entries_to t j) (t.numbers.block + j) (edges_of c)) values m → IsLinking t (entries_to t (j + 1)) values m
-entries_more t j c values m at s =
-    let len = (split_at t.source.blocks j c at).1 in
-    linking_same t (more t (entries_to t j) (t.numbers.block + j) (edges_of c)) (entries_to t (j + 1))
-    (λ v. sym (ap (λ (k : ℕ). entries_to t k v) (let k : j + 1 ≡ suc j = omega arith in k) ∙ ap (λ (cs : List DialectBlock). entries_from t.source t.numbers 0 cs v) (take_suc t.source.blocks j c at)
-    ∙ entries_push t.source t.numbers 0 (take j t.source.blocks) c v
-    ∙ ap (λ (q : ℕ). entries_to t j v ++ passed t.source t.numbers (t.numbers.block + q) (edges_of c) v) (let k : 0 + length (take j t.source.blocks) ≡ j = omega (arith, len) in k))) values m s
+pub entries_more : (t : Task) (j p : ℕ) (c : DialectBlock) (values : Values) (m : Module) → slice_get t.numbers.order j ≡ Some p → slice_get t.source.blocks p ≡ Some c → IsLinking t (more t (entries_to t j) (t.numbers.block + p) (edges_of c)) values m → IsLinking t (entries_to t (j + 1)) values m
+entries_more t j p c values m named at s =
+    linking_same t (more t (entries_to t j) (t.numbers.block + p) (edges_of c)) (entries_to t (j + 1))
+    (λ v. sym (ap (λ (k : ℕ). entries_to t k v) (let k : j + 1 ≡ suc j = omega arith in k) ∙ ap (λ (ps : List ℕ). entries_from t.source t.numbers ps v) (take_suc t.numbers.order j p named)
+    ∙ flat_map-append (block_passes t.source t.numbers v) (take j t.numbers.order) (p ∷ [])
+    ∙ ap (λ (es : List (Operand × ℕ)). entries_to t j v ++ es) (append-nil (block_passes t.source t.numbers v p) ∙ ap (λ (o : Option DialectBlock). option_map_or (λ (x : DialectBlock). passed t.source t.numbers (t.numbers.block + p) (edges_of x) v) o []) at))) values m s
 
-pub entries_all : (t : Task) (j : ℕ) (values : Values) (m : Module) → length t.source.blocks ≤ j → IsLinking t (entries_to t j) values m → IsLinking t (entries t.source t.numbers) values m
+pub entries_all : (t : Task) (j : ℕ) (values : Values) (m : Module) → length t.numbers.order ≤ j → IsLinking t (entries_to t j) values m → IsLinking t (entries t.source t.numbers) values m
 entries_all t j values m le s =
-    linking_same t (entries_to t j) (entries t.source t.numbers) (λ v. ap (λ (cs : List DialectBlock). entries_from t.source t.numbers 0 cs v) (take_all j t.source.blocks le)) values m s
+    linking_same t (entries_to t j) (entries t.source t.numbers) (λ v. ap (λ (ps : List ℕ). entries_from t.source t.numbers ps v) (take_all j t.numbers.order le)) values m s
 
 -- ---- the next operation of a block
 

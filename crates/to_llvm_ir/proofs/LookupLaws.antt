@@ -1,21 +1,19 @@
 -- Blocks, operations and values of a function of the form, looked up by their numbers.
-use Rattle.std.proofs.Common.{◌≡◌, ◌+◌, ℕ, zero, suc, Bool, true, false, not, nat_eq, if◌then◌else◌, List, [], ◌∷◌, ◌++◌, Option, Some, length, slice_get, refl, sym, ap, ◌∙◌, arith, ⊎_elim, eq-eqb, ne_eqb}
+use Rattle.std.proofs.Common.{◌≡◌, ◌+◌, ℕ, zero, suc, Bool, true, false, not, nat_eq, if◌then◌else◌, List, [], ◌∷◌, Option, Some, length, slice_get, refl, sym, ap, ◌∙◌, arith, ⊎_elim, eq-eqb, ne_eqb}
 use Rattle.std.specs.List.{flat_map, find}
-use Rattle.std.specs.Option.{option_map, option_map_or, option_and_then}
-use Rattle.std.proofs.lemmas.Option.{same_Some, none-some, slice_get-map, option_and_then_some}
+use Rattle.std.specs.Option.{option_map_or, option_and_then}
+use Rattle.std.proofs.lemmas.Option.{same_Some, none-some, option_and_then_some}
 use Rattle.std.proofs.lemmas.Bool.{cond-true}
 use Rattle.llvm_core.proofs.ListLemmas.{slice_get-kept}
 use Rattle.dialect_types.specs.Trees.{TypeTree}
 use Rattle.dialect_core.specs.declared.numbers.BlockRef.{BlockRef}
 use Rattle.dialect_core.specs.declared.numbers.OpRef.{OpRef}
-use Rattle.dialect_core.specs.declared.ops.Value.{Value}
 use Rattle.dialect_core.specs.declared.ops.Value.TheVariants.{Result, Argument}
 use Rattle.dialect_core.specs.Data.{DialectOp, DialectBlock, Func, ops_in, value_type}
 use Rattle.dialect_core.specs.Form.{IsFormFunc, IsFormBlock, IsFormOp, is_constant, others_of}
 use Rattle.meaning.specs.Dialect.{place_of}
-use Rattle.to_llvm_ir.specs.Made.{result, phi_values, result_values, values_from, values, is_entry}
+use Rattle.to_llvm_ir.specs.Made.{is_entry}
 use Rattle.to_llvm_ir.proofs.ListLaws.{all_at, at_behind, append_cases, find_numbered, found_numbered, position_numbered}
-use Rattle.to_llvm_ir.proofs.PlaceLaws.{argument_at}
 
 -- ---- the operations of blocks
 
@@ -35,7 +33,7 @@ op_of_block (d ∷ cs) i o at = ⊎_elim
 
 -- ---- values by their places
 
-other_at : (os : List DialectOp) (k : ℕ) (o : DialectOp) → slice_get os k ≡ Some o → is_constant o ≡ false → (i : ℕ) × (slice_get (others_of os) i ≡ Some o)
+pub other_at : (os : List DialectOp) (k : ℕ) (o : DialectOp) → slice_get os k ≡ Some o → is_constant o ≡ false → (i : ℕ) × (slice_get (others_of os) i ≡ Some o)
 other_at [] k o at other = absurd (none-some o at)
 other_at (x ∷ os) zero o at other =
     let same : x ≡ o = same_Some x o at in
@@ -45,28 +43,6 @@ other_at (x ∷ os) (suc k) o at other = by (is_constant x) (other_at os k o at 
     by : (t : Bool) → (i : ℕ) × (slice_get (others_of os) i ≡ Some o) → (i : ℕ) × (slice_get (if not t then x ∷ others_of os else others_of os) i ≡ Some o)
     by true r = r
     by false r = (suc r.0, r.1)
-
--- what a block gives stands behind what those before it give
-pub among_values : (p : ℕ) (cs : List DialectBlock) (j i : ℕ) (c : DialectBlock) (v : Value) → slice_get cs j ≡ Some c → slice_get (phi_values (p + j) c ++ result_values c.ops) i ≡ Some v → (k : ℕ) × (slice_get (values_from p cs) k ≡ Some v)
-among_values p [] j i c v at at' = absurd (none-some c at)
-among_values p (d ∷ cs) zero i c v at at' =
-    let here : slice_get (phi_values p d ++ result_values d.ops) i ≡ Some v = ap (λ (x : DialectBlock). slice_get (phi_values p x ++ result_values x.ops) i) (same_Some d c at) ∙ ap (λ (q : ℕ). slice_get (phi_values q c ++ result_values c.ops) i) (let e : p ≡ p + 0 = omega arith in e) ∙ at' in
-    (i, slice_get-kept (phi_values p d ++ result_values d.ops) (values_from (suc p) cs) i v here)
-among_values p (d ∷ cs) (suc j) i c v at at' =
-    let r = among_values (suc p) cs j i c v at (ap (λ (q : ℕ). slice_get (phi_values q c ++ result_values c.ops) i) (let e : suc p + j ≡ p + suc j = omega arith in e) ∙ at') in
-    (length (phi_values p d ++ result_values d.ops) + r.0, at_behind (phi_values p d ++ result_values d.ops) (values_from (suc p) cs) r.0 ∙ r.1)
-
-pub argument_among : (g : Func) (j i : ℕ) (c : DialectBlock) (t : TypeTree) → slice_get g.blocks (suc j) ≡ Some c → slice_get c.args i ≡ Some t → (k : ℕ) × (slice_get (values g) k ≡ Some (Argument (record { 0 = c.number }) i))
-argument_among g j i c t at at' =
-    among_values 0 g.blocks (suc j) i c (Argument (record { 0 = c.number }) i) at
-    (slice_get-kept (phi_values (0 + suc j) c) (result_values c.ops) i (Argument (record { 0 = c.number }) i)
-    (ap (λ (q : ℕ). slice_get (phi_values q c) i) (let e : 0 + suc j ≡ suc j = omega arith in e) ∙ argument_at c.number 0 c.args i t at' ∙ ap (λ (m : ℕ). Some (Argument (record { 0 = c.number }) m)) (let e : 0 + i ≡ i = omega arith in e)))
-
-pub result_among : (g : Func) (j k : ℕ) (c : DialectBlock) (o : DialectOp) → slice_get g.blocks j ≡ Some c → slice_get c.ops k ≡ Some o → is_constant o ≡ false → (i : ℕ) × (slice_get (values g) i ≡ Some (result o))
-result_among g j k c o at at' other =
-    let r = other_at c.ops k o at' other in
-    among_values 0 g.blocks j (length (phi_values (0 + j) c) + r.0) c (result o) at
-    (at_behind (phi_values (0 + j) c) (result_values c.ops) r.0 ∙ slice_get-map result (others_of c.ops) r.0 ∙ ap (option_map result) r.1)
 
 -- ---- what the form says
 

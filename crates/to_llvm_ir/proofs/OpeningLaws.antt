@@ -34,6 +34,7 @@ use Rattle.to_llvm_ir.specs.Made.{Numbers, empty_block, empty_blocks, function_w
 use Rattle.to_llvm_ir.specs.States.{Task, IsBlockAt, AreMapped, IsTargetOf, found_block, same_block}
 use Rattle.to_llvm_ir.specs.Opening.{HasParams, HasFunction, IsOpening, IsDeclared, AreBlocks}
 use Rattle.to_llvm_ir.proofs.ListLaws.{take_suc, split_at}
+use Rattle.to_llvm_ir.proofs.TurnLaws.{named_within}
 use Rattle.to_llvm_ir.proofs.ArgumentLaws.{block_number}
 use Rattle.to_llvm_ir.proofs.LookupLaws.{entry_at}
 
@@ -204,6 +205,12 @@ has_params t form c f ty m at s number h = record {
 
 pub block_there : (c : ContextData) (t : Task) (bs : List BlockRef) (i : ℕ) (d : BlockRef) → AreBlocks c t bs → i < length bs → (block : DialectBlock) × IsBlockAt c t i block (get_or bs i d)
 block_there c t bs i d h lt = h.each i (get_or bs i d) (slice_get-get_or bs i d lt)
+
+-- the block that an order names at a place
+pub taken_there : (c : ContextData) (t : Task) (bs : List BlockRef) (order : List ℕ) (k p : ℕ) (d : BlockRef) → AreBlocks c t bs → order ≡ t.numbers.order → slice_get order k ≡ Some p → (block : DialectBlock) × IsBlockAt c t p block (get_or bs p d)
+taken_there c t bs order k p d are is named =
+    let lt = named_within (length t.source.blocks) t.numbers.order are.task.order.once k p (ap (λ (ps : List ℕ). slice_get ps k) (sym is) ∙ named) in
+    block_there c t bs p d are (let e = are.count in omega (arith, lt, e))
 
 pub function_there : (t : Task) (i : ℕ) (f : LLVMFunction) (ty : LLVMType) (blocks : Blocks) (m : Module) → IsOpening t i f ty blocks m → f.0 < length m.functions
 function_there t i f ty blocks m h = slice_get_within m.functions f.0 h.function.function h.function.there

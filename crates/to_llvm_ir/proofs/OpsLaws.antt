@@ -54,7 +54,7 @@ count_none c ops i d lt is =
 
 -- one more is done
 pub done_some : (c : ContextData) (t : Task) (j : ℕ) (b : DialectBlock) (ops : List OpRef) (i : ℕ) (d : OpRef) (o : DialectOp) (old new : Values) (m m' : Module) → IsListed c t j b ops → i < length ops → op_at (type_trees c.types) c.ops (get_or ops i d) ≡ Some o
-    → AreDone t j b (count_to c ops i) old m → IsAtOp t j b (suc (count_to c ops i)) new m' → IsAcceptedOp t.source j (count_to c ops i) o → AreDone t j b (count_to c ops (i + 1)) new m'
+    → AreDone t j b (count_to c ops i) old m → IsAtOp t j b (suc (count_to c ops i)) new m' → IsAcceptedOp t.numbers.order t.source j (count_to c ops i) o → AreDone t j b (count_to c ops (i + 1)) new m'
 done_some c t j b ops i d o old new m m' h lt is before after accepted =
     let count = count_some c ops i d o lt is in
     let there = (next_spot c t j b ops i d o h lt is).there in
@@ -63,7 +63,7 @@ done_some c t j b ops i d o old new m m' h lt is before after accepted =
       accepted = λ k x less at. ⊎_elim
           (λ same.
           let e : o ≡ x = same_Some o x (sym there ∙ ap (slice_get b.ops) (sym same) ∙ at) in
-          subst (λ (y : DialectOp). IsAcceptedOp t.source j k y) e (subst (λ (q : ℕ). IsAcceptedOp t.source j q o) (sym same) accepted))
+          subst (λ (y : DialectOp). IsAcceptedOp t.numbers.order t.source j k y) e (subst (λ (q : ℕ). IsAcceptedOp t.numbers.order t.source j q o) (sym same) accepted))
           (λ differs. before.accepted k x (omega (arith, less, differs)) at)
           (cases_eq k (count_to c ops i));
     })

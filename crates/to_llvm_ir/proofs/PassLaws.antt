@@ -31,7 +31,8 @@ use Rattle.to_llvm_ir.specs.States.{Task, IsTask, Spot, IsSpot, IsBlockAt, IsLin
 use Rattle.to_llvm_ir.specs.Links.{Given, IsTypedValue, IsEntryNext, IsEdgeNext, IsLinkedTo}
 use Rattle.to_llvm_ir.proofs.ListLaws.{all_at, item_there}
 use Rattle.to_llvm_ir.proofs.ContextLaws.{func_parts, block_parts}
-use Rattle.to_llvm_ir.proofs.LookupLaws.{argument_among, argument_type}
+use Rattle.to_llvm_ir.proofs.LookupLaws.{argument_type}
+use Rattle.to_llvm_ir.proofs.TurnLaws.{argument_among}
 use Rattle.to_llvm_ir.proofs.UseLaws.{from_item}
 use Rattle.to_llvm_ir.proofs.LeadLaws.{spot_edge}
 use Rattle.to_llvm_ir.proofs.ArgumentLaws.{args_count}
@@ -116,9 +117,10 @@ entry_next t e from given now known start m i x h at s =
     let lt = slice_get_within e.args i x at in
     let count = target.count in
     let type = item_there target.block.args i (omega (arith, lt, count)) in
-    let there = argument_among t.source target.place i target.block type.0 target.here type.1 in
+    let there = argument_among t.source h.form t.numbers.order h.order.once target.place i target.block type.0 target.here type.1 in
     record {
       form = h.form;
+      order = h.order;
       insts = h.insts;
       place = there.0;
       at = there.1 ∙ ap (λ (q : ℕ). Some (Argument (record { 0 = q }) i)) target.number;
@@ -195,6 +197,7 @@ edge_next c op s l e from blocks given known m h fits =
     let form = spot_edge c op s l e h.spot h.at in
     record {
       form = h.spot.task.form;
+      order = h.spot.task.order;
       insts = h.spot.task.insts;
       target = edge_target s.task.source e form fits;
       args = All-weaker (λ (v : Value). (type : TypeTree) × IsOperand s.task.source type v) (IsTypedValue s.task.source) (λ v o. (o.0, o.1.typed)) e.args form.args;

@@ -11,6 +11,7 @@ use Rattle.llvm_core.specs.Form as F
 use Rattle.llvm_core.specs.Form.{is_phi}
 use Rattle.llvm_core.proofs.ListLemmas.{slice_get-kept}
 use Rattle.dialect_types.specs.Trees.{TypeTree}
+use Rattle.block_order.specs.Order.{IsOrder}
 use Rattle.dialect_core.specs.declared.numbers.BlockRef.{BlockRef}
 use Rattle.dialect_core.specs.declared.ops.Value.{Value}
 use Rattle.dialect_core.specs.declared.ops.Value.TheVariants.{Argument}
@@ -19,11 +20,12 @@ use Rattle.dialect_core.specs.Data.{DialectOp, DialectBlock, Func, Kind, Constan
 use Rattle.dialect_core.specs.Form.{IsFormFunc, FitsTarget, edges_of, is_constant}
 use Rattle.meaning.specs.Pairs.{BothOrNone}
 use Rattle.meaning.specs.Dialect.{type_of}
-use Rattle.to_llvm_ir.specs.Exported.{number_after, phi_types, edge_sources, HasEdges, HasPhis}
+use Rattle.to_llvm_ir.specs.Exported.{number_after, phi_types, edge_sources, blocks_by, HasEdges, HasPhis}
 use Rattle.to_llvm_ir.specs.Made.{Numbers, operand_for, instruction_for, inst, insts, phis, block_phis, block_made, function_made, entries, number_past}
 use Rattle.to_llvm_ir.specs.Accepted.{IsAccepted}
 use Rattle.to_llvm_ir.specs.Links.{HasTarget}
 use Rattle.to_llvm_ir.proofs.ListLaws.{all_at, append_cases, item_there, filter_all, filter_none}
+use Rattle.to_llvm_ir.proofs.TurnLaws.{named_within}
 use Rattle.to_llvm_ir.proofs.LookupLaws.{place_is}
 use Rattle.to_llvm_ir.proofs.EdgeLaws.{made_at, made_none, target_for, edge_form, edge_target}
 use Rattle.to_llvm_ir.proofs.CountLaws.{LeadsTo, entries_sources, comes_by}
@@ -89,7 +91,7 @@ module _ (g : Func) (n : Numbers) where
 
 -- ---- their entries
 
-module _ (g : Func) (form : IsFormFunc g) (n : Numbers) (accepted : IsAccepted g) where
+module _ (g : Func) (form : IsFormFunc g) (n : Numbers) (order : IsOrder (length g.blocks) n.order) (accepted : IsAccepted n.order g) where
   abbrev made : Function
   made = function_made g n (entries g n)
 
@@ -111,14 +113,14 @@ module _ (g : Func) (form : IsFormFunc g) (n : Numbers) (accepted : IsAccepted g
       to = ap (λ (m : ℕ). n.block + m) (place_is g form (suc h.place) s.block.0 h.block h.here h.number)
 
   pub phi_sources : (t : ℕ) (c : DialectBlock) (T i : ℕ) (ty : TypeTree) → slice_get g.blocks (suc t) ≡ Some c → slice_get c.args i ≡ Some ty → T ≡ n.block + suc t
-      → map (λ (e : Operand × ℕ). e.1) (entries g n (Argument (record { 0 = c.number }) i)) ≡ edge_sources T made.blocks
+      → map (λ (e : Operand × ℕ). e.1) (entries g n (Argument (record { 0 = c.number }) i)) ≡ edge_sources T (blocks_by n.order made)
   phi_sources t c T i ty at type is_T =
-      entries_sources g n form (entries g n) (record { 0 = c.number }) T i 0 0 g.blocks (λ j d at'. (j, at')) (λ j l d s at' at''. leads_to t c T i ty at type is_T s (has_target j l d s at' at''))
+      entries_sources g n form (entries g n) (record { 0 = c.number }) T i n.order (named_within (length g.blocks) n.order order) (λ j l d s at' at''. leads_to t c T i ty at type is_T s (has_target j l d s at' at''))
 
   pub phi_alike : (b : BlockRef) (i : ℕ) (k l : ℕ) (x y : Operand × ℕ) → slice_get (entries g n (Argument b i)) k ≡ Some x → slice_get (entries g n (Argument b i)) l ≡ Some y → x.1 ≡ y.1 → x.0 ≡ y.0
   phi_alike b i k l x y at at' e =
-      let p = comes_by g n 0 g.blocks b i k x at in
-      let q = comes_by g n 0 g.blocks b i l y at' in
+      let p = comes_by g n n.order b i k x at in
+      let q = comes_by g n n.order b i l y at' in
       let place : p.at ≡ q.at = let u = p.source in let v = q.source in omega (arith, u, v, e) in
       let block : p.block ≡ q.block = same_Some p.block q.block (sym p.here ∙ ap (slice_get g.blocks) place ∙ q.here) in
       let there : slice_get (edges_of p.block) q.edge_at ≡ Some q.edge = ap (λ (c : DialectBlock). slice_get (edges_of c) q.edge_at) block ∙ q.there in
@@ -130,19 +132,19 @@ module _ (g : Func) (form : IsFormFunc g) (n : Numbers) (accepted : IsAccepted g
   -- ---- block by block
 
   phis_entries : (t : ℕ) (c : DialectBlock) → slice_get g.blocks (suc t) ≡ Some c → (i k : ℕ) (ts : List TypeTree) → ((m : ℕ) (ty : TypeTree) → slice_get ts m ≡ Some ty → slice_get c.args (i + m) ≡ Some ty)
-      → All (λ (p : Placed). IfSome (phi_entries p.instruction) (HasEdges made (n.block + suc t))) (phis g n (entries g n) c.number i k ts)
-  phis_entries t c at i k [] are = All-nil (λ (p : Placed). IfSome (phi_entries p.instruction) (HasEdges made (n.block + suc t)))
+      → All (λ (p : Placed). IfSome (phi_entries p.instruction) (HasEdges n.order made (n.block + suc t))) (phis g n (entries g n) c.number i k ts)
+  phis_entries t c at i k [] are = All-nil (λ (p : Placed). IfSome (phi_entries p.instruction) (HasEdges n.order made (n.block + suc t)))
   phis_entries t c at i k (ty ∷ ts) are =
       let type : slice_get c.args i ≡ Some ty = ap (slice_get c.args) (let e : i ≡ i + 0 = omega arith in e) ∙ are 0 ty refl in
-      All-cons (λ (p : Placed). IfSome (phi_entries p.instruction) (HasEdges made (n.block + suc t))) _ (phis g n (entries g n) c.number (suc i) (k + 1) ts)
+      All-cons (λ (p : Placed). IfSome (phi_entries p.instruction) (HasEdges n.order made (n.block + suc t))) _ (phis g n (entries g n) c.number (suc i) (k + 1) ts)
       (record { sources = phi_sources t c (n.block + suc t) i ty at type refl; alike = phi_alike (record { 0 = c.number }) i })
       (phis_entries t c at (suc i) (k + 1) ts (λ m u at'. ap (slice_get c.args) (let e : suc i + m ≡ i + suc m = omega arith in e) ∙ are (suc m) u at'))
 
-  block_entries : (j k : ℕ) (c : DialectBlock) → slice_get g.blocks j ≡ Some c → All (λ (p : Placed). IfSome (phi_entries p.instruction) (HasEdges made (n.block + j))) (block_phis g n (entries g n) j k c)
-  block_entries zero k c at = All-nil (λ (p : Placed). IfSome (phi_entries p.instruction) (HasEdges made (n.block + zero)))
+  block_entries : (j k : ℕ) (c : DialectBlock) → slice_get g.blocks j ≡ Some c → All (λ (p : Placed). IfSome (phi_entries p.instruction) (HasEdges n.order made (n.block + j))) (block_phis g n (entries g n) j k c)
+  block_entries zero k c at = All-nil (λ (p : Placed). IfSome (phi_entries p.instruction) (HasEdges n.order made (n.block + zero)))
   block_entries (suc t) k c at = phis_entries t c at 0 k c.args (λ m ty at'. ap (slice_get c.args) (let e : 0 + m ≡ m = omega arith in e) ∙ at')
 
-  block_has_phis : (j k : ℕ) (c : DialectBlock) → slice_get g.blocks j ≡ Some c → HasPhis made j c (block_made g n (entries g n) j k c)
+  block_has_phis : (j k : ℕ) (c : DialectBlock) → slice_get g.blocks j ≡ Some c → HasPhis n.order made j c (block_made g n (entries g n) j k c)
   block_has_phis j k c at =
       let xs = block_phis g n (entries g n) j k c in
       let ys = insts g n (k + length c.args) c.ops in
@@ -151,16 +153,16 @@ module _ (g : Func) (form : IsFormFunc g) (n : Numbers) (accepted : IsAccepted g
       record {
         types = ap (map (λ (p : Placed). p.type)) (phis_only xs ys yes no) ∙ block_phis_types g n (entries g n) j k c;
         first = phis_first xs ys yes no;
-        entries = All-append (λ (p : Placed). IfSome (phi_entries p.instruction) (HasEdges made (n.block + j))) xs ys (block_entries j k c at)
-            (insts_other g n (λ (o : Option (List (Operand × ℕ))). IfSome o (HasEdges made (n.block + j))) tt (k + length c.args) c.ops);
+        entries = All-append (λ (p : Placed). IfSome (phi_entries p.instruction) (HasEdges n.order made (n.block + j))) xs ys (block_entries j k c at)
+            (insts_other g n (λ (o : Option (List (Operand × ℕ))). IfSome o (HasEdges n.order made (n.block + j))) tt (k + length c.args) c.ops);
       }
 
-  pub made_phis : (place : ℕ) → BothOrNone (HasPhis made place) (slice_get g.blocks place) (slice_get made.blocks place)
+  pub made_phis : (place : ℕ) → BothOrNone (HasPhis n.order made place) (slice_get g.blocks place) (slice_get made.blocks place)
   made_phis j = by (slice_get g.blocks j) refl
     where
-      by : (o : Option DialectBlock) → slice_get g.blocks j ≡ o → BothOrNone (HasPhis made j) o (slice_get made.blocks j)
-      by None e = subst (λ (b : Option Block). BothOrNone (HasPhis made j) None b) (sym (made_none g n (entries g n) 0 0 g.blocks j e)) tt
+      by : (o : Option DialectBlock) → slice_get g.blocks j ≡ o → BothOrNone (HasPhis n.order made j) o (slice_get made.blocks j)
+      by None e = subst (λ (b : Option Block). BothOrNone (HasPhis n.order made j) None b) (sym (made_none g n (entries g n) 0 0 g.blocks j e)) tt
       by (Some c) e =
           let k = number_past 0 (take j g.blocks) in
-          subst (λ (b : Option Block). BothOrNone (HasPhis made j) (Some c) b) (sym (made_at g n (entries g n) 0 0 g.blocks j c e))
-          (subst (λ (q : ℕ). HasPhis made j c (block_made g n (entries g n) q k c)) (let z : j ≡ 0 + j = omega arith in z) (block_has_phis j k c e))
+          subst (λ (b : Option Block). BothOrNone (HasPhis n.order made j) (Some c) b) (sym (made_at g n (entries g n) 0 0 g.blocks j c e))
+          (subst (λ (q : ℕ). HasPhis n.order made j c (block_made g n (entries g n) q k c)) (let z : j ≡ 0 + j = omega arith in z) (block_has_phis j k c e))

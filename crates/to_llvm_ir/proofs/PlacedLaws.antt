@@ -5,11 +5,11 @@ use Rattle.std.specs.Option.{option_map_or}
 use Rattle.std.proofs.lemmas.Option.{same_Some, none-some, slice_get_within}
 use Rattle.std.proofs.lemmas.Bool.{cond-true, cond-false}
 use Rattle.std.proofs.lemmas.List.{length-map}
-use Rattle.llvm_core.specs.Interned.{IsDistinctList}
 use Rattle.llvm_core.specs.Data as L
 use Rattle.llvm_core.specs.Data.{Operand, Placed, Block, Function, placed_in, operand_type}
 use Rattle.llvm_core.specs.Form as F
 use Rattle.dialect_types.specs.Trees.{TypeTree, TypeTrees, VoidType, IntegerType, FuncType, NoTypes, ThenType, AttrTree, IntegerAttr}
+use Rattle.block_order.specs.Order.{IsOrder}
 use Rattle.dialect_core.specs.declared.numbers.BlockRef.{BlockRef}
 use Rattle.dialect_core.specs.declared.numbers.OpRef.{OpRef}
 use Rattle.dialect_core.specs.declared.ops.Value.{Value}
@@ -19,10 +19,11 @@ use Rattle.dialect_core.specs.Form.{IsFormFunc, IsFormKind, IsShortInt, IsFittin
 use Rattle.meaning.specs.Pairs.{Matched}
 use Rattle.meaning.specs.Dialect.{type_of, types_of, option_type}
 use Rattle.to_llvm_ir.specs.Exported.{number_after, number_behind}
-use Rattle.to_llvm_ir.specs.Made.{Numbers, result, arguments_from, phi_values, result_values, values_from, values, const_of, constant_or, is_entry, number_of, operand_for, inst, insts, phis, block_phis, block_made, blocks_made, function_made, entry_args}
+use Rattle.to_llvm_ir.specs.Made.{Numbers, result, arguments_from, phi_values, result_values, values_from, values, values_by, const_of, constant_or, is_entry, number_of, operand_for, inst, insts, phis, block_phis, block_made, blocks_made, function_made, entry_args}
 use Rattle.to_llvm_ir.proofs.ListLaws.{AreNumbered, find_numbered, all_at}
-use Rattle.to_llvm_ir.proofs.PlaceLaws.{place_at, from_distinct}
-use Rattle.to_llvm_ir.proofs.LookupLaws.{argument_type, result_type, argument_of, result_of, argument_among, result_among, op_found, op_form, entry_at, entry_is, entry_is_not, first_is_entry, IsResultOf}
+use Rattle.to_llvm_ir.proofs.PlaceLaws.{place_at}
+use Rattle.to_llvm_ir.proofs.TurnLaws.{values_distinct, values_by_distinct, values_by_at, values_by_from, argument_among, result_among}
+use Rattle.to_llvm_ir.proofs.LookupLaws.{argument_type, result_type, argument_of, result_of, op_found, op_form, entry_at, entry_is, entry_is_not, first_is_entry, IsResultOf}
 
 -- ---- matched lists
 
@@ -50,7 +51,7 @@ pub record IsPlaced (g : Func) (n : Numbers) (v : Value) (p : Placed) : Type 0 w
   pub number : p.number ≡ number_of g n v
   pub type : p.type ≡ option_type (value_type g v)
 
-module _ (g : Func) (form : IsFormFunc g) (n : Numbers) (given : Value → List (Operand × ℕ)) where
+module _ (g : Func) (form : IsFormFunc g) (n : Numbers) (order : IsOrder (length g.blocks) n.order) (given : Value → List (Operand × ℕ)) where
   phis_placed : (b i k : ℕ) (ts : List TypeTree) → ((j : ℕ) (t : TypeTree) → slice_get ts j ≡ Some t → value_type g (Argument (record { 0 = b }) (i + j)) ≡ Some t) → Matched (IsPlaced g n) (arguments_from b i ts) (phis g n given b i k ts)
   phis_placed b i k [] h = tt
   phis_placed b i k (t ∷ ts) h =
@@ -91,30 +92,35 @@ module _ (g : Func) (form : IsFormFunc g) (n : Numbers) (given : Value → List 
   pub placed : Matched (IsPlaced g n) (values g) (placed_in made)
   placed = blocks_placed 0 0 g.blocks (λ j c at. ap (slice_get g.blocks) (let e : 0 + j ≡ j = omega arith in e) ∙ at)
 
-  pub values_distinct : IsDistinctList (values g)
-  values_distinct = from_distinct 0 g.blocks form.block_numbers form.numbers
-
-  pub number_at : (i : ℕ) (v : Value) → slice_get (values g) i ≡ Some v → number_of g n v ≡ n.inst + i
-  number_at i v at = ap (λ (j : ℕ). n.inst + j) (place_at v (values g) i values_distinct at)
+  pub number_at : (i : ℕ) (v : Value) → slice_get (values_by n.order g) i ≡ Some v → number_of g n v ≡ n.inst + i
+  number_at i v at = ap (λ (j : ℕ). n.inst + j) (place_at v (values_by n.order g) i (values_by_distinct g form n.order order) at)
 
   pub placed_numbered : AreNumbered (λ (p : Placed). p.number) (placed_in made)
   placed_numbered i j a b at at' e =
       let p = matched_back (IsPlaced g n) (values g) (placed_in made) i a placed at in
       let q = matched_back (IsPlaced g n) (values g) (placed_in made) j b placed at' in
-      let h = number_at i p.0 p.1 in
-      let k = number_at j q.0 q.1 in
+      let r = values_by_at g form n.order order i p.0 p.1 in
+      let s = values_by_at g form n.order order j q.0 q.1 in
+      let h = number_at r.0 p.0 r.1 in
+      let k = number_at s.0 q.0 s.1 in
       let x = p.2.number in
       let y = q.2.number in
-      omega (arith, e, h, k, x, y)
+      let same : r.0 ≡ s.0 = omega (arith, e, h, k, x, y) in
+      let value : p.0 ≡ q.0 = same_Some p.0 q.0 (sym r.1 ∙ ap (slice_get (values_by n.order g)) same ∙ s.1) in
+      values_distinct g form i j p.0 p.1 (q.1 ∙ ap Some (sym value))
 
   -- the result of the instruction of a value
-  pub result_typed : (i : ℕ) (v : Value) → slice_get (values g) i ≡ Some v → operand_type made (L.Result (number_of g n v)) ≡ option_type (value_type g v)
+  pub result_typed : (i : ℕ) (v : Value) → slice_get (values_by n.order g) i ≡ Some v → operand_type made (L.Result (number_of g n v)) ≡ option_type (value_type g v)
   result_typed i v at =
-      let p = matched_at (IsPlaced g n) (values g) (placed_in made) i v placed at in
-      ap (λ (o : Option Placed). option_map_or (λ (x : Placed). x.type) o L.VoidType) (find_numbered (λ (x : Placed). x.number) (placed_in made) i (number_of g n v) p.0 placed_numbered p.1 p.2.number) ∙ p.2.type
+      let k = values_by_from g form n.order order i v at in
+      let p = matched_at (IsPlaced g n) (values g) (placed_in made) k.0 v placed k.1 in
+      ap (λ (o : Option Placed). option_map_or (λ (x : Placed). x.type) o L.VoidType) (find_numbered (λ (x : Placed). x.number) (placed_in made) k.0 (number_of g n v) p.0 placed_numbered p.1 p.2.number) ∙ p.2.type
 
-  pub result_there : (i : ℕ) (v : Value) → slice_get (values g) i ≡ Some v → F.HasNumber (number_of g n v) (placed_in made)
-  result_there i v at = let p = matched_at (IsPlaced g n) (values g) (placed_in made) i v placed at in (i, p.0, p.1, p.2.number)
+  pub result_there : (i : ℕ) (v : Value) → slice_get (values_by n.order g) i ≡ Some v → F.HasNumber (number_of g n v) (placed_in made)
+  result_there i v at =
+      let k = values_by_from g form n.order order i v at in
+      let p = matched_at (IsPlaced g n) (values g) (placed_in made) k.0 v placed k.1 in
+      (k.0, p.0, p.1, p.2.number)
 
   -- ---- parameters
 
@@ -163,14 +169,14 @@ module _ (g : Func) (form : IsFormFunc g) (n : Numbers) (given : Value → List 
   pub data OperandIs (v : Value) (t : TypeTree) : Type 0 where
     IsParam : (i : ℕ) (b : BlockRef) → v ≡ Argument b i → b.0 ≡ form.entry.number → slice_get form.entry.args i ≡ Some t → operand_for g n v ≡ L.Parameter n.function i → OperandIs v t
     IsConst : (k : ℕ) (o : DialectOp) (value : AttrTree) → slice_get form.entry.ops k ≡ Some o → v ≡ result o → o.kind ≡ ConstantOp value → o.result ≡ Some t → IsFormKind g o o.kind → operand_for g n v ≡ L.Constant (const_of value) → OperandIs v t
-    IsInst : (i : ℕ) → slice_get (values g) i ≡ Some v → operand_for g n v ≡ L.Result (number_of g n v) → OperandIs v t
+    IsInst : (i : ℕ) → slice_get (values_by n.order g) i ≡ Some v → operand_for g n v ≡ L.Result (number_of g n v) → OperandIs v t
 
   argument_is : (b : BlockRef) (i : ℕ) (t : TypeTree) (place : ℕ) (c : DialectBlock) → slice_get g.blocks place ≡ Some c → c.number ≡ b.0 → slice_get c.args i ≡ Some t → OperandIs (Argument b i) t
   argument_is b i t zero c at is type =
       let e = first_is_entry g form c at in
       IsParam i b refl (sym is ∙ ap (λ (x : DialectBlock). x.number) e) (ap (λ (x : DialectBlock). slice_get x.args i) (sym e) ∙ type) (param_operand i b (entry_is g form b.0 c at is))
   argument_is b i t (suc p) c at is type =
-      let r = argument_among g p i c t at type in
+      let r = argument_among g form n.order order p i c t at type in
       let same : Argument (record { 0 = c.number }) i ≡ Argument b i = ap (λ (m : ℕ). Argument (record { 0 = m }) i) is in
       IsInst r.0 (r.1 ∙ ap Some same) (argument_operand i b (entry_is_not g form p b.0 c at is))
 
@@ -193,7 +199,7 @@ module _ (g : Func) (form : IsFormFunc g) (n : Numbers) (given : Value → List 
   result_is : (r : OpRef) (t : TypeTree) (h : IsResultOf g form r t) → (b : Bool) → is_constant h.op ≡ b → OperandIs (Result r) t
   result_is r t h true e = constant_is r t h.place h.at h.block h.op h.op.kind h.here h.there h.number h.type refl e
   result_is r t h false e =
-      let i = result_among g h.place h.at h.block h.op h.here h.there e in
+      let i = result_among g form n.order order h.place h.at h.block h.op h.here h.there e in
       IsInst i.0 (i.1 ∙ ap (λ (m : ℕ). Some (Result (record { 0 = m }))) h.number) (result_operand h.place h.at r h.block h.op h.here h.there h.number e)
 
   pub operand_is : (v : Value) (t : TypeTree) → value_type g v ≡ Some t → OperandIs v t

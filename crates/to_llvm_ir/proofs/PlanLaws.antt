@@ -9,6 +9,7 @@ use Rattle.llvm_core.specs.Data as L
 use Rattle.llvm_core.specs.Data.{Operand, Placed, Function, Block}
 use Rattle.llvm_core.proofs.ListLemmas.{slice_get-kept}
 use Rattle.dialect_types.specs.Trees.{TypeTree, TypeTrees, VoidType, IntegerType, FuncType, NoTypes, ThenType, AttrTree, IntegerAttr}
+use Rattle.block_order.specs.Order.{IsOrder}
 use Rattle.dialect_core.specs.declared.ops.Value.{Value}
 use Rattle.dialect_core.specs.declared.ops.Value.TheVariants.{Result, Argument}
 use Rattle.dialect_core.specs.Data.{DialectOp, DialectBlock, Func, Kind, ConstantOp, AddOp, ICmpOp, BrOp, CondBrOp, ReturnOp, UnreachableOp, ops_in, value_type}
@@ -24,11 +25,12 @@ use Rattle.meaning.specs.Shape as S
 use Rattle.meaning.specs.Shape.{Plan, IsPlan, IsSilent, among, AreAmong, operands_of, IsClosed, term_among}
 use Rattle.meaning.proofs.SameValues.{same_value-Decides}
 use Rattle.meaning.proofs.Fronts.{made, after_one, after, ran, others}
-use Rattle.to_llvm_ir.specs.Made.{Numbers, result, values, const_of, number_of, operand_for, function_made}
+use Rattle.to_llvm_ir.specs.Made.{Numbers, result, values_by, const_of, number_of, operand_for, function_made}
 use Rattle.to_llvm_ir.proofs.ListLaws.{AreNumbered, numbered_rest, append_cases, all_at}
 use Rattle.to_llvm_ir.proofs.PlaceLaws.{comes_from}
+use Rattle.to_llvm_ir.proofs.TurnLaws.{values_by_distinct, values_by_from}
 use Rattle.to_llvm_ir.proofs.LookupLaws.{op_among, entry_at}
-use Rattle.to_llvm_ir.proofs.PlacedLaws.{values_distinct, number_at, OperandIs, IsParam, IsConst, IsInst, operand_is}
+use Rattle.to_llvm_ir.proofs.PlacedLaws.{number_at, OperandIs, IsParam, IsConst, IsInst, operand_is}
 
 abbrev of_number : ℕ → Value
 of_number n = Result (record { 0 = n })
@@ -85,10 +87,10 @@ module _ (g : Func) where
 
 -- ---- the plan
 
-module _ (g : Func) (form : IsFormFunc g) (n : Numbers) where
+module _ (g : Func) (form : IsFormFunc g) (n : Numbers) (order : IsOrder (length g.blocks) n.order) where
   abbrev pub value_of : Key → Option Value
   value_of (ParamKey m i) = if nat_eq m n.function && nat_lt i (length form.entry.args) then Some (Argument (record { 0 = form.entry.number }) i) else None
-  value_of (ResultKey m) = if nat_le n.inst m then slice_get (values g) (m - n.inst) else None
+  value_of (ResultKey m) = if nat_le n.inst m then slice_get (values_by n.order g) (m - n.inst) else None
 
   abbrev pub plan : Plan
   plan = record { value = value_of; hoisted = rows g form.constants.hoisted }
@@ -126,32 +128,34 @@ module _ (g : Func) (form : IsFormFunc g) (n : Numbers) where
       let p = and_parts (nat_eq m n.function) (nat_lt i (length form.entry.args)) c.0 in
       (eqb-true m n.function p.0, ltb-true i (length form.entry.args) p.1, sym c.1)
 
-  result_parts : (m : ℕ) (w : Value) → value_of (ResultKey m) ≡ Some w → (i : ℕ) × (slice_get (values g) i ≡ Some w) × (m ≡ n.inst + i)
+  result_parts : (m : ℕ) (w : Value) → value_of (ResultKey m) ≡ Some w → (i : ℕ) × (slice_get (values_by n.order g) i ≡ Some w) × (m ≡ n.inst + i)
   result_parts m w e = by (nat_le n.inst m) refl e
     where
-      by : (t : Bool) → nat_le n.inst m ≡ t → (if t then slice_get (values g) (m - n.inst) else None) ≡ Some w → (i : ℕ) × (slice_get (values g) i ≡ Some w) × (m ≡ n.inst + i)
+      by : (t : Bool) → nat_le n.inst m ≡ t → (if t then slice_get (values_by n.order g) (m - n.inst) else None) ≡ Some w → (i : ℕ) × (slice_get (values_by n.order g) i ≡ Some w) × (m ≡ n.inst + i)
       by true le k = (m - n.inst, k, let h = leb-true n.inst m le in omega (arith, h))
       by false le k = absurd (none-some w k)
 
-  pub value_at : (i : ℕ) (v : Value) → slice_get (values g) i ≡ Some v → value_of (ResultKey (number_of g n v)) ≡ Some v
+  pub value_at : (i : ℕ) (v : Value) → slice_get (values_by n.order g) i ≡ Some v → value_of (ResultKey (number_of g n v)) ≡ Some v
   value_at i v at =
-      let e = number_at g form n (λ v. []) i v at in
+      let e = number_at g form n order (λ v. []) i v at in
       ap (λ (m : ℕ). value_of (ResultKey m)) e
-      ∙ cond-true (nat_le n.inst (n.inst + i)) (slice_get (values g) (n.inst + i - n.inst)) None (le-leb n.inst (n.inst + i) (omega arith))
-      ∙ ap (slice_get (values g)) (let k : n.inst + i - n.inst ≡ i = omega arith in k) ∙ at
+      ∙ cond-true (nat_le n.inst (n.inst + i)) (slice_get (values_by n.order g) (n.inst + i - n.inst)) None (le-leb n.inst (n.inst + i) (omega arith))
+      ∙ ap (slice_get (values_by n.order g)) (let k : n.inst + i - n.inst ≡ i = omega arith in k) ∙ at
 
   -- what becomes an instruction is no argument of the entry
-  argument_apart : (i m : ℕ) (j : ℕ) → slice_get (values g) i ≡ Some (Argument (record { 0 = m }) j) → m ≡ form.entry.number → ⊥
+  argument_apart : (i m : ℕ) (j : ℕ) → slice_get (values_by n.order g) i ≡ Some (Argument (record { 0 = m }) j) → m ≡ form.entry.number → ⊥
   argument_apart i m j at e =
-      let f = comes_from 0 g.blocks i (Argument (record { 0 = m }) j) at in
+      let w = values_by_from g form n.order order i (Argument (record { 0 = m }) j) at in
+      let f = comes_from 0 g.blocks w.0 (Argument (record { 0 = m }) j) w.1 in
       let k : 0 ≡ f.0 = form.block_numbers 0 f.0 form.entry f.1 (entry_at g form) f.2 (sym e ∙ sym f.3) in
       let lt = f.4 in
       omega (arith, k, lt)
 
   -- and no constant
-  constant_apart : (i : ℕ) (r : ℕ) (k : ℕ) (o : DialectOp) → slice_get (values g) i ≡ Some (of_number r) → slice_get form.constants.hoisted k ≡ Some o → o.number ≡ r → ⊥
+  constant_apart : (i : ℕ) (r : ℕ) (k : ℕ) (o : DialectOp) → slice_get (values_by n.order g) i ≡ Some (of_number r) → slice_get form.constants.hoisted k ≡ Some o → o.number ≡ r → ⊥
   constant_apart i r k o at there e =
-      let f = comes_from 0 g.blocks i (of_number r) at in
+      let w = values_by_from g form n.order order i (of_number r) at in
+      let f = comes_from 0 g.blocks w.0 (of_number r) w.1 in
       let p = op_among g.blocks 0 k form.entry o (entry_at g form) (hoisted_at k o there) in
       let same : p.0 ≡ f.0 = form.numbers p.0 f.0 o f.1 p.1 f.2 (e ∙ sym f.3) in
       let is : o ≡ f.1 = same_Some o f.1 (sym p.1 ∙ ap (slice_get (ops_in g)) same ∙ f.2) in
@@ -178,7 +182,7 @@ module _ (g : Func) (form : IsFormFunc g) (n : Numbers) where
   one_to_one (ResultKey m) (ResultKey l) w e e' =
       let p = result_parts m w e in
       let q = result_parts l w e' in
-      let i = values_distinct g form n (λ v. []) p.0 q.0 w p.1 q.1 in
+      let i = values_by_distinct g form n.order order p.0 q.0 w p.1 q.1 in
       ap ResultKey (p.2 ∙ ap (λ (k : ℕ). n.inst + k) i ∙ sym q.2)
 
   apart_from : (w : Value) → ((k : ℕ) (o : DialectOp) → slice_get form.constants.hoisted k ≡ Some o → result o ≡ w → ⊥) → among (rows g form.constants.hoisted) w ≡ false
@@ -228,7 +232,7 @@ module _ (g : Func) (form : IsFormFunc g) (n : Numbers) where
   constant_same : (d : L.ModuleData) (value : AttrTree) → rename same_places (llvm.const_term d (const_of value)) ≡ attr_term value
   constant_same d (IntegerAttr t m) = integer_same t m
 
-  stands_as : (d : L.ModuleData) (given : Value → List (Operand × ℕ)) (v : Value) (t : TypeTree) → OperandIs g form n given v t → S.StandsFor same_places plan (llvm.operand d (operand_for g n v)) (At v)
+  stands_as : (d : L.ModuleData) (given : Value → List (Operand × ℕ)) (v : Value) (t : TypeTree) → OperandIs g form n order given v t → S.StandsFor same_places plan (llvm.operand d (operand_for g n v)) (At v)
   stands_as d given v t (IsParam i b is entry type operand) =
       let lt = slice_get_within form.entry.args i t type in
       subst (λ (o : Operand). S.StandsFor same_places plan (llvm.operand d o) (At v)) (sym operand)
@@ -245,4 +249,4 @@ module _ (g : Func) (form : IsFormFunc g) (n : Numbers) where
   stands_as d given v t (IsInst i at operand) = subst (λ (o : Operand). S.StandsFor same_places plan (llvm.operand d o) (At v)) (sym operand) (value_at i v at)
 
   pub stands : (d : L.ModuleData) (v : Value) (t : TypeTree) → value_type g v ≡ Some t → S.StandsFor same_places plan (llvm.operand d (operand_for g n v)) (At v)
-  stands d v t e = stands_as d (λ v. []) v t (operand_is g form n (λ v. []) v t e)
+  stands d v t e = stands_as d (λ v. []) v t (operand_is g form n order (λ v. []) v t e)

@@ -4,16 +4,17 @@ use Rattle.std.specs.List.{filter_map, cons_option, find}
 use Rattle.std.specs.Option.{option_map, option_map_or}
 use Rattle.std.proofs.lemmas.List.{map-append, append-nil}
 use Rattle.std.proofs.lemmas.List.Elements.{filter_map-append, filter-append, All-weaker}
-use Rattle.std.proofs.lemmas.Option.{slice_get-map}
+use Rattle.std.proofs.lemmas.Option.{slice_get-map, slice_get_within}
 use Rattle.llvm_core.specs.Data as L
 use Rattle.llvm_core.specs.Data.{Placed, Operand, Instruction, Function, Block, ModuleData, operand_type, phi_entries, targets}
 use Rattle.dialect_types.specs.Trees.{TypeTree, VoidType, IntegerType, FuncType}
+use Rattle.block_order.specs.Order.{IsOrder}
 use Rattle.dialect_core.specs.declared.numbers.BlockRef.{BlockRef}
 use Rattle.dialect_core.specs.declared.ops.Value.{Value}
 use Rattle.dialect_core.specs.declared.ops.Value.TheVariants.{Argument}
 use Rattle.dialect_core.specs.declared.ops.Successor.{Successor}
 use Rattle.dialect_core.specs.Data.{DialectOp, DialectBlock, Func, Kind, ConstantOp, AddOp, ICmpOp, BrOp, CondBrOp, ReturnOp, UnreachableOp, value_type}
-use Rattle.dialect_core.specs.Form.{IsFormFunc, IsFormKind, IsOperand, Returns, result_of, FitsTarget, HasEqualEdges, IsExportable, is_constant, is_constant_kind, others_of, edges_of}
+use Rattle.dialect_core.specs.Form.{IsFormFunc, IsFormKind, IsOperand, Returns, result_of, FitsTarget, is_constant, is_constant_kind, others_of, edges_of}
 use Rattle.meaning.specs.Terms as Op
 use Rattle.meaning.specs.Terms.{Term, Predicate, rename, rename_type, rename_types, rename_immediate, overflow_immediates}
 use Rattle.meaning.specs.Machine.{Row, Action, Applies, At, Operand as MachineOperand, Block as MachineBlock}
@@ -25,11 +26,14 @@ use Rattle.meaning.specs.Dialect as dialect
 use Rattle.meaning.specs.Dialect.{type_of, option_type, attr_term, argument_moves, predicate_of}
 use Rattle.meaning.specs.Shape as S
 use Rattle.meaning.specs.Shape.{SameAction, SameRow, SameBlock, SameBlocks, SameShape, SameEdge, SameMove, IsFront}
+use Rattle.to_llvm_ir.specs.Order.{turn_of}
+use Rattle.to_llvm_ir.specs.Accepted.{IsAccepted}
 use Rattle.to_llvm_ir.specs.Exported.{number_after}
 use Rattle.to_llvm_ir.specs.Made.{Numbers, result, number_of, operand_for, instruction_for, inst, insts, phis, block_phis, block_made, function_made, entries, number_past}
 use Rattle.to_llvm_ir.specs.Links.{HasTarget}
 use Rattle.to_llvm_ir.proofs.ListLaws.{all_at, find_numbered, position_numbered, filter_all, filter_none}
-use Rattle.to_llvm_ir.proofs.LookupLaws.{op_form, argument_among, result_among, place_is, block_found, entry_at, first_is_entry}
+use Rattle.to_llvm_ir.proofs.TurnLaws.{argument_among, result_among, turn_at}
+use Rattle.to_llvm_ir.proofs.LookupLaws.{op_form, place_is, block_found, entry_at, first_is_entry}
 use Rattle.to_llvm_ir.proofs.PlacedLaws.{operand_typed}
 use Rattle.to_llvm_ir.proofs.PlanLaws.{plan, is_plan, starts, value_at, rows, stands}
 use Rattle.to_llvm_ir.proofs.EdgeLaws.{made_at, made_none, made_numbered, target_for, block_leads, edge_form, edge_target, first_entry}
@@ -64,18 +68,18 @@ edges_match : {A B X : Type 0} (P : A → B → Type 0) (f : ℕ → A) (t : X �
 edges_match P f t h [] same = tt
 edges_match P f t h (x ∷ xs) same = (same 0 x refl, edges_match P f t h xs (λ i y at. same (suc i) y at))
 
-module _ (g : Func) (form : IsFormFunc g) (n : Numbers) (d : ModuleData) where
+module _ (g : Func) (form : IsFormFunc g) (n : Numbers) (order : IsOrder (length g.blocks) n.order) (d : ModuleData) where
   abbrev made : Function
   made = function_made g n (entries g n)
 
   abbrev plan_value : ℕ → Option Value
-  plan_value m = (plan g form n).value (ResultKey m)
+  plan_value m = (plan g form n order).value (ResultKey m)
 
   abbrev Alike : MachineOperand Key → MachineOperand Value → Type 0
-  Alike = S.StandsFor same_places (plan g form n)
+  Alike = S.StandsFor same_places (plan g form n order)
 
   typed_alike : (v : Value) (t : TypeTree) → value_type g v ≡ Some t → rename_type same_places (operand_type made (operand_for g n v)) ≡ option_type (value_type g v)
-  typed_alike v t e = type_same (operand_type made (operand_for g n v)) ∙ operand_typed g form n (entries g n) v t e ∙ ap option_type (sym e)
+  typed_alike v t e = type_same (operand_type made (operand_for g n v)) ∙ operand_typed g form n order (entries g n) v t e ∙ ap option_type (sym e)
 
   -- ---- rows
 
@@ -85,61 +89,61 @@ module _ (g : Func) (form : IsFormFunc g) (n : Numbers) (d : ModuleData) where
   abbrev applied : DialectOp → Op.Opcode → List Op.Immediate → List Value → Action Value
   applied o opcode is vs = Applies opcode is (option_type o.result) (map (λ (v : Value). option_type (value_type g v)) vs) (map At vs)
 
-  actions : (o : DialectOp) (k : Kind) → IsFormKind g o k → is_constant o ≡ false → k ≡ o.kind → SameAction same_places (plan g form n) (act o (instruction_for g n k o.operands o.successors)) (dialect.action g o k)
+  actions : (o : DialectOp) (k : Kind) → IsFormKind g o k → is_constant o ≡ false → k ≡ o.kind → SameAction same_places (plan g form n order) (act o (instruction_for g n k o.operands o.successors)) (dialect.action g o k)
   actions o (ConstantOp value) h other is = let e : true ≡ false = ap is_constant_kind is ∙ other in cc
   actions o (AddOp flags) h other is =
-      subst (λ (vs : List Value). SameAction same_places (plan g form n) (act o (instruction_for g n (AddOp flags) vs o.successors)) (applied o Op.Add (overflow_immediates flags.nsw flags.nuw) vs)) (sym h.3) (
+      subst (λ (vs : List Value). SameAction same_places (plan g form n order) (act o (instruction_for g n (AddOp flags) vs o.successors)) (applied o Op.Add (overflow_immediates flags.nsw flags.nuw) vs)) (sym h.3) (
         refl,
         refl,
         type_same (option_type o.result),
         (let e = typed_alike h.1 h.0 h.6.typed in let f = typed_alike h.2 h.0 h.7.typed in cc),
-        (stands g form n d h.1 h.0 h.6.typed, (stands g form n d h.2 h.0 h.7.typed, tt)),
+        (stands g form n order d h.1 h.0 h.6.typed, (stands g form n order d h.2 h.0 h.7.typed, tt)),
       )
   actions o (ICmpOp predicate) h other is =
-      subst (λ (vs : List Value). SameAction same_places (plan g form n) (act o (instruction_for g n (ICmpOp predicate) vs o.successors)) (applied o Op.ICmp (Predicate (predicate_of predicate) ∷ []) vs)) (sym h.3) (
+      subst (λ (vs : List Value). SameAction same_places (plan g form n order) (act o (instruction_for g n (ICmpOp predicate) vs o.successors)) (applied o Op.ICmp (Predicate (predicate_of predicate) ∷ []) vs)) (sym h.3) (
         refl,
         refl,
         type_same (option_type o.result),
         (let e = typed_alike h.1 h.0 h.6.typed in let f = typed_alike h.2 h.0 h.7.typed in cc),
-        (stands g form n d h.1 h.0 h.6.typed, (stands g form n d h.2 h.0 h.7.typed, tt)),
+        (stands g form n order d h.1 h.0 h.6.typed, (stands g form n order d h.2 h.0 h.7.typed, tt)),
       )
   actions o BrOp h other is =
-      subst (λ (vs : List Value). SameAction same_places (plan g form n) (act o (instruction_for g n BrOp vs o.successors)) (applied o Op.Br [] vs)) (sym h.0)
+      subst (λ (vs : List Value). SameAction same_places (plan g form n order) (act o (instruction_for g n BrOp vs o.successors)) (applied o Op.Br [] vs)) (sym h.0)
       (refl, refl, type_same (option_type o.result), refl, tt)
   actions o CondBrOp h other is =
-      subst (λ (vs : List Value). SameAction same_places (plan g form n) (act o (instruction_for g n CondBrOp vs o.successors)) (applied o Op.CondBr [] vs)) (sym h.1)
-      (refl, refl, type_same (option_type o.result), (let e = typed_alike h.0 (IntegerType 1) h.2.typed in cc), (stands g form n d h.0 (IntegerType 1) h.2.typed, tt))
+      subst (λ (vs : List Value). SameAction same_places (plan g form n order) (act o (instruction_for g n CondBrOp vs o.successors)) (applied o Op.CondBr [] vs)) (sym h.1)
+      (refl, refl, type_same (option_type o.result), (let e = typed_alike h.0 (IntegerType 1) h.2.typed in cc), (stands g form n order d h.0 (IntegerType 1) h.2.typed, tt))
   actions o ReturnOp h other is = ⊎_elim
-      (λ none. subst (λ (vs : List Value). SameAction same_places (plan g form n) (act o (instruction_for g n ReturnOp vs o.successors)) (applied o Op.Ret [] vs)) (sym none.0)
+      (λ none. subst (λ (vs : List Value). SameAction same_places (plan g form n order) (act o (instruction_for g n ReturnOp vs o.successors)) (applied o Op.Ret [] vs)) (sym none.0)
       (refl, refl, type_same (option_type o.result), refl, tt))
-      (λ one. subst (λ (vs : List Value). SameAction same_places (plan g form n) (act o (instruction_for g n ReturnOp vs o.successors)) (applied o Op.Ret [] vs)) (sym one.1)
-      (refl, refl, type_same (option_type o.result), (let e = typed_alike one.0 (result_of g.type) one.2.typed in cc), (stands g form n d one.0 (result_of g.type) one.2.typed, tt)))
+      (λ one. subst (λ (vs : List Value). SameAction same_places (plan g form n order) (act o (instruction_for g n ReturnOp vs o.successors)) (applied o Op.Ret [] vs)) (sym one.1)
+      (refl, refl, type_same (option_type o.result), (let e = typed_alike one.0 (result_of g.type) one.2.typed in cc), (stands g form n order d one.0 (result_of g.type) one.2.typed, tt)))
       (returned g (result_of g.type) o.operands h.0)
   actions o UnreachableOp h other is =
-      subst (λ (vs : List Value). SameAction same_places (plan g form n) (act o (instruction_for g n UnreachableOp vs o.successors)) (applied o Op.Unreachable [] vs)) (sym h.0)
+      subst (λ (vs : List Value). SameAction same_places (plan g form n order) (act o (instruction_for g n UnreachableOp vs o.successors)) (applied o Op.Unreachable [] vs)) (sym h.0)
       (refl, refl, type_same (option_type o.result), refl, tt)
 
   abbrev llvm_row : Placed → Row Key
   llvm_row p = record { action = llvm.action d made p; result = ResultKey p.number }
 
-  row_pair : (j i k : ℕ) (c : DialectBlock) (o : DialectOp) → slice_get g.blocks j ≡ Some c → slice_get c.ops i ≡ Some o → is_constant o ≡ false → SameRow same_places (plan g form n) (llvm_row (inst g n k o)) (dialect.row g o)
+  row_pair : (j i k : ℕ) (c : DialectBlock) (o : DialectOp) → slice_get g.blocks j ≡ Some c → slice_get c.ops i ≡ Some o → is_constant o ≡ false → SameRow same_places (plan g form n order) (llvm_row (inst g n k o)) (dialect.row g o)
   row_pair j i k c o at at' other =
-      let r = result_among g j i c o at at' other in
-      record { action = actions o o.kind (op_form g form j i c o at at').kind other refl; result = value_at g form n r.0 (result o) r.1 }
+      let r = result_among g form n.order order j i c o at at' other in
+      record { action = actions o o.kind (op_form g form j i c o at at').kind other refl; result = value_at g form n order r.0 (result o) r.1 }
 
   abbrev row_for : Placed → Option (Row Key)
   row_for p = llvm.row d made p (phi_entries p.instruction)
 
-  insts_rows : (k : ℕ) (os : List DialectOp) → ((i : ℕ) (o : DialectOp) → slice_get os i ≡ Some o → (k : ℕ) → is_constant o ≡ false → SameRow same_places (plan g form n) (llvm_row (inst g n k o)) (dialect.row g o))
-      → Matched (SameRow same_places (plan g form n)) (filter_map row_for (insts g n k os)) (map (dialect.row g) (others_of os))
+  insts_rows : (k : ℕ) (os : List DialectOp) → ((i : ℕ) (o : DialectOp) → slice_get os i ≡ Some o → (k : ℕ) → is_constant o ≡ false → SameRow same_places (plan g form n order) (llvm_row (inst g n k o)) (dialect.row g o))
+      → Matched (SameRow same_places (plan g form n order)) (filter_map row_for (insts g n k os)) (map (dialect.row g) (others_of os))
   insts_rows k [] h = tt
   insts_rows k (o ∷ os) h = by (is_constant o) refl (insts_rows (number_after o.result k) os (λ i x at. h (suc i) x at))
     where
-      by : (t : Bool) → is_constant o ≡ t → Matched (SameRow same_places (plan g form n)) (filter_map row_for (insts g n (number_after o.result k) os)) (map (dialect.row g) (others_of os))
-          → Matched (SameRow same_places (plan g form n)) (filter_map row_for (if t then insts g n (number_after o.result k) os else inst g n k o ∷ insts g n (number_after o.result k) os)) (map (dialect.row g) (if not t then o ∷ others_of os else others_of os))
+      by : (t : Bool) → is_constant o ≡ t → Matched (SameRow same_places (plan g form n order)) (filter_map row_for (insts g n (number_after o.result k) os)) (map (dialect.row g) (others_of os))
+          → Matched (SameRow same_places (plan g form n order)) (filter_map row_for (if t then insts g n (number_after o.result k) os else inst g n k o ∷ insts g n (number_after o.result k) os)) (map (dialect.row g) (if not t then o ∷ others_of os else others_of os))
       by true e m = m
       by false e m =
-          subst (λ (x : Option (List (Operand × ℕ))). Matched (SameRow same_places (plan g form n)) (cons_option (llvm.row d made (inst g n k o) x) (filter_map row_for (insts g n (number_after o.result k) os))) (dialect.row g o ∷ map (dialect.row g) (others_of os)))
+          subst (λ (x : Option (List (Operand × ℕ))). Matched (SameRow same_places (plan g form n order)) (cons_option (llvm.row d made (inst g n k o) x) (filter_map row_for (insts g n (number_after o.result k) os))) (dialect.row g o ∷ map (dialect.row g) (others_of os)))
           (sym (no_phi g n o.kind o.operands o.successors)) (h 0 o refl k e, m)
 
   phis_rows : (b i k : ℕ) (ts : List TypeTree) → filter_map row_for (phis g n (entries g n) b i k ts) ≡ []
@@ -150,9 +154,9 @@ module _ (g : Func) (form : IsFormFunc g) (n : Numbers) (d : ModuleData) where
   block_phis_rows zero k c = refl
   block_phis_rows (suc p) k c = phis_rows c.number 0 k c.args
 
-  block_rows : (p k j : ℕ) (c : DialectBlock) → slice_get g.blocks j ≡ Some c → Matched (SameRow same_places (plan g form n)) (filter_map row_for (block_made g n (entries g n) p k c).instructions) (map (dialect.row g) (others_of c.ops))
+  block_rows : (p k j : ℕ) (c : DialectBlock) → slice_get g.blocks j ≡ Some c → Matched (SameRow same_places (plan g form n order)) (filter_map row_for (block_made g n (entries g n) p k c).instructions) (map (dialect.row g) (others_of c.ops))
   block_rows p k j c at =
-      subst (λ (rs : List (Row Key)). Matched (SameRow same_places (plan g form n)) rs (map (dialect.row g) (others_of c.ops)))
+      subst (λ (rs : List (Row Key)). Matched (SameRow same_places (plan g form n order)) rs (map (dialect.row g) (others_of c.ops)))
       (sym (filter_map-append row_for (block_phis g n (entries g n) p k c) (insts g n (k + length c.args) c.ops) ∙ ap (λ (rs : List (Row Key)). rs ++ filter_map row_for (insts g n (k + length c.args) c.ops)) (block_phis_rows p k c)))
       (insts_rows (k + length c.args) c.ops (λ i o at' l other. row_pair j i l c o at at' other))
 
@@ -171,7 +175,7 @@ module _ (g : Func) (form : IsFormFunc g) (n : Numbers) (d : ModuleData) where
   moves_match : (from b i k : ℕ) (ts : List TypeTree) (vs : List Value) → length vs ≡ length ts
       → ((j : ℕ) (t : TypeTree) → slice_get ts j ≡ Some t → plan_value (number_of g n (Argument (record { 0 = b }) (i + j))) ≡ Some (Argument (record { 0 = b }) (i + j)))
       → ((j : ℕ) (v : Value) → slice_get vs j ≡ Some v → BothOrNone Alike (llvm.entry_for d from (entries g n (Argument (record { 0 = b }) (i + j)))) (Some (At v)))
-      → Matched (SameMove same_places (plan g form n)) (filter_map (llvm.phi_move d from) (phis g n (entries g n) b i k ts)) (argument_moves (record { 0 = b }) i (length ts) vs)
+      → Matched (SameMove same_places (plan g form n order)) (filter_map (llvm.phi_move d from) (phis g n (entries g n) b i k ts)) (argument_moves (record { 0 = b }) i (length ts) vs)
   moves_match from b i k [] [] e h q = tt
   moves_match from b i k [] (v ∷ vs) e h q = absurd (omega (arith, e))
   moves_match from b i k (t ∷ ts) [] e h q = absurd (omega (arith, e))
@@ -186,14 +190,14 @@ module _ (g : Func) (form : IsFormFunc g) (n : Numbers) (d : ModuleData) where
             (λ j u at. subst (λ (m : ℕ). BothOrNone Alike (llvm.entry_for d from (entries g n (Argument (record { 0 = b }) m))) (Some (At u))) (let x : i + suc j ≡ suc i + j = omega arith in x) (q (suc j) u at)),
       )
 
-  module _ (fits : IsExportable g) where
+  module _ (accepted : IsAccepted n.order g) where
     -- what a phi takes on an edge stands for what the edge passes
     entry_alike : (j l i : ℕ) (c : DialectBlock) (s : Successor) (v : Value) (t : TypeTree) → slice_get g.blocks j ≡ Some c → slice_get (edges_of c) l ≡ Some s → slice_get s.args i ≡ Some v → value_type g v ≡ Some t
         → BothOrNone Alike (llvm.entry_for d (n.block + (0 + j)) (entries g n (Argument s.block i))) (Some (At v))
     entry_alike j l i c s v t at at' passes typed =
-        let equal = all_at HasEqualEdges g.blocks j c fits.equal at in
-        let found = first_entry g n 0 g.blocks j c (n.block + (0 + j)) i s.block v s.args l s at refl at' refl (λ k u there to. equal k l u s there at' (same_block u s to)) passes in
-        subst (λ (o : Option (Operand × ℕ)). BothOrNone Alike (option_map (λ (e : Operand × ℕ). llvm.operand d e.0) o) (Some (At v))) (sym found) (stands g form n d v t typed)
+        let equal = (accepted.edges j c at).equal in
+        let found = first_entry g n n.order (turn_of n.order j) j c (n.block + (0 + j)) i s.block v s.args l s (turn_at (length g.blocks) n.order order j (slice_get_within g.blocks j c at)) at (let e : n.block + (0 + j) ≡ n.block + j = omega arith in e) at' refl (λ k u there to. equal k l u s there at' (same_block u s to)) passes in
+        subst (λ (o : Option (Operand × ℕ)). BothOrNone Alike (option_map (λ (e : Operand × ℕ). llvm.operand d e.0) o) (Some (At v))) (sym found) (stands g form n order d v t typed)
       where
         same_block : (u s : Successor) → u.block.0 ≡ s.block.0 → u.block ≡ s.block
         same_block u s e = ap (λ (m : ℕ). let b : BlockRef = record { 0 = m } in b) e
@@ -210,7 +214,7 @@ module _ (g : Func) (form : IsFormFunc g) (n : Numbers) (d : ModuleData) where
         entry_alike j l i c s v typed.0 at at' at'' typed.1.typed
 
     target_moves : (j l : ℕ) (c : DialectBlock) (s : Successor) → slice_get g.blocks j ≡ Some c → slice_get (edges_of c) l ≡ Some s → (h : HasTarget g s)
-        → Matched (SameMove same_places (plan g form n)) (filter_map (llvm.phi_move d (n.block + (0 + j))) (block_made g n (entries g n) (0 + suc h.place) (number_past 0 (take (suc h.place) g.blocks)) h.block).instructions) (argument_moves (record { 0 = h.block.number }) 0 (length h.block.args) s.args)
+        → Matched (SameMove same_places (plan g form n order)) (filter_map (llvm.phi_move d (n.block + (0 + j))) (block_made g n (entries g n) (0 + suc h.place) (number_past 0 (take (suc h.place) g.blocks)) h.block).instructions) (argument_moves (record { 0 = h.block.number }) 0 (length h.block.args) s.args)
     target_moves j l c s at at' h =
         let from = n.block + (0 + j) in
         let b = h.block in
@@ -218,19 +222,19 @@ module _ (g : Func) (form : IsFormFunc g) (n : Numbers) (d : ModuleData) where
         let z : 0 + suc h.place ≡ suc h.place = omega arith in
         let same : (let r : BlockRef = record { 0 = b.number } in r) ≡ s.block = ap (λ (m : ℕ). let r : BlockRef = record { 0 = m } in r) h.number in
         let moves = moves_match from b.number 0 k b.args s.args h.count
-        (λ i t at''. let r = argument_among g h.place i b t h.here at'' in subst (λ (m : ℕ). plan_value (number_of g n (Argument (record { 0 = b.number }) m)) ≡ Some (Argument (record { 0 = b.number }) m)) (let e : i ≡ 0 + i = omega arith in e) (value_at g form n r.0 (Argument (record { 0 = b.number }) i) r.1))
+        (λ i t at''. let r = argument_among g form n.order order h.place i b t h.here at'' in subst (λ (m : ℕ). plan_value (number_of g n (Argument (record { 0 = b.number }) m)) ≡ Some (Argument (record { 0 = b.number }) m)) (let e : i ≡ 0 + i = omega arith in e) (value_at g form n order r.0 (Argument (record { 0 = b.number }) i) r.1))
         (λ i v at''. subst (λ (m : ℕ). BothOrNone Alike (llvm.entry_for d from (entries g n (Argument (record { 0 = b.number }) m))) (Some (At v))) (let e : i ≡ 0 + i = omega arith in e)
         (subst (λ (r : BlockRef). BothOrNone Alike (llvm.entry_for d from (entries g n (Argument r i))) (Some (At v))) (sym same) (passed_alike j l i c s v at at' at''))) in
-        subst (λ (p : ℕ). Matched (SameMove same_places (plan g form n)) (filter_map (llvm.phi_move d from) (block_made g n (entries g n) p k b).instructions) (argument_moves (record { 0 = b.number }) 0 (length b.args) s.args)) (sym z)
-        (subst (λ (ms : List (Key × Option (MachineOperand Key))). Matched (SameMove same_places (plan g form n)) ms (argument_moves (record { 0 = b.number }) 0 (length b.args) s.args))
+        subst (λ (p : ℕ). Matched (SameMove same_places (plan g form n order)) (filter_map (llvm.phi_move d from) (block_made g n (entries g n) p k b).instructions) (argument_moves (record { 0 = b.number }) 0 (length b.args) s.args)) (sym z)
+        (subst (λ (ms : List (Key × Option (MachineOperand Key))). Matched (SameMove same_places (plan g form n order)) ms (argument_moves (record { 0 = b.number }) 0 (length b.args) s.args))
         (sym (filter_map-append (llvm.phi_move d from) (phis g n (entries g n) b.number 0 k b.args) (insts g n (k + length b.args) b.ops)
         ∙ ap (λ (ms : List (Key × Option (MachineOperand Key))). filter_map (llvm.phi_move d from) (phis g n (entries g n) b.number 0 k b.args) ++ ms) (no_move from (k + length b.args) b.ops)
         ∙ append-nil (filter_map (llvm.phi_move d from) (phis g n (entries g n) b.number 0 k b.args)))) moves)
 
-    edge_pair : (j l : ℕ) (c : DialectBlock) (s : Successor) → slice_get g.blocks j ≡ Some c → slice_get (edges_of c) l ≡ Some s → SameEdge same_places (plan g form n) (λ m. m) (llvm.edge d made (n.block + (0 + j)) (target_for g n s)) (dialect.edge g s)
+    edge_pair : (j l : ℕ) (c : DialectBlock) (s : Successor) → slice_get g.blocks j ≡ Some c → slice_get (edges_of c) l ≡ Some s → SameEdge same_places (plan g form n order) (λ m. m) (llvm.edge d made (n.block + (0 + j)) (target_for g n s)) (dialect.edge g s)
     edge_pair j l c s at at' =
         let good = edge_form g form n j l c s at at' in
-        let h = edge_target g s good (all_at (FitsTarget g) (edges_of c) l s (all_at (λ (b : DialectBlock). All (FitsTarget g) (edges_of b)) g.blocks j c fits.targets at) at') in
+        let h = edge_target g s good (all_at (FitsTarget g) (edges_of c) l s (accepted.edges j c at).targets at') in
         let b = h.block in
         let k = number_past 0 (take (suc h.place) g.blocks) in
         let made_b = block_made g n (entries g n) (0 + suc h.place) k b in
@@ -245,15 +249,15 @@ module _ (g : Func) (form : IsFormFunc g) (n : Numbers) (d : ModuleData) where
         let same_block : s.block ≡ (let r : BlockRef = record { 0 = b.number } in r) = ap (λ (m : ℕ). let r : BlockRef = record { 0 = m } in r) (sym h.number) in
         record {
           to = place;
-          moves = subst (λ (o : Option Block). Matched (SameMove same_places (plan g form n)) (option_map_or (λ (x : Block). filter_map (llvm.phi_move d (n.block + (0 + j))) x.instructions) o []) (dialect.edge g s).moves) (sym llvm_block)
-              (subst (λ (o : Option DialectBlock). Matched (SameMove same_places (plan g form n)) (filter_map (llvm.phi_move d (n.block + (0 + j))) made_b.instructions) (option_map_or (λ (x : DialectBlock). argument_moves s.block 0 (length x.args) s.args) o [])) (sym dialect_block)
-              (subst (λ (r : BlockRef). Matched (SameMove same_places (plan g form n)) (filter_map (llvm.phi_move d (n.block + (0 + j))) made_b.instructions) (argument_moves r 0 (length b.args) s.args)) (sym same_block)
+          moves = subst (λ (o : Option Block). Matched (SameMove same_places (plan g form n order)) (option_map_or (λ (x : Block). filter_map (llvm.phi_move d (n.block + (0 + j))) x.instructions) o []) (dialect.edge g s).moves) (sym llvm_block)
+              (subst (λ (o : Option DialectBlock). Matched (SameMove same_places (plan g form n order)) (filter_map (llvm.phi_move d (n.block + (0 + j))) made_b.instructions) (option_map_or (λ (x : DialectBlock). argument_moves s.block 0 (length x.args) s.args) o [])) (sym dialect_block)
+              (subst (λ (r : BlockRef). Matched (SameMove same_places (plan g form n order)) (filter_map (llvm.phi_move d (n.block + (0 + j))) made_b.instructions) (argument_moves r 0 (length b.args) s.args)) (sym same_block)
               (target_moves j l c s at at' h)));
         }
 
     -- ---- blocks
 
-    front_of : (j : ℕ) (c : DialectBlock) → slice_get g.blocks j ≡ Some c → (front : List (Row Value)) × (map (dialect.row g) c.ops ≡ front ++ map (dialect.row g) (others_of c.ops)) × IsFront same_places (plan g form n) j front
+    front_of : (j : ℕ) (c : DialectBlock) → slice_get g.blocks j ≡ Some c → (front : List (Row Value)) × (map (dialect.row g) c.ops ≡ front ++ map (dialect.row g) (others_of c.ops)) × IsFront same_places (plan g form n order) j front
     front_of zero c at =
         let e = first_is_entry g form c at in
         let h = form.constants in
@@ -276,7 +280,7 @@ module _ (g : Func) (form : IsFormFunc g) (n : Numbers) (d : ModuleData) where
           record { closed = tt; values = λ k w e. refl; hoisted = λ w e. refl },
         )
 
-    block_pair : (j : ℕ) (c : DialectBlock) → slice_get g.blocks j ≡ Some c → SameBlock same_places (plan g form n) (λ m. m) j (llvm.block d made (block_made g n (entries g n) (0 + j) (number_past 0 (take j g.blocks)) c)) (dialect.block g c)
+    block_pair : (j : ℕ) (c : DialectBlock) → slice_get g.blocks j ≡ Some c → SameBlock same_places (plan g form n order) (λ m. m) j (llvm.block d made (block_made g n (entries g n) (0 + j) (number_past 0 (take j g.blocks)) c)) (dialect.block g c)
     block_pair j c at =
         let k = number_past 0 (take j g.blocks) in
         let front = front_of j c at in
@@ -286,12 +290,12 @@ module _ (g : Func) (form : IsFormFunc g) (n : Numbers) (d : ModuleData) where
           rows = front.1;
           leads = front.2;
           pairs = block_rows (0 + j) k j c at;
-          edges = subst (λ (ts : List ℕ). Matched (SameEdge same_places (plan g form n) (λ m. m)) (map (llvm.edge d made (n.block + (0 + j))) ts) (map (dialect.edge g) (edges_of c))) (sym (block_leads g n form (entries g n) (0 + j) k j c at))
-              (edges_match (SameEdge same_places (plan g form n) (λ m. m)) (llvm.edge d made (n.block + (0 + j))) (target_for g n) (dialect.edge g) (edges_of c) (λ l s at'. edge_pair j l c s at at'));
+          edges = subst (λ (ts : List ℕ). Matched (SameEdge same_places (plan g form n order) (λ m. m)) (map (llvm.edge d made (n.block + (0 + j))) ts) (map (dialect.edge g) (edges_of c))) (sym (block_leads g n form (entries g n) (0 + j) k j c at))
+              (edges_match (SameEdge same_places (plan g form n order) (λ m. m)) (llvm.edge d made (n.block + (0 + j))) (target_for g n) (dialect.edge g) (edges_of c) (λ l s at'. edge_pair j l c s at at'));
         }
 
     blocks_pair : (j : ℕ) (o : Option DialectBlock) → slice_get g.blocks j ≡ o
-        → BothOrNone (SameBlock same_places (plan g form n) (λ m. m) j) (slice_get (map (llvm.block d made) made.blocks) j) (slice_get (map (dialect.block g) g.blocks) j)
+        → BothOrNone (SameBlock same_places (plan g form n order) (λ m. m) j) (slice_get (map (llvm.block d made) made.blocks) j) (slice_get (map (dialect.block g) g.blocks) j)
     blocks_pair j None e =
         let x : slice_get (map (llvm.block d made) made.blocks) j ≡ None = slice_get-map (llvm.block d made) made.blocks j ∙ ap (option_map (llvm.block d made)) (made_none g n (entries g n) 0 0 g.blocks j e) in
         let y : slice_get (map (dialect.block g) g.blocks) j ≡ None = slice_get-map (dialect.block g) g.blocks j ∙ ap (option_map (dialect.block g)) e in
@@ -299,14 +303,14 @@ module _ (g : Func) (form : IsFormFunc g) (n : Numbers) (d : ModuleData) where
     blocks_pair j (Some c) e =
         let x = slice_get-map (llvm.block d made) made.blocks j ∙ ap (option_map (llvm.block d made)) (made_at g n (entries g n) 0 0 g.blocks j c e) in
         let y = slice_get-map (dialect.block g) g.blocks j ∙ ap (option_map (dialect.block g)) e in
-        subst (λ (o : Option (MachineBlock Key)). BothOrNone (SameBlock same_places (plan g form n) (λ m. m) j) o (slice_get (map (dialect.block g) g.blocks) j)) (sym x)
-        (subst (λ (o : Option (MachineBlock Value)). BothOrNone (SameBlock same_places (plan g form n) (λ m. m) j) (Some (llvm.block d made (block_made g n (entries g n) (0 + j) (number_past 0 (take j g.blocks)) c))) o) (sym y) (block_pair j c e))
+        subst (λ (o : Option (MachineBlock Key)). BothOrNone (SameBlock same_places (plan g form n order) (λ m. m) j) o (slice_get (map (dialect.block g) g.blocks) j)) (sym x)
+        (subst (λ (o : Option (MachineBlock Value)). BothOrNone (SameBlock same_places (plan g form n order) (λ m. m) j) (Some (llvm.block d made (block_made g n (entries g n) (0 + j) (number_past 0 (take j g.blocks)) c))) o) (sym y) (block_pair j c e))
 
     pub same_shape : SameShape same_places d made g
     same_shape = record {
-      plan = plan g form n;
-      is_plan = is_plan g form n;
-      starts = starts g form n (entries g n);
+      plan = plan g form n order;
+      is_plan = is_plan g form n order;
+      starts = starts g form n order (entries g n);
       same = record {
         entry = (llvm.block d made (block_made g n (entries g n) (0 + 0) (number_past 0 (take 0 g.blocks)) form.entry), slice_get-map (llvm.block d made) made.blocks 0 ∙ ap (option_map (llvm.block d made)) (made_at g n (entries g n) 0 0 g.blocks 0 form.entry (entry_at g form)));
         first = refl;

@@ -21,6 +21,7 @@ use Rattle.dialect_core.specs.ContextData.{ContextData}
 use Rattle.dialect_core.specs.Data.{DialectBlock, Func, func_in}
 use Rattle.dialect_core.specs.Form.{IsFormFunc, types_list}
 use Rattle.meaning.specs.Dialect.{type_of, types_of}
+use Rattle.to_llvm_ir.specs.Order.{IsTaken}
 use Rattle.to_llvm_ir.specs.Growth.{IsTypeOf}
 use Rattle.to_llvm_ir.specs.Made.{Numbers, function_with}
 use Rattle.to_llvm_ir.specs.States.{Task}
@@ -43,11 +44,11 @@ pub record IsAdded (m0 m1 m2 : Module) (ty : LLVMType) (f : LLVMFunction) (name 
   pub sound_end : IsModule m2
 
 -- the function, the next block and the next instruction
-abbrev pub numbers_of : Module → LLVMFunction → Numbers
-numbers_of m f = record { function = f.0; block = length m.blocks; inst = length m.insts }
+abbrev pub numbers_of : Module → LLVMFunction → List ℕ → Numbers
+numbers_of m f order = record { function = f.0; block = length m.blocks; inst = length m.insts; order = order }
 
-declared_is : (g : Func) (form : IsFormFunc g) (m0 m1 m2 : Module) (ty : LLVMType) (f : LLVMFunction) (name : List ℕ) → IsAdded m0 m1 m2 ty f name (type_of g.type) → name ≡ g.name → data_of m2 ≡ with_function (data_of m0) (function_with g (numbers_of m1 f) [])
-declared_is g form m0 m1 m2 ty f name h named =
+declared_is : (g : Func) (form : IsFormFunc g) (order : List ℕ) (m0 m1 m2 : Module) (ty : LLVMType) (f : LLVMFunction) (name : List ℕ) → IsAdded m0 m1 m2 ty f name (type_of g.type) → name ≡ g.name → data_of m2 ≡ with_function (data_of m0) (function_with g (numbers_of m1 f order) [])
+declared_is g form order m0 m1 m2 ty f name h named =
     let tree : L.type_at (trees_of m1).types ty ≡ L.FunctionType (type_of form.result) (types_of form.types) false = h.typed.1 ∙ ap type_of form.type in
     let params = params_are m1 ty (type_of form.result) (types_of form.types) false h.sound h.typed.0 tree in
     let args : option_map_or (λ (c : DialectBlock). c.args) (slice_get g.blocks 0) [] ≡ types_list form.types = ap (λ (o : Option DialectBlock). option_map_or (λ (c : DialectBlock). c.args) o []) (entry_at g form) ∙ form.params in
@@ -59,10 +60,10 @@ declared_is g form m0 m1 m2 ty f name h named =
     ∙ ap (λ (t : L.TypeTree). with_function (data_of m0) (record { number = f.0; name = g.name; type = t; space = 0; params = unnamed m1 ty; blocks = [] })) h.typed.1
     ∙ ap (λ (ns : List (List ℕ)). with_function (data_of m0) (record { number = f.0; name = g.name; type = type_of g.type; space = 0; params = ns; blocks = [] })) names
 
-pub started : (c : ContextData) (op : OpRef) (g : Func) (form : IsFormFunc g) (m0 m1 m2 : Module) (ty : LLVMType) (f : LLVMFunction) (name : List ℕ) → func_in (type_trees c.types) c op ≡ Some g → IsAdded m0 m1 m2 ty f name (type_of g.type) → name ≡ g.name → IsStarted c g f m0 m2
-started c op g form m0 m1 m2 ty f name is h named =
+pub started : (c : ContextData) (op : OpRef) (g : Func) (form : IsFormFunc g) (order : List ℕ) (taken : IsTaken g order) (m0 m1 m2 : Module) (ty : LLVMType) (f : LLVMFunction) (name : List ℕ) → func_in (type_trees c.types) c op ≡ Some g → IsAdded m0 m1 m2 ty f name (type_of g.type) → name ≡ g.name → IsStarted c g order f m0 m2
+started c op g form order taken m0 m1 m2 ty f name is h named =
     let kept : FunctionData = record { name = name; ty = ty; space = 0; params = unnamed m1 ty; blocks = [] } in
-    let t : Task = record { source = g; numbers = numbers_of m1 f; before = data_of m0 } in (
+    let t : Task = record { source = g; numbers = numbers_of m1 f order; before = data_of m0 } in (
       t,
       ty,
       refl,
@@ -71,12 +72,13 @@ started c op g form m0 m1 m2 ty f name is h named =
         op = op;
         held = is;
         form = form;
+        order = taken;
         functions = subst (λ (d : ModuleData). All (λ (x : Function). x.number < f.0) d.functions) h.same (subst (λ (n : ℕ). All (λ (x : Function). x.number < n) (data_of m1).functions) (sym h.number) (numbers_below m1));
         blocks = subst (AllBlocks (λ (b : Block). b.number < length m1.blocks)) h.same (blocks_below m1 h.sound);
         insts = subst (AllPlaced (λ (p : Placed). p.number < length m1.insts)) h.same (insts_below m1 h.sound);
       },
       record {
-        is = declared_is g form m0 m1 m2 ty f name h named;
+        is = declared_is g form order m0 m1 m2 ty f name h named;
         sound = h.sound_end;
         number = refl;
         function = record {
@@ -89,4 +91,5 @@ started c op g form m0 m1 m2 ty f name is h named =
         inst_count = ap (λ (m : Module). length m.insts) h.added;
       },
       ap (λ (m : Module). length m.functions) h.added ∙ (let e = length_push m1.functions kept in let k = ap (λ (m : Module). length m.functions) h.rest in omega (arith, e, k)),
+      refl,
     )

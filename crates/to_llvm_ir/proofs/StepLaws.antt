@@ -20,19 +20,22 @@ use Rattle.llvm_core.specs.Data as L
 use Rattle.llvm_core.specs.Data.{Placed, Block, ModuleData, IntConst, const_at, trees_of, operand_of, instruction_of, result_tree, data_of, with_function, with_instruction}
 use Rattle.llvm_core.proofs.DataLemmas.{int_const_of}
 use Rattle.dialect_types.specs.Trees.{TypeTree, IntegerAttr}
+use Rattle.block_order.specs.Order.{IsOrder}
 use Rattle.dialect_core.specs.declared.numbers.OpRef.{OpRef}
 use Rattle.dialect_core.specs.declared.ops.Value.{Value}
 use Rattle.dialect_core.specs.declared.ops.Value.TheVariants.{Result}
 use Rattle.dialect_core.specs.ContextData.{ContextData}
 use Rattle.dialect_core.specs.Data.{DialectOp, DialectBlock, Func}
-use Rattle.dialect_core.specs.Form.{is_constant, others_of}
+use Rattle.dialect_core.specs.Form.{IsFormFunc, is_constant, others_of}
 use Rattle.meaning.specs.Dialect.{type_of, option_type}
 use Rattle.to_llvm_ir.specs.declared.values.Values.{Values}
+use Rattle.to_llvm_ir.specs.Order.{turn_of}
 use Rattle.to_llvm_ir.specs.Exported.{result_name, number_after, number_behind}
-use Rattle.to_llvm_ir.specs.Made.{Numbers, result, arguments_of, phi_values, result_values, values_from, values, number_of, inst, insts, block_phis, function_with, no_entries}
+use Rattle.to_llvm_ir.specs.Made.{Numbers, result, arguments_of, phi_values, result_values, values_by, number_of, inst, insts, block_phis, function_with, no_entries}
 use Rattle.to_llvm_ir.specs.Growth.{Grows, IsTypeOf, HasType}
-use Rattle.to_llvm_ir.specs.States.{found, AreKnown, Spot, IsNext, IsMade, IsBehindSpot, blocks_within, seen_before, first_at}
+use Rattle.to_llvm_ir.specs.States.{found, AreKnown, Spot, IsNext, IsMade, IsBehindSpot, blocks_within, seen_to, values_to, turn, first_at}
 use Rattle.to_llvm_ir.proofs.ListLaws.{take_suc, split_at, at_middle}
+use Rattle.to_llvm_ir.proofs.TurnLaws.{by_split}
 use Rattle.to_llvm_ir.proofs.PlacedLaws.{number_at, constant_operand, result_operand}
 use Rattle.to_llvm_ir.proofs.FormLaws.{insts_push}
 use Rattle.to_llvm_ir.proofs.GrowthLaws.{grows_const, grows_then, type_kept}
@@ -66,31 +69,18 @@ insts_skip g n k (x ∷ os) o e = by (is_constant x) (insts_skip g n (number_aft
     by true r = r
     by false r = ap (λ (ps : List Placed). inst g n k x ∷ ps) r
 
--- the values of the function, at the block at a place
-pub values_append : (p : ℕ) (cs ds : List DialectBlock) → values_from p (cs ++ ds) ≡ values_from p cs ++ values_from (p + length cs) ds
-values_append p [] ds = ap (λ (q : ℕ). values_from q ds) (let e : p ≡ p + 0 = omega arith in e)
-values_append p (c ∷ cs) ds =
-    ap (λ (vs : List Value). (phi_values p c ++ result_values c.ops) ++ vs) (values_append (suc p) cs ds ∙ ap (λ (q : ℕ). values_from (suc p) cs ++ values_from q ds) (let e : suc p + length cs ≡ p + suc (length cs) = omega arith in e))
-    ∙ sym (append_assoc (phi_values p c ++ result_values c.ops) (values_from (suc p) cs) (values_from (p + suc (length cs)) ds))
-
-pub values_split : (g : Func) (j : ℕ) (c : DialectBlock) → slice_get g.blocks j ≡ Some c → values g ≡ values_from 0 (take j g.blocks) ++ ((phi_values j c ++ result_values c.ops) ++ values_from (suc j) (drop (suc j) g.blocks))
-values_split g j c at =
-    let s = split_at g.blocks j c at in
-    ap (values_from 0) s.0 ∙ values_append 0 (take j g.blocks) (c ∷ drop (suc j) g.blocks)
-    ∙ ap (λ (q : ℕ). values_from 0 (take j g.blocks) ++ values_from q (c ∷ drop (suc j) g.blocks)) (let len = s.1 in let e : 0 + length (take j g.blocks) ≡ j = omega (arith, len) in e)
-
 -- the operation's value stands behind those made before
-pub made_here : (g : Func) (j k : ℕ) (c : DialectBlock) (o : DialectOp) → slice_get g.blocks j ≡ Some c → slice_get c.ops k ≡ Some o → is_constant o ≡ false
-    → slice_get (values g) (length (values_from 0 (take j g.blocks) ++ (phi_values j c ++ result_values (take k c.ops)))) ≡ Some (result o)
-made_here g j k c o at at' other =
-    let a = values_from 0 (take j g.blocks) in
+pub made_here : (g : Func) (form : IsFormFunc g) (order : List ℕ) (h : IsOrder (length g.blocks) order) (j k : ℕ) (c : DialectBlock) (o : DialectOp) → slice_get g.blocks j ≡ Some c → slice_get c.ops k ≡ Some o → is_constant o ≡ false
+    → slice_get (values_by order g) (length (values_by (take (turn_of order j) order) g ++ (phi_values j c ++ result_values (take k c.ops)))) ≡ Some (result o)
+made_here g form order h j k c o at at' other =
+    let a = values_by (take (turn_of order j) order) g in
     let b = phi_values j c in
     let d = result_values (take k c.ops) in
     let more = result_values (drop (suc k) c.ops) in
-    let rest = values_from (suc j) (drop (suc j) g.blocks) in
+    let rest = values_by (drop (suc (turn_of order j)) order) g in
     let ops : result_values c.ops ≡ d ++ result o ∷ more = ap result_values (split_at c.ops k o at').0 ∙ results_append (take k c.ops) (o ∷ drop (suc k) c.ops) ∙ ap (λ (vs : List Value). d ++ vs) (results_other o (drop (suc k) c.ops) other) in
-    let whole : values g ≡ (a ++ (b ++ d)) ++ result o ∷ (more ++ rest) =
-    values_split g j c at ∙ ap (λ (vs : List Value). a ++ ((b ++ vs) ++ rest)) ops
+    let whole : values_by order g ≡ (a ++ (b ++ d)) ++ result o ∷ (more ++ rest) =
+    by_split g form order h j c at ∙ ap (λ (vs : List Value). a ++ ((b ++ vs) ++ rest)) ops
     ∙ ap (λ (vs : List Value). a ++ (vs ++ rest)) (sym (append_assoc b d (result o ∷ more))) ∙ ap (λ (vs : List Value). a ++ vs) (append_assoc (b ++ d) (result o ∷ more) rest) ∙ sym (append_assoc a (b ++ d) (result o ∷ (more ++ rest))) in
     ap (λ (vs : List Value). slice_get vs (length (a ++ (b ++ d)))) whole ∙ at_middle (a ++ (b ++ d)) (result o) (more ++ rest)
 
@@ -123,18 +113,15 @@ module _ (c : ContextData) (op : OpRef) (s : Spot) (values' : Values) (m : Modul
   ops_more : take (suc s.at) s.block.ops ≡ ops ++ s.op ∷ []
   ops_more = take_suc s.block.ops s.at s.op next.spot.there
 
-  seen_more : seen_before g s.place ++ (arguments_of s.block ++ map result (take (suc s.at) s.block.ops)) ≡ (seen_before g s.place ++ (arguments_of s.block ++ map result ops)) ++ result s.op ∷ []
+  seen_more : seen_to s.task (turn s.task s.place) ++ (arguments_of s.block ++ map result (take (suc s.at) s.block.ops)) ≡ (seen_to s.task (turn s.task s.place) ++ (arguments_of s.block ++ map result ops)) ++ result s.op ∷ []
   seen_more =
-      ap (λ (os : List DialectOp). seen_before g s.place ++ (arguments_of s.block ++ map result os)) ops_more
-      ∙ ap (λ (vs : List Value). seen_before g s.place ++ (arguments_of s.block ++ vs)) (map_push result ops s.op)
-      ∙ ap (λ (vs : List Value). seen_before g s.place ++ vs) (sym (append_assoc (arguments_of s.block) (map result ops) (result s.op ∷ [])))
-      ∙ sym (append_assoc (seen_before g s.place) (arguments_of s.block ++ map result ops) (result s.op ∷ []))
+      ap (λ (os : List DialectOp). seen_to s.task (turn s.task s.place) ++ (arguments_of s.block ++ map result os)) ops_more
+      ∙ ap (λ (vs : List Value). seen_to s.task (turn s.task s.place) ++ (arguments_of s.block ++ vs)) (map_push result ops s.op)
+      ∙ ap (λ (vs : List Value). seen_to s.task (turn s.task s.place) ++ vs) (sym (append_assoc (arguments_of s.block) (map result ops) (result s.op ∷ [])))
+      ∙ sym (append_assoc (seen_to s.task (turn s.task s.place)) (arguments_of s.block ++ map result ops) (result s.op ∷ []))
 
   next_more : number_behind first (take (suc s.at) s.block.ops) ≡ number_after s.op.result (number_behind first ops)
   next_more = ap (number_behind first) ops_more ∙ number_more first ops s.op
-
-  place_length : length (take s.place g.blocks) ≡ s.place
-  place_length = (split_at g.blocks s.place s.block next.spot.here).1
 
   -- ---- instructions
 
@@ -142,25 +129,25 @@ module _ (c : ContextData) (op : OpRef) (s : Spot) (values' : Values) (m : Modul
       (is : data_of new ≡ with_instruction (data_of m) b.0 (placed i name m x)) (sound : IsModule new) (here : b.0 ≡ n.block + s.place) (name_is : name ≡ result_name s.op.name s.op.result (number_behind first ops)) where
     number_is : i.0 ≡ number_of g n (result s.op)
     number_is =
-        last ∙ next.state.inst_count ∙ sym (number_at g next.spot.task.form n no_entries _ (result s.op) (made_here g s.place s.at s.block s.op next.spot.here next.spot.there made.other))
+        last ∙ next.state.inst_count ∙ sym (number_at g next.spot.task.form n next.spot.task.order.once no_entries _ (result s.op) (made_here g next.spot.task.form n.order next.spot.task.order.once s.place s.at s.block s.op next.spot.here next.spot.there made.other))
 
     placed_is : placed i name m x ≡ inst g n (number_behind first ops) s.op
     placed_is = same_placed (placed i name m x) (inst g n (number_behind first ops) s.op) number_is name_is made.type made.is
 
-    data_is : data_of new ≡ with_function s.task.before (function_with g n (blocks_within s.task s.place s.block (block_phis g n no_entries s.place (first_at g s.place) s.block ++ insts g n first (take (suc s.at) s.block.ops))))
+    data_is : data_of new ≡ with_function s.task.before (function_with g n (blocks_within s.task s.place (block_phis g n no_entries s.place (first_at g s.place) s.block ++ insts g n first (take (suc s.at) s.block.ops))))
     data_is =
         let ps = block_phis g n no_entries s.place (first_at g s.place) s.block ++ insts g n first ops in
         let p = inst g n (number_behind first ops) s.op in
         is ∙ ap (λ (d : ModuleData). with_instruction d b.0 (placed i name m x)) next.state.is
-        ∙ data_within s.task s.place s.block ps b.0 (placed i name m x) next.spot.task.blocks place_length here
-        ∙ ap (λ (q : Placed). with_function s.task.before (function_with g n (blocks_within s.task s.place s.block (ps ++ q ∷ [])))) placed_is
-        ∙ ap (λ (qs : List Placed). with_function s.task.before (function_with g n (blocks_within s.task s.place s.block qs)))
+        ∙ data_within s.task s.place ps b.0 (placed i name m x) next.spot.task.blocks here
+        ∙ ap (λ (q : Placed). with_function s.task.before (function_with g n (blocks_within s.task s.place (ps ++ q ∷ [])))) placed_is
+        ∙ ap (λ (qs : List Placed). with_function s.task.before (function_with g n (blocks_within s.task s.place qs)))
         (append_assoc (block_phis g n no_entries s.place (first_at g s.place) s.block) (insts g n first ops) (p ∷ [])
-        ∙ ap (λ (qs : List Placed). block_phis g n no_entries s.place (first_at g s.place) s.block ++ qs) (sym (insts_push g next.spot.task.form n first ops s.op made.other) ∙ ap (insts g n first) (sym ops_more)))
+        ∙ ap (λ (qs : List Placed). block_phis g n no_entries s.place (first_at g s.place) s.block ++ qs) (sym (insts_push g next.spot.task.form n next.spot.task.order.once first ops s.op made.other) ∙ ap (insts g n first) (sym ops_more)))
 
-    count_is : length new.insts ≡ n.inst + length (values_from 0 (take s.place g.blocks) ++ (phi_values s.place s.block ++ result_values (take (suc s.at) s.block.ops)))
+    count_is : length new.insts ≡ n.inst + length (values_to s.task (turn s.task s.place) ++ (phi_values s.place s.block ++ result_values (take (suc s.at) s.block.ops)))
     count_is =
-        let a = values_from 0 (take s.place g.blocks) in
+        let a = values_to s.task (turn s.task s.place) in
         let d = phi_values s.place s.block in
         let e = built_insts m new b i name x built in
         let f = next.state.inst_count in
@@ -178,13 +165,13 @@ module _ (c : ContextData) (op : OpRef) (s : Spot) (values' : Values) (m : Modul
       inst_count = count_is;
       next = next.state.next ∙ sym (next_more ∙ ap (λ (r : Option TypeTree). number_after r (number_behind first ops)) none);
       known = subst (λ (vs : List Value). AreKnown g n vs values' new) (sym seen_more)
-          (known_void g n (seen_before g s.place ++ (arguments_of s.block ++ map result ops)) values' m new (result s.op) next.state.sound (grows_built m new b i name x built) (spot_type c op s next.spot ∙ none) next.state.known);
+          (known_void g n (seen_to s.task (turn s.task s.place) ++ (arguments_of s.block ++ map result ops)) values' m new (result s.op) next.state.sound (grows_built m new b i name x built) (spot_type c op s next.spot ∙ none) next.state.known);
     }
 
     pub typed_placed : (type : TypeTree) (r : ResultType) (values'' : Values) → s.op.result ≡ Some type → result_type m x ≡ Some r → values''.next ≡ values'.next + 1 → IsSet (found values') (found values'') (Result op) (V.Inst i) → IsBehindSpot s values'' new
     typed_placed type r values'' result_is made_type counted set =
         let key : Result op ≡ result s.op = ap (λ (k : ℕ). Result (record { 0 = k })) (sym (spot_parts c op s next.spot).number) in
-        let operand = result_operand g next.spot.task.form n no_entries s.place s.at (record { 0 = s.op.number }) s.block s.op next.spot.here next.spot.there refl made.other in
+        let operand = result_operand g next.spot.task.form n next.spot.task.order.once no_entries s.place s.at (record { 0 = s.op.number }) s.block s.op next.spot.here next.spot.there refl made.other in
         record {
           is = data_is;
           sound = sound;
@@ -192,7 +179,7 @@ module _ (c : ContextData) (op : OpRef) (s : Spot) (values' : Values) (m : Modul
           inst_count = count_is;
           next = counted ∙ ap (λ (k : ℕ). k + 1) next.state.next ∙ sym (next_more ∙ ap (λ (o : Option TypeTree). number_after o (number_behind first ops)) result_is);
           known = subst (λ (vs : List Value). AreKnown g n vs values'' new) (sym seen_more)
-              (known_set g n (seen_before g s.place ++ (arguments_of s.block ++ map result ops)) values' values'' m new (result s.op) (V.Inst i) type next.state.sound (grows_built m new b i name x built) (spot_type c op s next.spot ∙ result_is)
+              (known_set g n (seen_to s.task (turn s.task s.place) ++ (arguments_of s.block ++ map result ops)) values' values'' m new (result s.op) (V.Inst i) type next.state.sound (grows_built m new b i name x built) (spot_type c op s next.spot ∙ result_is)
               (subst (λ (v : Value). IsSet (found values') (found values'') v (V.Inst i)) key set)
               (record {
                 typed = subst (HasType new (V.Inst i)) (made.type ∙ ap option_type result_is) (built_type m new b i name x r built last made_type sound);
@@ -212,17 +199,17 @@ module _ (c : ContextData) (op : OpRef) (s : Spot) (values' : Values) (m : Modul
       let ty2 = type_kept m1 m2 ty (type_of type) g2 ty_is in
       let tree : const_at (trees_of m2).consts k ≡ IntConst (type_of type) value = int_const_of m2 k ty from interned.here ∙ (let e = ty2.1 in cc) in
       let key : Result op ≡ result s.op = ap (λ (i : ℕ). Result (record { 0 = i })) (sym (spot_parts c op s next.spot).number) in
-      let operand = constant_operand g next.spot.task.form n no_entries s.place s.at (record { 0 = s.op.number }) s.block s.op (IntegerAttr type value) next.spot.here next.spot.there refl parts.kind in
+      let operand = constant_operand g next.spot.task.form n next.spot.task.order.once no_entries s.place s.at (record { 0 = s.op.number }) s.block s.op (IntegerAttr type value) next.spot.here next.spot.there refl parts.kind in
       record {
         is = data2 ∙ data1 ∙ next.state.is
-            ∙ ap (λ (qs : List Placed). with_function s.task.before (function_with g n (blocks_within s.task s.place s.block (block_phis g n no_entries s.place (first_at g s.place) s.block ++ qs)))) (sym (ap (insts g n first) ops_more ∙ insts_skip g n first ops s.op parts.constant));
+            ∙ ap (λ (qs : List Placed). with_function s.task.before (function_with g n (blocks_within s.task s.place (block_phis g n no_entries s.place (first_at g s.place) s.block ++ qs)))) (sym (ap (insts g n first) ops_more ∙ insts_skip g n first ops s.op parts.constant));
         sound = sound;
         block_count = ap (λ (x : Module). length x.blocks) rest2 ∙ ap (λ (x : Module). length x.blocks) rest1 ∙ next.state.block_count;
         inst_count = ap (λ (x : Module). length x.insts) rest2 ∙ ap (λ (x : Module). length x.insts) rest1 ∙ next.state.inst_count
-            ∙ ap (λ (vs : List Value). n.inst + length (values_from 0 (take s.place g.blocks) ++ (phi_values s.place s.block ++ vs))) (sym (ap result_values ops_more ∙ results_append ops (s.op ∷ []) ∙ ap (λ (vs : List Value). result_values ops ++ vs) (results_constant s.op [] parts.constant) ∙ append-nil (result_values ops)));
+            ∙ ap (λ (vs : List Value). n.inst + length (values_to s.task (turn s.task s.place) ++ (phi_values s.place s.block ++ vs))) (sym (ap result_values ops_more ∙ results_append ops (s.op ∷ []) ∙ ap (λ (vs : List Value). result_values ops ++ vs) (results_constant s.op [] parts.constant) ∙ append-nil (result_values ops)));
         next = counted ∙ ap (λ (i : ℕ). i + 1) next.state.next ∙ sym (next_more ∙ ap (λ (o : Option TypeTree). number_after o (number_behind first ops)) parts.result);
         known = subst (λ (vs : List Value). AreKnown g n vs values'' m2) (sym seen_more)
-            (known_set g n (seen_before g s.place ++ (arguments_of s.block ++ map result ops)) values' values'' m m2 (result s.op) (V.Const k) type next.state.sound grows (spot_type c op s next.spot ∙ parts.result)
+            (known_set g n (seen_to s.task (turn s.task s.place) ++ (arguments_of s.block ++ map result ops)) values' values'' m m2 (result s.op) (V.Const k) type next.state.sound grows (spot_type c op s next.spot ∙ parts.result)
             (subst (λ (v : Value). IsSet (found values') (found values'') v (V.Const k)) key set)
             (record {
               typed = (ty, ap (option_map _) interned.here, ty2.1);

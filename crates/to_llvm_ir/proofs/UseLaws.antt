@@ -21,6 +21,7 @@ use Rattle.meaning.specs.Dialect.{type_of}
 use Rattle.to_llvm_ir.specs.declared.to_llvm_err.ToLLVMErr.TheVariants as E
 use Rattle.to_llvm_ir.specs.declared.values.Values.{Values}
 use Rattle.to_llvm_ir.specs.declared.blocks.Blocks.{Blocks}
+use Rattle.to_llvm_ir.specs.Order.{arranged, turn_of}
 use Rattle.to_llvm_ir.specs.Exported.{name_of, label_of}
 use Rattle.to_llvm_ir.specs.Growth.{HasType}
 use Rattle.to_llvm_ir.specs.Causes.{IsFuncCause, given_name}
@@ -30,6 +31,7 @@ use Rattle.to_llvm_ir.proofs.ContextLaws.{func_parts, block_parts}
 use Rattle.to_llvm_ir.proofs.LookupLaws.{result_of, op_found}
 use Rattle.to_llvm_ir.proofs.EdgeLaws.{edge_among}
 use Rattle.to_llvm_ir.proofs.KnownLaws.{stands_seen, seen_stands}
+use Rattle.to_llvm_ir.proofs.TurnLaws.{taken_here}
 
 -- ---- operations and blocks of the context
 
@@ -96,7 +98,7 @@ use_is c s op values m v type x next used at =
     record {
       typed = subst (λ (y : LLVMValue). HasType m y (type_of type)) is k.typed;
       stands = ap (operand_of (trees_of m)) (sym is) ∙ k.stands;
-      before = seen_stands s.task.source s.place s.at s.block v next.spot.here has;
+      before = seen_stands (arranged s.task.numbers.order s.task.source) (turn_of s.task.numbers.order s.place) s.at s.block v (taken_here s.task.source.blocks s.task.numbers.order next.spot.task.order.once s.place s.block next.spot.here) has;
     }
 
 pub early_use : (c : ContextData) (s : Spot) (op : OpRef) (values : Values) (m : Module) (v : Value) (type : TypeTree) (name : List ℕ) → IsNext c op s values m → IsUsed s v type → found values v ≡ None → name ≡ given_name c v → IsFuncCause c s.task.source (E.UndefinedValue name)
@@ -107,8 +109,10 @@ early_use c s op values m v type name next used none name_is d at here = record 
   at = next.spot.there;
   value = v;
   used = used.among;
+  order = s.task.numbers.order;
+  is_order = next.spot.task.order.is;
   early = λ stands.
-      let has = stands_seen s.task.source s.place s.at s.block v next.spot.here stands in
+      let has = stands_seen (arranged s.task.numbers.order s.task.source) (turn_of s.task.numbers.order s.place) s.at s.block v (taken_here s.task.source.blocks s.task.numbers.order next.spot.task.order.once s.place s.block next.spot.here) stands in
       let k = next.state.known.known v type has used.typed in
       none-some k.value (sym none ∙ k.found);
   named = name_is ∙ named c next.spot.task.op s.task.source v type next.spot.task.held next.spot.task.form used.typed;

@@ -1,7 +1,7 @@
 -- What an export has made: an LLVM module whose functions stand for those of a dialect module.
 use Rattle.std.specs.Prelude.{ℕ, zero, suc, ◌≡◌, ◌<◌, ◌+◌, ◌^◌, nat_eq, if◌then◌else◌, List, [], ◌∷◌, ◌++◌, Option, Some, None, All, IfSome, Contains, length, map, filter, slice_get, unwrap_or, codes}
 use Rattle.std.specs.Option.{option_map_or}
-use Rattle.std.specs.List.{find, flat_map}
+use Rattle.std.specs.List.{find, filter_map, flat_map}
 use Rattle.std.specs.Fmt.{decimal}
 use Rattle.llvm_core.specs.Module.{Module}
 use Rattle.llvm_core.specs.Interned.{IsDistinctList}
@@ -16,13 +16,14 @@ use Rattle.dialect_core.specs.declared.ops.Successor.{Successor}
 use Rattle.dialect_core.specs.declared.ops.BlockData.{BlockData}
 use Rattle.dialect_core.specs.ContextData.{ContextData}
 use Rattle.dialect_core.specs.Data.{DialectModule, DialectBlock, DialectOp, Func, ops_in}
-use Rattle.dialect_core.specs.Form.{is_constant, uses_of, edges_of, StandsBefore, HasTargets}
+use Rattle.dialect_core.specs.Form.{is_constant, uses_of, edges_of, HasTargets}
 use Rattle.meaning.specs.Pairs.{Matched, BothOrNone}
 use Rattle.meaning.specs.Dialect.{type_of}
 use Rattle.meaning.specs.Shape.{SameShape}
 use Rattle.meaning.specs.Examples.{same_places}
 use Rattle.to_llvm_ir.specs.declared.to_llvm_err.ToLLVMErr.{ToLLVMErr}
 use Rattle.to_llvm_ir.specs.declared.to_llvm_err.ToLLVMErr.TheVariants as E
+use Rattle.to_llvm_ir.specs.Order.{IsExportOrder, StandsBeforeIn}
 
 -- ---- names
 
@@ -93,18 +94,22 @@ phi_types (suc n) types = map type_of types
 abbrev pub edge_sources : ℕ → List L.Block → List ℕ
 edge_sources n blocks = flat_map (λ (b : L.Block). map (λ (t : ℕ). b.number) (filter (nat_eq n) (targets_of b))) blocks
 
--- the entries of a phi of the block of the number n: one for each edge that leads there, in the order of the edges,
--- and those for one block have one operand
-pub record HasEdges (f : L.Function) (n : ℕ) (entries : List (Operand × ℕ)) : Type 0 where
-  pub sources : map (λ (e : Operand × ℕ). e.1) entries ≡ edge_sources n f.blocks
+-- the blocks of a function in an order of their places
+abbrev pub blocks_by : List ℕ → L.Function → List L.Block
+blocks_by order f = filter_map (slice_get f.blocks) order
+
+-- the entries of a phi of the block of the number n: one for each edge that leads there, in the order of the edges, the
+-- blocks taken in an order, and those for one block have one operand
+pub record HasEdges (order : List ℕ) (f : L.Function) (n : ℕ) (entries : List (Operand × ℕ)) : Type 0 where
+  pub sources : map (λ (e : Operand × ℕ). e.1) entries ≡ edge_sources n (blocks_by order f)
   pub alike : (i j : ℕ) (x y : Operand × ℕ) → slice_get entries i ≡ Some x → slice_get entries j ≡ Some y → x.1 ≡ y.1 → x.0 ≡ y.0
 
 -- the block at a place of the function f begins with a phi for each argument of the dialect's block, in order, of its
 -- type, and has no others
-pub record HasPhis (f : L.Function) (place : ℕ) (c : DialectBlock) (b : L.Block) : Type 0 where
+pub record HasPhis (order : List ℕ) (f : L.Function) (place : ℕ) (c : DialectBlock) (b : L.Block) : Type 0 where
   pub types : map (λ (p : Placed). p.type) (filter is_phi b.instructions) ≡ phi_types place c.args
   pub first : HasPhisFirst b.instructions
-  pub entries : All (λ (p : Placed). IfSome (phi_entries p.instruction) (HasEdges f b.number)) b.instructions
+  pub entries : All (λ (p : Placed). IfSome (phi_entries p.instruction) (HasEdges order f b.number)) b.instructions
 
 -- ---- functions and modules
 
@@ -117,8 +122,11 @@ pub record ExportedFunction (d : L.ModuleData) (g : Func) (f : L.Function) : Typ
   -- parameters have no names
   pub params : All (λ (n : List ℕ). n ≡ []) f.params
   pub names : AreNamed 0 0 g.blocks f.blocks
+  -- the order in which its blocks were taken
+  pub order : List ℕ
+  pub is_order : IsExportOrder g order
   -- whether an edge leads to the block or not
-  pub phis : (place : ℕ) → BothOrNone (HasPhis f place) (slice_get g.blocks place) (slice_get f.blocks place)
+  pub phis : (place : ℕ) → BothOrNone (HasPhis order f place) (slice_get g.blocks place) (slice_get f.blocks place)
   pub locals : IsDistinctList (local_names f)
   pub few : IsFewIn f
   -- where each block with arguments is an edge's target, each phi has an edge
@@ -146,7 +154,7 @@ abbrev pub name_of : Func → Value → List ℕ
 name_of g (Result r) = option_map_or (λ (o : DialectOp). unwrap_or o.name []) (find (λ (o : DialectOp). nat_eq o.number r.0) (ops_in g)) []
 name_of g (Argument b i) = []
 
--- a value of that name is used where it does not stand before, in the order of the blocks
+-- a value of that name is used where it does not stand before, the blocks taken in the order of the export
 pub record IsEarlyUse (d : DialectModule) (name : List ℕ) : Type 0 where
   pub block : HasBlockAt d
   pub place : ℕ
@@ -154,7 +162,9 @@ pub record IsEarlyUse (d : DialectModule) (name : List ℕ) : Type 0 where
   pub at : slice_get block.is.ops place ≡ Some op
   pub value : Value
   pub used : Contains (uses_of op) value
-  pub early : ¬ StandsBefore block.function block.block place value
+  pub order : List ℕ
+  pub is_order : IsExportOrder block.function order
+  pub early : ¬ StandsBeforeIn order block.function block.block place value
   pub named : name ≡ name_of block.function value
 
 -- an edge of the module's, from a block

@@ -40,6 +40,6 @@ pub record HasExported (name : List ℕ) (gs : List Func) (d : ModuleData) : Typ
 abbrev pub AddsFunctions : List Func → ModuleData → ModuleData → Type 0
 AddsFunctions more old new = (name : List ℕ) (gs : List Func) → HasExported name gs old → HasExported name (gs ++ more) new
 
--- a last function of the module stands for g, and has no blocks yet
-abbrev pub IsStarted : ContextData → Func → LLVMFunction → (old new : Module) → Type 0
-IsStarted c g f old new = (t : Task) × (ty : LLVMType) × (t.source ≡ g) × (t.before ≡ data_of old) × IsTask c t × IsDeclared t f ty new × (length new.functions ≡ length old.functions + 1)
+-- a last function of the module stands for g, whose blocks are taken in the order, and has no blocks yet
+abbrev pub IsStarted : ContextData → Func → List ℕ → LLVMFunction → (old new : Module) → Type 0
+IsStarted c g order f old new = (t : Task) × (ty : LLVMType) × (t.source ≡ g) × (t.before ≡ data_of old) × IsTask c t × IsDeclared t f ty new × (length new.functions ≡ length old.functions + 1) × (t.numbers.order ≡ order)

@@ -14,7 +14,8 @@ use Rattle.dialect_core.specs.Form.{IsFormFunc}
 use Rattle.to_llvm_ir.specs.declared.values.Values.{Values}
 use Rattle.to_llvm_ir.specs.declared.blocks.Blocks.{Blocks}
 use Rattle.to_llvm_ir.specs.declared.blocks.Target.{Target}
-use Rattle.to_llvm_ir.specs.Made.{values}
+use Rattle.to_llvm_ir.specs.Order.{IsTaken}
+use Rattle.to_llvm_ir.specs.Made.{values_by}
 use Rattle.to_llvm_ir.specs.States.{Task, Spot, IsSpot, IsBlockAt, IsArgument, IsLinking, AreAllMapped}
 
 -- where an edge leads: behind the entry
@@ -40,9 +41,10 @@ IsTypedValue g v = (type : TypeTree) × (value_type g v ≡ Some type)
 -- an argument that became a phi, and what it takes from a block
 pub record IsEntryNext (t : Task) (argument value : Value) (from : LLVMBasicBlock) (given : Given) (known : Values) (m : Module) : Type 0 where
   pub form : IsFormFunc t.source
+  pub order : IsTaken t.source t.numbers.order
   pub insts : AllPlaced (λ (p : Placed). p.number < t.numbers.inst) t.before
   pub place : ℕ
-  pub at : slice_get (values t.source) place ≡ Some argument
+  pub at : slice_get (values_by t.numbers.order t.source) place ≡ Some argument
   pub is_argument : IsArgument argument
   pub typed : IsTypedValue t.source argument
   pub passes : IsTypedValue t.source value
@@ -52,6 +54,7 @@ pub record IsEntryNext (t : Task) (argument value : Value) (from : LLVMBasicBloc
 -- an edge from a block, which passes as many values as its target has arguments
 pub record IsEdgeNext (t : Task) (e : Successor) (from : LLVMBasicBlock) (given : Given) (known : Values) (m : Module) : Type 0 where
   pub form : IsFormFunc t.source
+  pub order : IsTaken t.source t.numbers.order
   pub insts : AllPlaced (λ (p : Placed). p.number < t.numbers.inst) t.before
   pub target : HasTarget t.source e
   pub args : All (IsTypedValue t.source) e.args

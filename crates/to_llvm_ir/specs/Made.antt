@@ -16,13 +16,15 @@ use Rattle.dialect_core.specs.Form.{is_constant, others_of, edges_of}
 use Rattle.meaning.specs.Dialect.{type_of, option_type, same_value, place_of, predicate_of}
 use Rattle.to_llvm_ir.specs.Exported.{block_name, value_name, result_name, number_after, number_behind}
 
--- the number of the function, of its first block and of its first instruction: further ones count on
+-- the number of the function, of its first block and of its first instruction: further blocks count on, and further
+-- instructions count on over the blocks in the order of their places
 pub record Numbers : Type 0 where
   pub function : ℕ
   pub block : ℕ
   pub inst : ℕ
+  pub order : List ℕ
 
--- ---- values, in the order in which they become instructions
+-- ---- values that become instructions
 
 abbrev pub result : DialectOp → Value
 result o = Result (record { 0 = o.number })
@@ -51,6 +53,14 @@ values_from place (c ∷ cs) = (phi_values place c ++ result_values c.ops) ++ va
 abbrev pub values : Func → List Value
 values g = values_from 0 g.blocks
 
+-- the values of the block at a place
+abbrev pub block_values : Func → ℕ → List Value
+block_values g p = option_map_or (λ (c : DialectBlock). phi_values p c ++ result_values c.ops) (slice_get g.blocks p) []
+
+-- the values in the order in which they become instructions
+abbrev pub values_by : List ℕ → Func → List Value
+values_by order g = flat_map (block_values g) order
+
 -- the place of a value in a list, the length where it is not in it
 abbrev pub place_in : Value → List Value → ℕ
 place_in v [] = 0
@@ -75,7 +85,7 @@ is_entry g b = option_map_or (λ (c : DialectBlock). nat_eq c.number b) (slice_g
 module _ (g : Func) (n : Numbers) where
   -- the number of the instruction that a value becomes
   abbrev pub number_of : Value → ℕ
-  number_of v = n.inst + place_in v (values g)
+  number_of v = n.inst + place_in v (values_by n.order g)
 
   -- what an operand becomes
   abbrev pub operand_for : Value → Operand
@@ -132,13 +142,16 @@ module _ (g : Func) (n : Numbers) where
   abbrev pub passed : ℕ → List Successor → Value → List (Operand × ℕ)
   passed p ss v = flat_map (λ (s : Successor). passed_to s.block s.args p v) ss
 
-  -- what the edges of blocks pass, of which the first stands at a place
-  abbrev pub entries_from : ℕ → List DialectBlock → Value → List (Operand × ℕ)
-  entries_from place [] v = []
-  entries_from place (c ∷ cs) v = passed (n.block + place) (edges_of c) v ++ entries_from (suc place) cs v
+  -- what the edges of the block at a place pass
+  abbrev pub block_passes : Value → ℕ → List (Operand × ℕ)
+  block_passes v p = option_map_or (λ (c : DialectBlock). passed (n.block + p) (edges_of c) v) (slice_get g.blocks p) []
+
+  -- what the edges of the blocks at these places pass
+  abbrev pub entries_from : List ℕ → Value → List (Operand × ℕ)
+  entries_from places v = flat_map (block_passes v) places
 
   abbrev pub entries : Value → List (Operand × ℕ)
-  entries v = entries_from 0 g.blocks v
+  entries v = entries_from n.order v
 
   module _ (given : Value → List (Operand × ℕ)) where
     abbrev pub phis : (block place k : ℕ) → List TypeTree → List Placed
@@ -162,6 +175,12 @@ module _ (g : Func) (n : Numbers) where
     abbrev pub blocks_made : (place k : ℕ) → List DialectBlock → List L.Block
     blocks_made place k [] = []
     blocks_made place k (c ∷ cs) = block_made place k c ∷ blocks_made (suc place) (number_behind (k + length c.args) c.ops) cs
+
+  -- the blocks, of which the first stands at a place, with these instructions
+  abbrev pub blocks_with : (ℕ → DialectBlock → List Placed) → (place : ℕ) → List DialectBlock → List L.Block
+  blocks_with instructions place [] = []
+  blocks_with instructions place (c ∷ cs) =
+      (record { number = n.block + place; name = block_name c.label place; instructions = instructions place c }) ∷ blocks_with instructions (suc place) cs
 
   -- a block without instructions
   abbrev pub empty_block : (place : ℕ) → DialectBlock → L.Block

@@ -1,5 +1,5 @@
 -- A function on the way from the dialect to LLVM: what stands for its values, and what the module holds so far.
-use Rattle.std.specs.Prelude.{◌≡◌, ◌<◌, ◌+◌, ℕ, suc, Bool, false, nat_eq, List, ◌∷◌, ◌++◌, Option, Some, None, All, length, map, take, drop, slice_get}
+use Rattle.std.specs.Prelude.{◌≡◌, ◌<◌, ◌+◌, ℕ, suc, Bool, false, nat_eq, nat_lt, if◌then◌else◌, List, [], ◌++◌, Option, Some, None, All, length, map, take, slice_get}
 use Rattle.std.specs.List.{Contains, flat_map, filter_map}
 use Rattle.std.specs.HashMap.{get}
 use Rattle.llvm_core.specs.declared.numbers.LLVMInstRef.{LLVMInstRef}
@@ -23,13 +23,14 @@ use Rattle.dialect_core.specs.contracts.ops.ValuePartialEq.TheImpl as keys
 use Rattle.dialect_core.specs.contracts.numbers.BlockRefPartialEq.TheImpl as block_keys
 use Rattle.dialect_core.specs.ContextData.{ContextData}
 use Rattle.dialect_core.specs.Data.{DialectOp, DialectBlock, Func, op_at, block_in, func_in, value_type}
-use Rattle.dialect_core.specs.Form.{IsFormFunc, StandsBefore, uses_of, is_constant}
+use Rattle.dialect_core.specs.Form.{IsFormFunc, uses_of, is_constant}
 use Rattle.meaning.specs.Dialect.{type_of, option_type}
 use Rattle.to_llvm_ir.specs.declared.values.Values.{Values}
 use Rattle.to_llvm_ir.specs.declared.blocks.Blocks.{Blocks}
 use Rattle.to_llvm_ir.specs.declared.blocks.Target.{Target}
+use Rattle.to_llvm_ir.specs.Order.{IsTaken, StandsBeforeIn, arranged, turn_of}
 use Rattle.to_llvm_ir.specs.Exported.{number_behind}
-use Rattle.to_llvm_ir.specs.Made.{Numbers, result, arguments_of, phi_values, result_values, values_from, values, operand_for, block_for, instruction_for, insts, block_phis, blocks_made, empty_block, empty_blocks, function_with, no_entries, number_past}
+use Rattle.to_llvm_ir.specs.Made.{Numbers, result, arguments_of, phi_values, result_values, values_by, operand_for, block_for, instruction_for, insts, block_phis, block_made, blocks_made, blocks_with, function_with, no_entries, number_past}
 use Rattle.to_llvm_ir.specs.Accepted.{IsAcceptedOp}
 use Rattle.to_llvm_ir.specs.Growth.{HasType}
 
@@ -76,11 +77,13 @@ pub record Task : Type 0 where
   pub numbers : Numbers
   pub before : L.ModuleData
 
--- the function of the context is of the form, and the numbers of the module before are below its own
+-- the function of the context is of the form, the order is that of an export, and the numbers of the module before are
+-- below its own
 pub record IsTask (c : ContextData) (t : Task) : Type 0 where
   pub op : OpRef
   pub held : func_in (type_trees c.types) c op ≡ Some t.source
   pub form : IsFormFunc t.source
+  pub order : IsTaken t.source t.numbers.order
   pub functions : All (λ (f : L.Function). f.number < t.numbers.function) t.before.functions
   pub blocks : AllBlocks (λ (b : L.Block). b.number < t.numbers.block) t.before
   pub insts : AllPlaced (λ (p : Placed). p.number < t.numbers.inst) t.before
@@ -98,17 +101,36 @@ pub record IsState (t : Task) (blocks : List L.Block) (made seen : List Value) (
 abbrev pub first_at : Func → ℕ → ℕ
 first_at g j = number_past 0 (take j g.blocks)
 
--- the blocks before a place are done, and the others are empty
+-- where the order names the block at a place
+abbrev pub turn : Task → ℕ → ℕ
+turn t p = turn_of t.numbers.order p
+
+-- the values of the first k blocks of the order, those of constants and of operations without a result too
+abbrev pub seen_to : Task → ℕ → List Value
+seen_to t k = seen_before (arranged t.numbers.order t.source) k
+
+-- those that became instructions
+abbrev pub values_to : Task → ℕ → List Value
+values_to t k = values_by (take k t.numbers.order) t.source
+
+-- what the block at a place becomes, without entries
+abbrev pub filled : Task → ℕ → DialectBlock → List Placed
+filled t p c = (block_made t.source t.numbers no_entries p (first_at t.source p) c).instructions
+
+-- the instructions of the block at a place, where the first k blocks of the order are done
+abbrev pub filled_to : Task → ℕ → ℕ → DialectBlock → List Placed
+filled_to t k p c = if nat_lt (turn t p) k then filled t p c else []
+
+-- the first k blocks of the order are done, and the others are empty
 abbrev pub blocks_before : Task → ℕ → List L.Block
-blocks_before t j = blocks_made t.source t.numbers no_entries 0 0 (take j t.source.blocks) ++ empty_blocks t.source t.numbers j (drop j t.source.blocks)
+blocks_before t k = blocks_with t.source t.numbers (filled_to t k) 0 t.source.blocks
 
 abbrev pub IsBetween : Task → ℕ → Values → Module → Type 0
-IsBetween t j values m = IsState t (blocks_before t j) (values_from 0 (take j t.source.blocks)) (seen_before t.source j) (first_at t.source j) values m
+IsBetween t k values m = IsState t (blocks_before t k) (values_to t k) (seen_to t k) values.next values m
 
--- the blocks before a place are done, the one there has those instructions, and the others are empty
-abbrev pub blocks_within : Task → ℕ → DialectBlock → List Placed → List L.Block
-blocks_within t j c ps =
-    blocks_made t.source t.numbers no_entries 0 0 (take j t.source.blocks) ++ (record (empty_block t.source t.numbers j c) { instructions = ps }) ∷ empty_blocks t.source t.numbers (suc j) (drop (suc j) t.source.blocks)
+-- the block at a place has those instructions, those before it in the order are done, and the others are empty
+abbrev pub blocks_within : Task → ℕ → List Placed → List L.Block
+blocks_within t j ps = blocks_with t.source t.numbers (λ p c. if nat_eq p j then ps else filled_to t (turn t j) p c) 0 t.source.blocks
 
 -- the block with its first arguments
 abbrev pub upto : ℕ → DialectBlock → DialectBlock
@@ -117,9 +139,9 @@ upto i c = record c { args = take i c.args }
 -- the first i arguments of the block at the place j are done
 abbrev pub IsAtArgument : Task → (j : ℕ) → DialectBlock → (i : ℕ) → Values → Module → Type 0
 IsAtArgument t j c i values m = IsState t
-    (blocks_within t j c (block_phis t.source t.numbers no_entries j (first_at t.source j) (upto i c)))
-    (values_from 0 (take j t.source.blocks) ++ phi_values j (upto i c))
-    (seen_before t.source j ++ arguments_of (upto i c))
+    (blocks_within t j (block_phis t.source t.numbers no_entries j (first_at t.source j) (upto i c)))
+    (values_to t (turn t j) ++ phi_values j (upto i c))
+    (seen_to t (turn t j) ++ arguments_of (upto i c))
     (first_at t.source j + i)
     values
     m
@@ -127,9 +149,9 @@ IsAtArgument t j c i values m = IsState t
 -- the first i operations of the block at the place j are done
 abbrev pub IsAtOp : Task → (j : ℕ) → DialectBlock → (i : ℕ) → Values → Module → Type 0
 IsAtOp t j c i values m = IsState t
-    (blocks_within t j c (block_phis t.source t.numbers no_entries j (first_at t.source j) c ++ insts t.source t.numbers (first_at t.source j + length c.args) (take i c.ops)))
-    (values_from 0 (take j t.source.blocks) ++ (phi_values j c ++ result_values (take i c.ops)))
-    (seen_before t.source j ++ (arguments_of c ++ map result (take i c.ops)))
+    (blocks_within t j (block_phis t.source t.numbers no_entries j (first_at t.source j) c ++ insts t.source t.numbers (first_at t.source j + length c.args) (take i c.ops)))
+    (values_to t (turn t j) ++ (phi_values j c ++ result_values (take i c.ops)))
+    (seen_to t (turn t j) ++ (arguments_of c ++ map result (take i c.ops)))
     (number_behind (first_at t.source j + length c.args) (take i c.ops))
     values
     m
@@ -137,7 +159,7 @@ IsAtOp t j c i values m = IsState t
 -- all blocks are done, and the phis have those entries
 abbrev pub IsLinking : Task → (Value → List (Operand × ℕ)) → Values → Module → Type 0
 IsLinking t given known m =
-    IsState t (blocks_made t.source t.numbers given 0 0 t.source.blocks) (values t.source) (flat_map all_values t.source.blocks) (number_past 0 t.source.blocks) known m
+    IsState t (blocks_made t.source t.numbers given 0 0 t.source.blocks) (values_by t.numbers.order t.source) (flat_map all_values t.source.blocks) known.next known m
 
 -- ---- blocks by their numbers
 
@@ -205,13 +227,13 @@ pub record IsUsed (s : Spot) (v : Value) (type : TypeTree) : Type 0 where
 pub record IsUse (s : Spot) (m : Module) (v : Value) (type : TypeTree) (x : LLVMValue) : Type 0 where
   pub typed : HasType m x (type_of type)
   pub stands : operand_of (trees_of m) x ≡ operand_for s.task.source s.task.numbers v
-  pub before : StandsBefore s.task.source s.place s.at v
+  pub before : StandsBeforeIn s.task.numbers.order s.task.source s.place s.at v
 
 -- the block that an edge of the operation there leads to
 pub record IsLead (s : Spot) (m : Module) (e : Successor) (b : LLVMBasicBlock) : Type 0 where
   pub is : b.0 ≡ block_for s.task.source s.task.numbers e.block.0
   pub there : b.0 < length m.blocks
-  pub before : All (StandsBefore s.task.source s.place s.at) e.args
+  pub before : All (StandsBeforeIn s.task.numbers.order s.task.source s.place s.at) e.args
 
 -- the instruction that the operation there becomes
 pub record IsMade (s : Spot) (m : Module) (inst : LLVMInst) : Type 0 where
@@ -220,7 +242,7 @@ pub record IsMade (s : Spot) (m : Module) (inst : LLVMInst) : Type 0 where
   pub type : result_tree m inst ≡ option_type s.op.result
   pub void : result_type m inst ≡ None → s.op.result ≡ None
   pub within : (t : ResultType) → result_type m inst ≡ Some t → IsResultOver m.types t
-  pub uses : All (StandsBefore s.task.source s.place s.at) (uses_of s.op)
+  pub uses : All (StandsBeforeIn s.task.numbers.order s.task.source s.place s.at) (uses_of s.op)
   pub other : is_constant s.op ≡ false
 
 -- the operations of a block, by their numbers
@@ -245,4 +267,4 @@ pub record IsBlockAt (c : ContextData) (t : Task) (j : ℕ) (block : DialectBloc
 -- the first i operations are done, and are not refused
 pub record AreDone (t : Task) (j : ℕ) (c : DialectBlock) (i : ℕ) (values : Values) (m : Module) : Type 0 where
   pub state : IsAtOp t j c i values m
-  pub accepted : (k : ℕ) (o : DialectOp) → k < i → slice_get c.ops k ≡ Some o → IsAcceptedOp t.source j k o
+  pub accepted : (k : ℕ) (o : DialectOp) → k < i → slice_get c.ops k ≡ Some o → IsAcceptedOp t.numbers.order t.source j k o

@@ -1,14 +1,15 @@
-//! The blocks of a function, filled one after another. Their phis have no entries yet.
+//! The blocks of a function, filled one after another in the order of the export. Their phis have no entries yet.
 
 ghost use Rattle.std.specs.Prelude.{◌≡◌, ◌<◌, ℕ, suc, Some, All, length, slice_get, IfOk, IfErr, OnOk};
 ghost use Rattle.dialect_core.specs.Data.{DialectBlock, IsTyped};
 ghost use Rattle.to_llvm_ir.specs.Causes.{IsFuncCause};
 ghost use Rattle.to_llvm_ir.specs.Made.{no_entries};
 ghost use Rattle.to_llvm_ir.specs.Bodies.{IsBlockBegun, IsBlocksBegun, IsBodyAccepted};
-ghost use Rattle.to_llvm_ir.specs.States.{Task, IsBetween, IsLinking, found_block};
+ghost use Rattle.to_llvm_ir.specs.States.{Task, IsBetween, IsLinking, found_block, turn};
 
 use crate::arguments::{add_phis, set_params};
 use crate::blocks::{Blocks, Target};
+use crate::numbering::first_numbers;
 use crate::numbers::check_few;
 use crate::operations::convert_ops;
 use crate::to_llvm_err::ToLLVMErr;
@@ -30,12 +31,13 @@ pub fn target_of(blocks: &Blocks, block: BlockRef) -> Target
     }
 }
 
-/// What the arguments and the operations of the block at a place become.
+/// What the arguments and the operations of the block at a place become. Its values are numbered from `first`.
 fn convert_block(
     alloc: Global,
     ctx: &Context,
     block: BlockRef,
     place: usize,
+    first: u64,
     f: LLVMFunction,
     blocks: &Blocks,
     values: &mut Values,
@@ -43,16 +45,17 @@ fn convert_block(
 ) -> Result<(), ToLLVMErr>
     requires typed { IsTyped ctx.now }
     requires within { block.0 < length ctx.now.blocks }
-    requires begun { (t : Task) × (c : DialectBlock) × IsBlockBegun ctx.now t place c block f blocks.now values.old back.old }
-    ensures ok { (t : Task) (c : DialectBlock) → IsBlockBegun ctx.now t place c block f blocks.now values.old back.old → OnOk result (IsBetween t (suc place) values.new back.new) }
-    ensures accepted { (t : Task) (c : DialectBlock) → IsBlockBegun ctx.now t place c block f blocks.now values.old back.old → OnOk result (IsBodyAccepted t.source place c) }
-    ensures cause { (t : Task) (c : DialectBlock) → IsBlockBegun ctx.now t place c block f blocks.now values.old back.old → IfErr result (IsFuncCause ctx.now t.source) }
+    requires begun { (t : Task) × (c : DialectBlock) × IsBlockBegun ctx.now t place c block first f blocks.now values.old back.old }
+    ensures ok { (t : Task) (c : DialectBlock) → IsBlockBegun ctx.now t place c block first f blocks.now values.old back.old → OnOk result (IsBetween t (suc (turn t place)) values.new back.new) }
+    ensures accepted { (t : Task) (c : DialectBlock) → IsBlockBegun ctx.now t place c block first f blocks.now values.old back.old → OnOk result (IsBodyAccepted t.numbers.order t.source place c) }
+    ensures cause { (t : Task) (c : DialectBlock) → IsBlockBegun ctx.now t place c block first f blocks.now values.old back.old → IfErr result (IsFuncCause ctx.now t.source) }
 {
     let ops = ctx.block_ops(block)?;
     let count = ctx.block_args(block).len();
     check_few(count)?;
     check_few(ops.len())?;
     let target = target_of(blocks, block);
+    values.count_from(first);
     if place == 0 {
         set_params(block, count, f, values)?;
     } else {
@@ -70,25 +73,39 @@ fn convert_block(
     Ok(())
 }
 
-/// What the blocks of a function become, in order, and what stands for its values.
+/// What the blocks of a function become, in the order of the export, and what stands for its values.
 pub fn convert_blocks(
     alloc: Global,
     ctx: &Context,
     list: &[BlockRef],
+    order: &[u32],
     f: LLVMFunction,
     blocks: &Blocks,
     back: &mut LLVMModule,
 ) -> Result<Values, ToLLVMErr>
     requires typed { IsTyped ctx.now }
     requires within { All (λ b. b.0 < length ctx.now.blocks) list.now }
-    requires begun { (t : Task) × IsBlocksBegun ctx.now t list.now f blocks.now back.old }
-    ensures ok { (t : Task) → IsBlocksBegun ctx.now t list.now f blocks.now back.old → IfOk result (λ values. IsLinking t no_entries values back.new) }
-    ensures accepted { (t : Task) → IsBlocksBegun ctx.now t list.now f blocks.now back.old → OnOk result ((j : ℕ) (c : DialectBlock) → slice_get t.source.blocks j ≡ Some c → IsBodyAccepted t.source j c) }
-    ensures cause { (t : Task) → IsBlocksBegun ctx.now t list.now f blocks.now back.old → IfErr result (IsFuncCause ctx.now t.source) }
+    requires begun { (t : Task) × IsBlocksBegun ctx.now t list.now order.now f blocks.now back.old }
+    ensures ok { (t : Task) → IsBlocksBegun ctx.now t list.now order.now f blocks.now back.old → IfOk result (λ values. IsLinking t no_entries values back.new) }
+    ensures accepted { (t : Task) → IsBlocksBegun ctx.now t list.now order.now f blocks.now back.old → OnOk result ((j : ℕ) (c : DialectBlock) → slice_get t.source.blocks j ≡ Some c → IsBodyAccepted t.numbers.order t.source j c) }
+    ensures cause { (t : Task) → IsBlocksBegun ctx.now t list.now order.now f blocks.now back.old → IfErr result (IsFuncCause ctx.now t.source) }
 {
+    let firsts = first_numbers(alloc, ctx, list)?;
+    let numbers = firsts.as_slice();
     let mut values = Values::new(alloc);
-    for (place, block) in list.iter().enumerate() {
-        convert_block(alloc, ctx, *block, place, f, blocks, &mut values, back)?;
+    for place in order {
+        let j = *place as usize;
+        convert_block(
+            alloc,
+            ctx,
+            list[j],
+            j,
+            numbers[j],
+            f,
+            blocks,
+            &mut values,
+            back,
+        )?;
     }
     Ok(values)
 }

@@ -205,23 +205,24 @@ fn add_block_edges(
     Ok(())
 }
 
-/// Adds the entries of all edges of a function, in the order of its blocks.
+/// Adds the entries of all edges of a function, its blocks taken in the order of the export.
 pub fn add_edges(
     alloc: Global,
     ctx: &Context,
     list: &[BlockRef],
+    order: &[u32],
     blocks: &Blocks,
     values: &Values,
     back: &mut LLVMModule,
 ) -> Result<(), ToLLVMErr>
     requires within { All (λ b. b.0 < length ctx.now.blocks) list.now }
-    requires begun { (t : Task) × AreBlocks ctx.now t list.now × AreAllMapped t blocks.now × IsLinking t no_entries values.now back.old }
-    ensures ok { (t : Task) → AreBlocks ctx.now t list.now → AreAllMapped t blocks.now → IsLinking t no_entries values.now back.old → OnOk result (IsLinking t (entries t.source t.numbers) values.now back.new) }
-    ensures accepted { (t : Task) → AreBlocks ctx.now t list.now → AreAllMapped t blocks.now → IsLinking t no_entries values.now back.old → OnOk result ((j : ℕ) (c : DialectBlock) → slice_get t.source.blocks j ≡ Some c → AreAcceptedEdges t.source c) }
-    ensures cause { (t : Task) → AreBlocks ctx.now t list.now → AreAllMapped t blocks.now → IsLinking t no_entries values.now back.old → IfErr result (IsFuncCause ctx.now t.source) }
+    requires begun { (t : Task) × AreBlocks ctx.now t list.now × (order.now ≡ t.numbers.order) × AreAllMapped t blocks.now × IsLinking t no_entries values.now back.old }
+    ensures ok { (t : Task) → AreBlocks ctx.now t list.now → order.now ≡ t.numbers.order → AreAllMapped t blocks.now → IsLinking t no_entries values.now back.old → OnOk result (IsLinking t (entries t.source t.numbers) values.now back.new) }
+    ensures accepted { (t : Task) → AreBlocks ctx.now t list.now → order.now ≡ t.numbers.order → AreAllMapped t blocks.now → IsLinking t no_entries values.now back.old → OnOk result ((j : ℕ) (c : DialectBlock) → slice_get t.source.blocks j ≡ Some c → AreAcceptedEdges t.source c) }
+    ensures cause { (t : Task) → AreBlocks ctx.now t list.now → order.now ≡ t.numbers.order → AreAllMapped t blocks.now → IsLinking t no_entries values.now back.old → IfErr result (IsFuncCause ctx.now t.source) }
 {
-    for block in list {
-        add_block_edges(alloc, ctx, *block, blocks, values, back)?;
+    for place in order {
+        add_block_edges(alloc, ctx, list[*place as usize], blocks, values, back)?;
     }
     Ok(())
 }

@@ -1,6 +1,6 @@
 //! Dialect module to LLVM module.
 
-ghost use Rattle.std.specs.Prelude.{◌≡◌, ◌<◌, ◌∷◌, [], Some, None, All, length, map, IfOk, IfErr, OnOk};
+ghost use Rattle.std.specs.Prelude.{◌≡◌, ◌<◌, ◌∷◌, [], ℕ, List, Some, None, All, length, map, IfOk, IfErr, OnOk};
 ghost use Rattle.llvm_core.specs.Data as lists;
 ghost use Rattle.dialect_types.specs.Trees.{type_trees};
 ghost use Rattle.dialect_core.specs.Data.{Func, DialectModule, IsTyped, func_in, data_of};
@@ -13,6 +13,7 @@ ghost use Rattle.to_llvm_ir.specs.Causes.{IsFuncCause};
 ghost use Rattle.to_llvm_ir.specs.Exported.{IsExported, IsCause};
 ghost use Rattle.to_llvm_ir.specs.Held.{IsReadable};
 ghost use Rattle.to_llvm_ir.specs.Opening.{IsDeclared};
+ghost use Rattle.to_llvm_ir.specs.Order.{IsTaken};
 ghost use Rattle.to_llvm_ir.specs.States.{Task, IsTask};
 ghost use Rattle.to_llvm_ir.specs.Functions.{AddsFunction, AddsFunctions, IsStarted, functions_in};
 
@@ -21,6 +22,7 @@ use crate::edges::add_edges;
 use crate::numbers::check_few;
 use crate::opening::append_blocks;
 use crate::operations::name_of;
+use crate::order::export_order;
 use crate::to_llvm_err::ToLLVMErr;
 use crate::types::function_type;
 use dialect_core::context::Context;
@@ -39,7 +41,7 @@ fn start_func(
     requires typed { IsTyped ctx.now }
     requires within { op.0 < length ctx.now.ops }
     requires form { (g : Func) × (func_in (type_trees ctx.now.types) ctx.now op ≡ Some g) × IsFormFunc g }
-    ensures { (g : Func) → func_in (type_trees ctx.now.types) ctx.now op ≡ Some g → IsFormFunc g → IfOk result (λ f. IsStarted ctx.now g f back.old back.new) }
+    ensures { (g : Func) → func_in (type_trees ctx.now.types) ctx.now op ≡ Some g → IsFormFunc g → (order : List ℕ) → IsTaken g order → IfOk result (λ f. IsStarted ctx.now g order f back.old back.new) }
 {
     let ty = function_type(alloc, ctx, ctx.symbol_type(op), back)?;
     let f = back.add_function(name_of(ctx, op), ty, 0)?;
@@ -62,10 +64,11 @@ fn convert_func(
     let list = ctx.op_blocks(op);
     check_few(list.len())?;
     check_few(back.functions() as usize)?;
+    let order = export_order(alloc, ctx, list)?;
     let f = start_func(alloc, ctx, op, back)?;
     let blocks = append_blocks(alloc, ctx, list, f, back)?;
-    let values = convert_blocks(alloc, ctx, list, f, &blocks, back)?;
-    add_edges(alloc, ctx, list, &blocks, &values, back)
+    let values = convert_blocks(alloc, ctx, list, order.as_slice(), f, &blocks, back)?;
+    add_edges(alloc, ctx, list, order.as_slice(), &blocks, &values, back)
 }
 
 /// The function that an operation is where it is one, as the last of the module.
@@ -109,7 +112,8 @@ fn convert_functions(
 
 /// An LLVM module with a function for each function of a dialect module, in order, under its names.
 ///
-/// `UndefinedValue` where a value is used where it does not stand before, the blocks taken in order;
+/// The blocks are taken in the order of the dialect where each value stands before its uses in it, else depth first.
+/// `UndefinedValue` where a value is used where it does not stand before in this order;
 /// `UndefinedBlock` where an edge leads to no block of its function; `NumBlockArgsNumPhisMismatch` where an edge
 /// passes another number of values than its target has arguments; `EdgeArgsDiffer` where two edges of one block
 /// pass different values to one block; `NoMemory` where memory is not enough.

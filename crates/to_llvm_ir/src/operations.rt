@@ -1,6 +1,6 @@
 //! Operations of a block, turned into constants and instructions.
 
-ghost use Rattle.std.specs.Prelude.{◌≡◌, ◌<◌, ◌≤◌, ◌^◌, ◌+◌, ℕ, suc, List, false, Some, None, All, length, slice_get, IfOk, IfErr, OnOk};
+ghost use Rattle.std.specs.Prelude.{◌≡◌, ◌<◌, ◌≤◌, ◌^◌, ◌+◌, ℕ, suc, List, false, Some, None, All, length, slice_get, IfOk, IfErr, IsTrue, OnOk};
 ghost use Rattle.std.specs.List.{filter_map};
 ghost use Rattle.std.specs.Option.{option_map};
 ghost use Rattle.llvm_core.specs.Module.{Module};
@@ -45,6 +45,18 @@ pub fn name_of(ctx: &Context, op: OpRef) -> &str
     match ctx.op_name(op) {
         Some(name) => name.as_str(),
         None => "",
+    }
+}
+
+/// Whether an operation is one of a function's block, which a module and a function are not.
+pub fn is_block_op(ctx: &Context, op: OpRef) -> bool
+    requires { op.0 < length ctx.now.ops }
+    ensures yes { IsTrue result → (o : DialectOp) × (op_at (type_trees ctx.now.types) ctx.now.ops op ≡ Some o) }
+    ensures no { result ≡ false → op_at (type_trees ctx.now.types) ctx.now.ops op ≡ None }
+{
+    match ctx.op_kind(op) {
+        OpKind::Module | OpKind::Func => false,
+        _ => true,
     }
 }
 
@@ -295,7 +307,7 @@ fn convert_op(
     requires spot { (o : DialectOp) → op_at (type_trees ctx.now.types) ctx.now.ops op ≡ Some o → (s : Spot) × IsNext ctx.now op s values.old back.old × AreAllMapped s.task blocks.now × (block.0 ≡ s.task.numbers.block + s.place) }
     ensures skipped { op_at (type_trees ctx.now.types) ctx.now.ops op ≡ None → (result ≡ Ok tt) × (values.new ≡ values.old) × (back.new ≡ back.old) }
     ensures ok { (s : Spot) → IsNext ctx.now op s values.old back.old → AreAllMapped s.task blocks.now → block.0 ≡ s.task.numbers.block + s.place → OnOk result (IsBehindSpot s values.new back.new) }
-    ensures accepted { (s : Spot) → IsNext ctx.now op s values.old back.old → AreAllMapped s.task blocks.now → OnOk result (IsAcceptedOp s.task.source s.place s.at s.op) }
+    ensures accepted { (s : Spot) → IsNext ctx.now op s values.old back.old → AreAllMapped s.task blocks.now → OnOk result (IsAcceptedOp s.task.numbers.order s.task.source s.place s.at s.op) }
     ensures cause { (s : Spot) → IsNext ctx.now op s values.old back.old → AreAllMapped s.task blocks.now → IfErr result (IsFuncCause ctx.now s.task.source) }
 {
     match ctx.op_kind(op) {
@@ -326,7 +338,7 @@ pub fn convert_ops(
     requires within { All (λ o. o.0 < length ctx.now.ops) ops.now }
     requires begun { (t : Task) × (j : ℕ) × (c : DialectBlock) × IsBegun ctx.now t j c ops.now blocks.now block values.old back.old }
     ensures ok { (t : Task) (j : ℕ) (c : DialectBlock) → IsBegun ctx.now t j c ops.now blocks.now block values.old back.old → OnOk result (IsAtOp t j c (length c.ops) values.new back.new) }
-    ensures accepted { (t : Task) (j : ℕ) (c : DialectBlock) → IsBegun ctx.now t j c ops.now blocks.now block values.old back.old → OnOk result ((i : ℕ) (o : DialectOp) → slice_get c.ops i ≡ Some o → IsAcceptedOp t.source j i o) }
+    ensures accepted { (t : Task) (j : ℕ) (c : DialectBlock) → IsBegun ctx.now t j c ops.now blocks.now block values.old back.old → OnOk result ((i : ℕ) (o : DialectOp) → slice_get c.ops i ≡ Some o → IsAcceptedOp t.numbers.order t.source j i o) }
     ensures cause { (t : Task) (j : ℕ) (c : DialectBlock) → IsBegun ctx.now t j c ops.now blocks.now block values.old back.old → IfErr result (IsFuncCause ctx.now t.source) }
 {
     for op in ops {

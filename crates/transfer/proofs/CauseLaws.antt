@@ -1,5 +1,6 @@
 -- An export has no cause to refuse what an import made.
 use Rattle.std.proofs.Common.{ℕ, ◌≡◌, refl, sym, ◌∙◌, ap, List, length, slice_get, All}
+use Rattle.std.proofs.lemmas.Option.{slice_get_within}
 use Rattle.std.proofs.lemmas.List.Elements.{All-contains}
 use Rattle.llvm_core.proofs.DataLemmas.{within_at}
 use Rattle.dialect_core.specs.Data.{DialectModule, DialectBlock}
@@ -15,6 +16,7 @@ use Rattle.to_llvm_ir.specs.declared.to_llvm_err.ToLLVMErr.{ToLLVMErr}
 use Rattle.to_llvm_ir.specs.declared.to_llvm_err.ToLLVMErr.TheVariants as E
 use Rattle.from_llvm_ir.specs.Refusals.{IsValid}
 use Rattle.from_llvm_ir.proofs.UndefinedLaws.{no_undefined_use}
+use Rattle.to_llvm_ir.proofs.GraphLaws.{stands_in_order}
 use Rattle.transfer.specs.declared.transfer_err.TransferErr.{TransferErr}
 use Rattle.transfer.specs.declared.transfer_err.TransferErr.TheVariants as T
 use Rattle.transfer.specs.Same.{of_import, of_export, IsCause}
@@ -31,8 +33,10 @@ module _ (d : DialectModule) (forms : All IsFormFunc d.functions) (fit : All IsE
 
   no_early_use : (name : List ℕ) → ¬ IsEarlyUse d name
   no_early_use name h =
-      let all = (exportable h.block).in_order h.block.block h.place h.block.is h.op h.block.there h.at in
-      h.early (All-contains (StandsBefore h.block.function h.block.block h.place) (uses_of h.op) h.value all h.used)
+      let order = (exportable h.block).in_order in
+      let all = order h.block.block h.place h.block.is h.op h.block.there h.at in
+      h.early (stands_in_order h.block.function h.order h.block.block h.place h.value order h.is_order (slice_get_within h.block.function.blocks h.block.block h.block.is h.block.there)
+      (All-contains (StandsBefore h.block.function h.block.block h.place) (uses_of h.op) h.value all h.used))
 
   never_outside : (c : ContextData) (label : List ℕ) → ¬ LeadsOutside c d label
   never_outside c label h =

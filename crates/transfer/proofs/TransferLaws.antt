@@ -1,32 +1,28 @@
 -- From what the import and the export made to what `transfer` promises.
-use Rattle.std.proofs.Common.{ℕ, suc, ◌≡◌, ◌<◌, refl, sym, ◌∙◌, ap, subst, Bool, true, false, not, List, [], ◌∷◌, Some, map, filter, length, slice_get, All, arith}
-use Rattle.std.proofs.lemmas.List.Elements.{All-nil, All-cons, All-head, All-tail}
+use Rattle.std.proofs.Common.{ℕ, suc, ◌≡◌, ◌<◌, refl, sym, ◌∙◌, ap, subst, List, [], ◌∷◌, Some, length, slice_get, All, arith}
 use Rattle.std.proofs.lemmas.Option.{slice_get_within}
 use Rattle.llvm_core.specs.Module.{Module}
 use Rattle.llvm_core.specs.Interned.{IsDistinctList}
 use Rattle.llvm_core.specs.Form.{IsForm, IsFormFunction, IsFewIn, HasDistinctNames, HasFew, local_names}
 use Rattle.llvm_core.specs.Data as L
 use Rattle.llvm_core.specs.Data.{ModuleData, AreApart, data_of}
-use Rattle.llvm_core.proofs.DataLemmas.{within_at, there, function_at, function_count}
-use Rattle.llvm_core.proofs.FormNames.{own_of_plain}
+use Rattle.llvm_core.proofs.DataLemmas.{within_at, there}
 use Rattle.dialect_core.specs.Data as D
-use Rattle.dialect_core.specs.Form.{IsFormFunc, IsExportable}
 use Rattle.meaning.specs.Pairs.{Matched}
-use Rattle.meaning.specs.Code.{Entry, IsDistinctNames, SameNamed, SameCode, names_of}
+use Rattle.meaning.specs.Code.{IsDistinctNames, SameNamed, SameCode}
 use Rattle.meaning.specs.Llvm as Llvm
-use Rattle.meaning.specs.Dialect as Dialect
 use Rattle.meaning.proofs.CodeLaws.{same_code}
 use Rattle.meaning.proofs.EntryLaws.{all_kept, distinct_code}
 use Rattle.from_llvm_ir.specs.declared.importing.Imported.{Imported}
 use Rattle.from_llvm_ir.specs.declared.matching.FunctionBlocks.{FunctionBlocks}
 use Rattle.from_llvm_ir.specs.Match.{match_of}
-use Rattle.from_llvm_ir.specs.Imported.{AreImported, NoneImported, ThenImported, IsImported, imported_data}
+use Rattle.from_llvm_ir.specs.Imported.{AreImported, IsImported, imported_data}
 use Rattle.to_llvm_ir.specs.Exported.{ExportedFunction, IsExported}
 use Rattle.to_llvm_ir.specs.Held.{IsReadable}
 use Rattle.transfer.specs.declared.transferred.Transferred.{Transferred}
 use Rattle.transfer.specs.Same.{SameThroughout}
 use Rattle.from_llvm_ir.proofs.PairLaws.{matched_of, matched_at, matched_map, all_of, all_second}
-use Rattle.from_llvm_ir.proofs.MatchedLaws.{function_names, partner, count_imported, matched_place}
+use Rattle.from_llvm_ir.proofs.MatchedLaws.{function_names, partner, count_imported, matched_place, forms_imported, names_imported}
 use Rattle.from_llvm_ir.proofs.SameLaws.{function_numbered, plain_names, same_imported}
 use Rattle.to_llvm_ir.proofs.CodeLaws.{names_exported}
 use Rattle.transfer.proofs.SameFunctions.{entry_back, form_back}
@@ -41,37 +37,12 @@ count_matched P (x ∷ xs) [] h = absurd h
 
 -- ---- what the import made
 
-pub forms_imported : (d : ModuleData) (fs : List L.Function) (xs : List FunctionBlocks) (gs : List D.Func) → AreImported d fs xs gs → All IsFormFunc gs
-forms_imported d [] [] [] NoneImported = All-nil IsFormFunc
-forms_imported d (f ∷ fs) (x ∷ xs) (g ∷ gs) (ThenImported _ _ _ _ _ _ one more) = All-cons IsFormFunc g gs one.form (forms_imported d fs xs gs more)
-forms_imported d [] [] (g ∷ gs) h = elim h [ ]
-forms_imported d [] (x ∷ xs) gs h = elim h [ ]
-forms_imported d (f ∷ fs) [] gs h = elim h [ ]
-forms_imported d (f ∷ fs) (x ∷ xs) [] h = elim h [ ]
-
-pub exportable_imported : (d : ModuleData) (fs : List L.Function) (xs : List FunctionBlocks) (gs : List D.Func) → AreImported d fs xs gs → All IsExportable gs
-exportable_imported d [] [] [] NoneImported = All-nil IsExportable
-exportable_imported d (f ∷ fs) (x ∷ xs) (g ∷ gs) (ThenImported _ _ _ _ _ _ one more) = All-cons IsExportable g gs one.exportable (exportable_imported d fs xs gs more)
-exportable_imported d [] [] (g ∷ gs) h = elim h [ ]
-exportable_imported d [] (x ∷ xs) gs h = elim h [ ]
-exportable_imported d (f ∷ fs) [] gs h = elim h [ ]
-exportable_imported d (f ∷ fs) (x ∷ xs) [] h = elim h [ ]
-
-names_imported : (d : ModuleData) (fs : List L.Function) (xs : List FunctionBlocks) (gs : List D.Func) → AreImported d fs xs gs → map (λ (g : D.Func). g.name) gs ≡ function_names fs
-names_imported d [] [] [] NoneImported = refl
-names_imported d (f ∷ fs) (x ∷ xs) (g ∷ gs) (ThenImported _ _ _ _ _ _ one more) = rw (one.name, names_imported d fs xs gs more) refl
-names_imported d [] [] (g ∷ gs) h = elim h [ ]
-names_imported d [] (x ∷ xs) gs h = elim h [ ]
-names_imported d (f ∷ fs) [] gs h = elim h [ ]
-names_imported d (f ∷ fs) (x ∷ xs) [] h = elim h [ ]
-
 -- what the export needs of what the import made
 pub readable : (d : ModuleData) (i : Imported) → IsImported d i → IsReadable i.ctx i.module.0.0
 readable d i h = record {
   there = h.building.there;
   kind = h.building.held.kind;
-  body = h.body;
-  region = h.building.held.region;
+  region = omega (arith, ap length h.building.held.region);
   typed = h.building.typed;
   functions = forms_imported d d.functions i.blocks (imported_data i).functions h.functions;
 }
@@ -137,6 +108,7 @@ module _ (m back : Module) (i : Imported) (form : IsForm (data_of m)) (distinct 
     back_functions = names_back;
     imported = imported.functions;
     exported = exported.functions;
+    well_formed = imported.well_formed distinct.functions;
   }
 
   exported_locals : (g : D.Func) (f : L.Function) → ExportedFunction (data_of back) g f → HasOwnLocals f

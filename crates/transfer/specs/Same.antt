@@ -4,6 +4,7 @@ use Rattle.llvm_core.specs.Data as L
 use Rattle.llvm_core.specs.Data.{ModuleData}
 use Rattle.dialect_types.specs.Names.{legal_name}
 use Rattle.dialect_core.specs.Data as D
+use Rattle.dialect_core.specs.WellFormed.{IsWellFormed}
 use Rattle.meaning.specs.Pairs.{Matched}
 use Rattle.meaning.specs.Code.{SameCode}
 use Rattle.meaning.specs.Llvm as Llvm
@@ -28,7 +29,8 @@ abbrev pub back_of : Transferred → ModuleData
 back_of t = L.data_of t.back
 
 -- The three modules have the same code under the match, and the same names in the same order; function by
--- function the dialect module is made by the rules of the import, and the module back by those of the export.
+-- function the dialect module is made by the rules of the import, and the module back by those of the export. The
+-- dialect module keeps every rule of the dialect.
 pub record SameThroughout (m : ModuleData) (t : Transferred) : Type 0 where
   pub dialect : SameCode (match_of m t.blocks) (Llvm.code_of m) (Dialect.code_of (dialect_of t))
   pub back : SameCode (match_of m t.blocks) (Llvm.code_of m) (Llvm.code_of (back_of t))
@@ -38,6 +40,7 @@ pub record SameThroughout (m : ModuleData) (t : Transferred) : Type 0 where
   pub back_functions : map (λ (f : L.Function). f.name) (back_of t).functions ≡ map (λ (f : L.Function). f.name) m.functions
   pub imported : AreImported m m.functions t.blocks (dialect_of t).functions
   pub exported : Matched (ExportedFunction (back_of t)) (dialect_of t).functions (back_of t).functions
+  pub well_formed : IsWellFormed t.ctx t.dialect.0.0
 
 -- ---- refusals
 

@@ -19,7 +19,7 @@ insert_at_back-requires-clause-stands g c =
 
 pub returns-clause-added : goal.returns-clause-added
 returns-clause-added g c = λ h base left now right k is u.
-    added_open h base c.args.ctx.now c.create_named.new.ctx c.insert_at_back.new.self c.args.block left now right c.in_ok-op.op c.args.kind c.args.name c.args.operands.now c.args.successors.now c.args.result_ty k u is
+    added_open h base c.args.ctx.now c.create_named.new.ctx c.insert_at_back.new.self c.args.block left now right c.in_ok-op.op c.args.kind c.args.name c.args.operands.now c.args.successors.now c.args.result_ty k u c.requires.plain is
     c.in_ok-op.ensures.ok c.in_ok-op.ensures.number (c.in_ok-op.ensures.data h.m u.under.building.there) (c.insert_at_back.ensures.typed (c.in_ok-op.ensures.typed u.under.building.typed)) c.insert_at_back.ensures.appended c.insert_at_back.ensures.data_op
 
 pub returns-clause-count : goal.returns-clause-count

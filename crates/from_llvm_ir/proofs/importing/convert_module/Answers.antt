@@ -1,5 +1,4 @@
 -- What `importing::convert_module` owes besides what the check finds.
-use Rattle.std.proofs.Common.{List, ℕ, map}
 use Rattle.std.proofs.lemmas.Result.{IfOk-weaker}
 use Rattle.llvm_core.specs.Data.{data_of}
 use Rattle.meaning.specs.Code.{SameCode}

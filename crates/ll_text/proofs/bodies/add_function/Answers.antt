@@ -2,8 +2,8 @@
 use Rattle.std.proofs.Common.{◌≡◌, ℕ, length, ap, sym, ◌∙◌, subst, arith}
 use Rattle.std.proofs.lemmas.Option.{slice_get_within}
 use Rattle.std.proofs.lemmas.List.{length-map}
-use Rattle.ll_text.specs.Tree.{blocks_of}
-use Rattle.ll_text.specs.TreeView.{function_view, param_view}
+use Rattle.ll_tree.specs.Tree.{blocks_of}
+use Rattle.ll_tree.specs.TreeView.{function_view, param_view}
 use Rattle.ll_text.specs.Meaning.{empty_scope}
 use Rattle.ll_text.specs.Numbered.{EachBlock, behind_all, placed_blocks}
 use Rattle.ll_text.specs.Opening.{open_inst, open_terminator}

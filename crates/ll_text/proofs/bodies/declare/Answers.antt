@@ -1,5 +1,5 @@
 -- What `bodies::declare` owes besides what the check finds.
-use Rattle.ll_text.specs.TreeView.{function_view}
+use Rattle.ll_tree.specs.TreeView.{function_view}
 use Rattle.ll_text.proofs.BodyLaws.{declares}
 use Rattle.ll_text.proofs.RefusalLaws.{passed_on}
 use Rattle.ll_text.proofs.UnsaidLaws.{said_widths}

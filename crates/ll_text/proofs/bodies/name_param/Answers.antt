@@ -1,7 +1,7 @@
 -- What `bodies::name_param` owes besides what the check finds.
 use Rattle.std.proofs.lemmas.Result.{on_ok_weaker}
 use Rattle.ll_text.specs.ScopeView.{option_key}
-use Rattle.ll_text.specs.TreeView.{name_view, param_view}
+use Rattle.ll_tree.specs.TreeView.{name_view, param_view}
 use Rattle.ll_text.specs.Meaning.{local_key}
 use Rattle.llvm_core.specs.Names.{is_plain}
 use Rattle.ll_text.proofs.BodyLaws.{param_named, param_keeps}

@@ -1,6 +1,6 @@
 -- The parameters so far have their names.
 use Rattle.std.proofs.Common.{◌≡◌, map, take}
-use Rattle.ll_text.specs.TreeView.{param_view}
+use Rattle.ll_tree.specs.TreeView.{param_view}
 use Rattle.ll_text.specs.Meaning.{Scope}
 use Rattle.ll_text.specs.ScopeView.{Knows}
 use Rattle.ll_text.specs.Bodies.{KeepsBodies, NamesParams}

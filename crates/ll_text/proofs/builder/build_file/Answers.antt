@@ -2,8 +2,8 @@
 use Rattle.std.proofs.Common.{length, ap, sym, subst, []}
 use Rattle.llvm_core.specs.Module.{Module}
 use Rattle.llvm_core.specs.Names.{is_plain}
-use Rattle.ll_text.specs.Text.{Text}
-use Rattle.ll_text.specs.TreeView.{name_view, file_view}
+use Rattle.ll_tree.specs.Text.{Text}
+use Rattle.ll_tree.specs.TreeView.{name_view, file_view}
 use Rattle.ll_text.specs.Meaning.{IsSource}
 use Rattle.ll_text.specs.Bodies.{IsBuiltOf}
 use Rattle.ll_text.proofs.FileLaws.{none_built, built_more, all_built, file_said}

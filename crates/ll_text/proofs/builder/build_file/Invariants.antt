@@ -1,6 +1,6 @@
 -- The module built so far has the functions so far.
 use Rattle.std.proofs.Common.{◌≡◌, length, map, take}
-use Rattle.ll_text.specs.TreeView.{function_view}
+use Rattle.ll_tree.specs.TreeView.{function_view}
 use Rattle.ll_text.specs.Bodies.{IsBuiltOf}
 use Rattle.ll_text.proofs.builder.build_file.Given as goal
 

@@ -1,5 +1,5 @@
 -- What `definitions::define_block` owes besides what the check finds.
-use Rattle.ll_text.specs.TreeView.{block_view}
+use Rattle.ll_tree.specs.TreeView.{block_view}
 use Rattle.ll_text.proofs.NumberedLaws.{block_takes, label_refused, insts_refused}
 use Rattle.ll_text.proofs.RefusalLaws.{passed_on}
 use Rattle.ll_text.proofs.definitions.define_block.Goals as goal

@@ -1,6 +1,6 @@
 -- What `definitions::define_blocks` owes besides what the check finds.
 use Rattle.std.proofs.Common.{[], ◌∷◌}
-use Rattle.ll_text.specs.TreeView.{function_view}
+use Rattle.ll_tree.specs.TreeView.{function_view}
 use Rattle.ll_text.proofs.NumberedLaws.{entry_takes, entry_refused, more_refused}
 use Rattle.ll_text.proofs.DefiningLaws.{blocks_after, appended_entry}
 use Rattle.ll_text.proofs.RefusalLaws.{passed_on}

@@ -1,7 +1,7 @@
 -- What `definitions::define_more` owes besides what the check finds.
 use Rattle.std.proofs.Common.{◌≤◌, length, refl, ◌∙◌, arith}
 use Rattle.std.proofs.lemmas.List.{take_all}
-use Rattle.ll_text.specs.TreeView.{block_view}
+use Rattle.ll_tree.specs.TreeView.{block_view}
 use Rattle.ll_text.proofs.NumberedLaws.{no_blocks_defined, blocks_more, blocks_refused}
 use Rattle.ll_text.proofs.AddedLaws.{behind_more}
 use Rattle.ll_text.proofs.DefiningLaws.{no_blocks_added, appended_count, appended_more}

@@ -1,6 +1,6 @@
 -- The blocks so far are appended and defined.
 use Rattle.std.proofs.Common.{◌≡◌, length, [], map, take}
-use Rattle.ll_text.specs.TreeView.{block_view}
+use Rattle.ll_tree.specs.TreeView.{block_view}
 use Rattle.ll_text.specs.ScopeView.{Takes}
 use Rattle.ll_text.specs.Numbered.{behind_all, named_blocks, blocks_with}
 use Rattle.ll_text.specs.Bodies.{AddsBlocks}

@@ -2,7 +2,7 @@
 use Rattle.std.proofs.Common.{sym, ◌∙◌, ap}
 use Rattle.std.proofs.lemmas.Result.{on_ok_weaker}
 use Rattle.llvm_core.specs.Names.{is_plain}
-use Rattle.ll_text.specs.TreeView.{inst_view}
+use Rattle.ll_tree.specs.TreeView.{inst_view}
 use Rattle.ll_text.specs.ScopeView.{option_key}
 use Rattle.ll_text.specs.Meaning.{local_key, optional_key, define_written}
 use Rattle.ll_text.proofs.DefiningLaws.{result_named, result_unwide, result_unkeyed, result_undefined}

@@ -1,6 +1,6 @@
 -- What `definitions::define_results` owes besides what the check finds.
 use Rattle.std.proofs.Common.{arith}
-use Rattle.ll_text.specs.TreeView.{inst_view}
+use Rattle.ll_tree.specs.TreeView.{inst_view}
 use Rattle.ll_text.proofs.NumberedLaws.{none_defined, results_more, results_refused, results_all}
 use Rattle.ll_text.proofs.RefusalLaws.{passed_on}
 use Rattle.ll_text.proofs.definitions.define_results.Goals as goal

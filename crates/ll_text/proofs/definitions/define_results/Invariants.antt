@@ -1,6 +1,6 @@
 -- The results so far are defined.
 use Rattle.std.proofs.Common.{◌≡◌, ◌+◌, map, take}
-use Rattle.ll_text.specs.TreeView.{inst_view}
+use Rattle.ll_tree.specs.TreeView.{inst_view}
 use Rattle.ll_text.specs.ScopeView.{Takes}
 use Rattle.ll_text.specs.Numbered.{named_insts}
 use Rattle.ll_text.proofs.definitions.define_results.Given as goal

@@ -1,6 +1,6 @@
 -- What `definitions::start_block` owes besides what the check finds.
 use Rattle.std.proofs.Common.{sym, ◌∙◌, ap}
-use Rattle.ll_text.specs.TreeView.{block_view}
+use Rattle.ll_tree.specs.TreeView.{block_view}
 use Rattle.ll_text.specs.ScopeView.{option_key}
 use Rattle.ll_text.specs.Numbered.{name_said}
 use Rattle.ll_text.proofs.DefiningLaws.{label_named, label_unkeyed, label_undefined, block_added}

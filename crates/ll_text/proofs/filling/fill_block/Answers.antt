@@ -2,7 +2,7 @@
 use Rattle.std.proofs.Common.{◌≡◌, ◌+◌, length, subst, arith}
 use Rattle.std.proofs.lemmas.List.{length-map}
 use Rattle.llvm_core.specs.Names.{is_plain}
-use Rattle.ll_text.specs.TreeView.{inst_view, block_view}
+use Rattle.ll_tree.specs.TreeView.{inst_view, block_view}
 use Rattle.ll_text.specs.Meaning.{inst_data, terminator_data}
 use Rattle.ll_text.specs.Filling.{IsOpenEnd}
 use Rattle.ll_text.proofs.ModuleLaws.{keeps_then, ready_kept, end_open_kept}

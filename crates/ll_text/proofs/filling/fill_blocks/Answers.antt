@@ -2,7 +2,7 @@
 use Rattle.std.proofs.Common.{sym}
 use Rattle.std.proofs.lemmas.Result.{on_ok_weaker}
 use Rattle.llvm_core.specs.Names.{is_plain}
-use Rattle.ll_text.specs.TreeView.{function_view}
+use Rattle.ll_tree.specs.TreeView.{function_view}
 use Rattle.ll_text.specs.Meaning.{inst_data, terminator_data}
 use Rattle.ll_text.proofs.ModuleLaws.{keeps_then, ready_kept}
 use Rattle.ll_text.proofs.FillLaws.{entry_filled}

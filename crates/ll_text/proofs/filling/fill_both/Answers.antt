@@ -1,6 +1,6 @@
 -- What `filling::fill_both` owes besides what the check finds.
 use Rattle.llvm_core.specs.Data.{data_of}
-use Rattle.ll_text.specs.TokenView.{text_of}
+use Rattle.ll_tree.specs.TokenView.{text_of}
 use Rattle.ll_text.specs.Filling.{put_result, result_of}
 use Rattle.ll_text.proofs.ModuleLaws.{ready_kept}
 use Rattle.ll_text.proofs.FillLaws.{changed_both}

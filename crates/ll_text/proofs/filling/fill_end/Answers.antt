@@ -1,8 +1,8 @@
 -- What `filling::fill_end` owes besides what the check finds.
 use Rattle.std.proofs.Common.{refl, subst}
 use Rattle.llvm_core.specs.Data.{data_of}
-use Rattle.ll_text.specs.TokenView.{text_of}
-use Rattle.ll_text.specs.TreeView.{terminator_view}
+use Rattle.ll_tree.specs.TokenView.{text_of}
+use Rattle.ll_tree.specs.TreeView.{terminator_view}
 use Rattle.ll_text.specs.Filling.{IsOpenEnd}
 use Rattle.ll_text.proofs.FillLaws.{changed_by_none}
 use Rattle.ll_text.proofs.FilledLaws.{return_waits, cond_waits, return_turns, cond_turns, void_turns, br_turns, unreachable_turns}

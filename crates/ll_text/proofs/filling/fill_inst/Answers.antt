@@ -1,8 +1,8 @@
 -- What `filling::fill_inst` owes besides what the check finds.
 use Rattle.std.proofs.Common.{map, [], ◌∷◌, subst}
 use Rattle.std.proofs.lemmas.Result.{on_ok_weaker}
-use Rattle.ll_text.specs.TokenView.{text_of}
-use Rattle.ll_text.specs.TreeView.{name_view, incoming_view, inst_view}
+use Rattle.ll_tree.specs.TokenView.{text_of}
+use Rattle.ll_tree.specs.TreeView.{name_view, incoming_view, inst_view}
 use Rattle.ll_text.specs.Filling.{IsOpen}
 use Rattle.ll_text.proofs.ModuleLaws.{keeps_then, ready_kept}
 use Rattle.ll_text.proofs.IncomingLaws.{entries_then, entry_refused, more_refused}

@@ -1,7 +1,7 @@
 -- What `filling::fill_insts` owes besides what the check finds.
 use Rattle.std.proofs.Common.{refl, ◌∙◌, arith}
 use Rattle.std.proofs.lemmas.List.{take_all}
-use Rattle.ll_text.specs.TreeView.{inst_view}
+use Rattle.ll_tree.specs.TreeView.{inst_view}
 use Rattle.ll_text.proofs.ModuleLaws.{keeps_self, keeps_then, ready_kept}
 use Rattle.ll_text.proofs.FillLaws.{none_filled}
 use Rattle.ll_text.proofs.FillingLaws.{inst_open, insts_more, insts_refused}

@@ -1,7 +1,7 @@
 -- What `filling::fill_more` owes besides what the check finds.
 use Rattle.std.proofs.Common.{refl, ◌∙◌}
 use Rattle.std.proofs.lemmas.List.{take_all}
-use Rattle.ll_text.specs.TreeView.{block_view}
+use Rattle.ll_tree.specs.TreeView.{block_view}
 use Rattle.ll_text.proofs.ModuleLaws.{keeps_self, keeps_then, ready_kept}
 use Rattle.ll_text.proofs.FillLaws.{no_body_filled}
 use Rattle.ll_text.proofs.FillingLaws.{body_open, bodies_more, bodies_refused}

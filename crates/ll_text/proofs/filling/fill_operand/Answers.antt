@@ -1,7 +1,7 @@
 -- What `filling::fill_operand` owes besides what the check finds.
 use Rattle.std.proofs.Common.{Some, None, ◌∙◌}
 use Rattle.llvm_core.specs.Data.{Result, with_operand, data_of}
-use Rattle.ll_text.specs.TokenView.{text_of}
+use Rattle.ll_tree.specs.TokenView.{text_of}
 use Rattle.ll_text.proofs.ChangeLaws.{operand_keeps}
 use Rattle.ll_text.proofs.FillLaws.{changed_one}
 use Rattle.ll_text.proofs.FilledLaws.{operand_fits, put_data, none_put}

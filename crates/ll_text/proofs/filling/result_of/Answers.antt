@@ -1,5 +1,5 @@
 -- Where there is no key, there is no result.
-use Rattle.ll_text.specs.TokenView.{text_of}
+use Rattle.ll_tree.specs.TokenView.{text_of}
 use Rattle.ll_text.proofs.RefusalLaws.{no_key_result}
 use Rattle.ll_text.proofs.filling.result_of.Goals as goal
 

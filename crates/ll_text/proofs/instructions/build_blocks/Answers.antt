@@ -1,6 +1,6 @@
 -- What `instructions::build_blocks` owes besides what the check finds.
 use Rattle.std.proofs.lemmas.Result.{on_ok_weaker}
-use Rattle.ll_text.specs.TreeView.{function_view}
+use Rattle.ll_tree.specs.TreeView.{function_view}
 use Rattle.ll_text.specs.Opening.{open_inst, open_terminator}
 use Rattle.ll_text.proofs.ModuleLaws.{keeps_then, ready_kept}
 use Rattle.ll_text.proofs.InstructionLaws.{on_ok_both}

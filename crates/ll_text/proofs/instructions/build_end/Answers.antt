@@ -1,7 +1,7 @@
 -- What `instructions::build_end` owes besides what the check finds.
 use Rattle.std.proofs.Common.{ℕ, length, ap, ◌∙◌, subst, refl}
 use Rattle.llvm_core.specs.Module.{Module}
-use Rattle.ll_text.specs.TreeView.{terminator_view}
+use Rattle.ll_tree.specs.TreeView.{terminator_view}
 use Rattle.ll_text.specs.Building.{HasEndSlots}
 use Rattle.ll_text.proofs.ModuleLaws.{interns_keep, keeps_then}
 use Rattle.ll_text.proofs.BuildLaws.{build_keeps, end_built, end_added}

@@ -2,7 +2,7 @@
 use Rattle.std.proofs.Common.{ℕ, length, ap, ◌∙◌, subst}
 use Rattle.llvm_core.specs.Module.{Module}
 use Rattle.llvm_core.specs.Names.{is_plain}
-use Rattle.ll_text.specs.TreeView.{inst_view}
+use Rattle.ll_tree.specs.TreeView.{inst_view}
 use Rattle.ll_text.specs.Meaning.{local_key, optional_key}
 use Rattle.ll_text.specs.Numbered.{name_said}
 use Rattle.ll_text.specs.Building.{IsBuilt}

@@ -1,7 +1,7 @@
 -- What `instructions::build_insts` owes besides what the check finds.
 use Rattle.std.proofs.Common.{arith}
 use Rattle.std.proofs.lemmas.List.{take_all}
-use Rattle.ll_text.specs.TreeView.{inst_view}
+use Rattle.ll_tree.specs.TreeView.{inst_view}
 use Rattle.ll_text.proofs.ModuleLaws.{keeps_self, keeps_then, ready_kept}
 use Rattle.ll_text.proofs.AddedLaws.{none_added, insts_more, insts_built, insts_refused}
 use Rattle.ll_text.proofs.RefusalLaws.{passed_on}

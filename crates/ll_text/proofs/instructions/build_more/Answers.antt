@@ -1,7 +1,7 @@
 -- What `instructions::build_more` owes besides what the check finds.
 use Rattle.std.proofs.Common.{◌∙◌, refl, arith}
 use Rattle.std.proofs.lemmas.List.{take_all}
-use Rattle.ll_text.specs.TreeView.{block_view}
+use Rattle.ll_tree.specs.TreeView.{block_view}
 use Rattle.ll_text.proofs.ModuleLaws.{keeps_self, keeps_then, ready_kept}
 use Rattle.ll_text.proofs.AddedLaws.{no_bodies_added, bodies_more, bodies_built, behind_more, bodies_refused}
 use Rattle.ll_text.proofs.RefusalLaws.{passed_on}

@@ -1,6 +1,6 @@
 -- The blocks so far are built.
 use Rattle.std.proofs.Common.{◌≡◌, ◌+◌, length, map, take}
-use Rattle.ll_text.specs.TreeView.{block_view}
+use Rattle.ll_tree.specs.TreeView.{block_view}
 use Rattle.ll_text.specs.Meaning.{Scope}
 use Rattle.ll_text.specs.ScopeView.{Knows}
 use Rattle.ll_text.specs.Numbered.{behind_all, EachBlock}

@@ -1,5 +1,5 @@
 -- What `instructions::make_end` owes besides what the check finds.
-use Rattle.ll_text.specs.TokenView.{text_of}
+use Rattle.ll_tree.specs.TokenView.{text_of}
 use Rattle.ll_text.proofs.ModuleLaws.{none_interned, interns_keep, ready_kept, target_stands}
 use Rattle.ll_text.proofs.InstructionLaws.{void_says, return_says, return_untyped, return_unvalued, br_made, br_says, br_untargeted, cond_made, cond_says, cond_untyped, cond_unvalued, cond_first, cond_second, unreachable_says}
 use Rattle.ll_text.proofs.RefusalLaws.{passed_on}

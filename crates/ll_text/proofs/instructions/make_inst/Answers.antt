@@ -1,7 +1,7 @@
 -- What `instructions::make_inst` owes besides what the check finds.
 use Rattle.std.proofs.Common.{sym, ◌∙◌, map}
-use Rattle.ll_text.specs.TokenView.{text_of}
-use Rattle.ll_text.specs.TreeView.{name_view, incoming_view}
+use Rattle.ll_tree.specs.TokenView.{text_of}
+use Rattle.ll_tree.specs.TreeView.{name_view, incoming_view}
 use Rattle.ll_text.proofs.ModuleLaws.{type_interned}
 use Rattle.ll_text.proofs.InstructionLaws.{add_made, add_says, add_untyped, add_unvalued, icmp_made, icmp_says, icmp_untyped, icmp_unlike, icmp_unvalued, phi_made, phi_says, phi_untyped}
 use Rattle.ll_text.proofs.RefusalLaws.{passed_on}

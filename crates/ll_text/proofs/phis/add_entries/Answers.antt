@@ -1,7 +1,7 @@
 -- What `phis::add_entries` owes besides what the check finds.
 use Rattle.std.proofs.Common.{refl, ◌∙◌}
 use Rattle.std.proofs.lemmas.List.{take_all}
-use Rattle.ll_text.specs.TreeView.{incoming_view}
+use Rattle.ll_tree.specs.TreeView.{incoming_view}
 use Rattle.ll_text.proofs.ModuleLaws.{keeps_self, keeps_then, ready_kept}
 use Rattle.ll_text.proofs.NumberedLaws.{item_here}
 use Rattle.ll_text.proofs.IncomingLaws.{no_entries, entries_more, entries_refused}

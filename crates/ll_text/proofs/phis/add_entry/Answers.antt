@@ -1,5 +1,5 @@
 -- What `phis::add_entry` owes besides what the check finds.
-use Rattle.ll_text.specs.TreeView.{incoming_view}
+use Rattle.ll_tree.specs.TreeView.{incoming_view}
 use Rattle.ll_text.proofs.ModuleLaws.{interns_keep, keeps_then, ready_kept, target_stands}
 use Rattle.ll_text.proofs.ChangeLaws.{entry_keeps}
 use Rattle.ll_text.proofs.IncomingLaws.{entry_added, entry_unvalued, entry_unblocked}

@@ -1,9 +1,9 @@
 -- What is read is spelled and of the form, and what is refused spells no checked module of the form.
 use Rattle.std.proofs.Common.{◌≡◌, Err, refl, subst, rules}
 use Rattle.llvm_core.specs.Sound.{IsModule}
-use Rattle.ll_text.specs.declared.read_err.ReadErr.TheVariants as errors
-use Rattle.ll_text.specs.TokenView.{texts_of}
-use Rattle.ll_text.specs.TreeView.{file_view}
+use Rattle.ll_tree.specs.declared.read_err.ReadErr.TheVariants as errors
+use Rattle.ll_tree.specs.TokenView.{texts_of}
+use Rattle.ll_tree.specs.TreeView.{file_view}
 use Rattle.ll_text.proofs.MeaningLaws.{wider_file}
 use Rattle.ll_text.proofs.FormLaws.{source_plain}
 use Rattle.ll_text.proofs.ReadLaws.{form_said, checked_of_said, form_of_built}

@@ -1,6 +1,6 @@
 -- The types so far are those of the parameters so far.
 use Rattle.std.proofs.Common.{map, take}
-use Rattle.ll_text.specs.TreeView.{param_view}
+use Rattle.ll_tree.specs.TreeView.{param_view}
 use Rattle.ll_text.specs.Building.{OnlyInterns}
 use Rattle.ll_text.specs.Signatures.{HasParams}
 use Rattle.ll_text.proofs.signatures.param_types.Given as goal

@@ -1,5 +1,5 @@
 -- What `signatures::push_type` owes besides what the check finds.
-use Rattle.ll_text.specs.TreeView.{param_view}
+use Rattle.ll_tree.specs.TreeView.{param_view}
 use Rattle.ll_text.proofs.ModuleLaws.{type_interned}
 use Rattle.ll_text.proofs.SignatureLaws.{params_push}
 use Rattle.ll_text.proofs.signatures.push_type.Goals as goal

@@ -21,11 +21,11 @@ target_of-target-requires c =
 pub add_phis-requires-clause-begun : goal.add_phis-requires-clause-begun
 add_phis-requires-clause-begun c =
     let b = c.requires.begun in
-    let p = phis_begun c.args.ctx.now b.0 c.args.place b.1 c.args.block c.args.f c.args.blocks.now c.target_of-target.result c.args.values.now c.args.back.now b.2 c.if-place-eq0.false c.target_of-target.ensures in
+    let p = phis_begun c.args.ctx.now b.0 c.args.place b.1 c.args.block c.args.first c.args.f c.args.blocks.now c.target_of-target.result c.args.values.now c.count_from.new.self c.args.back.now b.2 c.count_from.ensures c.if-place-eq0.false c.target_of-target.ensures in
     (b.0, p.0, b.1, p.2, p.3, p.4)
 
 -- the arguments are done
-begun_ops : (c : goal.After-convert_ops-arg-3-1) (t : Task) (b : DialectBlock) → IsBlockBegun c.args.ctx.now t c.args.place b c.args.block c.args.f c.args.blocks.now c.args.values.now c.args.back.now → IsBegun c.args.ctx.now t c.args.place b c.as_slice.result.now c.args.blocks.now c.target_of-target.result.block c.if-place-eq0.values c.if-place-eq0.back
+begun_ops : (c : goal.After-convert_ops-arg-3-1) (t : Task) (b : DialectBlock) → IsBlockBegun c.args.ctx.now t c.args.place b c.args.block c.args.first c.args.f c.args.blocks.now c.args.values.now c.args.back.now → IsBegun c.args.ctx.now t c.args.place b c.as_slice.result.now c.args.blocks.now c.target_of-target.result.block c.if-place-eq0.values c.if-place-eq0.back
 begun_ops c t b begun =
     let place = target_here c.args.ctx.now t c.args.place b c.args.block c.args.blocks.now c.target_of-target.result begun.at begun.mapped c.target_of-target.ensures in
     let count = args_count c.args.ctx.now t c.args.place b c.args.block c.block_args-count.result.now begun.at c.block_args-count.ensures in
@@ -36,10 +36,10 @@ begun_ops c t b begun =
       state = elim c.if-place-eq0.branch [
         | then-place-eq0+in_ok-set_params w ↦
             subst (λ (v : Values). IsAtOp t c.args.place b 0 v c.if-place-eq0.back) (sym w.values-is) (subst (λ (m : Module). IsAtOp t c.args.place b 0 w.set_params.new.values m) (sym w.back-is)
-            (after_params c.args.ctx.now t c.args.place b c.args.block c.args.f c.args.blocks.now c.args.values.now w.set_params.new.values c.args.back.now begun w.if-place-eq0.true
+            (after_params c.args.ctx.now t c.args.place b c.args.block c.args.first c.args.f c.args.blocks.now c.args.values.now c.count_from.new.self w.set_params.new.values c.args.back.now begun c.count_from.ensures w.if-place-eq0.true
             (λ at params start. w.in_ok-set_params.ensures c.args.ctx.now t b c.args.back.now at params count start)))
         | else-place-eq0+in_ok-add_phis w ↦
-            let p = phis_begun c.args.ctx.now t c.args.place b c.args.block c.args.f c.args.blocks.now c.target_of-target.result c.args.values.now c.args.back.now begun w.if-place-eq0.false c.target_of-target.ensures in
+            let p = phis_begun c.args.ctx.now t c.args.place b c.args.block c.args.first c.args.f c.args.blocks.now c.target_of-target.result c.args.values.now c.count_from.new.self c.args.back.now begun c.count_from.ensures w.if-place-eq0.false c.target_of-target.ensures in
             subst (λ (v : Values). IsAtOp t c.args.place b 0 v c.if-place-eq0.back) (sym w.values-is) (subst (λ (m : Module). IsAtOp t c.args.place b 0 w.add_phis.new.values m) (sym w.back-is)
             (after_phis t c.args.place p.0 b w.add_phis.new.values w.add_phis.new.back p.1 (w.in_ok-add_phis.ensures t p.0 b p.2 p.3 p.4)))
       ];
@@ -57,7 +57,7 @@ returns-in_err-convert_ops-clause-cause c = λ t b begun.
 
 pub returns-clause-ok : goal.returns-clause-ok
 returns-clause-ok c = λ t b begun.
-    end_block c.args.ctx.now t c.args.place b begun.at.here c.convert_ops.new.values c.convert_ops.new.back (c.in_ok-convert_ops.ensures.ok t c.args.place b (begun_ops c.before.before.before.before t b begun))
+    end_block c.args.ctx.now t begun.at.task c.args.place b begun.at.here c.convert_ops.new.values c.convert_ops.new.back (c.in_ok-convert_ops.ensures.ok t c.args.place b (begun_ops c.before.before.before.before t b begun))
 
 pub returns-clause-accepted : goal.returns-clause-accepted
 returns-clause-accepted c = λ t b begun.

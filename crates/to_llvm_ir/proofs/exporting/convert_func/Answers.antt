@@ -11,7 +11,7 @@ use Rattle.to_llvm_ir.specs.Functions.{AddsFunction}
 use Rattle.to_llvm_ir.specs.Opening.{AreBlocks}
 use Rattle.to_llvm_ir.specs.States.{Task, IsTask}
 use Rattle.to_llvm_ir.proofs.OpLaws.{passed}
-use Rattle.to_llvm_ir.proofs.FinishLaws.{both, are_blocks, count_is, accepted, finished}
+use Rattle.to_llvm_ir.proofs.FinishLaws.{both, are_blocks, blocks_of_func, count_is, accepted, finished}
 use Rattle.to_llvm_ir.proofs.exporting.convert_func.Goals as goal
 
 -- the blocks are those of the function that was started
@@ -21,60 +21,71 @@ blocks_are c t is task = are_blocks c.args.ctx.now c.args.op t c.op_blocks-list.
 held_is : (c : goal.After-append_blocks-arg-1) (t : Task) (g : Func) → t.source ≡ g → func_in (type_trees c.args.ctx.now.types) c.args.ctx.now c.args.op ≡ Some g → func_in (type_trees c.args.ctx.now.types) c.args.ctx.now c.args.op ≡ Some t.source
 held_is c t g same is = is ∙ ap Some (sym same)
 
+pub export_order-requires-clause-blocks : goal.export_order-requires-clause-blocks
+export_order-requires-clause-blocks c =
+    let f = c.requires.form in
+    (f.0, blocks_of_func c.args.ctx.now c.args.op f.0 c.op_blocks-list.result.now f.2 f.1 c.op_blocks-list.ensures.blocks c.op_blocks-list.ensures.within)
+
 pub append_blocks-requires-clause-there : goal.append_blocks-requires-clause-there
 append_blocks-requires-clause-there c =
     let f = c.requires.form in
-    let s = c.in_ok-f.ensures f.0 f.1 f.2 in
+    let taken = c.in_ok-order.ensures f.0 (blocks_of_func c.args.ctx.now c.args.op f.0 c.op_blocks-list.result.now f.2 f.1 c.op_blocks-list.ensures.blocks c.op_blocks-list.ensures.within) in
+    let s = c.in_ok-f.ensures f.0 f.1 f.2 c.in_ok-order.order.items taken in
     (s.0, s.1, blocks_are c s.0 (held_is c s.0 f.0 s.2 f.1) s.4, s.5)
 
 pub convert_blocks-requires-clause-begun : goal.convert_blocks-requires-clause-begun
 convert_blocks-requires-clause-begun c =
     let f = c.requires.form in
-    let s = c.in_ok-f.ensures f.0 f.1 f.2 in
+    let taken = c.in_ok-order.ensures f.0 (blocks_of_func c.args.ctx.now c.args.op f.0 c.op_blocks-list.result.now f.2 f.1 c.op_blocks-list.ensures.blocks c.op_blocks-list.ensures.within) in
+    let s = c.in_ok-f.ensures f.0 f.1 f.2 c.in_ok-order.order.items taken in
     let are = are_blocks c.args.ctx.now c.args.op s.0 c.op_blocks-list.result.now s.4 (f.1 ∙ ap Some (sym s.2)) c.op_blocks-list.ensures.blocks c.op_blocks-list.ensures.within in
-    (s.0, record { are = are; type = s.1; opening = c.in_ok-blocks.ensures.ok s.0 s.1 are s.5 })
+    (s.0, record { are = are; order_is = c.as_slice.ensures.value ∙ sym s.7; type = s.1; opening = c.in_ok-blocks.ensures.ok s.0 s.1 are s.5 })
 
 pub returns-in_err-values-clause-cause : goal.returns-in_err-values-clause-cause
 returns-in_err-values-clause-cause c = λ g is form.
-    let s = c.in_ok-f.ensures g is form in
+    let taken = c.in_ok-order.ensures g (blocks_of_func c.args.ctx.now c.args.op g c.op_blocks-list.result.now form is c.op_blocks-list.ensures.blocks c.op_blocks-list.ensures.within) in
+    let s = c.in_ok-f.ensures g is form c.in_ok-order.order.items taken in
     let are = are_blocks c.args.ctx.now c.args.op s.0 c.op_blocks-list.result.now s.4 (is ∙ ap Some (sym s.2)) c.op_blocks-list.ensures.blocks c.op_blocks-list.ensures.within in
     passed c.from_residual-in_err-values.result c.in_err-values.field-0.0 (IsFuncCause c.args.ctx.now g) c.from_residual-in_err-values.ensures.1
-    (subst (λ (x : Func). IsFuncCause c.args.ctx.now x c.in_err-values.field-0.0) s.2 (c.in_err-values.ensures.cause s.0 (record { are = are; type = s.1; opening = c.in_ok-blocks.ensures.ok s.0 s.1 are s.5 })))
+    (subst (λ (x : Func). IsFuncCause c.args.ctx.now x c.in_err-values.field-0.0) s.2 (c.in_err-values.ensures.cause s.0 (record { are = are; order_is = c.as_slice.ensures.value ∙ sym s.7; type = s.1; opening = c.in_ok-blocks.ensures.ok s.0 s.1 are s.5 })))
 
 pub add_edges-requires-clause-begun : goal.add_edges-requires-clause-begun
 add_edges-requires-clause-begun c =
     let f = c.requires.form in
-    let s = c.in_ok-f.ensures f.0 f.1 f.2 in
+    let taken = c.in_ok-order.ensures f.0 (blocks_of_func c.args.ctx.now c.args.op f.0 c.op_blocks-list.result.now f.2 f.1 c.op_blocks-list.ensures.blocks c.op_blocks-list.ensures.within) in
+    let s = c.in_ok-f.ensures f.0 f.1 f.2 c.in_ok-order.order.items taken in
     let are = are_blocks c.args.ctx.now c.args.op s.0 c.op_blocks-list.result.now s.4 (f.1 ∙ ap Some (sym s.2)) c.op_blocks-list.ensures.blocks c.op_blocks-list.ensures.within in
     let opening = c.in_ok-blocks.ensures.ok s.0 s.1 are s.5 in
-    (s.0, are, opening.mapped, c.in_ok-values.ensures.ok s.0 (record { are = are; type = s.1; opening = opening }))
+    (s.0, are, c.as_slice-2.ensures.value ∙ sym s.7, opening.mapped, c.in_ok-values.ensures.ok s.0 (record { are = are; order_is = c.as_slice.ensures.value ∙ sym s.7; type = s.1; opening = opening }))
 
 pub returns-clause-ok : goal.returns-clause-ok
 returns-clause-ok c = λ g is form.
-    let s = c.in_ok-f.ensures g is form in
+    let taken = c.in_ok-order.ensures g (blocks_of_func c.args.ctx.now c.args.op g c.op_blocks-list.result.now form is c.op_blocks-list.ensures.blocks c.op_blocks-list.ensures.within) in
+    let s = c.in_ok-f.ensures g is form c.in_ok-order.order.items taken in
     let t = s.0 in
     let held = is ∙ ap Some (sym s.2) in
     let form_t : IsFormFunc t.source = subst IsFormFunc (sym s.2) form in
     let are = are_blocks c.args.ctx.now c.args.op t c.op_blocks-list.result.now s.4 held c.op_blocks-list.ensures.blocks c.op_blocks-list.ensures.within in
     let count = count_is c.args.ctx.now c.args.op t.source c.op_blocks-list.result.now held c.op_blocks-list.ensures.blocks c.op_blocks-list.ensures.within in
     let opening = c.in_ok-blocks.ensures.ok t s.1 are s.5 in
-    let begun : IsBlocksBegun c.args.ctx.now t c.op_blocks-list.result.now c.in_ok-f.f c.in_ok-blocks.blocks c.append_blocks.new.back = record { are = are; type = s.1; opening = opening } in
+    let begun : IsBlocksBegun c.args.ctx.now t c.op_blocks-list.result.now c.as_slice.result.now c.in_ok-f.f c.in_ok-blocks.blocks c.append_blocks.new.back = record { are = are; order_is = c.as_slice.ensures.value ∙ sym s.7; type = s.1; opening = opening } in
     let state = c.in_ok-values.ensures.ok t begun in
     let few : length t.source.blocks < 2 ^ 30 = let f = c.in_ok-check_few.ensures in omega (arith, f, count) in
     let functions : length c.args.back.now.functions < 2 ^ 30 = let f = c.in_ok-check_few-2.ensures in let l = c.functions.ensures.len in omega (arith, f, l) in
     both c.add_edges.result _ _ (AddsFunction g (L.data_of c.args.back.now) (L.data_of c.add_edges.new.back))
     (λ done edges.
     subst (λ (x : Func). AddsFunction x (L.data_of c.args.back.now) (L.data_of c.add_edges.new.back)) s.2
-    (finished t form_t c.args.back.now c.in_ok-values.values c.add_edges.new.back s.3 functions
-    (accepted t.source few (c.in_ok-blocks.ensures.labelled t are) (c.in_ok-values.ensures.accepted t begun) edges)
+    (finished t form_t s.4.order c.args.back.now c.in_ok-values.values c.add_edges.new.back s.3 functions
+    (accepted t.numbers.order t.source few (c.in_ok-blocks.ensures.labelled t are) (c.in_ok-values.ensures.accepted t begun) edges)
     done))
-    (c.add_edges.ensures.ok t are opening.mapped state)
-    (c.add_edges.ensures.accepted t are opening.mapped state)
+    (c.add_edges.ensures.ok t are (c.as_slice-2.ensures.value ∙ sym s.7) opening.mapped state)
+    (c.add_edges.ensures.accepted t are (c.as_slice-2.ensures.value ∙ sym s.7) opening.mapped state)
 
 pub returns-clause-cause : goal.returns-clause-cause
 returns-clause-cause c = λ g is form.
-    let s = c.in_ok-f.ensures g is form in
+    let taken = c.in_ok-order.ensures g (blocks_of_func c.args.ctx.now c.args.op g c.op_blocks-list.result.now form is c.op_blocks-list.ensures.blocks c.op_blocks-list.ensures.within) in
+    let s = c.in_ok-f.ensures g is form c.in_ok-order.order.items taken in
     let are = are_blocks c.args.ctx.now c.args.op s.0 c.op_blocks-list.result.now s.4 (is ∙ ap Some (sym s.2)) c.op_blocks-list.ensures.blocks c.op_blocks-list.ensures.within in
     let opening = c.in_ok-blocks.ensures.ok s.0 s.1 are s.5 in
-    let state = c.in_ok-values.ensures.ok s.0 (record { are = are; type = s.1; opening = opening }) in
-    subst (λ (x : Func). IfErr c.add_edges.result (IsFuncCause c.args.ctx.now x)) s.2 (c.add_edges.ensures.cause s.0 are opening.mapped state)
+    let state = c.in_ok-values.ensures.ok s.0 (record { are = are; order_is = c.as_slice.ensures.value ∙ sym s.7; type = s.1; opening = opening }) in
+    subst (λ (x : Func). IfErr c.add_edges.result (IsFuncCause c.args.ctx.now x)) s.2 (c.add_edges.ensures.cause s.0 are (c.as_slice-2.ensures.value ∙ sym s.7) opening.mapped state)

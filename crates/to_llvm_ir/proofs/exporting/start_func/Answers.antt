@@ -28,13 +28,13 @@ function_type-requires-clause-form c =
     subst (λ (t : TypeHandle). IsFormType (type_at (type_trees c.args.ctx.now.types) t)) same (form.result, form.types, sym p.type ∙ form.type, form.returns, form.takes)
 
 pub returns : goal.returns
-returns c = λ g func_is form.
+returns c = λ g func_is form order taken.
     let p = func_parts c.args.ctx.now c.args.op g func_is in
     let same : p.symbol.ty ≡ c.symbol_type.result = same_Some p.symbol.ty c.symbol_type.result (ap (option_map (λ (s : Symbol). s.ty)) (sym p.symbol_is) ∙ c.symbol_type.ensures) in
     let type = c.in_ok-ty.ensures in
     let function = c.in_ok-f.ensures in
     let typed = subst (IsTypeOf c.function_type.new.back c.in_ok-ty.ty) (ap (λ (t : TypeHandle). type_of (type_at (type_trees c.args.ctx.now.types) t)) (sym same) ∙ ap type_of (sym p.type)) type.tree in
-    started c.args.ctx.now c.args.op g form c.args.back.now c.function_type.new.back c.add_function.new.self c.in_ok-ty.ty c.in_ok-f.f c.name_of.result.now func_is
+    started c.args.ctx.now c.args.op g form order taken c.args.back.now c.function_type.new.back c.add_function.new.self c.in_ok-ty.ty c.in_ok-f.f c.name_of.result.now func_is
     (record {
       rest = type.rest;
       same = type.data;

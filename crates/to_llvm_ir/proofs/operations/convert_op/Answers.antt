@@ -6,7 +6,7 @@ use Rattle.dialect_types.specs.Trees.{type_trees}
 use Rattle.dialect_core.specs.declared.ops.Value.{Value}
 use Rattle.dialect_core.specs.declared.ops.Successor.{Successor}
 use Rattle.dialect_core.specs.declared.ops.OpKind.TheVariants as K
-use Rattle.dialect_core.specs.Form.{StandsBefore}
+use Rattle.to_llvm_ir.specs.Order.{StandsBeforeIn}
 use Rattle.to_llvm_ir.proofs.OpLaws.{op_there, kind_there, spot_other, no_spot, constant_bare}
 use Rattle.to_llvm_ir.proofs.operations.convert_op.Goals as goal
 
@@ -34,8 +34,8 @@ pub returns-in_ok-convert_constant-in-Constant-clause-accepted : goal.returns-in
 returns-in_ok-convert_constant-in-Constant-clause-accepted c = λ s next mapped.
     let parts = constant_bare c.args.ctx.now c.args.op s c.in-Constant.value next.spot (c.op_kind.ensures.kind ∙ ap Some c.in-Constant.is) in
     record {
-      uses = subst (λ (vs : List Value). All (StandsBefore s.task.source s.place s.at) (vs ++ flat_map (λ (e : Successor). e.args) s.op.successors)) (sym parts.0)
-          (subst (λ (es : List Successor). All (StandsBefore s.task.source s.place s.at) ([] ++ flat_map (λ (e : Successor). e.args) es)) (sym parts.1) (All-nil (StandsBefore s.task.source s.place s.at)));
+      uses = subst (λ (vs : List Value). All (StandsBeforeIn s.task.numbers.order s.task.source s.place s.at) (vs ++ flat_map (λ (e : Successor). e.args) s.op.successors)) (sym parts.0)
+          (subst (λ (es : List Successor). All (StandsBeforeIn s.task.numbers.order s.task.source s.place s.at) ([] ++ flat_map (λ (e : Successor). e.args) es)) (sym parts.1) (All-nil (StandsBeforeIn s.task.numbers.order s.task.source s.place s.at)));
       named = λ other. absurd (let e : true ≡ false = sym parts.2 ∙ other in cc);
     }
 
@@ -44,3 +44,9 @@ returns-in-Module-clause-ok c = λ s next mapped here. ⊎_elim
     (λ is. absurd (no_spot c.args.ctx.now c.args.op s K.Module next.spot (c.op_kind.ensures.kind ∙ ap Some is) refl))
     (λ is. absurd (no_spot c.args.ctx.now c.args.op s K.Func next.spot (c.op_kind.ensures.kind ∙ ap Some is) refl))
     c.in-Module.is
+
+pub returns-in_ok-place_inst-in_default-clause-accepted : goal.returns-in_ok-place_inst-in_default-clause-accepted
+returns-in_ok-place_inst-in_default-clause-accepted c = λ s next mapped. record {
+  uses = (c.in_ok-inst-in_default.ensures.ok s c.args.back.now next mapped).uses;
+  named = λ other. c.in_ok-place_inst-in_default.ensures.named s next.spot;
+}

@@ -15,11 +15,12 @@ no_items [] h = refl
 no_items (y ∷ ys) h = absurd (omega (arith, h))
 
 pub returns-then-is_empty-clause-ok : goal.returns-then-is_empty-clause-ok
-returns-then-is_empty-clause-ok c = λ s m next.
+returns-then-is_empty-clause-ok c =
+    let none : length c.op_operands-operands.result.now ≡ 0 = grind (arith, c.if-is_empty.ensures, c.if-is_empty.true) in
+    λ s m next.
     let k = spot_kind c.args.ctx.now c.args.op s K.Return ReturnOp next.spot c.requires.kind refl in
     let xs = c.op_operands-operands.result.now in
     let are = operands_are (type_trees c.args.ctx.now.types) c.args.ctx.now.ops c.args.op s.op xs (spot_parts c.args.ctx.now c.args.op s next.spot) c.op_operands-operands.ensures.operands in
-    let none : length xs ≡ 0 = grind (arith, c.if-is_empty.ensures, c.if-is_empty.true) in
     return_none_made s m next.state.sound k.1 k.0 (are ∙ no_items xs none)
 
 pub returns-in_err-value-clause-cause : goal.returns-in_err-value-clause-cause

@@ -8,7 +8,8 @@ use Rattle.llvm_core.specs.Data.{data_of}
 use Rattle.llvm_core.proofs.DistinctLaws.{distinct_of_checked}
 use Rattle.llvm_core.proofs.FormLaws.{checked_of_form}
 use Rattle.from_llvm_ir.specs.Imported.{imported_data}
-use Rattle.transfer.proofs.TransferLaws.{readable, forms_imported, exportable_imported, same_throughout, form_of_back, distinct_back, few_back}
+use Rattle.from_llvm_ir.proofs.MatchedLaws.{forms_imported, exportable_imported}
+use Rattle.transfer.proofs.TransferLaws.{readable, same_throughout, form_of_back, distinct_back, few_back}
 use Rattle.transfer.proofs.CauseLaws.{of_import_cause, of_export_cause, only_memory}
 use Rattle.transfer.proofs.transferring.transfer.Goals as goal
 

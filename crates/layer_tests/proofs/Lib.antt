@@ -1,0 +1,3 @@
+-- The lemmas that proofs cite.
+pub mod RuleLaws
+pub mod TraceLaws

@@ -1,0 +1,70 @@
+-- Reading one token. Each rule has two laws, here and in the files that use this one: `.._takes`, what is read stood at the
+-- front and is of its kind, and `.._again`, what stands there and is of its kind is read.
+use Rattle.std.proofs.Common.{◌≡◌, Bool, true, false, List, [], ◌∷◌, ◌++◌, not, Option, Some, None, refl, sym, ap, ◌∙◌, arith, inl, inr}
+use Rattle.std.specs.Str.{bytes_eq}
+use Rattle.std.proofs.lemmas.Slice.Eq.{bytes_eq-Decides}
+use Rattle.ll_tree.specs.Text.{Text}
+use Rattle.ll_tree.specs.Tree.{flag, optional, IfPresent}
+use Rattle.ll_tree.specs.Reading.{is_next, rest, passes_next, skip_at, one_at, flag_at, optional_at}
+use Rattle.ll_tree.proofs.Steps.{guard_some, chosen}
+
+pub next_is : (t : Text) (ts : List Text) → is_next t ts ≡ true → ts ≡ t ∷ rest ts
+next_is t [] e = absurd cc
+next_is t (u ∷ us) e = ap (λ (x : Text). x ∷ us) ((bytes_eq-Decides u t).0 e)
+
+next_again : (t : Text) (us : List Text) → is_next t (t ∷ us) ≡ true
+next_again t us = (bytes_eq-Decides t t).1 refl
+
+-- a token that passes a test is no word that fails it
+pub unlike : (p : Text → Bool) (t w : Text) → p t ≡ true → p w ≡ false → bytes_eq t w ≡ false
+unlike p t w h g = elim (bytes_eq t w) as (λ b. bytes_eq t w ≡ b → b ≡ false) [
+  | true ↦ λ e. let i = (bytes_eq-Decides t w).0 e in let k : true ≡ false = sym h ∙ ap p i ∙ g in absurd cc
+  | false ↦ λ e. refl
+] refl
+
+pub skip_takes : (t : Text) (ts us : List Text) → skip_at t ts ≡ Some us → ts ≡ t ∷ us
+unfolding skip_at
+skip_takes t [] us e = absurd cc
+skip_takes t (u ∷ ts) us e = let g = guard_some (bytes_eq u t) ts us e in let is : u ≡ t = (bytes_eq-Decides u t).0 g.0 in cc
+
+pub skip_again : (t : Text) (us : List Text) → skip_at t (t ∷ us) ≡ Some us
+unfolding skip_at
+skip_again t us = rw (next_again t us) refl
+
+pub one_takes : (p : Text → Bool) (ts : List Text) (x : Text × List Text) → one_at p ts ≡ Some x → (ts ≡ x.0 ∷ x.1) × (p x.0 ≡ true)
+unfolding one_at
+one_takes p [] x e = absurd cc
+one_takes p (u ∷ ts) x e = let g = guard_some (p u) (u, ts) x e in rw (← g.1) (refl, g.0)
+
+pub one_again : (p : Text → Bool) (t : Text) (us : List Text) → p t ≡ true → one_at p (t ∷ us) ≡ Some (t, us)
+unfolding one_at
+one_again p t us h = rw h refl
+
+pub flag_takes : (t : Text) (ts : List Text) (x : Bool × List Text) → flag_at t ts ≡ Some x → ts ≡ flag t x.0 ++ x.1
+unfolding flag_at
+flag_takes t ts x e = grind (arith, next_is)
+
+pub flag_again : (t : Text) (b : Bool) (us : List Text) → is_next t us ≡ false → flag_at t (flag t b ++ us) ≡ Some (b, us)
+unfolding flag_at
+flag_again t true us h = rw (next_again t us) refl
+flag_again t false us h = rw h refl
+
+pub not_true : (b : Bool) → not b ≡ true → b ≡ false
+not_true true e = absurd cc
+not_true false e = refl
+
+-- ---- what may be left out
+
+pub optional_takes : (p : Text → Bool) (ts : List Text) (x : Option Text × List Text) → optional_at p ts ≡ Some x → (ts ≡ optional x.0 ++ x.1) × IfPresent p x.0
+unfolding optional_at
+optional_takes p [] x e = let i : x ≡ (None, []) = cc in rw i (refl, tt)
+optional_takes p (u ∷ ts) x e = elim (chosen (p u) (Some (Some u, ts)) (Some (None, u ∷ ts)) (Some x) e) [
+  | inl w ↦ let i : x ≡ (Some u, ts) = cc in rw i (refl, w.0)
+  | inr w ↦ let i : x ≡ (None, u ∷ ts) = cc in rw i (refl, tt)
+]
+
+pub optional_again : (p : Text → Bool) (o : Option Text) (us : List Text) → IfPresent p o → passes_next p us ≡ false → optional_at p (optional o ++ us) ≡ Some (o, us)
+unfolding optional_at
+optional_again p None [] h no_more = refl
+optional_again p None (u ∷ us) h no_more = rw no_more refl
+optional_again p (Some t) us h no_more = rw h refl

@@ -1,0 +1,11 @@
+-- What was read before, with what is still read, is all that is read; each round takes a token.
+use Rattle.std.proofs.Common.{◌≡◌, length, map}
+use Rattle.ll_tree.specs.Reading.{left, with_front, is_end, function_at, many_at, functions_at}
+use Rattle.ll_tree.specs.TreeView.{function_view}
+use Rattle.ll_tree.proofs.reader.Reader.functions.Given as goal
+
+abbrev pub invariant-loop-alloc : goal.invariant-loop-alloc
+invariant-loop-alloc l = with_front (map function_view l.found.items) (many_at is_end function_at (left l.self)) ≡ functions_at (left l.fn.self)
+
+abbrev pub decreases-loop-alloc : goal.decreases-loop-alloc
+decreases-loop-alloc l = length (left l.self)

@@ -1,0 +1,85 @@
+-- Operations of the dialect as rows of a woven shape: which of them pair off, that constants keep to a plan, and that
+-- operations read only constants that are set, as the crates above show it of their operations.
+use Rattle.std.proofs.Common.{◌≡◌, ◌∙◌, ℕ, suc, Bool, true, false, not, ◌||◌, if◌then◌else◌, List, [], ◌∷◌, Some, All, map, take, slice_get, refl, sym, ap, ⊎_elim}
+use Rattle.std.proofs.lemmas.Bool.{false≢true, or_cases}
+use Rattle.std.proofs.lemmas.List.Elements.{All-nil, All-cons, All-head, All-tail, All-weaker}
+use Rattle.dialect_types.specs.Trees.{AttrTree}
+use Rattle.dialect_core.specs.declared.ops.Value.{Value}
+use Rattle.dialect_core.specs.declared.ops.Value.TheVariants.{Result}
+use Rattle.dialect_core.specs.Data.{Func, DialectOp, Kind, ConstantOp, AddOp, ICmpOp, BrOp, CondBrOp, ReturnOp, UnreachableOp}
+use Rattle.dialect_core.specs.Form.{is_constant, is_constant_kind, others_of}
+use Rattle.meaning.specs.Terms.{Opcode, Immediate}
+use Rattle.meaning.specs.Machine.{At, Action, Holds, Row}
+use Rattle.meaning.specs.Dialect as dialect
+use Rattle.meaning.specs.Dialect.{attr_term, same_value}
+use Rattle.meaning.specs.Shape.{Plan, among, term_among, operands_of}
+use Rattle.meaning.specs.Woven.{sets_constant, paired, KeepsPlan, AreSet, ReadsOnlySet}
+use Rattle.meaning.proofs.WovenLaws.{swap_or}
+
+module _ (g : Func) where
+  abbrev pub rows : List DialectOp → List (Row Value)
+  rows os = map (dialect.row g) os
+
+  -- ---- rows that pair off
+
+  -- an operation holds a constant, or applies its kind to its operands: a line for each kind
+  by_kind : (o : DialectOp) (P : Kind → Action Value → Type 0) → ((value : AttrTree) → P (ConstantOp value) (Holds (attr_term value))) → ((k : Kind) (opcode : Opcode) (is : List Immediate) → is_constant_kind k ≡ false → P k (dialect.applies g o opcode is)) → (k : Kind) → P k (dialect.action g o k)
+  by_kind o P held applied (ConstantOp value) = held value
+  by_kind o P held applied (AddOp flags) = applied (AddOp flags) _ _ refl
+  by_kind o P held applied (ICmpOp predicate) = applied (ICmpOp predicate) _ _ refl
+  by_kind o P held applied BrOp = applied BrOp _ _ refl
+  by_kind o P held applied CondBrOp = applied CondBrOp _ _ refl
+  by_kind o P held applied ReturnOp = applied ReturnOp _ _ refl
+  by_kind o P held applied UnreachableOp = applied UnreachableOp _ _ refl
+
+  constant_kind : (o : DialectOp) (k : Kind) → sets_constant (dialect.action g o k) ≡ is_constant_kind k
+  constant_kind o k = by_kind o (λ k a. sets_constant a ≡ is_constant_kind k) (λ value. refl) (λ k opcode is e. sym e) k
+
+  paired_one : (o : DialectOp) (os : List DialectOp) (b : Bool) → paired (rows os) ≡ rows (others_of os) → (if not b then dialect.row g o ∷ paired (rows os) else paired (rows os)) ≡ rows (if not b then o ∷ others_of os else others_of os)
+  paired_one o os true e = e
+  paired_one o os false e = ap (λ (rs : List (Row Value)). dialect.row g o ∷ rs) e
+
+  -- the rows of the operations but the constants
+  pub paired_rows : (os : List DialectOp) → paired (rows os) ≡ rows (others_of os)
+  paired_rows [] = refl
+  paired_rows (o ∷ os) = ap (λ (b : Bool). if not b then dialect.row g o ∷ paired (rows os) else paired (rows os)) (constant_kind o o.kind) ∙ paired_one o os (is_constant o) (paired_rows os)
+
+  module _ (plan : Plan) where
+    -- ---- rows that keep to a plan
+
+    -- the plan has the constant of that operation
+    abbrev pub HasConstant : DialectOp → Kind → Type 0
+    HasConstant o k = (value : AttrTree) → k ≡ ConstantOp value → (among plan.hoisted (Result (record { 0 = o.number })) ≡ true) × (term_among plan.hoisted (Result (record { 0 = o.number })) ≡ attr_term value)
+
+    kept_row : (o : DialectOp) (k : Kind) → HasConstant o k → KeepsPlan plan (dialect.action g o k) (Result (record { 0 = o.number }))
+    kept_row o k h = by_kind o (λ k a. HasConstant o k → KeepsPlan plan a (Result (record { 0 = o.number }))) (λ value h. h value refl) (λ k opcode is e h. tt) k h
+
+    pub kept_rows : (os : List DialectOp) → ((i : ℕ) (o : DialectOp) → slice_get os i ≡ Some o → HasConstant o o.kind) → All (λ (r : Row Value). KeepsPlan plan r.action r.result) (rows os)
+    kept_rows [] h = All-nil _
+    kept_rows (o ∷ os) h = All-cons (λ (r : Row Value). KeepsPlan plan r.action r.result) (dialect.row g o) (rows os) (kept_row o o.kind (h 0 o refl)) (kept_rows os (λ i x at. h (suc i) x at))
+
+    -- ---- rows that read only what is set
+
+    -- if it is a constant, the rows set it
+    abbrev pub IsSet : List (Row Value) → Value → Type 0
+    IsSet done v = among plan.hoisted v ≡ true → among done v ≡ true
+
+    are_set : (done : List (Row Value)) (vs : List Value) → All (IsSet done) vs → AreSet plan done (map At vs)
+    are_set done [] h = tt
+    are_set done (v ∷ vs) h = (All-head (IsSet done) v vs h, are_set done vs (All-tail (IsSet done) v vs h))
+
+    operands_set : (done : List (Row Value)) (o : DialectOp) (k : Kind) → All (IsSet done) o.operands → AreSet plan done (operands_of (dialect.action g o k))
+    operands_set done o k h = by_kind o (λ k a. AreSet plan done (operands_of a)) (λ value. tt) (λ k opcode is e. are_set done o.operands h) k
+
+    -- if it is a constant, it is set by the rows that are done or by those operations
+    abbrev pub IsSetBy : List (Row Value) → List DialectOp → Value → Type 0
+    IsSetBy done os v = among plan.hoisted v ≡ true → (among done v || among (rows os) v) ≡ true
+
+    -- each operation reads only constants that those done, or those before it, set
+    pub reads_set : (os : List DialectOp) (done : List (Row Value)) → ((i : ℕ) (o : DialectOp) → slice_get os i ≡ Some o → All (IsSetBy done (take i os)) o.operands) → ReadsOnlySet plan done (rows os)
+    reads_set [] done h = tt
+    reads_set (o ∷ os) done h =
+        let q = dialect.row g o in (
+          operands_set done o o.kind (All-weaker (IsSetBy done []) (IsSet done) (λ v s m. ⊎_elim (λ x. x) (λ x. absurd (false≢true x)) (or_cases (among done v) false (s m))) o.operands (h 0 o refl)),
+          reads_set os (q ∷ done) (λ i x at. All-weaker (IsSetBy done (take (suc i) (o ∷ os))) (IsSetBy (q ∷ done) (take i os)) (λ v s m. swap_or (among done v) (same_value q.result v) (among (rows (take i os)) v) (s m)) x.operands (h (suc i) x at)),
+        )

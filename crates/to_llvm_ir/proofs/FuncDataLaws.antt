@@ -1,0 +1,156 @@
+-- What narrow blocks and functions of a context tell of their data, and what a module's do.
+use Rattle.std.proofs.Common.{◌≡◌, ◌<◌, ℕ, zero, suc, Bool, false, List, [], ◌∷◌, Option, Some, None, All, length, map, slice_get, ap, sym, subst, ◌∙◌, refl, arith}
+use Rattle.std.specs.Prelude.{IsTrue, IfSome, ◌↔◌, unwrap_or}
+use Rattle.std.specs.List.{filter_map, flat_map, cons_option}
+use Rattle.std.specs.Option.{option_map_or, option_and_then}
+use Rattle.std.proofs.lemmas.List.{append-nil}
+use Rattle.std.proofs.lemmas.List.Elements.{All-head, All-tail, All-cons, All-nil}
+use Rattle.dialect_types.specs.Names.{IsPlainName}
+use Rattle.dialect_types.specs.Trees.{type_trees}
+use Rattle.dialect_core.specs.declared.numbers.OpRef.{OpRef}
+use Rattle.dialect_core.specs.declared.numbers.BlockRef.{BlockRef}
+use Rattle.dialect_core.specs.declared.ops.OpKind.TheVariants as K
+use Rattle.dialect_core.specs.declared.ops.OpData.{OpData}
+use Rattle.dialect_core.specs.declared.ops.BlockData.{BlockData}
+use Rattle.dialect_core.specs.Lists.{list_at}
+use Rattle.dialect_core.specs.ContextData.{ContextData, IsSymbol, kind_at, region_at}
+use Rattle.dialect_core.specs.Data.{DialectOp, DialectBlock, Func, block_in, func_in, held}
+use Rattle.dialect_core.specs.Form.{HasConstantsFirst, IsShortInt, is_constant}
+use Rattle.dialect_core.specs.WellFormed.{IsPlainAt, IsNarrowBlock, HasConstantsInEntry, IsNarrowFunc, IsNarrow}
+use Rattle.dialect_core.specs.Checking.{block_at, func_at, tree_at}
+use Rattle.dialect_core.proofs.HoldLemmas.{stands_flat}
+use Rattle.dialect_core.proofs.LineLemmas.{all_at, at_all}
+use Rattle.dialect_core.proofs.TypeTestLemmas.{all_map, map_all}
+use Rattle.dialect_core.proofs.FuncLemmas.{blocks_are}
+use Rattle.dialect_core.proofs.FuncTestLemmas.{block_data, func_name, func_data}
+use Rattle.to_llvm_ir.specs.Narrow.{IsNarrowBlockAt, HasNoConstant, AreNarrowBlocks, IsNarrowHead, AreNarrowFuncs}
+use Rattle.to_llvm_ir.proofs.OpDataLaws.{ArePlain, lines_narrow, narrow_lines, next_begins, first_others, others_first, others_begin}
+
+-- where each item makes something
+filter_some : {X Y : Type 0} (f : X → Option Y) (g : X → Y) (xs : List X) → ((k : ℕ) (x : X) → slice_get xs k ≡ Some x → f x ≡ Some (g x)) → filter_map f xs ≡ map g xs
+filter_some f g [] h = refl
+filter_some f g (x ∷ xs) h = ap (λ (o : Option _). cons_option o (filter_map f xs)) (h 0 x refl) ∙ ap (λ (ys : List _). g x ∷ ys) (filter_some f g xs (λ k y at. h (suc k) y at))
+
+-- ---- blocks
+
+module _ (c : ContextData) where
+  narrow_block : (b : BlockRef) → ArePlain c (list_at c.lists b) → IsNarrowBlockAt c b → IsNarrowBlock (block_at c b) × HasConstantsFirst (block_at c b).ops
+  unfolding block_at
+  narrow_block b plain h =
+      let l = lines_narrow c (list_at c.lists b) plain h.lines in
+      (record { args = all_map IsShortInt (tree_at c) (option_map_or (λ (x : BlockData). x.args) (slice_get c.blocks b.0) []) h.args; ops = l.0; label = h.label }, l.1)
+
+  block_narrow : (b : BlockRef) → ArePlain c (list_at c.lists b) → IsNarrowBlock (block_at c b) → HasConstantsFirst (block_at c b).ops → IsNarrowBlockAt c b
+  unfolding block_at
+  block_narrow b plain h first = record {
+    label = h.label;
+    args = map_all IsShortInt (tree_at c) (option_map_or (λ (x : BlockData). x.args) (slice_get c.blocks b.0) []) h.args;
+    lines = narrow_lines c (list_at c.lists b) plain h.ops first;
+  }
+
+  abbrev AreOthers : List DialectOp → Type 0
+  AreOthers os = All (λ (o : DialectOp). is_constant o ≡ false) os
+
+  no_constant : (b : BlockRef) → ArePlain c (list_at c.lists b) → HasConstantsFirst (block_at c b).ops → HasNoConstant c b → AreOthers (block_at c b).ops
+  unfolding block_at
+  no_constant b plain first h = first_others _ first (sym (next_begins c (list_at c.lists b) plain) ∙ h)
+
+  constant_none : (b : BlockRef) → ArePlain c (list_at c.lists b) → AreOthers (block_at c b).ops → HasNoConstant c b
+  unfolding block_at
+  constant_none b plain h = next_begins c (list_at c.lists b) plain ∙ others_begin _ h
+
+  abbrev AllPlain : List BlockRef → Type 0
+  AllPlain bs = (k : ℕ) (b : BlockRef) → slice_get bs k ≡ Some b → ArePlain c (list_at c.lists b)
+
+  narrow_blocks : (bs : List BlockRef) → AllPlain bs → AreNarrowBlocks c bs → All IsNarrowBlock (map (block_at c) bs) × HasConstantsInEntry (map (block_at c) bs)
+  narrow_blocks [] plain h = absurd h
+  narrow_blocks (entry ∷ more) plain h =
+      let each = λ (k : ℕ) (b : BlockRef) (at : slice_get (entry ∷ more) k ≡ Some b). narrow_block b (plain k b at) (all_at (IsNarrowBlockAt c) (entry ∷ more) h.0 k b at) in (
+        all_map IsNarrowBlock (block_at c) (entry ∷ more) (at_all (λ (b : BlockRef). IsNarrowBlock (block_at c b)) (entry ∷ more) (λ k b at. (each k b at).0)),
+        record {
+          entry = block_at c entry;
+          more = map (block_at c) more;
+          are = refl;
+          first = (each 0 entry refl).1;
+          others = all_map (λ (b : DialectBlock). AreOthers b.ops) (block_at c) more
+              (at_all (λ (b : BlockRef). AreOthers (block_at c b).ops) more (λ k b at. no_constant b (plain (suc k) b at) (each (suc k) b at).1 (all_at (HasNoConstant c) more h.1 k b at)));
+        },
+      )
+
+  blocks_narrow : (bs : List BlockRef) → AllPlain bs → All IsNarrowBlock (map (block_at c) bs) → HasConstantsInEntry (map (block_at c) bs) → AreNarrowBlocks c bs
+  blocks_narrow [] plain all h = absurd (let few = ap length h.are in omega arith)
+  blocks_narrow (entry ∷ more) plain all h =
+      let same : block_at c entry ≡ h.entry = let e = h.are in cc in
+      let rest : map (block_at c) more ≡ h.more = let e = h.are in cc in
+      let P : List DialectBlock → Type 0 = All (λ (b : DialectBlock). AreOthers b.ops) in
+      let others = map_all (λ (b : DialectBlock). AreOthers b.ops) (block_at c) more (subst P (sym rest) h.others) in
+      let narrow = map_all IsNarrowBlock (block_at c) (entry ∷ more) all in
+      let later = λ (k : ℕ) (b : BlockRef) (at : slice_get more k ≡ Some b). all_at (λ (b : BlockRef). AreOthers (block_at c b).ops) more others k b at in (
+        at_all (IsNarrowBlockAt c) (entry ∷ more) (λ k b at. block_narrow b (plain k b at) (all_at (λ (b : BlockRef). IsNarrowBlock (block_at c b)) (entry ∷ more) narrow k b at) (first k b at same later)),
+        at_all (HasNoConstant c) more (λ k b at. constant_none b (plain (suc k) b at) (later k b at)),
+      )
+    where
+      first : (k : ℕ) (b : BlockRef) → slice_get (entry ∷ more) k ≡ Some b → block_at c entry ≡ h.entry → ((k : ℕ) (b : BlockRef) → slice_get more k ≡ Some b → AreOthers (block_at c b).ops) → HasConstantsFirst (block_at c b).ops
+      first zero b at same later =
+          let e : block_at c b ≡ h.entry = ap (block_at c) (let i = at in cc) ∙ same in
+          subst (λ (d : DialectBlock). HasConstantsFirst d.ops) (sym e) h.first
+      first (suc k) b at same later = others_first (block_at c b).ops (later k b at)
+
+-- ---- functions
+
+-- a name that is missing is plain, as the empty one is
+named : (x : Option OpData) → IfSome (option_and_then (λ (x : OpData). x.name) x) IsPlainName ↔ IsPlainName (option_map_or (λ (x : OpData). unwrap_or x.name []) x [])
+named None = (λ h. tt, λ h. tt)
+named (Some x) = by x.name
+  where
+    by : (n : Option (List ℕ)) → IfSome n IsPlainName ↔ IsPlainName (unwrap_or n [])
+    by None = (λ h. tt, λ h. tt)
+    by (Some n) = (λ h. h, λ h. h)
+
+pub func_head : (c : ContextData) (f : OpRef) → IsNarrowFunc (func_at c f) → IsNarrowHead c f
+func_head c f h = record { name = (named (slice_get c.ops f.0)).1 (subst IsPlainName (func_name c f) h.name); linkage = h.linkage; signature = h.signature }
+
+module _ (c : ContextData) (f : OpRef) (there : (k : ℕ) (b : BlockRef) → slice_get (region_at c.ops f.0) k ≡ Some b → b.0 < length c.blocks) (plain : All (IsPlainAt c) (held c f.0)) where
+  func_blocks : (func_at c f).blocks ≡ map (block_at c) (region_at c.ops f.0)
+  func_blocks = blocks_are c f there ∙ filter_some (block_in (type_trees c.types) c) (block_at c) (region_at c.ops f.0) (λ k b at. block_data c (func_at c f) b (there k b at))
+
+  region_plain : (k : ℕ) (b : BlockRef) → slice_get (region_at c.ops f.0) k ≡ Some b → ArePlain c (list_at c.lists b)
+  region_plain k b at j o there_o =
+      let w = stands_flat (list_at c.lists) (region_at c.ops f.0) b o k at (j, there_o) in
+      all_at (IsPlainAt c) (held c f.0) plain w.0 o w.1
+
+  pub func_is : (region : List BlockRef) (t : Bool) → region ≡ region_at c.ops f.0 → IsNarrowHead c f → (IsTrue t ↔ AreNarrowBlocks c region) → IsTrue t ↔ IsNarrowFunc (func_at c f)
+  func_is region t is head h =
+      let P : List BlockRef → Type 0 = λ bs. IsTrue t ↔ AreNarrowBlocks c bs in
+      let Q : List DialectBlock → Type 0 = λ ds. All IsNarrowBlock ds × HasConstantsInEntry ds in
+      let blocks = subst P is h in (
+        λ w. let d : Q (func_at c f).blocks = subst Q (sym func_blocks) (narrow_blocks c (region_at c.ops f.0) region_plain (blocks.0 w)) in record {
+          name = subst IsPlainName (sym (func_name c f)) ((named (slice_get c.ops f.0)).0 head.name);
+          linkage = head.linkage;
+          signature = head.signature;
+          blocks = d.0;
+          constants = d.1;
+        },
+        λ w. let d : Q (map (block_at c) (region_at c.ops f.0)) = subst Q func_blocks (w.blocks, w.constants) in blocks.1 (blocks_narrow c (region_at c.ops f.0) region_plain d.0 d.1),
+      )
+
+-- ---- modules
+
+module _ (c : ContextData) where
+  each_narrow : (xs : List OpRef) → AreNarrowFuncs c xs ↔ All IsNarrowFunc (map (func_at c) xs)
+  each_narrow [] = (λ h. All-nil IsNarrowFunc, λ h. tt)
+  each_narrow (x ∷ xs) =
+      let rest = each_narrow xs in (
+        λ h. All-cons IsNarrowFunc (func_at c x) (map (func_at c) xs) h.0 (rest.0 h.1),
+        λ h. (All-head IsNarrowFunc (func_at c x) (map (func_at c) xs) h, rest.1 (All-tail IsNarrowFunc (func_at c x) (map (func_at c) xs) h)),
+      )
+
+  pub held_alone : (m : ℕ) (body : BlockRef) → region_at c.ops m ≡ body ∷ [] → held c m ≡ list_at c.lists body
+  held_alone m body region = ap (flat_map (list_at c.lists)) region ∙ append-nil (list_at c.lists body)
+
+  pub module_narrow : (symbols : (o : OpRef) → kind_at c.ops o ≡ Some K.Func → IsSymbol c.ops o) (m : ℕ) (body : BlockRef) → region_at c.ops m ≡ body ∷ [] → All (λ (o : OpRef). kind_at c.ops o ≡ Some K.Func) (held c m) → AreNarrowFuncs c (list_at c.lists body) ↔ IsNarrow c m
+  module_narrow symbols m body region kinds =
+      let P : List OpRef → Type 0 = λ xs. AreNarrowFuncs c xs ↔ All IsNarrowFunc (map (func_at c) (held c m)) in
+      let Q : List Func → Type 0 = λ gs. AreNarrowFuncs c (list_at c.lists body) ↔ All IsNarrowFunc gs in
+      let funcs = filter_some (func_in (type_trees c.types) c) (func_at c) (held c m) (λ k o at. func_data c o (symbols o (all_at (λ (o : OpRef). kind_at c.ops o ≡ Some K.Func) (held c m) kinds k o at))) in
+      subst Q (sym funcs) (subst P (held_alone m body region) (each_narrow (held c m)))

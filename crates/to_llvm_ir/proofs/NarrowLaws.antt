@@ -1,0 +1,72 @@
+-- What tests of narrow operations, blocks and functions find.
+use Rattle.std.proofs.Common.{◌≡◌, ◌<◌, ◌≤◌, ℕ, suc, Bool, true, false, nat_eq, if◌then◌else◌, List, [], ◌∷◌, Option, Some, None, All, length, drop, slice_get, sym, subst, ◌∙◌, refl, arith}
+use Rattle.std.specs.Prelude.{IsTrue, IfSome, ◌↔◌}
+use Rattle.std.specs.Option.{option_map, option_and_then}
+use Rattle.std.proofs.lemmas.Option.{none-some, same_Some}
+use Rattle.dialect_types.specs.declared.types.TypeHandle.{TypeHandle}
+use Rattle.dialect_types.specs.Names.{IsPlainName}
+use Rattle.dialect_core.specs.declared.numbers.OpRef.{OpRef}
+use Rattle.dialect_core.specs.declared.numbers.BlockRef.{BlockRef}
+use Rattle.dialect_core.specs.declared.linkage.LinkageAttr.{LinkageAttr}
+use Rattle.dialect_core.specs.declared.linkage.LinkageAttr.TheVariants.{ExternalLinkage}
+use Rattle.dialect_core.specs.declared.ops.Symbol.{Symbol}
+use Rattle.dialect_core.specs.declared.ops.OpData.{OpData}
+use Rattle.dialect_core.specs.declared.ops.BlockData.{BlockData}
+use Rattle.dialect_core.specs.Lists.{from_op}
+use Rattle.dialect_core.specs.ContextData.{ContextData, symbol_at}
+use Rattle.dialect_core.specs.Data.{IsTyped}
+use Rattle.dialect_core.specs.Form.{IsShortInt}
+use Rattle.dialect_core.specs.WellFormed.{IsNarrowSignature}
+use Rattle.dialect_core.specs.Checking.{tree_at}
+use Rattle.dialect_core.proofs.OpTestLemmas.{func_type}
+use Rattle.dialect_core.proofs.FuncTestLemmas.{func_linkage}
+use Rattle.to_llvm_ir.specs.Narrow.{IsNarrowBlockAt, HasNoConstant, AreNarrowBlocks, IsNarrowHead}
+use Rattle.to_llvm_ir.proofs.ContextLaws.{known}
+
+-- what an item has, where it is known
+pub has_known : {X Y : Type 0} (f : X → Option Y) (o : Option X) (y : Option Y) → option_map f o ≡ Some y → option_and_then f o ≡ y
+has_known f None y e = absurd (none-some y e)
+has_known f (Some x) y e = same_Some (f x) y e
+
+-- the type of a result is there
+pub result_typed : (c : ContextData) (o : OpRef) (r : Option TypeHandle) (t : TypeHandle) → IsTyped c → option_map (λ (x : OpData). x.result) (slice_get c.ops o.0) ≡ Some r → r ≡ Some t → t.0 < length c.types
+result_typed c o r t typed h is = by (slice_get c.ops o.0) refl h
+  where
+    by : (x : Option OpData) → slice_get c.ops o.0 ≡ x → option_map (λ (x : OpData). x.result) x ≡ Some r → t.0 < length c.types
+    by None at e = absurd (none-some r e)
+    by (Some x) at e = subst (λ (r : Option TypeHandle). IfSome r (λ (t : TypeHandle). t.0 < length c.types)) (same_Some x.result r e ∙ is) (typed.ops o.0 x at).result
+
+-- a block with an argument that is not of 1 to 64 bits
+pub block_wide : (c : ContextData) (b : BlockRef) (args : List TypeHandle) → option_map (λ (x : BlockData). x.args) (slice_get c.blocks b.0) ≡ Some args → (All (λ (t : TypeHandle). IsShortInt (tree_at c t)) args → ⊥) → IsNarrowBlockAt c b → ⊥
+block_wide c b args are wide h =
+    let P : List TypeHandle → Type 0 = All (λ (t : TypeHandle). IsShortInt (tree_at c t)) in
+    wide (subst P (known (λ (x : BlockData). x.args) (slice_get c.blocks b.0) args are) h.args)
+
+-- the first block aside, none has constants
+pub blocks_narrow : (c : ContextData) (bs more : List BlockRef) (t : Bool) → 1 ≤ length bs → more ≡ drop 1 bs → All (IsNarrowBlockAt c) bs → (IsTrue t ↔ All (HasNoConstant c) more) → IsTrue t ↔ AreNarrowBlocks c bs
+blocks_narrow c [] more t some are all h = absurd (omega (arith, some))
+blocks_narrow c (entry ∷ bs) more t some are all h =
+    let P : List BlockRef → Type 0 = λ xs. IsTrue t ↔ All (HasNoConstant c) xs in
+    let k : IsTrue t ↔ All (HasNoConstant c) bs = subst P are h in
+    (λ w. (all, k.0 w), λ w. k.1 w.1)
+
+-- a function by its name, its linkage and its type
+pub head_is : (c : ContextData) (f : OpRef) (name : Option (List ℕ)) (l : LinkageAttr) (ty : TypeHandle) (t : Bool) → option_map (λ (x : OpData). x.name) (slice_get c.ops f.0) ≡ Some name → IfSome name IsPlainName → option_map (λ (s : Symbol). s.linkage) (symbol_at c.ops f) ≡ Some l → l ≡ ExternalLinkage
+    → option_map (λ (s : Symbol). s.ty) (symbol_at c.ops f) ≡ Some ty → (IsTrue t ↔ IsNarrowSignature (tree_at c ty)) → IsTrue t ↔ IsNarrowHead c f
+head_is c f name l ty t given plain linkage external type h = (
+  λ w. record {
+    name = subst (λ (n : Option (List ℕ)). IfSome n IsPlainName) (sym (has_known (λ (x : OpData). x.name) (slice_get c.ops f.0) name given)) plain;
+    linkage = func_linkage c f l linkage ∙ external;
+    signature = subst IsNarrowSignature (sym (func_type c f ty type)) (h.0 w);
+  },
+  λ w. h.1 (subst IsNarrowSignature (func_type c f ty type) w.signature),
+)
+
+-- an operation that something begins with stands there
+pub from_there : (P : OpRef → Type 0) (o : OpRef) (xs : List OpRef) → ((k : ℕ) (x : OpRef) → slice_get xs k ≡ Some x → P x) → Some o ≡ slice_get (from_op (Some o) xs) 0 → P o
+from_there P o [] all h = absurd (none-some o (sym h))
+from_there P o (x ∷ xs) all h = by (nat_eq x.0 o.0) refl (λ e. from_there P o xs (λ k y at. all (suc k) y at) e) h
+  where
+    by : (t : Bool) → nat_eq x.0 o.0 ≡ t → (Some o ≡ slice_get (from_op (Some o) xs) 0 → P o) → Some o ≡ slice_get (if t then x ∷ xs else from_op (Some o) xs) 0 → P o
+    by true is later e = subst P (sym (same_Some o x e)) (all 0 x refl)
+    by false is later e = later e

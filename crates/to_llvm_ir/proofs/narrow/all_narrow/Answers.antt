@@ -1,0 +1,8 @@
+-- What `narrow::all_narrow` owes besides what the check finds.
+use Rattle.std.proofs.Common.{arith}
+use Rattle.dialect_core.proofs.TestLemmas.{all_more}
+use Rattle.to_llvm_ir.specs.Narrow.{IsNarrowBlockAt}
+use Rattle.to_llvm_ir.proofs.narrow.all_narrow.Goals as goal
+
+pub loop-block-preserved : goal.loop-block-preserved
+loop-block-preserved c = all_more (IsNarrowBlockAt c.args.ctx.now) c.args.blocks.now c.loop-block.block-index _ c.loop-block.invariant (omega arith) (c.is_narrow_block.ensures.0 c.if-not-is_narrow_block.false)

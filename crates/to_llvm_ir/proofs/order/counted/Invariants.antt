@@ -1,0 +1,7 @@
+-- The numbers so far are counted.
+use Rattle.std.proofs.Common.{◌≡◌}
+use Rattle.std.specs.List.{range_with_len}
+use Rattle.to_llvm_ir.proofs.order.counted.Given as goal
+
+abbrev pub invariant-loop-i : goal.invariant-loop-i
+invariant-loop-i l = l.order.items ≡ range_with_len 0 l.i

@@ -1,0 +1,227 @@
+//! Tests of operations, blocks and functions: whether they are as narrow as the form that is exported.
+
+ghost use Rattle.std.specs.Prelude.{◌≡◌, ◌<◌, ◌↔◌, ◌∷◌, IsTrue, IfSome, All, Some, length, slice_get};
+ghost use Rattle.dialect_core.specs.declared.linkage.LinkageAttr.TheVariants.{ExternalLinkage};
+ghost use Rattle.dialect_core.specs.declared.ops.OpKind.TheVariants as kinds;
+ghost use Rattle.dialect_core.specs.Lists.{list_at, from_op};
+ghost use Rattle.dialect_core.specs.ContextData.{IsSymbol, kind_at};
+ghost use Rattle.dialect_core.specs.Data.{IsTyped, held};
+ghost use Rattle.dialect_core.specs.WellFormed.{IsPlainAt, IsNarrowFunc};
+ghost use Rattle.dialect_core.specs.Checking.{func_at};
+ghost use Rattle.to_llvm_ir.specs.Narrow.{IsNarrowAt, IsNarrowLine, AreNarrowLines, IsNarrowBlockAt, HasNoConstant, AreNarrowBlocks, IsNarrowHead, AreNarrowFuncs, is_constant_at, is_constant_next};
+
+use crate::narrow_types::{all_short, is_narrow_signature, is_plain, is_short};
+use dialect_core::context::Context;
+use dialect_core::linkage::LinkageAttr;
+use dialect_core::numbers::{BlockRef, OpRef};
+use dialect_core::ops::OpKind;
+
+/// The operation after another in a block. What is left of the block's list from the one is it and what is left from
+/// the other.
+fn next_in_block(ctx: &Context, block: BlockRef, op: OpRef) -> Option<OpRef>
+    requires block { block.0 < length ctx.now.blocks }
+    requires op { op.0 < length ctx.now.ops }
+    requires here { Some op ≡ slice_get (from_op (Some op) (list_at ctx.now.lists block)) 0 }
+    ensures rest { from_op (Some op) (list_at ctx.now.lists block) ≡ op ∷ from_op result (list_at ctx.now.lists block) }
+    ensures head { result ≡ slice_get (from_op result (list_at ctx.now.lists block)) 0 }
+    ensures within { IfSome result (λ o. o.0 < length ctx.now.ops) }
+{
+    let _first = ctx.first_op(block);
+    ctx.next_op(op)
+}
+
+/// The first operation of a block. What is left of its list from that one is the list.
+fn first_in_block(ctx: &Context, block: BlockRef) -> Option<OpRef>
+    requires { block.0 < length ctx.now.blocks }
+    ensures rest { from_op result (list_at ctx.now.lists block) ≡ list_at ctx.now.lists block }
+    ensures head { result ≡ slice_get (list_at ctx.now.lists block) 0 }
+    ensures within { IfSome result (λ o. o.0 < length ctx.now.ops) }
+{
+    ctx.first_op(block)
+}
+
+/// Whether an operation is a constant.
+fn is_constant(ctx: &Context, op: OpRef) -> bool
+    requires { op.0 < length ctx.now.ops }
+    ensures { result ≡ is_constant_at ctx.now op }
+{
+    match ctx.op_kind(op) {
+        OpKind::Constant(..) => true,
+        _ => false,
+    }
+}
+
+/// Whether there is an operation and it is a constant.
+fn is_next_constant(ctx: &Context, next: Option<OpRef>) -> bool
+    requires { IfSome next (λ o. o.0 < length ctx.now.ops) }
+    ensures { result ≡ is_constant_next ctx.now next }
+{
+    match next {
+        Some(op) => is_constant(ctx, op),
+        None => false,
+    }
+}
+
+/// Whether the result of an operation, where it has one, is of 1 to 64 bits, and its name is plain.
+fn is_narrow_op(ctx: &Context, op: OpRef) -> bool
+    requires op { op.0 < length ctx.now.ops }
+    requires typed { IsTyped ctx.now }
+    ensures { IsTrue result ↔ IsNarrowAt ctx.now op }
+{
+    match ctx.result_type(op) {
+        Some(ty) => is_short(ctx.types(), ty) && is_plain(ctx.op_name(op)),
+        None => is_plain(ctx.op_name(op)),
+    }
+}
+
+/// Whether an operation is narrow, and is a constant where the next is one.
+fn is_narrow_line(ctx: &Context, op: OpRef, next: Option<OpRef>) -> bool
+    requires op { op.0 < length ctx.now.ops }
+    requires next { IfSome next (λ o. o.0 < length ctx.now.ops) }
+    requires typed { IsTyped ctx.now }
+    ensures { IsTrue result ↔ IsNarrowLine ctx.now op next }
+{
+    if is_next_constant(ctx, next) && !is_constant(ctx, op) {
+        return false;
+    }
+    is_narrow_op(ctx, op)
+}
+
+/// Whether the operations of a block are narrow, its constants first.
+fn are_narrow_lines(ctx: &Context, block: BlockRef) -> bool
+    requires block { block.0 < length ctx.now.blocks }
+    requires typed { IsTyped ctx.now }
+    ensures { IsTrue result ↔ AreNarrowLines ctx.now (list_at ctx.now.lists block) }
+{
+    let mut next = first_in_block(ctx, block);
+    while let Some(op) = next {
+        let after = next_in_block(ctx, block, op);
+        if !is_narrow_line(ctx, op, after) {
+            return false;
+        }
+        next = after;
+    }
+    true
+}
+
+/// Whether a block is narrow, its constants first.
+fn is_narrow_block(ctx: &Context, block: BlockRef) -> bool
+    requires block { block.0 < length ctx.now.blocks }
+    requires typed { IsTyped ctx.now }
+    ensures { IsTrue result ↔ IsNarrowBlockAt ctx.now block }
+{
+    if !is_plain(ctx.block_label(block)) {
+        return false;
+    }
+    if !all_short(ctx.types(), ctx.block_args(block)) {
+        return false;
+    }
+    are_narrow_lines(ctx, block)
+}
+
+/// Whether a block begins with no constant.
+fn has_no_constant(ctx: &Context, block: BlockRef) -> bool
+    requires { block.0 < length ctx.now.blocks }
+    ensures { IsTrue result ↔ HasNoConstant ctx.now block }
+{
+    !is_next_constant(ctx, first_in_block(ctx, block))
+}
+
+/// Whether blocks are narrow, the constants of each first.
+fn all_narrow(ctx: &Context, blocks: &[BlockRef]) -> bool
+    requires blocks { All (λ b. b.0 < length ctx.now.blocks) blocks.now }
+    requires typed { IsTyped ctx.now }
+    ensures { IsTrue result ↔ All (IsNarrowBlockAt ctx.now) blocks.now }
+{
+    for block in blocks {
+        if !is_narrow_block(ctx, *block) {
+            return false;
+        }
+    }
+    true
+}
+
+/// Whether no block of these begins with a constant.
+fn have_no_constants(ctx: &Context, blocks: &[BlockRef]) -> bool
+    requires { All (λ b. b.0 < length ctx.now.blocks) blocks.now }
+    ensures { IsTrue result ↔ All (HasNoConstant ctx.now) blocks.now }
+{
+    for block in blocks {
+        if !has_no_constant(ctx, *block) {
+            return false;
+        }
+    }
+    true
+}
+
+/// Whether blocks are those of a narrow function: there is a first, and it alone has constants, which come first.
+fn are_narrow_blocks(ctx: &Context, blocks: &[BlockRef]) -> bool
+    requires blocks { All (λ b. b.0 < length ctx.now.blocks) blocks.now }
+    requires typed { IsTyped ctx.now }
+    ensures { IsTrue result ↔ AreNarrowBlocks ctx.now blocks.now }
+{
+    let [_, more @ ..] = blocks else {
+        return false;
+    };
+    all_narrow(ctx, blocks) && have_no_constants(ctx, more)
+}
+
+/// Whether a linkage is external.
+fn is_external(linkage: LinkageAttr) -> bool
+    ensures { IsTrue result ↔ linkage ≡ ExternalLinkage }
+{
+    match linkage {
+        LinkageAttr::ExternalLinkage => true,
+        _ => false,
+    }
+}
+
+/// Whether a function is narrow but for its blocks: its name, its linkage and its type.
+fn is_narrow_head(ctx: &Context, func: OpRef) -> bool
+    requires func { IsSymbol ctx.now.ops func }
+    requires within { func.0 < length ctx.now.ops }
+    requires typed { IsTyped ctx.now }
+    ensures { IsTrue result ↔ IsNarrowHead ctx.now func }
+{
+    if !is_plain(ctx.op_name(func)) {
+        return false;
+    }
+    if !is_external(ctx.symbol_linkage(func)) {
+        return false;
+    }
+    is_narrow_signature(ctx.types(), ctx.symbol_type(func))
+}
+
+/// Whether a function is narrow.
+fn is_narrow_func(ctx: &Context, func: OpRef) -> bool
+    requires within { func.0 < length ctx.now.ops }
+    requires typed { IsTyped ctx.now }
+    requires kind { kind_at ctx.now.ops func ≡ Some kinds.Func }
+    requires plain { All (IsPlainAt ctx.now) (held ctx.now func.0) }
+    ensures { IsTrue result ↔ IsNarrowFunc (func_at ctx.now func) }
+{
+    let blocks = ctx.region(func);
+    if !is_narrow_head(ctx, func) {
+        return false;
+    }
+    are_narrow_blocks(ctx, blocks)
+}
+
+/// Whether the functions of a block are narrow.
+pub fn are_narrow_funcs(ctx: &Context, block: BlockRef) -> bool
+    requires block { block.0 < length ctx.now.blocks }
+    requires typed { IsTyped ctx.now }
+    requires kinds { All (λ o. kind_at ctx.now.ops o ≡ Some kinds.Func) (list_at ctx.now.lists block) }
+    requires plain { All (λ o. All (IsPlainAt ctx.now) (held ctx.now o.0)) (list_at ctx.now.lists block) }
+    ensures { IsTrue result ↔ AreNarrowFuncs ctx.now (list_at ctx.now.lists block) }
+{
+    let mut next = first_in_block(ctx, block);
+    while let Some(op) = next {
+        let after = next_in_block(ctx, block, op);
+        if !is_narrow_func(ctx, op) {
+            return false;
+        }
+        next = after;
+    }
+    true
+}
