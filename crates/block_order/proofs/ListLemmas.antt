@@ -1,6 +1,7 @@
 -- Lists: what stands at a place, what a list contains, what stands before what.
 use Rattle.std.proofs.Common.{◌≡◌, ◌≢◌, ◌<◌, ◌≤◌, ◌+◌, ◌-◌, ℕ, zero, suc, List, [], ◌∷◌, ◌++◌, Some, length, slice_get, get_or, sym, ap, ◌∙◌, refl, subst, arith, inl, inr, ◌⊎◌, All, AllPairs, Contains, length-append}
 use Rattle.std.proofs.lemmas.List.{get_or_append_left, get_or-append_right, get_or-append-add, get_or_push, length_push}
+use Rattle.std.proofs.lemmas.Grind.{get_or_default_zero}
 use Rattle.std.proofs.lemmas.List.Elements.{Contains-get_or}
 use Rattle.std.proofs.lemmas.Option.{slice_get_within, get_or_from_slice_get, slice_get-get_or}
 use Rattle.std.proofs.lemmas.Bool.{cases_lt, cases_order}
@@ -41,6 +42,10 @@ contains_at xs i a e = (i, slice_get_within xs i a e, get_or_from_slice_get xs i
 
 pub found_at : {X : Type 0} (xs : List X) (a : X) (h : Contains xs a) → slice_get xs h.0 ≡ Some a
 found_at xs a h = slice_get-get_or xs h.0 a h.1 ∙ ap Some h.2
+
+-- a number of a list stands at its place
+pub place_of : (xs : List ℕ) (a : ℕ) (h : Contains xs a) → get_or xs h.0 0 ≡ a
+place_of xs a h = sym (get_or_default_zero xs h.0 a h.1) ∙ h.2
 
 pub contains_none : {X : Type 0} (a : X) → Contains [] a → ⊥
 contains_none a h = omega (arith, h.1)

@@ -1,6 +1,6 @@
 -- How far the printing of a block's arguments has come.
-use Rattle.std.proofs.Common.{◌≡◌, ◌<◌, ◌+◌, ℕ, suc, List, [], ◌∷◌, ◌++◌, Option, length, get_or, take, map, ap, sym, refl, ◌∙◌, arith, append_assoc}
-use Rattle.std.proofs.lemmas.List.{take_more, map-append, length-map, length-take-le}
+use Rattle.std.proofs.Common.{◌≡◌, ◌<◌, ◌≤◌, ◌+◌, ℕ, suc, List, [], ◌∷◌, ◌++◌, Option, length, get_or, take, map, ap, sym, refl, ◌∙◌, arith, append_assoc}
+use Rattle.std.proofs.lemmas.List.{take_all, take_more, map-append, length-map, length-take-le}
 use Rattle.dialect_types.specs.declared.types.TypeHandle.{TypeHandle}
 use Rattle.dialect_types.specs.Trees.{TypeTree, type_at}
 use Rattle.dialect_types.specs.Text.{joined, comma_before}
@@ -42,3 +42,7 @@ module _ (values : Value → Option ℕ) (blocks : BlockRef → Option ℕ) wher
             ∙ ap (λ (x : List ℕ). start ++ x)
             (sym (ap joined texts ∙ joined-push (argument_texts values blocks b 0 (map (type_at ts) (take i args))) (argument_text values blocks b i (type_at ts (get_or args i d))) ∙ ap (λ (n : ℕ). joined (argument_texts values blocks b 0 (map (type_at ts) (take i args))) ++ (comma_before n ++ argument_text values blocks b i (type_at ts (get_or args i d)))) count));
       }
+
+  -- all of them do
+  pub arguments_all : (ts : List TypeTree) (b : BlockRef) (args : List TypeHandle) (i : ℕ) (before after : List ℕ) → length args ≤ i → Arguments ts b args i before after → after ≡ before ++ joined (argument_texts values blocks b 0 (map (type_at ts) args))
+  arguments_all ts b args i before after all h = h.printed ∙ ap (λ (xs : List TypeHandle). before ++ joined (argument_texts values blocks b 0 (map (type_at ts) xs))) (take_all i args all)

@@ -1,5 +1,5 @@
--- A well-formed function that is narrow is of the form.
-use Rattle.std.proofs.Common.{◌≡◌, ℕ, nat_eq, Bool, false, List, [], Option, Some, None, All, length, slice_get, ap, sym, subst, ◌∙◌, refl, arith}
+-- A well-formed function of its own values that is narrow is of the form.
+use Rattle.std.proofs.Common.{◌≡◌, ℕ, nat_eq, Bool, false, List, [], ◌∷◌, Option, Some, None, All, length, slice_get, ap, sym, subst, ◌∙◌, refl, arith}
 use Rattle.std.specs.Prelude.{IfSome}
 use Rattle.std.specs.List.{find}
 use Rattle.std.specs.Option.{option_and_then}
@@ -10,7 +10,7 @@ use Rattle.dialect_core.specs.declared.ops.Value.TheVariants.{Result, Argument}
 use Rattle.dialect_core.specs.declared.ops.Successor.{Successor}
 use Rattle.dialect_core.specs.Data.{Kind, ConstantOp, AddOp, ICmpOp, BrOp, CondBrOp, ReturnOp, UnreachableOp, DialectOp, DialectBlock, Func, ops_in, value_type}
 use Rattle.dialect_core.specs.Form.{IsShortInt, IsShortResult, IsOperand, IsFormEdge, IsFormKind, IsFormOp, IsFormBlock, IsFormFunc, Leads, Returns, result_of, types_list}
-use Rattle.dialect_core.specs.WellFormed.{AreEdges, IsEdge, IsOfKind, IsWellFormedOp, IsWellFormedBlock, IsWellFormedFunc, IsNarrowOp, IsNarrowBlock, IsNarrowFunc, IsNarrowSignature, Returned, IsValueOf, params_of}
+use Rattle.dialect_core.specs.WellFormed.{AreEdges, IsEdge, IsOfKind, IsWellFormedOp, IsWellFormedBlock, IsWellFormedFunc, IsNarrowOp, IsNarrowBlock, IsNarrowFunc, IsNarrowSignature, Returned, IsTypedBy, params_of}
 use Rattle.dialect_core.proofs.HoldLemmas.{flat_stands}
 use Rattle.dialect_core.proofs.FuncLemmas.{find_there}
 use Rattle.dialect_core.proofs.LineLemmas.{all_at, at_all}
@@ -41,25 +41,25 @@ module _ (g : Func) (narrow : All IsNarrowBlock g.blocks) where
   operand : (t : TypeTree) (v : Value) → value_type g v ≡ Some t → IsOperand g t v
   operand t v h = record { typed = h; short = short v t h }
 
-  edge : (s : Successor) → IsEdge g s → IsFormEdge g s
+  edge : (s : Successor) → IsEdge (value_type g) g s → IsFormEdge g s
   edge s e = record {
     no_entry = e.no_entry;
-    args = at_all (λ (v : Value). (type : TypeTree) × IsOperand g type v) s.args (λ k v at. let w = all_at (IsValueOf g) s.args e.args k v at in (w.0, operand w.0 v w.1));
+    args = at_all (λ (v : Value). (type : TypeTree) × IsOperand g type v) s.args (λ k v at. let w = all_at (IsTypedBy (value_type g)) s.args e.args k v at in (w.0, operand w.0 v w.1));
     typed = e.typed;
   }
 
-  leads : (o : DialectOp) (n : ℕ) → o.result ≡ None → AreEdges g n o.successors → Leads g o n
-  leads o n own e = record { result = own; count_is = e.0; edges = at_all (IsFormEdge g) o.successors (λ k s at. edge s (all_at (IsEdge g) o.successors e.1 k s at)) }
+  leads : (o : DialectOp) (n : ℕ) → o.result ≡ None → AreEdges (value_type g) g n o.successors → Leads g o n
+  leads o n own e = record { result = own; count_is = e.0; edges = at_all (IsFormEdge g) o.successors (λ k s at. edge s (all_at (IsEdge (value_type g) g) o.successors e.1 k s at)) }
 
   no_edges : (o : DialectOp) → o.result ≡ None → o.successors ≡ [] → Leads g o 0
   no_edges o own e = record { result = own; count_is = ap length e; edges = let P : List Successor → Type 0 = All (IsFormEdge g) in subst P (sym e) (λ k d l. absurd (omega arith)) }
 
-  returned : (t : TypeTree) (vs : List Value) → Returned g t vs → Returns g t vs
+  returned : (t : TypeTree) (vs : List Value) → Returned (value_type g) t vs → Returns g t vs
   returned VoidType vs h = let P : List Value → Type 0 = Returns g VoidType in subst P (sym h) tt
   returned (IntegerType w) vs h = let P : List Value → Type 0 = Returns g (IntegerType w) in subst P (sym h.1) (operand (IntegerType w) h.0 h.2)
   returned (FuncType r ps v) vs h = let P : List Value → Type 0 = Returns g (FuncType r ps v) in subst P (sym h.1) (operand (FuncType r ps v) h.0 h.2)
 
-  kind : (o : DialectOp) (k : Kind) → IfSome o.result IsShortInt → IsOfKind g o.operands o.result o.successors k → IsFormKind g o k
+  kind : (o : DialectOp) (k : Kind) → IfSome o.result IsShortInt → IsOfKind (value_type g) g o.operands o.result o.successors k → IsFormKind g o k
   kind o (ConstantOp (IntegerAttr t v)) s h = (h.0, h.1, h.3, h.4, h.2)
   kind o (AddOp flags) s h = (h.0, h.1.lhs, h.1.rhs, h.1.are, h.3, h.2, operand h.0 h.1.lhs h.1.left, operand h.0 h.1.rhs h.1.right)
   kind o (ICmpOp p) s h = (h.0.0, h.0.1.lhs, h.0.1.rhs, h.0.1.are, h.2, h.1, operand h.0.0 h.0.1.lhs h.0.1.left, operand h.0.0 h.0.1.rhs h.0.1.right)
@@ -68,11 +68,11 @@ module _ (g : Func) (narrow : All IsNarrowBlock g.blocks) where
   kind o ReturnOp s h = (returned (result_of g.type) o.operands h.0, no_edges o h.1 h.2)
   kind o UnreachableOp s h = (h.0, no_edges o h.1 h.2)
 
-  form_block : (b : DialectBlock) → IsWellFormedBlock g b → IsNarrowBlock b → IsFormBlock g b
+  form_block : (b : DialectBlock) → IsWellFormedBlock (value_type g) g b → IsNarrowBlock b → IsFormBlock g b
   form_block b w n = record {
     label = n.label;
     args = n.args;
-    ops = at_all (IsFormOp g) b.ops (λ k o at. let m = all_at IsNarrowOp b.ops n.ops k o at in record { kind = kind o o.kind m.result (all_at (IsWellFormedOp g) b.ops w.ops k o at); name = m.name });
+    ops = at_all (IsFormOp g) b.ops (λ k o at. let m = all_at IsNarrowOp b.ops n.ops k o at in record { kind = kind o o.kind m.result (all_at (IsWellFormedOp (value_type g) g) b.ops w.ops k o at); name = m.name });
     ends = w.ends;
   }
 
@@ -89,9 +89,20 @@ narrow_parts VoidType h = absurd h
 narrow_parts (IntegerType w) h = absurd h
 narrow_parts (FuncType r ps v) h = record { result = r; types = ps; is = ap (λ (v : Bool). FuncType r ps v) h.2; returns = h.0; takes = h.1 }
 
-pub form_of : (g : Func) → IsWellFormedFunc g → IsNarrowFunc g → IsFormFunc g
+-- the first block, and the others
+pub record Body (bs : List DialectBlock) : Type 0 where
+  pub entry : DialectBlock
+  pub more : List DialectBlock
+  pub are : bs ≡ entry ∷ more
+
+body_of : (bs : List DialectBlock) → ¬ (bs ≡ []) → Body bs
+body_of [] some = absurd (some refl)
+body_of (b ∷ bs) some = record { entry = b; more = bs; are = refl }
+
+pub form_of : (g : Func) → IsWellFormedFunc (value_type g) g → IsNarrowFunc g → IsFormFunc g
 form_of g w n =
     let p = narrow_parts g.type n.signature in
+    let b = body_of g.blocks n.body in
     record {
       name = n.name;
       named = w.named;
@@ -101,13 +112,11 @@ form_of g w n =
       returns = p.returns;
       takes = p.takes;
       linkage = n.linkage;
-      entry = n.constants.entry;
-      more = n.constants.more;
-      body = n.constants.are;
-      params = w.params n.constants.entry (ap (λ (bs : List DialectBlock). slice_get bs 0) n.constants.are) ∙ ap params_of p.is;
-      blocks = at_all (IsFormBlock g) g.blocks (λ k b at. form_block g n.blocks b (all_at (IsWellFormedBlock g) g.blocks w.blocks k b at) (all_at IsNarrowBlock g.blocks n.blocks k b at));
-      constants = n.constants.first;
-      others = n.constants.others;
+      entry = b.entry;
+      more = b.more;
+      body = b.are;
+      params = w.params b.entry (ap (λ (bs : List DialectBlock). slice_get bs 0) b.are) ∙ ap params_of p.is;
+      blocks = at_all (IsFormBlock g) g.blocks (λ k b at. form_block g n.blocks b (all_at (IsWellFormedBlock (value_type g) g) g.blocks w.blocks k b at) (all_at IsNarrowBlock g.blocks n.blocks k b at));
       block_numbers = w.block_numbers;
       numbers = w.numbers;
     }

@@ -1,10 +1,10 @@
 -- The values, blocks and edges of a function of a context.
-use Rattle.std.proofs.Common.{◌≡◌, ◌<◌, ℕ, zero, suc, Bool, true, false, not, nat_eq, if◌then◌else◌, List, [], ◌∷◌, ◌++◌, Option, Some, None, All, length, map, slice_get, get_or, ap, sym, subst, ◌∙◌, refl, arith}
+use Rattle.std.proofs.Common.{◌≡◌, ◌<◌, ◌≤◌, ◌+◌, ℕ, zero, suc, Bool, true, false, not, nat_eq, if◌then◌else◌, List, [], ◌∷◌, ◌++◌, Option, Some, None, All, length, map, slice_get, get_or, ap, sym, subst, ◌∙◌, refl, arith}
 use Rattle.std.specs.Prelude.{IsTrue, ◌↔◌}
 use Rattle.std.specs.List.{filter_map, flat_map, find, cons_option}
-use Rattle.std.specs.Option.{option_map, option_map_or, option_and_then}
+use Rattle.std.specs.Option.{IfSome, MatchOption, option_map, option_map_or, option_and_then}
 use Rattle.std.proofs.lemmas.List.Elements.{filter_map-append}
-use Rattle.std.proofs.lemmas.Option.{slice_get_within, slice_get-get_or, get_or_from_slice_get, none-some, same_Some}
+use Rattle.std.proofs.lemmas.Option.{slice_get_past, slice_get_within, slice_get-get_or, slice_get-map, get_or_from_slice_get, none-some, same_Some}
 use Rattle.dialect_types.specs.declared.types.TypeHandle.{TypeHandle}
 use Rattle.dialect_types.specs.Trees.{TypeTree, type_at, type_trees}
 use Rattle.dialect_core.specs.declared.numbers.OpRef.{OpRef}
@@ -16,9 +16,9 @@ use Rattle.dialect_core.specs.declared.ops.OpData.{OpData}
 use Rattle.dialect_core.specs.declared.ops.BlockData.{BlockData}
 use Rattle.dialect_core.specs.Lists.{Stands, list_at}
 use Rattle.dialect_core.specs.ContextData.{ContextData, region_at}
-use Rattle.dialect_core.specs.Data.{Kind, DialectOp, DialectBlock, Func, kind_of, op_of, op_at, block_of, block_in, held, ops_in, value_type}
-use Rattle.dialect_core.specs.WellFormed.{IsEdge, IsFirst, IsPastFirsts}
-use Rattle.dialect_core.specs.Checking.{PassesEach, func_at, target_args, tree_at}
+use Rattle.dialect_core.specs.Data.{Kind, DialectOp, DialectBlock, Func, kind_of, op_of, op_at, block_of, block_in, held, ops_in, value_type, type_in}
+use Rattle.dialect_core.specs.WellFormed.{IsEdge, IsFirst, IsPastFirsts, IsTypedBy, Typing}
+use Rattle.dialect_core.specs.Checking.{Passes, PassesEach, func_at, target_args, tree_at}
 use Rattle.dialect_core.proofs.ChainLemmas.{same_op}
 use Rattle.dialect_core.proofs.TestLemmas.{same_block, no_true}
 
@@ -160,12 +160,6 @@ module _ (c : ContextData) where
         sym (ap (option_and_then (λ (o : DialectOp). o.result))
         (find_op r ∙ found (op_at trees c.ops) (λ (o : DialectOp). o.number) (λ (o : OpRef). o.0) (op_number trees c.ops) same_op r (held c f.0) t.0 t.1))
 
-    pub no_result : (r : OpRef) → (Stands r (held c f.0) → ⊥) → None ≡ value_type g (Result r)
-    no_result r h =
-        sym (ap (option_and_then (λ (o : DialectOp). o.result))
-        (find_op r ∙ absent (op_at trees c.ops) (λ (o : DialectOp). o.number) (λ (o : OpRef). o.0) (op_number trees c.ops) r.0 (held c f.0)
-        (λ k z at same. absurd (h (k, at ∙ ap Some (same_op z r same))))))
-
     pub find_block : (b : BlockRef) → Stands b (region_at c.ops f.0) → find (λ (x : DialectBlock). nat_eq x.number b.0) g.blocks ≡ block_in trees c b
     find_block b t =
         ap (find (λ (x : DialectBlock). nat_eq x.number b.0)) blocks_are ∙ found (block_in trees c) (λ (x : DialectBlock). x.number) (λ (b : BlockRef). b.0) (block_number trees c) same_block b (region_at c.ops f.0) t.0 t.1
@@ -177,9 +171,6 @@ module _ (c : ContextData) where
 
     pub argument_value : (b : BlockRef) (i : ℕ) → Stands b (region_at c.ops f.0) → option_and_then (λ (x : DialectBlock). slice_get x.args i) (block_in trees c b) ≡ value_type g (Argument b i)
     argument_value b i t = sym (ap (option_and_then (λ (x : DialectBlock). slice_get x.args i)) (find_block b t))
-
-    pub no_argument : (b : BlockRef) (i : ℕ) → (Stands b (region_at c.ops f.0) → ⊥) → None ≡ value_type g (Argument b i)
-    no_argument b i h = sym (ap (option_and_then (λ (x : DialectBlock). slice_get x.args i)) (no_block b h))
 
     pub target_there : (b : BlockRef) (args : List TypeHandle) → Stands b (region_at c.ops f.0) → option_map (λ (x : BlockData). x.args) (slice_get c.blocks b.0) ≡ Some args → map (tree_at c) args ≡ target_args g b
     target_there b args t is =
@@ -247,7 +238,7 @@ module _ (c : ContextData) where
         by false differs = (λ t d at same. let e : entry.0 ≡ b.0 = entry_is entry d first at ∙ sym same in grind (arith, differs, e), λ h. refl)
 
     -- an edge by its target
-    pub edge_from : (s : Successor) → ((d : DialectBlock) → slice_get g.blocks 0 ≡ Some d → ¬ (s.block.0 ≡ d.number)) → PassesEach g (target_args g s.block) s.args → IsEdge g s
+    pub edge_from : (s : Successor) → ((d : DialectBlock) → slice_get g.blocks 0 ≡ Some d → ¬ (s.block.0 ≡ d.number)) → PassesEach (type_in c) (target_args g s.block) s.args → IsEdge (type_in c) g s
     edge_from s past each = record {
       no_entry = past;
       args = λ k d l. (each k (get_or s.args k d) (slice_get-get_or s.args k d l)).value;
@@ -262,26 +253,44 @@ module _ (c : ContextData) where
             (find_block s.block (of_b.1.0, of_b.1.1 ∙ ap Some e) ∙ ap (block_in trees c) (sym e) ∙ of_b.2)
 
 -- what an edge passes
-pub edge_passes : (g : Func) (s : Successor) → IsEdge g s → PassesEach g (target_args g s.block) s.args
-edge_passes g s e place v here = record {
-  value = subst (λ (v : Value). (type : TypeTree) × (value_type g v ≡ Some type)) (get_or_from_slice_get s.args place v v here) (e.args place v (slice_get_within s.args place v here));
+pub edge_passes : (types : Typing) (g : Func) (s : Successor) → IsEdge types g s → PassesEach types (target_args g s.block) s.args
+edge_passes types g s e place v here = record {
+  value = subst (IsTypedBy types) (get_or_from_slice_get s.args place v v here) (e.args place v (slice_get_within s.args place v here));
   typed = λ type wanted. by (find (λ (x : DialectBlock). nat_eq x.number s.block.0) g.blocks) refl type wanted;
 }
   where
-    by : (x : Option DialectBlock) → find (λ (x : DialectBlock). nat_eq x.number s.block.0) g.blocks ≡ x → (type : TypeTree) → slice_get (option_map_or (λ (x : DialectBlock). x.args) x []) place ≡ Some type → value_type g v ≡ Some type
+    by : (x : Option DialectBlock) → find (λ (x : DialectBlock). nat_eq x.number s.block.0) g.blocks ≡ x → (type : TypeTree) → slice_get (option_map_or (λ (x : DialectBlock). x.args) x []) place ≡ Some type → types v ≡ Some type
     by None is type wanted = absurd (none-some type wanted)
     by (Some b) is type wanted =
         let t = find_there (λ (x : DialectBlock). nat_eq x.number s.block.0) g.blocks b is in
         e.typed t.0 b place v type t.1 (let same : nat_eq b.number s.block.0 ≡ true = t.2 in grind (arith, same)) here wanted
 
+-- what is read at a place
+pub read_at : {R X : Type 0} {Q : R → Type 0} (now : R → X) (xs : List X) (i : ℕ) (r : Option R) → IfSome r (λ (x : R). now x ≡ get_or xs i (now x)) → MatchOption r (length xs ≤ i) Q → ((x : R) → Q x → i < length xs) → option_map now r ≡ slice_get xs i
+read_at now xs i None here there within = sym (slice_get_past xs i there)
+read_at now xs i (Some x) here there within = ap Some here ∙ sym (slice_get-get_or xs i (now x) (within x there))
+
+-- what an edge passes so far, and one value more
+pub pass_more : {X : Type 0} (types : Typing) (f : X → TypeTree) (ts : List X) (vs : List Value) (i : ℕ) (wanted : Option X) (x : Value) → ((k : ℕ) (v : Value) → k < i → slice_get vs k ≡ Some v → Passes types (slice_get (map f ts) k) v) → slice_get vs i ≡ Some x → wanted ≡ slice_get ts i → Passes types (option_map f wanted) x
+    → (k : ℕ) (v : Value) → k < i + 1 → slice_get vs k ≡ Some v → Passes types (slice_get (map f ts) k) v
+pass_more types f ts vs i wanted x before here is passes k v lt at = by (nat_eq k i) refl
+  where
+    by : (t : Bool) → nat_eq k i ≡ t → Passes types (slice_get (map f ts) k) v
+    by false differs = before k v (grind (arith, differs, lt)) at
+    by true same =
+        let e : i ≡ k = grind (arith, same) in
+        let value : x ≡ v = same_Some x v (sym here ∙ ap (slice_get vs) e ∙ at) in
+        let type : option_map f wanted ≡ slice_get (map f ts) k = ap (option_map f) is ∙ sym (slice_get-map f ts i) ∙ ap (slice_get (map f ts)) e in
+        subst (λ (w : Value). Passes types (slice_get (map f ts) k) w) value (subst (λ (o : Option TypeTree). Passes types o x) type passes)
+
 -- an edge that does not go to the first block is tested by what it passes
 pub edge_is : (c : ContextData) (f : OpRef) → ((k : ℕ) (b : BlockRef) → slice_get (region_at c.ops f.0) k ≡ Some b → b.0 < length c.blocks) → (s : Successor) (wanted : List TypeTree) (args : List Value) (t : Bool) → ((d : DialectBlock) → slice_get (func_at c f).blocks 0 ≡ Some d → ¬ (s.block.0 ≡ d.number)) → wanted ≡ target_args (func_at c f) s.block → args ≡ s.args
-    → (IsTrue t ↔ PassesEach (func_at c f) wanted args) → IsTrue t ↔ IsEdge (func_at c f) s
+    → (IsTrue t ↔ PassesEach (type_in c) wanted args) → IsTrue t ↔ IsEdge (type_in c) (func_at c f) s
 edge_is c f there s wanted args t past is are h =
-    let P : List TypeTree → Type 0 = λ w. IsTrue t ↔ PassesEach (func_at c f) w args in
-    let Q : List Value → Type 0 = λ vs. IsTrue t ↔ PassesEach (func_at c f) (target_args (func_at c f) s.block) vs in
-    let k : IsTrue t ↔ PassesEach (func_at c f) (target_args (func_at c f) s.block) s.args = subst Q are (subst P is h) in
-    (λ yes. edge_from c f there s past (k.0 yes), λ e. k.1 (edge_passes (func_at c f) s e))
+    let P : List TypeTree → Type 0 = λ w. IsTrue t ↔ PassesEach (type_in c) w args in
+    let Q : List Value → Type 0 = λ vs. IsTrue t ↔ PassesEach (type_in c) (target_args (func_at c f) s.block) vs in
+    let k : IsTrue t ↔ PassesEach (type_in c) (target_args (func_at c f) s.block) s.args = subst Q are (subst P is h) in
+    (λ yes. edge_from c f there s past (k.0 yes), λ e. k.1 (edge_passes (type_in c) (func_at c f) s e))
 
 -- the edges of an operation, as they are read
 pub past_firsts_is : (c : ContextData) (o : OpRef) (edges : List Successor) (t : Bool) → option_map (λ (x : OpData). x.successors) (slice_get c.ops o.0) ≡ Some edges → (IsTrue t ↔ All (λ (s : Successor). ¬ IsFirst c s.block) edges) → IsTrue t ↔ IsPastFirsts c o

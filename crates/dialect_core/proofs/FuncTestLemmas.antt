@@ -17,7 +17,7 @@ use Rattle.dialect_core.specs.declared.ops.OpData.{OpData}
 use Rattle.dialect_core.specs.declared.ops.BlockData.{BlockData}
 use Rattle.dialect_core.specs.Lists.{Once, list_at}
 use Rattle.dialect_core.specs.ContextData.{ContextData, IsSymbol, kind_at, symbol_at, region_at}
-use Rattle.dialect_core.specs.Data.{DialectOp, DialectBlock, Func, op_at, block_in, block_of, func_of, func_in, held, data_of, name_at}
+use Rattle.dialect_core.specs.Data.{DialectOp, DialectBlock, Func, op_at, block_in, block_of, func_of, func_in, held, data_of, name_at, type_in}
 use Rattle.dialect_core.specs.WellFormed.{IsInteger, IsSignature, IsPlainAt, IsPastFirsts, IsWellFormedBlock, IsWellFormedFunc, IsWellFormed, params_of, suits, suits_body, suits_declaration}
 use Rattle.dialect_core.specs.Checking.{AreApartFrom, AreFuncLines, AreLines, IsBlockAt, IsFuncAt, IsHead, block_at, func_at, tree_at}
 use Rattle.dialect_core.proofs.ChainLemmas.{same_op}
@@ -157,24 +157,24 @@ module _ (c : ContextData) (f : OpRef) where
         let w = stands_flat (list_at c.lists) (region_at c.ops f.0) b o k at (j, there_o) in
         all_at P (held c f.0) h w.0 o w.1)
 
-    each_block : All (IsBlockAt c (func_at c f)) (region_at c.ops f.0) → All (IsPlainAt c) (held c f.0) × All (IsPastFirsts c) (held c f.0) × All (IsWellFormedBlock (func_at c f)) (func_at c f).blocks
+    each_block : All (IsBlockAt c (func_at c f)) (region_at c.ops f.0) → All (IsPlainAt c) (held c f.0) × All (IsPastFirsts c) (held c f.0) × All (IsWellFormedBlock (type_in c) (func_at c f)) (func_at c f).blocks
     each_block h = (
       λ k d l. of_blocks (IsPlainAt c) (λ k b at. (all_at (IsBlockAt c (func_at c f)) (region_at c.ops f.0) h k b at).plain) k d l,
       λ k d l. of_blocks (IsPastFirsts c) (λ k b at. (all_at (IsBlockAt c (func_at c f)) (region_at c.ops f.0) h k b at).past_firsts) k d l,
-      λ k d l. at_all (IsWellFormedBlock (func_at c f)) (func_at c f).blocks (λ i y at.
+      λ k d l. at_all (IsWellFormedBlock (type_in c) (func_at c f)) (func_at c f).blocks (λ i y at.
           let w = made_of (block_in (type_trees c.types) c) (region_at c.ops f.0) i y (ap (λ (xs : List DialectBlock). slice_get xs i) (sym (blocks_are c f there)) ∙ at) in
           let same : block_at c w.0 ≡ y = same_Some (block_at c w.0) y (sym (block_data c (func_at c f) w.0 (there w.1.0 w.0 w.1.1)) ∙ w.2) in
-          subst (IsWellFormedBlock (func_at c f)) same (all_at (IsBlockAt c (func_at c f)) (region_at c.ops f.0) h w.1.0 w.0 w.1.1).block) k d l,
+          subst (IsWellFormedBlock (type_in c) (func_at c f)) same (all_at (IsBlockAt c (func_at c f)) (region_at c.ops f.0) h w.1.0 w.0 w.1.1).block) k d l,
     )
 
     block_some : (k : ℕ) (b : BlockRef) → slice_get (region_at c.ops f.0) k ≡ Some b → (y : DialectBlock) × (block_in (type_trees c.types) c b ≡ Some y)
     block_some k b at = (block_at c b, block_data c (func_at c f) b (there k b at))
 
-    from_blocks : All (IsPlainAt c) (held c f.0) → All (IsPastFirsts c) (held c f.0) → All (IsWellFormedBlock (func_at c f)) (func_at c f).blocks → All (IsBlockAt c (func_at c f)) (region_at c.ops f.0)
+    from_blocks : All (IsPlainAt c) (held c f.0) → All (IsPastFirsts c) (held c f.0) → All (IsWellFormedBlock (type_in c) (func_at c f)) (func_at c f).blocks → All (IsBlockAt c (func_at c f)) (region_at c.ops f.0)
     from_blocks plain past blocks = at_all (IsBlockAt c (func_at c f)) (region_at c.ops f.0) (λ k b at. record {
       plain = to_blocks (IsPlainAt c) plain k b at;
       past_firsts = to_blocks (IsPastFirsts c) past k b at;
-      block = all_at (IsWellFormedBlock (func_at c f)) (func_at c f).blocks blocks k (block_at c b)
+      block = all_at (IsWellFormedBlock (type_in c) (func_at c f)) (func_at c f).blocks blocks k (block_at c b)
           (ap (λ (xs : List DialectBlock). slice_get xs k) (blocks_are c f there) ∙ same_place (block_in (type_trees c.types) c) (region_at c.ops f.0) block_some k ∙ ap (option_and_then (block_in (type_trees c.types) c)) at ∙ block_data c (func_at c f) b (there k b at));
     })
 
@@ -275,7 +275,7 @@ module _ (c : ContextData) where
           funcs_alone = at_all (λ (o : OpRef). kind_at c.ops o ≡ Some K.Func) (held c m) kinds;
           plain = at_all (λ (o : OpRef). All (IsPlainAt c) (held c o.0)) (held c m) (λ k o at. (funcs_at (held c m) h k o at).plain);
           past_firsts = at_all (λ (o : OpRef). All (IsPastFirsts c) (held c o.0)) (held c m) (λ k o at. (funcs_at (held c m) h k o at).past_firsts);
-          functions = at_all IsWellFormedFunc fs (λ k g at. let w = there_func kinds k g at in subst IsWellFormedFunc w.2 (funcs_at (held c m) h k w.0 w.1).func);
+          functions = at_all (IsWellFormedFunc (type_in c)) fs (λ k g at. let w = there_func kinds k g at in subst (IsWellFormedFunc (type_in c)) w.2 (funcs_at (held c m) h k w.0 w.1).func);
           names = λ i j f g a b same.
               let p = there_func kinds i f a in
               let q = there_func kinds j g b in
@@ -290,7 +290,7 @@ module _ (c : ContextData) where
           kind = kinds k o at;
           plain = all_at (λ (o : OpRef). All (IsPlainAt c) (held c o.0)) (held c m) w.plain k o at;
           past_firsts = all_at (λ (o : OpRef). All (IsPastFirsts c) (held c o.0)) (held c m) w.past_firsts k o at;
-          func = all_at IsWellFormedFunc fs w.functions k (func_at c o) (func_there kinds k o at);
+          func = all_at (IsWellFormedFunc (type_in c)) fs w.functions k (func_at c o) (func_there kinds k o at);
         })
         (λ i j p q a b same. w.names i j (func_at c p) (func_at c q) (func_there kinds i p a) (func_there kinds j q b) (func_name c p ∙ same ∙ sym (func_name c q)))
 

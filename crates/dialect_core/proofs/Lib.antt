@@ -21,6 +21,7 @@ pub mod WalkLemmas
 pub mod NumberLemmas
 pub mod FormLaws
 pub mod WellLaws
+pub mod TypingLaws
 pub mod FuncLemmas
 pub mod FromLemmas
 pub mod FuncTestLemmas
@@ -28,6 +29,7 @@ pub mod OwnEdgeLaws
 pub mod HeldLemmas
 pub mod HoldLemmas
 pub mod CountLemmas
+pub mod KeepLemmas
 pub mod PrintLemmas
 pub mod ArgumentPrintLemmas
 pub mod ModulePrintLemmas

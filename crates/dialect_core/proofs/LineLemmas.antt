@@ -11,7 +11,7 @@ use Rattle.dialect_core.specs.declared.ops.OpKind.TheVariants as K
 use Rattle.dialect_core.specs.declared.ops.OpData.{OpData}
 use Rattle.dialect_core.specs.Lists.{Once}
 use Rattle.dialect_core.specs.ContextData.{ContextData, is_plain}
-use Rattle.dialect_core.specs.Data.{Kind, DialectOp, Func, kind_of, op_of, op_at}
+use Rattle.dialect_core.specs.Data.{Kind, DialectOp, Func, kind_of, op_of, op_at, type_in}
 use Rattle.dialect_core.specs.Form.{EndsInOnly, is_terminator, is_terminator_kind}
 use Rattle.dialect_core.specs.WellFormed.{IsPlainAt, IsPastFirsts, IsWellFormedOp}
 use Rattle.dialect_core.specs.Checking.{AreLines, IsLine, IsOpAt, ends_kind, ends_at}
@@ -108,11 +108,11 @@ module _ (c : ContextData) where
     with_head : (x : OpRef) (xs : List OpRef) (d : DialectOp) → op x ≡ Some d → filter_map op (x ∷ xs) ≡ d ∷ filter_map op xs
     with_head x xs d is = ap (λ (o : Option DialectOp). cons_option o (filter_map op xs)) is
 
-    pub lines_ops : (xs : List OpRef) → AreLines c g xs → All (IsWellFormedOp g) (filter_map op xs)
-    lines_ops [] h = all_none (IsWellFormedOp g)
+    pub lines_ops : (xs : List OpRef) → AreLines c g xs → All (IsWellFormedOp (type_in c) g) (filter_map op xs)
+    lines_ops [] h = all_none (IsWellFormedOp (type_in c) g)
     lines_ops (x ∷ xs) h =
-        let P : List DialectOp → Type 0 = All (IsWellFormedOp g) in
-        subst P (sym (with_head x xs h.0.fits.0 h.0.fits.1)) (λ k d l. all_cons (IsWellFormedOp g) h.0.fits.0 (filter_map op xs) h.0.fits.2 (lines_ops xs h.1) k d l)
+        let P : List DialectOp → Type 0 = All (IsWellFormedOp (type_in c) g) in
+        subst P (sym (with_head x xs h.0.fits.0 h.0.fits.1)) (λ k d l. all_cons (IsWellFormedOp (type_in c) g) h.0.fits.0 (filter_map op xs) h.0.fits.2 (lines_ops xs h.1) k d l)
 
     pub lines_end : (x : OpRef) (xs : List OpRef) → AreLines c g (x ∷ xs) → EndsInOnly (filter_map op (x ∷ xs))
     lines_end x [] h = record {
@@ -150,21 +150,21 @@ module _ (c : ContextData) where
             let rest : f ∷ os ≡ front ++ e.last ∷ [] = cc in
             (ap is_terminator same ∙ before 0 h (omega arith), record { front = front; last = e.last; are = rest; ends = e.ends; before = λ k d l. all_tail (λ (o : DialectOp). is_terminator o ≡ false) h front before k d l })
 
-    pub lines_from : (x : OpRef) (xs : List OpRef) → All (IsPlainAt c) (x ∷ xs) → All (IsPastFirsts c) (x ∷ xs) → All (IsWellFormedOp g) (filter_map op (x ∷ xs)) → EndsInOnly (filter_map op (x ∷ xs)) → AreLines c g (x ∷ xs)
+    pub lines_from : (x : OpRef) (xs : List OpRef) → All (IsPlainAt c) (x ∷ xs) → All (IsPastFirsts c) (x ∷ xs) → All (IsWellFormedOp (type_in c) g) (filter_map op (x ∷ xs)) → EndsInOnly (filter_map op (x ∷ xs)) → AreLines c g (x ∷ xs)
     lines_from x [] plain past ops ends =
         let p = plain_op x (plain 0 x (omega arith)) in
-        let P : List DialectOp → Type 0 = All (IsWellFormedOp g) in
+        let P : List DialectOp → Type 0 = All (IsWellFormedOp (type_in c) g) in
         let mine = subst P (with_head x [] p.0 p.1) ops in
         (record { fits = (p.0, p.1, mine 0 p.0 (omega arith)); ends = sym p.2 ∙ ends_one p.0 (subst EndsInOnly (with_head x [] p.0 p.1) ends); past_firsts = past 0 x (omega arith) }, tt)
     lines_from x (y ∷ ys) plain past ops ends =
         let p = plain_op x (plain 0 x (omega arith)) in
         let q = plain_op y (plain 1 x (omega arith)) in
-        let P : List DialectOp → Type 0 = All (IsWellFormedOp g) in
+        let P : List DialectOp → Type 0 = All (IsWellFormedOp (type_in c) g) in
         let mine = subst P (with_head x (y ∷ ys) p.0 p.1) ops in
         let both = with_head x (y ∷ ys) p.0 p.1 ∙ ap (λ (os : List DialectOp). p.0 ∷ os) (with_head y ys q.0 q.1) in
         let split = ends_more p.0 q.0 (filter_map op ys) (subst EndsInOnly both ends) in (
           record { fits = (p.0, p.1, mine 0 p.0 (omega arith)); ends = sym p.2 ∙ split.0; past_firsts = past 0 x (omega arith) },
-          lines_from y ys (λ k d l. all_tail (IsPlainAt c) x (y ∷ ys) plain k d l) (λ k d l. all_tail (IsPastFirsts c) x (y ∷ ys) past k d l) (λ k d l. all_tail (IsWellFormedOp g) p.0 (filter_map op (y ∷ ys)) mine k d l) (subst EndsInOnly (sym (with_head y ys q.0 q.1)) split.1),
+          lines_from y ys (λ k d l. all_tail (IsPlainAt c) x (y ∷ ys) plain k d l) (λ k d l. all_tail (IsPastFirsts c) x (y ∷ ys) past k d l) (λ k d l. all_tail (IsWellFormedOp (type_in c) g) p.0 (filter_map op (y ∷ ys)) mine k d l) (subst EndsInOnly (sym (with_head y ys q.0 q.1)) split.1),
         )
 
     no_end : EndsInOnly [] → ⊥
@@ -180,7 +180,7 @@ module _ (c : ContextData) where
     none_end (x ∷ xs) is e = none-some x (sym is)
 
     -- the operations of a block that has some
-    pub lines_are : (xs : List OpRef) → ¬ (slice_get xs 0 ≡ None) → AreLines c g xs ↔ (All (IsPlainAt c) xs × All (IsPastFirsts c) xs × All (IsWellFormedOp g) (filter_map op xs) × EndsInOnly (filter_map op xs))
+    pub lines_are : (xs : List OpRef) → ¬ (slice_get xs 0 ≡ None) → AreLines c g xs ↔ (All (IsPlainAt c) xs × All (IsPastFirsts c) xs × All (IsWellFormedOp (type_in c) g) (filter_map op xs) × EndsInOnly (filter_map op xs))
     lines_are [] some = absurd (some refl)
     lines_are (x ∷ xs) some = (λ h. (lines_plain (x ∷ xs) h, lines_past (x ∷ xs) h, lines_ops (x ∷ xs) h, lines_end x xs h), λ h. lines_from x xs h.0 h.1 h.2 h.3)
 

@@ -14,16 +14,16 @@ use Rattle.dialect_core.specs.declared.ops.Symbol.{Symbol}
 use Rattle.dialect_core.specs.declared.ops.OpKind.{OpKind}
 use Rattle.dialect_core.specs.declared.ops.OpData.{OpData}
 use Rattle.dialect_core.specs.ContextData.{ContextData, symbol_at}
-use Rattle.dialect_core.specs.Data.{Kind, DialectOp, Func, kind_of, op_of, op_at, IsTyped, HasKindTypesBelow}
+use Rattle.dialect_core.specs.Data.{Kind, DialectOp, Func, kind_of, op_of, op_at, IsTyped, HasKindTypesBelow, type_in}
 use Rattle.dialect_core.specs.Form.{result_of}
 use Rattle.dialect_core.specs.WellFormed.{IsOfKind, IsWellFormedOp, Returned}
 use Rattle.dialect_core.specs.Checking.{IsKindAt, IsOpAt, func_at, tree_at}
 
 -- ---- kinds
 
-pub kind_by : (c : ContextData) (g : Func) (kind : OpKind) (operands : List Value) (own : Option TypeHandle) (edges : List Successor) (k : Kind) (t : Bool) → kind_of (type_trees c.types) kind ≡ Some k → (IsTrue t ↔ IsOfKind g operands (option_map (tree_at c) own) edges k) → IsTrue t ↔ IsKindAt c g kind operands own edges
+pub kind_by : (c : ContextData) (g : Func) (kind : OpKind) (operands : List Value) (own : Option TypeHandle) (edges : List Successor) (k : Kind) (t : Bool) → kind_of (type_trees c.types) kind ≡ Some k → (IsTrue t ↔ IsOfKind (type_in c) g operands (option_map (tree_at c) own) edges k) → IsTrue t ↔ IsKindAt c g kind operands own edges
 kind_by c g kind operands own edges k t is h =
-    let P : Kind → Type 0 = λ k. IsOfKind g operands (option_map (tree_at c) own) edges k in
+    let P : Kind → Type 0 = λ k. IsOfKind (type_in c) g operands (option_map (tree_at c) own) edges k in
     (λ yes. (k, is, h.0 yes), λ w. h.1 (subst P (same_Some w.0 k (sym w.1 ∙ is)) w.2))
 
 pub kind_typed : (c : ContextData) (o : OpRef) (kind : OpKind) → IsTyped c → option_map (λ (x : OpData). x.kind) (slice_get c.ops o.0) ≡ Some kind → HasKindTypesBelow (length c.types) kind
@@ -50,7 +50,7 @@ module _ (c : ContextData) (g : Func) (o : OpRef) where
     where
       by : (k : Option Kind) → kind_of (type_trees c.types) x.kind ≡ k → option_map (λ (k : Kind). record { number = o.0; name = x.name; kind = k; operands = x.operands; successors = x.successors; result = option_map (tree_at c) x.result }) k ≡ Some w.0 → IsKindAt c g x.kind x.operands x.result x.successors
       by None is e = absurd (none-some w.0 e)
-      by (Some k) is e = let P : DialectOp → Type 0 = IsWellFormedOp g in (k, is, subst P (sym (same_Some _ w.0 e)) w.2)
+      by (Some k) is e = let P : DialectOp → Type 0 = IsWellFormedOp (type_in c) g in (k, is, subst P (sym (same_Some _ w.0 e)) w.2)
 
   pub op_is : (kind : OpKind) (operands : List Value) (own : Option TypeHandle) (edges : List Successor) (t : Bool)
       → option_map (λ (x : OpData). x.kind) (slice_get c.ops o.0) ≡ Some kind → option_map (λ (x : OpData). x.operands) (slice_get c.ops o.0) ≡ Some operands → option_map (λ (x : OpData). x.result) (slice_get c.ops o.0) ≡ Some own → option_map (λ (x : OpData). x.successors) (slice_get c.ops o.0) ≡ Some edges
@@ -84,18 +84,18 @@ pub func_type : (c : ContextData) (f : OpRef) (t : TypeHandle) → option_map (�
 func_type = type_is
 
 pub func_returns : (c : ContextData) (f : OpRef) (t : TypeHandle) (k : TypeKind) (r : TypeHandle) (ps : List TypeHandle) (v : Bool) (operands : List Value) (answer : Bool) → option_map (λ (s : Symbol). s.ty) (symbol_at c.ops f) ≡ Some t → k ≡ T.Func r ps v → tree_at c t ≡ type_tree (type_trees c.types) k
-    → (IsTrue answer ↔ Returned (func_at c f) (tree_at c r) operands) → IsTrue answer ↔ Returned (func_at c f) (result_of (func_at c f).type) operands
+    → (IsTrue answer ↔ Returned (type_in c) (tree_at c r) operands) → IsTrue answer ↔ Returned (type_in c) (result_of (func_at c f).type) operands
 func_returns c f t k r ps v operands answer symbol is tree h =
     let e : tree_at c r ≡ result_of (func_at c f).type = sym (ap result_of (type_is c f t symbol ∙ tree ∙ ap (type_tree (type_trees c.types)) is)) in
-    let P : TypeTree → Type 0 = λ x. IsTrue answer ↔ Returned (func_at c f) x operands in
+    let P : TypeTree → Type 0 = λ x. IsTrue answer ↔ Returned (type_in c) x operands in
     subst P e h
 
 -- a type that is no function type returns nothing
 pub func_void : (c : ContextData) (f : OpRef) (t : TypeHandle) (k : TypeKind) (operands : List Value) (answer : Bool) → option_map (λ (s : Symbol). s.ty) (symbol_at c.ops f) ≡ Some t → ((r : TypeHandle) (ps : List TypeHandle) (v : Bool) → k ≡ T.Func r ps v → ⊥) → tree_at c t ≡ type_tree (type_trees c.types) k
-    → (IsTrue answer ↔ operands ≡ []) → IsTrue answer ↔ Returned (func_at c f) (result_of (func_at c f).type) operands
+    → (IsTrue answer ↔ operands ≡ []) → IsTrue answer ↔ Returned (type_in c) (result_of (func_at c f).type) operands
 func_void c f t k operands answer symbol other tree h =
     let e : VoidType ≡ result_of (func_at c f).type = sym (ap result_of (type_is c f t symbol ∙ tree) ∙ by k other) in
-    let P : TypeTree → Type 0 = λ x. IsTrue answer ↔ Returned (func_at c f) x operands in
+    let P : TypeTree → Type 0 = λ x. IsTrue answer ↔ Returned (type_in c) x operands in
     subst P e h
   where
     by : (k : TypeKind) → ((r : TypeHandle) (ps : List TypeHandle) (v : Bool) → k ≡ T.Func r ps v → ⊥) → result_of (type_tree (type_trees c.types) k) ≡ VoidType

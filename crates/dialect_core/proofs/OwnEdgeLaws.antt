@@ -1,5 +1,5 @@
 -- A module of well-formed functions, whose edges lead to blocks of their own functions, is well-formed.
-use Rattle.std.proofs.Common.{◌≡◌, ◌<◌, ◌≤◌, ℕ, List, [], ◌∷◌, Option, Some, None, All, length, slice_get, ap, sym, subst, ◌∙◌, refl, arith}
+use Rattle.std.proofs.Common.{◌≡◌, ◌<◌, ◌≤◌, ℕ, List, [], Option, Some, None, All, length, slice_get, ap, sym, subst, ◌∙◌, refl, arith}
 use Rattle.std.specs.List.{filter_map}
 use Rattle.std.specs.Option.{option_map, option_and_then}
 use Rattle.std.proofs.lemmas.Option.{none-some, same_Some, slice_get_within}
@@ -12,9 +12,9 @@ use Rattle.dialect_core.specs.declared.ops.OpKind.TheVariants as K
 use Rattle.dialect_core.specs.declared.ops.OpData.{OpData}
 use Rattle.dialect_core.specs.declared.ops.BlockData.{BlockData}
 use Rattle.dialect_core.specs.ContextData.{ContextData, AreRegions, IsSymbol, holder_at, kind_at, region_at}
-use Rattle.dialect_core.specs.Data.{Kind, ConstantOp, AddOp, ICmpOp, BrOp, CondBrOp, ReturnOp, UnreachableOp, DialectOp, DialectBlock, Func, kind_of, op_of, op_at, block_in, held, data_of, ops_in}
+use Rattle.dialect_core.specs.Data.{Kind, ConstantOp, AddOp, ICmpOp, BrOp, CondBrOp, ReturnOp, UnreachableOp, DialectOp, DialectBlock, Func, kind_of, op_of, op_at, block_in, held, data_of, ops_in, type_in}
 use Rattle.dialect_core.specs.Form.{FitsTarget, edges_of}
-use Rattle.dialect_core.specs.WellFormed.{IsEdge, IsFirst, IsOfKind, IsPastFirsts, IsPlainAt, IsWellFormed, IsWellFormedBlock, IsWellFormedFunc, IsWellFormedOp, HasNamesApart}
+use Rattle.dialect_core.specs.WellFormed.{IsEdge, IsFirst, IsOfKind, IsPastFirsts, IsPlainAt, IsWellFormed, IsWellFormedBlock, IsWellFormedFunc, IsWellFormedOp, HasNamesApart, Typing}
 use Rattle.dialect_core.specs.Checking.{block_at, func_at}
 use Rattle.dialect_core.proofs.HoldLemmas.{flat_stands, stands_flat}
 use Rattle.dialect_core.proofs.TestLemmas.{same_block}
@@ -26,18 +26,18 @@ use Rattle.dialect_core.proofs.LineLemmas.{all_at, at_all, plain_op, same_place,
 abbrev pub LeadsToOwn : Func → Type 0
 LeadsToOwn g = All (λ (b : DialectBlock). All (FitsTarget g) (edges_of b)) g.blocks
 
-no_edges : (g : Func) (ss : List Successor) → ss ≡ [] → All (IsEdge g) ss
-no_edges g ss e = let P : List Successor → Type 0 = All (IsEdge g) in subst P (sym e) (λ k d l. absurd (omega arith))
+no_edges : (types : Typing) (g : Func) (ss : List Successor) → ss ≡ [] → All (IsEdge types g) ss
+no_edges types g ss e = let P : List Successor → Type 0 = All (IsEdge types g) in subst P (sym e) (λ k d l. absurd (omega arith))
 
 -- the edges of a well-formed operation
-kind_edges : (g : Func) (vs : List Value) (own : Option TypeTree) (ss : List Successor) (k : Kind) → IsOfKind g vs own ss k → All (IsEdge g) ss
-kind_edges g vs own ss (ConstantOp (IntegerAttr t v)) h = no_edges g ss h.4
-kind_edges g vs own ss (AddOp flags) h = no_edges g ss h.3
-kind_edges g vs own ss (ICmpOp p) h = no_edges g ss h.2
-kind_edges g vs own ss BrOp h = λ k d l. h.2.1 k d l
-kind_edges g vs own ss CondBrOp h = λ k d l. h.2.1 k d l
-kind_edges g vs own ss ReturnOp h = no_edges g ss h.2
-kind_edges g vs own ss UnreachableOp h = no_edges g ss h.2
+kind_edges : (types : Typing) (g : Func) (vs : List Value) (own : Option TypeTree) (ss : List Successor) (k : Kind) → IsOfKind types g vs own ss k → All (IsEdge types g) ss
+kind_edges types g vs own ss (ConstantOp (IntegerAttr t v)) h = no_edges types g ss h.4
+kind_edges types g vs own ss (AddOp flags) h = no_edges types g ss h.3
+kind_edges types g vs own ss (ICmpOp p) h = no_edges types g ss h.2
+kind_edges types g vs own ss BrOp h = λ k d l. h.2.1 k d l
+kind_edges types g vs own ss CondBrOp h = λ k d l. h.2.1 k d l
+kind_edges types g vs own ss ReturnOp h = no_edges types g ss h.2
+kind_edges types g vs own ss UnreachableOp h = no_edges types g ss h.2
 
 -- the edges of an operation are those of its data
 op_edges : (ts : List TypeTree) (o : OpRef) (x : OpData) (d : DialectOp) → op_of ts o x ≡ Some d → d.successors ≡ x.successors
@@ -56,7 +56,7 @@ module _ (c : ContextData) (regions : AreRegions (region_at c.ops) (holder_at c.
       by None is e = absurd (none-some o e)
       by (Some x) is e = slice_get_within c.blocks b.0 x is
 
-  module _ (f : OpRef) (plain : All (IsPlainAt c) (held c f.0)) (well : IsWellFormedFunc (func_at c f)) (own : LeadsToOwn (func_at c f)) where
+  module _ (f : OpRef) (plain : All (IsPlainAt c) (held c f.0)) (well : IsWellFormedFunc (type_in c) (func_at c f)) (own : LeadsToOwn (func_at c f)) where
     abbrev g : Func
     g = func_at c f
 
@@ -76,7 +76,7 @@ module _ (c : ContextData) (regions : AreRegions (region_at c.ops) (holder_at c.
         (t.0, t.1, t.2, t.3, r.1 ∙ ap Some same)
 
     -- so it is no first block: it would be that of the function
-    past_edge : (s : Successor) → IsEdge g s → FitsTarget g s → IsFirst c s.block → ⊥
+    past_edge : (s : Successor) → IsEdge (type_in c) g s → FitsTarget g s → IsFirst c s.block → ⊥
     past_edge s e t w =
         let p = target s t in
         let same : w.0 ≡ f.0 = same_Some w.0 f.0 (sym (regions.ours w.0 0 s.block w.1) ∙ regions.ours f.0 p.0 s.block p.4) in
@@ -93,18 +93,18 @@ module _ (c : ContextData) (regions : AreRegions (region_at c.ops) (holder_at c.
             let place = same_place (op_at (type_trees c.types) c.ops) (held c f.0) (λ k o at. let q = plain_op c o (all_at (IsPlainAt c) (held c f.0) plain k o at) in (q.0, q.1)) k in
             let stands : slice_get (ops_in g) k ≡ Some p.0 = ap (λ (xs : List DialectOp). slice_get xs k) (ops_are c f there) ∙ place ∙ ap (option_and_then (op_at (type_trees c.types) c.ops)) at ∙ p.1 in
             let b = flat_stands (λ (b : DialectBlock). b.ops) g.blocks p.0 k stands in
-            let block = all_at (IsWellFormedBlock g) g.blocks well.blocks b.1.0 b.0 b.1.1 in
-            let edges = kind_edges g p.0.operands p.0.result p.0.successors p.0.kind (all_at (IsWellFormedOp g) b.0.ops block.ops b.2.0 p.0 b.2.1) in
+            let block = all_at (IsWellFormedBlock (type_in c) g) g.blocks well.blocks b.1.0 b.0 b.1.1 in
+            let edges = kind_edges (type_in c) g p.0.operands p.0.result p.0.successors p.0.kind (all_at (IsWellFormedOp (type_in c) g) b.0.ops block.ops b.2.0 p.0 b.2.1) in
             let same : p.0.successors ≡ x.successors = op_edges (type_trees c.types) o x p.0 (sym (ap (option_and_then (op_of (type_trees c.types) o)) is) ∙ p.1) in
             at_all (λ (s : Successor). ¬ IsFirst c s.block) x.successors (λ j s here w.
             let mine : slice_get p.0.successors j ≡ Some s = ap (λ (ss : List Successor). slice_get ss j) same ∙ here in
             let e = stands_flat (λ (o : DialectOp). o.successors) b.0.ops p.0 s b.2.0 b.2.1 (j, mine) in
-            past_edge s (all_at (IsEdge g) p.0.successors edges j s mine) (all_at (FitsTarget g) (edges_of b.0) (all_at (λ (b : DialectBlock). All (FitsTarget g) (edges_of b)) g.blocks own b.1.0 b.0 b.1.1) e.0 s e.1) w)
+            past_edge s (all_at (IsEdge (type_in c) g) p.0.successors edges j s mine) (all_at (FitsTarget g) (edges_of b.0) (all_at (λ (b : DialectBlock). All (FitsTarget g) (edges_of b)) g.blocks own b.1.0 b.0 b.1.1) e.0 s e.1) w)
 
   -- a module by its functions
   module _ (symbols : (o : OpRef) → kind_at c.ops o ≡ Some K.Func → IsSymbol c.ops o) (m : ℕ) where
     pub own_module : kind_at c.ops (record { 0 = m }) ≡ Some K.Module → length (region_at c.ops m) ≤ 1 → All (λ (o : OpRef). kind_at c.ops o ≡ Some K.Func) (held c m) → All (λ (o : OpRef). All (IsPlainAt c) (held c o.0)) (held c m)
-        → All IsWellFormedFunc (data_of c m).functions → All LeadsToOwn (data_of c m).functions → HasNamesApart (data_of c m).functions → IsWellFormed c m
+        → All (IsWellFormedFunc (type_in c)) (data_of c m).functions → All LeadsToOwn (data_of c m).functions → HasNamesApart (data_of c m).functions → IsWellFormed c m
     own_module kind few alone plain functions own names = record {
       kind = kind;
       region = few;
@@ -113,7 +113,7 @@ module _ (c : ContextData) (regions : AreRegions (region_at c.ops) (holder_at c.
       past_firsts = at_all (λ (o : OpRef). All (IsPastFirsts c) (held c o.0)) (held c m) (λ k o at.
           let here = func_there c symbols m (λ k o at. all_at (λ (o : OpRef). kind_at c.ops o ≡ Some K.Func) (held c m) alone k o at) k o at in
           own_past o (all_at (λ (o : OpRef). All (IsPlainAt c) (held c o.0)) (held c m) plain k o at)
-          (all_at IsWellFormedFunc (data_of c m).functions functions k (func_at c o) here)
+          (all_at (IsWellFormedFunc (type_in c)) (data_of c m).functions functions k (func_at c o) here)
           (all_at LeadsToOwn (data_of c m).functions own k (func_at c o) here));
       functions = functions;
       names = names;

@@ -1,5 +1,6 @@
 -- How far the printing of items one after another has come.
-use Rattle.std.proofs.Common.{◌≡◌, ◌<◌, ◌≤◌, ◌+◌, ℕ, List, [], ◌++◌, Option, Some, None, length, get_or, take, map, ap, sym, refl, ◌∙◌, append_assoc}
+use Rattle.std.proofs.Common.{◌≡◌, ◌<◌, ◌≤◌, ◌+◌, ℕ, List, [], ◌∷◌, ◌++◌, Option, Some, None, length, get_or, take, map, ap, sym, refl, ◌∙◌, append_assoc}
+use Rattle.std.specs.Prelude.{codes}
 use Rattle.std.specs.List.{flat_map}
 use Rattle.std.proofs.lemmas.List.{append-nil, take_all}
 use Rattle.std.specs.Option.{option_map}
@@ -10,7 +11,7 @@ use Rattle.dialect_core.specs.declared.ops.Value.{Value}
 use Rattle.dialect_core.specs.declared.ops.Successor.{Successor}
 use Rattle.dialect_core.specs.declared.ops.OpData.{OpData}
 use Rattle.dialect_core.specs.Data.{Kind, kind_of, op_of}
-use Rattle.dialect_core.specs.Text.{option_text, kind_word, immediates_text, head_text, tail_text, op_text}
+use Rattle.dialect_core.specs.Text.{option_text, kind_word, immediates_text, head_text, tail_text, op_text, successor_text, successors_text}
 use Rattle.dialect_types.specs.Text.{joined, comma_before}
 use Rattle.dialect_types.proofs.TextLemmas.{joined_step}
 use Rattle.dialect_core.proofs.NumberLemmas.{flat_map_more}
@@ -63,3 +64,19 @@ module _ (values : Value → Option ℕ) (blocks : BlockRef → Option ℕ) wher
       let same = head_same (type_at ts) o.0 x.name x.result word x.operands x.successors in
       let flat : end ≡ (start ++ H) ++ T = e ∙ ap (λ (h : List ℕ). (start ++ h) ++ T) same in
       rw (is, none, named) (bare start (start ++ H) end H T refl flat)
+
+  -- an operation of a kind with immediates
+  pub with_immediates : (ts : List TypeTree) (o : OpRef) (x : OpData) (k : Kind) (start head middle end : List ℕ)
+      → kind_of ts x.kind ≡ Some k
+      → head ≡ start ++ head_text values blocks o.0 x.name x.result (kind_word k) x.operands x.successors
+      → middle ≡ head ++ immediates_text k → end ≡ middle ++ tail_text (option_map (type_at ts) x.result)
+      → end ≡ start ++ option_text (op_text values blocks) (op_of ts o x)
+  with_immediates ts o x k start head middle end is e1 e2 e3 =
+      let H = head_text values blocks o.0 x.name (option_map (type_at ts) x.result) (kind_word k) x.operands x.successors in
+      let same = head_same (type_at ts) o.0 x.name x.result (kind_word k) x.operands x.successors in
+      rw is (between start head middle end H (immediates_text k) (tail_text (option_map (type_at ts) x.result)) (e1 ∙ ap (λ (h : List ℕ). start ++ h) same) e2 e3)
+
+  -- successors in brackets
+  pub successors_printed : (ss : List Successor) (start opened inner end : List ℕ) → ¬ (length ss ≡ 0) → opened ≡ start ++ codes "[" → inner ≡ opened ++ joined (map (successor_text values blocks) ss) → end ≡ inner ++ codes "]" → end ≡ start ++ successors_text values blocks ss
+  successors_printed [] start opened inner end some e1 e2 e3 = absurd (some refl)
+  successors_printed (s ∷ ss) start opened inner end some e1 e2 e3 = between start opened inner end (codes "[") (joined (map (successor_text values blocks) (s ∷ ss))) (codes "]") e1 e2 e3

@@ -16,9 +16,9 @@ use Rattle.dialect_core.specs.declared.ops.OpData.{OpData}
 use Rattle.dialect_core.specs.declared.ops.BlockData.{BlockData}
 use Rattle.dialect_core.specs.Lists.{list_at}
 use Rattle.dialect_core.specs.ContextData.{ContextData, kind_at, region_at, symbol_at}
-use Rattle.dialect_core.specs.Data.{Kind, DialectOp, DialectBlock, Func, kind_of, op_at, block_in, name_at, held, value_type}
+use Rattle.dialect_core.specs.Data.{Kind, DialectOp, DialectBlock, Func, kind_of, op_at, block_in, name_at, held, type_in}
 use Rattle.dialect_core.specs.Form.{IsFitting, IsShortInt}
-use Rattle.dialect_core.specs.WellFormed.{IsSignature, suits, IsOfKind, IsWellFormedOp, IsWellFormedBlock, IsWellFormedFunc, IsPlainAt, IsPastFirsts, IsValueOf}
+use Rattle.dialect_core.specs.WellFormed.{IsSignature, suits, IsOfKind, IsWellFormedOp, IsWellFormedBlock, IsWellFormedFunc, IsPlainAt, IsPastFirsts, IsTypedBy, Typing}
 
 -- the tree of a type of the context
 abbrev pub tree_at : ContextData → TypeHandle → TypeTree
@@ -48,13 +48,13 @@ abbrev pub target_args : Func → BlockRef → List TypeTree
 target_args g b = option_map_or (λ (x : DialectBlock). x.args) (find (λ (x : DialectBlock). nat_eq x.number b.0) g.blocks) []
 
 -- a value that an edge passes where the target wants one of that type, or nothing
-pub record Passes (g : Func) (wanted : Option TypeTree) (v : Value) : Type 0 where
-  pub value : IsValueOf g v
-  pub typed : (type : TypeTree) → wanted ≡ Some type → value_type g v ≡ Some type
+pub record Passes (types : Typing) (wanted : Option TypeTree) (v : Value) : Type 0 where
+  pub value : IsTypedBy types v
+  pub typed : (type : TypeTree) → wanted ≡ Some type → types v ≡ Some type
 
--- values of the function that have the types that are wanted at their places
-abbrev pub PassesEach : Func → List TypeTree → List Value → Type 0
-PassesEach g wanted vs = (place : ℕ) (v : Value) → slice_get vs place ≡ Some v → Passes g (slice_get wanted place) v
+-- values that have the types that are wanted at their places
+abbrev pub PassesEach : Typing → List TypeTree → List Value → Type 0
+PassesEach types wanted vs = (place : ℕ) (v : Value) → slice_get vs place ≡ Some v → Passes types (slice_get wanted place) v
 
 -- a constant of that type, which fits it, of 1 to 64 bits
 abbrev pub IsConstantOf : Option TypeTree → AttrTree → Type 0
@@ -62,11 +62,11 @@ IsConstantOf own (IntegerAttr type value) = IsShortInt type × IsFitting type va
 
 -- the kind is one of a function's block, and the operation is as its kind is
 abbrev pub IsKindAt : ContextData → Func → OpKind → List Value → Option TypeHandle → List Successor → Type 0
-IsKindAt c g kind operands own edges = (k : Kind) × (kind_of (type_trees c.types) kind ≡ Some k) × IsOfKind g operands (option_map (tree_at c) own) edges k
+IsKindAt c g kind operands own edges = (k : Kind) × (kind_of (type_trees c.types) kind ≡ Some k) × IsOfKind (type_in c) g operands (option_map (tree_at c) own) edges k
 
 -- the operation may stand in a function's block, and is as its kind is
 abbrev pub IsOpAt : ContextData → Func → OpRef → Type 0
-IsOpAt c g o = (d : DialectOp) × (op_at (type_trees c.types) c.ops o ≡ Some d) × IsWellFormedOp g d
+IsOpAt c g o = (d : DialectOp) × (op_at (type_trees c.types) c.ops o ≡ Some d) × IsWellFormedOp (type_in c) g d
 
 abbrev pub ends_kind : OpKind → Bool
 ends_kind K.Br = true
@@ -99,7 +99,7 @@ AreLines c g os = Each (λ (o : OpRef) (rest : List OpRef). IsLine c g o (slice_
 pub record IsBlockAt (c : ContextData) (g : Func) (b : BlockRef) : Type 0 where
   pub plain : All (IsPlainAt c) (list_at c.lists b)
   pub past_firsts : All (IsPastFirsts c) (list_at c.lists b)
-  pub block : IsWellFormedBlock g (block_at c b)
+  pub block : IsWellFormedBlock (type_in c) g (block_at c b)
 
 -- the name, the linkage and the type of a function are well-formed
 pub record IsHead (g : Func) : Type 0 where
@@ -113,7 +113,7 @@ pub record IsFuncAt (c : ContextData) (o : OpRef) : Type 0 where
   pub kind : kind_at c.ops o ≡ Some K.Func
   pub plain : All (IsPlainAt c) (held c o.0)
   pub past_firsts : All (IsPastFirsts c) (held c o.0)
-  pub func : IsWellFormedFunc (func_at c o)
+  pub func : IsWellFormedFunc (type_in c) (func_at c o)
 
 -- none of the operations has the name
 abbrev pub AreApartFrom : ContextData → List ℕ → List OpRef → Type 0

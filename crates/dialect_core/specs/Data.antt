@@ -137,6 +137,11 @@ abbrev pub value_type : Func → Value → Option TypeTree
 value_type f (Result r) = option_and_then (λ (o : DialectOp). o.result) (find (λ (o : DialectOp). nat_eq o.number r.0) (ops_in f))
 value_type f (Argument b i) = option_and_then (λ (x : DialectBlock). slice_get x.args i) (find (λ (x : DialectBlock). nat_eq x.number b.0) f.blocks)
 
+-- the type of a value of the context, whichever function it belongs to or none; None where there is no such value
+abbrev pub type_in : ContextData → Value → Option TypeTree
+type_in c (Result r) = option_and_then (λ (o : DialectOp). o.result) (op_at (type_trees c.types) c.ops r)
+type_in c (Argument b i) = option_and_then (λ (x : DialectBlock). slice_get x.args i) (block_in (type_trees c.types) c b)
+
 -- ---- how the building calls change the data
 
 -- the module has the function last

@@ -1,5 +1,5 @@
--- Functions of the form that is translated today: a body whose constants stand first in the entry, of `llvm.add`,
--- `llvm.icmp`, branches, `llvm.return` and `llvm.unreachable` over integers of 1 to 64 bits.
+-- Functions of the form that is translated today: a body of constants, `llvm.add`, `llvm.icmp`, branches, `llvm.return`
+-- and `llvm.unreachable` over integers of 1 to 64 bits. Where its constants stand is a question of its own.
 use Rattle.std.specs.Prelude.{◌≡◌, ◌<◌, ◌≤◌, ◌^◌, ℕ, suc, Bool, true, false, not, List, [], ◌∷◌, ◌++◌, length, take, filter, slice_get, Some, None, All, IfSome}
 use Rattle.std.specs.List.{flat_map}
 use Rattle.std.specs.Option.{option_map_or}
@@ -120,15 +120,7 @@ pub record IsFormBlock (g : Func) (b : DialectBlock) : Type 0 where
   pub ops : All (IsFormOp g) b.ops
   pub ends : EndsInOnly b.ops
 
--- the constants stand first
-pub record HasConstantsFirst (os : List DialectOp) : Type 0 where
-  pub hoisted : List DialectOp
-  pub rest : List DialectOp
-  pub are : os ≡ hoisted ++ rest
-  pub constants : All (λ (o : DialectOp). is_constant o ≡ true) hoisted
-  pub others : All (λ (o : DialectOp). is_constant o ≡ false) rest
-
--- a function of the form: it has a body
+-- a function of the form: it has a body, with constants at any places of it
 pub record IsFormFunc (g : Func) : Type 0 where
   pub name : IsPlainName g.name
   pub named : ¬ (g.name ≡ [])
@@ -143,10 +135,29 @@ pub record IsFormFunc (g : Func) : Type 0 where
   pub body : g.blocks ≡ entry ∷ more
   pub params : entry.args ≡ types_list types
   pub blocks : All (IsFormBlock g) g.blocks
-  pub constants : HasConstantsFirst entry.ops
-  pub others : All (λ (b : DialectBlock). All (λ (o : DialectOp). is_constant o ≡ false) b.ops) more
   pub block_numbers : (i j : ℕ) (a b : DialectBlock) → slice_get g.blocks i ≡ Some a → slice_get g.blocks j ≡ Some b → a.number ≡ b.number → i ≡ j
   pub numbers : (i j : ℕ) (a b : DialectOp) → slice_get (ops_in g) i ≡ Some a → slice_get (ops_in g) j ≡ Some b → a.number ≡ b.number → i ≡ j
+
+-- ---- where constants stand
+
+-- each constant of a function stands in its first block
+abbrev pub HasOnlyEntryConstants : Func → Type 0
+HasOnlyEntryConstants g = (j : ℕ) (b : DialectBlock) → slice_get g.blocks (suc j) ≡ Some b → All (λ (o : DialectOp). is_constant o ≡ false) b.ops
+
+-- the constants stand first
+pub record HasConstantsFirst (os : List DialectOp) : Type 0 where
+  pub hoisted : List DialectOp
+  pub rest : List DialectOp
+  pub are : os ≡ hoisted ++ rest
+  pub constants : All (λ (o : DialectOp). is_constant o ≡ true) hoisted
+  pub others : All (λ (o : DialectOp). is_constant o ≡ false) rest
+
+-- the constants of a function stand in its first block, before all else
+pub record HasConstantsInEntry (g : Func) : Type 0 where
+  pub entry : DialectBlock
+  pub here : slice_get g.blocks 0 ≡ Some entry
+  pub first : HasConstantsFirst entry.ops
+  pub others : HasOnlyEntryConstants g
 
 -- ---- what an export asks besides
 
@@ -163,6 +174,14 @@ StandsBefore g j k (Argument c i) = (x : ℕ) × (b : DialectBlock) × (x ≤ j)
 -- the values that an operation uses: its operands, then what its edges pass
 abbrev pub uses_of : DialectOp → List Value
 uses_of o = o.operands ++ flat_map (λ (s : Successor). s.args) o.successors
+
+-- a value of the function: a result of one of its operations, or an argument of one of its blocks
+abbrev pub IsValueOf : Func → Value → Type 0
+IsValueOf g v = (type : TypeTree) × (value_type g v ≡ Some type)
+
+-- each operand and each value that an edge passes is a value of the function
+abbrev pub HasOwnValues : Func → Type 0
+HasOwnValues g = (j k : ℕ) (b : DialectBlock) (o : DialectOp) → slice_get g.blocks j ≡ Some b → slice_get b.ops k ≡ Some o → All (IsValueOf g) (uses_of o)
 
 -- each value stands before its uses, the blocks taken in order
 abbrev pub IsInOrder : Func → Type 0

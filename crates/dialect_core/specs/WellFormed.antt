@@ -12,8 +12,8 @@ use Rattle.dialect_core.specs.declared.ops.Successor.{Successor}
 use Rattle.dialect_core.specs.declared.ops.OpKind.TheVariants as K
 use Rattle.dialect_core.specs.declared.ops.OpData.{OpData}
 use Rattle.dialect_core.specs.ContextData.{ContextData, kind_at, region_at, is_plain}
-use Rattle.dialect_core.specs.Data.{Kind, ConstantOp, AddOp, ICmpOp, BrOp, CondBrOp, ReturnOp, UnreachableOp, DialectOp, DialectBlock, Func, held, data_of, ops_in, value_type}
-use Rattle.dialect_core.specs.Form.{IsFitting, IsShortInt, IsShortResult, EndsInOnly, HasConstantsFirst, is_constant, types_list, result_of}
+use Rattle.dialect_core.specs.Data.{Kind, ConstantOp, AddOp, ICmpOp, BrOp, CondBrOp, ReturnOp, UnreachableOp, DialectOp, DialectBlock, Func, held, data_of, ops_in, type_in}
+use Rattle.dialect_core.specs.Form.{IsFitting, IsShortInt, IsShortResult, EndsInOnly, types_list, result_of}
 
 -- ---- types
 
@@ -37,60 +37,69 @@ abbrev pub params_of : TypeTree → List TypeTree
 params_of (FuncType result params variadic) = types_list params
 params_of _ = []
 
+-- ---- values
+
+-- the type of each value, None where there is no such value
+abbrev pub Typing : Type 0
+Typing = Value → Option TypeTree
+
+-- a value that there is
+abbrev pub IsTypedBy : Typing → Value → Type 0
+IsTypedBy types v = (type : TypeTree) × (types v ≡ Some type)
+
 -- ---- operations
 
--- a value of the function: a result of one of its operations, or an argument of one of its blocks
-abbrev pub IsValueOf : Func → Value → Type 0
-IsValueOf g v = (type : TypeTree) × (value_type g v ≡ Some type)
+-- The rules of operands ask for their types alone, whichever function they belong to: so they speak of a typing, that of
+-- the context (`type_in`) in a module, or that of the function (`value_type`) where its values are its own.
 
 -- two values of one integer type
-pub record AreIntegers (g : Func) (type : TypeTree) (vs : List Value) : Type 0 where
+pub record AreIntegers (types : Typing) (type : TypeTree) (vs : List Value) : Type 0 where
   pub lhs : Value
   pub rhs : Value
   pub are : vs ≡ lhs ∷ rhs ∷ []
   pub integer : IsInteger type
-  pub left : value_type g lhs ≡ Some type
-  pub right : value_type g rhs ≡ Some type
+  pub left : types lhs ≡ Some type
+  pub right : types rhs ≡ Some type
 
 -- what a return has: nothing in a function that returns nothing, else one value of the type that is returned
-abbrev pub Returned : Func → TypeTree → List Value → Type 0
-Returned g VoidType vs = vs ≡ []
-Returned g type vs = (v : Value) × (vs ≡ v ∷ []) × (value_type g v ≡ Some type)
+abbrev pub Returned : Typing → TypeTree → List Value → Type 0
+Returned types VoidType vs = vs ≡ []
+Returned types type vs = (v : Value) × (vs ≡ v ∷ []) × (types v ≡ Some type)
 
 -- An edge does not go to the function's first block; `IsWellFormed` says that it goes to no other first block either. It
--- passes values of the function, and where the target has an argument at the place of such a value, the two have one
--- type.
-pub record IsEdge (g : Func) (s : Successor) : Type 0 where
+-- passes values, and where the target is a block of the function and has an argument at the place of such a value, the
+-- two have one type.
+pub record IsEdge (types : Typing) (g : Func) (s : Successor) : Type 0 where
   pub no_entry : (b : DialectBlock) → slice_get g.blocks 0 ≡ Some b → ¬ (s.block.0 ≡ b.number)
-  pub args : All (IsValueOf g) s.args
+  pub args : All (IsTypedBy types) s.args
   pub typed : (i : ℕ) (b : DialectBlock) (place : ℕ) (v : Value) (type : TypeTree)
-      → slice_get g.blocks i ≡ Some b → b.number ≡ s.block.0 → slice_get s.args place ≡ Some v → slice_get b.args place ≡ Some type → value_type g v ≡ Some type
+      → slice_get g.blocks i ≡ Some b → b.number ≡ s.block.0 → slice_get s.args place ≡ Some v → slice_get b.args place ≡ Some type → types v ≡ Some type
 
 -- as many edges
-abbrev pub AreEdges : Func → ℕ → List Successor → Type 0
-AreEdges g count ss = (length ss ≡ count) × All (IsEdge g) ss
+abbrev pub AreEdges : Typing → Func → ℕ → List Successor → Type 0
+AreEdges types g count ss = (length ss ≡ count) × All (IsEdge types g) ss
 
 -- The operands, the result and the edges of an operation: a line for each kind. A constant has 1 to 64 bits, since an
 -- integer attribute holds no more, and its value fits them.
-abbrev pub IsOfKind : Func → List Value → Option TypeTree → List Successor → Kind → Type 0
-IsOfKind g operands own edges (ConstantOp (IntegerAttr type value)) = IsShortInt type × IsFitting type value × (own ≡ Some type) × (operands ≡ []) × (edges ≡ [])
-IsOfKind g operands own edges (AddOp flags) = (type : TypeTree) × AreIntegers g type operands × (own ≡ Some type) × (edges ≡ [])
-IsOfKind g operands own edges (ICmpOp predicate) = ((type : TypeTree) × AreIntegers g type operands) × (own ≡ Some (IntegerType 1)) × (edges ≡ [])
-IsOfKind g operands own edges BrOp = (operands ≡ []) × (own ≡ None) × AreEdges g 1 edges
-IsOfKind g operands own edges CondBrOp = ((condition : Value) × (operands ≡ condition ∷ []) × (value_type g condition ≡ Some (IntegerType 1))) × (own ≡ None) × AreEdges g 2 edges
-IsOfKind g operands own edges ReturnOp = Returned g (result_of g.type) operands × (own ≡ None) × (edges ≡ [])
-IsOfKind g operands own edges UnreachableOp = (operands ≡ []) × (own ≡ None) × (edges ≡ [])
+abbrev pub IsOfKind : Typing → Func → List Value → Option TypeTree → List Successor → Kind → Type 0
+IsOfKind types g operands own edges (ConstantOp (IntegerAttr type value)) = IsShortInt type × IsFitting type value × (own ≡ Some type) × (operands ≡ []) × (edges ≡ [])
+IsOfKind types g operands own edges (AddOp flags) = (type : TypeTree) × AreIntegers types type operands × (own ≡ Some type) × (edges ≡ [])
+IsOfKind types g operands own edges (ICmpOp predicate) = ((type : TypeTree) × AreIntegers types type operands) × (own ≡ Some (IntegerType 1)) × (edges ≡ [])
+IsOfKind types g operands own edges BrOp = (operands ≡ []) × (own ≡ None) × AreEdges types g 1 edges
+IsOfKind types g operands own edges CondBrOp = ((condition : Value) × (operands ≡ condition ∷ []) × (types condition ≡ Some (IntegerType 1))) × (own ≡ None) × AreEdges types g 2 edges
+IsOfKind types g operands own edges ReturnOp = Returned types (result_of g.type) operands × (own ≡ None) × (edges ≡ [])
+IsOfKind types g operands own edges UnreachableOp = (operands ≡ []) × (own ≡ None) × (edges ≡ [])
 
 -- an operation of the function
-abbrev pub IsWellFormedOp : Func → DialectOp → Type 0
-IsWellFormedOp g o = IsOfKind g o.operands o.result o.successors o.kind
+abbrev pub IsWellFormedOp : Typing → Func → DialectOp → Type 0
+IsWellFormedOp types g o = IsOfKind types g o.operands o.result o.successors o.kind
 
 -- ---- blocks and functions
 
 -- a block of the function: its arguments are integers, and one terminator stands in it, last
-pub record IsWellFormedBlock (g : Func) (b : DialectBlock) : Type 0 where
+pub record IsWellFormedBlock (types : Typing) (g : Func) (b : DialectBlock) : Type 0 where
   pub args : All IsInteger b.args
-  pub ops : All (IsWellFormedOp g) b.ops
+  pub ops : All (IsWellFormedOp types g) b.ops
   pub ends : EndsInOnly b.ops
 
 -- a linkage that a function without a body may have
@@ -119,12 +128,12 @@ suits (entry ∷ more) linkage = suits_body linkage
 
 -- a function, with a body or without: its linkage is one for the body that it has or lacks, the first block takes what
 -- the function takes, and no number of a block or of an operation stands twice
-pub record IsWellFormedFunc (g : Func) : Type 0 where
+pub record IsWellFormedFunc (types : Typing) (g : Func) : Type 0 where
   pub named : ¬ (g.name ≡ [])
   pub linkage : suits g.blocks g.linkage ≡ true
   pub signature : IsSignature g.type
   pub params : (b : DialectBlock) → slice_get g.blocks 0 ≡ Some b → b.args ≡ params_of g.type
-  pub blocks : All (IsWellFormedBlock g) g.blocks
+  pub blocks : All (IsWellFormedBlock types g) g.blocks
   pub block_numbers : (i j : ℕ) (a b : DialectBlock) → slice_get g.blocks i ≡ Some a → slice_get g.blocks j ≡ Some b → a.number ≡ b.number → i ≡ j
   pub numbers : (i j : ℕ) (a b : DialectOp) → slice_get (ops_in g) i ≡ Some a → slice_get (ops_in g) j ≡ Some b → a.number ≡ b.number → i ≡ j
 
@@ -148,14 +157,16 @@ IsPastFirsts c o = (x : OpData) → slice_get c.ops o.0 ≡ Some x → All (λ (
 
 -- The operation of the number m is a module of at most one block. That block holds functions alone, whose blocks hold
 -- neither functions nor modules: the data leave such out, so these rules speak of the context. So does the rule that no
--- edge goes to the first block of a region, be it of this function, of another or of a module.
+-- edge goes to the first block of a region, be it of this function, of another or of a module. An operand, and a value
+-- that an edge passes, has its type in the context, whichever function it belongs to: that each is one of its own function
+-- is for the export to ask.
 pub record IsWellFormed (c : ContextData) (m : ℕ) : Type 0 where
   pub kind : kind_at c.ops (record { 0 = m }) ≡ Some K.Module
   pub region : length (region_at c.ops m) ≤ 1
   pub funcs_alone : All (λ (o : OpRef). kind_at c.ops o ≡ Some K.Func) (held c m)
   pub plain : All (λ (o : OpRef). All (IsPlainAt c) (held c o.0)) (held c m)
   pub past_firsts : All (λ (o : OpRef). All (IsPastFirsts c) (held c o.0)) (held c m)
-  pub functions : All IsWellFormedFunc (data_of c m).functions
+  pub functions : All (IsWellFormedFunc (type_in c)) (data_of c m).functions
   pub names : HasNamesApart (data_of c m).functions
 
 -- ---- what the form asks besides
@@ -176,22 +187,18 @@ abbrev pub IsNarrowSignature : TypeTree → Type 0
 IsNarrowSignature (FuncType result params variadic) = IsShortResult result × All IsShortInt (types_list params) × (variadic ≡ false)
 IsNarrowSignature _ = ⊥
 
--- the constants of a function stand in its first block, before all else
-pub record HasConstantsInEntry (blocks : List DialectBlock) : Type 0 where
-  pub entry : DialectBlock
-  pub more : List DialectBlock
-  pub are : blocks ≡ entry ∷ more
-  pub first : HasConstantsFirst entry.ops
-  pub others : All (λ (b : DialectBlock). All (λ (o : DialectOp). is_constant o ≡ false) b.ops) more
-
 -- a function of the form, as far as that is narrower: it has a body and external linkage
 pub record IsNarrowFunc (g : Func) : Type 0 where
   pub name : IsPlainName g.name
   pub linkage : g.linkage ≡ L.ExternalLinkage
   pub signature : IsNarrowSignature g.type
   pub blocks : All IsNarrowBlock g.blocks
-  pub constants : HasConstantsInEntry g.blocks
+  pub body : ¬ (g.blocks ≡ [])
 
 -- each function of the module is so
 abbrev pub IsNarrow : ContextData → ℕ → Type 0
 IsNarrow c m = All IsNarrowFunc (data_of c m).functions
+
+-- a function of the context of the form, whose values may be those of other functions: `IsFormFunc` where they are its own
+abbrev pub IsOpenForm : ContextData → Func → Type 0
+IsOpenForm c g = IsWellFormedFunc (type_in c) g × IsNarrowFunc g

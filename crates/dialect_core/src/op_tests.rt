@@ -4,7 +4,7 @@ ghost use Rattle.std.specs.Prelude.{◌≡◌, ◌<◌, ◌↔◌, ◌∷◌, []
 ghost use Rattle.std.specs.Option.{option_map};
 ghost use Rattle.dialect_types.specs.Trees.{TypeTree, IntegerType, attr_tree, type_at, type_trees, HasTypesBelow};
 ghost use Rattle.dialect_core.specs.ContextData.{IsValueWithin, IsSuccessorWithin, IsSymbol};
-ghost use Rattle.dialect_core.specs.Data.{IsTyped, HasKindTypesBelow, AddOp, BrOp, CondBrOp, ConstantOp, ICmpOp, ReturnOp, UnreachableOp, value_type};
+ghost use Rattle.dialect_core.specs.Data.{IsTyped, HasKindTypesBelow, AddOp, BrOp, CondBrOp, ConstantOp, ICmpOp, ReturnOp, UnreachableOp, type_in};
 ghost use Rattle.dialect_core.specs.Form.{result_of as returned_by};
 ghost use Rattle.dialect_core.specs.WellFormed.{AreIntegers, IsOfKind, Returned};
 ghost use Rattle.dialect_core.specs.Checking.{IsConstantOf, IsKindAt, IsOpAt, ends_at, ends_kind, func_at, tree_at};
@@ -34,50 +34,45 @@ fn constant_fits(types: &TypeStore, value: &ConstAttr, own: Option<TypeHandle>) 
     }
 }
 
-/// Whether these are two values of the function of an integer type.
-fn are_integers(ctx: &Context, func: OpRef, operands: &[Value], ty: TypeHandle) -> bool
-    requires func { func.0 < length ctx.now.ops }
+/// Whether these are two values of an integer type.
+fn are_integers(ctx: &Context, operands: &[Value], ty: TypeHandle) -> bool
     requires operands { All (IsValueWithin (length ctx.now.ops) (length ctx.now.blocks)) operands.now }
     requires ty { ty.0 < length ctx.now.types }
     requires typed { IsTyped ctx.now }
-    ensures { IsTrue result ↔ AreIntegers (func_at ctx.now func) (tree_at ctx.now ty) operands.now }
+    ensures { IsTrue result ↔ AreIntegers (type_in ctx.now) (tree_at ctx.now ty) operands.now }
 {
     match operands {
         [lhs, rhs] => {
-            is_integer(ctx.types(), ty)
-                && has_type(ctx, func, *lhs, ty)
-                && has_type(ctx, func, *rhs, ty)
+            is_integer(ctx.types(), ty) && has_type(ctx, *lhs, ty) && has_type(ctx, *rhs, ty)
         }
         _ => false,
     }
 }
 
-/// Whether these are two values of the function of the integer type that the operation has.
-fn add_fits(ctx: &Context, func: OpRef, operands: &[Value], own: Option<TypeHandle>) -> bool
-    requires func { func.0 < length ctx.now.ops }
+/// Whether these are two values of the integer type that the operation has.
+fn add_fits(ctx: &Context, operands: &[Value], own: Option<TypeHandle>) -> bool
     requires operands { All (IsValueWithin (length ctx.now.ops) (length ctx.now.blocks)) operands.now }
     requires own { IfSome own (λ t. t.0 < length ctx.now.types) }
     requires typed { IsTyped ctx.now }
-    ensures { IsTrue result ↔ ((type : TypeTree) × AreIntegers (func_at ctx.now func) type operands.now × (option_map (tree_at ctx.now) own ≡ Some type)) }
+    ensures { IsTrue result ↔ ((type : TypeTree) × AreIntegers (type_in ctx.now) type operands.now × (option_map (tree_at ctx.now) own ≡ Some type)) }
 {
     match own {
-        Some(ty) => are_integers(ctx, func, operands, ty),
+        Some(ty) => are_integers(ctx, operands, ty),
         None => false,
     }
 }
 
-/// Whether these are two values of the function of some integer type.
-fn are_comparable(ctx: &Context, func: OpRef, operands: &[Value]) -> bool
-    requires func { func.0 < length ctx.now.ops }
+/// Whether these are two values of some integer type.
+fn are_comparable(ctx: &Context, operands: &[Value]) -> bool
     requires operands { All (IsValueWithin (length ctx.now.ops) (length ctx.now.blocks)) operands.now }
     requires typed { IsTyped ctx.now }
-    ensures { IsTrue result ↔ ((type : TypeTree) × AreIntegers (func_at ctx.now func) type operands.now) }
+    ensures { IsTrue result ↔ ((type : TypeTree) × AreIntegers (type_in ctx.now) type operands.now) }
 {
     let Some(lhs) = operands.first() else {
         return false;
     };
-    match type_of(ctx, func, *lhs) {
-        Some(ty) => are_integers(ctx, func, operands, ty),
+    match type_of(ctx, *lhs) {
+        Some(ty) => are_integers(ctx, operands, ty),
         None => false,
     }
 }
@@ -93,31 +88,29 @@ fn gives_bit(types: &TypeStore, own: Option<TypeHandle>) -> bool
     }
 }
 
-/// Whether this is one value of the function, of one bit.
-fn is_condition(ctx: &Context, func: OpRef, operands: &[Value]) -> bool
-    requires func { func.0 < length ctx.now.ops }
+/// Whether this is one value, of one bit.
+fn is_condition(ctx: &Context, operands: &[Value]) -> bool
     requires operands { All (IsValueWithin (length ctx.now.ops) (length ctx.now.blocks)) operands.now }
     requires typed { IsTyped ctx.now }
-    ensures { IsTrue result ↔ ((condition : Value) × (operands.now ≡ condition ∷ []) × (value_type (func_at ctx.now func) condition ≡ Some (IntegerType 1))) }
+    ensures { IsTrue result ↔ ((condition : Value) × (operands.now ≡ condition ∷ []) × (type_in ctx.now condition ≡ Some (IntegerType 1))) }
 {
     match operands {
-        [condition] => gives_bit(ctx.types(), type_of(ctx, func, *condition)),
+        [condition] => gives_bit(ctx.types(), type_of(ctx, *condition)),
         _ => false,
     }
 }
 
 /// Whether these are what a function that returns the type returns.
-fn are_returned(ctx: &Context, func: OpRef, operands: &[Value], ty: TypeHandle) -> bool
-    requires func { func.0 < length ctx.now.ops }
+fn are_returned(ctx: &Context, operands: &[Value], ty: TypeHandle) -> bool
     requires operands { All (IsValueWithin (length ctx.now.ops) (length ctx.now.blocks)) operands.now }
     requires ty { ty.0 < length ctx.now.types }
     requires typed { IsTyped ctx.now }
-    ensures { IsTrue result ↔ Returned (func_at ctx.now func) (tree_at ctx.now ty) operands.now }
+    ensures { IsTrue result ↔ Returned (type_in ctx.now) (tree_at ctx.now ty) operands.now }
 {
     match ctx.types().kind(ty) {
         TypeKind::Void => operands.is_empty(),
         _ => match operands {
-            [value] => has_type(ctx, func, *value, ty),
+            [value] => has_type(ctx, *value, ty),
             _ => false,
         },
     }
@@ -129,13 +122,13 @@ fn return_fits(ctx: &Context, func: OpRef, operands: &[Value]) -> bool
     requires within { func.0 < length ctx.now.ops }
     requires operands { All (IsValueWithin (length ctx.now.ops) (length ctx.now.blocks)) operands.now }
     requires typed { IsTyped ctx.now }
-    ensures { IsTrue result ↔ Returned (func_at ctx.now func) (returned_by (func_at ctx.now func).type) operands.now }
+    ensures { IsTrue result ↔ Returned (type_in ctx.now) (returned_by (func_at ctx.now func).type) operands.now }
 {
     match ctx.types().kind(ctx.symbol_type(func)) {
         TypeKind::Func {
             result: returned,
             ..
-        } => are_returned(ctx, func, operands, *returned),
+        } => are_returned(ctx, operands, *returned),
         _ => operands.is_empty(),
     }
 }
@@ -156,7 +149,7 @@ fn constant_op_fits(
     requires own { IfSome own (λ t. t.0 < length ctx.now.types) }
     requires edges { All (IsSuccessorWithin (length ctx.now.ops) (length ctx.now.blocks)) edges.now }
     requires typed { IsTyped ctx.now }
-    ensures { IsTrue result ↔ IsOfKind (func_at ctx.now func) operands.now (option_map (tree_at ctx.now) own) edges.now (ConstantOp (attr_tree (type_trees ctx.now.types) value.now)) }
+    ensures { IsTrue result ↔ IsOfKind (type_in ctx.now) (func_at ctx.now func) operands.now (option_map (tree_at ctx.now) own) edges.now (ConstantOp (attr_tree (type_trees ctx.now.types) value.now)) }
 {
     operands.is_empty() && edges.is_empty() && constant_fits(ctx.types(), value, own)
 }
@@ -176,9 +169,9 @@ fn add_op_fits(
     requires own { IfSome own (λ t. t.0 < length ctx.now.types) }
     requires edges { All (IsSuccessorWithin (length ctx.now.ops) (length ctx.now.blocks)) edges.now }
     requires typed { IsTyped ctx.now }
-    ensures { IsTrue result ↔ IsOfKind (func_at ctx.now func) operands.now (option_map (tree_at ctx.now) own) edges.now (AddOp flags) }
+    ensures { IsTrue result ↔ IsOfKind (type_in ctx.now) (func_at ctx.now func) operands.now (option_map (tree_at ctx.now) own) edges.now (AddOp flags) }
 {
-    edges.is_empty() && add_fits(ctx, func, operands, own)
+    edges.is_empty() && add_fits(ctx, operands, own)
 }
 
 /// Whether an `llvm.icmp` is as its kind is.
@@ -196,9 +189,9 @@ fn icmp_op_fits(
     requires own { IfSome own (λ t. t.0 < length ctx.now.types) }
     requires edges { All (IsSuccessorWithin (length ctx.now.ops) (length ctx.now.blocks)) edges.now }
     requires typed { IsTyped ctx.now }
-    ensures { IsTrue result ↔ IsOfKind (func_at ctx.now func) operands.now (option_map (tree_at ctx.now) own) edges.now (ICmpOp predicate) }
+    ensures { IsTrue result ↔ IsOfKind (type_in ctx.now) (func_at ctx.now func) operands.now (option_map (tree_at ctx.now) own) edges.now (ICmpOp predicate) }
 {
-    edges.is_empty() && gives_bit(ctx.types(), own) && are_comparable(ctx, func, operands)
+    edges.is_empty() && gives_bit(ctx.types(), own) && are_comparable(ctx, operands)
 }
 
 /// Whether there are neither operands nor a result.
@@ -209,13 +202,12 @@ fn is_bare(ctx: &Context, operands: &[Value], own: Option<TypeHandle>) -> bool
 }
 
 /// Whether there are a condition alone and no result.
-fn is_branch(ctx: &Context, func: OpRef, operands: &[Value], own: Option<TypeHandle>) -> bool
-    requires func { func.0 < length ctx.now.ops }
+fn is_branch(ctx: &Context, operands: &[Value], own: Option<TypeHandle>) -> bool
     requires operands { All (IsValueWithin (length ctx.now.ops) (length ctx.now.blocks)) operands.now }
     requires typed { IsTyped ctx.now }
-    ensures { IsTrue result ↔ ((condition : Value) × (operands.now ≡ condition ∷ []) × (value_type (func_at ctx.now func) condition ≡ Some (IntegerType 1))) × (option_map (tree_at ctx.now) own ≡ None) }
+    ensures { IsTrue result ↔ ((condition : Value) × (operands.now ≡ condition ∷ []) × (type_in ctx.now condition ≡ Some (IntegerType 1))) × (option_map (tree_at ctx.now) own ≡ None) }
 {
-    own.is_none() && is_condition(ctx, func, operands)
+    own.is_none() && is_condition(ctx, operands)
 }
 
 /// Whether an `llvm.br` is as its kind is.
@@ -232,7 +224,7 @@ fn br_fits(
     requires own { IfSome own (λ t. t.0 < length ctx.now.types) }
     requires edges { All (IsSuccessorWithin (length ctx.now.ops) (length ctx.now.blocks)) edges.now }
     requires typed { IsTyped ctx.now }
-    ensures { IsTrue result ↔ IsOfKind (func_at ctx.now func) operands.now (option_map (tree_at ctx.now) own) edges.now BrOp }
+    ensures { IsTrue result ↔ IsOfKind (type_in ctx.now) (func_at ctx.now func) operands.now (option_map (tree_at ctx.now) own) edges.now BrOp }
 {
     is_bare(ctx, operands, own) && edges_fit(ctx, func, edges, 1)
 }
@@ -251,9 +243,9 @@ fn cond_br_fits(
     requires own { IfSome own (λ t. t.0 < length ctx.now.types) }
     requires edges { All (IsSuccessorWithin (length ctx.now.ops) (length ctx.now.blocks)) edges.now }
     requires typed { IsTyped ctx.now }
-    ensures { IsTrue result ↔ IsOfKind (func_at ctx.now func) operands.now (option_map (tree_at ctx.now) own) edges.now CondBrOp }
+    ensures { IsTrue result ↔ IsOfKind (type_in ctx.now) (func_at ctx.now func) operands.now (option_map (tree_at ctx.now) own) edges.now CondBrOp }
 {
-    is_branch(ctx, func, operands, own) && edges_fit(ctx, func, edges, 2)
+    is_branch(ctx, operands, own) && edges_fit(ctx, func, edges, 2)
 }
 
 /// Whether an `llvm.return` is as its kind is.
@@ -270,7 +262,7 @@ fn return_op_fits(
     requires own { IfSome own (λ t. t.0 < length ctx.now.types) }
     requires edges { All (IsSuccessorWithin (length ctx.now.ops) (length ctx.now.blocks)) edges.now }
     requires typed { IsTyped ctx.now }
-    ensures { IsTrue result ↔ IsOfKind (func_at ctx.now func) operands.now (option_map (tree_at ctx.now) own) edges.now ReturnOp }
+    ensures { IsTrue result ↔ IsOfKind (type_in ctx.now) (func_at ctx.now func) operands.now (option_map (tree_at ctx.now) own) edges.now ReturnOp }
 {
     own.is_none() && edges.is_empty() && return_fits(ctx, func, operands)
 }
@@ -289,7 +281,7 @@ fn unreachable_fits(
     requires own { IfSome own (λ t. t.0 < length ctx.now.types) }
     requires edges { All (IsSuccessorWithin (length ctx.now.ops) (length ctx.now.blocks)) edges.now }
     requires typed { IsTyped ctx.now }
-    ensures { IsTrue result ↔ IsOfKind (func_at ctx.now func) operands.now (option_map (tree_at ctx.now) own) edges.now UnreachableOp }
+    ensures { IsTrue result ↔ IsOfKind (type_in ctx.now) (func_at ctx.now func) operands.now (option_map (tree_at ctx.now) own) edges.now UnreachableOp }
 {
     operands.is_empty() && edges.is_empty() && own.is_none()
 }

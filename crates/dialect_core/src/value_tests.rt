@@ -1,10 +1,10 @@
-//! Tests of values and edges: which type a value of a function has, and whether an edge fits its target.
+//! Tests of values and edges: which type a value has, and whether an edge fits its target.
 
 ghost use Rattle.std.specs.Prelude.{◌≡◌, ◌<◌, ◌↔◌, [], ◌∷◌, IsTrue, All, IfSome, Some, None, length, map, slice_get};
 ghost use Rattle.std.specs.Option.{option_map, option_and_then};
 ghost use Rattle.dialect_types.specs.Trees.{TypeTree, type_at, type_trees};
 ghost use Rattle.dialect_core.specs.ContextData.{IsValueWithin, IsSuccessorWithin, region_at};
-ghost use Rattle.dialect_core.specs.Data.{DialectBlock, DialectOp, IsTyped, op_at, block_in, value_type};
+ghost use Rattle.dialect_core.specs.Data.{DialectBlock, DialectOp, IsTyped, op_at, block_in, type_in};
 ghost use Rattle.dialect_core.specs.WellFormed.{AreEdges, IsEdge, IsFirst, IsPastFirsts};
 ghost use Rattle.dialect_core.specs.Checking.{Passes, PassesEach, func_at, target_args, tree_at};
 
@@ -37,58 +37,42 @@ fn argument_of(ctx: &Context, block: BlockRef, place: u32) -> Option<TypeHandle>
     ctx.block_args(block).get(place as usize).copied()
 }
 
-/// The type of a value of a function, None where the function has no such value.
-pub fn type_of(ctx: &Context, func: OpRef, value: Value) -> Option<TypeHandle>
-    requires func { func.0 < length ctx.now.ops }
+/// The type of a value of the context, None where there is no such value.
+pub fn type_of(ctx: &Context, value: Value) -> Option<TypeHandle>
     requires value { IsValueWithin (length ctx.now.ops) (length ctx.now.blocks) value }
     requires typed { IsTyped ctx.now }
-    ensures value { option_map (tree_at ctx.now) result ≡ value_type (func_at ctx.now func) value }
+    ensures value { option_map (tree_at ctx.now) result ≡ type_in ctx.now value }
     ensures within { IfSome result (λ t. t.0 < length ctx.now.types) }
 {
-    let _region = ctx.region(func);
     match value {
-        Value::Result(op) => {
-            if ctx.holds_op(func, op) {
-                result_of(ctx, op)
-            } else {
-                None
-            }
-        }
-        Value::Argument(block, place) => {
-            if ctx.holds_block(func, block) {
-                argument_of(ctx, block, place)
-            } else {
-                None
-            }
-        }
+        Value::Result(op) => result_of(ctx, op),
+        Value::Argument(block, place) => argument_of(ctx, block, place),
     }
 }
 
-/// Whether a value is one of the function and has the type.
-pub fn has_type(ctx: &Context, func: OpRef, value: Value, ty: TypeHandle) -> bool
-    requires func { func.0 < length ctx.now.ops }
+/// Whether a value has the type.
+pub fn has_type(ctx: &Context, value: Value, ty: TypeHandle) -> bool
     requires value { IsValueWithin (length ctx.now.ops) (length ctx.now.blocks) value }
     requires ty { ty.0 < length ctx.now.types }
     requires typed { IsTyped ctx.now }
-    ensures { IsTrue result ↔ value_type (func_at ctx.now func) value ≡ Some (tree_at ctx.now ty) }
+    ensures { IsTrue result ↔ type_in ctx.now value ≡ Some (tree_at ctx.now ty) }
 {
-    match type_of(ctx, func, value) {
+    match type_of(ctx, value) {
         Some(own) => same_type(ctx.types(), own, ty),
         None => false,
     }
 }
 
-/// Whether a value is one of the function, and has the type that is wanted, if one is.
-fn passes(ctx: &Context, func: OpRef, value: Value, wanted: Option<TypeHandle>) -> bool
-    requires func { func.0 < length ctx.now.ops }
+/// Whether there is such a value, and it has the type that is wanted, if one is.
+fn passes(ctx: &Context, value: Value, wanted: Option<TypeHandle>) -> bool
     requires value { IsValueWithin (length ctx.now.ops) (length ctx.now.blocks) value }
     requires wanted { IfSome wanted (λ t. t.0 < length ctx.now.types) }
     requires typed { IsTyped ctx.now }
-    ensures { IsTrue result ↔ Passes (func_at ctx.now func) (option_map (tree_at ctx.now) wanted) value }
+    ensures { IsTrue result ↔ Passes (type_in ctx.now) (option_map (tree_at ctx.now) wanted) value }
 {
     match wanted {
-        Some(ty) => has_type(ctx, func, value, ty),
-        None => type_of(ctx, func, value).is_some(),
+        Some(ty) => has_type(ctx, value, ty),
+        None => type_of(ctx, value).is_some(),
     }
 }
 
@@ -108,16 +92,15 @@ fn wanted_by(ctx: &Context, func: OpRef, block: BlockRef) -> &[TypeHandle]
     }
 }
 
-/// Whether values of the function have the types that are wanted at their places.
-fn pass_each(ctx: &Context, func: OpRef, values: &[Value], wanted: &[TypeHandle]) -> bool
-    requires func { func.0 < length ctx.now.ops }
+/// Whether values have the types that are wanted at their places.
+fn pass_each(ctx: &Context, values: &[Value], wanted: &[TypeHandle]) -> bool
     requires values { All (IsValueWithin (length ctx.now.ops) (length ctx.now.blocks)) values.now }
     requires wanted { All (λ t. t.0 < length ctx.now.types) wanted.now }
     requires typed { IsTyped ctx.now }
-    ensures { IsTrue result ↔ PassesEach (func_at ctx.now func) (map (tree_at ctx.now) wanted.now) values.now }
+    ensures { IsTrue result ↔ PassesEach (type_in ctx.now) (map (tree_at ctx.now) wanted.now) values.now }
 {
     for (place, value) in values.iter().enumerate() {
-        if !passes(ctx, func, *value, wanted.get(place).copied()) {
+        if !passes(ctx, *value, wanted.get(place).copied()) {
             return false;
         }
     }
@@ -140,11 +123,11 @@ fn edge_fits(ctx: &Context, func: OpRef, edge: &Successor) -> bool
     requires func { func.0 < length ctx.now.ops }
     requires edge { IsSuccessorWithin (length ctx.now.ops) (length ctx.now.blocks) edge.now }
     requires typed { IsTyped ctx.now }
-    ensures { IsTrue result ↔ IsEdge (func_at ctx.now func) edge.now }
+    ensures { IsTrue result ↔ IsEdge (type_in ctx.now) (func_at ctx.now func) edge.now }
 {
     let _region = ctx.region(func);
     let wanted = wanted_by(ctx, func, edge.block);
-    is_past_entry(ctx, func, edge.block) && pass_each(ctx, func, edge.args.as_slice(), wanted)
+    is_past_entry(ctx, func, edge.block) && pass_each(ctx, edge.args.as_slice(), wanted)
 }
 
 /// Whether each edge of the function fits its target.
@@ -152,7 +135,7 @@ fn all_edges_fit(ctx: &Context, func: OpRef, edges: &[Successor]) -> bool
     requires func { func.0 < length ctx.now.ops }
     requires edges { All (IsSuccessorWithin (length ctx.now.ops) (length ctx.now.blocks)) edges.now }
     requires typed { IsTyped ctx.now }
-    ensures { IsTrue result ↔ All (IsEdge (func_at ctx.now func)) edges.now }
+    ensures { IsTrue result ↔ All (IsEdge (type_in ctx.now) (func_at ctx.now func)) edges.now }
 {
     for edge in edges {
         if !edge_fits(ctx, func, edge) {
@@ -167,7 +150,7 @@ pub fn edges_fit(ctx: &Context, func: OpRef, edges: &[Successor], count: usize) 
     requires func { func.0 < length ctx.now.ops }
     requires edges { All (IsSuccessorWithin (length ctx.now.ops) (length ctx.now.blocks)) edges.now }
     requires typed { IsTyped ctx.now }
-    ensures { IsTrue result ↔ AreEdges (func_at ctx.now func) count edges.now }
+    ensures { IsTrue result ↔ AreEdges (type_in ctx.now) (func_at ctx.now func) count edges.now }
 {
     edges.len() == count && all_edges_fit(ctx, func, edges)
 }

@@ -1,11 +1,12 @@
 -- Bytes that keep what stood there before, and texts with commas between them.
-use Rattle.std.proofs.Common.{◌≡◌, ◌<◌, ◌+◌, ℕ, zero, suc, Bool, List, [], ◌∷◌, ◌++◌, length, get_or, take, map, refl, sym, ◌∙◌, ap, append_assoc, arith}
-use Rattle.std.specs.Prelude.{codes}
+use Rattle.std.proofs.Common.{◌≡◌, ◌<◌, ◌+◌, ℕ, zero, suc, Ok, Err, Bool, List, [], ◌∷◌, ◌++◌, length, get_or, take, map, refl, sym, ◌∙◌, ap, append_assoc, arith}
+use Rattle.std.specs.Fmt.{decimal}
+use Rattle.std.specs.Prelude.{OnOk, Result, codes, is_ok, if◌then◌else◌}
 use Rattle.std.proofs.Math.Seq.{take-length}
 use Rattle.std.proofs.lemmas.List.{append-nil, take_more, map-append, length-map, length-take-le}
 use Rattle.dialect_types.specs.declared.types.TypeHandle.{TypeHandle}
-use Rattle.dialect_types.specs.Trees.{TypeTree, FuncType, types_at, type_at, AllBelow}
-use Rattle.dialect_types.specs.Text.{Keeps, comma_before, each_after, joined, truth_text, type_text, type_texts}
+use Rattle.dialect_types.specs.Trees.{IntegerAttr, TypeTree, FuncType, types_at, type_at, AllBelow}
+use Rattle.dialect_types.specs.Text.{Keeps, attr_text, inner_type_text, comma_before, each_after, joined, truth_text, type_text, type_texts}
 
 pub keeps_same : (a : List ℕ) → Keeps a a
 keeps_same a = record { rest = []; is = sym (append-nil a) }
@@ -15,6 +16,17 @@ keeps_more a b c h = record { rest = h.rest ++ c; is = ap (λ (x : List ℕ). x 
 
 pub keeps_then : (a b c : List ℕ) → Keeps a b → Keeps b c → Keeps a c
 keeps_then a b c h k = record { rest = h.rest ++ k.rest; is = k.is ∙ ap (λ (x : List ℕ). x ++ k.rest) h.is ∙ append_assoc a h.rest k.rest }
+
+pub keeps_appended : (a x b : List ℕ) → b ≡ a ++ x → Keeps a b
+keeps_appended a x b e = record { rest = x; is = e }
+
+pub keeps_equal : (a b c : List ℕ) → Keeps a b → c ≡ b → Keeps a c
+keeps_equal a b c h e = record { rest = h.rest; is = e ∙ h.is }
+
+-- after a call that appends on `Ok` alone
+pub keeps_extended : {E : Type 0} (r : Result (Unit {0}) E) (a x b : List ℕ) → b ≡ (if is_ok r then a ++ x else a) → Keeps a b
+keeps_extended (Ok v) a x b e = keeps_appended a x b e
+keeps_extended (Err v) a x b e = keeps_equal a a b (keeps_same a) e
 
 -- the rules by which bytes keep what stood there
 pub ruleset keeping = (keeps_same, keeps_more, keeps_then)
@@ -57,13 +69,21 @@ joined_step f xs i d start before comma after h so_far with_comma with_text =
     ∙ ap (λ (x : List ℕ). start ++ x) (sym (joined_more f xs i d h))
 
 -- the pieces of a function type, one after another
-pub func_printed : (ts : List TypeTree) (r : TypeHandle) (ps qs : List TypeHandle) (v : Bool) (n : ℕ) (o head result opened params close truth end : List ℕ)
+pub func_printed : (ts : List TypeTree) (r : TypeHandle) (ps qs : List TypeHandle) (v : Bool) (n : ℕ) (o head result opened params end : List ℕ)
     → qs ≡ ps → n ≡ length qs
     → head ≡ o ++ codes "llvm.func <" → result ≡ head ++ type_text (type_at ts r) → opened ≡ result ++ codes " ("
     → params ≡ opened ++ joined (map (λ (x : TypeHandle). type_text (type_at ts x)) (take n qs))
-    → close ≡ params ++ codes ") variadic = " → truth ≡ close ++ truth_text v → end ≡ truth ++ codes ">"
+    → end ≡ params ++ codes ") variadic = " ++ truth_text v ++ codes ">"
     → end ≡ o ++ type_text (FuncType (type_at ts r) (types_at ts ps) v)
-func_printed ts r ps qs v n o head result opened params close truth end same all e1 e2 e3 e4 e5 e6 e7 =
+func_printed ts r ps qs v n o head result opened params end same all e1 e2 e3 e4 e5 =
     let whole : take n qs ≡ ps = ap (λ (k : ℕ). take k qs) all ∙ take-length qs ∙ same in
     let texts = ap joined (ap (map (λ (x : TypeHandle). type_text (type_at ts x))) whole ∙ sym (type_texts-map ts ps)) in
-    simp (e7, e6, e5, e4, texts, e3, e2, e1, append_assoc)
+    simp (e5, e4, texts, e3, e2, e1, append_assoc)
+
+-- the pieces of an integer constant, one after another
+pub integer_printed : {E : Type 0} (r : Result (Unit {0}) E) (t : TypeTree) (v : ℕ) (o head number colon type end : List ℕ)
+    → head ≡ o ++ codes "builtin.integer <" → number ≡ head ++ decimal v → colon ≡ number ++ codes ": " → type ≡ colon ++ inner_type_text t
+    → end ≡ (if is_ok r then type ++ codes ">" else type)
+    → OnOk r (end ≡ o ++ attr_text (IntegerAttr t v))
+integer_printed (Ok done) t v o head number colon type end e1 e2 e3 e4 e5 = simp (e5, e4, e3, e2, e1, append_assoc)
+integer_printed (Err fault) t v o head number colon type end e1 e2 e3 e4 e5 = tt

@@ -1,6 +1,6 @@
 //! The dialect text of types and constants.
 
-ghost use Rattle.std.specs.Prelude.{◌≡◌, ◌<◌, ◌++◌, length, take, OnErr, OnOk};
+ghost use Rattle.std.specs.Prelude.{◌≡◌, ◌<◌, ◌++◌, codes, length, take, OnErr, OnOk};
 ghost use Rattle.std.specs.Fmt.{decimal};
 ghost use Rattle.dialect_types.specs.Trees.{type_at, type_trees, attr_tree, HasTypesBelow, IntegerAttr};
 ghost use Rattle.dialect_types.specs.Text.{Keeps, comma_before, inner_type_text, type_text, attr_text, truth_text};
@@ -41,6 +41,16 @@ pub fn print_truth(truth: bool, out: &mut Vec<u8>) -> Result<(), AllocError>
     } else {
         out.extend_from_slice(b"false")
     }
+}
+
+/// Appends what stands behind the parameters of a function type.
+fn print_func_end(variadic: bool, out: &mut Vec<u8>) -> Result<(), AllocError>
+    ensures ok { OnOk result (out.new.items ≡ out.old.items ++ codes ") variadic = " ++ truth_text variadic ++ codes ">") }
+    ensures kept { Keeps out.old.items out.new.items }
+{
+    out.extend_from_slice(b") variadic = ")?;
+    print_truth(variadic, out)?;
+    out.extend_from_slice(b">")
 }
 
 /// Takes back what was appended behind the first `len` bytes, where the printing failed.
@@ -95,10 +105,7 @@ impl TypeStore {
                     print_comma_before(i, out)?;
                     self.append_type(*param, out)?;
                 }
-                out.extend_from_slice(b") variadic = ")?;
-                print_truth(*variadic, out)?;
-                out.extend_from_slice(b">")?;
-                Ok(())
+                print_func_end(*variadic, out)
             }
         }
     }
@@ -134,8 +141,7 @@ fn append_integer(
     print_number(value, out)?;
     out.extend_from_slice(b": ")?;
     types.append_inner_type(ty, out)?;
-    out.extend_from_slice(b">")?;
-    Ok(())
+    out.extend_from_slice(b">")
 }
 
 impl ConstAttr {

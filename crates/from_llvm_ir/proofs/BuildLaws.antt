@@ -13,13 +13,14 @@ use Rattle.dialect_core.specs.declared.ops.OpData.{OpData}
 use Rattle.dialect_core.specs.declared.ops.BlockData.{BlockData}
 use Rattle.dialect_core.specs.declared.linkage.LinkageAttr.TheVariants.{ExternalLinkage}
 use Rattle.dialect_core.specs.ContextData.{ContextData, with_op, with_appended, with_block, kind_at, region_at, HoldsMore}
-use Rattle.dialect_core.specs.Data.{DialectModule, Func, DialectBlock, IsTyped, data_of, func_of, func_in, more_block, with_func, with_func_block}
-use Rattle.dialect_core.specs.Lists.{with_change}
+use Rattle.dialect_core.specs.Data.{DialectModule, Func, DialectBlock, data_of, func_of, func_in, more_block, with_func, with_func_block}
+use Rattle.dialect_core.specs.Lists.{list_at, with_change}
 use Rattle.dialect_core.proofs.ListLemmas.{slice_get-append, slice_get-last}
 use Rattle.dialect_core.proofs.FilterLemmas.{change_get, change_length}
-use Rattle.from_llvm_ir.specs.Imported.{HasFuncsApart, IsHeld, IsBuilding, IsBelow}
+use Rattle.from_llvm_ir.specs.Imported.{HasFuncsApart, IsHeld, IsOwn, IsBuilding, IsBelow}
 use Rattle.from_llvm_ir.specs.Building.{bare_func}
 use Rattle.from_llvm_ir.proofs.ApartLaws.{kind_there, op_apart, func_apart, block_apart}
+use Rattle.from_llvm_ir.proofs.OwnLaws.{own_op, own_appended, own_block}
 
 pub length-push : {X : Type 0} (xs : List X) (x : X) → length (xs ++ x ∷ []) ≡ length xs + 1
 length-push xs x = length-append xs (x ∷ [])
@@ -32,7 +33,7 @@ pub holder_kept : (ops : List OpData) (x : OpData) (v : Option BlockData) (k : O
 holder_kept ops x None k h = h
 holder_kept ops x (Some b) k h = ap (option_map (λ (y : OpData). y.kind)) (still ops x b.holder.0 (kind_there ops b.holder k h)) ∙ h
 
-region_kept : (ops : List OpData) (x : OpData) (m : ℕ) → m < length ops → region_at (ops ++ x ∷ []) m ≡ region_at ops m
+pub region_kept : (ops : List OpData) (x : OpData) (m : ℕ) → m < length ops → region_at (ops ++ x ∷ []) m ≡ region_at ops m
 region_kept ops x m small = ap (λ (v : Option OpData). option_map_or (λ (y : OpData). y.blocks) v []) (still ops x m small)
 
 pub below_more : (n k n' k' : ℕ) → n ≤ n' → k ≤ k' → (fs : List Func) → All (IsBelow n k) fs → All (IsBelow n' k') fs
@@ -63,7 +64,7 @@ stands_func c0 c1 body o name ty m d h e number = (
 pub at_end : (ops : List OpData) (x : OpData) (o : OpRef) → o.0 ≡ length ops → slice_get (ops ++ x ∷ []) o.0 ≡ Some x
 at_end ops x o number = rw number (slice_get-last ops x)
 
-func_here : (c0 c1 : ContextData) (o : OpRef) (name : List ℕ) (ty : TypeHandle) → c1 ≡ with_op c0 (func_data name ty) → o.0 ≡ length c0.ops → func_in (type_trees c1.types) c1 o ≡ Some (bare_func o.0 name (type_at (type_trees c0.types) ty))
+pub func_here : (c0 c1 : ContextData) (o : OpRef) (name : List ℕ) (ty : TypeHandle) → c1 ≡ with_op c0 (func_data name ty) → o.0 ≡ length c0.ops → func_in (type_trees c1.types) c1 o ≡ Some (bare_func o.0 name (type_at (type_trees c0.types) ty))
 func_here c0 c1 o name ty e number =
     rw e (ap (option_and_then (func_of (type_trees c0.types) (with_op c0 (func_data name ty)) o)) (at_end c0.ops (func_data name ty) o number))
 
@@ -72,11 +73,11 @@ pub added_func : (c0 c1 c2 : ContextData) (m : ℕ) (body : BlockRef) (d : Diale
     → c1 ≡ with_op c0 (func_data name ty)
     → o.0 ≡ length c0.ops
     → data_of c1 m ≡ data_of c0 m
-    → IsTyped c2
+    → ty.0 < length c0.types
     → c2 ≡ with_appended c1 o body
     → ((f : Func) → func_in (type_trees c1.types) c1 o ≡ Some f → (m : ℕ) → region_at c1.ops m ≡ body ∷ [] → data_of c2 m ≡ with_func (data_of c1 m) f)
     → IsBuilding c2 m body (with_func d (bare_func o.0 name (type_at (type_trees c0.types) ty)))
-added_func c0 c1 c2 m body d o name ty h e1 number data1 typed e2 data2 =
+added_func c0 c1 c2 m body d o name ty h e1 number data1 there e2 data2 =
     let ops : c2.ops ≡ c0.ops ++ func_data name ty ∷ [] = ap (λ (c : ContextData). c.ops) e2 ∙ ap (λ (c : ContextData). c.ops) e1 in
     let blocks : c2.blocks ≡ c0.blocks = ap (λ (c : ContextData). c.blocks) e2 ∙ ap (λ (c : ContextData). c.blocks) e1 in
     let f = bare_func o.0 name (type_at (type_trees c0.types) ty) in
@@ -84,12 +85,13 @@ added_func c0 c1 c2 m body d o name ty h e1 number data1 typed e2 data2 =
     let here : func_in (type_trees c1.types) c1 o ≡ Some f = func_here c0 c1 o name ty e1 number in
     let kind1 : kind_at c1.ops o ≡ Some K.Func = (stands_func c0 c1 body o name ty m d h e1 number).0 in
     let apart1 : HasFuncsApart c1 body = subst (λ (c : ContextData). HasFuncsApart c body) (sym e1) (op_apart c0 (func_data name ty) body h.apart) in
+    let own1 : IsOwn c1 m body = subst (λ (c : ContextData). IsOwn c m body) (sym e1) (own_op c0 (func_data name ty) m body h.own (record { kind = tt; result = tt; symbol = there }) refl) in
     record {
       held = held_op c0 c2 (func_data name ty) m body h.held ops blocks;
       apart = subst (λ (c : ContextData). HasFuncsApart c body) (sym e2) (func_apart c1 o body apart1 kind1);
       is = data2 f here m region1 ∙ ap (λ (x : DialectModule). with_func x f) (data1 ∙ h.is);
       there = rw ops (omega (arith, h.there, length-push c0.ops (func_data name ty)));
-      typed = typed;
+      own = subst (λ (c : ContextData). IsOwn c m body) (sym e2) (own_appended c1 o body m body own1 (omega (arith, h.there, number)));
       below = rw (ops, blocks)
           (All-push (IsBelow (length (c0.ops ++ func_data name ty ∷ [])) (length c0.blocks)) d.functions f
           (below_more (length c0.ops) (length c0.blocks) _ _ (omega (arith, length-push c0.ops (func_data name ty))) (omega arith) d.functions h.below)
@@ -155,13 +157,15 @@ pub added_block : (c0 c1 : ContextData) (m : ℕ) (body : BlockRef) (d : Dialect
     → c1 ≡ with_block c0 b (record { holder = f; label = label; args = args })
     → b.0 ≡ length c0.blocks
     → data_of c1 m ≡ with_func_block (data_of c0 m) f.0 (new_block c0 b label args)
-    → IsTyped c1
+    → All (λ (t : TypeHandle). t.0 < length c0.types) args
+    → list_at c1.lists b ≡ []
     → IsBuilding c1 m body (with_func_block d f.0 (new_block c0 b label args))
-added_block c0 c1 m body d b f label args h func e number is typed =
+added_block c0 c1 m body d b f label args h func e number is typed empty =
     let x : BlockData = record { holder = f; label = label; args = args } in
     let ops : c1.ops ≡ with_change (region_more b) f.0 c0.ops = ap (λ (c : ContextData). c.ops) e in
     let blocks : c1.blocks ≡ c0.blocks ++ x ∷ [] = ap (λ (c : ContextData). c.blocks) e in
     let apart = apart_kinds c0.ops m f.0 h.held.kind func in
+    let bare : list_at (with_block c0 b x).lists b ≡ [] = subst (λ (c : ContextData). list_at c.lists b ≡ []) e empty in
     record {
       held = record {
         kind = rw ops (kind_change c0.ops b f.0 (record { 0 = m }) ∙ h.held.kind);
@@ -170,10 +174,10 @@ added_block c0 c1 m body d b f label args h func e number is typed =
         holder = rw (ops, blocks)
             (holder_change c0.ops b f.0 (slice_get (c0.blocks ++ x ∷ []) body.0) ∙ ap (option_and_then (λ (y : BlockData). kind_at c0.ops y.holder)) (block_still c0.blocks x body.0 h.held.block) ∙ h.held.holder);
       };
-      apart = subst (λ (c : ContextData). HasFuncsApart c body) (sym e) (block_apart c0 b body x h.apart);
+      apart = subst (λ (c : ContextData). HasFuncsApart c body) (sym e) (block_apart c0 b body x h.apart number bare);
       is = is ∙ ap (λ (y : DialectModule). with_func_block y f.0 (new_block c0 b label args)) h.is;
       there = rw ops (omega (arith, h.there, change_length (region_more b) f.0 c0.ops));
-      typed = typed;
+      own = subst (λ (c : ContextData). IsOwn c m body) (sym e) (own_block c0 b x m body h.own number (omega (arith, number, h.held.block)) typed bare);
       below = rw (ops, blocks)
           (below_block (length (with_change (region_more b) f.0 c0.ops)) (length (c0.blocks ++ x ∷ [])) f.0 (new_block c0 b label args) d.functions (omega (arith, number, length-push c0.blocks x))
           (below_more (length c0.ops) (length c0.blocks) _ _ (omega (arith, change_length (region_more b) f.0 c0.ops)) (omega (arith, length-push c0.blocks x)) d.functions h.below));

@@ -288,6 +288,9 @@ module _ (n : ℕ) (k : Known) (cs : List DialectBlock) (h : IsWhole k cs) where
         others = all_from (λ (o : DialectOp). DF.is_constant o ≡ false) e.2.rest (row_other (first_source n k cs h).0 e.2.rest e.2.rows);
       }
 
+  pub constants_in_entry : DF.HasConstantsInEntry G
+  constants_in_entry = let e = entry n k cs h in record { entry = e.0; here = e.1; first = constants_first; others = others_of }
+
   pub form_of : DF.IsFormFunc G
   form_of =
       let e = entry n k cs h in
@@ -306,8 +309,6 @@ module _ (n : ℕ) (k : Known) (cs : List DialectBlock) (h : IsWhole k cs) where
         body = body.1;
         params = e.2.head.args ∙ ap args_from h.form.type;
         blocks = all_from (DF.IsFormBlock G) cs block_is;
-        constants = constants_first;
-        others = all_from (λ (b : DialectBlock). All (λ (o : DialectOp). DF.is_constant o ≡ false) b.ops) body.0 (λ j c at. others_of j c (ap (λ (xs : List DialectBlock). slice_get xs (suc j)) body.1 ∙ at));
         block_numbers = λ i j a b at_a at_b same. target_apart n k cs h i j a b at_a at_b same;
         numbers = h.fresh;
       }

@@ -6,7 +6,9 @@ pub mod NameLaws
 pub mod PlaceLaws
 pub mod OrderLaws
 pub mod ApartLaws
+pub mod OwnLaws
 pub mod BuildLaws
+pub mod KeepLaws
 pub mod OpLaws
 pub mod UnderLaws
 pub mod SourceLaws

@@ -1,7 +1,7 @@
 -- The start of a dialect module, and one function after another.
-use Rattle.std.proofs.Common.{ℕ, ◌≡◌, ◌+◌, inr, refl, sym, ap, subst, ◌∙◌, List, [], ◌∷◌, ◌++◌, Some, None, map, length, take, slice_get, get_or, arith}
-use Rattle.std.specs.Option.{option_map}
-use Rattle.std.proofs.lemmas.Option.{get_or_from_slice_get, slice_get-map}
+use Rattle.std.proofs.Common.{ℕ, ◌≡◌, ◌+◌, inr, refl, sym, ap, subst, ◌∙◌, List, [], ◌∷◌, ◌++◌, Option, Some, None, All, map, length, take, slice_get, get_or, arith, eq-eqb}
+use Rattle.std.specs.Option.{option_map, option_map_or, option_and_then}
+use Rattle.std.proofs.lemmas.Option.{get_or_from_slice_get, slice_get-map, slice_get_within}
 use Rattle.std.proofs.lemmas.List.{take_all, map_push}
 use Rattle.std.proofs.lemmas.List.Elements.{All-nil}
 use Rattle.llvm_core.specs.declared.numbers.LLVMFunction.{LLVMFunction}
@@ -13,58 +13,75 @@ use Rattle.dialect_types.specs.Names.{legal_name}
 use Rattle.dialect_core.specs.declared.numbers.BlockRef.{BlockRef}
 use Rattle.dialect_core.specs.declared.numbers.OpRef.{OpRef}
 use Rattle.dialect_core.specs.declared.ops.OpData.{OpData}
+use Rattle.dialect_core.specs.declared.ops.BlockData.{BlockData}
 use Rattle.dialect_core.specs.declared.ops.OpKind.TheVariants as K
-use Rattle.dialect_core.specs.ContextData.{ContextData, AreRegions, IsSymbol, empty_context, with_op, with_block, HoldsMore, holder_at, kind_at, region_at}
-use Rattle.dialect_core.specs.Data.{DialectModule, Func, IsTyped, with_func, data_of}
+use Rattle.dialect_core.specs.Lists.{list_at, with_change}
+use Rattle.dialect_core.specs.ContextData.{ContextData, AreRegions, IsSymbol, with_op, with_block, HoldsMore, holder_at, kind_at, region_at}
+use Rattle.dialect_core.specs.Data.{DialectModule, Func, with_func, data_of}
+use Rattle.dialect_core.proofs.CallerLemmas.{new_item}
+use Rattle.dialect_core.proofs.FilterLemmas.{change_get}
 use Rattle.from_llvm_ir.specs.declared.importing.Imported.{Imported}
 use Rattle.from_llvm_ir.specs.declared.matching.FunctionBlocks.{FunctionBlocks}
 use Rattle.from_llvm_ir.specs.declared.conversion_err.ConversionErr.{ConversionErr}
 use Rattle.from_llvm_ir.specs.declared.conversion_err.ConversionErr.TheVariants as E
-use Rattle.from_llvm_ir.specs.Imported.{HasFuncsApart, AreImported, NoneImported, ThenImported, ImportedFunction, IsBuilding, IsImported, imported_data}
+use Rattle.from_llvm_ir.specs.Imported.{IsOwn, AreImported, NoneImported, ThenImported, ImportedFunction, IsBuilding, IsImported, imported_data}
 use Rattle.from_llvm_ir.specs.Refusals.{IsCause, IsRefusalOfFunction}
 use Rattle.from_llvm_ir.specs.Source.{IsSource}
 use Rattle.from_llvm_ir.specs.Importing.{IsImportedTo}
 use Rattle.from_llvm_ir.specs.Building.{module_named}
-use Rattle.from_llvm_ir.proofs.ApartLaws.{empty_apart, op_apart, block_apart}
+use Rattle.from_llvm_ir.proofs.BuildLaws.{at_end, length-push, region_more}
+use Rattle.from_llvm_ir.proofs.OwnLaws.{own_start, own_op, own_block}
 use Rattle.from_llvm_ir.proofs.ListLaws.{take_next}
 use Rattle.from_llvm_ir.proofs.WellLaws.{well_formed}
 
 abbrev pub module_op : List ℕ → OpData
 module_op name = record { kind = K.Module; name = Some name; operands = []; successors = []; result = None; symbol = None; blocks = [] }
 
-empty_context_typed : IsTyped empty_context
-empty_context_typed = record { ops = λ o x h. absurd (let no : ⊥ = cc h in no); blocks = λ b x h. absurd (let no : ⊥ = cc h in no) }
+-- a new module may hold a block
+pub module_holds : (c0 c1 : ContextData) (o : OpRef) (name : List ℕ) → c1 ≡ with_op c0 (module_op name) → o.0 ≡ length c0.ops → HoldsMore c1.ops o
+module_holds c0 c1 o name e1 number =
+    let at : slice_get c1.ops o.0 ≡ Some (module_op name) = ap (λ (c : ContextData). slice_get c.ops o.0) e1 ∙ at_end c0.ops (module_op name) o number in
+    inr (ap (option_map (λ (x : OpData). x.kind)) at, ap (λ (x : Option OpData). option_map_or (λ (y : OpData). y.blocks) x []) at)
 
-pub module_holds : (c0 c1 : ContextData) (o : OpRef) (name : List ℕ) → c0 ≡ empty_context → c1 ≡ with_op c0 (module_op name) → o.0 ≡ length c0.ops → HoldsMore c1.ops o
-module_holds c0 c1 o name e0 e1 number = let n0 : o.0 ≡ 0 = number ∙ ap (λ (c : ContextData). length c.ops) e0 in inr (rw (e1, e0, n0) refl, rw (e1, e0, n0) refl)
-
+-- a new module, with a new block that holds nothing, behind whatever the context held
 pub started : (c0 c1 c2 : ContextData) (o : OpRef) (b : BlockRef) (name : List ℕ)
-    → c0 ≡ empty_context → c1 ≡ with_op c0 (module_op name) → o.0 ≡ length c0.ops
+    → c1 ≡ with_op c0 (module_op name) → o.0 ≡ length c0.ops
     → c2 ≡ with_block c1 b (record { holder = o; label = None; args = [] }) → b.0 ≡ length c1.blocks
-    → data_of c2 o.0 ≡ module_named name → IsTyped c2
+    → data_of c2 o.0 ≡ module_named name → list_at c2.lists b ≡ []
     → IsBuilding c2 o.0 b (module_named name)
-started c0 c1 c2 o b name e0 e1 number e2 place is typed =
-    let n0 : o.0 ≡ 0 = number ∙ ap (λ (c : ContextData). length c.ops) e0 in
-    let c1_is : c1 ≡ with_op empty_context (module_op name) = e1 ∙ ap (λ (c : ContextData). with_op c (module_op name)) e0 in
-    let b0 : b.0 ≡ 0 = place ∙ ap (λ (c : ContextData). length c.blocks) c1_is in
-    let c2_is : c2 ≡ with_block (with_op empty_context (module_op name)) b (record { holder = o; label = None; args = [] }) = e2 ∙ ap (λ (c : ContextData). with_block c b (record { holder = o; label = None; args = [] })) c1_is in
+started c0 c1 c2 o b name e1 number e2 place is empty =
+    let x : BlockData = record { holder = o; label = None; args = [] } in
+    let ops : c2.ops ≡ with_change (region_more b) o.0 c1.ops = ap (λ (c : ContextData). c.ops) e2 in
+    let blocks : c2.blocks ≡ c1.blocks ++ x ∷ [] = ap (λ (c : ContextData). c.blocks) e2 in
+    let at1 : slice_get c1.ops o.0 ≡ Some (module_op name) = ap (λ (c : ContextData). slice_get c.ops o.0) e1 ∙ at_end c0.ops (module_op name) o number in
+    let at2 : slice_get c2.ops o.0 ≡ Some (region_more b (module_op name)) =
+    ap (λ (ys : List OpData). slice_get ys o.0) ops ∙ change_get (region_more b) o.0 c1.ops o.0 ∙ rw (eq-eqb o.0 o.0 refl) (ap (option_map (region_more b)) at1) in
+    let kind : kind_at c2.ops o ≡ Some K.Module = ap (option_map (λ (y : OpData). y.kind)) at2 in
+    let here : slice_get c2.blocks b.0 ≡ Some x = ap (λ (ys : List BlockData). slice_get ys b.0) blocks ∙ new_item c1.blocks x b.0 place in
+    let count : length c2.blocks ≡ length c1.blocks + 1 = ap (λ (ys : List BlockData). length ys) blocks ∙ length-push c1.blocks x in
+    let bare : list_at (with_block c1 b x).lists b ≡ [] = subst (λ (c : ContextData). list_at c.lists b ≡ []) e2 empty in
     record {
       held = record {
-        kind = rw (c2_is, n0) refl;
-        region = rw (c2_is, n0) refl;
-        block = rw (c2_is, b0) (omega arith);
-        holder = rw (c2_is, b0, n0) refl;
+        kind = kind;
+        region = ap (λ (y : Option OpData). option_map_or (λ (z : OpData). z.blocks) y []) at2;
+        block = omega (arith, count, place);
+        holder = ap (option_and_then (λ (y : BlockData). kind_at c2.ops y.holder)) here ∙ kind;
       };
-      apart = subst (λ (c : ContextData). HasFuncsApart c b) (sym c2_is)
-          (block_apart (with_op empty_context (module_op name)) b b (record { holder = o; label = None; args = [] }) (op_apart empty_context (module_op name) b (empty_apart b)));
+      apart = record {
+        funcs = let P : List OpRef → Type 0 = All (λ (q : OpRef). kind_at c2.ops q ≡ Some K.Func) in subst P (sym empty) (All-nil _);
+        plain = λ p behind within. absurd (omega (arith, behind, within, count, place));
+      };
       is = is;
-      there = rw (c2_is, n0) (omega arith);
-      typed = typed;
+      there = slice_get_within c2.ops o.0 _ at2;
+      own = subst (λ (c : ContextData). IsOwn c o.0 b) (sym e2) (own_block c1 b x o.0 b (own_first c0 c1 o b name e1 number place) place (omega arith) (All-nil _) bare);
       below = All-nil _;
     }
-
-pub typed_start : (c0 c1 c2 : ContextData) → c0 ≡ empty_context → (IsTyped c0 → IsTyped c1) → (IsTyped c1 → IsTyped c2) → IsTyped c2
-typed_start c0 c1 c2 e f g = g (f (subst IsTyped (sym e) empty_context_typed))
+  where
+    own_first : (c0 c1 : ContextData) (o : OpRef) (b : BlockRef) (name : List ℕ) → c1 ≡ with_op c0 (module_op name) → o.0 ≡ length c0.ops → b.0 ≡ length c1.blocks → IsOwn c1 o.0 b
+    own_first c0 c1 o b name e1 number place =
+        let place0 : b.0 ≡ length c0.blocks = place ∙ ap (λ (c : ContextData). length c.blocks) e1 in
+        let own0 : IsOwn c0 o.0 b = subst (λ (n : ℕ). IsOwn c0 n b) (sym number) (own_start c0 b place0) in
+        subst (λ (c : ContextData). IsOwn c o.0 b) (sym e1) (own_op c0 (module_op name) o.0 b own0 (record { kind = tt; result = tt; symbol = tt }) refl)
 
 -- ---- one function more
 
@@ -88,12 +105,12 @@ imported_more d k g c c' o body name xs x h at one = record {
 }
 
 -- the module is imported when all functions are
-pub imported_whole : (m : Module) (i : Imported) (body : BlockRef) → AreRegions (region_at i.ctx.ops) (holder_at i.ctx.blocks) → ((o : OpRef) → kind_at i.ctx.ops o ≡ Some K.Func → IsSymbol i.ctx.ops o)
-    → IsImportedTo (source_of m) (length m.functions) i.ctx i.«module».0.0 body (legal_name m.name) i.blocks → IsImported (source_of m) i
-imported_whole m i body regions symbols h =
-    let same : imported_data i ≡ h.so_far = h.building.is in
+pub imported_whole : (m : Module) (c : ContextData) (i : Imported) (body : BlockRef) → AreRegions (region_at c.ops) (holder_at c.blocks) → ((o : OpRef) → kind_at c.ops o ≡ Some K.Func → IsSymbol c.ops o)
+    → IsImportedTo (source_of m) (length m.functions) c i.«module».0.0 body (legal_name m.name) i.blocks → IsImported (source_of m) c i
+imported_whole m c i body regions symbols h =
+    let same : imported_data c i ≡ h.so_far = h.building.is in
     let all = take_all (length m.functions) (source_of m).functions (omega (arith, function_count m)) in
-    let building = subst (λ (d : DialectModule). IsBuilding i.ctx i.«module».0.0 body d) (sym same) h.building in
+    let building = subst (λ (d : DialectModule). IsBuilding c i.«module».0.0 body d) (sym same) h.building in
     let functions = subst (λ (d : DialectModule). AreImported (source_of m) (source_of m).functions i.blocks d.functions) (sym same)
     (subst (λ (fs : List L.Function). AreImported (source_of m) fs i.blocks h.so_far.functions) all h.functions) in
     record {
@@ -101,7 +118,7 @@ imported_whole m i body regions symbols h =
       building = building;
       name = ap (λ (d : DialectModule). d.name) same ∙ h.name_is;
       functions = functions;
-      well_formed = well_formed (source_of m) i.ctx i.«module».0.0 body i.blocks building functions regions symbols;
+      well_formed = well_formed (source_of m) c i.«module».0.0 body i.blocks building functions regions symbols;
     }
 
 -- what refuses a function refuses the module

@@ -7,6 +7,7 @@ use Rattle.llvm_core.specs.Form.{IsForm, IsFormFunction}
 use Rattle.llvm_core.specs.Data as L
 use Rattle.llvm_core.specs.Data.{ModuleData, data_of}
 use Rattle.llvm_core.proofs.DataLemmas.{within_at, there, function_at, function_count}
+use Rattle.dialect_core.specs.ContextData.{ContextData}
 use Rattle.dialect_core.specs.Data as D
 use Rattle.meaning.specs.Pairs.{Matched}
 use Rattle.meaning.specs.Code.{IsDistinctNames, SameNamed, SameCode}
@@ -52,7 +53,7 @@ function_numbered m i f at =
     let same = sym (function_at m i x here) ∙ at in
     cc same
 
-pub same_imported : (m : Module) (i : Imported) → IsForm (data_of m) → IsImported (data_of m) i
-    → IsDistinctNames (function_names (data_of m).functions) → SameCode (match_of (data_of m) i.blocks) (Llvm.code_of (data_of m)) (Dialect.code_of (imported_data i))
-same_imported m i form h distinct =
-    same_dialect (data_of m) i.blocks (imported_data i).functions form distinct (function_numbered m) h.functions (imported_data i) refl
+pub same_imported : (m : Module) (c : ContextData) (i : Imported) → IsForm (data_of m) → IsImported (data_of m) c i
+    → IsDistinctNames (function_names (data_of m).functions) → SameCode (match_of (data_of m) i.blocks) (Llvm.code_of (data_of m)) (Dialect.code_of (imported_data c i))
+same_imported m c i form h distinct =
+    same_dialect (data_of m) i.blocks (imported_data c i).functions form distinct (function_numbered m) h.functions (imported_data c i) refl

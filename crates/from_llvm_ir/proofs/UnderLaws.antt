@@ -15,13 +15,12 @@ use Rattle.dialect_core.specs.declared.ops.Successor.{Successor}
 use Rattle.dialect_core.specs.declared.ops.OpKind.{OpKind}
 use Rattle.dialect_core.specs.declared.ops.OpData.{OpData}
 use Rattle.dialect_core.specs.ContextData.{ContextData, with_op, with_appended, is_plain}
-use Rattle.dialect_core.specs.Data.{DialectModule, Func, DialectBlock, DialectOp, Kind, IsTyped, data_of, kind_of, op_at, more_block, with_func, with_func_block, with_block_op}
+use Rattle.dialect_core.specs.Data.{DialectModule, Func, DialectBlock, DialectOp, Kind, IsTypedOp, data_of, kind_of, op_at, more_block, with_func, with_func_block, with_block_op}
 use Rattle.dialect_core.proofs.ListLemmas.{push_cases}
-use Rattle.dialect_core.proofs.TypeLemmas.{more_types_data}
-use Rattle.dialect_core.proofs.TypedLemmas.{more_types_typed}
 use Rattle.from_llvm_ir.specs.Types.{GrowsTypes}
 use Rattle.from_llvm_ir.specs.Imported.{IsBuilding, IsBelow}
 use Rattle.from_llvm_ir.specs.Building.{Home, IsUnder, IsOpen, AreBare, AreFresh, AreNumbered, with_blocks, with_ops, ops_of, op_data, new_op}
+use Rattle.from_llvm_ir.proofs.OwnLaws.{own_data, own_types}
 use Rattle.from_llvm_ir.proofs.BuildLaws.{length-push}
 use Rattle.from_llvm_ir.proofs.ListLaws.{kept_at, kept_behind}
 use Rattle.from_llvm_ir.proofs.PlaceLaws.{flat_none, split_at}
@@ -67,13 +66,13 @@ blocks_kept : (k : ℕ) (o : DialectOp) (ys : List DialectBlock) → HasOther k 
 blocks_kept k o [] h = refl
 blocks_kept k o (y ∷ ys) h = rw (other y.number k y (record y { ops = y.ops ++ o ∷ [] }) (h 0 y refl), blocks_kept k o ys (λ i x at. h (ℕ.suc i) x at)) refl
 
-ops_kept : (base k : ℕ) (o : DialectOp) (fs : List Func) → base ≤ k → All (λ (f : Func). All (λ (x : DialectBlock). x.number < base) f.blocks) fs → map (op_in_func k o) fs ≡ fs
+pub ops_kept : (base k : ℕ) (o : DialectOp) (fs : List Func) → base ≤ k → All (λ (f : Func). All (λ (x : DialectBlock). x.number < base) f.blocks) fs → map (op_in_func k o) fs ≡ fs
 ops_kept base k o [] le h = refl
 ops_kept base k o (f ∷ fs) le h =
     let here = All-head (λ (g : Func). All (λ (x : DialectBlock). x.number < base) g.blocks) f fs h in
     rw (blocks_kept k o f.blocks (λ i x at same. let small = within_at f.blocks (λ (y : DialectBlock). y.number < base) here i x at in omega (arith, small, le, same)), ops_kept base k o fs le (All-tail (λ (g : Func). All (λ (x : DialectBlock). x.number < base) g.blocks) f fs h)) refl
 
-funcs_kept : (n k : ℕ) (b : DialectBlock) (fs : List Func) → All (IsBelow n k) fs → map (more_block n b) fs ≡ fs
+pub funcs_kept : (n k : ℕ) (b : DialectBlock) (fs : List Func) → All (IsBelow n k) fs → map (more_block n b) fs ≡ fs
 funcs_kept n k b [] h = refl
 funcs_kept n k b (f ∷ fs) h =
     let small = (All-head (IsBelow n k) f fs h).0 in
@@ -161,7 +160,7 @@ pub added_open : (h : Home) (base : ℕ) (c0 c1 c2 : ContextData) (b : BlockRef)
     → c1 ≡ with_op c0 (op_data kind name operands successors result)
     → o.0 ≡ length c0.ops
     → data_of c1 h.m ≡ data_of c0 h.m
-    → IsTyped c2
+    → IsTypedOp (length c0.types) (op_data kind name operands successors result)
     → c2 ≡ with_appended c1 o b
     → ((x : DialectOp) → op_at (type_trees c1.types) c1.ops o ≡ Some x → (m : ℕ) → data_of c2 m ≡ with_block_op (data_of c1 m) b.0 x)
     → IsOpen h base c2 b left (with_ops now (now.ops ++ new_op o.0 name k operands successors (option_map (type_at (type_trees c0.types)) result) ∷ [])) right
@@ -192,9 +191,9 @@ pub typed_building : (c c' : ContextData) (m : ℕ) (body : BlockRef) (d : Diale
 typed_building c c' m body d h g = subst (λ (x : ContextData). IsBuilding x m body d) (sym g.rest) (record {
   held = record { kind = h.held.kind; region = h.held.region; block = h.held.block; holder = h.held.holder };
   apart = record { funcs = h.apart.funcs; plain = h.apart.plain };
-  is = more_types_data c c'.types h.typed g.more.kept m ∙ h.is;
+  is = own_data c c'.types m body h.held h.own g.more.kept ∙ h.is;
   there = h.there;
-  typed = more_types_typed c c'.types h.typed g.more.longer;
+  own = own_types c c'.types m body h.own g.more.longer;
   below = h.below;
 })
 

@@ -1,26 +1,27 @@
 -- A module that is built keeps the rules of the dialect.
-use Rattle.std.proofs.Common.{ℕ, ◌≡◌, sym, ap, subst, ◌∙◌, true, false, List, Some, All, map, slice_get, arith}
-use Rattle.std.specs.List.{flat_map}
-use Rattle.std.specs.Option.{option_map}
-use Rattle.std.proofs.lemmas.List.{append-nil}
+use Rattle.std.proofs.Common.{ℕ, ◌≡◌, ◌<◌, ◌≤◌, refl, sym, ap, subst, ◌∙◌, true, false, List, [], Option, Some, None, All, length, map, slice_get, arith}
+use Rattle.std.specs.Option.{option_map, option_map_or}
 use Rattle.std.proofs.lemmas.List.Elements.{All-weaker}
-use Rattle.std.proofs.lemmas.Option.{slice_get-map, same_Some}
+use Rattle.std.proofs.lemmas.Option.{none-some, slice_get-map, slice_get_within, same_Some}
 use Rattle.llvm_core.specs.Data as L
 use Rattle.dialect_core.specs.declared.numbers.OpRef.{OpRef}
 use Rattle.dialect_core.specs.declared.numbers.BlockRef.{BlockRef}
 use Rattle.dialect_core.specs.declared.ops.OpKind.TheVariants as K
+use Rattle.dialect_core.specs.declared.ops.OpData.{OpData}
+use Rattle.dialect_core.specs.declared.ops.BlockData.{BlockData}
 use Rattle.dialect_core.specs.Lists.{list_at}
 use Rattle.dialect_core.specs.ContextData.{ContextData, AreRegions, IsSymbol, holder_at, is_func, kind_at, region_at}
-use Rattle.dialect_core.specs.Data.{Func, data_of, held}
+use Rattle.dialect_core.specs.Data.{Func, data_of, held, type_in}
 use Rattle.dialect_core.specs.Form.{IsFormFunc, IsExportable}
-use Rattle.dialect_core.specs.WellFormed.{IsPlainAt, IsWellFormedFunc, HasNamesApart, IsWellFormed}
+use Rattle.dialect_core.specs.WellFormed.{IsOpenForm, IsPlainAt, IsWellFormedFunc, HasNamesApart, IsWellFormed}
 use Rattle.dialect_core.proofs.HoldLemmas.{flat_stands}
 use Rattle.dialect_core.proofs.LineLemmas.{all_at, at_all}
 use Rattle.dialect_core.proofs.OwnEdgeLaws.{LeadsToOwn, own_module}
-use Rattle.dialect_core.proofs.WellLaws.{form_is_well_formed}
+use Rattle.dialect_core.proofs.TypingLaws.{module_open}
 use Rattle.meaning.specs.Code.{IsDistinctNames}
 use Rattle.from_llvm_ir.specs.declared.matching.FunctionBlocks.{FunctionBlocks}
 use Rattle.from_llvm_ir.specs.Imported.{AreImported, IsBuilding}
+use Rattle.from_llvm_ir.proofs.OwnLaws.{held_list, held_own}
 use Rattle.from_llvm_ir.proofs.MatchedLaws.{function_names, forms_imported, exportable_imported, names_imported}
 
 -- ---- names
@@ -39,13 +40,26 @@ module _ (d : L.ModuleData) (c : ContextData) (m : ℕ) (body : BlockRef) (xs : 
   abbrev gs : List Func
   gs = (data_of c m).functions
 
-  held_is : held c m ≡ list_at c.lists body
-  held_is = ap (λ (bs : List BlockRef). flat_map (list_at c.lists) bs) h.held.region ∙ append-nil (list_at c.lists body)
-
   funcs_alone : All (λ (o : OpRef). kind_at c.ops o ≡ Some K.Func) (held c m)
-  funcs_alone = let P : List OpRef → Type 0 = All (λ (o : OpRef). kind_at c.ops o ≡ Some K.Func) in subst P (sym held_is) h.apart.funcs
+  funcs_alone = let P : List OpRef → Type 0 = All (λ (o : OpRef). kind_at c.ops o ≡ Some K.Func) in subst P (sym (held_list c m body h.held)) h.apart.funcs
 
-  -- no block of a function is the block for functions
+  -- a block of a function of the module is there
+  within : (f k : ℕ) (b : BlockRef) → slice_get (region_at c.ops f) k ≡ Some b → b.0 < length c.blocks
+  within f k b at = by (slice_get c.blocks b.0) refl (regions.ours f k b at)
+    where
+      by : (x : Option BlockData) → slice_get c.blocks b.0 ≡ x → option_map (λ (y : BlockData). y.holder.0) x ≡ Some f → b.0 < length c.blocks
+      by None e at = absurd (none-some f at)
+      by (Some x) e at = slice_get_within c.blocks b.0 x e
+
+  -- it is none of those that the context held
+  from : (f : ℕ) → m ≤ f → (k : ℕ) (b : BlockRef) → slice_get (region_at c.ops f) k ≡ Some b → body.0 ≤ b.0
+  from f own k b at = by (slice_get c.ops f) refl at
+    where
+      by : (x : Option OpData) → slice_get c.ops f ≡ x → slice_get (option_map_or (λ (y : OpData). y.blocks) x []) k ≡ Some b → body.0 ≤ b.0
+      by None e at = absurd (none-some b at)
+      by (Some x) e at = (h.own.ops f x own e).1 k b at
+
+  -- and it is not the block for functions
   away : (f : OpRef) → kind_at c.ops f ≡ Some K.Func → (k : ℕ) (b : BlockRef) → slice_get (region_at c.ops f.0) k ≡ Some b → ¬ (b.0 ≡ body.0)
   away f kind k b at same =
       let of_f = regions.ours f.0 k b at in
@@ -55,10 +69,12 @@ module _ (d : L.ModuleData) (c : ContextData) (m : ℕ) (body : BlockRef) (xs : 
       let no : true ≡ false = ap is_func (same_Some K.Func K.Module is) in
       cc
 
-  plain_held : (f : OpRef) → kind_at c.ops f ≡ Some K.Func → All (IsPlainAt c) (held c f.0)
-  plain_held f kind = at_all (IsPlainAt c) (held c f.0) (λ k o at.
+  plain_held : (f : OpRef) → m ≤ f.0 → kind_at c.ops f ≡ Some K.Func → All (IsPlainAt c) (held c f.0)
+  plain_held f own kind = at_all (IsPlainAt c) (held c f.0) (λ k o at.
       let w = flat_stands (list_at c.lists) (region_at c.ops f.0) o k at in
-      all_at (IsPlainAt c) (list_at c.lists w.0) (h.apart.plain w.0 (away f kind w.1.0 w.0 w.1.1)) w.2.0 o w.2.1)
+      let ne = away f kind w.1.0 w.0 w.1.1 in
+      let le = from f.0 own w.1.0 w.0 w.1.1 in
+      all_at (IsPlainAt c) (list_at c.lists w.0) (h.apart.plain w.0 (omega (arith, ne, le)) (within f.0 w.1.0 w.0 w.1.1)) w.2.0 o w.2.1)
 
   forms : All IsFormFunc gs
   forms = forms_imported d d.functions xs gs functions
@@ -69,6 +85,6 @@ module _ (d : L.ModuleData) (c : ContextData) (m : ℕ) (body : BlockRef) (xs : 
   pub well_formed : IsDistinctNames (function_names d.functions) → IsWellFormed c m
   well_formed distinct =
       own_module c regions symbols m h.held.kind (rw h.held.region (omega arith)) funcs_alone
-      (at_all (λ (o : OpRef). All (IsPlainAt c) (held c o.0)) (held c m) (λ k o at. plain_held o (all_at (λ (o : OpRef). kind_at c.ops o ≡ Some K.Func) (held c m) funcs_alone k o at)))
-      (All-weaker IsFormFunc IsWellFormedFunc form_is_well_formed gs forms) (All-weaker IsExportable LeadsToOwn (λ g fit. fit.targets) gs exportable)
+      (at_all (λ (o : OpRef). All (IsPlainAt c) (held c o.0)) (held c m) (λ k o at. plain_held o (held_own c m body h.held h.own k o at) (all_at (λ (o : OpRef). kind_at c.ops o ≡ Some K.Func) (held c m) funcs_alone k o at)))
+      (All-weaker (IsOpenForm c) (IsWellFormedFunc (type_in c)) (λ g form. form.0) gs (module_open c m forms)) (All-weaker IsExportable LeadsToOwn (λ g fit. fit.targets) gs exportable)
       (names_apart (function_names d.functions) gs (names_imported d d.functions xs gs functions) distinct)

@@ -23,7 +23,7 @@ use Rattle.from_llvm_ir.proofs.ListLaws.{matched_weaker}
 use Rattle.from_llvm_ir.proofs.OrderLaws.{placed, not_first, in_order_is}
 use Rattle.from_llvm_ir.proofs.TypeLaws.{type_back}
 use Rattle.from_llvm_ir.proofs.Whole.{IsWhole, the_func, target_at, bs_length}
-use Rattle.from_llvm_ir.proofs.FormLaws.{form_of}
+use Rattle.from_llvm_ir.proofs.FormLaws.{form_of, constants_in_entry}
 use Rattle.from_llvm_ir.proofs.ExportLaws.{exportable, has_targets}
 use Rattle.from_llvm_ir.proofs.ShapeLaws.{shape_of}
 
@@ -91,6 +91,7 @@ module _ (d : L.ModuleData) (n : ℕ) (k : Known) (cs : List DialectBlock) (h : 
     name = refl;
     type = type_back g.type;
     form = form_of n k cs h;
+    first = constants_in_entry n k cs h;
     exportable = exportable n k cs h;
     targets = has_targets n k cs h;
     constants = k.constants;

@@ -1,5 +1,5 @@
 -- What an import has made: a dialect module whose functions stand for those of the source.
-use Rattle.std.specs.Prelude.{ℕ, zero, suc, ◌≡◌, ◌<◌, ◌⊎◌, true, false, not, nat_eq, List, [], ◌∷◌, ◌++◌, Option, Some, None, All, map, filter, length, slice_get, slice_index_or, codes}
+use Rattle.std.specs.Prelude.{ℕ, zero, suc, ◌≡◌, ◌<◌, ◌≤◌, ◌⊎◌, true, false, not, nat_eq, List, [], ◌∷◌, ◌++◌, Option, Some, None, All, map, filter, length, slice_get, slice_index_or, codes}
 use Rattle.std.specs.Option.{option_map, option_map_or, option_and_then}
 use Rattle.std.specs.List.{filter_map, flat_map, find, position_from}
 use Rattle.llvm_core.specs.Data as L
@@ -10,15 +10,17 @@ use Rattle.llvm_core.specs.Data.{ConstTree, IntConst, IntType, Placed, targets, 
 use Rattle.llvm_core.specs.Form.{is_phi, operands_of}
 use Rattle.dialect_types.specs.Names.{legal_name}
 use Rattle.dialect_types.specs.Trees.{IntegerAttr, IntegerType}
+use Rattle.dialect_types.specs.declared.types.TypeHandle.{TypeHandle}
 use Rattle.dialect_core.specs.declared.numbers.OpRef.{OpRef}
 use Rattle.dialect_core.specs.declared.numbers.BlockRef.{BlockRef}
 use Rattle.dialect_core.specs.declared.ops.OpKind.{OpKind}
 use Rattle.dialect_core.specs.declared.ops.OpKind.TheVariants.{Module, Func as FuncKind}
+use Rattle.dialect_core.specs.declared.ops.OpData.{OpData}
 use Rattle.dialect_core.specs.declared.ops.BlockData.{BlockData}
 use Rattle.dialect_core.specs.Lists.{list_at}
 use Rattle.dialect_core.specs.ContextData.{ContextData, kind_at, region_at}
-use Rattle.dialect_core.specs.Data.{DialectModule, DialectBlock, DialectOp, Func, ConstantOp, IsTyped, data_of}
-use Rattle.dialect_core.specs.Form.{IsFormFunc, IsExportable, HasTargets}
+use Rattle.dialect_core.specs.Data.{DialectModule, DialectBlock, DialectOp, Func, ConstantOp, IsTypedOp, data_of}
+use Rattle.dialect_core.specs.Form.{IsFormFunc, HasConstantsInEntry, IsExportable, HasTargets}
 use Rattle.dialect_core.specs.WellFormed.{IsPlainAt, IsWellFormed}
 use Rattle.meaning.specs.Terms.{Match}
 use Rattle.meaning.specs.Pairs.{Matched, BothOrNone}
@@ -134,6 +136,7 @@ pub record ImportedFunction (d : L.ModuleData) (f : L.Function) (x : FunctionBlo
   pub name : g.name ≡ f.name
   pub type : type_of g.type ≡ f.type
   pub form : IsFormFunc g
+  pub first : HasConstantsInEntry g
   pub exportable : IsExportable g
   pub targets : HasTargets g
   pub constants : List ConstTree
@@ -160,10 +163,17 @@ pub record IsHeld (c : ContextData) (m : ℕ) (body : BlockRef) : Type 0 where
   pub block : body.0 < length c.blocks
   pub holder : holder_kind c body ≡ Some Module
 
--- functions alone stand in the block for functions, and neither functions nor modules in any other
+-- What stands in a context from the operation m and from the block for its functions on is the module's own: its types
+-- are there, and it names and holds nothing older.
+pub record IsOwn (c : ContextData) (m : ℕ) (body : BlockRef) : Type 0 where
+  pub ops : (o : ℕ) (x : OpData) → m ≤ o → slice_get c.ops o ≡ Some x → IsTypedOp (length c.types) x × ((k : ℕ) (b : BlockRef) → slice_get x.blocks k ≡ Some b → body.0 ≤ b.0)
+  pub blocks : (b : ℕ) (x : BlockData) → body.0 ≤ b → slice_get c.blocks b ≡ Some x → All (λ (t : TypeHandle). t.0 < length c.types) x.args
+  pub lists : (b : BlockRef) → body.0 ≤ b.0 → b.0 < length c.blocks → All (λ (o : OpRef). m ≤ o.0) (list_at c.lists b)
+
+-- functions alone stand in the block for functions, and neither functions nor modules in a block behind it
 pub record HasFuncsApart (c : ContextData) (body : BlockRef) : Type 0 where
   pub funcs : All (λ (o : OpRef). kind_at c.ops o ≡ Some FuncKind) (list_at c.lists body)
-  pub plain : (b : BlockRef) → ¬ (b.0 ≡ body.0) → All (IsPlainAt c) (list_at c.lists b)
+  pub plain : (b : BlockRef) → body.0 < b.0 → b.0 < length c.blocks → All (IsPlainAt c) (list_at c.lists b)
 
 -- the context holds a module, with one block for its functions, and its data are d
 pub record IsBuilding (c : ContextData) (m : ℕ) (body : BlockRef) (d : DialectModule) : Type 0 where
@@ -171,12 +181,12 @@ pub record IsBuilding (c : ContextData) (m : ℕ) (body : BlockRef) (d : Dialect
   pub apart : HasFuncsApart c body
   pub is : data_of c m ≡ d
   pub there : m < length c.ops
-  pub typed : IsTyped c
+  pub own : IsOwn c m body
   pub below : All (IsBelow (length c.ops) (length c.blocks)) d.functions
 
--- the data of an imported module
-abbrev pub imported_data : Imported → DialectModule
-imported_data i = data_of i.ctx i.module.0.0
+-- the data of an imported module in the context that holds it
+abbrev pub imported_data : ContextData → Imported → DialectModule
+imported_data c i = data_of c i.module.0.0
 
 -- a function of the dialect for each of the source, in order, with its entry of the match
 pub data AreImported (d : L.ModuleData) : List L.Function → List FunctionBlocks → List Func → Type 0 where
@@ -184,14 +194,14 @@ pub data AreImported (d : L.ModuleData) : List L.Function → List FunctionBlock
   ThenImported : (f : L.Function) (x : FunctionBlocks) (g : Func) (fs : List L.Function) (xs : List FunctionBlocks) (gs : List Func)
       → ImportedFunction d f x g → AreImported d fs xs gs → AreImported d (f ∷ fs) (x ∷ xs) (g ∷ gs)
 
--- The dialect module has the functions of the source in order, and the match covers the source. Where no two functions
--- of the source have one name, it keeps every rule of the dialect.
-pub record IsImported (d : L.ModuleData) (i : Imported) : Type 0 where
+-- The context c holds the dialect module, which has the functions of the source in order, and the match covers the source.
+-- Where no two functions of the source have one name, it keeps every rule of the dialect.
+pub record IsImported (d : L.ModuleData) (c : ContextData) (i : Imported) : Type 0 where
   pub body : BlockRef
-  pub building : IsBuilding i.ctx i.module.0.0 body (imported_data i)
-  pub name : (imported_data i).name ≡ legal_name d.name
-  pub functions : AreImported d d.functions i.blocks (imported_data i).functions
-  pub well_formed : IsDistinctNames (map (λ (f : L.Function). f.name) d.functions) → IsWellFormed i.ctx i.module.0.0
+  pub building : IsBuilding c i.module.0.0 body (imported_data c i)
+  pub name : (imported_data c i).name ≡ legal_name d.name
+  pub functions : AreImported d d.functions i.blocks (imported_data c i).functions
+  pub well_formed : IsDistinctNames (map (λ (f : L.Function). f.name) d.functions) → IsWellFormed c i.module.0.0
 
 -- ---- uses before a definition, of which inner contracts speak
 

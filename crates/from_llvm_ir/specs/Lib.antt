@@ -2,6 +2,7 @@
 pub mod Match
 pub mod Imported
 pub mod Types
+pub mod Keeping
 pub mod Order
 pub mod Parts
 pub mod Building

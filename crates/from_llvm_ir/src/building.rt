@@ -1,12 +1,14 @@
 //! The calls that grow the last function of a dialect module, and what they make of its data.
 
-ghost use Rattle.std.specs.Prelude.{◌≡◌, ◌<◌, ◌+◌, ◌∷◌, ◌++◌, [], List, ℕ, None, Some, IsTrue, IfOk, IfSome, OnOk, All, length, map, slice_get};
+ghost use Rattle.std.specs.Prelude.{◌≡◌, ◌<◌, ◌≤◌, ◌+◌, ◌∷◌, ◌++◌, [], List, ℕ, None, Some, IsTrue, IfOk, IfSome, OnOk, All, length, map, slice_get};
 ghost use Rattle.std.specs.Option.{option_map};
 ghost use Rattle.dialect_types.specs.Trees.{type_at, type_trees};
 ghost use Rattle.dialect_core.specs.declared.ops.OpKind.TheVariants as kinds;
-ghost use Rattle.dialect_core.specs.ContextData.{kind_at, is_plain, with_op, IsValueWithin, IsSuccessorWithin};
+ghost use Rattle.dialect_core.specs.ContextData.{HoldsMore, kind_at, is_plain, with_op, with_block, IsValueWithin, IsSuccessorWithin};
 ghost use Rattle.dialect_core.specs.Data.{DialectBlock, DialectModule, DialectOp, Kind, IsTyped, HasKindTypesBelow, kind_of, data_of, with_func, with_func_block};
+ghost use Rattle.dialect_core.specs.Lists.{list_at};
 ghost use Rattle.from_llvm_ir.specs.Imported.{IsBuilding};
+ghost use Rattle.from_llvm_ir.specs.Keeping.{Keeps};
 ghost use Rattle.from_llvm_ir.specs.Building.{Home, IsOpen, bare_func, op_data, new_op, with_ops};
 
 use dialect_core::context::Context;
@@ -34,10 +36,35 @@ pub fn add_func<L: Ledger>(
     ensures number { IfOk result (λ f. f.0.0 ≡ length ctx.old.ops) }
     ensures blocks { OnOk result (ctx.new.blocks ≡ ctx.old.blocks) }
     ensures types { ctx.new.types ≡ ctx.old.types }
+    ensures kept { (m : ℕ) → (d : DialectModule) → IsBuilding ctx.old m body d → (n b : ℕ) → n ≤ m → Keeps n b ctx.old ctx.new }
 {
+    ctx.keeps_regions();
     let func = ctx.create_func(name, ty, LinkageAttr::ExternalLinkage)?;
     ctx.insert_at_back(func.0, body, steps);
     Ok(func)
+}
+
+/// A new block without operations, as the last of an operation's region. That it has none is asked of the context, since
+/// the contract of `add_block` does not say it of every context; it never has any.
+pub fn add_bare_block(
+    ctx: &mut Context,
+    holder: OpRef,
+    label: Option<Identifier>,
+    args: &[TypeHandle],
+) -> Result<BlockRef, AllocError>
+    requires holder { HoldsMore ctx.old.ops holder }
+    requires args { All (λ t. t.0 < length ctx.old.types) args.now }
+    ensures ok { IfOk result (λ b. ctx.new ≡ with_block ctx.old b (record { holder = holder; label = label; args = args.now })) }
+    ensures number { IfOk result (λ b. b.0 ≡ length ctx.old.blocks) }
+    ensures data { IfOk result (λ b. (m : ℕ) → data_of ctx.new m ≡ with_func_block (data_of ctx.old m) holder.0 (record { number = b.0; label = label; args = map (type_at (type_trees ctx.old.types)) args.now; ops = [] })) }
+    ensures bare { IfOk result (λ b. list_at ctx.new.lists b ≡ []) }
+    ensures kept { (n b : ℕ) → n ≤ holder.0 → Keeps n b ctx.old ctx.new }
+{
+    let block = ctx.add_block(holder, label, args)?;
+    match ctx.first_op(block) {
+        None => Ok(block),
+        Some(_) => Err(AllocError),
+    }
 }
 
 /// A new block without operations, as the last of a function.
@@ -53,8 +80,9 @@ pub fn add_func_block(
     ensures func { OnOk result (kind_at ctx.new.ops func.0 ≡ Some kinds.Func) }
     ensures number { IfOk result (λ b. b.0 ≡ length ctx.old.blocks) }
     ensures count { OnOk result (length ctx.new.blocks ≡ length ctx.old.blocks + 1) }
+    ensures kept { (n b : ℕ) → n ≤ func.0.0 → Keeps n b ctx.old ctx.new }
 {
-    let block = ctx.add_block(func.0, label, args)?;
+    let block = add_bare_block(ctx, func.0, label, args)?;
     Ok(block)
 }
 
@@ -78,6 +106,7 @@ fn create_named(
     ensures data { OnOk result ((m : ℕ) → m < length ctx.old.ops → data_of ctx.new m ≡ data_of ctx.old m) }
     ensures typed { OnOk result (IsTyped ctx.old → IsTyped ctx.new) }
     ensures types { ctx.new.types ≡ ctx.old.types }
+    ensures kept { (n b : ℕ) → Keeps n b ctx.old ctx.new }
 {
     let op = ctx.create_op(kind, operands, successors, result_ty)?;
     if let Some(name) = name {
@@ -107,6 +136,7 @@ pub fn add_op<L: Ledger>(
         → IsOpen h base ctx.new block left (with_ops now (now.ops ++ new_op o.0 name k operands.now successors.now (option_map (type_at (type_trees ctx.old.types)) result_ty) ∷ [])) right) }
     ensures number { IfOk result (λ o. o.0 ≡ length ctx.old.ops) }
     ensures count { OnOk result (length ctx.new.ops ≡ length ctx.old.ops + 1) }
+    ensures kept { (n b : ℕ) → b ≤ block.0 → Keeps n b ctx.old ctx.new }
 {
     let op = create_named(ctx, kind, operands, successors, result_ty, name)?;
     ctx.insert_at_back(op, block, steps);

@@ -1,6 +1,6 @@
 //! The constants of a function, hoisted to the start of its first block.
 
-ghost use Rattle.std.specs.Prelude.{◌≡◌, ◌<◌, ◌+◌, ◌∷◌, ◌++◌, [], List, ℕ, IfOk, OnOk, All, length, map};
+ghost use Rattle.std.specs.Prelude.{◌≡◌, ◌<◌, ◌≤◌, ◌+◌, ◌∷◌, ◌++◌, [], List, ℕ, IfOk, OnOk, All, length, map};
 ghost use Rattle.std.specs.List.{filter_map, flat_map};
 ghost use Rattle.llvm_core.specs.declared.consts.LLVMConstKind.TheVariants as consts;
 ghost use Rattle.llvm_core.specs.Sound.{IsModule};
@@ -9,6 +9,7 @@ ghost use Rattle.dialect_core.specs.Data.{DialectBlock, DialectOp};
 ghost use Rattle.from_llvm_ir.specs.Imported.{constant_in, constants_in, rest_of};
 ghost use Rattle.from_llvm_ir.specs.Building.{Home, IsOpen, with_ops};
 ghost use Rattle.from_llvm_ir.specs.Source.{IsSource, IsBlockOf, IsSite, IsUsed, AreEntries, IsIntKind, IsShortConst};
+ghost use Rattle.from_llvm_ir.specs.Keeping.{Keeps};
 ghost use Rattle.from_llvm_ir.specs.Known.{Frame, IsConstantOp};
 ghost use Rattle.from_llvm_ir.specs.Body.{IsFramed, IsHoisting, all_uses, uses_of_inst};
 
@@ -56,6 +57,7 @@ fn add_constant<L: Ledger>(
         → (x : DialectOp) × (x.number ≡ o.0) × IsConstantOp (const_at (trees_of source.now).consts c) x × IsOpen h base ctx.new block left (with_ops now (now.ops ++ x ∷ [])) right) }
     ensures number { IfOk result (λ o. o.0 ≡ length ctx.old.ops) }
     ensures count { OnOk result (length ctx.new.ops ≡ length ctx.old.ops + 1) }
+    ensures kept { (n b : ℕ) → b ≤ block.0 → Keeps n b ctx.old ctx.new }
 {
     let (ty, value) = parts_of(source.const_kind(c));
     let int = import_plain(ctx, source, ty)?;
@@ -78,8 +80,9 @@ fn hoist_constant<L: Ledger>(
     requires within { c.0 < length source.now.consts }
     requires short { IsShortConst (const_at (trees_of source.now).consts c) }
     requires hoisting { (fr : Frame) × (uses : List ConstTree) × IsHoisting fr source.now ctx.old values.old uses × (block.0 ≡ fr.base) }
-    ensures { OnOk result ((fr : Frame) → (uses : List ConstTree) → IsHoisting fr source.now ctx.old values.old uses → block.0 ≡ fr.base
+    ensures hoisting { OnOk result ((fr : Frame) → (uses : List ConstTree) → IsHoisting fr source.now ctx.old values.old uses → block.0 ≡ fr.base
         → IsHoisting fr source.now ctx.new values.new (uses ++ const_at (trees_of source.now).consts c ∷ [])) }
+    ensures kept { (n b : ℕ) → b ≤ block.0 → Keeps n b ctx.old ctx.new }
 {
     let value = LLVMValue::Const(c);
     if values.has(value) {
@@ -103,8 +106,9 @@ fn hoist<L: Ledger>(
     requires apart { AreApart source.now }
     requires used { (g : Function) × IsUsed source.now g operand }
     requires hoisting { (fr : Frame) × (uses : List ConstTree) × IsHoisting fr source.now ctx.old values.old uses × (block.0 ≡ fr.base) }
-    ensures { OnOk result ((fr : Frame) → (uses : List ConstTree) → IsHoisting fr source.now ctx.old values.old uses → block.0 ≡ fr.base
+    ensures hoisting { OnOk result ((fr : Frame) → (uses : List ConstTree) → IsHoisting fr source.now ctx.old values.old uses → block.0 ≡ fr.base
         → IsHoisting fr source.now ctx.new values.new (uses ++ filter_map constant_in (operand_of (trees_of source.now) operand ∷ []))) }
+    ensures kept { (n b : ℕ) → b ≤ block.0 → Keeps n b ctx.old ctx.new }
 {
     match operand {
         LLVMValue::Const(c) => {
@@ -128,8 +132,9 @@ fn hoist_values<L: Ledger>(
     requires apart { AreApart source.now }
     requires used { (g : Function) × All (IsUsed source.now g) operands.now }
     requires hoisting { (fr : Frame) × (uses : List ConstTree) × IsHoisting fr source.now ctx.old values.old uses × (block.0 ≡ fr.base) }
-    ensures { OnOk result ((fr : Frame) → (uses : List ConstTree) → IsHoisting fr source.now ctx.old values.old uses → block.0 ≡ fr.base
+    ensures hoisting { OnOk result ((fr : Frame) → (uses : List ConstTree) → IsHoisting fr source.now ctx.old values.old uses → block.0 ≡ fr.base
         → IsHoisting fr source.now ctx.new values.new (uses ++ filter_map constant_in (map (operand_of (trees_of source.now)) operands.now))) }
+    ensures kept { (n b : ℕ) → b ≤ block.0 → Keeps n b ctx.old ctx.new }
 {
     for operand in operands {
         hoist(ctx, source, values, block, *operand, steps)?;
@@ -151,8 +156,9 @@ fn hoist_inst<L: Ledger>(
 ) -> Result<(), AllocError>
     requires site { (f : LLVMFunction) × (g : Function) × (b : Block) × (p : Placed) × IsSite source.now f g entries.now from i b p }
     requires hoisting { (fr : Frame) × (uses : List ConstTree) × IsHoisting fr source.now ctx.old values.old uses × (block.0 ≡ fr.base) }
-    ensures { OnOk result ((f : LLVMFunction) → (g : Function) → (b : Block) → (p : Placed) → IsSite source.now f g entries.now from i b p → (fr : Frame) → (uses : List ConstTree) → IsHoisting fr source.now ctx.old values.old uses → block.0 ≡ fr.base
+    ensures hoisting { OnOk result ((f : LLVMFunction) → (g : Function) → (b : Block) → (p : Placed) → IsSite source.now f g entries.now from i b p → (fr : Frame) → (uses : List ConstTree) → IsHoisting fr source.now ctx.old values.old uses → block.0 ≡ fr.base
         → IsHoisting fr source.now ctx.new values.new (uses ++ uses_of_inst (data_of source.now) g b p)) }
+    ensures kept { (n b : ℕ) → b ≤ block.0 → Keeps n b ctx.old ctx.new }
 {
     if is_phi(source.inst(i)) {
         return Ok(());
@@ -175,8 +181,9 @@ fn hoist_block<L: Ledger>(
 ) -> Result<(), AllocError>
     requires site { (f : LLVMFunction) × (g : Function) × (place : ℕ) × (b : Block) × IsSource source.now f g × AreEntries source.now g entries.now × IsBlockOf source.now g from place b }
     requires hoisting { (fr : Frame) × (uses : List ConstTree) × IsHoisting fr source.now ctx.old values.old uses × (block.0 ≡ fr.base) }
-    ensures { OnOk result ((f : LLVMFunction) → (g : Function) → (place : ℕ) → (b : Block) → IsSource source.now f g → AreEntries source.now g entries.now → IsBlockOf source.now g from place b → (fr : Frame) → (uses : List ConstTree) → IsHoisting fr source.now ctx.old values.old uses → block.0 ≡ fr.base
+    ensures hoisting { OnOk result ((f : LLVMFunction) → (g : Function) → (place : ℕ) → (b : Block) → IsSource source.now f g → AreEntries source.now g entries.now → IsBlockOf source.now g from place b → (fr : Frame) → (uses : List ConstTree) → IsHoisting fr source.now ctx.old values.old uses → block.0 ≡ fr.base
         → IsHoisting fr source.now ctx.new values.new (uses ++ flat_map (constants_in (data_of source.now) g b) (rest_of b))) }
+    ensures kept { (n b : ℕ) → b ≤ block.0 → Keeps n b ctx.old ctx.new }
 {
     for i in source.instructions(from) {
         hoist_inst(alloc, ctx, source, entries, values, block, from, *i, steps)?;
@@ -197,8 +204,9 @@ pub fn hoist_constants<L: Ledger>(
     steps: &mut Steps<L>,
 ) -> Result<(), AllocError>
     requires { (fr : Frame) × IsFramed source.now f fr × (fr.order ≡ order.now) × AreEntries source.now fr.source entries.now × IsHoisting fr source.now ctx.old values.old [] × (block.0 ≡ fr.base) }
-    ensures { OnOk result ((fr : Frame) → IsFramed source.now f fr → fr.order ≡ order.now → AreEntries source.now fr.source entries.now → IsHoisting fr source.now ctx.old values.old [] → block.0 ≡ fr.base
+    ensures hoisting { OnOk result ((fr : Frame) → IsFramed source.now f fr → fr.order ≡ order.now → AreEntries source.now fr.source entries.now → IsHoisting fr source.now ctx.old values.old [] → block.0 ≡ fr.base
         → IsHoisting fr source.now ctx.new values.new (all_uses source.now fr)) }
+    ensures kept { (n b : ℕ) → b ≤ block.0 → Keeps n b ctx.old ctx.new }
 {
     let blocks = source.blocks(f);
     for place in order {

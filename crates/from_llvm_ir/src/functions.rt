@@ -1,6 +1,6 @@
 //! A function with its body.
 
-ghost use Rattle.std.specs.Prelude.{◌≡◌, ◌+◌, ℕ, List, [], IfErr, IfOk, OnOk, Some, length, slice_get};
+ghost use Rattle.std.specs.Prelude.{◌≡◌, ◌≤◌, ◌+◌, ℕ, List, [], IfErr, IfOk, OnOk, Some, length, slice_get};
 ghost use Rattle.dialect_core.specs.declared.ops.OpKind.TheVariants as kinds;
 ghost use Rattle.dialect_core.specs.ContextData.{kind_at};
 ghost use Rattle.from_llvm_ir.specs.declared.values.Values.{Values};
@@ -8,6 +8,7 @@ ghost use Rattle.llvm_core.specs.Module.{Module};
 ghost use Rattle.llvm_core.specs.Data.{Block, Function, data_of};
 ghost use Rattle.dialect_core.specs.Data.{DialectModule, Func, with_func};
 ghost use Rattle.from_llvm_ir.specs.Imported.{ImportedFunction, IsBuilding};
+ghost use Rattle.from_llvm_ir.specs.Keeping.{Keeps};
 ghost use Rattle.from_llvm_ir.specs.Order.{IsInverse};
 ghost use Rattle.from_llvm_ir.specs.Source.{IsSource, IsBlockOf};
 ghost use Rattle.from_llvm_ir.specs.Known.{Frame, Notes, knows, blocks_of};
@@ -51,6 +52,7 @@ fn add_entry(
     requires { (fr : Frame) × IsFramed source.now f fr × HasHeads fr func ctx.old 0 }
     ensures heads { OnOk result ((fr : Frame) → IsFramed source.now f fr → HasHeads fr func ctx.old 0 → HasHeads fr func ctx.new 1) }
     ensures number { IfOk result (λ b. (fr : Frame) → HasHeads fr func ctx.old 0 → b.0 ≡ fr.base) }
+    ensures kept { (n b : ℕ) → n ≤ func.0.0 → Keeps n b ctx.old ctx.new }
 {
     let label = names.legalise("entry")?;
     let args = import_params(alloc, ctx, source, f)?;
@@ -71,6 +73,7 @@ fn add_later_block(
     ensures heads { OnOk result ((fr : Frame) → (f : LLVMFunction) → (j place : ℕ) → (b : Block) → IsFramed source.now f fr → IsBlockOf source.now fr.source from place b → slice_get (blocks_of fr) (j + 1) ≡ Some b → HasHeads fr func ctx.old (j + 1)
         → HasHeads fr func ctx.new (j + 2)) }
     ensures number { IfOk result (λ n. (fr : Frame) → (j : ℕ) → HasHeads fr func ctx.old j → n.0 ≡ fr.base + j) }
+    ensures kept { (n b : ℕ) → n ≤ func.0.0 → Keeps n b ctx.old ctx.new }
 {
     let label = given(names, source.block_name(from))?;
     let args = import_phi_types(alloc, ctx, source, from)?;
@@ -91,6 +94,7 @@ fn add_blocks(
     requires { (fr : Frame) × IsFramed source.now f fr × (fr.order ≡ order.now) × HasHeads fr func ctx.old 0 }
     ensures targets { IfOk result (λ t. (fr : Frame) → IsFramed source.now f fr → fr.order ≡ order.now → HasHeads fr func ctx.old 0 → AreTargets fr t) }
     ensures heads { OnOk result ((fr : Frame) → IsFramed source.now f fr → fr.order ≡ order.now → HasHeads fr func ctx.old 0 → HasHeads fr func ctx.new (length order.now)) }
+    ensures kept { (n b : ℕ) → n ≤ func.0.0 → Keeps n b ctx.old ctx.new }
 {
     let blocks = source.blocks(f);
     let mut targets = Targets::new(alloc);
@@ -138,6 +142,7 @@ fn import_body<L: Ledger>(
         → (values : Values) × IsFilled fr source.now ctx.new values (length order.now)) }
     ensures err { IfErr result (λ e. (fr : Frame) → IsFramed source.now f fr → fr.order ≡ order.now → HasHeads fr func ctx.old 0
         → (places : List ℕ) → IsInverse fr.order places → IsLate fr.source places e) }
+    ensures kept { (n b : ℕ) → n ≤ func.0.0 → b ≤ length ctx.old.blocks → Keeps n b ctx.old ctx.new }
 {
     let entries = entries_of(alloc, source, f)?;
     let targets = add_blocks(alloc, ctx, names, source, f, func, order)?;
@@ -184,6 +189,9 @@ fn declare<L: Ledger>(
     requires module { (m : ℕ) × (d : DialectModule) × IsBuilding ctx.old m body d }
     ensures declared { IfOk result (λ n. (g : Function) → IsSource source.now f g → (m : ℕ) → (d : DialectModule) → IsBuilding ctx.old m body d → IsDeclared g ctx.new m body d n.0.0) }
     ensures func { IfOk result (λ n. kind_at ctx.new.ops n.0 ≡ Some kinds.Func) }
+    ensures number { IfOk result (λ n. n.0.0 ≡ length ctx.old.ops) }
+    ensures blocks { OnOk result (ctx.new.blocks ≡ ctx.old.blocks) }
+    ensures kept { (m : ℕ) → (d : DialectModule) → IsBuilding ctx.old m body d → (n b : ℕ) → n ≤ m → Keeps n b ctx.old ctx.new }
 {
     let ty = import_function_type(alloc, ctx, source, f)?;
     let func = add_func(ctx, body, name, ty, steps)?;
@@ -208,6 +216,7 @@ pub fn import_function<L: Ledger>(
     ensures ok { IfOk result (λ x. (g : Function) → IsSource source.now f g → (m : ℕ) → (d : DialectModule) → IsBuilding ctx.old m body d
         → (y : Func) × ImportedFunction (data_of source.now) g x y × IsBuilding ctx.new m body (with_func d y)) }
     ensures err { IfErr result (λ e. (g : Function) → IsSource source.now f g → IsRefusalOfFunction g e) }
+    ensures kept { (m : ℕ) → (d : DialectModule) → IsBuilding ctx.old m body d → (n b : ℕ) → n ≤ m → b ≤ body.0 → Keeps n b ctx.old ctx.new }
 {
     let succs = graph(alloc, source, f)?;
     let order = rpo(alloc, &succs)?;

@@ -1,6 +1,6 @@
 //! LLVM module to dialect module.
 
-ghost use Rattle.std.specs.Prelude.{◌≡◌, ◌<◌, List, ℕ, IfErr, IfOk, Some, length, map};
+ghost use Rattle.std.specs.Prelude.{◌≡◌, ◌<◌, ◌≤◌, List, [], ℕ, IfErr, IfOk, Some, length, map};
 ghost use Rattle.llvm_core.specs.Data.{data_of};
 ghost use Rattle.llvm_core.specs.Names.{IsPlainOrNone};
 ghost use Rattle.llvm_core.specs.Form.{IsForm};
@@ -10,13 +10,16 @@ ghost use Rattle.meaning.specs.Dialect as dialect;
 ghost use Rattle.dialect_types.specs.Names.{legal_name};
 ghost use Rattle.dialect_core.specs.declared.numbers.OpRef.{OpRef};
 ghost use Rattle.dialect_core.specs.declared.ops.OpKind.TheVariants as kinds;
-ghost use Rattle.dialect_core.specs.ContextData.{AreRegions, IsSymbol, empty_context, holder_at, kind_at, region_at};
+ghost use Rattle.dialect_core.specs.ContextData.{AreRegions, IsSymbol, holder_at, kind_at, region_at};
+ghost use Rattle.dialect_core.specs.Data.{IsTyped};
 ghost use Rattle.from_llvm_ir.specs.Match.{match_of};
 ghost use Rattle.from_llvm_ir.specs.Imported.{IsBuilding, IsImported, imported_data};
 ghost use Rattle.from_llvm_ir.specs.Importing.{IsImportedTo};
+ghost use Rattle.from_llvm_ir.specs.Keeping.{Keeps, AreOthersKept};
 ghost use Rattle.from_llvm_ir.specs.Refusals.{IsCause};
 ghost use Rattle.from_llvm_ir.specs.Building.{module_named};
 
+use crate::building::add_bare_block;
 use crate::conversion_err::ConversionErr;
 use crate::functions::import_function;
 use crate::matching::FunctionBlocks;
@@ -32,12 +35,13 @@ use std::alloc::{AllocError, Global};
 use std::marker::Brand;
 use std::sync::ledger::{Blank, Ledger};
 
-/// A dialect module in its context, and the match of blocks.
+/// A dialect module, the match of blocks, and the identified structs with their names in the dialect: none yet, since no
+/// such type is translated.
 #[derive(Drop)]
 pub struct Imported {
-    pub ctx: Context,
     pub module: ModuleOp,
     pub blocks: Items<FunctionBlocks>,
+    pub structs: Vec<(String, Identifier)>,
 }
 
 /// The identifiers of the functions of a module, in order.
@@ -69,6 +73,7 @@ fn import_functions<L: Ledger>(
     requires building { (m : ℕ) × (name : List ℕ) × IsBuilding ctx.old m body (module_named name) }
     ensures err { IfErr result (λ e. IsCause (data_of source.now) e) }
     ensures ok { IfOk result (λ bs. (m : ℕ) → (name : List ℕ) → IsBuilding ctx.old m body (module_named name) → IsImportedTo (data_of source.now) (length source.now.functions) ctx.new m body name bs) }
+    ensures kept { (m : ℕ) → (name : List ℕ) → IsBuilding ctx.old m body (module_named name) → (n b : ℕ) → n ≤ m → b ≤ body.0 → Keeps n b ctx.old ctx.new }
 {
     let given = function_names(alloc, names, source)?;
     let mut blocks = Items::new(alloc);
@@ -80,19 +85,21 @@ fn import_functions<L: Ledger>(
     Ok(blocks)
 }
 
-/// A module without functions in an empty context, and the block for its functions.
+/// A new module without functions, and the block for its functions.
 fn start_module(
     ctx: &mut Context,
     names: &mut Legaliser,
     source: &LLVMModule,
 ) -> Result<(ModuleOp, BlockRef), AllocError>
-    requires empty { ctx.old ≡ empty_context }
     requires name { IsPlainOrNone source.now.name }
-    ensures { IfOk result (λ s. IsBuilding ctx.new s.0.0.0 s.1 (module_named (legal_name source.now.name))) }
+    ensures building { IfOk result (λ s. IsBuilding ctx.new s.0.0.0 s.1 (module_named (legal_name source.now.name))) }
+    ensures number { IfOk result (λ s. s.0.0.0 ≡ length ctx.old.ops) }
+    ensures block { IfOk result (λ s. s.1.0 ≡ length ctx.old.blocks) }
+    ensures kept { (n b : ℕ) → n ≤ length ctx.old.ops → Keeps n b ctx.old ctx.new }
 {
     let name = names.legalise(source.name())?;
     let module = ctx.create_module(name)?;
-    let body = ctx.add_block(module.0, None, &[])?;
+    let body = add_bare_block(ctx, module.0, None, &[])?;
     Ok((module, body))
 }
 
@@ -110,6 +117,7 @@ fn know_kept(ctx: &Context, root: ModuleOp)
 /// The import, with its steps in a ledger.
 fn import_counted<L: Ledger>(
     alloc: Global,
+    ctx: &mut Context,
     source: &LLVMModule,
     blank: Blank,
 ) -> Result<Imported, ConversionErr>
@@ -118,30 +126,43 @@ fn import_counted<L: Ledger>(
     requires some { 0 < L.parts }
     requires form { IsForm (data_of source.now) }
     requires name { IsPlainOrNone source.now.name }
-    ensures imported { IfOk result (λ i. IsImported (data_of source.now) i) }
+    ensures imported { IfOk result (λ i. IsImported (data_of source.now) ctx.new i) }
+    ensures number { IfOk result (λ i. i.«module».0.0 ≡ length ctx.old.ops) }
+    ensures structs { IfOk result (λ i. i.structs.items ≡ []) }
     ensures cause { IfErr result (λ e. IsCause (data_of source.now) e) }
+    ensures others { IsTyped ctx.old → AreOthersKept ctx.old ctx.new }
+    ensures typed { IsTyped ctx.old → IsTyped ctx.new }
 {
-    let mut ctx = Context::new(alloc);
     let mut names = Legaliser::new(alloc);
     let mut steps = Steps::<L>::new(blank);
-    let (module, body) = start_module(&mut ctx, &mut names, source)?;
-    let blocks = import_functions(alloc, &mut ctx, &mut names, source, body, &mut steps)?;
-    know_kept(&ctx, module);
+    let (module, body) = start_module(ctx, &mut names, source)?;
+    let blocks = import_functions(alloc, ctx, &mut names, source, body, &mut steps)?;
+    know_kept(ctx, module);
     Ok(Imported {
-        ctx,
         module,
         blocks,
+        structs: Vec::new(alloc),
     })
 }
 
-/// A dialect module whose functions stand for those of a module of the form, in order, and the match of blocks.
+/// A new module of a context, whose functions stand for those of a module of the form, in order, and the match of blocks.
+/// The context may hold other modules; where its numbers of types are there, each of them stays what it was, and the
+/// numbers stay there, whatever is answered. After a refusal the context may hold more operations and types.
 /// Refuses a function that uses the result of an instruction where it is not defined: `UndefinedValue`.
-pub fn convert_module(alloc: Global, source: &LLVMModule) -> Result<Imported, ConversionErr>
-    requires form { IsForm (data_of source.now) }
-    requires name { IsPlainOrNone source.now.name }
-    ensures imported { IfOk result (λ i. IsImported (data_of source.now) i) }
-    ensures same { IsDistinctNames (map (λ g. g.name) (data_of source.now).functions) → IfOk result (λ i. SameCode (match_of (data_of source.now) i.blocks) (llvm.code_of (data_of source.now)) (dialect.code_of (imported_data i))) }
-    ensures cause { IfErr result (λ e. IsCause (data_of source.now) e) }
+pub fn convert_module(
+    alloc: Global,
+    ctx: &mut Context,
+    module: &LLVMModule,
+) -> Result<Imported, ConversionErr>
+    requires form { IsForm (data_of «module».now) }
+    requires name { IsPlainOrNone «module».now.name }
+    ensures imported { IfOk result (λ i. IsImported (data_of «module».now) ctx.new i) }
+    ensures same { IsDistinctNames (map (λ g. g.name) (data_of «module».now).functions) → IfOk result (λ i. SameCode (match_of (data_of «module».now) i.blocks) (llvm.code_of (data_of «module».now)) (dialect.code_of (imported_data ctx.new i))) }
+    ensures number { IfOk result (λ i. i.«module».0.0 ≡ length ctx.old.ops) }
+    ensures structs { IfOk result (λ i. i.structs.items ≡ []) }
+    ensures cause { IfErr result (λ e. IsCause (data_of «module».now) e) }
+    ensures others { IsTyped ctx.old → AreOthersKept ctx.old ctx.new }
+    ensures typed { IsTyped ctx.old → IsTyped ctx.new }
 {
-    import_counted::<Brand>(alloc, source, Blank::new(1))
+    import_counted::<Brand>(alloc, ctx, module, Blank::new(1))
 }

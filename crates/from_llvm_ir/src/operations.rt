@@ -1,6 +1,6 @@
 //! The instructions of a block, each by the operation or the argument that stands for it.
 
-ghost use Rattle.std.specs.Prelude.{◌≡◌, ◌+◌, ℕ, List, IfErr, IfOk, OnOk, false, length};
+ghost use Rattle.std.specs.Prelude.{◌≡◌, ◌≤◌, ◌+◌, ℕ, List, IfErr, IfOk, OnOk, false, length};
 ghost use Rattle.llvm_core.specs.declared.code.LLVMValue.TheVariants as sources;
 ghost use Rattle.dialect_core.specs.declared.ops.Value.TheVariants as results;
 ghost use Rattle.llvm_core.specs.Names.{IsPlainOrNone};
@@ -10,6 +10,7 @@ ghost use Rattle.from_llvm_ir.specs.Imported.{given_name};
 ghost use Rattle.from_llvm_ir.specs.Order.{IsInverse};
 ghost use Rattle.from_llvm_ir.specs.Source.{AreEntries};
 ghost use Rattle.from_llvm_ir.specs.Values.{IsNoted};
+ghost use Rattle.from_llvm_ir.specs.Keeping.{Keeps};
 ghost use Rattle.from_llvm_ir.specs.Known.{Frame};
 ghost use Rattle.from_llvm_ir.specs.Body.{AreTargets, IsAt, IsBegun, IsBody, IsFilled, IsFramed, IsLate};
 
@@ -77,6 +78,7 @@ fn import_op<L: Ledger>(
         → IsBody fr source.now ctx.new values.new j (x + 1) b) }
     ensures err { IfErr result (λ e. (fr : Frame) → (f : LLVMFunction) → (j x : ℕ) → (b : Block) → (p : Placed) → IsAt fr source.now f targets.now entries.now ctx.old values.old from block i j x b p → is_phi p ≡ false
         → (places : List ℕ) → IsInverse fr.order places → IsLate fr.source places e) }
+    ensures kept { (n b : ℕ) → b ≤ block.0 → Keeps n b ctx.old ctx.new }
 {
     let inst = source.inst(i);
     let used = operands_of(alloc, inst)?;
@@ -127,6 +129,7 @@ fn import_inst<L: Ledger>(
         → IsBody fr source.now ctx.new values.new j (place + 1) b) }
     ensures err { IfErr result (λ e. (fr : Frame) → (f : LLVMFunction) → (j : ℕ) → (b : Block) → (p : Placed) → IsAt fr source.now f targets.now entries.now ctx.old values.old from block i j place b p
         → (places : List ℕ) → IsInverse fr.order places → IsLate fr.source places e) }
+    ensures kept { (n b : ℕ) → b ≤ block.0 → Keeps n b ctx.old ctx.new }
 {
     if is_phi(source.inst(i)) {
         import_phi(values, block, i, place)?;
@@ -156,6 +159,7 @@ pub fn import_insts<L: Ledger>(
         → IsFilled fr source.now ctx.new values.new (j + 1)) }
     ensures err { IfErr result (λ e. (fr : Frame) → (f : LLVMFunction) → (j : ℕ) → (b : Block) → IsBegun fr source.now f targets.now entries.now ctx.old values.old from block j b
         → (places : List ℕ) → IsInverse fr.order places → IsLate fr.source places e) }
+    ensures kept { (n b : ℕ) → b ≤ block.0 → Keeps n b ctx.old ctx.new }
 {
     let insts = source.instructions(from);
     for place in 0..insts.len() {
@@ -195,6 +199,7 @@ pub fn import_blocks<L: Ledger>(
         → IsFilled fr source.now ctx.new values.new (length order.now)) }
     ensures err { IfErr result (λ e. (fr : Frame) → IsFramed source.now f fr → fr.order ≡ order.now → AreTargets fr targets.now → AreEntries source.now fr.source entries.now → IsFilled fr source.now ctx.old values.old 0
         → (places : List ℕ) → IsInverse fr.order places → IsLate fr.source places e) }
+    ensures kept { (fr : Frame) → IsFramed source.now f fr → fr.order ≡ order.now → AreTargets fr targets.now → (n b : ℕ) → b ≤ fr.base → Keeps n b ctx.old ctx.new }
 {
     let blocks = source.blocks(f);
     for place in order {

@@ -1,3 +1,3 @@
 -- The lemmas that proofs cite.
-pub mod RuleLaws
+pub mod HandLaws
 pub mod TraceLaws

@@ -1,20 +1,12 @@
 //! Reads and writes that fail, each in turn: the status, and what stands on the output.
 
+ghost use Rattle.std.specs.Prelude.{◌<◌};
+
 use crate::runs::{ANSWER, words_of};
 use round_ll::outside::{MemorySink, MemorySource};
 use round_ll::run::run;
 use std::alloc::{AllocError, Global};
 use std::test::Fail;
-
-/// A text, in pieces, over which single reads and writes fail.
-struct Case {
-    words: &'static [&'static str],
-    text: &'static str,
-    reads: &'static [u32],
-    writes: &'static [u32],
-    status: u8,
-    line: &'static str,
-}
 
 /// All that is printed of the function.
 const PRINTED: &str = "builtin.module @_ {
@@ -35,73 +27,145 @@ entry_block0:
 blocks @f 0
 ";
 
-/// Runs `round` over the text; the sink of the standard error never fails.
-fn status_of(
+/// Whether a run of these words ends with this status, and then this line is on the standard error.
+fn ends_with_line(
+    alloc: Global,
+    words: &[&str],
+    source: &mut MemorySource,
+    out: &mut MemorySink,
+    err: &mut MemorySink,
+    want: (u8, &str),
+) -> Result<bool, AllocError> {
+    let words = words_of(alloc, words)?;
+    let status = run(alloc, words.as_slice(), source, out, err).status();
+    Ok(status == want.0 && err.bytes() == want.1.as_bytes())
+}
+
+// ---- reads and writes in mid-stream
+
+/// Whether `round` ends with this status, and then this is on the output.
+fn ends(
     alloc: Global,
     source: &mut MemorySource,
     out: &mut MemorySink,
-) -> Result<u8, AllocError> {
+    status: u8,
+    bytes: &[u8],
+) -> Result<bool, AllocError> {
     let words = words_of(alloc, &["round"])?;
     let mut err = MemorySink::new(alloc, 1 << 10, 1 << 10, &[])?;
-    Ok(run(alloc, words.as_slice(), source, out, &mut err).status())
+    let ended = run(alloc, words.as_slice(), source, out, &mut err);
+    Ok(ended.status() == status && out.bytes() == bytes)
+}
+
+/// Whether `round` over the text in pieces, where one read fails, ends so.
+fn ends_at_read(
+    alloc: Global,
+    size: usize,
+    failing: u32,
+    out: &mut MemorySink,
+    status: u8,
+    bytes: &[u8],
+) -> Result<bool, AllocError>
+    requires { 0 < size }
+{
+    let mut source = MemorySource::new(alloc, ANSWER.as_bytes(), size, &[failing])?;
+    ends(alloc, &mut source, out, status, bytes)
+}
+
+/// Whether the second read fails, of pieces of 8 bytes, and then the third write of pieces of 10.
+fn fails_in_mid_stream(alloc: Global) -> Result<bool, AllocError> {
+    let mut out = MemorySink::new(alloc, 1 << 12, 10, &[2])?;
+    let line = b"builtin.module @_ {\n".as_slice();
+    if !ends_at_read(alloc, 8, 1, &mut out, 3, &[])? {
+        return Ok(false);
+    }
+    ends_at_read(alloc, 8, u32::MAX, &mut out, 4, line)
 }
 
 #[test]
 fn a_read_or_a_write_fails_in_mid_stream(rt: HostRuntime) -> Result<(), Fail> {
-    let alloc = rt.alloc();
-    let text = ANSWER.as_bytes();
-
-    // The second read of pieces of 8 bytes.
-    let mut source = MemorySource::new(alloc, text, 8, &[1])?;
-    let mut out = MemorySink::new(alloc, 1 << 12, 10, &[2])?;
-    assert_eq!(rt; status_of(alloc, &mut source, &mut out)?, 3);
-    assert_eq!(rt; out.bytes().len(), 0);
-
-    // The third write of pieces of 10 bytes.
-    let mut source = MemorySource::new(alloc, text, 8, &[])?;
-    assert_eq!(rt; status_of(alloc, &mut source, &mut out)?, 4);
-    assert_eq!(rt; out.bytes(), b"builtin.module @_ {\n".as_slice());
+    assert!(rt; fails_in_mid_stream(rt.alloc())?);
     Ok(())
+}
+
+/// Whether a run in which the read of this number fails ends as it should. One read more than there are bytes meets the
+/// end, and behind it none is made.
+fn fails_at_read(alloc: Global, read: usize) -> Result<bool, AllocError> {
+    let mut out = MemorySink::new(alloc, 1 << 12, 1 << 12, &[])?;
+    let failing = read.min(1 << 20) as u32;
+    if read <= ANSWER.len() {
+        ends_at_read(alloc, 1, failing, &mut out, 3, &[])
+    } else {
+        ends_at_read(alloc, 1, failing, &mut out, 0, PRINTED.as_bytes())
+    }
 }
 
 #[test]
 fn each_read_fails_in_turn(rt: HostRuntime) -> Result<(), Fail> {
-    let alloc = rt.alloc();
-
-    // One read more than there are bytes meets the end, and behind it none is made.
-    let mut failing = 0u32;
-    for reads in 0..ANSWER.len() + 2 {
-        let mut source = MemorySource::new(alloc, ANSWER.as_bytes(), 1, &[failing])?;
-        let mut out = MemorySink::new(alloc, 1 << 12, 1 << 12, &[])?;
-        let status = status_of(alloc, &mut source, &mut out)?;
-        if reads <= ANSWER.len() {
-            assert_eq!(rt; status, 3, "at {reads}");
-            assert_eq!(rt; out.bytes().len(), 0);
-        } else {
-            assert_eq!(rt; status, 0);
-        }
-        failing = failing.saturating_add(1);
+    for read in 0..ANSWER.len() + 2 {
+        assert!(rt; fails_at_read(rt.alloc(), read)?, "at {read}");
     }
     Ok(())
 }
 
-#[test]
-fn each_write_fails_in_turn(rt: HostRuntime) -> Result<(), Fail> {
-    let alloc = rt.alloc();
+/// Whether a run in which the write of this number fails, of pieces of a byte, ends as it should.
+fn fails_at_write(alloc: Global, write: usize) -> Result<bool, AllocError> {
+    let failing = write.min(1 << 20) as u32;
     let printed = PRINTED.as_bytes();
-    let mut failing = 0u32;
-    for written in 0..printed.len() {
-        let mut source = MemorySource::new(alloc, ANSWER.as_bytes(), 1 << 10, &[])?;
-        let mut out = MemorySink::new(alloc, 1 << 12, 1, &[failing])?;
-        assert_eq!(rt; status_of(alloc, &mut source, &mut out)?, 4, "at {written}");
-        assert_eq!(rt; out.bytes(), &printed[..written]);
-        failing = failing.saturating_add(1);
-    }
     let mut source = MemorySource::new(alloc, ANSWER.as_bytes(), 1 << 10, &[])?;
     let mut out = MemorySink::new(alloc, 1 << 12, 1, &[failing])?;
-    assert_eq!(rt; status_of(alloc, &mut source, &mut out)?, 0);
-    assert_eq!(rt; out.bytes(), printed);
+    if write < printed.len() {
+        ends(alloc, &mut source, &mut out, 4, &printed[..write])
+    } else {
+        ends(alloc, &mut source, &mut out, 0, printed)
+    }
+}
+
+#[test]
+fn each_write_fails_in_turn(rt: HostRuntime) -> Result<(), Fail> {
+    for write in 0..PRINTED.len() + 1 {
+        assert!(rt; fails_at_write(rt.alloc(), write)?, "at {write}");
+    }
     Ok(())
+}
+
+// ---- faults of the standard error
+
+/// A run over which single reads and writes fail, and how it ends.
+#[derive(Clone, Copy)]
+struct Case {
+    words: &'static [&'static str],
+    text: &'static str,
+    reads: &'static [u32],
+    writes: &'static [u32],
+    status: u8,
+    line: &'static str,
+}
+
+/// Whether a case ends as it should, with this line, where these calls of the standard error fail.
+fn case_ends(alloc: Global, case: &Case, fails: &[u32], line: &str) -> Result<bool, AllocError> {
+    let mut source = MemorySource::new(alloc, case.text.as_bytes(), 1 << 20, case.reads)?;
+    let mut out = MemorySink::new(alloc, 1 << 12, 1 << 12, case.writes)?;
+    let mut err = MemorySink::new(alloc, 1 << 10, 1 << 10, fails)?;
+    let want = (case.status, line);
+    ends_with_line(alloc, case.words, &mut source, &mut out, &mut err, want)
+}
+
+/// Whether a case ends as it should, with its line, and with none where the first call of the standard error fails.
+fn ends_either_way(alloc: Global, case: &Case) -> Result<bool, AllocError> {
+    if !case_ends(alloc, case, &[], case.line)? {
+        return Ok(false);
+    }
+    case_ends(alloc, case, &[0], "")
+}
+
+/// Whether a text that is too long ends as it should where the first call of the standard error fails.
+fn longer_ends(alloc: Global) -> Result<bool, AllocError> {
+    let blanks = vec![in alloc; b' '; (1 << 24) + 1]?;
+    let mut source = MemorySource::new(alloc, blanks.as_slice(), 1 << 20, &[])?;
+    let mut out = MemorySink::new(alloc, 1 << 12, 1 << 12, &[])?;
+    let mut err = MemorySink::new(alloc, 1 << 10, 1 << 10, &[0])?;
+    ends_with_line(alloc, &["round"], &mut source, &mut out, &mut err, (5, ""))
 }
 
 /// One text for each answer that a short one has.
@@ -148,34 +212,11 @@ const CASES: [Case; 5] = [
     },
 ];
 
-/// Runs a case, and checks the line; the calls of the standard error that are listed fail.
-fn status_at(
-    alloc: Global,
-    case: &Case,
-    text: &[u8],
-    fails: &[u32],
-) -> Result<(u8, Vec<u8>), AllocError> {
-    let words = words_of(alloc, case.words)?;
-    let mut source = MemorySource::new(alloc, text, 1 << 20, case.reads)?;
-    let mut out = MemorySink::new(alloc, 1 << 12, 1 << 12, case.writes)?;
-    let mut err = MemorySink::new(alloc, 1 << 10, 1 << 10, fails)?;
-    let status = run(alloc, words.as_slice(), &mut source, &mut out, &mut err).status();
-    Ok((status, Vec::from_slice(alloc, err.bytes())?))
-}
-
 #[test]
 fn faults_of_the_standard_error_change_no_status(rt: HostRuntime) -> Result<(), Fail> {
-    let alloc = rt.alloc();
     for case in &CASES {
-        let (status, line) = status_at(alloc, case, case.text.as_bytes(), &[])?;
-        assert_eq!(rt; status, case.status);
-        assert_eq!(rt; line.as_slice(), case.line.as_bytes());
-        let (status, line) = status_at(alloc, case, case.text.as_bytes(), &[0])?;
-        assert_eq!(rt; status, case.status, "where the line fails");
-        assert_eq!(rt; line.len(), 0);
+        assert!(rt; ends_either_way(rt.alloc(), case)?, "at {}", case.status);
     }
-    let blanks = vec![in alloc; b' '; (1 << 24) + 1]?;
-    let (status, _) = status_at(alloc, &CASES[0], blanks.as_slice(), &[0])?;
-    assert_eq!(rt; status, 5);
+    assert!(rt; longer_ends(rt.alloc())?, "at 5");
     Ok(())
 }

@@ -1,17 +1,14 @@
-//! The parts of dialect modules that are made by hand: types, functions with their blocks, operations.
+//! Dialect modules made by hand, each by a row of steps. No text of the form gives most of them.
 
-ghost use Rattle.std.specs.Prelude.{◌≡◌, ◌<◌, ◌≤◌, ℕ, IsTrue, IfOk, IfSome, OnOk, All, Some, length};
+ghost use Rattle.std.specs.Prelude.{◌≡◌, ◌<◌, ◌≤◌, IsTrue, IfOk, IfSome, OnOk, All, Some, length};
 ghost use Rattle.dialect_types.specs.Trees.{type_at, type_tree, type_trees, depth, HasPartsBelow};
-ghost use Rattle.dialect_types.specs.Names.{IsPlainName};
 ghost use Rattle.dialect_core.specs.declared.ops.OpKind.TheVariants as kinds;
-ghost use Rattle.dialect_core.specs.ContextData.{empty_context, is_plain, kind_at, IsValueWithin, IsSuccessorWithin};
-ghost use Rattle.dialect_core.specs.Data.{DialectModule, HasKindTypesBelow, IsTyped};
-ghost use Rattle.from_llvm_ir.specs.Imported.{IsBuilding};
-ghost use Rattle.from_llvm_ir.specs.Types.{GrowsTypes};
+ghost use Rattle.dialect_core.specs.ContextData.{empty_context, holder_kind, is_plain, HoldsMore, IsValueWithin, IsSuccessorWithin};
+ghost use Rattle.dialect_core.specs.Data.{HasKindTypesBelow, IsTyped};
 
 use dialect_core::context::Context;
 use dialect_core::linkage::LinkageAttr;
-use dialect_core::numbers::{BlockRef, FuncOp, ModuleOp, OpRef};
+use dialect_core::numbers::{BlockRef, ModuleOp, OpRef};
 use dialect_core::ops::{OpKind, Successor, Value};
 use dialect_core::overflow::IntegerOverflowFlagsAttr;
 use dialect_core::steps::Steps;
@@ -21,61 +18,150 @@ use dialect_types::items::Items;
 use dialect_types::legaliser::Legaliser;
 use dialect_types::types::{TypeHandle, TypeKind};
 use std::alloc::{AllocError, Global};
-use std::sync::ledger::Ledger;
+use std::marker::Brand;
+use std::sync::ledger::{Blank, Ledger};
 
-// ---- a module of two functions, whose blocks are empty
+/// A block, by the function that has it, counted from 1, and its place there. The function 0 is the module itself.
+pub type At = (usize, usize);
 
-/// A plain name.
-pub fn named(alloc: Global, name: &str) -> Result<Identifier, AllocError>
-    requires { IsPlainName name.now }
-{
-    Legaliser::new(alloc).legalise(name)
-}
+/// An operation, by its block's function and place, and its own place in the block.
+pub type Op = (usize, usize, usize);
 
-/// The types of a module.
+/// Where an edge leads, and the result that it passes, if any.
+pub type Edge = (At, Option<Op>);
+
+/// The names that modules have.
 #[derive(Clone, Copy, Drop)]
-pub struct Types {
-    pub int: TypeHandle,
-    pub bit: TypeHandle,
-    pub func: TypeHandle,
+pub enum Name {
+    M,
+    F,
+    G,
+    X,
+    Far,
 }
+
+/// A step that makes a part of a module.
+#[derive(Clone, Copy, Drop)]
+pub enum Step {
+    /// A last block of a function, or of the module.
+    Block(usize),
+    /// A last block of a function, with a label.
+    Label(usize, Name),
+    /// A last function, which takes and returns nothing.
+    Func(Name, LinkageAttr),
+    /// A last argument of 64 bits of a block.
+    Argument(At),
+    /// A last operation of a block: a constant of a width and a value.
+    Constant(At, u32, u64),
+    /// A last operation of a block: the sum of a result with itself, of 64 bits.
+    Double(At, Op),
+    /// A last operation of a block: a branch.
+    Br(At, Edge),
+    /// A last operation of a block: a branch on a result.
+    CondBr(At, Op, Edge, Edge),
+    /// A last operation of a block: a return of nothing.
+    Return(At),
+    /// Names the result of an operation.
+    Named(Op, Name),
+}
+
+// ---- what is named: None says that it is not there, or no memory
+
+fn identifier(alloc: Global, name: Name) -> Option<Identifier> {
+    let mut legaliser = Legaliser::new(alloc);
+    match name {
+        Name::M => legaliser.legalise("m").ok(),
+        Name::F => legaliser.legalise("f").ok(),
+        Name::G => legaliser.legalise("g").ok(),
+        Name::X => legaliser.legalise("x").ok(),
+        Name::Far => legaliser.legalise("far").ok(),
+    }
+}
+
+/// A function, or the module.
+fn holder(ctx: &Context, root: ModuleOp, number: usize) -> Option<OpRef>
+    requires { root.0.0 < length ctx.now.ops }
+    ensures { IfSome result (λ o. o.0 < length ctx.now.ops) }
+{
+    if number == 0 {
+        return Some(root.0);
+    }
+    let ops = ctx.held_ops(root.0).ok()?;
+    ops.as_slice().get(number - 1).copied()
+}
+
+fn block(ctx: &Context, root: ModuleOp, at: At) -> Option<BlockRef>
+    requires { root.0.0 < length ctx.now.ops }
+    ensures { IfSome result (λ b. b.0 < length ctx.now.blocks) }
+{
+    let holder = holder(ctx, root, at.0)?;
+    ctx.op_blocks(holder).get(at.1).copied()
+}
+
+fn op(ctx: &Context, root: ModuleOp, op: Op) -> Option<OpRef>
+    requires { root.0.0 < length ctx.now.ops }
+    ensures { IfSome result (λ o. o.0 < length ctx.now.ops) }
+{
+    let block = block(ctx, root, (op.0, op.1))?;
+    let ops = ctx.block_ops(block).ok()?;
+    ops.as_slice().get(op.2).copied()
+}
+
+/// What an edge passes.
+fn passed(alloc: Global, ctx: &Context, root: ModuleOp, value: Option<Op>) -> Option<Items<Value>>
+    requires { root.0.0 < length ctx.now.ops }
+    ensures { IfSome result (All (IsValueWithin (length ctx.now.ops) (length ctx.now.blocks))) }
+{
+    let mut args = Items::new(alloc);
+    if let Some(value) = value {
+        let op = op(ctx, root, value)?;
+        args.push(Value::Result(op)).ok()?;
+    }
+    Some(args)
+}
+
+fn edge(alloc: Global, ctx: &Context, root: ModuleOp, edge: Edge) -> Option<Successor>
+    requires { root.0.0 < length ctx.now.ops }
+    ensures { IfSome result (IsSuccessorWithin (length ctx.now.ops) (length ctx.now.blocks)) }
+{
+    let block = block(ctx, root, edge.0)?;
+    let args = passed(alloc, ctx, root, edge.1)?;
+    Some(Successor { block, args })
+}
+
+// ---- types
 
 /// A type of the context.
-pub fn intern(ctx: &mut Context, kind: TypeKind) -> Result<TypeHandle, AllocError>
+fn intern(ctx: &mut Context, kind: TypeKind) -> Result<TypeHandle, AllocError>
+    requires typed { IsTyped ctx.old }
     requires parts { HasPartsBelow (length ctx.old.types) kind }
     requires nesting { depth (type_tree (type_trees ctx.old.types) kind) ≤ 1000 }
-    ensures grown { GrowsTypes ctx.old ctx.new }
+    ensures typed { OnOk result (IsTyped ctx.new) }
     ensures tree { IfOk result (λ t. type_at (type_trees ctx.new.types) t ≡ type_tree (type_trees ctx.old.types) kind) }
     ensures within { IfOk result (λ t. t.0 < length ctx.new.types) }
-    ensures more { length ctx.old.types ≤ length ctx.new.types }
+    ensures ops { ctx.new.ops ≡ ctx.old.ops }
+    ensures blocks { ctx.new.blocks ≡ ctx.old.blocks }
 {
     let ty = ctx.types_mut().get(kind)?;
     Ok(ty)
 }
 
-/// An integer type of 64 bits.
-pub fn intern_int(ctx: &mut Context) -> Result<TypeHandle, AllocError>
-    ensures grown { GrowsTypes ctx.old ctx.new }
-    ensures within { IfOk result (λ t. t.0 < length ctx.new.types) }
-    ensures more { length ctx.old.types ≤ length ctx.new.types }
+fn int(ctx: &mut Context, width: u32) -> Option<TypeHandle>
+    requires { IsTyped ctx.old }
+    ensures typed { IfSome result (λ _. IsTyped ctx.new) }
+    ensures within { IfSome result (λ t. t.0 < length ctx.new.types) }
+    ensures ops { ctx.new.ops ≡ ctx.old.ops }
+    ensures blocks { ctx.new.blocks ≡ ctx.old.blocks }
 {
-    intern(ctx, TypeKind::Integer(64))
-}
-
-/// The integer type of one bit.
-pub fn intern_bit(ctx: &mut Context) -> Result<TypeHandle, AllocError>
-    ensures grown { GrowsTypes ctx.old ctx.new }
-    ensures within { IfOk result (λ t. t.0 < length ctx.new.types) }
-    ensures more { length ctx.old.types ≤ length ctx.new.types }
-{
-    intern(ctx, TypeKind::Integer(1))
+    intern(ctx, TypeKind::Integer(width)).ok()
 }
 
 /// The type of a function that takes and returns nothing.
-pub fn intern_func(alloc: Global, ctx: &mut Context) -> Result<TypeHandle, AllocError>
-    ensures grown { GrowsTypes ctx.old ctx.new }
+fn intern_func(alloc: Global, ctx: &mut Context) -> Result<TypeHandle, AllocError>
+    requires { IsTyped ctx.old }
+    ensures typed { OnOk result (IsTyped ctx.new) }
     ensures within { IfOk result (λ t. t.0 < length ctx.new.types) }
-    ensures more { length ctx.old.types ≤ length ctx.new.types }
+    ensures ops { ctx.new.ops ≡ ctx.old.ops }
 {
     let void = intern(ctx, TypeKind::Void)?;
     intern(
@@ -88,124 +174,114 @@ pub fn intern_func(alloc: Global, ctx: &mut Context) -> Result<TypeHandle, Alloc
     )
 }
 
-/// The blocks of a module, which has a function with the first three and one with the last two.
-#[derive(Clone, Copy, Drop)]
-pub struct Blocks {
-    pub entry: BlockRef,
-    pub second: BlockRef,
-    pub third: BlockRef,
-    pub near: BlockRef,
-    pub far: BlockRef,
-}
+// ---- blocks and functions
 
-/// A module without functions, and the block for its functions.
-pub fn start(alloc: Global, ctx: &mut Context) -> Result<(ModuleOp, BlockRef), AllocError>
-    requires { ctx.old ≡ empty_context }
-    ensures { IfOk result (λ s. (d : DialectModule) × IsBuilding ctx.new s.0.0.0 s.1 d) }
+/// Whether an operation may hold a block more.
+fn holds_more(ctx: &Context, op: OpRef) -> bool
+    requires { op.0 < length ctx.now.ops }
+    ensures { IsTrue result → HoldsMore ctx.now.ops op }
 {
-    let name = named(alloc, "m")?;
-    let root = ctx.create_module(name)?;
-    let body = ctx.add_block(root.0, None, &[])?;
-    Ok((root, body))
+    match ctx.op_kind(op) {
+        OpKind::Func => true,
+        OpKind::Module => ctx.region(op).is_empty(),
+        _ => false,
+    }
 }
 
-/// A new function without blocks, as the last of the module.
-pub fn add_func<L: Ledger>(
+fn add_block(
+    ctx: &mut Context,
+    root: ModuleOp,
+    number: usize,
+    label: Option<Identifier>,
+) -> Option<()>
+    requires typed { IsTyped ctx.old }
+    requires root { root.0.0 < length ctx.old.ops }
+    ensures typed { IfSome result (λ _. IsTyped ctx.new) }
+    ensures more { IfSome result (λ _. length ctx.old.ops ≤ length ctx.new.ops) }
+{
+    let holder = holder(ctx, root, number)?;
+    if !holds_more(ctx, holder) {
+        return None;
+    }
+    match ctx.add_block(holder, label, &[]) {
+        Ok(_) => Some(()),
+        Err(_) => None,
+    }
+}
+
+fn add_argument(ctx: &mut Context, root: ModuleOp, at: At) -> Option<()>
+    requires typed { IsTyped ctx.old }
+    requires root { root.0.0 < length ctx.old.ops }
+    ensures typed { IfSome result (λ _. IsTyped ctx.new) }
+    ensures more { IfSome result (λ _. length ctx.old.ops ≤ length ctx.new.ops) }
+{
+    let block = block(ctx, root, at)?;
+    let int = int(ctx, 64)?;
+    match ctx.push_argument(block, int) {
+        Ok(_) => Some(()),
+        Err(_) => None,
+    }
+}
+
+/// Whether a block is one of a module.
+fn is_of_module(ctx: &Context, block: BlockRef) -> bool
+    requires { block.0 < length ctx.now.blocks }
+    ensures { IsTrue result → holder_kind ctx.now.ops ctx.now.blocks block ≡ Some kinds.Module }
+{
+    match ctx.op_kind(ctx.block_holder(block)) {
+        OpKind::Module => true,
+        _ => false,
+    }
+}
+
+/// A new function without blocks, as the last of a module that has the block.
+fn append_func<L: Ledger>(
     ctx: &mut Context,
     body: BlockRef,
     name: Identifier,
     ty: TypeHandle,
+    linkage: LinkageAttr,
     steps: &mut Steps<L>,
-) -> Result<FuncOp, AllocError>
+) -> Option<()>
+    requires typed { IsTyped ctx.old }
+    requires body { body.0 < length ctx.old.blocks }
     requires ty { ty.0 < length ctx.old.types }
-    requires building { (m : ℕ) × (d : DialectModule) × IsBuilding ctx.old m body d }
-    ensures building { OnOk result ((m : ℕ) → (d : DialectModule) → IsBuilding ctx.old m body d → (e : DialectModule) × IsBuilding ctx.new m body e) }
-    ensures func { IfOk result (λ f. kind_at ctx.new.ops f.0 ≡ Some kinds.Func) }
-    ensures blocks { OnOk result (ctx.new.blocks ≡ ctx.old.blocks) }
-    ensures same_types { OnOk result (ctx.new.types ≡ ctx.old.types) }
+    ensures typed { IfSome result (λ _. IsTyped ctx.new) }
+    ensures more { IfSome result (λ _. length ctx.old.ops ≤ length ctx.new.ops) }
 {
-    let func = ctx.create_func(name, ty, LinkageAttr::ExternalLinkage)?;
+    let func = ctx.create_func(name, ty, linkage).ok()?;
+    if !is_of_module(ctx, body) {
+        return None;
+    }
     ctx.insert_at_back(func.0, body, steps);
-    Ok(func)
+    Some(())
 }
 
-/// A new block without operations, as the last of a function.
-pub fn add_block(
-    ctx: &mut Context,
-    func: FuncOp,
-    label: Option<Identifier>,
-    args: &[TypeHandle],
-) -> Result<BlockRef, AllocError>
-    requires func { kind_at ctx.old.ops func.0 ≡ Some kinds.Func }
-    requires args { All (λ t. t.0 < length ctx.old.types) args.now }
-    ensures building { OnOk result ((m : ℕ) → (body : BlockRef) → (d : DialectModule) → IsBuilding ctx.old m body d → (e : DialectModule) × IsBuilding ctx.new m body e) }
-    ensures func { OnOk result (kind_at ctx.new.ops func.0 ≡ Some kinds.Func) }
-    ensures within { IfOk result (λ b. b.0 < length ctx.new.blocks) }
-    ensures more { OnOk result (length ctx.old.blocks ≤ length ctx.new.blocks) }
-    ensures same_types { OnOk result (ctx.new.types ≡ ctx.old.types) }
-{
-    let block = ctx.add_block(func.0, label, args)?;
-    Ok(block)
-}
-
-/// A function with these blocks, of which the second takes `args`.
-pub fn three_blocks(
-    ctx: &mut Context,
-    func: FuncOp,
-    args: &[TypeHandle],
-) -> Result<(BlockRef, BlockRef, BlockRef), AllocError>
-    requires func { kind_at ctx.old.ops func.0 ≡ Some kinds.Func }
-    requires args { All (λ t. t.0 < length ctx.old.types) args.now }
-    ensures building { OnOk result ((m : ℕ) → (body : BlockRef) → (d : DialectModule) → IsBuilding ctx.old m body d → (e : DialectModule) × IsBuilding ctx.new m body e) }
-    ensures entry { IfOk result (λ bs. bs.0.0 < length ctx.new.blocks) }
-    ensures second { IfOk result (λ bs. bs.1.0 < length ctx.new.blocks) }
-    ensures third { IfOk result (λ bs. bs.2.0 < length ctx.new.blocks) }
-    ensures same_types { OnOk result (ctx.new.types ≡ ctx.old.types) }
-{
-    let entry = add_block(ctx, func, None, &[])?;
-    let second = add_block(ctx, func, None, args)?;
-    let third = add_block(ctx, func, None, &[])?;
-    Ok((entry, second, third))
-}
-
-/// The functions of a module and their blocks, of which the second takes `args`.
-pub fn add_funcs<L: Ledger>(
+fn add_func<L: Ledger>(
     alloc: Global,
     ctx: &mut Context,
-    body: BlockRef,
-    ty: TypeHandle,
-    args: &[TypeHandle],
+    root: ModuleOp,
+    name: Name,
+    linkage: LinkageAttr,
     steps: &mut Steps<L>,
-) -> Result<Blocks, AllocError>
-    requires ty { ty.0 < length ctx.old.types }
-    requires args { All (λ t. t.0 < length ctx.old.types) args.now }
-    requires building { (m : ℕ) × (d : DialectModule) × IsBuilding ctx.old m body d }
-    ensures building { OnOk result ((m : ℕ) → (d : DialectModule) → IsBuilding ctx.old m body d → (e : DialectModule) × IsBuilding ctx.new m body e) }
-    ensures entry { IfOk result (λ bs. bs.entry.0 < length ctx.new.blocks) }
-    ensures second { IfOk result (λ bs. bs.second.0 < length ctx.new.blocks) }
-    ensures third { IfOk result (λ bs. bs.third.0 < length ctx.new.blocks) }
-    ensures near { IfOk result (λ bs. bs.near.0 < length ctx.new.blocks) }
-    ensures far { IfOk result (λ bs. bs.far.0 < length ctx.new.blocks) }
-    ensures same_types { OnOk result (ctx.new.types ≡ ctx.old.types) }
+) -> Option<()>
+    requires typed { IsTyped ctx.old }
+    requires root { root.0.0 < length ctx.old.ops }
+    ensures typed { IfSome result (λ _. IsTyped ctx.new) }
+    ensures more { IfSome result (λ _. length ctx.old.ops ≤ length ctx.new.ops) }
 {
-    let f = add_func(ctx, body, named(alloc, "f")?, ty, steps)?;
-    let (entry, second, third) = three_blocks(ctx, f, args)?;
-    let g = add_func(ctx, body, named(alloc, "g")?, ty, steps)?;
-    let near = add_block(ctx, g, None, &[])?;
-    let far = add_block(ctx, g, Some(named(alloc, "far")?), &[])?;
-    Ok(Blocks {
-        entry,
-        second,
-        third,
-        near,
-        far,
-    })
+    let name = identifier(alloc, name)?;
+    let Ok(ty) = intern_func(alloc, ctx) else {
+        return None;
+    };
+    let body = block(ctx, root, (0, 0))?;
+    append_func(ctx, body, name, ty, linkage, steps)
 }
 
 // ---- operations
 
 /// A new last operation of a block.
-pub fn place<L: Ledger>(
+fn place<L: Ledger>(
     ctx: &mut Context,
     block: BlockRef,
     kind: OpKind,
@@ -213,7 +289,7 @@ pub fn place<L: Ledger>(
     successors: &[Successor],
     ty: Option<TypeHandle>,
     steps: &mut Steps<L>,
-) -> Result<OpRef, AllocError>
+) -> Option<()>
     requires typed { IsTyped ctx.old }
     requires block { block.0 < length ctx.old.blocks }
     requires plain { IsTrue (is_plain kind) }
@@ -221,114 +297,203 @@ pub fn place<L: Ledger>(
     requires operands { All (IsValueWithin (length ctx.old.ops) (length ctx.old.blocks)) operands.now }
     requires successors { All (IsSuccessorWithin (length ctx.old.ops) (length ctx.old.blocks)) successors.now }
     requires ty { IfSome ty (λ t. t.0 < length ctx.old.types) }
-    ensures typed { OnOk result (IsTyped ctx.new) }
-    ensures number { IfOk result (λ o. o.0 < length ctx.new.ops) }
-    ensures more { OnOk result (length ctx.old.ops ≤ length ctx.new.ops) }
-    ensures blocks { OnOk result (length ctx.new.blocks ≡ length ctx.old.blocks) }
-    ensures same_types { OnOk result (ctx.new.types ≡ ctx.old.types) }
+    ensures typed { IfSome result (λ _. IsTyped ctx.new) }
+    ensures more { IfSome result (λ _. length ctx.old.ops ≤ length ctx.new.ops) }
 {
-    let op = ctx.create_op(kind, operands, successors, ty)?;
+    let op = ctx.create_op(kind, operands, successors, ty).ok()?;
     ctx.insert_at_back(op, block, steps);
-    Ok(op)
+    Some(())
 }
 
-/// A constant.
-pub fn constant<L: Ledger>(
+fn constant<L: Ledger>(
     ctx: &mut Context,
     block: BlockRef,
-    ty: TypeHandle,
+    width: u32,
     value: u64,
     steps: &mut Steps<L>,
-) -> Result<OpRef, AllocError>
+) -> Option<()>
     requires typed { IsTyped ctx.old }
     requires block { block.0 < length ctx.old.blocks }
-    requires ty { ty.0 < length ctx.old.types }
-    ensures typed { OnOk result (IsTyped ctx.new) }
-    ensures number { IfOk result (λ o. o.0 < length ctx.new.ops) }
-    ensures more { OnOk result (length ctx.old.ops ≤ length ctx.new.ops) }
-    ensures blocks { OnOk result (length ctx.new.blocks ≡ length ctx.old.blocks) }
-    ensures same_types { OnOk result (ctx.new.types ≡ ctx.old.types) }
+    ensures typed { IfSome result (λ _. IsTyped ctx.new) }
+    ensures more { IfSome result (λ _. length ctx.old.ops ≤ length ctx.new.ops) }
 {
+    let ty = int(ctx, width)?;
     let kind = OpKind::Constant(ConstAttr::Integer(ty, value));
     place(ctx, block, kind, &[], &[], Some(ty), steps)
 }
 
-/// A sum of a result with itself.
-pub fn double<L: Ledger>(
+fn double<L: Ledger>(
     ctx: &mut Context,
     block: BlockRef,
-    value: OpRef,
-    ty: TypeHandle,
+    op: OpRef,
     steps: &mut Steps<L>,
-) -> Result<OpRef, AllocError>
+) -> Option<()>
     requires typed { IsTyped ctx.old }
     requires block { block.0 < length ctx.old.blocks }
-    requires value { value.0 < length ctx.old.ops }
-    requires ty { ty.0 < length ctx.old.types }
-    ensures typed { OnOk result (IsTyped ctx.new) }
-    ensures number { IfOk result (λ o. o.0 < length ctx.new.ops) }
-    ensures more { OnOk result (length ctx.old.ops ≤ length ctx.new.ops) }
-    ensures blocks { OnOk result (length ctx.new.blocks ≡ length ctx.old.blocks) }
-    ensures same_types { OnOk result (ctx.new.types ≡ ctx.old.types) }
+    requires op { op.0 < length ctx.old.ops }
+    ensures typed { IfSome result (λ _. IsTyped ctx.new) }
+    ensures more { IfSome result (λ _. length ctx.old.ops ≤ length ctx.new.ops) }
 {
+    let ty = int(ctx, 64)?;
     let flags = IntegerOverflowFlagsAttr {
         nsw: false,
         nuw: false,
     };
+    let value = Value::Result(op);
     place(
         ctx,
         block,
         OpKind::Add(flags),
-        &[Value::Result(value), Value::Result(value)],
+        &[value, value],
         &[],
         Some(ty),
         steps,
     )
 }
 
-/// An edge that passes a result, or nothing.
-pub fn edge(alloc: Global, block: BlockRef, value: Option<OpRef>) -> Result<Successor, AllocError>
-    ensures { (n m : ℕ) → block.0 < m → IfSome value (λ o. o.0 < n) → IfOk result (IsSuccessorWithin n m) }
+/// A branch or a return.
+fn end<L: Ledger>(
+    alloc: Global,
+    ctx: &mut Context,
+    root: ModuleOp,
+    step: Step,
+    steps: &mut Steps<L>,
+) -> Option<()>
+    requires typed { IsTyped ctx.old }
+    requires root { root.0.0 < length ctx.old.ops }
+    ensures typed { IfSome result (λ _. IsTyped ctx.new) }
+    ensures more { IfSome result (λ _. length ctx.old.ops ≤ length ctx.new.ops) }
 {
-    let mut args = Items::new(alloc);
-    if let Some(value) = value {
-        args.push(Value::Result(value))?;
+    match step {
+        Step::Br(at, to) => {
+            let block = block(ctx, root, at)?;
+            let to = edge(alloc, ctx, root, to)?;
+            place(ctx, block, OpKind::Br, &[], &[to], None, steps)
+        }
+        Step::CondBr(at, condition, yes, no) => {
+            let block = block(ctx, root, at)?;
+            let condition = Value::Result(op(ctx, root, condition)?);
+            let yes = edge(alloc, ctx, root, yes)?;
+            let no = edge(alloc, ctx, root, no)?;
+            place(
+                ctx,
+                block,
+                OpKind::CondBr,
+                &[condition],
+                &[yes, no],
+                None,
+                steps,
+            )
+        }
+        Step::Return(at) => {
+            let block = block(ctx, root, at)?;
+            place(ctx, block, OpKind::Return, &[], &[], None, steps)
+        }
+        _ => None,
     }
-    Ok(Successor { block, args })
 }
 
-/// A branch.
-pub fn br<L: Ledger>(
+// ---- modules
+
+/// Takes a step.
+fn take<L: Ledger>(
+    alloc: Global,
     ctx: &mut Context,
-    block: BlockRef,
-    to: Successor,
+    root: ModuleOp,
+    step: Step,
     steps: &mut Steps<L>,
-) -> Result<(), AllocError>
+) -> Option<()>
     requires typed { IsTyped ctx.old }
-    requires block { block.0 < length ctx.old.blocks }
-    requires to { IsSuccessorWithin (length ctx.old.ops) (length ctx.old.blocks) to }
-    ensures typed { OnOk result (IsTyped ctx.new) }
-    ensures more { OnOk result (length ctx.old.ops ≤ length ctx.new.ops) }
-    ensures blocks { OnOk result (length ctx.new.blocks ≡ length ctx.old.blocks) }
-    ensures same_types { OnOk result (ctx.new.types ≡ ctx.old.types) }
+    requires root { root.0.0 < length ctx.old.ops }
+    ensures typed { IfSome result (λ _. IsTyped ctx.new) }
+    ensures more { IfSome result (λ _. length ctx.old.ops ≤ length ctx.new.ops) }
 {
-    place(ctx, block, OpKind::Br, &[], &[to], None, steps)?;
-    Ok(())
+    match step {
+        Step::Block(number) => add_block(ctx, root, number, None),
+        Step::Label(number, label) => {
+            let label = identifier(alloc, label)?;
+            add_block(ctx, root, number, Some(label))
+        }
+        Step::Func(name, linkage) => add_func(alloc, ctx, root, name, linkage, steps),
+        Step::Argument(at) => add_argument(ctx, root, at),
+        Step::Constant(at, width, value) => {
+            let block = block(ctx, root, at)?;
+            constant(ctx, block, width, value, steps)
+        }
+        Step::Double(at, value) => {
+            let block = block(ctx, root, at)?;
+            let op = op(ctx, root, value)?;
+            double(ctx, block, op, steps)
+        }
+        Step::Named(named, name) => {
+            let op = op(ctx, root, named)?;
+            let name = identifier(alloc, name)?;
+            match ctx.set_name(op, name) {
+                Ok(()) => Some(()),
+                Err(_) => None,
+            }
+        }
+        Step::Br(..) | Step::CondBr(..) | Step::Return(..) => end(alloc, ctx, root, step, steps),
+    }
 }
 
-/// A return.
-pub fn ret<L: Ledger>(
+/// Takes steps in order.
+fn take_all<L: Ledger>(
+    alloc: Global,
     ctx: &mut Context,
-    block: BlockRef,
+    root: ModuleOp,
+    row: &[Step],
     steps: &mut Steps<L>,
-) -> Result<(), AllocError>
+) -> Option<()>
     requires typed { IsTyped ctx.old }
-    requires block { block.0 < length ctx.old.blocks }
-    ensures typed { OnOk result (IsTyped ctx.new) }
-    ensures more { OnOk result (length ctx.old.ops ≤ length ctx.new.ops) }
-    ensures blocks { OnOk result (length ctx.new.blocks ≡ length ctx.old.blocks) }
-    ensures same_types { OnOk result (ctx.new.types ≡ ctx.old.types) }
+    requires root { root.0.0 < length ctx.old.ops }
+    ensures typed { IfSome result (λ _. IsTyped ctx.new) }
+    ensures more { IfSome result (λ _. length ctx.old.ops ≤ length ctx.new.ops) }
 {
-    place(ctx, block, OpKind::Return, &[], &[], None, steps)?;
-    Ok(())
+    for step in row {
+        take(alloc, ctx, root, *step, steps)?;
+    }
+    Some(())
+}
+
+/// A module in an empty context, by the steps of two rows.
+fn make<L: Ledger>(
+    alloc: Global,
+    ctx: &mut Context,
+    first: &[Step],
+    then: &[Step],
+    blank: Blank,
+) -> Option<ModuleOp>
+    requires empty { ctx.old ≡ empty_context }
+    requires blank_name { blank.name ≡ L.name }
+    requires parts { blank.parts ≡ L.parts }
+    requires some { 0 < L.parts }
+    ensures typed { IfSome result (λ _. IsTyped ctx.new) }
+    ensures there { IfSome result (λ root. root.0.0 < length ctx.new.ops) }
+{
+    let mut steps = Steps::<L>::new(blank);
+    let name = identifier(alloc, Name::M)?;
+    let Ok(root) = ctx.create_module(name) else {
+        return None;
+    };
+    take_all(alloc, ctx, root, first, &mut steps)?;
+    take_all(alloc, ctx, root, then, &mut steps)?;
+    Some(root)
+}
+
+/// A module and its context.
+#[derive(Drop)]
+pub struct Made {
+    pub ctx: Context,
+    pub root: ModuleOp,
+}
+
+/// A module by the steps of two rows.
+pub fn module(alloc: Global, first: &[Step], then: &[Step]) -> Option<Made>
+    ensures typed { IfSome result (λ m. IsTyped m.ctx) }
+    ensures there { IfSome result (λ m. m.root.0.0 < length m.ctx.ops) }
+{
+    let mut ctx = Context::new(alloc);
+    let root = make::<Brand>(alloc, &mut ctx, first, then, Blank::new(1))?;
+    Some(Made { ctx, root })
 }

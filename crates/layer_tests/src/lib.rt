@@ -10,7 +10,11 @@ mod exports;
 #[cfg(test)]
 mod faults;
 #[cfg(test)]
+mod graphs;
+#[cfg(test)]
 mod hand;
+#[cfg(test)]
+mod imports;
 #[cfg(test)]
 mod modules;
 #[cfg(test)]

@@ -4,16 +4,7 @@ use round_ll::ended::Ended;
 use round_ll::outside::{MemorySink, MemorySource};
 use round_ll::run::run;
 use std::alloc::{AllocError, Global};
-use std::process::Abort;
 use std::test::Fail;
-
-/// What a run answered: its status, and what it wrote to the output and to the standard error.
-#[derive(Drop)]
-struct Answer {
-    status: u8,
-    out: Vec<u8>,
-    err: Vec<u8>,
-}
 
 /// The words of a command line.
 pub fn words_of(alloc: Global, words: &[&str]) -> Result<Vec<String>, AllocError> {
@@ -24,28 +15,30 @@ pub fn words_of(alloc: Global, words: &[&str]) -> Result<Vec<String>, AllocError
     Ok(owned)
 }
 
-/// Runs the program over a text in memory, with memory for so many bytes of output.
-fn answer_in_room(
+/// Runs the program over a text in memory.
+fn run_over(
     alloc: Global,
     words: &[&str],
     text: &[u8],
-    room: usize,
-) -> Result<Answer, AllocError> {
+    out: &mut MemorySink,
+    err: &mut MemorySink,
+) -> Result<Ended, AllocError> {
     let words = words_of(alloc, words)?;
     let mut source = MemorySource::new(alloc, text, 1 << 20, &[])?;
-    let mut out = MemorySink::new(alloc, room, 1 << 20, &[])?;
-    let mut err = MemorySink::new(alloc, 1 << 10, 1 << 10, &[])?;
-    let ended = run(alloc, words.as_slice(), &mut source, &mut out, &mut err);
-    Ok(Answer {
-        status: ended.status(),
-        out: Vec::from_slice(alloc, out.bytes())?,
-        err: Vec::from_slice(alloc, err.bytes())?,
-    })
+    Ok(run(alloc, words.as_slice(), &mut source, out, err))
 }
 
-/// Runs the program over a text in memory.
-fn answer_to(alloc: Global, words: &[&str], text: &[u8]) -> Result<Answer, AllocError> {
-    answer_in_room(alloc, words, text, 1 << 20)
+/// Whether a run over a text ends with this status, and this output and line.
+fn ends(
+    alloc: Global,
+    words: &[&str],
+    text: &[u8],
+    want: (u8, &str, &str),
+) -> Result<bool, AllocError> {
+    let mut out = MemorySink::new(alloc, 1 << 20, 1 << 20, &[])?;
+    let mut err = MemorySink::new(alloc, 1 << 10, 1 << 10, &[])?;
+    let status = run_over(alloc, words, text, &mut out, &mut err)?.status();
+    Ok(status == want.0 && out.bytes() == want.1.as_bytes() && err.bytes() == want.2.as_bytes())
 }
 
 const EMPTY_OUT: &str = "builtin.module @_ {
@@ -61,45 +54,45 @@ pub const ANSWER: &str = "define i32 @f() {
 }
 ";
 
+/// Whether words are answered as a faulty command line.
+fn is_usage(alloc: Global, words: &[&str]) -> Result<bool, AllocError> {
+    ends(
+        alloc,
+        words,
+        ANSWER.as_bytes(),
+        (2, "", "usage: round_ll round\n"),
+    )
+}
+
 #[test]
 fn other_words_are_a_faulty_command_line(rt: HostRuntime) -> Result<(), Fail> {
-    let none = answer_to(rt.alloc(), &[], ANSWER.as_bytes())?;
-    let other = answer_to(rt.alloc(), &["around"], ANSWER.as_bytes())?;
-    let more = answer_to(rt.alloc(), &["round", "round"], ANSWER.as_bytes())?;
-    for answer in &[none, other, more] {
-        assert_eq!(rt; answer.status, 2);
-        assert_eq!(rt; answer.out.len(), 0);
-        assert_eq!(rt;
-            answer.err.as_slice(),
-            b"usage: round_ll round\n".as_slice()
-        );
-    }
+    assert!(rt; is_usage(rt.alloc(), &[])?);
+    assert!(rt; is_usage(rt.alloc(), &["around"])?);
+    assert!(rt; is_usage(rt.alloc(), &["round", "round"])?);
     Ok(())
+}
+
+/// Whether so many blanks are answered so.
+fn blanks_end(alloc: Global, count: usize, want: (u8, &str, &str)) -> Result<bool, AllocError> {
+    let blanks = vec![in alloc; b' '; count]?;
+    ends(alloc, &["round"], blanks.as_slice(), want)
 }
 
 #[test]
 fn the_longest_text_goes_round_and_one_byte_more_does_not(rt: HostRuntime) -> Result<(), Fail> {
-    let alloc = rt.alloc();
-    let blanks = vec![in alloc; b' '; (1 << 24) + 1]?;
-    let longest = answer_to(alloc, &["round"], &blanks.as_slice()[1..])?;
-    assert_eq!(rt; longest.status, 0);
-    assert_eq!(rt; longest.out.as_slice(), EMPTY_OUT.as_bytes());
-    let longer = answer_to(alloc, &["round"], blanks.as_slice())?;
-    assert_eq!(rt; longer.status, 5);
-    assert_eq!(rt; longer.out.len(), 0);
-    assert_eq!(rt;
-        longer.err.as_slice(),
-        b"input longer than 16777216 bytes\n".as_slice()
-    );
+    let longest = blanks_end(rt.alloc(), 1 << 24, (0, EMPTY_OUT, ""))?;
+    assert!(rt; longest);
+    let line = "input longer than 16777216 bytes\n";
+    let longer = blanks_end(rt.alloc(), (1 << 24) + 1, (5, "", line))?;
+    assert!(rt; longer);
     Ok(())
 }
 
 /// How many functions share their types and their constant.
 const MANY: u32 = 1000;
 
-#[test]
-fn many_functions_share_types_and_constants(rt: HostRuntime) -> Result<(), Fail> {
-    let alloc = rt.alloc();
+/// A text of many functions.
+fn many_functions(alloc: Global) -> Result<String, AllocError> {
     let mut text = String::new(alloc);
     for k in 0..MANY {
         let function = format!(in alloc;
@@ -107,29 +100,44 @@ fn many_functions_share_types_and_constants(rt: HostRuntime) -> Result<(), Fail>
         )?;
         text.push_str(function.as_str())?;
     }
-    let words = words_of(alloc, &["round"])?;
-    let mut source = MemorySource::new(alloc, text.as_bytes(), 1 << 20, &[])?;
+    Ok(text)
+}
+
+/// How many functions and types the module back has, and 0 of both where the run does not end well.
+fn counts(ended: &Ended) -> (u32, u32) {
+    match ended {
+        Ended::Done(t) => (t.back.functions(), t.back.types()),
+        _ => (0, 0),
+    }
+}
+
+/// The functions and types of the module back from many functions, and whether the report ends with the last of them.
+fn counts_of_many(alloc: Global) -> Result<(u32, u32, bool), AllocError> {
+    let text = many_functions(alloc)?;
     let mut out = MemorySink::new(alloc, 1 << 20, 1 << 20, &[])?;
     let mut err = MemorySink::new(alloc, 1 << 10, 1 << 10, &[])?;
-    match run(alloc, words.as_slice(), &mut source, &mut out, &mut err) {
-        Ended::Done(t) => {
-            assert_eq!(rt; t.back.functions(), MANY);
-            // The integer, the type of the functions, and void for what their returns give.
-            assert_eq!(rt; t.back.types(), 3);
-        }
-        _ => assert!(rt; false),
-    }
+    let ended = run_over(alloc, &["round"], text.as_bytes(), &mut out, &mut err)?;
+    let (functions, types) = counts(&ended);
     let last = "\nblocks @f999 0\n";
-    assert!(rt; out.bytes().ends_with(last.as_bytes()));
+    Ok((functions, types, out.bytes().ends_with(last.as_bytes())))
+}
+
+#[test]
+fn many_functions_share_types_and_constants(rt: HostRuntime) -> Result<(), Fail> {
+    // The types are the integer, that of the functions, and void for what their returns give.
+    let (functions, types, ends) = counts_of_many(rt.alloc())?;
+    assert!(rt;
+        functions == MANY && types == 3 && ends,
+        "{functions} functions, {types} types"
+    );
     Ok(())
 }
 
 /// How many blocks the chain has behind its entry.
 const CHAIN: u32 = 100_000;
 
-#[test]
-fn a_long_chain_of_blocks_goes_round_from_its_end(rt: HostRuntime) -> Result<(), Fail> {
-    let alloc = rt.alloc();
+/// A text of a chain of blocks, of which the last stands first.
+fn chain(alloc: Global) -> Result<String, AllocError> {
     let mut text = String::new(alloc);
     text.push_str("define void @chain() {\n  br label %b0\n")?;
     let last = format!(in alloc; "b{CHAIN}:\n  ret void\n")?;
@@ -140,8 +148,21 @@ fn a_long_chain_of_blocks_goes_round_from_its_end(rt: HostRuntime) -> Result<(),
         text.push_str(block.as_str())?;
     }
     text.push_str("}\n")?;
-    let answer = answer_in_room(alloc, &["round"], text.as_bytes(), 1 << 24)?;
-    assert_eq!(rt; answer.status, 0);
-    assert!(rt; answer.out.as_slice().ends_with(b" 3 2 1\n".as_slice()));
+    Ok(text)
+}
+
+/// How the chain ends, and whether the report counts its blocks down.
+fn chain_ends(alloc: Global) -> Result<(u8, bool), AllocError> {
+    let text = chain(alloc)?;
+    let mut out = MemorySink::new(alloc, 1 << 24, 1 << 20, &[])?;
+    let mut err = MemorySink::new(alloc, 1 << 10, 1 << 10, &[])?;
+    let status = run_over(alloc, &["round"], text.as_bytes(), &mut out, &mut err)?.status();
+    Ok((status, out.bytes().ends_with(b" 3 2 1\n".as_slice())))
+}
+
+#[test]
+fn a_long_chain_of_blocks_goes_round_from_its_end(rt: HostRuntime) -> Result<(), Fail> {
+    let (status, ends) = chain_ends(rt.alloc())?;
+    assert!(rt; status == 0 && ends, "status {status}");
     Ok(())
 }

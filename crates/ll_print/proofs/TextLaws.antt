@@ -3,6 +3,7 @@ use Rattle.std.proofs.Common.{◌≡◌, ℕ, List, [], ◌++◌, slice_get, Som
 use Rattle.std.specs.Prelude.{OnOk, Result}
 use Rattle.std.specs.declared.alloc.AllocError.{AllocError}
 use Rattle.std.specs.Option.{option_map}
+use Rattle.std.proofs.lemmas.Result.{on_ok_weaker}
 use Rattle.llvm_core.specs.declared.numbers.LLVMType.{LLVMType}
 use Rattle.llvm_core.specs.declared.numbers.LLVMConst.{LLVMConst}
 use Rattle.llvm_core.specs.declared.types.LLVMTypeKind.{LLVMTypeKind}
@@ -29,6 +30,10 @@ put_two old mid new a b e f = rw (f, e) (append_assoc old a b)
 -- the same text under another name, where the call was Ok
 pub ok_is : (r : Result (Unit {0}) AllocError) (old new text same : List ℕ) → OnOk r (new ≡ old ++ text) → same ≡ text → OnOk r (new ≡ old ++ same)
 ok_is r old new text same h is = subst (λ (t : List ℕ). OnOk r (new ≡ old ++ t)) (sym is) h
+
+-- two pieces, where the call that puts the second was Ok
+pub ok_two : (r : Result (Unit {0}) AllocError) (old mid new a b : List ℕ) → mid ≡ old ++ a → OnOk r (new ≡ mid ++ b) → OnOk r (new ≡ old ++ (a ++ b))
+ok_two r old mid new a b e h = on_ok_weaker r (put_two old mid new a b e) h
 
 -- a local, whatever its number was called
 pub local_put : (r : Result (Unit {0}) AllocError) (old new text name : List ℕ) (k j : ℕ) → OnOk r (new ≡ old ++ named_text name k) → k ≡ j → text ≡ named_text name j → OnOk r (new ≡ old ++ text)

@@ -24,8 +24,7 @@ fn put_label(alloc: Global, name: &str, number: u32, out: &mut Vec<u8>) -> Resul
     ensures { OnOk result (out.new.items ≡ out.old.items ++ label_line name.now number) }
 {
     put_bare(alloc, name, number, out)?;
-    out.extend_from_slice(b":\n")?;
-    Ok(())
+    out.extend_from_slice(b":\n")
 }
 
 /// The label line of the first block, where it has a name.

@@ -36,8 +36,7 @@ fn put_add(flags: OverflowFlags, out: &mut Vec<u8>) -> Result<(), AllocError>
     ensures { OnOk result (out.new.items ≡ out.old.items ++ (codes "add " ++ flag_text (codes "nuw") flags.nuw ++ flag_text (codes "nsw") flags.nsw)) }
 {
     out.extend_from_slice(b"add ")?;
-    put_flags(flags, out)?;
-    Ok(())
+    put_flags(flags, out)
 }
 
 /// The word of a predicate.
@@ -84,8 +83,7 @@ fn put_both(
 {
     put_value(alloc, m, numbers, lhs, out)?;
     out.extend_from_slice(b", ")?;
-    put_operand(alloc, m, numbers, rhs, out)?;
-    Ok(())
+    put_operand(alloc, m, numbers, rhs, out)
 }
 
 /// A comma and a blank between parameters, or between entries.
@@ -114,8 +112,7 @@ fn put_entry(
     put_operand(alloc, m, numbers, entry.value, out)?;
     out.extend_from_slice(b", ")?;
     put_block_ref(alloc, m, numbers, entry.block, out)?;
-    out.extend_from_slice(b" ]")?;
-    Ok(())
+    out.extend_from_slice(b" ]")
 }
 
 /// The entries of a phi in order.
@@ -158,8 +155,7 @@ fn put_cond_br(
     out.extend_from_slice(b", label ")?;
     put_block_ref(alloc, m, numbers, first, out)?;
     out.extend_from_slice(b", label ")?;
-    put_block_ref(alloc, m, numbers, second, out)?;
-    Ok(())
+    put_block_ref(alloc, m, numbers, second, out)
 }
 
 /// A phi of a type.
@@ -179,8 +175,7 @@ fn put_phi(
     out.extend_from_slice(b"phi ")?;
     put_type(alloc, m, ty, out)?;
     out.push(b' ')?;
-    put_entries(alloc, m, numbers, entries, out)?;
-    Ok(())
+    put_entries(alloc, m, numbers, entries, out)
 }
 
 /// An instruction without its result, which has that type.
@@ -200,28 +195,27 @@ fn put_inst(
     match inst {
         LLVMInst::Add(lhs, rhs, flags) => {
             put_add(*flags, out)?;
-            put_both(alloc, m, numbers, *lhs, *rhs, out)?;
+            put_both(alloc, m, numbers, *lhs, *rhs, out)
         }
         LLVMInst::ICmp(lhs, rhs, predicate) => {
             put_predicate(*predicate, out)?;
-            put_both(alloc, m, numbers, *lhs, *rhs, out)?;
+            put_both(alloc, m, numbers, *lhs, *rhs, out)
         }
-        LLVMInst::Phi(_, entries) => put_phi(alloc, m, numbers, ty, entries.as_slice(), out)?,
+        LLVMInst::Phi(_, entries) => put_phi(alloc, m, numbers, ty, entries.as_slice(), out),
         LLVMInst::Br(target) => {
             out.extend_from_slice(b"br label ")?;
-            put_block_ref(alloc, m, numbers, *target, out)?;
+            put_block_ref(alloc, m, numbers, *target, out)
         }
         LLVMInst::CondBr(condition, first, second) => {
-            put_cond_br(alloc, m, numbers, *condition, *first, *second, out)?
+            put_cond_br(alloc, m, numbers, *condition, *first, *second, out)
         }
-        LLVMInst::Ret(None) => out.extend_from_slice(b"ret void")?,
+        LLVMInst::Ret(None) => out.extend_from_slice(b"ret void"),
         LLVMInst::Ret(Some(value)) => {
             out.extend_from_slice(b"ret ")?;
-            put_value(alloc, m, numbers, *value, out)?;
+            put_value(alloc, m, numbers, *value, out)
         }
-        LLVMInst::Unreachable => out.extend_from_slice(b"unreachable")?,
+        LLVMInst::Unreachable => out.extend_from_slice(b"unreachable"),
     }
-    Ok(())
 }
 
 /// The result of an instruction, of that type, where it is not void.

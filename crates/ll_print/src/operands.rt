@@ -36,8 +36,7 @@ pub fn put_local(
     ensures { OnOk result (out.new.items ≡ out.old.items ++ named_text name.now number) }
 {
     out.push(b'%')?;
-    put_bare(alloc, name, number, out)?;
-    Ok(())
+    put_bare(alloc, name, number, out)
 }
 
 /// An operand without its type.

@@ -15,8 +15,7 @@ pub fn put_decimal(alloc: Global, number: u128, out: &mut Vec<u8>) -> Result<(),
     ensures { OnOk result (out.new.items ≡ out.old.items ++ decimal number) }
 {
     let digits = format!(in alloc; "{number}")?;
-    out.extend_from_slice(digits.as_bytes())?;
-    Ok(())
+    out.extend_from_slice(digits.as_bytes())
 }
 
 /// A type.

@@ -1,6 +1,8 @@
 -- Types of functions as they are built.
-use Rattle.std.proofs.Common.{◌≡◌, ◌<◌, ℕ, false, List, [], ◌∷◌, ◌++◌, Option, Some, None, length, slice_get, refl, ap, sym, ◌∙◌, subst, All}
+use Rattle.std.proofs.Common.{◌≡◌, ◌<◌, ◌+◌, ℕ, false, List, [], ◌∷◌, ◌++◌, Option, Some, None, length, slice_get, get_or, take, map, refl, ap, sym, ◌∙◌, subst, All}
 use Rattle.std.specs.Option.{option_map_or}
+use Rattle.std.proofs.Math.Seq.{take-length}
+use Rattle.std.proofs.lemmas.List.{map-append, take_more}
 use Rattle.std.proofs.lemmas.List.Elements.{All-nil, All-cons}
 use Rattle.std.proofs.lemmas.Option.{slice_get_within}
 use Rattle.llvm_core.specs.declared.numbers.LLVMType.{LLVMType}
@@ -15,6 +17,8 @@ use Rattle.llvm_core.specs.Data.{TypeTree, FunctionType, TypeTrees, type_at, typ
 use Rattle.llvm_core.proofs.ListLemmas.{slice_get-kept}
 use Rattle.llvm_core.proofs.DataLemmas.{int_tree_of, void_tree_of, function_tree_of}
 use Rattle.ll_tree.specs.Tree.{Param}
+use Rattle.ll_tree.specs.declared.tree.Param as code_param
+use Rattle.ll_tree.specs.TreeView.{param_view}
 use Rattle.ll_text.specs.Meaning.{int_width}
 use Rattle.ll_text.specs.Building.{OnlyInterns}
 use Rattle.ll_text.specs.Signatures.{returned, returned_kind, int_types, AreWidths, AreInts, HasParams, HasSignature}
@@ -54,6 +58,17 @@ params_push ps p w old new ts us t width interned pushed h =
     let g = grown old new (T.Int w) t.0 interned in
     let kept = subst (λ (types : List LLVMTypeKind). AreInts types ts h.widths) (sym g.1) (ints_kept old g.0 ts h.widths h.ints) in
     record { widths = h.widths ++ w ∷ []; written = widths_push ps h.widths p w h.written width; ints = subst (λ (xs : List LLVMType). AreInts new xs (h.widths ++ w ∷ [])) (sym pushed) (ints_push new ts h.widths t w kept interned.here) }
+
+-- the parameters of a text so far, one more of them, and all
+pub params_next : (qs : List code_param.Param) (i : ℕ) (d : code_param.Param) (types : List LLVMTypeKind) (ts : List LLVMType) → i < length qs → HasParams (map param_view (take i qs) ++ param_view (get_or qs i d) ∷ []) types ts
+    → HasParams (map param_view (take (i + 1) qs)) types ts
+params_next qs i d types ts lt h =
+    let next : map param_view (take (i + 1) qs) ≡ map param_view (take i qs) ++ param_view (get_or qs i d) ∷ [] =
+    ap (map param_view) (take_more qs i d lt) ∙ map-append param_view (take i qs) (get_or qs i d ∷ []) in
+    subst (λ (ps : List Param). HasParams ps types ts) (sym next) h
+
+pub params_all : (qs : List code_param.Param) (i : ℕ) (types : List LLVMTypeKind) (ts : List LLVMType) → i ≡ length qs → HasParams (map param_view (take i qs)) types ts → HasParams (map param_view qs) types ts
+params_all qs i types ts all h = subst (λ (ps : List Param). HasParams ps types ts) (ap (λ (k : ℕ). map param_view (take k qs)) all ∙ ap (map param_view) (take-length qs)) h
 
 ints_within : (types : List LLVMTypeKind) (ts : List LLVMType) (ws : List ℕ) → AreInts types ts ws → All (λ (t : LLVMType). t.0 < length types) ts
 ints_within types [] [] h = All-nil (λ (t : LLVMType). t.0 < length types)

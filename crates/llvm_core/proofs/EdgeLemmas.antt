@@ -1,7 +1,7 @@
 -- Counts in lists of numbers, and the lists of where edges come from.
 use Rattle.std.proofs.Common.{◌≡◌, ◌≢◌, ◌<◌, ◌≤◌, ◌+◌, ℕ, zero, suc, Bool, true, false, nat_eq, nat_lt, if◌then◌else◌, List, [], ◌∷◌, ◌++◌, Option, None, Some, length, slice_get, slice_set, take, get_or, sym, ap, ◌∙◌, refl, subst, arith, inl, inr, eq-eqb, All}
 use Rattle.std.specs.List.{filter, flat_map}
-use Rattle.std.specs.Option.{option_map_or}
+use Rattle.std.specs.Option.{option_map, option_map_or}
 use Rattle.std.proofs.lemmas.Bool.{eqb-true, cases_eq, cases_order}
 use Rattle.std.proofs.lemmas.List.{append-nil, take_more}
 use Rattle.std.proofs.lemmas.List.Concat.{flat_map-append}
@@ -10,6 +10,8 @@ use Rattle.std.proofs.lemmas.Option.{slice_get_within, get_or_from_slice_get}
 use Rattle.llvm_core.specs.declared.code.LLVMInst.{LLVMInst}
 use Rattle.llvm_core.specs.declared.code.LLVMInst.TheVariants as I
 use Rattle.llvm_core.specs.declared.code.BlockData.{BlockData}
+use Rattle.llvm_core.specs.declared.code.InstData.{InstData}
+use Rattle.llvm_core.specs.declared.numbers.LLVMInstRef.{LLVMInstRef}
 use Rattle.llvm_core.specs.Module.{Module}
 use Rattle.llvm_core.specs.Parts.{HasValues}
 use Rattle.llvm_core.specs.Edges.{count_of, targets, targets_at, targets_from, edge_count, tally, Gains}
@@ -213,3 +215,18 @@ targets_within m (I.ICmp lhs rhs predicate) h = All-nil (λ b. b < length m.bloc
 targets_within m (I.Phi type entries) h = All-nil (λ b. b < length m.blocks)
 targets_within m (I.Ret v) h = All-nil (λ b. b < length m.blocks)
 targets_within m I.Unreachable h = All-nil (λ b. b < length m.blocks)
+
+-- the targets of an instruction and of a block whose parts were read
+pub targets_read : (m : Module) (i : LLVMInstRef) (x : LLVMInst) → option_map (λ (y : InstData). y.inst) (slice_get m.insts i.0) ≡ Some x → targets_at m i ≡ targets x
+targets_read m i x e = by (slice_get m.insts i.0) e
+  where
+    by : (o : Option InstData) → option_map (λ (y : InstData). y.inst) o ≡ Some x → option_map_or (λ (y : InstData). targets y.inst) o [] ≡ targets x
+    by None e = cc
+    by (Some y) e = cc
+
+pub all_targets_read : (m : Module) (b : ℕ) (xs : List LLVMInstRef) → option_map (λ (y : BlockData). y.insts) (slice_get m.blocks b) ≡ Some xs → targets_from m b ≡ flat_map (targets_at m) xs
+all_targets_read m b xs e = by (slice_get m.blocks b) e
+  where
+    by : (o : Option BlockData) → option_map (λ (y : BlockData). y.insts) o ≡ Some xs → option_map_or (λ (y : BlockData). flat_map (targets_at m) y.insts) o [] ≡ flat_map (targets_at m) xs
+    by None e = cc
+    by (Some y) e = cc

@@ -37,9 +37,9 @@ fn print_blocks(
     blocks: &FunctionBlocks,
     out: &mut Vec<u8>,
 ) -> Result<(), AllocError>
-    requires { blocks.now.function.0 < length module.now.functions }
-    ensures ok { OnOk result (out.new.items ≡ out.old.items ++ blocks_line (data_of module.now) blocks.now) }
-    ensures err { OnErr result (HoldsFront out.old.items out.new.items (blocks_line (data_of module.now) blocks.now)) }
+    requires { blocks.now.function.0 < length «module».now.functions }
+    ensures ok { OnOk result (out.new.items ≡ out.old.items ++ blocks_line (data_of «module».now) blocks.now) }
+    ensures err { OnErr result (HoldsFront out.old.items out.new.items (blocks_line (data_of «module».now) blocks.now)) }
 {
     out.extend_from_slice(b"blocks @")?;
     out.extend_from_slice(module.function_name(blocks.function).as_bytes())?;
@@ -55,9 +55,9 @@ pub fn print_report(
     blocks: &[FunctionBlocks],
     out: &mut Vec<u8>,
 ) -> Result<(), AllocError>
-    requires { AllNamed (length module.now.functions) blocks.now }
-    ensures ok { OnOk result (out.new.items ≡ out.old.items ++ report_text (data_of module.now) blocks.now) }
-    ensures err { OnErr result (HoldsFront out.old.items out.new.items (report_text (data_of module.now) blocks.now)) }
+    requires { AllNamed (length «module».now.functions) blocks.now }
+    ensures ok { OnOk result (out.new.items ≡ out.old.items ++ report_text (data_of «module».now) blocks.now) }
+    ensures err { OnErr result (HoldsFront out.old.items out.new.items (report_text (data_of «module».now) blocks.now)) }
 {
     for x in blocks {
         print_blocks(module, x, out)?;

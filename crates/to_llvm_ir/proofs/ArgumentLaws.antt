@@ -29,8 +29,8 @@ use Rattle.dialect_core.specs.Data.{DialectBlock, Func}
 use Rattle.meaning.specs.Dialect.{type_of}
 use Rattle.to_llvm_ir.specs.declared.values.Values.{Values}
 use Rattle.to_llvm_ir.specs.Order.{turn_of}
-use Rattle.to_llvm_ir.specs.Exported.{value_name}
-use Rattle.to_llvm_ir.specs.Made.{Numbers, arguments_from, arguments_of, phi_values, result_values, values_by, number_of, phis, block_phis, function_with, no_entries}
+use Rattle.to_llvm_ir.specs.Exported.{value_name, arguments_from, arguments_of, phi_values}
+use Rattle.to_llvm_ir.specs.Made.{Numbers, result_values, values_by, number_of, phis, block_phis, function_with, no_entries}
 use Rattle.to_llvm_ir.specs.Growth.{Grows, IsTypeOf, HasType}
 use Rattle.to_llvm_ir.specs.States.{found, AreKnown, Task, IsAtArgument, IsAtOp, IsBlockAt, blocks_within, seen_to, values_to, turn, first_at, upto}
 use Rattle.to_llvm_ir.specs.Opening.{HasParams}

@@ -20,7 +20,8 @@ use Rattle.to_llvm_ir.specs.declared.values.Values.{Values}
 use Rattle.to_llvm_ir.specs.declared.blocks.Blocks.{Blocks}
 use Rattle.to_llvm_ir.specs.declared.blocks.Target.{Target}
 use Rattle.to_llvm_ir.specs.Order.{IsTaken, arranged}
-use Rattle.to_llvm_ir.specs.Made.{Numbers, result, arguments_of, phi_values, result_values, block_values, values_by, block_made, empty_blocks, block_phis, insts, function_with, no_entries, number_past}
+use Rattle.to_llvm_ir.specs.Exported.{result, arguments_of, phi_values}
+use Rattle.to_llvm_ir.specs.Made.{Numbers, result_values, block_values, values_by, block_made, empty_blocks, block_phis, insts, function_with, no_entries, number_past}
 use Rattle.to_llvm_ir.specs.States.{found, Has, AreKnown, Task, IsTask, IsBlockAt, IsListed, IsBetween, IsAtArgument, IsAtOp, IsLinking, AreAllMapped, found_block, turn, seen_to, values_to, filled, filled_to, blocks_before, blocks_within, first_at, all_values, upto}
 use Rattle.to_llvm_ir.specs.Opening.{HasParams, IsOpening}
 use Rattle.to_llvm_ir.specs.Bodies.{IsBlockBegun, IsBlocksBegun}

@@ -1,4 +1,4 @@
--- The names of the function that is made: by the rules, and no two named things share one.
+-- The names of the function that is made: no two named things share one.
 use Rattle.std.proofs.Common.{◌≡◌, ◌<◌, ◌≤◌, ◌⊎◌, inl, inr, ◌^◌, ◌+◌, ℕ, zero, suc, Bool, true, false, if◌then◌else◌, List, [], ◌∷◌, ◌++◌, Option, Some, None, All, length, map, slice_get, refl, sym, ap, subst, ◌∙◌, arith, ⊎_elim}
 use Rattle.std.specs.List.{flat_map}
 use Rattle.std.proofs.lemmas.Option.{none-some}
@@ -13,13 +13,33 @@ use Rattle.dialect_types.specs.Trees.{TypeTree}
 use Rattle.dialect_core.specs.declared.ops.Value.{Value}
 use Rattle.dialect_core.specs.Data.{DialectOp, DialectBlock, Func}
 use Rattle.dialect_core.specs.Form.{is_constant}
-use Rattle.to_llvm_ir.specs.Exported.{block_name, value_name, result_name, number_after, number_behind, instruction_names, phi_names, argument_names, AreNamed}
-use Rattle.to_llvm_ir.specs.Made.{Numbers, inst, insts, phis, block_phis, block_made, blocks_made, function_made, number_past, entry_args}
+use Rattle.to_llvm_ir.specs.Exported.{block_name, value_name, result_name}
+use Rattle.to_llvm_ir.specs.Made.{Numbers, inst, insts, phis, block_phis, block_made, blocks_made, function_made, number_past, entry_args, number_after, number_behind}
 use Rattle.to_llvm_ir.proofs.ListLaws.{all_at, append_cases, distinct_nil, distinct_cons, distinct_append}
 use Rattle.to_llvm_ir.proofs.NameLaws.{value_ends, block_ends, same_ends}
 use Rattle.to_llvm_ir.proofs.FormLaws.{behind_le, past_le}
 
--- ---- the rules of names
+-- ---- the names, counted
+
+-- the names of the instructions of a block, whose values from here on are numbered from k; a constant has a
+-- number, but becomes no instruction
+abbrev instruction_names : ℕ → List DialectOp → List (List ℕ)
+instruction_names k [] = []
+instruction_names k (o ∷ os) =
+    if is_constant o then instruction_names (number_after o.result k) os
+    else result_name o.name o.result k ∷ instruction_names (number_after o.result k) os
+
+-- the names of the phis that arguments become, whose values are numbered from k
+abbrev phi_names : ℕ → List TypeTree → List (List ℕ)
+phi_names k [] = []
+phi_names k (t ∷ ts) = value_name None k ∷ phi_names (k + 1) ts
+
+-- the entry has no phis
+abbrev argument_names : (place k : ℕ) → List TypeTree → List (List ℕ)
+argument_names zero k types = []
+argument_names (suc n) k types = phi_names k types
+
+-- ---- the names that are made
 
 module _ (g : Func) (n : Numbers) (given : Value → List (Operand × ℕ)) where
   abbrev name_of : Placed → List ℕ
@@ -45,10 +65,6 @@ module _ (g : Func) (n : Numbers) (given : Value → List (Operand × ℕ)) wher
   block_named : (p k : ℕ) (c : DialectBlock) → map name_of (block_made g n given p k c).instructions ≡ argument_names p k c.args ++ instruction_names (k + length c.args) c.ops
   block_named p k c =
       map-append name_of (block_phis g n given p k c) (insts g n (k + length c.args) c.ops) ∙ (let e = block_phis_named p k c in let f = insts_named (k + length c.args) c.ops in cc)
-
-  pub blocks_named : (p k : ℕ) (cs : List DialectBlock) → AreNamed p k cs (blocks_made g n given p k cs)
-  blocks_named p k [] = tt
-  blocks_named p k (c ∷ cs) = (record { label = refl; names = block_named p k c }, blocks_named (suc p) (number_behind (k + length c.args) c.ops) cs)
 
 -- ---- names by their numbers
 

@@ -16,8 +16,7 @@ use Rattle.dialect_core.specs.declared.ops.Value.TheVariants.{Result, Argument}
 use Rattle.dialect_core.specs.declared.ops.Successor.{Successor}
 use Rattle.dialect_core.specs.Data.{DialectOp, DialectBlock, Func, Kind, ConstantOp, AddOp, ICmpOp, BrOp, CondBrOp, ReturnOp, UnreachableOp}
 use Rattle.dialect_core.specs.Form.{IsFormFunc, IsFormKind, IsFormEdge, FitsTarget, edges_of, is_constant, is_constant_kind}
-use Rattle.to_llvm_ir.specs.Exported.{number_after, number_behind}
-use Rattle.to_llvm_ir.specs.Made.{Numbers, block_for, operand_for, target_at, instruction_for, inst, insts, phis, block_phis, block_made, blocks_made, passed_to, passed, entry_with, block_passes, entries_from, number_past}
+use Rattle.to_llvm_ir.specs.Made.{Numbers, block_for, operand_for, target_at, instruction_for, inst, insts, phis, block_phis, block_made, blocks_made, passed_to, passed, entry_with, block_passes, entries_from, number_past, number_after, number_behind}
 use Rattle.to_llvm_ir.specs.Links.{HasTarget}
 use Rattle.to_llvm_ir.proofs.ListLaws.{AreNumbered, all_at, all_from, append_cases, at_behind}
 use Rattle.to_llvm_ir.proofs.LookupLaws.{op_form}

@@ -27,8 +27,8 @@ use Rattle.dialect_core.specs.Form.{IsFormFunc, is_constant}
 use Rattle.meaning.specs.Dialect.{type_of, same_value}
 use Rattle.meaning.proofs.SameValues.{same_value-Decides}
 use Rattle.to_llvm_ir.specs.declared.values.Values.{Values}
-use Rattle.to_llvm_ir.specs.Exported.{value_name, number_after, number_behind}
-use Rattle.to_llvm_ir.specs.Made.{Numbers, result, arguments_of, values_by, number_of, operand_for, inst, insts, phis, block_phis, block_made, blocks_made, function_with, no_entries}
+use Rattle.to_llvm_ir.specs.Exported.{value_name, result, arguments_of}
+use Rattle.to_llvm_ir.specs.Made.{Numbers, values_by, number_of, operand_for, inst, insts, phis, block_phis, block_made, blocks_made, function_with, no_entries, number_after, number_behind}
 use Rattle.to_llvm_ir.specs.States.{Task, IsLinking, IsKnown, IsArgument, Has, all_values, found}
 use Rattle.to_llvm_ir.specs.Links.{Given, IsTypedValue, IsEntryNext}
 use Rattle.to_llvm_ir.proofs.GrowthLaws.{grows_entry}

@@ -17,8 +17,7 @@ use Rattle.dialect_core.specs.declared.ops.Value.TheVariants.{Result, Argument}
 use Rattle.dialect_core.specs.declared.ops.Successor.{Successor}
 use Rattle.dialect_core.specs.Data.{DialectOp, DialectBlock, Func, Kind, ConstantOp, AddOp, ICmpOp, BrOp, CondBrOp, ReturnOp, UnreachableOp}
 use Rattle.dialect_core.specs.Form.{IsFormFunc, IsFormKind, is_constant, is_terminator, is_terminator_kind, edges_of}
-use Rattle.to_llvm_ir.specs.Exported.{number_after, number_behind}
-use Rattle.to_llvm_ir.specs.Made.{Numbers, operand_for, instruction_for, inst, insts, phis, block_phis, block_made, blocks_made, function_made, passed_to, passed, entry_with, block_passes, entries_from, entries, number_past}
+use Rattle.to_llvm_ir.specs.Made.{Numbers, operand_for, instruction_for, inst, insts, phis, block_phis, block_made, blocks_made, function_made, passed_to, passed, entry_with, block_passes, entries_from, entries, number_past, number_after, number_behind}
 use Rattle.to_llvm_ir.specs.Accepted.{IsAccepted}
 use Rattle.to_llvm_ir.proofs.ListLaws.{all_from}
 use Rattle.to_llvm_ir.proofs.LookupLaws.{block_form, op_form, entry_at}

@@ -4,8 +4,8 @@ use Rattle.std.proofs.lemmas.Bool.{cond-true, cond-false, cases_eq}
 use Rattle.llvm_core.specs.Data.{Operand, Placed, Block, with_instruction_in}
 use Rattle.dialect_core.specs.declared.ops.Value.{Value}
 use Rattle.dialect_core.specs.Data.{DialectBlock, Func}
-use Rattle.to_llvm_ir.specs.Exported.{block_name, number_behind}
-use Rattle.to_llvm_ir.specs.Made.{Numbers, block_made, blocks_made, blocks_with, empty_block, empty_blocks, number_past}
+use Rattle.to_llvm_ir.specs.Exported.{block_name}
+use Rattle.to_llvm_ir.specs.Made.{Numbers, block_made, blocks_made, blocks_with, empty_block, empty_blocks, number_past, number_behind}
 
 -- the instructions of the block at a place
 abbrev pub Contents : Type 0

@@ -18,15 +18,16 @@ use Rattle.dialect_core.specs.ContextData.{ContextData}
 use Rattle.dialect_core.specs.Data as D
 use Rattle.dialect_core.specs.Data.{DialectOp, DialectBlock, Func, held, block_of, block_in, func_in}
 use Rattle.dialect_core.specs.Form.{IsFormFunc}
+use Rattle.dialect_core.specs.WellFormed.{IsOpenForm}
 use Rattle.meaning.specs.Pairs.{Matched}
 use Rattle.meaning.specs.Examples.{same_places}
-use Rattle.meaning.proofs.ShapeLaws.{any_module}
+use Rattle.meaning.proofs.WovenLaws.{any_module_woven}
 use Rattle.to_llvm_ir.specs.declared.values.Values.{Values}
 use Rattle.to_llvm_ir.specs.Order.{IsTaken}
-use Rattle.to_llvm_ir.specs.Exported.{ExportedFunction, IsExported, block_name, number_after, number_behind}
+use Rattle.to_llvm_ir.specs.Exported.{ExportedFunction, IsExported, block_name}
 use Rattle.to_llvm_ir.specs.Accepted.{IsAccepted, AreAcceptedEdges}
 use Rattle.to_llvm_ir.specs.Bodies.{IsBodyAccepted}
-use Rattle.to_llvm_ir.specs.Made.{function_made, entries, number_past}
+use Rattle.to_llvm_ir.specs.Made.{function_made, entries, number_past, number_after, number_behind}
 use Rattle.to_llvm_ir.specs.Opening.{AreBlocks}
 use Rattle.to_llvm_ir.specs.States.{Task, IsTask, IsLinking}
 use Rattle.to_llvm_ir.specs.Ordering.{AreBlocksOf}
@@ -79,9 +80,10 @@ are_blocks c op t bs task is has small = record {
       );
 }
 
-pub blocks_of_func : (c : ContextData) (op : OpRef) (g : Func) (bs : List BlockRef) → IsFormFunc g → func_in (type_trees c.types) c op ≡ Some g → option_map (λ (x : OpData). x.blocks) (slice_get c.ops op.0) ≡ Some bs → All (λ (b : BlockRef). b.0 < length c.blocks) bs → AreBlocksOf c g bs
-blocks_of_func c op g bs form is has small = record {
-  form = form;
+pub blocks_apart : (c : ContextData) (op : OpRef) (g : Func) (bs : List BlockRef) → 0 < length g.blocks → ((i j : ℕ) (a b : DialectBlock) → slice_get g.blocks i ≡ Some a → slice_get g.blocks j ≡ Some b → a.number ≡ b.number → i ≡ j) → func_in (type_trees c.types) c op ≡ Some g → option_map (λ (x : OpData). x.blocks) (slice_get c.ops op.0) ≡ Some bs → All (λ (b : BlockRef). b.0 < length c.blocks) bs → AreBlocksOf c g bs
+blocks_apart c op g bs some apart is has small = record {
+  some = some;
+  apart = apart;
   count = count_is c op g bs is has small;
   each = λ i b at.
       let d = each_block c bs small i b at in (
@@ -92,6 +94,9 @@ blocks_of_func c op g bs form is has small = record {
         },
       );
 }
+
+pub blocks_of_func : (c : ContextData) (op : OpRef) (g : Func) (bs : List BlockRef) → IsFormFunc g → func_in (type_trees c.types) c op ≡ Some g → option_map (λ (x : OpData). x.blocks) (slice_get c.ops op.0) ≡ Some bs → All (λ (b : BlockRef). b.0 < length c.blocks) bs → AreBlocksOf c g bs
+blocks_of_func c op g bs form = blocks_apart c op g bs (let e = ap (λ (ds : List DialectBlock). length ds) form.body in omega (arith, e)) form.block_numbers
 
 -- ---- one function
 
@@ -160,12 +165,15 @@ exported_in d d' g f h = record {
   name = h.name;
   type = h.type;
   space = h.space;
-  shape = any_module same_places d d' f g h.shape;
+  shape = any_module_woven same_places d d' f g h.shape;
+  sets = h.sets;
   params = h.params;
   names = h.names;
   order = h.order;
   is_order = h.is_order;
+  taken = h.taken;
   phis = h.phis;
+  arguments = h.arguments;
   locals = h.locals;
   few = h.few;
   form = h.form;
@@ -212,8 +220,8 @@ held_at c ops i d g lt is =
     (length front, ap (λ (xs : List Func). slice_get xs (length front)) r.1 ∙ at_middle front g r.0)
 
 -- it is of the form
-pub form_held : (c : ContextData) (ops : List OpRef) (i : ℕ) (d : OpRef) (g : Func) → All IsFormFunc (functions_in c ops) → i < length ops → func_in (type_trees c.types) c (get_or ops i d) ≡ Some g → IsFormFunc g
-form_held c ops i d g all lt is = let r = held_at c ops i d g lt is in all_at IsFormFunc (functions_in c ops) r.0 g all r.1
+pub form_held : (c : ContextData) (ops : List OpRef) (i : ℕ) (d : OpRef) (g : Func) → All (IsOpenForm c) (functions_in c ops) → i < length ops → func_in (type_trees c.types) c (get_or ops i d) ≡ Some g → IsOpenForm c g
+form_held c ops i d g all lt is = let r = held_at c ops i d g lt is in all_at (IsOpenForm c) (functions_in c ops) r.0 g all r.1
 
 -- the functions of one operation more
 pub adds_more : (c : ContextData) (ops : List OpRef) (i : ℕ) (d : OpRef) (old middle new : ModuleData) → i < length ops → AddsFunctions (functions_in c (take i ops)) old middle → AddsFunctions (functions_in c (get_or ops i d ∷ [])) middle new → AddsFunctions (functions_in c (take (i + 1) ops)) old new
@@ -228,8 +236,8 @@ adds_all c ops i old new whole h = subst (λ (os : List OpRef). AddsFunctions (f
 
 -- ---- the module
 
-pub forms_held : (c : ContextData) (m : ℕ) (ops : List OpRef) → All IsFormFunc (D.data_of c m).functions → ops ≡ held c m → All IsFormFunc (functions_in c ops)
-forms_held c m ops all are = subst (λ (os : List OpRef). All IsFormFunc (functions_in c os)) (sym are) all
+pub forms_held : (c : ContextData) (m : ℕ) (ops : List OpRef) → All (IsOpenForm c) (D.data_of c m).functions → ops ≡ held c m → All (IsOpenForm c) (functions_in c ops)
+forms_held c m ops all are = subst (λ (os : List OpRef). All (IsOpenForm c) (functions_in c os)) (sym are) all
 
 pub all_exported : (c : ContextData) (m : ℕ) (ops : List OpRef) (given : List ℕ) (empty : ModuleData) (back : Module) → ops ≡ held c m → empty ≡ record { name = given; functions = [] } → given ≡ (D.data_of c m).name → AddsFunctions (functions_in c ops) empty (L.data_of back) → IsExported (D.data_of c m) back
 all_exported c m ops given empty back are is same adds =

@@ -25,8 +25,8 @@ use Rattle.dialect_core.specs.Data.{DialectOp, DialectBlock, Func, Kind, Constan
 use Rattle.dialect_core.specs.Form.{IsFormFunc, IsFormKind, IsShortInt, IsShortResult, HasTargets, result_of, types_list, is_constant, is_constant_kind, is_terminator, is_terminator_kind}
 use Rattle.meaning.specs.Dialect.{type_of, types_of, option_type}
 use Rattle.to_llvm_ir.specs.Order.{turn_of}
-use Rattle.to_llvm_ir.specs.Exported.{blocks_by, block_name, value_name, result_name, number_after, number_behind}
-use Rattle.to_llvm_ir.specs.Made.{Numbers, operand_for, target_at, instruction_for, inst, insts, phis, block_phis, block_made, function_made, entries, number_past, entry_args}
+use Rattle.to_llvm_ir.specs.Exported.{blocks_by, block_name, value_name, result_name}
+use Rattle.to_llvm_ir.specs.Made.{Numbers, operand_for, target_at, instruction_for, inst, insts, phis, block_phis, block_made, function_made, entries, number_past, entry_args, number_after, number_behind}
 use Rattle.to_llvm_ir.specs.Accepted.{IsAccepted}
 use Rattle.to_llvm_ir.specs.Links.{HasTarget}
 use Rattle.to_llvm_ir.proofs.ListLaws.{AreNumbered, all_at, all_from, item_there}

@@ -1,5 +1,5 @@
 -- What narrow blocks and functions of a context tell of their data, and what a module's do.
-use Rattle.std.proofs.Common.{◌≡◌, ◌<◌, ℕ, zero, suc, Bool, false, List, [], ◌∷◌, Option, Some, None, All, length, map, slice_get, ap, sym, subst, ◌∙◌, refl, arith}
+use Rattle.std.proofs.Common.{◌≡◌, ◌<◌, ℕ, suc, Bool, List, [], ◌∷◌, Option, Some, None, All, length, map, slice_get, ap, sym, subst, ◌∙◌, refl, arith}
 use Rattle.std.specs.Prelude.{IsTrue, IfSome, ◌↔◌, unwrap_or}
 use Rattle.std.specs.List.{filter_map, flat_map, cons_option}
 use Rattle.std.specs.Option.{option_map_or, option_and_then}
@@ -14,17 +14,17 @@ use Rattle.dialect_core.specs.declared.ops.OpData.{OpData}
 use Rattle.dialect_core.specs.declared.ops.BlockData.{BlockData}
 use Rattle.dialect_core.specs.Lists.{list_at}
 use Rattle.dialect_core.specs.ContextData.{ContextData, IsSymbol, kind_at, region_at}
-use Rattle.dialect_core.specs.Data.{DialectOp, DialectBlock, Func, block_in, func_in, held}
-use Rattle.dialect_core.specs.Form.{HasConstantsFirst, IsShortInt, is_constant}
-use Rattle.dialect_core.specs.WellFormed.{IsPlainAt, IsNarrowBlock, HasConstantsInEntry, IsNarrowFunc, IsNarrow}
+use Rattle.dialect_core.specs.Data.{DialectBlock, Func, block_in, func_in, held}
+use Rattle.dialect_core.specs.Form.{IsShortInt}
+use Rattle.dialect_core.specs.WellFormed.{IsPlainAt, IsNarrowBlock, IsNarrowFunc, IsNarrow}
 use Rattle.dialect_core.specs.Checking.{block_at, func_at, tree_at}
 use Rattle.dialect_core.proofs.HoldLemmas.{stands_flat}
 use Rattle.dialect_core.proofs.LineLemmas.{all_at, at_all}
 use Rattle.dialect_core.proofs.TypeTestLemmas.{all_map, map_all}
 use Rattle.dialect_core.proofs.FuncLemmas.{blocks_are}
 use Rattle.dialect_core.proofs.FuncTestLemmas.{block_data, func_name, func_data}
-use Rattle.to_llvm_ir.specs.Narrow.{IsNarrowBlockAt, HasNoConstant, AreNarrowBlocks, IsNarrowHead, AreNarrowFuncs}
-use Rattle.to_llvm_ir.proofs.OpDataLaws.{ArePlain, lines_narrow, narrow_lines, next_begins, first_others, others_first, others_begin}
+use Rattle.to_llvm_ir.specs.Narrow.{IsNarrowBlockAt, AreNarrowBlocks, IsNarrowHead, AreNarrowFuncs}
+use Rattle.to_llvm_ir.proofs.OpDataLaws.{ArePlain, ops_narrow, narrow_ops}
 
 -- where each item makes something
 filter_some : {X Y : Type 0} (f : X → Option Y) (g : X → Y) (xs : List X) → ((k : ℕ) (x : X) → slice_get xs k ≡ Some x → f x ≡ Some (g x)) → filter_map f xs ≡ map g xs
@@ -34,67 +34,37 @@ filter_some f g (x ∷ xs) h = ap (λ (o : Option _). cons_option o (filter_map 
 -- ---- blocks
 
 module _ (c : ContextData) where
-  narrow_block : (b : BlockRef) → ArePlain c (list_at c.lists b) → IsNarrowBlockAt c b → IsNarrowBlock (block_at c b) × HasConstantsFirst (block_at c b).ops
+  narrow_block : (b : BlockRef) → ArePlain c (list_at c.lists b) → IsNarrowBlockAt c b → IsNarrowBlock (block_at c b)
   unfolding block_at
-  narrow_block b plain h =
-      let l = lines_narrow c (list_at c.lists b) plain h.lines in
-      (record { args = all_map IsShortInt (tree_at c) (option_map_or (λ (x : BlockData). x.args) (slice_get c.blocks b.0) []) h.args; ops = l.0; label = h.label }, l.1)
-
-  block_narrow : (b : BlockRef) → ArePlain c (list_at c.lists b) → IsNarrowBlock (block_at c b) → HasConstantsFirst (block_at c b).ops → IsNarrowBlockAt c b
-  unfolding block_at
-  block_narrow b plain h first = record {
+  narrow_block b plain h = record {
+    args = all_map IsShortInt (tree_at c) (option_map_or (λ (x : BlockData). x.args) (slice_get c.blocks b.0) []) h.args;
+    ops = ops_narrow c (list_at c.lists b) plain h.ops;
     label = h.label;
-    args = map_all IsShortInt (tree_at c) (option_map_or (λ (x : BlockData). x.args) (slice_get c.blocks b.0) []) h.args;
-    lines = narrow_lines c (list_at c.lists b) plain h.ops first;
   }
 
-  abbrev AreOthers : List DialectOp → Type 0
-  AreOthers os = All (λ (o : DialectOp). is_constant o ≡ false) os
-
-  no_constant : (b : BlockRef) → ArePlain c (list_at c.lists b) → HasConstantsFirst (block_at c b).ops → HasNoConstant c b → AreOthers (block_at c b).ops
+  block_narrow : (b : BlockRef) → ArePlain c (list_at c.lists b) → IsNarrowBlock (block_at c b) → IsNarrowBlockAt c b
   unfolding block_at
-  no_constant b plain first h = first_others _ first (sym (next_begins c (list_at c.lists b) plain) ∙ h)
-
-  constant_none : (b : BlockRef) → ArePlain c (list_at c.lists b) → AreOthers (block_at c b).ops → HasNoConstant c b
-  unfolding block_at
-  constant_none b plain h = next_begins c (list_at c.lists b) plain ∙ others_begin _ h
+  block_narrow b plain h = record {
+    label = h.label;
+    args = map_all IsShortInt (tree_at c) (option_map_or (λ (x : BlockData). x.args) (slice_get c.blocks b.0) []) h.args;
+    ops = narrow_ops c (list_at c.lists b) plain h.ops;
+  }
 
   abbrev AllPlain : List BlockRef → Type 0
   AllPlain bs = (k : ℕ) (b : BlockRef) → slice_get bs k ≡ Some b → ArePlain c (list_at c.lists b)
 
-  narrow_blocks : (bs : List BlockRef) → AllPlain bs → AreNarrowBlocks c bs → All IsNarrowBlock (map (block_at c) bs) × HasConstantsInEntry (map (block_at c) bs)
+  narrow_blocks : (bs : List BlockRef) → AllPlain bs → AreNarrowBlocks c bs → All IsNarrowBlock (map (block_at c) bs) × ¬ (map (block_at c) bs ≡ [])
   narrow_blocks [] plain h = absurd h
-  narrow_blocks (entry ∷ more) plain h =
-      let each = λ (k : ℕ) (b : BlockRef) (at : slice_get (entry ∷ more) k ≡ Some b). narrow_block b (plain k b at) (all_at (IsNarrowBlockAt c) (entry ∷ more) h.0 k b at) in (
-        all_map IsNarrowBlock (block_at c) (entry ∷ more) (at_all (λ (b : BlockRef). IsNarrowBlock (block_at c b)) (entry ∷ more) (λ k b at. (each k b at).0)),
-        record {
-          entry = block_at c entry;
-          more = map (block_at c) more;
-          are = refl;
-          first = (each 0 entry refl).1;
-          others = all_map (λ (b : DialectBlock). AreOthers b.ops) (block_at c) more
-              (at_all (λ (b : BlockRef). AreOthers (block_at c b).ops) more (λ k b at. no_constant b (plain (suc k) b at) (each (suc k) b at).1 (all_at (HasNoConstant c) more h.1 k b at)));
-        },
-      )
+  narrow_blocks (entry ∷ more) plain h = (
+    all_map IsNarrowBlock (block_at c) (entry ∷ more) (at_all (λ (b : BlockRef). IsNarrowBlock (block_at c b)) (entry ∷ more) (λ k b at. narrow_block b (plain k b at) (all_at (IsNarrowBlockAt c) (entry ∷ more) h k b at))),
+    λ none. let few = ap length none in omega (arith, few),
+  )
 
-  blocks_narrow : (bs : List BlockRef) → AllPlain bs → All IsNarrowBlock (map (block_at c) bs) → HasConstantsInEntry (map (block_at c) bs) → AreNarrowBlocks c bs
-  blocks_narrow [] plain all h = absurd (let few = ap length h.are in omega arith)
-  blocks_narrow (entry ∷ more) plain all h =
-      let same : block_at c entry ≡ h.entry = let e = h.are in cc in
-      let rest : map (block_at c) more ≡ h.more = let e = h.are in cc in
-      let P : List DialectBlock → Type 0 = All (λ (b : DialectBlock). AreOthers b.ops) in
-      let others = map_all (λ (b : DialectBlock). AreOthers b.ops) (block_at c) more (subst P (sym rest) h.others) in
+  blocks_narrow : (bs : List BlockRef) → AllPlain bs → All IsNarrowBlock (map (block_at c) bs) → ¬ (map (block_at c) bs ≡ []) → AreNarrowBlocks c bs
+  blocks_narrow [] plain all some = some refl
+  blocks_narrow (entry ∷ more) plain all some =
       let narrow = map_all IsNarrowBlock (block_at c) (entry ∷ more) all in
-      let later = λ (k : ℕ) (b : BlockRef) (at : slice_get more k ≡ Some b). all_at (λ (b : BlockRef). AreOthers (block_at c b).ops) more others k b at in (
-        at_all (IsNarrowBlockAt c) (entry ∷ more) (λ k b at. block_narrow b (plain k b at) (all_at (λ (b : BlockRef). IsNarrowBlock (block_at c b)) (entry ∷ more) narrow k b at) (first k b at same later)),
-        at_all (HasNoConstant c) more (λ k b at. constant_none b (plain (suc k) b at) (later k b at)),
-      )
-    where
-      first : (k : ℕ) (b : BlockRef) → slice_get (entry ∷ more) k ≡ Some b → block_at c entry ≡ h.entry → ((k : ℕ) (b : BlockRef) → slice_get more k ≡ Some b → AreOthers (block_at c b).ops) → HasConstantsFirst (block_at c b).ops
-      first zero b at same later =
-          let e : block_at c b ≡ h.entry = ap (block_at c) (let i = at in cc) ∙ same in
-          subst (λ (d : DialectBlock). HasConstantsFirst d.ops) (sym e) h.first
-      first (suc k) b at same later = others_first (block_at c b).ops (later k b at)
+      at_all (IsNarrowBlockAt c) (entry ∷ more) (λ k b at. block_narrow b (plain k b at) (all_at (λ (b : BlockRef). IsNarrowBlock (block_at c b)) (entry ∷ more) narrow k b at))
 
 -- ---- functions
 
@@ -122,16 +92,16 @@ module _ (c : ContextData) (f : OpRef) (there : (k : ℕ) (b : BlockRef) → sli
   pub func_is : (region : List BlockRef) (t : Bool) → region ≡ region_at c.ops f.0 → IsNarrowHead c f → (IsTrue t ↔ AreNarrowBlocks c region) → IsTrue t ↔ IsNarrowFunc (func_at c f)
   func_is region t is head h =
       let P : List BlockRef → Type 0 = λ bs. IsTrue t ↔ AreNarrowBlocks c bs in
-      let Q : List DialectBlock → Type 0 = λ ds. All IsNarrowBlock ds × HasConstantsInEntry ds in
+      let Q : List DialectBlock → Type 0 = λ ds. All IsNarrowBlock ds × ¬ (ds ≡ []) in
       let blocks = subst P is h in (
         λ w. let d : Q (func_at c f).blocks = subst Q (sym func_blocks) (narrow_blocks c (region_at c.ops f.0) region_plain (blocks.0 w)) in record {
           name = subst IsPlainName (sym (func_name c f)) ((named (slice_get c.ops f.0)).0 head.name);
           linkage = head.linkage;
           signature = head.signature;
           blocks = d.0;
-          constants = d.1;
+          body = d.1;
         },
-        λ w. let d : Q (map (block_at c) (region_at c.ops f.0)) = subst Q func_blocks (w.blocks, w.constants) in blocks.1 (blocks_narrow c (region_at c.ops f.0) region_plain d.0 d.1),
+        λ w. let d : Q (map (block_at c) (region_at c.ops f.0)) = subst Q func_blocks (w.blocks, w.body) in blocks.1 (blocks_narrow c (region_at c.ops f.0) region_plain d.0 d.1),
       )
 
 -- ---- modules

@@ -9,8 +9,8 @@ use Rattle.dialect_core.specs.declared.ops.Value.TheVariants.{Argument}
 use Rattle.dialect_core.specs.Data.{DialectBlock, Func}
 use Rattle.meaning.specs.Dialect.{type_of}
 use Rattle.to_llvm_ir.specs.declared.values.Values.{Values}
-use Rattle.to_llvm_ir.specs.Exported.{value_name, number_behind}
-use Rattle.to_llvm_ir.specs.Made.{Numbers, number_of, phis, block_phis, block_made, blocks_made, insts, function_with}
+use Rattle.to_llvm_ir.specs.Exported.{value_name}
+use Rattle.to_llvm_ir.specs.Made.{Numbers, number_of, phis, block_phis, block_made, blocks_made, insts, function_with, number_behind}
 use Rattle.to_llvm_ir.specs.Links.{Given}
 use Rattle.to_llvm_ir.specs.States.{Task, IsLinking}
 use Rattle.std.specs.Prelude.{None}

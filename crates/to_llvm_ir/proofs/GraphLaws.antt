@@ -20,7 +20,7 @@ use Rattle.dialect_core.specs.declared.ops.Successor.{Successor}
 use Rattle.dialect_core.specs.Lists.{list_at}
 use Rattle.dialect_core.specs.ContextData.{ContextData}
 use Rattle.dialect_core.specs.Data.{DialectOp, DialectBlock, Func, block_in}
-use Rattle.dialect_core.specs.Form.{IsFormFunc, IsInOrder, StandsBefore, edges_of}
+use Rattle.dialect_core.specs.Form.{IsInOrder, StandsBefore, edges_of}
 use Rattle.to_llvm_ir.specs.declared.graph.Places.{Places}
 use Rattle.to_llvm_ir.specs.Order.{IsExportOrder, IsTaken, StandsBeforeIn, turn_of, block_place, targets_of, graph_of}
 use Rattle.to_llvm_ir.specs.Ordering.{IsBlockOf, AreBlocksOf, ArePlacesOf, noted_place, ops_of}
@@ -91,7 +91,7 @@ places_more c g bs i place d old new h lt is set before q =
         let same : b.0 ≡ q.0 = eqb-true b.0 q.0 e in
         let none = position_none test 0 (take i g.blocks) (λ j x at.
         let r = take_within i g.blocks j x at in
-        ne_eqb x.number q.0 (λ f. let k = h.form.block_numbers j i x block.0 r.1 block.1.here (f ∙ sym (number ∙ same)) in let less = r.0 in omega (arith, k, less))) in
+        ne_eqb x.number q.0 (λ f. let k = h.apart j i x block.0 r.1 block.1.here (f ∙ sym (number ∙ same)) in let less = r.0 in omega (arith, k, less))) in
         sym (ap (λ (o : Option ℕ). option_or o (if test block.0 then Some (0 + length (take i g.blocks)) else None)) none
         ∙ cond-true (test block.0) (Some (0 + length (take i g.blocks))) None (eq-eqb block.0.number q.0 (number ∙ same)) ∙ ap Some count)
     by false e =
@@ -197,25 +197,22 @@ counted_order n = record {
   each = λ x lt. (x, (let e = length-range_with_len 0 n in omega (arith, e, lt)), get_or_from_slice_get (range_with_len 0 n) x x x (counted_at n x lt));
 }
 
-some_block : (g : Func) → IsFormFunc g → 0 < length g.blocks
-some_block g form = let e = ap (λ (bs : List DialectBlock). length bs) form.body in omega (arith, e)
-
 -- in the dialect's order
-pub counted_taken : (g : Func) (order : List ℕ) → IsFormFunc g → IsInOrder g → order ≡ range_with_len 0 (length g.blocks) → IsTaken g order
-counted_taken g order form ord is = record {
+pub counted_taken : (g : Func) (order : List ℕ) → 0 < length g.blocks → IsInOrder g → order ≡ range_with_len 0 (length g.blocks) → IsTaken g order
+counted_taken g order some ord is = record {
   is = inl (ord, is);
   once = subst (IsOrder (length g.blocks)) (sym is) (counted_order (length g.blocks));
-  entry_first = ap (λ (ps : List ℕ). slice_get ps 0) is ∙ counted_at (length g.blocks) 0 (some_block g form);
+  entry_first = ap (λ (ps : List ℕ). slice_get ps 0) is ∙ counted_at (length g.blocks) 0 some;
 }
 
 -- and depth first
-pub searched_taken : (g : Func) (graph : List (List ℕ)) (order : List ℕ) → IsFormFunc g → (IsInOrder g → ⊥) → graph ≡ graph_of g → IsDepthFirst graph order → IsOrder (length graph) order → (0 < length graph → slice_get order 0 ≡ Some 0) → IsTaken g order
-searched_taken g graph order form late is depth once first =
+pub searched_taken : (g : Func) (graph : List (List ℕ)) (order : List ℕ) → 0 < length g.blocks → (IsInOrder g → ⊥) → graph ≡ graph_of g → IsDepthFirst graph order → IsOrder (length graph) order → (0 < length graph → slice_get order 0 ≡ Some 0) → IsTaken g order
+searched_taken g graph order some late is depth once first =
     let count : length graph ≡ length g.blocks = ap (λ (xs : List (List ℕ)). length xs) is ∙ length-graph g in
     record {
       is = inr (late, subst (λ (xs : List (List ℕ)). IsDepthFirst xs order) is depth);
       once = subst (λ (k : ℕ). IsOrder k order) count once;
-      entry_first = first (let lt = some_block g form in omega (arith, lt, count));
+      entry_first = first (omega (arith, some, count));
     }
 
 counted_last : (a n : ℕ) → range_with_len a (suc n) ≡ range_with_len a n ++ (a + n) ∷ []
@@ -254,10 +251,10 @@ stands_in_order g order j k v ord is lt stands = ⊎_elim
 -- the counted order, where each value stands before its uses in it
 pub counted_answer : {E O : Type 0} (items : O → List ℕ) (c : ContextData) (bs : List BlockRef) (count : ℕ) (r : Result O E) → ((g : Func) → AreBlocksOf c g bs → IsInOrder g) → count ≡ length bs → IfOk r (λ o. items o ≡ range_with_len 0 count)
     → IfOk r (λ o. (g : Func) → AreBlocksOf c g bs → IsTaken g (items o))
-counted_answer items c bs count (Ok o) ord len is = λ g h. counted_taken g (items o) h.form (ord g h) (is ∙ ap (range_with_len 0) (len ∙ h.count))
+counted_answer items c bs count (Ok o) ord len is = λ g h. counted_taken g (items o) h.some (ord g h) (is ∙ ap (range_with_len 0) (len ∙ h.count))
 counted_answer items c bs count (Err e) ord len is = tt
 
 pub searched_answer : {E O : Type 0} (items : O → List ℕ) (c : ContextData) (bs : List BlockRef) (succs : List (List ℕ)) (r : Result O E) → ((g : Func) → AreBlocksOf c g bs → IsInOrder g → ⊥) → ((g : Func) → AreBlocksOf c g bs → succs ≡ graph_of g)
     → IfOk r (λ o. IsDepthFirst succs (items o)) → IfOk r (λ o. IsOrder (length succs) (items o)) → IfOk r (λ o. 0 < length succs → slice_get (items o) 0 ≡ Some 0) → IfOk r (λ o. (g : Func) → AreBlocksOf c g bs → IsTaken g (items o))
-searched_answer items c bs succs (Ok o) late is depth once first = λ g h. searched_taken g succs (items o) h.form (late g h) (is g h) depth once first
+searched_answer items c bs succs (Ok o) late is depth once first = λ g h. searched_taken g succs (items o) h.some (late g h) (is g h) depth once first
 searched_answer items c bs succs (Err e) late is depth once first = tt

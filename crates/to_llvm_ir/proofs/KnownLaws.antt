@@ -23,7 +23,8 @@ use Rattle.dialect_core.specs.Form.{StandsBefore, ops_before}
 use Rattle.meaning.specs.Dialect.{type_of, same_value}
 use Rattle.meaning.proofs.SameValues.{same_value-Decides}
 use Rattle.to_llvm_ir.specs.declared.values.Values.{Values}
-use Rattle.to_llvm_ir.specs.Made.{Numbers, result, arguments_of, operand_for}
+use Rattle.to_llvm_ir.specs.Exported.{result, arguments_of}
+use Rattle.to_llvm_ir.specs.Made.{Numbers, operand_for}
 use Rattle.to_llvm_ir.specs.Growth.{Grows, HasType}
 use Rattle.to_llvm_ir.specs.States.{found, Has, IsArgument, IsKnown, AreKnown, all_values, seen_before}
 use Rattle.to_llvm_ir.proofs.ListLaws.{append_cases, at_behind, item_there}

@@ -2,6 +2,7 @@
 pub mod ArgumentLaws
 pub mod BodyLaws
 pub mod BuildLaws
+pub mod CheckedLaws
 pub mod ContextLaws
 pub mod CountLaws
 pub mod DistinctLaws
@@ -20,6 +21,7 @@ pub mod ListLaws
 pub mod LookupLaws
 pub mod MadeLaws
 pub mod NameLaws
+pub mod NamedLaws
 pub mod NumberingLaws
 pub mod OpLaws
 pub mod OpeningLaws
@@ -28,10 +30,12 @@ pub mod OrderingLaws
 pub mod GraphLaws
 pub mod PassLaws
 pub mod PhiLaws
+pub mod PhiValueLaws
 pub mod PlaceLaws
 pub mod PlacedLaws
 pub mod PlanLaws
 pub mod ShapeLaws
+pub mod SetLaws
 pub mod StepLaws
 pub mod SuccessorLaws
 pub mod TurnLaws
@@ -45,3 +49,4 @@ pub mod NarrowLaws
 pub mod OpDataLaws
 pub mod FuncDataLaws
 pub mod ReadableLaws
+pub mod OwnLaws

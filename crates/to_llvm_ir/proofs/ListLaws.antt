@@ -108,6 +108,18 @@ filter_from {X} p (y ∷ xs) i x h = by (p y) refl h (λ j k. filter_from p xs j
     by true e k rest = first rest i e k
     by false e k rest = later rest i k
 
+-- and what it passes is kept
+pub filter_at : {X : Type 0} (p : X → Bool) (xs : List X) (k : ℕ) (x : X) → slice_get xs k ≡ Some x → p x ≡ true → (i : ℕ) × (slice_get (filter p xs) i ≡ Some x)
+filter_at p [] k x at keeps = absurd (none-some x at)
+filter_at p (y ∷ xs) zero x at keeps =
+    let same : y ≡ x = same_Some y x at in
+    (0, ap (λ ys. slice_get ys 0) (cond-true (p y) (y ∷ filter p xs) (filter p xs) (ap p same ∙ keeps)) ∙ ap Some same)
+filter_at {X} p (y ∷ xs) (suc k) x at keeps = by (p y) (filter_at p xs k x at keeps)
+  where
+    by : (t : Bool) → (i : ℕ) × (slice_get (filter p xs) i ≡ Some x) → (i : ℕ) × (slice_get (if t then y ∷ filter p xs else filter p xs) i ≡ Some x)
+    by true r = (suc r.0, r.1)
+    by false r = r
+
 pub filter_numbered : {X : Type 0} (number : X → ℕ) (p : X → Bool) (xs : List X) → AreNumbered number xs → AreNumbered number (filter p xs)
 filter_numbered number p [] h = λ i j a b at at' e. absurd (none-some a at)
 filter_numbered {X} number p (y ∷ xs) h = by (p y) (filter_numbered number p xs (numbered_rest number y xs h))

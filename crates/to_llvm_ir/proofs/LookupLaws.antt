@@ -1,9 +1,8 @@
 -- Blocks, operations and values of a function of the form, looked up by their numbers.
-use Rattle.std.proofs.Common.{◌≡◌, ◌+◌, ℕ, zero, suc, Bool, true, false, not, nat_eq, if◌then◌else◌, List, [], ◌∷◌, Option, Some, length, slice_get, refl, sym, ap, ◌∙◌, arith, ⊎_elim, eq-eqb, ne_eqb}
+use Rattle.std.proofs.Common.{◌≡◌, ◌+◌, ℕ, zero, suc, true, false, not, nat_eq, List, [], ◌∷◌, Option, Some, length, slice_get, refl, sym, ap, ◌∙◌, arith, ⊎_elim, eq-eqb, ne_eqb}
 use Rattle.std.specs.List.{flat_map, find}
 use Rattle.std.specs.Option.{option_map_or, option_and_then}
 use Rattle.std.proofs.lemmas.Option.{same_Some, none-some, option_and_then_some}
-use Rattle.std.proofs.lemmas.Bool.{cond-true}
 use Rattle.llvm_core.proofs.ListLemmas.{slice_get-kept}
 use Rattle.dialect_types.specs.Trees.{TypeTree}
 use Rattle.dialect_core.specs.declared.numbers.BlockRef.{BlockRef}
@@ -13,7 +12,7 @@ use Rattle.dialect_core.specs.Data.{DialectOp, DialectBlock, Func, ops_in, value
 use Rattle.dialect_core.specs.Form.{IsFormFunc, IsFormBlock, IsFormOp, is_constant, others_of}
 use Rattle.meaning.specs.Dialect.{place_of}
 use Rattle.to_llvm_ir.specs.Made.{is_entry}
-use Rattle.to_llvm_ir.proofs.ListLaws.{all_at, at_behind, append_cases, find_numbered, found_numbered, position_numbered}
+use Rattle.to_llvm_ir.proofs.ListLaws.{all_at, at_behind, append_cases, filter_at, find_numbered, found_numbered, position_numbered}
 
 -- ---- the operations of blocks
 
@@ -34,15 +33,7 @@ op_of_block (d ∷ cs) i o at = ⊎_elim
 -- ---- values by their places
 
 pub other_at : (os : List DialectOp) (k : ℕ) (o : DialectOp) → slice_get os k ≡ Some o → is_constant o ≡ false → (i : ℕ) × (slice_get (others_of os) i ≡ Some o)
-other_at [] k o at other = absurd (none-some o at)
-other_at (x ∷ os) zero o at other =
-    let same : x ≡ o = same_Some x o at in
-    (0, ap (λ (xs : List DialectOp). slice_get xs 0) (cond-true (not (is_constant x)) (x ∷ others_of os) (others_of os) (ap not (ap is_constant same ∙ other))) ∙ ap Some same)
-other_at (x ∷ os) (suc k) o at other = by (is_constant x) (other_at os k o at other)
-  where
-    by : (t : Bool) → (i : ℕ) × (slice_get (others_of os) i ≡ Some o) → (i : ℕ) × (slice_get (if not t then x ∷ others_of os else others_of os) i ≡ Some o)
-    by true r = r
-    by false r = (suc r.0, r.1)
+other_at os k o at other = filter_at (λ (o : DialectOp). not (is_constant o)) os k o at (ap not other)
 
 -- ---- what the form says
 

@@ -9,11 +9,14 @@ use Rattle.to_llvm_ir.specs.Order.{IsTaken}
 use Rattle.to_llvm_ir.specs.Exported.{ExportedFunction}
 use Rattle.to_llvm_ir.specs.Made.{Numbers, function_made, entries, number_past}
 use Rattle.to_llvm_ir.specs.Accepted.{IsAccepted}
-use Rattle.to_llvm_ir.proofs.ShapeLaws.{same_shape}
+use Rattle.to_llvm_ir.proofs.ShapeLaws.{shape}
+use Rattle.to_llvm_ir.proofs.SetLaws.{sets_first}
 use Rattle.to_llvm_ir.proofs.PhiLaws.{made_phis}
+use Rattle.to_llvm_ir.proofs.PhiValueLaws.{made_arguments}
 use Rattle.to_llvm_ir.proofs.FormLaws.{made_form}
 use Rattle.to_llvm_ir.proofs.FewLaws.{made_few}
-use Rattle.to_llvm_ir.proofs.DistinctLaws.{blocks_named, distinct_locals}
+use Rattle.to_llvm_ir.proofs.DistinctLaws.{distinct_locals}
+use Rattle.to_llvm_ir.proofs.NamedLaws.{made_named}
 
 unnamed : (ts : List TypeTree) → All (λ (n : List ℕ). n ≡ []) (map (λ (t : TypeTree). let none : List ℕ = [] in none) ts)
 unnamed [] = All-nil (λ (n : List ℕ). n ≡ [])
@@ -24,12 +27,15 @@ exported d g form n taken h small = record {
   name = refl;
   type = refl;
   space = refl;
-  shape = same_shape g form n taken.once d h;
+  shape = shape g form n taken.once d h;
+  sets = sets_first g form n taken h;
   params = unnamed _;
-  names = blocks_named g n (entries g n) 0 0 g.blocks;
+  names = made_named g form n (entries g n);
   order = n.order;
   is_order = taken.is;
+  taken = record { uses = λ j k c o at at'. ((h.blocks j c at).ops k o at').uses; targets = λ j c at. (h.edges j c at).targets; equal = λ j c at. (h.edges j c at).equal };
   phis = made_phis g form n taken.once h;
+  arguments = made_arguments g form n taken.once;
   locals = distinct_locals g n (entries g n) (let few = h.few in omega (arith, few)) (omega (arith, small));
   few = made_few g n form taken.once h;
   form = λ targets. made_form g form n taken.once h targets small;

@@ -1,5 +1,5 @@
 -- What tests of narrow operations, blocks and functions find.
-use Rattle.std.proofs.Common.{◌≡◌, ◌<◌, ◌≤◌, ℕ, suc, Bool, true, false, nat_eq, if◌then◌else◌, List, [], ◌∷◌, Option, Some, None, All, length, drop, slice_get, sym, subst, ◌∙◌, refl, arith}
+use Rattle.std.proofs.Common.{◌≡◌, ◌<◌, ℕ, suc, Bool, true, false, nat_eq, if◌then◌else◌, List, [], ◌∷◌, Option, Some, None, All, length, slice_get, sym, subst, ◌∙◌, refl}
 use Rattle.std.specs.Prelude.{IsTrue, IfSome, ◌↔◌}
 use Rattle.std.specs.Option.{option_map, option_and_then}
 use Rattle.std.proofs.lemmas.Option.{none-some, same_Some}
@@ -18,9 +18,10 @@ use Rattle.dialect_core.specs.Data.{IsTyped}
 use Rattle.dialect_core.specs.Form.{IsShortInt}
 use Rattle.dialect_core.specs.WellFormed.{IsNarrowSignature}
 use Rattle.dialect_core.specs.Checking.{tree_at}
+use Rattle.dialect_core.proofs.TestLemmas.{never}
 use Rattle.dialect_core.proofs.OpTestLemmas.{func_type}
 use Rattle.dialect_core.proofs.FuncTestLemmas.{func_linkage}
-use Rattle.to_llvm_ir.specs.Narrow.{IsNarrowBlockAt, HasNoConstant, AreNarrowBlocks, IsNarrowHead}
+use Rattle.to_llvm_ir.specs.Narrow.{IsNarrowBlockAt, AreNarrowBlocks, IsNarrowHead}
 use Rattle.to_llvm_ir.proofs.ContextLaws.{known}
 
 -- what an item has, where it is known
@@ -42,13 +43,14 @@ block_wide c b args are wide h =
     let P : List TypeHandle → Type 0 = All (λ (t : TypeHandle). IsShortInt (tree_at c t)) in
     wide (subst P (known (λ (x : BlockData). x.args) (slice_get c.blocks b.0) args are) h.args)
 
--- the first block aside, none has constants
-pub blocks_narrow : (c : ContextData) (bs more : List BlockRef) (t : Bool) → 1 ≤ length bs → more ≡ drop 1 bs → All (IsNarrowBlockAt c) bs → (IsTrue t ↔ All (HasNoConstant c) more) → IsTrue t ↔ AreNarrowBlocks c bs
-blocks_narrow c [] more t some are all h = absurd (omega (arith, some))
-blocks_narrow c (entry ∷ bs) more t some are all h =
-    let P : List BlockRef → Type 0 = λ xs. IsTrue t ↔ All (HasNoConstant c) xs in
-    let k : IsTrue t ↔ All (HasNoConstant c) bs = subst P are h in
-    (λ w. (all, k.0 w), λ w. k.1 w.1)
+-- no blocks are those of a narrow function
+pub no_blocks : (c : ContextData) (bs : List BlockRef) → bs ≡ [] → IsTrue false ↔ AreNarrowBlocks c bs
+no_blocks c bs none = never (λ h. subst (AreNarrowBlocks c) none h)
+
+-- and others are where each is narrow
+pub blocks_narrow : (c : ContextData) (bs : List BlockRef) (t : Bool) → ¬ (bs ≡ []) → (IsTrue t ↔ All (IsNarrowBlockAt c) bs) → IsTrue t ↔ AreNarrowBlocks c bs
+blocks_narrow c [] t some h = absurd (some refl)
+blocks_narrow c (entry ∷ more) t some h = h
 
 -- a function by its name, its linkage and its type
 pub head_is : (c : ContextData) (f : OpRef) (name : Option (List ℕ)) (l : LinkageAttr) (ty : TypeHandle) (t : Bool) → option_map (λ (x : OpData). x.name) (slice_get c.ops f.0) ≡ Some name → IfSome name IsPlainName → option_map (λ (s : Symbol). s.linkage) (symbol_at c.ops f) ≡ Some l → l ≡ ExternalLinkage

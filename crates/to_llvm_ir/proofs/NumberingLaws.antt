@@ -12,8 +12,7 @@ use Rattle.dialect_core.specs.declared.ops.BlockData.{BlockData}
 use Rattle.dialect_core.specs.Lists.{list_at}
 use Rattle.dialect_core.specs.ContextData.{ContextData}
 use Rattle.dialect_core.specs.Data.{DialectOp, DialectBlock, Func}
-use Rattle.to_llvm_ir.specs.Exported.{number_after, number_behind}
-use Rattle.to_llvm_ir.specs.Made.{number_past}
+use Rattle.to_llvm_ir.specs.Made.{number_past, number_after, number_behind}
 use Rattle.to_llvm_ir.specs.States.{first_at}
 use Rattle.to_llvm_ir.specs.Ordering.{AreBlocksOf, ops_of}
 use Rattle.to_llvm_ir.proofs.ListLaws.{take_suc}

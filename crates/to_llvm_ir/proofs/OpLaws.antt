@@ -29,7 +29,7 @@ use Rattle.dialect_core.specs.Data.{HasKindTypesBelow, IsTyped, Kind, ConstantOp
 use Rattle.dialect_core.specs.Form.{IsShortInt, IsFitting, IsFormKind, IsFormOp, uses_of, is_constant, is_constant_kind}
 use Rattle.meaning.specs.Dialect.{type_of}
 use Rattle.to_llvm_ir.specs.Growth.{HasType, IsTypeOf}
-use Rattle.to_llvm_ir.specs.Made.{result}
+use Rattle.to_llvm_ir.specs.Exported.{result}
 use Rattle.to_llvm_ir.specs.States.{Spot, IsSpot, IsUsed, IsUse}
 use Rattle.to_llvm_ir.proofs.ListLaws.{contains_at}
 use Rattle.to_llvm_ir.proofs.LookupLaws.{op_form, result_type}

@@ -19,7 +19,7 @@ use Rattle.dialect_core.specs.Form.{IsInOrder, StandsBefore, uses_of}
 use Rattle.meaning.specs.Dialect.{same_value}
 use Rattle.meaning.proofs.SameValues.{same_value-Decides}
 use Rattle.to_llvm_ir.specs.declared.order.Seen.{Seen}
-use Rattle.to_llvm_ir.specs.Made.{result, arguments_of}
+use Rattle.to_llvm_ir.specs.Exported.{result, arguments_of}
 use Rattle.to_llvm_ir.specs.States.{Task, Has, all_values, seen_before}
 use Rattle.to_llvm_ir.specs.Opening.{AreBlocks}
 use Rattle.to_llvm_ir.specs.Ordering.{AreBlocksOf, AreSeen, IsAmong, HasUsesAmong, is_seen, ops_of}
@@ -28,7 +28,7 @@ use Rattle.to_llvm_ir.proofs.TurnLaws.{flat_at}
 use Rattle.to_llvm_ir.proofs.KnownLaws.{has_left, has_cases, stands_seen, seen_stands}
 
 pub of_blocks : (c : ContextData) (t : Task) (bs : List BlockRef) → AreBlocks c t bs → AreBlocksOf c t.source bs
-of_blocks c t bs h = record { form = h.task.form; count = h.count; each = λ i b at. let d = h.each i b at in (d.0, record { here = d.1.here; is = d.1.is }) }
+of_blocks c t bs h = record { some = (let e = ap (λ (bs : List DialectBlock). length bs) h.task.form.body in omega (arith, e)); apart = h.task.form.block_numbers; count = h.count; each = λ i b at. let d = h.each i b at in (d.0, record { here = d.1.here; is = d.1.is }) }
 
 -- ---- values that are noted
 

@@ -20,8 +20,8 @@ use Rattle.dialect_core.specs.Data.{DialectOp, DialectBlock, Func, Kind, Constan
 use Rattle.dialect_core.specs.Form.{IsFormFunc, FitsTarget, edges_of, is_constant}
 use Rattle.meaning.specs.Pairs.{BothOrNone}
 use Rattle.meaning.specs.Dialect.{type_of}
-use Rattle.to_llvm_ir.specs.Exported.{number_after, phi_types, edge_sources, blocks_by, HasEdges, HasPhis}
-use Rattle.to_llvm_ir.specs.Made.{Numbers, operand_for, instruction_for, inst, insts, phis, block_phis, block_made, function_made, entries, number_past}
+use Rattle.to_llvm_ir.specs.Exported.{phi_types, edge_sources, blocks_by, HasEdges, HasPhis}
+use Rattle.to_llvm_ir.specs.Made.{Numbers, operand_for, instruction_for, inst, insts, phis, block_phis, block_made, function_made, entries, number_past, number_after}
 use Rattle.to_llvm_ir.specs.Accepted.{IsAccepted}
 use Rattle.to_llvm_ir.specs.Links.{HasTarget}
 use Rattle.to_llvm_ir.proofs.ListLaws.{all_at, append_cases, item_there, filter_all, filter_none}
@@ -44,7 +44,7 @@ phis_first xs ys h k i j x y lt at at' none = ⊎_elim
     (append_cases xs ys j y at')
 
 -- and no others
-phis_only : (xs ys : List Placed) → All (λ (p : Placed). is_phi p ≡ true) xs → All (λ (p : Placed). is_phi p ≡ false) ys → filter is_phi (xs ++ ys) ≡ xs
+pub phis_only : (xs ys : List Placed) → All (λ (p : Placed). is_phi p ≡ true) xs → All (λ (p : Placed). is_phi p ≡ false) ys → filter is_phi (xs ++ ys) ≡ xs
 phis_only xs ys h k =
     filter-append is_phi xs ys ∙ ap (λ (ps : List Placed). ps ++ filter is_phi ys) (filter_all is_phi xs h)
     ∙ ap (λ (ps : List Placed). xs ++ ps) (filter_none is_phi ys k) ∙ append-nil xs

@@ -13,7 +13,8 @@ use Rattle.dialect_core.specs.Data.{DialectOp, DialectBlock}
 use Rattle.dialect_core.specs.Form.{is_constant, others_of}
 use Rattle.meaning.specs.Dialect.{same_value}
 use Rattle.meaning.proofs.SameValues.{same_value-Decides}
-use Rattle.to_llvm_ir.specs.Made.{result, arguments_from, phi_values, result_values, values_from, place_in}
+use Rattle.to_llvm_ir.specs.Exported.{result, arguments_from, phi_values, place_in}
+use Rattle.to_llvm_ir.specs.Made.{result_values, values_from}
 use Rattle.to_llvm_ir.proofs.ListLaws.{AreNumbered, at_behind, append_cases, numbered_rest, numbered_front, numbered_back, numbered_apart, filter_from, filter_numbered, distinct_nil, distinct_rest, distinct_append}
 
 -- ---- the place of a value
@@ -53,7 +54,7 @@ pub arguments_count : (b k : ℕ) (ts : List TypeTree) → length (arguments_fro
 arguments_count b k [] = refl
 arguments_count b k (t ∷ ts) = ap suc (arguments_count b (suc k) ts)
 
-arguments_distinct : (b k : ℕ) (ts : List TypeTree) → IsDistinctList (arguments_from b k ts)
+pub arguments_distinct : (b k : ℕ) (ts : List TypeTree) → IsDistinctList (arguments_from b k ts)
 arguments_distinct b k ts i j v at at' =
     let p = argument_from b k ts i v at in
     let q = argument_from b k ts j v at' in

@@ -1,5 +1,5 @@
 -- The instructions of the function that is made: one for each value, in order.
-use Rattle.std.proofs.Common.{◌≡◌, ◌+◌, ℕ, zero, suc, Bool, true, false, not, nat_eq, if◌then◌else◌, List, [], ◌∷◌, ◌++◌, Option, Some, All, length, map, slice_get, refl, sym, ap, subst, ◌∙◌, arith, eq-eqb}
+use Rattle.std.proofs.Common.{◌≡◌, ◌+◌, ℕ, zero, suc, Bool, true, false, not, nat_eq, if◌then◌else◌, List, [], ◌∷◌, ◌++◌, Option, Some, length, map, slice_get, refl, sym, ap, subst, ◌∙◌, arith, eq-eqb}
 use Rattle.std.specs.List.{flat_map}
 use Rattle.std.specs.Option.{option_map_or}
 use Rattle.std.proofs.lemmas.Option.{same_Some, none-some, slice_get_within}
@@ -18,9 +18,9 @@ use Rattle.dialect_core.specs.Data.{DialectOp, DialectBlock, Func, Kind, Constan
 use Rattle.dialect_core.specs.Form.{IsFormFunc, IsFormKind, IsShortInt, IsFitting, IsOperand, is_constant, is_constant_kind, others_of, types_list}
 use Rattle.meaning.specs.Pairs.{Matched}
 use Rattle.meaning.specs.Dialect.{type_of, types_of, option_type}
-use Rattle.to_llvm_ir.specs.Exported.{number_after, number_behind}
-use Rattle.to_llvm_ir.specs.Made.{Numbers, result, arguments_from, phi_values, result_values, values_from, values, values_by, const_of, constant_or, is_entry, number_of, operand_for, inst, insts, phis, block_phis, block_made, blocks_made, function_made, entry_args}
-use Rattle.to_llvm_ir.proofs.ListLaws.{AreNumbered, find_numbered, all_at}
+use Rattle.to_llvm_ir.specs.Exported.{result, arguments_from, phi_values}
+use Rattle.to_llvm_ir.specs.Made.{Numbers, result_values, values_from, values, values_by, const_of, constant_or, is_entry, number_of, operand_for, inst, insts, phis, block_phis, block_made, blocks_made, function_made, entry_args, number_after, number_behind}
+use Rattle.to_llvm_ir.proofs.ListLaws.{AreNumbered, find_numbered}
 use Rattle.to_llvm_ir.proofs.PlaceLaws.{place_at}
 use Rattle.to_llvm_ir.proofs.TurnLaws.{values_distinct, values_by_distinct, values_by_at, values_by_from, argument_among, result_among}
 use Rattle.to_llvm_ir.proofs.LookupLaws.{argument_type, result_type, argument_of, result_of, op_found, op_form, entry_at, entry_is, entry_is_not, first_is_entry, IsResultOf}
@@ -168,7 +168,7 @@ module _ (g : Func) (form : IsFormFunc g) (n : Numbers) (order : IsOrder (length
 
   pub data OperandIs (v : Value) (t : TypeTree) : Type 0 where
     IsParam : (i : ℕ) (b : BlockRef) → v ≡ Argument b i → b.0 ≡ form.entry.number → slice_get form.entry.args i ≡ Some t → operand_for g n v ≡ L.Parameter n.function i → OperandIs v t
-    IsConst : (k : ℕ) (o : DialectOp) (value : AttrTree) → slice_get form.entry.ops k ≡ Some o → v ≡ result o → o.kind ≡ ConstantOp value → o.result ≡ Some t → IsFormKind g o o.kind → operand_for g n v ≡ L.Constant (const_of value) → OperandIs v t
+    IsConst : (j k : ℕ) (c : DialectBlock) (o : DialectOp) (value : AttrTree) → slice_get g.blocks j ≡ Some c → slice_get c.ops k ≡ Some o → v ≡ result o → o.kind ≡ ConstantOp value → o.result ≡ Some t → IsFormKind g o o.kind → operand_for g n v ≡ L.Constant (const_of value) → OperandIs v t
     IsInst : (i : ℕ) → slice_get (values_by n.order g) i ≡ Some v → operand_for g n v ≡ L.Result (number_of g n v) → OperandIs v t
 
   argument_is : (b : BlockRef) (i : ℕ) (t : TypeTree) (place : ℕ) (c : DialectBlock) → slice_get g.blocks place ≡ Some c → c.number ≡ b.0 → slice_get c.args i ≡ Some t → OperandIs (Argument b i) t
@@ -181,14 +181,8 @@ module _ (g : Func) (form : IsFormFunc g) (n : Numbers) (order : IsOrder (length
       IsInst r.0 (r.1 ∙ ap Some same) (argument_operand i b (entry_is_not g form p b.0 c at is))
 
   constant_is : (r : OpRef) (t : TypeTree) (place k : ℕ) (c : DialectBlock) (o : DialectOp) (kind : Kind) → slice_get g.blocks place ≡ Some c → slice_get c.ops k ≡ Some o → o.number ≡ r.0 → o.result ≡ Some t → o.kind ≡ kind → is_constant_kind kind ≡ true → OperandIs (Result r) t
-  constant_is r t zero k c o (ConstantOp value) at at' is type kind e =
-      let same = first_is_entry g form c at in
-      IsConst k o value (ap (λ (x : DialectBlock). slice_get x.ops k) (sym same) ∙ at') (ap (λ (m : ℕ). Result (record { 0 = m })) (sym is)) kind type (op_form g form 0 k c o at at').kind (constant_operand 0 k r c o value at at' is kind)
-  constant_is r t (suc p) k c o (ConstantOp value) at at' is type kind e =
-      let more : slice_get form.more p ≡ Some c = ap (λ (bs : List DialectBlock). slice_get bs (suc p)) (sym form.body) ∙ at in
-      let none : is_constant o ≡ false = all_at (λ (o : DialectOp). is_constant o ≡ false) c.ops k o (all_at (λ (b : DialectBlock). All (λ (o : DialectOp). is_constant o ≡ false) b.ops) form.more p c form.others more) at' in
-      let yes : is_constant o ≡ true = ap is_constant_kind kind in
-      absurd (let no : true ≡ false = sym yes ∙ none in cc)
+  constant_is r t place k c o (ConstantOp value) at at' is type kind e =
+      IsConst place k c o value at at' (ap (λ (m : ℕ). Result (record { 0 = m })) (sym is)) kind type (op_form g form place k c o at at').kind (constant_operand place k r c o value at at' is kind)
   constant_is r t place k c o (AddOp flags) at at' is type kind e = cc
   constant_is r t place k c o (ICmpOp predicate) at at' is type kind e = cc
   constant_is r t place k c o BrOp at at' is type kind e = cc
@@ -226,7 +220,7 @@ module _ (g : Func) (form : IsFormFunc g) (n : Numbers) (order : IsOrder (length
     subst (F.IsOperandOf made) (sym operand) (refl, (let c = params_count in let lt = slice_get_within form.entry.args i t type in omega (arith, c, lt))),
     ap (operand_type made) operand ∙ param_typed i t type,
   )
-  operand_typed_as v t e (IsConst k o value at is kind type h operand) = let c = const_fits value o.kind o t kind type h in (subst (F.IsOperandOf made) (sym operand) c.0, ap (operand_type made) operand ∙ c.1)
+  operand_typed_as v t e (IsConst j k c o value here at is kind type h operand) = let fits = const_fits value o.kind o t kind type h in (subst (F.IsOperandOf made) (sym operand) fits.0, ap (operand_type made) operand ∙ fits.1)
   operand_typed_as v t e (IsInst i at operand) = (subst (F.IsOperandOf made) (sym operand) (result_there i v at), ap (operand_type made) operand ∙ result_typed i v at ∙ ap option_type e)
 
   pub operand_typed : (v : Value) (t : TypeTree) → value_type g v ≡ Some t → operand_type made (operand_for g n v) ≡ type_of t

@@ -1,15 +1,14 @@
 -- What stands for what in the function that is made: its plan.
-use Rattle.std.proofs.Common.{◌≡◌, ◌<◌, ◌+◌, ◌-◌, ◌&&◌, ℕ, zero, suc, Bool, true, false, nat_eq, nat_le, if◌then◌else◌, List, [], ◌∷◌, Option, Some, None, All, length, map, slice_get, refl, sym, ap, subst, ◌∙◌, arith, eq-eqb, ne_eqb, eqb-true, ⊎_elim}
+use Rattle.std.proofs.Common.{◌≡◌, ◌<◌, ◌+◌, ◌-◌, ◌&&◌, ℕ, zero, suc, Bool, true, false, nat_eq, nat_le, if◌then◌else◌, List, [], ◌∷◌, Option, Some, None, All, length, filter, slice_get, refl, sym, ap, subst, ◌∙◌, arith, eq-eqb, ne_eqb, eqb-true}
 use Rattle.std.specs.Prelude.{nat_lt}
-use Rattle.std.specs.List.{flat_map}
-use Rattle.std.proofs.lemmas.Bool.{cond-true, cond-false, and_from, and_parts, and_left, or_from, or_left, or_right, lt-ltb, ltb-true, le-leb, leb-true, false_from_ne_true}
+use Rattle.std.proofs.lemmas.Bool.{cond-true, cond-false, and_from, and_parts, and_left, or_from, or_left, or_right, lt-ltb, ltb-true, le-leb, leb-true, false≢true, false_from_ne_true}
 use Rattle.std.proofs.lemmas.List.Elements.{All-head, All-tail}
 use Rattle.std.proofs.lemmas.Option.{same_Some, none-some, slice_get_within, cond_some}
 use Rattle.llvm_core.specs.Data as L
 use Rattle.llvm_core.specs.Data.{Operand, Placed, Function, Block}
-use Rattle.llvm_core.proofs.ListLemmas.{slice_get-kept}
 use Rattle.dialect_types.specs.Trees.{TypeTree, TypeTrees, VoidType, IntegerType, FuncType, NoTypes, ThenType, AttrTree, IntegerAttr}
 use Rattle.block_order.specs.Order.{IsOrder}
+use Rattle.dialect_core.specs.declared.numbers.BlockRef.{BlockRef}
 use Rattle.dialect_core.specs.declared.ops.Value.{Value}
 use Rattle.dialect_core.specs.declared.ops.Value.TheVariants.{Result, Argument}
 use Rattle.dialect_core.specs.Data.{DialectOp, DialectBlock, Func, Kind, ConstantOp, AddOp, ICmpOp, BrOp, CondBrOp, ReturnOp, UnreachableOp, ops_in, value_type}
@@ -25,22 +24,25 @@ use Rattle.meaning.specs.Shape as S
 use Rattle.meaning.specs.Shape.{Plan, IsPlan, IsSilent, among, AreAmong, operands_of, IsClosed, term_among}
 use Rattle.meaning.proofs.SameValues.{same_value-Decides}
 use Rattle.meaning.proofs.Fronts.{made, after_one, after, ran, others}
-use Rattle.to_llvm_ir.specs.Made.{Numbers, result, values_by, const_of, number_of, operand_for, function_made}
-use Rattle.to_llvm_ir.proofs.ListLaws.{AreNumbered, numbered_rest, append_cases, all_at}
+use Rattle.meaning.proofs.ConstantRows.{rows, HasConstant}
+use Rattle.to_llvm_ir.specs.Exported.{result}
+use Rattle.to_llvm_ir.specs.Made.{Numbers, values_by, const_of, number_of, operand_for, function_made}
+use Rattle.to_llvm_ir.proofs.ListLaws.{AreNumbered, numbered_rest, all_from, filter_from, filter_at, filter_numbered}
 use Rattle.to_llvm_ir.proofs.PlaceLaws.{comes_from}
 use Rattle.to_llvm_ir.proofs.TurnLaws.{values_by_distinct, values_by_from}
 use Rattle.to_llvm_ir.proofs.LookupLaws.{op_among, entry_at}
 use Rattle.to_llvm_ir.proofs.PlacedLaws.{number_at, OperandIs, IsParam, IsConst, IsInst, operand_is}
 
-abbrev of_number : ℕ → Value
+abbrev pub of_number : ℕ → Value
 of_number n = Result (record { 0 = n })
 
 -- ---- constants
 
-module _ (g : Func) where
-  abbrev pub rows : List DialectOp → List (Row Value)
-  rows os = map (dialect.row g) os
+-- those of a function, in order
+abbrev pub constants_of : Func → List DialectOp
+constants_of g = filter is_constant (ops_in g)
 
+module _ (g : Func) where
   constant_silent : (done : List (Row Value)) (o : DialectOp) (k : Kind) → is_constant_kind k ≡ true → IsSilent (dialect.action g o k) × AreAmong done (operands_of (dialect.action g o k))
   constant_silent done o (ConstantOp value) e = (tt, tt)
   constant_silent done o (AddOp flags) e = cc
@@ -50,39 +52,43 @@ module _ (g : Func) where
   constant_silent done o ReturnOp e = cc
   constant_silent done o UnreachableOp e = cc
 
-  closed : (done : List (Row Value)) (os : List DialectOp) → All (λ (o : DialectOp). is_constant o ≡ true) os → IsClosed done (rows os)
+  closed : (done : List (Row Value)) (os : List DialectOp) → All (λ (o : DialectOp). is_constant o ≡ true) os → IsClosed done (rows g os)
   closed done [] h = tt
   closed done (o ∷ os) h =
       let one = constant_silent done o o.kind (All-head (λ (o : DialectOp). is_constant o ≡ true) o os h) in
       (one.0, one.1, closed (dialect.row g o ∷ done) os (All-tail (λ (o : DialectOp). is_constant o ≡ true) o os h))
 
-  among_none : (os : List DialectOp) (w : Value) → ((i : ℕ) (o : DialectOp) → slice_get os i ≡ Some o → same_value (result o) w ≡ false) → among (rows os) w ≡ false
+  among_none : (os : List DialectOp) (w : Value) → ((i : ℕ) (o : DialectOp) → slice_get os i ≡ Some o → same_value (result o) w ≡ false) → among (rows g os) w ≡ false
   among_none [] w h = refl
-  among_none (o ∷ os) w h = or_from (same_value (result o) w) (among (rows os) w) (h 0 o refl) (among_none os w (λ i x at. h (suc i) x at))
+  among_none (o ∷ os) w h = or_from (same_value (result o) w) (among (rows g os) w) (h 0 o refl) (among_none os w (λ i x at. h (suc i) x at))
 
-  pub among_at : (os : List DialectOp) (i n : ℕ) (o : DialectOp) → slice_get os i ≡ Some o → o.number ≡ n → among (rows os) (of_number n) ≡ true
+  -- no operation sets an argument
+  pub no_argument : (os : List DialectOp) (b : BlockRef) (i : ℕ) → ¬ (among (rows g os) (Argument b i) ≡ true)
+  no_argument os b i m = false≢true (sym (among_none os (Argument b i) (λ k o at. refl)) ∙ m)
+
+  pub among_at : (os : List DialectOp) (i n : ℕ) (o : DialectOp) → slice_get os i ≡ Some o → o.number ≡ n → among (rows g os) (of_number n) ≡ true
   among_at [] i n o at e = absurd (none-some o at)
-  among_at (x ∷ os) zero n o at e = or_left (nat_eq x.number n) (among (rows os) (of_number n)) (eq-eqb x.number n (ap (λ (y : DialectOp). y.number) (same_Some x o at) ∙ e))
-  among_at (x ∷ os) (suc i) n o at e = or_right (nat_eq x.number n) (among (rows os) (of_number n)) (among_at os i n o at e)
+  among_at (x ∷ os) zero n o at e = or_left (nat_eq x.number n) (among (rows g os) (of_number n)) (eq-eqb x.number n (ap (λ (y : DialectOp). y.number) (same_Some x o at) ∙ e))
+  among_at (x ∷ os) (suc i) n o at e = or_right (nat_eq x.number n) (among (rows g os) (of_number n)) (among_at os i n o at e)
 
   held : (e : Value → Term) (o : DialectOp) (k : Kind) (value : AttrTree) → k ≡ ConstantOp value → made e (dialect.action g o k) ≡ attr_term value
   held e o k value is = ap (λ (x : Kind). made e (dialect.action g o x)) is
 
-  after_at : (e : Value → Term) (os : List DialectOp) (i n : ℕ) (o : DialectOp) (value : AttrTree) → AreNumbered (λ (o : DialectOp). o.number) os → slice_get os i ≡ Some o → o.number ≡ n → o.kind ≡ ConstantOp value → after e (rows os) (of_number n) ≡ attr_term value
+  after_at : (e : Value → Term) (os : List DialectOp) (i n : ℕ) (o : DialectOp) (value : AttrTree) → AreNumbered (λ (o : DialectOp). o.number) os → slice_get os i ≡ Some o → o.number ≡ n → o.kind ≡ ConstantOp value → after e (rows g os) (of_number n) ≡ attr_term value
   after_at e [] i n o value numbered at is kind = absurd (none-some o at)
   after_at e (x ∷ os) zero n o value numbered at is kind =
       let same : x ≡ o = same_Some x o at in
       let number : x.number ≡ n = ap (λ (y : DialectOp). y.number) same ∙ is in
       let none = among_none os (of_number n) (λ i y at'. ne_eqb y.number n (λ k. let z : suc i ≡ 0 = numbered (suc i) 0 y x at' refl (k ∙ sym number) in omega (arith, z))) in
-      others (rows os) (after_one e (dialect.row g x)) (of_number n) none
+      others (rows g os) (after_one e (dialect.row g x)) (of_number n) none
       ∙ cond-true (nat_eq x.number n) (made e (dialect.action g x x.kind)) (e (of_number n)) (eq-eqb x.number n number)
       ∙ held e x x.kind value (ap (λ (y : DialectOp). y.kind) same ∙ kind)
   after_at e (x ∷ os) (suc i) n o value numbered at is kind = after_at (after_one e (dialect.row g x)) os i n o value (numbered_rest (λ (o : DialectOp). o.number) x os numbered) at is kind
 
   pub term_at : (os : List DialectOp) (i n : ℕ) (o : DialectOp) (value : AttrTree) → All (λ (o : DialectOp). is_constant o ≡ true) os → AreNumbered (λ (o : DialectOp). o.number) os → slice_get os i ≡ Some o → o.number ≡ n → o.kind ≡ ConstantOp value
-      → term_among (rows os) (of_number n) ≡ attr_term value
+      → term_among (rows g os) (of_number n) ≡ attr_term value
   term_at os i n o value constants numbered at is kind =
-      let r = ran [] (rows os) (closed [] os constants) (begin Value same_value (λ (v : Value). Unset)) in
+      let r = ran [] (rows g os) (closed [] os constants) (begin Value same_value (λ (v : Value). Unset)) in
       ap (λ (env : Value → Term). env (of_number n)) r.env ∙ after_at (λ (v : Value). Unset) os i n o value numbered at is kind
 
 -- ---- the plan
@@ -93,32 +99,22 @@ module _ (g : Func) (form : IsFormFunc g) (n : Numbers) (order : IsOrder (length
   value_of (ResultKey m) = if nat_le n.inst m then slice_get (values_by n.order g) (m - n.inst) else None
 
   abbrev pub plan : Plan
-  plan = record { value = value_of; hoisted = rows g form.constants.hoisted }
+  plan = record { value = value_of; hoisted = rows g (constants_of g) }
 
-  -- ---- the constants of the entry
+  -- ---- the constants
 
-  entry_numbered : AreNumbered (λ (o : DialectOp). o.number) form.entry.ops
-  entry_numbered i j x y at at' e =
-      let h : AreNumbered (λ (o : DialectOp). o.number) (ops_in g) = form.numbers in
-      let p = op_front i x at in
-      let q = op_front j y at' in
-      h i j x y p q e
-    where
-      op_front : (i : ℕ) (o : DialectOp) → slice_get form.entry.ops i ≡ Some o → slice_get (ops_in g) i ≡ Some o
-      op_front i o at = ap (λ (bs : List DialectBlock). slice_get (flat_map (λ (b : DialectBlock). b.ops) bs) i) form.body ∙ slice_get-kept form.entry.ops (flat_map (λ (b : DialectBlock). b.ops) form.more) i o at
+  all_constants : All (λ (o : DialectOp). is_constant o ≡ true) (constants_of g)
+  all_constants = all_from (λ (o : DialectOp). is_constant o ≡ true) (constants_of g) (λ i o at. (filter_from is_constant (ops_in g) i o at).2)
 
-  hoisted_at : (i : ℕ) (o : DialectOp) → slice_get form.constants.hoisted i ≡ Some o → slice_get form.entry.ops i ≡ Some o
-  hoisted_at i o at = ap (λ (os : List DialectOp). slice_get os i) form.constants.are ∙ slice_get-kept form.constants.hoisted form.constants.rest i o at
+  constants_numbered : AreNumbered (λ (o : DialectOp). o.number) (constants_of g)
+  constants_numbered = let h : AreNumbered (λ (o : DialectOp). o.number) (ops_in g) = form.numbers in filter_numbered (λ (o : DialectOp). o.number) is_constant (ops_in g) h
 
-  pub hoisted_numbered : AreNumbered (λ (o : DialectOp). o.number) form.constants.hoisted
-  hoisted_numbered i j x y at at' e = entry_numbered i j x y (hoisted_at i x at) (hoisted_at j y at') e
-
-  -- a constant of the entry is one of those that stand first
-  constant_hoisted : (i : ℕ) (o : DialectOp) → slice_get form.entry.ops i ≡ Some o → is_constant o ≡ true → slice_get form.constants.hoisted i ≡ Some o
-  constant_hoisted i o at con = ⊎_elim
-      (λ here. here)
-      (λ rest. let none = all_at (λ (o : DialectOp). is_constant o ≡ false) form.constants.rest rest.0 o form.constants.others rest.2 in absurd (let e : true ≡ false = sym con ∙ none in cc))
-      (append_cases form.constants.hoisted form.constants.rest i o (ap (λ (os : List DialectOp). slice_get os i) (sym form.constants.are) ∙ at))
+  -- the plan has the constant of each operation that holds one
+  pub has_constant : (j k : ℕ) (c : DialectBlock) (o : DialectOp) → slice_get g.blocks j ≡ Some c → slice_get c.ops k ≡ Some o → HasConstant g plan o o.kind
+  has_constant j k c o at at' value kind =
+      let among_all = op_among g.blocks j k c o at at' in
+      let i = filter_at is_constant (ops_in g) among_all.0 o among_all.1 (ap is_constant_kind kind) in
+      (among_at g (constants_of g) i.0 o.number o i.1 refl, term_at g (constants_of g) i.0 o.number o value all_constants constants_numbered i.1 refl kind)
 
   -- ---- what the plan says
 
@@ -152,15 +148,14 @@ module _ (g : Func) (form : IsFormFunc g) (n : Numbers) (order : IsOrder (length
       omega (arith, k, lt)
 
   -- and no constant
-  constant_apart : (i : ℕ) (r : ℕ) (k : ℕ) (o : DialectOp) → slice_get (values_by n.order g) i ≡ Some (of_number r) → slice_get form.constants.hoisted k ≡ Some o → o.number ≡ r → ⊥
+  constant_apart : (i : ℕ) (r : ℕ) (k : ℕ) (o : DialectOp) → slice_get (values_by n.order g) i ≡ Some (of_number r) → slice_get (constants_of g) k ≡ Some o → o.number ≡ r → ⊥
   constant_apart i r k o at there e =
       let w = values_by_from g form n.order order i (of_number r) at in
       let f = comes_from 0 g.blocks w.0 (of_number r) w.1 in
-      let p = op_among g.blocks 0 k form.entry o (entry_at g form) (hoisted_at k o there) in
+      let p = filter_from is_constant (ops_in g) k o there in
       let same : p.0 ≡ f.0 = form.numbers p.0 f.0 o f.1 p.1 f.2 (e ∙ sym f.3) in
       let is : o ≡ f.1 = same_Some o f.1 (sym p.1 ∙ ap (slice_get (ops_in g)) same ∙ f.2) in
-      let con = all_at (λ (o : DialectOp). is_constant o ≡ true) form.constants.hoisted k o form.constants.constants there in
-      let never : true ≡ false = sym con ∙ ap is_constant is ∙ f.4 in
+      let never : true ≡ false = sym p.2 ∙ ap is_constant is ∙ f.4 in
       cc
 
   one_to_one : (j k : Key) (w : Value) → value_of j ≡ Some w → value_of k ≡ Some w → j ≡ k
@@ -185,15 +180,15 @@ module _ (g : Func) (form : IsFormFunc g) (n : Numbers) (order : IsOrder (length
       let i = values_by_distinct g form n.order order p.0 q.0 w p.1 q.1 in
       ap ResultKey (p.2 ∙ ap (λ (k : ℕ). n.inst + k) i ∙ sym q.2)
 
-  apart_from : (w : Value) → ((k : ℕ) (o : DialectOp) → slice_get form.constants.hoisted k ≡ Some o → result o ≡ w → ⊥) → among (rows g form.constants.hoisted) w ≡ false
-  apart_from w h = among_none g form.constants.hoisted w (λ k o at. false_from_ne_true (same_value (result o) w) (λ e. h k o at ((same_value-Decides (result o) w).0 e)))
+  apart_from : (w : Value) → ((k : ℕ) (o : DialectOp) → slice_get (constants_of g) k ≡ Some o → result o ≡ w → ⊥) → among (rows g (constants_of g)) w ≡ false
+  apart_from w h = among_none g (constants_of g) w (λ k o at. false_from_ne_true (same_value (result o) w) (λ e. h k o at ((same_value-Decides (result o) w).0 e)))
 
-  apart : (k : Key) (w : Value) → value_of k ≡ Some w → among (rows g form.constants.hoisted) w ≡ false
+  apart : (k : Key) (w : Value) → value_of k ≡ Some w → among (rows g (constants_of g)) w ≡ false
   apart (ParamKey m i) w e = let p = param_parts m i w e in apart_from w (λ k o at is. let never : result o ≡ Argument (record { 0 = form.entry.number }) i = is ∙ p.2 in cc)
   apart (ResultKey m) w e = let p = result_parts m w e in apart_from w (λ k o at is. constant_apart p.0 o.number k o (p.1 ∙ ap Some (sym is)) at refl)
 
   pub is_plan : IsPlan plan
-  is_plan = record { closed = closed g [] form.constants.hoisted form.constants.constants; one_to_one = one_to_one; apart = apart }
+  is_plan = record { closed = closed g [] (constants_of g) all_constants; one_to_one = one_to_one; apart = apart }
 
   -- ---- the start
 
@@ -222,6 +217,11 @@ module _ (g : Func) (form : IsFormFunc g) (n : Numbers) (order : IsOrder (length
       let p = result_parts m w e in
       sym (ap (λ (bs : List DialectBlock). dialect.start bs w) form.body ∙ start_none w (λ i is. argument_apart p.0 form.entry.number i (p.1 ∙ ap Some is) refl))
 
+  -- no constant is set there
+  pub unset : (w : Value) → among (rows g (constants_of g)) w ≡ true → dialect.start g.blocks w ≡ Unset
+  unset (Result r) m = ap (λ (bs : List DialectBlock). dialect.start bs (Result r)) form.body
+  unset (Argument b i) m = absurd (no_argument g (constants_of g) b i m)
+
   -- ---- operands
 
   integer_same : (t : TypeTree) (m : ℕ) → rename same_places (llvm.int_of (type_of t) m) ≡ llvm.int_of (type_of t) m
@@ -239,13 +239,10 @@ module _ (g : Func) (form : IsFormFunc g) (n : Numbers) (order : IsOrder (length
       (cond-true (nat_eq n.function n.function && nat_lt i (length form.entry.args)) (Some (Argument (record { 0 = form.entry.number }) i)) None
       (and_from (nat_eq n.function n.function) (nat_lt i (length form.entry.args)) (eq-eqb n.function n.function refl) (lt-ltb i (length form.entry.args) lt))
       ∙ ap (λ (m : ℕ). Some (Argument (record { 0 = m }) i)) (sym entry) ∙ ap Some (sym is))
-  stands_as d given v t (IsConst k o value at is kind type h operand) =
-      let there = constant_hoisted k o at (ap is_constant_kind kind) in
+  stands_as d given v t (IsConst j k c o value here at is kind type h operand) =
+      let held = has_constant j k c o here at value kind in
       subst (λ (o : Operand). S.StandsFor same_places plan (llvm.operand d o) (At v)) (sym operand)
-      (subst (λ (w : Value). S.StandsFor same_places plan (llvm.operand d (L.Constant (const_of value))) (At w)) (sym is) (
-        among_at g form.constants.hoisted k o.number o there refl,
-        constant_same d value ∙ sym (term_at g form.constants.hoisted k o.number o value form.constants.constants hoisted_numbered there refl kind),
-      ))
+      (subst (λ (w : Value). S.StandsFor same_places plan (llvm.operand d (L.Constant (const_of value))) (At w)) (sym is) (held.0, constant_same d value ∙ sym held.1))
   stands_as d given v t (IsInst i at operand) = subst (λ (o : Operand). S.StandsFor same_places plan (llvm.operand d o) (At v)) (sym operand) (value_at i v at)
 
   pub stands : (d : L.ModuleData) (v : Value) (t : TypeTree) → value_type g v ≡ Some t → S.StandsFor same_places plan (llvm.operand d (operand_for g n v)) (At v)

@@ -8,10 +8,8 @@ use Rattle.dialect_core.specs.declared.numbers.BlockRef.{BlockRef}
 use Rattle.dialect_core.specs.declared.ops.OpKind.TheVariants as K
 use Rattle.dialect_core.specs.Lists.{list_at}
 use Rattle.dialect_core.specs.ContextData.{ContextData, IsSymbol, kind_at, region_at}
-use Rattle.dialect_core.specs.Data.{IsTyped, func_in, held, data_of}
-use Rattle.dialect_core.specs.Form.{IsFormFunc}
-use Rattle.dialect_core.specs.WellFormed.{IsPlainAt, IsNarrow, IsNarrowFunc, IsWellFormed, IsWellFormedFunc}
-use Rattle.dialect_core.proofs.FormLaws.{form_of}
+use Rattle.dialect_core.specs.Data.{IsTyped, func_in, held, data_of, type_in}
+use Rattle.dialect_core.specs.WellFormed.{IsPlainAt, IsNarrow, IsNarrowFunc, IsOpenForm, IsWellFormed, IsWellFormedFunc}
 use Rattle.dialect_core.proofs.LineLemmas.{all_at, at_all}
 use Rattle.to_llvm_ir.specs.Held.{IsReadable}
 use Rattle.to_llvm_ir.specs.Narrow.{AreNarrowFuncs}
@@ -23,7 +21,7 @@ readable c m there typed w narrow = record {
   kind = w.kind;
   region = w.region;
   typed = typed;
-  functions = at_all IsFormFunc (data_of c m).functions (λ k g at. form_of g (all_at IsWellFormedFunc (data_of c m).functions w.functions k g at) (all_at IsNarrowFunc (data_of c m).functions narrow k g at));
+  functions = at_all (IsOpenForm c) (data_of c m).functions (λ k g at. (all_at (IsWellFormedFunc (type_in c)) (data_of c m).functions w.functions k g at, all_at IsNarrowFunc (data_of c m).functions narrow k g at));
 }
 
 -- a module without a block has no functions

@@ -1,9 +1,9 @@
--- The function that is made has the shape of the dialect's.
-use Rattle.std.proofs.Common.{◌≡◌, ◌+◌, ℕ, zero, suc, Bool, true, false, not, nat_eq, if◌then◌else◌, ◌⊎◌, inl, inr, List, [], ◌∷◌, ◌++◌, Option, Some, None, All, length, map, take, slice_get, refl, sym, ap, subst, ◌∙◌, arith, ⊎_elim}
+-- The function that is made has the shape of the dialect's, with constants at any places.
+use Rattle.std.proofs.Common.{◌≡◌, ◌+◌, ℕ, zero, suc, Bool, true, false, not, nat_eq, if◌then◌else◌, ◌⊎◌, inl, inr, List, [], ◌∷◌, ◌++◌, Option, Some, None, length, map, take, slice_get, refl, sym, ap, subst, ◌∙◌, arith, ⊎_elim}
 use Rattle.std.specs.List.{filter_map, cons_option, find}
 use Rattle.std.specs.Option.{option_map, option_map_or}
-use Rattle.std.proofs.lemmas.List.{map-append, append-nil}
-use Rattle.std.proofs.lemmas.List.Elements.{filter_map-append, filter-append, All-weaker}
+use Rattle.std.proofs.lemmas.List.{append-nil}
+use Rattle.std.proofs.lemmas.List.Elements.{filter_map-append}
 use Rattle.std.proofs.lemmas.Option.{slice_get-map, slice_get_within}
 use Rattle.llvm_core.specs.Data as L
 use Rattle.llvm_core.specs.Data.{Placed, Operand, Instruction, Function, Block, ModuleData, operand_type, phi_entries, targets}
@@ -25,17 +25,19 @@ use Rattle.meaning.specs.Llvm.{Key, ParamKey, ResultKey}
 use Rattle.meaning.specs.Dialect as dialect
 use Rattle.meaning.specs.Dialect.{type_of, option_type, attr_term, argument_moves, predicate_of}
 use Rattle.meaning.specs.Shape as S
-use Rattle.meaning.specs.Shape.{SameAction, SameRow, SameBlock, SameBlocks, SameShape, SameEdge, SameMove, IsFront}
+use Rattle.meaning.specs.Shape.{SameAction, SameRow, SameEdge, SameMove}
+use Rattle.meaning.specs.Woven.{WovenBlock, WovenShape}
+use Rattle.meaning.proofs.ConstantRows.{kept_rows, paired_rows}
 use Rattle.to_llvm_ir.specs.Order.{turn_of}
 use Rattle.to_llvm_ir.specs.Accepted.{IsAccepted}
-use Rattle.to_llvm_ir.specs.Exported.{number_after}
-use Rattle.to_llvm_ir.specs.Made.{Numbers, result, number_of, operand_for, instruction_for, inst, insts, phis, block_phis, block_made, function_made, entries, number_past}
+use Rattle.to_llvm_ir.specs.Exported.{result}
+use Rattle.to_llvm_ir.specs.Made.{Numbers, number_of, operand_for, instruction_for, inst, insts, phis, block_phis, block_made, function_made, entries, number_past, number_after}
 use Rattle.to_llvm_ir.specs.Links.{HasTarget}
-use Rattle.to_llvm_ir.proofs.ListLaws.{all_at, find_numbered, position_numbered, filter_all, filter_none}
+use Rattle.to_llvm_ir.proofs.ListLaws.{all_at, find_numbered, position_numbered}
 use Rattle.to_llvm_ir.proofs.TurnLaws.{argument_among, result_among, turn_at}
-use Rattle.to_llvm_ir.proofs.LookupLaws.{op_form, place_is, block_found, entry_at, first_is_entry}
+use Rattle.to_llvm_ir.proofs.LookupLaws.{op_form, place_is, block_found}
 use Rattle.to_llvm_ir.proofs.PlacedLaws.{operand_typed}
-use Rattle.to_llvm_ir.proofs.PlanLaws.{plan, is_plan, starts, value_at, rows, stands}
+use Rattle.to_llvm_ir.proofs.PlanLaws.{plan, is_plan, starts, unset, has_constant, value_at, stands}
 use Rattle.to_llvm_ir.proofs.EdgeLaws.{made_at, made_none, made_numbered, target_for, block_leads, edge_form, edge_target, first_entry}
 use Rattle.to_llvm_ir.proofs.PhiLaws.{no_phi}
 
@@ -257,45 +259,18 @@ module _ (g : Func) (form : IsFormFunc g) (n : Numbers) (order : IsOrder (length
 
     -- ---- blocks
 
-    front_of : (j : ℕ) (c : DialectBlock) → slice_get g.blocks j ≡ Some c → (front : List (Row Value)) × (map (dialect.row g) c.ops ≡ front ++ map (dialect.row g) (others_of c.ops)) × IsFront same_places (plan g form n order) j front
-    front_of zero c at =
-        let e = first_is_entry g form c at in
-        let h = form.constants in
-        let p : DialectOp → Bool = λ o. not (is_constant o) in
-        let others : others_of c.ops ≡ h.rest =
-        ap (λ (x : DialectBlock). others_of x.ops) e ∙ ap others_of h.are ∙ filter-append p h.hoisted h.rest
-        ∙ ap (λ (os : List DialectOp). os ++ others_of h.rest) (filter_none p h.hoisted (All-weaker (λ (o : DialectOp). is_constant o ≡ true) (λ (o : DialectOp). p o ≡ false) (λ o q. ap not q) h.hoisted h.constants))
-        ∙ filter_all p h.rest (All-weaker (λ (o : DialectOp). is_constant o ≡ false) (λ (o : DialectOp). p o ≡ true) (λ o q. ap not q) h.rest h.others) in (
-          rows g h.hoisted,
-          ap (λ (x : DialectBlock). map (dialect.row g) x.ops) e ∙ ap (map (dialect.row g)) h.are ∙ map-append (dialect.row g) h.hoisted h.rest ∙ ap (λ (os : List DialectOp). map (dialect.row g) h.hoisted ++ map (dialect.row g) os) (sym others),
-          refl,
-        )
-    front_of (suc j) c at =
-        let more : slice_get form.more j ≡ Some c = ap (λ (bs : List DialectBlock). slice_get bs (suc j)) (sym form.body) ∙ at in
-        let none = all_at (λ (b : DialectBlock). All (λ (o : DialectOp). is_constant o ≡ false) b.ops) form.more j c form.others more in
-        let p : DialectOp → Bool = λ o. not (is_constant o) in
-        let others : others_of c.ops ≡ c.ops = filter_all p c.ops (All-weaker (λ (o : DialectOp). is_constant o ≡ false) (λ (o : DialectOp). p o ≡ true) (λ o q. ap not q) c.ops none) in (
-          [],
-          ap (map (dialect.row g)) (sym others),
-          record { closed = tt; values = λ k w e. refl; hoisted = λ w e. refl },
-        )
-
-    block_pair : (j : ℕ) (c : DialectBlock) → slice_get g.blocks j ≡ Some c → SameBlock same_places (plan g form n order) (λ m. m) j (llvm.block d made (block_made g n (entries g n) (0 + j) (number_past 0 (take j g.blocks)) c)) (dialect.block g c)
+    block_pair : (j : ℕ) (c : DialectBlock) → slice_get g.blocks j ≡ Some c → WovenBlock same_places (plan g form n order) (λ m. m) (llvm.block d made (block_made g n (entries g n) (0 + j) (number_past 0 (take j g.blocks)) c)) (dialect.block g c)
     block_pair j c at =
         let k = number_past 0 (take j g.blocks) in
-        let front = front_of j c at in
         record {
-          front = front.0;
-          rest = map (dialect.row g) (others_of c.ops);
-          rows = front.1;
-          leads = front.2;
-          pairs = block_rows (0 + j) k j c at;
+          constants = kept_rows g (plan g form n order) c.ops (λ i o at'. has_constant g form n order j i c o at at');
+          pairs = subst (λ (rs : List (Row Value)). Matched (SameRow same_places (plan g form n order)) (filter_map row_for (block_made g n (entries g n) (0 + j) k c).instructions) rs) (sym (paired_rows g c.ops)) (block_rows (0 + j) k j c at);
           edges = subst (λ (ts : List ℕ). Matched (SameEdge same_places (plan g form n order) (λ m. m)) (map (llvm.edge d made (n.block + (0 + j))) ts) (map (dialect.edge g) (edges_of c))) (sym (block_leads g n form (entries g n) (0 + j) k j c at))
               (edges_match (SameEdge same_places (plan g form n order) (λ m. m)) (llvm.edge d made (n.block + (0 + j))) (target_for g n) (dialect.edge g) (edges_of c) (λ l s at'. edge_pair j l c s at at'));
         }
 
-    blocks_pair : (j : ℕ) (o : Option DialectBlock) → slice_get g.blocks j ≡ o
-        → BothOrNone (SameBlock same_places (plan g form n order) (λ m. m) j) (slice_get (map (llvm.block d made) made.blocks) j) (slice_get (map (dialect.block g) g.blocks) j)
+    pub blocks_pair : (j : ℕ) (o : Option DialectBlock) → slice_get g.blocks j ≡ o
+        → BothOrNone (WovenBlock same_places (plan g form n order) (λ m. m)) (slice_get (map (llvm.block d made) made.blocks) j) (slice_get (map (dialect.block g) g.blocks) j)
     blocks_pair j None e =
         let x : slice_get (map (llvm.block d made) made.blocks) j ≡ None = slice_get-map (llvm.block d made) made.blocks j ∙ ap (option_map (llvm.block d made)) (made_none g n (entries g n) 0 0 g.blocks j e) in
         let y : slice_get (map (dialect.block g) g.blocks) j ≡ None = slice_get-map (dialect.block g) g.blocks j ∙ ap (option_map (dialect.block g)) e in
@@ -303,17 +278,15 @@ module _ (g : Func) (form : IsFormFunc g) (n : Numbers) (order : IsOrder (length
     blocks_pair j (Some c) e =
         let x = slice_get-map (llvm.block d made) made.blocks j ∙ ap (option_map (llvm.block d made)) (made_at g n (entries g n) 0 0 g.blocks j c e) in
         let y = slice_get-map (dialect.block g) g.blocks j ∙ ap (option_map (dialect.block g)) e in
-        subst (λ (o : Option (MachineBlock Key)). BothOrNone (SameBlock same_places (plan g form n order) (λ m. m) j) o (slice_get (map (dialect.block g) g.blocks) j)) (sym x)
-        (subst (λ (o : Option (MachineBlock Value)). BothOrNone (SameBlock same_places (plan g form n order) (λ m. m) j) (Some (llvm.block d made (block_made g n (entries g n) (0 + j) (number_past 0 (take j g.blocks)) c))) o) (sym y) (block_pair j c e))
+        subst (λ (o : Option (MachineBlock Key)). BothOrNone (WovenBlock same_places (plan g form n order) (λ m. m)) o (slice_get (map (dialect.block g) g.blocks) j)) (sym x)
+        (subst (λ (o : Option (MachineBlock Value)). BothOrNone (WovenBlock same_places (plan g form n order) (λ m. m)) (Some (llvm.block d made (block_made g n (entries g n) (0 + j) (number_past 0 (take j g.blocks)) c))) o) (sym y) (block_pair j c e))
 
-    pub same_shape : SameShape same_places d made g
-    same_shape = record {
+    -- its plan is that of `PlanLaws`
+    abbrev pub shape : WovenShape same_places d made g
+    shape = record {
       plan = plan g form n order;
       is_plan = is_plan g form n order;
       starts = starts g form n order (entries g n);
-      same = record {
-        entry = (llvm.block d made (block_made g n (entries g n) (0 + 0) (number_past 0 (take 0 g.blocks)) form.entry), slice_get-map (llvm.block d made) made.blocks 0 ∙ ap (option_map (llvm.block d made)) (made_at g n (entries g n) 0 0 g.blocks 0 form.entry (entry_at g form)));
-        first = refl;
-        blocks = λ j. blocks_pair j (slice_get g.blocks j) refl;
-      };
+      unset = unset g form n order;
+      same = record { first = refl; blocks = λ j. blocks_pair j (slice_get g.blocks j) refl };
     }

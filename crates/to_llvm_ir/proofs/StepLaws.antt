@@ -30,8 +30,8 @@ use Rattle.dialect_core.specs.Form.{IsFormFunc, is_constant, others_of}
 use Rattle.meaning.specs.Dialect.{type_of, option_type}
 use Rattle.to_llvm_ir.specs.declared.values.Values.{Values}
 use Rattle.to_llvm_ir.specs.Order.{turn_of}
-use Rattle.to_llvm_ir.specs.Exported.{result_name, number_after, number_behind}
-use Rattle.to_llvm_ir.specs.Made.{Numbers, result, arguments_of, phi_values, result_values, values_by, number_of, inst, insts, block_phis, function_with, no_entries}
+use Rattle.to_llvm_ir.specs.Exported.{result_name, result, arguments_of, phi_values}
+use Rattle.to_llvm_ir.specs.Made.{Numbers, result_values, values_by, number_of, inst, insts, block_phis, function_with, no_entries, number_after, number_behind}
 use Rattle.to_llvm_ir.specs.Growth.{Grows, IsTypeOf, HasType}
 use Rattle.to_llvm_ir.specs.States.{found, AreKnown, Spot, IsNext, IsMade, IsBehindSpot, blocks_within, seen_to, values_to, turn, first_at}
 use Rattle.to_llvm_ir.proofs.ListLaws.{take_suc, split_at, at_middle}

@@ -18,7 +18,8 @@ use Rattle.dialect_core.specs.declared.ops.Value.TheVariants.{Argument}
 use Rattle.dialect_core.specs.Data.{DialectOp, DialectBlock, Func}
 use Rattle.dialect_core.specs.Form.{IsFormFunc, is_constant, others_of}
 use Rattle.to_llvm_ir.specs.Order.{turn_of}
-use Rattle.to_llvm_ir.specs.Made.{result, phi_values, result_values, values_from, values, block_values, values_by}
+use Rattle.to_llvm_ir.specs.Exported.{result, phi_values}
+use Rattle.to_llvm_ir.specs.Made.{result_values, values_from, values, block_values, values_by}
 use Rattle.to_llvm_ir.proofs.ListLaws.{AreNumbered, numbered_rest, find_numbered, found_numbered, filter_none, all_at, all_from, at_contains, item_there, at_behind, append_cases, split_at, distinct_nil, distinct_append, distinct_rest}
 use Rattle.to_llvm_ir.proofs.PlaceLaws.{argument_at, from_distinct}
 use Rattle.to_llvm_ir.proofs.LookupLaws.{other_at}

@@ -1,7 +1,7 @@
 -- What an export has made: an LLVM module whose functions stand for those of a dialect module.
-use Rattle.std.specs.Prelude.{ℕ, zero, suc, ◌≡◌, ◌<◌, ◌+◌, ◌^◌, nat_eq, if◌then◌else◌, List, [], ◌∷◌, ◌++◌, Option, Some, None, All, IfSome, Contains, length, map, filter, slice_get, unwrap_or, codes}
+use Rattle.std.specs.Prelude.{ℕ, zero, suc, ◌≡◌, ◌<◌, ◌^◌, false, nat_eq, if◌then◌else◌, List, [], ◌∷◌, ◌++◌, Option, Some, None, All, IfSome, Contains, length, map, filter, slice_get, unwrap_or, codes}
 use Rattle.std.specs.Option.{option_map_or}
-use Rattle.std.specs.List.{find, filter_map, flat_map}
+use Rattle.std.specs.List.{filter_map, flat_map}
 use Rattle.std.specs.Fmt.{decimal}
 use Rattle.llvm_core.specs.Module.{Module}
 use Rattle.llvm_core.specs.Interned.{IsDistinctList}
@@ -15,11 +15,16 @@ use Rattle.dialect_core.specs.declared.ops.Value.TheVariants.{Result, Argument}
 use Rattle.dialect_core.specs.declared.ops.Successor.{Successor}
 use Rattle.dialect_core.specs.declared.ops.BlockData.{BlockData}
 use Rattle.dialect_core.specs.ContextData.{ContextData}
-use Rattle.dialect_core.specs.Data.{DialectModule, DialectBlock, DialectOp, Func, ops_in}
-use Rattle.dialect_core.specs.Form.{is_constant, uses_of, edges_of, HasTargets}
+use Rattle.dialect_core.specs.Data.{DialectModule, DialectBlock, DialectOp, Func, name_at}
+use Rattle.dialect_core.specs.Form.{others_of, uses_of, edges_of, FitsTarget, HasEqualEdges, HasTargets, HasOnlyEntryConstants}
 use Rattle.meaning.specs.Pairs.{Matched, BothOrNone}
-use Rattle.meaning.specs.Dialect.{type_of}
-use Rattle.meaning.specs.Shape.{SameShape}
+use Rattle.meaning.specs.Code.{rename_symbol}
+use Rattle.meaning.specs.Llvm as Llvm
+use Rattle.meaning.specs.Dialect as Dialect
+use Rattle.meaning.specs.Dialect.{type_of, same_value}
+use Rattle.meaning.specs.Llvm.{ResultKey}
+use Rattle.meaning.specs.Shape.{Plan}
+use Rattle.meaning.specs.Woven.{WovenShape, SetsConstantsFirst, SameTrace, func_reads_unset}
 use Rattle.meaning.specs.Examples.{same_places}
 use Rattle.to_llvm_ir.specs.declared.to_llvm_err.ToLLVMErr.{ToLLVMErr}
 use Rattle.to_llvm_ir.specs.declared.to_llvm_err.ToLLVMErr.TheVariants as E
@@ -37,50 +42,60 @@ abbrev pub value_name : Option (List ℕ) → ℕ → List ℕ
 value_name (Some name) k = name ++ codes "_v" ++ decimal k
 value_name None k = codes "v" ++ decimal k
 
--- the name of what an operation becomes, by its given name; none without a result
+-- the name of what an operation becomes, by its given name and the number of its result; none without a result
 abbrev pub result_name : Option (List ℕ) → Option TypeTree → ℕ → List ℕ
 result_name name (Some type) k = value_name name k
 result_name name None k = []
 
--- values are numbered in order, so an operation with a result counts
-abbrev pub number_after : Option TypeTree → ℕ → ℕ
-number_after (Some type) k = k + 1
-number_after None k = k
+-- the result of an operation that has one
+abbrev pub result : DialectOp → Value
+result o = Result (record { 0 = o.number })
 
--- the names of the instructions of a block, whose values from here on are numbered from k; a constant has a
--- number, but becomes no instruction
-abbrev pub instruction_names : ℕ → List DialectOp → List (List ℕ)
-instruction_names k [] = []
-instruction_names k (o ∷ os) =
-    if is_constant o then instruction_names (number_after o.result k) os
-    else result_name o.name o.result k ∷ instruction_names (number_after o.result k) os
+abbrev pub results_of : DialectOp → List Value
+results_of o = option_map_or (λ (type : TypeTree). result o ∷ []) o.result []
 
--- the number of the value behind those operations, where they begin with the number k
-abbrev pub number_behind : ℕ → List DialectOp → ℕ
-number_behind k [] = k
-number_behind k (o ∷ os) = number_behind (number_after o.result k) os
+-- the first arguments of the block of a number, from a place on
+abbrev pub arguments_from : (block place : ℕ) → List TypeTree → List Value
+arguments_from b i [] = []
+arguments_from b i (t ∷ ts) = Argument (record { 0 = b }) i ∷ arguments_from b (suc i) ts
 
--- the names of the phis that arguments become, whose values are numbered from k
-abbrev pub phi_names : ℕ → List TypeTree → List (List ℕ)
-phi_names k [] = []
-phi_names k (t ∷ ts) = value_name None k ∷ phi_names (k + 1) ts
+abbrev pub arguments_of : DialectBlock → List Value
+arguments_of c = arguments_from c.number 0 c.args
 
--- the entry has no phis: its arguments are the parameters, and have numbers but no names
-abbrev pub argument_names : (place k : ℕ) → List TypeTree → List (List ℕ)
-argument_names zero k types = []
-argument_names (suc n) k types = phi_names k types
+-- the values of a block: its arguments, and then the results of its operations, those of constants too
+abbrev pub values_of : DialectBlock → List Value
+values_of c = arguments_of c ++ flat_map results_of c.ops
 
--- the names of a block, whose values are numbered from k
-pub record HasNames (place k : ℕ) (c : DialectBlock) (b : L.Block) : Type 0 where
+-- the values of a function, the blocks in order
+abbrev pub values_in : Func → List Value
+values_in g = flat_map values_of g.blocks
+
+-- the place of a value in a list, the length where it is not in it
+abbrev pub place_in : Value → List Value → ℕ
+place_in v [] = 0
+place_in v (x ∷ xs) = if same_value x v then 0 else suc (place_in v xs)
+
+-- the number of a value of a function is its place among them
+abbrev pub value_number : Func → Value → ℕ
+value_number g v = place_in v (values_in g)
+
+-- the values that become phis: the arguments of a block, but not those of the entry, which are the parameters
+abbrev pub phi_values : (place : ℕ) → DialectBlock → List Value
+phi_values zero c = []
+phi_values (suc n) c = arguments_of c
+
+-- the name of the phi that an argument becomes, and of the instruction that an operation becomes
+abbrev pub phi_name : Func → Value → List ℕ
+phi_name g v = value_name None (value_number g v)
+
+abbrev pub operation_name : Func → DialectOp → List ℕ
+operation_name g o = result_name o.name o.result (value_number g (result o))
+
+-- the names of the block at a place: its own, those of its phis, and those of what its operations but the constants
+-- become, in order
+pub record HasNames (g : Func) (place : ℕ) (c : DialectBlock) (b : L.Block) : Type 0 where
   pub label : b.name ≡ block_name c.label place
-  pub names : map (λ (p : Placed). p.name) b.instructions ≡ argument_names place k c.args ++ instruction_names (k + length c.args) c.ops
-
--- the names of the blocks from a place on: values are numbered over the blocks in order, of each its arguments and
--- then its results
-abbrev pub AreNamed : (place k : ℕ) → List DialectBlock → List L.Block → Type 0
-AreNamed place k [] [] = Unit {0}
-AreNamed place k (c ∷ cs) (b ∷ bs) = HasNames place k c b × AreNamed (suc place) (number_behind (k + length c.args) c.ops) cs bs
-AreNamed place k _ _ = ⊥
+  pub names : map (λ (p : Placed). p.name) b.instructions ≡ map (phi_name g) (phi_values place c) ++ map (operation_name g) (others_of c.ops)
 
 -- ---- phis
 
@@ -111,26 +126,50 @@ pub record HasPhis (order : List ℕ) (f : L.Function) (place : ℕ) (c : Dialec
   pub first : HasPhisFirst b.instructions
   pub entries : All (λ (p : Placed). IfSome (phi_entries p.instruction) (HasEdges order f b.number)) b.instructions
 
+-- under a plan the phis of a block stand for the arguments of the dialect's block, in order
+abbrev pub StandForArguments : Plan → DialectBlock → L.Block → Type 0
+StandForArguments plan c b = (i : ℕ) (p : Placed) → slice_get (filter is_phi b.instructions) i ≡ Some p → plan.value (ResultKey p.number) ≡ Some (Argument (record { 0 = c.number }) i)
+
 -- ---- functions and modules
 
--- the function f of the module d stands for the function g of the dialect
+-- Nothing of the function is to be refused, its blocks taken in an order: each value stands before its uses, each edge
+-- leads to a block of the function with a value for each argument, and two edges of a block that lead to one block
+-- pass the same values. So no cause of a refusal but want of memory holds of it.
+pub record HasNoCause (order : List ℕ) (g : Func) : Type 0 where
+  pub uses : (j k : ℕ) (c : DialectBlock) (o : DialectOp) → slice_get g.blocks j ≡ Some c → slice_get c.ops k ≡ Some o → All (StandsBeforeIn order g j k) (uses_of o)
+  pub targets : (j : ℕ) (c : DialectBlock) → slice_get g.blocks j ≡ Some c → All (FitsTarget g) (edges_of c)
+  pub equal : (j : ℕ) (c : DialectBlock) → slice_get g.blocks j ≡ Some c → HasEqualEdges c
+
+-- the function f of the module d stands for the function g of the dialect, whose constants stand at any places
 pub record ExportedFunction (d : L.ModuleData) (g : Func) (f : L.Function) : Type 0 where
   pub name : f.name ≡ g.name
   pub type : f.type ≡ type_of g.type
   pub space : f.space ≡ 0
-  pub shape : SameShape same_places d f g
+  pub shape : WovenShape same_places d f g
+  -- where all constants stand in the first block, it sets them before what reads them
+  pub sets : HasOnlyEntryConstants g → SetsConstantsFirst shape.plan (map (Dialect.block g) g.blocks)
   -- parameters have no names
   pub params : All (λ (n : List ℕ). n ≡ []) f.params
-  pub names : AreNamed 0 0 g.blocks f.blocks
+  pub names : (place : ℕ) → BothOrNone (HasNames g place) (slice_get g.blocks place) (slice_get f.blocks place)
   -- the order in which its blocks were taken
   pub order : List ℕ
   pub is_order : IsExportOrder g order
+  pub taken : HasNoCause order g
   -- whether an edge leads to the block or not
   pub phis : (place : ℕ) → BothOrNone (HasPhis order f place) (slice_get g.blocks place) (slice_get f.blocks place)
+  pub arguments : (place : ℕ) → BothOrNone (StandForArguments shape.plan) (slice_get g.blocks place) (slice_get f.blocks place)
   pub locals : IsDistinctList (local_names f)
   pub few : IsFewIn f
   -- where each block with arguments is an edge's target, each phi has an edge
   pub form : HasTargets g → IsFormFunction f
+
+-- The function f of the module d has the traces of the function g of the dialect: for every list of choices where all
+-- constants of g stand in its first block, and else for every list whose run of g reads no unset value. For a constant
+-- of another block may be read in a run that never sets it, and f has it written in place. And f is the same symbol.
+pub record HasTraces (d : L.ModuleData) (g : Func) (f : L.Function) : Type 0 where
+  pub symbol : rename_symbol same_places (Llvm.entry d f).symbol ≡ (Dialect.entry g).symbol
+  pub first : HasOnlyEntryConstants g → (choices : List ℕ) → SameTrace same_places d f g choices
+  pub set : (choices : List ℕ) → func_reads_unset g choices ≡ false → SameTrace same_places d f g choices
 
 -- the module back has a function for each of the dialect's, in order, and its name
 pub record IsExported (d : DialectModule) (back : Module) : Type 0 where
@@ -149,13 +188,14 @@ pub record HasBlockAt (d : DialectModule) : Type 0 where
   pub is : DialectBlock
   pub there : slice_get function.blocks block ≡ Some is
 
--- the given name of what defines a value, empty where it has none
-abbrev pub name_of : Func → Value → List ℕ
-name_of g (Result r) = option_map_or (λ (o : DialectOp). unwrap_or o.name []) (find (λ (o : DialectOp). nat_eq o.number r.0) (ops_in g)) []
-name_of g (Argument b i) = []
+-- the given name that the context has of what defines a value, in whichever function it stands; empty where it has none
+abbrev pub given_name : ContextData → Value → List ℕ
+given_name c (Result r) = name_at c.ops r.0
+given_name c (Argument b i) = []
 
--- a value of that name is used where it does not stand before, the blocks taken in the order of the export
-pub record IsEarlyUse (d : DialectModule) (name : List ℕ) : Type 0 where
+-- a value of that name is used where it does not stand before, the blocks taken in the order of the export; one of
+-- another function stands before nothing
+pub record IsEarlyUse (c : ContextData) (d : DialectModule) (name : List ℕ) : Type 0 where
   pub block : HasBlockAt d
   pub place : ℕ
   pub op : DialectOp
@@ -165,7 +205,7 @@ pub record IsEarlyUse (d : DialectModule) (name : List ℕ) : Type 0 where
   pub order : List ℕ
   pub is_order : IsExportOrder block.function order
   pub early : ¬ StandsBeforeIn order block.function block.block place value
-  pub named : name ≡ name_of block.function value
+  pub named : name ≡ given_name c value
 
 -- an edge of the module's, from a block
 pub record HasEdge (d : DialectModule) : Type 0 where
@@ -208,7 +248,7 @@ pub record HasOtherEdge (d : DialectModule) (p t : ℕ) : Type 0 where
 
 -- why an export refuses a module whose data are d; want of memory needs no reason
 abbrev pub IsCause : ContextData → DialectModule → ToLLVMErr → Type 0
-IsCause c d (E.UndefinedValue name) = IsEarlyUse d name
+IsCause c d (E.UndefinedValue name) = IsEarlyUse c d name
 IsCause c d (E.UndefinedBlock label) = LeadsOutside c d label
 IsCause c d E.NumBlockArgsNumPhisMismatch = IsMismatched d
 IsCause c d (E.EdgeArgsDiffer p t) = HasOtherEdge d p t

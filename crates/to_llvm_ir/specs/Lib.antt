@@ -13,3 +13,4 @@ pub mod Bodies
 pub mod Links
 pub mod Functions
 pub mod Narrow
+pub mod Own

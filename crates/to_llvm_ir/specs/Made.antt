@@ -13,8 +13,8 @@ use Rattle.dialect_core.specs.declared.ops.Successor.{Successor}
 use Rattle.dialect_core.specs.declared.overflow.IntegerOverflowFlagsAttr.{IntegerOverflowFlagsAttr}
 use Rattle.dialect_core.specs.Data.{DialectOp, DialectBlock, Func, Kind, ConstantOp, AddOp, ICmpOp, BrOp, CondBrOp, ReturnOp, UnreachableOp, ops_in}
 use Rattle.dialect_core.specs.Form.{is_constant, others_of, edges_of}
-use Rattle.meaning.specs.Dialect.{type_of, option_type, same_value, place_of, predicate_of}
-use Rattle.to_llvm_ir.specs.Exported.{block_name, value_name, result_name, number_after, number_behind}
+use Rattle.meaning.specs.Dialect.{type_of, option_type, place_of, predicate_of}
+use Rattle.to_llvm_ir.specs.Exported.{block_name, value_name, result_name, result, phi_values, place_in}
 
 -- the number of the function, of its first block and of its first instruction: further blocks count on, and further
 -- instructions count on over the blocks in the order of their places
@@ -24,23 +24,19 @@ pub record Numbers : Type 0 where
   pub inst : ℕ
   pub order : List ℕ
 
+-- ---- the numbers of values, counted
+
+-- values are numbered in order, so an operation with a result counts
+abbrev pub number_after : Option TypeTree → ℕ → ℕ
+number_after (Some type) k = k + 1
+number_after None k = k
+
+-- the number of the value behind those operations, where they begin with the number k
+abbrev pub number_behind : ℕ → List DialectOp → ℕ
+number_behind k [] = k
+number_behind k (o ∷ os) = number_behind (number_after o.result k) os
+
 -- ---- values that become instructions
-
-abbrev pub result : DialectOp → Value
-result o = Result (record { 0 = o.number })
-
--- the first arguments of the block of a number, from a place on
-abbrev pub arguments_from : (block place : ℕ) → List TypeTree → List Value
-arguments_from b i [] = []
-arguments_from b i (t ∷ ts) = Argument (record { 0 = b }) i ∷ arguments_from b (suc i) ts
-
-abbrev pub arguments_of : DialectBlock → List Value
-arguments_of c = arguments_from c.number 0 c.args
-
--- the entry has no phis
-abbrev pub phi_values : (place : ℕ) → DialectBlock → List Value
-phi_values zero c = []
-phi_values (suc n) c = arguments_of c
 
 -- of each operation but a constant, whether it has a result or not
 abbrev pub result_values : List DialectOp → List Value
@@ -60,11 +56,6 @@ block_values g p = option_map_or (λ (c : DialectBlock). phi_values p c ++ resul
 -- the values in the order in which they become instructions
 abbrev pub values_by : List ℕ → Func → List Value
 values_by order g = flat_map (block_values g) order
-
--- the place of a value in a list, the length where it is not in it
-abbrev pub place_in : Value → List Value → ℕ
-place_in v [] = 0
-place_in v (x ∷ xs) = if same_value x v then 0 else suc (place_in v xs)
 
 -- ---- operands
 

@@ -1,5 +1,5 @@
 -- How the order of an export is found: which values stand before, and where edges lead.
-use Rattle.std.specs.Prelude.{◌≡◌, ◌++◌, ℕ, Bool, true, List, Option, Some, All, length, map, take, slice_get}
+use Rattle.std.specs.Prelude.{◌≡◌, ◌<◌, ◌++◌, ℕ, Bool, true, List, Option, Some, All, length, map, take, slice_get}
 use Rattle.std.specs.List.{filter_map}
 use Rattle.std.specs.HashMap.{get}
 use Rattle.std.specs.HashSet.{contains}
@@ -11,11 +11,11 @@ use Rattle.dialect_core.specs.contracts.ops.ValuePartialEq.TheImpl as keys
 use Rattle.dialect_core.specs.contracts.numbers.BlockRefPartialEq.TheImpl as block_keys
 use Rattle.dialect_core.specs.ContextData.{ContextData}
 use Rattle.dialect_core.specs.Data.{DialectOp, DialectBlock, Func, op_at, block_in}
-use Rattle.dialect_core.specs.Form.{IsFormFunc, uses_of}
+use Rattle.dialect_core.specs.Form.{uses_of}
 use Rattle.to_llvm_ir.specs.declared.order.Seen.{Seen}
 use Rattle.to_llvm_ir.specs.declared.graph.Places.{Places}
 use Rattle.to_llvm_ir.specs.Order.{block_place}
-use Rattle.to_llvm_ir.specs.Made.{result}
+use Rattle.to_llvm_ir.specs.Exported.{result}
 use Rattle.to_llvm_ir.specs.States.{Has}
 
 -- the operations among numbers of the context, in order
@@ -27,9 +27,10 @@ pub record IsBlockOf (c : ContextData) (g : Func) (j : ℕ) (block : DialectBloc
   pub here : slice_get g.blocks j ≡ Some block
   pub is : block_in (type_trees c.types) c b ≡ Some block
 
--- the blocks of a function of the form, by their numbers
+-- the blocks of a function, by their numbers: there is one, and no two have one number
 pub record AreBlocksOf (c : ContextData) (g : Func) (bs : List BlockRef) : Type 0 where
-  pub form : IsFormFunc g
+  pub some : 0 < length g.blocks
+  pub apart : (i j : ℕ) (a b : DialectBlock) → slice_get g.blocks i ≡ Some a → slice_get g.blocks j ≡ Some b → a.number ≡ b.number → i ≡ j
   pub count : length bs ≡ length g.blocks
   pub each : (i : ℕ) (b : BlockRef) → slice_get bs i ≡ Some b → (block : DialectBlock) × IsBlockOf c g i block b
 

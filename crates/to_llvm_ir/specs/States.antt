@@ -29,8 +29,8 @@ use Rattle.to_llvm_ir.specs.declared.values.Values.{Values}
 use Rattle.to_llvm_ir.specs.declared.blocks.Blocks.{Blocks}
 use Rattle.to_llvm_ir.specs.declared.blocks.Target.{Target}
 use Rattle.to_llvm_ir.specs.Order.{IsTaken, StandsBeforeIn, arranged, turn_of}
-use Rattle.to_llvm_ir.specs.Exported.{number_behind}
-use Rattle.to_llvm_ir.specs.Made.{Numbers, result, arguments_of, phi_values, result_values, values_by, operand_for, block_for, instruction_for, insts, block_phis, block_made, blocks_made, blocks_with, function_with, no_entries, number_past}
+use Rattle.to_llvm_ir.specs.Exported.{result, arguments_of, phi_values}
+use Rattle.to_llvm_ir.specs.Made.{Numbers, result_values, values_by, operand_for, block_for, instruction_for, insts, block_phis, block_made, blocks_made, blocks_with, function_with, no_entries, number_past, number_behind}
 use Rattle.to_llvm_ir.specs.Accepted.{IsAcceptedOp}
 use Rattle.to_llvm_ir.specs.Growth.{HasType}
 

@@ -4,6 +4,7 @@
 pub mod arguments;
 pub mod blocks;
 pub mod bodies;
+pub mod conversion_context;
 pub mod edges;
 pub mod exporting;
 pub mod graph;
@@ -15,6 +16,7 @@ pub mod numbers;
 pub mod opening;
 pub mod operations;
 pub mod order;
+pub mod own;
 pub mod predicates;
 pub mod readable;
 pub mod to_llvm_err;

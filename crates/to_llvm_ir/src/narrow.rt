@@ -8,13 +8,12 @@ ghost use Rattle.dialect_core.specs.ContextData.{IsSymbol, kind_at};
 ghost use Rattle.dialect_core.specs.Data.{IsTyped, held};
 ghost use Rattle.dialect_core.specs.WellFormed.{IsPlainAt, IsNarrowFunc};
 ghost use Rattle.dialect_core.specs.Checking.{func_at};
-ghost use Rattle.to_llvm_ir.specs.Narrow.{IsNarrowAt, IsNarrowLine, AreNarrowLines, IsNarrowBlockAt, HasNoConstant, AreNarrowBlocks, IsNarrowHead, AreNarrowFuncs, is_constant_at, is_constant_next};
+ghost use Rattle.to_llvm_ir.specs.Narrow.{IsNarrowAt, AreNarrowOps, IsNarrowBlockAt, AreNarrowBlocks, IsNarrowHead, AreNarrowFuncs};
 
 use crate::narrow_types::{all_short, is_narrow_signature, is_plain, is_short};
 use dialect_core::context::Context;
 use dialect_core::linkage::LinkageAttr;
 use dialect_core::numbers::{BlockRef, OpRef};
-use dialect_core::ops::OpKind;
 
 /// The operation after another in a block. What is left of the block's list from the one is it and what is left from
 /// the other.
@@ -40,28 +39,6 @@ fn first_in_block(ctx: &Context, block: BlockRef) -> Option<OpRef>
     ctx.first_op(block)
 }
 
-/// Whether an operation is a constant.
-fn is_constant(ctx: &Context, op: OpRef) -> bool
-    requires { op.0 < length ctx.now.ops }
-    ensures { result ≡ is_constant_at ctx.now op }
-{
-    match ctx.op_kind(op) {
-        OpKind::Constant(..) => true,
-        _ => false,
-    }
-}
-
-/// Whether there is an operation and it is a constant.
-fn is_next_constant(ctx: &Context, next: Option<OpRef>) -> bool
-    requires { IfSome next (λ o. o.0 < length ctx.now.ops) }
-    ensures { result ≡ is_constant_next ctx.now next }
-{
-    match next {
-        Some(op) => is_constant(ctx, op),
-        None => false,
-    }
-}
-
 /// Whether the result of an operation, where it has one, is of 1 to 64 bits, and its name is plain.
 fn is_narrow_op(ctx: &Context, op: OpRef) -> bool
     requires op { op.0 < length ctx.now.ops }
@@ -74,29 +51,16 @@ fn is_narrow_op(ctx: &Context, op: OpRef) -> bool
     }
 }
 
-/// Whether an operation is narrow, and is a constant where the next is one.
-fn is_narrow_line(ctx: &Context, op: OpRef, next: Option<OpRef>) -> bool
-    requires op { op.0 < length ctx.now.ops }
-    requires next { IfSome next (λ o. o.0 < length ctx.now.ops) }
-    requires typed { IsTyped ctx.now }
-    ensures { IsTrue result ↔ IsNarrowLine ctx.now op next }
-{
-    if is_next_constant(ctx, next) && !is_constant(ctx, op) {
-        return false;
-    }
-    is_narrow_op(ctx, op)
-}
-
-/// Whether the operations of a block are narrow, its constants first.
-fn are_narrow_lines(ctx: &Context, block: BlockRef) -> bool
+/// Whether the operations of a block are narrow.
+fn are_narrow_ops(ctx: &Context, block: BlockRef) -> bool
     requires block { block.0 < length ctx.now.blocks }
     requires typed { IsTyped ctx.now }
-    ensures { IsTrue result ↔ AreNarrowLines ctx.now (list_at ctx.now.lists block) }
+    ensures { IsTrue result ↔ AreNarrowOps ctx.now (list_at ctx.now.lists block) }
 {
     let mut next = first_in_block(ctx, block);
     while let Some(op) = next {
         let after = next_in_block(ctx, block, op);
-        if !is_narrow_line(ctx, op, after) {
+        if !is_narrow_op(ctx, op) {
             return false;
         }
         next = after;
@@ -104,7 +68,7 @@ fn are_narrow_lines(ctx: &Context, block: BlockRef) -> bool
     true
 }
 
-/// Whether a block is narrow, its constants first.
+/// Whether a block is narrow.
 fn is_narrow_block(ctx: &Context, block: BlockRef) -> bool
     requires block { block.0 < length ctx.now.blocks }
     requires typed { IsTyped ctx.now }
@@ -116,18 +80,10 @@ fn is_narrow_block(ctx: &Context, block: BlockRef) -> bool
     if !all_short(ctx.types(), ctx.block_args(block)) {
         return false;
     }
-    are_narrow_lines(ctx, block)
+    are_narrow_ops(ctx, block)
 }
 
-/// Whether a block begins with no constant.
-fn has_no_constant(ctx: &Context, block: BlockRef) -> bool
-    requires { block.0 < length ctx.now.blocks }
-    ensures { IsTrue result ↔ HasNoConstant ctx.now block }
-{
-    !is_next_constant(ctx, first_in_block(ctx, block))
-}
-
-/// Whether blocks are narrow, the constants of each first.
+/// Whether blocks are narrow.
 fn all_narrow(ctx: &Context, blocks: &[BlockRef]) -> bool
     requires blocks { All (λ b. b.0 < length ctx.now.blocks) blocks.now }
     requires typed { IsTyped ctx.now }
@@ -141,29 +97,16 @@ fn all_narrow(ctx: &Context, blocks: &[BlockRef]) -> bool
     true
 }
 
-/// Whether no block of these begins with a constant.
-fn have_no_constants(ctx: &Context, blocks: &[BlockRef]) -> bool
-    requires { All (λ b. b.0 < length ctx.now.blocks) blocks.now }
-    ensures { IsTrue result ↔ All (HasNoConstant ctx.now) blocks.now }
-{
-    for block in blocks {
-        if !has_no_constant(ctx, *block) {
-            return false;
-        }
-    }
-    true
-}
-
-/// Whether blocks are those of a narrow function: there is a first, and it alone has constants, which come first.
+/// Whether blocks are those of a narrow function: there is one at least.
 fn are_narrow_blocks(ctx: &Context, blocks: &[BlockRef]) -> bool
     requires blocks { All (λ b. b.0 < length ctx.now.blocks) blocks.now }
     requires typed { IsTyped ctx.now }
     ensures { IsTrue result ↔ AreNarrowBlocks ctx.now blocks.now }
 {
-    let [_, more @ ..] = blocks else {
+    if blocks.is_empty() {
         return false;
-    };
-    all_narrow(ctx, blocks) && have_no_constants(ctx, more)
+    }
+    all_narrow(ctx, blocks)
 }
 
 /// Whether a linkage is external.

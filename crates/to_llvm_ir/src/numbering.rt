@@ -2,7 +2,7 @@
 
 ghost use Rattle.std.specs.Prelude.{◌≡◌, ◌<◌, ◌+◌, ◌∷◌, [], ℕ, IfOk, Some, All, length, slice_get};
 ghost use Rattle.dialect_core.specs.Data.{DialectBlock, Func};
-ghost use Rattle.to_llvm_ir.specs.Exported.{number_behind};
+ghost use Rattle.to_llvm_ir.specs.Made.{number_behind};
 ghost use Rattle.to_llvm_ir.specs.States.{first_at};
 ghost use Rattle.to_llvm_ir.specs.Ordering.{AreBlocksOf, ops_of};
 

@@ -12,9 +12,9 @@ ghost use Rattle.dialect_core.specs.declared.ops.OpKind.TheVariants as kinds;
 ghost use Rattle.dialect_core.specs.ContextData.{kind_at, IsValueWithin, IsSuccessorWithin};
 ghost use Rattle.dialect_core.specs.Data.{DialectBlock, DialectOp, IsTyped, op_at, name_at};
 ghost use Rattle.dialect_core.specs.Form.{is_constant};
-ghost use Rattle.to_llvm_ir.specs.Exported.{result_name};
+ghost use Rattle.to_llvm_ir.specs.Exported.{result_name, given_name};
 ghost use Rattle.to_llvm_ir.specs.Accepted.{IsAcceptedOp};
-ghost use Rattle.to_llvm_ir.specs.Causes.{IsFuncCause, given_name};
+ghost use Rattle.to_llvm_ir.specs.Causes.{IsFuncCause};
 ghost use Rattle.to_llvm_ir.specs.States.{Task, Spot, IsSpot, IsNext, IsUsed, IsUse, IsLead, IsMade, IsBegun, IsAtOp, IsBehindSpot, AreAllMapped, found};
 
 use crate::blocks::{Blocks, find_target};
@@ -61,7 +61,7 @@ pub fn is_block_op(ctx: &Context, op: OpRef) -> bool
 }
 
 /// The given name of a value, empty where it has none.
-fn given_name(alloc: Global, ctx: &Context, value: Value) -> Result<Text, AllocError>
+pub fn given_name(alloc: Global, ctx: &Context, value: Value) -> Result<Text, AllocError>
     requires { IsValueWithin (length ctx.now.ops) (length ctx.now.blocks) value }
     ensures { IfOk result (λ name. name ≡ given_name ctx.now value) }
 {

@@ -7,7 +7,7 @@ ghost use Rattle.dialect_core.specs.Data.{DialectBlock, DialectOp, Func, op_at, 
 ghost use Rattle.dialect_core.specs.Form.{IsInOrder, uses_of};
 ghost use Rattle.meaning.specs.Dialect.{same_value};
 ghost use Rattle.to_llvm_ir.specs.Order.{IsTaken};
-ghost use Rattle.to_llvm_ir.specs.Made.{arguments_of, result as value_of};
+ghost use Rattle.to_llvm_ir.specs.Exported.{arguments_of, result as value_of};
 ghost use Rattle.to_llvm_ir.specs.States.{all_values};
 ghost use Rattle.to_llvm_ir.specs.Ordering.{AreBlocksOf, AreSeen, HasUsesAmong, is_seen, ops_of};
 

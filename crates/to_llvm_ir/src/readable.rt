@@ -1,4 +1,4 @@
-//! Whether a module can be exported.
+//! Whether a module is one that an export reads.
 
 ghost use Rattle.std.specs.Prelude.{◌<◌, ◌↔◌, IsTrue, length};
 ghost use Rattle.dialect_core.specs.Data.{IsTyped};
@@ -9,8 +9,8 @@ use crate::narrow::are_narrow_funcs;
 use dialect_core::context::Context;
 use dialect_core::numbers::ModuleOp;
 
-/// Whether an export takes a module: it is well-formed, and each of its functions has the form that is translated
-/// today. This takes no memory.
+/// Whether a module is well-formed, and each of its functions has the form that is translated today, so that an export
+/// reads it. This takes no memory.
 pub fn is_readable(ctx: &Context, root: ModuleOp) -> bool
     requires there { root.0.0 < length ctx.now.ops }
     requires typed { IsTyped ctx.now }

@@ -23,7 +23,7 @@ pub enum ToLLVMErr {
     /// Two edges from the block at the first place to the block at the second pass different values.
     #[error("EdgeArgsDiffer")]
     EdgeArgsDiffer(u32, u32),
-    /// Memory is not enough, or a list would have 2^31 entries.
+    /// Memory is not enough, or a list has 2^30 items or more.
     #[error("NoMemory")]
     NoMemory,
 }

@@ -1,4 +1,5 @@
 -- The lemmas of the crate.
+pub mod ModuleLaws
 pub mod NodeLaws
 pub mod TableLaws
 pub mod RunLaws

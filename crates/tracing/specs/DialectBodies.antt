@@ -1,11 +1,11 @@
 -- What the body of a function of the dialect is made of.
-use Rattle.std.specs.Prelude.{◌≡◌, List, Some, map}
+use Rattle.std.specs.Prelude.{◌≡◌, ℕ, List, Some, map, slice_get}
 use Rattle.dialect_types.specs.Trees.{TypeTree, type_trees}
 use Rattle.dialect_core.specs.declared.numbers.OpRef.{OpRef}
 use Rattle.dialect_core.specs.declared.ops.Value.{Value}
 use Rattle.dialect_core.specs.declared.ops.Value.TheVariants as V
 use Rattle.dialect_core.specs.ContextData.{ContextData}
-use Rattle.dialect_core.specs.Data.{DialectOp, Func, IsTyped, func_in, op_at}
+use Rattle.dialect_core.specs.Data.{DialectOp, Func, IsTyped, data_of, func_in, op_at}
 use Rattle.dialect_core.specs.Form.{IsFormOp, IsFormFunc, IsOperand}
 use Rattle.meaning.specs.Machine as M
 use Rattle.meaning.specs.Dialect as Dialect
@@ -24,6 +24,15 @@ pub record InContext (c : ContextData) : Type 0 where
   pub function : Func
   pub typed : IsTyped c
   pub is : func_in (type_trees c.types) c op ≡ Some function
+  pub form : IsFormFunc function
+
+-- the operation is a function of the form, one of the module that the operation of the number m is
+pub record InModule (c : ContextData) (m : ℕ) (op : OpRef) : Type 0 where
+  pub typed : IsTyped c
+  pub place : ℕ
+  pub function : Func
+  pub here : slice_get (data_of c m).functions place ≡ Some function
+  pub number : function.number ≡ op.0
   pub form : IsFormFunc function
 
 -- the number names the operation, which is of the form in the function

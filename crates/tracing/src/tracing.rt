@@ -1,21 +1,23 @@
 //! The trace of a function, for a list of branch choices: the blocks that it enters and its events.
 
-ghost use Rattle.std.specs.Prelude.{◌≡◌, ◌<◌, All, IfOk, Some, length, map, slice_get};
+ghost use Rattle.std.specs.Prelude.{◌≡◌, ◌<◌, ℕ, All, IfOk, Some, length, map, slice_get};
 ghost use Rattle.llvm_core.specs.Interned.{IsDistinctList};
 ghost use Rattle.llvm_core.specs.Data.{Function, data_of};
 ghost use Rattle.llvm_core.specs.Form.{IsForm};
+ghost use Rattle.dialect_core.specs.Data as context;
+ghost use Rattle.dialect_core.specs.Data.{Func};
 ghost use Rattle.meaning.specs.Llvm as llvm;
 ghost use Rattle.meaning.specs.Dialect as dialect;
 ghost use Rattle.tracing.specs.Table.{terms, IsGrounded};
 ghost use Rattle.tracing.specs.Runs.{item_of, HasPlacesBelow};
-ghost use Rattle.tracing.specs.DialectBodies.{InContext};
+ghost use Rattle.tracing.specs.DialectBodies.{InModule};
 
 use crate::dialect_body::dialect_body;
 use crate::llvm_body::llvm_body;
 use crate::run::trace_body;
 use crate::trace::Trace;
 use dialect_core::context::Context;
-use dialect_core::numbers::FuncOp;
+use dialect_core::numbers::{FuncOp, ModuleOp};
 use llvm_core::module::LLVMModule;
 use llvm_core::numbers::LLVMFunction;
 use std::alloc::{AllocError, Global};
@@ -42,17 +44,17 @@ pub fn trace_of_llvm(
     Ok(trace)
 }
 
-/// The trace of a function of a dialect module of the form. Each term of the table stands once, behind its parts.
-/// The function's number decides, so the module that it stands in is no argument. It is an error where there is no
-/// memory.
+/// The trace of a function of a dialect module, which is of the form. Each term of the table stands once, behind its
+/// parts. It is an error where there is no memory.
 pub fn trace_of_dialect(
     alloc: Global,
     ctx: &Context,
+    module: ModuleOp,
     f: FuncOp,
     choices: &[u32],
 ) -> Result<Trace, AllocError>
-    requires { (h : InContext ctx.now) × (h.op ≡ f.0) }
-    ensures exact { IfOk result (λ t. (h : InContext ctx.now) → h.op ≡ f.0 → map (item_of (terms t.terms)) t.items.items ≡ (dialect.body h.function).trace choices.now) }
+    requires { InModule ctx.now «module».0.0 f.0 }
+    ensures exact { IfOk result (λ t. (place : ℕ) (g : Func) → slice_get (context.data_of ctx.now «module».0.0).functions place ≡ Some g → g.number ≡ f.0.0 → map (item_of (terms t.terms)) t.items.items ≡ (dialect.body g).trace choices.now) }
     ensures within { IfOk result (λ t. All (HasPlacesBelow (length t.terms)) t.items.items) }
     ensures shared { IfOk result (λ t. IsDistinctList (terms t.terms)) }
     ensures parts { IfOk result (λ t. IsGrounded t.terms) }

@@ -31,8 +31,8 @@ module _ (d : DialectModule) (forms : All IsFormFunc d.functions) (fit : All IsE
       let edges = within_at e.block.function.blocks (λ (b : DialectBlock). All (FitsTarget e.block.function) (edges_of b)) (exportable e.block).targets e.block.block e.block.is e.block.there in
       within_at (edges_of e.block.is) (FitsTarget e.block.function) edges e.place e.edge e.at
 
-  no_early_use : (name : List ℕ) → ¬ IsEarlyUse d name
-  no_early_use name h =
+  no_early_use : (c : ContextData) (name : List ℕ) → ¬ IsEarlyUse c d name
+  no_early_use c name h =
       let order = (exportable h.block).in_order in
       let all = order h.block.block h.place h.block.is h.op h.block.there h.at in
       h.early (stands_in_order h.block.function h.order h.block.block h.place h.value order h.is_order (slice_get_within h.block.function.blocks h.block.block h.block.is h.block.there)
@@ -58,7 +58,7 @@ module _ (d : DialectModule) (forms : All IsFormFunc d.functions) (fit : All IsE
 
   -- so no refusal of an export comes out
   pub of_export_cause : (c : ContextData) (m : ModuleData) (e : ToLLVMErr) → X.IsCause c d e → IsCause m (of_export e)
-  of_export_cause c m (E.UndefinedValue name) h = absurd (no_early_use name h)
+  of_export_cause c m (E.UndefinedValue name) h = absurd (no_early_use c name h)
   of_export_cause c m (E.UndefinedBlock label) h = absurd (never_outside c label h)
   of_export_cause c m E.NumBlockArgsNumPhisMismatch h = absurd (never_mismatched h)
   of_export_cause c m (E.EdgeArgsDiffer p t) h = absurd (never_other p t h)

@@ -10,7 +10,7 @@ use Rattle.meaning.specs.Examples.{same_places}
 use Rattle.meaning.specs.Llvm as Llvm
 use Rattle.meaning.specs.Dialect as Dialect
 use Rattle.meaning.proofs.Naming.{items_same}
-use Rattle.meaning.proofs.ShapeLaws.{same_shape}
+use Rattle.meaning.proofs.WovenLaws.{woven_first}
 use Rattle.meaning.proofs.EntryLaws.{some_blocks, same_symbol, both}
 use Rattle.from_llvm_ir.specs.declared.matching.FunctionBlocks.{FunctionBlocks}
 use Rattle.from_llvm_ir.specs.Match.{place_at}
@@ -23,7 +23,7 @@ module _ (match : Match) (d : ModuleData) (f : L.Function) (x : FunctionBlocks) 
     (form : IsFormFunction f) (h : ImportedFunction d f x g) where
   module _ (d' : ModuleData) (f' : L.Function) (k : ExportedFunction d' g f') where
     back_blocks : length f'.blocks ≡ length f.blocks
-    back_blocks = named_count g.blocks f'.blocks 0 0 k.names ∙ same_blocks d f x g h
+    back_blocks = named_count d' g f' k ∙ same_blocks d f x g h
 
     pub form_back : IsFormFunction f'
     form_back = k.form h.targets
@@ -33,7 +33,7 @@ module _ (match : Match) (d : ModuleData) (f : L.Function) (x : FunctionBlocks) 
 
     -- the trace of the function back is that of the dialect's
     trace_back : (cs : List ℕ) → (Llvm.body d' f').trace cs ≡ (Dialect.body g).trace cs
-    trace_back cs = sym (items_same f'.name ((Llvm.body d' f').trace cs)) ∙ same_shape same_places d' f' g k.shape cs
+    trace_back cs = sym (items_same f'.name ((Llvm.body d' f').trace cs)) ∙ woven_first same_places d' f' g k.shape (k.sets h.first.others) cs
 
     body_back : SameBody match f.name (Llvm.body d f) (Llvm.body d' f')
     body_back = record {

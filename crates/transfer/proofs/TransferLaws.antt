@@ -1,13 +1,16 @@
 -- From what the import and the export made to what `transfer` promises.
-use Rattle.std.proofs.Common.{ℕ, suc, ◌≡◌, ◌<◌, refl, sym, ◌∙◌, ap, subst, List, [], ◌∷◌, Some, length, slice_get, All, arith}
+use Rattle.std.proofs.Common.{ℕ, suc, ◌≡◌, ◌<◌, refl, sym, ◌∙◌, ap, subst, List, [], ◌∷◌, Some, length, slice_get, map, All, arith}
+use Rattle.std.proofs.lemmas.List.Elements.{All-nil, All-cons}
 use Rattle.std.proofs.lemmas.Option.{slice_get_within}
 use Rattle.llvm_core.specs.Module.{Module}
-use Rattle.llvm_core.specs.Interned.{IsDistinctList}
-use Rattle.llvm_core.specs.Form.{IsForm, IsFormFunction, IsFewIn, HasDistinctNames, HasFew, local_names}
+use Rattle.llvm_core.specs.Form.{IsForm, IsFormFunction, HasDistinctNames}
 use Rattle.llvm_core.specs.Data as L
 use Rattle.llvm_core.specs.Data.{ModuleData, AreApart, data_of}
 use Rattle.llvm_core.proofs.DataLemmas.{within_at, there}
+use Rattle.dialect_core.specs.ContextData.{ContextData}
 use Rattle.dialect_core.specs.Data as D
+use Rattle.dialect_core.specs.Form.{HasTargets}
+use Rattle.dialect_core.proofs.TypingLaws.{module_open}
 use Rattle.meaning.specs.Pairs.{Matched}
 use Rattle.meaning.specs.Code.{IsDistinctNames, SameNamed, SameCode}
 use Rattle.meaning.specs.Llvm as Llvm
@@ -16,16 +19,17 @@ use Rattle.meaning.proofs.EntryLaws.{all_kept, distinct_code}
 use Rattle.from_llvm_ir.specs.declared.importing.Imported.{Imported}
 use Rattle.from_llvm_ir.specs.declared.matching.FunctionBlocks.{FunctionBlocks}
 use Rattle.from_llvm_ir.specs.Match.{match_of}
-use Rattle.from_llvm_ir.specs.Imported.{AreImported, IsImported, imported_data}
+use Rattle.from_llvm_ir.specs.Imported.{AreImported, NoneImported, ThenImported, IsImported, imported_data}
 use Rattle.to_llvm_ir.specs.Exported.{ExportedFunction, IsExported}
 use Rattle.to_llvm_ir.specs.Held.{IsReadable}
 use Rattle.transfer.specs.declared.transferred.Transferred.{Transferred}
 use Rattle.transfer.specs.Same.{SameThroughout}
-use Rattle.from_llvm_ir.proofs.PairLaws.{matched_of, matched_at, matched_map, all_of, all_second}
+use Rattle.from_llvm_ir.proofs.PairLaws.{matched_of, matched_at, matched_map}
 use Rattle.from_llvm_ir.proofs.MatchedLaws.{function_names, partner, count_imported, matched_place, forms_imported, names_imported}
 use Rattle.from_llvm_ir.proofs.SameLaws.{function_numbered, plain_names, same_imported}
 use Rattle.to_llvm_ir.proofs.CodeLaws.{names_exported}
-use Rattle.transfer.proofs.SameFunctions.{entry_back, form_back}
+use Rattle.to_llvm_ir.proofs.CheckedLaws.{form_exported}
+use Rattle.transfer.proofs.SameFunctions.{entry_back}
 
 -- ---- matched lists
 
@@ -38,14 +42,30 @@ count_matched P (x ∷ xs) [] h = absurd h
 -- ---- what the import made
 
 -- what the export needs of what the import made
-pub readable : (d : ModuleData) (i : Imported) → IsImported d i → IsReadable i.ctx i.module.0.0
-readable d i h = record {
+pub readable : (d : ModuleData) (c : ContextData) (i : Imported) → IsImported d c i → D.IsTyped c → IsReadable c i.«module».0.0
+readable d c i h typed = record {
   there = h.building.there;
   kind = h.building.held.kind;
   region = omega (arith, ap length h.building.held.region);
-  typed = h.building.typed;
-  functions = forms_imported d d.functions i.blocks (imported_data i).functions h.functions;
+  typed = typed;
+  functions = module_open c i.«module».0.0 (forms_imported d d.functions i.blocks (imported_data c i).functions h.functions);
 }
+
+-- each block with arguments is an edge's target
+targets : (d : ModuleData) (fs : List L.Function) (xs : List FunctionBlocks) (gs : List D.Func) → AreImported d fs xs gs → All HasTargets gs
+targets d [] [] [] NoneImported = All-nil HasTargets
+targets d (f ∷ fs) (x ∷ xs) (g ∷ gs) (ThenImported _ _ _ _ _ _ one more) = All-cons HasTargets g gs one.targets (targets d fs xs gs more)
+targets d [] [] (g ∷ gs) h = elim h [ ]
+targets d [] (x ∷ xs) gs h = elim h [ ]
+targets d (f ∷ fs) [] gs h = elim h [ ]
+targets d (f ∷ fs) (x ∷ xs) [] h = elim h [ ]
+
+pub targets_of : (d : ModuleData) (c : ContextData) (i : Imported) → IsImported d c i → All HasTargets (imported_data c i).functions
+targets_of d c i h = targets d d.functions i.blocks (imported_data c i).functions h.functions
+
+-- no two of its functions share a name
+pub distinct_dialect : (d : ModuleData) (c : ContextData) (i : Imported) → IsImported d c i → HasDistinctNames d → IsDistinctNames (map (λ (g : D.Func). g.name) (imported_data c i).functions)
+distinct_dialect d c i h distinct = subst IsDistinctNames (sym (names_imported d d.functions i.blocks (imported_data c i).functions h.functions)) distinct.functions
 
 -- ---- entries, place by place
 
@@ -65,66 +85,38 @@ module _ (d : ModuleData) (xs : List FunctionBlocks) (gs : List D.Func) (form : 
         entry_back (match_of d xs) d f p.entry p.func (matched_place d xs gs distinct numbered h i f p.entry at p.entry_at) (form_at i f at) p.imported d' f'
         (exported_at i p.func f' p.func_at bt))
 
-    pub forms_back : All IsFormFunction d'.functions
-    forms_back = all_of d'.functions IsFormFunction (λ i f' bt.
-        let small : i < length d.functions = let s = slice_get_within d'.functions i f' bt in let c = count_matched (ExportedFunction d') gs d'.functions k in let e = (count_imported d d.functions xs gs h).1 in omega (arith, s, c, e) in
-        let (f, at) = there d.functions i small in
-        let p = partner d d.functions xs gs h i f at in
-        form_back (match_of d xs) d f p.entry p.func (matched_place d xs gs distinct numbered h i f p.entry at p.entry_at) (form_at i f at) p.imported d' f' (exported_at i p.func f' p.func_at bt))
-
 -- ---- modules
 
-abbrev pub transferred_of : Imported → Module → Transferred
-transferred_of i back = record { ctx = i.ctx; dialect = i.module; back = back; blocks = i.blocks }
+abbrev pub transferred_of : ContextData → Imported → Module → Transferred
+transferred_of c i back = record { ctx = c; dialect = i.«module»; back = back; blocks = i.blocks; structs = i.structs }
 
-abbrev HasOwnLocals : L.Function → Type 0
-HasOwnLocals f = IsDistinctList (local_names f)
-
-module _ (m back : Module) (i : Imported) (form : IsForm (data_of m)) (distinct : HasDistinctNames (data_of m))
-    (imported : IsImported (data_of m) i) (exported : IsExported (imported_data i) back) where
-  pub form_of_back : IsForm (data_of back)
-  form_of_back = forms_back (data_of m) i.blocks (imported_data i).functions form distinct.functions (function_numbered m) imported.functions (data_of back) exported.functions
+module _ (m back : Module) (c : ContextData) (i : Imported) (form : IsForm (data_of m)) (distinct : HasDistinctNames (data_of m))
+    (imported : IsImported (data_of m) c i) (exported : IsExported (imported_data c i) back) where
+  form_of_back : IsForm (data_of back)
+  form_of_back = form_exported (imported_data c i) back exported (targets_of (data_of m) c i imported)
 
   names_back : function_names (data_of back).functions ≡ function_names (data_of m).functions
   names_back =
-      names_exported (data_of back) (imported_data i).functions (data_of back).functions exported.functions
-      ∙ names_imported (data_of m) (data_of m).functions i.blocks (imported_data i).functions imported.functions
+      names_exported (data_of back) (imported_data c i).functions (data_of back).functions exported.functions
+      ∙ names_imported (data_of m) (data_of m).functions i.blocks (imported_data c i).functions imported.functions
 
   same_back : SameCode (match_of (data_of m) i.blocks) (Llvm.code_of (data_of m)) (Llvm.code_of (data_of back))
   same_back =
       let match = match_of (data_of m) i.blocks in
       let pairs = matched_map (SameNamed match) (Llvm.entry (data_of m)) (Llvm.entry (data_of back)) (data_of m).functions (data_of back).functions
-      (entries_back (data_of m) i.blocks (imported_data i).functions form distinct.functions (function_numbered m) imported.functions (data_of back) exported.functions) in
+      (entries_back (data_of m) i.blocks (imported_data c i).functions form distinct.functions (function_numbered m) imported.functions (data_of back) exported.functions) in
       same_code match (Llvm.code_of (data_of m)) (Llvm.code_of (data_of back)) (distinct_code (data_of m) (plain_names (data_of m).functions form) distinct.functions)
       (rw (all_kept (data_of m).functions (plain_names (data_of m).functions form), all_kept (data_of back).functions (plain_names (data_of back).functions form_of_back)) pairs)
 
-  pub same_throughout : SameThroughout (data_of m) (transferred_of i back)
+  pub same_throughout : SameThroughout (data_of m) (transferred_of c i back)
   same_throughout = record {
-    dialect = same_imported m i form imported distinct.functions;
+    dialect = same_imported m c i form imported distinct.functions;
     back = same_back;
     name = imported.name;
     back_name = exported.name;
-    functions = names_imported (data_of m) (data_of m).functions i.blocks (imported_data i).functions imported.functions;
+    functions = names_imported (data_of m) (data_of m).functions i.blocks (imported_data c i).functions imported.functions;
     back_functions = names_back;
     imported = imported.functions;
     exported = exported.functions;
     well_formed = imported.well_formed distinct.functions;
-  }
-
-  exported_locals : (g : D.Func) (f : L.Function) → ExportedFunction (data_of back) g f → HasOwnLocals f
-  exported_locals g f h = h.locals
-
-  exported_few : (g : D.Func) (f : L.Function) → ExportedFunction (data_of back) g f → IsFewIn f
-  exported_few g f h = h.few
-
-  pub distinct_back : HasDistinctNames (data_of back)
-  distinct_back = record {
-    functions = subst (λ (ns : List (List ℕ)). IsDistinctList ns) (sym names_back) distinct.functions;
-    locals = all_second (ExportedFunction (data_of back)) HasOwnLocals exported_locals (imported_data i).functions (data_of back).functions exported.functions;
-  }
-
-  pub few_back : HasFew (data_of back)
-  few_back = record {
-    functions = exported.few;
-    each = all_second (ExportedFunction (data_of back)) IsFewIn exported_few (imported_data i).functions (data_of back).functions exported.functions;
   }

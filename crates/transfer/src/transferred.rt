@@ -2,15 +2,18 @@
 
 use dialect_core::context::Context;
 use dialect_core::numbers::ModuleOp;
+use dialect_types::identifier::Identifier;
 use dialect_types::items::Items;
 use from_llvm_ir::matching::FunctionBlocks;
 use llvm_core::module::LLVMModule;
 
-/// A dialect module in its context, the module of LLVM that was made of it, and the match of blocks.
+/// A dialect module in its context, the module of LLVM that was made of it, the match of blocks, and the identified structs
+/// with their names in the dialect, which are none yet.
 #[derive(Drop)]
 pub struct Transferred {
     pub ctx: Context,
     pub dialect: ModuleOp,
     pub back: LLVMModule,
     pub blocks: Items<FunctionBlocks>,
+    pub structs: Vec<(String, Identifier)>,
 }

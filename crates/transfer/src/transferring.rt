@@ -1,9 +1,8 @@
 //! The two halves in a row.
 
-ghost use Rattle.std.specs.Prelude.{◌≡◌, ◌<◌, IfOk, IfErr, length};
-ghost use Rattle.llvm_core.specs.Sound.{IsModule};
+ghost use Rattle.std.specs.Prelude.{◌≡◌, ◌<◌, [], IfOk, IfErr, length};
 ghost use Rattle.llvm_core.specs.Checked.{IsChecked};
-ghost use Rattle.llvm_core.specs.Data.{data_of, AreApart};
+ghost use Rattle.llvm_core.specs.Data.{data_of};
 ghost use Rattle.llvm_core.specs.Names.{IsPlainOrNone};
 ghost use Rattle.llvm_core.specs.Form.{IsForm};
 ghost use Rattle.dialect_core.specs.Data.{IsTyped};
@@ -13,47 +12,42 @@ ghost use Rattle.transfer.specs.Same.{SameThroughout, IsCause};
 
 use crate::transfer_err::TransferErr;
 use crate::transferred::Transferred;
+use dialect_core::context::Context;
 use from_llvm_ir::importing::{Imported, convert_module as import};
 use llvm_core::module::LLVMModule;
 use std::alloc::Global;
 use to_llvm_ir::exporting::convert_module as export;
 
-/// The numbers of a module name what is there, and equal types have equal numbers: its type keeps that.
-fn know_sound(m: &LLVMModule)
-    ensures sound { IsModule m.now }
-    ensures apart { AreApart m.now }
-{
-    let _ = m.types();
-}
-
-/// The dialect module of a checked module of the form, the module back, and the match of blocks. The module
-/// back is checked. It is refused only where the import refuses it: the export takes all that an import makes. So a
-/// module whose uses are valid is answered `Ok` or `NoMemory`.
+/// The dialect module of a checked module of the form, in a context of its own, the module back, the match of blocks, and
+/// the identified structs, of which there are none yet. The module back is checked. It is refused only where the import
+/// refuses it: the export takes all that an import makes. So a module whose uses are valid is answered `Ok` or
+/// `NoMemory`.
 pub fn transfer(alloc: Global, module: &LLVMModule) -> Result<Transferred, TransferErr>
-    requires form { IsForm (data_of module.now) }
-    requires name { IsPlainOrNone module.now.name }
-    requires checked { IsChecked module.now }
-    ensures same { IfOk result (λ t. SameThroughout (data_of module.now) t) }
+    requires form { IsForm (data_of «module».now) }
+    requires name { IsPlainOrNone «module».now.name }
+    requires checked { IsChecked «module».now }
+    ensures same { IfOk result (λ t. SameThroughout (data_of «module».now) t) }
     ensures back { IfOk result (λ t. IsChecked t.back) }
     ensures form { IfOk result (λ t. IsForm (data_of t.back)) }
     ensures there { IfOk result (λ t. t.dialect.0.0 < length t.ctx.ops) }
     ensures typed { IfOk result (λ t. IsTyped t.ctx) }
-    ensures cause { IfErr result (λ e. IsCause (data_of module.now) e) }
-    ensures complete { IsValid (data_of module.now) → IfErr result (λ e. e ≡ refusals.NoMemory) }
+    ensures structs { IfOk result (λ t. t.structs.items ≡ []) }
+    ensures cause { IfErr result (λ e. IsCause (data_of «module».now) e) }
+    ensures complete { IsValid (data_of «module».now) → IfErr result (λ e. e ≡ refusals.NoMemory) }
 {
-    know_sound(module);
-    let imported = import(alloc, module)?;
-    let back = export(alloc, &imported.ctx, imported.module)?;
-    know_sound(&back);
+    let mut ctx = Context::new(alloc);
+    let imported = import(alloc, &mut ctx, module)?;
+    let exported = export(alloc, &ctx, imported.module)?;
     let Imported {
-        ctx,
         module: dialect,
         blocks,
+        structs,
     } = imported;
     Ok(Transferred {
         ctx,
         dialect,
-        back,
+        back: exported.module,
         blocks,
+        structs,
     })
 }

@@ -3,10 +3,20 @@ use Rattle.std.proofs.Common.{List, map, ap, ◌++◌, ◌∙◌}
 use Rattle.std.specs.Option.{option_copied}
 use Rattle.dialect_types.specs.Trees.{type_at, type_trees}
 use Rattle.dialect_types.specs.declared.types.TypeKind.{TypeKind}
+use Rattle.dialect_types.proofs.TextLemmas.{keeps_then}
 use Rattle.dialect_core.specs.Numbering.{value_at, block_at}
 use Rattle.dialect_core.specs.Text.{label_text}
 use Rattle.dialect_core.proofs.ModulePrintLemmas.{block_printed}
 use Rattle.dialect_core.proofs.module_printing.print_block.Goals as goal
+
+pub returns-in_err-ops-clause-kept : goal.returns-in_err-ops-clause-kept
+returns-in_err-ops-clause-kept c = c.in_ok-print_label.ensures.kept
+
+pub returns-in_err-print_ops-clause-kept : goal.returns-in_err-print_ops-clause-kept
+returns-in_err-print_ops-clause-kept c = keeps_then _ _ _ c.in_ok-print_label.ensures.kept c.print_ops.ensures.kept
+
+pub returns-clause-kept : goal.returns-clause-kept
+returns-clause-kept c = keeps_then _ _ _ c.in_ok-print_label.ensures.kept c.in_ok-print_ops.ensures.kept
 
 pub returns-clause-ok : goal.returns-clause-ok
 returns-clause-ok c =

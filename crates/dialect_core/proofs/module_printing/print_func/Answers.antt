@@ -2,6 +2,7 @@
 use Rattle.std.proofs.Common.{List, ap, ◌++◌, ◌∙◌}
 use Rattle.dialect_types.specs.Trees.{type_at, type_trees}
 use Rattle.dialect_types.specs.declared.types.TypeKind.{TypeKind}
+use Rattle.dialect_types.proofs.TextLemmas.{keeps_then}
 use Rattle.dialect_core.specs.Numbering.{value_at, block_at}
 use Rattle.dialect_core.specs.Text.{func_head_text}
 use Rattle.dialect_core.proofs.ModulePrintLemmas.{func_printed, symbol_typed}
@@ -9,6 +10,12 @@ use Rattle.dialect_core.proofs.module_printing.print_func.Goals as goal
 
 pub print_func_head-requires : goal.print_func_head-requires
 print_func_head-requires c = rw c.types.ensures (symbol_typed c.args.ctx.now c.args.op c.symbol_type-ty.result c.requires.typed c.symbol_type-ty.ensures)
+
+pub returns-in_err-print_body-in-Func-clause-kept : goal.returns-in_err-print_body-in-Func-clause-kept
+returns-in_err-print_body-in-Func-clause-kept c = keeps_then _ _ _ c.in_ok-print_func_head-in-Func.ensures.kept c.print_body.ensures.kept
+
+pub returns-in_ok-print_body-in-Func-clause-kept : goal.returns-in_ok-print_body-in-Func-clause-kept
+returns-in_ok-print_body-in-Func-clause-kept c = keeps_then _ _ _ c.in_ok-print_func_head-in-Func.ensures.kept c.in_ok-print_body-in-Func.ensures.kept
 
 pub returns-in_ok-print_body-in-Func-clause-ok : goal.returns-in_ok-print_body-in-Func-clause-ok
 returns-in_ok-print_body-in-Func-clause-ok c =

@@ -1,8 +1,49 @@
 -- What `module_printing::print_func_head` owes besides what the check finds.
 use Rattle.std.proofs.Common.{◌∙◌}
 use Rattle.dialect_types.specs.Trees.{type_at, type_trees}
+use Rattle.dialect_types.proofs.TextLemmas.{keeps_then}
+use Rattle.dialect_core.proofs.KeepLemmas.{kept_appended, then_appended, then_equal}
 use Rattle.dialect_core.proofs.ModulePrintLemmas.{head_printed}
 use Rattle.dialect_core.proofs.module_printing.print_func_head.Goals as goal
+
+pub returns-in_err-extend_from_slice-2-clause-kept : goal.returns-in_err-extend_from_slice-2-clause-kept
+returns-in_err-extend_from_slice-2-clause-kept c = then_equal _ _ _ (kept_appended _ _ _ c.in_ok-extend_from_slice.ensures.items) c.in_err-extend_from_slice-2.ensures.items
+
+pub returns-in_err-extend_from_slice-3-clause-kept : goal.returns-in_err-extend_from_slice-3-clause-kept
+returns-in_err-extend_from_slice-3-clause-kept c =
+    let name = then_appended _ _ _ _ (kept_appended _ _ _ c.in_ok-extend_from_slice.ensures.items) c.in_ok-extend_from_slice-2.ensures.items in
+    then_equal _ _ _ name c.in_err-extend_from_slice-3.ensures.items
+
+pub returns-in_err-append_type-clause-kept : goal.returns-in_err-append_type-clause-kept
+returns-in_err-append_type-clause-kept c =
+    let name = then_appended _ _ _ _ (kept_appended _ _ _ c.in_ok-extend_from_slice.ensures.items) c.in_ok-extend_from_slice-2.ensures.items in
+    keeps_then _ _ _ (then_appended _ _ _ _ name c.in_ok-extend_from_slice-3.ensures.items) c.append_type.ensures.kept
+
+pub returns-in_err-extend_from_slice-4-clause-kept : goal.returns-in_err-extend_from_slice-4-clause-kept
+returns-in_err-extend_from_slice-4-clause-kept c =
+    let name = then_appended _ _ _ _ (kept_appended _ _ _ c.in_ok-extend_from_slice.ensures.items) c.in_ok-extend_from_slice-2.ensures.items in
+    let type = keeps_then _ _ _ (then_appended _ _ _ _ name c.in_ok-extend_from_slice-3.ensures.items) c.in_ok-append_type.ensures.kept in
+    then_equal _ _ _ type c.in_err-extend_from_slice-4.ensures.items
+
+pub returns-in_err-extend_from_slice-5-clause-kept : goal.returns-in_err-extend_from_slice-5-clause-kept
+returns-in_err-extend_from_slice-5-clause-kept c =
+    let name = then_appended _ _ _ _ (kept_appended _ _ _ c.in_ok-extend_from_slice.ensures.items) c.in_ok-extend_from_slice-2.ensures.items in
+    let type = keeps_then _ _ _ (then_appended _ _ _ _ name c.in_ok-extend_from_slice-3.ensures.items) c.in_ok-append_type.ensures.kept in
+    then_equal _ _ _ (then_appended _ _ _ _ type c.in_ok-extend_from_slice-4.ensures.items) c.in_err-extend_from_slice-5.ensures.items
+
+pub returns-in_err-extend_from_slice-6-clause-kept : goal.returns-in_err-extend_from_slice-6-clause-kept
+returns-in_err-extend_from_slice-6-clause-kept c =
+    let name = then_appended _ _ _ _ (kept_appended _ _ _ c.in_ok-extend_from_slice.ensures.items) c.in_ok-extend_from_slice-2.ensures.items in
+    let type = keeps_then _ _ _ (then_appended _ _ _ _ name c.in_ok-extend_from_slice-3.ensures.items) c.in_ok-append_type.ensures.kept in
+    let word = then_appended _ _ _ _ (then_appended _ _ _ _ type c.in_ok-extend_from_slice-4.ensures.items) c.in_ok-extend_from_slice-5.ensures.items in
+    then_equal _ _ _ word c.in_err-extend_from_slice-6.ensures.items
+
+pub returns-clause-kept : goal.returns-clause-kept
+returns-clause-kept c =
+    let name = then_appended _ _ _ _ (kept_appended _ _ _ c.in_ok-extend_from_slice.ensures.items) c.in_ok-extend_from_slice-2.ensures.items in
+    let type = keeps_then _ _ _ (then_appended _ _ _ _ name c.in_ok-extend_from_slice-3.ensures.items) c.in_ok-append_type.ensures.kept in
+    let word = then_appended _ _ _ _ (then_appended _ _ _ _ type c.in_ok-extend_from_slice-4.ensures.items) c.in_ok-extend_from_slice-5.ensures.items in
+    then_appended _ _ _ _ word c.in_ok-extend_from_slice-6.ensures.items
 
 pub returns-clause-ok : goal.returns-clause-ok
 returns-clause-ok c =

@@ -2,10 +2,69 @@
 use Rattle.std.proofs.Common.{refl, ap}
 use Rattle.std.specs.Prelude.{codes}
 use Rattle.dialect_types.specs.Trees.{type_trees}
+use Rattle.dialect_types.proofs.TextLemmas.{keeps_then}
 use Rattle.dialect_core.specs.Numbering.{value_at, block_at}
-use Rattle.dialect_core.specs.Data.{CondBrOp, ReturnOp, UnreachableOp, kind_of}
-use Rattle.dialect_core.proofs.PrintLemmas.{without_immediates}
+use Rattle.dialect_core.specs.Data.{BrOp, CondBrOp, ReturnOp, UnreachableOp, kind_of}
+use Rattle.dialect_core.proofs.PrintLemmas.{with_immediates, without_immediates}
 use Rattle.dialect_core.proofs.printing.print_op.Goals as goal
+
+pub returns-in_err-print_constant_immediates-in-Constant-clause-kept : goal.returns-in_err-print_constant_immediates-in-Constant-clause-kept
+returns-in_err-print_constant_immediates-in-Constant-clause-kept c = keeps_then _ _ _ c.in_ok-print_head-in-Constant.ensures.kept c.print_constant_immediates.ensures.kept
+
+pub returns-in_err-print_tail-in-Constant-clause-kept : goal.returns-in_err-print_tail-in-Constant-clause-kept
+returns-in_err-print_tail-in-Constant-clause-kept c =
+    let immediates = keeps_then _ _ _ c.in_ok-print_head-in-Constant.ensures.kept c.in_ok-print_constant_immediates-in-Constant.ensures.kept in
+    keeps_then _ _ _ immediates c.in_err-print_tail-in-Constant.ensures.kept
+
+pub returns-in_ok-print_tail-in-Constant-clause-kept : goal.returns-in_ok-print_tail-in-Constant-clause-kept
+returns-in_ok-print_tail-in-Constant-clause-kept c =
+    let immediates = keeps_then _ _ _ c.in_ok-print_head-in-Constant.ensures.kept c.in_ok-print_constant_immediates-in-Constant.ensures.kept in
+    keeps_then _ _ _ immediates c.in_ok-print_tail-in-Constant.ensures.kept
+
+pub returns-in_ok-print_tail-in-Constant-clause-ok : goal.returns-in_ok-print_tail-in-Constant-clause-ok
+returns-in_ok-print_tail-in-Constant-clause-ok c =
+    with_immediates (value_at c.args.numbers.now) (block_at c.args.numbers.now) (type_trees c.args.types.now) c.args.op c.args.x.now _ _ _ _ _ (ap (kind_of (type_trees c.args.types.now)) c.in-Constant.is)
+    c.in_ok-print_head-in-Constant.ensures.ok c.in_ok-print_constant_immediates-in-Constant.ensures.ok c.in_ok-print_tail-in-Constant.ensures.ok
+
+pub returns-in_err-print_overflow_flags-in-Add-clause-kept : goal.returns-in_err-print_overflow_flags-in-Add-clause-kept
+returns-in_err-print_overflow_flags-in-Add-clause-kept c = keeps_then _ _ _ c.in_ok-print_head-in-Add.ensures.kept c.print_overflow_flags.ensures.kept
+
+pub returns-in_err-print_tail-in-Add-clause-kept : goal.returns-in_err-print_tail-in-Add-clause-kept
+returns-in_err-print_tail-in-Add-clause-kept c =
+    let immediates = keeps_then _ _ _ c.in_ok-print_head-in-Add.ensures.kept c.in_ok-print_overflow_flags-in-Add.ensures.kept in
+    keeps_then _ _ _ immediates c.in_err-print_tail-in-Add.ensures.kept
+
+pub returns-in_ok-print_tail-in-Add-clause-kept : goal.returns-in_ok-print_tail-in-Add-clause-kept
+returns-in_ok-print_tail-in-Add-clause-kept c =
+    let immediates = keeps_then _ _ _ c.in_ok-print_head-in-Add.ensures.kept c.in_ok-print_overflow_flags-in-Add.ensures.kept in
+    keeps_then _ _ _ immediates c.in_ok-print_tail-in-Add.ensures.kept
+
+pub returns-in_ok-print_tail-in-Add-clause-ok : goal.returns-in_ok-print_tail-in-Add-clause-ok
+returns-in_ok-print_tail-in-Add-clause-ok c =
+    with_immediates (value_at c.args.numbers.now) (block_at c.args.numbers.now) (type_trees c.args.types.now) c.args.op c.args.x.now _ _ _ _ _ (ap (kind_of (type_trees c.args.types.now)) c.in-Add.is)
+    c.in_ok-print_head-in-Add.ensures.ok c.in_ok-print_overflow_flags-in-Add.ensures.ok c.in_ok-print_tail-in-Add.ensures.ok
+
+pub returns-in_err-print_predicate-in-ICmp-clause-kept : goal.returns-in_err-print_predicate-in-ICmp-clause-kept
+returns-in_err-print_predicate-in-ICmp-clause-kept c = keeps_then _ _ _ c.in_ok-print_head-in-ICmp.ensures.kept c.print_predicate.ensures.kept
+
+pub returns-in_err-print_tail-in-ICmp-clause-kept : goal.returns-in_err-print_tail-in-ICmp-clause-kept
+returns-in_err-print_tail-in-ICmp-clause-kept c =
+    let immediates = keeps_then _ _ _ c.in_ok-print_head-in-ICmp.ensures.kept c.in_ok-print_predicate-in-ICmp.ensures.kept in
+    keeps_then _ _ _ immediates c.in_err-print_tail-in-ICmp.ensures.kept
+
+pub returns-in_ok-print_tail-in-ICmp-clause-kept : goal.returns-in_ok-print_tail-in-ICmp-clause-kept
+returns-in_ok-print_tail-in-ICmp-clause-kept c =
+    let immediates = keeps_then _ _ _ c.in_ok-print_head-in-ICmp.ensures.kept c.in_ok-print_predicate-in-ICmp.ensures.kept in
+    keeps_then _ _ _ immediates c.in_ok-print_tail-in-ICmp.ensures.kept
+
+pub returns-in_ok-print_tail-in-ICmp-clause-ok : goal.returns-in_ok-print_tail-in-ICmp-clause-ok
+returns-in_ok-print_tail-in-ICmp-clause-ok c =
+    with_immediates (value_at c.args.numbers.now) (block_at c.args.numbers.now) (type_trees c.args.types.now) c.args.op c.args.x.now _ _ _ _ _ (ap (kind_of (type_trees c.args.types.now)) c.in-ICmp.is)
+    c.in_ok-print_head-in-ICmp.ensures.ok c.in_ok-print_predicate-in-ICmp.ensures.ok c.in_ok-print_tail-in-ICmp.ensures.ok
+
+pub returns-in_ok-print_plain-in-Br-clause-ok : goal.returns-in_ok-print_plain-in-Br-clause-ok
+returns-in_ok-print_plain-in-Br-clause-ok c =
+    without_immediates (value_at c.args.numbers.now) (block_at c.args.numbers.now) (type_trees c.args.types.now) c.args.op c.args.x.now BrOp (codes "llvm.br") _ _ (ap (kind_of (type_trees c.args.types.now)) c.in-Br.is) refl refl c.in_ok-print_plain-in-Br.ensures.ok
 
 pub returns-in_ok-print_plain-in-CondBr-clause-ok : goal.returns-in_ok-print_plain-in-CondBr-clause-ok
 returns-in_ok-print_plain-in-CondBr-clause-ok c =

@@ -5,6 +5,7 @@ use Rattle.dialect_core.specs.Data.{ConstantOp}
 use Rattle.from_llvm_ir.specs.Building.{new_op}
 use Rattle.from_llvm_ir.proofs.ConstLaws.{const_short, const_fits, const_made, short_kind}
 use Rattle.from_llvm_ir.proofs.UnderLaws.{typed_open}
+use Rattle.from_llvm_ir.proofs.KeepLaws.{keeps_then, keeps_types}
 use Rattle.from_llvm_ir.proofs.constants.add_constant.Goals as goal
 
 pub parts_of-value-requires : goal.parts_of-value-requires
@@ -33,3 +34,12 @@ returns-clause-made g c = λ h base left now right u.
       const_made c.args.source.now c.args.c c.parts_of-value.result.0 c.parts_of-value.result.1 c.in_ok-op.op.0 ty (c.const_kind.ensures.kind ∙ ap Some c.parts_of-value.ensures) c.requires.short c.in_ok-int.ensures.ty,
       c.in_ok-op.ensures.added h base left now right kind refl (typed_open h base c.args.ctx.now c.import_plain.new.ctx c.args.block left now right u c.import_plain.ensures.grown),
     )
+
+pub returns-in_err-int-clause-kept : goal.returns-in_err-int-clause-kept
+returns-in_err-int-clause-kept g c = λ n b behind. keeps_types n b c.args.ctx.now c.import_plain.new.ctx c.import_plain.ensures.grown
+
+pub returns-in_err-op-clause-kept : goal.returns-in_err-op-clause-kept
+returns-in_err-op-clause-kept g c = λ n b behind. keeps_then n b c.args.ctx.now c.import_plain.new.ctx c.add_op.new.ctx (keeps_types n b c.args.ctx.now c.import_plain.new.ctx c.import_plain.ensures.grown) (c.add_op.ensures.kept n b behind)
+
+pub returns-clause-kept : goal.returns-clause-kept
+returns-clause-kept g c = λ n b behind. keeps_then n b c.args.ctx.now c.import_plain.new.ctx c.add_op.new.ctx (keeps_types n b c.args.ctx.now c.import_plain.new.ctx c.import_plain.ensures.grown) (c.add_op.ensures.kept n b behind)

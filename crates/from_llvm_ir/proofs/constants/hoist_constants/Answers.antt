@@ -9,6 +9,7 @@ use Rattle.from_llvm_ir.specs.Body.{IsHoisting}
 use Rattle.from_llvm_ir.proofs.PlaceLaws.{flat_next}
 use Rattle.from_llvm_ir.proofs.SourceLaws.{function_within}
 use Rattle.from_llvm_ir.proofs.FrameLaws.{named_at, frame_length}
+use Rattle.from_llvm_ir.proofs.KeepLaws.{keeps_then}
 use Rattle.from_llvm_ir.proofs.constants.hoist_constants.Goals as goal
 
 pub blocks-blocks-requires : goal.blocks-blocks-requires
@@ -24,14 +25,20 @@ hoist_block-requires-clause-site g c =
     (c.args.f, r.0.source, _, x.block, r.1.source, r.3, x.is)
 
 pub loop-place-preserved : goal.loop-place-preserved
-loop-place-preserved g c = λ fr framed order noted hoisting number.
-    let m = c.args.source.now in
-    let x = named_at m c.args.f fr c.args.order.now c.blocks-blocks.result.now c.loop-place.place-index framed order c.blocks-blocks.ensures.blocks c.loop-place-test.true in
-    subst (IsHoisting fr m c.hoist_block.new.ctx c.hoist_block.new.values) (sym (flat_next (λ (b : Block). flat_map (constants_in (data_of m) fr.source b) (rest_of b)) (blocks_of fr) c.loop-place.place-index x.block x.here))
-    (c.in_ok-hoist_block.ensures c.args.f fr.source _ x.block framed.source noted x.is fr _ (c.loop-place.invariant fr framed order noted hoisting number) number)
+loop-place-preserved g c = record {
+  hoisting = λ fr framed order noted hoisting number.
+      let m = c.args.source.now in
+      let x = named_at m c.args.f fr c.args.order.now c.blocks-blocks.result.now c.loop-place.place-index framed order c.blocks-blocks.ensures.blocks c.loop-place-test.true in
+      subst (IsHoisting fr m c.hoist_block.new.ctx c.hoist_block.new.values) (sym (flat_next (λ (b : Block). flat_map (constants_in (data_of m) fr.source b) (rest_of b)) (blocks_of fr) c.loop-place.place-index x.block x.here))
+      (c.in_ok-hoist_block.ensures.hoisting c.args.f fr.source _ x.block framed.source noted x.is fr _ (c.loop-place.invariant.hoisting fr framed order noted hoisting number) number);
+  kept = λ n b behind. keeps_then n b c.args.ctx.now c.loop-place.ctx c.hoist_block.new.ctx (c.loop-place.invariant.kept n b behind) (c.hoist_block.ensures.kept n b behind);
+}
 
-pub returns : goal.returns
-returns g c = λ fr framed order noted hoisting number.
+pub returns-clause-hoisting : goal.returns-clause-hoisting
+returns-clause-hoisting g c = λ fr framed order noted hoisting number.
     let m = c.args.source.now in
     subst (λ (bs : List Block). IsHoisting fr m c.loop-place.ctx c.loop-place.values (flat_map (λ (b : Block). flat_map (constants_in (data_of m) fr.source b) (rest_of b)) bs)) (take_all c.loop-place.place-index (blocks_of fr) (omega (arith, frame_length m c.args.f fr c.args.order.now framed order, c.loop-place-test.false)))
-    (c.loop-place.invariant fr framed order noted hoisting number)
+    (c.loop-place.invariant.hoisting fr framed order noted hoisting number)
+
+pub returns-in_err-hoist_block-clause-kept : goal.returns-in_err-hoist_block-clause-kept
+returns-in_err-hoist_block-clause-kept g c = λ n b behind. keeps_then n b c.args.ctx.now c.loop-place.ctx c.hoist_block.new.ctx (c.loop-place.invariant.kept n b behind) (c.hoist_block.ensures.kept n b behind)

@@ -5,16 +5,23 @@ use Rattle.std.proofs.lemmas.Option.{slice_get-get_or}
 use Rattle.llvm_core.specs.Data.{trees_of, operand_of}
 use Rattle.from_llvm_ir.proofs.ListLaws.{take_next}
 use Rattle.from_llvm_ir.proofs.HoistLaws.{uses_more}
+use Rattle.from_llvm_ir.proofs.KeepLaws.{keeps_then}
 use Rattle.from_llvm_ir.proofs.constants.hoist_values.Goals as goal
 
 pub hoist-requires-clause-hoisting : goal.hoist-requires-clause-hoisting
-hoist-requires-clause-hoisting g c = let r = c.requires.hoisting in (r.0, _, c.loop-operand.invariant r.0 r.1 r.2 r.3, r.3)
+hoist-requires-clause-hoisting g c = let r = c.requires.hoisting in (r.0, _, c.loop-operand.invariant.hoisting r.0 r.1 r.2 r.3, r.3)
 
 pub loop-operand-preserved : goal.loop-operand-preserved
-loop-operand-preserved g c = λ fr uses h number.
-    let m = c.args.source.now in
-    let i = c.loop-operand.operand-index in
-    let at = slice_get-get_or c.args.operands.now i _ c.loop-operand-test.true in
-    let next = ap (map (operand_of (trees_of m))) (take_next c.args.operands.now i _ at) ∙ map_push (operand_of (trees_of m)) (take i c.args.operands.now) _ in
-    uses_more fr m c.hoist.new.ctx c.hoist.new.values uses (map (operand_of (trees_of m)) (take i c.args.operands.now)) (map (operand_of (trees_of m)) (take (i + 1) c.args.operands.now)) _ next
-    (c.in_ok-hoist.ensures fr _ (c.loop-operand.invariant fr uses h number) number)
+loop-operand-preserved g c = record {
+  hoisting = λ fr uses h number.
+      let m = c.args.source.now in
+      let i = c.loop-operand.operand-index in
+      let at = slice_get-get_or c.args.operands.now i _ c.loop-operand-test.true in
+      let next = ap (map (operand_of (trees_of m))) (take_next c.args.operands.now i _ at) ∙ map_push (operand_of (trees_of m)) (take i c.args.operands.now) _ in
+      uses_more fr m c.hoist.new.ctx c.hoist.new.values uses (map (operand_of (trees_of m)) (take i c.args.operands.now)) (map (operand_of (trees_of m)) (take (i + 1) c.args.operands.now)) _ next
+      (c.in_ok-hoist.ensures.hoisting fr _ (c.loop-operand.invariant.hoisting fr uses h number) number);
+  kept = λ n b behind. keeps_then n b c.args.ctx.now c.loop-operand.ctx c.hoist.new.ctx (c.loop-operand.invariant.kept n b behind) (c.hoist.ensures.kept n b behind);
+}
+
+pub returns-in_err-hoist-clause-kept : goal.returns-in_err-hoist-clause-kept
+returns-in_err-hoist-clause-kept g c = λ n b behind. keeps_then n b c.args.ctx.now c.loop-operand.ctx c.hoist.new.ctx (c.loop-operand.invariant.kept n b behind) (c.hoist.ensures.kept n b behind)

@@ -5,6 +5,7 @@ use Rattle.from_llvm_ir.specs.Body.{HasHeads}
 use Rattle.from_llvm_ir.proofs.SourceLaws.{function_within, block_number}
 use Rattle.from_llvm_ir.proofs.FrameLaws.{named_at, frame_length}
 use Rattle.from_llvm_ir.proofs.StartLaws.{blocks_there, order_there, first_at, behind, more_targets, all_targets}
+use Rattle.from_llvm_ir.proofs.KeepLaws.{keeps_then}
 use Rattle.from_llvm_ir.proofs.functions.add_blocks.Goals as goal
 
 pub blocks-blocks-requires : goal.blocks-blocks-requires
@@ -24,6 +25,7 @@ loop-j-init c =
           let x = first_at m c.args.f fr c.blocks-blocks.result.now (record { 0 = 0 }) framed c.blocks-blocks.ensures.blocks in
           more_targets m c.args.f fr c.new-targets.result c.set.new.self 0 x.block _ c.in_ok-add_entry.field-0 framed c.in_ok-set.ensures x.here (block_number m fr.source _ 0 x.block x.is)
           (let e = c.in_ok-add_entry.ensures.number fr h in omega (arith, e)) (λ place b lt at. absurd (omega (arith, lt)));
+      kept = λ n b later. c.add_entry.ensures.kept n b later;
     }
 
 pub bounds-blocks-order : goal.bounds-blocks-order
@@ -54,8 +56,15 @@ loop-j-preserved c =
           let x = named_at m c.args.f fr c.args.order.now ns j framed order c.blocks-blocks.ensures.blocks c.loop-j-test.true in
           more_targets m c.args.f fr c.loop-j.targets c.set-in-loop-j.new.self j x.block _ c.in_ok-add_later_block.field-0 framed c.in_ok-set-2.ensures x.here (block_number m fr.source _ _ x.block x.is)
           (c.in_ok-add_later_block.ensures.number fr j (c.loop-j.invariant.heads fr framed order h)) (c.loop-j.invariant.targets fr framed order h);
+      kept = λ n b later. keeps_then n b c.args.ctx.now c.loop-j.ctx c.add_later_block.new.ctx (c.loop-j.invariant.kept n b later) (c.add_later_block.ensures.kept n b later);
     }
 
 pub returns-clause-targets : goal.returns-clause-targets
 returns-clause-targets c = λ fr framed order h.
     all_targets fr c.loop-j.targets c.loop-j.j (omega (arith, frame_length c.args.source.now c.args.f fr c.args.order.now framed order, c.loop-j-test.false)) (c.loop-j.invariant.targets fr framed order h)
+
+pub returns-in_err-add_later_block-clause-kept : goal.returns-in_err-add_later_block-clause-kept
+returns-in_err-add_later_block-clause-kept c = λ n b later. keeps_then n b c.args.ctx.now c.loop-j.ctx c.add_later_block.new.ctx (c.loop-j.invariant.kept n b later) (c.add_later_block.ensures.kept n b later)
+
+pub returns-in_err-set-2-clause-kept : goal.returns-in_err-set-2-clause-kept
+returns-in_err-set-2-clause-kept c = λ n b later. keeps_then n b c.args.ctx.now c.loop-j.ctx c.add_later_block.new.ctx (c.loop-j.invariant.kept n b later) (c.add_later_block.ensures.kept n b later)

@@ -3,6 +3,7 @@ use Rattle.std.proofs.Common.{◌∙◌, [], Some, ap, refl, map, codes}
 use Rattle.dialect_types.specs.Trees.{type_at, type_trees}
 use Rattle.from_llvm_ir.proofs.NameLaws.{plain_stays}
 use Rattle.from_llvm_ir.proofs.StartLaws.{more_heads, first_source}
+use Rattle.from_llvm_ir.proofs.KeepLaws.{keeps_then, keeps_types}
 use Rattle.from_llvm_ir.proofs.functions.add_entry.Goals as goal
 
 pub returns-clause-heads : goal.returns-clause-heads
@@ -15,3 +16,12 @@ returns-clause-heads c = λ fr framed h.
     (ap Some (c.in_ok-label.ensures ∙ plain_stays (codes "entry") refl))
     (ap (map (type_at (type_trees ctx.types))) c.as_slice.ensures.value ∙ c.in_ok-args.ensures.types fr.source framed.source)
     refl c.in_ok-block.ensures.building c.in_ok-block.ensures.func c.in_ok-block.ensures.count
+
+pub returns-in_err-args-clause-kept : goal.returns-in_err-args-clause-kept
+returns-in_err-args-clause-kept c = λ n b later. keeps_types n b c.args.ctx.now c.import_params.new.ctx c.import_params.ensures.grown
+
+pub returns-in_err-block-clause-kept : goal.returns-in_err-block-clause-kept
+returns-in_err-block-clause-kept c = λ n b later. keeps_then n b c.args.ctx.now c.import_params.new.ctx c.add_func_block.new.ctx (keeps_types n b c.args.ctx.now c.import_params.new.ctx c.import_params.ensures.grown) (c.add_func_block.ensures.kept n b later)
+
+pub returns-clause-kept : goal.returns-clause-kept
+returns-clause-kept c = λ n b later. keeps_then n b c.args.ctx.now c.import_params.new.ctx c.add_func_block.new.ctx (keeps_types n b c.args.ctx.now c.import_params.new.ctx c.import_params.ensures.grown) (c.add_func_block.ensures.kept n b later)

@@ -1,11 +1,13 @@
 -- What `functions::declare` owes besides what the check finds.
-use Rattle.std.proofs.Common.{ℕ, List, sym, subst, All, length}
+use Rattle.std.proofs.Common.{ℕ, List, sym, ap, subst, ◌∙◌, All, length}
 use Rattle.dialect_types.specs.Trees.{TypeTree, type_at, type_trees}
 use Rattle.dialect_core.specs.declared.ops.BlockData.{BlockData}
+use Rattle.dialect_core.specs.ContextData.{ContextData}
 use Rattle.dialect_core.specs.Data.{with_func}
 use Rattle.from_llvm_ir.specs.Imported.{IsBuilding, IsBelow}
 use Rattle.from_llvm_ir.specs.Building.{bare_func}
 use Rattle.from_llvm_ir.proofs.UnderLaws.{typed_building}
+use Rattle.from_llvm_ir.proofs.KeepLaws.{keeps_then, keeps_types}
 use Rattle.from_llvm_ir.proofs.functions.declare.Goals as goal
 
 pub add_func-requires-clause-module : goal.add_func-requires-clause-module
@@ -21,3 +23,18 @@ returns-clause-declared g c = λ f h m d b.
       before = subst (λ (k : ℕ). All (IsBelow k (length c.add_func.new.ctx.blocks)) d.functions) (sym c.in_ok-func.ensures.number)
           (subst (λ (bs : List BlockData). All (IsBelow (length c.import_function_type.new.ctx.ops) (length bs)) d.functions) (sym c.in_ok-func.ensures.blocks) typed.below);
     }
+
+pub returns-clause-number : goal.returns-clause-number
+returns-clause-number g c = c.in_ok-func.ensures.number ∙ ap (λ (y : ContextData). length y.ops) c.import_function_type.ensures.grown.rest
+
+pub returns-clause-blocks : goal.returns-clause-blocks
+returns-clause-blocks g c = c.in_ok-func.ensures.blocks ∙ ap (λ (y : ContextData). y.blocks) c.import_function_type.ensures.grown.rest
+
+pub returns-in_err-ty-clause-kept : goal.returns-in_err-ty-clause-kept
+returns-in_err-ty-clause-kept g c = λ m d h n b before. keeps_types n b c.args.ctx.now c.import_function_type.new.ctx c.import_function_type.ensures.grown
+
+pub returns-in_err-func-clause-kept : goal.returns-in_err-func-clause-kept
+returns-in_err-func-clause-kept g c = λ m d h n b before. keeps_then n b c.args.ctx.now c.import_function_type.new.ctx c.add_func.new.ctx (keeps_types n b c.args.ctx.now c.import_function_type.new.ctx c.import_function_type.ensures.grown) (c.add_func.ensures.kept m d (typed_building c.args.ctx.now c.import_function_type.new.ctx m c.args.body d h c.import_function_type.ensures.grown) n b before)
+
+pub returns-clause-kept : goal.returns-clause-kept
+returns-clause-kept g c = λ m d h n b before. keeps_then n b c.args.ctx.now c.import_function_type.new.ctx c.add_func.new.ctx (keeps_types n b c.args.ctx.now c.import_function_type.new.ctx c.import_function_type.ensures.grown) (c.add_func.ensures.kept m d (typed_building c.args.ctx.now c.import_function_type.new.ctx m c.args.body d h c.import_function_type.ensures.grown) n b before)

@@ -1,6 +1,7 @@
 -- What `functions::import_function` owes besides what the check finds.
-use Rattle.std.proofs.Common.{◌∙◌, refl, length, sym, ap, subst, List, ℕ}
+use Rattle.std.proofs.Common.{◌≡◌, ◌∙◌, refl, length, sym, ap, subst, List, ℕ, arith}
 use Rattle.block_order.specs.Graph.{IsGraph}
+use Rattle.dialect_core.specs.declared.ops.BlockData.{BlockData}
 use Rattle.from_llvm_ir.proofs.ForwardLaws.{passed_on}
 use Rattle.from_llvm_ir.specs.Order.{IsInverse}
 use Rattle.from_llvm_ir.specs.Match.{IsPlaces}
@@ -9,6 +10,7 @@ use Rattle.from_llvm_ir.proofs.GraphLaws.{is_graph}
 use Rattle.from_llvm_ir.proofs.OrderedLaws.{is_rpo, rpo_places, places_counted}
 use Rattle.from_llvm_ir.proofs.StartLaws.{framed, is_framed, no_heads, function_whole}
 use Rattle.from_llvm_ir.proofs.UndefinedLaws.{refused}
+use Rattle.from_llvm_ir.proofs.KeepLaws.{keeps_then}
 use Rattle.from_llvm_ir.proofs.functions.import_function.Goals as goal
 
 pub rpo-requires : goal.rpo-requires
@@ -81,3 +83,18 @@ returns-clause-ok g c = λ h source n d building.
     (subst (λ (os : List ℕ). IsInverse os c.in_ok-places.places) same c.in_ok-places.ensures.inverse)
     (subst (λ (k : ℕ). IsPlaces k c.in_ok-places.places) (ap (λ (os : List ℕ). length os) same ∙ places.count) c.in_ok-places.ensures.places)
     r.depth_first (c.in_ok-check_uses.ensures.ok h source graph)
+
+pub returns-in_err-func-clause-kept : goal.returns-in_err-func-clause-kept
+returns-in_err-func-clause-kept g c = λ m d h n b before behind. c.declare.ensures.kept m d h n b before
+
+pub returns-in_err-import_body-clause-kept : goal.returns-in_err-import_body-clause-kept
+returns-in_err-import_body-clause-kept g c = λ m d h n b before behind.
+    let there : length c.declare.new.ctx.blocks ≡ length c.args.ctx.now.blocks = ap (λ (bs : List BlockData). length bs) c.in_ok-func.ensures.blocks in
+    keeps_then n b c.args.ctx.now c.declare.new.ctx c.import_body.new.ctx (c.declare.ensures.kept m d h n b before)
+    (c.import_body.ensures.kept n b (omega (arith, before, h.there, c.in_ok-func.ensures.number)) (omega (arith, behind, h.held.block, there)))
+
+pub returns-clause-kept : goal.returns-clause-kept
+returns-clause-kept g c = λ m d h n b before behind.
+    let there : length c.declare.new.ctx.blocks ≡ length c.args.ctx.now.blocks = ap (λ (bs : List BlockData). length bs) c.in_ok-func.ensures.blocks in
+    keeps_then n b c.args.ctx.now c.declare.new.ctx c.import_body.new.ctx (c.declare.ensures.kept m d h n b before)
+    (c.import_body.ensures.kept n b (omega (arith, before, h.there, c.in_ok-func.ensures.number)) (omega (arith, behind, h.held.block, there)))

@@ -12,6 +12,6 @@ use Rattle.from_llvm_ir.proofs.importing.convert_module.Goals as goal
 
 pub returns-clause-same : goal.returns-clause-same
 returns-clause-same c = λ distinct.
-    let d = data_of c.args.source.now in
-    IfOk-weaker c.import_counted.result (IsImported d) (λ (i : Imported). SameCode (match_of d i.blocks) (Llvm.code_of d) (Dialect.code_of (imported_data i)))
-    (λ i made. same_imported c.args.source.now i c.requires.form made distinct) c.import_counted.ensures.imported
+    let d = data_of c.args.«module».now in
+    IfOk-weaker c.import_counted.result (IsImported d c.import_counted.new.ctx) (λ (i : Imported). SameCode (match_of d i.blocks) (Llvm.code_of d) (Dialect.code_of (imported_data c.import_counted.new.ctx i)))
+    (λ i made. same_imported c.args.«module».now c.import_counted.new.ctx i c.requires.form made distinct) c.import_counted.ensures.imported

@@ -8,6 +8,7 @@ use Rattle.from_llvm_ir.specs.Importing.{IsImportedTo}
 use Rattle.from_llvm_ir.proofs.SourceLaws.{source_at}
 use Rattle.from_llvm_ir.proofs.ForwardLaws.{passed_on}
 use Rattle.from_llvm_ir.proofs.ModuleLaws.{imported_none, imported_more, function_cause, name_given}
+use Rattle.from_llvm_ir.proofs.KeepLaws.{keeps_none, keeps_then}
 use Rattle.from_llvm_ir.proofs.importing.import_functions.Goals as goal
 
 pub index-requires : goal.index-requires
@@ -34,6 +35,7 @@ pub loop-f-init : goal.loop-f-init
 loop-f-init g c = record {
   within = omega arith;
   imported = λ m name h. subst (λ (bs : List FunctionBlocks). IsImportedTo (data_of c.args.source.now) 0 c.args.ctx.now m c.args.body name bs) (sym c.new-blocks.ensures) (imported_none (data_of c.args.source.now) c.args.ctx.now m c.args.body name h);
+  kept = λ m name h n b before behind. keeps_none n b c.args.ctx.now;
 }
 
 pub loop-f-preserved : goal.loop-f-preserved
@@ -47,6 +49,9 @@ loop-f-preserved g c =
           subst (λ (bs : List FunctionBlocks). IsImportedTo (data_of c.args.source.now) (c.loop-f.f + 1) c.import_function.new.ctx m c.args.body name bs) (sym c.in_ok-push.ensures.ok)
           (imported_more (data_of c.args.source.now) c.loop-f.f s.0 c.loop-f.ctx c.import_function.new.ctx m c.args.body name c.loop-f.blocks x so s.1.at
           (c.in_ok-import_function.ensures.ok s.0 s.1 m so.so_far so.building));
+      kept = λ m name h n b before behind.
+          let so = c.loop-f.invariant.imported m name h in
+          keeps_then n b c.args.ctx.now c.loop-f.ctx c.import_function.new.ctx (c.loop-f.invariant.kept m name h n b before behind) (c.import_function.ensures.kept m so.so_far so.building n b before behind);
     }
 
 pub returns-clause-ok : goal.returns-clause-ok
@@ -54,3 +59,13 @@ returns-clause-ok g c = λ m name h.
     subst (λ (k : ℕ). IsImportedTo (data_of c.args.source.now) k c.loop-f.ctx m c.args.body name c.loop-f.blocks)
     (omega (arith, c.functions-f-end.ensures.len, c.loop-f-test.false, c.loop-f.invariant.within))
     (c.loop-f.invariant.imported m name h)
+
+pub returns-in_err-import_function-clause-kept : goal.returns-in_err-import_function-clause-kept
+returns-in_err-import_function-clause-kept g c = λ m name h n b before behind.
+    let so = c.loop-f.invariant.imported m name h in
+    keeps_then n b c.args.ctx.now c.loop-f.ctx c.import_function.new.ctx (c.loop-f.invariant.kept m name h n b before behind) (c.import_function.ensures.kept m so.so_far so.building n b before behind)
+
+pub returns-in_err-push-clause-kept : goal.returns-in_err-push-clause-kept
+returns-in_err-push-clause-kept g c = λ m name h n b before behind.
+    let so = c.loop-f.invariant.imported m name h in
+    keeps_then n b c.args.ctx.now c.loop-f.ctx c.import_function.new.ctx (c.loop-f.invariant.kept m name h n b before behind) (c.import_function.ensures.kept m so.so_far so.building n b before behind)

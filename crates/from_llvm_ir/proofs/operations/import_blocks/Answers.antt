@@ -1,18 +1,24 @@
 -- What `operations::import_blocks` owes besides what the check finds.
-use Rattle.std.proofs.Common.{ℕ, refl, sym, subst, arith}
+use Rattle.std.proofs.Common.{ℕ, refl, sym, ap, subst, ◌∙◌, arith}
+use Rattle.std.proofs.lemmas.Option.{same_Some}
 use Rattle.std.specs.Prelude.{IsSome}
+use Rattle.dialect_core.specs.declared.numbers.BlockRef.{BlockRef}
 use Rattle.from_llvm_ir.specs.Body.{IsFilled}
 use Rattle.from_llvm_ir.proofs.ForwardLaws.{passed_on}
 use Rattle.from_llvm_ir.proofs.SourceLaws.{function_within}
 use Rattle.from_llvm_ir.proofs.FrameLaws.{named_at}
 use Rattle.from_llvm_ir.proofs.BodyLaws.{begins_at, target_named}
+use Rattle.from_llvm_ir.proofs.KeepLaws.{keeps_none, keeps_then}
 use Rattle.from_llvm_ir.proofs.operations.import_blocks.Goals as goal
 
 pub blocks-blocks-requires : goal.blocks-blocks-requires
 blocks-blocks-requires g c = function_within c.args.source.now c.args.f c.requires.0.source c.requires.1.source
 
 pub loop-place-init : goal.loop-place-init
-loop-place-init g c = λ fr framed order leads noted filled. filled
+loop-place-init g c = record {
+  filled = λ fr framed order leads noted filled. filled;
+  kept = λ fr framed order leads n b behind. keeps_none n b c.args.ctx.now;
+}
 
 pub bounds-blocks-place : goal.bounds-blocks-place
 bounds-blocks-place g c = (named_at c.args.source.now c.args.f c.requires.0 c.args.order.now c.blocks-blocks.result.now c.loop-place.place-index c.requires.1 c.requires.2 c.blocks-blocks.ensures.blocks c.loop-place-test.true).within
@@ -28,7 +34,7 @@ import_insts-requires g c =
     let r = c.requires in
     let m = c.args.source.now in
     let x = named_at m c.args.f r.0 c.args.order.now c.blocks-blocks.result.now c.loop-place.place-index r.1 r.2 c.blocks-blocks.ensures.blocks c.loop-place-test.true in
-    (r.0, c.args.f, c.loop-place.place-index, x.block, begins_at m c.args.f r.0 c.args.targets.now c.args.entries.now c.loop-place.ctx c.loop-place.values c.args.order.now c.blocks-blocks.result.now c.loop-place.place-index c.of.result r.1 r.3 r.4 x c.of.ensures (c.loop-place.invariant r.0 r.1 r.2 r.3 r.4 r.5))
+    (r.0, c.args.f, c.loop-place.place-index, x.block, begins_at m c.args.f r.0 c.args.targets.now c.args.entries.now c.loop-place.ctx c.loop-place.values c.args.order.now c.blocks-blocks.result.now c.loop-place.place-index c.of.result r.1 r.3 r.4 x c.of.ensures (c.loop-place.invariant.filled r.0 r.1 r.2 r.3 r.4 r.5))
 
 pub returns-in_err-import_insts-clause-err : goal.returns-in_err-import_insts-clause-err
 returns-in_err-import_insts-clause-err g c =
@@ -36,14 +42,26 @@ returns-in_err-import_insts-clause-err g c =
     (λ fr framed order leads noted filled.
     let m = c.args.source.now in
     let x = named_at m c.args.f fr c.args.order.now c.blocks-blocks.result.now c.loop-place.place-index framed order c.blocks-blocks.ensures.blocks c.loop-place-test.true in
-    c.in_err-import_insts.ensures.err fr c.args.f c.loop-place.place-index x.block (begins_at m c.args.f fr c.args.targets.now c.args.entries.now c.loop-place.ctx c.loop-place.values c.args.order.now c.blocks-blocks.result.now c.loop-place.place-index c.of.result framed leads noted x c.of.ensures (c.loop-place.invariant fr framed order leads noted filled)))
+    c.in_err-import_insts.ensures.err fr c.args.f c.loop-place.place-index x.block (begins_at m c.args.f fr c.args.targets.now c.args.entries.now c.loop-place.ctx c.loop-place.values c.args.order.now c.blocks-blocks.result.now c.loop-place.place-index c.of.result framed leads noted x c.of.ensures (c.loop-place.invariant.filled fr framed order leads noted filled)))
 
 pub loop-place-preserved : goal.loop-place-preserved
-loop-place-preserved g c = λ fr framed order leads noted filled.
-    let m = c.args.source.now in
-    let x = named_at m c.args.f fr c.args.order.now c.blocks-blocks.result.now c.loop-place.place-index framed order c.blocks-blocks.ensures.blocks c.loop-place-test.true in
-    c.in_ok-import_insts.ensures.ok fr c.args.f c.loop-place.place-index x.block (begins_at m c.args.f fr c.args.targets.now c.args.entries.now c.loop-place.ctx c.loop-place.values c.args.order.now c.blocks-blocks.result.now c.loop-place.place-index c.of.result framed leads noted x c.of.ensures (c.loop-place.invariant fr framed order leads noted filled))
+loop-place-preserved g c = record {
+  filled = λ fr framed order leads noted filled.
+      let m = c.args.source.now in
+      let x = named_at m c.args.f fr c.args.order.now c.blocks-blocks.result.now c.loop-place.place-index framed order c.blocks-blocks.ensures.blocks c.loop-place-test.true in
+      c.in_ok-import_insts.ensures.ok fr c.args.f c.loop-place.place-index x.block (begins_at m c.args.f fr c.args.targets.now c.args.entries.now c.loop-place.ctx c.loop-place.values c.args.order.now c.blocks-blocks.result.now c.loop-place.place-index c.of.result framed leads noted x c.of.ensures (c.loop-place.invariant.filled fr framed order leads noted filled));
+  kept = λ fr framed order leads n b behind.
+      let x = named_at c.args.source.now c.args.f fr c.args.order.now c.blocks-blocks.result.now c.loop-place.place-index framed order c.blocks-blocks.ensures.blocks c.loop-place-test.true in
+      let at = same_Some _ _ (sym c.of.ensures ∙ target_named c.args.source.now fr c.args.targets.now c.args.order.now c.blocks-blocks.result.now c.loop-place.place-index leads x) in
+      keeps_then n b c.args.ctx.now c.loop-place.ctx c.import_insts.new.ctx (c.loop-place.invariant.kept fr framed order leads n b behind) (c.import_insts.ensures.kept n b (omega (arith, behind, ap (λ (y : BlockRef). y.0) at)));
+}
 
 pub returns-clause-ok : goal.returns-clause-ok
 returns-clause-ok g c = λ fr framed order leads noted filled.
-    subst (λ (n : ℕ). IsFilled fr c.args.source.now c.loop-place.ctx c.loop-place.values n) (omega (arith, c.loop-place-test.false, c.loop-place.auto.place-index-end)) (c.loop-place.invariant fr framed order leads noted filled)
+    subst (λ (n : ℕ). IsFilled fr c.args.source.now c.loop-place.ctx c.loop-place.values n) (omega (arith, c.loop-place-test.false, c.loop-place.auto.place-index-end)) (c.loop-place.invariant.filled fr framed order leads noted filled)
+
+pub returns-in_err-import_insts-clause-kept : goal.returns-in_err-import_insts-clause-kept
+returns-in_err-import_insts-clause-kept g c = λ fr framed order leads n b behind.
+    let x = named_at c.args.source.now c.args.f fr c.args.order.now c.blocks-blocks.result.now c.loop-place.place-index framed order c.blocks-blocks.ensures.blocks c.loop-place-test.true in
+    let at = same_Some _ _ (sym c.of.ensures ∙ target_named c.args.source.now fr c.args.targets.now c.args.order.now c.blocks-blocks.result.now c.loop-place.place-index leads x) in
+    keeps_then n b c.args.ctx.now c.loop-place.ctx c.import_insts.new.ctx (c.loop-place.invariant.kept fr framed order leads n b behind) (c.import_insts.ensures.kept n b (omega (arith, behind, ap (λ (y : BlockRef). y.0) at)))

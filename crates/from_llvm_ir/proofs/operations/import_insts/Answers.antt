@@ -3,10 +3,14 @@ use Rattle.std.proofs.Common.{arith}
 use Rattle.from_llvm_ir.proofs.ForwardLaws.{passed_on}
 use Rattle.from_llvm_ir.proofs.SourceLaws.{listed_at, insts_listed}
 use Rattle.from_llvm_ir.proofs.BodyLaws.{begun, filled, next_at}
+use Rattle.from_llvm_ir.proofs.KeepLaws.{keeps_none, keeps_then}
 use Rattle.from_llvm_ir.proofs.operations.import_insts.Goals as goal
 
 pub loop-place-init : goal.loop-place-init
-loop-place-init g c = λ fr f j b h. begun fr c.args.source.now c.args.ctx.now c.args.values.now j b h.here h.filled
+loop-place-init g c = record {
+  body = λ fr f j b h. begun fr c.args.source.now c.args.ctx.now c.args.values.now j b h.here h.filled;
+  kept = λ n b behind. keeps_none n b c.args.ctx.now;
+}
 
 pub import_inst-requires : goal.import_inst-requires
 import_inst-requires g c =
@@ -17,7 +21,7 @@ import_inst-requires g c =
     let h = c.requires.4 in
     let m = c.args.source.now in
     let x = listed_at m fr.source c.args.from h.place b c.instructions-insts.result.now c.loop-place.place (record { 0 = 0 }) h.framed.source.sound h.of_block c.instructions-insts.ensures.insts c.loop-place-test.true in
-    (fr, f, j, b, x.0, next_at fr m f c.args.targets.now c.args.entries.now c.args.ctx.now c.loop-place.ctx c.args.values.now c.loop-place.values c.args.from c.args.block _ j c.loop-place.place b x.0 h x.1 (c.loop-place.invariant fr f j b h))
+    (fr, f, j, b, x.0, next_at fr m f c.args.targets.now c.args.entries.now c.args.ctx.now c.loop-place.ctx c.args.values.now c.loop-place.values c.args.from c.args.block _ j c.loop-place.place b x.0 h x.1 (c.loop-place.invariant.body fr f j b h))
 
 pub returns-in_err-import_inst-clause-err : goal.returns-in_err-import_inst-clause-err
 returns-in_err-import_inst-clause-err g c =
@@ -25,16 +29,22 @@ returns-in_err-import_inst-clause-err g c =
     (λ fr f j b h.
     let m = c.args.source.now in
     let x = listed_at m fr.source c.args.from h.place b c.instructions-insts.result.now c.loop-place.place (record { 0 = 0 }) h.framed.source.sound h.of_block c.instructions-insts.ensures.insts c.loop-place-test.true in
-    c.in_err-import_inst.ensures.err fr f j b x.0 (next_at fr m f c.args.targets.now c.args.entries.now c.args.ctx.now c.loop-place.ctx c.args.values.now c.loop-place.values c.args.from c.args.block _ j c.loop-place.place b x.0 h x.1 (c.loop-place.invariant fr f j b h)))
+    c.in_err-import_inst.ensures.err fr f j b x.0 (next_at fr m f c.args.targets.now c.args.entries.now c.args.ctx.now c.loop-place.ctx c.args.values.now c.loop-place.values c.args.from c.args.block _ j c.loop-place.place b x.0 h x.1 (c.loop-place.invariant.body fr f j b h)))
 
 pub loop-place-preserved : goal.loop-place-preserved
-loop-place-preserved g c = λ fr f j b h.
-    let m = c.args.source.now in
-    let x = listed_at m fr.source c.args.from h.place b c.instructions-insts.result.now c.loop-place.place (record { 0 = 0 }) h.framed.source.sound h.of_block c.instructions-insts.ensures.insts c.loop-place-test.true in
-    c.in_ok-import_inst.ensures.ok fr f j b x.0 (next_at fr m f c.args.targets.now c.args.entries.now c.args.ctx.now c.loop-place.ctx c.args.values.now c.loop-place.values c.args.from c.args.block _ j c.loop-place.place b x.0 h x.1 (c.loop-place.invariant fr f j b h))
+loop-place-preserved g c = record {
+  body = λ fr f j b h.
+      let m = c.args.source.now in
+      let x = listed_at m fr.source c.args.from h.place b c.instructions-insts.result.now c.loop-place.place (record { 0 = 0 }) h.framed.source.sound h.of_block c.instructions-insts.ensures.insts c.loop-place-test.true in
+      c.in_ok-import_inst.ensures.ok fr f j b x.0 (next_at fr m f c.args.targets.now c.args.entries.now c.args.ctx.now c.loop-place.ctx c.args.values.now c.loop-place.values c.args.from c.args.block _ j c.loop-place.place b x.0 h x.1 (c.loop-place.invariant.body fr f j b h));
+  kept = λ n b behind. keeps_then n b c.args.ctx.now c.loop-place.ctx c.import_inst.new.ctx (c.loop-place.invariant.kept n b behind) (c.import_inst.ensures.kept n b behind);
+}
 
 pub returns-clause-ok : goal.returns-clause-ok
 returns-clause-ok g c = λ fr f j b h.
     let m = c.args.source.now in
     let listed = insts_listed m fr.source c.args.from h.place b c.instructions-insts.result.now h.framed.source.sound h.of_block c.instructions-insts.ensures.insts in
-    filled fr m c.loop-place.ctx c.loop-place.values j c.loop-place.place b (omega (arith, listed.long, c.loop-place-test.false)) (c.loop-place.invariant fr f j b h)
+    filled fr m c.loop-place.ctx c.loop-place.values j c.loop-place.place b (omega (arith, listed.long, c.loop-place-test.false)) (c.loop-place.invariant.body fr f j b h)
+
+pub returns-in_err-import_inst-clause-kept : goal.returns-in_err-import_inst-clause-kept
+returns-in_err-import_inst-clause-kept g c = λ n b behind. keeps_then n b c.args.ctx.now c.loop-place.ctx c.import_inst.new.ctx (c.loop-place.invariant.kept n b behind) (c.import_inst.ensures.kept n b behind)

@@ -24,6 +24,7 @@ use Rattle.from_llvm_ir.proofs.ForwardLaws.{passed_on}
 use Rattle.from_llvm_ir.proofs.ReadyLaws.{body_open, edges_stand, edges_within, in_operands, in_targets, operands_settled, operands_stand, targets_ready, values_within}
 use Rattle.from_llvm_ir.proofs.RefusalLaws.{late}
 use Rattle.from_llvm_ir.proofs.OperationLaws.{kind_found, operation_more}
+use Rattle.from_llvm_ir.proofs.KeepLaws.{keeps_then, keeps_types}
 use Rattle.from_llvm_ir.proofs.operations.import_op.Goals as goal
 
 pub known_values-requires : goal.known_values-requires
@@ -120,3 +121,18 @@ returns-clause-ok g c = λ fr f j x b p h other.
     (c.in_ok-op.ensures.count ∙ ap (λ (y : ContextData). length y.ops + 1) grown.rest)
     (c.in_ok-op.ensures.added fr.home fr.base _ _ _ kind.0 kind.1 under)
     c.in_ok-set.ensures
+
+pub returns-in_err-ty-clause-kept : goal.returns-in_err-ty-clause-kept
+returns-in_err-ty-clause-kept g c = λ n b behind. keeps_types n b c.args.ctx.now c.import_result_type.new.ctx c.import_result_type.ensures.grown
+
+pub returns-in_err-name-clause-kept : goal.returns-in_err-name-clause-kept
+returns-in_err-name-clause-kept g c = λ n b behind. keeps_types n b c.args.ctx.now c.import_result_type.new.ctx c.import_result_type.ensures.grown
+
+pub returns-in_err-op-clause-kept : goal.returns-in_err-op-clause-kept
+returns-in_err-op-clause-kept g c = λ n b behind. keeps_then n b c.args.ctx.now c.import_result_type.new.ctx c.add_op.new.ctx (keeps_types n b c.args.ctx.now c.import_result_type.new.ctx c.import_result_type.ensures.grown) (c.add_op.ensures.kept n b behind)
+
+pub returns-in_err-set-clause-kept : goal.returns-in_err-set-clause-kept
+returns-in_err-set-clause-kept g c = λ n b behind. keeps_then n b c.args.ctx.now c.import_result_type.new.ctx c.add_op.new.ctx (keeps_types n b c.args.ctx.now c.import_result_type.new.ctx c.import_result_type.ensures.grown) (c.add_op.ensures.kept n b behind)
+
+pub returns-clause-kept : goal.returns-clause-kept
+returns-clause-kept g c = λ n b behind. keeps_then n b c.args.ctx.now c.import_result_type.new.ctx c.add_op.new.ctx (keeps_types n b c.args.ctx.now c.import_result_type.new.ctx c.import_result_type.ensures.grown) (c.add_op.ensures.kept n b behind)

@@ -1,4 +1,4 @@
--- What `exports::intern_func` owes besides what the check finds.
+-- What `hand::intern_func` owes besides what the check finds.
 use Rattle.std.proofs.Common.{arith}
 use Rattle.layer_tests.proofs.hand.intern_func.Goals as goal
 

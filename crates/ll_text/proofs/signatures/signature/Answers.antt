@@ -1,4 +1,5 @@
 -- What `signatures::signature` owes besides what the check finds.
+use Rattle.ll_text.proofs.ModuleLaws.{interned_twice, type_interned}
 use Rattle.ll_text.proofs.SignatureLaws.{type_over, signed}
 use Rattle.ll_text.proofs.signatures.signature.Goals as goal
 
@@ -11,3 +12,9 @@ pub returns-clause-ty : goal.returns-clause-ty
 returns-clause-ty c =
     signed _ c.result_type.new.draft c.param_types.new.draft c.type_get.new.self c.args.returns c.in_ok-result.result c.in_ok-ty.ty c.in_ok-params.params
     c.in_ok-params.ensures.rest c.in_ok-result.ensures.here c.in_ok-params.ensures.types c.in_ok-ty.ensures.interned c.in_ok-ty.ensures.sound
+
+pub returns-clause-rest : goal.returns-clause-rest
+returns-clause-rest c =
+    let e = c.in_ok-ty.ensures in
+    let before = interned_twice c.args.draft.now c.result_type.new.draft c.param_types.new.draft c.in_ok-result.ensures.rest c.in_ok-params.ensures.rest in
+    interned_twice c.args.draft.now c.param_types.new.draft c.type_get.new.self before (type_interned _ _ _ _ e.interned e.rest e.data e.sound)

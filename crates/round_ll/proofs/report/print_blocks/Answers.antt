@@ -7,11 +7,11 @@ use Rattle.round_ll.proofs.ReportLaws.{name_of-function, front_done, front_in_li
 use Rattle.round_ll.proofs.report.print_blocks.Goals as goal
 
 pub returns-clause-ok : goal.returns-clause-ok
-returns-clause-ok c = let named = name_of-function c.args.module.now c.args.blocks.now.function.0 c.function_name.result.now c.function_name.ensures in grind (arith, common_steps, named)
+returns-clause-ok c = let named = name_of-function c.args.«module».now c.args.blocks.now.function.0 c.function_name.result.now c.function_name.ensures in grind (arith, common_steps, named)
 
 pub returns-in_err-print_places-clause-err : goal.returns-in_err-print_places-clause-err
 returns-in_err-print_places-clause-err c =
-    let named = name_of-function c.args.module.now c.args.blocks.now.function.0 c.function_name.result.now c.function_name.ensures in
+    let named = name_of-function c.args.«module».now c.args.blocks.now.function.0 c.function_name.result.now c.function_name.ensures in
     let before = c.args.out.now.items in
     let middle = c.extend_from_slice-2.new.self.items in
     let is : middle ≡ (before ++ codes "blocks @") ++ c.function_name.result.now = cc (c.in_ok-extend_from_slice.ensures.items, c.in_ok-extend_from_slice-2.ensures.items, c.as_bytes.ensures.value) in
@@ -22,9 +22,9 @@ returns-in_err-print_places-clause-err c =
 
 pub returns-in_err-push-clause-err : goal.returns-in_err-push-clause-err
 returns-in_err-push-clause-err c =
-    let named = name_of-function c.args.module.now c.args.blocks.now.function.0 c.function_name.result.now c.function_name.ensures in
+    let named = name_of-function c.args.«module».now c.args.blocks.now.function.0 c.function_name.result.now c.function_name.ensures in
     let before = c.args.out.now.items in
     let after = c.push.new.self.items in
-    let done = (codes "blocks @" ++ name_of (data_of c.args.module.now) c.args.blocks.now.function.0) ++ places_text c.args.blocks.now.places in
+    let done = (codes "blocks @" ++ name_of (data_of c.args.«module».now) c.args.blocks.now.function.0) ++ places_text c.args.blocks.now.places in
     let is : after ≡ before ++ done = grind (arith, common_steps, named) in
     on_err _ c.from_residual-in_err-push.result (front_done before after done (10 ∷ []) is)

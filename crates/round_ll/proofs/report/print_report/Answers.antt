@@ -8,7 +8,7 @@ use Rattle.round_ll.proofs.report.print_report.Goals as goal
 
 pub returns-in_err-print_blocks-clause-err : goal.returns-in_err-print_blocks-clause-err
 returns-in_err-print_blocks-clause-err c =
-    let line = blocks_line (data_of c.args.module.now) in
+    let line = blocks_line (data_of c.args.«module».now) in
     let here = subst (λ (x : FunctionBlocks). HoldsFront c.loop-x.out.items c.print_blocks.new.out.items (line x)) c.x-item.is c.in_err-print_blocks.ensures.err in
     on_err _ c.from_residual.result
     (front_in_loop line c.args.blocks.now c.loop-x.x-index c.x-item.result c.args.out.now.items _ _ c.loop-x-test.true c.loop-x.invariant here)

@@ -10,7 +10,7 @@ use Rattle.to_llvm_ir.proofs.FinishLaws.{exported_none, held_at, form_held, adds
 use Rattle.to_llvm_ir.proofs.exporting.convert_functions.Goals as goal
 
 pub loop-op-init : goal.loop-op-init
-loop-op-init c = exported_none (L.data_of c.args.back.now)
+loop-op-init c = exported_none (L.data_of c.args.cctx.now.module)
 
 pub convert_held-requires-clause-form : goal.convert_held-requires-clause-form
 convert_held-requires-clause-form c = λ g is. form_held c.args.ctx.now c.args.ops.now c.loop-op.op-index _ g c.requires.forms c.loop-op-test.true is
@@ -26,7 +26,7 @@ returns-in_err-convert_held-clause-cause c = λ d are.
 
 pub loop-op-preserved : goal.loop-op-preserved
 loop-op-preserved c =
-    adds_more c.args.ctx.now c.args.ops.now c.loop-op.op-index _ (L.data_of c.args.back.now) (L.data_of c.loop-op.back) (L.data_of c.convert_held.new.back) c.loop-op-test.true c.loop-op.invariant c.in_ok-convert_held.ensures.ok
+    adds_more c.args.ctx.now c.args.ops.now c.loop-op.op-index _ (L.data_of c.args.cctx.now.module) (L.data_of c.loop-op.cctx.module) (L.data_of c.convert_held.new.cctx.module) c.loop-op-test.true c.loop-op.invariant c.in_ok-convert_held.ensures.ok
 
 pub returns-clause-ok : goal.returns-clause-ok
-returns-clause-ok c = adds_all c.args.ctx.now c.args.ops.now c.loop-op.op-index (L.data_of c.args.back.now) (L.data_of c.loop-op.back) c.loop-op-test.false c.loop-op.invariant
+returns-clause-ok c = adds_all c.args.ctx.now c.args.ops.now c.loop-op.op-index (L.data_of c.args.cctx.now.module) (L.data_of c.loop-op.cctx.module) c.loop-op-test.false c.loop-op.invariant

@@ -2,7 +2,7 @@
 use Rattle.std.proofs.Common.{◌∙◌, ap}
 use Rattle.std.proofs.lemmas.List.{take_all}
 use Rattle.dialect_core.specs.declared.numbers.OpRef.{OpRef}
-use Rattle.to_llvm_ir.specs.Exported.{number_behind}
+use Rattle.to_llvm_ir.specs.Made.{number_behind}
 use Rattle.to_llvm_ir.specs.Ordering.{ops_of}
 use Rattle.to_llvm_ir.proofs.NumberingLaws.{behind_more}
 use Rattle.std.proofs.Common.{List}

@@ -1,6 +1,6 @@
 -- The operations so far are counted.
 use Rattle.std.proofs.Common.{◌≡◌, take}
-use Rattle.to_llvm_ir.specs.Exported.{number_behind}
+use Rattle.to_llvm_ir.specs.Made.{number_behind}
 use Rattle.to_llvm_ir.specs.Ordering.{ops_of}
 use Rattle.to_llvm_ir.proofs.numbering.number_behind.Given as goal
 

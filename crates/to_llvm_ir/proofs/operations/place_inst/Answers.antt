@@ -10,7 +10,8 @@ use Rattle.dialect_types.specs.Names.{IsPlainName}
 use Rattle.dialect_types.specs.declared.types.TypeHandle.{TypeHandle}
 use Rattle.dialect_types.specs.Trees.{TypeTree, type_at, type_trees}
 use Rattle.std.specs.Prelude.{IfSome}
-use Rattle.to_llvm_ir.specs.Exported.{value_name, result_name, number_behind}
+use Rattle.to_llvm_ir.specs.Exported.{value_name, result_name}
+use Rattle.to_llvm_ir.specs.Made.{number_behind}
 use Rattle.to_llvm_ir.specs.States.{first_at}
 use Rattle.to_llvm_ir.proofs.OpLaws.{spot_form, spot_parts, result_is, name_is}
 use Rattle.to_llvm_ir.proofs.StepLaws.{void_placed, typed_placed}

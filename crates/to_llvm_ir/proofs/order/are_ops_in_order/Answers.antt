@@ -3,7 +3,7 @@ use Rattle.std.proofs.Common.{◌++◌, ◌∷◌, [], Bool, List, map, take, ge
 use Rattle.std.specs.Prelude.{MatchBool}
 use Rattle.std.proofs.lemmas.List.{append-nil, take_all}
 use Rattle.dialect_core.specs.declared.numbers.OpRef.{OpRef}
-use Rattle.to_llvm_ir.specs.Made.{result}
+use Rattle.to_llvm_ir.specs.Exported.{result}
 use Rattle.to_llvm_ir.specs.Ordering.{AreSeen, HasUsesAmong, ops_of}
 use Rattle.to_llvm_ir.proofs.OrderingLaws.{uses_nil, in_order_more, seen_with, out_of_order}
 use Rattle.to_llvm_ir.proofs.order.are_ops_in_order.Goals as goal

@@ -1,6 +1,6 @@
 -- First the arguments, then the operations.
 use Rattle.std.proofs.Common.{◌≡◌, ◌∙◌, ◌++◌, sym, ap}
-use Rattle.to_llvm_ir.specs.Made.{arguments_of}
+use Rattle.to_llvm_ir.specs.Exported.{arguments_of}
 use Rattle.to_llvm_ir.specs.Ordering.{ops_of}
 use Rattle.to_llvm_ir.proofs.ContextLaws.{block_parts}
 use Rattle.to_llvm_ir.proofs.OrderingLaws.{block_answer}

@@ -4,7 +4,7 @@ use Rattle.std.specs.Prelude.{MatchBool}
 use Rattle.std.proofs.lemmas.Bool.{cases_eq}
 use Rattle.std.proofs.lemmas.Option.{same_Some, slice_get_within, slice_get-get_or}
 use Rattle.dialect_core.specs.Data.{DialectBlock}
-use Rattle.to_llvm_ir.specs.Made.{arguments_of}
+use Rattle.to_llvm_ir.specs.Exported.{arguments_of}
 use Rattle.to_llvm_ir.specs.States.{all_values, seen_before}
 use Rattle.to_llvm_ir.specs.Ordering.{AreSeen, HasUsesAmong}
 use Rattle.to_llvm_ir.proofs.OrderingLaws.{seen_none, seen_block, block_before, before_block}

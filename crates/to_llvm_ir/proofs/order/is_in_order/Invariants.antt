@@ -1,7 +1,7 @@
 -- The blocks so far are in order, and their values are noted.
 use Rattle.std.proofs.Common.{◌≡◌, ◌<◌, ◌++◌, ℕ, Some, slice_get}
 use Rattle.dialect_core.specs.Data.{DialectBlock, Func}
-use Rattle.to_llvm_ir.specs.Made.{arguments_of}
+use Rattle.to_llvm_ir.specs.Exported.{arguments_of}
 use Rattle.to_llvm_ir.specs.States.{seen_before}
 use Rattle.to_llvm_ir.specs.Ordering.{AreBlocksOf, AreSeen, HasUsesAmong}
 use Rattle.to_llvm_ir.proofs.order.is_in_order.Given as goal

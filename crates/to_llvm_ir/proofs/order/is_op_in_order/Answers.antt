@@ -7,7 +7,7 @@ use Rattle.dialect_core.specs.declared.ops.Value.{Value}
 use Rattle.dialect_core.specs.declared.ops.Value.TheVariants.{Result}
 use Rattle.dialect_core.specs.Data.{DialectOp}
 use Rattle.dialect_core.specs.Form.{uses_of}
-use Rattle.to_llvm_ir.specs.Made.{result}
+use Rattle.to_llvm_ir.specs.Exported.{result}
 use Rattle.to_llvm_ir.specs.Ordering.{AreSeen, HasUsesAmong, is_seen}
 use Rattle.to_llvm_ir.proofs.OpLaws.{op_parts}
 use Rattle.to_llvm_ir.proofs.OrderingLaws.{ops_none, ops_some, uses_nil, uses_one, one_uses, noted_among, among_noted, seen_more}

@@ -4,7 +4,7 @@ use Rattle.std.proofs.lemmas.List.{append-nil}
 use Rattle.dialect_core.specs.declared.ops.Value.{Value}
 use Rattle.dialect_core.specs.declared.ops.Value.TheVariants.{Argument}
 use Rattle.dialect_core.specs.Data.{DialectBlock}
-use Rattle.to_llvm_ir.specs.Made.{arguments_of}
+use Rattle.to_llvm_ir.specs.Exported.{arguments_of}
 use Rattle.to_llvm_ir.specs.States.{upto}
 use Rattle.to_llvm_ir.specs.Ordering.{AreSeen}
 use Rattle.to_llvm_ir.proofs.ListLaws.{item_there}

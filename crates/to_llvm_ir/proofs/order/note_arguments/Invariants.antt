@@ -3,7 +3,7 @@ use Rattle.std.proofs.Common.{◌≡◌, ◌++◌, List, Some}
 use Rattle.dialect_types.specs.Trees.{type_trees}
 use Rattle.dialect_core.specs.declared.ops.Value.{Value}
 use Rattle.dialect_core.specs.Data.{DialectBlock, block_in}
-use Rattle.to_llvm_ir.specs.Made.{arguments_of}
+use Rattle.to_llvm_ir.specs.Exported.{arguments_of}
 use Rattle.to_llvm_ir.specs.States.{upto}
 use Rattle.to_llvm_ir.specs.Ordering.{AreSeen}
 use Rattle.to_llvm_ir.proofs.order.note_arguments.Given as goal

@@ -7,4 +7,4 @@ abbrev pub decreases-append_type : goal.decreases-append_type
 decreases-append_type l = l.ty.0
 
 abbrev pub invariant-loop-i : goal.invariant-loop-i
-invariant-loop-i l = PrintedParams (type_trees l.self) l.param-items l.fn.ty.0 l.i l.initial.out.items l.out.items
+invariant-loop-i l = PrintedParams (type_trees l.self) l.param-items l.fn.ty.0 l.i l.fn.out.items l.initial.out.items l.out.items

@@ -1,0 +1,170 @@
+-- What the calls that build leave of the modules that a context held before.
+use Rattle.std.proofs.Common.{ℕ, ◌≡◌, ◌<◌, ◌≤◌, refl, sym, ap, subst, ◌∙◌, List, [], ◌∷◌, Option, Some, None, All, length, slice_get, arith}
+use Rattle.std.specs.List.{filter_map, cons_option}
+use Rattle.std.specs.Option.{option_map, option_and_then}
+use Rattle.std.proofs.lemmas.List.Elements.{All-nil, All-cons, All-head, All-tail}
+use Rattle.std.proofs.lemmas.Option.{none-some, slice_get_within, same_Some}
+use Rattle.dialect_types.specs.Trees.{type_trees}
+use Rattle.dialect_core.specs.declared.numbers.OpRef.{OpRef}
+use Rattle.dialect_core.specs.declared.numbers.BlockRef.{BlockRef}
+use Rattle.dialect_core.specs.declared.ops.Symbol.{Symbol}
+use Rattle.dialect_core.specs.declared.ops.OpData.{OpData}
+use Rattle.dialect_core.specs.declared.ops.BlockData.{BlockData}
+use Rattle.dialect_core.specs.ContextData.{ContextData, AreRegions, empty_context, with_op, with_block, with_appended, holder_at, region_at}
+use Rattle.dialect_core.specs.Data.{DialectModule, Func, DialectBlock, DialectOp, IsTyped, block_of, block_in, func_of, func_in, held, data_of, with_func_block, with_block_op}
+use Rattle.dialect_core.proofs.FilterLemmas.{change_length}
+use Rattle.dialect_core.proofs.LineLemmas.{at_all}
+use Rattle.dialect_core.proofs.NewBlockLemmas.{func}
+use Rattle.dialect_core.proofs.TypeLemmas.{more_types_data}
+use Rattle.dialect_core.proofs.TypedLemmas.{more_types_typed}
+use Rattle.from_llvm_ir.specs.Types.{GrowsTypes}
+use Rattle.from_llvm_ir.specs.Imported.{IsBelow, IsBuilding}
+use Rattle.from_llvm_ir.specs.Keeping.{Keeps, AreOthersKept}
+use Rattle.from_llvm_ir.proofs.BuildLaws.{length-push, region_kept, region_more}
+use Rattle.from_llvm_ir.proofs.UnderLaws.{funcs_kept, ops_kept}
+
+-- ---- one call after another
+
+pub keeps_none : (n b : ℕ) (c : ContextData) → Keeps n b c c
+keeps_none n b c = record { kept = λ typed long. record { typed = typed; longer = long; same = λ k small below. refl } }
+
+pub keeps_same : (n b : ℕ) (c c' : ContextData) → c' ≡ c → Keeps n b c c'
+keeps_same n b c c' e = subst (Keeps n b c) (sym e) (keeps_none n b c)
+
+pub keeps_then : (n b : ℕ) (x y z : ContextData) → Keeps n b x y → Keeps n b y z → Keeps n b x z
+keeps_then n b x y z g h = record {
+  kept = λ typed long.
+      let first = g.kept typed long in
+      let next = h.kept first.typed first.longer in
+      record {
+        typed = next.typed;
+        longer = next.longer;
+        same = λ k small below. next.same k small (subst (λ (d : DialectModule). All (IsBelow n b) d.functions) (sym (first.same k small below)) below) ∙ first.same k small below;
+      };
+}
+
+-- ---- more types
+
+pub keeps_types : (n b : ℕ) (c c' : ContextData) → GrowsTypes c c' → Keeps n b c c'
+keeps_types n b c c' g = subst (Keeps n b c) (sym g.rest) (record {
+  kept = λ typed long. record {
+    typed = more_types_typed c c'.types typed g.more.longer;
+    longer = long;
+    same = λ k small below. more_types_data c c'.types typed g.more.kept k;
+  };
+})
+
+-- ---- an operation, a function, a block more
+
+-- a new block of an operation that came later
+pub keeps_block : (n b : ℕ) (c c' : ContextData) (x : BlockRef) (y : BlockData) (d : DialectBlock) → c' ≡ with_block c x y → ((m : ℕ) → data_of c' m ≡ with_func_block (data_of c m) y.holder.0 d) → (IsTyped c → IsTyped c') → n ≤ y.holder.0 → Keeps n b c c'
+keeps_block n b c c' x y d e changed typed later = record {
+  kept = λ was long. record {
+    typed = typed was;
+    longer = rw e (omega (arith, long, change_length (region_more x) y.holder.0 c.ops));
+    same = λ k small below. changed k ∙ ap (λ (fs : List Func). record (data_of c k) { functions = fs }) (funcs_kept y.holder.0 b d (data_of c k).functions (numbers_below (data_of c k).functions below));
+  };
+}
+  where
+    numbers_below : (fs : List Func) → All (IsBelow n b) fs → All (IsBelow y.holder.0 b) fs
+    numbers_below [] h = All-nil _
+    numbers_below (f ∷ fs) h = let here = All-head (IsBelow n b) f fs h in All-cons (IsBelow y.holder.0 b) f fs (omega (arith, here.0, later), here.1) (numbers_below fs (All-tail (IsBelow n b) f fs h))
+
+-- an operation in no block
+pub keeps_new : (n b : ℕ) (c c' : ContextData) (x : OpData) → c' ≡ with_op c x → ((m : ℕ) → m < length c.ops → data_of c' m ≡ data_of c m) → (IsTyped c → IsTyped c') → Keeps n b c c'
+keeps_new n b c c' x e stays typed = record {
+  kept = λ was long. record {
+    typed = typed was;
+    longer = rw e (omega (arith, long, length-push c.ops x));
+    same = λ k small below. stays k (omega (arith, small, long));
+  };
+}
+
+-- an operation that a later block takes
+pub keeps_op : (n b : ℕ) (c c' : ContextData) (op : OpRef) (block : BlockRef) (o : DialectOp) → c' ≡ with_appended c op block → ((m : ℕ) → data_of c' m ≡ with_block_op (data_of c m) block.0 o) → (IsTyped c → IsTyped c') → b ≤ block.0 → Keeps n b c c'
+keeps_op n b c c' op block o e changed typed behind = record {
+  kept = λ was long. record {
+    typed = typed was;
+    longer = rw e long;
+    same = λ k small below. changed k ∙ ap (λ (fs : List Func). record (data_of c k) { functions = fs }) (ops_kept b block.0 o (data_of c k).functions behind (blocks_below (data_of c k).functions below));
+  };
+}
+  where
+    blocks_below : (fs : List Func) → All (IsBelow n b) fs → All (λ (f : Func). All (λ (x : DialectBlock). x.number < b) f.blocks) fs
+    blocks_below [] h = All-nil _
+    blocks_below (f ∷ fs) h = All-cons (λ (f : Func). All (λ (x : DialectBlock). x.number < b) f.blocks) f fs (All-head (IsBelow n b) f fs h).1 (blocks_below fs (All-tail (IsBelow n b) f fs h))
+
+-- ---- what a context held
+
+filtered : {X Y : Type 0} (f : X → Option Y) (P : Y → Type 0) (xs : List X) → ((x : X) (y : Y) → f x ≡ Some y → P y) → All P (filter_map f xs)
+filtered f P [] h = All-nil P
+filtered {Y = Y} f P (x ∷ xs) h = next (f x) refl (filtered f P xs h)
+  where
+    next : (o : Option Y) → f x ≡ o → All P (filter_map f xs) → All P (cons_option o (filter_map f xs))
+    next None e rest = rest
+    next (Some y) e rest = All-cons P y (filter_map f xs) (h x y e) rest
+
+module _ (c : ContextData) where
+  block_below : (b : BlockRef) (x : DialectBlock) → block_in (type_trees c.types) c b ≡ Some x → x.number < length c.blocks
+  block_below b x at = by (slice_get c.blocks b.0) refl at
+    where
+      by : (v : Option BlockData) → slice_get c.blocks b.0 ≡ v → option_map (block_of (type_trees c.types) c b) v ≡ Some x → x.number < length c.blocks
+      by None e at = absurd (none-some x at)
+      by (Some y) e at = let small = slice_get_within c.blocks b.0 y e in let same = ap (λ (z : DialectBlock). z.number) (same_Some (block_of (type_trees c.types) c b y) x at) in omega (arith, small, same)
+
+  func_below : (o : OpRef) (f : Func) → func_in (type_trees c.types) c o ≡ Some f → IsBelow (length c.ops) (length c.blocks) f
+  func_below o f at = by (slice_get c.ops o.0) refl at
+    where
+      blocks : (x : OpData) → All (λ (y : DialectBlock). y.number < length c.blocks) (filter_map (block_in (type_trees c.types) c) x.blocks)
+      blocks x = filtered (block_in (type_trees c.types) c) (λ (y : DialectBlock). y.number < length c.blocks) x.blocks block_below
+
+      of : (x : OpData) (s : Option Symbol) → o.0 < length c.ops → All (λ (y : DialectBlock). y.number < length c.blocks) (filter_map (block_in (type_trees c.types) c) x.blocks)
+          → option_map (λ (s : Symbol). func (type_trees c.types) o x s (filter_map (block_in (type_trees c.types) c) x.blocks)) s ≡ Some f → IsBelow (length c.ops) (length c.blocks) f
+      of x None small bs at = absurd (none-some f at)
+      of x (Some s) small bs at = subst (IsBelow (length c.ops) (length c.blocks)) (same_Some (func (type_trees c.types) o x s (filter_map (block_in (type_trees c.types) c) x.blocks)) f at) (small, bs)
+
+      by : (v : Option OpData) → slice_get c.ops o.0 ≡ v → option_and_then (func_of (type_trees c.types) c o) v ≡ Some f → IsBelow (length c.ops) (length c.blocks) f
+      by None e at = absurd (none-some f at)
+      by (Some x) e at = of x x.symbol (slice_get_within c.ops o.0 x e) (blocks x) at
+
+  -- the data of a module name functions and blocks that are there
+  all_below : (k : ℕ) → All (IsBelow (length c.ops) (length c.blocks)) (data_of c k).functions
+  all_below k = filtered (func_in (type_trees c.types) c) (IsBelow (length c.ops) (length c.blocks)) (held c k) func_below
+
+-- so every module that a context held stays what it was
+pub others_kept : (c c' : ContextData) → Keeps (length c.ops) (length c.blocks) c c' → IsTyped c → AreOthersKept c c'
+others_kept c c' h typed =
+    let kept = h.kept typed (omega arith) in
+    record { more = kept.longer; same = λ n small. kept.same n small (all_below c n) }
+
+pub types_kept : (c c' : ContextData) → Keeps (length c.ops) (length c.blocks) c c' → IsTyped c → IsTyped c'
+types_kept c c' h typed = (h.kept typed (omega arith)).typed
+
+-- an empty context has no numbers of types
+pub empty_typed : (c : ContextData) → c ≡ empty_context → IsTyped c
+empty_typed c e = subst IsTyped (sym e) (record { ops = λ o x at. absurd (none-some x at); blocks = λ b x at. absurd (none-some x at) })
+
+-- ---- a function that the module's block takes
+
+-- no block of a module that came before is the block for functions
+pub not_body : (c : ContextData) (m : ℕ) (body : BlockRef) (d : DialectModule) → IsBuilding c m body d → AreRegions (region_at c.ops) (holder_at c.blocks) → (k : ℕ) → k < m → All (λ (b : BlockRef). ¬ (b.0 ≡ body.0)) (region_at c.ops k)
+not_body c m body d h regions k before = at_all (λ (b : BlockRef). ¬ (b.0 ≡ body.0)) (region_at c.ops k) (λ i b at same.
+    let of_k = regions.ours k i b at in
+    let of_m = regions.ours m 0 body (ap (λ (bs : List BlockRef). slice_get bs 0) h.held.region) in
+    let one : k ≡ m = same_Some k m (sym of_k ∙ ap (holder_at c.blocks) same ∙ of_m) in
+    omega (arith, one, before))
+
+pub keeps_func : (n b : ℕ) (c0 c1 c2 : ContextData) (m : ℕ) (body : BlockRef) (d : DialectModule) (x : OpData) (o : OpRef) → IsBuilding c0 m body d → AreRegions (region_at c0.ops) (holder_at c0.blocks) → n ≤ m
+    → c1 ≡ with_op c0 x → ((k : ℕ) → k < length c0.ops → data_of c1 k ≡ data_of c0 k) → c2 ≡ with_appended c1 o body
+    → ((k : ℕ) → All (λ (b : BlockRef). ¬ (b.0 ≡ body.0)) (region_at c1.ops k) → data_of c2 k ≡ data_of c1 k) → (IsTyped c0 → IsTyped c2) → Keeps n b c0 c2
+keeps_func n b c0 c1 c2 m body d x o h regions before e1 first e2 second typed = record {
+  kept = λ was long. record {
+    typed = typed was;
+    longer = rw (e2, e1) (omega (arith, long, length-push c0.ops x));
+    same = λ k small below.
+        let there : k < length c0.ops = omega (arith, small, before, h.there) in
+        let region : region_at c1.ops k ≡ region_at c0.ops k = ap (λ (c : ContextData). region_at c.ops k) e1 ∙ region_kept c0.ops x k there in
+        let P : List BlockRef → Type 0 = All (λ (b : BlockRef). ¬ (b.0 ≡ body.0)) in
+        second k (subst P (sym region) (not_body c0 m body d h regions k (omega (arith, small, before)))) ∙ first k there;
+  };
+}

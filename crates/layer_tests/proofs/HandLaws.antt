@@ -1,0 +1,15 @@
+-- The types of a context after one was asked for: their numbers are in range.
+use Rattle.std.proofs.Common.{◌≡◌, ◌<◌, ◌≤◌, ℕ, List, [], ◌∷◌, length, ap, inl, inr, arith, length-append}
+use Rattle.std.proofs.lemmas.Option.{slice_get_within}
+use Rattle.dialect_types.specs.Interned.{Interned}
+
+-- the number of the type is one of them
+pub interned_within : {X : Type 0} (old new : List X) (k : X) (n : ℕ) → Interned old new k n → n < length new
+interned_within old new k n h = slice_get_within new n k h.here
+
+-- there are no fewer
+pub interned_longer : {X : Type 0} (old new : List X) (k : X) (n : ℕ) (before : List X) → old ≡ before → Interned old new k n → length before ≤ length new
+interned_longer old new k n before same h = elim h.only [
+  | inl e ↦ omega (arith, ap length e, ap length same)
+  | inr e ↦ omega (arith, ap length e, ap length same, length-append old (k ∷ []))
+]

@@ -1,6 +1,0 @@
--- What `rules::empty_module` owes besides what the check finds.
-use Rattle.layer_tests.proofs.RuleLaws.{module_holds}
-use Rattle.layer_tests.proofs.rules.empty_module.Goals as goal
-
-pub add_block-requires-clause-holder : goal.add_block-requires-clause-holder
-add_block-requires-clause-holder c = module_holds c.args.ctx.now c.create_module.new.self c.in_ok-root.root.0 c.in_ok-name.name c.in_ok-root.ensures.ok c.in_ok-root.ensures.number
