@@ -2,7 +2,7 @@
 use Rattle.std.proofs.Common.{◌≡◌, ◌<◌, ◌≤◌, ◌+◌, ℕ, zero, suc, Bool, true, false, not, nat_eq, if◌then◌else◌, List, [], ◌∷◌, ◌++◌, Option, Some, None, All, length, map, slice_get, get_or, ap, sym, subst, ◌∙◌, refl, arith}
 use Rattle.std.specs.Prelude.{IsTrue, ◌↔◌}
 use Rattle.std.specs.List.{filter_map, flat_map, find, cons_option}
-use Rattle.std.specs.Option.{IfSome, MatchOption, option_map, option_map_or, option_and_then}
+use Rattle.std.specs.Option.{IfSome, MatchOption, option_map, option_and_then}
 use Rattle.std.proofs.lemmas.List.Elements.{filter_map-append}
 use Rattle.std.proofs.lemmas.Option.{slice_get_past, slice_get_within, slice_get-get_or, slice_get-map, get_or_from_slice_get, none-some, same_Some}
 use Rattle.dialect_types.specs.declared.types.TypeHandle.{TypeHandle}
@@ -18,7 +18,7 @@ use Rattle.dialect_core.specs.Lists.{Stands, list_at}
 use Rattle.dialect_core.specs.ContextData.{ContextData, region_at}
 use Rattle.dialect_core.specs.Data.{Kind, DialectOp, DialectBlock, Func, kind_of, op_of, op_at, block_of, block_in, held, ops_in, value_type, type_in}
 use Rattle.dialect_core.specs.WellFormed.{IsEdge, IsFirst, IsPastFirsts, IsTypedBy, Typing}
-use Rattle.dialect_core.specs.Checking.{Passes, PassesEach, func_at, target_args, tree_at}
+use Rattle.dialect_core.specs.Checking.{Passes, PassesEach, func_at, tree_at}
 use Rattle.dialect_core.proofs.ChainLemmas.{same_op}
 use Rattle.dialect_core.proofs.TestLemmas.{same_block, no_true}
 
@@ -78,6 +78,16 @@ find_there {Y} p (z ∷ ys) y h = by (p z) refl (λ e. find_there p ys y e) h
     by : (t : Bool) → p z ≡ t → (find p ys ≡ Some y → (k : ℕ) × (slice_get ys k ≡ Some y) × (p y ≡ true)) → (if t then Some z else find p ys) ≡ Some y → (k : ℕ) × (slice_get (z ∷ ys) k ≡ Some y) × (p y ≡ true)
     by true is later e = (0, e, ap p (sym (same_Some z y e)) ∙ is)
     by false is later e = let rest = later e in (suc rest.0, rest.1, rest.2)
+
+-- and what is there is found
+pub find_none : {Y : Type 0} (p : Y → Bool) (ys : List Y) (k : ℕ) (y : Y) → find p ys ≡ None → slice_get ys k ≡ Some y → p y ≡ true → ⊥
+find_none p [] k y h at is = none-some y at
+find_none {Y} p (z ∷ ys) k y h at is = by (p z) refl (λ j e there. find_none p ys j y e there is) h k at
+  where
+    by : (t : Bool) → p z ≡ t → ((j : ℕ) → find p ys ≡ None → slice_get ys j ≡ Some y → ⊥) → (if t then Some z else find p ys) ≡ None → (k : ℕ) → slice_get (z ∷ ys) k ≡ Some y → ⊥
+    by true first later e k at = none-some z (sym e)
+    by false first later e zero at = let no : false ≡ true = sym first ∙ ap p (same_Some z y at) ∙ is in absurd (let n = no in cc)
+    by false first later e (suc k) at = later k e at
 
 -- what filter_map makes is made of an item
 pub made_of : {X Y : Type 0} (f : X → Option Y) (xs : List X) (i : ℕ) (y : Y) → slice_get (filter_map f xs) i ≡ Some y → (x : X) × Stands x xs × (f x ≡ Some y)
@@ -164,30 +174,8 @@ module _ (c : ContextData) where
     find_block b t =
         ap (find (λ (x : DialectBlock). nat_eq x.number b.0)) blocks_are ∙ found (block_in trees c) (λ (x : DialectBlock). x.number) (λ (b : BlockRef). b.0) (block_number trees c) same_block b (region_at c.ops f.0) t.0 t.1
 
-    pub no_block : (b : BlockRef) → (Stands b (region_at c.ops f.0) → ⊥) → find (λ (x : DialectBlock). nat_eq x.number b.0) g.blocks ≡ None
-    no_block b h =
-        ap (find (λ (x : DialectBlock). nat_eq x.number b.0)) blocks_are ∙ absent (block_in trees c) (λ (x : DialectBlock). x.number) (λ (b : BlockRef). b.0) (block_number trees c) b.0 (region_at c.ops f.0)
-        (λ k z at same. absurd (h (k, at ∙ ap Some (same_block z b same))))
-
     pub argument_value : (b : BlockRef) (i : ℕ) → Stands b (region_at c.ops f.0) → option_and_then (λ (x : DialectBlock). slice_get x.args i) (block_in trees c b) ≡ value_type g (Argument b i)
     argument_value b i t = sym (ap (option_and_then (λ (x : DialectBlock). slice_get x.args i)) (find_block b t))
-
-    pub target_there : (b : BlockRef) (args : List TypeHandle) → Stands b (region_at c.ops f.0) → option_map (λ (x : BlockData). x.args) (slice_get c.blocks b.0) ≡ Some args → map (tree_at c) args ≡ target_args g b
-    target_there b args t is =
-        let here = block_there trees c b (there t.0 b t.1) in
-        let are : here.0.args ≡ args = same_Some here.0.args args (sym (ap (option_map (λ (x : BlockData). x.args)) here.1) ∙ is) in
-        ap (map (tree_at c)) (sym are) ∙ sym (ap (λ (x : Option DialectBlock). option_map_or (λ (x : DialectBlock). x.args) x []) (find_block b t ∙ here.2))
-
-    pub target_gone : (b : BlockRef) → (Stands b (region_at c.ops f.0) → ⊥) → [] ≡ target_args g b
-    target_gone b h = sym (ap (λ (x : Option DialectBlock). option_map_or (λ (x : DialectBlock). x.args) x []) (no_block b h))
-
-    -- blocks of one number are the same
-    pub same_number : (i j : ℕ) (a b : DialectBlock) → slice_get g.blocks i ≡ Some a → slice_get g.blocks j ≡ Some b → a.number ≡ b.number → a ≡ b
-    same_number i j a b p q same =
-        let of_a = made_of (block_in trees c) (region_at c.ops f.0) i a (ap (λ (xs : List DialectBlock). slice_get xs i) (sym blocks_are) ∙ p) in
-        let of_b = made_of (block_in trees c) (region_at c.ops f.0) j b (ap (λ (xs : List DialectBlock). slice_get xs j) (sym blocks_are) ∙ q) in
-        let e : of_a.0 ≡ of_b.0 = same_block of_a.0 of_b.0 (sym (block_number trees c of_a.0 a of_a.2) ∙ same ∙ block_number trees c of_b.0 b of_b.2) in
-        same_Some a b (sym of_a.2 ∙ ap (block_in trees c) e ∙ of_b.2)
 
     -- the first block is the first of the region
     pub entry_is : (b : BlockRef) (d : DialectBlock) → slice_get (region_at c.ops f.0) 0 ≡ Some b → slice_get g.blocks 0 ≡ Some d → b.0 ≡ d.number
@@ -237,34 +225,6 @@ module _ (c : ContextData) where
             (λ no. no_true no, λ h. let d = entry_there entry first in absurd (h d.0 d.1 (sym e ∙ entry_is entry d.0 first d.1)))
         by false differs = (λ t d at same. let e : entry.0 ≡ b.0 = entry_is entry d first at ∙ sym same in grind (arith, differs, e), λ h. refl)
 
-    -- an edge by its target
-    pub edge_from : (s : Successor) → ((d : DialectBlock) → slice_get g.blocks 0 ≡ Some d → ¬ (s.block.0 ≡ d.number)) → PassesEach (type_in c) (target_args g s.block) s.args → IsEdge (type_in c) g s
-    edge_from s past each = record {
-      no_entry = past;
-      args = λ k d l. (each k (get_or s.args k d) (slice_get-get_or s.args k d l)).value;
-      typed = λ i b place v type at same here wanted. (each place v here).typed type (ap (λ (ts : List TypeTree). slice_get ts place) (its_args i b at same) ∙ wanted);
-    }
-      where
-        its_args : (i : ℕ) (b : DialectBlock) → slice_get g.blocks i ≡ Some b → b.number ≡ s.block.0 → target_args g s.block ≡ b.args
-        its_args i b at same =
-            let of_b = made_of (block_in trees c) (region_at c.ops f.0) i b (ap (λ (xs : List DialectBlock). slice_get xs i) (sym blocks_are) ∙ at) in
-            let e : of_b.0 ≡ s.block = same_block of_b.0 s.block (sym (block_number trees c of_b.0 b of_b.2) ∙ same) in
-            ap (λ (x : Option DialectBlock). option_map_or (λ (x : DialectBlock). x.args) x [])
-            (find_block s.block (of_b.1.0, of_b.1.1 ∙ ap Some e) ∙ ap (block_in trees c) (sym e) ∙ of_b.2)
-
--- what an edge passes
-pub edge_passes : (types : Typing) (g : Func) (s : Successor) → IsEdge types g s → PassesEach types (target_args g s.block) s.args
-edge_passes types g s e place v here = record {
-  value = subst (IsTypedBy types) (get_or_from_slice_get s.args place v v here) (e.args place v (slice_get_within s.args place v here));
-  typed = λ type wanted. by (find (λ (x : DialectBlock). nat_eq x.number s.block.0) g.blocks) refl type wanted;
-}
-  where
-    by : (x : Option DialectBlock) → find (λ (x : DialectBlock). nat_eq x.number s.block.0) g.blocks ≡ x → (type : TypeTree) → slice_get (option_map_or (λ (x : DialectBlock). x.args) x []) place ≡ Some type → types v ≡ Some type
-    by None is type wanted = absurd (none-some type wanted)
-    by (Some b) is type wanted =
-        let t = find_there (λ (x : DialectBlock). nat_eq x.number s.block.0) g.blocks b is in
-        e.typed t.0 b place v type t.1 (let same : nat_eq b.number s.block.0 ≡ true = t.2 in grind (arith, same)) here wanted
-
 -- what is read at a place
 pub read_at : {R X : Type 0} {Q : R → Type 0} (now : R → X) (xs : List X) (i : ℕ) (r : Option R) → IfSome r (λ (x : R). now x ≡ get_or xs i (now x)) → MatchOption r (length xs ≤ i) Q → ((x : R) → Q x → i < length xs) → option_map now r ≡ slice_get xs i
 read_at now xs i None here there within = sym (slice_get_past xs i there)
@@ -283,14 +243,34 @@ pass_more types f ts vs i wanted x before here is passes k v lt at = by (nat_eq 
         let type : option_map f wanted ≡ slice_get (map f ts) k = ap (option_map f) is ∙ sym (slice_get-map f ts i) ∙ ap (slice_get (map f ts)) e in
         subst (λ (w : Value). Passes types (slice_get (map f ts) k) w) value (subst (λ (o : Option TypeTree). Passes types o x) type passes)
 
+-- the type of an argument of a block whose arguments are these
+argument_wanted : (c : ContextData) (b : BlockRef) (args : List TypeHandle) (place : ℕ) → option_map (λ (x : BlockData). x.args) (slice_get c.blocks b.0) ≡ Some args → slice_get (map (tree_at c) args) place ≡ type_in c (Argument b place)
+argument_wanted c b args place are = by (slice_get c.blocks b.0) are
+  where
+    by : (x : Option BlockData) → option_map (λ (x : BlockData). x.args) x ≡ Some args → slice_get (map (tree_at c) args) place ≡ option_and_then (λ (x : DialectBlock). slice_get x.args place) (option_map (block_of (type_trees c.types) c b) x)
+    by None e = absurd (none-some args e)
+    by (Some x) e = ap (λ (ts : List TypeHandle). slice_get (map (tree_at c) ts) place) (sym (same_Some x.args args e))
+
 -- an edge that does not go to the first block is tested by what it passes
-pub edge_is : (c : ContextData) (f : OpRef) → ((k : ℕ) (b : BlockRef) → slice_get (region_at c.ops f.0) k ≡ Some b → b.0 < length c.blocks) → (s : Successor) (wanted : List TypeTree) (args : List Value) (t : Bool) → ((d : DialectBlock) → slice_get (func_at c f).blocks 0 ≡ Some d → ¬ (s.block.0 ≡ d.number)) → wanted ≡ target_args (func_at c f) s.block → args ≡ s.args
-    → (IsTrue t ↔ PassesEach (type_in c) wanted args) → IsTrue t ↔ IsEdge (type_in c) (func_at c f) s
-edge_is c f there s wanted args t past is are h =
-    let P : List TypeTree → Type 0 = λ w. IsTrue t ↔ PassesEach (type_in c) w args in
-    let Q : List Value → Type 0 = λ vs. IsTrue t ↔ PassesEach (type_in c) (target_args (func_at c f) s.block) vs in
-    let k : IsTrue t ↔ PassesEach (type_in c) (target_args (func_at c f) s.block) s.args = subst Q are (subst P is h) in
-    (λ yes. edge_from c f there s past (k.0 yes), λ e. k.1 (edge_passes (type_in c) (func_at c f) s e))
+pub edge_is : (c : ContextData) (g : Func) (s : Successor) (wanted : List TypeHandle) (args : List Value) (t : Bool) → ((d : DialectBlock) → slice_get g.blocks 0 ≡ Some d → ¬ (s.block.0 ≡ d.number)) → option_map (λ (x : BlockData). x.args) (slice_get c.blocks s.block.0) ≡ Some wanted → args ≡ s.args
+    → (IsTrue t ↔ PassesEach (type_in c) (map (tree_at c) wanted) args) → IsTrue t ↔ IsEdge (type_in c) g s
+edge_is c g s wanted args t past is are h =
+    let P : List Value → Type 0 = λ vs. IsTrue t ↔ PassesEach (type_in c) (map (tree_at c) wanted) vs in
+    let k : IsTrue t ↔ PassesEach (type_in c) (map (tree_at c) wanted) s.args = subst P are h in
+    (λ yes. edge_from (k.0 yes), λ e. k.1 (edge_passes e))
+  where
+    edge_from : PassesEach (type_in c) (map (tree_at c) wanted) s.args → IsEdge (type_in c) g s
+    edge_from each = record {
+      no_entry = past;
+      args = λ k d l. (each k (get_or s.args k d) (slice_get-get_or s.args k d l)).value;
+      typed = λ place v type here type_is. (each place v here).typed type (argument_wanted c s.block wanted place is ∙ type_is);
+    }
+
+    edge_passes : IsEdge (type_in c) g s → PassesEach (type_in c) (map (tree_at c) wanted) s.args
+    edge_passes e place v here = record {
+      value = subst (IsTypedBy (type_in c)) (get_or_from_slice_get s.args place v v here) (e.args place v (slice_get_within s.args place v here));
+      typed = λ type type_is. e.typed place v type here (sym (argument_wanted c s.block wanted place is) ∙ type_is);
+    }
 
 -- the edges of an operation, as they are read
 pub past_firsts_is : (c : ContextData) (o : OpRef) (edges : List Successor) (t : Bool) → option_map (λ (x : OpData). x.successors) (slice_get c.ops o.0) ≡ Some edges → (IsTrue t ↔ All (λ (s : Successor). ¬ IsFirst c s.block) edges) → IsTrue t ↔ IsPastFirsts c o

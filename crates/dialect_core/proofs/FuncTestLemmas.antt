@@ -18,11 +18,11 @@ use Rattle.dialect_core.specs.declared.ops.BlockData.{BlockData}
 use Rattle.dialect_core.specs.Lists.{Once, list_at}
 use Rattle.dialect_core.specs.ContextData.{ContextData, IsSymbol, kind_at, symbol_at, region_at}
 use Rattle.dialect_core.specs.Data.{DialectOp, DialectBlock, Func, op_at, block_in, block_of, func_of, func_in, held, data_of, name_at, type_in}
-use Rattle.dialect_core.specs.WellFormed.{IsInteger, IsSignature, IsPlainAt, IsPastFirsts, IsWellFormedBlock, IsWellFormedFunc, IsWellFormed, params_of, suits, suits_body, suits_declaration}
+use Rattle.dialect_core.specs.WellFormed.{IsFew, IsFewFunc, IsInteger, IsSignature, IsPlainAt, IsPastFirsts, IsWellFormedBlock, IsWellFormedFunc, IsWellFormed, params_of, suits, suits_body, suits_declaration}
 use Rattle.dialect_core.specs.Checking.{AreApartFrom, AreFuncLines, AreLines, IsBlockAt, IsFuncAt, IsHead, block_at, func_at, tree_at}
 use Rattle.dialect_core.proofs.ChainLemmas.{same_op}
 use Rattle.dialect_core.proofs.HoldLemmas.{flat_stands, stands_flat}
-use Rattle.dialect_core.proofs.TestLemmas.{always, never, same_block}
+use Rattle.dialect_core.proofs.TestLemmas.{always, never, no_true, same_block}
 use Rattle.dialect_core.proofs.TypeTestLemmas.{all_map, map_all}
 use Rattle.dialect_core.proofs.OpTestLemmas.{func_type}
 use Rattle.dialect_core.proofs.FuncLemmas.{blocks_are, ops_are, block_there, block_number, op_number, made_of, entry_data, entry_there, no_entry}
@@ -266,12 +266,12 @@ module _ (c : ContextData) where
           by None is e = absurd (none-some g e)
           by (Some o) is e = (o, is, same_Some (func_at c o) g (sym (func_data c o (symbols o (kinds k o is))) ∙ e))
 
-    to_module : kind_at c.ops (record { 0 = m }) ≡ Some K.Module → length (region_at c.ops m) ≤ 1 → AreFuncLines c (held c m) → IsWellFormed c m
-    to_module kind few h =
+    to_module : kind_at c.ops (record { 0 = m }) ≡ Some K.Module → length (region_at c.ops m) ≤ 1 → AreFuncLines c (held c m) → IsFew (held c m) → All (IsFewFunc c) (held c m) → IsWellFormed c m
+    to_module kind one h few few_each =
         let kinds = λ (k : ℕ) (o : OpRef) (at : slice_get (held c m) k ≡ Some o). (funcs_at (held c m) h k o at).kind in
         record {
           kind = kind;
-          region = few;
+          region = one;
           funcs_alone = at_all (λ (o : OpRef). kind_at c.ops o ≡ Some K.Func) (held c m) kinds;
           plain = at_all (λ (o : OpRef). All (IsPlainAt c) (held c o.0)) (held c m) (λ k o at. (funcs_at (held c m) h k o at).plain);
           past_firsts = at_all (λ (o : OpRef). All (IsPastFirsts c) (held c o.0)) (held c m) (λ k o at. (funcs_at (held c m) h k o at).past_firsts);
@@ -280,6 +280,8 @@ module _ (c : ContextData) where
               let p = there_func kinds i f a in
               let q = there_func kinds j g b in
               names_at (held c m) h i j p.0 q.0 p.1 q.1 (sym (func_name c p.0) ∙ ap (λ (g : Func). g.name) p.2 ∙ same ∙ ap (λ (g : Func). g.name) (sym q.2) ∙ func_name c q.0);
+          few = few;
+          few_each = few_each;
         }
 
     from_module : IsWellFormed c m → AreFuncLines c (held c m)
@@ -294,20 +296,32 @@ module _ (c : ContextData) where
         })
         (λ i j p q a b same. w.names i j (func_at c p) (func_at c q) (func_there kinds i p a) (func_there kinds j q b) (func_name c p ∙ same ∙ sym (func_name c q)))
 
-    pub module_is : (body : BlockRef) (t : Bool) → region_at c.ops m ≡ body ∷ [] → kind_at c.ops (record { 0 = m }) ≡ Some K.Module → (IsTrue t ↔ AreFuncLines c (list_at c.lists body)) → IsTrue t ↔ IsWellFormed c m
-    module_is body t region kind h =
-        let P : List OpRef → Type 0 = λ xs. IsTrue t ↔ AreFuncLines c xs in
-        let held_is : held c m ≡ list_at c.lists body = ap (flat_map (list_at c.lists)) region ∙ append-nil (list_at c.lists body) in
-        let lines = subst P (sym held_is) h in
-        let few : length (region_at c.ops m) ≤ 1 = omega (arith, ap length region) in
-        (λ w. to_module kind few (lines.0 w), λ w. lines.1 (from_module w))
+    abbrev HasFew : List OpRef → Type 0
+    HasFew xs = IsFew xs × All (IsFewFunc c) xs
+
+    module _ (body : BlockRef) (region : region_at c.ops m ≡ body ∷ []) where
+      held_is : held c m ≡ list_at c.lists body
+      held_is = ap (flat_map (list_at c.lists)) region ∙ append-nil (list_at c.lists body)
+
+      -- the functions are as they should be: the module is where its lists are short
+      pub module_is : (t : Bool) → kind_at c.ops (record { 0 = m }) ≡ Some K.Module → AreFuncLines c (list_at c.lists body) → (IsTrue t ↔ HasFew (list_at c.lists body)) → IsTrue t ↔ IsWellFormed c m
+      module_is t kind lines h =
+          let P : List OpRef → Type 0 = λ xs. IsTrue t ↔ HasFew xs in
+          let few = subst P (sym held_is) h in
+          (λ w. let f = few.0 w in to_module kind (omega (arith, ap length region)) (subst (AreFuncLines c) (sym held_is) lines) f.0 f.1, λ w. few.1 (w.few, w.few_each))
+
+      -- and they are not
+      pub module_fails : (t : Bool) → t ≡ false → (IsTrue t ↔ AreFuncLines c (list_at c.lists body)) → IsTrue t ↔ IsWellFormed c m
+      module_fails t is h = (λ yes. no_true (sym is ∙ yes), λ w. h.1 (subst (AreFuncLines c) held_is (from_module w)))
 
     -- a module without a block has no functions
     pub module_bare : region_at c.ops m ≡ [] → kind_at c.ops (record { 0 = m }) ≡ Some K.Module → IsTrue true ↔ IsWellFormed c m
     module_bare region kind =
         let P : List OpRef → Type 0 = AreFuncLines c in
         let none : AreFuncLines c (held c m) = subst P (sym (ap (flat_map (list_at c.lists)) region)) tt in
-        always (to_module kind (omega (arith, ap length region)) none)
+        let P : List OpRef → Type 0 = HasFew in
+        let few : HasFew (held c m) = subst P (sym (ap (flat_map (list_at c.lists)) region)) (omega arith, λ k d l. absurd (omega (arith, l))) in
+        always (to_module kind (omega (arith, ap length region)) none few.0 few.1)
 
     pub module_crowded : (region : List BlockRef) → region ≡ region_at c.ops m → 1 < length region → IsTrue false ↔ IsWellFormed c m
     module_crowded region is more = never (λ w. let few : length (region_at c.ops m) ≤ 1 = w.region in omega (arith, ap length is))

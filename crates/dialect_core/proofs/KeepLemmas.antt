@@ -24,10 +24,6 @@ then_equal a b c h e = keeps_then a b c h (kept_equal b c e)
 pub two_texts : (start mid end a b : List ℕ) → mid ≡ start ++ a → end ≡ mid ++ b → end ≡ start ++ (a ++ b)
 two_texts start mid end a b e f = f ∙ ap (λ (x : List ℕ). x ++ b) e ∙ append_assoc start a b
 
--- five texts one after another
-pub five_texts : (start o1 o2 o3 o4 end a b c d e : List ℕ) → o1 ≡ start ++ a → o2 ≡ o1 ++ b → o3 ≡ o2 ++ c → o4 ≡ o3 ++ d → end ≡ o4 ++ e → end ≡ start ++ ((((a ++ b) ++ c) ++ d) ++ e)
-five_texts start o1 o2 o3 o4 end a b c d e e1 e2 e3 e4 e5 = simp (e5, e4, e3, e2, e1, append_assoc)
-
 -- six texts one after another
 pub six_texts : (start o1 o2 o3 o4 o5 end a b c d e f : List ℕ) → o1 ≡ start ++ a → o2 ≡ o1 ++ b → o3 ≡ o2 ++ c → o4 ≡ o3 ++ d → o5 ≡ o4 ++ e → end ≡ o5 ++ f → end ≡ start ++ (((((a ++ b) ++ c) ++ d) ++ e) ++ f)
 six_texts start o1 o2 o3 o4 o5 end a b c d e f e1 e2 e3 e4 e5 e6 = simp (e6, e5, e4, e3, e2, e1, append_assoc)

@@ -1,6 +1,7 @@
 -- The lemmas that proofs cite.
 pub mod ChainLemmas
 pub mod DataLemmas
+pub mod FewLemmas
 pub mod FilterLemmas
 pub mod InsertLemmas
 pub mod LinkLemmas

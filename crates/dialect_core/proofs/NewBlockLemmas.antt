@@ -21,6 +21,10 @@ use Rattle.dialect_core.proofs.DataLemmas.{same_module}
 abbrev pub func : List TypeTree → OpRef → OpData → Symbol → List DialectBlock → Func
 func ts o x s blocks = record { number = o.0; name = unwrap_or x.name []; type = type_at ts s.ty; linkage = s.linkage; blocks = blocks }
 
+-- the last list, which is new, has nothing
+pub last_list : (lists : List (List OpRef)) (b : BlockRef) → b.0 ≡ length lists → list_at (lists ++ [] ∷ []) b ≡ []
+last_list lists b at = get_or_from_slice_get (lists ++ [] ∷ []) b.0 [] [] (ap (slice_get (lists ++ [] ∷ [])) at ∙ slice_get-last lists [])
+
 module _ (ts : List TypeTree) (c : ContextData) (b : BlockRef) (new : BlockData) (h : IsContext c.ops c.blocks c.parents c.lists) (number : b.0 ≡ length c.blocks) where
   abbrev after : ContextData
   after = with_block c b new
@@ -37,9 +41,7 @@ module _ (ts : List TypeTree) (c : ContextData) (b : BlockRef) (new : BlockData)
       sym (unwrap_or-slice_get after.lists p.0 []) ∙ ap (λ (xs : Option (List OpRef)). unwrap_or xs []) (slice_get-append c.lists ([] ∷ []) p.0 (omega (arith, h.list_each))) ∙ unwrap_or-slice_get c.lists p.0 []
 
   new_list : list_at after.lists b ≡ []
-  new_list =
-      let at : b.0 ≡ length c.lists = omega (arith, h.list_each) in
-      get_or_from_slice_get after.lists b.0 [] [] (ap (slice_get after.lists) at ∙ slice_get-last c.lists [])
+  new_list = last_list c.lists b (omega (arith, h.list_each))
 
   -- operations of blocks are the same
   op_same : (o : OpRef) → op_at ts after.ops o ≡ op_at ts c.ops o

@@ -13,18 +13,14 @@ use Rattle.dialect_core.specs.declared.ops.OpData.{OpData}
 use Rattle.dialect_core.specs.declared.ops.BlockData.{BlockData}
 use Rattle.dialect_core.specs.ContextData.{ContextData, AreRegions, IsSymbol, holder_at, kind_at, region_at}
 use Rattle.dialect_core.specs.Data.{Kind, ConstantOp, AddOp, ICmpOp, BrOp, CondBrOp, ReturnOp, UnreachableOp, DialectOp, DialectBlock, Func, kind_of, op_of, op_at, block_in, held, data_of, ops_in, type_in}
-use Rattle.dialect_core.specs.Form.{FitsTarget, edges_of}
-use Rattle.dialect_core.specs.WellFormed.{IsEdge, IsFirst, IsOfKind, IsPastFirsts, IsPlainAt, IsWellFormed, IsWellFormedBlock, IsWellFormedFunc, IsWellFormedOp, HasNamesApart, Typing}
+use Rattle.dialect_core.specs.Form.{FitsTarget, LeadsToOwn, edges_of}
+use Rattle.dialect_core.specs.WellFormed.{IsEdge, IsFew, IsFewFunc, IsFirst, IsOfKind, IsPastFirsts, IsPlainAt, IsWellFormed, IsWellFormedBlock, IsWellFormedFunc, IsWellFormedOp, HasNamesApart, Typing}
 use Rattle.dialect_core.specs.Checking.{block_at, func_at}
 use Rattle.dialect_core.proofs.HoldLemmas.{flat_stands, stands_flat}
 use Rattle.dialect_core.proofs.TestLemmas.{same_block}
 use Rattle.dialect_core.proofs.FuncLemmas.{blocks_are, block_number, ops_are}
 use Rattle.dialect_core.proofs.FuncTestLemmas.{block_data, func_there}
 use Rattle.dialect_core.proofs.LineLemmas.{all_at, at_all, plain_op, same_place, then_some}
-
--- each edge leads to a block of the function
-abbrev pub LeadsToOwn : Func → Type 0
-LeadsToOwn g = All (λ (b : DialectBlock). All (FitsTarget g) (edges_of b)) g.blocks
 
 no_edges : (types : Typing) (g : Func) (ss : List Successor) → ss ≡ [] → All (IsEdge types g) ss
 no_edges types g ss e = let P : List Successor → Type 0 = All (IsEdge types g) in subst P (sym e) (λ k d l. absurd (omega arith))
@@ -104,10 +100,10 @@ module _ (c : ContextData) (regions : AreRegions (region_at c.ops) (holder_at c.
   -- a module by its functions
   module _ (symbols : (o : OpRef) → kind_at c.ops o ≡ Some K.Func → IsSymbol c.ops o) (m : ℕ) where
     pub own_module : kind_at c.ops (record { 0 = m }) ≡ Some K.Module → length (region_at c.ops m) ≤ 1 → All (λ (o : OpRef). kind_at c.ops o ≡ Some K.Func) (held c m) → All (λ (o : OpRef). All (IsPlainAt c) (held c o.0)) (held c m)
-        → All (IsWellFormedFunc (type_in c)) (data_of c m).functions → All LeadsToOwn (data_of c m).functions → HasNamesApart (data_of c m).functions → IsWellFormed c m
-    own_module kind few alone plain functions own names = record {
+        → All (IsWellFormedFunc (type_in c)) (data_of c m).functions → All LeadsToOwn (data_of c m).functions → HasNamesApart (data_of c m).functions → IsFew (held c m) → All (IsFewFunc c) (held c m) → IsWellFormed c m
+    own_module kind one alone plain functions own names few few_each = record {
       kind = kind;
-      region = few;
+      region = one;
       funcs_alone = alone;
       plain = plain;
       past_firsts = at_all (λ (o : OpRef). All (IsPastFirsts c) (held c o.0)) (held c m) (λ k o at.
@@ -117,4 +113,6 @@ module _ (c : ContextData) (regions : AreRegions (region_at c.ops) (holder_at c.
           (all_at LeadsToOwn (data_of c m).functions own k (func_at c o) here));
       functions = functions;
       names = names;
+      few = few;
+      few_each = few_each;
     }

@@ -85,6 +85,9 @@ module _ (ts : List TypeTree) (t : TypeTree) (k : TypeKind) (r : TypeHandle) (ps
   pub not_narrow : v ≡ true → IsNarrowSignature t → IsTrue false
   not_narrow more h = let n : IsNarrowSignature (type_tree ts (Func r ps v)) = subst IsNarrowSignature tree_is h in sym n.2 ∙ more
 
+  pub count_is : length xs ≡ length (params_of t)
+  count_is = rw (tree_is, listed_types, are) (let same = map_length (type_at ts) ps in omega (arith, same))
+
   pub takes_are : (taken : List TypeHandle) → map (type_at ts) taken ≡ map (type_at ts) xs ↔ map (type_at ts) taken ≡ params_of t
   takes_are taken = rw (tree_is, listed_types, are) ((λ h. h), (λ h. h))
 

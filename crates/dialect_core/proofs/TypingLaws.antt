@@ -1,5 +1,5 @@
 -- The types that a function gives its values are those that the context gives them: so what is well-formed with the ones
--- is so with the others, where the values are the function's own.
+-- is so with the others, where its values and the targets of its edges are the function's own.
 use Rattle.std.proofs.Common.{◌≡◌, ℕ, nat_eq, true, List, [], ◌∷◌, Option, Some, None, All, slice_get, ap, sym, ◌∙◌, refl, arith}
 use Rattle.std.specs.Prelude.{unwrap_or}
 use Rattle.std.specs.List.{filter_map, flat_map, find}
@@ -17,12 +17,12 @@ use Rattle.dialect_core.specs.declared.ops.BlockData.{BlockData}
 use Rattle.dialect_core.specs.Lists.{Stands, list_at}
 use Rattle.dialect_core.specs.ContextData.{ContextData}
 use Rattle.dialect_core.specs.Data.{Kind, ConstantOp, AddOp, ICmpOp, BrOp, CondBrOp, ReturnOp, UnreachableOp, DialectOp, DialectBlock, Func, op_at, block_of, block_in, func_of, func_in, data_of, held, ops_in, value_type, type_in}
-use Rattle.dialect_core.specs.Form.{HasOwnValues, IsFormFunc, IsValueOf, result_of, uses_of}
+use Rattle.dialect_core.specs.Form.{FitsTarget, HasOwnValues, IsFormFunc, IsValueOf, LeadsToOwn, edges_of, result_of, uses_of}
 use Rattle.dialect_core.specs.WellFormed.{AreEdges, AreIntegers, IsEdge, IsOfKind, IsOpenForm, IsTypedBy, IsWellFormedBlock, IsWellFormedFunc, IsWellFormedOp, Returned, Typing}
 use Rattle.dialect_core.proofs.ChainLemmas.{same_op}
 use Rattle.dialect_core.proofs.HoldLemmas.{flat_stands, stands_flat, stands_left, stands_right}
 use Rattle.dialect_core.proofs.TestLemmas.{same_block}
-use Rattle.dialect_core.proofs.FuncLemmas.{block_number, find_there, made_of, op_number}
+use Rattle.dialect_core.proofs.FuncLemmas.{block_number, find_none, find_there, made_of, op_number}
 use Rattle.dialect_core.proofs.LineLemmas.{all_at, at_all}
 use Rattle.dialect_core.proofs.FormLaws.{form_of}
 use Rattle.dialect_core.proofs.WellLaws.{form_is_well_formed, form_is_narrow}
@@ -86,11 +86,23 @@ module _ (c : ContextData) (f : OpRef) (g : Func) (is : func_in (type_trees c.ty
           let same : x.number ≡ b.0 = let n : nat_eq x.number b.0 ≡ true = w.2 in grind (arith, n) in
           ap (option_and_then (λ (x : DialectBlock). slice_get x.args i)) (own_block w.0 x b w.1 same) ∙ e
 
+  -- and so has an argument of a block of the function
+  own_argument : (s : Successor) (place : ℕ) (t : TypeTree) → FitsTarget g s → type_in c (Argument s.block place) ≡ Some t → value_type g (Argument s.block place) ≡ Some t
+  own_argument s place t fits h = by (find (λ (x : DialectBlock). nat_eq x.number s.block.0) g.blocks) refl
+    where
+      by : (x : Option DialectBlock) → find (λ (x : DialectBlock). nat_eq x.number s.block.0) g.blocks ≡ x → option_and_then (λ (x : DialectBlock). slice_get x.args place) x ≡ Some t
+      by None gone = absurd (find_none (λ (x : DialectBlock). nat_eq x.number s.block.0) g.blocks fits.0 fits.1 gone fits.2 (grind (arith, fits.3)))
+      by (Some x) found =
+          let w = find_there (λ (x : DialectBlock). nat_eq x.number s.block.0) g.blocks x found in
+          let same : x.number ≡ s.block.0 = let n : nat_eq x.number s.block.0 ≡ true = w.2 in grind (arith, n) in
+          sym (ap (option_and_then (λ (x : DialectBlock). slice_get x.args place)) (own_block w.0 x s.block w.1 same)) ∙ h
+
 -- ---- from one typing to another
 
--- an operation, whose operands and values on edges have the types that they had
+-- an operation, whose operands and values on edges have the types that they had, and no target has others
 module _ (T U : Typing) (g : Func) (operands : List Value) (edges : List Successor) (operand : (v : Value) (t : TypeTree) → Stands v operands → T v ≡ Some t → U v ≡ Some t)
-    (passed : (i : ℕ) (s : Successor) (v : Value) (t : TypeTree) → slice_get edges i ≡ Some s → Stands v s.args → T v ≡ Some t → U v ≡ Some t) where
+    (passed : (i : ℕ) (s : Successor) (v : Value) (t : TypeTree) → slice_get edges i ≡ Some s → Stands v s.args → T v ≡ Some t → U v ≡ Some t)
+    (target : (i : ℕ) (s : Successor) (place : ℕ) (t : TypeTree) → slice_get edges i ≡ Some s → U (Argument s.block place) ≡ Some t → T (Argument s.block place) ≡ Some t) where
   integers : (t : TypeTree) → AreIntegers T t operands → AreIntegers U t operands
   integers t h = record {
     lhs = h.lhs;
@@ -113,7 +125,7 @@ module _ (T U : Typing) (g : Func) (operands : List Value) (edges : List Success
   edge i s at e = record {
     no_entry = e.no_entry;
     args = at_all (IsTypedBy U) s.args (λ k v here. let w = all_at (IsTypedBy T) s.args e.args k v here in (w.0, passed i s v w.0 at (k, here) w.1));
-    typed = λ j b place v t at_b same here wanted. passed i s v t at (place, here) (e.typed j b place v t at_b same here wanted);
+    typed = λ place v t here wanted. passed i s v t at (place, here) (e.typed place v t here (target i s place t at wanted));
   }
 
   edges_are : (n : ℕ) → AreEdges T g n edges → AreEdges U g n edges
@@ -128,12 +140,14 @@ module _ (T U : Typing) (g : Func) (operands : List Value) (edges : List Success
   kinds own ReturnOp h = (returned (result_of g.type) h.0, h.1, h.2)
   kinds own UnreachableOp h = h
 
--- a function, whose uses have the types that they had
-module _ (T U : Typing) (g : Func) (used : (j k : ℕ) (b : DialectBlock) (o : DialectOp) (v : Value) (t : TypeTree) → slice_get g.blocks j ≡ Some b → slice_get b.ops k ≡ Some o → Stands v (uses_of o) → T v ≡ Some t → U v ≡ Some t) where
+-- a function, whose uses have the types that they had, and no target has others
+module _ (T U : Typing) (g : Func) (used : (j k : ℕ) (b : DialectBlock) (o : DialectOp) (v : Value) (t : TypeTree) → slice_get g.blocks j ≡ Some b → slice_get b.ops k ≡ Some o → Stands v (uses_of o) → T v ≡ Some t → U v ≡ Some t)
+    (target : (j : ℕ) (b : DialectBlock) (s : Successor) (place : ℕ) (t : TypeTree) → slice_get g.blocks j ≡ Some b → Stands s (edges_of b) → U (Argument s.block place) ≡ Some t → T (Argument s.block place) ≡ Some t) where
   op_typed : (j k : ℕ) (b : DialectBlock) (o : DialectOp) → slice_get g.blocks j ≡ Some b → slice_get b.ops k ≡ Some o → IsWellFormedOp T g o → IsWellFormedOp U g o
   op_typed j k b o at here h = kinds T U g o.operands o.successors
       (λ v t s e. used j k b o v t at here (stands_left v o.operands (flat_map (λ (s : Successor). s.args) o.successors) s.0 s.1) e)
       (λ i s v t there stands e. used j k b o v t at here (stands_right v o.operands (flat_map (λ (s : Successor). s.args) o.successors) (stands_flat (λ (s : Successor). s.args) o.successors s v i there stands)) e)
+      (λ i s place t there e. target j b s place t at (stands_flat (λ (o : DialectOp). o.successors) b.ops o s k here (i, there)) e)
       o.result o.kind h
 
   block_typed : (j : ℕ) (b : DialectBlock) → slice_get g.blocks j ≡ Some b → IsWellFormedBlock T g b → IsWellFormedBlock U g b
@@ -157,26 +171,28 @@ module _ (T U : Typing) (g : Func) (used : (j k : ℕ) (b : DialectBlock) (o : D
 -- ---- laws
 
 module _ (c : ContextData) (f : OpRef) (g : Func) (is : func_in (type_trees c.types) c f ≡ Some g) where
-  -- what is well-formed by the function's own types is so by those of the context
-  pub open_well : IsWellFormedFunc (value_type g) g → IsWellFormedFunc (type_in c) g
-  open_well = func_typed (value_type g) (type_in c) g (λ j k b o v t at here s e. own_type c f g is v t e)
+  -- what is well-formed by the function's own types is so by those of the context, where its edges lead to its own blocks
+  pub open_well : LeadsToOwn g → IsWellFormedFunc (value_type g) g → IsWellFormedFunc (type_in c) g
+  open_well own = func_typed (value_type g) (type_in c) g (λ j k b o v t at here s e. own_type c f g is v t e)
+      (λ j b s place t at stands e. own_argument c f g is s place t (all_at (FitsTarget g) (edges_of b) (all_at (λ (b : DialectBlock). All (FitsTarget g) (edges_of b)) g.blocks own j b at) stands.0 s stands.1) e)
 
   -- and the other way round, where the values are its own
   pub own_well : HasOwnValues g → IsWellFormedFunc (type_in c) g → IsWellFormedFunc (value_type g) g
   own_well own = func_typed (type_in c) (value_type g) g (λ j k b o v t at here s e.
       let mine = all_at (IsValueOf g) (uses_of o) (own j k b o at here) s.0 v s.1 in
       mine.1 ∙ sym (own_type c f g is v mine.0 mine.1) ∙ e)
+      (λ j b s place t at stands e. own_type c f g is (Argument s.block place) t e)
 
-  -- a function of the form is of the open one
-  pub open_of : IsFormFunc g → IsOpenForm c g
-  open_of h = (open_well (form_is_well_formed g h), form_is_narrow g h)
+  -- a function of the form whose edges lead to its own blocks is of the open one
+  pub open_of : LeadsToOwn g → IsFormFunc g → IsOpenForm c g
+  open_of own h = (open_well own (form_is_well_formed g h), form_is_narrow g h)
 
   -- and one of the open form whose values are its own is of the form
   pub own_form : HasOwnValues g → IsOpenForm c g → IsFormFunc g
   own_form own h = form_of g (own_well own h.0) h.1
 
 -- the functions of a module
-pub module_open : (c : ContextData) (m : ℕ) → All IsFormFunc (data_of c m).functions → All (IsOpenForm c) (data_of c m).functions
-module_open c m forms = at_all (IsOpenForm c) (data_of c m).functions (λ k g at.
+pub module_open : (c : ContextData) (m : ℕ) → All LeadsToOwn (data_of c m).functions → All IsFormFunc (data_of c m).functions → All (IsOpenForm c) (data_of c m).functions
+module_open c m own forms = at_all (IsOpenForm c) (data_of c m).functions (λ k g at.
     let w = made_of (func_in (type_trees c.types) c) (held c m) k g at in
-    open_of c w.0 g w.2 (all_at IsFormFunc (data_of c m).functions forms k g at))
+    open_of c w.0 g w.2 (all_at LeadsToOwn (data_of c m).functions own k g at) (all_at IsFormFunc (data_of c m).functions forms k g at))

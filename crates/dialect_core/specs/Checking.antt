@@ -1,6 +1,6 @@
 -- What the tests of well-formedness speak of: the data of a function and of a block of a context, and the lines of a list.
-use Rattle.std.specs.Prelude.{◌≡◌, ℕ, nat_eq, Bool, true, false, List, [], ◌∷◌, Option, Some, All, map, slice_get, is_none}
-use Rattle.std.specs.List.{filter_map, find}
+use Rattle.std.specs.Prelude.{◌≡◌, ℕ, Bool, true, false, List, [], ◌∷◌, Option, Some, All, map, slice_get, is_none}
+use Rattle.std.specs.List.{filter_map}
 use Rattle.std.specs.Option.{option_map, option_map_or, option_and_then}
 use Rattle.dialect_types.specs.declared.types.TypeHandle.{TypeHandle}
 use Rattle.dialect_types.specs.Trees.{TypeTree, VoidType, AttrTree, IntegerAttr, type_at, type_trees}
@@ -42,10 +42,6 @@ block_at c b = record {
   args = map (tree_at c) (option_map_or (λ (x : BlockData). x.args) (slice_get c.blocks b.0) []);
   ops = filter_map (op_at (type_trees c.types) c.ops) (list_at c.lists b);
 }
-
--- the types that a block of the function takes, none where it has no such block
-abbrev pub target_args : Func → BlockRef → List TypeTree
-target_args g b = option_map_or (λ (x : DialectBlock). x.args) (find (λ (x : DialectBlock). nat_eq x.number b.0) g.blocks) []
 
 -- a value that an edge passes where the target wants one of that type, or nothing
 pub record Passes (types : Typing) (wanted : Option TypeTree) (v : Value) : Type 0 where

@@ -52,8 +52,7 @@ Returns g _ _ = ⊥
 pub record IsFormEdge (g : Func) (s : Successor) : Type 0 where
   pub no_entry : (b : DialectBlock) → slice_get g.blocks 0 ≡ Some b → ¬ (s.block.0 ≡ b.number)
   pub args : All (λ (v : Value). (type : TypeTree) × IsOperand g type v) s.args
-  pub typed : (i : ℕ) (b : DialectBlock) (place : ℕ) (v : Value) (type : TypeTree)
-      → slice_get g.blocks i ≡ Some b → b.number ≡ s.block.0 → slice_get s.args place ≡ Some v → slice_get b.args place ≡ Some type → value_type g v ≡ Some type
+  pub typed : (place : ℕ) (v : Value) (type : TypeTree) → slice_get s.args place ≡ Some v → value_type g (Argument s.block place) ≡ Some type → value_type g v ≡ Some type
 
 -- an operation with as many successors
 pub record Leads (g : Func) (o : DialectOp) (count : ℕ) : Type 0 where
@@ -195,6 +194,10 @@ edges_of b = flat_map (λ (o : DialectOp). o.successors) b.ops
 abbrev pub FitsTarget : Func → Successor → Type 0
 FitsTarget g s = (i : ℕ) × (b : DialectBlock) × (slice_get g.blocks i ≡ Some b) × (b.number ≡ s.block.0) × (length s.args ≡ length b.args)
 
+-- each edge of the function does so
+abbrev pub LeadsToOwn : Func → Type 0
+LeadsToOwn g = All (λ (b : DialectBlock). All (FitsTarget g) (edges_of b)) g.blocks
+
 -- two edges of a block that lead to one block pass the same values
 abbrev pub HasEqualEdges : DialectBlock → Type 0
 HasEqualEdges b = (i j : ℕ) (s t : Successor) → slice_get (edges_of b) i ≡ Some s → slice_get (edges_of b) j ≡ Some t → s.block ≡ t.block → s.args ≡ t.args
@@ -202,7 +205,7 @@ HasEqualEdges b = (i j : ℕ) (s t : Successor) → slice_get (edges_of b) i ≡
 -- nothing of the function is refused by an export
 pub record IsExportable (g : Func) : Type 0 where
   pub in_order : IsInOrder g
-  pub targets : All (λ (b : DialectBlock). All (FitsTarget g) (edges_of b)) g.blocks
+  pub targets : LeadsToOwn g
   pub equal : All HasEqualEdges g.blocks
 
 -- an edge of the function leads to the block of that number

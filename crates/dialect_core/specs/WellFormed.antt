@@ -1,17 +1,21 @@
 -- Well-formed modules: the rules of the dialect for the kinds of operations that there are, and what the form that is
 -- translated today (`IsFormFunc`) asks besides.
-use Rattle.std.specs.Prelude.{◌≡◌, ◌≤◌, ◌^◌, ℕ, Bool, true, false, List, [], ◌∷◌, length, slice_get, Option, Some, None, All, IfSome}
-use Rattle.dialect_types.specs.Trees.{TypeTree, VoidType, IntegerType, FuncType, IntegerAttr}
+use Rattle.std.specs.Prelude.{◌≡◌, ◌<◌, ◌≤◌, ◌^◌, ℕ, Bool, true, false, List, [], ◌∷◌, length, slice_get, Option, Some, None, All, IfSome}
+use Rattle.dialect_types.specs.Trees.{TypeTree, VoidType, IntegerType, FuncType, IntegerAttr, type_at, type_trees}
 use Rattle.dialect_types.specs.Names.{IsPlainName}
 use Rattle.dialect_core.specs.declared.numbers.OpRef.{OpRef}
 use Rattle.dialect_core.specs.declared.numbers.BlockRef.{BlockRef}
 use Rattle.dialect_core.specs.declared.linkage.LinkageAttr.{LinkageAttr}
 use Rattle.dialect_core.specs.declared.linkage.LinkageAttr.TheVariants as L
 use Rattle.dialect_core.specs.declared.ops.Value.{Value}
+use Rattle.dialect_core.specs.declared.ops.Value.TheVariants.{Argument}
 use Rattle.dialect_core.specs.declared.ops.Successor.{Successor}
 use Rattle.dialect_core.specs.declared.ops.OpKind.TheVariants as K
 use Rattle.dialect_core.specs.declared.ops.OpData.{OpData}
-use Rattle.dialect_core.specs.ContextData.{ContextData, kind_at, region_at, is_plain}
+use Rattle.dialect_core.specs.declared.ops.BlockData.{BlockData}
+use Rattle.dialect_core.specs.declared.ops.Symbol.{Symbol}
+use Rattle.dialect_core.specs.Lists.{list_at}
+use Rattle.dialect_core.specs.ContextData.{ContextData, kind_at, region_at, symbol_at, is_plain}
 use Rattle.dialect_core.specs.Data.{Kind, ConstantOp, AddOp, ICmpOp, BrOp, CondBrOp, ReturnOp, UnreachableOp, DialectOp, DialectBlock, Func, held, data_of, ops_in, type_in}
 use Rattle.dialect_core.specs.Form.{IsFitting, IsShortInt, IsShortResult, EndsInOnly, types_list, result_of}
 
@@ -67,13 +71,12 @@ Returned types VoidType vs = vs ≡ []
 Returned types type vs = (v : Value) × (vs ≡ v ∷ []) × (types v ≡ Some type)
 
 -- An edge does not go to the function's first block; `IsWellFormed` says that it goes to no other first block either. It
--- passes values, and where the target is a block of the function and has an argument at the place of such a value, the
--- two have one type.
+-- passes values, and where its target, be it a block of this function or of another, has an argument at the place of such
+-- a value, the two have one type.
 pub record IsEdge (types : Typing) (g : Func) (s : Successor) : Type 0 where
   pub no_entry : (b : DialectBlock) → slice_get g.blocks 0 ≡ Some b → ¬ (s.block.0 ≡ b.number)
   pub args : All (IsTypedBy types) s.args
-  pub typed : (i : ℕ) (b : DialectBlock) (place : ℕ) (v : Value) (type : TypeTree)
-      → slice_get g.blocks i ≡ Some b → b.number ≡ s.block.0 → slice_get s.args place ≡ Some v → slice_get b.args place ≡ Some type → types v ≡ Some type
+  pub typed : (place : ℕ) (v : Value) (type : TypeTree) → slice_get s.args place ≡ Some v → types (Argument s.block place) ≡ Some type → types v ≡ Some type
 
 -- as many edges
 abbrev pub AreEdges : Typing → Func → ℕ → List Successor → Type 0
@@ -137,6 +140,33 @@ pub record IsWellFormedFunc (types : Typing) (g : Func) : Type 0 where
   pub block_numbers : (i j : ℕ) (a b : DialectBlock) → slice_get g.blocks i ≡ Some a → slice_get g.blocks j ≡ Some b → a.number ≡ b.number → i ≡ j
   pub numbers : (i j : ℕ) (a b : DialectOp) → slice_get (ops_in g) i ≡ Some a → slice_get (ops_in g) j ≡ Some b → a.number ≡ b.number → i ≡ j
 
+-- ---- lists
+
+-- a list of fewer than 2^31 entries
+abbrev pub IsFew : {X : Type 0} → List X → Type 0
+IsFew xs = length xs < 2 ^ 31
+
+-- an operation: its operands, its edges, and what each of them passes
+pub record HasFewUses (x : OpData) : Type 0 where
+  pub operands : IsFew x.operands
+  pub successors : IsFew x.successors
+  pub passed : All (λ (s : Successor). IsFew s.args) x.successors
+
+abbrev pub IsFewOp : ContextData → OpRef → Type 0
+IsFewOp c o = (x : OpData) → slice_get c.ops o.0 ≡ Some x → HasFewUses x
+
+-- a block: its arguments and its operations
+pub record IsFewBlock (c : ContextData) (b : BlockRef) : Type 0 where
+  pub args : (x : BlockData) → slice_get c.blocks b.0 ≡ Some x → IsFew x.args
+  pub ops : IsFew (list_at c.lists b)
+  pub each : All (IsFewOp c) (list_at c.lists b)
+
+-- a function: the types that it takes, and its blocks
+pub record IsFewFunc (c : ContextData) (o : OpRef) : Type 0 where
+  pub params : (s : Symbol) → symbol_at c.ops o ≡ Some s → IsFew (params_of (type_at (type_trees c.types) s.ty))
+  pub blocks : IsFew (region_at c.ops o.0)
+  pub each : All (IsFewBlock c) (region_at c.ops o.0)
+
 -- ---- modules
 
 -- no two functions have one name
@@ -159,7 +189,7 @@ IsPastFirsts c o = (x : OpData) → slice_get c.ops o.0 ≡ Some x → All (λ (
 -- neither functions nor modules: the data leave such out, so these rules speak of the context. So does the rule that no
 -- edge goes to the first block of a region, be it of this function, of another or of a module. An operand, and a value
 -- that an edge passes, has its type in the context, whichever function it belongs to: that each is one of its own function
--- is for the export to ask.
+-- is for the export to ask. Each list has fewer than 2^31 entries.
 pub record IsWellFormed (c : ContextData) (m : ℕ) : Type 0 where
   pub kind : kind_at c.ops (record { 0 = m }) ≡ Some K.Module
   pub region : length (region_at c.ops m) ≤ 1
@@ -168,6 +198,8 @@ pub record IsWellFormed (c : ContextData) (m : ℕ) : Type 0 where
   pub past_firsts : All (λ (o : OpRef). All (IsPastFirsts c) (held c o.0)) (held c m)
   pub functions : All (IsWellFormedFunc (type_in c)) (data_of c m).functions
   pub names : HasNamesApart (data_of c m).functions
+  pub few : IsFew (held c m)
+  pub few_each : All (IsFewFunc c) (held c m)
 
 -- ---- what the form asks besides
 

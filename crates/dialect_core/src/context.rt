@@ -4,6 +4,7 @@ ghost use Rattle.std.specs.Prelude.{◌≡◌, ℕ, map, ◌<◌, ◌++◌, ◌�
 ghost use Rattle.std.specs.Option.{option_map};
 ghost use Rattle.dialect_core.specs.declared.ops.OpKind.TheVariants as kinds;
 ghost use Rattle.dialect_types.specs.Trees.{type_at, type_trees};
+ghost use Rattle.dialect_core.specs.Lists.{list_at};
 ghost use Rattle.dialect_core.specs.Data.{DialectOp, Func, op_at, func_in, data_of, with_func, with_func_block, with_block_op, with_block_arg, HasKindTypesBelow, IsTypedOp, IsTyped};
 ghost use Rattle.dialect_core.specs.ContextData.{empty_context, with_op, with_block, with_argument, with_name, with_appended, is_plain, HoldsMore, StandsIn, IsValueWithin, IsSuccessorWithin, IsOpWithin, region_at};
 
@@ -140,6 +141,7 @@ impl Context {
         requires args { All (λ t. t.0 < length self.old.types) args.now }
         ensures ok { IfOk result (λ b. self.new ≡ with_block self.old b (record { holder = holder; label = label; args = args.now })) }
         ensures number { IfOk result (λ b. b.0 ≡ length self.old.blocks) }
+        ensures bare { IfOk result (λ b. list_at self.new.lists b ≡ []) }
         ensures data { IfOk result (λ b. (m : ℕ) → data_of self.new m ≡ with_func_block (data_of self.old m) holder.0 (record { number = b.0; label = label; args = map (type_at (type_trees self.old.types)) args.now; ops = [] })) }
         ensures typed { OnOk result (IsTyped self.old → IsTyped self.new) }
         ensures err { OnErr result (self.new ≡ self.old) }

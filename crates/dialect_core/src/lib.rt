@@ -3,6 +3,7 @@
 
 pub mod context;
 mod counting;
+pub mod few;
 pub mod laws;
 pub mod linkage;
 pub mod lists;
@@ -17,4 +18,5 @@ mod printing;
 pub mod steps;
 mod type_tests;
 mod value_tests;
+mod walking;
 mod well_formed;

@@ -3,10 +3,10 @@
 ghost use Rattle.std.specs.Prelude.{◌≡◌, ◌<◌, ◌↔◌, [], ◌∷◌, IsTrue, All, IfSome, Some, None, length, map, slice_get};
 ghost use Rattle.std.specs.Option.{option_map, option_and_then};
 ghost use Rattle.dialect_types.specs.Trees.{TypeTree, type_at, type_trees};
-ghost use Rattle.dialect_core.specs.ContextData.{IsValueWithin, IsSuccessorWithin, region_at};
+ghost use Rattle.dialect_core.specs.ContextData.{IsValueWithin, IsSuccessorWithin};
 ghost use Rattle.dialect_core.specs.Data.{DialectBlock, DialectOp, IsTyped, op_at, block_in, type_in};
 ghost use Rattle.dialect_core.specs.WellFormed.{AreEdges, IsEdge, IsFirst, IsPastFirsts};
-ghost use Rattle.dialect_core.specs.Checking.{Passes, PassesEach, func_at, target_args, tree_at};
+ghost use Rattle.dialect_core.specs.Checking.{Passes, PassesEach, func_at, tree_at};
 
 use crate::context::Context;
 use crate::numbers::{BlockRef, OpRef};
@@ -76,22 +76,6 @@ fn passes(ctx: &Context, value: Value, wanted: Option<TypeHandle>) -> bool
     }
 }
 
-/// The types that a block of a function takes, none where it has no such block.
-fn wanted_by(ctx: &Context, func: OpRef, block: BlockRef) -> &[TypeHandle]
-    requires func { func.0 < length ctx.now.ops }
-    requires block { block.0 < length ctx.now.blocks }
-    requires typed { IsTyped ctx.now }
-    ensures types { map (tree_at ctx.now) result.now ≡ target_args (func_at ctx.now func) block }
-    ensures within { All (λ t. t.0 < length ctx.now.types) result.now }
-{
-    let _region = ctx.region(func);
-    if ctx.holds_block(func, block) {
-        ctx.block_args(block)
-    } else {
-        &[]
-    }
-}
-
 /// Whether values have the types that are wanted at their places.
 fn pass_each(ctx: &Context, values: &[Value], wanted: &[TypeHandle]) -> bool
     requires values { All (IsValueWithin (length ctx.now.ops) (length ctx.now.blocks)) values.now }
@@ -125,8 +109,7 @@ fn edge_fits(ctx: &Context, func: OpRef, edge: &Successor) -> bool
     requires typed { IsTyped ctx.now }
     ensures { IsTrue result ↔ IsEdge (type_in ctx.now) (func_at ctx.now func) edge.now }
 {
-    let _region = ctx.region(func);
-    let wanted = wanted_by(ctx, func, edge.block);
+    let wanted = ctx.block_args(edge.block);
     is_past_entry(ctx, func, edge.block) && pass_each(ctx, edge.args.as_slice(), wanted)
 }
 

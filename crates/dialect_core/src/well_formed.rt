@@ -9,6 +9,7 @@ ghost use Rattle.dialect_core.specs.WellFormed.{IsWellFormed, params_of, suits, 
 ghost use Rattle.dialect_core.specs.Checking.{AreApartFrom, AreFuncLines, AreLines, IsBlockAt, IsFuncAt, IsHead, IsLine, func_at};
 
 use crate::context::Context;
+use crate::few::has_few;
 use crate::linkage::LinkageAttr;
 use crate::module_printing::name_of;
 use crate::numbers::{BlockRef, ModuleOp, OpRef};
@@ -16,30 +17,7 @@ use crate::op_tests::{is_ending, op_fits};
 use crate::ops::OpKind;
 use crate::type_tests::{all_integers, is_signature, takes};
 use crate::value_tests::is_past_firsts;
-
-/// The operation after another in a block. What is left of the block's list from the one is it and what is left from
-/// the other.
-fn next_in_block(ctx: &Context, block: BlockRef, op: OpRef) -> Option<OpRef>
-    requires block { block.0 < length ctx.now.blocks }
-    requires op { op.0 < length ctx.now.ops }
-    requires here { Some op ≡ slice_get (from_op (Some op) (list_at ctx.now.lists block)) 0 }
-    ensures rest { from_op (Some op) (list_at ctx.now.lists block) ≡ op ∷ from_op result (list_at ctx.now.lists block) }
-    ensures head { result ≡ slice_get (from_op result (list_at ctx.now.lists block)) 0 }
-    ensures within { IfSome result (λ o. o.0 < length ctx.now.ops) }
-{
-    let _first = ctx.first_op(block);
-    ctx.next_op(op)
-}
-
-/// The first operation of a block. What is left of its list from that one is the list.
-fn first_in_block(ctx: &Context, block: BlockRef) -> Option<OpRef>
-    requires { block.0 < length ctx.now.blocks }
-    ensures rest { from_op result (list_at ctx.now.lists block) ≡ list_at ctx.now.lists block }
-    ensures head { result ≡ slice_get (list_at ctx.now.lists block) 0 }
-    ensures within { IfSome result (λ o. o.0 < length ctx.now.ops) }
-{
-    ctx.first_op(block)
-}
+use crate::walking::{first_in_block, next_in_block};
 
 /// Whether an operation of the function is as its kind is, is a terminator just where none comes after it, and leads to
 /// no first block.
@@ -282,7 +260,7 @@ pub fn well_formed(ctx: &Context, root: ModuleOp) -> bool
     };
     match ctx.region(root.0) {
         [] => true,
-        [body] => funcs_fit(ctx, *body),
+        [body] => funcs_fit(ctx, *body) && has_few(ctx, *body),
         _ => false,
     }
 }

@@ -1,10 +1,10 @@
 -- What `context::Context::add_block` owes besides what the check finds.
 use Rattle.std.proofs.Common.{sym, subst, ap, refl, ◌∙◌}
-use Rattle.dialect_core.specs.Lists.{Lists}
+use Rattle.dialect_core.specs.Lists.{Lists, list_at}
 use Rattle.dialect_core.proofs.ContextLemmas.{context, holder_there, region_kept, block_view}
 use Rattle.dialect_core.specs.Data.{data_of, IsTyped}
 use Rattle.dialect_core.specs.ContextData.{ContextData}
-use Rattle.dialect_core.proofs.NewBlockLemmas.{new_block_data}
+use Rattle.dialect_core.proofs.NewBlockLemmas.{last_list, new_block_data}
 use Rattle.dialect_core.proofs.RegionLemmas.{new_block_regions}
 use Rattle.dialect_core.proofs.TypedLemmas.{block_typed}
 use Rattle.dialect_core.proofs.context.Context.add_block.Goals as goal
@@ -30,6 +30,9 @@ returns-clause-ok c =
     rw (← c.self.view_is, ap (λ (l : Lists). l.parents) c.in_ok-number.ensures.ok)
     (block_view c.self.inside.types c.self.inside.ops.items c.self.inside.blocks.items _ c.push.new.self.items c.self.inside.lists.parents c.self.inside.lists.lists _ c.in_ok-number.number c.args.holder c.args.label c.from_vec-args.result _ c.index_mut-op.result.now c.add_block.new.region there
     c.index_mut-op.ensures.value c.in_ok-number.ensures.region c.in_ok-reserve.ensures.items c.in-Ok.ensures.items (c.from_vec-args.ensures ∙ c.in_ok-from_slice.ensures.items) (ap (λ (l : Lists). l.lists) c.in_ok-number.ensures.ok))
+
+pub returns-clause-bare : goal.returns-clause-bare
+returns-clause-bare c = ap (λ (l : Lists). list_at l.lists c.in_ok-number.number) c.in_ok-number.ensures.ok ∙ last_list c.self.inside.lists.lists c.in_ok-number.number c.in_ok-number.ensures.number
 
 pub returns-clause-data : goal.returns-clause-data
 returns-clause-data c =

@@ -1,0 +1,13 @@
+-- What the loop of `few::holds_few` keeps, and how it ends.
+use Rattle.std.proofs.Common.{◌<◌, length}
+use Rattle.std.specs.Prelude.{IfSome}
+use Rattle.dialect_core.specs.declared.numbers.OpRef.{OpRef}
+use Rattle.dialect_core.specs.Lists.{list_at, from_op}
+use Rattle.dialect_core.proofs.FewLemmas.{Counted}
+use Rattle.dialect_core.proofs.few.holds_few.Given as goal
+
+abbrev pub invariant-loop-next : goal.invariant-loop-next
+invariant-loop-next l = IfSome l.next (λ (o : OpRef). o.0 < length l.ctx.ops) × Counted (list_at l.ctx.lists l.fn.block) l.next l.count
+
+abbrev pub decreases-loop-next : goal.decreases-loop-next
+decreases-loop-next l = length (from_op l.next (list_at l.ctx.lists l.fn.block))
