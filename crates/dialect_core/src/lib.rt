@@ -18,5 +18,5 @@ mod printing;
 pub mod steps;
 mod type_tests;
 mod value_tests;
-mod walking;
+pub mod walking;
 mod well_formed;

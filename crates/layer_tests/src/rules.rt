@@ -1,5 +1,5 @@
 //! Rules of `well_formed` that no text of the form comes near, from both sides: the width of a constant, the linkage of a
-//! function with a body and without, edges to first blocks, and modules without a block.
+//! function with a body and without, where edges lead and what they pass, and modules without a block.
 
 use crate::hand::{At, Name, Step, module};
 use dialect_core::linkage::LinkageAttr;
@@ -87,8 +87,9 @@ fn takes_linkages_by_the_body(rt: HostRuntime) {
 
 // ---- edges
 
-/// Whether a module of two functions of two blocks, whose first block leads there, is well-formed.
-fn takes_edge(alloc: Global, to: At) -> Option<bool> {
+/// Whether a module of two functions of two blocks, whose first block leads there and passes a constant of that width, is
+/// well-formed. The second block of each function has an argument of 64 bits.
+fn takes_edge(alloc: Global, to: At, width: u32) -> Option<bool> {
     takes(
         alloc,
         &[
@@ -99,7 +100,10 @@ fn takes_edge(alloc: Global, to: At) -> Option<bool> {
             Step::Func(Name::G, LinkageAttr::ExternalLinkage),
             Step::Block(2),
             Step::Block(2),
-            Step::Br((1, 0), (to, None)),
+            Step::Argument((1, 1)),
+            Step::Argument((2, 1)),
+            Step::Constant((1, 0), width, 7),
+            Step::Br((1, 0), (to, Some((1, 0, 0)))),
             Step::Return((1, 1)),
             Step::Return((2, 0)),
             Step::Return((2, 1)),
@@ -108,16 +112,18 @@ fn takes_edge(alloc: Global, to: At) -> Option<bool> {
 }
 
 #[test]
-fn refuses_edges_to_first_blocks(rt: HostRuntime) {
-    for (to, taken) in [
-        ((1, 0), false),
-        ((1, 1), true),
-        ((2, 0), false),
-        ((2, 1), true),
-        ((0, 0), false),
+fn takes_edges_by_target_and_type(rt: HostRuntime) {
+    for (to, width, taken) in [
+        ((1, 0), 64, false),
+        ((1, 1), 64, true),
+        ((1, 1), 32, false),
+        ((2, 0), 64, false),
+        ((2, 1), 64, true),
+        ((2, 1), 32, false),
+        ((0, 0), 64, false),
     ] {
-        let takes = takes_edge(rt.alloc(), to);
-        assert!(rt; takes == Some(taken), "at {to:?}");
+        let takes = takes_edge(rt.alloc(), to, width);
+        assert!(rt; takes == Some(taken), "at {to:?} and {width}");
     }
 }
 

@@ -1,5 +1,5 @@
 -- A module that an export made is checked, where its names differ and each block with arguments is an edge's target.
-use Rattle.std.proofs.Common.{◌≡◌, ℕ, List, [], ◌∷◌, All, map, sym, subst}
+use Rattle.std.proofs.Common.{ℕ, List, [], ◌∷◌, All, map, sym, subst}
 use Rattle.std.proofs.lemmas.List.Elements.{All-nil, All-cons, All-head, All-tail}
 use Rattle.llvm_core.specs.Module.{Module}
 use Rattle.llvm_core.specs.Interned.{IsDistinctList}

@@ -32,7 +32,7 @@ use Rattle.to_llvm_ir.specs.Links.{HasTarget}
 use Rattle.to_llvm_ir.proofs.ListLaws.{AreNumbered, all_at, all_from, item_there}
 use Rattle.to_llvm_ir.proofs.NameLaws.{plain_is, bare_plain}
 use Rattle.to_llvm_ir.proofs.TurnLaws.{turn_at, filter_taken}
-use Rattle.to_llvm_ir.proofs.LookupLaws.{block_form, op_form, entry_at, place_is}
+use Rattle.to_llvm_ir.proofs.LookupLaws.{argument_type, block_form, op_form, entry_at, place_is}
 use Rattle.to_llvm_ir.proofs.PlacedLaws.{placed_numbered, params_count, operand_form}
 use Rattle.to_llvm_ir.proofs.EdgeLaws.{made_at, made_from, made_numbered, target_for, edge_among, edge_form, is_from, first_entry}
 use Rattle.to_llvm_ir.proofs.CountLaws.{sources_count, comes_by}
@@ -260,7 +260,7 @@ module _ (g : Func) (form : IsFormFunc g) (n : Numbers) (order : IsOrder (length
     phi_operand t c i ty at type l x at' =
         let p = comes_by g n n.order (record { 0 = c.number }) i l x at' in
         let good = edge_form g form n p.at p.edge_at p.block p.edge p.here p.there in
-        let typed : value_type g p.value ≡ Some ty = good.typed (suc t) c i p.value ty at (sym p.to) p.passes type in
+        let typed : value_type g p.value ≡ Some ty = good.typed i p.value ty p.passes (argument_type g form (suc t) i p.edge.block c at (sym p.to) ∙ type) in
         let short = all_at IsShortInt c.args i ty (block_form g form (suc t) c at).args type in
         subst (F.IsOperand made (type_of ty)) (sym p.is) (operand_form g form n order (entries g n) p.value ty (record { typed = typed; short = short }))
 

@@ -4,7 +4,6 @@ use Rattle.std.specs.Prelude.{IsTrue, IfSome, ◌↔◌, unwrap_or}
 use Rattle.std.specs.List.{filter_map, flat_map, cons_option}
 use Rattle.std.specs.Option.{option_map_or, option_and_then}
 use Rattle.std.proofs.lemmas.List.{append-nil}
-use Rattle.std.proofs.lemmas.List.Elements.{All-head, All-tail, All-cons, All-nil}
 use Rattle.dialect_types.specs.Names.{IsPlainName}
 use Rattle.dialect_types.specs.Trees.{type_trees}
 use Rattle.dialect_core.specs.declared.numbers.OpRef.{OpRef}
@@ -23,7 +22,7 @@ use Rattle.dialect_core.proofs.LineLemmas.{all_at, at_all}
 use Rattle.dialect_core.proofs.TypeTestLemmas.{all_map, map_all}
 use Rattle.dialect_core.proofs.FuncLemmas.{blocks_are}
 use Rattle.dialect_core.proofs.FuncTestLemmas.{block_data, func_name, func_data}
-use Rattle.to_llvm_ir.specs.Narrow.{IsNarrowBlockAt, AreNarrowBlocks, IsNarrowHead, AreNarrowFuncs}
+use Rattle.to_llvm_ir.specs.Narrow.{IsNarrowBlockAt, AreNarrowBlocks, IsNarrowHead}
 use Rattle.to_llvm_ir.proofs.OpDataLaws.{ArePlain, ops_narrow, narrow_ops}
 
 -- where each item makes something
@@ -106,21 +105,20 @@ module _ (c : ContextData) (f : OpRef) (there : (k : ℕ) (b : BlockRef) → sli
 
 -- ---- modules
 
+-- the function there is narrow
+abbrev pub IsNarrowHere : ContextData → OpRef → Type 0
+IsNarrowHere c o = IsNarrowFunc (func_at c o)
+
 module _ (c : ContextData) where
-  each_narrow : (xs : List OpRef) → AreNarrowFuncs c xs ↔ All IsNarrowFunc (map (func_at c) xs)
-  each_narrow [] = (λ h. All-nil IsNarrowFunc, λ h. tt)
-  each_narrow (x ∷ xs) =
-      let rest = each_narrow xs in (
-        λ h. All-cons IsNarrowFunc (func_at c x) (map (func_at c) xs) h.0 (rest.0 h.1),
-        λ h. (All-head IsNarrowFunc (func_at c x) (map (func_at c) xs) h, rest.1 (All-tail IsNarrowFunc (func_at c x) (map (func_at c) xs) h)),
-      )
+  each_narrow : (xs : List OpRef) → All (IsNarrowHere c) xs ↔ All IsNarrowFunc (map (func_at c) xs)
+  each_narrow xs = (λ h. all_map IsNarrowFunc (func_at c) xs h, λ h. map_all IsNarrowFunc (func_at c) xs h)
 
   pub held_alone : (m : ℕ) (body : BlockRef) → region_at c.ops m ≡ body ∷ [] → held c m ≡ list_at c.lists body
   held_alone m body region = ap (flat_map (list_at c.lists)) region ∙ append-nil (list_at c.lists body)
 
-  pub module_narrow : (symbols : (o : OpRef) → kind_at c.ops o ≡ Some K.Func → IsSymbol c.ops o) (m : ℕ) (body : BlockRef) → region_at c.ops m ≡ body ∷ [] → All (λ (o : OpRef). kind_at c.ops o ≡ Some K.Func) (held c m) → AreNarrowFuncs c (list_at c.lists body) ↔ IsNarrow c m
+  pub module_narrow : (symbols : (o : OpRef) → kind_at c.ops o ≡ Some K.Func → IsSymbol c.ops o) (m : ℕ) (body : BlockRef) → region_at c.ops m ≡ body ∷ [] → All (λ (o : OpRef). kind_at c.ops o ≡ Some K.Func) (held c m) → All (IsNarrowHere c) (list_at c.lists body) ↔ IsNarrow c m
   module_narrow symbols m body region kinds =
-      let P : List OpRef → Type 0 = λ xs. AreNarrowFuncs c xs ↔ All IsNarrowFunc (map (func_at c) (held c m)) in
-      let Q : List Func → Type 0 = λ gs. AreNarrowFuncs c (list_at c.lists body) ↔ All IsNarrowFunc gs in
+      let P : List OpRef → Type 0 = λ xs. All (IsNarrowHere c) xs ↔ All IsNarrowFunc (map (func_at c) (held c m)) in
+      let Q : List Func → Type 0 = λ gs. All (IsNarrowHere c) (list_at c.lists body) ↔ All IsNarrowFunc gs in
       let funcs = filter_some (func_in (type_trees c.types) c) (func_at c) (held c m) (λ k o at. func_data c o (symbols o (all_at (λ (o : OpRef). kind_at c.ops o ≡ Some K.Func) (held c m) kinds k o at))) in
       subst Q (sym funcs) (subst P (held_alone m body region) (each_narrow (held c m)))

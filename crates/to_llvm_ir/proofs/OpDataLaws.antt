@@ -15,7 +15,7 @@ use Rattle.dialect_core.specs.Form.{IsShortInt}
 use Rattle.dialect_core.specs.WellFormed.{IsPlainAt, IsNarrowOp}
 use Rattle.dialect_core.specs.Checking.{tree_at}
 use Rattle.dialect_core.proofs.LineLemmas.{plain_op}
-use Rattle.to_llvm_ir.specs.Narrow.{IsNarrowAt, AreNarrowOps}
+use Rattle.to_llvm_ir.specs.Narrow.{IsNarrowAt}
 
 -- ---- an operation
 
@@ -74,17 +74,17 @@ module _ (c : ContextData) where
       let p = plain_op c x (plain 0 x refl) in
       record { becomes = p.0; is = p.1; list = ap (λ (o : Option DialectOp). cons_option o (filter_map op xs)) p.1; parts = parts c x p.0 p.1 }
 
-  pub ops_narrow : (xs : List OpRef) → ArePlain xs → AreNarrowOps c xs → All IsNarrowOp (filter_map op xs)
+  pub ops_narrow : (xs : List OpRef) → ArePlain xs → All (IsNarrowAt c) xs → All IsNarrowOp (filter_map op xs)
   ops_narrow [] plain h = All-nil IsNarrowOp
   ops_narrow (x ∷ xs) plain h =
       let m = made x xs plain in
       let P : List DialectOp → Type 0 = All IsNarrowOp in
-      subst P (sym m.list) (All-cons IsNarrowOp m.becomes (filter_map op xs) ((narrow_op c x m.becomes m.parts).0 h.0) (ops_narrow xs (λ k o at. plain (suc k) o at) h.1))
+      subst P (sym m.list) (All-cons IsNarrowOp m.becomes (filter_map op xs) ((narrow_op c x m.becomes m.parts).0 (All-head (IsNarrowAt c) x xs h)) (ops_narrow xs (λ k o at. plain (suc k) o at) (All-tail (IsNarrowAt c) x xs h)))
 
-  pub narrow_ops : (xs : List OpRef) → ArePlain xs → All IsNarrowOp (filter_map op xs) → AreNarrowOps c xs
-  narrow_ops [] plain narrow = tt
+  pub narrow_ops : (xs : List OpRef) → ArePlain xs → All IsNarrowOp (filter_map op xs) → All (IsNarrowAt c) xs
+  narrow_ops [] plain narrow = All-nil (IsNarrowAt c)
   narrow_ops (x ∷ xs) plain narrow =
       let m = made x xs plain in
       let P : List DialectOp → Type 0 = All IsNarrowOp in
       let all : P (m.becomes ∷ filter_map op xs) = subst P m.list narrow in
-      ((narrow_op c x m.becomes m.parts).1 (All-head IsNarrowOp m.becomes (filter_map op xs) all), narrow_ops xs (λ k o at. plain (suc k) o at) (All-tail IsNarrowOp m.becomes (filter_map op xs) all))
+      All-cons (IsNarrowAt c) x xs ((narrow_op c x m.becomes m.parts).1 (All-head IsNarrowOp m.becomes (filter_map op xs) all)) (narrow_ops xs (λ k o at. plain (suc k) o at) (All-tail IsNarrowOp m.becomes (filter_map op xs) all))

@@ -1,11 +1,9 @@
 -- Which phi of the function that is made stands for which argument.
-use Rattle.std.proofs.Common.{◌≡◌, ◌+◌, ℕ, zero, suc, List, [], ◌∷◌, Option, Some, None, length, filter, take, slice_get, refl, sym, ap, subst, ◌∙◌, arith}
+use Rattle.std.proofs.Common.{◌≡◌, ◌+◌, ℕ, zero, suc, List, [], ◌∷◌, Option, Some, None, length, take, slice_get, refl, sym, ap, subst, ◌∙◌, arith}
 use Rattle.std.proofs.lemmas.Option.{same_Some, none-some}
 use Rattle.llvm_core.specs.Data.{Placed, Block, Function}
-use Rattle.llvm_core.specs.Form.{is_phi}
 use Rattle.dialect_types.specs.Trees.{TypeTree}
 use Rattle.block_order.specs.Order.{IsOrder}
-use Rattle.dialect_core.specs.declared.ops.Value.{Value}
 use Rattle.dialect_core.specs.declared.ops.Value.TheVariants.{Argument}
 use Rattle.dialect_core.specs.Data.{DialectBlock, Func}
 use Rattle.dialect_core.specs.Form.{IsFormFunc}

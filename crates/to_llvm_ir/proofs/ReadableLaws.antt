@@ -12,8 +12,7 @@ use Rattle.dialect_core.specs.Data.{IsTyped, func_in, held, data_of, type_in}
 use Rattle.dialect_core.specs.WellFormed.{IsPlainAt, IsNarrow, IsNarrowFunc, IsOpenForm, IsWellFormed, IsWellFormedFunc}
 use Rattle.dialect_core.proofs.LineLemmas.{all_at, at_all}
 use Rattle.to_llvm_ir.specs.Held.{IsReadable}
-use Rattle.to_llvm_ir.specs.Narrow.{AreNarrowFuncs}
-use Rattle.to_llvm_ir.proofs.FuncDataLaws.{held_alone, module_narrow}
+use Rattle.to_llvm_ir.proofs.FuncDataLaws.{IsNarrowHere, held_alone, module_narrow}
 
 pub readable : (c : ContextData) (m : ℕ) → m < length c.ops → IsTyped c → IsWellFormed c m → IsNarrow c m → IsReadable c m
 readable c m there typed w narrow = record {
@@ -41,5 +40,5 @@ module _ (c : ContextData) (m : ℕ) (body : BlockRef) (region : region_at c.ops
   pub body_plain : All (λ (o : OpRef). All (IsPlainAt c) (held c o.0)) (list_at c.lists body)
   body_plain = let P : List OpRef → Type 0 = All (λ (o : OpRef). All (IsPlainAt c) (held c o.0)) in subst P (held_alone c m body region) w.plain
 
-  pub well_narrow : ((o : OpRef) → kind_at c.ops o ≡ Some K.Func → IsSymbol c.ops o) → (t : Bool) → (IsTrue t ↔ AreNarrowFuncs c (list_at c.lists body)) → IsTrue t ↔ (IsWellFormed c m × IsNarrow c m)
+  pub well_narrow : ((o : OpRef) → kind_at c.ops o ≡ Some K.Func → IsSymbol c.ops o) → (t : Bool) → (IsTrue t ↔ All (IsNarrowHere c) (list_at c.lists body)) → IsTrue t ↔ (IsWellFormed c m × IsNarrow c m)
   well_narrow symbols t h = let n = module_narrow c symbols m body region w.funcs_alone in (λ yes. (w, n.0 (h.0 yes)), λ both. h.1 (n.1 both.1))

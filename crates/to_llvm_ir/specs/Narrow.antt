@@ -11,8 +11,8 @@ use Rattle.dialect_core.specs.declared.ops.BlockData.{BlockData}
 use Rattle.dialect_core.specs.Lists.{list_at}
 use Rattle.dialect_core.specs.ContextData.{ContextData}
 use Rattle.dialect_core.specs.Form.{IsShortInt}
-use Rattle.dialect_core.specs.WellFormed.{IsNarrowSignature, IsNarrowFunc}
-use Rattle.dialect_core.specs.Checking.{Each, func_at, tree_at}
+use Rattle.dialect_core.specs.WellFormed.{IsNarrowSignature}
+use Rattle.dialect_core.specs.Checking.{func_at, tree_at}
 
 -- ---- operations
 
@@ -21,17 +21,13 @@ pub record IsNarrowAt (c : ContextData) (o : OpRef) : Type 0 where
   pub result : IfSome (option_and_then (λ (x : OpData). x.result) (slice_get c.ops o.0)) (λ (t : TypeHandle). IsShortInt (tree_at c t))
   pub name : IfSome (option_and_then (λ (x : OpData). x.name) (slice_get c.ops o.0)) IsPlainName
 
--- each is such an operation
-abbrev pub AreNarrowOps : ContextData → List OpRef → Type 0
-AreNarrowOps c os = Each (λ (o : OpRef) (rest : List OpRef). IsNarrowAt c o) os
-
 -- ---- blocks
 
 -- its arguments are of 1 to 64 bits, its label is plain, and its operations are narrow
 pub record IsNarrowBlockAt (c : ContextData) (b : BlockRef) : Type 0 where
   pub label : IfSome (option_and_then (λ (x : BlockData). x.label) (slice_get c.blocks b.0)) IsPlainName
   pub args : All (λ (t : TypeHandle). IsShortInt (tree_at c t)) (option_map_or (λ (x : BlockData). x.args) (slice_get c.blocks b.0) [])
-  pub ops : AreNarrowOps c (list_at c.lists b)
+  pub ops : All (IsNarrowAt c) (list_at c.lists b)
 
 -- each is such a block, and there is one
 abbrev pub AreNarrowBlocks : ContextData → List BlockRef → Type 0
@@ -45,7 +41,3 @@ pub record IsNarrowHead (c : ContextData) (f : OpRef) : Type 0 where
   pub name : IfSome (option_and_then (λ (x : OpData). x.name) (slice_get c.ops f.0)) IsPlainName
   pub linkage : (func_at c f).linkage ≡ ExternalLinkage
   pub signature : IsNarrowSignature (func_at c f).type
-
--- each is a narrow function
-abbrev pub AreNarrowFuncs : ContextData → List OpRef → Type 0
-AreNarrowFuncs c os = Each (λ (o : OpRef) (rest : List OpRef). IsNarrowFunc (func_at c o)) os

@@ -1,43 +1,20 @@
 //! Tests of operations, blocks and functions: whether they are as narrow as the form that is exported.
 
-ghost use Rattle.std.specs.Prelude.{◌≡◌, ◌<◌, ◌↔◌, ◌∷◌, IsTrue, IfSome, All, Some, length, slice_get};
+ghost use Rattle.std.specs.Prelude.{◌≡◌, ◌<◌, ◌↔◌, IsTrue, All, Some, length};
 ghost use Rattle.dialect_core.specs.declared.linkage.LinkageAttr.TheVariants.{ExternalLinkage};
 ghost use Rattle.dialect_core.specs.declared.ops.OpKind.TheVariants as kinds;
-ghost use Rattle.dialect_core.specs.Lists.{list_at, from_op};
+ghost use Rattle.dialect_core.specs.Lists.{list_at};
 ghost use Rattle.dialect_core.specs.ContextData.{IsSymbol, kind_at};
 ghost use Rattle.dialect_core.specs.Data.{IsTyped, held};
 ghost use Rattle.dialect_core.specs.WellFormed.{IsPlainAt, IsNarrowFunc};
 ghost use Rattle.dialect_core.specs.Checking.{func_at};
-ghost use Rattle.to_llvm_ir.specs.Narrow.{IsNarrowAt, AreNarrowOps, IsNarrowBlockAt, AreNarrowBlocks, IsNarrowHead, AreNarrowFuncs};
+ghost use Rattle.to_llvm_ir.specs.Narrow.{IsNarrowAt, IsNarrowBlockAt, AreNarrowBlocks, IsNarrowHead};
 
 use crate::narrow_types::{all_short, is_narrow_signature, is_plain, is_short};
 use dialect_core::context::Context;
 use dialect_core::linkage::LinkageAttr;
 use dialect_core::numbers::{BlockRef, OpRef};
-
-/// The operation after another in a block. What is left of the block's list from the one is it and what is left from
-/// the other.
-fn next_in_block(ctx: &Context, block: BlockRef, op: OpRef) -> Option<OpRef>
-    requires block { block.0 < length ctx.now.blocks }
-    requires op { op.0 < length ctx.now.ops }
-    requires here { Some op ≡ slice_get (from_op (Some op) (list_at ctx.now.lists block)) 0 }
-    ensures rest { from_op (Some op) (list_at ctx.now.lists block) ≡ op ∷ from_op result (list_at ctx.now.lists block) }
-    ensures head { result ≡ slice_get (from_op result (list_at ctx.now.lists block)) 0 }
-    ensures within { IfSome result (λ o. o.0 < length ctx.now.ops) }
-{
-    let _first = ctx.first_op(block);
-    ctx.next_op(op)
-}
-
-/// The first operation of a block. What is left of its list from that one is the list.
-fn first_in_block(ctx: &Context, block: BlockRef) -> Option<OpRef>
-    requires { block.0 < length ctx.now.blocks }
-    ensures rest { from_op result (list_at ctx.now.lists block) ≡ list_at ctx.now.lists block }
-    ensures head { result ≡ slice_get (list_at ctx.now.lists block) 0 }
-    ensures within { IfSome result (λ o. o.0 < length ctx.now.ops) }
-{
-    ctx.first_op(block)
-}
+use dialect_core::walking::{first_in_block, next_in_block};
 
 /// Whether the result of an operation, where it has one, is of 1 to 64 bits, and its name is plain.
 fn is_narrow_op(ctx: &Context, op: OpRef) -> bool
@@ -55,7 +32,7 @@ fn is_narrow_op(ctx: &Context, op: OpRef) -> bool
 fn are_narrow_ops(ctx: &Context, block: BlockRef) -> bool
     requires block { block.0 < length ctx.now.blocks }
     requires typed { IsTyped ctx.now }
-    ensures { IsTrue result ↔ AreNarrowOps ctx.now (list_at ctx.now.lists block) }
+    ensures { IsTrue result ↔ All (IsNarrowAt ctx.now) (list_at ctx.now.lists block) }
 {
     let mut next = first_in_block(ctx, block);
     while let Some(op) = next {
@@ -156,7 +133,7 @@ pub fn are_narrow_funcs(ctx: &Context, block: BlockRef) -> bool
     requires typed { IsTyped ctx.now }
     requires kinds { All (λ o. kind_at ctx.now.ops o ≡ Some kinds.Func) (list_at ctx.now.lists block) }
     requires plain { All (λ o. All (IsPlainAt ctx.now) (held ctx.now o.0)) (list_at ctx.now.lists block) }
-    ensures { IsTrue result ↔ AreNarrowFuncs ctx.now (list_at ctx.now.lists block) }
+    ensures { IsTrue result ↔ All (λ o. IsNarrowFunc (func_at ctx.now o)) (list_at ctx.now.lists block) }
 {
     let mut next = first_in_block(ctx, block);
     while let Some(op) = next {
