@@ -1,18 +1,20 @@
 -- What tests of the lengths of lists find.
 use Rattle.std.proofs.Common.{◌≡◌, ◌<◌, ◌+◌, ◌^◌, ℕ, zero, suc, Bool, true, false, List, [], ◌∷◌, Option, Some, None, All, length, slice_get, ap, sym, subst, ◌∙◌, refl}
-use Rattle.std.specs.Prelude.{IsTrue, ◌↔◌}
-use Rattle.std.specs.Option.{option_map}
+use Rattle.std.specs.Prelude.{IfSome, IsTrue, ◌↔◌}
+use Rattle.std.specs.Option.{option_map, option_and_then}
 use Rattle.std.proofs.lemmas.Option.{none-some, same_Some}
 use Rattle.dialect_types.specs.declared.types.TypeHandle.{TypeHandle}
 use Rattle.dialect_types.specs.Trees.{type_at, type_trees}
 use Rattle.dialect_core.specs.declared.numbers.OpRef.{OpRef}
 use Rattle.dialect_core.specs.declared.numbers.BlockRef.{BlockRef}
 use Rattle.dialect_core.specs.declared.ops.Symbol.{Symbol}
+use Rattle.dialect_core.specs.declared.ops.OpData.{OpData}
 use Rattle.dialect_core.specs.declared.ops.BlockData.{BlockData}
 use Rattle.dialect_core.specs.Lists.{from_op, list_at}
 use Rattle.dialect_core.specs.ContextData.{ContextData, symbol_at}
+use Rattle.dialect_core.specs.Data.{IsTyped}
 use Rattle.dialect_core.specs.WellFormed.{IsFew, IsFewBlock, IsFewOp, params_of}
-use Rattle.dialect_core.specs.Checking.{Each}
+use Rattle.dialect_core.specs.Checking.{Each, HasTypeWithin}
 use Rattle.dialect_core.proofs.FromLemmas.{Going, going_ends, going_fails}
 use Rattle.dialect_core.proofs.TestLemmas.{iff_trans}
 use Rattle.dialect_core.proofs.LineLemmas.{all_at, at_all}
@@ -52,6 +54,23 @@ module _ (P : OpRef → Type 0) (xs : List OpRef) where
 
   pub all_ends : (next : Option OpRef) → Going (Alone P) xs xs next → next ≡ None → IsTrue true ↔ All P xs
   all_ends next g is = iff_trans (going_ends (Alone P) xs xs next g is) (each_all P xs)
+
+-- ---- types of functions
+
+-- they are there where all types are
+pub types_within : (c : ContextData) (os : List OpRef) → IsTyped c → All (HasTypeWithin c) os
+types_within c os typed = at_all (HasTypeWithin c) os (λ k o at. by o (slice_get c.ops o.0) refl)
+  where
+    by : (o : OpRef) (x : Option OpData) → slice_get c.ops o.0 ≡ x → IfSome (option_and_then (λ (x : OpData). x.symbol) x) (λ (s : Symbol). s.ty.0 < length c.types)
+    by o None at = tt
+    by o (Some x) at = (typed.ops o.0 x at).symbol
+
+pub type_within : (c : ContextData) (o : OpRef) (ty : TypeHandle) → HasTypeWithin c o → option_map (λ (s : Symbol). s.ty) (symbol_at c.ops o) ≡ Some ty → ty.0 < length c.types
+type_within c o ty = by (symbol_at c.ops o)
+  where
+    by : (x : Option Symbol) → IfSome x (λ (s : Symbol). s.ty.0 < length c.types) → option_map (λ (s : Symbol). s.ty) x ≡ Some ty → ty.0 < length c.types
+    by None w e = absurd (none-some ty e)
+    by (Some s) w e = let P : TypeHandle → Type 0 = λ t. t.0 < length c.types in subst P (same_Some s.ty ty e) w
 
 -- ---- what a function takes
 

@@ -5,7 +5,7 @@ use Rattle.std.specs.Option.{option_and_then}
 use Rattle.std.proofs.lemmas.Option.{slice_get_within, get_or_from_slice_get, none-some, same_Some}
 use Rattle.dialect_core.specs.declared.numbers.OpRef.{OpRef}
 use Rattle.dialect_core.specs.declared.numbers.BlockRef.{BlockRef}
-use Rattle.dialect_core.specs.Lists.{Lists, Has, AllApart, list_at, next_of, next_in, from_op}
+use Rattle.dialect_core.specs.Lists.{Lists, Has, AllApart, Stands, list_at, next_of, next_in, from_op}
 use Rattle.dialect_core.specs.Checking.{Each}
 use Rattle.dialect_core.proofs.HoldLemmas.{has_stands}
 use Rattle.dialect_core.proofs.TestLemmas.{no_true}
@@ -86,6 +86,10 @@ module _ (P : OpRef → List OpRef → Type 0) (whole list : List OpRef) where
 
   pub here_is : (next : Option OpRef) (o : OpRef) → Going P whole list next → next ≡ Some o → Some o ≡ slice_get (from_op (Some o) list) 0
   here_is next o g is = let Q : Option OpRef → Type 0 = λ n. n ≡ slice_get (from_op n list) 0 in subst Q is g.head
+
+  -- so it stands in the list
+  pub here_stands : (next : Option OpRef) (o : OpRef) → Going P whole list next → next ≡ Some o → Stands o list
+  here_stands next o g is = has_stands o list (from_has o list (here_is next o g is))
 
   rest_is : (next : Option OpRef) (o : OpRef) (n : Option OpRef) → Going P whole list next → next ≡ Some o → from_op (Some o) list ≡ o ∷ from_op n list → Each P whole ↔ (P o (from_op n list) × Each P (from_op n list))
   rest_is next o n g is rest =

@@ -1,5 +1,5 @@
 -- What the tests of well-formedness speak of: the data of a function and of a block of a context, and the lines of a list.
-use Rattle.std.specs.Prelude.{◌≡◌, ℕ, Bool, true, false, List, [], ◌∷◌, Option, Some, All, map, slice_get, is_none}
+use Rattle.std.specs.Prelude.{◌≡◌, ◌<◌, ℕ, Bool, true, false, List, [], ◌∷◌, Option, Some, All, IfSome, length, map, slice_get, is_none}
 use Rattle.std.specs.List.{filter_map}
 use Rattle.std.specs.Option.{option_map, option_map_or, option_and_then}
 use Rattle.dialect_types.specs.declared.types.TypeHandle.{TypeHandle}
@@ -42,6 +42,10 @@ block_at c b = record {
   args = map (tree_at c) (option_map_or (λ (x : BlockData). x.args) (slice_get c.blocks b.0) []);
   ops = filter_map (op_at (type_trees c.types) c.ops) (list_at c.lists b);
 }
+
+-- the type of the operation, where it is a function, is one of the context's
+abbrev pub HasTypeWithin : ContextData → OpRef → Type 0
+HasTypeWithin c o = IfSome (symbol_at c.ops o) (λ (s : Symbol). s.ty.0 < length c.types)
 
 -- a value that an edge passes where the target wants one of that type, or nothing
 pub record Passes (types : Typing) (wanted : Option TypeTree) (v : Value) : Type 0 where

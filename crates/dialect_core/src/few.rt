@@ -5,8 +5,8 @@ ghost use Rattle.dialect_types.specs.Trees.{type_at, type_trees};
 ghost use Rattle.dialect_core.specs.declared.ops.Symbol.{Symbol};
 ghost use Rattle.dialect_core.specs.Lists.{list_at};
 ghost use Rattle.dialect_core.specs.ContextData.{symbol_at};
-ghost use Rattle.dialect_core.specs.Data.{IsTyped};
 ghost use Rattle.dialect_core.specs.WellFormed.{IsFew, IsFewBlock, IsFewFunc, IsFewOp, params_of};
+ghost use Rattle.dialect_core.specs.Checking.{HasTypeWithin};
 
 use crate::context::Context;
 use crate::numbers::{BlockRef, OpRef};
@@ -111,7 +111,7 @@ fn takes_few(types: &TypeStore, ty: TypeHandle) -> bool
 /// Whether an operation takes few arguments, where it is a function.
 fn params_are_few(ctx: &Context, op: OpRef) -> bool
     requires op { op.0 < length ctx.now.ops }
-    requires typed { IsTyped ctx.now }
+    requires ty { HasTypeWithin ctx.now op }
     ensures { IsTrue result ↔ ((s : Symbol) → symbol_at ctx.now.ops op ≡ Some s → IsFew (params_of (type_at (type_trees ctx.now.types) s.ty))) }
 {
     match ctx.op_kind(op) {
@@ -123,7 +123,7 @@ fn params_are_few(ctx: &Context, op: OpRef) -> bool
 /// Whether the lists of a function are short: what it takes, its blocks, and those of each block.
 fn func_has_few(ctx: &Context, op: OpRef) -> bool
     requires op { op.0 < length ctx.now.ops }
-    requires typed { IsTyped ctx.now }
+    requires ty { HasTypeWithin ctx.now op }
     ensures { IsTrue result ↔ IsFewFunc ctx.now op }
 {
     let blocks = ctx.region(op);
@@ -133,7 +133,7 @@ fn func_has_few(ctx: &Context, op: OpRef) -> bool
 /// Whether the lists of each operation of a module's block are short.
 fn funcs_have_few(ctx: &Context, block: BlockRef) -> bool
     requires block { block.0 < length ctx.now.blocks }
-    requires typed { IsTyped ctx.now }
+    requires types { All (HasTypeWithin ctx.now) (list_at ctx.now.lists block) }
     ensures { IsTrue result ↔ All (IsFewFunc ctx.now) (list_at ctx.now.lists block) }
 {
     let mut next = first_in_block(ctx, block);
@@ -151,7 +151,7 @@ fn funcs_have_few(ctx: &Context, block: BlockRef) -> bool
 /// than 2^31 entries, as the rules of the dialect ask. It takes no memory, and time linear in the module.
 pub fn has_few(ctx: &Context, body: BlockRef) -> bool
     requires body { body.0 < length ctx.now.blocks }
-    requires typed { IsTyped ctx.now }
+    requires types { All (HasTypeWithin ctx.now) (list_at ctx.now.lists body) }
     ensures { IsTrue result ↔ IsFew (list_at ctx.now.lists body) × All (IsFewFunc ctx.now) (list_at ctx.now.lists body) }
 {
     holds_few(ctx, body) && funcs_have_few(ctx, body)

@@ -29,7 +29,7 @@ use Rattle.from_llvm_ir.proofs.NameLaws.{plain_legal}
 use Rattle.from_llvm_ir.proofs.OrderLaws.{ordered_at}
 use Rattle.from_llvm_ir.proofs.EndLaws.{ends_from, ends_filter, ends_as}
 use Rattle.from_llvm_ir.proofs.PassLaws.{inst_form, block_form, phi_is, phi_form}
-use Rattle.from_llvm_ir.proofs.Whole.{IsWhole, the_func, first_source, target_apart, source_at, entry, operand_typed, short_from}
+use Rattle.from_llvm_ir.proofs.Whole.{IsWhole, the_func, first_source, target_apart, source_at, entry, arg_typed, operand_typed, short_from}
 use Rattle.from_llvm_ir.proofs.EdgeLaws.{matched_none, matched_one, matched_two, EdgeAt, arg_at, RowAt, op_cases, op_edge}
 
 -- ---- types and names
@@ -124,12 +124,10 @@ module _ (n : ℕ) (k : Known) (cs : List DialectBlock) (h : IsWhole k cs) where
   edge_form m t s e = record {
     no_entry = λ b at same. let no : 0 ≡ suc e.place = target_apart n k cs h 0 (suc e.place) b e.block at e.there (sym same ∙ e.leads) in absurd (omega (arith, no));
     args = all_from (λ (v : Value). (type : TypeTree) × DF.IsOperand G type v) s.args (λ y v at. let a = arg_at k cs h m t s e y v at in (type_from a.phi.type, operand_form a.phi.type a.operand v a.stands a.usable));
-    typed = λ i b y v type at is at_v at_type.
+    typed = λ y v type at_v wanted.
         let a = arg_at k cs h m t s e y v at_v in
-        let place = target_apart n k cs h i (suc e.place) b e.block at e.there (is ∙ e.leads) in
-        let same : b ≡ e.block = same_Some b e.block (sym at ∙ ap (slice_get cs) place ∙ e.there) in
-        let type_is : type_from a.phi.type ≡ type = same_Some (type_from a.phi.type) type (sym a.type ∙ ap (λ (x : DialectBlock). slice_get x.args y) (sym same) ∙ at_type) in
-        operand_typed n k cs h a.phi.type a.operand v a.stands a.usable ∙ ap Some type_is;
+        let takes = arg_typed n k cs h (suc e.place) y e.block s.block (type_from a.phi.type) e.there e.leads a.type in
+        operand_typed n k cs h a.phi.type a.operand v a.stands a.usable ∙ sym takes ∙ wanted;
   }
 
   -- the edges of an operation with so many targets

@@ -18,6 +18,7 @@ use Rattle.dialect_core.specs.declared.ops.OpKind.TheVariants as K
 use Rattle.dialect_core.specs.Lists.{list_at, with_change}
 use Rattle.dialect_core.specs.ContextData.{ContextData, AreRegions, IsSymbol, with_op, with_block, HoldsMore, holder_at, kind_at, region_at}
 use Rattle.dialect_core.specs.Data.{DialectModule, Func, with_func, data_of}
+use Rattle.dialect_core.specs.WellFormed.{IsFew, IsFewFunc}
 use Rattle.dialect_core.proofs.CallerLemmas.{new_item}
 use Rattle.dialect_core.proofs.FilterLemmas.{change_get}
 use Rattle.from_llvm_ir.specs.declared.importing.Imported.{Imported}
@@ -104,10 +105,10 @@ imported_more d k g c c' o body name xs x h at one = record {
       (imported_push d (take k d.functions) xs h.so_far.functions g x one.0 h.functions one.1);
 }
 
--- the module is imported when all functions are
+-- the module is imported when all functions are, and its lists are short
 pub imported_whole : (m : Module) (c : ContextData) (i : Imported) (body : BlockRef) → AreRegions (region_at c.ops) (holder_at c.blocks) → ((o : OpRef) → kind_at c.ops o ≡ Some K.Func → IsSymbol c.ops o)
-    → IsImportedTo (source_of m) (length m.functions) c i.«module».0.0 body (legal_name m.name) i.blocks → IsImported (source_of m) c i
-imported_whole m c i body regions symbols h =
+    → IsFew (list_at c.lists body) × All (IsFewFunc c) (list_at c.lists body) → IsImportedTo (source_of m) (length m.functions) c i.«module».0.0 body (legal_name m.name) i.blocks → IsImported (source_of m) c i
+imported_whole m c i body regions symbols few h =
     let same : imported_data c i ≡ h.so_far = h.building.is in
     let all = take_all (length m.functions) (source_of m).functions (omega (arith, function_count m)) in
     let building = subst (λ (d : DialectModule). IsBuilding c i.«module».0.0 body d) (sym same) h.building in
@@ -118,7 +119,7 @@ imported_whole m c i body regions symbols h =
       building = building;
       name = ap (λ (d : DialectModule). d.name) same ∙ h.name_is;
       functions = functions;
-      well_formed = well_formed (source_of m) c i.«module».0.0 body i.blocks building functions regions symbols;
+      well_formed = well_formed (source_of m) c i.«module».0.0 body i.blocks building functions regions symbols few;
     }
 
 -- what refuses a function refuses the module

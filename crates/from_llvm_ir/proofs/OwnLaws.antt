@@ -20,19 +20,15 @@ use Rattle.dialect_core.specs.Lists.{list_at}
 use Rattle.dialect_core.specs.Lending.{with_types}
 use Rattle.dialect_core.specs.ContextData.{ContextData, with_op, with_block, with_appended}
 use Rattle.dialect_core.specs.Data.{Kind, ConstantOp, DialectBlock, DialectOp, kind_of, op_of, op_at, block_with, block_of, block_in, func_with, func_of, func_in, held, data_of, HasKindTypesBelow, IsTypedOp}
+use Rattle.dialect_core.specs.Checking.{HasTypeWithin}
 use Rattle.dialect_core.proofs.DataLemmas.{same_module}
 use Rattle.dialect_core.proofs.FilterLemmas.{filter_map_same}
-use Rattle.dialect_core.proofs.LineLemmas.{all_at}
+use Rattle.dialect_core.proofs.LineLemmas.{all_at, at_all}
 use Rattle.dialect_core.proofs.ListLemmas.{map_same, push_cases}
 use Rattle.dialect_core.proofs.NewBlockLemmas.{func}
 use Rattle.dialect_core.proofs.TypedLemmas.{changed_cases, more_types_typed}
 use Rattle.from_llvm_ir.specs.Imported.{IsHeld, IsOwn}
 use Rattle.from_llvm_ir.proofs.ApartLaws.{block_lists, pushed_all}
-
--- a list without a first item is empty
-pub no_first : (xs : List OpRef) → None ≡ slice_get xs 0 → xs ≡ []
-no_first [] h = refl
-no_first (x ∷ xs) h = absurd (none-some x h)
 
 -- ---- what the building calls add
 
@@ -161,6 +157,14 @@ held_list c m body h = ap (λ (bs : List BlockRef). flat_map (list_at c.lists) b
 -- and are its own
 pub held_own : (c : ContextData) (m : ℕ) (body : BlockRef) → IsHeld c m body → IsOwn c m body → (i : ℕ) (o : OpRef) → slice_get (held c m) i ≡ Some o → m ≤ o.0
 held_own c m body h own i o at = all_at (λ (q : OpRef). m ≤ q.0) (list_at c.lists body) (own.lists body (omega arith) h.block) i o (ap (λ (os : List OpRef). slice_get os i) (sym (held_list c m body h)) ∙ at)
+
+-- and the types of its functions are there
+pub held_types : (c : ContextData) (m : ℕ) (body : BlockRef) → IsHeld c m body → IsOwn c m body → All (HasTypeWithin c) (list_at c.lists body)
+held_types c m body h own = at_all (HasTypeWithin c) (list_at c.lists body) (λ i o at. by o (all_at (λ (q : OpRef). m ≤ q.0) (list_at c.lists body) (own.lists body (omega arith) h.block) i o at) (slice_get c.ops o.0) refl)
+  where
+    by : (o : OpRef) → m ≤ o.0 → (x : Option OpData) → slice_get c.ops o.0 ≡ x → IfSome (option_and_then (λ (x : OpData). x.symbol) x) (λ (s : Symbol). s.ty.0 < length c.types)
+    by o from None at = tt
+    by o from (Some x) at = (own.ops o.0 x from at).0.symbol
 
 -- the module's numbers of types mean what they meant
 pub own_data : (c : ContextData) (types : List TypeKind) (m : ℕ) (body : BlockRef) → IsHeld c m body → IsOwn c m body → ((t : TypeHandle) → t.0 < length c.types → type_at (type_trees types) t ≡ type_at (type_trees c.types) t)

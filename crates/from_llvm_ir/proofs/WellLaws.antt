@@ -12,11 +12,11 @@ use Rattle.dialect_core.specs.declared.ops.BlockData.{BlockData}
 use Rattle.dialect_core.specs.Lists.{list_at}
 use Rattle.dialect_core.specs.ContextData.{ContextData, AreRegions, IsSymbol, holder_at, is_func, kind_at, region_at}
 use Rattle.dialect_core.specs.Data.{Func, data_of, held, type_in}
-use Rattle.dialect_core.specs.Form.{IsFormFunc, IsExportable}
-use Rattle.dialect_core.specs.WellFormed.{IsOpenForm, IsPlainAt, IsWellFormedFunc, HasNamesApart, IsWellFormed}
+use Rattle.dialect_core.specs.Form.{IsFormFunc, IsExportable, LeadsToOwn}
+use Rattle.dialect_core.specs.WellFormed.{IsFew, IsFewFunc, IsOpenForm, IsPlainAt, IsWellFormedFunc, HasNamesApart, IsWellFormed}
 use Rattle.dialect_core.proofs.HoldLemmas.{flat_stands}
 use Rattle.dialect_core.proofs.LineLemmas.{all_at, at_all}
-use Rattle.dialect_core.proofs.OwnEdgeLaws.{LeadsToOwn, own_module}
+use Rattle.dialect_core.proofs.OwnEdgeLaws.{own_module}
 use Rattle.dialect_core.proofs.TypingLaws.{module_open}
 use Rattle.meaning.specs.Code.{IsDistinctNames}
 use Rattle.from_llvm_ir.specs.declared.matching.FunctionBlocks.{FunctionBlocks}
@@ -36,7 +36,7 @@ names_apart ns gs are distinct i j f g at_f at_g same = distinct i j f.name (nam
 -- ---- the rules
 
 module _ (d : L.ModuleData) (c : ContextData) (m : ℕ) (body : BlockRef) (xs : List FunctionBlocks) (h : IsBuilding c m body (data_of c m)) (functions : AreImported d d.functions xs (data_of c m).functions)
-    (regions : AreRegions (region_at c.ops) (holder_at c.blocks)) (symbols : (o : OpRef) → kind_at c.ops o ≡ Some K.Func → IsSymbol c.ops o) where
+    (regions : AreRegions (region_at c.ops) (holder_at c.blocks)) (symbols : (o : OpRef) → kind_at c.ops o ≡ Some K.Func → IsSymbol c.ops o) (few : IsFew (list_at c.lists body) × All (IsFewFunc c) (list_at c.lists body)) where
   abbrev gs : List Func
   gs = (data_of c m).functions
 
@@ -79,12 +79,15 @@ module _ (d : L.ModuleData) (c : ContextData) (m : ℕ) (body : BlockRef) (xs : 
   forms : All IsFormFunc gs
   forms = forms_imported d d.functions xs gs functions
 
-  exportable : All IsExportable gs
-  exportable = exportable_imported d d.functions xs gs functions
+  own_targets : All LeadsToOwn gs
+  own_targets = All-weaker IsExportable LeadsToOwn (λ g fit. fit.targets) gs (exportable_imported d d.functions xs gs functions)
+
+  lists : IsFew (held c m) × All (IsFewFunc c) (held c m)
+  lists = let P : List OpRef → Type 0 = λ os. IsFew os × All (IsFewFunc c) os in subst P (sym (held_list c m body h.held)) few
 
   pub well_formed : IsDistinctNames (function_names d.functions) → IsWellFormed c m
   well_formed distinct =
       own_module c regions symbols m h.held.kind (rw h.held.region (omega arith)) funcs_alone
       (at_all (λ (o : OpRef). All (IsPlainAt c) (held c o.0)) (held c m) (λ k o at. plain_held o (held_own c m body h.held h.own k o at) (all_at (λ (o : OpRef). kind_at c.ops o ≡ Some K.Func) (held c m) funcs_alone k o at)))
-      (All-weaker (IsOpenForm c) (IsWellFormedFunc (type_in c)) (λ g form. form.0) gs (module_open c m forms)) (All-weaker IsExportable LeadsToOwn (λ g fit. fit.targets) gs exportable)
-      (names_apart (function_names d.functions) gs (names_imported d d.functions xs gs functions) distinct)
+      (All-weaker (IsOpenForm c) (IsWellFormedFunc (type_in c)) (λ g form. form.0) gs (module_open c m own_targets forms)) own_targets
+      (names_apart (function_names d.functions) gs (names_imported d d.functions xs gs functions) distinct) lists.0 lists.1

@@ -44,8 +44,8 @@ pub fn add_func<L: Ledger>(
     Ok(func)
 }
 
-/// A new block without operations, as the last of an operation's region. That it has none is asked of the context, since
-/// the contract of `add_block` does not say it of every context; it never has any.
+/// A new block without operations, as the last of an operation's region: `add_block` of the context, with a clause that
+/// says that it leaves the modules that the context held.
 pub fn add_bare_block(
     ctx: &mut Context,
     holder: OpRef,
@@ -61,10 +61,7 @@ pub fn add_bare_block(
     ensures kept { (n b : ℕ) → n ≤ holder.0 → Keeps n b ctx.old ctx.new }
 {
     let block = ctx.add_block(holder, label, args)?;
-    match ctx.first_op(block) {
-        None => Ok(block),
-        Some(_) => Err(AllocError),
-    }
+    Ok(block)
 }
 
 /// A new block without operations, as the last of a function.

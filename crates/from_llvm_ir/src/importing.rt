@@ -24,6 +24,7 @@ use crate::conversion_err::ConversionErr;
 use crate::functions::import_function;
 use crate::matching::FunctionBlocks;
 use dialect_core::context::Context;
+use dialect_core::few::has_few;
 use dialect_core::numbers::{BlockRef, ModuleOp};
 use dialect_core::steps::Steps;
 use dialect_types::identifier::Identifier;
@@ -138,6 +139,10 @@ fn import_counted<L: Ledger>(
     let (module, body) = start_module(ctx, &mut names, source)?;
     let blocks = import_functions(alloc, ctx, &mut names, source, body, &mut steps)?;
     know_kept(ctx, module);
+    // Each list of a dialect module has fewer than 2^31 entries: a longer one is want of memory.
+    if !has_few(ctx, body) {
+        return Err(ConversionErr::NoMemory);
+    }
     Ok(Imported {
         module,
         blocks,

@@ -1,6 +1,6 @@
 -- From what the import and the export made to what `transfer` promises.
 use Rattle.std.proofs.Common.{ℕ, suc, ◌≡◌, ◌<◌, refl, sym, ◌∙◌, ap, subst, List, [], ◌∷◌, Some, length, slice_get, map, All, arith}
-use Rattle.std.proofs.lemmas.List.Elements.{All-nil, All-cons}
+use Rattle.std.proofs.lemmas.List.Elements.{All-nil, All-cons, All-weaker}
 use Rattle.std.proofs.lemmas.Option.{slice_get_within}
 use Rattle.llvm_core.specs.Module.{Module}
 use Rattle.llvm_core.specs.Form.{IsForm, IsFormFunction, HasDistinctNames}
@@ -9,7 +9,7 @@ use Rattle.llvm_core.specs.Data.{ModuleData, AreApart, data_of}
 use Rattle.llvm_core.proofs.DataLemmas.{within_at, there}
 use Rattle.dialect_core.specs.ContextData.{ContextData}
 use Rattle.dialect_core.specs.Data as D
-use Rattle.dialect_core.specs.Form.{HasTargets}
+use Rattle.dialect_core.specs.Form.{HasTargets, IsExportable, LeadsToOwn}
 use Rattle.dialect_core.proofs.TypingLaws.{module_open}
 use Rattle.meaning.specs.Pairs.{Matched}
 use Rattle.meaning.specs.Code.{IsDistinctNames, SameNamed, SameCode}
@@ -25,7 +25,7 @@ use Rattle.to_llvm_ir.specs.Held.{IsReadable}
 use Rattle.transfer.specs.declared.transferred.Transferred.{Transferred}
 use Rattle.transfer.specs.Same.{SameThroughout}
 use Rattle.from_llvm_ir.proofs.PairLaws.{matched_of, matched_at, matched_map}
-use Rattle.from_llvm_ir.proofs.MatchedLaws.{function_names, partner, count_imported, matched_place, forms_imported, names_imported}
+use Rattle.from_llvm_ir.proofs.MatchedLaws.{function_names, partner, count_imported, matched_place, forms_imported, exportable_imported, names_imported}
 use Rattle.from_llvm_ir.proofs.SameLaws.{function_numbered, plain_names, same_imported}
 use Rattle.to_llvm_ir.proofs.CodeLaws.{names_exported}
 use Rattle.to_llvm_ir.proofs.CheckedLaws.{form_exported}
@@ -48,7 +48,9 @@ readable d c i h typed = record {
   kind = h.building.held.kind;
   region = omega (arith, ap length h.building.held.region);
   typed = typed;
-  functions = module_open c i.«module».0.0 (forms_imported d d.functions i.blocks (imported_data c i).functions h.functions);
+  functions =
+      let gs = (imported_data c i).functions in
+      module_open c i.«module».0.0 (All-weaker IsExportable LeadsToOwn (λ g fit. fit.targets) gs (exportable_imported d d.functions i.blocks gs h.functions)) (forms_imported d d.functions i.blocks gs h.functions);
 }
 
 -- each block with arguments is an edge's target

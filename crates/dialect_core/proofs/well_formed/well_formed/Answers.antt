@@ -1,8 +1,12 @@
 -- What `well_formed::well_formed` owes besides what the check finds.
 use Rattle.std.proofs.Common.{Some, ap, sym, ◌∙◌, arith}
 use Rattle.dialect_core.specs.declared.numbers.BlockRef.{BlockRef}
+use Rattle.dialect_core.proofs.FewLemmas.{types_within}
 use Rattle.dialect_core.proofs.FuncTestLemmas.{module_is, module_fails, one_item}
 use Rattle.dialect_core.proofs.well_formed.well_formed.Goals as goal
+
+pub has_few-requires-clause-types : goal.has_few-requires-clause-types
+has_few-requires-clause-types c = types_within c.args.ctx.now _ c.requires.typed
 
 pub returns-then-funcs_fit : goal.returns-then-funcs_fit
 returns-then-funcs_fit c =

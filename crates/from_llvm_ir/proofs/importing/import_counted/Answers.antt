@@ -1,6 +1,7 @@
 -- What `importing::import_counted` owes besides what the check finds.
 use Rattle.std.proofs.Common.{length, arith}
 use Rattle.dialect_types.specs.Names.{legal_name}
+use Rattle.from_llvm_ir.proofs.OwnLaws.{held_types}
 use Rattle.from_llvm_ir.proofs.ModuleLaws.{imported_whole}
 use Rattle.from_llvm_ir.proofs.KeepLaws.{keeps_then, others_kept, types_kept}
 use Rattle.from_llvm_ir.proofs.importing.import_counted.Goals as goal
@@ -8,9 +9,17 @@ use Rattle.from_llvm_ir.proofs.importing.import_counted.Goals as goal
 pub know_kept-requires : goal.know_kept-requires
 know_kept-requires g c = (c.in_ok-blocks.ensures.ok c.in_ok-module.«module».0.0 (legal_name c.args.source.now.name) c.in_ok-module.ensures.building).building.there
 
+pub has_few-requires-clause-body : goal.has_few-requires-clause-body
+has_few-requires-clause-body g c = (c.in_ok-blocks.ensures.ok c.in_ok-module.«module».0.0 (legal_name c.args.source.now.name) c.in_ok-module.ensures.building).building.held.block
+
+pub has_few-requires-clause-types : goal.has_few-requires-clause-types
+has_few-requires-clause-types g c =
+    let b = (c.in_ok-blocks.ensures.ok c.in_ok-module.«module».0.0 (legal_name c.args.source.now.name) c.in_ok-module.ensures.building).building in
+    held_types c.import_functions.new.ctx c.in_ok-module.«module».0.0 c.in_ok-module.body b.held b.own
+
 pub returns-clause-imported : goal.returns-clause-imported
 returns-clause-imported g c =
-    imported_whole c.args.source.now c.import_functions.new.ctx _ c.in_ok-module.body c.know_kept.ensures.regions c.know_kept.ensures.symbols
+    imported_whole c.args.source.now c.import_functions.new.ctx _ c.in_ok-module.body c.know_kept.ensures.regions c.know_kept.ensures.symbols (c.has_few.ensures.0 c.if-not-has_few.false)
     (c.in_ok-blocks.ensures.ok c.in_ok-module.«module».0.0 (legal_name c.args.source.now.name) c.in_ok-module.ensures.building)
 
 pub returns-in_err-module-clause-others : goal.returns-in_err-module-clause-others
@@ -18,6 +27,15 @@ returns-in_err-module-clause-others g c = others_kept c.args.ctx.now c.start_mod
 
 pub returns-in_err-blocks-clause-others : goal.returns-in_err-blocks-clause-others
 returns-in_err-blocks-clause-others g c =
+    let c0 = c.args.ctx.now in
+    let n = length c0.ops in
+    let b = length c0.blocks in
+    let start = c.in_ok-module.ensures in
+    others_kept c0 c.import_functions.new.ctx (keeps_then n b c0 c.start_module.new.ctx c.import_functions.new.ctx (c.start_module.ensures.kept n b (omega arith))
+    (c.import_functions.ensures.kept c.in_ok-module.«module».0.0 (legal_name c.args.source.now.name) start.building n b (omega (arith, start.number)) (omega (arith, start.block))))
+
+pub returns-then-not-has_few-clause-others : goal.returns-then-not-has_few-clause-others
+returns-then-not-has_few-clause-others g c =
     let c0 = c.args.ctx.now in
     let n = length c0.ops in
     let b = length c0.blocks in
@@ -39,6 +57,15 @@ returns-in_err-module-clause-typed g c = types_kept c.args.ctx.now c.start_modul
 
 pub returns-in_err-blocks-clause-typed : goal.returns-in_err-blocks-clause-typed
 returns-in_err-blocks-clause-typed g c =
+    let c0 = c.args.ctx.now in
+    let n = length c0.ops in
+    let b = length c0.blocks in
+    let start = c.in_ok-module.ensures in
+    types_kept c0 c.import_functions.new.ctx (keeps_then n b c0 c.start_module.new.ctx c.import_functions.new.ctx (c.start_module.ensures.kept n b (omega arith))
+    (c.import_functions.ensures.kept c.in_ok-module.«module».0.0 (legal_name c.args.source.now.name) start.building n b (omega (arith, start.number)) (omega (arith, start.block))))
+
+pub returns-then-not-has_few-clause-typed : goal.returns-then-not-has_few-clause-typed
+returns-then-not-has_few-clause-typed g c =
     let c0 = c.args.ctx.now in
     let n = length c0.ops in
     let b = length c0.blocks in
