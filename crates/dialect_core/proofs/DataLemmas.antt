@@ -92,3 +92,13 @@ new_module_data c x name is_name no_blocks =
     (ap (λ (x : Option OpData). option_map_or (λ (x : OpData). unwrap_or x.name []) x []) here ∙ ap (λ (n : Option (List ℕ)). unwrap_or n []) is_name)
     (ap (λ (y : Option OpData). filter_map (func_in (type_trees c.types) (with_op c x)) (flat_map (list_at c.lists) (option_map_or (λ (z : OpData). z.blocks) y []))) here
     ∙ ap (λ (bs : List BlockRef). filter_map (func_in (type_trees c.types) (with_op c x)) (flat_map (list_at c.lists) bs)) no_blocks)
+
+-- ---- a new module
+
+-- a new operation without blocks holds no functions
+pub new_bare : (c : ContextData) (x : OpData) (n : ℕ) → n ≡ length c.ops → x.blocks ≡ [] → data_of (with_op c x) n ≡ module_data (unwrap_or x.name []) []
+new_bare c x n is bare =
+    let at : slice_get (c.ops ++ x ∷ []) n ≡ Some x = ap (slice_get (c.ops ++ x ∷ [])) is ∙ slice_get-last c.ops x in
+    same_module (data_of (with_op c x) n).name (unwrap_or x.name []) (data_of (with_op c x) n).functions [] (ap (λ (o : Option OpData). option_map_or (λ (y : OpData). unwrap_or y.name []) o []) at)
+    (ap (λ (o : Option OpData). filter_map (func_in (type_trees c.types) (with_op c x)) (flat_map (list_at c.lists) (option_map_or (λ (y : OpData). y.blocks) o []))) at
+    ∙ ap (λ (bs : List BlockRef). filter_map (func_in (type_trees c.types) (with_op c x)) (flat_map (list_at c.lists) bs)) bare)
