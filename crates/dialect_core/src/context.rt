@@ -123,10 +123,7 @@ impl Context {
         ensures typed { OnOk result (IsTyped self.old → IsTyped self.new) }
         ensures err { OnErr result (self.new ≡ self.old) }
     {
-        let mut data = bare(self.alloc, kind, None, None);
-        data.operands = copy_values(self.alloc, operands)?;
-        data.successors = copy_successors(self.alloc, successors)?;
-        data.result = result_ty;
+        let data = plain(self.alloc, kind, operands, successors, result_ty)?;
         self.add(data)
     }
 
@@ -236,6 +233,29 @@ fn bare(alloc: Global, kind: OpKind, name: Option<Identifier>, symbol: Option<Sy
         symbol,
         blocks: Items::new(alloc),
     }
+}
+
+/// The data of an operation other than a module and a function, without a name.
+fn plain(
+    alloc: Global,
+    kind: OpKind,
+    operands: &[Value],
+    successors: &[Successor],
+    result_ty: Option<TypeHandle>,
+) -> Result<OpData, AllocError>
+    ensures { IfOk result (λ x. x ≡ record { kind = kind; name = None; operands = operands.now; successors = successors.now; result = result_ty; symbol = None; blocks = [] }) }
+{
+    let operands = copy_values(alloc, operands)?;
+    let successors = copy_successors(alloc, successors)?;
+    Ok(OpData {
+        kind,
+        name: None,
+        operands,
+        successors,
+        result: result_ty,
+        symbol: None,
+        blocks: Items::new(alloc),
+    })
 }
 
 /// Appends a type, and answers its place.
