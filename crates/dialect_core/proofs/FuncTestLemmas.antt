@@ -5,6 +5,7 @@ use Rattle.std.specs.List.{filter_map, flat_map}
 use Rattle.std.specs.Option.{option_map, option_map_or, option_and_then}
 use Rattle.std.proofs.lemmas.Option.{none-some, same_Some}
 use Rattle.std.proofs.lemmas.List.{append-nil}
+use Rattle.std.proofs.lemmas.List.Elements.{All-cons, All-head, All-nil}
 use Rattle.dialect_types.specs.declared.types.TypeHandle.{TypeHandle}
 use Rattle.dialect_types.specs.Trees.{TypeTree, VoidType, type_at, type_trees}
 use Rattle.dialect_core.specs.declared.numbers.OpRef.{OpRef}
@@ -18,7 +19,7 @@ use Rattle.dialect_core.specs.declared.ops.BlockData.{BlockData}
 use Rattle.dialect_core.specs.Lists.{Once, list_at}
 use Rattle.dialect_core.specs.ContextData.{ContextData, IsSymbol, kind_at, symbol_at, region_at}
 use Rattle.dialect_core.specs.Data.{DialectOp, DialectBlock, Func, op_at, block_in, block_of, func_of, func_in, held, data_of, name_at, type_in}
-use Rattle.dialect_core.specs.WellFormed.{IsFew, IsFewFunc, IsInteger, IsSignature, IsPlainAt, IsPastFirsts, IsWellFormedBlock, IsWellFormedFunc, IsWellFormed, params_of, suits, suits_body, suits_declaration}
+use Rattle.dialect_core.specs.WellFormed.{HasFewEntries, HasIntegerArgs, IsFew, IsFewFunc, IsInteger, IsSignature, IsPlainAt, IsPastFirsts, IsWellFormedBlock, IsWellFormedFunc, IsWellFormed, params_of, suits, suits_body, suits_declaration}
 use Rattle.dialect_core.specs.Checking.{AreApartFrom, AreFuncLines, AreLines, IsBlockAt, IsFuncAt, IsHead, block_at, func_at, tree_at}
 use Rattle.dialect_core.proofs.ChainLemmas.{same_op}
 use Rattle.dialect_core.proofs.HoldLemmas.{flat_stands, stands_flat}
@@ -266,12 +267,13 @@ module _ (c : ContextData) where
           by None is e = absurd (none-some g e)
           by (Some o) is e = (o, is, same_Some (func_at c o) g (sym (func_data c o (symbols o (kinds k o is))) ∙ e))
 
-    to_module : kind_at c.ops (record { 0 = m }) ≡ Some K.Module → length (region_at c.ops m) ≤ 1 → AreFuncLines c (held c m) → IsFew (held c m) → All (IsFewFunc c) (held c m) → IsWellFormed c m
-    to_module kind one h few few_each =
+    to_module : kind_at c.ops (record { 0 = m }) ≡ Some K.Module → length (region_at c.ops m) ≤ 1 → All (HasIntegerArgs c) (region_at c.ops m) → AreFuncLines c (held c m) → IsFew (held c m) → All (IsFewFunc c) (held c m) → IsWellFormed c m
+    to_module kind one args h few few_each =
         let kinds = λ (k : ℕ) (o : OpRef) (at : slice_get (held c m) k ≡ Some o). (funcs_at (held c m) h k o at).kind in
         record {
           kind = kind;
           region = one;
+          args = args;
           funcs_alone = at_all (λ (o : OpRef). kind_at c.ops o ≡ Some K.Func) (held c m) kinds;
           plain = at_all (λ (o : OpRef). All (IsPlainAt c) (held c o.0)) (held c m) (λ k o at. (funcs_at (held c m) h k o at).plain);
           past_firsts = at_all (λ (o : OpRef). All (IsPastFirsts c) (held c o.0)) (held c m) (λ k o at. (funcs_at (held c m) h k o at).past_firsts);
@@ -303,16 +305,21 @@ module _ (c : ContextData) where
       held_is : held c m ≡ list_at c.lists body
       held_is = ap (flat_map (list_at c.lists)) region ∙ append-nil (list_at c.lists body)
 
-      -- the functions are as they should be: the module is where its lists are short
-      pub module_is : (t : Bool) → kind_at c.ops (record { 0 = m }) ≡ Some K.Module → AreFuncLines c (list_at c.lists body) → (IsTrue t ↔ HasFew (list_at c.lists body)) → IsTrue t ↔ IsWellFormed c m
-      module_is t kind lines h =
-          let P : List OpRef → Type 0 = λ xs. IsTrue t ↔ HasFew xs in
-          let few = subst P (sym held_is) h in
-          (λ w. let f = few.0 w in to_module kind (omega (arith, ap length region)) (subst (AreFuncLines c) (sym held_is) lines) f.0 f.1, λ w. few.1 (w.few, w.few_each))
+      all_args : HasIntegerArgs c body ↔ All (HasIntegerArgs c) (region_at c.ops m)
+      all_args =
+          let P : List BlockRef → Type 0 = λ bs. HasIntegerArgs c body ↔ All (HasIntegerArgs c) bs in
+          subst P (sym region) (λ h. All-cons (HasIntegerArgs c) body [] h (All-nil (HasIntegerArgs c)), λ h. All-head (HasIntegerArgs c) body [] h)
+
+      -- the arguments are as they should be: the module is where the rest is
+      pub module_is : (t : Bool) → kind_at c.ops (record { 0 = m }) ≡ Some K.Module → HasIntegerArgs c body → (IsTrue t ↔ (AreFuncLines c (list_at c.lists body) × HasFewEntries c body)) → IsTrue t ↔ IsWellFormed c m
+      module_is t kind args h =
+          let P : List OpRef → Type 0 = λ xs. IsTrue t ↔ (AreFuncLines c xs × HasFew xs) in
+          let rest = subst P (sym held_is) h in
+          (λ w. let r = rest.0 w in to_module kind (omega (arith, ap length region)) (all_args.0 args) r.0 r.1.0 r.1.1, λ w. rest.1 (from_module w, (w.few, w.few_each)))
 
       -- and they are not
-      pub module_fails : (t : Bool) → t ≡ false → (IsTrue t ↔ AreFuncLines c (list_at c.lists body)) → IsTrue t ↔ IsWellFormed c m
-      module_fails t is h = (λ yes. no_true (sym is ∙ yes), λ w. h.1 (subst (AreFuncLines c) held_is (from_module w)))
+      pub module_fails : (t : Bool) → t ≡ false → (IsTrue t ↔ HasIntegerArgs c body) → IsTrue t ↔ IsWellFormed c m
+      module_fails t is h = (λ yes. no_true (sym is ∙ yes), λ w. h.1 (all_args.1 w.args))
 
     -- a module without a block has no functions
     pub module_bare : region_at c.ops m ≡ [] → kind_at c.ops (record { 0 = m }) ≡ Some K.Module → IsTrue true ↔ IsWellFormed c m
@@ -321,7 +328,8 @@ module _ (c : ContextData) where
         let none : AreFuncLines c (held c m) = subst P (sym (ap (flat_map (list_at c.lists)) region)) tt in
         let P : List OpRef → Type 0 = HasFew in
         let few : HasFew (held c m) = subst P (sym (ap (flat_map (list_at c.lists)) region)) (omega arith, λ k d l. absurd (omega (arith, l))) in
-        always (to_module kind (omega (arith, ap length region)) none few.0 few.1)
+        let args : All (HasIntegerArgs c) (region_at c.ops m) = let P : List BlockRef → Type 0 = All (HasIntegerArgs c) in subst P (sym region) (All-nil (HasIntegerArgs c)) in
+        always (to_module kind (omega (arith, ap length region)) args none few.0 few.1)
 
     pub module_crowded : (region : List BlockRef) → region ≡ region_at c.ops m → 1 < length region → IsTrue false ↔ IsWellFormed c m
     module_crowded region is more = never (λ w. let few : length (region_at c.ops m) ≤ 1 = w.region in omega (arith, ap length is))

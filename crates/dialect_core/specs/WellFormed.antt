@@ -1,7 +1,8 @@
--- Well-formed modules: the rules of the dialect for the kinds of operations that there are, and what the form that is
--- translated today (`IsFormFunc`) asks besides.
+-- Well-formed modules: the rules of the dialect for the kinds of operations that there are, and what the open form
+-- (`IsOpenForm`) asks besides.
 use Rattle.std.specs.Prelude.{◌≡◌, ◌<◌, ◌≤◌, ◌^◌, ℕ, Bool, true, false, List, [], ◌∷◌, length, slice_get, Option, Some, None, All, IfSome}
 use Rattle.dialect_types.specs.Trees.{TypeTree, VoidType, IntegerType, FuncType, IntegerAttr, type_at, type_trees}
+use Rattle.dialect_types.specs.declared.types.TypeHandle.{TypeHandle}
 use Rattle.dialect_types.specs.Names.{IsPlainName}
 use Rattle.dialect_core.specs.declared.numbers.OpRef.{OpRef}
 use Rattle.dialect_core.specs.declared.numbers.BlockRef.{BlockRef}
@@ -71,8 +72,8 @@ Returned types VoidType vs = vs ≡ []
 Returned types type vs = (v : Value) × (vs ≡ v ∷ []) × (types v ≡ Some type)
 
 -- An edge does not go to the function's first block; `IsWellFormed` says that it goes to no other first block either. It
--- passes values, and where its target, be it a block of this function or of another, has an argument at the place of such
--- a value, the two have one type.
+-- passes values, and where its target has an argument at the place of such a value, the two have one type: in a context
+-- the target may be a block of another function.
 pub record IsEdge (types : Typing) (g : Func) (s : Successor) : Type 0 where
   pub no_entry : (b : DialectBlock) → slice_get g.blocks 0 ≡ Some b → ¬ (s.block.0 ≡ b.number)
   pub args : All (IsTypedBy types) s.args
@@ -167,7 +168,15 @@ pub record IsFewFunc (c : ContextData) (o : OpRef) : Type 0 where
   pub blocks : IsFew (region_at c.ops o.0)
   pub each : All (IsFewBlock c) (region_at c.ops o.0)
 
+-- the block of a module: its functions
+abbrev pub HasFewEntries : ContextData → BlockRef → Type 0
+HasFewEntries c b = IsFew (list_at c.lists b) × All (IsFewFunc c) (list_at c.lists b)
+
 -- ---- modules
+
+-- the arguments of a block are integers, and few
+abbrev pub HasIntegerArgs : ContextData → BlockRef → Type 0
+HasIntegerArgs c b = (x : BlockData) → slice_get c.blocks b.0 ≡ Some x → IsFew x.args × All (λ (t : TypeHandle). IsInteger (type_at (type_trees c.types) t)) x.args
 
 -- no two functions have one name
 abbrev pub HasNamesApart : List Func → Type 0
@@ -185,14 +194,15 @@ IsFirst c b = (holder : ℕ) × (slice_get (region_at c.ops holder) 0 ≡ Some b
 abbrev pub IsPastFirsts : ContextData → OpRef → Type 0
 IsPastFirsts c o = (x : OpData) → slice_get c.ops o.0 ≡ Some x → All (λ (s : Successor). ¬ IsFirst c s.block) x.successors
 
--- The operation of the number m is a module of at most one block. That block holds functions alone, whose blocks hold
--- neither functions nor modules: the data leave such out, so these rules speak of the context. So does the rule that no
--- edge goes to the first block of a region, be it of this function, of another or of a module. An operand, and a value
--- that an edge passes, has its type in the context, whichever function it belongs to: that each is one of its own function
--- is for the export to ask. Each list has fewer than 2^31 entries.
+-- The operation of the number m is a module of at most one block. That block takes integers, and holds functions alone,
+-- whose blocks hold neither functions nor modules: the data leave such out, so these rules speak of the context. So does
+-- the rule that no edge goes to the first block of a region, be it of this function, of another or of a module. An
+-- operand, and a value that an edge passes, has its type in the context, whichever function it belongs to: that each is
+-- one of its own function is for the export to ask. Each list has fewer than 2^31 entries.
 pub record IsWellFormed (c : ContextData) (m : ℕ) : Type 0 where
   pub kind : kind_at c.ops (record { 0 = m }) ≡ Some K.Module
   pub region : length (region_at c.ops m) ≤ 1
+  pub args : All (HasIntegerArgs c) (region_at c.ops m)
   pub funcs_alone : All (λ (o : OpRef). kind_at c.ops o ≡ Some K.Func) (held c m)
   pub plain : All (λ (o : OpRef). All (IsPlainAt c) (held c o.0)) (held c m)
   pub past_firsts : All (λ (o : OpRef). All (IsPastFirsts c) (held c o.0)) (held c m)
@@ -201,7 +211,7 @@ pub record IsWellFormed (c : ContextData) (m : ℕ) : Type 0 where
   pub few : IsFew (held c m)
   pub few_each : All (IsFewFunc c) (held c m)
 
--- ---- what the form asks besides
+-- ---- what the open form asks besides
 
 -- an operation of the form: its result, where it has one, is of 1 to 64 bits, and its name is plain
 pub record IsNarrowOp (o : DialectOp) : Type 0 where

@@ -5,7 +5,7 @@ ghost use Rattle.dialect_types.specs.Trees.{type_at, type_trees};
 ghost use Rattle.dialect_core.specs.declared.ops.Symbol.{Symbol};
 ghost use Rattle.dialect_core.specs.Lists.{list_at};
 ghost use Rattle.dialect_core.specs.ContextData.{symbol_at};
-ghost use Rattle.dialect_core.specs.WellFormed.{IsFew, IsFewBlock, IsFewFunc, IsFewOp, params_of};
+ghost use Rattle.dialect_core.specs.WellFormed.{HasFewEntries, IsFew, IsFewBlock, IsFewFunc, IsFewOp, params_of};
 ghost use Rattle.dialect_core.specs.Checking.{HasTypeWithin};
 
 use crate::context::Context;
@@ -16,7 +16,7 @@ use dialect_types::type_store::TypeStore;
 use dialect_types::types::{TypeHandle, TypeKind};
 
 /// A list of this many entries is too long, and so is a longer one.
-const TOO_LONG: usize = 1 << 31;
+pub const TOO_LONG: usize = 1 << 31;
 
 /// Whether edges pass few values each.
 fn pass_few(edges: &[Successor]) -> bool
@@ -152,7 +152,7 @@ fn funcs_have_few(ctx: &Context, block: BlockRef) -> bool
 pub fn has_few(ctx: &Context, body: BlockRef) -> bool
     requires body { body.0 < length ctx.now.blocks }
     requires types { All (HasTypeWithin ctx.now) (list_at ctx.now.lists body) }
-    ensures { IsTrue result ↔ IsFew (list_at ctx.now.lists body) × All (IsFewFunc ctx.now) (list_at ctx.now.lists body) }
+    ensures { IsTrue result ↔ HasFewEntries ctx.now body }
 {
     holds_few(ctx, body) && funcs_have_few(ctx, body)
 }

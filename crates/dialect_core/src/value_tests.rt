@@ -14,7 +14,7 @@ use crate::ops::{OpKind, Successor, Value};
 use crate::type_tests::same_type;
 use dialect_types::types::TypeHandle;
 
-/// The type of the result of an operation of a function's block.
+/// The type of the result of an operation; a module and a function have none.
 fn result_of(ctx: &Context, op: OpRef) -> Option<TypeHandle>
     requires op { op.0 < length ctx.now.ops }
     requires typed { IsTyped ctx.now }

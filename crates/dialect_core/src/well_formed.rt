@@ -5,11 +5,11 @@ ghost use Rattle.dialect_core.specs.declared.ops.OpKind.TheVariants as kinds;
 ghost use Rattle.dialect_core.specs.Lists.{list_at, from_op};
 ghost use Rattle.dialect_core.specs.ContextData.{IsSymbol, kind_at};
 ghost use Rattle.dialect_core.specs.Data.{DialectBlock, IsTyped, name_at};
-ghost use Rattle.dialect_core.specs.WellFormed.{IsWellFormed, params_of, suits, suits_body, suits_declaration};
+ghost use Rattle.dialect_core.specs.WellFormed.{HasFewEntries, HasIntegerArgs, IsWellFormed, params_of, suits, suits_body, suits_declaration};
 ghost use Rattle.dialect_core.specs.Checking.{AreApartFrom, AreFuncLines, AreLines, IsBlockAt, IsFuncAt, IsHead, IsLine, func_at};
 
 use crate::context::Context;
-use crate::few::has_few;
+use crate::few::{TOO_LONG, has_few};
 use crate::linkage::LinkageAttr;
 use crate::module_printing::name_of;
 use crate::numbers::{BlockRef, ModuleOp, OpRef};
@@ -180,7 +180,7 @@ fn head_fits(ctx: &Context, func: OpRef) -> bool
 }
 
 /// Whether a function is well-formed, its blocks hold neither functions nor modules, and lead to no first block.
-fn body_fits(ctx: &Context, func: OpRef) -> bool
+fn func_body_fits(ctx: &Context, func: OpRef) -> bool
     requires func { IsSymbol ctx.now.ops func }
     requires within { func.0 < length ctx.now.ops }
     requires typed { IsTyped ctx.now }
@@ -205,7 +205,7 @@ fn func_fits(ctx: &Context, op: OpRef) -> bool
     ensures { IsTrue result ↔ IsFuncAt ctx.now op }
 {
     match ctx.op_kind(op) {
-        OpKind::Func => body_fits(ctx, op),
+        OpKind::Func => func_body_fits(ctx, op),
         _ => false,
     }
 }
@@ -249,6 +249,25 @@ fn funcs_fit(ctx: &Context, block: BlockRef) -> bool
     true
 }
 
+/// Whether the arguments of a block are integers, and few.
+fn args_fit(ctx: &Context, block: BlockRef) -> bool
+    requires block { block.0 < length ctx.now.blocks }
+    requires typed { IsTyped ctx.now }
+    ensures { IsTrue result ↔ HasIntegerArgs ctx.now block }
+{
+    let args = ctx.block_args(block);
+    args.len() < TOO_LONG && all_integers(ctx.types(), args)
+}
+
+/// Whether the operations of a module's block are well-formed functions of different names, and all lists are short.
+fn body_fits(ctx: &Context, body: BlockRef) -> bool
+    requires body { body.0 < length ctx.now.blocks }
+    requires typed { IsTyped ctx.now }
+    ensures { IsTrue result ↔ AreFuncLines ctx.now (list_at ctx.now.lists body) × HasFewEntries ctx.now body }
+{
+    funcs_fit(ctx, body) && has_few(ctx, body)
+}
+
 /// Whether an operation is a module that is well-formed.
 pub fn well_formed(ctx: &Context, root: ModuleOp) -> bool
     requires root { root.0.0 < length ctx.now.ops }
@@ -260,7 +279,7 @@ pub fn well_formed(ctx: &Context, root: ModuleOp) -> bool
     };
     match ctx.region(root.0) {
         [] => true,
-        [body] => funcs_fit(ctx, *body) && has_few(ctx, *body),
+        [body] => args_fit(ctx, *body) && body_fits(ctx, *body),
         _ => false,
     }
 }
