@@ -127,8 +127,7 @@ fn import_inst<L: Ledger>(
     }
     import_op(
         alloc, ctx, names, source, targets, entries, values, from, block, i, steps,
-    )?;
-    Ok(())
+    )
 }
 
 /// What stands for the instructions of a block, in order.
