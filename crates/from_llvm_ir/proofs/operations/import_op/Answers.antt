@@ -143,3 +143,6 @@ returns-in_err-operands-clause-kept g c = λ n b behind. keeps_none n b c.args.c
 
 pub returns-in_err-successors-clause-kept : goal.returns-in_err-successors-clause-kept
 returns-in_err-successors-clause-kept g c = λ n b behind. keeps_none n b c.args.ctx.now
+
+pub add_op-requires-clause-result_ty : goal.add_op-requires-clause-result_ty
+add_op-requires-clause-result_ty g c = c.in_ok-ty.ensures.within
