@@ -116,5 +116,13 @@ pub fn known_successors(
     ensures err { IfErr result (λ e. (f : LLVMFunction) → (g : Function) → ((j : ℕ) → (t : LLVMBasicBlock) → slice_get (target_blocks inst.now) j ≡ Some t → IsReady source.now f g values.now targets.now entries.now from t) → IsForward source.now values.now (flat_map (passed g from.0) (map (λ t. t.0) (target_blocks inst.now))) e) }
 {
     let leads = targets_of(alloc, inst)?;
-    known_edges(alloc, source, values, targets, entries, from, leads.as_slice())
+    known_edges(
+        alloc,
+        source,
+        values,
+        targets,
+        entries,
+        from,
+        leads.as_slice(),
+    )
 }

@@ -19,11 +19,11 @@ known_edges-requires c =
 pub returns-clause-ok : goal.returns-clause-ok
 returns-clause-ok c =
     subst (λ (ts : List LLVMBasicBlock). IfOk c.known_edges.result (λ ss. (f : LLVMFunction) → (g : Function) → ((j : ℕ) → (t : LLVMBasicBlock) → slice_get ts j ≡ Some t → IsReady c.args.source.now f g c.args.values.now c.args.targets.now c.args.entries.now c.args.from t)
-        → Matched (IsKnownEdge c.args.source.now g c.args.values.now c.args.targets.now c.args.from) ts ss.items))
+    → Matched (IsKnownEdge c.args.source.now g c.args.values.now c.args.targets.now c.args.from) ts ss.items))
     (c.as_slice.ensures.value ∙ c.in_ok-leads.ensures) c.known_edges.ensures.ok
 
 pub returns-clause-err : goal.returns-clause-err
 returns-clause-err c =
     subst (λ (ts : List LLVMBasicBlock). IfErr c.known_edges.result (λ e. (f : LLVMFunction) → (g : Function) → ((j : ℕ) → (t : LLVMBasicBlock) → slice_get ts j ≡ Some t → IsReady c.args.source.now f g c.args.values.now c.args.targets.now c.args.entries.now c.args.from t)
-        → IsForward c.args.source.now c.args.values.now (flat_map (passed g c.args.from.0) (map (λ (t : LLVMBasicBlock). t.0) ts)) e))
+    → IsForward c.args.source.now c.args.values.now (flat_map (passed g c.args.from.0) (map (λ (t : LLVMBasicBlock). t.0) ts)) e))
     (c.as_slice.ensures.value ∙ c.in_ok-leads.ensures) c.known_edges.ensures.err
