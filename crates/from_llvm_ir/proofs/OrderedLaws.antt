@@ -5,17 +5,10 @@ use Rattle.llvm_core.specs.Data as L
 use Rattle.block_order.specs.DepthFirst.{IsDepthFirst}
 use Rattle.block_order.specs.Order.{IsOrder, HasReachedFirst, HasPassedBefore}
 use Rattle.from_llvm_ir.specs.Match.{IsPlaces}
+use Rattle.from_llvm_ir.specs.Order.{IsRpo}
 use Rattle.from_llvm_ir.specs.Walks.{graph_of}
 use Rattle.from_llvm_ir.proofs.GraphLaws.{length-graph}
 use Rattle.from_llvm_ir.proofs.UndefinedLaws.{order_places}
-
--- what is known of an order of the nodes of a graph
-pub record IsRpo (graph : List (List ℕ)) (order : List ℕ) : Type 0 where
-  pub depth_first : IsDepthFirst graph order
-  pub once : IsOrder (length graph) order
-  pub first : 0 < length graph → slice_get order 0 ≡ Some 0
-  pub reached : HasReachedFirst graph order
-  pub passed : HasPassedBefore graph order
 
 -- of a graph that is that of a function
 pub is_rpo : (g : L.Function) (graph : List (List ℕ)) (made order : List ℕ) → graph ≡ graph_of g → order ≡ made → IsDepthFirst graph made → IsOrder (length graph) made → (0 < length graph → slice_get made 0 ≡ Some 0) → HasReachedFirst graph made → HasPassedBefore graph made → IsRpo (graph_of g) order

@@ -164,8 +164,7 @@ fn hoist_inst<L: Ledger>(
         return Ok(());
     }
     let used = used_values(alloc, source, entries, from, i)?;
-    hoist_values(ctx, source, values, block, used.as_slice(), steps)?;
-    Ok(())
+    hoist_values(ctx, source, values, block, used.as_slice(), steps)
 }
 
 /// Hoists the constants that the instructions of a block use.

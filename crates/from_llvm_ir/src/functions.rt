@@ -9,12 +9,13 @@ ghost use Rattle.llvm_core.specs.Data.{Block, Function, data_of};
 ghost use Rattle.dialect_core.specs.Data.{DialectModule, Func, with_func};
 ghost use Rattle.from_llvm_ir.specs.Imported.{ImportedFunction, IsBuilding};
 ghost use Rattle.from_llvm_ir.specs.Keeping.{Keeps};
-ghost use Rattle.from_llvm_ir.specs.Order.{IsInverse};
+ghost use Rattle.from_llvm_ir.specs.Order.{IsInverse, IsRpo};
 ghost use Rattle.from_llvm_ir.specs.Source.{IsSource, IsBlockOf};
 ghost use Rattle.from_llvm_ir.specs.Known.{Frame, Notes, knows, blocks_of};
 ghost use Rattle.from_llvm_ir.specs.Body.{AreTargets, HasHeads, IsFilled, IsFramed, IsLate};
 ghost use Rattle.from_llvm_ir.specs.Importing.{IsDeclared};
 ghost use Rattle.from_llvm_ir.specs.Refusals.{IsRefusalOfFunction};
+ghost use Rattle.from_llvm_ir.specs.Walks.{HasDominatedUses, graph_of};
 
 use crate::building::{add_func, add_func_block};
 use crate::constants::hoist_constants;
@@ -170,8 +171,7 @@ fn import_body<L: Ledger>(
         f,
         order,
         steps,
-    )?;
-    Ok(())
+    )
 }
 
 /// A function of the dialect without a body, for one of the source.
@@ -198,6 +198,24 @@ fn declare<L: Ledger>(
     Ok(func)
 }
 
+/// The places of a function's blocks in depth-first order. Refuses a function that uses the result of an instruction
+/// where it is not defined: `UndefinedValue`.
+fn checked_order(
+    alloc: Global,
+    source: &LLVMModule,
+    f: LLVMFunction,
+) -> Result<Vec<u32>, ConversionErr>
+    requires { (g : Function) × IsSource source.now f g }
+    ensures rpo { IfOk result (λ order. (g : Function) → IsSource source.now f g → IsRpo (graph_of g) order.items) }
+    ensures dominated { OnOk result ((g : Function) → IsSource source.now f g → HasDominatedUses g) }
+    ensures err { IfErr result (λ e. (g : Function) → IsSource source.now f g → IsRefusalOfFunction g e) }
+{
+    let succs = graph(alloc, source, f)?;
+    let order = rpo(alloc, &succs)?;
+    check_uses(alloc, source, f, succs)?;
+    Ok(order)
+}
+
 /// A function of the dialect for one of the source, its blocks in depth-first order, and their places. Refuses a
 /// function that uses the result of an instruction where it is not defined: `UndefinedValue`.
 pub fn import_function<L: Ledger>(
@@ -218,9 +236,7 @@ pub fn import_function<L: Ledger>(
     ensures err { IfErr result (λ e. (g : Function) → IsSource source.now f g → IsRefusalOfFunction g e) }
     ensures kept { (m : ℕ) → (d : DialectModule) → IsBuilding ctx.old m body d → (n b : ℕ) → n ≤ m → b ≤ body.0 → Keeps n b ctx.old ctx.new }
 {
-    let succs = graph(alloc, source, f)?;
-    let order = rpo(alloc, &succs)?;
-    check_uses(alloc, source, f, succs)?;
+    let order = checked_order(alloc, source, f)?;
     let places = places_of(alloc, order.as_slice())?;
     let func = declare(alloc, ctx, source, f, name, body, steps)?;
     import_body(alloc, ctx, names, source, f, func, order.as_slice(), steps)?;

@@ -18,10 +18,10 @@ use crate::building::add_op;
 use crate::conversion_err::ConversionErr;
 use crate::entries::Entries;
 use crate::order::place_of;
-use crate::parts::{is_phi, kind_of, operands_of, targets_of};
-use crate::targets::{Targets, known_edges};
+use crate::parts::{is_phi, kind_of};
+use crate::targets::{Targets, known_successors};
 use crate::types::import_result_type;
-use crate::values::{Values, known_values};
+use crate::values::{Values, known_operands};
 use dialect_core::context::Context;
 use dialect_core::numbers::BlockRef;
 use dialect_core::ops::Value;
@@ -81,18 +81,8 @@ fn import_op<L: Ledger>(
     ensures kept { (n b : ℕ) → b ≤ block.0 → Keeps n b ctx.old ctx.new }
 {
     let inst = source.inst(i);
-    let used = operands_of(alloc, inst)?;
-    let operands = known_values(alloc, source, values, used.as_slice())?;
-    let leads = targets_of(alloc, inst)?;
-    let successors = known_edges(
-        alloc,
-        source,
-        values,
-        targets,
-        entries,
-        from,
-        leads.as_slice(),
-    )?;
+    let operands = known_operands(alloc, source, values, inst)?;
+    let successors = known_successors(alloc, source, values, targets, entries, from, inst)?;
     let ty = import_result_type(ctx, source, i)?;
     let name = given(names, source.inst_name(i))?;
     let op = add_op(
@@ -137,8 +127,7 @@ fn import_inst<L: Ledger>(
     }
     import_op(
         alloc, ctx, names, source, targets, entries, values, from, block, i, steps,
-    )?;
-    Ok(())
+    )
 }
 
 /// What stands for the instructions of a block, in order.

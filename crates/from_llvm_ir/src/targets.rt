@@ -5,15 +5,18 @@ ghost use Rattle.std.specs.List.{flat_map};
 ghost use Rattle.llvm_core.specs.Data.{Function};
 ghost use Rattle.meaning.specs.Pairs.{Matched};
 ghost use Rattle.from_llvm_ir.specs.Imported.{passed};
+ghost use Rattle.from_llvm_ir.specs.Parts.{target_blocks};
 ghost use Rattle.from_llvm_ir.specs.Values.{target_at, IsForward};
 ghost use Rattle.from_llvm_ir.specs.Edges.{IsKnownEdge, IsReady};
 
 use crate::conversion_err::ConversionErr;
 use crate::entries::{Entries, edge_values};
+use crate::parts::targets_of;
 use crate::values::{Values, known_values};
 use dialect_core::numbers::BlockRef;
 use dialect_core::ops::Successor;
 use dialect_types::items::Items;
+use llvm_core::code::LLVMInst;
 use llvm_core::module::LLVMModule;
 use llvm_core::numbers::{LLVMBasicBlock, LLVMFunction};
 use std::alloc::{AllocError, Global};
@@ -78,7 +81,7 @@ fn known_edge(
 }
 
 /// The edges of the dialect for those of the source, from a block to others.
-pub fn known_edges(
+fn known_edges(
     alloc: Global,
     source: &LLVMModule,
     values: &Values,
@@ -96,4 +99,30 @@ pub fn known_edges(
         edges.push(known_edge(alloc, source, values, targets, entries, from, *target)?)?;
     }
     Ok(edges)
+}
+
+/// The edges of the dialect for those of an instruction of a block, in order.
+pub fn known_successors(
+    alloc: Global,
+    source: &LLVMModule,
+    values: &Values,
+    targets: &Targets,
+    entries: &Entries,
+    from: LLVMBasicBlock,
+    inst: &LLVMInst,
+) -> Result<Vec<Successor>, ConversionErr>
+    requires { (f : LLVMFunction) × (g : Function) × ((j : ℕ) → (t : LLVMBasicBlock) → slice_get (target_blocks inst.now) j ≡ Some t → IsReady source.now f g values.now targets.now entries.now from t) }
+    ensures ok { IfOk result (λ ss. (f : LLVMFunction) → (g : Function) → ((j : ℕ) → (t : LLVMBasicBlock) → slice_get (target_blocks inst.now) j ≡ Some t → IsReady source.now f g values.now targets.now entries.now from t) → Matched (IsKnownEdge source.now g values.now targets.now from) (target_blocks inst.now) ss.items) }
+    ensures err { IfErr result (λ e. (f : LLVMFunction) → (g : Function) → ((j : ℕ) → (t : LLVMBasicBlock) → slice_get (target_blocks inst.now) j ≡ Some t → IsReady source.now f g values.now targets.now entries.now from t) → IsForward source.now values.now (flat_map (passed g from.0) (map (λ t. t.0) (target_blocks inst.now))) e) }
+{
+    let leads = targets_of(alloc, inst)?;
+    known_edges(
+        alloc,
+        source,
+        values,
+        targets,
+        entries,
+        from,
+        leads.as_slice(),
+    )
 }

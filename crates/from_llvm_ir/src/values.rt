@@ -1,12 +1,14 @@
 //! Which value of the dialect stands for each of a source function.
 
-ghost use Rattle.std.specs.Prelude.{◌≡◌, IfErr, IfOk, OnOk, IsSome, is_some, All, None, Some, ◌∷◌, [], ◌<◌, length, map};
+ghost use Rattle.std.specs.Prelude.{◌≡◌, IfErr, IfOk, OnOk, IsSome, is_some, All, None, Some, ◌∷◌, [], ◌<◌, false, length, map};
+ghost use Rattle.llvm_core.specs.Parts.{is_phi, operands};
 ghost use Rattle.llvm_core.specs.Data.{trees_of, operand_of};
 ghost use Rattle.from_llvm_ir.specs.Values.{value_at, AreNoted, IsNoted, IsForward, IsRefusalOf, IsSettled};
 
 use crate::conversion_err::ConversionErr;
+use crate::parts::operands_of;
 use dialect_core::ops::Value;
-use llvm_core::code::LLVMValue;
+use llvm_core::code::{LLVMInst, LLVMValue};
 use llvm_core::module::LLVMModule;
 use llvm_core::numbers::LLVMInstRef;
 use llvm_core::text::Text;
@@ -99,4 +101,20 @@ pub fn known_values(
         known.push(known_value(alloc, source, values, *value)?)?;
     }
     Ok(known)
+}
+
+/// The values that stand for the operands of an instruction that is no phi, in order.
+pub fn known_operands(
+    alloc: Global,
+    source: &LLVMModule,
+    values: &Values,
+    inst: &LLVMInst,
+) -> Result<Vec<Value>, ConversionErr>
+    requires other { is_phi inst.now ≡ false }
+    requires settled { All (IsSettled source.now values.now) (operands inst.now) }
+    ensures ok { IfOk result (λ ws. AreNoted values.now (operands inst.now) ws.items) }
+    ensures err { IfErr result (λ e. IsForward source.now values.now (map (operand_of (trees_of source.now)) (operands inst.now)) e) }
+{
+    let used = operands_of(alloc, inst)?;
+    known_values(alloc, source, values, used.as_slice())
 }

@@ -50,9 +50,9 @@ fn convert_block(
     ensures accepted { (t : Task) (c : DialectBlock) → IsBlockBegun ctx.now t place c block first f blocks.now values.old back.old → OnOk result (IsBodyAccepted t.numbers.order t.source place c) }
     ensures cause { (t : Task) (c : DialectBlock) → IsBlockBegun ctx.now t place c block first f blocks.now values.old back.old → IfErr result (IsFuncCause ctx.now t.source) }
 {
-    let ops = ctx.block_ops(block)?;
     let count = ctx.block_args(block).len();
     check_few(count)?;
+    let ops = ctx.block_ops(block)?;
     check_few(ops.len())?;
     let target = target_of(blocks, block);
     values.count_from(first);
@@ -69,8 +69,7 @@ fn convert_block(
         target.block,
         values,
         back,
-    )?;
-    Ok(())
+    )
 }
 
 /// What the blocks of a function become, in the order of the export, and what stands for its values.

@@ -142,6 +142,21 @@ fn convert_functions(
     Ok(())
 }
 
+/// The functions that a module holds, in order, as the last of the LLVM module.
+fn convert_held_functions(
+    alloc: Global,
+    ctx: &Context,
+    module: ModuleOp,
+    cctx: &mut ConversionContext,
+) -> Result<(), ToLLVMErr>
+    requires { IsReadable ctx.now «module».0.0 }
+    ensures ok { OnOk result (AddsFunctions (data_of ctx.now «module».0.0).functions (lists.data_of cctx.old.«module») (lists.data_of cctx.new.«module»)) }
+    ensures cause { IfErr result (IsCause ctx.now (data_of ctx.now «module».0.0)) }
+{
+    let ops = ctx.held_ops(module.0)?;
+    convert_functions(alloc, ctx, ops.as_slice(), cctx)
+}
+
 /// The numbers of a module name what is there, and equal types have equal numbers: its type keeps that. This only reads,
 /// and is for the proof of its caller.
 fn know_sound(m: &LLVMModule)
@@ -170,8 +185,7 @@ pub fn convert_module(alloc: Global, ctx: &Context, module: ModuleOp) -> Result<
     ensures cause { IfErr result (λ e. IsCause ctx.now (data_of ctx.now «module».0.0) e) }
 {
     let mut cctx = ConversionContext::new(alloc, name_of(ctx, module.0))?;
-    let ops = ctx.held_ops(module.0)?;
-    convert_functions(alloc, ctx, ops.as_slice(), &mut cctx)?;
+    convert_held_functions(alloc, ctx, module, &mut cctx)?;
     know_sound(&cctx.module);
     Ok(Exported {
         module: cctx.module,

@@ -1,5 +1,7 @@
 -- What `constants::add_constant` owes besides what the check finds.
-use Rattle.std.proofs.Common.{◌∙◌, ap, Some, None, [], refl}
+use Rattle.std.proofs.Common.{◌∙◌, ◌+◌, ap, Some, None, [], length, refl}
+use Rattle.std.proofs.lemmas.List.Elements.{All-nil}
+use Rattle.dialect_core.specs.ContextData.{ContextData, IsValueWithin, IsSuccessorWithin}
 use Rattle.dialect_types.specs.Trees.{IntegerAttr, type_at, type_trees}
 use Rattle.dialect_core.specs.Data.{ConstantOp}
 use Rattle.from_llvm_ir.specs.Building.{new_op}
@@ -43,3 +45,18 @@ returns-in_err-op-clause-kept g c = λ n b behind. keeps_then n b c.args.ctx.now
 
 pub returns-clause-kept : goal.returns-clause-kept
 returns-clause-kept g c = λ n b behind. keeps_then n b c.args.ctx.now c.import_plain.new.ctx c.add_op.new.ctx (keeps_types n b c.args.ctx.now c.import_plain.new.ctx c.import_plain.ensures.grown) (c.add_op.ensures.kept n b behind)
+
+pub add_op-requires-clause-result_ty : goal.add_op-requires-clause-result_ty
+add_op-requires-clause-result_ty g c = c.in_ok-int.ensures.within
+
+pub add_op-requires-clause-operands : goal.add_op-requires-clause-operands
+add_op-requires-clause-operands g c = All-nil (IsValueWithin (length c.import_plain.new.ctx.ops) (length c.import_plain.new.ctx.blocks))
+
+pub add_op-requires-clause-successors : goal.add_op-requires-clause-successors
+add_op-requires-clause-successors g c = All-nil (IsSuccessorWithin (length c.import_plain.new.ctx.ops) (length c.import_plain.new.ctx.blocks))
+
+pub returns-clause-number : goal.returns-clause-number
+returns-clause-number g c = c.in_ok-op.ensures.number ∙ ap (λ (x : ContextData). length x.ops) c.import_plain.ensures.grown.rest
+
+pub returns-clause-count : goal.returns-clause-count
+returns-clause-count g c = c.in_ok-op.ensures.count ∙ ap (λ (x : ContextData). length x.ops + 1) c.import_plain.ensures.grown.rest

@@ -1,14 +1,14 @@
 -- What `constants::hoist_block` owes besides what the check finds.
-use Rattle.std.proofs.Common.{◌++◌, not, subst, List, filter, take, arith}
+use Rattle.std.proofs.Common.{◌++◌, not, subst, sym, List, filter, take, arith}
 use Rattle.std.specs.List.{flat_map}
-use Rattle.std.proofs.lemmas.List.{take_all}
+use Rattle.std.proofs.lemmas.List.{append-nil, take_all}
 use Rattle.llvm_core.specs.Data.{Placed, data_of}
 use Rattle.llvm_core.specs.Form.{is_phi}
 use Rattle.from_llvm_ir.specs.Imported.{constants_in}
 use Rattle.from_llvm_ir.specs.Body.{IsHoisting, uses_of_inst}
 use Rattle.from_llvm_ir.proofs.SourceLaws.{listed_at, insts_listed}
 use Rattle.from_llvm_ir.proofs.HoistLaws.{uses_then, block_uses}
-use Rattle.from_llvm_ir.proofs.KeepLaws.{keeps_then}
+use Rattle.from_llvm_ir.proofs.KeepLaws.{keeps_none, keeps_then}
 use Rattle.from_llvm_ir.proofs.constants.hoist_block.Goals as goal
 
 pub hoist_inst-requires-clause-site : goal.hoist_inst-requires-clause-site
@@ -42,3 +42,12 @@ returns-clause-hoisting g c = λ f h place b source noted of_block fr uses hoist
 
 pub returns-in_err-hoist_inst-clause-kept : goal.returns-in_err-hoist_inst-clause-kept
 returns-in_err-hoist_inst-clause-kept g c = λ n b behind. keeps_then n b c.args.ctx.now c.loop-i.ctx c.hoist_inst.new.ctx (c.loop-i.invariant.kept n b behind) (c.hoist_inst.ensures.kept n b behind)
+
+pub loop-i-init : goal.loop-i-init
+loop-i-init g c = record {
+  hoisting = λ f h place b source noted of_block fr uses hoisting number. subst (IsHoisting fr c.args.source.now c.args.ctx.now c.args.values.now) (sym (append-nil uses)) hoisting;
+  kept = λ n b behind. keeps_none n b c.args.ctx.now;
+}
+
+pub returns-clause-kept : goal.returns-clause-kept
+returns-clause-kept g c = c.loop-i.invariant.kept

@@ -1,11 +1,15 @@
 -- What `constants::hoist_values` owes besides what the check finds.
-use Rattle.std.proofs.Common.{◌∙◌, ◌+◌, ap, map, take}
-use Rattle.std.proofs.lemmas.List.{map_push}
+use Rattle.std.proofs.Common.{◌∙◌, ◌+◌, ◌++◌, List, ap, map, sym, subst, take}
+use Rattle.std.specs.List.{filter_map}
+use Rattle.std.proofs.lemmas.List.{append-nil, map_push, take_all}
+use Rattle.llvm_core.specs.declared.code.LLVMValue.{LLVMValue}
 use Rattle.std.proofs.lemmas.Option.{slice_get-get_or}
 use Rattle.llvm_core.specs.Data.{trees_of, operand_of}
+use Rattle.from_llvm_ir.specs.Imported.{constant_in}
+use Rattle.from_llvm_ir.specs.Body.{IsHoisting}
 use Rattle.from_llvm_ir.proofs.ListLaws.{take_next}
 use Rattle.from_llvm_ir.proofs.HoistLaws.{uses_more}
-use Rattle.from_llvm_ir.proofs.KeepLaws.{keeps_then}
+use Rattle.from_llvm_ir.proofs.KeepLaws.{keeps_none, keeps_then}
 use Rattle.from_llvm_ir.proofs.constants.hoist_values.Goals as goal
 
 pub hoist-requires-clause-hoisting : goal.hoist-requires-clause-hoisting
@@ -25,3 +29,20 @@ loop-operand-preserved g c = record {
 
 pub returns-in_err-hoist-clause-kept : goal.returns-in_err-hoist-clause-kept
 returns-in_err-hoist-clause-kept g c = λ n b behind. keeps_then n b c.args.ctx.now c.loop-operand.ctx c.hoist.new.ctx (c.loop-operand.invariant.kept n b behind) (c.hoist.ensures.kept n b behind)
+
+pub hoist-requires-clause-used : goal.hoist-requires-clause-used
+hoist-requires-clause-used g c = let u = c.requires.used in (u.0, u.1 c.loop-operand.operand-index _ c.loop-operand-test.true)
+
+pub loop-operand-init : goal.loop-operand-init
+loop-operand-init g c = record {
+  hoisting = λ fr uses h number. subst (IsHoisting fr c.args.source.now c.args.ctx.now c.args.values.now) (sym (append-nil uses)) h;
+  kept = λ n b behind. keeps_none n b c.args.ctx.now;
+}
+
+pub returns-clause-hoisting : goal.returns-clause-hoisting
+returns-clause-hoisting g c = λ fr uses h number.
+    subst (λ (vs : List LLVMValue). IsHoisting fr c.args.source.now c.loop-operand.ctx c.loop-operand.values (uses ++ filter_map constant_in (map (operand_of (trees_of c.args.source.now)) vs)))
+    (take_all c.loop-operand.operand-index c.args.operands.now c.loop-operand-test.false) (c.loop-operand.invariant.hoisting fr uses h number)
+
+pub returns-clause-kept : goal.returns-clause-kept
+returns-clause-kept g c = c.loop-operand.invariant.kept

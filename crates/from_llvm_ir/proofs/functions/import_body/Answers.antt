@@ -1,6 +1,6 @@
 -- What `functions::import_body` owes besides what the check finds.
 use Rattle.std.proofs.Common.{refl, arith}
-use Rattle.from_llvm_ir.proofs.ForwardLaws.{passed_on}
+use Rattle.std.proofs.lemmas.Result.{on_ok_weaker, IfErr-weaker}
 use Rattle.from_llvm_ir.proofs.SourceLaws.{function_within}
 use Rattle.from_llvm_ir.proofs.StartLaws.{blocks_there, first_target, started, not_filled}
 use Rattle.from_llvm_ir.proofs.KeepLaws.{keeps_then}
@@ -34,25 +34,29 @@ import_blocks-requires g c =
     c.blocks-2.ensures.blocks leads c.of-block.ensures (c.in_ok-targets.ensures.heads r.0 r.1 r.2 r.3) (c.param_count.ensures r.0.source r.1.source) c.in_ok-values.ensures in
     (r.0, r.1, r.2, leads, noted, not_filled r.0 m c.hoist_constants.new.ctx c.hoist_constants.new.values (c.in_ok-hoist_constants.ensures.hoisting r.0 r.1 r.2 noted s.hoisting s.first))
 
-pub returns-in_err-import_blocks-clause-err : goal.returns-in_err-import_blocks-clause-err
-returns-in_err-import_blocks-clause-err g c =
-    passed_on c.from_residual-in_err-import_blocks.result c.in_err-import_blocks.field-0.0 _ c.from_residual-in_err-import_blocks.ensures.1
-    (λ fr framed order h.
+pub returns-clause-err : goal.returns-clause-err
+returns-clause-err g c =
+    IfErr-weaker c.import_blocks.result _ _
+    (λ e late fr framed order h.
     let m = c.args.source.now in
     let noted = c.in_ok-entries.ensures fr.source framed.source in
     let leads = c.in_ok-targets.ensures.targets fr framed order h in
     let s = started m c.args.f fr c.args.func c.add_blocks.new.ctx c.in_ok-values.values c.args.order.now c.blocks-2.result.now (record { 0 = 0 }) c.in_ok-targets.targets c.of-block.result c.param_count.result framed order
     c.blocks-2.ensures.blocks leads c.of-block.ensures (c.in_ok-targets.ensures.heads fr framed order h) (c.param_count.ensures fr.source framed.source) c.in_ok-values.ensures in
-    c.in_err-import_blocks.ensures.err fr framed order leads noted (not_filled fr m c.hoist_constants.new.ctx c.hoist_constants.new.values (c.in_ok-hoist_constants.ensures.hoisting fr framed order noted s.hoisting s.first)))
+    late fr framed order leads noted (not_filled fr m c.hoist_constants.new.ctx c.hoist_constants.new.values (c.in_ok-hoist_constants.ensures.hoisting fr framed order noted s.hoisting s.first)))
+    c.import_blocks.ensures.err
 
 pub returns-clause-ok : goal.returns-clause-ok
-returns-clause-ok g c = λ fr framed order h.
+returns-clause-ok g c =
+    on_ok_weaker c.import_blocks.result
+    (λ filled fr framed order h.
     let m = c.args.source.now in
     let noted = c.in_ok-entries.ensures fr.source framed.source in
     let leads = c.in_ok-targets.ensures.targets fr framed order h in
     let s = started m c.args.f fr c.args.func c.add_blocks.new.ctx c.in_ok-values.values c.args.order.now c.blocks-2.result.now (record { 0 = 0 }) c.in_ok-targets.targets c.of-block.result c.param_count.result framed order
     c.blocks-2.ensures.blocks leads c.of-block.ensures (c.in_ok-targets.ensures.heads fr framed order h) (c.param_count.ensures fr.source framed.source) c.in_ok-values.ensures in
-    (c.import_blocks.new.values, c.in_ok-import_blocks.ensures.ok fr framed order leads noted (not_filled fr m c.hoist_constants.new.ctx c.hoist_constants.new.values (c.in_ok-hoist_constants.ensures.hoisting fr framed order noted s.hoisting s.first)))
+    (c.import_blocks.new.values, filled fr framed order leads noted (not_filled fr m c.hoist_constants.new.ctx c.hoist_constants.new.values (c.in_ok-hoist_constants.ensures.hoisting fr framed order noted s.hoisting s.first))))
+    c.import_blocks.ensures.ok
 
 pub returns-in_err-values-clause-kept : goal.returns-in_err-values-clause-kept
 returns-in_err-values-clause-kept g c = λ n b later behind. c.add_blocks.ensures.kept n b later
@@ -66,16 +70,6 @@ returns-in_err-hoist_constants-clause-kept g c = λ n b later behind.
     c.blocks-2.ensures.blocks leads c.of-block.ensures (c.in_ok-targets.ensures.heads r.0 r.1 r.2 r.3) (c.param_count.ensures r.0.source r.1.source) c.in_ok-values.ensures in
     let base = r.3.blocks in
     keeps_then n b c.args.ctx.now c.add_blocks.new.ctx c.hoist_constants.new.ctx (c.add_blocks.ensures.kept n b later) (c.hoist_constants.ensures.kept n b (omega (arith, behind, base, s.first)))
-
-pub returns-in_err-import_blocks-clause-kept : goal.returns-in_err-import_blocks-clause-kept
-returns-in_err-import_blocks-clause-kept g c = λ n b later behind.
-    let r = c.requires in
-    let m = c.args.source.now in
-    let leads = c.in_ok-targets.ensures.targets r.0 r.1 r.2 r.3 in
-    let s = started m c.args.f r.0 c.args.func c.add_blocks.new.ctx c.in_ok-values.values c.args.order.now c.blocks-2.result.now (record { 0 = 0 }) c.in_ok-targets.targets c.of-block.result c.param_count.result r.1 r.2
-    c.blocks-2.ensures.blocks leads c.of-block.ensures (c.in_ok-targets.ensures.heads r.0 r.1 r.2 r.3) (c.param_count.ensures r.0.source r.1.source) c.in_ok-values.ensures in
-    let base = r.3.blocks in
-    keeps_then n b c.args.ctx.now c.hoist_constants.new.ctx c.import_blocks.new.ctx (keeps_then n b c.args.ctx.now c.add_blocks.new.ctx c.hoist_constants.new.ctx (c.add_blocks.ensures.kept n b later) (c.hoist_constants.ensures.kept n b (omega (arith, behind, base, s.first)))) (c.import_blocks.ensures.kept r.0 r.1 r.2 leads n b (omega (arith, behind, base)))
 
 pub returns-clause-kept : goal.returns-clause-kept
 returns-clause-kept g c = λ n b later behind.

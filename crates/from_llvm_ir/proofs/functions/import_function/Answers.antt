@@ -1,30 +1,22 @@
 -- What `functions::import_function` owes besides what the check finds.
 use Rattle.std.proofs.Common.{◌≡◌, ◌∙◌, refl, length, sym, ap, subst, List, ℕ, arith}
-use Rattle.block_order.specs.Graph.{IsGraph}
 use Rattle.dialect_core.specs.declared.ops.BlockData.{BlockData}
 use Rattle.from_llvm_ir.proofs.ForwardLaws.{passed_on}
-use Rattle.from_llvm_ir.specs.Order.{IsInverse}
+use Rattle.from_llvm_ir.specs.Order.{IsInverse, IsRpo}
+use Rattle.from_llvm_ir.specs.Walks.{graph_of}
 use Rattle.from_llvm_ir.specs.Match.{IsPlaces}
 use Rattle.from_llvm_ir.proofs.FrameLaws.{frame_length}
-use Rattle.from_llvm_ir.proofs.GraphLaws.{is_graph}
-use Rattle.from_llvm_ir.proofs.OrderedLaws.{is_rpo, rpo_places, places_counted}
+use Rattle.from_llvm_ir.proofs.OrderedLaws.{rpo_places, places_counted}
 use Rattle.from_llvm_ir.proofs.StartLaws.{framed, is_framed, no_heads, function_whole}
 use Rattle.from_llvm_ir.proofs.UndefinedLaws.{refused}
 use Rattle.from_llvm_ir.proofs.KeepLaws.{keeps_then}
 use Rattle.from_llvm_ir.proofs.functions.import_function.Goals as goal
 
-pub rpo-requires : goal.rpo-requires
-rpo-requires g c = let s = c.requires.source in subst IsGraph (sym (c.in_ok-succs.ensures s.0 s.1)) (is_graph s.0 s.1.form)
-
-pub check_uses-requires : goal.check_uses-requires
-check_uses-requires g c = let s = c.requires.source in (s.0, s.1, c.in_ok-succs.ensures s.0 s.1)
-
 pub places_of-requires : goal.places_of-requires
 places_of-requires g c =
     let s = c.requires.source in
-    let o = c.in_ok-order.ensures in
     let order = c.as_slice.result.now in
-    let r = is_rpo s.0 c.in_ok-succs.succs c.in_ok-order.order.items order (c.in_ok-succs.ensures s.0 s.1) c.as_slice.ensures.value o.depth_first o.once o.first o.reached o.passed in
+    let r = subst (IsRpo (graph_of s.0)) (sym c.as_slice.ensures.value) (c.in_ok-order.ensures.rpo s.0 s.1) in
     places_counted (length s.0.blocks) order (rpo_places s.0 order s.1.form r)
 
 pub import_body-requires : goal.import_body-requires
@@ -32,20 +24,17 @@ import_body-requires g c =
     let s = c.requires.source in
     let d = c.requires.«module» in
     let m = c.args.source.now in
-    let o = c.in_ok-order.ensures in
     let order = c.as_slice-2.result.now in
     let func = c.in_ok-func.func in
-    let r = is_rpo s.0 c.in_ok-succs.succs c.in_ok-order.order.items order (c.in_ok-succs.ensures s.0 s.1) c.as_slice-2.ensures.value o.depth_first o.once o.first o.reached o.passed in (
+    let r = subst (IsRpo (graph_of s.0)) (sym c.as_slice-2.ensures.value) (c.in_ok-order.ensures.rpo s.0 s.1) in (
       framed d.0 c.args.body d.1 func.0.0 s.0 order (length c.declare.new.ctx.blocks),
       is_framed m c.args.f s.0 d.0 c.args.body d.1 func.0.0 order (length c.declare.new.ctx.blocks) s.1 (rpo_places s.0 order s.1.form r),
       refl,
       no_heads s.0 c.declare.new.ctx d.0 c.args.body d.1 func order (c.in_ok-func.ensures.declared s.0 s.1 d.0 d.1 d.2) c.in_ok-func.ensures.func,
     )
 
-pub returns-in_err-check_uses-clause-err : goal.returns-in_err-check_uses-clause-err
-returns-in_err-check_uses-clause-err g c =
-    passed_on c.from_residual-in_err-check_uses.result c.in_err-check_uses.field-0.0 _ c.from_residual-in_err-check_uses.ensures.1
-    (λ h source. c.in_err-check_uses.ensures.err h source (c.in_ok-succs.ensures h source))
+pub returns-in_err-order-clause-err : goal.returns-in_err-order-clause-err
+returns-in_err-order-clause-err g c = passed_on c.from_residual.result c.in_err-order.field-0.0 _ c.from_residual.ensures.1 c.in_err-order.ensures.err
 
 pub returns-in_err-import_body-clause-err : goal.returns-in_err-import_body-clause-err
 returns-in_err-import_body-clause-err g c =
@@ -53,13 +42,11 @@ returns-in_err-import_body-clause-err g c =
     (λ h source.
     let d = c.requires.«module» in
     let m = c.args.source.now in
-    let o = c.in_ok-order.ensures in
     let order = c.as_slice-2.result.now in
     let func = c.in_ok-func.func in
-    let is = c.in_ok-succs.ensures h source in
-    let r = is_rpo h c.in_ok-succs.succs c.in_ok-order.order.items order is c.as_slice-2.ensures.value o.depth_first o.once o.first o.reached o.passed in
+    let r = subst (IsRpo (graph_of h)) (sym c.as_slice-2.ensures.value) (c.in_ok-order.ensures.rpo h source) in
     let inverse = subst (λ (os : List ℕ). IsInverse os c.in_ok-places.places) (c.as_slice.ensures.value ∙ sym c.as_slice-2.ensures.value) c.in_ok-places.ensures.inverse in
-    refused h source.form order c.in_ok-places.places (c.in_ok-check_uses.ensures.ok h source is) r.once r.reached r.passed inverse c.in_err-import_body.field-0.0
+    refused h source.form order c.in_ok-places.places (c.in_ok-order.ensures.dominated h source) r.once r.reached r.passed inverse c.in_err-import_body.field-0.0
     (c.in_err-import_body.ensures.err (framed d.0 c.args.body d.1 func.0.0 h order (length c.declare.new.ctx.blocks))
     (is_framed m c.args.f h d.0 c.args.body d.1 func.0.0 order (length c.declare.new.ctx.blocks) source (rpo_places h order source.form r)) refl
     (no_heads h c.declare.new.ctx d.0 c.args.body d.1 func order (c.in_ok-func.ensures.declared h source d.0 d.1 d.2) c.in_ok-func.ensures.func)
@@ -68,11 +55,9 @@ returns-in_err-import_body-clause-err g c =
 pub returns-clause-ok : goal.returns-clause-ok
 returns-clause-ok g c = λ h source n d building.
     let m = c.args.source.now in
-    let o = c.in_ok-order.ensures in
     let order = c.as_slice-2.result.now in
     let func = c.in_ok-func.func in
-    let graph = c.in_ok-succs.ensures h source in
-    let r = is_rpo h c.in_ok-succs.succs c.in_ok-order.order.items order graph c.as_slice-2.ensures.value o.depth_first o.once o.first o.reached o.passed in
+    let r = subst (IsRpo (graph_of h)) (sym c.as_slice-2.ensures.value) (c.in_ok-order.ensures.rpo h source) in
     let places = rpo_places h order source.form r in
     let fr = framed n c.args.body d func.0.0 h order (length c.declare.new.ctx.blocks) in
     let is = is_framed m c.args.f h n c.args.body d func.0.0 order (length c.declare.new.ctx.blocks) source places in
@@ -82,7 +67,7 @@ returns-clause-ok g c = λ h source n d building.
     (record { function = c.args.f; places = c.in_ok-places.places }) refl
     (subst (λ (os : List ℕ). IsInverse os c.in_ok-places.places) same c.in_ok-places.ensures.inverse)
     (subst (λ (k : ℕ). IsPlaces k c.in_ok-places.places) (ap (λ (os : List ℕ). length os) same ∙ places.count) c.in_ok-places.ensures.places)
-    r.depth_first (c.in_ok-check_uses.ensures.ok h source graph)
+    r.depth_first (c.in_ok-order.ensures.dominated h source)
 
 pub returns-in_err-func-clause-kept : goal.returns-in_err-func-clause-kept
 returns-in_err-func-clause-kept g c = λ m d h n b before behind. c.declare.ensures.kept m d h n b before

@@ -1,8 +1,6 @@
 -- What `operations::import_op` owes besides what the check finds.
-use Rattle.std.proofs.Common.{◌∙◌, ◌+◌, sym, ap, subst, List, All, length, slice_get}
+use Rattle.std.proofs.Common.{◌∙◌, ◌+◌, refl, sym, ap, subst, List, All, length}
 use Rattle.std.specs.Option.{option_map}
-use Rattle.llvm_core.specs.declared.numbers.LLVMBasicBlock.{LLVMBasicBlock}
-use Rattle.llvm_core.specs.declared.code.LLVMValue.{LLVMValue}
 use Rattle.llvm_core.specs.Names.{IsPlainOrNone}
 use Rattle.llvm_core.specs.Parts.{operands}
 use Rattle.llvm_core.specs.Data.{Instruction, trees_of}
@@ -10,13 +8,14 @@ use Rattle.meaning.specs.Pairs.{Matched}
 use Rattle.dialect_types.specs.Trees.{type_at, type_trees}
 use Rattle.dialect_core.specs.declared.ops.Successor.{Successor}
 use Rattle.dialect_core.specs.ContextData.{ContextData, IsValueWithin, IsSuccessorWithin}
+use Rattle.from_llvm_ir.specs.declared.conversion_err.ConversionErr.TheVariants as E
 use Rattle.from_llvm_ir.specs.Imported.{given_name}
 use Rattle.from_llvm_ir.specs.Parts.{target_blocks}
-use Rattle.from_llvm_ir.specs.Values.{AreNoted, IsSettled}
+use Rattle.from_llvm_ir.specs.Values.{AreNoted}
 use Rattle.from_llvm_ir.specs.Edges.{IsKnownEdge}
 use Rattle.from_llvm_ir.specs.Building.{new_op}
 use Rattle.from_llvm_ir.specs.Converted.{IsKind}
-use Rattle.from_llvm_ir.proofs.SourceLaws.{inst_within, inst_name, inst_number, instruction_is, type_of_inst}
+use Rattle.from_llvm_ir.proofs.SourceLaws.{inst_within, inst_name, inst_number, instruction_is, phi_read, type_of_inst}
 use Rattle.from_llvm_ir.proofs.PassLaws.{inst_form}
 use Rattle.from_llvm_ir.proofs.FormLaws.{name_form}
 use Rattle.from_llvm_ir.proofs.UnderLaws.{typed_open}
@@ -24,42 +23,31 @@ use Rattle.from_llvm_ir.proofs.ForwardLaws.{passed_on}
 use Rattle.from_llvm_ir.proofs.ReadyLaws.{body_open, edges_stand, edges_within, in_operands, in_targets, operands_settled, operands_stand, targets_ready, values_within}
 use Rattle.from_llvm_ir.proofs.RefusalLaws.{late}
 use Rattle.from_llvm_ir.proofs.OperationLaws.{kind_found, operation_more}
-use Rattle.from_llvm_ir.proofs.KeepLaws.{keeps_then, keeps_types}
+use Rattle.from_llvm_ir.proofs.KeepLaws.{keeps_none, keeps_then, keeps_types}
 use Rattle.from_llvm_ir.proofs.operations.import_op.Goals as goal
 
-pub known_values-requires : goal.known_values-requires
-known_values-requires g c =
+pub known_operands-requires-clause-settled : goal.known_operands-requires-clause-settled
+known_operands-requires-clause-settled g c =
     let r = c.requires in
-    let m = c.args.source.now in
-    let items = c.as_slice.ensures.value ∙ c.in_ok-used.ensures in
-    subst (All (IsSettled m c.args.values.now)) (sym items)
-    (operands_settled r.0 m r.1 c.args.targets.now c.args.entries.now c.args.ctx.now c.args.values.now c.args.from c.args.block c.args.i r.2 r.3 r.4 r.5 r.6 c.inst-inst.result.now c.inst-inst.ensures.inst r.7 c.inst-inst.ensures.values)
+    operands_settled r.0 c.args.source.now r.1 c.args.targets.now c.args.entries.now c.args.ctx.now c.args.values.now c.args.from c.args.block c.args.i r.2 r.3 r.4 r.5 r.6 c.inst-inst.result.now c.inst-inst.ensures.inst r.7 c.inst-inst.ensures.values
 
 pub returns-in_err-operands-clause-err : goal.returns-in_err-operands-clause-err
 returns-in_err-operands-clause-err g c =
-    passed_on c.from_residual-in_err-operands.result c.in_err-operands.field-0.0 _ c.from_residual-in_err-operands.ensures.1
+    passed_on c.from_residual.result c.in_err-operands.field-0.0 _ c.from_residual.ensures.1
     (λ fr f j x b p h other places inverse.
     late fr c.args.source.now f c.args.targets.now c.args.entries.now c.args.ctx.now c.args.values.now c.args.from c.args.block c.args.i j x b p h other places inverse _ c.in_err-operands.field-0.0
-    (λ o is_in. in_operands fr c.args.source.now f c.args.targets.now c.args.entries.now c.args.ctx.now c.args.values.now c.args.from c.args.block c.args.i j x b p h c.inst-inst.result.now c.inst-inst.ensures.inst other c.as_slice.result.now o (c.as_slice.ensures.value ∙ c.in_ok-used.ensures) is_in) c.in_err-operands.ensures.err)
+    (λ o is_in. in_operands fr c.args.source.now f c.args.targets.now c.args.entries.now c.args.ctx.now c.args.values.now c.args.from c.args.block c.args.i j x b p h c.inst-inst.result.now c.inst-inst.ensures.inst other (operands c.inst-inst.result.now) o refl is_in) c.in_err-operands.ensures.err)
 
-pub known_edges-requires : goal.known_edges-requires
-known_edges-requires g c =
-    let r = c.requires in
-    let m = c.args.source.now in
-    let items = c.as_slice-2.ensures.value ∙ c.in_ok-leads.ensures in (
-      r.1,
-      r.0.source,
-      λ y to at.
-          targets_ready r.0 m r.1 c.args.targets.now c.args.entries.now c.args.ctx.now c.args.values.now c.args.from c.args.block c.args.i r.2 r.3 r.4 r.5 r.6 c.inst-inst.result.now c.inst-inst.ensures.inst r.7 y to (ap (λ (ts : List LLVMBasicBlock). slice_get ts y) (sym items) ∙ at),
-    )
+pub known_successors-requires : goal.known_successors-requires
+known_successors-requires g c = let r = c.requires in (r.1, r.0.source, targets_ready r.0 c.args.source.now r.1 c.args.targets.now c.args.entries.now c.args.ctx.now c.args.values.now c.args.from c.args.block c.args.i r.2 r.3 r.4 r.5 r.6 c.inst-inst.result.now c.inst-inst.ensures.inst r.7)
 
 pub returns-in_err-successors-clause-err : goal.returns-in_err-successors-clause-err
 returns-in_err-successors-clause-err g c =
     passed_on c.from_residual-in_err-successors.result c.in_err-successors.field-0.0 _ c.from_residual-in_err-successors.ensures.1
     (λ fr f j x b p h other places inverse.
     late fr c.args.source.now f c.args.targets.now c.args.entries.now c.args.ctx.now c.args.values.now c.args.from c.args.block c.args.i j x b p h other places inverse _ c.in_err-successors.field-0.0
-    (λ o is_in. in_targets fr c.args.source.now f c.args.targets.now c.args.entries.now c.args.ctx.now c.args.values.now c.args.from c.args.block c.args.i j x b p h c.inst-inst.result.now c.inst-inst.ensures.inst c.as_slice-2.result.now o (c.as_slice-2.ensures.value ∙ c.in_ok-leads.ensures) is_in)
-    (c.in_err-successors.ensures.err f fr.source (λ y to at. targets_ready fr c.args.source.now f c.args.targets.now c.args.entries.now c.args.ctx.now c.args.values.now c.args.from c.args.block c.args.i j x b p h c.inst-inst.result.now c.inst-inst.ensures.inst other y to (ap (λ (ts : List LLVMBasicBlock). slice_get ts y) (sym (c.as_slice-2.ensures.value ∙ c.in_ok-leads.ensures)) ∙ at))))
+    (λ o is_in. in_targets fr c.args.source.now f c.args.targets.now c.args.entries.now c.args.ctx.now c.args.values.now c.args.from c.args.block c.args.i j x b p h c.inst-inst.result.now c.inst-inst.ensures.inst (target_blocks c.inst-inst.result.now) o refl is_in)
+    (c.in_err-successors.ensures.err f fr.source (targets_ready fr c.args.source.now f c.args.targets.now c.args.entries.now c.args.ctx.now c.args.values.now c.args.from c.args.block c.args.i j x b p h c.inst-inst.result.now c.inst-inst.ensures.inst other)))
 
 pub import_result_type-requires : goal.import_result_type-requires
 import_result_type-requires g c = let r = c.requires in (r.5.type, type_of_inst c.args.source.now r.1 r.0.source c.args.from r.6.place r.4 c.args.i r.3 r.5 r.6.framed.source r.6.of_block r.6.inst)
@@ -77,19 +65,17 @@ pub add_op-requires-clause-operands : goal.add_op-requires-clause-operands
 add_op-requires-clause-operands g c =
     let r = c.requires in
     let m = c.args.source.now in
-    let noted = subst (λ (vs : List LLVMValue). AreNoted c.args.values.now vs c.in_ok-operands.operands.items) (c.as_slice.ensures.value ∙ c.in_ok-used.ensures) c.in_ok-operands.ensures.ok in
-    subst (λ (x : ContextData). All (IsValueWithin (length x.ops) (length x.blocks)) c.as_slice-3.result.now) (sym c.import_result_type.ensures.grown.rest)
-    (subst (All (IsValueWithin (length c.args.ctx.now.ops) (length c.args.ctx.now.blocks))) (sym c.as_slice-3.ensures.value) (values_within r.0 m c.args.ctx.now c.args.values.now r.2 r.3 r.4 r.6.body _ c.in_ok-operands.operands.items (operands_stand r.0 m r.1 c.args.targets.now c.args.entries.now c.args.ctx.now c.args.values.now c.args.from c.args.block c.args.i r.2 r.3 r.4 r.5 r.6 c.inst-inst.result.now c.inst-inst.ensures.inst r.7 c.in_ok-operands.operands.items noted)))
+    let noted = c.in_ok-operands.ensures.ok in
+    subst (λ (x : ContextData). All (IsValueWithin (length x.ops) (length x.blocks)) c.as_slice.result.now) (sym c.import_result_type.ensures.grown.rest)
+    (subst (All (IsValueWithin (length c.args.ctx.now.ops) (length c.args.ctx.now.blocks))) (sym c.as_slice.ensures.value) (values_within r.0 m c.args.ctx.now c.args.values.now r.2 r.3 r.4 r.6.body _ c.in_ok-operands.operands.items (operands_stand r.0 m r.1 c.args.targets.now c.args.entries.now c.args.ctx.now c.args.values.now c.args.from c.args.block c.args.i r.2 r.3 r.4 r.5 r.6 c.inst-inst.result.now c.inst-inst.ensures.inst r.7 c.in_ok-operands.operands.items noted)))
 
 pub add_op-requires-clause-successors : goal.add_op-requires-clause-successors
 add_op-requires-clause-successors g c =
     let r = c.requires in
     let m = c.args.source.now in
-    let items = c.as_slice-2.ensures.value ∙ c.in_ok-leads.ensures in
-    let made = c.in_ok-successors.ensures.ok r.1 r.0.source (λ y to at. targets_ready r.0 m r.1 c.args.targets.now c.args.entries.now c.args.ctx.now c.args.values.now c.args.from c.args.block c.args.i r.2 r.3 r.4 r.5 r.6 c.inst-inst.result.now c.inst-inst.ensures.inst r.7 y to (ap (λ (ts : List LLVMBasicBlock). slice_get ts y) (sym items) ∙ at)) in
-    let edges = subst (λ (ts : List LLVMBasicBlock). Matched (IsKnownEdge m r.0.source c.args.values.now c.args.targets.now c.args.from) ts c.in_ok-successors.successors.items) items made in
-    subst (λ (x : ContextData). All (IsSuccessorWithin (length x.ops) (length x.blocks)) c.as_slice-4.result.now) (sym c.import_result_type.ensures.grown.rest)
-    (subst (All (IsSuccessorWithin (length c.args.ctx.now.ops) (length c.args.ctx.now.blocks))) (sym c.as_slice-4.ensures.value) (edges_within r.0 m c.args.ctx.now c.args.values.now r.2 r.3 r.4 r.6.body r.4.number _ c.in_ok-successors.successors.items (edges_stand r.0 m r.1 c.args.targets.now c.args.entries.now c.args.ctx.now c.args.values.now c.args.from c.args.block c.args.i r.2 r.3 r.4 r.5 r.6 c.inst-inst.result.now c.inst-inst.ensures.inst c.in_ok-successors.successors.items edges)))
+    let edges = c.in_ok-successors.ensures.ok r.1 r.0.source (targets_ready r.0 m r.1 c.args.targets.now c.args.entries.now c.args.ctx.now c.args.values.now c.args.from c.args.block c.args.i r.2 r.3 r.4 r.5 r.6 c.inst-inst.result.now c.inst-inst.ensures.inst r.7) in
+    subst (λ (x : ContextData). All (IsSuccessorWithin (length x.ops) (length x.blocks)) c.as_slice-2.result.now) (sym c.import_result_type.ensures.grown.rest)
+    (subst (All (IsSuccessorWithin (length c.args.ctx.now.ops) (length c.args.ctx.now.blocks))) (sym c.as_slice-2.ensures.value) (edges_within r.0 m c.args.ctx.now c.args.values.now r.2 r.3 r.4 r.6.body r.4.number _ c.in_ok-successors.successors.items (edges_stand r.0 m r.1 c.args.targets.now c.args.entries.now c.args.ctx.now c.args.values.now c.args.from c.args.block c.args.i r.2 r.3 r.4 r.5 r.6 c.inst-inst.result.now c.inst-inst.ensures.inst c.in_ok-successors.successors.items edges)))
 
 pub add_op-requires-clause-open : goal.add_op-requires-clause-open
 add_op-requires-clause-open g c =
@@ -101,20 +87,17 @@ returns-clause-ok g c = λ fr f j x b p h other.
     let m = c.args.source.now in
     let grown = c.import_result_type.ensures.grown in
     let c1 = c.import_result_type.new.ctx in
-    let used = c.as_slice.ensures.value ∙ c.in_ok-used.ensures in
-    let items = c.as_slice-2.ensures.value ∙ c.in_ok-leads.ensures in
-    let noted = subst (λ (vs : List LLVMValue). AreNoted c.args.values.now vs c.in_ok-operands.operands.items) used c.in_ok-operands.ensures.ok in
-    let made = c.in_ok-successors.ensures.ok f fr.source (λ y to at. targets_ready fr m f c.args.targets.now c.args.entries.now c.args.ctx.now c.args.values.now c.args.from c.args.block c.args.i j x b p h c.inst-inst.result.now c.inst-inst.ensures.inst other y to (ap (λ (ts : List LLVMBasicBlock). slice_get ts y) (sym items) ∙ at)) in
-    let edges = subst (λ (ts : List LLVMBasicBlock). Matched (IsKnownEdge m fr.source c.args.values.now c.args.targets.now c.args.from) ts c.in_ok-successors.successors.items) items made in
+    let noted = c.in_ok-operands.ensures.ok in
+    let edges = c.in_ok-successors.ensures.ok f fr.source (targets_ready fr m f c.args.targets.now c.args.entries.now c.args.ctx.now c.args.values.now c.args.from c.args.block c.args.i j x b p h c.inst-inst.result.now c.inst-inst.ensures.inst other) in
     let kind = kind_found (trees_of m) (type_trees c1.types) c.inst-inst.result.now c.kind_of.result c.kind_of.ensures in
-    let o = new_op c.in_ok-op.op.0 c.in_ok-name.name kind.0 c.as_slice-3.result.now c.as_slice-4.result.now (option_map (type_at (type_trees c1.types)) c.in_ok-ty.ty) in
+    let o = new_op c.in_ok-op.op.0 c.in_ok-name.name kind.0 c.as_slice.result.now c.as_slice-2.result.now (option_map (type_at (type_trees c1.types)) c.in_ok-ty.ty) in
     let under = typed_open fr.home fr.base c.args.ctx.now c1 c.args.block _ _ _ (body_open fr m c.args.ctx.now c.args.values.now j x b h.body c.args.block h.number) grown in
     operation_more fr m f c.args.ctx.now c.args.values.now j x b h.body h.framed c.add_op.new.ctx c.set.new.self c.args.i p o c.args.block h.inst.at other (inst_number m b c.args.i x p h.inst)
     (record {
       kind = subst (λ (i : Instruction). IsKind i kind.0) (sym (instruction_is m b c.args.i x p c.inst-inst.result.now h.inst c.inst-inst.ensures.inst)) kind.2;
       name = c.in_ok-name.ensures ∙ ap given_name (inst_name m b c.args.i x p c.inst_name.result.now h.inst c.inst_name.ensures);
-      operands = operands_stand fr m f c.args.targets.now c.args.entries.now c.args.ctx.now c.args.values.now c.args.from c.args.block c.args.i j x b p h c.inst-inst.result.now c.inst-inst.ensures.inst other c.as_slice-3.result.now (subst (AreNoted c.args.values.now (operands c.inst-inst.result.now)) (sym c.as_slice-3.ensures.value) noted);
-      successors = edges_stand fr m f c.args.targets.now c.args.entries.now c.args.ctx.now c.args.values.now c.args.from c.args.block c.args.i j x b p h c.inst-inst.result.now c.inst-inst.ensures.inst c.as_slice-4.result.now (subst (λ (ss : List Successor). Matched (IsKnownEdge m fr.source c.args.values.now c.args.targets.now c.args.from) (target_blocks c.inst-inst.result.now) ss) (sym c.as_slice-4.ensures.value) edges);
+      operands = operands_stand fr m f c.args.targets.now c.args.entries.now c.args.ctx.now c.args.values.now c.args.from c.args.block c.args.i j x b p h c.inst-inst.result.now c.inst-inst.ensures.inst other c.as_slice.result.now (subst (AreNoted c.args.values.now (operands c.inst-inst.result.now)) (sym c.as_slice.ensures.value) noted);
+      successors = edges_stand fr m f c.args.targets.now c.args.entries.now c.args.ctx.now c.args.values.now c.args.from c.args.block c.args.i j x b p h c.inst-inst.result.now c.inst-inst.ensures.inst c.as_slice-2.result.now (subst (λ (ss : List Successor). Matched (IsKnownEdge m fr.source c.args.values.now c.args.targets.now c.args.from) (target_blocks c.inst-inst.result.now) ss) (sym c.as_slice-2.ensures.value) edges);
       result = c.in_ok-ty.ensures.ty p.type (type_of_inst m f fr.source c.args.from h.place b c.args.i x p h.framed.source h.of_block h.inst);
     })
     (c.in_ok-op.ensures.number ∙ ap (λ (y : ContextData). length y.ops) grown.rest)
@@ -136,3 +119,30 @@ returns-in_err-set-clause-kept g c = λ n b behind. keeps_then n b c.args.ctx.no
 
 pub returns-clause-kept : goal.returns-clause-kept
 returns-clause-kept g c = λ n b behind. keeps_then n b c.args.ctx.now c.import_result_type.new.ctx c.add_op.new.ctx (keeps_types n b c.args.ctx.now c.import_result_type.new.ctx c.import_result_type.ensures.grown) (c.add_op.ensures.kept n b behind)
+
+pub known_operands-requires-clause-other : goal.known_operands-requires-clause-other
+known_operands-requires-clause-other g c = let r = c.requires in sym (phi_read c.args.source.now r.4 c.args.i r.3 r.5 c.inst-inst.result.now r.6.inst c.inst-inst.ensures.inst) ∙ r.7
+
+pub kind_of-requires : goal.kind_of-requires
+kind_of-requires g c = let r = c.requires in sym (phi_read c.args.source.now r.4 c.args.i r.3 r.5 c.inst-inst.result.now r.6.inst c.inst-inst.ensures.inst) ∙ r.7
+
+pub returns-in_err-ty-clause-err : goal.returns-in_err-ty-clause-err
+returns-in_err-ty-clause-err g c = passed_on c.from_residual-in_err-ty.result E.NoMemory _ c.from_residual-in_err-ty.ensures.1 (λ fr f j x b p h other places inverse. tt)
+
+pub returns-in_err-name-clause-err : goal.returns-in_err-name-clause-err
+returns-in_err-name-clause-err g c = passed_on c.from_residual-in_err-name.result E.NoMemory _ c.from_residual-in_err-name.ensures.1 (λ fr f j x b p h other places inverse. tt)
+
+pub returns-in_err-op-clause-err : goal.returns-in_err-op-clause-err
+returns-in_err-op-clause-err g c = passed_on c.from_residual-in_err-op.result E.NoMemory _ c.from_residual-in_err-op.ensures.1 (λ fr f j x b p h other places inverse. tt)
+
+pub returns-in_err-set-clause-err : goal.returns-in_err-set-clause-err
+returns-in_err-set-clause-err g c = passed_on c.from_residual-in_err-set.result E.NoMemory _ c.from_residual-in_err-set.ensures.1 (λ fr f j x b p h other places inverse. tt)
+
+pub returns-in_err-operands-clause-kept : goal.returns-in_err-operands-clause-kept
+returns-in_err-operands-clause-kept g c = λ n b behind. keeps_none n b c.args.ctx.now
+
+pub returns-in_err-successors-clause-kept : goal.returns-in_err-successors-clause-kept
+returns-in_err-successors-clause-kept g c = λ n b behind. keeps_none n b c.args.ctx.now
+
+pub add_op-requires-clause-result_ty : goal.add_op-requires-clause-result_ty
+add_op-requires-clause-result_ty g c = c.in_ok-ty.ensures.within

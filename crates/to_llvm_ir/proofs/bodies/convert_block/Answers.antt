@@ -1,13 +1,12 @@
 -- First the arguments of the block, then its operations.
 use Rattle.std.proofs.Common.{◌∙◌, List, length, sym, subst, ap, arith}
+use Rattle.std.proofs.lemmas.Result.{on_ok_weaker}
 use Rattle.llvm_core.specs.Module.{Module}
 use Rattle.dialect_core.specs.declared.numbers.OpRef.{OpRef}
 use Rattle.dialect_core.specs.Data.{DialectBlock}
 use Rattle.to_llvm_ir.specs.declared.values.Values.{Values}
-use Rattle.to_llvm_ir.specs.Causes.{IsFuncCause}
 use Rattle.to_llvm_ir.specs.Bodies.{IsBlockBegun}
 use Rattle.to_llvm_ir.specs.States.{Task, IsAtOp, IsBegun}
-use Rattle.to_llvm_ir.proofs.OpLaws.{passed}
 use Rattle.to_llvm_ir.proofs.ArgumentLaws.{args_count}
 use Rattle.to_llvm_ir.proofs.BodyLaws.{listed, target_there, target_here, after_params, phis_begun, after_phis, end_block, fewer_ops}
 use Rattle.to_llvm_ir.proofs.bodies.convert_block.Goals.{then-place-eq0+in_ok-set_params, else-place-eq0+in_ok-add_phis}
@@ -50,22 +49,22 @@ convert_ops-requires-clause-begun c =
     let b = c.requires.begun in
     (b.0, c.args.place, b.1, begun_ops c b.0 b.1 b.2)
 
-pub returns-in_err-convert_ops-clause-cause : goal.returns-in_err-convert_ops-clause-cause
-returns-in_err-convert_ops-clause-cause c = λ t b begun.
-    passed c.from_residual-in_err-convert_ops.result c.in_err-convert_ops.field-0.0 (IsFuncCause c.args.ctx.now t.source) c.from_residual-in_err-convert_ops.ensures.1
-    (c.in_err-convert_ops.ensures.cause t c.args.place b (begun_ops c.before.before.before.before.before t b begun))
+pub returns-clause-cause : goal.returns-clause-cause
+returns-clause-cause c = λ t b begun. c.convert_ops.ensures.cause t c.args.place b (begun_ops c.before.before t b begun)
 
 pub returns-clause-ok : goal.returns-clause-ok
 returns-clause-ok c = λ t b begun.
-    end_block c.args.ctx.now t begun.at.task c.args.place b begun.at.here c.convert_ops.new.values c.convert_ops.new.back (c.in_ok-convert_ops.ensures.ok t c.args.place b (begun_ops c.before.before.before.before t b begun))
+    on_ok_weaker c.convert_ops.result (end_block c.args.ctx.now t begun.at.task c.args.place b begun.at.here c.convert_ops.new.values c.convert_ops.new.back) (c.convert_ops.ensures.ok t c.args.place b (begun_ops c.before.before t b begun))
 
 pub returns-clause-accepted : goal.returns-clause-accepted
 returns-clause-accepted c = λ t b begun.
     let count = args_count c.args.ctx.now t c.args.place b c.args.block c.block_args-count.result.now begun.at c.block_args-count.ensures in
     let list = listed c.args.ctx.now t c.args.place b c.args.block c.as_slice.result.now begun.at (c.as_slice.ensures.value ∙ c.in_ok-ops.ensures.ops) in
     let fewer = fewer_ops c.args.ctx.now t c.args.place b c.as_slice.result.now list in
-    record {
+    on_ok_weaker c.convert_ops.result
+    (λ accepted. record {
       args = let few = c.in_ok-check_few.ensures in omega (arith, few, count);
       few = let few = c.in_ok-check_few-2.ensures in let same = c.len.ensures in let len = ap (λ (os : List OpRef). length os) (c.as_slice.ensures.value) in omega (arith, few, fewer, same, len);
-      ops = c.in_ok-convert_ops.ensures.accepted t c.args.place b (begun_ops c.before.before.before.before t b begun);
-    }
+      ops = accepted;
+    })
+    (c.convert_ops.ensures.accepted t c.args.place b (begun_ops c.before.before t b begun))

@@ -1,6 +1,10 @@
 -- Two edges to one block are told apart by what they pass.
-use Rattle.std.proofs.Common.{◌≡◌, nat_lt, ltb-true, lt-ltb, length, true, false, sym, ap, ◌∙◌, arith, Some, eqb-true, eq-eqb}
+use Rattle.std.proofs.Common.{◌≡◌, nat_lt, ltb-true, lt-ltb, List, length, slice_get, true, false, sym, ap, subst, ◌∙◌, arith, Some, eqb-true, eq-eqb}
 use Rattle.std.proofs.lemmas.Option.{slice_get-get_or}
+use Rattle.dialect_core.specs.declared.ops.Successor.{Successor}
+use Rattle.dialect_core.specs.ContextData.{IsSuccessorWithin}
+use Rattle.to_llvm_ir.specs.Causes.{IsFuncCause}
+use Rattle.to_llvm_ir.proofs.OpLaws.{passed}
 use Rattle.to_llvm_ir.proofs.SuccessorLaws.{other_edge, equal_one, equal_two, values_differ, values_same, block_of}
 use Rattle.to_llvm_ir.proofs.edges.check_equal.Goals.{then-edges-lt2, in-len2+else-eq, else-eq-via-then-eq+else-ne, else-eq-via-else-eq, else-edges-lt2+else-edges-lt3}
 use Rattle.to_llvm_ir.proofs.edges.check_equal.Goals as goal
@@ -27,3 +31,14 @@ returns-clause-ok c = λ lt. elim c.if-edges-lt2.branch [
       ])
   | else-edges-lt2+else-edges-lt3 w ↦ absurd (let more : nat_lt (length c.args.edges.now) 3 ≡ false = search in let fewer : nat_lt (length c.args.edges.now) 3 ≡ true = lt-ltb (length c.args.edges.now) 3 lt in let never : true ≡ false = sym fewer ∙ more in cc)
 ]
+
+pub find_target-requires : goal.find_target-requires
+find_target-requires c =
+    let len = c.in-len2.len_at_least in
+    record { within = subst (IsSuccessorWithin (length c.args.ctx.now.ops) (length c.args.ctx.now.blocks)) (sym c.first-item.is) (c.requires.within 0 c.first-item.result (omega (arith, len))) }
+
+pub returns-in_err-target-clause-cause : goal.returns-in_err-target-clause-cause
+returns-in_err-target-clause-cause c = λ s op spot are mapped place.
+    let len = c.in-len2.len_at_least in
+    passed c.from_residual.result c.in_err-target.field-0.0 (IsFuncCause c.args.ctx.now s.task.source) c.from_residual.ensures.1
+    (c.in_err-target.ensures.cause s op 0 spot mapped (ap (λ (es : List Successor). slice_get es 0) are ∙ slice_get-get_or c.args.edges.now 0 c.first-item.result (omega (arith, len)) ∙ ap Some (sym c.first-item.is)))

@@ -1,8 +1,10 @@
 -- The condition is used, and both edges lead to the blocks that the instruction names.
-use Rattle.std.proofs.Common.{List, slice_get, refl, ap, arith}
+use Rattle.std.proofs.Common.{List, length, slice_get, refl, sym, ap, subst, arith}
 use Rattle.dialect_types.specs.Trees.{IntegerType, type_trees}
 use Rattle.dialect_core.specs.declared.ops.Value.{Value}
+use Rattle.dialect_core.specs.declared.ops.Successor.{Successor}
 use Rattle.dialect_core.specs.declared.ops.OpKind.TheVariants as K
+use Rattle.dialect_core.specs.ContextData.{IsSuccessorWithin}
 use Rattle.dialect_core.specs.Data.{CondBrOp}
 use Rattle.to_llvm_ir.specs.Causes.{IsFuncCause}
 use Rattle.to_llvm_ir.proofs.OpLaws.{passed, spot_kind, spot_parts, operands_are, successors_are, used_at, use_at}
@@ -50,3 +52,38 @@ returns-clause-ok c = λ s m next mapped.
     cond_br_made s m next.state.sound k.1 c.in_ok-condition.condition c.index-edges-0.result c.index-edges-1.result c.in_ok-first.first c.in_ok-second.second k.0
     (use_at s m xs 0 _ k.1.0 (IntegerType 1) c.in_ok-condition.condition are at (c.in_ok-condition.ensures.ok s c.args.op m (IntegerType 1) next (used_at s xs 0 _ k.1.0 (IntegerType 1) are at k.1.2.typed)))
     first second (c.in_ok-first.ensures.ok s c.args.op m 0 next mapped first) (c.in_ok-second.ensures.ok s c.args.op m 1 next mapped second)
+
+pub bounds-operands-0 : goal.bounds-operands-0
+bounds-operands-0 c =
+    let s = c.requires.spot in
+    let k = spot_kind c.args.ctx.now c.args.op s.0 K.CondBr CondBrOp s.1 c.requires.kind refl in
+    let are = operands_are (type_trees c.args.ctx.now.types) c.args.ctx.now.ops c.args.op s.0.op c.op_operands-operands.result.now (spot_parts c.args.ctx.now c.args.op s.0 s.1) c.op_operands-operands.ensures.operands in
+    omega (arith, ap (λ (vs : List Value). length vs) k.1.1, ap (λ (vs : List Value). length vs) are)
+
+pub known-requires : goal.known-requires
+known-requires c =
+    let s = c.requires.spot in
+    let k = spot_kind c.args.ctx.now c.args.op s.0 K.CondBr CondBrOp s.1 c.requires.kind refl in
+    let are = operands_are (type_trees c.args.ctx.now.types) c.args.ctx.now.ops c.args.op s.0.op c.op_operands-operands.result.now (spot_parts c.args.ctx.now c.args.op s.0 s.1) c.op_operands-operands.ensures.operands in
+    c.op_operands-operands.ensures.within 0 _ (omega (arith, ap (λ (vs : List Value). length vs) k.1.1, ap (λ (vs : List Value). length vs) are))
+
+pub bounds-edges-0 : goal.bounds-edges-0
+bounds-edges-0 c =
+    let s = c.requires.spot in
+    let k = spot_kind c.args.ctx.now c.args.op s.0 K.CondBr CondBrOp s.1 c.requires.kind refl in
+    let are = successors_are (type_trees c.args.ctx.now.types) c.args.ctx.now.ops c.args.op s.0.op c.op_successors-edges.result.now (spot_parts c.args.ctx.now c.args.op s.0 s.1) c.op_successors-edges.ensures.successors in
+    omega (arith, k.1.3.count_is, ap (λ (es : List Successor). length es) are)
+
+pub lead-requires : goal.lead-requires
+lead-requires c =
+    let s = c.requires.spot in
+    let k = spot_kind c.args.ctx.now c.args.op s.0 K.CondBr CondBrOp s.1 c.requires.kind refl in
+    let are = successors_are (type_trees c.args.ctx.now.types) c.args.ctx.now.ops c.args.op s.0.op c.op_successors-edges.result.now (spot_parts c.args.ctx.now c.args.op s.0 s.1) c.op_successors-edges.ensures.successors in
+    subst (IsSuccessorWithin (length c.args.ctx.now.ops) (length c.args.ctx.now.blocks)) (sym c.index-edges-0.is) (c.op_successors-edges.ensures.within 0 c.index-edges-0.result (omega (arith, k.1.3.count_is, ap (λ (es : List Successor). length es) are)))
+
+pub lead-requires-2 : goal.lead-requires-2
+lead-requires-2 c =
+    let s = c.requires.spot in
+    let k = spot_kind c.args.ctx.now c.args.op s.0 K.CondBr CondBrOp s.1 c.requires.kind refl in
+    let are = successors_are (type_trees c.args.ctx.now.types) c.args.ctx.now.ops c.args.op s.0.op c.op_successors-edges.result.now (spot_parts c.args.ctx.now c.args.op s.0 s.1) c.op_successors-edges.ensures.successors in
+    subst (IsSuccessorWithin (length c.args.ctx.now.ops) (length c.args.ctx.now.blocks)) (sym c.index-edges-1.is) (c.op_successors-edges.ensures.within 1 c.index-edges-1.result (omega (arith, k.1.3.count_is, ap (λ (es : List Successor). length es) are)))

@@ -2,6 +2,7 @@
 use Rattle.std.proofs.Common.{◌≡◌, ◌∙◌, ◌++◌, All, true, false, List, [], Some, refl, sym, ap, subst, ⊎_elim}
 use Rattle.std.specs.List.{flat_map}
 use Rattle.std.proofs.lemmas.List.Elements.{All-nil}
+use Rattle.std.proofs.lemmas.Option.{none-some}
 use Rattle.dialect_types.specs.Trees.{type_trees}
 use Rattle.dialect_core.specs.declared.ops.Value.{Value}
 use Rattle.dialect_core.specs.declared.ops.Successor.{Successor}
@@ -50,3 +51,43 @@ returns-in_ok-place_inst-in_default-clause-accepted c = λ s next mapped. record
   uses = (c.in_ok-inst-in_default.ensures.ok s c.args.back.now next mapped).uses;
   named = λ other. c.in_ok-place_inst-in_default.ensures.named s next.spot;
 }
+
+pub returns-in_ok-convert_constant-in-Constant-clause-skipped : goal.returns-in_ok-convert_constant-in-Constant-clause-skipped
+returns-in_ok-convert_constant-in-Constant-clause-skipped c = λ none.
+    let there = op_there (type_trees c.args.ctx.now.types) c.args.ctx.now.ops c.args.op (K.Constant c.in-Constant.value) _ (c.op_kind.ensures.kind ∙ ap Some c.in-Constant.is) refl in
+    absurd (none-some there.0 (sym none ∙ there.1))
+
+pub returns-in_err-convert_constant-in-Constant-clause-skipped : goal.returns-in_err-convert_constant-in-Constant-clause-skipped
+returns-in_err-convert_constant-in-Constant-clause-skipped c = λ none.
+    let there = op_there (type_trees c.args.ctx.now.types) c.args.ctx.now.ops c.args.op (K.Constant c.in-Constant.value) _ (c.op_kind.ensures.kind ∙ ap Some c.in-Constant.is) refl in
+    absurd (none-some there.0 (sym none ∙ there.1))
+
+pub returns-in_err-inst-in_default-clause-skipped : goal.returns-in_err-inst-in_default-clause-skipped
+returns-in_err-inst-in_default-clause-skipped c = λ none.
+    let kind = kind_there (type_trees c.args.ctx.now.types) c.op_kind.result.now c.in_default.not-Module c.in_default.not-Func in
+    let there = op_there (type_trees c.args.ctx.now.types) c.args.ctx.now.ops c.args.op c.op_kind.result.now kind.0 c.op_kind.ensures.kind kind.1 in
+    absurd (none-some there.0 (sym none ∙ there.1))
+
+pub returns-in_err-place_inst-in_default-clause-skipped : goal.returns-in_err-place_inst-in_default-clause-skipped
+returns-in_err-place_inst-in_default-clause-skipped c = λ none.
+    let kind = kind_there (type_trees c.args.ctx.now.types) c.op_kind.result.now c.in_default.not-Module c.in_default.not-Func in
+    let there = op_there (type_trees c.args.ctx.now.types) c.args.ctx.now.ops c.args.op c.op_kind.result.now kind.0 c.op_kind.ensures.kind kind.1 in
+    absurd (none-some there.0 (sym none ∙ there.1))
+
+pub returns-in_ok-place_inst-in_default-clause-skipped : goal.returns-in_ok-place_inst-in_default-clause-skipped
+returns-in_ok-place_inst-in_default-clause-skipped c = λ none.
+    let kind = kind_there (type_trees c.args.ctx.now.types) c.op_kind.result.now c.in_default.not-Module c.in_default.not-Func in
+    let there = op_there (type_trees c.args.ctx.now.types) c.args.ctx.now.ops c.args.op c.op_kind.result.now kind.0 c.op_kind.ensures.kind kind.1 in
+    absurd (none-some there.0 (sym none ∙ there.1))
+
+pub returns-in_ok-convert_constant-in-Constant-clause-ok : goal.returns-in_ok-convert_constant-in-Constant-clause-ok
+returns-in_ok-convert_constant-in-Constant-clause-ok c = λ s next mapped here. c.in_ok-convert_constant-in-Constant.ensures s next
+
+pub returns-in_ok-place_inst-in_default-clause-ok : goal.returns-in_ok-place_inst-in_default-clause-ok
+returns-in_ok-place_inst-in_default-clause-ok c = λ s next mapped here. c.in_ok-place_inst-in_default.ensures.ok s next (c.in_ok-inst-in_default.ensures.ok s c.args.back.now next mapped) here
+
+pub returns-in-Module-clause-accepted : goal.returns-in-Module-clause-accepted
+returns-in-Module-clause-accepted c = λ s next mapped. ⊎_elim
+    (λ is. absurd (no_spot c.args.ctx.now c.args.op s K.Module next.spot (c.op_kind.ensures.kind ∙ ap Some is) refl))
+    (λ is. absurd (no_spot c.args.ctx.now c.args.op s K.Func next.spot (c.op_kind.ensures.kind ∙ ap Some is) refl))
+    c.in-Module.is

@@ -63,3 +63,12 @@ returns-clause-named c = λ s spot k lt.
     let form = spot_form c.args.ctx.now c.args.op s spot in
     let plain = c.value_name.ensures.plain (subst (λ (n : Option (List ℕ)). IfSome n IsPlainName) given form.name) k lt in
     subst (λ (t : Option TypeTree). IsPlainOrNone (result_name s.op.name t k)) (sym type.1) (subst (λ (n : Option (List ℕ)). IsPlainOrNone (value_name n k)) (sym given) plain)
+
+pub build-requires-clause-block : goal.build-requires-clause-block
+build-requires-clause-block c =
+    let s = c.requires.spot.0 in
+    let next = c.requires.spot.1 in
+    let lt = slice_get_within s.task.source.blocks s.place s.block next.spot.here in
+    let here = c.requires.spot.3 in
+    let count = next.state.block_count in
+    omega (arith, lt, here, count)
