@@ -48,6 +48,7 @@ held_op c0 c x m body h ops blocks =
       region = rw ops (region_kept c0.ops x m small ∙ h.region);
       block = rw blocks h.block;
       holder = rw (ops, blocks) (holder_kept c0.ops x (slice_get c0.blocks body.0) K.Module h.holder);
+      bare = λ y at. h.bare y (ap (λ (xs : List BlockData). slice_get xs body.0) (sym blocks) ∙ at);
     }
 
 -- the data of a new function
@@ -173,6 +174,7 @@ added_block c0 c1 m body d b f label args h func e number is typed empty =
         block = rw blocks (omega (arith, h.held.block, length-push c0.blocks x));
         holder = rw (ops, blocks)
             (holder_change c0.ops b f.0 (slice_get (c0.blocks ++ x ∷ []) body.0) ∙ ap (option_and_then (λ (y : BlockData). kind_at c0.ops y.holder)) (block_still c0.blocks x body.0 h.held.block) ∙ h.held.holder);
+        bare = λ y at. h.held.bare y (sym (block_still c0.blocks x body.0 h.held.block) ∙ ap (λ (xs : List BlockData). slice_get xs body.0) (sym blocks) ∙ at);
       };
       apart = subst (λ (c : ContextData). HasFuncsApart c body) (sym e) (block_apart c0 b body x h.apart number bare);
       is = is ∙ ap (λ (y : DialectModule). with_func_block y f.0 (new_block c0 b label args)) h.is;

@@ -1,7 +1,7 @@
 -- The start of a dialect module, and one function after another.
 use Rattle.std.proofs.Common.{ℕ, ◌≡◌, ◌+◌, inr, refl, sym, ap, subst, ◌∙◌, List, [], ◌∷◌, ◌++◌, Option, Some, None, All, map, length, take, slice_get, get_or, arith, eq-eqb}
 use Rattle.std.specs.Option.{option_map, option_map_or, option_and_then}
-use Rattle.std.proofs.lemmas.Option.{get_or_from_slice_get, slice_get-map, slice_get_within}
+use Rattle.std.proofs.lemmas.Option.{get_or_from_slice_get, same_Some, slice_get-map, slice_get_within}
 use Rattle.std.proofs.lemmas.List.{take_all, map_push}
 use Rattle.std.proofs.lemmas.List.Elements.{All-nil}
 use Rattle.llvm_core.specs.declared.numbers.LLVMFunction.{LLVMFunction}
@@ -67,6 +67,7 @@ started c0 c1 c2 o b name e1 number e2 place is empty =
         region = ap (λ (y : Option OpData). option_map_or (λ (z : OpData). z.blocks) y []) at2;
         block = omega (arith, count, place);
         holder = ap (option_and_then (λ (y : BlockData). kind_at c2.ops y.holder)) here ∙ kind;
+        bare = λ y at. ap (λ (z : BlockData). z.args) (same_Some y x (sym at ∙ here));
       };
       apart = record {
         funcs = let P : List OpRef → Type 0 = All (λ (q : OpRef). kind_at c2.ops q ≡ Some K.Func) in subst P (sym empty) (All-nil _);

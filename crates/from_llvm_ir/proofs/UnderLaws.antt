@@ -189,7 +189,7 @@ added_open h base c0 c1 c2 b left now right o kind name operands successors resu
 
 pub typed_building : (c c' : ContextData) (m : ℕ) (body : BlockRef) (d : DialectModule) → IsBuilding c m body d → GrowsTypes c c' → IsBuilding c' m body d
 typed_building c c' m body d h g = subst (λ (x : ContextData). IsBuilding x m body d) (sym g.rest) (record {
-  held = record { kind = h.held.kind; region = h.held.region; block = h.held.block; holder = h.held.holder };
+  held = record { kind = h.held.kind; region = h.held.region; block = h.held.block; holder = h.held.holder; bare = h.held.bare };
   apart = record { funcs = h.apart.funcs; plain = h.apart.plain };
   is = own_data c c'.types m body h.held h.own g.more.kept ∙ h.is;
   there = h.there;

@@ -1,9 +1,11 @@
 -- A module that is built keeps the rules of the dialect.
 use Rattle.std.proofs.Common.{ℕ, ◌≡◌, ◌<◌, ◌≤◌, refl, sym, ap, subst, ◌∙◌, true, false, List, [], Option, Some, None, All, length, map, slice_get, arith}
 use Rattle.std.specs.Option.{option_map, option_map_or}
-use Rattle.std.proofs.lemmas.List.Elements.{All-weaker}
+use Rattle.std.proofs.lemmas.List.Elements.{All-cons, All-nil, All-weaker}
 use Rattle.std.proofs.lemmas.Option.{none-some, slice_get-map, slice_get_within, same_Some}
 use Rattle.llvm_core.specs.Data as L
+use Rattle.dialect_types.specs.declared.types.TypeHandle.{TypeHandle}
+use Rattle.dialect_types.specs.Trees.{type_at, type_trees}
 use Rattle.dialect_core.specs.declared.numbers.OpRef.{OpRef}
 use Rattle.dialect_core.specs.declared.numbers.BlockRef.{BlockRef}
 use Rattle.dialect_core.specs.declared.ops.OpKind.TheVariants as K
@@ -13,7 +15,7 @@ use Rattle.dialect_core.specs.Lists.{list_at}
 use Rattle.dialect_core.specs.ContextData.{ContextData, AreRegions, IsSymbol, holder_at, is_func, kind_at, region_at}
 use Rattle.dialect_core.specs.Data.{Func, data_of, held, type_in}
 use Rattle.dialect_core.specs.Form.{IsFormFunc, IsExportable, LeadsToOwn}
-use Rattle.dialect_core.specs.WellFormed.{IsFew, IsFewFunc, IsOpenForm, IsPlainAt, IsWellFormedFunc, HasNamesApart, IsWellFormed}
+use Rattle.dialect_core.specs.WellFormed.{HasIntegerArgs, IsFew, IsFewFunc, IsInteger, IsOpenForm, IsPlainAt, IsWellFormedFunc, HasNamesApart, IsWellFormed}
 use Rattle.dialect_core.proofs.HoldLemmas.{flat_stands}
 use Rattle.dialect_core.proofs.LineLemmas.{all_at, at_all}
 use Rattle.dialect_core.proofs.OwnEdgeLaws.{own_module}
@@ -85,9 +87,20 @@ module _ (d : L.ModuleData) (c : ContextData) (m : ℕ) (body : BlockRef) (xs : 
   lists : IsFew (held c m) × All (IsFewFunc c) (held c m)
   lists = let P : List OpRef → Type 0 = λ os. IsFew os × All (IsFewFunc c) os in subst P (sym (held_list c m body h.held)) few
 
+  -- the block for functions takes nothing
+  args : All (HasIntegerArgs c) (region_at c.ops m)
+  args =
+      let P : List BlockRef → Type 0 = All (HasIntegerArgs c) in
+      subst P (sym h.held.region) (All-cons (HasIntegerArgs c) body [] none (All-nil (HasIntegerArgs c)))
+    where
+      none : HasIntegerArgs c body
+      none x at =
+          let Q : List TypeHandle → Type 0 = λ ts. IsFew ts × All (λ (t : TypeHandle). IsInteger (type_at (type_trees c.types) t)) ts in
+          subst Q (sym (h.held.bare x at)) (omega arith, λ k d l. absurd (omega (arith, l)))
+
   pub well_formed : IsDistinctNames (function_names d.functions) → IsWellFormed c m
   well_formed distinct =
-      own_module c regions symbols m h.held.kind (rw h.held.region (omega arith)) funcs_alone
+      own_module c regions symbols m h.held.kind (rw h.held.region (omega arith)) args funcs_alone
       (at_all (λ (o : OpRef). All (IsPlainAt c) (held c o.0)) (held c m) (λ k o at. plain_held o (held_own c m body h.held h.own k o at) (all_at (λ (o : OpRef). kind_at c.ops o ≡ Some K.Func) (held c m) funcs_alone k o at)))
       (All-weaker (IsOpenForm c) (IsWellFormedFunc (type_in c)) (λ g form. form.0) gs (module_open c m own_targets forms)) own_targets
       (names_apart (function_names d.functions) gs (names_imported d d.functions xs gs functions) distinct) lists.0 lists.1

@@ -156,12 +156,13 @@ IsBelow ops blocks f = (f.number < ops) × All (λ (b : DialectBlock). b.number 
 abbrev pub holder_kind : ContextData → BlockRef → Option OpKind
 holder_kind c b = option_and_then (λ (x : BlockData). kind_at c.ops x.holder) (slice_get c.blocks b.0)
 
--- the operation of the number m is a module, and has the block for its functions
+-- the operation of the number m is a module, and has the block for its functions, which takes nothing
 pub record IsHeld (c : ContextData) (m : ℕ) (body : BlockRef) : Type 0 where
   pub kind : kind_at c.ops (record { 0 = m }) ≡ Some Module
   pub region : region_at c.ops m ≡ body ∷ []
   pub block : body.0 < length c.blocks
   pub holder : holder_kind c body ≡ Some Module
+  pub bare : (x : BlockData) → slice_get c.blocks body.0 ≡ Some x → x.args ≡ []
 
 -- What stands in a context from the operation m and from the block for its functions on is the module's own: its types
 -- are there, and it names and holds nothing older.
