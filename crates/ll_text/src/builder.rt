@@ -59,6 +59,5 @@ pub fn build_file(alloc: Global, file: &File<'_>) -> Result<LLVMModule, ReadErr>
     ensures not_yet { result ≡ Err ReadErr.NotYet → (d : ModuleData) → ¬ IsFileOf is_plain 64 (file_view file.now) d }
 {
     let mut draft = LLVMModule::new(alloc, source_name(file.source)?)?;
-    add_functions(alloc, &mut draft, file.functions.as_slice())?;
-    Ok(draft)
+    add_functions(alloc, &mut draft, file.functions.as_slice()).and(Ok(draft))
 }
