@@ -30,6 +30,7 @@ pub unchecked : (m : Module) (e : CheckErr) → MayAnswer m e → e ≢ NoMemory
 unchecked m NoMemory h rule checked = rule refl
 unchecked m e h rule checked = checked e h
 
+-- tokens that a tree is written by say plainly what the tree says
 pub plainly : {E : Type 0} (ts : List Text) (t : File) (r : Result Module E) → (ts ≡ file t) × IsFile t → IfOk r (λ m. IsFileOf is_plain 64 t (data_of m)) → IfOk r (λ m. SaysPlainly ts (data_of m))
 plainly ts t (Ok m) (written, each) says = record { tree = t; written = written; each = each; says = says }
 plainly ts t (Err e) found says = tt

@@ -14,7 +14,7 @@ ghost use Rattle.ll_text.specs.Spelling.{Spells, IsSpelled, IsNumbered};
 use crate::builder::build_file;
 use ll_tree::read_err::ReadErr;
 use ll_tree::reader::read_tree;
-use ll_tree::tokens::{tokens, Token};
+use ll_tree::tokens::{Token, tokens};
 use llvm_core::check_err::CheckErr;
 use llvm_core::checking::check;
 use llvm_core::module::LLVMModule;
@@ -57,6 +57,5 @@ pub fn read_ll(alloc: Global, bytes: &[u8]) -> Result<LLVMModule, ReadErr>
 {
     let tokens = tokens(alloc, bytes)?;
     let built = build_tokens(alloc, tokens.as_slice())?;
-    check_built(&built)?;
-    Ok(built)
+    check_built(&built).and(Ok(built))
 }

@@ -3,7 +3,7 @@ use Rattle.std.proofs.Common.{length, ap, sym, subst, []}
 use Rattle.llvm_core.specs.Module.{Module}
 use Rattle.llvm_core.specs.Names.{is_plain}
 use Rattle.ll_tree.specs.Text.{Text}
-use Rattle.ll_tree.specs.TreeView.{name_view, file_view}
+use Rattle.ll_tree.specs.TreeView.{file_view}
 use Rattle.ll_tree.specs.declared.read_err.ReadErr.TheVariants.{NotYet}
 use Rattle.llvm_core.specs.Data.{data_of}
 use Rattle.ll_text.specs.Meaning.{IsSource, IsFileOf}
