@@ -35,6 +35,7 @@ pub mod PlainLaws
 pub mod ReadLaws
 pub mod RefusalLaws
 pub mod RenumberLaws
+pub mod ResultLaws
 pub mod SameLaws
 pub mod ScopeLaws
 pub mod SignatureLaws

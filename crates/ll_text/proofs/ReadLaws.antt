@@ -1,5 +1,6 @@
 -- Where a module of the form is spelled, the tree of the text says it by plain names and narrow integers, and what is built of that tree is checked.
-use Rattle.std.proofs.Common.{◌≡◌, ◌≢◌, ◌∙◌, ℕ, List, [], Some, refl, sym, subst}
+use Rattle.std.proofs.Common.{◌≡◌, ◌≢◌, ◌∙◌, ℕ, List, [], Some, Result, Ok, Err, refl, sym, subst}
+use Rattle.std.specs.Prelude.{IfOk}
 use Rattle.llvm_core.specs.declared.check_err.CheckErr.{CheckErr}
 use Rattle.llvm_core.specs.declared.check_err.CheckErr.TheVariants.{NoMemory}
 use Rattle.llvm_core.specs.Module.{Module}
@@ -15,6 +16,7 @@ use Rattle.llvm_core.proofs.FormLaws.{checked_of_form}
 use Rattle.ll_tree.specs.Text.{Text, is_bare}
 use Rattle.ll_tree.specs.Tokens.{tokens_of}
 use Rattle.ll_tree.specs.Tree.{File, IsFile, file}
+use Rattle.ll_text.specs.Built.{SaysPlainly}
 use Rattle.ll_text.specs.Meaning.{IsFileOf}
 use Rattle.ll_text.specs.Spelling.{widest, IsNumbered, IsReadable, Spelled, IsSpelled}
 use Rattle.ll_text.proofs.FormLaws.{narrow_of}
@@ -27,6 +29,11 @@ use Rattle.ll_text.proofs.RenumberLaws.{form_renumbered, names_renumbered, few_r
 pub unchecked : (m : Module) (e : CheckErr) → MayAnswer m e → e ≢ NoMemory → ¬ IsChecked m
 unchecked m NoMemory h rule checked = rule refl
 unchecked m e h rule checked = checked e h
+
+-- tokens that a tree is written by say plainly what the tree says
+pub plainly : {E : Type 0} (ts : List Text) (t : File) (r : Result Module E) → (ts ≡ file t) × IsFile t → IfOk r (λ m. IsFileOf is_plain 64 t (data_of m)) → IfOk r (λ m. SaysPlainly ts (data_of m))
+plainly ts t (Ok m) (written, each) says = record { tree = t; written = written; each = each; says = says }
+plainly ts t (Err e) found says = tt
 
 -- the tree says a module of the form whose names are distinct and whose lists are short
 pub record SaysForm (t : File) : Type 0 where
@@ -51,6 +58,14 @@ pub form_said : (bytes : List ℕ) (tokens : List Text) (t : File) → IsSpelled
 form_said bytes tokens t (m, readable, (ts, found, s)) is (same, each) =
     let written : file s.tree ≡ file t = cc (found, s.written, is, same) in
     says_form t m readable (subst (λ (n : File). IsFileOf is_bare widest n (data_of m)) (one_file s.tree t s.each each written) s.says)
+
+-- the tokens of a spelled module say it plainly
+pub said_plainly : (bytes : List ℕ) (tokens : List Text) → IsSpelled bytes → tokens_of bytes ≡ Some tokens → (d : ModuleData) × SaysPlainly tokens d
+said_plainly bytes tokens (m, readable, (ts, found, s)) is =
+    let same : tokens ≡ ts = cc in (
+      data_of m,
+      record { tree = s.tree; written = same ∙ s.written; each = s.each; says = narrow_file s.tree (data_of m) s.says readable.form readable.name },
+    )
 
 -- what is built of such a tree, with its parts numbered in order, is checked
 pub checked_of_said : (t : File) (m : Module) → SaysForm t → IsModule m → IsFileOf is_plain 64 t (data_of m) → IsNumbered (data_of m) → IsChecked m

@@ -1,6 +1,7 @@
 -- The definitions that clauses cite.
 pub mod Bodies
 pub mod Building
+pub mod Built
 pub mod Filling
 pub mod Meaning
 pub mod Numbered

@@ -2,21 +2,33 @@
 
 ghost use Rattle.std.specs.Prelude.{◌≡◌, Err, IfOk, OnOk};
 ghost use Rattle.llvm_core.specs.Checked.{IsChecked};
-ghost use Rattle.llvm_core.specs.Data.{data_of};
+ghost use Rattle.llvm_core.specs.Data.{ModuleData, data_of};
 ghost use Rattle.llvm_core.specs.Form.{IsForm};
 ghost use Rattle.llvm_core.specs.Names.{IsPlainOrNone};
 ghost use Rattle.llvm_core.specs.Sound.{IsModule};
+ghost use Rattle.ll_tree.specs.TokenView.{texts_of};
 ghost use Rattle.ll_tree.specs.declared.read_err.ReadErr.TheVariants as errors;
+ghost use Rattle.ll_text.specs.Built.{SaysPlainly};
 ghost use Rattle.ll_text.specs.Spelling.{Spells, IsSpelled, IsNumbered};
 
 use crate::builder::build_file;
 use ll_tree::read_err::ReadErr;
 use ll_tree::reader::read_tree;
-use ll_tree::tokens::tokens;
+use ll_tree::tokens::{Token, tokens};
 use llvm_core::check_err::CheckErr;
 use llvm_core::checking::check;
 use llvm_core::module::LLVMModule;
 use std::alloc::Global;
+
+/// The module that tokens say, which may break a rule.
+fn build_tokens(alloc: Global, tokens: &[Token<'_>]) -> Result<LLVMModule, ReadErr>
+    ensures says { IfOk result (λ m. SaysPlainly (texts_of tokens.now) (data_of m)) }
+    ensures numbered { IfOk result (λ m. IsNumbered (data_of m)) }
+    ensures not_yet { result ≡ Err errors.NotYet → (d : ModuleData) → ¬ SaysPlainly (texts_of tokens.now) d }
+{
+    let tree = read_tree(alloc, tokens)?;
+    build_file(alloc, &tree)
+}
 
 /// A module that breaks a rule is outside the form.
 fn check_built(m: &LLVMModule) -> Result<(), ReadErr>
@@ -44,8 +56,6 @@ pub fn read_ll(alloc: Global, bytes: &[u8]) -> Result<LLVMModule, ReadErr>
     ensures not_yet { result ≡ Err errors.NotYet → ¬ IsSpelled bytes.now }
 {
     let tokens = tokens(alloc, bytes)?;
-    let tree = read_tree(alloc, tokens.as_slice())?;
-    let built = build_file(alloc, &tree)?;
-    check_built(&built)?;
-    Ok(built)
+    let built = build_tokens(alloc, tokens.as_slice())?;
+    check_built(&built).and(Ok(built))
 }

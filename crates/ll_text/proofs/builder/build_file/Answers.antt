@@ -3,48 +3,41 @@ use Rattle.std.proofs.Common.{length, ap, sym, subst, []}
 use Rattle.llvm_core.specs.Module.{Module}
 use Rattle.llvm_core.specs.Names.{is_plain}
 use Rattle.ll_tree.specs.Text.{Text}
-use Rattle.ll_tree.specs.TreeView.{name_view, file_view}
-use Rattle.ll_text.specs.Meaning.{IsSource}
+use Rattle.ll_tree.specs.TreeView.{file_view}
+use Rattle.ll_tree.specs.declared.read_err.ReadErr.TheVariants.{NotYet}
+use Rattle.llvm_core.specs.Data.{data_of}
+use Rattle.ll_text.specs.Meaning.{IsSource, IsFileOf}
+use Rattle.ll_text.specs.Spelling.{IsNumbered}
 use Rattle.ll_text.specs.Bodies.{IsBuiltOf}
-use Rattle.ll_text.proofs.FileLaws.{none_built, built_more, all_built, file_said}
-use Rattle.ll_text.proofs.RefusalLaws.{passed_on}
-use Rattle.ll_text.proofs.UnsaidLaws.{unsaid_functions}
+use Rattle.ll_text.proofs.FileLaws.{none_built, file_said}
+use Rattle.ll_text.proofs.ResultLaws.{given, refused}
 use Rattle.ll_text.proofs.builder.build_file.Goals as goal
 
-pub loop-function-init : goal.loop-function-init
-loop-function-init c =
+pub add_functions-requires-clause-empty : goal.add_functions-requires-clause-empty
+add_functions-requires-clause-empty c =
     let e = c.in_ok-draft.ensures.stores in
-    record {
-      built = subst (λ (n : Text). IsBuiltOf n [] c.in_ok-draft.draft) (sym (ap (λ (m : Module). m.name) e)) (none_built _ _ e);
-      next = sym (ap (λ (m : Module). length m.insts) e);
-    }
+    subst (λ (n : Text). IsBuiltOf n [] c.in_ok-draft.draft) (sym (ap (λ (m : Module). m.name) e)) (none_built _ _ e)
 
-pub loop-function-preserved : goal.loop-function-preserved
-loop-function-preserved c =
-    let value = c.as_slice-function-items.ensures.value in
-    let i = c.loop-function.invariant in
-    record {
-      built = built_more _ c.args.file.now.functions.items c.loop-function.function-index c.function-item.result _ (rw value at c.loop-function-test.true) (rw value at c.function-item.is) (c.in_ok-next.ensures.adds _ _ i.built);
-      next = c.in_ok-next.ensures.behind;
-    }
+pub add_functions-requires-clause-insts : goal.add_functions-requires-clause-insts
+add_functions-requires-clause-insts c = sym (ap (λ (m : Module). length m.insts) c.in_ok-draft.ensures.stores)
 
 pub returns-clause-says : goal.returns-clause-says
 returns-clause-says c =
-    let value = c.as_slice-function-items.ensures.value in
+    let t = file_view c.args.file.now in
     let name = ap (λ (m : Module). m.name) c.in_ok-draft.ensures.stores in
-    file_said (file_view c.args.file.now) _ _ (subst (IsSource is_plain 64 (name_view c.args.file.now.source)) (sym name) c.in_ok-source_name.ensures.says)
-    (all_built _ c.args.file.now.functions.items _ _ (rw value at c.loop-function-test.false) c.loop-function.invariant.built)
+    let source = subst (IsSource is_plain 64 t.source) (sym name) c.in_ok-source_name.ensures.says in
+    let built = rw c.as_slice.ensures.value at c.add_functions.ensures.built in
+    let said = λ (b : IsBuiltOf c.in_ok-draft.draft.name t.functions c.add_functions.new.draft). file_said t c.in_ok-draft.draft.name c.add_functions.new.draft source b in
+    rw c.and.ensures (given c.add_functions.result c.add_functions.new.draft (λ m. IsFileOf is_plain 64 t (data_of m)) _ said built)
 
 pub returns-clause-numbered : goal.returns-clause-numbered
 returns-clause-numbered c =
-    let value = c.as_slice-function-items.ensures.value in
-    let all = all_built _ c.args.file.now.functions.items _ _ (rw value at c.loop-function-test.false) c.loop-function.invariant.built in
-    all.numbered
+    let t = file_view c.args.file.now in
+    let built = rw c.as_slice.ensures.value at c.add_functions.ensures.built in
+    let numbered = λ (b : IsBuiltOf c.in_ok-draft.draft.name t.functions c.add_functions.new.draft). b.numbered in
+    rw c.and.ensures (given c.add_functions.result c.add_functions.new.draft (λ m. IsNumbered (data_of m)) _ numbered built)
 
-pub returns-in_err-next-clause-not_yet : goal.returns-in_err-next-clause-not_yet
-returns-in_err-next-clause-not_yet c = λ e d h.
-    let x = c.in_err-next in
-    let r = c.from_residual-in_err-next in
-    let value = c.as_slice-function-items.ensures.value in
-    unsaid_functions c.args.file.now.functions.items d.functions c.loop-function.function-index c.function-item.result (rw value at c.loop-function-test.true) (rw value at c.function-item.is)
-    (x.ensures.not_yet (passed_on r.result x.field-0.0 r.ensures.1 e)) h.functions
+pub returns-clause-not_yet : goal.returns-clause-not_yet
+returns-clause-not_yet c = λ e d h.
+    let failed = refused c.add_functions.result c.add_functions.new.draft NotYet (rw c.and.ensures at e) in
+    rw c.as_slice.ensures.value at (c.add_functions.ensures.not_yet failed) d.functions h.functions
