@@ -79,7 +79,7 @@ kind_at ops o = option_map (λ (x : OpData). x.kind) (slice_get ops o.0)
 abbrev pub symbol_at : List OpData → OpRef → Option Symbol
 symbol_at ops o = option_and_then (λ (x : OpData). x.symbol) (slice_get ops o.0)
 
--- the operation is a function
+-- the operation has a type and a linkage, as a function has
 abbrev pub IsSymbol : List OpData → OpRef → Type 0
 IsSymbol ops o = (s : Symbol) × (symbol_at ops o ≡ Some s)
 
@@ -114,7 +114,7 @@ IsValueWithin n m (Argument b i) = b.0 < m
 abbrev pub IsSuccessorWithin : ℕ → ℕ → Successor → Type 0
 IsSuccessorWithin n m s = (s.block.0 < m) × All (IsValueWithin n m) s.args
 
--- the numbers in an operation are of operations below n and of blocks below m
+-- the numbers in an operation are of operations below n and of blocks below m, and just a function has a type and a linkage
 pub record IsOpWithin (n m : ℕ) (x : OpData) : Type 0 where
   pub operands : All (IsValueWithin n m) x.operands
   pub successors : All (IsSuccessorWithin n m) x.successors

@@ -9,8 +9,8 @@ use crate::numbers::ModuleOp;
 use crate::well_formed::well_formed;
 
 impl Context {
-    /// Whether a module is well-formed. This takes no memory, and so a square of the number of its functions, whose
-    /// names it compares in pairs.
+    /// Whether a module is well-formed. This takes no memory, so it compares the names of functions in pairs, in time
+    /// quadratic in their number.
     pub fn well_formed(&self, root: ModuleOp) -> bool
         requires root { root.0.0 < length self.now.ops }
         requires typed { IsTyped self.now }
