@@ -15,6 +15,10 @@ mapped_more f g cs c xs i d lt before here =
     let right = ap (map g) (take_more xs i d lt) ∙ map-append g (take i xs) (get_or xs i d ∷ []) in
     left ∙ ap (λ l. l ++ f c ∷ []) before ∙ ap (λ x. map g (take i xs) ++ x ∷ []) here ∙ sym right
 
+-- the same, where what is made is kept as it is
+pub listed_more : {A B : Type 0} (g : A → B) (bs : List B) (xs : List A) (i : ℕ) (d : A) → i < length xs → bs ≡ map g (take i xs) → bs ++ g (get_or xs i d) ∷ [] ≡ map g (take (i + 1) xs)
+listed_more g bs xs i d lt before = ap (λ l. l ++ g (get_or xs i d) ∷ []) before ∙ sym (ap (map g) (take_more xs i d lt) ∙ map-append g (take i xs) (get_or xs i d ∷ []))
+
 -- what items give, of one item more
 pub given_more : {A B : Type 0} (h : A → Option B) (bs : List B) (xs : List A) (i : ℕ) (d : A) → i < length xs → bs ≡ filter_map h (take i xs) → bs ++ cons_option (h (get_or xs i d)) [] ≡ filter_map h (take (i + 1) xs)
 given_more h bs xs i d lt before =

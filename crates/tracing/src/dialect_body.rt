@@ -2,6 +2,7 @@
 
 ghost use Rattle.std.specs.Prelude.{◌≡◌, ◌<◌, ◌++◌, List, All, IfOk, OnOk, length, map};
 ghost use Rattle.std.specs.List.{flat_map};
+ghost use Rattle.llvm_core.specs.Interned.{IsDistinctList};
 ghost use Rattle.dialect_core.specs.declared.ops.Value as values;
 ghost use Rattle.dialect_core.specs.Data.{DialectBlock, DialectOp};
 ghost use Rattle.meaning.specs.Dialect as dialect;
@@ -166,15 +167,16 @@ fn params(alloc: Global, ctx: &Context, list: &[BlockRef]) -> Result<Items<Items
     Ok(params)
 }
 
-/// The numbers of blocks.
-fn numbers(alloc: Global, list: &[BlockRef]) -> Result<Vec<u32>, AllocError>
-    ensures { IfOk result (λ ns. ns.items ≡ map (λ b. b.0) list.now) }
+/// The place of each of some blocks, which are each there once.
+fn block_places(alloc: Global, list: &[BlockRef]) -> Result<Places, AllocError>
+    requires { IsDistinctList (map (λ b. b.0) list.now) }
+    ensures { IfOk result (λ places. places ≡ map (λ b. b.0) list.now) }
 {
     let mut numbers = Vec::new(alloc);
     for b in list {
         numbers.push(b.0)?;
     }
-    Ok(numbers)
+    places_of(alloc, numbers.as_slice())
 }
 
 /// The body of a function of the form.
@@ -184,14 +186,14 @@ pub fn dialect_body(alloc: Global, ctx: &Context, f: FuncOp) -> Result<Body, All
     ensures start { IfOk result (λ body. (h : InContext ctx.now) → h.op ≡ f.0 → (v : values.Value) → start_of body.holder body.inputs (slot_of v) ≡ dialect.start h.function.blocks v) }
 {
     let list = ctx.op_blocks(f.0);
-    let numbers = numbers(alloc, list)?;
-    let places = places_of(alloc, numbers.as_slice())?;
 
     // A function of the form has a first block.
     let entry = list[0];
+    let inputs = arg_count(ctx, entry)?;
+    let places = block_places(alloc, list)?;
     Ok(Body {
         holder: entry.0,
-        inputs: arg_count(ctx, entry)?,
+        inputs,
         params: params(alloc, ctx, list)?,
         blocks: blocks(alloc, ctx, &places, list)?,
     })

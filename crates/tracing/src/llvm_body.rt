@@ -62,14 +62,10 @@ fn push_edges(
     ensures { OnOk result (edges.new ≡ edges.old ++ map (edge_to index.now from) (leads_to inst.now)) }
 {
     match inst {
-        LLVMInst::Br(target) => {
-            edges.push(edge(alloc, index, from, *target)?)?;
-            Ok(())
-        }
+        LLVMInst::Br(target) => edges.push(edge(alloc, index, from, *target)?),
         LLVMInst::CondBr(_, yes, no) => {
             edges.push(edge(alloc, index, from, *yes)?)?;
-            edges.push(edge(alloc, index, from, *no)?)?;
-            Ok(())
+            edges.push(edge(alloc, index, from, *no)?)
         }
         _ => Ok(()),
     }
@@ -178,10 +174,11 @@ pub fn llvm_body(alloc: Global, m: &LLVMModule, f: LLVMFunction) -> Result<Body,
     ensures code { IfOk result (λ body. (h : InForm m.now) → h.number ≡ f.0 → code_of body.params body.blocks ≡ renamed_code slot_of (map (llvm.block (data_of m.now) (data_in m.now h)) (data_in m.now h).blocks)) }
     ensures start { IfOk result (λ body. (h : InForm m.now) → h.number ≡ f.0 → (k : llvm.Key) → start_of body.holder body.inputs (slot_of k) ≡ llvm.start (data_in m.now h) k) }
 {
+    let inputs = inputs(m, f)?;
     let index = index_of(alloc, m, f)?;
     Ok(Body {
         holder: f.0,
-        inputs: inputs(m, f)?,
+        inputs,
         params: params(alloc, &index)?,
         blocks: blocks(alloc, m, &index, f)?,
     })

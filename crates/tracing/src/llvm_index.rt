@@ -3,6 +3,7 @@
 ghost use Rattle.std.specs.Prelude.{◌≡◌, ◌<◌, ◌++◌, ◌∷◌, [], ℕ, List, All, IfOk, OnOk, None, Some, if◌then◌else◌, filter, length, map, nat_eq};
 ghost use Rattle.std.specs.Option.{option_map};
 ghost use Rattle.indexmap.specs.IndexMap.{get};
+ghost use Rattle.llvm_core.specs.Interned.{IsDistinctList};
 ghost use Rattle.llvm_core.specs.Sound.{IsModule};
 ghost use Rattle.llvm_core.specs.Parts.{IsEntry};
 ghost use Rattle.llvm_core.specs.Data.{Placed, entry_of, trees_of, data_of};
@@ -87,8 +88,7 @@ fn push_phi(
             phis.push(Phi {
                 slot: Slot::Result(i.0),
                 incoming,
-            })?;
-            Ok(())
+            })
         }
         _ => Ok(()),
     }
@@ -119,15 +119,16 @@ fn all_phis(alloc: Global, m: &LLVMModule, f: LLVMFunction) -> Result<Items<Item
     Ok(all)
 }
 
-/// The numbers of the blocks of a function.
-fn numbers(alloc: Global, blocks: &[LLVMBasicBlock]) -> Result<Vec<u32>, AllocError>
-    ensures { IfOk result (λ ns. ns.items ≡ map (λ b. b.0) blocks.now) }
+/// The place of each of some blocks, which are each there once.
+fn block_places(alloc: Global, blocks: &[LLVMBasicBlock]) -> Result<Places, AllocError>
+    requires { IsDistinctList (map (λ b. b.0) blocks.now) }
+    ensures { IfOk result (λ places. places ≡ map (λ b. b.0) blocks.now) }
 {
     let mut numbers = Vec::new(alloc);
     for b in blocks {
         numbers.push(b.0)?;
     }
-    Ok(numbers)
+    places_of(alloc, numbers.as_slice())
 }
 
 /// The index of a function.
@@ -135,9 +136,8 @@ pub fn index_of(alloc: Global, m: &LLVMModule, f: LLVMFunction) -> Result<Index,
     requires { (h : InForm m.now) × (h.number ≡ f.0) }
     ensures { IfOk result (λ index. (h : InForm m.now) → h.number ≡ f.0 → IsIndexOf m.now h index) }
 {
-    let numbers = numbers(alloc, m.blocks(f))?;
     Ok(Index {
-        places: places_of(alloc, numbers.as_slice())?,
+        places: block_places(alloc, m.blocks(f))?,
         phis: all_phis(alloc, m, f)?,
     })
 }

@@ -116,14 +116,13 @@ fn values(alloc: Global, inst: &LLVMInst) -> Result<Vec<LLVMValue>, AllocError>
     requires { is_phi inst.now ≡ false }
     ensures { IfOk result (λ vs. vs.items ≡ operands inst.now) }
 {
-    let values = match inst {
-        LLVMInst::Add(lhs, rhs, _) => Vec::from_slice(alloc, &[*lhs, *rhs])?,
-        LLVMInst::ICmp(lhs, rhs, _) => Vec::from_slice(alloc, &[*lhs, *rhs])?,
-        LLVMInst::CondBr(condition, _, _) => Vec::from_slice(alloc, &[*condition])?,
-        LLVMInst::Ret(Some(value)) => Vec::from_slice(alloc, &[*value])?,
-        _ => Vec::new(alloc),
-    };
-    Ok(values)
+    match inst {
+        LLVMInst::Add(lhs, rhs, _) => Vec::from_slice(alloc, &[*lhs, *rhs]),
+        LLVMInst::ICmp(lhs, rhs, _) => Vec::from_slice(alloc, &[*lhs, *rhs]),
+        LLVMInst::CondBr(condition, _, _) => Vec::from_slice(alloc, &[*condition]),
+        LLVMInst::Ret(Some(value)) => Vec::from_slice(alloc, &[*value]),
+        _ => Ok(Vec::new(alloc)),
+    }
 }
 
 pub fn is_phi(inst: &LLVMInst) -> bool
@@ -197,8 +196,7 @@ fn push_row(
     rows.push(Row {
         action,
         result: Slot::Result(i.0),
-    })?;
-    Ok(())
+    })
 }
 
 /// The rows of the instructions of a block.

@@ -37,8 +37,7 @@ fn intern(run: &mut Run, node: TermNode) -> Result<u32, AllocError>
     ensures named { IfOk result (λ k. Names run.new.table k (node_term (table.terms run.old.table) node)) }
     ensures kept { OnOk result (Keeps run.old.table run.new.table) }
 {
-    let place = run.table.intern(node)?;
-    Ok(place)
+    run.table.intern(node)
 }
 
 /// Gives a value the term at a place.
@@ -67,10 +66,7 @@ fn read_slot(run: &mut Run, slot: Slot) -> Result<u32, AllocError>
     let found = run.env.get(&slot).copied();
     match found {
         Some(place) => Ok(place),
-        None => {
-            let place = intern(run, TermNode::Unset)?;
-            Ok(place)
-        }
+        None => intern(run, TermNode::Unset),
     }
 }
 
@@ -80,18 +76,9 @@ fn read(run: &mut Run, source: Source) -> Result<u32, AllocError>
     ensures kept { OnOk result (Keeps run.old.table run.new.table) }
 {
     match source {
-        Source::At(slot) => {
-            let place = read_slot(run, slot)?;
-            Ok(place)
-        }
-        Source::Int(width, value) => {
-            let place = intern(run, TermNode::Int(width, value))?;
-            Ok(place)
-        }
-        Source::Unset => {
-            let place = intern(run, TermNode::Unset)?;
-            Ok(place)
-        }
+        Source::At(slot) => read_slot(run, slot),
+        Source::Int(width, value) => intern(run, TermNode::Int(width, value)),
+        Source::Unset => intern(run, TermNode::Unset),
     }
 }
 
@@ -114,8 +101,7 @@ fn hold(run: &mut Run, slot: Slot, width: u32, value: u128) -> Result<(), AllocE
     ensures { OnOk result ((s : State Slot) → IsAt run.old s → IsAt run.new (machine.set_in Slot same_slot s slot (terms.Int width value))) }
 {
     let place = intern(run, TermNode::Int(width, value))?;
-    set(run, slot, place)?;
-    Ok(())
+    set(run, slot, place)
 }
 
 /// A value is the expression of a silent kind.
@@ -137,8 +123,7 @@ fn build(
         operands: Items::from_vec(places),
     };
     let place = intern(run, node)?;
-    set(run, slot, place)?;
-    Ok(())
+    set(run, slot, place)
 }
 
 fn copy_imms(alloc: Global, imms: &Imms) -> Result<Imms, AllocError>
@@ -200,10 +185,7 @@ fn apply(run: &mut Run, row: &Row) -> Result<(), AllocError>
     ensures { OnOk result ((s : State Slot) → IsAt run.old s → IsAt run.new (machine.apply Slot same_slot s row.now.result (action_of row.now.action))) }
 {
     match &row.action {
-        Action::Holds(width, value) => {
-            hold(run, row.result, *width, *value)?;
-            Ok(())
-        }
+        Action::Holds(width, value) => hold(run, row.result, *width, *value),
         Action::Applies {
             opcode,
             imms,
@@ -211,11 +193,9 @@ fn apply(run: &mut Run, row: &Row) -> Result<(), AllocError>
         } => {
             let places = read_all(run, operands.as_slice())?;
             if is_silent(*opcode) {
-                build(run, row.result, *opcode, imms, places)?;
-                Ok(())
+                build(run, row.result, *opcode, imms, places)
             } else {
-                show(run, row.result, *opcode, imms, places)?;
-                Ok(())
+                show(run, row.result, *opcode, imms, places)
             }
         }
     }
@@ -248,14 +228,8 @@ fn read_given(run: &mut Run, source: Option<Source>) -> Result<u32, AllocError>
     ensures kept { OnOk result (Keeps run.old.table run.new.table) }
 {
     match source {
-        Some(source) => {
-            let place = read(run, source)?;
-            Ok(place)
-        }
-        None => {
-            let place = intern(run, TermNode::Unset)?;
-            Ok(place)
-        }
+        Some(source) => read(run, source),
+        None => intern(run, TermNode::Unset),
     }
 }
 
@@ -292,8 +266,7 @@ fn move_all(run: &mut Run, params: &[Slot], sources: &[Option<Source>]) -> Resul
     ensures { OnOk result ((s : State Slot) → IsAt run.old s → IsAt run.new (machine.move Slot same_slot s (moves_from 0 params.now sources.now))) }
 {
     let places = read_moves(run, params, sources)?;
-    set_all(run, params, places.as_slice())?;
-    Ok(())
+    set_all(run, params, places.as_slice())
 }
 
 /// Enters a block and runs it to its end.
@@ -303,8 +276,7 @@ fn arrive(run: &mut Run, to: u32, rows: &[Row]) -> Result<(), AllocError>
 {
     run.block = to;
     note(run, TraceItem::Block(to))?;
-    straight(run, rows)?;
-    Ok(())
+    straight(run, rows)
 }
 
 /// Takes an edge to a block, given the phis or arguments there.
@@ -314,8 +286,7 @@ fn follow(run: &mut Run, edge: &Edge, params: &[Slot], target: &Block) -> Result
         → IsAt run.new (machine.arrive Slot same_slot (machine.move Slot same_slot s (moves_from 0 params.now edge.now.sources)) edge.now.to (map row_of target.now.rows))) }
 {
     move_all(run, params, edge.sources.as_slice())?;
-    arrive(run, edge.to, target.rows.as_slice())?;
-    Ok(())
+    arrive(run, edge.to, target.rows.as_slice())
 }
 
 /// The phis or arguments of the block at a place.
@@ -360,6 +331,18 @@ fn run_on(run: &mut Run, body: &Body, choices: &[u32]) -> Result<(), AllocError>
     Ok(())
 }
 
+/// Sets the parameters of a run that has none so far.
+fn set_inputs(run: &mut Run, holder: u32, inputs: u32) -> Result<(), AllocError>
+    requires { IsAt run.old (machine.begin Slot same_slot (start_of holder 0)) }
+    ensures { OnOk result (IsAt run.new (machine.begin Slot same_slot (start_of holder inputs))) }
+{
+    for place in 0..inputs {
+        let term = intern(run, TermNode::Param(place))?;
+        set(run, Slot::Input(holder, place), term)?;
+    }
+    Ok(())
+}
+
 /// A run before its first block, with its parameters set.
 fn begin(alloc: Global, holder: u32, inputs: u32) -> Result<Run, AllocError>
     ensures { IfOk result (λ run. IsAt run (machine.begin Slot same_slot (start_of holder inputs))) }
@@ -372,11 +355,7 @@ fn begin(alloc: Global, holder: u32, inputs: u32) -> Result<Run, AllocError>
         count: 0,
         items: Vec::new(alloc),
     };
-    for place in 0..inputs {
-        let term = intern(&mut run, TermNode::Param(place))?;
-        set(&mut run, Slot::Input(holder, place), term)?;
-    }
-    Ok(run)
+    set_inputs(&mut run, holder, inputs).and(Ok(run))
 }
 
 /// A run that is at the end of the first block.
@@ -385,10 +364,7 @@ fn first(alloc: Global, body: &Body) -> Result<Run, AllocError>
 {
     let mut run = begin(alloc, body.holder, body.inputs)?;
     match body.blocks.as_slice().first() {
-        Some(block) => {
-            arrive(&mut run, 0, block.rows.as_slice())?;
-            Ok(run)
-        }
+        Some(block) => arrive(&mut run, 0, block.rows.as_slice()).and(Ok(run)),
         None => Ok(run),
     }
 }

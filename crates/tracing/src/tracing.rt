@@ -40,8 +40,7 @@ pub fn trace_of_llvm(
     // This tells the proof what is true of every module.
     let _count = module.functions();
     let body = llvm_body(alloc, module, f)?;
-    let trace = trace_body(alloc, &body, choices)?;
-    Ok(trace)
+    trace_body(alloc, &body, choices)
 }
 
 /// The trace of a function of a dialect module, which is of the form. Each term of the table stands once, behind its
@@ -60,6 +59,5 @@ pub fn trace_of_dialect(
     ensures parts { IfOk result (λ t. IsGrounded t.terms) }
 {
     let body = dialect_body(alloc, ctx, f)?;
-    let trace = trace_body(alloc, &body, choices)?;
-    Ok(trace)
+    trace_body(alloc, &body, choices)
 }

@@ -4,13 +4,13 @@ use Rattle.llvm_core.specs.Interned.{IsDistinctList}
 use Rattle.tracing.proofs.DialectBlockLaws.{blocks_are, numbers_are, numbers_apart, start_is, some_ref}
 use Rattle.tracing.proofs.dialect_body.dialect_body.Goals as goal
 
-pub places_of-requires : goal.places_of-requires
-places_of-requires c =
+pub block_places-requires : goal.block_places-requires
+block_places-requires c =
     let x = c.args.ctx.now in
     let h = c.requires.0 in
     let list = c.op_blocks-list.result.now in
     let all = blocks_are x h c.args.f.0 list c.requires.1 c.op_blocks-list.ensures.blocks c.op_blocks-list.ensures.within in
-    subst IsDistinctList (sym (c.as_slice.ensures.value ∙ c.in_ok-numbers.ensures ∙ numbers_are x h list all)) (numbers_apart x h)
+    subst IsDistinctList (sym (numbers_are x h list all)) (numbers_apart x h)
 
 pub blocks-requires-clause-blocks : goal.blocks-requires-clause-blocks
 blocks-requires-clause-blocks c =
@@ -21,7 +21,7 @@ returns-clause-code c = λ h is.
     let x = c.args.ctx.now in
     let list = c.op_blocks-list.result.now in
     let all = blocks_are x h c.args.f.0 list is c.op_blocks-list.ensures.blocks c.op_blocks-list.ensures.within in
-    let numbers = c.in_ok-places.ensures ∙ c.as_slice.ensures.value ∙ c.in_ok-numbers.ensures ∙ numbers_are x h list all in
+    let numbers = c.in_ok-places.ensures ∙ numbers_are x h list all in
     let params = c.in_ok-params.ensures h all in
     rw params (c.in_ok-blocks.ensures h all numbers)
 
@@ -30,4 +30,4 @@ returns-clause-start c = λ h is.
     let x = c.args.ctx.now in
     let list = c.op_blocks-list.result.now in
     let all = blocks_are x h c.args.f.0 list is c.op_blocks-list.ensures.blocks c.op_blocks-list.ensures.within in
-    start_is x h list some_ref c.in_ok-arg_count.field-0 all (λ y at. c.in_ok-arg_count.ensures h y at)
+    start_is x h list some_ref c.in_ok-inputs.inputs all (λ y at. c.in_ok-inputs.ensures h y at)

@@ -1,5 +1,6 @@
 -- What `llvm_index::push_phi` owes besides what the check finds.
 use Rattle.std.proofs.Common.{refl, ap, ◌∙◌}
+use Rattle.std.proofs.lemmas.Result.{on_ok_weaker}
 use Rattle.llvm_core.specs.Data.{trees_of, instruction_of}
 use Rattle.llvm_core.specs.Parts.{is_phi}
 use Rattle.tracing.proofs.LlvmLaws.{kept_at, kept_inst, kept_phi}
@@ -12,12 +13,15 @@ returns-in_default c = λ h b p at xs before.
     let e = kept_inst m c.args.i p c.inst.result.now (kept_at m h b c.args.i p at) c.inst.ensures.inst in
     no_more m c.args.phis.now xs p (kept_phi m p c.inst.result.now e ∙ not_phi c.inst.result.now c.in_default.not-Phi) before
 
-pub returns-in_ok-push-in-Phi : goal.returns-in_ok-push-in-Phi
-returns-in_ok-push-in-Phi c = λ h b p at xs before.
+pub returns-in_ok-incoming-in-Phi : goal.returns-in_ok-incoming-in-Phi
+returns-in_ok-incoming-in-Phi c =
+    on_ok_weaker c.push.result
+    (λ ok h b p at xs before.
     let m = c.args.m.now in
     let e = kept_inst m c.args.i p c.inst.result.now (kept_at m h b c.args.i p at) c.inst.ensures.inst in
     let phi = ap (instruction_of (trees_of m)) c.in-Phi.is in
     let some = kept_phi m p c.inst.result.now e ∙ ap is_phi c.in-Phi.is in
     let taken = rw c.as_slice.ensures at c.in_ok-incoming-in-Phi.ensures in
-    rw c.in_ok-push-in-Phi.ensures.ok
-    (one_more m c.args.phis.now xs _ p some (is_phi_of m h b c.args.i p c.in-Phi.field-0 c.in-Phi.entries _ at (e ∙ phi) refl taken) before)
+    rw ok
+    (one_more m c.args.phis.now xs _ p some (is_phi_of m h b c.args.i p c.in-Phi.field-0 c.in-Phi.entries _ at (e ∙ phi) refl taken) before))
+    c.push.ensures.ok

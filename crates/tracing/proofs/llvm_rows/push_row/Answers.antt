@@ -2,6 +2,7 @@
 use Rattle.std.proofs.Common.{sym, ap, ◌∙◌, ◌++◌, ◌∷◌, [], map, Option}
 use Rattle.std.specs.List.{cons_option}
 use Rattle.std.proofs.lemmas.List.{map-append}
+use Rattle.std.proofs.lemmas.Result.{on_ok_weaker}
 use Rattle.meaning.specs.Machine as M
 use Rattle.tracing.specs.declared.body.Slot.{Slot}
 use Rattle.tracing.specs.Bodies.{row_of}
@@ -19,9 +20,12 @@ action-requires c =
     (h, b, p, at, kept_phi m p c.inst.result.now e ∙ sym c.is_phi.ensures ∙ c.if-is_phi.false)
 
 pub returns : goal.returns
-returns c = λ h b p at.
+returns c =
+    on_ok_weaker c.push.result
+    (λ ok h b p at.
     let m = c.args.m.now in
     let e = kept_inst m c.args.i p c.inst.result.now (kept_at m h b c.args.i p at) c.inst.ensures.inst in
     let no_phi = kept_phi m p c.inst.result.now e ∙ sym c.is_phi.ensures ∙ c.if-is_phi.false in
     let row = row_is m h b c.args.i p c.in_ok-action.action at no_phi (c.in_ok-action.ensures h b p at) in
-    ap (map row_of) c.in_ok-push.ensures.ok ∙ map-append row_of c.args.rows.now (_ ∷ []) ∙ ap (λ (o : Option (M.Row Slot)). map row_of c.args.rows.now ++ cons_option o []) (sym row)
+    ap (map row_of) ok ∙ map-append row_of c.args.rows.now (_ ∷ []) ∙ ap (λ (o : Option (M.Row Slot)). map row_of c.args.rows.now ++ cons_option o []) (sym row))
+    c.push.ensures.ok

@@ -1,5 +1,6 @@
 -- What `run::arrive` owes besides what the check finds.
 use Rattle.std.proofs.Common.{refl}
+use Rattle.std.proofs.lemmas.Result.{on_ok_weaker}
 use Rattle.meaning.specs.Machine as M
 use Rattle.meaning.specs.Machine.{State}
 use Rattle.tracing.proofs.run.arrive.Goals as goal
@@ -10,4 +11,7 @@ straight-requires c =
     (_, c.in_ok-note.ensures.at (record c.requires.0 { block = c.args.to }) (M.Entered c.args.to) (record { block = refl; count = h.count; env = h.env; shown = h.shown }) refl)
 
 pub returns : goal.returns
-returns c = λ s h. c.in_ok-straight.ensures _ (c.in_ok-note.ensures.at (record s { block = c.args.to }) (M.Entered c.args.to) (record { block = refl; count = h.count; env = h.env; shown = h.shown }) refl)
+returns c =
+    on_ok_weaker c.straight.result
+    (λ f s h. f _ (c.in_ok-note.ensures.at (record s { block = c.args.to }) (M.Entered c.args.to) (record { block = refl; count = h.count; env = h.env; shown = h.shown }) refl))
+    c.straight.ensures

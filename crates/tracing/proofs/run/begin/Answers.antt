@@ -1,12 +1,10 @@
 -- What `run::begin` owes besides what the check finds.
-use Rattle.std.proofs.Common.{refl}
-use Rattle.meaning.specs.Terms.{Param}
-use Rattle.tracing.proofs.RunLaws.{at_alike}
-use Rattle.tracing.proofs.MoveLaws.{start_step}
+use Rattle.meaning.specs.Machine as M
+use Rattle.tracing.specs.declared.body.Slot.{Slot}
+use Rattle.tracing.specs.Bodies.{same_slot, start_of}
+use Rattle.tracing.specs.Runs.{IsAt}
+use Rattle.tracing.proofs.RunLaws.{handed_on}
 use Rattle.tracing.proofs.run.begin.Goals as goal
 
-pub loop-place-preserved : goal.loop-place-preserved
-loop-place-preserved c = record {
-  at = at_alike c.set.new.run _ _ refl (start_step c.args.holder c.loop-place.place) refl refl
-      (c.in_ok-set.ensures.at _ (Param c.loop-place.place) (c.in_ok-term.ensures.at _ c.loop-place.invariant.at) c.in_ok-term.ensures.named);
-}
+pub returns : goal.returns
+returns c = rw c.and.ensures (handed_on c.set_inputs.result c.set_inputs.new.run (λ r. IsAt r (M.begin Slot same_slot (start_of c.args.holder c.args.inputs))) _ (λ at. at) c.set_inputs.ensures)

@@ -1,5 +1,6 @@
 -- What `run::build` owes besides what the check finds.
 use Rattle.std.proofs.Common.{subst, List}
+use Rattle.std.proofs.lemmas.Result.{on_ok_weaker}
 use Rattle.meaning.specs.Terms.{Term, Expr, terms_of}
 use Rattle.tracing.specs.Table.{opcode_of, immediates_of, tree_of}
 use Rattle.tracing.specs.Runs.{Names}
@@ -7,8 +8,11 @@ use Rattle.tracing.proofs.RunLaws.{named_terms}
 use Rattle.tracing.proofs.run.build.Goals as goal
 
 pub returns : goal.returns
-returns c = λ s ts h named.
+returns c =
     let expr = λ (us : List Term). Expr (opcode_of c.args.opcode) (immediates_of c.args.imms.now.immediates) (tree_of c.args.imms.now.ty) (terms_of us) in
     let at = rw c.from_vec.ensures at c.in_ok-place.ensures.named in
-    c.in_ok-set.ensures.at s (expr ts) (c.in_ok-place.ensures.at s h)
-    (subst (λ (us : List Term). Names c.intern.new.run.table c.in_ok-place.place (expr us)) (named_terms c.args.run.now.table c.args.places.items ts named) at)
+    on_ok_weaker c.set.result
+    (λ f s ts h named.
+    f s (expr ts) (c.in_ok-place.ensures.at s h)
+    (subst (λ (us : List Term). Names c.intern.new.run.table c.in_ok-place.place (expr us)) (named_terms c.args.run.now.table c.args.places.items ts named) at))
+    c.set.ensures.at

@@ -1,5 +1,6 @@
 -- What `tracing::trace_of_llvm` owes besides what the check finds.
 use Rattle.std.proofs.Common.{refl}
+use Rattle.std.proofs.lemmas.Result.{IfOk-weaker}
 use Rattle.tracing.proofs.TraceLaws.{in_form, llvm_trace}
 use Rattle.tracing.proofs.tracing.trace_of_llvm.Goals as goal
 
@@ -7,7 +8,7 @@ pub llvm_body-requires : goal.llvm_body-requires
 llvm_body-requires c = (in_form c.args.«module».now c.args.f.0 c.functions-count.ensures.sound c.requires.form c.requires.function, refl)
 
 pub returns-clause-exact : goal.returns-clause-exact
-returns-clause-exact c = λ x at.
+returns-clause-exact c =
     let m = c.args.«module».now in
     let h = in_form m c.args.f.0 c.functions-count.ensures.sound c.requires.form c.requires.function in
-    llvm_trace m h x c.args.choices.now _ _ _ at c.in_ok-trace.ensures.exact (c.in_ok-body.ensures.code h refl) (c.in_ok-body.ensures.start h refl)
+    IfOk-weaker c.trace_body.result _ _ (λ t exact x at. llvm_trace m h x c.args.choices.now _ _ _ at exact (c.in_ok-body.ensures.code h refl) (c.in_ok-body.ensures.start h refl)) c.trace_body.ensures.exact

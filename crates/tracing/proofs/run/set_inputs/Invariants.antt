@@ -1,9 +1,9 @@
--- What holds in the loop of `run::begin`.
+-- What holds in the loop of `run::set_inputs`.
 use Rattle.meaning.specs.Machine as M
 use Rattle.tracing.specs.declared.body.Slot.{Slot}
 use Rattle.tracing.specs.Bodies.{same_slot, start_of}
 use Rattle.tracing.specs.Runs.{IsAt}
-use Rattle.tracing.proofs.run.begin.Given as goal
+use Rattle.tracing.proofs.run.set_inputs.Given as goal
 
 abbrev pub invariant-loop-place : goal.invariant-loop-place
 invariant-loop-place l = record { at : IsAt l.run (M.begin Slot same_slot (start_of l.holder l.place)) }
