@@ -1,8 +1,9 @@
 //! What `round` makes of a text.
 
-ghost use Rattle.std.specs.Prelude.{◌≡◌, IfOk, IfErr};
+ghost use Rattle.std.specs.Prelude.{◌≡◌, ℕ, List, IfOk, IfErr};
 ghost use Rattle.llvm_core.specs.Sound.{IsModule};
 ghost use Rattle.llvm_core.specs.Data.{data_of, AreApart};
+ghost use Rattle.ll_text.specs.Spelling.{IsNumbered, IsReadable, Spells};
 ghost use Rattle.round_ll.specs.Headline.{IsOutput, Rounds};
 ghost use Rattle.round_ll.specs.Rounding.{IsPrintable, TextCause};
 
@@ -50,18 +51,7 @@ fn print_output(
     Ok(text)
 }
 
-/// The modules, in a box, and the text.
-fn pack(alloc: Global, transferred: Transferred, text: Vec<u8>) -> Result<Output, AllocError>
-    ensures modules { IfOk result (λ o. o.transferred.value ≡ transferred) }
-    ensures text { IfOk result (λ o. o.text.items ≡ text.items) }
-{
-    match Box::new(alloc, transferred) {
-        Ok(transferred) => Ok(Output { transferred, text }),
-        Err(_) => Err(AllocError),
-    }
-}
-
-/// The modules with the whole output.
+/// The modules, in a box, with the whole output.
 fn output_of(
     alloc: Global,
     source: &LLVMModule,
@@ -71,8 +61,22 @@ fn output_of(
     ensures modules { IfOk result (λ o. o.transferred.value ≡ transferred) }
     ensures text { IfOk result (λ o. IsOutput (data_of source.now) transferred o.text.items) }
 {
+    let transferred = Box::new(alloc, transferred)?;
     let text = print_output(alloc, source, &transferred)?;
-    let output = pack(alloc, transferred, text)?;
+    Ok(Output { transferred, text })
+}
+
+/// The modules and the whole output for a module that was read, whatever the text that spells it.
+fn round_module(alloc: Global, source: &LLVMModule) -> Result<Output, Stopped>
+    requires readable { IsReadable source.now }
+    requires numbered { IsNumbered (data_of source.now) }
+    ensures rounds { (text : List ℕ) → Spells text (data_of source.now)
+        → IfOk result (λ o. Rounds text o.transferred.value o.text.items) }
+    ensures cause { (text : List ℕ) → Spells text (data_of source.now) → IfErr result (TextCause text) }
+{
+    let transferred = transfer(alloc, source)?;
+    know_sound(&transferred.back);
+    let output = output_of(alloc, source, transferred)?;
     Ok(output)
 }
 
@@ -83,9 +87,5 @@ pub fn round_text(alloc: Global, bytes: &[u8]) -> Result<Output, Stopped>
     ensures cause { IfErr result (TextCause bytes.now) }
 {
     let source = read_ll(alloc, bytes)?;
-    know_sound(&source);
-    let transferred = transfer(alloc, &source)?;
-    know_sound(&transferred.back);
-    let output = output_of(alloc, &source, transferred)?;
-    Ok(output)
+    round_module(alloc, &source)
 }
