@@ -12,7 +12,7 @@ use Rattle.dialect_core.proofs.LineLemmas.{all_at, at_all}
 
 -- ---- types
 
-short_integer : (t : TypeTree) → IsShortInt t → IsInteger t
+pub short_integer : (t : TypeTree) → IsShortInt t → IsInteger t
 short_integer VoidType h = absurd h
 short_integer (IntegerType w) h = (h.0, omega (arith, h.1))
 short_integer (FuncType r ps v) h = absurd h

@@ -16,3 +16,4 @@ pub mod ShapeExample
 pub mod WovenExample
 pub mod MixedExample
 pub mod EntryLaws
+pub mod OwnValueLaws

@@ -12,6 +12,7 @@ use Rattle.dialect_core.specs.declared.linkage.LinkageAttr.TheVariants as K
 use Rattle.dialect_core.specs.declared.predicates.ICmpPredicateAttr.{ICmpPredicateAttr}
 use Rattle.dialect_core.specs.declared.predicates.ICmpPredicateAttr.TheVariants as P
 use Rattle.dialect_core.specs.Data.{DialectModule, Func, DialectBlock, DialectOp, Kind, ConstantOp, AddOp, ICmpOp, BrOp, CondBrOp, ReturnOp, UnreachableOp, value_type}
+use Rattle.dialect_core.specs.WellFormed.{Typing}
 use Rattle.llvm_core.specs.declared.code.LLVMIntPredicate.{LLVMIntPredicate}
 use Rattle.llvm_core.specs.declared.code.LLVMIntPredicate.TheVariants as I
 use Rattle.llvm_core.specs.Data as L
@@ -62,22 +63,34 @@ predicate_of P.SGE = I.LLVMIntSGE
 predicate_of P.SLT = I.LLVMIntSLT
 predicate_of P.SLE = I.LLVMIntSLE
 
--- the opcode and the immediates, applied to the operands
-abbrev pub applies : Func → DialectOp → Opcode → List Immediate → Action Value
-applies f o opcode immediates = Applies opcode immediates (option_type o.result) (map (λ (v : Value). option_type (value_type f v)) o.operands) (map At o.operands)
+-- The types of the operands of an operation are those of a typing: of a context, which gives each value its type, whichever
+-- function it belongs to (`type_in`), or of a function, whose values are its own (`value_type`).
+module _ (types : Typing) where
+  -- the opcode and the immediates, applied to the operands
+  abbrev pub typed_applies : DialectOp → Opcode → List Immediate → Action Value
+  typed_applies o opcode immediates = Applies opcode immediates (option_type o.result) (map (λ (v : Value). option_type (types v)) o.operands) (map At o.operands)
 
--- a constant operation holds the term of its constant; any other applies its kind to its operands
+  -- a constant operation holds the term of its constant; any other applies its kind to its operands
+  abbrev pub typed_action : DialectOp → Kind → Action Value
+  typed_action o (ConstantOp value) = Holds (attr_term value)
+  typed_action o (AddOp flags) = typed_applies o Add (overflow_immediates flags.nsw flags.nuw)
+  typed_action o (ICmpOp predicate) = typed_applies o ICmp (Predicate (predicate_of predicate) ∷ [])
+  typed_action o BrOp = typed_applies o Br []
+  typed_action o CondBrOp = typed_applies o CondBr []
+  typed_action o ReturnOp = typed_applies o Ret []
+  typed_action o UnreachableOp = typed_applies o Unreachable []
+
+  abbrev pub typed_row : DialectOp → Row Value
+  typed_row o = record { action = typed_action o o.kind; result = Result (record { 0 = o.number }) }
+
+abbrev pub applies : Func → DialectOp → Opcode → List Immediate → Action Value
+applies f o opcode immediates = typed_applies (value_type f) o opcode immediates
+
 abbrev pub action : Func → DialectOp → Kind → Action Value
-action f o (ConstantOp value) = Holds (attr_term value)
-action f o (AddOp flags) = applies f o Add (overflow_immediates flags.nsw flags.nuw)
-action f o (ICmpOp predicate) = applies f o ICmp (Predicate (predicate_of predicate) ∷ [])
-action f o BrOp = applies f o Br []
-action f o CondBrOp = applies f o CondBr []
-action f o ReturnOp = applies f o Ret []
-action f o UnreachableOp = applies f o Unreachable []
+action f o k = typed_action (value_type f) o k
 
 abbrev pub row : Func → DialectOp → Row Value
-row f o = record { action = action f o o.kind; result = Result (record { 0 = o.number }) }
+row f o = typed_row (value_type f) o
 
 -- an argument takes the edge's value at its place, and nothing where the edge has none
 abbrev pub argument_moves : BlockRef → ℕ → ℕ → List Value → List (Value × Option (Operand Value))
@@ -95,11 +108,14 @@ edge f s = record {
   moves = option_map_or (λ (b : DialectBlock). argument_moves s.block 0 (length b.args) s.args) (find (λ (b : DialectBlock). nat_eq b.number s.block.0) f.blocks) [];
 }
 
-abbrev pub block : Func → DialectBlock → Block Value
-block f b = record {
-  rows = map (row f) b.ops;
+abbrev pub typed_block : Typing → Func → DialectBlock → Block Value
+typed_block types f b = record {
+  rows = map (typed_row types) b.ops;
   edges = map (edge f) (flat_map (λ (o : DialectOp). o.successors) b.ops);
 }
+
+abbrev pub block : Func → DialectBlock → Block Value
+block f b = typed_block (value_type f) f b
 
 -- ---- the code of a module
 
@@ -109,11 +125,14 @@ start [] v = Unset
 start (b ∷ bs) (Result r) = Unset
 start (b ∷ bs) (Argument c i) = if nat_eq c.0 b.number && nat_lt i (length b.args) then Param i else Unset
 
-abbrev pub body : Func → Body
-body f = record {
+abbrev pub typed_body : Typing → Func → Body
+typed_body types f = record {
   blocks = length f.blocks;
-  trace = trace Value same_value (start f.blocks) (map (block f) f.blocks);
+  trace = trace Value same_value (start f.blocks) (map (typed_block types f) f.blocks);
 }
+
+abbrev pub body : Func → Body
+body f = typed_body (value_type f) f
 
 abbrev pub linkage : LinkageAttr → Linkage
 linkage K.ExternalLinkage = External

@@ -1,10 +1,14 @@
 //! Laws of the definitions, each on a function that makes no call.
 
-ghost use Rattle.std.specs.Prelude.{◌≡◌, ◌++◌, ℕ, List, map};
+ghost use Rattle.std.specs.Prelude.{◌≡◌, ◌++◌, ℕ, List, Some, map};
 ghost use Rattle.meaning.specs.Terms.{Match, Term};
 ghost use Rattle.meaning.specs.Pairs.{Matched};
 ghost use Rattle.llvm_core.specs.Data.{ModuleData, Function};
-ghost use Rattle.dialect_core.specs.Data.{Func};
+ghost use Rattle.dialect_types.specs.Trees.{type_trees};
+ghost use Rattle.dialect_core.specs.ContextData.{ContextData};
+ghost use Rattle.dialect_core.specs.Data.{Func, func_in, type_in};
+ghost use Rattle.dialect_core.specs.Form.{HasOwnValues};
+ghost use Rattle.dialect_core.specs.declared.numbers.OpRef.{OpRef};
 ghost use Rattle.meaning.specs.Machine.{Item, Block, trace};
 ghost use Rattle.meaning.specs.Code.{Code, SameNamed, SameCode, IsDistinctNames, names_of, under};
 ghost use Rattle.meaning.specs.Shape.{SameShape};
@@ -39,6 +43,12 @@ pub fn woven_law()
 /// And for every list of choices, where the first block sets every constant before what reads it.
 pub fn woven_first_law()
     ensures { WovenFirstLaw }
+{}
+
+/// A function of a context whose values are its own has the body, and so the traces, that it has by itself: the context
+/// gives its values the types that it gives them.
+pub fn own_values_law()
+    ensures { (c : ContextData) → (f : OpRef) → (g : Func) → func_in (type_trees c.types) c f ≡ Some g → HasOwnValues g → dialect.typed_body (type_in c) g ≡ dialect.body g }
 {}
 
 /// A match that leaves all where it is changes nothing.

@@ -19,8 +19,8 @@ use Rattle.dialect_core.specs.declared.ops.OpData.{OpData}
 use Rattle.dialect_core.specs.declared.ops.BlockData.{BlockData}
 use Rattle.dialect_core.specs.Lists.{list_at}
 use Rattle.dialect_core.specs.ContextData.{ContextData}
-use Rattle.dialect_core.specs.Data.{DialectOp, DialectBlock, op_at, block_of, block_in}
-use Rattle.dialect_core.specs.Form.{IsFormOp, IsFormBlock}
+use Rattle.dialect_core.specs.Data.{DialectOp, DialectBlock, op_at, block_of, block_in, type_in}
+use Rattle.dialect_core.specs.WellFormed.{IsWellFormedOp, IsWellFormedBlock}
 use Rattle.meaning.specs.Dialect.{start}
 use Rattle.meaning.specs.Pairs.{Matched}
 use Rattle.tracing.specs.declared.body.Slot.TheVariants.{Input}
@@ -34,17 +34,17 @@ use Rattle.tracing.proofs.DialectLaws.{kept_op, kept_block, kept_func}
 
 module _ (c : ContextData) (h : InContext c) where
   -- the blocks of the numbers, where each number is there
-  blocks_each : (bs : List BlockRef) → All (λ (b : BlockRef). b.0 < length c.blocks) bs → All (IsFormBlock h.function) (filter_map (block_in (type_trees c.types) c) bs) → Matched (IsBlockIn c h) bs (filter_map (block_in (type_trees c.types) c) bs)
+  blocks_each : (bs : List BlockRef) → All (λ (b : BlockRef). b.0 < length c.blocks) bs → All (IsWellFormedBlock (type_in c) h.function) (filter_map (block_in (type_trees c.types) c) bs) → Matched (IsBlockIn c h) bs (filter_map (block_in (type_trees c.types) c) bs)
   blocks_each [] within form = tt
   blocks_each (b ∷ bs) within form =
       let kept = there c.blocks b.0 (All-head (λ (b : BlockRef). b.0 < length c.blocks) b bs within) in
       let y = block_of (type_trees c.types) c b kept.0 in
       let here : block_in (type_trees c.types) c b ≡ Some y = ap (option_map (block_of (type_trees c.types) c b)) kept.1 in
       let rest = filter_map (block_in (type_trees c.types) c) bs in
-      let all : All (IsFormBlock h.function) (y ∷ rest) = subst (λ (o : Option DialectBlock). All (IsFormBlock h.function) (cons_option o rest)) here form in
-      let first = All-head (IsFormBlock h.function) y rest all in
+      let all : All (IsWellFormedBlock (type_in c) h.function) (y ∷ rest) = subst (λ (o : Option DialectBlock). All (IsWellFormedBlock (type_in c) h.function) (cons_option o rest)) here form in
+      let first = All-head (IsWellFormedBlock (type_in c) h.function) y rest all in
       subst (λ (o : Option DialectBlock). Matched (IsBlockIn c h) (b ∷ bs) (cons_option o rest)) (sym here)
-      (record { here = here; form = first }, blocks_each bs (All-tail (λ (b : BlockRef). b.0 < length c.blocks) b bs within) (All-tail (IsFormBlock h.function) y rest all))
+      (record { here = here; form = first }, blocks_each bs (All-tail (λ (b : BlockRef). b.0 < length c.blocks) b bs within) (All-tail (IsWellFormedBlock (type_in c) h.function) y rest all))
 
   -- the blocks of a function, as its operation lists them
   pub blocks_are : (o : OpRef) (bs : List BlockRef) → h.op ≡ o → option_map (λ (x : OpData). x.blocks) (slice_get c.ops o.0) ≡ Some bs → All (λ (b : BlockRef). b.0 < length c.blocks) bs → AreBlocksIn c h bs
@@ -52,7 +52,7 @@ module _ (c : ContextData) (h : InContext c) where
       let k = kept_func c h.op h.function h.is in
       let same : k.kept.blocks ≡ bs = same_Some k.kept.blocks bs (sym (ap (λ (r : OpRef). option_map (λ (x : OpData). x.blocks) (slice_get c.ops r.0)) (sym is) ∙ ap (option_map (λ (x : OpData). x.blocks)) k.there) ∙ listed) in
       let are : h.function.blocks ≡ filter_map (block_in (type_trees c.types) c) bs = k.blocks ∙ ap (filter_map (block_in (type_trees c.types) c)) same in
-      subst (Matched (IsBlockIn c h) bs) (sym are) (blocks_each bs within (subst (All (IsFormBlock h.function)) are h.form.blocks))
+      subst (Matched (IsBlockIn c h) bs) (sym are) (blocks_each bs within (subst (All (IsWellFormedBlock (type_in c) h.function)) are h.form.blocks))
 
   -- ---- the numbers of the blocks
 
@@ -92,10 +92,15 @@ module _ (c : ContextData) (h : InContext c) where
 
   -- ---- the first block
 
+  -- a function with a body has a first block
+  first_block : (ys : List DialectBlock) → ¬ (ys ≡ []) → (first : DialectBlock) × (more : List DialectBlock) × (ys ≡ first ∷ more)
+  first_block [] some = absurd (some refl)
+  first_block (y ∷ ys) some = (y, ys, refl)
+
   pub first_there : (bs : List BlockRef) → AreBlocksIn c h bs → 0 < length bs
   first_there bs all =
       let count = matched_length (IsBlockIn c h) bs h.function.blocks all in
-      let some = ap length h.form.body in
+      let some = ap length (first_block h.function.blocks h.body).2 in
       omega (arith, count, some)
 
   start_by : (bs : List BlockRef) (ys : List DialectBlock) (first : DialectBlock) (more : List DialectBlock) (d : BlockRef) (n : ℕ) → ys ≡ first ∷ more → Matched (IsBlockIn c h) bs ys → ((y : DialectBlock) → IsBlockIn c h (get_or bs 0 d) y → n ≡ length y.args)
@@ -108,7 +113,7 @@ module _ (c : ContextData) (h : InContext c) where
 
   -- the first block's arguments are what is set at the start
   pub start_is : (bs : List BlockRef) (d : BlockRef) (n : ℕ) → AreBlocksIn c h bs → ((y : DialectBlock) → IsBlockIn c h (get_or bs 0 d) y → n ≡ length y.args) → (v : Value) → start_of (get_or bs 0 d).0 n (slot_of v) ≡ start h.function.blocks v
-  start_is bs d n all count v = start_by bs h.function.blocks h.form.entry h.form.more d n h.form.body all count v
+  start_is bs d n all count v = let body = first_block h.function.blocks h.body in start_by bs h.function.blocks body.0 body.1 d n body.2 all count v
 
 -- one argument more
 inputs_more : (b i n : ℕ) → inputs_from b i (suc n) ≡ inputs_from b i n ++ Input b (i + n) ∷ []
@@ -127,19 +132,19 @@ inputs_next b n =
 pub ops_are : (c : ContextData) (h : InContext c) (b : BlockRef) (y : DialectBlock) → IsBlockIn c h b y → AreOpsIn c h (body_ops c b) y.ops
 ops_are c h b y at =
     let k = kept_block c b y at.here in
-    subst (Matched (IsOpIn c h) (body_ops c b)) (sym k.ops) (each (list_at c.lists b) (subst (All (IsFormOp h.function)) k.ops at.form.ops))
+    subst (Matched (IsOpIn c h) (body_ops c b)) (sym k.ops) (each (list_at c.lists b) (subst (All (IsWellFormedOp (type_in c) h.function)) k.ops at.form.ops))
   where
-    each : (rs : List OpRef) → All (IsFormOp h.function) (filter_map (op_at (type_trees c.types) c.ops) rs) → Matched (IsOpIn c h) (filter (is_op c) rs) (filter_map (op_at (type_trees c.types) c.ops) rs)
+    each : (rs : List OpRef) → All (IsWellFormedOp (type_in c) h.function) (filter_map (op_at (type_trees c.types) c.ops) rs) → Matched (IsOpIn c h) (filter (is_op c) rs) (filter_map (op_at (type_trees c.types) c.ops) rs)
     each [] form = tt
     each (r ∷ rs) form = by (op_at (type_trees c.types) c.ops r) refl form (each rs)
       where
-        by : (o : Option DialectOp) → op_at (type_trees c.types) c.ops r ≡ o → All (IsFormOp h.function) (cons_option o (filter_map (op_at (type_trees c.types) c.ops) rs))
-            → (All (IsFormOp h.function) (filter_map (op_at (type_trees c.types) c.ops) rs) → Matched (IsOpIn c h) (filter (is_op c) rs) (filter_map (op_at (type_trees c.types) c.ops) rs))
+        by : (o : Option DialectOp) → op_at (type_trees c.types) c.ops r ≡ o → All (IsWellFormedOp (type_in c) h.function) (cons_option o (filter_map (op_at (type_trees c.types) c.ops) rs))
+            → (All (IsWellFormedOp (type_in c) h.function) (filter_map (op_at (type_trees c.types) c.ops) rs) → Matched (IsOpIn c h) (filter (is_op c) rs) (filter_map (op_at (type_trees c.types) c.ops) rs))
             → Matched (IsOpIn c h) (cond (is_some o) (r ∷ filter (is_op c) rs) (filter (is_op c) rs)) (cons_option o (filter_map (op_at (type_trees c.types) c.ops) rs))
         by None e form rest = rest form
         by (Some o) e form rest =
             let os = filter_map (op_at (type_trees c.types) c.ops) rs in
-            (record { here = e; form = All-head (IsFormOp h.function) o os form }, rest (All-tail (IsFormOp h.function) o os form))
+            (record { here = e; form = All-head (IsWellFormedOp (type_in c) h.function) o os form }, rest (All-tail (IsWellFormedOp (type_in c) h.function) o os form))
 
 -- where an operation leads, as the context lists it
 pub successors_are : (c : ContextData) (r : OpRef) (o : DialectOp) (ss : List Successor) → op_at (type_trees c.types) c.ops r ≡ Some o → option_map (λ (x : OpData). x.successors) (slice_get c.ops r.0) ≡ Some ss → ss ≡ o.successors

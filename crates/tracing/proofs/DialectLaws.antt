@@ -1,12 +1,11 @@
 -- The operations and values of a function of the dialect, in the names of the program.
 use Rattle.std.proofs.Common.{◌≡◌, ◌<◌, ℕ, Bool, true, false, List, [], ◌∷◌, Option, Some, None, All, length, map, slice_get, get_or, refl, sym, ap, subst, ◌∙◌, arith}
 use Rattle.std.specs.Prelude.{IfSome, nat_eq, if◌then◌else◌}
-use Rattle.std.specs.List.{filter_map, flat_map, find}
+use Rattle.std.specs.List.{filter_map, find}
 use Rattle.std.specs.Option.{option_map, option_and_then}
 use Rattle.std.proofs.Common.{eqb-true}
 use Rattle.std.proofs.lemmas.Option.{same_Some, none-some, slice_get_within}
-use Rattle.std.proofs.lemmas.List.Elements.{All-nil, All-cons, All-head, All-tail, All-append, All-weaker}
-use Rattle.llvm_core.proofs.FreshLemmas.{All-filter_map}
+use Rattle.std.proofs.lemmas.List.Elements.{All-nil, All-cons, All-head, All-tail}
 use Rattle.llvm_core.specs.Data as L
 use Rattle.dialect_types.specs.declared.types.TypeHandle.{TypeHandle}
 use Rattle.dialect_types.specs.declared.attrs.ConstAttr.{ConstAttr}
@@ -17,6 +16,7 @@ use Rattle.dialect_core.specs.declared.predicates.ICmpPredicateAttr.{ICmpPredica
 use Rattle.llvm_core.specs.declared.code.LLVMIntPredicate.{LLVMIntPredicate}
 use Rattle.dialect_core.specs.declared.ops.Value.{Value}
 use Rattle.dialect_core.specs.declared.ops.Value.TheVariants as V
+use Rattle.dialect_core.specs.declared.ops.Successor.{Successor}
 use Rattle.dialect_core.specs.declared.ops.OpData.{OpData}
 use Rattle.dialect_core.specs.declared.ops.OpKind.{OpKind}
 use Rattle.dialect_core.specs.declared.ops.OpKind.TheVariants as O
@@ -24,12 +24,14 @@ use Rattle.dialect_core.specs.declared.ops.BlockData.{BlockData}
 use Rattle.dialect_core.specs.declared.ops.Symbol.{Symbol}
 use Rattle.dialect_core.specs.Lists.{list_at}
 use Rattle.dialect_core.specs.ContextData.{ContextData}
-use Rattle.dialect_core.specs.Data.{DialectOp, DialectBlock, Func, Kind, ConstantOp, AddOp, ICmpOp, BrOp, CondBrOp, ReturnOp, UnreachableOp, IsTyped, HasKindTypesBelow, kind_of, op_of, op_at, block_of, block_in, func_with, func_of, func_in, ops_in, value_type}
-use Rattle.dialect_core.specs.Form.{IsShortInt, IsOperand, IsFormKind, Returns, result_of}
+use Rattle.dialect_core.specs.Data.{DialectOp, DialectBlock, Func, Kind, ConstantOp, AddOp, ICmpOp, BrOp, CondBrOp, ReturnOp, UnreachableOp, IsTyped, HasKindTypesBelow, kind_of, op_of, op_at, block_of, block_in, func_with, func_of, func_in, type_in}
+use Rattle.dialect_core.specs.Form.{IsShortInt, result_of}
+use Rattle.dialect_core.specs.WellFormed.{Typing, IsInteger, IsReturned, IsSignature, IsOfKind, AreIntegers, Returned}
+use Rattle.dialect_core.proofs.WellLaws.{short_integer}
 use Rattle.meaning.specs.Terms as M
 use Rattle.meaning.specs.Machine as Machine
 use Rattle.meaning.specs.Dialect as Dialect
-use Rattle.meaning.specs.Dialect.{same_value, option_type, predicate_of, action, applies}
+use Rattle.meaning.specs.Dialect.{same_value, option_type, predicate_of, typed_action, typed_applies}
 use Rattle.tracing.specs.declared.body.Slot.{Slot}
 use Rattle.tracing.specs.declared.body.Slot.TheVariants.{Result}
 use Rattle.tracing.specs.declared.body.Source.{Source}
@@ -107,37 +109,6 @@ kept_block c b d is = by (slice_get c.blocks b.0) refl is
           ops = ap (λ (y : DialectBlock). y.ops) same;
         }
 
--- ---- what a function has stands in the context under its own number
-
-abbrev OpStands : ContextData → DialectOp → Type 0
-OpStands c o = op_at (type_trees c.types) c.ops (record { 0 = o.number }) ≡ Some o
-
-abbrev BlockStands : ContextData → DialectBlock → Type 0
-BlockStands c d = block_in (type_trees c.types) c (record { 0 = d.number }) ≡ Some d
-
-op_stands : (c : ContextData) (r : OpRef) (o : DialectOp) → op_at (type_trees c.types) c.ops r ≡ Some o → OpStands c o
-op_stands c r o is = subst (λ (n : ℕ). op_at (type_trees c.types) c.ops (record { 0 = n }) ≡ Some o) (sym (kept_op c r o is).number) is
-
-block_stands : (c : ContextData) (b : BlockRef) (d : DialectBlock) → block_in (type_trees c.types) c b ≡ Some d → BlockStands c d
-block_stands c b d is = subst (λ (n : ℕ). block_in (type_trees c.types) c (record { 0 = n }) ≡ Some d) (sym (kept_block c b d is).number) is
-
--- what is given of each item passes, where each that is given does
-given_all : {X Y : Type 0} (P : Y → Type 0) (h : X → Option Y) (xs : List X) → ((x : X) (y : Y) → h x ≡ Some y → P y) → All P (filter_map h xs)
-given_all {X} {Y} P h xs each = All-filter_map P h xs (λ i d lt. by (get_or xs i d) (h (get_or xs i d)) refl)
-  where
-    by : (x : X) (o : Option Y) → h x ≡ o → IfSome o P
-    by x None e = tt
-    by x (Some y) e = each x y e
-
-all_joined : {X Y : Type 0} (P : Y → Type 0) (f : X → List Y) (xs : List X) → All (λ (x : X). All P (f x)) xs → All P (flat_map f xs)
-all_joined P f [] all = All-nil P
-all_joined {X} P f (x ∷ xs) all =
-    All-append P (f x) (flat_map f xs) (All-head (λ (y : X). All P (f y)) x xs all) (all_joined P f xs (All-tail (λ (y : X). All P (f y)) x xs all))
-
-block_ops_stand : (c : ContextData) (d : DialectBlock) → BlockStands c d → All (OpStands c) d.ops
-block_ops_stand c d is =
-    subst (All (OpStands c)) (sym (kept_block c (record { 0 = d.number }) d is).ops) (given_all (OpStands c) (op_at (type_trees c.types) c.ops) (list_at c.lists (record { 0 = d.number })) (op_stands c))
-
 -- a function's operation as it is kept: the blocks of the function are those of its region
 pub record KeptFunc (c : ContextData) (r : OpRef) (f : Func) : Type 0 where
   pub kept : OpData
@@ -154,16 +125,6 @@ kept_func c r f is = by (slice_get c.ops r.0) refl is
     by : (x : Option OpData) → slice_get c.ops r.0 ≡ x → option_and_then (func_of (type_trees c.types) c r) x ≡ Some f → KeptFunc c r f
     by None at e = absurd (none-some f e)
     by (Some x) at e = made x x.symbol at e
-
-module _ (c : ContextData) (h : InContext c) where
-  blocks_stand : All (BlockStands c) h.function.blocks
-  blocks_stand =
-      let k = kept_func c h.op h.function h.is in
-      subst (All (BlockStands c)) (sym k.blocks) (given_all (BlockStands c) (block_in (type_trees c.types) c) k.kept.blocks (block_stands c))
-
-  ops_stand : All (OpStands c) (ops_in h.function)
-  ops_stand =
-      all_joined (OpStands c) (λ (b : DialectBlock). b.ops) h.function.blocks (All-weaker (BlockStands c) (λ (b : DialectBlock). All (OpStands c) b.ops) (block_ops_stand c) h.function.blocks blocks_stand)
 
 -- ---- values by number
 
@@ -194,23 +155,19 @@ pub record ArgumentRead (c : ContextData) (b : BlockRef) (i : ℕ) (type : TypeT
   pub here : block_in (type_trees c.types) c b ≡ Some block
   pub typed : slice_get block.args i ≡ Some type
 
-pub result_read : (c : ContextData) (h : InContext c) (r : OpRef) (type : TypeTree) → value_type h.function (V.Result r) ≡ Some type → ResultRead c r type
-result_read c h r type is = by (find (λ (o : DialectOp). nat_eq o.number r.0) (ops_in h.function)) refl is
+pub result_read : (c : ContextData) (r : OpRef) (type : TypeTree) → type_in c (V.Result r) ≡ Some type → ResultRead c r type
+result_read c r type is = by (op_at (type_trees c.types) c.ops r) refl is
   where
-    by : (x : Option DialectOp) → find (λ (o : DialectOp). nat_eq o.number r.0) (ops_in h.function) ≡ x → option_and_then (λ (o : DialectOp). o.result) x ≡ Some type → ResultRead c r type
+    by : (x : Option DialectOp) → op_at (type_trees c.types) c.ops r ≡ x → option_and_then (λ (o : DialectOp). o.result) x ≡ Some type → ResultRead c r type
     by None at e = absurd (none-some type e)
-    by (Some o) at e =
-        let k = found (OpStands c) (λ (o : DialectOp). o.number) (ops_in h.function) r.0 o at (ops_stand c h) in
-        record { op = o; here = subst (λ (n : ℕ). op_at (type_trees c.types) c.ops (record { 0 = n }) ≡ Some o) k.is k.holds; typed = e }
+    by (Some o) at e = record { op = o; here = at; typed = e }
 
-pub argument_read : (c : ContextData) (h : InContext c) (b : BlockRef) (i : ℕ) (type : TypeTree) → value_type h.function (V.Argument b i) ≡ Some type → ArgumentRead c b i type
-argument_read c h b i type is = by (find (λ (d : DialectBlock). nat_eq d.number b.0) h.function.blocks) refl is
+pub argument_read : (c : ContextData) (b : BlockRef) (i : ℕ) (type : TypeTree) → type_in c (V.Argument b i) ≡ Some type → ArgumentRead c b i type
+argument_read c b i type is = by (block_in (type_trees c.types) c b) refl is
   where
-    by : (x : Option DialectBlock) → find (λ (d : DialectBlock). nat_eq d.number b.0) h.function.blocks ≡ x → option_and_then (λ (d : DialectBlock). slice_get d.args i) x ≡ Some type → ArgumentRead c b i type
+    by : (x : Option DialectBlock) → block_in (type_trees c.types) c b ≡ x → option_and_then (λ (d : DialectBlock). slice_get d.args i) x ≡ Some type → ArgumentRead c b i type
     by None at e = absurd (none-some type e)
-    by (Some d) at e =
-        let k = found (BlockStands c) (λ (d : DialectBlock). d.number) h.function.blocks b.0 d at (blocks_stand c h) in
-        record { block = d; here = subst (λ (n : ℕ). block_in (type_trees c.types) c (record { 0 = n }) ≡ Some d) k.is k.holds; typed = e }
+    by (Some d) at e = record { block = d; here = at; typed = e }
 
 -- ---- types read from the context
 
@@ -228,60 +185,63 @@ op_within c r o at = let k = kept_op c r o at in slice_get_within c.ops r.0 k.ke
 -- ---- operands
 
 -- the operation whose result an operand is
-pub record UsedResult (c : ContextData) (h : InContext c) (r : OpRef) (v : Value) : Type 0 where
+pub record UsedResult (c : ContextData) (r : OpRef) (v : Value) : Type 0 where
   pub op : DialectOp
   pub here : op_at (type_trees c.types) c.ops r ≡ Some op
-  pub typed : op.result ≡ value_type h.function v
-  pub short : IfSome op.result IsShortInt
+  pub typed : op.result ≡ type_in c v
+  pub integer : IfSome op.result IsInteger
 
-pub used_result : (c : ContextData) (h : InContext c) (r : OpRef) (v : Value) → v ≡ V.Result r → IsUsed c h v → UsedResult c h r v
-used_result c h r v is used =
-    let k = result_read c h r used.type (ap (value_type h.function) (sym is) ∙ used.stands.typed) in
-    record { op = k.op; here = k.here; typed = k.typed ∙ sym used.stands.typed; short = subst (λ (t : Option TypeTree). IfSome t IsShortInt) (sym k.typed) used.stands.short }
+pub used_result : (c : ContextData) (r : OpRef) (v : Value) → v ≡ V.Result r → IsUsed c v → UsedResult c r v
+used_result c r v is used =
+    let k = result_read c r used.type (ap (type_in c) (sym is) ∙ used.typed) in
+    record { op = k.op; here = k.here; typed = k.typed ∙ sym used.typed; integer = subst (λ (t : Option TypeTree). IfSome t IsInteger) (sym k.typed) used.integer }
 
 -- the block whose argument an operand is
-pub used_argument : (c : ContextData) (h : InContext c) (b : BlockRef) (i : ℕ) (v : Value) → v ≡ V.Argument b i → (used : IsUsed c h v) → ArgumentRead c b i used.type
-used_argument c h b i v is used = argument_read c h b i used.type (ap (value_type h.function) (sym is) ∙ used.stands.typed)
+pub used_argument : (c : ContextData) (b : BlockRef) (i : ℕ) (v : Value) → v ≡ V.Argument b i → (used : IsUsed c v) → ArgumentRead c b i used.type
+used_argument c b i v is used = argument_read c b i used.type (ap (type_in c) (sym is) ∙ used.typed)
 
-module _ (c : ContextData) (h : InContext c) where
-  used_one : (type : TypeTree) (v : Value) → IsOperand h.function type v → IsUsed c h v
-  used_one type v is = record { type = type; stands = is }
+-- a function returns nothing or an integer
+returned_type : (t : TypeTree) → IsSignature t → IsReturned (result_of t)
+returned_type (FuncType r ps n) is = is.0
+returned_type VoidType is = absurd is
+returned_type (IntegerType w) is = absurd is
 
-  used_returns : (type : TypeTree) (vs : List Value) → Returns h.function type vs → All (IsUsed c h) vs
-  used_returns type [] is = All-nil (IsUsed c h)
-  used_returns VoidType (v ∷ []) is = All-cons (IsUsed c h) v [] (used_one VoidType v is) (All-nil (IsUsed c h))
-  used_returns (IntegerType w) (v ∷ []) is = All-cons (IsUsed c h) v [] (used_one (IntegerType w) v is) (All-nil (IsUsed c h))
-  used_returns (FuncType r ps a) (v ∷ []) is = All-cons (IsUsed c h) v [] (used_one (FuncType r ps a) v is) (All-nil (IsUsed c h))
-  used_returns VoidType (v ∷ (w ∷ vs)) is = absurd is
-  used_returns (IntegerType n) (v ∷ (w ∷ vs)) is = absurd is
-  used_returns (FuncType r ps a) (v ∷ (w ∷ vs)) is = absurd is
+module _ (c : ContextData) (g : Func) where
+  used_one : (type : TypeTree) (v : Value) (vs : List Value) → vs ≡ v ∷ [] → type_in c v ≡ Some type → IsInteger type → All (IsUsed c) vs
+  used_one type v vs e typed integer = subst (All (IsUsed c)) (sym e) (All-cons (IsUsed c) v [] (record { type = type; typed = typed; integer = integer }) (All-nil (IsUsed c)))
 
-  none_used : (vs : List Value) → vs ≡ [] → All (IsUsed c h) vs
-  none_used vs e = subst (All (IsUsed c h)) (sym e) (All-nil (IsUsed c h))
+  used_two : (type : TypeTree) (vs : List Value) → AreIntegers (type_in c) type vs → All (IsUsed c) vs
+  used_two type vs h =
+      subst (All (IsUsed c)) (sym h.are)
+      (All-cons (IsUsed c) h.lhs (h.rhs ∷ []) (record { type = type; typed = h.left; integer = h.integer }) (All-cons (IsUsed c) h.rhs [] (record { type = type; typed = h.right; integer = h.integer }) (All-nil (IsUsed c))))
 
-  two_used : (type : TypeTree) (v w : Value) (vs : List Value) → vs ≡ v ∷ w ∷ [] → IsOperand h.function type v → IsOperand h.function type w → All (IsUsed c h) vs
-  two_used type v w vs e a b =
-      subst (All (IsUsed c h)) (sym e) (All-cons (IsUsed c h) v (w ∷ []) (used_one type v a) (All-cons (IsUsed c h) w [] (used_one type w b) (All-nil (IsUsed c h))))
+  used_none : (vs : List Value) → vs ≡ [] → All (IsUsed c) vs
+  used_none vs e = subst (All (IsUsed c)) (sym e) (All-nil (IsUsed c))
 
-  -- the operands of an operation of the form are values of the function, a line for each kind
-  pub used_all : (o : DialectOp) (k : Kind) → IsFormKind h.function o k → All (IsUsed c h) o.operands
-  used_all o (ConstantOp (IntegerAttr type value)) is = none_used o.operands is.2
-  used_all o (AddOp flags) is = two_used is.0 is.1 is.2 o.operands is.3 is.6 is.7
-  used_all o (ICmpOp predicate) is = two_used is.0 is.1 is.2 o.operands is.3 is.6 is.7
-  used_all o BrOp is = none_used o.operands is.0
-  used_all o CondBrOp is = subst (All (IsUsed c h)) (sym is.1) (All-cons (IsUsed c h) is.0 [] (used_one (IntegerType 1) is.0 is.2) (All-nil (IsUsed c h)))
-  used_all o ReturnOp is = used_returns (result_of h.function.type) o.operands is.0
-  used_all o UnreachableOp is = none_used o.operands is.0
+  used_returned : (type : TypeTree) (vs : List Value) → IsReturned type → Returned (type_in c) type vs → All (IsUsed c) vs
+  used_returned VoidType vs integer is = used_none vs is
+  used_returned (IntegerType w) vs integer is = used_one (IntegerType w) is.0 vs is.1 is.2 integer
+  used_returned (FuncType r ps n) vs integer is = absurd integer
 
--- an operation has no result but an integer, a line for each kind
-pub short_result : (g : Func) (o : DialectOp) (k : Kind) → IsFormKind g o k → IfSome o.result IsShortInt
-short_result g o (ConstantOp (IntegerAttr type value)) is = rw is.4 is.0
-short_result g o (AddOp flags) is = rw is.5 is.6.short
-short_result g o (ICmpOp predicate) is = rw is.5 (omega arith, omega arith)
-short_result g o BrOp is = rw is.1.result tt
-short_result g o CondBrOp is = rw is.3.result tt
-short_result g o ReturnOp is = rw is.1.result tt
-short_result g o UnreachableOp is = rw is.1.result tt
+  -- the operands of a well-formed operation are integers of the context, a line for each kind
+  pub used_all : IsSignature g.type → (vs : List Value) (own : Option TypeTree) (edges : List Successor) (k : Kind) → IsOfKind (type_in c) g vs own edges k → All (IsUsed c) vs
+  used_all signature vs own edges (ConstantOp (IntegerAttr type value)) is = used_none vs is.3
+  used_all signature vs own edges (AddOp flags) is = used_two is.0 vs is.1
+  used_all signature vs own edges (ICmpOp predicate) is = used_two is.0.0 vs is.0.1
+  used_all signature vs own edges BrOp is = used_none vs is.0
+  used_all signature vs own edges CondBrOp is = used_one (IntegerType 1) is.0.0 vs is.0.1 is.0.2 (omega arith, omega arith)
+  used_all signature vs own edges ReturnOp is = used_returned (result_of g.type) vs (returned_type g.type signature) is.0
+  used_all signature vs own edges UnreachableOp is = used_none vs is.0
+
+  -- and it has no result but an integer, a line for each kind
+  pub integer_result : (vs : List Value) (own : Option TypeTree) (edges : List Successor) (k : Kind) → IsOfKind (type_in c) g vs own edges k → IfSome own IsInteger
+  integer_result vs own edges (ConstantOp (IntegerAttr type value)) is = rw is.2 (short_integer type is.0)
+  integer_result vs own edges (AddOp flags) is = rw is.2 is.1.integer
+  integer_result vs own edges (ICmpOp predicate) is = rw is.1 (omega arith, omega arith)
+  integer_result vs own edges BrOp is = rw is.1 tt
+  integer_result vs own edges CondBrOp is = rw is.1 tt
+  integer_result vs own edges ReturnOp is = rw is.1 tt
+  integer_result vs own edges UnreachableOp is = rw is.1 tt
 
 pub operands_kept : (c : ContextData) (r : OpRef) (o : DialectOp) (vs : List Value) → op_at (type_trees c.types) c.ops r ≡ Some o → option_map (λ (x : OpData). x.operands) (slice_get c.ops r.0) ≡ Some vs → o.operands ≡ vs
 operands_kept c r o vs at is = let k = kept_op c r o at in k.operands ∙ same_Some k.kept.operands vs (sym (ap (option_map (λ (x : OpData). x.operands)) k.there) ∙ is)
@@ -305,28 +265,28 @@ constant_within c r o value typed at is =
 applies_same : (o : M.Opcode) (is : List M.Immediate) (ty ty' : L.TypeTree) (tys tys' : List L.TypeTree) (os os' : List (Machine.Operand Slot)) → ty ≡ ty' → tys ≡ tys' → os ≡ os' → ◌≡◌ {A = Machine.Action Slot} (Machine.Applies o is ty tys os) (Machine.Applies o is ty' tys' os')
 applies_same o is ty ty' tys tys' os os' a b c = cc
 
-pub applied_is : (g : Func) (o : DialectOp) (opcode : Opcode) (imms : Imms) (os : List Source) (vs : List Value) → o.operands ≡ vs → tree_of imms.ty ≡ option_type o.result
-    → map tree_of imms.operand_types ≡ map (λ (v : Value). option_type (value_type g v)) vs → map source_of os ≡ map (λ (v : Value). let o : Machine.Operand Slot = Machine.At (slot_of v) in o) vs
-    → action_of (A.Applies opcode imms os) ≡ renamed_action slot_of (applies g o (opcode_of opcode) (immediates_of imms.immediates))
-applied_is g o opcode imms os vs operands type types sources =
-    applies_same (opcode_of opcode) (immediates_of imms.immediates) _ _ _ _ _ _ type (types ∙ ap (map (λ (v : Value). option_type (value_type g v))) (sym operands))
+pub applied_is : (types : Typing) (o : DialectOp) (opcode : Opcode) (imms : Imms) (os : List Source) (vs : List Value) → o.operands ≡ vs → tree_of imms.ty ≡ option_type o.result
+    → map tree_of imms.operand_types ≡ map (λ (v : Value). option_type (types v)) vs → map source_of os ≡ map (λ (v : Value). let o : Machine.Operand Slot = Machine.At (slot_of v) in o) vs
+    → action_of (A.Applies opcode imms os) ≡ renamed_action slot_of (typed_applies types o (opcode_of opcode) (immediates_of imms.immediates))
+applied_is types o opcode imms os vs operands type operand_types sources =
+    applies_same (opcode_of opcode) (immediates_of imms.immediates) _ _ _ _ _ _ type (operand_types ∙ ap (map (λ (v : Value). option_type (types v))) (sym operands))
     (sources ∙ ap (map (λ (v : Value). let o : Machine.Operand Slot = Machine.At (slot_of v) in o)) (sym operands) ∙ sym (mapped_twice (renamed slot_of) (λ (v : Value). let o : Machine.Operand Value = Machine.At v in o) o.operands))
 
 -- what an operation of a known kind does
-pub action_of_kind : (g : Func) (o : DialectOp) (a : Machine.Action Slot) (k : Kind) → Some k ≡ Some o.kind → a ≡ renamed_action slot_of (action g o k) → a ≡ renamed_action slot_of (action g o o.kind)
-action_of_kind g o a k is here = here ∙ ap (λ (k : Kind). renamed_action slot_of (action g o k)) (same_Some k o.kind is)
+pub action_of_kind : (c : ContextData) (r : OpRef) (o : DialectOp) (k : OpKind) (kind : Kind) (a : Machine.Action Slot) → op_at (type_trees c.types) c.ops r ≡ Some o → option_map (λ (x : OpData). x.kind) (slice_get c.ops r.0) ≡ Some k → kind_of (type_trees c.types) k ≡ Some kind
+    → a ≡ renamed_action slot_of (typed_action (type_in c) o kind) → a ≡ renamed_action slot_of (typed_action (type_in c) o o.kind)
+action_of_kind c r o k kind a at kept is here =
+    here ∙ ap (λ (k : Kind). renamed_action slot_of (typed_action (type_in c) o k)) (same_Some kind o.kind (sym is ∙ kind_kept c r o k at kept))
 
-pub icmp_action : (c : ContextData) (h : InContext c) (r : OpRef) (o : DialectOp) (by : ICmpPredicateAttr) (p : LLVMIntPredicate) (a : Machine.Action Slot) → op_at (type_trees c.types) c.ops r ≡ Some o → option_map (λ (x : OpData). x.kind) (slice_get c.ops r.0) ≡ Some (O.ICmp by) → p ≡ predicate_of by
-    → a ≡ renamed_action slot_of (applies h.function o M.ICmp (M.Predicate p ∷ [])) → a ≡ renamed_action slot_of (action h.function o o.kind)
-icmp_action c h r o by p a at kind same is =
-    action_of_kind h.function o a (ICmpOp by) (kind_kept c r o (O.ICmp by) at kind) (is ∙ ap (λ (p : LLVMIntPredicate). renamed_action slot_of (applies h.function o M.ICmp (M.Predicate p ∷ []))) same)
+pub icmp_action : (types : Typing) (o : DialectOp) (by : ICmpPredicateAttr) (p : LLVMIntPredicate) (a : Machine.Action Slot) → p ≡ predicate_of by → a ≡ renamed_action slot_of (typed_applies types o M.ICmp (M.Predicate p ∷ [])) → a ≡ renamed_action slot_of (typed_action types o (ICmpOp by))
+icmp_action types o by p a same is = is ∙ ap (λ (p : LLVMIntPredicate). renamed_action slot_of (typed_applies types o M.ICmp (M.Predicate p ∷ []))) same
 
 row_same : (a b : Machine.Action Slot) (n k : ℕ) → a ≡ b → n ≡ k → ◌≡◌ {A = Machine.Row Slot} (record { action = a; result = Result n }) (record { action = b; result = Result k })
 row_same a b n k e f = cc
 
-pub row_is : (c : ContextData) (h : InContext c) (r : OpRef) (o : DialectOp) (a : Action) → op_at (type_trees c.types) c.ops r ≡ Some o → action_of a ≡ renamed_action slot_of (action h.function o o.kind)
-    → row_of (record { action = a; result = Result r.0 }) ≡ renamed_row slot_of (Dialect.row h.function o)
-row_is c h r o a at is = row_same (action_of a) _ r.0 o.number is (sym (kept_op c r o at).number)
+pub row_is : (c : ContextData) (r : OpRef) (o : DialectOp) (a : Action) → op_at (type_trees c.types) c.ops r ≡ Some o → action_of a ≡ renamed_action slot_of (typed_action (type_in c) o o.kind)
+    → row_of (record { action = a; result = Result r.0 }) ≡ renamed_row slot_of (Dialect.typed_row (type_in c) o)
+row_is c r o a at is = row_same (action_of a) _ r.0 o.number is (sym (kept_op c r o at).number)
 
 abbrev pub some_value : Value
 some_value = V.Result (record { 0 = 0 })

@@ -1,5 +1,5 @@
 -- A function of a module's data is one of its context.
-use Rattle.std.proofs.Common.{◌≡◌, ℕ, zero, suc, List, [], ◌∷◌, Option, Some, None, slice_get, unwrap_or, sym, ap, subst, ◌∙◌}
+use Rattle.std.proofs.Common.{◌≡◌, ℕ, zero, suc, List, [], ◌∷◌, Option, Some, None, slice_get, unwrap_or, sym, ap, ◌∙◌}
 use Rattle.std.specs.List.{filter_map, cons_option}
 use Rattle.std.specs.Option.{option_map, option_and_then}
 use Rattle.std.proofs.lemmas.Option.{none-some, same_Some}
@@ -8,10 +8,11 @@ use Rattle.dialect_core.specs.declared.numbers.OpRef.{OpRef}
 use Rattle.dialect_core.specs.declared.ops.OpData.{OpData}
 use Rattle.dialect_core.specs.declared.ops.Symbol.{Symbol}
 use Rattle.dialect_core.specs.ContextData.{ContextData}
-use Rattle.dialect_core.specs.Form.{IsFormFunc}
-use Rattle.dialect_core.specs.Data.{DialectBlock, Func, IsTyped, block_in, func_of, func_in, held, data_of}
+use Rattle.dialect_core.specs.WellFormed.{IsWellFormed, IsWellFormedFunc}
+use Rattle.dialect_core.specs.Data.{DialectBlock, Func, IsTyped, block_in, func_of, func_in, held, data_of, type_in}
 use Rattle.dialect_core.proofs.FuncLemmas.{made_of}
-use Rattle.tracing.specs.DialectBodies.{InContext, InModule}
+use Rattle.dialect_core.proofs.LineLemmas.{all_at}
+use Rattle.tracing.specs.DialectBodies.{InContext, HasBody}
 
 -- a function has the number of its operation
 func_number : (ts : List TypeTree) (c : ContextData) (op : OpRef) (g : Func) → func_in ts c op ≡ Some g → g.number ≡ op.0
@@ -33,15 +34,21 @@ function_in c m op place g here number =
     let at : from.0.0 ≡ op.0 = sym (func_number (type_trees c.types) c from.0 g from.2) ∙ number in
     ap (λ (n : ℕ). func_in (type_trees c.types) c (record { 0 = n })) (sym at) ∙ from.2
 
-abbrev pub in_context : (c : ContextData) (m : ℕ) (op : OpRef) → InModule c m op → InContext c
-in_context c m op h = record { op = op; function = h.function; typed = h.typed; is = function_in c m op h.place h.function h.here h.number; form = h.form }
+-- a function with a body of a well-formed module is well-formed in the context
+abbrev pub in_context : (c : ContextData) (m : ℕ) (op : OpRef) → IsTyped c → IsWellFormed c m → HasBody c m op → InContext c
+in_context c m op typed well h = record {
+  op = op;
+  function = h.function;
+  typed = typed;
+  is = function_in c m op h.place h.function h.here h.number;
+  form = all_at (IsWellFormedFunc (type_in c)) (data_of c m).functions well.functions h.place h.function h.here;
+  body = h.body;
+}
 
--- each function of that number is of the form, with the one that is known to be
-abbrev pub other_in : (c : ContextData) (m : ℕ) (op : OpRef) (place : ℕ) (g : Func) → InModule c m op → slice_get (data_of c m).functions place ≡ Some g → g.number ≡ op.0 → InContext c
-other_in c m op place g h here number =
-    let is = function_in c m op place g here number in
-    let one = same_Some h.function g (sym (function_in c m op h.place h.function h.here h.number) ∙ is) in
-    record { op = op; function = g; typed = h.typed; is = is; form = subst IsFormFunc one h.form }
+-- each function of that number is the one that is known to have a body
+pub same_function : (c : ContextData) (m : ℕ) (op : OpRef) (place : ℕ) (g : Func) → (h : HasBody c m op) → slice_get (data_of c m).functions place ≡ Some g → g.number ≡ op.0 → h.function ≡ g
+same_function c m op place g h here number =
+    same_Some h.function g (sym (function_in c m op h.place h.function h.here h.number) ∙ function_in c m op place g here number)
 
 -- what an item gives stands in the list of all that the items give
 made_at : {X Y : Type 0} (f : X → Option Y) (xs : List X) (i : ℕ) (x : X) (y : Y) → slice_get xs i ≡ Some x → f x ≡ Some y → (k : ℕ) × (slice_get (filter_map f xs) k ≡ Some y)
@@ -53,8 +60,8 @@ made_at {X} {Y} f (z ∷ xs) (suc i) x y at is = by (f z) (made_at f xs i x y at
     by None rest = rest
     by (Some w) rest = (suc rest.0, rest.1)
 
--- an operation of a module that is a function of the form is so in the module's data
-pub in_module : (c : ContextData) (m i : ℕ) (op : OpRef) (g : Func) → IsTyped c → slice_get (held c m) i ≡ Some op → func_in (type_trees c.types) c op ≡ Some g → IsFormFunc g → InModule c m op
-in_module c m i op g typed at is form =
+-- an operation of a module that is a function with a body is one of the module's data
+pub has_body : (c : ContextData) (m i : ℕ) (op : OpRef) (g : Func) → slice_get (held c m) i ≡ Some op → func_in (type_trees c.types) c op ≡ Some g → ¬ (g.blocks ≡ []) → HasBody c m op
+has_body c m i op g at is body =
     let there = made_at (func_in (type_trees c.types) c) (held c m) i op g at is in
-    record { typed = typed; place = there.0; function = g; here = there.1; number = func_number (type_trees c.types) c op g is; form = form }
+    record { place = there.0; function = g; here = there.1; number = func_number (type_trees c.types) c op g is; body = body }

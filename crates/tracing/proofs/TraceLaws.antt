@@ -8,6 +8,7 @@ use Rattle.llvm_core.proofs.ListLemmas.{some_same}
 use Rattle.llvm_core.proofs.DataLemmas.{there, function_at, within_at}
 use Rattle.dialect_core.specs.declared.ops.Value.{Value}
 use Rattle.dialect_core.specs.ContextData.{ContextData}
+use Rattle.dialect_core.specs.Data.{type_in}
 use Rattle.meaning.specs.Machine as M
 use Rattle.meaning.specs.Machine.{Item}
 use Rattle.meaning.specs.Llvm as Llvm
@@ -44,7 +45,7 @@ llvm_trace m h x cs start code items at is code_is same =
     ∙ ap (λ (g : Function). (Llvm.body (data_of m) g).trace cs) function
 
 pub dialect_trace : (c : ContextData) (h : InContext c) (cs : List ℕ) (start : Slot → _) (code : List (M.Block Slot)) (items : List Item)
-    → items ≡ M.trace Slot same_slot start code cs → code ≡ renamed_code slot_of_value (map (Dialect.block h.function) h.function.blocks) → ((v : Value) → start (slot_of_value v) ≡ Dialect.start h.function.blocks v) → items ≡ (Dialect.body h.function).trace cs
+    → items ≡ M.trace Slot same_slot start code cs → code ≡ renamed_code slot_of_value (map (Dialect.typed_block (type_in c) h.function) h.function.blocks) → ((v : Value) → start (slot_of_value v) ≡ Dialect.start h.function.blocks v) → items ≡ (Dialect.typed_body (type_in c) h.function).trace cs
 dialect_trace c h cs start code items is code_is same =
     is ∙ ap (λ (c : List (M.Block Slot)). M.trace Slot same_slot start c cs) code_is
-    ∙ renamed_trace Value Slot same_value same_slot slot_of_value values_apart (map (Dialect.block h.function) h.function.blocks) (Dialect.start h.function.blocks) start same cs
+    ∙ renamed_trace Value Slot same_value same_slot slot_of_value values_apart (map (Dialect.typed_block (type_in c) h.function) h.function.blocks) (Dialect.start h.function.blocks) start same cs

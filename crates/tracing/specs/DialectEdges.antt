@@ -8,8 +8,8 @@ use Rattle.dialect_core.specs.declared.ops.Value.{Value}
 use Rattle.dialect_core.specs.declared.ops.Successor.{Successor}
 use Rattle.dialect_core.specs.ContextData.{ContextData}
 use Rattle.dialect_core.specs.Lists.{list_at}
-use Rattle.dialect_core.specs.Data.{DialectBlock, Func, op_at, block_in}
-use Rattle.dialect_core.specs.Form.{IsFormBlock}
+use Rattle.dialect_core.specs.Data.{DialectBlock, Func, op_at, block_in, type_in}
+use Rattle.dialect_core.specs.WellFormed.{IsWellFormedBlock}
 use Rattle.meaning.specs.Pairs.{Matched}
 use Rattle.tracing.specs.declared.body.Slot.{Slot}
 use Rattle.tracing.specs.declared.body.Slot.TheVariants.{Input}
@@ -49,7 +49,7 @@ edge_to numbers s = record { to = position_or_len (nat_eq s.block.0) numbers; so
 -- the block b is y, a block of the function
 pub record IsBlockIn (c : ContextData) (h : InContext c) (b : BlockRef) (y : DialectBlock) : Type 0 where
   pub here : block_in (type_trees c.types) c b ≡ Some y
-  pub form : IsFormBlock h.function y
+  pub form : IsWellFormedBlock (type_in c) h.function y
 
 -- they are the blocks of the function, in order
 abbrev pub AreBlocksIn : (c : ContextData) → InContext c → List BlockRef → Type 0

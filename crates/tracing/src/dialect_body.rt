@@ -4,7 +4,7 @@ ghost use Rattle.std.specs.Prelude.{◌≡◌, ◌<◌, ◌++◌, List, All, IfO
 ghost use Rattle.std.specs.List.{flat_map};
 ghost use Rattle.llvm_core.specs.Interned.{IsDistinctList};
 ghost use Rattle.dialect_core.specs.declared.ops.Value as values;
-ghost use Rattle.dialect_core.specs.Data.{DialectBlock, DialectOp};
+ghost use Rattle.dialect_core.specs.Data.{DialectBlock, DialectOp, type_in};
 ghost use Rattle.meaning.specs.Dialect as dialect;
 ghost use Rattle.tracing.specs.Bodies.{block_of, code_of, start_of};
 ghost use Rattle.tracing.specs.Renamed.{renamed_block, renamed_code};
@@ -101,7 +101,7 @@ fn ops_of(alloc: Global, ctx: &Context, b: BlockRef) -> Result<Vec<OpRef>, Alloc
 fn block(alloc: Global, ctx: &Context, places: &Places, b: BlockRef) -> Result<Block, AllocError>
     requires within { b.0 < length ctx.now.blocks }
     requires block { (h : InContext ctx.now) × (y : DialectBlock) × IsBlockIn ctx.now h b y }
-    ensures { IfOk result (λ r. (h : InContext ctx.now) → (y : DialectBlock) → IsBlockIn ctx.now h b y → places.now ≡ numbers_of h.function → block_of (params_of h.function) r ≡ renamed_block slot_of (dialect.block h.function y)) }
+    ensures { IfOk result (λ r. (h : InContext ctx.now) → (y : DialectBlock) → IsBlockIn ctx.now h b y → places.now ≡ numbers_of h.function → block_of (params_of h.function) r ≡ renamed_block slot_of (dialect.typed_block (type_in ctx.now) h.function y)) }
 {
     let ops = ops_of(alloc, ctx, b)?;
     Ok(Block {
@@ -119,7 +119,7 @@ fn blocks(
 ) -> Result<Items<Block>, AllocError>
     requires within { All (λ b. b.0 < length ctx.now.blocks) list.now }
     requires blocks { (h : InContext ctx.now) × AreBlocksIn ctx.now h list.now }
-    ensures { IfOk result (λ bs. (h : InContext ctx.now) → AreBlocksIn ctx.now h list.now → places.now ≡ numbers_of h.function → code_of (params_of h.function) bs ≡ renamed_code slot_of (map (dialect.block h.function) h.function.blocks)) }
+    ensures { IfOk result (λ bs. (h : InContext ctx.now) → AreBlocksIn ctx.now h list.now → places.now ≡ numbers_of h.function → code_of (params_of h.function) bs ≡ renamed_code slot_of (map (dialect.typed_block (type_in ctx.now) h.function) h.function.blocks)) }
 {
     let mut blocks = Items::new(alloc);
     for b in list {
@@ -179,15 +179,15 @@ fn block_places(alloc: Global, list: &[BlockRef]) -> Result<Places, AllocError>
     places_of(alloc, numbers.as_slice())
 }
 
-/// The body of a function of the form.
+/// The body of a well-formed function.
 pub fn dialect_body(alloc: Global, ctx: &Context, f: FuncOp) -> Result<Body, AllocError>
     requires { (h : InContext ctx.now) × (h.op ≡ f.0) }
-    ensures code { IfOk result (λ body. (h : InContext ctx.now) → h.op ≡ f.0 → code_of body.params body.blocks ≡ renamed_code slot_of (map (dialect.block h.function) h.function.blocks)) }
+    ensures code { IfOk result (λ body. (h : InContext ctx.now) → h.op ≡ f.0 → code_of body.params body.blocks ≡ renamed_code slot_of (map (dialect.typed_block (type_in ctx.now) h.function) h.function.blocks)) }
     ensures start { IfOk result (λ body. (h : InContext ctx.now) → h.op ≡ f.0 → (v : values.Value) → start_of body.holder body.inputs (slot_of v) ≡ dialect.start h.function.blocks v) }
 {
     let list = ctx.op_blocks(f.0);
 
-    // A function of the form has a first block.
+    // A function with a body has a first block.
     let entry = list[0];
     let inputs = arg_count(ctx, entry)?;
     let places = block_places(alloc, list)?;

@@ -3,8 +3,9 @@
 ghost use Rattle.std.specs.Prelude.{◌≡◌, ◌<◌, ℕ, List, All, IfOk, IfSome, Some, length, map, slice_get};
 ghost use Rattle.dialect_types.specs.declared.attrs.ConstAttr.TheVariants as attrs;
 ghost use Rattle.dialect_types.specs.Trees.{TypeTree, IntegerType, IntegerAttr, HasTypesBelow, type_at, type_trees, attr_tree};
-ghost use Rattle.dialect_core.specs.Data.{DialectBlock, DialectOp, IsTyped, block_in, op_at, value_type};
+ghost use Rattle.dialect_core.specs.Data.{DialectBlock, DialectOp, IsTyped, block_in, op_at, type_in};
 ghost use Rattle.dialect_core.specs.Form.{IsShortInt};
+ghost use Rattle.dialect_core.specs.WellFormed.{IsInteger};
 ghost use Rattle.meaning.specs.Machine as machine;
 ghost use Rattle.meaning.specs.Dialect as dialect;
 ghost use Rattle.meaning.specs.Dialect.{predicate_of, option_type, type_of};
@@ -29,7 +30,7 @@ use std::alloc::{AllocError, Global};
 /// The type of a value.
 fn value_type(ctx: &Context, ty: TypeHandle) -> ValueType
     requires within { ty.0 < length ctx.now.types }
-    requires short { IsShortInt (type_at (type_trees ctx.now.types) ty) }
+    requires integer { IsInteger (type_at (type_trees ctx.now.types) ty) }
     ensures { tree_of result ≡ type_of (type_at (type_trees ctx.now.types) ty) }
 {
     ValueType::Int(int_width(ctx, ty))
@@ -37,7 +38,7 @@ fn value_type(ctx: &Context, ty: TypeHandle) -> ValueType
 
 fn int_width(ctx: &Context, ty: TypeHandle) -> u32
     requires within { ty.0 < length ctx.now.types }
-    requires short { IsShortInt (type_at (type_trees ctx.now.types) ty) }
+    requires integer { IsInteger (type_at (type_trees ctx.now.types) ty) }
     ensures { type_at (type_trees ctx.now.types) ty ≡ IntegerType result }
 {
     match ctx.types().kind(ty) {
@@ -49,7 +50,7 @@ fn int_width(ctx: &Context, ty: TypeHandle) -> u32
 /// The type of the result of an operation, void where it has none.
 fn result_type(ctx: &Context, op: OpRef) -> ValueType
     requires typed { IsTyped ctx.now }
-    requires here { (o : DialectOp) × (op_at (type_trees ctx.now.types) ctx.now.ops op ≡ Some o) × IfSome o.result IsShortInt }
+    requires here { (o : DialectOp) × (op_at (type_trees ctx.now.types) ctx.now.ops op ≡ Some o) × IfSome o.result IsInteger }
     ensures { (o : DialectOp) → op_at (type_trees ctx.now.types) ctx.now.ops op ≡ Some o → tree_of result ≡ option_type o.result }
 {
     match ctx.result_type(op) {
@@ -60,15 +61,17 @@ fn result_type(ctx: &Context, op: OpRef) -> ValueType
 
 fn argument_type(ctx: &Context, block: BlockRef, place: u32) -> ValueType
     requires typed { IsTyped ctx.now }
-    requires here { (b : DialectBlock) × (type : TypeTree) × (block_in (type_trees ctx.now.types) ctx.now block ≡ Some b) × (slice_get b.args place ≡ Some type) × IsShortInt type }
+    requires here { (b : DialectBlock) × (type : TypeTree) × (block_in (type_trees ctx.now.types) ctx.now block ≡ Some b) × (slice_get b.args place ≡ Some type) × IsInteger type }
     ensures { (b : DialectBlock) → (type : TypeTree) → block_in (type_trees ctx.now.types) ctx.now block ≡ Some b → slice_get b.args place ≡ Some type → tree_of result ≡ type_of type }
 {
     value_type(ctx, ctx.block_args(block)[place as usize])
 }
 
+/// The type of a value, which the context gives it, whichever function it belongs to.
 fn operand_type(ctx: &Context, v: Value) -> ValueType
-    requires { (h : InContext ctx.now) × IsUsed ctx.now h v }
-    ensures { (h : InContext ctx.now) → IsUsed ctx.now h v → tree_of result ≡ option_type (value_type h.function v) }
+    requires typed { IsTyped ctx.now }
+    requires used { IsUsed ctx.now v }
+    ensures { tree_of result ≡ option_type (type_in ctx.now v) }
 {
     match v {
         Value::Result(op) => result_type(ctx, op),
@@ -91,8 +94,9 @@ fn operand_types(
     ctx: &Context,
     values: &[Value],
 ) -> Result<Items<ValueType>, AllocError>
-    requires { (h : InContext ctx.now) × All (IsUsed ctx.now h) values.now }
-    ensures { IfOk result (λ ts. (h : InContext ctx.now) → All (IsUsed ctx.now h) values.now → map tree_of ts ≡ map (λ v. option_type (value_type h.function v)) values.now) }
+    requires typed { IsTyped ctx.now }
+    requires used { All (IsUsed ctx.now) values.now }
+    ensures { IfOk result (λ ts. map tree_of ts ≡ map (λ v. option_type (type_in ctx.now v)) values.now) }
 {
     let mut types = Items::new(alloc);
     for value in values {
@@ -157,7 +161,7 @@ fn applied(
     immediates: Immediates,
 ) -> Result<Action, AllocError>
     requires { (h : InContext ctx.now) × (o : DialectOp) × IsOpIn ctx.now h op o }
-    ensures { IfOk result (λ a. (h : InContext ctx.now) → (o : DialectOp) → IsOpIn ctx.now h op o → action_of a ≡ renamed_action slot_of (dialect.applies h.function o (opcode_of opcode) (immediates_of immediates))) }
+    ensures { IfOk result (λ a. (h : InContext ctx.now) → (o : DialectOp) → IsOpIn ctx.now h op o → action_of a ≡ renamed_action slot_of (dialect.typed_applies (type_in ctx.now) o (opcode_of opcode) (immediates_of immediates))) }
 {
     let values = ctx.op_operands(op);
     let operand_types = operand_types(alloc, ctx, values)?;
@@ -177,7 +181,7 @@ fn applied(
 /// What an operation does: a line for each kind.
 fn action(alloc: Global, ctx: &Context, op: OpRef) -> Result<Action, AllocError>
     requires { (h : InContext ctx.now) × (o : DialectOp) × IsOpIn ctx.now h op o }
-    ensures { IfOk result (λ a. (h : InContext ctx.now) → (o : DialectOp) → IsOpIn ctx.now h op o → action_of a ≡ renamed_action slot_of (dialect.action h.function o o.kind)) }
+    ensures { IfOk result (λ a. (h : InContext ctx.now) → (o : DialectOp) → IsOpIn ctx.now h op o → action_of a ≡ renamed_action slot_of (dialect.typed_action (type_in ctx.now) o o.kind)) }
 {
     match ctx.op_kind(op) {
         OpKind::Constant(value) => Ok(constant(ctx, value)),
@@ -202,7 +206,7 @@ fn action(alloc: Global, ctx: &Context, op: OpRef) -> Result<Action, AllocError>
 
 fn row(alloc: Global, ctx: &Context, op: OpRef) -> Result<Row, AllocError>
     requires { (h : InContext ctx.now) × (o : DialectOp) × IsOpIn ctx.now h op o }
-    ensures { IfOk result (λ r. (h : InContext ctx.now) → (o : DialectOp) → IsOpIn ctx.now h op o → row_of r ≡ renamed_row slot_of (dialect.row h.function o)) }
+    ensures { IfOk result (λ r. (h : InContext ctx.now) → (o : DialectOp) → IsOpIn ctx.now h op o → row_of r ≡ renamed_row slot_of (dialect.typed_row (type_in ctx.now) o)) }
 {
     let action = action(alloc, ctx, op)?;
     Ok(Row {
@@ -214,7 +218,7 @@ fn row(alloc: Global, ctx: &Context, op: OpRef) -> Result<Row, AllocError>
 /// The rows of the operations of a block.
 pub fn rows(alloc: Global, ctx: &Context, ops: &[OpRef]) -> Result<Items<Row>, AllocError>
     requires { (h : InContext ctx.now) × (os : List DialectOp) × AreOpsIn ctx.now h ops.now os }
-    ensures { IfOk result (λ rows. (h : InContext ctx.now) → (os : List DialectOp) → AreOpsIn ctx.now h ops.now os → map row_of rows ≡ rows_of ctx.now h os) }
+    ensures { IfOk result (λ rows. (h : InContext ctx.now) → (os : List DialectOp) → AreOpsIn ctx.now h ops.now os → map row_of rows ≡ rows_of ctx.now os) }
 {
     let mut rows = Items::new(alloc);
     for op in ops {

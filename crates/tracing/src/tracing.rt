@@ -5,12 +5,13 @@ ghost use Rattle.llvm_core.specs.Interned.{IsDistinctList};
 ghost use Rattle.llvm_core.specs.Data.{Function, data_of};
 ghost use Rattle.llvm_core.specs.Form.{IsForm};
 ghost use Rattle.dialect_core.specs.Data as context;
-ghost use Rattle.dialect_core.specs.Data.{Func};
+ghost use Rattle.dialect_core.specs.Data.{Func, IsTyped, type_in};
+ghost use Rattle.dialect_core.specs.WellFormed.{IsWellFormed};
 ghost use Rattle.meaning.specs.Llvm as llvm;
 ghost use Rattle.meaning.specs.Dialect as dialect;
 ghost use Rattle.tracing.specs.Table.{terms, IsGrounded};
 ghost use Rattle.tracing.specs.Runs.{item_of, HasPlacesBelow};
-ghost use Rattle.tracing.specs.DialectBodies.{InModule};
+ghost use Rattle.tracing.specs.DialectBodies.{HasBody};
 
 use crate::dialect_body::dialect_body;
 use crate::llvm_body::llvm_body;
@@ -43,8 +44,9 @@ pub fn trace_of_llvm(
     trace_body(alloc, &body, choices)
 }
 
-/// The trace of a function of a dialect module, which is of the form. Each term of the table stands once, behind its
-/// parts. It is an error where there is no memory.
+/// The trace of a function with a body of a well-formed dialect module. Each term of the table stands once, behind its
+/// parts. A value of another function reads as unset, and has the type that it has there. It is an error where there is
+/// no memory.
 pub fn trace_of_dialect(
     alloc: Global,
     ctx: &Context,
@@ -52,8 +54,10 @@ pub fn trace_of_dialect(
     f: FuncOp,
     choices: &[u32],
 ) -> Result<Trace, AllocError>
-    requires { InModule ctx.now «module».0.0 f.0 }
-    ensures exact { IfOk result (λ t. (place : ℕ) (g : Func) → slice_get (context.data_of ctx.now «module».0.0).functions place ≡ Some g → g.number ≡ f.0.0 → map (item_of (terms t.terms)) t.items.items ≡ (dialect.body g).trace choices.now) }
+    requires typed { IsTyped ctx.now }
+    requires well_formed { IsWellFormed ctx.now «module».0.0 }
+    requires body { HasBody ctx.now «module».0.0 f.0 }
+    ensures exact { IfOk result (λ t. (place : ℕ) (g : Func) → slice_get (context.data_of ctx.now «module».0.0).functions place ≡ Some g → g.number ≡ f.0.0 → map (item_of (terms t.terms)) t.items.items ≡ (dialect.typed_body (type_in ctx.now) g).trace choices.now) }
     ensures within { IfOk result (λ t. All (HasPlacesBelow (length t.terms)) t.items.items) }
     ensures shared { IfOk result (λ t. IsDistinctList (terms t.terms)) }
     ensures parts { IfOk result (λ t. IsGrounded t.terms) }

@@ -1,7 +1,7 @@
 -- What `dialect_body::blocks` owes besides what the check finds.
 use Rattle.std.proofs.Common.{ap, sym, map, ◌∙◌}
-use Rattle.dialect_core.specs.Data.{DialectBlock}
-use Rattle.meaning.specs.Dialect.{block}
+use Rattle.dialect_core.specs.Data.{DialectBlock, type_in}
+use Rattle.meaning.specs.Dialect.{typed_block}
 use Rattle.tracing.specs.Bodies.{block_of}
 use Rattle.tracing.specs.Renamed.{renamed_block}
 use Rattle.tracing.specs.DialectBodies.{slot_of}
@@ -22,12 +22,12 @@ loop-b-preserved c = record {
       let g = h.function in
       let s = matched_at (IsBlockIn c.args.ctx.now h) c.args.list.now g.blocks c.loop-b.b-index some_ref c.loop-b-test.true all in
       rw c.in_ok-push.ensures.ok
-      (mapped_next (block_of (params_of g)) (λ (y : DialectBlock). renamed_block slot_of (block g y)) c.loop-b.blocks c.in_ok-made.made g.blocks c.loop-b.b-index s.item s.at (c.loop-b.invariant.at h all numbers) (c.in_ok-made.ensures h s.item s.fits numbers));
+      (mapped_next (block_of (params_of g)) (λ (y : DialectBlock). renamed_block slot_of (typed_block (type_in c.args.ctx.now) g y)) c.loop-b.blocks c.in_ok-made.made g.blocks c.loop-b.b-index s.item s.at (c.loop-b.invariant.at h all numbers) (c.in_ok-made.ensures h s.item s.fits numbers));
 }
 
 pub returns : goal.returns
 returns c = λ h all numbers.
     let g = h.function in
     c.loop-b.invariant.at h all numbers
-    ∙ ap (map (λ (y : DialectBlock). renamed_block slot_of (block g y))) (take_whole (IsBlockIn c.args.ctx.now h) c.args.list.now g.blocks c.loop-b.b-index c.loop-b-test.false all)
-    ∙ sym (mapped_twice (renamed_block slot_of) (block g) g.blocks)
+    ∙ ap (map (λ (y : DialectBlock). renamed_block slot_of (typed_block (type_in c.args.ctx.now) g y))) (take_whole (IsBlockIn c.args.ctx.now h) c.args.list.now g.blocks c.loop-b.b-index c.loop-b-test.false all)
+    ∙ sym (mapped_twice (renamed_block slot_of) (typed_block (type_in c.args.ctx.now) g) g.blocks)

@@ -1,18 +1,23 @@
 -- What `dialect_rows::applied` owes besides what the check finds.
 use Rattle.std.proofs.Common.{subst, All}
+use Rattle.dialect_core.specs.Data.{type_in}
 use Rattle.tracing.specs.DialectBodies.{IsUsed}
-use Rattle.tracing.proofs.DialectLaws.{op_within, operands_kept, used_all, short_result, applied_is}
+use Rattle.tracing.proofs.DialectLaws.{op_within, operands_kept, used_all, integer_result, applied_is}
 use Rattle.tracing.proofs.dialect_rows.applied.Goals as goal
 
 pub op_operands-values-requires : goal.op_operands-values-requires
 op_operands-values-requires c = op_within c.args.ctx.now c.args.op c.requires.1 c.requires.2.here
 
-pub operand_types-requires : goal.operand_types-requires
-operand_types-requires c =
+pub operand_types-requires-clause-typed : goal.operand_types-requires-clause-typed
+operand_types-requires-clause-typed c = c.requires.0.typed
+
+pub operand_types-requires-clause-used : goal.operand_types-requires-clause-used
+operand_types-requires-clause-used c =
+    let x = c.args.ctx.now in
     let h = c.requires.0 in
     let o = c.requires.1 in
     let at = c.requires.2 in
-    (h, subst (All (IsUsed c.args.ctx.now h)) (operands_kept c.args.ctx.now c.args.op o _ at.here c.op_operands-values.ensures.operands) (used_all c.args.ctx.now h o o.kind at.form.kind))
+    subst (All (IsUsed x)) (operands_kept x c.args.op o _ at.here c.op_operands-values.ensures.operands) (used_all x h.function h.form.signature o.operands o.result o.successors o.kind at.form)
 
 pub result_type-requires-clause-typed : goal.result_type-requires-clause-typed
 result_type-requires-clause-typed c = c.requires.0.typed
@@ -22,12 +27,11 @@ result_type-requires-clause-here c =
     let h = c.requires.0 in
     let o = c.requires.1 in
     let at = c.requires.2 in
-    (o, at.here, short_result h.function o o.kind at.form.kind)
+    (o, at.here, integer_result c.args.ctx.now h.function o.operands o.result o.successors o.kind at.form)
 
 pub returns : goal.returns
 returns c = λ h o at.
-    let ctx = c.args.ctx.now in
-    let operands = operands_kept ctx c.args.op o c.op_operands-values.result.now at.here c.op_operands-values.ensures.operands in
-    let used = subst (All (IsUsed ctx h)) operands (used_all ctx h o o.kind at.form.kind) in
-    applied_is h.function o c.args.opcode (record { immediates = c.args.immediates; ty = c.result_type.result; operand_types = c.in_ok-operand_types.operand_types }) c.in_ok-operands.operands c.op_operands-values.result.now operands (c.result_type.ensures o at.here)
-    (c.in_ok-operand_types.ensures h used) c.in_ok-operands.ensures
+    let x = c.args.ctx.now in
+    let operands = operands_kept x c.args.op o c.op_operands-values.result.now at.here c.op_operands-values.ensures.operands in
+    applied_is (type_in x) o c.args.opcode (record { immediates = c.args.immediates; ty = c.result_type.result; operand_types = c.in_ok-operand_types.operand_types }) c.in_ok-operands.operands c.op_operands-values.result.now operands (c.result_type.ensures o at.here)
+    c.in_ok-operand_types.ensures c.in_ok-operands.ensures

@@ -1,6 +1,7 @@
 -- What `dialect_rows::constant` owes besides what the check finds.
 use Rattle.std.proofs.Common.{ℕ, length, ap, sym, subst, ◌∙◌}
 use Rattle.dialect_types.specs.Trees.{HasTypesBelow, TypeTree, type_trees, attr_tree}
+use Rattle.dialect_core.proofs.WellLaws.{short_integer}
 use Rattle.meaning.specs.Terms.{Int}
 use Rattle.meaning.specs.Llvm.{int_of}
 use Rattle.meaning.specs.Dialect.{type_of, attr_term}
@@ -12,8 +13,8 @@ use Rattle.tracing.proofs.dialect_rows.constant.Goals as goal
 pub int_width-requires-clause-within : goal.int_width-requires-clause-within
 int_width-requires-clause-within c = subst (HasTypesBelow (length c.args.ctx.now.types)) c.parts_of-number.ensures c.requires.within
 
-pub int_width-requires-clause-short : goal.int_width-requires-clause-short
-int_width-requires-clause-short c = c.requires.short _ _ (ap (attr_tree (type_trees c.args.ctx.now.types)) c.parts_of-number.ensures)
+pub int_width-requires-clause-integer : goal.int_width-requires-clause-integer
+int_width-requires-clause-integer c = short_integer _ (c.requires.short _ _ (ap (attr_tree (type_trees c.args.ctx.now.types)) c.parts_of-number.ensures))
 
 pub returns : goal.returns
 returns c =

@@ -4,26 +4,21 @@ use Rattle.meaning.specs.Dialect.{option_type}
 use Rattle.tracing.proofs.DialectLaws.{used_result, used_argument}
 use Rattle.tracing.proofs.dialect_rows.operand_type.Goals as goal
 
-pub result_type-requires-clause-typed : goal.result_type-requires-clause-typed
-result_type-requires-clause-typed c = c.requires.0.typed
-
 pub result_type-requires-clause-here : goal.result_type-requires-clause-here
-result_type-requires-clause-here c = let k = used_result c.args.ctx.now c.requires.0 c.in-Result.op c.args.v c.in-Result.is c.requires.1 in (k.op, k.here, k.short)
-
-pub argument_type-requires-clause-typed : goal.argument_type-requires-clause-typed
-argument_type-requires-clause-typed c = c.requires.0.typed
+result_type-requires-clause-here c = let k = used_result c.args.ctx.now c.in-Result.op c.args.v c.in-Result.is c.requires.used in (k.op, k.here, k.integer)
 
 pub argument_type-requires-clause-here : goal.argument_type-requires-clause-here
 argument_type-requires-clause-here c =
-    let k = used_argument c.args.ctx.now c.requires.0 c.in-Argument.block c.in-Argument.place c.args.v c.in-Argument.is c.requires.1 in
-    (k.block, c.requires.1.type, k.here, k.typed, c.requires.1.stands.short)
+    let k = used_argument c.args.ctx.now c.in-Argument.block c.in-Argument.place c.args.v c.in-Argument.is c.requires.used in
+    (k.block, c.requires.used.type, k.here, k.typed, c.requires.used.integer)
 
 pub returns-in-Result : goal.returns-in-Result
-returns-in-Result c = λ h used.
-    let k = used_result c.args.ctx.now h c.in-Result.op c.args.v c.in-Result.is used in
+returns-in-Result c =
+    let k = used_result c.args.ctx.now c.in-Result.op c.args.v c.in-Result.is c.requires.used in
     c.result_type.ensures k.op k.here ∙ ap option_type k.typed
 
 pub returns-in-Argument : goal.returns-in-Argument
-returns-in-Argument c = λ h used.
-    let k = used_argument c.args.ctx.now h c.in-Argument.block c.in-Argument.place c.args.v c.in-Argument.is used in
-    c.argument_type.ensures k.block used.type k.here k.typed ∙ ap option_type (sym used.stands.typed)
+returns-in-Argument c =
+    let used = c.requires.used in
+    let k = used_argument c.args.ctx.now c.in-Argument.block c.in-Argument.place c.args.v c.in-Argument.is used in
+    c.argument_type.ensures k.block used.type k.here k.typed ∙ ap option_type (sym used.typed)

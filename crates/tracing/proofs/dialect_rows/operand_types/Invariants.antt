@@ -1,13 +1,12 @@
 -- What holds in the loop of `dialect_rows::operand_types`.
-use Rattle.std.specs.Prelude.{◌≡◌, All, map, take}
+use Rattle.std.specs.Prelude.{◌≡◌, map, take}
 use Rattle.dialect_core.specs.declared.ops.Value.{Value}
-use Rattle.dialect_core.specs.Data.{value_type}
+use Rattle.dialect_core.specs.Data.{type_in}
 use Rattle.meaning.specs.Dialect.{option_type}
 use Rattle.tracing.specs.Table.{tree_of}
-use Rattle.tracing.specs.DialectBodies.{InContext, IsUsed}
 use Rattle.tracing.proofs.dialect_rows.operand_types.Given as goal
 
 abbrev pub invariant-loop-value : goal.invariant-loop-value
 invariant-loop-value l = record {
-  at : (h : InContext l.ctx) → All (IsUsed l.ctx h) l.values → map tree_of l.types ≡ map (λ (v : Value). option_type (value_type h.function v)) (take l.value-index l.values);
+  at : map tree_of l.types ≡ map (λ (v : Value). option_type (type_in l.ctx v)) (take l.value-index l.values);
 }

@@ -1,6 +1,6 @@
 -- What `dialect_rows::rows` owes besides what the check finds.
 use Rattle.std.proofs.Common.{ap, ◌∙◌}
-use Rattle.dialect_core.specs.Data.{DialectOp}
+use Rattle.dialect_core.specs.Data.{DialectOp, type_in}
 use Rattle.meaning.specs.Dialect as Dialect
 use Rattle.tracing.specs.Bodies.{row_of}
 use Rattle.tracing.specs.Renamed.{renamed_row}
@@ -20,10 +20,10 @@ loop-op-preserved c = record {
   at = λ h os all.
       let s = op_in_at c.args.ctx.now h c.args.ops.now os c.loop-op.op-index c.loop-op-test.true all in
       rw c.in_ok-push.ensures.ok
-      (mapped_next row_of (λ (o : DialectOp). renamed_row slot_of (Dialect.row h.function o)) c.loop-op.rows _ os c.loop-op.op-index s.item s.at (c.loop-op.invariant.at h os all) (c.in_ok-row.ensures h s.item s.fits));
+      (mapped_next row_of (λ (o : DialectOp). renamed_row slot_of (Dialect.typed_row (type_in c.args.ctx.now) o)) c.loop-op.rows _ os c.loop-op.op-index s.item s.at (c.loop-op.invariant.at h os all) (c.in_ok-row.ensures h s.item s.fits));
 }
 
 pub returns : goal.returns
 returns c = λ h os all.
     c.loop-op.invariant.at h os all
-    ∙ ap (rows_of c.args.ctx.now h) (take_whole (IsOpIn c.args.ctx.now h) c.args.ops.now os c.loop-op.op-index c.loop-op-test.false all)
+    ∙ ap (rows_of c.args.ctx.now) (take_whole (IsOpIn c.args.ctx.now h) c.args.ops.now os c.loop-op.op-index c.loop-op-test.false all)

@@ -7,5 +7,5 @@ use Rattle.tracing.proofs.dialect_rows.rows.Given as goal
 
 abbrev pub invariant-loop-op : goal.invariant-loop-op
 invariant-loop-op l = record {
-  at : (h : InContext l.ctx) → (os : List DialectOp) → AreOpsIn l.ctx h l.ops os → map row_of l.rows ≡ rows_of l.ctx h (take l.op-index os);
+  at : (h : InContext l.ctx) → (os : List DialectOp) → AreOpsIn l.ctx h l.ops os → map row_of l.rows ≡ rows_of l.ctx (take l.op-index os);
 }
