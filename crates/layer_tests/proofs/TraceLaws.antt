@@ -1,5 +1,5 @@
 -- Which operation of a dialect module is a function that can be run.
-use Rattle.std.proofs.Common.{ℕ, ◌≡◌, ◌<◌, true, List, [], ◌∷◌, Some, None, All, length, slice_get, get_or, sym, ap, ◌∙◌, arith}
+use Rattle.std.proofs.Common.{ℕ, zero, suc, nat_eq, ◌≡◌, ◌<◌, true, false, List, [], ◌∷◌, Some, None, All, length, slice_get, get_or, sym, ap, ◌∙◌, arith}
 use Rattle.std.specs.Prelude.{Option, is_some}
 use Rattle.std.specs.List.{cons_option, filter_map}
 use Rattle.std.specs.Option.{option_map}
@@ -16,6 +16,10 @@ use Rattle.to_llvm_ir.proofs.ContextLaws.{some_func}
 use Rattle.tracing.specs.DialectBodies.{HasBody}
 use Rattle.tracing.proofs.DialectLaws.{kept_func}
 use Rattle.tracing.proofs.ModuleLaws.{has_body}
+
+pub some_length : (n : ℕ) → nat_eq n 0 ≡ false → 0 < n
+some_length zero h = absurd (let e : true ≡ false = h in cc)
+some_length (suc n) h = omega arith
 
 -- some block is there
 some_blocks : (c : ContextData) (bs : List BlockRef) → 0 < length bs → All (λ (b : BlockRef). b.0 < length c.blocks) bs → ¬ (filter_map (block_in (type_trees c.types) c) bs ≡ [])

@@ -44,9 +44,9 @@ pub fn trace_of_llvm(
     trace_body(alloc, &body, choices)
 }
 
-/// The trace of a function with a body of a well-formed dialect module. Each term of the table stands once, behind its
-/// parts. A value of another function reads as unset, and has the type that it has there. It is an error where there is
-/// no memory.
+/// The trace of a function with a body of a well-formed dialect module, in a context whose numbers of types are in range.
+/// A value that is not the function's own is set by no run of it, and has the type that the context gives it. Each term of
+/// the table stands once, behind its parts. It is an error where there is no memory.
 pub fn trace_of_dialect(
     alloc: Global,
     ctx: &Context,
