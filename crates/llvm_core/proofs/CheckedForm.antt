@@ -97,7 +97,7 @@ module _ (m : Module) (sound : IsModule m) (checked : IsChecked m) where
 
   -- ---- instructions
 
-  meets : (f i : ℕ) (z : InstData) → slice_get m.insts i ≡ Some z → home m z ≡ numbered f → MeetsRules m f z.block.0 z.ty z.inst
+  pub meets : (f i : ℕ) (z : InstData) → slice_get m.insts i ≡ Some z → home m z ≡ numbered f → MeetsRules m f z.block.0 z.ty z.inst
   meets f i z is home_is = record {
     types = λ bad. checked (OperandType (P.Inst i)) (z, is, subst (λ g. MisfitsType m g z.inst) (sym home_is) bad);
     counts = false_from_ne_true (misfits_count m (numbered f) z.inst) (λ bad. checked (OperandCount (P.Inst i)) (z, is, subst (λ g. misfits_count m g z.inst ≡ true) (sym home_is) bad));

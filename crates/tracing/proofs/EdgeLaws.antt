@@ -27,7 +27,7 @@ use Rattle.tracing.specs.declared.llvm_index.Phi.{Phi}
 use Rattle.tracing.specs.declared.llvm_index.Index.{Index}
 use Rattle.tracing.specs.Bodies.{source_of, moves_from, params_at, row_of, edge_of, block_of}
 use Rattle.tracing.specs.Renamed.{renamed, renamed_row, renamed_move, renamed_edge, renamed_block}
-use Rattle.tracing.specs.LlvmBodies.{slot_of, InForm, data_in, IsPhiOf, ArePhisOf, slots_of, taken_from, IsIndexOf, IsBlockIn, rows_in, params_in, phis_at, edge_to}
+use Rattle.tracing.specs.LlvmBodies.{slot_of, InChecked, data_in, IsPhiOf, ArePhisOf, slots_of, taken_from, IsIndexOf, IsBlockIn, rows_in, params_in, phis_at, edge_to}
 use Rattle.tracing.proofs.PlaceLaws.{place_by_number}
 
 -- the place of what passes the test, past the end where nothing does
@@ -99,7 +99,7 @@ matched_get P (x ∷ xs) (y ∷ ys) (suc i) h = matched_get P xs ys i h.1
 matched_get P [] (y ∷ ys) i h = elim h [ ]
 matched_get P (x ∷ xs) [] i h = elim h [ ]
 
-module _ (m : Module) (h : InForm m) (x : Index) (index : IsIndexOf m h x) (from to : ℕ) where
+module _ (m : Module) (h : InChecked m) (x : Index) (index : IsIndexOf m h x) (from to : ℕ) where
   abbrev there : Block → Bool
   there y = nat_eq y.number to
 
@@ -132,13 +132,13 @@ module _ (m : Module) (h : InForm m) (x : Index) (index : IsIndexOf m h x) (from
   pub edge_is : edge_of (params_in x) (edge_to x from to) ≡ renamed_edge slot_of (edge (data_of m) (data_in m h) from to)
   edge_is = edge_at (position_or_len (nat_eq to) x.places) to_is
 
-pub edges_are : (m : Module) (h : InForm m) (x : Index) → IsIndexOf m h x → (from : ℕ) (ns : List ℕ) → map (edge_of (params_in x)) (map (edge_to x from) ns) ≡ map (renamed_edge slot_of) (map (edge (data_of m) (data_in m h) from) ns)
+pub edges_are : (m : Module) (h : InChecked m) (x : Index) → IsIndexOf m h x → (from : ℕ) (ns : List ℕ) → map (edge_of (params_in x)) (map (edge_to x from) ns) ≡ map (renamed_edge slot_of) (map (edge (data_of m) (data_in m h) from) ns)
 edges_are m h x index from [] = refl
 edges_are m h x index from (n ∷ ns) = let e = edge_is m h x index from n in let rest = edges_are m h x index from ns in cc
 
 -- ---- a block
 
-module _ (m : Module) (h : InForm m) (x : Index) (index : IsIndexOf m h x) where
+module _ (m : Module) (h : InChecked m) (x : Index) (index : IsIndexOf m h x) where
   rows_are : (ps : List Placed) → rows_in m h ps ≡ map (renamed_row slot_of) (filter_map (λ (p : Placed). row (data_of m) (data_in m h) p (phi_entries p.instruction)) ps)
   rows_are [] = refl
   rows_are (p ∷ ps) = by (row (data_of m) (data_in m h) p (phi_entries p.instruction)) (rows_are ps)
@@ -157,7 +157,7 @@ module _ (m : Module) (h : InForm m) (x : Index) (index : IsIndexOf m h x) where
       λ i. record { rows = all_rows i; edges = all_edges i }
 
 -- the number of a block is that of its data
-pub block_number : (m : Module) (h : InForm m) (b : LLVMBasicBlock) (y : Block) → IsBlockIn m h b y → b.0 ≡ y.number
+pub block_number : (m : Module) (h : InChecked m) (b : LLVMBasicBlock) (y : Block) → IsBlockIn m h b y → b.0 ≡ y.number
 block_number m h b y at = by (slice_get m.blocks b.0) at.here
   where
     by : (o : Option BlockData) → option_map (D.block_of (trees_of m) m.insts b) o ≡ Some y → b.0 ≡ y.number

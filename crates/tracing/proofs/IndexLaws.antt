@@ -1,9 +1,8 @@
 -- The index of a function of LLVM: what its phis take, and where its blocks stand.
 use Rattle.std.proofs.Common.{◌≡◌, ◌<◌, ◌≤◌, ◌+◌, ℕ, suc, Bool, true, false, cond, if◌then◌else◌, List, [], ◌∷◌, ◌++◌, Option, Some, None, length, map, filter, take, slice_get, get_or, nat_eq, refl, sym, ap, subst, ◌∙◌, arith, All}
 use Rattle.std.specs.List.{filter_map, find, cons_option}
-use Rattle.std.specs.Option.{option_map}
+use Rattle.std.specs.Option.{option_map, option_map_or}
 use Rattle.std.proofs.lemmas.List.{append-nil, take_more, take_all}
-use Rattle.std.proofs.lemmas.List.Elements.{All-head, All-tail}
 use Rattle.std.proofs.lemmas.Option.{none-some, slice_get-get_or}
 use Rattle.llvm_core.specs.declared.numbers.LLVMBasicBlock.{LLVMBasicBlock}
 use Rattle.llvm_core.specs.declared.numbers.LLVMInstRef.{LLVMInstRef}
@@ -21,12 +20,16 @@ use Rattle.tracing.proofs.LlvmLaws.{kept_at}
 use Rattle.tracing.proofs.RunLaws.{matched_push}
 use Rattle.llvm_core.specs.declared.code.BlockData.{BlockData}
 use Rattle.llvm_core.specs.declared.code.FunctionData.{FunctionData}
+use Rattle.llvm_core.specs.declared.code.InstData.{InstData}
 use Rattle.llvm_core.specs.Module.{Module}
 use Rattle.llvm_core.specs.Data as D
 use Rattle.llvm_core.specs.Data.{Placed, Block, Instruction, trees_of, entry_of, operand_of, instruction_of, phi_entries, placed_at, block_at, block_of, data_of}
-use Rattle.llvm_core.specs.Form.{is_phi, IsFormInstruction, IsFormBlock}
+use Rattle.llvm_core.specs.Checked.{home}
+use Rattle.llvm_core.specs.Form.{is_phi}
 use Rattle.llvm_core.proofs.ListLemmas.{some_same}
-use Rattle.llvm_core.proofs.DataLemmas.{blocks_there, insts_there, slice_get-filter_map_all, within_at, length-filter_map_all}
+use Rattle.llvm_core.proofs.DataLemmas.{blocks_there, insts_there, slice_get-filter_map_all, length-filter_map_all}
+use Rattle.llvm_core.proofs.FormPlaces.{block_from}
+use Rattle.llvm_core.proofs.FormTypes.{numbered}
 use Rattle.meaning.specs.Machine as M
 use Rattle.meaning.specs.Pairs.{Matched}
 use Rattle.llvm_core.specs.declared.types.LLVMTypeKind.{LLVMTypeKind}
@@ -38,7 +41,7 @@ use Rattle.tracing.specs.Bodies.{start_of}
 use Rattle.meaning.specs.Llvm.{entry_for, operand, arity, count_types, start, Key, ParamKey, ResultKey}
 use Rattle.tracing.specs.Renamed.{renamed}
 use Rattle.tracing.specs.declared.body.Slot.{Slot}
-use Rattle.tracing.specs.LlvmBodies.{slot_of, first_of, operand_in, InForm, data_in, IsPlacedIn, ArePlacedIn, IsBlockIn, IsPhiOf}
+use Rattle.tracing.specs.LlvmBodies.{slot_of, first_of, operand_in, InChecked, data_in, IsPlacedIn, ArePlacedIn, IsBlockIn, IsPhiOf}
 
 module _ (m : Module) (from : ℕ) where
   abbrev pub taken_of : List PhiEntry → Option (M.Operand Slot)
@@ -70,7 +73,7 @@ module _ (m : Module) (from : ℕ) where
 
 -- ---- blocks and their instructions
 
-module _ (m : Module) (h : InForm m) where
+module _ (m : Module) (h : InChecked m) where
   pub block_there : (bs : List LLVMBasicBlock) → h.function.blocks ≡ bs → (i : ℕ) (b : LLVMBasicBlock) → slice_get bs i ≡ Some b → (y : Block) × IsBlockIn m h b y × (slice_get (data_in m h).blocks i ≡ Some y)
   block_there bs are i b at =
       let listed : slice_get h.function.blocks i ≡ Some b = ap (λ (xs : List LLVMBasicBlock). slice_get xs i) are ∙ at in
@@ -82,16 +85,28 @@ module _ (m : Module) (h : InForm m) where
   pub block_count : length (data_in m h).blocks ≡ length h.function.blocks
   block_count = length-filter_map_all (block_at (trees_of m) m.blocks m.insts) h.function.blocks (blocks_there m h.function.blocks (h.sound.functions h.number h.function h.at).blocks)
 
-  placed_each : (b : ℕ) (is : List LLVMInstRef) → ((j : ℕ) (i : LLVMInstRef) → slice_get is j ≡ Some i → (p : Placed) × (placed_at (trees_of m) m.insts i ≡ Some p))
-      → All (λ (p : Placed). IsFormInstruction (data_in m h) b p p.instruction) (filter_map (placed_at (trees_of m) m.insts) is) → ArePlacedIn m h b is (filter_map (placed_at (trees_of m) m.insts) is)
-  placed_each b [] all form = tt
-  placed_each b (i ∷ is) all form =
+  -- the instruction is one of the block of the number b, in the function
+  abbrev IsOwned : (b : ℕ) → LLVMInstRef → Type 0
+  IsOwned b i = (x : InstData) → slice_get m.insts i.0 ≡ Some x → (x.block.0 ≡ b) × (home m x ≡ record { 0 = h.number })
+
+  placed_each : (b : ℕ) (is : List LLVMInstRef) → ((j : ℕ) (i : LLVMInstRef) → slice_get is j ≡ Some i → (p : Placed) × (placed_at (trees_of m) m.insts i ≡ Some p)) → ((j : ℕ) (i : LLVMInstRef) → slice_get is j ≡ Some i → IsOwned b i)
+      → ArePlacedIn m h b is (filter_map (placed_at (trees_of m) m.insts) is)
+  placed_each b [] all owned = tt
+  placed_each b (i ∷ is) all owned =
       let here = all 0 i refl in
-      let P : Placed → Type 0 = λ p. IsFormInstruction (data_in m h) b p p.instruction in
       let rest = filter_map (placed_at (trees_of m) m.insts) is in
-      let both : All P (here.0 ∷ rest) = subst (λ (o : Option Placed). All P (cons_option o rest)) here.1 form in
       subst (λ (o : Option Placed). ArePlacedIn m h b (i ∷ is) (cons_option o rest)) (sym here.1)
-      (record { here = here.1; form = All-head P here.0 rest both }, placed_each b is (λ j k at. all (suc j) k at) (All-tail P here.0 rest both))
+      (record { here = here.1; owned = owned 0 i refl }, placed_each b is (λ j k at. all (suc j) k at) (λ j k at. owned (suc j) k at))
+
+  -- the instructions that a block lists are those of the block, and of its function
+  insts_owned : (b : LLVMBasicBlock) (y : Block) (x : BlockData) → IsBlockIn m h b y → slice_get m.blocks b.0 ≡ Some x → y.number ≡ b.0 → (j : ℕ) (i : LLVMInstRef) → slice_get x.insts j ≡ Some i → IsOwned b.0 i
+  insts_owned b y x at is number j i listed z here =
+      let l = block_from m h.number h.function at.place y h.sound h.at at.at in
+      let same : l.number ≡ b.0 = ap (λ (z : Block). z.number) (sym l.shown_as) ∙ number in
+      let block : l.block ≡ x = some_same l.block x (sym l.here ∙ ap (slice_get m.blocks) same ∙ is) in
+      let own : x.function.0 ≡ h.number = ap (λ (z : BlockData). z.function.0) (sym block) ∙ l.owned in
+      let stands : z.block.0 ≡ b.0 = h.sound.owned_insts b.0 x is j i z listed here in
+      (stands, ap (λ o. option_map_or (λ (z : BlockData). z.function) o (record { 0 = 0 })) (ap (slice_get m.blocks) stands ∙ is) ∙ ap numbered own)
 
   -- the instructions of a block, one by one
   pub insts_placed : (b : LLVMBasicBlock) (y : Block) (is : List LLVMInstRef) → IsBlockIn m h b y → option_map (λ (x : BlockData). x.insts) (slice_get m.blocks b.0) ≡ Some is → ArePlacedIn m h b.0 is y.instructions
@@ -102,15 +117,12 @@ module _ (m : Module) (h : InForm m) where
       by (Some x) e k l =
           let shown : block_of (trees_of m) m.insts b x ≡ y = some_same _ y k in
           let same : x.insts ≡ is = some_same x.insts is l in
-          let form = within_at (data_in m h).blocks (IsFormBlock (data_in m h)) h.form.blocks at.place y at.at in
           let number : y.number ≡ b.0 = sym (ap (λ (z : Block). z.number) shown) in
-          let forms : All (λ (p : Placed). IsFormInstruction (data_in m h) b.0 p p.instruction) (block_of (trees_of m) m.insts b x).instructions =
-          subst (λ (z : Block). All (λ (p : Placed). IsFormInstruction (data_in m h) b.0 p p.instruction) z.instructions) (sym shown) (subst (λ (n : ℕ). All (λ (p : Placed). IsFormInstruction (data_in m h) n p p.instruction) y.instructions) number form.instructions) in
-          let placed = placed_each b.0 x.insts (insts_there m x.insts (h.sound.blocks b.0 x e).insts) forms in
+          let placed = placed_each b.0 x.insts (insts_there m x.insts (h.sound.blocks b.0 x e).insts) (insts_owned b y x at e number) in
           subst (λ (js : List LLVMInstRef). ArePlacedIn m h b.0 js y.instructions) same (subst (λ (z : Block). ArePlacedIn m h b.0 x.insts z.instructions) shown placed)
 
 -- a function's blocks as its module lists them
-pub blocks_are : (m : Module) (h : InForm m) (f : ℕ) (bs : List LLVMBasicBlock) → h.number ≡ f → option_map (λ (x : FunctionData). x.blocks) (slice_get m.functions f) ≡ Some bs → h.function.blocks ≡ bs
+pub blocks_are : (m : Module) (h : InChecked m) (f : ℕ) (bs : List LLVMBasicBlock) → h.number ≡ f → option_map (λ (x : FunctionData). x.blocks) (slice_get m.functions f) ≡ Some bs → h.function.blocks ≡ bs
 blocks_are m h f bs is at = some_same h.function.blocks bs (sym (ap (λ (n : ℕ). option_map (λ (x : FunctionData). x.blocks) (slice_get m.functions n)) (sym is) ∙ ap (option_map (λ (x : FunctionData). x.blocks)) h.at) ∙ at)
 
 abbrev pub some_entry : PhiEntry
@@ -134,7 +146,7 @@ module _ (m : Module) where
   pub one_more : (xs : List Phi) (ps : List Placed) (x : Phi) (p : Placed) → is_phi p ≡ true → IsPhiOf m x p → Matched (IsPhiOf m) xs ps → Matched (IsPhiOf m) (xs ++ x ∷ []) (ps ++ filter is_phi (p ∷ []))
   one_more xs ps x p some is h = rw some (matched_push (IsPhiOf m) xs ps x p h is)
 
-  pub is_phi_of : (h : InForm m) (b : ℕ) (i : LLVMInstRef) (p : Placed) (t : LLVMType) (es : List PhiEntry) (x : Phi) → IsPlacedIn m h b i p → p.instruction ≡ instruction_of (trees_of m) (I.Phi t es)
+  pub is_phi_of : (h : InChecked m) (b : ℕ) (i : LLVMInstRef) (p : Placed) (t : LLVMType) (es : List PhiEntry) (x : Phi) → IsPlacedIn m h b i p → p.instruction ≡ instruction_of (trees_of m) (I.Phi t es)
       → x.slot ≡ Result i.0 → ((from : ℕ) → option_map source_of (get nat_eq x.incoming from) ≡ taken_of m from es) → IsPhiOf m x p
   is_phi_of h b i p t es x at e slot takes = record {
     entries = map (entry_of (trees_of m)) es;
@@ -149,23 +161,23 @@ abbrev pub some_block : LLVMBasicBlock
 some_block = record { 0 = 0 }
 
 -- its data, and its instructions
-pub record IsBlockAt (m : Module) (h : InForm m) (bs : List LLVMBasicBlock) (i : ℕ) : Type 0 where
+pub record IsBlockAt (m : Module) (h : InChecked m) (bs : List LLVMBasicBlock) (i : ℕ) : Type 0 where
   pub block : Block
   pub fits : IsBlockIn m h (get_or bs i some_block) block
   pub at : slice_get (data_in m h).blocks i ≡ Some block
 
-pub block_at_place : (m : Module) (h : InForm m) (f : ℕ) (bs : List LLVMBasicBlock) (i : ℕ) → h.number ≡ f → option_map (λ (x : FunctionData). x.blocks) (slice_get m.functions f) ≡ Some bs → i < length bs → IsBlockAt m h bs i
+pub block_at_place : (m : Module) (h : InChecked m) (f : ℕ) (bs : List LLVMBasicBlock) (i : ℕ) → h.number ≡ f → option_map (λ (x : FunctionData). x.blocks) (slice_get m.functions f) ≡ Some bs → i < length bs → IsBlockAt m h bs i
 block_at_place m h f bs i is listed lt =
     let y = block_there m h bs (blocks_are m h f bs is listed) i (get_or bs i some_block) (slice_get-get_or bs i some_block lt) in
     record { block = y.0; fits = y.1; at = y.2 }
 
-pub all_blocks : (m : Module) (h : InForm m) (f : ℕ) (bs : List LLVMBasicBlock) (i : ℕ) → h.number ≡ f → option_map (λ (x : FunctionData). x.blocks) (slice_get m.functions f) ≡ Some bs → length bs ≤ i → take i (data_in m h).blocks ≡ (data_in m h).blocks
+pub all_blocks : (m : Module) (h : InChecked m) (f : ℕ) (bs : List LLVMBasicBlock) (i : ℕ) → h.number ≡ f → option_map (λ (x : FunctionData). x.blocks) (slice_get m.functions f) ≡ Some bs → length bs ≤ i → take i (data_in m h).blocks ≡ (data_in m h).blocks
 all_blocks m h f bs i is listed le =
     let same = ap length (blocks_are m h f bs is listed) in
     take_all i (data_in m h).blocks (omega (arith, le, same, block_count m h))
 
 -- the numbers of a function's blocks are those of its list
-pub numbers_are : (m : Module) (h : InForm m) (f : ℕ) (bs : List LLVMBasicBlock) → h.number ≡ f → option_map (λ (x : FunctionData). x.blocks) (slice_get m.functions f) ≡ Some bs → map (λ (b : LLVMBasicBlock). b.0) bs ≡ map (λ (y : Block). y.number) (data_in m h).blocks
+pub numbers_are : (m : Module) (h : InChecked m) (f : ℕ) (bs : List LLVMBasicBlock) → h.number ≡ f → option_map (λ (x : FunctionData). x.blocks) (slice_get m.functions f) ≡ Some bs → map (λ (b : LLVMBasicBlock). b.0) bs ≡ map (λ (y : Block). y.number) (data_in m h).blocks
 numbers_are m h f bs is listed =
     ap (map (λ (b : LLVMBasicBlock). b.0)) (sym (blocks_are m h f bs is listed)) ∙ same h.function.blocks (blocks_there m h.function.blocks (h.sound.functions h.number h.function h.at).blocks)
   where
@@ -188,7 +200,7 @@ count_is : (ts : List D.TypeTree) (xs : List LLVMType) → count_types (D.types_
 count_is ts [] = refl
 count_is ts (x ∷ xs) = ap suc (count_is ts xs)
 
-pub arity_is : (m : Module) (h : InForm m) (f : ℕ) (t r : LLVMType) (ps : List LLVMType) (v : Bool) → h.number ≡ f → option_map (λ (x : FunctionData). x.ty) (slice_get m.functions f) ≡ Some t → slice_get m.types t.0 ≡ Some (T.Function r ps v) → arity (data_in m h).type ≡ length ps
+pub arity_is : (m : Module) (h : InChecked m) (f : ℕ) (t r : LLVMType) (ps : List LLVMType) (v : Bool) → h.number ≡ f → option_map (λ (x : FunctionData). x.ty) (slice_get m.functions f) ≡ Some t → slice_get m.types t.0 ≡ Some (T.Function r ps v) → arity (data_in m h).type ≡ length ps
 arity_is m h f t r ps v is at kind =
     let same : h.function.ty ≡ t = some_same h.function.ty t (sym (ap (λ (n : ℕ). option_map (λ (x : FunctionData). x.ty) (slice_get m.functions n)) (sym is) ∙ ap (option_map (λ (x : FunctionData). x.ty)) h.at) ∙ at) in
     let tree = ap (D.type_at (trees_of m).types) same ∙ function_tree_of m t r ps v h.sound kind in

@@ -6,6 +6,7 @@ pub mod RunLaws
 pub mod MoveLaws
 pub mod Renaming
 pub mod PlaceLaws
+pub mod CheckedLaws
 pub mod LlvmLaws
 pub mod ListLaws
 pub mod IndexLaws

@@ -1,5 +1,5 @@
 -- The operands and types of instructions of LLVM, in the names of the program.
-use Rattle.std.proofs.Common.{◌≡◌, ℕ, true, false, List, [], ◌∷◌, Option, Some, None, map, slice_get, refl, sym, ap, subst, ◌∙◌, arith, All}
+use Rattle.std.proofs.Common.{◌≡◌, ◌<◌, ℕ, true, false, length, List, [], ◌∷◌, Option, Some, None, map, slice_get, refl, sym, ap, subst, ◌∙◌, arith, All}
 use Rattle.llvm_core.specs.declared.numbers.LLVMType.{LLVMType}
 use Rattle.llvm_core.specs.declared.numbers.LLVMInstRef.{LLVMInstRef}
 use Rattle.llvm_core.specs.declared.code.LLVMValue.{LLVMValue}
@@ -8,19 +8,25 @@ use Rattle.llvm_core.specs.declared.code.LLVMInst.{LLVMInst}
 use Rattle.llvm_core.specs.declared.code.LLVMInst.TheVariants as I
 use Rattle.llvm_core.specs.Module.{Module}
 use Rattle.llvm_core.specs.declared.code.InstData.{InstData}
-use Rattle.llvm_core.specs.Parts.{IsValue, HasValues, value_type, operands, is_phi}
+use Rattle.llvm_core.specs.declared.types.LLVMTypeKind.{LLVMTypeKind}
+use Rattle.llvm_core.specs.declared.types.LLVMTypeKind.TheVariants as T
+use Rattle.llvm_core.specs.Sound.{IsModule}
+use Rattle.llvm_core.specs.Parts.{value_type, operands, is_function, is_kind, is_phi}
 use Rattle.llvm_core.specs.Data as D
-use Rattle.llvm_core.specs.Data.{ModuleData, Trees, Placed, Function, Instruction, placed_of, instruction_of, TypeTree, VoidType, IntType, FunctionType, type_at, const_at, trees_of, operand_of, operand_type, phi_entries, data_of}
-use Rattle.llvm_core.specs.Form.{IsShortInt, IsShortResult, IsOperand, IsFormInstruction}
-use Rattle.std.specs.Option.{is_some, option_map}
+use Rattle.llvm_core.specs.Data.{ModuleData, Trees, Placed, Function, Instruction, placed_of, instruction_of, TypeTree, type_tree, type_at, const_at, trees_of, operand_of, operand_type, phi_entries, data_of}
+use Rattle.std.specs.Option.{is_some, option_map, option_map_or}
 use Rattle.std.proofs.lemmas.Option.{none-some}
-use Rattle.std.proofs.lemmas.List.Elements.{All-cons, All-nil}
+use Rattle.std.proofs.lemmas.List.Elements.{All-weaker}
 use Rattle.llvm_core.proofs.ListLemmas.{some_same}
 use Rattle.llvm_core.specs.Form as F
 use Rattle.llvm_core.specs.Edges.{targets as leads_to}
 use Rattle.llvm_core.proofs.FormEdges.{same_targets}
 use Rattle.llvm_core.proofs.FormPlaces.{same_kind_phi}
-use Rattle.llvm_core.proofs.FormValues.{value_typed}
+use Rattle.llvm_core.proofs.DataLemmas.{there, type_tree_of}
+use Rattle.llvm_core.proofs.FormValues.{value_typed, value_stands}
+use Rattle.llvm_core.proofs.CheckedInsts.{MeetsRules}
+use Rattle.llvm_core.proofs.CheckedForm.{meets}
+use Rattle.tracing.proofs.CheckedLaws.{IsUsable, usable_all, result_plain}
 use Rattle.meaning.specs.Terms as M
 use Rattle.meaning.specs.Terms.{Immediate}
 use Rattle.meaning.specs.Machine as Machine
@@ -38,15 +44,21 @@ use Rattle.tracing.specs.declared.body.Source.{Source}
 use Rattle.tracing.specs.declared.body.Action.TheVariants as A
 use Rattle.tracing.proofs.ListLaws.{mapped_twice}
 use Rattle.tracing.specs.declared.body.Slot.{Slot}
-use Rattle.tracing.specs.LlvmBodies.{slot_of, InForm, data_in, operand_in, IsUsed, IsPlacedIn, row_in}
+use Rattle.tracing.specs.LlvmBodies.{slot_of, InChecked, IsNoFunction, data_in, operand_in, IsUsed, IsPlacedIn, row_in}
 
-pub short_result : (t : TypeTree) → IsShortInt t → IsShortResult t
-short_result VoidType h = tt
-short_result (IntType w) h = h
-short_result (FunctionType r ps v) h = h
+-- a type of no function, as a tree
+pub plain_tree : (m : Module) (t : LLVMType) → IsModule m → t.0 < length m.types → is_kind is_function m.types t ≡ false → IsNoFunction (type_at (trees_of m).types t)
+plain_tree m t sound within plain =
+    let k = there m.types t.0 within in
+    by k.0 (type_tree_of m t k.0 sound k.1) (sym (ap (λ o. option_map_or is_function o false) k.1) ∙ plain)
+  where
+    by : (k : LLVMTypeKind) → type_at (trees_of m).types t ≡ type_tree (trees_of m).types k → is_function k ≡ false → IsNoFunction (type_at (trees_of m).types t)
+    by T.Void e h = rw e tt
+    by (T.Int w) e h = rw e tt
+    by (T.Function r ps v) e h = cc
 
 -- the number of the type of a value of the function stands for what the data say
-pub used_tree : (m : Module) (h : InForm m) (v : LLVMValue) (t : LLVMType) → IsUsed m h v → value_type m v ≡ Some t → type_at (trees_of m).types t ≡ operand_type (data_in m h) (operand_of (trees_of m) v)
+pub used_tree : (m : Module) (h : InChecked m) (v : LLVMValue) (t : LLVMType) → IsUsed m h v → value_type m v ≡ Some t → type_at (trees_of m).types t ≡ operand_type (data_in m h) (operand_of (trees_of m) v)
 used_tree m h v t used is =
     let typed = value_typed m h.number h.function h.sound h.at v used.here used.stands in
     let same = some_same t typed.type (sym is ∙ typed.type_is) in
@@ -63,7 +75,7 @@ pub record IsKept (m : Module) (i : LLVMInstRef) (p : Placed) : Type 0 where
   pub here : slice_get m.insts i.0 ≡ Some kept
   pub is : p ≡ placed_of (trees_of m) i kept
 
-pub kept_at : (m : Module) (h : InForm m) (b : ℕ) (i : LLVMInstRef) (p : Placed) → IsPlacedIn m h b i p → IsKept m i p
+pub kept_at : (m : Module) (h : InChecked m) (b : ℕ) (i : LLVMInstRef) (p : Placed) → IsPlacedIn m h b i p → IsKept m i p
 kept_at m h b i p at = by (slice_get m.insts i.0) refl at.here
   where
     by : (o : Option InstData) → slice_get m.insts i.0 ≡ o → option_map (placed_of (trees_of m) i) o ≡ Some p → IsKept m i p
@@ -94,17 +106,6 @@ row_operands d t (I.Ret None) e = refl
 row_operands d t (I.Ret (Some v)) e = refl
 row_operands d t I.Unreachable e = refl
 
--- an instruction has no type but an integer or void
-pub short_type : (g : Function) (b : ℕ) (p : Placed) (i : Instruction) → IsFormInstruction g b p i → IsShortResult p.type
-short_type g b p (D.Add lhs rhs flags) h = short_result p.type h.0.short
-short_type g b p (D.ICmp lhs rhs predicate) h = rw h.1 (omega arith, omega arith)
-short_type g b p (D.Phi entries) h = short_result p.type h.2
-short_type g b p (D.Br target) h = rw h.1.type tt
-short_type g b p (D.CondBr condition first second) h = rw h.3.type tt
-short_type g b p (D.Return None) h = rw h.1.type tt
-short_type g b p (D.Return (Some o)) h = rw h.1.type tt
-short_type g b p D.Unreachable h = rw h.type tt
-
 no_entries : {X : Type 0} (o : Option X) → is_some o ≡ false → o ≡ None
 no_entries None h = refl
 no_entries (Some x) h = cc
@@ -121,22 +122,36 @@ kept_targets m p inst e = same_targets m inst ∙ sym (ap D.targets e)
 applies_same : (o o' : M.Opcode) (is is' : List Immediate) (ty ty' : TypeTree) (tys tys' : List TypeTree) (os os' : List (Operand Slot)) → o ≡ o' → is ≡ is' → ty ≡ ty' → tys ≡ tys' → os ≡ os' → ◌≡◌ {A = Machine.Action Slot} (Applies o is ty tys os) (Applies o' is' ty' tys' os')
 applies_same o o' is is' ty ty' tys tys' os os' a b c d e = cc
 
-module _ (m : Module) (h : InForm m) where
-  used_one : (v : LLVMValue) (type : TypeTree) → IsValue m v → IsOperand (data_in m h) type (operand_of (trees_of m) v) → IsUsed m h v
-  used_one v type here o = record { here = here; stands = o.stands; short = subst IsShortInt (sym o.typed) o.short }
+module _ (m : Module) (h : InChecked m) where
+  used_one : (v : LLVMValue) → IsUsable m h.number v → IsUsed m h v
+  used_one v u =
+      let stands = value_stands m h.number h.function h.sound h.at v u.here u.inside in
+      let typed = value_typed m h.number h.function h.sound h.at v u.here stands in
+      let same : u.type ≡ typed.type = some_same u.type typed.type (sym u.typed ∙ typed.type_is) in
+      let plain = plain_tree m typed.type h.sound typed.within (subst (λ (t : LLVMType). is_kind is_function m.types t ≡ false) same u.plain) in
+      record { here = u.here; stands = stands; plain = subst IsNoFunction typed.tree_is plain }
+
+  -- what the rules say of the instruction
+  rules_of : (b : ℕ) (i : LLVMInstRef) (p : Placed) → IsPlacedIn m h b i p → (k : IsKept m i p) → MeetsRules m h.number k.kept.block.0 k.kept.ty k.kept.inst
+  rules_of b i p at k = meets m h.sound h.checked h.number i.0 k.kept k.here (at.owned k.kept k.here).1
+
+  same_inst : (i : LLVMInstRef) (p : Placed) (inst : LLVMInst) → (k : IsKept m i p) → option_map (λ (x : InstData). x.inst) (slice_get m.insts i.0) ≡ Some inst → k.kept.inst ≡ inst
+  same_inst i p inst k is = some_same k.kept.inst inst (sym (ap (option_map (λ (x : InstData). x.inst)) k.here) ∙ is)
 
   -- the operands of an instruction are values of the function
-  pub used_all : (b : ℕ) (p : Placed) (inst : LLVMInst) → is_phi inst ≡ false → HasValues m inst → IsFormInstruction (data_in m h) b p (instruction_of (trees_of m) inst) → All (IsUsed m h) (operands inst)
-  used_all b p (I.Add lhs rhs flags) e here form =
-      All-cons (IsUsed m h) lhs (rhs ∷ []) (used_one lhs p.type here.0 form.0) (All-cons (IsUsed m h) rhs [] (used_one rhs p.type here.1 form.1) (All-nil (IsUsed m h)))
-  used_all b p (I.ICmp lhs rhs predicate) e here form =
-      All-cons (IsUsed m h) lhs (rhs ∷ []) (used_one lhs form.0.0 here.0 form.0.1) (All-cons (IsUsed m h) rhs [] (used_one rhs form.0.0 here.1 form.0.2) (All-nil (IsUsed m h)))
-  used_all b p (I.Phi type entries) e here form = cc
-  used_all b p (I.Br target) e here form = All-nil (IsUsed m h)
-  used_all b p (I.CondBr condition first second) e here form = All-cons (IsUsed m h) condition [] (used_one condition (IntType 1) here.0 form.0) (All-nil (IsUsed m h))
-  used_all b p (I.Ret None) e here form = All-nil (IsUsed m h)
-  used_all b p (I.Ret (Some v)) e here form = All-cons (IsUsed m h) v [] (used_one v _ here form.0) (All-nil (IsUsed m h))
-  used_all b p I.Unreachable e here form = All-nil (IsUsed m h)
+  pub used_all : (b : ℕ) (i : LLVMInstRef) (p : Placed) (inst : LLVMInst) → IsPlacedIn m h b i p → IsKept m i p → option_map (λ (x : InstData). x.inst) (slice_get m.insts i.0) ≡ Some inst → is_phi inst ≡ false → All (IsUsed m h) (operands inst)
+  used_all b i p inst at k is no_phi =
+      let same = same_inst i p inst k is in
+      let usable = usable_all m h.number h.function h.sound h.at h.checked k.kept.block.0 k.kept.ty k.kept.inst (ap is_phi same ∙ no_phi) (rules_of b i p at k) in
+      subst (λ (j : LLVMInst). All (IsUsed m h) (operands j)) same (All-weaker (IsUsable m h.number) (IsUsed m h) used_one (operands k.kept.inst) usable)
+
+  -- and its result is no function
+  pub plain_result : (b : ℕ) (i : LLVMInstRef) (p : Placed) (inst : LLVMInst) (t : LLVMType) → IsPlacedIn m h b i p → IsKept m i p → option_map (λ (x : InstData). x.inst) (slice_get m.insts i.0) ≡ Some inst → is_phi inst ≡ false → value_type m (V.Inst i) ≡ Some t
+      → IsNoFunction (type_at (trees_of m).types t)
+  plain_result b i p inst t at k is no_phi typed =
+      let same : k.kept.ty ≡ t = some_same k.kept.ty t (sym (ap (option_map (λ (x : InstData). x.ty)) k.here) ∙ typed) in
+      let plain = result_plain m h.number h.function h.sound h.at h.checked k.kept.block.0 k.kept.ty k.kept.inst (ap is_phi (same_inst i p inst k is) ∙ no_phi) (rules_of b i p at k) in
+      subst (λ (u : LLVMType). IsNoFunction (type_at (trees_of m).types u)) same (plain_tree m k.kept.ty h.sound (h.sound.insts i.0 k.kept k.here).typed plain)
 
   -- what an instruction that is no phi does
   pub action_is : (p : Placed) (inst : LLVMInst) (o : Opcode) (imms : Imms) (os : List Source) → p.instruction ≡ instruction_of (trees_of m) inst → is_phi inst ≡ false

@@ -3,9 +3,9 @@ use Rattle.std.proofs.Common.{◌≡◌, ◌<◌, ℕ, List, Some, length, map, 
 use Rattle.llvm_core.specs.Module.{Module}
 use Rattle.llvm_core.specs.Sound.{IsModule}
 use Rattle.llvm_core.specs.Data.{Function, data_of}
-use Rattle.llvm_core.specs.Form.{IsForm, IsFormFunction}
+use Rattle.llvm_core.specs.Checked.{IsChecked}
 use Rattle.llvm_core.proofs.ListLemmas.{some_same}
-use Rattle.llvm_core.proofs.DataLemmas.{there, function_at, within_at}
+use Rattle.llvm_core.proofs.DataLemmas.{there, function_at}
 use Rattle.dialect_core.specs.declared.ops.Value.{Value}
 use Rattle.dialect_core.specs.ContextData.{ContextData}
 use Rattle.dialect_core.specs.Data.{type_in}
@@ -18,7 +18,7 @@ use Rattle.meaning.specs.Llvm.{Key, ParamKey, ResultKey, same_key}
 use Rattle.tracing.specs.declared.body.Slot.{Slot}
 use Rattle.tracing.specs.Bodies.{same_slot}
 use Rattle.tracing.specs.Renamed.{renamed_code}
-use Rattle.tracing.specs.LlvmBodies.{slot_of, InForm, data_in}
+use Rattle.tracing.specs.LlvmBodies.{slot_of, HasBlocksOnce, InChecked, data_in}
 use Rattle.tracing.specs.DialectBodies.{InContext}
 use Rattle.tracing.specs.DialectBodies.{slot_of as slot_of_value}
 use Rattle.tracing.proofs.Renaming.{renamed_trace}
@@ -30,12 +30,12 @@ keys_apart (ResultKey n) (ResultKey k) = refl
 keys_apart (ParamKey f i) (ResultKey k) = refl
 keys_apart (ResultKey n) (ParamKey g j) = refl
 
-abbrev pub in_form : (m : Module) (f : ℕ) → IsModule m → IsForm (data_of m) → f < length m.functions → InForm m
-in_form m f sound form lt =
+abbrev pub in_checked : (m : Module) (f : ℕ) → IsModule m → IsChecked m → f < length m.functions → ((x : Function) → slice_get (data_of m).functions f ≡ Some x → HasBlocksOnce x) → InChecked m
+in_checked m f sound checked lt once =
     let x = there m.functions f lt in
-    record { number = f; function = x.0; sound = sound; at = x.1; form = within_at (data_of m).functions IsFormFunction form f _ (function_at m f x.0 x.1) }
+    record { number = f; function = x.0; sound = sound; checked = checked; at = x.1; once = once _ (function_at m f x.0 x.1) }
 
-pub llvm_trace : (m : Module) (h : InForm m) (x : Function) (cs : List ℕ) (start : Slot → _) (code : List (M.Block Slot)) (items : List Item) → slice_get (data_of m).functions h.number ≡ Some x
+pub llvm_trace : (m : Module) (h : InChecked m) (x : Function) (cs : List ℕ) (start : Slot → _) (code : List (M.Block Slot)) (items : List Item) → slice_get (data_of m).functions h.number ≡ Some x
     → items ≡ M.trace Slot same_slot start code cs → code ≡ renamed_code slot_of (map (Llvm.block (data_of m) (data_in m h)) (data_in m h).blocks) → ((k : Key) → start (slot_of k) ≡ Llvm.start (data_in m h) k)
     → items ≡ (Llvm.body (data_of m) x).trace cs
 llvm_trace m h x cs start code items at is code_is same =

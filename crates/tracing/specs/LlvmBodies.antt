@@ -7,12 +7,15 @@ use Rattle.llvm_core.specs.declared.numbers.LLVMInstRef.{LLVMInstRef}
 use Rattle.llvm_core.specs.declared.numbers.LLVMBasicBlock.{LLVMBasicBlock}
 use Rattle.llvm_core.specs.declared.code.LLVMValue.{LLVMValue}
 use Rattle.llvm_core.specs.declared.code.FunctionData.{FunctionData}
+use Rattle.llvm_core.specs.declared.code.InstData.{InstData}
 use Rattle.llvm_core.specs.Module.{Module}
 use Rattle.llvm_core.specs.Sound.{IsModule}
 use Rattle.llvm_core.specs.Parts.{IsValue}
 use Rattle.llvm_core.specs.Data as L
 use Rattle.llvm_core.specs.Data.{Placed, Function, trees_of, function_of, block_at, placed_at, operand_of, operand_type, phi_entries, data_of}
-use Rattle.llvm_core.specs.Form.{IsShortInt, IsOperandOf, IsFormInstruction, IsFormFunction, is_phi}
+use Rattle.llvm_core.specs.Checked.{IsChecked, home}
+use Rattle.llvm_core.specs.Form.{IsOperandOf, is_phi}
+use Rattle.llvm_core.specs.Interned.{IsDistinctList}
 use Rattle.meaning.specs.Machine as M
 use Rattle.meaning.specs.Llvm.{Key, ParamKey, ResultKey, operand, row, entry_for}
 use Rattle.meaning.specs.Pairs.{Matched}
@@ -29,40 +32,50 @@ abbrev pub slot_of : Key → Slot
 slot_of (ParamKey f i) = Input f i
 slot_of (ResultKey n) = Result n
 
--- a function of the form, in a module
-pub record InForm (m : Module) : Type 0 where
+-- the function lists no block twice
+abbrev pub HasBlocksOnce : Function → Type 0
+HasBlocksOnce f = IsDistinctList (map (λ (b : L.Block). b.number) f.blocks)
+
+-- a function of a checked module
+pub record InChecked (m : Module) : Type 0 where
   pub number : ℕ
   pub function : FunctionData
   pub sound : IsModule m
+  pub checked : IsChecked m
   pub at : slice_get m.functions number ≡ Some function
-  pub form : IsFormFunction (function_of (trees_of m) m.blocks m.insts (number, function))
+  pub once : HasBlocksOnce (function_of (trees_of m) m.blocks m.insts (number, function))
 
 -- its data
-abbrev pub data_in : (m : Module) → InForm m → Function
+abbrev pub data_in : (m : Module) → InChecked m → Function
 data_in m h = function_of (trees_of m) m.blocks m.insts (h.number, h.function)
 
 abbrev pub operand_in : Module → LLVMValue → M.Operand Slot
 operand_in m v = renamed slot_of (operand (data_of m) (operand_of (trees_of m) v))
 
--- the value is one of the function, of an integer type
-pub record IsUsed (m : Module) (h : InForm m) (v : LLVMValue) : Type 0 where
+-- no type of a function
+abbrev pub IsNoFunction : L.TypeTree → Type 0
+IsNoFunction (L.FunctionType result params variadic) = ⊥
+IsNoFunction _ = Unit {0}
+
+-- the value is one of the function, and no function
+pub record IsUsed (m : Module) (h : InChecked m) (v : LLVMValue) : Type 0 where
   pub here : IsValue m v
   pub stands : IsOperandOf (data_in m h) (operand_of (trees_of m) v)
-  pub short : IsShortInt (operand_type (data_in m h) (operand_of (trees_of m) v))
+  pub plain : IsNoFunction (operand_type (data_in m h) (operand_of (trees_of m) v))
 
--- the instruction i is p, of the block of the number b
-pub record IsPlacedIn (m : Module) (h : InForm m) (b : ℕ) (i : LLVMInstRef) (p : Placed) : Type 0 where
+-- the instruction i is p, of the block of the number b and of the function
+pub record IsPlacedIn (m : Module) (h : InChecked m) (b : ℕ) (i : LLVMInstRef) (p : Placed) : Type 0 where
   pub here : placed_at (trees_of m) m.insts i ≡ Some p
-  pub form : IsFormInstruction (data_in m h) b p p.instruction
+  pub owned : (x : InstData) → slice_get m.insts i.0 ≡ Some x → (x.block.0 ≡ b) × (home m x ≡ record { 0 = h.number })
 
-abbrev pub ArePlacedIn : (m : Module) → InForm m → ℕ → List LLVMInstRef → List Placed → Type 0
+abbrev pub ArePlacedIn : (m : Module) → InChecked m → ℕ → List LLVMInstRef → List Placed → Type 0
 ArePlacedIn m h b is ps = Matched (IsPlacedIn m h b) is ps
 
 -- the row of an instruction, none for a phi
-abbrev pub row_in : (m : Module) → InForm m → Placed → Option (M.Row Slot)
+abbrev pub row_in : (m : Module) → InChecked m → Placed → Option (M.Row Slot)
 row_in m h p = option_map (renamed_row slot_of) (row (data_of m) (data_in m h) p (phi_entries p.instruction))
 
-abbrev pub rows_in : (m : Module) → InForm m → List Placed → List (M.Row Slot)
+abbrev pub rows_in : (m : Module) → InChecked m → List Placed → List (M.Row Slot)
 rows_in m h ps = filter_map (row_in m h) ps
 
 -- ---- phis and edges
@@ -92,13 +105,13 @@ taken_from from xs = map (λ (x : Phi). get nat_eq x.incoming from) xs
 -- ---- blocks
 
 -- the block b is y, which stands in the function
-pub record IsBlockIn (m : Module) (h : InForm m) (b : LLVMBasicBlock) (y : L.Block) : Type 0 where
+pub record IsBlockIn (m : Module) (h : InChecked m) (b : LLVMBasicBlock) (y : L.Block) : Type 0 where
   pub place : ℕ
   pub at : slice_get (data_in m h).blocks place ≡ Some y
   pub here : block_at (trees_of m) m.blocks m.insts b ≡ Some y
 
 -- the phis of each block, and the place of each by its number
-pub record IsIndexOf (m : Module) (h : InForm m) (x : Index) : Type 0 where
+pub record IsIndexOf (m : Module) (h : InChecked m) (x : Index) : Type 0 where
   pub places : x.places ≡ map (λ (y : L.Block). y.number) (data_in m h).blocks
   pub phis : Matched (λ (xs : List Phi) (y : L.Block). ArePhisOf m xs y.instructions) x.phis (data_in m h).blocks
 

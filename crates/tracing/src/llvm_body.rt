@@ -9,7 +9,7 @@ ghost use Rattle.llvm_core.specs.Data.{Placed, targets, data_of};
 ghost use Rattle.meaning.specs.Llvm as llvm;
 ghost use Rattle.tracing.specs.Bodies.{block_of, code_of, start_of};
 ghost use Rattle.tracing.specs.Renamed.{renamed_block, renamed_code};
-ghost use Rattle.tracing.specs.LlvmBodies.{slot_of, InForm, data_in, ArePlacedIn, IsIndexOf, IsBlockIn, slots_of, taken_from, phis_at, params_in, edge_to};
+ghost use Rattle.tracing.specs.LlvmBodies.{slot_of, InChecked, data_in, ArePlacedIn, IsIndexOf, IsBlockIn, slots_of, taken_from, phis_at, params_in, edge_to};
 
 use crate::body::{Block, Body, Edge, Slot, Source};
 use crate::llvm_index::{Index, Phi, index_of};
@@ -79,8 +79,8 @@ fn block_edges(
     from: u32,
     insts: &[LLVMInstRef],
 ) -> Result<Items<Edge>, AllocError>
-    requires { (h : InForm m.now) × (b : ℕ) × (ps : List Placed) × ArePlacedIn m.now h b insts.now ps }
-    ensures { IfOk result (λ es. (h : InForm m.now) → (b : ℕ) → (ps : List Placed) → ArePlacedIn m.now h b insts.now ps → es ≡ map (edge_to index.now from) (flat_map (λ p. targets p.instruction) ps)) }
+    requires { (h : InChecked m.now) × (b : ℕ) × (ps : List Placed) × ArePlacedIn m.now h b insts.now ps }
+    ensures { IfOk result (λ es. (h : InChecked m.now) → (b : ℕ) → (ps : List Placed) → ArePlacedIn m.now h b insts.now ps → es ≡ map (edge_to index.now from) (flat_map (λ p. targets p.instruction) ps)) }
 {
     let mut edges = Items::new(alloc);
     for i in insts {
@@ -96,8 +96,8 @@ fn block(
     b: LLVMBasicBlock,
 ) -> Result<Block, AllocError>
     requires within { b.0 < length m.now.blocks }
-    requires block { (h : InForm m.now) × (y : lists.Block) × IsBlockIn m.now h b y }
-    ensures { IfOk result (λ r. (h : InForm m.now) → (y : lists.Block) → IsBlockIn m.now h b y → IsIndexOf m.now h index.now → block_of (params_in index.now) r ≡ renamed_block slot_of (llvm.block (data_of m.now) (data_in m.now h) y)) }
+    requires block { (h : InChecked m.now) × (y : lists.Block) × IsBlockIn m.now h b y }
+    ensures { IfOk result (λ r. (h : InChecked m.now) → (y : lists.Block) → IsBlockIn m.now h b y → IsIndexOf m.now h index.now → block_of (params_in index.now) r ≡ renamed_block slot_of (llvm.block (data_of m.now) (data_in m.now h) y)) }
 {
     let insts = m.instructions(b);
     Ok(Block {
@@ -113,8 +113,8 @@ fn blocks(
     index: &Index,
     f: LLVMFunction,
 ) -> Result<Items<Block>, AllocError>
-    requires { (h : InForm m.now) × (h.number ≡ f.0) }
-    ensures { IfOk result (λ bs. (h : InForm m.now) → h.number ≡ f.0 → IsIndexOf m.now h index.now → code_of (params_in index.now) bs ≡ renamed_code slot_of (map (llvm.block (data_of m.now) (data_in m.now h)) (data_in m.now h).blocks)) }
+    requires { (h : InChecked m.now) × (h.number ≡ f.0) }
+    ensures { IfOk result (λ bs. (h : InChecked m.now) → h.number ≡ f.0 → IsIndexOf m.now h index.now → code_of (params_in index.now) bs ≡ renamed_code slot_of (map (llvm.block (data_of m.now) (data_in m.now h)) (data_in m.now h).blocks)) }
 {
     let mut blocks = Items::new(alloc);
     for b in m.blocks(f) {
@@ -148,8 +148,8 @@ fn params(alloc: Global, index: &Index) -> Result<Items<Items<Slot>>, AllocError
 
 /// How many parameters a function has.
 fn param_count(m: &LLVMModule, f: LLVMFunction) -> usize
-    requires { (h : InForm m.now) × (h.number ≡ f.0) }
-    ensures { (h : InForm m.now) → h.number ≡ f.0 → result ≡ llvm.arity (data_in m.now h).type }
+    requires { (h : InChecked m.now) × (h.number ≡ f.0) }
+    ensures { (h : InChecked m.now) → h.number ≡ f.0 → result ≡ llvm.arity (data_in m.now h).type }
 {
     match m.type_kind(m.function_type(f)) {
         LLVMTypeKind::Function { params, .. } => params.as_slice().len(),
@@ -158,8 +158,8 @@ fn param_count(m: &LLVMModule, f: LLVMFunction) -> usize
 }
 
 fn inputs(m: &LLVMModule, f: LLVMFunction) -> Result<u32, AllocError>
-    requires { (h : InForm m.now) × (h.number ≡ f.0) }
-    ensures { IfOk result (λ n. (h : InForm m.now) → h.number ≡ f.0 → n ≡ llvm.arity (data_in m.now h).type) }
+    requires { (h : InChecked m.now) × (h.number ≡ f.0) }
+    ensures { IfOk result (λ n. (h : InChecked m.now) → h.number ≡ f.0 → n ≡ llvm.arity (data_in m.now h).type) }
 {
     let count = param_count(m, f);
     if count > u32::MAX as usize {
@@ -168,11 +168,11 @@ fn inputs(m: &LLVMModule, f: LLVMFunction) -> Result<u32, AllocError>
     Ok(count as u32)
 }
 
-/// The body of a function of the form.
+/// The body of a function of a checked module.
 pub fn llvm_body(alloc: Global, m: &LLVMModule, f: LLVMFunction) -> Result<Body, AllocError>
-    requires { (h : InForm m.now) × (h.number ≡ f.0) }
-    ensures code { IfOk result (λ body. (h : InForm m.now) → h.number ≡ f.0 → code_of body.params body.blocks ≡ renamed_code slot_of (map (llvm.block (data_of m.now) (data_in m.now h)) (data_in m.now h).blocks)) }
-    ensures start { IfOk result (λ body. (h : InForm m.now) → h.number ≡ f.0 → (k : llvm.Key) → start_of body.holder body.inputs (slot_of k) ≡ llvm.start (data_in m.now h) k) }
+    requires { (h : InChecked m.now) × (h.number ≡ f.0) }
+    ensures code { IfOk result (λ body. (h : InChecked m.now) → h.number ≡ f.0 → code_of body.params body.blocks ≡ renamed_code slot_of (map (llvm.block (data_of m.now) (data_in m.now h)) (data_in m.now h).blocks)) }
+    ensures start { IfOk result (λ body. (h : InChecked m.now) → h.number ≡ f.0 → (k : llvm.Key) → start_of body.holder body.inputs (slot_of k) ≡ llvm.start (data_in m.now h) k) }
 {
     let inputs = inputs(m, f)?;
     let index = index_of(alloc, m, f)?;

@@ -12,7 +12,7 @@ ghost use Rattle.meaning.specs.Llvm as llvm;
 ghost use Rattle.meaning.specs.Pairs.{Matched};
 ghost use Rattle.tracing.specs.Bodies.{source_of};
 ghost use Rattle.tracing.specs.Renamed.{renamed};
-ghost use Rattle.tracing.specs.LlvmBodies.{slot_of, first_of, operand_in, InForm, data_in, ArePlacedIn, IsPlacedIn, IsPhiOf, ArePhisOf, IsIndexOf, IsBlockIn};
+ghost use Rattle.tracing.specs.LlvmBodies.{slot_of, first_of, operand_in, InChecked, data_in, ArePlacedIn, IsPlacedIn, IsPhiOf, ArePhisOf, IsIndexOf, IsBlockIn};
 
 use crate::body::{Slot, Source};
 use crate::llvm_rows::source;
@@ -79,8 +79,8 @@ fn push_phi(
     i: LLVMInstRef,
     phis: &mut Items<Phi>,
 ) -> Result<(), AllocError>
-    requires { (h : InForm m.now) × (b : ℕ) × (p : Placed) × IsPlacedIn m.now h b i p }
-    ensures { OnOk result ((h : InForm m.now) → (b : ℕ) → (p : Placed) → IsPlacedIn m.now h b i p → (xs : List Placed) → Matched (IsPhiOf m.now) phis.old xs → Matched (IsPhiOf m.now) phis.new (xs ++ filter form.is_phi (p ∷ []))) }
+    requires { (h : InChecked m.now) × (b : ℕ) × (p : Placed) × IsPlacedIn m.now h b i p }
+    ensures { OnOk result ((h : InChecked m.now) → (b : ℕ) → (p : Placed) → IsPlacedIn m.now h b i p → (xs : List Placed) → Matched (IsPhiOf m.now) phis.old xs → Matched (IsPhiOf m.now) phis.new (xs ++ filter form.is_phi (p ∷ []))) }
 {
     match m.inst(i) {
         LLVMInst::Phi(_, entries) => {
@@ -96,8 +96,8 @@ fn push_phi(
 
 /// The phis among instructions.
 fn phis(alloc: Global, m: &LLVMModule, insts: &[LLVMInstRef]) -> Result<Items<Phi>, AllocError>
-    requires { (h : InForm m.now) × (b : ℕ) × (ps : List Placed) × ArePlacedIn m.now h b insts.now ps }
-    ensures { IfOk result (λ xs. (h : InForm m.now) → (b : ℕ) → (ps : List Placed) → ArePlacedIn m.now h b insts.now ps → ArePhisOf m.now xs ps) }
+    requires { (h : InChecked m.now) × (b : ℕ) × (ps : List Placed) × ArePlacedIn m.now h b insts.now ps }
+    ensures { IfOk result (λ xs. (h : InChecked m.now) → (b : ℕ) → (ps : List Placed) → ArePlacedIn m.now h b insts.now ps → ArePhisOf m.now xs ps) }
 {
     let mut phis = Items::new(alloc);
     for i in insts {
@@ -108,8 +108,8 @@ fn phis(alloc: Global, m: &LLVMModule, insts: &[LLVMInstRef]) -> Result<Items<Ph
 
 /// The phis of each block of a function.
 fn all_phis(alloc: Global, m: &LLVMModule, f: LLVMFunction) -> Result<Items<Items<Phi>>, AllocError>
-    requires { (h : InForm m.now) × (h.number ≡ f.0) }
-    ensures { IfOk result (λ xs. (h : InForm m.now) → h.number ≡ f.0 → Matched (λ xs y. ArePhisOf m.now xs y.instructions) xs (data_in m.now h).blocks) }
+    requires { (h : InChecked m.now) × (h.number ≡ f.0) }
+    ensures { IfOk result (λ xs. (h : InChecked m.now) → h.number ≡ f.0 → Matched (λ xs y. ArePhisOf m.now xs y.instructions) xs (data_in m.now h).blocks) }
 {
     let mut all = Items::new(alloc);
     for b in m.blocks(f) {
@@ -133,8 +133,8 @@ fn block_places(alloc: Global, blocks: &[LLVMBasicBlock]) -> Result<Places, Allo
 
 /// The index of a function.
 pub fn index_of(alloc: Global, m: &LLVMModule, f: LLVMFunction) -> Result<Index, AllocError>
-    requires { (h : InForm m.now) × (h.number ≡ f.0) }
-    ensures { IfOk result (λ index. (h : InForm m.now) → h.number ≡ f.0 → IsIndexOf m.now h index) }
+    requires { (h : InChecked m.now) × (h.number ≡ f.0) }
+    ensures { IfOk result (λ index. (h : InChecked m.now) → h.number ≡ f.0 → IsIndexOf m.now h index) }
 {
     Ok(Index {
         places: block_places(alloc, m.blocks(f))?,

@@ -7,14 +7,13 @@ ghost use Rattle.llvm_core.specs.Sound.{IsModule};
 ghost use Rattle.llvm_core.specs.declared.types.LLVMTypeKind.TheVariants as types;
 ghost use Rattle.llvm_core.specs.Parts.{IsValue, operands, is_phi};
 ghost use Rattle.llvm_core.specs.Data.{IntType, ModuleData, Trees, Placed, type_at, const_at, operand_of, operand_type, instruction_of, trees_of, data_of};
-ghost use Rattle.llvm_core.specs.Form.{IsShortResult};
 ghost use Rattle.llvm_core.specs.Form as form;
 ghost use Rattle.meaning.specs.Machine as machine;
 ghost use Rattle.meaning.specs.Llvm as llvm;
 ghost use Rattle.tracing.specs.Table.{tree_of, opcode_of, immediates_of};
 ghost use Rattle.tracing.specs.Bodies.{source_of, action_of, row_of};
 ghost use Rattle.tracing.specs.Renamed.{renamed_action};
-ghost use Rattle.tracing.specs.LlvmBodies.{slot_of, InForm, data_in, operand_in, IsUsed, IsPlacedIn, ArePlacedIn, row_in, rows_in};
+ghost use Rattle.tracing.specs.LlvmBodies.{slot_of, InChecked, IsNoFunction, data_in, operand_in, IsUsed, IsPlacedIn, ArePlacedIn, row_in, rows_in};
 
 use crate::body::{Action, Row, Slot, Source};
 use crate::table::{Immediates, Opcode, ValueType};
@@ -31,7 +30,7 @@ use std::alloc::{AllocError, Global};
 fn value_type(m: &LLVMModule, ty: LLVMType) -> ValueType
     requires sound { IsModule m.now }
     requires within { ty.0 < length m.now.types }
-    requires short { IsShortResult (type_at (trees_of m.now).types ty) }
+    requires plain { IsNoFunction (type_at (trees_of m.now).types ty) }
     ensures { tree_of result ≡ type_at (trees_of m.now).types ty }
 {
     match m.type_kind(ty) {
@@ -77,8 +76,8 @@ pub fn source(m: &LLVMModule, v: LLVMValue) -> Source
 }
 
 fn operand_type(m: &LLVMModule, v: LLVMValue) -> ValueType
-    requires { (h : InForm m.now) × IsUsed m.now h v }
-    ensures { (h : InForm m.now) → IsUsed m.now h v → tree_of result ≡ operand_type (data_in m.now h) (operand_of (trees_of m.now) v) }
+    requires { (h : InChecked m.now) × IsUsed m.now h v }
+    ensures { (h : InChecked m.now) → IsUsed m.now h v → tree_of result ≡ operand_type (data_in m.now h) (operand_of (trees_of m.now) v) }
 {
     value_type(m, m.type_of(v))
 }
@@ -136,8 +135,8 @@ fn operand_types(
     m: &LLVMModule,
     values: &[LLVMValue],
 ) -> Result<Items<ValueType>, AllocError>
-    requires { (h : InForm m.now) × All (IsUsed m.now h) values.now }
-    ensures { IfOk result (λ ts. (h : InForm m.now) → All (IsUsed m.now h) values.now → map tree_of ts ≡ map (λ v. operand_type (data_in m.now h) (operand_of (trees_of m.now) v)) values.now) }
+    requires { (h : InChecked m.now) × All (IsUsed m.now h) values.now }
+    ensures { IfOk result (λ ts. (h : InChecked m.now) → All (IsUsed m.now h) values.now → map tree_of ts ≡ map (λ v. operand_type (data_in m.now h) (operand_of (trees_of m.now) v)) values.now) }
 {
     let mut types = Items::new(alloc);
     for value in values {
@@ -160,8 +159,8 @@ fn sources(alloc: Global, m: &LLVMModule, values: &[LLVMValue]) -> Result<Items<
 
 /// What an instruction that is no phi does.
 fn action(alloc: Global, m: &LLVMModule, i: LLVMInstRef) -> Result<Action, AllocError>
-    requires { (h : InForm m.now) × (b : ℕ) × (p : Placed) × IsPlacedIn m.now h b i p × (form.is_phi p ≡ false) }
-    ensures { IfOk result (λ a. (h : InForm m.now) → (b : ℕ) → (p : Placed) → IsPlacedIn m.now h b i p → action_of a ≡ renamed_action slot_of (llvm.action (data_of m.now) (data_in m.now h) p)) }
+    requires { (h : InChecked m.now) × (b : ℕ) × (p : Placed) × IsPlacedIn m.now h b i p × (form.is_phi p ≡ false) }
+    ensures { IfOk result (λ a. (h : InChecked m.now) → (b : ℕ) → (p : Placed) → IsPlacedIn m.now h b i p → action_of a ≡ renamed_action slot_of (llvm.action (data_of m.now) (data_in m.now h) p)) }
 {
     let inst = m.inst(i);
     let values = values(alloc, inst)?;
@@ -186,8 +185,8 @@ fn push_row(
     i: LLVMInstRef,
     rows: &mut Items<Row>,
 ) -> Result<(), AllocError>
-    requires { (h : InForm m.now) × (b : ℕ) × (p : Placed) × IsPlacedIn m.now h b i p }
-    ensures { OnOk result ((h : InForm m.now) → (b : ℕ) → (p : Placed) → IsPlacedIn m.now h b i p → map row_of rows.new ≡ map row_of rows.old ++ cons_option (row_in m.now h p) []) }
+    requires { (h : InChecked m.now) × (b : ℕ) × (p : Placed) × IsPlacedIn m.now h b i p }
+    ensures { OnOk result ((h : InChecked m.now) → (b : ℕ) → (p : Placed) → IsPlacedIn m.now h b i p → map row_of rows.new ≡ map row_of rows.old ++ cons_option (row_in m.now h p) []) }
 {
     if is_phi(m.inst(i)) {
         return Ok(());
@@ -201,8 +200,8 @@ fn push_row(
 
 /// The rows of the instructions of a block.
 pub fn rows(alloc: Global, m: &LLVMModule, insts: &[LLVMInstRef]) -> Result<Items<Row>, AllocError>
-    requires { (h : InForm m.now) × (b : ℕ) × (ps : List Placed) × ArePlacedIn m.now h b insts.now ps }
-    ensures { IfOk result (λ rows. (h : InForm m.now) → (b : ℕ) → (ps : List Placed) → ArePlacedIn m.now h b insts.now ps → map row_of rows ≡ rows_in m.now h ps) }
+    requires { (h : InChecked m.now) × (b : ℕ) × (ps : List Placed) × ArePlacedIn m.now h b insts.now ps }
+    ensures { IfOk result (λ rows. (h : InChecked m.now) → (b : ℕ) → (ps : List Placed) → ArePlacedIn m.now h b insts.now ps → map row_of rows ≡ rows_in m.now h ps) }
 {
     let mut rows = Items::new(alloc);
     for i in insts {

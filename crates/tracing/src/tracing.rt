@@ -3,7 +3,7 @@
 ghost use Rattle.std.specs.Prelude.{◌≡◌, ◌<◌, ℕ, All, IfOk, Some, length, map, slice_get};
 ghost use Rattle.llvm_core.specs.Interned.{IsDistinctList};
 ghost use Rattle.llvm_core.specs.Data.{Function, data_of};
-ghost use Rattle.llvm_core.specs.Form.{IsForm};
+ghost use Rattle.llvm_core.specs.Checked.{IsChecked};
 ghost use Rattle.dialect_core.specs.Data as context;
 ghost use Rattle.dialect_core.specs.Data.{Func, IsTyped, type_in};
 ghost use Rattle.dialect_core.specs.WellFormed.{IsWellFormed};
@@ -11,6 +11,7 @@ ghost use Rattle.meaning.specs.Llvm as llvm;
 ghost use Rattle.meaning.specs.Dialect as dialect;
 ghost use Rattle.tracing.specs.Table.{terms, IsGrounded};
 ghost use Rattle.tracing.specs.Runs.{item_of, HasPlacesBelow};
+ghost use Rattle.tracing.specs.LlvmBodies.{HasBlocksOnce};
 ghost use Rattle.tracing.specs.DialectBodies.{HasBody};
 
 use crate::dialect_body::dialect_body;
@@ -23,16 +24,17 @@ use llvm_core::module::LLVMModule;
 use llvm_core::numbers::LLVMFunction;
 use std::alloc::{AllocError, Global};
 
-/// The trace of a function of a module of the form. Each term of the table stands once, behind its parts.
-/// It is an error where there is no memory.
+/// The trace of a function of a checked module, which lists no block twice (no call lists one so). Each term of the table
+/// stands once, behind its parts. It is an error where there is no memory.
 pub fn trace_of_llvm(
     alloc: Global,
     module: &LLVMModule,
     f: LLVMFunction,
     choices: &[u32],
 ) -> Result<Trace, AllocError>
-    requires form { IsForm (data_of «module».now) }
+    requires checked { IsChecked «module».now }
     requires function { f.0 < length «module».now.functions }
+    requires once { (x : Function) → slice_get (data_of «module».now).functions f.0 ≡ Some x → HasBlocksOnce x }
     ensures exact { IfOk result (λ t. (x : Function) → slice_get (data_of «module».now).functions f.0 ≡ Some x → map (item_of (terms t.terms)) t.items.items ≡ (llvm.body (data_of «module».now) x).trace choices.now) }
     ensures within { IfOk result (λ t. All (HasPlacesBelow (length t.terms)) t.items.items) }
     ensures shared { IfOk result (λ t. IsDistinctList (terms t.terms)) }

@@ -7,7 +7,7 @@ use Rattle.tracing.proofs.llvm_index.index_of.Goals as goal
 pub block_places-requires : goal.block_places-requires
 block_places-requires c =
     let h = c.requires.0 in
-    subst IsDistinctList (sym (numbers_are c.args.m.now h c.args.f.0 c.blocks-2.result.now c.requires.1 c.blocks-2.ensures.blocks)) h.form.block_numbers
+    subst IsDistinctList (sym (numbers_are c.args.m.now h c.args.f.0 c.blocks-2.result.now c.requires.1 c.blocks-2.ensures.blocks)) h.once
 
 pub returns : goal.returns
 returns c = λ h is. record {

@@ -3,10 +3,10 @@ use Rattle.std.specs.Prelude.{ℕ, List, filter, take}
 use Rattle.llvm_core.specs.Data.{Placed}
 use Rattle.llvm_core.specs.Form.{is_phi}
 use Rattle.meaning.specs.Pairs.{Matched}
-use Rattle.tracing.specs.LlvmBodies.{InForm, ArePlacedIn, IsPhiOf}
+use Rattle.tracing.specs.LlvmBodies.{InChecked, ArePlacedIn, IsPhiOf}
 use Rattle.tracing.proofs.llvm_index.phis.Given as goal
 
 abbrev pub invariant-loop-i : goal.invariant-loop-i
 invariant-loop-i l = record {
-  at : (h : InForm l.m) → (b : ℕ) → (ps : List Placed) → ArePlacedIn l.m h b l.insts ps → Matched (IsPhiOf l.m) l.phis (filter is_phi (take l.i-index ps));
+  at : (h : InChecked l.m) → (b : ℕ) → (ps : List Placed) → ArePlacedIn l.m h b l.insts ps → Matched (IsPhiOf l.m) l.phis (filter is_phi (take l.i-index ps));
 }

@@ -1,14 +1,14 @@
 -- What `tracing::trace_of_llvm` owes besides what the check finds.
 use Rattle.std.proofs.Common.{refl}
 use Rattle.std.proofs.lemmas.Result.{IfOk-weaker}
-use Rattle.tracing.proofs.TraceLaws.{in_form, llvm_trace}
+use Rattle.tracing.proofs.TraceLaws.{in_checked, llvm_trace}
 use Rattle.tracing.proofs.tracing.trace_of_llvm.Goals as goal
 
 pub llvm_body-requires : goal.llvm_body-requires
-llvm_body-requires c = (in_form c.args.«module».now c.args.f.0 c.functions-count.ensures.sound c.requires.form c.requires.function, refl)
+llvm_body-requires c = (in_checked c.args.«module».now c.args.f.0 c.functions-count.ensures.sound c.requires.checked c.requires.function c.requires.once, refl)
 
 pub returns-clause-exact : goal.returns-clause-exact
 returns-clause-exact c =
     let m = c.args.«module».now in
-    let h = in_form m c.args.f.0 c.functions-count.ensures.sound c.requires.form c.requires.function in
+    let h = in_checked m c.args.f.0 c.functions-count.ensures.sound c.requires.checked c.requires.function c.requires.once in
     IfOk-weaker c.trace_body.result _ _ (λ t exact x at. llvm_trace m h x c.args.choices.now _ _ _ at exact (c.in_ok-body.ensures.code h refl) (c.in_ok-body.ensures.start h refl)) c.trace_body.ensures.exact
