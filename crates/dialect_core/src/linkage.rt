@@ -1,7 +1,7 @@
 //! Linkage of symbols.
 
 /// How a symbol is linked (Language Reference, Linkage Types).
-#[derive(Clone, Copy, PartialEq, Eq, Hash, Debug, Drop)]
+#[derive(Clone, Copy, PartialEq, Eq, Debug, Drop)]
 pub enum LinkageAttr {
     ExternalLinkage,
     AvailableExternallyLinkage,

@@ -9,9 +9,9 @@ pub struct OpRef(pub u32);
 pub struct BlockRef(pub u32);
 
 /// An operation that is a module.
-#[derive(Clone, Copy, PartialEq, Eq, Hash, Debug, Drop)]
+#[derive(Clone, Copy, PartialEq, Eq, Debug, Drop)]
 pub struct ModuleOp(pub OpRef);
 
 /// An operation that is a function.
-#[derive(Clone, Copy, PartialEq, Eq, Hash, Debug, Drop)]
+#[derive(Clone, Copy, PartialEq, Eq, Debug, Drop)]
 pub struct FuncOp(pub OpRef);

@@ -290,36 +290,21 @@ pub fn print_op(
         OpKind::Constant(value) => {
             print_head(numbers, op, x, b"llvm.constant", out)?;
             print_constant_immediates(types, value, out)?;
-            print_tail(types, x.result, out)?;
-            Ok(())
+            print_tail(types, x.result, out)
         }
         OpKind::Add(flags) => {
             print_head(numbers, op, x, b"llvm.add", out)?;
             print_overflow_flags(*flags, out)?;
-            print_tail(types, x.result, out)?;
-            Ok(())
+            print_tail(types, x.result, out)
         }
         OpKind::ICmp(predicate) => {
             print_head(numbers, op, x, b"llvm.icmp", out)?;
             print_predicate(*predicate, out)?;
-            print_tail(types, x.result, out)?;
-            Ok(())
+            print_tail(types, x.result, out)
         }
-        OpKind::Br => {
-            print_plain(types, numbers, op, x, b"llvm.br", out)?;
-            Ok(())
-        }
-        OpKind::CondBr => {
-            print_plain(types, numbers, op, x, b"llvm.cond_br", out)?;
-            Ok(())
-        }
-        OpKind::Return => {
-            print_plain(types, numbers, op, x, b"llvm.return", out)?;
-            Ok(())
-        }
-        OpKind::Unreachable => {
-            print_plain(types, numbers, op, x, b"llvm.unreachable", out)?;
-            Ok(())
-        }
+        OpKind::Br => { print_plain(types, numbers, op, x, b"llvm.br", out) }
+        OpKind::CondBr => { print_plain(types, numbers, op, x, b"llvm.cond_br", out) }
+        OpKind::Return => { print_plain(types, numbers, op, x, b"llvm.return", out) }
+        OpKind::Unreachable => { print_plain(types, numbers, op, x, b"llvm.unreachable", out) }
     }
 }

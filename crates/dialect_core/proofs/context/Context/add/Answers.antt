@@ -30,3 +30,9 @@ returns-clause-typed c =
 pub returns-clause-free : goal.returns-clause-free
 returns-clause-free c =
     rw c.in_ok-op.ensures.ok (new_free c.self.inside.lists.parents (length c.self.inside.lists.parents) c.in_ok-op.op.0 refl c.in_ok-op.ensures.number)
+
+pub invariant_of-self : goal.invariant_of-self
+invariant_of-self c = rw c.reserve.ensures.items c.self.invariant
+
+pub invariant_of-self-in_err-op : goal.invariant_of-self-in_err-op
+invariant_of-self-in_err-op c = rw (c.in_ok-reserve.ensures.items, c.in_err-op.ensures.err) c.self.invariant

@@ -52,3 +52,6 @@ returns-clause-typed c =
     c.index_mut-op.ensures.value c.in_ok-number.ensures.region c.in_ok-reserve.ensures.items c.in-Ok.ensures.items (c.from_vec-args.ensures ∙ c.in_ok-from_slice.ensures.items) (ap (λ (l : Lists). l.lists) c.in_ok-number.ensures.ok) in
     rw (← c.self.view_is, ap (λ (l : Lists). l.parents) c.in_ok-number.ensures.ok)
     (λ typed. subst IsTyped (sym viewed) (block_typed (context c.self.inside.types c.self.inside.ops.items c.self.inside.blocks.items c.self.inside.lists.parents c.self.inside.lists.lists) c.in_ok-number.number (record { holder = c.args.holder; label = c.args.label; args = c.args.args.now }) typed args))
+
+pub invariant_of-self : goal.invariant_of-self
+invariant_of-self c = rw c.reserve.ensures.items c.self.invariant
