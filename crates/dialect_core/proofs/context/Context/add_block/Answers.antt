@@ -1,5 +1,8 @@
 -- What `context::Context::add_block` owes besides what the check finds.
-use Rattle.std.proofs.Common.{sym, subst, ap, refl, ◌∙◌}
+use Rattle.std.proofs.Common.{◌≡◌, ℕ, List, get_or, set, sym, subst, ap, refl, ◌∙◌}
+use Rattle.std.proofs.lemmas.List.{set-get_or}
+use Rattle.dialect_core.specs.declared.numbers.BlockRef.{BlockRef}
+use Rattle.dialect_core.specs.declared.ops.OpData.{OpData}
 use Rattle.dialect_core.specs.Lists.{Lists, list_at}
 use Rattle.dialect_core.proofs.ContextLemmas.{context, holder_there, region_kept, block_view}
 use Rattle.dialect_core.specs.Data.{data_of, IsTyped}
@@ -8,6 +11,10 @@ use Rattle.dialect_core.proofs.NewBlockLemmas.{last_list, new_block_data}
 use Rattle.dialect_core.proofs.RegionLemmas.{new_block_regions}
 use Rattle.dialect_core.proofs.TypedLemmas.{block_typed}
 use Rattle.dialect_core.proofs.context.Context.add_block.Goals as goal
+
+-- an operation whose region stayed as it was
+unwritten : (ops : List OpData) (o : ℕ) (x : OpData) (region : List BlockRef) → x ≡ get_or ops o x → region ≡ x.blocks → set ops o (record x { blocks = region }) ≡ ops
+unwritten ops o x region is same = ap (λ (r : List BlockRef). set ops o (record x { blocks = r })) same ∙ ap (λ (y : OpData). set ops o y) is ∙ set-get_or ops o x
 
 pub invariant_of-self-2 : goal.invariant_of-self-2
 invariant_of-self-2 c =
@@ -55,3 +62,8 @@ returns-clause-typed c =
 
 pub invariant_of-self : goal.invariant_of-self
 invariant_of-self c = rw c.reserve.ensures.items c.self.invariant
+
+pub invariant_of-self-in_err-number : goal.invariant_of-self-in_err-number
+invariant_of-self-in_err-number c =
+    rw (unwritten c.self.inside.ops.items c.args.holder.0 c.index_mut-op.result.now c.add_block.new.region c.index_mut-op.ensures.value c.in_err-number.ensures.region_err, c.in_ok-reserve.ensures.items, c.in_err-number.ensures.err)
+    c.self.invariant
