@@ -11,3 +11,6 @@ pub returns-clause-ok : goal.returns-clause-ok
 returns-clause-ok c =
     rw (← c.self.view_is, c.in_ok-append_both.ensures.items)
     (listed_same _ _ _ _ refl (add_block_lists c.self.inside.links.items c.self.inside.ends.items))
+
+pub invariant_of-self : goal.invariant_of-self
+invariant_of-self c = rw c.in_err-append_both.ensures.items_err c.self.invariant

@@ -11,3 +11,6 @@ pub returns-clause-ok : goal.returns-clause-ok
 returns-clause-ok c =
     rw (← c.self.view_is, c.in_ok-push.ensures.items)
     (listed_same _ _ _ _ (add_op_parents c.self.inside.links.items) (add_op_lists c.self.inside.links.items c.self.inside.ends.items c.self.invariant))
+
+pub invariant_of-self : goal.invariant_of-self
+invariant_of-self c = rw c.in_err-push.ensures.items c.self.invariant
