@@ -11,14 +11,14 @@ use std::alloc::Global;
 use std::collections::HashMap;
 
 /// A name or a number of a function's scope.
-#[derive(Clone, Copy, PartialEq, Eq, Hash, Debug, Drop)]
+#[derive(Clone, Copy, PartialEq, Eq, Hash, Drop)]
 pub enum Key<'a> {
     Named(&'a str),
     Numbered(u32),
 }
 
 /// What a key stands for: a value of an integer type of a width, or a block.
-#[derive(Clone, Copy, PartialEq, Eq, Debug, Drop)]
+#[derive(Clone, Copy, Drop)]
 pub enum Local {
     /// The parameter of a function at a place, and its width.
     Param(LLVMFunction, u32, u32),

@@ -7,7 +7,7 @@ ghost use Rattle.ll_tree.specs.Tree.{is_local, is_label, is_quoted, is_digits, i
 use crate::bytes::all_digits;
 
 /// A kind of token.
-#[derive(Clone, Copy, PartialEq, Eq, Debug)]
+#[derive(Clone, Copy)]
 pub enum Kind {
     /// `%` and a name or digits.
     Local,
@@ -93,14 +93,17 @@ fn is_operand(token: &[u8]) -> bool
 fn is_predicate(token: &[u8]) -> bool
     ensures { result ≡ is_predicate token.now }
 {
-    token == b"eq".as_slice()
-        || token == b"ne".as_slice()
-        || token == b"ugt".as_slice()
-        || token == b"uge".as_slice()
-        || token == b"ult".as_slice()
-        || token == b"ule".as_slice()
-        || token == b"sgt".as_slice()
-        || token == b"sge".as_slice()
-        || token == b"slt".as_slice()
-        || token == b"sle".as_slice()
+    [
+        b"eq".as_slice(),
+        b"ne".as_slice(),
+        b"ugt".as_slice(),
+        b"uge".as_slice(),
+        b"ult".as_slice(),
+        b"ule".as_slice(),
+        b"sgt".as_slice(),
+        b"sge".as_slice(),
+        b"slt".as_slice(),
+        b"sle".as_slice(),
+    ]
+    .contains(&token)
 }

@@ -11,7 +11,7 @@ use crate::bytes::{
 };
 
 /// A piece at the front of a text, and its number of bytes.
-#[derive(Clone, Copy, Debug)]
+#[derive(Clone, Copy)]
 pub struct Piece {
     /// Blanks and comments are no tokens.
     pub is_token: bool,

@@ -10,7 +10,7 @@ use crate::read_err::ReadErr;
 use std::alloc::Global;
 
 /// A token, which is its text.
-#[derive(Clone, Copy, PartialEq, Eq, Debug)]
+#[derive(Clone, Copy)]
 pub struct Token<'a> {
     pub text: &'a [u8],
 }

@@ -3,14 +3,14 @@
 use crate::tokens::Token;
 
 /// An entry of a phi: what it takes on an edge, and the block that the edge comes from.
-#[derive(Clone, Copy, PartialEq, Eq, Debug)]
+#[derive(Clone, Copy)]
 pub struct Incoming<'a> {
     pub value: Token<'a>,
     pub block: Token<'a>,
 }
 
 /// An instruction that ends no block: a variant for each kind.
-#[derive(Debug, Drop)]
+#[derive(Drop)]
 pub enum Inst<'a> {
     Add {
         name: Option<Token<'a>>,
@@ -37,7 +37,7 @@ pub enum Inst<'a> {
 }
 
 /// An instruction that ends a block: a variant for each kind.
-#[derive(Clone, Copy, PartialEq, Eq, Debug)]
+#[derive(Clone, Copy)]
 pub enum Terminator<'a> {
     ReturnVoid,
     Return {
@@ -57,14 +57,14 @@ pub enum Terminator<'a> {
 }
 
 /// A parameter, with what is written of its name.
-#[derive(Clone, Copy, PartialEq, Eq, Debug)]
+#[derive(Clone, Copy)]
 pub struct Param<'a> {
     pub ty: Token<'a>,
     pub name: Option<Token<'a>>,
 }
 
 /// A block, with its label where one is written.
-#[derive(Debug, Drop)]
+#[derive(Drop)]
 pub struct Block<'a> {
     pub label: Option<Token<'a>>,
     pub insts: Vec<Inst<'a>>,
@@ -72,7 +72,7 @@ pub struct Block<'a> {
 }
 
 /// A function, with a block at least.
-#[derive(Debug, Drop)]
+#[derive(Drop)]
 pub struct Function<'a> {
     /// None for void.
     pub result: Option<Token<'a>>,
@@ -83,7 +83,7 @@ pub struct Function<'a> {
 }
 
 /// A file: the name of the module, where it is written, and its functions in order.
-#[derive(Debug, Drop)]
+#[derive(Drop)]
 pub struct File<'a> {
     pub source: Option<Token<'a>>,
     pub functions: Vec<Function<'a>>,

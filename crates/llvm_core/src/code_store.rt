@@ -63,11 +63,11 @@ impl CodeStore {
         ensures ok { OnOk result (self.new ≡ with_function self.old (record { name = name.now; ty = ty; space = space; params = params; blocks = [] })) }
         ensures err { OnErr result (self.new ≡ self.old) }
     {
-        let name = Text::copy(self.alloc, name)?;
         let at = self.functions.len();
         if at >= u32::MAX as usize {
             return Err(AllocError);
         }
+        let name = Text::copy(self.alloc, name)?;
         let blocks = Items::new(self.alloc);
         self.functions.push(FunctionData {
             name,
@@ -108,11 +108,11 @@ impl CodeStore {
         ensures ok { IfOk result (λ b. self.new ≡ with_block self.old f b name.now) }
         ensures err { OnErr result (self.new ≡ self.old) }
     {
-        let name = Text::copy(self.alloc, name)?;
         let at = self.blocks.len();
         if at >= u32::MAX as usize {
             return Err(AllocError);
         }
+        let name = Text::copy(self.alloc, name)?;
         let number = LLVMBasicBlock(at as u32);
         let insts = Items::new(self.alloc);
         let function = &mut self.functions[f.0 as usize];
@@ -142,11 +142,11 @@ impl CodeStore {
         ensures ok { IfOk result (λ i. self.new ≡ with_inst self.old block i name.now ty inst) }
         ensures err { OnErr result (self.new ≡ self.old) }
     {
-        let name = Text::copy(self.alloc, name)?;
         let at = self.insts.len();
         if at >= u32::MAX as usize {
             return Err(AllocError);
         }
+        let name = Text::copy(self.alloc, name)?;
         let number = LLVMInstRef(at as u32);
         let row = &mut self.blocks[block.0 as usize];
         append_both(
