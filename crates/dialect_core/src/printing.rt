@@ -302,9 +302,9 @@ pub fn print_op(
             print_predicate(*predicate, out)?;
             print_tail(types, x.result, out)
         }
-        OpKind::Br => { print_plain(types, numbers, op, x, b"llvm.br", out) }
-        OpKind::CondBr => { print_plain(types, numbers, op, x, b"llvm.cond_br", out) }
-        OpKind::Return => { print_plain(types, numbers, op, x, b"llvm.return", out) }
-        OpKind::Unreachable => { print_plain(types, numbers, op, x, b"llvm.unreachable", out) }
+        OpKind::Br => print_plain(types, numbers, op, x, b"llvm.br", out),
+        OpKind::CondBr => print_plain(types, numbers, op, x, b"llvm.cond_br", out),
+        OpKind::Return => print_plain(types, numbers, op, x, b"llvm.return", out),
+        OpKind::Unreachable => print_plain(types, numbers, op, x, b"llvm.unreachable", out),
     }
 }
