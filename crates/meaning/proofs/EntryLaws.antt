@@ -1,5 +1,5 @@
 -- Entries of functions with a body: their symbols, their bodies, and that a module of plain names leaves none out.
-use Rattle.std.proofs.Common.{ℕ, suc, ◌≡◌, ◌<◌, refl, sym, ◌∙◌, ap, subst, Bool, true, false, not, if◌then◌else◌, List, [], ◌∷◌, Some, None, map, filter, length, nat_lt, All, arith}
+use Rattle.std.proofs.Common.{ℕ, suc, ◌≡◌, refl, sym, ◌∙◌, ap, subst, Bool, true, false, not, if◌then◌else◌, List, [], ◌∷◌, Some, None, map, filter, length, nat_lt, All, arith}
 use Rattle.std.proofs.lemmas.Bool.{lt-ltb}
 use Rattle.std.proofs.lemmas.List.Elements.{All-head, All-tail}
 use Rattle.llvm_core.specs.Names.{is_plain}

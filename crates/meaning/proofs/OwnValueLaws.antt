@@ -1,9 +1,9 @@
 -- A function of a context whose values are its own has the same body by the types that the context gives them and by those
 -- that the function gives them.
-use Rattle.std.proofs.Common.{◌≡◌, ℕ, zero, suc, List, [], ◌∷◌, Some, map, length, slice_get, refl, sym, ap, ◌∙◌}
+use Rattle.std.proofs.Common.{◌≡◌, ℕ, suc, List, [], ◌∷◌, Some, map, length, slice_get, refl, sym, ap, ◌∙◌}
 use Rattle.std.specs.List.{flat_map}
 use Rattle.llvm_core.specs.Data as L
-use Rattle.dialect_types.specs.Trees.{AttrTree, type_trees}
+use Rattle.dialect_types.specs.Trees.{type_trees}
 use Rattle.dialect_core.specs.declared.numbers.OpRef.{OpRef}
 use Rattle.dialect_core.specs.declared.ops.Value.{Value}
 use Rattle.dialect_core.specs.declared.ops.Successor.{Successor}
@@ -14,9 +14,9 @@ use Rattle.dialect_core.proofs.HoldLemmas.{stands_left}
 use Rattle.dialect_core.proofs.LineLemmas.{all_at}
 use Rattle.dialect_core.proofs.TypingLaws.{own_type}
 use Rattle.meaning.specs.Terms.{Opcode, Immediate}
-use Rattle.meaning.specs.Machine.{At, Action, Applies, Row, Block, trace}
+use Rattle.meaning.specs.Machine.{At, Action, Applies, Block, trace}
 use Rattle.meaning.specs.Code.{Body}
-use Rattle.meaning.specs.Dialect.{option_type, typed_applies, typed_action, typed_row, typed_block, typed_body, edge, same_value, start}
+use Rattle.meaning.specs.Dialect.{option_type, typed_applies, typed_action, typed_row, typed_block, typed_body, same_value, start}
 
 module _ (c : ContextData) (f : OpRef) (g : Func) (is : func_in (type_trees c.types) c f ≡ Some g) where
   abbrev Own : List Value → Type 0

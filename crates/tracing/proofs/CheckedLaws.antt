@@ -1,6 +1,6 @@
 -- What the rules of a checked module say of an instruction that is no phi: its operands are values of its function, and
 -- neither they nor its result are functions.
-use Rattle.std.proofs.Common.{◌≡◌, ◌≢◌, ◌<◌, ℕ, Bool, true, false, nat_eq, ◌&&◌, ◌||◌, List, [], ◌∷◌, Option, None, Some, All, length, slice_get, refl, sym, ap, subst, ◌∙◌}
+use Rattle.std.proofs.Common.{◌≡◌, ℕ, Bool, true, false, nat_eq, ◌&&◌, ◌||◌, List, [], ◌∷◌, Option, None, Some, All, slice_get, refl, sym, ap, subst, ◌∙◌}
 use Rattle.std.specs.Prelude.{if◌then◌else◌}
 use Rattle.std.specs.List.{list_any}
 use Rattle.std.specs.Option.{option_map, option_map_or}
@@ -17,7 +17,7 @@ use Rattle.llvm_core.specs.declared.code.FunctionData.{FunctionData}
 use Rattle.llvm_core.specs.declared.check_err.Place.TheVariants as P
 use Rattle.llvm_core.specs.declared.check_err.CheckErr.TheVariants.{OperandType}
 use Rattle.llvm_core.specs.Module.{Module}
-use Rattle.llvm_core.specs.Parts.{IsValue, value_type, result_type, both_type, is_int, is_function, is_kind, is_phi, operands}
+use Rattle.llvm_core.specs.Parts.{IsValue, value_type, both_type, is_int, is_function, is_kind, is_phi, operands}
 use Rattle.llvm_core.specs.Sound.{IsModule, StandsFor}
 use Rattle.llvm_core.specs.Checked.{IsChecked, is_bit, is_valueless, is_outside, is_block_outside, misfits_signature, return_type}
 use Rattle.llvm_core.proofs.DecideLemmas.{both_agree, type_decided}

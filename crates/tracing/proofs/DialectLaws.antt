@@ -25,7 +25,7 @@ use Rattle.dialect_core.specs.declared.ops.Symbol.{Symbol}
 use Rattle.dialect_core.specs.Lists.{list_at}
 use Rattle.dialect_core.specs.ContextData.{ContextData}
 use Rattle.dialect_core.specs.Data.{DialectOp, DialectBlock, Func, Kind, ConstantOp, AddOp, ICmpOp, BrOp, CondBrOp, ReturnOp, UnreachableOp, IsTyped, HasKindTypesBelow, kind_of, op_of, op_at, block_of, block_in, func_with, func_of, func_in, type_in}
-use Rattle.dialect_core.specs.Form.{IsShortInt, result_of}
+use Rattle.dialect_core.specs.Form.{result_of}
 use Rattle.dialect_core.specs.WellFormed.{Typing, IsInteger, IsReturned, IsSignature, IsOfKind, AreIntegers, Returned}
 use Rattle.dialect_core.proofs.WellLaws.{short_integer}
 use Rattle.meaning.specs.Terms as M

@@ -1,5 +1,5 @@
 -- The operands and types of instructions of LLVM, in the names of the program.
-use Rattle.std.proofs.Common.{◌≡◌, ◌<◌, ℕ, true, false, length, List, [], ◌∷◌, Option, Some, None, map, slice_get, refl, sym, ap, subst, ◌∙◌, arith, All}
+use Rattle.std.proofs.Common.{◌≡◌, ◌<◌, ℕ, true, false, length, List, Option, Some, None, map, slice_get, refl, sym, ap, subst, ◌∙◌, All}
 use Rattle.llvm_core.specs.declared.numbers.LLVMType.{LLVMType}
 use Rattle.llvm_core.specs.declared.numbers.LLVMInstRef.{LLVMInstRef}
 use Rattle.llvm_core.specs.declared.code.LLVMValue.{LLVMValue}
