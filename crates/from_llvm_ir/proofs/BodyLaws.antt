@@ -8,8 +8,8 @@ use Rattle.llvm_core.specs.declared.numbers.LLVMBasicBlock.{LLVMBasicBlock}
 use Rattle.llvm_core.specs.declared.numbers.LLVMFunction.{LLVMFunction}
 use Rattle.llvm_core.specs.declared.numbers.LLVMInstRef.{LLVMInstRef}
 use Rattle.llvm_core.specs.declared.code.LLVMValue.TheVariants as K
-use Rattle.llvm_core.specs.Interned.{IsDistinctList}
 use Rattle.llvm_core.specs.Module.{Module}
+use Rattle.llvm_core.proofs.ListLemmas.{distinct_push}
 use Rattle.llvm_core.specs.Form as LF
 use Rattle.llvm_core.specs.Form.{is_phi, operands_of}
 use Rattle.llvm_core.specs.Data as L
@@ -86,15 +86,6 @@ module _ (fr : Frame) (cs : List ConstTree) (os : List DialectOp) (ps ps' : List
   blocks_more bs h place b c at_b at_c = block_more (take place bs) place b c (h place b c at_b at_c)
 
 -- ---- a result more
-
-distinct_push : {X : Type 0} (xs : List X) (y : X) → IsDistinctList xs → ((i : ℕ) → ¬ (slice_get xs i ≡ Some y)) → IsDistinctList (xs ++ y ∷ [])
-distinct_push {X = X} xs y h fresh i j x at_i at_j = by (push_cases xs y x i at_i) (push_cases xs y x j at_j)
-  where
-    by : (slice_get xs i ≡ Some x) ⊎ ((x ≡ y) × (i ≡ length xs)) → (slice_get xs j ≡ Some x) ⊎ ((x ≡ y) × (j ≡ length xs)) → i ≡ j
-    by (inl a) (inl b) = h i j x a b
-    by (inr a) (inr b) = a.1 ∙ sym b.1
-    by (inl a) (inr b) = absurd (fresh i (a ∙ ap Some b.0))
-    by (inr a) (inl b) = absurd (fresh j (b ∙ ap Some a.0))
 
 pub older_more : (split n n' at args args' : ℕ) (w : Value) → n ≤ n' → args ≤ args' → IsOlder split n at args w → IsOlder split n' at args' w
 older_more split n n' at args args' (V.Result r) a b h = (h.0, omega (arith, a, h.1))

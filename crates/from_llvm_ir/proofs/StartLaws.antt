@@ -19,6 +19,7 @@ use Rattle.llvm_core.specs.Parts.{IsValue}
 use Rattle.llvm_core.specs.Data as L
 use Rattle.llvm_core.specs.Data.{trees_of, operand_of, data_of}
 use Rattle.llvm_core.proofs.DataLemmas.{there, within_at}
+use Rattle.llvm_core.proofs.ListLemmas.{distinct_nil, distinct_push}
 use Rattle.dialect_core.specs.declared.numbers.BlockRef.{BlockRef}
 use Rattle.dialect_core.specs.declared.numbers.FuncOp.{FuncOp}
 use Rattle.dialect_core.specs.declared.ops.Value.{Value}
@@ -349,18 +350,9 @@ not_filled fr m c values h = record {
 -- ---- a function that is whole
 
 pub first_once : {A : Type 0} (uses firsts : List A) → FirstUses uses firsts → IsDistinctList firsts
-first_once uses firsts NoUses i j x at_i at_j = absurd (none-some x at_i)
-first_once uses firsts (UsedAgain us fs y h is_in) i j x at_i at_j = first_once us fs h i j x at_i at_j
-first_once uses firsts (UsedFirst us fs y h fresh) i j x at_i at_j = elim (push_cases fs y x i at_i) [
-  | inl a ↦ elim (push_cases fs y x j at_j) [
-    | inl b ↦ first_once us fs h i j x a b
-    | inr q ↦ absurd (fresh (i, a ∙ ap Some q.0))
-  ]
-  | inr p ↦ elim (push_cases fs y x j at_j) [
-    | inl b ↦ absurd (fresh (j, b ∙ ap Some p.0))
-    | inr q ↦ p.1 ∙ sym q.1
-  ]
-]
+first_once uses firsts NoUses = distinct_nil
+first_once uses firsts (UsedAgain us fs y h is_in) = first_once us fs h
+first_once uses firsts (UsedFirst us fs y h fresh) = distinct_push fs y (first_once us fs h) (λ i at. fresh (i, at))
 
 result_apart : (split n at args : ℕ) (o : DialectOp) (w : Value) → o.number < split → IsOlder split n at args w → ¬ (w ≡ value_of o)
 result_apart split n at args o w small older same = let later = subst (IsOlder split n at args) same older in omega (arith, small, later.0)

@@ -158,7 +158,6 @@ fn dialect_function(ctx: &Context, root: ModuleOp) -> Result<Option<FuncOp>, All
 
 /// The trace of the first function of a module.
 fn llvm_words(alloc: Global, module: &LLVMModule) -> Option<String>
-    requires form { IsForm (data_of «module».now) }
     requires checked { IsChecked «module».now }
 {
     if module.functions() == 0 {

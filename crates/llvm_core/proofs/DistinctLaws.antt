@@ -1,4 +1,4 @@
--- The names of a checked module are distinct, and its lists are short.
+-- The names of a checked module are distinct, and its lists are short. No function lists a block twice.
 use Rattle.std.proofs.Common.{◌≡◌, ◌<◌, ◌^◌, inl, inr, ℕ, List, Option, None, Some, length, slice_get, map, refl, sym, ap, subst, ◌∙◌, arith, All}
 use Rattle.std.specs.Option.{option_map}
 use Rattle.std.proofs.lemmas.Bool.{cases_order}
@@ -27,6 +27,21 @@ each_function m P each k d lt =
     let count = function_count m in
     let x = there m.functions k (omega (arith, lt, count)) in
     subst P (sym (get_or_from_slice_get (data_of m).functions k (shown m k x.0) d (function_at m k x.0 x.1))) (each k x.0 x.1)
+
+-- a block of a function's data is listed at the place where it stands
+block_listed : (m : Module) (f : ℕ) (x : FunctionData) (place n : ℕ) → IsModule m → slice_get m.functions f ≡ Some x → slice_get (map (λ (c : Block). c.number) (shown m f x).blocks) place ≡ Some n → slice_get x.blocks place ≡ Some (record { 0 = n })
+block_listed m f x place n sound at h = by (slice_get (shown m f x).blocks place) refl (sym (slice_get-map (λ (c : Block). c.number) (shown m f x).blocks place) ∙ h)
+  where
+    by : (o : Option Block) → slice_get (shown m f x).blocks place ≡ o → option_map (λ (c : Block). c.number) o ≡ Some n → slice_get x.blocks place ≡ Some (record { 0 = n })
+    by None e h = absurd cc
+    by (Some c) e h =
+        let l = block_from m f x place c sound at e in
+        l.listed ∙ ap (λ (k : ℕ). Some (record { 0 = k })) (ap (λ (d : Block). d.number) (sym l.shown_as) ∙ some_same c.number n h)
+
+-- no two blocks of a function's data have one number
+pub blocks_once : (m : Module) (f : ℕ) (x : FunctionData) → IsModule m → slice_get m.functions f ≡ Some x → IsDistinctList (map (λ (c : Block). c.number) (shown m f x).blocks)
+blocks_once m f x sound at i j n here there =
+    (sound.functions f x at).once i j (record { 0 = n }) (block_listed m f x i n sound at here) (block_listed m f x j n sound at there)
 
 module _ (m : Module) (checked : IsChecked m) where
   -- ---- names

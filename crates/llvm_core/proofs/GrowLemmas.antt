@@ -74,6 +74,7 @@ function_kept m n g x h = record {
   typed = (h.typed.0, g.types x.ty.0 _ h.typed.1, h.typed.2);
   params = h.params ∙ ap length (params_kept m n g x.ty h.typed);
   blocks = All-weaker (λ (b : LLVMBasicBlock). b.0 < length m.blocks) (λ (b : LLVMBasicBlock). b.0 < length n.blocks) (λ b lt. omega (arith, g.block_count)) x.blocks h.blocks;
+  once = h.once;
 }
 
 pub block_kept : (m n : Module) → Grows m n → (x : BlockData) → IsBlockIn m x → IsBlockIn n x

@@ -1,6 +1,7 @@
 -- Lists that grow at the end, and lists of which one item changes.
 use Rattle.std.proofs.Common.{◌≡◌, ◌≢◌, ◌⊎◌, ℕ, zero, suc, List, [], ◌∷◌, ◌++◌, Option, Some, None, length, slice_get, slice_set, sym, ap, ◌∙◌, refl, inl, inr, arith}
 use Rattle.std.specs.Option.{option_map_or}
+use Rattle.llvm_core.specs.Interned.{IsDistinctList}
 use Rattle.llvm_core.specs.Code.{with_change}
 
 pub some_same : {X : Type 0} (x y : X) → Some x ≡ Some y → x ≡ y
@@ -64,3 +65,17 @@ slice_get-set_other (z ∷ xs) zero zero x ne = absurd (ne refl)
 slice_get-set_other (z ∷ xs) zero (suc j) x ne = refl
 slice_get-set_other (z ∷ xs) (suc i) zero x ne = refl
 slice_get-set_other (z ∷ xs) (suc i) (suc j) x ne = slice_get-set_other xs i j x (λ e. ne (ap suc e))
+
+-- ---- lists in which nothing stands twice
+
+pub distinct_nil : {X : Type 0} → IsDistinctList {X = X} []
+distinct_nil i j x at also = cc
+
+pub distinct_push : {X : Type 0} (xs : List X) (y : X) → IsDistinctList xs → ((i : ℕ) → ¬ (slice_get xs i ≡ Some y)) → IsDistinctList (xs ++ y ∷ [])
+distinct_push {X} xs y h fresh i j x at also = by (slice_get-push_cases xs y i x at) (slice_get-push_cases xs y j x also)
+  where
+    by : (slice_get xs i ≡ Some x) ⊎ ((i ≡ length xs) × (x ≡ y)) → (slice_get xs j ≡ Some x) ⊎ ((j ≡ length xs) × (x ≡ y)) → i ≡ j
+    by (inl a) (inl b) = h i j x a b
+    by (inr a) (inr b) = a.0 ∙ sym b.0
+    by (inl a) (inr b) = absurd (fresh i (a ∙ ap Some b.1))
+    by (inr a) (inl b) = absurd (fresh j (b ∙ ap Some a.1))

@@ -21,7 +21,7 @@ use Rattle.llvm_core.specs.Module.{Module}
 use Rattle.llvm_core.specs.Code.{code_of, with_code, with_change, with_param_name, with_block, with_inst, param_names}
 use Rattle.llvm_core.specs.Parts.{IsTypeOver, IsConstOver, IsFunctionType, HasValues, IsResultType, kind_params, made_kind, result_type}
 use Rattle.llvm_core.specs.Sound.{IsFunctionIn, OwnsBlocks, OwnsInsts, StandsFor, IsModule}
-use Rattle.llvm_core.proofs.ListLemmas.{slice_get-kept, slice_get-push, slice_get-push_cases, change_cases, length-with_change, length-slice_set, some_same}
+use Rattle.llvm_core.proofs.ListLemmas.{slice_get-kept, slice_get-push, slice_get-push_cases, change_cases, distinct_nil, distinct_push, length-with_change, length-slice_set, some_same}
 use Rattle.llvm_core.proofs.DataLemmas.{within_at}
 use Rattle.llvm_core.proofs.GrowLemmas.{blocks_of, insts_of, KeepsTypes, function_type, inst_type, Grows, const_kept, function_kept, block_kept, inst_kept, values_kept, result_kept, listed_block_kept, listed_inst_kept}
 use Rattle.llvm_core.proofs.ListedLemmas.{same_keeps, push_keeps, kept_or_changed, change_keeps, changed_there}
@@ -125,6 +125,12 @@ const_added m consts k n s ok h once =
 owns_no_blocks : (m : Module) (f : ℕ) (x : FunctionData) → x.blocks ≡ [] → OwnsBlocks m f x
 owns_no_blocks m f x none place b y at is = absurd (let e = ap (λ (bs : List LLVMBasicBlock). slice_get bs place) (sym none) ∙ at in cc)
 
+-- no function of before lists a block behind all that are there
+not_listed : (m : Module) (b : LLVMBasicBlock) → IsModule m → b.0 ≡ length m.blocks → (f : ℕ) (x : FunctionData) → slice_get m.functions f ≡ Some x → (place : ℕ) → ¬ (slice_get x.blocks place ≡ Some b)
+not_listed m b s last f x here place at =
+    let within = within_at x.blocks (λ (b : LLVMBasicBlock). b.0 < length m.blocks) (s.functions f x here).blocks place b at in
+    omega (arith, within, last)
+
 -- a function of before, where there is one more block
 owns_old_blocks : (m : Module) (new : BlockData) → IsModule m → (f : ℕ) (x : FunctionData) → slice_get m.functions f ≡ Some x → OwnsBlocks (record m { blocks = m.blocks ++ new ∷ [] }) f x
 owns_old_blocks m new s f x here place b y at is =
@@ -225,6 +231,7 @@ declared_in m name ty space params k typed at same = record {
   typed = typed;
   params = ap length same ∙ length-map (kind_params k) (λ _. []) ∙ sym (ap (λ o. length (option_map_or kind_params o [])) at);
   blocks = All-nil (λ (b : LLVMBasicBlock). b.0 < length m.blocks);
+  once = distinct_nil;
 }
 
 -- a change of a function that keeps the count of its parameters keeps that of each function
@@ -269,7 +276,7 @@ param_named m f place name s =
       consts_once = s.consts_once;
       functions = λ j y e. elim (change_cases change f.0 m.functions j y e) [
         | inl new ↦ (let old = function_kept m _ g new.0 (s.functions j new.0 new.1) in
-            rw new.3 (record { typed = old.typed; params = length-slice_set new.0.params place name ∙ old.params; blocks = old.blocks }))
+            rw new.3 (record { typed = old.typed; params = length-slice_set new.0.params place name ∙ old.params; blocks = old.blocks; once = old.once }))
         | inr old ↦ function_kept m _ g y (s.functions j y old)
       ];
       blocks = λ b x e. block_kept m _ g x (s.blocks b x e);
@@ -309,7 +316,12 @@ block_added m f b name s there last =
       consts_once = s.consts_once;
       functions = λ j y e. elim (change_cases change f.0 m.functions j y e) [
         | inl at ↦ (let old = function_kept m _ g at.0 (s.functions j at.0 at.1) in
-            rw at.3 (record { typed = old.typed; params = old.params; blocks = All-push (λ (b : LLVMBasicBlock). b.0 < length (m.blocks ++ new ∷ [])) at.0.blocks b old.blocks (omega (arith, longer)) }))
+            rw at.3 (record {
+              typed = old.typed;
+              params = old.params;
+              blocks = All-push (λ (b : LLVMBasicBlock). b.0 < length (m.blocks ++ new ∷ [])) at.0.blocks b old.blocks (omega (arith, longer));
+              once = distinct_push at.0.blocks b old.once (not_listed m b s last j at.0 at.1);
+            }))
         | inr old ↦ function_kept m _ g y (s.functions j y old)
       ];
       blocks = λ j x e. elim (slice_get-push_cases m.blocks new j x e) [

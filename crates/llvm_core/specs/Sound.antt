@@ -15,11 +15,12 @@ use Rattle.llvm_core.specs.Interned.{IsDistinctList}
 use Rattle.llvm_core.specs.Module.{Module}
 use Rattle.llvm_core.specs.Parts.{IsTypeOver, IsConstOver, IsFunctionType, HasValues, type_params, result_type}
 
--- a function of a function type, with a name for each parameter, and blocks that are there
+-- a function of a function type, with a name for each parameter, and blocks that are there, each listed once
 pub record IsFunctionIn (m : Module) (x : FunctionData) : Type 0 where
   pub typed : IsFunctionType m.types x.ty
   pub params : length x.params ≡ length (type_params m.types x.ty)
   pub blocks : All (λ (b : LLVMBasicBlock). b.0 < length m.blocks) x.blocks
+  pub once : IsDistinctList x.blocks
 
 -- a block of a function that is there, with instructions that are there
 pub record IsBlockIn (m : Module) (x : BlockData) : Type 0 where

@@ -64,7 +64,8 @@ predicate_of P.SLT = I.LLVMIntSLT
 predicate_of P.SLE = I.LLVMIntSLE
 
 -- The types of the operands of an operation are those of a typing: of a context, which gives each value its type, whichever
--- function it belongs to (`type_in`), or of a function, whose values are its own (`value_type`).
+-- function it belongs to (`type_in`), or of a function, which gives its own values their types, and any other none
+-- (`value_type`).
 module _ (types : Typing) where
   -- the opcode and the immediates, applied to the operands
   abbrev pub typed_applies : DialectOp → Opcode → List Immediate → Action Value

@@ -9,13 +9,14 @@ use Rattle.llvm_core.specs.Checked.{named}
 use Rattle.llvm_core.specs.Interned.{IsDistinctList}
 use Rattle.llvm_core.specs.Data.{Operand, Placed}
 use Rattle.llvm_core.specs.Form.{names_in, local_names}
+use Rattle.llvm_core.proofs.ListLemmas.{distinct_nil}
 use Rattle.dialect_types.specs.Trees.{TypeTree}
 use Rattle.dialect_core.specs.declared.ops.Value.{Value}
 use Rattle.dialect_core.specs.Data.{DialectOp, DialectBlock, Func}
 use Rattle.dialect_core.specs.Form.{is_constant}
 use Rattle.to_llvm_ir.specs.Exported.{block_name, value_name, result_name}
 use Rattle.to_llvm_ir.specs.Made.{Numbers, inst, insts, phis, block_phis, block_made, blocks_made, function_made, number_past, entry_args, number_after, number_behind}
-use Rattle.to_llvm_ir.proofs.ListLaws.{all_at, append_cases, distinct_nil, distinct_cons, distinct_append}
+use Rattle.to_llvm_ir.proofs.ListLaws.{all_at, append_cases, distinct_cons, distinct_append}
 use Rattle.to_llvm_ir.proofs.NameLaws.{value_ends, block_ends, same_ends}
 use Rattle.to_llvm_ir.proofs.FormLaws.{behind_le, past_le}
 

@@ -137,9 +137,6 @@ filter_numbered {X} number p (y ∷ xs) h = by (p y) (filter_numbered number p x
     by true k = with_first k
     by false k = k
 
-pub distinct_nil : {X : Type 0} → IsDistinctList {X = X} []
-distinct_nil i j x at at' = absurd (none-some x at)
-
 pub distinct_cons : {X : Type 0} (x : X) (xs : List X) → ((j : ℕ) → slice_get xs j ≡ Some x → ⊥) → IsDistinctList xs → IsDistinctList (x ∷ xs)
 distinct_cons x xs apart h zero zero y at at' = refl
 distinct_cons x xs apart h zero (suc j) y at at' = absurd (apart j (at' ∙ ap Some (sym (same_Some x y at))))

@@ -7,7 +7,7 @@ use Rattle.std.proofs.lemmas.List.{map-append, length-append}
 use Rattle.std.proofs.lemmas.List.Concat.{flat_map-append}
 use Rattle.llvm_core.specs.Interned.{IsDistinctList}
 use Rattle.llvm_core.specs.Data.{Operand, Placed, Block}
-use Rattle.llvm_core.proofs.ListLemmas.{slice_get-kept}
+use Rattle.llvm_core.proofs.ListLemmas.{distinct_nil, slice_get-kept}
 use Rattle.dialect_types.specs.Trees.{TypeTree}
 use Rattle.dialect_core.specs.declared.ops.Value.{Value}
 use Rattle.dialect_core.specs.declared.ops.Value.TheVariants.{Result, Argument}
@@ -16,7 +16,7 @@ use Rattle.dialect_core.specs.Form.{IsFormFunc, is_constant, others_of}
 use Rattle.meaning.specs.Pairs.{BothOrNone}
 use Rattle.to_llvm_ir.specs.Exported.{value_name, result_name, result, results_of, arguments_from, arguments_of, values_of, values_in, value_number, phi_values, phi_name, operation_name, HasNames}
 use Rattle.to_llvm_ir.specs.Made.{Numbers, number_after, number_behind, number_past, inst, insts, phis, block_phis, block_made, function_made}
-use Rattle.to_llvm_ir.proofs.ListLaws.{AreNumbered, append_cases, at_behind, split_at, numbered_rest, numbered_front, numbered_back, numbered_apart, distinct_nil, distinct_append}
+use Rattle.to_llvm_ir.proofs.ListLaws.{AreNumbered, append_cases, at_behind, split_at, numbered_rest, numbered_front, numbered_back, numbered_apart, distinct_append}
 use Rattle.to_llvm_ir.proofs.PlaceLaws.{place_at, result_number, argument_from, arguments_count, arguments_distinct}
 use Rattle.to_llvm_ir.proofs.EdgeLaws.{made_at, made_none}
 

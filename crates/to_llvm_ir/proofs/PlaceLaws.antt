@@ -5,7 +5,7 @@ use Rattle.std.specs.Option.{option_map}
 use Rattle.std.proofs.lemmas.Option.{same_Some, none-some, slice_get-map}
 use Rattle.std.proofs.lemmas.Bool.{cond-true, cond-false, false_from_ne_true}
 use Rattle.llvm_core.specs.Interned.{IsDistinctList}
-use Rattle.llvm_core.proofs.ListLemmas.{slice_get-kept}
+use Rattle.llvm_core.proofs.ListLemmas.{distinct_nil, slice_get-kept}
 use Rattle.dialect_types.specs.Trees.{TypeTree}
 use Rattle.dialect_core.specs.declared.ops.Value.{Value}
 use Rattle.dialect_core.specs.declared.ops.Value.TheVariants.{Result, Argument}
@@ -15,7 +15,7 @@ use Rattle.meaning.specs.Dialect.{same_value}
 use Rattle.meaning.proofs.SameValues.{same_value-Decides}
 use Rattle.to_llvm_ir.specs.Exported.{result, arguments_from, phi_values, place_in}
 use Rattle.to_llvm_ir.specs.Made.{result_values, values_from}
-use Rattle.to_llvm_ir.proofs.ListLaws.{AreNumbered, at_behind, append_cases, numbered_rest, numbered_front, numbered_back, numbered_apart, filter_from, filter_numbered, distinct_nil, distinct_rest, distinct_append}
+use Rattle.to_llvm_ir.proofs.ListLaws.{AreNumbered, at_behind, append_cases, numbered_rest, numbered_front, numbered_back, numbered_apart, filter_from, filter_numbered, distinct_rest, distinct_append}
 
 -- ---- the place of a value
 

@@ -7,7 +7,7 @@ use Rattle.std.proofs.lemmas.Option.{same_Some, none-some, slice_get_within, sli
 use Rattle.std.proofs.lemmas.List.{append_assoc}
 use Rattle.std.proofs.lemmas.List.Concat.{flat_map-append}
 use Rattle.llvm_core.specs.Interned.{IsDistinctList}
-use Rattle.llvm_core.proofs.ListLemmas.{slice_get-kept}
+use Rattle.llvm_core.proofs.ListLemmas.{distinct_nil, slice_get-kept}
 use Rattle.llvm_core.proofs.NameLemmas.{slice_get-taken}
 use Rattle.llvm_core.proofs.DataLemmas.{length-filter_map_all, slice_get-filter_map_all}
 use Rattle.block_order.specs.Order.{IsOrder}
@@ -20,7 +20,7 @@ use Rattle.dialect_core.specs.Form.{IsFormFunc, is_constant, others_of}
 use Rattle.to_llvm_ir.specs.Order.{turn_of}
 use Rattle.to_llvm_ir.specs.Exported.{result, phi_values}
 use Rattle.to_llvm_ir.specs.Made.{result_values, values_from, values, block_values, values_by}
-use Rattle.to_llvm_ir.proofs.ListLaws.{AreNumbered, numbered_rest, find_numbered, found_numbered, filter_none, all_at, all_from, at_contains, item_there, at_behind, append_cases, split_at, distinct_nil, distinct_append, distinct_rest}
+use Rattle.to_llvm_ir.proofs.ListLaws.{AreNumbered, numbered_rest, find_numbered, found_numbered, filter_none, all_at, all_from, at_contains, item_there, at_behind, append_cases, split_at, distinct_append, distinct_rest}
 use Rattle.to_llvm_ir.proofs.PlaceLaws.{argument_at, from_distinct}
 use Rattle.to_llvm_ir.proofs.LookupLaws.{other_at}
 

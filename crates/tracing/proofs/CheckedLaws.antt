@@ -74,21 +74,20 @@ module _ (m : Module) (f : ℕ) (x : FunctionData) (sound : IsModule m) (at : sl
       let parts = or_parts (list_any (is_kind is_valueless m.types) s.params) (is_kind is_function m.types s.returned) fits in
       subst (λ (u : LLVMType). is_kind is_function m.types u ≡ false) same parts.1
 
+  -- both sides of an operation, which have one integer type
+  both_usable : (lhs rhs : LLVMValue) → IsValue m lhs → IsValue m rhs → ¬ (both_type m.types (value_type m lhs) (value_type m rhs) ≡ None) → is_outside m (numbered f) lhs || is_outside m (numbered f) rhs ≡ false → All (IsUsable m f) (lhs ∷ rhs ∷ [])
+  both_usable lhs rhs left right some inside =
+      let t = both_agree m.types (value_type m lhs) (value_type m rhs) some in
+      let plain = int_plain m.types t.0 (both_int m.types (value_type m lhs) (value_type m rhs) t.0 t.3) in
+      let parts = or_parts (is_outside m (numbered f) lhs) (is_outside m (numbered f) rhs) inside in
+      All-cons (IsUsable m f) lhs (rhs ∷ []) (record { here = left; inside = parts.0; type = t.0; typed = t.1; plain = plain })
+      (All-cons (IsUsable m f) rhs [] (record { here = right; inside = parts.1; type = t.0; typed = t.2; plain = plain }) (All-nil (IsUsable m f)))
+
   module _ (b : ℕ) (ty : LLVMType) where
     -- a line for each kind
     pub usable_all : (inst : LLVMInst) → is_phi inst ≡ false → MeetsRules m f b ty inst → All (IsUsable m f) (operands inst)
-    usable_all (I.Add lhs rhs flags) e h =
-        let t = both_agree m.types (value_type m lhs) (value_type m rhs) (λ none. h.types (ap (option_map R.There) none)) in
-        let plain = int_plain m.types t.0 (both_int m.types (value_type m lhs) (value_type m rhs) t.0 t.3) in
-        let outside = or_parts (is_outside m (numbered f) lhs) (is_outside m (numbered f) rhs) h.outside in
-        All-cons (IsUsable m f) lhs (rhs ∷ []) (record { here = h.values.0; inside = outside.0; type = t.0; typed = t.1; plain = plain })
-        (All-cons (IsUsable m f) rhs [] (record { here = h.values.1; inside = outside.1; type = t.0; typed = t.2; plain = plain }) (All-nil (IsUsable m f)))
-    usable_all (I.ICmp lhs rhs predicate) e h =
-        let t = both_agree m.types (value_type m lhs) (value_type m rhs) (λ none. h.types (ap (option_map (λ _. R.Bit)) none)) in
-        let plain = int_plain m.types t.0 (both_int m.types (value_type m lhs) (value_type m rhs) t.0 t.3) in
-        let outside = or_parts (is_outside m (numbered f) lhs) (is_outside m (numbered f) rhs) h.outside in
-        All-cons (IsUsable m f) lhs (rhs ∷ []) (record { here = h.values.0; inside = outside.0; type = t.0; typed = t.1; plain = plain })
-        (All-cons (IsUsable m f) rhs [] (record { here = h.values.1; inside = outside.1; type = t.0; typed = t.2; plain = plain }) (All-nil (IsUsable m f)))
+    usable_all (I.Add lhs rhs flags) e h = both_usable lhs rhs h.values.0 h.values.1 (λ none. h.types (ap (option_map R.There) none)) h.outside
+    usable_all (I.ICmp lhs rhs predicate) e h = both_usable lhs rhs h.values.0 h.values.1 (λ none. h.types (ap (option_map (λ _. R.Bit)) none)) h.outside
     usable_all (I.Phi type entries) e h = cc
     usable_all (I.Br target) e h = All-nil (IsUsable m f)
     usable_all (I.CondBr condition first second) e h =

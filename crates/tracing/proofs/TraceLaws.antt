@@ -18,7 +18,7 @@ use Rattle.meaning.specs.Llvm.{Key, ParamKey, ResultKey, same_key}
 use Rattle.tracing.specs.declared.body.Slot.{Slot}
 use Rattle.tracing.specs.Bodies.{same_slot}
 use Rattle.tracing.specs.Renamed.{renamed_code}
-use Rattle.tracing.specs.LlvmBodies.{slot_of, HasBlocksOnce, InChecked, data_in}
+use Rattle.tracing.specs.LlvmBodies.{slot_of, InChecked, data_in}
 use Rattle.tracing.specs.DialectBodies.{InContext}
 use Rattle.tracing.specs.DialectBodies.{slot_of as slot_of_value}
 use Rattle.tracing.proofs.Renaming.{renamed_trace}
@@ -30,10 +30,8 @@ keys_apart (ResultKey n) (ResultKey k) = refl
 keys_apart (ParamKey f i) (ResultKey k) = refl
 keys_apart (ResultKey n) (ParamKey g j) = refl
 
-abbrev pub in_checked : (m : Module) (f : ℕ) → IsModule m → IsChecked m → f < length m.functions → ((x : Function) → slice_get (data_of m).functions f ≡ Some x → HasBlocksOnce x) → InChecked m
-in_checked m f sound checked lt once =
-    let x = there m.functions f lt in
-    record { number = f; function = x.0; sound = sound; checked = checked; at = x.1; once = once _ (function_at m f x.0 x.1) }
+abbrev pub in_checked : (m : Module) (f : ℕ) → IsModule m → IsChecked m → f < length m.functions → InChecked m
+in_checked m f sound checked lt = let x = there m.functions f lt in record { number = f; function = x.0; sound = sound; checked = checked; at = x.1 }
 
 pub llvm_trace : (m : Module) (h : InChecked m) (x : Function) (cs : List ℕ) (start : Slot → _) (code : List (M.Block Slot)) (items : List Item) → slice_get (data_of m).functions h.number ≡ Some x
     → items ≡ M.trace Slot same_slot start code cs → code ≡ renamed_code slot_of (map (Llvm.block (data_of m) (data_in m h)) (data_in m h).blocks) → ((k : Key) → start (slot_of k) ≡ Llvm.start (data_in m h) k)

@@ -15,7 +15,6 @@ use Rattle.llvm_core.specs.Data as L
 use Rattle.llvm_core.specs.Data.{Placed, Function, trees_of, function_of, block_at, placed_at, operand_of, operand_type, phi_entries, data_of}
 use Rattle.llvm_core.specs.Checked.{IsChecked, home}
 use Rattle.llvm_core.specs.Form.{IsOperandOf, is_phi}
-use Rattle.llvm_core.specs.Interned.{IsDistinctList}
 use Rattle.meaning.specs.Machine as M
 use Rattle.meaning.specs.Llvm.{Key, ParamKey, ResultKey, operand, row, entry_for}
 use Rattle.meaning.specs.Pairs.{Matched}
@@ -32,10 +31,6 @@ abbrev pub slot_of : Key → Slot
 slot_of (ParamKey f i) = Input f i
 slot_of (ResultKey n) = Result n
 
--- the function lists no block twice
-abbrev pub HasBlocksOnce : Function → Type 0
-HasBlocksOnce f = IsDistinctList (map (λ (b : L.Block). b.number) f.blocks)
-
 -- a function of a checked module
 pub record InChecked (m : Module) : Type 0 where
   pub number : ℕ
@@ -43,7 +38,6 @@ pub record InChecked (m : Module) : Type 0 where
   pub sound : IsModule m
   pub checked : IsChecked m
   pub at : slice_get m.functions number ≡ Some function
-  pub once : HasBlocksOnce (function_of (trees_of m) m.blocks m.insts (number, function))
 
 -- its data
 abbrev pub data_in : (m : Module) → InChecked m → Function

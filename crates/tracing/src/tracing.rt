@@ -11,7 +11,6 @@ ghost use Rattle.meaning.specs.Llvm as llvm;
 ghost use Rattle.meaning.specs.Dialect as dialect;
 ghost use Rattle.tracing.specs.Table.{terms, IsGrounded};
 ghost use Rattle.tracing.specs.Runs.{item_of, HasPlacesBelow};
-ghost use Rattle.tracing.specs.LlvmBodies.{HasBlocksOnce};
 ghost use Rattle.tracing.specs.DialectBodies.{HasBody};
 
 use crate::dialect_body::dialect_body;
@@ -24,8 +23,8 @@ use llvm_core::module::LLVMModule;
 use llvm_core::numbers::LLVMFunction;
 use std::alloc::{AllocError, Global};
 
-/// The trace of a function of a checked module, which lists no block twice (no call lists one so). Each term of the table
-/// stands once, behind its parts. It is an error where there is no memory.
+/// The trace of a function of a checked module. Each term of the table stands once, behind its parts. It is an error where
+/// there is no memory.
 pub fn trace_of_llvm(
     alloc: Global,
     module: &LLVMModule,
@@ -34,7 +33,6 @@ pub fn trace_of_llvm(
 ) -> Result<Trace, AllocError>
     requires checked { IsChecked «module».now }
     requires function { f.0 < length «module».now.functions }
-    requires once { (x : Function) → slice_get (data_of «module».now).functions f.0 ≡ Some x → HasBlocksOnce x }
     ensures exact { IfOk result (λ t. (x : Function) → slice_get (data_of «module».now).functions f.0 ≡ Some x → map (item_of (terms t.terms)) t.items.items ≡ (llvm.body (data_of «module».now) x).trace choices.now) }
     ensures within { IfOk result (λ t. All (HasPlacesBelow (length t.terms)) t.items.items) }
     ensures shared { IfOk result (λ t. IsDistinctList (terms t.terms)) }

@@ -1,13 +1,14 @@
 -- What `llvm_index::index_of` owes besides what the check finds.
 use Rattle.std.proofs.Common.{subst, sym, ◌∙◌}
 use Rattle.llvm_core.specs.Interned.{IsDistinctList}
+use Rattle.llvm_core.proofs.DistinctLaws.{blocks_once}
 use Rattle.tracing.proofs.IndexLaws.{numbers_are}
 use Rattle.tracing.proofs.llvm_index.index_of.Goals as goal
 
 pub block_places-requires : goal.block_places-requires
 block_places-requires c =
     let h = c.requires.0 in
-    subst IsDistinctList (sym (numbers_are c.args.m.now h c.args.f.0 c.blocks-2.result.now c.requires.1 c.blocks-2.ensures.blocks)) h.once
+    subst IsDistinctList (sym (numbers_are c.args.m.now h c.args.f.0 c.blocks-2.result.now c.requires.1 c.blocks-2.ensures.blocks)) (blocks_once c.args.m.now h.number h.function h.sound h.at)
 
 pub returns : goal.returns
 returns c = λ h is. record {
