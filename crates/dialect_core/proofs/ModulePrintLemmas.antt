@@ -1,5 +1,5 @@
 -- The texts of blocks, functions and modules by the pieces that are printed.
-use Rattle.std.proofs.Common.{◌≡◌, ◌<◌, ℕ, true, List, [], ◌∷◌, ◌++◌, Option, Some, None, All, is_some, length, slice_get, get_or, map, ap, sym, refl, ◌∙◌, arith, append_assoc}
+use Rattle.std.proofs.Common.{◌≡◌, ◌<◌, ℕ, true, List, [], ◌∷◌, ◌++◌, Option, Some, None, All, is_some, length, slice_get, get_or, map, ap, sym, refl, ◌∙◌, arith}
 use Rattle.std.proofs.Math.Path.{fun_ext}
 use Rattle.std.specs.Prelude.{codes, unwrap_or, IfSome}
 use Rattle.std.specs.List.{filter_map, flat_map, cons_option}
@@ -21,19 +21,13 @@ use Rattle.dialect_core.specs.Data.{DialectModule, DialectBlock, op_at, block_of
 use Rattle.dialect_core.specs.Text.{option_text, op_text, label_text, block_text, body_text, linkage_text, func_head_text, func_text, module_text_by, module_text, value_number, block_number}
 use Rattle.dialect_core.proofs.CountLemmas.{flat_filter}
 use Rattle.dialect_core.proofs.NewBlockLemmas.{func}
+use Rattle.dialect_core.proofs.KeepLemmas.{two_texts, five_texts, six_texts}
 use Rattle.dialect_core.proofs.PrintLemmas.{between}
 
 -- a function is there
 pub symbol_there : (o : Option Symbol) → true ≡ is_some o → (s : Symbol) × (o ≡ Some s)
 symbol_there None h = cc
 symbol_there (Some s) h = (s, refl)
-
-five : (start o1 o2 o3 o4 end a b c d e : List ℕ) → o1 ≡ start ++ a → o2 ≡ o1 ++ b → o3 ≡ o2 ++ c → o4 ≡ o3 ++ d → end ≡ o4 ++ e → end ≡ start ++ ((((a ++ b) ++ c) ++ d) ++ e)
-five start o1 o2 o3 o4 end a b c d e e1 e2 e3 e4 e5 = simp (e5, e4, e3, e2, e1, append_assoc)
-
--- two texts one after the other
-two : (start mid end a b : List ℕ) → mid ≡ start ++ a → end ≡ mid ++ b → end ≡ start ++ (a ++ b)
-two start mid end a b e f = f ∙ ap (λ (x : List ℕ). x ++ b) e ∙ append_assoc start a b
 
 module _ (values : Value → Option ℕ) (blocks : BlockRef → Option ℕ) (c : ContextData) where
   abbrev ts : List TypeTree
@@ -49,7 +43,7 @@ module _ (values : Value → Option ℕ) (blocks : BlockRef → Option ℕ) (c :
       by : (x : Option BlockData) → option_map (λ (x : BlockData). x.label) x ≡ Some label → option_map (λ (x : BlockData). x.args) x ≡ Some args → end ≡ start ++ option_text (block_text values blocks) (option_map (block_of (type_trees c.types) c b) x)
       by None l a = absurd (none-some label l)
       by (Some x) l a =
-          two start line end (label_text values blocks b label (map (type_at (type_trees c.types)) args)) _ is_line is_end
+          two_texts start line end (label_text values blocks b label (map (type_at (type_trees c.types)) args)) _ is_line is_end
           ∙ ap (λ (n : Option (List ℕ)). start ++ (label_text values blocks b n (map (type_at (type_trees c.types)) args) ++ flat_map (λ (o : OpRef). option_text (op_text values blocks) (op_at (type_trees c.types) c.ops o)) ops)) (sym (same_Some x.label label l))
           ∙ ap (λ (t : List TypeHandle). start ++ (label_text values blocks b x.label (map (type_at (type_trees c.types)) t) ++ flat_map (λ (o : OpRef). option_text (op_text values blocks) (op_at (type_trees c.types) c.ops o)) ops)) (sym (same_Some x.args args a))
           ∙ ap (λ (t : List ℕ). start ++ (label_text values blocks b x.label (map (type_at (type_trees c.types)) x.args) ++ t))
@@ -78,7 +72,7 @@ module _ (values : Value → Option ℕ) (blocks : BlockRef → Option ℕ) (c :
       → option_map (λ (x : OpData). x.blocks) (slice_get c.ops op.0) ≡ Some bs
       → head ≡ start ++ func_head_text name (type_at (type_trees c.types) ty) linkage → end ≡ head ++ body_text values blocks (filter_map (block_in (type_trees c.types) c) bs)
       → end ≡ start ++ option_text (func_text values blocks) (func_in (type_trees c.types) c op)
-  func_printed op name ty linkage bs start head end is_name is_ty is_linkage is_bs is_head is_end = two start head end (func_head_text name (type_at (type_trees c.types) ty) linkage) (body_text values blocks (filter_map (block_in (type_trees c.types) c) bs)) is_head is_end ∙ by (slice_get c.ops op.0) refl is_ty is_linkage is_bs
+  func_printed op name ty linkage bs start head end is_name is_ty is_linkage is_bs is_head is_end = two_texts start head end (func_head_text name (type_at (type_trees c.types) ty) linkage) (body_text values blocks (filter_map (block_in (type_trees c.types) c) bs)) is_head is_end ∙ by (slice_get c.ops op.0) refl is_ty is_linkage is_bs
     where
       with_symbol : (x : OpData) (s : Option Symbol) → name ≡ unwrap_or x.name [] → option_map (λ (s : Symbol). s.ty) s ≡ Some ty → option_map (λ (s : Symbol). s.linkage) s ≡ Some linkage → x.blocks ≡ bs
           → start ++ (func_head_text name (type_at (type_trees c.types) ty) linkage ++ body_text values blocks (filter_map (block_in (type_trees c.types) c) bs)) ≡ start ++ option_text (func_text values blocks) (option_map (λ (s : Symbol). func (type_trees c.types) op x s (filter_map (block_in (type_trees c.types) c) x.blocks)) s)
@@ -100,7 +94,7 @@ module _ (values : Value → Option ℕ) (blocks : BlockRef → Option ℕ) (c :
       → o1 ≡ start ++ codes "builtin.module @" → o2 ≡ o1 ++ name → o3 ≡ o2 ++ codes " {\n" → o4 ≡ o3 ++ flat_map (λ (o : OpRef). option_text (func_text values blocks) (func_in (type_trees c.types) c o)) ops → end ≡ o4 ++ codes "}\n"
       → end ≡ start ++ module_text_by values blocks (data_of c m)
   module_printed m name ops start o1 o2 o3 o4 end is_name is_ops e1 e2 e3 e4 e5 =
-      five start o1 o2 o3 o4 end (codes "builtin.module @") name (codes " {\n") _ (codes "}\n") e1 e2 e3 e4 e5
+      five_texts start o1 o2 o3 o4 end (codes "builtin.module @") name (codes " {\n") _ (codes "}\n") e1 e2 e3 e4 e5
       ∙ ap (λ (n : List ℕ). start ++ (((((codes "builtin.module @") ++ n) ++ codes " {\n") ++ flat_map (λ (o : OpRef). option_text (func_text values blocks) (func_in (type_trees c.types) c o)) ops) ++ codes "}\n")) is_name
       ∙ ap (λ (t : List ℕ). start ++ (((((codes "builtin.module @") ++ name_at c.ops m) ++ codes " {\n") ++ t) ++ codes "}\n"))
       (ap (flat_map (λ (o : OpRef). option_text (func_text values blocks) (func_in (type_trees c.types) c o))) is_ops ∙ sym (flat_filter (func_in (type_trees c.types) c) (func_text values blocks) (held c m)))
@@ -126,4 +120,8 @@ symbol_typed c op ty typed h = by (slice_get c.ops op.0) refl h
 pub head_printed : (name n word : List ℕ) (type : TypeTree) (linkage : LinkageAttr) (start o1 o2 o3 o4 o5 o6 end : List ℕ) → n ≡ name → word ≡ linkage_text linkage
     → o1 ≡ start ++ codes "  llvm.func @" → o2 ≡ o1 ++ n → o3 ≡ o2 ++ codes " : " → o4 ≡ o3 ++ type_text type → o5 ≡ o4 ++ codes " {linkage = " → o6 ≡ o5 ++ word → end ≡ o6 ++ codes "}"
     → end ≡ start ++ func_head_text name type linkage
-head_printed name n word type linkage start o1 o2 o3 o4 o5 o6 end is_name is_word e1 e2 e3 e4 e5 e6 e7 = simp (e7, e6, e5, e4, e3, e2, e1, is_name, is_word, append_assoc)
+head_printed name n word type linkage start o1 o2 o3 o4 o5 o6 end is_name is_word e1 e2 e3 e4 e5 e6 e7 =
+    let named = e2 ∙ ap (λ (x : List ℕ). o1 ++ x) is_name in
+    let linked = e6 ∙ ap (λ (x : List ℕ). o5 ++ x) is_word in
+    let six = six_texts start o1 o2 o3 o4 o5 o6 (codes "  llvm.func @") name (codes " : ") (type_text type) (codes " {linkage = ") (linkage_text linkage) e1 named e3 e4 e5 linked in
+    two_texts start o6 end _ (codes "}") six e7

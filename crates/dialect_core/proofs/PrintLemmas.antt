@@ -14,6 +14,7 @@ use Rattle.dialect_core.specs.Data.{Kind, kind_of, op_of}
 use Rattle.dialect_core.specs.Text.{option_text, kind_word, immediates_text, head_text, tail_text, op_text, successor_text, successors_text}
 use Rattle.dialect_types.specs.Text.{joined, comma_before}
 use Rattle.dialect_types.proofs.TextLemmas.{joined_step}
+use Rattle.dialect_core.proofs.KeepLemmas.{two_texts}
 use Rattle.dialect_core.proofs.NumberLemmas.{flat_map_more}
 
 -- the first i items stand after what was there, with commas between them
@@ -40,11 +41,11 @@ printed_all f xs i before after all h = h.printed ∙ ap (λ (ys : List _). befo
 
 -- a text between two others
 pub between : (start opened inner end a b c : List ℕ) → opened ≡ start ++ a → inner ≡ opened ++ b → end ≡ inner ++ c → end ≡ start ++ ((a ++ b) ++ c)
-between start opened inner end a b c e1 e2 e3 = simp (e3, e2, e1, append_assoc)
+between start opened inner end a b c e1 e2 e3 = two_texts start inner end (a ++ b) c (two_texts start opened inner a b e1 e2) e3
 
 -- a head without immediates, and a tail
 pub bare : (start head end a b : List ℕ) → head ≡ start ++ a → end ≡ head ++ b → end ≡ start ++ ((a ++ []) ++ b)
-bare start head end a b e1 e2 = rw append-nil (simp (e2, e1, append_assoc))
+bare start head end a b e1 e2 = two_texts start head end a b e1 e2 ∙ ap (λ (x : List ℕ). start ++ (x ++ b)) (sym (append-nil a))
 
 -- ---- operations
 

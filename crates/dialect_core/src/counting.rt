@@ -151,10 +151,7 @@ fn number_func(ctx: &Context, numbers: &mut Numbering, op: OpRef) -> Result<(), 
     ensures { OnOk result (Numbered numbers.old numbers.new (values_of_func ctx.now op) (blocks_of_func ctx.now op)) }
 {
     match ctx.op_kind(op) {
-        OpKind::Func => {
-            number_blocks(ctx, numbers, ctx.op_blocks(op))?;
-            Ok(())
-        }
+        OpKind::Func => number_blocks(ctx, numbers, ctx.op_blocks(op)),
         _ => Ok(()),
     }
 }

@@ -57,8 +57,7 @@ fn print_argument(
     let number = place_of(place)?;
     print_value(numbers, Value::Argument(block, number), out)?;
     out.extend_from_slice(b": ")?;
-    types.append_type(ty, out)?;
-    Ok(())
+    types.append_type(ty, out)
 }
 
 /// Appends the line of a block.
@@ -79,8 +78,7 @@ fn print_label(
     print_colon_name(label, out)?;
     out.extend_from_slice(b"(")?;
     print_arguments(types, numbers, block, args, out)?;
-    out.extend_from_slice(b"):\n")?;
-    Ok(())
+    out.extend_from_slice(b"):\n")
 }
 
 /// Appends the operations of a function's block.
@@ -122,8 +120,7 @@ fn print_block(
         out,
     )?;
     let ops = ctx.block_ops(block)?;
-    print_ops(ctx, numbers, ops.as_slice(), out)?;
-    Ok(())
+    print_ops(ctx, numbers, ops.as_slice(), out)
 }
 
 /// Appends the blocks of a function.
@@ -157,13 +154,11 @@ fn print_body(
     ensures kept { Keeps out.old.items out.new.items }
 {
     if blocks.is_empty() {
-        out.extend_from_slice(b"\n")?;
-        return Ok(());
+        return out.extend_from_slice(b"\n");
     }
     out.extend_from_slice(b" {\n")?;
     print_blocks(ctx, numbers, blocks, out)?;
-    out.extend_from_slice(b"  }\n")?;
-    Ok(())
+    out.extend_from_slice(b"  }\n")
 }
 
 /// The word of a linkage.
@@ -209,8 +204,7 @@ fn print_func_head(
     types.append_type(ty, out)?;
     out.extend_from_slice(b" {linkage = ")?;
     out.extend_from_slice(linkage_word(linkage).as_bytes())?;
-    out.extend_from_slice(b"}")?;
-    Ok(())
+    out.extend_from_slice(b"}")
 }
 
 /// The name of a module or function, empty where it has none.
@@ -241,8 +235,7 @@ fn print_func(
             let ty = ctx.symbol_type(op);
             let linkage = ctx.symbol_linkage(op);
             print_func_head(ctx.types(), name_of(ctx, op), ty, linkage, out)?;
-            print_body(ctx, numbers, ctx.op_blocks(op), out)?;
-            Ok(())
+            print_body(ctx, numbers, ctx.op_blocks(op), out)
         }
         _ => Ok(()),
     }
@@ -283,8 +276,7 @@ fn print_numbered(
     out.extend_from_slice(b" {\n")?;
     let ops = ctx.held_ops(root.0)?;
     print_funcs(ctx, numbers, ops.as_slice(), out)?;
-    out.extend_from_slice(b"}\n")?;
-    Ok(())
+    out.extend_from_slice(b"}\n")
 }
 
 /// Appends the text of a module.
@@ -300,6 +292,5 @@ pub fn print_module(
     ensures kept { Keeps out.old.items out.new.items }
 {
     let numbers = number_module(alloc, ctx, root)?;
-    print_numbered(ctx, &numbers, root, out)?;
-    Ok(())
+    print_numbered(ctx, &numbers, root, out)
 }

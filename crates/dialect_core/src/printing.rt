@@ -37,8 +37,7 @@ pub fn print_value(numbers: &Numbering, value: Value, out: &mut Vec<u8>) -> Resu
     ensures kept { Keeps out.old.items out.new.items }
 {
     out.extend_from_slice(b"%")?;
-    print_known(numbers.value(value), out)?;
-    Ok(())
+    print_known(numbers.value(value), out)
 }
 
 /// Appends the name of a block.
@@ -51,8 +50,7 @@ pub fn print_block_name(
     ensures kept { Keeps out.old.items out.new.items }
 {
     out.extend_from_slice(b"^")?;
-    print_known(numbers.block(block), out)?;
-    Ok(())
+    print_known(numbers.block(block), out)
 }
 
 /// Appends `:name`, where there is a name.
@@ -63,8 +61,7 @@ pub fn print_colon_name(name: Option<&Identifier>, out: &mut Vec<u8>) -> Result<
     match name {
         Some(name) => {
             out.extend_from_slice(b":")?;
-            out.extend_from_slice(name.as_str().as_bytes())?;
-            Ok(())
+            out.extend_from_slice(name.as_str().as_bytes())
         }
         None => Ok(()),
     }
@@ -80,8 +77,7 @@ fn print_values(numbers: &Numbering, values: &[Value], out: &mut Vec<u8>) -> Res
         print_comma_before(i, out)?;
         print_value(numbers, *value, out)?;
     }
-    out.extend_from_slice(b")")?;
-    Ok(())
+    out.extend_from_slice(b")")
 }
 
 /// Appends a successor with the values for its arguments.
@@ -94,8 +90,7 @@ fn print_successor(
     ensures kept { Keeps out.old.items out.new.items }
 {
     print_block_name(numbers, successor.block, out)?;
-    print_values(numbers, successor.args.as_slice(), out)?;
-    Ok(())
+    print_values(numbers, successor.args.as_slice(), out)
 }
 
 /// Appends the successors in brackets, where there are any.
@@ -115,8 +110,7 @@ fn print_successors(
         print_comma_before(i, out)?;
         print_successor(numbers, successor, out)?;
     }
-    out.extend_from_slice(b"]")?;
-    Ok(())
+    out.extend_from_slice(b"]")
 }
 
 /// Appends `%k:name = `, where an operation gives a result.
@@ -133,8 +127,7 @@ fn print_gives(
         Some(_) => {
             print_value(numbers, Value::Result(op), out)?;
             print_colon_name(x.name.as_ref(), out)?;
-            out.extend_from_slice(b" = ")?;
-            Ok(())
+            out.extend_from_slice(b" = ")
         }
         None => Ok(()),
     }
@@ -155,8 +148,7 @@ fn print_head(
     print_gives(numbers, op, x, out)?;
     out.extend_from_slice(word)?;
     print_values(numbers, x.operands.as_slice(), out)?;
-    print_successors(numbers, x.successors.as_slice(), out)?;
-    Ok(())
+    print_successors(numbers, x.successors.as_slice(), out)
 }
 
 /// Appends the immediates of a constant.
@@ -171,8 +163,7 @@ fn print_constant_immediates(
 {
     out.extend_from_slice(b" {value = ")?;
     value.append(types, out)?;
-    out.extend_from_slice(b"}")?;
-    Ok(())
+    out.extend_from_slice(b"}")
 }
 
 /// Appends the flags that are set, in braces.
@@ -216,8 +207,7 @@ fn print_predicate(predicate: ICmpPredicateAttr, out: &mut Vec<u8>) -> Result<()
 {
     out.extend_from_slice(b" {predicate = ")?;
     out.extend_from_slice(predicate_word(predicate))?;
-    out.extend_from_slice(b"}")?;
-    Ok(())
+    out.extend_from_slice(b"}")
 }
 
 /// Appends ` : t`, where there is a type.
@@ -233,8 +223,7 @@ fn print_result_type(
     match ty {
         Some(ty) => {
             out.extend_from_slice(b" : ")?;
-            types.append_type(ty, out)?;
-            Ok(())
+            types.append_type(ty, out)
         }
         None => Ok(()),
     }
@@ -251,8 +240,7 @@ fn print_tail(
     ensures kept { Keeps out.old.items out.new.items }
 {
     print_result_type(types, ty, out)?;
-    out.extend_from_slice(b"\n")?;
-    Ok(())
+    out.extend_from_slice(b"\n")
 }
 
 /// Appends an operation without immediates, of that name.
@@ -269,8 +257,7 @@ fn print_plain(
     ensures kept { Keeps out.old.items out.new.items }
 {
     print_head(numbers, op, x, word, out)?;
-    print_tail(types, x.result, out)?;
-    Ok(())
+    print_tail(types, x.result, out)
 }
 
 /// Appends an operation of a function's block: an arm for each kind.

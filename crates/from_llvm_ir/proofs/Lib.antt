@@ -1,4 +1,5 @@
 -- The lemmas of the crate.
+pub mod ResultLaws
 pub mod TypeLaws
 pub mod ListLaws
 pub mod MatchLaws

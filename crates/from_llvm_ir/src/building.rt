@@ -79,8 +79,7 @@ pub fn add_func_block(
     ensures count { OnOk result (length ctx.new.blocks ≡ length ctx.old.blocks + 1) }
     ensures kept { (n b : ℕ) → n ≤ func.0.0 → Keeps n b ctx.old ctx.new }
 {
-    let block = add_bare_block(ctx, func.0, label, args)?;
-    Ok(block)
+    add_bare_block(ctx, func.0, label, args)
 }
 
 /// A new operation, in no block.

@@ -62,8 +62,7 @@ fn add_constant<L: Ledger>(
     let (ty, value) = parts_of(source.const_kind(c));
     let int = import_plain(ctx, source, ty)?;
     let constant = OpKind::Constant(ConstAttr::Integer(int, value as u64));
-    let op = add_op(ctx, block, constant, &[], &[], Some(int), None, steps)?;
-    Ok(op)
+    add_op(ctx, block, constant, &[], &[], Some(int), None, steps)
 }
 
 /// Hoists a constant, unless it was met before.
@@ -89,8 +88,7 @@ fn hoist_constant<L: Ledger>(
         return Ok(());
     }
     let op = add_constant(ctx, source, block, c, steps)?;
-    values.set(value, Value::Result(op))?;
-    Ok(())
+    values.set(value, Value::Result(op))
 }
 
 /// Hoists an operand, where it is a constant.
@@ -111,10 +109,7 @@ fn hoist<L: Ledger>(
     ensures kept { (n b : ℕ) → b ≤ block.0 → Keeps n b ctx.old ctx.new }
 {
     match operand {
-        LLVMValue::Const(c) => {
-            hoist_constant(ctx, source, values, block, c, steps)?;
-            Ok(())
-        }
+        LLVMValue::Const(c) => hoist_constant(ctx, source, values, block, c, steps),
         LLVMValue::Param(..) | LLVMValue::Inst(_) => Ok(()),
     }
 }

@@ -85,10 +85,7 @@ fn note_inst(noted: &mut Entries, source: &LLVMModule, i: LLVMInstRef) -> Result
     ensures kept { OnOk result ((q : LLVMInstRef) → IsNotedOf source.now noted.old q → IsNotedOf source.now noted.new q) }
 {
     match source.inst(i) {
-        LLVMInst::Phi(_, entries) => {
-            note_entries(noted, i, entries.as_slice())?;
-            Ok(())
-        }
+        LLVMInst::Phi(_, entries) => note_entries(noted, i, entries.as_slice()),
         _ => Ok(()),
     }
 }

@@ -57,8 +57,7 @@ fn add_entry(
 {
     let label = names.legalise("entry")?;
     let args = import_params(alloc, ctx, source, f)?;
-    let block = add_func_block(ctx, func, Some(label), args.as_slice())?;
-    Ok(block)
+    add_func_block(ctx, func, Some(label), args.as_slice())
 }
 
 /// Another block: its name, and an argument for each phi.
@@ -78,8 +77,7 @@ fn add_later_block(
 {
     let label = given(names, source.block_name(from))?;
     let args = import_phi_types(alloc, ctx, source, from)?;
-    let block = add_func_block(ctx, func, label, args.as_slice())?;
-    Ok(block)
+    add_func_block(ctx, func, label, args.as_slice())
 }
 
 /// The blocks of a function in an order, without operations.
@@ -194,8 +192,7 @@ fn declare<L: Ledger>(
     ensures kept { (m : ℕ) → (d : DialectModule) → IsBuilding ctx.old m body d → (n b : ℕ) → n ≤ m → Keeps n b ctx.old ctx.new }
 {
     let ty = import_function_type(alloc, ctx, source, f)?;
-    let func = add_func(ctx, body, name, ty, steps)?;
-    Ok(func)
+    add_func(ctx, body, name, ty, steps)
 }
 
 /// The places of a function's blocks in depth-first order. Refuses a function that uses the result of an instruction

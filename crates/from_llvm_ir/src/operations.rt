@@ -55,8 +55,7 @@ fn import_phi(
 ) -> Result<(), AllocError>
     ensures { OnOk result (IsNoted values.old values.new (sources.Inst i) (results.Argument block place)) }
 {
-    values.set(LLVMValue::Inst(i), Value::Argument(block, place_of(place)?))?;
-    Ok(())
+    values.set(LLVMValue::Inst(i), Value::Argument(block, place_of(place)?))
 }
 
 /// A new last operation of the block that stands for an instruction that is no phi, noted for its result.

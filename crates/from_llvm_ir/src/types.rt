@@ -29,8 +29,7 @@ fn intern(ctx: &mut Context, kind: TypeKind) -> Result<TypeHandle, AllocError>
     ensures ty { IfOk result (λ t. type_at (type_trees ctx.new.types) t ≡ type_tree (type_trees ctx.old.types) kind) }
     ensures within { IfOk result (λ t. t.0 < length ctx.new.types) }
 {
-    let ty = ctx.types_mut().get(kind)?;
-    Ok(ty)
+    ctx.types_mut().get(kind)
 }
 
 /// The type that stands for an integer type or for void.

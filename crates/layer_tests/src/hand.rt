@@ -68,14 +68,14 @@ pub enum Step {
 // ---- what is named: None says that it is not there, or no memory
 
 fn identifier(alloc: Global, name: Name) -> Option<Identifier> {
-    let mut legaliser = Legaliser::new(alloc);
-    match name {
-        Name::M => legaliser.legalise("m").ok(),
-        Name::F => legaliser.legalise("f").ok(),
-        Name::G => legaliser.legalise("g").ok(),
-        Name::X => legaliser.legalise("x").ok(),
-        Name::Far => legaliser.legalise("far").ok(),
-    }
+    let word = match name {
+        Name::M => "m",
+        Name::F => "f",
+        Name::G => "g",
+        Name::X => "x",
+        Name::Far => "far",
+    };
+    Legaliser::new(alloc).legalise(word).ok()
 }
 
 /// A function, or the module.
@@ -112,12 +112,15 @@ fn passed(alloc: Global, ctx: &Context, root: ModuleOp, value: Option<Op>) -> Op
     requires { root.0.0 < length ctx.now.ops }
     ensures { IfSome result (All (IsValueWithin (length ctx.now.ops) (length ctx.now.blocks))) }
 {
+    let Some(value) = value else {
+        return Some(Items::new(alloc));
+    };
+    let op = op(ctx, root, value)?;
     let mut args = Items::new(alloc);
-    if let Some(value) = value {
-        let op = op(ctx, root, value)?;
-        args.push(Value::Result(op)).ok()?;
+    match args.push(Value::Result(op)) {
+        Ok(()) => Some(args),
+        Err(_) => None,
     }
-    Some(args)
 }
 
 fn edge(alloc: Global, ctx: &Context, root: ModuleOp, edge: Edge) -> Option<Successor>

@@ -14,7 +14,7 @@ use Rattle.ll_text.specs.Refusals.{IsNoKey, Alike}
 use Rattle.ll_text.specs.declared.scope.Key.TheVariants as code_key
 use Rattle.ll_text.specs.declared.scope.Scope as code
 use Rattle.ll_tree.specs.declared.read_err.ReadErr.{ReadErr}
-use Rattle.ll_tree.specs.declared.read_err.ReadErr.TheVariants.{NotYet}
+use Rattle.ll_tree.specs.declared.read_err.ReadErr.TheVariants.{NotYet, NoMemory}
 use Rattle.ll_text.specs.ScopeView.{local_view, Knows}
 use Rattle.ll_text.specs.Filling.{result_number, result_of}
 use Rattle.ll_text.proofs.AlikeLaws.{define_none}
@@ -76,3 +76,7 @@ param_undefined s f i p none = not_bound (int_width is_plain 64 p.type) _ (λ w.
 -- the error that a `?` passes on
 pub passed_on : {T U : Type 0} (r : R.Result T ReadErr) (e : ReadErr) → IsErrAnd r (λ x. x ≡ e) → r ≡ R.Err NotYet → ◌≡◌ {A = R.Result U ReadErr} (R.Err e) (R.Err NotYet)
 passed_on r e h is = let p = err_from_is_err_and r h in let i : e ≡ NotYet = cc (p.1, p.2) in ap (λ x. R.Err x) i
+
+-- the error that a `?` makes of one of memory
+pub no_memory : {T : Type 0} (r : R.Result T ReadErr) → IsErrAnd r (λ x. x ≡ NoMemory) → r ≡ R.Err NotYet → ⊥
+no_memory r h is = let p = err_from_is_err_and r h in absurd (cc (p.1, p.2, is))

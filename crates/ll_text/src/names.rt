@@ -154,37 +154,19 @@ pub fn bit_width(text: &[u8]) -> Option<u32>
 pub fn predicate(text: &[u8]) -> Option<LLVMIntPredicate>
     ensures { result ≡ predicate_of text.now }
 {
-    if text == b"eq".as_slice() {
-        return Some(LLVMIntPredicate::LLVMIntEQ);
+    match text {
+        b"eq" => Some(LLVMIntPredicate::LLVMIntEQ),
+        b"ne" => Some(LLVMIntPredicate::LLVMIntNE),
+        b"ugt" => Some(LLVMIntPredicate::LLVMIntUGT),
+        b"uge" => Some(LLVMIntPredicate::LLVMIntUGE),
+        b"ult" => Some(LLVMIntPredicate::LLVMIntULT),
+        b"ule" => Some(LLVMIntPredicate::LLVMIntULE),
+        b"sgt" => Some(LLVMIntPredicate::LLVMIntSGT),
+        b"sge" => Some(LLVMIntPredicate::LLVMIntSGE),
+        b"slt" => Some(LLVMIntPredicate::LLVMIntSLT),
+        b"sle" => Some(LLVMIntPredicate::LLVMIntSLE),
+        _ => None,
     }
-    if text == b"ne".as_slice() {
-        return Some(LLVMIntPredicate::LLVMIntNE);
-    }
-    if text == b"ugt".as_slice() {
-        return Some(LLVMIntPredicate::LLVMIntUGT);
-    }
-    if text == b"uge".as_slice() {
-        return Some(LLVMIntPredicate::LLVMIntUGE);
-    }
-    if text == b"ult".as_slice() {
-        return Some(LLVMIntPredicate::LLVMIntULT);
-    }
-    if text == b"ule".as_slice() {
-        return Some(LLVMIntPredicate::LLVMIntULE);
-    }
-    if text == b"sgt".as_slice() {
-        return Some(LLVMIntPredicate::LLVMIntSGT);
-    }
-    if text == b"sge".as_slice() {
-        return Some(LLVMIntPredicate::LLVMIntSGE);
-    }
-    if text == b"slt".as_slice() {
-        return Some(LLVMIntPredicate::LLVMIntSLT);
-    }
-    if text == b"sle".as_slice() {
-        return Some(LLVMIntPredicate::LLVMIntSLE);
-    }
-    None
 }
 
 /// The number behind a number.

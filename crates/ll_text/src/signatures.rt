@@ -41,10 +41,11 @@ fn result_type(draft: &mut LLVMModule, returns: Option<u32>) -> Result<LLVMType,
     ensures here { IfOk result (λ t. slice_get draft.new.types t.0 ≡ Some (returned_kind returns)) }
     ensures rest { OnOk result (OnlyInterns draft.old draft.new) }
 {
-    let ty = match returns {
-        Some(width) => draft.type_get(LLVMTypeKind::Int(width))?,
-        None => draft.type_get(LLVMTypeKind::Void)?,
+    let kind = match returns {
+        Some(width) => LLVMTypeKind::Int(width),
+        None => LLVMTypeKind::Void,
     };
+    let ty = draft.type_get(kind)?;
     Ok(ty)
 }
 

@@ -2,10 +2,10 @@
 use Rattle.std.proofs.Common.{sym, ap, ◌∙◌}
 use Rattle.dialect_core.specs.ContextData.{is_func}
 use Rattle.dialect_core.proofs.CountLemmas.{func_values_are, func_blocks_are}
+use Rattle.dialect_core.proofs.KeepLemmas.{on_ok}
 use Rattle.dialect_core.proofs.counting.number_func.Goals as goal
 
-pub returns-in_ok-number_blocks-in-Func : goal.returns-in_ok-number_blocks-in-Func
-returns-in_ok-number_blocks-in-Func c =
+pub returns-in-Func : goal.returns-in-Func
+returns-in-Func c =
     let symbol = sym (ap is_func c.in-Func.is) ∙ c.op_kind.ensures.symbol in
-    rw (func_values_are c.args.ctx.now c.args.op c.op_blocks.result.now symbol c.op_blocks.ensures.blocks, func_blocks_are c.args.ctx.now c.args.op c.op_blocks.result.now symbol c.op_blocks.ensures.blocks c.op_blocks.ensures.within)
-    c.in_ok-number_blocks-in-Func.ensures
+    on_ok c.number_blocks.result c.number_blocks.ensures (λ e. rw (func_values_are c.args.ctx.now c.args.op c.op_blocks.result.now symbol c.op_blocks.ensures.blocks, func_blocks_are c.args.ctx.now c.args.op c.op_blocks.result.now symbol c.op_blocks.ensures.blocks c.op_blocks.ensures.within) e)

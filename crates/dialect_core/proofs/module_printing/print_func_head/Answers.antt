@@ -1,8 +1,9 @@
 -- What `module_printing::print_func_head` owes besides what the check finds.
 use Rattle.std.proofs.Common.{◌∙◌}
+use Rattle.std.specs.Prelude.{codes}
 use Rattle.dialect_types.specs.Trees.{type_at, type_trees}
 use Rattle.dialect_types.proofs.TextLemmas.{keeps_then}
-use Rattle.dialect_core.proofs.KeepLemmas.{kept_appended, then_appended, then_equal}
+use Rattle.dialect_core.proofs.KeepLemmas.{kept_appended, then_appended, then_equal, on_ok, then_extended, on_extended}
 use Rattle.dialect_core.proofs.ModulePrintLemmas.{head_printed}
 use Rattle.dialect_core.proofs.module_printing.print_func_head.Goals as goal
 
@@ -31,21 +32,14 @@ returns-in_err-extend_from_slice-5-clause-kept c =
     let type = keeps_then _ _ _ (then_appended _ _ _ _ name c.in_ok-extend_from_slice-3.ensures.items) c.in_ok-append_type.ensures.kept in
     then_equal _ _ _ (then_appended _ _ _ _ type c.in_ok-extend_from_slice-4.ensures.items) c.in_err-extend_from_slice-5.ensures.items
 
-pub returns-in_err-extend_from_slice-6-clause-kept : goal.returns-in_err-extend_from_slice-6-clause-kept
-returns-in_err-extend_from_slice-6-clause-kept c =
-    let name = then_appended _ _ _ _ (kept_appended _ _ _ c.in_ok-extend_from_slice.ensures.items) c.in_ok-extend_from_slice-2.ensures.items in
-    let type = keeps_then _ _ _ (then_appended _ _ _ _ name c.in_ok-extend_from_slice-3.ensures.items) c.in_ok-append_type.ensures.kept in
-    let word = then_appended _ _ _ _ (then_appended _ _ _ _ type c.in_ok-extend_from_slice-4.ensures.items) c.in_ok-extend_from_slice-5.ensures.items in
-    then_equal _ _ _ word c.in_err-extend_from_slice-6.ensures.items
-
 pub returns-clause-kept : goal.returns-clause-kept
 returns-clause-kept c =
     let name = then_appended _ _ _ _ (kept_appended _ _ _ c.in_ok-extend_from_slice.ensures.items) c.in_ok-extend_from_slice-2.ensures.items in
     let type = keeps_then _ _ _ (then_appended _ _ _ _ name c.in_ok-extend_from_slice-3.ensures.items) c.in_ok-append_type.ensures.kept in
     let word = then_appended _ _ _ _ (then_appended _ _ _ _ type c.in_ok-extend_from_slice-4.ensures.items) c.in_ok-extend_from_slice-5.ensures.items in
-    then_appended _ _ _ _ word c.in_ok-extend_from_slice-6.ensures.items
+    then_extended c.extend_from_slice-6.result _ _ (codes "}") _ word c.extend_from_slice-6.ensures.items
 
 pub returns-clause-ok : goal.returns-clause-ok
 returns-clause-ok c =
-    head_printed c.args.name.now c.as_bytes.result.now c.as_bytes-2.result.now (type_at (type_trees c.args.types.now) c.args.ty) c.args.linkage _ _ _ _ _ _ _ _ c.as_bytes.ensures.value (c.as_bytes-2.ensures.value ∙ c.linkage_word.ensures)
-    c.in_ok-extend_from_slice.ensures.items c.in_ok-extend_from_slice-2.ensures.items c.in_ok-extend_from_slice-3.ensures.items c.in_ok-append_type.ensures.ok c.in_ok-extend_from_slice-4.ensures.items c.in_ok-extend_from_slice-5.ensures.items c.in_ok-extend_from_slice-6.ensures.items
+    on_ok c.extend_from_slice-6.result (on_extended _ c.extend_from_slice-5.new.self.items (codes "}") _ c.extend_from_slice-6.ensures.items) (λ e. head_printed c.args.name.now c.as_bytes.result.now c.as_bytes-2.result.now (type_at (type_trees c.args.types.now) c.args.ty) c.args.linkage _ _ _ _ _ _ _ _ c.as_bytes.ensures.value (c.as_bytes-2.ensures.value ∙ c.linkage_word.ensures)
+    c.in_ok-extend_from_slice.ensures.items c.in_ok-extend_from_slice-2.ensures.items c.in_ok-extend_from_slice-3.ensures.items c.in_ok-append_type.ensures.ok c.in_ok-extend_from_slice-4.ensures.items c.in_ok-extend_from_slice-5.ensures.items e)

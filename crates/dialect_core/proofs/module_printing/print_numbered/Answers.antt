@@ -1,8 +1,9 @@
 -- What `module_printing::print_numbered` owes besides what the check finds.
 use Rattle.std.proofs.Common.{◌∙◌}
+use Rattle.std.specs.Prelude.{codes}
 use Rattle.dialect_core.specs.Numbering.{value_at, block_at}
 use Rattle.dialect_types.proofs.TextLemmas.{keeps_then}
-use Rattle.dialect_core.proofs.KeepLemmas.{kept_appended, then_appended, then_equal}
+use Rattle.dialect_core.proofs.KeepLemmas.{kept_appended, then_appended, then_equal, on_ok, then_extended, on_extended}
 use Rattle.dialect_core.proofs.ModulePrintLemmas.{module_printed}
 use Rattle.dialect_core.proofs.module_printing.print_numbered.Goals as goal
 
@@ -24,19 +25,13 @@ returns-in_err-print_funcs-clause-kept c =
     let name = then_appended _ _ _ _ (kept_appended _ _ _ c.in_ok-extend_from_slice.ensures.items) c.in_ok-extend_from_slice-2.ensures.items in
     keeps_then _ _ _ (then_appended _ _ _ _ name c.in_ok-extend_from_slice-3.ensures.items) c.print_funcs.ensures.kept
 
-pub returns-in_err-extend_from_slice-4-clause-kept : goal.returns-in_err-extend_from_slice-4-clause-kept
-returns-in_err-extend_from_slice-4-clause-kept c =
-    let name = then_appended _ _ _ _ (kept_appended _ _ _ c.in_ok-extend_from_slice.ensures.items) c.in_ok-extend_from_slice-2.ensures.items in
-    let funcs = keeps_then _ _ _ (then_appended _ _ _ _ name c.in_ok-extend_from_slice-3.ensures.items) c.in_ok-print_funcs.ensures.kept in
-    then_equal _ _ _ funcs c.in_err-extend_from_slice-4.ensures.items
-
 pub returns-clause-kept : goal.returns-clause-kept
 returns-clause-kept c =
     let name = then_appended _ _ _ _ (kept_appended _ _ _ c.in_ok-extend_from_slice.ensures.items) c.in_ok-extend_from_slice-2.ensures.items in
     let funcs = keeps_then _ _ _ (then_appended _ _ _ _ name c.in_ok-extend_from_slice-3.ensures.items) c.in_ok-print_funcs.ensures.kept in
-    then_appended _ _ _ _ funcs c.in_ok-extend_from_slice-4.ensures.items
+    then_extended c.extend_from_slice-4.result _ _ (codes "}\n") _ funcs c.extend_from_slice-4.ensures.items
 
 pub returns-clause-ok : goal.returns-clause-ok
 returns-clause-ok c =
-    module_printed (value_at c.args.numbers.now) (block_at c.args.numbers.now) c.args.ctx.now c.args.root.0.0 c.as_bytes.result.now c.as_slice.result.now c.args.out.now.items _ _ _ _ _ (c.as_bytes.ensures.value ∙ c.name_of.ensures) (c.as_slice.ensures.value ∙ c.in_ok-ops.ensures.ops)
-    c.in_ok-extend_from_slice.ensures.items c.in_ok-extend_from_slice-2.ensures.items c.in_ok-extend_from_slice-3.ensures.items c.in_ok-print_funcs.ensures.ok c.in_ok-extend_from_slice-4.ensures.items
+    on_ok c.extend_from_slice-4.result (on_extended _ c.print_funcs.new.out.items (codes "}\n") _ c.extend_from_slice-4.ensures.items) (λ e. module_printed (value_at c.args.numbers.now) (block_at c.args.numbers.now) c.args.ctx.now c.args.root.0.0 c.as_bytes.result.now c.as_slice.result.now c.args.out.now.items _ _ _ _ _ (c.as_bytes.ensures.value ∙ c.name_of.ensures) (c.as_slice.ensures.value ∙ c.in_ok-ops.ensures.ops)
+    c.in_ok-extend_from_slice.ensures.items c.in_ok-extend_from_slice-2.ensures.items c.in_ok-extend_from_slice-3.ensures.items c.in_ok-print_funcs.ensures.ok e)

@@ -1,17 +1,13 @@
 -- What `printing::print_op` owes besides what the check finds.
-use Rattle.std.proofs.Common.{Result, Ok, Err, OnOk, refl, ap}
+use Rattle.std.proofs.Common.{refl, ap}
 use Rattle.std.specs.Prelude.{codes}
 use Rattle.dialect_types.specs.Trees.{type_trees}
 use Rattle.dialect_types.proofs.TextLemmas.{keeps_then}
 use Rattle.dialect_core.specs.Numbering.{value_at, block_at}
 use Rattle.dialect_core.specs.Data.{BrOp, CondBrOp, ReturnOp, UnreachableOp, kind_of}
+use Rattle.dialect_core.proofs.KeepLemmas.{on_ok}
 use Rattle.dialect_core.proofs.PrintLemmas.{with_immediates, without_immediates}
 use Rattle.dialect_core.proofs.printing.print_op.Goals as goal
-
--- what holds where a call succeeded gives what is promised there
-on_ok : {X E P Q : Type 0} (r : Result X E) → OnOk r P → (P → Q) → OnOk r Q
-on_ok (Ok x) h f = f h
-on_ok (Err e) h f = tt
 
 pub returns-in_err-print_constant_immediates-in-Constant-clause-kept : goal.returns-in_err-print_constant_immediates-in-Constant-clause-kept
 returns-in_err-print_constant_immediates-in-Constant-clause-kept c = keeps_then _ _ _ c.in_ok-print_head-in-Constant.ensures.kept c.print_constant_immediates.ensures.kept

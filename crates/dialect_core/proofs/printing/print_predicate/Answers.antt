@@ -1,24 +1,19 @@
 -- What `printing::print_predicate` owes besides what the check finds.
 use Rattle.std.proofs.Common.{ℕ, List, ◌++◌, ap, ◌∙◌}
 use Rattle.std.specs.Prelude.{codes}
-use Rattle.dialect_core.proofs.KeepLemmas.{kept_appended, then_appended, then_equal}
+use Rattle.dialect_core.proofs.KeepLemmas.{kept_appended, then_appended, then_equal, on_ok, then_extended, on_extended}
 use Rattle.dialect_core.proofs.PrintLemmas.{between}
 use Rattle.dialect_core.proofs.printing.print_predicate.Goals as goal
 
 pub returns-in_err-extend_from_slice-2-clause-kept : goal.returns-in_err-extend_from_slice-2-clause-kept
 returns-in_err-extend_from_slice-2-clause-kept c = then_equal _ _ _ (kept_appended _ _ _ c.in_ok-extend_from_slice.ensures.items) c.in_err-extend_from_slice-2.ensures.items
 
-pub returns-in_err-extend_from_slice-3-clause-kept : goal.returns-in_err-extend_from_slice-3-clause-kept
-returns-in_err-extend_from_slice-3-clause-kept c =
-    let word = then_appended _ _ _ _ (kept_appended _ _ _ c.in_ok-extend_from_slice.ensures.items) c.in_ok-extend_from_slice-2.ensures.items in
-    then_equal _ _ _ word c.in_err-extend_from_slice-3.ensures.items
-
 pub returns-clause-kept : goal.returns-clause-kept
 returns-clause-kept c =
     let word = then_appended _ _ _ _ (kept_appended _ _ _ c.in_ok-extend_from_slice.ensures.items) c.in_ok-extend_from_slice-2.ensures.items in
-    then_appended _ _ _ _ word c.in_ok-extend_from_slice-3.ensures.items
+    then_extended c.extend_from_slice-3.result _ _ (codes "}") _ word c.extend_from_slice-3.ensures.items
 
 pub returns-clause-ok : goal.returns-clause-ok
 returns-clause-ok c =
-    between _ _ _ _ _ _ _ c.in_ok-extend_from_slice.ensures.items c.in_ok-extend_from_slice-2.ensures.items c.in_ok-extend_from_slice-3.ensures.items
-    ∙ ap (λ (word : List ℕ). c.args.out.now.items ++ ((codes " {predicate = " ++ word) ++ codes "}")) c.predicate_word.ensures
+    on_ok c.extend_from_slice-3.result (on_extended _ c.extend_from_slice-2.new.self.items (codes "}") _ c.extend_from_slice-3.ensures.items) (λ e. between _ _ _ _ _ _ _ c.in_ok-extend_from_slice.ensures.items c.in_ok-extend_from_slice-2.ensures.items e
+    ∙ ap (λ (word : List ℕ). c.args.out.now.items ++ ((codes " {predicate = " ++ word) ++ codes "}")) c.predicate_word.ensures)

@@ -1,10 +1,11 @@
 -- What `printing::print_successors` owes besides what the check finds.
 use Rattle.std.proofs.Common.{ap, arith, sym}
+use Rattle.std.specs.Prelude.{codes}
 use Rattle.std.proofs.lemmas.List.{append-nil}
 use Rattle.dialect_core.specs.Numbering.{value_at, block_at}
 use Rattle.dialect_core.specs.Text.{successor_text}
 use Rattle.dialect_types.proofs.TextLemmas.{keeps_then}
-use Rattle.dialect_core.proofs.KeepLemmas.{kept_appended, then_appended, then_equal}
+use Rattle.dialect_core.proofs.KeepLemmas.{kept_appended, then_appended, on_ok, then_extended, on_extended}
 use Rattle.dialect_core.proofs.PrintLemmas.{joined_more, joined_all, successors_printed}
 use Rattle.dialect_core.proofs.printing.print_successors.Goals as goal
 
@@ -21,15 +22,10 @@ returns-in_err-print_successor-clause-kept c =
     let successors = then_appended _ _ _ _ (kept_appended _ _ _ c.in_ok-extend_from_slice.ensures.items) c.loop-i.invariant.printed in
     keeps_then _ _ _ (keeps_then _ _ _ successors c.in_ok-print_comma_before.ensures.kept) c.print_successor.ensures.kept
 
-pub returns-in_err-extend_from_slice-2-clause-kept : goal.returns-in_err-extend_from_slice-2-clause-kept
-returns-in_err-extend_from_slice-2-clause-kept c =
-    let successors = then_appended _ _ _ _ (kept_appended _ _ _ c.in_ok-extend_from_slice.ensures.items) c.loop-i.invariant.printed in
-    then_equal _ _ _ successors c.in_err-extend_from_slice-2.ensures.items
-
 pub returns-clause-kept : goal.returns-clause-kept
 returns-clause-kept c =
     let successors = then_appended _ _ _ _ (kept_appended _ _ _ c.in_ok-extend_from_slice.ensures.items) c.loop-i.invariant.printed in
-    then_appended _ _ _ _ successors c.in_ok-extend_from_slice-2.ensures.items
+    then_extended c.extend_from_slice-2.result _ _ (codes "]") _ successors c.extend_from_slice-2.ensures.items
 
 pub loop-i-preserved : goal.loop-i-preserved
 loop-i-preserved c =
@@ -38,5 +34,5 @@ loop-i-preserved c =
 pub returns-clause-ok : goal.returns-clause-ok
 returns-clause-ok c =
     let inner = joined_all (successor_text (value_at c.args.numbers.now) (block_at c.args.numbers.now)) c.args.successors.now c.loop-i.i _ _ (omega arith) c.loop-i.invariant in
-    successors_printed (value_at c.args.numbers.now) (block_at c.args.numbers.now) c.args.successors.now _ _ _ _ (λ empty. grind (arith, c.is_empty.ensures, c.if-is_empty.false, empty))
-    c.in_ok-extend_from_slice.ensures.items inner c.in_ok-extend_from_slice-2.ensures.items
+    on_ok c.extend_from_slice-2.result (on_extended _ c.loop-i.out.items (codes "]") _ c.extend_from_slice-2.ensures.items) (λ e. successors_printed (value_at c.args.numbers.now) (block_at c.args.numbers.now) c.args.successors.now _ _ _ _ (λ empty. grind (arith, c.is_empty.ensures, c.if-is_empty.false, empty))
+    c.in_ok-extend_from_slice.ensures.items inner e)

@@ -1,12 +1,11 @@
 -- What `printing::print_tail` owes besides what the check finds.
-use Rattle.dialect_core.proofs.KeepLemmas.{then_appended, then_equal, two_texts}
+use Rattle.std.specs.Prelude.{codes}
+use Rattle.dialect_core.proofs.KeepLemmas.{two_texts, on_ok, then_extended, on_extended}
 use Rattle.dialect_core.proofs.printing.print_tail.Goals as goal
 
-pub returns-in_err-extend_from_slice-clause-kept : goal.returns-in_err-extend_from_slice-clause-kept
-returns-in_err-extend_from_slice-clause-kept c = then_equal _ _ _ c.in_ok-print_result_type.ensures.kept c.in_err-extend_from_slice.ensures.items
-
 pub returns-clause-kept : goal.returns-clause-kept
-returns-clause-kept c = then_appended _ _ _ _ c.in_ok-print_result_type.ensures.kept c.in_ok-extend_from_slice.ensures.items
+returns-clause-kept c = then_extended c.extend_from_slice.result _ _ (codes "\n") _ c.in_ok-print_result_type.ensures.kept c.extend_from_slice.ensures.items
 
 pub returns-clause-ok : goal.returns-clause-ok
-returns-clause-ok c = two_texts _ _ _ _ _ c.in_ok-print_result_type.ensures.ok c.in_ok-extend_from_slice.ensures.items
+returns-clause-ok c =
+    on_ok c.extend_from_slice.result (on_extended _ c.print_result_type.new.out.items (codes "\n") _ c.extend_from_slice.ensures.items) (λ e. two_texts _ _ _ _ _ c.in_ok-print_result_type.ensures.ok e)

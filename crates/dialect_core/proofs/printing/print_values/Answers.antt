@@ -1,11 +1,12 @@
 -- What `printing::print_values` owes besides what the check finds.
 use Rattle.std.proofs.Common.{arith, refl, sym}
+use Rattle.std.specs.Prelude.{codes}
 use Rattle.std.proofs.lemmas.List.{append-nil}
 use Rattle.dialect_core.specs.declared.ops.Value.TheVariants.{Result}
 use Rattle.dialect_core.specs.Numbering.{value_at, block_at}
 use Rattle.dialect_core.specs.Text.{value_text}
 use Rattle.dialect_types.proofs.TextLemmas.{keeps_then}
-use Rattle.dialect_core.proofs.KeepLemmas.{kept_appended, then_appended, then_equal}
+use Rattle.dialect_core.proofs.KeepLemmas.{kept_appended, then_appended, on_ok, then_extended, on_extended}
 use Rattle.dialect_core.proofs.PrintLemmas.{between, joined_more, joined_all}
 use Rattle.dialect_core.proofs.printing.print_values.Goals as goal
 
@@ -22,15 +23,10 @@ returns-in_err-print_value-clause-kept c =
     let values = then_appended _ _ _ _ (kept_appended _ _ _ c.in_ok-extend_from_slice.ensures.items) c.loop-i.invariant.printed in
     keeps_then _ _ _ (keeps_then _ _ _ values c.in_ok-print_comma_before.ensures.kept) c.print_value.ensures.kept
 
-pub returns-in_err-extend_from_slice-2-clause-kept : goal.returns-in_err-extend_from_slice-2-clause-kept
-returns-in_err-extend_from_slice-2-clause-kept c =
-    let values = then_appended _ _ _ _ (kept_appended _ _ _ c.in_ok-extend_from_slice.ensures.items) c.loop-i.invariant.printed in
-    then_equal _ _ _ values c.in_err-extend_from_slice-2.ensures.items
-
 pub returns-clause-kept : goal.returns-clause-kept
 returns-clause-kept c =
     let values = then_appended _ _ _ _ (kept_appended _ _ _ c.in_ok-extend_from_slice.ensures.items) c.loop-i.invariant.printed in
-    then_appended _ _ _ _ values c.in_ok-extend_from_slice-2.ensures.items
+    then_extended c.extend_from_slice-2.result _ _ (codes ")") _ values c.extend_from_slice-2.ensures.items
 
 pub loop-i-preserved : goal.loop-i-preserved
 loop-i-preserved c =
@@ -39,4 +35,4 @@ loop-i-preserved c =
 pub returns-clause-ok : goal.returns-clause-ok
 returns-clause-ok c =
     let inner = joined_all (value_text (value_at c.args.numbers.now) (block_at c.args.numbers.now)) c.args.values.now c.loop-i.i _ _ (omega arith) c.loop-i.invariant in
-    between _ _ _ _ _ _ _ c.in_ok-extend_from_slice.ensures.items inner c.in_ok-extend_from_slice-2.ensures.items
+    on_ok c.extend_from_slice-2.result (on_extended _ c.loop-i.out.items (codes ")") _ c.extend_from_slice-2.ensures.items) (λ e. between _ _ _ _ _ _ _ c.in_ok-extend_from_slice.ensures.items inner e)

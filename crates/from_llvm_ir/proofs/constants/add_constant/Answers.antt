@@ -1,6 +1,7 @@
 -- What `constants::add_constant` owes besides what the check finds.
 use Rattle.std.proofs.Common.{◌∙◌, ◌+◌, ap, Some, None, [], length, refl}
 use Rattle.std.proofs.lemmas.List.Elements.{All-nil}
+use Rattle.std.proofs.lemmas.Result.{IfOk-weaker, on_ok_weaker}
 use Rattle.dialect_core.specs.ContextData.{ContextData, IsValueWithin, IsSuccessorWithin}
 use Rattle.dialect_types.specs.Trees.{IntegerAttr, type_at, type_trees}
 use Rattle.dialect_core.specs.Data.{ConstantOp}
@@ -28,20 +29,20 @@ add_op-requires-clause-open g c =
     (o.0, o.1, o.2, o.3, o.4, typed_open o.0 o.1 c.args.ctx.now c.import_plain.new.ctx c.args.block o.2 o.3 o.4 o.5 c.import_plain.ensures.grown)
 
 pub returns-clause-made : goal.returns-clause-made
-returns-clause-made g c = λ h base left now right u.
+returns-clause-made g c =
+    IfOk-weaker c.add_op.result _ _
+    (λ o added h base left now right u.
     let ty = type_at (type_trees c.import_plain.new.ctx.types) c.in_ok-int.int in
     let kind = ConstantOp (IntegerAttr ty c.parts_of-value.result.1) in (
-      new_op c.in_ok-op.op.0 None kind [] [] (Some ty),
+      new_op o.0 None kind [] [] (Some ty),
       refl,
-      const_made c.args.source.now c.args.c c.parts_of-value.result.0 c.parts_of-value.result.1 c.in_ok-op.op.0 ty (c.const_kind.ensures.kind ∙ ap Some c.parts_of-value.ensures) c.requires.short c.in_ok-int.ensures.ty,
-      c.in_ok-op.ensures.added h base left now right kind refl (typed_open h base c.args.ctx.now c.import_plain.new.ctx c.args.block left now right u c.import_plain.ensures.grown),
-    )
+      const_made c.args.source.now c.args.c c.parts_of-value.result.0 c.parts_of-value.result.1 o.0 ty (c.const_kind.ensures.kind ∙ ap Some c.parts_of-value.ensures) c.requires.short c.in_ok-int.ensures.ty,
+      added h base left now right kind refl (typed_open h base c.args.ctx.now c.import_plain.new.ctx c.args.block left now right u c.import_plain.ensures.grown),
+    ))
+    c.add_op.ensures.added
 
 pub returns-in_err-int-clause-kept : goal.returns-in_err-int-clause-kept
 returns-in_err-int-clause-kept g c = λ n b behind. keeps_types n b c.args.ctx.now c.import_plain.new.ctx c.import_plain.ensures.grown
-
-pub returns-in_err-op-clause-kept : goal.returns-in_err-op-clause-kept
-returns-in_err-op-clause-kept g c = λ n b behind. keeps_then n b c.args.ctx.now c.import_plain.new.ctx c.add_op.new.ctx (keeps_types n b c.args.ctx.now c.import_plain.new.ctx c.import_plain.ensures.grown) (c.add_op.ensures.kept n b behind)
 
 pub returns-clause-kept : goal.returns-clause-kept
 returns-clause-kept g c = λ n b behind. keeps_then n b c.args.ctx.now c.import_plain.new.ctx c.add_op.new.ctx (keeps_types n b c.args.ctx.now c.import_plain.new.ctx c.import_plain.ensures.grown) (c.add_op.ensures.kept n b behind)
@@ -56,7 +57,13 @@ pub add_op-requires-clause-successors : goal.add_op-requires-clause-successors
 add_op-requires-clause-successors g c = All-nil (IsSuccessorWithin (length c.import_plain.new.ctx.ops) (length c.import_plain.new.ctx.blocks))
 
 pub returns-clause-number : goal.returns-clause-number
-returns-clause-number g c = c.in_ok-op.ensures.number ∙ ap (λ (x : ContextData). length x.ops) c.import_plain.ensures.grown.rest
+returns-clause-number g c = IfOk-weaker c.add_op.result _ _ (λ o number. number ∙ ap (λ (x : ContextData). length x.ops) c.import_plain.ensures.grown.rest) c.add_op.ensures.number
 
 pub returns-clause-count : goal.returns-clause-count
-returns-clause-count g c = c.in_ok-op.ensures.count ∙ ap (λ (x : ContextData). length x.ops + 1) c.import_plain.ensures.grown.rest
+returns-clause-count g c = on_ok_weaker c.add_op.result (λ count. count ∙ ap (λ (x : ContextData). length x.ops + 1) c.import_plain.ensures.grown.rest) c.add_op.ensures.count
+
+pub const_kind-requires : goal.const_kind-requires
+const_kind-requires g c = c.requires.within
+
+pub import_plain-requires-clause-sound : goal.import_plain-requires-clause-sound
+import_plain-requires-clause-sound g c = c.requires.sound

@@ -8,7 +8,7 @@ use Rattle.from_llvm_ir.specs.Source.{IsUsed}
 use Rattle.llvm_core.specs.Data.{trees_of, operand_of}
 use Rattle.std.proofs.Common.{map}
 use Rattle.from_llvm_ir.specs.Body.{IsHoisting}
-use Rattle.from_llvm_ir.proofs.SourceLaws.{phi_read}
+use Rattle.from_llvm_ir.proofs.SourceLaws.{inst_within, phi_read}
 use Rattle.from_llvm_ir.proofs.HoistLaws.{no_constant, inst_uses, phi_uses}
 use Rattle.from_llvm_ir.proofs.KeepLaws.{keeps_none}
 use Rattle.from_llvm_ir.proofs.constants.hoist_inst.Goals as goal
@@ -43,3 +43,20 @@ returns-then-is_phi-clause-hoisting g c = λ f h b p s fr uses hoisting number.
     let m = c.args.source.now in
     let phi = phi_read m b c.args.i s.at p c.inst.result.now s.inst c.inst.ensures.inst ∙ sym c.is_phi.ensures ∙ c.if-is_phi.true in
     subst (λ (us : List ConstTree). IsHoisting fr m c.args.ctx.now c.args.values.now (uses ++ us)) (phi_uses (data_of m) h b p phi) (no_constant fr m c.args.ctx.now c.args.values.now uses hoisting)
+
+pub inst-requires : goal.inst-requires
+inst-requires g c = let r = c.requires.site in inst_within c.args.source.now r.2 c.args.i r.4.at r.3 r.4.inst
+
+pub used_values-requires : goal.used_values-requires
+used_values-requires g c =
+    let r = c.requires.site in
+    (r.0, r.1, r.2, r.3, r.4, phi_read c.args.source.now r.2 c.args.i r.4.at r.3 c.inst.result.now r.4.inst c.inst.ensures.inst ∙ sym c.is_phi.ensures ∙ c.if-is_phi.false)
+
+pub hoist_values-requires-clause-sound : goal.hoist_values-requires-clause-sound
+hoist_values-requires-clause-sound g c = c.requires.site.4.source.sound
+
+pub hoist_values-requires-clause-apart : goal.hoist_values-requires-clause-apart
+hoist_values-requires-clause-apart g c = c.requires.site.4.source.apart
+
+pub hoist_values-requires-clause-hoisting : goal.hoist_values-requires-clause-hoisting
+hoist_values-requires-clause-hoisting g c = c.requires.hoisting

@@ -6,7 +6,7 @@ use Rattle.llvm_core.specs.declared.numbers.LLVMBasicBlock.{LLVMBasicBlock}
 use Rattle.llvm_core.specs.declared.code.LLVMValue.{LLVMValue}
 use Rattle.llvm_core.specs.Data.{trees_of, operand_of}
 use Rattle.from_llvm_ir.specs.Source.{IsUsed}
-use Rattle.from_llvm_ir.proofs.SourceLaws.{block_number}
+use Rattle.from_llvm_ir.proofs.SourceLaws.{block_number, inst_within, phi_read}
 use Rattle.from_llvm_ir.proofs.UsedLaws.{UsedTo, targets_are, leads, operands_are, operands_used, used_none, used_more, used_all}
 use Rattle.from_llvm_ir.proofs.entries.used_values.Goals as goal
 
@@ -45,3 +45,9 @@ returns-clause-are c = λ f g b p h other.
 
 pub returns-clause-used : goal.returns-clause-used
 returns-clause-used c = λ f g b p h other. (c.loop-to.invariant f g b p h other).used
+
+pub inst-inst-requires : goal.inst-inst-requires
+inst-inst-requires c = let r = c.requires in inst_within c.args.source.now r.2 c.args.i r.4.at r.3 r.4.inst
+
+pub operands_of-requires : goal.operands_of-requires
+operands_of-requires c = let r = c.requires in sym (phi_read c.args.source.now r.2 c.args.i r.4.at r.3 c.inst-inst.result.now r.4.inst c.inst-inst.ensures.inst) ∙ r.5

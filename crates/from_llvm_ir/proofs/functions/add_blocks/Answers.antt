@@ -68,3 +68,15 @@ returns-in_err-add_later_block-clause-kept c = λ n b later. keeps_then n b c.ar
 
 pub returns-in_err-set-2-clause-kept : goal.returns-in_err-set-2-clause-kept
 returns-in_err-set-2-clause-kept c = λ n b later. keeps_then n b c.args.ctx.now c.loop-j.ctx c.add_later_block.new.ctx (c.loop-j.invariant.kept n b later) (c.add_later_block.ensures.kept n b later)
+
+pub add_entry-requires : goal.add_entry-requires
+add_entry-requires c = let r = c.requires in (r.0, r.1, r.3)
+
+pub returns-in_err-add_entry-clause-kept : goal.returns-in_err-add_entry-clause-kept
+returns-in_err-add_entry-clause-kept c = c.add_entry.ensures.kept
+
+pub returns-in_err-set-clause-kept : goal.returns-in_err-set-clause-kept
+returns-in_err-set-clause-kept c = c.add_entry.ensures.kept
+
+pub returns-clause-kept : goal.returns-clause-kept
+returns-clause-kept c = c.loop-j.invariant.kept

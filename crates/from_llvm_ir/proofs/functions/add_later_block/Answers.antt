@@ -1,27 +1,41 @@
 -- What `functions::add_later_block` owes besides what the check finds.
-use Rattle.std.proofs.Common.{◌∙◌, [], ap, refl, map}
+use Rattle.std.proofs.Common.{◌∙◌, ◌<◌, [], All, ap, length, refl, map, subst, sym}
+use Rattle.std.proofs.lemmas.Result.{IfOk-weaker}
+use Rattle.dialect_types.specs.declared.types.TypeHandle.{TypeHandle}
 use Rattle.dialect_types.specs.Trees.{type_at, type_trees}
 use Rattle.from_llvm_ir.specs.Imported.{given_name}
+use Rattle.from_llvm_ir.proofs.ResultLaws.{ok_both}
 use Rattle.from_llvm_ir.proofs.SourceLaws.{block_name}
 use Rattle.from_llvm_ir.proofs.StartLaws.{later_heads}
-use Rattle.from_llvm_ir.proofs.KeepLaws.{keeps_then, keeps_types}
+use Rattle.from_llvm_ir.proofs.KeepLaws.{keeps_none, keeps_then, keeps_types}
 use Rattle.from_llvm_ir.proofs.functions.add_later_block.Goals as goal
 
 pub returns-clause-heads : goal.returns-clause-heads
-returns-clause-heads c = λ fr f j place b framed is here h.
+returns-clause-heads c =
+    let r = c.add_func_block.result in
+    let e = c.add_func_block.ensures in
+    IfOk-weaker r _ _
+    (λ block made fr f j place b framed is here h.
     let ctx = c.import_phi_types.new.ctx in
     later_heads fr c.args.func c.args.ctx.now ctx c.add_func_block.new.ctx j b
-    (record { number = c.in_ok-block.block.0; label = c.in_ok-label.label; args = map (type_at (type_trees ctx.types)) c.as_slice.result.now; ops = [] })
-    h c.import_phi_types.ensures.grown here c.in_ok-block.ensures.number
+    (record { number = block.0; label = c.in_ok-label.label; args = map (type_at (type_trees ctx.types)) c.as_slice.result.now; ops = [] })
+    h c.import_phi_types.ensures.grown here made.0.0
     (c.in_ok-label.ensures ∙ ap given_name (block_name c.args.source.now fr.source c.args.from place b c.block_name.result.now is c.block_name.ensures))
     (ap (map (type_at (type_trees ctx.types))) c.as_slice.ensures.value ∙ c.in_ok-args.ensures.types f fr.source place b framed.source is)
-    refl c.in_ok-block.ensures.building c.in_ok-block.ensures.func c.in_ok-block.ensures.count
+    refl made.0.1 made.1.0 made.1.1)
+    (ok_both r _ _ (ok_both r _ _ e.number e.building) (ok_both r _ _ e.func e.count))
 
 pub returns-in_err-args-clause-kept : goal.returns-in_err-args-clause-kept
 returns-in_err-args-clause-kept c = λ n b later. keeps_types n b c.args.ctx.now c.import_phi_types.new.ctx c.import_phi_types.ensures.grown
 
-pub returns-in_err-block-clause-kept : goal.returns-in_err-block-clause-kept
-returns-in_err-block-clause-kept c = λ n b later. keeps_then n b c.args.ctx.now c.import_phi_types.new.ctx c.add_func_block.new.ctx (keeps_types n b c.args.ctx.now c.import_phi_types.new.ctx c.import_phi_types.ensures.grown) (c.add_func_block.ensures.kept n b later)
-
 pub returns-clause-kept : goal.returns-clause-kept
 returns-clause-kept c = λ n b later. keeps_then n b c.args.ctx.now c.import_phi_types.new.ctx c.add_func_block.new.ctx (keeps_types n b c.args.ctx.now c.import_phi_types.new.ctx c.import_phi_types.ensures.grown) (c.add_func_block.ensures.kept n b later)
+
+pub import_phi_types-requires : goal.import_phi_types-requires
+import_phi_types-requires c = let r = c.requires in (r.1, r.0.source, r.3, r.4, r.5.source, r.6)
+
+pub add_func_block-requires-clause-args : goal.add_func_block-requires-clause-args
+add_func_block-requires-clause-args c = subst (All (λ (t : TypeHandle). t.0 < length c.import_phi_types.new.ctx.types)) (sym c.as_slice.ensures.value) c.in_ok-args.ensures.within
+
+pub returns-in_err-label-clause-kept : goal.returns-in_err-label-clause-kept
+returns-in_err-label-clause-kept c = λ n b later. keeps_none n b c.args.ctx.now

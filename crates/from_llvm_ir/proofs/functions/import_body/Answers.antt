@@ -3,7 +3,7 @@ use Rattle.std.proofs.Common.{refl, arith}
 use Rattle.std.proofs.lemmas.Result.{on_ok_weaker, IfErr-weaker}
 use Rattle.from_llvm_ir.proofs.SourceLaws.{function_within}
 use Rattle.from_llvm_ir.proofs.StartLaws.{blocks_there, first_target, started, not_filled}
-use Rattle.from_llvm_ir.proofs.KeepLaws.{keeps_then}
+use Rattle.from_llvm_ir.proofs.KeepLaws.{keeps_none, keeps_then}
 use Rattle.from_llvm_ir.proofs.functions.import_body.Goals as goal
 
 pub blocks-requires : goal.blocks-requires
@@ -80,3 +80,18 @@ returns-clause-kept g c = λ n b later behind.
     c.blocks-2.ensures.blocks leads c.of-block.ensures (c.in_ok-targets.ensures.heads r.0 r.1 r.2 r.3) (c.param_count.ensures r.0.source r.1.source) c.in_ok-values.ensures in
     let base = r.3.blocks in
     keeps_then n b c.args.ctx.now c.hoist_constants.new.ctx c.import_blocks.new.ctx (keeps_then n b c.args.ctx.now c.add_blocks.new.ctx c.hoist_constants.new.ctx (c.add_blocks.ensures.kept n b later) (c.hoist_constants.ensures.kept n b (omega (arith, behind, base, s.first)))) (c.import_blocks.ensures.kept r.0 r.1 r.2 leads n b (omega (arith, behind, base)))
+
+pub entries_of-requires : goal.entries_of-requires
+entries_of-requires g c = (c.requires.0.source, c.requires.1.source)
+
+pub add_blocks-requires : goal.add_blocks-requires
+add_blocks-requires g c = c.requires
+
+pub param_count-requires : goal.param_count-requires
+param_count-requires g c = (c.requires.0.source, c.requires.1.source)
+
+pub returns-in_err-entries-clause-kept : goal.returns-in_err-entries-clause-kept
+returns-in_err-entries-clause-kept g c = λ n b later behind. keeps_none n b c.args.ctx.now
+
+pub returns-in_err-targets-clause-kept : goal.returns-in_err-targets-clause-kept
+returns-in_err-targets-clause-kept g c = λ n b later behind. c.add_blocks.ensures.kept n b later

@@ -9,7 +9,7 @@ use Rattle.from_llvm_ir.proofs.FrameLaws.{frame_length}
 use Rattle.from_llvm_ir.proofs.OrderedLaws.{rpo_places, places_counted}
 use Rattle.from_llvm_ir.proofs.StartLaws.{framed, is_framed, no_heads, function_whole}
 use Rattle.from_llvm_ir.proofs.UndefinedLaws.{refused}
-use Rattle.from_llvm_ir.proofs.KeepLaws.{keeps_then}
+use Rattle.from_llvm_ir.proofs.KeepLaws.{keeps_none, keeps_then}
 use Rattle.from_llvm_ir.proofs.functions.import_function.Goals as goal
 
 pub places_of-requires : goal.places_of-requires
@@ -83,3 +83,21 @@ returns-clause-kept g c = λ m d h n b before behind.
     let there : length c.declare.new.ctx.blocks ≡ length c.args.ctx.now.blocks = ap (λ (bs : List BlockData). length bs) c.in_ok-func.ensures.blocks in
     keeps_then n b c.args.ctx.now c.declare.new.ctx c.import_body.new.ctx (c.declare.ensures.kept m d h n b before)
     (c.import_body.ensures.kept n b (omega (arith, before, h.there, c.in_ok-func.ensures.number)) (omega (arith, behind, h.held.block, there)))
+
+pub checked_order-requires : goal.checked_order-requires
+checked_order-requires g c = c.requires.source
+
+pub declare-requires-clause-source : goal.declare-requires-clause-source
+declare-requires-clause-source g c = c.requires.source
+
+pub declare-requires-clause-name : goal.declare-requires-clause-name
+declare-requires-clause-name g c = c.requires.name
+
+pub declare-requires-clause-module : goal.declare-requires-clause-module
+declare-requires-clause-module g c = c.requires.«module»
+
+pub returns-in_err-order-clause-kept : goal.returns-in_err-order-clause-kept
+returns-in_err-order-clause-kept g c = λ m d h n b before behind. keeps_none n b c.args.ctx.now
+
+pub returns-in_err-places-clause-kept : goal.returns-in_err-places-clause-kept
+returns-in_err-places-clause-kept g c = λ m d h n b before behind. keeps_none n b c.args.ctx.now

@@ -1,7 +1,9 @@
 -- What `operations::import_inst` owes besides what the check finds.
 use Rattle.std.proofs.Common.{◌∙◌, sym}
 use Rattle.std.proofs.lemmas.Result.{on_ok_weaker, IfErr-weaker}
-use Rattle.from_llvm_ir.proofs.SourceLaws.{phi_read}
+use Rattle.from_llvm_ir.specs.declared.conversion_err.ConversionErr.TheVariants as E
+use Rattle.from_llvm_ir.proofs.SourceLaws.{inst_within, phi_read}
+use Rattle.from_llvm_ir.proofs.ForwardLaws.{passed_on}
 use Rattle.from_llvm_ir.proofs.BodyLaws.{phi_taken}
 use Rattle.from_llvm_ir.proofs.KeepLaws.{keeps_none}
 use Rattle.from_llvm_ir.proofs.operations.import_inst.Goals as goal
@@ -28,3 +30,17 @@ returns-then-is_phi-clause-kept g c = λ n b behind. keeps_none n b c.args.ctx.n
 
 pub returns-clause-kept : goal.returns-clause-kept
 returns-clause-kept g c = c.import_op.ensures.kept
+
+pub inst-requires : goal.inst-requires
+inst-requires g c = let r = c.requires in inst_within c.args.source.now r.3 c.args.i c.args.place r.4 r.5.inst
+
+pub import_op-requires : goal.import_op-requires
+import_op-requires g c =
+    let r = c.requires in
+    (r.0, r.1, r.2, c.args.place, r.3, r.4, r.5, phi_read c.args.source.now r.3 c.args.i c.args.place r.4 c.inst.result.now r.5.inst c.inst.ensures.inst ∙ sym c.is_phi.ensures ∙ c.if-is_phi.false)
+
+pub returns-in_err-import_phi-clause-err : goal.returns-in_err-import_phi-clause-err
+returns-in_err-import_phi-clause-err g c = passed_on c.from_residual.result E.NoMemory _ c.from_residual.ensures.1 (λ fr f j b p at places inverse. tt)
+
+pub returns-in_err-import_phi-clause-kept : goal.returns-in_err-import_phi-clause-kept
+returns-in_err-import_phi-clause-kept g c = λ n b behind. keeps_none n b c.args.ctx.now

@@ -146,3 +146,6 @@ returns-in_err-successors-clause-kept g c = λ n b behind. keeps_none n b c.args
 
 pub add_op-requires-clause-result_ty : goal.add_op-requires-clause-result_ty
 add_op-requires-clause-result_ty g c = c.in_ok-ty.ensures.within
+
+pub inst-inst-requires : goal.inst-inst-requires
+inst-inst-requires g c = let r = c.requires in inst_within c.args.source.now r.4 c.args.i r.3 r.5 r.6.inst

@@ -5,7 +5,7 @@ use Rattle.ll_tree.specs.TreeView.{name_view, param_view}
 use Rattle.ll_text.specs.Meaning.{local_key}
 use Rattle.llvm_core.specs.Names.{is_plain}
 use Rattle.ll_text.proofs.BodyLaws.{param_named, param_keeps}
-use Rattle.ll_text.proofs.RefusalLaws.{passed_on, param_untyped, param_undefined, alike_undefined}
+use Rattle.ll_text.proofs.RefusalLaws.{passed_on, param_untyped, param_undefined, alike_undefined, no_memory}
 use Rattle.ll_text.proofs.bodies.name_param.Goals as goal
 
 pub returns-clause-says : goal.returns-clause-says
@@ -28,3 +28,6 @@ returns-in_err-key-clause-not_yet c = λ e s t knows alike g i.
 pub returns-clause-not_yet : goal.returns-clause-not_yet
 returns-clause-not_yet c = λ e s t knows alike g i.
     param_undefined t g i (param_view c.args.param.now) (λ y. alike_undefined s t _ y (local_key is_plain 64) (name_view c.args.param.now.name) (option_key c.in_ok-key.key) c.in_ok-key.ensures.key (c.define.ensures.not_yet e s knows) alike)
+
+pub returns-in_err-set_param_name-clause-not_yet : goal.returns-in_err-set_param_name-clause-not_yet
+returns-in_err-set_param_name-clause-not_yet c = λ e. let f = c.from_residual-in_err-set_param_name in absurd (no_memory f.result f.ensures.1 e)

@@ -22,3 +22,18 @@ returns-in_err-end-clause-not_yet c = λ e.
     let v = c.as_slice.ensures.value in
     let none = rw v at (x.ensures.not_yet (passed_on f.result x.field-0.0 f.ensures.1 e)) in
     insts_refused c.args.scope.now c.start_block.new.scope _ c.args.number (block_view c.args.block.now) c.in_ok-first.ensures.ok none
+
+pub returns-clause-adds : goal.returns-clause-adds
+returns-clause-adds c = c.in_ok-first.ensures.adds
+
+pub returns-clause-number : goal.returns-clause-number
+returns-clause-number c = c.in_ok-first.ensures.number
+
+pub returns-clause-sound : goal.returns-clause-sound
+returns-clause-sound c = c.in_ok-first.ensures.sound
+
+pub returns-in_err-next_number-clause-not_yet : goal.returns-in_err-next_number-clause-not_yet
+returns-in_err-next_number-clause-not_yet c = λ e.
+    let x = c.in_err-next_number in
+    let f = c.from_residual-in_err-next_number in
+    absurd (x.ensures.not_yet (passed_on f.result x.field-0.0 f.ensures.1 e))

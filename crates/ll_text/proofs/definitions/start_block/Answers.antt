@@ -4,7 +4,7 @@ use Rattle.ll_tree.specs.TreeView.{block_view}
 use Rattle.ll_text.specs.ScopeView.{option_key}
 use Rattle.ll_text.specs.Numbered.{name_said}
 use Rattle.ll_text.proofs.DefiningLaws.{label_named, label_unkeyed, label_undefined, block_added}
-use Rattle.ll_text.proofs.RefusalLaws.{passed_on}
+use Rattle.ll_text.proofs.RefusalLaws.{passed_on, no_memory}
 use Rattle.ll_text.proofs.definitions.start_block.Goals as goal
 
 pub returns-clause-ok : goal.returns-clause-ok
@@ -27,3 +27,6 @@ returns-in_err-define-clause-not_yet c = λ e s knows.
     let x = c.in_err-define in
     let f = c.from_residual-in_err-define in
     label_undefined s _ c.in_ok-number.number.0 (block_view c.args.block.now) (option_key c.in_ok-key.key) c.in_ok-number.ensures.number c.in_ok-key.ensures.key (x.ensures.not_yet (passed_on f.result x.field-0.0 f.ensures.1 e) s knows)
+
+pub returns-in_err-number-clause-not_yet : goal.returns-in_err-number-clause-not_yet
+returns-in_err-number-clause-not_yet c = λ e. let f = c.from_residual-in_err-number in absurd (no_memory f.result f.ensures.1 e)

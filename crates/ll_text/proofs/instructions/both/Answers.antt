@@ -1,6 +1,7 @@
 -- What `instructions::both` owes besides what the check finds.
-use Rattle.std.proofs.Common.{Some, ap, sym, ◌∙◌}
+use Rattle.std.proofs.Common.{Some, ap, sym, ◌∙◌, inl, inr}
 use Rattle.ll_text.proofs.ModuleLaws.{value_kept, ready_kept, interns_keep, operand_kept, interned_twice}
+use Rattle.ll_text.proofs.RefusalLaws.{passed_on}
 use Rattle.ll_text.proofs.instructions.both.Goals as goal
 
 pub open_operand-requires-2-clause-ready : goal.open_operand-requires-2-clause-ready
@@ -18,3 +19,21 @@ returns-clause-lhs c = λ s knows.
 
 pub returns-clause-rest : goal.returns-clause-rest
 returns-clause-rest c = interned_twice _ _ _ c.in_ok-a.ensures.rest c.in_ok-b.ensures.rest
+
+pub returns-clause-right : goal.returns-clause-right
+returns-clause-right c = c.in_ok-b.ensures.stands
+
+pub returns-clause-rhs : goal.returns-clause-rhs
+returns-clause-rhs c = c.in_ok-b.ensures.value
+
+pub returns-in_err-a-clause-not_yet : goal.returns-in_err-a-clause-not_yet
+returns-in_err-a-clause-not_yet c = λ e s knows.
+    let x = c.in_err-a in
+    let f = c.from_residual in
+    inl (x.ensures.not_yet (passed_on f.result x.field-0.0 f.ensures.1 e) s knows)
+
+pub returns-in_err-b-clause-not_yet : goal.returns-in_err-b-clause-not_yet
+returns-in_err-b-clause-not_yet c = λ e s knows.
+    let x = c.in_err-b in
+    let f = c.from_residual-in_err-b in
+    inr (x.ensures.not_yet (passed_on f.result x.field-0.0 f.ensures.1 e) s knows)

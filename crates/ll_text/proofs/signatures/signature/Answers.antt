@@ -1,6 +1,7 @@
 -- What `signatures::signature` owes besides what the check finds.
 use Rattle.ll_text.proofs.ModuleLaws.{interned_twice, type_interned}
 use Rattle.ll_text.proofs.SignatureLaws.{type_over, signed}
+use Rattle.ll_text.proofs.RefusalLaws.{passed_on, no_memory}
 use Rattle.ll_text.proofs.signatures.signature.Goals as goal
 
 pub type_get-requires : goal.type_get-requires
@@ -18,3 +19,15 @@ returns-clause-rest c =
     let e = c.in_ok-ty.ensures in
     let before = interned_twice c.args.draft.now c.result_type.new.draft c.param_types.new.draft c.in_ok-result.ensures.rest c.in_ok-params.ensures.rest in
     interned_twice c.args.draft.now c.param_types.new.draft c.type_get.new.self before (type_interned _ _ _ _ e.interned e.rest e.data e.sound)
+
+pub returns-in_err-result-clause-not_yet : goal.returns-in_err-result-clause-not_yet
+returns-in_err-result-clause-not_yet c = λ e. let f = c.from_residual in absurd (no_memory f.result f.ensures.1 e)
+
+pub returns-in_err-params-clause-not_yet : goal.returns-in_err-params-clause-not_yet
+returns-in_err-params-clause-not_yet c = λ e.
+    let x = c.in_err-params in
+    let f = c.from_residual-in_err-params in
+    x.ensures.not_yet (passed_on f.result x.field-0.0 f.ensures.1 e)
+
+pub returns-in_err-ty-clause-not_yet : goal.returns-in_err-ty-clause-not_yet
+returns-in_err-ty-clause-not_yet c = λ e. let f = c.from_residual-in_err-ty in absurd (no_memory f.result f.ensures.1 e)

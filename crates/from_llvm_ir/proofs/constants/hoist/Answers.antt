@@ -1,0 +1,28 @@
+-- What `constants::hoist` owes besides what the check finds.
+use Rattle.std.proofs.Common.{◌∷◌, ◌++◌, [], sym, subst}
+use Rattle.std.specs.List.{filter_map}
+use Rattle.std.proofs.lemmas.Result.{on_ok_weaker}
+use Rattle.llvm_core.specs.declared.code.LLVMValue.{LLVMValue}
+use Rattle.llvm_core.specs.Data.{trees_of, operand_of}
+use Rattle.from_llvm_ir.specs.Imported.{constant_in}
+use Rattle.from_llvm_ir.specs.Body.{IsHoisting}
+use Rattle.from_llvm_ir.proofs.constants.hoist.Goals as goal
+
+pub hoist_constant-requires-clause-sound : goal.hoist_constant-requires-clause-sound
+hoist_constant-requires-clause-sound g c = c.requires.sound
+
+pub hoist_constant-requires-clause-apart : goal.hoist_constant-requires-clause-apart
+hoist_constant-requires-clause-apart g c = c.requires.apart
+
+pub hoist_constant-requires-clause-hoisting : goal.hoist_constant-requires-clause-hoisting
+hoist_constant-requires-clause-hoisting g c = c.requires.hoisting
+
+pub returns-in-Const-clause-kept : goal.returns-in-Const-clause-kept
+returns-in-Const-clause-kept g c = c.hoist_constant.ensures.kept
+
+pub returns-in-Const-clause-hoisting : goal.returns-in-Const-clause-hoisting
+returns-in-Const-clause-hoisting g c =
+    let m = c.args.source.now in
+    on_ok_weaker c.hoist_constant.result
+    (λ hoisted fr uses h number. subst (λ (v : LLVMValue). IsHoisting fr m c.hoist_constant.new.ctx c.hoist_constant.new.values (uses ++ filter_map constant_in (operand_of (trees_of m) v ∷ []))) (sym c.in-Const.is) (hoisted fr uses h number))
+    c.hoist_constant.ensures.hoisting
