@@ -4,8 +4,9 @@
     rm -rf crates/NAME/out; cd crates/NAME; rt check --jobs 1; cd -; bench/proof_times.py NAME [COUNT]
 
 A check writes each module into `out/incremental` as it ends with it, so after a check from nothing by one job the
-steps between the times of these files are what the modules cost. The last word of a module's name is its kind:
-`Lts` is the borrow checker's part of a function, `Proof` what is searched for, `Answers` what is written.
+steps between the times of these files are what the modules cost, with what was loaded for each. Over kept work, or
+with more jobs than one, they tell nothing. The last word of a module's name is its kind: `Lts` is the borrow checker's
+part of a function, `Proof` what is searched for, `Answers` what is written.
 """
 import collections
 import pathlib
