@@ -1,6 +1,6 @@
 //! Two modules imported into one context: both are there, each with its own functions.
 
-ghost use Rattle.std.specs.Prelude.{◌<◌, ◌≤◌, IfOk, IfSome, length};
+ghost use Rattle.std.specs.Prelude.{◌<◌, ◌≤◌, IfSome, length};
 ghost use Rattle.llvm_core.specs.Data.{data_of};
 ghost use Rattle.llvm_core.specs.Form.{IsForm};
 ghost use Rattle.llvm_core.specs.Names.{IsPlainOrNone};
@@ -9,7 +9,6 @@ ghost use Rattle.dialect_core.specs.Data.{IsTyped};
 use crate::texts::module_of;
 use dialect_core::context::Context;
 use dialect_core::numbers::ModuleOp;
-use from_llvm_ir::conversion_err::ConversionErr;
 use from_llvm_ir::importing::convert_module;
 use llvm_core::module::LLVMModule;
 use std::alloc::Global;
@@ -57,21 +56,19 @@ const TWO_TEXT: &str = "builtin.module @_ {
 }
 ";
 
-/// Imports a module into a context that may hold others.
-fn import_into(
-    alloc: Global,
-    ctx: &mut Context,
-    module: &LLVMModule,
-) -> Result<ModuleOp, ConversionErr>
+/// Imports a module into a context that may hold others. None says that there is no memory.
+fn import_into(alloc: Global, ctx: &mut Context, module: &LLVMModule) -> Option<ModuleOp>
     requires form { IsForm (data_of «module».now) }
     requires name { IsPlainOrNone «module».now.name }
     requires typed { IsTyped ctx.old }
     ensures typed { IsTyped ctx.new }
     ensures more { length ctx.old.ops ≤ length ctx.new.ops }
-    ensures there { IfOk result (λ m. m.0.0 < length ctx.new.ops) }
+    ensures there { IfSome result (λ m. m.0.0 < length ctx.new.ops) }
 {
-    let imported = convert_module(alloc, ctx, module)?;
-    Ok(imported.module)
+    match convert_module(alloc, ctx, module) {
+        Ok(imported) => Some(imported.module),
+        Err(_error) => None,
+    }
 }
 
 /// Imports the module of a text into a context. None says that there is no memory.
@@ -84,10 +81,7 @@ fn import_text(alloc: Global, ctx: &mut Context, text: &str) -> Option<ModuleOp>
     let Ok(module) = module_of(alloc, text) else {
         return None;
     };
-    match import_into(alloc, ctx, &module) {
-        Ok(root) => Some(root),
-        Err(_error) => None,
-    }
+    import_into(alloc, ctx, &module)
 }
 
 /// Whether a module of a context has this dialect text.

@@ -366,12 +366,19 @@ fn make_row(alloc: Global, m: &mut LLVMModule, calls: &str) -> Option<()> {
     }
 }
 
+/// Whether the check answers to a module, once these calls were made, what these words say.
+fn answers(alloc: Global, m: &mut LLVMModule, want: &str, calls: &str) -> Option<bool> {
+    make_row(alloc, m, calls)?;
+    Some(is_answer(m, want))
+}
+
 /// Whether the check answers to the module of a row what the row says.
 fn holds(alloc: Global, row: &str) -> Option<bool> {
     let (want, calls) = row.split_once(':')?;
-    let mut m = LLVMModule::new(alloc, "m").ok()?;
-    make_row(alloc, &mut m, calls)?;
-    Some(is_answer(&m, want))
+    let Ok(mut m) = LLVMModule::new(alloc, "m") else {
+        return None;
+    };
+    answers(alloc, &mut m, want, calls)
 }
 
 #[test]

@@ -179,6 +179,21 @@ fn block_places(alloc: Global, list: &[BlockRef]) -> Result<Places, AllocError>
     places_of(alloc, numbers.as_slice())
 }
 
+/// The blocks of a function, of which this is the list, each there once.
+fn placed_blocks(
+    alloc: Global,
+    ctx: &Context,
+    list: &[BlockRef],
+) -> Result<Items<Block>, AllocError>
+    requires within { All (λ b. b.0 < length ctx.now.blocks) list.now }
+    requires once { IsDistinctList (map (λ b. b.0) list.now) }
+    requires blocks { (h : InContext ctx.now) × AreBlocksIn ctx.now h list.now }
+    ensures { IfOk result (λ bs. (h : InContext ctx.now) → AreBlocksIn ctx.now h list.now → code_of (params_of h.function) bs ≡ renamed_code slot_of (map (dialect.typed_block (type_in ctx.now) h.function) h.function.blocks)) }
+{
+    let places = block_places(alloc, list)?;
+    blocks(alloc, ctx, &places, list)
+}
+
 /// The body of a well-formed function.
 pub fn dialect_body(alloc: Global, ctx: &Context, f: FuncOp) -> Result<Body, AllocError>
     requires { (h : InContext ctx.now) × (h.op ≡ f.0) }
@@ -190,11 +205,12 @@ pub fn dialect_body(alloc: Global, ctx: &Context, f: FuncOp) -> Result<Body, All
     // A function with a body has a first block.
     let entry = list[0];
     let inputs = arg_count(ctx, entry)?;
-    let places = block_places(alloc, list)?;
+    let params = params(alloc, ctx, list)?;
+    let blocks = placed_blocks(alloc, ctx, list)?;
     Ok(Body {
         holder: entry.0,
         inputs,
-        params: params(alloc, ctx, list)?,
-        blocks: blocks(alloc, ctx, &places, list)?,
+        params,
+        blocks,
     })
 }

@@ -168,6 +168,28 @@ fn inputs(m: &LLVMModule, f: LLVMFunction) -> Result<u32, AllocError>
     Ok(count as u32)
 }
 
+/// The body of a function of so many parameters, over its index.
+fn body_over(
+    alloc: Global,
+    m: &LLVMModule,
+    f: LLVMFunction,
+    inputs: u32,
+    index: &Index,
+) -> Result<Body, AllocError>
+    requires { (h : InChecked m.now) × (h.number ≡ f.0) }
+    ensures code { IfOk result (λ body. (h : InChecked m.now) → h.number ≡ f.0 → IsIndexOf m.now h index.now → code_of body.params body.blocks ≡ renamed_code slot_of (map (llvm.block (data_of m.now) (data_in m.now h)) (data_in m.now h).blocks)) }
+    ensures start { IfOk result (λ body. (h : InChecked m.now) → h.number ≡ f.0 → inputs ≡ llvm.arity (data_in m.now h).type → (k : llvm.Key) → start_of body.holder body.inputs (slot_of k) ≡ llvm.start (data_in m.now h) k) }
+{
+    let params = params(alloc, index)?;
+    let blocks = blocks(alloc, m, index, f)?;
+    Ok(Body {
+        holder: f.0,
+        inputs,
+        params,
+        blocks,
+    })
+}
+
 /// The body of a function of a checked module.
 pub fn llvm_body(alloc: Global, m: &LLVMModule, f: LLVMFunction) -> Result<Body, AllocError>
     requires { (h : InChecked m.now) × (h.number ≡ f.0) }
@@ -176,10 +198,5 @@ pub fn llvm_body(alloc: Global, m: &LLVMModule, f: LLVMFunction) -> Result<Body,
 {
     let inputs = inputs(m, f)?;
     let index = index_of(alloc, m, f)?;
-    Ok(Body {
-        holder: f.0,
-        inputs,
-        params: params(alloc, &index)?,
-        blocks: blocks(alloc, m, &index, f)?,
-    })
+    body_over(alloc, m, f, inputs, &index)
 }

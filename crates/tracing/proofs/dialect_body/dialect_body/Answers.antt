@@ -1,19 +1,19 @@
 -- What `dialect_body::dialect_body` owes besides what the check finds.
-use Rattle.std.proofs.Common.{subst, sym, ◌∙◌}
+use Rattle.std.proofs.Common.{subst, sym}
 use Rattle.llvm_core.specs.Interned.{IsDistinctList}
 use Rattle.tracing.proofs.DialectBlockLaws.{blocks_are, numbers_are, numbers_apart, start_is, some_ref}
 use Rattle.tracing.proofs.dialect_body.dialect_body.Goals as goal
 
-pub block_places-requires : goal.block_places-requires
-block_places-requires c =
+pub placed_blocks-requires-clause-once : goal.placed_blocks-requires-clause-once
+placed_blocks-requires-clause-once c =
     let x = c.args.ctx.now in
     let h = c.requires.0 in
     let list = c.op_blocks-list.result.now in
     let all = blocks_are x h c.args.f.0 list c.requires.1 c.op_blocks-list.ensures.blocks c.op_blocks-list.ensures.within in
     subst IsDistinctList (sym (numbers_are x h list all)) (numbers_apart x h)
 
-pub blocks-requires-clause-blocks : goal.blocks-requires-clause-blocks
-blocks-requires-clause-blocks c =
+pub placed_blocks-requires-clause-blocks : goal.placed_blocks-requires-clause-blocks
+placed_blocks-requires-clause-blocks c =
     (c.requires.0, blocks_are c.args.ctx.now c.requires.0 c.args.f.0 c.op_blocks-list.result.now c.requires.1 c.op_blocks-list.ensures.blocks c.op_blocks-list.ensures.within)
 
 pub returns-clause-code : goal.returns-clause-code
@@ -21,9 +21,7 @@ returns-clause-code c = λ h is.
     let x = c.args.ctx.now in
     let list = c.op_blocks-list.result.now in
     let all = blocks_are x h c.args.f.0 list is c.op_blocks-list.ensures.blocks c.op_blocks-list.ensures.within in
-    let numbers = c.in_ok-places.ensures ∙ numbers_are x h list all in
-    let params = c.in_ok-params.ensures h all in
-    rw params (c.in_ok-blocks.ensures h all numbers)
+    rw (c.in_ok-params.ensures h all) (c.in_ok-blocks.ensures h all)
 
 pub returns-clause-start : goal.returns-clause-start
 returns-clause-start c = λ h is.

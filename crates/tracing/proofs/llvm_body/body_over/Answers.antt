@@ -1,0 +1,10 @@
+-- What `llvm_body::body_over` owes besides what the check finds.
+use Rattle.tracing.specs.LlvmBodies.{data_in}
+use Rattle.tracing.proofs.IndexLaws.{start_is}
+use Rattle.tracing.proofs.llvm_body.body_over.Goals as goal
+
+pub returns-clause-code : goal.returns-clause-code
+returns-clause-code c = λ h is index. rw c.in_ok-params.ensures (c.in_ok-blocks.ensures h is index)
+
+pub returns-clause-start : goal.returns-clause-start
+returns-clause-start c = λ h is count. start_is (data_in c.args.m.now h) c.args.f.0 c.args.inputs is count
