@@ -3,10 +3,10 @@ use Rattle.std.proofs.Common.{◌≡◌, ◌≤◌, Bool, true, false, ◌&&◌,
 use Rattle.std.specs.List.{flat_map, AllByRecursion}
 use Rattle.ll_tree.specs.Text.{Text}
 use Rattle.ll_tree.specs.Tree.{is_local, is_int_type, is_operand, is_predicate, is_label, Incoming, Inst, Add, ICmp, Phi, flag, optional, incoming, next_incoming, inst, result, IsIncoming, IsInst, IfPresent}
-use Rattle.ll_tree.specs.Reading.{is_next, rest, passes_next, skip_at, one_at, flag_at, optional_at, behind_local, result_at, add_at, icmp_at, incoming_at, no_comma, next_incomings_at, phi_at, kind_at, inst_at, is_ending}
+use Rattle.ll_tree.specs.Reading.{is_next, rest, passes_next, skip_at, one_at, flag_at, optional_at, behind_local, both_at, result_at, add_at, icmp_at, incoming_at, no_comma, next_incomings_at, phi_at, kind_at, inst_at, is_ending}
 use Rattle.ll_tree.proofs.Steps.{bind_some, then, gives, chosen}
 use Rattle.ll_tree.proofs.Many.{Sound}
-use Rattle.ll_tree.proofs.NextLaws.{next_is, unlike, skip_takes, skip_again, one_takes, one_again, flag_takes, flag_again, optional_takes, optional_again}
+use Rattle.ll_tree.proofs.NextLaws.{next_is, unlike, skip_takes, skip_again, one_takes, one_again, flag_takes, flag_again, optional_takes, optional_again, both_takes, both_again}
 use Rattle.ll_tree.proofs.PhiLaws.{incoming_takes, incoming_again, next_incomings_takes, next_incomings_again}
 
 -- ---- what is read is written so
@@ -31,22 +31,16 @@ add_takes name ts x h e =
     let Q = λ (y : Inst × List Text). (result name ++ codes "add" ∷ ts ≡ inst y.0 ++ y.1) × IsInst y.0 in
     (then _ Q (flag_at (codes "nuw") ts) _ (flag_takes (codes "nuw") ts)
     λ nuw p. then _ Q (flag_at (codes "nsw") nuw.1) _ (flag_takes (codes "nsw") nuw.1)
-    λ nsw q. then _ Q (one_at is_int_type nsw.1) _ (one_takes is_int_type nsw.1)
-    λ ty r. then _ Q (one_at is_operand ty.1) _ (one_takes is_operand ty.1)
-    λ a s. then _ Q (skip_at (codes ",") a.1) _ (skip_takes (codes ",") a.1)
-    λ comma t. then _ Q (one_at is_operand comma) _ (one_takes is_operand comma)
-    λ b u. gives _ Q (rw (p, q, r.0, s.0, t, u.0) (simp append_assoc), (h, r.1, s.1, u.1))).at x e
+    λ nsw q. then _ Q (both_at nsw.1) _ (both_takes nsw.1)
+    λ both r. gives _ Q (rw (p, q, r.0) (simp append_assoc), (h, r.1, r.2, r.3))).at x e
 
 icmp_takes : (name : Option Text) (ts : List Text) (x : Inst × List Text) → IfPresent is_local name → icmp_at name ts ≡ Some x → (result name ++ codes "icmp" ∷ ts ≡ inst x.0 ++ x.1) × IsInst x.0
 unfolding icmp_at
 icmp_takes name ts x h e =
     let Q = λ (y : Inst × List Text). (result name ++ codes "icmp" ∷ ts ≡ inst y.0 ++ y.1) × IsInst y.0 in
     (then _ Q (one_at is_predicate ts) _ (one_takes is_predicate ts)
-    λ word p. then _ Q (one_at is_int_type word.1) _ (one_takes is_int_type word.1)
-    λ ty r. then _ Q (one_at is_operand ty.1) _ (one_takes is_operand ty.1)
-    λ a s. then _ Q (skip_at (codes ",") a.1) _ (skip_takes (codes ",") a.1)
-    λ comma t. then _ Q (one_at is_operand comma) _ (one_takes is_operand comma)
-    λ b u. gives _ Q (rw (p.0, r.0, s.0, t, u.0) (simp append_assoc), (h, p.1, r.1, s.1, u.1))).at x e
+    λ word p. then _ Q (both_at word.1) _ (both_takes word.1)
+    λ both r. gives _ Q (rw (p.0, r.0) (simp append_assoc), (h, p.1, r.1, r.2, r.3))).at x e
 
 phi_takes : (name : Option Text) (ts : List Text) (x : Inst × List Text) → IfPresent is_local name → phi_at name ts ≡ Some x → (result name ++ codes "phi" ∷ ts ≡ inst x.0 ++ x.1) × IsInst x.0
 unfolding phi_at
@@ -95,23 +89,14 @@ add_again name nuw nsw ty a b us p q r =
     rw (
       flag_again (codes "nuw") nuw (flag (codes "nsw") nsw ++ (ty ∷ a ∷ codes "," ∷ b ∷ us)) no_nuw,
       flag_again (codes "nsw") nsw (ty ∷ a ∷ codes "," ∷ b ∷ us) no_nsw,
-      one_again is_int_type ty (a ∷ codes "," ∷ b ∷ us) p,
-      one_again is_operand a (codes "," ∷ b ∷ us) q,
-      skip_again (codes ",") (b ∷ us),
-      one_again is_operand b us r,
+      both_again ty a b us p q r,
     ) refl
 
 icmp_again : (name : Option Text) (word ty a b : Text) (us : List Text) → is_predicate word ≡ true → is_int_type ty ≡ true → is_operand a ≡ true → is_operand b ≡ true
     → icmp_at name (word ∷ ty ∷ a ∷ codes "," ∷ b ∷ us) ≡ Some (ICmp name word ty a b, us)
 unfolding icmp_at
 icmp_again name word ty a b us o p q r =
-    rw (
-      one_again is_predicate word (ty ∷ a ∷ codes "," ∷ b ∷ us) o,
-      one_again is_int_type ty (a ∷ codes "," ∷ b ∷ us) p,
-      one_again is_operand a (codes "," ∷ b ∷ us) q,
-      skip_again (codes ",") (b ∷ us),
-      one_again is_operand b us r,
-    ) refl
+    rw (one_again is_predicate word (ty ∷ a ∷ codes "," ∷ b ∷ us) o, both_again ty a b us p q r) refl
 
 phi_again : (name : Option Text) (ty : Text) (first : Incoming) (more : List Incoming) (us : List Text) → is_int_type ty ≡ true → IsIncoming first → AllByRecursion IsIncoming more → no_comma us ≡ true
     → phi_at name (ty ∷ (incoming first ++ (flat_map next_incoming more ++ us))) ≡ Some (Phi name ty first more, us)

@@ -1,12 +1,12 @@
 -- Reading one token. Each rule has two laws, here and in the files that use this one: `.._takes`, what is read stood at the
 -- front and is of its kind, and `.._again`, what stands there and is of its kind is read.
-use Rattle.std.proofs.Common.{◌≡◌, Bool, true, false, List, [], ◌∷◌, ◌++◌, not, Option, Some, None, refl, sym, ap, ◌∙◌, arith, inl, inr}
+use Rattle.std.proofs.Common.{◌≡◌, Bool, true, false, List, [], ◌∷◌, ◌++◌, not, Option, Some, None, codes, refl, sym, ap, ◌∙◌, arith, inl, inr}
 use Rattle.std.specs.Str.{bytes_eq}
 use Rattle.std.proofs.lemmas.Slice.Eq.{bytes_eq-Decides}
 use Rattle.ll_tree.specs.Text.{Text}
-use Rattle.ll_tree.specs.Tree.{flag, optional, IfPresent}
-use Rattle.ll_tree.specs.Reading.{is_next, rest, passes_next, skip_at, one_at, flag_at, optional_at}
-use Rattle.ll_tree.proofs.Steps.{guard_some, chosen}
+use Rattle.ll_tree.specs.Tree.{is_int_type, is_operand, flag, optional, IfPresent}
+use Rattle.ll_tree.specs.Reading.{is_next, rest, passes_next, skip_at, one_at, flag_at, optional_at, typed_at, both_at}
+use Rattle.ll_tree.proofs.Steps.{guard_some, chosen, then, gives}
 
 pub next_is : (t : Text) (ts : List Text) → is_next t ts ≡ true → ts ≡ t ∷ rest ts
 next_is t [] e = absurd cc
@@ -68,3 +68,31 @@ unfolding optional_at
 optional_again p None [] h no_more = refl
 optional_again p None (u ∷ us) h no_more = rw no_more refl
 optional_again p (Some t) us h no_more = rw h refl
+
+-- ---- a type and values of it
+
+pub typed_takes : (ts : List Text) (x : (Text × Text) × List Text) → typed_at ts ≡ Some x → (ts ≡ x.0.0 ∷ x.0.1 ∷ x.1) × (is_int_type x.0.0 ≡ true) × (is_operand x.0.1 ≡ true)
+unfolding typed_at
+typed_takes ts x e =
+    let Q = λ (y : (Text × Text) × List Text). (ts ≡ y.0.0 ∷ y.0.1 ∷ y.1) × (is_int_type y.0.0 ≡ true) × (is_operand y.0.1 ≡ true) in
+    (then _ Q (one_at is_int_type ts) _ (one_takes is_int_type ts)
+    λ ty p. then _ Q (one_at is_operand ty.1) _ (one_takes is_operand ty.1)
+    λ v q. gives _ Q (rw (p.0, q.0) refl, p.1, q.1)).at x e
+
+pub typed_again : (ty v : Text) (us : List Text) → is_int_type ty ≡ true → is_operand v ≡ true → typed_at (ty ∷ v ∷ us) ≡ Some ((ty, v), us)
+unfolding typed_at
+typed_again ty v us p q = rw (one_again is_int_type ty (v ∷ us) p, one_again is_operand v us q) refl
+
+pub both_takes : (ts : List Text) (x : (Text × Text × Text) × List Text) → both_at ts ≡ Some x
+    → (ts ≡ x.0.0 ∷ x.0.1 ∷ codes "," ∷ x.0.2 ∷ x.1) × (is_int_type x.0.0 ≡ true) × (is_operand x.0.1 ≡ true) × (is_operand x.0.2 ≡ true)
+unfolding both_at
+both_takes ts x e =
+    let Q = λ (y : (Text × Text × Text) × List Text). (ts ≡ y.0.0 ∷ y.0.1 ∷ codes "," ∷ y.0.2 ∷ y.1) × (is_int_type y.0.0 ≡ true) × (is_operand y.0.1 ≡ true) × (is_operand y.0.2 ≡ true) in
+    (then _ Q (typed_at ts) _ (typed_takes ts)
+    λ a p. then _ Q (skip_at (codes ",") a.1) _ (skip_takes (codes ",") a.1)
+    λ comma q. then _ Q (one_at is_operand comma) _ (one_takes is_operand comma)
+    λ b r. gives _ Q (rw (p.0, q, r.0) refl, p.1, p.2, r.1)).at x e
+
+pub both_again : (ty a b : Text) (us : List Text) → is_int_type ty ≡ true → is_operand a ≡ true → is_operand b ≡ true → both_at (ty ∷ a ∷ codes "," ∷ b ∷ us) ≡ Some ((ty, a, b), us)
+unfolding both_at
+both_again ty a b us p q r = rw (typed_again ty a (codes "," ∷ b ∷ us) p q, skip_again (codes ",") (b ∷ us), one_again is_operand b us r) refl

@@ -1,16 +1,19 @@
 -- Terminators: what is read is written so, and what is written so is read.
-use Rattle.std.proofs.Common.{◌≡◌, true, List, ◌∷◌, ◌++◌, Some, codes, refl, ap, ◌∙◌, arith, inl, inr}
+use Rattle.std.proofs.Common.{◌≡◌, true, List, ◌∷◌, ◌++◌, Some, codes, refl, ap, ◌∙◌, inl, inr}
 use Rattle.ll_tree.specs.Text.{Text}
 use Rattle.ll_tree.specs.Tree.{is_local, is_int_type, is_operand, Terminator, ReturnVoid, Return, Br, CondBr, Unreachable, terminator, IsTerminator}
-use Rattle.ll_tree.specs.Reading.{is_next, rest, skip_at, one_at, value_at, return_at, target_at, cond_at, jump_at, branch_at, terminator_at}
+use Rattle.ll_tree.specs.Reading.{is_next, rest, skip_at, one_at, typed_at, value_at, return_at, target_at, cond_at, jump_at, branch_at, terminator_at}
 use Rattle.ll_tree.proofs.Steps.{bind_some, then, gives, chosen}
-use Rattle.ll_tree.proofs.NextLaws.{next_is, unlike, skip_takes, skip_again, one_takes, one_again}
+use Rattle.ll_tree.proofs.NextLaws.{next_is, unlike, skip_takes, skip_again, one_takes, one_again, typed_takes, typed_again}
 
 -- ---- what is read is written so
 
 value_takes : (ts : List Text) (x : Terminator × List Text) → value_at ts ≡ Some x → (codes "ret" ∷ ts ≡ terminator x.0 ++ x.1) × IsTerminator x.0
 unfolding value_at
-value_takes ts x e = grind (arith, one_takes)
+value_takes ts x e =
+    let Q = λ (y : Terminator × List Text). (codes "ret" ∷ ts ≡ terminator y.0 ++ y.1) × IsTerminator y.0 in
+    (then _ Q (typed_at ts) _ (typed_takes ts)
+    λ typed p. gives _ Q (rw p.0 refl, (p.1, p.2))).at x e
 
 return_takes : (ts : List Text) (x : Terminator × List Text) → return_at ts ≡ Some x → (codes "ret" ∷ ts ≡ terminator x.0 ++ x.1) × IsTerminator x.0
 unfolding return_at
@@ -31,11 +34,10 @@ cond_takes : (ts : List Text) (x : Terminator × List Text) → cond_at ts ≡ S
 unfolding cond_at
 cond_takes ts x e =
     let Q = λ (y : Terminator × List Text). (codes "br" ∷ ts ≡ terminator y.0 ++ y.1) × IsTerminator y.0 in
-    (then _ Q (one_at is_int_type ts) _ (one_takes is_int_type ts)
-    λ ty p. then _ Q (one_at is_operand ty.1) _ (one_takes is_operand ty.1)
-    λ condition q. then _ Q (target_at condition.1) _ (target_takes condition.1)
+    (then _ Q (typed_at ts) _ (typed_takes ts)
+    λ typed p. then _ Q (target_at typed.1) _ (target_takes typed.1)
     λ first r. then _ Q (target_at first.1) _ (target_takes first.1)
-    λ second s. gives _ Q (rw (p.0, q.0, r.0, s.0) refl, (p.1, q.1, r.1, s.1))).at x e
+    λ second s. gives _ Q (rw (p.0, r.0, s.0) refl, (p.1, p.2, r.1, s.1))).at x e
 
 jump_takes : (ts : List Text) (x : Terminator × List Text) → jump_at ts ≡ Some x → (codes "br" ∷ codes "label" ∷ ts ≡ terminator x.0 ++ x.1) × IsTerminator x.0
 unfolding jump_at
@@ -68,7 +70,7 @@ terminator_takes ts x e = elim (chosen (is_next (codes "ret") ts) (return_at (re
 
 value_again : (ty v : Text) (us : List Text) → is_int_type ty ≡ true → is_operand v ≡ true → value_at (ty ∷ v ∷ us) ≡ Some (Return ty v, us)
 unfolding value_at
-value_again ty v us p q = rw (one_again is_int_type ty (v ∷ us) p, one_again is_operand v us q) refl
+value_again ty v us p q = rw (typed_again ty v us p q) refl
 
 return_again : (ty v : Text) (us : List Text) → is_int_type ty ≡ true → is_operand v ≡ true → return_at (ty ∷ v ∷ us) ≡ Some (Return ty v, us)
 unfolding return_at
@@ -88,12 +90,7 @@ unfolding cond_at
 cond_again ty c s t us o p q r =
     let second = codes "," ∷ codes "label" ∷ t ∷ us in
     let first = codes "," ∷ codes "label" ∷ s ∷ second in
-    rw (
-      one_again is_int_type ty (c ∷ first) o,
-      one_again is_operand c first p,
-      target_again s second q,
-      target_again t us r,
-    ) refl
+    rw (typed_again ty c first o p, target_again s second q, target_again t us r) refl
 
 branch_again : (ty c s t : Text) (us : List Text) → is_int_type ty ≡ true → is_operand c ≡ true → is_local s ≡ true → is_local t ≡ true
     → branch_at (ty ∷ c ∷ codes "," ∷ codes "label" ∷ s ∷ codes "," ∷ codes "label" ∷ t ∷ us) ≡ Some (CondBr ty c s t, us)

@@ -4,6 +4,7 @@ pub mod Kinds
 pub mod Literals
 pub mod Productions
 pub mod Reading
+pub mod Runs
 pub mod Text
 pub mod TokenView
 pub mod Tokens

@@ -72,6 +72,21 @@ with_front front read = read >>= λ x. Some (front ++ x.0, x.1)
 
 -- ---- productions
 
+-- a type and a value of it
+unfoldable pub typed_at : List Text → Read (Text × Text)
+typed_at ts = do
+  ty ← one_at is_int_type ts
+  v ← one_at is_operand ty.1
+  Some ((ty.0, v.0), v.1)
+
+-- a type and two values of it
+unfoldable pub both_at : List Text → Read (Text × Text × Text)
+both_at ts = do
+  a ← typed_at ts
+  comma ← skip_at (codes ",") a.1
+  b ← one_at is_operand comma
+  Some ((a.0.0, a.0.1, b.0), b.1)
+
 -- [LOCAL "="]: what stands behind the local, if there is one
 abbrev pub behind_local : Option Text → List Text → Read (Option Text)
 behind_local None ts = Some (None, ts)
@@ -84,20 +99,14 @@ unfoldable pub add_at : Option Text → List Text → Read Inst
 add_at name ts = do
   nuw ← flag_at (codes "nuw") ts
   nsw ← flag_at (codes "nsw") nuw.1
-  ty ← one_at is_int_type nsw.1
-  a ← one_at is_operand ty.1
-  comma ← skip_at (codes ",") a.1
-  b ← one_at is_operand comma
-  Some (Add name nuw.0 nsw.0 ty.0 a.0 b.0, b.1)
+  both ← both_at nsw.1
+  Some (Add name nuw.0 nsw.0 both.0.0 both.0.1 both.0.2, both.1)
 
 unfoldable pub icmp_at : Option Text → List Text → Read Inst
 icmp_at name ts = do
   word ← one_at is_predicate ts
-  ty ← one_at is_int_type word.1
-  a ← one_at is_operand ty.1
-  comma ← skip_at (codes ",") a.1
-  b ← one_at is_operand comma
-  Some (ICmp name word.0 ty.0 a.0 b.0, b.1)
+  both ← both_at word.1
+  Some (ICmp name word.0 both.0.0 both.0.1 both.0.2, both.1)
 
 unfoldable pub incoming_at : List Text → Read Incoming
 incoming_at ts = do
@@ -142,9 +151,8 @@ inst_at ts = do
 
 unfoldable pub value_at : List Text → Read Terminator
 value_at ts = do
-  ty ← one_at is_int_type ts
-  v ← one_at is_operand ty.1
-  Some (Return ty.0 v.0, v.1)
+  typed ← typed_at ts
+  Some (Return typed.0.0 typed.0.1, typed.1)
 
 unfoldable pub return_at : List Text → Read Terminator
 return_at ts = if is_next (codes "void") ts then Some (ReturnVoid, rest ts) else value_at ts
@@ -158,11 +166,10 @@ target_at ts = do
 
 unfoldable pub cond_at : List Text → Read Terminator
 cond_at ts = do
-  ty ← one_at is_int_type ts
-  condition ← one_at is_operand ty.1
-  first ← target_at condition.1
+  typed ← typed_at ts
+  first ← target_at typed.1
   second ← target_at first.1
-  Some (CondBr ty.0 condition.0 first.0 second.0, second.1)
+  Some (CondBr typed.0.0 typed.0.1 first.0 second.0, second.1)
 
 unfoldable pub jump_at : List Text → Read Terminator
 jump_at ts = do

@@ -4,7 +4,8 @@ ghost use Rattle.std.specs.Prelude.{◌≡◌, ◌∷◌, ◌+◌, ◌≤◌, le
 ghost use Rattle.std.specs.List.{prefix_len};
 ghost use Rattle.llvm_core.specs.Names.{is_digit};
 ghost use Rattle.ll_tree.specs.Text.{is_name_byte};
-ghost use Rattle.ll_tree.specs.Tokens.{blank, token, is_word_byte, in_line, in_string, name_at, string_at, digits_at, minus_at, word_at, piece_at};
+ghost use Rattle.ll_tree.specs.Runs.{in_run};
+ghost use Rattle.ll_tree.specs.Tokens.{blank, token, name_at, string_at, digits_at, minus_at, word_at, piece_at};
 
 use crate::bytes::{
     is_blank, is_digit, is_name_byte, is_sigil, is_sign, is_word_byte, is_word_start,
@@ -36,43 +37,48 @@ fn token(len: usize) -> Option<Piece>
     })
 }
 
+/// What a run of bytes is made of.
+#[derive(Clone, Copy)]
+enum Run {
+    /// The bytes of a bare name.
+    Name,
+    Word,
+    Digits,
+    /// A comment up to the end of its line.
+    Line,
+    /// A string up to the quote that ends it.
+    String,
+}
+
+impl Run {
+    /// Does a byte go on with such a run?
+    fn has(self, b: u8) -> bool
+        ensures { result ≡ in_run self b }
+    {
+        match self {
+            Run::Name => is_name_byte(b),
+            Run::Word => is_word_byte(b),
+            Run::Digits => is_digit(b),
+            Run::Line => b != b'\n' && b != b'\r',
+            Run::String => b != b'"',
+        }
+    }
+}
+
+/// How many bytes of such a run the text begins with.
+fn run_len(bytes: &[u8], run: Run) -> usize
+    ensures run { result ≡ prefix_len (in_run «run») bytes.now }
+    ensures within { result ≤ length bytes.now }
+{
+    bytes.iter().take_while(|b| run.has(**b)).count()
+}
+
 /// How many bytes of a name the text begins with.
 pub fn name_len(bytes: &[u8]) -> usize
     ensures run { result ≡ prefix_len is_name_byte bytes.now }
     ensures within { result ≤ length bytes.now }
 {
-    bytes.iter().take_while(|b| is_name_byte(**b)).count()
-}
-
-fn word_len(bytes: &[u8]) -> usize
-    ensures run { result ≡ prefix_len is_word_byte bytes.now }
-    ensures within { result ≤ length bytes.now }
-{
-    bytes.iter().take_while(|b| is_word_byte(**b)).count()
-}
-
-fn digits_len(bytes: &[u8]) -> usize
-    ensures run { result ≡ prefix_len is_digit bytes.now }
-    ensures within { result ≤ length bytes.now }
-{
-    bytes.iter().take_while(|b| is_digit(**b)).count()
-}
-
-fn line_len(bytes: &[u8]) -> usize
-    ensures run { result ≡ prefix_len in_line bytes.now }
-    ensures within { result ≤ length bytes.now }
-{
-    bytes
-        .iter()
-        .take_while(|b| **b != b'\n' && **b != b'\r')
-        .count()
-}
-
-fn string_len(bytes: &[u8]) -> usize
-    ensures run { result ≡ prefix_len in_string bytes.now }
-    ensures within { result ≤ length bytes.now }
-{
-    bytes.iter().take_while(|b| **b != b'"').count()
+    run_len(bytes, Run::Name)
 }
 
 /// What stands behind `@` or `%`.
@@ -82,8 +88,8 @@ fn name_at(bytes: &[u8]) -> Option<Piece>
     ensures within { IfSome result (λ p. (1 ≤ p.len) × (p.len ≤ 1 + length bytes.now)) }
 {
     match bytes {
-        [b, rest @ ..] if is_digit(*b) => token(2 + digits_len(rest)),
-        [b, rest @ ..] if is_name_byte(*b) => token(2 + name_len(rest)),
+        [b, rest @ ..] if is_digit(*b) => token(2 + run_len(rest, Run::Digits)),
+        [b, rest @ ..] if is_name_byte(*b) => token(2 + run_len(rest, Run::Name)),
         _ => None,
     }
 }
@@ -94,7 +100,7 @@ fn string_at(bytes: &[u8]) -> Option<Piece>
     ensures gives { result ≡ string_at bytes.now }
     ensures within { IfSome result (λ p. (1 ≤ p.len) × (p.len ≤ 1 + length bytes.now)) }
 {
-    let n = string_len(bytes);
+    let n = run_len(bytes, Run::String);
     if n < bytes.len() && bytes[n] == b'"' {
         token(2 + n)
     } else {
@@ -116,7 +122,7 @@ fn digits_at(bytes: &[u8], run: usize) -> Option<Piece>
     if bytes.len() > 1 && bytes[0] == b'0' && bytes[1] == b'x' {
         return None;
     }
-    token(digits_len(bytes))
+    token(run_len(bytes, Run::Digits))
 }
 
 /// Digits behind their minus.
@@ -126,7 +132,7 @@ fn minus_at(bytes: &[u8]) -> Option<Piece>
     ensures within { IfSome result (λ p. (1 ≤ p.len) × (p.len ≤ 1 + length bytes.now)) }
 {
     match bytes {
-        [b, rest @ ..] if is_digit(*b) => token(2 + digits_len(rest)),
+        [b, rest @ ..] if is_digit(*b) => token(2 + run_len(rest, Run::Digits)),
         _ => None,
     }
 }
@@ -147,7 +153,7 @@ fn word_at(bytes: &[u8], b: u8, rest: &[u8], run: usize) -> Option<Piece>
         return minus_at(rest);
     }
     if is_word_start(b) {
-        return token(1 + word_len(rest));
+        return token(1 + run_len(rest, Run::Word));
     }
     None
 }
@@ -167,7 +173,7 @@ pub fn piece_at(bytes: &[u8], run: usize) -> Option<Piece>
         return blank(1);
     }
     if b == b';' {
-        return blank(1 + line_len(rest));
+        return blank(1 + run_len(rest, Run::Line));
     }
     if is_sign(b) {
         return token(1);

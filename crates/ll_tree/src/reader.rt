@@ -6,7 +6,7 @@ ghost use Rattle.ll_tree.specs.TokenView.{text_of, texts_of};
 ghost use Rattle.ll_tree.specs.Tree as tree;
 ghost use Rattle.ll_tree.specs.Tree.{IsFile, file as write_file};
 ghost use Rattle.ll_tree.specs.Kinds.{fits};
-ghost use Rattle.ll_tree.specs.Reading.{left, Gives, is_next, is_end, skip_at, one_at, optional_at, flag_at, param_at, next_param_at, next_params_at, params_at, result_type_at, function_at, functions_at, source_at, file_at, with_front};
+ghost use Rattle.ll_tree.specs.Reading.{left, Gives, is_next, is_end, skip_at, one_at, optional_at, flag_at, typed_at, both_at, param_at, next_param_at, next_params_at, params_at, result_type_at, function_at, functions_at, source_at, file_at, with_front};
 ghost use Rattle.ll_tree.specs.TreeView.{name_view, param_view, function_view, file_view};
 
 mod blocks;
@@ -88,6 +88,30 @@ impl<'t, 'a> Reader<'t, 'a> {
         ensures { Gives (λ x. (text_of x, left self.new)) result (one_at (fits kind) (left self.old)) }
     {
         self.optional(kind).ok_or(ReadErr::NotYet)
+    }
+}
+
+/// Types and values.
+impl<'t, 'a> Reader<'t, 'a> {
+    /// A type and a value of it.
+    #[tactic(auto, unfolding(crate::specs::Reading::typed_at))]
+    fn typed(&mut self) -> Result<(Token<'a>, Token<'a>), ReadErr>
+        ensures { Gives (λ x. ((text_of x.0, text_of x.1), left self.new)) result (typed_at (left self.old)) }
+    {
+        let ty = self.one(Kind::IntType)?;
+        let value = self.one(Kind::Operand)?;
+        Ok((ty, value))
+    }
+
+    /// A type and two values of it.
+    #[tactic(auto, unfolding(crate::specs::Reading::both_at))]
+    fn both(&mut self) -> Result<(Token<'a>, Token<'a>, Token<'a>), ReadErr>
+        ensures { Gives (λ x. ((text_of x.0, text_of x.1, text_of x.2), left self.new)) result (both_at (left self.old)) }
+    {
+        let (ty, lhs) = self.typed()?;
+        self.skip(b",")?;
+        let rhs = self.one(Kind::Operand)?;
+        Ok((ty, lhs, rhs))
     }
 }
 

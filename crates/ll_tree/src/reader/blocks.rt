@@ -19,8 +19,7 @@ impl<'t, 'a> Reader<'t, 'a> {
     fn value(&mut self) -> Result<Terminator<'a>, ReadErr>
         ensures { Gives (λ x. (terminator_view x, left self.new)) result (value_at (left self.old)) }
     {
-        let ty = self.one(Kind::IntType)?;
-        let value = self.one(Kind::Operand)?;
+        let (ty, value) = self.typed()?;
         Ok(Terminator::Return { ty, value })
     }
 
@@ -50,8 +49,7 @@ impl<'t, 'a> Reader<'t, 'a> {
     fn cond(&mut self) -> Result<Terminator<'a>, ReadErr>
         ensures { Gives (λ x. (terminator_view x, left self.new)) result (cond_at (left self.old)) }
     {
-        let ty = self.one(Kind::IntType)?;
-        let condition = self.one(Kind::Operand)?;
+        let (ty, condition) = self.typed()?;
         let first = self.target()?;
         let second = self.target()?;
         Ok(Terminator::CondBr {

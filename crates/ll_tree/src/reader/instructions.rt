@@ -31,10 +31,7 @@ impl<'t, 'a> Reader<'t, 'a> {
     {
         let nuw = self.flag(b"nuw");
         let nsw = self.flag(b"nsw");
-        let ty = self.one(Kind::IntType)?;
-        let lhs = self.one(Kind::Operand)?;
-        self.skip(b",")?;
-        let rhs = self.one(Kind::Operand)?;
+        let (ty, lhs, rhs) = self.both()?;
         Ok(Inst::Add {
             name,
             nuw,
@@ -51,10 +48,7 @@ impl<'t, 'a> Reader<'t, 'a> {
         ensures { Gives (λ x. (inst_view x, left self.new)) result (icmp_at (name_view name.entry) (left self.old)) }
     {
         let predicate = self.one(Kind::Predicate)?;
-        let ty = self.one(Kind::IntType)?;
-        let lhs = self.one(Kind::Operand)?;
-        self.skip(b",")?;
-        let rhs = self.one(Kind::Operand)?;
+        let (ty, lhs, rhs) = self.both()?;
         Ok(Inst::ICmp {
             name,
             predicate,
