@@ -1,5 +1,7 @@
 -- What `definitions::define_block` owes besides what the check finds.
-use Rattle.ll_tree.specs.TreeView.{block_view}
+use Rattle.std.proofs.Common.{arith}
+use Rattle.std.proofs.lemmas.List.{length-map}
+use Rattle.ll_tree.specs.TreeView.{inst_view, block_view}
 use Rattle.ll_text.proofs.NumberedLaws.{block_takes, label_refused, insts_refused}
 use Rattle.ll_text.proofs.RefusalLaws.{passed_on}
 use Rattle.ll_text.proofs.definitions.define_block.Goals as goal
@@ -37,3 +39,10 @@ returns-in_err-next_number-clause-not_yet c = λ e.
     let x = c.in_err-next_number in
     let f = c.from_residual-in_err-next_number in
     absurd (x.ensures.not_yet (passed_on f.result x.field-0.0 f.ensures.1 e))
+
+pub returns-clause-behind : goal.returns-clause-behind
+returns-clause-behind c =
+    let e = rw c.as_slice.ensures.value at c.in_ok-end.ensures.behind in
+    let many = length-map c.args.block.now.insts.items inst_view in
+    let next = c.in_ok-next_number.ensures.next in
+    omega (arith, e, many, next)

@@ -1,5 +1,5 @@
 -- What `instructions::build_inst` owes besides what the check finds.
-use Rattle.std.proofs.Common.{ℕ, length, ap, ◌∙◌, subst}
+use Rattle.std.proofs.Common.{ℕ, length, ap, ◌∙◌, ◌<◌, sym, subst}
 use Rattle.llvm_core.specs.Module.{Module}
 use Rattle.llvm_core.specs.Names.{is_plain}
 use Rattle.ll_tree.specs.TreeView.{inst_view}
@@ -8,6 +8,7 @@ use Rattle.ll_text.specs.Numbered.{name_said}
 use Rattle.ll_text.specs.Building.{IsBuilt}
 use Rattle.ll_text.proofs.ModuleLaws.{interns_keep, keeps_then}
 use Rattle.ll_text.proofs.BuildLaws.{build_keeps, inst_built, inst_added}
+use Rattle.ll_text.proofs.RefusalLaws.{passed_on, no_memory}
 use Rattle.ll_text.proofs.instructions.build_inst.Goals as goal
 
 pub returns-clause-adds : goal.returns-clause-adds
@@ -31,3 +32,22 @@ returns-clause-keeps c =
     let e = c.in_ok-build.ensures in
     keeps_then c.args.draft.now c.make_inst.new.draft c.build.new.self (interns_keep _ _ m.rest c.requires.ready.sound)
     (build_keeps c.make_inst.new.draft c.build.new.self c.args.block c.in_ok-build.field-0 _ c.in_ok-made.made (record { ty = e.ok.0; result = e.ok.1; is = e.ok.2; sound = e.sound }))
+
+pub build-requires-clause-block : goal.build-requires-clause-block
+build-requires-clause-block c = subst (λ (n : ℕ). c.args.block.0 < n) (sym (ap (λ (x : Module). length x.blocks) c.in_ok-made.ensures.rest.rest)) c.requires.block
+
+pub build-requires-clause-values : goal.build-requires-clause-values
+build-requires-clause-values c = let m = c.in_ok-made.ensures.made in m.gives.values
+
+-- what is made has a result
+pub build-requires-clause-unnamed : goal.build-requires-clause-unnamed
+build-requires-clause-unnamed c = λ e. let m = c.in_ok-made.ensures.made in absurd (rw e at m.gives.result)
+
+pub returns-in_err-made-clause-not_yet : goal.returns-in_err-made-clause-not_yet
+returns-in_err-made-clause-not_yet c = λ e.
+    let x = c.in_err-made in
+    let f = c.from_residual in
+    x.ensures.not_yet (passed_on f.result x.field-0.0 f.ensures.1 e)
+
+pub returns-in_err-build-clause-not_yet : goal.returns-in_err-build-clause-not_yet
+returns-in_err-build-clause-not_yet c = λ e. let f = c.from_residual-in_err-build in absurd (no_memory f.result f.ensures.1 e)
