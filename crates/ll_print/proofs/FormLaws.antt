@@ -1,9 +1,12 @@
 -- Blocks and instructions of a function of the form belong to it; its parameters are printed one after another.
 use Rattle.std.proofs.Common.{◌≡◌, ℕ, zero, suc, ◌+◌, ◌<◌, ◌≤◌, codes, List, [], ◌∷◌, ◌++◌, length, map, take, get_or, slice_get, Some, None, All, refl, ap, sym, ◌∙◌, subst, append_assoc, arith}
+use Rattle.std.specs.Prelude.{OnOk, Result}
 use Rattle.std.specs.List.{flat_map, filter_map}
 use Rattle.std.specs.Option.{option_map}
+use Rattle.std.specs.declared.alloc.AllocError.{AllocError}
 use Rattle.std.proofs.lemmas.List.{append-nil, take_all}
 use Rattle.std.proofs.lemmas.Option.{slice_get-get_or, slice_get-map}
+use Rattle.std.proofs.lemmas.Result.{on_ok_weaker}
 use Rattle.llvm_core.specs.declared.numbers.LLVMType.{LLVMType}
 use Rattle.llvm_core.specs.declared.numbers.LLVMFunction.{LLVMFunction}
 use Rattle.llvm_core.specs.declared.numbers.LLVMBasicBlock.{LLVMBasicBlock}
@@ -25,12 +28,12 @@ use Rattle.llvm_core.proofs.DataLemmas.{within_at, there, block_of_number, inst_
 use Rattle.llvm_core.proofs.ListLemmas.{some_same}
 use Rattle.ll_print.specs.declared.numbers.Numbers.{Numbers}
 use Rattle.ll_print.specs.declared.places.Place.TheVariants as P
-use Rattle.ll_print.specs.Printing.{ParamAt, comma_text, type_text, local_text, params_text, blocks_text, function_text}
+use Rattle.ll_print.specs.Printing.{ParamAt, comma_text, type_text, local_text, head_text, params_text, blocks_text, function_text}
 use Rattle.ll_print.specs.Numbering.{noted_at, or_number}
 use Rattle.ll_print.specs.Parts.{no_function, function_in, named_text, all_lines_of, IsOwn, IsOwnBlock, OwnsEntry, OwnsOperands, OwnsInst, OwnsBlock, IsPrinting}
 use Rattle.ll_print.proofs.PartLaws.{read, flat_map_more, function_there, all_lines}
 use Rattle.ll_print.proofs.CountLaws.{param_read}
-use Rattle.ll_print.proofs.TextLaws.{put_is}
+use Rattle.ll_print.proofs.TextLaws.{put_is, put_two, ok_two}
 use Rattle.ll_print.proofs.EdgeLaws.{entry_block, target_block}
 use Rattle.ll_print.proofs.OwnLaws.{thing_local}
 
@@ -134,28 +137,42 @@ param_put m n types place name number old now o1 o2 o3 new h typed within at num
     (put_param old now o1 o2 o3 new (comma_text place) (type_text (param_type f.type place)) (local_text f name (ParamAt place)) (params_text f 0 (take place f.params)) e1 e2
     (e3 ∙ ap (λ (t : TypeTree). o1 ++ type_text t) (sym type)) e4 (e5 ∙ ap (λ (t : List ℕ). o3 ++ t) local)) more
 
+-- all of them
+pub params_all : (f : Function) (i : ℕ) (old new : List ℕ) → length f.params ≤ i → new ≡ old ++ params_text f 0 (take i f.params) → new ≡ old ++ params_text f 0 f.params
+params_all f i old new all e = e ∙ ap (λ (ns : List (List ℕ)). old ++ params_text f 0 ns) (take_all i f.params all)
+
 -- ---- functions
 
-function_pieces : (o0 o1 o2 o3 o4 o5 o6 o7 o8 o9 define result space sigil name start more close lines end : List ℕ) → o1 ≡ o0 ++ define → o2 ≡ o1 ++ result → o3 ≡ o2 ++ (space ++ sigil) → o4 ≡ o3 ++ name → o5 ≡ o4 ++ start → o6 ≡ o5 ++ more
-    → o7 ≡ o6 ++ close → o8 ≡ o7 ++ lines → o9 ≡ o8 ++ end → o9 ≡ o0 ++ (define ++ result ++ space ++ (sigil ++ name) ++ start ++ more ++ close ++ lines ++ end)
-function_pieces o0 o1 o2 o3 o4 o5 o6 o7 o8 o9 define result space sigil name start more close lines end e1 e2 e3 e4 e5 e6 e7 e8 e9 = rw (e9, e8, e7, e6, e5, e4, e3, e2, e1) (simp append_assoc)
+head_pieces : (o0 o1 o2 o3 o4 o5 define result space sigil name start : List ℕ) → o1 ≡ o0 ++ define → o2 ≡ o1 ++ result → o3 ≡ o2 ++ (space ++ sigil) → o4 ≡ o3 ++ name → o5 ≡ o4 ++ start
+    → o5 ≡ o0 ++ (define ++ result ++ space ++ (sigil ++ name) ++ start)
+head_pieces o0 o1 o2 o3 o4 o5 define result space sigil name start e1 e2 e3 e4 e5 = rw (e5, e4, e3, e2, e1) (simp append_assoc)
+
+-- the pieces of what stands before the parameters one after the other
+pub head_put : (m : Module) (f : LLVMFunction) (returned : LLVMType) (name : List ℕ) (r : Result (Unit {0}) AllocError) (o0 o1 o2 o3 o4 o5 : List ℕ) → result_of (function_in m f).type ≡ type_at (trees_of m).types returned
+    → option_map (λ (x : FunctionData). x.name) (slice_get m.functions f.0) ≡ Some name
+    → o1 ≡ o0 ++ codes "\ndefine " → o2 ≡ o1 ++ type_text (type_at (trees_of m).types returned) → o3 ≡ o2 ++ codes " @" → o4 ≡ o3 ++ name → OnOk r (o5 ≡ o4 ++ codes "(")
+    → OnOk r (o5 ≡ o0 ++ head_text (function_in m f))
+head_put m f returned name r o0 o1 o2 o3 o4 o5 result named e1 e2 e3 e4 e5 =
+    let d = function_in m f in
+    let name_is : name ≡ d.name = sym (read (λ (x : FunctionData). x.name) m.functions f.0 no_function name named) in
+    on_ok_weaker r (head_pieces o0 o1 o2 o3 o4 o5 (codes "\ndefine ") (type_text (result_of d.type)) (codes " ") (codes "@") d.name (codes "(")
+    e1 (e2 ∙ ap (λ (t : TypeTree). o1 ++ type_text t) (sym result)) e3 (e4 ∙ ap (λ (t : List ℕ). o3 ++ t) name_is)) e5
 
 -- the pieces of a function one after the other
-pub function_put : (m : Module) (f g : LLVMFunction) (returned : LLVMType) (name : List ℕ) (blocks : List LLVMBasicBlock) (o0 o1 o2 o3 o4 o5 o6 o7 o8 o9 : List ℕ) → g ≡ f → result_of (function_in m f).type ≡ type_at (trees_of m).types returned
-    → option_map (λ (x : FunctionData). x.name) (slice_get m.functions f.0) ≡ Some name → option_map (λ (x : FunctionData). x.blocks) (slice_get m.functions f.0) ≡ Some blocks → All (λ (b : LLVMBasicBlock). b.0 < length m.blocks) blocks
-    → o1 ≡ o0 ++ codes "\ndefine " → o2 ≡ o1 ++ type_text (type_at (trees_of m).types returned) → o3 ≡ o2 ++ codes " @" → o4 ≡ o3 ++ name → o5 ≡ o4 ++ codes "("
-    → o6 ≡ o5 ++ params_text (function_in m g) 0 (function_in m g).params → o7 ≡ o6 ++ codes ") {\n" → o8 ≡ o7 ++ all_lines_of m (function_in m g) blocks → o9 ≡ o8 ++ codes "}\n"
-    → o9 ≡ o0 ++ function_text (function_in m f)
-function_put m f g returned name blocks o0 o1 o2 o3 o4 o5 o6 o7 o8 o9 same result named held within e1 e2 e3 e4 e5 e6 e7 e8 e9 =
+pub function_put : (m : Module) (f : LLVMFunction) (blocks : List LLVMBasicBlock) (r : Result (Unit {0}) AllocError) (o0 o1 o2 o3 o4 o5 : List ℕ)
+    → option_map (λ (x : FunctionData). x.blocks) (slice_get m.functions f.0) ≡ Some blocks → All (λ (b : LLVMBasicBlock). b.0 < length m.blocks) blocks
+    → o1 ≡ o0 ++ head_text (function_in m f) → o2 ≡ o1 ++ params_text (function_in m f) 0 (function_in m f).params → o3 ≡ o2 ++ codes ") {\n" → o4 ≡ o3 ++ all_lines_of m (function_in m f) blocks → OnOk r (o5 ≡ o4 ++ codes "}\n")
+    → OnOk r (o5 ≡ o0 ++ function_text (function_in m f))
+function_put m f blocks r o0 o1 o2 o3 o4 o5 held within e1 e2 e3 e4 e5 =
     let d = function_in m f in
-    let result_text = ap type_text (sym result) in
-    let name_is : name ≡ d.name = sym (read (λ (x : FunctionData). x.name) m.functions f.0 no_function name named) in
+    let more = params_text d 0 d.params in
+    let lines = blocks_text d d.blocks in
     let blocks_are : blocks ≡ (get_or m.functions f.0 no_function).blocks = sym (read (λ (x : FunctionData). x.blocks) m.functions f.0 no_function blocks held) in
-    let lines : all_lines_of m d blocks ≡ blocks_text d d.blocks = all_lines m d blocks within ∙ ap (λ (bs : List LLVMBasicBlock). blocks_text d (filter_map (block_at (trees_of m) m.blocks m.insts) bs)) blocks_are in
-    function_pieces o0 o1 o2 o3 o4 o5 o6 o7 o8 o9 (codes "\ndefine ") (type_text (result_of d.type)) (codes " ") (codes "@") d.name (codes "(") (params_text d 0 d.params) (codes ") {\n") (blocks_text d d.blocks) (codes "}\n")
-    e1 (e2 ∙ ap (λ (t : List ℕ). o1 ++ t) result_text) e3 (e4 ∙ ap (λ (t : List ℕ). o3 ++ t) name_is) e5
-    (e6 ∙ ap (λ (h : LLVMFunction). o5 ++ params_text (function_in m h) 0 (function_in m h).params) same) e7
-    (e8 ∙ ap (λ (h : LLVMFunction). o7 ++ all_lines_of m (function_in m h) blocks) same ∙ ap (λ (t : List ℕ). o7 ++ t) lines) e9
+    let lines_are : all_lines_of m d blocks ≡ lines = all_lines m d blocks within ∙ ap (λ (bs : List LLVMBasicBlock). blocks_text d (filter_map (block_at (trees_of m) m.blocks m.insts) bs)) blocks_are in
+    let two = put_two o0 o1 o2 (head_text d) more e1 e2 in
+    let three = put_two o0 o2 o3 (head_text d ++ more) (codes ") {\n") two e3 in
+    let four = put_two o0 o3 o4 (head_text d ++ more ++ codes ") {\n") lines three (e4 ∙ ap (λ (t : List ℕ). o3 ++ t) lines_are) in
+    ok_two r o0 o4 o5 (head_text d ++ more ++ codes ") {\n" ++ lines) (codes "}\n") four e5
 
 -- ---- modules
 

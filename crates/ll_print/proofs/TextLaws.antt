@@ -1,8 +1,11 @@
 -- What is printed of a part of a module is the text of that part's data.
-use Rattle.std.proofs.Common.{◌≡◌, ℕ, List, [], ◌++◌, slice_get, Some, ap, sym, ◌∙◌, subst, append_assoc}
-use Rattle.std.specs.Prelude.{OnOk, Result}
+use Rattle.std.proofs.Common.{◌≡◌, ◌<◌, ◌≤◌, ◌+◌, ℕ, List, [], ◌++◌, length, take, get_or, slice_get, Some, ap, sym, ◌∙◌, subst, append_assoc}
+use Rattle.std.specs.Prelude.{OnOk, Result, Ok, Err, if◌then◌else◌}
+use Rattle.std.specs.Result.{is_ok}
 use Rattle.std.specs.declared.alloc.AllocError.{AllocError}
+use Rattle.std.specs.List.{flat_map}
 use Rattle.std.specs.Option.{option_map}
+use Rattle.std.proofs.lemmas.List.{take_all}
 use Rattle.std.proofs.lemmas.Result.{on_ok_weaker}
 use Rattle.llvm_core.specs.declared.numbers.LLVMType.{LLVMType}
 use Rattle.llvm_core.specs.declared.numbers.LLVMConst.{LLVMConst}
@@ -17,7 +20,7 @@ use Rattle.llvm_core.specs.Data.{TypeTree, type_at, type_tree, const_at, trees_o
 use Rattle.llvm_core.proofs.DataLemmas.{type_tree_of, int_tree_of, int_const_of, placeholder_const_of}
 use Rattle.ll_print.specs.Printing.{type_text, int_text, int_of_type, const_text}
 use Rattle.ll_print.specs.Parts.{named_text}
-use Rattle.ll_print.proofs.PartLaws.{read_item}
+use Rattle.ll_print.proofs.PartLaws.{read_item, flat_map_more}
 
 -- the same text under another name
 pub put_is : (old new text same : List ℕ) → new ≡ old ++ text → same ≡ text → new ≡ old ++ same
@@ -31,6 +34,11 @@ put_two old mid new a b e f = rw (f, e) (append_assoc old a b)
 pub ok_is : (r : Result (Unit {0}) AllocError) (old new text same : List ℕ) → OnOk r (new ≡ old ++ text) → same ≡ text → OnOk r (new ≡ old ++ same)
 ok_is r old new text same h is = subst (λ (t : List ℕ). OnOk r (new ≡ old ++ t)) (sym is) h
 
+-- what a slice adds, where the call was Ok
+pub ok_extended : (r : Result (Unit {0}) AllocError) (old new more : List ℕ) → new ≡ (if is_ok r then old ++ more else old) → OnOk r (new ≡ old ++ more)
+ok_extended (Ok x) old new more e = e
+ok_extended (Err x) old new more e = tt
+
 -- two pieces, where the call that puts the second was Ok
 pub ok_two : (r : Result (Unit {0}) AllocError) (old mid new a b : List ℕ) → mid ≡ old ++ a → OnOk r (new ≡ mid ++ b) → OnOk r (new ≡ old ++ (a ++ b))
 ok_two r old mid new a b e h = on_ok_weaker r (put_two old mid new a b e) h
@@ -38,6 +46,14 @@ ok_two r old mid new a b e h = on_ok_weaker r (put_two old mid new a b e) h
 -- a local, whatever its number was called
 pub local_put : (r : Result (Unit {0}) AllocError) (old new text name : List ℕ) (k j : ℕ) → OnOk r (new ≡ old ++ named_text name k) → k ≡ j → text ≡ named_text name j → OnOk r (new ≡ old ++ text)
 local_put r old new text name k j h same is = ok_is r old new (named_text name k) text h (is ∙ ap (named_text name) (sym same))
+
+-- one item of a list further
+pub items_put : {X : Type 0} (g : X → List ℕ) (xs : List X) (i : ℕ) (d : X) (old now new : List ℕ) → i < length xs → now ≡ old ++ flat_map g (take i xs) → new ≡ now ++ g (get_or xs i d) → new ≡ old ++ flat_map g (take (i + 1) xs)
+items_put g xs i d old now new within e f = put_is old new _ _ (put_two old now new (flat_map g (take i xs)) (g (get_or xs i d)) e f) (flat_map_more g xs i d within)
+
+-- all of them
+pub items_all : {X : Type 0} (g : X → List ℕ) (xs : List X) (i : ℕ) (old new : List ℕ) → length xs ≤ i → new ≡ old ++ flat_map g (take i xs) → new ≡ old ++ flat_map g xs
+items_all {X} g xs i old new all e = e ∙ ap (λ (ys : List X). old ++ flat_map g ys) (take_all i xs all)
 
 -- the text of a type is that of its kind
 pub type_text-kind : (m : Module) (t : LLVMType) (k : LLVMTypeKind) → IsModule m → slice_get m.types t.0 ≡ Some k → type_text (type_at (trees_of m).types t) ≡ type_text (type_tree (trees_of m).types k)

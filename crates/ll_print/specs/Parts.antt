@@ -2,6 +2,7 @@
 use Rattle.std.specs.Prelude.{◌≡◌, ◌<◌, ◌≤◌, ℕ, List, [], ◌∷◌, ◌++◌, All, length, codes, slice_get, slice_index_or, Some, None, decimal}
 use Rattle.std.specs.List.{flat_map}
 use Rattle.std.specs.Option.{option_map_or}
+use Rattle.llvm_core.specs.declared.numbers.LLVMType.{LLVMType}
 use Rattle.llvm_core.specs.declared.numbers.LLVMFunction.{LLVMFunction}
 use Rattle.llvm_core.specs.declared.numbers.LLVMBasicBlock.{LLVMBasicBlock}
 use Rattle.llvm_core.specs.declared.numbers.LLVMInstRef.{LLVMInstRef}
@@ -15,8 +16,8 @@ use Rattle.llvm_core.specs.declared.code.BlockData.{BlockData}
 use Rattle.llvm_core.specs.declared.code.InstData.{InstData}
 use Rattle.llvm_core.specs.Module.{Module}
 use Rattle.llvm_core.specs.Sound.{IsModule}
-use Rattle.llvm_core.specs.Data.{Placed, Block, Function, ModuleData, trees_of, placed_at, block_at, function_of, placed_in}
-use Rattle.llvm_core.specs.Form.{HasNumber}
+use Rattle.llvm_core.specs.Data.{Placed, Block, Function, ModuleData, trees_of, type_at, param_type, placed_at, block_at, function_of, placed_in}
+use Rattle.llvm_core.specs.Form.{HasNumber, result_of}
 use Rattle.ll_tree.specs.Text.{number_limit}
 use Rattle.ll_print.specs.declared.numbers.Numbers.{Numbers}
 use Rattle.ll_print.specs.Printing.{Unnamed, unnamed_result, unnamed_block, unnamed_in, gives_text, placed_text, entry_label_text, block_text}
@@ -126,6 +127,14 @@ pub record OwnsInst (m : Module) (f : LLVMFunction) (i : LLVMInstRef) : Type 0 w
 pub record OwnsBlock (m : Module) (f : LLVMFunction) (b : LLVMBasicBlock) : Type 0 where
   pub own : IsOwnBlock m f b
   pub insts : (x : BlockData) → slice_get m.blocks b.0 ≡ Some x → All (OwnsInst m f) x.insts
+
+-- the function returns that type, and takes parameters of those types
+pub record IsSignature (m : Module) (f : LLVMFunction) (result : LLVMType) (types : List LLVMType) : Type 0 where
+  pub returned : result_of (function_in m f).type ≡ type_at (trees_of m).types result
+  pub returned_within : result.0 < length m.types
+  pub within : All (λ (t : LLVMType). t.0 < length m.types) types
+  pub all : length types ≡ length (function_in m f).params
+  pub typed : (i : ℕ) (t : LLVMType) → slice_get types i ≡ Some t → param_type (function_in m f).type i ≡ type_at (trees_of m).types t
 
 -- the function is there, and its unnamed things have their numbers
 pub record IsPrinting (m : Module) (n : Numbers) : Type 0 where

@@ -184,10 +184,14 @@ abbrev pub params_text : Function → (place : ℕ) → List Text → Text
 params_text f i [] = []
 params_text f i (n ∷ ns) = comma_text i ++ type_text (param_type f.type i) ++ codes " " ++ local_text f n (ParamAt i) ++ params_text f (suc i) ns
 
+-- what stands before the parameters of a function, after a blank line
+abbrev pub head_text : Function → Text
+head_text f = codes "\ndefine " ++ type_text (result_of f.type) ++ codes " " ++ global f.name ++ codes "("
+
 -- a function, after a blank line
 abbrev pub function_text : Function → Text
 function_text f =
-    codes "\ndefine " ++ type_text (result_of f.type) ++ codes " " ++ global f.name ++ codes "(" ++ params_text f 0 f.params ++ codes ") {\n" ++ blocks_text f f.blocks ++ codes "}\n"
+    head_text f ++ params_text f 0 f.params ++ codes ") {\n" ++ blocks_text f f.blocks ++ codes "}\n"
 
 -- the line of a module's name, none for an empty name
 abbrev pub source_text : Text → Text

@@ -22,8 +22,7 @@ fn put_int(alloc: Global, width: u32, value: u128, out: &mut Vec<u8>) -> Result<
 {
     if width == 1 {
         let word = if value == 0 { "false" } else { "true" };
-        out.extend_from_slice(word.as_bytes())?;
-        return Ok(());
+        return out.extend_from_slice(word.as_bytes());
     }
     if width > 128 {
         return put_decimal(alloc, value, out);
@@ -51,8 +50,7 @@ fn put_typed(
     let LLVMTypeKind::Int(width) = m.type_kind(ty) else {
         unreachable!();
     };
-    put_int(alloc, *width, value, out)?;
-    Ok(())
+    put_int(alloc, *width, value, out)
 }
 
 /// A constant without its type; a placeholder has no text.

@@ -5,8 +5,8 @@ ghost use Rattle.std.specs.List.{flat_map};
 ghost use Rattle.llvm_core.specs.Sound.{IsModule};
 ghost use Rattle.llvm_core.specs.Data.{trees_of, type_at, param_type};
 ghost use Rattle.llvm_core.specs.Form.{IsFormFunction, result_of};
-ghost use Rattle.ll_print.specs.Printing.{type_text, params_text, function_text};
-ghost use Rattle.ll_print.specs.Parts.{function_in, entry_lines_of, lines_of, all_lines_of, label_line, entry_label_line, OwnsBlock, IsPrinting, IsNumberable};
+ghost use Rattle.ll_print.specs.Printing.{type_text, head_text, params_text, function_text};
+ghost use Rattle.ll_print.specs.Parts.{function_in, entry_lines_of, lines_of, all_lines_of, label_line, entry_label_line, OwnsBlock, IsPrinting, IsNumberable, IsSignature};
 
 use crate::instructions::{put_comma, put_lines};
 use crate::numbering::numbers_of;
@@ -56,8 +56,7 @@ fn put_entry_block(
 {
     let number = numbers.number(Place::Block(b));
     put_entry_label(alloc, m.block_name(b), number, out)?;
-    put_lines(alloc, m, numbers, m.instructions(b), out)?;
-    Ok(())
+    put_lines(alloc, m, numbers, m.instructions(b), out)
 }
 
 /// A block behind the first, after a blank line.
@@ -75,8 +74,7 @@ fn put_block(
     let number = numbers.number(Place::Block(b));
     out.push(b'\n')?;
     put_label(alloc, m.block_name(b), number, out)?;
-    put_lines(alloc, m, numbers, m.instructions(b), out)?;
-    Ok(())
+    put_lines(alloc, m, numbers, m.instructions(b), out)
 }
 
 /// Blocks behind the first in order.
@@ -164,6 +162,50 @@ fn signature(m: &LLVMModule, f: LLVMFunction) -> (LLVMType, &[LLVMType])
     (*returned, params.as_slice())
 }
 
+/// What stands before the parameters of a function, after a blank line: what it returns, and its name.
+fn put_head(
+    alloc: Global,
+    m: &LLVMModule,
+    f: LLVMFunction,
+    returned: LLVMType,
+    out: &mut Vec<u8>,
+) -> Result<(), AllocError>
+    requires sound { IsModule m.now }
+    requires within { f.0 < length m.now.functions }
+    requires ty { returned.0 < length m.now.types }
+    requires returned { result_of (function_in m.now f).type ≡ type_at (trees_of m.now).types returned }
+    ensures { OnOk result (out.new.items ≡ out.old.items ++ head_text (function_in m.now f)) }
+{
+    out.extend_from_slice(b"\ndefine ")?;
+    put_type(alloc, m, returned, out)?;
+    out.extend_from_slice(b" @")?;
+    out.extend_from_slice(m.function_name(f).as_bytes())?;
+    out.extend_from_slice(b"(")
+}
+
+/// A function whose unnamed things have numbers.
+fn put_numbered(
+    alloc: Global,
+    m: &LLVMModule,
+    numbers: &Numbers,
+    returned: LLVMType,
+    types: &[LLVMType],
+    out: &mut Vec<u8>,
+) -> Result<(), AllocError>
+    requires printing { IsPrinting m.now numbers.now }
+    requires form { IsFormFunction (function_in m.now numbers.now.function) }
+    requires few { length types.now < 2 ^ 32 }
+    requires signature { IsSignature m.now numbers.now.function returned types.now }
+    ensures { OnOk result (out.new.items ≡ out.old.items ++ function_text (function_in m.now numbers.now.function)) }
+{
+    let f = numbers.function;
+    put_head(alloc, m, f, returned, out)?;
+    put_params(alloc, m, numbers, types, out)?;
+    out.extend_from_slice(b") {\n")?;
+    put_blocks(alloc, m, numbers, m.blocks(f), out)?;
+    out.extend_from_slice(b"}\n")
+}
+
 /// A function, after a blank line.
 pub fn put_function(
     alloc: Global,
@@ -181,15 +223,5 @@ pub fn put_function(
 {
     let (returned, types) = signature(m, f);
     let numbers = numbers_of(alloc, m, f, types.len() as u32)?;
-    out.extend_from_slice(b"\ndefine ")?;
-    put_type(alloc, m, returned, out)?;
-    out.extend_from_slice(b" @")?;
-    out.extend_from_slice(m.function_name(f).as_bytes())?;
-    out.push(b'(')?;
-    put_params(alloc, m, &numbers, types, out)?;
-    out.extend_from_slice(b") {\n")?;
-    let blocks = m.blocks(f);
-    put_blocks(alloc, m, &numbers, blocks, out)?;
-    out.extend_from_slice(b"}\n")?;
-    Ok(())
+    put_numbered(alloc, m, &numbers, returned, types, out)
 }

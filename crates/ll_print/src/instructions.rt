@@ -234,14 +234,13 @@ fn put_result(
     ensures { OnOk result (out.new.items ≡ out.old.items ++ gives_of m.now (function_in m.now numbers.now.function) i) }
 {
     match m.type_kind(ty) {
-        LLVMTypeKind::Void => {}
+        LLVMTypeKind::Void => Ok(()),
         _ => {
             let number = numbers.number(Place::Result(i));
             put_local(alloc, m.inst_name(i), number, out)?;
-            out.extend_from_slice(b" = ")?;
+            out.extend_from_slice(b" = ")
         }
     }
-    Ok(())
 }
 
 /// The line of an instruction.

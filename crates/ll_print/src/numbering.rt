@@ -35,10 +35,9 @@ fn count_inst(m: &LLVMModule, i: LLVMInstRef, numbers: &mut Numbers) -> Result<(
     ensures { OnOk result (Counts numbers.old numbers.new (unnamed_at m.now i)) }
 {
     match m.type_kind(m.type_of(LLVMValue::Inst(i))) {
-        LLVMTypeKind::Void => {}
-        _ => numbers.count_unnamed(Place::Result(i), m.inst_name(i))?,
+        LLVMTypeKind::Void => Ok(()),
+        _ => numbers.count_unnamed(Place::Result(i), m.inst_name(i)),
     }
-    Ok(())
 }
 
 /// Counts the results of instructions.
@@ -64,8 +63,7 @@ fn count_block(m: &LLVMModule, b: LLVMBasicBlock, numbers: &mut Numbers) -> Resu
     ensures { OnOk result (Counts numbers.old numbers.new (unnamed_of m.now b)) }
 {
     numbers.count_unnamed(Place::Block(b), m.block_name(b))?;
-    count_insts(m, m.instructions(b), numbers)?;
-    Ok(())
+    count_insts(m, m.instructions(b), numbers)
 }
 
 /// Counts blocks and their results.

@@ -67,15 +67,11 @@ impl Numbers {
         ensures count { OnOk result (self.new.count ≡ self.old.count + 1) }
         ensures places { OnOk result ((q : Place) → noted_at self.new q ≡ or_else (noted_at self.old q) (if same_place place q then Some self.old.count else None)) }
     {
+        let Some(next) = self.count.checked_add(1) else {
+            return Err(AllocError);
+        };
         note(&mut self.places, place, self.count)?;
-        self.count_one()?;
-        Ok(())
-    }
-
-    fn count_one(&mut self) -> Result<(), AllocError>
-        ensures { OnOk result (self.new ≡ record self.old { count = self.old.count + 1 }) }
-    {
-        self.count = self.count.checked_add(1).ok_or(AllocError)?;
+        self.count = next;
         Ok(())
     }
 }

@@ -19,11 +19,10 @@ pub fn put_bare(alloc: Global, name: &str, number: u32, out: &mut Vec<u8>) -> Re
     ensures { OnOk result (out.new.items ≡ out.old.items ++ bare_text name.now number) }
 {
     if name.is_empty() {
-        put_decimal(alloc, u128::from(number), out)?;
+        put_decimal(alloc, u128::from(number), out)
     } else {
-        out.extend_from_slice(name.as_bytes())?;
+        out.extend_from_slice(name.as_bytes())
     }
-    Ok(())
 }
 
 /// `%` and the name, or the number of what has none.
@@ -78,8 +77,7 @@ pub fn put_value(
 {
     put_type(alloc, m, m.type_of(value), out)?;
     out.push(b' ')?;
-    put_operand(alloc, m, numbers, value, out)?;
-    Ok(())
+    put_operand(alloc, m, numbers, value, out)
 }
 
 /// `%` and the name or the number of a block.

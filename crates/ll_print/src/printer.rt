@@ -54,6 +54,5 @@ pub fn print_ll(alloc: Global, module: &LLVMModule, out: &mut Vec<u8>) -> Result
     ensures lines { OnOk result («module».now.name ≢ [] → EndsLine (module_text (data_of «module».now))) }
 {
     let text = text_of(alloc, module)?;
-    out.extend_from_slice(text.as_slice())?;
-    Ok(())
+    out.extend_from_slice(text.as_slice())
 }

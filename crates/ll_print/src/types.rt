@@ -30,12 +30,11 @@ pub fn put_type(
     ensures { OnOk result (out.new.items ≡ out.old.items ++ type_text (type_at (trees_of m.now).types ty)) }
 {
     match m.type_kind(ty) {
-        LLVMTypeKind::Void => out.extend_from_slice(b"void")?,
+        LLVMTypeKind::Void => out.extend_from_slice(b"void"),
         LLVMTypeKind::Int(width) => {
             out.push(b'i')?;
-            put_decimal(alloc, u128::from(*width), out)?;
+            put_decimal(alloc, u128::from(*width), out)
         }
-        LLVMTypeKind::Function { .. } => {}
+        LLVMTypeKind::Function { .. } => Ok(()),
     }
-    Ok(())
 }

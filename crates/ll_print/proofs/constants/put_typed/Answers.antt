@@ -1,6 +1,6 @@
 -- A value prints the text of its width.
-use Rattle.ll_print.proofs.TextLaws.{put_is, int_text-width}
+use Rattle.ll_print.proofs.TextLaws.{ok_is, int_text-width}
 use Rattle.ll_print.proofs.constants.put_typed.Goals as goal
 
 pub returns : goal.returns
-returns c = put_is _ _ _ _ c.in_ok-put_int.ensures (int_text-width c.args.m.now c.args.ty _ c.args.value c.requires.sound (rw c.in-Int.is at c.type_kind.ensures.kind))
+returns c = ok_is _ _ _ _ _ c.put_int.ensures (int_text-width c.args.m.now c.args.ty _ c.args.value c.requires.sound (rw c.in-Int.is at c.type_kind.ensures.kind))

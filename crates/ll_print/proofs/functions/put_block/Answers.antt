@@ -1,8 +1,10 @@
 -- A block prints a blank line, its label and its lines.
+use Rattle.std.proofs.lemmas.Result.{on_ok_weaker}
 use Rattle.ll_print.proofs.OwnLaws.{block_put}
 use Rattle.ll_print.proofs.functions.put_block.Goals as goal
 
 pub returns : goal.returns
 returns c =
-    block_put c.args.m.now c.args.numbers.now c.args.b c.block_name.result.now c.number-number.result c.instructions.result.now c.args.out.now.items _ _ _ c.requires.printing c.requires.own.own c.block_name.ensures c.instructions.ensures.insts
-    c.number-number.ensures c.in_ok-push.ensures.items c.in_ok-put_label.ensures c.in_ok-put_lines.ensures
+    on_ok_weaker c.put_lines.result
+    (block_put c.args.m.now c.args.numbers.now c.args.b c.block_name.result.now c.number-number.result c.instructions.result.now c.args.out.now.items _ _ c.put_lines.new.out.items c.requires.printing c.requires.own.own c.block_name.ensures
+    c.instructions.ensures.insts c.number-number.ensures c.in_ok-push.ensures.items c.in_ok-put_label.ensures) c.put_lines.ensures

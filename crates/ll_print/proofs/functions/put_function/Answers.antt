@@ -1,17 +1,20 @@
--- A function prints its parts in order.
-use Rattle.std.proofs.Common.{All, subst, sym}
+-- What holds of a function holds of the function that the numbers are of.
+use Rattle.std.proofs.Common.{subst, sym, ◌≡◌, List, ◌++◌}
+use Rattle.std.specs.Prelude.{OnOk}
 use Rattle.llvm_core.specs.declared.numbers.LLVMFunction.{LLVMFunction}
-use Rattle.ll_print.specs.Parts.{OwnsBlock}
-use Rattle.ll_print.proofs.FormLaws.{own_blocks, function_put}
+use Rattle.llvm_core.specs.Form.{IsFormFunction}
+use Rattle.ll_print.specs.Parts.{function_in, IsSignature}
+use Rattle.ll_print.specs.Printing.{function_text}
 use Rattle.ll_print.proofs.functions.put_function.Goals as goal
 
-pub put_blocks-requires-clause-own : goal.put_blocks-requires-clause-own
-put_blocks-requires-clause-own c =
-    subst (λ (f : LLVMFunction). All (OwnsBlock c.args.m.now f) c.blocks-blocks.result.now) (sym c.in_ok-numbers.ensures.function)
-    (own_blocks c.args.m.now c.args.f c.blocks-blocks.result.now c.requires.sound c.requires.within c.requires.form c.blocks-blocks.ensures.blocks c.blocks-blocks.ensures.within)
+pub put_numbered-requires-clause-form : goal.put_numbered-requires-clause-form
+put_numbered-requires-clause-form c = subst (λ (f : LLVMFunction). IsFormFunction (function_in c.args.m.now f)) (sym c.in_ok-numbers.ensures.function) c.requires.form
+
+pub put_numbered-requires-clause-signature : goal.put_numbered-requires-clause-signature
+put_numbered-requires-clause-signature c =
+    let s = c.signature.ensures in
+    subst (λ (f : LLVMFunction). IsSignature c.args.m.now f c.signature.result.0 c.signature.result.1.now) (sym c.in_ok-numbers.ensures.function)
+    (record { returned = s.returned; returned_within = s.returned_within; within = s.within; all = s.all; typed = s.typed })
 
 pub returns-clause-text : goal.returns-clause-text
-returns-clause-text c =
-    function_put c.args.m.now c.args.f c.in_ok-numbers.numbers.function c.signature.result.0 c.function_name.result.now c.blocks-blocks.result.now c.args.out.now.items _ _ _ _ _ _ _ _ _ c.in_ok-numbers.ensures.function c.signature.ensures.returned c.function_name.ensures c.blocks-blocks.ensures.blocks c.blocks-blocks.ensures.within
-    c.in_ok-extend_from_slice.ensures.items c.in_ok-put_type.ensures c.in_ok-extend_from_slice-2.ensures.items (rw c.as_bytes.ensures.value at c.in_ok-extend_from_slice-3.ensures.items) c.in_ok-push.ensures.items
-    c.in_ok-put_params.ensures c.in_ok-extend_from_slice-4.ensures.items c.in_ok-put_blocks.ensures c.in_ok-extend_from_slice-5.ensures.items
+returns-clause-text c = subst (λ (f : LLVMFunction). OnOk c.put_numbered.result (c.put_numbered.new.out.items ≡ c.args.out.now.items ++ function_text (function_in c.args.m.now f))) c.in_ok-numbers.ensures.function c.put_numbered.ensures
