@@ -1,6 +1,7 @@
 -- What `definitions::define_blocks` owes besides what the check finds.
-use Rattle.std.proofs.Common.{[], ◌∷◌}
+use Rattle.std.proofs.Common.{ℕ, [], ◌∷◌, ap, ◌∙◌}
 use Rattle.ll_tree.specs.TreeView.{function_view}
+use Rattle.ll_text.specs.Numbered.{behind_all}
 use Rattle.ll_text.proofs.NumberedLaws.{entry_takes, entry_refused, more_refused}
 use Rattle.ll_text.proofs.DefiningLaws.{blocks_after, appended_entry}
 use Rattle.ll_text.proofs.RefusalLaws.{passed_on}
@@ -41,3 +42,13 @@ returns-in_err-end-clause-not_yet c = λ e.
 
 pub returns-clause-sound : goal.returns-clause-sound
 returns-clause-sound c = let a = c.in_ok-end.ensures.adds in a.sound c.in_ok-first.ensures.sound
+
+pub returns-clause-number : goal.returns-clause-number
+returns-clause-number c = c.in_ok-first.ensures.number
+
+pub returns-clause-behind : goal.returns-clause-behind
+returns-clause-behind c =
+    let f = function_view c.args.function.now in
+    let v = c.as_slice.ensures.value in
+    let end = rw v at c.in_ok-end.ensures.behind in
+    end ∙ ap (λ (n : ℕ). behind_all n f.more) c.in_ok-first.ensures.behind

@@ -1,6 +1,9 @@
 -- What `instructions::build_blocks` owes besides what the check finds.
+use Rattle.std.proofs.Common.{ℕ, ap, ◌∙◌, arith}
+use Rattle.std.proofs.lemmas.List.{length-map}
 use Rattle.std.proofs.lemmas.Result.{on_ok_weaker}
-use Rattle.ll_tree.specs.TreeView.{function_view}
+use Rattle.ll_tree.specs.TreeView.{block_view, function_view}
+use Rattle.ll_text.specs.Numbered.{behind_all}
 use Rattle.ll_text.specs.Opening.{open_inst, open_terminator}
 use Rattle.ll_text.proofs.ModuleLaws.{keeps_then, ready_kept}
 use Rattle.ll_text.proofs.InstructionLaws.{on_ok_both}
@@ -42,3 +45,19 @@ returns-clause-not_yet c = λ e s knows.
     let v = c.as_slice.ensures.value in
     let none = rw v at (c.build_more.ensures.not_yet e s knows) in
     more_unplaced (open_inst s) (open_terminator s) _ _ f.entry f.more c.in_ok-build_block.ensures.count none
+
+pub build_more-requires-clause-blocks : goal.build_more-requires-clause-blocks
+build_more-requires-clause-blocks c =
+    let v = c.as_slice.ensures.value in
+    let many = length-map c.args.function.now.more.items block_view in
+    let k = c.in_ok-build_block.ensures.keeps in
+    let same = k.blocks in
+    let next = c.in_ok-next_number.ensures.next in
+    rw v (omega (arith, same, next, many, c.requires.blocks))
+
+pub returns-clause-count : goal.returns-clause-count
+returns-clause-count c = on_ok_weaker c.build_more.result (λ count.
+    let f = function_view c.args.function.now in
+    let v = c.as_slice.ensures.value in
+    let more = rw v at count in
+    more ∙ ap (λ (n : ℕ). behind_all n f.more) c.in_ok-build_block.ensures.count) c.build_more.ensures.count

@@ -1,10 +1,10 @@
 -- What `instructions::build_end` owes besides what the check finds.
-use Rattle.std.proofs.Common.{ℕ, length, ap, ◌∙◌, ◌<◌, sym, subst, refl}
+use Rattle.std.proofs.Common.{ℕ, ◌+◌, length, ap, ◌∙◌, ◌<◌, sym, subst, refl}
 use Rattle.llvm_core.specs.Module.{Module}
 use Rattle.ll_tree.specs.TreeView.{terminator_view}
 use Rattle.ll_text.specs.Building.{HasEndSlots}
 use Rattle.ll_text.proofs.ModuleLaws.{interns_keep, keeps_then}
-use Rattle.ll_text.proofs.BuildLaws.{build_keeps, end_built, end_added}
+use Rattle.ll_text.proofs.BuildLaws.{build_keeps, build_count, end_built, end_added}
 use Rattle.ll_text.proofs.RefusalLaws.{passed_on, no_memory}
 use Rattle.ll_text.proofs.instructions.build_end.Goals as goal
 
@@ -47,3 +47,9 @@ returns-in_err-made-clause-not_yet c = λ e.
 
 pub returns-in_err-build-clause-not_yet : goal.returns-in_err-build-clause-not_yet
 returns-in_err-build-clause-not_yet c = λ e. let f = c.from_residual-in_err-build in absurd (no_memory f.result f.ensures.1 e)
+
+pub returns-clause-count : goal.returns-clause-count
+returns-clause-count c =
+    let e = c.in_ok-build.ensures in
+    let same = ap (λ (x : Module). length x.insts) c.in_ok-made.ensures.rest.rest in
+    build_count c.make_end.new.draft c.build.new.self c.args.block c.in_ok-build.field-0 _ c.in_ok-made.made (record { ty = e.ok.0; result = e.ok.1; is = e.ok.2; sound = e.sound }) ∙ ap (λ (n : ℕ). n + 1) same
