@@ -43,6 +43,10 @@ ok_extended (Err x) old new more e = tt
 pub ok_two : (r : Result (Unit {0}) AllocError) (old mid new a b : List ℕ) → mid ≡ old ++ a → OnOk r (new ≡ mid ++ b) → OnOk r (new ≡ old ++ (a ++ b))
 ok_two r old mid new a b e h = on_ok_weaker r (put_two old mid new a b e) h
 
+-- three pieces behind one, where the call that puts them was Ok
+pub ok_four : (r : Result (Unit {0}) AllocError) (old mid new a b c d : List ℕ) → mid ≡ old ++ a → OnOk r (new ≡ mid ++ (b ++ c ++ d)) → OnOk r (new ≡ old ++ (a ++ b ++ c ++ d))
+ok_four r old mid new a b c d e h = on_ok_weaker r (λ (f : new ≡ mid ++ (b ++ c ++ d)). rw (f, e) (simp append_assoc)) h
+
 -- a local, whatever its number was called
 pub local_put : (r : Result (Unit {0}) AllocError) (old new text name : List ℕ) (k j : ℕ) → OnOk r (new ≡ old ++ named_text name k) → k ≡ j → text ≡ named_text name j → OnOk r (new ≡ old ++ text)
 local_put r old new text name k j h same is = ok_is r old new (named_text name k) text h (is ∙ ap (named_text name) (sym same))
