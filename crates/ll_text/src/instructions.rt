@@ -2,7 +2,7 @@
 
 ghost use Rattle.std.specs.Prelude.{◌≡◌, ◌+◌, ◌<◌, ◌≤◌, ◌⊎◌, false, None, Err, IfOk, OnOk, length, map};
 ghost use Rattle.llvm_core.specs.Names.{is_plain};
-ghost use Rattle.ll_tree.specs.Tree.{blocks_of, CondBr};
+ghost use Rattle.ll_tree.specs.Tree.{blocks_of};
 ghost use Rattle.ll_text.specs.Meaning as meaning;
 ghost use Rattle.ll_text.specs.Meaning.{value_of};
 ghost use Rattle.ll_text.specs.ScopeView.{Knows, Refuses};
@@ -104,30 +104,6 @@ fn make_inst<'a>(
     }
 }
 
-/// A branch on a condition, with a placeholder where that is a result.
-fn make_cond_br<'a>(
-    draft: &mut LLVMModule,
-    scope: &Scope<'a>,
-    ty: Token<'a>,
-    condition: Token<'a>,
-    first: Token<'a>,
-    second: Token<'a>,
-) -> Result<LLVMInst, ReadErr>
-    requires ready { IsReady false draft.old scope.now }
-    ensures made { IfOk result (λ x. IsMadeEnd (CondBr (text_of ty.entry) (text_of condition.entry) (text_of first.entry) (text_of second.entry)) draft.new x) }
-    ensures says { IfOk result (λ x. (s : meaning.Scope) → Knows scope.now s → SaysEnd s (CondBr (text_of ty.entry) (text_of condition.entry) (text_of first.entry) (text_of second.entry)) draft.new x) }
-    ensures rest { OnOk result (OnlyInterns draft.old draft.new) }
-    ensures not_yet { result ≡ Err ReadErr.NotYet → Refuses scope.now (λ s. open_terminator s (CondBr (text_of ty.entry) (text_of condition.entry) (text_of first.entry) (text_of second.entry))) }
-{
-    let Some(width) = bit_width(ty.text) else {
-        return Err(ReadErr::NotYet);
-    };
-    let condition = open_operand(draft, scope, width, condition)?;
-    let first = target(scope, first)?;
-    let second = target(scope, second)?;
-    Ok(LLVMInst::CondBr(condition, first, second))
-}
-
 /// The terminator that a text says, with a placeholder where its operand is a result.
 fn make_end<'a>(
     draft: &mut LLVMModule,
@@ -155,7 +131,15 @@ fn make_end<'a>(
             condition,
             first,
             second,
-        } => make_cond_br(draft, scope, *ty, *condition, *first, *second),
+        } => {
+            let Some(width) = bit_width(ty.text) else {
+                return Err(ReadErr::NotYet);
+            };
+            let condition = open_operand(draft, scope, width, *condition)?;
+            let first = target(scope, *first)?;
+            let second = target(scope, *second)?;
+            Ok(LLVMInst::CondBr(condition, first, second))
+        }
         Terminator::Unreachable => Ok(LLVMInst::Unreachable),
     }
 }

@@ -1,7 +1,7 @@
 -- What `instructions::make_end` owes besides what the check finds.
 use Rattle.ll_tree.specs.TokenView.{text_of}
-use Rattle.ll_text.proofs.ModuleLaws.{none_interned}
-use Rattle.ll_text.proofs.InstructionLaws.{void_says, return_says, return_untyped, return_unvalued, br_made, br_says, br_untargeted, unreachable_says}
+use Rattle.ll_text.proofs.ModuleLaws.{none_interned, interns_keep, ready_kept, target_stands}
+use Rattle.ll_text.proofs.InstructionLaws.{void_says, return_says, return_untyped, return_unvalued, br_made, br_says, br_untargeted, cond_made, cond_says, cond_untyped, cond_unvalued, cond_first, cond_second, unreachable_says}
 use Rattle.ll_text.proofs.RefusalLaws.{passed_on}
 use Rattle.ll_text.proofs.instructions.make_end.Goals as goal
 
@@ -21,6 +21,30 @@ returns-in_err-target-in-Br-clause-not_yet c = λ e s knows.
     let x = c.in_err-target-in-Br in
     let f = c.from_residual-in_err-target-in-Br in
     rw c.in-Br.is (br_untargeted s (text_of i.block) (x.ensures.not_yet (passed_on f.result x.field-0.0 f.ensures.1 e) s knows))
+
+pub returns-in_default-bit_width-clause-not_yet : goal.returns-in_default-bit_width-clause-not_yet
+returns-in_default-bit_width-clause-not_yet c = λ e s knows. let i = c.in-CondBr in rw c.in-CondBr.is (cond_untyped s (text_of i.ty) (text_of i.condition) (text_of i.first) (text_of i.second) c.in_default-bit_width.ensures.none)
+
+pub returns-in_err-condition-in-CondBr-clause-not_yet : goal.returns-in_err-condition-in-CondBr-clause-not_yet
+returns-in_err-condition-in-CondBr-clause-not_yet c = λ e s knows.
+    let i = c.in-CondBr in
+    let x = c.in_err-condition-in-CondBr in
+    let f = c.from_residual-in_err-condition-in-CondBr in
+    rw c.in-CondBr.is (cond_unvalued s (text_of i.ty) (text_of i.condition) (text_of i.first) (text_of i.second) c.in-Some-bit_width.width c.in-Some-bit_width.ensures.width (x.ensures.not_yet (passed_on f.result x.field-0.0 f.ensures.1 e) s knows))
+
+pub returns-in_err-first-in-CondBr-clause-not_yet : goal.returns-in_err-first-in-CondBr-clause-not_yet
+returns-in_err-first-in-CondBr-clause-not_yet c = λ e s knows.
+    let i = c.in-CondBr in
+    let x = c.in_err-first-in-CondBr in
+    let f = c.from_residual-in_err-first-in-CondBr in
+    rw c.in-CondBr.is (cond_first s (text_of i.ty) (text_of i.condition) (text_of i.first) (text_of i.second) (x.ensures.not_yet (passed_on f.result x.field-0.0 f.ensures.1 e) s knows))
+
+pub returns-in_err-second-in-CondBr-clause-not_yet : goal.returns-in_err-second-in-CondBr-clause-not_yet
+returns-in_err-second-in-CondBr-clause-not_yet c = λ e s knows.
+    let i = c.in-CondBr in
+    let x = c.in_err-second-in-CondBr in
+    let f = c.from_residual-in_err-second-in-CondBr in
+    rw c.in-CondBr.is (cond_second s (text_of i.ty) (text_of i.condition) (text_of i.first) (text_of i.second) (x.ensures.not_yet (passed_on f.result x.field-0.0 f.ensures.1 e) s knows))
 
 pub returns-in-ReturnVoid-clause-says : goal.returns-in-ReturnVoid-clause-says
 returns-in-ReturnVoid-clause-says c = λ s knows. rw c.in-ReturnVoid.is (void_says s c.args.draft.now)
@@ -47,14 +71,23 @@ returns-in_ok-target-in-Br-clause-says c = λ s knows.
 pub returns-in_ok-target-in-Br-clause-rest : goal.returns-in_ok-target-in-Br-clause-rest
 returns-in_ok-target-in-Br-clause-rest c = none_interned c.args.draft.now
 
-pub returns-in-CondBr-clause-made : goal.returns-in-CondBr-clause-made
-returns-in-CondBr-clause-made c = rw c.in-CondBr.is c.make_cond_br.ensures.made
+pub returns-in_ok-second-in-CondBr-clause-made : goal.returns-in_ok-second-in-CondBr-clause-made
+returns-in_ok-second-in-CondBr-clause-made c =
+    let i = c.in-CondBr in
+    let e = c.in_ok-condition-in-CondBr.ensures in
+    let r = c.requires.ready in
+    let m = c.open_operand-in-CondBr.new.draft in
+    let ready = ready_kept _ c.args.draft.now m c.args.scope.now (interns_keep c.args.draft.now m e.rest r.sound) r in
+    rw c.in-CondBr.is (cond_made (text_of i.ty) (text_of i.condition) (text_of i.first) (text_of i.second) c.in-Some-bit_width.width m c.in_ok-condition-in-CondBr.condition c.in_ok-first-in-CondBr.first c.in_ok-second-in-CondBr.second
+    c.in-Some-bit_width.ensures.one e.stands (target_stands _ m c.args.scope.now (text_of i.first) _ ready c.in_ok-first-in-CondBr.ensures.block) (target_stands _ m c.args.scope.now (text_of i.second) _ ready c.in_ok-second-in-CondBr.ensures.block))
 
-pub returns-in-CondBr-clause-says : goal.returns-in-CondBr-clause-says
-returns-in-CondBr-clause-says c = rw c.in-CondBr.is c.make_cond_br.ensures.says
-
-pub returns-in-CondBr-clause-not_yet : goal.returns-in-CondBr-clause-not_yet
-returns-in-CondBr-clause-not_yet c = rw c.in-CondBr.is c.make_cond_br.ensures.not_yet
+pub returns-in_ok-second-in-CondBr-clause-says : goal.returns-in_ok-second-in-CondBr-clause-says
+returns-in_ok-second-in-CondBr-clause-says c = λ s knows.
+    let i = c.in-CondBr in
+    let a = c.in_ok-first-in-CondBr.ensures.block in
+    let b = c.in_ok-second-in-CondBr.ensures.block in
+    rw c.in-CondBr.is (cond_says s (text_of i.ty) (text_of i.condition) (text_of i.first) (text_of i.second) c.in-Some-bit_width.width c.open_operand-in-CondBr.new.draft c.in_ok-condition-in-CondBr.condition c.in_ok-first-in-CondBr.first c.in_ok-second-in-CondBr.second
+    c.in-Some-bit_width.ensures.width (c.in_ok-condition-in-CondBr.ensures.value s knows) (a.says s knows) (b.says s knows))
 
 pub returns-in-Unreachable-clause-says : goal.returns-in-Unreachable-clause-says
 returns-in-Unreachable-clause-says c = λ s knows. rw c.in-Unreachable.is (unreachable_says s c.args.draft.now)
