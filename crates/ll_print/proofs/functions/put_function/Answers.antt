@@ -1,5 +1,5 @@
 -- What holds of a function holds of the function that the numbers are of.
-use Rattle.std.proofs.Common.{subst, sym, ◌≡◌, List, ◌++◌}
+use Rattle.std.proofs.Common.{subst, sym, ◌≡◌, ◌++◌}
 use Rattle.std.specs.Prelude.{OnOk}
 use Rattle.llvm_core.specs.declared.numbers.LLVMFunction.{LLVMFunction}
 use Rattle.llvm_core.specs.Form.{IsFormFunction}
