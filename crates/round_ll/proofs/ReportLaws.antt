@@ -1,5 +1,5 @@
 -- The names that the report shows, and what of it stands where memory was wanting.
-use Rattle.std.proofs.Common.{ℕ, suc, ◌≡◌, ◌<◌, refl, sym, ◌∙◌, ap, subst, List, [], ◌∷◌, ◌++◌, Option, Some, None, Result, Ok, Err, OnErr, length, slice_get, get_or, take, drop, append_assoc, take-append-drop, drop-cons, arith}
+use Rattle.std.proofs.Common.{ℕ, suc, ◌≡◌, ◌<◌, refl, sym, ◌∙◌, ap, subst, List, ◌++◌, Option, Some, None, Result, Ok, Err, OnErr, length, slice_get, get_or, take, drop, append_assoc, take-append-drop, drop-cons, arith}
 use Rattle.std.specs.List.{flat_map}
 use Rattle.std.proofs.lemmas.List.Concat.{flat_map-cons}
 use Rattle.std.proofs.lemmas.Grind.{flat_map-append}

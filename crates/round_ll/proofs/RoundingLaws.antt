@@ -1,11 +1,11 @@
 -- From what the halves made to what `round` promises.
-use Rattle.std.proofs.Common.{ℕ, zero, suc, ◌≡◌, ◌≢◌, ◌<◌, sym, ◌∙◌, ap, subst, List, [], ◌∷◌, map, Some, slice_get, length, refl, All}
+use Rattle.std.proofs.Common.{ℕ, suc, ◌≡◌, ◌≢◌, ◌<◌, sym, ◌∙◌, subst, List, [], ◌∷◌, Some, slice_get, length, refl}
 use Rattle.std.proofs.lemmas.List.Elements.{All-nil, All-cons}
 use Rattle.llvm_core.specs.Module.{Module}
 use Rattle.llvm_core.specs.Sound.{IsModule}
 use Rattle.llvm_core.specs.Names.{IsPlainOrNone}
 use Rattle.llvm_core.specs.Checked.{IsChecked}
-use Rattle.llvm_core.specs.Form.{IsForm, HasDistinctNames, HasFew}
+use Rattle.llvm_core.specs.Form.{IsForm}
 use Rattle.llvm_core.specs.Data as L
 use Rattle.llvm_core.specs.Data.{ModuleData, data_of}
 use Rattle.llvm_core.proofs.DistinctLaws.{distinct_of_checked, few_of_checked}
@@ -16,7 +16,7 @@ use Rattle.ll_text.specs.Spelling.{Spells, IsNumbered, IsReadable}
 use Rattle.ll_text.proofs.MeaningLaws.{plain_bare}
 use Rattle.ll_print.specs.Printing.{IsBareOrNone}
 use Rattle.from_llvm_ir.specs.declared.matching.FunctionBlocks.{FunctionBlocks}
-use Rattle.from_llvm_ir.specs.Imported.{ImportedFunction, AreImported, NoneImported, ThenImported}
+use Rattle.from_llvm_ir.specs.Imported.{AreImported, NoneImported, ThenImported}
 use Rattle.transfer.specs.declared.transferred.Transferred.{Transferred}
 use Rattle.transfer.specs.Same.{SameThroughout, IsCause, back_of, dialect_of}
 use Rattle.transfer.specs.declared.transfer_err.TransferErr.{TransferErr}

@@ -1,5 +1,5 @@
 -- A line of which a front was written.
-use Rattle.std.proofs.Common.{subst, sym}
+use Rattle.std.proofs.Common.{subst}
 use Rattle.llvm_core.specs.Data.{data_of}
 use Rattle.from_llvm_ir.specs.declared.matching.FunctionBlocks.{FunctionBlocks}
 use Rattle.round_ll.specs.Report.{blocks_line, HoldsFront}
