@@ -230,6 +230,18 @@ pub read_at : {R X : Type 0} {Q : R → Type 0} (now : R → X) (xs : List X) (i
 read_at now xs i None here there within = sym (slice_get_past xs i there)
 read_at now xs i (Some x) here there within = ap Some here ∙ sym (slice_get-get_or xs i (now x) (within x there))
 
+-- what holds of each holds of the one at a place, where there is one
+pub all_at : {X : Type 0} (P : X → Type 0) (xs : List X) (i : ℕ) → All P xs → IfSome (slice_get xs i) P
+all_at P xs i h = by (slice_get xs i) refl
+  where
+    by : (o : Option _) → slice_get xs i ≡ o → IfSome o P
+    by None at = tt
+    by (Some x) at = subst P (get_or_from_slice_get xs i x x at) (h i x (slice_get_within xs i x at))
+
+-- a value that an edge passes, where all it passes is as wanted
+pub pass_wanted : {X : Type 0} (types : Typing) (f : X → TypeTree) (ts : List X) (vs : List Value) (i : ℕ) (wanted : Option X) (x : Value) → PassesEach types (map f ts) vs → slice_get vs i ≡ Some x → wanted ≡ slice_get ts i → Passes types (option_map f wanted) x
+pass_wanted types f ts vs i wanted x all here is = subst (λ (o : Option TypeTree). Passes types o x) (slice_get-map f ts i ∙ ap (option_map f) (sym is)) (all i x here)
+
 -- what an edge passes so far, and one value more
 pub pass_more : {X : Type 0} (types : Typing) (f : X → TypeTree) (ts : List X) (vs : List Value) (i : ℕ) (wanted : Option X) (x : Value) → ((k : ℕ) (v : Value) → k < i → slice_get vs k ≡ Some v → Passes types (slice_get (map f ts) k) v) → slice_get vs i ≡ Some x → wanted ≡ slice_get ts i → Passes types (option_map f wanted) x
     → (k : ℕ) (v : Value) → k < i + 1 → slice_get vs k ≡ Some v → Passes types (slice_get (map f ts) k) v

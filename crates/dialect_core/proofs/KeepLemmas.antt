@@ -5,11 +5,6 @@ use Rattle.std.proofs.lemmas.List.{append-nil}
 use Rattle.dialect_types.specs.Text.{Keeps}
 use Rattle.dialect_types.proofs.TextLemmas.{keeps_then, keeps_extended}
 
--- what holds where a call succeeded gives what is promised there
-pub on_ok : {X E P Q : Type 0} (r : Result X E) → OnOk r P → (P → Q) → OnOk r Q
-on_ok (Ok x) h f = f h
-on_ok (Err e) h f = tt
-
 -- bytes were appended
 pub kept_appended : (a x b : List ℕ) → b ≡ a ++ x → Keeps a b
 kept_appended a x b e = record { rest = x; is = e }

@@ -3,6 +3,7 @@ use Rattle.std.proofs.Common.{◌≡◌, ◌<◌, ◌≤◌, ◌+◌, ℕ, List,
 use Rattle.std.specs.Prelude.{codes}
 use Rattle.std.specs.List.{flat_map}
 use Rattle.std.proofs.lemmas.List.{append-nil, take_all}
+use Rattle.std.proofs.lemmas.Option.{same_Some}
 use Rattle.std.specs.Option.{option_map}
 use Rattle.dialect_types.specs.Trees.{TypeTree, type_at}
 use Rattle.dialect_core.specs.declared.numbers.OpRef.{OpRef}
@@ -43,10 +44,6 @@ printed_all f xs i before after all h = h.printed ∙ ap (λ (ys : List _). befo
 pub between : (start opened inner end a b c : List ℕ) → opened ≡ start ++ a → inner ≡ opened ++ b → end ≡ inner ++ c → end ≡ start ++ ((a ++ b) ++ c)
 between start opened inner end a b c e1 e2 e3 = two_texts start inner end (a ++ b) c (two_texts start opened inner a b e1 e2) e3
 
--- a head without immediates, and a tail
-pub bare : (start head end a b : List ℕ) → head ≡ start ++ a → end ≡ head ++ b → end ≡ start ++ ((a ++ []) ++ b)
-bare start head end a b e1 e2 = two_texts start head end a b e1 e2 ∙ ap (λ (x : List ℕ). start ++ (x ++ b)) (sym (append-nil a))
-
 -- ---- operations
 
 module _ (values : Value → Option ℕ) (blocks : BlockRef → Option ℕ) where
@@ -54,28 +51,30 @@ module _ (values : Value → Option ℕ) (blocks : BlockRef → Option ℕ) wher
   head_same f n name None word operands successors = refl
   head_same f n name (Some t) word operands successors = refl
 
-  -- an operation of a kind without immediates
-  pub without_immediates : (ts : List TypeTree) (o : OpRef) (x : OpData) (k : Kind) (word start end : List ℕ)
-      → kind_of ts x.kind ≡ Some k → immediates_text k ≡ [] → kind_word k ≡ word
-      → end ≡ (start ++ head_text values blocks o.0 x.name x.result word x.operands x.successors) ++ tail_text (option_map (type_at ts) x.result)
+  -- an operation of a kind that has a word
+  pub op_printed : (ts : List TypeTree) (o : OpRef) (x : OpData) (word start head middle end : List ℕ)
+      → Some word ≡ option_map kind_word (kind_of ts x.kind)
+      → head ≡ start ++ head_text values blocks o.0 x.name x.result word x.operands x.successors
+      → middle ≡ head ++ option_text immediates_text (kind_of ts x.kind) → end ≡ middle ++ tail_text (option_map (type_at ts) x.result)
       → end ≡ start ++ option_text (op_text values blocks) (op_of ts o x)
-  without_immediates ts o x k word start end is none named e =
-      let H = head_text values blocks o.0 x.name (option_map (type_at ts) x.result) word x.operands x.successors in
-      let T = tail_text (option_map (type_at ts) x.result) in
-      let same = head_same (type_at ts) o.0 x.name x.result word x.operands x.successors in
-      let flat : end ≡ (start ++ H) ++ T = e ∙ ap (λ (h : List ℕ). (start ++ h) ++ T) same in
-      rw (is, none, named) (bare start (start ++ H) end H T refl flat)
+  op_printed ts o x word start head middle end named e1 e2 e3 = by (kind_of ts x.kind) refl
+    where
+      by : (k : Option Kind) → kind_of ts x.kind ≡ k → end ≡ start ++ option_text (op_text values blocks) (op_of ts o x)
+      by None is = absurd (let no : Some word ≡ None = named ∙ ap (option_map kind_word) is in cc)
+      by (Some k) is =
+          let same : word ≡ kind_word k = same_Some word (kind_word k) (named ∙ ap (option_map kind_word) is) in
+          let headed : head ≡ start ++ head_text values blocks o.0 x.name (option_map (type_at ts) x.result) (kind_word k) x.operands x.successors = e1
+          ∙ ap (λ (h : List ℕ). start ++ h) (head_same (type_at ts) o.0 x.name x.result word x.operands x.successors)
+          ∙ ap (λ (w : List ℕ). start ++ head_text values blocks o.0 x.name (option_map (type_at ts) x.result) w x.operands x.successors) same in
+          rw is (between start head middle end _ (immediates_text k) _ headed (e2 ∙ ap (λ (y : Option Kind). head ++ option_text immediates_text y) is) e3)
 
-  -- an operation of a kind with immediates
-  pub with_immediates : (ts : List TypeTree) (o : OpRef) (x : OpData) (k : Kind) (start head middle end : List ℕ)
-      → kind_of ts x.kind ≡ Some k
-      → head ≡ start ++ head_text values blocks o.0 x.name x.result (kind_word k) x.operands x.successors
-      → middle ≡ head ++ immediates_text k → end ≡ middle ++ tail_text (option_map (type_at ts) x.result)
-      → end ≡ start ++ option_text (op_text values blocks) (op_of ts o x)
-  with_immediates ts o x k start head middle end is e1 e2 e3 =
-      let H = head_text values blocks o.0 x.name (option_map (type_at ts) x.result) (kind_word k) x.operands x.successors in
-      let same = head_same (type_at ts) o.0 x.name x.result (kind_word k) x.operands x.successors in
-      rw is (between start head middle end H (immediates_text k) (tail_text (option_map (type_at ts) x.result)) (e1 ∙ ap (λ (h : List ℕ). start ++ h) same) e2 e3)
+  -- an operation of a kind without a word is none of a block
+  pub op_left_out : (ts : List TypeTree) (o : OpRef) (x : OpData) (start : List ℕ) → None ≡ option_map kind_word (kind_of ts x.kind) → start ≡ start ++ option_text (op_text values blocks) (op_of ts o x)
+  op_left_out ts o x start unnamed = by (kind_of ts x.kind) refl
+    where
+      by : (k : Option Kind) → kind_of ts x.kind ≡ k → start ≡ start ++ option_text (op_text values blocks) (op_of ts o x)
+      by None is = rw is (sym (append-nil start))
+      by (Some k) is = absurd (let no : None ≡ Some (kind_word k) = unnamed ∙ ap (option_map kind_word) is in cc)
 
   -- successors in brackets
   pub successors_printed : (ss : List Successor) (start opened inner end : List ℕ) → ¬ (length ss ≡ 0) → opened ≡ start ++ codes "[" → inner ≡ opened ++ joined (map (successor_text values blocks) ss) → end ≡ inner ++ codes "]" → end ≡ start ++ successors_text values blocks ss

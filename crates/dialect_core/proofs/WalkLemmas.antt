@@ -1,5 +1,5 @@
 -- Going from a block's first operation to the next and the next meets its list in order.
-use Rattle.std.proofs.Common.{◌≡◌, ◌<◌, ◌≤◌, ◌+◌, ℕ, zero, suc, Bool, true, false, nat_eq, nat_lt, if◌then◌else◌, List, [], ◌∷◌, ◌++◌, Option, Some, None, All, length, slice_get, get_or, take, ap, sym, subst, refl, ◌∙◌, inl, inr, arith, length-append}
+use Rattle.std.proofs.Common.{◌≡◌, ◌<◌, ◌≤◌, ◌+◌, ◌-◌, ℕ, zero, suc, Bool, true, false, nat_eq, nat_lt, if◌then◌else◌, List, [], ◌∷◌, ◌++◌, Option, Some, None, All, length, slice_get, get_or, take, ap, sym, subst, refl, ◌∙◌, inl, inr, arith, length-append}
 use Rattle.std.specs.Option.{option_and_then}
 use Rattle.std.proofs.lemmas.Option.{slice_get_within, slice_get-get_or, get_or_from_slice_get, same_Some, none-some}
 use Rattle.std.proofs.lemmas.List.{take_more}
@@ -57,6 +57,20 @@ walked_more l b ops o next apart standing w is_next =
 
 pub walked_within : (list ops : List OpRef) (o : OpRef) → Walked list ops (Some o) → length ops < length list
 walked_within list ops o w = slice_get_within list (length ops) o (sym w.follows)
+
+-- one operation more leaves fewer
+pub walked_less : (list ops more : List OpRef) (o : OpRef) → Walked list ops (Some o) → more ≡ ops ++ o ∷ [] → length list - length more < length list - length ops
+walked_less list ops more o w is =
+    let within = walked_within list ops o w in
+    let longer : length more ≡ length ops + 1 = ap length is ∙ length-append ops (o ∷ []) in
+    omega (arith, within, longer)
+
+-- an operation that is met is there
+pub walked_there : (parents : List (Option BlockRef)) (n : ℕ) (b : BlockRef) (list ops : List OpRef) (o : OpRef) → length parents ≡ n → Walked list ops (Some o) → All (λ (o : OpRef). slice_get parents o.0 ≡ Some (Some b)) list → o.0 < n
+walked_there parents n b list ops o few w standing =
+    let at : slice_get list (length ops) ≡ Some o = sym w.follows in
+    let parent : slice_get parents o.0 ≡ Some (Some b) = ap (λ (x : OpRef). slice_get parents x.0) (sym (get_or_from_slice_get list (length ops) o o at)) ∙ standing (length ops) o (walked_within list ops o w) in
+    omega (arith, few, slice_get_within parents o.0 _ parent)
 
 take_whole : {X : Type 0} (xs : List X) (n : ℕ) → length xs ≤ n → take n xs ≡ xs
 take_whole [] zero h = refl

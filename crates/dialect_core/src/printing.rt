@@ -1,12 +1,12 @@
 //! The dialect text of operations: their values, successors, immediates and types.
 
-ghost use Rattle.std.specs.Prelude.{◌≡◌, ◌<◌, ◌++◌, IfSome, OnOk, length};
+ghost use Rattle.std.specs.Prelude.{◌≡◌, ◌<◌, ◌++◌, IfSome, List, OnOk, length};
 ghost use Rattle.std.specs.Option.{option_copied, option_map};
-ghost use Rattle.dialect_types.specs.Trees.{attr_tree, type_at, type_trees, HasTypesBelow};
+ghost use Rattle.dialect_types.specs.Trees.{TypeTree, attr_tree, type_at, type_trees, HasTypesBelow};
 ghost use Rattle.dialect_types.specs.Text.{Keeps};
-ghost use Rattle.dialect_core.specs.Data.{ConstantOp, AddOp, ICmpOp, op_of, IsTypedOp};
+ghost use Rattle.dialect_core.specs.Data.{ConstantOp, AddOp, ICmpOp, HasKindTypesBelow, kind_of, op_of, IsTypedOp};
 ghost use Rattle.dialect_core.specs.Numbering.{value_at, block_at};
-ghost use Rattle.dialect_core.specs.Text.{option_text, number_text, colon_text, value_text, block_name_text, values_text, successor_text, successors_text, gives_text, head_text, immediates_text, predicate_text, result_type_text, tail_text, op_text};
+ghost use Rattle.dialect_core.specs.Text.{option_text, number_text, colon_text, value_text, block_name_text, values_text, successor_text, successors_text, gives_text, head_text, immediates_text, predicate_text, result_type_text, tail_text, kind_word, op_text};
 
 use crate::numbering::Numbering;
 use crate::numbers::{BlockRef, OpRef};
@@ -243,24 +243,37 @@ fn print_tail(
     out.extend_from_slice(b"\n")
 }
 
-/// Appends an operation without immediates, of that name.
-fn print_plain(
-    types: &TypeStore,
-    numbers: &Numbering,
-    op: OpRef,
-    x: &OpData,
-    word: &[u8],
-    out: &mut Vec<u8>,
-) -> Result<(), AllocError>
-    requires { IsTypedOp (length types.now) x.now }
-    ensures ok { OnOk result (out.new.items ≡ out.old.items ++ head_text (value_at numbers.now) (block_at numbers.now) op.0 x.now.name x.now.result word.now x.now.operands x.now.successors ++ tail_text (option_map (type_at (type_trees types.now)) x.now.result)) }
-    ensures kept { Keeps out.old.items out.new.items }
+/// The word of a kind, none for a module and a function.
+fn word_of(kind: &OpKind) -> Option<&'static [u8]>
+    ensures { (ts : List TypeTree) → option_copied result ≡ option_map kind_word (kind_of ts kind.now) }
 {
-    print_head(numbers, op, x, word, out)?;
-    print_tail(types, x.result, out)
+    match kind {
+        OpKind::Module | OpKind::Func => None,
+        OpKind::Constant(_) => Some(b"llvm.constant"),
+        OpKind::Add(_) => Some(b"llvm.add"),
+        OpKind::ICmp(_) => Some(b"llvm.icmp"),
+        OpKind::Br => Some(b"llvm.br"),
+        OpKind::CondBr => Some(b"llvm.cond_br"),
+        OpKind::Return => Some(b"llvm.return"),
+        OpKind::Unreachable => Some(b"llvm.unreachable"),
+    }
 }
 
-/// Appends an operation of a function's block: an arm for each kind.
+/// Appends the immediates of a kind, where it has any.
+fn print_immediates(types: &TypeStore, kind: &OpKind, out: &mut Vec<u8>) -> Result<(), AllocError>
+    requires { HasKindTypesBelow (length types.now) kind.now }
+    ensures ok { OnOk result (out.new.items ≡ out.old.items ++ option_text immediates_text (kind_of (type_trees types.now) kind.now)) }
+    ensures kept { Keeps out.old.items out.new.items }
+{
+    match kind {
+        OpKind::Constant(value) => print_constant_immediates(types, value, out),
+        OpKind::Add(flags) => print_overflow_flags(*flags, out),
+        OpKind::ICmp(predicate) => print_predicate(*predicate, out),
+        _ => Ok(()),
+    }
+}
+
+/// Appends an operation of a function's block.
 pub fn print_op(
     types: &TypeStore,
     numbers: &Numbering,
@@ -272,26 +285,10 @@ pub fn print_op(
     ensures ok { OnOk result (out.new.items ≡ out.old.items ++ option_text (op_text (value_at numbers.now) (block_at numbers.now)) (op_of (type_trees types.now) op x.now)) }
     ensures kept { Keeps out.old.items out.new.items }
 {
-    match &x.kind {
-        OpKind::Module | OpKind::Func => Ok(()),
-        OpKind::Constant(value) => {
-            print_head(numbers, op, x, b"llvm.constant", out)?;
-            print_constant_immediates(types, value, out)?;
-            print_tail(types, x.result, out)
-        }
-        OpKind::Add(flags) => {
-            print_head(numbers, op, x, b"llvm.add", out)?;
-            print_overflow_flags(*flags, out)?;
-            print_tail(types, x.result, out)
-        }
-        OpKind::ICmp(predicate) => {
-            print_head(numbers, op, x, b"llvm.icmp", out)?;
-            print_predicate(*predicate, out)?;
-            print_tail(types, x.result, out)
-        }
-        OpKind::Br => print_plain(types, numbers, op, x, b"llvm.br", out),
-        OpKind::CondBr => print_plain(types, numbers, op, x, b"llvm.cond_br", out),
-        OpKind::Return => print_plain(types, numbers, op, x, b"llvm.return", out),
-        OpKind::Unreachable => print_plain(types, numbers, op, x, b"llvm.unreachable", out),
-    }
+    let Some(word) = word_of(&x.kind) else {
+        return Ok(());
+    };
+    print_head(numbers, op, x, word, out)?;
+    print_immediates(types, &x.kind, out)?;
+    print_tail(types, x.result, out)
 }

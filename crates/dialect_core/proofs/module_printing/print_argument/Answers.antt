@@ -1,10 +1,11 @@
 -- What `module_printing::print_argument` owes besides what the check finds.
 use Rattle.std.proofs.Common.{ℕ, ◌++◌, ap, ◌∙◌}
+use Rattle.std.proofs.lemmas.Result.{on_ok_weaker}
 use Rattle.dialect_types.specs.Trees.{type_at, type_trees}
 use Rattle.dialect_types.proofs.TextLemmas.{keeps_then}
 use Rattle.dialect_core.specs.Numbering.{value_at, block_at}
 use Rattle.dialect_core.specs.Text.{argument_text}
-use Rattle.dialect_core.proofs.KeepLemmas.{on_ok, then_appended, then_equal}
+use Rattle.dialect_core.proofs.KeepLemmas.{then_appended, then_equal}
 use Rattle.dialect_core.proofs.PrintLemmas.{between}
 use Rattle.dialect_core.proofs.module_printing.print_argument.Goals as goal
 
@@ -17,5 +18,5 @@ returns-clause-kept c =
 
 pub returns-clause-ok : goal.returns-clause-ok
 returns-clause-ok c =
-    on_ok c.append_type.result c.append_type.ensures.ok (λ e. between _ _ _ _ _ _ _ c.in_ok-print_value.ensures.ok c.in_ok-extend_from_slice.ensures.items e
-    ∙ ap (λ (n : ℕ). c.args.out.now.items ++ argument_text (value_at c.args.numbers.now) (block_at c.args.numbers.now) c.args.block n (type_at (type_trees c.args.types.now) c.args.ty)) c.in_ok-number.ensures)
+    on_ok_weaker c.append_type.result (λ e. between _ _ _ _ _ _ _ c.in_ok-print_value.ensures.ok c.in_ok-extend_from_slice.ensures.items e
+    ∙ ap (λ (n : ℕ). c.args.out.now.items ++ argument_text (value_at c.args.numbers.now) (block_at c.args.numbers.now) c.args.block n (type_at (type_trees c.args.types.now) c.args.ty)) c.in_ok-number.ensures) c.append_type.ensures.ok

@@ -1,9 +1,10 @@
 -- What `module_printing::print_body` owes besides what the check finds.
 use Rattle.std.proofs.Common.{arith}
+use Rattle.std.proofs.lemmas.Result.{on_ok_weaker}
 use Rattle.std.specs.Prelude.{codes}
 use Rattle.dialect_core.specs.Numbering.{value_at, block_at}
 use Rattle.dialect_types.proofs.TextLemmas.{keeps_then}
-use Rattle.dialect_core.proofs.KeepLemmas.{kept_appended, on_ok, then_extended, on_extended}
+use Rattle.dialect_core.proofs.KeepLemmas.{kept_appended, then_extended, on_extended}
 use Rattle.dialect_core.proofs.ModulePrintLemmas.{body_printed}
 use Rattle.dialect_core.proofs.module_printing.print_body.Goals as goal
 
@@ -17,5 +18,5 @@ returns-clause-kept c =
 
 pub returns-clause-ok : goal.returns-clause-ok
 returns-clause-ok c =
-    on_ok c.extend_from_slice-3.result (on_extended _ c.print_blocks.new.out.items (codes "  }\n") _ c.extend_from_slice-3.ensures.items) (λ e. body_printed (value_at c.args.numbers.now) (block_at c.args.numbers.now) c.args.ctx.now c.args.blocks.now c.args.out.now.items _ _ _ (λ empty. grind (arith, c.is_empty.ensures, c.if-is_empty.false, empty)) c.requires.within
-    c.in_ok-extend_from_slice.ensures.items c.in_ok-print_blocks.ensures.ok e)
+    on_ok_weaker c.extend_from_slice-3.result (λ e. body_printed (value_at c.args.numbers.now) (block_at c.args.numbers.now) c.args.ctx.now c.args.blocks.now c.args.out.now.items _ _ _ (λ empty. grind (arith, c.is_empty.ensures, c.if-is_empty.false, empty)) c.requires.within
+    c.in_ok-extend_from_slice.ensures.items c.in_ok-print_blocks.ensures.ok e) (on_extended _ c.print_blocks.new.out.items (codes "  }\n") _ c.extend_from_slice-3.ensures.items)

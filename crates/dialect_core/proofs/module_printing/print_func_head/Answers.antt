@@ -1,9 +1,10 @@
 -- What `module_printing::print_func_head` owes besides what the check finds.
 use Rattle.std.proofs.Common.{◌∙◌}
+use Rattle.std.proofs.lemmas.Result.{on_ok_weaker}
 use Rattle.std.specs.Prelude.{codes}
 use Rattle.dialect_types.specs.Trees.{type_at, type_trees}
 use Rattle.dialect_types.proofs.TextLemmas.{keeps_then}
-use Rattle.dialect_core.proofs.KeepLemmas.{kept_appended, then_appended, then_equal, on_ok, then_extended, on_extended}
+use Rattle.dialect_core.proofs.KeepLemmas.{kept_appended, kept_equal, then_appended, then_equal, then_extended, on_extended}
 use Rattle.dialect_core.proofs.ModulePrintLemmas.{head_printed}
 use Rattle.dialect_core.proofs.module_printing.print_func_head.Goals as goal
 
@@ -41,5 +42,11 @@ returns-clause-kept c =
 
 pub returns-clause-ok : goal.returns-clause-ok
 returns-clause-ok c =
-    on_ok c.extend_from_slice-6.result (on_extended _ c.extend_from_slice-5.new.self.items (codes "}") _ c.extend_from_slice-6.ensures.items) (λ e. head_printed c.args.name.now c.as_bytes.result.now c.as_bytes-2.result.now (type_at (type_trees c.args.types.now) c.args.ty) c.args.linkage _ _ _ _ _ _ _ _ c.as_bytes.ensures.value (c.as_bytes-2.ensures.value ∙ c.linkage_word.ensures)
-    c.in_ok-extend_from_slice.ensures.items c.in_ok-extend_from_slice-2.ensures.items c.in_ok-extend_from_slice-3.ensures.items c.in_ok-append_type.ensures.ok c.in_ok-extend_from_slice-4.ensures.items c.in_ok-extend_from_slice-5.ensures.items e)
+    on_ok_weaker c.extend_from_slice-6.result (λ e. head_printed c.args.name.now c.as_bytes.result.now c.as_bytes-2.result.now (type_at (type_trees c.args.types.now) c.args.ty) c.args.linkage _ _ _ _ _ _ _ _ c.as_bytes.ensures.value (c.as_bytes-2.ensures.value ∙ c.linkage_word.ensures)
+    c.in_ok-extend_from_slice.ensures.items c.in_ok-extend_from_slice-2.ensures.items c.in_ok-extend_from_slice-3.ensures.items c.in_ok-append_type.ensures.ok c.in_ok-extend_from_slice-4.ensures.items c.in_ok-extend_from_slice-5.ensures.items e) (on_extended _ c.extend_from_slice-5.new.self.items (codes "}") _ c.extend_from_slice-6.ensures.items)
+
+pub returns-in_err-extend_from_slice-clause-kept : goal.returns-in_err-extend_from_slice-clause-kept
+returns-in_err-extend_from_slice-clause-kept c = kept_equal _ _ c.in_err-extend_from_slice.ensures.items
+
+pub append_type-requires : goal.append_type-requires
+append_type-requires c = c.requires

@@ -1,7 +1,8 @@
 -- What `module_printing::print_label` owes besides what the check finds.
+use Rattle.std.proofs.lemmas.Result.{on_ok_weaker}
 use Rattle.std.specs.Prelude.{codes}
 use Rattle.dialect_types.proofs.TextLemmas.{keeps_then}
-use Rattle.dialect_core.proofs.KeepLemmas.{kept_appended, then_appended, then_equal, six_texts, on_ok, then_extended, on_extended}
+use Rattle.dialect_core.proofs.KeepLemmas.{kept_appended, then_appended, then_equal, six_texts, then_extended, on_extended}
 use Rattle.dialect_core.proofs.module_printing.print_label.Goals as goal
 
 pub returns-in_err-print_block_name-clause-kept : goal.returns-in_err-print_block_name-clause-kept
@@ -25,8 +26,8 @@ returns-in_err-print_arguments-clause-kept c =
 
 pub returns-clause-ok : goal.returns-clause-ok
 returns-clause-ok c =
-    on_ok c.extend_from_slice-3.result (on_extended _ c.print_arguments.new.out.items (codes "):\n") _ c.extend_from_slice-3.ensures.items) (λ e. six_texts _ _ _ _ _ _ _ _ _ _ _ _ _ c.in_ok-extend_from_slice.ensures.items c.in_ok-print_block_name.ensures.ok c.in_ok-print_colon_name.ensures.ok c.in_ok-extend_from_slice-2.ensures.items c.in_ok-print_arguments.ensures.ok
-    e)
+    on_ok_weaker c.extend_from_slice-3.result (λ e. six_texts _ _ _ _ _ _ _ _ _ _ _ _ _ c.in_ok-extend_from_slice.ensures.items c.in_ok-print_block_name.ensures.ok c.in_ok-print_colon_name.ensures.ok c.in_ok-extend_from_slice-2.ensures.items c.in_ok-print_arguments.ensures.ok
+    e) (on_extended _ c.print_arguments.new.out.items (codes "):\n") _ c.extend_from_slice-3.ensures.items)
 
 pub returns-clause-kept : goal.returns-clause-kept
 returns-clause-kept c =

@@ -1,7 +1,7 @@
 -- What `op_tests::kind_fits` owes besides what the check finds.
-use Rattle.std.proofs.Common.{ap}
+use Rattle.std.proofs.Common.{ap, length, subst}
 use Rattle.dialect_types.specs.Trees.{attr_tree, type_trees}
-use Rattle.dialect_core.specs.Data.{ConstantOp, AddOp, ICmpOp, BrOp, CondBrOp, ReturnOp, UnreachableOp, kind_of}
+use Rattle.dialect_core.specs.Data.{ConstantOp, AddOp, ICmpOp, BrOp, CondBrOp, ReturnOp, UnreachableOp, HasKindTypesBelow, kind_of}
 use Rattle.dialect_core.specs.Checking.{func_at}
 use Rattle.dialect_core.proofs.OpTestLemmas.{kind_by}
 use Rattle.dialect_core.proofs.op_tests.kind_fits.Goals as goal
@@ -26,3 +26,26 @@ returns-in-Return c = kind_by c.args.ctx.now (func_at c.args.ctx.now c.args.func
 
 pub returns-in-Unreachable : goal.returns-in-Unreachable
 returns-in-Unreachable c = kind_by c.args.ctx.now (func_at c.args.ctx.now c.args.func) c.args.kind.now c.args.operands.now c.args.own c.args.edges.now (UnreachableOp) c.unreachable_fits.result (ap (kind_of (type_trees c.args.ctx.now.types)) c.in-Unreachable.is) c.unreachable_fits.ensures
+
+pub constant_op_fits-requires : goal.constant_op_fits-requires
+constant_op_fits-requires c =
+    let r = c.requires in
+    record { func = r.func; within = r.within; value = subst (HasKindTypesBelow (length c.args.ctx.now.types)) c.in-Constant.is r.kind; operands = r.operands; own = r.own; edges = r.edges; typed = r.typed }
+
+pub add_op_fits-requires : goal.add_op_fits-requires
+add_op_fits-requires c = let r = c.requires in record { func = r.func; within = r.within; operands = r.operands; own = r.own; edges = r.edges; typed = r.typed }
+
+pub icmp_op_fits-requires : goal.icmp_op_fits-requires
+icmp_op_fits-requires c = let r = c.requires in record { func = r.func; within = r.within; operands = r.operands; own = r.own; edges = r.edges; typed = r.typed }
+
+pub br_fits-requires : goal.br_fits-requires
+br_fits-requires c = let r = c.requires in record { func = r.func; within = r.within; operands = r.operands; own = r.own; edges = r.edges; typed = r.typed }
+
+pub cond_br_fits-requires : goal.cond_br_fits-requires
+cond_br_fits-requires c = let r = c.requires in record { func = r.func; within = r.within; operands = r.operands; own = r.own; edges = r.edges; typed = r.typed }
+
+pub return_op_fits-requires : goal.return_op_fits-requires
+return_op_fits-requires c = let r = c.requires in record { func = r.func; within = r.within; operands = r.operands; own = r.own; edges = r.edges; typed = r.typed }
+
+pub unreachable_fits-requires : goal.unreachable_fits-requires
+unreachable_fits-requires c = let r = c.requires in record { func = r.func; within = r.within; operands = r.operands; own = r.own; edges = r.edges; typed = r.typed }

@@ -1,9 +1,10 @@
 -- What `printing::print_block_name` owes besides what the check finds.
 use Rattle.std.proofs.Common.{ℕ, Option, ◌++◌, ap, ◌∙◌}
+use Rattle.std.proofs.lemmas.Result.{on_ok_weaker}
 use Rattle.std.specs.Prelude.{codes}
 use Rattle.dialect_types.proofs.TextLemmas.{keeps_then}
 use Rattle.dialect_core.specs.Text.{number_text}
-use Rattle.dialect_core.proofs.KeepLemmas.{on_ok, kept_appended, two_texts}
+use Rattle.dialect_core.proofs.KeepLemmas.{kept_appended, two_texts}
 use Rattle.dialect_core.proofs.printing.print_block_name.Goals as goal
 
 pub returns-clause-kept : goal.returns-clause-kept
@@ -11,5 +12,5 @@ returns-clause-kept c = keeps_then _ _ _ (kept_appended _ _ _ c.in_ok-extend_fro
 
 pub returns-clause-ok : goal.returns-clause-ok
 returns-clause-ok c =
-    on_ok c.print_known.result c.print_known.ensures.ok (λ e. two_texts _ _ _ _ _ c.in_ok-extend_from_slice.ensures.items e
-    ∙ ap (λ (n : Option ℕ). c.args.out.now.items ++ (codes "^" ++ number_text n)) c.block.ensures)
+    on_ok_weaker c.print_known.result (λ e. two_texts _ _ _ _ _ c.in_ok-extend_from_slice.ensures.items e
+    ∙ ap (λ (n : Option ℕ). c.args.out.now.items ++ (codes "^" ++ number_text n)) c.block.ensures) c.print_known.ensures.ok

@@ -1,7 +1,8 @@
 -- What `printing::print_constant_immediates` owes besides what the check finds.
+use Rattle.std.proofs.lemmas.Result.{on_ok_weaker}
 use Rattle.std.specs.Prelude.{codes}
 use Rattle.dialect_types.proofs.TextLemmas.{keeps_then}
-use Rattle.dialect_core.proofs.KeepLemmas.{kept_appended, on_ok, then_extended, on_extended}
+use Rattle.dialect_core.proofs.KeepLemmas.{kept_appended, then_extended, on_extended}
 use Rattle.dialect_core.proofs.PrintLemmas.{between}
 use Rattle.dialect_core.proofs.printing.print_constant_immediates.Goals as goal
 
@@ -15,4 +16,4 @@ returns-clause-kept c =
 
 pub returns-clause-ok : goal.returns-clause-ok
 returns-clause-ok c =
-    on_ok c.extend_from_slice-2.result (on_extended _ c.append.new.out.items (codes "}") _ c.extend_from_slice-2.ensures.items) (λ e. between _ _ _ _ _ _ _ c.in_ok-extend_from_slice.ensures.items c.in_ok-append.ensures.ok e)
+    on_ok_weaker c.extend_from_slice-2.result (λ e. between _ _ _ _ _ _ _ c.in_ok-extend_from_slice.ensures.items c.in_ok-append.ensures.ok e) (on_extended _ c.append.new.out.items (codes "}") _ c.extend_from_slice-2.ensures.items)

@@ -1,11 +1,12 @@
 -- What `printing::print_head` owes besides what the check finds.
 use Rattle.std.proofs.Common.{List, ◌++◌, ap, ◌∙◌}
+use Rattle.std.proofs.lemmas.Result.{on_ok_weaker}
 use Rattle.dialect_core.specs.declared.ops.Value.{Value}
 use Rattle.dialect_core.specs.declared.ops.Successor.{Successor}
 use Rattle.dialect_core.specs.Numbering.{value_at, block_at}
 use Rattle.dialect_core.specs.Text.{values_text, successors_text}
 use Rattle.dialect_types.proofs.TextLemmas.{keeps_then}
-use Rattle.dialect_core.proofs.KeepLemmas.{on_ok, kept_appended, then_appended, then_equal, five_texts}
+use Rattle.dialect_core.proofs.KeepLemmas.{kept_appended, then_appended, then_equal, five_texts}
 use Rattle.dialect_core.proofs.printing.print_head.Goals as goal
 
 pub returns-in_err-print_gives-clause-kept : goal.returns-in_err-print_gives-clause-kept
@@ -30,5 +31,5 @@ returns-clause-kept c =
 pub returns-clause-ok : goal.returns-clause-ok
 returns-clause-ok c =
     let operands = c.in_ok-print_values.ensures.ok ∙ ap (λ (vs : List Value). c.extend_from_slice-2.new.self.items ++ values_text (value_at c.args.numbers.now) (block_at c.args.numbers.now) vs) c.as_slice.ensures in
-    on_ok c.print_successors.result c.print_successors.ensures.ok (λ e. five_texts _ _ _ _ _ _ _ _ _ _ _ c.in_ok-extend_from_slice.ensures.items c.in_ok-print_gives.ensures.ok c.in_ok-extend_from_slice-2.ensures.items operands
-    (e ∙ ap (λ (ss : List Successor). c.print_values.new.out.items ++ successors_text (value_at c.args.numbers.now) (block_at c.args.numbers.now) ss) c.as_slice-2.ensures))
+    on_ok_weaker c.print_successors.result (λ e. five_texts _ _ _ _ _ _ _ _ _ _ _ c.in_ok-extend_from_slice.ensures.items c.in_ok-print_gives.ensures.ok c.in_ok-extend_from_slice-2.ensures.items operands
+    (e ∙ ap (λ (ss : List Successor). c.print_values.new.out.items ++ successors_text (value_at c.args.numbers.now) (block_at c.args.numbers.now) ss) c.as_slice-2.ensures)) c.print_successors.ensures.ok

@@ -1,7 +1,8 @@
 -- What `printing::print_predicate` owes besides what the check finds.
 use Rattle.std.proofs.Common.{ℕ, List, ◌++◌, ap, ◌∙◌}
+use Rattle.std.proofs.lemmas.Result.{on_ok_weaker}
 use Rattle.std.specs.Prelude.{codes}
-use Rattle.dialect_core.proofs.KeepLemmas.{kept_appended, then_appended, then_equal, on_ok, then_extended, on_extended}
+use Rattle.dialect_core.proofs.KeepLemmas.{kept_appended, then_appended, then_equal, then_extended, on_extended}
 use Rattle.dialect_core.proofs.PrintLemmas.{between}
 use Rattle.dialect_core.proofs.printing.print_predicate.Goals as goal
 
@@ -15,5 +16,5 @@ returns-clause-kept c =
 
 pub returns-clause-ok : goal.returns-clause-ok
 returns-clause-ok c =
-    on_ok c.extend_from_slice-3.result (on_extended _ c.extend_from_slice-2.new.self.items (codes "}") _ c.extend_from_slice-3.ensures.items) (λ e. between _ _ _ _ _ _ _ c.in_ok-extend_from_slice.ensures.items c.in_ok-extend_from_slice-2.ensures.items e
-    ∙ ap (λ (word : List ℕ). c.args.out.now.items ++ ((codes " {predicate = " ++ word) ++ codes "}")) c.predicate_word.ensures)
+    on_ok_weaker c.extend_from_slice-3.result (λ e. between _ _ _ _ _ _ _ c.in_ok-extend_from_slice.ensures.items c.in_ok-extend_from_slice-2.ensures.items e
+    ∙ ap (λ (word : List ℕ). c.args.out.now.items ++ ((codes " {predicate = " ++ word) ++ codes "}")) c.predicate_word.ensures) (on_extended _ c.extend_from_slice-2.new.self.items (codes "}") _ c.extend_from_slice-3.ensures.items)

@@ -1,6 +1,7 @@
 -- What `printing::print_result_type` owes besides what the check finds.
+use Rattle.std.proofs.lemmas.Result.{on_ok_weaker}
 use Rattle.dialect_types.proofs.TextLemmas.{keeps_then}
-use Rattle.dialect_core.proofs.KeepLemmas.{on_ok, kept_appended, two_texts}
+use Rattle.dialect_core.proofs.KeepLemmas.{kept_appended, two_texts}
 use Rattle.dialect_core.proofs.printing.print_result_type.Goals as goal
 
 pub returns-in_ok-extend_from_slice-in-Some-clause-kept : goal.returns-in_ok-extend_from_slice-in-Some-clause-kept
@@ -8,4 +9,4 @@ returns-in_ok-extend_from_slice-in-Some-clause-kept c = keeps_then _ _ _ (kept_a
 
 pub returns-in_ok-extend_from_slice-in-Some-clause-ok : goal.returns-in_ok-extend_from_slice-in-Some-clause-ok
 returns-in_ok-extend_from_slice-in-Some-clause-ok c =
-    rw c.in-Some.is (on_ok c.append_type.result c.append_type.ensures.ok (λ e. two_texts _ _ _ _ _ c.in_ok-extend_from_slice-in-Some.ensures.items e))
+    rw c.in-Some.is (on_ok_weaker c.append_type.result (λ e. two_texts _ _ _ _ _ c.in_ok-extend_from_slice-in-Some.ensures.items e) c.append_type.ensures.ok)

@@ -2,10 +2,11 @@
 use Rattle.std.proofs.Common.{ap, arith, sym}
 use Rattle.std.specs.Prelude.{codes}
 use Rattle.std.proofs.lemmas.List.{append-nil}
+use Rattle.std.proofs.lemmas.Result.{on_ok_weaker}
 use Rattle.dialect_core.specs.Numbering.{value_at, block_at}
 use Rattle.dialect_core.specs.Text.{successor_text}
 use Rattle.dialect_types.proofs.TextLemmas.{keeps_then}
-use Rattle.dialect_core.proofs.KeepLemmas.{kept_appended, then_appended, on_ok, then_extended, on_extended}
+use Rattle.dialect_core.proofs.KeepLemmas.{kept_appended, then_appended, then_extended, on_extended}
 use Rattle.dialect_core.proofs.PrintLemmas.{joined_more, joined_all, successors_printed}
 use Rattle.dialect_core.proofs.printing.print_successors.Goals as goal
 
@@ -34,5 +35,5 @@ loop-i-preserved c =
 pub returns-clause-ok : goal.returns-clause-ok
 returns-clause-ok c =
     let inner = joined_all (successor_text (value_at c.args.numbers.now) (block_at c.args.numbers.now)) c.args.successors.now c.loop-i.i _ _ (omega arith) c.loop-i.invariant in
-    on_ok c.extend_from_slice-2.result (on_extended _ c.loop-i.out.items (codes "]") _ c.extend_from_slice-2.ensures.items) (λ e. successors_printed (value_at c.args.numbers.now) (block_at c.args.numbers.now) c.args.successors.now _ _ _ _ (λ empty. grind (arith, c.is_empty.ensures, c.if-is_empty.false, empty))
-    c.in_ok-extend_from_slice.ensures.items inner e)
+    on_ok_weaker c.extend_from_slice-2.result (λ e. successors_printed (value_at c.args.numbers.now) (block_at c.args.numbers.now) c.args.successors.now _ _ _ _ (λ empty. grind (arith, c.is_empty.ensures, c.if-is_empty.false, empty))
+    c.in_ok-extend_from_slice.ensures.items inner e) (on_extended _ c.loop-i.out.items (codes "]") _ c.extend_from_slice-2.ensures.items)

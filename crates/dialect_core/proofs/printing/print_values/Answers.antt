@@ -2,11 +2,12 @@
 use Rattle.std.proofs.Common.{arith, refl, sym}
 use Rattle.std.specs.Prelude.{codes}
 use Rattle.std.proofs.lemmas.List.{append-nil}
+use Rattle.std.proofs.lemmas.Result.{on_ok_weaker}
 use Rattle.dialect_core.specs.declared.ops.Value.TheVariants.{Result}
 use Rattle.dialect_core.specs.Numbering.{value_at, block_at}
 use Rattle.dialect_core.specs.Text.{value_text}
 use Rattle.dialect_types.proofs.TextLemmas.{keeps_then}
-use Rattle.dialect_core.proofs.KeepLemmas.{kept_appended, then_appended, on_ok, then_extended, on_extended}
+use Rattle.dialect_core.proofs.KeepLemmas.{kept_appended, then_appended, then_extended, on_extended}
 use Rattle.dialect_core.proofs.PrintLemmas.{between, joined_more, joined_all}
 use Rattle.dialect_core.proofs.printing.print_values.Goals as goal
 
@@ -35,4 +36,4 @@ loop-i-preserved c =
 pub returns-clause-ok : goal.returns-clause-ok
 returns-clause-ok c =
     let inner = joined_all (value_text (value_at c.args.numbers.now) (block_at c.args.numbers.now)) c.args.values.now c.loop-i.i _ _ (omega arith) c.loop-i.invariant in
-    on_ok c.extend_from_slice-2.result (on_extended _ c.loop-i.out.items (codes ")") _ c.extend_from_slice-2.ensures.items) (λ e. between _ _ _ _ _ _ _ c.in_ok-extend_from_slice.ensures.items inner e)
+    on_ok_weaker c.extend_from_slice-2.result (λ e. between _ _ _ _ _ _ _ c.in_ok-extend_from_slice.ensures.items inner e) (on_extended _ c.loop-i.out.items (codes ")") _ c.extend_from_slice-2.ensures.items)

@@ -1,5 +1,5 @@
 -- What `context::Context::add` owes besides what the check finds.
-use Rattle.dialect_core.proofs.ContextLemmas.{context, new_free, add_op_kept, op_view}
+use Rattle.dialect_core.proofs.ContextLemmas.{context, new_free, on_err, add_op_kept, op_view}
 use Rattle.std.proofs.Common.{sym, subst, ap, refl, length, ◌∙◌}
 use Rattle.dialect_core.specs.Data.{data_of, IsTyped}
 use Rattle.dialect_core.specs.ContextData.{ContextData, region_at, holder_at}
@@ -36,3 +36,17 @@ invariant_of-self c = rw c.reserve.ensures.items c.self.invariant
 
 pub invariant_of-self-in_err-op : goal.invariant_of-self-in_err-op
 invariant_of-self-in_err-op c = rw (c.in_ok-reserve.ensures.items, c.in_err-op.ensures.err) c.self.invariant
+
+pub returns-clause-ok : goal.returns-clause-ok
+returns-clause-ok c =
+    rw (← c.self.view_is)
+    (op_view c.self.inside.types c.self.inside.ops.items _ c.push.new.self.items c.self.inside.blocks.items c.self.inside.lists c.add_op.new.self c.args.op_data c.in_ok-reserve.ensures.items c.in-Ok.ensures.items c.in_ok-op.ensures.ok)
+
+pub returns-clause-number : goal.returns-clause-number
+returns-clause-number c = rw (← c.self.view_is) (c.in_ok-op.ensures.number ∙ c.self.invariant.numbers.parent_each)
+
+pub returns-in_err-reserve-clause-err : goal.returns-in_err-reserve-clause-err
+returns-in_err-reserve-clause-err c = rw (← c.self.view_is, c.reserve.ensures.items) (on_err c.from_residual.result refl)
+
+pub returns-in_err-op-clause-err : goal.returns-in_err-op-clause-err
+returns-in_err-op-clause-err c = rw (← c.self.view_is, c.in_ok-reserve.ensures.items, c.in_err-op.ensures.err) (on_err c.from_residual-in_err-op.result refl)

@@ -1,10 +1,10 @@
 -- What `context::Context::add_block` owes besides what the check finds.
-use Rattle.std.proofs.Common.{◌≡◌, ℕ, List, get_or, set, sym, subst, ap, refl, ◌∙◌}
+use Rattle.std.proofs.Common.{◌≡◌, ℕ, List, get_or, set, sym, subst, ap, refl, ◌∙◌, arith}
 use Rattle.std.proofs.lemmas.List.{set-get_or}
 use Rattle.dialect_core.specs.declared.numbers.BlockRef.{BlockRef}
 use Rattle.dialect_core.specs.declared.ops.OpData.{OpData}
 use Rattle.dialect_core.specs.Lists.{Lists, list_at}
-use Rattle.dialect_core.proofs.ContextLemmas.{context, holder_there, region_kept, block_view}
+use Rattle.dialect_core.proofs.ContextLemmas.{context, on_err, holder_there, region_kept, block_view}
 use Rattle.dialect_core.specs.Data.{data_of, IsTyped}
 use Rattle.dialect_core.specs.ContextData.{ContextData}
 use Rattle.dialect_core.proofs.NewBlockLemmas.{last_list, new_block_data}
@@ -67,3 +67,19 @@ pub invariant_of-self-in_err-number : goal.invariant_of-self-in_err-number
 invariant_of-self-in_err-number c =
     rw (unwritten c.self.inside.ops.items c.args.holder.0 c.index_mut-op.result.now c.add_block.new.region c.index_mut-op.ensures.value c.in_err-number.ensures.region_err, c.in_ok-reserve.ensures.items, c.in_err-number.ensures.err)
     c.self.invariant
+
+pub index_mut-op-requires : goal.index_mut-op-requires
+index_mut-op-requires c =
+    let holder = rw (← c.self.view_is) at c.requires.holder in
+    omega (arith, holder_there c.self.inside.ops.items c.args.holder holder, c.self.inside.ops.ok.0)
+
+pub returns-clause-number : goal.returns-clause-number
+returns-clause-number c = rw (← c.self.view_is) (c.in_ok-number.ensures.number ∙ c.self.invariant.numbers.list_each)
+
+pub returns-in_err-reserve-clause-err : goal.returns-in_err-reserve-clause-err
+returns-in_err-reserve-clause-err c = rw (← c.self.view_is, c.reserve.ensures.items) (on_err c.from_residual-in_err-reserve.result refl)
+
+pub returns-in_err-number-clause-err : goal.returns-in_err-number-clause-err
+returns-in_err-number-clause-err c =
+    rw (← c.self.view_is, unwritten c.self.inside.ops.items c.args.holder.0 c.index_mut-op.result.now c.add_block.new.region c.index_mut-op.ensures.value c.in_err-number.ensures.region_err, c.in_ok-reserve.ensures.items, c.in_err-number.ensures.err)
+    (on_err c.from_residual-in_err-number.result refl)
