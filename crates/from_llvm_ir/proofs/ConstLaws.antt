@@ -17,7 +17,7 @@ use Rattle.dialect_types.specs.Trees.{TypeTree, IntegerType, IntegerAttr}
 use Rattle.dialect_core.specs.Data.{ConstantOp}
 use Rattle.from_llvm_ir.specs.Types.{type_from}
 use Rattle.from_llvm_ir.specs.Building.{new_op}
-use Rattle.from_llvm_ir.specs.Source.{IsShortConst, IsIntKind, IsUsed}
+use Rattle.from_llvm_ir.specs.Source.{IsShortConst, IsUsed}
 use Rattle.from_llvm_ir.specs.Known.{IsConstantOp}
 
 pub short_parts : (t : L.TypeTree) (v : ℕ) → IsShortConst (IntConst t v) → (w : ℕ) × (t ≡ IntType w) × (1 ≤ w) × (w ≤ 64) × (v < 2 ^ w)
@@ -54,9 +54,9 @@ none_from (Some x) h = cc
 -- ---- constants that are used
 
 -- a short constant is an integer
-pub short_kind : (m : Module) (c : LLVMConst) (k : LLVMConstKind) → slice_get m.consts c.0 ≡ Some k → IsShortConst (const_at (trees_of m).consts c) → IsIntKind k
-short_kind m c (C.Int t v) at h = tt
-short_kind m c (C.Placeholder n t) at h = subst IsShortConst (placeholder_const_of m c n t at) h
+pub short_kind : (m : Module) (c : LLVMConst) (k : LLVMConstKind) → slice_get m.consts c.0 ≡ Some k → IsShortConst (const_at (trees_of m).consts c) → (t : LLVMType) × (v : ℕ) × (k ≡ C.Int t v)
+short_kind m c (C.Int t v) at h = (t, v, refl)
+short_kind m c (C.Placeholder n t) at h = absurd (subst IsShortConst (placeholder_const_of m c n t at) h)
 
 fitting : (c : ConstTree) → LF.IsFitting c → LF.IsShortInt (L.const_type c) → IsShortConst c
 fitting (IntConst VoidType v) h k = elim h [ ]

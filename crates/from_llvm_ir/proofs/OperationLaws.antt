@@ -1,5 +1,6 @@
 -- One operation more in a block that is being filled.
 use Rattle.std.proofs.Common.{ℕ, zero, suc, ◌≡◌, ◌<◌, ◌≤◌, ◌+◌, ◌⊎◌, inl, inr, refl, sym, ap, subst, ◌∙◌, false, not, nat_eq, List, [], ◌∷◌, ◌++◌, Some, All, filter, length, take, slice_get, arith}
+use Rattle.std.specs.Prelude.{IsTrue}
 use Rattle.std.specs.List.{flat_map}
 use Rattle.std.proofs.lemmas.Bool.{cases_lt}
 use Rattle.std.proofs.lemmas.List.{append_assoc}
@@ -20,9 +21,9 @@ use Rattle.dialect_core.specs.declared.numbers.BlockRef.{BlockRef}
 use Rattle.dialect_core.specs.declared.ops.Value.{Value}
 use Rattle.dialect_core.specs.declared.ops.Value.TheVariants as V
 use Rattle.dialect_core.specs.declared.ops.Successor.{Successor}
-use Rattle.dialect_core.specs.ContextData.{ContextData}
+use Rattle.dialect_core.specs.ContextData.{ContextData, is_plain}
 use Rattle.dialect_core.specs.declared.ops.OpKind.{OpKind}
-use Rattle.dialect_core.specs.Data.{DialectBlock, DialectOp, Kind, AddOp, ICmpOp, BrOp, CondBrOp, ReturnOp, UnreachableOp, kind_of}
+use Rattle.dialect_core.specs.Data.{DialectBlock, DialectOp, Kind, AddOp, ICmpOp, BrOp, CondBrOp, ReturnOp, UnreachableOp, HasKindTypesBelow, kind_of}
 use Rattle.dialect_core.specs.Form.{uses_of}
 use Rattle.dialect_core.proofs.ListLemmas.{push_cases, slice_get-last}
 use Rattle.meaning.specs.Pairs.{Matched}
@@ -53,6 +54,25 @@ kind_found t ts (I.Br a) kind h = (BrOp, ap (kind_of ts) h, refl)
 kind_found t ts (I.CondBr c a b) kind h = (CondBrOp, ap (kind_of ts) h, refl)
 kind_found t ts (I.Ret v) kind h = (ReturnOp, ap (kind_of ts) h, refl)
 kind_found t ts I.Unreachable kind h = (UnreachableOp, ap (kind_of ts) h, refl)
+
+-- it is no module and no function, and names no type
+pub plain_kind : (inst : LLVMInst) (kind : OpKind) → IsOpKind inst kind → IsTrue (is_plain kind)
+plain_kind (I.Add l r f) kind h = rw h refl
+plain_kind (I.ICmp l r q) kind h = rw h.2 refl
+plain_kind (I.Phi type es) kind h = elim h [ ]
+plain_kind (I.Br a) kind h = rw h refl
+plain_kind (I.CondBr c a b) kind h = rw h refl
+plain_kind (I.Ret v) kind h = rw h refl
+plain_kind I.Unreachable kind h = rw h refl
+
+pub kind_types : (n : ℕ) (inst : LLVMInst) (kind : OpKind) → IsOpKind inst kind → HasKindTypesBelow n kind
+kind_types n (I.Add l r f) kind h = rw h tt
+kind_types n (I.ICmp l r q) kind h = rw h.2 tt
+kind_types n (I.Phi type es) kind h = elim h [ ]
+kind_types n (I.Br a) kind h = rw h tt
+kind_types n (I.CondBr c a b) kind h = rw h tt
+kind_types n (I.Ret v) kind h = rw h tt
+kind_types n I.Unreachable kind h = rw h tt
 
 -- ---- what stood stands, as more is known
 

@@ -6,8 +6,6 @@ use Rattle.std.specs.HashMap.{get}
 use Rattle.llvm_core.specs.declared.numbers.LLVMFunction.{LLVMFunction}
 use Rattle.llvm_core.specs.declared.numbers.LLVMBasicBlock.{LLVMBasicBlock}
 use Rattle.llvm_core.specs.declared.numbers.LLVMInstRef.{LLVMInstRef}
-use Rattle.llvm_core.specs.declared.consts.LLVMConstKind.{LLVMConstKind}
-use Rattle.llvm_core.specs.declared.consts.LLVMConstKind.TheVariants as C
 use Rattle.llvm_core.specs.declared.code.LLVMValue.{LLVMValue}
 use Rattle.llvm_core.specs.declared.code.LLVMInst.{LLVMInst}
 use Rattle.llvm_core.specs.declared.code.LLVMInst.TheVariants as I
@@ -135,7 +133,3 @@ pub record IsUsed (m : Module) (g : L.Function) (v : LLVMValue) : Type 0 where
 abbrev pub IsShortConst : ConstTree → Type 0
 IsShortConst (IntConst (IntType w) v) = (1 ≤ w) × (w ≤ 64) × (v < 2 ^ w)
 IsShortConst _ = ⊥
-
-abbrev pub IsIntKind : LLVMConstKind → Type 0
-IsIntKind (C.Int type value) = Unit {0}
-IsIntKind (C.Placeholder number type) = ⊥

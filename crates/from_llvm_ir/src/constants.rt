@@ -2,13 +2,12 @@
 
 ghost use Rattle.std.specs.Prelude.{◌≡◌, ◌<◌, ◌≤◌, ◌+◌, ◌∷◌, ◌++◌, [], List, ℕ, IfOk, OnOk, All, length, map};
 ghost use Rattle.std.specs.List.{filter_map, flat_map};
-ghost use Rattle.llvm_core.specs.declared.consts.LLVMConstKind.TheVariants as consts;
 ghost use Rattle.llvm_core.specs.Sound.{IsModule};
 ghost use Rattle.llvm_core.specs.Data.{AreApart, Block, ConstTree, Function, Placed, trees_of, const_at, operand_of, data_of};
 ghost use Rattle.dialect_core.specs.Data.{DialectBlock, DialectOp};
 ghost use Rattle.from_llvm_ir.specs.Imported.{constant_in, constants_in, rest_of};
 ghost use Rattle.from_llvm_ir.specs.Building.{Home, IsOpen, with_ops};
-ghost use Rattle.from_llvm_ir.specs.Source.{IsSource, IsBlockOf, IsSite, IsUsed, AreEntries, IsIntKind, IsShortConst};
+ghost use Rattle.from_llvm_ir.specs.Source.{IsSource, IsBlockOf, IsSite, IsUsed, AreEntries, IsShortConst};
 ghost use Rattle.from_llvm_ir.specs.Keeping.{Keeps};
 ghost use Rattle.from_llvm_ir.specs.Known.{Frame, IsConstantOp};
 ghost use Rattle.from_llvm_ir.specs.Body.{IsFramed, IsHoisting, all_uses, uses_of_inst};
@@ -26,20 +25,9 @@ use dialect_types::attrs::ConstAttr;
 use llvm_core::code::LLVMValue;
 use llvm_core::consts::LLVMConstKind;
 use llvm_core::module::LLVMModule;
-use llvm_core::numbers::{LLVMBasicBlock, LLVMConst, LLVMFunction, LLVMInstRef, LLVMType};
+use llvm_core::numbers::{LLVMBasicBlock, LLVMConst, LLVMFunction, LLVMInstRef};
 use std::alloc::{AllocError, Global};
 use std::sync::ledger::Ledger;
-
-/// The type and the value of an integer constant.
-fn parts_of(kind: &LLVMConstKind) -> (LLVMType, u128)
-    requires { IsIntKind kind.now }
-    ensures { kind.now ≡ consts.Int result.0 result.1 }
-{
-    match kind {
-        LLVMConstKind::Int(ty, value) => (*ty, *value),
-        LLVMConstKind::Placeholder(..) => unreachable!(),
-    }
-}
 
 /// A new last operation of the block that makes a constant.
 fn add_constant<L: Ledger>(
@@ -59,9 +47,11 @@ fn add_constant<L: Ledger>(
     ensures count { OnOk result (length ctx.new.ops ≡ length ctx.old.ops + 1) }
     ensures kept { (n b : ℕ) → b ≤ block.0 → Keeps n b ctx.old ctx.new }
 {
-    let (ty, value) = parts_of(source.const_kind(c));
-    let int = import_plain(ctx, source, ty)?;
-    let constant = OpKind::Constant(ConstAttr::Integer(int, value as u64));
+    let LLVMConstKind::Int(ty, value) = source.const_kind(c) else {
+        unreachable!();
+    };
+    let int = import_plain(ctx, source, *ty)?;
+    let constant = OpKind::Constant(ConstAttr::Integer(int, *value as u64));
     add_op(ctx, block, constant, &[], &[], Some(int), None, steps)
 }
 

@@ -14,7 +14,7 @@ use std::alloc::{AllocError, Global};
 use std::collections::HashMap;
 
 /// A phi, and a block that an edge to it comes from.
-#[derive(Clone, Copy, PartialEq, Eq, Hash, Debug, Drop)]
+#[derive(PartialEq, Eq, Hash, Drop)]
 pub struct Entry {
     pub phi: LLVMInstRef,
     pub from: LLVMBasicBlock,

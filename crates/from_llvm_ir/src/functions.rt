@@ -178,12 +178,12 @@ fn declare<L: Ledger>(
     ctx: &mut Context,
     source: &LLVMModule,
     f: LLVMFunction,
-    name: Identifier,
+    name: &Identifier,
     body: BlockRef,
     steps: &mut Steps<L>,
 ) -> Result<FuncOp, AllocError>
     requires source { (g : Function) × IsSource source.now f g }
-    requires name { (g : Function) → IsSource source.now f g → name ≡ g.name }
+    requires name { (g : Function) → IsSource source.now f g → name.now ≡ g.name }
     requires module { (m : ℕ) × (d : DialectModule) × IsBuilding ctx.old m body d }
     ensures declared { IfOk result (λ n. (g : Function) → IsSource source.now f g → (m : ℕ) → (d : DialectModule) → IsBuilding ctx.old m body d → IsDeclared g ctx.new m body d n.0.0) }
     ensures func { IfOk result (λ n. kind_at ctx.new.ops n.0 ≡ Some kinds.Func) }
@@ -192,6 +192,7 @@ fn declare<L: Ledger>(
     ensures kept { (m : ℕ) → (d : DialectModule) → IsBuilding ctx.old m body d → (n b : ℕ) → n ≤ m → Keeps n b ctx.old ctx.new }
 {
     let ty = import_function_type(alloc, ctx, source, f)?;
+    let name = name.clone(alloc)?;
     add_func(ctx, body, name, ty, steps)
 }
 
@@ -221,12 +222,12 @@ pub fn import_function<L: Ledger>(
     names: &mut Legaliser,
     source: &LLVMModule,
     f: LLVMFunction,
-    name: Identifier,
+    name: &Identifier,
     body: BlockRef,
     steps: &mut Steps<L>,
 ) -> Result<FunctionBlocks, ConversionErr>
     requires source { (g : Function) × IsSource source.now f g }
-    requires name { (g : Function) → IsSource source.now f g → name ≡ g.name }
+    requires name { (g : Function) → IsSource source.now f g → name.now ≡ g.name }
     requires module { (m : ℕ) × (d : DialectModule) × IsBuilding ctx.old m body d }
     ensures ok { IfOk result (λ x. (g : Function) → IsSource source.now f g → (m : ℕ) → (d : DialectModule) → IsBuilding ctx.old m body d
         → (y : Func) × ImportedFunction (data_of source.now) g x y × IsBuilding ctx.new m body (with_func d y)) }

@@ -80,7 +80,7 @@ fn import_functions<L: Ledger>(
     let mut blocks = Items::new(alloc);
     for f in 0..source.functions() {
         let function = LLVMFunction(f);
-        let name = given[f as usize].clone(alloc)?;
+        let name = &given[f as usize];
         blocks.push(import_function(alloc, ctx, names, source, function, name, body, steps)?)?;
     }
     Ok(blocks)
@@ -119,6 +119,7 @@ fn know_kept(ctx: &Context, root: ModuleOp)
 fn import_counted<L: Ledger>(
     alloc: Global,
     ctx: &mut Context,
+    names: &mut Legaliser,
     source: &LLVMModule,
     blank: Blank,
 ) -> Result<Imported, ConversionErr>
@@ -134,10 +135,9 @@ fn import_counted<L: Ledger>(
     ensures others { IsTyped ctx.old → AreOthersKept ctx.old ctx.new }
     ensures typed { IsTyped ctx.old → IsTyped ctx.new }
 {
-    let mut names = Legaliser::new(alloc);
     let mut steps = Steps::<L>::new(blank);
-    let (module, body) = start_module(ctx, &mut names, source)?;
-    let blocks = import_functions(alloc, ctx, &mut names, source, body, &mut steps)?;
+    let (module, body) = start_module(ctx, names, source)?;
+    let blocks = import_functions(alloc, ctx, names, source, body, &mut steps)?;
     know_kept(ctx, module);
     // Each list of a dialect module has fewer than 2^31 entries: a longer one is want of memory.
     if !has_few(ctx, body) {
@@ -169,5 +169,6 @@ pub fn convert_module(
     ensures others { IsTyped ctx.old → AreOthersKept ctx.old ctx.new }
     ensures typed { IsTyped ctx.old → IsTyped ctx.new }
 {
-    import_counted::<Brand>(alloc, ctx, module, Blank::new(1))
+    let mut names = Legaliser::new(alloc);
+    import_counted::<Brand>(alloc, ctx, &mut names, module, Blank::new(1))
 }

@@ -1,5 +1,5 @@
 -- What `building::create_named` owes besides what the check finds.
-use Rattle.std.proofs.Common.{◌≡◌, ◌∙◌, ap, Some, slice_get, arith}
+use Rattle.std.proofs.Common.{◌≡◌, ◌∙◌, ap, sym, Some, slice_get, arith}
 use Rattle.dialect_core.specs.ContextData.{ContextData, with_op}
 use Rattle.from_llvm_ir.specs.Building.{op_data}
 use Rattle.from_llvm_ir.proofs.OpLaws.{named_op}
@@ -45,3 +45,37 @@ returns-in_ok-set_name-clause-kept c = λ n b.
 
 pub returns-in_default-clause-kept : goal.returns-in_default-clause-kept
 returns-in_default-clause-kept c = λ n b. keeps_new n b c.args.ctx.now c.create_op.new.self _ c.in_ok-op.ensures.ok c.in_ok-op.ensures.data c.in_ok-op.ensures.typed
+
+pub create_op-requires-clause-kind : goal.create_op-requires-clause-kind
+create_op-requires-clause-kind c = c.requires.plain
+
+pub create_op-requires-clause-kind_types : goal.create_op-requires-clause-kind_types
+create_op-requires-clause-kind_types c = c.requires.types
+
+pub create_op-requires-clause-operands : goal.create_op-requires-clause-operands
+create_op-requires-clause-operands c = c.requires.operands
+
+pub create_op-requires-clause-successors : goal.create_op-requires-clause-successors
+create_op-requires-clause-successors c = c.requires.successors
+
+pub create_op-requires-clause-result_ty : goal.create_op-requires-clause-result_ty
+create_op-requires-clause-result_ty c = c.requires.result_ty
+
+pub returns-in_default-clause-ok : goal.returns-in_default-clause-ok
+returns-in_default-clause-ok c =
+    c.in_ok-op.ensures.ok ∙ ap (λ name. with_op c.args.ctx.now (op_data c.args.kind name c.args.operands.now c.args.successors.now c.args.result_ty)) (sym c.in_default.is)
+
+pub returns-in_default-clause-types : goal.returns-in_default-clause-types
+returns-in_default-clause-types c = ap (λ (x : ContextData). x.types) c.in_ok-op.ensures.ok
+
+pub returns-in_default-clause-number : goal.returns-in_default-clause-number
+returns-in_default-clause-number c = c.in_ok-op.ensures.number
+
+pub returns-in_default-clause-free : goal.returns-in_default-clause-free
+returns-in_default-clause-free c = c.in_ok-op.ensures.free
+
+pub returns-in_default-clause-data : goal.returns-in_default-clause-data
+returns-in_default-clause-data c = c.in_ok-op.ensures.data
+
+pub returns-in_default-clause-typed : goal.returns-in_default-clause-typed
+returns-in_default-clause-typed c = c.in_ok-op.ensures.typed

@@ -11,16 +11,18 @@ use Rattle.from_llvm_ir.proofs.UnderLaws.{typed_open}
 use Rattle.from_llvm_ir.proofs.KeepLaws.{keeps_then, keeps_types}
 use Rattle.from_llvm_ir.proofs.constants.add_constant.Goals as goal
 
-pub parts_of-value-requires : goal.parts_of-value-requires
-parts_of-value-requires g c = short_kind c.args.source.now c.args.c c.const_kind.result.now c.const_kind.ensures.kind c.requires.short
+pub unreachable-requires : goal.unreachable-requires
+unreachable-requires g c =
+    let k = short_kind c.args.source.now c.args.c c.const_kind.result.now c.const_kind.ensures.kind c.requires.short in
+    c.in_default.not-Int k.0 k.1 k.2
 
 pub import_plain-requires-clause-short : goal.import_plain-requires-clause-short
 import_plain-requires-clause-short g c =
-    const_short c.args.source.now c.args.c c.parts_of-value.result.0 c.parts_of-value.result.1 (c.const_kind.ensures.kind ∙ ap Some c.parts_of-value.ensures) c.requires.short
+    const_short c.args.source.now c.args.c c.in-Int.ty c.in-Int.value (c.const_kind.ensures.kind ∙ ap Some c.in-Int.is) c.requires.short
 
 pub overflow_cast-constant : goal.overflow_cast-constant
 overflow_cast-constant g c = record {
-  fits = const_fits c.args.source.now c.args.c c.parts_of-value.result.0 c.parts_of-value.result.1 (c.const_kind.ensures.kind ∙ ap Some c.parts_of-value.ensures) c.requires.short;
+  fits = const_fits c.args.source.now c.args.c c.in-Int.ty c.in-Int.value (c.const_kind.ensures.kind ∙ ap Some c.in-Int.is) c.requires.short;
 }
 
 pub add_op-requires-clause-open : goal.add_op-requires-clause-open
@@ -33,10 +35,10 @@ returns-clause-made g c =
     IfOk-weaker c.add_op.result _ _
     (λ o added h base left now right u.
     let ty = type_at (type_trees c.import_plain.new.ctx.types) c.in_ok-int.int in
-    let kind = ConstantOp (IntegerAttr ty c.parts_of-value.result.1) in (
+    let kind = ConstantOp (IntegerAttr ty c.in-Int.value) in (
       new_op o.0 None kind [] [] (Some ty),
       refl,
-      const_made c.args.source.now c.args.c c.parts_of-value.result.0 c.parts_of-value.result.1 o.0 ty (c.const_kind.ensures.kind ∙ ap Some c.parts_of-value.ensures) c.requires.short c.in_ok-int.ensures.ty,
+      const_made c.args.source.now c.args.c c.in-Int.ty c.in-Int.value o.0 ty (c.const_kind.ensures.kind ∙ ap Some c.in-Int.is) c.requires.short c.in_ok-int.ensures.ty,
       added h base left now right kind refl (typed_open h base c.args.ctx.now c.import_plain.new.ctx c.args.block left now right u c.import_plain.ensures.grown),
     ))
     c.add_op.ensures.added
@@ -67,3 +69,9 @@ const_kind-requires g c = c.requires.within
 
 pub import_plain-requires-clause-sound : goal.import_plain-requires-clause-sound
 import_plain-requires-clause-sound g c = c.requires.sound
+
+pub add_op-requires-clause-plain : goal.add_op-requires-clause-plain
+add_op-requires-clause-plain g c = refl
+
+pub add_op-requires-clause-types : goal.add_op-requires-clause-types
+add_op-requires-clause-types g c = c.in_ok-int.ensures.within

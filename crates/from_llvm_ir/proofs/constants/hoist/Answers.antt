@@ -6,6 +6,8 @@ use Rattle.llvm_core.specs.declared.code.LLVMValue.{LLVMValue}
 use Rattle.llvm_core.specs.Data.{trees_of, operand_of}
 use Rattle.from_llvm_ir.specs.Imported.{constant_in}
 use Rattle.from_llvm_ir.specs.Body.{IsHoisting}
+use Rattle.from_llvm_ir.specs.Source.{IsUsed}
+use Rattle.from_llvm_ir.proofs.ConstLaws.{used_short}
 use Rattle.from_llvm_ir.proofs.constants.hoist.Goals as goal
 
 pub hoist_constant-requires-clause-sound : goal.hoist_constant-requires-clause-sound
@@ -26,3 +28,9 @@ returns-in-Const-clause-hoisting g c =
     on_ok_weaker c.hoist_constant.result
     (λ hoisted fr uses h number. subst (λ (v : LLVMValue). IsHoisting fr m c.hoist_constant.new.ctx c.hoist_constant.new.values (uses ++ filter_map constant_in (operand_of (trees_of m) v ∷ []))) (sym c.in-Const.is) (hoisted fr uses h number))
     c.hoist_constant.ensures.hoisting
+
+pub hoist_constant-requires-clause-within : goal.hoist_constant-requires-clause-within
+hoist_constant-requires-clause-within g c = let u = c.requires.used in (subst (IsUsed c.args.source.now u.0) c.in-Const.is u.1).valid
+
+pub hoist_constant-requires-clause-short : goal.hoist_constant-requires-clause-short
+hoist_constant-requires-clause-short g c = let u = c.requires.used in used_short c.args.source.now u.0 c.in-Const.c (subst (IsUsed c.args.source.now u.0) c.in-Const.is u.1)

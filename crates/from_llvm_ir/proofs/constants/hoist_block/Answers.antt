@@ -6,7 +6,7 @@ use Rattle.llvm_core.specs.Data.{Placed, data_of}
 use Rattle.llvm_core.specs.Form.{is_phi}
 use Rattle.from_llvm_ir.specs.Imported.{constants_in}
 use Rattle.from_llvm_ir.specs.Body.{IsHoisting, uses_of_inst}
-use Rattle.from_llvm_ir.proofs.SourceLaws.{listed_at, insts_listed}
+use Rattle.from_llvm_ir.proofs.SourceLaws.{listed_at, insts_listed, block_within}
 use Rattle.from_llvm_ir.proofs.HoistLaws.{uses_then, block_uses}
 use Rattle.from_llvm_ir.proofs.KeepLaws.{keeps_none, keeps_then}
 use Rattle.from_llvm_ir.proofs.constants.hoist_block.Goals as goal
@@ -51,3 +51,6 @@ loop-i-init g c = record {
 
 pub returns-clause-kept : goal.returns-clause-kept
 returns-clause-kept g c = c.loop-i.invariant.kept
+
+pub instructions-i-items-requires : goal.instructions-i-items-requires
+instructions-i-items-requires g c = let r = c.requires.site in block_within c.args.source.now r.1 c.args.from r.2 r.3 r.6

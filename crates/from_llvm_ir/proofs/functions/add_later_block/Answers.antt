@@ -4,9 +4,10 @@ use Rattle.std.proofs.lemmas.Result.{IfOk-weaker}
 use Rattle.dialect_types.specs.declared.types.TypeHandle.{TypeHandle}
 use Rattle.dialect_types.specs.Trees.{type_at, type_trees}
 use Rattle.from_llvm_ir.specs.Imported.{given_name}
+use Rattle.dialect_core.specs.ContextData.{ContextData, kind_at}
 use Rattle.from_llvm_ir.proofs.ResultLaws.{ok_both}
-use Rattle.from_llvm_ir.proofs.SourceLaws.{block_name}
-use Rattle.from_llvm_ir.proofs.StartLaws.{later_heads}
+use Rattle.from_llvm_ir.proofs.SourceLaws.{block_name, block_within}
+use Rattle.from_llvm_ir.proofs.StartLaws.{later_heads, next_head}
 use Rattle.from_llvm_ir.proofs.KeepLaws.{keeps_none, keeps_then, keeps_types}
 use Rattle.from_llvm_ir.proofs.functions.add_later_block.Goals as goal
 
@@ -39,3 +40,13 @@ add_func_block-requires-clause-args c = subst (All (λ (t : TypeHandle). t.0 < l
 
 pub returns-in_err-label-clause-kept : goal.returns-in_err-label-clause-kept
 returns-in_err-label-clause-kept c = λ n b later. keeps_none n b c.args.ctx.now
+
+pub block_name-requires : goal.block_name-requires
+block_name-requires c = let r = c.requires in block_within c.args.source.now r.0.source c.args.from r.3 r.4 r.6
+
+pub add_func_block-requires-clause-func : goal.add_func_block-requires-clause-func
+add_func_block-requires-clause-func c = ap (λ (x : ContextData). kind_at x.ops c.args.func.0) c.import_phi_types.ensures.grown.rest ∙ c.requires.8.kind
+
+pub returns-clause-number : goal.returns-clause-number
+returns-clause-number c =
+    IfOk-weaker c.add_func_block.result _ _ (λ block number fr j h. next_head fr c.args.func c.args.ctx.now c.import_phi_types.new.ctx j block.0 h c.import_phi_types.ensures.grown number) c.add_func_block.ensures.number

@@ -25,7 +25,7 @@ returns-clause-declared g c =
     let n = func.0.0 in
     record {
       building = subst (λ (t : TypeTree). IsBuilding c.add_func.new.ctx m c.args.body (with_func d (bare_func n f.name t))) (c.in_ok-ty.ensures.ty f h)
-          (subst (λ (name : List ℕ). IsBuilding c.add_func.new.ctx m c.args.body (with_func d (bare_func n name (type_at (type_trees c.import_function_type.new.ctx.types) c.in_ok-ty.ty)))) (c.requires.name f h) (is.0.0 m d typed));
+          (subst (λ (name : List ℕ). IsBuilding c.add_func.new.ctx m c.args.body (with_func d (bare_func n name (type_at (type_trees c.import_function_type.new.ctx.types) c.in_ok-ty.ty)))) (c.in_ok-name.ensures ∙ c.requires.name f h) (is.0.0 m d typed));
       before = subst (λ (k : ℕ). All (IsBelow k (length c.add_func.new.ctx.blocks)) d.functions) (sym is.0.1)
           (subst (λ (bs : List BlockData). All (IsBelow (length c.import_function_type.new.ctx.ops) (length bs)) d.functions) (sym is.1) typed.below);
     })
@@ -39,6 +39,9 @@ returns-clause-blocks g c = on_ok_weaker c.add_func.result (λ same. same ∙ ap
 
 pub returns-in_err-ty-clause-kept : goal.returns-in_err-ty-clause-kept
 returns-in_err-ty-clause-kept g c = λ m d h n b before. keeps_types n b c.args.ctx.now c.import_function_type.new.ctx c.import_function_type.ensures.grown
+
+pub returns-in_err-name-clause-kept : goal.returns-in_err-name-clause-kept
+returns-in_err-name-clause-kept g c = λ m d h n b before. keeps_types n b c.args.ctx.now c.import_function_type.new.ctx c.import_function_type.ensures.grown
 
 pub returns-clause-kept : goal.returns-clause-kept
 returns-clause-kept g c = λ m d h n b before. keeps_then n b c.args.ctx.now c.import_function_type.new.ctx c.add_func.new.ctx (keeps_types n b c.args.ctx.now c.import_function_type.new.ctx c.import_function_type.ensures.grown) (c.add_func.ensures.kept m d (typed_building c.args.ctx.now c.import_function_type.new.ctx m c.args.body d h c.import_function_type.ensures.grown) n b before)

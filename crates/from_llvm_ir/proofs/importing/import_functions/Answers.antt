@@ -11,8 +11,8 @@ use Rattle.from_llvm_ir.proofs.ModuleLaws.{imported_none, imported_more, functio
 use Rattle.from_llvm_ir.proofs.KeepLaws.{keeps_none, keeps_then}
 use Rattle.from_llvm_ir.proofs.importing.import_functions.Goals as goal
 
-pub index-requires : goal.index-requires
-index-requires g c =
+pub index-name-requires : goal.index-name-requires
+index-name-requires g c =
     omega (arith, c.in_ok-given.given.ok.0, ap length c.in_ok-given.ensures, length-map (data_of c.args.source.now).functions (λ (f : Function). f.name), function_count c.args.source.now, c.functions-f-end.ensures.len, c.loop-f-test.true)
 
 pub import_function-requires-clause-source : goal.import_function-requires-clause-source
@@ -20,7 +20,7 @@ import_function-requires-clause-source g c = source_at c.args.source.now c.loop-
 
 pub import_function-requires-clause-name : goal.import_function-requires-clause-name
 import_function-requires-clause-name g c = λ f h.
-    c.in_ok-name.ensures ∙ name_given (data_of c.args.source.now).functions c.in_ok-given.given.items c.loop-f.f f c.index.result.now c.in_ok-given.ensures h.at c.index.ensures
+    name_given (data_of c.args.source.now).functions c.in_ok-given.given.items c.loop-f.f f c.index-name.result.now c.in_ok-given.ensures h.at c.index-name.ensures
 
 pub import_function-requires-clause-module : goal.import_function-requires-clause-module
 import_function-requires-clause-module g c = let b = c.requires.building in let h = c.loop-f.invariant.imported b.0 b.1 b.2 in (b.0, h.so_far, h.building)

@@ -39,3 +39,6 @@ pub returns-clause-kept : goal.returns-clause-kept
 returns-clause-kept c = λ n b long.
     keeps_then n b c.args.ctx.now c.create_module.new.self c.add_bare_block.new.ctx (keeps_new n b c.args.ctx.now c.create_module.new.self (module_op c.in_ok-name.name) c.in_ok-module.ensures.ok c.in_ok-module.ensures.data c.in_ok-module.ensures.typed)
     (c.add_bare_block.ensures.kept n b (omega (arith, long, c.in_ok-module.ensures.number)))
+
+pub returns-clause-number : goal.returns-clause-number
+returns-clause-number c = c.in_ok-module.ensures.number

@@ -1,7 +1,7 @@
 -- What `operations::import_insts` owes besides what the check finds.
 use Rattle.std.proofs.Common.{arith}
 use Rattle.from_llvm_ir.proofs.ForwardLaws.{passed_on}
-use Rattle.from_llvm_ir.proofs.SourceLaws.{listed_at, insts_listed}
+use Rattle.from_llvm_ir.proofs.SourceLaws.{listed_at, insts_listed, block_within}
 use Rattle.from_llvm_ir.proofs.BodyLaws.{begun, filled, next_at}
 use Rattle.from_llvm_ir.proofs.KeepLaws.{keeps_none, keeps_then}
 use Rattle.from_llvm_ir.proofs.operations.import_insts.Goals as goal
@@ -48,3 +48,9 @@ returns-clause-ok g c = λ fr f j b h.
 
 pub returns-in_err-import_inst-clause-kept : goal.returns-in_err-import_inst-clause-kept
 returns-in_err-import_inst-clause-kept g c = λ n b behind. keeps_then n b c.args.ctx.now c.loop-place.ctx c.import_inst.new.ctx (c.loop-place.invariant.kept n b behind) (c.import_inst.ensures.kept n b behind)
+
+pub instructions-insts-requires : goal.instructions-insts-requires
+instructions-insts-requires g c = let r = c.requires in block_within c.args.source.now r.0.source c.args.from r.4.place r.3 r.4.of_block
+
+pub returns-clause-kept : goal.returns-clause-kept
+returns-clause-kept g c = c.loop-place.invariant.kept

@@ -22,7 +22,7 @@ use Rattle.from_llvm_ir.proofs.UnderLaws.{typed_open}
 use Rattle.from_llvm_ir.proofs.ForwardLaws.{passed_on}
 use Rattle.from_llvm_ir.proofs.ReadyLaws.{body_open, edges_stand, edges_within, in_operands, in_targets, operands_settled, operands_stand, targets_ready, values_within}
 use Rattle.from_llvm_ir.proofs.RefusalLaws.{late}
-use Rattle.from_llvm_ir.proofs.OperationLaws.{kind_found, operation_more}
+use Rattle.from_llvm_ir.proofs.OperationLaws.{kind_found, kind_types, operation_more, plain_kind}
 use Rattle.from_llvm_ir.proofs.KeepLaws.{keeps_none, keeps_then, keeps_types}
 use Rattle.from_llvm_ir.proofs.operations.import_op.Goals as goal
 
@@ -149,3 +149,9 @@ add_op-requires-clause-result_ty g c = c.in_ok-ty.ensures.within
 
 pub inst-inst-requires : goal.inst-inst-requires
 inst-inst-requires g c = let r = c.requires in inst_within c.args.source.now r.4 c.args.i r.3 r.5 r.6.inst
+
+pub add_op-requires-clause-plain : goal.add_op-requires-clause-plain
+add_op-requires-clause-plain g c = plain_kind c.inst-inst.result.now c.kind_of.result c.kind_of.ensures
+
+pub add_op-requires-clause-types : goal.add_op-requires-clause-types
+add_op-requires-clause-types g c = kind_types (length c.import_result_type.new.ctx.types) c.inst-inst.result.now c.kind_of.result c.kind_of.ensures

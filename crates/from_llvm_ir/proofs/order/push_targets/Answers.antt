@@ -2,6 +2,7 @@
 use Rattle.std.proofs.Common.{◌∙◌, refl, sym, arith}
 use Rattle.std.proofs.lemmas.List.{append-nil}
 use Rattle.std.proofs.lemmas.Option.{slice_get-get_or}
+use Rattle.from_llvm_ir.proofs.SourceLaws.{inst_within}
 use Rattle.from_llvm_ir.proofs.GraphLaws.{target_at, row_more, row_all}
 use Rattle.from_llvm_ir.proofs.order.push_targets.Goals as goal
 
@@ -25,3 +26,6 @@ pub returns : goal.returns
 returns c = λ f g n b p h are.
     row_all c.args.source.now f g n b c.args.i p h c.args.places.now are c.inst.result.now c.inst.ensures.inst c.deref-target-items.result.now c.loop-target.target-index c.args.row.now.items c.loop-target.row.items
     (c.deref-target-items.ensures.value ∙ c.in_ok-targets.ensures) (omega (arith, c.loop-target-test.false)) (c.loop-target.invariant f g n b p h are)
+
+pub inst-requires : goal.inst-requires
+inst-requires c = let r = c.requires in inst_within c.args.source.now r.3 c.args.i r.5.at r.4 r.5.inst
