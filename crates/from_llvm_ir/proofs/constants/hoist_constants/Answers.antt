@@ -42,3 +42,6 @@ returns-clause-hoisting g c = λ fr framed order noted hoisting number.
 
 pub returns-in_err-hoist_block-clause-kept : goal.returns-in_err-hoist_block-clause-kept
 returns-in_err-hoist_block-clause-kept g c = λ n b behind. keeps_then n b c.args.ctx.now c.loop-place.ctx c.hoist_block.new.ctx (c.loop-place.invariant.kept n b behind) (c.hoist_block.ensures.kept n b behind)
+
+pub returns-clause-kept : goal.returns-clause-kept
+returns-clause-kept g c = c.loop-place.invariant.kept

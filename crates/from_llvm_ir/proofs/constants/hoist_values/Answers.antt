@@ -46,3 +46,9 @@ returns-clause-hoisting g c = λ fr uses h number.
 
 pub returns-clause-kept : goal.returns-clause-kept
 returns-clause-kept g c = c.loop-operand.invariant.kept
+
+pub hoist-requires-clause-sound : goal.hoist-requires-clause-sound
+hoist-requires-clause-sound g c = c.requires.sound
+
+pub hoist-requires-clause-apart : goal.hoist-requires-clause-apart
+hoist-requires-clause-apart g c = c.requires.apart

@@ -2,7 +2,7 @@
 use Rattle.std.proofs.Common.{◌∙◌, ◌+◌, sym, subst, refl, List, arith}
 use Rattle.std.specs.Prelude.{IsSome}
 use Rattle.llvm_core.specs.declared.code.LLVMValue.{LLVMValue}
-use Rattle.from_llvm_ir.proofs.SourceLaws.{listed_at, phi_read, insts_listed}
+use Rattle.from_llvm_ir.proofs.SourceLaws.{listed_at, phi_read, insts_listed, block_within, inst_within}
 use Rattle.from_llvm_ir.proofs.TakenLaws.{PassedTo, edge_value, passed_more, passed_front, passed_all}
 use Rattle.from_llvm_ir.proofs.entries.edge_values.Goals as goal
 use Rattle.from_llvm_ir.proofs.entries.edge_values.Goals.{else-loop-i-test, then-loop-i-test+else-is_phi}
@@ -39,3 +39,13 @@ returns-clause-passed c = λ f g h.
 
 pub returns-clause-used : goal.returns-clause-used
 returns-clause-used c = λ f g h. (c.loop-i.invariant f g h).used
+
+pub instructions-i-items-requires : goal.instructions-i-items-requires
+instructions-i-items-requires c = let h = c.requires.2 in block_within c.args.source.now c.requires.1 c.args.to h.place h.block h.is
+
+pub inst-requires : goal.inst-requires
+inst-requires c =
+    let h = c.requires.2 in
+    let m = c.args.source.now in
+    let x = listed_at m c.requires.1 c.args.to h.place h.block c.instructions-i-items.result.now c.loop-i.i-index (record { 0 = 0 }) h.source.sound h.is c.instructions-i-items.ensures.insts c.loop-i-test.true in
+    inst_within m h.block _ c.loop-i.i-index x.0 x.1

@@ -45,3 +45,12 @@ returns-in_err-name-clause-kept g c = λ m d h n b before. keeps_types n b c.arg
 
 pub returns-clause-kept : goal.returns-clause-kept
 returns-clause-kept g c = λ m d h n b before. keeps_then n b c.args.ctx.now c.import_function_type.new.ctx c.add_func.new.ctx (keeps_types n b c.args.ctx.now c.import_function_type.new.ctx c.import_function_type.ensures.grown) (c.add_func.ensures.kept m d (typed_building c.args.ctx.now c.import_function_type.new.ctx m c.args.body d h c.import_function_type.ensures.grown) n b before)
+
+pub import_function_type-requires : goal.import_function_type-requires
+import_function_type-requires g c = c.requires.source
+
+pub add_func-requires-clause-ty : goal.add_func-requires-clause-ty
+add_func-requires-clause-ty g c = c.in_ok-ty.ensures.within
+
+pub returns-clause-func : goal.returns-clause-func
+returns-clause-func g c = c.add_func.ensures.func

@@ -1,6 +1,8 @@
 -- What `functions::import_body` owes besides what the check finds.
 use Rattle.std.proofs.Common.{refl, arith}
 use Rattle.std.proofs.lemmas.Result.{on_ok_weaker, IfErr-weaker}
+use Rattle.from_llvm_ir.specs.declared.conversion_err.ConversionErr.TheVariants as E
+use Rattle.from_llvm_ir.proofs.ForwardLaws.{passed_on}
 use Rattle.from_llvm_ir.proofs.SourceLaws.{function_within}
 use Rattle.from_llvm_ir.proofs.StartLaws.{blocks_there, first_target, started, not_filled}
 use Rattle.from_llvm_ir.proofs.KeepLaws.{keeps_none, keeps_then}
@@ -95,3 +97,15 @@ returns-in_err-entries-clause-kept g c = λ n b later behind. keeps_none n b c.a
 
 pub returns-in_err-targets-clause-kept : goal.returns-in_err-targets-clause-kept
 returns-in_err-targets-clause-kept g c = λ n b later behind. c.add_blocks.ensures.kept n b later
+
+pub returns-in_err-entries-clause-err : goal.returns-in_err-entries-clause-err
+returns-in_err-entries-clause-err g c = passed_on c.from_residual.result E.NoMemory _ c.from_residual.ensures.1 (λ fr framed order h places inverse. tt)
+
+pub returns-in_err-targets-clause-err : goal.returns-in_err-targets-clause-err
+returns-in_err-targets-clause-err g c = passed_on c.from_residual-in_err-targets.result E.NoMemory _ c.from_residual-in_err-targets.ensures.1 (λ fr framed order h places inverse. tt)
+
+pub returns-in_err-values-clause-err : goal.returns-in_err-values-clause-err
+returns-in_err-values-clause-err g c = passed_on c.from_residual-in_err-values.result E.NoMemory _ c.from_residual-in_err-values.ensures.1 (λ fr framed order h places inverse. tt)
+
+pub returns-in_err-hoist_constants-clause-err : goal.returns-in_err-hoist_constants-clause-err
+returns-in_err-hoist_constants-clause-err g c = passed_on c.from_residual-in_err-hoist_constants.result E.NoMemory _ c.from_residual-in_err-hoist_constants.ensures.1 (λ fr framed order h places inverse. tt)

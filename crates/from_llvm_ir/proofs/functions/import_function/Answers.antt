@@ -1,6 +1,7 @@
 -- What `functions::import_function` owes besides what the check finds.
 use Rattle.std.proofs.Common.{◌≡◌, ◌∙◌, refl, length, sym, ap, subst, List, ℕ, arith}
 use Rattle.dialect_core.specs.declared.ops.BlockData.{BlockData}
+use Rattle.from_llvm_ir.specs.declared.conversion_err.ConversionErr.TheVariants as E
 use Rattle.from_llvm_ir.proofs.ForwardLaws.{passed_on}
 use Rattle.from_llvm_ir.specs.Order.{IsInverse, IsRpo}
 use Rattle.from_llvm_ir.specs.Walks.{graph_of}
@@ -101,3 +102,9 @@ returns-in_err-order-clause-kept g c = λ m d h n b before behind. keeps_none n 
 
 pub returns-in_err-places-clause-kept : goal.returns-in_err-places-clause-kept
 returns-in_err-places-clause-kept g c = λ m d h n b before behind. keeps_none n b c.args.ctx.now
+
+pub returns-in_err-places-clause-err : goal.returns-in_err-places-clause-err
+returns-in_err-places-clause-err g c = passed_on c.from_residual-in_err-places.result E.NoMemory _ c.from_residual-in_err-places.ensures.1 (λ h source. tt)
+
+pub returns-in_err-func-clause-err : goal.returns-in_err-func-clause-err
+returns-in_err-func-clause-err g c = passed_on c.from_residual-in_err-func.result E.NoMemory _ c.from_residual-in_err-func.ensures.1 (λ h source. tt)

@@ -1,6 +1,8 @@
 -- What `importing::import_counted` owes besides what the check finds.
 use Rattle.std.proofs.Common.{length, arith}
 use Rattle.dialect_types.specs.Names.{legal_name}
+use Rattle.from_llvm_ir.specs.declared.conversion_err.ConversionErr.TheVariants as E
+use Rattle.from_llvm_ir.proofs.ForwardLaws.{passed_on}
 use Rattle.from_llvm_ir.proofs.OwnLaws.{held_types}
 use Rattle.from_llvm_ir.proofs.ModuleLaws.{imported_whole}
 use Rattle.from_llvm_ir.proofs.KeepLaws.{keeps_then, others_kept, types_kept}
@@ -81,3 +83,18 @@ returns-clause-typed g c =
     let start = c.in_ok-module.ensures in
     types_kept c0 c.import_functions.new.ctx (keeps_then n b c0 c.start_module.new.ctx c.import_functions.new.ctx (c.start_module.ensures.kept n b (omega arith))
     (c.import_functions.ensures.kept c.in_ok-module.«module».0.0 (legal_name c.args.source.now.name) start.building n b (omega (arith, start.number)) (omega (arith, start.block))))
+
+pub import_functions-requires-clause-form : goal.import_functions-requires-clause-form
+import_functions-requires-clause-form g c = c.requires.form
+
+pub import_functions-requires-clause-building : goal.import_functions-requires-clause-building
+import_functions-requires-clause-building g c = (c.in_ok-module.«module».0.0, legal_name c.args.source.now.name, c.in_ok-module.ensures.building)
+
+pub returns-clause-number : goal.returns-clause-number
+returns-clause-number g c = c.in_ok-module.ensures.number
+
+pub returns-in_err-module-clause-cause : goal.returns-in_err-module-clause-cause
+returns-in_err-module-clause-cause g c = passed_on c.from_residual.result E.NoMemory _ c.from_residual.ensures.1 tt
+
+pub returns-in_err-blocks-clause-cause : goal.returns-in_err-blocks-clause-cause
+returns-in_err-blocks-clause-cause g c = passed_on c.from_residual-in_err-blocks.result c.in_err-blocks.field-0.0 _ c.from_residual-in_err-blocks.ensures.1 c.in_err-blocks.ensures.err

@@ -5,6 +5,7 @@ use Rattle.llvm_core.specs.Data.{Function, data_of}
 use Rattle.llvm_core.proofs.DataLemmas.{function_count}
 use Rattle.from_llvm_ir.specs.declared.matching.FunctionBlocks.{FunctionBlocks}
 use Rattle.from_llvm_ir.specs.Importing.{IsImportedTo}
+use Rattle.from_llvm_ir.specs.declared.conversion_err.ConversionErr.TheVariants as E
 use Rattle.from_llvm_ir.proofs.SourceLaws.{source_at}
 use Rattle.from_llvm_ir.proofs.ForwardLaws.{passed_on}
 use Rattle.from_llvm_ir.proofs.ModuleLaws.{imported_none, imported_more, function_cause, name_given}
@@ -69,3 +70,15 @@ pub returns-in_err-push-clause-kept : goal.returns-in_err-push-clause-kept
 returns-in_err-push-clause-kept g c = λ m name h n b before behind.
     let so = c.loop-f.invariant.imported m name h in
     keeps_then n b c.args.ctx.now c.loop-f.ctx c.import_function.new.ctx (c.loop-f.invariant.kept m name h n b before behind) (c.import_function.ensures.kept m so.so_far so.building n b before behind)
+
+pub function_names-requires : goal.function_names-requires
+function_names-requires g c = c.requires.form
+
+pub returns-in_err-given-clause-err : goal.returns-in_err-given-clause-err
+returns-in_err-given-clause-err g c = passed_on c.from_residual.result E.NoMemory _ c.from_residual.ensures.1 tt
+
+pub returns-in_err-push-clause-err : goal.returns-in_err-push-clause-err
+returns-in_err-push-clause-err g c = passed_on c.from_residual-in_err-push.result E.NoMemory _ c.from_residual-in_err-push.ensures.1 tt
+
+pub returns-clause-kept : goal.returns-clause-kept
+returns-clause-kept g c = c.loop-f.invariant.kept

@@ -65,3 +65,6 @@ returns-in_err-import_insts-clause-kept g c = λ fr framed order leads n b behin
     let x = named_at c.args.source.now c.args.f fr c.args.order.now c.blocks-blocks.result.now c.loop-place.place-index framed order c.blocks-blocks.ensures.blocks c.loop-place-test.true in
     let at = same_Some _ _ (sym c.of.ensures ∙ target_named c.args.source.now fr c.args.targets.now c.args.order.now c.blocks-blocks.result.now c.loop-place.place-index leads x) in
     keeps_then n b c.args.ctx.now c.loop-place.ctx c.import_insts.new.ctx (c.loop-place.invariant.kept fr framed order leads n b behind) (c.import_insts.ensures.kept n b (omega (arith, behind, ap (λ (y : BlockRef). y.0) at)))
+
+pub returns-clause-kept : goal.returns-clause-kept
+returns-clause-kept g c = c.loop-place.invariant.kept
