@@ -1,5 +1,5 @@
 -- What `importing::import_functions` owes besides what the check finds.
-use Rattle.std.proofs.Common.{ℕ, List, ◌+◌, sym, ap, subst, ◌∙◌, length, arith}
+use Rattle.std.proofs.Common.{ℕ, List, ◌+◌, sym, ap, subst, length, arith}
 use Rattle.std.proofs.lemmas.List.{length-map}
 use Rattle.llvm_core.specs.Data.{Function, data_of}
 use Rattle.llvm_core.proofs.DataLemmas.{function_count}
