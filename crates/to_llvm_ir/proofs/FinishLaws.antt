@@ -1,6 +1,5 @@
 -- A function whose edges are all done stands for the dialect's, and so do the functions so far.
-use Rattle.std.proofs.Common.{◌≡◌, ◌<◌, ◌≤◌, ◌^◌, ◌+◌, ◌*◌, ℕ, suc, Result, Ok, Err, List, [], ◌∷◌, ◌++◌, Option, Some, None, All, length, take, slice_get, get_or, refl, sym, ap, subst, ◌∙◌, arith, append_assoc}
-use Rattle.std.specs.Prelude.{IfErr, OnOk}
+use Rattle.std.proofs.Common.{◌≡◌, ◌<◌, ◌≤◌, ◌^◌, ◌+◌, ◌*◌, ℕ, suc, List, [], ◌∷◌, ◌++◌, Option, Some, None, All, length, take, slice_get, get_or, refl, sym, ap, subst, ◌∙◌, arith, append_assoc}
 use Rattle.std.specs.List.{filter_map, cons_option, enumerate_from}
 use Rattle.std.specs.Option.{option_map}
 use Rattle.std.proofs.lemmas.List.{append-nil, take_all, length-map, length_push}
@@ -35,20 +34,6 @@ use Rattle.to_llvm_ir.specs.Functions.{AddsFunction, AddsFunctions, HasExported,
 use Rattle.to_llvm_ir.proofs.ContextLaws.{known, func_parts}
 use Rattle.to_llvm_ir.proofs.ListLaws.{item_there, all_at, at_middle, filter_map_more, filter_map_at}
 use Rattle.to_llvm_ir.proofs.MadeLaws.{exported}
-
--- ---- results
-
-pub ok_then : {T E : Type 0} (r : Result T E) (P Q : Type 0) → (P → Q) → OnOk r P → OnOk r Q
-ok_then (Ok x) P Q f p = f p
-ok_then (Err e) P Q f p = tt
-
-pub both : {T E : Type 0} (r : Result T E) (P Q R : Type 0) → (P → Q → R) → OnOk r P → OnOk r Q → OnOk r R
-both (Ok x) P Q R f p q = f p q
-both (Err e) P Q R f p q = tt
-
-pub err_then : {T E : Type 0} (r : Result T E) (P Q : E → Type 0) → ((e : E) → P e → Q e) → IfErr r P → IfErr r Q
-err_then (Ok x) P Q f p = tt
-err_then (Err e) P Q f p = f e p
 
 -- ---- the blocks of a function
 

@@ -1,6 +1,6 @@
 -- What the context tells of an operation, and what its form says then.
-use Rattle.std.proofs.Common.{◌≡◌, ◌<◌, ◌^◌, ℕ, zero, suc, true, false, List, [], ◌∷◌, Option, Some, None, length, slice_get, get_or, refl, sym, ap, subst, ◌∙◌}
-use Rattle.std.specs.Prelude.{IsErrAnd, IfErr, Result}
+use Rattle.std.proofs.Common.{◌≡◌, ◌<◌, ◌^◌, ℕ, zero, suc, true, false, List, [], ◌∷◌, Option, Some, None, length, slice_get, get_or, refl, sym, ap, subst, ◌∙◌, arith}
+use Rattle.std.specs.Prelude.{IsErrAnd, IfOk, IfErr, Result, Ok, Err}
 use Rattle.std.specs.List.{Contains, flat_map}
 use Rattle.std.specs.Option.{option_map, option_and_then}
 use Rattle.std.proofs.lemmas.Result.{err_from_is_err_and}
@@ -40,6 +40,15 @@ use Rattle.to_llvm_ir.proofs.GrowthLaws.{int_at, value_there}
 -- an error that is passed on
 pub passed : {T E : Type 0} (r : Result T E) (e : E) (P : E → Type 0) → IsErrAnd r (λ y. y ≡ e) → P e → IfErr r P
 passed r e P h p = let q = err_from_is_err_and r h in rw q.1 (subst P (sym q.2) p)
+
+-- what a last call promises where it succeeds, two clauses or three together
+pub both : {X E : Type 0} {P Q R : X → Type 0} (r : Result X E) → IfOk r P → IfOk r Q → ((x : X) → P x → Q x → R x) → IfOk r R
+both (Ok x) p q f = f x p q
+both (Err e) p q f = tt
+
+pub all_three : {X E : Type 0} {P Q R S : X → Type 0} (r : Result X E) → IfOk r P → IfOk r Q → IfOk r R → ((x : X) → P x → Q x → R x → S x) → IfOk r S
+all_three (Ok x) p q h f = f x p q h
+all_three (Err e) p q h f = tt
 
 -- ---- what the context has under the number of an operation
 
@@ -126,6 +135,13 @@ use_at s m xs i d v type x are at h = subst (λ (w : Value). IsUse s m w type x)
 
 pub operand_count : (s : Spot) (xs : List Value) (i : ℕ) (v : Value) → s.op.operands ≡ xs → slice_get s.op.operands i ≡ Some v → i < length xs
 operand_count s xs i v are at = slice_get_within xs i v (ap (λ (ys : List Value). slice_get ys i) (sym are) ∙ at)
+
+-- an operand and an edge stand in the lists that the context answers
+pub operand_there : (c : ContextData) (op : OpRef) (s : Spot) (xs : List Value) (i : ℕ) (v : Value) → IsSpot c op s → option_map (λ (x : OpData). x.operands) (slice_get c.ops op.0) ≡ Some xs → slice_get s.op.operands i ≡ Some v → i < length xs
+operand_there c op s xs i v spot at = operand_count s xs i v (operands_are (type_trees c.types) c.ops op s.op xs (spot_parts c op s spot) at)
+
+pub edge_there : (c : ContextData) (op : OpRef) (s : Spot) (ss : List Successor) (i n : ℕ) → IsSpot c op s → option_map (λ (x : OpData). x.successors) (slice_get c.ops op.0) ≡ Some ss → length s.op.successors ≡ n → i < n → i < length ss
+edge_there c op s ss i n spot at count lt = let e = ap (λ (es : List Successor). length es) (successors_are (type_trees c.types) c.ops op s.op ss (spot_parts c op s spot) at) in omega (arith, e, count, lt)
 
 -- a value that an edge passes
 pub passed_used : (s : Spot) (l i : ℕ) (e : Successor) (v : Value) (type : TypeTree) → slice_get s.op.successors l ≡ Some e → slice_get e.args i ≡ Some v → value_type s.task.source v ≡ Some type → IsUsed s v type

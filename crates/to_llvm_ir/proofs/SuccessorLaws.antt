@@ -1,12 +1,12 @@
 -- Which operations lead somewhere, and where two edges of one differ.
-use Rattle.std.proofs.Common.{◌≡◌, ◌<◌, ◌⊎◌, ℕ, zero, suc, Bool, true, false, not, Decides, List, [], ◌∷◌, ◌++◌, Some, All, length, slice_get, refl, sym, ap, ◌∙◌, arith, ⊎_elim}
+use Rattle.std.proofs.Common.{◌≡◌, ◌<◌, ℕ, zero, suc, Bool, true, false, not, Decides, List, [], ◌∷◌, ◌++◌, Some, All, length, slice_get, refl, sym, ap, ◌∙◌, arith}
 use Rattle.std.specs.List.{flat_map}
 use Rattle.std.proofs.lemmas.Option.{same_Some, none-some}
 use Rattle.std.proofs.lemmas.List.Elements.{All-head, All-tail}
 use Rattle.std.proofs.lemmas.List.{append-nil}
 use Rattle.std.proofs.lemmas.List.Concat.{flat_map-append}
 use Rattle.llvm_core.proofs.ListLemmas.{slice_get-kept}
-use Rattle.dialect_types.specs.Trees.{TypeTree, IntegerAttr, type_trees}
+use Rattle.dialect_types.specs.Trees.{IntegerAttr}
 use Rattle.std.specs.Cmp.Lexicographic.{pointwise}
 use Rattle.std.proofs.lemmas.Slice.Eq.{slice_eq-Decides}
 use Rattle.dialect_core.specs.declared.numbers.OpRef.{OpRef}
@@ -15,12 +15,9 @@ use Rattle.dialect_core.specs.declared.ops.Value.{Value}
 use Rattle.dialect_core.specs.declared.ops.Value.TheVariants.{Result, Argument}
 use Rattle.dialect_core.specs.contracts.ops.ValuePartialEq.TheImpl as keys
 use Rattle.meaning.proofs.SameValues.{same_value-Decides}
-use Rattle.dialect_core.specs.declared.ops.OpKind.{OpKind}
-use Rattle.dialect_core.specs.declared.ops.OpKind.TheVariants as K
-use Rattle.dialect_core.specs.declared.ops.OpData.{OpData}
 use Rattle.dialect_core.specs.declared.ops.Successor.{Successor}
-use Rattle.dialect_core.specs.ContextData.{ContextData, kind_at}
-use Rattle.dialect_core.specs.Data.{Kind, ConstantOp, AddOp, ICmpOp, BrOp, CondBrOp, ReturnOp, UnreachableOp, DialectOp, DialectBlock, Func, kind_of, op_at}
+use Rattle.dialect_core.specs.ContextData.{ContextData}
+use Rattle.dialect_core.specs.Data.{Kind, ConstantOp, AddOp, ICmpOp, BrOp, CondBrOp, ReturnOp, UnreachableOp, DialectOp, DialectBlock, Func}
 use Rattle.dialect_core.specs.Form.{IsFormKind, IsFormFunc, is_terminator, is_terminator_kind, edges_of}
 use Rattle.to_llvm_ir.specs.declared.to_llvm_err.ToLLVMErr.TheVariants as E
 use Rattle.to_llvm_ir.specs.declared.blocks.Blocks.{Blocks}
@@ -31,51 +28,9 @@ use Rattle.to_llvm_ir.specs.States.{Spot, IsSpot, AreAllMapped, found_block}
 use Rattle.to_llvm_ir.proofs.EdgeLaws.{edge_among}
 use Rattle.to_llvm_ir.proofs.LookupLaws.{op_form, block_form}
 use Rattle.to_llvm_ir.proofs.ListLaws.{at_middle}
-use Rattle.to_llvm_ir.proofs.OpLaws.{op_there, kind_is, spot_parts, spot_form}
+use Rattle.to_llvm_ir.proofs.OpLaws.{spot_form}
 
--- ---- operations that lead nowhere
-
-nothing : (ss : List Successor) → length ss ≡ 0 → ss ≡ []
-nothing [] e = refl
-nothing (s ∷ ss) e = absurd (omega (arith, e))
-
-silent : (g : Func) (o : DialectOp) (k : Kind) → (k ≡ BrOp → ⊥) → (k ≡ CondBrOp → ⊥) → IsFormKind g o k → o.successors ≡ []
-silent g o (ConstantOp (IntegerAttr t v)) b d h = h.3
-silent g o (AddOp flags) b d h = h.4
-silent g o (ICmpOp predicate) b d h = h.4
-silent g o BrOp b d h = absurd (b refl)
-silent g o CondBrOp b d h = absurd (d refl)
-silent g o ReturnOp b d h = nothing o.successors h.1.count_is
-silent g o UnreachableOp b d h = nothing o.successors h.1.count_is
-
-is_br : (ts : List TypeTree) (k : OpKind) → kind_of ts k ≡ Some BrOp → k ≡ K.Br
-is_br ts K.Module e = absurd (none-some BrOp e)
-is_br ts K.Func e = absurd (none-some BrOp e)
-is_br ts (K.Constant value) e = let f = same_Some _ BrOp e in cc
-is_br ts (K.Add flags) e = let f = same_Some _ BrOp e in cc
-is_br ts (K.ICmp predicate) e = let f = same_Some _ BrOp e in cc
-is_br ts K.Br e = refl
-is_br ts K.CondBr e = let f = same_Some _ BrOp e in cc
-is_br ts K.Return e = let f = same_Some _ BrOp e in cc
-is_br ts K.Unreachable e = let f = same_Some _ BrOp e in cc
-
-is_cond_br : (ts : List TypeTree) (k : OpKind) → kind_of ts k ≡ Some CondBrOp → k ≡ K.CondBr
-is_cond_br ts K.Module e = absurd (none-some CondBrOp e)
-is_cond_br ts K.Func e = absurd (none-some CondBrOp e)
-is_cond_br ts (K.Constant value) e = let f = same_Some _ CondBrOp e in cc
-is_cond_br ts (K.Add flags) e = let f = same_Some _ CondBrOp e in cc
-is_cond_br ts (K.ICmp predicate) e = let f = same_Some _ CondBrOp e in cc
-is_cond_br ts K.Br e = let f = same_Some _ CondBrOp e in cc
-is_cond_br ts K.CondBr e = refl
-is_cond_br ts K.Return e = let f = same_Some _ CondBrOp e in cc
-is_cond_br ts K.Unreachable e = let f = same_Some _ CondBrOp e in cc
-
--- where the context has no branch
-pub no_branch : (c : ContextData) (op : OpRef) (s : Spot) (k : OpKind) → kind_at c.ops op ≡ Some k → (k ≡ K.Br → ⊥) → (k ≡ K.CondBr → ⊥) → IsSpot c op s → s.op.successors ≡ []
-no_branch c op s k at br cond_br h =
-    let ts = type_trees c.types in
-    let is = kind_is ts c.ops op s.op k (spot_parts c op s h) at in
-    silent s.task.source s.op s.op.kind (λ e. br (is_br ts k (is ∙ ap Some e))) (λ e. cond_br (is_cond_br ts k (is ∙ ap Some e))) (spot_form c op s h).kind
+-- ---- how many edges an operation has
 
 few : (g : Func) (o : DialectOp) (k : Kind) → IsFormKind g o k → length o.successors < 3
 few g o (ConstantOp (IntegerAttr t v)) h = rw h.3 (omega arith)
@@ -109,10 +64,6 @@ silent_ops g [] h form = refl
 silent_ops g (o ∷ os) h form =
     ap (λ (ss : List Successor). ss ++ all_edges os) (silent_kind g o o.kind (All-head (λ (o : DialectOp). is_terminator o ≡ false) o os h) (form 0 o refl))
     ∙ silent_ops g os (All-tail (λ (o : DialectOp). is_terminator o ≡ false) o os h) (λ i x at. form (suc i) x at)
-
--- where it has one
-pub branch_there : (ts : List TypeTree) (ops : List OpData) (op : OpRef) (k : OpKind) → kind_at ops op ≡ Some k → (k ≡ K.Br) ⊎ (k ≡ K.CondBr) → (o : DialectOp) × (op_at ts ops op ≡ Some o)
-branch_there ts ops op k at is = ⊎_elim (λ e. op_there ts ops op K.Br BrOp (at ∙ ap Some e) refl) (λ e. op_there ts ops op K.CondBr CondBrOp (at ∙ ap Some e) refl) is
 
 -- the edges of a block are those of its last operation
 pub last_edges : (g : Func) (form : IsFormFunc g) (j : ℕ) (c : DialectBlock) → slice_get g.blocks j ≡ Some c → (k : ℕ) × (o : DialectOp) × (slice_get c.ops k ≡ Some o) × (edges_of c ≡ o.successors)

@@ -58,8 +58,7 @@ fn add_phi(
     let ty = value_type(ctx, ty, back)?;
     let name = value_name(alloc, None, values.next)?;
     let phi = back.build(target, LLVMInst::Phi(ty, Items::new(alloc)), name.as_str())?;
-    values.set(Value::Argument(block, place), LLVMValue::Inst(phi))?;
-    Ok(())
+    values.set(Value::Argument(block, place), LLVMValue::Inst(phi))
 }
 
 /// A phi for each argument of a block, without entries yet.

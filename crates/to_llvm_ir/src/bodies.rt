@@ -52,15 +52,15 @@ fn convert_block(
 {
     let count = ctx.block_args(block).len();
     check_few(count)?;
-    let ops = ctx.block_ops(block)?;
-    check_few(ops.len())?;
     let target = target_of(blocks, block);
-    values.count_from(first);
+    values.next = first;
     if place == 0 {
         set_params(block, count, f, values)?;
     } else {
         add_phis(alloc, ctx, block, target.block, values, back)?;
     }
+    let ops = ctx.block_ops(block)?;
+    check_few(ops.len())?;
     convert_ops(
         alloc,
         ctx,

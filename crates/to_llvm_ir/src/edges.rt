@@ -1,6 +1,6 @@
 //! The entries of phis: what each edge passes to the arguments of its target.
 
-ghost use Rattle.std.specs.Prelude.{◌≡◌, ◌<◌, ◌+◌, ◌++◌, ◌∷◌, [], ℕ, false, Some, None, All, IsTrue, length, slice_get, IfErr, OnOk, if◌then◌else◌};
+ghost use Rattle.std.specs.Prelude.{◌≡◌, ◌<◌, ◌+◌, ◌++◌, ◌∷◌, [], ℕ, Some, None, All, length, slice_get, IfErr, OnOk, if◌then◌else◌};
 ghost use Rattle.dialect_core.specs.ContextData.{IsSuccessorWithin};
 ghost use Rattle.dialect_core.specs.Data.{DialectBlock, DialectOp, op_at};
 ghost use Rattle.dialect_core.specs.Form.{FitsTarget, edges_of};
@@ -16,11 +16,12 @@ ghost use Rattle.to_llvm_ir.specs.States.{Task, Spot, IsSpot, IsLinking, AreAllM
 use crate::blocks::{Blocks, Target, find_target};
 use crate::bodies::target_of;
 use crate::numbers::place_of;
+use crate::operations::is_block_op;
 use crate::to_llvm_err::ToLLVMErr;
 use crate::values::Values;
 use dialect_core::context::Context;
 use dialect_core::numbers::{BlockRef, OpRef};
-use dialect_core::ops::{OpKind, Successor, Value};
+use dialect_core::ops::{Successor, Value};
 use llvm_core::code::LLVMValue;
 use llvm_core::module::LLVMModule;
 use llvm_core::numbers::LLVMBasicBlock;
@@ -49,8 +50,7 @@ fn add_entry(
         Some(stands) => stands,
         None => unreachable!(),
     };
-    back.add_incoming(phi, stands, from)?;
-    Ok(())
+    back.add_incoming(phi, stands, from)
 }
 
 /// What the arguments of a block take on an edge from a block, as the last entries of their phis.
@@ -121,19 +121,7 @@ fn check_equal(
     Ok(())
 }
 
-/// Whether an operation leads anywhere.
-fn is_branch(ctx: &Context, op: OpRef) -> bool
-    requires { op.0 < length ctx.now.ops }
-    ensures yes { IsTrue result → (o : DialectOp) × (op_at (type_trees ctx.now.types) ctx.now.ops op ≡ Some o) }
-    ensures no { result ≡ false → (s : Spot) → IsSpot ctx.now op s → s.op.successors ≡ [] }
-{
-    match ctx.op_kind(op) {
-        OpKind::Br | OpKind::CondBr => true,
-        _ => false,
-    }
-}
-
-/// Adds the entries of the edges of an operation that leads somewhere, in order.
+/// Adds the entries of the edges of an operation of a block, in order.
 fn link_edges(
     alloc: Global,
     ctx: &Context,
@@ -176,7 +164,7 @@ fn add_op_edges(
     ensures equal { (s : Spot) (given : Given) → IsOpLinked ctx.now op s from blocks.now given values.now back.old → OnOk result (AreEqualEdges s.op.successors) }
     ensures cause { (s : Spot) (given : Given) → IsOpLinked ctx.now op s from blocks.now given values.now back.old → IfErr result (IsFuncCause ctx.now s.task.source) }
 {
-    if !is_branch(ctx, op) {
+    if !is_block_op(ctx, op) {
         return Ok(());
     }
     link_edges(alloc, ctx, op, from, blocks, values, back)

@@ -3,9 +3,7 @@
 ghost use Rattle.std.specs.Prelude.{◌≡◌, ◌<◌, ◌∷◌, [], ℕ, List, Some, None, All, length, map, IfOk, IfErr, OnOk};
 ghost use Rattle.llvm_core.specs.Checked.{IsChecked};
 ghost use Rattle.llvm_core.specs.Data as lists;
-ghost use Rattle.llvm_core.specs.Data.{AreApart};
 ghost use Rattle.llvm_core.specs.Form.{IsForm};
-ghost use Rattle.llvm_core.specs.Sound.{IsModule};
 ghost use Rattle.dialect_types.specs.Trees.{type_trees};
 ghost use Rattle.dialect_core.specs.Data.{Func, DialectModule, IsTyped, func_in, data_of};
 ghost use Rattle.dialect_core.specs.Form.{IsFormFunc, HasOnlyEntryConstants, HasTargets};
@@ -18,9 +16,7 @@ ghost use Rattle.meaning.specs.Dialect as dialect;
 ghost use Rattle.to_llvm_ir.specs.Causes.{IsFuncCause};
 ghost use Rattle.to_llvm_ir.specs.Exported.{IsExported, HasTraces, IsCause};
 ghost use Rattle.to_llvm_ir.specs.Held.{IsReadable};
-ghost use Rattle.to_llvm_ir.specs.Opening.{IsDeclared};
 ghost use Rattle.to_llvm_ir.specs.Order.{IsTaken};
-ghost use Rattle.to_llvm_ir.specs.States.{Task, IsTask};
 ghost use Rattle.to_llvm_ir.specs.Functions.{AddsFunction, AddsFunctions, IsStarted, functions_in};
 
 use crate::bodies::convert_blocks;
@@ -58,8 +54,7 @@ fn start_func(
     ensures { (g : Func) → func_in (type_trees ctx.now.types) ctx.now op ≡ Some g → IsFormFunc g → (order : List ℕ) → IsTaken g order → IfOk result (λ f. IsStarted ctx.now g order f back.old back.new) }
 {
     let ty = function_type(alloc, ctx, ctx.symbol_type(op), back)?;
-    let f = back.add_function(name_of(ctx, op), ty, 0)?;
-    Ok(f)
+    back.add_function(name_of(ctx, op), ty, 0)
 }
 
 /// The function that an operation is, as the last of the module.
@@ -79,8 +74,8 @@ fn convert_func(
     let list = ctx.op_blocks(op);
     check_few(list.len())?;
     check_few(cctx.module.functions() as usize)?;
-    let order = export_order(alloc, ctx, list)?;
     let f = start_func(alloc, ctx, op, &mut cctx.module)?;
+    let order = export_order(alloc, ctx, list)?;
     cctx.blocks = append_blocks(alloc, ctx, list, f, &mut cctx.module)?;
     cctx.values = convert_blocks(
         alloc,
@@ -157,15 +152,6 @@ fn convert_held_functions(
     convert_functions(alloc, ctx, ops.as_slice(), cctx)
 }
 
-/// The numbers of a module name what is there, and equal types have equal numbers: its type keeps that. This only reads,
-/// and is for the proof of its caller.
-fn know_sound(m: &LLVMModule)
-    ensures sound { IsModule m.now }
-    ensures apart { AreApart m.now }
-{
-    let _ = m.types();
-}
-
 /// An LLVM module with a function for each function of a dialect module, in order, under its names. Each has the traces
 /// of its dialect function where that reads no unset value, and for every list of choices where the constants all stand
 /// in the first block.
@@ -184,10 +170,11 @@ pub fn convert_module(alloc: Global, ctx: &Context, module: ModuleOp) -> Result<
     ensures checked { IsDistinctNames (map (λ g. g.name) (data_of ctx.now «module».0.0).functions) → All HasTargets (data_of ctx.now «module».0.0).functions → IfOk result (λ x. IsChecked x.«module») }
     ensures cause { IfErr result (λ e. IsCause ctx.now (data_of ctx.now «module».0.0) e) }
 {
-    let mut cctx = ConversionContext::new(alloc, name_of(ctx, module.0))?;
+    let Ok(mut cctx) = ConversionContext::new(alloc, name_of(ctx, module.0)) else {
+        return Err(ToLLVMErr::NoMemory);
+    };
     convert_held_functions(alloc, ctx, module, &mut cctx)?;
-    know_sound(&cctx.module);
     Ok(Exported {
-        module: cctx.module,
+        module: cctx.into_module(),
     })
 }

@@ -21,10 +21,7 @@ fn number_after(ctx: &Context, op: OpRef, number: u64) -> Result<u64, AllocError
     }
     match ctx.result_type(op) {
         None => Ok(number),
-        Some(_) => {
-            let next = number.checked_add(1).ok_or(AllocError)?;
-            Ok(next)
-        }
+        Some(_) => number.checked_add(1).ok_or(AllocError),
     }
 }
 
@@ -44,8 +41,7 @@ fn number_behind(ctx: &Context, ops: &[OpRef], first: u64) -> Result<u64, AllocE
 fn sum_of(number: u64, count: usize) -> Result<u64, AllocError>
     ensures { IfOk result (λ sum. sum ≡ number + count) }
 {
-    let sum = number.checked_add(count as u64).ok_or(AllocError)?;
-    Ok(sum)
+    number.checked_add(count as u64).ok_or(AllocError)
 }
 
 /// The number of the first value of each block of a function.

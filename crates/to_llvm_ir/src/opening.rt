@@ -40,8 +40,7 @@ fn append_block(
             block: target,
             place,
         },
-    )?;
-    Ok(())
+    )
 }
 
 /// Appends the blocks of a function, in order.

@@ -133,8 +133,7 @@ fn convert_constant(
     let (ty, number) = parts_of(value);
     let ty = value_type(ctx, ty, back)?;
     let c = back.const_get(LLVMConstKind::Int(ty, u128::from(number)))?;
-    values.set(Value::Result(op), LLVMValue::Const(c))?;
-    Ok(())
+    values.set(Value::Result(op), LLVMValue::Const(c))
 }
 
 /// An `add` for an `llvm.add`.
@@ -288,8 +287,7 @@ fn place_inst(
     }
     let name = value_name(alloc, ctx.op_name(op), values.next)?;
     let i = back.build(block, inst, name.as_str())?;
-    values.set(Value::Result(op), LLVMValue::Inst(i))?;
-    Ok(())
+    values.set(Value::Result(op), LLVMValue::Inst(i))
 }
 
 /// What an operation becomes. A module or a function is no operation of a block.

@@ -3,8 +3,8 @@
 ghost use Rattle.std.specs.Prelude.{◌≡◌, ◌<◌, ◌↔◌, IsTrue, IfErr, IfSome, OnOk, All, Some, length};
 ghost use Rattle.dialect_types.specs.Trees.{type_trees};
 ghost use Rattle.dialect_core.specs.ContextData.{IsValueWithin};
-ghost use Rattle.dialect_core.specs.Data.{DialectOp, Func, IsTyped, func_in, op_at};
-ghost use Rattle.dialect_core.specs.Form.{HasOwnValues, uses_of};
+ghost use Rattle.dialect_core.specs.Data.{Func, IsTyped, func_in};
+ghost use Rattle.dialect_core.specs.Form.{HasOwnValues};
 ghost use Rattle.dialect_core.specs.WellFormed.{IsOpenForm};
 ghost use Rattle.to_llvm_ir.specs.Causes.{IsFuncCause};
 ghost use Rattle.to_llvm_ir.specs.Own.{IsForeignAmong, IsForeignAt, IsForeignIn, IsHeld};
@@ -42,13 +42,16 @@ fn foreign_among(ctx: &Context, func: OpRef, values: &[Value]) -> Option<Value>
     None
 }
 
-/// The first value that an operation of a function's block uses, and that is not the function's: an operand, or a value
-/// that an edge passes.
-fn foreign_use(ctx: &Context, func: OpRef, op: OpRef) -> Option<Value>
+/// The first value that an operation uses, and that is not the function's: an operand, or a value that an edge passes. One
+/// that is none of a function's block uses nothing.
+fn foreign_at(ctx: &Context, func: OpRef, op: OpRef) -> Option<Value>
     requires { op.0 < length ctx.now.ops }
-    ensures found { (o : DialectOp) → op_at (type_trees ctx.now.types) ctx.now.ops op ≡ Some o → IsForeignAmong ctx.now func (uses_of o) result }
+    ensures found { IsForeignAt ctx.now func op result }
     ensures within { IfSome result (IsValueWithin (length ctx.now.ops) (length ctx.now.blocks)) }
 {
+    if !is_block_op(ctx, op) {
+        return None;
+    }
     if let Some(value) = foreign_among(ctx, func, ctx.op_operands(op)) {
         return Some(value);
     }
@@ -58,18 +61,6 @@ fn foreign_use(ctx: &Context, func: OpRef, op: OpRef) -> Option<Value>
         }
     }
     None
-}
-
-/// The same of any operation: one that is none of a function's block uses nothing.
-fn foreign_at(ctx: &Context, func: OpRef, op: OpRef) -> Option<Value>
-    requires { op.0 < length ctx.now.ops }
-    ensures found { IsForeignAt ctx.now func op result }
-    ensures within { IfSome result (IsValueWithin (length ctx.now.ops) (length ctx.now.blocks)) }
-{
-    if !is_block_op(ctx, op) {
-        return None;
-    }
-    foreign_use(ctx, func, op)
 }
 
 /// The first value that is used by one of some operations, and is not the function's.

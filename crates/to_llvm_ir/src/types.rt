@@ -35,8 +35,7 @@ pub fn value_type(
         TypeKind::Integer(width) => LLVMTypeKind::Int(*width),
         _ => LLVMTypeKind::Void,
     };
-    let number = back.type_get(kind)?;
-    Ok(number)
+    back.type_get(kind)
 }
 
 /// The types of parameters.

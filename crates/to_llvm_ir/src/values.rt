@@ -30,13 +30,6 @@ impl Values {
         }
     }
 
-    /// The next value has that number.
-    pub fn count_from(&mut self, next: u64)
-        ensures { self.new ≡ record self.old { next = next } }
-    {
-        self.next = next;
-    }
-
     /// What stands for a value, where it is known.
     pub fn get(&self, value: Value) -> Option<LLVMValue>
         ensures { result ≡ found self.now value }

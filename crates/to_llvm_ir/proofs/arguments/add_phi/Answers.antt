@@ -6,6 +6,7 @@ use Rattle.dialect_types.specs.Trees.{type_at, type_trees}
 use Rattle.dialect_core.specs.declared.ops.Value.TheVariants.{Argument}
 use Rattle.to_llvm_ir.specs.States.{found}
 use Rattle.to_llvm_ir.proofs.ValueLaws.{IsSet}
+use Rattle.to_llvm_ir.proofs.OpLaws.{both}
 use Rattle.to_llvm_ir.proofs.ArgumentLaws.{phi_more}
 use Rattle.to_llvm_ir.proofs.arguments.add_phi.Goals as goal
 
@@ -13,9 +14,10 @@ pub returns : goal.returns
 returns c = λ t p b at here arg start.
     let type = c.in_ok-ty.ensures in
     let built = c.in_ok-phi.ensures in
-    let set = c.in_ok-set.ensures in
-    let is_set = subst (λ (q : ℕ). IsSet (found c.args.values.now) (found c.set.new.self) (Argument c.args.block q) (V.Inst c.in_ok-phi.phi)) c.in_ok-place.ensures set.found in
+    both c.set.result c.set.ensures.next c.set.ensures.found
+    (λ _ next set.
+    let is_set = subst (λ (q : ℕ). IsSet (found c.args.values.now) (found c.set.new.self) (Argument c.args.block q) (V.Inst c.in_ok-phi.phi)) c.in_ok-place.ensures set in
     phi_more c.args.ctx.now t p b c.args.block c.args.i (type_at (type_trees c.args.ctx.now.types) c.args.ty) at arg c.args.values.now c.set.new.self c.args.back.now c.value_type.new.back c.build.new.self start
     c.in_ok-ty.ty type.tree type.grows type.rest type.data
     (I.Phi c.in_ok-ty.ty c.new.result) (ap (I.Phi c.in_ok-ty.ty) c.new.ensures) c.in_ok-phi.phi c.as_str.result.now c.args.target built.ok built.number built.data built.sound
-    here (c.as_str.ensures.value ∙ c.in_ok-name.ensures.name) set.next is_set
+    here (c.as_str.ensures.value ∙ c.in_ok-name.ensures.name) next is_set)

@@ -1,5 +1,5 @@
 -- First the arguments of the block, then its operations.
-use Rattle.std.proofs.Common.{◌∙◌, List, length, sym, subst, ap, arith}
+use Rattle.std.proofs.Common.{◌∙◌, List, length, refl, sym, subst, ap, arith}
 use Rattle.std.proofs.lemmas.Result.{on_ok_weaker}
 use Rattle.llvm_core.specs.Module.{Module}
 use Rattle.dialect_core.specs.declared.numbers.OpRef.{OpRef}
@@ -20,7 +20,7 @@ target_of-target-requires c =
 pub add_phis-requires-clause-begun : goal.add_phis-requires-clause-begun
 add_phis-requires-clause-begun c =
     let b = c.requires.begun in
-    let p = phis_begun c.args.ctx.now b.0 c.args.place b.1 c.args.block c.args.first c.args.f c.args.blocks.now c.target_of-target.result c.args.values.now c.count_from.new.self c.args.back.now b.2 c.count_from.ensures c.if-place-eq0.false c.target_of-target.ensures in
+    let p = phis_begun c.args.ctx.now b.0 c.args.place b.1 c.args.block c.args.first c.args.f c.args.blocks.now c.target_of-target.result c.args.values.now (record c.args.values.now { next = c.args.first }) c.args.back.now b.2 refl c.if-place-eq0.false c.target_of-target.ensures in
     (b.0, p.0, b.1, p.2, p.3, p.4)
 
 -- the arguments are done
@@ -35,10 +35,10 @@ begun_ops c t b begun =
       state = elim c.if-place-eq0.branch [
         | then-place-eq0+in_ok-set_params w ↦
             subst (λ (v : Values). IsAtOp t c.args.place b 0 v c.if-place-eq0.back) (sym w.values-is) (subst (λ (m : Module). IsAtOp t c.args.place b 0 w.set_params.new.values m) (sym w.back-is)
-            (after_params c.args.ctx.now t c.args.place b c.args.block c.args.first c.args.f c.args.blocks.now c.args.values.now c.count_from.new.self w.set_params.new.values c.args.back.now begun c.count_from.ensures w.if-place-eq0.true
+            (after_params c.args.ctx.now t c.args.place b c.args.block c.args.first c.args.f c.args.blocks.now c.args.values.now (record c.args.values.now { next = c.args.first }) w.set_params.new.values c.args.back.now begun refl w.if-place-eq0.true
             (λ at params start. w.in_ok-set_params.ensures c.args.ctx.now t b c.args.back.now at params count start)))
         | else-place-eq0+in_ok-add_phis w ↦
-            let p = phis_begun c.args.ctx.now t c.args.place b c.args.block c.args.first c.args.f c.args.blocks.now c.target_of-target.result c.args.values.now c.count_from.new.self c.args.back.now begun c.count_from.ensures w.if-place-eq0.false c.target_of-target.ensures in
+            let p = phis_begun c.args.ctx.now t c.args.place b c.args.block c.args.first c.args.f c.args.blocks.now c.target_of-target.result c.args.values.now (record c.args.values.now { next = c.args.first }) c.args.back.now begun refl w.if-place-eq0.false c.target_of-target.ensures in
             subst (λ (v : Values). IsAtOp t c.args.place b 0 v c.if-place-eq0.back) (sym w.values-is) (subst (λ (m : Module). IsAtOp t c.args.place b 0 w.add_phis.new.values m) (sym w.back-is)
             (after_phis t c.args.place p.0 b w.add_phis.new.values w.add_phis.new.back p.1 (w.in_ok-add_phis.ensures t p.0 b p.2 p.3 p.4)))
       ];

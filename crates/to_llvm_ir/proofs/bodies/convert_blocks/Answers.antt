@@ -8,7 +8,7 @@ use Rattle.to_llvm_ir.specs.Bodies.{IsBodyAccepted}
 use Rattle.to_llvm_ir.specs.States.{IsBetween, turn, first_at}
 use Rattle.to_llvm_ir.proofs.OpLaws.{passed}
 use Rattle.to_llvm_ir.proofs.BodyLaws.{none_between, all_between, block_begun, first_there}
-use Rattle.to_llvm_ir.proofs.TurnLaws.{turn_is, turn_at}
+use Rattle.to_llvm_ir.proofs.TurnLaws.{named_within, turn_is, turn_at}
 use Rattle.to_llvm_ir.proofs.OpeningLaws.{has_params}
 use Rattle.to_llvm_ir.proofs.OrderingLaws.{of_blocks}
 use Rattle.to_llvm_ir.proofs.bodies.convert_blocks.Goals as goal
@@ -19,6 +19,15 @@ loop-place-init c = record {
   params = λ t d begun zero at. has_params t begun.are.task.form d c.args.f begun.type c.args.back.now at begun.opening.sound begun.opening.number begun.opening.function;
   accepted = λ t begun k j d lt named at. absurd (omega (arith, lt));
 }
+
+pub bounds-list-j : goal.bounds-list-j
+bounds-list-j c =
+    let t = c.requires.begun.0 in
+    let begun = c.requires.begun.1 in
+    let lt = named_within (length t.source.blocks) t.numbers.order begun.are.task.order.once c.loop-place.place-index (get_or c.args.order.now c.loop-place.place-index 0)
+    (ap (λ (ps : List ℕ). slice_get ps c.loop-place.place-index) (sym begun.order_is) ∙ slice_get-get_or c.args.order.now c.loop-place.place-index 0 c.loop-place-test.true) in
+    let count = begun.are.count in
+    omega (arith, lt, count)
 
 pub bounds-numbers-j : goal.bounds-numbers-j
 bounds-numbers-j c =

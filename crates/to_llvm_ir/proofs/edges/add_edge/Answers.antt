@@ -2,9 +2,15 @@
 use Rattle.std.proofs.Common.{List, length, ap, arith}
 use Rattle.dialect_core.specs.declared.ops.Value.{Value}
 use Rattle.dialect_core.specs.Form.{FitsTarget}
+use Rattle.to_llvm_ir.specs.Causes.{IsFuncCause}
 use Rattle.to_llvm_ir.specs.States.{Spot, IsSpot, AreAllMapped}
+use Rattle.to_llvm_ir.proofs.OpLaws.{passed}
 use Rattle.to_llvm_ir.proofs.PassLaws.{found_fits, found_differs, edge_next}
 use Rattle.to_llvm_ir.proofs.edges.add_edge.Goals as goal
+
+pub returns-in_err-find_target-clause-cause : goal.returns-in_err-find_target-clause-cause
+returns-in_err-find_target-clause-cause c = λ s op l given h.
+    passed c.from_residual.result c.in_err-find_target.field-0.0 (IsFuncCause c.args.ctx.now s.task.source) c.from_residual.ensures.1 (c.in_err-find_target.ensures.cause s op l h.spot h.mapped h.at)
 
 pub returns-then-block_args-as_slice-clause-cause : goal.returns-then-block_args-as_slice-clause-cause
 returns-then-block_args-as_slice-clause-cause c = λ s op l given h.

@@ -5,7 +5,7 @@ use Rattle.llvm_core.specs.declared.code.LLVMValue.{LLVMValue}
 use Rattle.llvm_core.specs.declared.code.LLVMValue.TheVariants as V
 use Rattle.llvm_core.specs.declared.numbers.LLVMInstRef.{LLVMInstRef}
 use Rattle.llvm_core.specs.Parts.{IsPhi, IsValue}
-use Rattle.to_llvm_ir.proofs.OpLaws.{typed_there}
+use Rattle.to_llvm_ir.proofs.OpLaws.{both, typed_there}
 use Rattle.to_llvm_ir.proofs.EntryLaws.{argument_phi, value_known, entry_done}
 use Rattle.to_llvm_ir.proofs.edges.add_entry.Goals as goal
 
@@ -44,6 +44,7 @@ add_incoming-requires-clause-value c =
 
 pub returns : goal.returns
 returns c = λ t given h.
-    let done = c.in_ok-add_incoming.ensures in
+    let done = c.add_incoming.ensures in
+    both c.add_incoming.result done.ok done.data (λ _ linked same.
     entry_done t c.args.argument c.args.value c.args.from given c.args.values.now c.args.back.now c.add_incoming.new.self c.in-Inst.phi c.in-Some-get.stands h
-    (sym c.get.ensures ∙ c.in-Some.is ∙ ap Some c.in-Inst.is) (sym c.get-2.ensures ∙ c.in-Some-get.is) done.ok done.data done.sound
+    (sym c.get.ensures ∙ c.in-Some.is ∙ ap Some c.in-Inst.is) (sym c.get-2.ensures ∙ c.in-Some-get.is) linked same done.sound)

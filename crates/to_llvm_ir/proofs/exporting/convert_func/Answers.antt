@@ -11,8 +11,8 @@ use Rattle.to_llvm_ir.specs.Bodies.{IsBlocksBegun}
 use Rattle.to_llvm_ir.specs.Functions.{AddsFunction}
 use Rattle.to_llvm_ir.specs.Opening.{AreBlocks}
 use Rattle.to_llvm_ir.specs.States.{Task, IsTask}
-use Rattle.to_llvm_ir.proofs.OpLaws.{passed}
-use Rattle.to_llvm_ir.proofs.FinishLaws.{both, are_blocks, blocks_of_func, count_is, accepted, finished}
+use Rattle.to_llvm_ir.proofs.OpLaws.{both, passed}
+use Rattle.to_llvm_ir.proofs.FinishLaws.{are_blocks, blocks_of_func, count_is, accepted, finished}
 use Rattle.to_llvm_ir.proofs.exporting.convert_func.Goals as goal
 
 -- the blocks are those of the function that was started
@@ -75,14 +75,12 @@ returns-clause-ok c = λ g is form.
     let few : length t.source.blocks < 2 ^ 30 = let f = c.in_ok-check_few.ensures in omega (arith, f, count) in
     let functions : length old.functions < 2 ^ 30 = let f = c.in_ok-check_few-2.ensures in let l = c.functions.ensures.len in omega (arith, f, l) in
     subst (λ (m : Module). OnOk c.add_edges.result (AddsFunction g (L.data_of m) (L.data_of c.add_edges.new.back))) c.clear_per_function_data.ensures.stays
-    (both c.add_edges.result _ _ (AddsFunction g (L.data_of old) (L.data_of c.add_edges.new.back))
-    (λ done edges.
+    (both c.add_edges.result (c.add_edges.ensures.ok t are (c.as_slice-2.ensures.value ∙ sym s.7) opening.mapped state) (c.add_edges.ensures.accepted t are (c.as_slice-2.ensures.value ∙ sym s.7) opening.mapped state)
+    (λ _ done edges.
     subst (λ (x : Func). AddsFunction x (L.data_of old) (L.data_of c.add_edges.new.back)) s.2
     (finished t form_t s.4.order old c.in_ok-cctx-2.field-0 c.add_edges.new.back s.3 functions
     (accepted t.numbers.order t.source few (c.in_ok-cctx.ensures.labelled t are) (c.in_ok-cctx-2.ensures.accepted t begun) edges)
-    done))
-    (c.add_edges.ensures.ok t are (c.as_slice-2.ensures.value ∙ sym s.7) opening.mapped state)
-    (c.add_edges.ensures.accepted t are (c.as_slice-2.ensures.value ∙ sym s.7) opening.mapped state))
+    done)))
 
 pub returns-clause-cause : goal.returns-clause-cause
 returns-clause-cause c = λ g is form.

@@ -1,15 +1,15 @@
 -- An operation with a symbol is a function, and one without is none.
 use Rattle.std.proofs.Common.{◌≡◌, Some, ap, sym, subst, ◌∙◌}
 use Rattle.std.proofs.lemmas.Option.{same_Some, none-some}
+use Rattle.std.proofs.lemmas.Result.{on_ok_weaker, IfErr-weaker}
 use Rattle.llvm_core.specs.Data as L
 use Rattle.dialect_types.specs.Trees.{type_trees}
 use Rattle.dialect_core.specs.Data.{Func, func_in}
 use Rattle.dialect_core.proofs.TypingLaws.{own_form}
 use Rattle.to_llvm_ir.specs.Causes.{IsFuncCause}
-use Rattle.to_llvm_ir.specs.Functions.{AddsFunction}
 use Rattle.to_llvm_ir.proofs.ContextLaws.{no_func, some_func}
 use Rattle.to_llvm_ir.proofs.OpLaws.{passed}
-use Rattle.to_llvm_ir.proofs.FinishLaws.{ok_then, err_then, exported_more, adds_some, adds_none}
+use Rattle.to_llvm_ir.proofs.FinishLaws.{exported_more, adds_some, adds_none}
 use Rattle.to_llvm_ir.proofs.exporting.convert_held.Goals as goal
 
 pub check_own-requires-clause-form : goal.check_own-requires-clause-form
@@ -38,14 +38,14 @@ returns-then-not-has_symbol-clause-ok c = adds_none c.args.ctx.now c.args.op (L.
 pub returns-clause-ok : goal.returns-clause-ok
 returns-clause-ok c =
     let g = some_func c.args.ctx.now c.args.op (c.has_symbol.ensures ∙ ap Some c.if-not-has_symbol.false) in
-    ok_then c.convert_func.result (AddsFunction g.0 (L.data_of c.args.cctx.now.module) (L.data_of c.convert_func.new.cctx.module)) _
+    on_ok_weaker c.convert_func.result
     (λ adds. adds_some c.args.ctx.now c.args.op g.0 (L.data_of c.args.cctx.now.module) (L.data_of c.convert_func.new.cctx.module) g.1 (exported_more g.0 (L.data_of c.args.cctx.now.module) (L.data_of c.convert_func.new.cctx.module) adds))
     (c.convert_func.ensures.ok g.0 g.1 (own_form c.args.ctx.now c.args.op g.0 g.1 (c.in_ok-check_own.ensures.own g.0 g.1 (c.requires.form g.0 g.1)) (c.requires.form g.0 g.1)))
 
 pub returns-clause-cause : goal.returns-clause-cause
 returns-clause-cause c =
     let g = some_func c.args.ctx.now c.args.op (c.has_symbol.ensures ∙ ap Some c.if-not-has_symbol.false) in
-    err_then c.convert_func.result (IsFuncCause c.args.ctx.now g.0) (λ e. (x : Func) → func_in (type_trees c.args.ctx.now.types) c.args.ctx.now c.args.op ≡ Some x → IsFuncCause c.args.ctx.now x e)
+    IfErr-weaker c.convert_func.result (IsFuncCause c.args.ctx.now g.0) (λ e. (x : Func) → func_in (type_trees c.args.ctx.now.types) c.args.ctx.now c.args.op ≡ Some x → IsFuncCause c.args.ctx.now x e)
     (λ e h x is. subst (λ (y : Func). IsFuncCause c.args.ctx.now y e) (same_Some g.0 x (sym g.1 ∙ is)) h)
     (c.convert_func.ensures.cause g.0 g.1 (own_form c.args.ctx.now c.args.op g.0 g.1 (c.in_ok-check_own.ensures.own g.0 g.1 (c.requires.form g.0 g.1)) (c.requires.form g.0 g.1)))
 

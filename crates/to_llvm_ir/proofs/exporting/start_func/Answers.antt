@@ -8,6 +8,7 @@ use Rattle.dialect_core.specs.declared.ops.Symbol.{Symbol}
 use Rattle.meaning.specs.Dialect.{type_of}
 use Rattle.to_llvm_ir.specs.Growth.{IsFormType, IsTypeOf}
 use Rattle.to_llvm_ir.proofs.ContextLaws.{func_parts}
+use Rattle.to_llvm_ir.proofs.OpLaws.{all_three}
 use Rattle.to_llvm_ir.proofs.StartedLaws.{started}
 use Rattle.to_llvm_ir.proofs.exporting.start_func.Goals as goal
 
@@ -32,17 +33,19 @@ returns c = λ g func_is form order taken.
     let p = func_parts c.args.ctx.now c.args.op g func_is in
     let same : p.symbol.ty ≡ c.symbol_type.result = same_Some p.symbol.ty c.symbol_type.result (ap (option_map (λ (s : Symbol). s.ty)) (sym p.symbol_is) ∙ c.symbol_type.ensures) in
     let type = c.in_ok-ty.ensures in
-    let function = c.in_ok-f.ensures in
+    let function = c.add_function.ensures in
     let typed = subst (IsTypeOf c.function_type.new.back c.in_ok-ty.ty) (ap (λ (t : TypeHandle). type_of (type_at (type_trees c.args.ctx.now.types) t)) (sym same) ∙ ap type_of (sym p.type)) type.tree in
-    started c.args.ctx.now c.args.op g form order taken c.args.back.now c.function_type.new.back c.add_function.new.self c.in_ok-ty.ty c.in_ok-f.f c.name_of.result.now func_is
+    all_three c.add_function.result function.number function.ok function.data
+    (λ f number added made.
+    started c.args.ctx.now c.args.op g form order taken c.args.back.now c.function_type.new.back c.add_function.new.self c.in_ok-ty.ty f c.name_of.result.now func_is
     (record {
       rest = type.rest;
       same = type.data;
       sound = type.sound;
       typed = typed;
-      number = function.number;
-      added = function.ok;
-      made = function.data;
+      number = number;
+      added = added;
+      made = made;
       sound_end = function.sound;
     })
-    (c.name_of.ensures ∙ sym p.name)
+    (c.name_of.ensures ∙ sym p.name))

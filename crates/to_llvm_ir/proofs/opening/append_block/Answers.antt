@@ -1,6 +1,7 @@
 -- The block is the last of the function, under its name.
 use Rattle.std.proofs.Common.{◌≡◌, ◌∙◌, ℕ, List, Option, sym, ap, subst}
 use Rattle.std.specs.Prelude.{IfSome}
+use Rattle.std.proofs.lemmas.Result.{on_ok_weaker}
 use Rattle.llvm_core.specs.Names.{IsPlainOrNone}
 use Rattle.dialect_types.specs.Names.{IsPlainName}
 use Rattle.to_llvm_ir.specs.Exported.{block_name}
@@ -15,11 +16,13 @@ returns-clause-ok c = λ t ty b at start.
     let label = label_is c.args.ctx.now c.args.block b _ parts c.block_label.ensures in
     let built = c.in_ok-target.ensures in
     let name : c.as_str.result.now ≡ block_name b.label c.in_ok-place.place = c.as_str.ensures.value ∙ c.in_ok-name.ensures.name ∙ ap (λ (l : Option (List ℕ)). block_name l c.in_ok-place.place) (sym label) in
-    opening_more c.args.ctx.now t c.args.i b c.args.block c.args.f ty c.args.blocks.now c.set.new.self c.args.back.now c.append_block.new.self c.in_ok-target.target c.in_ok-place.place c.as_str.result.now at start c.in_ok-place.ensures name built.number built.ok built.data built.sound c.in_ok-set.ensures
+    on_ok_weaker c.set.result
+    (opening_more c.args.ctx.now t c.args.i b c.args.block c.args.f ty c.args.blocks.now c.set.new.self c.args.back.now c.append_block.new.self c.in_ok-target.target c.in_ok-place.place c.as_str.result.now at start c.in_ok-place.ensures name built.number built.ok built.data built.sound)
+    c.set.ensures
 
 pub returns-clause-labelled : goal.returns-clause-labelled
 returns-clause-labelled c = λ t b at.
     let parts = block_parts c.args.ctx.now c.args.block b at.is in
     let label = label_is c.args.ctx.now c.args.block b _ parts c.block_label.ensures in
     let form = block_form t.source at.task.form c.args.i b at.here in
-    subst (λ (l : Option (List ℕ)). IsPlainOrNone (block_name l c.args.i)) (sym label) (c.block_name.ensures.plain (subst (λ (l : Option (List ℕ)). IfSome l IsPlainName) label form.label) c.args.i c.ranges.i.fits)
+    on_ok_weaker c.set.result (λ set. subst (λ (l : Option (List ℕ)). IsPlainOrNone (block_name l c.args.i)) (sym label) (c.block_name.ensures.plain (subst (λ (l : Option (List ℕ)). IfSome l IsPlainName) label form.label) c.args.i c.ranges.i.fits)) c.set.ensures

@@ -2,12 +2,11 @@
 use Rattle.std.proofs.Common.{List, length, slice_get, refl, sym, ap, subst, arith}
 use Rattle.dialect_types.specs.Trees.{IntegerType, type_trees}
 use Rattle.dialect_core.specs.declared.ops.Value.{Value}
-use Rattle.dialect_core.specs.declared.ops.Successor.{Successor}
 use Rattle.dialect_core.specs.declared.ops.OpKind.TheVariants as K
 use Rattle.dialect_core.specs.ContextData.{IsSuccessorWithin}
 use Rattle.dialect_core.specs.Data.{CondBrOp}
 use Rattle.to_llvm_ir.specs.Causes.{IsFuncCause}
-use Rattle.to_llvm_ir.proofs.OpLaws.{passed, spot_kind, spot_parts, operands_are, successors_are, used_at, use_at}
+use Rattle.to_llvm_ir.proofs.OpLaws.{passed, spot_kind, spot_parts, operands_are, successors_are, operand_there, edge_there, used_at, use_at}
 use Rattle.to_llvm_ir.proofs.InstLaws.{cond_br_made}
 use Rattle.to_llvm_ir.proofs.LeadLaws.{edge_read}
 use Rattle.to_llvm_ir.proofs.operations.convert_cond_br.Goals as goal
@@ -57,33 +56,40 @@ pub bounds-operands-0 : goal.bounds-operands-0
 bounds-operands-0 c =
     let s = c.requires.spot in
     let k = spot_kind c.args.ctx.now c.args.op s.0 K.CondBr CondBrOp s.1 c.requires.kind refl in
-    let are = operands_are (type_trees c.args.ctx.now.types) c.args.ctx.now.ops c.args.op s.0.op c.op_operands-operands.result.now (spot_parts c.args.ctx.now c.args.op s.0 s.1) c.op_operands-operands.ensures.operands in
-    omega (arith, ap (λ (vs : List Value). length vs) k.1.1, ap (λ (vs : List Value). length vs) are)
+    let lt = operand_there c.args.ctx.now c.args.op s.0 c.op_operands-operands.result.now 0 k.1.0 s.1 c.op_operands-operands.ensures.operands (ap (λ (vs : List Value). slice_get vs 0) k.1.1) in
+    omega (arith, lt)
 
 pub known-requires : goal.known-requires
 known-requires c =
     let s = c.requires.spot in
     let k = spot_kind c.args.ctx.now c.args.op s.0 K.CondBr CondBrOp s.1 c.requires.kind refl in
-    let are = operands_are (type_trees c.args.ctx.now.types) c.args.ctx.now.ops c.args.op s.0.op c.op_operands-operands.result.now (spot_parts c.args.ctx.now c.args.op s.0 s.1) c.op_operands-operands.ensures.operands in
-    c.op_operands-operands.ensures.within 0 _ (omega (arith, ap (λ (vs : List Value). length vs) k.1.1, ap (λ (vs : List Value). length vs) are))
+    let lt = operand_there c.args.ctx.now c.args.op s.0 c.op_operands-operands.result.now 0 k.1.0 s.1 c.op_operands-operands.ensures.operands (ap (λ (vs : List Value). slice_get vs 0) k.1.1) in
+    c.op_operands-operands.ensures.within 0 _ lt
 
 pub bounds-edges-0 : goal.bounds-edges-0
 bounds-edges-0 c =
     let s = c.requires.spot in
     let k = spot_kind c.args.ctx.now c.args.op s.0 K.CondBr CondBrOp s.1 c.requires.kind refl in
-    let are = successors_are (type_trees c.args.ctx.now.types) c.args.ctx.now.ops c.args.op s.0.op c.op_successors-edges.result.now (spot_parts c.args.ctx.now c.args.op s.0 s.1) c.op_successors-edges.ensures.successors in
-    omega (arith, k.1.3.count_is, ap (λ (es : List Successor). length es) are)
+    let lt = edge_there c.args.ctx.now c.args.op s.0 c.op_successors-edges.result.now 0 2 s.1 c.op_successors-edges.ensures.successors k.1.3.count_is (omega arith) in
+    omega (arith, lt)
 
 pub lead-requires : goal.lead-requires
 lead-requires c =
     let s = c.requires.spot in
     let k = spot_kind c.args.ctx.now c.args.op s.0 K.CondBr CondBrOp s.1 c.requires.kind refl in
-    let are = successors_are (type_trees c.args.ctx.now.types) c.args.ctx.now.ops c.args.op s.0.op c.op_successors-edges.result.now (spot_parts c.args.ctx.now c.args.op s.0 s.1) c.op_successors-edges.ensures.successors in
-    subst (IsSuccessorWithin (length c.args.ctx.now.ops) (length c.args.ctx.now.blocks)) (sym c.index-edges-0.is) (c.op_successors-edges.ensures.within 0 c.index-edges-0.result (omega (arith, k.1.3.count_is, ap (λ (es : List Successor). length es) are)))
+    let lt = edge_there c.args.ctx.now c.args.op s.0 c.op_successors-edges.result.now 0 2 s.1 c.op_successors-edges.ensures.successors k.1.3.count_is (omega arith) in
+    subst (IsSuccessorWithin (length c.args.ctx.now.ops) (length c.args.ctx.now.blocks)) (sym c.index-edges-0.is) (c.op_successors-edges.ensures.within 0 c.index-edges-0.result lt)
+
+pub bounds-edges-1 : goal.bounds-edges-1
+bounds-edges-1 c =
+    let s = c.requires.spot in
+    let k = spot_kind c.args.ctx.now c.args.op s.0 K.CondBr CondBrOp s.1 c.requires.kind refl in
+    let lt = edge_there c.args.ctx.now c.args.op s.0 c.op_successors-edges.result.now 1 2 s.1 c.op_successors-edges.ensures.successors k.1.3.count_is (omega arith) in
+    omega (arith, lt)
 
 pub lead-requires-2 : goal.lead-requires-2
 lead-requires-2 c =
     let s = c.requires.spot in
     let k = spot_kind c.args.ctx.now c.args.op s.0 K.CondBr CondBrOp s.1 c.requires.kind refl in
-    let are = successors_are (type_trees c.args.ctx.now.types) c.args.ctx.now.ops c.args.op s.0.op c.op_successors-edges.result.now (spot_parts c.args.ctx.now c.args.op s.0 s.1) c.op_successors-edges.ensures.successors in
-    subst (IsSuccessorWithin (length c.args.ctx.now.ops) (length c.args.ctx.now.blocks)) (sym c.index-edges-1.is) (c.op_successors-edges.ensures.within 1 c.index-edges-1.result (omega (arith, k.1.3.count_is, ap (λ (es : List Successor). length es) are)))
+    let lt = edge_there c.args.ctx.now c.args.op s.0 c.op_successors-edges.result.now 1 2 s.1 c.op_successors-edges.ensures.successors k.1.3.count_is (omega arith) in
+    subst (IsSuccessorWithin (length c.args.ctx.now.ops) (length c.args.ctx.now.blocks)) (sym c.index-edges-1.is) (c.op_successors-edges.ensures.within 1 c.index-edges-1.result lt)

@@ -13,7 +13,8 @@ use Rattle.std.specs.Prelude.{IfSome}
 use Rattle.to_llvm_ir.specs.Exported.{value_name, result_name}
 use Rattle.to_llvm_ir.specs.Made.{number_behind}
 use Rattle.to_llvm_ir.specs.States.{first_at}
-use Rattle.to_llvm_ir.proofs.OpLaws.{spot_form, spot_parts, result_is, name_is}
+use Rattle.std.proofs.lemmas.Result.{on_ok_weaker}
+use Rattle.to_llvm_ir.proofs.OpLaws.{both, spot_form, spot_parts, result_is, name_is}
 use Rattle.to_llvm_ir.proofs.StepLaws.{void_placed, typed_placed}
 use Rattle.to_llvm_ir.proofs.operations.place_inst.Goals as goal
 
@@ -53,16 +54,17 @@ returns-clause-ok c = λ s next made here.
     let given = name_is (type_trees c.args.ctx.now.types) c.args.ctx.now.ops c.args.op s.op _ parts c.op_name.ensures in
     let name : c.as_str.result.now ≡ result_name s.op.name s.op.result (number_behind (first_at s.task.source s.place + length s.block.args) (take s.at s.block.ops)) =
     c.as_str.ensures.value ∙ c.in_ok-name.ensures.name ∙ ap (λ (n : Option (List ℕ)). value_name n c.args.values.now.next) (sym given) ∙ ap (value_name s.op.name) next.state.next ∙ ap (λ (t : Option TypeTree). result_name s.op.name t (number_behind (first_at s.task.source s.place + length s.block.args) (take s.at s.block.ops))) (sym type.1) in
-    typed_placed c.args.ctx.now c.args.op s c.args.values.now c.args.back.now next c.args.inst made c.in_ok-i.i c.as_str.result.now c.args.block c.build-2.new.self built.ok built.number built.data built.sound here name type.0 r.0 c.set.new.self type.1 r.1 c.in_ok-set.ensures.next c.in_ok-set.ensures.found
+    both c.set.result c.set.ensures.next c.set.ensures.found (λ _.
+    typed_placed c.args.ctx.now c.args.op s c.args.values.now c.args.back.now next c.args.inst made c.in_ok-i.i c.as_str.result.now c.args.block c.build-2.new.self built.ok built.number built.data built.sound here name type.0 r.0 c.set.new.self type.1 r.1)
 
 pub returns-clause-named : goal.returns-clause-named
-returns-clause-named c = λ s spot k lt.
+returns-clause-named c = λ s spot. on_ok_weaker c.set.result (λ next k lt.
     let parts = spot_parts c.args.ctx.now c.args.op s spot in
     let type = some_is c.result_type.result s.op.result (type_trees c.args.ctx.now.types) (result_is (type_trees c.args.ctx.now.types) c.args.ctx.now.ops c.args.op s.op _ parts c.result_type.ensures) _ c.is_none.ensures c.if-is_none.false in
     let given = name_is (type_trees c.args.ctx.now.types) c.args.ctx.now.ops c.args.op s.op _ parts c.op_name.ensures in
     let form = spot_form c.args.ctx.now c.args.op s spot in
     let plain = c.value_name.ensures.plain (subst (λ (n : Option (List ℕ)). IfSome n IsPlainName) given form.name) k lt in
-    subst (λ (t : Option TypeTree). IsPlainOrNone (result_name s.op.name t k)) (sym type.1) (subst (λ (n : Option (List ℕ)). IsPlainOrNone (value_name n k)) (sym given) plain)
+    subst (λ (t : Option TypeTree). IsPlainOrNone (result_name s.op.name t k)) (sym type.1) (subst (λ (n : Option (List ℕ)). IsPlainOrNone (value_name n k)) (sym given) plain)) c.set.ensures.next
 
 pub build-requires-clause-block : goal.build-requires-clause-block
 build-requires-clause-block c =
@@ -72,3 +74,16 @@ build-requires-clause-block c =
     let here = c.requires.spot.3 in
     let count = next.state.block_count in
     omega (arith, lt, here, count)
+
+pub build-requires-clause-values : goal.build-requires-clause-values
+build-requires-clause-values c = c.requires.spot.2.values
+
+pub build-requires-2-clause-values : goal.build-requires-2-clause-values
+build-requires-2-clause-values c = c.requires.spot.2.values
+
+pub build-requires-2-clause-unnamed : goal.build-requires-2-clause-unnamed
+build-requires-2-clause-unnamed c = λ e.
+    let s = c.requires.spot.0 in
+    let parts = spot_parts c.args.ctx.now c.args.op s c.requires.spot.1.spot in
+    let type = some_is c.result_type.result s.op.result (type_trees c.args.ctx.now.types) (result_is (type_trees c.args.ctx.now.types) c.args.ctx.now.ops c.args.op s.op _ parts c.result_type.ensures) _ c.is_none.ensures c.if-is_none.false in
+    absurd (none-some type.0 (sym (c.requires.spot.2.void e) ∙ type.1))

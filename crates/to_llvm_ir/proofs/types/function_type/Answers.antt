@@ -9,6 +9,12 @@ use Rattle.to_llvm_ir.proofs.GrowthLaws.{grows_then, grows_type, type_kept, type
 use Rattle.to_llvm_ir.proofs.TypeLaws.{tree_of, form_parts, function_type}
 use Rattle.to_llvm_ir.proofs.types.function_type.Goals as goal
 
+pub value_type-requires : goal.value_type-requires
+value_type-requires c =
+    let types = c.types.ensures in
+    let parts = form_parts (type_trees c.args.ctx.now.types) _ _ _ _ _ _ _ c.requires.form c.requires.within c.in-Func.is c.kind.ensures.parts (rw types at c.kind.ensures.tree) in
+    record { within = parts.result_there; short = parts.result_short }
+
 pub param_types-requires-clause-within : goal.param_types-requires-clause-within
 param_types-requires-clause-within c =
     let types = c.types.ensures in

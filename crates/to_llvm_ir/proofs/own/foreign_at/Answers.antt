@@ -10,13 +10,15 @@ use Rattle.to_llvm_ir.specs.Own.{IsHeld}
 use Rattle.to_llvm_ir.proofs.OpLaws.{op_parts, operands_are, successors_are}
 use Rattle.to_llvm_ir.proofs.OrderingLaws.{passes, passes_more}
 use Rattle.to_llvm_ir.proofs.OwnLaws.{none_among, operand_found, passed_found}
-use Rattle.to_llvm_ir.proofs.own.foreign_use.Goals as goal
+use Rattle.to_llvm_ir.proofs.own.foreign_at.Goals as goal
 
 pub returns-in-Some-clause-found : goal.returns-in-Some-clause-found
-returns-in-Some-clause-found c = λ o is.
+returns-in-Some-clause-found c =
     let x = c.args.ctx.now in
-    let are = operands_are (type_trees x.types) x.ops c.args.op o c.op_operands.result.now (op_parts (type_trees x.types) x.ops c.args.op o is) c.op_operands.ensures.operands in
-    operand_found x c.args.func o c.op_operands.result.now c.foreign_among.result c.in-Some.value are c.in-Some.is c.foreign_among.ensures.found
+    let o = c.is_block_op.ensures.yes c.if-not-is_block_op.false in
+    let are = operands_are (type_trees x.types) x.ops c.args.op o.0 c.op_operands.result.now (op_parts (type_trees x.types) x.ops c.args.op o.0 o.1) c.op_operands.ensures.operands in
+    let found = operand_found x c.args.func o.0 c.op_operands.result.now c.foreign_among.result c.in-Some.value are c.in-Some.is c.foreign_among.ensures.found in
+    record { op = o.0; is = o.1; used = found.0; foreign = found.1 }
 
 pub loop-edge-init : goal.loop-edge-init
 loop-edge-init c = λ o is.
@@ -26,13 +28,15 @@ loop-edge-init c = λ o is.
     subst (All P) (sym (append-nil o.operands)) (subst (All P) (sym are) (none_among x c.args.func c.op_operands.result.now c.foreign_among.result c.in_default.is c.foreign_among.ensures.found))
 
 pub returns-in-Some-foreign_among-clause-found : goal.returns-in-Some-foreign_among-clause-found
-returns-in-Some-foreign_among-clause-found c = λ o is.
+returns-in-Some-foreign_among-clause-found c =
     let x = c.args.ctx.now in
+    let o = c.is_block_op.ensures.yes c.if-not-is_block_op.false in
     let ss = c.op_successors-edge-items.result.now in
     let i = c.loop-edge.edge-index in
-    let are = successors_are (type_trees x.types) x.ops c.args.op o ss (op_parts (type_trees x.types) x.ops c.args.op o is) c.op_successors-edge-items.ensures.successors in
-    passed_found x c.args.func o ss i c.edge-item.result c.as_slice.result.now c.foreign_among-in-loop-edge.result c.in-Some-foreign_among.value are
-    (slice_get-get_or ss i c.edge-item.result c.loop-edge-test.true ∙ ap Some (sym c.edge-item.is)) c.as_slice.ensures c.in-Some-foreign_among.is c.foreign_among-in-loop-edge.ensures.found
+    let are = successors_are (type_trees x.types) x.ops c.args.op o.0 ss (op_parts (type_trees x.types) x.ops c.args.op o.0 o.1) c.op_successors-edge-items.ensures.successors in
+    let found = passed_found x c.args.func o.0 ss i c.edge-item.result c.as_slice.result.now c.foreign_among-in-loop-edge.result c.in-Some-foreign_among.value are
+    (slice_get-get_or ss i c.edge-item.result c.loop-edge-test.true ∙ ap Some (sym c.edge-item.is)) c.as_slice.ensures c.in-Some-foreign_among.is c.foreign_among-in-loop-edge.ensures.found in
+    record { op = o.0; is = o.1; used = found.0; foreign = found.1 }
 
 pub loop-edge-preserved : goal.loop-edge-preserved
 loop-edge-preserved c = λ o is.
