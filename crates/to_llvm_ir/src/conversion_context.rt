@@ -1,8 +1,7 @@
 //! What an export holds while it goes on: the module that is built, and what is known of the function at hand.
 
 ghost use Rattle.std.specs.Prelude.{◌≡◌, [], IfOk, None};
-ghost use Rattle.llvm_core.specs.Data.{AreApart, data_of};
-ghost use Rattle.llvm_core.specs.Sound.{IsModule};
+ghost use Rattle.llvm_core.specs.Data.{data_of};
 ghost use Rattle.to_llvm_ir.specs.States.{found, found_block};
 
 use crate::blocks::Blocks;
@@ -49,17 +48,5 @@ impl ConversionContext {
     {
         self.blocks = Blocks::new(self.alloc);
         self.values = Values::new(self.alloc);
-    }
-
-    /// The module that was built. Its numbers name what is there, and equal types have equal numbers: its type keeps that,
-    /// which the proof of the caller wants to know.
-    pub(crate) fn into_module(self) -> LLVMModule
-        ensures is { result ≡ self.module }
-        ensures sound { IsModule result }
-        ensures apart { AreApart result }
-    {
-        let module = self.module;
-        let _ = module.types();
-        module
     }
 }

@@ -3,6 +3,8 @@
 ghost use Rattle.std.specs.Prelude.{◌≡◌, ◌<◌, ◌∷◌, [], ℕ, List, Some, None, All, length, map, IfOk, IfErr, OnOk};
 ghost use Rattle.llvm_core.specs.Checked.{IsChecked};
 ghost use Rattle.llvm_core.specs.Data as lists;
+ghost use Rattle.llvm_core.specs.Data.{AreApart};
+ghost use Rattle.llvm_core.specs.Sound.{IsModule};
 ghost use Rattle.llvm_core.specs.Form.{IsForm};
 ghost use Rattle.dialect_types.specs.Trees.{type_trees};
 ghost use Rattle.dialect_core.specs.Data.{Func, DialectModule, IsTyped, func_in, data_of};
@@ -152,6 +154,15 @@ fn convert_held_functions(
     convert_functions(alloc, ctx, ops.as_slice(), cctx)
 }
 
+/// The numbers of a module name what is there, and equal types have equal numbers: its type keeps that. This only reads,
+/// and is for the proof of its caller.
+fn know_sound(m: &LLVMModule)
+    ensures sound { IsModule m.now }
+    ensures apart { AreApart m.now }
+{
+    let _ = m.types();
+}
+
 /// An LLVM module with a function for each function of a dialect module, in order, under its names. Each has the traces
 /// of its dialect function where that reads no unset value, and for every list of choices where the constants all stand
 /// in the first block.
@@ -174,7 +185,8 @@ pub fn convert_module(alloc: Global, ctx: &Context, module: ModuleOp) -> Result<
         return Err(ToLLVMErr::NoMemory);
     };
     convert_held_functions(alloc, ctx, module, &mut cctx)?;
+    know_sound(&cctx.module);
     Ok(Exported {
-        module: cctx.into_module(),
+        module: cctx.module,
     })
 }

@@ -1,5 +1,5 @@
 -- First the arguments of the block, then its operations.
-use Rattle.std.proofs.Common.{◌∙◌, List, length, refl, sym, subst, ap, arith}
+use Rattle.std.proofs.Common.{◌<◌, ◌∙◌, All, List, length, refl, sym, subst, ap, arith}
 use Rattle.std.proofs.lemmas.Result.{on_ok_weaker}
 use Rattle.llvm_core.specs.Module.{Module}
 use Rattle.dialect_core.specs.declared.numbers.OpRef.{OpRef}
@@ -43,6 +43,9 @@ begun_ops c t b begun =
             (after_phis t c.args.place p.0 b w.add_phis.new.values w.add_phis.new.back p.1 (w.in_ok-add_phis.ensures t p.0 b p.2 p.3 p.4)))
       ];
     }
+
+pub convert_ops-requires-clause-within : goal.convert_ops-requires-clause-within
+convert_ops-requires-clause-within c = subst (All (λ (o : OpRef). o.0 < length c.args.ctx.now.ops)) (sym c.as_slice.ensures.value) c.in_ok-ops.ensures.within
 
 pub convert_ops-requires-clause-begun : goal.convert_ops-requires-clause-begun
 convert_ops-requires-clause-begun c =

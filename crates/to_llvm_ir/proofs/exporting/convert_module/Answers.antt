@@ -1,9 +1,9 @@
 -- The functions are those that the module holds.
-use Rattle.std.proofs.Common.{refl, sym, subst}
+use Rattle.std.proofs.Common.{refl}
 use Rattle.llvm_core.specs.Data as L
 use Rattle.llvm_core.proofs.FormLaws.{checked_of_form}
 use Rattle.dialect_core.specs.Data as D
-use Rattle.to_llvm_ir.specs.Exported.{IsCause, IsExported}
+use Rattle.to_llvm_ir.specs.Exported.{IsCause}
 use Rattle.to_llvm_ir.proofs.OpLaws.{passed}
 use Rattle.to_llvm_ir.proofs.FinishLaws.{all_exported}
 use Rattle.to_llvm_ir.proofs.CodeLaws.{same_exported, traces_exported}
@@ -20,15 +20,14 @@ returns c =
     let context = c.args.ctx.now in
     let root = c.args.«module».0.0 in
     let source = D.data_of context root in
-    let back = c.into_module.result in
-    let made : IsExported source back = subst (IsExported source) (sym c.into_module.ensures.is)
-    (all_exported context root (D.held context root) _ (L.data_of c.in-Ok.cctx.module) c.convert_held_functions.new.cctx.module refl c.in-Ok.ensures.module_data c.name_of.ensures c.in_ok-convert_held_functions.ensures.ok) in
+    let back = c.convert_held_functions.new.cctx.module in
+    let made = all_exported context root (D.held context root) _ (L.data_of c.in-Ok.cctx.module) back refl c.in-Ok.ensures.module_data c.name_of.ensures c.in_ok-convert_held_functions.ensures.ok in
     record {
       exported = made;
       traces = traces_exported context (L.data_of back) source.functions (L.data_of back).functions c.requires.functions made.functions;
       same = λ distinct only. same_exported context source (L.data_of back) c.requires.functions only made.functions distinct;
       form = λ targets. form_exported source back made targets;
       checked = λ distinct targets.
-          checked_of_form back c.into_module.ensures.sound c.into_module.ensures.apart (form_exported source back made targets) (distinct_exported source back made distinct) (few_exported source back made);
+          checked_of_form back c.know_sound.ensures.sound c.know_sound.ensures.apart (form_exported source back made targets) (distinct_exported source back made distinct) (few_exported source back made);
       cause = tt;
     }

@@ -17,6 +17,9 @@ convert_constant-requires-clause-spot c =
     let s = c.requires.spot there.0 there.1 in
     (s.0, s.1)
 
+pub convert_constant-requires-clause-kind : goal.convert_constant-requires-clause-kind
+convert_constant-requires-clause-kind c = c.op_kind.ensures.kind ∙ ap Some c.in-Constant.is
+
 pub convert_inst-requires : goal.convert_inst-requires
 convert_inst-requires c =
     let kind = kind_there (type_trees c.args.ctx.now.types) c.op_kind.result.now c.in_default.not-Module c.in_default.not-Func in
