@@ -1,5 +1,7 @@
 -- The phi stands for the argument.
-use Rattle.std.proofs.Common.{◌∙◌, ℕ, subst, ap}
+use Rattle.std.proofs.Common.{◌∙◌, ℕ, sym, subst, ap}
+use Rattle.llvm_core.specs.Module.{Module}
+use Rattle.llvm_core.specs.Parts.{IsBlock}
 use Rattle.llvm_core.specs.declared.code.LLVMValue.TheVariants as V
 use Rattle.llvm_core.specs.declared.code.LLVMInst.TheVariants as I
 use Rattle.dialect_types.specs.Trees.{type_at, type_trees}
@@ -9,6 +11,9 @@ use Rattle.to_llvm_ir.proofs.ValueLaws.{IsSet}
 use Rattle.to_llvm_ir.proofs.OpLaws.{both}
 use Rattle.to_llvm_ir.proofs.ArgumentLaws.{phi_more}
 use Rattle.to_llvm_ir.proofs.arguments.add_phi.Goals as goal
+
+pub build-requires-clause-block : goal.build-requires-clause-block
+build-requires-clause-block c = subst (λ (m : Module). IsBlock m c.args.target) (sym c.in_ok-ty.ensures.rest) c.requires.target
 
 pub returns : goal.returns
 returns c = λ t p b at here arg start.

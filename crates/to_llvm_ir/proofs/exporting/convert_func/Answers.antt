@@ -90,3 +90,18 @@ returns-clause-cause c = λ g is form.
     let opening = c.in_ok-cctx.ensures.ok s.0 s.1 are s.5 in
     let state = c.in_ok-cctx-2.ensures.ok s.0 (record { are = are; order_is = c.as_slice.ensures.value ∙ sym s.7; type = s.1; opening = opening }) in
     subst (λ (x : Func). IfErr c.add_edges.result (IsFuncCause c.args.ctx.now x)) s.2 (c.add_edges.ensures.cause s.0 are (c.as_slice-2.ensures.value ∙ sym s.7) opening.mapped state)
+
+pub start_func-requires-clause-form : goal.start_func-requires-clause-form
+start_func-requires-clause-form c = c.requires.form
+
+pub export_order-requires-clause-within : goal.export_order-requires-clause-within
+export_order-requires-clause-within c = c.op_blocks-list.ensures.within
+
+pub append_blocks-requires-clause-within : goal.append_blocks-requires-clause-within
+append_blocks-requires-clause-within c = c.op_blocks-list.ensures.within
+
+pub convert_blocks-requires-clause-within : goal.convert_blocks-requires-clause-within
+convert_blocks-requires-clause-within c = c.op_blocks-list.ensures.within
+
+pub add_edges-requires-clause-within : goal.add_edges-requires-clause-within
+add_edges-requires-clause-within c = c.op_blocks-list.ensures.within

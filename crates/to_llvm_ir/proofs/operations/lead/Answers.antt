@@ -14,6 +14,10 @@ returns-in_err-known-clause-cause c = λ s op m l next mapped at.
     let p = passed_as c.args.ctx.now op s l c.loop-value.value-index c.args.edge.now c.as_slice-value-items.result.now _ next.spot at c.as_slice-value-items.ensures c.loop-value-test.true in
     passed c.from_residual.result c.in_err-known.field-0.0 (IsFuncCause c.args.ctx.now s.task.source) c.from_residual.ensures.1 (c.in_err-known.ensures.cause s op m p.0 next p.1)
 
+pub returns-in_err-target-clause-cause : goal.returns-in_err-target-clause-cause
+returns-in_err-target-clause-cause c = λ s op m l next mapped at.
+    passed c.from_residual-in_err-target.result c.in_err-target.field-0.0 (IsFuncCause c.args.ctx.now s.task.source) c.from_residual-in_err-target.ensures.1 (c.in_err-target.ensures.cause s op l next.spot mapped at)
+
 pub loop-value-preserved : goal.loop-value-preserved
 loop-value-preserved c = λ s op m l next at.
     let xs = c.as_slice-value-items.result.now in
