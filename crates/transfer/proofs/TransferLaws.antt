@@ -1,12 +1,11 @@
 -- From what the import and the export made to what `transfer` promises.
-use Rattle.std.proofs.Common.{ℕ, suc, ◌≡◌, ◌<◌, refl, sym, ◌∙◌, ap, subst, List, [], ◌∷◌, Some, length, slice_get, map, All, arith}
+use Rattle.std.proofs.Common.{ℕ, suc, ◌≡◌, refl, sym, ◌∙◌, ap, subst, List, [], ◌∷◌, Some, length, slice_get, map, All, arith}
 use Rattle.std.proofs.lemmas.List.Elements.{All-nil, All-cons, All-weaker}
-use Rattle.std.proofs.lemmas.Option.{slice_get_within}
 use Rattle.llvm_core.specs.Module.{Module}
 use Rattle.llvm_core.specs.Form.{IsForm, IsFormFunction, HasDistinctNames}
 use Rattle.llvm_core.specs.Data as L
-use Rattle.llvm_core.specs.Data.{ModuleData, AreApart, data_of}
-use Rattle.llvm_core.proofs.DataLemmas.{within_at, there}
+use Rattle.llvm_core.specs.Data.{ModuleData, data_of}
+use Rattle.llvm_core.proofs.DataLemmas.{within_at}
 use Rattle.dialect_core.specs.ContextData.{ContextData}
 use Rattle.dialect_core.specs.Data as D
 use Rattle.dialect_core.specs.Form.{HasTargets, IsExportable, LeadsToOwn}
