@@ -3,7 +3,8 @@
 ghost use Rattle.std.specs.Prelude.{◌<◌, length};
 ghost use Rattle.dialect_core.specs.Data.{IsTyped};
 
-use crate::hand::{Name, Step, module};
+use crate::asked::{Question, answer};
+use crate::hand::{Name, Step};
 use dialect_core::context::Context;
 use dialect_core::linkage::LinkageAttr;
 use dialect_core::numbers::ModuleOp;
@@ -144,7 +145,7 @@ fn refusal(error: &ToLLVMErr) -> &'static str {
 }
 
 /// What the export answers to a module.
-fn export_of(alloc: Global, ctx: &Context, root: ModuleOp) -> &'static str
+pub fn export_of(alloc: Global, ctx: &Context, root: ModuleOp) -> &'static str
     requires typed { IsTyped ctx.now }
     requires there { root.0.0 < length ctx.now.ops }
 {
@@ -157,28 +158,23 @@ fn export_of(alloc: Global, ctx: &Context, root: ModuleOp) -> &'static str
     }
 }
 
-/// What the export answers to the two functions, with these steps.
-fn answer(alloc: Global, row: &[Step]) -> &'static str {
-    match module(alloc, FUNCTIONS, row) {
-        Some(made) => export_of(alloc, &made.ctx, made.root),
-        None => "not made",
-    }
-}
+/// The steps that come to the two functions, and what the export then answers.
+const ANSWERS: &[(&[Step], &str)] = &[
+    (FINE, "exported"),
+    (UNEQUAL_EDGES, "edges from block 0 to block 1 differ"),
+    (ONE_TOO_MANY, "another number of arguments"),
+    (ONE_TOO_FEW, "another number of arguments"),
+    (LATER_VALUE, "x is undefined"),
+    (LATER_BLOCK, "exported"),
+    (LATER_CONSTANTS, "exported"),
+    (OTHER_FUNCTION, "far is undefined"),
+    (FOREIGN_OPERAND, "x is undefined"),
+    (FOREIGN_PASSED, "x is undefined"),
+];
 
 #[test]
 fn answers_each_module(rt: HostRuntime) {
-    for (row, want) in [
-        (FINE, "exported"),
-        (UNEQUAL_EDGES, "edges from block 0 to block 1 differ"),
-        (ONE_TOO_MANY, "another number of arguments"),
-        (ONE_TOO_FEW, "another number of arguments"),
-        (LATER_VALUE, "x is undefined"),
-        (LATER_BLOCK, "exported"),
-        (LATER_CONSTANTS, "exported"),
-        (OTHER_FUNCTION, "far is undefined"),
-        (FOREIGN_OPERAND, "x is undefined"),
-        (FOREIGN_PASSED, "x is undefined"),
-    ] {
-        assert_eq!(rt; answer(rt.alloc(), row), want);
+    for (row, want) in ANSWERS {
+        assert_eq!(rt; answer(rt.alloc(), FUNCTIONS, row, Question::Export), *want);
     }
 }

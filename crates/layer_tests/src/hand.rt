@@ -18,7 +18,6 @@ use dialect_types::items::Items;
 use dialect_types::legaliser::Legaliser;
 use dialect_types::types::{TypeHandle, TypeKind};
 use std::alloc::{AllocError, Global};
-use std::marker::Brand;
 use std::sync::ledger::{Blank, Ledger};
 
 /// A block, by the function that has it, counted from 1, and its place there. The function 0 is the module itself.
@@ -31,7 +30,7 @@ pub type Op = (usize, usize, usize);
 pub type Edge = (At, Option<Op>);
 
 /// The names that modules have.
-#[derive(Clone, Copy, Drop)]
+#[derive(Drop)]
 pub enum Name {
     M,
     F,
@@ -41,7 +40,7 @@ pub enum Name {
 }
 
 /// A step that makes a part of a module.
-#[derive(Clone, Copy, Drop)]
+#[derive(Drop)]
 pub enum Step {
     /// A last block of a function, or of the module.
     Block(usize),
@@ -67,7 +66,7 @@ pub enum Step {
 
 // ---- what is named: None says that it is not there, or no memory
 
-fn identifier(alloc: Global, name: Name) -> Option<Identifier> {
+fn identifier(alloc: Global, name: &Name) -> Option<Identifier> {
     let word = match name {
         Name::M => "m",
         Name::F => "f",
@@ -86,8 +85,10 @@ fn holder(ctx: &Context, root: ModuleOp, number: usize) -> Option<OpRef>
     if number == 0 {
         return Some(root.0);
     }
-    let ops = ctx.held_ops(root.0).ok()?;
-    ops.as_slice().get(number - 1).copied()
+    match ctx.held_ops(root.0) {
+        Ok(ops) => ops.as_slice().get(number - 1).copied(),
+        Err(_) => None,
+    }
 }
 
 fn block(ctx: &Context, root: ModuleOp, at: At) -> Option<BlockRef>
@@ -103,8 +104,10 @@ fn op(ctx: &Context, root: ModuleOp, op: Op) -> Option<OpRef>
     ensures { IfSome result (λ o. o.0 < length ctx.now.ops) }
 {
     let block = block(ctx, root, (op.0, op.1))?;
-    let ops = ctx.block_ops(block).ok()?;
-    ops.as_slice().get(op.2).copied()
+    match ctx.block_ops(block) {
+        Ok(ops) => ops.as_slice().get(op.2).copied(),
+        Err(_) => None,
+    }
 }
 
 /// What an edge passes.
@@ -123,13 +126,27 @@ fn passed(alloc: Global, ctx: &Context, root: ModuleOp, value: Option<Op>) -> Op
     }
 }
 
-fn edge(alloc: Global, ctx: &Context, root: ModuleOp, edge: Edge) -> Option<Successor>
+fn edge(alloc: Global, ctx: &Context, root: ModuleOp, edge: &Edge) -> Option<Successor>
     requires { root.0.0 < length ctx.now.ops }
     ensures { IfSome result (IsSuccessorWithin (length ctx.now.ops) (length ctx.now.blocks)) }
 {
     let block = block(ctx, root, edge.0)?;
     let args = passed(alloc, ctx, root, edge.1)?;
     Some(Successor { block, args })
+}
+
+fn edges(alloc: Global, ctx: &Context, root: ModuleOp, edges: &[Edge]) -> Option<Vec<Successor>>
+    requires { root.0.0 < length ctx.now.ops }
+    ensures { IfSome result (λ s. All (IsSuccessorWithin (length ctx.now.ops) (length ctx.now.blocks)) s.items) }
+{
+    let mut successors = Vec::new(alloc);
+    for to in edges {
+        let successor = edge(alloc, ctx, root, to)?;
+        if successors.push(successor).is_err() {
+            return None;
+        }
+    }
+    Some(successors)
 }
 
 // ---- types
@@ -264,7 +281,7 @@ fn add_func<L: Ledger>(
     alloc: Global,
     ctx: &mut Context,
     root: ModuleOp,
-    name: Name,
+    name: &Name,
     linkage: LinkageAttr,
     steps: &mut Steps<L>,
 ) -> Option<()>
@@ -273,12 +290,11 @@ fn add_func<L: Ledger>(
     ensures typed { IfSome result (λ _. IsTyped ctx.new) }
     ensures more { IfSome result (λ _. length ctx.old.ops ≤ length ctx.new.ops) }
 {
-    let name = identifier(alloc, name)?;
     let Ok(ty) = intern_func(alloc, ctx) else {
         return None;
     };
     let body = block(ctx, root, (0, 0))?;
-    append_func(ctx, body, name, ty, linkage, steps)
+    append_func(ctx, body, identifier(alloc, name)?, ty, linkage, steps)
 }
 
 // ---- operations
@@ -354,46 +370,36 @@ fn double<L: Ledger>(
     )
 }
 
-/// A branch or a return.
+/// A branch, on a result or on none, or a return of nothing.
 fn end<L: Ledger>(
     alloc: Global,
     ctx: &mut Context,
     root: ModuleOp,
-    step: Step,
+    kind: OpKind,
+    at: At,
+    condition: Option<Op>,
+    to: &[Edge],
     steps: &mut Steps<L>,
 ) -> Option<()>
     requires typed { IsTyped ctx.old }
     requires root { root.0.0 < length ctx.old.ops }
+    requires plain { IsTrue (is_plain kind) }
+    requires types { HasKindTypesBelow (length ctx.old.types) kind }
     ensures typed { IfSome result (λ _. IsTyped ctx.new) }
     ensures more { IfSome result (λ _. length ctx.old.ops ≤ length ctx.new.ops) }
 {
-    match step {
-        Step::Br(at, to) => {
-            let block = block(ctx, root, at)?;
-            let to = edge(alloc, ctx, root, to)?;
-            place(ctx, block, OpKind::Br, &[], &[to], None, steps)
-        }
-        Step::CondBr(at, condition, yes, no) => {
-            let block = block(ctx, root, at)?;
-            let condition = Value::Result(op(ctx, root, condition)?);
-            let yes = edge(alloc, ctx, root, yes)?;
-            let no = edge(alloc, ctx, root, no)?;
-            place(
-                ctx,
-                block,
-                OpKind::CondBr,
-                &[condition],
-                &[yes, no],
-                None,
-                steps,
-            )
-        }
-        Step::Return(at) => {
-            let block = block(ctx, root, at)?;
-            place(ctx, block, OpKind::Return, &[], &[], None, steps)
-        }
-        _ => None,
-    }
+    let block = block(ctx, root, at)?;
+    let operands = passed(alloc, ctx, root, condition)?;
+    let successors = edges(alloc, ctx, root, to)?;
+    place(
+        ctx,
+        block,
+        kind,
+        operands.as_slice(),
+        successors.as_slice(),
+        None,
+        steps,
+    )
 }
 
 // ---- modules
@@ -403,7 +409,7 @@ fn take<L: Ledger>(
     alloc: Global,
     ctx: &mut Context,
     root: ModuleOp,
-    step: Step,
+    step: &Step,
     steps: &mut Steps<L>,
 ) -> Option<()>
     requires typed { IsTyped ctx.old }
@@ -412,31 +418,40 @@ fn take<L: Ledger>(
     ensures more { IfSome result (λ _. length ctx.old.ops ≤ length ctx.new.ops) }
 {
     match step {
-        Step::Block(number) => add_block(ctx, root, number, None),
+        Step::Block(number) => add_block(ctx, root, *number, None),
         Step::Label(number, label) => {
             let label = identifier(alloc, label)?;
-            add_block(ctx, root, number, Some(label))
+            add_block(ctx, root, *number, Some(label))
         }
-        Step::Func(name, linkage) => add_func(alloc, ctx, root, name, linkage, steps),
-        Step::Argument(at) => add_argument(ctx, root, at),
+        Step::Func(name, linkage) => add_func(alloc, ctx, root, name, *linkage, steps),
+        Step::Argument(at) => add_argument(ctx, root, *at),
         Step::Constant(at, width, value) => {
-            let block = block(ctx, root, at)?;
-            constant(ctx, block, width, value, steps)
+            let block = block(ctx, root, *at)?;
+            constant(ctx, block, *width, *value, steps)
         }
         Step::Double(at, value) => {
-            let block = block(ctx, root, at)?;
-            let op = op(ctx, root, value)?;
+            let block = block(ctx, root, *at)?;
+            let op = op(ctx, root, *value)?;
             double(ctx, block, op, steps)
         }
         Step::Named(named, name) => {
-            let op = op(ctx, root, named)?;
-            let name = identifier(alloc, name)?;
-            match ctx.set_name(op, name) {
-                Ok(()) => Some(()),
-                Err(_) => None,
-            }
+            let op = op(ctx, root, *named)?;
+            ctx.set_name(op, identifier(alloc, name)?).ok()
         }
-        Step::Br(..) | Step::CondBr(..) | Step::Return(..) => end(alloc, ctx, root, step, steps),
+        Step::Br(at, to) => end(alloc, ctx, root, OpKind::Br, *at, None, &[*to], steps),
+        Step::CondBr(at, condition, yes, no) => {
+            end(
+                alloc,
+                ctx,
+                root,
+                OpKind::CondBr,
+                *at,
+                Some(*condition),
+                &[*yes, *no],
+                steps,
+            )
+        }
+        Step::Return(at) => end(alloc, ctx, root, OpKind::Return, *at, None, &[], steps),
     }
 }
 
@@ -454,13 +469,13 @@ fn take_all<L: Ledger>(
     ensures more { IfSome result (λ _. length ctx.old.ops ≤ length ctx.new.ops) }
 {
     for step in row {
-        take(alloc, ctx, root, *step, steps)?;
+        take(alloc, ctx, root, step, steps)?;
     }
     Some(())
 }
 
 /// A module in an empty context, by the steps of two rows.
-fn make<L: Ledger>(
+pub fn make<L: Ledger>(
     alloc: Global,
     ctx: &mut Context,
     first: &[Step],
@@ -475,28 +490,11 @@ fn make<L: Ledger>(
     ensures there { IfSome result (λ root. root.0.0 < length ctx.new.ops) }
 {
     let mut steps = Steps::<L>::new(blank);
-    let name = identifier(alloc, Name::M)?;
+    let name = identifier(alloc, &Name::M)?;
     let Ok(root) = ctx.create_module(name) else {
         return None;
     };
     take_all(alloc, ctx, root, first, &mut steps)?;
     take_all(alloc, ctx, root, then, &mut steps)?;
     Some(root)
-}
-
-/// A module and its context.
-#[derive(Drop)]
-pub struct Made {
-    pub ctx: Context,
-    pub root: ModuleOp,
-}
-
-/// A module by the steps of two rows.
-pub fn module(alloc: Global, first: &[Step], then: &[Step]) -> Option<Made>
-    ensures typed { IfSome result (λ m. IsTyped m.ctx) }
-    ensures there { IfSome result (λ m. m.root.0.0 < length m.ctx.ops) }
-{
-    let mut ctx = Context::new(alloc);
-    let root = make::<Brand>(alloc, &mut ctx, first, then, Blank::new(1))?;
-    Some(Made { ctx, root })
 }

@@ -6,10 +6,10 @@ ghost use Rattle.llvm_core.specs.Form.{IsForm};
 ghost use Rattle.llvm_core.specs.Names.{IsPlainOrNone};
 ghost use Rattle.dialect_core.specs.Data.{IsTyped};
 
-use crate::texts::module_of;
 use dialect_core::context::Context;
 use dialect_core::numbers::ModuleOp;
 use from_llvm_ir::importing::convert_module;
+use ll_text::read::read_ll;
 use llvm_core::module::LLVMModule;
 use std::alloc::Global;
 
@@ -78,10 +78,10 @@ fn import_text(alloc: Global, ctx: &mut Context, text: &str) -> Option<ModuleOp>
     ensures more { length ctx.old.ops ≤ length ctx.new.ops }
     ensures there { IfSome result (λ m. m.0.0 < length ctx.new.ops) }
 {
-    let Ok(module) = module_of(alloc, text) else {
-        return None;
-    };
-    import_into(alloc, ctx, &module)
+    match read_ll(alloc, text.as_bytes()) {
+        Ok(module) => import_into(alloc, ctx, &module),
+        Err(_) => None,
+    }
 }
 
 /// Whether a module of a context has this dialect text.

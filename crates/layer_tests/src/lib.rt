@@ -4,6 +4,8 @@
 #![tactic(auto)]
 
 #[cfg(test)]
+mod asked;
+#[cfg(test)]
 mod dominance;
 #[cfg(test)]
 mod exports;
@@ -25,7 +27,5 @@ mod outside;
 mod rules;
 #[cfg(test)]
 mod runs;
-#[cfg(test)]
-mod texts;
 #[cfg(test)]
 mod traces;

@@ -10,14 +10,16 @@ ghost use Rattle.dialect_core.specs.Data.{IsTyped};
 ghost use Rattle.tracing.specs.Runs.{HasPlacesBelow};
 ghost use Rattle.tracing.specs.DialectBodies.{HasBody};
 
-use crate::hand::{Name, Step, module};
-use crate::texts::module_of;
+use crate::asked::{Question, answer};
+use crate::hand::{Name, Step};
 use dialect_core::context::Context;
 use dialect_core::linkage::LinkageAttr;
 use dialect_core::numbers::{FuncOp, ModuleOp};
+use ll_text::read::read_ll;
 use llvm_core::module::LLVMModule;
 use llvm_core::numbers::LLVMFunction;
 use std::alloc::{AllocError, Global};
+use std::str::SplitWhitespace;
 use tracing::table::{Opcode, TermNode, TermTable, ValueType};
 use tracing::trace::{Trace, TraceItem};
 use tracing::tracing::{trace_of_dialect, trace_of_llvm};
@@ -41,7 +43,7 @@ const CHOICES: &[u32] = &[0, 0, 0, 1];
 
 /// What both traces show, `^` a block that is entered and `%` a parameter that the event before it takes, after its width.
 /// At the third turn the first phi holds the first parameter again.
-const WANT: &str = " ^0 br ^1 cond_br i1 %2 ^1 cond_br i1 %2 ^1 cond_br i1 %2 ^2 ret i32 %0";
+const WANT: &str = "^0 br ^1 cond_br i1 %2 ^1 cond_br i1 %2 ^1 cond_br i1 %2 ^2 ret i32 %0";
 
 /// Two functions, of which the first branches on a value of the second.
 const FOREIGN: &[Step] = &[
@@ -58,89 +60,111 @@ const FOREIGN: &[Step] = &[
 ];
 
 /// What its trace shows: in a run of the first function no value of the second is set.
-const UNSET: &str = " ^0 cond_br i1 unset ^1 ret";
+const UNSET: &str = "^0 cond_br i1 unset ^1 ret";
 
-// ---- a trace in words
+// ---- a trace against words
 
-fn word(opcode: Opcode) -> &'static str {
+/// The next word, empty behind the last.
+fn word<'a>(words: &mut SplitWhitespace<'a>) -> &'a str {
+    words.next().unwrap_or("")
+}
+
+/// Whether a word is a mark and a number.
+fn is_number(word: &str, mark: char, number: u32) -> bool {
+    match word.strip_prefix(mark) {
+        Some(digits) => digits.parse::<u32>().unwrap_or(u32::MAX) == number,
+        None => false,
+    }
+}
+
+fn opcode_word(opcode: Opcode) -> &'static str {
     match opcode {
-        Opcode::Br => " br",
-        Opcode::CondBr => " cond_br",
-        Opcode::Ret => " ret",
-        _ => " other",
+        Opcode::Br => "br",
+        Opcode::CondBr => "cond_br",
+        Opcode::Ret => "ret",
+        _ => "other",
     }
 }
 
-/// Appends a number behind a mark.
-fn push_number(text: &mut String, mark: &str, number: u32) -> Result<(), AllocError> {
-    text.push_str(mark)?;
-    let digit = match number {
-        0 => "0",
-        1 => "1",
-        2 => "2",
-        _ => "more",
-    };
-    text.push_str(digit)
+fn type_word(ty: &ValueType) -> &'static str {
+    match ty {
+        ValueType::Int(1) => "i1",
+        ValueType::Int(32) => "i32",
+        ValueType::Int(_) => "other",
+        ValueType::Void => "void",
+    }
 }
 
-/// Appends the types of operands.
-fn push_types(types: &[ValueType], text: &mut String) -> Result<(), AllocError> {
+/// Whether words are the types of operands.
+fn are_types(types: &[ValueType], words: &mut SplitWhitespace<'_>) -> bool {
     for ty in types {
-        text.push_str(match ty {
-            ValueType::Int(1) => " i1",
-            ValueType::Int(32) => " i32",
-            ValueType::Int(_) => " other",
-            ValueType::Void => " void",
-        })?;
+        if word(words) != type_word(ty) {
+            return false;
+        }
     }
-    Ok(())
+    true
 }
 
-/// Appends the operands whose terms stand at those places.
-fn push_operands(terms: &TermTable, places: &[u32], text: &mut String) -> Result<(), AllocError>
+/// Whether a word is an operand's term.
+fn is_term(node: &TermNode, word: &str) -> bool {
+    match node {
+        TermNode::Param(at) => is_number(word, '%', *at),
+        TermNode::Unset => word == "unset",
+        _ => false,
+    }
+}
+
+/// Whether words are the operands whose terms stand at those places.
+fn are_operands(terms: &TermTable, places: &[u32], words: &mut SplitWhitespace<'_>) -> bool
     requires { All (λ k. k < length terms.now) places.now }
 {
     for place in places {
-        match terms.node(*place) {
-            TermNode::Param(at) => push_number(text, " %", *at)?,
-            TermNode::Unset => text.push_str(" unset")?,
-            _ => text.push_str(" term")?,
+        if !is_term(terms.node(*place), word(words)) {
+            return false;
         }
     }
-    Ok(())
+    true
 }
 
-/// Appends an item of a trace.
-fn push_item(terms: &TermTable, item: &TraceItem, text: &mut String) -> Result<(), AllocError>
+/// Whether words are an item of a trace.
+fn is_item(terms: &TermTable, item: &TraceItem, words: &mut SplitWhitespace<'_>) -> bool
     requires { HasPlacesBelow (length terms.now) item.now }
 {
     match item {
-        TraceItem::Block(block) => push_number(text, " ^", *block)?,
+        TraceItem::Block(block) => is_number(word(words), '^', *block),
         TraceItem::Event {
             opcode,
             imms,
             operands,
         } => {
-            text.push_str(word(*opcode))?;
-            push_types(imms.operand_types.as_slice(), text)?;
-            push_operands(terms, operands.as_slice(), text)?;
+            word(words) == opcode_word(*opcode)
+                && are_types(imms.operand_types.as_slice(), words)
+                && are_operands(terms, operands.as_slice(), words)
         }
     }
-    Ok(())
 }
 
-/// A trace in words.
-fn words_of(alloc: Global, trace: &Trace) -> Result<String, AllocError>
+/// Whether words begin with these items of a trace.
+fn are_items(terms: &TermTable, items: &[TraceItem], words: &mut SplitWhitespace<'_>) -> bool
+    requires { All (HasPlacesBelow (length terms.now)) items.now }
+{
+    for item in items {
+        if !is_item(terms, item, words) {
+            return false;
+        }
+    }
+    true
+}
+
+/// Whether a trace shows these words.
+fn shows(trace: &Trace, want: &str) -> bool
     requires { All (HasPlacesBelow (length trace.now.terms)) trace.now.items.items }
 {
-    let mut text = String::new(alloc);
-    for item in trace.items.as_slice() {
-        push_item(&trace.terms, item, &mut text)?;
-    }
-    Ok(text)
+    let words = &mut want.split_whitespace();
+    are_items(&trace.terms, trace.items.as_slice(), words) && words.next().is_none()
 }
 
-// ---- the two sides: None says that there is no such function, or no memory
+// ---- the two sides
 
 /// The first function of a dialect module that has a body.
 fn dialect_function(ctx: &Context, root: ModuleOp) -> Result<Option<FuncOp>, AllocError>
@@ -156,86 +180,70 @@ fn dialect_function(ctx: &Context, root: ModuleOp) -> Result<Option<FuncOp>, All
     Ok(None)
 }
 
-/// The trace of the first function of a module.
-fn llvm_words(alloc: Global, module: &LLVMModule) -> Option<String>
+/// Whether the trace of the first function of a module shows these words.
+fn llvm_shows(alloc: Global, module: &LLVMModule, want: &str) -> bool
     requires checked { IsChecked «module».now }
 {
     if module.functions() == 0 {
-        return None;
+        return false;
     }
-    let Ok(trace) = trace_of_llvm(alloc, module, LLVMFunction(0), CHOICES) else {
-        return None;
-    };
-    words_of(alloc, &trace).ok()
+    match trace_of_llvm(alloc, module, LLVMFunction(0), CHOICES) {
+        Ok(trace) => shows(&trace, want),
+        Err(_) => false,
+    }
 }
 
-/// The trace of the first function with a body of a dialect module, if that is well-formed.
-fn dialect_words(alloc: Global, ctx: &Context, root: ModuleOp) -> Option<String>
+/// Whether a dialect module is well-formed, and the trace of its first function with a body shows these words.
+pub fn dialect_shows(alloc: Global, ctx: &Context, root: ModuleOp, want: &str) -> bool
     requires there { root.0.0 < length ctx.now.ops }
     requires typed { IsTyped ctx.now }
 {
     if !ctx.well_formed(root) {
-        return None;
+        return false;
     }
-    let Ok(found) = dialect_function(ctx, root) else {
-        return None;
+    let Ok(Some(function)) = dialect_function(ctx, root) else {
+        return false;
     };
-    let function = found?;
-    let Ok(trace) = trace_of_dialect(alloc, ctx, root, function, CHOICES) else {
-        return None;
-    };
-    words_of(alloc, &trace).ok()
+    match trace_of_dialect(alloc, ctx, root, function, CHOICES) {
+        Ok(trace) => shows(&trace, want),
+        Err(_) => false,
+    }
 }
 
-/// The trace of the loop.
-fn source_words(alloc: Global) -> Option<String> {
-    let Ok(module) = module_of(alloc, SWAP) else {
-        return None;
-    };
-    llvm_words(alloc, &module)
-}
-
-/// The trace of what the import makes of a module.
-fn made_words(alloc: Global, module: &LLVMModule) -> Option<String>
+/// Whether the trace of what the import makes of a module shows these words.
+fn imported_shows(alloc: Global, module: &LLVMModule, want: &str) -> bool
     requires form { IsForm (data_of «module».now) }
     requires name { IsPlainOrNone «module».now.name }
     requires checked { IsChecked «module».now }
 {
-    let Ok(made) = transfer(alloc, module) else {
-        return None;
-    };
-    dialect_words(alloc, &made.ctx, made.dialect)
+    match transfer(alloc, module) {
+        Ok(made) => dialect_shows(alloc, &made.ctx, made.dialect, want),
+        Err(_) => false,
+    }
 }
 
-/// The trace of what the import makes of the loop.
-fn imported_words(alloc: Global) -> Option<String> {
-    let Ok(module) = module_of(alloc, SWAP) else {
-        return None;
-    };
-    made_words(alloc, &module)
-}
-
-/// The trace of the function that uses a value of another.
-fn foreign_words(alloc: Global) -> Option<String> {
-    let made = module(alloc, FOREIGN, &[])?;
-    dialect_words(alloc, &made.ctx, made.root)
-}
-
-/// Whether a trace is there, and shows what it should.
-fn shows(words: Option<String>, want: &str) -> bool {
-    match words {
-        Some(words) => words.as_str() == want,
-        None => false,
+/// Whether the trace of the loop, and that of what the import makes of it, show what they should.
+fn swaps(alloc: Global) -> (bool, bool) {
+    match read_ll(alloc, SWAP.as_bytes()) {
+        Ok(module) => (
+            llvm_shows(alloc, &module, WANT),
+            imported_shows(alloc, &module, WANT),
+        ),
+        Err(_) => (false, false),
     }
 }
 
 #[test]
 fn both_sides_swap(rt: HostRuntime) {
-    assert!(rt; shows(source_words(rt.alloc()), WANT), "the source");
-    assert!(rt; shows(imported_words(rt.alloc()), WANT), "the dialect");
+    let (source, dialect) = swaps(rt.alloc());
+    assert!(rt; source, "the source");
+    assert!(rt; dialect, "the dialect");
 }
 
 #[test]
 fn value_of_another_function_is_unset(rt: HostRuntime) {
-    assert!(rt; shows(foreign_words(rt.alloc()), UNSET));
+    assert_eq!(rt;
+        answer(rt.alloc(), FOREIGN, &[], Question::Trace(UNSET)),
+        "yes"
+    );
 }

@@ -1,5 +1,5 @@
--- The ledger under which `hand::module` counts.
-use Rattle.layer_tests.proofs.hand.module.Given as goal
+-- The ledger under which `asked::answer` counts.
+use Rattle.layer_tests.proofs.asked.answer.Given as goal
 
 abbrev pub ghosts-make : goal.ghosts-make
 ghosts-make a = record { name = a.blank.name; parts = a.blank.parts }
