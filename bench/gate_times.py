@@ -1,0 +1,87 @@
+#!/usr/bin/env python3
+"""What a run of the gate cost, crate by crate, in processor seconds.
+
+    bench/gate_times.py taskset -c 0,1 rt ci
+
+Runs the command at the top of the repository, with nothing else of `rt` beside it, and looks at its provers each second;
+so each figure is short of the truth by up to a second. When the command has ended, a table says for each crate what its
+proof took, its tests, and its must-fail edits: how many checks they are (the first proves the whole crate, the last is
+of the crate without an edit), what the first took and what the others took together. The lines of the command go to
+standard error, the table to standard output.
+"""
+import collections
+import os
+import pathlib
+import subprocess
+import sys
+import time
+
+ROOT = pathlib.Path(__file__).resolve().parent.parent
+TICKS = os.sysconf("SC_CLK_TCK")
+
+
+class Check:
+    """A prover, as it was last seen."""
+
+    def __init__(self, words, folder):
+        self.crate = words[words.index("--crate-name") + 1] if "--crate-name" in words else "?"
+        self.is_edit = pathlib.Path(folder).name.startswith("rt-edit-")
+        self.is_test = "--test" in words
+        self.seconds = 0.0
+
+
+def provers():
+    """The provers that run now, by process: their words, folder, parent and processor seconds, with what their ended copies took."""
+    found = {}
+    for entry in pathlib.Path("/proc").iterdir():
+        if not entry.name.isdigit():
+            continue
+        try:
+            words = (entry / "cmdline").read_bytes().decode(errors="replace").split("\0")
+            if pathlib.Path(words[0]).name != "rattle":
+                continue
+            fields = (entry / "stat").read_text().rpartition(")")[2].split()
+            folder = os.readlink(entry / "cwd")
+        except OSError:
+            continue
+        found[entry.name] = words, folder, fields[1], sum(int(it) for it in fields[11:15]) / TICKS
+    return found
+
+
+def watch(command):
+    """Runs a command, and returns its exit status and each prover that was seen, in order."""
+    running, ended = {}, []
+    started = subprocess.Popen(command, cwd=ROOT, stdout=sys.stderr)
+    while started.poll() is None:
+        now = provers()
+        for process, (words, folder, parent, seconds) in now.items():
+            # a copy that a prover makes of itself counts with it
+            if parent not in now:
+                running.setdefault(process, Check(words, folder)).seconds = seconds
+        for process in [it for it in running if it not in now]:
+            ended.append(running.pop(process))
+        time.sleep(1)
+    return started.returncode, ended + [*running.values()]
+
+
+def main():
+    if len(sys.argv) < 2:
+        sys.exit(__doc__)
+    began = time.monotonic()
+    status, checks = watch(sys.argv[1:])
+    wall = time.monotonic() - began
+    by_crate = collections.defaultdict(lambda: {"proof": [], "tests": [], "edits": []})
+    for it in checks:
+        kind = "edits" if it.is_edit else "tests" if it.is_test else "proof"
+        by_crate[it.crate][kind].append(it.seconds)
+    print(f"{'crate':16}{'proof':>8}{'tests':>8}{'checks':>8}{'first':>8}{'others':>8}")
+    for crate, given in by_crate.items():
+        edits = given["edits"] or [0.0]
+        print(f"{crate:16}{sum(given['proof']):8.0f}{sum(given['tests']):8.0f}{len(given['edits']):8}{edits[0]:8.0f}{sum(edits[1:]):8.0f}")
+    total = sum(it.seconds for it in checks)
+    print(f"{total / 60:.1f} processor minutes of provers, {wall / 60:.1f} minutes by the clock")
+    sys.exit(status)
+
+
+if __name__ == "__main__":
+    main()
