@@ -1,7 +1,5 @@
 -- What operations and blocks name stays there when the building calls add to them.
 use Rattle.std.proofs.Common.{◌≡◌, ◌<◌, ◌≤◌, ◌+◌, ◌⊎◌, ℕ, zero, suc, Bool, true, false, nat_eq, if◌then◌else◌, List, [], ◌∷◌, ◌++◌, Option, Some, None, All, length, slice_get, slice_set, get_or, ap, sym, ◌∙◌, refl, inl, inr, arith, length-append}
-use Rattle.std.proofs.Common as R
-use Rattle.std.specs.Prelude.{OnErr}
 use Rattle.std.specs.Option.{option_map, option_map_or}
 use Rattle.std.proofs.lemmas.Option.{slice_get_within, slice_get-get_or, none-some, same_Some}
 use Rattle.std.proofs.lemmas.List.{length-set}
@@ -18,11 +16,6 @@ use Rattle.dialect_core.specs.Lists.{Lists, with_change}
 use Rattle.dialect_core.specs.ContextData.{ContextData, with_op, with_name, with_argument, with_block, with_appended, IsValueWithin, IsOpWithin, IsContext, kind_at, HoldsMore}
 use Rattle.dialect_core.proofs.FilterLemmas.{change_get, change_length}
 use Rattle.dialect_core.proofs.ListLemmas.{push_cases, slice_get-append, slice_get-last, slice_get-set_same, slice_get-set_other}
-
--- what holds in any case holds where there is an error
-pub on_err : {T E P : Type 0} (r : R.Result T E) → P → OnErr r P
-on_err (R.Ok x) p = tt
-on_err (R.Err e) p = p
 
 -- a change at a place that is there
 pub with_change_at : {X : Type 0} (f : X → X) (i : ℕ) (xs : List X) (x : X) → i < length xs → x ≡ get_or xs i x → with_change f i xs ≡ slice_set xs i (f x)

@@ -231,8 +231,8 @@ read_at now xs i None here there within = sym (slice_get_past xs i there)
 read_at now xs i (Some x) here there within = ap Some here ∙ sym (slice_get-get_or xs i (now x) (within x there))
 
 -- what holds of each holds of the one at a place, where there is one
-pub all_at : {X : Type 0} (P : X → Type 0) (xs : List X) (i : ℕ) → All P xs → IfSome (slice_get xs i) P
-all_at P xs i h = by (slice_get xs i) refl
+pub some_of_all : {X : Type 0} (P : X → Type 0) (xs : List X) (i : ℕ) → All P xs → IfSome (slice_get xs i) P
+some_of_all P xs i h = by (slice_get xs i) refl
   where
     by : (o : Option _) → slice_get xs i ≡ o → IfSome o P
     by None at = tt

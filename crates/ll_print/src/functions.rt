@@ -145,11 +145,7 @@ fn put_params(
 fn signature(m: &LLVMModule, f: LLVMFunction) -> (LLVMType, &[LLVMType])
     requires sound { IsModule m.now }
     requires within { f.0 < length m.now.functions }
-    ensures returned { result_of (function_in m.now f).type ≡ type_at (trees_of m.now).types result.0 }
-    ensures returned_within { result.0.0 < length m.now.types }
-    ensures within { All (λ t. t.0 < length m.now.types) result.1.now }
-    ensures all { length result.1.now ≡ length (function_in m.now f).params }
-    ensures typed { (i : ℕ) (t : LLVMType) → slice_get result.1.now i ≡ Some t → param_type (function_in m.now f).type i ≡ type_at (trees_of m.now).types t }
+    ensures { IsSignature m.now f result.0 result.1.now }
 {
     let LLVMTypeKind::Function {
         result: returned,

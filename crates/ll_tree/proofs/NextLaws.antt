@@ -1,4 +1,4 @@
--- Reading one token. Each rule has two laws, here and in the files that use this one: `.._takes`, what is read stood at the
+-- Reading one token, or a type with its values. Each rule has two laws, here and in the files that use this one: `.._takes`, what is read stood at the
 -- front and is of its kind, and `.._again`, what stands there and is of its kind is read.
 use Rattle.std.proofs.Common.{◌≡◌, Bool, true, false, List, [], ◌∷◌, ◌++◌, not, Option, Some, None, codes, refl, sym, ap, ◌∙◌, arith, inl, inr}
 use Rattle.std.specs.Str.{bytes_eq}

@@ -70,7 +70,7 @@ many_at stop item ts = many_within stop item (length ts) ts
 abbrev pub with_front : {A : Type 0} → List A → Read (List A) → Read (List A)
 with_front front read = read >>= λ x. Some (front ++ x.0, x.1)
 
--- ---- productions
+-- ---- a type with its values
 
 -- a type and a value of it
 unfoldable pub typed_at : List Text → Read (Text × Text)
@@ -86,6 +86,8 @@ both_at ts = do
   comma ← skip_at (codes ",") a.1
   b ← one_at is_operand comma
   Some ((a.0.0, a.0.1, b.0), b.1)
+
+-- ---- productions
 
 -- [LOCAL "="]: what stands behind the local, if there is one
 abbrev pub behind_local : Option Text → List Text → Read (Option Text)

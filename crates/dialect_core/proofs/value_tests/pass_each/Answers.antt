@@ -6,7 +6,7 @@ use Rattle.std.proofs.lemmas.Option.{slice_get-get_or, slice_get_within}
 use Rattle.dialect_core.specs.Data.{type_in}
 use Rattle.dialect_core.specs.Checking.{tree_at}
 use Rattle.dialect_core.proofs.TestLemmas.{always, never, fails}
-use Rattle.dialect_core.proofs.FuncLemmas.{all_at, pass_more, pass_wanted, read_at}
+use Rattle.dialect_core.proofs.FuncLemmas.{some_of_all, pass_more, pass_wanted, read_at}
 use Rattle.dialect_core.proofs.value_tests.pass_each.Goals as goal
 
 pub loop-place-preserved : goal.loop-place-preserved
@@ -29,7 +29,7 @@ passes-requires-clause-value c = c.requires.values c.loop-place.place _ c.loop-p
 pub passes-requires-clause-wanted : goal.passes-requires-clause-wanted
 passes-requires-clause-wanted c =
     let P = λ (t : TypeHandle). t.0 < length c.args.ctx.now.types in
-    subst (λ (o : Option TypeHandle). IfSome o P) (sym (c.copied.ensures ∙ read_at _ c.args.wanted.now c.loop-place.place c.get.result c.get.ensures.lookup.1 c.get.ensures.lookup.3 (λ x q. q.0))) (all_at P c.args.wanted.now c.loop-place.place c.requires.wanted)
+    subst (λ (o : Option TypeHandle). IfSome o P) (sym (c.copied.ensures ∙ read_at _ c.args.wanted.now c.loop-place.place c.get.result c.get.ensures.lookup.1 c.get.ensures.lookup.3 (λ x q. q.0))) (some_of_all P c.args.wanted.now c.loop-place.place c.requires.wanted)
 
 pub returns-then-not-passes : goal.returns-then-not-passes
 returns-then-not-passes c =

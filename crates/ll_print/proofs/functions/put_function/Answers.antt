@@ -12,9 +12,7 @@ put_numbered-requires-clause-form c = subst (λ (f : LLVMFunction). IsFormFuncti
 
 pub put_numbered-requires-clause-signature : goal.put_numbered-requires-clause-signature
 put_numbered-requires-clause-signature c =
-    let s = c.signature.ensures in
-    subst (λ (f : LLVMFunction). IsSignature c.args.m.now f c.signature.result.0 c.signature.result.1.now) (sym c.in_ok-numbers.ensures.function)
-    (record { returned = s.returned; returned_within = s.returned_within; within = s.within; all = s.all; typed = s.typed })
+    subst (λ (f : LLVMFunction). IsSignature c.args.m.now f c.signature.result.0 c.signature.result.1.now) (sym c.in_ok-numbers.ensures.function) c.signature.ensures
 
 pub returns-clause-text : goal.returns-clause-text
 returns-clause-text c = subst (λ (f : LLVMFunction). OnOk c.put_numbered.result (c.put_numbered.new.out.items ≡ c.args.out.now.items ++ function_text (function_in c.args.m.now f))) c.in_ok-numbers.ensures.function c.put_numbered.ensures

@@ -4,7 +4,8 @@ use Rattle.std.proofs.lemmas.List.{set-get_or}
 use Rattle.dialect_core.specs.declared.numbers.BlockRef.{BlockRef}
 use Rattle.dialect_core.specs.declared.ops.OpData.{OpData}
 use Rattle.dialect_core.specs.Lists.{Lists, list_at}
-use Rattle.dialect_core.proofs.ContextLemmas.{context, on_err, holder_there, region_kept, block_view}
+use Rattle.dialect_core.proofs.ContextLemmas.{context, holder_there, region_kept, block_view}
+use Rattle.dialect_core.proofs.ResultLemmas.{on_err}
 use Rattle.dialect_core.specs.Data.{data_of, IsTyped}
 use Rattle.dialect_core.specs.ContextData.{ContextData}
 use Rattle.dialect_core.proofs.NewBlockLemmas.{last_list, new_block_data}
