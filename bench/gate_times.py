@@ -8,6 +8,10 @@ so each figure is short of the truth by up to a second. When the command has end
 proof took, its tests, and its must-fail edits: how many checks they are (the first proves the whole crate, the last is
 of the crate without an edit), what the first took and what the others took together. The lines of the command go to
 standard error, the table to standard output.
+
+A processor of a rented machine is mostly one of the two threads of a core, and the other may be another tenant's: then it
+does half as much. So a fixed loop is timed every ten seconds, and the last lines say which part of its best speed a
+processor had in the mean, and what the run would have taken of processors that always have it.
 """
 import collections
 import os
@@ -18,6 +22,19 @@ import time
 
 ROOT = pathlib.Path(__file__).resolve().parent.parent
 TICKS = os.sysconf("SC_CLK_TCK")
+
+
+# How many steps the loop takes whose time tells how fast a processor is, and how many seconds lie between two tries.
+STEPS, BETWEEN = 300_000, 10
+
+
+def pace():
+    """The processor seconds that a fixed loop takes now."""
+    began, table, number = time.process_time(), {}, 1
+    for step in range(STEPS):
+        number = (number * 1103515245 + 12345) & 0x7FFFFFFF
+        table[number & 0xFFFF] = step
+    return time.process_time() - began
 
 
 class Check:
@@ -49,11 +66,15 @@ def provers():
 
 
 def watch(command):
-    """Runs a command, and returns its exit status and each prover that was seen, in order."""
-    running, ended = {}, []
+    """Runs a command, and returns its exit status, each prover that was seen, in order, and the times of the loop."""
+    running, ended, paces = {}, [], [pace()]
     started = subprocess.Popen(command, cwd=ROOT, stdout=sys.stderr)
+    tried = time.monotonic()
     while started.poll() is None:
         now = provers()
+        if time.monotonic() - tried >= BETWEEN:
+            paces.append(pace())
+            tried = time.monotonic()
         for process, (words, folder, parent, seconds) in now.items():
             # a copy that a prover makes of itself counts with it
             if parent not in now:
@@ -61,14 +82,14 @@ def watch(command):
         for process in [it for it in running if it not in now]:
             ended.append(running.pop(process))
         time.sleep(1)
-    return started.returncode, ended + [*running.values()]
+    return started.returncode, ended + [*running.values()], paces
 
 
 def main():
     if len(sys.argv) < 2:
         sys.exit(__doc__)
     began = time.monotonic()
-    status, checks = watch(sys.argv[1:])
+    status, checks, paces = watch(sys.argv[1:])
     wall = time.monotonic() - began
     by_crate = collections.defaultdict(lambda: {"proof": [], "tests": [], "edits": []})
     for it in checks:
@@ -80,6 +101,10 @@ def main():
         print(f"{crate:16}{sum(given['proof']):8.0f}{sum(given['tests']):8.0f}{len(given['edits']):8}{edits[0]:8.0f}{sum(edits[1:]):8.0f}")
     total = sum(it.seconds for it in checks)
     print(f"{total / 60:.1f} processor minutes of provers, {wall / 60:.1f} minutes by the clock")
+    # the loop takes its best time where nothing shares the core; what shares it makes each of the times longer
+    part = min(paces) * sum(1 / it for it in paces) / len(paces)
+    print(f"a processor had {part:.2f} of its best speed in the mean, at which the loop takes {min(paces) * 1000:.0f} ms, so")
+    print(f"{total * part / 60:.1f} processor minutes at that speed, {total * part / 120:.1f} minutes on two processors that keep it")
     sys.exit(status)
 
 
