@@ -185,6 +185,10 @@ added_block c0 c1 m body d b f label args h func e number is typed empty =
           (below_more (length c0.ops) (length c0.blocks) _ _ (omega (arith, change_length (region_more b) f.0 c0.ops)) (omega (arith, length-push c0.blocks x)) d.functions h.below));
     }
 
+-- the context has a block more
+pub one_block : (c0 c1 : ContextData) (b : BlockRef) (x : BlockData) → c1 ≡ with_block c0 b x → length c1.blocks ≡ length c0.blocks + 1
+one_block c0 c1 b x e = ap (λ (c : ContextData). length c.blocks) e ∙ length-push c0.blocks x
+
 -- the function is still one
 pub func_still : (c0 c1 : ContextData) (b : BlockRef) (f : OpRef) (x : BlockData) → x.holder ≡ f → kind_at c0.ops f ≡ Some K.Func → c1 ≡ with_block c0 b x → kind_at c1.ops f ≡ Some K.Func
 func_still c0 c1 b f x holder func e = ap (λ (c : ContextData). kind_at c.ops f) e ∙ kind_change c0.ops b x.holder.0 f ∙ func

@@ -43,6 +43,11 @@ keeps_then n b x y z g h = record {
       };
 }
 
+-- all that the context held, where the second call grows what the first began as the last operation and block
+pub keeps_begun : (x y z : ContextData) (m body : ℕ) → ((n b : ℕ) → n ≤ length x.ops → Keeps n b x y) → m ≡ length x.ops → body ≡ length x.blocks → ((n b : ℕ) → n ≤ m → b ≤ body → Keeps n b y z) → Keeps (length x.ops) (length x.blocks) x z
+keeps_begun x y z m body began last_op last_block grew =
+    keeps_then (length x.ops) (length x.blocks) x y z (began (length x.ops) (length x.blocks) (omega arith)) (grew (length x.ops) (length x.blocks) (omega (arith, last_op)) (omega (arith, last_block)))
+
 -- ---- more types
 
 pub keeps_types : (n b : ℕ) (c c' : ContextData) → GrowsTypes c c' → Keeps n b c c'

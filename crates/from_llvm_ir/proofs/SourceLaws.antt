@@ -220,6 +220,10 @@ source_at m k sound form lt =
 pub listed_at : (m : Module) (g : Function) (n : LLVMBasicBlock) (place : ℕ) (b : Block) (is : List LLVMInstRef) (k : ℕ) (d : LLVMInstRef) → IsModule m → IsBlockOf m g n place b → option_map (λ (x : BlockData). x.insts) (slice_get m.blocks n.0) ≡ Some is → k < length is → (p : Placed) × IsInstOf m b (get_or is k d) k p
 listed_at m g n place b is k d sound h has lt = (insts_listed m g n place b is sound h has).each k (get_or is k d) (slice_get-get_or is k d lt)
 
+-- so its number is there
+pub listed_within : (m : Module) (g : Function) (n : LLVMBasicBlock) (place : ℕ) (b : Block) (is : List LLVMInstRef) (k : ℕ) (d : LLVMInstRef) → IsModule m → IsBlockOf m g n place b → option_map (λ (x : BlockData). x.insts) (slice_get m.blocks n.0) ≡ Some is → k < length is → (get_or is k d).0 < length m.insts
+listed_within m g n place b is k d sound h has lt = let x = listed_at m g n place b is k d sound h has lt in inst_within m b (get_or is k d) k x.0 x.1
+
 -- and the block at an index of the list of a function
 pub block_listed_at : (m : Module) (f : LLVMFunction) (g : Function) (h : IsSource m f g) (ns : List LLVMBasicBlock) (k : ℕ) (d : LLVMBasicBlock) → option_map (λ (x : FunctionData). x.blocks) (slice_get m.functions f.0) ≡ Some ns → k < length ns → (b : Block) × IsBlockOf m g (get_or ns k d) k b
 block_listed_at m f g h ns k d has lt = (blocks_listed m f g h ns has).each k (get_or ns k d) (slice_get-get_or ns k d lt)

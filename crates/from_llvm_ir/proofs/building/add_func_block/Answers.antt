@@ -1,8 +1,7 @@
 -- What `building::add_func_block` owes besides what the check finds.
-use Rattle.std.proofs.Common.{length, ap, refl, ◌∙◌}
+use Rattle.std.proofs.Common.{refl}
 use Rattle.std.proofs.lemmas.Result.{IfOk-weaker}
-use Rattle.dialect_core.specs.ContextData.{ContextData}
-use Rattle.from_llvm_ir.proofs.BuildLaws.{added_block, func_still, length-push}
+use Rattle.from_llvm_ir.proofs.BuildLaws.{added_block, func_still, one_block}
 use Rattle.from_llvm_ir.proofs.ResultLaws.{ok_both}
 use Rattle.from_llvm_ir.proofs.building.add_func_block.Goals as goal
 
@@ -20,4 +19,4 @@ pub returns-clause-func : goal.returns-clause-func
 returns-clause-func c = IfOk-weaker c.add_bare_block.result _ _ (λ block is. func_still c.args.ctx.now c.add_bare_block.new.ctx block c.args.func.0 _ refl c.requires.func is) c.add_bare_block.ensures.ok
 
 pub returns-clause-count : goal.returns-clause-count
-returns-clause-count c = IfOk-weaker c.add_bare_block.result _ _ (λ block is. ap (λ (x : ContextData). length x.blocks) is ∙ length-push c.args.ctx.now.blocks _) c.add_bare_block.ensures.ok
+returns-clause-count c = IfOk-weaker c.add_bare_block.result _ _ (λ block is. one_block c.args.ctx.now c.add_bare_block.new.ctx block _ is) c.add_bare_block.ensures.ok

@@ -1,11 +1,11 @@
 -- What `importing::import_counted` owes besides what the check finds.
-use Rattle.std.proofs.Common.{length, arith}
+use Rattle.std.proofs.Common.{arith}
 use Rattle.dialect_types.specs.Names.{legal_name}
 use Rattle.from_llvm_ir.specs.declared.conversion_err.ConversionErr.TheVariants as E
 use Rattle.from_llvm_ir.proofs.ForwardLaws.{passed_on}
 use Rattle.from_llvm_ir.proofs.OwnLaws.{held_types}
 use Rattle.from_llvm_ir.proofs.ModuleLaws.{imported_whole}
-use Rattle.from_llvm_ir.proofs.KeepLaws.{keeps_then, others_kept, types_kept}
+use Rattle.from_llvm_ir.proofs.KeepLaws.{keeps_begun, others_kept, types_kept}
 use Rattle.from_llvm_ir.proofs.importing.import_counted.Goals as goal
 
 pub know_kept-requires : goal.know_kept-requires
@@ -25,64 +25,46 @@ returns-clause-imported g c =
     (c.in_ok-blocks.ensures.ok c.in_ok-module.«module».0.0 (legal_name c.args.source.now.name) c.in_ok-module.ensures.building)
 
 pub returns-in_err-module-clause-others : goal.returns-in_err-module-clause-others
-returns-in_err-module-clause-others g c = others_kept c.args.ctx.now c.start_module.new.ctx (c.start_module.ensures.kept (length c.args.ctx.now.ops) (length c.args.ctx.now.blocks) (omega arith))
+returns-in_err-module-clause-others g c = others_kept c.args.ctx.now c.start_module.new.ctx (c.start_module.ensures.kept _ _ (omega arith))
 
 pub returns-in_err-blocks-clause-others : goal.returns-in_err-blocks-clause-others
 returns-in_err-blocks-clause-others g c =
-    let c0 = c.args.ctx.now in
-    let n = length c0.ops in
-    let b = length c0.blocks in
     let start = c.in_ok-module.ensures in
-    others_kept c0 c.import_functions.new.ctx (keeps_then n b c0 c.start_module.new.ctx c.import_functions.new.ctx (c.start_module.ensures.kept n b (omega arith))
-    (c.import_functions.ensures.kept c.in_ok-module.«module».0.0 (legal_name c.args.source.now.name) start.building n b (omega (arith, start.number)) (omega (arith, start.block))))
+    others_kept c.args.ctx.now c.import_functions.new.ctx
+    (keeps_begun c.args.ctx.now c.start_module.new.ctx c.import_functions.new.ctx _ _ c.start_module.ensures.kept start.number start.block (c.import_functions.ensures.kept c.in_ok-module.«module».0.0 (legal_name c.args.source.now.name) start.building))
 
 pub returns-then-not-has_few-clause-others : goal.returns-then-not-has_few-clause-others
 returns-then-not-has_few-clause-others g c =
-    let c0 = c.args.ctx.now in
-    let n = length c0.ops in
-    let b = length c0.blocks in
     let start = c.in_ok-module.ensures in
-    others_kept c0 c.import_functions.new.ctx (keeps_then n b c0 c.start_module.new.ctx c.import_functions.new.ctx (c.start_module.ensures.kept n b (omega arith))
-    (c.import_functions.ensures.kept c.in_ok-module.«module».0.0 (legal_name c.args.source.now.name) start.building n b (omega (arith, start.number)) (omega (arith, start.block))))
+    others_kept c.args.ctx.now c.import_functions.new.ctx
+    (keeps_begun c.args.ctx.now c.start_module.new.ctx c.import_functions.new.ctx _ _ c.start_module.ensures.kept start.number start.block (c.import_functions.ensures.kept c.in_ok-module.«module».0.0 (legal_name c.args.source.now.name) start.building))
 
 pub returns-clause-others : goal.returns-clause-others
 returns-clause-others g c =
-    let c0 = c.args.ctx.now in
-    let n = length c0.ops in
-    let b = length c0.blocks in
     let start = c.in_ok-module.ensures in
-    others_kept c0 c.import_functions.new.ctx (keeps_then n b c0 c.start_module.new.ctx c.import_functions.new.ctx (c.start_module.ensures.kept n b (omega arith))
-    (c.import_functions.ensures.kept c.in_ok-module.«module».0.0 (legal_name c.args.source.now.name) start.building n b (omega (arith, start.number)) (omega (arith, start.block))))
+    others_kept c.args.ctx.now c.import_functions.new.ctx
+    (keeps_begun c.args.ctx.now c.start_module.new.ctx c.import_functions.new.ctx _ _ c.start_module.ensures.kept start.number start.block (c.import_functions.ensures.kept c.in_ok-module.«module».0.0 (legal_name c.args.source.now.name) start.building))
 
 pub returns-in_err-module-clause-typed : goal.returns-in_err-module-clause-typed
-returns-in_err-module-clause-typed g c = types_kept c.args.ctx.now c.start_module.new.ctx (c.start_module.ensures.kept (length c.args.ctx.now.ops) (length c.args.ctx.now.blocks) (omega arith))
+returns-in_err-module-clause-typed g c = types_kept c.args.ctx.now c.start_module.new.ctx (c.start_module.ensures.kept _ _ (omega arith))
 
 pub returns-in_err-blocks-clause-typed : goal.returns-in_err-blocks-clause-typed
 returns-in_err-blocks-clause-typed g c =
-    let c0 = c.args.ctx.now in
-    let n = length c0.ops in
-    let b = length c0.blocks in
     let start = c.in_ok-module.ensures in
-    types_kept c0 c.import_functions.new.ctx (keeps_then n b c0 c.start_module.new.ctx c.import_functions.new.ctx (c.start_module.ensures.kept n b (omega arith))
-    (c.import_functions.ensures.kept c.in_ok-module.«module».0.0 (legal_name c.args.source.now.name) start.building n b (omega (arith, start.number)) (omega (arith, start.block))))
+    types_kept c.args.ctx.now c.import_functions.new.ctx
+    (keeps_begun c.args.ctx.now c.start_module.new.ctx c.import_functions.new.ctx _ _ c.start_module.ensures.kept start.number start.block (c.import_functions.ensures.kept c.in_ok-module.«module».0.0 (legal_name c.args.source.now.name) start.building))
 
 pub returns-then-not-has_few-clause-typed : goal.returns-then-not-has_few-clause-typed
 returns-then-not-has_few-clause-typed g c =
-    let c0 = c.args.ctx.now in
-    let n = length c0.ops in
-    let b = length c0.blocks in
     let start = c.in_ok-module.ensures in
-    types_kept c0 c.import_functions.new.ctx (keeps_then n b c0 c.start_module.new.ctx c.import_functions.new.ctx (c.start_module.ensures.kept n b (omega arith))
-    (c.import_functions.ensures.kept c.in_ok-module.«module».0.0 (legal_name c.args.source.now.name) start.building n b (omega (arith, start.number)) (omega (arith, start.block))))
+    types_kept c.args.ctx.now c.import_functions.new.ctx
+    (keeps_begun c.args.ctx.now c.start_module.new.ctx c.import_functions.new.ctx _ _ c.start_module.ensures.kept start.number start.block (c.import_functions.ensures.kept c.in_ok-module.«module».0.0 (legal_name c.args.source.now.name) start.building))
 
 pub returns-clause-typed : goal.returns-clause-typed
 returns-clause-typed g c =
-    let c0 = c.args.ctx.now in
-    let n = length c0.ops in
-    let b = length c0.blocks in
     let start = c.in_ok-module.ensures in
-    types_kept c0 c.import_functions.new.ctx (keeps_then n b c0 c.start_module.new.ctx c.import_functions.new.ctx (c.start_module.ensures.kept n b (omega arith))
-    (c.import_functions.ensures.kept c.in_ok-module.«module».0.0 (legal_name c.args.source.now.name) start.building n b (omega (arith, start.number)) (omega (arith, start.block))))
+    types_kept c.args.ctx.now c.import_functions.new.ctx
+    (keeps_begun c.args.ctx.now c.start_module.new.ctx c.import_functions.new.ctx _ _ c.start_module.ensures.kept start.number start.block (c.import_functions.ensures.kept c.in_ok-module.«module».0.0 (legal_name c.args.source.now.name) start.building))
 
 pub import_functions-requires-clause-form : goal.import_functions-requires-clause-form
 import_functions-requires-clause-form g c = c.requires.form

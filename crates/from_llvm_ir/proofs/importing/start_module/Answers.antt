@@ -1,7 +1,6 @@
 -- What `importing::start_module` owes besides what the check finds.
-use Rattle.std.proofs.Common.{ℕ, List, [], None, sym, ap, subst, ◌∙◌, length, arith}
+use Rattle.std.proofs.Common.{ℕ, List, [], None, sym, ap, subst, ◌∙◌, arith}
 use Rattle.dialect_types.specs.Names.{IsPlainName, legal_name}
-use Rattle.dialect_core.specs.ContextData.{ContextData}
 use Rattle.dialect_core.specs.Data.{DialectModule, with_func_block}
 use Rattle.from_llvm_ir.specs.Imported.{IsBuilding}
 use Rattle.from_llvm_ir.specs.Building.{module_named}
@@ -25,7 +24,7 @@ returns-clause-building c =
     (started c.args.ctx.now c.create_module.new.self c.add_bare_block.new.ctx o c.in_ok-body.body c.in_ok-name.name c.in_ok-module.ensures.ok c.in_ok-module.ensures.number c.in_ok-body.ensures.ok c.in_ok-body.ensures.number is c.in_ok-body.ensures.bare)
 
 pub returns-clause-block : goal.returns-clause-block
-returns-clause-block c = c.in_ok-body.ensures.number ∙ ap (λ (y : ContextData). length y.blocks) c.in_ok-module.ensures.ok
+returns-clause-block c = rw c.in_ok-module.ensures.ok at c.in_ok-body.ensures.number
 
 pub returns-in_err-module-clause-kept : goal.returns-in_err-module-clause-kept
 returns-in_err-module-clause-kept c = λ n b long. keeps_same n b c.args.ctx.now c.create_module.new.self c.in_err-module.ensures.err

@@ -6,7 +6,7 @@ use Rattle.llvm_core.specs.Data as L
 use Rattle.dialect_types.specs.declared.types.TypeHandle.{TypeHandle}
 use Rattle.dialect_core.specs.ContextData.{ContextData}
 use Rattle.from_llvm_ir.specs.Types.{type_from}
-use Rattle.from_llvm_ir.proofs.SourceLaws.{listed_at, insts_listed, phi_read, type_of_inst, type_read, block_within, inst_within}
+use Rattle.from_llvm_ir.proofs.SourceLaws.{listed_at, listed_within, insts_listed, phi_read, type_of_inst, type_read, block_within}
 use Rattle.from_llvm_ir.proofs.TypeLaws.{ImportsPhis, phis_skip, phis_more, grows_then}
 use Rattle.from_llvm_ir.proofs.types.import_phi_types.Goals as goal
 use Rattle.from_llvm_ir.proofs.types.import_phi_types.Goals.{then-is_phi+in_ok-import_plain+in_ok-push, else-is_phi}
@@ -59,18 +59,10 @@ pub instructions-i-items-requires : goal.instructions-i-items-requires
 instructions-i-items-requires c = let r = c.requires in block_within c.args.source.now r.1 c.args.block r.2 r.3 r.5
 
 pub inst-requires : goal.inst-requires
-inst-requires c =
-    let r = c.requires in
-    let m = c.args.source.now in
-    let x = listed_at m r.1 c.args.block r.2 r.3 c.instructions-i-items.result.now c.loop-i.i-index (record { 0 = 0 }) r.4.sound r.5 c.instructions-i-items.ensures.insts c.loop-i-test.true in
-    inst_within m r.3 _ c.loop-i.i-index x.0 x.1
+inst-requires c = let r = c.requires in listed_within c.args.source.now r.1 c.args.block r.2 r.3 c.instructions-i-items.result.now c.loop-i.i-index (record { 0 = 0 }) r.4.sound r.5 c.instructions-i-items.ensures.insts c.loop-i-test.true
 
 pub type_of-requires : goal.type_of-requires
-type_of-requires c =
-    let r = c.requires in
-    let m = c.args.source.now in
-    let x = listed_at m r.1 c.args.block r.2 r.3 c.instructions-i-items.result.now c.loop-i.i-index (record { 0 = 0 }) r.4.sound r.5 c.instructions-i-items.ensures.insts c.loop-i-test.true in
-    inst_within m r.3 _ c.loop-i.i-index x.0 x.1
+type_of-requires c = let r = c.requires in listed_within c.args.source.now r.1 c.args.block r.2 r.3 c.instructions-i-items.result.now c.loop-i.i-index (record { 0 = 0 }) r.4.sound r.5 c.instructions-i-items.ensures.insts c.loop-i-test.true
 
 pub import_plain-requires-clause-sound : goal.import_plain-requires-clause-sound
 import_plain-requires-clause-sound c = c.requires.4.sound
