@@ -23,12 +23,11 @@ use Rattle.dialect_core.specs.Data.{DialectBlock, DialectOp}
 use Rattle.dialect_core.specs.Form.{uses_of}
 use Rattle.dialect_core.proofs.ListLemmas.{push_cases}
 use Rattle.meaning.specs.Pairs.{Matched}
-use Rattle.from_llvm_ir.specs.declared.targets.Targets.{Targets}
 use Rattle.from_llvm_ir.specs.declared.values.Values.{Values}
 use Rattle.from_llvm_ir.specs.declared.entries.Entries.{Entries}
 use Rattle.from_llvm_ir.specs.Match.{IsPlaces}
 use Rattle.from_llvm_ir.specs.Types.{type_from}
-use Rattle.from_llvm_ir.specs.Values.{IsNoted, target_at}
+use Rattle.from_llvm_ir.specs.Values.{Targets, IsNoted, target_at}
 use Rattle.from_llvm_ir.specs.Source.{IsInstOf, AreEntries}
 use Rattle.from_llvm_ir.specs.Imported.{passed, rest_of, phis_of, front_for}
 use Rattle.from_llvm_ir.specs.Building.{IsUnder, with_ops}

@@ -18,9 +18,8 @@ use Rattle.llvm_core.specs.Data as L
 use Rattle.llvm_core.specs.Data.{Placed, trees_of}
 use Rattle.llvm_core.proofs.DataLemmas.{there}
 use Rattle.block_order.specs.Graph.{IsGraph}
-use Rattle.from_llvm_ir.specs.declared.order.Places.{Places}
 use Rattle.from_llvm_ir.specs.Parts.{target_blocks}
-use Rattle.from_llvm_ir.specs.Graph.{ArePlacesOf, IsBlockIn, IsInstIn, noted_place}
+use Rattle.from_llvm_ir.specs.Graph.{Places, ArePlacesOf, IsBlockIn, IsInstIn, noted_place}
 use Rattle.from_llvm_ir.specs.Source.{IsSource}
 use Rattle.from_llvm_ir.specs.Walks.{graph_of, place_of_block}
 use Rattle.from_llvm_ir.proofs.ListLaws.{take_next}

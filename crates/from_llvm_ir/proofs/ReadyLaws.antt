@@ -27,11 +27,10 @@ use Rattle.dialect_core.specs.ContextData.{ContextData, IsValueWithin, IsSuccess
 use Rattle.dialect_core.specs.Data.{DialectBlock, DialectOp}
 use Rattle.meaning.specs.Pairs.{Matched}
 use Rattle.from_llvm_ir.specs.declared.entries.Entries.{Entries}
-use Rattle.from_llvm_ir.specs.declared.targets.Targets.{Targets}
 use Rattle.from_llvm_ir.specs.declared.values.Values.{Values}
 use Rattle.from_llvm_ir.specs.Imported.{IsIn, IsBelow, constant_in, constants_in, passed, rest_of, front_for}
 use Rattle.from_llvm_ir.specs.Parts.{target_blocks}
-use Rattle.from_llvm_ir.specs.Values.{AreNoted, IsSettled, target_at, value_at}
+use Rattle.from_llvm_ir.specs.Values.{Targets, AreNoted, IsSettled, target_at, value_at}
 use Rattle.from_llvm_ir.specs.Edges.{IsKnownEdge, IsReady}
 use Rattle.from_llvm_ir.specs.Building.{Home, IsOpen, IsUnder, ops_of, with_blocks, with_ops}
 use Rattle.from_llvm_ir.specs.Source.{IsBlockOf, IsSite, IsUsed, used_by}

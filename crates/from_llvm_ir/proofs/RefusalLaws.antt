@@ -23,11 +23,10 @@ use Rattle.dialect_core.specs.ContextData.{ContextData}
 use Rattle.from_llvm_ir.specs.declared.conversion_err.ConversionErr.{ConversionErr}
 use Rattle.from_llvm_ir.specs.declared.conversion_err.ConversionErr.TheVariants as E
 use Rattle.from_llvm_ir.specs.declared.entries.Entries.{Entries}
-use Rattle.from_llvm_ir.specs.declared.targets.Targets.{Targets}
 use Rattle.from_llvm_ir.specs.declared.values.Values.{Values}
 use Rattle.from_llvm_ir.specs.Imported.{IsIn, IsEarlyUse, name_in, passed}
 use Rattle.from_llvm_ir.specs.Order.{IsInverse}
-use Rattle.from_llvm_ir.specs.Values.{IsForward, value_at}
+use Rattle.from_llvm_ir.specs.Values.{Targets, IsForward, value_at}
 use Rattle.from_llvm_ir.specs.Source.{IsBlockOf, IsInstOf, IsSource, IsUsable, used_by}
 use Rattle.from_llvm_ir.specs.Known.{Frame, beside, blocks_of}
 use Rattle.from_llvm_ir.specs.Body.{IsAt, IsLate, insts_before}

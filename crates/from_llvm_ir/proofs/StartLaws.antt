@@ -30,13 +30,12 @@ use Rattle.dialect_core.specs.Data.{DialectModule, Func, DialectBlock, DialectOp
 use Rattle.dialect_core.proofs.ListLemmas.{push_cases}
 use Rattle.block_order.specs.DepthFirst.{IsDepthFirst}
 use Rattle.from_llvm_ir.specs.declared.matching.FunctionBlocks.{FunctionBlocks}
-use Rattle.from_llvm_ir.specs.declared.targets.Targets.{Targets}
 use Rattle.from_llvm_ir.specs.declared.values.Values.{Values}
 use Rattle.from_llvm_ir.specs.Match.{IsPlaces}
 use Rattle.from_llvm_ir.specs.Order.{IsInverse}
 use Rattle.from_llvm_ir.specs.Walks.{graph_of, HasDominatedUses}
 use Rattle.from_llvm_ir.specs.Types.{GrowsTypes, type_from}
-use Rattle.from_llvm_ir.specs.Values.{target_at, value_at, IsNoted}
+use Rattle.from_llvm_ir.specs.Values.{Targets, target_at, value_at, IsNoted}
 use Rattle.from_llvm_ir.specs.Imported.{FirstUses, NoUses, UsedAgain, UsedFirst, ImportedFunction, IsBuilding, IsBelow, front_for, given_name, label_for, phis_of}
 use Rattle.from_llvm_ir.specs.Building.{AreBare, AreFresh, AreNumbered, IsUnder, bare_func, with_blocks, with_ops, ops_of}
 use Rattle.from_llvm_ir.specs.Source.{IsSource, IsBlockOf}

@@ -17,12 +17,11 @@ use Rattle.dialect_core.specs.Data.{DialectBlock, DialectOp, with_func}
 use Rattle.meaning.specs.Pairs.{Matched}
 use Rattle.from_llvm_ir.specs.declared.conversion_err.ConversionErr.{ConversionErr}
 use Rattle.from_llvm_ir.specs.declared.conversion_err.ConversionErr.TheVariants as E
-use Rattle.from_llvm_ir.specs.declared.targets.Targets.{Targets}
 use Rattle.from_llvm_ir.specs.declared.values.Values.{Values}
 use Rattle.from_llvm_ir.specs.declared.entries.Entries.{Entries}
 use Rattle.from_llvm_ir.specs.Match.{IsPlaces}
 use Rattle.from_llvm_ir.specs.Types.{type_from}
-use Rattle.from_llvm_ir.specs.Values.{target_at}
+use Rattle.from_llvm_ir.specs.Values.{Targets, target_at}
 use Rattle.from_llvm_ir.specs.Imported.{constants_in, rest_of, front_for, IsBuilding, IsBelow, IsRefused}
 use Rattle.from_llvm_ir.specs.Building.{IsUnder, AreBare, bare_func, with_blocks, with_ops}
 use Rattle.from_llvm_ir.specs.Source.{IsSource, IsBlockOf, IsInstOf, AreEntries}

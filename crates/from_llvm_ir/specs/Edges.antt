@@ -8,11 +8,10 @@ use Rattle.llvm_core.specs.Data as L
 use Rattle.llvm_core.specs.Data.{trees_of, operand_of}
 use Rattle.dialect_core.specs.declared.ops.Successor.{Successor}
 use Rattle.from_llvm_ir.specs.declared.entries.Entries.{Entries}
-use Rattle.from_llvm_ir.specs.declared.targets.Targets.{Targets}
 use Rattle.from_llvm_ir.specs.declared.values.Values.{Values}
 use Rattle.from_llvm_ir.specs.Imported.{IsIn, passed}
 use Rattle.from_llvm_ir.specs.Source.{LeadsTo, IsUsed}
-use Rattle.from_llvm_ir.specs.Values.{AreNoted, IsSettled, target_at}
+use Rattle.from_llvm_ir.specs.Values.{AreNoted, IsSettled, Targets, target_at}
 
 -- the edge leads to what stands for a block, and passes what stands for what the edge to that block passes
 pub record IsKnownEdge (m : Module) (g : L.Function) (values : Values) (targets : Targets) (from to : LLVMBasicBlock) (s : Successor) : Type 0 where

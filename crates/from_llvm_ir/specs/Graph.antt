@@ -1,6 +1,10 @@
 -- The graph of a function as it is made: which place each block has, and where an instruction stands.
 use Rattle.std.specs.Prelude.{ℕ, ◌≡◌, Option, Some, slice_get}
 use Rattle.std.specs.HashMap.{get}
+use Rattle.std.specs.declared.alloc.Global.{Global}
+use Rattle.std.specs.declared.collections.HashMap.{HashMap}
+use Rattle.std.specs.declared.hash.BuildHasherDefault.{BuildHasherDefault}
+use Rattle.std.specs.declared.hash.FoldHasher.{FoldHasher}
 use Rattle.llvm_core.specs.declared.numbers.LLVMBasicBlock.{LLVMBasicBlock}
 use Rattle.llvm_core.specs.declared.numbers.LLVMFunction.{LLVMFunction}
 use Rattle.llvm_core.specs.declared.numbers.LLVMInstRef.{LLVMInstRef}
@@ -8,12 +12,15 @@ use Rattle.llvm_core.specs.contracts.numbers.LLVMBasicBlockPartialEq.TheImpl as 
 use Rattle.llvm_core.specs.Module.{Module}
 use Rattle.llvm_core.specs.Data as L
 use Rattle.llvm_core.specs.Data.{Placed}
-use Rattle.from_llvm_ir.specs.declared.order.Places.{Places}
 use Rattle.from_llvm_ir.specs.Source.{IsBlockOf, IsInstOf, IsSource}
+
+-- the places of blocks
+abbrev pub Places : Type 0
+Places = HashMap LLVMBasicBlock ℕ (BuildHasherDefault FoldHasher) Global FoldHasher
 
 -- the place of a block, where one was noted
 abbrev pub noted_place : Places → LLVMBasicBlock → Option ℕ
-noted_place places n = get keys.eq-value.it places.map n
+noted_place places n = get keys.eq-value.it places n
 
 -- each block of the function has its place
 abbrev pub ArePlacesOf : L.Function → Places → Type 0

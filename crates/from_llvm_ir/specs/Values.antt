@@ -1,6 +1,10 @@
 -- Which values of the dialect stand for those of a source function, and which are not known yet.
 use Rattle.std.specs.Prelude.{ℕ, ◌≡◌, ◌<◌, List, Option, None, Some, IsSome, if◌then◌else◌, length, slice_get}
 use Rattle.std.specs.HashMap.{get}
+use Rattle.std.specs.declared.alloc.Global.{Global}
+use Rattle.std.specs.declared.collections.HashMap.{HashMap}
+use Rattle.std.specs.declared.hash.BuildHasherDefault.{BuildHasherDefault}
+use Rattle.std.specs.declared.hash.FoldHasher.{FoldHasher}
 use Rattle.std.specs.Option.{option_map}
 use Rattle.llvm_core.specs.declared.numbers.LLVMInstRef.{LLVMInstRef}
 use Rattle.llvm_core.specs.declared.code.LLVMValue.{LLVMValue}
@@ -13,7 +17,6 @@ use Rattle.llvm_core.specs.contracts.numbers.LLVMBasicBlockPartialEq.TheImpl as 
 use Rattle.llvm_core.specs.Data as L
 use Rattle.dialect_core.specs.declared.numbers.BlockRef.{BlockRef}
 use Rattle.meaning.specs.Pairs.{Matched}
-use Rattle.from_llvm_ir.specs.declared.targets.Targets.{Targets}
 use Rattle.dialect_core.specs.declared.ops.Value.{Value}
 use Rattle.from_llvm_ir.specs.declared.values.Values.{Values}
 use Rattle.from_llvm_ir.specs.declared.conversion_err.ConversionErr.{ConversionErr}
@@ -57,6 +60,10 @@ IsNoted old new key to = (q : LLVMValue) → value_at new q ≡ (if keys.eq-valu
 abbrev pub AreNoted : Values → List LLVMValue → List Value → Type 0
 AreNoted values vs ws = Matched (λ (v : LLVMValue) (w : Value). value_at values v ≡ Some w) vs ws
 
+-- the blocks that stand for those of the source
+abbrev pub Targets : Type 0
+Targets = HashMap LLVMBasicBlock BlockRef (BuildHasherDefault FoldHasher) Global FoldHasher
+
 -- the block that stands for one of the source
 abbrev pub target_at : Targets → LLVMBasicBlock → Option BlockRef
-target_at t n = get block_keys.eq-value.it t.map n
+target_at t n = get block_keys.eq-value.it t n

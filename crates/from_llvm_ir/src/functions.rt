@@ -39,6 +39,7 @@ use llvm_core::code::LLVMValue;
 use llvm_core::module::LLVMModule;
 use llvm_core::numbers::{LLVMBasicBlock, LLVMFunction};
 use std::alloc::{AllocError, Global};
+use std::collections::HashMap;
 use std::sync::ledger::Ledger;
 
 /// The first block: its label, and an argument for each parameter.
@@ -96,11 +97,11 @@ fn add_blocks(
     ensures kept { (n b : ℕ) → n ≤ func.0.0 → Keeps n b ctx.old ctx.new }
 {
     let blocks = source.blocks(f);
-    let mut targets = Targets::new(alloc);
-    targets.set(blocks[0], add_entry(alloc, ctx, names, source, f, func)?)?;
+    let mut targets = HashMap::new(alloc);
+    targets.insert(blocks[0], add_entry(alloc, ctx, names, source, f, func)?)?;
     for j in 1..order.len() {
         let from = blocks[order[j] as usize];
-        targets.set(
+        targets.insert(
             from,
             add_later_block(alloc, ctx, names, source, func, from)?,
         )?;
@@ -145,7 +146,7 @@ fn import_body<L: Ledger>(
 {
     let entries = entries_of(alloc, source, f)?;
     let targets = add_blocks(alloc, ctx, names, source, f, func, order)?;
-    let block = targets.of(source.blocks(f)[0]);
+    let block = targets[&source.blocks(f)[0]];
     let mut values = parameters(alloc, f, block, param_count(source, f))?;
     hoist_constants(
         alloc,

@@ -192,17 +192,9 @@ pub fn import_blocks<L: Ledger>(
     let blocks = source.blocks(f);
     for place in order {
         let from = blocks[*place as usize];
+        let block = targets[&from];
         import_insts(
-            alloc,
-            ctx,
-            names,
-            source,
-            targets,
-            entries,
-            values,
-            from,
-            targets.of(from),
-            steps,
+            alloc, ctx, names, source, targets, entries, values, from, block, steps,
         )?;
     }
     Ok(())

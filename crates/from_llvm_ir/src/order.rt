@@ -1,9 +1,9 @@
 //! The order in which an import takes the blocks of a function: depth first in their graph.
 
-ghost use Rattle.std.specs.Prelude.{◌≡◌, ◌++◌, nat_eq, IfOk, IsSome, None, OnOk, Some, if◌then◌else◌, length, map};
+ghost use Rattle.std.specs.Prelude.{◌≡◌, ◌++◌, IfOk, OnOk, length, map};
 ghost use Rattle.llvm_core.specs.Data.{Block, Function, Placed, targets};
 ghost use Rattle.llvm_core.specs.Form.{targets_of as targets_from};
-ghost use Rattle.from_llvm_ir.specs.Graph.{ArePlacesOf, IsBlockIn, IsInstIn, noted_place};
+ghost use Rattle.from_llvm_ir.specs.Graph.{ArePlacesOf, IsBlockIn, IsInstIn};
 ghost use Rattle.from_llvm_ir.specs.Match.{IsPlaces};
 ghost use Rattle.from_llvm_ir.specs.Order.{IsInverse};
 ghost use Rattle.from_llvm_ir.specs.Source.{IsSource};
@@ -28,40 +28,7 @@ pub fn place_of(place: usize) -> Result<u32, AllocError>
 }
 
 /// The place of each block of a function in the order of the text.
-#[derive(Drop)]
-pub struct Places {
-    pub map: HashMap<LLVMBasicBlock, u32>,
-}
-
-impl Places {
-    /// No places.
-    fn new(alloc: Global) -> Places
-        ensures { (n : LLVMBasicBlock) → noted_place result n ≡ None }
-    {
-        Places {
-            map: HashMap::new(alloc),
-        }
-    }
-
-    /// The place of a block.
-    pub fn of(&self, block: LLVMBasicBlock) -> u32
-        requires { IsSome (noted_place self.now block) }
-        ensures { noted_place self.now block ≡ Some result }
-    {
-        match self.map.get(&block) {
-            Some(place) => *place,
-            None => unreachable!(),
-        }
-    }
-
-    /// Notes the place of a block.
-    fn set(&mut self, block: LLVMBasicBlock, place: u32) -> Result<(), AllocError>
-        ensures { OnOk result ((q : LLVMBasicBlock) → noted_place self.new q ≡ (if nat_eq block.0 q.0 then Some place else noted_place self.old q)) }
-    {
-        self.map.insert(block, place)?;
-        Ok(())
-    }
-}
+pub type Places = HashMap<LLVMBasicBlock, u32>;
 
 /// The place of each block of a function.
 pub fn text_places(
@@ -73,9 +40,9 @@ pub fn text_places(
     ensures { IfOk result (λ places. (g : Function) → IsSource source.now f g → ArePlacesOf g places) }
 {
     let blocks = source.blocks(f);
-    let mut places = Places::new(alloc);
+    let mut places = HashMap::new(alloc);
     for i in 0..blocks.len() {
-        places.set(blocks[i], place_of(i)?)?;
+        places.insert(blocks[i], place_of(i)?)?;
     }
     Ok(places)
 }
@@ -94,7 +61,8 @@ fn push_targets(
 {
     let targets = targets_of(alloc, source.inst(i))?;
     for target in &targets {
-        row.push(places.of(*target))?;
+        let place = places[target];
+        row.push(place)?;
     }
     Ok(())
 }

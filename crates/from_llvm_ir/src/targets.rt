@@ -1,12 +1,12 @@
 //! Which block of the dialect stands for each of a source function, and the edges that lead there.
 
-ghost use Rattle.std.specs.Prelude.{◌≡◌, ℕ, nat_eq, IfErr, IfOk, OnOk, IsSome, None, Some, if◌then◌else◌, map, slice_get};
+ghost use Rattle.std.specs.Prelude.{◌≡◌, ℕ, IfErr, IfOk, Some, map, slice_get};
 ghost use Rattle.std.specs.List.{flat_map};
 ghost use Rattle.llvm_core.specs.Data.{Function};
 ghost use Rattle.meaning.specs.Pairs.{Matched};
 ghost use Rattle.from_llvm_ir.specs.Imported.{passed};
 ghost use Rattle.from_llvm_ir.specs.Parts.{target_blocks};
-ghost use Rattle.from_llvm_ir.specs.Values.{target_at, IsForward};
+ghost use Rattle.from_llvm_ir.specs.Values.{IsForward};
 ghost use Rattle.from_llvm_ir.specs.Edges.{IsKnownEdge, IsReady};
 
 use crate::conversion_err::ConversionErr;
@@ -19,44 +19,11 @@ use dialect_types::items::Items;
 use llvm_core::code::LLVMInst;
 use llvm_core::module::LLVMModule;
 use llvm_core::numbers::{LLVMBasicBlock, LLVMFunction};
-use std::alloc::{AllocError, Global};
+use std::alloc::Global;
 use std::collections::HashMap;
 
 /// The blocks of the dialect that stand for those of a source function.
-#[derive(Drop)]
-pub struct Targets {
-    pub map: HashMap<LLVMBasicBlock, BlockRef>,
-}
-
-impl Targets {
-    /// No blocks.
-    pub fn new(alloc: Global) -> Targets
-        ensures { (n : LLVMBasicBlock) → target_at result n ≡ None }
-    {
-        Targets {
-            map: HashMap::new(alloc),
-        }
-    }
-
-    /// The block that stands for one of the source.
-    pub fn of(&self, block: LLVMBasicBlock) -> BlockRef
-        requires { IsSome (target_at self.now block) }
-        ensures { target_at self.now block ≡ Some result }
-    {
-        match self.map.get(&block) {
-            Some(target) => *target,
-            None => unreachable!(),
-        }
-    }
-
-    /// Notes the block that stands for one of the source.
-    pub fn set(&mut self, block: LLVMBasicBlock, to: BlockRef) -> Result<(), AllocError>
-        ensures { OnOk result ((q : LLVMBasicBlock) → target_at self.new q ≡ (if nat_eq block.0 q.0 then Some to else target_at self.old q)) }
-    {
-        self.map.insert(block, to)?;
-        Ok(())
-    }
-}
+pub type Targets = HashMap<LLVMBasicBlock, BlockRef>;
 
 /// The edge of the dialect for one of the source.
 fn known_edge(
@@ -74,8 +41,9 @@ fn known_edge(
 {
     let taken = edge_values(alloc, source, entries, from, to)?;
     let args = known_values(alloc, source, values, taken.as_slice())?;
+    let block = targets[&to];
     Ok(Successor {
-        block: targets.of(to),
+        block,
         args: Items::from_vec(args),
     })
 }

@@ -14,9 +14,9 @@ loop-i-init c = λ j n lt at. absurd (omega (arith, lt))
 pub loop-i-preserved : goal.loop-i-preserved
 loop-i-preserved c =
     let ns = c.blocks-blocks.result.now in
-    places_more ns c.loop-i.i c.in_ok-place_of.field-0 _ c.loop-i.places c.set.new.self (slice_get-get_or ns c.loop-i.i (record { 0 = 0 }) c.loop-i-test.true)
+    places_more ns c.loop-i.i c.in_ok-place_of.field-0 _ c.loop-i.places c.insert.new.self (slice_get-get_or ns c.loop-i.i (record { 0 = 0 }) c.loop-i-test.true)
     (blocks_apart c.args.source.now c.args.f c.requires.0 ns c.requires.1 c.blocks-blocks.ensures.blocks)
-    c.in_ok-place_of.ensures c.in_ok-set.ensures c.loop-i.invariant
+    c.in_ok-place_of.ensures c.in_ok-insert.ensures.updates.0 c.loop-i.invariant
 
 pub returns : goal.returns
 returns c = λ g h. places_all c.args.source.now c.args.f g c.blocks-blocks.result.now c.loop-i.i c.loop-i.places h c.blocks-blocks.ensures.blocks (omega (arith, c.loop-i-test.false)) c.loop-i.invariant
