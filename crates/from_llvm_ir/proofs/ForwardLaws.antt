@@ -1,5 +1,5 @@
 -- Refusals of values that are not known yet.
-use Rattle.std.proofs.Common.{ℕ, ◌≡◌, sym, ap, subst, ◌∙◌, List, [], ◌∷◌, Some, map, slice_get}
+use Rattle.std.proofs.Common.{ℕ, ◌≡◌, ◌<◌, sym, ap, subst, ◌∙◌, List, [], ◌∷◌, None, Some, length, map, slice_get}
 use Rattle.std.specs.List.{flat_map}
 use Rattle.std.specs.Option.{option_map}
 use Rattle.std.specs.Prelude as R
@@ -7,15 +7,19 @@ use Rattle.std.specs.Result.{IfErr, IsErrAnd}
 use Rattle.std.proofs.lemmas.Result.{err_from_is_err_and}
 use Rattle.std.proofs.lemmas.Option.{slice_get-map, same_Some}
 use Rattle.llvm_core.specs.declared.numbers.LLVMBasicBlock.{LLVMBasicBlock}
+use Rattle.llvm_core.specs.declared.numbers.LLVMInstRef.{LLVMInstRef}
+use Rattle.llvm_core.specs.declared.code.InstData.{InstData}
 use Rattle.llvm_core.specs.declared.code.LLVMValue.{LLVMValue}
+use Rattle.llvm_core.specs.declared.code.LLVMValue.TheVariants as K
 use Rattle.llvm_core.specs.Module.{Module}
 use Rattle.llvm_core.specs.Data as L
 use Rattle.llvm_core.specs.Data.{trees_of, operand_of}
+use Rattle.llvm_core.proofs.DataLemmas.{there}
 use Rattle.from_llvm_ir.specs.declared.conversion_err.ConversionErr.{ConversionErr}
 use Rattle.from_llvm_ir.specs.declared.conversion_err.ConversionErr.TheVariants as E
 use Rattle.from_llvm_ir.specs.declared.values.Values.{Values}
 use Rattle.from_llvm_ir.specs.Imported.{IsIn}
-use Rattle.from_llvm_ir.specs.Values.{IsForward}
+use Rattle.from_llvm_ir.specs.Values.{value_at, IsForward, IsRefusalOf}
 use Rattle.from_llvm_ir.proofs.PlaceLaws.{flat_at}
 
 -- among more operands
@@ -26,6 +30,21 @@ forward_more m values os us E.NoMemory k h = tt
 only_one : (o p : L.Operand) → IsIn (o ∷ []) p → o ≡ p
 only_one o p (ℕ.zero, at) = same_Some o p at
 only_one o p (ℕ.suc i, at) = absurd (let no : ⊥ = cc in no)
+
+-- the refusal of a result for which no value was noted
+pub forward_unknown : (m : Module) (values : Values) (v : LLVMValue) (i : LLVMInstRef) (e : ConversionErr) → v ≡ K.Inst i → value_at values v ≡ None → i.0 < length m.insts → IsRefusalOf m i e → IsForward m values (operand_of (trees_of m) v ∷ []) e
+forward_unknown m values v i (E.UndefinedValue name w) is unknown within h =
+    let row = there m.insts i.0 within in
+    record {
+      inst = i;
+      value = h.0;
+      row = row.0;
+      at = row.1;
+      named = same_Some name row.0.name (sym h.1 ∙ ap (option_map (λ (x : InstData). x.name)) row.1);
+      used = (0, ap (λ (u : LLVMValue). Some (operand_of (trees_of m) u)) is);
+      unknown = ap (value_at values) (h.0 ∙ sym is) ∙ unknown;
+    }
+forward_unknown m values v i E.NoMemory is unknown within h = tt
 
 -- a value of a list
 pub forward_at : (m : Module) (values : Values) (vs : List LLVMValue) (i : ℕ) (v : LLVMValue) (e : ConversionErr) → slice_get vs i ≡ Some v → IsForward m values (operand_of (trees_of m) v ∷ []) e → IsForward m values (map (operand_of (trees_of m)) vs) e

@@ -18,5 +18,8 @@ loop-i-preserved c =
     (blocks_apart c.args.source.now c.args.f c.requires.0 ns c.requires.1 c.blocks-blocks.ensures.blocks)
     c.in_ok-place_of.ensures c.in_ok-insert.ensures.updates.0 c.loop-i.invariant
 
+pub bounds-blocks-i : goal.bounds-blocks-i
+bounds-blocks-i c = c.loop-i-test.true
+
 pub returns : goal.returns
 returns c = λ g h. places_all c.args.source.now c.args.f g c.blocks-blocks.result.now c.loop-i.i c.loop-i.places h c.blocks-blocks.ensures.blocks (omega (arith, c.loop-i-test.false)) c.loop-i.invariant
