@@ -97,8 +97,9 @@ fn add_blocks(
     ensures kept { (n b : ℕ) → n ≤ func.0.0 → Keeps n b ctx.old ctx.new }
 {
     let blocks = source.blocks(f);
+    let first = add_entry(alloc, ctx, names, source, f, func)?;
     let mut targets = HashMap::new(alloc);
-    targets.insert(blocks[0], add_entry(alloc, ctx, names, source, f, func)?)?;
+    targets.insert(blocks[0], first)?;
     for j in 1..order.len() {
         let from = blocks[order[j] as usize];
         targets.insert(

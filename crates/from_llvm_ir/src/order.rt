@@ -1,6 +1,6 @@
 //! The order in which an import takes the blocks of a function: depth first in their graph.
 
-ghost use Rattle.std.specs.Prelude.{◌≡◌, ◌++◌, IfOk, OnOk, length, map};
+ghost use Rattle.std.specs.Prelude.{◌≡◌, ◌∷◌, ◌++◌, [], IfOk, OnOk, length, map};
 ghost use Rattle.llvm_core.specs.Data.{Block, Function, Placed, targets};
 ghost use Rattle.llvm_core.specs.Form.{targets_of as targets_from};
 ghost use Rattle.from_llvm_ir.specs.Graph.{ArePlacesOf, IsBlockIn, IsInstIn};
@@ -67,22 +67,23 @@ fn push_targets(
     Ok(())
 }
 
-/// The places of the blocks that a block leads to.
-fn row_of(
+/// Appends the row of a block to a graph: the places of the blocks that it leads to.
+fn push_row(
     alloc: Global,
     source: &LLVMModule,
     places: &Places,
     block: LLVMBasicBlock,
-) -> Result<Vec<u32>, AllocError>
+    succs: &mut Succs,
+) -> Result<(), AllocError>
     requires { (f : LLVMFunction) × (g : Function) × (b : Block) × IsBlockIn source.now f g block b × ArePlacesOf g places.now }
-    ensures { IfOk result (λ row. (f : LLVMFunction) → (g : Function) → (b : Block) → IsBlockIn source.now f g block b → ArePlacesOf g places.now
-        → row.items ≡ map (place_of_block g) (targets_from b)) }
+    ensures { OnOk result ((f : LLVMFunction) → (g : Function) → (b : Block) → IsBlockIn source.now f g block b → ArePlacesOf g places.now
+        → succs.new ≡ succs.old ++ map (place_of_block g) (targets_from b) ∷ []) }
 {
     let mut row = Vec::new(alloc);
     for i in source.instructions(block) {
         push_targets(alloc, source, places, *i, &mut row)?;
     }
-    Ok(row)
+    succs.push(row.as_slice())
 }
 
 /// The graph of a function: for each block, in the order of the text, the places of those that it leads to.
@@ -93,8 +94,7 @@ pub fn graph(alloc: Global, source: &LLVMModule, f: LLVMFunction) -> Result<Succ
     let places = text_places(alloc, source, f)?;
     let mut succs = Succs::new(alloc);
     for block in source.blocks(f) {
-        let row = row_of(alloc, source, &places, *block)?;
-        succs.push(row.as_slice())?;
+        push_row(alloc, source, &places, *block, &mut succs)?;
     }
     Ok(succs)
 }

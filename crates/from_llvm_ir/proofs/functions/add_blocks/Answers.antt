@@ -20,11 +20,11 @@ loop-j-init c =
     record {
       behind = omega arith;
       within = (let some = order_there m c.args.f c.requires.0 c.args.order.now c.requires.1 c.requires.2 in omega (arith, some));
-      heads = λ fr framed order h. c.in_ok-add_entry.ensures.heads fr framed h;
+      heads = λ fr framed order h. c.in_ok-first.ensures.heads fr framed h;
       targets = λ fr framed order h.
           let x = first_at m c.args.f fr c.blocks-blocks.result.now (record { 0 = 0 }) framed c.blocks-blocks.ensures.blocks in
-          more_targets m c.args.f fr c.new-targets.result c.insert.new.self 0 x.block _ c.in_ok-add_entry.field-0 framed c.in_ok-insert.ensures.updates.0 x.here (block_number m fr.source _ 0 x.block x.is)
-          (let e = c.in_ok-add_entry.ensures.number fr h in omega (arith, e)) (λ place b lt at. absurd (omega (arith, lt)));
+          more_targets m c.args.f fr c.new-targets.result c.insert.new.self 0 x.block _ c.in_ok-first.first framed c.in_ok-insert.ensures.updates.0 x.here (block_number m fr.source _ 0 x.block x.is)
+          (let e = c.in_ok-first.ensures.number fr h in omega (arith, e)) (λ place b lt at. absurd (omega (arith, lt)));
       kept = λ n b later. c.add_entry.ensures.kept n b later;
     }
 
@@ -72,8 +72,8 @@ returns-in_err-insert-2-clause-kept c = λ n b later. keeps_then n b c.args.ctx.
 pub add_entry-requires : goal.add_entry-requires
 add_entry-requires c = let r = c.requires in (r.0, r.1, r.3)
 
-pub returns-in_err-add_entry-clause-kept : goal.returns-in_err-add_entry-clause-kept
-returns-in_err-add_entry-clause-kept c = c.add_entry.ensures.kept
+pub returns-in_err-first-clause-kept : goal.returns-in_err-first-clause-kept
+returns-in_err-first-clause-kept c = c.add_entry.ensures.kept
 
 pub returns-in_err-insert-clause-kept : goal.returns-in_err-insert-clause-kept
 returns-in_err-insert-clause-kept c = c.add_entry.ensures.kept
