@@ -1,4 +1,5 @@
 -- What `building::add_func` owes besides what the check finds.
+use Rattle.std.proofs.Common.{refl}
 use Rattle.from_llvm_ir.proofs.BuildLaws.{stands_func, added_func, func_here, is_func}
 use Rattle.from_llvm_ir.proofs.KeepLaws.{keeps_same, keeps_func}
 use Rattle.from_llvm_ir.proofs.building.add_func.Goals as goal
@@ -27,3 +28,21 @@ returns-clause-kept g c = λ m d h n b before.
     let f = func_here c0 c1 c.in_ok-func.func.0 c.args.name c.args.ty c.in_ok-func.ensures.ok c.in_ok-func.ensures.number in
     keeps_func n b c0 c1 c.insert_at_back.new.self m c.args.body d _ c.in_ok-func.func.0 h c.keeps_regions.ensures before c.in_ok-func.ensures.ok c.in_ok-func.ensures.data c.insert_at_back.ensures.appended
     (c.insert_at_back.ensures.data_other _ f) (λ typed. c.insert_at_back.ensures.typed (c.in_ok-func.ensures.typed typed))
+
+pub insert_at_back-requires-clause-free : goal.insert_at_back-requires-clause-free
+insert_at_back-requires-clause-free g c = c.in_ok-func.ensures.free
+
+pub insert_at_back-requires-clause-block : goal.insert_at_back-requires-clause-block
+insert_at_back-requires-clause-block g c = rw c.in_ok-func.ensures.ok c.requires.«module».2.held.block
+
+pub returns-clause-blocks : goal.returns-clause-blocks
+returns-clause-blocks g c = rw (c.insert_at_back.ensures.appended, c.in_ok-func.ensures.ok) refl
+
+pub returns-clause-types : goal.returns-clause-types
+returns-clause-types g c = rw (c.insert_at_back.ensures.appended, c.in_ok-func.ensures.ok) refl
+
+pub returns-in_err-func-clause-types : goal.returns-in_err-func-clause-types
+returns-in_err-func-clause-types g c = rw c.in_err-func.ensures.err refl
+
+pub returns-clause-number : goal.returns-clause-number
+returns-clause-number g c = c.in_ok-func.ensures.number

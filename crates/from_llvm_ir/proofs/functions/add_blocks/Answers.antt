@@ -1,5 +1,5 @@
 -- What `functions::add_blocks` owes besides what the check finds.
-use Rattle.std.proofs.Common.{◌≡◌, ◌+◌, ◌∙◌, ap, sym, subst, slice_get, arith}
+use Rattle.std.proofs.Common.{◌≡◌, ◌+◌, ◌∙◌, ap, sym, subst, length, slice_get, arith}
 use Rattle.from_llvm_ir.specs.Known.{blocks_of}
 use Rattle.from_llvm_ir.specs.Body.{HasHeads}
 use Rattle.from_llvm_ir.proofs.SourceLaws.{function_within, block_number}
@@ -80,3 +80,8 @@ returns-in_err-insert-clause-kept c = c.add_entry.ensures.kept
 
 pub returns-clause-kept : goal.returns-clause-kept
 returns-clause-kept c = c.loop-j.invariant.kept
+
+pub returns-clause-heads : goal.returns-clause-heads
+returns-clause-heads c = λ fr framed order h.
+    let all : c.loop-j.j ≡ length c.args.order.now = omega (arith, c.loop-j.invariant.within, c.loop-j-test.false) in
+    subst (HasHeads fr c.args.func c.loop-j.ctx) all (c.loop-j.invariant.heads fr framed order h)
