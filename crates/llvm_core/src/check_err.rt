@@ -4,6 +4,7 @@ ghost use Rattle.std.specs.Prelude.{◌≡◌};
 ghost use Rattle.llvm_core.specs.declared.check_err.CheckErr.TheVariants as rules_of;
 
 use std::alloc::{AllocError, AllocFailed};
+use std::fmt;
 use thiserror::Error;
 
 /// Where a rule fails.
@@ -19,41 +20,55 @@ pub enum Place {
 #[derive(Clone, Copy, PartialEq, Eq, Debug, Drop, Error)]
 pub enum CheckErr {
     /// Two functions, or two named parameters, blocks or results of one function, share a name; or a function's name is empty or holds a zero byte.
-    #[error("NameTwice")]
     NameTwice(Place),
     /// A block does not end in its only terminator.
-    #[error("NoTerminator")]
     NoTerminator(Place),
     /// A phi follows another instruction than a phi.
-    #[error("PhiPlace")]
     PhiPlace(Place),
     /// A phi's entries are not one for each edge to its block, two of one block differ, or there is no edge.
-    #[error("PhiEntries")]
     PhiEntries(Place),
     /// An edge goes to the first block of a function.
-    #[error("EntryHasPreds")]
     EntryHasPreds(Place),
     /// The type of an operand, parameter or result does not fit.
-    #[error("OperandType")]
     OperandType(Place),
     /// A count of operands does not fit.
-    #[error("OperandCount")]
     OperandCount(Place),
     /// An operand, target or source of a phi is of another function, or a placeholder is still used.
-    #[error("BlockOutside")]
     BlockOutside(Place),
     /// A function whose name begins with `llvm.` has a body.
-    #[error("IntrinsicBody")]
     IntrinsicBody(Place),
     /// A function is in another space than 0.
-    #[error("FunctionSpace")]
     FunctionSpace(Place),
     /// A list has 2^31 or more entries.
-    #[error("ListTooLong")]
     ListTooLong(Place),
     /// Memory is not enough to check the names.
-    #[error("NoMemory")]
     NoMemory,
+}
+
+impl CheckErr {
+    /// The rule by its name.
+    pub fn name(&self) -> &str {
+        match self {
+            CheckErr::NameTwice(_) => "NameTwice",
+            CheckErr::NoTerminator(_) => "NoTerminator",
+            CheckErr::PhiPlace(_) => "PhiPlace",
+            CheckErr::PhiEntries(_) => "PhiEntries",
+            CheckErr::EntryHasPreds(_) => "EntryHasPreds",
+            CheckErr::OperandType(_) => "OperandType",
+            CheckErr::OperandCount(_) => "OperandCount",
+            CheckErr::BlockOutside(_) => "BlockOutside",
+            CheckErr::IntrinsicBody(_) => "IntrinsicBody",
+            CheckErr::FunctionSpace(_) => "FunctionSpace",
+            CheckErr::ListTooLong(_) => "ListTooLong",
+            CheckErr::NoMemory => "NoMemory",
+        }
+    }
+}
+
+impl fmt::Display for CheckErr {
+    fn fmt<W: fmt::Write>(&self, f: &mut fmt::Formatter<W>) -> fmt::Result {
+        f.write_str(self.name())
+    }
 }
 
 impl From<AllocError> for CheckErr {
