@@ -1,14 +1,20 @@
 -- What the checks of names and of places say of the rules.
-use Rattle.std.proofs.Common.{◌≡◌, ◌<◌, ◌+◌, inl, inr, ℕ, false, List, [], ◌∷◌, ◌++◌, Option, None, Some, length, slice_get, take, map, ap, sym, ◌∙◌, refl}
-use Rattle.std.specs.Option.{option_map}
+use Rattle.std.proofs.Common.{◌≡◌, ◌<◌, ◌+◌, ◌-◌, inl, inr, ℕ, Bool, false, not, ◌&&◌, List, [], ◌∷◌, ◌++◌, Option, None, Some, length, slice_get, get_or, take, map, ap, sym, ◌∙◌, refl}
+use Rattle.std.specs.List.{list_any}
+use Rattle.std.specs.Option.{option_map, option_map_or}
 use Rattle.std.proofs.lemmas.List.{take_more, map-append}
-use Rattle.std.proofs.lemmas.Option.{slice_get_within, slice_get-map, get_or_from_slice_get}
+use Rattle.std.proofs.lemmas.Option.{slice_get_within, slice_get-get_or, slice_get-map, get_or_from_slice_get}
+use Rattle.llvm_core.specs.declared.numbers.LLVMInstRef.{LLVMInstRef}
+use Rattle.llvm_core.specs.declared.code.LLVMInst.{LLVMInst}
 use Rattle.llvm_core.specs.declared.code.FunctionData.{FunctionData}
+use Rattle.llvm_core.specs.declared.code.BlockData.{BlockData}
+use Rattle.llvm_core.specs.declared.code.InstData.{InstData}
 use Rattle.llvm_core.specs.declared.check_err.Place.TheVariants as P
-use Rattle.llvm_core.specs.declared.check_err.CheckErr.TheVariants.{NameTwice, NoTerminator, PhiPlace, PhiEntries, EntryHasPreds, OperandType, OperandCount, BlockOutside, IntrinsicBody, FunctionSpace, ListTooLong}
+use Rattle.llvm_core.specs.declared.check_err.CheckErr.{CheckErr}
+use Rattle.llvm_core.specs.declared.check_err.CheckErr.TheVariants.{NoMemory, NameTwice, NoTerminator, PhiPlace, PhiEntries, EntryHasPreds, OperandType, OperandCount, BlockOutside, IntrinsicBody, FunctionSpace, ListTooLong}
 use Rattle.llvm_core.specs.Module.{Module}
 use Rattle.llvm_core.specs.Names.{Stands}
-use Rattle.llvm_core.specs.Checked.{Fails, IsTaken, IsFreshName, IsCheckedFunction, IsCheckedBlock, IsCheckedInst, IsCheckedEdges, IsChecked, IsLong, is_bad_name, names_before}
+use Rattle.llvm_core.specs.Checked.{Fails, MayAnswer, IsTaken, IsFreshName, IsCheckedFunction, IsCheckedBlock, IsCheckedInst, IsCheckedEdges, IsChecked, IsLong, is_bad_name, is_terminator, is_terminator_at, ends_in_only, names_before}
 use Rattle.llvm_core.proofs.ListLemmas.{some_same}
 use Rattle.llvm_core.proofs.NameLemmas.{slice_get-take, slice_get-taken}
 
@@ -51,6 +57,34 @@ pub name_fresh : (m : Module) (f : ℕ) (n : List ℕ) → option_map (λ (x : F
 name_fresh m f n h good new x at =
     let same : x.name ≡ n = some_same x.name n (ap (option_map (λ (x : FunctionData). x.name)) (sym at) ∙ h) in
     (ap is_bad_name same ∙ good, λ t. new (rw (← same) (taken_stands m f x.name t)))
+
+-- ---- answers
+
+-- a rule that fails may be answered
+pub may_answer : (m : Module) (e : CheckErr) → Fails m e → MayAnswer m e
+may_answer m NoMemory h = tt
+may_answer m e h = h
+
+module _ (m : Module) (b : ℕ) (insts : List LLVMInstRef) (read : option_map (λ (x : BlockData). x.insts) (slice_get m.blocks b) ≡ Some insts) where
+  -- whether the block ends in its only terminator, by its last instruction and the others
+  pub ends : (last others : Bool) → option_map_or (is_terminator_at m) (slice_get insts (length insts - 1)) false ≡ last → list_any (is_terminator_at m) (take (length insts - 1) insts) ≡ others
+      → option_map (λ (x : BlockData). ends_in_only (is_terminator_at m) x.insts) (slice_get m.blocks b) ≡ Some (last && not others)
+  ends last others p q = by (slice_get m.blocks b) read
+    where
+      by : (o : Option BlockData) → option_map (λ (x : BlockData). x.insts) o ≡ Some insts → option_map (λ (x : BlockData). ends_in_only (is_terminator_at m) x.insts) o ≡ Some (last && not others)
+      by None e = cc
+      by (Some x) e =
+          let same : x.insts ≡ insts = some_same x.insts insts e in
+          ap (λ is. Some (ends_in_only (is_terminator_at m) is)) same ∙ ap (λ l. Some (l && not (list_any (is_terminator_at m) (take (length insts - 1) insts)))) p ∙ ap (λ l. Some (last && not l)) q
+
+-- whether the instruction that was read last ends its block
+pub last_ends : (m : Module) (insts : List LLVMInstRef) (d : LLVMInstRef) (inst : LLVMInst) (r : Bool) → length insts - 1 < length insts → option_map (λ (x : InstData). x.inst) (slice_get m.insts (get_or insts (length insts - 1) d).0) ≡ Some inst
+    → r ≡ is_terminator inst → option_map_or (is_terminator_at m) (slice_get insts (length insts - 1)) false ≡ r
+last_ends m insts d inst r lt at is = ap (λ o. option_map_or (is_terminator_at m) o false) (slice_get-get_or insts (length insts - 1) d lt) ∙ by (slice_get m.insts (get_or insts (length insts - 1) d).0) at ∙ sym is
+  where
+    by : (o : Option InstData) → option_map (λ (x : InstData). x.inst) o ≡ Some inst → option_map_or (λ (x : InstData). is_terminator x.inst) o false ≡ is_terminator inst
+    by None e = cc
+    by (Some x) e = ap is_terminator (some_same x.inst inst e)
 
 -- ---- all rules
 

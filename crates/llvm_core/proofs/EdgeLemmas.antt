@@ -154,6 +154,9 @@ not_below p n c le = by (nat_lt p n) refl
     by false e = refl
     by true e = absurd (grind arith)
 
+pub none_below : (m : Module) (p b : ℕ) → edges_below m 0 p b ≡ 0
+none_below m p b = not_below p 0 (edge_count m p b) (omega arith)
+
 gain_other : (q p n : ℕ) → q ≢ p → gain q p n ≡ 0
 gain_other q p n ne = by (nat_eq q p) refl
   where

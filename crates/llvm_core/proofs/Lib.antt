@@ -1,6 +1,7 @@
 -- The lemmas of the crate.
 pub mod ListLemmas
 pub mod ChangeLemmas
+pub mod StoreLemmas
 pub mod KeyLemmas
 pub mod ListedLemmas
 pub mod WithinLemmas
@@ -13,6 +14,7 @@ pub mod ChangedLemmas
 pub mod OperandLemmas
 pub mod FreshLemmas
 pub mod NameLemmas
+pub mod LocalLemmas
 pub mod EdgeLemmas
 pub mod SortLemmas
 pub mod PhiLemmas

@@ -1,6 +1,8 @@
 -- Lists that grow at the end, and lists of which one item changes.
-use Rattle.std.proofs.Common.{◌≡◌, ◌≢◌, ◌⊎◌, ℕ, zero, suc, List, [], ◌∷◌, ◌++◌, Option, Some, None, length, slice_get, slice_set, sym, ap, ◌∙◌, refl, inl, inr, arith}
+use Rattle.std.proofs.Common.{◌≡◌, ◌≢◌, ◌<◌, ◌+◌, ◌⊎◌, ℕ, zero, suc, List, [], ◌∷◌, ◌++◌, Option, Some, None, length, map, take, drop, get_or, slice_get, slice_set, sym, ap, ◌∙◌, refl, inl, inr, arith}
+use Rattle.std.specs.List.{flat_map}
 use Rattle.std.specs.Option.{option_map_or}
+use Rattle.std.proofs.lemmas.List.{flat_map_more, map-append, take-append-le, take_all, take_more}
 use Rattle.llvm_core.specs.Interned.{IsDistinctList}
 use Rattle.llvm_core.specs.Code.{with_change}
 
@@ -79,3 +81,18 @@ distinct_push {X} xs y h fresh i j x at also = by (slice_get-push_cases xs y i x
     by (inr a) (inr b) = a.0 ∙ sym b.0
     by (inl a) (inr b) = absurd (fresh i (a ∙ ap Some b.1))
     by (inr a) (inl b) = absurd (fresh j (b ∙ ap Some a.1))
+
+-- ---- lists made item by item
+
+-- one more item, for one more of the list that it is made from
+pub mapped_next : {X Y : Type 0} (f : X → Y) (xs : List X) (i : ℕ) (d : X) (made new : List Y) → i < length xs → made ≡ map f (take i xs) → new ≡ made ++ f (get_or xs i d) ∷ [] → new ≡ map f (take (i + 1) xs)
+mapped_next f xs i d made new lt before pushed = pushed ∙ ap (λ ys. ys ++ f (get_or xs i d) ∷ []) before ∙ sym (ap (map f) (take_more xs i d lt) ∙ map-append f (take i xs) _)
+
+-- more items, for one more of the list that they are made from
+pub gathered_next : {X Y : Type 0} (f : X → List Y) (xs : List X) (i : ℕ) (d : X) (first made new : List Y) → i < length xs → made ≡ first ++ flat_map f (take i xs) → new ≡ made ++ f (get_or xs i d) → new ≡ first ++ flat_map f (take (i + 1) xs)
+gathered_next f xs i d first made new lt before pushed =
+    pushed ∙ ap (λ ys. ys ++ f (get_or xs i d)) before ∙ flat_map_more f first (take i xs) (get_or xs i d) ∙ ap (λ ys. first ++ flat_map f ys) (sym (take_more xs i d lt))
+
+-- a list in place of the first items of another, as many as are kept
+pub written_back : {X : Type 0} (n : ℕ) (xs ys : List X) → length ys ≡ n → take n (ys ++ drop (length ys) xs) ≡ ys
+written_back n xs ys e = take-append-le n ys (drop (length ys) xs) (omega (arith, e)) ∙ take_all n ys (omega (arith, e))

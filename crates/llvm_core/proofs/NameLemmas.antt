@@ -67,3 +67,6 @@ pub once_next : (names seen : List (List ℕ)) (i : ℕ) (d : List ℕ) → i < 
 once_next names seen i d lt e once new =
     let more = take_more names i d lt in
     (e ∙ sym more, subst (λ xs. ¬ HasTwice xs) (sym more) (once_more (take i names) (get_or names i d) once new))
+
+pub none_twice : ¬ HasTwice []
+none_twice (i, j, n, lt, at, is) = cc

@@ -1,6 +1,6 @@
 //! The check of a module against its rules.
 
-ghost use Rattle.std.specs.Prelude.{◌≡◌, ◌<◌, ◌+◌, ℕ, All, IfErr, IsTrue, OnOk, Some, length, slice_get};
+ghost use Rattle.std.specs.Prelude.{◌≡◌, ◌<◌, ◌+◌, ℕ, [], All, IfErr, IsTrue, OnOk, Some, length, slice_get};
 ghost use Rattle.std.specs.List.{list_any};
 ghost use Rattle.std.specs.Option.{option_map, option_map_or};
 ghost use Rattle.llvm_core.specs.declared.check_err.Place.TheVariants as places;
@@ -55,16 +55,24 @@ fn check_function_name(m: &LLVMModule, f: LLVMFunction, seen: &mut NameSet) -> R
     Ok(())
 }
 
+/// Notes the names of all functions, where none was noted before.
+fn note_function_names(m: &LLVMModule, seen: &mut NameSet) -> Result<(), CheckErr>
+    requires { seen.old ≡ [] }
+    ensures ok { OnOk result ((f : ℕ) → f < length m.now.functions → IsFreshName m.now f) }
+    ensures err { IfErr result (λ e. MayAnswer m.now e) }
+{
+    for f in 0..m.functions() {
+        check_function_name(m, LLVMFunction(f), seen)?;
+    }
+    Ok(())
+}
+
 /// No two functions share a name, and each name is one for a symbol.
 fn check_function_names(m: &LLVMModule) -> Result<(), CheckErr>
     ensures ok { OnOk result ((f : ℕ) → f < length m.now.functions → IsFreshName m.now f) }
     ensures err { IfErr result (λ e. MayAnswer m.now e) }
 {
-    let mut seen = NameSet::new(m.allocator());
-    for f in 0..m.functions() {
-        check_function_name(m, LLVMFunction(f), &mut seen)?;
-    }
-    Ok(())
+    note_function_names(m, &mut NameSet::new(m.allocator()))
 }
 
 fn check_local_names(m: &LLVMModule, f: LLVMFunction) -> Result<(), CheckErr>

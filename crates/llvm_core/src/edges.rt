@@ -66,14 +66,24 @@ fn push_block_edges(
     Ok(())
 }
 
+/// Notes the edges of all blocks.
+fn push_edges(m: &LLVMModule, lists: &mut [Items<u32>]) -> Result<(), AllocError>
+    requires lists { length lists.old ≡ length m.now.blocks }
+    requires none { (p b : ℕ) → tally lists.old p b ≡ 0 }
+    ensures { OnOk result (HasIncoming m.now lists.new) }
+{
+    for b in 0..m.block_count() {
+        push_block_edges(m, LLVMBasicBlock(b), lists)?;
+    }
+    Ok(())
+}
+
 /// For each block the numbers of the blocks that lead to it, once for each edge.
 fn incoming(m: &LLVMModule) -> Result<Vec<Items<u32>>, AllocError>
     ensures { IfOk result (λ lists. HasIncoming m.now lists.items) }
 {
     let mut lists = no_edges(m.allocator(), m.block_count())?;
-    for b in 0..m.block_count() {
-        push_block_edges(m, LLVMBasicBlock(b), lists.as_mut_slice())?;
-    }
+    push_edges(m, lists.as_mut_slice())?;
     Ok(lists)
 }
 
@@ -134,12 +144,21 @@ fn check_firsts(m: &LLVMModule, lists: &[Items<u32>]) -> Result<(), CheckErr>
     Ok(())
 }
 
+/// The rules that rest on edges, given the lists of them.
+fn check_listed(m: &LLVMModule, lists: &[Items<u32>]) -> Result<(), CheckErr>
+    requires { HasIncoming m.now lists.now }
+    ensures ok { OnOk result (IsCheckedEdges m.now) }
+    ensures err { IfErr result (λ e. MayAnswer m.now e) }
+{
+    check_phis(m, lists)?;
+    check_firsts(m, lists)
+}
+
 /// The rules that rest on edges.
 pub fn check_edges(m: &LLVMModule) -> Result<(), CheckErr>
     ensures ok { OnOk result (IsCheckedEdges m.now) }
     ensures err { IfErr result (λ e. MayAnswer m.now e) }
 {
     let lists = incoming(m)?;
-    check_phis(m, lists.as_slice())?;
-    check_firsts(m, lists.as_slice())
+    check_listed(m, lists.as_slice())
 }

@@ -1,6 +1,6 @@
 //! The names that stand in a function, and whether one of them stands there twice.
 
-ghost use Rattle.std.specs.Prelude.{◌≡◌, ◌<◌, ◌++◌, IfOk, IsTrue, OnOk, Some, false, length, slice_get};
+ghost use Rattle.std.specs.Prelude.{◌≡◌, ◌<◌, ◌++◌, [], IfOk, IsTrue, OnOk, Some, false, length, slice_get};
 ghost use Rattle.std.specs.List.{flat_map};
 ghost use Rattle.std.specs.Option.{option_map, option_map_or};
 ghost use Rattle.llvm_core.specs.Names.{HasTwice};
@@ -35,19 +35,43 @@ fn push_block(m: &LLVMModule, b: LLVMBasicBlock, names: &mut Items<Text>) -> Res
     Ok(())
 }
 
+/// Appends the names of a function to no names.
+fn push_locals(m: &LLVMModule, f: LLVMFunction, names: &mut Items<Text>) -> Result<(), AllocError>
+    requires within { f.0 < length m.now.functions }
+    requires none { names.old ≡ [] }
+    ensures { OnOk result (option_map (local_names m.now) (slice_get m.now.functions f.0) ≡ Some names.new) }
+{
+    for name in m.params(f) {
+        push_named(m.allocator(), names, name.as_str())?;
+    }
+    for block in m.blocks(f) {
+        push_block(m, *block, names)?;
+    }
+    Ok(())
+}
+
 /// The names of the parameters, blocks and results of a function.
 pub fn local_names(m: &LLVMModule, f: LLVMFunction) -> Result<Items<Text>, AllocError>
     requires { f.0 < length m.now.functions }
     ensures { IfOk result (λ names. option_map (local_names m.now) (slice_get m.now.functions f.0) ≡ Some names) }
 {
     let mut names = Items::new(m.allocator());
-    for name in m.params(f) {
-        push_named(m.allocator(), &mut names, name.as_str())?;
-    }
-    for block in m.blocks(f) {
-        push_block(m, *block, &mut names)?;
-    }
+    push_locals(m, f, &mut names)?;
     Ok(names)
+}
+
+/// Whether a name stands twice in a list. Until then the names are noted, where none was noted before.
+fn finds_twice(names: &[Text], seen: &mut NameSet) -> Result<bool, AllocError>
+    requires { seen.old ≡ [] }
+    ensures yes { IfOk result (λ twice. IsTrue twice → HasTwice names.now) }
+    ensures no { IfOk result (λ twice. twice ≡ false → ¬ HasTwice names.now) }
+{
+    for name in names {
+        if !seen.insert(name.as_str())? {
+            return Ok(true);
+        }
+    }
+    Ok(false)
 }
 
 /// Whether a name stands twice in a list.
@@ -55,11 +79,5 @@ pub fn has_twice(alloc: Global, names: &[Text]) -> Result<bool, AllocError>
     ensures yes { IfOk result (λ twice. IsTrue twice → HasTwice names.now) }
     ensures no { IfOk result (λ twice. twice ≡ false → ¬ HasTwice names.now) }
 {
-    let mut seen = NameSet::new(alloc);
-    for name in names {
-        if !seen.insert(name.as_str())? {
-            return Ok(true);
-        }
-    }
-    Ok(false)
+    finds_twice(names, &mut NameSet::new(alloc))
 }

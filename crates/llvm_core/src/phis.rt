@@ -1,13 +1,14 @@
 //! What is asked of the phis of a block and of a phi's entries.
 
-ghost use Rattle.std.specs.Prelude.{◌≡◌, ◌<◌, ℕ, All, IfOk, IsTrue, false, length};
+ghost use Rattle.std.specs.Prelude.{◌≡◌, ◌<◌, ℕ, All, IfOk, IsTrue, None, false, length, nat_eq};
 ghost use Rattle.llvm_core.specs.Parts.{is_phi};
 ghost use Rattle.llvm_core.specs.Edges.{count_of};
 ghost use Rattle.llvm_core.specs.Checked.{HasLatePhi, HasTwoValues, sources};
 ghost use Rattle.std.specs.List.Sorted.{IsPermutation, IsSorted};
 ghost use Rattle.std.specs.Ordering.{nat_cmp};
+ghost use Rattle.indexmap.specs.IndexMap.{get};
 
-use crate::code::{LLVMInst, PhiEntry};
+use crate::code::{LLVMInst, LLVMValue, PhiEntry};
 use crate::module::LLVMModule;
 use crate::numbers::LLVMInstRef;
 use indexmap::IndexMap;
@@ -36,12 +37,15 @@ pub fn has_late_phi(m: &LLVMModule, insts: &[LLVMInstRef]) -> bool
     false
 }
 
-/// Whether two entries for one block have two values.
-pub fn has_two_values(alloc: Global, entries: &[PhiEntry]) -> Result<bool, AllocError>
+/// Whether two entries for one block have two values. Until then each block's value is noted, where none was noted before.
+fn finds_two_values(
+    entries: &[PhiEntry],
+    values: &mut IndexMap<u32, LLVMValue>,
+) -> Result<bool, AllocError>
+    requires { (b : ℕ) → get nat_eq values.old b ≡ None }
     ensures yes { IfOk result (λ two. IsTrue two → HasTwoValues entries.now) }
     ensures no { IfOk result (λ two. two ≡ false → ¬ HasTwoValues entries.now) }
 {
-    let mut values = IndexMap::new(alloc);
     for entry in entries {
         if let Some(value) = values.insert(entry.block.0, entry.value)? {
             if value != entry.value {
@@ -50,6 +54,14 @@ pub fn has_two_values(alloc: Global, entries: &[PhiEntry]) -> Result<bool, Alloc
         }
     }
     Ok(false)
+}
+
+/// Whether two entries for one block have two values.
+pub fn has_two_values(alloc: Global, entries: &[PhiEntry]) -> Result<bool, AllocError>
+    ensures yes { IfOk result (λ two. IsTrue two → HasTwoValues entries.now) }
+    ensures no { IfOk result (λ two. two ≡ false → ¬ HasTwoValues entries.now) }
+{
+    finds_two_values(entries, &mut IndexMap::new(alloc))
 }
 
 /// The numbers of the blocks that entries are for, in ascending order.

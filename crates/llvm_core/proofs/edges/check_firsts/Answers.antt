@@ -7,3 +7,6 @@ loop-f-preserved c = below_more _ _ c.loop-f.invariant c.in_ok-check_first.ensur
 
 pub returns-clause-ok : goal.returns-clause-ok
 returns-clause-ok c = λ k lt. c.loop-f.invariant k (omega (arith, c.functions-f-end.ensures.len))
+
+pub loop-f-init : goal.loop-f-init
+loop-f-init c = λ k lt. absurd (omega (arith, lt))

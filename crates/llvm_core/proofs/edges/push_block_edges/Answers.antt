@@ -1,5 +1,5 @@
 -- What `edges::push_block_edges` owes besides what the check finds.
-use Rattle.std.proofs.Common.{◌<◌, ◌∙◌, ℕ, All, ap, arith, get_or, length, subst, sym, take}
+use Rattle.std.proofs.Common.{◌<◌, ◌∙◌, ℕ, All, ap, arith, get_or, subst, sym, take}
 use Rattle.std.proofs.Math.Seq.{take-length}
 use Rattle.std.proofs.lemmas.Option.{slice_get-get_or}
 use Rattle.std.specs.List.{flat_map}

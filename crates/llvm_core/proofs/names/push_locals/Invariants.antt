@@ -1,8 +1,8 @@
--- What the loop of `names::local_names` keeps.
+-- What the loop of `names::push_locals` keeps.
 use Rattle.std.proofs.Common.{◌≡◌, ◌++◌, take}
 use Rattle.std.specs.List.{flat_map}
 use Rattle.llvm_core.specs.Checked.{named, block_names}
-use Rattle.llvm_core.proofs.names.local_names.Given as goal
+use Rattle.llvm_core.proofs.names.push_locals.Given as goal
 
 abbrev pub invariant-loop-name : goal.invariant-loop-name
 invariant-loop-name l = l.names ≡ flat_map named (take l.name-index l.name-items)

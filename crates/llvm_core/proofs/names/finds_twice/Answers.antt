@@ -1,6 +1,7 @@
--- The goals of `names::has_twice` that the tactics leave.
-use Rattle.llvm_core.proofs.NameLemmas.{twice_here, once_next}
-use Rattle.llvm_core.proofs.names.has_twice.Goals as goal
+-- The goals of `names::finds_twice` that the tactics leave.
+use Rattle.std.proofs.lemmas.List.{take_all}
+use Rattle.llvm_core.proofs.NameLemmas.{none_twice, once_next, twice_here}
+use Rattle.llvm_core.proofs.names.finds_twice.Goals as goal
 
 pub returns-then-not-branch-clause-yes : goal.returns-then-not-branch-clause-yes
 returns-then-not-branch-clause-yes c =
@@ -12,3 +13,9 @@ loop-name-preserved c =
     let new = rw (c.if-not-branch.false, c.loop-name.invariant.seen, c.as_str.ensures, c.name-item.is) at c.in_ok-insert.ensures in
     let next = once_next c.args.names.now c.insert.new.self c.loop-name.name-index _ c.loop-name-test.true new.0 c.loop-name.invariant.once new.1 in
     record { seen = next.0; once = next.1 }
+
+pub loop-name-init : goal.loop-name-init
+loop-name-init c = record { seen = c.requires; once = none_twice }
+
+pub returns-clause-no : goal.returns-clause-no
+returns-clause-no c = λ _. rw (take_all c.loop-name.name-index c.args.names.now c.loop-name-test.false) at c.loop-name.invariant.once

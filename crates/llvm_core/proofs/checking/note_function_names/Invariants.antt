@@ -1,7 +1,7 @@
--- What the loop of `checking::check_function_names` keeps.
+-- What the loop of `checking::note_function_names` keeps.
 use Rattle.std.proofs.Common.{◌≡◌, ◌<◌, ℕ}
 use Rattle.llvm_core.specs.Checked.{IsFreshName, names_before}
-use Rattle.llvm_core.proofs.checking.check_function_names.Given as goal
+use Rattle.llvm_core.proofs.checking.note_function_names.Given as goal
 
 abbrev pub invariant-loop-f : goal.invariant-loop-f
 invariant-loop-f l = record {

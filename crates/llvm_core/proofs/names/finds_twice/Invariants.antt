@@ -1,7 +1,7 @@
--- What the loop of `names::has_twice` keeps.
+-- What the loop of `names::finds_twice` keeps.
 use Rattle.std.proofs.Common.{◌≡◌, take}
 use Rattle.llvm_core.specs.Names.{HasTwice}
-use Rattle.llvm_core.proofs.names.has_twice.Given as goal
+use Rattle.llvm_core.proofs.names.finds_twice.Given as goal
 
 abbrev pub invariant-loop-name : goal.invariant-loop-name
 invariant-loop-name l = record {

@@ -1,9 +1,9 @@
--- The goals of `phis::has_two_values` that the tactics leave.
+-- The goals of `phis::finds_two_values` that the tactics leave.
 use Rattle.std.proofs.Common.{nat_eq, ◌∙◌, sym, arith}
 use Rattle.indexmap.specs.IndexMap.{get}
 use Rattle.llvm_core.proofs.PhiLemmas.{two_at, value_at, none_two, unlike_is}
-use Rattle.llvm_core.proofs.phis.has_two_values.Goals as goal
-use Rattle.llvm_core.proofs.phis.has_two_values.Goals.{in-Some+else-ne, in_default}
+use Rattle.llvm_core.proofs.phis.finds_two_values.Goals as goal
+use Rattle.llvm_core.proofs.phis.finds_two_values.Goals.{in-Some+else-ne, in_default}
 
 pub returns-then-ne-clause-yes : goal.returns-then-ne-clause-yes
 returns-then-ne-clause-yes c = λ _.

@@ -1,6 +1,6 @@
--- The goals of `checking::check_function_names` that the tactics leave.
+-- The goals of `checking::note_function_names` that the tactics leave.
 use Rattle.std.proofs.Common.{below_more, arith}
-use Rattle.llvm_core.proofs.checking.check_function_names.Goals as goal
+use Rattle.llvm_core.proofs.checking.note_function_names.Goals as goal
 
 pub loop-f-preserved : goal.loop-f-preserved
 loop-f-preserved c = record {
