@@ -5,6 +5,12 @@ use Rattle.llvm_core.proofs.CallLemmas.{inst_built_data}
 use Rattle.llvm_core.proofs.FreshLemmas.{inst_fresh}
 use Rattle.llvm_core.proofs.module.LLVMModule.build.Goals as goal
 
+pub invariant_of-self : goal.invariant_of-self
+invariant_of-self c = rw c.in_err-i.ensures.err c.self.invariant
+
+pub returns-in_err-i-clause-sound : goal.returns-in_err-i-clause-sound
+returns-in_err-i-clause-sound c = invariant_of-self c
+
 pub invariant_of-self-2 : goal.invariant_of-self-2
 invariant_of-self-2 c =
     let same = rw (← c.self.view_is) at c.in_ok-ty.ensures.rest in
