@@ -1,6 +1,7 @@
 -- The edges of an operation, at a spot: what they pass is used, and where they lead.
-use Rattle.std.proofs.Common.{◌≡◌, ◌<◌, ◌+◌, ℕ, List, Some, All, length, slice_get, get_or, sym, ap, ◌∙◌, arith}
+use Rattle.std.proofs.Common.{◌≡◌, ◌<◌, ◌+◌, ℕ, List, Some, All, length, slice_get, get_or, sym, ap, subst, ◌∙◌, arith}
 use Rattle.std.proofs.lemmas.Option.{slice_get-get_or, slice_get_within, slice_get_read}
+use Rattle.std.proofs.lemmas.List.Elements.{All-get_or}
 use Rattle.llvm_core.specs.Module.{Module}
 use Rattle.dialect_types.specs.Trees.{TypeTree}
 use Rattle.dialect_core.specs.declared.numbers.OpRef.{OpRef}
@@ -43,3 +44,7 @@ pub edge_read : (s : Spot) (xs : List Successor) (i count : ℕ) (e : Successor)
 edge_read s xs i count e are count_is lt is =
     let len : count ≡ length xs = sym count_is ∙ ap (λ (ys : List Successor). length ys) are in
     ap (λ (ys : List Successor). slice_get ys i) are ∙ slice_get_read xs count i e len lt is
+
+-- and what all edges of the list hold, it holds
+pub read_within : (P : Successor → Type 0) (xs : List Successor) (i : ℕ) (e : Successor) → All P xs → e ≡ get_or xs i e → i < length xs → P e
+read_within P xs i e all is lt = subst P (sym is) (All-get_or P xs i e lt all)

@@ -35,6 +35,7 @@ pub mod PlaceLaws
 pub mod PlacedLaws
 pub mod PlanLaws
 pub mod ShapeLaws
+pub mod ResultLaws
 pub mod SetLaws
 pub mod StepLaws
 pub mod SuccessorLaws

@@ -1,9 +1,7 @@
 -- What the context tells of an operation, and what its form says then.
 use Rattle.std.proofs.Common.{◌≡◌, ◌<◌, ◌^◌, ℕ, zero, suc, true, false, List, [], ◌∷◌, Option, Some, None, length, slice_get, get_or, refl, sym, ap, subst, ◌∙◌, arith}
-use Rattle.std.specs.Prelude.{IsErrAnd, IfOk, IfErr, Result, Ok, Err}
 use Rattle.std.specs.List.{Contains, flat_map}
 use Rattle.std.specs.Option.{option_map, option_and_then}
-use Rattle.std.proofs.lemmas.Result.{err_from_is_err_and}
 use Rattle.std.proofs.lemmas.Option.{same_Some, none-some, get_or_from_slice_get, slice_get_within}
 use Rattle.std.proofs.lemmas.List.Elements.{Contains-append_left, Contains-append_right}
 use Rattle.llvm_core.specs.declared.numbers.LLVMType.{LLVMType}
@@ -25,7 +23,7 @@ use Rattle.dialect_core.specs.declared.ops.OpKind.{OpKind}
 use Rattle.dialect_core.specs.declared.ops.OpKind.TheVariants as K
 use Rattle.dialect_core.specs.declared.ops.OpData.{OpData}
 use Rattle.dialect_core.specs.ContextData.{ContextData, kind_at}
-use Rattle.dialect_core.specs.Data.{HasKindTypesBelow, IsTyped, Kind, ConstantOp, AddOp, ICmpOp, BrOp, CondBrOp, ReturnOp, UnreachableOp, DialectOp, kind_of, op_of, op_at, value_type}
+use Rattle.dialect_core.specs.Data.{HasKindTypesBelow, IsTyped, Kind, ConstantOp, AddOp, ICmpOp, BrOp, CondBrOp, ReturnOp, UnreachableOp, DialectOp, kind_of, op_of, op_at, value_type, Func}
 use Rattle.dialect_core.specs.Form.{IsShortInt, IsFitting, IsFormKind, IsFormOp, uses_of, is_constant, is_constant_kind}
 use Rattle.meaning.specs.Dialect.{type_of}
 use Rattle.to_llvm_ir.specs.Growth.{HasType, IsTypeOf}
@@ -34,21 +32,6 @@ use Rattle.to_llvm_ir.specs.States.{Spot, IsSpot, IsUsed, IsUse}
 use Rattle.to_llvm_ir.proofs.ListLaws.{contains_at}
 use Rattle.to_llvm_ir.proofs.LookupLaws.{op_form, result_type}
 use Rattle.to_llvm_ir.proofs.GrowthLaws.{int_at, value_there}
-
--- ---- results
-
--- an error that is passed on
-pub passed : {T E : Type 0} (r : Result T E) (e : E) (P : E → Type 0) → IsErrAnd r (λ y. y ≡ e) → P e → IfErr r P
-passed r e P h p = let q = err_from_is_err_and r h in rw q.1 (subst P (sym q.2) p)
-
--- what a last call promises where it succeeds, two clauses or three together
-pub both : {X E : Type 0} {P Q R : X → Type 0} (r : Result X E) → IfOk r P → IfOk r Q → ((x : X) → P x → Q x → R x) → IfOk r R
-both (Ok x) p q f = f x p q
-both (Err e) p q f = tt
-
-pub all_three : {X E : Type 0} {P Q R S : X → Type 0} (r : Result X E) → IfOk r P → IfOk r Q → IfOk r R → ((x : X) → P x → Q x → R x → S x) → IfOk r S
-all_three (Ok x) p q h f = f x p q h
-all_three (Err e) p q h f = tt
 
 -- ---- what the context has under the number of an operation
 
@@ -133,15 +116,19 @@ used_at s xs i d v type are at typed =
 pub use_at : (s : Spot) (m : Module) (xs : List Value) (i : ℕ) (d v : Value) (type : TypeTree) (x : LLVMValue) → s.op.operands ≡ xs → slice_get s.op.operands i ≡ Some v → IsUse s m (get_or xs i d) type x → IsUse s m v type x
 use_at s m xs i d v type x are at h = subst (λ (w : Value). IsUse s m w type x) (get_or_from_slice_get xs i v d (ap (λ (ys : List Value). slice_get ys i) (sym are) ∙ at)) h
 
-pub operand_count : (s : Spot) (xs : List Value) (i : ℕ) (v : Value) → s.op.operands ≡ xs → slice_get s.op.operands i ≡ Some v → i < length xs
-operand_count s xs i v are at = slice_get_within xs i v (ap (λ (ys : List Value). slice_get ys i) (sym are) ∙ at)
+-- the context answers as many operands as the form of the kind has
+pub operands_counted : (c : ContextData) (op : OpRef) {k : OpKind} (kind : Kind) (n : ℕ) {xs : List Value} → ((g : Func) (o : DialectOp) → IsFormKind g o kind → length o.operands ≡ n) → (s : Spot) × IsSpot c op s
+    → kind_at c.ops op ≡ Some k → kind_of (type_trees c.types) k ≡ Some kind → option_map (λ (x : OpData). x.operands) (slice_get c.ops op.0) ≡ Some xs → length xs ≡ n
+operands_counted c op {k} kind n {xs} counted spot at is are =
+    let s = spot.0 in
+    ap (λ (vs : List Value). length vs) (sym (operands_are (type_trees c.types) c.ops op s.op xs (spot_parts c op s spot.1) are)) ∙ counted s.task.source s.op (spot_kind c op s k kind spot.1 at is).1
 
--- an operand and an edge stand in the lists that the context answers
-pub operand_there : (c : ContextData) (op : OpRef) (s : Spot) (xs : List Value) (i : ℕ) (v : Value) → IsSpot c op s → option_map (λ (x : OpData). x.operands) (slice_get c.ops op.0) ≡ Some xs → slice_get s.op.operands i ≡ Some v → i < length xs
-operand_there c op s xs i v spot at = operand_count s xs i v (operands_are (type_trees c.types) c.ops op s.op xs (spot_parts c op s spot) at)
-
-pub edge_there : (c : ContextData) (op : OpRef) (s : Spot) (ss : List Successor) (i n : ℕ) → IsSpot c op s → option_map (λ (x : OpData). x.successors) (slice_get c.ops op.0) ≡ Some ss → length s.op.successors ≡ n → i < n → i < length ss
-edge_there c op s ss i n spot at count lt = let e = ap (λ (es : List Successor). length es) (successors_are (type_trees c.types) c.ops op s.op ss (spot_parts c op s spot) at) in omega (arith, e, count, lt)
+-- and as many edges
+pub edges_counted : (c : ContextData) (op : OpRef) {k : OpKind} (kind : Kind) (n : ℕ) {es : List Successor} → ((g : Func) (o : DialectOp) → IsFormKind g o kind → length o.successors ≡ n) → (s : Spot) × IsSpot c op s
+    → kind_at c.ops op ≡ Some k → kind_of (type_trees c.types) k ≡ Some kind → option_map (λ (x : OpData). x.successors) (slice_get c.ops op.0) ≡ Some es → length es ≡ n
+edges_counted c op {k} kind n {es} counted spot at is are =
+    let s = spot.0 in
+    ap (λ (ss : List Successor). length ss) (sym (successors_are (type_trees c.types) c.ops op s.op es (spot_parts c op s spot.1) are)) ∙ counted s.task.source s.op (spot_kind c op s k kind spot.1 at is).1
 
 -- a value that an edge passes
 pub passed_used : (s : Spot) (l i : ℕ) (e : Successor) (v : Value) (type : TypeTree) → slice_get s.op.successors l ≡ Some e → slice_get e.args i ≡ Some v → value_type s.task.source v ≡ Some type → IsUsed s v type
@@ -247,9 +234,13 @@ kind_other ts K.Unreachable kind h e = ap is_constant_kind (sym (same_Some Unrea
 pub spot_other : (c : ContextData) (op : OpRef) (s : Spot) (k : OpKind) → IsSpot c op s → kind_at c.ops op ≡ Some k → ((value : ConstAttr) → k ≡ K.Constant value → ⊥) → is_constant s.op ≡ false
 spot_other c op s k h at other = kind_other (type_trees c.types) k s.op.kind other (kind_is (type_trees c.types) c.ops op s.op k (spot_parts c op s h) at)
 
+-- no spot is at what is no operation of a block
+pub nowhere : (c : ContextData) (op : OpRef) (s : Spot) → op_at (type_trees c.types) c.ops op ≡ None → IsSpot c op s → ⊥
+nowhere c op s none h = none-some s.op (sym none ∙ h.is)
+
 -- there is no spot where the context has a module or a function
 pub no_spot : (c : ContextData) (op : OpRef) (s : Spot) (k : OpKind) → IsSpot c op s → kind_at c.ops op ≡ Some k → kind_of (type_trees c.types) k ≡ None → ⊥
-no_spot c op s k h at none = none-some s.op (sym (op_missing (type_trees c.types) c.ops op k at none) ∙ h.is)
+no_spot c op s k h at none = nowhere c op s (op_missing (type_trees c.types) c.ops op k at none) h
 
 -- a constant has neither operands nor successors
 pub constant_bare : (c : ContextData) (op : OpRef) (s : Spot) (value : ConstAttr) → IsSpot c op s → kind_at c.ops op ≡ Some (K.Constant value) → (s.op.operands ≡ []) × (s.op.successors ≡ []) × (is_constant s.op ≡ true)

@@ -8,7 +8,7 @@ use Rattle.dialect_types.specs.Trees.{type_at, type_trees}
 use Rattle.dialect_core.specs.declared.ops.Value.TheVariants.{Argument}
 use Rattle.to_llvm_ir.specs.States.{found}
 use Rattle.to_llvm_ir.proofs.ValueLaws.{IsSet}
-use Rattle.to_llvm_ir.proofs.OpLaws.{both}
+use Rattle.to_llvm_ir.proofs.ResultLaws.{both}
 use Rattle.to_llvm_ir.proofs.ArgumentLaws.{phi_more}
 use Rattle.to_llvm_ir.proofs.arguments.add_phi.Goals as goal
 

@@ -6,7 +6,7 @@ use Rattle.dialect_core.specs.Data.{DialectBlock}
 use Rattle.to_llvm_ir.specs.Causes.{IsFuncCause}
 use Rattle.to_llvm_ir.specs.Bodies.{IsBodyAccepted}
 use Rattle.to_llvm_ir.specs.States.{IsBetween, turn, first_at}
-use Rattle.to_llvm_ir.proofs.OpLaws.{passed}
+use Rattle.to_llvm_ir.proofs.ResultLaws.{passed}
 use Rattle.to_llvm_ir.proofs.BodyLaws.{none_between, all_between, block_begun, first_there}
 use Rattle.to_llvm_ir.proofs.TurnLaws.{named_within, turn_is, turn_at}
 use Rattle.to_llvm_ir.proofs.OpeningLaws.{has_params}

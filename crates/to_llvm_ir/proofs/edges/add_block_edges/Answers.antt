@@ -4,7 +4,7 @@ use Rattle.dialect_types.specs.Trees.{type_trees}
 use Rattle.dialect_core.specs.Data.{op_at}
 use Rattle.to_llvm_ir.specs.Causes.{IsFuncCause}
 use Rattle.to_llvm_ir.proofs.ListLaws.{by_option}
-use Rattle.to_llvm_ir.proofs.OpLaws.{passed}
+use Rattle.to_llvm_ir.proofs.ResultLaws.{passed}
 use Rattle.to_llvm_ir.proofs.OpsLaws.{spot_of, count_to}
 use Rattle.to_llvm_ir.proofs.BodyLaws.{listed, target_there}
 use Rattle.to_llvm_ir.proofs.LinkedLaws.{AreLinked, linked_start, linked_some, linked_none, linked_all, linked_block, linked_accepted, op_next, linked_given}

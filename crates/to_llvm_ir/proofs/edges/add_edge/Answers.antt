@@ -4,7 +4,7 @@ use Rattle.dialect_core.specs.declared.ops.Value.{Value}
 use Rattle.dialect_core.specs.Form.{FitsTarget}
 use Rattle.to_llvm_ir.specs.Causes.{IsFuncCause}
 use Rattle.to_llvm_ir.specs.States.{Spot, IsSpot, AreAllMapped}
-use Rattle.to_llvm_ir.proofs.OpLaws.{passed}
+use Rattle.to_llvm_ir.proofs.ResultLaws.{passed}
 use Rattle.to_llvm_ir.proofs.PassLaws.{found_fits, found_differs, edge_next}
 use Rattle.to_llvm_ir.proofs.edges.add_edge.Goals as goal
 

@@ -6,7 +6,7 @@ use Rattle.dialect_core.specs.Data.{DialectBlock}
 use Rattle.to_llvm_ir.specs.Accepted.{AreAcceptedEdges}
 use Rattle.to_llvm_ir.specs.Causes.{IsFuncCause}
 use Rattle.to_llvm_ir.specs.States.{turn}
-use Rattle.to_llvm_ir.proofs.OpLaws.{passed}
+use Rattle.to_llvm_ir.proofs.ResultLaws.{passed}
 use Rattle.to_llvm_ir.proofs.OpeningLaws.{taken_there}
 use Rattle.to_llvm_ir.proofs.TurnLaws.{turn_at}
 use Rattle.to_llvm_ir.proofs.LinkedLaws.{entries_to, entries_more, entries_all}

@@ -5,7 +5,8 @@ use Rattle.llvm_core.specs.declared.code.LLVMValue.{LLVMValue}
 use Rattle.llvm_core.specs.declared.code.LLVMValue.TheVariants as V
 use Rattle.llvm_core.specs.declared.numbers.LLVMInstRef.{LLVMInstRef}
 use Rattle.llvm_core.specs.Parts.{IsPhi, IsValue}
-use Rattle.to_llvm_ir.proofs.OpLaws.{both, typed_there}
+use Rattle.to_llvm_ir.proofs.OpLaws.{typed_there}
+use Rattle.to_llvm_ir.proofs.ResultLaws.{both}
 use Rattle.to_llvm_ir.proofs.EntryLaws.{argument_phi, value_known, entry_done}
 use Rattle.to_llvm_ir.proofs.edges.add_entry.Goals as goal
 

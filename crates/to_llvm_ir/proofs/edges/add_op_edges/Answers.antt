@@ -1,19 +1,20 @@
 -- An operation that is none of a block stands at no spot.
-use Rattle.std.proofs.Common.{◌∙◌, sym}
+use Rattle.std.proofs.Common.{◌∙◌, refl, sym}
 use Rattle.std.proofs.lemmas.Option.{none-some}
+use Rattle.to_llvm_ir.specs.States.{Spot}
+use Rattle.to_llvm_ir.proofs.OpLaws.{nowhere}
 use Rattle.to_llvm_ir.proofs.edges.add_op_edges.Goals as goal
 
-pub returns-then-not-is_block_op-clause-ok : goal.returns-then-not-is_block_op-clause-ok
-returns-then-not-is_block_op-clause-ok c = λ s given h. absurd (none-some s.op (sym (c.is_block_op.ensures.no c.if-not-is_block_op.true) ∙ h.spot.is))
-
-pub returns-then-not-is_block_op-clause-fits : goal.returns-then-not-is_block_op-clause-fits
-returns-then-not-is_block_op-clause-fits c = λ s given h. absurd (none-some s.op (sym (c.is_block_op.ensures.no c.if-not-is_block_op.true) ∙ h.spot.is))
-
-pub returns-then-not-is_block_op-clause-equal : goal.returns-then-not-is_block_op-clause-equal
-returns-then-not-is_block_op-clause-equal c = λ s given h. absurd (none-some s.op (sym (c.is_block_op.ensures.no c.if-not-is_block_op.true) ∙ h.spot.is))
-
-pub returns-then-not-is_block_op-clause-cause : goal.returns-then-not-is_block_op-clause-cause
-returns-then-not-is_block_op-clause-cause c = λ s given h. absurd (none-some s.op (sym (c.is_block_op.ensures.no c.if-not-is_block_op.true) ∙ h.spot.is))
+pub returns-then-not-is_block_op : goal.returns-then-not-is_block_op
+returns-then-not-is_block_op c =
+    let never = λ (s : Spot). nowhere c.args.ctx.now c.args.op s (c.is_block_op.ensures.no c.if-not-is_block_op.true) in
+    record {
+      skipped = λ _. (refl, refl);
+      ok = λ s _ h. absurd (never s h.spot);
+      fits = λ s _ h. absurd (never s h.spot);
+      equal = λ s _ h. absurd (never s h.spot);
+      cause = λ s _ h. absurd (never s h.spot);
+    }
 
 pub link_edges-requires-clause-next : goal.link_edges-requires-clause-next
 link_edges-requires-clause-next c = let o = c.is_block_op.ensures.yes c.if-not-is_block_op.false in c.requires.next o.0 o.1

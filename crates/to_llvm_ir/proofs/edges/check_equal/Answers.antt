@@ -4,7 +4,7 @@ use Rattle.std.proofs.lemmas.Option.{slice_get-get_or}
 use Rattle.dialect_core.specs.declared.ops.Successor.{Successor}
 use Rattle.dialect_core.specs.ContextData.{IsSuccessorWithin}
 use Rattle.to_llvm_ir.specs.Causes.{IsFuncCause}
-use Rattle.to_llvm_ir.proofs.OpLaws.{passed}
+use Rattle.to_llvm_ir.proofs.ResultLaws.{passed}
 use Rattle.to_llvm_ir.proofs.SuccessorLaws.{other_edge, equal_one, equal_two, values_differ, values_same, block_of}
 use Rattle.to_llvm_ir.proofs.edges.check_equal.Goals.{then-edges-lt2, in-len2+else-eq, else-eq-via-then-eq+else-ne, else-eq-via-else-eq, else-edges-lt2+else-edges-lt3}
 use Rattle.to_llvm_ir.proofs.edges.check_equal.Goals as goal

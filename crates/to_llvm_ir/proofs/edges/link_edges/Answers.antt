@@ -6,7 +6,7 @@ use Rattle.dialect_core.specs.Form.{FitsTarget}
 use Rattle.to_llvm_ir.specs.Causes.{IsFuncCause}
 use Rattle.to_llvm_ir.specs.Links.{AreEqualEdges}
 use Rattle.to_llvm_ir.specs.States.{IsLinking}
-use Rattle.to_llvm_ir.proofs.OpLaws.{passed}
+use Rattle.to_llvm_ir.proofs.ResultLaws.{passed}
 use Rattle.to_llvm_ir.proofs.SuccessorLaws.{few_edges}
 use Rattle.to_llvm_ir.proofs.LinkedLaws.{more, more_none, more_edge, edges_are, linked_next, edge_more, edges_done, all_push}
 use Rattle.to_llvm_ir.proofs.edges.link_edges.Goals as goal

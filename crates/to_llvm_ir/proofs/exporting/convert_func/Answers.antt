@@ -11,7 +11,7 @@ use Rattle.to_llvm_ir.specs.Bodies.{IsBlocksBegun}
 use Rattle.to_llvm_ir.specs.Functions.{AddsFunction}
 use Rattle.to_llvm_ir.specs.Opening.{AreBlocks}
 use Rattle.to_llvm_ir.specs.States.{Task, IsTask}
-use Rattle.to_llvm_ir.proofs.OpLaws.{both, passed}
+use Rattle.to_llvm_ir.proofs.ResultLaws.{both, passed}
 use Rattle.to_llvm_ir.proofs.FinishLaws.{are_blocks, blocks_of_func, count_is, accepted, finished}
 use Rattle.to_llvm_ir.proofs.exporting.convert_func.Goals as goal
 

@@ -4,7 +4,7 @@ use Rattle.llvm_core.specs.Data as L
 use Rattle.dialect_types.specs.Trees.{type_trees}
 use Rattle.dialect_core.specs.Data.{func_in}
 use Rattle.to_llvm_ir.specs.Exported.{IsCause}
-use Rattle.to_llvm_ir.proofs.OpLaws.{passed}
+use Rattle.to_llvm_ir.proofs.ResultLaws.{passed}
 use Rattle.to_llvm_ir.proofs.ListLaws.{by_option}
 use Rattle.to_llvm_ir.proofs.FinishLaws.{exported_none, held_at, form_held, adds_more, adds_all}
 use Rattle.to_llvm_ir.proofs.exporting.convert_functions.Goals as goal

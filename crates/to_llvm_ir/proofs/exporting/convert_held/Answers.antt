@@ -8,7 +8,7 @@ use Rattle.dialect_core.specs.Data.{Func, func_in}
 use Rattle.dialect_core.proofs.TypingLaws.{own_form}
 use Rattle.to_llvm_ir.specs.Causes.{IsFuncCause}
 use Rattle.to_llvm_ir.proofs.ContextLaws.{no_func, some_func}
-use Rattle.to_llvm_ir.proofs.OpLaws.{passed}
+use Rattle.to_llvm_ir.proofs.ResultLaws.{passed}
 use Rattle.to_llvm_ir.proofs.FinishLaws.{exported_more, adds_some, adds_none}
 use Rattle.to_llvm_ir.proofs.exporting.convert_held.Goals as goal
 

@@ -4,7 +4,7 @@ use Rattle.llvm_core.specs.Data as L
 use Rattle.llvm_core.proofs.FormLaws.{checked_of_form}
 use Rattle.dialect_core.specs.Data as D
 use Rattle.to_llvm_ir.specs.Exported.{IsCause}
-use Rattle.to_llvm_ir.proofs.OpLaws.{passed}
+use Rattle.to_llvm_ir.proofs.ResultLaws.{passed}
 use Rattle.to_llvm_ir.proofs.FinishLaws.{all_exported}
 use Rattle.to_llvm_ir.proofs.CodeLaws.{same_exported, traces_exported}
 use Rattle.to_llvm_ir.proofs.CheckedLaws.{form_exported, distinct_exported, few_exported}

@@ -8,7 +8,7 @@ use Rattle.dialect_core.specs.declared.ops.Symbol.{Symbol}
 use Rattle.meaning.specs.Dialect.{type_of}
 use Rattle.to_llvm_ir.specs.Growth.{IsFormType, IsTypeOf}
 use Rattle.to_llvm_ir.proofs.ContextLaws.{func_parts}
-use Rattle.to_llvm_ir.proofs.OpLaws.{all_three}
+use Rattle.to_llvm_ir.proofs.ResultLaws.{all_three}
 use Rattle.to_llvm_ir.proofs.StartedLaws.{started}
 use Rattle.to_llvm_ir.proofs.exporting.start_func.Goals as goal
 

@@ -1,41 +1,34 @@
 -- Both operands are used; what was found for them makes the instruction.
-use Rattle.std.proofs.Common.{List, slice_get, refl, ap, arith}
+use Rattle.std.proofs.Common.{List, length, slice_get, refl, ap, arith}
 use Rattle.dialect_types.specs.Trees.{type_trees}
 use Rattle.dialect_core.specs.declared.ops.Value.{Value}
 use Rattle.dialect_core.specs.declared.ops.OpKind.TheVariants as K
 use Rattle.dialect_core.specs.Data.{AddOp}
 use Rattle.to_llvm_ir.specs.Causes.{IsFuncCause}
-use Rattle.to_llvm_ir.proofs.OpLaws.{passed, spot_kind, spot_parts, operands_are, operand_there, used_at, use_at}
+use Rattle.to_llvm_ir.proofs.OpLaws.{spot_kind, spot_parts, operands_are, operands_counted, used_at, use_at}
+use Rattle.to_llvm_ir.proofs.ResultLaws.{passed}
 use Rattle.to_llvm_ir.proofs.InstLaws.{add_made}
 use Rattle.to_llvm_ir.proofs.operations.convert_add.Goals as goal
 
 pub bounds-operands-0 : goal.bounds-operands-0
 bounds-operands-0 c =
-    let s = c.requires.spot in
-    let k = spot_kind c.args.ctx.now c.args.op s.0 (K.Add c.args.flags) (AddOp c.args.flags) s.1 c.requires.kind refl in
-    let lt = operand_there c.args.ctx.now c.args.op s.0 c.op_operands-operands.result.now 0 k.1.1 s.1 c.op_operands-operands.ensures.operands (ap (λ (vs : List Value). slice_get vs 0) k.1.3) in
-    omega (arith, lt)
+    let two = operands_counted c.args.ctx.now c.args.op (AddOp c.args.flags) 2 (λ g o form. ap (λ (vs : List Value). length vs) form.3) c.requires.spot c.requires.kind refl c.op_operands-operands.ensures.operands in
+    omega (arith, two)
 
 pub known-requires : goal.known-requires
 known-requires c =
-    let s = c.requires.spot in
-    let k = spot_kind c.args.ctx.now c.args.op s.0 (K.Add c.args.flags) (AddOp c.args.flags) s.1 c.requires.kind refl in
-    let lt = operand_there c.args.ctx.now c.args.op s.0 c.op_operands-operands.result.now 0 k.1.1 s.1 c.op_operands-operands.ensures.operands (ap (λ (vs : List Value). slice_get vs 0) k.1.3) in
-    c.op_operands-operands.ensures.within 0 _ lt
+    let two = operands_counted c.args.ctx.now c.args.op (AddOp c.args.flags) 2 (λ g o form. ap (λ (vs : List Value). length vs) form.3) c.requires.spot c.requires.kind refl c.op_operands-operands.ensures.operands in
+    c.op_operands-operands.ensures.within 0 _ (omega (arith, two))
 
 pub bounds-operands-1 : goal.bounds-operands-1
 bounds-operands-1 c =
-    let s = c.requires.spot in
-    let k = spot_kind c.args.ctx.now c.args.op s.0 (K.Add c.args.flags) (AddOp c.args.flags) s.1 c.requires.kind refl in
-    let lt = operand_there c.args.ctx.now c.args.op s.0 c.op_operands-operands.result.now 1 k.1.2 s.1 c.op_operands-operands.ensures.operands (ap (λ (vs : List Value). slice_get vs 1) k.1.3) in
-    omega (arith, lt)
+    let two = operands_counted c.args.ctx.now c.args.op (AddOp c.args.flags) 2 (λ g o form. ap (λ (vs : List Value). length vs) form.3) c.requires.spot c.requires.kind refl c.op_operands-operands.ensures.operands in
+    omega (arith, two)
 
 pub known-requires-2 : goal.known-requires-2
 known-requires-2 c =
-    let s = c.requires.spot in
-    let k = spot_kind c.args.ctx.now c.args.op s.0 (K.Add c.args.flags) (AddOp c.args.flags) s.1 c.requires.kind refl in
-    let lt = operand_there c.args.ctx.now c.args.op s.0 c.op_operands-operands.result.now 1 k.1.2 s.1 c.op_operands-operands.ensures.operands (ap (λ (vs : List Value). slice_get vs 1) k.1.3) in
-    c.op_operands-operands.ensures.within 1 _ lt
+    let two = operands_counted c.args.ctx.now c.args.op (AddOp c.args.flags) 2 (λ g o form. ap (λ (vs : List Value). length vs) form.3) c.requires.spot c.requires.kind refl c.op_operands-operands.ensures.operands in
+    c.op_operands-operands.ensures.within 1 _ (omega (arith, two))
 
 pub returns-in_err-lhs-clause-cause : goal.returns-in_err-lhs-clause-cause
 returns-in_err-lhs-clause-cause c = λ s m next.

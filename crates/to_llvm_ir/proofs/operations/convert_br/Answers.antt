@@ -1,28 +1,25 @@
 -- The one edge leads to the block that the instruction names.
-use Rattle.std.proofs.Common.{length, refl, sym, subst, arith}
+use Rattle.std.proofs.Common.{length, refl, arith}
 use Rattle.dialect_types.specs.Trees.{type_trees}
 use Rattle.dialect_core.specs.declared.ops.OpKind.TheVariants as K
 use Rattle.dialect_core.specs.ContextData.{IsSuccessorWithin}
 use Rattle.dialect_core.specs.Data.{BrOp}
 use Rattle.to_llvm_ir.specs.Causes.{IsFuncCause}
-use Rattle.to_llvm_ir.proofs.OpLaws.{passed, spot_kind, spot_parts, successors_are, edge_there}
+use Rattle.to_llvm_ir.proofs.OpLaws.{spot_kind, spot_parts, successors_are, edges_counted}
+use Rattle.to_llvm_ir.proofs.ResultLaws.{passed}
 use Rattle.to_llvm_ir.proofs.InstLaws.{br_made}
-use Rattle.to_llvm_ir.proofs.LeadLaws.{edge_read}
+use Rattle.to_llvm_ir.proofs.LeadLaws.{edge_read, read_within}
 use Rattle.to_llvm_ir.proofs.operations.convert_br.Goals as goal
 
 pub bounds-edges-0 : goal.bounds-edges-0
 bounds-edges-0 c =
-    let s = c.requires.spot in
-    let k = spot_kind c.args.ctx.now c.args.op s.0 K.Br BrOp s.1 c.requires.kind refl in
-    let lt = edge_there c.args.ctx.now c.args.op s.0 c.op_successors-edges.result.now 0 1 s.1 c.op_successors-edges.ensures.successors k.1.1.count_is (omega arith) in
-    omega (arith, lt)
+    let one = edges_counted c.args.ctx.now c.args.op BrOp 1 (λ g o form. form.1.count_is) c.requires.spot c.requires.kind refl c.op_successors-edges.ensures.successors in
+    omega (arith, one)
 
 pub lead-requires : goal.lead-requires
 lead-requires c =
-    let s = c.requires.spot in
-    let k = spot_kind c.args.ctx.now c.args.op s.0 K.Br BrOp s.1 c.requires.kind refl in
-    let lt = edge_there c.args.ctx.now c.args.op s.0 c.op_successors-edges.result.now 0 1 s.1 c.op_successors-edges.ensures.successors k.1.1.count_is (omega arith) in
-    subst (IsSuccessorWithin (length c.args.ctx.now.ops) (length c.args.ctx.now.blocks)) (sym c.index-edges-0.is) (c.op_successors-edges.ensures.within 0 c.index-edges-0.result lt)
+    let one = edges_counted c.args.ctx.now c.args.op BrOp 1 (λ g o form. form.1.count_is) c.requires.spot c.requires.kind refl c.op_successors-edges.ensures.successors in
+    read_within (IsSuccessorWithin (length c.args.ctx.now.ops) (length c.args.ctx.now.blocks)) c.op_successors-edges.result.now 0 c.index-edges-0.result c.op_successors-edges.ensures.within c.index-edges-0.is (omega (arith, one))
 
 pub returns-in_err-target-clause-cause : goal.returns-in_err-target-clause-cause
 returns-in_err-target-clause-cause c = λ s m next mapped.

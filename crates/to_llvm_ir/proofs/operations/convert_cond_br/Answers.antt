@@ -1,14 +1,15 @@
 -- The condition is used, and both edges lead to the blocks that the instruction names.
-use Rattle.std.proofs.Common.{List, length, slice_get, refl, sym, ap, subst, arith}
+use Rattle.std.proofs.Common.{List, length, slice_get, refl, ap, arith}
 use Rattle.dialect_types.specs.Trees.{IntegerType, type_trees}
 use Rattle.dialect_core.specs.declared.ops.Value.{Value}
 use Rattle.dialect_core.specs.declared.ops.OpKind.TheVariants as K
 use Rattle.dialect_core.specs.ContextData.{IsSuccessorWithin}
 use Rattle.dialect_core.specs.Data.{CondBrOp}
 use Rattle.to_llvm_ir.specs.Causes.{IsFuncCause}
-use Rattle.to_llvm_ir.proofs.OpLaws.{passed, spot_kind, spot_parts, operands_are, successors_are, operand_there, edge_there, used_at, use_at}
+use Rattle.to_llvm_ir.proofs.OpLaws.{spot_kind, spot_parts, operands_are, successors_are, operands_counted, edges_counted, used_at, use_at}
+use Rattle.to_llvm_ir.proofs.ResultLaws.{passed}
 use Rattle.to_llvm_ir.proofs.InstLaws.{cond_br_made}
-use Rattle.to_llvm_ir.proofs.LeadLaws.{edge_read}
+use Rattle.to_llvm_ir.proofs.LeadLaws.{edge_read, read_within}
 use Rattle.to_llvm_ir.proofs.operations.convert_cond_br.Goals as goal
 
 pub returns-in_err-condition-clause-cause : goal.returns-in_err-condition-clause-cause
@@ -54,42 +55,30 @@ returns-clause-ok c = λ s m next mapped.
 
 pub bounds-operands-0 : goal.bounds-operands-0
 bounds-operands-0 c =
-    let s = c.requires.spot in
-    let k = spot_kind c.args.ctx.now c.args.op s.0 K.CondBr CondBrOp s.1 c.requires.kind refl in
-    let lt = operand_there c.args.ctx.now c.args.op s.0 c.op_operands-operands.result.now 0 k.1.0 s.1 c.op_operands-operands.ensures.operands (ap (λ (vs : List Value). slice_get vs 0) k.1.1) in
-    omega (arith, lt)
+    let one = operands_counted c.args.ctx.now c.args.op CondBrOp 1 (λ g o form. ap (λ (vs : List Value). length vs) form.1) c.requires.spot c.requires.kind refl c.op_operands-operands.ensures.operands in
+    omega (arith, one)
 
 pub known-requires : goal.known-requires
 known-requires c =
-    let s = c.requires.spot in
-    let k = spot_kind c.args.ctx.now c.args.op s.0 K.CondBr CondBrOp s.1 c.requires.kind refl in
-    let lt = operand_there c.args.ctx.now c.args.op s.0 c.op_operands-operands.result.now 0 k.1.0 s.1 c.op_operands-operands.ensures.operands (ap (λ (vs : List Value). slice_get vs 0) k.1.1) in
-    c.op_operands-operands.ensures.within 0 _ lt
+    let one = operands_counted c.args.ctx.now c.args.op CondBrOp 1 (λ g o form. ap (λ (vs : List Value). length vs) form.1) c.requires.spot c.requires.kind refl c.op_operands-operands.ensures.operands in
+    c.op_operands-operands.ensures.within 0 _ (omega (arith, one))
 
 pub bounds-edges-0 : goal.bounds-edges-0
 bounds-edges-0 c =
-    let s = c.requires.spot in
-    let k = spot_kind c.args.ctx.now c.args.op s.0 K.CondBr CondBrOp s.1 c.requires.kind refl in
-    let lt = edge_there c.args.ctx.now c.args.op s.0 c.op_successors-edges.result.now 0 2 s.1 c.op_successors-edges.ensures.successors k.1.3.count_is (omega arith) in
-    omega (arith, lt)
+    let two = edges_counted c.args.ctx.now c.args.op CondBrOp 2 (λ g o form. form.3.count_is) c.requires.spot c.requires.kind refl c.op_successors-edges.ensures.successors in
+    omega (arith, two)
 
 pub lead-requires : goal.lead-requires
 lead-requires c =
-    let s = c.requires.spot in
-    let k = spot_kind c.args.ctx.now c.args.op s.0 K.CondBr CondBrOp s.1 c.requires.kind refl in
-    let lt = edge_there c.args.ctx.now c.args.op s.0 c.op_successors-edges.result.now 0 2 s.1 c.op_successors-edges.ensures.successors k.1.3.count_is (omega arith) in
-    subst (IsSuccessorWithin (length c.args.ctx.now.ops) (length c.args.ctx.now.blocks)) (sym c.index-edges-0.is) (c.op_successors-edges.ensures.within 0 c.index-edges-0.result lt)
+    let two = edges_counted c.args.ctx.now c.args.op CondBrOp 2 (λ g o form. form.3.count_is) c.requires.spot c.requires.kind refl c.op_successors-edges.ensures.successors in
+    read_within (IsSuccessorWithin (length c.args.ctx.now.ops) (length c.args.ctx.now.blocks)) c.op_successors-edges.result.now 0 c.index-edges-0.result c.op_successors-edges.ensures.within c.index-edges-0.is (omega (arith, two))
 
 pub bounds-edges-1 : goal.bounds-edges-1
 bounds-edges-1 c =
-    let s = c.requires.spot in
-    let k = spot_kind c.args.ctx.now c.args.op s.0 K.CondBr CondBrOp s.1 c.requires.kind refl in
-    let lt = edge_there c.args.ctx.now c.args.op s.0 c.op_successors-edges.result.now 1 2 s.1 c.op_successors-edges.ensures.successors k.1.3.count_is (omega arith) in
-    omega (arith, lt)
+    let two = edges_counted c.args.ctx.now c.args.op CondBrOp 2 (λ g o form. form.3.count_is) c.requires.spot c.requires.kind refl c.op_successors-edges.ensures.successors in
+    omega (arith, two)
 
 pub lead-requires-2 : goal.lead-requires-2
 lead-requires-2 c =
-    let s = c.requires.spot in
-    let k = spot_kind c.args.ctx.now c.args.op s.0 K.CondBr CondBrOp s.1 c.requires.kind refl in
-    let lt = edge_there c.args.ctx.now c.args.op s.0 c.op_successors-edges.result.now 1 2 s.1 c.op_successors-edges.ensures.successors k.1.3.count_is (omega arith) in
-    subst (IsSuccessorWithin (length c.args.ctx.now.ops) (length c.args.ctx.now.blocks)) (sym c.index-edges-1.is) (c.op_successors-edges.ensures.within 1 c.index-edges-1.result lt)
+    let two = edges_counted c.args.ctx.now c.args.op CondBrOp 2 (λ g o form. form.3.count_is) c.requires.spot c.requires.kind refl c.op_successors-edges.ensures.successors in
+    read_within (IsSuccessorWithin (length c.args.ctx.now.ops) (length c.args.ctx.now.blocks)) c.op_successors-edges.result.now 1 c.index-edges-1.result c.op_successors-edges.ensures.within c.index-edges-1.is (omega (arith, two))

@@ -6,7 +6,7 @@ use Rattle.dialect_core.specs.Data.{op_at}
 use Rattle.to_llvm_ir.specs.Causes.{IsFuncCause}
 use Rattle.to_llvm_ir.specs.States.{AreDone}
 use Rattle.to_llvm_ir.proofs.ListLaws.{by_option}
-use Rattle.to_llvm_ir.proofs.OpLaws.{passed}
+use Rattle.to_llvm_ir.proofs.ResultLaws.{passed}
 use Rattle.to_llvm_ir.proofs.OpsLaws.{spot_of, count_to, next_spot, done_some, done_none, done_all, done_at_start}
 use Rattle.to_llvm_ir.proofs.operations.convert_ops.Goals as goal
 

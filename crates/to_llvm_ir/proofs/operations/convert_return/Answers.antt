@@ -6,7 +6,8 @@ use Rattle.dialect_core.specs.declared.ops.OpKind.TheVariants as K
 use Rattle.dialect_core.specs.Data.{ReturnOp}
 use Rattle.dialect_core.specs.Form.{result_of}
 use Rattle.to_llvm_ir.specs.Causes.{IsFuncCause}
-use Rattle.to_llvm_ir.proofs.OpLaws.{passed, spot_kind, spot_parts, operands_are, used_at, use_at}
+use Rattle.to_llvm_ir.proofs.OpLaws.{spot_kind, spot_parts, operands_are, used_at, use_at}
+use Rattle.to_llvm_ir.proofs.ResultLaws.{passed}
 use Rattle.to_llvm_ir.proofs.InstLaws.{return_none_made, return_made, returned_one}
 use Rattle.to_llvm_ir.proofs.operations.convert_return.Goals as goal
 

@@ -5,7 +5,7 @@ use Rattle.std.proofs.lemmas.List.Elements.{All-more}
 use Rattle.dialect_core.specs.declared.ops.Value.{Value}
 use Rattle.to_llvm_ir.specs.Order.{StandsBeforeIn}
 use Rattle.to_llvm_ir.specs.Causes.{IsFuncCause}
-use Rattle.to_llvm_ir.proofs.OpLaws.{passed}
+use Rattle.to_llvm_ir.proofs.ResultLaws.{passed}
 use Rattle.to_llvm_ir.proofs.LeadLaws.{passed_as, lead_is}
 use Rattle.to_llvm_ir.proofs.operations.lead.Goals as goal
 
