@@ -181,9 +181,7 @@ pub fn convert_module(alloc: Global, ctx: &Context, module: ModuleOp) -> Result<
     ensures checked { IsDistinctNames (map (λ g. g.name) (data_of ctx.now «module».0.0).functions) → All HasTargets (data_of ctx.now «module».0.0).functions → IfOk result (λ x. IsChecked x.«module») }
     ensures cause { IfErr result (λ e. IsCause ctx.now (data_of ctx.now «module».0.0) e) }
 {
-    let Ok(mut cctx) = ConversionContext::new(alloc, name_of(ctx, module.0)) else {
-        return Err(ToLLVMErr::NoMemory);
-    };
+    let mut cctx = ConversionContext::new(alloc, name_of(ctx, module.0))?;
     convert_held_functions(alloc, ctx, module, &mut cctx)?;
     know_sound(&cctx.module);
     Ok(Exported {

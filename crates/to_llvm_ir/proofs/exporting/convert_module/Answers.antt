@@ -12,8 +12,8 @@ use Rattle.to_llvm_ir.proofs.exporting.convert_module.Goals as goal
 
 pub returns-in_err-convert_held_functions-clause-cause : goal.returns-in_err-convert_held_functions-clause-cause
 returns-in_err-convert_held_functions-clause-cause c =
-    passed c.from_residual.result c.in_err-convert_held_functions.field-0.0 (IsCause c.args.ctx.now (D.data_of c.args.ctx.now c.args.«module».0.0))
-    c.from_residual.ensures.1 c.in_err-convert_held_functions.ensures.cause
+    passed c.from_residual-in_err-convert_held_functions.result c.in_err-convert_held_functions.field-0.0 (IsCause c.args.ctx.now (D.data_of c.args.ctx.now c.args.«module».0.0))
+    c.from_residual-in_err-convert_held_functions.ensures.1 c.in_err-convert_held_functions.ensures.cause
 
 pub returns : goal.returns
 returns c =
@@ -21,7 +21,7 @@ returns c =
     let root = c.args.«module».0.0 in
     let source = D.data_of context root in
     let back = c.convert_held_functions.new.cctx.module in
-    let made = all_exported context root (D.held context root) _ (L.data_of c.in-Ok.cctx.module) back refl c.in-Ok.ensures.module_data c.name_of.ensures c.in_ok-convert_held_functions.ensures.ok in
+    let made = all_exported context root (D.held context root) _ (L.data_of c.in_ok-cctx.cctx.module) back refl c.in_ok-cctx.ensures.module_data c.name_of.ensures c.in_ok-convert_held_functions.ensures.ok in
     record {
       exported = made;
       traces = traces_exported context (L.data_of back) source.functions (L.data_of back).functions c.requires.functions made.functions;

@@ -18,13 +18,13 @@ append_block-requires-clause-there c =
 pub loop-i-preserved : goal.loop-i-preserved
 loop-i-preserved c = record {
   ok = λ t ty are declared.
-      let b = block_there c.args.ctx.now t c.args.list.now c.loop-i.i _ are c.loop-i-test.true in
       let one : c.loop-i.i + 1 ≡ suc c.loop-i.i = omega arith in
+      let b = block_there c.args.ctx.now t c.args.list.now c.loop-i.i _ are c.loop-i-test.true in
       subst (λ (i : ℕ). IsOpening t i c.args.f ty c.append_block.new.blocks c.append_block.new.back) (sym one) (c.in_ok-append_block.ensures.ok t ty b.0 b.1 (c.loop-i.invariant.ok t ty are declared));
   labelled = λ t are j d lt at.
-      let b = block_there c.args.ctx.now t c.args.list.now c.loop-i.i _ are c.loop-i-test.true in
       ⊎_elim
       (λ same.
+      let b = block_there c.args.ctx.now t c.args.list.now c.loop-i.i _ are c.loop-i-test.true in
       let e : b.0 ≡ d = same_Some b.0 d (sym b.1.here ∙ ap (slice_get t.source.blocks) (sym same) ∙ at) in
       subst (λ (x : DialectBlock). IsPlainOrNone (block_name x.label j)) e (subst (λ (i : ℕ). IsPlainOrNone (block_name b.0.label i)) (sym same) (c.in_ok-append_block.ensures.labelled t b.0 b.1)))
       (λ differs. c.loop-i.invariant.labelled t are j d (omega (arith, lt, differs)) at)
