@@ -21,8 +21,7 @@ use Rattle.from_llvm_ir.specs.Match.{match_of}
 use Rattle.from_llvm_ir.specs.Imported.{AreImported, NoneImported, ThenImported, IsImported, imported_data}
 use Rattle.to_llvm_ir.specs.Exported.{ExportedFunction, IsExported}
 use Rattle.to_llvm_ir.specs.Held.{IsReadable}
-use Rattle.transfer.specs.declared.transferred.Transferred.{Transferred}
-use Rattle.transfer.specs.Same.{SameThroughout}
+use Rattle.transfer.specs.Same.{SameThroughout, transferred_of}
 use Rattle.from_llvm_ir.proofs.PairLaws.{matched_of, matched_at, matched_map}
 use Rattle.from_llvm_ir.proofs.MatchedLaws.{function_names, partner, count_imported, matched_place, forms_imported, exportable_imported, names_imported}
 use Rattle.from_llvm_ir.proofs.SameLaws.{function_numbered, plain_names, same_imported}
@@ -87,9 +86,6 @@ module _ (d : ModuleData) (xs : List FunctionBlocks) (gs : List D.Func) (form : 
         (exported_at i p.func f' p.func_at bt))
 
 -- ---- modules
-
-abbrev pub transferred_of : ContextData → Imported → Module → Transferred
-transferred_of c i back = record { ctx = c; dialect = i.«module»; back = back; blocks = i.blocks; structs = i.structs }
 
 module _ (m back : Module) (c : ContextData) (i : Imported) (form : IsForm (data_of m)) (distinct : HasDistinctNames (data_of m))
     (imported : IsImported (data_of m) c i) (exported : IsExported (imported_data c i) back) where

@@ -1,14 +1,17 @@
 -- What a module, its dialect module and its module back have in common, and why a module is refused.
 use Rattle.std.specs.Prelude.{◌≡◌, map}
+use Rattle.llvm_core.specs.Module.{Module}
 use Rattle.llvm_core.specs.Data as L
 use Rattle.llvm_core.specs.Data.{ModuleData}
 use Rattle.dialect_types.specs.Names.{legal_name}
+use Rattle.dialect_core.specs.ContextData.{ContextData}
 use Rattle.dialect_core.specs.Data as D
 use Rattle.dialect_core.specs.WellFormed.{IsWellFormed}
 use Rattle.meaning.specs.Pairs.{Matched}
 use Rattle.meaning.specs.Code.{SameCode}
 use Rattle.meaning.specs.Llvm as Llvm
 use Rattle.meaning.specs.Dialect as Dialect
+use Rattle.from_llvm_ir.specs.declared.importing.Imported.{Imported}
 use Rattle.from_llvm_ir.specs.Match.{match_of}
 use Rattle.from_llvm_ir.specs.Imported.{AreImported}
 use Rattle.from_llvm_ir.specs.Refusals as Import
@@ -20,6 +23,10 @@ use Rattle.to_llvm_ir.specs.declared.to_llvm_err.ToLLVMErr.TheVariants as X
 use Rattle.transfer.specs.declared.transferred.Transferred.{Transferred}
 use Rattle.transfer.specs.declared.transfer_err.TransferErr.{TransferErr}
 use Rattle.transfer.specs.declared.transfer_err.TransferErr.TheVariants as E
+
+-- what is handed out: what an import made in a context, and the module back
+abbrev pub transferred_of : ContextData → Imported → Module → Transferred
+transferred_of c i back = record { ctx = c; dialect = i.«module»; back = back; blocks = i.blocks; structs = i.structs }
 
 -- the data of the dialect module and of the module back
 abbrev pub dialect_of : Transferred → D.DialectModule

@@ -8,7 +8,7 @@ ghost use Rattle.llvm_core.specs.Form.{IsForm};
 ghost use Rattle.dialect_core.specs.Data.{IsTyped};
 ghost use Rattle.from_llvm_ir.specs.Refusals.{IsValid};
 ghost use Rattle.transfer.specs.declared.transfer_err.TransferErr.TheVariants as refusals;
-ghost use Rattle.transfer.specs.Same.{SameThroughout, IsCause};
+ghost use Rattle.transfer.specs.Same.{SameThroughout, IsCause, transferred_of};
 
 use crate::transfer_err::TransferErr;
 use crate::transferred::Transferred;
@@ -17,6 +17,35 @@ use from_llvm_ir::importing::{Imported, convert_module as import};
 use llvm_core::module::LLVMModule;
 use std::alloc::Global;
 use to_llvm_ir::exporting::convert_module as export;
+
+/// What the two halves made: the import in a context of the caller's, and the export back.
+#[derive(Drop)]
+struct Halves {
+    imported: Imported,
+    back: LLVMModule,
+}
+
+/// The two halves in a row. The context is its caller's, so that neither refusal has to let go of it.
+fn run_halves(alloc: Global, ctx: &mut Context, module: &LLVMModule) -> Result<Halves, TransferErr>
+    requires form { IsForm (data_of «module».now) }
+    requires name { IsPlainOrNone «module».now.name }
+    requires checked { IsChecked «module».now }
+    requires typed { IsTyped ctx.old }
+    ensures same { IfOk result (λ h. SameThroughout (data_of «module».now) (transferred_of ctx.new h.imported h.back)) }
+    ensures back { IfOk result (λ h. IsChecked h.back) }
+    ensures form { IfOk result (λ h. IsForm (data_of h.back)) }
+    ensures there { IfOk result (λ h. h.imported.«module».0.0 < length ctx.new.ops) }
+    ensures typed { IsTyped ctx.new }
+    ensures structs { IfOk result (λ h. h.imported.structs.items ≡ []) }
+    ensures cause { IfErr result (λ e. IsCause (data_of «module».now) e) }
+{
+    let imported = import(alloc, ctx, module)?;
+    let exported = export(alloc, ctx, imported.module)?;
+    Ok(Halves {
+        imported,
+        back: exported.module,
+    })
+}
 
 /// The dialect module of a checked module of the form, in a context of its own, the module back, the match of blocks, and
 /// the identified structs, of which there are none yet. The module back is checked. It is refused only where the import
@@ -36,18 +65,12 @@ pub fn transfer(alloc: Global, module: &LLVMModule) -> Result<Transferred, Trans
     ensures complete { IsValid (data_of «module».now) → IfErr result (λ e. e ≡ refusals.NoMemory) }
 {
     let mut ctx = Context::new(alloc);
-    let imported = import(alloc, &mut ctx, module)?;
-    let exported = export(alloc, &ctx, imported.module)?;
-    let Imported {
-        module: dialect,
-        blocks,
-        structs,
-    } = imported;
+    let halves = run_halves(alloc, &mut ctx, module)?;
     Ok(Transferred {
         ctx,
-        dialect,
-        back: exported.module,
-        blocks,
-        structs,
+        dialect: halves.imported.module,
+        back: halves.back,
+        blocks: halves.imported.blocks,
+        structs: halves.imported.structs,
     })
 }

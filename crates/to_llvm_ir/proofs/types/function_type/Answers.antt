@@ -27,6 +27,12 @@ param_types-requires-clause-short c =
     let parts = form_parts (type_trees c.args.ctx.now.types) _ _ _ _ _ _ _ c.requires.form c.requires.within c.in-Func.is c.kind.ensures.parts (rw types at c.kind.ensures.tree) in
     subst (λ (xs : List TypeHandle). All (λ (t : TypeHandle). IsShortInt (type_at (type_trees c.args.ctx.now.types) t)) xs) (sym c.as_slice.ensures) parts.params_short
 
+-- what the type is made of is there
+pub type_get-requires : goal.type_get-requires
+type_get-requires c =
+    let two = c.in_ok-params-in-Func.ensures in
+    ((type_kept _ _ _ _ two.grows c.in_ok-result-in-Func.ensures.tree).0, two.types.0)
+
 pub returns : goal.returns
 returns c =
     let types = c.types.ensures in

@@ -1,54 +1,37 @@
--- What `transferring::transfer` owes besides what the check finds.
+-- A new context is typed, and a module whose uses are valid is refused for want of memory alone.
 use Rattle.std.proofs.Common.{◌≡◌, IfErr, rules}
 use Rattle.std.proofs.lemmas.Result.{IfErr-weaker}
+use Rattle.llvm_core.specs.Data.{data_of}
+use Rattle.from_llvm_ir.proofs.KeepLaws.{empty_typed}
 use Rattle.transfer.specs.declared.transfer_err.TransferErr.{TransferErr}
 use Rattle.transfer.specs.declared.transfer_err.TransferErr.TheVariants as T
 use Rattle.transfer.specs.Same.{IsCause}
-use Rattle.llvm_core.specs.Data.{data_of}
-use Rattle.llvm_core.proofs.DistinctLaws.{distinct_of_checked}
-use Rattle.from_llvm_ir.specs.Imported.{imported_data}
-use Rattle.from_llvm_ir.proofs.KeepLaws.{empty_typed}
-use Rattle.from_llvm_ir.proofs.MatchedLaws.{forms_imported, exportable_imported}
-use Rattle.transfer.proofs.TransferLaws.{readable, same_throughout, targets_of, distinct_dialect}
-use Rattle.transfer.proofs.CauseLaws.{of_import_cause, of_export_cause, only_memory}
+use Rattle.transfer.proofs.CauseLaws.{only_memory}
 use Rattle.transfer.proofs.transferring.transfer.Goals as goal
 
-pub convert_module-requires-2 : goal.convert_module-requires-2
-convert_module-requires-2 c = readable (data_of c.args.«module».now) c.convert_module.new.ctx c.in_ok-imported.imported c.in_ok-imported.ensures.imported (c.convert_module.ensures.typed (empty_typed c.new-ctx.result c.new-ctx.ensures))
+pub run_halves-requires-clause-typed : goal.run_halves-requires-clause-typed
+run_halves-requires-clause-typed c = empty_typed c.new-ctx.result c.new-ctx.ensures
 
 pub returns-clause-same : goal.returns-clause-same
-returns-clause-same c = same_throughout c.args.«module».now c.in_ok-exported.exported.«module» c.convert_module.new.ctx c.in_ok-imported.imported c.requires.form (distinct_of_checked c.args.«module».now c.requires.checked) c.in_ok-imported.ensures.imported c.in_ok-exported.ensures.exported
-
-pub returns-clause-form : goal.returns-clause-form
-returns-clause-form c = c.in_ok-exported.ensures.form (targets_of (data_of c.args.«module».now) c.convert_module.new.ctx c.in_ok-imported.imported c.in_ok-imported.ensures.imported)
+returns-clause-same c = c.in_ok-halves.ensures.same
 
 pub returns-clause-back : goal.returns-clause-back
-returns-clause-back c =
-    let m = c.args.«module».now in
-    let ctx = c.convert_module.new.ctx in
-    let i = c.in_ok-imported.imported in
-    c.in_ok-exported.ensures.checked (distinct_dialect (data_of m) ctx i c.in_ok-imported.ensures.imported (distinct_of_checked m c.requires.checked)) (targets_of (data_of m) ctx i c.in_ok-imported.ensures.imported)
+returns-clause-back c = c.in_ok-halves.ensures.back
 
-pub returns-in_err-exported-clause-cause : goal.returns-in_err-exported-clause-cause
-returns-in_err-exported-clause-cause c =
-    let i = c.in_ok-imported.ensures.imported in
-    let m = data_of c.args.«module».now in
-    let d = imported_data c.convert_module.new.ctx c.in_ok-imported.imported in
-    let blocks = c.in_ok-imported.imported.blocks in
-    let forms = forms_imported m m.functions blocks d.functions i.functions in
-    let fit = exportable_imported m m.functions blocks d.functions i.functions in
-    let e = c.in_err-exported.field-0.0 in
-    let cause = of_export_cause d forms fit c.convert_module.new.ctx m e c.in_err-exported.ensures.cause in
-    search rules
+pub returns-clause-form : goal.returns-clause-form
+returns-clause-form c = c.in_ok-halves.ensures.form
 
-pub returns-in_err-exported-clause-complete : goal.returns-in_err-exported-clause-complete
-returns-in_err-exported-clause-complete c = λ valid.
-    let m = data_of c.args.«module».now in
-    IfErr-weaker c.from_residual-in_err-exported.result (IsCause m) (λ (e : TransferErr). e ≡ T.NoMemory) (λ e h. only_memory m e h valid) (returns-in_err-exported-clause-cause c)
+pub returns-clause-there : goal.returns-clause-there
+returns-clause-there c = c.in_ok-halves.ensures.there
 
-pub returns-in_err-imported-clause-complete : goal.returns-in_err-imported-clause-complete
-returns-in_err-imported-clause-complete c = λ valid.
+pub returns-clause-typed : goal.returns-clause-typed
+returns-clause-typed c = c.run_halves.ensures.typed
+
+pub returns-clause-structs : goal.returns-clause-structs
+returns-clause-structs c = c.in_ok-halves.ensures.structs
+
+pub returns-in_err-halves-clause-complete : goal.returns-in_err-halves-clause-complete
+returns-in_err-halves-clause-complete c = λ valid.
     let m = data_of c.args.«module».now in
-    let cause : IfErr c.from_residual.result (IsCause m) =
-    let h = of_import_cause m c.in_err-imported.field-0.0 c.in_err-imported.ensures.cause in search rules in
+    let cause : IfErr c.from_residual.result (IsCause m) = let h = c.in_err-halves.ensures.cause in search rules in
     IfErr-weaker c.from_residual.result (IsCause m) (λ (e : TransferErr). e ≡ T.NoMemory) (λ e h. only_memory m e h valid) cause
