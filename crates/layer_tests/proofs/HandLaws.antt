@@ -1,5 +1,6 @@
--- The types of a context after one was asked for: their numbers are in range.
-use Rattle.std.proofs.Common.{◌≡◌, ◌<◌, ◌≤◌, ℕ, List, [], ◌∷◌, length, ap, inl, inr, arith, length-append}
+-- The types of a context after one was asked for: their numbers are in range; and lists that grow by what they may hold.
+use Rattle.std.proofs.Common.{◌≡◌, ◌<◌, ◌≤◌, ℕ, Bool, true, false, if◌then◌else◌, List, [], ◌∷◌, ◌++◌, All, length, ap, inl, inr, arith, length-append}
+use Rattle.std.proofs.lemmas.List.Elements.{All-push}
 use Rattle.std.proofs.lemmas.Option.{slice_get_within}
 use Rattle.dialect_types.specs.Interned.{Interned}
 
@@ -13,3 +14,8 @@ interned_longer old new k n before same h = elim h.only [
   | inl e ↦ omega (arith, ap length e, ap length same)
   | inr e ↦ omega (arith, ap length e, ap length same, length-append old (k ∷ []))
 ]
+
+-- a list of one sort stays so, whether or not one more of the sort was put last
+pub all_if_pushed : {X : Type 0} (P : X → Type 0) (b : Bool) (xs : List X) (x : X) → All P xs → P x → All P (if b then xs ++ x ∷ [] else xs)
+all_if_pushed P true xs x h p = All-push P xs x h p
+all_if_pushed P false xs x h p = h

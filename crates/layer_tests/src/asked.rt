@@ -14,7 +14,7 @@ use std::sync::ledger::Blank;
 use to_llvm_ir::readable::is_readable;
 
 /// What is asked of a module.
-#[derive(Drop)]
+#[derive(Clone, Copy)]
 pub enum Question<'a> {
     /// Whether it is well-formed.
     WellFormed,

@@ -152,9 +152,9 @@ pub fn export_of(alloc: Global, ctx: &Context, root: ModuleOp) -> &'static str
     if !is_readable(ctx, root) {
         return "unreadable";
     }
-    match convert_module(alloc, ctx, root) {
-        Ok(_back) => "exported",
-        Err(error) => refusal(&error),
+    match convert_module(alloc, ctx, root).err() {
+        None => "exported",
+        Some(error) => refusal(&error),
     }
 }
 

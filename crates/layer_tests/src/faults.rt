@@ -2,14 +2,12 @@
 
 ghost use Rattle.std.specs.Prelude.{◌<◌};
 
-use crate::runs::{ANSWER, words_of};
-use round_ll::outside::{MemorySink, MemorySource};
-use round_ll::run::run;
-use std::alloc::{AllocError, Global};
-use std::test::Fail;
+use crate::runs::{ANSWER, Calls, End, LONGEST, Out, Run, SURE, blanks_fault, fault, fault_over};
+use round_ll::outside::MemorySink;
+use std::alloc::Global;
 
 /// All that is printed of the function.
-const PRINTED: &str = "builtin.module @_ {
+const PRINTED: &[u8] = b"builtin.module @_ {
   llvm.func @f : llvm.func <builtin.integer i32 () variadic = false> {linkage = ExternalLinkage} {
   ^0:entry():
     %0 = llvm.constant() {value = builtin.integer <7: i32>} : builtin.integer i32
@@ -27,196 +25,202 @@ entry_block0:
 blocks @f 0
 ";
 
-/// Whether a run of these words ends with this status, and then this line is on the standard error.
-fn ends_with_line(
-    alloc: Global,
-    words: &[&str],
-    source: &mut MemorySource,
-    out: &mut MemorySink,
-    err: &mut MemorySink,
-    want: (u8, &str),
-) -> Result<bool, AllocError> {
-    let words = words_of(alloc, words)?;
-    let status = run(alloc, words.as_slice(), source, out, err).status();
-    Ok(status == want.0 && err.bytes() == want.1.as_bytes())
-}
-
 // ---- reads and writes in mid-stream
 
-/// Whether `round` ends with this status, and then this is on the output.
-fn ends(
-    alloc: Global,
-    source: &mut MemorySource,
-    out: &mut MemorySink,
-    status: u8,
-    bytes: &[u8],
-) -> Result<bool, AllocError> {
-    let words = words_of(alloc, &["round"])?;
-    let mut err = MemorySink::new(alloc, 1 << 10, 1 << 10, &[])?;
-    let ended = run(alloc, words.as_slice(), source, out, &mut err);
-    Ok(ended.status() == status && out.bytes() == bytes)
+/// How `round` ends where a read fails.
+const FAILED_READ: End = End {
+    status: 3,
+    out: Out::Is(b""),
+    line: "read fault\n",
+};
+
+/// How it ends where a write fails and this is on the output.
+fn failed_write(out: &[u8]) -> End<'_> {
+    End {
+        status: 4,
+        out: Out::Is(out),
+        line: "write fault\n",
+    }
 }
 
-/// Whether `round` over the text in pieces, where one read fails, ends so.
-fn ends_at_read(
-    alloc: Global,
-    size: usize,
-    failing: u32,
-    out: &mut MemorySink,
-    status: u8,
-    bytes: &[u8],
-) -> Result<bool, AllocError>
-    requires { 0 < size }
+/// How it ends well over the function.
+const WELL: End = End {
+    status: 0,
+    out: Out::Is(PRINTED),
+    line: "",
+};
+
+/// The run of `round` over the function with these reads.
+fn round_by(reads: Calls<'_>) -> Run<'_>
+    requires { 0 < reads.0 }
+    ensures { 0 < result.reads.0 }
 {
-    let mut source = MemorySource::new(alloc, ANSWER.as_bytes(), size, &[failing])?;
-    ends(alloc, &mut source, out, status, bytes)
+    Run {
+        words: &["round"],
+        text: ANSWER.as_bytes(),
+        reads,
+        complaints: &[],
+    }
 }
 
-/// Whether the second read fails, of pieces of 8 bytes, and then the third write of pieces of 10.
-fn fails_in_mid_stream(alloc: Global) -> Result<bool, AllocError> {
-    let mut out = MemorySink::new(alloc, 1 << 12, 10, &[2])?;
-    let line = b"builtin.module @_ {\n".as_slice();
-    if !ends_at_read(alloc, 8, 1, &mut out, 3, &[])? {
-        return Ok(false);
+/// What is wrong where the second read fails, of pieces of 8 bytes, and then a write to this output.
+fn mid_stream_fault_over(alloc: Global, out: &mut MemorySink) -> &'static str {
+    let fault = fault_over(alloc, &round_by((8, &[1])), out, &FAILED_READ);
+    if !fault.is_empty() {
+        return fault;
     }
-    ends_at_read(alloc, 8, u32::MAX, &mut out, 4, line)
+    let end = failed_write(b"builtin.module @_ {\n");
+    fault_over(alloc, &round_by((8, &[])), out, &end)
+}
+
+/// The same of an output whose third write fails, of pieces of 10 bytes.
+fn mid_stream_fault(alloc: Global) -> &'static str {
+    match MemorySink::new(alloc, 1 << 12, 10, &[2]) {
+        Ok(mut out) => mid_stream_fault_over(alloc, &mut out),
+        Err(_) => "no memory",
+    }
 }
 
 #[test]
-fn a_read_or_a_write_fails_in_mid_stream(rt: HostRuntime) -> Result<(), Fail> {
-    assert!(rt; fails_in_mid_stream(rt.alloc())?);
-    Ok(())
+fn a_read_or_a_write_fails_in_mid_stream(rt: HostRuntime) {
+    let fault = mid_stream_fault(rt.alloc());
+    assert!(rt; fault.is_empty(), "{fault}");
 }
 
-/// Whether a run in which the read of this number fails ends as it should. One read more than there are bytes meets the
-/// end, and behind it none is made.
-fn fails_at_read(alloc: Global, read: usize) -> Result<bool, AllocError> {
-    let mut out = MemorySink::new(alloc, 1 << 12, 1 << 12, &[])?;
-    let failing = read.min(1 << 20) as u32;
-    if read <= ANSWER.len() {
-        ends_at_read(alloc, 1, failing, &mut out, 3, &[])
+/// What is wrong with a run in which the read of this number fails, of pieces of a byte. One read more than there are
+/// bytes meets the end, and behind it none is made.
+fn read_fault(alloc: Global, read: u32) -> &'static str {
+    let end = if read as usize <= ANSWER.len() {
+        FAILED_READ
     } else {
-        ends_at_read(alloc, 1, failing, &mut out, 0, PRINTED.as_bytes())
-    }
+        WELL
+    };
+    fault(alloc, &round_by((1, &[read])), SURE, &end)
 }
 
 #[test]
-fn each_read_fails_in_turn(rt: HostRuntime) -> Result<(), Fail> {
-    for read in 0..ANSWER.len() + 2 {
-        assert!(rt; fails_at_read(rt.alloc(), read)?, "at {read}");
+fn each_read_fails_in_turn(rt: HostRuntime) {
+    for read in 0..ANSWER.len() as u32 + 2 {
+        let fault = read_fault(rt.alloc(), read);
+        assert!(rt; fault.is_empty(), "{fault} at {read}");
     }
-    Ok(())
 }
 
-/// Whether a run in which the write of this number fails, of pieces of a byte, ends as it should.
-fn fails_at_write(alloc: Global, write: usize) -> Result<bool, AllocError> {
-    let failing = write.min(1 << 20) as u32;
-    let printed = PRINTED.as_bytes();
-    let mut source = MemorySource::new(alloc, ANSWER.as_bytes(), 1 << 10, &[])?;
-    let mut out = MemorySink::new(alloc, 1 << 12, 1, &[failing])?;
-    if write < printed.len() {
-        ends(alloc, &mut source, &mut out, 4, &printed[..write])
+/// What is wrong with a run in which the write of this number fails, of pieces of a byte.
+fn write_fault(alloc: Global, write: u32) -> &'static str {
+    let end = if (write as usize) < PRINTED.len() {
+        failed_write(&PRINTED[..write as usize])
     } else {
-        ends(alloc, &mut source, &mut out, 0, printed)
-    }
+        WELL
+    };
+    fault(alloc, &round_by(SURE), (1, &[write]), &end)
 }
 
 #[test]
-fn each_write_fails_in_turn(rt: HostRuntime) -> Result<(), Fail> {
-    for write in 0..PRINTED.len() + 1 {
-        assert!(rt; fails_at_write(rt.alloc(), write)?, "at {write}");
+fn each_write_fails_in_turn(rt: HostRuntime) {
+    for write in 0..PRINTED.len() as u32 + 1 {
+        let fault = write_fault(rt.alloc(), write);
+        assert!(rt; fault.is_empty(), "{fault} at {write}");
     }
-    Ok(())
 }
 
 // ---- faults of the standard error
 
 /// A run over which single reads and writes fail, and how it ends.
-#[derive(Clone, Copy)]
 struct Case {
     words: &'static [&'static str],
     text: &'static str,
     reads: &'static [u32],
     writes: &'static [u32],
-    status: u8,
-    line: &'static str,
+    end: End<'static>,
 }
 
-/// Whether a case ends as it should, with this line, where these calls of the standard error fail.
-fn case_ends(alloc: Global, case: &Case, fails: &[u32], line: &str) -> Result<bool, AllocError> {
-    let mut source = MemorySource::new(alloc, case.text.as_bytes(), 1 << 20, case.reads)?;
-    let mut out = MemorySink::new(alloc, 1 << 12, 1 << 12, case.writes)?;
-    let mut err = MemorySink::new(alloc, 1 << 10, 1 << 10, fails)?;
-    let want = (case.status, line);
-    ends_with_line(alloc, case.words, &mut source, &mut out, &mut err, want)
+/// What is wrong with how a case ends where these calls of the standard error fail and this line is then on it.
+fn case_fault(alloc: Global, case: &Case, complaints: &[u32], line: &str) -> &'static str {
+    let given = Run {
+        words: case.words,
+        text: case.text.as_bytes(),
+        reads: (1 << 20, case.reads),
+        complaints,
+    };
+    let end = End { line, ..case.end };
+    fault(alloc, &given, (1 << 20, case.writes), &end)
 }
 
-/// Whether a case ends as it should, with its line, and with none where the first call of the standard error fails.
-fn ends_either_way(alloc: Global, case: &Case) -> Result<bool, AllocError> {
-    if !case_ends(alloc, case, &[], case.line)? {
-        return Ok(false);
+/// What is wrong with how a case ends, with its line, or with none where the first call of the standard error fails.
+fn either_fault(alloc: Global, case: &Case) -> &'static str {
+    let told = case_fault(alloc, case, &[], case.end.line);
+    if told.is_empty() {
+        case_fault(alloc, case, &[0], "")
+    } else {
+        told
     }
-    case_ends(alloc, case, &[0], "")
-}
-
-/// Whether a text that is too long ends as it should where the first call of the standard error fails.
-fn longer_ends(alloc: Global) -> Result<bool, AllocError> {
-    let blanks = vec![in alloc; b' '; (1 << 24) + 1]?;
-    let mut source = MemorySource::new(alloc, blanks.as_slice(), 1 << 20, &[])?;
-    let mut out = MemorySink::new(alloc, 1 << 12, 1 << 12, &[])?;
-    let mut err = MemorySink::new(alloc, 1 << 10, 1 << 10, &[0])?;
-    ends_with_line(alloc, &["round"], &mut source, &mut out, &mut err, (5, ""))
 }
 
 /// One text for each answer that a short one has.
-const CASES: [Case; 5] = [
+const CASES: &[Case] = &[
     Case {
         words: &["round"],
         text: ANSWER,
         reads: &[],
         writes: &[],
-        status: 0,
-        line: "",
+        end: WELL,
     },
     Case {
         words: &[],
         text: ANSWER,
         reads: &[],
         writes: &[],
-        status: 2,
-        line: "usage: round_ll round\n",
+        end: End {
+            status: 2,
+            out: Out::Is(b""),
+            line: "usage: round_ll round\n",
+        },
     },
     Case {
         words: &["round"],
         text: ANSWER,
         reads: &[0],
         writes: &[],
-        status: 3,
-        line: "read fault\n",
+        end: FAILED_READ,
     },
     Case {
         words: &["round"],
         text: ANSWER,
         reads: &[],
         writes: &[0],
-        status: 4,
-        line: "write fault\n",
+        end: End {
+            status: 4,
+            out: Out::Is(b""),
+            line: "write fault\n",
+        },
     },
     Case {
         words: &["round"],
         text: "define",
         reads: &[],
         writes: &[],
-        status: 6,
-        line: "NotYet\n",
+        end: End {
+            status: 6,
+            out: Out::Is(b""),
+            line: "NotYet\n",
+        },
     },
 ];
 
+/// How a run ends over a text that is too long where the line cannot be written.
+const TOO_LONG: End = End {
+    status: 5,
+    out: Out::Is(b""),
+    line: "",
+};
+
 #[test]
-fn faults_of_the_standard_error_change_no_status(rt: HostRuntime) -> Result<(), Fail> {
-    for case in &CASES {
-        assert!(rt; ends_either_way(rt.alloc(), case)?, "at {}", case.status);
+fn faults_of_the_standard_error_change_no_status(rt: HostRuntime) {
+    for case in CASES {
+        let fault = either_fault(rt.alloc(), case);
+        assert!(rt; fault.is_empty(), "{fault} at {}", case.end.status);
     }
-    assert!(rt; longer_ends(rt.alloc())?, "at 5");
-    Ok(())
+    let longer = blanks_fault(rt.alloc(), LONGEST + 1, &[0], &TOO_LONG);
+    assert!(rt; longer.is_empty(), "{longer} at 5");
 }

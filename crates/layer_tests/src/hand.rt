@@ -1,6 +1,6 @@
 //! Dialect modules made by hand, each by a row of steps. No text of the form gives most of them.
 
-ghost use Rattle.std.specs.Prelude.{◌≡◌, ◌<◌, ◌≤◌, IsTrue, IfOk, IfSome, OnOk, All, Some, length};
+ghost use Rattle.std.specs.Prelude.{ℕ, ◌≡◌, ◌<◌, ◌≤◌, IsTrue, IfOk, IfSome, OnOk, All, Some, length};
 ghost use Rattle.dialect_types.specs.Trees.{type_at, type_tree, type_trees, depth, HasPartsBelow};
 ghost use Rattle.dialect_core.specs.declared.ops.OpKind.TheVariants as kinds;
 ghost use Rattle.dialect_core.specs.ContextData.{empty_context, holder_kind, is_plain, HoldsMore, IsValueWithin, IsSuccessorWithin};
@@ -85,10 +85,8 @@ fn holder(ctx: &Context, root: ModuleOp, number: usize) -> Option<OpRef>
     if number == 0 {
         return Some(root.0);
     }
-    match ctx.held_ops(root.0) {
-        Ok(ops) => ops.as_slice().get(number - 1).copied(),
-        Err(_) => None,
-    }
+    let ops = ctx.held_ops(root.0).ok()?;
+    ops.as_slice().get(number - 1).copied()
 }
 
 fn block(ctx: &Context, root: ModuleOp, at: At) -> Option<BlockRef>
@@ -104,10 +102,8 @@ fn op(ctx: &Context, root: ModuleOp, op: Op) -> Option<OpRef>
     ensures { IfSome result (λ o. o.0 < length ctx.now.ops) }
 {
     let block = block(ctx, root, (op.0, op.1))?;
-    match ctx.block_ops(block) {
-        Ok(ops) => ops.as_slice().get(op.2).copied(),
-        Err(_) => None,
-    }
+    let ops = ctx.block_ops(block).ok()?;
+    ops.as_slice().get(op.2).copied()
 }
 
 /// What an edge passes.
@@ -120,10 +116,8 @@ fn passed(alloc: Global, ctx: &Context, root: ModuleOp, value: Option<Op>) -> Op
     };
     let op = op(ctx, root, value)?;
     let mut args = Items::new(alloc);
-    match args.push(Value::Result(op)) {
-        Ok(()) => Some(args),
-        Err(_) => None,
-    }
+    args.push(Value::Result(op)).ok()?;
+    Some(args)
 }
 
 fn edge(alloc: Global, ctx: &Context, root: ModuleOp, edge: &Edge) -> Option<Successor>
@@ -142,9 +136,7 @@ fn edges(alloc: Global, ctx: &Context, root: ModuleOp, edges: &[Edge]) -> Option
     let mut successors = Vec::new(alloc);
     for to in edges {
         let successor = edge(alloc, ctx, root, to)?;
-        if successors.push(successor).is_err() {
-            return None;
-        }
+        successors.push(successor).ok()?;
     }
     Some(successors)
 }
@@ -227,6 +219,23 @@ fn add_block(
         Ok(_) => Some(()),
         Err(_) => None,
     }
+}
+
+/// A new last block with a label.
+fn add_label(
+    alloc: Global,
+    ctx: &mut Context,
+    root: ModuleOp,
+    number: usize,
+    label: &Name,
+) -> Option<()>
+    requires typed { IsTyped ctx.old }
+    requires root { root.0.0 < length ctx.old.ops }
+    ensures typed { IfSome result (λ _. IsTyped ctx.new) }
+    ensures more { IfSome result (λ _. length ctx.old.ops ≤ length ctx.new.ops) }
+{
+    let label = identifier(alloc, label)?;
+    add_block(ctx, root, number, Some(label))
 }
 
 fn add_argument(ctx: &mut Context, root: ModuleOp, at: At) -> Option<()>
@@ -326,16 +335,18 @@ fn place<L: Ledger>(
 
 fn constant<L: Ledger>(
     ctx: &mut Context,
-    block: BlockRef,
+    root: ModuleOp,
+    at: At,
     width: u32,
     value: u64,
     steps: &mut Steps<L>,
 ) -> Option<()>
     requires typed { IsTyped ctx.old }
-    requires block { block.0 < length ctx.old.blocks }
+    requires root { root.0.0 < length ctx.old.ops }
     ensures typed { IfSome result (λ _. IsTyped ctx.new) }
     ensures more { IfSome result (λ _. length ctx.old.ops ≤ length ctx.new.ops) }
 {
+    let block = block(ctx, root, at)?;
     let ty = int(ctx, width)?;
     let kind = OpKind::Constant(ConstAttr::Integer(ty, value));
     place(ctx, block, kind, &[], &[], Some(ty), steps)
@@ -343,22 +354,23 @@ fn constant<L: Ledger>(
 
 fn double<L: Ledger>(
     ctx: &mut Context,
-    block: BlockRef,
-    op: OpRef,
+    root: ModuleOp,
+    at: At,
+    operand: Op,
     steps: &mut Steps<L>,
 ) -> Option<()>
     requires typed { IsTyped ctx.old }
-    requires block { block.0 < length ctx.old.blocks }
-    requires op { op.0 < length ctx.old.ops }
+    requires root { root.0.0 < length ctx.old.ops }
     ensures typed { IfSome result (λ _. IsTyped ctx.new) }
     ensures more { IfSome result (λ _. length ctx.old.ops ≤ length ctx.new.ops) }
 {
+    let block = block(ctx, root, at)?;
+    let value = Value::Result(op(ctx, root, operand)?);
     let ty = int(ctx, 64)?;
     let flags = IntegerOverflowFlagsAttr {
         nsw: false,
         nuw: false,
     };
-    let value = Value::Result(op);
     place(
         ctx,
         block,
@@ -370,12 +382,54 @@ fn double<L: Ledger>(
     )
 }
 
-/// A branch, on a result or on none, or a return of nothing.
+/// Names the result of an operation.
+fn set_name(alloc: Global, ctx: &mut Context, root: ModuleOp, named: Op, name: &Name) -> Option<()>
+    requires typed { IsTyped ctx.old }
+    requires root { root.0.0 < length ctx.old.ops }
+    ensures typed { IfSome result (λ _. IsTyped ctx.new) }
+    ensures more { IfSome result (λ _. length ctx.old.ops ≤ length ctx.new.ops) }
+{
+    let op = op(ctx, root, named)?;
+    ctx.set_name(op, identifier(alloc, name)?).ok()
+}
+
+/// A branch, on a result or on none, or a return of nothing: by where it leads.
+fn end_kind(has_condition: bool, leads_on: bool) -> OpKind
+    ensures plain { IsTrue (is_plain result) }
+    ensures types { (n : ℕ) → HasKindTypesBelow n result }
+{
+    if has_condition {
+        OpKind::CondBr
+    } else if leads_on {
+        OpKind::Br
+    } else {
+        OpKind::Return
+    }
+}
+
+/// A last operation of a block, with its operands, that leads to these.
+fn end_at<L: Ledger>(
+    ctx: &mut Context,
+    block: BlockRef,
+    operands: &[Value],
+    to: &[Successor],
+    steps: &mut Steps<L>,
+) -> Option<()>
+    requires typed { IsTyped ctx.old }
+    requires block { block.0 < length ctx.old.blocks }
+    requires operands { All (IsValueWithin (length ctx.old.ops) (length ctx.old.blocks)) operands.now }
+    requires to { All (IsSuccessorWithin (length ctx.old.ops) (length ctx.old.blocks)) to.now }
+    ensures typed { IfSome result (λ _. IsTyped ctx.new) }
+    ensures more { IfSome result (λ _. length ctx.old.ops ≤ length ctx.new.ops) }
+{
+    let kind = end_kind(!operands.is_empty(), !to.is_empty());
+    place(ctx, block, kind, operands, to, None, steps)
+}
+
 fn end<L: Ledger>(
     alloc: Global,
     ctx: &mut Context,
     root: ModuleOp,
-    kind: OpKind,
     at: At,
     condition: Option<Op>,
     to: &[Edge],
@@ -383,21 +437,17 @@ fn end<L: Ledger>(
 ) -> Option<()>
     requires typed { IsTyped ctx.old }
     requires root { root.0.0 < length ctx.old.ops }
-    requires plain { IsTrue (is_plain kind) }
-    requires types { HasKindTypesBelow (length ctx.old.types) kind }
     ensures typed { IfSome result (λ _. IsTyped ctx.new) }
     ensures more { IfSome result (λ _. length ctx.old.ops ≤ length ctx.new.ops) }
 {
     let block = block(ctx, root, at)?;
     let operands = passed(alloc, ctx, root, condition)?;
     let successors = edges(alloc, ctx, root, to)?;
-    place(
+    end_at(
         ctx,
         block,
-        kind,
         operands.as_slice(),
         successors.as_slice(),
-        None,
         steps,
     )
 }
@@ -419,39 +469,17 @@ fn take<L: Ledger>(
 {
     match step {
         Step::Block(number) => add_block(ctx, root, *number, None),
-        Step::Label(number, label) => {
-            let label = identifier(alloc, label)?;
-            add_block(ctx, root, *number, Some(label))
-        }
+        Step::Label(number, label) => add_label(alloc, ctx, root, *number, label),
         Step::Func(name, linkage) => add_func(alloc, ctx, root, name, *linkage, steps),
         Step::Argument(at) => add_argument(ctx, root, *at),
-        Step::Constant(at, width, value) => {
-            let block = block(ctx, root, *at)?;
-            constant(ctx, block, *width, *value, steps)
-        }
-        Step::Double(at, value) => {
-            let block = block(ctx, root, *at)?;
-            let op = op(ctx, root, *value)?;
-            double(ctx, block, op, steps)
-        }
-        Step::Named(named, name) => {
-            let op = op(ctx, root, *named)?;
-            ctx.set_name(op, identifier(alloc, name)?).ok()
-        }
-        Step::Br(at, to) => end(alloc, ctx, root, OpKind::Br, *at, None, &[*to], steps),
+        Step::Constant(at, width, value) => constant(ctx, root, *at, *width, *value, steps),
+        Step::Double(at, operand) => double(ctx, root, *at, *operand, steps),
+        Step::Named(op, name) => set_name(alloc, ctx, root, *op, name),
+        Step::Br(at, to) => end(alloc, ctx, root, *at, None, &[*to], steps),
         Step::CondBr(at, condition, yes, no) => {
-            end(
-                alloc,
-                ctx,
-                root,
-                OpKind::CondBr,
-                *at,
-                Some(*condition),
-                &[*yes, *no],
-                steps,
-            )
+            end(alloc, ctx, root, *at, Some(*condition), &[*yes, *no], steps)
         }
-        Step::Return(at) => end(alloc, ctx, root, OpKind::Return, *at, None, &[], steps),
+        Step::Return(at) => end(alloc, ctx, root, *at, None, &[], steps),
     }
 }
 
@@ -474,6 +502,33 @@ fn take_all<L: Ledger>(
     Some(())
 }
 
+/// A module in an empty context, with nothing in it.
+fn start(alloc: Global, ctx: &mut Context) -> Option<ModuleOp>
+    requires empty { ctx.old ≡ empty_context }
+    ensures typed { IfSome result (λ _. IsTyped ctx.new) }
+    ensures there { IfSome result (λ root. root.0.0 < length ctx.new.ops) }
+{
+    ctx.create_module(identifier(alloc, &Name::M)?).ok()
+}
+
+/// Takes the steps of two rows in an empty context.
+fn take_rows<L: Ledger>(
+    alloc: Global,
+    ctx: &mut Context,
+    first: &[Step],
+    then: &[Step],
+    steps: &mut Steps<L>,
+) -> Option<ModuleOp>
+    requires empty { ctx.old ≡ empty_context }
+    ensures typed { IfSome result (λ _. IsTyped ctx.new) }
+    ensures there { IfSome result (λ root. root.0.0 < length ctx.new.ops) }
+{
+    let root = start(alloc, ctx)?;
+    take_all(alloc, ctx, root, first, steps)?;
+    take_all(alloc, ctx, root, then, steps)?;
+    Some(root)
+}
+
 /// A module in an empty context, by the steps of two rows.
 pub fn make<L: Ledger>(
     alloc: Global,
@@ -490,11 +545,5 @@ pub fn make<L: Ledger>(
     ensures there { IfSome result (λ root. root.0.0 < length ctx.new.ops) }
 {
     let mut steps = Steps::<L>::new(blank);
-    let name = identifier(alloc, &Name::M)?;
-    let Ok(root) = ctx.create_module(name) else {
-        return None;
-    };
-    take_all(alloc, ctx, root, first, &mut steps)?;
-    take_all(alloc, ctx, root, then, &mut steps)?;
-    Some(root)
+    take_rows(alloc, ctx, first, then, &mut steps)
 }

@@ -29,3 +29,5 @@ mod rules;
 mod runs;
 #[cfg(test)]
 mod traces;
+#[cfg(test)]
+mod words;

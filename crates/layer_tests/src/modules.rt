@@ -4,6 +4,7 @@ ghost use Rattle.std.specs.Prelude.{◌≡◌, ◌<◌, ◌≤◌, ◌^◌, All,
 ghost use Rattle.llvm_core.specs.declared.types.LLVMTypeKind.TheVariants as kinds;
 ghost use Rattle.llvm_core.specs.Parts.{IsBlock, IsValue, HasValues};
 
+use crate::words::{number, word};
 use llvm_core::check_err::CheckErr;
 use llvm_core::checking::check;
 use llvm_core::code::{LLVMInst, LLVMIntPredicate, LLVMValue, OverflowFlags};
@@ -76,14 +77,62 @@ const FORK: &str =
 
 // ---- what words name: None says that it is not there
 
-/// The next word, empty behind the last.
-fn word<'a>(words: &mut SplitWhitespace<'a>) -> &'a str {
-    words.next().unwrap_or("")
+/// A word that says what a call, an instruction or a value is.
+#[derive(Clone, Copy)]
+enum Keyword {
+    Int,
+    Void,
+    TakesVoid,
+    Name,
+    Block,
+    In,
+    Entry,
+    Add,
+    ICmp,
+    Phi,
+    Br,
+    Cond,
+    Ret,
+    RetVoid,
+    Unreachable,
+    Zero,
+    Hole,
+    Param,
+    Result,
 }
 
-/// The number that the next word is, and one that nothing has where it is none.
-fn number(words: &mut SplitWhitespace<'_>) -> u32 {
-    word(words).parse::<u32>().unwrap_or(u32::MAX)
+/// How each is written.
+const KEYWORDS: &[(&str, Keyword)] = &[
+    ("int", Keyword::Int),
+    ("void", Keyword::Void),
+    ("takes_void", Keyword::TakesVoid),
+    ("name", Keyword::Name),
+    ("block", Keyword::Block),
+    ("in", Keyword::In),
+    ("entry", Keyword::Entry),
+    ("add", Keyword::Add),
+    ("icmp", Keyword::ICmp),
+    ("phi", Keyword::Phi),
+    ("br", Keyword::Br),
+    ("cond", Keyword::Cond),
+    ("ret", Keyword::Ret),
+    ("ret_void", Keyword::RetVoid),
+    ("unreachable", Keyword::Unreachable),
+    ("zero", Keyword::Zero),
+    ("hole", Keyword::Hole),
+    ("param", Keyword::Param),
+    ("result", Keyword::Result),
+];
+
+/// The keyword that the next word is.
+fn next_keyword(words: &mut SplitWhitespace<'_>) -> Option<Keyword> {
+    let word = word(words);
+    for (text, keyword) in KEYWORDS {
+        if *text == word {
+            return Some(*keyword);
+        }
+    }
+    None
 }
 
 fn name<'a>(words: &mut SplitWhitespace<'a>) -> &'a str {
@@ -94,7 +143,7 @@ fn name<'a>(words: &mut SplitWhitespace<'a>) -> &'a str {
 fn function(m: &LLVMModule, words: &mut SplitWhitespace<'_>) -> Option<LLVMFunction>
     ensures { IfSome result (λ f. f.0 < length m.now.functions) }
 {
-    let f = number(words);
+    let f = number(words)?;
     if f < m.functions() {
         Some(LLVMFunction(f))
     } else {
@@ -106,21 +155,23 @@ fn block(m: &LLVMModule, words: &mut SplitWhitespace<'_>) -> Option<LLVMBasicBlo
     ensures { IfSome result (IsBlock m.now) }
 {
     let f = function(m, words)?;
-    m.blocks(f).get(number(words) as usize).copied()
+    let place = number(words)?;
+    m.blocks(f).get(place as usize).copied()
 }
 
 fn result(m: &LLVMModule, words: &mut SplitWhitespace<'_>) -> Option<LLVMInstRef>
     ensures { IfSome result (λ i. i.0 < length m.now.insts) }
 {
     let block = block(m, words)?;
-    m.instructions(block).get(number(words) as usize).copied()
+    let place = number(words)?;
+    m.instructions(block).get(place as usize).copied()
 }
 
 fn param(m: &LLVMModule, words: &mut SplitWhitespace<'_>) -> Option<LLVMValue>
     ensures { IfSome result (IsValue m.now) }
 {
     let f = function(m, words)?;
-    let place = number(words);
+    let place = number(words)?;
     match m.type_kind(m.function_type(f)) {
         LLVMTypeKind::Function { params, .. } if (place as usize) < params.as_slice().len() => {
             Some(LLVMValue::Param(f, place))
@@ -155,10 +206,8 @@ fn constant(m: &mut LLVMModule, width: u32, is_hole: bool) -> Option<LLVMValue>
     } else {
         LLVMConstKind::Int(int, 0)
     };
-    match m.const_get(kind) {
-        Ok(constant) => Some(LLVMValue::Const(constant)),
-        Err(_) => None,
-    }
+    let constant = m.const_get(kind).ok()?;
+    Some(LLVMValue::Const(constant))
 }
 
 fn value(m: &mut LLVMModule, words: &mut SplitWhitespace<'_>) -> Option<LLVMValue>
@@ -166,11 +215,11 @@ fn value(m: &mut LLVMModule, words: &mut SplitWhitespace<'_>) -> Option<LLVMValu
     ensures blocks { m.new.blocks ≡ m.old.blocks }
     ensures kept { (v : LLVMValue) → IsValue m.old v → IsValue m.new v }
 {
-    match word(words) {
-        "zero" => constant(m, number(words), false),
-        "hole" => constant(m, 64, true),
-        "param" => param(m, words),
-        "result" => Some(LLVMValue::Inst(result(m, words)?)),
+    match next_keyword(words)? {
+        Keyword::Zero => constant(m, number(words)?, false),
+        Keyword::Hole => constant(m, 64, true),
+        Keyword::Param => param(m, words),
+        Keyword::Result => Some(LLVMValue::Inst(result(m, words)?)),
         _ => None,
     }
 }
@@ -185,7 +234,7 @@ fn values(m: &mut LLVMModule, words: &mut SplitWhitespace<'_>) -> Option<(LLVMVa
     Some((lhs, rhs))
 }
 
-// ---- calls: each says whether it was done
+// ---- calls: None says that one was not done
 
 fn cond(m: &mut LLVMModule, words: &mut SplitWhitespace<'_>) -> Option<LLVMInst>
     ensures values { IfSome result (HasValues m.new) }
@@ -201,8 +250,8 @@ fn inst(alloc: Global, m: &mut LLVMModule, words: &mut SplitWhitespace<'_>) -> O
     ensures values { IfSome result (HasValues m.new) }
     ensures blocks { m.new.blocks ≡ m.old.blocks }
 {
-    match word(words) {
-        "add" => {
+    match next_keyword(words)? {
+        Keyword::Add => {
             let (lhs, rhs) = values(m, words)?;
             let flags = OverflowFlags {
                 nuw: false,
@@ -210,25 +259,25 @@ fn inst(alloc: Global, m: &mut LLVMModule, words: &mut SplitWhitespace<'_>) -> O
             };
             Some(LLVMInst::Add(lhs, rhs, flags))
         }
-        "icmp" => {
+        Keyword::ICmp => {
             let (lhs, rhs) = values(m, words)?;
             Some(LLVMInst::ICmp(lhs, rhs, LLVMIntPredicate::LLVMIntEQ))
         }
-        "phi" => {
+        Keyword::Phi => {
             let int = int(m, 64)?;
             Some(LLVMInst::Phi(int, Items::new(alloc)))
         }
-        "br" => Some(LLVMInst::Br(block(m, words)?)),
-        "cond" => cond(m, words),
-        "ret" => Some(LLVMInst::Ret(Some(value(m, words)?))),
-        "ret_void" => Some(LLVMInst::Ret(None)),
-        "unreachable" => Some(LLVMInst::Unreachable),
+        Keyword::Br => Some(LLVMInst::Br(block(m, words)?)),
+        Keyword::Cond => cond(m, words),
+        Keyword::Ret => Some(LLVMInst::Ret(Some(value(m, words)?))),
+        Keyword::RetVoid => Some(LLVMInst::Ret(None)),
+        Keyword::Unreachable => Some(LLVMInst::Unreachable),
         _ => None,
     }
 }
 
 /// A new last instruction of a block, with its name where it has a result.
-fn build(m: &mut LLVMModule, block: LLVMBasicBlock, inst: LLVMInst, name: &str) -> bool
+fn build(m: &mut LLVMModule, block: LLVMBasicBlock, inst: LLVMInst, name: &str) -> Option<()>
     requires block { block.0 < length m.old.blocks }
     requires values { HasValues m.old inst }
 {
@@ -237,43 +286,36 @@ fn build(m: &mut LLVMModule, block: LLVMBasicBlock, inst: LLVMInst, name: &str) 
     } else {
         ""
     };
-    m.build(block, inst, name).is_ok()
+    m.build(block, inst, name).ok()?;
+    Some(())
 }
 
-fn add_inst(alloc: Global, m: &mut LLVMModule, words: &mut SplitWhitespace<'_>) -> bool {
-    let Some(block) = block(m, words) else {
-        return false;
-    };
-    let Some(inst) = inst(alloc, m, words) else {
-        return false;
-    };
+fn add_inst(alloc: Global, m: &mut LLVMModule, words: &mut SplitWhitespace<'_>) -> Option<()> {
+    let block = block(m, words)?;
+    let inst = inst(alloc, m, words)?;
     build(m, block, inst, name(words))
 }
 
-fn add_entry(m: &mut LLVMModule, words: &mut SplitWhitespace<'_>) -> bool {
-    let Some(value) = value(m, words) else {
-        return false;
-    };
-    let (Some(block), Some(phi)) = (block(m, words), result(m, words)) else {
-        return false;
-    };
+fn add_entry(m: &mut LLVMModule, words: &mut SplitWhitespace<'_>) -> Option<()> {
+    let value = value(m, words)?;
+    let block = block(m, words)?;
+    let phi = result(m, words)?;
     match m.inst(phi) {
-        LLVMInst::Phi(..) => m.add_incoming(phi, value, block).is_ok(),
-        _ => false,
+        LLVMInst::Phi(..) => m.add_incoming(phi, value, block).ok(),
+        _ => None,
     }
 }
 
-fn add_block(m: &mut LLVMModule, words: &mut SplitWhitespace<'_>) -> bool {
-    match function(m, words) {
-        Some(f) => m.append_block(f, name(words)).is_ok(),
-        None => false,
-    }
+fn add_block(m: &mut LLVMModule, words: &mut SplitWhitespace<'_>) -> Option<()> {
+    let f = function(m, words)?;
+    m.append_block(f, name(words)).ok()?;
+    Some(())
 }
 
-fn set_name(m: &mut LLVMModule, words: &mut SplitWhitespace<'_>) -> bool {
-    match param(m, words) {
-        Some(LLVMValue::Param(f, place)) => m.set_param_name(f, place, name(words)).is_ok(),
-        _ => false,
+fn set_name(m: &mut LLVMModule, words: &mut SplitWhitespace<'_>) -> Option<()> {
+    match param(m, words)? {
+        LLVMValue::Param(f, place) => m.set_param_name(f, place, name(words)).ok(),
+        _ => None,
     }
 }
 
@@ -284,67 +326,67 @@ fn add_function(
     space: u32,
     ty: LLVMType,
     params: &[LLVMType],
-) -> bool
+) -> Option<()>
     requires returned { ty.0 < length m.old.types }
     requires params { All (λ t. t.0 < length m.old.types) params.now }
 {
-    let Ok(params) = params.to_vec(alloc) else {
-        return false;
-    };
+    let params = params.to_vec(alloc).ok()?;
     let kind = LLVMTypeKind::Function {
         result: ty,
         params: Items::from_vec(params),
         variadic: false,
     };
-    match m.type_get(kind) {
-        Ok(ty) => m.add_function(name, ty, space).is_ok(),
-        Err(_) => false,
+    let ty = m.type_get(kind).ok()?;
+    m.add_function(name, ty, space).ok()?;
+    Some(())
+}
+
+/// What a function returns, by the word that begins its call: an integer of this width, or void.
+fn returned(m: &mut LLVMModule, sort: Keyword, width: u32) -> Option<LLVMType>
+    ensures { IfSome result (λ t. t.0 < length m.new.types) }
+{
+    match sort {
+        Keyword::Int => int(m, width),
+        _ => m.type_get(LLVMTypeKind::Void).ok(),
     }
 }
 
-fn add_int(alloc: Global, m: &mut LLVMModule, words: &mut SplitWhitespace<'_>) -> bool {
-    let name = name(words);
-    match int(m, number(words)) {
-        Some(int) => add_function(alloc, m, name, 0, int, &[int, int]),
-        None => false,
-    }
-}
-
-fn add_void(
+/// A function, by the word that begins its call.
+fn add_sort(
     alloc: Global,
     m: &mut LLVMModule,
     words: &mut SplitWhitespace<'_>,
-    takes_void: bool,
-) -> bool {
+    sort: Keyword,
+) -> Option<()> {
     let name = name(words);
-    let space = number(words);
-    match m.type_get(LLVMTypeKind::Void) {
-        Ok(void) if takes_void => add_function(alloc, m, name, space, void, &[void]),
-        Ok(void) => add_function(alloc, m, name, space, void, &[]),
-        Err(_) => false,
+    let number = number(words)?;
+    let ty = returned(m, sort, number)?;
+    match sort {
+        Keyword::Int => add_function(alloc, m, name, 0, ty, &[ty, ty]),
+        Keyword::TakesVoid => add_function(alloc, m, name, number, ty, &[ty]),
+        _ => add_function(alloc, m, name, number, ty, &[]),
     }
 }
 
-fn call(alloc: Global, m: &mut LLVMModule, words: &mut SplitWhitespace<'_>) -> bool {
-    match word(words) {
-        "int" => add_int(alloc, m, words),
-        "void" => add_void(alloc, m, words, false),
-        "takes_void" => add_void(alloc, m, words, true),
-        "name" => set_name(m, words),
-        "block" => add_block(m, words),
-        "in" => add_inst(alloc, m, words),
-        "entry" => add_entry(m, words),
-        _ => false,
-    }
-}
-
-fn make(alloc: Global, m: &mut LLVMModule, calls: &str) -> bool {
-    for text in calls.split(';') {
-        if !call(alloc, m, &mut text.split_whitespace()) {
-            return false;
+fn call(alloc: Global, m: &mut LLVMModule, words: &mut SplitWhitespace<'_>) -> Option<()> {
+    match next_keyword(words)? {
+        Keyword::Name => set_name(m, words),
+        Keyword::Block => add_block(m, words),
+        Keyword::In => add_inst(alloc, m, words),
+        Keyword::Entry => add_entry(m, words),
+        sort @ (Keyword::Int | Keyword::Void | Keyword::TakesVoid) => {
+            add_sort(alloc, m, words, sort)
         }
+        _ => None,
     }
-    true
+}
+
+/// Makes the calls of a text.
+fn make(alloc: Global, m: &mut LLVMModule, calls: &str) -> Option<()> {
+    for text in calls.split(';') {
+        call(alloc, m, &mut text.split_whitespace())?;
+    }
+    Some(())
 }
 
 // ---- what the check answers
@@ -366,37 +408,48 @@ fn is_answer(alloc: Global, m: &LLVMModule, want: &str) -> bool {
 }
 
 /// Makes a module by calls, of which `fork` stands for those of `FORK`.
-fn make_row(alloc: Global, m: &mut LLVMModule, calls: &str) -> bool {
+fn make_row(alloc: Global, m: &mut LLVMModule, calls: &str) -> Option<()> {
     match calls.strip_prefix(" fork;") {
-        Some(rest) => make(alloc, m, FORK) && make(alloc, m, rest),
+        Some(rest) => {
+            make(alloc, m, FORK)?;
+            make(alloc, m, rest)
+        }
         None => make(alloc, m, calls),
     }
 }
 
-/// Whether the check answers to a module, once these calls were made, what is wanted.
-fn answers(alloc: Global, m: &mut LLVMModule, want: &str, calls: &str) -> bool {
-    make_row(alloc, m, calls) && is_answer(alloc, m, want)
-}
-
-/// Whether the check answers to the module that these calls make what is wanted.
-fn is_answered(alloc: Global, want: &str, calls: &str) -> bool {
-    match LLVMModule::new(alloc, "m") {
-        Ok(mut m) => answers(alloc, &mut m, want, calls),
-        Err(_) => false,
+/// What is wrong with a row: with its calls, which make a module in an empty one, or with what the check answers to that.
+fn fault_in(alloc: Global, m: &mut LLVMModule, want: &str, calls: &str) -> &'static str {
+    if make_row(alloc, m, calls).is_none() {
+        return "not made";
+    }
+    if is_answer(alloc, m, want) {
+        ""
+    } else {
+        "answered otherwise"
     }
 }
 
-/// Whether the check answers to the module of a row what the row says.
-fn holds(alloc: Global, row: &str) -> bool {
+/// What is wrong with an answer and the calls of its module, if anything.
+fn fault_of(alloc: Global, want: &str, calls: &str) -> &'static str {
+    match LLVMModule::new(alloc, "m") {
+        Ok(mut m) => fault_in(alloc, &mut m, want, calls),
+        Err(_) => "no memory",
+    }
+}
+
+/// What is wrong with a row, if anything.
+fn fault(alloc: Global, row: &str) -> &'static str {
     match row.split_once(':') {
-        Some((want, calls)) => is_answered(alloc, want, calls),
-        None => false,
+        Some((want, calls)) => fault_of(alloc, want, calls),
+        None => "no answer",
     }
 }
 
 #[test]
 fn answers_each_row(rt: HostRuntime) {
     for row in ROWS.lines() {
-        assert!(rt; holds(rt.alloc(), row), "at {row}");
+        let fault = fault(rt.alloc(), row);
+        assert!(rt; fault.is_empty(), "{fault}: {row}");
     }
 }

@@ -1,13 +1,54 @@
 //! How the program ends over other words and over long texts. What it prints of short ones, the crate `row_tests` holds.
 
+ghost use Rattle.std.specs.Prelude.{◌<◌};
+
 use round_ll::ended::Ended;
 use round_ll::outside::{MemorySink, MemorySource};
 use round_ll::run::run;
 use std::alloc::{AllocError, Global};
-use std::test::Fail;
+
+// ---- a run, and what is wrong with how it ends
+
+/// How many bytes a call moves at most, and the calls that fail, counted from 0.
+pub type Calls<'a> = (usize, &'a [u32]);
+
+/// Calls of which none fails.
+pub const SURE: Calls<'static> = (1 << 20, &[]);
+
+/// A run of the program.
+#[derive(Clone, Copy)]
+pub struct Run<'a> {
+    /// The words of the command line.
+    pub words: &'a [&'a str],
+    /// What stands on the source.
+    pub text: &'a [u8],
+    /// The reads of it.
+    pub reads: Calls<'a>,
+    /// The calls of the standard error that fail.
+    pub complaints: &'a [u32],
+}
+
+/// How a run is to end: its status, and what is then on the output and on the standard error.
+#[derive(Clone, Copy)]
+pub struct End<'a> {
+    pub status: u8,
+    pub out: Out<'a>,
+    pub line: &'a str,
+}
+
+/// What is on the output.
+#[derive(Clone, Copy)]
+pub enum Out<'a> {
+    /// This.
+    Is(&'a [u8]),
+    /// What ends with this.
+    EndsWith(&'a [u8]),
+    /// What ends with this, where the module back has so many functions and types.
+    Of(u32, u32, &'a [u8]),
+}
 
 /// The words of a command line.
-pub fn words_of(alloc: Global, words: &[&str]) -> Result<Vec<String>, AllocError> {
+fn words_of(alloc: Global, words: &[&str]) -> Result<Vec<String>, AllocError> {
     let mut owned = Vec::new(alloc);
     for word in words {
         owned.push(String::from_str(alloc, word)?)?;
@@ -15,38 +56,94 @@ pub fn words_of(alloc: Global, words: &[&str]) -> Result<Vec<String>, AllocError
     Ok(owned)
 }
 
-/// Runs the program over a text in memory.
+/// Whether the module back has so many functions and types.
+fn has_back(ended: &Ended, functions: u32, types: u32) -> bool {
+    match ended {
+        Ended::Done(t) => t.back.functions() == functions && t.back.types() == types,
+        _ => false,
+    }
+}
+
+/// Whether this is on the output after a run.
+fn is_out(ended: &Ended, out: &[u8], want: Out<'_>) -> bool {
+    match want {
+        Out::Is(text) => out == text,
+        Out::EndsWith(text) => out.ends_with(text),
+        Out::Of(functions, types, text) => {
+            out.ends_with(text) && has_back(ended, functions, types)
+        }
+    }
+}
+
+/// What is wrong with how a run ended, if anything.
+fn fault_of(ended: &Ended, out: &[u8], line: &[u8], end: &End<'_>) -> &'static str {
+    if ended.status() != end.status {
+        "another status"
+    } else if !is_out(ended, out, end.out) {
+        "another output"
+    } else if line != end.line.as_bytes() {
+        "another line"
+    } else {
+        ""
+    }
+}
+
+/// What is wrong with how a run over this output ends.
 fn run_over(
     alloc: Global,
-    words: &[&str],
-    text: &[u8],
+    given: &Run<'_>,
     out: &mut MemorySink,
-    err: &mut MemorySink,
-) -> Result<Ended, AllocError> {
-    let words = words_of(alloc, words)?;
-    let mut source = MemorySource::new(alloc, text, 1 << 20, &[])?;
-    Ok(run(alloc, words.as_slice(), &mut source, out, err))
+    end: &End<'_>,
+) -> Result<&'static str, AllocError>
+    requires { 0 < given.now.reads.0 }
+{
+    let words = words_of(alloc, given.words)?;
+    let mut source = MemorySource::new(alloc, given.text, given.reads.0, given.reads.1)?;
+    let mut err = MemorySink::new(alloc, 1 << 10, 1 << 10, given.complaints)?;
+    let ended = run(alloc, words.as_slice(), &mut source, out, &mut err);
+    Ok(fault_of(&ended, out.bytes(), err.bytes(), end))
 }
 
-/// Whether a run over a text ends with this status, and this output and line.
-fn ends(
+/// What is wrong with how a run over this output ends, if anything.
+pub fn fault_over(
     alloc: Global,
-    words: &[&str],
-    text: &[u8],
-    want: (u8, &str, &str),
-) -> Result<bool, AllocError> {
-    let mut out = MemorySink::new(alloc, 1 << 20, 1 << 20, &[])?;
-    let mut err = MemorySink::new(alloc, 1 << 10, 1 << 10, &[])?;
-    let status = run_over(alloc, words, text, &mut out, &mut err)?.status();
-    Ok(status == want.0 && out.bytes() == want.1.as_bytes() && err.bytes() == want.2.as_bytes())
+    given: &Run<'_>,
+    out: &mut MemorySink,
+    end: &End<'_>,
+) -> &'static str
+    requires { 0 < given.now.reads.0 }
+{
+    run_over(alloc, given, out, end).unwrap_or("no memory")
 }
 
-const EMPTY_OUT: &str = "builtin.module @_ {
+/// What is wrong with how a run ends over an output of these calls, if anything.
+pub fn fault(alloc: Global, given: &Run<'_>, writes: Calls<'_>, end: &End<'_>) -> &'static str
+    requires reads { 0 < given.now.reads.0 }
+    requires writes { 0 < writes.0 }
+{
+    match MemorySink::new(alloc, 1 << 24, writes.0, writes.1) {
+        Ok(mut out) => fault_over(alloc, given, &mut out, end),
+        Err(_) => "no memory",
+    }
 }
-;; llvm
-source_filename = \"_\"
-;; report
-";
+
+/// What is wrong with how `round` ends over a text where only these calls of the standard error fail, if anything.
+fn round_fault<'a>(
+    alloc: Global,
+    text: &'a [u8],
+    complaints: &'a [u32],
+    end: &End<'_>,
+) -> &'static str {
+    let given = Run {
+        words: &["round"],
+        text,
+        reads: SURE,
+        complaints,
+    };
+    fault(alloc, &given, SURE, end)
+}
+
+// ---- other words
 
 /// A function that returns 7.
 pub const ANSWER: &str = "define i32 @f() {
@@ -54,115 +151,160 @@ pub const ANSWER: &str = "define i32 @f() {
 }
 ";
 
-/// Whether words are answered as a faulty command line.
-fn is_usage(alloc: Global, words: &[&str]) -> Result<bool, AllocError> {
-    ends(
-        alloc,
+/// What is wrong with how a run of words that are no command ends, if anything.
+fn usage_fault(alloc: Global, words: &[&str]) -> &'static str {
+    let given = Run {
         words,
-        ANSWER.as_bytes(),
-        (2, "", "usage: round_ll round\n"),
-    )
+        text: ANSWER.as_bytes(),
+        reads: SURE,
+        complaints: &[],
+    };
+    let end = End {
+        status: 2,
+        out: Out::Is(b""),
+        line: "usage: round_ll round\n",
+    };
+    fault(alloc, &given, SURE, &end)
 }
+
+/// Words that are no command.
+const OTHERS: &[&[&str]] = &[&[], &["around"], &["round", "round"]];
 
 #[test]
-fn other_words_are_a_faulty_command_line(rt: HostRuntime) -> Result<(), Fail> {
-    assert!(rt; is_usage(rt.alloc(), &[])?);
-    assert!(rt; is_usage(rt.alloc(), &["around"])?);
-    assert!(rt; is_usage(rt.alloc(), &["round", "round"])?);
-    Ok(())
+fn other_words_are_a_faulty_command_line(rt: HostRuntime) {
+    for words in OTHERS {
+        let fault = usage_fault(rt.alloc(), words);
+        assert!(rt; fault.is_empty(), "{fault} after {words:?}");
+    }
 }
 
-/// Whether so many blanks are answered so.
-fn blanks_end(alloc: Global, count: usize, want: (u8, &str, &str)) -> Result<bool, AllocError> {
-    let blanks = vec![in alloc; b' '; count]?;
-    ends(alloc, &["round"], blanks.as_slice(), want)
+// ---- the longest text
+
+const EMPTY_OUT: &[u8] = b"builtin.module @_ {
 }
+;; llvm
+source_filename = \"_\"
+;; report
+";
+
+/// The most bytes that a text may have.
+pub const LONGEST: usize = 1 << 24;
+
+/// What is wrong with how `round` ends over so many blanks, where these calls of the standard error fail.
+pub fn blanks_fault(
+    alloc: Global,
+    count: usize,
+    complaints: &[u32],
+    end: &End<'_>,
+) -> &'static str {
+    match vec![in alloc; b' '; count] {
+        Ok(blanks) => round_fault(alloc, blanks.as_slice(), complaints, end),
+        Err(_) => "no memory",
+    }
+}
+
+/// How it ends over the longest text, and over one byte more.
+const LONG_ENDS: &[(usize, End)] = &[
+    (
+        LONGEST,
+        End {
+            status: 0,
+            out: Out::Is(EMPTY_OUT),
+            line: "",
+        },
+    ),
+    (
+        LONGEST + 1,
+        End {
+            status: 5,
+            out: Out::Is(b""),
+            line: "input longer than 16777216 bytes\n",
+        },
+    ),
+];
 
 #[test]
-fn the_longest_text_goes_round_and_one_byte_more_does_not(rt: HostRuntime) -> Result<(), Fail> {
-    let longest = blanks_end(rt.alloc(), 1 << 24, (0, EMPTY_OUT, ""))?;
-    assert!(rt; longest);
-    let line = "input longer than 16777216 bytes\n";
-    let longer = blanks_end(rt.alloc(), (1 << 24) + 1, (5, "", line))?;
-    assert!(rt; longer);
-    Ok(())
+fn the_longest_text_goes_round_and_one_byte_more_does_not(rt: HostRuntime) {
+    for (count, end) in LONG_ENDS {
+        let fault = blanks_fault(rt.alloc(), *count, &[], end);
+        assert!(rt; fault.is_empty(), "{fault} at {count}");
+    }
 }
+
+// ---- many functions, and a long chain of blocks
 
 /// How many functions share their types and their constant.
 const MANY: u32 = 1000;
 
+/// Appends a function of that number.
+fn push_function(alloc: Global, text: &mut String, number: u32) -> Result<(), AllocError> {
+    let function = format!(in alloc;
+        "define i32 @f{number}(i32 %a) {{ %x = add i32 %a, 7 ret i32 %x }}\n"
+    )?;
+    text.push_str(function.as_str())
+}
+
 /// A text of many functions.
 fn many_functions(alloc: Global) -> Result<String, AllocError> {
     let mut text = String::new(alloc);
-    for k in 0..MANY {
-        let function = format!(in alloc;
-            "define i32 @f{k}(i32 %a) {{ %x = add i32 %a, 7 ret i32 %x }}\n"
-        )?;
-        text.push_str(function.as_str())?;
+    for number in 0..MANY {
+        push_function(alloc, &mut text, number)?;
     }
     Ok(text)
 }
 
-/// How many functions and types the module back has, and 0 of both where the run does not end well.
-fn counts(ended: &Ended) -> (u32, u32) {
-    match ended {
-        Ended::Done(t) => (t.back.functions(), t.back.types()),
-        _ => (0, 0),
-    }
-}
-
-/// The functions and types of the module back from many functions, and whether the report ends with the last of them.
-fn counts_of_many(alloc: Global) -> Result<(u32, u32, bool), AllocError> {
-    let text = many_functions(alloc)?;
-    let mut out = MemorySink::new(alloc, 1 << 20, 1 << 20, &[])?;
-    let mut err = MemorySink::new(alloc, 1 << 10, 1 << 10, &[])?;
-    let ended = run_over(alloc, &["round"], text.as_bytes(), &mut out, &mut err)?;
-    let (functions, types) = counts(&ended);
-    let last = "\nblocks @f999 0\n";
-    Ok((functions, types, out.bytes().ends_with(last.as_bytes())))
-}
-
-#[test]
-fn many_functions_share_types_and_constants(rt: HostRuntime) -> Result<(), Fail> {
-    // The types are the integer, that of the functions, and void for what their returns give.
-    let (functions, types, ends) = counts_of_many(rt.alloc())?;
-    assert!(rt;
-        functions == MANY && types == 3 && ends,
-        "{functions} functions, {types} types"
-    );
-    Ok(())
-}
-
-/// How many blocks the chain has behind its entry.
+/// How many blocks the chain has behind its entry: the last has this number.
 const CHAIN: u32 = 100_000;
+
+/// Appends a block of the chain, which leads to the one of the next number.
+fn push_block(alloc: Global, text: &mut String, number: u32) -> Result<(), AllocError>
+    requires { number < 100_000 }
+{
+    let next = number + 1;
+    let block = format!(in alloc; "b{number}:\n  br label %b{next}\n")?;
+    text.push_str(block.as_str())
+}
+
+/// Appends the blocks of the chain but the last, from its end.
+fn push_blocks(alloc: Global, text: &mut String) -> Result<(), AllocError> {
+    for number in (0..CHAIN).rev() {
+        push_block(alloc, text, number)?;
+    }
+    text.push_str("}\n")
+}
 
 /// A text of a chain of blocks, of which the last stands first.
 fn chain(alloc: Global) -> Result<String, AllocError> {
     let mut text = String::new(alloc);
-    text.push_str("define void @chain() {\n  br label %b0\n")?;
-    let last = format!(in alloc; "b{CHAIN}:\n  ret void\n")?;
-    text.push_str(last.as_str())?;
-    for k in (0..CHAIN).rev() {
-        let next = k + 1;
-        let block = format!(in alloc; "b{k}:\n  br label %b{next}\n")?;
-        text.push_str(block.as_str())?;
-    }
-    text.push_str("}\n")?;
+    text.push_str("define void @chain() {\n  br label %b0\nb100000:\n  ret void\n")?;
+    push_blocks(alloc, &mut text)?;
     Ok(text)
 }
 
-/// How the chain ends, and whether the report counts its blocks down.
-fn chain_ends(alloc: Global) -> Result<(u8, bool), AllocError> {
-    let text = chain(alloc)?;
-    let mut out = MemorySink::new(alloc, 1 << 24, 1 << 20, &[])?;
-    let mut err = MemorySink::new(alloc, 1 << 10, 1 << 10, &[])?;
-    let status = run_over(alloc, &["round"], text.as_bytes(), &mut out, &mut err)?.status();
-    Ok((status, out.bytes().ends_with(b" 3 2 1\n".as_slice())))
+/// What is wrong with how `round` ends over a text that was to be made: well, and with this output.
+fn made_fault(alloc: Global, text: Result<String, AllocError>, out: Out<'_>) -> &'static str {
+    let end = End {
+        status: 0,
+        out,
+        line: "",
+    };
+    match text {
+        Ok(text) => round_fault(alloc, text.as_bytes(), &[], &end),
+        Err(_) => "no memory",
+    }
 }
 
 #[test]
-fn a_long_chain_of_blocks_goes_round_from_its_end(rt: HostRuntime) -> Result<(), Fail> {
-    let (status, ends) = chain_ends(rt.alloc())?;
-    assert!(rt; status == 0 && ends, "status {status}");
-    Ok(())
+fn many_functions_share_types_and_constants(rt: HostRuntime) {
+    // The types are the integer, that of the functions, and void for what their returns give.
+    let out = Out::Of(MANY, 3, b"\nblocks @f999 0\n");
+    let fault = made_fault(rt.alloc(), many_functions(rt.alloc()), out);
+    assert!(rt; fault.is_empty(), "{fault}");
+}
+
+#[test]
+fn a_long_chain_of_blocks_goes_round_from_its_end(rt: HostRuntime) {
+    let out = Out::EndsWith(b" 3 2 1\n");
+    let fault = made_fault(rt.alloc(), chain(rt.alloc()), out);
+    assert!(rt; fault.is_empty(), "{fault}");
 }

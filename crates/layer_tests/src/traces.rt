@@ -12,6 +12,7 @@ ghost use Rattle.tracing.specs.DialectBodies.{HasBody};
 
 use crate::asked::{Question, answer};
 use crate::hand::{Name, Step};
+use crate::words::word;
 use dialect_core::context::Context;
 use dialect_core::linkage::LinkageAttr;
 use dialect_core::numbers::{FuncOp, ModuleOp};
@@ -64,15 +65,10 @@ const UNSET: &str = "^0 cond_br i1 unset ^1 ret";
 
 // ---- a trace against words
 
-/// The next word, empty behind the last.
-fn word<'a>(words: &mut SplitWhitespace<'a>) -> &'a str {
-    words.next().unwrap_or("")
-}
-
 /// Whether a word is a mark and a number.
 fn is_number(word: &str, mark: char, number: u32) -> bool {
     match word.strip_prefix(mark) {
-        Some(digits) => digits.parse::<u32>().unwrap_or(u32::MAX) == number,
+        Some(digits) => digits.parse::<u32>().ok() == Some(number),
         None => false,
     }
 }
