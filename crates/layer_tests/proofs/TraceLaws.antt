@@ -1,5 +1,5 @@
 -- Which operation of a dialect module is a function that can be run.
-use Rattle.std.proofs.Common.{ℕ, zero, suc, nat_eq, ◌≡◌, ◌<◌, true, false, List, [], ◌∷◌, Some, None, All, length, slice_get, get_or, sym, ap, ◌∙◌, arith}
+use Rattle.std.proofs.Common.{ℕ, zero, suc, nat_eq, ◌≡◌, ◌<◌, true, false, List, [], ◌∷◌, Some, All, length, slice_get, get_or, sym, ap, ◌∙◌, arith}
 use Rattle.std.specs.Prelude.{Option, is_some}
 use Rattle.std.specs.List.{cons_option, filter_map}
 use Rattle.std.specs.Option.{option_map}
@@ -10,7 +10,7 @@ use Rattle.dialect_core.specs.declared.numbers.OpRef.{OpRef}
 use Rattle.dialect_core.specs.declared.numbers.BlockRef.{BlockRef}
 use Rattle.dialect_core.specs.declared.ops.OpData.{OpData}
 use Rattle.dialect_core.specs.ContextData.{ContextData}
-use Rattle.dialect_core.specs.Data.{DialectBlock, block_in, block_of, func_in, held}
+use Rattle.dialect_core.specs.Data.{DialectBlock, block_in, block_of, held}
 use Rattle.llvm_core.proofs.DataLemmas.{there}
 use Rattle.to_llvm_ir.proofs.ContextLaws.{some_func}
 use Rattle.tracing.specs.DialectBodies.{HasBody}
