@@ -10,8 +10,9 @@ of the crate without an edit), what the first took and what the others took toge
 standard error, the table to standard output.
 
 A processor of a rented machine is mostly one of the two threads of a core, and the other may be another tenant's: then it
-does half as much. So a fixed loop is timed every ten seconds, and the last lines say which part of its best speed a
-processor had in the mean, and what the run would have taken of processors that always have it.
+does half as much. So a fixed loop is timed every ten seconds, in turn on each processor of the command, and the
+last lines say which part of its best speed a processor had in the mean, and what the run would have taken of processors
+that always have it.
 """
 import collections
 import os
@@ -28,13 +29,17 @@ TICKS = os.sysconf("SC_CLK_TCK")
 STEPS, BETWEEN = 300_000, 10
 
 
-def pace():
-    """The processor seconds that a fixed loop takes now."""
+def pace(processor):
+    """The processor seconds that a fixed loop takes now on a processor."""
+    all_of_them = os.sched_getaffinity(0)
+    os.sched_setaffinity(0, {processor})
     began, table, number = time.process_time(), {}, 1
     for step in range(STEPS):
         number = (number * 1103515245 + 12345) & 0x7FFFFFFF
         table[number & 0xFFFF] = step
-    return time.process_time() - began
+    took = time.process_time() - began
+    os.sched_setaffinity(0, all_of_them)
+    return took
 
 
 class Check:
@@ -67,13 +72,14 @@ def provers():
 
 def watch(command):
     """Runs a command, and returns its exit status, each prover that was seen, in order, and the times of the loop."""
-    running, ended, paces = {}, [], [pace()]
+    running, ended, paces = {}, [], []
     started = subprocess.Popen(command, cwd=ROOT, stdout=sys.stderr)
     tried = time.monotonic()
     while started.poll() is None:
         now = provers()
         if time.monotonic() - tried >= BETWEEN:
-            paces.append(pace())
+            own = sorted(os.sched_getaffinity(started.pid))
+            paces.append(pace(own[len(paces) % len(own)]))
             tried = time.monotonic()
         for process, (words, folder, parent, seconds) in now.items():
             # a copy that a prover makes of itself counts with it
@@ -101,6 +107,9 @@ def main():
         print(f"{crate:16}{sum(given['proof']):8.0f}{sum(given['tests']):8.0f}{len(given['edits']):8}{edits[0]:8.0f}{sum(edits[1:]):8.0f}")
     total = sum(it.seconds for it in checks)
     print(f"{total / 60:.1f} processor minutes of provers, {wall / 60:.1f} minutes by the clock")
+    # (nothing to say of a run that ended within the first ten seconds)
+    if not paces:
+        sys.exit(status)
     # the loop takes its best time where nothing shares the core; what shares it makes each of the times longer
     part = min(paces) * sum(1 / it for it in paces) / len(paces)
     print(f"a processor had {part:.2f} of its best speed in the mean, at which the loop takes {min(paces) * 1000:.0f} ms, so")
