@@ -4,7 +4,7 @@ ghost use Rattle.std.specs.Prelude.{◌≡◌, ◌<◌, [], IfOk, IfErr, length}
 ghost use Rattle.llvm_core.specs.Checked.{IsChecked};
 ghost use Rattle.llvm_core.specs.Data.{data_of};
 ghost use Rattle.llvm_core.specs.Names.{IsPlainOrNone};
-ghost use Rattle.llvm_core.specs.Form.{IsForm};
+ghost use Rattle.llvm_core.specs.Form.{HasDistinctNames, IsForm};
 ghost use Rattle.dialect_core.specs.Data.{IsTyped};
 ghost use Rattle.from_llvm_ir.specs.Refusals.{IsValid};
 ghost use Rattle.transfer.specs.declared.transfer_err.TransferErr.TheVariants as refusals;
@@ -29,7 +29,7 @@ struct Halves {
 fn run_halves(alloc: Global, ctx: &mut Context, module: &LLVMModule) -> Result<Halves, TransferErr>
     requires form { IsForm (data_of «module».now) }
     requires name { IsPlainOrNone «module».now.name }
-    requires checked { IsChecked «module».now }
+    requires distinct { HasDistinctNames (data_of «module».now) }
     requires typed { IsTyped ctx.old }
     ensures same { IfOk result (λ h. SameThroughout (data_of «module».now) (transferred_of ctx.new h.imported h.back)) }
     ensures back { IfOk result (λ h. IsChecked h.back) }

@@ -1,7 +1,6 @@
 -- What the import promises is what the export needs, and the two together make the code the same.
 use Rattle.std.proofs.Common.{rules}
 use Rattle.llvm_core.specs.Data.{data_of}
-use Rattle.llvm_core.proofs.DistinctLaws.{distinct_of_checked}
 use Rattle.from_llvm_ir.specs.Imported.{imported_data}
 use Rattle.from_llvm_ir.proofs.MatchedLaws.{forms_imported, exportable_imported}
 use Rattle.transfer.proofs.TransferLaws.{readable, same_throughout, targets_of, distinct_dialect}
@@ -12,7 +11,7 @@ pub convert_module-requires-2 : goal.convert_module-requires-2
 convert_module-requires-2 c = readable (data_of c.args.«module».now) c.convert_module.new.ctx c.in_ok-imported.imported c.in_ok-imported.ensures.imported (c.convert_module.ensures.typed c.requires.typed)
 
 pub returns-clause-same : goal.returns-clause-same
-returns-clause-same c = same_throughout c.args.«module».now c.in_ok-exported.exported.«module» c.convert_module.new.ctx c.in_ok-imported.imported c.requires.form (distinct_of_checked c.args.«module».now c.requires.checked) c.in_ok-imported.ensures.imported c.in_ok-exported.ensures.exported
+returns-clause-same c = same_throughout c.args.«module».now c.in_ok-exported.exported.«module» c.convert_module.new.ctx c.in_ok-imported.imported c.requires.form c.requires.distinct c.in_ok-imported.ensures.imported c.in_ok-exported.ensures.exported
 
 pub returns-clause-form : goal.returns-clause-form
 returns-clause-form c = c.in_ok-exported.ensures.form (targets_of (data_of c.args.«module».now) c.convert_module.new.ctx c.in_ok-imported.imported c.in_ok-imported.ensures.imported)
@@ -22,7 +21,7 @@ returns-clause-back c =
     let m = c.args.«module».now in
     let ctx = c.convert_module.new.ctx in
     let i = c.in_ok-imported.imported in
-    c.in_ok-exported.ensures.checked (distinct_dialect (data_of m) ctx i c.in_ok-imported.ensures.imported (distinct_of_checked m c.requires.checked)) (targets_of (data_of m) ctx i c.in_ok-imported.ensures.imported)
+    c.in_ok-exported.ensures.checked (distinct_dialect (data_of m) ctx i c.in_ok-imported.ensures.imported c.requires.distinct) (targets_of (data_of m) ctx i c.in_ok-imported.ensures.imported)
 
 pub returns-clause-there : goal.returns-clause-there
 returns-clause-there c = c.in_ok-imported.ensures.imported.building.there

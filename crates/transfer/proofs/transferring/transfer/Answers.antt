@@ -2,6 +2,7 @@
 use Rattle.std.proofs.Common.{◌≡◌, IfErr, rules}
 use Rattle.std.proofs.lemmas.Result.{IfErr-weaker}
 use Rattle.llvm_core.specs.Data.{data_of}
+use Rattle.llvm_core.proofs.DistinctLaws.{distinct_of_checked}
 use Rattle.from_llvm_ir.proofs.KeepLaws.{empty_typed}
 use Rattle.transfer.specs.declared.transfer_err.TransferErr.{TransferErr}
 use Rattle.transfer.specs.declared.transfer_err.TransferErr.TheVariants as T
@@ -11,6 +12,9 @@ use Rattle.transfer.proofs.transferring.transfer.Goals as goal
 
 pub run_halves-requires-clause-typed : goal.run_halves-requires-clause-typed
 run_halves-requires-clause-typed c = empty_typed c.new-ctx.result c.new-ctx.ensures
+
+pub run_halves-requires-clause-distinct : goal.run_halves-requires-clause-distinct
+run_halves-requires-clause-distinct c = distinct_of_checked c.args.«module».now c.requires.checked
 
 pub returns-clause-same : goal.returns-clause-same
 returns-clause-same c = c.in_ok-halves.ensures.same
