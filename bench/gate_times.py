@@ -9,10 +9,10 @@ proof took, its tests, and its must-fail edits: how many checks they are (the fi
 of the crate without an edit), what the first took and what the others took together. The lines of the command go to
 standard error, the table to standard output.
 
-A processor of a rented machine is mostly one of the two threads of a core, and the other may be another tenant's: then it
-does half as much. So a fixed loop is timed every ten seconds, in turn on each processor of the command, and the
-last lines say which part of its best speed a processor had in the mean, and what the run would have taken of processors
-that always have it.
+What a processor of a shared machine does changes by the minute, with what other tenants of its host do. So a fixed loop
+is timed every ten seconds, in turn on each processor of the command, and the last lines say which part of its best speed
+a processor had in the mean, and what the run would have taken of processors that always have it. A prover slows down by
+less than the loop does, so that figure is too low where the part is small.
 """
 import collections
 import os
@@ -110,7 +110,7 @@ def main():
     # (nothing to say of a run that ended within the first ten seconds)
     if not paces:
         sys.exit(status)
-    # the loop takes its best time where nothing shares the core; what shares it makes each of the times longer
+    # the mean of the speeds, the best of which is 1
     part = min(paces) * sum(1 / it for it in paces) / len(paces)
     print(f"a processor had {part:.2f} of its best speed in the mean, at which the loop takes {min(paces) * 1000:.0f} ms, so")
     print(f"{total * part / 60:.1f} processor minutes at that speed, {total * part / 120:.1f} minutes on two processors that keep it")
