@@ -4,11 +4,12 @@ use Rattle.std.specs.Option.{option_map, option_map_or, option_and_then, IfSome}
 use Rattle.std.proofs.lemmas.Option.{slice_get_within, slice_get-get_or, slice_get-map, get_or_from_slice_get}
 use Rattle.std.proofs.lemmas.List.{length-set, length-map, map-set}
 use Rattle.std.proofs.Math.Seq.{map-set_same}
+use Rattle.support.specs.Changes.{with_change}
 use Rattle.dialect_core.specs.declared.numbers.OpRef.{OpRef}
 use Rattle.dialect_core.specs.declared.numbers.BlockRef.{BlockRef}
 use Rattle.dialect_core.specs.declared.lists.Link.{Link}
 use Rattle.dialect_core.specs.declared.lists.Ends.{Ends}
-use Rattle.dialect_core.specs.Lists.{Lists, with_change}
+use Rattle.dialect_core.specs.Lists.{Lists}
 use Rattle.dialect_core.specs.Links.{parents_of, block_at, next_at, list_from, lists_of, with_next, IsAttached, IsLinked}
 use Rattle.dialect_core.proofs.ChainLemmas.{last-has, AllOf-has, block_within}
 use Rattle.dialect_core.proofs.ListLemmas.{slice_get-set_same, slice_get-set_other}

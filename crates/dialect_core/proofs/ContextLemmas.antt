@@ -3,6 +3,9 @@ use Rattle.std.proofs.Common.{◌≡◌, ◌<◌, ◌≤◌, ◌+◌, ◌⊎◌,
 use Rattle.std.specs.Option.{option_map, option_map_or}
 use Rattle.std.proofs.lemmas.Option.{slice_get_within, slice_get-get_or, none-some, same_Some}
 use Rattle.std.proofs.lemmas.List.{length-set}
+use Rattle.dialect_types.proofs.TreeLemmas.{push_cases}
+use Rattle.support.proofs.ListLaws.{slice_get-before, length-with_change}
+use Rattle.support.specs.Changes.{with_change}
 use Rattle.dialect_types.specs.declared.types.TypeHandle.{TypeHandle}
 use Rattle.dialect_types.specs.declared.types.TypeKind.{TypeKind}
 use Rattle.dialect_core.specs.declared.numbers.OpRef.{OpRef}
@@ -12,10 +15,10 @@ use Rattle.dialect_core.specs.declared.ops.Value.TheVariants.{Result, Argument}
 use Rattle.dialect_core.specs.declared.ops.OpKind.{OpKind}
 use Rattle.dialect_core.specs.declared.ops.OpData.{OpData}
 use Rattle.dialect_core.specs.declared.ops.BlockData.{BlockData}
-use Rattle.dialect_core.specs.Lists.{Lists, with_change}
+use Rattle.dialect_core.specs.Lists.{Lists}
 use Rattle.dialect_core.specs.ContextData.{ContextData, with_op, with_name, with_argument, with_block, with_appended, IsValueWithin, IsOpWithin, IsContext, kind_at, HoldsMore}
-use Rattle.dialect_core.proofs.FilterLemmas.{change_get, change_length}
-use Rattle.dialect_core.proofs.ListLemmas.{push_cases, slice_get-append, slice_get-last, slice_get-set_same, slice_get-set_other}
+use Rattle.dialect_core.proofs.FilterLemmas.{change_get}
+use Rattle.dialect_core.proofs.ListLemmas.{slice_get-last, slice_get-set_same, slice_get-set_other}
 
 -- a change at a place that is there
 pub with_change_at : {X : Type 0} (f : X → X) (i : ℕ) (xs : List X) (x : X) → i < length xs → x ≡ get_or xs i x → with_change f i xs ≡ slice_set xs i (f x)
@@ -51,7 +54,7 @@ add_op_kept ops blocks parents lists x h new = record {
     | inl old ↦ op_still (length ops) (length blocks) _ _ (omega (arith, length-append ops (x ∷ []))) (omega arith) y (h.within o y old)
     | inr last ↦ rw last.0 (op_still (length ops) (length blocks) _ _ (omega (arith, length-append ops (x ∷ []))) (omega arith) x new)
   ];
-  standing = λ b xs at k d l. let was = h.standing b xs at k d l in slice_get-append parents (None ∷ []) (get_or xs k d).0 (slice_get_within parents (get_or xs k d).0 _ was) ∙ was;
+  standing = λ b xs at k d l. let was = h.standing b xs at k d l in slice_get-before parents (None ∷ []) (get_or xs k d).0 (slice_get_within parents (get_or xs k d).0 _ was) ∙ was;
   holders = λ b y at. omega (arith, h.holders b y at, length-append ops (x ∷ []));
 }
 
@@ -146,7 +149,7 @@ module _ (ops : List OpData) (blocks : List BlockData) (parents : List (Option B
   pub appended_kept : IsContext ops blocks (slice_set parents o.0 (Some b)) (with_change (λ (xs : List OpRef). xs ++ o ∷ []) b.0 lists)
   appended_kept = record {
     parent_each = omega (arith, h.parent_each, length-set parents o.0 (Some b));
-    list_each = change_length (λ (xs : List OpRef). xs ++ o ∷ []) b.0 lists ∙ h.list_each;
+    list_each = length-with_change (λ (xs : List OpRef). xs ++ o ∷ []) b.0 lists ∙ h.list_each;
     within = h.within;
     standing = standing_still;
     holders = h.holders;
@@ -195,7 +198,7 @@ appended_view types ops blocks l m o b free is =
 
 -- ---- what the calls need and say
 
-kind_there : (ops : List OpData) (o : OpRef) (k : OpKind) → kind_at ops o ≡ Some k → o.0 < length ops
+pub kind_there : (ops : List OpData) (o : OpRef) (k : OpKind) → kind_at ops o ≡ Some k → o.0 < length ops
 kind_there ops o k h = by (slice_get ops o.0) refl h
   where
     by : (x : Option OpData) → slice_get ops o.0 ≡ x → option_map (λ (x : OpData). x.kind) x ≡ Some k → o.0 < length ops

@@ -5,6 +5,8 @@ use Rattle.std.specs.Map.{lookup}
 use Rattle.std.specs.Option.{option_map, option_and_then}
 use Rattle.std.proofs.lemmas.List.{take_more, length-take-le, take_all}
 use Rattle.std.proofs.lemmas.Option.{none-some, same_Some, slice_get-get_or}
+use Rattle.support.proofs.ListLaws.{flat_map-take_more}
+use Rattle.support.specs.Options.{or_else}
 use Rattle.dialect_types.specs.Trees.{type_trees}
 use Rattle.dialect_core.specs.declared.numbers.OpRef.{OpRef}
 use Rattle.dialect_core.specs.declared.numbers.BlockRef.{BlockRef}
@@ -16,8 +18,8 @@ use Rattle.dialect_core.specs.declared.numbering.Numbering.{Numbering}
 use Rattle.dialect_core.specs.ContextData.{ContextData, symbol_at}
 use Rattle.dialect_core.specs.Data.{DialectBlock, Func, block_of, block_in, func_of, func_in, held, data_of}
 use Rattle.dialect_core.specs.Text.{option_items, block_values, func_values, func_blocks, numbered_from, same_value, same_block, value_number, block_number}
-use Rattle.dialect_core.specs.Numbering.{or_else, value_at, block_at, Numbered, values_of_block, values_of_func, blocks_of_func}
-use Rattle.dialect_core.proofs.NumberLemmas.{Counts, counts_then, numbered_then, numbered_from-append, flat_map_more}
+use Rattle.dialect_core.specs.Numbering.{value_at, block_at, Numbered, values_of_block, values_of_func, blocks_of_func}
+use Rattle.dialect_core.proofs.NumberLemmas.{Counts, counts_then, numbered_then, numbered_from-append}
 use Rattle.dialect_core.proofs.NewBlockLemmas.{func}
 
 -- what f makes of the items that g gives
@@ -43,7 +45,7 @@ counts_block f old now mid new next after xs i d within so_far named numbered is
       numbered = numbered_then now mid new [] (numbered_from next (f (get_or xs i d))) ((get_or xs i d, i) ∷ []) [] named numbered;
       after = is_after;
     } in
-    rw (flat_map_more f xs i d within, numbered_more xs i d within)
+    rw (flat_map-take_more f xs i d within, numbered_more xs i d within)
     (counts_then old now new 0 next after (flat_map f (take i xs)) (f (get_or xs i d)) (numbered_from 0 (take i xs)) ((get_or xs i d, i) ∷ []) so_far step)
 
 -- ---- a function
@@ -88,7 +90,7 @@ func_blocks_are c op bs is_func region within =
 
 pub counts_func : {X : Type 0} (f : X → List (Value × ℕ)) (g : X → List (BlockRef × ℕ)) (old now new : Numbering) (xs : List X) (i : ℕ) (d : X) → i < length xs → Numbered old now (flat_map f (take i xs)) (flat_map g (take i xs)) → Numbered now new (f (get_or xs i d)) (g (get_or xs i d)) → Numbered old new (flat_map f (take (i + 1) xs)) (flat_map g (take (i + 1) xs))
 counts_func f g old now new xs i d within so_far step =
-    rw (flat_map_more f xs i d within, flat_map_more g xs i d within)
+    rw (flat_map-take_more f xs i d within, flat_map-take_more g xs i d within)
     (numbered_then old now new (flat_map f (take i xs)) (f (get_or xs i d)) (flat_map g (take i xs)) (g (get_or xs i d)) so_far step)
 
 pub module_values : (c : ContextData) (m : ℕ) (old new : Numbering) (ops : List OpRef) (n : ℕ) → ((q : Value) → value_at old q ≡ None) → ops ≡ held c m → length ops ≤ n → Numbered old new (flat_map (values_of_func c) (take n ops)) (flat_map (blocks_of_func c) (take n ops)) → (q : Value) → value_at new q ≡ value_number (data_of c m) q

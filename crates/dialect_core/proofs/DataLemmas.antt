@@ -4,16 +4,18 @@ use Rattle.std.specs.Prelude.{unwrap_or}
 use Rattle.std.specs.List.{filter_map, flat_map}
 use Rattle.std.specs.Option.{option_map, option_map_or, option_and_then}
 use Rattle.std.proofs.lemmas.Option.{slice_get_within, get_or_from_slice_get, unwrap_or-slice_get, none-some, same_Some}
+use Rattle.support.proofs.ListLaws.{slice_get-before}
+use Rattle.support.specs.Changes.{with_change}
 use Rattle.dialect_core.specs.declared.numbers.OpRef.{OpRef}
 use Rattle.dialect_core.specs.declared.numbers.BlockRef.{BlockRef}
 use Rattle.dialect_core.specs.declared.ops.OpData.{OpData}
 use Rattle.dialect_core.specs.declared.ops.BlockData.{BlockData}
-use Rattle.dialect_core.specs.Lists.{list_at, with_change}
+use Rattle.dialect_core.specs.Lists.{list_at}
 use Rattle.dialect_core.specs.ContextData.{ContextData, with_op, with_name, IsContext, region_at}
 use Rattle.dialect_core.specs.Data.{DialectModule, DialectOp, Func, op_of, op_at, block_with, block_in, func_with, func_of, func_in, held, data_of}
 use Rattle.dialect_types.specs.Trees.{TypeTree, type_trees}
 use Rattle.dialect_core.proofs.FilterLemmas.{filter_map_same, flat_member, change_get_other}
-use Rattle.dialect_core.proofs.ListLemmas.{slice_get-append, slice_get-last}
+use Rattle.dialect_core.proofs.ListLemmas.{slice_get-last}
 
 abbrev pub module_data : List ℕ → List Func → DialectModule
 module_data name functions = record { name = name; functions = functions }
@@ -72,7 +74,7 @@ listed_within c h b k o at = omega (arith, h.parent_each, slice_get_within c.par
 -- a new operation in no block
 pub new_op_data : (c : ContextData) (x : OpData) (m : ℕ) → IsContext c.ops c.blocks c.parents c.lists → m < length c.ops → data_of (with_op c x) m ≡ data_of c m
 new_op_data c x m h within =
-    same_ops c (c.ops ++ x ∷ []) (c.parents ++ None ∷ []) m (λ b k o at. slice_get-append c.ops (x ∷ []) o.0 (listed_within c h b k o at)) (slice_get-append c.ops (x ∷ []) m within)
+    same_ops c (c.ops ++ x ∷ []) (c.parents ++ None ∷ []) m (λ b k o at. slice_get-before c.ops (x ∷ []) o.0 (listed_within c h b k o at)) (slice_get-before c.ops (x ∷ []) m within)
 
 -- an operation in no block is named
 pub named_data : (c : ContextData) (p : OpRef) (name : List ℕ) (m : ℕ) → IsContext c.ops c.blocks c.parents c.lists → slice_get c.parents p.0 ≡ Some None → ¬ (m ≡ p.0) → data_of (with_name c p name) m ≡ data_of c m

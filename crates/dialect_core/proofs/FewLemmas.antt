@@ -3,6 +3,7 @@ use Rattle.std.proofs.Common.{◌≡◌, ◌<◌, ◌+◌, ◌^◌, ℕ, zero, s
 use Rattle.std.specs.Prelude.{IfSome, IsTrue, ◌↔◌}
 use Rattle.std.specs.Option.{option_map, option_and_then}
 use Rattle.std.proofs.lemmas.Option.{none-some, same_Some}
+use Rattle.support.proofs.ListLaws.{all_from}
 use Rattle.dialect_types.specs.declared.types.TypeHandle.{TypeHandle}
 use Rattle.dialect_types.specs.Trees.{type_at, type_trees}
 use Rattle.dialect_core.specs.declared.numbers.OpRef.{OpRef}
@@ -17,7 +18,7 @@ use Rattle.dialect_core.specs.WellFormed.{IsFew, IsFewBlock, IsFewOp, params_of}
 use Rattle.dialect_core.specs.Checking.{Each, HasTypeWithin}
 use Rattle.dialect_core.proofs.FromLemmas.{Going, going_ends, going_fails}
 use Rattle.dialect_core.proofs.TestLemmas.{iff_trans}
-use Rattle.dialect_core.proofs.LineLemmas.{all_at, at_all}
+use Rattle.dialect_core.proofs.LineLemmas.{all_at}
 
 -- ---- each operation of a list
 
@@ -36,7 +37,7 @@ module _ (P : OpRef → Type 0) where
 
   -- what holds of each alone holds of all
   pub each_all : (xs : List OpRef) → Each Alone xs ↔ All P xs
-  each_all xs = (λ h. at_all P xs (each_at xs h), λ h. at_each xs (λ k x at. all_at P xs h k x at))
+  each_all xs = (λ h. all_from P xs (each_at xs h), λ h. at_each xs (λ k x at. all_at P xs h k x at))
 
 -- ---- how many they are
 
@@ -59,7 +60,7 @@ module _ (P : OpRef → Type 0) (xs : List OpRef) where
 
 -- they are there where all types are
 pub types_within : (c : ContextData) (os : List OpRef) → IsTyped c → All (HasTypeWithin c) os
-types_within c os typed = at_all (HasTypeWithin c) os (λ k o at. by o (slice_get c.ops o.0) refl)
+types_within c os typed = all_from (HasTypeWithin c) os (λ k o at. by o (slice_get c.ops o.0) refl)
   where
     by : (o : OpRef) (x : Option OpData) → slice_get c.ops o.0 ≡ x → IfSome (option_and_then (λ (x : OpData). x.symbol) x) (λ (s : Symbol). s.ty.0 < length c.types)
     by o None at = tt

@@ -1,11 +1,11 @@
 -- `filter_map`, `map` and `flat_map` by functions that agree on the items of a list.
-use Rattle.std.proofs.Common.{◌≡◌, ◌⊎◌, ℕ, zero, suc, Bool, true, false, nat_eq, if◌then◌else◌, List, [], ◌∷◌, ◌++◌, Option, Some, None, length, map, slice_get, slice_set, ap, sym, ◌∙◌, refl, inl, inr, arith}
+use Rattle.std.proofs.Common.{◌≡◌, ℕ, suc, Bool, true, false, nat_eq, if◌then◌else◌, List, [], ◌∷◌, ◌++◌, Option, Some, None, map, slice_get, slice_set, ap, sym, ◌∙◌, refl, inl, inr, arith}
 use Rattle.std.specs.List.{filter_map, flat_map, cons_option}
 use Rattle.std.specs.Option.{option_map, option_map_or}
 use Rattle.std.proofs.lemmas.List.Elements.{filter_map-append}
 use Rattle.std.proofs.lemmas.Option.{slice_get_within}
-use Rattle.std.proofs.lemmas.List.{length-set}
-use Rattle.dialect_core.specs.Lists.{with_change}
+use Rattle.support.proofs.ListLaws.{slice_get-append_cases}
+use Rattle.support.specs.Changes.{with_change}
 use Rattle.dialect_core.proofs.ListLemmas.{slice_get-set_same, slice_get-set_other}
 
 -- x is an item of the list
@@ -79,21 +79,9 @@ change_get_other {X} g i xs j apart = by (slice_get xs i)
     by None = refl
     by (Some x) = slice_get-set_other xs i j (g x) apart
 
-pub change_length : {X : Type 0} (g : X → X) (i : ℕ) (xs : List X) → length (with_change g i xs) ≡ length xs
-change_length {X} g i xs = by (slice_get xs i)
-  where
-    by : (o : Option X) → length (option_map_or (λ x. slice_set xs i (g x)) o xs) ≡ length xs
-    by None = refl
-    by (Some x) = length-set xs i (g x)
-
 -- ---- items of lists one after another
-
-append_cases : {X : Type 0} (xs ys : List X) (i : ℕ) (y : X) → slice_get (xs ++ ys) i ≡ Some y → (slice_get xs i ≡ Some y) ⊎ ((j : ℕ) × (slice_get ys j ≡ Some y))
-append_cases [] ys i y h = inr (i, h)
-append_cases (x ∷ xs) ys zero y h = inl h
-append_cases (x ∷ xs) ys (suc i) y h = append_cases xs ys i y h
 
 -- an item of the lists is one of some list
 pub flat_member : {X Y : Type 0} (f : X → List Y) (xs : List X) (i : ℕ) (y : Y) → slice_get (flat_map f xs) i ≡ Some y → (x : X) × (k : ℕ) × (slice_get (f x) k ≡ Some y)
 flat_member f [] i y h = cc
-flat_member f (x ∷ xs) i y h = elim (append_cases (f x) (flat_map f xs) i y h) [ inl here ↦ (x, i, here) | inr later ↦ flat_member f xs later.0 y later.1 ]
+flat_member f (x ∷ xs) i y h = elim (slice_get-append_cases (f x) (flat_map f xs) i y h) [ inl here ↦ (x, i, here) | inr later ↦ flat_member f xs later.0 y later.1 ]

@@ -4,6 +4,7 @@ use Rattle.std.specs.Prelude.{IfSome}
 use Rattle.std.specs.List.{find}
 use Rattle.std.specs.Option.{option_and_then}
 use Rattle.std.proofs.lemmas.Option.{none-some, same_Some}
+use Rattle.support.proofs.ListLaws.{all_from}
 use Rattle.dialect_types.specs.Trees.{TypeTree, VoidType, IntegerType, FuncType, TypeTrees, IntegerAttr}
 use Rattle.dialect_core.specs.declared.ops.Value.{Value}
 use Rattle.dialect_core.specs.declared.ops.Value.TheVariants.{Result, Argument}
@@ -13,7 +14,7 @@ use Rattle.dialect_core.specs.Form.{IsShortInt, IsShortResult, IsOperand, IsForm
 use Rattle.dialect_core.specs.WellFormed.{AreEdges, IsEdge, IsOfKind, IsWellFormedOp, IsWellFormedBlock, IsWellFormedFunc, IsNarrowOp, IsNarrowBlock, IsNarrowFunc, IsNarrowSignature, Returned, IsTypedBy, params_of}
 use Rattle.dialect_core.proofs.HoldLemmas.{flat_stands}
 use Rattle.dialect_core.proofs.FuncLemmas.{find_there}
-use Rattle.dialect_core.proofs.LineLemmas.{all_at, at_all}
+use Rattle.dialect_core.proofs.LineLemmas.{all_at}
 
 short_of : (o : Option TypeTree) (t : TypeTree) → IfSome o IsShortInt → o ≡ Some t → IsShortInt t
 short_of None t h e = absurd (none-some t e)
@@ -44,12 +45,12 @@ module _ (g : Func) (narrow : All IsNarrowBlock g.blocks) where
   edge : (s : Successor) → IsEdge (value_type g) g s → IsFormEdge g s
   edge s e = record {
     no_entry = e.no_entry;
-    args = at_all (λ (v : Value). (type : TypeTree) × IsOperand g type v) s.args (λ k v at. let w = all_at (IsTypedBy (value_type g)) s.args e.args k v at in (w.0, operand w.0 v w.1));
+    args = all_from (λ (v : Value). (type : TypeTree) × IsOperand g type v) s.args (λ k v at. let w = all_at (IsTypedBy (value_type g)) s.args e.args k v at in (w.0, operand w.0 v w.1));
     typed = e.typed;
   }
 
   leads : (o : DialectOp) (n : ℕ) → o.result ≡ None → AreEdges (value_type g) g n o.successors → Leads g o n
-  leads o n own e = record { result = own; count_is = e.0; edges = at_all (IsFormEdge g) o.successors (λ k s at. edge s (all_at (IsEdge (value_type g) g) o.successors e.1 k s at)) }
+  leads o n own e = record { result = own; count_is = e.0; edges = all_from (IsFormEdge g) o.successors (λ k s at. edge s (all_at (IsEdge (value_type g) g) o.successors e.1 k s at)) }
 
   no_edges : (o : DialectOp) → o.result ≡ None → o.successors ≡ [] → Leads g o 0
   no_edges o own e = record { result = own; count_is = ap length e; edges = let P : List Successor → Type 0 = All (IsFormEdge g) in subst P (sym e) (λ k d l. absurd (omega arith)) }
@@ -72,7 +73,7 @@ module _ (g : Func) (narrow : All IsNarrowBlock g.blocks) where
   form_block b w n = record {
     label = n.label;
     args = n.args;
-    ops = at_all (IsFormOp g) b.ops (λ k o at. let m = all_at IsNarrowOp b.ops n.ops k o at in record { kind = kind o o.kind m.result (all_at (IsWellFormedOp (value_type g) g) b.ops w.ops k o at); name = m.name });
+    ops = all_from (IsFormOp g) b.ops (λ k o at. let m = all_at IsNarrowOp b.ops n.ops k o at in record { kind = kind o o.kind m.result (all_at (IsWellFormedOp (value_type g) g) b.ops w.ops k o at); name = m.name });
     ends = w.ends;
   }
 
@@ -116,7 +117,7 @@ form_of g w n =
       more = b.more;
       body = b.are;
       params = w.params b.entry (ap (λ (bs : List DialectBlock). slice_get bs 0) b.are) ∙ ap params_of p.is;
-      blocks = at_all (IsFormBlock g) g.blocks (λ k b at. form_block g n.blocks b (all_at (IsWellFormedBlock (value_type g) g) g.blocks w.blocks k b at) (all_at IsNarrowBlock g.blocks n.blocks k b at));
+      blocks = all_from (IsFormBlock g) g.blocks (λ k b at. form_block g n.blocks b (all_at (IsWellFormedBlock (value_type g) g) g.blocks w.blocks k b at) (all_at IsNarrowBlock g.blocks n.blocks k b at));
       block_numbers = w.block_numbers;
       numbers = w.numbers;
     }

@@ -6,6 +6,8 @@ use Rattle.std.specs.Option.{option_map, option_map_or, option_and_then}
 use Rattle.std.proofs.lemmas.Option.{none-some, same_Some}
 use Rattle.std.proofs.lemmas.List.{append-nil}
 use Rattle.std.proofs.lemmas.List.Elements.{All-cons, All-head, All-nil}
+use Rattle.support.proofs.ListLaws.{all_from}
+use Rattle.support.proofs.OptionLaws.{none_from}
 use Rattle.dialect_types.specs.declared.types.TypeHandle.{TypeHandle}
 use Rattle.dialect_types.specs.Trees.{TypeTree, VoidType, type_at, type_trees}
 use Rattle.dialect_core.specs.declared.numbers.OpRef.{OpRef}
@@ -27,13 +29,9 @@ use Rattle.dialect_core.proofs.TestLemmas.{always, never, no_true, same_block}
 use Rattle.dialect_core.proofs.TypeTestLemmas.{all_map, map_all}
 use Rattle.dialect_core.proofs.OpTestLemmas.{func_type}
 use Rattle.dialect_core.proofs.FuncLemmas.{blocks_are, ops_are, block_there, block_number, op_number, made_of, entry_data, entry_there, no_entry}
-use Rattle.dialect_core.proofs.LineLemmas.{all_at, at_all, lines_are, none_end, plain_op, same_place, numbers_once}
+use Rattle.dialect_core.proofs.LineLemmas.{all_at, lines_are, none_end, plain_op, same_place, numbers_once}
 
 -- ---- blocks
-
-is_none_of : {X : Type 0} (o : Option X) → is_some o ≡ false → o ≡ None
-is_none_of None h = refl
-is_none_of (Some x) h = absurd (let e : true ≡ false = h in cc)
 
 is_some_of : {X : Type 0} (o : Option X) → is_some o ≡ true → o ≡ None → ⊥
 is_some_of None h e = let k : false ≡ true = h in cc
@@ -54,7 +52,7 @@ module _ (c : ContextData) (g : Func) (b : BlockRef) where
 
   pub block_none : (first : Option OpRef) → first ≡ slice_get (list_at c.lists b) 0 → is_some first ≡ false → IsBlockAt c g b → ⊥
   unfolding block_at
-  block_none first head gone h = none_end c g (list_at c.lists b) (sym head ∙ is_none_of first gone) h.block.ends
+  block_none first head gone h = none_end c g (list_at c.lists b) (sym head ∙ none_from first gone) h.block.ends
 
   module _ (args : List TypeHandle) (are : option_map (λ (x : BlockData). x.args) (slice_get c.blocks b.0) ≡ Some args) where
     pub block_wide : (All (λ (t : TypeHandle). IsInteger (tree_at c t)) args → ⊥) → IsBlockAt c g b → ⊥
@@ -149,12 +147,12 @@ module _ (c : ContextData) (f : OpRef) where
 
     -- what holds of the operations of each block holds of those of the function
     of_blocks : (P : OpRef → Type 0) → ((k : ℕ) (b : BlockRef) → slice_get (region_at c.ops f.0) k ≡ Some b → All P (list_at c.lists b)) → All P (held c f.0)
-    of_blocks P h = at_all P (held c f.0) (λ k o at.
+    of_blocks P h = all_from P (held c f.0) (λ k o at.
         let w = flat_stands (list_at c.lists) (region_at c.ops f.0) o k at in
         all_at P (list_at c.lists w.0) (h w.1.0 w.0 w.1.1) w.2.0 o w.2.1)
 
     to_blocks : (P : OpRef → Type 0) → All P (held c f.0) → (k : ℕ) (b : BlockRef) → slice_get (region_at c.ops f.0) k ≡ Some b → All P (list_at c.lists b)
-    to_blocks P h k b at = at_all P (list_at c.lists b) (λ j o there_o.
+    to_blocks P h k b at = all_from P (list_at c.lists b) (λ j o there_o.
         let w = stands_flat (list_at c.lists) (region_at c.ops f.0) b o k at (j, there_o) in
         all_at P (held c f.0) h w.0 o w.1)
 
@@ -162,7 +160,7 @@ module _ (c : ContextData) (f : OpRef) where
     each_block h = (
       λ k d l. of_blocks (IsPlainAt c) (λ k b at. (all_at (IsBlockAt c (func_at c f)) (region_at c.ops f.0) h k b at).plain) k d l,
       λ k d l. of_blocks (IsPastFirsts c) (λ k b at. (all_at (IsBlockAt c (func_at c f)) (region_at c.ops f.0) h k b at).past_firsts) k d l,
-      λ k d l. at_all (IsWellFormedBlock (type_in c) (func_at c f)) (func_at c f).blocks (λ i y at.
+      λ k d l. all_from (IsWellFormedBlock (type_in c) (func_at c f)) (func_at c f).blocks (λ i y at.
           let w = made_of (block_in (type_trees c.types) c) (region_at c.ops f.0) i y (ap (λ (xs : List DialectBlock). slice_get xs i) (sym (blocks_are c f there)) ∙ at) in
           let same : block_at c w.0 ≡ y = same_Some (block_at c w.0) y (sym (block_data c (func_at c f) w.0 (there w.1.0 w.0 w.1.1)) ∙ w.2) in
           subst (IsWellFormedBlock (type_in c) (func_at c f)) same (all_at (IsBlockAt c (func_at c f)) (region_at c.ops f.0) h w.1.0 w.0 w.1.1).block) k d l,
@@ -172,7 +170,7 @@ module _ (c : ContextData) (f : OpRef) where
     block_some k b at = (block_at c b, block_data c (func_at c f) b (there k b at))
 
     from_blocks : All (IsPlainAt c) (held c f.0) → All (IsPastFirsts c) (held c f.0) → All (IsWellFormedBlock (type_in c) (func_at c f)) (func_at c f).blocks → All (IsBlockAt c (func_at c f)) (region_at c.ops f.0)
-    from_blocks plain past blocks = at_all (IsBlockAt c (func_at c f)) (region_at c.ops f.0) (λ k b at. record {
+    from_blocks plain past blocks = all_from (IsBlockAt c (func_at c f)) (region_at c.ops f.0) (λ k b at. record {
       plain = to_blocks (IsPlainAt c) plain k b at;
       past_firsts = to_blocks (IsPastFirsts c) past k b at;
       block = all_at (IsWellFormedBlock (type_in c) (func_at c f)) (func_at c f).blocks blocks k (block_at c b)
@@ -274,10 +272,10 @@ module _ (c : ContextData) where
           kind = kind;
           region = one;
           args = args;
-          funcs_alone = at_all (λ (o : OpRef). kind_at c.ops o ≡ Some K.Func) (held c m) kinds;
-          plain = at_all (λ (o : OpRef). All (IsPlainAt c) (held c o.0)) (held c m) (λ k o at. (funcs_at (held c m) h k o at).plain);
-          past_firsts = at_all (λ (o : OpRef). All (IsPastFirsts c) (held c o.0)) (held c m) (λ k o at. (funcs_at (held c m) h k o at).past_firsts);
-          functions = at_all (IsWellFormedFunc (type_in c)) fs (λ k g at. let w = there_func kinds k g at in subst (IsWellFormedFunc (type_in c)) w.2 (funcs_at (held c m) h k w.0 w.1).func);
+          funcs_alone = all_from (λ (o : OpRef). kind_at c.ops o ≡ Some K.Func) (held c m) kinds;
+          plain = all_from (λ (o : OpRef). All (IsPlainAt c) (held c o.0)) (held c m) (λ k o at. (funcs_at (held c m) h k o at).plain);
+          past_firsts = all_from (λ (o : OpRef). All (IsPastFirsts c) (held c o.0)) (held c m) (λ k o at. (funcs_at (held c m) h k o at).past_firsts);
+          functions = all_from (IsWellFormedFunc (type_in c)) fs (λ k g at. let w = there_func kinds k g at in subst (IsWellFormedFunc (type_in c)) w.2 (funcs_at (held c m) h k w.0 w.1).func);
           names = λ i j f g a b same.
               let p = there_func kinds i f a in
               let q = there_func kinds j g b in

@@ -4,13 +4,13 @@ use Rattle.std.specs.List.{flat_map}
 use Rattle.std.specs.Option.{option_map, option_map_or}
 use Rattle.std.proofs.lemmas.List.{take_all}
 use Rattle.std.proofs.lemmas.Option.{none-some, same_Some}
+use Rattle.support.proofs.ListLaws.{flat_map-take_more}
 use Rattle.dialect_core.specs.declared.numbers.OpRef.{OpRef}
 use Rattle.dialect_core.specs.declared.numbers.BlockRef.{BlockRef}
 use Rattle.dialect_core.specs.declared.ops.OpData.{OpData}
 use Rattle.dialect_core.specs.Lists.{list_at}
 use Rattle.dialect_core.specs.Data.{held}
 use Rattle.dialect_core.specs.ContextData.{ContextData}
-use Rattle.dialect_core.proofs.NumberLemmas.{flat_map_more}
 
 -- the operations are those of the blocks, and each is there
 pub record Held (c : ContextData) (blocks : List BlockRef) (ops : List OpRef) : Type 0 where
@@ -26,7 +26,7 @@ pub held_more : (c : ContextData) (blocks : List BlockRef) (i : ℕ) (d : BlockR
 held_more c blocks i d held ops all within h is_ops ops_within is_all =
     rw is_all
     (record {
-      are = ap (λ (xs : List OpRef). xs ++ ops) h.are ∙ ap (λ (xs : List OpRef). flat_map (list_at c.lists) (take i blocks) ++ xs) is_ops ∙ sym (flat_map_more (list_at c.lists) blocks i d within);
+      are = ap (λ (xs : List OpRef). xs ++ ops) h.are ∙ ap (λ (xs : List OpRef). flat_map (list_at c.lists) (take i blocks) ++ xs) is_ops ∙ sym (flat_map-take_more (list_at c.lists) blocks i d within);
       within = λ k d l. All-append (length c.ops) held ops h.within ops_within k d l;
     })
 

@@ -31,7 +31,6 @@ pub mod HeldLemmas
 pub mod HoldLemmas
 pub mod CountLemmas
 pub mod KeepLemmas
-pub mod ResultLemmas
 pub mod PrintLemmas
 pub mod ArgumentPrintLemmas
 pub mod ModulePrintLemmas

@@ -4,14 +4,16 @@ use Rattle.std.specs.Option.{option_map, option_map_or}
 use Rattle.std.proofs.lemmas.Option.{slice_get_within, slice_get-get_or, slice_get-map, get_or_from_slice_get, none-some}
 use Rattle.std.proofs.lemmas.List.{map-append, map-set, length-set}
 use Rattle.std.proofs.Math.ListN.{get_or-append}
+use Rattle.dialect_types.proofs.TreeLemmas.{push_cases}
+use Rattle.support.specs.Changes.{with_change}
 use Rattle.dialect_core.specs.declared.numbers.OpRef.{OpRef}
 use Rattle.dialect_core.specs.declared.numbers.BlockRef.{BlockRef}
 use Rattle.dialect_core.specs.declared.lists.Link.{Link}
 use Rattle.dialect_core.specs.declared.lists.Ends.{Ends}
-use Rattle.dialect_core.specs.Lists.{with_change, Has}
+use Rattle.dialect_core.specs.Lists.{Has}
 use Rattle.dialect_core.specs.Links.{parents_of, block_at, next_at, list_from, lists_of, IsListOf, IsAttached, IsLinked}
 use Rattle.dialect_core.proofs.ChainLemmas.{same_op, walk-chain, chain-same, chain-append, Has-more, Has-last, AllApart-append, last_of-append, AllOf-has, AllOf-same, AllOf-append, length-ours}
-use Rattle.dialect_core.proofs.ListLemmas.{push_cases, push_silent, slice_get-set_same, slice_get-set_other, map_same, map_set_same}
+use Rattle.dialect_core.proofs.ListLemmas.{push_silent, slice_get-set_same, slice_get-set_other, map_same, map_set_same}
 
 -- the list that the links lead through is found
 pub found_list : (links : List Link) (b : ℕ) (e : Option Ends) (xs : List OpRef) → IsListOf links b e xs → list_from links e ≡ xs

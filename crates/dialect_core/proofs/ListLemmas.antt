@@ -1,16 +1,6 @@
 -- Lists after one item was appended or replaced.
-use Rattle.std.proofs.Common.{◌≡◌, ◌<◌, ◌⊎◌, ℕ, zero, suc, List, [], ◌∷◌, ◌++◌, Option, Some, None, length, map, slice_get, slice_set, ap, sym, refl, inl, inr, arith}
+use Rattle.std.proofs.Common.{◌≡◌, ◌<◌, ℕ, zero, suc, List, [], ◌∷◌, ◌++◌, Option, Some, None, length, map, slice_get, slice_set, ap, refl, arith}
 use Rattle.std.specs.Option.{option_and_then}
-
-some_same : {X : Type 0} (x y : X) → Some x ≡ Some y → x ≡ y
-some_same x y h = cc
-
--- what stands at a place of a list with one more item
-pub push_cases : {X : Type 0} (xs : List X) (x y : X) (i : ℕ) → slice_get (xs ++ x ∷ []) i ≡ Some y → (slice_get xs i ≡ Some y) ⊎ ((y ≡ x) × (i ≡ length xs))
-push_cases [] x y zero h = inr (sym (some_same x y h), refl)
-push_cases [] x y (suc i) h = cc
-push_cases (z ∷ xs) x y zero h = inl h
-push_cases (z ∷ xs) x y (suc i) h = elim (push_cases xs x y i h) [ inl old ↦ inl old | inr new ↦ inr (new.0, ap suc new.1) ]
 
 -- an item of which f says nothing changes nothing that f says
 pub push_silent : {X Y : Type 0} (f : X → Option Y) (xs : List X) (x : X) (i : ℕ) → f x ≡ None → option_and_then f (slice_get (xs ++ x ∷ []) i) ≡ option_and_then f (slice_get xs i)
@@ -18,11 +8,6 @@ push_silent f [] x zero h = h
 push_silent f [] x (suc i) h = refl
 push_silent f (y ∷ xs) x zero h = refl
 push_silent f (y ∷ xs) x (suc i) h = push_silent f xs x i h
-
-pub slice_get-append : {X : Type 0} (xs ys : List X) (i : ℕ) → i < length xs → slice_get (xs ++ ys) i ≡ slice_get xs i
-slice_get-append [] ys i h = absurd (omega arith)
-slice_get-append (x ∷ xs) ys zero h = refl
-slice_get-append (x ∷ xs) ys (suc i) h = slice_get-append xs ys i (omega arith)
 
 pub slice_get-last : {X : Type 0} (xs : List X) (x : X) → slice_get (xs ++ x ∷ []) (length xs) ≡ Some x
 slice_get-last [] x = refl

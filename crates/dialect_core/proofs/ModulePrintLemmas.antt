@@ -5,6 +5,7 @@ use Rattle.std.specs.Prelude.{codes, unwrap_or, IfSome}
 use Rattle.std.specs.List.{filter_map, flat_map, cons_option}
 use Rattle.std.specs.Option.{option_map, option_map_or, option_and_then}
 use Rattle.std.proofs.lemmas.Option.{none-some, same_Some, slice_get-get_or}
+use Rattle.support.proofs.ListLaws.{appended_twice}
 use Rattle.dialect_types.specs.declared.types.TypeHandle.{TypeHandle}
 use Rattle.dialect_types.specs.Trees.{TypeTree, type_at, type_trees}
 use Rattle.dialect_types.specs.Text.{type_text}
@@ -21,7 +22,7 @@ use Rattle.dialect_core.specs.Data.{DialectModule, DialectBlock, op_at, block_of
 use Rattle.dialect_core.specs.Text.{option_text, op_text, label_text, block_text, body_text, linkage_text, func_head_text, func_text, module_text_by, module_text, value_number, block_number}
 use Rattle.dialect_core.proofs.CountLemmas.{flat_filter}
 use Rattle.dialect_core.proofs.NewBlockLemmas.{func}
-use Rattle.dialect_core.proofs.KeepLemmas.{two_texts, five_texts, six_texts}
+use Rattle.dialect_core.proofs.KeepLemmas.{five_texts, six_texts}
 use Rattle.dialect_core.proofs.PrintLemmas.{between}
 
 -- a function is there
@@ -43,7 +44,7 @@ module _ (values : Value → Option ℕ) (blocks : BlockRef → Option ℕ) (c :
       by : (x : Option BlockData) → option_map (λ (x : BlockData). x.label) x ≡ Some label → option_map (λ (x : BlockData). x.args) x ≡ Some args → end ≡ start ++ option_text (block_text values blocks) (option_map (block_of (type_trees c.types) c b) x)
       by None l a = absurd (none-some label l)
       by (Some x) l a =
-          two_texts start line end (label_text values blocks b label (map (type_at (type_trees c.types)) args)) _ is_line is_end
+          appended_twice start line end (label_text values blocks b label (map (type_at (type_trees c.types)) args)) _ is_line is_end
           ∙ ap (λ (n : Option (List ℕ)). start ++ (label_text values blocks b n (map (type_at (type_trees c.types)) args) ++ flat_map (λ (o : OpRef). option_text (op_text values blocks) (op_at (type_trees c.types) c.ops o)) ops)) (sym (same_Some x.label label l))
           ∙ ap (λ (t : List TypeHandle). start ++ (label_text values blocks b x.label (map (type_at (type_trees c.types)) t) ++ flat_map (λ (o : OpRef). option_text (op_text values blocks) (op_at (type_trees c.types) c.ops o)) ops)) (sym (same_Some x.args args a))
           ∙ ap (λ (t : List ℕ). start ++ (label_text values blocks b x.label (map (type_at (type_trees c.types)) x.args) ++ t))
@@ -72,7 +73,7 @@ module _ (values : Value → Option ℕ) (blocks : BlockRef → Option ℕ) (c :
       → option_map (λ (x : OpData). x.blocks) (slice_get c.ops op.0) ≡ Some bs
       → head ≡ start ++ func_head_text name (type_at (type_trees c.types) ty) linkage → end ≡ head ++ body_text values blocks (filter_map (block_in (type_trees c.types) c) bs)
       → end ≡ start ++ option_text (func_text values blocks) (func_in (type_trees c.types) c op)
-  func_printed op name ty linkage bs start head end is_name is_ty is_linkage is_bs is_head is_end = two_texts start head end (func_head_text name (type_at (type_trees c.types) ty) linkage) (body_text values blocks (filter_map (block_in (type_trees c.types) c) bs)) is_head is_end ∙ by (slice_get c.ops op.0) refl is_ty is_linkage is_bs
+  func_printed op name ty linkage bs start head end is_name is_ty is_linkage is_bs is_head is_end = appended_twice start head end (func_head_text name (type_at (type_trees c.types) ty) linkage) (body_text values blocks (filter_map (block_in (type_trees c.types) c) bs)) is_head is_end ∙ by (slice_get c.ops op.0) refl is_ty is_linkage is_bs
     where
       with_symbol : (x : OpData) (s : Option Symbol) → name ≡ unwrap_or x.name [] → option_map (λ (s : Symbol). s.ty) s ≡ Some ty → option_map (λ (s : Symbol). s.linkage) s ≡ Some linkage → x.blocks ≡ bs
           → start ++ (func_head_text name (type_at (type_trees c.types) ty) linkage ++ body_text values blocks (filter_map (block_in (type_trees c.types) c) bs)) ≡ start ++ option_text (func_text values blocks) (option_map (λ (s : Symbol). func (type_trees c.types) op x s (filter_map (block_in (type_trees c.types) c) x.blocks)) s)
@@ -124,4 +125,4 @@ head_printed name n word type linkage start o1 o2 o3 o4 o5 o6 end is_name is_wor
     let named = e2 ∙ ap (λ (x : List ℕ). o1 ++ x) is_name in
     let linked = e6 ∙ ap (λ (x : List ℕ). o5 ++ x) is_word in
     let six = six_texts start o1 o2 o3 o4 o5 o6 (codes "  llvm.func @") name (codes " : ") (type_text type) (codes " {linkage = ") (linkage_text linkage) e1 named e3 e4 e5 linked in
-    two_texts start o6 end _ (codes "}") six e7
+    appended_twice start o6 end _ (codes "}") six e7

@@ -4,6 +4,7 @@ use Rattle.std.specs.Prelude.{unwrap_or}
 use Rattle.std.specs.List.{filter_map, flat_map, cons_option}
 use Rattle.std.specs.Option.{option_map, option_map_or, option_and_then}
 use Rattle.std.proofs.lemmas.Option.{slice_get_within, get_or_from_slice_get, unwrap_or-slice_get}
+use Rattle.support.proofs.ListLaws.{slice_get-before}
 use Rattle.dialect_types.specs.Trees.{TypeTree, type_at, type_trees}
 use Rattle.dialect_core.specs.declared.numbers.OpRef.{OpRef}
 use Rattle.dialect_core.specs.declared.numbers.BlockRef.{BlockRef}
@@ -14,7 +15,7 @@ use Rattle.dialect_core.specs.Lists.{list_at}
 use Rattle.dialect_core.specs.ContextData.{ContextData, with_block, IsContext}
 use Rattle.dialect_core.specs.Data.{DialectBlock, DialectOp, Func, op_of, op_at, block_with, block_of, block_in, func_with, func_of, func_in, held, data_of, more_block, with_func_block}
 use Rattle.dialect_core.proofs.FilterLemmas.{filter_map_same, filter_map_then, filter_map-push, flat_map_same, flat_map-push, change_get}
-use Rattle.dialect_core.proofs.ListLemmas.{slice_get-append, slice_get-last}
+use Rattle.dialect_core.proofs.ListLemmas.{slice_get-last}
 use Rattle.dialect_core.proofs.DataLemmas.{same_module}
 
 -- a function by its parts
@@ -38,7 +39,7 @@ module _ (ts : List TypeTree) (c : ContextData) (b : BlockRef) (new : BlockData)
   -- the list of an old block stays, the new block has none
   old_list : (p : BlockRef) → p.0 < length c.blocks → list_at after.lists p ≡ list_at c.lists p
   old_list p within =
-      sym (unwrap_or-slice_get after.lists p.0 []) ∙ ap (λ (xs : Option (List OpRef)). unwrap_or xs []) (slice_get-append c.lists ([] ∷ []) p.0 (omega (arith, h.list_each))) ∙ unwrap_or-slice_get c.lists p.0 []
+      sym (unwrap_or-slice_get after.lists p.0 []) ∙ ap (λ (xs : Option (List OpRef)). unwrap_or xs []) (slice_get-before c.lists ([] ∷ []) p.0 (omega (arith, h.list_each))) ∙ unwrap_or-slice_get c.lists p.0 []
 
   new_list : list_at after.lists b ≡ []
   new_list = last_list c.lists b (omega (arith, h.list_each))
@@ -54,7 +55,7 @@ module _ (ts : List TypeTree) (c : ContextData) (b : BlockRef) (new : BlockData)
 
   old_block : (p : BlockRef) → p.0 < length c.blocks → block_in ts after p ≡ block_in ts c p
   old_block p within =
-      ap (λ (x : Option BlockData). option_map (block_of ts after p) x) (slice_get-append c.blocks (new ∷ []) p.0 within)
+      ap (λ (x : Option BlockData). option_map (block_of ts after p) x) (slice_get-before c.blocks (new ∷ []) p.0 within)
       ∙ ap (λ (ds : List DialectOp). option_map (λ (x : BlockData). block_with ts p x ds) (slice_get c.blocks p.0))
       (ap (filter_map (op_at ts after.ops)) (old_list p within) ∙ filter_map_same (op_at ts c.ops) (op_at ts after.ops) (list_at c.lists p) (λ k o at. op_same o))
 

@@ -2,10 +2,12 @@
 use Rattle.std.proofs.Common.{◌≡◌, ◌<◌, ◌+◌, ℕ, suc, List, [], ◌∷◌, ◌++◌, Option, Some, None, cond, Bool, true, false, length, slice_get, get_or, take, map, ap, sym, subst, refl, ◌∙◌, arith, length-append}
 use Rattle.std.specs.List.{filter_map, flat_map, cons_option}
 use Rattle.std.specs.Map.{lookup}
-use Rattle.std.proofs.lemmas.List.{append-nil, take_more, length-take-le}
-use Rattle.std.proofs.lemmas.Grind.{flat_map-append}
+use Rattle.std.proofs.lemmas.List.{take_more, length-take-le}
 use Rattle.std.specs.Option.{option_map}
 use Rattle.std.proofs.lemmas.Option.{none-some, same_Some}
+use Rattle.support.proofs.ListLaws.{flat_map-take_more}
+use Rattle.support.proofs.OptionLaws.{or_else-none, or_else_assoc}
+use Rattle.support.specs.Options.{or_else}
 use Rattle.dialect_types.specs.declared.types.TypeHandle.{TypeHandle}
 use Rattle.dialect_types.specs.Trees.{type_at, type_trees}
 use Rattle.dialect_core.specs.declared.numbers.BlockRef.{BlockRef}
@@ -17,15 +19,7 @@ use Rattle.dialect_core.specs.ContextData.{ContextData}
 use Rattle.dialect_core.specs.Lists.{list_at}
 use Rattle.dialect_core.specs.Data.{op_at, block_of}
 use Rattle.dialect_core.specs.Text.{option_items, result_of, block_values, arguments_from, numbered_from, same_value, same_block}
-use Rattle.dialect_core.specs.Numbering.{or_else, value_at, block_at, Numbered, op_values, values_of_block}
-
-or_else-none : {X : Type 0} (a : Option X) → or_else a None ≡ a
-or_else-none None = refl
-or_else-none (Some x) = refl
-
-or_else_assoc : {X : Type 0} (a b c : Option X) → or_else (or_else a b) c ≡ or_else a (or_else b c)
-or_else_assoc None b c = refl
-or_else_assoc (Some x) b c = refl
+use Rattle.dialect_core.specs.Numbering.{value_at, block_at, Numbered, op_values, values_of_block}
 
 lookup-append : {K X : Type 0} (test : K → Bool) (xs ys : List (K × X)) → lookup test (xs ++ ys) ≡ or_else (lookup test xs) (lookup test ys)
 lookup-append test [] ys = refl
@@ -85,11 +79,6 @@ pub arguments_from-map : {X Y : Type 0} (f : X → Y) (b : BlockRef) (i : ℕ) (
 arguments_from-map f b i [] = refl
 arguments_from-map f b i (x ∷ xs) = ap (λ (vs : List Value). Argument b i ∷ vs) (arguments_from-map f b (i + 1) xs)
 
--- ---- items one after another
-
-pub flat_map_more : {X Y : Type 0} (f : X → List Y) (xs : List X) (i : ℕ) (d : X) → i < length xs → flat_map f (take (i + 1) xs) ≡ flat_map f (take i xs) ++ f (get_or xs i d)
-flat_map_more f xs i d h = ap (flat_map f) (take_more xs i d h) ∙ flat_map-append f (take i xs) (get_or xs i d ∷ []) ∙ ap (λ (ys : List _). flat_map f (take i xs) ++ ys) (append-nil (f (get_or xs i d)))
-
 -- ---- the values of a block
 
 filter_flat : {X Y Z : Type 0} (f : X → Option Y) (g : Y → Option Z) (xs : List X) → filter_map g (filter_map f xs) ≡ flat_map (λ (x : X). option_items (λ (y : Y). option_items (λ (z : Z). z ∷ []) (g y)) (f x)) xs
@@ -126,7 +115,7 @@ counts_argument old now new first next after b xs i place d within is_place so_f
 -- the values of one more item
 pub counts_more : {X : Type 0} (f : X → List Value) (old now new : Numbering) (first next after : ℕ) (xs : List X) (i : ℕ) (d : X) → i < length xs → Counts old now first next (flat_map f (take i xs)) [] → Numbered now new (numbered_from next (f (get_or xs i d))) [] → after ≡ next + length (f (get_or xs i d)) → Counts old new first after (flat_map f (take (i + 1) xs)) []
 counts_more f old now new first next after xs i d within so_far numbered is_after =
-    rw (flat_map_more f xs i d within) (counts_then old now new first next after (flat_map f (take i xs)) (f (get_or xs i d)) [] [] so_far (record { numbered = numbered; after = is_after }))
+    rw (flat_map-take_more f xs i d within) (counts_then old now new first next after (flat_map f (take i xs)) (f (get_or xs i d)) [] [] so_far (record { numbered = numbered; after = is_after }))
 
 -- two parts in a row
 pub counts_both : (old now new : Numbering) (first next after : ℕ) (all vs ws : List Value) → all ≡ vs ++ ws → Numbered old now (numbered_from first vs) [] → next ≡ first + length vs → Numbered now new (numbered_from next ws) [] → after ≡ next + length ws → Counts old new first after all []

@@ -3,6 +3,7 @@ use Rattle.std.proofs.Common.{◌≡◌, ◌<◌, ◌≤◌, ℕ, List, [], Opti
 use Rattle.std.specs.List.{filter_map}
 use Rattle.std.specs.Option.{option_map, option_and_then}
 use Rattle.std.proofs.lemmas.Option.{none-some, same_Some, slice_get_within}
+use Rattle.support.proofs.ListLaws.{all_from}
 use Rattle.dialect_types.specs.Trees.{TypeTree, IntegerAttr, type_at, type_trees}
 use Rattle.dialect_core.specs.declared.numbers.OpRef.{OpRef}
 use Rattle.dialect_core.specs.declared.numbers.BlockRef.{BlockRef}
@@ -20,7 +21,7 @@ use Rattle.dialect_core.proofs.HoldLemmas.{flat_stands, stands_flat}
 use Rattle.dialect_core.proofs.TestLemmas.{same_block}
 use Rattle.dialect_core.proofs.FuncLemmas.{blocks_are, block_number, ops_are}
 use Rattle.dialect_core.proofs.FuncTestLemmas.{block_data, func_there}
-use Rattle.dialect_core.proofs.LineLemmas.{all_at, at_all, plain_op, same_place, then_some}
+use Rattle.dialect_core.proofs.LineLemmas.{all_at, plain_op, same_place, then_some}
 
 no_edges : (types : Typing) (g : Func) (ss : List Successor) → ss ≡ [] → All (IsEdge types g) ss
 no_edges types g ss e = let P : List Successor → Type 0 = All (IsEdge types g) in subst P (sym e) (λ k d l. absurd (omega arith))
@@ -81,7 +82,7 @@ module _ (c : ContextData) (regions : AreRegions (region_at c.ops) (holder_at c.
         e.no_entry p.1 (ap (slice_get g.blocks) zero ∙ p.2) (sym p.3)
 
     pub own_past : All (IsPastFirsts c) (held c f.0)
-    own_past = at_all (IsPastFirsts c) (held c f.0) (λ k o at. past k o at)
+    own_past = all_from (IsPastFirsts c) (held c f.0) (λ k o at. past k o at)
       where
         past : (k : ℕ) (o : OpRef) → slice_get (held c f.0) k ≡ Some o → IsPastFirsts c o
         past k o at x is =
@@ -92,7 +93,7 @@ module _ (c : ContextData) (regions : AreRegions (region_at c.ops) (holder_at c.
             let block = all_at (IsWellFormedBlock (type_in c) g) g.blocks well.blocks b.1.0 b.0 b.1.1 in
             let edges = kind_edges (type_in c) g p.0.operands p.0.result p.0.successors p.0.kind (all_at (IsWellFormedOp (type_in c) g) b.0.ops block.ops b.2.0 p.0 b.2.1) in
             let same : p.0.successors ≡ x.successors = op_edges (type_trees c.types) o x p.0 (sym (ap (option_and_then (op_of (type_trees c.types) o)) is) ∙ p.1) in
-            at_all (λ (s : Successor). ¬ IsFirst c s.block) x.successors (λ j s here w.
+            all_from (λ (s : Successor). ¬ IsFirst c s.block) x.successors (λ j s here w.
             let mine : slice_get p.0.successors j ≡ Some s = ap (λ (ss : List Successor). slice_get ss j) same ∙ here in
             let e = stands_flat (λ (o : DialectOp). o.successors) b.0.ops p.0 s b.2.0 b.2.1 (j, mine) in
             past_edge s (all_at (IsEdge (type_in c) g) p.0.successors edges j s mine) (all_at (FitsTarget g) (edges_of b.0) (all_at (λ (b : DialectBlock). All (FitsTarget g) (edges_of b)) g.blocks own b.1.0 b.0 b.1.1) e.0 s e.1) w)
@@ -107,7 +108,7 @@ module _ (c : ContextData) (regions : AreRegions (region_at c.ops) (holder_at c.
       args = args;
       funcs_alone = alone;
       plain = plain;
-      past_firsts = at_all (λ (o : OpRef). All (IsPastFirsts c) (held c o.0)) (held c m) (λ k o at.
+      past_firsts = all_from (λ (o : OpRef). All (IsPastFirsts c) (held c o.0)) (held c m) (λ k o at.
           let here = func_there c symbols m (λ k o at. all_at (λ (o : OpRef). kind_at c.ops o ≡ Some K.Func) (held c m) alone k o at) k o at in
           own_past o (all_at (λ (o : OpRef). All (IsPlainAt c) (held c o.0)) (held c m) plain k o at)
           (all_at (IsWellFormedFunc (type_in c)) (data_of c m).functions functions k (func_at c o) here)

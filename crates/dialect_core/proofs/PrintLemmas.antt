@@ -5,6 +5,7 @@ use Rattle.std.specs.List.{flat_map}
 use Rattle.std.proofs.lemmas.List.{append-nil, take_all}
 use Rattle.std.proofs.lemmas.Option.{same_Some}
 use Rattle.std.specs.Option.{option_map}
+use Rattle.support.proofs.ListLaws.{flat_map-take_more, appended_twice}
 use Rattle.dialect_types.specs.Trees.{TypeTree, type_at}
 use Rattle.dialect_core.specs.declared.numbers.OpRef.{OpRef}
 use Rattle.dialect_core.specs.declared.numbers.BlockRef.{BlockRef}
@@ -15,8 +16,6 @@ use Rattle.dialect_core.specs.Data.{Kind, kind_of, op_of}
 use Rattle.dialect_core.specs.Text.{option_text, kind_word, immediates_text, head_text, tail_text, op_text, successor_text, successors_text}
 use Rattle.dialect_types.specs.Text.{joined, comma_before}
 use Rattle.dialect_types.proofs.TextLemmas.{joined_step}
-use Rattle.dialect_core.proofs.KeepLemmas.{two_texts}
-use Rattle.dialect_core.proofs.NumberLemmas.{flat_map_more}
 
 -- the first i items stand after what was there, with commas between them
 pub record Joined {X : Type 0} (f : X → List ℕ) (xs : List X) (i : ℕ) (before after : List ℕ) : Type 0 where
@@ -34,7 +33,7 @@ pub record Printed {X : Type 0} (f : X → List ℕ) (xs : List X) (i : ℕ) (be
 
 pub printed_more : {X : Type 0} (f : X → List ℕ) (xs : List X) (i : ℕ) (d : X) (start before after : List ℕ) → i < length xs → Printed f xs i start before → after ≡ before ++ f (get_or xs i d) → Printed f xs (i + 1) start after
 printed_more f xs i d start before after within so_far step = record {
-  printed = step ∙ ap (λ (x : List ℕ). x ++ f (get_or xs i d)) so_far.printed ∙ append_assoc start (flat_map f (take i xs)) (f (get_or xs i d)) ∙ ap (λ (x : List ℕ). start ++ x) (sym (flat_map_more f xs i d within));
+  printed = step ∙ ap (λ (x : List ℕ). x ++ f (get_or xs i d)) so_far.printed ∙ append_assoc start (flat_map f (take i xs)) (f (get_or xs i d)) ∙ ap (λ (x : List ℕ). start ++ x) (sym (flat_map-take_more f xs i d within));
 }
 
 pub printed_all : {X : Type 0} (f : X → List ℕ) (xs : List X) (i : ℕ) (before after : List ℕ) → length xs ≤ i → Printed f xs i before after → after ≡ before ++ flat_map f xs
@@ -42,7 +41,7 @@ printed_all f xs i before after all h = h.printed ∙ ap (λ (ys : List _). befo
 
 -- a text between two others
 pub between : (start opened inner end a b c : List ℕ) → opened ≡ start ++ a → inner ≡ opened ++ b → end ≡ inner ++ c → end ≡ start ++ ((a ++ b) ++ c)
-between start opened inner end a b c e1 e2 e3 = two_texts start inner end (a ++ b) c (two_texts start opened inner a b e1 e2) e3
+between start opened inner end a b c e1 e2 e3 = appended_twice start inner end (a ++ b) c (appended_twice start opened inner a b e1 e2) e3
 
 -- ---- operations
 

@@ -2,12 +2,14 @@
 use Rattle.std.proofs.Common.{◌≡◌, ◌<◌, ℕ, zero, suc, Bool, true, false, nat_eq, List, [], ◌∷◌, ◌++◌, Option, Some, None, length, slice_get, slice_set, get_or, ap, sym, ◌∙◌, refl, inl, inr, arith}
 use Rattle.std.specs.Option.{option_map, option_map_or}
 use Rattle.std.proofs.lemmas.Option.{slice_get_within, slice_get-get_or, none-some, same_Some}
+use Rattle.dialect_types.proofs.TreeLemmas.{push_cases}
+use Rattle.support.proofs.ListLaws.{slice_get-before}
 use Rattle.dialect_core.specs.declared.numbers.OpRef.{OpRef}
 use Rattle.dialect_core.specs.declared.numbers.BlockRef.{BlockRef}
 use Rattle.dialect_core.specs.declared.ops.OpData.{OpData}
 use Rattle.dialect_core.specs.declared.ops.BlockData.{BlockData}
 use Rattle.dialect_core.specs.ContextData.{AreRegions, region_at, holder_at}
-use Rattle.dialect_core.proofs.ListLemmas.{push_cases, slice_get-append, slice_get-last, slice_get-set_same, slice_get-set_other}
+use Rattle.dialect_core.proofs.ListLemmas.{slice_get-last, slice_get-set_same, slice_get-set_other}
 
 -- regions and holders that agree
 pub same_regions : (region region' : ℕ → List BlockRef) (holder holder' : ℕ → Option ℕ) → ((o : ℕ) → region' o ≡ region o) → ((b : ℕ) → holder' b ≡ holder b) → AreRegions region holder → AreRegions region' holder'
@@ -96,7 +98,7 @@ module _ (region region' : ℕ → List BlockRef) (holder holder' : ℕ → Opti
       by true same =
           let e : n ≡ o = grind (arith, same) in
           let here : slice_get (region o) k ≡ Some c = ap (λ (n : ℕ). slice_get (region n) k) (sym e) ∙ at in
-          ap (λ (xs : List BlockRef). slice_get xs k) (ap region' e ∙ grown) ∙ slice_get-append (region o) (b ∷ []) k (slice_get_within (region o) k c here) ∙ here
+          ap (λ (xs : List BlockRef). slice_get xs k) (ap region' e ∙ grown) ∙ slice_get-before (region o) (b ∷ []) k (slice_get_within (region o) k c here) ∙ here
       by false differs = ap (λ (xs : List BlockRef). slice_get xs k) (others n (λ same. grind (arith, differs, same))) ∙ at
 
   listed_new : (n c : ℕ) → holder' c ≡ Some n → (t : Bool) → nat_eq c b.0 ≡ t → (k : ℕ) × (slice_get (region' n) k ≡ Some (record { 0 = c }))

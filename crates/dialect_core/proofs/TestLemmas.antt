@@ -1,16 +1,11 @@
 -- What a test answers, as a fact.
-use Rattle.std.proofs.Common.{◌≡◌, ◌<◌, ◌+◌, ℕ, zero, suc, Bool, true, false, nat_eq, List, [], ◌∷◌, length, get_or, ap, sym, subst, ◌∙◌, refl, arith}
+use Rattle.std.proofs.Common.{◌≡◌, ◌<◌, ◌+◌, ℕ, Bool, true, false, nat_eq, List, [], ◌∷◌, length, get_or, ap, sym, subst, ◌∙◌, refl, arith}
 use Rattle.std.specs.Prelude.{IsTrue, ◌↔◌}
-use Rattle.dialect_types.specs.declared.types.TypeHandle.{TypeHandle}
+use Rattle.std.proofs.lemmas.List.{get_or_default}
 use Rattle.dialect_core.specs.declared.numbers.BlockRef.{BlockRef}
 
 pub no_true : {X : Type 0} → IsTrue false → X
 no_true h = absurd (let e : false ≡ true = h in cc)
-
-pub same_item : {X : Type 0} (xs : List X) (k : ℕ) (d e : X) → k < length xs → get_or xs k d ≡ get_or xs k e
-same_item [] k d e l = absurd (omega arith)
-same_item (x ∷ xs) zero d e l = refl
-same_item (x ∷ xs) (suc k) d e l = same_item xs k d e (omega arith)
 
 pub true_same : (t : Bool) (a b : ℕ) → t ≡ nat_eq a b → IsTrue t → a ≡ b
 true_same t a b is h = by (nat_eq a b) refl (sym is ∙ h)
@@ -28,9 +23,6 @@ same_true t a b is h = is ∙ by (nat_eq a b) refl
 
 pub same_block : (a b : BlockRef) → a.0 ≡ b.0 → a ≡ b
 same_block a b e = ap (λ (n : ℕ). let o : BlockRef = record { 0 = n } in o) e
-
-pub same_type_handle : (a b : TypeHandle) → a.0 ≡ b.0 → a ≡ b
-same_type_handle a b e = ap (λ (n : ℕ). let o : TypeHandle = record { 0 = n } in o) e
 
 -- a test that failed, of what has to hold
 pub fails : {P : Type 0} (t : Bool) → (IsTrue t ↔ P) → t ≡ false → P → ⊥
@@ -53,7 +45,7 @@ all_more {X} P xs i e before within here k d l = by (nat_eq k i) refl
     by : (t : Bool) → nat_eq k i ≡ t → P (get_or xs k d)
     by true same =
         let f : i ≡ k = grind (arith, same) in
-        subst P (ap (λ (n : ℕ). get_or xs n e) f ∙ same_item xs k e d (omega arith)) here
+        subst P (ap (λ (n : ℕ). get_or xs n e) f ∙ get_or_default xs k e d (omega arith)) here
     by false differs = before k d (grind (arith, differs, l))
 
 pub empty_is : {X : Type 0} (xs : List X) (t : Bool) → t ≡ nat_eq (length xs) 0 → IsTrue t ↔ xs ≡ []

@@ -22,11 +22,6 @@ pub map_length : {X Y : Type 0} (f : X → Y) (xs : List X) → length (map f xs
 map_length f [] = refl
 map_length f (x ∷ xs) = ap suc (map_length f xs)
 
-pub same_at : {X : Type 0} (xs : List X) (k : ℕ) (d e : X) → k < length xs → get_or xs k d ≡ get_or xs k e
-same_at [] k d e l = absurd (omega arith)
-same_at (x ∷ xs) zero d e l = refl
-same_at (x ∷ xs) (suc k) d e l = same_at xs k d e (omega arith)
-
 pub all_map : {X Y : Type 0} (P : Y → Type 0) (f : X → Y) (xs : List X) → All (λ (x : X). P (f x)) xs → All P (map f xs)
 all_map P f [] h k e l = absurd (omega arith)
 all_map P f (x ∷ xs) h zero e l = h 0 x (omega arith)

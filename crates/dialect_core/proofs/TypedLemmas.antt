@@ -3,6 +3,8 @@ use Rattle.std.proofs.Common.{◌≡◌, ◌<◌, ◌≤◌, ◌⊎◌, ℕ, zer
 use Rattle.std.specs.Prelude.{IfSome}
 use Rattle.std.specs.Option.{option_map}
 use Rattle.std.proofs.lemmas.Option.{same_Some, none-some}
+use Rattle.dialect_types.proofs.TreeLemmas.{push_cases}
+use Rattle.support.specs.Changes.{with_change}
 use Rattle.dialect_types.specs.declared.types.TypeHandle.{TypeHandle}
 use Rattle.dialect_types.specs.declared.types.TypeKind.{TypeKind}
 use Rattle.dialect_types.specs.declared.attrs.ConstAttr.TheVariants as A
@@ -13,12 +15,10 @@ use Rattle.dialect_core.specs.declared.ops.OpKind.{OpKind}
 use Rattle.dialect_core.specs.declared.ops.OpKind.TheVariants as K
 use Rattle.dialect_core.specs.declared.ops.OpData.{OpData}
 use Rattle.dialect_core.specs.declared.ops.BlockData.{BlockData}
-use Rattle.dialect_core.specs.Lists.{with_change}
 use Rattle.dialect_core.specs.Lending.{with_types}
 use Rattle.dialect_core.specs.ContextData.{ContextData, with_op, with_block, with_argument, with_name, with_appended}
 use Rattle.dialect_core.specs.Data.{HasKindTypesBelow, IsTypedOp, IsTyped}
 use Rattle.dialect_core.proofs.FilterLemmas.{change_get}
-use Rattle.dialect_core.proofs.ListLemmas.{push_cases}
 
 -- what stands at a place after a change was there, or is the change of what was there
 pub changed_cases : {X : Type 0} (g : X → X) (i : ℕ) (xs : List X) (j : ℕ) (y : X) → slice_get (with_change g i xs) j ≡ Some y → (slice_get xs j ≡ Some y) ⊎ ((x : X) × (slice_get xs j ≡ Some x) × (y ≡ g x))

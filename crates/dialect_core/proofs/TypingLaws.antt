@@ -5,6 +5,7 @@ use Rattle.std.specs.Prelude.{unwrap_or}
 use Rattle.std.specs.List.{filter_map, flat_map, find}
 use Rattle.std.specs.Option.{option_map, option_and_then}
 use Rattle.std.proofs.lemmas.Option.{none-some, same_Some}
+use Rattle.support.proofs.ListLaws.{all_from}
 use Rattle.dialect_types.specs.Trees.{TypeTree, VoidType, IntegerType, FuncType, IntegerAttr, type_at, type_trees}
 use Rattle.dialect_core.specs.declared.numbers.OpRef.{OpRef}
 use Rattle.dialect_core.specs.declared.numbers.BlockRef.{BlockRef}
@@ -23,7 +24,7 @@ use Rattle.dialect_core.proofs.ChainLemmas.{same_op}
 use Rattle.dialect_core.proofs.HoldLemmas.{flat_stands, stands_flat, stands_left, stands_right}
 use Rattle.dialect_core.proofs.TestLemmas.{same_block}
 use Rattle.dialect_core.proofs.FuncLemmas.{block_number, find_none, find_there, made_of, op_number}
-use Rattle.dialect_core.proofs.LineLemmas.{all_at, at_all}
+use Rattle.dialect_core.proofs.LineLemmas.{all_at}
 use Rattle.dialect_core.proofs.FormLaws.{form_of}
 use Rattle.dialect_core.proofs.WellLaws.{form_is_well_formed, form_is_narrow}
 
@@ -124,12 +125,12 @@ module _ (T U : Typing) (g : Func) (operands : List Value) (edges : List Success
   edge : (i : ℕ) (s : Successor) → slice_get edges i ≡ Some s → IsEdge T g s → IsEdge U g s
   edge i s at e = record {
     no_entry = e.no_entry;
-    args = at_all (IsTypedBy U) s.args (λ k v here. let w = all_at (IsTypedBy T) s.args e.args k v here in (w.0, passed i s v w.0 at (k, here) w.1));
+    args = all_from (IsTypedBy U) s.args (λ k v here. let w = all_at (IsTypedBy T) s.args e.args k v here in (w.0, passed i s v w.0 at (k, here) w.1));
     typed = λ place v t here wanted. passed i s v t at (place, here) (e.typed place v t here (target i s place t at wanted));
   }
 
   edges_are : (n : ℕ) → AreEdges T g n edges → AreEdges U g n edges
-  edges_are n h = (h.0, at_all (IsEdge U g) edges (λ i s at. edge i s at (all_at (IsEdge T g) edges h.1 i s at)))
+  edges_are n h = (h.0, all_from (IsEdge U g) edges (λ i s at. edge i s at (all_at (IsEdge T g) edges h.1 i s at)))
 
   kinds : (own : Option TypeTree) (k : Kind) → IsOfKind T g operands own edges k → IsOfKind U g operands own edges k
   kinds own (ConstantOp (IntegerAttr t v)) h = h
@@ -153,7 +154,7 @@ module _ (T U : Typing) (g : Func) (used : (j k : ℕ) (b : DialectBlock) (o : D
   block_typed : (j : ℕ) (b : DialectBlock) → slice_get g.blocks j ≡ Some b → IsWellFormedBlock T g b → IsWellFormedBlock U g b
   block_typed j b at h = record {
     args = h.args;
-    ops = at_all (IsWellFormedOp U g) b.ops (λ k o here. op_typed j k b o at here (all_at (IsWellFormedOp T g) b.ops h.ops k o here));
+    ops = all_from (IsWellFormedOp U g) b.ops (λ k o here. op_typed j k b o at here (all_at (IsWellFormedOp T g) b.ops h.ops k o here));
     ends = h.ends;
   }
 
@@ -163,7 +164,7 @@ module _ (T U : Typing) (g : Func) (used : (j k : ℕ) (b : DialectBlock) (o : D
     linkage = w.linkage;
     signature = w.signature;
     params = w.params;
-    blocks = at_all (IsWellFormedBlock U g) g.blocks (λ j b at. block_typed j b at (all_at (IsWellFormedBlock T g) g.blocks w.blocks j b at));
+    blocks = all_from (IsWellFormedBlock U g) g.blocks (λ j b at. block_typed j b at (all_at (IsWellFormedBlock T g) g.blocks w.blocks j b at));
     block_numbers = w.block_numbers;
     numbers = w.numbers;
   }
@@ -193,6 +194,6 @@ module _ (c : ContextData) (f : OpRef) (g : Func) (is : func_in (type_trees c.ty
 
 -- the functions of a module
 pub module_open : (c : ContextData) (m : ℕ) → All LeadsToOwn (data_of c m).functions → All IsFormFunc (data_of c m).functions → All (IsOpenForm c) (data_of c m).functions
-module_open c m own forms = at_all (IsOpenForm c) (data_of c m).functions (λ k g at.
+module_open c m own forms = all_from (IsOpenForm c) (data_of c m).functions (λ k g at.
     let w = made_of (func_in (type_trees c.types) c) (held c m) k g at in
     open_of c w.0 g w.2 (all_at LeadsToOwn (data_of c m).functions own k g at) (all_at IsFormFunc (data_of c m).functions forms k g at))

@@ -2,13 +2,14 @@
 use Rattle.std.proofs.Common.{◌≡◌, ℕ, List, [], ◌∷◌, All, length, slice_get, ap, sym, subst, ◌∙◌, refl, arith}
 use Rattle.std.specs.Prelude.{IfSome}
 use Rattle.std.proofs.lemmas.Option.{same_Some}
+use Rattle.support.proofs.ListLaws.{all_from}
 use Rattle.dialect_types.specs.Trees.{TypeTree, VoidType, IntegerType, FuncType, IntegerAttr}
 use Rattle.dialect_core.specs.declared.ops.Value.{Value}
 use Rattle.dialect_core.specs.declared.ops.Successor.{Successor}
 use Rattle.dialect_core.specs.Data.{Kind, ConstantOp, AddOp, ICmpOp, BrOp, CondBrOp, ReturnOp, UnreachableOp, DialectOp, DialectBlock, Func, value_type}
 use Rattle.dialect_core.specs.Form.{IsShortInt, IsShortResult, IsOperand, IsFormEdge, IsFormKind, IsFormOp, IsFormBlock, IsFormFunc, Leads, Returns, result_of, types_list}
 use Rattle.dialect_core.specs.WellFormed.{AreEdges, IsEdge, IsInteger, IsReturned, IsSignature, IsOfKind, IsWellFormedOp, IsWellFormedBlock, IsWellFormedFunc, IsNarrowOp, IsNarrowBlock, IsNarrowFunc, IsNarrowSignature, Returned, IsTypedBy, params_of, suits, suits_body}
-use Rattle.dialect_core.proofs.LineLemmas.{all_at, at_all}
+use Rattle.dialect_core.proofs.LineLemmas.{all_at}
 
 -- ---- types
 
@@ -23,7 +24,7 @@ short_returned (IntegerType w) h = short_integer (IntegerType w) h
 short_returned (FuncType r ps v) h = absurd h
 
 all_integers : (ts : List TypeTree) → All IsShortInt ts → All IsInteger ts
-all_integers ts h = at_all IsInteger ts (λ k t at. short_integer t (all_at IsShortInt ts h k t at))
+all_integers ts h = all_from IsInteger ts (λ k t at. short_integer t (all_at IsShortInt ts h k t at))
 
 none_of : {X : Type 0} (xs : List X) → length xs ≡ 0 → xs ≡ []
 none_of [] e = refl
@@ -35,12 +36,12 @@ module _ (g : Func) where
   edge : (s : Successor) → IsFormEdge g s → IsEdge (value_type g) g s
   edge s e = record {
     no_entry = e.no_entry;
-    args = at_all (IsTypedBy (value_type g)) s.args (λ k v at. let w = all_at (λ (v : Value). (type : TypeTree) × IsOperand g type v) s.args e.args k v at in (w.0, w.1.typed));
+    args = all_from (IsTypedBy (value_type g)) s.args (λ k v at. let w = all_at (λ (v : Value). (type : TypeTree) × IsOperand g type v) s.args e.args k v at in (w.0, w.1.typed));
     typed = e.typed;
   }
 
   edges : (o : DialectOp) (n : ℕ) → Leads g o n → AreEdges (value_type g) g n o.successors
-  edges o n l = (l.count_is, at_all (IsEdge (value_type g) g) o.successors (λ k s at. edge s (all_at (IsFormEdge g) o.successors l.edges k s at)))
+  edges o n l = (l.count_is, all_from (IsEdge (value_type g) g) o.successors (λ k s at. edge s (all_at (IsFormEdge g) o.successors l.edges k s at)))
 
   returned : (t : TypeTree) (vs : List Value) → Returns g t vs → Returned (value_type g) t vs
   returned VoidType [] h = refl
@@ -65,7 +66,7 @@ module _ (g : Func) where
   well_block : (b : DialectBlock) → IsFormBlock g b → IsWellFormedBlock (value_type g) g b
   well_block b f = record {
     args = all_integers b.args f.args;
-    ops = at_all (IsWellFormedOp (value_type g) g) b.ops (λ k o at. well_kind o o.kind (all_at (IsFormOp g) b.ops f.ops k o at).kind);
+    ops = all_from (IsWellFormedOp (value_type g) g) b.ops (λ k o at. well_kind o o.kind (all_at (IsFormOp g) b.ops f.ops k o at).kind);
     ends = f.ends;
   }
 
@@ -78,7 +79,7 @@ form_is_well_formed g f = record {
   linkage = ap (λ (bs : List DialectBlock). suits bs g.linkage) f.body ∙ ap suits_body f.linkage;
   signature = subst IsSignature (sym f.type) (short_returned f.result f.returns, all_integers (types_list f.types) f.takes);
   params = λ b at. ap (λ (d : DialectBlock). d.args) (sym (same_Some f.entry b (ap (λ (bs : List DialectBlock). slice_get bs 0) (sym f.body) ∙ at))) ∙ f.params ∙ ap params_of (sym f.type);
-  blocks = at_all (IsWellFormedBlock (value_type g) g) g.blocks (λ k b at. well_block g b (all_at (IsFormBlock g) g.blocks f.blocks k b at));
+  blocks = all_from (IsWellFormedBlock (value_type g) g) g.blocks (λ k b at. well_block g b (all_at (IsFormBlock g) g.blocks f.blocks k b at));
   block_numbers = f.block_numbers;
   numbers = f.numbers;
 }
@@ -98,7 +99,7 @@ result_short g o UnreachableOp h = rw h.1.result tt
 narrow_block : (g : Func) (b : DialectBlock) → IsFormBlock g b → IsNarrowBlock b
 narrow_block g b f = record {
   args = f.args;
-  ops = at_all IsNarrowOp b.ops (λ k o at. let h = all_at (IsFormOp g) b.ops f.ops k o at in record { result = result_short g o o.kind h.kind; name = h.name });
+  ops = all_from IsNarrowOp b.ops (λ k o at. let h = all_at (IsFormOp g) b.ops f.ops k o at in record { result = result_short g o o.kind h.kind; name = h.name });
   label = f.label;
 }
 
@@ -108,6 +109,6 @@ form_is_narrow g f = record {
   name = f.name;
   linkage = f.linkage;
   signature = subst IsNarrowSignature (sym f.type) (f.returns, f.takes, refl);
-  blocks = at_all IsNarrowBlock g.blocks (λ k b at. narrow_block g b (all_at (IsFormBlock g) g.blocks f.blocks k b at));
+  blocks = all_from IsNarrowBlock g.blocks (λ k b at. narrow_block g b (all_at (IsFormBlock g) g.blocks f.blocks k b at));
   body = λ none. let few = ap length (sym f.body ∙ none) in absurd (omega (arith, few));
 }

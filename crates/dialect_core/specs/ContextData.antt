@@ -1,6 +1,7 @@
 -- A context as lists: numbers name the items of its lists.
 use Rattle.std.specs.Prelude.{◌≡◌, ◌⊎◌, ◌<◌, ℕ, Bool, true, false, List, [], ◌∷◌, ◌++◌, Option, Some, None, All, is_some, length, slice_get}
 use Rattle.std.specs.Option.{option_map, option_map_or, option_and_then}
+use Rattle.support.specs.Changes.{with_change}
 use Rattle.dialect_types.specs.declared.types.TypeHandle.{TypeHandle}
 use Rattle.dialect_types.specs.declared.types.TypeKind.{TypeKind}
 use Rattle.dialect_core.specs.declared.numbers.OpRef.{OpRef}
@@ -13,7 +14,6 @@ use Rattle.dialect_core.specs.declared.ops.OpKind.TheVariants.{Module, Func}
 use Rattle.dialect_core.specs.declared.ops.Symbol.{Symbol}
 use Rattle.dialect_core.specs.declared.ops.OpData.{OpData}
 use Rattle.dialect_core.specs.declared.ops.BlockData.{BlockData}
-use Rattle.dialect_core.specs.Lists.{with_change}
 
 -- the types, operations and blocks by number; of each operation also the block that it stands in, and of each block its operations in order
 pub record ContextData : Type 0 where

@@ -1,6 +1,6 @@
 -- The lists of operations that blocks hold.
-use Rattle.std.specs.Prelude.{◌≡◌, ◌⊎◌, ℕ, List, [], ◌∷◌, Option, Some, None, nat_eq, if◌then◌else◌, slice_get, slice_set, slice_index_or}
-use Rattle.std.specs.Option.{option_map_or, option_and_then}
+use Rattle.std.specs.Prelude.{◌≡◌, ◌⊎◌, ℕ, List, [], ◌∷◌, Option, Some, None, nat_eq, if◌then◌else◌, slice_get, slice_index_or}
+use Rattle.std.specs.Option.{option_and_then}
 use Rattle.dialect_core.specs.declared.numbers.OpRef.{OpRef}
 use Rattle.dialect_core.specs.declared.numbers.BlockRef.{BlockRef}
 
@@ -8,10 +8,6 @@ use Rattle.dialect_core.specs.declared.numbers.BlockRef.{BlockRef}
 pub record Lists : Type 0 where
   pub parents : List (Option BlockRef)
   pub lists : List (List OpRef)
-
--- xs, with f of the item at i in its place
-abbrev pub with_change : {X : Type 0} → (X → X) → ℕ → List X → List X
-with_change f i xs = option_map_or (λ x. slice_set xs i (f x)) (slice_get xs i) xs
 
 -- the operation after that of the number n
 abbrev pub next_of : ℕ → List OpRef → Option OpRef

@@ -1,7 +1,8 @@
 -- The numbers that were noted, as functions of values and blocks.
-use Rattle.std.specs.Prelude.{◌≡◌, ℕ, List, [], ◌∷◌, Option, Some, None}
+use Rattle.std.specs.Prelude.{◌≡◌, ℕ, List, [], ◌∷◌, Option}
 use Rattle.std.specs.HashMap.{get}
 use Rattle.std.specs.Map.{lookup}
+use Rattle.support.specs.Options.{or_else}
 use Rattle.dialect_types.specs.Trees.{type_trees}
 use Rattle.dialect_core.specs.declared.numbers.OpRef.{OpRef}
 use Rattle.dialect_core.specs.declared.numbers.BlockRef.{BlockRef}
@@ -12,11 +13,6 @@ use Rattle.dialect_core.specs.Data.{DialectOp, Func, op_at, block_in, func_in}
 use Rattle.dialect_core.specs.Text.{same_value, same_block, option_items, result_of, block_values, func_values, func_blocks, numbered_from}
 use Rattle.dialect_core.specs.contracts.ops.ValuePartialEq.TheImpl as values
 use Rattle.dialect_core.specs.contracts.numbers.BlockRefPartialEq.TheImpl as blocks
-
--- the first, where there is one, else the other
-abbrev pub or_else : {X : Type 0} → Option X → Option X → Option X
-or_else None b = b
-or_else (Some x) b = Some x
 
 -- the number of a value
 abbrev pub value_at : Numbering → Value → Option ℕ

@@ -20,12 +20,12 @@ use crate::numbers::{BlockRef, FuncOp, ModuleOp, OpRef};
 use crate::ops::{BlockData, OpData, OpKind, Successor, Symbol, Value};
 use crate::steps::Steps;
 use dialect_types::identifier::Identifier;
-use dialect_types::items::Items;
 use dialect_types::type_store::TypeStore;
 use dialect_types::types::TypeHandle;
 use std::alloc::{AllocError, Global};
 use std::marker::Model;
 use std::sync::ledger::Ledger;
+use support::items::Items;
 
 /// Operations, blocks and their types. Operations that stand in no block are kept too.
 #[derive(Drop)]

@@ -8,11 +8,12 @@ ghost use Rattle.dialect_core.specs.Text.{arguments_from, numbered_from, value_n
 ghost use Rattle.dialect_core.specs.Numbering.{Numbered, value_at, block_at, op_values, values_of_block, values_of_func, blocks_of_func};
 
 use crate::context::Context;
-use crate::numbering::{Numbering, note};
+use crate::numbering::Numbering;
 use crate::numbers::{BlockRef, ModuleOp, OpRef};
 use crate::ops::{OpKind, Value};
 use dialect_types::types::TypeHandle;
 use std::alloc::{AllocError, Global};
+use support::noting::note;
 
 /// Gives a value the next number, where it has none, and answers the number after that.
 fn number_value(numbers: &mut Numbering, value: Value, next: u64) -> Result<u64, AllocError>

@@ -2,13 +2,14 @@
 
 ghost use Rattle.std.specs.Prelude.{◌≡◌, ◌<◌, ◌++◌, ◌∷◌, [], None, Some, length, slice_get, slice_set, OnOk, OnErr, IfOk, IfSome};
 ghost use Rattle.std.specs.Option.{option_map, option_map_or};
-ghost use Rattle.dialect_core.specs.Lists.{AllApart, Has, Lists, list_at, with_change, next_in};
+ghost use Rattle.support.specs.Changes.{with_change};
+ghost use Rattle.dialect_core.specs.Lists.{AllApart, Has, Lists, list_at, next_in};
 ghost use Rattle.dialect_core.specs.Links.{with_next};
 
 use crate::numbers::{BlockRef, OpRef};
-use dialect_types::items::{Items, append_both};
 use std::alloc::{AllocError, Global};
 use std::marker::Model;
+use support::items::{Items, append_both};
 
 /// The block that an operation stands in, and the operation after it there.
 #[derive(Clone, Copy, Drop)]

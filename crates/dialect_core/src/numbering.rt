@@ -1,14 +1,12 @@
 //! The numbers that values and blocks have in the text of a module.
 
-ghost use Rattle.std.specs.Prelude.{◌≡◌, OnOk, Some, None, if◌then◌else◌};
-ghost use Rattle.std.specs.HashMap.{get};
-ghost use Rattle.dialect_core.specs.Numbering.{or_else, value_at, block_at};
+ghost use Rattle.std.specs.Prelude.{◌≡◌, None};
+ghost use Rattle.dialect_core.specs.Numbering.{value_at, block_at};
 
 use crate::numbers::BlockRef;
 use crate::ops::Value;
-use std::alloc::{AllocError, Global};
+use std::alloc::Global;
 use std::collections::HashMap;
-use std::hash::Hash;
 
 /// The numbers of values and blocks that were met.
 #[derive(Drop)]
@@ -42,16 +40,4 @@ impl Numbering {
     {
         self.blocks.get(&block).copied()
     }
-}
-
-/// Notes the number of a key that has none.
-pub fn note<K: Eq + Hash + Drop>(
-    map: &mut HashMap<K, u64>,
-    key: K,
-    number: u64,
-) -> Result<(), AllocError>
-    ensures { OnOk result ((q : K) → get K.eq map.new q ≡ or_else (get K.eq map.old q) (if K.eq key q then Some number else None)) }
-{
-    map.entry(key)?.or_insert(number);
-    Ok(())
 }

@@ -6,8 +6,8 @@ use crate::overflow::IntegerOverflowFlagsAttr;
 use crate::predicates::ICmpPredicateAttr;
 use dialect_types::attrs::ConstAttr;
 use dialect_types::identifier::Identifier;
-use dialect_types::items::Items;
 use dialect_types::types::TypeHandle;
+use support::items::Items;
 
 /// What an operand names.
 #[derive(Clone, Copy, PartialEq, Eq, Hash, Debug, Drop)]

@@ -1,11 +1,11 @@
 -- Trees of types: a store that grows keeps them, a number's tree is that of its kind, and equal trees have equal numbers.
 use Rattle.std.proofs.Common.{◌≡◌, ◌<◌, ◌+◌, ℕ, zero, suc, List, [], ◌∷◌, ◌++◌, Some, length, slice_get, get_or, ap, sym, ◌∙◌, refl, arith, length-append, inl, inr, ◌⊎◌, subst}
-use Rattle.std.proofs.lemmas.Option.{slice_get-get_or}
+use Rattle.std.proofs.lemmas.Option.{slice_get-get_or, same_Some}
 use Rattle.std.proofs.Math.ListN.{get_or-append}
 use Rattle.dialect_types.specs.declared.types.TypeHandle.{TypeHandle}
 use Rattle.dialect_types.specs.declared.types.TypeKind.{TypeKind}
 use Rattle.dialect_types.specs.declared.types.TypeKind.TheVariants.{Integer, Func, Void}
-use Rattle.dialect_types.specs.Interned.{Interned, IsDistinctList}
+use Rattle.support.specs.Interned.{Interned, IsDistinctList}
 use Rattle.dialect_types.specs.Trees.{TypeTree, VoidType, IntegerType, FuncType, trees_after, type_at, types_at, type_tree, type_trees, AllBelow, HasPartsBelow, IsGrounded, IsDistinctAsTrees}
 use Rattle.dialect_types.proofs.KeyLemmas.{same_handle}
 
@@ -53,9 +53,6 @@ last_or [] x d (suc i) e = absurd (omega arith)
 last_or (y ∷ xs) x d zero e = absurd (omega arith)
 last_or (y ∷ xs) x d (suc i) e = last_or xs x d i (omega arith)
 
-some_same : {X : Type 0} (x y : X) → Some x ≡ Some y → x ≡ y
-some_same x y h = cc
-
 at_number : (done : List TypeTree) (ks : List TypeKind) (j i : ℕ) (k : TypeKind) → i ≡ length done + j → slice_get ks j ≡ Some k → HasPartsBelow i k → get_or (trees_after type_tree done ks) i VoidType ≡ type_tree (trees_after type_tree done ks) k
 at_number done [] j i k e h p = cc
 at_number done (l ∷ ks) zero i k e h p =
@@ -63,7 +60,7 @@ at_number done (l ∷ ks) zero i k e h p =
     let at : i ≡ length done = omega arith in
     let longer : i < length one = omega (arith, length-append done (type_tree done l ∷ [])) in
     kept one ks i longer ∙ last_or done (type_tree done l) VoidType i at
-    ∙ ap (type_tree done) (some_same l k h)
+    ∙ ap (type_tree done) (same_Some l k h)
     ∙ same_tree done (trees_after type_tree one ks) i (λ j below. sym (kept done (l ∷ ks) j (omega (arith, at)))) k p
 at_number done (l ∷ ks) (suc j) i k e h p =
     at_number (done ++ type_tree done l ∷ []) ks j i k (omega (arith, length-append done (type_tree done l ∷ []))) h p
@@ -117,8 +114,8 @@ trees_distinct ks ok apart a b within_a within_b h = by_size ks ok apart (a.0 + 
 
 -- ---- a store after a type was asked for
 
-push_cases : {X : Type 0} (xs : List X) (x y : X) (i : ℕ) → slice_get (xs ++ x ∷ []) i ≡ Some y → (slice_get xs i ≡ Some y) ⊎ ((y ≡ x) × (i ≡ length xs))
-push_cases [] x y zero h = inr (sym (some_same x y h), refl)
+pub push_cases : {X : Type 0} (xs : List X) (x y : X) (i : ℕ) → slice_get (xs ++ x ∷ []) i ≡ Some y → (slice_get xs i ≡ Some y) ⊎ ((y ≡ x) × (i ≡ length xs))
+push_cases [] x y zero h = inr (sym (same_Some x y h), refl)
 push_cases [] x y (suc i) h = cc
 push_cases (z ∷ xs) x y zero h = inl h
 push_cases (z ∷ xs) x y (suc i) h = elim (push_cases xs x y i h) [ inl old ↦ inl old | inr new ↦ inr (new.0, ap suc new.1) ]

@@ -1,5 +1,4 @@
 -- The definitions that contracts cite.
-pub mod Interned
 pub mod Names
 pub mod Text
 pub mod Trees

@@ -1,13 +1,13 @@
 //! The types of a context, each kept once.
 
 ghost use Rattle.std.specs.Prelude.{◌≡◌, ℕ, ◌<◌, ◌≤◌, IfOk, OnErr, OnOk, Some, length, slice_get, [], ◌∷◌, ◌++◌};
-ghost use Rattle.dialect_types.specs.Interned.{Interned};
+ghost use Rattle.support.specs.Interned.{Interned};
 ghost use Rattle.dialect_types.specs.Trees.{HasPartsBelow, IsDistinctAsTrees, depth, type_at, type_tree, type_trees};
 
-use crate::interner::Interner;
 use crate::types::{TypeHandle, TypeKind};
 use std::alloc::{AllocError, Global};
 use std::marker::Model;
+use support::interner::Interner;
 
 /// Types that are each kept once, seen as the list of their kinds in order of making.
 #[derive(Drop)]

@@ -1,6 +1,6 @@
 //! Types, as a store keeps them.
 
-use crate::items::Items;
+use support::items::Items;
 
 /// The number of a type in its store.
 #[derive(Clone, Copy, PartialEq, Eq, Hash, Debug, Drop)]

@@ -4,14 +4,16 @@ use Rattle.std.specs.Prelude.{unwrap_or}
 use Rattle.std.specs.Option.{option_map}
 use Rattle.std.proofs.lemmas.Bool.{eqb-true, eqb-false}
 use Rattle.std.proofs.lemmas.List.Elements.{All-nil, All-push, All-weaker}
-use Rattle.std.proofs.lemmas.Option.{slice_get_within, unwrap_or-slice_get, none-some}
+use Rattle.std.proofs.lemmas.Option.{unwrap_or-slice_get}
+use Rattle.dialect_core.proofs.ContextLemmas.{kind_there}
+use Rattle.support.specs.Changes.{with_change}
 use Rattle.dialect_core.specs.declared.numbers.OpRef.{OpRef}
 use Rattle.dialect_core.specs.declared.numbers.BlockRef.{BlockRef}
 use Rattle.dialect_core.specs.declared.ops.OpKind.{OpKind}
 use Rattle.dialect_core.specs.declared.ops.OpKind.TheVariants as K
 use Rattle.dialect_core.specs.declared.ops.OpData.{OpData}
 use Rattle.dialect_core.specs.declared.ops.BlockData.{BlockData}
-use Rattle.dialect_core.specs.Lists.{list_at, with_change}
+use Rattle.dialect_core.specs.Lists.{list_at}
 use Rattle.dialect_core.specs.ContextData.{ContextData, with_op, with_block, with_appended, kind_at}
 use Rattle.dialect_core.specs.WellFormed.{IsPlainAt}
 use Rattle.dialect_core.proofs.CallerLemmas.{old_kind, changed_kind}
@@ -53,13 +55,6 @@ list_more lists b = by lists b.0
     by (x ∷ xs) (ℕ.suc n) = by xs n
 
 -- ---- kinds
-
-pub kind_there : (ops : List OpData) (o : OpRef) (k : OpKind) → kind_at ops o ≡ Some k → o.0 < length ops
-kind_there ops o k h = by (slice_get ops o.0) refl h
-  where
-    by : (v : Option OpData) → slice_get ops o.0 ≡ v → option_map (λ (x : OpData). x.kind) v ≡ Some k → o.0 < length ops
-    by None e h = absurd (none-some k h)
-    by (Some x) e h = slice_get_within ops o.0 x e
 
 kept_kind : (ops : List OpData) (x : OpData) (o : OpRef) (k : OpKind) → kind_at ops o ≡ Some k → kind_at (ops ++ x ∷ []) o ≡ Some k
 kept_kind ops x o k h = old_kind ops x o (kind_there ops o k h) ∙ h

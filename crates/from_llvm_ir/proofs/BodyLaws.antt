@@ -4,12 +4,14 @@ use Rattle.std.specs.Option.{option_map}
 use Rattle.std.proofs.lemmas.List.{append-nil, append_assoc, length-append, take_all, take_at, take-append-le, length-take-le}
 use Rattle.std.proofs.lemmas.List.Elements.{All-nil}
 use Rattle.std.proofs.lemmas.Option.{slice_get_within, same_Some, none-some, slice_get-map}
+use Rattle.dialect_types.proofs.TreeLemmas.{push_cases}
+use Rattle.meaning.proofs.MatchedLaws.{matched_length, matched_at}
 use Rattle.llvm_core.specs.declared.numbers.LLVMBasicBlock.{LLVMBasicBlock}
 use Rattle.llvm_core.specs.declared.numbers.LLVMFunction.{LLVMFunction}
 use Rattle.llvm_core.specs.declared.numbers.LLVMInstRef.{LLVMInstRef}
 use Rattle.llvm_core.specs.declared.code.LLVMValue.TheVariants as K
 use Rattle.llvm_core.specs.Module.{Module}
-use Rattle.llvm_core.proofs.ListLemmas.{distinct_push}
+use Rattle.support.proofs.ListLaws.{distinct_push, slice_get-behind, slice_get-kept, slice_get-behind_cases, take_next}
 use Rattle.llvm_core.specs.Form as LF
 use Rattle.llvm_core.specs.Form.{is_phi, operands_of}
 use Rattle.llvm_core.specs.Data as L
@@ -21,7 +23,6 @@ use Rattle.dialect_core.specs.declared.ops.Successor.{Successor}
 use Rattle.dialect_core.specs.ContextData.{ContextData}
 use Rattle.dialect_core.specs.Data.{DialectBlock, DialectOp}
 use Rattle.dialect_core.specs.Form.{uses_of}
-use Rattle.dialect_core.proofs.ListLemmas.{push_cases}
 use Rattle.meaning.specs.Pairs.{Matched}
 use Rattle.from_llvm_ir.specs.declared.values.Values.{Values}
 use Rattle.from_llvm_ir.specs.declared.entries.Entries.{Entries}
@@ -35,9 +36,9 @@ use Rattle.from_llvm_ir.specs.Known.{Frame, Known, blocks_of, knows, value_of, r
 use Rattle.from_llvm_ir.specs.Converted.{Converted, IsEdge, IsRow, IsHead, AreHeads, args_for, StandsIn, HasOrder, HasPhis, IsConverted, AreConverted, IsFrom, FromArgument, FromResult, AreFrom}
 use Rattle.from_llvm_ir.specs.Body.{all_uses, insts_before, AreTargets, IsFramed, IsFilled, IsBody, IsAt, IsBegun}
 use Rattle.from_llvm_ir.proofs.BuildLaws.{length-push}
-use Rattle.from_llvm_ir.proofs.ListLaws.{kept_at, kept_behind, take_next, matched_at, matched_length, matched_weaker, other_there}
+use Rattle.from_llvm_ir.proofs.ListLaws.{matched_weaker, other_there}
 use Rattle.from_llvm_ir.proofs.OrderLaws.{ordered_at, ordered_first}
-use Rattle.from_llvm_ir.proofs.PlaceLaws.{split_at, untake, flat_from, flat_same, flat_next, filter_all, filter_next, filter_skip, number_apart}
+use Rattle.from_llvm_ir.proofs.PlaceLaws.{untake, flat_from, flat_same, flat_next, filter_all, filter_next, filter_skip, number_apart}
 use Rattle.from_llvm_ir.proofs.PassLaws.{count_there, phi_is, phi_form, block_form, there_edge, target_there}
 use Rattle.from_llvm_ir.proofs.SourceLaws.{block_number, inst_number}
 use Rattle.from_llvm_ir.proofs.FrameLaws.{NamedAt}
@@ -129,21 +130,21 @@ from_pushed fr cs os ps ws p to bs n h here i q w at_q at_w = by (push_cases ps 
 
 -- more blocks leave where a value comes from
 from_kept : (bs more : List DialectBlock) (p : Placed) (w : Value) → IsFrom bs p w → IsFrom (bs ++ more) p w
-from_kept bs more p w (FromArgument j i c at is type) = FromArgument j i c (kept_at bs more j c at) is type
-from_kept bs more p w (FromResult j y c o at here is type) = FromResult j y c o (kept_at bs more j c at) here is type
+from_kept bs more p w (FromArgument j i c at is type) = FromArgument j i c (slice_get-kept bs more j c at) is type
+from_kept bs more p w (FromResult j y c o at here is type) = FromResult j y c o (slice_get-kept bs more j c at) here is type
 
 -- other operations leave the heads
 heads_with : (fr : Frame) (left : List DialectBlock) (now : DialectBlock) (os : List DialectOp) (right : List DialectBlock) → AreHeads fr (left ++ now ∷ right) → AreHeads fr (left ++ with_ops now os ∷ right)
-heads_with fr left now os right h place b c at_b at_c = elim (split_at left (with_ops now os ∷ right) place c at_c) [
-  | inl a ↦ h place b c at_b (kept_at left (now ∷ right) place c a)
+heads_with fr left now os right h place b c at_b at_c = elim (slice_get-behind_cases left (with_ops now os ∷ right) place c at_c) [
+  | inl a ↦ h place b c at_b (slice_get-kept left (now ∷ right) place c a)
   | inr z ↦ by z.0 z.1 z.2
 ]
   where
     by : (q : ℕ) → place ≡ length left + q → slice_get (with_ops now os ∷ right) q ≡ Some c → IsHead fr place b c
     by ℕ.zero is e =
-        let x = h place b now at_b (ap (slice_get (left ++ now ∷ right)) is ∙ kept_behind left (now ∷ right) 0) in
+        let x = h place b now at_b (ap (slice_get (left ++ now ∷ right)) is ∙ slice_get-behind left (now ∷ right) 0) in
         subst (IsHead fr place b) (same_Some (with_ops now os) c e) (record { number = x.number; label = x.label; args = x.args })
-    by (ℕ.suc q) is e = h place b c at_b (ap (slice_get (left ++ now ∷ right)) is ∙ kept_behind left (now ∷ right) (ℕ.suc q) ∙ e)
+    by (ℕ.suc q) is e = h place b c at_b (ap (slice_get (left ++ now ∷ right)) is ∙ slice_get-behind left (now ∷ right) (ℕ.suc q) ∙ e)
 
 -- one converted block more
 converted_then : (k : Known) (left : List DialectBlock) (b : L.Block) (c : DialectBlock) → AreConverted k left → slice_get (blocks_of k.frame) (length left) ≡ Some b → IsConverted k left (length left) b c → AreConverted k (left ++ c ∷ [])
@@ -222,7 +223,7 @@ filled fr m c values j x b le h =
     let k : Known = knows fr h.constants h.hoisted (insts_before fr j ++ take x b.instructions) h.done in
     let joined : h.left ++ c' ∷ h.right ≡ (h.left ++ c' ∷ []) ++ h.right = sym (append_assoc h.left (c' ∷ []) h.right) in
     let heads : AreHeads fr (h.left ++ c' ∷ h.right) = heads_with fr h.left h.now (front_for j h.hoisted ++ h.rest) h.right h.heads in
-    let head : IsHead fr j b c' = heads j b c' h.source (ap (slice_get (h.left ++ c' ∷ h.right)) (let e : j ≡ length h.left + 0 = omega (arith, h.at) in e) ∙ kept_behind h.left (c' ∷ h.right) 0) in
+    let head : IsHead fr j b c' = heads j b c' h.source (ap (slice_get (h.left ++ c' ∷ h.right)) (let e : j ≡ length h.left + 0 = omega (arith, h.at) in e) ∙ slice_get-behind h.left (c' ∷ h.right) 0) in
     let new : IsConverted k h.left j b c' = record {
       head = head;
       rest = h.rest;
@@ -278,7 +279,7 @@ module _ (fr : Frame) (form : LF.IsFormFunction fr.source) (order : IsPlaces (le
 
   -- no earlier instruction has its number
   pub number_fresh : (j x : ℕ) (b : L.Block) (p : Placed) → slice_get (blocks_of fr) j ≡ Some b → slice_get b.instructions x ≡ Some p → (y : ℕ) (q : Placed) → slice_get (insts_before fr j ++ take x b.instructions) y ≡ Some q → ¬ (q.number ≡ p.number)
-  number_fresh j x b p at here y q at_q same = elim (split_at (insts_before fr j) (take x b.instructions) y q at_q) [
+  number_fresh j x b p at here y q at_q same = elim (slice_get-behind_cases (insts_before fr j) (take x b.instructions) y q at_q) [
     | inl before ↦
         let f = flat_from (λ (z : L.Block). z.instructions) (take j (blocks_of fr)) y q before in
         let u = untake (blocks_of fr) j f.place f.item f.here in
@@ -364,9 +365,9 @@ phi_taken fr m f targets entries c old new from block i j x b p h phi noted =
     let longer : length (filter is_phi (take (x + 1) b.instructions)) ≡ x + 1 = ap (λ (qs : List Placed). length qs) phis ∙ length-push (filter is_phi (take x b.instructions)) p ∙ ap (λ (n : ℕ). n + 1) count in
     let rest : filter (λ (q : Placed). not (is_phi q)) (take (x + 1) b.instructions) ≡ filter (λ (q : Placed). not (is_phi q)) (take x b.instructions) = filter_skip (λ (q : Placed). not (is_phi q)) b.instructions x p here (ap not phi) in
     let heads : AreHeads fr (body.left ++ c' ∷ body.right) = heads_with fr body.left body.now (front_for j os ++ body.rest) body.right body.heads in
-    let head : IsHead fr j b c' = heads j b c' body.source (ap (slice_get (body.left ++ c' ∷ body.right)) (let e : j ≡ length body.left + 0 = omega (arith, body.at) in e) ∙ kept_behind body.left (c' ∷ body.right) 0) in
+    let head : IsHead fr j b c' = heads j b c' body.source (ap (slice_get (body.left ++ c' ∷ body.right)) (let e : j ≡ length body.left + 0 = omega (arith, body.at) in e) ∙ slice_get-behind body.left (c' ∷ body.right) 0) in
     let number : block.0 ≡ c'.number = h.number ∙ sym head.number in
-    let made : IsFrom (body.left ++ c' ∷ []) p w = FromArgument j x c' (ap (slice_get (body.left ++ c' ∷ [])) (let e : j ≡ length body.left + 0 = omega (arith, body.at) in e) ∙ kept_behind body.left (c' ∷ []) 0)
+    let made : IsFrom (body.left ++ c' ∷ []) p w = FromArgument j x c' (ap (slice_get (body.left ++ c' ∷ [])) (let e : j ≡ length body.left + 0 = omega (arith, body.at) in e) ∙ slice_get-behind body.left (c' ∷ []) 0)
     (ap (λ (n : ℕ). V.Argument (record { 0 = n }) x) number) (ap (λ (ts : List _). slice_get ts x) head.args ∙ phi_typed fr form order j x b p body.source here phi) in
     record {
       constants = cs;

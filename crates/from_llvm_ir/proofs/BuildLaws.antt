@@ -3,6 +3,9 @@ use Rattle.std.proofs.Common.{ℕ, ◌≡◌, ◌<◌, ◌≤◌, ◌+◌, inl, 
 use Rattle.std.specs.Option.{option_map, option_map_or, option_and_then}
 use Rattle.std.proofs.lemmas.List.Elements.{All-nil, All-push, All-map, All-weaker}
 use Rattle.std.proofs.lemmas.Bool.{eqb-true}
+use Rattle.dialect_core.proofs.ContextLemmas.{kind_there}
+use Rattle.support.proofs.ListLaws.{slice_get-before, length-with_change}
+use Rattle.support.specs.Changes.{with_change}
 use Rattle.dialect_types.specs.declared.types.TypeHandle.{TypeHandle}
 use Rattle.dialect_types.specs.Trees.{type_at, type_trees}
 use Rattle.dialect_core.specs.declared.numbers.OpRef.{OpRef}
@@ -14,12 +17,12 @@ use Rattle.dialect_core.specs.declared.ops.BlockData.{BlockData}
 use Rattle.dialect_core.specs.declared.linkage.LinkageAttr.TheVariants.{ExternalLinkage}
 use Rattle.dialect_core.specs.ContextData.{ContextData, with_op, with_appended, with_block, kind_at, region_at, HoldsMore}
 use Rattle.dialect_core.specs.Data.{DialectModule, Func, DialectBlock, data_of, func_of, func_in, more_block, with_func, with_func_block}
-use Rattle.dialect_core.specs.Lists.{list_at, with_change}
-use Rattle.dialect_core.proofs.ListLemmas.{slice_get-append, slice_get-last}
-use Rattle.dialect_core.proofs.FilterLemmas.{change_get, change_length}
+use Rattle.dialect_core.specs.Lists.{list_at}
+use Rattle.dialect_core.proofs.ListLemmas.{slice_get-last}
+use Rattle.dialect_core.proofs.FilterLemmas.{change_get}
 use Rattle.from_llvm_ir.specs.Imported.{HasFuncsApart, IsHeld, IsOwn, IsBuilding, IsBelow}
 use Rattle.from_llvm_ir.specs.Building.{bare_func}
-use Rattle.from_llvm_ir.proofs.ApartLaws.{kind_there, op_apart, func_apart, block_apart}
+use Rattle.from_llvm_ir.proofs.ApartLaws.{op_apart, func_apart, block_apart}
 use Rattle.from_llvm_ir.proofs.OwnLaws.{own_op, own_appended, own_block}
 
 pub length-push : {X : Type 0} (xs : List X) (x : X) → length (xs ++ x ∷ []) ≡ length xs + 1
@@ -27,7 +30,7 @@ length-push xs x = length-append xs (x ∷ [])
 
 -- an operation that is there stays where it is
 still : (ops : List OpData) (x : OpData) (i : ℕ) → i < length ops → slice_get (ops ++ x ∷ []) i ≡ slice_get ops i
-still ops x i small = slice_get-append ops (x ∷ []) i small
+still ops x i small = slice_get-before ops (x ∷ []) i small
 
 pub holder_kept : (ops : List OpData) (x : OpData) (v : Option BlockData) (k : OpKind) → option_and_then (λ (b : BlockData). kind_at ops b.holder) v ≡ Some k → option_and_then (λ (b : BlockData). kind_at (ops ++ x ∷ []) b.holder) v ≡ Some k
 holder_kept ops x None k h = h
@@ -138,7 +141,7 @@ region_change ops b i m apart =
     ap (λ (v : Option OpData). option_map_or (λ (y : OpData). y.blocks) v []) (change_get (region_more b) i ops m ∙ ap (λ (t : Bool). if t then option_map (region_more b) (slice_get ops m) else slice_get ops m) apart)
 
 block_still : (blocks : List BlockData) (x : BlockData) (i : ℕ) → i < length blocks → slice_get (blocks ++ x ∷ []) i ≡ slice_get blocks i
-block_still blocks x i small = slice_get-append blocks (x ∷ []) i small
+block_still blocks x i small = slice_get-before blocks (x ∷ []) i small
 
 below_block_if : (t : Bool) (n k : ℕ) (b : DialectBlock) (f : Func) → b.number < k → IsBelow n k f → IsBelow n k (if t then record f { blocks = f.blocks ++ b ∷ [] } else f)
 below_block_if true n k b f small h = (h.0, All-push (λ (x : DialectBlock). x.number < k) f.blocks b h.1 small)
@@ -178,11 +181,11 @@ added_block c0 c1 m body d b f label args h func e number is typed empty =
       };
       apart = subst (λ (c : ContextData). HasFuncsApart c body) (sym e) (block_apart c0 b body x h.apart number bare);
       is = is ∙ ap (λ (y : DialectModule). with_func_block y f.0 (new_block c0 b label args)) h.is;
-      there = rw ops (omega (arith, h.there, change_length (region_more b) f.0 c0.ops));
+      there = rw ops (omega (arith, h.there, length-with_change (region_more b) f.0 c0.ops));
       own = subst (λ (c : ContextData). IsOwn c m body) (sym e) (own_block c0 b x m body h.own number (omega (arith, number, h.held.block)) typed bare);
       below = rw (ops, blocks)
           (below_block (length (with_change (region_more b) f.0 c0.ops)) (length (c0.blocks ++ x ∷ [])) f.0 (new_block c0 b label args) d.functions (omega (arith, number, length-push c0.blocks x))
-          (below_more (length c0.ops) (length c0.blocks) _ _ (omega (arith, change_length (region_more b) f.0 c0.ops)) (omega (arith, length-push c0.blocks x)) d.functions h.below));
+          (below_more (length c0.ops) (length c0.blocks) _ _ (omega (arith, length-with_change (region_more b) f.0 c0.ops)) (omega (arith, length-push c0.blocks x)) d.functions h.below));
     }
 
 -- the context has a block more

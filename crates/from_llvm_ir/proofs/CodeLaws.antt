@@ -1,10 +1,11 @@
 -- A function that an import made has the code of the one that it stands for.
 use Rattle.std.proofs.Common.{ℕ, zero, suc, ◌≡◌, ◌<◌, ◌≤◌, refl, sym, ◌∙◌, ap, true, List, [], ◌∷◌, Some, length, slice_get, slice_index_or, arith}
 use Rattle.std.proofs.lemmas.Option.{slice_get_within}
+use Rattle.support.proofs.ListLaws.{item_there}
 use Rattle.llvm_core.specs.Data as L
 use Rattle.llvm_core.specs.Data.{ModuleData, TypeTree, VoidType, IntType, FunctionType, TypeTrees, NoTypes, ThenType}
 use Rattle.llvm_core.specs.Form.{IsFormFunction}
-use Rattle.llvm_core.proofs.DataLemmas.{within_at, there}
+use Rattle.llvm_core.proofs.DataLemmas.{within_at}
 use Rattle.dialect_core.specs.Data as D
 use Rattle.meaning.specs.Terms.{Match}
 use Rattle.meaning.specs.Code.{FunctionSymbol, External, SameNamed, SameBody, IsOneToOne}
@@ -46,13 +47,13 @@ one_to_one x n m here h is same = record {
       let inside : i < n = let s = slice_get_within x.places i j at in let c = h.count in omega (arith, s, c) in
       (i, inside, is i ∙ index_inside x.places i j i at);
   within = λ i small.
-      let (p, at) = there x.places i (let c = h.count in omega (arith, small, c)) in
+      let (p, at) = item_there x.places i (let c = h.count in omega (arith, small, c)) in
       let low : p < n = within_at x.places (λ (q : ℕ). q < n) h.within i p at in
       let e : here i ≡ p = is i ∙ index_inside x.places i p i at in
       omega (arith, low, e, same);
   apart = λ i j si sj e.
-      let (p, at) = there x.places i (let c = h.count in omega (arith, si, c)) in
-      let (q, bt) = there x.places j (let c = h.count in omega (arith, sj, c)) in
+      let (p, at) = item_there x.places i (let c = h.count in omega (arith, si, c)) in
+      let (q, bt) = item_there x.places j (let c = h.count in omega (arith, sj, c)) in
       let one : p ≡ q = sym (index_inside x.places i p i at) ∙ sym (is i) ∙ e ∙ is j ∙ index_inside x.places j q j bt in
       h.apart i j p at (bt ∙ ap Some (sym one));
 }

@@ -1,6 +1,5 @@
 -- Constants of the source and the operations that make them.
-use Rattle.std.proofs.Common.{ℕ, ◌≡◌, ◌<◌, ◌≤◌, ◌^◌, refl, sym, ap, subst, ◌∙◌, false, [], Option, Some, None, slice_get, arith}
-use Rattle.std.specs.Option.{is_some}
+use Rattle.std.proofs.Common.{ℕ, ◌≡◌, ◌<◌, ◌≤◌, ◌^◌, refl, sym, ap, subst, ◌∙◌, [], Some, None, slice_get, arith}
 use Rattle.std.proofs.Math.Nat.{pow-le-pow_right}
 use Rattle.llvm_core.specs.declared.numbers.LLVMType.{LLVMType}
 use Rattle.llvm_core.specs.declared.numbers.LLVMConst.{LLVMConst}
@@ -46,10 +45,6 @@ const_made m c t v n ty at h is =
     let int : ty ≡ IntegerType p.0 = is ∙ ap type_from p.1 in
     subst (λ (x : ConstTree). IsConstantOp x (new_op n None (ConstantOp (IntegerAttr ty v)) [] [] (Some ty))) (sym tree)
     (ap (λ (x : TypeTree). new_op n None (ConstantOp (IntegerAttr x v)) [] [] (Some x)) int)
-
-pub none_from : {X : Type 0} (o : Option X) → is_some o ≡ false → o ≡ None
-none_from None h = refl
-none_from (Some x) h = cc
 
 -- ---- constants that are used
 

@@ -4,6 +4,8 @@ use Rattle.std.specs.Option.{option_map}
 use Rattle.std.proofs.lemmas.List.{length-map}
 use Rattle.std.proofs.lemmas.Bool.{not-true}
 use Rattle.std.proofs.lemmas.Option.{slice_get-map}
+use Rattle.meaning.proofs.MatchedLaws.{matched_length, matched_at}
+use Rattle.support.proofs.ListLaws.{slice_get-behind_cases, filter_from}
 use Rattle.llvm_core.specs.Form as LF
 use Rattle.llvm_core.specs.Data as L
 use Rattle.llvm_core.specs.Data.{ConstTree, Placed, targets}
@@ -16,8 +18,7 @@ use Rattle.from_llvm_ir.specs.Types.{type_from}
 use Rattle.from_llvm_ir.specs.Imported.{passed, phis_of, rest_of, front_for}
 use Rattle.from_llvm_ir.specs.Known.{Known, Stands, IsConstantOp, blocks_of}
 use Rattle.from_llvm_ir.specs.Converted.{IsEdge, IsRow, IsConverted}
-use Rattle.from_llvm_ir.proofs.ListLaws.{matched_at, matched_length, other_there}
-use Rattle.from_llvm_ir.proofs.PlaceLaws.{filter_from, split_at}
+use Rattle.from_llvm_ir.proofs.ListLaws.{other_there}
 use Rattle.from_llvm_ir.proofs.OrderLaws.{ordered_at, not_first}
 use Rattle.from_llvm_ir.proofs.PassLaws.{takes, at_passed, passed_length, edge_there, target_there}
 use Rattle.from_llvm_ir.proofs.Whole.{IsWhole, target_at, source_at, source_block_apart}
@@ -151,7 +152,7 @@ module _ (k : Known) (cs : List DialectBlock) (h : IsWhole k cs) where
   op_cases j y c o at here = let b = source_at 0 k cs h j c at in by j b.0 b.2 b.1 (ap (λ (os : List DialectOp). slice_get os y) (sym b.2.ops) ∙ here)
     where
       by : (j : ℕ) (b : L.Block) (v : IsConverted k (take j cs) j b c) → slice_get bs j ≡ Some b → slice_get (front_for j k.hoisted ++ v.rest) y ≡ Some o → ConstantAt j y o ⊎ RowAt j c o
-      by zero b v at e = elim (split_at k.hoisted v.rest y o e) [
+      by zero b v at e = elim (slice_get-behind_cases k.hoisted v.rest y o e) [
         | inl a ↦
             let x = other_there k.hoisted k.constants y o (sym (matched_length IsConstantOp k.constants k.hoisted h.made)) a in
             inl (record { first = refl; constant = x.0; here = x.1; there = a; makes = matched_at IsConstantOp k.constants k.hoisted h.made y x.0 o x.1 a })

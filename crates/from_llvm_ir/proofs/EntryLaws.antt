@@ -4,6 +4,9 @@ use Rattle.std.specs.List.{find}
 use Rattle.std.specs.Option.{option_map, option_map_or}
 use Rattle.std.proofs.lemmas.Bool.{cases_lt}
 use Rattle.std.proofs.lemmas.Option.{same_Some, none-some, slice_get_within}
+use Rattle.support.proofs.ListLaws.{item_there, take_next}
+use Rattle.support.proofs.OptionLaws.{or_else-none, or_else_assoc}
+use Rattle.support.specs.Options.{or_else}
 use Rattle.llvm_core.specs.declared.numbers.LLVMBasicBlock.{LLVMBasicBlock}
 use Rattle.llvm_core.specs.declared.numbers.LLVMInstRef.{LLVMInstRef}
 use Rattle.llvm_core.specs.declared.numbers.LLVMFunction.{LLVMFunction}
@@ -18,22 +21,11 @@ use Rattle.llvm_core.specs.Module.{Module}
 use Rattle.llvm_core.specs.Parts.{IsValue, IsEntry, HasValues}
 use Rattle.llvm_core.specs.Data as L
 use Rattle.llvm_core.specs.Data.{trees_of, operand_of, entry_of, instruction_of}
-use Rattle.llvm_core.proofs.DataLemmas.{there, within_at}
-use Rattle.from_llvm_ir.proofs.ListLaws.{take_next}
+use Rattle.llvm_core.proofs.DataLemmas.{within_at}
 use Rattle.from_llvm_ir.specs.declared.entries.Entries.{Entries}
 use Rattle.from_llvm_ir.specs.Imported.{first_entry}
-use Rattle.from_llvm_ir.specs.Source.{IsSource, AreEntries, IsNotedOf, entry_at, first_value, or_else, taken, taken_by}
+use Rattle.from_llvm_ir.specs.Source.{IsSource, AreEntries, IsNotedOf, entry_at, first_value, taken, taken_by}
 use Rattle.from_llvm_ir.proofs.SourceLaws.{blocks_listed, insts_listed, block_number, inst_number}
-
--- ---- the first of two
-
-or_none : {X : Type 0} (a : Option X) → or_else a None ≡ a
-or_none None = refl
-or_none (Some x) = refl
-
-or_assoc : {X : Type 0} (a b c : Option X) → or_else (or_else a b) c ≡ or_else a (or_else b c)
-or_assoc None b c = refl
-or_assoc (Some x) b c = refl
 
 -- ---- one entry more
 
@@ -59,15 +51,15 @@ pub noted_none : (old : Entries) (phi : LLVMInstRef) → AreNotedTo old old phi 
 noted_none old phi q p = by (nat_eq phi.0 q.0) (entry_at old q p)
   where
     by : (t : Bool) (a : Option LLVMValue) → a ≡ or_else a (if t then None else None)
-    by true a = sym (or_none a)
-    by false a = sym (or_none a)
+    by true a = sym (or_else-none a)
+    by false a = sym (or_else-none a)
 
 pub noted_more : (old mid new : Entries) (phi : LLVMInstRef) (entries : List PhiEntry) (i : ℕ) (e : PhiEntry) → slice_get entries i ≡ Some e → AreNotedTo old mid phi (take i entries)
     → ((q : LLVMInstRef) (p : LLVMBasicBlock) → entry_at new q p ≡ or_else (entry_at mid q p) (if nat_eq phi.0 q.0 && nat_eq e.block.0 p.0 then Some e.value else None))
     → AreNotedTo old new phi (take (i + 1) entries)
 noted_more old mid new phi entries i e at h step q p =
     step q p ∙ ap (λ (a : Option LLVMValue). or_else a (if nat_eq phi.0 q.0 && nat_eq e.block.0 p.0 then Some e.value else None)) (h q p)
-    ∙ or_assoc (entry_at old q p) (if nat_eq phi.0 q.0 then first_value p (take i entries) else None) (if nat_eq phi.0 q.0 && nat_eq e.block.0 p.0 then Some e.value else None)
+    ∙ or_else_assoc (entry_at old q p) (if nat_eq phi.0 q.0 then first_value p (take i entries) else None) (if nat_eq phi.0 q.0 && nat_eq e.block.0 p.0 then Some e.value else None)
     ∙ ap (or_else (entry_at old q p)) (by (nat_eq phi.0 q.0))
   where
     longer : first_value p (take (i + 1) entries) ≡ or_else (first_value p (take i entries)) (if nat_eq e.block.0 p.0 then Some e.value else None)
@@ -140,12 +132,12 @@ pub noted_all : (m : Module) (f : LLVMFunction) (g : L.Function) (e : Entries) (
 noted_all m f g e ns done h has le noted = record {
   each = λ n place b i at p of_block of_inst.
       let listed = blocks_listed m f g h ns has in
-      let n' = there ns place (let l = slice_get_within g.blocks place b of_block.at in omega (arith, l, listed.long)) in
+      let n' = item_there ns place (let l = slice_get_within g.blocks place b of_block.at in omega (arith, l, listed.long)) in
       let b' = listed.each place n'.0 n'.1 in
       let same_block : b'.0 ≡ b = same_Some b'.0 b (sym b'.1.at ∙ of_block.at) in
       let number : n'.0.0 ≡ n.0 = sym (block_number m g n'.0 place b'.0 b'.1) ∙ ap (λ (x : L.Block). x.number) same_block ∙ block_number m g n place b of_block in
       let insts = insts_listed m g n place b of_block.row.insts h.sound of_block (ap (option_map (λ (x : BlockData). x.insts)) of_block.here) in
-      let i' = there of_block.row.insts at (let l = slice_get_within b.instructions at p of_inst.at in omega (arith, l, insts.long)) in
+      let i' = item_there of_block.row.insts at (let l = slice_get_within b.instructions at p of_inst.at in omega (arith, l, insts.long)) in
       let p' = insts.each at i'.0 i'.1 in
       let same_inst : p'.0 ≡ p = same_Some p'.0 p (sym p'.1.at ∙ of_inst.at) in
       let inst_number : i'.0.0 ≡ i.0 = sym (inst_number m b i'.0 at p'.0 p'.1) ∙ ap (λ (x : L.Placed). x.number) same_inst ∙ inst_number m b i at p of_inst in

@@ -5,6 +5,8 @@ use Rattle.std.specs.Option.{option_map_or}
 use Rattle.std.proofs.lemmas.List.{length-take-le}
 use Rattle.std.proofs.lemmas.List.Elements.{All-weaker}
 use Rattle.std.proofs.lemmas.Option.{slice_get_within, same_Some, none-some}
+use Rattle.meaning.proofs.MatchedLaws.{matched_length, matched_at}
+use Rattle.support.proofs.ListLaws.{all_from, slice_get-behind, slice_get-behind_cases, filter_from, filter_at}
 use Rattle.llvm_core.specs.Form as LF
 use Rattle.llvm_core.specs.Data as L
 use Rattle.llvm_core.specs.Data.{ConstTree, Placed, targets, phi_entries}
@@ -20,8 +22,8 @@ use Rattle.from_llvm_ir.specs.Imported.{passed, rest_of, phis_of, front_for}
 use Rattle.from_llvm_ir.specs.Building.{ops_of}
 use Rattle.from_llvm_ir.specs.Known.{Known, Stands, blocks_of}
 use Rattle.from_llvm_ir.specs.Converted.{IsEdge, IsRow, StandsIn}
-use Rattle.from_llvm_ir.proofs.ListLaws.{kept_behind, matched_at, matched_length, other_there}
-use Rattle.from_llvm_ir.proofs.PlaceLaws.{all_from, split_at, untake, flat_at, flat_from, filter_from, filter_at}
+use Rattle.from_llvm_ir.proofs.ListLaws.{other_there}
+use Rattle.from_llvm_ir.proofs.PlaceLaws.{untake, flat_at, flat_from}
 use Rattle.from_llvm_ir.proofs.OrderLaws.{ordered_at, placed}
 use Rattle.from_llvm_ir.proofs.PassLaws.{count_there, there_edge, phi_is, phi_form}
 use Rattle.from_llvm_ir.proofs.Whole.{IsWhole, the_func, target_apart, block_apart, source_at, target_at}
@@ -56,7 +58,7 @@ module _ (n : ℕ) (k : Known) (cs : List DialectBlock) (h : IsWhole k cs) where
 
   before_use : (j y : ℕ) (c : DialectBlock) → slice_get cs j ≡ Some c → (v : Value) → StandsIn (take j cs) c y v → DF.StandsBefore G j y v
   before_use j y c at (V.Result r) s = (s.0, s.1, ap (λ (o : Option DialectBlock). slice_get (ops_of (take j cs) ++ option_map_or (λ (b : DialectBlock). take y b.ops) o []) s.0) at ∙ s.2, s.3)
-  before_use j y c at (V.Argument b i) s = elim (split_at (take j cs) (c ∷ []) s.0 s.1 s.2) [
+  before_use j y c at (V.Argument b i) s = elim (slice_get-behind_cases (take j cs) (c ∷ []) s.0 s.1 s.2) [
     | inl a ↦ let u = untake cs j s.0 s.1 a in (s.0, s.1, (let e = u.0 in omega (arith, e)), u.1, s.3, s.4)
     | inr z ↦
         let last = only z.0 z.2 in
@@ -155,7 +157,7 @@ module _ (n : ℕ) (k : Known) (cs : List DialectBlock) (h : IsWhole k cs) where
         there = c.1;
         place = length (front_for j k.hoisted) + z.0;
         op = o.0;
-        here = ap (λ (os : List DialectOp). slice_get os (length (front_for j k.hoisted) + z.0)) c.2.ops ∙ kept_behind (front_for j k.hoisted) c.2.rest z.0 ∙ o.1;
+        here = ap (λ (os : List DialectOp). slice_get os (length (front_for j k.hoisted) + z.0)) c.2.ops ∙ slice_get-behind (front_for j k.hoisted) c.2.rest z.0 ∙ o.1;
         row = matched_at (IsRow k b) (rest_of b) c.2.rest c.2.rows z.0 p o.0 z.1 o.1;
       }
 

@@ -5,6 +5,8 @@ use Rattle.std.proofs.lemmas.Bool.{false≢true}
 use Rattle.std.proofs.lemmas.List.{append_assoc}
 use Rattle.std.proofs.lemmas.Option.{same_Some}
 use Rattle.std.proofs.lemmas.List.Elements.{All-nil, All-cons, All-append, All-map}
+use Rattle.meaning.proofs.MatchedLaws.{matched_length, matched_at}
+use Rattle.support.proofs.ListLaws.{all_from, filter_from}
 use Rattle.llvm_core.specs.Names.{is_plain, IsPlainOrNone}
 use Rattle.llvm_core.specs.Form as LF
 use Rattle.llvm_core.specs.Data as L
@@ -23,8 +25,7 @@ use Rattle.from_llvm_ir.specs.Imported.{given_name, rest_of, phis_of, front_for}
 use Rattle.from_llvm_ir.specs.Source.{IsShortConst}
 use Rattle.from_llvm_ir.specs.Known.{Known, Stands, IsConstantOp, blocks_of}
 use Rattle.from_llvm_ir.specs.Converted.{IsKind, IsEdge, IsRow, IsConverted}
-use Rattle.from_llvm_ir.proofs.ListLaws.{matched_at, matched_length, other_there}
-use Rattle.from_llvm_ir.proofs.PlaceLaws.{all_from, filter_from}
+use Rattle.from_llvm_ir.proofs.ListLaws.{other_there}
 use Rattle.from_llvm_ir.proofs.NameLaws.{plain_legal}
 use Rattle.from_llvm_ir.proofs.OrderLaws.{ordered_at}
 use Rattle.from_llvm_ir.proofs.EndLaws.{ends_from, ends_filter, ends_as}

@@ -6,6 +6,7 @@ use Rattle.std.specs.Prelude as R
 use Rattle.std.specs.Result.{IfErr, IsErrAnd}
 use Rattle.std.proofs.lemmas.Result.{err_from_is_err_and}
 use Rattle.std.proofs.lemmas.Option.{slice_get-map, same_Some}
+use Rattle.support.proofs.ListLaws.{item_there}
 use Rattle.llvm_core.specs.declared.numbers.LLVMBasicBlock.{LLVMBasicBlock}
 use Rattle.llvm_core.specs.declared.numbers.LLVMInstRef.{LLVMInstRef}
 use Rattle.llvm_core.specs.declared.code.InstData.{InstData}
@@ -14,7 +15,6 @@ use Rattle.llvm_core.specs.declared.code.LLVMValue.TheVariants as K
 use Rattle.llvm_core.specs.Module.{Module}
 use Rattle.llvm_core.specs.Data as L
 use Rattle.llvm_core.specs.Data.{trees_of, operand_of}
-use Rattle.llvm_core.proofs.DataLemmas.{there}
 use Rattle.from_llvm_ir.specs.declared.conversion_err.ConversionErr.{ConversionErr}
 use Rattle.from_llvm_ir.specs.declared.conversion_err.ConversionErr.TheVariants as E
 use Rattle.from_llvm_ir.specs.declared.values.Values.{Values}
@@ -34,7 +34,7 @@ only_one o p (ℕ.suc i, at) = absurd (let no : ⊥ = cc in no)
 -- the refusal of a result for which no value was noted
 pub forward_unknown : (m : Module) (values : Values) (v : LLVMValue) (i : LLVMInstRef) (e : ConversionErr) → v ≡ K.Inst i → value_at values v ≡ None → i.0 < length m.insts → IsRefusalOf m i e → IsForward m values (operand_of (trees_of m) v ∷ []) e
 forward_unknown m values v i (E.UndefinedValue name w) is unknown within h =
-    let row = there m.insts i.0 within in
+    let row = item_there m.insts i.0 within in
     record {
       inst = i;
       value = h.0;

@@ -5,6 +5,7 @@ use Rattle.std.specs.Option.{option_map}
 use Rattle.std.proofs.lemmas.Bool.{cases_lt, both_ways}
 use Rattle.std.proofs.lemmas.List.{append_assoc, length-map, map-append, map_push, take_all}
 use Rattle.std.proofs.lemmas.Option.{same_Some, slice_get_within, slice_get-map}
+use Rattle.support.proofs.ListLaws.{all_from, item_there, take_next}
 use Rattle.llvm_core.specs.declared.numbers.LLVMFunction.{LLVMFunction}
 use Rattle.llvm_core.specs.declared.numbers.LLVMBasicBlock.{LLVMBasicBlock}
 use Rattle.llvm_core.specs.declared.numbers.LLVMInstRef.{LLVMInstRef}
@@ -16,14 +17,12 @@ use Rattle.llvm_core.specs.Module.{Module}
 use Rattle.llvm_core.specs.Form as LF
 use Rattle.llvm_core.specs.Data as L
 use Rattle.llvm_core.specs.Data.{Placed, trees_of}
-use Rattle.llvm_core.proofs.DataLemmas.{there}
 use Rattle.block_order.specs.Graph.{IsGraph}
 use Rattle.from_llvm_ir.specs.Parts.{target_blocks}
 use Rattle.from_llvm_ir.specs.Graph.{Places, ArePlacesOf, IsBlockIn, IsInstIn, noted_place}
 use Rattle.from_llvm_ir.specs.Source.{IsSource}
 use Rattle.from_llvm_ir.specs.Walks.{graph_of, place_of_block}
-use Rattle.from_llvm_ir.proofs.ListLaws.{take_next}
-use Rattle.from_llvm_ir.proofs.PlaceLaws.{all_from, flat_from, flat_next, number_apart}
+use Rattle.from_llvm_ir.proofs.PlaceLaws.{flat_from, flat_next, number_apart}
 use Rattle.from_llvm_ir.proofs.SourceLaws.{block_listed_at, block_number, blocks_listed, insts_listed, instruction_is, listed_at}
 use Rattle.from_llvm_ir.proofs.UsedLaws.{targets_same}
 use Rattle.from_llvm_ir.proofs.PassLaws.{target_there}
@@ -108,7 +107,7 @@ blocks_apart m f g ns h has i j x y at_i at_j same =
 pub places_all : (m : Module) (f : LLVMFunction) (g : L.Function) (ns : List LLVMBasicBlock) (k : ℕ) (places : Places) → IsSource m f g → option_map (λ (x : FunctionData). x.blocks) (slice_get m.functions f.0) ≡ Some ns → length ns ≤ k → ArePlacesTo ns k places → ArePlacesOf g places
 places_all m f g ns k places h has le to place b at =
     let listed = blocks_listed m f g h ns has in
-    let n = there ns place (let lt = slice_get_within g.blocks place b at in omega (arith, lt, listed.long)) in
+    let n = item_there ns place (let lt = slice_get_within g.blocks place b at in omega (arith, lt, listed.long)) in
     let x = listed.each place n.0 n.1 in
     let number : n.0.0 ≡ b.number = sym (block_number m g n.0 place x.0 x.1) ∙ ap (λ (y : L.Block). y.number) (same_Some x.0 b (sym x.1.at ∙ at)) in
     ap (λ (y : ℕ). noted_place places (record { 0 = y })) (sym number) ∙ to place n.0 (let lt = slice_get_within ns place n.0 n.1 in omega (arith, lt, le)) n.1

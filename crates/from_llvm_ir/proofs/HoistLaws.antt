@@ -6,6 +6,9 @@ use Rattle.std.proofs.lemmas.List.Concat.{flat_map-append}
 use Rattle.std.proofs.lemmas.List.{append-nil, append_assoc}
 use Rattle.std.proofs.lemmas.List.Elements.{filter-append, filter_map-append}
 use Rattle.std.proofs.lemmas.Option.{none-some}
+use Rattle.dialect_types.proofs.TreeLemmas.{push_cases}
+use Rattle.meaning.proofs.MatchedLaws.{matched_length, matched_push}
+use Rattle.support.proofs.ListLaws.{all_from, slice_get-kept, take_next}
 use Rattle.llvm_core.specs.declared.numbers.LLVMConst.{LLVMConst}
 use Rattle.llvm_core.specs.declared.code.LLVMValue.TheVariants as K
 use Rattle.llvm_core.specs.Module.{Module}
@@ -16,7 +19,6 @@ use Rattle.dialect_core.specs.declared.numbers.BlockRef.{BlockRef}
 use Rattle.dialect_core.specs.declared.ops.Value.{Value}
 use Rattle.dialect_core.specs.ContextData.{ContextData}
 use Rattle.dialect_core.specs.Data.{DialectOp}
-use Rattle.dialect_core.proofs.ListLemmas.{push_cases}
 use Rattle.meaning.specs.Llvm.{row_of}
 use Rattle.from_llvm_ir.specs.declared.values.Values.{Values}
 use Rattle.from_llvm_ir.specs.Values.{value_at, IsNoted}
@@ -25,8 +27,7 @@ use Rattle.from_llvm_ir.specs.Building.{IsOpen, with_ops, ops_of}
 use Rattle.from_llvm_ir.specs.Source.{IsShortConst, used_by}
 use Rattle.from_llvm_ir.specs.Known.{Frame, IsConstantOp, StandsAt, value_of}
 use Rattle.from_llvm_ir.specs.Body.{IsHoisting, uses_of_inst}
-use Rattle.from_llvm_ir.proofs.ListLaws.{kept_at, take_next, matched_length, matched_push, other_there}
-use Rattle.from_llvm_ir.proofs.PlaceLaws.{all_from}
+use Rattle.from_llvm_ir.proofs.ListLaws.{other_there}
 use Rattle.from_llvm_ir.proofs.UnderLaws.{below_at}
 use Rattle.from_llvm_ir.proofs.ValueLaws.{constant_noted}
 
@@ -104,7 +105,7 @@ module _ (fr : Frame) (m : Module) where
       }
     where
       below : (i : ℕ) (x : DialectOp) → slice_get (h.hoisted ++ o ∷ []) i ≡ Some x → x.number < length c'.ops
-      below i x at = below_at (length c'.ops) (ops_of (with_ops h.entry (h.hoisted ++ o ∷ []) ∷ h.more)) u.under.fresh.below i x (kept_at (h.hoisted ++ o ∷ []) (ops_of h.more) i x at)
+      below i x at = below_at (length c'.ops) (ops_of (with_ops h.entry (h.hoisted ++ o ∷ []) ∷ h.more)) u.under.fresh.below i x (slice_get-kept (h.hoisted ++ o ∷ []) (ops_of h.more) i x at)
 
 -- ---- operand by operand
 

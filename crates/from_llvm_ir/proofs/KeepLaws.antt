@@ -4,6 +4,7 @@ use Rattle.std.specs.List.{filter_map, cons_option}
 use Rattle.std.specs.Option.{option_map, option_and_then}
 use Rattle.std.proofs.lemmas.List.Elements.{All-nil, All-cons, All-head, All-tail}
 use Rattle.std.proofs.lemmas.Option.{none-some, slice_get_within, same_Some}
+use Rattle.support.proofs.ListLaws.{all_from, length-with_change}
 use Rattle.dialect_types.specs.Trees.{type_trees}
 use Rattle.dialect_core.specs.declared.numbers.OpRef.{OpRef}
 use Rattle.dialect_core.specs.declared.numbers.BlockRef.{BlockRef}
@@ -12,8 +13,6 @@ use Rattle.dialect_core.specs.declared.ops.OpData.{OpData}
 use Rattle.dialect_core.specs.declared.ops.BlockData.{BlockData}
 use Rattle.dialect_core.specs.ContextData.{ContextData, AreRegions, empty_context, with_op, with_block, with_appended, holder_at, region_at}
 use Rattle.dialect_core.specs.Data.{DialectModule, Func, DialectBlock, DialectOp, IsTyped, block_of, block_in, func_of, func_in, held, data_of, with_func_block, with_block_op}
-use Rattle.dialect_core.proofs.FilterLemmas.{change_length}
-use Rattle.dialect_core.proofs.LineLemmas.{at_all}
 use Rattle.dialect_core.proofs.NewBlockLemmas.{func}
 use Rattle.dialect_core.proofs.TypeLemmas.{more_types_data}
 use Rattle.dialect_core.proofs.TypedLemmas.{more_types_typed}
@@ -66,7 +65,7 @@ pub keeps_block : (n b : ℕ) (c c' : ContextData) (x : BlockRef) (y : BlockData
 keeps_block n b c c' x y d e changed typed later = record {
   kept = λ was long. record {
     typed = typed was;
-    longer = rw e (omega (arith, long, change_length (region_more x) y.holder.0 c.ops));
+    longer = rw e (omega (arith, long, length-with_change (region_more x) y.holder.0 c.ops));
     same = λ k small below. changed k ∙ ap (λ (fs : List Func). record (data_of c k) { functions = fs }) (funcs_kept y.holder.0 b d (data_of c k).functions (numbers_below (data_of c k).functions below));
   };
 }
@@ -153,7 +152,7 @@ empty_typed c e = subst IsTyped (sym e) (record { ops = λ o x at. absurd (none-
 
 -- no block of a module that came before is the block for functions
 pub not_body : (c : ContextData) (m : ℕ) (body : BlockRef) (d : DialectModule) → IsBuilding c m body d → AreRegions (region_at c.ops) (holder_at c.blocks) → (k : ℕ) → k < m → All (λ (b : BlockRef). ¬ (b.0 ≡ body.0)) (region_at c.ops k)
-not_body c m body d h regions k before = at_all (λ (b : BlockRef). ¬ (b.0 ≡ body.0)) (region_at c.ops k) (λ i b at same.
+not_body c m body d h regions k before = all_from (λ (b : BlockRef). ¬ (b.0 ≡ body.0)) (region_at c.ops k) (λ i b at same.
     let of_k = regions.ours k i b at in
     let of_m = regions.ours m 0 body (ap (λ (bs : List BlockRef). slice_get bs 0) h.held.region) in
     let one : k ≡ m = same_Some k m (sym of_k ∙ ap (holder_at c.blocks) same ∙ of_m) in

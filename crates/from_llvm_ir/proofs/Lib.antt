@@ -1,5 +1,4 @@
 -- The lemmas of the crate.
-pub mod ResultLaws
 pub mod TypeLaws
 pub mod ListLaws
 pub mod MatchLaws

@@ -7,13 +7,13 @@ use Rattle.std.proofs.lemmas.Bool.{eq-eqb, eqb-true}
 use Rattle.std.proofs.lemmas.List.Elements.{All-nil, All-cons}
 use Rattle.std.proofs.lemmas.Option.{slice_get-map, slice_get_within}
 use Rattle.std.proofs.lemmas.Slice.Eq.{bytes_eq-Decides}
+use Rattle.support.proofs.ListLaws.{item_there}
 use Rattle.llvm_core.specs.Data.{ModuleData, Function}
 use Rattle.dialect_core.specs.Data as D
 use Rattle.dialect_core.specs.Form.{IsFormFunc, IsExportable}
 use Rattle.meaning.specs.Code.{IsDistinctNames}
 use Rattle.from_llvm_ir.specs.declared.matching.FunctionBlocks.{FunctionBlocks}
 use Rattle.from_llvm_ir.specs.Match.{place_at, match_of}
-use Rattle.llvm_core.proofs.DataLemmas.{there}
 use Rattle.from_llvm_ir.proofs.PairLaws.{find_only}
 use Rattle.from_llvm_ir.specs.Imported.{ImportedFunction, AreImported, NoneImported, ThenImported}
 
@@ -103,7 +103,7 @@ module _ (d : ModuleData) (xs : List FunctionBlocks) (gs : List D.Func) (distinc
   entry_numbered : (j : ℕ) (y : FunctionBlocks) → slice_get xs j ≡ Some y → y.function.0 ≡ j
   entry_numbered j y at =
       let small : j < length d.functions = let s = slice_get_within xs j y at in let c = (count_imported d d.functions xs gs h).0 in omega (arith, s, c) in
-      let (f, here) = there d.functions j small in
+      let (f, here) = item_there d.functions j small in
       let p = partner d d.functions xs gs h j f here in
       let same : p.entry ≡ y = let e = sym p.entry_at ∙ at in cc in
       subst (λ (z : FunctionBlocks). z.function.0 ≡ j) same (p.imported.function ∙ numbered j f here)

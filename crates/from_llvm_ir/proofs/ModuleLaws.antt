@@ -4,6 +4,8 @@ use Rattle.std.specs.Option.{option_map, option_map_or, option_and_then}
 use Rattle.std.proofs.lemmas.Option.{get_or_from_slice_get, same_Some, slice_get-map, slice_get_within}
 use Rattle.std.proofs.lemmas.List.{take_all, map_push}
 use Rattle.std.proofs.lemmas.List.Elements.{All-nil}
+use Rattle.support.proofs.ListLaws.{take_next, slice_get-push}
+use Rattle.support.specs.Changes.{with_change}
 use Rattle.llvm_core.specs.declared.numbers.LLVMFunction.{LLVMFunction}
 use Rattle.llvm_core.specs.Module.{Module}
 use Rattle.llvm_core.specs.Data as L
@@ -15,11 +17,10 @@ use Rattle.dialect_core.specs.declared.numbers.OpRef.{OpRef}
 use Rattle.dialect_core.specs.declared.ops.OpData.{OpData}
 use Rattle.dialect_core.specs.declared.ops.BlockData.{BlockData}
 use Rattle.dialect_core.specs.declared.ops.OpKind.TheVariants as K
-use Rattle.dialect_core.specs.Lists.{list_at, with_change}
+use Rattle.dialect_core.specs.Lists.{list_at}
 use Rattle.dialect_core.specs.ContextData.{ContextData, AreRegions, IsSymbol, with_op, with_block, HoldsMore, holder_at, kind_at, region_at}
 use Rattle.dialect_core.specs.Data.{DialectModule, Func, with_func, data_of}
 use Rattle.dialect_core.specs.WellFormed.{IsFew, IsFewFunc}
-use Rattle.dialect_core.proofs.CallerLemmas.{new_item}
 use Rattle.dialect_core.proofs.FilterLemmas.{change_get}
 use Rattle.from_llvm_ir.specs.declared.importing.Imported.{Imported}
 use Rattle.from_llvm_ir.specs.declared.matching.FunctionBlocks.{FunctionBlocks}
@@ -32,7 +33,6 @@ use Rattle.from_llvm_ir.specs.Importing.{IsImportedTo}
 use Rattle.from_llvm_ir.specs.Building.{module_named}
 use Rattle.from_llvm_ir.proofs.BuildLaws.{at_end, length-push, region_more}
 use Rattle.from_llvm_ir.proofs.OwnLaws.{own_start, own_op, own_block}
-use Rattle.from_llvm_ir.proofs.ListLaws.{take_next}
 use Rattle.from_llvm_ir.proofs.WellLaws.{well_formed}
 
 abbrev pub module_op : List ℕ → OpData
@@ -58,7 +58,7 @@ started c0 c1 c2 o b name e1 number e2 place is empty =
     let at2 : slice_get c2.ops o.0 ≡ Some (region_more b (module_op name)) =
     ap (λ (ys : List OpData). slice_get ys o.0) ops ∙ change_get (region_more b) o.0 c1.ops o.0 ∙ rw (eq-eqb o.0 o.0 refl) (ap (option_map (region_more b)) at1) in
     let kind : kind_at c2.ops o ≡ Some K.Module = ap (option_map (λ (y : OpData). y.kind)) at2 in
-    let here : slice_get c2.blocks b.0 ≡ Some x = ap (λ (ys : List BlockData). slice_get ys b.0) blocks ∙ new_item c1.blocks x b.0 place in
+    let here : slice_get c2.blocks b.0 ≡ Some x = ap (λ (ys : List BlockData). slice_get ys b.0) blocks ∙ slice_get-push c1.blocks x b.0 place in
     let count : length c2.blocks ≡ length c1.blocks + 1 = ap (λ (ys : List BlockData). length ys) blocks ∙ length-push c1.blocks x in
     let bare : list_at (with_block c1 b x).lists b ≡ [] = subst (λ (c : ContextData). list_at c.lists b ≡ []) e2 empty in
     record {

@@ -1,7 +1,7 @@
 -- Plain names are legal, and the legaliser leaves them.
-use Rattle.std.proofs.Common.{ℕ, ◌≡◌, refl, Bool, true, ◌&&◌, List, [], ◌∷◌, arith}
+use Rattle.std.proofs.Common.{ℕ, ◌≡◌, refl, true, List, [], ◌∷◌, arith}
 use Rattle.std.specs.List.{list_all}
-use Rattle.std.proofs.lemmas.Bool.{and_parts}
+use Rattle.std.proofs.lemmas.Bool.{and_parts, and_from}
 use Rattle.std.proofs.lemmas.Bool.Decides.{nat_tests}
 use Rattle.llvm_core.specs.Names.{is_letter, is_plain_byte, is_plain, IsPlainOrNone}
 use Rattle.dialect_types.specs.Names as N
@@ -13,12 +13,9 @@ letter_there b h = grind (arith, nat_tests)
 byte_there : (b : ℕ) → is_plain_byte b ≡ true → N.is_name_byte b ≡ true
 byte_there b h = grind (arith, nat_tests)
 
-both : (a b : Bool) → a ≡ true → b ≡ true → (a && b) ≡ true
-both a b p q = rw (p, q) refl
-
 bytes_there : (bs : List ℕ) → list_all is_plain_byte bs ≡ true → list_all N.is_name_byte bs ≡ true
 bytes_there [] h = refl
-bytes_there (b ∷ bs) h = let p = and_parts (is_plain_byte b) (list_all is_plain_byte bs) h in both _ _ (byte_there b p.0) (bytes_there bs p.1)
+bytes_there (b ∷ bs) h = let p = and_parts (is_plain_byte b) (list_all is_plain_byte bs) h in and_from _ _ (byte_there b p.0) (bytes_there bs p.1)
 
 -- the legaliser takes plain names
 pub plain_legal : (n : List ℕ) → is_plain n ≡ true → IsPlainName n

@@ -2,6 +2,7 @@
 use Rattle.std.proofs.Common.{ℕ, ◌≡◌, ◌<◌, refl, sym, ap, subst, ◌∙◌, List, [], ◌∷◌, ◌++◌, Option, Some, None, IsTrue, All, length, map, slice_get, slice_set, nat_eq, Bool, true, false, if◌then◌else◌, arith}
 use Rattle.std.specs.Option.{option_map, option_map_or, option_and_then}
 use Rattle.std.proofs.lemmas.List.Elements.{All-map, All-weaker}
+use Rattle.support.specs.Changes.{with_change}
 use Rattle.dialect_types.specs.declared.types.TypeHandle.{TypeHandle}
 use Rattle.dialect_types.specs.Trees.{TypeTree, type_at, type_trees}
 use Rattle.dialect_core.specs.declared.numbers.OpRef.{OpRef}
@@ -13,7 +14,6 @@ use Rattle.dialect_core.specs.declared.ops.OpKind.TheVariants as K
 use Rattle.dialect_core.specs.declared.ops.OpData.{OpData}
 use Rattle.dialect_core.specs.declared.ops.BlockData.{BlockData}
 use Rattle.dialect_core.specs.ContextData.{ContextData, with_op, with_appended, with_name, kind_at, is_plain, StandsIn}
-use Rattle.dialect_core.specs.Lists.{with_change}
 use Rattle.dialect_core.specs.Data.{DialectModule, Func, DialectBlock, DialectOp, IsTypedOp, data_of, Kind, kind_of, op_of, op_at, with_block_op}
 use Rattle.dialect_core.proofs.ListLemmas.{slice_get-last}
 use Rattle.from_llvm_ir.specs.Imported.{HasFuncsApart, IsOwn, IsBuilding, IsBelow}

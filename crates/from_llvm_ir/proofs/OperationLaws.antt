@@ -6,6 +6,9 @@ use Rattle.std.proofs.lemmas.Bool.{cases_lt}
 use Rattle.std.proofs.lemmas.List.{append_assoc}
 use Rattle.std.proofs.lemmas.List.Elements.{All-append, All-weaker}
 use Rattle.std.proofs.lemmas.Option.{same_Some, slice_get_within}
+use Rattle.dialect_types.proofs.TreeLemmas.{push_cases}
+use Rattle.meaning.proofs.MatchedLaws.{matched_push}
+use Rattle.support.proofs.ListLaws.{all_from, item_there, slice_get-behind, slice_get-kept, slice_get-behind_cases, take_next}
 use Rattle.llvm_core.specs.declared.numbers.LLVMFunction.{LLVMFunction}
 use Rattle.llvm_core.specs.declared.numbers.LLVMInstRef.{LLVMInstRef}
 use Rattle.llvm_core.specs.declared.code.LLVMValue.TheVariants as K
@@ -15,7 +18,7 @@ use Rattle.llvm_core.specs.Module.{Module}
 use Rattle.llvm_core.specs.Form as LF
 use Rattle.llvm_core.specs.Data as L
 use Rattle.llvm_core.specs.Data.{ConstTree, Placed, Trees, placed_in, instruction_of}
-use Rattle.llvm_core.proofs.DataLemmas.{there, within_at}
+use Rattle.llvm_core.proofs.DataLemmas.{within_at}
 use Rattle.dialect_types.specs.Trees.{TypeTree}
 use Rattle.dialect_core.specs.declared.numbers.BlockRef.{BlockRef}
 use Rattle.dialect_core.specs.declared.ops.Value.{Value}
@@ -25,7 +28,7 @@ use Rattle.dialect_core.specs.ContextData.{ContextData, is_plain}
 use Rattle.dialect_core.specs.declared.ops.OpKind.{OpKind}
 use Rattle.dialect_core.specs.Data.{DialectBlock, DialectOp, Kind, AddOp, ICmpOp, BrOp, CondBrOp, ReturnOp, UnreachableOp, HasKindTypesBelow, kind_of}
 use Rattle.dialect_core.specs.Form.{uses_of}
-use Rattle.dialect_core.proofs.ListLemmas.{push_cases, slice_get-last}
+use Rattle.dialect_core.proofs.ListLemmas.{slice_get-last}
 use Rattle.meaning.specs.Pairs.{Matched}
 use Rattle.from_llvm_ir.specs.declared.values.Values.{Values}
 use Rattle.from_llvm_ir.specs.Types.{args_from, type_from, result_from}
@@ -36,8 +39,8 @@ use Rattle.from_llvm_ir.specs.Building.{IsOpen, IsUnder, ops_of, with_ops}
 use Rattle.from_llvm_ir.specs.Known.{Frame, Known, IsKnown, IsOlder, Stands, blocks_of, knows, result_in, value_of}
 use Rattle.from_llvm_ir.specs.Converted.{AreConverted, AreFrom, Converted, FromArgument, FromResult, HasOrder, HasPhis, IsEdge, IsFrom, IsKind, IsRow, StandsIn}
 use Rattle.from_llvm_ir.specs.Body.{IsBody, IsFramed, all_uses, insts_before}
-use Rattle.from_llvm_ir.proofs.ListLaws.{kept_at, kept_behind, take_next, matched_push, matched_weaker}
-use Rattle.from_llvm_ir.proofs.PlaceLaws.{all_from, filter_next, filter_skip, flat_at, flat_from, flat_same, number_apart, split_at, untake}
+use Rattle.from_llvm_ir.proofs.ListLaws.{matched_weaker}
+use Rattle.from_llvm_ir.proofs.PlaceLaws.{filter_next, filter_skip, flat_at, flat_from, flat_same, number_apart, untake}
 use Rattle.from_llvm_ir.proofs.OrderLaws.{ordered_at}
 use Rattle.from_llvm_ir.proofs.BuildLaws.{length-push}
 use Rattle.from_llvm_ir.proofs.UnderLaws.{ops_behind}
@@ -182,7 +185,7 @@ one_place fr m f h i j x y b d p q at_b at_d at_p at_q same =
     (h.order.apart i j u.place u.here (v.here ∙ ap Some (sym e.0)), e.1)
 
 fresh_number : (fr : Frame) (m : Module) (f : LLVMFunction) → IsFramed m f fr → (j x : ℕ) (b : L.Block) (p : Placed) → slice_get (blocks_of fr) j ≡ Some b → slice_get b.instructions x ≡ Some p → (q : ℕ) (a : Placed) → slice_get (insts_before fr j ++ take x b.instructions) q ≡ Some a → ¬ (a.number ≡ p.number)
-fresh_number fr m f framed j x b p at here q a is same = elim (split_at (insts_before fr j) (take x b.instructions) q a is) [
+fresh_number fr m f framed j x b p at here q a is same = elim (slice_get-behind_cases (insts_before fr j) (take x b.instructions) q a is) [
   | inl was ↦
       let r = flat_from (λ (y : L.Block). y.instructions) (take j (blocks_of fr)) q a was in
       let u = untake (blocks_of fr) j r.place r.item r.here in
@@ -204,12 +207,12 @@ module _ (left : List DialectBlock) (now : DialectBlock) (os : List DialectOp) (
   new_block = with_ops now (os ++ o ∷ [])
 
   last_here : slice_get (left ++ new_block ∷ []) (length left + 0) ≡ Some new_block
-  last_here = kept_behind left (new_block ∷ []) 0
+  last_here = slice_get-behind left (new_block ∷ []) 0
 
   -- values come from where they came
   from_more : (p : Placed) (w : Value) → IsFrom (left ++ old_block ∷ []) p w → IsFrom (left ++ new_block ∷ []) p w
-  from_more p w (FromArgument j i c at is type) = elim (split_at left (old_block ∷ []) j c at) [
-    | inl a ↦ FromArgument j i c (kept_at left (new_block ∷ []) j c a) is type
+  from_more p w (FromArgument j i c at is type) = elim (slice_get-behind_cases left (old_block ∷ []) j c at) [
+    | inl a ↦ FromArgument j i c (slice_get-kept left (new_block ∷ []) j c a) is type
     | inr z ↦ by z.0 z.2
   ]
     where
@@ -218,15 +221,15 @@ module _ (left : List DialectBlock) (now : DialectBlock) (os : List DialectOp) (
           let same = same_Some old_block c e in
           FromArgument (length left + 0) i new_block last_here (is ∙ ap (λ (d : DialectBlock). V.Argument (record { 0 = d.number }) i) (sym same)) (ap (λ (d : DialectBlock). slice_get d.args i) same ∙ type)
       by (suc q) e = absurd (let no : ⊥ = cc in no)
-  from_more p w (FromResult j y c a at here is type) = elim (split_at left (old_block ∷ []) j c at) [
-    | inl b ↦ FromResult j y c a (kept_at left (new_block ∷ []) j c b) here is type
+  from_more p w (FromResult j y c a at here is type) = elim (slice_get-behind_cases left (old_block ∷ []) j c at) [
+    | inl b ↦ FromResult j y c a (slice_get-kept left (new_block ∷ []) j c b) here is type
     | inr z ↦ by z.0 z.2
   ]
     where
       by : (q : ℕ) → slice_get (old_block ∷ []) q ≡ Some c → IsFrom (left ++ new_block ∷ []) p w
       by zero e =
           let same = same_Some old_block c e in
-          FromResult (length left + 0) y new_block a last_here (kept_at os (o ∷ []) y a (ap (λ (d : DialectBlock). slice_get d.ops y) same ∙ here)) is type
+          FromResult (length left + 0) y new_block a last_here (slice_get-kept os (o ∷ []) y a (ap (λ (d : DialectBlock). slice_get d.ops y) same ∙ here)) is type
       by (suc q) e = absurd (let no : ⊥ = cc in no)
 
   pub all_from_more : (fr : Frame) (cs : List ConstTree) (hs : List DialectOp) (ps : List Placed) (ws : List Value) (p : Placed) → length ws ≡ length ps → o.result ≡ result_from p.type → AreFrom (knows fr cs hs ps ws) (left ++ old_block ∷ []) → AreFrom (knows fr cs hs (ps ++ p ∷ []) (ws ++ value_of o ∷ [])) (left ++ new_block ∷ [])
@@ -250,8 +253,8 @@ module _ (left : List DialectBlock) (now : DialectBlock) (os : List DialectOp) (
   take_whole (x ∷ xs) = ap (λ (ys : List DialectOp). x ∷ ys) (take_whole xs)
 
   argument_still : (b : BlockRef) (i q : ℕ) (d : DialectBlock) → slice_get (left ++ old_block ∷ []) q ≡ Some d → d.number ≡ b.0 → i < length d.args → StandsIn left new_block (length os) (V.Argument b i)
-  argument_still b i q d at number lt = elim (split_at left (old_block ∷ []) q d at) [
-    | inl a ↦ (q, d, kept_at left (new_block ∷ []) q d a, number, lt)
+  argument_still b i q d at number lt = elim (slice_get-behind_cases left (old_block ∷ []) q d at) [
+    | inl a ↦ (q, d, slice_get-kept left (new_block ∷ []) q d a, number, lt)
     | inr z ↦ by z.0 z.2
   ]
     where
@@ -303,7 +306,7 @@ module _ (fr : Frame) (m : Module) (f : LLVMFunction) (c : ContextData) (old : V
   param_stands : (o : DialectOp) (i : ℕ) → i < length fr.source.params → StandsIn h.left (with_ops h.now (os ++ o ∷ [])) (length os) (V.Argument (record { 0 = fr.base }) i)
   param_stands o i lt =
       let d = first_block h.left h.now os h.right in
-      let s = there (blocks_of fr) 0 (let small = slice_get_within (blocks_of fr) j b h.source in omega (arith, small)) in
+      let s = item_there (blocks_of fr) 0 (let small = slice_get_within (blocks_of fr) j b h.source in omega (arith, small)) in
       let head = h.heads 0 s.0 d.old s.1 d.at_old in
       let form = framed.source.form in
       let args = ap (λ (ts : List TypeTree). length ts) (d.args ∙ head.args ∙ ap (λ (t : L.TypeTree). args_from t) form.type) ∙ listed_length form.types ∙ sym form.params in

@@ -6,10 +6,11 @@ use Rattle.std.specs.Option.{option_and_then}
 use Rattle.std.proofs.lemmas.Bool.{cases_lt}
 use Rattle.std.proofs.lemmas.List.Elements.{All-get_or}
 use Rattle.std.proofs.lemmas.Option.{slice_get_within, same_Some, get_or_from_slice_get, slice_get-get_or}
+use Rattle.support.proofs.ListLaws.{item_there}
 use Rattle.dialect_core.proofs.ListLemmas.{slice_get-set_same, slice_get-set_other}
-use Rattle.llvm_core.specs.Interned.{IsDistinctList}
+use Rattle.support.specs.Interned.{IsDistinctList}
 use Rattle.llvm_core.specs.Data as L
-use Rattle.llvm_core.proofs.DataLemmas.{length-filter_map_all, slice_get-filter_map_all, within_at, there}
+use Rattle.llvm_core.proofs.DataLemmas.{length-filter_map_all, slice_get-filter_map_all, within_at}
 use Rattle.from_llvm_ir.specs.Match.{IsPlaces}
 use Rattle.from_llvm_ir.specs.Imported.{counting, in_order}
 use Rattle.from_llvm_ir.specs.Order.{IsInverse, ordered}
@@ -51,7 +52,7 @@ pub record OrderedAt (order : List ℕ) (blocks : List L.Block) (j : ℕ) (b : L
 
 module _ (order : List ℕ) (blocks : List L.Block) (h : IsPlaces (length blocks) order) where
   each_there : (j : ℕ) (i : ℕ) → slice_get order j ≡ Some i → (b : L.Block) × (slice_get blocks i ≡ Some b)
-  each_there j i at = there blocks i (within_at order (λ (p : ℕ). p < length blocks) h.within j i at)
+  each_there j i at = item_there blocks i (within_at order (λ (p : ℕ). p < length blocks) h.within j i at)
 
   pub ordered_length : length (ordered order blocks) ≡ length blocks
   ordered_length = length-filter_map_all (slice_get blocks) order each_there ∙ h.count
@@ -61,7 +62,7 @@ module _ (order : List ℕ) (blocks : List L.Block) (h : IsPlaces (length blocks
 
   pub ordered_at : (j : ℕ) (b : L.Block) → slice_get (ordered order blocks) j ≡ Some b → OrderedAt order blocks j b
   ordered_at j b at =
-      let o = there order j (omega (arith, slice_get_within (ordered order blocks) j b at, ordered_length, h.count)) in
+      let o = item_there order j (omega (arith, slice_get_within (ordered order blocks) j b at, ordered_length, h.count)) in
       let x = each_there j o.0 o.1 in
       let same : x.0 ≡ b = same_Some x.0 b (sym (ordered_here j o.0 x.0 o.1 x.1) ∙ at) in
       record { place = o.0; here = o.1; at = x.1 ∙ ap Some same }
@@ -126,7 +127,7 @@ inverse_places n order places h inverse count = record {
       let a : o.0 ≡ x = same_Some o.0 x (sym (inverse o.0 i o.1) ∙ at_i) in
       let b : q.0 ≡ x = same_Some q.0 x (sym (inverse q.0 k q.1) ∙ at_k) in
       same_Some i k (sym o.1 ∙ ap (slice_get order) (a ∙ sym b) ∙ q.1);
-  onto = λ p lt. let o = there order p (omega (arith, lt, h.count)) in (o.0, inverse p o.0 o.1);
+  onto = λ p lt. let o = item_there order p (omega (arith, lt, h.count)) in (o.0, inverse p o.0 o.1);
   first = λ lt. inverse 0 0 (h.first lt);
 }
 

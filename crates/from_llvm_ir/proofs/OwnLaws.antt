@@ -5,6 +5,8 @@ use Rattle.std.specs.Prelude.{IfSome}
 use Rattle.std.specs.Option.{option_map, option_and_then}
 use Rattle.std.proofs.lemmas.List.{append-nil}
 use Rattle.std.proofs.lemmas.Option.{none-some, slice_get_within}
+use Rattle.dialect_types.proofs.TreeLemmas.{push_cases}
+use Rattle.support.proofs.ListLaws.{all_from}
 use Rattle.dialect_types.specs.declared.types.TypeHandle.{TypeHandle}
 use Rattle.dialect_types.specs.declared.types.TypeKind.{TypeKind}
 use Rattle.dialect_types.specs.declared.attrs.ConstAttr.TheVariants as A
@@ -23,8 +25,8 @@ use Rattle.dialect_core.specs.Data.{Kind, ConstantOp, DialectBlock, DialectOp, k
 use Rattle.dialect_core.specs.Checking.{HasTypeWithin}
 use Rattle.dialect_core.proofs.DataLemmas.{same_module}
 use Rattle.dialect_core.proofs.FilterLemmas.{filter_map_same}
-use Rattle.dialect_core.proofs.LineLemmas.{all_at, at_all}
-use Rattle.dialect_core.proofs.ListLemmas.{map_same, push_cases}
+use Rattle.dialect_core.proofs.LineLemmas.{all_at}
+use Rattle.dialect_core.proofs.ListLemmas.{map_same}
 use Rattle.dialect_core.proofs.NewBlockLemmas.{func}
 use Rattle.dialect_core.proofs.TypedLemmas.{changed_cases, more_types_typed}
 use Rattle.from_llvm_ir.specs.Imported.{IsHeld, IsOwn}
@@ -160,7 +162,7 @@ held_own c m body h own i o at = all_at (λ (q : OpRef). m ≤ q.0) (list_at c.l
 
 -- and the types of its functions are there
 pub held_types : (c : ContextData) (m : ℕ) (body : BlockRef) → IsHeld c m body → IsOwn c m body → All (HasTypeWithin c) (list_at c.lists body)
-held_types c m body h own = at_all (HasTypeWithin c) (list_at c.lists body) (λ i o at. by o (all_at (λ (q : OpRef). m ≤ q.0) (list_at c.lists body) (own.lists body (omega arith) h.block) i o at) (slice_get c.ops o.0) refl)
+held_types c m body h own = all_from (HasTypeWithin c) (list_at c.lists body) (λ i o at. by o (all_at (λ (q : OpRef). m ≤ q.0) (list_at c.lists body) (own.lists body (omega arith) h.block) i o at) (slice_get c.ops o.0) refl)
   where
     by : (o : OpRef) → m ≤ o.0 → (x : Option OpData) → slice_get c.ops o.0 ≡ x → IfSome (option_and_then (λ (x : OpData). x.symbol) x) (λ (s : Symbol). s.ty.0 < length c.types)
     by o from None at = tt

@@ -3,7 +3,7 @@ use Rattle.std.proofs.Common.{ℕ, zero, suc, ◌≡◌, ◌<◌, Bool, true, fa
 use Rattle.std.proofs.lemmas.Option.{slice_get_past}
 use Rattle.std.specs.List.{find}
 use Rattle.std.proofs.lemmas.List.Elements.{All-nil, All-cons}
-use Rattle.llvm_core.proofs.DataLemmas.{there}
+use Rattle.support.proofs.ListLaws.{item_there}
 use Rattle.meaning.specs.Pairs.{Matched, BothOrNone}
 
 -- lists of one length whose items go together place by place are matched
@@ -12,13 +12,6 @@ matched_of P [] [] same each = tt
 matched_of P [] (y ∷ ys) same each = absurd (omega (arith, same))
 matched_of P (x ∷ xs) [] same each = absurd (omega (arith, same))
 matched_of P (x ∷ xs) (y ∷ ys) same each = (each 0 x y refl refl, matched_of P xs ys (omega (arith, same)) (λ i a b at bt. each (suc i) a b at bt))
-
-pub matched_at : {A B : Type 0} (P : A → B → Type 0) (xs : List A) (ys : List B) → Matched P xs ys → (i : ℕ) (x : A) (y : B) → slice_get xs i ≡ Some x → slice_get ys i ≡ Some y → P x y
-matched_at P [] [] h i x y at bt = absurd (let no : ⊥ = cc in no)
-matched_at P [] (b ∷ ys) h i x y at bt = absurd h
-matched_at P (a ∷ xs) [] h i x y at bt = absurd h
-matched_at P (a ∷ xs) (b ∷ ys) h zero x y at bt = let e : a ≡ x = cc in let f : b ≡ y = cc in subst (λ (b : _). P x b) f (subst (λ (a : _). P a b) e h.0)
-matched_at P (a ∷ xs) (b ∷ ys) h (suc i) x y at bt = matched_at P xs ys h.1 i x y at bt
 
 pub matched_map : {A B C E : Type 0} (P : C → E → Type 0) (f : A → C) (g : B → E) (xs : List A) (ys : List B) → Matched (λ (x : A) (y : B). P (f x) (g y)) xs ys → Matched P (map f xs) (map g ys)
 matched_map P f g [] [] h = tt
@@ -52,10 +45,10 @@ pub same_length : {A B : Type 0} (P : ℕ → A → B → Type 0) (xs : List A) 
 same_length P xs ys here onto stays each =
     let not_less : ¬ (length ys < length xs) = λ less.
     let (i, small, is) = onto (length ys) less in
-    let (x, at) = there xs i small in
+    let (x, at) = item_there xs i small in
     no_partner (P i) (slice_get xs i) (slice_get ys (here i)) x at (ap (slice_get ys) is ∙ slice_get_past ys (length ys) (omega arith)) (each i) in
     let not_more : ¬ (length xs < length ys) = λ less.
-    let (y, at) = there ys (length xs) less in
+    let (y, at) = item_there ys (length xs) less in
     no_source (P (length xs)) (slice_get xs (length xs)) (slice_get ys (here (length xs))) y (slice_get_past xs (length xs) (omega arith)) (ap (slice_get ys) stays ∙ at) (each (length xs)) in
     omega (arith, not_less, not_more)
 

@@ -5,14 +5,15 @@ use Rattle.std.specs.List.{find, flat_map, filter_map, cons_option}
 use Rattle.std.specs.Option.{option_map, option_and_then}
 use Rattle.std.proofs.lemmas.List.{append-nil}
 use Rattle.std.proofs.lemmas.Option.{slice_get_within, same_Some, none-some, slice_get-map}
+use Rattle.support.proofs.ListLaws.{item_there, filter_from, filter_at}
 use Rattle.llvm_core.specs.Edges.{count_of}
 use Rattle.llvm_core.specs.Form as LF
 use Rattle.llvm_core.specs.Data as L
 use Rattle.llvm_core.specs.Data.{Placed, phi_entries, targets, placed_in}
-use Rattle.llvm_core.proofs.DataLemmas.{there, within_at, length-filter_map_all, slice_get-filter_map_all}
+use Rattle.llvm_core.proofs.DataLemmas.{within_at, length-filter_map_all, slice_get-filter_map_all}
 use Rattle.from_llvm_ir.specs.Imported.{first_entry, passed, phis_of}
 use Rattle.from_llvm_ir.specs.Source.{IsUsable}
-use Rattle.from_llvm_ir.proofs.PlaceLaws.{flat_at, flat_from, filter_from, filter_at, filter_one, number_apart}
+use Rattle.from_llvm_ir.proofs.PlaceLaws.{flat_at, flat_from, filter_one, number_apart}
 
 -- what a phi takes for a block
 abbrev pub takes : ℕ → Placed → Option L.Operand
@@ -221,7 +222,7 @@ module _ (g : L.Function) (form : LF.IsFormFunction g) where
 
     pub at_passed : (y : ℕ) (o : L.Operand) → slice_get (passed g m b.number) y ≡ Some o → PassedAt y o
     at_passed y o h =
-        let p = there (phis_of b) y (omega (arith, slice_get_within (passed g m b.number) y o h, passed_length)) in
+        let p = item_there (phis_of b) y (omega (arith, slice_get_within (passed g m b.number) y o h, passed_length)) in
         let t = each_taken y p.0 p.1 in
         let same : t.operand ≡ o = same_Some t.operand o (sym (passed_at y p.0 t.operand p.1 t.is) ∙ h) in
         record { phi = p.0; here = p.1; is = t.is ∙ ap Some same; usable = subst (LF.IsOperand g p.0.type) same t.usable }

@@ -1,21 +1,12 @@
 -- Items of lists by their places: in lists joined end to end, in fronts, in filters, and found by a number.
-use Rattle.std.proofs.Common.{ℕ, ◌≡◌, ◌<◌, ◌+◌, ◌⊎◌, inl, inr, refl, sym, ap, ◌∙◌, Bool, true, false, cond, nat_eq, List, [], ◌∷◌, ◌++◌, Option, Some, All, filter, length, take, map, slice_get, get_or, arith, eq-eqb, ne_eqb}
+use Rattle.std.proofs.Common.{ℕ, ◌≡◌, ◌<◌, ◌+◌, inl, inr, refl, sym, ap, ◌∙◌, Bool, true, false, cond, nat_eq, List, [], ◌∷◌, ◌++◌, Option, Some, filter, length, take, map, slice_get, arith, eq-eqb, ne_eqb}
 use Rattle.std.specs.List.{find, flat_map, filter_map, cons_option}
 use Rattle.std.specs.Option.{option_map}
 use Rattle.std.proofs.lemmas.List.{append-nil}
 use Rattle.std.proofs.lemmas.List.Elements.{filter-append}
 use Rattle.std.proofs.lemmas.List.Concat.{flat_map-append}
-use Rattle.std.proofs.lemmas.Option.{same_Some, slice_get_within, slice_get-map, slice_get-get_or}
-use Rattle.from_llvm_ir.proofs.ListLaws.{kept_at, kept_behind, take_next}
-
-pub all_from : {X : Type 0} (P : X → Type 0) (xs : List X) → ((i : ℕ) (x : X) → slice_get xs i ≡ Some x → P x) → All P xs
-all_from P xs h i d lt = h i (get_or xs i d) (slice_get-get_or xs i d lt)
-
--- an item of two lists one after the other
-pub split_at : {X : Type 0} (xs ys : List X) (i : ℕ) (x : X) → slice_get (xs ++ ys) i ≡ Some x → (slice_get xs i ≡ Some x) ⊎ ((j : ℕ) × (i ≡ length xs + j) × (slice_get ys j ≡ Some x))
-split_at [] ys i x h = inr (i, (let e : i ≡ 0 + i = omega arith in e), h)
-split_at (y ∷ xs) ys ℕ.zero x h = inl h
-split_at (y ∷ xs) ys (ℕ.suc i) x h = elim (split_at xs ys i x h) [ inl a ↦ inl a | inr b ↦ inr (b.0, (let e : ℕ.suc i ≡ ℕ.suc (length xs) + b.0 = omega (arith, b.1) in e), b.2) ]
+use Rattle.std.proofs.lemmas.Option.{same_Some, slice_get_within, slice_get-map}
+use Rattle.support.proofs.ListLaws.{slice_get-behind, slice_get-kept, slice_get-behind_cases, take_next}
 
 -- ---- fronts
 
@@ -49,7 +40,7 @@ longer (u ∷ a) b j = omega (arith, longer a b j)
 
 pub flat_from : {X Y : Type 0} (f : X → List Y) (xs : List X) (k : ℕ) (y : Y) → slice_get (flat_map f xs) k ≡ Some y → FlatAt f xs k y
 flat_from f [] k y h = cc
-flat_from f (x ∷ xs) k y h = elim (split_at (f x) (flat_map f xs) k y h) [
+flat_from f (x ∷ xs) k y h = elim (slice_get-behind_cases (f x) (flat_map f xs) k y h) [
   | inl a ↦ record { place = 0; item = x; here = refl; inner = k; at = a; index = (let e : k ≡ 0 + k = omega arith in e) }
   | inr b ↦
       let r = flat_from f xs b.0 y b.2 in
@@ -60,20 +51,20 @@ pub flat_at : {X Y : Type 0} (f : X → List Y) (xs : List X) (i : ℕ) (x : X) 
 flat_at f [] i x j y here at = cc
 flat_at {Y = Y} f (z ∷ xs) ℕ.zero x j y here at =
     let same = same_Some z x here in
-    (j, kept_at (f z) (flat_map f xs) j y (ap (λ w. slice_get (f w) j) same ∙ at))
+    (j, slice_get-kept (f z) (flat_map f xs) j y (ap (λ w. slice_get (f w) j) same ∙ at))
 flat_at f (z ∷ xs) (ℕ.suc i) x j y here at =
     let r = flat_at f xs i x j y here at in
-    (length (f z) + r.0, kept_behind (f z) (flat_map f xs) r.0 ∙ r.1)
+    (length (f z) + r.0, slice_get-behind (f z) (flat_map f xs) r.0 ∙ r.1)
 
 -- the place of an item in a joined list, and what it says of the places that it comes from
 pub flat_place : {X Y : Type 0} (f : X → List Y) (xs : List X) (i : ℕ) (x : X) (j : ℕ) (y : Y) → slice_get xs i ≡ Some x → slice_get (f x) j ≡ Some y → slice_get (flat_map f xs) (length (flat_map f (take i xs)) + j) ≡ Some y
 flat_place f [] i x j y here at = cc
 flat_place f (z ∷ xs) ℕ.zero x j y here at =
     let same = same_Some z x here in
-    kept_at (f z) (flat_map f xs) (0 + j) y (let e : 0 + j ≡ j = omega arith in ap (slice_get (f z)) e ∙ ap (λ w. slice_get (f w) j) same ∙ at)
+    slice_get-kept (f z) (flat_map f xs) (0 + j) y (let e : 0 + j ≡ j = omega arith in ap (slice_get (f z)) e ∙ ap (λ w. slice_get (f w) j) same ∙ at)
 flat_place f (z ∷ xs) (ℕ.suc i) x j y here at =
     ap (slice_get (f z ++ flat_map f xs)) (longer (f z) (flat_map f (take i xs)) j)
-    ∙ kept_behind (f z) (flat_map f xs) (length (flat_map f (take i xs)) + j) ∙ flat_place f xs i x j y here at
+    ∙ slice_get-behind (f z) (flat_map f xs) (length (flat_map f (take i xs)) + j) ∙ flat_place f xs i x j y here at
 
 -- items of distinct places of a joined list come from distinct places
 pub flat_same : {X Y : Type 0} (f : X → List Y) (xs : List X) (i i' : ℕ) (x x' : X) (j j' : ℕ) (y y' : Y) → slice_get xs i ≡ Some x → slice_get xs i' ≡ Some x' → slice_get (f x) j ≡ Some y → slice_get (f x') j' ≡ Some y'
@@ -82,22 +73,22 @@ flat_same f [] i i' x x' j j' y y' here here' at at' one = cc
 flat_same f (z ∷ xs) ℕ.zero ℕ.zero x x' j j' y y' here here' at at' one =
     let s = same_Some z x here in
     let s' = same_Some z x' here' in
-    let e = one j j' (kept_at (f z) (flat_map f xs) j y (ap (λ w. slice_get (f w) j) s ∙ at)) (kept_at (f z) (flat_map f xs) j' y' (ap (λ w. slice_get (f w) j') s' ∙ at')) in
+    let e = one j j' (slice_get-kept (f z) (flat_map f xs) j y (ap (λ w. slice_get (f w) j) s ∙ at)) (slice_get-kept (f z) (flat_map f xs) j' y' (ap (λ w. slice_get (f w) j') s' ∙ at')) in
     (refl, e)
 flat_same f (z ∷ xs) ℕ.zero (ℕ.suc i') x x' j j' y y' here here' at at' one =
     let s = same_Some z x here in
     let r = flat_at f xs i' x' j' y' here' at' in
     let a = ap (λ w. slice_get (f w) j) s ∙ at in
-    let e = one j (length (f z) + r.0) (kept_at (f z) (flat_map f xs) j y a) (kept_behind (f z) (flat_map f xs) r.0 ∙ r.1) in
+    let e = one j (length (f z) + r.0) (slice_get-kept (f z) (flat_map f xs) j y a) (slice_get-behind (f z) (flat_map f xs) r.0 ∙ r.1) in
     absurd (let lt = slice_get_within (f z) j y a in omega (arith, e, lt))
 flat_same f (z ∷ xs) (ℕ.suc i) ℕ.zero x x' j j' y y' here here' at at' one =
     let s' = same_Some z x' here' in
     let r = flat_at f xs i x j y here at in
     let a' = ap (λ w. slice_get (f w) j') s' ∙ at' in
-    let e = one (length (f z) + r.0) j' (kept_behind (f z) (flat_map f xs) r.0 ∙ r.1) (kept_at (f z) (flat_map f xs) j' y' a') in
+    let e = one (length (f z) + r.0) j' (slice_get-behind (f z) (flat_map f xs) r.0 ∙ r.1) (slice_get-kept (f z) (flat_map f xs) j' y' a') in
     absurd (let lt = slice_get_within (f z) j' y' a' in omega (arith, e, lt))
 flat_same f (z ∷ xs) (ℕ.suc i) (ℕ.suc i') x x' j j' y y' here here' at at' one =
-    let r = flat_same f xs i i' x x' j j' y y' here here' at at' (λ k k' a a'. let e = one (length (f z) + k) (length (f z) + k') (kept_behind (f z) (flat_map f xs) k ∙ a) (kept_behind (f z) (flat_map f xs) k' ∙ a') in omega (arith, e)) in
+    let r = flat_same f xs i i' x x' j j' y y' here here' at at' (λ k k' a a'. let e = one (length (f z) + k) (length (f z) + k') (slice_get-behind (f z) (flat_map f xs) k ∙ a) (slice_get-behind (f z) (flat_map f xs) k' ∙ a') in omega (arith, e)) in
     (ap ℕ.suc r.0, r.1)
 
 -- one list more
@@ -113,25 +104,6 @@ flat_alike f g [] h = refl
 flat_alike f g (x ∷ xs) h = rw (h x, flat_alike f g xs h) refl
 
 -- ---- filters
-
-pub filter_from : {X : Type 0} (p : X → Bool) (xs : List X) (i : ℕ) (x : X) → slice_get (filter p xs) i ≡ Some x → (j : ℕ) × (slice_get xs j ≡ Some x) × (p x ≡ true)
-filter_from p [] i x h = cc
-filter_from {X = X} p (y ∷ xs) i x h = by (p y) refl i h (λ k at. filter_from p xs k x at)
-  where
-    by : (t : Bool) → p y ≡ t → (i : ℕ) → slice_get (cond t (y ∷ filter p xs) (filter p xs)) i ≡ Some x → ((k : ℕ) → slice_get (filter p xs) k ≡ Some x → (j : ℕ) × (slice_get xs j ≡ Some x) × (p x ≡ true)) → (j : ℕ) × (slice_get (y ∷ xs) j ≡ Some x) × (p x ≡ true)
-    by true e ℕ.zero h rest = let s = same_Some y x h in (0, h, ap p (sym s) ∙ e)
-    by true e (ℕ.suc i) h rest = let r = rest i h in (ℕ.suc r.0, r.1, r.2)
-    by false e i h rest = let r = rest i h in (ℕ.suc r.0, r.1, r.2)
-
-pub filter_at : {X : Type 0} (p : X → Bool) (xs : List X) (j : ℕ) (x : X) → slice_get xs j ≡ Some x → p x ≡ true → (i : ℕ) × (slice_get (filter p xs) i ≡ Some x)
-filter_at p [] j x h passes = cc
-filter_at {X = X} p (y ∷ xs) j x h passes = by (p y) refl j h (λ k at. filter_at p xs k x at passes)
-  where
-    by : (t : Bool) → p y ≡ t → (j : ℕ) → slice_get (y ∷ xs) j ≡ Some x → ((k : ℕ) → slice_get xs k ≡ Some x → (i : ℕ) × (slice_get (filter p xs) i ≡ Some x)) → (i : ℕ) × (slice_get (cond t (y ∷ filter p xs) (filter p xs)) i ≡ Some x)
-    by true e ℕ.zero h rest = (0, h)
-    by true e (ℕ.suc j) h rest = let r = rest j h in (ℕ.suc r.0, r.1)
-    by false e ℕ.zero h rest = let s = same_Some y x h in let no : true ≡ false = sym passes ∙ ap p (sym s) ∙ e in absurd (cc)
-    by false e (ℕ.suc j) h rest = rest j h
 
 pub filter_none : {X : Type 0} (p : X → Bool) (xs : List X) → ((i : ℕ) (x : X) → slice_get xs i ≡ Some x → p x ≡ false) → filter p xs ≡ []
 filter_none p [] h = refl

@@ -2,6 +2,8 @@
 use Rattle.std.proofs.Common.{ℕ, zero, suc, ◌≡◌, ◌≢◌, ◌<◌, ◌+◌, refl, sym, ap, subst, ◌∙◌, Bool, true, false, not, ◌&&◌, if◌then◌else◌, nat_eq, nat_lt, List, [], ◌∷◌, Option, Some, None, map, length, slice_get, arith, eq-eqb, ne_eqb, eqb-true}
 use Rattle.std.proofs.lemmas.Bool.{and_parts, and_from, lt-ltb, ltb-true}
 use Rattle.std.proofs.lemmas.Option.{same_Some, none-some}
+use Rattle.meaning.proofs.MatchedLaws.{matched_length, matched_at}
+use Rattle.support.proofs.ListLaws.{filter_at}
 use Rattle.llvm_core.specs.Form as LF
 use Rattle.llvm_core.specs.Data as L
 use Rattle.llvm_core.specs.Data.{Placed, targets}
@@ -19,8 +21,8 @@ use Rattle.from_llvm_ir.specs.Types.{args_from}
 use Rattle.from_llvm_ir.specs.Imported.{rest_of}
 use Rattle.from_llvm_ir.specs.Known.{Known, Stands, blocks_of, result_in, value_of}
 use Rattle.from_llvm_ir.specs.Converted.{IsRow}
-use Rattle.from_llvm_ir.proofs.ListLaws.{matched_at, matched_length, other_there}
-use Rattle.from_llvm_ir.proofs.PlaceLaws.{flat_from, filter_at}
+use Rattle.from_llvm_ir.proofs.ListLaws.{other_there}
+use Rattle.from_llvm_ir.proofs.PlaceLaws.{flat_from}
 use Rattle.from_llvm_ir.proofs.OrderLaws.{ordered_first}
 use Rattle.from_llvm_ir.proofs.PassLaws.{count_there, there_edge, target_there, phi_is, phi_form}
 use Rattle.from_llvm_ir.proofs.Whole.{IsWhole, the_func, beside_from, target_at, source_block_apart, entry, listed_length}

@@ -6,6 +6,8 @@ use Rattle.std.specs.List.{filter_map, flat_map, cons_option}
 use Rattle.std.specs.Option.{option_map}
 use Rattle.std.proofs.lemmas.List.{append-nil}
 use Rattle.std.proofs.lemmas.Option.{same_Some, slice_get_within, slice_get-map}
+use Rattle.meaning.proofs.MatchedLaws.{matched_length, matched_at}
+use Rattle.support.proofs.ListLaws.{all_from, item_there, slice_get-behind, slice_get-kept, filter_at}
 use Rattle.llvm_core.specs.declared.numbers.LLVMFunction.{LLVMFunction}
 use Rattle.llvm_core.specs.declared.numbers.LLVMBasicBlock.{LLVMBasicBlock}
 use Rattle.llvm_core.specs.declared.numbers.LLVMInstRef.{LLVMInstRef}
@@ -18,7 +20,7 @@ use Rattle.llvm_core.specs.Parts.{HasValues, operands}
 use Rattle.llvm_core.specs.Form as LF
 use Rattle.llvm_core.specs.Data as L
 use Rattle.llvm_core.specs.Data.{ConstTree, Placed, trees_of, operand_of, const_at, data_of}
-use Rattle.llvm_core.proofs.DataLemmas.{there, within_at}
+use Rattle.llvm_core.proofs.DataLemmas.{within_at}
 use Rattle.dialect_core.specs.declared.numbers.BlockRef.{BlockRef}
 use Rattle.dialect_core.specs.declared.ops.Value.{Value}
 use Rattle.dialect_core.specs.declared.ops.Value.TheVariants as V
@@ -37,8 +39,8 @@ use Rattle.from_llvm_ir.specs.Source.{IsBlockOf, IsSite, IsUsed, used_by}
 use Rattle.from_llvm_ir.specs.Known.{Frame, Known, IsKnown, IsOlder, Stands, blocks_of, knows, value_of, IsConstantOp}
 use Rattle.from_llvm_ir.specs.Converted.{AreConverted, IsEdge}
 use Rattle.from_llvm_ir.specs.Body.{AreTargets, IsAt, IsBody, IsFramed, all_uses, insts_before}
-use Rattle.from_llvm_ir.proofs.ListLaws.{kept_at, kept_behind, first_in, matched_at, matched_length, other_there}
-use Rattle.from_llvm_ir.proofs.PlaceLaws.{all_from, filter_at, flat_at}
+use Rattle.from_llvm_ir.proofs.ListLaws.{first_in, other_there}
+use Rattle.from_llvm_ir.proofs.PlaceLaws.{flat_at}
 use Rattle.from_llvm_ir.proofs.OrderLaws.{placed}
 use Rattle.from_llvm_ir.proofs.SourceLaws.{block_number}
 use Rattle.from_llvm_ir.proofs.HoistLaws.{inst_uses}
@@ -108,8 +110,8 @@ some_from o x e = subst IsSome (sym e) refl
 
 block_below : (h : Home) (base : ℕ) (c : ContextData) (bs : List DialectBlock) (i : ℕ) → IsUnder h base c bs → i < length bs → base + i < length c.blocks
 block_below h base c bs i u lt =
-    let last = within_at (h.before.functions ++ with_blocks h bs ∷ []) (IsBelow (length c.ops) (length c.blocks)) u.building.below (length h.before.functions + 0) (with_blocks h bs) (kept_behind h.before.functions (with_blocks h bs ∷ []) 0) in
-    let y = there bs i lt in
+    let last = within_at (h.before.functions ++ with_blocks h bs ∷ []) (IsBelow (length c.ops) (length c.blocks)) u.building.below (length h.before.functions + 0) (with_blocks h bs) (slice_get-behind h.before.functions (with_blocks h bs ∷ []) 0) in
+    let y = item_there bs i lt in
     let small = within_at bs (λ (x : DialectBlock). x.number < length c.blocks) last.1 i y.0 y.1 in
     let number = u.numbered i y.0 y.1 in
     omega (arith, small, number)
@@ -122,13 +124,13 @@ same_length (x ∷ left) a b right = ap suc (same_length left a b right)
 
 -- the constants stand at the start of the first block
 hoisted_in : (k : Known) (left : List DialectBlock) (j : ℕ) (b : L.Block) (rest : List DialectOp) → length left ≡ j → AreConverted k left → slice_get (blocks_of k.frame) j ≡ Some b → (i : ℕ) (o : DialectOp) → slice_get k.hoisted i ≡ Some o → IsIn (ops_of left ++ (front_for j k.hoisted ++ rest)) o
-hoisted_in k left zero b rest at converted here i o is = (length (ops_of left) + i, kept_behind (ops_of left) (k.hoisted ++ rest) i ∙ kept_at k.hoisted rest i o is)
+hoisted_in k left zero b rest at converted here i o is = (length (ops_of left) + i, slice_get-behind (ops_of left) (k.hoisted ++ rest) i ∙ slice_get-kept k.hoisted rest i o is)
 hoisted_in k left (suc j) b rest at converted here i o is =
-    let d = there left 0 (omega (arith, at)) in
-    let s = there (blocks_of k.frame) 0 (let lt = slice_get_within (blocks_of k.frame) (suc j) b here in omega (arith, lt)) in
+    let d = item_there left 0 (omega (arith, at)) in
+    let s = item_there (blocks_of k.frame) 0 (let lt = slice_get_within (blocks_of k.frame) (suc j) b here in omega (arith, lt)) in
     let v = converted 0 s.0 d.0 s.1 d.1 in
-    let q = flat_at (λ (y : DialectBlock). y.ops) left 0 d.0 i o d.1 (ap (λ (os : List DialectOp). slice_get os i) v.ops ∙ kept_at k.hoisted v.rest i o is) in
-    (q.0, kept_at (ops_of left) rest q.0 o q.1)
+    let q = flat_at (λ (y : DialectBlock). y.ops) left 0 d.0 i o d.1 (ap (λ (os : List DialectOp). slice_get os i) v.ops ∙ slice_get-kept k.hoisted v.rest i o is) in
+    (q.0, slice_get-kept (ops_of left) rest q.0 o q.1)
 
 module _ (fr : Frame) (m : Module) (c : ContextData) (values : Values) (j x : ℕ) (b : L.Block) (h : IsBody fr m c values j x b) where
   -- what is known
@@ -141,7 +143,7 @@ module _ (fr : Frame) (m : Module) (c : ContextData) (values : Values) (j x : �
   pub body_open : (block : BlockRef) → block.0 ≡ fr.base + j → IsOpen fr.home fr.base c block h.left (with_ops h.now body_ops) h.right
   body_open block number = record {
     under = h.under;
-    number = (let e = h.under.numbered (length h.left + 0) (with_ops h.now body_ops) (kept_behind h.left (with_ops h.now body_ops ∷ h.right) 0) in omega (arith, e, number, h.at));
+    number = (let e = h.under.numbered (length h.left + 0) (with_ops h.now body_ops) (slice_get-behind h.left (with_ops h.now body_ops ∷ h.right) 0) in omega (arith, e, number, h.at));
     bare = h.bare;
   }
 
@@ -223,12 +225,12 @@ module _ (fr : Frame) (m : Module) (f : LLVMFunction) (targets : Targets) (entri
     in_passed y to o at is_in =
         let t : slice_get (L.targets p.instruction) y ≡ Some to.0 = ap (λ (ts : List ℕ). slice_get ts y) (sym targets_are) ∙ slice_get-map (λ (t : LLVMBasicBlock). t.0) (target_blocks inst) y ∙ ap (option_map (λ (t : LLVMBasicBlock). t.0)) at in
         let q = flat_at (passed fr.source b.number) (L.targets p.instruction) y to.0 is_in.0 o t (ap (λ (n : ℕ). slice_get (passed fr.source n to.0) is_in.0) from_number ∙ is_in.1) in
-        (length (LF.operands_of p.instruction) + q.0, kept_behind (LF.operands_of p.instruction) (flat_map (passed fr.source b.number) (L.targets p.instruction)) q.0 ∙ q.1)
+        (length (LF.operands_of p.instruction) + q.0, slice_get-behind (LF.operands_of p.instruction) (flat_map (passed fr.source b.number) (L.targets p.instruction)) q.0 ∙ q.1)
 
     pub in_targets : (ts : List LLVMBasicBlock) (o : L.Operand) → ts ≡ target_blocks inst → IsIn (flat_map (passed fr.source from.0) (map (λ (t : LLVMBasicBlock). t.0) ts)) o → IsIn (used_by fr.source b p) o
     in_targets ts o same is_in =
         let are = ap (λ (n : ℕ). flat_map (passed fr.source n) (L.targets p.instruction)) from_number ∙ ap (flat_map (passed fr.source from.0)) (sym targets_are ∙ ap (map (λ (t : LLVMBasicBlock). t.0)) (sym same)) in
-        (length (LF.operands_of p.instruction) + is_in.0, kept_behind (LF.operands_of p.instruction) (flat_map (passed fr.source b.number) (L.targets p.instruction)) is_in.0 ∙ ap (λ (os : List L.Operand). slice_get os is_in.0) are ∙ is_in.1)
+        (length (LF.operands_of p.instruction) + is_in.0, slice_get-behind (LF.operands_of p.instruction) (flat_map (passed fr.source b.number) (L.targets p.instruction)) is_in.0 ∙ ap (λ (os : List L.Operand). slice_get os is_in.0) are ∙ is_in.1)
 
     module _ (other : LF.is_phi p ≡ false) where
       operands_are : map (operand_of (trees_of m)) (operands inst) ≡ LF.operands_of p.instruction
@@ -237,7 +239,7 @@ module _ (fr : Frame) (m : Module) (f : LLVMFunction) (targets : Targets) (entri
       pub in_operands : (vs : List LLVMValue) (o : L.Operand) → vs ≡ operands inst → IsIn (map (operand_of (trees_of m)) vs) o → IsIn (used_by fr.source b p) o
       in_operands vs o same is_in =
           let at = ap (λ (os : List L.Operand). slice_get os is_in.0) (sym operands_are ∙ ap (map (operand_of (trees_of m))) (sym same)) ∙ is_in.1 in
-          (is_in.0, kept_at (LF.operands_of p.instruction) (flat_map (passed fr.source b.number) (L.targets p.instruction)) is_in.0 o at)
+          (is_in.0, slice_get-kept (LF.operands_of p.instruction) (flat_map (passed fr.source b.number) (L.targets p.instruction)) is_in.0 o at)
 
       is_settled : (v : LLVMValue) → IsUsed m fr.source v → IsIn (used_by fr.source b p) (operand_of (trees_of m) v) → IsSettled m values v
       is_settled v u is_in =
@@ -248,7 +250,7 @@ module _ (fr : Frame) (m : Module) (f : LLVMFunction) (targets : Targets) (entri
       operands_settled valid = all_from (IsSettled m values) (operands inst) (λ y v at.
           let o : slice_get (LF.operands_of p.instruction) y ≡ Some (operand_of (trees_of m) v) = ap (λ (os : List L.Operand). slice_get os y) (sym operands_are) ∙ slice_get-map (operand_of (trees_of m)) (operands inst) y ∙ ap (option_map (operand_of (trees_of m))) at in
           is_settled v (within_at (operands inst) (IsUsed m fr.source) (used.operands_used m f fr.source entries from i b p site inst has other valid) y v at)
-          (y, kept_at (LF.operands_of p.instruction) (flat_map (passed fr.source b.number) (L.targets p.instruction)) y (operand_of (trees_of m) v) o))
+          (y, slice_get-kept (LF.operands_of p.instruction) (flat_map (passed fr.source b.number) (L.targets p.instruction)) y (operand_of (trees_of m) v) o))
 
       pub targets_ready : (y : ℕ) (to : LLVMBasicBlock) → slice_get (target_blocks inst) y ≡ Some to → IsReady m f fr.source values targets entries from to
       targets_ready y to at =

@@ -5,6 +5,7 @@ use Rattle.std.specs.List.{flat_map}
 use Rattle.std.specs.Option.{option_map, option_map_or}
 use Rattle.std.proofs.lemmas.Bool.{cases_lt, both_ways}
 use Rattle.std.proofs.lemmas.Option.{same_Some, slice_get_within, get_or_from_slice_get}
+use Rattle.support.proofs.ListLaws.{item_there, slice_get-behind, slice_get-kept, slice_get-behind_cases}
 use Rattle.llvm_core.specs.declared.numbers.LLVMFunction.{LLVMFunction}
 use Rattle.llvm_core.specs.declared.numbers.LLVMBasicBlock.{LLVMBasicBlock}
 use Rattle.llvm_core.specs.declared.numbers.LLVMInstRef.{LLVMInstRef}
@@ -17,7 +18,6 @@ use Rattle.llvm_core.specs.Sound.{IsModule}
 use Rattle.llvm_core.specs.Form as LF
 use Rattle.llvm_core.specs.Data as L
 use Rattle.llvm_core.specs.Data.{Placed, placed_in}
-use Rattle.llvm_core.proofs.DataLemmas.{there}
 use Rattle.dialect_core.specs.declared.numbers.BlockRef.{BlockRef}
 use Rattle.dialect_core.specs.ContextData.{ContextData}
 use Rattle.from_llvm_ir.specs.declared.conversion_err.ConversionErr.{ConversionErr}
@@ -30,8 +30,7 @@ use Rattle.from_llvm_ir.specs.Values.{Targets, IsForward, value_at}
 use Rattle.from_llvm_ir.specs.Source.{IsBlockOf, IsInstOf, IsSource, IsUsable, used_by}
 use Rattle.from_llvm_ir.specs.Known.{Frame, beside, blocks_of}
 use Rattle.from_llvm_ir.specs.Body.{IsAt, IsLate, insts_before}
-use Rattle.from_llvm_ir.proofs.ListLaws.{kept_at, kept_behind}
-use Rattle.from_llvm_ir.proofs.PlaceLaws.{split_at, retake, flat_at, flat_from, found, number_apart}
+use Rattle.from_llvm_ir.proofs.PlaceLaws.{retake, flat_at, flat_from, found, number_apart}
 use Rattle.from_llvm_ir.proofs.OrderLaws.{ordered_at, placed}
 use Rattle.from_llvm_ir.proofs.SourceLaws.{block_named, insts_listed, inst_name, inst_number}
 use Rattle.from_llvm_ir.proofs.PassLaws.{no_phi_is, block_form, inst_form, operands_usable, target_there, edge_there, at_passed}
@@ -50,7 +49,7 @@ beside_some {X = X} {Y = Y} test (z ∷ xs) (y ∷ ys) (suc i) x n at passes = b
 -- ---- what an instruction uses is an operand of the function
 
 pub used_usable : (g : L.Function) (form : LF.IsFormFunction g) (place x : ℕ) (b : L.Block) (p : Placed) → slice_get g.blocks place ≡ Some b → slice_get b.instructions x ≡ Some p → LF.is_phi p ≡ false → (o : L.Operand) → IsIn (used_by g b p) o → IsUsable g o
-used_usable g form place x b p at here other o is_in = elim (split_at (LF.operands_of p.instruction) (flat_map (passed g b.number) (L.targets p.instruction)) is_in.0 o is_in.1) [
+used_usable g form place x b p at here other o is_in = elim (slice_get-behind_cases (LF.operands_of p.instruction) (flat_map (passed g b.number) (L.targets p.instruction)) is_in.0 o is_in.1) [
   | inl a ↦ operands_usable g form b.number p p.instruction (inst_form g form place x b p at here) (no_phi_is p other) is_in.0 o a
   | inr z ↦
       let r = flat_from (passed g b.number) (L.targets p.instruction) z.0 o z.2 in
@@ -72,7 +71,7 @@ record Listed (m : Module) (q : Placed) : Type 0 where
 block_listed : (m : Module) (g : L.Function) (n : LLVMBasicBlock) (place : ℕ) (b : L.Block) (x : ℕ) (q : Placed) → IsModule m → IsBlockOf m g n place b → slice_get b.instructions x ≡ Some q → Listed m q
 block_listed m g n place b x q sound h at =
     let listed = insts_listed m g n place b h.row.insts sound h (ap (option_map (λ (y : BlockData). y.insts)) h.here) in
-    let i = there h.row.insts x (let lt = slice_get_within b.instructions x q at in omega (arith, lt, listed.long)) in
+    let i = item_there h.row.insts x (let lt = slice_get_within b.instructions x q at in omega (arith, lt, listed.long)) in
     let e = listed.each x i.0 i.1 in
     record { block = b; inst = i.0; place = x; is = subst (IsInstOf m b i.0 x) (same_Some e.0 q (sym e.1.at ∙ at)) e.1 }
 
@@ -119,12 +118,12 @@ module _ (fr : Frame) (m : Module) (f : LLVMFunction) (targets : Targets) (entri
         let is : slice_index_or places definition definition ≡ o.0 = get_or_from_slice_get places definition o.0 definition (inverse o.0 definition o.1) in
         let before : o.0 < j = omega (arith, lt, is, block_place) in
         let r = flat_at (λ (y : L.Block). y.instructions) (take j (blocks_of fr)) o.0 d k q (retake (blocks_of fr) j o.0 d before o.2) inner in
-        earlier n row at unknown r.0 q (kept_at (insts_before fr j) (take x b.instructions) r.0 q r.1) number
+        earlier n row at unknown r.0 q (slice_get-kept (insts_before fr j) (take x b.instructions) r.0 q r.1) number
 
     -- and not before in the block
     no_place_before : (n : LLVMInstRef) (row : InstData) → slice_get m.insts n.0 ≡ Some row → value_at values (K.Inst n) ≡ None → (k : ℕ) (q : Placed) → slice_get b.instructions k ≡ Some q → q.number ≡ n.0 → ¬ (k < x)
     no_place_before n row at unknown k q inner number lt =
-        earlier n row at unknown (length (insts_before fr j) + k) q (kept_behind (insts_before fr j) (take x b.instructions) k ∙ retake b.instructions x k q lt inner) number
+        earlier n row at unknown (length (insts_before fr j) + k) q (slice_get-behind (insts_before fr j) (take x b.instructions) k ∙ retake b.instructions x k q lt inner) number
 
     -- a phi stands before
     phi_before : (k : ℕ) (q : Placed) → slice_get b.instructions k ≡ Some q → LF.is_phi q ≡ true → k < x

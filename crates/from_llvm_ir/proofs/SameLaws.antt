@@ -2,11 +2,12 @@
 use Rattle.std.proofs.Common.{ℕ, ◌≡◌, refl, sym, ◌∙◌, subst, List, [], ◌∷◌, Some, slice_get, All, arith}
 use Rattle.std.proofs.lemmas.List.Elements.{All-nil, All-cons, All-head, All-tail}
 use Rattle.std.proofs.lemmas.Option.{slice_get_within}
+use Rattle.support.proofs.ListLaws.{item_there}
 use Rattle.llvm_core.specs.Module.{Module}
 use Rattle.llvm_core.specs.Form.{IsForm, IsFormFunction}
 use Rattle.llvm_core.specs.Data as L
 use Rattle.llvm_core.specs.Data.{ModuleData, data_of}
-use Rattle.llvm_core.proofs.DataLemmas.{within_at, there, function_at, function_count}
+use Rattle.llvm_core.proofs.DataLemmas.{within_at, function_at, function_count}
 use Rattle.dialect_core.specs.ContextData.{ContextData}
 use Rattle.dialect_core.specs.Data as D
 use Rattle.meaning.specs.Pairs.{Matched}
@@ -49,7 +50,7 @@ module _ (d : ModuleData) (xs : List FunctionBlocks) (gs : List D.Func) (form : 
 pub function_numbered : (m : Module) (i : ℕ) (f : L.Function) → slice_get (data_of m).functions i ≡ Some f → f.number ≡ i
 function_numbered m i f at =
     let small = slice_get_within (data_of m).functions i f at in
-    let (x, here) = there m.functions i (let c = function_count m in omega (arith, small, c)) in
+    let (x, here) = item_there m.functions i (let c = function_count m in omega (arith, small, c)) in
     let same = sym (function_at m i x here) ∙ at in
     cc same
 

@@ -9,11 +9,13 @@ use Rattle.std.proofs.lemmas.List.{map-append, length-map, get_or_past}
 use mathlib.Core.Path.{fun_ext}
 use Rattle.std.proofs.lemmas.List.Concat.{flat_map-append}
 use Rattle.std.proofs.lemmas.Option.{same_Some, none-some, slice_get_within, slice_get-map, slice_get_past, get_or_from_slice_get}
+use Rattle.meaning.proofs.MatchedLaws.{matched_length, matched_at, matched_append}
+use Rattle.support.proofs.ListLaws.{item_there, slice_get-kept, filter_from}
 use Rattle.llvm_core.specs.declared.code.LLVMIntPredicate.{LLVMIntPredicate}
 use Rattle.llvm_core.specs.Form as LF
 use Rattle.llvm_core.specs.Data as L
 use Rattle.llvm_core.specs.Data.{ConstTree, Placed, operand_type, targets, phi_entries}
-use Rattle.llvm_core.proofs.DataLemmas.{there, length-filter_map_all, slice_get-filter_map_all}
+use Rattle.llvm_core.proofs.DataLemmas.{length-filter_map_all, slice_get-filter_map_all}
 use Rattle.dialect_types.specs.Trees.{TypeTree}
 use Rattle.dialect_core.specs.declared.numbers.BlockRef.{BlockRef}
 use Rattle.dialect_core.specs.declared.ops.Value.{Value}
@@ -36,8 +38,8 @@ use Rattle.from_llvm_ir.specs.Imported.{phis_of, rest_of, front_for, first_entry
 use Rattle.from_llvm_ir.specs.Source.{IsUsable}
 use Rattle.from_llvm_ir.specs.Known.{Known, Stands, blocks_of, value_of}
 use Rattle.from_llvm_ir.specs.Converted.{IsKind, IsEdge, IsRow, IsConverted}
-use Rattle.from_llvm_ir.proofs.ListLaws.{kept_at, matched_at, matched_from, matched_length, matched_map}
-use Rattle.from_llvm_ir.proofs.PlaceLaws.{filter_from, flat_same, flat_none}
+use Rattle.from_llvm_ir.proofs.ListLaws.{matched_from, matched_map}
+use Rattle.from_llvm_ir.proofs.PlaceLaws.{flat_same, flat_none}
 use Rattle.from_llvm_ir.proofs.OrderLaws.{ordered_at, ordered_first, placed, not_first}
 use Rattle.from_llvm_ir.proofs.PassLaws.{takes, phi_is, no_phi_is, inst_form, operands_usable}
 use Rattle.from_llvm_ir.proofs.TypeLaws.{type_back}
@@ -49,13 +51,6 @@ use Rattle.from_llvm_ir.proofs.FormLaws.{constant_here}
 use Rattle.from_llvm_ir.proofs.PlanLaws.{plan, is_plan, starts, stands_value}
 
 -- ---- lists
-
--- lists joined end to end, matched part by part
-pub matched_append : {X Y : Type 0} (P : X → Y → Type 0) (xs xs' : List X) (ys ys' : List Y) → Matched P xs ys → Matched P xs' ys' → Matched P (xs ++ xs') (ys ++ ys')
-matched_append P [] xs' [] ys' h h' = h'
-matched_append P [] xs' (y ∷ ys) ys' h h' = elim h [ ]
-matched_append P (x ∷ xs) xs' [] ys' h h' = elim h [ ]
-matched_append P (x ∷ xs) xs' (y ∷ ys) ys' h h' = (h.0, matched_append P xs xs' ys ys' h.1 h')
 
 pub matched_flat : {X Y X' Y' : Type 0} (P : X → Y → Type 0) (Q : X' → Y' → Type 0) (f : X → List X') (g : Y → List Y') (xs : List X) (ys : List Y) → ((x : X) (y : Y) → P x y → Matched Q (f x) (g y)) → Matched P xs ys → Matched Q (flat_map f xs) (flat_map g ys)
 matched_flat P Q f g [] [] each h = tt
@@ -150,7 +145,7 @@ module _ (d : L.ModuleData) (n : ℕ) (k : Known) (cs : List DialectBlock) (h : 
   hoisted_apart : (i j : ℕ) (x y : DialectOp) → slice_get k.hoisted i ≡ Some x → slice_get k.hoisted j ≡ Some y → x.number ≡ y.number → i ≡ j
   hoisted_apart i j x y at_x at_y same =
       let e = entry n k cs h in
-      let here : (i : ℕ) (x : DialectOp) → slice_get k.hoisted i ≡ Some x → slice_get e.0.ops i ≡ Some x = λ i x at. ap (λ (os : List DialectOp). slice_get os i) e.2.ops ∙ kept_at k.hoisted e.2.rest i x at in
+      let here : (i : ℕ) (x : DialectOp) → slice_get k.hoisted i ≡ Some x → slice_get e.0.ops i ≡ Some x = λ i x at. ap (λ (os : List DialectOp). slice_get os i) e.2.ops ∙ slice_get-kept k.hoisted e.2.rest i x at in
       (flat_same (λ (b : DialectBlock). b.ops) cs 0 0 e.0 e.0 i j x y e.1 e.1 (here i x at_x) (here j y at_y) (λ a b at_a at_b. h.fresh a b x y at_a at_b same)).1
 
   stands_for : (o : L.Operand) (w : Value) → Stands k o w → Shape.StandsFor match the_plan (Llvm.operand d o) (At w)
@@ -253,7 +248,7 @@ module _ (d : L.ModuleData) (n : ℕ) (k : Known) (cs : List DialectBlock) (h : 
     phi_moves y p at =
         let args = args_length k cs h m t s e in
         let lt : y < length s.args = (let w = slice_get_within (phis_of e.target) y p at in omega (arith, w, args, phi_count)) in
-        let v = there s.args y lt in
+        let v = item_there s.args y lt in
         let a = arg_at k cs h m t s e y v.0 v.1 in
         let same : a.phi ≡ p = same_Some a.phi p (sym a.here ∙ at) in
         let r = filter_from LF.is_phi e.target.instructions y p at in
@@ -280,7 +275,7 @@ module _ (d : L.ModuleData) (n : ℕ) (k : Known) (cs : List DialectBlock) (h : 
         each : (y : ℕ) (a : Key × Option (Operand Key)) (b : Value × Option (Operand Value)) → slice_get (filter_map (Llvm.phi_move d m) (phis_of e.target)) y ≡ Some a → slice_get (Dialect.argument_moves s.block 0 (length e.block.args) s.args) y ≡ Some b → SameMove match the_plan a b
         each y a b at_a at_b =
             let lt : y < length (phis_of e.target) = (let w = slice_get_within (filter_map (Llvm.phi_move d m) (phis_of e.target)) y a at_a in omega (arith, w, length-filter_map_all (Llvm.phi_move d m) (phis_of e.target) move_there)) in
-            let p = there (phis_of e.target) y lt in
+            let p = item_there (phis_of e.target) y lt in
             let q = phi_moves y p.0 p.1 in
             let is_a : (Llvm.ResultKey p.0.number, Some (Llvm.operand d q.0)) ≡ a = same_Some _ a (sym (slice_get-filter_map_all (Llvm.phi_move d m) (phis_of e.target) move_there y p.0 _ p.1 q.2) ∙ at_a) in
             let is_b : (V.Argument s.block (0 + y), Some (At q.1)) ≡ b = same_Some _ b (sym (moves_at s.block 0 (length e.block.args) s.args y q.1 (omega (arith, lt, phi_count)) q.3) ∙ at_b) in
@@ -387,7 +382,7 @@ module _ (d : L.ModuleData) (n : ℕ) (k : Known) (cs : List DialectBlock) (h : 
       where
         there_at : (i : ℕ) → i < length g.blocks → BothOrNone (SameBlock match the_plan here_of i) (slice_get (map (Llvm.block d g) g.blocks) i) (slice_get (map (Dialect.block G) cs) (here_of i))
         there_at i lt =
-            let b = there g.blocks i lt in
+            let b = item_there g.blocks i lt in
             let o = placed k.frame.order g.blocks h.order i b.0 b.1 in
             let c = target_at n k cs h o.0 b.0 o.2 in
             let place : here_of i ≡ o.0 = get_or_from_slice_get places i o.0 i (inverse o.0 i o.1) in

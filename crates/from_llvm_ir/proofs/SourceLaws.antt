@@ -1,9 +1,12 @@
 -- What the numbers of a source module stand for in its data.
-use Rattle.std.proofs.Common.{ℕ, ◌≡◌, ◌<◌, refl, sym, ap, subst, ◌∙◌, List, [], ◌∷◌, Option, Some, None, All, length, map, slice_get, get_or, false, arith}
+use Rattle.std.proofs.Common.{ℕ, ◌≡◌, ◌<◌, refl, sym, ap, subst, ◌∙◌, List, [], ◌∷◌, Some, None, All, length, map, slice_get, get_or, false, arith}
 use Rattle.std.specs.Prelude.{is_some}
 use Rattle.std.specs.Option.{option_map}
 use Rattle.std.proofs.lemmas.List.Elements.{All-get_or}
 use Rattle.std.proofs.lemmas.Option.{slice_get_within, same_Some, get_or_from_slice_get, slice_get-get_or}
+use Rattle.llvm_core.proofs.FormTypes.{short_result}
+use Rattle.support.proofs.ListLaws.{item_there}
+use Rattle.support.proofs.OptionLaws.{part_of}
 use Rattle.llvm_core.specs.declared.numbers.LLVMType.{LLVMType}
 use Rattle.llvm_core.specs.declared.numbers.LLVMFunction.{LLVMFunction}
 use Rattle.llvm_core.specs.declared.numbers.LLVMBasicBlock.{LLVMBasicBlock}
@@ -22,18 +25,13 @@ use Rattle.llvm_core.specs.declared.code.LLVMValue.TheVariants as V
 use Rattle.llvm_core.specs.Parts.{is_phi, value_type}
 use Rattle.llvm_core.specs.Form as LF
 use Rattle.llvm_core.specs.Form.{IsForm, IsFormFunction, IsShortInt, IsShortResult, AreShortInts}
-use Rattle.llvm_core.specs.Data.{TypeTree, VoidType, IntType, FunctionType, TypeTrees, type_at, types_at, type_tree, trees_of, Function, function_of, Block, block_of, Placed, placed_of, Instruction, Add, ICmp, Phi, Br, CondBr, Return, Unreachable, instruction_of, phi_entries, Trees, data_of}
+use Rattle.llvm_core.specs.Data.{TypeTree, IntType, FunctionType, TypeTrees, type_at, types_at, type_tree, trees_of, Function, function_of, Block, block_of, Placed, placed_of, Instruction, Add, ICmp, Phi, Br, CondBr, Return, Unreachable, instruction_of, phi_entries, Trees, data_of}
 use Rattle.llvm_core.proofs.ApartLemmas.{apart}
-use Rattle.llvm_core.proofs.DataLemmas.{there, within_at, type_tree_of, void_tree_of, int_tree_of, function_tree_of, function_at, function_count, block_count_of, block_of_number, inst_count_of, inst_of_number}
+use Rattle.llvm_core.proofs.DataLemmas.{within_at, type_tree_of, void_tree_of, int_tree_of, function_tree_of, function_at, function_count, block_count_of, block_of_number, inst_count_of, inst_of_number}
 use Rattle.dialect_core.specs.Form.{types_list}
 use Rattle.from_llvm_ir.specs.Types.{type_from, types_from, result_from, args_from}
 use Rattle.from_llvm_ir.specs.Source.{IsSource, IsTypeOf, IsBlockOf, IsInstOf, AreBlocksOf, AreInstsOf}
 use Rattle.from_llvm_ir.proofs.TypeLaws.{listed}
-
--- an item of which a part is known is there
-pub part_of : {X Y : Type 0} (f : X → Y) (o : Option X) (y : Y) → option_map f o ≡ Some y → (x : X) × ((o ≡ Some x) × (f x ≡ y))
-part_of f None y h = absurd (let no : ⊥ = cc in no)
-part_of f (Some x) y h = (x, (refl, let e : f x ≡ y = cc in e))
 
 -- ---- functions
 
@@ -43,18 +41,13 @@ function_within m f g h = omega (arith, slice_get_within (data_of m).functions f
 -- the function as it is kept
 pub function_row : (m : Module) (f : LLVMFunction) (g : Function) → IsSource m f g → (x : FunctionData) × ((slice_get m.functions f.0 ≡ Some x) × (g ≡ function_of (trees_of m) m.blocks m.insts (f.0, x)))
 function_row m f g h =
-    let x = there m.functions f.0 (function_within m f g h) in
+    let x = item_there m.functions f.0 (function_within m f g h) in
     (x.0, (x.1, same_Some g _ (sym h.at ∙ function_at m f.0 x.0 x.1)))
 
 pub number_is : (m : Module) (f : LLVMFunction) (g : Function) → IsSource m f g → g.number ≡ f.0
 number_is m f g h = ap (λ (x : Function). x.number) (function_row m f g h).1.1
 
 -- ---- types
-
-pub short_result : (t : TypeTree) → IsShortInt t → IsShortResult t
-short_result VoidType h = tt
-short_result (IntType w) h = h
-short_result (FunctionType r ps v) h = h
 
 pub short_at : (ts : List TypeTree) (xs : List LLVMType) (i : ℕ) (d : LLVMType) → i < length xs → AreShortInts (types_at ts xs) → IsShortInt (type_at ts (get_or xs i d))
 short_at ts [] i d lt h = absurd (omega arith)
@@ -122,7 +115,7 @@ blocks_listed m f g h ns has =
       long = ap (λ (xs : List LLVMBasicBlock). length xs) (sym x.1.1) ∙ sym (block_count_of m f.0 x.0 h.sound x.1.0) ∙ sym (ap (λ (xs : List Block). length xs) blocks);
       each = λ place n at.
           let small = within_at x.0.blocks (λ (b : LLVMBasicBlock). b.0 < length m.blocks) (h.sound.functions f.0 x.0 x.1.0).blocks place n (ap (λ (xs : List LLVMBasicBlock). slice_get xs place) x.1.1 ∙ at) in
-          let y = there m.blocks n.0 small in (
+          let y = item_there m.blocks n.0 small in (
             block_of (trees_of m) m.insts n y.0,
             record {
               at = ap (λ (xs : List Block). slice_get xs place) blocks ∙ block_of_number m f.0 x.0 place n y.0 h.sound x.1.0 (ap (λ (xs : List LLVMBasicBlock). slice_get xs place) x.1.1 ∙ at) y.1;
@@ -144,7 +137,7 @@ insts_listed m g n place b is sound h has =
       long = sym (ap (λ (qs : List Placed). length qs) ps ∙ inst_count_of m n h.row sound h.here ∙ ap (λ (js : List LLVMInstRef). length js) insts);
       each = λ j i at.
           let here = ap (λ (js : List LLVMInstRef). slice_get js j) insts ∙ at in
-          let y = there m.insts i.0 (within_at h.row.insts (λ (k : LLVMInstRef). k.0 < length m.insts) (sound.blocks n.0 h.row h.here).insts j i here) in (
+          let y = item_there m.insts i.0 (within_at h.row.insts (λ (k : LLVMInstRef). k.0 < length m.insts) (sound.blocks n.0 h.row h.here).insts j i here) in (
             placed_of (trees_of m) i y.0,
             record {
               at = ap (λ (qs : List Placed). slice_get qs j) ps ∙ inst_of_number m n h.row j i y.0 sound h.here here y.1;
@@ -211,7 +204,7 @@ name_of m f g h name has =
 -- each function of a module of the form is a source
 pub source_at : (m : Module) (k : ℕ) → IsModule m → IsForm (data_of m) → k < length m.functions → (g : Function) × IsSource m (record { 0 = k }) g
 source_at m k sound form lt =
-    let x = there m.functions k lt in
+    let x = item_there m.functions k lt in
     let at = function_at m k x.0 x.1 in
     let g = function_of (trees_of m) m.blocks m.insts (k, x.0) in
     (g, record { sound = sound; apart = apart m sound; at = at; form = subst IsFormFunction (get_or_from_slice_get (data_of m).functions k g g at) (All-get_or IsFormFunction (data_of m).functions k g (slice_get_within (data_of m).functions k g at) form) })
@@ -233,7 +226,7 @@ pub block_named : (m : Module) (f : LLVMFunction) (g : Function) (place : ℕ) (
 block_named m f g place b to h at number =
     let row = function_row m f g h in
     let listed = blocks_listed m f g h row.0.blocks (ap (option_map (λ (x : FunctionData). x.blocks)) row.1.0) in
-    let n = there row.0.blocks place (let l = slice_get_within g.blocks place b at in omega (arith, l, listed.long)) in
+    let n = item_there row.0.blocks place (let l = slice_get_within g.blocks place b at in omega (arith, l, listed.long)) in
     by n.0 (listed.each place n.0 n.1)
   where
     by : (n : LLVMBasicBlock) → (x : Block) × IsBlockOf m g n place x → IsBlockOf m g to place b

@@ -7,7 +7,8 @@ use Rattle.std.proofs.lemmas.Bool.{cases_lt, both_ways}
 use Rattle.std.proofs.lemmas.List.{take_all, append-nil}
 use Rattle.std.proofs.lemmas.List.Elements.{All-nil, All-weaker}
 use Rattle.std.proofs.lemmas.Option.{slice_get_within, same_Some, none-some}
-use Rattle.llvm_core.specs.Interned.{IsDistinctList}
+use Rattle.dialect_types.proofs.TreeLemmas.{push_cases}
+use Rattle.support.specs.Interned.{IsDistinctList}
 use Rattle.llvm_core.specs.declared.numbers.LLVMFunction.{LLVMFunction}
 use Rattle.llvm_core.specs.declared.numbers.LLVMBasicBlock.{LLVMBasicBlock}
 use Rattle.llvm_core.specs.declared.code.LLVMValue.{LLVMValue}
@@ -18,8 +19,8 @@ use Rattle.llvm_core.specs.Module.{Module}
 use Rattle.llvm_core.specs.Parts.{IsValue}
 use Rattle.llvm_core.specs.Data as L
 use Rattle.llvm_core.specs.Data.{trees_of, operand_of, data_of}
-use Rattle.llvm_core.proofs.DataLemmas.{there, within_at}
-use Rattle.llvm_core.proofs.ListLemmas.{distinct_nil, distinct_push}
+use Rattle.llvm_core.proofs.DataLemmas.{within_at}
+use Rattle.support.proofs.ListLaws.{distinct_nil, distinct_push, item_there}
 use Rattle.dialect_core.specs.declared.numbers.BlockRef.{BlockRef}
 use Rattle.dialect_core.specs.declared.numbers.FuncOp.{FuncOp}
 use Rattle.dialect_core.specs.declared.ops.Value.{Value}
@@ -27,7 +28,6 @@ use Rattle.dialect_core.specs.declared.ops.Value.TheVariants as V
 use Rattle.dialect_core.specs.declared.ops.OpKind.TheVariants as O
 use Rattle.dialect_core.specs.ContextData.{ContextData, kind_at}
 use Rattle.dialect_core.specs.Data.{DialectModule, Func, DialectBlock, DialectOp, with_func, with_func_block}
-use Rattle.dialect_core.proofs.ListLemmas.{push_cases}
 use Rattle.block_order.specs.DepthFirst.{IsDepthFirst}
 use Rattle.from_llvm_ir.specs.declared.matching.FunctionBlocks.{FunctionBlocks}
 use Rattle.from_llvm_ir.specs.declared.values.Values.{Values}
@@ -124,7 +124,7 @@ first_at m f fr ns d h has =
     record { block = b.0; is = b.1; here = ordered_here fr.order fr.source.blocks h.order 0 0 b.0 (h.order.first (some_block fr.source.blocks h.source.form.body)) b.1.at }
 
 pub first_source : (m : Module) (f : LLVMFunction) (fr : Frame) → IsFramed m f fr → (b : L.Block) × (slice_get (blocks_of fr) 0 ≡ Some b)
-first_source m f fr h = there (blocks_of fr) 0 (let some = some_block fr.source.blocks h.source.form.body in omega (arith, some, ordered_length fr.order fr.source.blocks h.order))
+first_source m f fr h = item_there (blocks_of fr) 0 (let some = some_block fr.source.blocks h.source.form.body in omega (arith, some, ordered_length fr.order fr.source.blocks h.order))
 
 pub frame_apart : (m : Module) (f : LLVMFunction) (fr : Frame) → IsFramed m f fr → (i j : ℕ) (x y : L.Block) → slice_get (blocks_of fr) i ≡ Some x → slice_get (blocks_of fr) j ≡ Some y → x.number ≡ y.number → i ≡ j
 frame_apart m f fr h = ordered_apart fr.order fr.source.blocks h.order h.source.form.block_numbers (λ i j x y at_x at_y same. number_apart (λ (b : L.Block). b.number) fr.source.blocks h.source.form.block_numbers i j x y at_x at_y same)
@@ -255,7 +255,7 @@ is_framed s f g m body d n order base h places = record { source = h; number = n
 -- ---- nothing is hoisted yet
 
 numbered : (fr : Frame) (bs : List DialectBlock) → length bs ≡ length (blocks_of fr) → AreHeads fr bs → AreNumbered fr.base bs
-numbered fr bs count are i x at = let b = there (blocks_of fr) i (let lt = slice_get_within bs i x at in omega (arith, lt, count)) in (are i b.0 x b.1 at).number
+numbered fr bs count are i x at = let b = item_there (blocks_of fr) i (let lt = slice_get_within bs i x at in omega (arith, lt, count)) in (are i b.0 x b.1 at).number
 
 below_base : (n base : ℕ) (fs : List Func) → All (IsBelow n base) fs → All (λ (f : Func). All (λ (x : DialectBlock). x.number < base) f.blocks) fs
 below_base n base fs h = All-weaker (IsBelow n base) (λ (f : Func). All (λ (x : DialectBlock). x.number < base) f.blocks) (λ f b. b.1) fs h

@@ -5,6 +5,7 @@ use Rattle.std.specs.Option.{option_map, option_map_or, option_and_then}
 use Rattle.std.proofs.lemmas.List.{map_push, take_all}
 use Rattle.std.proofs.lemmas.List.Elements.{All-nil, All-push, filter_map-append}
 use Rattle.std.proofs.lemmas.Option.{same_Some, none-some}
+use Rattle.support.proofs.ListLaws.{take_next}
 use Rattle.llvm_core.specs.declared.numbers.LLVMFunction.{LLVMFunction}
 use Rattle.llvm_core.specs.declared.numbers.LLVMBasicBlock.{LLVMBasicBlock}
 use Rattle.llvm_core.specs.declared.numbers.LLVMInstRef.{LLVMInstRef}
@@ -19,7 +20,6 @@ use Rattle.llvm_core.specs.Data.{Placed, Trees, trees_of, operand_of, instructio
 use Rattle.from_llvm_ir.specs.declared.entries.Entries.{Entries}
 use Rattle.from_llvm_ir.specs.Imported.{first_entry, passed}
 use Rattle.from_llvm_ir.specs.Source.{LeadsTo, IsInstOf, IsUsed, entry_at, taken, taken_by}
-use Rattle.from_llvm_ir.proofs.ListLaws.{take_next}
 use Rattle.from_llvm_ir.proofs.SourceLaws.{block_number}
 use Rattle.from_llvm_ir.proofs.EntryLaws.{first_is, taken_there}
 use Rattle.from_llvm_ir.proofs.PassLaws.{takes, no_phi_is, block_form, passed_is, taken_for}

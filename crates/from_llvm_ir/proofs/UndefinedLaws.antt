@@ -6,6 +6,7 @@ use Rattle.std.specs.List.{find, flat_map}
 use Rattle.std.specs.Option.{option_map, option_and_then}
 use Rattle.std.proofs.lemmas.Bool.{cases_lt, both_ways}
 use Rattle.std.proofs.lemmas.Option.{same_Some, slice_get_within, get_or_from_slice_get}
+use Rattle.support.proofs.ListLaws.{all_from, slice_get-behind_cases, filter_from}
 use Rattle.llvm_core.specs.Checked.{ends_in_only}
 use Rattle.llvm_core.specs.Form as LF
 use Rattle.llvm_core.specs.Data as L
@@ -23,7 +24,7 @@ use Rattle.from_llvm_ir.specs.Order.{IsInverse}
 use Rattle.from_llvm_ir.specs.Walks.{Definition, Use, IsTakenFor, IsUndefined, Missed, Unreached, Late, HasDominatedUses, HasValidUses, graph_of}
 use Rattle.from_llvm_ir.specs.Refusals.{HasUndefinedUse, IsRefusalOfFunction, IsValid}
 use Rattle.from_llvm_ir.specs.Body.{IsLate}
-use Rattle.from_llvm_ir.proofs.PlaceLaws.{all_from, split_at, flat_at, flat_from, filter_from}
+use Rattle.from_llvm_ir.proofs.PlaceLaws.{flat_at, flat_from}
 use Rattle.from_llvm_ir.proofs.EndLaws.{ends_from}
 use Rattle.from_llvm_ir.proofs.GraphLaws.{length-graph}
 use Rattle.from_llvm_ir.proofs.PassLaws.{phi_is, block_form, target_there, edge_there, at_passed}
@@ -77,7 +78,7 @@ ends L.Unreachable j t at = refl
 last_place : {X : Type 0} (test : X → Bool) (xs : List X) (i : ℕ) (x : X) → ends_in_only test xs ≡ true → slice_get xs i ≡ Some x → test x ≡ true → suc i ≡ length xs
 last_place test xs i x only at passes =
     let e = ends_from test xs only in
-    elim (split_at e.front (e.last ∷ []) i x (ap (λ ys. slice_get ys i) (sym e.are) ∙ at)) [
+    elim (slice_get-behind_cases e.front (e.last ∷ []) i x (ap (λ ys. slice_get ys i) (sym e.are) ∙ at)) [
       | inl before ↦ absurd (both_ways (test x) (within_at e.front (λ y. test y ≡ false) e.before i x before) passes)
       | inr end ↦
           let n = slice_get_within (e.last ∷ []) end.0 x end.2 in
@@ -106,7 +107,7 @@ module _ (g : L.Function) (form : LF.IsFormFunction g) where
   module _ (places : List ℕ) (n : ℕ) (h : IsEarlyUse g places n) where
     -- the early use is one
     early_use : (u : Use g n) × (u.block ≡ h.block) × (u.place ≡ h.place)
-    early_use = elim (split_at (LF.operands_of h.user.instruction) (flat_map (passed g h.b.number) (L.targets h.user.instruction)) h.uses.1.0 (L.Result n) h.uses.1.1) [
+    early_use = elim (slice_get-behind_cases (LF.operands_of h.user.instruction) (flat_map (passed g h.b.number) (L.targets h.user.instruction)) h.uses.1.0 (L.Result n) h.uses.1.1) [
       | inl a ↦ (
         record { block = h.block; b = h.b; at = h.at; place = h.place; how = inl (record { user = h.user; here = h.here; other = h.uses.0; operand = contains_at (LF.operands_of h.user.instruction) h.uses.1.0 (L.Result n) a }) },
         refl,

@@ -5,6 +5,8 @@ use Rattle.std.proofs.lemmas.List.{map-append, append_assoc, append-nil}
 use Rattle.std.proofs.lemmas.List.Concat.{flat_map-append}
 use Rattle.std.proofs.lemmas.List.Elements.{All-head, All-tail, All-push, All-weaker}
 use Rattle.std.proofs.lemmas.Option.{same_Some}
+use Rattle.dialect_types.proofs.TreeLemmas.{push_cases}
+use Rattle.support.proofs.ListLaws.{slice_get-behind, slice_get-kept, slice_get-behind_cases}
 use Rattle.llvm_core.proofs.DataLemmas.{within_at}
 use Rattle.dialect_types.specs.declared.types.TypeHandle.{TypeHandle}
 use Rattle.dialect_types.specs.Trees.{type_at, type_trees}
@@ -16,14 +18,12 @@ use Rattle.dialect_core.specs.declared.ops.OpKind.{OpKind}
 use Rattle.dialect_core.specs.declared.ops.OpData.{OpData}
 use Rattle.dialect_core.specs.ContextData.{ContextData, with_op, with_appended, is_plain}
 use Rattle.dialect_core.specs.Data.{DialectModule, Func, DialectBlock, DialectOp, Kind, IsTypedOp, data_of, kind_of, op_at, more_block, with_func, with_func_block, with_block_op}
-use Rattle.dialect_core.proofs.ListLemmas.{push_cases}
 use Rattle.from_llvm_ir.specs.Types.{GrowsTypes}
 use Rattle.from_llvm_ir.specs.Imported.{IsBuilding, IsBelow}
 use Rattle.from_llvm_ir.specs.Building.{Home, IsUnder, IsOpen, AreBare, AreFresh, AreNumbered, with_blocks, with_ops, ops_of, op_data, new_op}
 use Rattle.from_llvm_ir.proofs.OwnLaws.{own_data, own_types}
 use Rattle.from_llvm_ir.proofs.BuildLaws.{length-push}
-use Rattle.from_llvm_ir.proofs.ListLaws.{kept_at, kept_behind}
-use Rattle.from_llvm_ir.proofs.PlaceLaws.{flat_none, split_at}
+use Rattle.from_llvm_ir.proofs.PlaceLaws.{flat_none}
 use Rattle.from_llvm_ir.proofs.OpLaws.{added_op}
 
 -- ---- numbers
@@ -90,8 +90,8 @@ block_changed k o left now right is l r = map-append (op_in k o) left (now ∷ r
 -- the numbers of other blocks differ
 numbered_left : (base : ℕ) (left : List DialectBlock) (now : DialectBlock) (right : List DialectBlock) → AreNumbered base (left ++ now ∷ right) → HasOther now.number left
 numbered_left base left now right h i x at same =
-    let a = h i x (kept_at left (now ∷ right) i x at) in
-    let b = h (length left + 0) now (kept_behind left (now ∷ right) 0) in
+    let a = h i x (slice_get-kept left (now ∷ right) i x at) in
+    let b = h (length left + 0) now (slice_get-behind left (now ∷ right) 0) in
     let lt = within left i x at in
     omega (arith, a, b, lt, same)
   where
@@ -102,8 +102,8 @@ numbered_left base left now right h i x at same =
 
 numbered_right : (base : ℕ) (left : List DialectBlock) (now : DialectBlock) (right : List DialectBlock) → AreNumbered base (left ++ now ∷ right) → HasOther now.number right
 numbered_right base left now right h i x at same =
-    let a = h (length left + ℕ.suc i) x (kept_behind left (now ∷ right) (ℕ.suc i) ∙ at) in
-    let b = h (length left + 0) now (kept_behind left (now ∷ right) 0) in
+    let a = h (length left + ℕ.suc i) x (slice_get-behind left (now ∷ right) (ℕ.suc i) ∙ at) in
+    let b = h (length left + 0) now (slice_get-behind left (now ∷ right) 0) in
     omega (arith, a, b, same)
 
 -- the operations of blocks behind which nothing stands
@@ -117,25 +117,25 @@ ops_pushed left now right o bare =
 
 -- a block with other operations has its number
 pub numbered_with : (base : ℕ) (left : List DialectBlock) (now : DialectBlock) (os : List DialectOp) (right : List DialectBlock) → AreNumbered base (left ++ now ∷ right) → AreNumbered base (left ++ with_ops now os ∷ right)
-numbered_with base left now os right h i b at = elim (split_at left (with_ops now os ∷ right) i b at) [
-  | inl a ↦ h i b (kept_at left (now ∷ right) i b a)
+numbered_with base left now os right h i b at = elim (slice_get-behind_cases left (with_ops now os ∷ right) i b at) [
+  | inl a ↦ h i b (slice_get-kept left (now ∷ right) i b a)
   | inr z ↦ by z.0 z.2 (z.1)
 ]
   where
     by : (q : ℕ) → slice_get (with_ops now os ∷ right) q ≡ Some b → i ≡ length left + q → b.number ≡ base + i
     by ℕ.zero e is =
         let same = ap (λ (x : DialectBlock). x.number) (same_Some (with_ops now os) b e) in
-        let n = h (length left + 0) now (kept_behind left (now ∷ right) 0) in
+        let n = h (length left + 0) now (slice_get-behind left (now ∷ right) 0) in
         omega (arith, same, n, is)
     by (ℕ.suc q) e is =
-        let n = h (length left + ℕ.suc q) b (kept_behind left (now ∷ right) (ℕ.suc q) ∙ e) in
+        let n = h (length left + ℕ.suc q) b (slice_get-behind left (now ∷ right) (ℕ.suc q) ∙ e) in
         omega (arith, n, is)
 
 -- the last function's block takes the operation
 op_taken : (h : Home) (base : ℕ) (left : List DialectBlock) (now : DialectBlock) (right : List DialectBlock) (k : ℕ) (o : DialectOp) → now.number ≡ k → AreNumbered base (left ++ now ∷ right) → All (λ (f : Func). All (λ (x : DialectBlock). x.number < base) f.blocks) h.before.functions
     → with_block_op (with_func h.before (with_blocks h (left ++ now ∷ right))) k o ≡ with_func h.before (with_blocks h (left ++ with_ops now (now.ops ++ o ∷ []) ∷ right))
 op_taken h base left now right k o is numbered before =
-    let number = numbered (length left + 0) now (kept_behind left (now ∷ right) 0) in
+    let number = numbered (length left + 0) now (slice_get-behind left (now ∷ right) 0) in
     let l = subst (λ (x : ℕ). HasOther x left) is (numbered_left base left now right numbered) in
     let r = subst (λ (x : ℕ). HasOther x right) is (numbered_right base left now right numbered) in
     let last = last_changed (op_in_func k o) h.before.functions (with_blocks h (left ++ now ∷ right)) (ops_kept base k o h.before.functions (omega (arith, number, is)) before) in
@@ -167,7 +167,7 @@ pub added_open : (h : Home) (base : ℕ) (c0 c1 c2 : ContextData) (b : BlockRef)
 added_open h base c0 c1 c2 b left now right o kind name operands successors result k u plain is e1 number data1 typed e2 data2 =
     let x = op_data kind name operands successors result in
     let y = new_op o.0 name k operands successors (option_map (type_at (type_trees c0.types)) result) in
-    let place = u.under.numbered (length left + 0) now (kept_behind left (now ∷ right) 0) in
+    let place = u.under.numbered (length left + 0) now (slice_get-behind left (now ∷ right) 0) in
     let away : ¬ (h.body.0 ≡ b.0) = λ same. omega (arith, same, place, u.number, u.under.above) in
     let building = added_op c0 c1 c2 h.m h.body (with_func h.before (with_blocks h (left ++ now ∷ right))) b o kind name operands successors result k u.under.building away plain is e1 number data1 typed e2 data2 in
     let ops : c2.ops ≡ c0.ops ++ x ∷ [] = ap (λ (c : ContextData). c.ops) e2 ∙ ap (λ (c : ContextData). c.ops) e1 in
@@ -214,8 +214,8 @@ pub open_within : (h : Home) (base : ℕ) (c : ContextData) (b : BlockRef) (left
 open_within h base c b left now right u =
     let funcs = u.under.building.below in
     let last = All-last (IsBelow (length c.ops) (length c.blocks)) h.before.functions (with_blocks h (left ++ now ∷ right)) funcs in
-    let small = within_at (left ++ now ∷ right) (λ (x : DialectBlock). x.number < length c.blocks) last.1 (length left + 0) now (kept_behind left (now ∷ right) 0) in
+    let small = within_at (left ++ now ∷ right) (λ (x : DialectBlock). x.number < length c.blocks) last.1 (length left + 0) now (slice_get-behind left (now ∷ right) 0) in
     omega (arith, small, u.number)
   where
     All-last : {X : Type 0} (P : X → Type 0) (xs : List X) (x : X) → All P (xs ++ x ∷ []) → P x
-    All-last P xs x all = within_at (xs ++ x ∷ []) P all (length xs + 0) x (kept_behind xs (x ∷ []) 0)
+    All-last P xs x all = within_at (xs ++ x ∷ []) P all (length xs + 0) x (slice_get-behind xs (x ∷ []) 0)

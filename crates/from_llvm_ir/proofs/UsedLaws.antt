@@ -5,6 +5,7 @@ use Rattle.std.specs.Option.{option_map}
 use Rattle.std.proofs.lemmas.List.{map-append, append-nil, append_assoc, take_all, take-map}
 use Rattle.std.proofs.lemmas.List.Elements.{All-append}
 use Rattle.std.proofs.lemmas.Option.{same_Some, none-some, slice_get-map}
+use Rattle.support.proofs.ListLaws.{all_from}
 use Rattle.llvm_core.specs.declared.numbers.LLVMFunction.{LLVMFunction}
 use Rattle.llvm_core.specs.declared.numbers.LLVMBasicBlock.{LLVMBasicBlock}
 use Rattle.llvm_core.specs.declared.numbers.LLVMInstRef.{LLVMInstRef}
@@ -21,7 +22,7 @@ use Rattle.from_llvm_ir.specs.declared.entries.Entries.{Entries}
 use Rattle.from_llvm_ir.specs.Imported.{passed}
 use Rattle.from_llvm_ir.specs.Parts.{target_blocks}
 use Rattle.from_llvm_ir.specs.Source.{IsSite, LeadsTo, IsUsed, used_by}
-use Rattle.from_llvm_ir.proofs.PlaceLaws.{all_from, flat_next}
+use Rattle.from_llvm_ir.proofs.PlaceLaws.{flat_next}
 use Rattle.from_llvm_ir.proofs.SourceLaws.{block_named, block_number, instruction_is, phi_read}
 use Rattle.from_llvm_ir.proofs.PassLaws.{no_phi_is, inst_form, operands_usable, edge_there, target_there}
 

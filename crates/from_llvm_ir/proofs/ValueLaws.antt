@@ -4,6 +4,8 @@ use Rattle.std.specs.Prelude.{IsSome}
 use Rattle.std.specs.Bool.{Decides}
 use Rattle.std.proofs.lemmas.Bool.{both_ways}
 use Rattle.std.proofs.lemmas.Option.{slice_get_within, same_Some}
+use Rattle.dialect_types.proofs.TreeLemmas.{push_cases}
+use Rattle.support.proofs.ListLaws.{slice_get-before, slice_get-kept}
 use Rattle.llvm_core.specs.declared.numbers.LLVMConst.{LLVMConst}
 use Rattle.llvm_core.specs.declared.numbers.LLVMInstRef.{LLVMInstRef}
 use Rattle.llvm_core.specs.declared.code.LLVMValue.{LLVMValue}
@@ -16,11 +18,10 @@ use Rattle.llvm_core.specs.Data as L
 use Rattle.llvm_core.specs.Data.{ConstTree, Placed, trees_of, operand_of, const_at, AreApart}
 use Rattle.dialect_core.specs.declared.ops.Value.{Value}
 use Rattle.dialect_core.specs.Data.{DialectOp}
-use Rattle.dialect_core.proofs.ListLemmas.{push_cases, slice_get-append, slice_get-last}
+use Rattle.dialect_core.proofs.ListLemmas.{slice_get-last}
 use Rattle.from_llvm_ir.specs.declared.values.Values.{Values}
 use Rattle.from_llvm_ir.specs.Values.{value_at, IsNoted}
 use Rattle.from_llvm_ir.specs.Known.{Frame, Known, StandsAt, Stands, Notes, beside, knows, result_in, value_of}
-use Rattle.from_llvm_ir.proofs.ListLaws.{kept_at}
 use Rattle.from_llvm_ir.proofs.Whole.{beside_more}
 
 -- ---- keys
@@ -59,11 +60,11 @@ noted m old new k k' key to h is more here only = record {
 -- ---- a constant more
 
 constant_more : (c : ConstTree) (o : DialectOp) (cs : List ConstTree) (os : List DialectOp) (d : ConstTree) (w : Value) → StandsAt cs os d w → StandsAt (cs ++ c ∷ []) (os ++ o ∷ []) d w
-constant_more c o cs os d w h = record { place = h.place; op = h.op; here = kept_at cs (c ∷ []) h.place d h.here; there = kept_at os (o ∷ []) h.place h.op h.there; is = h.is }
+constant_more c o cs os d w h = record { place = h.place; op = h.op; here = slice_get-kept cs (c ∷ []) h.place d h.here; there = slice_get-kept os (o ∷ []) h.place h.op h.there; is = h.is }
 
 constant_old : (c : ConstTree) (o : DialectOp) (cs : List ConstTree) (os : List DialectOp) (d : ConstTree) (w : Value) → length os ≡ length cs → StandsAt (cs ++ c ∷ []) (os ++ o ∷ []) d w → StandsAt cs os d w ⊎ (d ≡ c)
 constant_old c o cs os d w n h = elim (push_cases cs c d h.place h.here) [
-  | inl old ↦ inl (record { place = h.place; op = h.op; here = old; there = sym (slice_get-append os (o ∷ []) h.place (omega (arith, n, slice_get_within cs h.place d old))) ∙ h.there; is = h.is })
+  | inl old ↦ inl (record { place = h.place; op = h.op; here = old; there = sym (slice_get-before os (o ∷ []) h.place (omega (arith, n, slice_get_within cs h.place d old))) ∙ h.there; is = h.is })
   | inr new ↦ inr new.0
 ]
 

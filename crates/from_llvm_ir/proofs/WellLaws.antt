@@ -3,6 +3,7 @@ use Rattle.std.proofs.Common.{ℕ, ◌≡◌, ◌<◌, ◌≤◌, refl, sym, ap,
 use Rattle.std.specs.Option.{option_map, option_map_or}
 use Rattle.std.proofs.lemmas.List.Elements.{All-cons, All-nil, All-weaker}
 use Rattle.std.proofs.lemmas.Option.{none-some, slice_get-map, slice_get_within, same_Some}
+use Rattle.support.proofs.ListLaws.{all_from}
 use Rattle.llvm_core.specs.Data as L
 use Rattle.dialect_types.specs.declared.types.TypeHandle.{TypeHandle}
 use Rattle.dialect_types.specs.Trees.{type_at, type_trees}
@@ -17,7 +18,7 @@ use Rattle.dialect_core.specs.Data.{Func, data_of, held, type_in}
 use Rattle.dialect_core.specs.Form.{IsFormFunc, IsExportable, LeadsToOwn}
 use Rattle.dialect_core.specs.WellFormed.{HasIntegerArgs, IsFew, IsFewFunc, IsInteger, IsOpenForm, IsPlainAt, IsWellFormedFunc, HasNamesApart, IsWellFormed}
 use Rattle.dialect_core.proofs.HoldLemmas.{flat_stands}
-use Rattle.dialect_core.proofs.LineLemmas.{all_at, at_all}
+use Rattle.dialect_core.proofs.LineLemmas.{all_at}
 use Rattle.dialect_core.proofs.OwnEdgeLaws.{own_module}
 use Rattle.dialect_core.proofs.TypingLaws.{module_open}
 use Rattle.meaning.specs.Code.{IsDistinctNames}
@@ -72,7 +73,7 @@ module _ (d : L.ModuleData) (c : ContextData) (m : ℕ) (body : BlockRef) (xs : 
       cc
 
   plain_held : (f : OpRef) → m ≤ f.0 → kind_at c.ops f ≡ Some K.Func → All (IsPlainAt c) (held c f.0)
-  plain_held f own kind = at_all (IsPlainAt c) (held c f.0) (λ k o at.
+  plain_held f own kind = all_from (IsPlainAt c) (held c f.0) (λ k o at.
       let w = flat_stands (list_at c.lists) (region_at c.ops f.0) o k at in
       let ne = away f kind w.1.0 w.0 w.1.1 in
       let le = from f.0 own w.1.0 w.0 w.1.1 in
@@ -101,6 +102,6 @@ module _ (d : L.ModuleData) (c : ContextData) (m : ℕ) (body : BlockRef) (xs : 
   pub well_formed : IsDistinctNames (function_names d.functions) → IsWellFormed c m
   well_formed distinct =
       own_module c regions symbols m h.held.kind (rw h.held.region (omega arith)) args funcs_alone
-      (at_all (λ (o : OpRef). All (IsPlainAt c) (held c o.0)) (held c m) (λ k o at. plain_held o (held_own c m body h.held h.own k o at) (all_at (λ (o : OpRef). kind_at c.ops o ≡ Some K.Func) (held c m) funcs_alone k o at)))
+      (all_from (λ (o : OpRef). All (IsPlainAt c) (held c o.0)) (held c m) (λ k o at. plain_held o (held_own c m body h.held h.own k o at) (all_at (λ (o : OpRef). kind_at c.ops o ≡ Some K.Func) (held c m) funcs_alone k o at)))
       (All-weaker (IsOpenForm c) (IsWellFormedFunc (type_in c)) (λ g form. form.0) gs (module_open c m own_targets forms)) own_targets
       (names_apart (function_names d.functions) gs (names_imported d d.functions xs gs functions) distinct) lists.0 lists.1

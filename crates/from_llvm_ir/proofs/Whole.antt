@@ -3,11 +3,12 @@ use Rattle.std.proofs.Common.{ℕ, ◌≡◌, ◌<◌, ◌+◌, refl, sym, ap, s
 use Rattle.std.specs.List.{find, flat_map}
 use Rattle.std.specs.Option.{option_map_or, option_and_then}
 use Rattle.std.proofs.lemmas.Option.{slice_get_within, same_Some, none-some}
-use Rattle.llvm_core.specs.Interned.{IsDistinctList}
+use Rattle.meaning.proofs.MatchedLaws.{matched_at}
+use Rattle.support.proofs.ListLaws.{item_there, slice_get-kept}
+use Rattle.support.specs.Interned.{IsDistinctList}
 use Rattle.llvm_core.specs.Form as LF
 use Rattle.llvm_core.specs.Data as L
 use Rattle.llvm_core.specs.Data.{ConstTree, IntConst, PlaceholderConst, IntType, VoidType, FunctionType, Placed, operand_type, placed_in}
-use Rattle.llvm_core.proofs.DataLemmas.{there}
 use Rattle.dialect_types.specs.Trees.{TypeTree}
 use Rattle.dialect_core.specs.declared.numbers.BlockRef.{BlockRef}
 use Rattle.dialect_core.specs.declared.ops.Value.{Value}
@@ -21,7 +22,6 @@ use Rattle.from_llvm_ir.specs.Building.{AreNumbered, bare_func, ops_of}
 use Rattle.from_llvm_ir.specs.Source.{IsShortConst}
 use Rattle.from_llvm_ir.specs.Known.{Known, Stands, IsConstantOp, beside, blocks_of, value_of}
 use Rattle.from_llvm_ir.specs.Converted.{IsConverted, AreConverted, IsFrom, FromArgument, FromResult, AreFrom}
-use Rattle.from_llvm_ir.proofs.ListLaws.{kept_at, matched_at}
 use Rattle.from_llvm_ir.proofs.PlaceLaws.{flat_at, flat_from, flat_same, found, number_apart}
 use Rattle.from_llvm_ir.proofs.OrderLaws.{ordered_length, ordered_at, ordered_apart}
 
@@ -131,10 +131,10 @@ module _ (n : ℕ) (k : Known) (cs : List DialectBlock) (h : IsWhole k cs) where
 
   -- what stands for a block of the source, and what a block stands for
   pub target_at : (j : ℕ) (b : L.Block) → slice_get bs j ≡ Some b → (c : DialectBlock) × (slice_get cs j ≡ Some c) × IsConverted k (take j cs) j b c
-  target_at j b at = let c = there cs j (omega (arith, slice_get_within bs j b at, h.count)) in (c.0, c.1, h.converted j b c.0 at c.1)
+  target_at j b at = let c = item_there cs j (omega (arith, slice_get_within bs j b at, h.count)) in (c.0, c.1, h.converted j b c.0 at c.1)
 
   pub source_at : (j : ℕ) (c : DialectBlock) → slice_get cs j ≡ Some c → (b : L.Block) × (slice_get bs j ≡ Some b) × IsConverted k (take j cs) j b c
-  source_at j c at = let b = there bs j (omega (arith, slice_get_within cs j c at, h.count)) in (b.0, b.1, h.converted j b.0 c b.1 at)
+  source_at j c at = let b = item_there bs j (omega (arith, slice_get_within cs j c at, h.count)) in (b.0, b.1, h.converted j b.0 c b.1 at)
 
   -- a function of the form has a first block
   some_block : (xs : List L.Block) → ¬ (xs ≡ []) → 0 < length xs
@@ -142,7 +142,7 @@ module _ (n : ℕ) (k : Known) (cs : List DialectBlock) (h : IsWhole k cs) where
   some_block (x ∷ xs) not_none = omega arith
 
   pub first_source : (b : L.Block) × (slice_get bs 0 ≡ Some b)
-  first_source = there bs 0 (omega (arith, some_block g.blocks h.form.body, bs_length))
+  first_source = item_there bs 0 (omega (arith, some_block g.blocks h.form.body, bs_length))
 
   pub entry : (c : DialectBlock) × (slice_get cs 0 ≡ Some c) × IsConverted k (take 0 cs) 0 first_source.0 c
   entry = target_at 0 first_source.0 first_source.1
@@ -193,7 +193,7 @@ module _ (n : ℕ) (k : Known) (cs : List DialectBlock) (h : IsWhole k cs) where
   pub operand_typed : (t : L.TypeTree) (o : L.Operand) (w : Value) → Stands k o w → LF.IsOperand g t o → value_type G w ≡ Some (type_from t)
   operand_typed t (L.Constant c) w st f =
       let makes = matched_at IsConstantOp k.constants k.hoisted h.made st.place c st.op st.here st.there in
-      let at = ap (λ (os : List DialectOp). slice_get os st.place) entry.2.ops ∙ kept_at k.hoisted entry.2.rest st.place st.op st.there in
+      let at = ap (λ (os : List DialectOp). slice_get os st.place) entry.2.ops ∙ slice_get-kept k.hoisted entry.2.rest st.place st.op st.there in
       ap (value_type G) st.is ∙ result_typed 0 st.place entry.0 st.op entry.1 at ∙ constant_result c st.op makes ∙ ap (λ (x : L.TypeTree). Some (type_from x)) f.typed
   operand_typed t (L.Parameter e i) w st f =
       let is : L.param_type g.type i ≡ t = sym (ap (λ (x : Bool). if x then L.param_type g.type i else VoidType) (eq-eqb e g.number st.0)) ∙ f.typed in

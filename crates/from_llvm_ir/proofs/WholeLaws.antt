@@ -4,9 +4,9 @@ use Rattle.std.specs.List.{flat_map}
 use Rattle.std.proofs.lemmas.Bool.{cases_lt}
 use Rattle.std.proofs.lemmas.List.{get_or_past}
 use Rattle.std.proofs.lemmas.Option.{slice_get_within, slice_get_past, get_or_from_slice_get}
+use Rattle.support.proofs.ListLaws.{item_there}
 use Rattle.llvm_core.specs.Data as L
 use Rattle.llvm_core.specs.Data.{ConstTree, IntConst, PlaceholderConst, IntType, VoidType, FunctionType, Placed}
-use Rattle.llvm_core.proofs.DataLemmas.{there}
 use Rattle.dialect_core.specs.Data.{DialectOp, DialectBlock}
 use Rattle.meaning.specs.Pairs.{BothOrNone}
 use Rattle.meaning.specs.Dialect.{type_of}
@@ -67,7 +67,7 @@ module _ (d : L.ModuleData) (n : ℕ) (k : Known) (cs : List DialectBlock) (h : 
     where
       there_at : (i : ℕ) → i < length g.blocks → BothOrNone (IsImportedBlock k.hoisted i) (slice_get g.blocks i) (slice_get cs (place_at i x))
       there_at i lt =
-          let b = there g.blocks i lt in
+          let b = item_there g.blocks i lt in
           let o = placed k.frame.order g.blocks h.order i b.0 b.1 in
           let c = target_at n k cs h o.0 b.0 o.2 in
           let right : slice_get cs (place_at i x) ≡ Some c.0 = ap (slice_get cs) (get_or_from_slice_get x.places i o.0 i (inverse o.0 i o.1)) ∙ c.1 in

@@ -1,10 +1,7 @@
 -- The graph of a function as it is made: which place each block has, and where an instruction stands.
 use Rattle.std.specs.Prelude.{ℕ, ◌≡◌, Option, Some, slice_get}
 use Rattle.std.specs.HashMap.{get}
-use Rattle.std.specs.declared.alloc.Global.{Global}
-use Rattle.std.specs.declared.collections.HashMap.{HashMap}
-use Rattle.std.specs.declared.hash.BuildHasherDefault.{BuildHasherDefault}
-use Rattle.std.specs.declared.hash.FoldHasher.{FoldHasher}
+use Rattle.support.specs.Maps.{MapOf}
 use Rattle.llvm_core.specs.declared.numbers.LLVMBasicBlock.{LLVMBasicBlock}
 use Rattle.llvm_core.specs.declared.numbers.LLVMFunction.{LLVMFunction}
 use Rattle.llvm_core.specs.declared.numbers.LLVMInstRef.{LLVMInstRef}
@@ -16,7 +13,7 @@ use Rattle.from_llvm_ir.specs.Source.{IsBlockOf, IsInstOf, IsSource}
 
 -- the places of blocks
 abbrev pub Places : Type 0
-Places = HashMap LLVMBasicBlock ℕ (BuildHasherDefault FoldHasher) Global FoldHasher
+Places = MapOf LLVMBasicBlock ℕ
 
 -- the place of a block, where one was noted
 abbrev pub noted_place : Places → LLVMBasicBlock → Option ℕ

@@ -1,7 +1,7 @@
 -- What the values of a source function stand for, as far as the function was imported.
 use Rattle.std.specs.Prelude.{ℕ, ◌≡◌, ◌<◌, ◌≤◌, ◌⊎◌, IsSome, Bool, nat_eq, if◌then◌else◌, List, [], ◌∷◌, Option, Some, None, All, length, slice_get}
 use Rattle.llvm_core.specs.declared.code.LLVMValue.{LLVMValue}
-use Rattle.llvm_core.specs.Interned.{IsDistinctList}
+use Rattle.support.specs.Interned.{IsDistinctList}
 use Rattle.llvm_core.specs.Module.{Module}
 use Rattle.llvm_core.specs.Parts.{IsValue}
 use Rattle.llvm_core.specs.Data as L

@@ -67,11 +67,6 @@ pub record AreInstsOf (m : Module) (b : L.Block) (is : List LLVMInstRef) : Type 
 abbrev pub first_value : LLVMBasicBlock → List PhiEntry → Option LLVMValue
 first_value from entries = option_map (λ (e : PhiEntry). e.value) (find (λ (e : PhiEntry). nat_eq e.block.0 from.0) entries)
 
--- the first of two, where there is one
-abbrev pub or_else : {X : Type 0} → Option X → Option X → Option X
-or_else None b = b
-or_else (Some a) b = Some a
-
 -- the value that an instruction takes for a block: that of a phi's first entry for it
 abbrev pub taken_by : LLVMBasicBlock → LLVMInst → Option LLVMValue
 taken_by from (I.Phi type entries) = first_value from entries

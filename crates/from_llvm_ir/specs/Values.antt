@@ -1,10 +1,7 @@
 -- Which values of the dialect stand for those of a source function, and which are not known yet.
 use Rattle.std.specs.Prelude.{ℕ, ◌≡◌, ◌<◌, List, Option, None, Some, IsSome, if◌then◌else◌, length, slice_get}
 use Rattle.std.specs.HashMap.{get}
-use Rattle.std.specs.declared.alloc.Global.{Global}
-use Rattle.std.specs.declared.collections.HashMap.{HashMap}
-use Rattle.std.specs.declared.hash.BuildHasherDefault.{BuildHasherDefault}
-use Rattle.std.specs.declared.hash.FoldHasher.{FoldHasher}
+use Rattle.support.specs.Maps.{MapOf}
 use Rattle.std.specs.Option.{option_map}
 use Rattle.llvm_core.specs.declared.numbers.LLVMInstRef.{LLVMInstRef}
 use Rattle.llvm_core.specs.declared.code.LLVMValue.{LLVMValue}
@@ -62,7 +59,7 @@ AreNoted values vs ws = Matched (λ (v : LLVMValue) (w : Value). value_at values
 
 -- the blocks that stand for those of the source
 abbrev pub Targets : Type 0
-Targets = HashMap LLVMBasicBlock BlockRef (BuildHasherDefault FoldHasher) Global FoldHasher
+Targets = MapOf LLVMBasicBlock BlockRef
 
 -- the block that stands for one of the source
 abbrev pub target_at : Targets → LLVMBasicBlock → Option BlockRef

@@ -4,9 +4,9 @@ ghost use Rattle.std.specs.Prelude.{◌≡◌};
 ghost use Rattle.from_llvm_ir.specs.declared.conversion_err.ConversionErr.TheVariants.{NoMemory};
 
 use llvm_core::code::LLVMValue;
-use llvm_core::text::Text;
 use std::alloc::{AllocError, AllocFailed};
 use std::fmt;
+use support::text::Text;
 use thiserror::Error;
 
 /// Why an import refuses a module.

@@ -1,10 +1,11 @@
 //! What phis take, found by the phi and the block that an edge comes from.
 
 ghost use Rattle.std.specs.Prelude.{◌≡◌, ◌<◌, ◌&&◌, ℕ, false, nat_eq, IfOk, OnOk, IsSome, None, Some, All, if◌then◌else◌, length, map, slice_get};
+ghost use Rattle.support.specs.Options.{or_else};
 ghost use Rattle.llvm_core.specs.Data.{Block, Function, Placed, trees_of, operand_of};
 ghost use Rattle.llvm_core.specs.Form.{is_phi};
 ghost use Rattle.from_llvm_ir.specs.Imported.{passed};
-ghost use Rattle.from_llvm_ir.specs.Source.{IsSource, LeadsTo, IsSite, IsUsed, AreEntries, AreRight, IsNotedOf, entry_at, first_value, or_else, used_by};
+ghost use Rattle.from_llvm_ir.specs.Source.{IsSource, LeadsTo, IsSite, IsUsed, AreEntries, AreRight, IsNotedOf, entry_at, first_value, used_by};
 
 use crate::parts::{is_phi, operands_of, targets_of};
 use llvm_core::code::{LLVMInst, LLVMValue, PhiEntry};

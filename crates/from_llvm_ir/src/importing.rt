@@ -28,13 +28,13 @@ use dialect_core::few::has_few;
 use dialect_core::numbers::{BlockRef, ModuleOp};
 use dialect_core::steps::Steps;
 use dialect_types::identifier::Identifier;
-use dialect_types::items::Items;
 use dialect_types::legaliser::Legaliser;
 use llvm_core::module::LLVMModule;
 use llvm_core::numbers::LLVMFunction;
 use std::alloc::{AllocError, Global};
 use std::marker::Brand;
 use std::sync::ledger::{Blank, Ledger};
+use support::items::Items;
 
 /// A dialect module, the match of blocks, and the identified structs with their names in the dialect: none yet, since no
 /// such type is translated.

@@ -1,7 +1,7 @@
 //! The match of blocks that a translation hands out.
 
-use dialect_types::items::Items;
 use llvm_core::numbers::LLVMFunction;
+use support::items::Items;
 
 /// The place in the dialect of each block of a source function, in the source's order.
 #[derive(Drop)]

@@ -11,11 +11,11 @@ ghost use Rattle.from_llvm_ir.specs.Walks.{graph_of, place_of_block};
 
 use crate::parts::targets_of;
 use block_order::succs::Succs;
-use dialect_types::items::Items;
 use llvm_core::module::LLVMModule;
 use llvm_core::numbers::{LLVMBasicBlock, LLVMFunction, LLVMInstRef};
 use std::alloc::{AllocError, Global};
 use std::collections::HashMap;
+use support::items::Items;
 
 /// A place as a number of 32 bits.
 pub fn place_of(place: usize) -> Result<u32, AllocError>

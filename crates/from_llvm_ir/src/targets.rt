@@ -15,12 +15,12 @@ use crate::parts::targets_of;
 use crate::values::{Values, known_values};
 use dialect_core::numbers::BlockRef;
 use dialect_core::ops::Successor;
-use dialect_types::items::Items;
 use llvm_core::code::LLVMInst;
 use llvm_core::module::LLVMModule;
 use llvm_core::numbers::{LLVMBasicBlock, LLVMFunction};
 use std::alloc::Global;
 use std::collections::HashMap;
+use support::items::Items;
 
 /// The blocks of the dialect that stand for those of a source function.
 pub type Targets = HashMap<LLVMBasicBlock, BlockRef>;

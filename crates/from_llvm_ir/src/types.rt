@@ -13,13 +13,13 @@ ghost use Rattle.from_llvm_ir.specs.Source.{IsSource, IsBlockOf, IsTypeOf};
 
 use crate::parts::is_phi;
 use dialect_core::context::Context;
-use dialect_types::items::Items;
 use dialect_types::types::{TypeHandle, TypeKind};
 use llvm_core::code::LLVMValue;
 use llvm_core::module::LLVMModule;
 use llvm_core::numbers::{LLVMBasicBlock, LLVMFunction, LLVMInstRef, LLVMType};
 use llvm_core::types::LLVMTypeKind;
 use std::alloc::{AllocError, Global};
+use support::items::Items;
 
 /// The number of a type of the context, new or old.
 fn intern(ctx: &mut Context, kind: TypeKind) -> Result<TypeHandle, AllocError>

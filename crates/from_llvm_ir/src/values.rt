@@ -11,9 +11,9 @@ use dialect_core::ops::Value;
 use llvm_core::code::{LLVMInst, LLVMValue};
 use llvm_core::module::LLVMModule;
 use llvm_core::numbers::LLVMInstRef;
-use llvm_core::text::Text;
 use std::alloc::{AllocError, Global};
 use std::collections::HashMap;
+use support::text::Text;
 
 /// The values of the dialect that stand for parameters, constants and results of a source function.
 #[derive(Drop)]

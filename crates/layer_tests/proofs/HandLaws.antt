@@ -1,12 +1,7 @@
--- The types of a context after one was asked for: their numbers are in range; and lists that grow by what they may hold.
-use Rattle.std.proofs.Common.{◌≡◌, ◌<◌, ◌≤◌, ℕ, Bool, true, false, if◌then◌else◌, List, [], ◌∷◌, ◌++◌, All, length, ap, inl, inr, arith, length-append}
+-- Lists that grew by a type that was asked for, or by what they may hold.
+use Rattle.std.proofs.Common.{◌≡◌, ◌≤◌, ℕ, Bool, true, false, if◌then◌else◌, List, [], ◌∷◌, ◌++◌, All, length, ap, inl, inr, arith, length-append}
 use Rattle.std.proofs.lemmas.List.Elements.{All-push}
-use Rattle.std.proofs.lemmas.Option.{slice_get_within}
-use Rattle.dialect_types.specs.Interned.{Interned}
-
--- the number of the type is one of them
-pub interned_within : {X : Type 0} (old new : List X) (k : X) (n : ℕ) → Interned old new k n → n < length new
-interned_within old new k n h = slice_get_within new n k h.here
+use Rattle.support.specs.Interned.{Interned}
 
 -- there are no fewer
 pub interned_longer : {X : Type 0} (old new : List X) (k : X) (n : ℕ) (before : List X) → old ≡ before → Interned old new k n → length before ≤ length new

@@ -5,13 +5,13 @@ use Rattle.std.specs.List.{cons_option, filter_map}
 use Rattle.std.specs.Option.{option_map}
 use Rattle.std.proofs.lemmas.List.Elements.{All-head}
 use Rattle.std.proofs.lemmas.Option.{same_Some, slice_get-get_or}
+use Rattle.support.proofs.ListLaws.{item_there}
 use Rattle.dialect_types.specs.Trees.{type_trees}
 use Rattle.dialect_core.specs.declared.numbers.OpRef.{OpRef}
 use Rattle.dialect_core.specs.declared.numbers.BlockRef.{BlockRef}
 use Rattle.dialect_core.specs.declared.ops.OpData.{OpData}
 use Rattle.dialect_core.specs.ContextData.{ContextData}
 use Rattle.dialect_core.specs.Data.{DialectBlock, block_in, block_of, held}
-use Rattle.llvm_core.proofs.DataLemmas.{there}
 use Rattle.to_llvm_ir.proofs.ContextLaws.{some_func}
 use Rattle.tracing.specs.DialectBodies.{HasBody}
 use Rattle.tracing.proofs.DialectLaws.{kept_func}
@@ -25,7 +25,7 @@ some_length (suc n) h = omega arith
 some_blocks : (c : ContextData) (bs : List BlockRef) → 0 < length bs → All (λ (b : BlockRef). b.0 < length c.blocks) bs → ¬ (filter_map (block_in (type_trees c.types) c) bs ≡ [])
 some_blocks c [] lt within none = absurd (omega arith)
 some_blocks c (b ∷ bs) lt within none =
-    let kept = there c.blocks b.0 (All-head (λ (b : BlockRef). b.0 < length c.blocks) b bs within) in
+    let kept = item_there c.blocks b.0 (All-head (λ (b : BlockRef). b.0 < length c.blocks) b bs within) in
     let here : block_in (type_trees c.types) c b ≡ Some (block_of (type_trees c.types) c b kept.0) = ap (option_map (block_of (type_trees c.types) c b)) kept.1 in
     let e = ap (λ (o : Option DialectBlock). cons_option o (filter_map (block_in (type_trees c.types) c) bs)) here in
     let no : ⊥ = cc (sym e ∙ none) in

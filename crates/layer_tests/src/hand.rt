@@ -14,11 +14,11 @@ use dialect_core::overflow::IntegerOverflowFlagsAttr;
 use dialect_core::steps::Steps;
 use dialect_types::attrs::ConstAttr;
 use dialect_types::identifier::Identifier;
-use dialect_types::items::Items;
 use dialect_types::legaliser::Legaliser;
 use dialect_types::types::{TypeHandle, TypeKind};
 use std::alloc::{AllocError, Global};
 use std::sync::ledger::{Blank, Ledger};
+use support::items::Items;
 
 /// A block, by the function that has it, counted from 1, and its place there. The function 0 is the module itself.
 pub type At = (usize, usize);

@@ -9,12 +9,12 @@ use llvm_core::check_err::CheckErr;
 use llvm_core::checking::check;
 use llvm_core::code::{LLVMInst, LLVMIntPredicate, LLVMValue, OverflowFlags};
 use llvm_core::consts::LLVMConstKind;
-use llvm_core::items::Items;
 use llvm_core::module::LLVMModule;
 use llvm_core::numbers::{LLVMBasicBlock, LLVMFunction, LLVMInstRef, LLVMType};
 use llvm_core::types::LLVMTypeKind;
 use std::alloc::Global;
 use std::str::SplitWhitespace;
+use support::items::Items;
 
 // What the check answers, `Ok` or an error, and the calls that make the module:
 //

@@ -1,4 +1,4 @@
-//! The words of rows.
+//! The words, between blanks, of the rows of `modules` and of what `traces` wants.
 
 use std::str::SplitWhitespace;
 

@@ -2,10 +2,10 @@
 use Rattle.std.proofs.Common.{◌≡◌, ℕ, suc, Bool, true, false, ◌&&◌, not, ◌==◌, ◌+◌, List, [], ◌∷◌, ◌++◌, length, length-append, append_assoc, slice_index, refl, ◌∙◌, arith}
 use Rattle.std.specs.List.{prefix_len, list_all}
 use Rattle.std.proofs.lemmas.Bool.Decides.{nat_tests}
+use Rattle.std.proofs.lemmas.Bool.{not-true, and_parts, and_right}
 use Rattle.llvm_core.specs.Names.{is_digit}
 use Rattle.ll_tree.specs.Text.{Text, is_name_byte, is_bare, global, label, quoted}
 use Rattle.ll_tree.specs.Tokens.{is_blank, is_sign, is_sigil, is_word_start, is_word_byte, in_string, name_at, string_at, begins_hex, digits_at, minus_at, word_at, piece_at}
-use Rattle.ll_tree.proofs.LiteralLaws.{and_split}
 use Rattle.ll_tree.proofs.CuttingLaws.{Alone}
 
 -- a byte that ends a name, a number and a word, and makes no label
@@ -22,7 +22,7 @@ fails false y f h = refl
 pub prefix_len-run : (p : ℕ → Bool) (xs : List ℕ) (b : ℕ) (rest : List ℕ) → list_all p xs ≡ true → p b ≡ false → prefix_len p (xs ++ b ∷ rest) ≡ length xs
 prefix_len-run p [] b rest h g = rw g refl
 prefix_len-run p (x ∷ xs) b rest h g =
-    let k = and_split (p x) (list_all p xs) h in
+    let k = and_parts (p x) (list_all p xs) h in
     rw (k.0, prefix_len-run p xs b rest k.1 g) (omega arith)
 
 -- what stands behind a list
@@ -32,7 +32,7 @@ slice_index-behind (x ∷ xs) b rest = slice_index-behind xs b rest
 
 pub weaker : (p q : ℕ → Bool) (xs : List ℕ) → ((b : ℕ) → p b ≡ true → q b ≡ true) → list_all p xs ≡ true → list_all q xs ≡ true
 weaker p q [] f h = refl
-weaker p q (x ∷ xs) f h = let k = and_split (p x) (list_all p xs) h in rw (f x k.0, weaker p q xs f k.1) refl
+weaker p q (x ∷ xs) f h = let k = and_parts (p x) (list_all p xs) h in rw (f x k.0, weaker p q xs f k.1) refl
 
 pub digit_in_name : (b : ℕ) → is_digit b ≡ true → is_name_byte b ≡ true
 digit_in_name b h = grind (arith, nat_tests)
@@ -58,14 +58,10 @@ x_in_name b h = grind (arith, nat_tests)
 digit_no_x : (b : ℕ) → is_digit b ≡ true → (b == 120) ≡ false
 digit_no_x b h = grind (arith, nat_tests)
 
-both_fail : (x y : Bool) → y ≡ false → (x && y) ≡ false
-both_fail true y h = h
-both_fail false y h = refl
-
 -- digits before a byte that ends them are no hexadecimal number
 no_hex : (s : ℕ) (b : ℕ) (bs rest : List ℕ) → IsStop s → list_all is_digit bs ≡ true → begins_hex (b ∷ bs ++ s ∷ rest) ≡ false
-no_hex s b [] rest stop h = both_fail (b == 48) (s == 120) (fails (s == 120) (is_name_byte s) (x_in_name s) stop.name)
-no_hex s b (d ∷ bs) rest stop h = let k = and_split (is_digit d) (list_all is_digit bs) h in both_fail (b == 48) (d == 120) (digit_no_x d k.0)
+no_hex s b [] rest stop h = and_right (b == 48) (s == 120) (fails (s == 120) (is_name_byte s) (x_in_name s) stop.name)
+no_hex s b (d ∷ bs) rest stop h = let k = and_parts (is_digit d) (list_all is_digit bs) h in and_right (b == 48) (d == 120) (digit_no_x d k.0)
 
 -- ---- bytes that a piece begins with
 
@@ -150,15 +146,11 @@ record Bare (b : ℕ) (bs : Text) : Type 0 where
   pub no_digit : is_digit b ≡ false
   pub others : list_all is_name_byte bs ≡ true
 
-not_true : (b : Bool) → not b ≡ true → b ≡ false
-not_true true h = absurd cc
-not_true false h = refl
-
 bare_parts : (b : ℕ) (bs : Text) → is_bare (b ∷ bs) ≡ true → Bare b bs
 bare_parts b bs h =
-    let k = and_split (is_name_byte b && not (is_digit b)) (list_all is_name_byte bs) h in
-    let j = and_split (is_name_byte b) (not (is_digit b)) k.0 in
-    record { name = j.0; no_digit = not_true (is_digit b) j.1; others = k.1 }
+    let k = and_parts (is_name_byte b && not (is_digit b)) (list_all is_name_byte bs) h in
+    let j = and_parts (is_name_byte b) (not (is_digit b)) k.0 in
+    record { name = j.0; no_digit = not-true (is_digit b) j.1; others = k.1 }
 
 -- @ and a bare name
 pub alone_global : (s : ℕ) (name : Text) → IsStop s → is_bare name ≡ true → Alone s (global name)

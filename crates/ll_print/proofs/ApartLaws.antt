@@ -4,10 +4,10 @@ use Rattle.std.specs.List.{flat_map}
 use Rattle.std.specs.Option.{option_map}
 use Rattle.std.proofs.lemmas.List.{map-append}
 use Rattle.std.proofs.lemmas.Option.{slice_get-map, slice_get_within}
-use Rattle.llvm_core.specs.Interned.{IsDistinctList}
+use Rattle.support.specs.Interned.{IsDistinctList}
 use Rattle.llvm_core.specs.Data.{TypeTree, VoidType, IntType, FunctionType, Placed, Block, Function, placed_in}
 use Rattle.llvm_core.specs.Form.{HasNumber}
-use Rattle.llvm_core.proofs.ListLemmas.{slice_get-kept}
+use Rattle.support.proofs.ListLaws.{slice_get-kept, slice_get-behind}
 use Rattle.ll_tree.specs.Text.{Text}
 use Rattle.ll_print.specs.Printing.{Unnamed, ParamAt, BlockOf, ResultOf, same_unnamed, if_unnamed}
 use Rattle.ll_print.specs.Parts.{HasBlockNumber}
@@ -41,21 +41,17 @@ apart_both (x ∷ xs) ys a b h = (misses, apart_both xs ys a.1 b (λ t has. h t 
 abbrev Differ : List ℕ → List ℕ → Type 0
 Differ xs ys = (i j n : ℕ) → slice_get xs i ≡ Some n → slice_get ys j ≢ Some n
 
-pub behind_at : {X : Type 0} (xs ys : List X) (j : ℕ) → slice_get (xs ++ ys) (length xs + j) ≡ slice_get ys j
-behind_at [] ys j = let e : 0 + j ≡ j = omega arith in ap (slice_get ys) e
-behind_at (x ∷ xs) ys j = let e : suc (length xs) + j ≡ suc (length xs + j) = omega arith in ap (slice_get (x ∷ (xs ++ ys))) e ∙ behind_at xs ys j
-
 distinct_front : (xs ys : List ℕ) → IsDistinctList (xs ++ ys) → IsDistinctList xs
 distinct_front xs ys h i j x a b = h i j x (slice_get-kept xs ys i x a) (slice_get-kept xs ys j x b)
 
 distinct_behind : (xs ys : List ℕ) → IsDistinctList (xs ++ ys) → IsDistinctList ys
 distinct_behind xs ys h i j x a b =
-    let e : length xs + i ≡ length xs + j = h (length xs + i) (length xs + j) x (behind_at xs ys i ∙ a) (behind_at xs ys j ∙ b) in
+    let e : length xs + i ≡ length xs + j = h (length xs + i) (length xs + j) x (slice_get-behind xs ys i ∙ a) (slice_get-behind xs ys j ∙ b) in
     omega arith
 
 distinct_differ : (xs ys : List ℕ) → IsDistinctList (xs ++ ys) → Differ xs ys
 distinct_differ xs ys h i j n a b =
-    let e : i ≡ length xs + j = h i (length xs + j) n (slice_get-kept xs ys i n a) (behind_at xs ys j ∙ b) in
+    let e : i ≡ length xs + j = h i (length xs + j) n (slice_get-kept xs ys i n a) (slice_get-behind xs ys j ∙ b) in
     omega (arith, e, slice_get_within xs i n a)
 
 -- the numbers of instructions and of blocks
@@ -75,7 +71,7 @@ number_front : (n : ℕ) (ps qs : List Placed) → HasNumber n ps → HasNumber 
 number_front n ps qs h = (h.0, h.1, slice_get-kept ps qs h.0 h.1 h.2, h.3)
 
 number_behind : (n : ℕ) (ps qs : List Placed) → HasNumber n qs → HasNumber n (ps ++ qs)
-number_behind n ps qs h = (length ps + h.0, h.1, behind_at ps qs h.0 ∙ h.2, h.3)
+number_behind n ps qs h = (length ps + h.0, h.1, slice_get-behind ps qs h.0 ∙ h.2, h.3)
 
 -- ---- what places there are
 

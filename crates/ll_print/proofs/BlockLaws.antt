@@ -3,10 +3,11 @@ use Rattle.std.proofs.Common.{◌≡◌, ℕ, zero, suc, ◌+◌, true, codes, L
 use Rattle.std.specs.List.{flat_map, AllByRecursion}
 use Rattle.std.proofs.lemmas.Grind.{flat_map-append}
 use Rattle.std.proofs.lemmas.List.{append-nil}
+use Rattle.std.proofs.lemmas.Option.{same_Some}
 use Rattle.llvm_core.specs.Names.{IsPlainOrNone}
 use Rattle.llvm_core.specs.Data.{TypeTree, Placed, Block, Function}
 use Rattle.llvm_core.specs.Form.{IsFormInstruction, IsFormBlock}
-use Rattle.llvm_core.proofs.ListLemmas.{some_same, slice_get-kept}
+use Rattle.support.proofs.ListLaws.{slice_get-kept, slice_get-behind}
 use Rattle.llvm_core.proofs.DataLemmas.{within_at}
 use Rattle.ll_tree.specs.Text.{Text, is_bare, label}
 use Rattle.ll_tree.specs.Tree as tree
@@ -16,7 +17,6 @@ use Rattle.ll_text.specs.Meaning.{BlockLocal, label_key, define_written, AreName
 use Rattle.ll_tree.proofs.CuttingLaws.{Writes, nothing, joined, same, writes_end, writes_line}
 use Rattle.ll_print.specs.Printing.{BlockOf, placed_text, label_text, block_text, entry_label_text}
 use Rattle.ll_print.specs.Parts.{entry_lines}
-use Rattle.ll_print.proofs.ApartLaws.{behind_at}
 use Rattle.ll_print.proofs.DefineLaws.{defines, defines_unwritten}
 use Rattle.ll_print.proofs.InstLaws.{AreTrees, end_printed, insts_printed, trees_write, trees_kind, trees_say, trees_define, split}
 use Rattle.ll_print.proofs.LineLaws.{IsEnd}
@@ -75,11 +75,11 @@ pub record IsBlockTree (f : Function) (b : Block) (text : List ℕ) (t : tree.Bl
 placed_there : (bs : List Block) (i : ℕ) (b : Block) (k : ℕ) (p : Placed) → slice_get bs i ≡ Some b → slice_get b.instructions k ≡ Some p → (j : ℕ) × (slice_get (flat_map (λ (b : Block). b.instructions) bs) j ≡ Some p)
 placed_there [] i b k p at found = absurd cc
 placed_there (c ∷ bs) zero b k p at found =
-    let same : c ≡ b = some_same c b at in
+    let same : c ≡ b = same_Some c b at in
     (k, slice_get-kept c.instructions (flat_map (λ (b : Block). b.instructions) bs) k p (ap (λ (d : Block). slice_get d.instructions k) same ∙ found))
 placed_there (c ∷ bs) (suc i) b k p at found =
     let o = placed_there bs i b k p at found in
-    (length c.instructions + o.0, behind_at c.instructions (flat_map (λ (b : Block). b.instructions) bs) o.0 ∙ o.1)
+    (length c.instructions + o.0, slice_get-behind c.instructions (flat_map (λ (b : Block). b.instructions) bs) o.0 ∙ o.1)
 
 -- a label defines its block
 abbrev Labels : Function → Block → Option Text → Type 0

@@ -3,6 +3,7 @@ use Rattle.std.proofs.Common.{◌≡◌, ◌≢◌, ℕ, zero, suc, ◌+◌, ◌
 use Rattle.std.specs.List.{flat_map}
 use Rattle.std.specs.Option.{option_map}
 use Rattle.std.proofs.lemmas.List.{append-nil, take_all}
+use Rattle.support.proofs.ListLaws.{flat_map-take_more}
 use Rattle.llvm_core.specs.declared.numbers.LLVMType.{LLVMType}
 use Rattle.llvm_core.specs.declared.numbers.LLVMFunction.{LLVMFunction}
 use Rattle.llvm_core.specs.declared.numbers.LLVMBasicBlock.{LLVMBasicBlock}
@@ -21,7 +22,7 @@ use Rattle.ll_print.specs.Printing.{Unnamed, ParamAt, ResultOf, if_unnamed, unna
 use Rattle.ll_print.specs.Numbering.{IsNumbering, Counts}
 use Rattle.ll_print.specs.Parts.{no_function, function_in, unnamed_at, unnamed_of}
 use Rattle.ll_print.proofs.NumberLaws.{counts_none, counts_then}
-use Rattle.ll_print.proofs.PartLaws.{read, read_item, flat_map_more, flat_map-filter_map, params_of, gives_of-inst}
+use Rattle.ll_print.proofs.PartLaws.{read, read_item, flat_map-filter_map, params_of, gives_of-inst}
 
 -- ---- parameters
 
@@ -62,7 +63,7 @@ counts_params_all ns old new place all h = subst (λ (ms : List (List ℕ)). Cou
 
 -- one more item
 pub counts_more : {X : Type 0} (g : X → List Unnamed) (old now new : Numbers) (xs : List X) (i : ℕ) (d : X) → i < length xs → Counts old now (flat_map g (take i xs)) → Counts now new (g (get_or xs i d)) → Counts old new (flat_map g (take (i + 1) xs))
-counts_more g old now new xs i d within so_far step = subst (Counts old new) (sym (flat_map_more g xs i d within)) (counts_then old now new (flat_map g (take i xs)) (g (get_or xs i d)) so_far step)
+counts_more g old now new xs i d within so_far step = subst (Counts old new) (sym (flat_map-take_more g xs i d within)) (counts_then old now new (flat_map g (take i xs)) (g (get_or xs i d)) so_far step)
 
 pub counts_all : {X : Type 0} (g : X → List Unnamed) (old new : Numbers) (xs : List X) (i : ℕ) → length xs ≤ i → Counts old new (flat_map g (take i xs)) → Counts old new (flat_map g xs)
 counts_all {X} g old new xs i all h = subst (λ (ys : List X). Counts old new (flat_map g ys)) (take_all i xs all) h

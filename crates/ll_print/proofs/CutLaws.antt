@@ -1,24 +1,11 @@
 -- Pieces of the layout, cut into their tokens whatever follows.
-use Rattle.std.proofs.Common.{◌≡◌, ℕ, true, false, ◌==◌, codes, ◌≤◌, List, [], ◌∷◌, ◌++◌, Some, length, length-append, take, drop, append_assoc, refl, ◌∙◌, arith}
-use Rattle.std.proofs.lemmas.List.{take_at, drop_at}
+use Rattle.std.proofs.Common.{◌≡◌, ℕ, true, false, ◌==◌, codes, List, [], ◌∷◌, ◌++◌, Some, append_assoc, refl, ◌∙◌, arith}
 use Rattle.ll_tree.specs.Text.{Text}
 use Rattle.ll_tree.specs.declared.pieces.Piece.{Piece}
 use Rattle.ll_tree.specs.Tokens.{is_blank, is_sign, token, piece_at}
 use Rattle.ll_tree.proofs.TokenLaws.{steps}
-use Rattle.ll_tree.proofs.CuttingLaws.{Cut, Writes, Alone, joined, same, writes_spaced, alone_equals}
+use Rattle.ll_tree.proofs.CuttingLaws.{Cut, Writes, Alone, joined, same, writes_spaced, alone_equals, token_step, token_cut}
 use Rattle.ll_print.proofs.AloneLaws.{IsStop}
-
--- a piece that is a token
-token_step : (t : Text) (rest : List ℕ) (us : List Text) → 1 ≤ length t → piece_at (t ++ rest) ≡ token (length t) → Cut rest us → Cut (t ++ rest) (t ∷ us)
-token_step t rest us some piece others =
-    let p : Piece = record { is_token = true; len = length t } in
-    let le : length t ≤ length (t ++ rest) = omega (arith, length-append t rest) in
-    let front : take (length t) (t ++ rest) ≡ t = take_at t rest (length t) refl in
-    let back : drop (length t) (t ++ rest) ≡ rest = drop_at t rest (length t) refl in
-    steps p (t ++ rest) some le piece ∙ rw (front, back, others) refl
-
-pub token_cut : (b : ℕ) (t : Text) (rest : List ℕ) (us : List Text) → Alone b t → Cut (b ∷ rest) us → Cut (t ++ b ∷ rest) (t ∷ us)
-token_cut b t rest us alone others = token_step t (b ∷ rest) us alone.some (alone.piece rest) others
 
 pub sign_cut : (b : ℕ) (rest : List ℕ) (us : List Text) → is_blank b ≡ false → (b == 59) ≡ false → is_sign b ≡ true → Cut rest us → Cut (b ∷ rest) ((b ∷ []) ∷ us)
 unfolding piece_at

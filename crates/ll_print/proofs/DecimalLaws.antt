@@ -9,10 +9,11 @@ use Rattle.std.proofs.lemmas.Nat.{pow_pos}
 use Rattle.std.proofs.Math.Nat.{pow-le-pow_right}
 use Rattle.std.proofs.lemmas.Str.Parse.{IsDigitsTest, FoldsDigits, IsNumeralModel, numerals_by_fold}
 use Rattle.std.proofs.lemmas.Fmt.{decimal_nonempty, digits_decimal, digits_value-decimal}
+use Rattle.std.proofs.lemmas.Bool.{and_parts}
 use Rattle.llvm_core.specs.Names.{is_digit}
 use Rattle.ll_tree.specs.Text.{Text, number_of, value_after, if_number, at_width, const_value, width_of}
 use Rattle.ll_print.specs.Printing.{signed_text, int_text}
-use Rattle.ll_tree.proofs.LiteralLaws.{and_split, number_of_digits}
+use Rattle.ll_tree.proofs.LiteralLaws.{number_of_digits}
 
 -- a text of decimal digits that says the number
 pub record IsDecimal (t : Text) (n : ℕ) : Type 0 where
@@ -35,7 +36,7 @@ range_digit b h = grind (arith, nat_tests)
 digits_test : IsDigitsTest AllDigit
 digits_test = record {
   empty = refl;
-  parts = λ c cs h. let k = and_split (is_digit c) (list_all is_digit cs) h in (digit_range c k.0, k.1);
+  parts = λ c cs h. let k = and_parts (is_digit c) (list_all is_digit cs) h in (digit_range c k.0, k.1);
   more = λ c cs r h. rw (range_digit c r, h) refl;
 }
 
@@ -48,7 +49,7 @@ model = numerals_by_fold AllDigit digits_test value_after folds
 decimal_by : (n : ℕ) (t : Text) → 0 < length t → AllDigit t → value_after 0 t ≡ n → IsDecimal t n
 decimal_by n [] some h v = absurd (omega arith)
 decimal_by n (b ∷ bs) some h v =
-    let k = and_split (is_digit b) (list_all is_digit bs) h in
+    let k = and_parts (is_digit b) (list_all is_digit bs) h in
     record { first = b; others = bs; text = refl; digit = k.0; digits = k.1; number = number_of_digits (b ∷ bs) some ∙ rw (h, v) refl }
 
 -- a printed number

@@ -2,18 +2,17 @@
 use Rattle.std.proofs.Common.{◌≡◌, ℕ, zero, suc, ◌≤◌, Bool, true, false, cond, nat_eq, List, [], ◌∷◌, map, slice_get, Some, refl, ap, sym, ◌∙◌, eqb-true, arith}
 use Rattle.std.specs.List.{filter, flat_map}
 use Rattle.std.specs.Option.{option_map}
-use Rattle.std.proofs.lemmas.Option.{slice_get-map}
+use Rattle.std.proofs.lemmas.Option.{slice_get-map, same_Some}
 use Rattle.llvm_core.specs.Data.{Operand, Block, Function}
 use Rattle.llvm_core.specs.Edges.{count_of}
 use Rattle.llvm_core.specs.Form.{targets_of, FitsEdges, IsTarget}
 use Rattle.llvm_core.proofs.EdgeLemmas.{count-cons, one_here}
-use Rattle.llvm_core.proofs.ListLemmas.{some_same}
 use Rattle.ll_print.specs.Parts.{HasBlockNumber}
 
 -- what stands in a list is counted
 count_there : (xs : List ℕ) (i n : ℕ) → slice_get xs i ≡ Some n → 1 ≤ count_of n xs
 count_there [] i n at = absurd cc
-count_there (x ∷ xs) zero n at = omega (arith, count-cons n x xs, one_here n x (sym (some_same x n at)))
+count_there (x ∷ xs) zero n at = omega (arith, count-cons n x xs, one_here n x (sym (same_Some x n at)))
 count_there (x ∷ xs) (suc i) n at = omega (arith, count-cons n x xs, count_there xs i n at)
 
 -- an edge leaves a block

@@ -3,24 +3,23 @@ use Rattle.std.proofs.Common.{◌≡◌, ℕ, zero, suc, ◌+◌, ◌<◌, ◌�
 use Rattle.std.specs.List.{flat_map}
 use Rattle.std.specs.Option.{option_map}
 use Rattle.std.proofs.lemmas.List.{append-nil, take_all, length-map}
-use Rattle.std.proofs.lemmas.Option.{slice_get-get_or, slice_get-map, slice_get_within}
+use Rattle.std.proofs.lemmas.Option.{slice_get-get_or, slice_get-map, slice_get_within, same_Some}
+use Rattle.support.proofs.ListLaws.{flat_map-take_more}
 use Rattle.llvm_core.specs.declared.code.PhiEntry.{PhiEntry}
 use Rattle.llvm_core.specs.Module.{Module}
 use Rattle.llvm_core.specs.Data.{Operand, Function, trees_of, entry_of}
-use Rattle.llvm_core.proofs.ListLemmas.{some_same}
 use Rattle.ll_print.specs.Printing.{entry_text, next_entry_text, entries_text, comma_text}
-use Rattle.ll_print.proofs.PartLaws.{flat_map_more}
 
 next_more : (f : Function) (i : ℕ) (es : List (Operand × ℕ)) (e : Operand × ℕ) → slice_get es i ≡ Some e → flat_map (next_entry_text f) (take (i + 1) es) ≡ flat_map (next_entry_text f) (take i es) ++ next_entry_text f e
 next_more f i es e at =
     let within = slice_get_within es i e at in
-    let here : get_or es i e ≡ e = some_same (get_or es i e) e (sym (slice_get-get_or es i e within) ∙ at) in
-    flat_map_more (next_entry_text f) es i e within ∙ ap (λ (d : Operand × ℕ). flat_map (next_entry_text f) (take i es) ++ next_entry_text f d) here
+    let here : get_or es i e ≡ e = same_Some (get_or es i e) e (sym (slice_get-get_or es i e within) ∙ at) in
+    flat_map-take_more (next_entry_text f) es i e within ∙ ap (λ (d : Operand × ℕ). flat_map (next_entry_text f) (take i es) ++ next_entry_text f d) here
 
 -- one more of them, behind its comma
 entries_more : (f : Function) (i : ℕ) (es : List (Operand × ℕ)) (e : Operand × ℕ) → slice_get es i ≡ Some e → entries_text f (take (i + 1) es) ≡ entries_text f (take i es) ++ (comma_text i ++ entry_text f e)
 entries_more f i [] e at = absurd cc
-entries_more f zero (d ∷ es) e at = rw (some_same d e at) (append-nil (entry_text f e))
+entries_more f zero (d ∷ es) e at = rw (same_Some d e at) (append-nil (entry_text f e))
 entries_more f (suc i) (d ∷ es) e at =
     let fronts : take (suc i + 1) (d ∷ es) ≡ d ∷ take (i + 1) es = let n : suc i + 1 ≡ suc (i + 1) = omega arith in rw n refl in
     ap (entries_text f) fronts

@@ -5,8 +5,9 @@ use Rattle.std.specs.List.{flat_map, filter_map}
 use Rattle.std.specs.Option.{option_map}
 use Rattle.std.specs.declared.alloc.AllocError.{AllocError}
 use Rattle.std.proofs.lemmas.List.{append-nil, take_all}
-use Rattle.std.proofs.lemmas.Option.{slice_get-get_or, slice_get-map}
+use Rattle.std.proofs.lemmas.Option.{slice_get-get_or, slice_get-map, same_Some}
 use Rattle.std.proofs.lemmas.Result.{on_ok_weaker}
+use Rattle.support.proofs.ListLaws.{item_there, flat_map-take_more, appended_twice}
 use Rattle.llvm_core.specs.declared.numbers.LLVMType.{LLVMType}
 use Rattle.llvm_core.specs.declared.numbers.LLVMFunction.{LLVMFunction}
 use Rattle.llvm_core.specs.declared.numbers.LLVMBasicBlock.{LLVMBasicBlock}
@@ -24,16 +25,15 @@ use Rattle.llvm_core.specs.Parts.{IsValue, IsBlock, IsEntry, HasValues}
 use Rattle.llvm_core.specs.Sound.{IsModule}
 use Rattle.llvm_core.specs.Data.{TypeTree, Operand, Placed, Function, type_at, trees_of, operand_of, entry_of, instruction_of, placed_of, block_of, block_at, function_of, param_type, data_of}
 use Rattle.llvm_core.specs.Form.{IsOperandOf, IsOperand, IsTarget, FitsEdges, IsFormInstruction, IsFormBlock, IsFormFunction, result_of}
-use Rattle.llvm_core.proofs.DataLemmas.{within_at, there, block_of_number, inst_of_number, function_count}
-use Rattle.llvm_core.proofs.ListLemmas.{some_same}
+use Rattle.llvm_core.proofs.DataLemmas.{within_at, block_of_number, inst_of_number, function_count}
 use Rattle.ll_print.specs.declared.numbers.Numbers.{Numbers}
 use Rattle.ll_print.specs.declared.places.Place.TheVariants as P
 use Rattle.ll_print.specs.Printing.{ParamAt, comma_text, type_text, local_text, head_text, params_text, blocks_text, function_text}
 use Rattle.ll_print.specs.Numbering.{noted_at, or_number}
 use Rattle.ll_print.specs.Parts.{no_function, function_in, named_text, all_lines_of, IsOwn, IsOwnBlock, OwnsEntry, OwnsOperands, OwnsInst, OwnsBlock, IsPrinting}
-use Rattle.ll_print.proofs.PartLaws.{read, flat_map_more, function_there, all_lines}
+use Rattle.ll_print.proofs.PartLaws.{read, function_there, all_lines}
 use Rattle.ll_print.proofs.CountLaws.{param_read}
-use Rattle.ll_print.proofs.TextLaws.{put_is, put_two, ok_two}
+use Rattle.ll_print.proofs.TextLaws.{put_is, ok_two}
 use Rattle.ll_print.proofs.EdgeLaws.{entry_block, target_block}
 use Rattle.ll_print.proofs.OwnLaws.{thing_local}
 
@@ -68,7 +68,7 @@ own_operands m f b p I.Unreachable values form = tt
 own_block : (m : Module) (f : LLVMFunction) (x : FunctionData) → IsModule m → slice_get m.functions f.0 ≡ Some x → x ≡ get_or m.functions f.0 no_function → IsFormFunction (function_in m f)
     → (j : ℕ) (b : LLVMBasicBlock) → slice_get x.blocks j ≡ Some b → b.0 < length m.blocks → OwnsBlock m f b
 own_block m f x s at is form j b here within = record {
-  own = let y = there m.blocks b.0 within in (within, (j, block_of (trees_of m) m.insts b y.0, listed y.0 y.1, refl));
+  own = let y = item_there m.blocks b.0 within in (within, (j, block_of (trees_of m) m.insts b y.0, listed y.0 y.1, refl));
   insts = λ y found k d lt. inst y found k (get_or y.insts k d) (slice_get-get_or y.insts k d lt);
 }
   where
@@ -108,7 +108,7 @@ pub params_more : (f : Function) (k i : ℕ) (ns : List (List ℕ)) (n : List �
 params_more f k i [] n at = absurd cc
 params_more f k zero (m ∷ ns) n at =
     let here : k + 0 ≡ k = omega arith in
-    rw (here, ← some_same m n at) (append-nil (param_text f k m))
+    rw (here, ← same_Some m n at) (append-nil (param_text f k m))
 params_more f k (suc i) (m ∷ ns) n at =
     let fronts : take (suc i + 1) (m ∷ ns) ≡ m ∷ take (i + 1) ns = let e : suc i + 1 ≡ suc (i + 1) = omega arith in rw e refl in
     let here : suc k + i ≡ k + suc i = omega arith in
@@ -169,9 +169,9 @@ function_put m f blocks r o0 o1 o2 o3 o4 o5 held within e1 e2 e3 e4 e5 =
     let lines = blocks_text d d.blocks in
     let blocks_are : blocks ≡ (get_or m.functions f.0 no_function).blocks = sym (read (λ (x : FunctionData). x.blocks) m.functions f.0 no_function blocks held) in
     let lines_are : all_lines_of m d blocks ≡ lines = all_lines m d blocks within ∙ ap (λ (bs : List LLVMBasicBlock). blocks_text d (filter_map (block_at (trees_of m) m.blocks m.insts) bs)) blocks_are in
-    let two = put_two o0 o1 o2 (head_text d) more e1 e2 in
-    let three = put_two o0 o2 o3 (head_text d ++ more) (codes ") {\n") two e3 in
-    let four = put_two o0 o3 o4 (head_text d ++ more ++ codes ") {\n") lines three (e4 ∙ ap (λ (t : List ℕ). o3 ++ t) lines_are) in
+    let two = appended_twice o0 o1 o2 (head_text d) more e1 e2 in
+    let three = appended_twice o0 o2 o3 (head_text d ++ more) (codes ") {\n") two e3 in
+    let four = appended_twice o0 o3 o4 (head_text d ++ more ++ codes ") {\n") lines three (e4 ∙ ap (λ (t : List ℕ). o3 ++ t) lines_are) in
     ok_two r o0 o4 o5 (head_text d ++ more ++ codes ") {\n" ++ lines) (codes "}\n") four e5
 
 -- ---- modules
@@ -184,7 +184,7 @@ function_has m f P all within = within_at (data_of m).functions P all f (functio
 pub functions_have : (m : Module) (P : Function → Type 0) → ((f : ℕ) → f < length m.functions → P (function_in m (record { 0 = f }))) → All P (data_of m).functions
 functions_have m P each = λ i d l.
     let within : i < length m.functions = omega (arith, function_count m, l) in
-    let is : function_in m (record { 0 = i }) ≡ get_or (data_of m).functions i d = some_same _ _ (sym (function_there m (record { 0 = i }) within) ∙ slice_get-get_or (data_of m).functions i d l) in
+    let is : function_in m (record { 0 = i }) ≡ get_or (data_of m).functions i d = same_Some _ _ (sym (function_there m (record { 0 = i }) within) ∙ slice_get-get_or (data_of m).functions i d l) in
     subst P is (each i within)
 
 -- one function further
@@ -194,8 +194,8 @@ module_more m f old new start lt e1 e2 =
     let d = function_in m (record { 0 = f }) in
     let count = function_count m in
     let within : f < length (data_of m).functions = omega (arith, count, lt) in
-    let here : get_or (data_of m).functions f d ≡ d = some_same _ d (sym (slice_get-get_or (data_of m).functions f d within) ∙ function_there m (record { 0 = f }) lt) in
-    let more = flat_map_more function_text (data_of m).functions f d within ∙ ap (λ (g : Function). flat_map function_text (take f (data_of m).functions) ++ function_text g) here in
+    let here : get_or (data_of m).functions f d ≡ d = same_Some _ d (sym (slice_get-get_or (data_of m).functions f d within) ∙ function_there m (record { 0 = f }) lt) in
+    let more = flat_map-take_more function_text (data_of m).functions f d within ∙ ap (λ (g : Function). flat_map function_text (take f (data_of m).functions) ++ function_text g) here in
     rw (e2, e1, more) (append_assoc start (flat_map function_text (take f (data_of m).functions)) (function_text d))
 
 -- all functions

@@ -6,11 +6,11 @@ use Rattle.llvm_core.specs.Data.{TypeTree, VoidType, IntType, FunctionType, Type
 use Rattle.llvm_core.specs.Form.{AreShortInts, count_types, IsShortResult}
 use Rattle.ll_tree.specs.Text.{Text, global}
 use Rattle.ll_tree.specs.Tree.{is_int_type, next_param, params, result_type, IsParam, IfPresent}
-use Rattle.ll_tree.proofs.CuttingLaws.{Cut, Writes, Alone, writes_spaced}
+use Rattle.ll_tree.proofs.CuttingLaws.{Cut, Writes, Alone, writes_spaced, token_cut}
 use Rattle.ll_text.proofs.MeaningLaws.{plain_bare}
 use Rattle.ll_print.specs.Printing.{ParamAt, type_text, local_text, params_text}
 use Rattle.ll_print.proofs.AloneLaws.{IsStop, alone_global}
-use Rattle.ll_print.proofs.CutLaws.{token_cut, sign_cut, blank_cut, stop_space, stop_comma, stop_open, stop_close}
+use Rattle.ll_print.proofs.CutLaws.{sign_cut, blank_cut, stop_space, stop_comma, stop_open, stop_close}
 use Rattle.ll_print.proofs.LineLaws.{alone_void}
 use Rattle.ll_print.proofs.NameLaws.{alone_local, local_is, alone_short, type_is}
 use Rattle.ll_print.proofs.OperandLaws.{IsPrintable}

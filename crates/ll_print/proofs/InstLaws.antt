@@ -1,13 +1,13 @@
 -- The instructions of a block: their lines are cut into the tokens of trees that say them, and define their results.
-use Rattle.std.proofs.Common.{◌≡◌, ℕ, suc, ◌-◌, Bool, true, false, not, ◌&&◌, ◌||◌, List, [], ◌∷◌, ◌++◌, length, length-append, take, slice_get, Option, Some, None, append_assoc, refl, ap, sym, ◌∙◌, subst, arith}
+use Rattle.std.proofs.Common.{◌≡◌, ℕ, suc, ◌-◌, true, false, not, ◌&&◌, List, [], ◌∷◌, ◌++◌, length, length-append, take, slice_get, Option, Some, None, append_assoc, refl, ap, sym, ◌∙◌, subst, arith}
 use Rattle.std.specs.List.{flat_map, list_any, AllByRecursion}
 use Rattle.std.specs.Option.{option_map_or}
-use Rattle.std.proofs.lemmas.Bool.{and_parts}
+use Rattle.std.proofs.lemmas.Bool.{and_parts, not-true, or_parts}
 use Rattle.std.proofs.lemmas.List.{append-nil, take_at}
 use Rattle.llvm_core.specs.Checked.{ends_in_only}
 use Rattle.llvm_core.specs.Data.{TypeTree, VoidType, IntType, Instruction, Add, ICmp, Phi, Br, CondBr, Return, Unreachable, Result, Placed, Function, operand_type, placed_in}
 use Rattle.llvm_core.specs.Form.{IsFormInstruction, is_terminator, is_last}
-use Rattle.llvm_core.proofs.ListLemmas.{slice_get-push}
+use Rattle.support.proofs.ListLaws.{slice_get-push}
 use Rattle.ll_tree.specs.Text.{Text, is_bare}
 use Rattle.ll_tree.specs.Tree as tree
 use Rattle.ll_tree.specs.Tree.{inst, IsInst}
@@ -55,14 +55,10 @@ AreTrees f (t ∷ ts) (p ∷ ps) = IsTree f p t × AreTrees f ts ps
 AreTrees f [] (p ∷ ps) = ⊥
 AreTrees f (t ∷ ts) [] = ⊥
 
-or_false : (a b : Bool) → (a || b) ≡ false → (a ≡ false) × (b ≡ false)
-or_false true b h = absurd cc
-or_false false b h = (refl, h)
-
 pub insts_printed : (f : Function) → IsPrintable f → (n : ℕ) (ps : List Placed) → ((i : ℕ) (p : Placed) → slice_get ps i ≡ Some p → IsFormInstruction f n p p.instruction) → list_any is_last ps ≡ false → (ts : List tree.Inst) × AreTrees f ts ps
 insts_printed f h n [] form none = ([], tt)
 insts_printed f h n (p ∷ ps) form none =
-    let parts = or_false (is_last p) (list_any is_last ps) none in
+    let parts = or_parts (is_last p) (list_any is_last ps) none in
     let one = inst_printed f h n p p.instruction refl (form 0 p refl) parts.0 in
     let more = insts_printed f h n ps (λ i q at. form (suc i) q at) parts.1 in
     (one.0 ∷ more.0, (one.1, more.1))
@@ -136,10 +132,6 @@ cut_last : (p : Placed) (ps : List Placed) → (front : List Placed) × (last : 
 cut_last p [] = ([], p, refl)
 cut_last p (q ∷ ps) = let o = cut_last q ps in (p ∷ o.0, o.1, ap (λ (qs : List Placed). p ∷ qs) o.2)
 
-not_true : (b : Bool) → not b ≡ true → b ≡ false
-not_true true h = absurd cc
-not_true false h = refl
-
 ends_at : (ps : List Placed) (p : Placed) → ends_in_only is_last (ps ++ p ∷ []) ≡ (is_last p && not (list_any is_last ps))
 ends_at ps p =
     let size : length (ps ++ p ∷ []) - 1 ≡ length ps = omega (arith, length-append ps (p ∷ [])) in
@@ -152,4 +144,4 @@ split [] h = absurd cc
 split (p ∷ ps) h =
     let o = cut_last p ps in
     let parts = and_parts (is_last o.1) (not (list_any is_last o.0)) (sym (ends_at o.0 o.1) ∙ ap (ends_in_only is_last) (sym o.2) ∙ h) in
-    record { front = o.0; last = o.1; are = o.2; none = not_true (list_any is_last o.0) parts.1; ends = parts.0 }
+    record { front = o.0; last = o.1; are = o.2; none = not-true (list_any is_last o.0) parts.1; ends = parts.0 }

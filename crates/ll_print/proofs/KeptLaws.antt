@@ -2,6 +2,7 @@
 use Rattle.std.proofs.Common.{◌≡◌, ℕ, zero, suc, Bool, true, false, nat_eq, cond, List, [], ◌∷◌, ◌++◌, get_or, slice_get, Option, Some, None, refl, ap, sym, ◌∙◌, eq-eqb, eqb-true}
 use Rattle.std.specs.List.{flat_map, filter_map, cons_option, find}
 use Rattle.std.specs.Option.{option_map}
+use Rattle.std.proofs.lemmas.Option.{same_Some}
 use Rattle.llvm_core.specs.declared.numbers.LLVMFunction.{LLVMFunction}
 use Rattle.llvm_core.specs.declared.numbers.LLVMBasicBlock.{LLVMBasicBlock}
 use Rattle.llvm_core.specs.declared.numbers.LLVMInstRef.{LLVMInstRef}
@@ -10,7 +11,6 @@ use Rattle.llvm_core.specs.declared.code.InstData.{InstData}
 use Rattle.llvm_core.specs.Module.{Module}
 use Rattle.llvm_core.specs.Data.{Placed, Block, trees_of, placed_of, placed_at, block_of, block_at, placed_in}
 use Rattle.llvm_core.specs.Form.{HasNumber}
-use Rattle.llvm_core.proofs.ListLemmas.{some_same}
 use Rattle.ll_print.specs.Parts.{no_function, function_in, HasBlockNumber}
 
 -- ---- things with numbers, and a store of what each number makes
@@ -34,13 +34,13 @@ module _ {P X : Type 0} (number : P → ℕ) (store : List X) (made : ℕ → X 
     where
       here : (k : ℕ) → number p ≡ k → slice_get store k ≡ Some x → p ≡ made k x
       here k e there =
-          let one : kept.0.0 ≡ x = some_same kept.0.0 x (sym kept.0.1 ∙ ap (slice_get store) e ∙ there) in
+          let one : kept.0.0 ≡ x = same_Some kept.0.0 x (sym kept.0.1 ∙ ap (slice_get store) e ∙ there) in
           kept.0.2 ∙ ap (λ (j : ℕ). made j kept.0.0) e ∙ ap (made k) one
 
       by : (b : Bool) → nat_eq (number p) n ≡ b → (i : ℕ) → slice_get (p ∷ ps) i ≡ Some q → ((j : ℕ) → slice_get ps j ≡ Some q → find (λ p. nat_eq (number p) n) ps ≡ Some (made n x)) → cond b (Some p) (find (λ p. nat_eq (number p) n) ps) ≡ Some (made n x)
       by true e i found further = ap (λ (r : P). Some r) (here n (eqb-true (number p) n e) at)
       by false e zero found further =
-          let one : p ≡ q = some_same p q found in
+          let one : p ≡ q = same_Some p q found in
           absurd (let g : nat_eq (number p) n ≡ true = eq-eqb (number p) n (ap number one ∙ same) in cc)
       by false e (suc i) found further = further i found
 

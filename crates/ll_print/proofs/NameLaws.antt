@@ -6,6 +6,7 @@ use Rattle.std.specs.Str.{bytes_eq}
 use Rattle.std.proofs.lemmas.Bool.{and_parts, and_from}
 use Rattle.std.proofs.lemmas.Bool.Decides.{nat_tests}
 use Rattle.std.proofs.lemmas.List.{take_at, drop_at}
+use Rattle.llvm_core.proofs.FormNames.{letter_digit}
 use Rattle.llvm_core.specs.Names.{is_digit, is_letter, is_plain_byte, is_plain, IsPlainOrNone}
 use Rattle.llvm_core.specs.Data.{IntType, Function}
 use Rattle.ll_tree.specs.Text.{Text, is_bare, global, label, quoted, number_of, number_limit}
@@ -20,9 +21,6 @@ use Rattle.ll_print.proofs.DecimalLaws.{IsDecimal, IsDecimal-decimal, width_of-d
 use Rattle.ll_print.proofs.PositionLaws.{position_le}
 
 -- ---- plain names
-
-letter_digit : (b : ℕ) → is_letter b ≡ true → is_digit b ≡ false
-letter_digit b h = grind (arith, nat_tests)
 
 not_empty : (b : ℕ) (bs : Text) → (length (b ∷ bs) == 0) ≡ false
 not_empty b bs = ne_eqb (length (b ∷ bs)) 0 (λ e. omega (arith, e))

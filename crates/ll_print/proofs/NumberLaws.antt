@@ -2,12 +2,13 @@
 use Rattle.std.proofs.Common.{◌≡◌, ℕ, ◌+◌, ◌<◌, ◌≤◌, Bool, true, false, nat_eq, nat_lt, ◌==◌, if◌then◌else◌, cond, List, [], ◌∷◌, ◌++◌, length, length-append, Option, Some, None, refl, ap, sym, ◌∙◌, subst, eq-eqb, ne_eqb, eqb-true, lt-ltb, append_assoc, arith}
 use Rattle.std.proofs.lemmas.Bool.Decides.{nat_tests}
 use Rattle.std.proofs.lemmas.List.{append-nil}
+use Rattle.support.specs.Options.{or_else}
 use Rattle.ll_tree.specs.Text.{Text}
 use Rattle.ll_print.specs.declared.numbers.Numbers.{Numbers}
 use Rattle.ll_print.specs.declared.places.Place.{Place}
 use Rattle.ll_print.specs.declared.places.Place.TheVariants as P
 use Rattle.ll_print.specs.Printing.{Unnamed, same_unnamed, if_unnamed}
-use Rattle.ll_print.specs.Numbering.{thing_of, same_place, noted_at, or_else, or_number, place_in, IsNumbering, Counts}
+use Rattle.ll_print.specs.Numbering.{thing_of, same_place, noted_at, or_number, place_in, IsNumbering, Counts}
 use Rattle.ll_print.proofs.PositionLaws.{position, position_le, position_front, position_behind, position_cons, position_here}
 
 -- ---- places

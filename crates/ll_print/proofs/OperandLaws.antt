@@ -2,12 +2,11 @@
 use Rattle.std.proofs.Common.{◌≡◌, ◌≢◌, ℕ, zero, suc, ◌+◌, ◌<◌, ◌≤◌, Bool, true, cond, nat_eq, List, [], ◌∷◌, ◌++◌, length, map, slice_get, get_or, Option, Some, None, refl, ap, sym, ◌∙◌, subst, eq-eqb, ne_eqb, arith}
 use Rattle.std.specs.List.{find, flat_map}
 use Rattle.std.specs.Option.{option_map, option_map_or}
-use Rattle.std.proofs.lemmas.Option.{slice_get-map, slice_get-get_or}
-use Rattle.llvm_core.specs.Interned.{IsDistinctList}
+use Rattle.std.proofs.lemmas.Option.{slice_get-map, slice_get-get_or, same_Some}
+use Rattle.support.specs.Interned.{IsDistinctList}
 use Rattle.llvm_core.specs.Names.{IsPlainOrNone}
 use Rattle.llvm_core.specs.Data.{TypeTree, VoidType, IntType, FunctionType, ConstTree, IntConst, PlaceholderConst, Operand, Constant, Parameter, Result, Instruction, Add, ICmp, Phi, Br, CondBr, Return, Unreachable, Placed, Block, Function, operand_type, placed_in, param_type, const_type}
 use Rattle.llvm_core.specs.Form.{IsFitting, IsOperandOf, IsOperand, HasNoResult, IsFormInstruction, IsFormBlock, IsFormFunction, local_names}
-use Rattle.llvm_core.proofs.ListLemmas.{some_same}
 use Rattle.llvm_core.proofs.DataLemmas.{within_at}
 use Rattle.ll_tree.specs.Text.{Text, is_bare, number_limit}
 use Rattle.ll_tree.specs.Tree.{is_local, is_operand}
@@ -115,7 +114,7 @@ names_results f h i b listed j p at void =
 -- the item of a number is the one that has it
 found : {X : Type 0} (number : X → ℕ) (xs : List X) → IsDistinctList (map number xs) → (i : ℕ) (x : X) → slice_get xs i ≡ Some x → find (λ y. nat_eq (number y) (number x)) xs ≡ Some x
 found number [] d i x at = absurd cc
-found number (y ∷ xs) d zero x at = let same : y ≡ x = some_same y x at in rw (eq-eqb (number y) (number x) (ap number same)) at
+found number (y ∷ xs) d zero x at = let same : y ≡ x = same_Some y x at in rw (eq-eqb (number y) (number x) (ap number same)) at
 found number (y ∷ xs) d (suc i) x at =
     let there : slice_get (map number xs) i ≡ Some (number x) = slice_get-map number xs i ∙ ap (option_map number) at in
     let others = λ (k j n : ℕ) (a : slice_get (map number xs) k ≡ Some n) (b : slice_get (map number xs) j ≡ Some n). let e : suc k ≡ suc j = d (suc k) (suc j) n a b in let g : k ≡ j = omega arith in g in

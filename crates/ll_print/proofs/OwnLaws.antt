@@ -3,7 +3,8 @@ use Rattle.std.proofs.Common.{◌≡◌, ◌≢◌, ℕ, zero, suc, ◌<◌, Boo
 use Rattle.std.specs.Prelude.{codes}
 use Rattle.std.specs.List.{flat_map}
 use Rattle.std.specs.Option.{option_map, option_map_or}
-use Rattle.std.proofs.lemmas.Option.{slice_get-get_or}
+use Rattle.std.proofs.lemmas.Option.{slice_get-get_or, same_Some}
+use Rattle.support.proofs.ListLaws.{appended_twice}
 use Rattle.llvm_core.specs.declared.numbers.LLVMType.{LLVMType}
 use Rattle.llvm_core.specs.declared.numbers.LLVMFunction.{LLVMFunction}
 use Rattle.llvm_core.specs.declared.numbers.LLVMBasicBlock.{LLVMBasicBlock}
@@ -22,7 +23,6 @@ use Rattle.llvm_core.specs.Parts.{value_type, kind_params}
 use Rattle.llvm_core.specs.Data.{TypeTree, VoidType, Parameter, Result, Placed, Block, Function, type_at, type_tree, trees_of, operand_of, operand_type, param_type, placed_in}
 use Rattle.llvm_core.specs.Form.{HasNumber}
 use Rattle.llvm_core.proofs.DataLemmas.{type_tree_of}
-use Rattle.llvm_core.proofs.ListLemmas.{some_same}
 use Rattle.ll_print.specs.declared.numbers.Numbers.{Numbers}
 use Rattle.ll_print.specs.declared.places.Place.{Place}
 use Rattle.ll_print.specs.declared.places.Place.TheVariants as P
@@ -33,7 +33,7 @@ use Rattle.ll_print.proofs.NumberLaws.{place_number}
 use Rattle.ll_print.proofs.PartLaws.{read_item, type_of_function, gives_of-inst, entry_head, lines_of-block, entry_lines_of-block}
 use Rattle.ll_print.proofs.CountLaws.{param_read}
 use Rattle.ll_print.proofs.KeptLaws.{inst_found, block_found}
-use Rattle.ll_print.proofs.TextLaws.{put_is, put_two, const_type-at}
+use Rattle.ll_print.proofs.TextLaws.{put_is, const_type-at}
 
 -- ---- names and numbers
 
@@ -43,7 +43,7 @@ named_is f (b ∷ bs) x k e = refl
 
 item_is : {X : Type 0} (xs : List X) (i : ℕ) (d x : X) → slice_get xs i ≡ Some x → get_or xs i d ≡ x
 item_is [] i d x at = absurd cc
-item_is (y ∷ xs) zero d x at = some_same y x at
+item_is (y ∷ xs) zero d x at = same_Some y x at
 item_is (y ∷ xs) (suc i) d x at = item_is xs i d x at
 
 -- what is printed of a thing of the function
@@ -95,7 +95,7 @@ pub block_put : (m : Module) (n : Numbers) (b : LLVMBasicBlock) (name : List ℕ
     → option_map (λ (x : BlockData). x.name) (slice_get m.blocks b.0) ≡ Some name → option_map (λ (x : BlockData). x.insts) (slice_get m.blocks b.0) ≡ Some insts → k ≡ or_number (noted_at n (P.Block b)) n.count
     → line ≡ old ++ 10 ∷ [] → head ≡ line ++ label_line name k → new ≡ head ++ flat_map (line_of m (function_in m n.function)) insts → new ≡ old ++ lines_of m (function_in m n.function) b
 block_put m n b name k insts old line head new h own named held is e1 e2 e3 =
-    put_is old new _ _ (put_two old head new ((10 ∷ []) ++ label_line name k) _ (put_two old line head (10 ∷ []) (label_line name k) e1 e2) e3)
+    put_is old new _ _ (appended_twice old head new ((10 ∷ []) ++ label_line name k) _ (appended_twice old line head (10 ∷ []) (label_line name k) e1 e2) e3)
     (lines_of-block m (function_in m n.function) b name insts named held ∙ ap (λ (t : List ℕ). ((10 ∷ []) ++ t) ++ flat_map (line_of m (function_in m n.function)) insts) (label_put m n b name k h own.1 named is))
 
 -- and those of the first
@@ -103,7 +103,7 @@ pub entry_block_put : (m : Module) (n : Numbers) (b : LLVMBasicBlock) (name : Li
     → option_map (λ (x : BlockData). x.name) (slice_get m.blocks b.0) ≡ Some name → option_map (λ (x : BlockData). x.insts) (slice_get m.blocks b.0) ≡ Some insts → k ≡ or_number (noted_at n (P.Block b)) n.count
     → head ≡ old ++ entry_label_line name k → new ≡ head ++ flat_map (line_of m (function_in m n.function)) insts → new ≡ old ++ entry_lines_of m (function_in m n.function) b
 entry_block_put m n b name k insts old head new h own named held is e1 e2 =
-    put_is old new _ _ (put_two old head new (entry_label_line name k) _ e1 e2)
+    put_is old new _ _ (appended_twice old head new (entry_label_line name k) _ e1 e2)
     (entry_lines_of-block m (function_in m n.function) b name insts named held ∙ ap (λ (t : List ℕ). t ++ flat_map (line_of m (function_in m n.function)) insts) (entry_put m n b name k h own.1 named is))
 
 -- ---- types

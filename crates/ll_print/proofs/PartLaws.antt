@@ -1,11 +1,11 @@
 -- From what readers of a module answer to its data.
-use Rattle.std.proofs.Common.{◌≡◌, ℕ, zero, suc, ◌+◌, ◌<◌, Bool, codes, List, [], ◌∷◌, ◌++◌, length, take, drop, get_or, slice_get, Option, Some, None, All, refl, ap, sym, ◌∙◌, arith}
+use Rattle.std.proofs.Common.{◌≡◌, ℕ, zero, suc, ◌+◌, ◌<◌, Bool, codes, List, [], ◌∷◌, ◌++◌, length, drop, get_or, slice_get, Option, Some, None, All, refl, ap, sym, ◌∙◌, arith}
 use Rattle.std.specs.List.{flat_map, filter_map, cons_option}
 use Rattle.std.specs.Option.{option_map, option_map_or}
-use Rattle.std.proofs.lemmas.List.{append-nil, take_more}
-use Rattle.std.proofs.lemmas.Option.{slice_get-get_or, slice_get_within}
+use Rattle.std.proofs.lemmas.Option.{slice_get-get_or, slice_get_within, same_Some}
 use Rattle.std.proofs.lemmas.List.Elements.{All-head}
-use Rattle.std.proofs.lemmas.Grind.{flat_map-append}
+use Rattle.llvm_core.proofs.FormTypes.{nth_is}
+use Rattle.support.proofs.ListLaws.{item_there}
 use Rattle.llvm_core.specs.declared.numbers.LLVMType.{LLVMType}
 use Rattle.llvm_core.specs.declared.numbers.LLVMFunction.{LLVMFunction}
 use Rattle.llvm_core.specs.declared.numbers.LLVMBasicBlock.{LLVMBasicBlock}
@@ -19,10 +19,9 @@ use Rattle.llvm_core.specs.Module.{Module}
 use Rattle.llvm_core.specs.Code.{param_names}
 use Rattle.llvm_core.specs.Sound.{IsModule}
 use Rattle.llvm_core.specs.Parts.{IsTypeOver, type_params}
-use Rattle.llvm_core.specs.Data.{TypeTree, FunctionType, Placed, Block, Function, type_at, types_at, trees_of, placed_of, placed_at, block_of, block_at, data_of, nth_type, param_type}
+use Rattle.llvm_core.specs.Data.{TypeTree, FunctionType, Placed, Block, Function, type_at, types_at, trees_of, placed_of, placed_at, block_of, block_at, data_of, param_type}
 use Rattle.llvm_core.specs.Form.{result_of}
-use Rattle.llvm_core.proofs.DataLemmas.{function_tree_of, function_at, there}
-use Rattle.llvm_core.proofs.ListLemmas.{some_same}
+use Rattle.llvm_core.proofs.DataLemmas.{function_tree_of, function_at}
 use Rattle.ll_print.specs.Printing.{Unnamed, BlockOf, if_unnamed, unnamed_result, unnamed_block, block_ref, entry_label_text, placed_text, block_text, blocks_text, gives_text}
 use Rattle.ll_print.specs.Parts.{no_function, function_in, gives_of, line_of, entry_lines, entry_lines_of, lines_of, all_lines_of, unnamed_at, unnamed_of}
 
@@ -31,19 +30,14 @@ use Rattle.ll_print.specs.Parts.{no_function, function_in, gives_of, line_of, en
 -- the item that is read at a place
 pub read : {X Y : Type 0} (g : X → Y) (xs : List X) (i : ℕ) (d : X) (r : Y) → option_map g (slice_get xs i) ≡ Some r → g (get_or xs i d) ≡ r
 read g [] i d r h = absurd cc
-read g (x ∷ xs) zero d r h = some_same (g x) r h
+read g (x ∷ xs) zero d r h = same_Some (g x) r h
 read g (x ∷ xs) (suc i) d r h = read g xs i d r h
 
 -- the item is there, and is what is read of it
 pub read_item : {X Y : Type 0} (g : X → Y) (xs : List X) (i : ℕ) (r : Y) → option_map g (slice_get xs i) ≡ Some r → (x : X) × (slice_get xs i ≡ Some x) × (g x ≡ r)
 read_item g [] i r h = absurd cc
-read_item g (x ∷ xs) zero r h = (x, refl, some_same (g x) r h)
+read_item g (x ∷ xs) zero r h = (x, refl, same_Some (g x) r h)
 read_item g (x ∷ xs) (suc i) r h = read_item g xs i r h
-
--- one more item of a list
-pub flat_map_more : {X Y : Type 0} (g : X → List Y) (xs : List X) (i : ℕ) (d : X) → i < length xs → flat_map g (take (i + 1) xs) ≡ flat_map g (take i xs) ++ g (get_or xs i d)
-flat_map_more g xs i d h =
-    ap (flat_map g) (take_more xs i d h) ∙ flat_map-append g (take i xs) (get_or xs i d ∷ []) ∙ ap (λ ys. flat_map g (take i xs) ++ ys) (append-nil (g (get_or xs i d)))
 
 -- what g makes of those of a list that are there
 pub flat_map-filter_map : {X Y Z : Type 0} (h : X → Option Y) (g : Y → List Z) (xs : List X) → flat_map g (filter_map h xs) ≡ flat_map (λ x. option_map_or g (h x) []) xs
@@ -68,11 +62,6 @@ params_of m f = by m.functions f.0
     by (x ∷ fs) zero = refl
     by (x ∷ fs) (suc i) = by fs i
 
-nth_at : (ts : List TypeTree) (params : List LLVMType) (i : ℕ) (t : LLVMType) → slice_get params i ≡ Some t → nth_type (types_at ts params) i ≡ type_at ts t
-nth_at ts [] i t at = absurd cc
-nth_at ts (u ∷ params) zero t at = ap (type_at ts) (some_same u t at)
-nth_at ts (u ∷ params) (suc i) t at = nth_at ts params i t at
-
 -- its type, by the kind that is kept of it
 pub record HasType (m : Module) (f : LLVMFunction) (result : LLVMType) (params : List LLVMType) : Type 0 where
   pub returned : result_of (function_in m f).type ≡ type_at (trees_of m).types result
@@ -85,7 +74,7 @@ type_of_function m f ty returned params variadic s typed at =
     ap (type_at (trees_of m).types) (read (λ (x : FunctionData). x.ty) m.functions f.0 no_function ty typed) ∙ function_tree_of m ty returned params variadic s at in
     record {
       returned = ap result_of same;
-      typed = λ i t here. ap (λ (u : TypeTree). param_type u i) same ∙ nth_at (trees_of m).types params i t here;
+      typed = λ i t here. ap (λ (u : TypeTree). param_type u i) same ∙ nth_is (trees_of m).types params i t here;
     }
 
 pub params_of_type : (m : Module) (ty returned : LLVMType) (params : List LLVMType) (variadic : Bool) → slice_get m.types ty.0 ≡ Some (T.Function returned params variadic) → type_params m.types ty ≡ params
@@ -105,7 +94,7 @@ pub lines_of-block : (m : Module) (f : Function) (b : LLVMBasicBlock) (name : Li
     → lines_of m f b ≡ codes "\n" ++ (drop 1 (block_ref f b.0) ++ codes ":\n") ++ flat_map (line_of m f) insts
 lines_of-block m f b name insts named held =
     let x = read_item (λ (x : BlockData). x.name) m.blocks b.0 name named in
-    let same : x.0.insts ≡ insts = some_same x.0.insts insts (ap (option_map (λ (x : BlockData). x.insts)) (sym x.1) ∙ held) in
+    let same : x.0.insts ≡ insts = same_Some x.0.insts insts (ap (option_map (λ (x : BlockData). x.insts)) (sym x.1) ∙ held) in
     ap (λ (o : Option Block). option_map_or (block_text f) o []) (block_there m b x.0 x.1)
     ∙ ap (λ (t : List ℕ). codes "\n" ++ (drop 1 (block_ref f b.0) ++ codes ":\n") ++ t) (flat_map-filter_map (placed_at (trees_of m) m.insts) (placed_text f) x.0.insts)
     ∙ rw same refl
@@ -125,7 +114,7 @@ pub entry_lines_of-block : (m : Module) (f : Function) (b : LLVMBasicBlock) (nam
     → entry_lines_of m f b ≡ entry_head f b.0 name ++ flat_map (line_of m f) insts
 entry_lines_of-block m f b name insts named held =
     let x = read_item (λ (x : BlockData). x.name) m.blocks b.0 name named in
-    let same : x.0.insts ≡ insts = some_same x.0.insts insts (ap (option_map (λ (x : BlockData). x.insts)) (sym x.1) ∙ held) in
+    let same : x.0.insts ≡ insts = same_Some x.0.insts insts (ap (option_map (λ (x : BlockData). x.insts)) (sym x.1) ∙ held) in
     let block = block_of (trees_of m) m.insts b x.0 in
     ap (λ (o : Option Block). option_map_or (entry_lines f) o []) (block_there m b x.0 x.1)
     ∙ ap (λ (t : List ℕ). t ++ flat_map (placed_text f) block.instructions) (entry_head_is f block x.0.name)
@@ -135,7 +124,7 @@ entry_lines_of-block m f b name insts named held =
 -- the lines of blocks that are there
 pub all_lines : (m : Module) (f : Function) (bs : List LLVMBasicBlock) → All (λ (b : LLVMBasicBlock). b.0 < length m.blocks) bs → all_lines_of m f bs ≡ blocks_text f (filter_map (block_at (trees_of m) m.blocks m.insts) bs)
 all_lines m f [] within = refl
-all_lines m f (b ∷ bs) within = by (slice_get m.blocks b.0) refl (there m.blocks b.0 (All-head (λ (b : LLVMBasicBlock). b.0 < length m.blocks) b bs within))
+all_lines m f (b ∷ bs) within = by (slice_get m.blocks b.0) refl (item_there m.blocks b.0 (All-head (λ (b : LLVMBasicBlock). b.0 < length m.blocks) b bs within))
   where
     rest : List Block
     rest = filter_map (block_at (trees_of m) m.blocks m.insts) bs
@@ -154,7 +143,7 @@ pub unnamed_of-block : (m : Module) (b : LLVMBasicBlock) (name : List ℕ) (inst
     → unnamed_of m b ≡ if_unnamed name (BlockOf b.0) ++ flat_map (unnamed_at m) insts
 unnamed_of-block m b name insts named held =
     let x = read_item (λ (x : BlockData). x.name) m.blocks b.0 name named in
-    let same : x.0.insts ≡ insts = some_same x.0.insts insts (ap (option_map (λ (x : BlockData). x.insts)) (sym x.1) ∙ held) in
+    let same : x.0.insts ≡ insts = same_Some x.0.insts insts (ap (option_map (λ (x : BlockData). x.insts)) (sym x.1) ∙ held) in
     ap (λ (o : Option Block). option_map_or unnamed_block o []) (block_there m b x.0 x.1)
     ∙ ap (λ (t : List Unnamed). if_unnamed x.0.name (BlockOf b.0) ++ t) (flat_map-filter_map (placed_at (trees_of m) m.insts) (λ (p : Placed). unnamed_result p.type p) x.0.insts)
     ∙ rw (x.2, same) refl
@@ -166,7 +155,7 @@ pub gives_of-inst : (m : Module) (f : Function) (i : LLVMInstRef) (ty : LLVMType
 gives_of-inst m f i ty name typed named =
     let x = read_item (λ (x : InstData). x.ty) m.insts i.0 ty typed in
     let p = placed_of (trees_of m) i x.0 in
-    let same : x.0.name ≡ name = some_same x.0.name name (ap (option_map (λ (x : InstData). x.name)) (sym x.1) ∙ named) in
+    let same : x.0.name ≡ name = same_Some x.0.name name (ap (option_map (λ (x : InstData). x.name)) (sym x.1) ∙ named) in
     let type : p.type ≡ type_at (trees_of m).types ty = ap (type_at (trees_of m).types) x.2 in (
       p,
       refl,

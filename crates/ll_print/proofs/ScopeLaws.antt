@@ -4,7 +4,8 @@ use Rattle.std.specs.List.{flat_map}
 use Rattle.std.specs.Str.{bytes_eq}
 use Rattle.std.proofs.lemmas.Grind.{flat_map-append}
 use Rattle.std.proofs.lemmas.Slice.Eq.{bytes_eq-Decides}
-use Rattle.llvm_core.specs.Interned.{IsDistinctList}
+use Rattle.support.proofs.ListLaws.{distinct_rest}
+use Rattle.support.specs.Interned.{IsDistinctList}
 use Rattle.llvm_core.specs.Checked.{named}
 use Rattle.ll_tree.specs.Text.{Text, number_limit}
 use Rattle.ll_text.specs.Meaning.{Key, Named, Numbered, Local, Scope, empty_scope, with_key, define}
@@ -59,9 +60,6 @@ position_of t (u ∷ ts) h e = first (λ other. position_of t ts other e) u.name
 -- no item is the name
 abbrev pub Misses : Text → List Text → Type 0
 Misses n ns = (i : ℕ) → slice_get ns i ≢ Some n
-
-distinct_rest : {X : Type 0} (y : X) (xs : List X) → IsDistinctList (y ∷ xs) → IsDistinctList xs
-distinct_rest y xs h i j x a b = let e : suc i ≡ suc j = h (suc i) (suc j) x a b in omega arith
 
 distinct_first : (n : Text) (ns : List Text) → IsDistinctList (n ∷ ns) → Misses n ns
 distinct_first n ns h i at = let e : suc i ≡ 0 = h (suc i) 0 n at refl in absurd (omega arith)

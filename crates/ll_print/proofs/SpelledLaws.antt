@@ -3,7 +3,7 @@ use Rattle.std.proofs.Common.{◌≡◌, ◌≢◌, ℕ, suc, codes, List, [], �
 use Rattle.std.specs.List.{flat_map, AllByRecursion}
 use Rattle.std.proofs.lemmas.List.{append-nil}
 use Rattle.std.proofs.lemmas.List.Elements.{All-tail}
-use Rattle.llvm_core.specs.Interned.{IsDistinctList}
+use Rattle.support.specs.Interned.{IsDistinctList}
 use Rattle.llvm_core.specs.Data.{Block, Function, ModuleData}
 use Rattle.llvm_core.specs.Form.{IsFormFunction, IsForm, HasDistinctNames, IsShortResult, result_of, local_names}
 use Rattle.ll_tree.specs.Text.{Text, is_bare, global, quoted}

@@ -7,6 +7,7 @@ use Rattle.std.specs.List.{flat_map}
 use Rattle.std.specs.Option.{option_map}
 use Rattle.std.proofs.lemmas.List.{take_all}
 use Rattle.std.proofs.lemmas.Result.{on_ok_weaker}
+use Rattle.support.proofs.ListLaws.{flat_map-take_more, appended_twice}
 use Rattle.llvm_core.specs.declared.numbers.LLVMType.{LLVMType}
 use Rattle.llvm_core.specs.declared.numbers.LLVMConst.{LLVMConst}
 use Rattle.llvm_core.specs.declared.types.LLVMTypeKind.{LLVMTypeKind}
@@ -20,15 +21,11 @@ use Rattle.llvm_core.specs.Data.{TypeTree, type_at, type_tree, const_at, trees_o
 use Rattle.llvm_core.proofs.DataLemmas.{type_tree_of, int_tree_of, int_const_of, placeholder_const_of}
 use Rattle.ll_print.specs.Printing.{type_text, int_text, int_of_type, const_text}
 use Rattle.ll_print.specs.Parts.{named_text}
-use Rattle.ll_print.proofs.PartLaws.{read_item, flat_map_more}
+use Rattle.ll_print.proofs.PartLaws.{read_item}
 
 -- the same text under another name
 pub put_is : (old new text same : List ℕ) → new ≡ old ++ text → same ≡ text → new ≡ old ++ same
 put_is old new text same e f = rw f e
-
--- two pieces one after the other
-pub put_two : (old mid new a b : List ℕ) → mid ≡ old ++ a → new ≡ mid ++ b → new ≡ old ++ (a ++ b)
-put_two old mid new a b e f = rw (f, e) (append_assoc old a b)
 
 -- the same text under another name, where the call was Ok
 pub ok_is : (r : Result (Unit {0}) AllocError) (old new text same : List ℕ) → OnOk r (new ≡ old ++ text) → same ≡ text → OnOk r (new ≡ old ++ same)
@@ -41,7 +38,7 @@ ok_extended (Err x) old new more e = tt
 
 -- two pieces, where the call that puts the second was Ok
 pub ok_two : (r : Result (Unit {0}) AllocError) (old mid new a b : List ℕ) → mid ≡ old ++ a → OnOk r (new ≡ mid ++ b) → OnOk r (new ≡ old ++ (a ++ b))
-ok_two r old mid new a b e h = on_ok_weaker r (put_two old mid new a b e) h
+ok_two r old mid new a b e h = on_ok_weaker r (appended_twice old mid new a b e) h
 
 -- three pieces behind one, where the call that puts them was Ok
 pub ok_four : (r : Result (Unit {0}) AllocError) (old mid new a b c d : List ℕ) → mid ≡ old ++ a → OnOk r (new ≡ mid ++ (b ++ c ++ d)) → OnOk r (new ≡ old ++ (a ++ b ++ c ++ d))
@@ -53,7 +50,7 @@ local_put r old new text name k j h same is = ok_is r old new (named_text name k
 
 -- one item of a list further
 pub items_put : {X : Type 0} (g : X → List ℕ) (xs : List X) (i : ℕ) (d : X) (old now new : List ℕ) → i < length xs → now ≡ old ++ flat_map g (take i xs) → new ≡ now ++ g (get_or xs i d) → new ≡ old ++ flat_map g (take (i + 1) xs)
-items_put g xs i d old now new within e f = put_is old new _ _ (put_two old now new (flat_map g (take i xs)) (g (get_or xs i d)) e f) (flat_map_more g xs i d within)
+items_put g xs i d old now new within e f = put_is old new _ _ (appended_twice old now new (flat_map g (take i xs)) (g (get_or xs i d)) e f) (flat_map-take_more g xs i d within)
 
 -- all of them
 pub items_all : {X : Type 0} (g : X → List ℕ) (xs : List X) (i : ℕ) (old new : List ℕ) → length xs ≤ i → new ≡ old ++ flat_map g (take i xs) → new ≡ old ++ flat_map g xs

@@ -21,11 +21,6 @@ same_place p q = keys.eq-value.it p q
 abbrev pub noted_at : Numbers → Place → Option ℕ
 noted_at n p = get keys.eq-value.it n.places p
 
--- the first, where there is one, else the other
-abbrev pub or_else : Option ℕ → Option ℕ → Option ℕ
-or_else None b = b
-or_else (Some x) b = Some x
-
 -- a number, where there is one, else the other
 abbrev pub or_number : Option ℕ → ℕ → ℕ
 or_number None n = n

@@ -1,16 +1,16 @@
 //! The numbers of what has no name in a function.
 
 ghost use Rattle.std.specs.Prelude.{◌≡◌, ◌≤◌, ◌+◌, [], OnOk, Some, None, if◌then◌else◌};
-ghost use Rattle.std.specs.HashMap.{get};
+ghost use Rattle.support.specs.Options.{or_else};
 ghost use Rattle.ll_tree.specs.Text.{number_limit};
 ghost use Rattle.ll_print.specs.Printing.{if_unnamed};
-ghost use Rattle.ll_print.specs.Numbering.{thing_of, same_place, noted_at, or_else, or_number, IsNumbering, Counts};
+ghost use Rattle.ll_print.specs.Numbering.{thing_of, same_place, noted_at, or_number, IsNumbering, Counts};
 
 use crate::places::Place;
 use llvm_core::numbers::LLVMFunction;
 use std::alloc::{AllocError, Global};
 use std::collections::HashMap;
-use std::hash::Hash;
+use support::noting::note;
 
 /// The unnamed parameters, blocks and results of a function that were counted, from 0.
 #[derive(Drop)]
@@ -74,16 +74,4 @@ impl Numbers {
         self.count = next;
         Ok(())
     }
-}
-
-/// Notes the number of a key that has none.
-fn note<K: Eq + Hash + Drop>(
-    map: &mut HashMap<K, u32>,
-    key: K,
-    number: u32,
-) -> Result<(), AllocError>
-    ensures { OnOk result ((q : K) → get K.eq map.new q ≡ or_else (get K.eq map.old q) (if K.eq key q then Some number else None)) }
-{
-    map.entry(key)?.or_insert(number);
-    Ok(())
 }

@@ -7,7 +7,7 @@ use Rattle.std.proofs.lemmas.Bool.Decides.{eqb_tells}
 use Rattle.llvm_core.specs.Data as L
 use Rattle.llvm_core.specs.Data.{Operand, Constant, Parameter, Result, Instruction, Add, ICmp, Phi, Br, CondBr, Return, Unreachable, Placed, Block, targets, placed_in}
 use Rattle.llvm_core.specs.Edges.{count_of}
-use Rattle.llvm_core.specs.Interned.{IsDistinctList}
+use Rattle.support.specs.Interned.{IsDistinctList}
 use Rattle.llvm_core.specs.Form.{targets_of, edges_between, IsTarget, FitsEdges}
 use Rattle.ll_text.proofs.NumberLaws.{block_numbers, result_numbers}
 use Rattle.ll_text.proofs.PairLaws.{SameBlock, OperandsAlike, EntriesAlike, CodeAlike, PlacedAlike, BlocksAlike, FunctionsAlike}

@@ -7,7 +7,7 @@ use Rattle.llvm_core.specs.Names.{is_plain, IsPlainOrNone}
 use Rattle.llvm_core.specs.Data as L
 use Rattle.llvm_core.specs.Data.{TypeTree, VoidType, IntType, Operand, Constant, Parameter, Result, Instruction, Add, ICmp, Phi, Br, CondBr, Return, Unreachable, Placed, Block, operand_type, param_type, placed_in}
 use Rattle.llvm_core.specs.Checked.{ends_in_only}
-use Rattle.llvm_core.specs.Interned.{IsDistinctList}
+use Rattle.support.specs.Interned.{IsDistinctList}
 use Rattle.llvm_core.specs.Form.{IsOperandOf, IsOperand, IsShortInt, result_of, HasNoResult, IsFormInstruction, is_last, is_terminator, HasPhisFirst, IsFormBlock, IsFormFunction}
 use Rattle.ll_text.proofs.ListLaws.{found}
 use Rattle.ll_text.proofs.NumberLaws.{block_numbers, result_numbers}

@@ -2,19 +2,21 @@
 use Rattle.std.proofs.Common.{◌≡◌, ◌<◌, ◌+◌, ℕ, suc, false, List, [], ◌∷◌, ◌++◌, Option, Some, length, slice_get, slice_set, get_or, take, map, refl, ap, sym, ◌∙◌, subst, arith}
 use Rattle.std.specs.Option.{option_map}
 use Rattle.std.proofs.lemmas.List.{length-map, length-take-le, map_more}
+use Rattle.ll_tree.proofs.Steps.{bind_some}
+use Rattle.support.specs.Changes.{with_change}
 use Rattle.llvm_core.specs.declared.numbers.LLVMType.{LLVMType}
 use Rattle.llvm_core.specs.declared.numbers.LLVMFunction.{LLVMFunction}
 use Rattle.llvm_core.specs.declared.numbers.LLVMBasicBlock.{LLVMBasicBlock}
 use Rattle.llvm_core.specs.declared.types.LLVMTypeKind.{LLVMTypeKind}
 use Rattle.llvm_core.specs.declared.code.FunctionData.{FunctionData}
 use Rattle.llvm_core.specs.Module.{Module}
-use Rattle.llvm_core.specs.Code.{code_of, with_code, with_change}
+use Rattle.llvm_core.specs.Code.{code_of, with_code}
 use Rattle.llvm_core.specs.Code as C
 use Rattle.llvm_core.specs.Names.{is_plain}
 use Rattle.llvm_core.specs.Parts.{type_params}
 use Rattle.llvm_core.specs.Data as L
 use Rattle.llvm_core.specs.Data.{TypeTree, IntType, FunctionType, TypeTrees, NoTypes, ThenType, ModuleData, type_at, trees_of, data_of, with_function, with_param}
-use Rattle.llvm_core.proofs.ListLemmas.{slice_get-push, length-slice_set}
+use Rattle.support.proofs.ListLaws.{slice_get-push, length-slice_set}
 use Rattle.llvm_core.proofs.ChangeLemmas.{slice_get-changed}
 use Rattle.ll_tree.specs.Text.{Text}
 use Rattle.ll_tree.specs.Tree.{Param, Function}
@@ -28,7 +30,7 @@ use Rattle.ll_text.specs.Building.{OnlyInterns}
 use Rattle.ll_text.specs.Bodies.{Declares, with_params, KeepsBodies, NamesParam, NamesParams}
 use Rattle.ll_text.proofs.ModuleLaws.{is_longer}
 use Rattle.ll_text.proofs.OptionLaws.{some_bound}
-use Rattle.ll_text.proofs.KnownLaws.{bound, same_triple}
+use Rattle.ll_text.proofs.KnownLaws.{same_triple}
 
 -- ---- declarations
 
@@ -107,8 +109,8 @@ block_keeps f old new b name widths is d =
 pub param_typed : (f i : ℕ) (s : Scope) (p : Param) (w : ℕ) (n : Text) (t : Scope) → param_data is_plain 64 s f i p ≡ Some (w, n, t) → int_width is_plain 64 p.type ≡ Some w
 unfolding param_data
 param_typed f i s p w n t h =
-    let v = bound (int_width is_plain 64 p.type) _ (w, n, t) h in
-    let d = bound (define_written is_plain 64 s (ValueLocal (L.Parameter f i) v.0) (local_key is_plain 64) p.name) _ (w, n, t) v.2 in
+    let v = bind_some (int_width is_plain 64 p.type) _ (w, n, t) h in
+    let d = bind_some (define_written is_plain 64 s (ValueLocal (L.Parameter f i) v.0) (local_key is_plain 64) p.name) _ (w, n, t) v.2 in
     let same : v.0 ≡ w = (same_triple v.0 w d.0.0 n d.0.1 t d.2).0 in
     v.1 ∙ ap Some same
 
@@ -116,8 +118,8 @@ param_typed f i s p w n t h =
 pub param_defined : (f i : ℕ) (s : Scope) (p : Param) (w : ℕ) (n : Text) (t : Scope) → param_data is_plain 64 s f i p ≡ Some (w, n, t) → define_written is_plain 64 s (ValueLocal (L.Parameter f i) w) (local_key is_plain 64) p.name ≡ Some (n, t)
 unfolding param_data
 param_defined f i s p w n t h =
-    let v = bound (int_width is_plain 64 p.type) _ (w, n, t) h in
-    let d = bound (define_written is_plain 64 s (ValueLocal (L.Parameter f i) v.0) (local_key is_plain 64) p.name) _ (w, n, t) v.2 in
+    let v = bind_some (int_width is_plain 64 p.type) _ (w, n, t) h in
+    let d = bind_some (define_written is_plain 64 s (ValueLocal (L.Parameter f i) v.0) (local_key is_plain 64) p.name) _ (w, n, t) v.2 in
     let same = same_triple v.0 w d.0.0 n d.0.1 t d.2 in
     ap (λ (u : ℕ). define_written is_plain 64 s (ValueLocal (L.Parameter f i) u) (local_key is_plain 64) p.name) (sym same.0) ∙ d.1 ∙ ap Some same.1
 

@@ -1,7 +1,7 @@
 -- An instruction is built: what stood in the module stands, and its result does.
 use Rattle.std.proofs.Common.{◌≡◌, ℕ, ◌+◌, List, [], ◌∷◌, ◌++◌, Option, Some, None, length, length-append, slice_get, IsTrue, refl, ap, sym, ◌∙◌, subst, eq-eqb, arith}
 use Rattle.std.specs.Option.{option_map, option_map_or}
-use Rattle.std.proofs.lemmas.List.{append-nil}
+use Rattle.llvm_core.proofs.GrowLemmas.{types_more}
 use Rattle.llvm_core.specs.declared.numbers.LLVMType.{LLVMType}
 use Rattle.llvm_core.specs.declared.numbers.LLVMBasicBlock.{LLVMBasicBlock}
 use Rattle.llvm_core.specs.declared.numbers.LLVMInstRef.{LLVMInstRef}
@@ -21,14 +21,14 @@ use Rattle.llvm_core.specs.Code.{code_of, with_code, with_inst}
 use Rattle.llvm_core.specs.Sound.{IsModule}
 use Rattle.llvm_core.specs.Parts.{IsValue, IsResultType, both_type, is_phi, value_type, result_type}
 use Rattle.llvm_core.specs.Data.{TypeTree, IntType, VoidType, Placed, ModuleData, tree_of_result, trees_of, instruction_of, result_tree, data_of, with_instruction}
-use Rattle.llvm_core.proofs.ListLemmas.{slice_get-kept, slice_get-push, length-with_change}
+use Rattle.support.proofs.ListLaws.{slice_get-kept, slice_get-push, length-with_change}
 use Rattle.llvm_core.proofs.DataLemmas.{int_tree_of}
 use Rattle.ll_tree.specs.Text.{Text}
 use Rattle.ll_tree.specs.Tree.{Inst, Terminator}
 use Rattle.ll_text.specs.Meaning.{Scope}
 use Rattle.ll_text.specs.Numbered.{result_name}
 use Rattle.ll_text.specs.Building.{IsValueOf, OnlyInterns, HasOperand, HasSlot, HasEndSlots, IsPhiAt, IsBuilt, Keeps, IsResultOf, Gives, IsMade, SaysInst, IsMadeEnd, SaysEnd, AddsInst, AddsEnd}
-use Rattle.ll_text.proofs.ModuleLaws.{grown, mapped_kept, param_kept, slots_map, end_slots_map}
+use Rattle.ll_text.proofs.ModuleLaws.{mapped_kept, param_kept, slots_map, end_slots_map}
 
 -- ---- a module that goes on
 
@@ -67,11 +67,6 @@ pub record Builds (old new : Module) (block : LLVMBasicBlock) (i : LLVMInstRef) 
   pub result : IsResultType (result_type old inst) old.types new.types ty
   pub is : new ≡ with_code (record old { types = new.types }) (with_inst (code_of old) block i name ty inst)
   pub sound : IsModule new
-
-types_more : (r : Option ResultType) (old new : List LLVMTypeKind) (ty : LLVMType) → IsResultType r old new ty → (more : List LLVMTypeKind) × (new ≡ old ++ more)
-types_more None old new ty h = grown old new T.Void ty.0 h
-types_more (Some (R.There t)) old new ty h = ([], h.1 ∙ sym (append-nil old))
-types_more (Some R.Bit) old new ty h = grown old new (T.Int 1) ty.0 h
 
 built_on : (old new : Module) (block : LLVMBasicBlock) (i : LLVMInstRef) (name : Text) (inst : LLVMInst) → Builds old new block i name inst → GoesOn old new
 built_on old new block i name inst h =

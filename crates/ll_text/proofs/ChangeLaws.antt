@@ -2,7 +2,8 @@
 use Rattle.std.proofs.Common.{◌≡◌, ◌≢◌, ℕ, zero, suc, Bool, true, false, nat_eq, if◌then◌else◌, IsTrue, List, [], ◌∷◌, Option, Some, None, length, slice_get, map, refl, ap, sym, ◌∙◌, subst, eqb-true, eq-eqb, arith}
 use Rattle.std.specs.Option.{option_map}
 use Rattle.std.proofs.lemmas.List.{map-append}
-use Rattle.std.proofs.lemmas.Option.{slice_get-map}
+use Rattle.std.proofs.lemmas.Option.{slice_get-map, same_Some}
+use Rattle.support.specs.Changes.{with_change}
 use Rattle.llvm_core.specs.declared.numbers.LLVMType.{LLVMType}
 use Rattle.llvm_core.specs.declared.numbers.LLVMInstRef.{LLVMInstRef}
 use Rattle.llvm_core.specs.declared.code.LLVMValue.{LLVMValue}
@@ -12,10 +13,10 @@ use Rattle.llvm_core.specs.declared.code.LLVMInst.{LLVMInst}
 use Rattle.llvm_core.specs.declared.code.LLVMInst.TheVariants as I
 use Rattle.llvm_core.specs.declared.code.InstData.{InstData}
 use Rattle.llvm_core.specs.Module.{Module}
-use Rattle.llvm_core.specs.Code.{code_of, with_code, with_change, with_operand, with_entry, with_changed_inst}
+use Rattle.llvm_core.specs.Code.{code_of, with_code, with_operand, with_entry, with_changed_inst}
 use Rattle.llvm_core.specs.Parts.{IsValue, TakesOperand, operands, is_phi, value_type}
 use Rattle.llvm_core.specs.Sound.{IsModule}
-use Rattle.llvm_core.proofs.ListLemmas.{some_same, slice_get-kept, length-with_change}
+use Rattle.support.proofs.ListLaws.{slice_get-kept, length-with_change}
 use Rattle.llvm_core.proofs.ChangeLemmas.{slice_get-changed, slice_get-unchanged}
 use Rattle.ll_text.specs.Building.{IsValueOf, HasSlot, IsPhiAt, Keeps}
 
@@ -206,7 +207,7 @@ pub operand_keeps : (old new : Module) (i : LLVMInstRef) (q : ℕ) (v : LLVMValu
 operand_keeps old new i q v is sound takes there =
     changed_keeps old new i (λ inst. with_operand inst q v) is sound
     (λ x p w u at operand stands.
-    let same : takes.0 ≡ x = some_same takes.0 x (sym takes.2 ∙ at) in
+    let same : takes.0 ≡ x = same_Some takes.0 x (sym takes.2 ∙ at) in
     let slot : slice_get (operands x.inst) q ≡ Some takes.1 = subst (λ (y : InstData). slice_get (operands y.inst) q ≡ Some takes.1) same takes.3 in
     by x p w u operand stands slot (nat_eq p q) refl)
     (λ inst. phi_put inst q v)
@@ -215,7 +216,7 @@ operand_keeps old new i q v is sound takes there =
         → (z : LLVMValue) × (slice_get (operands (with_operand x.inst q v)) p ≡ Some z) × IsValueOf old z w
     by x p w u operand stands slot true e =
         let here : p ≡ q = eqb-true p q e in
-        let one : takes.1 ≡ u = some_same takes.1 u (sym slot ∙ ap (slice_get (operands x.inst)) (sym here) ∙ operand) in
+        let one : takes.1 ≡ u = same_Some takes.1 u (sym slot ∙ ap (slice_get (operands x.inst)) (sym here) ∙ operand) in
         (v, ap (slice_get (operands (with_operand x.inst q v))) here ∙ put_same x.inst q v takes.1 slot, as_wide old u v w (ap (value_type old) (sym one) ∙ takes.4) there stands)
     by x p w u operand stands slot false e =
         let other : p ≢ q = λ here. absurd (let y = eq-eqb p q here in cc) in

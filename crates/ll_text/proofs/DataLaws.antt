@@ -2,6 +2,8 @@
 use Rattle.std.proofs.Common.{◌≡◌, ◌≢◌, ◌<◌, ◌+◌, inl, ℕ, suc, nat_eq, List, [], ◌∷◌, ◌++◌, length, map, slice_set, refl, ap, sym, ◌∙◌, subst, if◌then◌else◌, append_assoc, eq-eqb, ne_eqb, arith}
 use Rattle.std.specs.List.{AllByRecursion, flat_map}
 use Rattle.std.proofs.lemmas.List.{append-nil}
+use Rattle.std.proofs.lemmas.Grind.{flat_map-append}
+use Rattle.ll_text.proofs.ListLaws.{all_weaker}
 use Rattle.llvm_core.specs.Data.{TypeTree, Instruction, Placed, Block, Function, ModuleData, with_function, with_param, with_block, with_instruction, with_instruction_in}
 use Rattle.ll_tree.specs.Text.{Text}
 use Rattle.ll_text.specs.Spelling.{counting, blocks_in, placed_in, IsNumbered}
@@ -34,10 +36,6 @@ counting_append number n (x ∷ xs) ys h k =
 
 abbrev pub BlocksBelow : ℕ → Function → Type 0
 BlocksBelow n f = AllByRecursion (λ (b : Block). b.number < n) f.blocks
-
-all_weaker : {X : Type 0} (P Q : X → Type 0) (xs : List X) → ((x : X) → P x → Q x) → AllByRecursion P xs → AllByRecursion Q xs
-all_weaker P Q [] f h = tt
-all_weaker P Q (x ∷ xs) f h = (f x h.0, all_weaker P Q xs f h.1)
 
 counted_below : {X : Type 0} (number : X → ℕ) (n : ℕ) (xs : List X) → map number xs ≡ counting n xs → AllByRecursion (λ (x : X). number x < n + length xs) xs
 counted_below number n [] h = tt
@@ -257,18 +255,14 @@ function_last d0 d1 d2 d3 d4 d5 number name type blanks names k n m bs pss g num
 
 -- ---- numbers of a function more
 
-flat_append : {X Y : Type 0} (g : X → List Y) (xs ys : List X) → flat_map g (xs ++ ys) ≡ flat_map g xs ++ flat_map g ys
-flat_append g [] ys = refl
-flat_append g (x ∷ xs) ys = ap (λ (zs : List _). g x ++ zs) (flat_append g xs ys) ∙ sym (append_assoc (g x) (flat_map g xs) (flat_map g ys))
-
 pub blocks_more : (d : ModuleData) (f : Function) → blocks_in (with_function d f) ≡ blocks_in d ++ f.blocks
-blocks_more d f = flat_append (λ (f : Function). f.blocks) d.functions (f ∷ []) ∙ ap (λ (bs : List Block). blocks_in d ++ bs) (append-nil f.blocks)
+blocks_more d f = flat_map-append (λ (f : Function). f.blocks) d.functions (f ∷ []) ∙ ap (λ (bs : List Block). blocks_in d ++ bs) (append-nil f.blocks)
 
 abbrev pub placed_of : List Block → List Placed
 placed_of bs = flat_map (λ (b : Block). b.instructions) bs
 
 pub placed_more : (d : ModuleData) (f : Function) → placed_in (with_function d f) ≡ placed_in d ++ placed_of f.blocks
-placed_more d f = ap placed_of (blocks_more d f) ∙ flat_append (λ (b : Block). b.instructions) (blocks_in d) f.blocks
+placed_more d f = ap placed_of (blocks_more d f) ∙ flat_map-append (λ (b : Block). b.instructions) (blocks_in d) f.blocks
 
 pub numbered_more : (d : ModuleData) (f : Function) → f.number ≡ length d.functions → map (λ (b : Block). b.number) f.blocks ≡ counting (length (blocks_in d)) f.blocks
     → map (λ (p : Placed). p.number) (placed_of f.blocks) ≡ counting (length (placed_in d)) (placed_of f.blocks) → IsNumbered d → IsNumbered (with_function d f)

@@ -10,7 +10,7 @@ use Rattle.llvm_core.specs.Code as C
 use Rattle.llvm_core.specs.Sound.{IsModule}
 use Rattle.llvm_core.specs.Names.{is_plain}
 use Rattle.llvm_core.specs.Data.{Result, Block, ModuleData, data_of, with_block}
-use Rattle.llvm_core.proofs.ListLemmas.{length-with_change}
+use Rattle.support.proofs.ListLaws.{length-with_change}
 use Rattle.ll_tree.specs.Text.{Text}
 use Rattle.ll_tree.specs.Tree as tree
 use Rattle.ll_tree.specs.Tree.{Inst}

@@ -1,6 +1,8 @@
 -- An instruction that is filled in is the one that a text says.
 use Rattle.std.proofs.Common.{◌≡◌, ℕ, ◌⊎◌, inl, inr, Bool, true, false, List, [], ◌∷◌, Option, Some, None, refl, ap, sym, ◌∙◌, subst, eqb-true, nat_eq, if◌then◌else◌}
 use Rattle.std.specs.Option.{option_map}
+use Rattle.ll_text.proofs.PlainLaws.{mapped}
+use Rattle.ll_tree.proofs.Steps.{bind_some}
 use Rattle.llvm_core.specs.declared.numbers.LLVMType.{LLVMType}
 use Rattle.llvm_core.specs.declared.numbers.LLVMInstRef.{LLVMInstRef}
 use Rattle.llvm_core.specs.declared.types.LLVMTypeKind.TheVariants as T
@@ -22,7 +24,7 @@ use Rattle.ll_text.specs.Opening.{open_operand, open_value, open_inst, open_term
 use Rattle.ll_text.specs.Building.{IsValueOf, IsReady, HasSlot, Keeps}
 use Rattle.ll_text.specs.Filling.{changed, at_number, result_number, result_of, put_result, KnowsResult, HasOpen, with_entries, Turns, TurnsEnd, IsOpen, IsOpenEnd}
 use Rattle.ll_text.proofs.OptionLaws.{some_bound}
-use Rattle.ll_text.proofs.KnownLaws.{bound, mapped, chosen, of_width}
+use Rattle.ll_text.proofs.KnownLaws.{chosen, of_width}
 use Rattle.ll_text.proofs.FillLaws.{changed_by_none}
 use Rattle.ll_text.proofs.IncomingLaws.{phi_entries}
 
@@ -43,7 +45,7 @@ filled s w t x h = by (is_local t) refl h
     by : (b : Bool) → is_local t ≡ b → (if b then (local_key is_plain 64 t >>= λ k. value_of_width w (s.known k)) else option_map (constant w) (const_value w t)) ≡ Some x
         → ((n : ℕ) × ((if b then (local_key is_plain 64 t >>= λ k. result_number (s.known k)) else None) ≡ Some n) × (x ≡ Result n)) ⊎ (((if b then (local_key is_plain 64 t >>= λ k. result_number (s.known k)) else None) ≡ None) × (open_operand w x ≡ x))
     by true is e =
-        let k = bound (local_key is_plain 64 t) (λ k. value_of_width w (s.known k)) x e in
+        let k = bind_some (local_key is_plain 64 t) (λ k. value_of_width w (s.known k)) x e in
         let found : (local_key is_plain 64 t >>= λ j. result_number (s.known j)) ≡ result_number (s.known k.0) = some_bound (local_key is_plain 64 t) _ k.0 _ k.1 refl in
         subst (λ o. ((n : ℕ) × (o ≡ Some n) × (x ≡ Result n)) ⊎ ((o ≡ None) × (open_operand w x ≡ x))) (sym found) (known (s.known k.0) (of_width w (s.known k.0) x k.2))
     by false is e =
@@ -125,8 +127,8 @@ record OpenSides (s : Scope) (w : ℕ) (lhs rhs : Text) : Type 0 where
 
 open_sides : {C : Type 0} (s : Scope) (w : ℕ) (lhs rhs : Text) (f : Operand → Operand → Option C) (c : C) → (open_value s w lhs >>= λ a. open_value s w rhs >>= λ b. f a b) ≡ Some c → (h : OpenSides s w lhs rhs) × (f (open_operand w h.left) (open_operand w h.right) ≡ Some c)
 open_sides s w lhs rhs f c h =
-    let a = bound (open_value s w lhs) _ c h in
-    let b = bound (open_value s w rhs) _ c a.2 in
+    let a = bind_some (open_value s w lhs) _ c h in
+    let b = bind_some (open_value s w rhs) _ c a.2 in
     let x = mapped (open_operand w) (value_of is_plain 64 s w lhs) a.0 a.1 in
     let y = mapped (open_operand w) (value_of is_plain 64 s w rhs) b.0 b.1 in
     (record { left = x.0; left_says = x.1; right = y.0; right_says = y.1 }, subst (λ u. f (open_operand w x.0) u ≡ Some c) (sym y.2) (subst (λ u. f u b.0 ≡ Some c) (sym x.2) b.2))
@@ -135,7 +137,7 @@ pub add_turns : (s : Scope) (name : Option Text) (nuw nsw : Bool) (type lhs rhs 
 unfolding open_inst inst_data
 add_turns s name nuw nsw type lhs rhs = record {
   of = λ said h.
-      let w = bound (int_width is_plain 64 type) _ said h in
+      let w = bind_some (int_width is_plain 64 type) _ said h in
       let sides = open_sides s w.0 lhs rhs _ said w.2 in
       let o = sides.0 in
       let f : OverflowFlags = record { nuw = nuw; nsw = nsw } in
@@ -151,10 +153,10 @@ pub icmp_turns : (s : Scope) (name : Option Text) (predicate type lhs rhs : Text
 unfolding open_inst inst_data
 icmp_turns s name predicate type lhs rhs = record {
   of = λ said h.
-      let w = bound (int_width is_plain 64 type) _ said h in
+      let w = bind_some (int_width is_plain 64 type) _ said h in
       let sides = open_sides s w.0 lhs rhs _ said w.2 in
       let o = sides.0 in
-      let p = bound (predicate_of predicate) _ said sides.1 in
+      let p = bind_some (predicate_of predicate) _ said sides.1 in
       let is : (IntType 1, L.ICmp (open_operand w.0 o.left) (open_operand w.0 o.right) p.0) ≡ said = cc (p.2) in
       let done : put_both s lhs rhs (L.ICmp (open_operand w.0 o.left) (open_operand w.0 o.right) p.0) ≡ L.ICmp o.left o.right p.0 =
       (ap (put_result 1 (result_of s rhs)) (compare_first s w.0 lhs o.left (open_operand w.0 o.right) p.0 o.left_says) ∙ compare_second s w.0 rhs o.left o.right p.0 o.right_says) in
@@ -170,7 +172,7 @@ pub phi_turns : (s : Scope) (name : Option Text) (type : Text) (first : Incoming
 unfolding open_inst inst_data
 phi_turns s name type first more w es typed says = record {
   of = λ said h.
-      let v = bound (int_width is_plain 64 type) _ said h in
+      let v = bind_some (int_width is_plain 64 type) _ said h in
       let same : v.0 ≡ w = cc (v.1, typed) in
       let is : (IntType w, L.Phi []) ≡ said = ap (λ (u : ℕ). let d : TypeTree × Instruction = (IntType u, L.Phi []) in d) (sym same) ∙ (let e : (IntType v.0, L.Phi []) ≡ said = cc (v.2) in e) in
       subst (λ (d : TypeTree × Instruction). inst_data is_plain 64 s (Phi name type first more) ≡ Some (d.0, with_entries d.1 es)) is
@@ -183,8 +185,8 @@ pub return_turns : (s : Scope) (type value : Text) → TurnsEnd s (Return type v
 unfolding open_terminator terminator_data
 return_turns s type value = record {
   of = λ said h.
-      let w = bound (int_width is_plain 64 type) _ said h in
-      let a = bound (open_value s w.0 value) _ said w.2 in
+      let w = bind_some (int_width is_plain 64 type) _ said h in
+      let a = bind_some (open_value s w.0 value) _ said w.2 in
       let x = mapped (open_operand w.0) (value_of is_plain 64 s w.0 value) a.0 a.1 in
       let is : L.Return (Some (open_operand w.0 x.0)) ≡ said = ap (λ (o : Operand). L.Return (Some o)) x.2 ∙ (let e : L.Return (Some a.0) ≡ said = cc (a.2) in e) in
       let done : put_result 0 (result_of s value) (L.Return (Some (open_operand w.0 x.0))) ≡ L.Return (Some x.0) = elim (filled s w.0 value x.0 x.1) [
@@ -199,10 +201,10 @@ pub cond_turns : (s : Scope) (type condition first second : Text) → TurnsEnd s
 unfolding open_terminator terminator_data
 cond_turns s type condition first second = record {
   of = λ said h.
-      let w = bound (bit_width (int_width is_plain 64 type)) _ said h in
-      let a = bound (open_value s w.0 condition) _ said w.2 in
-      let b = bound (block_of is_plain 64 s first) _ said a.2 in
-      let c = bound (block_of is_plain 64 s second) _ said b.2 in
+      let w = bind_some (bit_width (int_width is_plain 64 type)) _ said h in
+      let a = bind_some (open_value s w.0 condition) _ said w.2 in
+      let b = bind_some (block_of is_plain 64 s first) _ said a.2 in
+      let c = bind_some (block_of is_plain 64 s second) _ said b.2 in
       let x = mapped (open_operand w.0) (value_of is_plain 64 s w.0 condition) a.0 a.1 in
       let is : L.CondBr (open_operand w.0 x.0) b.0 c.0 ≡ said = ap (λ (o : Operand). L.CondBr o b.0 c.0) x.2 ∙ (let e : L.CondBr a.0 b.0 c.0 ≡ said = cc (c.2) in e) in
       let done : put_result 0 (result_of s condition) (L.CondBr (open_operand w.0 x.0) b.0 c.0) ≡ L.CondBr x.0 b.0 c.0 = elim (filled s w.0 condition x.0 x.1) [
@@ -235,7 +237,7 @@ waits_kept old new c n place t keeps h = record { width = h.width; slot = keeps.
 pub add_waits : (m : Module) (c : code.Scope) (s : Scope) (n : ℕ) (name : Option Text) (nuw nsw : Bool) (type lhs rhs : Text) → Knows c s → IsOpen m s n (Add name nuw nsw type lhs rhs) → HasOpen m c n 0 lhs × HasOpen m c n 1 rhs
 unfolding open_inst
 add_waits m c s n name nuw nsw type lhs rhs knows h =
-    let w = bound (int_width is_plain 64 type) _ h.said h.says in
+    let w = bind_some (int_width is_plain 64 type) _ h.said h.says in
     let o = (open_sides s w.0 lhs rhs _ h.said w.2).0 in
     let slots = h.slots w.0 w.1 in
     (record { width = w.0; slot = slots.0; scope = s; knows = knows; operand = o.left; says = o.left_says }, record { width = w.0; slot = slots.1; scope = s; knows = knows; operand = o.right; says = o.right_says })
@@ -243,7 +245,7 @@ add_waits m c s n name nuw nsw type lhs rhs knows h =
 pub icmp_waits : (m : Module) (c : code.Scope) (s : Scope) (n : ℕ) (name : Option Text) (predicate type lhs rhs : Text) → Knows c s → IsOpen m s n (ICmp name predicate type lhs rhs) → HasOpen m c n 0 lhs × HasOpen m c n 1 rhs
 unfolding open_inst
 icmp_waits m c s n name predicate type lhs rhs knows h =
-    let w = bound (int_width is_plain 64 type) _ h.said h.says in
+    let w = bind_some (int_width is_plain 64 type) _ h.said h.says in
     let o = (open_sides s w.0 lhs rhs _ h.said w.2).0 in
     let slots = h.slots w.0 w.1 in
     (record { width = w.0; slot = slots.0; scope = s; knows = knows; operand = o.left; says = o.left_says }, record { width = w.0; slot = slots.1; scope = s; knows = knows; operand = o.right; says = o.right_says })
@@ -251,8 +253,8 @@ icmp_waits m c s n name predicate type lhs rhs knows h =
 pub return_waits : (m : Module) (c : code.Scope) (s : Scope) (n : ℕ) (type value : Text) → Knows c s → IsOpenEnd m s n (Return type value) → HasOpen m c n 0 value
 unfolding open_terminator
 return_waits m c s n type value knows h =
-    let w = bound (int_width is_plain 64 type) _ h.said h.says in
-    let a = bound (open_value s w.0 value) _ h.said w.2 in
+    let w = bind_some (int_width is_plain 64 type) _ h.said h.says in
+    let a = bind_some (open_value s w.0 value) _ h.said w.2 in
     let x = mapped (open_operand w.0) (value_of is_plain 64 s w.0 value) a.0 a.1 in
     record { width = w.0; slot = h.slots w.0 w.1; scope = s; knows = knows; operand = x.0; says = x.1 }
 
@@ -263,8 +265,8 @@ one_bit (Some v) w h = let c = chosen (nat_eq v 1) (Some v) w h in let one : v �
 pub cond_waits : (m : Module) (c : code.Scope) (s : Scope) (n : ℕ) (type condition first second : Text) → Knows c s → IsOpenEnd m s n (CondBr type condition first second) → HasOpen m c n 0 condition
 unfolding open_terminator
 cond_waits m c s n type condition first second knows h =
-    let w = bound (bit_width (int_width is_plain 64 type)) _ h.said h.says in
-    let a = bound (open_value s w.0 condition) _ h.said w.2 in
+    let w = bind_some (bit_width (int_width is_plain 64 type)) _ h.said h.says in
+    let a = bind_some (open_value s w.0 condition) _ h.said w.2 in
     let x = mapped (open_operand w.0) (value_of is_plain 64 s w.0 condition) a.0 a.1 in
     let one = one_bit (int_width is_plain 64 type) w.0 w.1 in
     record { width = w.0; slot = subst (HasSlot m n 0) (sym one) h.slots; scope = s; knows = knows; operand = x.0; says = x.1 }

@@ -4,8 +4,9 @@ use Rattle.std.specs.List.{AllByRecursion}
 use Rattle.std.proofs.lemmas.List.Elements.{All-from_recursion}
 use Rattle.std.proofs.lemmas.Bool.Decides.{nat_tests}
 use Rattle.std.proofs.lemmas.Option.{same_Some}
+use Rattle.llvm_core.proofs.FormTypes.{short_result}
 use Rattle.llvm_core.specs.Names.{is_plain, IsPlainOrNone}
-use Rattle.llvm_core.specs.Interned.{IsDistinctList}
+use Rattle.support.specs.Interned.{IsDistinctList}
 use Rattle.llvm_core.specs.Data as L
 use Rattle.llvm_core.specs.Data.{TypeTree, VoidType, IntType, FunctionType, TypeTrees, NoTypes, ThenType, Operand, Placed, Block, ModuleData, operand_type, placed_in}
 use Rattle.llvm_core.specs.Form.{IsShortInt, IsShortResult, AreShortInts, operands_of, IsNarrowPlaced, IsNarrowBlock, IsNarrowFunction, IsNarrow}
@@ -15,7 +16,7 @@ use Rattle.ll_tree.specs.Tree.{Incoming, Inst, Add, ICmp, Phi, Terminator, Retur
 use Rattle.ll_text.specs.Spelling.{IsNumbered}
 use Rattle.ll_text.specs.Meaning.{ValueLocal, BlockLocal, Scope, empty_scope, bit_width, predicate_of, written_name, int_width, local_key, label_key, value_of, block_of, result_width, named_inst, AreNamed, entries_data, inst_data, terminator_data, AreInstructions, AreBlocks, result_data, AreParams, IsFunctionOf, AreFunctions, IsSource, IsFileOf}
 use Rattle.ll_tree.proofs.Steps.{bind_some}
-use Rattle.ll_text.proofs.PlainLaws.{mapped, short_result, not_void, plain_or_none, local_plain, label_plain, written_plain, global_plain, string_plain, short_width}
+use Rattle.ll_text.proofs.PlainLaws.{not_void, plain_or_none, local_plain, label_plain, written_plain, global_plain, string_plain, short_width, mapped}
 use Rattle.ll_text.proofs.ListLaws.{all_both}
 use Rattle.ll_text.proofs.NumberLaws.{distinct, NumberedFrom, from_numbered, split}
 use Rattle.ll_text.proofs.HoldsLaws.{Holds, Typed, param_is, SaysBlock, SayBlocks, say_blocks, scope_typed, value_typed}

@@ -1,9 +1,11 @@
 -- What is true of each thing that is known in the scope of a function, and the types of its values.
-use Rattle.std.proofs.Common.{◌≡◌, ℕ, suc, ◌+◌, Bool, true, false, nat_le, nat_lt, nat_eq, List, [], ◌∷◌, ◌++◌, Option, Some, None, map, refl, ap, sym, ◌∙◌, subst, if◌then◌else◌, eqb-true, eq-eqb, arith}
+use Rattle.std.proofs.Common.{◌≡◌, ℕ, suc, ◌+◌, Bool, true, false, nat_le, nat_lt, List, [], ◌∷◌, ◌++◌, Option, Some, None, map, refl, ap, sym, ◌∙◌, subst, if◌then◌else◌, eq-eqb, arith}
 use Rattle.std.specs.List.{AllByRecursion}
 use Rattle.std.specs.Option.{option_map, option_map_or}
 use Rattle.std.proofs.lemmas.Option.{cond_some, same_Some, some_pair_parts}
-use Rattle.llvm_core.specs.Interned.{IsDistinctList}
+use Rattle.ll_text.proofs.PlainLaws.{mapped}
+use Rattle.ll_text.proofs.KnownLaws.{of_width}
+use Rattle.support.specs.Interned.{IsDistinctList}
 use Rattle.llvm_core.specs.Data as L
 use Rattle.llvm_core.specs.Data.{TypeTree, VoidType, IntType, FunctionType, TypeTrees, NoTypes, ThenType, Operand, Parameter, Result, Placed, Block, operand_type, nth_type, placed_in}
 use Rattle.ll_tree.specs.Text.{Text, number_limit, const_value}
@@ -12,7 +14,6 @@ use Rattle.ll_tree.specs.Tree.{is_local, Inst, Add, ICmp, Phi, Param, Function, 
 use Rattle.ll_tree.specs.Chain.{◌>>=◌}
 use Rattle.ll_text.specs.Meaning.{Key, Named, Numbered, same_key, Local, ValueLocal, BlockLocal, Scope, empty_scope, with_key, counted, define, value_of_width, constant, written_name, predicate_of, int_width, local_key, label_key, optional_key, value_of, define_written, result_width, named_inst, AreNamed, NamesBlock, NameBlocks, entries_data, inst_data, AreInstructions, IsTerminatorOf, IsBlockOf, AreBlocks, param_data, AreParams, IsFunctionOf}
 use Rattle.ll_tree.proofs.Steps.{bind_some}
-use Rattle.ll_text.proofs.PlainLaws.{mapped}
 use Rattle.ll_text.proofs.ListLaws.{all_each, all_front, all_flat, front_same, found}
 
 -- ---- what holds of each thing
@@ -43,15 +44,6 @@ define_holds Q s x (Some (Numbered n)) d e h q = by (nat_le s.next n) e
     by : (b : Bool) → (if b then counted s x n else None) ≡ Some d → Holds Q d.1
     by true e = counted_holds Q s x n d e h q
     by false e = absurd cc
-
-pub of_width : (w : ℕ) (l : Option Local) (o : Operand) → value_of_width w l ≡ Some o → l ≡ Some (ValueLocal o w)
-of_width w None o h = absurd cc
-of_width w (Some (BlockLocal b)) o h = absurd cc
-of_width w (Some (ValueLocal p v)) o h =
-    let c = cond_some (nat_eq v w) p o h in
-    let same : v ≡ w = eqb-true v w c.0 in
-    let e : p ≡ o = c.1 in
-    cc
 
 pub triple_parts : {A B C : Type 0} (a d : A) (b e : B) (c f : C) → ◌≡◌ {A = Option (A × B × C)} (Some (a, b, c)) (Some (d, e, f)) → (a ≡ d) × (◌≡◌ {A = Option (B × C)} (Some (b, c)) (Some (e, f)))
 triple_parts {A} {B} {C} a d b e c f h =

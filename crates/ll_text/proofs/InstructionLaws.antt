@@ -27,11 +27,6 @@ use Rattle.ll_text.proofs.OptionLaws.{some_bound, none_bound, not_bound}
 use Rattle.ll_text.proofs.ModuleLaws.{param_stands, target_stands}
 use Rattle.ll_text.proofs.BuildLaws.{add_gives, icmp_gives}
 
--- two facts at Ok
-pub on_ok_both : {T E P Q S : Type 0} (r : Result T E) → OnOk r P → OnOk r Q → (P → Q → S) → OnOk r S
-on_ok_both (Ok x) p q f = f p q
-on_ok_both (Err e) p q f = tt
-
 -- a fact that holds at Ok and at Err
 pub on_ok_of : {T E P : Type 0} (r : Result T E) → P → OnOk r P
 on_ok_of (Ok x) p = p

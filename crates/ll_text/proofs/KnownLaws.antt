@@ -1,46 +1,32 @@
 -- What definitions tell: of each value that is known in a scope, and of names, widths and operands.
-use Rattle.std.proofs.Common.{◌≡◌, ℕ, ◌+◌, ◌-◌, ◌≤◌, ◌⊎◌, inl, inr, Bool, true, false, ◌&&◌, nat_le, nat_lt, nat_eq, [], ◌∷◌, length, take, drop, Option, Some, None, refl, ap, sym, ◌∙◌, subst, if◌then◌else◌, eqb-true, arith}
+use Rattle.std.proofs.Common.{◌≡◌, ℕ, ◌+◌, ◌-◌, ◌⊎◌, inl, inr, Bool, true, false, nat_le, nat_lt, nat_eq, [], length, take, drop, Option, Some, None, refl, ap, sym, ◌∙◌, subst, if◌then◌else◌, eqb-true}
 use Rattle.std.specs.Option.{option_map}
-use Rattle.std.proofs.lemmas.Bool.Decides.{nat_tests}
+use Rattle.std.proofs.lemmas.Option.{same_Some}
+use Rattle.ll_text.proofs.PlainLaws.{plain_or_none, plain_key, mapped}
+use Rattle.ll_tree.proofs.Steps.{bind_some}
 use Rattle.llvm_core.specs.Names.{is_plain, IsPlainOrNone}
-use Rattle.llvm_core.proofs.ListLemmas.{some_same}
 use Rattle.llvm_core.specs.Data.{Operand}
-use Rattle.ll_tree.specs.Text.{Text, width_of, const_value, number_of, number_limit}
-use Rattle.ll_tree.specs.Tree.{is_local, is_digits}
+use Rattle.ll_tree.specs.Text.{Text, const_value, number_limit}
+use Rattle.ll_tree.specs.Tree.{is_local}
 use Rattle.ll_text.specs.ScopeView.{key_name}
 use Rattle.ll_text.specs.Numbered.{name_said}
 use Rattle.ll_text.specs.Building.{AllKnown, AllLocals}
 use Rattle.ll_tree.specs.Chain.{◌>>=◌}
-use Rattle.ll_text.specs.Meaning.{Key, Named, Numbered, same_key, Local, ValueLocal, BlockLocal, Scope, empty_scope, with_key, counted, define, legal_width, value_of_width, constant, int_width, key_of, optional_key, global_name, string_name, value_of, define_written, local_key, label_key}
+use Rattle.ll_text.specs.Meaning.{Key, Named, Numbered, same_key, Local, ValueLocal, BlockLocal, Scope, empty_scope, with_key, counted, define, value_of_width, constant, optional_key, value_of, define_written, local_key, label_key}
 
 -- ---- steps that give something
-
-pub bound : {A B : Type 0} (x : Option A) (f : A → Option B) (b : B) → (x >>= f) ≡ Some b → (a : A) × (x ≡ Some a) × (f a ≡ Some b)
-bound None f b h = absurd cc
-bound (Some a) f b h = (a, refl, h)
-
-pub mapped : {A B : Type 0} (f : A → B) (x : Option A) (b : B) → option_map f x ≡ Some b → (a : A) × (x ≡ Some a) × (f a ≡ b)
-mapped f None b h = absurd cc
-mapped f (Some a) b h = (a, refl, let e : f a ≡ b = cc in e)
 
 -- a choice that gives something passed its test
 pub chosen : {A : Type 0} (t : Bool) (x : Option A) (a : A) → (if t then x else None) ≡ Some a → (t ≡ true) × (x ≡ Some a)
 chosen true x a h = (refl, h)
 chosen false x a h = absurd cc
 
-pub same_pair : {A B : Type 0} (a c : A) (b d : B) → ◌≡◌ {A = Option (A × B)} (Some (a, b)) (Some (c, d)) → (a ≡ c) × (b ≡ d)
-same_pair {A} {B} a c b d h = let e : ◌≡◌ {A = A × B} (a, b) (c, d) = some_same {X = A × B} (a, b) (c, d) h in (ap (λ (x : A × B). x.0) e, ap (λ (x : A × B). x.1) e)
-
 pub same_triple : {A B C : Type 0} (a d : A) (b e : B) (c f : C) → ◌≡◌ {A = Option (A × B × C)} (Some (a, b, c)) (Some (d, e, f)) → (a ≡ d) × (◌≡◌ {A = B × C} (b, c) (e, f))
 same_triple {A} {B} {C} a d b e c f h =
-    let s : ◌≡◌ {A = A × B × C} (a, b, c) (d, e, f) = some_same {X = A × B × C} (a, b, c) (d, e, f) h in
+    let s : ◌≡◌ {A = A × B × C} (a, b, c) (d, e, f) = same_Some {A = A × B × C} (a, b, c) (d, e, f) h in
     (ap (λ (x : A × B × C). x.0) s, ap (λ (x : A × B × C). let y : B × C = (x.1, x.2) in y) s)
 
 -- ---- names and widths
-
-pub plain_or_none : (n : Text) → is_plain n ≡ true → IsPlainOrNone n
-plain_or_none [] h = tt
-plain_or_none (b ∷ bs) h = h
 
 -- a key whose name is plain
 abbrev pub IsPlainKey : Key → Type 0
@@ -51,35 +37,9 @@ abbrev pub IsPlainOption : Option Key → Type 0
 IsPlainOption None = Unit {0}
 IsPlainOption (Some k) = IsPlainKey k
 
-pub plain_key : (t : Text) (k : Key) → key_of is_plain 64 t ≡ Some k → IsPlainKey k
-plain_key t k h = by (is_digits t) h
-  where
-    by : (d : Bool) → (if d then option_map Numbered (number_of t) else (if is_plain t then Some (Named t) else None)) ≡ Some k → IsPlainKey k
-    by true h = let n = mapped Numbered (number_of t) k h in subst IsPlainKey n.2 tt
-    by false h = let n = chosen (is_plain t) (Some (Named t)) k h in subst IsPlainKey (let e : Named t ≡ k = cc (n.1) in e) n.0
-
 pub plain_optional : (key : Text → Option Key) → ((t : Text) (k : Key) → key t ≡ Some k → IsPlainKey k) → (o : Option Text) (k : Option Key) → optional_key is_plain 64 key o ≡ Some k → IsPlainOption k
 plain_optional key all None k h = subst IsPlainOption (let e : None ≡ k = cc in e) tt
 plain_optional key all (Some t) k h = let m = mapped Some (key t) k h in subst IsPlainOption m.2 (all t m.0 m.1)
-
-pub plain_global : (t n : Text) → global_name is_plain 64 t ≡ Some n → is_plain n ≡ true
-plain_global t n h = let c = chosen (is_plain (drop 1 t)) (Some (drop 1 t)) n h in subst (λ (m : Text). is_plain m ≡ true) (let e : drop 1 t ≡ n = cc (c.1) in e) c.0
-
-pub plain_string : (t n : Text) → string_name is_plain 64 t ≡ Some n → is_plain n ≡ true
-plain_string t n h =
-    let name = take (length t - 2) (drop 1 t) in
-    let c = chosen (is_plain name) (Some name) n h in
-    subst (λ (m : Text). is_plain m ≡ true) (let e : name ≡ n = cc (c.1) in e) c.0
-
-width_within : (o : Option ℕ) (w : ℕ) → legal_width 64 o ≡ Some w → (1 ≤ w) × (w ≤ 64)
-width_within None w h = absurd cc
-width_within (Some v) w h =
-    let c = chosen (nat_le 1 v && nat_le v 64) (Some v) w h in
-    let e : v ≡ w = cc (c.1) in
-    subst (λ (u : ℕ). (1 ≤ u) × (u ≤ 64)) e (let lo : 1 ≤ v = grind (arith, nat_tests, c.0) in let hi : v ≤ 64 = grind (arith, nat_tests, c.0) in (lo, hi))
-
-pub short_width : (t : Text) (w : ℕ) → int_width is_plain 64 t ≡ Some w → (1 ≤ w) × (w ≤ 64)
-short_width t w h = width_within (width_of t) w h
 
 -- ---- definitions
 
@@ -148,7 +108,7 @@ define_local P s x (Some (Named n)) d e h p = let same : (n, with_key s (Named n
 
 -- P stays true of each thing that is known when a thing of which it is true is defined
 pub written_local : (P : Local → Type 0) (s : Scope) (x : Local) (key : Text → Option Key) (o : Option Text) (d : Text × Scope) → define_written is_plain 64 s x key o ≡ Some d → AllLocals P s → P x → AllLocals P d.1
-written_local P s x key o d e h p = let k = bound (optional_key is_plain 64 key o) (define s x) d e in define_local P s x k.0 d k.2 h p
+written_local P s x key o d e h p = let k = bind_some (optional_key is_plain 64 key o) (define s x) d e in define_local P s x k.0 d k.2 h p
 
 define_name : (s : Scope) (x : Local) (k : Option Key) (d : Text × Scope) → define s x k ≡ Some d → d.0 ≡ key_name k
 define_name s x None d e = (counted_known (λ o w. Unit {0}) s x s.next d e (λ k o w h. tt) (any x)).0
@@ -158,14 +118,14 @@ define_name s x (Some (Named n)) d e = let same : (n, with_key s (Named n) x s.n
 -- the name of what is defined is the one that is written
 pub written_name_is : (s : Scope) (x : Local) (key : Text → Option Key) (o : Option Text) (d : Text × Scope) → define_written is_plain 64 s x key o ≡ Some d → d.0 ≡ name_said (optional_key is_plain 64 key o)
 written_name_is s x key o d e =
-    let k = bound (optional_key is_plain 64 key o) (define s x) d e in
+    let k = bind_some (optional_key is_plain 64 key o) (define s x) d e in
     let same : name_said (optional_key is_plain 64 key o) ≡ key_name k.0 = ap name_said k.1 in
     define_name s x k.0 d k.2 ∙ sym same
 
 pub written : (P : Operand → ℕ → Type 0) (s : Scope) (x : Local) (key : Text → Option Key) → ((t : Text) (k : Key) → key t ≡ Some k → IsPlainKey k)
     → (o : Option Text) (d : Text × Scope) → define_written is_plain 64 s x key o ≡ Some d → AllKnown P s → IfValue P x → IsPlainOrNone d.0 × AllKnown P d.1
 written P s x key all o d e h p =
-    let k = bound (optional_key is_plain 64 key o) (define s x) d e in
+    let k = bind_some (optional_key is_plain 64 key o) (define s x) d e in
     defined P s x k.0 d k.2 (plain_optional key all o k.0 k.1) h p
 
 pub local_plain : (t : Text) (k : Key) → local_key is_plain 64 t ≡ Some k → IsPlainKey k
@@ -192,5 +152,5 @@ operand_is s w t o h = by (is_local t) h
   where
     by : (l : Bool) → (if l then (local_key is_plain 64 t >>= λ k. value_of_width w (s.known k)) else option_map (constant w) (const_value w t)) ≡ Some o
         → ((k : Key) × (s.known k ≡ Some (ValueLocal o w))) ⊎ ((v : ℕ) × (const_value w t ≡ Some v) × (constant w v ≡ o))
-    by true h = let k = bound (local_key is_plain 64 t) (λ k. value_of_width w (s.known k)) o h in inl (k.0, of_width w (s.known k.0) o k.2)
+    by true h = let k = bind_some (local_key is_plain 64 t) (λ k. value_of_width w (s.known k)) o h in inl (k.0, of_width w (s.known k.0) o k.2)
     by false h = inr (mapped (constant w) (const_value w t) o h)

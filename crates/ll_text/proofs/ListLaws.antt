@@ -3,7 +3,8 @@ use Rattle.std.proofs.Common.{◌≡◌, ◌≢◌, ℕ, zero, suc, List, [], �
 use Rattle.std.specs.List.{flat_map, find, AllByRecursion}
 use Rattle.std.specs.Option.{option_map}
 use Rattle.std.proofs.lemmas.Option.{slice_get-map}
-use Rattle.llvm_core.specs.Interned.{IsDistinctList}
+use Rattle.support.proofs.ListLaws.{distinct_rest}
+use Rattle.support.specs.Interned.{IsDistinctList}
 
 -- ---- each item of a list
 
@@ -54,9 +55,6 @@ front_same (a ∷ xs) (b ∷ ys) x y e =
 
 -- ---- distinct numbers
 
-later_distinct : {X : Type 0} (x : X) (xs : List X) → IsDistinctList (x ∷ xs) → IsDistinctList xs
-later_distinct x xs d i j y a b = let e : suc i ≡ suc j = d (suc i) (suc j) y a b in omega arith
-
 -- the item of a number is the one that has it
 pub found : {X : Type 0} (number : X → ℕ) (xs : List X) → IsDistinctList (map number xs) → (i : ℕ) (x : X) → slice_get xs i ≡ Some x → find (λ (y : X). nat_eq (number y) (number x)) xs ≡ Some x
 found number [] d i x at = absurd cc
@@ -64,4 +62,4 @@ found number (y ∷ xs) d zero x at = let same : y ≡ x = cc in rw (eq-eqb (num
 found number (y ∷ xs) d (suc i) x at =
     let there : slice_get (map number xs) i ≡ Some (number x) = slice_get-map number xs i ∙ ap (option_map number) at in
     let apart : number y ≢ number x = λ same. let e : suc i ≡ 0 = d (suc i) 0 (number x) there (ap (λ (n : ℕ). Some n) same) in omega arith in
-    rw (ne_eqb (number y) (number x) apart) (found number xs (later_distinct (number y) (map number xs) d) i x at)
+    rw (ne_eqb (number y) (number x) apart) (found number xs (distinct_rest (number y) (map number xs) d) i x at)

@@ -4,6 +4,7 @@ use Rattle.std.specs.Option.{option_map}
 use Rattle.std.specs.List.{list_all}
 use Rattle.std.proofs.lemmas.Bool.{and_parts, and_from}
 use Rattle.std.proofs.lemmas.Bool.Decides.{nat_tests}
+use Rattle.llvm_core.proofs.FormNames.{letter_digit}
 use Rattle.llvm_core.specs.Names.{is_digit, is_letter, is_plain, is_plain_byte}
 use Rattle.llvm_core.specs.Data as L
 use Rattle.llvm_core.specs.Data.{TypeTree, VoidType, IntType, FunctionType, TypeTrees, NoTypes, ThenType, Operand, Placed, Block, ModuleData}
@@ -41,9 +42,6 @@ test_gives true t a h b e = rw (h refl) e
 test_gives false t a h b e = cc
 
 -- ---- names and widths
-
-letter_digit : (b : ℕ) → is_letter b ≡ true → is_digit b ≡ false
-letter_digit b h = grind (arith, nat_tests)
 
 letter_name : (b : ℕ) → is_letter b ≡ true → is_name_byte b ≡ true
 letter_name b h = rw h refl

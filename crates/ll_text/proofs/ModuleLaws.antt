@@ -1,8 +1,11 @@
 -- Modules to which types and constants are added.
-use Rattle.std.proofs.Common.{◌≡◌, ◌⊎◌, inl, inr, ◌<◌, ℕ, Bool, true, false, List, [], ◌∷◌, ◌++◌, Option, Some, None, length, length-append, slice_get, refl, ap, sym, ◌∙◌, subst, append_assoc, arith}
+use Rattle.std.proofs.Common.{◌≡◌, ◌<◌, ℕ, Bool, true, false, List, [], ◌++◌, Option, Some, None, length, length-append, slice_get, refl, ap, sym, ◌∙◌, subst, append_assoc, arith}
 use Rattle.std.specs.Option.{option_map, option_map_or}
 use Rattle.std.proofs.lemmas.List.{append-nil}
 use Rattle.std.proofs.lemmas.Option.{slice_get_within}
+use Rattle.ll_text.proofs.PlainLaws.{mapped}
+use Rattle.llvm_core.proofs.GrowLemmas.{param_at_kept}
+use Rattle.support.proofs.InternedLaws.{interned_more}
 use Rattle.llvm_core.specs.declared.numbers.LLVMType.{LLVMType}
 use Rattle.llvm_core.specs.declared.numbers.LLVMConst.{LLVMConst}
 use Rattle.llvm_core.specs.declared.types.LLVMTypeKind.{LLVMTypeKind}
@@ -15,13 +18,13 @@ use Rattle.llvm_core.specs.declared.code.FunctionData.{FunctionData}
 use Rattle.llvm_core.specs.declared.code.InstData.{InstData}
 use Rattle.llvm_core.specs.declared.numbers.LLVMFunction.{LLVMFunction}
 use Rattle.llvm_core.specs.declared.numbers.LLVMBasicBlock.{LLVMBasicBlock}
-use Rattle.llvm_core.specs.Interned.{Interned}
+use Rattle.support.specs.Interned.{Interned}
 use Rattle.llvm_core.specs.Module.{Module}
 use Rattle.llvm_core.specs.Sound.{IsModule}
-use Rattle.llvm_core.specs.Parts.{IsValue, value_type, const_type, type_params, kind_params}
+use Rattle.llvm_core.specs.Parts.{IsValue, value_type, const_type, type_params}
 use Rattle.llvm_core.specs.Data as L
 use Rattle.llvm_core.specs.Data.{ConstTree, PlaceholderConst, IntConst, IntType, VoidType, TypeTree, Operand, Constant, Parameter, Result, trees_of, type_trees, const_trees, const_at, operand_of, data_of}
-use Rattle.llvm_core.proofs.ListLemmas.{slice_get-kept}
+use Rattle.support.proofs.ListLaws.{slice_get-kept}
 use Rattle.llvm_core.proofs.DataLemmas.{int_tree_of, int_const_of, placeholder_const_of}
 use Rattle.llvm_core.proofs.TreeLemmas.{const_at-kept, const_trees-retyped}
 use Rattle.ll_tree.specs.Text.{Text, const_value}
@@ -33,16 +36,6 @@ use Rattle.ll_text.specs.ScopeView.{key_view, local_view, Knows}
 use Rattle.ll_text.specs.Opening.{placeholder}
 use Rattle.ll_text.specs.Building.{AllLocals, IsValueOf, result_value, Stands, IsReady, OnlyInterns, IsNamedBy, IsLocalOf, IsTargetOf, SaysConstant, HasSlot, IsPhiAt, Slots, EndSlots, HasEndSlots, IsBuilt, Keeps}
 use Rattle.ll_text.specs.Filling.{IsOpen, IsOpenEnd}
-use Rattle.ll_text.proofs.KnownLaws.{mapped}
-
--- ---- lists that grow
-
-pub grown : {X : Type 0} (old new : List X) (k : X) (n : ℕ) → Interned old new k n → (more : List X) × (new ≡ old ++ more)
-grown {X} old new k n h = by h.only
-  where
-    by : (new ≡ old) ⊎ (new ≡ old ++ k ∷ []) → (more : List X) × (new ≡ old ++ more)
-    by (inl same) = ([], same ∙ sym (append-nil old))
-    by (inr longer) = (k ∷ [], longer)
 
 -- ---- only types and constants are added
 
@@ -51,7 +44,7 @@ none_interned m = record { more_types = []; types = sym (append-nil m.types); mo
 
 pub type_interned : (old new : Module) (k : LLVMTypeKind) (n : ℕ) → Interned old.types new.types k n → new ≡ record old { types = new.types } → data_of new ≡ data_of old → IsModule new → OnlyInterns old new
 type_interned old new k n h rest is sound =
-    let g = grown old.types new.types k n h in
+    let g = interned_more old.types new.types k n h in
     let consts : new.consts ≡ old.consts = ap (λ (m : Module). m.consts) rest in
     record {
       more_types = g.0;
@@ -65,7 +58,7 @@ type_interned old new k n h rest is sound =
 
 pub const_interned : (old new : Module) (k : LLVMConstKind) (n : ℕ) → Interned old.consts new.consts k n → new ≡ record old { consts = new.consts } → data_of new ≡ data_of old → IsModule new → OnlyInterns old new
 const_interned old new k n h rest is sound =
-    let g = grown old.consts new.consts k n h in
+    let g = interned_more old.consts new.consts k n h in
     let types : new.types ≡ old.types = ap (λ (m : Module). m.types) rest in
     record {
       more_types = [];
@@ -93,17 +86,10 @@ interned_twice a b c g h = record {
 pub mapped_kept : {X Y : Type 0} (f : X → Y) (xs more : List X) (i : ℕ) (y : Y) → option_map f (slice_get xs i) ≡ Some y → option_map f (slice_get (xs ++ more) i) ≡ Some y
 mapped_kept f xs more i y h = let x = mapped f (slice_get xs i) y h in ap (option_map f) (slice_get-kept xs more i x.0 x.1) ∙ ap Some x.2
 
-params_kept : (types more : List LLVMTypeKind) (t : LLVMType) (place : ℕ) (x : LLVMType) → slice_get (type_params types t) place ≡ Some x → slice_get (type_params (types ++ more) t) place ≡ Some x
-params_kept types more t place x h = by (slice_get types t.0) refl h
-  where
-    by : (o : Option LLVMTypeKind) → slice_get types t.0 ≡ o → slice_get (option_map_or kind_params o []) place ≡ Some x → slice_get (type_params (types ++ more) t) place ≡ Some x
-    by None e h = absurd cc
-    by (Some k) e h = rw (slice_get-kept types more t.0 k e) h
-
 pub param_kept : (types more : List LLVMTypeKind) (o : Option FunctionData) (place : ℕ) (x : LLVMType)
     → slice_get (option_map_or (λ (f : FunctionData). type_params types f.ty) o []) place ≡ Some x → slice_get (option_map_or (λ (f : FunctionData). type_params (types ++ more) f.ty) o []) place ≡ Some x
 param_kept types more None place x h = h
-param_kept types more (Some f) place x h = params_kept types more f.ty place x h
+param_kept types more (Some f) place x h = param_at_kept types more f.ty place x h
 
 abbrev longer : Module → List LLVMTypeKind → List LLVMConstKind → Module
 longer m ts cs = record m { types = m.types ++ ts; consts = m.consts ++ cs }

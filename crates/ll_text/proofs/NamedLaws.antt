@@ -1,5 +1,6 @@
 -- What the labels and results of a function are defined as, by whatever numbers its blocks and instructions have.
 use Rattle.std.proofs.Common.{◌≡◌, ℕ, suc, ◌+◌, ◌<◌, ◌≤◌, List, [], ◌∷◌, length, Some, refl, ap, ◌∙◌, subst, arith}
+use Rattle.ll_tree.proofs.Steps.{bind_some}
 use Rattle.llvm_core.specs.Names.{is_plain}
 use Rattle.llvm_core.specs.Data.{Result, Placed, Block}
 use Rattle.ll_tree.specs.Text.{Text}
@@ -10,7 +11,7 @@ use Rattle.ll_text.specs.Refusals.{Alike}
 use Rattle.ll_text.specs.Numbered.{result_name, label_name, behind, EachInst, EachBlock, named_result, named_insts, named_label, named_block, named_blocks}
 use Rattle.ll_text.specs.Building.{AllLocals}
 use Rattle.ll_text.proofs.OptionLaws.{some_bound}
-use Rattle.ll_text.proofs.KnownLaws.{bound, written_local, written_name_is}
+use Rattle.ll_text.proofs.KnownLaws.{written_local, written_name_is}
 use Rattle.ll_text.proofs.AlikeLaws.{both_there, Follows, named_both, label_both}
 
 -- ---- the parts of definitions
@@ -19,15 +20,15 @@ use Rattle.ll_text.proofs.AlikeLaws.{both_there, Follows, named_both, label_both
 pub result_parts : (s t : Scope) (n : ℕ) (i : Inst) → named_result s n i ≡ Some t → named_inst is_plain 64 s n i ≡ Some (result_name i, t)
 unfolding named_result named_inst
 result_parts s t n i h =
-    let d = bound (named_inst is_plain 64 s n i) _ t h in
-    let w = bound (result_width is_plain 64 i) _ d.0 d.1 in
+    let d = bind_some (named_inst is_plain 64 s n i) _ t h in
+    let w = bind_some (result_width is_plain 64 i) _ d.0 d.1 in
     let name = written_name_is s (ValueLocal (Result n) w.0) (local_key is_plain 64) (written_name i) d.0 w.2 in
     let after : d.0.1 ≡ t = cc (d.2) in
     d.1 ∙ ap (λ (m : Text). let p : Text × Scope = (m, d.0.1) in Some p) name ∙ ap (λ (u : Scope). let p : Text × Scope = (result_name i, u) in Some p) after
 
 pub insts_parts : (s u : Scope) (n : ℕ) (i : Inst) (is : List Inst) → named_insts s n (i ∷ is) ≡ Some u → (t : Scope) × (named_result s n i ≡ Some t) × (named_insts t (suc n) is ≡ Some u)
 unfolding named_insts
-insts_parts s u n i is h = bound (named_result s n i) _ u h
+insts_parts s u n i is h = bind_some (named_result s n i) _ u h
 
 pub insts_nil : (s u : Scope) (n : ℕ) → named_insts s n [] ≡ Some u → s ≡ u
 unfolding named_insts
@@ -36,18 +37,18 @@ insts_nil s u n h = cc (h)
 pub label_parts : (s t : Scope) (k : ℕ) (b : tree.Block) → named_label s k b ≡ Some t → define_written is_plain 64 s (BlockLocal k) (label_key is_plain 64) b.label ≡ Some (label_name b, t)
 unfolding named_label
 label_parts s t k b h =
-    let d = bound (define_written is_plain 64 s (BlockLocal k) (label_key is_plain 64) b.label) _ t h in
+    let d = bind_some (define_written is_plain 64 s (BlockLocal k) (label_key is_plain 64) b.label) _ t h in
     let name = written_name_is s (BlockLocal k) (label_key is_plain 64) b.label d.0 d.1 in
     let after : d.0.1 ≡ t = cc (d.2) in
     d.1 ∙ ap (λ (m : Text). let p : Text × Scope = (m, d.0.1) in Some p) name ∙ ap (λ (u : Scope). let p : Text × Scope = (label_name b, u) in Some p) after
 
 pub block_parts : (s u : Scope) (k n : ℕ) (b : tree.Block) → named_block s k n b ≡ Some u → (t : Scope) × (named_label s k b ≡ Some t) × (named_insts t n b.insts ≡ Some u)
 unfolding named_block
-block_parts s u k n b h = bound (named_label s k b) _ u h
+block_parts s u k n b h = bind_some (named_label s k b) _ u h
 
 pub blocks_parts : (s u : Scope) (k n : ℕ) (b : tree.Block) (bs : List tree.Block) → named_blocks s k n (b ∷ bs) ≡ Some u → (t : Scope) × (named_block s k n b ≡ Some t) × (named_blocks t (suc k) (behind n b) bs ≡ Some u)
 unfolding named_blocks
-blocks_parts s u k n b bs h = bound (named_block s k n b) _ u h
+blocks_parts s u k n b bs h = bind_some (named_block s k n b) _ u h
 
 pub blocks_nil : (s u : Scope) (k n : ℕ) → named_blocks s k n [] ≡ Some u → s ≡ u
 unfolding named_blocks
@@ -66,8 +67,8 @@ module _ (P : Local → Type 0) where
   result_known : (s t : Scope) (n : ℕ) (i : Inst) → named_result s n i ≡ Some t → AllLocals P s → OfResult n i → AllLocals P t
   unfolding named_result named_inst
   result_known s t n i h known p =
-      let d = bound (named_inst is_plain 64 s n i) _ t h in
-      let w = bound (result_width is_plain 64 i) _ d.0 d.1 in
+      let d = bind_some (named_inst is_plain 64 s n i) _ t h in
+      let w = bind_some (result_width is_plain 64 i) _ d.0 d.1 in
       let after : d.0.1 ≡ t = cc (d.2) in
       subst (AllLocals P) after (written_local P s (ValueLocal (Result n) w.0) (local_key is_plain 64) (written_name i) d.0 w.2 known (p w.0 w.1))
 

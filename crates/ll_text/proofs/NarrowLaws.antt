@@ -4,6 +4,9 @@ use Rattle.std.specs.List.{AllByRecursion}
 use Rattle.std.specs.Option.{option_map}
 use Rattle.std.proofs.lemmas.Option.{same_Some}
 use Rattle.std.proofs.lemmas.List.Elements.{recursion_from_All}
+use Rattle.ll_text.proofs.PlainLaws.{mapped}
+use Rattle.llvm_core.proofs.FormTypes.{short_result}
+use Rattle.ll_text.proofs.OptionLaws.{some_bound}
 use Rattle.llvm_core.specs.declared.code.OverflowFlags.{OverflowFlags}
 use Rattle.llvm_core.specs.Names.{is_plain, IsPlainOrNone}
 use Rattle.llvm_core.specs.Data as L
@@ -15,10 +18,9 @@ use Rattle.ll_tree.specs.Tree.{Incoming, Inst, Add, ICmp, Phi, Terminator, Retur
 use Rattle.ll_text.specs.Spelling.{widest}
 use Rattle.ll_text.specs.Meaning.{ValueLocal, BlockLocal, Scope, empty_scope, bit_width, predicate_of, written_name, int_width, local_key, value_of, block_of, define_written, result_width, named_inst, AreNamed, NamesBlock, NameBlocks, entries_data, inst_data, terminator_data, AreInstructions, IsBlockOf, AreBlocks, param_data, result_data, AreParams, IsFunctionOf, AreFunctions, IsSource, IsFileOf}
 use Rattle.ll_tree.proofs.Steps.{bind_some}
-use Rattle.ll_text.proofs.PlainLaws.{mapped, short_result}
 use Rattle.ll_text.proofs.ListLaws.{all_front, all_back, all_weaker}
 use Rattle.ll_text.proofs.HoldsLaws.{Holds, Typed, param_is, SaysBlock, SayBlocks, say_blocks, result_is, scope_typed, value_typed}
-use Rattle.ll_text.proofs.NarrowNames.{bind_on, global_narrow, string_narrow, int_width_narrow, HasPlainKeys, no_keys, written_narrow, value_narrow, target_narrow, bit_narrow}
+use Rattle.ll_text.proofs.NarrowNames.{global_narrow, string_narrow, int_width_narrow, HasPlainKeys, no_keys, written_narrow, value_narrow, target_narrow, bit_narrow}
 
 -- ---- instructions
 
@@ -33,9 +35,9 @@ entries_narrow s w (e ∷ es) xs keys h =
     let o = bind_some (value_of is_bare widest s w e.value) _ xs h in
     let b = bind_some (block_of is_bare widest s e.block) _ xs o.2 in
     let more = bind_some (entries_data is_bare widest s w es) _ xs b.2 in
-    bind_on (value_of is_plain 64 s w e.value) _ o.0 _ (value_narrow s w e.value o.0 keys o.1)
-    (bind_on (block_of is_plain 64 s e.block) _ b.0 _ (target_narrow s e.block b.0 keys b.1)
-    (bind_on (entries_data is_plain 64 s w es) _ more.0 _ (entries_narrow s w es more.0 keys more.1) more.2))
+    some_bound (value_of is_plain 64 s w e.value) _ o.0 _ (value_narrow s w e.value o.0 keys o.1)
+    (some_bound (block_of is_plain 64 s e.block) _ b.0 _ (target_narrow s e.block b.0 keys b.1)
+    (some_bound (entries_data is_plain 64 s w es) _ more.0 _ (entries_narrow s w es more.0 keys more.1) more.2))
 
 -- the type and the instruction are those of an instruction of the form
 abbrev FormPair : L.Function → ℕ → Placed → TypeTree × L.Instruction → Type 0
@@ -53,9 +55,9 @@ inst_narrow d b p s (Add name nuw nsw type lhs rhs) x keys known e form =
     let flags : OverflowFlags = record { nuw = nuw; nsw = nsw } in
     let made = form_pair d b p x (IntType w.0, L.Add l.0 r.0 flags) r.2 form in
     let short = width_short d s w.0 lhs l.0 p.type known l.1 made.1.0 in
-    bind_on (int_width is_plain 64 type) _ w.0 _ (int_width_narrow type w.0 w.1 short)
-    (bind_on (value_of is_plain 64 s w.0 lhs) _ l.0 _ (value_narrow s w.0 lhs l.0 keys l.1)
-    (bind_on (value_of is_plain 64 s w.0 rhs) _ r.0 _ (value_narrow s w.0 rhs r.0 keys r.1) r.2))
+    some_bound (int_width is_plain 64 type) _ w.0 _ (int_width_narrow type w.0 w.1 short)
+    (some_bound (value_of is_plain 64 s w.0 lhs) _ l.0 _ (value_narrow s w.0 lhs l.0 keys l.1)
+    (some_bound (value_of is_plain 64 s w.0 rhs) _ r.0 _ (value_narrow s w.0 rhs r.0 keys r.1) r.2))
 inst_narrow d b p s (ICmp name predicate type lhs rhs) x keys known e form =
     let w = bind_some (int_width is_bare widest type) _ x e in
     let l = bind_some (value_of is_bare widest s w.0 lhs) _ x w.2 in
@@ -64,16 +66,16 @@ inst_narrow d b p s (ICmp name predicate type lhs rhs) x keys known e form =
     let made = form_pair d b p x (IntType 1, L.ICmp l.0 r.0 q.0) q.2 form in
     let both = made.1.0 in
     let short = width_short d s w.0 lhs l.0 both.0 known l.1 both.1 in
-    bind_on (int_width is_plain 64 type) _ w.0 _ (int_width_narrow type w.0 w.1 short)
-    (bind_on (value_of is_plain 64 s w.0 lhs) _ l.0 _ (value_narrow s w.0 lhs l.0 keys l.1)
-    (bind_on (value_of is_plain 64 s w.0 rhs) _ r.0 _ (value_narrow s w.0 rhs r.0 keys r.1) r.2))
+    some_bound (int_width is_plain 64 type) _ w.0 _ (int_width_narrow type w.0 w.1 short)
+    (some_bound (value_of is_plain 64 s w.0 lhs) _ l.0 _ (value_narrow s w.0 lhs l.0 keys l.1)
+    (some_bound (value_of is_plain 64 s w.0 rhs) _ r.0 _ (value_narrow s w.0 rhs r.0 keys r.1) r.2))
 inst_narrow d b p s (Phi name type first more) x keys known e form =
     let w = bind_some (int_width is_bare widest type) _ x e in
     let es = bind_some (entries_data is_bare widest s w.0 (first ∷ more)) _ x w.2 in
     let made = form_pair d b p x (IntType w.0, L.Phi es.0) es.2 form in
     let short : IsShortInt (IntType w.0) = subst IsShortInt made.0 made.1.2 in
-    bind_on (int_width is_plain 64 type) _ w.0 _ (int_width_narrow type w.0 w.1 short)
-    (bind_on (entries_data is_plain 64 s w.0 (first ∷ more)) _ es.0 _ (entries_narrow s w.0 (first ∷ more) es.0 keys es.1) es.2)
+    some_bound (int_width is_plain 64 type) _ w.0 _ (int_width_narrow type w.0 w.1 short)
+    (some_bound (entries_data is_plain 64 s w.0 (first ∷ more)) _ es.0 _ (entries_narrow s w.0 (first ∷ more) es.0 keys es.1) es.2)
 
 terminator_narrow : (d : L.Function) (b : ℕ) (p : Placed) (s : Scope) (i : Terminator) (x : L.Instruction) → HasPlainKeys s → Holds (Typed d) s → terminator_data is_bare widest s i ≡ Some x → IsFormInstruction d b p x → terminator_data is_plain 64 s i ≡ Some x
 unfolding terminator_data
@@ -83,19 +85,19 @@ terminator_narrow d b p s (Return type value) x keys known e form =
     let o = bind_some (value_of is_bare widest s w.0 value) _ x w.2 in
     let made = subst (IsFormInstruction d b p) (sym (same_Some (L.Return (Some o.0)) x o.2)) form in
     let short = width_short d s w.0 value o.0 (result_of d.type) known o.1 made.0 in
-    bind_on (int_width is_plain 64 type) _ w.0 _ (int_width_narrow type w.0 w.1 short) (bind_on (value_of is_plain 64 s w.0 value) _ o.0 _ (value_narrow s w.0 value o.0 keys o.1) o.2)
+    some_bound (int_width is_plain 64 type) _ w.0 _ (int_width_narrow type w.0 w.1 short) (some_bound (value_of is_plain 64 s w.0 value) _ o.0 _ (value_narrow s w.0 value o.0 keys o.1) o.2)
 terminator_narrow d b p s (Br target) x keys known e form =
     let t = bind_some (block_of is_bare widest s target) _ x e in
-    bind_on (block_of is_plain 64 s target) _ t.0 _ (target_narrow s target t.0 keys t.1) t.2
+    some_bound (block_of is_plain 64 s target) _ t.0 _ (target_narrow s target t.0 keys t.1) t.2
 terminator_narrow d b p s (CondBr type condition first second) x keys known e form =
     let w = bind_some (bit_width (int_width is_bare widest type)) _ x e in
     let c = bind_some (value_of is_bare widest s w.0 condition) _ x w.2 in
     let t = bind_some (block_of is_bare widest s first) _ x c.2 in
     let u = bind_some (block_of is_bare widest s second) _ x t.2 in
-    bind_on (bit_width (int_width is_plain 64 type)) _ w.0 _ (bit_narrow type w.0 w.1)
-    (bind_on (value_of is_plain 64 s w.0 condition) _ c.0 _ (value_narrow s w.0 condition c.0 keys c.1)
-    (bind_on (block_of is_plain 64 s first) _ t.0 _ (target_narrow s first t.0 keys t.1)
-    (bind_on (block_of is_plain 64 s second) _ u.0 _ (target_narrow s second u.0 keys u.1) u.2)))
+    some_bound (bit_width (int_width is_plain 64 type)) _ w.0 _ (bit_narrow type w.0 w.1)
+    (some_bound (value_of is_plain 64 s w.0 condition) _ c.0 _ (value_narrow s w.0 condition c.0 keys c.1)
+    (some_bound (block_of is_plain 64 s first) _ t.0 _ (target_narrow s first t.0 keys t.1)
+    (some_bound (block_of is_plain 64 s second) _ u.0 _ (target_narrow s second u.0 keys u.1) u.2)))
 terminator_narrow d b p s Unreachable x keys known e form = e
 
 -- ---- names and widths of results
@@ -126,7 +128,7 @@ unfolding named_inst
 named_narrow s n i e short plain keys h =
     let w = bind_some (result_width is_bare widest i) _ e h in
     let named = written_narrow (drop 1) s (ValueLocal (L.Result n) w.0) (written_name i) e w.2 plain keys in
-    (bind_on (result_width is_plain 64 i) _ w.0 _ (width_narrow i w.0 (short w.0 w.1) w.1) named.0, named.1)
+    (some_bound (result_width is_plain 64 i) _ w.0 _ (width_narrow i w.0 (short w.0 w.1) w.1) named.0, named.1)
 
 names_narrow : (whole s : Scope) (is : List Inst) (ps : List Placed) (t : Scope) → AreNamed is_bare widest s is ps t → AreInstructions is_bare widest whole is ps → AllByRecursion IsFine ps → HasPlainKeys s
     → AreNamed is_plain 64 s is ps t × HasPlainKeys t
@@ -198,7 +200,7 @@ blocks_narrow d s (b ∷ bs) [] keys known forms h = elim h [ ]
 param_says : (f i : ℕ) (s : Scope) (p : Param) (w : ℕ) (n : Text) (t : Scope) → int_width is_plain 64 p.type ≡ Some w → define_written is_plain 64 s (ValueLocal (L.Parameter f i) w) (local_key is_plain 64) p.name ≡ Some (n, t)
     → param_data is_plain 64 s f i p ≡ Some (w, n, t)
 unfolding param_data
-param_says f i s p w n t e g = bind_on (int_width is_plain 64 p.type) _ w _ e (bind_on (define_written is_plain 64 s (ValueLocal (L.Parameter f i) w) (local_key is_plain 64) p.name) _ (n, t) _ g refl)
+param_says f i s p w n t e g = some_bound (int_width is_plain 64 p.type) _ w _ e (some_bound (define_written is_plain 64 s (ValueLocal (L.Parameter f i) w) (local_key is_plain 64) p.name) _ (n, t) _ g refl)
 
 params_narrow : (f i : ℕ) (s : Scope) (ps : List Param) (ts : TypeTrees) (ns : List Text) (t : Scope) → AreParams is_bare widest f i s ps ts ns t → AreShortInts ts → AllByRecursion IsPlainOrNone ns → HasPlainKeys s
     → AreParams is_plain 64 f i s ps ts ns t × HasPlainKeys t

@@ -3,6 +3,8 @@ use Rattle.std.proofs.Common.{◌≡◌, ℕ, ◌-◌, ◌≤◌, ◌+◌, Bool,
 use Rattle.std.specs.Option.{option_map}
 use Rattle.std.proofs.lemmas.Bool.Decides.{nat_tests}
 use Rattle.std.proofs.lemmas.Slice.Eq.{bytes_eq-Decides}
+use Rattle.ll_text.proofs.OptionLaws.{some_bound}
+use Rattle.ll_text.proofs.KnownLaws.{chosen}
 use Rattle.llvm_core.specs.Names.{is_plain, IsPlainOrNone}
 use Rattle.llvm_core.specs.Data.{IntType, Operand}
 use Rattle.llvm_core.specs.Form.{IsShortInt}
@@ -12,16 +14,7 @@ use Rattle.ll_text.specs.Spelling.{widest}
 use Rattle.ll_tree.specs.Chain.{◌>>=◌}
 use Rattle.ll_text.specs.Meaning.{Key, Named, Numbered, same_key, Local, Scope, empty_scope, with_key, counted, define, legal_width, bit_width, value_of_width, option_block, constant, int_width, key_of, local_key, optional_key, global_name, string_name, value_of, block_of, define_written}
 use Rattle.ll_tree.proofs.Steps.{bind_some}
-use Rattle.ll_text.proofs.PlainLaws.{mapped, IsPlainKey, IsPlainOption}
-
--- a step that gives something leads on
-pub bind_on : {A B : Type 0} (x : Option A) (f : A → Option B) (a : A) (b : Option B) → x ≡ Some a → f a ≡ b → (x >>= f) ≡ b
-bind_on x f a b e h = ap (λ o. o >>= f) e ∙ h
-
--- a choice that gives something passed its test
-chosen : {A : Type 0} (t : Bool) (x : Option A) (a : A) → (if t then x else None) ≡ Some a → (t ≡ true) × (x ≡ Some a)
-chosen true x a h = (refl, h)
-chosen false x a h = absurd cc
+use Rattle.ll_text.proofs.PlainLaws.{IsPlainKey, IsPlainOption, mapped}
 
 -- ---- names and widths
 
@@ -143,7 +136,7 @@ pub written_narrow : (cut : Text → Text) (s : Scope) (x : Local) (o : Option T
 written_narrow cut s x o d e plain h =
     let k = bind_some (optional_key is_bare widest (key_in is_bare widest cut) o) (define s x) d e in
     let p = define_plain s x k.0 d k.2 (optional_bare cut o k.0 k.1) plain h in
-    (bind_on (optional_key is_plain 64 (key_in is_plain 64 cut) o) (define s x) k.0 (Some d) (optional_narrow cut o k.0 k.1 p.0) k.2, p.1)
+    (some_bound (optional_key is_plain 64 (key_in is_plain 64 cut) o) (define s x) k.0 (Some d) (optional_narrow cut o k.0 k.1 p.0) k.2, p.1)
 
 -- ---- operands
 
@@ -158,7 +151,7 @@ value_narrow s w t o h e = by (is_local t) e
         → (if b then (local_key is_plain 64 t >>= λ k. value_of_width w (s.known k)) else option_map (constant w) (const_value w t)) ≡ Some o
     by true e =
         let k = bind_some (local_key is_bare widest t) (λ k. value_of_width w (s.known k)) o e in
-        bind_on (local_key is_plain 64 t) (λ k. value_of_width w (s.known k)) k.0 (Some o) (key_narrow (drop 1 t) k.0 k.1 (known k.0 (s.known k.0) refl k.2)) k.2
+        some_bound (local_key is_plain 64 t) (λ k. value_of_width w (s.known k)) k.0 (Some o) (key_narrow (drop 1 t) k.0 k.1 (known k.0 (s.known k.0) refl k.2)) k.2
     by false e = e
 
 -- ---- blocks and conditions
@@ -166,7 +159,7 @@ value_narrow s w t o h e = by (is_local t) e
 pub target_narrow : (s : Scope) (t : Text) (b : ℕ) → HasPlainKeys s → block_of is_bare widest s t ≡ Some b → block_of is_plain 64 s t ≡ Some b
 target_narrow s t b h e =
     let k = bind_some (local_key is_bare widest t) (λ k. option_block (s.known k)) b e in
-    bind_on (local_key is_plain 64 t) (λ k. option_block (s.known k)) k.0 (Some b) (key_narrow (drop 1 t) k.0 k.1 (known k.0 (s.known k.0) refl k.2)) k.2
+    some_bound (local_key is_plain 64 t) (λ k. option_block (s.known k)) k.0 (Some b) (key_narrow (drop 1 t) k.0 k.1 (known k.0 (s.known k.0) refl k.2)) k.2
   where
     known : (k : Key) (l : Option Local) → s.known k ≡ l → option_block l ≡ Some b → IsPlainKey k
     known k None is e = absurd cc

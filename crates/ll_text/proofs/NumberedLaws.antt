@@ -27,12 +27,6 @@ map_split v xs i item lt here = split_mapped v xs i item lt ∙ ap (λ y. map v 
 pub map_next : {X Y : Type 0} (v : X → Y) (xs : List X) (i : ℕ) (item : X) → i < length xs → item ≡ get_or xs i item → map v (take (i + 1) xs) ≡ map v (take i xs) ++ v item ∷ []
 map_next v xs i item lt here = map_more v xs i item lt ∙ ap (λ y. map v (take i xs) ++ v y ∷ []) (sym here)
 
--- an item does not depend on what is read past the end
-pub item_here : {X : Type 0} (xs : List X) (i : ℕ) (d e : X) → i < length xs → get_or xs i d ≡ get_or xs i e
-item_here [] i d e lt = absurd (omega arith)
-item_here (x ∷ xs) zero d e lt = refl
-item_here (x ∷ xs) (suc i) d e lt = item_here xs i d e (omega arith)
-
 pub length_front : {X Y : Type 0} (v : X → Y) (xs : List X) (i : ℕ) → i ≤ length xs → length (map v (take i xs)) ≡ i
 length_front v xs i le = length-map (take i xs) v ∙ length-take-le i xs le
 

@@ -4,6 +4,7 @@ use Rattle.std.specs.List.{AllZip}
 use Rattle.std.specs.Option.{option_map}
 use Rattle.std.proofs.lemmas.Option.{cond_some, same_Some}
 use Rattle.std.proofs.lemmas.List.{length-map}
+use Rattle.ll_text.proofs.KnownLaws.{of_width}
 use Rattle.llvm_core.specs.declared.code.OverflowFlags.{OverflowFlags}
 use Rattle.llvm_core.specs.Data as L
 use Rattle.llvm_core.specs.Data.{TypeTree, VoidType, IntType, FunctionType, TypeTrees, NoTypes, ThenType, ConstTree, Operand, Constant, Parameter, Result, Placed, Block, placed_in}
@@ -13,7 +14,7 @@ use Rattle.ll_tree.specs.Tree.{is_local, Incoming, Inst, Add, ICmp, Phi, Termina
 use Rattle.ll_tree.specs.Chain.{◌>>=◌}
 use Rattle.ll_text.specs.Meaning.{Key, Named, Numbered, same_key, Local, ValueLocal, BlockLocal, Scope, empty_scope, with_key, counted, define, bit_width, value_of_width, option_block, predicate_of, written_name, constant, int_width, local_key, label_key, optional_key, global_name, value_of, block_of, define_written, result_width, named_inst, AreNamed, entries_data, inst_data, terminator_data, AreInstructions, param_data, result_data, AreParams, IsFunctionOf}
 use Rattle.ll_tree.proofs.Steps.{bind_some}
-use Rattle.ll_text.proofs.HoldsLaws.{of_width, param_is, SaysBlock, SayBlocks, say_blocks}
+use Rattle.ll_text.proofs.HoldsLaws.{param_is, SaysBlock, SayBlocks, say_blocks}
 use Rattle.ll_text.proofs.NumberLaws.{block_numbers, result_numbers}
 use Rattle.ll_text.proofs.ZipLaws.{SamePlace, SameLength, zip_length, zip_both, zip_front, zip_back, zip_places, zip_unmapped, zip_unflat, zip_weaker, zip_flat, flat_length}
 

@@ -1,6 +1,7 @@
 -- What is placed under numbers in order: its parts, its numbers, and what a text says of it.
 use Rattle.std.proofs.Common.{◌≡◌, ℕ, suc, ◌+◌, List, [], ◌∷◌, ◌++◌, length, length-append, map, Option, Some, refl, ap, sym, ◌∙◌, subst, arith}
 use Rattle.std.proofs.lemmas.List.{map-append}
+use Rattle.ll_tree.proofs.Steps.{bind_some}
 use Rattle.llvm_core.specs.Names.{is_plain}
 use Rattle.llvm_core.specs.Module.{Module}
 use Rattle.llvm_core.specs.Data.{TypeTree, VoidType, Instruction, Placed, Block}
@@ -13,7 +14,6 @@ use Rattle.ll_text.specs.Opening.{open_inst, open_terminator}
 use Rattle.ll_text.specs.Building.{HasEndSlots, IsBuilt}
 use Rattle.ll_text.specs.Filling.{changed_in, Turns, TurnsEnd, IsOpen, IsOpenEnd}
 use Rattle.ll_text.proofs.OptionLaws.{some_bound, Weaker, consed_weaker, bind_weaker, consed_some}
-use Rattle.ll_text.proofs.KnownLaws.{bound}
 use Rattle.ll_text.proofs.DataLaws.{counting_push, counting_append, placed_of, changed_bodies}
 use Rattle.ll_text.specs.Refusals.{Alike}
 use Rattle.ll_text.proofs.AlikeLaws.{Any, both_there, inst_both, end_both}
@@ -46,8 +46,8 @@ module _ (of_inst : Inst → Option (TypeTree × Instruction)) (of_end : Termina
   pub first_parts : (n : ℕ) (i : Inst) (is : List Inst) (ps : List Placed) → placed_insts of_inst of_end n (i ∷ is) ≡ Some ps → PlacedFirst of_inst of_end n i is ps
   unfolding placed_insts
   first_parts n i is ps h =
-      let d = bound (of_inst i) _ ps h in
-      let r = bound (placed_insts of_inst of_end (suc n) is) _ ps d.2 in
+      let d = bind_some (of_inst i) _ ps h in
+      let r = bind_some (placed_insts of_inst of_end (suc n) is) _ ps d.2 in
       record { said = d.0; says = d.1; rest = r.0; others = r.1; are = let e : ps ≡ (record { number = n; name = result_name i; type = d.0.0; instruction = d.0.1 }) ∷ r.0 = cc (r.2) in e }
 
   pub none_parts : (n : ℕ) (ps : List Placed) → placed_insts of_inst of_end n [] ≡ Some ps → ps ≡ []
@@ -57,9 +57,9 @@ module _ (of_inst : Inst → Option (TypeTree × Instruction)) (of_end : Termina
   pub body_parts : (n : ℕ) (b : tree.Block) (ps : List Placed) → placed_block of_inst of_end n b ≡ Some ps → PlacedBlock of_inst of_end n b ps
   unfolding placed_block placed_end
   body_parts n b ps h =
-      let f = bound (placed_insts of_inst of_end n b.insts) _ ps h in
-      let p = bound (placed_end of_inst of_end (n + length b.insts) b.end) _ ps f.2 in
-      let i = bound (of_end b.end) _ p.0 p.1 in
+      let f = bind_some (placed_insts of_inst of_end n b.insts) _ ps h in
+      let p = bind_some (placed_end of_inst of_end (n + length b.insts) b.end) _ ps f.2 in
+      let i = bind_some (of_end b.end) _ p.0 p.1 in
       let last : Placed = record { number = n + length b.insts; name = []; type = VoidType; instruction = i.0 } in
       let is : p.0 ≡ last = cc (i.2) in
       let all : ps ≡ f.0 ++ p.0 ∷ [] = cc (p.2) in
@@ -68,8 +68,8 @@ module _ (of_inst : Inst → Option (TypeTree × Instruction)) (of_end : Termina
   pub bodies_parts : (n : ℕ) (b : tree.Block) (bs : List tree.Block) (pss : List (List Placed)) → placed_blocks of_inst of_end n (b ∷ bs) ≡ Some pss → PlacedBodies of_inst of_end n b bs pss
   unfolding placed_blocks
   bodies_parts n b bs pss h =
-      let p = bound (placed_block of_inst of_end n b) _ pss h in
-      let r = bound (placed_blocks of_inst of_end (behind n b) bs) _ pss p.2 in
+      let p = bind_some (placed_block of_inst of_end n b) _ pss h in
+      let r = bind_some (placed_blocks of_inst of_end (behind n b) bs) _ pss p.2 in
       record { body = p.0; block = p.1; rest = r.0; others = r.1; are = let e : pss ≡ p.0 ∷ r.0 = cc (r.2) in e }
 
   pub no_bodies : (n : ℕ) (pss : List (List Placed)) → placed_blocks of_inst of_end n [] ≡ Some pss → pss ≡ []

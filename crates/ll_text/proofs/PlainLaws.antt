@@ -4,8 +4,8 @@ use Rattle.std.specs.Option.{option_map}
 use Rattle.std.proofs.lemmas.Bool.Decides.{nat_tests}
 use Rattle.std.proofs.lemmas.Option.{cond_some}
 use Rattle.llvm_core.specs.Names.{is_plain, IsPlainOrNone}
-use Rattle.llvm_core.specs.Data.{TypeTree, VoidType, IntType, FunctionType}
-use Rattle.llvm_core.specs.Form.{IsShortInt, IsShortResult}
+use Rattle.llvm_core.specs.Data.{TypeTree, VoidType}
+use Rattle.llvm_core.specs.Form.{IsShortInt}
 use Rattle.ll_tree.specs.Text.{Text, width_of, number_of, number_limit}
 use Rattle.ll_tree.specs.Tree.{is_digits}
 use Rattle.ll_text.specs.Meaning.{Key, Named, Numbered, Local, Scope, with_key, counted, define, legal_width, int_width, key_of, local_key, label_key, optional_key, global_name, string_name, define_written}
@@ -31,7 +31,7 @@ abbrev pub IsPlainOption : Option Key → Type 0
 IsPlainOption None = Unit {0}
 IsPlainOption (Some k) = IsPlainKey k
 
-plain_key : (t : Text) (k : Key) → key_of is_plain 64 t ≡ Some k → IsPlainKey k
+pub plain_key : (t : Text) (k : Key) → key_of is_plain 64 t ≡ Some k → IsPlainKey k
 plain_key t k h = by (is_digits t) h
   where
     by : (d : Bool) → (if d then option_map Numbered (number_of t) else (if is_plain t then Some (Named t) else None)) ≡ Some k → IsPlainKey k
@@ -83,7 +83,7 @@ string_plain t n h =
 
 -- ---- widths
 
-width_within : (o : Option ℕ) (w : ℕ) → legal_width 64 o ≡ Some w → (1 ≤ w) × (w ≤ 64)
+pub width_within : (o : Option ℕ) (w : ℕ) → legal_width 64 o ≡ Some w → (1 ≤ w) × (w ≤ 64)
 width_within None w h = absurd cc
 width_within (Some v) w h =
     let c = cond_some (nat_le 1 v && nat_le v 64) v w h in
@@ -91,11 +91,6 @@ width_within (Some v) w h =
 
 pub short_width : (t : Text) (w : ℕ) → int_width is_plain 64 t ≡ Some w → (1 ≤ w) × (w ≤ 64)
 short_width t w h = width_within (width_of t) w h
-
-pub short_result : (t : TypeTree) → IsShortInt t → IsShortResult t
-short_result VoidType h = elim h [ ]
-short_result (IntType w) h = h
-short_result (FunctionType result params variadic) h = elim h [ ]
 
 -- an integer type is not void
 pub not_void : (t : TypeTree) → IsShortInt t → t ≡ VoidType → ⊥

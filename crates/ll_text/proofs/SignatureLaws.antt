@@ -5,16 +5,17 @@ use Rattle.std.proofs.Math.Seq.{take-length}
 use Rattle.std.proofs.lemmas.List.{map-append, take_more}
 use Rattle.std.proofs.lemmas.List.Elements.{All-nil, All-cons}
 use Rattle.std.proofs.lemmas.Option.{slice_get_within}
+use Rattle.support.proofs.InternedLaws.{interned_more}
 use Rattle.llvm_core.specs.declared.numbers.LLVMType.{LLVMType}
 use Rattle.llvm_core.specs.declared.types.LLVMTypeKind.{LLVMTypeKind}
 use Rattle.llvm_core.specs.declared.types.LLVMTypeKind.TheVariants as T
-use Rattle.llvm_core.specs.Interned.{Interned}
+use Rattle.support.specs.Interned.{Interned}
 use Rattle.llvm_core.specs.Module.{Module}
 use Rattle.llvm_core.specs.Names.{is_plain}
 use Rattle.llvm_core.specs.Sound.{IsModule}
 use Rattle.llvm_core.specs.Parts.{IsTypeOver, type_params, kind_params}
 use Rattle.llvm_core.specs.Data.{TypeTree, FunctionType, TypeTrees, type_at, types_at, trees_of}
-use Rattle.llvm_core.proofs.ListLemmas.{slice_get-kept}
+use Rattle.support.proofs.ListLaws.{slice_get-kept}
 use Rattle.llvm_core.proofs.DataLemmas.{int_tree_of, void_tree_of, function_tree_of}
 use Rattle.ll_tree.specs.Tree.{Param}
 use Rattle.ll_tree.specs.declared.tree.Param as code_param
@@ -22,7 +23,6 @@ use Rattle.ll_tree.specs.TreeView.{param_view}
 use Rattle.ll_text.specs.Meaning.{int_width}
 use Rattle.ll_text.specs.Building.{OnlyInterns}
 use Rattle.ll_text.specs.Signatures.{returned, returned_kind, int_types, AreWidths, AreInts, HasParams, HasSignature}
-use Rattle.ll_text.proofs.ModuleLaws.{grown}
 
 pub widths_push : (ps : List Param) (ws : List ℕ) (p : Param) (w : ℕ) → AreWidths ps ws → int_width is_plain 64 p.type ≡ Some w → AreWidths (ps ++ p ∷ []) (ws ++ w ∷ [])
 widths_push [] [] p w h e = (e, tt)
@@ -55,7 +55,7 @@ ints_push types (u ∷ ts) [] t w h e = elim h [ ]
 pub params_push : (ps : List Param) (p : Param) (w : ℕ) (old new : List LLVMTypeKind) (ts us : List LLVMType) (t : LLVMType) → int_width is_plain 64 p.type ≡ Some w → Interned old new (T.Int w) t.0 → us ≡ ts ++ t ∷ []
     → HasParams ps old ts → HasParams (ps ++ p ∷ []) new us
 params_push ps p w old new ts us t width interned pushed h =
-    let g = grown old new (T.Int w) t.0 interned in
+    let g = interned_more old new (T.Int w) t.0 interned in
     let kept = subst (λ (types : List LLVMTypeKind). AreInts types ts h.widths) (sym g.1) (ints_kept old g.0 ts h.widths h.ints) in
     record { widths = h.widths ++ w ∷ []; written = widths_push ps h.widths p w h.written width; ints = subst (λ (xs : List LLVMType). AreInts new xs (h.widths ++ w ∷ [])) (sym pushed) (ints_push new ts h.widths t w kept interned.here) }
 
@@ -95,7 +95,7 @@ pub signed : (ps : List Param) (m0 m1 m : Module) (returns : Option ℕ) (result
     → Interned m1.types m.types (T.Function result ts false) ty.0 → IsModule m → HasSignature ps m ty returns
 signed ps m0 m1 m returns result ty ts only here h interned sound =
     let k = T.Function result ts false in
-    let g = grown m1.types m.types k ty.0 interned in
+    let g = interned_more m1.types m.types k ty.0 interned in
     let ints = subst (λ (types : List LLVMTypeKind). AreInts types ts h.widths) (sym g.1) (ints_kept m1.types g.0 ts h.widths h.ints) in
     let first : slice_get m1.types result.0 ≡ Some (returned_kind returns) = subst (λ (types : List LLVMTypeKind). slice_get types result.0 ≡ Some (returned_kind returns)) (sym only.types) (slice_get-kept m0.types only.more_types result.0 (returned_kind returns) here) in
     let there : slice_get m.types result.0 ≡ Some (returned_kind returns) = subst (λ (types : List LLVMTypeKind). slice_get types result.0 ≡ Some (returned_kind returns)) (sym g.1) (slice_get-kept m1.types g.0 result.0 (returned_kind returns) first) in

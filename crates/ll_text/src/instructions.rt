@@ -21,11 +21,11 @@ use ll_tree::read_err::ReadErr;
 use ll_tree::tokens::Token;
 use ll_tree::tree::{Block, Function, Inst, Terminator};
 use llvm_core::code::{LLVMInst, LLVMValue, OverflowFlags};
-use llvm_core::items::Items;
 use llvm_core::module::LLVMModule;
 use llvm_core::numbers::LLVMBasicBlock;
 use llvm_core::types::LLVMTypeKind;
 use std::alloc::Global;
+use support::items::Items;
 
 /// Both operands of an operation, or what stands for them.
 fn both<'a>(

@@ -12,11 +12,11 @@ use crate::names::int_width;
 use ll_tree::read_err::ReadErr;
 use ll_tree::tokens::Token;
 use ll_tree::tree::Param;
-use llvm_core::items::Items;
 use llvm_core::module::LLVMModule;
 use llvm_core::numbers::LLVMType;
 use llvm_core::types::LLVMTypeKind;
 use std::alloc::{AllocError, Global};
+use support::items::Items;
 
 /// The width of the integers that a function returns, none for void.
 pub fn result_width(ty: Option<Token<'_>>) -> Result<Option<u32>, ReadErr>

@@ -1,12 +1,13 @@
 -- Blocks: what is read is written so, and what is written so is read.
-use Rattle.std.proofs.Common.{◌≡◌, ◌≤◌, Bool, true, false, ◌&&◌, ◌||◌, List, [], ◌∷◌, ◌++◌, length, length-append, Option, Some, None, codes, refl, sym, subst, append_assoc, arith, inl, inr, ◌⊎◌}
+use Rattle.std.proofs.Common.{◌≡◌, ◌≤◌, Bool, true, false, ◌||◌, List, [], ◌∷◌, ◌++◌, length, length-append, Option, Some, None, codes, refl, sym, subst, append_assoc, arith, inl, inr, ◌⊎◌}
 use Rattle.std.specs.List.{flat_map, AllByRecursion}
+use Rattle.std.proofs.lemmas.Bool.{not-true, and_parts}
 use Rattle.ll_tree.specs.Text.{Text}
 use Rattle.ll_tree.specs.Tree.{is_label, Inst, Terminator, ReturnVoid, Return, Br, CondBr, Unreachable, Block, optional, inst, terminator, block, IsInst, IsBlock, IfPresent}
 use Rattle.ll_tree.specs.Reading.{is_next, rest, passes_next, optional_at, is_ending, inst_at, insts_at, terminator_at, block_at, blocks_at}
 use Rattle.ll_tree.proofs.Steps.{then, gives}
 use Rattle.ll_tree.proofs.Many.{Sound, many_takes, many_again}
-use Rattle.ll_tree.proofs.NextLaws.{next_is, unlike, not_true, optional_takes, optional_again}
+use Rattle.ll_tree.proofs.NextLaws.{next_is, unlike, optional_takes, optional_again}
 use Rattle.ll_tree.proofs.InstLaws.{inst_sound, inst_again, inst_begins, follows_inst}
 use Rattle.ll_tree.proofs.TerminatorLaws.{terminator_takes, terminator_again}
 
@@ -15,10 +16,6 @@ use Rattle.ll_tree.proofs.TerminatorLaws.{terminator_takes, terminator_again}
 pub insts_takes : (ts : List Text) (x : List Inst × List Text) → insts_at ts ≡ Some x → (ts ≡ flat_map inst x.0 ++ x.1) × AllByRecursion IsInst x.0 × (is_ending x.1 ≡ true)
 unfolding insts_at
 insts_takes ts x e = many_takes inst IsInst inst_at is_ending ts x inst_sound e
-
-both_true : (a b : Bool) → (a && b) ≡ true → (a ≡ true) × (b ≡ true)
-both_true true b e = (refl, e)
-both_true false b e = absurd cc
 
 either_true : (a b : Bool) → (a || b) ≡ true → (a ≡ true) ⊎ (b ≡ true)
 either_true true b e = inl refl
@@ -42,9 +39,9 @@ pub insts_again : (is : List Inst) (us : List Text) → AllByRecursion IsInst is
 unfolding insts_at
 insts_again is us h ending =
     let g = many_again inst IsInst inst_at is_ending follows_inst inst_sound
-    (λ i ts f follows. inst_again i ts f (both_true _ _ follows).0)
+    (λ i ts f follows. inst_again i ts f (and_parts _ _ follows).0)
     (λ i ts f. let b = inst_begins i ts f in (b.no_ending, b.follows)) is us h ending (ending_follows us ending) in
-    (g.0, not_true _ (both_true _ _ g.1).1)
+    (g.0, not-true _ (and_parts _ _ g.1).1)
 
 -- ---- a block
 

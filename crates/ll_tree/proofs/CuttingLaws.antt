@@ -29,7 +29,7 @@ pub same : {a b : List ℕ} {x y : List Text} → a ≡ b → x ≡ y → Writes
 same e f w = rw (← e, ← f) w
 
 -- a piece that is a token, and one that is not
-token_step : (t : Text) (rest : List ℕ) (us : List Text) → 1 ≤ length t → piece_at (t ++ rest) ≡ token (length t) → Cut rest us → Cut (t ++ rest) (t ∷ us)
+pub token_step : (t : Text) (rest : List ℕ) (us : List Text) → 1 ≤ length t → piece_at (t ++ rest) ≡ token (length t) → Cut rest us → Cut (t ++ rest) (t ∷ us)
 token_step t rest us some piece others =
     let p : Piece = record { is_token = true; len = length t } in
     let le : length t ≤ length (t ++ rest) = omega (arith, length-append t rest) in
@@ -43,7 +43,7 @@ blank_step b rest us piece others =
     let p : Piece = record { is_token = false; len = 1 } in
     steps p (b ∷ rest) (omega arith) (omega arith) piece ∙ others
 
-token_cut : (b : ℕ) (t : Text) (rest : List ℕ) (us : List Text) → Alone b t → Cut (b ∷ rest) us → Cut (t ++ b ∷ rest) (t ∷ us)
+pub token_cut : (b : ℕ) (t : Text) (rest : List ℕ) (us : List Text) → Alone b t → Cut (b ∷ rest) us → Cut (t ++ b ∷ rest) (t ∷ us)
 token_cut b t rest us alone others = token_step t (b ∷ rest) us alone.some (alone.piece rest) others
 
 space_cut : (rest : List ℕ) (us : List Text) → Cut rest us → Cut (32 ∷ rest) us

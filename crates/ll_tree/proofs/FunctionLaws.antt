@@ -1,12 +1,13 @@
 -- Functions and their parameters: what is read is written so, and what is written so is read.
 use Rattle.std.proofs.Common.{◌≡◌, ◌≤◌, true, false, List, [], ◌∷◌, ◌++◌, length, not, Option, Some, None, codes, refl, sym, append_assoc, arith, inl, inr}
 use Rattle.std.specs.List.{flat_map, AllByRecursion}
+use Rattle.std.proofs.lemmas.Bool.{not-true}
 use Rattle.ll_tree.specs.Text.{Text}
 use Rattle.ll_tree.specs.Tree.{is_local, is_global, is_int_type, Param, Function, optional, block, param, next_param, params, result_type, function, IsParam, IsFunction, IfPresent}
 use Rattle.ll_tree.specs.Reading.{is_next, rest, passes_next, skip_at, one_at, optional_at, param_at, next_param_at, next_params_at, params_at, result_type_at, block_at, blocks_at, function_at}
 use Rattle.ll_tree.proofs.Steps.{then, gives, chosen}
 use Rattle.ll_tree.proofs.Many.{Sound, many_takes, many_again}
-use Rattle.ll_tree.proofs.NextLaws.{next_is, unlike, not_true, skip_takes, skip_again, one_takes, one_again, optional_takes, optional_again}
+use Rattle.ll_tree.proofs.NextLaws.{next_is, unlike, skip_takes, skip_again, one_takes, one_again, optional_takes, optional_again}
 use Rattle.ll_tree.proofs.BlockLaws.{block_takes, block_again, blocks_takes, blocks_again}
 
 -- ---- parameters
@@ -53,7 +54,7 @@ param_again p us h no_more = rw (one_again is_int_type p.type (optional p.name +
 
 pub next_param_again : (p : Param) (us : List Text) → IsParam p → not (passes_next is_local us) ≡ true → next_param_at (next_param p ++ us) ≡ Some (p, us)
 unfolding next_param_at
-next_param_again p us h no_more = rw (skip_again (codes ",") (param p ++ us)) (param_again p us h (not_true (passes_next is_local us) no_more))
+next_param_again p us h no_more = rw (skip_again (codes ",") (param p ++ us)) (param_again p us h (not-true (passes_next is_local us) no_more))
 
 next_params_again : (ps : List Param) (us : List Text) → AllByRecursion IsParam ps → (next_params_at (flat_map next_param ps ++ codes ")" ∷ us) ≡ Some (ps, codes ")" ∷ us)) × (not (passes_next is_local (flat_map next_param ps ++ codes ")" ∷ us)) ≡ true)
 unfolding next_params_at
@@ -66,7 +67,7 @@ params_again [] us h = refl
 params_again (p ∷ ps) us h =
     let o = next_params_again ps us h.1 in
     let one : params (p ∷ ps) ++ codes ")" ∷ us ≡ param p ++ (flat_map next_param ps ++ codes ")" ∷ us) = append_assoc (param p) (flat_map next_param ps) (codes ")" ∷ us) in
-    rw (unlike is_int_type p.type (codes ")") h.0.0 refl, one, param_again p (flat_map next_param ps ++ codes ")" ∷ us) h.0 (not_true _ o.1), o.0) refl
+    rw (unlike is_int_type p.type (codes ")") h.0.0 refl, one, param_again p (flat_map next_param ps ++ codes ")" ∷ us) h.0 (not-true _ o.1), o.0) refl
 
 -- ---- the type that a function returns
 

@@ -1,10 +1,11 @@
 -- Numbers that digits say, and what plain names are made of.
-use Rattle.std.proofs.Common.{◌≡◌, ℕ, zero, suc, Bool, true, false, ◌&&◌, cond, nat_lt, nat_le, ◌==◌, if◌then◌else◌, codes, ◌^◌, ◌+◌, ◌-◌, ◌*◌, ◌≤◌, ◌<◌, List, [], ◌∷◌, Option, Some, None, length, refl, arith}
+use Rattle.std.proofs.Common.{◌≡◌, ℕ, zero, suc, Bool, true, false, cond, nat_lt, nat_le, ◌==◌, if◌then◌else◌, codes, ◌^◌, ◌+◌, ◌-◌, ◌*◌, ◌≤◌, ◌<◌, List, [], ◌∷◌, Option, Some, None, length, refl, arith}
 use Rattle.std.specs.List.{list_all}
 use Rattle.std.specs.Str.{bytes_eq, IsAscii, IsUtf8}
 use Rattle.std.proofs.lemmas.Str.{IsUtf8-from_ascii}
 use Rattle.std.proofs.lemmas.Bool.Decides.{nat_tests}
 use Rattle.std.proofs.lemmas.Nat.{pow_pos}
+use Rattle.std.proofs.lemmas.Bool.{and_parts}
 use Rattle.llvm_core.specs.Names.{is_digit, is_letter, is_plain_byte, is_plain}
 use Rattle.ll_tree.specs.Text.{Text, number_of, value_after, if_number, at_width, negative_at_width, int_value, const_value}
 use Rattle.ll_tree.specs.Literals.{up_to}
@@ -25,10 +26,6 @@ pub number_of_digits : (text : Text) → 0 < length text → number_of text ≡ 
 number_of_digits [] some = absurd (omega arith)
 number_of_digits (b ∷ bs) some = refl
 
-pub and_split : (a b : Bool) → (a && b) ≡ true → (a ≡ true) × (b ≡ true)
-and_split true b h = (refl, h)
-and_split false b h = absurd cc
-
 plain_ascii : (b : ℕ) → is_plain_byte b ≡ true → b < 128
 plain_ascii b h = grind (arith, nat_tests)
 
@@ -37,13 +34,13 @@ letter_ascii b h = grind (arith, nat_tests)
 
 all_plain_ascii : (bs : List ℕ) → list_all is_plain_byte bs ≡ true → IsAscii bs
 all_plain_ascii [] h i = omega arith
-all_plain_ascii (b ∷ bs) h zero = plain_ascii b (and_split (is_plain_byte b) (list_all is_plain_byte bs) h).0
-all_plain_ascii (b ∷ bs) h (suc i) = all_plain_ascii bs (and_split (is_plain_byte b) (list_all is_plain_byte bs) h).1 i
+all_plain_ascii (b ∷ bs) h zero = plain_ascii b (and_parts (is_plain_byte b) (list_all is_plain_byte bs) h).0
+all_plain_ascii (b ∷ bs) h (suc i) = all_plain_ascii bs (and_parts (is_plain_byte b) (list_all is_plain_byte bs) h).1 i
 
 plain_is_ascii : (text : Text) → is_plain text ≡ true → IsAscii text
 plain_is_ascii [] h i = omega arith
-plain_is_ascii (b ∷ bs) h zero = letter_ascii b (and_split (is_letter b) (list_all is_plain_byte bs) h).0
-plain_is_ascii (b ∷ bs) h (suc i) = all_plain_ascii bs (and_split (is_letter b) (list_all is_plain_byte bs) h).1 i
+plain_is_ascii (b ∷ bs) h zero = letter_ascii b (and_parts (is_letter b) (list_all is_plain_byte bs) h).0
+plain_is_ascii (b ∷ bs) h (suc i) = all_plain_ascii bs (and_parts (is_letter b) (list_all is_plain_byte bs) h).1 i
 
 -- a plain name is UTF-8
 pub IsUtf8-plain : (text : Text) → is_plain text ≡ true → IsUtf8 text

@@ -1,12 +1,13 @@
 -- Reading one token, or a type with its values. Each rule has two laws, here and in the files that use this one: `.._takes`, what is read stood at the
 -- front and is of its kind, and `.._again`, what stands there and is of its kind is read.
-use Rattle.std.proofs.Common.{◌≡◌, Bool, true, false, List, [], ◌∷◌, ◌++◌, not, Option, Some, None, codes, refl, sym, ap, ◌∙◌, arith, inl, inr}
+use Rattle.std.proofs.Common.{◌≡◌, Bool, true, false, List, [], ◌∷◌, ◌++◌, Option, Some, None, codes, refl, sym, ap, ◌∙◌, arith, inl, inr}
 use Rattle.std.specs.Str.{bytes_eq}
 use Rattle.std.proofs.lemmas.Slice.Eq.{bytes_eq-Decides}
+use Rattle.std.proofs.lemmas.Option.{cond_some}
 use Rattle.ll_tree.specs.Text.{Text}
 use Rattle.ll_tree.specs.Tree.{is_int_type, is_operand, flag, optional, IfPresent}
 use Rattle.ll_tree.specs.Reading.{is_next, rest, passes_next, skip_at, one_at, flag_at, optional_at, typed_at, both_at}
-use Rattle.ll_tree.proofs.Steps.{guard_some, chosen, then, gives}
+use Rattle.ll_tree.proofs.Steps.{chosen, then, gives}
 
 pub next_is : (t : Text) (ts : List Text) → is_next t ts ≡ true → ts ≡ t ∷ rest ts
 next_is t [] e = absurd cc
@@ -25,7 +26,7 @@ unlike p t w h g = elim (bytes_eq t w) as (λ b. bytes_eq t w ≡ b → b ≡ fa
 pub skip_takes : (t : Text) (ts us : List Text) → skip_at t ts ≡ Some us → ts ≡ t ∷ us
 unfolding skip_at
 skip_takes t [] us e = absurd cc
-skip_takes t (u ∷ ts) us e = let g = guard_some (bytes_eq u t) ts us e in let is : u ≡ t = (bytes_eq-Decides u t).0 g.0 in cc
+skip_takes t (u ∷ ts) us e = let g = cond_some (bytes_eq u t) ts us e in let is : u ≡ t = (bytes_eq-Decides u t).0 g.0 in cc
 
 pub skip_again : (t : Text) (us : List Text) → skip_at t (t ∷ us) ≡ Some us
 unfolding skip_at
@@ -34,7 +35,7 @@ skip_again t us = rw (next_again t us) refl
 pub one_takes : (p : Text → Bool) (ts : List Text) (x : Text × List Text) → one_at p ts ≡ Some x → (ts ≡ x.0 ∷ x.1) × (p x.0 ≡ true)
 unfolding one_at
 one_takes p [] x e = absurd cc
-one_takes p (u ∷ ts) x e = let g = guard_some (p u) (u, ts) x e in rw (← g.1) (refl, g.0)
+one_takes p (u ∷ ts) x e = let g = cond_some (p u) (u, ts) x e in rw (← g.1) (refl, g.0)
 
 pub one_again : (p : Text → Bool) (t : Text) (us : List Text) → p t ≡ true → one_at p (t ∷ us) ≡ Some (t, us)
 unfolding one_at
@@ -48,10 +49,6 @@ pub flag_again : (t : Text) (b : Bool) (us : List Text) → is_next t us ≡ fal
 unfolding flag_at
 flag_again t true us h = rw (next_again t us) refl
 flag_again t false us h = rw h refl
-
-pub not_true : (b : Bool) → not b ≡ true → b ≡ false
-not_true true e = absurd cc
-not_true false e = refl
 
 -- ---- what may be left out
 

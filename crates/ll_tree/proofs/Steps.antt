@@ -17,11 +17,6 @@ then P Q r f h k = record { at = λ x e. let b = bind_some r f x e in (k b.0 (h 
 pub gives : {C : Type 0} (y : C) (Q : C → Type 0) → Q y → Yields (Some y) Q
 gives y Q q = record { at = λ x e. let i : y ≡ x = cc in subst Q i q }
 
--- a test that did not fail
-pub guard_some : {A : Type 0} (b : Bool) (x y : A) → cond b (Some x) None ≡ Some y → (b ≡ true) × (x ≡ y)
-guard_some true x y e = (refl, cc)
-guard_some false x y e = absurd cc
-
 -- which way a test went
 pub chosen : {A : Type 0} (b : Bool) (x y z : A) → cond b x y ≡ z → ((b ≡ true) × (x ≡ z)) ⊎ ((b ≡ false) × (y ≡ z))
 chosen true x y z e = inl (refl, e)

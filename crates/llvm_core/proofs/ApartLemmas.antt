@@ -2,6 +2,7 @@
 use Rattle.std.proofs.Common.{◌≡◌, ◌<◌, ◌+◌, ℕ, zero, suc, List, [], ◌∷◌, Some, length, get_or, ap, sym, ◌∙◌, arith, All}
 use Rattle.std.proofs.lemmas.List.Elements.{All-head, All-tail}
 use Rattle.std.proofs.lemmas.Option.{slice_get_within}
+use Rattle.support.proofs.ListLaws.{item_there}
 use Rattle.llvm_core.specs.declared.numbers.LLVMType.{LLVMType}
 use Rattle.llvm_core.specs.declared.numbers.LLVMConst.{LLVMConst}
 use Rattle.llvm_core.specs.declared.types.LLVMTypeKind.{LLVMTypeKind}
@@ -13,7 +14,6 @@ use Rattle.llvm_core.specs.Parts.{IsTypeOver, IsConstOver}
 use Rattle.llvm_core.specs.Sound.{IsModule}
 use Rattle.llvm_core.specs.Data.{TypeTree, VoidType, ConstTree, IntConst, type_at, types_at, type_tree, type_trees, const_tree, const_trees, AreApart}
 use Rattle.llvm_core.proofs.TreeLemmas.{type_at-kind, const_at-kind}
-use Rattle.llvm_core.proofs.DataLemmas.{there}
 
 pub same_type : (x y : LLVMType) → x.0 ≡ y.0 → x ≡ y
 same_type x y e = ap (λ (n : ℕ). let t : LLVMType = record { 0 = n } in t) e
@@ -45,8 +45,8 @@ same_kinds ts n m known k l p q h = grind arith
 by_size : (m : Module) → IsModule m → (size : ℕ) (a b : LLVMType) → a.0 < size → b.0 < size → a.0 < length m.types → b.0 < length m.types → type_at (type_trees m.types) a ≡ type_at (type_trees m.types) b → a ≡ b
 by_size m s zero a b p q within_a within_b h = absurd (omega arith)
 by_size m s (suc size) a b p q within_a within_b h =
-    let k = there m.types a.0 within_a in
-    let l = there m.types b.0 within_b in
+    let k = item_there m.types a.0 within_a in
+    let l = item_there m.types b.0 within_b in
     let k_over = s.types a.0 k.0 k.1 in
     let l_over = s.types b.0 l.0 l.1 in
     let trees = sym (type_at-kind m.types a k.0 k.1 k_over) ∙ h ∙ type_at-kind m.types b l.0 l.1 l_over in
@@ -73,8 +73,8 @@ consts_apart : (m : Module) → IsModule m → (a b : LLVMConst) → a.0 < lengt
     → get_or (const_trees (type_trees m.types) m.consts) a.0 (IntConst VoidType 0) ≡ get_or (const_trees (type_trees m.types) m.consts) b.0 (IntConst VoidType 0) → a ≡ b
 consts_apart m s a b within_a within_b h =
     let ts = type_trees m.types in
-    let k = there m.consts a.0 within_a in
-    let l = there m.consts b.0 within_b in
+    let k = item_there m.consts a.0 within_a in
+    let l = item_there m.consts b.0 within_b in
     let trees = sym (const_at-kind ts m.consts a.0 k.0 k.1) ∙ h ∙ const_at-kind ts m.consts b.0 l.0 l.1 in
     let kinds = same_const_kinds m s (const_trees ts m.consts) k.0 l.0 (s.consts a.0 k.0 k.1) (s.consts b.0 l.0 l.1) trees in
     same_const a b (s.consts_once a.0 b.0 k.0 k.1 (l.1 ∙ ap Some (sym kinds)))

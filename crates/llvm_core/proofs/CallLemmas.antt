@@ -5,6 +5,7 @@ use Rattle.std.specs.Option.{option_map, option_map_or}
 use Rattle.std.proofs.lemmas.List.{append-nil}
 use Rattle.std.proofs.lemmas.List.Elements.{All-weaker, All-nil, All-cons, All-head, All-tail, filter_map-append}
 use Rattle.std.proofs.lemmas.Option.{slice_get_within}
+use Rattle.support.specs.Changes.{with_change}
 use Rattle.llvm_core.specs.declared.numbers.LLVMType.{LLVMType}
 use Rattle.llvm_core.specs.declared.numbers.LLVMConst.{LLVMConst}
 use Rattle.llvm_core.specs.declared.numbers.LLVMFunction.{LLVMFunction}
@@ -24,15 +25,14 @@ use Rattle.llvm_core.specs.declared.code.FunctionData.{FunctionData}
 use Rattle.llvm_core.specs.declared.code.BlockData.{BlockData}
 use Rattle.llvm_core.specs.declared.code.InstData.{InstData}
 use Rattle.llvm_core.specs.Module.{Module}
-use Rattle.llvm_core.specs.Code.{code_of, with_code, with_change, with_param_name, with_block, with_inst}
+use Rattle.llvm_core.specs.Code.{code_of, with_code, with_param_name, with_block, with_inst}
 use Rattle.llvm_core.specs.Parts.{IsValue, HasValues, IsEntry, IsResultOver, IsResultType, made_kind, result_type}
 use Rattle.llvm_core.specs.Sound.{IsModule, IsInstIn}
 use Rattle.llvm_core.specs.Data as d
 use Rattle.llvm_core.specs.Data.{Trees, type_at, const_at, trees_of, operand_of, entry_of, instruction_of, tree_of_result, result_tree, placed_of, placed_at, block_of, block_at, function_of, data_of, with_instruction_in, VoidType, IntConst, type_trees, const_trees}
-use Rattle.llvm_core.proofs.ChangeLemmas.{mapped_same, mapped_push, mapped_then, mapped_change, filter_map-same, filter_map-mapped, slice_get-before, slice_get-changed, slice_get-unchanged}
-use Rattle.llvm_core.proofs.ListLemmas.{slice_get-push}
+use Rattle.llvm_core.proofs.ChangeLemmas.{mapped_same, mapped_push, mapped_then, mapped_change, filter_map-same, filter_map-mapped, slice_get-changed, slice_get-unchanged}
+use Rattle.support.proofs.ListLaws.{slice_get-push, item_there, slice_get-before}
 use Rattle.llvm_core.proofs.TreeLemmas.{type_at-kept, type_at-kind, const_trees-retyped, const_at-kept}
-use Rattle.llvm_core.proofs.DataLemmas.{there}
 use Rattle.llvm_core.proofs.SoundLemmas.{made_only}
 use Rattle.llvm_core.proofs.WithinLemmas.{result_within}
 
@@ -238,7 +238,7 @@ module _ (m : Module) (b : LLVMBasicBlock) (i : LLVMInstRef) (x : InstData) (s :
 
   block_shown : (c : LLVMBasicBlock) → c.0 < length m.blocks → block_at (trees_of m) (with_change appended b.0 m.blocks) all c ≡ option_map shown (block_at (trees_of m) m.blocks m.insts c)
   block_shown c lt =
-      let y = there m.blocks c.0 lt in
+      let y = item_there m.blocks c.0 lt in
       ap (option_map (block_of (trees_of m) all c)) (by (nat_eq c.0 b.0) refl y.0 y.1)
       ∙ now (nat_eq c.0 b.0) refl y.0 y.1
       ∙ ap (λ o. option_map shown (option_map (block_of (trees_of m) m.insts c) o)) (sym y.1)

@@ -1,9 +1,9 @@
 -- Lists of numbered items whose store grows or changes.
-use Rattle.std.proofs.Common.{◌≡◌, ◌≢◌, ◌<◌, ◌+◌, ℕ, zero, suc, List, [], ◌∷◌, ◌++◌, Option, None, Some, length, slice_get, slice_set, map, ap, sym, ◌∙◌, refl, arith, All}
+use Rattle.std.proofs.Common.{◌≡◌, ◌≢◌, ◌+◌, ℕ, zero, suc, List, [], ◌∷◌, ◌++◌, Option, None, Some, length, slice_get, slice_set, map, ap, sym, ◌∙◌, refl, arith, All}
 use Rattle.std.specs.List.{filter_map, cons_option, enumerate_from}
 use Rattle.std.specs.Option.{option_map, option_map_or}
 use Rattle.std.proofs.lemmas.List.Elements.{All-head, All-tail}
-use Rattle.llvm_core.specs.Code.{with_change}
+use Rattle.support.specs.Changes.{with_change}
 
 pub mapped_same : {X Y : Type 0} (f g : ℕ × X → Y) (n : ℕ) (xs : List X) → ((k i : ℕ) (x : X) → k ≡ n + i → slice_get xs i ≡ Some x → f (k, x) ≡ g (k, x)) → map f (enumerate_from n xs) ≡ map g (enumerate_from n xs)
 mapped_same f g n [] same = refl
@@ -66,11 +66,6 @@ filter_map-mapped {X} {Y} f g h (x ∷ xs) all =
     by : (o : Option Y) → cons_option (option_map h o) (map h (filter_map g xs)) ≡ map h (cons_option o (filter_map g xs))
     by None = refl
     by (Some y) = refl
-
-pub slice_get-before : {X : Type 0} (xs ys : List X) (i : ℕ) → i < length xs → slice_get (xs ++ ys) i ≡ slice_get xs i
-slice_get-before [] ys i lt = absurd (omega arith)
-slice_get-before (x ∷ xs) ys zero lt = refl
-slice_get-before (x ∷ xs) ys (suc i) lt = slice_get-before xs ys i (omega arith)
 
 pub slice_get-changed : {X : Type 0} (c : X → X) (i : ℕ) (xs : List X) → slice_get (with_change c i xs) i ≡ option_map c (slice_get xs i)
 slice_get-changed c i [] = refl

@@ -1,6 +1,7 @@
 -- How module data change where one instruction does.
 use Rattle.std.proofs.Common.{◌≡◌, ◌≢◌, ℕ, Bool, true, false, nat_eq, List, Option, None, Some, slice_get, map, ap, sym, ◌∙◌, refl, arith, eq-eqb}
 use Rattle.std.specs.Option.{option_map}
+use Rattle.support.specs.Changes.{with_change}
 use Rattle.llvm_core.specs.declared.numbers.LLVMBasicBlock.{LLVMBasicBlock}
 use Rattle.llvm_core.specs.declared.numbers.LLVMInstRef.{LLVMInstRef}
 use Rattle.llvm_core.specs.declared.code.LLVMInst.{LLVMInst}
@@ -8,7 +9,7 @@ use Rattle.llvm_core.specs.declared.code.FunctionData.{FunctionData}
 use Rattle.llvm_core.specs.declared.code.BlockData.{BlockData}
 use Rattle.llvm_core.specs.declared.code.InstData.{InstData}
 use Rattle.llvm_core.specs.Module.{Module}
-use Rattle.llvm_core.specs.Code.{code_of, with_code, with_change, with_changed_inst}
+use Rattle.llvm_core.specs.Code.{code_of, with_code, with_changed_inst}
 use Rattle.llvm_core.specs.Data as d
 use Rattle.llvm_core.specs.Data.{Trees, trees_of, instruction_of, placed_of, placed_at, block_of, block_at, function_of, data_of}
 use Rattle.llvm_core.proofs.ChangeLemmas.{mapped_then, filter_map-mapped, slice_get-changed, slice_get-unchanged}

@@ -3,7 +3,8 @@ use Rattle.std.proofs.Common.{◌≡◌, ◌<◌, ◌+◌, ◌-◌, inl, inr, �
 use Rattle.std.specs.List.{list_any}
 use Rattle.std.specs.Option.{option_map, option_map_or}
 use Rattle.std.proofs.lemmas.List.{take_more, map-append}
-use Rattle.std.proofs.lemmas.Option.{slice_get_within, slice_get-get_or, slice_get-map, get_or_from_slice_get}
+use Rattle.std.proofs.lemmas.Option.{slice_get_within, slice_get-get_or, slice_get-map, get_or_from_slice_get, same_Some}
+use Rattle.support.proofs.ListLaws.{slice_get-take}
 use Rattle.llvm_core.specs.declared.numbers.LLVMInstRef.{LLVMInstRef}
 use Rattle.llvm_core.specs.declared.code.LLVMInst.{LLVMInst}
 use Rattle.llvm_core.specs.declared.code.FunctionData.{FunctionData}
@@ -15,8 +16,7 @@ use Rattle.llvm_core.specs.declared.check_err.CheckErr.TheVariants.{NoMemory, Na
 use Rattle.llvm_core.specs.Module.{Module}
 use Rattle.llvm_core.specs.Names.{Stands}
 use Rattle.llvm_core.specs.Checked.{Fails, MayAnswer, IsTaken, IsFreshName, IsCheckedFunction, IsCheckedBlock, IsCheckedInst, IsCheckedEdges, IsChecked, IsLong, is_bad_name, is_terminator, is_terminator_at, ends_in_only, names_before}
-use Rattle.llvm_core.proofs.ListLemmas.{some_same}
-use Rattle.llvm_core.proofs.NameLemmas.{slice_get-take, slice_get-taken}
+use Rattle.llvm_core.proofs.NameLemmas.{slice_get-taken}
 
 -- ---- names of functions
 
@@ -26,7 +26,7 @@ named_there m f n h = by (slice_get m.functions f) refl h
   where
     by : (o : Option FunctionData) → slice_get m.functions f ≡ o → option_map (λ (x : FunctionData). x.name) o ≡ Some n → (x : FunctionData) × (slice_get m.functions f ≡ Some x) × (x.name ≡ n)
     by None e h = cc
-    by (Some x) e h = (x, e, some_same x.name n h)
+    by (Some x) e h = (x, e, same_Some x.name n h)
 
 pub name_added : (m : Module) (f : ℕ) (n : List ℕ) → option_map (λ (x : FunctionData). x.name) (slice_get m.functions f) ≡ Some n → names_before m f ++ n ∷ [] ≡ names_before m (f + 1)
 name_added m f n h =
@@ -41,7 +41,7 @@ function_before fs g n h = by (slice_get fs g) refl (sym (slice_get-map (λ (x :
   where
     by : (o : Option FunctionData) → slice_get fs g ≡ o → option_map (λ (x : FunctionData). x.name) o ≡ Some n → (y : FunctionData) × (slice_get fs g ≡ Some y) × (y.name ≡ n)
     by None e h = cc
-    by (Some y) e h = (y, e, some_same y.name n h)
+    by (Some y) e h = (y, e, same_Some y.name n h)
 
 taken : (m : Module) (f : ℕ) (n : List ℕ) → Stands (names_before m f) n → IsTaken m f n
 taken m f n s = let y = function_before (take f m.functions) s.0 n s.1 in let r = slice_get-take f m.functions s.0 y.0 y.1 in (s.0, y.0, r.0, r.1, y.2)
@@ -55,7 +55,7 @@ name_taken m f n h s = let x = named_there m f n h in (x.0, x.1, inr (inl (taken
 
 pub name_fresh : (m : Module) (f : ℕ) (n : List ℕ) → option_map (λ (x : FunctionData). x.name) (slice_get m.functions f) ≡ Some n → is_bad_name n ≡ false → ¬ Stands (names_before m f) n → IsFreshName m f
 name_fresh m f n h good new x at =
-    let same : x.name ≡ n = some_same x.name n (ap (option_map (λ (x : FunctionData). x.name)) (sym at) ∙ h) in
+    let same : x.name ≡ n = same_Some x.name n (ap (option_map (λ (x : FunctionData). x.name)) (sym at) ∙ h) in
     (ap is_bad_name same ∙ good, λ t. new (rw (← same) (taken_stands m f x.name t)))
 
 -- ---- answers
@@ -74,7 +74,7 @@ module _ (m : Module) (b : ℕ) (insts : List LLVMInstRef) (read : option_map (�
       by : (o : Option BlockData) → option_map (λ (x : BlockData). x.insts) o ≡ Some insts → option_map (λ (x : BlockData). ends_in_only (is_terminator_at m) x.insts) o ≡ Some (last && not others)
       by None e = cc
       by (Some x) e =
-          let same : x.insts ≡ insts = some_same x.insts insts e in
+          let same : x.insts ≡ insts = same_Some x.insts insts e in
           ap (λ is. Some (ends_in_only (is_terminator_at m) is)) same ∙ ap (λ l. Some (l && not (list_any (is_terminator_at m) (take (length insts - 1) insts)))) p ∙ ap (λ l. Some (last && not l)) q
 
 -- whether the instruction that was read last ends its block
@@ -84,7 +84,7 @@ last_ends m insts d inst r lt at is = ap (λ o. option_map_or (is_terminator_at 
   where
     by : (o : Option InstData) → option_map (λ (x : InstData). x.inst) o ≡ Some inst → option_map_or (λ (x : InstData). is_terminator x.inst) o false ≡ is_terminator inst
     by None e = cc
-    by (Some x) e = ap is_terminator (some_same x.inst inst e)
+    by (Some x) e = ap is_terminator (same_Some x.inst inst e)
 
 -- ---- all rules
 

@@ -3,6 +3,8 @@ use Rattle.std.proofs.Common.{◌≡◌, ◌≢◌, ◌<◌, ◌||◌, inl, inr,
 use Rattle.std.specs.List.{flat_map}
 use Rattle.std.specs.Option.{option_map_or}
 use Rattle.std.proofs.lemmas.Bool.{cases_eq, cases_Bool, eqb-true, not-false, or_parts, false_from_ne_true, true_from_ne_false}
+use Rattle.std.proofs.lemmas.Option.{same_Some}
+use Rattle.support.proofs.ListLaws.{all_from, item_there, in_joined, from_joined}
 use Rattle.llvm_core.specs.declared.numbers.LLVMFunction.{LLVMFunction}
 use Rattle.llvm_core.specs.declared.numbers.LLVMBasicBlock.{LLVMBasicBlock}
 use Rattle.llvm_core.specs.declared.numbers.LLVMInstRef.{LLVMInstRef}
@@ -21,9 +23,7 @@ use Rattle.llvm_core.specs.Sound.{IsModule}
 use Rattle.llvm_core.specs.Data.{Placed, Block, trees_of, instruction_of, data_of}
 use Rattle.llvm_core.specs.Checked.{IsChecked, MisfitsType, misfits_count, home, ends_in_only, is_block_outside, is_outside, reaches_outside}
 use Rattle.llvm_core.specs.Form.{IsForm, IsFormFunction, IsFormBlock, IsFormInstruction, IsNarrow, IsNarrowFunction, IsNarrowBlock, IsNarrowPlaced, HasPhisFirst, count_types, is_last, is_phi}
-use Rattle.llvm_core.proofs.ListLemmas.{some_same}
-use Rattle.llvm_core.proofs.DataLemmas.{there, within_at, function_at}
-use Rattle.llvm_core.proofs.GivenLemmas.{all_at, in_joined, from_joined}
+use Rattle.llvm_core.proofs.DataLemmas.{within_at, function_at}
 use Rattle.llvm_core.proofs.FormTypes.{numbered, signature_of, param_types_are, count_is}
 use Rattle.llvm_core.proofs.FormPlaces.{shown, shown_inst, same_block_ends, same_phi_at, inst_place, IsFromBlock, block_from, IsFromInst, inst_from}
 use Rattle.llvm_core.proofs.FormEdges.{StaysInside, count_present, same_edges}
@@ -37,14 +37,14 @@ target_inside : (m : Module) (f : LLVMFunction) (i : LLVMInst) (k t : ℕ) → H
 target_inside m f (I.Add lhs rhs flags) k t here inside at = cc
 target_inside m f (I.ICmp lhs rhs predicate) k t here inside at = cc
 target_inside m f (I.Phi type entries) k t here inside at = cc
-target_inside m f (I.Br target) zero t here inside at = rw (← some_same target.0 t at) (here, inside)
+target_inside m f (I.Br target) zero t here inside at = rw (← same_Some target.0 t at) (here, inside)
 target_inside m f (I.Br target) (suc k) t here inside at = cc
 target_inside m f (I.CondBr condition first second) zero t here inside at =
     let outer = or_parts (is_outside m f condition || is_block_outside m f first) (is_block_outside m f second) inside in
-    rw (← some_same first.0 t at) (here.1, (or_parts (is_outside m f condition) (is_block_outside m f first) outer.0).1)
+    rw (← same_Some first.0 t at) (here.1, (or_parts (is_outside m f condition) (is_block_outside m f first) outer.0).1)
 target_inside m f (I.CondBr condition first second) (suc zero) t here inside at =
     let outer = or_parts (is_outside m f condition || is_block_outside m f first) (is_block_outside m f second) inside in
-    rw (← some_same second.0 t at) (here.2, outer.1)
+    rw (← same_Some second.0 t at) (here.2, outer.1)
 target_inside m f (I.CondBr condition first second) (suc (suc k)) t here inside at = cc
 target_inside m f (I.Ret value) k t here inside at = cc
 target_inside m f I.Unreachable k t here inside at = cc
@@ -66,7 +66,7 @@ module _ (m : Module) (sound : IsModule m) (checked : IsChecked m) where
   edge_from p y k t is led =
       let whole : slice_get (flat_map (targets_at m) y.insts) k ≡ Some t = sym (ap (λ o. slice_get (option_map_or (λ (b : BlockData). flat_map (targets_at m) b.insts) o []) k) is) ∙ led in
       let part = from_joined (targets_at m) y.insts k t whole in
-      let z = there m.insts part.2.0 (within_at y.insts (λ (i : LLVMInstRef). i.0 < length m.insts) (sound.blocks p y is).insts part.0 part.2 part.3) in
+      let z = item_there m.insts part.2.0 (within_at y.insts (λ (i : LLVMInstRef). i.0 < length m.insts) (sound.blocks p y is).insts part.0 part.2 part.3) in
       let block : slice_get m.blocks z.0.block.0 ≡ Some y = ap (slice_get m.blocks) (sound.owned_insts p y is part.0 part.2 z.0 part.3 z.1) ∙ is in
       record {
         number = part.2.0;
@@ -82,7 +82,7 @@ module _ (m : Module) (sound : IsModule m) (checked : IsChecked m) where
   stays_inside p y k t is led =
       let e = edge_from p y k t is led in
       let r = target_inside m (home m e.inst) e.inst.inst e.place t (sound.insts e.number e.inst e.here).values (inside_at e.number e.inst e.here) e.leads in
-      let z = there m.blocks t r.0 in
+      let z = item_there m.blocks t r.0 in
       let same : z.0.function.0 ≡ (home m e.inst).0 = eqb-true z.0.function.0 (home m e.inst).0 (not-false (nat_eq z.0.function.0 (home m e.inst).0) (rw z.1 at r.1)) in
       (z.0, z.1, same ∙ ap (λ (g : LLVMFunction). g.0) e.home_is)
 
@@ -144,7 +144,7 @@ module _ (m : Module) (sound : IsModule m) (checked : IsChecked m) where
       block_form : IsFormBlock (shown m f x) c
       block_form = record {
         label = short.label;
-        instructions = all_at (λ (p : Placed). IsFormInstruction (shown m f x) c.number p p.instruction) c.instructions each_inst;
+        instructions = all_from (λ (p : Placed). IsFormInstruction (shown m f x) c.number p p.instruction) c.instructions each_inst;
         phis = phis_first;
         ends = true_from_ne_false (ends_in_only is_last c.instructions) (λ open_end.
             let same = same_block_ends m (record { 0 = l.number }) l.block sound l.here ∙ ap (λ (d : Block). ends_in_only is_last d.instructions) (sym l.shown_as) in
@@ -167,7 +167,7 @@ module _ (m : Module) (sound : IsModule m) (checked : IsChecked m) where
           params = (sound.functions f x at).params ∙ ap length (param_types_are m f x narrow.result narrow.types sound at s) ∙ sym (count_is (trees_of m).types s.params) ∙ ap count_types s.params_are;
           param_names = narrow.param_names;
           body = narrow.body;
-          blocks = all_at (IsFormBlock (shown m f x)) (shown m f x).blocks (λ k c is.
+          blocks = all_from (IsFormBlock (shown m f x)) (shown m f x).blocks (λ k c is.
               block_form k c (block_from m f x k c sound at is) (within_at (shown m f x).blocks (IsNarrowBlock (shown m f x)) narrow.blocks k c is));
           block_numbers = narrow.block_numbers;
           numbers = narrow.numbers;

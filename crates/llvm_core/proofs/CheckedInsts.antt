@@ -2,7 +2,8 @@
 use Rattle.std.proofs.Common.{◌≡◌, ◌≢◌, inl, inr, ℕ, zero, suc, true, false, nat_eq, ◌||◌, List, [], ◌∷◌, Option, None, Some, map, slice_get, refl, sym, ap, subst, ◌∙◌, All}
 use Rattle.std.specs.Option.{option_map, option_map_or}
 use Rattle.std.proofs.lemmas.Bool.{cases_eq, eqb-true, not-false, or_parts, true_from_ne_false}
-use Rattle.std.proofs.lemmas.Option.{slice_get-map}
+use Rattle.std.proofs.lemmas.Option.{slice_get-map, same_Some}
+use Rattle.support.proofs.ListLaws.{all_from, item_there}
 use Rattle.llvm_core.specs.declared.numbers.LLVMType.{LLVMType}
 use Rattle.llvm_core.specs.declared.numbers.LLVMBasicBlock.{LLVMBasicBlock}
 use Rattle.llvm_core.specs.declared.types.ResultType.TheVariants as R
@@ -20,11 +21,10 @@ use Rattle.llvm_core.specs.Names.{IsPlainOrNone}
 use Rattle.llvm_core.specs.Data.{VoidType, IntType, Operand, Placed, Block, type_at, trees_of, entry_of, operand_of, instruction_of, operand_type}
 use Rattle.llvm_core.specs.Checked.{is_void, is_bit, return_type, returns_void, MisfitsType, misfits_count, is_outside, is_block_outside, is_entry_outside, reaches_outside, MisfitsEdges, sources}
 use Rattle.llvm_core.specs.Form.{IsShortInt, IsOperand, IsTarget, FitsEdges, HasNoResult, edges_between, result_of, IsFormInstruction, operands_of}
-use Rattle.llvm_core.proofs.ListLemmas.{some_same}
-use Rattle.llvm_core.proofs.DataLemmas.{there, within_at, void_tree_of, int_tree_of}
+use Rattle.llvm_core.proofs.DataLemmas.{within_at, void_tree_of, int_tree_of}
 use Rattle.llvm_core.proofs.PhiLemmas.{same_block}
 use Rattle.llvm_core.proofs.DecideLemmas.{void_there, bit_there, type_decided, both_agree, value_decided}
-use Rattle.llvm_core.proofs.GivenLemmas.{all_at, none_any_at}
+use Rattle.llvm_core.proofs.GivenLemmas.{none_any_at}
 use Rattle.llvm_core.proofs.FormTypes.{numbered, signature_of, function_typed, return_type_is}
 use Rattle.llvm_core.proofs.FormPlaces.{shown, shown_block, block_place}
 use Rattle.llvm_core.proofs.FormEdges.{same_sources}
@@ -36,7 +36,7 @@ entry_from m entries k o at = by (slice_get entries k) refl (sym (slice_get-map 
   where
     by : (p : Option PhiEntry) → slice_get entries k ≡ p → option_map (entry_of (trees_of m)) p ≡ Some o → (e : PhiEntry) × (slice_get entries k ≡ Some e) × (entry_of (trees_of m) e ≡ o)
     by None e h = absurd cc
-    by (Some d) e h = (d, e, some_same (entry_of (trees_of m) d) o h)
+    by (Some d) e h = (d, e, same_Some (entry_of (trees_of m) d) o h)
 
 -- what the rules say of an instruction in a block of the number b of the function f, with a result of the type ty
 pub record MeetsRules (m : Module) (f b : ℕ) (ty : LLVMType) (i : LLVMInst) : Type 0 where
@@ -58,7 +58,7 @@ module _ (m : Module) (f : ℕ) (x : FunctionData) (sound : IsModule m) (at : sl
   is_operand v t here inside short is =
       let stands = value_stands m f x sound at v here inside in
       let h = value_typed m f x sound at v here stands in
-      let same : h.type ≡ t = some_same h.type t (sym h.type_is ∙ is) in
+      let same : h.type ≡ t = same_Some h.type t (sym h.type_is ∙ is) in
       let typed : operand_type (shown m f x) (operand_of (trees_of m) v) ≡ type_at (trees_of m).types t = sym h.tree_is ∙ ap (type_at (trees_of m).types) same in
       record { stands = stands; typed = typed; short = subst IsShortInt typed short }
 
@@ -74,7 +74,7 @@ module _ (m : Module) (f : ℕ) (x : FunctionData) (sound : IsModule m) (at : sl
   -- a block of the function that is not the first
   is_target : (b : LLVMBasicBlock) → IsBlock m b → is_block_outside m (numbered f) b ≡ false → slice_get x.blocks 0 ≢ Some b → IsTarget (shown m f x) b.0
   is_target b here inside behind =
-      let y = there m.blocks b.0 here in
+      let y = item_there m.blocks b.0 here in
       let home : y.0.function.0 ≡ f = eqb-true y.0.function.0 f (not-false (nat_eq y.0.function.0 f) (rw y.1 at inside)) in
       let p = block_place m f x b.0 y.0 sound at y.1 home in
       by p.place p.listed (shown_block m b.0 y.0) p.here refl
@@ -176,7 +176,7 @@ module _ (m : Module) (f : ℕ) (x : FunctionData) (sound : IsModule m) (at : sl
         )
     form_of (I.Phi type entries) h short edges behind =
         let first = some_entry type entries h in
-        let each : All (λ (o : Operand × ℕ). IsOperand (shown m f x) placed.type o.0) (map (entry_of (trees_of m)) entries) = all_at (λ (o : Operand × ℕ). IsOperand (shown m f x) placed.type o.0) (map (entry_of (trees_of m)) entries) (λ k o is.
+        let each : All (λ (o : Operand × ℕ). IsOperand (shown m f x) placed.type o.0) (map (entry_of (trees_of m)) entries) = all_from (λ (o : Operand × ℕ). IsOperand (shown m f x) placed.type o.0) (map (entry_of (trees_of m)) entries) (λ k o is.
         let e = entry_from m entries k o is in
         subst (λ (o : Operand × ℕ). IsOperand (shown m f x) placed.type o.0) e.2 (entry_operand type entries h short k e.0 e.1)) in
         (each, phi_fits type entries h edges, (entry_operand type entries h short 0 first.0 first.1).short, name)

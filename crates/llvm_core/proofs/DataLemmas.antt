@@ -5,6 +5,7 @@ use Rattle.std.specs.Option.{option_map}
 use Rattle.std.proofs.lemmas.List.{length-map}
 use Rattle.std.proofs.lemmas.List.FromFn.{length-enumerate_from}
 use Rattle.std.proofs.lemmas.List.Elements.{All-head, All-tail}
+use Rattle.support.proofs.ListLaws.{item_there}
 use Rattle.llvm_core.specs.declared.numbers.LLVMType.{LLVMType}
 use Rattle.llvm_core.specs.declared.numbers.LLVMConst.{LLVMConst}
 use Rattle.llvm_core.specs.declared.numbers.LLVMBasicBlock.{LLVMBasicBlock}
@@ -83,17 +84,11 @@ within_at [] P all i x at = cc
 within_at (y ∷ xs) P all zero x at = let same : y ≡ x = (cc) in rw (← same) (All-head P y xs all)
 within_at (y ∷ xs) P all (suc i) x at = within_at xs P (All-tail P y xs all) i x at
 
--- a number within a list has an item there
-pub there : {X : Type 0} (xs : List X) (i : ℕ) → i < length xs → (x : X) × (slice_get xs i ≡ Some x)
-there [] i lt = absurd (omega arith)
-there (x ∷ xs) zero lt = (x, refl)
-there (x ∷ xs) (suc i) lt = there xs i (omega arith)
-
 pub blocks_there : (m : Module) (bs : List LLVMBasicBlock) → All (λ (b : LLVMBasicBlock). b.0 < length m.blocks) bs → (i : ℕ) (b : LLVMBasicBlock) → slice_get bs i ≡ Some b → (y : Block) × (block_at (trees_of m) m.blocks m.insts b ≡ Some y)
-blocks_there m bs all i b at = let x = there m.blocks b.0 (within_at bs (λ (b : LLVMBasicBlock). b.0 < length m.blocks) all i b at) in (block_of (trees_of m) m.insts b x.0, ap (option_map (block_of (trees_of m) m.insts b)) x.1)
+blocks_there m bs all i b at = let x = item_there m.blocks b.0 (within_at bs (λ (b : LLVMBasicBlock). b.0 < length m.blocks) all i b at) in (block_of (trees_of m) m.insts b x.0, ap (option_map (block_of (trees_of m) m.insts b)) x.1)
 
 pub insts_there : (m : Module) (is : List LLVMInstRef) → All (λ (i : LLVMInstRef). i.0 < length m.insts) is → (j : ℕ) (i : LLVMInstRef) → slice_get is j ≡ Some i → (y : Placed) × (placed_at (trees_of m) m.insts i ≡ Some y)
-insts_there m is all j i at = let x = there m.insts i.0 (within_at is (λ (i : LLVMInstRef). i.0 < length m.insts) all j i at) in (placed_of (trees_of m) i x.0, ap (option_map (placed_of (trees_of m) i)) x.1)
+insts_there m is all j i at = let x = item_there m.insts i.0 (within_at is (λ (i : LLVMInstRef). i.0 < length m.insts) all j i at) in (placed_of (trees_of m) i x.0, ap (option_map (placed_of (trees_of m) i)) x.1)
 
 -- the blocks of a function: as many as its numbers of blocks, and at each place that of its number
 pub block_count_of : (m : Module) (f : ℕ) (x : FunctionData) → IsModule m → slice_get m.functions f ≡ Some x → length (function_of (trees_of m) m.blocks m.insts (f, x)).blocks ≡ length x.blocks

@@ -2,21 +2,20 @@
 use Rattle.std.proofs.Common.{◌≡◌, ◌<◌, ◌^◌, inl, inr, ℕ, List, Option, None, Some, length, slice_get, map, refl, sym, ap, subst, ◌∙◌, arith, All}
 use Rattle.std.specs.Option.{option_map}
 use Rattle.std.proofs.lemmas.Bool.{cases_order}
-use Rattle.std.proofs.lemmas.Option.{slice_get_within, slice_get-map, get_or_from_slice_get}
+use Rattle.std.proofs.lemmas.Option.{slice_get_within, slice_get-map, get_or_from_slice_get, same_Some}
 use Rattle.std.proofs.Math.Nat.{lt_of_not-le}
+use Rattle.support.proofs.ListLaws.{all_from, item_there}
 use Rattle.llvm_core.specs.declared.code.FunctionData.{FunctionData}
 use Rattle.llvm_core.specs.declared.check_err.Place.TheVariants as P
 use Rattle.llvm_core.specs.declared.check_err.CheckErr.TheVariants.{NameTwice, ListTooLong}
 use Rattle.llvm_core.specs.Module.{Module}
-use Rattle.llvm_core.specs.Interned.{IsDistinctList}
+use Rattle.support.specs.Interned.{IsDistinctList}
 use Rattle.llvm_core.specs.Names.{HasTwice}
 use Rattle.llvm_core.specs.Sound.{IsModule}
 use Rattle.llvm_core.specs.Data.{Placed, Block, Function, placed_in, data_of}
 use Rattle.llvm_core.specs.Checked.{IsChecked}
 use Rattle.llvm_core.specs.Form.{local_names, HasDistinctNames, IsFewIn, HasFew, operands_of}
-use Rattle.llvm_core.proofs.ListLemmas.{some_same}
-use Rattle.llvm_core.proofs.DataLemmas.{there, function_at, function_count, block_count_of, inst_count_of}
-use Rattle.llvm_core.proofs.GivenLemmas.{all_at}
+use Rattle.llvm_core.proofs.DataLemmas.{function_at, function_count, block_count_of, inst_count_of}
 use Rattle.llvm_core.proofs.FormNames.{same_local_names, distinct_of_once}
 use Rattle.llvm_core.proofs.FormPlaces.{shown, block_from, own_inst}
 use Rattle.llvm_core.proofs.FormInsts.{same_operand_count}
@@ -25,7 +24,7 @@ use Rattle.llvm_core.proofs.FormInsts.{same_operand_count}
 pub each_function : (m : Module) (P : Function → Type 0) → ((f : ℕ) (x : FunctionData) → slice_get m.functions f ≡ Some x → P (shown m f x)) → All P (data_of m).functions
 each_function m P each k d lt =
     let count = function_count m in
-    let x = there m.functions k (omega (arith, lt, count)) in
+    let x = item_there m.functions k (omega (arith, lt, count)) in
     subst P (sym (get_or_from_slice_get (data_of m).functions k (shown m k x.0) d (function_at m k x.0 x.1))) (each k x.0 x.1)
 
 -- a block of a function's data is listed at the place where it stands
@@ -36,7 +35,7 @@ block_listed m f x place n sound at h = by (slice_get (shown m f x).blocks place
     by None e h = absurd cc
     by (Some c) e h =
         let l = block_from m f x place c sound at e in
-        l.listed ∙ ap (λ (k : ℕ). Some (record { 0 = k })) (ap (λ (d : Block). d.number) (sym l.shown_as) ∙ some_same c.number n h)
+        l.listed ∙ ap (λ (k : ℕ). Some (record { 0 = k })) (ap (λ (d : Block). d.number) (sym l.shown_as) ∙ same_Some c.number n h)
 
 -- no two blocks of a function's data have one number
 pub blocks_once : (m : Module) (f : ℕ) (x : FunctionData) → IsModule m → slice_get m.functions f ≡ Some x → IsDistinctList (map (λ (c : Block). c.number) (shown m f x).blocks)
@@ -54,9 +53,9 @@ module _ (m : Module) (checked : IsChecked m) where
       by (Some g) e h =
           let count = function_count m in
           let within = slice_get_within (data_of m).functions i g e in
-          let x = there m.functions i (omega (arith, within, count)) in
-          let same = some_same g (shown m i x.0) (sym e ∙ function_at m i x.0 x.1) in
-          (x.0, x.1, ap (λ (f : Function). f.name) (sym same) ∙ some_same g.name n h)
+          let x = item_there m.functions i (omega (arith, within, count)) in
+          let same = same_Some g (shown m i x.0) (sym e ∙ function_at m i x.0 x.1) in
+          (x.0, x.1, ap (λ (f : Function). f.name) (sym same) ∙ same_Some g.name n h)
 
   no_later : (i j : ℕ) (n : List ℕ) → i < j → slice_get (map (λ (f : Function). f.name) (data_of m).functions) i ≡ Some n → slice_get (map (λ (f : Function). f.name) (data_of m).functions) j ≡ Some n → ⊥
   no_later i j n lt at_i at_j =
@@ -111,8 +110,8 @@ module _ (m : Module) (checked : IsChecked m) where
     few_in = record {
       params = lt_of_not-le (λ long. checked (ListTooLong (P.Function f)) (x, at, inl long));
       blocks = few_blocks;
-      instructions = all_at (λ (c : Block). length c.instructions < 2 ^ 31) (shown m f x).blocks few_instructions;
-      operands = all_at (λ (p : Placed). length (operands_of p.instruction) < 2 ^ 31) (placed_in (shown m f x)) few_operands;
+      instructions = all_from (λ (c : Block). length c.instructions < 2 ^ 31) (shown m f x).blocks few_instructions;
+      operands = all_from (λ (p : Placed). length (operands_of p.instruction) < 2 ^ 31) (placed_in (shown m f x)) few_operands;
     }
 
   -- lists of fewer than 2^31 entries

@@ -15,8 +15,7 @@ use Rattle.llvm_core.specs.declared.numbers.LLVMInstRef.{LLVMInstRef}
 use Rattle.llvm_core.specs.Module.{Module}
 use Rattle.llvm_core.specs.Parts.{HasValues}
 use Rattle.llvm_core.specs.Edges.{count_of, targets, targets_at, targets_from, edge_count, tally, Gains}
-use Rattle.llvm_core.proofs.ListLemmas.{slice_get-push_cases, slice_get-set_same, slice_get-set_other, length-slice_set}
-use Rattle.llvm_core.proofs.DataLemmas.{there}
+use Rattle.support.proofs.ListLaws.{slice_get-push_cases, slice_get-set_same, slice_get-set_other, length-slice_set, item_there}
 
 -- ---- counts
 
@@ -120,7 +119,7 @@ module _ (ls : List (List ℕ)) (p t : ℕ) (l : List ℕ) (at : slice_get ls t 
 -- the same where the list was read by its place
 pub gains_pushed : (ls : List (List ℕ)) (p t : ℕ) (d new : List ℕ) → t < length ls → new ≡ get_or ls t d ++ p ∷ [] → Gains ls (slice_set ls t new) p (t ∷ [])
 gains_pushed ls p t d new lt last =
-    let h = there ls t lt in
+    let h = item_there ls t lt in
     rw (last, get_or_from_slice_get ls t h.0 d h.1) (gains_one ls p t h.0 h.1)
 
 -- lists without numbers tally nothing, also with one more of them

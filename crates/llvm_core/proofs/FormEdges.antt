@@ -4,7 +4,7 @@ use Rattle.std.specs.List.{flat_map}
 use Rattle.std.specs.Option.{option_map, option_map_or}
 use Rattle.std.proofs.lemmas.Bool.{cases_eq}
 use Rattle.std.proofs.lemmas.List.{append-nil}
-use Rattle.std.proofs.lemmas.Option.{slice_get-map}
+use Rattle.std.proofs.lemmas.Option.{slice_get-map, same_Some}
 use Rattle.llvm_core.specs.declared.numbers.LLVMInstRef.{LLVMInstRef}
 use Rattle.llvm_core.specs.declared.code.LLVMInst.{LLVMInst}
 use Rattle.llvm_core.specs.declared.code.LLVMInst.TheVariants as I
@@ -13,14 +13,13 @@ use Rattle.llvm_core.specs.declared.code.FunctionData.{FunctionData}
 use Rattle.llvm_core.specs.declared.code.BlockData.{BlockData}
 use Rattle.llvm_core.specs.declared.code.InstData.{InstData}
 use Rattle.llvm_core.specs.Module.{Module}
-use Rattle.llvm_core.specs.Interned.{IsDistinctList}
+use Rattle.support.specs.Interned.{IsDistinctList}
 use Rattle.llvm_core.specs.Sound.{IsModule}
 use Rattle.llvm_core.specs.Edges.{count_of, targets_at, targets_from, edge_count}
 use Rattle.llvm_core.specs.Edges.{targets as leads_to}
 use Rattle.llvm_core.specs.Data.{Operand, Placed, Block, Function, trees_of, entry_of, instruction_of, placed_of, placed_at, targets}
 use Rattle.llvm_core.specs.Checked.{sources}
 use Rattle.llvm_core.specs.Form.{targets_of, edges_between}
-use Rattle.llvm_core.proofs.ListLemmas.{some_same}
 use Rattle.llvm_core.proofs.EdgeLemmas.{count-cons, one_here, one_other}
 use Rattle.llvm_core.proofs.GivenLemmas.{flat_map-filter_map, picked_none, picked_one, picked_cases}
 use Rattle.llvm_core.proofs.FormPlaces.{shown, shown_block, block_place, block_from}
@@ -34,7 +33,7 @@ count_absent n (x ∷ xs) none = omega (arith, count-cons n x xs, one_other n x 
 
 pub count_present : (n : ℕ) (xs : List ℕ) (i : ℕ) → slice_get xs i ≡ Some n → count_of n xs ≢ 0
 count_present n [] i at e = cc
-count_present n (x ∷ xs) zero at e = absurd (omega (arith, e, count-cons n x xs, one_here n x (let same : n ≡ x = sym (some_same x n at) in same)))
+count_present n (x ∷ xs) zero at e = absurd (omega (arith, e, count-cons n x xs, one_here n x (let same : n ≡ x = sym (same_Some x n at) in same)))
 count_present n (x ∷ xs) (suc i) at e = count_present n xs i at (let h = count-cons n x xs in omega (arith, e, h))
 
 -- ---- targets
@@ -105,7 +104,7 @@ module _ (m : Module) (f : ℕ) (x : FunctionData) (sound : IsModule m) (at : sl
   none_from_other : (p b : ℕ) (y z : BlockData) → slice_get m.blocks p ≡ Some y → y.function.0 ≢ f → slice_get m.blocks b ≡ Some z → z.function.0 ≡ f → edge_count m p b ≡ 0
   none_from_other p b y z is other is_b own = count_absent b (targets_from m p) (λ k t there same.
       let w = inside p y k t is there in
-      let twin : w.0 ≡ z = some_same w.0 z (sym w.1 ∙ ap (slice_get m.blocks) same ∙ is_b) in
+      let twin : w.0 ≡ z = same_Some w.0 z (sym w.1 ∙ ap (slice_get m.blocks) same ∙ is_b) in
       other (sym w.2 ∙ ap (λ (c : BlockData). c.function.0) twin ∙ own))
 
   -- as many edges lead to a block of the function in its data as in the module
@@ -116,5 +115,5 @@ module _ (m : Module) (f : ℕ) (x : FunctionData) (sound : IsModule m) (at : sl
       by None e = none_between p b (λ y is own_y. cc) ∙ sym (ap (λ o. count_of b (option_map_or (λ (x : BlockData). flat_map (targets_at m) x.insts) o [])) e)
       by (Some y) e = elim (cases_eq y.function.0 f) [
         | inl here ↦ between_own p b y e here
-        | inr other ↦ none_between p b (λ w is own_w. other (ap (λ (c : BlockData). c.function.0) (some_same y w (sym e ∙ is)) ∙ own_w)) ∙ sym (none_from_other p b y z e other is_b own)
+        | inr other ↦ none_between p b (λ w is own_w. other (ap (λ (c : BlockData). c.function.0) (same_Some y w (sym e ∙ is)) ∙ own_w)) ∙ sym (none_from_other p b y z e other is_b own)
       ]

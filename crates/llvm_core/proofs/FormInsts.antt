@@ -3,7 +3,7 @@ use Rattle.std.proofs.Common.{◌≡◌, ◌≢◌, ◌<◌, inl, inr, ℕ, zero
 use Rattle.std.specs.Option.{option_map, option_map_or}
 use Rattle.std.proofs.lemmas.Bool.{or_from}
 use Rattle.std.proofs.lemmas.List.{length-map}
-use Rattle.std.proofs.lemmas.Option.{slice_get-map}
+use Rattle.std.proofs.lemmas.Option.{slice_get-map, same_Some}
 use Rattle.llvm_core.specs.declared.numbers.LLVMType.{LLVMType}
 use Rattle.llvm_core.specs.declared.numbers.LLVMBasicBlock.{LLVMBasicBlock}
 use Rattle.llvm_core.specs.declared.types.ResultType.TheVariants as R
@@ -21,8 +21,7 @@ use Rattle.llvm_core.specs.Data.{TypeTree, IntType, Operand, Instruction, Consta
 use Rattle.llvm_core.specs.Data as D
 use Rattle.llvm_core.specs.Checked.{return_type, is_bit, MisfitsType, HasOtherType, HasTwoValues, misfits_count, HasNoPreds, is_outside, is_block_outside, is_entry_outside, reaches_outside, MisfitsEdges, sources}
 use Rattle.llvm_core.specs.Form.{IsShortInt, IsOperand, IsTarget, FitsEdges, edges_between, result_of, IsFormInstruction, IsFormFunction, operands_of}
-use Rattle.llvm_core.proofs.ListLemmas.{some_same}
-use Rattle.llvm_core.proofs.DataLemmas.{there, within_at}
+use Rattle.llvm_core.proofs.DataLemmas.{within_at}
 use Rattle.llvm_core.proofs.GivenLemmas.{none_any}
 use Rattle.llvm_core.proofs.FormTypes.{HasSignature, numbered, signature_of, short_is_int, short_has_value, bit_is_bit, return_type_is, returns_nothing, returns_value}
 use Rattle.llvm_core.proofs.FormPlaces.{shown, block_from}
@@ -78,10 +77,10 @@ pub leads_behind : (g : Function) (b : ℕ) (p : Placed) (i : Instruction) (k t 
 leads_behind g b p (D.Add lhs rhs flags) k t form at = cc
 leads_behind g b p (D.ICmp lhs rhs predicate) k t form at = cc
 leads_behind g b p (D.Phi entries) k t form at = cc
-leads_behind g b p (D.Br target) zero t form at = subst (IsTarget g) (some_same target t at) form.0
+leads_behind g b p (D.Br target) zero t form at = subst (IsTarget g) (same_Some target t at) form.0
 leads_behind g b p (D.Br target) (suc k) t form at = cc
-leads_behind g b p (D.CondBr condition first second) zero t form at = subst (IsTarget g) (some_same first t at) form.1
-leads_behind g b p (D.CondBr condition first second) (suc zero) t form at = subst (IsTarget g) (some_same second t at) form.2
+leads_behind g b p (D.CondBr condition first second) zero t form at = subst (IsTarget g) (same_Some first t at) form.1
+leads_behind g b p (D.CondBr condition first second) (suc zero) t form at = subst (IsTarget g) (same_Some second t at) form.2
 leads_behind g b p (D.CondBr condition first second) (suc (suc k)) t form at = cc
 leads_behind g b p (D.Return value) k t form at = cc
 leads_behind g b p D.Unreachable k t form at = cc

@@ -2,7 +2,8 @@
 use Rattle.std.proofs.Common.{◌≡◌, ◌≢◌, ◌<◌, ◌^◌, inl, inr, ℕ, suc, true, false, [], Option, None, Some, length, slice_get, map, refl, sym, ap, subst, ◌∙◌, arith}
 use Rattle.std.specs.List.{flat_map}
 use Rattle.std.specs.Option.{option_map, option_map_or}
-use Rattle.std.proofs.lemmas.Option.{slice_get-map}
+use Rattle.std.proofs.lemmas.Option.{slice_get-map, same_Some}
+use Rattle.support.proofs.ListLaws.{item_there, from_joined}
 use Rattle.llvm_core.specs.declared.numbers.LLVMFunction.{LLVMFunction}
 use Rattle.llvm_core.specs.declared.numbers.LLVMBasicBlock.{LLVMBasicBlock}
 use Rattle.llvm_core.specs.declared.numbers.LLVMInstRef.{LLVMInstRef}
@@ -10,7 +11,7 @@ use Rattle.llvm_core.specs.declared.code.FunctionData.{FunctionData}
 use Rattle.llvm_core.specs.declared.code.BlockData.{BlockData}
 use Rattle.llvm_core.specs.declared.code.InstData.{InstData}
 use Rattle.llvm_core.specs.Module.{Module}
-use Rattle.llvm_core.specs.Interned.{IsDistinctList}
+use Rattle.support.specs.Interned.{IsDistinctList}
 use Rattle.llvm_core.specs.Edges.{count_of, targets_at, targets_from, edge_count}
 use Rattle.llvm_core.specs.Parts.{operands}
 use Rattle.llvm_core.specs.Names.{HasTwice}
@@ -19,10 +20,8 @@ use Rattle.llvm_core.specs.Data.{Placed, Block, Function, AreApart, trees_of, in
 use Rattle.llvm_core.specs.Checked.{IsTaken, IsFreshName, IsCheckedFunction, IsCheckedBlock, IsCheckedInst, IsCheckedEdges, IsChecked, IsLong, HasNoPreds, HasLatePhi, MisfitsEdges, home, local_names, ends_in_only, is_terminator_at}
 use Rattle.llvm_core.specs.Form.{IsForm, IsFormFunction, IsFormBlock, IsFormInstruction, IsTarget, IsFewIn, HasFew, HasDistinctNames, edges_between, operands_of}
 use Rattle.llvm_core.specs.Form.{local_names as names_of}
-use Rattle.llvm_core.proofs.ListLemmas.{some_same}
-use Rattle.llvm_core.proofs.DataLemmas.{there, within_at, function_at, function_count, block_count_of, inst_count_of, block_of_number, inst_of_number}
+use Rattle.llvm_core.proofs.DataLemmas.{within_at, function_at, function_count, block_count_of, inst_count_of, block_of_number, inst_of_number}
 use Rattle.llvm_core.proofs.CheckLemmas.{all_checked}
-use Rattle.llvm_core.proofs.GivenLemmas.{from_joined}
 use Rattle.llvm_core.proofs.FormNames.{good_of_plain, own_of_plain, same_local_names, once_of_distinct}
 use Rattle.llvm_core.proofs.FormTypes.{numbered, signature_of, signature_fits}
 use Rattle.llvm_core.proofs.FormPlaces.{shown, shown_block, shown_inst, same_block_ends, same_phi_at, function_there, HasBlockPlace, block_place, inst_place, block_from, in_home}
@@ -105,8 +104,8 @@ module _ (m : Module) (sound : IsModule m) (apart : AreApart m) (form : IsForm (
   none_late : (b : ℕ) (y : BlockData) → slice_get m.blocks b ≡ Some y → ¬ HasLatePhi m y.insts
   none_late b y at (j, k, i, l, lt, at_i, at_l, plain, phi) =
       let y_insts = (sound.blocks b y at).insts in
-      let z = there m.insts i.0 (within_at y.insts (λ (i : LLVMInstRef). i.0 < length m.insts) y_insts j i at_i) in
-      let w = there m.insts l.0 (within_at y.insts (λ (i : LLVMInstRef). i.0 < length m.insts) y_insts k l at_l) in
+      let z = item_there m.insts i.0 (within_at y.insts (λ (i : LLVMInstRef). i.0 < length m.insts) y_insts j i at_i) in
+      let w = item_there m.insts l.0 (within_at y.insts (λ (i : LLVMInstRef). i.0 < length m.insts) y_insts k l at_l) in
       let here = inst_of_number m (record { 0 = b }) y j i z.0 sound at at_i z.1 in
       let later = inst_of_number m (record { 0 = b }) y k l w.0 sound at at_l w.1 in
       let known = (block_form b y at).block.phis j k (shown_inst m i.0 z.0) (shown_inst m l.0 w.0) lt here later (sym (same_phi_at m i z.0 z.1) ∙ plain) in
@@ -224,16 +223,16 @@ module _ (m : Module) (sound : IsModule m) (apart : AreApart m) (form : IsForm (
       let h = target_behind p y is_p k t led in
       let l = block_from m y.function.0 g.function (suc h.0) h.1 sound g.function_is h.2 in
       let number : l.number ≡ b.0 = ap (λ (d : Block). d.number) (sym l.shown_as) ∙ h.3 ∙ same in
-      let block : l.block ≡ z = some_same l.block z (sym l.here ∙ ap (slice_get m.blocks) number ∙ is) in
+      let block : l.block ≡ z = same_Some l.block z (sym l.here ∙ ap (slice_get m.blocks) number ∙ is) in
       let home : y.function.0 ≡ f = sym l.owned ∙ ap (λ (c : BlockData). c.function.0) block ∙ sound.owned_blocks f x at 0 b z first is in
-      let function : g.function ≡ x = some_same g.function x (sym g.function_is ∙ ap (slice_get m.functions) home ∙ at) in
+      let function : g.function ≡ x = same_Some g.function x (sym g.function_is ∙ ap (slice_get m.functions) home ∙ at) in
       let again : slice_get x.blocks (suc h.0) ≡ Some b = ap (λ (c : FunctionData). slice_get c.blocks (suc h.0)) (sym function) ∙ l.listed ∙ ap (λ (n : ℕ). Some (record { 0 = n })) number in
       first_once f x b z h.0 at first is again
 
   -- no edge leads to the first block of a function
   first_unled : (f : ℕ) (x : FunctionData) (b : LLVMBasicBlock) → slice_get m.functions f ≡ Some x → slice_get x.blocks 0 ≡ Some b → HasNoPreds m b.0
   first_unled f x b at first p =
-      let z = there m.blocks b.0 (within_at x.blocks (λ (b : LLVMBasicBlock). b.0 < length m.blocks) (sound.functions f x at).blocks 0 b first) in
+      let z = item_there m.blocks b.0 (within_at x.blocks (λ (b : LLVMBasicBlock). b.0 < length m.blocks) (sound.functions f x at).blocks 0 b first) in
       by (slice_get m.blocks p) refl z.0 z.1
     where
       by : (o : Option BlockData) → slice_get m.blocks p ≡ o → (z : BlockData) → slice_get m.blocks b.0 ≡ Some z → edge_count m p b.0 ≡ 0

@@ -11,8 +11,8 @@ use Rattle.llvm_core.specs.declared.code.FunctionData.{FunctionData}
 use Rattle.llvm_core.specs.declared.code.BlockData.{BlockData}
 use Rattle.llvm_core.specs.declared.code.InstData.{InstData}
 use Rattle.llvm_core.specs.Module.{Module}
-use Rattle.llvm_core.specs.Interned.{IsDistinctList}
-use Rattle.llvm_core.specs.Names.{HasTwice, is_letter, is_plain_byte, is_plain}
+use Rattle.support.specs.Interned.{IsDistinctList}
+use Rattle.llvm_core.specs.Names.{HasTwice, is_letter, is_plain_byte, is_plain, is_digit}
 use Rattle.llvm_core.specs.Data.{Placed, trees_of, placed_of, placed_at, block_of, block_at, function_of}
 use Rattle.llvm_core.specs.Checked.{is_bad_name, intrinsic_prefix, named, inst_names, block_names, local_names}
 use Rattle.llvm_core.specs.Form.{names_in}
@@ -107,3 +107,6 @@ distinct_of_once names once i j n at_i at_j = elim (cases_order i j) [
   | inl same ↦ same
   | inr apart ↦ elim apart [ inl lt ↦ absurd (once (i, j, n, lt, at_i, at_j)) | inr gt ↦ absurd (once (j, i, n, gt, at_j, at_i)) ]
 ]
+
+pub letter_digit : (b : ℕ) → is_letter b ≡ true → is_digit b ≡ false
+letter_digit b h = grind (arith, nat_tests)

@@ -2,6 +2,8 @@
 use Rattle.std.proofs.Common.{◌≡◌, ◌-◌, ℕ, zero, suc, Bool, false, ◌&&◌, ◌||◌, not, List, [], ◌∷◌, Option, None, Some, length, take, slice_get, refl, sym, ap, ◌∙◌}
 use Rattle.std.specs.List.{list_any, filter_map}
 use Rattle.std.specs.Option.{is_some, option_map, option_map_or}
+use Rattle.std.proofs.lemmas.Option.{same_Some}
+use Rattle.support.proofs.ListLaws.{item_there, in_joined, from_joined}
 use Rattle.llvm_core.specs.declared.numbers.LLVMFunction.{LLVMFunction}
 use Rattle.llvm_core.specs.declared.numbers.LLVMBasicBlock.{LLVMBasicBlock}
 use Rattle.llvm_core.specs.declared.numbers.LLVMInstRef.{LLVMInstRef}
@@ -17,9 +19,8 @@ use Rattle.llvm_core.specs.Parts.{is_phi as phi_of}
 use Rattle.llvm_core.specs.Checked.{ends_in_only, is_terminator_at, is_phi_at, home}
 use Rattle.llvm_core.specs.Checked.{is_terminator as ends_block}
 use Rattle.llvm_core.specs.Form.{is_terminator, is_last, is_phi}
-use Rattle.llvm_core.proofs.ListLemmas.{some_same}
-use Rattle.llvm_core.proofs.DataLemmas.{there, length-filter_map_all, blocks_there, insts_there, block_of_number, inst_of_number}
-use Rattle.llvm_core.proofs.GivenLemmas.{given_at, in_joined, from_joined}
+use Rattle.llvm_core.proofs.DataLemmas.{length-filter_map_all, blocks_there, insts_there, block_of_number, inst_of_number}
+use Rattle.llvm_core.proofs.GivenLemmas.{given_at}
 
 -- ---- lists of which each item gives one
 
@@ -111,7 +112,7 @@ pub record HasBlockPlace (m : Module) (f : ℕ) (x : FunctionData) (b : ℕ) (y 
 pub block_place : (m : Module) (f : ℕ) (x : FunctionData) (b : ℕ) (y : BlockData) → IsModule m → slice_get m.functions f ≡ Some x → slice_get m.blocks b ≡ Some y → y.function.0 ≡ f → HasBlockPlace m f x b y
 block_place m f x b y sound at is home =
     let l = sound.listed_blocks b y is in
-    let same : l.0 ≡ x = some_same l.0 x (sym l.2 ∙ ap (slice_get m.functions) home ∙ at) in
+    let same : l.0 ≡ x = same_Some l.0 x (sym l.2 ∙ ap (slice_get m.functions) home ∙ at) in
     let listed : slice_get x.blocks l.1 ≡ Some (record { 0 = b }) = ap (λ (g : FunctionData). slice_get g.blocks l.1) (sym same) ∙ l.3 in
     record { place = l.1; listed = listed; here = block_of_number m f x l.1 (record { 0 = b }) y sound at listed is }
 
@@ -138,7 +139,7 @@ inst_place m i z sound at =
 
 -- the function that holds a block that is there
 pub function_there : (m : Module) (b : ℕ) (y : BlockData) → IsModule m → slice_get m.blocks b ≡ Some y → (x : FunctionData) × (slice_get m.functions y.function.0 ≡ Some x)
-function_there m b y sound is = there m.functions y.function.0 (sound.blocks b y is).function
+function_there m b y sound is = item_there m.functions y.function.0 (sound.blocks b y is).function
 
 -- ---- from the data to the lists
 
@@ -163,7 +164,7 @@ block_from m f x place c sound at is =
       listed = listed;
       block = y;
       here = e;
-      shown_as = sym (some_same (block_of (trees_of m) m.insts b y) c h);
+      shown_as = sym (same_Some (block_of (trees_of m) m.insts b y) c h);
       owned = sound.owned_blocks f x at place b y listed e;
     }
 
@@ -188,7 +189,7 @@ inst_from m b y place p sound at is =
       listed = listed;
       inst = z;
       here = e;
-      shown_as = sym (some_same (placed_of (trees_of m) i z) p h);
+      shown_as = sym (same_Some (placed_of (trees_of m) i z) p h);
       owned = sound.owned_insts b y at place i z listed e;
     }
 

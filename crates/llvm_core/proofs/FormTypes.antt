@@ -4,6 +4,7 @@ use Rattle.std.specs.List.{list_any}
 use Rattle.std.specs.Option.{option_map_or}
 use Rattle.std.proofs.lemmas.Option.{slice_get_within}
 use Rattle.std.proofs.lemmas.List.Elements.{All-head, All-tail, All-weaker}
+use Rattle.support.proofs.ListLaws.{item_there}
 use Rattle.llvm_core.specs.declared.numbers.LLVMType.{LLVMType}
 use Rattle.llvm_core.specs.declared.numbers.LLVMFunction.{LLVMFunction}
 use Rattle.llvm_core.specs.declared.types.LLVMTypeKind.{LLVMTypeKind}
@@ -15,7 +16,7 @@ use Rattle.llvm_core.specs.Sound.{IsModule}
 use Rattle.llvm_core.specs.Data.{TypeTree, VoidType, IntType, FunctionType, TypeTrees, type_at, types_at, type_tree, trees_of, nth_type}
 use Rattle.llvm_core.specs.Checked.{is_void, is_valueless, is_bit, return_type, returns_void, misfits_signature}
 use Rattle.llvm_core.specs.Form.{IsShortInt, IsShortResult, AreShortInts, count_types}
-use Rattle.llvm_core.proofs.DataLemmas.{there, type_tree_of}
+use Rattle.llvm_core.proofs.DataLemmas.{type_tree_of}
 
 -- ---- the kind at a number
 
@@ -23,7 +24,7 @@ use Rattle.llvm_core.proofs.DataLemmas.{there, type_tree_of}
 kind_by_tree : (m : Module) (p : LLVMTypeKind → Bool) (b : Bool) (P : TypeTree → Type 0) → ((k : LLVMTypeKind) → P (type_tree (trees_of m).types k) → p k ≡ b)
     → (t : LLVMType) → IsModule m → t.0 < length m.types → P (type_at (trees_of m).types t) → is_kind p m.types t ≡ b
 kind_by_tree m p b P each t sound within h =
-    let k = there m.types t.0 within in
+    let k = item_there m.types t.0 within in
     rw k.1 (each k.0 (subst P (type_tree_of m t k.0 sound k.1) h))
 
 pub short_is_int : (m : Module) (t : LLVMType) → IsModule m → t.0 < length m.types → IsShortInt (type_at (trees_of m).types t) → is_kind is_int m.types t ≡ true
@@ -158,3 +159,8 @@ module _ (m : Module) (f : ℕ) (x : FunctionData) (result : TypeTree) (types : 
 
   pub param_types_are : type_params m.types x.ty ≡ s.params
   param_types_are = rw s.kind_is refl
+
+pub short_result : (t : TypeTree) → IsShortInt t → IsShortResult t
+short_result VoidType h = elim h [ ]
+short_result (IntType w) h = h
+short_result (FunctionType result params variadic) h = elim h [ ]

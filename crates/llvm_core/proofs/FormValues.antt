@@ -4,6 +4,7 @@ use Rattle.std.specs.List.{find}
 use Rattle.std.specs.Option.{option_map_or}
 use Rattle.std.proofs.lemmas.Bool.{eqb-true, eqb-false, eq-eqb, not-false}
 use Rattle.std.proofs.lemmas.Option.{slice_get_within}
+use Rattle.support.proofs.ListLaws.{item_there}
 use Rattle.llvm_core.specs.declared.numbers.LLVMType.{LLVMType}
 use Rattle.llvm_core.specs.declared.numbers.LLVMConst.{LLVMConst}
 use Rattle.llvm_core.specs.declared.numbers.LLVMFunction.{LLVMFunction}
@@ -20,7 +21,7 @@ use Rattle.llvm_core.specs.Sound.{IsModule}
 use Rattle.llvm_core.specs.Data.{TypeTree, VoidType, Placed, const_at, type_at, trees_of, const_type, operand_of, param_type, nth_type, placed_in, operand_type}
 use Rattle.llvm_core.specs.Checked.{home, is_placeholder, is_outside}
 use Rattle.llvm_core.specs.Form.{IsFitting, HasNumber, IsOperandOf}
-use Rattle.llvm_core.proofs.DataLemmas.{there, within_at, int_tree_of, int_const_of, placeholder_const_of}
+use Rattle.llvm_core.proofs.DataLemmas.{within_at, int_tree_of, int_const_of, placeholder_const_of}
 use Rattle.llvm_core.proofs.FormTypes.{numbered, signature_of, function_typed, param_types_are, nth_is}
 use Rattle.llvm_core.proofs.FormPlaces.{shown, own_inst, in_home}
 
@@ -54,7 +55,7 @@ pub record HasType (m : Module) (v : LLVMValue) (tree : TypeTree) : Type 0 where
 
 module _ (m : Module) (f : ℕ) (x : FunctionData) (sound : IsModule m) (at : slice_get m.functions f ≡ Some x) where
   const_typed : (c : LLVMConst) → IsValue m (V.Const c) → HasType m (V.Const c) (operand_type (shown m f x) (operand_of (trees_of m) (V.Const c)))
-  const_typed c here = let k = there m.consts c.0 here in by k.0 k.1
+  const_typed c here = let k = item_there m.consts c.0 here in by k.0 k.1
     where
       by : (k : LLVMConstKind) → slice_get m.consts c.0 ≡ Some k → HasType m (V.Const c) (operand_type (shown m f x) (operand_of (trees_of m) (V.Const c)))
       by (C.Int t v) at =
@@ -82,7 +83,7 @@ module _ (m : Module) (f : ℕ) (x : FunctionData) (sound : IsModule m) (at : sl
       let at_g : slice_get m.functions g.0 ≡ Some x = ap (slice_get m.functions) same ∙ at in
       let named = names_of_params g same in
       let count : length x.params ≡ length s.params = (sound.functions f x at).params ∙ ap length (param_types_are m f x typed.0 typed.1 sound at s) in
-      let t = there s.params place (omega (arith, here, named, count)) in
+      let t = item_there s.params place (omega (arith, here, named, count)) in
       let tree = nth_is (trees_of m).types s.params place t.0 t.1 in
       record {
         type = t.0;
@@ -113,7 +114,7 @@ module _ (m : Module) (f : ℕ) (x : FunctionData) (sound : IsModule m) (at : sl
   -- ---- values of the function
 
   const_fits : (c : LLVMConst) → IsValue m (V.Const c) → is_outside m (numbered f) (V.Const c) ≡ false → IsFitting (const_at (trees_of m).consts c)
-  const_fits c here inside = let k = there m.consts c.0 here in by k.0 k.1 (ap (λ o. option_map_or is_placeholder o false) (sym k.1) ∙ inside)
+  const_fits c here inside = let k = item_there m.consts c.0 here in by k.0 k.1 (ap (λ o. option_map_or is_placeholder o false) (sym k.1) ∙ inside)
     where
       by : (k : LLVMConstKind) → slice_get m.consts c.0 ≡ Some k → is_placeholder k ≡ false → IsFitting (const_at (trees_of m).consts c)
       by (C.Int t v) is none =
@@ -129,7 +130,7 @@ module _ (m : Module) (f : ℕ) (x : FunctionData) (sound : IsModule m) (at : sl
       let named = names_of_params g same in
       (same, omega (arith, here, named))
   value_stands (V.Inst i) here inside =
-      let z = there m.insts i.0 here in
+      let z = item_there m.insts i.0 here in
       let home_is : (home m z.0).0 ≡ f = eqb-true (home m z.0).0 f (not-false (nat_eq (home m z.0).0 f) (rw z.1 at inside)) in
       let k = in_home m f x i.0 z.0 sound at z.1 home_is in
       (k.0, _, k.1, refl)

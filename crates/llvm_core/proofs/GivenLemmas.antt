@@ -1,15 +1,11 @@
--- Where items stand in lists that are made of others: of what each item gives, joined end to end, or picked by number.
-use Rattle.std.proofs.Common.{◌≡◌, ◌≢◌, ◌⊎◌, inl, inr, ℕ, zero, suc, Bool, true, false, nat_eq, if◌then◌else◌, List, [], ◌∷◌, ◌++◌, Option, None, Some, slice_get, get_or, refl, sym, ap, ◌∙◌, arith, eq-eqb, All}
+-- Where items stand in lists that are made of others: of what each item gives, or picked by number.
+use Rattle.std.proofs.Common.{◌≡◌, ◌≢◌, ◌⊎◌, inl, inr, ℕ, zero, suc, Bool, true, false, nat_eq, if◌then◌else◌, List, [], ◌∷◌, ◌++◌, Option, None, Some, slice_get, refl, sym, ap, ◌∙◌, arith, eq-eqb}
 use Rattle.std.specs.List.{list_any, filter, filter_map, flat_map, cons_option}
 use Rattle.std.specs.Option.{option_map_or}
 use Rattle.std.proofs.lemmas.Bool.{eqb-true, ne_eqb, or_from, or_parts}
-use Rattle.std.proofs.lemmas.Option.{slice_get-get_or}
-use Rattle.llvm_core.proofs.ListLemmas.{some_same, slice_get-kept}
+use Rattle.std.proofs.lemmas.Option.{same_Some}
 
 -- ---- what holds at each place
-
-pub all_at : {X : Type 0} (P : X → Type 0) (xs : List X) → ((i : ℕ) (x : X) → slice_get xs i ≡ Some x → P x) → All P xs
-all_at P xs each k d lt = each k (get_or xs k d) (slice_get-get_or xs k d lt)
 
 pub none_any : {X : Type 0} (p : X → Bool) (xs : List X) → ((i : ℕ) (x : X) → slice_get xs i ≡ Some x → p x ≡ false) → list_any p xs ≡ false
 none_any p [] each = refl
@@ -17,7 +13,7 @@ none_any p (x ∷ xs) each = or_from (p x) (list_any p xs) (each 0 x refl) (none
 
 pub none_any_at : {X : Type 0} (p : X → Bool) (xs : List X) (i : ℕ) (x : X) → list_any p xs ≡ false → slice_get xs i ≡ Some x → p x ≡ false
 none_any_at p [] i x none at = cc
-none_any_at p (y ∷ xs) zero x none at = let same : y ≡ x = some_same y x at in ap p (sym same) ∙ (or_parts (p y) (list_any p xs) none).0
+none_any_at p (y ∷ xs) zero x none at = let same : y ≡ x = same_Some y x at in ap p (sym same) ∙ (or_parts (p y) (list_any p xs) none).0
 none_any_at p (y ∷ xs) (suc i) x none at = none_any_at p xs i x (or_parts (p y) (list_any p xs) none).1 at
 
 -- ---- what each item gives
@@ -41,31 +37,6 @@ flat_map-filter_map {X} {Y} {A} f g h same (x ∷ xs) = ap (λ ys. ys ++ flat_ma
     by None rest = rest
     by (Some y) rest = ap (λ ys. g y ++ ys) rest
 
--- ---- lists joined end to end
-
-slice_get-append_right : {X : Type 0} (xs ys : List X) (i : ℕ) (x : X) → slice_get ys i ≡ Some x → (k : ℕ) × (slice_get (xs ++ ys) k ≡ Some x)
-slice_get-append_right [] ys i x at = (i, at)
-slice_get-append_right (w ∷ xs) ys i x at = let r = slice_get-append_right xs ys i x at in (suc r.0, r.1)
-
-slice_get-append_cases : {X : Type 0} (xs ys : List X) (i : ℕ) (x : X) → slice_get (xs ++ ys) i ≡ Some x → (slice_get xs i ≡ Some x) ⊎ ((k : ℕ) × (slice_get ys k ≡ Some x))
-slice_get-append_cases [] ys i x at = inr (i, at)
-slice_get-append_cases (w ∷ xs) ys zero x at = inl at
-slice_get-append_cases (w ∷ xs) ys (suc i) x at = slice_get-append_cases xs ys i x at
-
--- an item of a part stands in the whole
-pub in_joined : {X A : Type 0} (f : X → List A) (xs : List X) (i j : ℕ) (x : X) (a : A) → slice_get xs i ≡ Some x → slice_get (f x) j ≡ Some a → (k : ℕ) × (slice_get (flat_map f xs) k ≡ Some a)
-in_joined f [] i j x a at is = cc
-in_joined f (w ∷ xs) zero j x a at is = (j, slice_get-kept (f w) (flat_map f xs) j a (ap (λ y. slice_get (f y) j) (some_same w x at) ∙ is))
-in_joined f (w ∷ xs) (suc i) j x a at is = let r = in_joined f xs i j x a at is in slice_get-append_right (f w) (flat_map f xs) r.0 a r.1
-
--- an item of the whole stands in a part
-pub from_joined : {X A : Type 0} (f : X → List A) (xs : List X) (k : ℕ) (a : A) → slice_get (flat_map f xs) k ≡ Some a → (i : ℕ) × (j : ℕ) × (x : X) × (slice_get xs i ≡ Some x) × (slice_get (f x) j ≡ Some a)
-from_joined f [] k a at = cc
-from_joined f (x ∷ xs) k a at = elim (slice_get-append_cases (f x) (flat_map f xs) k a at) [
-  | inl here ↦ (0, k, x, refl, here)
-  | inr later ↦ (let r = from_joined f xs later.0 a later.1 in (suc r.0, r.1, r.2, r.3, r.4))
-]
-
 -- ---- items picked by number
 
 module _ {X : Type 0} (number : X → ℕ) (n : ℕ) where
@@ -80,7 +51,7 @@ module _ {X : Type 0} (number : X → ℕ) (n : ℕ) where
   pub picked_one : (xs : List X) (i : ℕ) (x : X) → ((i j : ℕ) (x y : X) → slice_get xs i ≡ Some x → slice_get xs j ≡ Some y → number x ≡ number y → i ≡ j) → slice_get xs i ≡ Some x → number x ≡ n → picked xs ≡ x ∷ []
   picked_one [] i x once at is = cc
   picked_one (w ∷ xs) zero x once at is =
-      let same : w ≡ x = some_same w x at in
+      let same : w ≡ x = same_Some w x at in
       let here : number w ≡ n = ap number same ∙ is in
       let none = picked_none xs (λ j y there e. absurd (let apart : 0 ≡ suc j = once 0 (suc j) w y refl there (here ∙ sym e) in omega (arith, apart))) in
       rw (eq-eqb (number w) n here) (ap (λ ys. w ∷ ys) none ∙ ap (λ y. y ∷ []) same)

@@ -1,7 +1,10 @@
 -- What is right in a module stays right in one that has more.
-use Rattle.std.proofs.Common.{◌≡◌, ◌<◌, ◌≤◌, ℕ, Bool, false, ◌&&◌, nat_eq, if◌then◌else◌, List, [], Option, Some, None, length, slice_get, sym, ap, ◌∙◌, refl, arith, subst}
+use Rattle.std.proofs.Common.{◌≡◌, ◌<◌, ◌≤◌, ℕ, Bool, false, ◌&&◌, nat_eq, if◌then◌else◌, List, [], Option, Some, None, length, slice_get, sym, ap, ◌∙◌, refl, arith, subst, ◌++◌}
 use Rattle.std.specs.Option.{option_map, option_map_or}
 use Rattle.std.proofs.lemmas.List.Elements.{All-weaker}
+use Rattle.std.proofs.lemmas.List.{append-nil}
+use Rattle.support.proofs.InternedLaws.{interned_more}
+use Rattle.support.proofs.ListLaws.{item_there, slice_get-kept}
 use Rattle.llvm_core.specs.declared.numbers.LLVMType.{LLVMType}
 use Rattle.llvm_core.specs.declared.numbers.LLVMFunction.{LLVMFunction}
 use Rattle.llvm_core.specs.declared.numbers.LLVMBasicBlock.{LLVMBasicBlock}
@@ -22,9 +25,8 @@ use Rattle.llvm_core.specs.declared.code.BlockData.{BlockData}
 use Rattle.llvm_core.specs.declared.code.InstData.{InstData}
 use Rattle.llvm_core.specs.Module.{Module}
 use Rattle.llvm_core.specs.Code.{param_names}
-use Rattle.llvm_core.specs.Parts.{IsConstOver, IsFunctionType, IsValue, HasValues, IsBlock, IsEntry, const_type, type_params, kind_params, param_types, is_int, is_kind, both_type, value_type, result_type}
+use Rattle.llvm_core.specs.Parts.{IsConstOver, IsFunctionType, IsValue, HasValues, IsBlock, IsEntry, const_type, type_params, kind_params, param_types, is_int, is_kind, both_type, value_type, result_type, IsResultType}
 use Rattle.llvm_core.specs.Sound.{IsFunctionIn, IsBlockIn, IsInstIn, IsListedBlock, IsListedInst, StandsFor, IsModule}
-use Rattle.llvm_core.proofs.DataLemmas.{there}
 use Rattle.llvm_core.proofs.WithinLemmas.{value_type_within, param_there}
 use Rattle.llvm_core.proofs.ListedLemmas.{KeepsLists}
 
@@ -108,7 +110,7 @@ values_kept m n g I.Unreachable h = h
 
 value_type_kept : (m n : Module) → Grows m n → IsModule m → (v : LLVMValue) → IsValue m v → value_type n v ≡ value_type m v
 value_type_kept m n g s (V.Const c) h =
-    let k = there m.consts c.0 h in
+    let k = item_there m.consts c.0 h in
     ap (option_map const_type) (g.consts c.0 k.0 k.1 ∙ sym k.1)
 value_type_kept m n g s (V.Param f place) h =
     let p = param_there m f place s h in
@@ -118,12 +120,12 @@ value_type_kept m n g s (V.Param f place) h =
     ap (λ o. slice_get (option_map_or (param_types n) o []) place) q.1 ∙ ap (λ ts. slice_get ts place) same
     ∙ ap (λ o. slice_get (option_map_or (param_types m) o []) place) (sym p.here)
 value_type_kept m n g s (V.Inst i) h =
-    let x = there m.insts i.0 h in
+    let x = item_there m.insts i.0 h in
     let y = g.inst_types i.0 x.0 x.1 in
     ap (option_map inst_type) y.1 ∙ ap Some y.2 ∙ ap (option_map inst_type) (sym x.1)
 
 is_kind_kept : (m n : Module) → Grows m n → (p : LLVMTypeKind → Bool) (t : LLVMType) → t.0 < length m.types → is_kind p n.types t ≡ is_kind p m.types t
-is_kind_kept m n g p t lt = let k = there m.types t.0 lt in ap (λ o. option_map_or p o false) (g.types t.0 k.0 k.1 ∙ sym k.1)
+is_kind_kept m n g p t lt = let k = item_there m.types t.0 lt in ap (λ o. option_map_or p o false) (g.types t.0 k.0 k.1 ∙ sym k.1)
 
 both_kept : (m n : Module) → Grows m n → (a b : Option LLVMType) → ((t : LLVMType) → a ≡ Some t → t.0 < length m.types) → both_type n.types a b ≡ both_type m.types a b
 both_kept m n g None b within = refl
@@ -164,3 +166,17 @@ listed_block_kept m n g b y h = let k = g.block_lists y.function.0 h.0 h.2 in (k
 
 pub listed_inst_kept : (m n : Module) → Grows m n → (i : ℕ) (z : InstData) → IsListedInst m i z → IsListedInst n i z
 listed_inst_kept m n g i z h = let k = g.inst_lists z.block.0 h.0 h.2 in (k.0, h.1, k.1, k.2 h.1 _ h.3)
+
+-- a function type has the parameters that it had, where types were added
+pub param_at_kept : (types more : List LLVMTypeKind) (t : LLVMType) (place : ℕ) (x : LLVMType) → slice_get (type_params types t) place ≡ Some x → slice_get (type_params (types ++ more) t) place ≡ Some x
+param_at_kept types more t place x h = by (slice_get types t.0) refl h
+  where
+    by : (o : Option LLVMTypeKind) → slice_get types t.0 ≡ o → slice_get (option_map_or kind_params o []) place ≡ Some x → slice_get (type_params (types ++ more) t) place ≡ Some x
+    by None e h = absurd cc
+    by (Some k) e h = rw (slice_get-kept types more t.0 k e) h
+
+-- the types of a module in which a result got its type are those before it, and more
+pub types_more : (r : Option ResultType) (old new : List LLVMTypeKind) (ty : LLVMType) → IsResultType r old new ty → (more : List LLVMTypeKind) × (new ≡ old ++ more)
+types_more None old new ty h = interned_more old new T.Void ty.0 h
+types_more (Some (R.There t)) old new ty h = ([], h.1 ∙ sym (append-nil old))
+types_more (Some R.Bit) old new ty h = interned_more old new (T.Int 1) ty.0 h

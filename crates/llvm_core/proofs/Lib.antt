@@ -1,5 +1,4 @@
 -- The lemmas of the crate.
-pub mod ListLemmas
 pub mod ChangeLemmas
 pub mod StoreLemmas
 pub mod KeyLemmas

@@ -1,8 +1,9 @@
 -- Items that own lists: their lists stay, or go on, as the items' own list grows or changes.
 use Rattle.std.proofs.Common.{◌≡◌, ◌<◌, ◌⊎◌, inl, inr, ℕ, zero, suc, List, [], ◌∷◌, ◌++◌, Some, length, slice_get, refl, ap, ◌∙◌, arith}
 use Rattle.std.specs.Option.{option_map}
-use Rattle.llvm_core.specs.Code.{with_change}
-use Rattle.llvm_core.proofs.ListLemmas.{some_same, slice_get-kept}
+use Rattle.std.proofs.lemmas.Option.{same_Some}
+use Rattle.support.specs.Changes.{with_change}
+use Rattle.support.proofs.ListLaws.{slice_get-kept}
 use Rattle.llvm_core.proofs.ChangeLemmas.{with_change-cons, slice_get-changed}
 
 -- each owner of xs is in ys too, perhaps with a longer list
@@ -18,7 +19,7 @@ push_keeps list xs w i x e = (x, slice_get-kept xs (w ∷ []) i x e, λ place y 
 -- an item stays, or is the changed one
 pub kept_or_changed : {X : Type 0} (c : X → X) (i : ℕ) (xs : List X) (j : ℕ) (x : X) → slice_get xs j ≡ Some x → (slice_get (with_change c i xs) j ≡ Some x) ⊎ (slice_get (with_change c i xs) j ≡ Some (c x))
 kept_or_changed c i [] j x e = inl e
-kept_or_changed c zero (w ∷ xs) zero x e = inr (ap (λ y. Some (c y)) (some_same w x e))
+kept_or_changed c zero (w ∷ xs) zero x e = inr (ap (λ y. Some (c y)) (same_Some w x e))
 kept_or_changed c zero (w ∷ xs) (suc j) x e = inl e
 kept_or_changed c (suc i) (w ∷ xs) zero x e = inl (ap (λ ys. slice_get ys 0) (with_change-cons c i w xs) ∙ e)
 kept_or_changed c (suc i) (w ∷ xs) (suc j) x e =

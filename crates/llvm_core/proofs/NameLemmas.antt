@@ -6,7 +6,7 @@ use Rattle.std.proofs.lemmas.List.{take_more}
 use Rattle.std.proofs.lemmas.Option.{slice_get_within, slice_get-get_or}
 use Rattle.llvm_core.specs.Keys.{same_text}
 use Rattle.llvm_core.specs.Names.{Stands, HasTwice, IsInserted}
-use Rattle.llvm_core.proofs.ListLemmas.{slice_get-push_cases}
+use Rattle.support.proofs.ListLaws.{slice_get-push_cases, slice_get-take}
 
 -- ---- a name in a list
 
@@ -34,12 +34,6 @@ inserted old new n fresh f g = by (list_any (pointwise nat_eq n) old) refl fresh
     by false e false f g = cc
 
 -- ---- the first names of a list
-
-pub slice_get-take : {X : Type 0} (i : ℕ) (xs : List X) (j : ℕ) (x : X) → slice_get (take i xs) j ≡ Some x → (j < i) × (slice_get xs j ≡ Some x)
-slice_get-take zero xs j x h = cc
-slice_get-take (suc i) [] j x h = cc
-slice_get-take (suc i) (y ∷ xs) zero x h = (omega arith, h)
-slice_get-take (suc i) (y ∷ xs) (suc j) x h = let r = slice_get-take i xs j x h in (omega (arith, r.0), r.1)
 
 pub slice_get-taken : {X : Type 0} (i : ℕ) (xs : List X) (j : ℕ) (x : X) → j < i → slice_get xs j ≡ Some x → slice_get (take i xs) j ≡ Some x
 slice_get-taken zero xs j x lt h = absurd (omega arith)

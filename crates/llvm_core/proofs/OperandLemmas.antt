@@ -3,6 +3,8 @@ use Rattle.std.proofs.Common.{◌≡◌, ℕ, zero, suc, Bool, true, false, nat_
 use Rattle.std.specs.Option.{option_map}
 use Rattle.std.proofs.lemmas.List.{map-append}
 use Rattle.std.proofs.lemmas.List.Elements.{All-cons, All-head, All-tail, All-push}
+use Rattle.std.proofs.lemmas.Option.{same_Some}
+use Rattle.support.specs.Changes.{with_change}
 use Rattle.llvm_core.specs.declared.numbers.LLVMInstRef.{LLVMInstRef}
 use Rattle.llvm_core.specs.declared.types.ResultType.{ResultType}
 use Rattle.llvm_core.specs.declared.types.ResultType.TheVariants as R
@@ -12,12 +14,12 @@ use Rattle.llvm_core.specs.declared.code.LLVMInst.{LLVMInst}
 use Rattle.llvm_core.specs.declared.code.LLVMInst.TheVariants as I
 use Rattle.llvm_core.specs.declared.code.InstData.{InstData}
 use Rattle.llvm_core.specs.Module.{Module}
-use Rattle.llvm_core.specs.Code.{code_of, with_code, with_change, with_operand, with_entry, with_changed_inst}
+use Rattle.llvm_core.specs.Code.{code_of, with_code, with_operand, with_entry, with_changed_inst}
 use Rattle.llvm_core.specs.Parts.{IsValue, HasValues, IsEntry, TakesOperand, operands, value_type, both_type, result_type}
 use Rattle.llvm_core.specs.Sound.{StandsFor, IsModule}
 use Rattle.llvm_core.specs.Data as d
 use Rattle.llvm_core.specs.Data.{Trees, trees_of, operand_of, entry_of, instruction_of, data_of}
-use Rattle.llvm_core.proofs.ListLemmas.{some_same, change_cases, length-with_change}
+use Rattle.support.proofs.ListLaws.{change_cases, length-with_change}
 use Rattle.llvm_core.proofs.ListedLemmas.{same_keeps}
 use Rattle.llvm_core.proofs.ChangeLemmas.{with_change-cons}
 use Rattle.llvm_core.proofs.GrowLemmas.{blocks_of, insts_of, function_type, inst_type, Grows, function_kept, block_kept, inst_kept, listed_block_kept, listed_inst_kept}
@@ -103,14 +105,14 @@ values_put m I.Unreachable place v h here = h
 
 result_put : (m : Module) (inst : LLVMInst) (place : ℕ) (v w : LLVMValue) → slice_get (operands inst) place ≡ Some w → value_type m w ≡ value_type m v → result_type m (with_operand inst place v) ≡ result_type m inst
 result_put m (I.Add lhs rhs flags) zero v w at same =
-    ap (λ a. option_map R.There (both_type m.types a (value_type m rhs))) (sym (ap (value_type m) (some_same lhs w at) ∙ same))
+    ap (λ a. option_map R.There (both_type m.types a (value_type m rhs))) (sym (ap (value_type m) (same_Some lhs w at) ∙ same))
 result_put m (I.Add lhs rhs flags) (suc zero) v w at same =
-    ap (λ a. option_map R.There (both_type m.types (value_type m lhs) a)) (sym (ap (value_type m) (some_same rhs w at) ∙ same))
+    ap (λ a. option_map R.There (both_type m.types (value_type m lhs) a)) (sym (ap (value_type m) (same_Some rhs w at) ∙ same))
 result_put m (I.Add lhs rhs flags) (suc (suc place)) v w at same = cc
 result_put m (I.ICmp lhs rhs predicate) zero v w at same =
-    ap (λ a. option_map (λ _. R.Bit) (both_type m.types a (value_type m rhs))) (sym (ap (value_type m) (some_same lhs w at) ∙ same))
+    ap (λ a. option_map (λ _. R.Bit) (both_type m.types a (value_type m rhs))) (sym (ap (value_type m) (same_Some lhs w at) ∙ same))
 result_put m (I.ICmp lhs rhs predicate) (suc zero) v w at same =
-    ap (λ a. option_map (λ _. R.Bit) (both_type m.types (value_type m lhs) a)) (sym (ap (value_type m) (some_same rhs w at) ∙ same))
+    ap (λ a. option_map (λ _. R.Bit) (both_type m.types (value_type m lhs) a)) (sym (ap (value_type m) (same_Some rhs w at) ∙ same))
 result_put m (I.ICmp lhs rhs predicate) (suc (suc place)) v w at same = cc
 result_put m (I.Phi type entries) place v w at same = refl
 result_put m (I.Br target) place v w at same = refl
@@ -150,7 +152,7 @@ pub operand_set : (m : Module) (i : LLVMInstRef) (place : ℕ) (v : LLVMValue) �
     → IsModule (with_code m (with_changed_inst (code_of m) i (λ inst. with_operand inst place v)))
 operand_set m i place v s (x, w, at, operand, typed) here =
     inst_changed m i (λ inst. with_operand inst place v) s (λ y is.
-    let same : x ≡ y = some_same x y (sym at ∙ is) in
+    let same : x ≡ y = same_Some x y (sym at ∙ is) in
     let operand_y : slice_get (operands y.inst) place ≡ Some w = subst (λ (z : InstData). slice_get (operands z.inst) place ≡ Some w) same operand in
     (values_put m y.inst place v (s.insts i.0 y is).values here, result_put m y.inst place v w operand_y typed))
 

@@ -1,8 +1,9 @@
 -- The phis of a block, and the entries of a phi.
 use Rattle.std.proofs.Common.{◌≡◌, ◌≢◌, ◌<◌, ◌≤◌, ◌+◌, ℕ, Bool, true, false, nat_eq, List, [], ◌∷◌, Option, None, Some, length, slice_get, sym, ap, ◌∙◌, refl, arith, subst, get_or, inl, inr, ◌⊎◌}
 use Rattle.std.proofs.lemmas.Bool.{cases_eq, cases_order, eqb-true}
-use Rattle.std.proofs.lemmas.Option.{slice_get_within, get_or_from_slice_get}
+use Rattle.std.proofs.lemmas.Option.{slice_get_within, get_or_from_slice_get, same_Some}
 use Rattle.std.specs.Option.{option_map, option_map_or}
+use Rattle.support.proofs.ListLaws.{item_there}
 use Rattle.llvm_core.specs.declared.numbers.LLVMBasicBlock.{LLVMBasicBlock}
 use Rattle.llvm_core.specs.declared.numbers.LLVMInstRef.{LLVMInstRef}
 use Rattle.llvm_core.specs.declared.code.LLVMValue.{LLVMValue}
@@ -15,8 +16,6 @@ use Rattle.llvm_core.specs.declared.check_err.CheckErr.TheVariants.{PhiEntries}
 use Rattle.llvm_core.specs.Module.{Module}
 use Rattle.llvm_core.specs.Edges.{count_of, edge_count, HasIncoming}
 use Rattle.llvm_core.specs.Checked.{HasLatePhi, HasTwoValues, HasNoPreds, MisfitsEdges, Fails, is_phi_at, sources}
-use Rattle.llvm_core.proofs.ListLemmas.{some_same}
-use Rattle.llvm_core.proofs.DataLemmas.{there}
 use Rattle.llvm_core.proofs.EdgeLemmas.{count-cons, one_here}
 
 -- ---- the place of phis
@@ -44,7 +43,7 @@ other_more m xs n behind z h here plain = record {
   some = λ e. (n, z, (let lt : n < n + 1 = omega arith in lt), here, plain);
   early = λ j k x y below lt at is other. elim (below_or_last k n lt) [
     | inl old ↦ h.early j k x y below old at is other
-    | inr last ↦ (let same : y ≡ z = some_same y z (sym is ∙ ap (slice_get xs) last ∙ here) in ap (is_phi_at m) same ∙ plain)
+    | inr last ↦ (let same : y ≡ z = same_Some y z (sym is ∙ ap (slice_get xs) last ∙ here) in ap (is_phi_at m) same ∙ plain)
   ];
 }
 
@@ -52,7 +51,7 @@ pub phi_more : (m : Module) (xs : List LLVMInstRef) (n : ℕ) (z : LLVMInstRef) 
 phi_more m xs n z h here phi = record {
   none = λ e j x lt at. elim (below_or_last j n lt) [
     | inl old ↦ h.none refl j x old at
-    | inr last ↦ (let same : x ≡ z = some_same x z (sym at ∙ ap (slice_get xs) last ∙ here) in ap (is_phi_at m) same ∙ phi)
+    | inr last ↦ (let same : x ≡ z = same_Some x z (sym at ∙ ap (slice_get xs) last ∙ here) in ap (is_phi_at m) same ∙ phi)
   ];
   some = λ e. cc;
   early = λ j k x y below lt at is other. absurd (let known = h.none refl j x (omega (arith, below, lt)) at in cc);
@@ -86,11 +85,11 @@ value_more entries n get new e h here agrees put others = record {
       | inl same ↦ (let v = agrees x.value (ap get (sym same) ∙ h.kept j x old at) in ap new same ∙ put ∙ ap Some (sym v))
       | inr apart ↦ others x.block.0 apart ∙ h.kept j x old at
     ]
-    | inr last ↦ (let same : x ≡ e = some_same x e (sym at ∙ ap (slice_get entries) last ∙ here) in
+    | inr last ↦ (let same : x ≡ e = same_Some x e (sym at ∙ ap (slice_get entries) last ∙ here) in
         ap (λ (y : PhiEntry). new y.block.0) same ∙ put ∙ ap (λ (y : PhiEntry). Some y.value) (sym same))
   ];
   first = λ b v is. elim (cases_eq b e.block.0) [
-    | inl same ↦ (n, e, (let lt : n < n + 1 = omega arith in lt), here, sym same, some_same e.value v (sym put ∙ ap new (sym same) ∙ is))
+    | inl same ↦ (n, e, (let lt : n < n + 1 = omega arith in lt), here, sym same, same_Some e.value v (sym put ∙ ap new (sym same) ∙ is))
     | inr apart ↦ (let old = h.first b v (sym (others b apart) ∙ is) in (old.0, old.1, (let lt : old.0 < n + 1 = omega (arith, old.2) in lt), old.3, old.4, old.5))
   ];
 }
@@ -106,7 +105,7 @@ two_here entries n get e v h here is apart =
 -- the same where the entry was read by its place
 pub two_at : (entries : List PhiEntry) (n : ℕ) (d : PhiEntry) (get : ℕ → Option LLVMValue) (v : LLVMValue) → n < length entries → ValuesSoFar entries n get → get (get_or entries n d).block.0 ≡ Some v → v ≢ (get_or entries n d).value → HasTwoValues entries
 two_at entries n d get v lt h is apart =
-    let e = there entries n lt in
+    let e = item_there entries n lt in
     let same : get_or entries n d ≡ e.0 = get_or_from_slice_get entries n e.0 d e.1 in
     two_here entries n get e.0 v h e.1 (ap (λ (x : PhiEntry). get x.block.0) (sym same) ∙ is) (λ equal. apart (equal ∙ ap (λ (x : PhiEntry). x.value) (sym same)))
 
@@ -114,7 +113,7 @@ pub value_at : (entries : List PhiEntry) (n : ℕ) (d : PhiEntry) (get new : ℕ
     → ((v : LLVMValue) → get (get_or entries n d).block.0 ≡ Some v → v ≡ (get_or entries n d).value) → new (get_or entries n d).block.0 ≡ Some (get_or entries n d).value
     → ((b : ℕ) → b ≢ (get_or entries n d).block.0 → new b ≡ get b) → ValuesSoFar entries (n + 1) new
 value_at entries n d get new lt h agrees put others =
-    let e = there entries n lt in
+    let e = item_there entries n lt in
     let same : get_or entries n d ≡ e.0 = get_or_from_slice_get entries n e.0 d e.1 in
     value_more entries n get new e.0 h e.1 (subst (λ (x : PhiEntry). (v : LLVMValue) → get x.block.0 ≡ Some v → v ≡ x.value) same agrees) (subst (λ (x : PhiEntry). new x.block.0 ≡ Some x.value) same put)
     (subst (λ (x : PhiEntry). (b : ℕ) → b ≢ x.block.0 → new b ≡ get b) same others)
@@ -123,7 +122,7 @@ pub none_two : (entries : List PhiEntry) (n : ℕ) (get : ℕ → Option LLVMVal
 none_two entries n get h all (i, j, x, y, at, is, same, apart) =
     let p = h.kept i x (omega (arith, slice_get_within entries i x at, all)) at in
     let q = h.kept j y (omega (arith, slice_get_within entries j y is, all)) is in
-    apart (some_same x.value y.value (sym p ∙ ap (λ (b : LLVMBasicBlock). get b.0) same ∙ q))
+    apart (same_Some x.value y.value (sym p ∙ ap (λ (b : LLVMBasicBlock). get b.0) same ∙ q))
 
 -- ---- edges
 
@@ -151,7 +150,7 @@ phi_misfits m b type entries from counts wrong = inl (λ fits. wrong (λ p. fits
 -- the same, of the list that was read for the block
 pub counts_read : (m : Module) (lists : List (List ℕ)) (b : ℕ) (d from : List ℕ) → HasIncoming m lists → b < length m.blocks → from ≡ get_or lists b d → (p : ℕ) → count_of p from ≡ edge_count m p b
 counts_read m lists b d from h within read p =
-    let listed = there lists b (omega (arith, within, h.len)) in
+    let listed = item_there lists b (omega (arith, within, h.len)) in
     let same : from ≡ listed.0 = read ∙ get_or_from_slice_get lists b listed.0 d listed.1 in
     ap (count_of p) same ∙ from_counts m lists b listed.0 h listed.1 p
 
@@ -177,14 +176,14 @@ module _ (m : Module) (i : ℕ) (inst : LLVMInst) (b : LLVMBasicBlock) (inst_is 
       by : (o : Option InstData) → slice_get m.insts i ≡ o → option_map (λ (x : InstData). x.inst) o ≡ Some inst → option_map (λ (x : InstData). x.block) o ≡ Some b
           → (x : InstData) × (slice_get m.insts i ≡ Some x) × (x.inst ≡ inst) × (x.block ≡ b)
       by None e p q = cc
-      by (Some x) e p q = (x, e, some_same x.inst inst p, some_same x.block b q)
+      by (Some x) e p q = (x, e, same_Some x.inst inst p, same_Some x.block b q)
 
   pub fails_there : MisfitsEdges m b.0 inst → Fails m (PhiEntries (P.Inst i))
   fails_there h = (found.0, found.1, rw (found.2, found.3) h)
 
   pub fits_there : ¬ MisfitsEdges m b.0 inst → ¬ Fails m (PhiEntries (P.Inst i))
   fits_there fits (x, at, misfits) =
-      let same : found.0 ≡ x = some_same found.0 x (sym found.1 ∙ at) in
+      let same : found.0 ≡ x = same_Some found.0 x (sym found.1 ∙ at) in
       let inst_x : x.inst ≡ inst = ap (λ (y : InstData). y.inst) (sym same) ∙ found.2 in
       let block_x : x.block ≡ b = ap (λ (y : InstData). y.block) (sym same) ∙ found.3 in
       fits (rw (← inst_x, ← block_x) misfits)

@@ -2,8 +2,10 @@
 use Rattle.std.proofs.Common.{◌≡◌, ◌<◌, ◌≤◌, ◌⊎◌, inl, inr, ℕ, zero, suc, List, [], ◌∷◌, ◌++◌, Option, Some, None, length, length-append, slice_get, slice_set, sym, ap, ◌∙◌, refl, arith, subst, map}
 use Rattle.std.specs.Option.{option_map_or}
 use Rattle.std.proofs.lemmas.List.Elements.{All-push, All-nil}
-use Rattle.std.proofs.lemmas.Option.{slice_get_within}
+use Rattle.std.proofs.lemmas.Option.{slice_get_within, same_Some}
 use Rattle.std.proofs.lemmas.List.{length-map}
+use Rattle.support.proofs.InternedLaws.{interned_kept, interned_longer, interned_cases}
+use Rattle.support.specs.Changes.{with_change}
 use Rattle.llvm_core.specs.declared.numbers.LLVMType.{LLVMType}
 use Rattle.llvm_core.specs.declared.numbers.LLVMFunction.{LLVMFunction}
 use Rattle.llvm_core.specs.declared.numbers.LLVMBasicBlock.{LLVMBasicBlock}
@@ -16,12 +18,12 @@ use Rattle.llvm_core.specs.declared.code.LLVMInst.{LLVMInst}
 use Rattle.llvm_core.specs.declared.code.FunctionData.{FunctionData}
 use Rattle.llvm_core.specs.declared.code.BlockData.{BlockData}
 use Rattle.llvm_core.specs.declared.code.InstData.{InstData}
-use Rattle.llvm_core.specs.Interned.{Interned, IsDistinctList}
+use Rattle.support.specs.Interned.{Interned, IsDistinctList}
 use Rattle.llvm_core.specs.Module.{Module}
-use Rattle.llvm_core.specs.Code.{code_of, with_code, with_change, with_param_name, with_block, with_inst, param_names}
+use Rattle.llvm_core.specs.Code.{code_of, with_code, with_param_name, with_block, with_inst, param_names}
 use Rattle.llvm_core.specs.Parts.{IsTypeOver, IsConstOver, IsFunctionType, HasValues, IsResultType, kind_params, made_kind, result_type}
 use Rattle.llvm_core.specs.Sound.{IsFunctionIn, OwnsBlocks, OwnsInsts, StandsFor, IsModule}
-use Rattle.llvm_core.proofs.ListLemmas.{slice_get-kept, slice_get-push, slice_get-push_cases, change_cases, distinct_nil, distinct_push, length-with_change, length-slice_set, some_same}
+use Rattle.support.proofs.ListLaws.{slice_get-kept, slice_get-push, slice_get-push_cases, change_cases, distinct_nil, distinct_push, length-with_change, length-slice_set}
 use Rattle.llvm_core.proofs.DataLemmas.{within_at}
 use Rattle.llvm_core.proofs.GrowLemmas.{blocks_of, insts_of, KeepsTypes, function_type, inst_type, Grows, const_kept, function_kept, block_kept, inst_kept, values_kept, result_kept, listed_block_kept, listed_inst_kept}
 use Rattle.llvm_core.proofs.ListedLemmas.{same_keeps, push_keeps, kept_or_changed, change_keeps, changed_there}
@@ -39,23 +41,13 @@ change_types type c same i xs j x e = elim (kept_or_changed c i xs j x e) [ inl 
 
 -- ---- types and constants
 
-same_or_longer : {X : Type 0} (old new : List X) (k : X) (n : ℕ) → Interned old new k n → (i : ℕ) (x : X) → slice_get old i ≡ Some x → slice_get new i ≡ Some x
-same_or_longer old new k n h i x e = elim h.only [ inl same ↦ rw same e | inr more ↦ rw more (slice_get-kept old (k ∷ []) i x e) ]
-
-no_shorter : {X : Type 0} (old new : List X) (k : X) (n : ℕ) → Interned old new k n → length old ≤ length new
-no_shorter old new k n h = elim h.only [ inl same ↦ omega (arith, ap length same) | inr more ↦ omega (arith, ap length more ∙ length-append old (k ∷ [])) ]
-
--- each of the new list is of the old one or the new one last
-interned_cases : {X : Type 0} (old new : List X) (k : X) (n : ℕ) → Interned old new k n → (i : ℕ) (x : X) → slice_get new i ≡ Some x → (slice_get old i ≡ Some x) ⊎ ((i ≡ length old) × (x ≡ k))
-interned_cases old new k n h i x e = elim h.only [ inl same ↦ inl (ap (λ xs. slice_get xs i) (sym same) ∙ e) | inr more ↦ slice_get-push_cases old k i x (ap (λ xs. slice_get xs i) (sym more) ∙ e) ]
-
 types_grow : (m : Module) (types : List LLVMTypeKind) (k : LLVMTypeKind) (n : ℕ) → Interned m.types types k n → Grows m (record m { types = types })
 types_grow m types k n h = record {
-  types = same_or_longer m.types types k n h;
+  types = interned_kept m.types types k n h;
   consts = λ i x e. e;
   function_types = same_types function_type m.functions;
   inst_types = same_types inst_type m.insts;
-  type_count = no_shorter m.types types k n h;
+  type_count = interned_longer m.types types k n h;
   const_count = omega arith;
   function_count = omega arith;
   block_count = omega arith;
@@ -87,10 +79,10 @@ type_added m types k n s ok h once =
 
 pub const_added : (m : Module) (consts : List LLVMConstKind) (k : LLVMConstKind) (n : ℕ) → IsModule m → IsConstOver m.types k → Interned m.consts consts k n → IsDistinctList consts → IsModule (record m { consts = consts })
 const_added m consts k n s ok h once =
-    let longer = no_shorter m.consts consts k n h in
+    let longer = interned_longer m.consts consts k n h in
     let g : Grows m (record m { consts = consts }) = record {
       types = λ i x e. e;
-      consts = same_or_longer m.consts consts k n h;
+      consts = interned_kept m.consts consts k n h;
       function_types = same_types function_type m.functions;
       inst_types = same_types inst_type m.insts;
       type_count = omega arith;
@@ -240,7 +232,7 @@ params_set fs i x y at same f = at_place fs i f.0 at
   where
     at_place : (xs : List FunctionData) (i j : ℕ) → slice_get xs i ≡ Some x → length (option_map_or (λ (y : FunctionData). y.params) (slice_get xs j) []) ≤ length (option_map_or (λ (y : FunctionData). y.params) (slice_get (slice_set xs i y) j) [])
     at_place [] i j e = omega arith
-    at_place (w ∷ xs) zero zero e = let d : w ≡ x = some_same w x e in omega (arith, same, ap (λ (y : FunctionData). length y.params) d)
+    at_place (w ∷ xs) zero zero e = let d : w ≡ x = same_Some w x e in omega (arith, same, ap (λ (y : FunctionData). length y.params) d)
     at_place (w ∷ xs) zero (suc j) e = omega arith
     at_place (w ∷ xs) (suc i) zero e = omega arith
     at_place (w ∷ xs) (suc i) (suc j) e = at_place xs i j e

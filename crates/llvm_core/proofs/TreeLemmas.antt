@@ -1,7 +1,7 @@
 -- Trees by number: a list that grows keeps them, and the tree at a number is that of the kind there.
 use Rattle.std.proofs.Common.{◌≡◌, ◌<◌, ◌+◌, ℕ, zero, suc, List, [], ◌∷◌, ◌++◌, Some, length, slice_get, get_or, ap, sym, ◌∙◌, refl, arith, length-append, All}
 use Rattle.std.proofs.lemmas.List.Elements.{All-head, All-tail}
-use Rattle.std.proofs.lemmas.Option.{slice_get_within}
+use Rattle.std.proofs.lemmas.Option.{slice_get_within, same_Some}
 use Rattle.std.proofs.Math.ListN.{get_or-append}
 use Rattle.llvm_core.specs.declared.numbers.LLVMType.{LLVMType}
 use Rattle.llvm_core.specs.declared.types.LLVMTypeKind.{LLVMTypeKind}
@@ -10,7 +10,6 @@ use Rattle.llvm_core.specs.declared.consts.LLVMConstKind.{LLVMConstKind}
 use Rattle.llvm_core.specs.declared.consts.LLVMConstKind.TheVariants as C
 use Rattle.llvm_core.specs.Parts.{IsTypeOver, IsConstOver}
 use Rattle.llvm_core.specs.Data.{TypeTree, VoidType, ConstTree, IntConst, PlaceholderConst, trees_after, type_at, types_at, type_tree, type_trees, const_tree, const_trees}
-use Rattle.llvm_core.proofs.ListLemmas.{some_same}
 
 -- ---- of any kind, whose tree is told by the trees of its parts
 
@@ -47,7 +46,7 @@ module _ {K T : Type 0} (tree_of : List T → K → T) (none : T) where
       let one = done ++ tree_of done l ∷ [] in
       let at : i ≡ length done = omega arith in
       let longer : i < length one = omega (arith, length-append done (tree_of done l ∷ [])) in
-      kept one ks i longer ∙ last_or done (tree_of done l) i at ∙ ap (tree_of done) (some_same l k h)
+      kept one ks i longer ∙ last_or done (tree_of done l) i at ∙ ap (tree_of done) (same_Some l k h)
       ∙ same done (after one ks) i (λ j below. sym (kept done (l ∷ ks) j (omega (arith, at)))) k p
   at_number Over same done (l ∷ ks) (suc j) i k e h p =
       at_number Over same (done ++ tree_of done l ∷ []) ks j i k (omega (arith, length-append done (tree_of done l ∷ []))) h p

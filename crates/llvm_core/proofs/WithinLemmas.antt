@@ -1,7 +1,8 @@
 -- The types that a module's values name are there.
 use Rattle.std.proofs.Common.{◌≡◌, ◌<◌, ℕ, Bool, true, false, ◌&&◌, nat_eq, if◌then◌else◌, List, Option, Some, None, [], length, slice_get, sym, ap, ◌∙◌, refl, arith, get_or}
 use Rattle.std.specs.Option.{option_map, option_map_or}
-use Rattle.std.proofs.lemmas.Option.{slice_get_within, get_or_from_slice_get}
+use Rattle.std.proofs.lemmas.Option.{slice_get_within, get_or_from_slice_get, same_Some}
+use Rattle.support.proofs.ListLaws.{item_there}
 use Rattle.llvm_core.specs.declared.numbers.LLVMType.{LLVMType}
 use Rattle.llvm_core.specs.declared.numbers.LLVMFunction.{LLVMFunction}
 use Rattle.llvm_core.specs.declared.types.LLVMTypeKind.{LLVMTypeKind}
@@ -20,8 +21,6 @@ use Rattle.llvm_core.specs.Module.{Module}
 use Rattle.llvm_core.specs.Code.{param_names}
 use Rattle.llvm_core.specs.Parts.{IsTypeOver, IsConstOver, IsValue, HasValues, IsResultOver, const_type, type_params, kind_params, is_int, is_kind, both_type, param_types, value_type, result_type}
 use Rattle.llvm_core.specs.Sound.{IsModule}
-use Rattle.llvm_core.proofs.ListLemmas.{some_same}
-use Rattle.llvm_core.proofs.DataLemmas.{there}
 
 pub const_type_within : (types : List LLVMTypeKind) (k : LLVMConstKind) → IsConstOver types k → (const_type k).0 < length types
 const_type_within types (C.Int t v) h = slice_get_within types t.0 _ h.1
@@ -88,14 +87,14 @@ param_type_within m f place t s lt e =
 -- the type of a value is there
 pub value_type_within : (m : Module) (v : LLVMValue) (t : LLVMType) → IsModule m → IsValue m v → value_type m v ≡ Some t → t.0 < length m.types
 value_type_within m (V.Const c) t s h e =
-    let k = there m.consts c.0 h in
-    let same : const_type k.0 ≡ t = some_same (const_type k.0) t (ap (option_map const_type) (sym k.1) ∙ e) in
+    let k = item_there m.consts c.0 h in
+    let same : const_type k.0 ≡ t = same_Some (const_type k.0) t (ap (option_map const_type) (sym k.1) ∙ e) in
     let within = const_type_within m.types k.0 (s.consts c.0 k.0 k.1) in
     omega (arith, within, ap (λ (u : LLVMType). u.0) same)
 value_type_within m (V.Param f place) t s h e = param_type_within m f place t s h e
 value_type_within m (V.Inst i) t s h e =
-    let x = there m.insts i.0 h in
-    let same : x.0.ty ≡ t = some_same x.0.ty t (ap (option_map (λ (y : InstData). y.ty)) (sym x.1) ∙ e) in
+    let x = item_there m.insts i.0 h in
+    let same : x.0.ty ≡ t = same_Some x.0.ty t (ap (option_map (λ (y : InstData). y.ty)) (sym x.1) ∙ e) in
     let within = (s.insts i.0 x.0 x.1).typed in
     omega (arith, within, ap (λ (u : LLVMType). u.0) same)
 
@@ -105,13 +104,13 @@ result_within m (I.Add lhs rhs flags) r h e = by (both_type m.types (value_type 
   where
     by : (o : Option LLVMType) → both_type m.types (value_type m lhs) (value_type m rhs) ≡ o → option_map R.There o ≡ Some r → IsResultOver m.types r
     by None at e = cc
-    by (Some t) at e = rw (← some_same (R.There t) r e) (both_type_there m.types (value_type m lhs) (value_type m rhs) t at)
+    by (Some t) at e = rw (← same_Some (R.There t) r e) (both_type_there m.types (value_type m lhs) (value_type m rhs) t at)
 result_within m (I.ICmp lhs rhs predicate) r h e = by (both_type m.types (value_type m lhs) (value_type m rhs)) e
   where
     by : (o : Option LLVMType) → option_map (λ _. R.Bit) o ≡ Some r → IsResultOver m.types r
     by None e = cc
-    by (Some t) e = rw (← some_same R.Bit r e) tt
-result_within m (I.Phi type entries) r h e = rw (← some_same (R.There type) r e) h.0
+    by (Some t) e = rw (← same_Some R.Bit r e) tt
+result_within m (I.Phi type entries) r h e = rw (← same_Some (R.There type) r e) h.0
 result_within m (I.Br target) r h e = cc
 result_within m (I.CondBr condition first second) r h e = cc
 result_within m (I.Ret v) r h e = cc

@@ -1,6 +1,7 @@
 -- The functions, blocks and instructions of a module as lists, and how building calls change them.
 use Rattle.std.specs.Prelude.{◌<◌, ◌^◌, ℕ, List, [], ◌∷◌, ◌++◌, length, slice_get, slice_set, if◌then◌else◌, nat_eq, None, Some}
 use Rattle.std.specs.Option.{option_map_or}
+use Rattle.support.specs.Changes.{with_change}
 use Rattle.llvm_core.specs.declared.numbers.LLVMType.{LLVMType}
 use Rattle.llvm_core.specs.declared.numbers.LLVMFunction.{LLVMFunction}
 use Rattle.llvm_core.specs.declared.numbers.LLVMBasicBlock.{LLVMBasicBlock}
@@ -31,10 +32,6 @@ code_of m = record { functions = m.functions; blocks = m.blocks; insts = m.insts
 -- the module with that code
 abbrev pub with_code : Module → Code → Module
 with_code m c = record m { functions = c.functions; blocks = c.blocks; insts = c.insts }
-
--- xs, with f of the item at i in its place
-abbrev pub with_change : {X : Type 0} → (X → X) → ℕ → List X → List X
-with_change f i xs = option_map_or (λ x. slice_set xs i (f x)) (slice_get xs i) xs
 
 abbrev pub with_function : Code → FunctionData → Code
 with_function c f = record c { functions = c.functions ++ f ∷ [] }

@@ -2,6 +2,7 @@
 use Rattle.std.specs.Prelude.{◌≡◌, ◌<◌, ℕ, zero, suc, Bool, length, if◌then◌else◌, nat_eq, List, [], ◌∷◌, ◌++◌, Option, Some, None, All, map, slice_get, slice_set, slice_index_or}
 use Rattle.std.specs.List.{filter_map, flat_map, find, enumerate_from}
 use Rattle.std.specs.Option.{option_map, option_map_or}
+use Rattle.support.specs.Changes.{with_change}
 use Rattle.llvm_core.specs.declared.numbers.LLVMType.{LLVMType}
 use Rattle.llvm_core.specs.declared.numbers.LLVMConst.{LLVMConst}
 use Rattle.llvm_core.specs.declared.numbers.LLVMBasicBlock.{LLVMBasicBlock}
@@ -23,7 +24,6 @@ use Rattle.llvm_core.specs.declared.code.FunctionData.{FunctionData}
 use Rattle.llvm_core.specs.declared.code.BlockData.{BlockData}
 use Rattle.llvm_core.specs.declared.code.InstData.{InstData}
 use Rattle.llvm_core.specs.Module.{Module}
-use Rattle.llvm_core.specs.Code.{with_change}
 use Rattle.llvm_core.specs.Parts.{result_type}
 
 -- ---- the data

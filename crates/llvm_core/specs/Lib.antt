@@ -1,5 +1,4 @@
 -- The definitions that contracts cite.
-pub mod Interned
 pub mod Keys
 pub mod Module
 pub mod Code

@@ -17,7 +17,7 @@ use Rattle.llvm_core.specs.declared.code.LLVMInst.TheVariants as I
 use Rattle.llvm_core.specs.declared.code.PhiEntry.{PhiEntry}
 use Rattle.llvm_core.specs.declared.code.FunctionData.{FunctionData}
 use Rattle.llvm_core.specs.declared.code.InstData.{InstData}
-use Rattle.llvm_core.specs.Interned.{Interned}
+use Rattle.support.specs.Interned.{Interned}
 use Rattle.llvm_core.specs.Module.{Module}
 use Rattle.llvm_core.specs.Code.{param_names}
 

@@ -1,8 +1,8 @@
 //! Functions, blocks and instructions, as a module keeps them.
 
-use crate::items::Items;
 use crate::numbers::{LLVMBasicBlock, LLVMConst, LLVMFunction, LLVMInstRef, LLVMType};
-use crate::text::Text;
+use support::items::Items;
+use support::text::Text;
 
 /// What an operand names.
 #[derive(Clone, Copy, PartialEq, Eq, Hash, Debug, Drop)]

@@ -2,15 +2,16 @@
 
 ghost use Rattle.std.specs.Prelude.{◌≡◌, ◌<◌, IfOk, IsTrue, OnErr, OnOk, Some, [], if◌then◌else◌, nat_eq, length, slice_get};
 ghost use Rattle.std.specs.Option.{option_map};
-ghost use Rattle.llvm_core.specs.Code.{with_function, with_param_name, with_block, with_inst, with_change, with_operand, with_entry, with_changed_inst, param_names};
+ghost use Rattle.support.specs.Changes.{with_change};
+ghost use Rattle.llvm_core.specs.Code.{with_function, with_param_name, with_block, with_inst, with_operand, with_entry, with_changed_inst, param_names};
 ghost use Rattle.llvm_core.specs.Parts.{IsPhi, is_phi, operands};
 
 use crate::code::{BlockData, FunctionData, InstData, LLVMInst, LLVMValue, PhiEntry};
-use crate::items::{Items, append_both};
 use crate::numbers::{LLVMBasicBlock, LLVMFunction, LLVMInstRef, LLVMType};
-use crate::text::Text;
 use std::alloc::{AllocError, Global};
 use std::marker::Model;
+use support::items::{Items, append_both};
+use support::text::Text;
 
 /// The functions, blocks and instructions of a module, seen as their lists.
 #[derive(Drop)]

@@ -8,11 +8,11 @@ ghost use Rattle.llvm_core.specs.Checked.{Fails, MayAnswer, IsCheckedEdges};
 
 use crate::check_err::{CheckErr, Place};
 use crate::code::LLVMInst;
-use crate::items::Items;
 use crate::module::LLVMModule;
 use crate::numbers::{LLVMBasicBlock, LLVMFunction, LLVMInstRef};
 use crate::phis::{fits_edges, has_two_values};
 use std::alloc::{AllocError, Global};
+use support::items::Items;
 
 /// An empty list for each block.
 fn no_edges(alloc: Global, blocks: u32) -> Result<Vec<Items<u32>>, AllocError>

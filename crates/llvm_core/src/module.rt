@@ -3,7 +3,7 @@
 ghost use Rattle.std.specs.Prelude.{◌≡◌, ◌<◌, ◌⊎◌, ◌++◌, ◌∷◌, [], IfOk, IfSome, OnErr, OnOk, None, Some, All, IsTrue, length, map, slice_get};
 ghost use Rattle.std.specs.Option.{option_map};
 ghost use Rattle.llvm_core.specs.declared.code.LLVMValue.TheVariants as values;
-ghost use Rattle.llvm_core.specs.Interned.{Interned};
+ghost use Rattle.support.specs.Interned.{Interned};
 ghost use Rattle.llvm_core.specs.Module.{Module};
 ghost use Rattle.llvm_core.specs.Code.{code_of, with_code, with_function, with_param_name, with_block, with_inst, with_operand, with_entry, with_changed_inst, param_names};
 ghost use Rattle.llvm_core.specs.Parts.{IsTypeOver, IsConstOver, IsFunctionType, IsValue, IsBlock, HasValues, IsResultType, IsResultOver, TakesOperand, IsPhi, made_kind, const_type, is_function, is_int, both_type, kind_params, type_params, value_type, result_type};
@@ -14,13 +14,13 @@ ghost use Rattle.llvm_core.specs.Data.{trees_of, type_at, result_tree, operand_o
 use crate::code::{LLVMInst, LLVMValue, PhiEntry};
 use crate::code_store::CodeStore;
 use crate::consts::LLVMConstKind;
-use crate::interner::Interner;
-use crate::items::Items;
 use crate::numbers::{LLVMBasicBlock, LLVMConst, LLVMFunction, LLVMInstRef, LLVMType};
-use crate::text::Text;
 use crate::types::{LLVMTypeKind, ResultType};
 use std::alloc::{AllocError, Global};
 use std::marker::Model;
+use support::interner::Interner;
+use support::items::Items;
+use support::text::Text;
 
 /// A module in memory.
 #[derive(Drop)]

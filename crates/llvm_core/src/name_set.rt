@@ -3,10 +3,10 @@
 ghost use Rattle.std.specs.Prelude.{◌≡◌, [], IfOk};
 ghost use Rattle.llvm_core.specs.Names.{IsInserted};
 
-use crate::text::Text;
 use indexmap::IndexSet;
 use std::alloc::{AllocError, Global};
 use std::marker::Model;
+use support::text::Text;
 
 /// Names that are each kept once, seen as their list.
 #[derive(Drop)]

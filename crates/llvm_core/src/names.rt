@@ -6,12 +6,12 @@ ghost use Rattle.std.specs.Option.{option_map, option_map_or};
 ghost use Rattle.llvm_core.specs.Names.{HasTwice};
 ghost use Rattle.llvm_core.specs.Checked.{named, inst_names, block_names, local_names};
 
-use crate::items::Items;
 use crate::module::LLVMModule;
 use crate::name_set::NameSet;
 use crate::numbers::{LLVMBasicBlock, LLVMFunction, LLVMInstRef};
-use crate::text::Text;
 use std::alloc::{AllocError, Global};
+use support::items::Items;
+use support::text::Text;
 
 /// Appends a name, where there is one.
 fn push_named(alloc: Global, names: &mut Items<Text>, name: &str) -> Result<(), AllocError>

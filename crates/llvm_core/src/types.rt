@@ -1,7 +1,7 @@
 //! Types, as a module keeps them.
 
-use crate::items::Items;
 use crate::numbers::LLVMType;
+use support::items::Items;
 
 /// The type of an instruction's result.
 #[derive(Clone, Copy, PartialEq, Eq, Debug, Drop)]

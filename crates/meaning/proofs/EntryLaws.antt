@@ -1,6 +1,6 @@
 -- Entries of functions with a body: their symbols, their bodies, and that a module of plain names leaves none out.
-use Rattle.std.proofs.Common.{ℕ, suc, ◌≡◌, refl, sym, ◌∙◌, ap, subst, Bool, true, false, not, if◌then◌else◌, List, [], ◌∷◌, Some, None, map, filter, length, nat_lt, All, arith}
-use Rattle.std.proofs.lemmas.Bool.{lt-ltb}
+use Rattle.std.proofs.Common.{ℕ, suc, ◌≡◌, refl, sym, ◌∙◌, ap, subst, Bool, true, not, if◌then◌else◌, List, [], ◌∷◌, Some, None, map, filter, length, nat_lt, All, arith}
+use Rattle.std.proofs.lemmas.Bool.{lt-ltb, false_from_ne_true}
 use Rattle.std.proofs.lemmas.List.Elements.{All-head, All-tail}
 use Rattle.llvm_core.specs.Names.{is_plain}
 use Rattle.llvm_core.specs.Data as L
@@ -41,15 +41,11 @@ both match n b c x y hb hc same = rw (hb, hc) same
 
 -- ---- plain names are no names of intrinsics
 
-not_true : (b : Bool) → (b ≡ true → ⊥) → b ≡ false
-not_true true h = absurd (h refl)
-not_true false h = refl
-
 abbrev pub HasPlainName : L.Function → Type 0
 HasPlainName f = is_plain f.name ≡ true
 
 own : (f : L.Function) → HasPlainName f → not (Llvm.is_intrinsic f) ≡ true
-own f plain = ap not (not_true (Llvm.is_intrinsic f) (own_of_plain f.name plain))
+own f plain = ap not (false_from_ne_true (Llvm.is_intrinsic f) (own_of_plain f.name plain))
 
 pub all_kept : (fs : List L.Function) → All HasPlainName fs → filter (λ (f : L.Function). not (Llvm.is_intrinsic f)) fs ≡ fs
 all_kept [] h = refl

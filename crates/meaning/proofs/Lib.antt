@@ -3,6 +3,7 @@ pub mod CodeLaws
 pub mod ExampleLaws
 pub mod Naming
 pub mod Prefix
+pub mod MatchedLaws
 pub mod PredicateLaws
 pub mod SameValues
 pub mod Fronts

@@ -1,9 +1,10 @@
 -- Runs of two bodies whose blocks follow one another follow one another, jump by jump. Where the simulation is lax,
 -- a run of the dialect that has read an unset value is excused from then on.
-use Rattle.std.proofs.Common.{◌≡◌, ◌∙◌, ℕ, zero, suc, Bool, true, false, not, ◌&&◌, ◌||◌, ◌⊎◌, inl, inr, List, [], ◌∷◌, ◌++◌, Option, Some, None, map, slice_get, refl, subst, ⊎_elim}
+use Rattle.std.proofs.Common.{◌≡◌, ◌∙◌, ℕ, Bool, true, false, not, ◌&&◌, ◌||◌, ◌⊎◌, inl, inr, List, [], ◌∷◌, ◌++◌, Option, Some, None, map, slice_get, refl, subst, ⊎_elim}
 use Rattle.std.specs.List.{list_any}
 use Rattle.std.proofs.lemmas.Bool.{false≢true, and_parts, and_from, or_left, or_right, not_from_false}
 use Rattle.std.proofs.lemmas.List.{map-append}
+use Rattle.meaning.proofs.MatchedLaws.{matched_get}
 use Rattle.dialect_core.specs.declared.ops.Value.{Value}
 use Rattle.meaning.specs.Terms.{Term, Match, is_unset}
 use Rattle.meaning.specs.Machine.{Operand, At, Fixed, Action, Holds, Applies, Row, Edge, Block, Item, Entered, State, read, read_move, reads, apply, straight, shows, move, arrive, follow, take_edge, edge_of, jump, go_on, run, first, trace, reads_unset}
@@ -14,13 +15,6 @@ use Rattle.meaning.specs.Dialect.{same_value}
 use Rattle.meaning.specs.Shape.{Plan, IsPlan, operands_of, SameRow, SameEdge}
 use Rattle.meaning.proofs.Simulation.{Follows, IsKnown, AreKnown, IsKnownMove, AreKnownMoves, moved_agrees, action_follows}
 use Rattle.meaning.proofs.Unset.{effect_unset, apply_unset, straight_unset, run_unset}
-
-matched_get : {A B : Type 0} (P : A → B → Type 0) (xs : List A) (ys : List B) (i : ℕ) → Matched P xs ys → BothOrNone P (slice_get xs i) (slice_get ys i)
-matched_get P [] [] i h = tt
-matched_get P [] (y ∷ ys) i h = absurd h
-matched_get P (x ∷ xs) [] i h = absurd h
-matched_get P (x ∷ xs) (y ∷ ys) zero h = h.0
-matched_get P (x ∷ xs) (y ∷ ys) (suc i) h = matched_get P xs ys i h.1
 
 -- ---- what is read is known to be set, or excused
 

@@ -52,7 +52,7 @@ abbrev key_of : Value → Key
 key_of (Argument b i) = ParamKey 0 i
 key_of (Result r) = ResultKey (r.0 - 3)
 
-key_of_value : (k : Key) (w : Value) → value_of k ≡ Some w → key_of w ≡ k
+pub key_of_value : (k : Key) (w : Value) → value_of k ≡ Some w → key_of w ≡ k
 key_of_value = each (λ k w. key_of w ≡ k) refl refl refl refl refl
 
 pub is_plan : IsPlan plan

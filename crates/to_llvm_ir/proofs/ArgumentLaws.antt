@@ -3,6 +3,7 @@ use Rattle.std.proofs.Common.{◌≡◌, ◌<◌, ◌+◌, ℕ, suc, List, [], �
 use Rattle.std.specs.Option.{option_map}
 use Rattle.std.proofs.lemmas.Option.{same_Some, slice_get-map, slice_get-get_or}
 use Rattle.std.proofs.lemmas.List.{append-nil, take_all, length-map}
+use Rattle.support.proofs.ListLaws.{item_there}
 use Rattle.llvm_core.specs.declared.numbers.LLVMType.{LLVMType}
 use Rattle.llvm_core.specs.declared.numbers.LLVMFunction.{LLVMFunction}
 use Rattle.llvm_core.specs.declared.numbers.LLVMBasicBlock.{LLVMBasicBlock}
@@ -34,7 +35,7 @@ use Rattle.to_llvm_ir.specs.Made.{Numbers, result_values, values_by, number_of, 
 use Rattle.to_llvm_ir.specs.Growth.{Grows, IsTypeOf, HasType}
 use Rattle.to_llvm_ir.specs.States.{found, AreKnown, Task, IsAtArgument, IsAtOp, IsBlockAt, blocks_within, seen_to, values_to, turn, first_at, upto}
 use Rattle.to_llvm_ir.specs.Opening.{HasParams}
-use Rattle.to_llvm_ir.proofs.ListLaws.{all_at, item_there, take_suc, split_at, at_middle}
+use Rattle.to_llvm_ir.proofs.ListLaws.{all_at, take_suc, split_at, at_middle}
 use Rattle.to_llvm_ir.proofs.LookupLaws.{block_form, argument_type, entry_is, entry_is_not}
 use Rattle.to_llvm_ir.proofs.TurnLaws.{by_split}
 use Rattle.to_llvm_ir.proofs.PlacedLaws.{number_at, argument_operand, param_operand}

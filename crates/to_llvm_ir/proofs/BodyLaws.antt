@@ -5,6 +5,7 @@ use Rattle.std.specs.List.{flat_map, filter_map, cons_option}
 use Rattle.std.proofs.lemmas.Option.{none-some, same_Some, slice_get_within}
 use Rattle.std.proofs.lemmas.List.{append-nil, take_all}
 use Rattle.std.proofs.lemmas.List.Concat.{flat_map-append}
+use Rattle.support.proofs.ListLaws.{item_there}
 use Rattle.llvm_core.specs.declared.numbers.LLVMFunction.{LLVMFunction}
 use Rattle.llvm_core.specs.declared.numbers.LLVMType.{LLVMType}
 use Rattle.llvm_core.specs.Module.{Module}
@@ -25,7 +26,7 @@ use Rattle.to_llvm_ir.specs.Made.{Numbers, result_values, block_values, values_b
 use Rattle.to_llvm_ir.specs.States.{found, Has, AreKnown, Task, IsTask, IsBlockAt, IsListed, IsBetween, IsAtArgument, IsAtOp, IsLinking, AreAllMapped, found_block, turn, seen_to, values_to, filled, filled_to, blocks_before, blocks_within, first_at, all_values, upto}
 use Rattle.to_llvm_ir.specs.Opening.{HasParams, IsOpening}
 use Rattle.to_llvm_ir.specs.Bodies.{IsBlockBegun, IsBlocksBegun}
-use Rattle.to_llvm_ir.proofs.ListLaws.{take_suc, item_there}
+use Rattle.to_llvm_ir.proofs.ListLaws.{take_suc}
 use Rattle.to_llvm_ir.proofs.TurnLaws.{named_within, named_once, turn_is, turn_at, turns_apart, turn_within, taken_here, taken_length, taken_from, block_values_at}
 use Rattle.to_llvm_ir.proofs.FilledLaws.{with_same, with_none, with_made}
 use Rattle.to_llvm_ir.proofs.KnownLaws.{known_other, known_count, has_flat, flat_has}

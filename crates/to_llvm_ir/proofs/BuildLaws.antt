@@ -1,9 +1,10 @@
 -- An instruction more in a module: what grows, the type of its result, and the data.
-use Rattle.std.proofs.Common.{◌≡◌, ◌<◌, ◌⊎◌, inl, inr, ◌+◌, ℕ, nat_eq, if◌then◌else◌, List, [], ◌∷◌, ◌++◌, Option, Some, None, All, length, map, slice_get, refl, sym, ap, subst, ◌∙◌, arith, ne_eqb}
+use Rattle.std.proofs.Common.{◌≡◌, ◌<◌, ◌+◌, ℕ, nat_eq, if◌then◌else◌, List, [], ◌∷◌, ◌++◌, Option, Some, All, length, map, slice_get, refl, sym, ap, subst, ◌∙◌, arith, ne_eqb}
 use Rattle.std.specs.Option.{option_map, option_map_or}
 use Rattle.std.proofs.lemmas.Bool.{cond-false}
-use Rattle.std.proofs.lemmas.List.{append-nil, map_push, length_push}
+use Rattle.std.proofs.lemmas.List.{map_push, length_push}
 use Rattle.std.proofs.lemmas.List.Elements.{All-head, All-tail, All-weaker}
+use Rattle.llvm_core.proofs.GrowLemmas.{types_more}
 use Rattle.llvm_core.specs.declared.numbers.LLVMType.{LLVMType}
 use Rattle.llvm_core.specs.declared.numbers.LLVMBasicBlock.{LLVMBasicBlock}
 use Rattle.llvm_core.specs.declared.numbers.LLVMInstRef.{LLVMInstRef}
@@ -14,14 +15,13 @@ use Rattle.llvm_core.specs.declared.types.ResultType.TheVariants as R
 use Rattle.llvm_core.specs.declared.code.LLVMValue.TheVariants as V
 use Rattle.llvm_core.specs.declared.code.LLVMInst.{LLVMInst}
 use Rattle.llvm_core.specs.declared.code.InstData.{InstData}
-use Rattle.llvm_core.specs.Interned.{Interned}
 use Rattle.llvm_core.specs.Module.{Module}
 use Rattle.llvm_core.specs.Sound.{IsModule}
 use Rattle.llvm_core.specs.Code.{code_of, with_code, with_inst}
 use Rattle.llvm_core.specs.Parts.{IsResultType, result_type}
 use Rattle.llvm_core.specs.Data as L
 use Rattle.llvm_core.specs.Data.{IntType, Operand, Placed, Block, Function, ModuleData, trees_of, type_at, instruction_of, result_tree, data_of, with_function, with_instruction, with_instruction_in, AllBlocks}
-use Rattle.llvm_core.proofs.ListLemmas.{length-with_change, slice_get-push}
+use Rattle.support.proofs.ListLaws.{length-with_change, slice_get-push}
 use Rattle.llvm_core.proofs.DataLemmas.{int_tree_of}
 use Rattle.to_llvm_ir.specs.Made.{function_with}
 use Rattle.to_llvm_ir.specs.Growth.{Grows, HasType}
@@ -34,21 +34,9 @@ abbrev pub IsBuilt : (old new : Module) → LLVMBasicBlock → LLVMInstRef → L
 IsBuilt old new b i name inst =
     (ty : LLVMType) × IsResultType (result_type old inst) old.types new.types ty × (new ≡ with_code (record old { types = new.types }) (with_inst (code_of old) b i name ty inst))
 
-interned_types : (old new : List LLVMTypeKind) (k : LLVMTypeKind) (n : ℕ) → Interned old new k n → (more : List LLVMTypeKind) × (new ≡ old ++ more)
-interned_types old new k n h = by h.only
-  where
-    by : (new ≡ old) ⊎ (new ≡ old ++ k ∷ []) → (more : List LLVMTypeKind) × (new ≡ old ++ more)
-    by (inl same) = ([], same ∙ sym (append-nil old))
-    by (inr longer) = (k ∷ [], longer)
-
-more_types : (r : Option ResultType) (old new : List LLVMTypeKind) (ty : LLVMType) → IsResultType r old new ty → (more : List LLVMTypeKind) × (new ≡ old ++ more)
-more_types (Some (R.There t)) old new ty h = ([], h.1 ∙ sym (append-nil old))
-more_types (Some R.Bit) old new ty h = interned_types old new (T.Int 1) ty.0 h
-more_types None old new ty h = interned_types old new T.Void ty.0 h
-
 pub grows_built : (old new : Module) (b : LLVMBasicBlock) (i : LLVMInstRef) (name : List ℕ) (inst : LLVMInst) → IsBuilt old new b i name inst → Grows old new
 grows_built old new b i name inst h =
-    let more = more_types (result_type old inst) old.types new.types h.0 h.1 in
+    let more = types_more (result_type old inst) old.types new.types h.0 h.1 in
     grows_inst old new more.0 (record { name = name; block = b; ty = h.0; inst = inst }) more.1 (ap (λ (x : Module). x.consts) h.2) (ap (λ (x : Module). x.functions) h.2) (ap (λ (x : Module). x.insts) h.2)
 
 pub built_blocks : (old new : Module) (b : LLVMBasicBlock) (i : LLVMInstRef) (name : List ℕ) (inst : LLVMInst) → IsBuilt old new b i name inst → length new.blocks ≡ length old.blocks

@@ -2,7 +2,7 @@
 use Rattle.std.proofs.Common.{ℕ, List, [], ◌∷◌, All, map, sym, subst}
 use Rattle.std.proofs.lemmas.List.Elements.{All-nil, All-cons, All-head, All-tail}
 use Rattle.llvm_core.specs.Module.{Module}
-use Rattle.llvm_core.specs.Interned.{IsDistinctList}
+use Rattle.support.specs.Interned.{IsDistinctList}
 use Rattle.llvm_core.specs.Data as L
 use Rattle.llvm_core.specs.Data.{ModuleData, data_of}
 use Rattle.llvm_core.specs.Form.{IsForm, IsFormFunction, IsFewIn, HasDistinctNames, HasFew, local_names}

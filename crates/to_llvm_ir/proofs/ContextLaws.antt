@@ -1,10 +1,11 @@
 -- What the context tells of functions and blocks.
-use Rattle.std.proofs.Common.{ℕ, zero, suc, ◌≡◌, ◌<◌, true, false, refl, sym, ap, subst, ◌∙◌, List, [], ◌∷◌, Option, Some, None, All, length, map, slice_get, arith}
+use Rattle.std.proofs.Common.{ℕ, ◌≡◌, ◌<◌, true, false, refl, sym, ap, subst, ◌∙◌, List, [], ◌∷◌, Option, Some, None, All, length, map, slice_get, arith}
 use Rattle.std.specs.Prelude.{unwrap_or, is_some, IfSome}
 use Rattle.std.specs.List.{filter_map, cons_option}
 use Rattle.std.specs.Option.{option_map, option_map_or, option_and_then}
 use Rattle.std.proofs.lemmas.List.{length-map}
 use Rattle.std.proofs.lemmas.Option.{same_Some, none-some, slice_get_within, get_or_from_slice_get}
+use Rattle.support.proofs.ListLaws.{item_there}
 use Rattle.llvm_core.proofs.DataLemmas.{length-filter_map_all}
 use Rattle.dialect_types.specs.declared.types.TypeHandle.{TypeHandle}
 use Rattle.dialect_types.specs.Trees.{TypeTree, type_at, type_trees}
@@ -34,11 +35,6 @@ single : {X Y : Type 0} (h : X → Option Y) (xs : List X) (y : Y) → length (f
 single h [] y len e = cc
 single h (x ∷ []) y len e = (x, refl, alone (h x) y e)
 single h (x ∷ (z ∷ xs)) y len e = absurd (let k = ap (λ ys. length ys) e in omega (arith, k, len))
-
-item_there : {X : Type 0} (xs : List X) (i : ℕ) → i < length xs → (x : X) × (slice_get xs i ≡ Some x)
-item_there [] i lt = absurd (omega (arith, lt))
-item_there (x ∷ xs) zero lt = (x, refl)
-item_there (x ∷ xs) (suc i) lt = item_there xs i (omega (arith, lt))
 
 -- ---- blocks
 

@@ -1,11 +1,13 @@
 -- The entries of phis and the edges of the function that is made: one for each edge, in order, and where each comes from.
-use Rattle.std.proofs.Common.{◌≡◌, ◌<◌, ◌⊎◌, inl, inr, ◌+◌, ℕ, zero, suc, Bool, true, false, nat_eq, if◌then◌else◌, List, [], ◌∷◌, ◌++◌, Option, Some, None, length, map, filter, take, slice_get, refl, sym, ap, ◌∙◌, arith, ⊎_elim, eq-eqb, ne_eqb, eqb-true, length-append}
+use Rattle.std.proofs.Common.{◌≡◌, ◌<◌, ◌⊎◌, inl, inr, ◌+◌, ℕ, zero, suc, Bool, true, false, nat_eq, if◌then◌else◌, List, [], ◌∷◌, ◌++◌, Option, Some, None, length, map, filter, take, slice_get, refl, sym, ap, ◌∙◌, arith, ⊎_elim, eq-eqb, ne_eqb, eqb-true}
 use Rattle.std.specs.List.{flat_map, filter_map, cons_option}
 use Rattle.std.specs.Option.{option_map_or}
 use Rattle.std.proofs.lemmas.Option.{same_Some, none-some}
 use Rattle.std.proofs.lemmas.Bool.{cond-true, cond-false, cases_eq}
 use Rattle.std.proofs.lemmas.List.{map-append, append-nil}
 use Rattle.std.proofs.lemmas.List.Elements.{filter-append}
+use Rattle.llvm_core.proofs.EdgeLemmas.{count-append}
+use Rattle.support.proofs.ListLaws.{item_there, slice_get-behind_cases, from_joined}
 use Rattle.llvm_core.specs.Edges.{count_of}
 use Rattle.llvm_core.specs.Data.{Operand, Block}
 use Rattle.llvm_core.specs.Form as F
@@ -17,12 +19,7 @@ use Rattle.dialect_core.specs.Data.{DialectBlock, Func}
 use Rattle.dialect_core.specs.Form.{IsFormFunc, edges_of}
 use Rattle.to_llvm_ir.specs.Exported.{edge_sources}
 use Rattle.to_llvm_ir.specs.Made.{Numbers, operand_for, block_made, blocks_made, passed_to, passed, entry_with, block_passes, entries_from, number_past}
-use Rattle.to_llvm_ir.proofs.ListLaws.{item_there, append_cases}
-use Rattle.to_llvm_ir.proofs.TurnLaws.{flat_from}
 use Rattle.to_llvm_ir.proofs.EdgeLaws.{target_for, block_leads, made_at}
-
-count_append : (m : ℕ) (xs ys : List ℕ) → count_of m (xs ++ ys) ≡ count_of m xs + count_of m ys
-count_append m xs ys = ap (λ (zs : List ℕ). length zs) (filter-append (nat_eq m) xs ys) ∙ length-append (filter (nat_eq m) xs) (filter (nat_eq m) ys)
 
 both_parts : {X : Type 0} (xs ys us vs : List X) → xs ≡ us → ys ≡ vs → xs ++ ys ≡ us ++ vs
 both_parts xs ys us vs e f = cc
@@ -51,12 +48,12 @@ each_count p q ts = ⊎_elim
 pub sources_count : (p T : ℕ) (bs : List Block) → count_of p (edge_sources T bs) ≡ count_of T (flat_map F.targets_of (filter (λ (x : Block). nat_eq x.number p) bs))
 sources_count p T [] = refl
 sources_count p T (x ∷ bs) =
-    count_append p (each_from x.number (filter (nat_eq T) (F.targets_of x))) (edge_sources T bs)
+    count-append p (each_from x.number (filter (nat_eq T) (F.targets_of x))) (edge_sources T bs)
     ∙ by (nat_eq x.number p) _ _ (each_count p x.number (filter (nat_eq T) (F.targets_of x))) (sources_count p T bs)
   where
     by : (t : Bool) (u v : ℕ) → u ≡ (if t then count_of T (F.targets_of x) else 0) → v ≡ count_of T (flat_map F.targets_of (filter (λ (x : Block). nat_eq x.number p) bs))
         → u + v ≡ count_of T (flat_map F.targets_of (if t then x ∷ filter (λ (x : Block). nat_eq x.number p) bs else filter (λ (x : Block). nat_eq x.number p) bs))
-    by true u v e f = let s = count_append T (F.targets_of x) (flat_map F.targets_of (filter (λ (x : Block). nat_eq x.number p) bs)) in omega (arith, e, f, s)
+    by true u v e f = let s = count-append T (F.targets_of x) (flat_map F.targets_of (filter (λ (x : Block). nat_eq x.number p) bs)) in omega (arith, e, f, s)
     by false u v e f = omega (arith, e, f)
 
 -- edges to another block than that of the number T are of no matter to it
@@ -152,11 +149,11 @@ module _ (g : Func) (n : Numbers) where
   passed_by q (s ∷ ss) b i l x at = ⊎_elim
       (λ here. one_passed q s ss b i l x here)
       (λ later. let r = passed_by q ss b i later.0 x later.2 in record { at = suc r.at; edge = r.edge; here = r.here; to = r.to; value = r.value; passes = r.passes; is = r.is; source = r.source })
-      (append_cases (passed_to g n s.block s.args q (Argument b i)) (passed g n q ss (Argument b i)) l x at)
+      (slice_get-behind_cases (passed_to g n s.block s.args q (Argument b i)) (passed g n q ss (Argument b i)) l x at)
 
   pub comes_by : (ps : List ℕ) (b : BlockRef) (i l : ℕ) (x : Operand × ℕ) → slice_get (entries_from g n ps (Argument b i)) l ≡ Some x → ComesBy b i x
   comes_by ps b i l x at =
-      let r = flat_from (block_passes g n (Argument b i)) ps l x at in
+      let r = from_joined (block_passes g n (Argument b i)) ps l x at in
       by r.2 (slice_get g.blocks r.2) refl r.1 r.4
     where
       by : (p : ℕ) (o : Option DialectBlock) → slice_get g.blocks p ≡ o → (m : ℕ) → slice_get (option_map_or (λ (c : DialectBlock). passed g n (n.block + p) (edges_of c) (Argument b i)) o []) m ≡ Some x → ComesBy b i x

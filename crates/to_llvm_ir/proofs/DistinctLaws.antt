@@ -6,17 +6,17 @@ use Rattle.std.proofs.lemmas.List.{map-append}
 use Rattle.std.proofs.lemmas.List.Concat.{flat_map-append}
 use Rattle.std.proofs.lemmas.List.Elements.{All-nil, All-cons, All-append, All-weaker}
 use Rattle.llvm_core.specs.Checked.{named}
-use Rattle.llvm_core.specs.Interned.{IsDistinctList}
+use Rattle.support.specs.Interned.{IsDistinctList}
 use Rattle.llvm_core.specs.Data.{Operand, Placed}
 use Rattle.llvm_core.specs.Form.{names_in, local_names}
-use Rattle.llvm_core.proofs.ListLemmas.{distinct_nil}
+use Rattle.support.proofs.ListLaws.{distinct_nil, slice_get-behind_cases}
 use Rattle.dialect_types.specs.Trees.{TypeTree}
 use Rattle.dialect_core.specs.declared.ops.Value.{Value}
 use Rattle.dialect_core.specs.Data.{DialectOp, DialectBlock, Func}
 use Rattle.dialect_core.specs.Form.{is_constant}
 use Rattle.to_llvm_ir.specs.Exported.{block_name, value_name, result_name}
 use Rattle.to_llvm_ir.specs.Made.{Numbers, inst, insts, phis, block_phis, block_made, blocks_made, function_made, number_past, entry_args, number_after, number_behind}
-use Rattle.to_llvm_ir.proofs.ListLaws.{all_at, append_cases, distinct_cons, distinct_append}
+use Rattle.to_llvm_ir.proofs.ListLaws.{all_at, distinct_cons, distinct_append}
 use Rattle.to_llvm_ir.proofs.NameLaws.{value_ends, block_ends, same_ends}
 use Rattle.to_llvm_ir.proofs.FormLaws.{behind_le, past_le}
 
@@ -230,7 +230,7 @@ distinct_from p k (c ∷ cs) few small =
     (λ v. block_value_apart v.0 w.0 v.1 w.1 (let lt = v.3 in omega (arith, lt, few)) (let lt = w.3 in omega (arith, lt, le, small)) (sym v.4 ∙ w.4))
     (λ v. values_apart k end end (number_past end cs) value.0 0 m here (m ∷ []) (omega arith) small (block_values_in p k c) (All-cons (IsValueIn end (number_past end cs)) m [] v (All-nil (IsValueIn end (number_past end cs)))) value.2 refl)
     (all_at (IsNameIn (suc p) (suc p + length cs) end (number_past end cs)) (all_names (suc p) end cs) j m (names_from (suc p) end cs) at'))
-    (append_cases (named (block_name c.label p)) here i m at))
+    (slice_get-behind_cases (named (block_name c.label p)) here i m at))
 
 -- ---- the names of the function
 

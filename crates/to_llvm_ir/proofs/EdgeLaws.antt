@@ -7,7 +7,7 @@ use Rattle.std.proofs.lemmas.Bool.{cond-true, cond-false, cases_eq}
 use Rattle.std.proofs.lemmas.List.{map-append}
 use Rattle.std.proofs.lemmas.List.Concat.{flat_map-append}
 use Rattle.std.proofs.lemmas.List.Folds.{find-append}
-use Rattle.llvm_core.proofs.ListLemmas.{slice_get-kept}
+use Rattle.support.proofs.ListLaws.{slice_get-kept, all_from, slice_get-behind, slice_get-behind_cases}
 use Rattle.llvm_core.specs.Data.{Operand, Placed, Block, targets}
 use Rattle.dialect_types.specs.Trees.{TypeTree, IntegerAttr}
 use Rattle.dialect_core.specs.declared.numbers.BlockRef.{BlockRef}
@@ -18,7 +18,7 @@ use Rattle.dialect_core.specs.Data.{DialectOp, DialectBlock, Func, Kind, Constan
 use Rattle.dialect_core.specs.Form.{IsFormFunc, IsFormKind, IsFormEdge, FitsTarget, edges_of, is_constant, is_constant_kind}
 use Rattle.to_llvm_ir.specs.Made.{Numbers, block_for, operand_for, target_at, instruction_for, inst, insts, phis, block_phis, block_made, blocks_made, passed_to, passed, entry_with, block_passes, entries_from, number_past, number_after, number_behind}
 use Rattle.to_llvm_ir.specs.Links.{HasTarget}
-use Rattle.to_llvm_ir.proofs.ListLaws.{AreNumbered, all_at, all_from, append_cases, at_behind}
+use Rattle.to_llvm_ir.proofs.ListLaws.{AreNumbered, all_at}
 use Rattle.to_llvm_ir.proofs.LookupLaws.{op_form}
 
 -- ---- blocks by their places
@@ -143,13 +143,13 @@ edge_from [] i s at = absurd (none-some s at)
 edge_from (o ∷ os) i s at = ⊎_elim
     (λ here. (0, o, i, refl, here))
     (λ later. let r = edge_from os later.0 s later.2 in (suc r.0, r.1, r.2, r.3, r.4))
-    (append_cases o.successors (flat_map (λ (o : DialectOp). o.successors) os) i s at)
+    (slice_get-behind_cases o.successors (flat_map (λ (o : DialectOp). o.successors) os) i s at)
 
 -- and one of an operation's is one of the block
 pub edge_among : (os : List DialectOp) (i l : ℕ) (o : DialectOp) (s : Successor) → slice_get os i ≡ Some o → slice_get o.successors l ≡ Some s → (m : ℕ) × (slice_get (flat_map (λ (o : DialectOp). o.successors) os) m ≡ Some s)
 edge_among [] i l o s at at' = absurd (none-some o at)
 edge_among (x ∷ os) zero l o s at at' = (l, slice_get-kept x.successors (flat_map (λ (o : DialectOp). o.successors) os) l s (ap (λ (y : DialectOp). slice_get y.successors l) (same_Some x o at) ∙ at'))
-edge_among (x ∷ os) (suc i) l o s at at' = let r = edge_among os i l o s at at' in (length x.successors + r.0, at_behind x.successors (flat_map (λ (o : DialectOp). o.successors) os) r.0 ∙ r.1)
+edge_among (x ∷ os) (suc i) l o s at at' = let r = edge_among os i l o s at at' in (length x.successors + r.0, slice_get-behind x.successors (flat_map (λ (o : DialectOp). o.successors) os) r.0 ∙ r.1)
 
 pub edge_form : (g : Func) (form : IsFormFunc g) (n : Numbers) (j i : ℕ) (c : DialectBlock) (s : Successor) → slice_get g.blocks j ≡ Some c → slice_get (edges_of c) i ≡ Some s → IsFormEdge g s
 edge_form g form n j i c s at at' = let r = edge_from c.ops i s at' in all_at (IsFormEdge g) r.1.successors r.2 s (op_edges g n r.1 r.1.kind (op_form g form j r.0 c r.1 at r.3).kind) r.4

@@ -17,7 +17,7 @@ use Rattle.llvm_core.specs.Code as code
 use Rattle.llvm_core.specs.Code.{code_of, with_code, with_changed_inst}
 use Rattle.llvm_core.specs.Data as L
 use Rattle.llvm_core.specs.Data.{Operand, Placed, Block, Function, ModuleData, data_of, trees_of, operand_of, with_function, with_entry, with_change_of, with_changed, AllPlaced}
-use Rattle.llvm_core.proofs.ListLemmas.{length-with_change}
+use Rattle.support.proofs.ListLaws.{length-with_change}
 use Rattle.dialect_types.specs.Trees.{TypeTree}
 use Rattle.block_order.specs.Order.{IsOrder}
 use Rattle.dialect_core.specs.declared.ops.Value.{Value}

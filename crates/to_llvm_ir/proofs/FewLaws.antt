@@ -5,7 +5,7 @@ use Rattle.std.specs.Option.{option_map, option_map_or}
 use Rattle.std.proofs.lemmas.List.{length-map, append-nil}
 use Rattle.std.proofs.lemmas.List.Concat.{flat_map-append}
 use Rattle.std.proofs.lemmas.List.Elements.{All-nil, All-cons, All-head, All-tail, All-append}
-use Rattle.llvm_core.proofs.ListLemmas.{slice_get-kept, slice_get-push}
+use Rattle.support.proofs.ListLaws.{slice_get-kept, slice_get-push, all_from}
 use Rattle.llvm_core.specs.Data as L
 use Rattle.llvm_core.specs.Data.{Operand, Placed, Block, Function}
 use Rattle.llvm_core.specs.Form.{IsFewIn, operands_of}
@@ -19,7 +19,6 @@ use Rattle.dialect_core.specs.Data.{DialectOp, DialectBlock, Func, Kind, Constan
 use Rattle.dialect_core.specs.Form.{IsFormFunc, IsFormKind, is_constant, is_terminator, is_terminator_kind, edges_of}
 use Rattle.to_llvm_ir.specs.Made.{Numbers, operand_for, instruction_for, inst, insts, phis, block_phis, block_made, blocks_made, function_made, passed_to, passed, entry_with, block_passes, entries_from, entries, number_past, number_after, number_behind}
 use Rattle.to_llvm_ir.specs.Accepted.{IsAccepted}
-use Rattle.to_llvm_ir.proofs.ListLaws.{all_from}
 use Rattle.to_llvm_ir.proofs.LookupLaws.{block_form, op_form, entry_at}
 use Rattle.to_llvm_ir.proofs.PlacedLaws.{params_count}
 use Rattle.to_llvm_ir.proofs.EdgeLaws.{made_from, blocks_count}

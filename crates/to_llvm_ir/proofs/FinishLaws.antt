@@ -4,6 +4,8 @@ use Rattle.std.specs.List.{filter_map, cons_option, enumerate_from}
 use Rattle.std.specs.Option.{option_map}
 use Rattle.std.proofs.lemmas.List.{append-nil, take_all, length-map, length_push}
 use Rattle.std.proofs.lemmas.List.FromFn.{length-enumerate_from}
+use Rattle.meaning.proofs.MatchedLaws.{matched_push}
+use Rattle.support.proofs.ListLaws.{item_there}
 use Rattle.llvm_core.specs.Module.{Module}
 use Rattle.llvm_core.specs.Names.{IsPlainOrNone}
 use Rattle.llvm_core.specs.Data as L
@@ -32,7 +34,7 @@ use Rattle.to_llvm_ir.specs.States.{Task, IsTask, IsLinking}
 use Rattle.to_llvm_ir.specs.Ordering.{AreBlocksOf}
 use Rattle.to_llvm_ir.specs.Functions.{AddsFunction, AddsFunctions, HasExported, functions_in}
 use Rattle.to_llvm_ir.proofs.ContextLaws.{known, func_parts}
-use Rattle.to_llvm_ir.proofs.ListLaws.{item_there, all_at, at_middle, filter_map_more, filter_map_at}
+use Rattle.to_llvm_ir.proofs.ListLaws.{all_at, at_middle, filter_map_more, filter_map_at}
 use Rattle.to_llvm_ir.proofs.MadeLaws.{exported}
 
 -- ---- the blocks of a function
@@ -169,12 +171,6 @@ all_exported_in d d' [] [] m = tt
 all_exported_in d d' [] (f ∷ fs) m = absurd m
 all_exported_in d d' (g ∷ gs) [] m = absurd m
 all_exported_in d d' (g ∷ gs) (f ∷ fs) m = (exported_in d d' g f m.0, all_exported_in d d' gs fs m.1)
-
-matched_push : {A B : Type 0} (P : A → B → Type 0) (xs : List A) (ys : List B) (x : A) (y : B) → Matched P xs ys → P x y → Matched P (xs ++ x ∷ []) (ys ++ y ∷ [])
-matched_push P [] [] x y m p = (p, tt)
-matched_push P [] (z ∷ ys) x y m p = absurd m
-matched_push P (w ∷ xs) [] x y m p = absurd m
-matched_push P (w ∷ xs) (z ∷ ys) x y m p = (m.0, matched_push P xs ys x y m.1 p)
 
 -- a function more
 pub exported_more : (g : Func) (old new : ModuleData) → AddsFunction g old new → AddsFunctions (g ∷ []) old new

@@ -8,13 +8,13 @@ use Rattle.std.proofs.lemmas.List.{append_assoc, length_push, take_at}
 use Rattle.std.proofs.lemmas.List.Elements.{All-nil, All-cons, All-head, All-tail, All-append}
 use Rattle.llvm_core.specs.Checked.{ends_in_only}
 use Rattle.llvm_core.specs.Edges.{count_of}
-use Rattle.llvm_core.specs.Interned.{IsDistinctList}
+use Rattle.support.specs.Interned.{IsDistinctList}
 use Rattle.llvm_core.specs.Names.{IsPlainOrNone}
 use Rattle.llvm_core.specs.Data as L
 use Rattle.llvm_core.specs.Data.{Operand, Placed, Block, Function, placed_in}
 use Rattle.llvm_core.specs.Form as F
 use Rattle.llvm_core.specs.Form.{IsFormFunction, IsFormInstruction, IsFormBlock, HasNoResult, IsTarget, is_last}
-use Rattle.llvm_core.proofs.ListLemmas.{slice_get-push}
+use Rattle.support.proofs.ListLaws.{slice_get-push, all_from, item_there}
 use Rattle.dialect_types.specs.Trees.{TypeTree, TypeTrees, VoidType, IntegerType, FuncType, NoTypes, ThenType}
 use Rattle.block_order.specs.Order.{IsOrder}
 use Rattle.dialect_core.specs.declared.numbers.BlockRef.{BlockRef}
@@ -29,7 +29,7 @@ use Rattle.to_llvm_ir.specs.Exported.{blocks_by, block_name, value_name, result_
 use Rattle.to_llvm_ir.specs.Made.{Numbers, operand_for, target_at, instruction_for, inst, insts, phis, block_phis, block_made, function_made, entries, number_past, entry_args, number_after, number_behind}
 use Rattle.to_llvm_ir.specs.Accepted.{IsAccepted}
 use Rattle.to_llvm_ir.specs.Links.{HasTarget}
-use Rattle.to_llvm_ir.proofs.ListLaws.{AreNumbered, all_at, all_from, item_there}
+use Rattle.to_llvm_ir.proofs.ListLaws.{AreNumbered, all_at}
 use Rattle.to_llvm_ir.proofs.NameLaws.{plain_is, bare_plain}
 use Rattle.to_llvm_ir.proofs.TurnLaws.{turn_at, filter_taken}
 use Rattle.to_llvm_ir.proofs.LookupLaws.{argument_type, block_form, op_form, entry_at, place_is}

@@ -4,6 +4,7 @@ use Rattle.std.specs.Prelude.{IsTrue, IfSome, ◌↔◌, unwrap_or}
 use Rattle.std.specs.List.{filter_map, flat_map, cons_option}
 use Rattle.std.specs.Option.{option_map_or, option_and_then}
 use Rattle.std.proofs.lemmas.List.{append-nil}
+use Rattle.support.proofs.ListLaws.{all_from}
 use Rattle.dialect_types.specs.Names.{IsPlainName}
 use Rattle.dialect_types.specs.Trees.{type_trees}
 use Rattle.dialect_core.specs.declared.numbers.OpRef.{OpRef}
@@ -18,7 +19,7 @@ use Rattle.dialect_core.specs.Form.{IsShortInt}
 use Rattle.dialect_core.specs.WellFormed.{IsPlainAt, IsNarrowBlock, IsNarrowFunc, IsNarrow}
 use Rattle.dialect_core.specs.Checking.{block_at, func_at, tree_at}
 use Rattle.dialect_core.proofs.HoldLemmas.{stands_flat}
-use Rattle.dialect_core.proofs.LineLemmas.{all_at, at_all}
+use Rattle.dialect_core.proofs.LineLemmas.{all_at}
 use Rattle.dialect_core.proofs.TypeTestLemmas.{all_map, map_all}
 use Rattle.dialect_core.proofs.FuncLemmas.{blocks_are}
 use Rattle.dialect_core.proofs.FuncTestLemmas.{block_data, func_name, func_data}
@@ -55,7 +56,7 @@ module _ (c : ContextData) where
   narrow_blocks : (bs : List BlockRef) → AllPlain bs → AreNarrowBlocks c bs → All IsNarrowBlock (map (block_at c) bs) × ¬ (map (block_at c) bs ≡ [])
   narrow_blocks [] plain h = absurd h
   narrow_blocks (entry ∷ more) plain h = (
-    all_map IsNarrowBlock (block_at c) (entry ∷ more) (at_all (λ (b : BlockRef). IsNarrowBlock (block_at c b)) (entry ∷ more) (λ k b at. narrow_block b (plain k b at) (all_at (IsNarrowBlockAt c) (entry ∷ more) h k b at))),
+    all_map IsNarrowBlock (block_at c) (entry ∷ more) (all_from (λ (b : BlockRef). IsNarrowBlock (block_at c b)) (entry ∷ more) (λ k b at. narrow_block b (plain k b at) (all_at (IsNarrowBlockAt c) (entry ∷ more) h k b at))),
     λ none. let few = ap length none in omega (arith, few),
   )
 
@@ -63,7 +64,7 @@ module _ (c : ContextData) where
   blocks_narrow [] plain all some = some refl
   blocks_narrow (entry ∷ more) plain all some =
       let narrow = map_all IsNarrowBlock (block_at c) (entry ∷ more) all in
-      at_all (IsNarrowBlockAt c) (entry ∷ more) (λ k b at. block_narrow b (plain k b at) (all_at (λ (b : BlockRef). IsNarrowBlock (block_at c b)) (entry ∷ more) narrow k b at))
+      all_from (IsNarrowBlockAt c) (entry ∷ more) (λ k b at. block_narrow b (plain k b at) (all_at (λ (b : BlockRef). IsNarrowBlock (block_at c b)) (entry ∷ more) narrow k b at))
 
 -- ---- functions
 

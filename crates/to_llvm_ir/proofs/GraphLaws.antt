@@ -9,6 +9,7 @@ use Rattle.std.proofs.lemmas.List.{take_all, length-map}
 use Rattle.std.proofs.lemmas.List.Concat.{flat_map-append}
 use Rattle.std.proofs.lemmas.List.Elements.{filter_map-append}
 use Rattle.std.proofs.lemmas.List.FromFn.{length-range_with_len, get_or-range_with_len}
+use Rattle.support.proofs.ListLaws.{all_from, slice_get-take}
 use Rattle.block_order.specs.Graph.{IsGraph}
 use Rattle.block_order.specs.Order.{IsOrder}
 use Rattle.block_order.specs.DepthFirst.{IsDepthFirst}
@@ -24,7 +25,7 @@ use Rattle.dialect_core.specs.Form.{IsInOrder, StandsBefore, edges_of}
 use Rattle.to_llvm_ir.specs.declared.graph.Places.{Places}
 use Rattle.to_llvm_ir.specs.Order.{IsExportOrder, IsTaken, StandsBeforeIn, turn_of, block_place, targets_of, graph_of}
 use Rattle.to_llvm_ir.specs.Ordering.{IsBlockOf, AreBlocksOf, ArePlacesOf, noted_place, ops_of}
-use Rattle.to_llvm_ir.proofs.ListLaws.{all_from, take_suc, filter_map_more}
+use Rattle.to_llvm_ir.proofs.ListLaws.{take_suc, filter_map_more}
 use Rattle.to_llvm_ir.proofs.TurnLaws.{turn_is, taken_at, taken_length}
 use Rattle.to_llvm_ir.proofs.ContextLaws.{block_parts}
 use Rattle.to_llvm_ir.proofs.OrderingLaws.{ops_more}
@@ -55,12 +56,6 @@ ArePlacesTo g i places = (b : BlockRef) → noted_place places b ≡ position_fr
 pub places_none : (g : Func) (places : Places) → ((b : BlockRef) → noted_place places b ≡ None) → ArePlacesTo g 0 places
 places_none g places none b = none b
 
-take_within : {X : Type 0} (i : ℕ) (xs : List X) (j : ℕ) (x : X) → slice_get (take i xs) j ≡ Some x → (j < i) × (slice_get xs j ≡ Some x)
-take_within zero xs j x at = absurd (none-some x at)
-take_within (suc i) [] j x at = absurd (none-some x at)
-take_within (suc i) (y ∷ xs) zero x at = (omega arith, at)
-take_within (suc i) (y ∷ xs) (suc j) x at = let r = take_within i xs j x at in ((let lt = r.0 in omega (arith, lt)), r.1)
-
 take_count : {X : Type 0} (xs : List X) (i : ℕ) (x : X) → slice_get xs i ≡ Some x → length (take i xs) ≡ i
 take_count [] i x at = absurd (none-some x at)
 take_count (y ∷ xs) zero x at = refl
@@ -90,7 +85,7 @@ places_more c g bs i place d old new h lt is set before q =
     by true e =
         let same : b.0 ≡ q.0 = eqb-true b.0 q.0 e in
         let none = position_none test 0 (take i g.blocks) (λ j x at.
-        let r = take_within i g.blocks j x at in
+        let r = slice_get-take i g.blocks j x at in
         ne_eqb x.number q.0 (λ f. let k = h.apart j i x block.0 r.1 block.1.here (f ∙ sym (number ∙ same)) in let less = r.0 in omega (arith, k, less))) in
         sym (ap (λ (o : Option ℕ). option_or o (if test block.0 then Some (0 + length (take i g.blocks)) else None)) none
         ∙ cond-true (test block.0) (Some (0 + length (take i g.blocks))) None (eq-eqb block.0.number q.0 (number ∙ same)) ∙ ap Some count)

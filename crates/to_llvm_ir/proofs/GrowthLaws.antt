@@ -1,9 +1,12 @@
 -- What a module of LLVM keeps as it grows.
-use Rattle.std.proofs.Common.{◌≡◌, ◌<◌, ◌⊎◌, inl, inr, ℕ, zero, suc, Bool, true, false, nat_eq, eqb-true, eq-eqb, List, [], ◌∷◌, ◌++◌, Option, Some, None, All, length, map, slice_get, refl, sym, ap, subst, ◌∙◌, arith, append_assoc, length-append}
+use Rattle.std.proofs.Common.{◌≡◌, ◌<◌, ℕ, zero, suc, Bool, true, false, nat_eq, eqb-true, eq-eqb, List, [], ◌∷◌, ◌++◌, Option, Some, None, All, length, map, slice_get, refl, sym, ap, subst, ◌∙◌, arith, append_assoc, length-append}
 use Rattle.std.specs.Option.{option_map, option_map_or}
 use Rattle.std.proofs.lemmas.List.{append-nil}
 use Rattle.std.proofs.lemmas.List.Elements.{All-weaker, All-head, All-tail}
 use Rattle.std.proofs.lemmas.Option.{same_Some, slice_get_within}
+use Rattle.llvm_core.proofs.GrowLemmas.{param_at_kept}
+use Rattle.support.proofs.InternedLaws.{interned_more}
+use Rattle.support.specs.Changes.{with_change}
 use Rattle.llvm_core.specs.declared.numbers.LLVMType.{LLVMType}
 use Rattle.llvm_core.specs.declared.types.LLVMTypeKind.{LLVMTypeKind}
 use Rattle.llvm_core.specs.declared.types.LLVMTypeKind.TheVariants as T
@@ -16,19 +19,19 @@ use Rattle.llvm_core.specs.declared.code.PhiEntry.{PhiEntry}
 use Rattle.llvm_core.specs.declared.code.LLVMInst.{LLVMInst}
 use Rattle.llvm_core.specs.declared.code.LLVMInst.TheVariants as I
 use Rattle.llvm_core.specs.Code as code
-use Rattle.llvm_core.specs.Code.{code_of, with_code, with_change, with_changed_inst}
+use Rattle.llvm_core.specs.Code.{code_of, with_code, with_changed_inst}
 use Rattle.llvm_core.proofs.ChangeLemmas.{slice_get-changed, slice_get-unchanged}
 use Rattle.llvm_core.specs.declared.code.FunctionData.{FunctionData}
 use Rattle.llvm_core.specs.declared.code.InstData.{InstData}
-use Rattle.llvm_core.specs.Interned.{Interned}
+use Rattle.support.specs.Interned.{Interned}
 use Rattle.llvm_core.specs.Module.{Module}
 use Rattle.llvm_core.specs.Sound.{IsModule}
 use Rattle.llvm_core.specs.Parts.{IsTypeOver, IsValue, IsPhi, is_phi, const_type, param_types, type_params, kind_params, value_type}
 use Rattle.llvm_core.specs.Data as L
 use Rattle.llvm_core.specs.Data.{TypeTree, TypeTrees, NoTypes, ThenType, VoidType, IntType, FunctionType, type_at, types_at, const_at, trees_of, operand_of, type_trees, const_trees, IntConst}
-use Rattle.llvm_core.proofs.ListLemmas.{slice_get-kept}
+use Rattle.support.proofs.ListLaws.{slice_get-kept, item_there}
 use Rattle.llvm_core.proofs.TreeLemmas.{type_at-kept, const_trees-retyped, const_at-kept}
-use Rattle.llvm_core.proofs.DataLemmas.{int_tree_of, void_tree_of, function_tree_of, there}
+use Rattle.llvm_core.proofs.DataLemmas.{int_tree_of, void_tree_of, function_tree_of}
 use Rattle.to_llvm_ir.specs.Growth.{Grows, KeepsInst, IsTypeOf, AreTypesOf, HasType}
 
 -- ---- growth
@@ -63,13 +66,6 @@ grows_then a b c g h = record {
   insts = λ i x at. let p = g.insts i x at in let q = h.insts i p.0 p.1 in (q.0, q.1, record { type = q.2.type ∙ p.2.type; phi = λ e. q.2.phi (p.2.phi e) });
 }
 
-interned_more : {X : Type 0} (old new : List X) (k : X) (n : ℕ) → Interned old new k n → (more : List X) × (new ≡ old ++ more)
-interned_more old new k n h = by h.only
-  where
-    by : (new ≡ old) ⊎ (new ≡ old ++ k ∷ []) → (more : List _) × (new ≡ old ++ more)
-    by (inl same) = ([], same ∙ sym (append-nil old))
-    by (inr longer) = (k ∷ [], longer)
-
 -- a type more, or a constant
 pub grows_type : (old new : Module) (k : LLVMTypeKind) (n : ℕ) → Interned old.types new.types k n → new ≡ record old { types = new.types } → Grows old new
 grows_type old new k n h rest =
@@ -102,7 +98,7 @@ kind_of_int m t w (T.Int v) s at h = let e = int_tree_of m t v s at in let same 
 kind_of_int m t w (T.Function r ps v) s at h = let e = function_tree_of m t r ps v s at in absurd (let none : ⊥ = cc in none)
 
 pub int_at : (m : Module) (t : LLVMType) (w : ℕ) → IsModule m → IsTypeOf m t (IntType w) → slice_get m.types t.0 ≡ Some (T.Int w)
-int_at m t w s h = let k = there m.types t.0 h.0 in k.1 ∙ ap Some (kind_of_int m t w k.0 s k.1 h.1)
+int_at m t w s h = let k = item_there m.types t.0 h.0 in k.1 ∙ ap Some (kind_of_int m t w k.0 s k.1 h.1)
 
 -- ---- lists of types by number
 
@@ -120,13 +116,6 @@ types_kept old new ts trees g h = (
         cc
 
 -- ---- values
-
-params_kept : (old more : List LLVMTypeKind) (ty : LLVMType) (place : ℕ) (t : LLVMType) → slice_get (type_params old ty) place ≡ Some t → slice_get (type_params (old ++ more) ty) place ≡ Some t
-params_kept old more ty place t h = by (slice_get old ty.0) refl h
-  where
-    by : (o : Option LLVMTypeKind) → slice_get old ty.0 ≡ o → slice_get (option_map_or kind_params o []) place ≡ Some t → slice_get (type_params (old ++ more) ty) place ≡ Some t
-    by None e k = cc
-    by (Some kind) e k = ap (λ (o : Option LLVMTypeKind). slice_get (option_map_or kind_params o []) place) (slice_get-kept old more ty.0 kind e) ∙ k
 
 -- the type of a value stays
 pub value_type_kept : (old new : Module) (v : LLVMValue) (t : LLVMType) → Grows old new → value_type old v ≡ Some t → value_type new v ≡ Some t
@@ -149,7 +138,7 @@ value_type_kept old new (V.Param f place) t g h = by (slice_get old.functions f.
         ap (λ (o : Option FunctionData). slice_get (option_map_or (param_types new) o []) place) y.1
         ∙ ap (λ (ty : LLVMType). slice_get (type_params new.types ty) place) y.2
         ∙ ap (λ (ks : List LLVMTypeKind). slice_get (type_params ks x.ty) place) g.types
-        ∙ params_kept old.types g.more_types x.ty place t k
+        ∙ param_at_kept old.types g.more_types x.ty place t k
 
 -- a value that has a type is there
 pub value_there : (m : Module) (v : LLVMValue) (t : LLVMType) → IsModule m → value_type m v ≡ Some t → IsValue m v

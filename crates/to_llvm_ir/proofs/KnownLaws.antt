@@ -11,8 +11,8 @@ use Rattle.llvm_core.specs.Module.{Module}
 use Rattle.llvm_core.specs.Sound.{IsModule}
 use Rattle.llvm_core.specs.Parts.{IsPhi}
 use Rattle.llvm_core.specs.Data.{trees_of, operand_of}
-use Rattle.llvm_core.proofs.ListLemmas.{slice_get-kept, slice_get-push, slice_get-push_cases}
-use Rattle.llvm_core.proofs.NameLemmas.{slice_get-take, slice_get-taken}
+use Rattle.support.proofs.ListLaws.{slice_get-kept, slice_get-push, slice_get-push_cases, item_there, slice_get-behind, slice_get-behind_cases, slice_get-take}
+use Rattle.llvm_core.proofs.NameLemmas.{slice_get-taken}
 use Rattle.dialect_types.specs.Trees.{TypeTree}
 use Rattle.dialect_core.specs.declared.numbers.BlockRef.{BlockRef}
 use Rattle.dialect_core.specs.declared.numbers.OpRef.{OpRef}
@@ -27,7 +27,6 @@ use Rattle.to_llvm_ir.specs.Exported.{result, arguments_of}
 use Rattle.to_llvm_ir.specs.Made.{Numbers, operand_for}
 use Rattle.to_llvm_ir.specs.Growth.{Grows, HasType}
 use Rattle.to_llvm_ir.specs.States.{found, Has, IsArgument, IsKnown, AreKnown, all_values, seen_before}
-use Rattle.to_llvm_ir.proofs.ListLaws.{append_cases, at_behind, item_there}
 use Rattle.to_llvm_ir.proofs.PlaceLaws.{argument_at, argument_from}
 use Rattle.to_llvm_ir.proofs.LookupLaws.{op_among, op_of_block}
 use Rattle.to_llvm_ir.proofs.GrowthLaws.{has_type_kept, operand_kept, phi_kept}
@@ -39,10 +38,10 @@ pub has_left : (vs ws : List Value) (v : Value) → Has vs v → Has (vs ++ ws) 
 has_left vs ws v h = (h.0, slice_get-kept vs ws h.0 v h.1)
 
 pub has_right : (vs ws : List Value) (v : Value) → Has ws v → Has (vs ++ ws) v
-has_right vs ws v h = (length vs + h.0, at_behind vs ws h.0 ∙ h.1)
+has_right vs ws v h = (length vs + h.0, slice_get-behind vs ws h.0 ∙ h.1)
 
 pub has_cases : (vs ws : List Value) (v : Value) → Has (vs ++ ws) v → Has vs v ⊎ Has ws v
-has_cases vs ws v h = ⊎_elim (λ a. inl (h.0, a)) (λ b. inr (b.0, b.2)) (append_cases vs ws h.0 v h.1)
+has_cases vs ws v h = ⊎_elim (λ a. inl (h.0, a)) (λ b. inr (b.0, b.2)) (slice_get-behind_cases vs ws h.0 v h.1)
 
 pub has_flat : (cs : List DialectBlock) (j : ℕ) (c : DialectBlock) (v : Value) → slice_get cs j ≡ Some c → Has (all_values c) v → Has (flat_map all_values cs) v
 has_flat [] j c v at h = absurd (none-some c at)
@@ -94,7 +93,7 @@ stands_seen g j k c (Result r) at h =
     (⊎_elim
     (λ early. let b = op_of_block (take j g.blocks) h.0 h.1 early in has_left (seen_before g j) (arguments_of c ++ map result (take k c.ops)) (result h.1) (has_flat (take j g.blocks) b.0 b.2 (result h.1) b.3 (has_right (arguments_of b.2) (map result b.2.ops) (result h.1) (has_result b.2.ops b.1 h.1 b.4))))
     (λ here. has_right (seen_before g j) (arguments_of c ++ map result (take k c.ops)) (result h.1) (has_right (arguments_of c) (map result (take k c.ops)) (result h.1) (has_result (take k c.ops) here.0 h.1 here.2)))
-    (append_cases ops (take k c.ops) h.0 h.1 there))
+    (slice_get-behind_cases ops (take k c.ops) h.0 h.1 there))
 stands_seen g j k c (Argument b i) at h = by (cases_lt h.0 j)
   where
     by : (h.0 < j) ⊎ (j ≤ h.0) → Has (seen_at g j k c) (Argument b i)
@@ -119,7 +118,7 @@ seen_stands g j k c v at h = ⊎_elim
     (λ res.
     let r = is_result (take k c.ops) v res in
     let ops = flat_map (λ (b : DialectBlock). b.ops) (take j g.blocks) in
-    subst (StandsBefore g j k) (sym r.3) (length ops + r.0, r.1, ap (λ (os : List DialectOp). slice_get os (length ops + r.0)) (before_is g j k c at) ∙ at_behind ops (take k c.ops) r.0 ∙ r.2, refl))
+    subst (StandsBefore g j k) (sym r.3) (length ops + r.0, r.1, ap (λ (os : List DialectOp). slice_get os (length ops + r.0)) (before_is g j k c at) ∙ slice_get-behind ops (take k c.ops) r.0 ∙ r.2, refl))
     (has_cases (arguments_of c) (map result (take k c.ops)) v here))
     (has_cases (seen_before g j) (arguments_of c ++ map result (take k c.ops)) v h)
 

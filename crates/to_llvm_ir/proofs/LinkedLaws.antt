@@ -13,6 +13,7 @@ use Rattle.dialect_core.specs.declared.ops.Value.{Value}
 use Rattle.dialect_core.specs.declared.ops.Successor.{Successor}
 use Rattle.dialect_core.specs.declared.ops.OpData.{OpData}
 use Rattle.std.specs.Option.{option_map, option_map_or}
+use Rattle.support.proofs.ListLaws.{all_from, slice_get-behind_cases}
 use Rattle.dialect_core.specs.ContextData.{ContextData}
 use Rattle.dialect_core.specs.Data.{DialectOp, DialectBlock, Func, op_at}
 use Rattle.dialect_core.specs.Form.{IsFormFunc, FitsTarget, edges_of}
@@ -23,7 +24,7 @@ use Rattle.to_llvm_ir.specs.Accepted.{AreAcceptedEdges}
 use Rattle.to_llvm_ir.specs.Made.{Numbers, passed_to, passed, block_passes, entries_from, entries}
 use Rattle.to_llvm_ir.specs.Links.{Given, AreEqualEdges, IsLinkedTo, IsOpLinked, IsBlockLinked}
 use Rattle.to_llvm_ir.specs.States.{Task, Spot, IsSpot, IsListed, IsLinking, found_block}
-use Rattle.to_llvm_ir.proofs.ListLaws.{all_at, all_from, append_cases, take_suc}
+use Rattle.to_llvm_ir.proofs.ListLaws.{all_at, take_suc}
 use Rattle.dialect_core.specs.Lists.{list_at}
 use Rattle.to_llvm_ir.proofs.BodyLaws.{listed, target_here}
 use Rattle.to_llvm_ir.proofs.OpLaws.{spot_parts, successors_are}
@@ -68,7 +69,7 @@ pub all_push : {X : Type 0} (P : X → Type 0) (xs ys : List X) (x : X) → ys �
 all_push P xs ys x e all h = subst (All P) (sym e) (all_from P (xs ++ x ∷ []) (λ i y at. ⊎_elim
     (λ old. all_at P xs i y all old)
     (λ new. subst P (only_item new.0 x y new.2) h)
-    (append_cases xs (x ∷ []) i y at)))
+    (slice_get-behind_cases xs (x ∷ []) i y at)))
   where
     only_item : {X : Type 0} (i : ℕ) (x y : X) → slice_get (x ∷ []) i ≡ Some y → x ≡ y
     only_item zero x y at = same_Some x y at

@@ -1,12 +1,12 @@
 -- Items of lists by their places.
-use Rattle.std.proofs.Common.{◌≡◌, ◌<◌, ◌⊎◌, inl, inr, ◌+◌, ℕ, zero, suc, Bool, true, false, nat_eq, if◌then◌else◌, List, [], ◌∷◌, ◌++◌, Option, Some, None, All, length, map, take, drop, slice_get, get_or, filter, refl, sym, ap, subst, ◌∙◌, arith, eq-eqb, ne_eqb, eqb-true, ⊎_elim}
+use Rattle.std.proofs.Common.{◌≡◌, ◌<◌, ◌⊎◌, ◌+◌, ℕ, zero, suc, Bool, true, false, nat_eq, if◌then◌else◌, List, [], ◌∷◌, ◌++◌, Option, Some, None, All, length, map, take, drop, slice_get, get_or, filter, refl, sym, ap, subst, ◌∙◌, arith, eq-eqb, ne_eqb, eqb-true, ⊎_elim}
 use Rattle.std.specs.List.{Contains, filter_map, cons_option, find, position_from}
 use Rattle.std.proofs.lemmas.Option.{same_Some, none-some, slice_get_within, get_or_from_slice_get, slice_get-get_or}
 use Rattle.std.proofs.lemmas.Bool.{cond-true, cond-false}
 use Rattle.std.proofs.lemmas.List.{take_more}
-use Rattle.std.proofs.lemmas.List.Elements.{filter_map-append, All-nil, All-cons, All-head, All-tail, All-get_or}
-use Rattle.llvm_core.specs.Interned.{IsDistinctList}
-use Rattle.llvm_core.proofs.ListLemmas.{slice_get-kept}
+use Rattle.std.proofs.lemmas.List.Elements.{filter_map-append, All-head, All-tail, All-get_or}
+use Rattle.support.specs.Interned.{IsDistinctList}
+use Rattle.support.proofs.ListLaws.{slice_get-kept, all_from, slice_get-behind, slice_get-behind_cases, filter_from}
 use Rattle.meaning.specs.Pairs.{Matched}
 
 -- ---- items that hold a property
@@ -14,41 +14,19 @@ use Rattle.meaning.specs.Pairs.{Matched}
 pub all_at : {X : Type 0} (P : X → Type 0) (xs : List X) (i : ℕ) (x : X) → All P xs → slice_get xs i ≡ Some x → P x
 all_at P xs i x all at = subst P (get_or_from_slice_get xs i x x at) (All-get_or P xs i x (slice_get_within xs i x at) all)
 
-pub all_from : {X : Type 0} (P : X → Type 0) (xs : List X) → ((i : ℕ) (x : X) → slice_get xs i ≡ Some x → P x) → All P xs
-all_from P [] h = All-nil P
-all_from P (x ∷ xs) h = All-cons P x xs (h 0 x refl) (all_from P xs (λ i y at. h (suc i) y at))
-
 pub all_weaker_at : {X : Type 0} (P Q : X → Type 0) (xs : List X) → All P xs → ((i : ℕ) (x : X) → slice_get xs i ≡ Some x → P x → Q x) → All Q xs
 all_weaker_at P Q xs all h = all_from Q xs (λ i x at. h i x at (all_at P xs i x all at))
 
 -- ---- members
-
-pub contains_at : {X : Type 0} (xs : List X) (i : ℕ) (x : X) → slice_get xs i ≡ Some x → Contains xs x
-contains_at xs i x at = (i, slice_get_within xs i x at, get_or_from_slice_get xs i x x at)
 
 pub at_contains : {X : Type 0} (xs : List X) (x : X) → Contains xs x → (i : ℕ) × (slice_get xs i ≡ Some x)
 at_contains xs x h = (h.0, slice_get-get_or xs h.0 x h.1 ∙ ap Some h.2)
 
 -- ---- parts
 
-pub item_there : {X : Type 0} (xs : List X) (i : ℕ) → i < length xs → (x : X) × (slice_get xs i ≡ Some x)
-item_there [] i lt = absurd (omega (arith, lt))
-item_there (x ∷ xs) zero lt = (x, refl)
-item_there (x ∷ xs) (suc i) lt = item_there xs i (omega (arith, lt))
-
-pub at_behind : {X : Type 0} (xs ys : List X) (i : ℕ) → slice_get (xs ++ ys) (length xs + i) ≡ slice_get ys i
-at_behind [] ys i = ap (slice_get ys) (let e : 0 + i ≡ i = omega arith in e)
-at_behind (x ∷ xs) ys i = ap (slice_get (x ∷ (xs ++ ys))) (let e : suc (length xs) + i ≡ suc (length xs + i) = omega arith in e) ∙ at_behind xs ys i
-
 pub at_middle : {X : Type 0} (xs : List X) (y : X) (ys : List X) → slice_get (xs ++ y ∷ ys) (length xs) ≡ Some y
 at_middle [] y ys = refl
 at_middle (x ∷ xs) y ys = at_middle xs y ys
-
--- an item of two lists is one of the first, or one of the second
-pub append_cases : {X : Type 0} (xs ys : List X) (i : ℕ) (x : X) → slice_get (xs ++ ys) i ≡ Some x → (slice_get xs i ≡ Some x) ⊎ ((j : ℕ) × (i ≡ length xs + j) × (slice_get ys j ≡ Some x))
-append_cases [] ys i x h = inr (i, omega arith, h)
-append_cases (z ∷ xs) ys zero x h = inl h
-append_cases (z ∷ xs) ys (suc i) x h = elim (append_cases xs ys i x h) [ inl old ↦ inl old | inr new ↦ inr (new.0, (let e = new.1 in omega (arith, e)), new.2) ]
 
 -- an item splits its list
 pub split_at : {X : Type 0} (xs : List X) (i : ℕ) (x : X) → slice_get xs i ≡ Some x → (xs ≡ take i xs ++ x ∷ drop (suc i) xs) × (length (take i xs) ≡ i)
@@ -80,45 +58,14 @@ numbered_front number xs ys h i j a b p q e = h i j a b (slice_get-kept xs ys i 
 
 pub numbered_back : {X : Type 0} (number : X → ℕ) (xs ys : List X) → AreNumbered number (xs ++ ys) → AreNumbered number ys
 numbered_back number xs ys h i j a b p q e =
-    let k = h (length xs + i) (length xs + j) a b (at_behind xs ys i ∙ p) (at_behind xs ys j ∙ q) e in omega (arith, k)
+    let k = h (length xs + i) (length xs + j) a b (slice_get-behind xs ys i ∙ p) (slice_get-behind xs ys j ∙ q) e in omega (arith, k)
 
 -- an item of the first list has another number than one of the second
 pub numbered_apart : {X : Type 0} (number : X → ℕ) (xs ys : List X) → AreNumbered number (xs ++ ys) → (i j : ℕ) (a b : X) → slice_get xs i ≡ Some a → slice_get ys j ≡ Some b → number a ≡ number b → ⊥
 numbered_apart number xs ys h i j a b p q e =
-    let k = h i (length xs + j) a b (slice_get-kept xs ys i a p) (at_behind xs ys j ∙ q) e in
+    let k = h i (length xs + j) a b (slice_get-kept xs ys i a p) (slice_get-behind xs ys j ∙ q) e in
     let lt = slice_get_within xs i a p in
     omega (arith, k, lt)
-
-abbrev IsKept : {X : Type 0} → (X → Bool) → X → List X → Type 0
-IsKept p x xs = (i : ℕ) → slice_get (filter p xs) i ≡ Some x → (j : ℕ) × (slice_get xs j ≡ Some x) × (p x ≡ true)
-
--- what a test keeps is in the list, each at a place of its own
-pub filter_from : {X : Type 0} (p : X → Bool) (xs : List X) (i : ℕ) (x : X) → slice_get (filter p xs) i ≡ Some x → (j : ℕ) × (slice_get xs j ≡ Some x) × (p x ≡ true)
-filter_from p [] i x h = absurd (none-some x h)
-filter_from {X} p (y ∷ xs) i x h = by (p y) refl h (λ j k. filter_from p xs j x k)
-  where
-    later : IsKept p x xs → (i : ℕ) → slice_get (filter p xs) i ≡ Some x → (j : ℕ) × (slice_get (y ∷ xs) j ≡ Some x) × (p x ≡ true)
-    later rest i k = let r = rest i k in (suc r.0, r.1, r.2)
-
-    first : IsKept p x xs → (i : ℕ) → p y ≡ true → slice_get (y ∷ filter p xs) i ≡ Some x → (j : ℕ) × (slice_get (y ∷ xs) j ≡ Some x) × (p x ≡ true)
-    first rest zero e k = (0, k, ap p (sym (same_Some y x k)) ∙ e)
-    first rest (suc i) e k = later rest i k
-
-    by : (t : Bool) → p y ≡ t → slice_get (if t then y ∷ filter p xs else filter p xs) i ≡ Some x → IsKept p x xs → (j : ℕ) × (slice_get (y ∷ xs) j ≡ Some x) × (p x ≡ true)
-    by true e k rest = first rest i e k
-    by false e k rest = later rest i k
-
--- and what it passes is kept
-pub filter_at : {X : Type 0} (p : X → Bool) (xs : List X) (k : ℕ) (x : X) → slice_get xs k ≡ Some x → p x ≡ true → (i : ℕ) × (slice_get (filter p xs) i ≡ Some x)
-filter_at p [] k x at keeps = absurd (none-some x at)
-filter_at p (y ∷ xs) zero x at keeps =
-    let same : y ≡ x = same_Some y x at in
-    (0, ap (λ ys. slice_get ys 0) (cond-true (p y) (y ∷ filter p xs) (filter p xs) (ap p same ∙ keeps)) ∙ ap Some same)
-filter_at {X} p (y ∷ xs) (suc k) x at keeps = by (p y) (filter_at p xs k x at keeps)
-  where
-    by : (t : Bool) → (i : ℕ) × (slice_get (filter p xs) i ≡ Some x) → (i : ℕ) × (slice_get (if t then y ∷ filter p xs else filter p xs) i ≡ Some x)
-    by true r = (suc r.0, r.1)
-    by false r = r
 
 pub filter_numbered : {X : Type 0} (number : X → ℕ) (p : X → Bool) (xs : List X) → AreNumbered number xs → AreNumbered number (filter p xs)
 filter_numbered number p [] h = λ i j a b at at' e. absurd (none-some a at)
@@ -143,14 +90,11 @@ distinct_cons x xs apart h zero (suc j) y at at' = absurd (apart j (at' ∙ ap S
 distinct_cons x xs apart h (suc i) zero y at at' = absurd (apart i (at ∙ ap Some (sym (same_Some x y at'))))
 distinct_cons x xs apart h (suc i) (suc j) y at at' = ap suc (h i j y at at')
 
-pub distinct_rest : {X : Type 0} (x : X) (xs : List X) → IsDistinctList (x ∷ xs) → IsDistinctList xs
-distinct_rest x xs h i j y at at' = let k : suc i ≡ suc j = h (suc i) (suc j) y at at' in omega (arith, k)
-
 pub distinct_append : {X : Type 0} (xs ys : List X) → IsDistinctList xs → IsDistinctList ys → ((i j : ℕ) (x : X) → slice_get xs i ≡ Some x → slice_get ys j ≡ Some x → ⊥) → IsDistinctList (xs ++ ys)
 distinct_append xs ys h k apart i j x at at' = ⊎_elim
-    (λ a. ⊎_elim (λ b. h i j x a b) (λ b. absurd (apart i b.0 x a b.2)) (append_cases xs ys j x at'))
-    (λ a. ⊎_elim (λ b. absurd (apart j a.0 x b a.2)) (λ b. let same = k a.0 b.0 x a.2 b.2 in let p = a.1 in let q = b.1 in omega (arith, p, q, same)) (append_cases xs ys j x at'))
-    (append_cases xs ys i x at)
+    (λ a. ⊎_elim (λ b. h i j x a b) (λ b. absurd (apart i b.0 x a b.2)) (slice_get-behind_cases xs ys j x at'))
+    (λ a. ⊎_elim (λ b. absurd (apart j a.0 x b a.2)) (λ b. let same = k a.0 b.0 x a.2 b.2 in let p = a.1 in let q = b.1 in omega (arith, p, q, same)) (slice_get-behind_cases xs ys j x at'))
+    (slice_get-behind_cases xs ys i x at)
 
 -- ---- found items
 

@@ -3,7 +3,7 @@ use Rattle.std.proofs.Common.{◌≡◌, ◌+◌, ℕ, zero, suc, true, false, n
 use Rattle.std.specs.List.{flat_map, find}
 use Rattle.std.specs.Option.{option_map_or, option_and_then}
 use Rattle.std.proofs.lemmas.Option.{same_Some, none-some, option_and_then_some}
-use Rattle.llvm_core.proofs.ListLemmas.{slice_get-kept}
+use Rattle.support.proofs.ListLaws.{slice_get-kept, slice_get-behind, slice_get-behind_cases, filter_at}
 use Rattle.dialect_types.specs.Trees.{TypeTree}
 use Rattle.dialect_core.specs.declared.numbers.BlockRef.{BlockRef}
 use Rattle.dialect_core.specs.declared.numbers.OpRef.{OpRef}
@@ -12,7 +12,7 @@ use Rattle.dialect_core.specs.Data.{DialectOp, DialectBlock, Func, ops_in, value
 use Rattle.dialect_core.specs.Form.{IsFormFunc, IsFormBlock, IsFormOp, is_constant, others_of}
 use Rattle.meaning.specs.Dialect.{place_of}
 use Rattle.to_llvm_ir.specs.Made.{is_entry}
-use Rattle.to_llvm_ir.proofs.ListLaws.{all_at, at_behind, append_cases, filter_at, find_numbered, found_numbered, position_numbered}
+use Rattle.to_llvm_ir.proofs.ListLaws.{all_at, find_numbered, found_numbered, position_numbered}
 
 -- ---- the operations of blocks
 
@@ -20,7 +20,7 @@ use Rattle.to_llvm_ir.proofs.ListLaws.{all_at, at_behind, append_cases, filter_a
 pub op_among : (cs : List DialectBlock) (j k : ℕ) (c : DialectBlock) (o : DialectOp) → slice_get cs j ≡ Some c → slice_get c.ops k ≡ Some o → (i : ℕ) × (slice_get (flat_map (λ (c : DialectBlock). c.ops) cs) i ≡ Some o)
 op_among [] j k c o at at' = absurd (none-some c at)
 op_among (d ∷ cs) zero k c o at at' = (k, slice_get-kept d.ops (flat_map (λ (c : DialectBlock). c.ops) cs) k o (ap (λ (x : DialectBlock). slice_get x.ops k) (same_Some d c at) ∙ at'))
-op_among (d ∷ cs) (suc j) k c o at at' = let r = op_among cs j k c o at at' in (length d.ops + r.0, at_behind d.ops (flat_map (λ (c : DialectBlock). c.ops) cs) r.0 ∙ r.1)
+op_among (d ∷ cs) (suc j) k c o at at' = let r = op_among cs j k c o at at' in (length d.ops + r.0, slice_get-behind d.ops (flat_map (λ (c : DialectBlock). c.ops) cs) r.0 ∙ r.1)
 
 -- one of all is an operation of a block
 pub op_of_block : (cs : List DialectBlock) (i : ℕ) (o : DialectOp) → slice_get (flat_map (λ (c : DialectBlock). c.ops) cs) i ≡ Some o → (j : ℕ) × (k : ℕ) × (c : DialectBlock) × (slice_get cs j ≡ Some c) × (slice_get c.ops k ≡ Some o)
@@ -28,7 +28,7 @@ op_of_block [] i o at = absurd (none-some o at)
 op_of_block (d ∷ cs) i o at = ⊎_elim
     (λ here. (0, i, d, refl, here))
     (λ later. let r = op_of_block cs later.0 o later.2 in (suc r.0, r.1, r.2, r.3, r.4))
-    (append_cases d.ops (flat_map (λ (c : DialectBlock). c.ops) cs) i o at)
+    (slice_get-behind_cases d.ops (flat_map (λ (c : DialectBlock). c.ops) cs) i o at)
 
 -- ---- values by their places
 

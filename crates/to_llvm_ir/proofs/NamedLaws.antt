@@ -5,9 +5,9 @@ use Rattle.std.specs.Option.{option_map_or}
 use Rattle.std.proofs.lemmas.Option.{same_Some, none-some}
 use Rattle.std.proofs.lemmas.List.{map-append, length-append}
 use Rattle.std.proofs.lemmas.List.Concat.{flat_map-append}
-use Rattle.llvm_core.specs.Interned.{IsDistinctList}
+use Rattle.support.specs.Interned.{IsDistinctList}
 use Rattle.llvm_core.specs.Data.{Operand, Placed, Block}
-use Rattle.llvm_core.proofs.ListLemmas.{distinct_nil, slice_get-kept}
+use Rattle.support.proofs.ListLaws.{distinct_nil, slice_get-kept, slice_get-behind, slice_get-behind_cases}
 use Rattle.dialect_types.specs.Trees.{TypeTree}
 use Rattle.dialect_core.specs.declared.ops.Value.{Value}
 use Rattle.dialect_core.specs.declared.ops.Value.TheVariants.{Result, Argument}
@@ -16,7 +16,7 @@ use Rattle.dialect_core.specs.Form.{IsFormFunc, is_constant, others_of}
 use Rattle.meaning.specs.Pairs.{BothOrNone}
 use Rattle.to_llvm_ir.specs.Exported.{value_name, result_name, result, results_of, arguments_from, arguments_of, values_of, values_in, value_number, phi_values, phi_name, operation_name, HasNames}
 use Rattle.to_llvm_ir.specs.Made.{Numbers, number_after, number_behind, number_past, inst, insts, phis, block_phis, block_made, function_made}
-use Rattle.to_llvm_ir.proofs.ListLaws.{AreNumbered, append_cases, at_behind, split_at, numbered_rest, numbered_front, numbered_back, numbered_apart, distinct_append}
+use Rattle.to_llvm_ir.proofs.ListLaws.{AreNumbered, split_at, numbered_rest, numbered_front, numbered_back, numbered_apart, distinct_append}
 use Rattle.to_llvm_ir.proofs.PlaceLaws.{place_at, result_number, argument_from, arguments_count, arguments_distinct}
 use Rattle.to_llvm_ir.proofs.EdgeLaws.{made_at, made_none}
 
@@ -36,7 +36,7 @@ result_from [] i v at = absurd (none-some v at)
 result_from (o ∷ os) i v at = ⊎_elim
     (λ here. (0, o, refl, (one_result o i v here).1))
     (λ rest. let r = result_from os rest.0 v rest.2 in (suc r.0, r.1, r.2, r.3))
-    (append_cases (results_of o) (flat_map results_of os) i v at)
+    (slice_get-behind_cases (results_of o) (flat_map results_of os) i v at)
 
 -- an argument of one of the blocks, or the result of one of their operations
 abbrev ComesFrom : List DialectBlock → Value → Type 0
@@ -49,13 +49,13 @@ comes_from (c ∷ cs) i v at = ⊎_elim
     (λ here. ⊎_elim
     (λ arg. subst (ComesFrom (c ∷ cs)) (sym (argument_from c.number 0 c.args i v arg).0) (0, c, refl, refl))
     (λ res. let r = result_from c.ops res.0 v res.2 in subst (ComesFrom (c ∷ cs)) (sym r.3) (r.0, r.1, slice_get-kept c.ops (flat_map (λ (c : DialectBlock). c.ops) cs) r.0 r.1 r.2, refl))
-    (append_cases (arguments_of c) (flat_map results_of c.ops) i v here))
+    (slice_get-behind_cases (arguments_of c) (flat_map results_of c.ops) i v here))
     (λ rest. later v (comes_from cs rest.0 v rest.2))
-    (append_cases (values_of c) (flat_map values_of cs) i v at)
+    (slice_get-behind_cases (values_of c) (flat_map values_of cs) i v at)
   where
     later : (v : Value) → ComesFrom cs v → ComesFrom (c ∷ cs) v
     later (Argument b i) h = (suc h.0, h.1, h.2, h.3)
-    later (Result r) h = (length c.ops + h.0, h.1, at_behind c.ops (flat_map (λ (c : DialectBlock). c.ops) cs) h.0 ∙ h.2, h.3)
+    later (Result r) h = (length c.ops + h.0, h.1, slice_get-behind c.ops (flat_map (λ (c : DialectBlock). c.ops) cs) h.0 ∙ h.2, h.3)
 
 -- ---- no value stands twice
 
@@ -90,7 +90,7 @@ all_distinct (c ∷ cs) h k =
     (λ i j v at at'. ⊎_elim
     (λ arg. argument (0 + i) (subst (ComesFrom cs) (argument_from c.number 0 c.args i v arg).0 (comes_from cs j v at')))
     (λ res. let r = result_from c.ops res.0 v res.2 in operation r.0 r.1 r.2 (subst (ComesFrom cs) r.3 (comes_from cs j v at')))
-    (append_cases (arguments_of c) (flat_map results_of c.ops) i v at))
+    (slice_get-behind_cases (arguments_of c) (flat_map results_of c.ops) i v at))
   where
     argument : (i : ℕ) → ComesFrom cs (Argument (record { 0 = c.number }) i) → ⊥
     argument i f = let e : 0 ≡ suc f.0 = h 0 (suc f.0) c f.1 refl f.2 (sym f.3) in omega (arith, e)
@@ -171,7 +171,7 @@ module _ (g : Func) (n : Numbers) where
       names = map-append name_of (block_phis g n given p k c) (insts g n (k + length c.args) c.ops)
           ∙ ap (λ (ms : List (List ℕ)). ms ++ map name_of (insts g n (k + length c.args) c.ops)) (block_phis_named p k c (λ i v at. h i v (slice_get-kept (arguments_of c) (flat_map results_of c.ops) i v at)))
           ∙ ap (λ (ms : List (List ℕ)). map (phi_name g) (phi_values p c) ++ ms) (insts_named (k + length c.args) c.ops (λ i v at.
-          let e : value_number g v ≡ k + (length (arguments_of c) + i) = h (length (arguments_of c) + i) v (at_behind (arguments_of c) (flat_map results_of c.ops) i ∙ at) in
+          let e : value_number g v ≡ k + (length (arguments_of c) + i) = h (length (arguments_of c) + i) v (slice_get-behind (arguments_of c) (flat_map results_of c.ops) i ∙ at) in
           let count : length (arguments_of c) ≡ length c.args = arguments_count c.number 0 c.args in
           omega (arith, e, count)));
     }
@@ -188,7 +188,7 @@ module _ (g : Func) (form : IsFormFunc g) where
       let front = flat_map values_of (take j g.blocks) in
       let back = flat_map values_of (drop (suc j) g.blocks) in
       let are : values_in g ≡ front ++ (values_of c ++ back) = ap (flat_map values_of) (split_at g.blocks j c at).0 ∙ flat_map-append values_of (take j g.blocks) (c ∷ drop (suc j) g.blocks) in
-      let there : slice_get (values_in g) (length front + i) ≡ Some v = ap (λ (vs : List Value). slice_get vs (length front + i)) are ∙ at_behind front (values_of c ++ back) i ∙ slice_get-kept (values_of c) back i v at' in
+      let there : slice_get (values_in g) (length front + i) ≡ Some v = ap (λ (vs : List Value). slice_get vs (length front + i)) are ∙ slice_get-behind front (values_of c ++ back) i ∙ slice_get-kept (values_of c) back i v at' in
       let e : value_number g v ≡ 0 + (length front + i) = number_at (length front + i) v there in
       let past : number_past 0 (take j g.blocks) ≡ 0 + length front = values_count 0 (take j g.blocks) in
       omega (arith, e, past)

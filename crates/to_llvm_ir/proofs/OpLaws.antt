@@ -4,6 +4,7 @@ use Rattle.std.specs.List.{Contains, flat_map}
 use Rattle.std.specs.Option.{option_map, option_and_then}
 use Rattle.std.proofs.lemmas.Option.{same_Some, none-some, get_or_from_slice_get}
 use Rattle.std.proofs.lemmas.List.Elements.{Contains-append_left, Contains-append_right}
+use Rattle.support.proofs.ListLaws.{contains_at}
 use Rattle.llvm_core.specs.declared.numbers.LLVMType.{LLVMType}
 use Rattle.llvm_core.specs.declared.types.LLVMTypeKind.TheVariants as T
 use Rattle.llvm_core.specs.declared.code.LLVMValue.{LLVMValue}
@@ -29,7 +30,6 @@ use Rattle.meaning.specs.Dialect.{type_of}
 use Rattle.to_llvm_ir.specs.Growth.{HasType, IsTypeOf}
 use Rattle.to_llvm_ir.specs.Exported.{result}
 use Rattle.to_llvm_ir.specs.States.{Spot, IsSpot, IsUsed, IsUse}
-use Rattle.to_llvm_ir.proofs.ListLaws.{contains_at}
 use Rattle.to_llvm_ir.proofs.LookupLaws.{op_form, result_type}
 use Rattle.to_llvm_ir.proofs.GrowthLaws.{int_at, value_there}
 

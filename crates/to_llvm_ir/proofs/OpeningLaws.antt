@@ -6,6 +6,7 @@ use Rattle.std.proofs.lemmas.Bool.{cond-true, cond-false, cases_Bool, cases_eq}
 use Rattle.std.proofs.lemmas.Option.{same_Some, none-some, slice_get_within, slice_get-get_or}
 use Rattle.std.proofs.lemmas.List.{map_push, length_push}
 use Rattle.std.proofs.lemmas.List.Elements.{All-nil, All-cons, All-head, All-tail}
+use Rattle.support.proofs.ListLaws.{item_there}
 use Rattle.llvm_core.specs.declared.numbers.LLVMType.{LLVMType}
 use Rattle.llvm_core.specs.declared.numbers.LLVMFunction.{LLVMFunction}
 use Rattle.llvm_core.specs.declared.numbers.LLVMBasicBlock.{LLVMBasicBlock}
@@ -15,12 +16,12 @@ use Rattle.llvm_core.specs.declared.code.FunctionData.{FunctionData}
 use Rattle.llvm_core.specs.Module.{Module}
 use Rattle.llvm_core.specs.Sound.{IsModule}
 use Rattle.llvm_core.specs.Code as code
-use Rattle.llvm_core.specs.Code.{code_of, with_code, with_change}
+use Rattle.llvm_core.specs.Code.{code_of, with_code}
 use Rattle.llvm_core.specs.Parts.{type_params, param_types, kind_params}
 use Rattle.llvm_core.specs.Data as L
 use Rattle.llvm_core.specs.Data.{Function, Block, ModuleData, trees_of, function_of, data_of, with_function, with_block}
 use Rattle.llvm_core.proofs.ChangeLemmas.{slice_get-changed}
-use Rattle.llvm_core.proofs.DataLemmas.{function_tree_of, void_tree_of, int_tree_of, there}
+use Rattle.llvm_core.proofs.DataLemmas.{function_tree_of, void_tree_of, int_tree_of}
 use Rattle.dialect_types.specs.Trees.{TypeTree, TypeTrees, NoTypes, ThenType}
 use Rattle.dialect_core.specs.declared.numbers.BlockRef.{BlockRef}
 use Rattle.dialect_core.specs.ContextData.{ContextData}
@@ -162,7 +163,7 @@ kind_of_function m t (T.Function result params variadic) r ps v s at h = let e =
 
 pub params_are : (m : Module) (t : LLVMType) (r : L.TypeTree) (ps : L.TypeTrees) (v : Bool) → IsModule m → t.0 < length m.types → L.type_at (trees_of m).types t ≡ L.FunctionType r ps v → L.types_at (trees_of m).types (type_params m.types t) ≡ ps
 params_are m t r ps v s within h =
-    let k = there m.types t.0 within in
+    let k = item_there m.types t.0 within in
     ap (λ (o : Option LLVMTypeKind). L.types_at (trees_of m).types (option_map_or kind_params o [])) k.1 ∙ kind_of_function m t k.0 r ps v s k.1 h
 
 -- the parameter at the place of an argument

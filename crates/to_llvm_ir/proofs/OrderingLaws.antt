@@ -7,7 +7,7 @@ use Rattle.std.proofs.lemmas.Option.{none-some, same_Some, slice_get_within}
 use Rattle.std.proofs.lemmas.List.{append-nil, map-append, take-append-drop}
 use Rattle.std.proofs.lemmas.List.Concat.{flat_map-append}
 use Rattle.std.proofs.lemmas.List.Elements.{All-weaker, All-append, filter_map-append}
-use Rattle.llvm_core.proofs.ListLemmas.{slice_get-kept}
+use Rattle.support.proofs.ListLaws.{slice_get-kept, all_from, slice_get-behind, slice_get-behind_cases, in_joined}
 use Rattle.dialect_types.specs.Trees.{type_trees}
 use Rattle.dialect_core.specs.declared.numbers.BlockRef.{BlockRef}
 use Rattle.dialect_core.specs.declared.numbers.OpRef.{OpRef}
@@ -23,8 +23,7 @@ use Rattle.to_llvm_ir.specs.Exported.{result, arguments_of}
 use Rattle.to_llvm_ir.specs.States.{Task, Has, all_values, seen_before}
 use Rattle.to_llvm_ir.specs.Opening.{AreBlocks}
 use Rattle.to_llvm_ir.specs.Ordering.{AreBlocksOf, AreSeen, IsAmong, HasUsesAmong, is_seen, ops_of}
-use Rattle.to_llvm_ir.proofs.ListLaws.{all_at, all_from, take_suc, at_middle, at_behind, append_cases, filter_map_more}
-use Rattle.to_llvm_ir.proofs.TurnLaws.{flat_at}
+use Rattle.to_llvm_ir.proofs.ListLaws.{all_at, take_suc, at_middle, filter_map_more}
 use Rattle.to_llvm_ir.proofs.KnownLaws.{has_left, has_cases, stands_seen, seen_stands}
 
 pub of_blocks : (c : ContextData) (t : Task) (bs : List BlockRef) → AreBlocks c t bs → AreBlocksOf c t.source bs
@@ -75,7 +74,7 @@ module _ (vs : List Value) where
       (λ back.
       subst (λ (j : ℕ). All (IsAmong vs (xs ++ ys) j) (uses_of o)) (sym back.1)
       (All-weaker (IsAmong (vs ++ map result xs) ys back.0) (IsAmong vs (xs ++ ys) (length xs + back.0)) (λ v has. subst (λ (ws : List Value). Has ws v) (sym (among_past xs ys back.0 v)) has) (uses_of o) (k back.0 o back.2)))
-      (append_cases xs ys i o at)
+      (slice_get-behind_cases xs ys i o at)
 
   pub uses_front : (xs ys : List DialectOp) → HasUsesAmong vs (xs ++ ys) → HasUsesAmong vs xs
   uses_front xs ys h i o at =
@@ -83,7 +82,7 @@ module _ (vs : List Value) where
 
   pub uses_back : (xs ys : List DialectOp) → HasUsesAmong vs (xs ++ ys) → HasUsesAmong (vs ++ map result xs) ys
   uses_back xs ys h i o at =
-      All-weaker (IsAmong vs (xs ++ ys) (length xs + i)) (IsAmong (vs ++ map result xs) ys i) (λ v has. subst (λ (ws : List Value). Has ws v) (among_past xs ys i v) has) (uses_of o) (h (length xs + i) o (at_behind xs ys i ∙ at))
+      All-weaker (IsAmong vs (xs ++ ys) (length xs + i)) (IsAmong (vs ++ map result xs) ys i) (λ v has. subst (λ (ws : List Value). Has ws v) (among_past xs ys i v) has) (uses_of o) (h (length xs + i) o (slice_get-behind xs ys i ∙ at))
 
   -- one operation
   pub uses_one : (o : DialectOp) → All (Has vs) (uses_of o) → HasUsesAmong vs (o ∷ [])
@@ -114,7 +113,7 @@ passes_more P xs ss i s at h k =
     subst (All P) whole (All-append P (xs ++ front) s.args h k)
 
 pub passes_one : (P : Value → Type 0) (xs : List Value) (ss : List Successor) (i : ℕ) (s : Successor) → slice_get ss i ≡ Some s → All P (xs ++ flat_map passes ss) → All P s.args
-passes_one P xs ss i s at h = all_from P s.args (λ k v at'. let m = flat_at passes ss i k s v at at' in all_at P (xs ++ flat_map passes ss) (length xs + m.0) v h (at_behind xs (flat_map passes ss) m.0 ∙ m.1))
+passes_one P xs ss i s at h = all_from P s.args (λ k v at'. let m = in_joined passes ss i k s v at at' in all_at P (xs ++ flat_map passes ss) (length xs + m.0) v h (slice_get-behind xs (flat_map passes ss) m.0 ∙ m.1))
 
 pub passes_none : (P : Value → Type 0) (xs ys : List Value) → All P (xs ++ ys) → All P xs
 passes_none P xs ys h = all_from P xs (λ k v at. all_at P (xs ++ ys) k v h (slice_get-kept xs ys k v at))

@@ -5,6 +5,7 @@ use Rattle.std.specs.Option.{option_map_or}
 use Rattle.std.proofs.lemmas.List.Elements.{All-append, All-cons, All-nil}
 use Rattle.std.proofs.lemmas.List.{take_all}
 use Rattle.std.proofs.lemmas.Option.{same_Some, none-some, slice_get-get_or}
+use Rattle.support.proofs.ListLaws.{all_from, contains_at}
 use Rattle.dialect_types.specs.Trees.{TypeTree, VoidType, IntegerType, FuncType, IntegerAttr, type_trees}
 use Rattle.dialect_core.specs.declared.numbers.OpRef.{OpRef}
 use Rattle.dialect_core.specs.declared.numbers.BlockRef.{BlockRef}
@@ -28,7 +29,7 @@ use Rattle.to_llvm_ir.specs.Order.{IsTaken, arranged, turn_of}
 use Rattle.to_llvm_ir.specs.Exported.{given_name}
 use Rattle.to_llvm_ir.specs.Causes.{IsFuncCause}
 use Rattle.to_llvm_ir.specs.Own.{IsForeignAmong, IsHeld, UsesForeign, UsesHeld}
-use Rattle.to_llvm_ir.proofs.ListLaws.{all_at, all_from, at_contains, contains_at, take_suc}
+use Rattle.to_llvm_ir.proofs.ListLaws.{all_at, at_contains, take_suc}
 use Rattle.to_llvm_ir.proofs.ContextLaws.{block_parts, func_parts}
 
 -- ---- lists

@@ -5,6 +5,7 @@ use Rattle.std.proofs.lemmas.Bool.{cond-true}
 use Rattle.std.proofs.lemmas.Option.{slice_get_within}
 use Rattle.std.proofs.lemmas.List.{append-nil, take_all}
 use Rattle.std.proofs.lemmas.List.Elements.{All-weaker}
+use Rattle.support.proofs.ListLaws.{item_there}
 use Rattle.llvm_core.specs.declared.numbers.LLVMBasicBlock.{LLVMBasicBlock}
 use Rattle.llvm_core.specs.Module.{Module}
 use Rattle.llvm_core.specs.Data.{Operand}
@@ -29,7 +30,7 @@ use Rattle.to_llvm_ir.specs.Causes.{IsFuncCause}
 use Rattle.to_llvm_ir.specs.Made.{Numbers, operand_for, entry_with, passed_to}
 use Rattle.to_llvm_ir.specs.States.{Task, IsTask, Spot, IsSpot, IsBlockAt, IsLinking, AreAllMapped, found_block}
 use Rattle.to_llvm_ir.specs.Links.{Given, IsTypedValue, IsEntryNext, IsEdgeNext, IsLinkedTo}
-use Rattle.to_llvm_ir.proofs.ListLaws.{all_at, item_there}
+use Rattle.to_llvm_ir.proofs.ListLaws.{all_at}
 use Rattle.to_llvm_ir.proofs.ContextLaws.{func_parts, block_parts}
 use Rattle.to_llvm_ir.proofs.LookupLaws.{argument_type}
 use Rattle.to_llvm_ir.proofs.TurnLaws.{argument_among}

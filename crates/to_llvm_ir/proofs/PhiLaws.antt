@@ -9,7 +9,7 @@ use Rattle.llvm_core.specs.Data as L
 use Rattle.llvm_core.specs.Data.{Operand, Placed, Block, Function, phi_entries}
 use Rattle.llvm_core.specs.Form as F
 use Rattle.llvm_core.specs.Form.{is_phi}
-use Rattle.llvm_core.proofs.ListLemmas.{slice_get-kept}
+use Rattle.support.proofs.ListLaws.{slice_get-kept, item_there, slice_get-behind_cases}
 use Rattle.dialect_types.specs.Trees.{TypeTree}
 use Rattle.block_order.specs.Order.{IsOrder}
 use Rattle.dialect_core.specs.declared.numbers.BlockRef.{BlockRef}
@@ -24,7 +24,7 @@ use Rattle.to_llvm_ir.specs.Exported.{phi_types, edge_sources, blocks_by, HasEdg
 use Rattle.to_llvm_ir.specs.Made.{Numbers, operand_for, instruction_for, inst, insts, phis, block_phis, block_made, function_made, entries, number_past, number_after}
 use Rattle.to_llvm_ir.specs.Accepted.{IsAccepted}
 use Rattle.to_llvm_ir.specs.Links.{HasTarget}
-use Rattle.to_llvm_ir.proofs.ListLaws.{all_at, append_cases, item_there, filter_all, filter_none}
+use Rattle.to_llvm_ir.proofs.ListLaws.{all_at, filter_all, filter_none}
 use Rattle.to_llvm_ir.proofs.TurnLaws.{named_within}
 use Rattle.to_llvm_ir.proofs.LookupLaws.{place_is}
 use Rattle.to_llvm_ir.proofs.EdgeLaws.{made_at, made_none, target_for, edge_form, edge_target}
@@ -41,7 +41,7 @@ phis_first xs ys h k i j x y lt at at' none = ⊎_elim
     let yep = all_at (λ (p : Placed). is_phi p ≡ true) xs i first.0 h first.1 in
     absurd (let e : true ≡ false = sym yep ∙ ap is_phi same ∙ none in cc))
     (λ late. all_at (λ (p : Placed). is_phi p ≡ false) ys late.0 y k late.2)
-    (append_cases xs ys j y at')
+    (slice_get-behind_cases xs ys j y at')
 
 -- and no others
 pub phis_only : (xs ys : List Placed) → All (λ (p : Placed). is_phi p ≡ true) xs → All (λ (p : Placed). is_phi p ≡ false) ys → filter is_phi (xs ++ ys) ≡ xs

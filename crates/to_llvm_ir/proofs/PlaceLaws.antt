@@ -4,8 +4,8 @@ use Rattle.std.specs.List.{flat_map}
 use Rattle.std.specs.Option.{option_map}
 use Rattle.std.proofs.lemmas.Option.{same_Some, none-some, slice_get-map}
 use Rattle.std.proofs.lemmas.Bool.{cond-true, cond-false, false_from_ne_true}
-use Rattle.llvm_core.specs.Interned.{IsDistinctList}
-use Rattle.llvm_core.proofs.ListLemmas.{distinct_nil, slice_get-kept}
+use Rattle.support.specs.Interned.{IsDistinctList}
+use Rattle.support.proofs.ListLaws.{distinct_nil, slice_get-kept, slice_get-behind, slice_get-behind_cases, filter_from, distinct_rest}
 use Rattle.dialect_types.specs.Trees.{TypeTree}
 use Rattle.dialect_core.specs.declared.ops.Value.{Value}
 use Rattle.dialect_core.specs.declared.ops.Value.TheVariants.{Result, Argument}
@@ -15,7 +15,7 @@ use Rattle.meaning.specs.Dialect.{same_value}
 use Rattle.meaning.proofs.SameValues.{same_value-Decides}
 use Rattle.to_llvm_ir.specs.Exported.{result, arguments_from, phi_values, place_in}
 use Rattle.to_llvm_ir.specs.Made.{result_values, values_from}
-use Rattle.to_llvm_ir.proofs.ListLaws.{AreNumbered, at_behind, append_cases, numbered_rest, numbered_front, numbered_back, numbered_apart, filter_from, filter_numbered, distinct_rest, distinct_append}
+use Rattle.to_llvm_ir.proofs.ListLaws.{AreNumbered, numbered_rest, numbered_front, numbered_back, numbered_apart, filter_numbered, distinct_append}
 
 -- ---- the place of a value
 
@@ -98,16 +98,16 @@ comes_from place (c ∷ cs) i v at = ⊎_elim
     (λ here. ⊎_elim
     (λ phi. let p = phis_from place c i v phi in subst (ComesFrom place (c ∷ cs)) (sym p.0) (0, c, refl, refl, p.2))
     (λ res. let r = result_from c.ops res.0 v res.2 in subst (ComesFrom place (c ∷ cs)) (sym r.3) (r.0, r.1, kept r.0 r.1 r.2, refl, r.4))
-    (append_cases (phi_values place c) (result_values c.ops) i v here))
+    (slice_get-behind_cases (phi_values place c) (result_values c.ops) i v here))
     (λ rest. later v (comes_from (suc place) cs rest.0 v rest.2))
-    (append_cases (phi_values place c ++ result_values c.ops) (values_from (suc place) cs) i v at)
+    (slice_get-behind_cases (phi_values place c ++ result_values c.ops) (values_from (suc place) cs) i v at)
   where
     kept : (j : ℕ) (o : DialectOp) → slice_get c.ops j ≡ Some o → slice_get (c.ops ++ flat_map (λ (c : DialectBlock). c.ops) cs) j ≡ Some o
     kept j o at = slice_get-kept c.ops (flat_map (λ (c : DialectBlock). c.ops) cs) j o at
 
     later : (v : Value) → ComesFrom (suc place) cs v → ComesFrom place (c ∷ cs) v
     later (Argument b i) h = (suc h.0, h.1, h.2, h.3, omega arith)
-    later (Result r) h = (length c.ops + h.0, h.1, at_behind c.ops (flat_map (λ (c : DialectBlock). c.ops) cs) h.0 ∙ h.2, h.3, h.4)
+    later (Result r) h = (length c.ops + h.0, h.1, slice_get-behind c.ops (flat_map (λ (c : DialectBlock). c.ops) cs) h.0 ∙ h.2, h.3, h.4)
 
 -- ---- no value stands twice
 
@@ -128,7 +128,7 @@ from_distinct place (c ∷ cs) h k =
     (λ i j v at at'. ⊎_elim
     (λ phi. let p = phis_from place c i v phi in argument i (subst (ComesFrom (suc place) cs) p.0 (comes_from (suc place) cs j v at')))
     (λ res. let r = result_from c.ops res.0 v res.2 in operation r.0 r.1 r.2 (subst (ComesFrom (suc place) cs) r.3 (comes_from (suc place) cs j v at')))
-    (append_cases (phi_values place c) (result_values c.ops) i v at))
+    (slice_get-behind_cases (phi_values place c) (result_values c.ops) i v at))
   where
     argument : (i : ℕ) → ComesFrom (suc place) cs (Argument (record { 0 = c.number }) i) → ⊥
     argument i f = let e : 0 ≡ suc f.0 = h 0 (suc f.0) c f.1 refl f.2 (sym f.3) in omega (arith, e)

@@ -5,6 +5,7 @@ use Rattle.std.specs.Option.{option_map_or}
 use Rattle.std.proofs.lemmas.Option.{same_Some, none-some, slice_get_within}
 use Rattle.std.proofs.lemmas.Bool.{cond-true, cond-false}
 use Rattle.std.proofs.lemmas.List.{length-map}
+use Rattle.meaning.proofs.MatchedLaws.{matched_append}
 use Rattle.llvm_core.specs.Data as L
 use Rattle.llvm_core.specs.Data.{Operand, Placed, Block, Function, placed_in, operand_type}
 use Rattle.llvm_core.specs.Form as F
@@ -26,12 +27,6 @@ use Rattle.to_llvm_ir.proofs.TurnLaws.{values_distinct, values_by_distinct, valu
 use Rattle.to_llvm_ir.proofs.LookupLaws.{argument_type, result_type, argument_of, result_of, op_found, op_form, entry_at, entry_is, entry_is_not, first_is_entry, IsResultOf}
 
 -- ---- matched lists
-
-pub matched_append : {A B : Type 0} (P : A → B → Type 0) (xs us : List A) (ys vs : List B) → Matched P xs ys → Matched P us vs → Matched P (xs ++ us) (ys ++ vs)
-matched_append P [] us [] vs m h = h
-matched_append P [] us (y ∷ ys) vs m h = absurd m
-matched_append P (x ∷ xs) us [] vs m h = absurd m
-matched_append P (x ∷ xs) us (y ∷ ys) vs m h = (m.0, matched_append P xs us ys vs m.1 h)
 
 pub matched_at : {A B : Type 0} (P : A → B → Type 0) (xs : List A) (ys : List B) (i : ℕ) (x : A) → Matched P xs ys → slice_get xs i ≡ Some x → (y : B) × (slice_get ys i ≡ Some y) × P x y
 matched_at P [] ys i x m at = absurd (none-some x at)

@@ -4,6 +4,7 @@ use Rattle.std.specs.Prelude.{nat_lt}
 use Rattle.std.proofs.lemmas.Bool.{cond-true, cond-false, and_from, and_parts, and_left, or_from, or_left, or_right, lt-ltb, ltb-true, le-leb, leb-true, false≢true, false_from_ne_true}
 use Rattle.std.proofs.lemmas.List.Elements.{All-head, All-tail}
 use Rattle.std.proofs.lemmas.Option.{same_Some, none-some, slice_get_within, cond_some}
+use Rattle.support.proofs.ListLaws.{all_from, filter_from, filter_at}
 use Rattle.llvm_core.specs.Data as L
 use Rattle.llvm_core.specs.Data.{Operand, Placed, Function, Block}
 use Rattle.dialect_types.specs.Trees.{TypeTree, TypeTrees, VoidType, IntegerType, FuncType, NoTypes, ThenType, AttrTree, IntegerAttr}
@@ -27,7 +28,7 @@ use Rattle.meaning.proofs.Fronts.{made, after_one, after, ran, others}
 use Rattle.meaning.proofs.ConstantRows.{rows, HasConstant}
 use Rattle.to_llvm_ir.specs.Exported.{result}
 use Rattle.to_llvm_ir.specs.Made.{Numbers, values_by, const_of, number_of, operand_for, function_made}
-use Rattle.to_llvm_ir.proofs.ListLaws.{AreNumbered, numbered_rest, all_from, filter_from, filter_at, filter_numbered}
+use Rattle.to_llvm_ir.proofs.ListLaws.{AreNumbered, numbered_rest, filter_numbered}
 use Rattle.to_llvm_ir.proofs.PlaceLaws.{comes_from}
 use Rattle.to_llvm_ir.proofs.TurnLaws.{values_by_distinct, values_by_from}
 use Rattle.to_llvm_ir.proofs.LookupLaws.{op_among, entry_at}

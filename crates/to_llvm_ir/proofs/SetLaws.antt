@@ -4,7 +4,7 @@ use Rattle.std.specs.List.{flat_map}
 use Rattle.std.specs.Option.{option_map, option_map_or}
 use Rattle.std.proofs.lemmas.Bool.{false≢true, or_cases, or_right}
 use Rattle.std.proofs.lemmas.Option.{slice_get-map}
-use Rattle.llvm_core.proofs.ListLemmas.{slice_get-kept}
+use Rattle.support.proofs.ListLaws.{slice_get-kept, all_from, filter_from}
 use Rattle.dialect_core.specs.declared.ops.Value.{Value}
 use Rattle.dialect_core.specs.declared.ops.Value.TheVariants.{Result, Argument}
 use Rattle.dialect_core.specs.declared.ops.Successor.{Successor}
@@ -20,7 +20,7 @@ use Rattle.to_llvm_ir.specs.Order.{IsTaken, StandsBeforeIn, arranged, turn_of}
 use Rattle.to_llvm_ir.specs.Accepted.{IsAccepted}
 use Rattle.to_llvm_ir.specs.Exported.{result}
 use Rattle.to_llvm_ir.specs.Made.{Numbers}
-use Rattle.to_llvm_ir.proofs.ListLaws.{all_at, all_from, filter_from}
+use Rattle.to_llvm_ir.proofs.ListLaws.{all_at}
 use Rattle.to_llvm_ir.proofs.TurnLaws.{turn_is, taken_at}
 use Rattle.to_llvm_ir.proofs.LookupLaws.{op_of_block, entry_at, first_is_entry}
 use Rattle.to_llvm_ir.proofs.PlanLaws.{constants_of, plan, among_at, no_argument}

@@ -13,7 +13,7 @@ use Rattle.llvm_core.specs.Code.{code_of, with_code}
 use Rattle.llvm_core.specs.Parts.{type_params}
 use Rattle.llvm_core.specs.Data as L
 use Rattle.llvm_core.specs.Data.{Function, Block, Placed, ModuleData, trees_of, data_of, with_function, AllBlocks, AllPlaced}
-use Rattle.llvm_core.proofs.ListLemmas.{slice_get-push}
+use Rattle.support.proofs.ListLaws.{slice_get-push}
 use Rattle.llvm_core.proofs.FreshLemmas.{blocks_below, insts_below}
 use Rattle.dialect_types.specs.Trees.{TypeTree, type_trees}
 use Rattle.dialect_core.specs.declared.numbers.OpRef.{OpRef}

@@ -12,7 +12,7 @@ use Rattle.llvm_core.specs.declared.types.ResultType.{ResultType}
 use Rattle.llvm_core.specs.declared.consts.LLVMConstKind.TheVariants as C
 use Rattle.llvm_core.specs.declared.code.LLVMValue.TheVariants as V
 use Rattle.llvm_core.specs.declared.code.LLVMInst.{LLVMInst}
-use Rattle.llvm_core.specs.Interned.{Interned}
+use Rattle.support.specs.Interned.{Interned}
 use Rattle.llvm_core.specs.Module.{Module}
 use Rattle.llvm_core.specs.Sound.{IsModule}
 use Rattle.llvm_core.specs.Parts.{result_type}

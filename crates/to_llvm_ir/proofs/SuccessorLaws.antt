@@ -5,12 +5,11 @@ use Rattle.std.proofs.lemmas.Option.{same_Some, none-some}
 use Rattle.std.proofs.lemmas.List.Elements.{All-head, All-tail}
 use Rattle.std.proofs.lemmas.List.{append-nil}
 use Rattle.std.proofs.lemmas.List.Concat.{flat_map-append}
-use Rattle.llvm_core.proofs.ListLemmas.{slice_get-kept}
+use Rattle.support.proofs.ListLaws.{slice_get-kept}
 use Rattle.dialect_types.specs.Trees.{IntegerAttr}
 use Rattle.std.specs.Cmp.Lexicographic.{pointwise}
 use Rattle.std.proofs.lemmas.Slice.Eq.{slice_eq-Decides}
 use Rattle.dialect_core.specs.declared.numbers.OpRef.{OpRef}
-use Rattle.dialect_core.specs.declared.numbers.BlockRef.{BlockRef}
 use Rattle.dialect_core.specs.declared.ops.Value.{Value}
 use Rattle.dialect_core.specs.declared.ops.Value.TheVariants.{Result, Argument}
 use Rattle.dialect_core.specs.contracts.ops.ValuePartialEq.TheImpl as keys
@@ -141,9 +140,6 @@ equal_two (x ∷ (y ∷ [])) first second lt a b h = two
 equal_two (x ∷ (y ∷ (z ∷ ss))) first second lt a b h = absurd (omega (arith, lt))
 
 -- ---- `==` at blocks and at lists of values
-
-pub block_of : (b c : BlockRef) → b.0 ≡ c.0 → b ≡ c
-block_of b c e = ap (λ (n : ℕ). let x : BlockRef = record { 0 = n } in x) e
 
 value_decides : (v w : Value) → Decides (keys.eq-value.it v w) (v ≡ w)
 value_decides (Result m) (Result n) = same_value-Decides (Result m) (Result n)

@@ -6,8 +6,8 @@ use Rattle.std.proofs.lemmas.Bool.{cases_order}
 use Rattle.std.proofs.lemmas.Option.{same_Some, none-some, slice_get_within, slice_get-map}
 use Rattle.std.proofs.lemmas.List.{append_assoc}
 use Rattle.std.proofs.lemmas.List.Concat.{flat_map-append}
-use Rattle.llvm_core.specs.Interned.{IsDistinctList}
-use Rattle.llvm_core.proofs.ListLemmas.{distinct_nil, slice_get-kept}
+use Rattle.support.specs.Interned.{IsDistinctList}
+use Rattle.support.proofs.ListLaws.{distinct_nil, slice_get-kept, all_from, item_there, slice_get-behind, slice_get-behind_cases, in_joined, from_joined, distinct_rest}
 use Rattle.llvm_core.proofs.NameLemmas.{slice_get-taken}
 use Rattle.llvm_core.proofs.DataLemmas.{length-filter_map_all, slice_get-filter_map_all}
 use Rattle.block_order.specs.Order.{IsOrder}
@@ -20,23 +20,11 @@ use Rattle.dialect_core.specs.Form.{IsFormFunc, is_constant, others_of}
 use Rattle.to_llvm_ir.specs.Order.{turn_of}
 use Rattle.to_llvm_ir.specs.Exported.{result, phi_values}
 use Rattle.to_llvm_ir.specs.Made.{result_values, values_from, values, block_values, values_by}
-use Rattle.to_llvm_ir.proofs.ListLaws.{AreNumbered, numbered_rest, find_numbered, found_numbered, filter_none, all_at, all_from, at_contains, item_there, at_behind, append_cases, split_at, distinct_append, distinct_rest}
+use Rattle.to_llvm_ir.proofs.ListLaws.{AreNumbered, numbered_rest, find_numbered, found_numbered, filter_none, all_at, at_contains, split_at, distinct_append}
 use Rattle.to_llvm_ir.proofs.PlaceLaws.{argument_at, from_distinct}
 use Rattle.to_llvm_ir.proofs.LookupLaws.{other_at}
 
 -- ---- lists of lists
-
-pub flat_at : {A X : Type 0} (f : A → List X) (ps : List A) (k i : ℕ) (p : A) (x : X) → slice_get ps k ≡ Some p → slice_get (f p) i ≡ Some x → (m : ℕ) × (slice_get (flat_map f ps) m ≡ Some x)
-flat_at f [] k i p x at at' = absurd (none-some p at)
-flat_at f (q ∷ ps) zero i p x at at' = (i, slice_get-kept (f q) (flat_map f ps) i x (ap (λ r. slice_get (f r) i) (same_Some q p at) ∙ at'))
-flat_at f (q ∷ ps) (suc k) i p x at at' = let r = flat_at f ps k i p x at at' in (length (f q) + r.0, at_behind (f q) (flat_map f ps) r.0 ∙ r.1)
-
-pub flat_from : {A X : Type 0} (f : A → List X) (ps : List A) (m : ℕ) (x : X) → slice_get (flat_map f ps) m ≡ Some x → (k : ℕ) × (i : ℕ) × (p : A) × (slice_get ps k ≡ Some p) × (slice_get (f p) i ≡ Some x)
-flat_from f [] m x at = absurd (none-some x at)
-flat_from f (q ∷ ps) m x at = ⊎_elim
-    (λ here. (0, m, q, refl, here))
-    (λ later. let r = flat_from f ps later.0 x later.2 in (suc r.0, r.1, r.2, r.3, r.4))
-    (append_cases (f q) (flat_map f ps) m x at)
 
 -- no item twice, where none is in two of the lists
 distinct_flat : {A X : Type 0} (f : A → List X) (ps : List A) → IsDistinctList ps → ((k : ℕ) (p : A) → slice_get ps k ≡ Some p → IsDistinctList (f p))
@@ -46,7 +34,7 @@ distinct_flat f (p ∷ ps) h each apart =
     distinct_append (f p) (flat_map f ps) (each 0 p refl)
     (distinct_flat f ps (distinct_rest p ps h) (λ k q at. each (suc k) q at) (λ k l i j q r x at at' is is'. apart (suc k) (suc l) i j q r x at at' is is'))
     (λ i j x at at'.
-    let r = flat_from f ps j x at' in
+    let r = from_joined f ps j x at' in
     let same = apart 0 (suc r.0) i r.1 p r.2 x refl r.3 at r.4 in
     let e : 0 ≡ suc r.0 = h 0 (suc r.0) p refl (r.3 ∙ ap Some (sym same)) in
     omega (arith, e))
@@ -179,7 +167,7 @@ in_block p (c ∷ cs) i v at = ⊎_elim
     (λ later.
     let r = in_block (suc p) cs later.0 v later.2 in
     (suc r.0, r.1, r.2, r.3, ap (λ (q : ℕ). slice_get (phi_values q r.2 ++ result_values r.2.ops) r.1) (let e : p + suc r.0 ≡ suc p + r.0 = omega arith in e) ∙ r.4))
-    (append_cases (phi_values p c ++ result_values c.ops) (values_from (suc p) cs) i v at)
+    (slice_get-behind_cases (phi_values p c ++ result_values c.ops) (values_from (suc p) cs) i v at)
 
 module _ (g : Func) where
   -- how many values stand before the block at a place
@@ -199,7 +187,7 @@ module _ (g : Func) where
   at_start : (p i : ℕ) (c : DialectBlock) (v : Value) → slice_get g.blocks p ≡ Some c → slice_get (phi_values p c ++ result_values c.ops) i ≡ Some v → slice_get (values g) (start p + i) ≡ Some v
   at_start p i c v at is =
       ap (λ (vs : List Value). slice_get vs (start p + i)) (values_split g.blocks p c at)
-      ∙ at_behind (values_from 0 (take p g.blocks)) ((phi_values p c ++ result_values c.ops) ++ values_from (suc p) (drop (suc p) g.blocks)) i
+      ∙ slice_get-behind (values_from 0 (take p g.blocks)) ((phi_values p c ++ result_values c.ops) ++ values_from (suc p) (drop (suc p) g.blocks)) i
       ∙ slice_get-kept (phi_values p c ++ result_values c.ops) (values_from (suc p) (drop (suc p) g.blocks)) i v is
 
   starts_apart : (p q : ℕ) (c : DialectBlock) → slice_get g.blocks p ≡ Some c → p < q → start p + length (phi_values p c ++ result_values c.ops) ≤ start q
@@ -245,13 +233,13 @@ module _ (g : Func) where
       -- a value in that order is one in the dialect's
       pub values_by_from : (i : ℕ) (v : Value) → slice_get (values_by order g) i ≡ Some v → (k : ℕ) × (slice_get (values g) k ≡ Some v)
       values_by_from i v at =
-          let r = flat_from (block_values g) order i v at in
+          let r = from_joined (block_values g) order i v at in
           let b = of_block r.2 r.1 v r.4 in
           (start r.2 + r.1, at_start r.2 r.1 b.0 v b.1 b.2)
 
       of_place : (p l : ℕ) (c : DialectBlock) (v : Value) → slice_get g.blocks p ≡ Some c → slice_get (phi_values p c ++ result_values c.ops) l ≡ Some v → (k : ℕ) × (slice_get (values_by order g) k ≡ Some v)
       of_place p l c v at is =
-          flat_at (block_values g) order (turn_of order p) l p v (turn_at (length g.blocks) order h p (slice_get_within g.blocks p c at)) (ap (λ (vs : List Value). slice_get vs l) (block_values_at p c at) ∙ is)
+          in_joined (block_values g) order (turn_of order p) l p v (turn_at (length g.blocks) order h p (slice_get_within g.blocks p c at)) (ap (λ (vs : List Value). slice_get vs l) (block_values_at p c at) ∙ is)
 
       -- and the other way round
       pub values_by_at : (i : ℕ) (v : Value) → slice_get (values g) i ≡ Some v → (k : ℕ) × (slice_get (values_by order g) k ≡ Some v)
@@ -269,7 +257,7 @@ module _ (g : Func) where
       result_among j k c o at at' other =
           let r = other_at c.ops k o at' other in
           of_place j (length (phi_values j c) + r.0) c (result o) at
-          (at_behind (phi_values j c) (result_values c.ops) r.0 ∙ slice_get-map result (others_of c.ops) r.0 ∙ ap (option_map result) r.1)
+          (slice_get-behind (phi_values j c) (result_values c.ops) r.0 ∙ slice_get-map result (others_of c.ops) r.0 ∙ ap (option_map result) r.1)
 
       -- the values before a block, its own, and those behind it
       pub by_split : (j : ℕ) (c : DialectBlock) → slice_get g.blocks j ≡ Some c

@@ -2,6 +2,7 @@
 use Rattle.std.proofs.Common.{◌≡◌, ℕ, List, Option, Some, None, slice_get, sym, ap, subst, ◌∙◌}
 use Rattle.std.specs.List.{filter_map}
 use Rattle.std.proofs.lemmas.Option.{same_Some, none-some, slice_get_within}
+use Rattle.support.proofs.ListLaws.{all_from}
 use Rattle.llvm_core.specs.declared.code.LLVMValue.{LLVMValue}
 use Rattle.llvm_core.specs.Module.{Module}
 use Rattle.llvm_core.specs.Data.{trees_of, operand_of}
@@ -21,7 +22,6 @@ use Rattle.to_llvm_ir.specs.Exported.{given_name, label_of}
 use Rattle.to_llvm_ir.specs.Growth.{HasType}
 use Rattle.to_llvm_ir.specs.Causes.{IsFuncCause}
 use Rattle.to_llvm_ir.specs.States.{found, found_block, Spot, IsSpot, IsNext, IsUsed, IsUse, AreAllMapped}
-use Rattle.to_llvm_ir.proofs.ListLaws.{all_from}
 use Rattle.to_llvm_ir.proofs.EdgeLaws.{edge_among}
 use Rattle.to_llvm_ir.proofs.KnownLaws.{stands_seen, seen_stands}
 use Rattle.to_llvm_ir.proofs.TurnLaws.{taken_here}

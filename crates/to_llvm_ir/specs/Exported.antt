@@ -4,7 +4,7 @@ use Rattle.std.specs.Option.{option_map_or}
 use Rattle.std.specs.List.{filter_map, flat_map}
 use Rattle.std.specs.Fmt.{decimal}
 use Rattle.llvm_core.specs.Module.{Module}
-use Rattle.llvm_core.specs.Interned.{IsDistinctList}
+use Rattle.support.specs.Interned.{IsDistinctList}
 use Rattle.llvm_core.specs.Data as L
 use Rattle.llvm_core.specs.Data.{Operand, Placed, data_of, phi_entries}
 use Rattle.llvm_core.specs.Form.{IsFormFunction, IsFewIn, HasPhisFirst, is_phi, targets_of, local_names}

@@ -17,10 +17,10 @@ use dialect_core::numbers::BlockRef;
 use dialect_core::ops::Value;
 use dialect_types::types::TypeHandle;
 use llvm_core::code::{LLVMInst, LLVMValue};
-use llvm_core::items::Items;
 use llvm_core::module::LLVMModule;
 use llvm_core::numbers::{LLVMBasicBlock, LLVMFunction};
 use std::alloc::{AllocError, Global};
+use support::items::Items;
 
 /// The parameters of a function stand for the arguments of its entry.
 pub fn set_params(

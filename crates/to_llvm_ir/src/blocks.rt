@@ -16,9 +16,9 @@ use dialect_core::numbers::BlockRef;
 use dialect_core::ops::Successor;
 use llvm_core::module::LLVMModule;
 use llvm_core::numbers::{LLVMBasicBlock, LLVMFunction};
-use llvm_core::text::Text;
 use std::alloc::{AllocError, Global};
 use std::collections::HashMap;
+use support::text::Text;
 
 /// What a block became, and its place in the function.
 #[derive(Clone, Copy, Drop)]

@@ -34,8 +34,8 @@ use llvm_core::code::{LLVMInst, LLVMValue, OverflowFlags};
 use llvm_core::consts::LLVMConstKind;
 use llvm_core::module::LLVMModule;
 use llvm_core::numbers::LLVMBasicBlock;
-use llvm_core::text::Text;
 use std::alloc::{AllocError, Global};
+use support::text::Text;
 
 /// The name of an operation, empty where it has none.
 pub fn name_of(ctx: &Context, op: OpRef) -> &str

@@ -3,9 +3,9 @@
 ghost use Rattle.std.specs.Prelude.{◌≡◌};
 ghost use Rattle.to_llvm_ir.specs.declared.to_llvm_err.ToLLVMErr.TheVariants as causes;
 
-use llvm_core::text::Text;
 use std::alloc::{AllocError, AllocFailed};
 use std::fmt;
+use support::text::Text;
 use thiserror::Error;
 
 /// Why an export refuses a module.

@@ -11,11 +11,11 @@ ghost use Rattle.to_llvm_ir.specs.Growth.{Grows, IsTypeOf, AreTypesOf, IsFormTyp
 
 use dialect_core::context::Context;
 use dialect_types::types::{TypeHandle, TypeKind};
-use llvm_core::items::Items;
 use llvm_core::module::LLVMModule;
 use llvm_core::numbers::LLVMType;
 use llvm_core::types::LLVMTypeKind;
 use std::alloc::{AllocError, Global};
+use support::items::Items;
 
 /// The type of a value, or of what a function returns.
 pub fn value_type(

@@ -6,8 +6,8 @@ use Rattle.std.specs.Option.{option_map}
 use Rattle.std.proofs.lemmas.List.{length-map}
 use Rattle.std.proofs.lemmas.List.Elements.{All-head, All-tail}
 use Rattle.std.proofs.lemmas.Option.{same_Some, none-some, slice_get-map}
-use Rattle.llvm_core.specs.Interned.{IsDistinctList}
-use Rattle.llvm_core.proofs.DataLemmas.{there}
+use Rattle.support.proofs.ListLaws.{item_there}
+use Rattle.support.specs.Interned.{IsDistinctList}
 use Rattle.dialect_types.specs.declared.types.TypeHandle.{TypeHandle}
 use Rattle.dialect_types.specs.Trees.{type_at, type_trees}
 use Rattle.dialect_core.specs.declared.numbers.OpRef.{OpRef}
@@ -37,7 +37,7 @@ module _ (c : ContextData) (h : InContext c) where
   blocks_each : (bs : List BlockRef) → All (λ (b : BlockRef). b.0 < length c.blocks) bs → All (IsWellFormedBlock (type_in c) h.function) (filter_map (block_in (type_trees c.types) c) bs) → Matched (IsBlockIn c h) bs (filter_map (block_in (type_trees c.types) c) bs)
   blocks_each [] within form = tt
   blocks_each (b ∷ bs) within form =
-      let kept = there c.blocks b.0 (All-head (λ (b : BlockRef). b.0 < length c.blocks) b bs within) in
+      let kept = item_there c.blocks b.0 (All-head (λ (b : BlockRef). b.0 < length c.blocks) b bs within) in
       let y = block_of (type_trees c.types) c b kept.0 in
       let here : block_in (type_trees c.types) c b ≡ Some y = ap (option_map (block_of (type_trees c.types) c b)) kept.1 in
       let rest = filter_map (block_in (type_trees c.types) c) bs in

@@ -7,13 +7,13 @@ use Rattle.std.proofs.lemmas.Iterator.Adapters.{position_from-zero}
 use Rattle.std.proofs.lemmas.List.Folds.{find_at}
 use Rattle.std.proofs.lemmas.List.Sums.{prefix_len-le-length}
 use Rattle.std.proofs.lemmas.Bool.{ltb-false}
-use Rattle.std.proofs.lemmas.Option.{slice_get-map, none-some}
+use Rattle.std.proofs.lemmas.Option.{slice_get-map, none-some, same_Some}
+use Rattle.meaning.proofs.MatchedLaws.{matched_get}
 use Rattle.indexmap.specs.IndexMap.{get}
 use Rattle.llvm_core.specs.Module.{Module}
 use Rattle.llvm_core.specs.Data as D
 use Rattle.llvm_core.specs.Data.{Placed, Block, trees_of, targets, phi_entries, data_of}
 use Rattle.llvm_core.specs.Form.{is_phi}
-use Rattle.llvm_core.proofs.ListLemmas.{some_same}
 use Rattle.meaning.specs.Machine as M
 use Rattle.meaning.specs.Pairs.{Matched, BothOrNone}
 use Rattle.meaning.specs.Llvm.{phi_move, row, edge, block, entry_for, Key, ResultKey}
@@ -69,7 +69,7 @@ module _ (m : Module) (from : ℕ) where
   -- what a phi takes is its move
   phi_taken : (x : Phi) (p : Placed) (es : List (D.Operand × ℕ)) → phi_entries p.instruction ≡ Some es → IsPhiOf m x p → taken x ≡ renamed_move slot_of (ResultKey p.number, entry_for (data_of m) from es)
   phi_taken x p es e is =
-      let same : is.entries ≡ es = some_same is.entries es (sym is.are ∙ e) in
+      let same : is.entries ≡ es = same_Some is.entries es (sym is.are ∙ e) in
       let slot = is.slot in
       let source = is.incoming from ∙ ap (λ (l : List (D.Operand × ℕ)). option_map (renamed slot_of) (entry_for (data_of m) from l)) same in
       ap (λ (v : Slot). (v, option_map source_of (get nat_eq x.incoming from))) slot ∙ ap (λ (o : Option (M.Operand Slot)). let r : Slot × Option (M.Operand Slot) = (Result p.number, o) in r) source
@@ -91,13 +91,6 @@ module _ (m : Module) (from : ℕ) where
 
   pub moves_are : (xs : List Phi) (ps : List Placed) → ArePhisOf m xs ps → moves_from 0 (slots_of xs) (taken_from from xs) ≡ moves_in ps
   moves_are xs ps h = zipped (λ (x : Phi). x.slot) (λ (x : Phi). get nat_eq x.incoming from) xs ∙ moves_each ps xs h
-
-matched_get : {A B : Type 0} (P : A → B → Type 0) (xs : List A) (ys : List B) (i : ℕ) → Matched P xs ys → BothOrNone P (slice_get xs i) (slice_get ys i)
-matched_get P [] [] i h = tt
-matched_get P (x ∷ xs) (y ∷ ys) zero h = h.0
-matched_get P (x ∷ xs) (y ∷ ys) (suc i) h = matched_get P xs ys i h.1
-matched_get P [] (y ∷ ys) i h = elim h [ ]
-matched_get P (x ∷ xs) [] i h = elim h [ ]
 
 module _ (m : Module) (h : InChecked m) (x : Index) (index : IsIndexOf m h x) (from to : ℕ) where
   abbrev there : Block → Bool
@@ -162,4 +155,4 @@ block_number m h b y at = by (slice_get m.blocks b.0) at.here
   where
     by : (o : Option BlockData) → option_map (D.block_of (trees_of m) m.insts b) o ≡ Some y → b.0 ≡ y.number
     by None e = absurd (none-some y e)
-    by (Some z) e = ap (λ (w : Block). w.number) (some_same (D.block_of (trees_of m) m.insts b z) y e)
+    by (Some z) e = ap (λ (w : Block). w.number) (same_Some (D.block_of (trees_of m) m.insts b z) y e)

@@ -3,7 +3,7 @@ use Rattle.std.proofs.Common.{◌≡◌, ◌<◌, ◌≤◌, ◌+◌, ℕ, suc, 
 use Rattle.std.specs.List.{filter_map, find, cons_option}
 use Rattle.std.specs.Option.{option_map, option_map_or}
 use Rattle.std.proofs.lemmas.List.{append-nil, take_more, take_all}
-use Rattle.std.proofs.lemmas.Option.{none-some, slice_get-get_or}
+use Rattle.std.proofs.lemmas.Option.{none-some, slice_get-get_or, same_Some}
 use Rattle.llvm_core.specs.declared.numbers.LLVMBasicBlock.{LLVMBasicBlock}
 use Rattle.llvm_core.specs.declared.numbers.LLVMInstRef.{LLVMInstRef}
 use Rattle.llvm_core.specs.declared.code.LLVMInst.{LLVMInst}
@@ -17,7 +17,6 @@ use Rattle.tracing.specs.declared.llvm_index.Phi.{Phi}
 use Rattle.tracing.specs.declared.body.Slot.TheVariants.{Result}
 use Rattle.tracing.specs.Bodies.{source_of}
 use Rattle.tracing.proofs.LlvmLaws.{kept_at}
-use Rattle.tracing.proofs.RunLaws.{matched_push}
 use Rattle.llvm_core.specs.declared.code.BlockData.{BlockData}
 use Rattle.llvm_core.specs.declared.code.FunctionData.{FunctionData}
 use Rattle.llvm_core.specs.declared.code.InstData.{InstData}
@@ -26,7 +25,6 @@ use Rattle.llvm_core.specs.Data as D
 use Rattle.llvm_core.specs.Data.{Placed, Block, Instruction, trees_of, entry_of, operand_of, instruction_of, phi_entries, placed_at, block_at, block_of, data_of}
 use Rattle.llvm_core.specs.Checked.{home}
 use Rattle.llvm_core.specs.Form.{is_phi}
-use Rattle.llvm_core.proofs.ListLemmas.{some_same}
 use Rattle.llvm_core.proofs.DataLemmas.{blocks_there, insts_there, slice_get-filter_map_all, length-filter_map_all}
 use Rattle.llvm_core.proofs.FormPlaces.{block_from}
 use Rattle.llvm_core.proofs.FormTypes.{numbered}
@@ -36,6 +34,7 @@ use Rattle.llvm_core.specs.declared.types.LLVMTypeKind.{LLVMTypeKind}
 use Rattle.llvm_core.specs.declared.types.LLVMTypeKind.TheVariants as T
 use Rattle.llvm_core.specs.Parts.{is_function}
 use Rattle.std.specs.Prelude.{IsTrue}
+use Rattle.meaning.proofs.MatchedLaws.{matched_push}
 use Rattle.llvm_core.proofs.DataLemmas.{function_tree_of}
 use Rattle.tracing.specs.Bodies.{start_of}
 use Rattle.meaning.specs.Llvm.{entry_for, operand, arity, count_types, start, Key, ParamKey, ResultKey}
@@ -103,7 +102,7 @@ module _ (m : Module) (h : InChecked m) where
   insts_owned b y x at is number j i listed z here =
       let l = block_from m h.number h.function at.place y h.sound h.at at.at in
       let same : l.number ≡ b.0 = ap (λ (z : Block). z.number) (sym l.shown_as) ∙ number in
-      let block : l.block ≡ x = some_same l.block x (sym l.here ∙ ap (slice_get m.blocks) same ∙ is) in
+      let block : l.block ≡ x = same_Some l.block x (sym l.here ∙ ap (slice_get m.blocks) same ∙ is) in
       let own : x.function.0 ≡ h.number = ap (λ (z : BlockData). z.function.0) (sym block) ∙ l.owned in
       let stands : z.block.0 ≡ b.0 = h.sound.owned_insts b.0 x is j i z listed here in
       (stands, ap (λ o. option_map_or (λ (z : BlockData). z.function) o (record { 0 = 0 })) (ap (slice_get m.blocks) stands ∙ is) ∙ ap numbered own)
@@ -115,15 +114,15 @@ module _ (m : Module) (h : InChecked m) where
       by : (o : Option BlockData) → slice_get m.blocks b.0 ≡ o → option_map (block_of (trees_of m) m.insts b) o ≡ Some y → option_map (λ (x : BlockData). x.insts) o ≡ Some is → ArePlacedIn m h b.0 is y.instructions
       by None e k l = absurd (none-some y k)
       by (Some x) e k l =
-          let shown : block_of (trees_of m) m.insts b x ≡ y = some_same _ y k in
-          let same : x.insts ≡ is = some_same x.insts is l in
+          let shown : block_of (trees_of m) m.insts b x ≡ y = same_Some _ y k in
+          let same : x.insts ≡ is = same_Some x.insts is l in
           let number : y.number ≡ b.0 = sym (ap (λ (z : Block). z.number) shown) in
           let placed = placed_each b.0 x.insts (insts_there m x.insts (h.sound.blocks b.0 x e).insts) (insts_owned b y x at e number) in
           subst (λ (js : List LLVMInstRef). ArePlacedIn m h b.0 js y.instructions) same (subst (λ (z : Block). ArePlacedIn m h b.0 x.insts z.instructions) shown placed)
 
 -- a function's blocks as its module lists them
 pub blocks_are : (m : Module) (h : InChecked m) (f : ℕ) (bs : List LLVMBasicBlock) → h.number ≡ f → option_map (λ (x : FunctionData). x.blocks) (slice_get m.functions f) ≡ Some bs → h.function.blocks ≡ bs
-blocks_are m h f bs is at = some_same h.function.blocks bs (sym (ap (λ (n : ℕ). option_map (λ (x : FunctionData). x.blocks) (slice_get m.functions n)) (sym is) ∙ ap (option_map (λ (x : FunctionData). x.blocks)) h.at) ∙ at)
+blocks_are m h f bs is at = same_Some h.function.blocks bs (sym (ap (λ (n : ℕ). option_map (λ (x : FunctionData). x.blocks) (slice_get m.functions n)) (sym is) ∙ ap (option_map (λ (x : FunctionData). x.blocks)) h.at) ∙ at)
 
 abbrev pub some_entry : PhiEntry
 some_entry = record { value = V.Const (record { 0 = 0 }); block = record { 0 = 0 } }
@@ -183,7 +182,7 @@ numbers_are m h f bs is listed =
   where
     one : (b : LLVMBasicBlock) (y : Block) (o : Option BlockData) → option_map (block_of (trees_of m) m.insts b) o ≡ Some y → b.0 ≡ y.number
     one b y None e = absurd (none-some y e)
-    one b y (Some x) e = ap (λ (z : Block). z.number) (some_same (block_of (trees_of m) m.insts b x) y e)
+    one b y (Some x) e = ap (λ (z : Block). z.number) (same_Some (block_of (trees_of m) m.insts b x) y e)
 
     same : (bs : List LLVMBasicBlock) → ((i : ℕ) (b : LLVMBasicBlock) → slice_get bs i ≡ Some b → (y : Block) × (block_at (trees_of m) m.blocks m.insts b ≡ Some y))
         → map (λ (b : LLVMBasicBlock). b.0) bs ≡ map (λ (y : Block). y.number) (filter_map (block_at (trees_of m) m.blocks m.insts) bs)
@@ -202,7 +201,7 @@ count_is ts (x ∷ xs) = ap suc (count_is ts xs)
 
 pub arity_is : (m : Module) (h : InChecked m) (f : ℕ) (t r : LLVMType) (ps : List LLVMType) (v : Bool) → h.number ≡ f → option_map (λ (x : FunctionData). x.ty) (slice_get m.functions f) ≡ Some t → slice_get m.types t.0 ≡ Some (T.Function r ps v) → arity (data_in m h).type ≡ length ps
 arity_is m h f t r ps v is at kind =
-    let same : h.function.ty ≡ t = some_same h.function.ty t (sym (ap (λ (n : ℕ). option_map (λ (x : FunctionData). x.ty) (slice_get m.functions n)) (sym is) ∙ ap (option_map (λ (x : FunctionData). x.ty)) h.at) ∙ at) in
+    let same : h.function.ty ≡ t = same_Some h.function.ty t (sym (ap (λ (n : ℕ). option_map (λ (x : FunctionData). x.ty) (slice_get m.functions n)) (sym is) ∙ ap (option_map (λ (x : FunctionData). x.ty)) h.at) ∙ at) in
     let tree = ap (D.type_at (trees_of m).types) same ∙ function_tree_of m t r ps v h.sound kind in
     ap arity tree ∙ count_is (trees_of m).types ps
 

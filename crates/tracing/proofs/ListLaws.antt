@@ -2,11 +2,11 @@
 use Rattle.std.proofs.Common.{◌≡◌, ◌<◌, ◌≤◌, ◌+◌, ℕ, zero, suc, Bool, true, false, List, [], ◌∷◌, ◌++◌, Option, Some, length, map, filter, take, slice_get, get_or, refl, ap, sym, subst, ◌∙◌, arith, if◌then◌else◌}
 use Rattle.std.specs.List.{filter_map, flat_map, cons_option}
 use Rattle.std.proofs.lemmas.List.{append-nil, map-append, take_more, take_all}
-use Rattle.std.proofs.lemmas.Option.{slice_get_within, get_or_from_slice_get}
 use Rattle.meaning.specs.Pairs.{Matched}
-use Rattle.tracing.proofs.RunLaws.{matched_push}
 use Rattle.std.proofs.lemmas.List.Elements.{filter_map-append}
 use Rattle.std.proofs.lemmas.Grind.{flat_map-append}
+use Rattle.meaning.proofs.MatchedLaws.{matched_push}
+use Rattle.support.proofs.ListLaws.{take_next}
 
 -- what is made of one item more
 pub mapped_more : {A B C : Type 0} (f : C → B) (g : A → B) (cs : List C) (c : C) (xs : List A) (i : ℕ) (d : A) → i < length xs → map f cs ≡ map g (take i xs) → f c ≡ g (get_or xs i d) → map f (cs ++ c ∷ []) ≡ map g (take (i + 1) xs)
@@ -30,9 +30,6 @@ mapped_twice f g [] = refl
 mapped_twice f g (x ∷ xs) = ap (λ l. f (g x) ∷ l) (mapped_twice f g xs)
 
 -- ---- by what stands at a place
-
-pub take_next : {A : Type 0} (xs : List A) (i : ℕ) (x : A) → slice_get xs i ≡ Some x → take (i + 1) xs ≡ take i xs ++ x ∷ []
-take_next xs i x at = take_more xs i x (slice_get_within xs i x at) ∙ ap (λ y. take i xs ++ y ∷ []) (get_or_from_slice_get xs i x x at)
 
 pub given_next : {A B : Type 0} (h : A → Option B) (bs : List B) (xs : List A) (i : ℕ) (x : A) → slice_get xs i ≡ Some x → bs ≡ filter_map h (take i xs) → bs ++ cons_option (h x) [] ≡ filter_map h (take (i + 1) xs)
 given_next h bs xs i x at before =

@@ -15,14 +15,15 @@ use Rattle.llvm_core.specs.Parts.{value_type, operands, is_function, is_kind, is
 use Rattle.llvm_core.specs.Data as D
 use Rattle.llvm_core.specs.Data.{ModuleData, Trees, Placed, Function, Instruction, placed_of, instruction_of, TypeTree, type_tree, type_at, const_at, trees_of, operand_of, operand_type, phi_entries, data_of}
 use Rattle.std.specs.Option.{is_some, option_map, option_map_or}
-use Rattle.std.proofs.lemmas.Option.{none-some}
+use Rattle.std.proofs.lemmas.Option.{none-some, same_Some}
 use Rattle.std.proofs.lemmas.List.Elements.{All-weaker}
-use Rattle.llvm_core.proofs.ListLemmas.{some_same}
+use Rattle.support.proofs.ListLaws.{item_there}
+use Rattle.support.proofs.OptionLaws.{none_from}
 use Rattle.llvm_core.specs.Form as F
 use Rattle.llvm_core.specs.Edges.{targets as leads_to}
 use Rattle.llvm_core.proofs.FormEdges.{same_targets}
 use Rattle.llvm_core.proofs.FormPlaces.{same_kind_phi}
-use Rattle.llvm_core.proofs.DataLemmas.{there, type_tree_of}
+use Rattle.llvm_core.proofs.DataLemmas.{type_tree_of}
 use Rattle.llvm_core.proofs.FormValues.{value_typed, value_stands}
 use Rattle.llvm_core.proofs.CheckedInsts.{MeetsRules}
 use Rattle.llvm_core.proofs.CheckedForm.{meets}
@@ -49,7 +50,7 @@ use Rattle.tracing.specs.LlvmBodies.{slot_of, InChecked, IsNoFunction, data_in, 
 -- a type of no function, as a tree
 pub plain_tree : (m : Module) (t : LLVMType) → IsModule m → t.0 < length m.types → is_kind is_function m.types t ≡ false → IsNoFunction (type_at (trees_of m).types t)
 plain_tree m t sound within plain =
-    let k = there m.types t.0 within in
+    let k = item_there m.types t.0 within in
     by k.0 (type_tree_of m t k.0 sound k.1) (sym (ap (λ o. option_map_or is_function o false) k.1) ∙ plain)
   where
     by : (k : LLVMTypeKind) → type_at (trees_of m).types t ≡ type_tree (trees_of m).types k → is_function k ≡ false → IsNoFunction (type_at (trees_of m).types t)
@@ -61,7 +62,7 @@ plain_tree m t sound within plain =
 pub used_tree : (m : Module) (h : InChecked m) (v : LLVMValue) (t : LLVMType) → IsUsed m h v → value_type m v ≡ Some t → type_at (trees_of m).types t ≡ operand_type (data_in m h) (operand_of (trees_of m) v)
 used_tree m h v t used is =
     let typed = value_typed m h.number h.function h.sound h.at v used.here used.stands in
-    let same = some_same t typed.type (sym is ∙ typed.type_is) in
+    let same = same_Some t typed.type (sym is ∙ typed.type_is) in
     ap (type_at (trees_of m).types) same ∙ typed.tree_is
 
 abbrev pub some_value : LLVMValue
@@ -80,16 +81,16 @@ kept_at m h b i p at = by (slice_get m.insts i.0) refl at.here
   where
     by : (o : Option InstData) → slice_get m.insts i.0 ≡ o → option_map (placed_of (trees_of m) i) o ≡ Some p → IsKept m i p
     by None e k = absurd (none-some p k)
-    by (Some x) e k = record { kept = x; here = e; is = sym (some_same (placed_of (trees_of m) i x) p k) }
+    by (Some x) e k = record { kept = x; here = e; is = sym (same_Some (placed_of (trees_of m) i x) p k) }
 
 pub kept_inst : (m : Module) (i : LLVMInstRef) (p : Placed) (inst : LLVMInst) → IsKept m i p → option_map (λ (x : InstData). x.inst) (slice_get m.insts i.0) ≡ Some inst → p.instruction ≡ instruction_of (trees_of m) inst
 kept_inst m i p inst k is =
-    let same : k.kept.inst ≡ inst = some_same k.kept.inst inst (sym (ap (option_map (λ (x : InstData). x.inst)) k.here) ∙ is) in
+    let same : k.kept.inst ≡ inst = same_Some k.kept.inst inst (sym (ap (option_map (λ (x : InstData). x.inst)) k.here) ∙ is) in
     ap (λ (q : Placed). q.instruction) k.is ∙ ap (instruction_of (trees_of m)) same
 
 pub kept_type : (m : Module) (i : LLVMInstRef) (p : Placed) (t : LLVMType) → IsKept m i p → value_type m (V.Inst i) ≡ Some t → type_at (trees_of m).types t ≡ p.type
 kept_type m i p t k is =
-    let same : k.kept.ty ≡ t = some_same k.kept.ty t (sym (ap (option_map (λ (x : InstData). x.ty)) k.here) ∙ is) in
+    let same : k.kept.ty ≡ t = same_Some k.kept.ty t (sym (ap (option_map (λ (x : InstData). x.ty)) k.here) ∙ is) in
     sym (ap (λ (q : Placed). q.type) k.is ∙ ap (type_at (trees_of m).types) same)
 
 pub kept_no_phi : (m : Module) (i : LLVMInstRef) (p : Placed) (inst : LLVMInst) → p.instruction ≡ instruction_of (trees_of m) inst → F.is_phi p ≡ false → is_phi inst ≡ false
@@ -105,10 +106,6 @@ row_operands d t (I.CondBr condition first second) e = refl
 row_operands d t (I.Ret None) e = refl
 row_operands d t (I.Ret (Some v)) e = refl
 row_operands d t I.Unreachable e = refl
-
-no_entries : {X : Type 0} (o : Option X) → is_some o ≡ false → o ≡ None
-no_entries None h = refl
-no_entries (Some x) h = cc
 
 row_same : (a b : Machine.Action Slot) (n k : ℕ) → a ≡ b → n ≡ k → ◌≡◌ {A = Option (Machine.Row Slot)} (Some (record { action = a; result = Result n })) (Some (record { action = b; result = Result k }))
 row_same a b n k e f = cc
@@ -127,7 +124,7 @@ module _ (m : Module) (h : InChecked m) where
   used_one v u =
       let stands = value_stands m h.number h.function h.sound h.at v u.here u.inside in
       let typed = value_typed m h.number h.function h.sound h.at v u.here stands in
-      let same : u.type ≡ typed.type = some_same u.type typed.type (sym u.typed ∙ typed.type_is) in
+      let same : u.type ≡ typed.type = same_Some u.type typed.type (sym u.typed ∙ typed.type_is) in
       let plain = plain_tree m typed.type h.sound typed.within (subst (λ (t : LLVMType). is_kind is_function m.types t ≡ false) same u.plain) in
       record { here = u.here; stands = stands; plain = subst IsNoFunction typed.tree_is plain }
 
@@ -136,7 +133,7 @@ module _ (m : Module) (h : InChecked m) where
   rules_of b i p at k = meets m h.sound h.checked h.number i.0 k.kept k.here (at.owned k.kept k.here).1
 
   same_inst : (i : LLVMInstRef) (p : Placed) (inst : LLVMInst) → (k : IsKept m i p) → option_map (λ (x : InstData). x.inst) (slice_get m.insts i.0) ≡ Some inst → k.kept.inst ≡ inst
-  same_inst i p inst k is = some_same k.kept.inst inst (sym (ap (option_map (λ (x : InstData). x.inst)) k.here) ∙ is)
+  same_inst i p inst k is = same_Some k.kept.inst inst (sym (ap (option_map (λ (x : InstData). x.inst)) k.here) ∙ is)
 
   -- the operands of an instruction are values of the function
   pub used_all : (b : ℕ) (i : LLVMInstRef) (p : Placed) (inst : LLVMInst) → IsPlacedIn m h b i p → IsKept m i p → option_map (λ (x : InstData). x.inst) (slice_get m.insts i.0) ≡ Some inst → is_phi inst ≡ false → All (IsUsed m h) (operands inst)
@@ -149,7 +146,7 @@ module _ (m : Module) (h : InChecked m) where
   pub plain_result : (b : ℕ) (i : LLVMInstRef) (p : Placed) (inst : LLVMInst) (t : LLVMType) → IsPlacedIn m h b i p → IsKept m i p → option_map (λ (x : InstData). x.inst) (slice_get m.insts i.0) ≡ Some inst → is_phi inst ≡ false → value_type m (V.Inst i) ≡ Some t
       → IsNoFunction (type_at (trees_of m).types t)
   plain_result b i p inst t at k is no_phi typed =
-      let same : k.kept.ty ≡ t = some_same k.kept.ty t (sym (ap (option_map (λ (x : InstData). x.ty)) k.here) ∙ typed) in
+      let same : k.kept.ty ≡ t = same_Some k.kept.ty t (sym (ap (option_map (λ (x : InstData). x.ty)) k.here) ∙ typed) in
       let plain = result_plain m h.number h.function h.sound h.at h.checked k.kept.block.0 k.kept.ty k.kept.inst (ap is_phi (same_inst i p inst k is) ∙ no_phi) (rules_of b i p at k) in
       subst (λ (u : LLVMType). IsNoFunction (type_at (trees_of m).types u)) same (plain_tree m k.kept.ty h.sound (h.sound.insts i.0 k.kept k.here).typed plain)
 
@@ -171,7 +168,7 @@ module _ (m : Module) (h : InChecked m) where
   row_is b i p a at no_phi is =
       let k = kept_at m h b i p at in
       let number : i.0 ≡ p.number = sym (ap (λ (q : Placed). q.number) k.is) in
-      let none = no_entries (phi_entries p.instruction) no_phi in
+      let none = none_from (phi_entries p.instruction) no_phi in
       ap (λ o. option_map (renamed_row slot_of) (row (data_of m) (data_in m h) p o)) none ∙ sym (row_same (action_of a) (renamed_action slot_of (action (data_of m) (data_in m h) p)) i.0 p.number is number)
 
   -- a phi has no row

@@ -1,10 +1,10 @@
 -- `==` of terms' nodes is equality.
-use Rattle.std.proofs.Common.{◌≡◌, ℕ, true, List, subst, arith}
+use Rattle.std.proofs.Common.{◌≡◌, true, subst, arith}
 use Rattle.std.specs.Bool.{Decides}
-use Rattle.std.specs.Cmp.{unsigned_Decides}
-use Rattle.std.specs.Cmp.Lexicographic.{pointwise, pointwise_decides}
+use Rattle.std.specs.Cmp.Lexicographic.{pointwise}
 use Rattle.std.specs.Prelude.{nat_eq, ◌&&◌}
 use Rattle.std.proofs.lemmas.Bool.{and_parts}
+use Rattle.llvm_core.specs.Keys.{same_text}
 use Rattle.tracing.specs.declared.table.Opcode.{Opcode}
 use Rattle.tracing.specs.declared.table.ValueType.{ValueType}
 use Rattle.tracing.specs.declared.table.Immediates.{Immediates}
@@ -25,9 +25,6 @@ same_type a b h = grind arith
 same_immediates : (a b : Immediates) → immediates.eq-value.it a b ≡ true → a ≡ b
 same_immediates a b h = grind arith
 
-same_places : (ks ls : List ℕ) → Decides (pointwise nat_eq ks ls) (ks ≡ ls)
-same_places = pointwise_decides unsigned_Decides
-
 pub same_node : (a b : TermNode) → nodes.eq-value.it a b ≡ true → a ≡ b
 same_node (N.Expr o i t ks) (N.Expr p j u ls) h =
     let a = opcodes.eq-value.it o p in
@@ -40,7 +37,7 @@ same_node (N.Expr o i t ks) (N.Expr p j u ls) h =
     let e = same_opcode o p first.0 in
     let f = same_immediates i j second.0 in
     let g = same_type t u third.0 in
-    let k = (same_places ks ls).0 third.1 in
+    let k = (same_text ks ls).0 third.1 in
     cc
 same_node a b h = grind arith
 

@@ -5,9 +5,9 @@ use Rattle.std.specs.List.{list_any, position, position_or_len, prefix_len}
 use Rattle.std.proofs.lemmas.Bool.{eqb-true, eqb-false, eq-eqb, ne_eqb, ltb-false}
 use Rattle.std.proofs.lemmas.List.Sums.{prefix_len-le-length}
 use Rattle.std.proofs.lemmas.Option.{slice_get-get_or}
-use Rattle.llvm_core.specs.Interned.{IsDistinctList}
+use Rattle.support.proofs.ListLaws.{slice_get-take}
+use Rattle.support.specs.Interned.{IsDistinctList}
 use Rattle.llvm_core.proofs.GivenLemmas.{none_any}
-use Rattle.llvm_core.proofs.NameLemmas.{slice_get-take}
 
 prefix_small : {X : Type 0} (p : X → Bool) (xs : List X) → prefix_len p xs ≤ length xs
 prefix_small p xs = prefix_len-le-length p xs

@@ -1,10 +1,10 @@
 -- What a run's state is after each of its steps.
-use Rattle.std.proofs.Common.{◌≡◌, ◌<◌, ℕ, Bool, true, false, cond, if◌then◌else◌, List, [], ◌∷◌, ◌++◌, Option, Some, None, length, map, slice_get, get_or, ◌+◌, refl, sym, ap, subst, ◌∙◌, arith, All, Result, Ok, Err}
-use Rattle.std.specs.Prelude.{take, IfOk, OnOk}
-use Rattle.std.specs.Result.{result_and}
+use Rattle.std.proofs.Common.{◌≡◌, ◌<◌, ℕ, Bool, true, false, cond, if◌then◌else◌, List, [], ◌∷◌, ◌++◌, Option, Some, None, length, map, slice_get, get_or, ◌+◌, refl, sym, ap, subst, ◌∙◌, arith, All}
+use Rattle.std.specs.Prelude.{take}
 use Rattle.std.proofs.lemmas.List.{map-append, take_more}
 use Rattle.std.proofs.lemmas.List.Elements.{All-cons}
 use Rattle.std.proofs.lemmas.Option.{get_or_from_slice_get}
+use Rattle.meaning.proofs.MatchedLaws.{matched_push}
 use Rattle.indexmap.specs.IndexMap.{get}
 use Rattle.meaning.specs.Terms.{Term, Unset, Answer, Expr, Family, Shows, Builds, family, made_by, terms_of}
 use Rattle.meaning.specs.Machine as M
@@ -26,16 +26,6 @@ use Rattle.tracing.specs.Table.{terms, term_at, opcode_of, immediates_of, tree_o
 use Rattle.tracing.specs.Bodies.{same_slot, source_of, action_of, row_of}
 use Rattle.tracing.specs.Runs.{is_built, item_of, HasPlacesBelow, Names, AllNamed, Reads, ShowsItem, IsAt, Keeps}
 use Rattle.tracing.proofs.TableLaws.{kept_term, named_below}
-
--- what two facts of a value give
-pub from_both : {T E : Type 0} (r : Result T E) (P Q R : T → Type 0) → ((x : T) → P x → Q x → R x) → IfOk r P → IfOk r Q → IfOk r R
-from_both (Ok x) P Q R f p q = f x p q
-from_both (Err e) P Q R f p q = tt
-
--- a value that is given where the step before it did not fail
-pub handed_on : {T U E : Type 0} (r : Result T E) (x : U) (P : U → Type 0) (Q : Type 0) → (Q → P x) → OnOk r Q → IfOk (result_and r (Ok x)) P
-handed_on (Ok t) x P Q f q = f q
-handed_on (Err e) x P Q f q = tt
 
 -- ---- a table that grows
 
@@ -89,12 +79,6 @@ set_at r r' v k table items block count updates s t h named = record {
 }
 
 -- ---- an item is shown
-
-pub matched_push : {A B : Type 0} (P : A → B → Type 0) (xs : List A) (ys : List B) (x : A) (y : B) → Matched P xs ys → P x y → Matched P (xs ++ x ∷ []) (ys ++ y ∷ [])
-matched_push P [] [] x y h p = (p, tt)
-matched_push P (a ∷ xs) (b ∷ ys) x y h p = (h.0, matched_push P xs ys x y h.1 p)
-matched_push P [] (b ∷ ys) x y h p = elim h [ ]
-matched_push P (a ∷ xs) [] x y h p = elim h [ ]
 
 pub note_at : (r r' : Run) (x : TraceItem) → r'.table ≡ r.table → r'.env ≡ r.env → r'.block ≡ r.block → r'.count ≡ r.count → r'.items.items ≡ r.items.items ++ x ∷ []
     → (s : State Slot) (i : Item) → IsAt r s → ShowsItem r.table x i → IsAt r' (M.shows Slot same_slot s i)

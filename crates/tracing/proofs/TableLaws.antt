@@ -7,9 +7,8 @@ use Rattle.std.proofs.lemmas.Map.Made.{AllPairs-from_IsDistinct}
 use Rattle.std.proofs.lemmas.Bool.{cases_order}
 use Rattle.std.proofs.lemmas.Option.{slice_get_within, slice_get-get_or, get_or_from_slice_get}
 use Rattle.llvm_core.specs.Data.{trees_after}
-use Rattle.llvm_core.specs.Interned.{InternedBy, IsDistinctList}
-use Rattle.llvm_core.proofs.ListLemmas.{slice_get-kept, slice_get-push_cases}
-use Rattle.llvm_core.proofs.DataLemmas.{there}
+use Rattle.support.specs.Interned.{InternedBy, IsDistinctList}
+use Rattle.support.proofs.ListLaws.{slice_get-kept, slice_get-push_cases, item_there}
 use Rattle.llvm_core.proofs.TreeLemmas.{after-append, length-after, kept, at_number}
 use Rattle.meaning.specs.Terms.{Term, Unset, terms_of}
 use Rattle.meaning.specs.Terms as M
@@ -132,8 +131,8 @@ same_nodes ts n m known x y p q h = grind arith
 by_size : (ns : List TermNode) → IsGrounded ns → IsDistinctList ns → (size i j : ℕ) → i < size → j < size → i < length ns → j < length ns → get_or (terms ns) i Unset ≡ get_or (terms ns) j Unset → i ≡ j
 by_size ns grounded once zero i j p q within_i within_j h = absurd (omega arith)
 by_size ns grounded once (suc size) i j p q within_i within_j h =
-    let x = there ns i within_i in
-    let y = there ns j within_j in
+    let x = item_there ns i within_i in
+    let y = item_there ns j within_j in
     let x_below = grounded i x.0 x.1 in
     let y_below = grounded j y.0 y.1 in
     let terms_same = sym (node_at ns i x.0 x.1 x_below) ∙ h ∙ node_at ns j y.0 y.1 y_below in

@@ -1,11 +1,12 @@
 -- From the trace of a body, as the program keeps it, to that of a function.
 use Rattle.std.proofs.Common.{◌≡◌, ◌<◌, ℕ, List, Some, length, map, slice_get, refl, sym, ap, ◌∙◌}
+use Rattle.std.proofs.lemmas.Option.{same_Some}
+use Rattle.support.proofs.ListLaws.{item_there}
 use Rattle.llvm_core.specs.Module.{Module}
 use Rattle.llvm_core.specs.Sound.{IsModule}
 use Rattle.llvm_core.specs.Data.{Function, data_of}
 use Rattle.llvm_core.specs.Checked.{IsChecked}
-use Rattle.llvm_core.proofs.ListLemmas.{some_same}
-use Rattle.llvm_core.proofs.DataLemmas.{there, function_at}
+use Rattle.llvm_core.proofs.DataLemmas.{function_at}
 use Rattle.dialect_core.specs.declared.ops.Value.{Value}
 use Rattle.dialect_core.specs.ContextData.{ContextData}
 use Rattle.dialect_core.specs.Data.{type_in}
@@ -31,13 +32,13 @@ keys_apart (ParamKey f i) (ResultKey k) = refl
 keys_apart (ResultKey n) (ParamKey g j) = refl
 
 abbrev pub in_checked : (m : Module) (f : ℕ) → IsModule m → IsChecked m → f < length m.functions → InChecked m
-in_checked m f sound checked lt = let x = there m.functions f lt in record { number = f; function = x.0; sound = sound; checked = checked; at = x.1 }
+in_checked m f sound checked lt = let x = item_there m.functions f lt in record { number = f; function = x.0; sound = sound; checked = checked; at = x.1 }
 
 pub llvm_trace : (m : Module) (h : InChecked m) (x : Function) (cs : List ℕ) (start : Slot → _) (code : List (M.Block Slot)) (items : List Item) → slice_get (data_of m).functions h.number ≡ Some x
     → items ≡ M.trace Slot same_slot start code cs → code ≡ renamed_code slot_of (map (Llvm.block (data_of m) (data_in m h)) (data_in m h).blocks) → ((k : Key) → start (slot_of k) ≡ Llvm.start (data_in m h) k)
     → items ≡ (Llvm.body (data_of m) x).trace cs
 llvm_trace m h x cs start code items at is code_is same =
-    let function = some_same (data_in m h) x (sym (function_at m h.number h.function h.at) ∙ at) in
+    let function = same_Some (data_in m h) x (sym (function_at m h.number h.function h.at) ∙ at) in
     is ∙ ap (λ (c : List (M.Block Slot)). M.trace Slot same_slot start c cs) code_is
     ∙ renamed_trace Key Slot same_key same_slot slot_of keys_apart (map (Llvm.block (data_of m) (data_in m h)) (data_in m h).blocks) (Llvm.start (data_in m h)) start same cs
     ∙ ap (λ (g : Function). (Llvm.body (data_of m) g).trace cs) function

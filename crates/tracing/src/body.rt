@@ -2,7 +2,7 @@
 
 use crate::table::Opcode;
 use crate::trace::Imms;
-use llvm_core::items::Items;
+use support::items::Items;
 
 /// What sets a term in a run.
 #[derive(Clone, Copy, PartialEq, Eq, Hash, Debug, Drop)]

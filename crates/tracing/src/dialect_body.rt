@@ -2,7 +2,7 @@
 
 ghost use Rattle.std.specs.Prelude.{◌≡◌, ◌<◌, ◌++◌, List, All, IfOk, OnOk, length, map};
 ghost use Rattle.std.specs.List.{flat_map};
-ghost use Rattle.llvm_core.specs.Interned.{IsDistinctList};
+ghost use Rattle.support.specs.Interned.{IsDistinctList};
 ghost use Rattle.dialect_core.specs.declared.ops.Value as values;
 ghost use Rattle.dialect_core.specs.Data.{DialectBlock, DialectOp, type_in};
 ghost use Rattle.meaning.specs.Dialect as dialect;
@@ -17,8 +17,8 @@ use crate::places::{Places, places_of};
 use dialect_core::context::Context;
 use dialect_core::numbers::{BlockRef, FuncOp, OpRef};
 use dialect_core::ops::{OpKind, Successor, Value};
-use llvm_core::items::Items;
 use std::alloc::{AllocError, Global};
+use support::items::Items;
 
 /// What an edge hands over for values.
 fn sources(alloc: Global, args: &[Value]) -> Result<Items<Option<Source>>, AllocError>

@@ -24,8 +24,8 @@ use dialect_core::predicates::ICmpPredicateAttr;
 use dialect_types::attrs::ConstAttr;
 use dialect_types::types::{TypeHandle, TypeKind};
 use llvm_core::code::LLVMIntPredicate;
-use llvm_core::items::Items;
 use std::alloc::{AllocError, Global};
+use support::items::Items;
 
 /// The type of a value.
 fn value_type(ctx: &Context, ty: TypeHandle) -> ValueType

@@ -15,11 +15,11 @@ use crate::body::{Block, Body, Edge, Slot, Source};
 use crate::llvm_index::{Index, Phi, index_of};
 use crate::llvm_rows::rows;
 use llvm_core::code::LLVMInst;
-use llvm_core::items::Items;
 use llvm_core::module::LLVMModule;
 use llvm_core::numbers::{LLVMBasicBlock, LLVMFunction, LLVMInstRef};
 use llvm_core::types::LLVMTypeKind;
 use std::alloc::{AllocError, Global};
+use support::items::Items;
 
 /// What phis take on an edge from a block.
 fn taken(alloc: Global, phis: &[Phi], from: u32) -> Result<Items<Option<Source>>, AllocError>

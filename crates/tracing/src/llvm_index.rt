@@ -3,7 +3,7 @@
 ghost use Rattle.std.specs.Prelude.{◌≡◌, ◌<◌, ◌++◌, ◌∷◌, [], ℕ, List, All, IfOk, OnOk, None, Some, if◌then◌else◌, filter, length, map, nat_eq};
 ghost use Rattle.std.specs.Option.{option_map};
 ghost use Rattle.indexmap.specs.IndexMap.{get};
-ghost use Rattle.llvm_core.specs.Interned.{IsDistinctList};
+ghost use Rattle.support.specs.Interned.{IsDistinctList};
 ghost use Rattle.llvm_core.specs.Sound.{IsModule};
 ghost use Rattle.llvm_core.specs.Parts.{IsEntry};
 ghost use Rattle.llvm_core.specs.Data.{Placed, entry_of, trees_of, data_of};
@@ -19,10 +19,10 @@ use crate::llvm_rows::source;
 use crate::places::{Places, places_of};
 use indexmap::IndexMap;
 use llvm_core::code::{LLVMInst, PhiEntry};
-use llvm_core::items::Items;
 use llvm_core::module::LLVMModule;
 use llvm_core::numbers::{LLVMBasicBlock, LLVMFunction, LLVMInstRef};
 use std::alloc::{AllocError, Global};
+use support::items::Items;
 
 /// A phi: what it sets, and what it takes for each block that an edge comes from.
 #[derive(Drop)]

@@ -20,11 +20,11 @@ use crate::table::{Immediates, Opcode, ValueType};
 use crate::trace::Imms;
 use llvm_core::code::{LLVMInst, LLVMValue};
 use llvm_core::consts::LLVMConstKind;
-use llvm_core::items::Items;
 use llvm_core::module::LLVMModule;
 use llvm_core::numbers::{LLVMConst, LLVMInstRef, LLVMType};
 use llvm_core::types::LLVMTypeKind;
 use std::alloc::{AllocError, Global};
+use support::items::Items;
 
 /// The type of a value, or void.
 fn value_type(m: &LLVMModule, ty: LLVMType) -> ValueType

@@ -2,7 +2,7 @@
 
 ghost use Rattle.std.specs.Prelude.{◌≡◌, [], ◌++◌, ◌∷◌, ℕ, false, nat_eq, IfOk, OnOk, length};
 ghost use Rattle.std.specs.List.{list_any, position_or_len};
-ghost use Rattle.llvm_core.specs.Interned.{IsDistinctList};
+ghost use Rattle.support.specs.Interned.{IsDistinctList};
 
 use indexmap::IndexSet;
 use std::alloc::{AllocError, Global};

@@ -6,7 +6,7 @@ ghost use Rattle.meaning.specs.Terms as terms;
 ghost use Rattle.meaning.specs.Terms.{Term};
 ghost use Rattle.meaning.specs.Machine as machine;
 ghost use Rattle.meaning.specs.Machine.{State};
-ghost use Rattle.llvm_core.specs.Interned.{IsDistinctList};
+ghost use Rattle.support.specs.Interned.{IsDistinctList};
 ghost use Rattle.tracing.specs.Table.{IsGrounded, HasPartsBelow, node_term, opcode_of, immediates_of, tree_of};
 ghost use Rattle.tracing.specs.Table as table;
 ghost use Rattle.tracing.specs.Bodies.{same_slot, source_of, action_of, row_of, moves_from, given, params_at, code_of, start_of};
@@ -16,8 +16,8 @@ use crate::body::{Action, Block, Body, Edge, Row, Slot, Source};
 use crate::table::{Immediates, Opcode, TermNode, TermTable};
 use crate::trace::{Imms, Trace, TraceItem};
 use indexmap::IndexMap;
-use llvm_core::items::Items;
 use std::alloc::{AllocError, Global};
+use support::items::Items;
 
 /// A run so far: the block it is in, the place of each value's term, how many events there were, and what was shown.
 #[derive(Drop)]

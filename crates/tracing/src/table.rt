@@ -4,15 +4,15 @@ ghost use Rattle.std.specs.Prelude.{◌≡◌, ◌<◌, ◌+◌, [], Some, IfOk,
 ghost use Rattle.std.proofs.Common.{rules};
 ghost use Rattle.std.specs.Hash as fed;
 ghost use Rattle.std.specs.Cmp.Rules.{hashing};
-ghost use Rattle.llvm_core.specs.Interned.{IsDistinctList};
+ghost use Rattle.support.specs.Interned.{IsDistinctList};
 ghost use Rattle.tracing.specs.Table.{terms, node_term, HasPartsBelow, IsGrounded, Gives, hash_code};
 
 use llvm_core::code::LLVMIntPredicate;
-use llvm_core::interner::Interner;
-use llvm_core::items::Items;
 use std::alloc::{AllocError, Global};
 use std::hash::{Hash, Hasher};
 use std::marker::Model;
+use support::interner::Interner;
+use support::items::Items;
 
 /// What an instruction or operation is: a variant for each kind.
 #[derive(Clone, Copy, PartialEq, Eq, Hash, Debug, Drop)]

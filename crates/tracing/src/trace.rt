@@ -1,7 +1,7 @@
 //! What a run shows.
 
 use crate::table::{Immediates, Opcode, TermTable, ValueType};
-use llvm_core::items::Items;
+use support::items::Items;
 
 /// The immediates of an instruction, and the types of its result and of its operands.
 #[derive(Drop)]

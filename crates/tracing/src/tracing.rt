@@ -1,7 +1,7 @@
 //! The trace of a function, for a list of branch choices: the blocks that it enters and its events.
 
 ghost use Rattle.std.specs.Prelude.{◌≡◌, ◌<◌, ℕ, All, IfOk, Some, length, map, slice_get};
-ghost use Rattle.llvm_core.specs.Interned.{IsDistinctList};
+ghost use Rattle.support.specs.Interned.{IsDistinctList};
 ghost use Rattle.llvm_core.specs.Data.{Function, data_of};
 ghost use Rattle.llvm_core.specs.Checked.{IsChecked};
 ghost use Rattle.dialect_core.specs.Data as context;

@@ -1,6 +1,7 @@
 -- From what the import and the export made to what `transfer` promises.
-use Rattle.std.proofs.Common.{ℕ, suc, ◌≡◌, refl, sym, ◌∙◌, ap, subst, List, [], ◌∷◌, Some, length, slice_get, map, All, arith}
+use Rattle.std.proofs.Common.{ℕ, ◌≡◌, sym, ◌∙◌, ap, subst, List, [], ◌∷◌, Some, length, slice_get, map, All, arith}
 use Rattle.std.proofs.lemmas.List.Elements.{All-nil, All-cons, All-weaker}
+use Rattle.meaning.proofs.MatchedLaws.{matched_length, matched_at}
 use Rattle.llvm_core.specs.Module.{Module}
 use Rattle.llvm_core.specs.Form.{IsForm, IsFormFunction, HasDistinctNames}
 use Rattle.llvm_core.specs.Data as L
@@ -22,20 +23,12 @@ use Rattle.from_llvm_ir.specs.Imported.{AreImported, NoneImported, ThenImported,
 use Rattle.to_llvm_ir.specs.Exported.{ExportedFunction, IsExported}
 use Rattle.to_llvm_ir.specs.Held.{IsReadable}
 use Rattle.transfer.specs.Same.{SameThroughout, transferred_of}
-use Rattle.from_llvm_ir.proofs.PairLaws.{matched_of, matched_at, matched_map}
+use Rattle.from_llvm_ir.proofs.PairLaws.{matched_of, matched_map}
 use Rattle.from_llvm_ir.proofs.MatchedLaws.{function_names, partner, count_imported, matched_place, forms_imported, exportable_imported, names_imported}
 use Rattle.from_llvm_ir.proofs.SameLaws.{function_numbered, plain_names, same_imported}
 use Rattle.to_llvm_ir.proofs.CodeLaws.{names_exported}
 use Rattle.to_llvm_ir.proofs.CheckedLaws.{form_exported}
 use Rattle.transfer.proofs.SameFunctions.{entry_back}
-
--- ---- matched lists
-
-count_matched : {A B : Type 0} (P : A → B → Type 0) (xs : List A) (ys : List B) → Matched P xs ys → length ys ≡ length xs
-count_matched P [] [] h = refl
-count_matched P (x ∷ xs) (y ∷ ys) h = ap suc (count_matched P xs ys h.1)
-count_matched P [] (y ∷ ys) h = absurd h
-count_matched P (x ∷ xs) [] h = absurd h
 
 -- ---- what the import made
 
@@ -80,7 +73,7 @@ module _ (d : ModuleData) (xs : List FunctionBlocks) (gs : List D.Func) (form : 
 
     entries_back : Matched (λ (f f' : L.Function). SameNamed (match_of d xs) (Llvm.entry d f) (Llvm.entry d' f')) d.functions d'.functions
     entries_back = matched_of (λ (f f' : L.Function). SameNamed (match_of d xs) (Llvm.entry d f) (Llvm.entry d' f')) d.functions d'.functions
-        (sym (count_matched (ExportedFunction d') gs d'.functions k ∙ (count_imported d d.functions xs gs h).1)) (λ i f f' at bt.
+        (sym (matched_length (ExportedFunction d') gs d'.functions k ∙ (count_imported d d.functions xs gs h).1)) (λ i f f' at bt.
         let p = partner d d.functions xs gs h i f at in
         entry_back (match_of d xs) d f p.entry p.func (matched_place d xs gs distinct numbered h i f p.entry at p.entry_at) (form_at i f at) p.imported d' f'
         (exported_at i p.func f' p.func_at bt))

@@ -3,9 +3,9 @@
 use dialect_core::context::Context;
 use dialect_core::numbers::ModuleOp;
 use dialect_types::identifier::Identifier;
-use dialect_types::items::Items;
 use from_llvm_ir::matching::FunctionBlocks;
 use llvm_core::module::LLVMModule;
+use support::items::Items;
 
 /// A dialect module in its context, the module of LLVM that was made of it, the match of blocks, and the identified structs
 /// with their names in the dialect, which are none yet.

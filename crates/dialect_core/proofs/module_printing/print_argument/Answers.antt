@@ -2,15 +2,15 @@
 use Rattle.std.proofs.Common.{ℕ, ◌++◌, ap, ◌∙◌}
 use Rattle.std.proofs.lemmas.Result.{on_ok_weaker}
 use Rattle.dialect_types.specs.Trees.{type_at, type_trees}
-use Rattle.dialect_types.proofs.TextLemmas.{keeps_then}
+use Rattle.dialect_types.proofs.TextLemmas.{keeps_then, keeps_equal}
 use Rattle.dialect_core.specs.Numbering.{value_at, block_at}
 use Rattle.dialect_core.specs.Text.{argument_text}
-use Rattle.dialect_core.proofs.KeepLemmas.{then_appended, then_equal}
+use Rattle.dialect_core.proofs.KeepLemmas.{then_appended}
 use Rattle.dialect_core.proofs.PrintLemmas.{between}
 use Rattle.dialect_core.proofs.module_printing.print_argument.Goals as goal
 
 pub returns-in_err-extend_from_slice-clause-kept : goal.returns-in_err-extend_from_slice-clause-kept
-returns-in_err-extend_from_slice-clause-kept c = then_equal _ _ _ c.in_ok-print_value.ensures.kept c.in_err-extend_from_slice.ensures.items
+returns-in_err-extend_from_slice-clause-kept c = keeps_equal _ _ _ c.in_ok-print_value.ensures.kept c.in_err-extend_from_slice.ensures.items
 
 pub returns-clause-kept : goal.returns-clause-kept
 returns-clause-kept c =

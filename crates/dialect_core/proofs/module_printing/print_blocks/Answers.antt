@@ -2,12 +2,11 @@
 use Rattle.std.proofs.Common.{arith, sym}
 use Rattle.std.proofs.lemmas.List.{append-nil}
 use Rattle.dialect_types.specs.Trees.{type_trees}
-use Rattle.dialect_types.proofs.TextLemmas.{keeps_then}
+use Rattle.dialect_types.proofs.TextLemmas.{keeps_then, keeps_appended}
 use Rattle.dialect_core.specs.declared.numbers.BlockRef.{BlockRef}
 use Rattle.dialect_core.specs.Data.{block_in}
 use Rattle.dialect_core.specs.Numbering.{value_at, block_at}
 use Rattle.dialect_core.specs.Text.{option_text, block_text}
-use Rattle.dialect_core.proofs.KeepLemmas.{kept_appended}
 use Rattle.dialect_core.proofs.PrintLemmas.{printed_more, printed_all}
 use Rattle.dialect_core.proofs.module_printing.print_blocks.Goals as goal
 
@@ -15,7 +14,7 @@ pub loop-block-init : goal.loop-block-init
 loop-block-init c = record { printed = sym (append-nil _) }
 
 pub returns-in_err-print_block-clause-kept : goal.returns-in_err-print_block-clause-kept
-returns-in_err-print_block-clause-kept c = keeps_then _ _ _ (kept_appended _ _ _ c.loop-block.invariant.printed) c.print_block.ensures.kept
+returns-in_err-print_block-clause-kept c = keeps_then _ _ _ (keeps_appended _ _ _ c.loop-block.invariant.printed) c.print_block.ensures.kept
 
 pub loop-block-preserved : goal.loop-block-preserved
 loop-block-preserved c =
@@ -23,7 +22,7 @@ loop-block-preserved c =
     (omega arith) c.loop-block.invariant c.in_ok-print_block.ensures.ok
 
 pub returns-clause-kept : goal.returns-clause-kept
-returns-clause-kept c = kept_appended _ _ _ c.loop-block.invariant.printed
+returns-clause-kept c = keeps_appended _ _ _ c.loop-block.invariant.printed
 
 pub returns-clause-ok : goal.returns-clause-ok
 returns-clause-ok c =

@@ -3,17 +3,17 @@ use Rattle.std.proofs.Common.{arith}
 use Rattle.std.proofs.lemmas.Result.{on_ok_weaker}
 use Rattle.std.specs.Prelude.{codes}
 use Rattle.dialect_core.specs.Numbering.{value_at, block_at}
-use Rattle.dialect_types.proofs.TextLemmas.{keeps_then}
-use Rattle.dialect_core.proofs.KeepLemmas.{kept_appended, then_extended, on_extended}
+use Rattle.dialect_types.proofs.TextLemmas.{keeps_then, keeps_appended}
+use Rattle.dialect_core.proofs.KeepLemmas.{then_extended, on_extended}
 use Rattle.dialect_core.proofs.ModulePrintLemmas.{body_printed}
 use Rattle.dialect_core.proofs.module_printing.print_body.Goals as goal
 
 pub returns-in_err-print_blocks-clause-kept : goal.returns-in_err-print_blocks-clause-kept
-returns-in_err-print_blocks-clause-kept c = keeps_then _ _ _ (kept_appended _ _ _ c.in_ok-extend_from_slice.ensures.items) c.print_blocks.ensures.kept
+returns-in_err-print_blocks-clause-kept c = keeps_then _ _ _ (keeps_appended _ _ _ c.in_ok-extend_from_slice.ensures.items) c.print_blocks.ensures.kept
 
 pub returns-clause-kept : goal.returns-clause-kept
 returns-clause-kept c =
-    let blocks = keeps_then _ _ _ (kept_appended _ _ _ c.in_ok-extend_from_slice.ensures.items) c.in_ok-print_blocks.ensures.kept in
+    let blocks = keeps_then _ _ _ (keeps_appended _ _ _ c.in_ok-extend_from_slice.ensures.items) c.in_ok-print_blocks.ensures.kept in
     then_extended c.extend_from_slice-3.result _ _ (codes "  }\n") _ blocks c.extend_from_slice-3.ensures.items
 
 pub returns-clause-ok : goal.returns-clause-ok

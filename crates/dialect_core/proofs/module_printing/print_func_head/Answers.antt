@@ -3,39 +3,39 @@ use Rattle.std.proofs.Common.{◌∙◌}
 use Rattle.std.proofs.lemmas.Result.{on_ok_weaker}
 use Rattle.std.specs.Prelude.{codes}
 use Rattle.dialect_types.specs.Trees.{type_at, type_trees}
-use Rattle.dialect_types.proofs.TextLemmas.{keeps_then}
-use Rattle.dialect_core.proofs.KeepLemmas.{kept_appended, kept_equal, then_appended, then_equal, then_extended, on_extended}
+use Rattle.dialect_types.proofs.TextLemmas.{keeps_then, keeps_appended, keeps_equal}
+use Rattle.dialect_core.proofs.KeepLemmas.{kept_equal, then_appended, then_extended, on_extended}
 use Rattle.dialect_core.proofs.ModulePrintLemmas.{head_printed}
 use Rattle.dialect_core.proofs.module_printing.print_func_head.Goals as goal
 
 pub returns-in_err-extend_from_slice-2-clause-kept : goal.returns-in_err-extend_from_slice-2-clause-kept
-returns-in_err-extend_from_slice-2-clause-kept c = then_equal _ _ _ (kept_appended _ _ _ c.in_ok-extend_from_slice.ensures.items) c.in_err-extend_from_slice-2.ensures.items
+returns-in_err-extend_from_slice-2-clause-kept c = keeps_equal _ _ _ (keeps_appended _ _ _ c.in_ok-extend_from_slice.ensures.items) c.in_err-extend_from_slice-2.ensures.items
 
 pub returns-in_err-extend_from_slice-3-clause-kept : goal.returns-in_err-extend_from_slice-3-clause-kept
 returns-in_err-extend_from_slice-3-clause-kept c =
-    let name = then_appended _ _ _ _ (kept_appended _ _ _ c.in_ok-extend_from_slice.ensures.items) c.in_ok-extend_from_slice-2.ensures.items in
-    then_equal _ _ _ name c.in_err-extend_from_slice-3.ensures.items
+    let name = then_appended _ _ _ _ (keeps_appended _ _ _ c.in_ok-extend_from_slice.ensures.items) c.in_ok-extend_from_slice-2.ensures.items in
+    keeps_equal _ _ _ name c.in_err-extend_from_slice-3.ensures.items
 
 pub returns-in_err-append_type-clause-kept : goal.returns-in_err-append_type-clause-kept
 returns-in_err-append_type-clause-kept c =
-    let name = then_appended _ _ _ _ (kept_appended _ _ _ c.in_ok-extend_from_slice.ensures.items) c.in_ok-extend_from_slice-2.ensures.items in
+    let name = then_appended _ _ _ _ (keeps_appended _ _ _ c.in_ok-extend_from_slice.ensures.items) c.in_ok-extend_from_slice-2.ensures.items in
     keeps_then _ _ _ (then_appended _ _ _ _ name c.in_ok-extend_from_slice-3.ensures.items) c.append_type.ensures.kept
 
 pub returns-in_err-extend_from_slice-4-clause-kept : goal.returns-in_err-extend_from_slice-4-clause-kept
 returns-in_err-extend_from_slice-4-clause-kept c =
-    let name = then_appended _ _ _ _ (kept_appended _ _ _ c.in_ok-extend_from_slice.ensures.items) c.in_ok-extend_from_slice-2.ensures.items in
+    let name = then_appended _ _ _ _ (keeps_appended _ _ _ c.in_ok-extend_from_slice.ensures.items) c.in_ok-extend_from_slice-2.ensures.items in
     let type = keeps_then _ _ _ (then_appended _ _ _ _ name c.in_ok-extend_from_slice-3.ensures.items) c.in_ok-append_type.ensures.kept in
-    then_equal _ _ _ type c.in_err-extend_from_slice-4.ensures.items
+    keeps_equal _ _ _ type c.in_err-extend_from_slice-4.ensures.items
 
 pub returns-in_err-extend_from_slice-5-clause-kept : goal.returns-in_err-extend_from_slice-5-clause-kept
 returns-in_err-extend_from_slice-5-clause-kept c =
-    let name = then_appended _ _ _ _ (kept_appended _ _ _ c.in_ok-extend_from_slice.ensures.items) c.in_ok-extend_from_slice-2.ensures.items in
+    let name = then_appended _ _ _ _ (keeps_appended _ _ _ c.in_ok-extend_from_slice.ensures.items) c.in_ok-extend_from_slice-2.ensures.items in
     let type = keeps_then _ _ _ (then_appended _ _ _ _ name c.in_ok-extend_from_slice-3.ensures.items) c.in_ok-append_type.ensures.kept in
-    then_equal _ _ _ (then_appended _ _ _ _ type c.in_ok-extend_from_slice-4.ensures.items) c.in_err-extend_from_slice-5.ensures.items
+    keeps_equal _ _ _ (then_appended _ _ _ _ type c.in_ok-extend_from_slice-4.ensures.items) c.in_err-extend_from_slice-5.ensures.items
 
 pub returns-clause-kept : goal.returns-clause-kept
 returns-clause-kept c =
-    let name = then_appended _ _ _ _ (kept_appended _ _ _ c.in_ok-extend_from_slice.ensures.items) c.in_ok-extend_from_slice-2.ensures.items in
+    let name = then_appended _ _ _ _ (keeps_appended _ _ _ c.in_ok-extend_from_slice.ensures.items) c.in_ok-extend_from_slice-2.ensures.items in
     let type = keeps_then _ _ _ (then_appended _ _ _ _ name c.in_ok-extend_from_slice-3.ensures.items) c.in_ok-append_type.ensures.kept in
     let word = then_appended _ _ _ _ (then_appended _ _ _ _ type c.in_ok-extend_from_slice-4.ensures.items) c.in_ok-extend_from_slice-5.ensures.items in
     then_extended c.extend_from_slice-6.result _ _ (codes "}") _ word c.extend_from_slice-6.ensures.items

@@ -3,32 +3,32 @@ use Rattle.std.proofs.Common.{◌∙◌}
 use Rattle.std.proofs.lemmas.Result.{on_ok_weaker}
 use Rattle.std.specs.Prelude.{codes}
 use Rattle.dialect_core.specs.Numbering.{value_at, block_at}
-use Rattle.dialect_types.proofs.TextLemmas.{keeps_then}
-use Rattle.dialect_core.proofs.KeepLemmas.{kept_appended, kept_equal, then_appended, then_equal, then_extended, on_extended}
+use Rattle.dialect_types.proofs.TextLemmas.{keeps_then, keeps_appended, keeps_equal}
+use Rattle.dialect_core.proofs.KeepLemmas.{kept_equal, then_appended, then_extended, on_extended}
 use Rattle.dialect_core.proofs.ModulePrintLemmas.{module_printed}
 use Rattle.dialect_core.proofs.module_printing.print_numbered.Goals as goal
 
 pub returns-in_err-extend_from_slice-2-clause-kept : goal.returns-in_err-extend_from_slice-2-clause-kept
-returns-in_err-extend_from_slice-2-clause-kept c = then_equal _ _ _ (kept_appended _ _ _ c.in_ok-extend_from_slice.ensures.items) c.in_err-extend_from_slice-2.ensures.items
+returns-in_err-extend_from_slice-2-clause-kept c = keeps_equal _ _ _ (keeps_appended _ _ _ c.in_ok-extend_from_slice.ensures.items) c.in_err-extend_from_slice-2.ensures.items
 
 pub returns-in_err-extend_from_slice-3-clause-kept : goal.returns-in_err-extend_from_slice-3-clause-kept
 returns-in_err-extend_from_slice-3-clause-kept c =
-    let name = then_appended _ _ _ _ (kept_appended _ _ _ c.in_ok-extend_from_slice.ensures.items) c.in_ok-extend_from_slice-2.ensures.items in
-    then_equal _ _ _ name c.in_err-extend_from_slice-3.ensures.items
+    let name = then_appended _ _ _ _ (keeps_appended _ _ _ c.in_ok-extend_from_slice.ensures.items) c.in_ok-extend_from_slice-2.ensures.items in
+    keeps_equal _ _ _ name c.in_err-extend_from_slice-3.ensures.items
 
 pub returns-in_err-ops-clause-kept : goal.returns-in_err-ops-clause-kept
 returns-in_err-ops-clause-kept c =
-    let name = then_appended _ _ _ _ (kept_appended _ _ _ c.in_ok-extend_from_slice.ensures.items) c.in_ok-extend_from_slice-2.ensures.items in
+    let name = then_appended _ _ _ _ (keeps_appended _ _ _ c.in_ok-extend_from_slice.ensures.items) c.in_ok-extend_from_slice-2.ensures.items in
     then_appended _ _ _ _ name c.in_ok-extend_from_slice-3.ensures.items
 
 pub returns-in_err-print_funcs-clause-kept : goal.returns-in_err-print_funcs-clause-kept
 returns-in_err-print_funcs-clause-kept c =
-    let name = then_appended _ _ _ _ (kept_appended _ _ _ c.in_ok-extend_from_slice.ensures.items) c.in_ok-extend_from_slice-2.ensures.items in
+    let name = then_appended _ _ _ _ (keeps_appended _ _ _ c.in_ok-extend_from_slice.ensures.items) c.in_ok-extend_from_slice-2.ensures.items in
     keeps_then _ _ _ (then_appended _ _ _ _ name c.in_ok-extend_from_slice-3.ensures.items) c.print_funcs.ensures.kept
 
 pub returns-clause-kept : goal.returns-clause-kept
 returns-clause-kept c =
-    let name = then_appended _ _ _ _ (kept_appended _ _ _ c.in_ok-extend_from_slice.ensures.items) c.in_ok-extend_from_slice-2.ensures.items in
+    let name = then_appended _ _ _ _ (keeps_appended _ _ _ c.in_ok-extend_from_slice.ensures.items) c.in_ok-extend_from_slice-2.ensures.items in
     let funcs = keeps_then _ _ _ (then_appended _ _ _ _ name c.in_ok-extend_from_slice-3.ensures.items) c.in_ok-print_funcs.ensures.kept in
     then_extended c.extend_from_slice-4.result _ _ (codes "}\n") _ funcs c.extend_from_slice-4.ensures.items
 

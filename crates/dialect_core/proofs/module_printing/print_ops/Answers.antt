@@ -4,12 +4,11 @@ use Rattle.std.proofs.lemmas.List.{append-nil}
 use Rattle.std.specs.Option.{option_and_then}
 use Rattle.dialect_types.specs.Trees.{type_trees}
 use Rattle.dialect_types.specs.declared.types.TypeKind.{TypeKind}
-use Rattle.dialect_types.proofs.TextLemmas.{keeps_then}
+use Rattle.dialect_types.proofs.TextLemmas.{keeps_then, keeps_appended}
 use Rattle.dialect_core.specs.declared.numbers.OpRef.{OpRef}
 use Rattle.dialect_core.specs.Data.{DialectOp, op_at, op_of}
 use Rattle.dialect_core.specs.Numbering.{value_at, block_at}
 use Rattle.dialect_core.specs.Text.{option_text, op_text}
-use Rattle.dialect_core.proofs.KeepLemmas.{kept_appended}
 use Rattle.dialect_core.proofs.PrintLemmas.{printed_more, printed_all}
 use Rattle.dialect_core.proofs.module_printing.print_ops.Goals as goal
 
@@ -20,7 +19,7 @@ pub loop-op-init : goal.loop-op-init
 loop-op-init c = record { printed = sym (append-nil _) }
 
 pub returns-in_err-print_op-clause-kept : goal.returns-in_err-print_op-clause-kept
-returns-in_err-print_op-clause-kept c = keeps_then _ _ _ (kept_appended _ _ _ c.loop-op.invariant.printed) c.print_op.ensures.kept
+returns-in_err-print_op-clause-kept c = keeps_then _ _ _ (keeps_appended _ _ _ c.loop-op.invariant.printed) c.print_op.ensures.kept
 
 pub loop-op-preserved : goal.loop-op-preserved
 loop-op-preserved c =
@@ -33,7 +32,7 @@ loop-op-preserved c =
     ∙ ap (λ (o : Option DialectOp). c.loop-op.out.items ++ option_text text o) (ap (option_and_then (op_of (type_trees c.args.ctx.now.types) op)) (sym c.op_data.ensures)))
 
 pub returns-clause-kept : goal.returns-clause-kept
-returns-clause-kept c = kept_appended _ _ _ c.loop-op.invariant.printed
+returns-clause-kept c = keeps_appended _ _ _ c.loop-op.invariant.printed
 
 pub returns-clause-ok : goal.returns-clause-ok
 returns-clause-ok c =

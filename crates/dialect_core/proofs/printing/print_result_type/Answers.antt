@@ -1,12 +1,12 @@
 -- What `printing::print_result_type` owes besides what the check finds.
 use Rattle.std.proofs.lemmas.Result.{on_ok_weaker}
-use Rattle.dialect_types.proofs.TextLemmas.{keeps_then}
-use Rattle.dialect_core.proofs.KeepLemmas.{kept_appended, two_texts}
+use Rattle.support.proofs.ListLaws.{appended_twice}
+use Rattle.dialect_types.proofs.TextLemmas.{keeps_then, keeps_appended}
 use Rattle.dialect_core.proofs.printing.print_result_type.Goals as goal
 
 pub returns-in_ok-extend_from_slice-in-Some-clause-kept : goal.returns-in_ok-extend_from_slice-in-Some-clause-kept
-returns-in_ok-extend_from_slice-in-Some-clause-kept c = keeps_then _ _ _ (kept_appended _ _ _ c.in_ok-extend_from_slice-in-Some.ensures.items) c.append_type.ensures.kept
+returns-in_ok-extend_from_slice-in-Some-clause-kept c = keeps_then _ _ _ (keeps_appended _ _ _ c.in_ok-extend_from_slice-in-Some.ensures.items) c.append_type.ensures.kept
 
 pub returns-in_ok-extend_from_slice-in-Some-clause-ok : goal.returns-in_ok-extend_from_slice-in-Some-clause-ok
 returns-in_ok-extend_from_slice-in-Some-clause-ok c =
-    rw c.in-Some.is (on_ok_weaker c.append_type.result (λ e. two_texts _ _ _ _ _ c.in_ok-extend_from_slice-in-Some.ensures.items e) c.append_type.ensures.ok)
+    rw c.in-Some.is (on_ok_weaker c.append_type.result (λ e. appended_twice _ _ _ _ _ c.in_ok-extend_from_slice-in-Some.ensures.items e) c.append_type.ensures.ok)

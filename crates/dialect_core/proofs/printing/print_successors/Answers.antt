@@ -5,8 +5,8 @@ use Rattle.std.proofs.lemmas.List.{append-nil}
 use Rattle.std.proofs.lemmas.Result.{on_ok_weaker}
 use Rattle.dialect_core.specs.Numbering.{value_at, block_at}
 use Rattle.dialect_core.specs.Text.{successor_text}
-use Rattle.dialect_types.proofs.TextLemmas.{keeps_then}
-use Rattle.dialect_core.proofs.KeepLemmas.{kept_appended, then_appended, then_extended, on_extended}
+use Rattle.dialect_types.proofs.TextLemmas.{keeps_then, keeps_appended}
+use Rattle.dialect_core.proofs.KeepLemmas.{then_appended, then_extended, on_extended}
 use Rattle.dialect_core.proofs.PrintLemmas.{joined_more, joined_all, successors_printed}
 use Rattle.dialect_core.proofs.printing.print_successors.Goals as goal
 
@@ -15,17 +15,17 @@ loop-i-init c = record { printed = sym (append-nil _) }
 
 pub returns-in_err-print_comma_before-clause-kept : goal.returns-in_err-print_comma_before-clause-kept
 returns-in_err-print_comma_before-clause-kept c =
-    let successors = then_appended _ _ _ _ (kept_appended _ _ _ c.in_ok-extend_from_slice.ensures.items) c.loop-i.invariant.printed in
+    let successors = then_appended _ _ _ _ (keeps_appended _ _ _ c.in_ok-extend_from_slice.ensures.items) c.loop-i.invariant.printed in
     keeps_then _ _ _ successors c.print_comma_before.ensures.kept
 
 pub returns-in_err-print_successor-clause-kept : goal.returns-in_err-print_successor-clause-kept
 returns-in_err-print_successor-clause-kept c =
-    let successors = then_appended _ _ _ _ (kept_appended _ _ _ c.in_ok-extend_from_slice.ensures.items) c.loop-i.invariant.printed in
+    let successors = then_appended _ _ _ _ (keeps_appended _ _ _ c.in_ok-extend_from_slice.ensures.items) c.loop-i.invariant.printed in
     keeps_then _ _ _ (keeps_then _ _ _ successors c.in_ok-print_comma_before.ensures.kept) c.print_successor.ensures.kept
 
 pub returns-clause-kept : goal.returns-clause-kept
 returns-clause-kept c =
-    let successors = then_appended _ _ _ _ (kept_appended _ _ _ c.in_ok-extend_from_slice.ensures.items) c.loop-i.invariant.printed in
+    let successors = then_appended _ _ _ _ (keeps_appended _ _ _ c.in_ok-extend_from_slice.ensures.items) c.loop-i.invariant.printed in
     then_extended c.extend_from_slice-2.result _ _ (codes "]") _ successors c.extend_from_slice-2.ensures.items
 
 pub loop-i-preserved : goal.loop-i-preserved

@@ -6,8 +6,8 @@ use Rattle.std.proofs.lemmas.Result.{on_ok_weaker}
 use Rattle.dialect_core.specs.declared.ops.Value.TheVariants.{Result}
 use Rattle.dialect_core.specs.Numbering.{value_at, block_at}
 use Rattle.dialect_core.specs.Text.{value_text}
-use Rattle.dialect_types.proofs.TextLemmas.{keeps_then}
-use Rattle.dialect_core.proofs.KeepLemmas.{kept_appended, then_appended, then_extended, on_extended}
+use Rattle.dialect_types.proofs.TextLemmas.{keeps_then, keeps_appended}
+use Rattle.dialect_core.proofs.KeepLemmas.{then_appended, then_extended, on_extended}
 use Rattle.dialect_core.proofs.PrintLemmas.{between, joined_more, joined_all}
 use Rattle.dialect_core.proofs.printing.print_values.Goals as goal
 
@@ -16,17 +16,17 @@ loop-i-init c = record { printed = sym (append-nil _) }
 
 pub returns-in_err-print_comma_before-clause-kept : goal.returns-in_err-print_comma_before-clause-kept
 returns-in_err-print_comma_before-clause-kept c =
-    let values = then_appended _ _ _ _ (kept_appended _ _ _ c.in_ok-extend_from_slice.ensures.items) c.loop-i.invariant.printed in
+    let values = then_appended _ _ _ _ (keeps_appended _ _ _ c.in_ok-extend_from_slice.ensures.items) c.loop-i.invariant.printed in
     keeps_then _ _ _ values c.print_comma_before.ensures.kept
 
 pub returns-in_err-print_value-clause-kept : goal.returns-in_err-print_value-clause-kept
 returns-in_err-print_value-clause-kept c =
-    let values = then_appended _ _ _ _ (kept_appended _ _ _ c.in_ok-extend_from_slice.ensures.items) c.loop-i.invariant.printed in
+    let values = then_appended _ _ _ _ (keeps_appended _ _ _ c.in_ok-extend_from_slice.ensures.items) c.loop-i.invariant.printed in
     keeps_then _ _ _ (keeps_then _ _ _ values c.in_ok-print_comma_before.ensures.kept) c.print_value.ensures.kept
 
 pub returns-clause-kept : goal.returns-clause-kept
 returns-clause-kept c =
-    let values = then_appended _ _ _ _ (kept_appended _ _ _ c.in_ok-extend_from_slice.ensures.items) c.loop-i.invariant.printed in
+    let values = then_appended _ _ _ _ (keeps_appended _ _ _ c.in_ok-extend_from_slice.ensures.items) c.loop-i.invariant.printed in
     then_extended c.extend_from_slice-2.result _ _ (codes ")") _ values c.extend_from_slice-2.ensures.items
 
 pub loop-i-preserved : goal.loop-i-preserved

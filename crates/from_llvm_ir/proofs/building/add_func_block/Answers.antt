@@ -1,8 +1,8 @@
 -- What `building::add_func_block` owes besides what the check finds.
 use Rattle.std.proofs.Common.{refl}
 use Rattle.std.proofs.lemmas.Result.{IfOk-weaker}
+use Rattle.support.proofs.ResultLaws.{ok_both}
 use Rattle.from_llvm_ir.proofs.BuildLaws.{added_block, func_still, one_block}
-use Rattle.from_llvm_ir.proofs.ResultLaws.{ok_both}
 use Rattle.from_llvm_ir.proofs.building.add_func_block.Goals as goal
 
 pub returns-clause-building : goal.returns-clause-building

@@ -1,9 +1,9 @@
 -- What `constants::hoist_constant` owes besides what the check finds.
 use Rattle.std.proofs.Common.{ℕ, ◌∙◌, sym, ap}
 use Rattle.std.proofs.lemmas.Result.{on_ok_weaker}
+use Rattle.support.proofs.OptionLaws.{none_from}
 use Rattle.dialect_core.specs.declared.ops.Value.TheVariants as V
 use Rattle.from_llvm_ir.proofs.HoistLaws.{hoisting_open, used_again, hoisted_more}
-use Rattle.from_llvm_ir.proofs.ConstLaws.{none_from}
 use Rattle.from_llvm_ir.proofs.constants.hoist_constant.Goals as goal
 
 pub add_constant-requires-clause-open : goal.add_constant-requires-clause-open

@@ -4,10 +4,10 @@ use Rattle.std.specs.List.{filter_map}
 use Rattle.std.proofs.lemmas.List.{append-nil, map_push, take_all}
 use Rattle.llvm_core.specs.declared.code.LLVMValue.{LLVMValue}
 use Rattle.std.proofs.lemmas.Option.{slice_get-get_or}
+use Rattle.support.proofs.ListLaws.{take_next}
 use Rattle.llvm_core.specs.Data.{trees_of, operand_of}
 use Rattle.from_llvm_ir.specs.Imported.{constant_in}
 use Rattle.from_llvm_ir.specs.Body.{IsHoisting}
-use Rattle.from_llvm_ir.proofs.ListLaws.{take_next}
 use Rattle.from_llvm_ir.proofs.HoistLaws.{uses_more}
 use Rattle.from_llvm_ir.proofs.KeepLaws.{keeps_none, keeps_then}
 use Rattle.from_llvm_ir.proofs.constants.hoist_values.Goals as goal

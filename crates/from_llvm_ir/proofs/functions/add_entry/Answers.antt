@@ -1,10 +1,10 @@
 -- What `functions::add_entry` owes besides what the check finds.
 use Rattle.std.proofs.Common.{◌∙◌, [], Some, ap, refl, map, codes, ◌<◌, All, length, subst, sym, arith}
 use Rattle.std.proofs.lemmas.Result.{IfOk-weaker}
+use Rattle.support.proofs.ResultLaws.{ok_both}
 use Rattle.dialect_types.specs.Trees.{type_at, type_trees}
 use Rattle.dialect_core.specs.ContextData.{ContextData, kind_at}
 use Rattle.dialect_types.specs.declared.types.TypeHandle.{TypeHandle}
-use Rattle.from_llvm_ir.proofs.ResultLaws.{ok_both}
 use Rattle.from_llvm_ir.proofs.NameLaws.{plain_stays}
 use Rattle.from_llvm_ir.proofs.StartLaws.{more_heads, first_source, next_head}
 use Rattle.from_llvm_ir.proofs.KeepLaws.{keeps_then, keeps_types, keeps_none}

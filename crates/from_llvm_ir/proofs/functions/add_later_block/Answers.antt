@@ -1,11 +1,11 @@
 -- What `functions::add_later_block` owes besides what the check finds.
 use Rattle.std.proofs.Common.{◌∙◌, ◌<◌, [], All, ap, length, refl, map, subst, sym}
 use Rattle.std.proofs.lemmas.Result.{IfOk-weaker}
+use Rattle.support.proofs.ResultLaws.{ok_both}
 use Rattle.dialect_types.specs.declared.types.TypeHandle.{TypeHandle}
 use Rattle.dialect_types.specs.Trees.{type_at, type_trees}
 use Rattle.from_llvm_ir.specs.Imported.{given_name}
 use Rattle.dialect_core.specs.ContextData.{ContextData, kind_at}
-use Rattle.from_llvm_ir.proofs.ResultLaws.{ok_both}
 use Rattle.from_llvm_ir.proofs.SourceLaws.{block_name, block_within}
 use Rattle.from_llvm_ir.proofs.StartLaws.{later_heads, next_head}
 use Rattle.from_llvm_ir.proofs.KeepLaws.{keeps_none, keeps_then, keeps_types}

@@ -1,13 +1,13 @@
 -- What `functions::declare` owes besides what the check finds.
 use Rattle.std.proofs.Common.{ℕ, List, sym, ap, subst, ◌∙◌, All, length}
 use Rattle.std.proofs.lemmas.Result.{IfOk-weaker, on_ok_weaker}
+use Rattle.support.proofs.ResultLaws.{ok_both}
 use Rattle.dialect_types.specs.Trees.{TypeTree, type_at, type_trees}
 use Rattle.dialect_core.specs.declared.ops.BlockData.{BlockData}
 use Rattle.dialect_core.specs.ContextData.{ContextData}
 use Rattle.dialect_core.specs.Data.{with_func}
 use Rattle.from_llvm_ir.specs.Imported.{IsBuilding, IsBelow}
 use Rattle.from_llvm_ir.specs.Building.{bare_func}
-use Rattle.from_llvm_ir.proofs.ResultLaws.{ok_both}
 use Rattle.from_llvm_ir.proofs.UnderLaws.{typed_building}
 use Rattle.from_llvm_ir.proofs.KeepLaws.{keeps_then, keeps_types}
 use Rattle.from_llvm_ir.proofs.functions.declare.Goals as goal

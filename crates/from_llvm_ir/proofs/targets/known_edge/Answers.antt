@@ -2,13 +2,13 @@
 use Rattle.std.proofs.Common.{◌≡◌, ◌∙◌, sym, ap, subst, Some, List, map, slice_get}
 use Rattle.std.proofs.lemmas.Option.{slice_get-map}
 use Rattle.std.specs.Option.{option_map}
+use Rattle.support.proofs.ListLaws.{all_from}
 use Rattle.llvm_core.specs.declared.code.LLVMValue.{LLVMValue}
 use Rattle.llvm_core.specs.Data as L
 use Rattle.llvm_core.specs.Data.{trees_of, operand_of}
 use Rattle.llvm_core.proofs.DataLemmas.{within_at}
 use Rattle.from_llvm_ir.specs.Source.{IsUsed}
 use Rattle.from_llvm_ir.specs.Values.{AreNoted, IsForward, IsSettled}
-use Rattle.from_llvm_ir.proofs.PlaceLaws.{all_from}
 use Rattle.from_llvm_ir.proofs.ForwardLaws.{passed_on}
 use Rattle.from_llvm_ir.proofs.targets.known_edge.Goals as goal
 

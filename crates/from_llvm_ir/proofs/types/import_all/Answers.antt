@@ -1,7 +1,8 @@
 -- What `types::import_all` owes besides what the check finds.
 use Rattle.std.proofs.Common.{[], ◌+◌, take, sym, subst, arith}
+use Rattle.llvm_core.proofs.FormTypes.{short_result}
 use Rattle.llvm_core.specs.Data.{trees_of}
-use Rattle.from_llvm_ir.proofs.SourceLaws.{short_at, short_result}
+use Rattle.from_llvm_ir.proofs.SourceLaws.{short_at}
 use Rattle.from_llvm_ir.proofs.TypeLaws.{Imports, imports_none, imports_more, imports_all, grows_then}
 use Rattle.from_llvm_ir.proofs.types.import_all.Goals as goal
 

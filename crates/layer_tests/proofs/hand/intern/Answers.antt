@@ -1,6 +1,7 @@
 -- What `hand::intern` owes besides what the check finds.
+use Rattle.support.proofs.InternedLaws.{interned_within}
 use Rattle.dialect_core.proofs.TypedLemmas.{more_types_typed}
-use Rattle.layer_tests.proofs.HandLaws.{interned_longer, interned_within}
+use Rattle.layer_tests.proofs.HandLaws.{interned_longer}
 use Rattle.layer_tests.proofs.hand.intern.Goals as goal
 
 pub returns-clause-typed : goal.returns-clause-typed

@@ -2,9 +2,9 @@
 use Rattle.std.proofs.Common.{arith}
 use Rattle.std.proofs.lemmas.List.{length-map}
 use Rattle.std.proofs.lemmas.Result.{on_ok_weaker}
+use Rattle.support.proofs.ResultLaws.{on_ok_both}
 use Rattle.ll_tree.specs.TreeView.{inst_view, block_view}
 use Rattle.ll_text.proofs.ModuleLaws.{keeps_then, ready_kept}
-use Rattle.ll_text.proofs.InstructionLaws.{on_ok_both}
 use Rattle.ll_text.proofs.AddedLaws.{body_added, body_built, insts_unplaced, end_unplaced}
 use Rattle.ll_text.specs.Opening.{open_inst, open_terminator}
 use Rattle.ll_text.proofs.RefusalLaws.{passed_on}

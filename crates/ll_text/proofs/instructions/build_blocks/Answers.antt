@@ -2,11 +2,11 @@
 use Rattle.std.proofs.Common.{ℕ, ap, ◌∙◌, arith}
 use Rattle.std.proofs.lemmas.List.{length-map}
 use Rattle.std.proofs.lemmas.Result.{on_ok_weaker}
+use Rattle.support.proofs.ResultLaws.{on_ok_both}
 use Rattle.ll_tree.specs.TreeView.{block_view, function_view}
 use Rattle.ll_text.specs.Numbered.{behind_all}
 use Rattle.ll_text.specs.Opening.{open_inst, open_terminator}
 use Rattle.ll_text.proofs.ModuleLaws.{keeps_then, ready_kept}
-use Rattle.ll_text.proofs.InstructionLaws.{on_ok_both}
 use Rattle.ll_text.proofs.AddedLaws.{entry_added, entry_built, entry_unplaced, more_unplaced}
 use Rattle.ll_text.proofs.RefusalLaws.{passed_on}
 use Rattle.ll_text.proofs.instructions.build_blocks.Goals as goal

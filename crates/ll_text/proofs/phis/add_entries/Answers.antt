@@ -1,9 +1,8 @@
 -- What `phis::add_entries` owes besides what the check finds.
 use Rattle.std.proofs.Common.{refl, ◌∙◌}
-use Rattle.std.proofs.lemmas.List.{take_all}
+use Rattle.std.proofs.lemmas.List.{take_all, get_or_default}
 use Rattle.ll_tree.specs.TreeView.{incoming_view}
 use Rattle.ll_text.proofs.ModuleLaws.{keeps_self, keeps_then, ready_kept}
-use Rattle.ll_text.proofs.NumberedLaws.{item_here}
 use Rattle.ll_text.proofs.IncomingLaws.{no_entries, entries_more, entries_refused}
 use Rattle.ll_text.proofs.RefusalLaws.{passed_on}
 use Rattle.ll_text.proofs.phis.add_entries.Goals as goal
@@ -23,7 +22,7 @@ loop-entry-preserved c =
     let e = c.in_ok-add_entry.ensures in
     record {
       adds = entries_more incoming_view c.args.entries.now c.args.scope.now c.args.width c.args.phi.0 c.loop-entry.entry-index _ c.args.draft.now c.loop-entry.draft c.add_entry.new.draft c.loop-entry-test.true
-          (item_here c.args.entries.now c.loop-entry.entry-index _ _ c.loop-entry-test.true) i.adds e.adds;
+          (get_or_default c.args.entries.now c.loop-entry.entry-index _ _ c.loop-entry-test.true) i.adds e.adds;
       keeps = keeps_then c.args.draft.now c.loop-entry.draft c.add_entry.new.draft i.keeps e.keeps;
       same = e.same ∙ i.same;
     }
@@ -35,4 +34,4 @@ pub returns-in_err-add_entry-clause-not_yet : goal.returns-in_err-add_entry-clau
 returns-in_err-add_entry-clause-not_yet c = λ e.
     let x = c.in_err-add_entry in
     entries_refused incoming_view c.args.entries.now c.args.scope.now c.args.width c.loop-entry.entry-index _ c.loop-entry-test.true
-    (item_here c.args.entries.now c.loop-entry.entry-index _ _ c.loop-entry-test.true) (x.ensures.not_yet (passed_on c.from_residual.result x.field-0.0 c.from_residual.ensures.1 e))
+    (get_or_default c.args.entries.now c.loop-entry.entry-index _ _ c.loop-entry-test.true) (x.ensures.not_yet (passed_on c.from_residual.result x.field-0.0 c.from_residual.ensures.1 e))

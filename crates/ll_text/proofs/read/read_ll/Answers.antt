@@ -1,5 +1,6 @@
 -- What is read is spelled and of the form, and what is refused spells no checked module of the form.
 use Rattle.std.proofs.Common.{◌≡◌, Err, refl, rules}
+use Rattle.support.proofs.ResultLaws.{handed_on}
 use Rattle.llvm_core.specs.Checked.{IsChecked}
 use Rattle.llvm_core.specs.Data.{data_of}
 use Rattle.llvm_core.specs.Form.{IsForm}
@@ -11,7 +12,7 @@ use Rattle.ll_text.specs.Spelling.{Spells, IsNumbered}
 use Rattle.ll_text.proofs.MeaningLaws.{wider_file}
 use Rattle.ll_text.proofs.FormLaws.{source_plain}
 use Rattle.ll_text.proofs.ReadLaws.{form_said, said_plainly, checked_of_said, form_of_built}
-use Rattle.ll_text.proofs.ResultLaws.{given, refused}
+use Rattle.ll_text.proofs.ResultLaws.{refused}
 use Rattle.ll_text.proofs.read.read_ll.Goals as goal
 
 pub returns-clause-spelled : goal.returns-clause-spelled
@@ -29,12 +30,12 @@ returns-clause-spelled c =
         says = wider_file s.tree _ s.says;
       },
     ) in
-    rw c.and.ensures (given c.check_built.result m (λ x. Spells c.args.bytes.now (data_of x)) _ (λ (checked : IsChecked m). spells) c.check_built.ensures.checked)
+    rw c.and.ensures (handed_on c.check_built.result m (λ x. Spells c.args.bytes.now (data_of x)) _ (λ (checked : IsChecked m). spells) c.check_built.ensures.checked)
 
 pub returns-clause-numbered : goal.returns-clause-numbered
 returns-clause-numbered c =
     let m = c.in_ok-built.built in
-    rw c.and.ensures (given c.check_built.result m (λ x. IsNumbered (data_of x)) _ (λ (checked : IsChecked m). c.in_ok-built.ensures.numbered) c.check_built.ensures.checked)
+    rw c.and.ensures (handed_on c.check_built.result m (λ x. IsNumbered (data_of x)) _ (λ (checked : IsChecked m). c.in_ok-built.ensures.numbered) c.check_built.ensures.checked)
 
 pub returns-clause-form : goal.returns-clause-form
 returns-clause-form c =
@@ -42,18 +43,18 @@ returns-clause-form c =
     let e = c.in_ok-built.ensures in
     let sound : IsModule m = search rules in
     let form = λ (checked : IsChecked m). form_of_built e.says.tree m sound checked e.says.says e.numbered in
-    rw c.and.ensures (given c.check_built.result m (λ x. IsForm (data_of x)) _ form c.check_built.ensures.checked)
+    rw c.and.ensures (handed_on c.check_built.result m (λ x. IsForm (data_of x)) _ form c.check_built.ensures.checked)
 
 pub returns-clause-name : goal.returns-clause-name
 returns-clause-name c =
     let m = c.in_ok-built.built in
     let plain = source_plain _ _ c.in_ok-built.ensures.says.says.source in
-    rw c.and.ensures (given c.check_built.result m (λ x. IsPlainOrNone x.name) _ (λ (checked : IsChecked m). plain) c.check_built.ensures.checked)
+    rw c.and.ensures (handed_on c.check_built.result m (λ x. IsPlainOrNone x.name) _ (λ (checked : IsChecked m). plain) c.check_built.ensures.checked)
 
 pub returns-clause-checked : goal.returns-clause-checked
 returns-clause-checked c =
     let m = c.in_ok-built.built in
-    rw c.and.ensures (given c.check_built.result m IsChecked _ (λ (checked : IsChecked m). checked) c.check_built.ensures.checked)
+    rw c.and.ensures (handed_on c.check_built.result m IsChecked _ (λ (checked : IsChecked m). checked) c.check_built.ensures.checked)
 
 pub returns-clause-not_yet : goal.returns-clause-not_yet
 returns-clause-not_yet c = λ e spelled.

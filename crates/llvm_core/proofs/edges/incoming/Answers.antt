@@ -1,6 +1,6 @@
 -- What `edges::incoming` hands to `push_edges`, and what it has from it.
 use Rattle.std.proofs.Common.{arith}
-use Rattle.llvm_core.proofs.ListLemmas.{written_back}
+use Rattle.support.proofs.ListLaws.{written_back}
 use Rattle.llvm_core.proofs.edges.incoming.Goals as goal
 
 pub push_edges-requires-clause-none : goal.push_edges-requires-clause-none

@@ -3,7 +3,7 @@ use Rattle.std.proofs.Common.{◌≡◌, ◌++◌, ap, ◌∙◌, append_assoc}
 use Rattle.std.specs.List.{flat_map}
 use Rattle.std.proofs.lemmas.List.{take_all}
 use Rattle.llvm_core.specs.Checked.{named, inst_names}
-use Rattle.llvm_core.proofs.ListLemmas.{gathered_next}
+use Rattle.support.proofs.ListLaws.{gathered_next}
 use Rattle.llvm_core.proofs.LocalLemmas.{result_named, block_named}
 use Rattle.llvm_core.proofs.names.push_block.Goals as goal
 

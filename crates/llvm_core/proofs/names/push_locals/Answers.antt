@@ -3,7 +3,7 @@ use Rattle.std.proofs.Common.{◌≡◌, [], ◌++◌, ap, ◌∙◌}
 use Rattle.std.specs.List.{flat_map}
 use Rattle.std.proofs.lemmas.List.{take_all}
 use Rattle.llvm_core.specs.Checked.{named, block_names}
-use Rattle.llvm_core.proofs.ListLemmas.{gathered_next}
+use Rattle.support.proofs.ListLaws.{gathered_next}
 use Rattle.llvm_core.proofs.LocalLemmas.{locals_named}
 use Rattle.llvm_core.proofs.names.push_locals.Goals as goal
 

@@ -1,6 +1,6 @@
 -- The goals of `phis::fits_edges` that the tactics leave.
-use Rattle.llvm_core.specs.Checked.{sources}
 use Rattle.llvm_core.specs.Keys.{same_text}
+use Rattle.llvm_core.specs.Checked.{sources}
 use Rattle.llvm_core.proofs.SortLemmas.{same_sorted, same_counts}
 use Rattle.llvm_core.proofs.phis.fits_edges.Goals as goal
 

@@ -1,6 +1,6 @@
 -- The goals of `phis::sorted_sources` at its loop and at its end.
 use Rattle.std.proofs.lemmas.List.{take_all}
-use Rattle.llvm_core.proofs.ListLemmas.{mapped_next}
+use Rattle.support.proofs.ListLaws.{mapped_next}
 use Rattle.llvm_core.proofs.phis.sorted_sources.Goals as goal
 
 pub loop-entry-preserved : goal.loop-entry-preserved

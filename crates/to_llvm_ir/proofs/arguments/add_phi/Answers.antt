@@ -1,5 +1,6 @@
 -- The phi stands for the argument.
 use Rattle.std.proofs.Common.{◌∙◌, ℕ, sym, subst, ap}
+use Rattle.support.proofs.ResultLaws.{both}
 use Rattle.llvm_core.specs.Module.{Module}
 use Rattle.llvm_core.specs.Parts.{IsBlock}
 use Rattle.llvm_core.specs.declared.code.LLVMValue.TheVariants as V
@@ -8,7 +9,6 @@ use Rattle.dialect_types.specs.Trees.{type_at, type_trees}
 use Rattle.dialect_core.specs.declared.ops.Value.TheVariants.{Argument}
 use Rattle.to_llvm_ir.specs.States.{found}
 use Rattle.to_llvm_ir.proofs.ValueLaws.{IsSet}
-use Rattle.to_llvm_ir.proofs.ResultLaws.{both}
 use Rattle.to_llvm_ir.proofs.ArgumentLaws.{phi_more}
 use Rattle.to_llvm_ir.proofs.arguments.add_phi.Goals as goal
 

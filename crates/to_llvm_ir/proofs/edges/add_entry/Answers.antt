@@ -1,12 +1,12 @@
 -- The phi of the argument is there, and has the entry last.
 use Rattle.std.proofs.Common.{◌≡◌, ◌∙◌, Some, sym, ap, subst}
 use Rattle.std.proofs.lemmas.Option.{same_Some, none-some}
+use Rattle.support.proofs.ResultLaws.{both}
 use Rattle.llvm_core.specs.declared.code.LLVMValue.{LLVMValue}
 use Rattle.llvm_core.specs.declared.code.LLVMValue.TheVariants as V
 use Rattle.llvm_core.specs.declared.numbers.LLVMInstRef.{LLVMInstRef}
 use Rattle.llvm_core.specs.Parts.{IsPhi, IsValue}
 use Rattle.to_llvm_ir.proofs.OpLaws.{typed_there}
-use Rattle.to_llvm_ir.proofs.ResultLaws.{both}
 use Rattle.to_llvm_ir.proofs.EntryLaws.{argument_phi, value_known, entry_done}
 use Rattle.to_llvm_ir.proofs.edges.add_entry.Goals as goal
 

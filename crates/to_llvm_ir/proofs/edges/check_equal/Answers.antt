@@ -1,11 +1,12 @@
 -- Two edges to one block are told apart by what they pass.
 use Rattle.std.proofs.Common.{◌≡◌, nat_lt, ltb-true, lt-ltb, List, length, slice_get, true, false, sym, ap, subst, ◌∙◌, arith, Some, eqb-true, eq-eqb}
 use Rattle.std.proofs.lemmas.Option.{slice_get-get_or}
+use Rattle.dialect_core.proofs.TestLemmas.{same_block}
 use Rattle.dialect_core.specs.declared.ops.Successor.{Successor}
 use Rattle.dialect_core.specs.ContextData.{IsSuccessorWithin}
 use Rattle.to_llvm_ir.specs.Causes.{IsFuncCause}
 use Rattle.to_llvm_ir.proofs.ResultLaws.{passed}
-use Rattle.to_llvm_ir.proofs.SuccessorLaws.{other_edge, equal_one, equal_two, values_differ, values_same, block_of}
+use Rattle.to_llvm_ir.proofs.SuccessorLaws.{other_edge, equal_one, equal_two, values_differ, values_same}
 use Rattle.to_llvm_ir.proofs.edges.check_equal.Goals.{then-edges-lt2, in-len2+else-eq, else-eq-via-then-eq+else-ne, else-eq-via-else-eq, else-edges-lt2+else-edges-lt3}
 use Rattle.to_llvm_ir.proofs.edges.check_equal.Goals as goal
 
@@ -14,7 +15,7 @@ returns-then-ne-clause-cause c = λ s op spot are mapped from.
     let len = c.in-len2.len_at_least in
     other_edge c.args.ctx.now op s c.args.blocks.now c.args.edges.now c.first-item.result c.second-item.result c.args.from.place c.in_ok-target.target spot are mapped from
     (slice_get-get_or c.args.edges.now 0 c.first-item.result (omega (arith, len)) ∙ ap Some (sym c.first-item.is)) (slice_get-get_or c.args.edges.now 1 c.second-item.result (omega (arith, len)) ∙ ap Some (sym c.second-item.is))
-    (block_of c.first-item.result.block c.second-item.result.block (eqb-true c.first-item.result.block.0 c.second-item.result.block.0 (sym c.if-eq.ensures)))
+    (same_block c.first-item.result.block c.second-item.result.block (eqb-true c.first-item.result.block.0 c.second-item.result.block.0 (sym c.if-eq.ensures)))
     (λ e. values_differ c.as_slice.result.now c.as_slice-then-eq.result.now c.if-ne.ensures (c.as_slice.ensures ∙ e ∙ sym c.as_slice-then-eq.ensures))
     c.in_ok-target.ensures.ok
 

@@ -1,6 +1,7 @@
 -- First the blocks, then what they hold, then the edges between them.
 use Rattle.std.proofs.Common.{◌≡◌, ◌<◌, ◌∙◌, ◌^◌, Some, length, sym, ap, subst, arith}
 use Rattle.std.specs.Prelude.{IfErr, OnOk}
+use Rattle.support.proofs.ResultLaws.{both}
 use Rattle.llvm_core.specs.Module.{Module}
 use Rattle.llvm_core.specs.Data as L
 use Rattle.dialect_types.specs.Trees.{type_trees}
@@ -11,7 +12,7 @@ use Rattle.to_llvm_ir.specs.Bodies.{IsBlocksBegun}
 use Rattle.to_llvm_ir.specs.Functions.{AddsFunction}
 use Rattle.to_llvm_ir.specs.Opening.{AreBlocks}
 use Rattle.to_llvm_ir.specs.States.{Task, IsTask}
-use Rattle.to_llvm_ir.proofs.ResultLaws.{both, passed}
+use Rattle.to_llvm_ir.proofs.ResultLaws.{passed}
 use Rattle.to_llvm_ir.proofs.FinishLaws.{are_blocks, blocks_of_func, count_is, accepted, finished}
 use Rattle.to_llvm_ir.proofs.exporting.convert_func.Goals as goal
 

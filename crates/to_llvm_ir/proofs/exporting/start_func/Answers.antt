@@ -2,13 +2,13 @@
 use Rattle.std.proofs.Common.{◌≡◌, ◌∙◌, ◌<◌, length, sym, ap, subst}
 use Rattle.std.specs.Option.{option_map}
 use Rattle.std.proofs.lemmas.Option.{same_Some}
+use Rattle.support.proofs.ResultLaws.{all_three}
 use Rattle.dialect_types.specs.declared.types.TypeHandle.{TypeHandle}
 use Rattle.dialect_types.specs.Trees.{type_at, type_trees}
 use Rattle.dialect_core.specs.declared.ops.Symbol.{Symbol}
 use Rattle.meaning.specs.Dialect.{type_of}
 use Rattle.to_llvm_ir.specs.Growth.{IsFormType, IsTypeOf}
 use Rattle.to_llvm_ir.proofs.ContextLaws.{func_parts}
-use Rattle.to_llvm_ir.proofs.ResultLaws.{all_three}
 use Rattle.to_llvm_ir.proofs.StartedLaws.{started}
 use Rattle.to_llvm_ir.proofs.exporting.start_func.Goals as goal
 

@@ -1,8 +1,8 @@
 -- The constant has the value and the type of the operation's.
+use Rattle.support.proofs.ResultLaws.{both}
 use Rattle.dialect_types.specs.Trees.{type_at, type_trees}
 use Rattle.to_llvm_ir.proofs.TypeLaws.{short_result}
 use Rattle.to_llvm_ir.proofs.OpLaws.{constant_parts, constant_type_there, constant_fits}
-use Rattle.to_llvm_ir.proofs.ResultLaws.{both}
 use Rattle.to_llvm_ir.proofs.StepLaws.{constant_done}
 use Rattle.to_llvm_ir.proofs.operations.convert_constant.Goals as goal
 

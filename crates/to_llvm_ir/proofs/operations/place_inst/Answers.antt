@@ -14,8 +14,8 @@ use Rattle.to_llvm_ir.specs.Exported.{value_name, result_name}
 use Rattle.to_llvm_ir.specs.Made.{number_behind}
 use Rattle.to_llvm_ir.specs.States.{first_at}
 use Rattle.std.proofs.lemmas.Result.{on_ok_weaker}
+use Rattle.support.proofs.ResultLaws.{both}
 use Rattle.to_llvm_ir.proofs.OpLaws.{spot_form, spot_parts, result_is, name_is}
-use Rattle.to_llvm_ir.proofs.ResultLaws.{both}
 use Rattle.to_llvm_ir.proofs.StepLaws.{void_placed, typed_placed}
 use Rattle.to_llvm_ir.proofs.operations.place_inst.Goals as goal
 

@@ -1,13 +1,13 @@
 -- One argument more.
 use Rattle.std.proofs.Common.{◌≡◌, ◌∙◌, ◌+◌, ◌++◌, ◌∷◌, [], ℕ, suc, List, length, sym, subst, ap, arith, append_assoc}
 use Rattle.std.proofs.lemmas.List.{append-nil}
+use Rattle.support.proofs.ListLaws.{item_there}
 use Rattle.dialect_core.specs.declared.ops.Value.{Value}
 use Rattle.dialect_core.specs.declared.ops.Value.TheVariants.{Argument}
 use Rattle.dialect_core.specs.Data.{DialectBlock}
 use Rattle.to_llvm_ir.specs.Exported.{arguments_of}
 use Rattle.to_llvm_ir.specs.States.{upto}
 use Rattle.to_llvm_ir.specs.Ordering.{AreSeen}
-use Rattle.to_llvm_ir.proofs.ListLaws.{item_there}
 use Rattle.to_llvm_ir.proofs.ContextLaws.{block_parts, args_count}
 use Rattle.to_llvm_ir.proofs.ArgumentLaws.{arguments_more, whole}
 use Rattle.to_llvm_ir.proofs.OrderingLaws.{seen_more}

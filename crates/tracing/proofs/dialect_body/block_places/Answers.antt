@@ -3,7 +3,7 @@ use Rattle.std.proofs.Common.{subst, sym, ap, map, ◌∙◌}
 use Rattle.std.proofs.lemmas.List.{take_all}
 use Rattle.std.proofs.lemmas.Result.{IfOk-weaker}
 use Rattle.dialect_core.specs.declared.numbers.BlockRef.{BlockRef}
-use Rattle.llvm_core.specs.Interned.{IsDistinctList}
+use Rattle.support.specs.Interned.{IsDistinctList}
 use Rattle.tracing.proofs.ListLaws.{listed_more}
 use Rattle.tracing.proofs.DialectBlockLaws.{some_ref}
 use Rattle.tracing.proofs.dialect_body.block_places.Goals as goal

@@ -1,6 +1,6 @@
 -- What `dialect_body::dialect_body` owes besides what the check finds.
 use Rattle.std.proofs.Common.{subst, sym}
-use Rattle.llvm_core.specs.Interned.{IsDistinctList}
+use Rattle.support.specs.Interned.{IsDistinctList}
 use Rattle.tracing.proofs.DialectBlockLaws.{blocks_are, numbers_are, numbers_apart, start_is, some_ref}
 use Rattle.tracing.proofs.dialect_body.dialect_body.Goals as goal
 

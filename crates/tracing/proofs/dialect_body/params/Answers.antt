@@ -1,9 +1,10 @@
 -- What `dialect_body::params` owes besides what the check finds.
 use Rattle.std.proofs.Common.{◌++◌, ◌∷◌, [], ap, sym, map, take, ◌∙◌, List}
 use Rattle.std.proofs.lemmas.List.{map-append}
+use Rattle.support.proofs.ListLaws.{take_next}
 use Rattle.tracing.specs.declared.body.Slot.{Slot}
 use Rattle.tracing.specs.DialectEdges.{IsBlockIn, inputs_of}
-use Rattle.tracing.proofs.ListLaws.{matched_at, take_whole, take_next}
+use Rattle.tracing.proofs.ListLaws.{matched_at, take_whole}
 use Rattle.tracing.proofs.DialectBlockLaws.{some_ref}
 use Rattle.tracing.proofs.dialect_body.params.Goals as goal
 

@@ -3,7 +3,7 @@ use Rattle.std.proofs.Common.{subst, sym, ap, map, ◌∙◌}
 use Rattle.std.proofs.lemmas.List.{take_all}
 use Rattle.std.proofs.lemmas.Result.{IfOk-weaker}
 use Rattle.llvm_core.specs.declared.numbers.LLVMBasicBlock.{LLVMBasicBlock}
-use Rattle.llvm_core.specs.Interned.{IsDistinctList}
+use Rattle.support.specs.Interned.{IsDistinctList}
 use Rattle.tracing.proofs.ListLaws.{listed_more}
 use Rattle.tracing.proofs.IndexLaws.{some_block}
 use Rattle.tracing.proofs.llvm_index.block_places.Goals as goal

@@ -1,6 +1,6 @@
 -- What `llvm_index::index_of` owes besides what the check finds.
 use Rattle.std.proofs.Common.{subst, sym, ◌∙◌}
-use Rattle.llvm_core.specs.Interned.{IsDistinctList}
+use Rattle.support.specs.Interned.{IsDistinctList}
 use Rattle.llvm_core.proofs.DistinctLaws.{blocks_once}
 use Rattle.tracing.proofs.IndexLaws.{numbers_are}
 use Rattle.tracing.proofs.llvm_index.index_of.Goals as goal

@@ -1,9 +1,9 @@
 -- What `run::begin` owes besides what the check finds.
+use Rattle.support.proofs.ResultLaws.{handed_on}
 use Rattle.meaning.specs.Machine as M
 use Rattle.tracing.specs.declared.body.Slot.{Slot}
 use Rattle.tracing.specs.Bodies.{same_slot, start_of}
 use Rattle.tracing.specs.Runs.{IsAt}
-use Rattle.tracing.proofs.RunLaws.{handed_on}
 use Rattle.tracing.proofs.run.begin.Goals as goal
 
 pub returns : goal.returns

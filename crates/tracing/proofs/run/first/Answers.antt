@@ -1,12 +1,12 @@
 -- What `run::first` owes besides what the check finds.
 use Rattle.std.proofs.Common.{List, slice_get, subst, sym, ap, ◌∙◌}
+use Rattle.support.proofs.ResultLaws.{handed_on}
 use Rattle.tracing.specs.declared.body.Block.{Block}
 use Rattle.meaning.specs.Machine as M
 use Rattle.tracing.specs.declared.body.Slot.{Slot}
 use Rattle.tracing.specs.Bodies.{same_slot, start_of, code_of}
 use Rattle.tracing.specs.Runs.{IsAt}
 use Rattle.tracing.proofs.MoveLaws.{first_is}
-use Rattle.tracing.proofs.RunLaws.{handed_on}
 use Rattle.tracing.proofs.run.first.Goals as goal
 
 pub returns-in-Some : goal.returns-in-Some

@@ -1,13 +1,13 @@
 -- What `run::read` owes besides what the check finds.
 use Rattle.std.proofs.lemmas.Result.{IfOk-weaker}
-use Rattle.tracing.proofs.RunLaws.{from_both}
+use Rattle.support.proofs.ResultLaws.{both}
 use Rattle.tracing.proofs.run.read.Goals as goal
 
 pub returns-in-At-clause-at : goal.returns-in-At-clause-at
 returns-in-At-clause-at c = IfOk-weaker c.read_slot.result _ _ (λ k f s h. rw c.in-At.is (f s h)) c.read_slot.ensures.at
 
 pub returns-in-Int-clause-at : goal.returns-in-Int-clause-at
-returns-in-Int-clause-at c = from_both c.intern.result _ _ _ (λ k at named s h. (at s h, rw c.in-Int.is named)) c.intern.ensures.at c.intern.ensures.named
+returns-in-Int-clause-at c = both c.intern.result c.intern.ensures.at c.intern.ensures.named (λ k at named s h. (at s h, rw c.in-Int.is named))
 
 pub returns-in-Unset-clause-at : goal.returns-in-Unset-clause-at
-returns-in-Unset-clause-at c = from_both c.intern-in-Unset.result _ _ _ (λ k at named s h. (at s h, rw c.in-Unset.is named)) c.intern-in-Unset.ensures.at c.intern-in-Unset.ensures.named
+returns-in-Unset-clause-at c = both c.intern-in-Unset.result c.intern-in-Unset.ensures.at c.intern-in-Unset.ensures.named (λ k at named s h. (at s h, rw c.in-Unset.is named))

@@ -1,10 +1,10 @@
 -- What `run::read_given` owes besides what the check finds.
 use Rattle.std.proofs.lemmas.Result.{IfOk-weaker}
-use Rattle.tracing.proofs.RunLaws.{from_both}
+use Rattle.support.proofs.ResultLaws.{both}
 use Rattle.tracing.proofs.run.read_given.Goals as goal
 
 pub returns-in-Some-clause-at : goal.returns-in-Some-clause-at
 returns-in-Some-clause-at c = IfOk-weaker c.read.result _ _ (λ k f s h. rw c.in-Some.is (f s h)) c.read.ensures.at
 
 pub returns-in-None-clause-at : goal.returns-in-None-clause-at
-returns-in-None-clause-at c = from_both c.intern.result _ _ _ (λ k at named s h. (at s h, rw c.in-None.is named)) c.intern.ensures.at c.intern.ensures.named
+returns-in-None-clause-at c = both c.intern.result c.intern.ensures.at c.intern.ensures.named (λ k at named s h. (at s h, rw c.in-None.is named))

@@ -1,7 +1,7 @@
 -- What `context::Context::add` owes besides what the check finds.
 use Rattle.dialect_core.proofs.ContextLemmas.{context, new_free, add_op_kept, op_view}
-use Rattle.dialect_core.proofs.ResultLemmas.{on_err}
 use Rattle.std.proofs.Common.{sym, subst, ap, refl, length, ◌∙◌}
+use Rattle.support.proofs.ResultLaws.{on_err}
 use Rattle.dialect_core.specs.Data.{data_of, IsTyped}
 use Rattle.dialect_core.specs.ContextData.{ContextData, region_at, holder_at}
 use Rattle.dialect_core.proofs.RegionLemmas.{same_regions, push_region}

@@ -1,11 +1,11 @@
 -- What `context::Context::add_block` owes besides what the check finds.
 use Rattle.std.proofs.Common.{◌≡◌, ℕ, List, get_or, set, sym, subst, ap, refl, ◌∙◌, arith}
 use Rattle.std.proofs.lemmas.List.{set-get_or}
+use Rattle.support.proofs.ResultLaws.{on_err}
 use Rattle.dialect_core.specs.declared.numbers.BlockRef.{BlockRef}
 use Rattle.dialect_core.specs.declared.ops.OpData.{OpData}
 use Rattle.dialect_core.specs.Lists.{Lists, list_at}
 use Rattle.dialect_core.proofs.ContextLemmas.{context, holder_there, region_kept, block_view}
-use Rattle.dialect_core.proofs.ResultLemmas.{on_err}
 use Rattle.dialect_core.specs.Data.{data_of, IsTyped}
 use Rattle.dialect_core.specs.ContextData.{ContextData}
 use Rattle.dialect_core.proofs.NewBlockLemmas.{last_list, new_block_data}

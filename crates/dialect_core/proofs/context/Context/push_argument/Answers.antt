@@ -4,9 +4,9 @@ use Rattle.std.proofs.lemmas.List.{set-get_or}
 use Rattle.dialect_types.specs.declared.types.TypeHandle.{TypeHandle}
 use Rattle.std.proofs.lemmas.Option.{slice_get-get_or}
 use Rattle.std.specs.Option.{option_map}
+use Rattle.support.proofs.ResultLaws.{on_err}
 use Rattle.dialect_core.specs.declared.ops.BlockData.{BlockData}
 use Rattle.dialect_core.proofs.ContextLemmas.{context, set_block_kept, block_holder_within, argument_view}
-use Rattle.dialect_core.proofs.ResultLemmas.{on_err}
 use Rattle.dialect_core.specs.Data.{data_of, IsTyped}
 use Rattle.dialect_core.specs.ContextData.{ContextData, region_at, holder_at}
 use Rattle.dialect_core.proofs.RegionLemmas.{same_regions, set_holder}

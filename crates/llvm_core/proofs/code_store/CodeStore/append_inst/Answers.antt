@@ -1,4 +1,4 @@
--- The dearest goals of `code_store::CodeStore::append_inst`: what stands after its last call.
+-- What `code_store::CodeStore::append_inst` owes: the code with the instruction, or as it was where a list could not grow.
 use Rattle.std.proofs.lemmas.Result.{err_from_is_err_and}
 use Rattle.llvm_core.specs.contracts.code_store.CodeStore.{the_view}
 use Rattle.llvm_core.proofs.StoreLemmas.{inst_appended, inst_refused}

@@ -1,12 +1,11 @@
 -- The goals of `module::LLVMModule::add_function` that the tactics leave.
 use Rattle.llvm_core.proofs.SoundLemmas.{function_added, declared_in}
 use Rattle.std.proofs.Common.{◌≡◌, IsTrue, map, [], ap, sym, subst, ◌∙◌, refl}
-use Rattle.std.proofs.lemmas.Option.{slice_get_within}
+use Rattle.std.proofs.lemmas.Option.{slice_get_within, same_Some}
 use Rattle.std.specs.Option.{option_map_or}
 use Rattle.llvm_core.specs.Code.{code_of, with_code, with_function}
 use Rattle.llvm_core.specs.Parts.{is_function, kind_params, type_params}
 use Rattle.llvm_core.specs.contracts.module.LLVMModule.{the_view}
-use Rattle.llvm_core.proofs.ListLemmas.{some_same}
 use Rattle.llvm_core.proofs.CallLemmas.{function_data}
 use Rattle.llvm_core.proofs.module.LLVMModule.add_function.Goals as goal
 use Rattle.llvm_core.proofs.module.LLVMModule.add_function.Goals.{In_ok-f}
@@ -52,4 +51,4 @@ value-requires c =
 pub params_of-requires : goal.params_of-requires
 params_of-requires c =
     let typed = rw (← c.self.view_is) at c.requires in
-    subst (λ k. IsTrue (is_function k)) (some_same typed.0 c.value.result.now (sym typed.1 ∙ c.value.ensures)) typed.2
+    subst (λ k. IsTrue (is_function k)) (same_Some typed.0 c.value.result.now (sym typed.1 ∙ c.value.ensures)) typed.2

@@ -2,7 +2,7 @@
 
 ghost use Rattle.std.specs.Prelude.{◌≡◌, ◌<◌, ◌^◌, ℕ, [], length, slice_get, Some, IfOk, OnErr};
 ghost use Rattle.std.specs.List.{IsDistinct};
-ghost use Rattle.llvm_core.specs.Interned.{InternedBy};
+ghost use Rattle.support.specs.Interned.{InternedBy};
 
 use indexmap::IndexSet;
 use std::alloc::{AllocError, Global};

@@ -1,5 +1,5 @@
 -- What `interner::Interner::get` answers, by what its set does.
-use Rattle.llvm_core.proofs.interner.Interner.get.Goals as goal
+use Rattle.support.proofs.interner.Interner.get.Goals as goal
 
 pub returns-clause-interned : goal.returns-clause-interned
 returns-clause-interned g c =

@@ -1,0 +1,5 @@
+-- The definitions that contracts cite.
+pub mod Interned
+pub mod Options
+pub mod Changes
+pub mod Maps
