@@ -1,20 +1,21 @@
 -- A well-formed function of its own values that is narrow is of the form.
-use Rattle.std.proofs.Common.{◌≡◌, ℕ, nat_eq, Bool, false, List, [], ◌∷◌, Option, Some, None, All, length, slice_get, ap, sym, subst, ◌∙◌, refl, arith}
+use Rattle.std.proofs.Common.{◌≡◌, nat_eq, Bool, false, List, [], ◌∷◌, Option, Some, None, All, slice_get, ap, subst, ◌∙◌, refl}
 use Rattle.std.specs.Prelude.{IfSome}
 use Rattle.std.specs.List.{find}
 use Rattle.std.specs.Option.{option_and_then}
 use Rattle.std.proofs.lemmas.Option.{none-some, same_Some}
 use Rattle.support.proofs.ListLaws.{all_from}
-use Rattle.dialect_types.specs.Trees.{TypeTree, VoidType, IntegerType, FuncType, TypeTrees, IntegerAttr}
+use Rattle.dialect_types.specs.Trees.{TypeTree, VoidType, IntType, FunctionType, TypeTrees}
 use Rattle.dialect_core.specs.declared.ops.Value.{Value}
 use Rattle.dialect_core.specs.declared.ops.Value.TheVariants.{Result, Argument}
 use Rattle.dialect_core.specs.declared.ops.Successor.{Successor}
-use Rattle.dialect_core.specs.Data.{Kind, ConstantOp, AddOp, ICmpOp, BrOp, CondBrOp, ReturnOp, UnreachableOp, DialectOp, DialectBlock, Func, ops_in, value_type}
-use Rattle.dialect_core.specs.Form.{IsShortInt, IsShortResult, IsOperand, IsFormEdge, IsFormKind, IsFormOp, IsFormBlock, IsFormFunc, Leads, Returns, result_of, types_list}
-use Rattle.dialect_core.specs.WellFormed.{AreEdges, IsEdge, IsOfKind, IsWellFormedOp, IsWellFormedBlock, IsWellFormedFunc, IsNarrowOp, IsNarrowBlock, IsNarrowFunc, IsNarrowSignature, Returned, IsTypedBy, params_of}
+use Rattle.dialect_core.specs.Data.{DialectOp, DialectBlock, Func, ops_in, value_type}
+use Rattle.dialect_core.specs.Form.{IsShortInt, IsShortResult, IsShortValue, IsFormOp, IsFormBlock, IsFormFunc, types_list}
+use Rattle.dialect_core.specs.WellFormed.{IsEdge, IsWellFormedOp, IsWellFormedBlock, IsWellFormedFunc, IsNarrowOp, IsNarrowBlock, IsNarrowFunc, IsNarrowSignature, IsTypedBy, params_of}
 use Rattle.dialect_core.proofs.HoldLemmas.{flat_stands}
 use Rattle.dialect_core.proofs.FuncLemmas.{find_there}
 use Rattle.dialect_core.proofs.LineLemmas.{all_at}
+use Rattle.dialect_core.proofs.RuleLemmas.{kind_edges, kind_operands}
 
 short_of : (o : Option TypeTree) (t : TypeTree) → IfSome o IsShortInt → o ≡ Some t → IsShortInt t
 short_of None t h e = absurd (none-some t e)
@@ -39,41 +40,26 @@ module _ (g : Func) (narrow : All IsNarrowBlock g.blocks) where
           let w = find_there (λ (x : DialectBlock). nat_eq x.number b.0) g.blocks x is in
           all_at IsShortInt x.args (all_at IsNarrowBlock g.blocks narrow w.0 x w.1).args i t e
 
-  operand : (t : TypeTree) (v : Value) → value_type g v ≡ Some t → IsOperand g t v
-  operand t v h = record { typed = h; short = short v t h }
+  -- and so is each value that there is
+  typed_short : (vs : List Value) → All (IsTypedBy (value_type g)) vs → All (IsShortValue g) vs
+  typed_short vs h = all_from (IsShortValue g) vs (λ k v at. let w = all_at (IsTypedBy (value_type g)) vs h k v at in (w.0, record { typed = w.1; short = short v w.0 w.1 }))
 
-  edge : (s : Successor) → IsEdge (value_type g) g s → IsFormEdge g s
-  edge s e = record {
-    no_entry = e.no_entry;
-    args = all_from (λ (v : Value). (type : TypeTree) × IsOperand g type v) s.args (λ k v at. let w = all_at (IsTypedBy (value_type g)) s.args e.args k v at in (w.0, operand w.0 v w.1));
-    typed = e.typed;
-  }
-
-  leads : (o : DialectOp) (n : ℕ) → o.result ≡ None → AreEdges (value_type g) g n o.successors → Leads g o n
-  leads o n own e = record { result = own; count_is = e.0; edges = all_from (IsFormEdge g) o.successors (λ k s at. edge s (all_at (IsEdge (value_type g) g) o.successors e.1 k s at)) }
-
-  no_edges : (o : DialectOp) → o.result ≡ None → o.successors ≡ [] → Leads g o 0
-  no_edges o own e = record { result = own; count_is = ap length e; edges = let P : List Successor → Type 0 = All (IsFormEdge g) in subst P (sym e) (λ k d l. absurd (omega arith)) }
-
-  returned : (t : TypeTree) (vs : List Value) → Returned (value_type g) t vs → Returns g t vs
-  returned VoidType vs h = let P : List Value → Type 0 = Returns g VoidType in subst P (sym h) tt
-  returned (IntegerType w) vs h = let P : List Value → Type 0 = Returns g (IntegerType w) in subst P (sym h.1) (operand (IntegerType w) h.0 h.2)
-  returned (FuncType r ps v) vs h = let P : List Value → Type 0 = Returns g (FuncType r ps v) in subst P (sym h.1) (operand (FuncType r ps v) h.0 h.2)
-
-  kind : (o : DialectOp) (k : Kind) → IfSome o.result IsShortInt → IsOfKind (value_type g) g o.operands o.result o.successors k → IsFormKind g o k
-  kind o (ConstantOp (IntegerAttr t v)) s h = (h.0, h.1, h.3, h.4, h.2)
-  kind o (AddOp flags) s h = (h.0, h.1.lhs, h.1.rhs, h.1.are, h.3, h.2, operand h.0 h.1.lhs h.1.left, operand h.0 h.1.rhs h.1.right)
-  kind o (ICmpOp p) s h = (h.0.0, h.0.1.lhs, h.0.1.rhs, h.0.1.are, h.2, h.1, operand h.0.0 h.0.1.lhs h.0.1.left, operand h.0.0 h.0.1.rhs h.0.1.right)
-  kind o BrOp s h = (h.0, leads o 1 h.1 h.2)
-  kind o CondBrOp s h = (h.0.0, h.0.1, operand (IntegerType 1) h.0.0 h.0.2, leads o 2 h.1 h.2)
-  kind o ReturnOp s h = (returned (result_of g.type) o.operands h.0, no_edges o h.1 h.2)
-  kind o UnreachableOp s h = (h.0, no_edges o h.1 h.2)
+  form_op : (o : DialectOp) → IsWellFormedOp (value_type g) g o → IsNarrowOp o → IsFormOp g o
+  form_op o w n =
+      let edges = kind_edges (value_type g) g o.operands o.result o.successors o.kind w in
+      record {
+        kind = w;
+        operands = typed_short o.operands (kind_operands (value_type g) g o.operands o.result o.successors o.kind w);
+        passed = all_from (λ (s : Successor). All (IsShortValue g) s.args) o.successors (λ k s at. typed_short s.args (all_at (IsEdge (value_type g) g) o.successors edges k s at).args);
+        result = n.result;
+        name = n.name;
+      }
 
   form_block : (b : DialectBlock) → IsWellFormedBlock (value_type g) g b → IsNarrowBlock b → IsFormBlock g b
   form_block b w n = record {
     label = n.label;
     args = n.args;
-    ops = all_from (IsFormOp g) b.ops (λ k o at. let m = all_at IsNarrowOp b.ops n.ops k o at in record { kind = kind o o.kind m.result (all_at (IsWellFormedOp (value_type g) g) b.ops w.ops k o at); name = m.name });
+    ops = all_from (IsFormOp g) b.ops (λ k o at. form_op o (all_at (IsWellFormedOp (value_type g) g) b.ops w.ops k o at) (all_at IsNarrowOp b.ops n.ops k o at));
     ends = w.ends;
   }
 
@@ -81,14 +67,14 @@ module _ (g : Func) (narrow : All IsNarrowBlock g.blocks) where
 pub record Narrow (t : TypeTree) : Type 0 where
   pub result : TypeTree
   pub types : TypeTrees
-  pub is : t ≡ FuncType result types false
+  pub is : t ≡ FunctionType result types false
   pub returns : IsShortResult result
   pub takes : All IsShortInt (types_list types)
 
 narrow_parts : (t : TypeTree) → IsNarrowSignature t → Narrow t
 narrow_parts VoidType h = absurd h
-narrow_parts (IntegerType w) h = absurd h
-narrow_parts (FuncType r ps v) h = record { result = r; types = ps; is = ap (λ (v : Bool). FuncType r ps v) h.2; returns = h.0; takes = h.1 }
+narrow_parts (IntType w) h = absurd h
+narrow_parts (FunctionType r ps v) h = record { result = r; types = ps; is = ap (λ (v : Bool). FunctionType r ps v) h.2; returns = h.0; takes = h.1 }
 
 -- the first block, and the others
 pub record Body (bs : List DialectBlock) : Type 0 where

@@ -15,6 +15,7 @@ pub mod TypeLemmas
 pub mod TypeTestLemmas
 pub mod TypedLemmas
 pub mod LineLemmas
+pub mod RuleLemmas
 pub mod ReadLemmas
 pub mod RegionLemmas
 pub mod AppendLemmas

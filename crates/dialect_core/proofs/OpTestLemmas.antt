@@ -1,12 +1,12 @@
 -- What tests of operations find.
-use Rattle.std.proofs.Common.{◌≡◌, ◌<◌, ℕ, Bool, List, [], Option, Some, None, length, slice_get, ap, sym, subst, ◌∙◌, refl, arith}
+use Rattle.std.proofs.Common.{◌≡◌, ◌<◌, ℕ, Bool, List, Option, Some, None, length, slice_get, ap, sym, subst, ◌∙◌, refl, arith}
 use Rattle.std.specs.Prelude.{IsTrue, ◌↔◌}
 use Rattle.std.specs.Option.{option_map, option_map_or, option_and_then}
 use Rattle.std.proofs.lemmas.Option.{none-some, same_Some}
 use Rattle.dialect_types.specs.declared.types.TypeHandle.{TypeHandle}
 use Rattle.dialect_types.specs.declared.types.TypeKind.{TypeKind}
 use Rattle.dialect_types.specs.declared.types.TypeKind.TheVariants as T
-use Rattle.dialect_types.specs.Trees.{TypeTree, VoidType, type_tree, type_trees, HasPartsBelow}
+use Rattle.dialect_types.specs.Trees.{VoidType, type_tree, type_trees, HasPartsBelow}
 use Rattle.dialect_core.specs.declared.numbers.OpRef.{OpRef}
 use Rattle.dialect_core.specs.declared.ops.Value.{Value}
 use Rattle.dialect_core.specs.declared.ops.Successor.{Successor}
@@ -16,7 +16,7 @@ use Rattle.dialect_core.specs.declared.ops.OpData.{OpData}
 use Rattle.dialect_core.specs.ContextData.{ContextData, symbol_at}
 use Rattle.dialect_core.specs.Data.{Kind, DialectOp, Func, kind_of, op_of, op_at, IsTyped, HasKindTypesBelow, type_in}
 use Rattle.dialect_core.specs.Form.{result_of}
-use Rattle.dialect_core.specs.WellFormed.{IsOfKind, IsWellFormedOp, Returned}
+use Rattle.dialect_core.specs.WellFormed.{IsOfKind, IsWellFormedOp}
 use Rattle.dialect_core.specs.Checking.{IsKindAt, IsOpAt, func_at, tree_at}
 
 -- ---- kinds
@@ -83,20 +83,14 @@ type_is c f t h = by (symbol_at c.ops f) h
 pub func_type : (c : ContextData) (f : OpRef) (t : TypeHandle) → option_map (λ (s : Symbol). s.ty) (symbol_at c.ops f) ≡ Some t → (func_at c f).type ≡ tree_at c t
 func_type = type_is
 
-pub func_returns : (c : ContextData) (f : OpRef) (t : TypeHandle) (k : TypeKind) (r : TypeHandle) (ps : List TypeHandle) (v : Bool) (operands : List Value) (answer : Bool) → option_map (λ (s : Symbol). s.ty) (symbol_at c.ops f) ≡ Some t → k ≡ T.Func r ps v → tree_at c t ≡ type_tree (type_trees c.types) k
-    → (IsTrue answer ↔ Returned (type_in c) (tree_at c r) operands) → IsTrue answer ↔ Returned (type_in c) (result_of (func_at c f).type) operands
-func_returns c f t k r ps v operands answer symbol is tree h =
-    let e : tree_at c r ≡ result_of (func_at c f).type = sym (ap result_of (type_is c f t symbol ∙ tree ∙ ap (type_tree (type_trees c.types)) is)) in
-    let P : TypeTree → Type 0 = λ x. IsTrue answer ↔ Returned (type_in c) x operands in
-    subst P e h
+pub func_returns : (c : ContextData) (f : OpRef) (t : TypeHandle) (k : TypeKind) (r : TypeHandle) (ps : List TypeHandle) (v : Bool) → option_map (λ (s : Symbol). s.ty) (symbol_at c.ops f) ≡ Some t → k ≡ T.Func r ps v → tree_at c t ≡ type_tree (type_trees c.types) k
+    → tree_at c r ≡ result_of (func_at c f).type
+func_returns c f t k r ps v symbol is tree = sym (ap result_of (type_is c f t symbol ∙ tree ∙ ap (type_tree (type_trees c.types)) is))
 
 -- a type that is no function type returns nothing
-pub func_void : (c : ContextData) (f : OpRef) (t : TypeHandle) (k : TypeKind) (operands : List Value) (answer : Bool) → option_map (λ (s : Symbol). s.ty) (symbol_at c.ops f) ≡ Some t → ((r : TypeHandle) (ps : List TypeHandle) (v : Bool) → k ≡ T.Func r ps v → ⊥) → tree_at c t ≡ type_tree (type_trees c.types) k
-    → (IsTrue answer ↔ operands ≡ []) → IsTrue answer ↔ Returned (type_in c) (result_of (func_at c f).type) operands
-func_void c f t k operands answer symbol other tree h =
-    let e : VoidType ≡ result_of (func_at c f).type = sym (ap result_of (type_is c f t symbol ∙ tree) ∙ by k other) in
-    let P : TypeTree → Type 0 = λ x. IsTrue answer ↔ Returned (type_in c) x operands in
-    subst P e h
+pub func_void : (c : ContextData) (f : OpRef) (t : TypeHandle) (k : TypeKind) → option_map (λ (s : Symbol). s.ty) (symbol_at c.ops f) ≡ Some t → ((r : TypeHandle) (ps : List TypeHandle) (v : Bool) → k ≡ T.Func r ps v → ⊥) → tree_at c t ≡ type_tree (type_trees c.types) k
+    → VoidType ≡ result_of (func_at c f).type
+func_void c f t k symbol other tree = sym (ap result_of (type_is c f t symbol ∙ tree) ∙ by k other)
   where
     by : (k : TypeKind) → ((r : TypeHandle) (ps : List TypeHandle) (v : Bool) → k ≡ T.Func r ps v → ⊥) → result_of (type_tree (type_trees c.types) k) ≡ VoidType
     by (T.Integer w) other = refl

@@ -1,40 +1,27 @@
 -- A module of well-formed functions, whose edges lead to blocks of their own functions, is well-formed.
-use Rattle.std.proofs.Common.{◌≡◌, ◌<◌, ◌≤◌, ℕ, List, [], Option, Some, None, All, length, slice_get, ap, sym, subst, ◌∙◌, refl, arith}
+use Rattle.std.proofs.Common.{◌≡◌, ◌<◌, ◌≤◌, ℕ, List, Option, Some, None, All, length, slice_get, ap, sym, ◌∙◌, refl}
 use Rattle.std.specs.List.{filter_map}
 use Rattle.std.specs.Option.{option_map, option_and_then}
 use Rattle.std.proofs.lemmas.Option.{none-some, same_Some, slice_get_within}
 use Rattle.support.proofs.ListLaws.{all_from}
-use Rattle.dialect_types.specs.Trees.{TypeTree, IntegerAttr, type_at, type_trees}
+use Rattle.dialect_types.specs.Trees.{TypeTree, type_at, type_trees}
 use Rattle.dialect_core.specs.declared.numbers.OpRef.{OpRef}
 use Rattle.dialect_core.specs.declared.numbers.BlockRef.{BlockRef}
-use Rattle.dialect_core.specs.declared.ops.Value.{Value}
 use Rattle.dialect_core.specs.declared.ops.Successor.{Successor}
 use Rattle.dialect_core.specs.declared.ops.OpKind.TheVariants as K
 use Rattle.dialect_core.specs.declared.ops.OpData.{OpData}
 use Rattle.dialect_core.specs.declared.ops.BlockData.{BlockData}
 use Rattle.dialect_core.specs.ContextData.{ContextData, AreRegions, IsSymbol, holder_at, kind_at, region_at}
-use Rattle.dialect_core.specs.Data.{Kind, ConstantOp, AddOp, ICmpOp, BrOp, CondBrOp, ReturnOp, UnreachableOp, DialectOp, DialectBlock, Func, kind_of, op_of, op_at, block_in, held, data_of, ops_in, type_in}
+use Rattle.dialect_core.specs.Data.{Kind, DialectOp, DialectBlock, Func, kind_of, op_of, op_at, block_in, held, data_of, ops_in, type_in}
 use Rattle.dialect_core.specs.Form.{FitsTarget, LeadsToOwn, edges_of}
-use Rattle.dialect_core.specs.WellFormed.{HasIntegerArgs, IsEdge, IsFew, IsFewFunc, IsFirst, IsOfKind, IsPastFirsts, IsPlainAt, IsWellFormed, IsWellFormedBlock, IsWellFormedFunc, IsWellFormedOp, HasNamesApart, Typing}
+use Rattle.dialect_core.specs.WellFormed.{HasIntegerArgs, IsEdge, IsFew, IsFewFunc, IsFirst, IsPastFirsts, IsPlainAt, IsWellFormed, IsWellFormedBlock, IsWellFormedFunc, IsWellFormedOp, HasNamesApart}
 use Rattle.dialect_core.specs.Checking.{block_at, func_at}
 use Rattle.dialect_core.proofs.HoldLemmas.{flat_stands, stands_flat}
 use Rattle.dialect_core.proofs.TestLemmas.{same_block}
 use Rattle.dialect_core.proofs.FuncLemmas.{blocks_are, block_number, ops_are}
 use Rattle.dialect_core.proofs.FuncTestLemmas.{block_data, func_there}
 use Rattle.dialect_core.proofs.LineLemmas.{all_at, plain_op, same_place, then_some}
-
-no_edges : (types : Typing) (g : Func) (ss : List Successor) → ss ≡ [] → All (IsEdge types g) ss
-no_edges types g ss e = let P : List Successor → Type 0 = All (IsEdge types g) in subst P (sym e) (λ k d l. absurd (omega arith))
-
--- the edges of a well-formed operation
-kind_edges : (types : Typing) (g : Func) (vs : List Value) (own : Option TypeTree) (ss : List Successor) (k : Kind) → IsOfKind types g vs own ss k → All (IsEdge types g) ss
-kind_edges types g vs own ss (ConstantOp (IntegerAttr t v)) h = no_edges types g ss h.4
-kind_edges types g vs own ss (AddOp flags) h = no_edges types g ss h.3
-kind_edges types g vs own ss (ICmpOp p) h = no_edges types g ss h.2
-kind_edges types g vs own ss BrOp h = λ k d l. h.2.1 k d l
-kind_edges types g vs own ss CondBrOp h = λ k d l. h.2.1 k d l
-kind_edges types g vs own ss ReturnOp h = no_edges types g ss h.2
-kind_edges types g vs own ss UnreachableOp h = no_edges types g ss h.2
+use Rattle.dialect_core.proofs.RuleLemmas.{kind_edges}
 
 -- the edges of an operation are those of its data
 op_edges : (ts : List TypeTree) (o : OpRef) (x : OpData) (d : DialectOp) → op_of ts o x ≡ Some d → d.successors ≡ x.successors

@@ -85,12 +85,7 @@ kind_still : (n m : ℕ) → n ≤ m → (k : OpKind) → HasKindTypesBelow n k 
 kind_still n m more K.Module h = tt
 kind_still n m more K.Func h = tt
 kind_still n m more (K.Constant (A.Integer t v)) h = omega arith
-kind_still n m more (K.Add flags) h = tt
-kind_still n m more (K.ICmp predicate) h = tt
-kind_still n m more K.Br h = tt
-kind_still n m more K.CondBr h = tt
-kind_still n m more K.Return h = tt
-kind_still n m more K.Unreachable h = tt
+kind_still n m more (K.Row op) h = tt
 
 pub more_types_typed : (c : ContextData) (types : List TypeKind) → IsTyped c → length c.types ≤ length types → IsTyped (with_types c types)
 more_types_typed c types h more = record {

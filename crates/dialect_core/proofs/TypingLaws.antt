@@ -1,12 +1,17 @@
 -- The types that a function gives its values are those that the context gives them: so what is well-formed with the ones
 -- is so with the others, where its values and the targets of its edges are the function's own.
-use Rattle.std.proofs.Common.{◌≡◌, ℕ, nat_eq, true, List, [], ◌∷◌, Option, Some, None, All, slice_get, ap, sym, ◌∙◌, refl, arith}
+use Rattle.std.proofs.Common.{◌≡◌, ℕ, nat_eq, true, List, [], Option, Some, None, All, slice_get, ap, sym, ◌∙◌, refl, arith}
 use Rattle.std.specs.Prelude.{unwrap_or}
 use Rattle.std.specs.List.{filter_map, flat_map, find}
 use Rattle.std.specs.Option.{option_map, option_and_then}
 use Rattle.std.proofs.lemmas.Option.{none-some, same_Some}
 use Rattle.support.proofs.ListLaws.{all_from}
-use Rattle.dialect_types.specs.Trees.{TypeTree, VoidType, IntegerType, FuncType, IntegerAttr, type_at, type_trees}
+use Rattle.kinds.specs.declared.op.Op.{Op}
+use Rattle.kinds.specs.declared.rules.Takes.{Takes}
+use Rattle.kinds.specs.declared.rules.Takes.TheVariants as O
+use Rattle.kinds.specs.Rules.{target_count}
+use Rattle.kinds.specs.Table.{rule_of}
+use Rattle.dialect_types.specs.Trees.{TypeTree, IntegerAttr, type_at, type_trees}
 use Rattle.dialect_core.specs.declared.numbers.OpRef.{OpRef}
 use Rattle.dialect_core.specs.declared.numbers.BlockRef.{BlockRef}
 use Rattle.dialect_core.specs.declared.ops.Value.{Value}
@@ -17,9 +22,10 @@ use Rattle.dialect_core.specs.declared.ops.OpData.{OpData}
 use Rattle.dialect_core.specs.declared.ops.BlockData.{BlockData}
 use Rattle.dialect_core.specs.Lists.{Stands, list_at}
 use Rattle.dialect_core.specs.ContextData.{ContextData}
-use Rattle.dialect_core.specs.Data.{Kind, ConstantOp, AddOp, ICmpOp, BrOp, CondBrOp, ReturnOp, UnreachableOp, DialectOp, DialectBlock, Func, op_at, block_of, block_in, func_of, func_in, data_of, held, ops_in, value_type, type_in}
-use Rattle.dialect_core.specs.Form.{FitsTarget, HasOwnValues, IsFormFunc, IsValueOf, LeadsToOwn, edges_of, result_of, uses_of}
-use Rattle.dialect_core.specs.WellFormed.{AreEdges, AreIntegers, IsEdge, IsOfKind, IsOpenForm, IsTypedBy, IsWellFormedBlock, IsWellFormedFunc, IsWellFormedOp, Returned, Typing}
+use Rattle.dialect_core.specs.Data.{Kind, ConstantOp, RowOp, DialectOp, DialectBlock, Func, op_at, block_of, block_in, func_of, func_in, data_of, held, ops_in, value_type, type_in}
+use Rattle.dialect_core.specs.Form.{FitsTarget, HasOwnValues, IsFormFunc, IsValueOf, LeadsToOwn, edges_of, uses_of}
+use Rattle.dialect_core.specs.WellFormed.{IsOpenForm, IsWellFormedBlock, IsWellFormedFunc, IsWellFormedOp}
+use Rattle.dialect_core.specs.Rules.{AreEdges, IsEdge, IsIntegerBy, IsOfKind, IsReturning, IsRow, IsTypedBy, Typing, result_of, type_nth}
 use Rattle.dialect_core.proofs.ChainLemmas.{same_op}
 use Rattle.dialect_core.proofs.HoldLemmas.{flat_stands, stands_flat, stands_left, stands_right}
 use Rattle.dialect_core.proofs.TestLemmas.{same_block}
@@ -104,23 +110,24 @@ module _ (c : ContextData) (f : OpRef) (g : Func) (is : func_in (type_trees c.ty
 module _ (T U : Typing) (g : Func) (operands : List Value) (edges : List Successor) (operand : (v : Value) (t : TypeTree) → Stands v operands → T v ≡ Some t → U v ≡ Some t)
     (passed : (i : ℕ) (s : Successor) (v : Value) (t : TypeTree) → slice_get edges i ≡ Some s → Stands v s.args → T v ≡ Some t → U v ≡ Some t)
     (target : (i : ℕ) (s : Successor) (place : ℕ) (t : TypeTree) → slice_get edges i ≡ Some s → U (Argument s.block place) ≡ Some t → T (Argument s.block place) ≡ Some t) where
-  integers : (t : TypeTree) → AreIntegers T t operands → AreIntegers U t operands
-  integers t h = record {
-    lhs = h.lhs;
-    rhs = h.rhs;
-    are = h.are;
-    integer = h.integer;
-    left = operand h.lhs t (0, ap (λ (vs : List Value). slice_get vs 0) h.are) h.left;
-    right = operand h.rhs t (1, ap (λ (vs : List Value). slice_get vs 1) h.are) h.right;
-  }
+  integers : All (IsIntegerBy T) operands → All (IsIntegerBy U) operands
+  integers h = all_from (IsIntegerBy U) operands (λ k v at. let w = all_at (IsIntegerBy T) operands h k v at in (w.0, operand v w.0 (k, at) w.1, w.2))
 
-  first : (v : Value) (t : TypeTree) → operands ≡ v ∷ [] → T v ≡ Some t → U v ≡ Some t
-  first v t e h = operand v t (0, ap (λ (vs : List Value). slice_get vs 0) e) h
+  -- the operand at a place has the type that it had
+  nth : All (IsIntegerBy T) operands → (i : ℕ) → type_nth U operands i ≡ type_nth T operands i
+  nth h i = by (slice_get operands i) refl
+    where
+      by : (v : Option Value) → slice_get operands i ≡ v → option_and_then U v ≡ option_and_then T v
+      by None at = refl
+      by (Some v) at = let w = all_at (IsIntegerBy T) operands h i v at in operand v w.0 (i, at) w.1 ∙ sym w.1
 
-  returned : (t : TypeTree) → Returned T t operands → Returned U t operands
-  returned VoidType h = h
-  returned (IntegerType w) h = (h.0, h.1, first h.0 (IntegerType w) h.1 h.2)
-  returned (FuncType r ps n) h = (h.0, h.1, first h.0 (FuncType r ps n) h.1 h.2)
+  -- a line for each word
+  returning : (takes : Takes) (t : TypeTree) → IsReturning takes T t operands → IsReturning takes U t operands
+  returning O.Nothing t h = tt
+  returning (O.One x) t h = tt
+  returning (O.Two x y) t h = tt
+  returning (O.Three x y z) t h = tt
+  returning O.Return t h = all_from (λ (v : Value). U v ≡ Some t) operands (λ k v at. operand v t (k, at) (all_at (λ (v : Value). T v ≡ Some t) operands h k v at))
 
   edge : (i : ℕ) (s : Successor) → slice_get edges i ≡ Some s → IsEdge T g s → IsEdge U g s
   edge i s at e = record {
@@ -132,14 +139,24 @@ module _ (T U : Typing) (g : Func) (operands : List Value) (edges : List Success
   edges_are : (n : ℕ) → AreEdges T g n edges → AreEdges U g n edges
   edges_are n h = (h.0, all_from (IsEdge U g) edges (λ i s at. edge i s at (all_at (IsEdge T g) edges h.1 i s at)))
 
+  row : (op : Op) (own : Option TypeTree) → IsRow T g op operands own edges → IsRow U g op operands own edges
+  row op own h =
+      let a = nth h.integers 0 in
+      let b = nth h.integers 1 in
+      let d = nth h.integers 2 in
+      record {
+        integers = integers h.integers;
+        count = h.count;
+        fits = rw (a, b, d) h.fits;
+        returns = returning (rule_of op).takes (result_of g.type) h.returns;
+        result = rw (a, b) h.result;
+        integer = h.integer;
+        leads = edges_are (target_count (rule_of op).leads) h.leads;
+      }
+
   kinds : (own : Option TypeTree) (k : Kind) → IsOfKind T g operands own edges k → IsOfKind U g operands own edges k
   kinds own (ConstantOp (IntegerAttr t v)) h = h
-  kinds own (AddOp flags) h = (h.0, integers h.0 h.1, h.2, h.3)
-  kinds own (ICmpOp p) h = ((h.0.0, integers h.0.0 h.0.1), h.1, h.2)
-  kinds own BrOp h = (h.0, h.1, edges_are 1 h.2)
-  kinds own CondBrOp h = ((h.0.0, h.0.1, first h.0.0 (IntegerType 1) h.0.1 h.0.2), h.1, edges_are 2 h.2)
-  kinds own ReturnOp h = (returned (result_of g.type) h.0, h.1, h.2)
-  kinds own UnreachableOp h = h
+  kinds own (RowOp op) h = row op own h
 
 -- a function, whose uses have the types that they had, and no target has others
 module _ (T U : Typing) (g : Func) (used : (j k : ℕ) (b : DialectBlock) (o : DialectOp) (v : Value) (t : TypeTree) → slice_get g.blocks j ≡ Some b → slice_get b.ops k ≡ Some o → Stands v (uses_of o) → T v ≡ Some t → U v ≡ Some t)

@@ -18,6 +18,8 @@ use Rattle.dialect_core.specs.Lists.{list_at}
 use Rattle.dialect_core.specs.ContextData.{ContextData, kind_at, region_at, symbol_at}
 use Rattle.dialect_core.specs.Data.{Kind, DialectOp, DialectBlock, Func, kind_of, op_at, block_in, name_at, held, type_in}
 use Rattle.dialect_core.specs.Form.{IsFitting, IsShortInt}
+use Rattle.kinds.specs.Rules.{ends}
+use Rattle.kinds.specs.Table.{rule_of}
 use Rattle.dialect_core.specs.WellFormed.{IsSignature, suits, IsOfKind, IsWellFormedOp, IsWellFormedBlock, IsWellFormedFunc, IsPlainAt, IsPastFirsts, IsTypedBy, Typing}
 
 -- the tree of a type of the context
@@ -69,11 +71,10 @@ abbrev pub IsOpAt : ContextData → Func → OpRef → Type 0
 IsOpAt c g o = (d : DialectOp) × (op_at (type_trees c.types) c.ops o ≡ Some d) × IsWellFormedOp (type_in c) g d
 
 abbrev pub ends_kind : OpKind → Bool
-ends_kind K.Br = true
-ends_kind K.CondBr = true
-ends_kind K.Return = true
-ends_kind K.Unreachable = true
-ends_kind _ = false
+ends_kind K.Module = false
+ends_kind K.Func = false
+ends_kind (K.Constant value) = false
+ends_kind (K.Row op) = ends (rule_of op).leads
 
 -- a terminator
 abbrev pub ends_at : ContextData → OpRef → Bool

@@ -14,23 +14,17 @@ use Rattle.dialect_core.specs.declared.ops.Symbol.{Symbol}
 use Rattle.dialect_core.specs.declared.ops.OpKind.{OpKind}
 use Rattle.dialect_core.specs.declared.ops.OpKind.TheVariants as K
 use Rattle.dialect_core.specs.declared.ops.OpData.{OpData}
-use Rattle.dialect_core.specs.declared.overflow.IntegerOverflowFlagsAttr.{IntegerOverflowFlagsAttr}
-use Rattle.dialect_core.specs.declared.predicates.ICmpPredicateAttr.{ICmpPredicateAttr}
+use Rattle.kinds.specs.declared.op.Op.{Op}
 use Rattle.dialect_core.specs.declared.ops.BlockData.{BlockData}
 use Rattle.dialect_core.specs.Lists.{list_at}
 use Rattle.dialect_core.specs.ContextData.{ContextData, region_at}
 
 -- ---- the data
 
--- what an operation of a function's block is, with its immediates, a line for each kind
+-- what an operation of a function's block is: a constant, or a row of the table with its immediates
 pub data Kind : Type 0 where
   ConstantOp : (value : AttrTree) → Kind
-  AddOp : (flags : IntegerOverflowFlagsAttr) → Kind
-  ICmpOp : (predicate : ICmpPredicateAttr) → Kind
-  BrOp : Kind
-  CondBrOp : Kind
-  ReturnOp : Kind
-  UnreachableOp : Kind
+  RowOp : (op : Op) → Kind
 
 pub record DialectOp : Type 0 where
   pub number : ℕ
@@ -65,12 +59,7 @@ abbrev pub kind_of : List TypeTree → OpKind → Option Kind
 kind_of ts K.Module = None
 kind_of ts K.Func = None
 kind_of ts (K.Constant value) = Some (ConstantOp (attr_tree ts value))
-kind_of ts (K.Add flags) = Some (AddOp flags)
-kind_of ts (K.ICmp predicate) = Some (ICmpOp predicate)
-kind_of ts K.Br = Some BrOp
-kind_of ts K.CondBr = Some CondBrOp
-kind_of ts K.Return = Some ReturnOp
-kind_of ts K.Unreachable = Some UnreachableOp
+kind_of ts (K.Row op) = Some (RowOp op)
 
 abbrev pub op_of : List TypeTree → OpRef → OpData → Option DialectOp
 op_of ts o x = option_map (λ (k : Kind). record {
@@ -172,8 +161,10 @@ with_block_arg d b t = at_block (λ (y : DialectBlock). record y { args = y.args
 -- ---- the numbers of types are there
 
 abbrev pub HasKindTypesBelow : ℕ → OpKind → Type 0
+HasKindTypesBelow n K.Module = Unit {0}
+HasKindTypesBelow n K.Func = Unit {0}
 HasKindTypesBelow n (K.Constant value) = HasTypesBelow n value
-HasKindTypesBelow n _ = Unit {0}
+HasKindTypesBelow n (K.Row op) = Unit {0}
 
 pub record IsTypedOp (n : ℕ) (x : OpData) : Type 0 where
   pub kind : HasKindTypesBelow n x.kind

@@ -1,97 +1,56 @@
--- Functions of the form that is translated today: a body of constants, `llvm.add`, `llvm.icmp`, branches, `llvm.return`
--- and `llvm.unreachable` over integers of 1 to 64 bits. Where its constants stand is a question of its own.
-use Rattle.std.specs.Prelude.{◌≡◌, ◌<◌, ◌≤◌, ◌^◌, ℕ, suc, Bool, true, false, not, List, [], ◌∷◌, ◌++◌, length, take, filter, slice_get, Some, None, All, IfSome}
+-- Functions of the form that is translated today: a body of constants and rows of the table over integers of 1 to 64 bits.
+-- Where its constants stand is a question of its own.
+use Rattle.std.specs.Prelude.{◌≡◌, ◌<◌, ◌≤◌, ℕ, suc, Bool, true, false, not, List, [], ◌∷◌, ◌++◌, length, take, filter, slice_get, Some, All, IfSome}
 use Rattle.std.specs.List.{flat_map}
 use Rattle.std.specs.Option.{option_map_or}
-use Rattle.dialect_types.specs.Trees.{TypeTree, VoidType, IntegerType, FuncType, TypeTrees, NoTypes, ThenType, IntegerAttr}
+use Rattle.dialect_types.specs.Trees.{TypeTree, VoidType, FunctionType, TypeTrees}
 use Rattle.dialect_types.specs.Names.{IsPlainName}
 use Rattle.dialect_core.specs.declared.linkage.LinkageAttr.TheVariants.{ExternalLinkage}
 use Rattle.dialect_core.specs.declared.ops.Value.{Value}
 use Rattle.dialect_core.specs.declared.ops.Value.TheVariants.{Result, Argument}
 use Rattle.dialect_core.specs.declared.ops.Successor.{Successor}
-use Rattle.dialect_core.specs.Data.{Kind, ConstantOp, AddOp, ICmpOp, BrOp, CondBrOp, ReturnOp, UnreachableOp, DialectOp, DialectBlock, Func, ops_in, value_type}
+use Rattle.kinds.specs.Rules.{ends}
+use Rattle.kinds.specs.Table.{rule_of}
+pub use Rattle.dialect_core.specs.Rules.{IsShortInt, IsFitting, types_list, result_of}
+use Rattle.dialect_core.specs.Rules.{IsOfKind}
+use Rattle.dialect_core.specs.Data.{Kind, ConstantOp, RowOp, DialectOp, DialectBlock, Func, ops_in, value_type}
 
--- ---- types
-
--- an integer type of 1 to 64 bits
-abbrev pub IsShortInt : TypeTree → Type 0
-IsShortInt (IntegerType w) = (1 ≤ w) × (w ≤ 64)
-IsShortInt _ = ⊥
+-- ---- operations
 
 abbrev pub IsShortResult : TypeTree → Type 0
 IsShortResult VoidType = Unit {0}
 IsShortResult t = IsShortInt t
 
-abbrev pub types_list : TypeTrees → List TypeTree
-types_list NoTypes = []
-types_list (ThenType t ts) = t ∷ types_list ts
-
--- the value fits the type
-abbrev pub IsFitting : TypeTree → ℕ → Type 0
-IsFitting (IntegerType w) v = v < 2 ^ w
-IsFitting _ v = ⊥
-
-abbrev pub result_of : TypeTree → TypeTree
-result_of (FuncType result params variadic) = result
-result_of _ = VoidType
-
--- ---- operations
-
--- an operand of that type, an integer, wherever it is defined in the function
+-- an operand of that type, an integer of 1 to 64 bits, wherever it is defined in the function
 pub record IsOperand (g : Func) (type : TypeTree) (v : Value) : Type 0 where
   pub typed : value_type g v ≡ Some type
   pub short : IsShortInt type
 
--- what a return has: nothing in a function of void, else a value of the type that is returned
-abbrev pub Returns : Func → TypeTree → List Value → Type 0
-Returns g VoidType [] = Unit {0}
-Returns g type (v ∷ []) = IsOperand g type v
-Returns g _ _ = ⊥
+-- an operand of some such type
+abbrev pub IsShortValue : Func → Value → Type 0
+IsShortValue g v = (type : TypeTree) × IsOperand g type v
 
--- an edge does not go to the first block, and a value that it passes has the type of the argument at its place
-pub record IsFormEdge (g : Func) (s : Successor) : Type 0 where
-  pub no_entry : (b : DialectBlock) → slice_get g.blocks 0 ≡ Some b → ¬ (s.block.0 ≡ b.number)
-  pub args : All (λ (v : Value). (type : TypeTree) × IsOperand g type v) s.args
-  pub typed : (place : ℕ) (v : Value) (type : TypeTree) → slice_get s.args place ≡ Some v → value_type g (Argument s.block place) ≡ Some type → value_type g v ≡ Some type
-
--- an operation with as many successors
-pub record Leads (g : Func) (o : DialectOp) (count : ℕ) : Type 0 where
-  pub result : o.result ≡ None
-  pub count_is : length o.successors ≡ count
-  pub edges : All (IsFormEdge g) o.successors
-
--- the operands, successors and result of an operation: a line for each kind
-abbrev pub IsFormKind : Func → DialectOp → Kind → Type 0
-IsFormKind g o (ConstantOp (IntegerAttr type value)) = IsShortInt type × IsFitting type value × (o.operands ≡ []) × (o.successors ≡ []) × (o.result ≡ Some type)
-IsFormKind g o (AddOp flags) =
-    (type : TypeTree) × (lhs : Value) × (rhs : Value) × (o.operands ≡ lhs ∷ rhs ∷ []) × (o.successors ≡ []) × (o.result ≡ Some type) × IsOperand g type lhs × IsOperand g type rhs
-IsFormKind g o (ICmpOp predicate) =
-    (type : TypeTree) × (lhs : Value) × (rhs : Value) × (o.operands ≡ lhs ∷ rhs ∷ []) × (o.successors ≡ []) × (o.result ≡ Some (IntegerType 1)) × IsOperand g type lhs × IsOperand g type rhs
-IsFormKind g o BrOp = (o.operands ≡ []) × Leads g o 1
-IsFormKind g o CondBrOp = (condition : Value) × (o.operands ≡ condition ∷ []) × IsOperand g (IntegerType 1) condition × Leads g o 2
-IsFormKind g o ReturnOp = Returns g (result_of g.type) o.operands × Leads g o 0
-IsFormKind g o UnreachableOp = (o.operands ≡ []) × Leads g o 0
-
--- an operation of the function g
+-- an operation of the function g: it keeps the rules of the dialect by the types that g gives its values, and those types
+-- are of 1 to 64 bits
 pub record IsFormOp (g : Func) (o : DialectOp) : Type 0 where
-  pub kind : IsFormKind g o o.kind
+  pub kind : IsOfKind (value_type g) g o.operands o.result o.successors o.kind
+  pub operands : All (IsShortValue g) o.operands
+  pub passed : All (λ (s : Successor). All (IsShortValue g) s.args) o.successors
+  pub result : IfSome o.result IsShortInt
   pub name : IfSome o.name IsPlainName
 
 -- ---- functions
 
 abbrev pub is_constant_kind : Kind → Bool
 is_constant_kind (ConstantOp value) = true
-is_constant_kind _ = false
+is_constant_kind (RowOp op) = false
 
 abbrev pub is_constant : DialectOp → Bool
 is_constant o = is_constant_kind o.kind
 
 abbrev pub is_terminator_kind : Kind → Bool
-is_terminator_kind BrOp = true
-is_terminator_kind CondBrOp = true
-is_terminator_kind ReturnOp = true
-is_terminator_kind UnreachableOp = true
-is_terminator_kind _ = false
+is_terminator_kind (ConstantOp value) = false
+is_terminator_kind (RowOp op) = ends (rule_of op).leads
 
 abbrev pub is_terminator : DialectOp → Bool
 is_terminator o = is_terminator_kind o.kind
@@ -125,7 +84,7 @@ pub record IsFormFunc (g : Func) : Type 0 where
   pub named : ¬ (g.name ≡ [])
   pub result : TypeTree
   pub types : TypeTrees
-  pub type : g.type ≡ FuncType result types false
+  pub type : g.type ≡ FunctionType result types false
   pub returns : IsShortResult result
   pub takes : All IsShortInt (types_list types)
   pub linkage : g.linkage ≡ ExternalLinkage

@@ -1,6 +1,7 @@
 -- The definitions that contracts cite.
 pub mod ContextData
 pub mod Data
+pub mod Rules
 pub mod Form
 pub mod Lending
 pub mod Links

@@ -12,10 +12,12 @@ use Rattle.dialect_core.specs.declared.linkage.LinkageAttr.TheVariants as L
 use Rattle.dialect_core.specs.declared.ops.Value.{Value}
 use Rattle.dialect_core.specs.declared.ops.Value.TheVariants.{Result, Argument}
 use Rattle.dialect_core.specs.declared.ops.Successor.{Successor}
-use Rattle.dialect_core.specs.declared.overflow.IntegerOverflowFlagsAttr.{IntegerOverflowFlagsAttr}
-use Rattle.dialect_core.specs.declared.predicates.ICmpPredicateAttr.{ICmpPredicateAttr}
-use Rattle.dialect_core.specs.declared.predicates.ICmpPredicateAttr.TheVariants as P
-use Rattle.dialect_core.specs.Data.{Kind, ConstantOp, AddOp, ICmpOp, BrOp, CondBrOp, ReturnOp, UnreachableOp, DialectOp, DialectBlock, Func, DialectModule}
+use Rattle.kinds.specs.declared.op.Immediates.{Immediates}
+use Rattle.kinds.specs.declared.op.Immediates.TheVariants as M
+use Rattle.kinds.specs.declared.op.LLVMIntPredicate.{LLVMIntPredicate}
+use Rattle.kinds.specs.declared.op.LLVMIntPredicate.TheVariants as P
+use Rattle.kinds.specs.Table.{immediates_of, op_word}
+use Rattle.dialect_core.specs.Data.{Kind, ConstantOp, RowOp, DialectOp, DialectBlock, Func, DialectModule}
 
 -- ---- numbers of values and blocks
 
@@ -101,48 +103,40 @@ linkage_text L.GhostLinkage = codes "GhostLinkage"
 -- the name of an operation, a line for each kind
 abbrev pub kind_word : Kind → List ℕ
 kind_word (ConstantOp value) = codes "llvm.constant"
-kind_word (AddOp flags) = codes "llvm.add"
-kind_word (ICmpOp predicate) = codes "llvm.icmp"
-kind_word BrOp = codes "llvm.br"
-kind_word CondBrOp = codes "llvm.cond_br"
-kind_word ReturnOp = codes "llvm.return"
-kind_word UnreachableOp = codes "llvm.unreachable"
+kind_word (RowOp op) = op_word op
 
-abbrev pub predicate_text : ICmpPredicateAttr → List ℕ
-predicate_text P.EQ = codes "EQ"
-predicate_text P.NE = codes "NE"
-predicate_text P.UGT = codes "UGT"
-predicate_text P.UGE = codes "UGE"
-predicate_text P.ULT = codes "ULT"
-predicate_text P.ULE = codes "ULE"
-predicate_text P.SGT = codes "SGT"
-predicate_text P.SGE = codes "SGE"
-predicate_text P.SLT = codes "SLT"
-predicate_text P.SLE = codes "SLE"
+abbrev pub predicate_text : LLVMIntPredicate → List ℕ
+predicate_text P.LLVMIntEQ = codes "EQ"
+predicate_text P.LLVMIntNE = codes "NE"
+predicate_text P.LLVMIntUGT = codes "UGT"
+predicate_text P.LLVMIntUGE = codes "UGE"
+predicate_text P.LLVMIntULT = codes "ULT"
+predicate_text P.LLVMIntULE = codes "ULE"
+predicate_text P.LLVMIntSGT = codes "SGT"
+predicate_text P.LLVMIntSGE = codes "SGE"
+predicate_text P.LLVMIntSLT = codes "SLT"
+predicate_text P.LLVMIntSLE = codes "SLE"
 
 -- the key of a truth value that is set
 abbrev pub flag_key : Bool → List ℕ → List (List ℕ)
 flag_key true key = key ∷ []
 flag_key false key = []
 
--- the keys of the flags that are set
-abbrev pub overflow_keys : IntegerOverflowFlagsAttr → List (List ℕ)
-overflow_keys flags = flag_key flags.nsw (codes "nsw") ++ flag_key flags.nuw (codes "nuw")
-
 -- keys in braces, where there are any
 abbrev pub keys_text : List (List ℕ) → List ℕ
 keys_text [] = []
 keys_text (k ∷ ks) = codes " {" ++ joined (k ∷ ks) ++ codes "}"
 
+-- the immediates of a row, a line for each sort
+abbrev pub row_immediates_text : Immediates → List ℕ
+row_immediates_text M.Nothing = []
+row_immediates_text (M.Overflow flags) = keys_text (flag_key flags.nsw (codes "nsw") ++ flag_key flags.nuw (codes "nuw"))
+row_immediates_text (M.Predicate predicate) = codes " {predicate = " ++ predicate_text predicate ++ codes "}"
+
 -- its immediates, where it has any
 abbrev pub immediates_text : Kind → List ℕ
 immediates_text (ConstantOp value) = codes " {value = " ++ attr_text value ++ codes "}"
-immediates_text (AddOp flags) = keys_text (overflow_keys flags)
-immediates_text (ICmpOp predicate) = codes " {predicate = " ++ predicate_text predicate ++ codes "}"
-immediates_text BrOp = []
-immediates_text CondBrOp = []
-immediates_text ReturnOp = []
-immediates_text UnreachableOp = []
+immediates_text (RowOp op) = row_immediates_text (immediates_of op)
 
 -- `:name` and ` : t`, where there is a name or a type
 abbrev pub colon_text : Option (List ℕ) → List ℕ

@@ -1,15 +1,13 @@
 -- Well-formed modules: the rules of the dialect for the kinds of operations that there are, and what the open form
 -- (`IsOpenForm`) asks besides.
-use Rattle.std.specs.Prelude.{◌≡◌, ◌<◌, ◌≤◌, ◌^◌, ℕ, Bool, true, false, List, [], ◌∷◌, length, slice_get, Option, Some, None, All, IfSome}
-use Rattle.dialect_types.specs.Trees.{TypeTree, VoidType, IntegerType, FuncType, IntegerAttr, type_at, type_trees}
+use Rattle.std.specs.Prelude.{◌≡◌, ◌<◌, ◌≤◌, ◌^◌, ℕ, Bool, true, false, List, [], ◌∷◌, length, slice_get, Some, All, IfSome}
+use Rattle.dialect_types.specs.Trees.{TypeTree, VoidType, FunctionType, type_at, type_trees}
 use Rattle.dialect_types.specs.declared.types.TypeHandle.{TypeHandle}
 use Rattle.dialect_types.specs.Names.{IsPlainName}
 use Rattle.dialect_core.specs.declared.numbers.OpRef.{OpRef}
 use Rattle.dialect_core.specs.declared.numbers.BlockRef.{BlockRef}
 use Rattle.dialect_core.specs.declared.linkage.LinkageAttr.{LinkageAttr}
 use Rattle.dialect_core.specs.declared.linkage.LinkageAttr.TheVariants as L
-use Rattle.dialect_core.specs.declared.ops.Value.{Value}
-use Rattle.dialect_core.specs.declared.ops.Value.TheVariants.{Argument}
 use Rattle.dialect_core.specs.declared.ops.Successor.{Successor}
 use Rattle.dialect_core.specs.declared.ops.OpKind.TheVariants as K
 use Rattle.dialect_core.specs.declared.ops.OpData.{OpData}
@@ -17,15 +15,12 @@ use Rattle.dialect_core.specs.declared.ops.BlockData.{BlockData}
 use Rattle.dialect_core.specs.declared.ops.Symbol.{Symbol}
 use Rattle.dialect_core.specs.Lists.{list_at}
 use Rattle.dialect_core.specs.ContextData.{ContextData, kind_at, region_at, symbol_at, is_plain}
-use Rattle.dialect_core.specs.Data.{Kind, ConstantOp, AddOp, ICmpOp, BrOp, CondBrOp, ReturnOp, UnreachableOp, DialectOp, DialectBlock, Func, held, data_of, ops_in, type_in}
-use Rattle.dialect_core.specs.Form.{IsFitting, IsShortInt, IsShortResult, EndsInOnly, types_list, result_of}
+pub use Rattle.dialect_core.specs.Rules.{IsInteger, Typing, IsTypedBy, IsEdge, AreEdges, IsOfKind}
+use Rattle.dialect_core.specs.Rules.{IsShortInt, types_list}
+use Rattle.dialect_core.specs.Data.{DialectOp, DialectBlock, Func, held, data_of, ops_in, type_in}
+use Rattle.dialect_core.specs.Form.{IsShortResult, EndsInOnly}
 
 -- ---- types
-
--- an integer type: of 1 to 2^23 bits
-abbrev pub IsInteger : TypeTree → Type 0
-IsInteger (IntegerType w) = (1 ≤ w) × (w ≤ 2 ^ 23)
-IsInteger _ = ⊥
 
 -- what a function returns: nothing, or an integer
 abbrev pub IsReturned : TypeTree → Type 0
@@ -34,65 +29,15 @@ IsReturned t = IsInteger t
 
 -- the type of a function: void stands only as its result, and it stands in no other type
 abbrev pub IsSignature : TypeTree → Type 0
-IsSignature (FuncType result params variadic) = IsReturned result × All IsInteger (types_list params)
+IsSignature (FunctionType result params variadic) = IsReturned result × All IsInteger (types_list params)
 IsSignature _ = ⊥
 
 -- what a function of that type takes
 abbrev pub params_of : TypeTree → List TypeTree
-params_of (FuncType result params variadic) = types_list params
+params_of (FunctionType result params variadic) = types_list params
 params_of _ = []
 
--- ---- values
-
--- the type of each value, None where there is no such value
-abbrev pub Typing : Type 0
-Typing = Value → Option TypeTree
-
--- a value that there is
-abbrev pub IsTypedBy : Typing → Value → Type 0
-IsTypedBy types v = (type : TypeTree) × (types v ≡ Some type)
-
 -- ---- operations
-
--- The rules of operands ask for their types alone, whichever function they belong to: so they speak of a typing, that of
--- the context (`type_in`) in a module, or that of the function (`value_type`) where its values are its own.
-
--- two values of one integer type
-pub record AreIntegers (types : Typing) (type : TypeTree) (vs : List Value) : Type 0 where
-  pub lhs : Value
-  pub rhs : Value
-  pub are : vs ≡ lhs ∷ rhs ∷ []
-  pub integer : IsInteger type
-  pub left : types lhs ≡ Some type
-  pub right : types rhs ≡ Some type
-
--- what a return has: nothing in a function that returns nothing, else one value of the type that is returned
-abbrev pub Returned : Typing → TypeTree → List Value → Type 0
-Returned types VoidType vs = vs ≡ []
-Returned types type vs = (v : Value) × (vs ≡ v ∷ []) × (types v ≡ Some type)
-
--- An edge does not go to the function's first block; `IsWellFormed` says that it goes to no other first block either. It
--- passes values, and where its target has an argument at the place of such a value, the two have one type: in a context
--- the target may be a block of another function.
-pub record IsEdge (types : Typing) (g : Func) (s : Successor) : Type 0 where
-  pub no_entry : (b : DialectBlock) → slice_get g.blocks 0 ≡ Some b → ¬ (s.block.0 ≡ b.number)
-  pub args : All (IsTypedBy types) s.args
-  pub typed : (place : ℕ) (v : Value) (type : TypeTree) → slice_get s.args place ≡ Some v → types (Argument s.block place) ≡ Some type → types v ≡ Some type
-
--- as many edges
-abbrev pub AreEdges : Typing → Func → ℕ → List Successor → Type 0
-AreEdges types g count ss = (length ss ≡ count) × All (IsEdge types g) ss
-
--- The operands, the result and the edges of an operation: a line for each kind. A constant has 1 to 64 bits, since an
--- integer attribute holds no more, and its value fits them.
-abbrev pub IsOfKind : Typing → Func → List Value → Option TypeTree → List Successor → Kind → Type 0
-IsOfKind types g operands own edges (ConstantOp (IntegerAttr type value)) = IsShortInt type × IsFitting type value × (own ≡ Some type) × (operands ≡ []) × (edges ≡ [])
-IsOfKind types g operands own edges (AddOp flags) = (type : TypeTree) × AreIntegers types type operands × (own ≡ Some type) × (edges ≡ [])
-IsOfKind types g operands own edges (ICmpOp predicate) = ((type : TypeTree) × AreIntegers types type operands) × (own ≡ Some (IntegerType 1)) × (edges ≡ [])
-IsOfKind types g operands own edges BrOp = (operands ≡ []) × (own ≡ None) × AreEdges types g 1 edges
-IsOfKind types g operands own edges CondBrOp = ((condition : Value) × (operands ≡ condition ∷ []) × (types condition ≡ Some (IntegerType 1))) × (own ≡ None) × AreEdges types g 2 edges
-IsOfKind types g operands own edges ReturnOp = Returned types (result_of g.type) operands × (own ≡ None) × (edges ≡ [])
-IsOfKind types g operands own edges UnreachableOp = (operands ≡ []) × (own ≡ None) × (edges ≡ [])
 
 -- an operation of the function
 abbrev pub IsWellFormedOp : Typing → Func → DialectOp → Type 0
@@ -226,7 +171,7 @@ pub record IsNarrowBlock (b : DialectBlock) : Type 0 where
 
 -- the types that a function takes and returns are of 1 to 64 bits, and it is not variadic
 abbrev pub IsNarrowSignature : TypeTree → Type 0
-IsNarrowSignature (FuncType result params variadic) = IsShortResult result × All IsShortInt (types_list params) × (variadic ≡ false)
+IsNarrowSignature (FunctionType result params variadic) = IsShortResult result × All IsShortInt (types_list params) × (variadic ≡ false)
 IsNarrowSignature _ = ⊥
 
 -- a function of the form, as far as that is narrower: it has a body and external linkage

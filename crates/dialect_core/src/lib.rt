@@ -12,7 +12,6 @@ pub mod numbering;
 pub mod numbers;
 mod op_tests;
 pub mod ops;
-pub mod overflow;
 pub mod predicates;
 mod printing;
 pub mod steps;

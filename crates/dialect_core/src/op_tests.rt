@@ -1,24 +1,27 @@
 //! Tests of operations: whether the operands, the result and the successors of one are those of its kind.
 
-ghost use Rattle.std.specs.Prelude.{◌≡◌, ◌<◌, ◌↔◌, ◌∷◌, [], IsTrue, All, IfSome, Some, None, length};
-ghost use Rattle.std.specs.Option.{option_map};
-ghost use Rattle.dialect_types.specs.Trees.{TypeTree, IntegerType, attr_tree, type_at, type_trees, HasTypesBelow};
+ghost use Rattle.std.specs.Prelude.{◌≡◌, ◌<◌, ◌↔◌, IsTrue, true, All, IfSome, Some, length};
+ghost use Rattle.std.specs.Option.{option_map, option_map_or};
+ghost use Rattle.kinds.specs.Rules.{operand_count};
+ghost use Rattle.kinds.specs.Types.{IntType, VoidType, shape};
+ghost use Rattle.kinds.specs.Typing.{written_for};
+ghost use Rattle.dialect_types.specs.Trees.{attr_tree, type_at, type_tree, type_trees, HasTypesBelow};
 ghost use Rattle.dialect_core.specs.ContextData.{IsValueWithin, IsSuccessorWithin, IsSymbol};
-ghost use Rattle.dialect_core.specs.Data.{IsTyped, HasKindTypesBelow, AddOp, BrOp, CondBrOp, ConstantOp, ICmpOp, ReturnOp, UnreachableOp, type_in};
-ghost use Rattle.dialect_core.specs.Form.{result_of as returned_by};
-ghost use Rattle.dialect_core.specs.WellFormed.{AreIntegers, IsOfKind, Returned};
-ghost use Rattle.dialect_core.specs.Checking.{IsConstantOf, IsKindAt, IsOpAt, ends_at, ends_kind, func_at, tree_at};
+ghost use Rattle.dialect_core.specs.Data.{Func, IsTyped, HasKindTypesBelow, ConstantOp, type_in};
+ghost use Rattle.dialect_core.specs.Rules.{IsInteger, IsIntegerBy, IsOfKind, IsReturning, IsRow, result_of as returned_by, returns_void, row_fits, row_result, type_nth};
+ghost use Rattle.dialect_core.specs.Checking.{IsConstantOf, IsKindAt, IsOpAt, ends_kind, func_at, tree_at};
 
 use crate::context::Context;
 use crate::numbers::OpRef;
 use crate::ops::{OpKind, Successor, Value};
-use crate::overflow::IntegerOverflowFlagsAttr;
-use crate::predicates::ICmpPredicateAttr;
 use crate::type_tests::{is_bit, is_fitting, is_integer, same_type};
 use crate::value_tests::{edges_fit, has_type, type_of};
 use dialect_types::attrs::ConstAttr;
 use dialect_types::type_store::TypeStore;
 use dialect_types::types::{TypeHandle, TypeKind};
+use kinds::fitting::{Shape, TypeView, fits};
+use kinds::op::Op;
+use kinds::rules::{Gives, Takes};
 
 /// Whether a constant is an integer of 1 to 64 bits that fits its type, and its operation has that type.
 fn constant_fits(types: &TypeStore, value: &ConstAttr, own: Option<TypeHandle>) -> bool
@@ -34,53 +37,106 @@ fn constant_fits(types: &TypeStore, value: &ConstAttr, own: Option<TypeHandle>) 
     }
 }
 
-/// Whether these are two values of an integer type.
-fn are_integers(ctx: &Context, operands: &[Value], ty: TypeHandle) -> bool
-    requires operands { All (IsValueWithin (length ctx.now.ops) (length ctx.now.blocks)) operands.now }
-    requires ty { ty.0 < length ctx.now.types }
+/// The type of the value at a place.
+fn type_nth(ctx: &Context, values: &[Value], place: usize) -> Option<TypeHandle>
+    requires values { All (IsValueWithin (length ctx.now.ops) (length ctx.now.blocks)) values.now }
     requires typed { IsTyped ctx.now }
-    ensures { IsTrue result ↔ AreIntegers (type_in ctx.now) (tree_at ctx.now ty) operands.now }
+    ensures value { option_map (tree_at ctx.now) result ≡ type_nth (type_in ctx.now) values.now place }
+    ensures within { IfSome result (λ t. t.0 < length ctx.now.types) }
 {
-    match operands {
-        [lhs, rhs] => {
-            is_integer(ctx.types(), ty) && has_type(ctx, *lhs, ty) && has_type(ctx, *rhs, ty)
-        }
-        _ => false,
+    match values.get(place) {
+        Some(value) => type_of(ctx, *value),
+        None => None,
     }
 }
 
-/// Whether these are two values of the integer type that the operation has.
-fn add_fits(ctx: &Context, operands: &[Value], own: Option<TypeHandle>) -> bool
+/// What rules look at in a type.
+fn shape_of(kind: &TypeKind) -> Shape
+    ensures { (ts : _) → result ≡ shape (type_tree ts kind.now) }
+{
+    match kind {
+        TypeKind::Void => Shape::Void,
+        TypeKind::Integer(width) => Shape::Int(*width),
+        TypeKind::Func { .. } => Shape::Function,
+    }
+}
+
+/// A type as rules see it.
+fn view_some(ctx: &Context, ty: Option<TypeHandle>) -> Option<TypeView>
+    requires { IfSome ty (λ t. t.0 < length ctx.now.types) }
+    ensures { result ≡ option_map (λ t. record { number = t.0; shape = shape (tree_at ctx.now t) }) ty }
+{
+    match ty {
+        Some(ty) => Some(TypeView {
+            number: ty.0,
+            shape: shape_of(ctx.types().kind(ty)),
+        }),
+        None => None,
+    }
+}
+
+/// The type that a row writes: that of its result, or none.
+fn written_for(gives: Gives, own: Option<TypeHandle>) -> Option<TypeHandle>
+    ensures { result ≡ written_for gives own }
+{
+    match gives {
+        Gives::Written => own,
+        Gives::Nothing => None,
+        Gives::First => None,
+        Gives::Second => None,
+        Gives::Bit => None,
+    }
+}
+
+/// Whether the types of the operands fit the row, beside the type of its result where it writes that.
+fn operands_fit(ctx: &Context, op: Op, operands: &[Value], own: Option<TypeHandle>) -> bool
     requires operands { All (IsValueWithin (length ctx.now.ops) (length ctx.now.blocks)) operands.now }
     requires own { IfSome own (λ t. t.0 < length ctx.now.types) }
     requires typed { IsTyped ctx.now }
-    ensures { IsTrue result ↔ ((type : TypeTree) × AreIntegers (type_in ctx.now) type operands.now × (option_map (tree_at ctx.now) own ≡ Some type)) }
+    ensures { result ≡ row_fits (type_in ctx.now) op (option_map (tree_at ctx.now) own) operands.now }
 {
-    match own {
-        Some(ty) => are_integers(ctx, operands, ty),
-        None => false,
+    let _count = ctx.types().len();
+    let rule = op.rule();
+    let written = view_some(ctx, written_for(rule.gives, own));
+    let first = view_some(ctx, type_nth(ctx, operands, 0));
+    let second = view_some(ctx, type_nth(ctx, operands, 1));
+    let third = view_some(ctx, type_nth(ctx, operands, 2));
+    fits(rule, operands.len(), written, first, second, third)
+}
+
+/// Whether the result has the type that the row gives it.
+fn is_given(ctx: &Context, op: Op, operands: &[Value], own: Option<TypeHandle>) -> bool
+    requires operands { All (IsValueWithin (length ctx.now.ops) (length ctx.now.blocks)) operands.now }
+    requires own { IfSome own (λ t. t.0 < length ctx.now.types) }
+    requires typed { IsTyped ctx.now }
+    ensures { IsTrue result ↔ (option_map (tree_at ctx.now) own ≡ row_result (type_in ctx.now) op (option_map (tree_at ctx.now) own) operands.now) }
+{
+    match op.rule().gives {
+        Gives::Nothing => own.is_none(),
+        Gives::First => same_option(ctx, own, type_nth(ctx, operands, 0)),
+        Gives::Second => same_option(ctx, own, type_nth(ctx, operands, 1)),
+        Gives::Written => true,
+        Gives::Bit => gives_bit(ctx.types(), own),
     }
 }
 
-/// Whether these are two values of some integer type.
-fn are_comparable(ctx: &Context, operands: &[Value]) -> bool
-    requires operands { All (IsValueWithin (length ctx.now.ops) (length ctx.now.blocks)) operands.now }
-    requires typed { IsTyped ctx.now }
-    ensures { IsTrue result ↔ ((type : TypeTree) × AreIntegers (type_in ctx.now) type operands.now) }
+/// Whether both are the same type, or there is none.
+fn same_option(ctx: &Context, a: Option<TypeHandle>, b: Option<TypeHandle>) -> bool
+    requires left { IfSome a (λ t. t.0 < length ctx.now.types) }
+    requires right { IfSome b (λ t. t.0 < length ctx.now.types) }
+    ensures { IsTrue result ↔ option_map (tree_at ctx.now) a ≡ option_map (tree_at ctx.now) b }
 {
-    let Some(lhs) = operands.first() else {
-        return false;
-    };
-    match type_of(ctx, *lhs) {
-        Some(ty) => are_integers(ctx, operands, ty),
-        None => false,
+    match (a, b) {
+        (Some(a), Some(b)) => same_type(ctx.types(), a, b),
+        (None, None) => true,
+        _ => false,
     }
 }
 
 /// Whether an operation has the type of one bit.
 fn gives_bit(types: &TypeStore, own: Option<TypeHandle>) -> bool
     requires { IfSome own (λ t. t.0 < length types.now) }
-    ensures { IsTrue result ↔ option_map (type_at (type_trees types.now)) own ≡ Some (IntegerType 1) }
+    ensures { IsTrue result ↔ option_map (type_at (type_trees types.now)) own ≡ Some (IntType 1) }
 {
     match own {
         Some(ty) => is_bit(types, ty),
@@ -88,202 +144,194 @@ fn gives_bit(types: &TypeStore, own: Option<TypeHandle>) -> bool
     }
 }
 
-/// Whether this is one value, of one bit.
-fn is_condition(ctx: &Context, operands: &[Value]) -> bool
-    requires operands { All (IsValueWithin (length ctx.now.ops) (length ctx.now.blocks)) operands.now }
-    requires typed { IsTyped ctx.now }
-    ensures { IsTrue result ↔ ((condition : Value) × (operands.now ≡ condition ∷ []) × (type_in ctx.now condition ≡ Some (IntegerType 1))) }
+/// Whether a result, where there is one, is an integer.
+fn is_integer_or_none(types: &TypeStore, own: Option<TypeHandle>) -> bool
+    requires { IfSome own (λ t. t.0 < length types.now) }
+    ensures { IsTrue result ↔ IfSome (option_map (type_at (type_trees types.now)) own) IsInteger }
 {
-    match operands {
-        [condition] => gives_bit(ctx.types(), type_of(ctx, *condition)),
-        _ => false,
+    match own {
+        Some(ty) => is_integer(types, ty),
+        None => true,
     }
 }
 
-/// Whether these are what a function that returns the type returns.
-fn are_returned(ctx: &Context, operands: &[Value], ty: TypeHandle) -> bool
-    requires operands { All (IsValueWithin (length ctx.now.ops) (length ctx.now.blocks)) operands.now }
-    requires ty { ty.0 < length ctx.now.types }
+/// Whether a value has an integer type.
+fn is_integer_value(ctx: &Context, value: Value) -> bool
+    requires value { IsValueWithin (length ctx.now.ops) (length ctx.now.blocks) value }
     requires typed { IsTyped ctx.now }
-    ensures { IsTrue result ↔ Returned (type_in ctx.now) (tree_at ctx.now ty) operands.now }
+    ensures { IsTrue result ↔ IsIntegerBy (type_in ctx.now) value }
 {
-    match ctx.types().kind(ty) {
-        TypeKind::Void => operands.is_empty(),
-        _ => match operands {
-            [value] => has_type(ctx, *value, ty),
-            _ => false,
-        },
+    match type_of(ctx, value) {
+        Some(ty) => is_integer(ctx.types(), ty),
+        None => false,
     }
 }
 
-/// Whether these are what the function returns.
-fn return_fits(ctx: &Context, func: OpRef, operands: &[Value]) -> bool
+/// Whether each value has an integer type.
+fn are_integers(ctx: &Context, values: &[Value]) -> bool
+    requires values { All (IsValueWithin (length ctx.now.ops) (length ctx.now.blocks)) values.now }
+    requires typed { IsTyped ctx.now }
+    ensures { IsTrue result ↔ All (IsIntegerBy (type_in ctx.now)) values.now }
+{
+    for value in values {
+        if !is_integer_value(ctx, *value) {
+            return false;
+        }
+    }
+    true
+}
+
+/// What a function returns by its type; void where that is no function type.
+fn returned(ctx: &Context, func: OpRef) -> Option<TypeHandle>
     requires func { IsSymbol ctx.now.ops func }
     requires within { func.0 < length ctx.now.ops }
-    requires operands { All (IsValueWithin (length ctx.now.ops) (length ctx.now.blocks)) operands.now }
     requires typed { IsTyped ctx.now }
-    ensures { IsTrue result ↔ Returned (type_in ctx.now) (returned_by (func_at ctx.now func).type) operands.now }
+    ensures ty { option_map_or (tree_at ctx.now) result VoidType ≡ returned_by (func_at ctx.now func).type }
+    ensures within { IfSome result (λ t. t.0 < length ctx.now.types) }
 {
     match ctx.types().kind(ctx.symbol_type(func)) {
         TypeKind::Func {
             result: returned,
             ..
-        } => are_returned(ctx, operands, *returned),
-        _ => operands.is_empty(),
+        } => Some(*returned),
+        _ => None,
     }
+}
+
+/// Whether a function returns nothing.
+fn returns_void(ctx: &Context, func: OpRef) -> bool
+    requires func { IsSymbol ctx.now.ops func }
+    requires within { func.0 < length ctx.now.ops }
+    requires typed { IsTyped ctx.now }
+    ensures { result ≡ returns_void (func_at ctx.now func) }
+{
+    match returned(ctx, func) {
+        Some(ty) => matches!(ctx.types().kind(ty), TypeKind::Void),
+        None => true,
+    }
+}
+
+/// Whether a value is of the type void.
+fn is_void_value(ctx: &Context, value: Value) -> bool
+    requires value { IsValueWithin (length ctx.now.ops) (length ctx.now.blocks) value }
+    requires typed { IsTyped ctx.now }
+    ensures { IsTrue result ↔ (type_in ctx.now value ≡ Some VoidType) }
+{
+    match type_of(ctx, value) {
+        Some(ty) => matches!(ctx.types().kind(ty), TypeKind::Void),
+        None => false,
+    }
+}
+
+/// Whether a value has the type, which is void where none is given.
+fn has_returned(ctx: &Context, value: Value, ty: Option<TypeHandle>) -> bool
+    requires value { IsValueWithin (length ctx.now.ops) (length ctx.now.blocks) value }
+    requires ty { IfSome ty (λ t. t.0 < length ctx.now.types) }
+    requires typed { IsTyped ctx.now }
+    ensures { IsTrue result ↔ (type_in ctx.now value ≡ Some (option_map_or (tree_at ctx.now) ty VoidType)) }
+{
+    match ty {
+        Some(ty) => has_type(ctx, value, ty),
+        None => is_void_value(ctx, value),
+    }
+}
+
+/// Whether each value has the type that the function returns.
+fn all_returned(ctx: &Context, func: OpRef, values: &[Value]) -> bool
+    requires func { IsSymbol ctx.now.ops func }
+    requires within { func.0 < length ctx.now.ops }
+    requires values { All (IsValueWithin (length ctx.now.ops) (length ctx.now.blocks)) values.now }
+    requires typed { IsTyped ctx.now }
+    ensures { IsTrue result ↔ All (λ v. type_in ctx.now v ≡ Some (returned_by (func_at ctx.now func).type)) values.now }
+{
+    let ty = returned(ctx, func);
+    for value in values {
+        if !has_returned(ctx, *value, ty) {
+            return false;
+        }
+    }
+    true
+}
+
+/// Whether a return has only values of the type that the function returns.
+fn is_returning(ctx: &Context, func: OpRef, takes: Takes, operands: &[Value]) -> bool
+    requires func { IsSymbol ctx.now.ops func }
+    requires within { func.0 < length ctx.now.ops }
+    requires operands { All (IsValueWithin (length ctx.now.ops) (length ctx.now.blocks)) operands.now }
+    requires typed { IsTyped ctx.now }
+    ensures { IsTrue result ↔ IsReturning takes (type_in ctx.now) (returned_by (func_at ctx.now func).type) operands.now }
+{
+    match takes {
+        Takes::Nothing => true,
+        Takes::One(_) => true,
+        Takes::Two(..) => true,
+        Takes::Three(..) => true,
+        Takes::Return => all_returned(ctx, func, operands),
+    }
+}
+
+/// Whether there are as many operands as a row takes, all of them integers, and a return has what its function returns.
+fn operands_taken(ctx: &Context, func: OpRef, takes: Takes, operands: &[Value]) -> bool
+    requires func { IsSymbol ctx.now.ops func }
+    requires within { func.0 < length ctx.now.ops }
+    requires operands { All (IsValueWithin (length ctx.now.ops) (length ctx.now.blocks)) operands.now }
+    requires typed { IsTyped ctx.now }
+    ensures { IsTrue result ↔ All (IsIntegerBy (type_in ctx.now)) operands.now × (length operands.now ≡ operand_count takes (returns_void (func_at ctx.now func))) × IsReturning takes (type_in ctx.now) (returned_by (func_at ctx.now func).type) operands.now }
+{
+    operands.len() == takes.operand_count(returns_void(ctx, func))
+        && are_integers(ctx, operands)
+        && is_returning(ctx, func, takes, operands)
+}
+
+/// Whether the types of the operands and of the result are those of the row.
+fn types_fit(ctx: &Context, op: Op, operands: &[Value], own: Option<TypeHandle>) -> bool
+    requires operands { All (IsValueWithin (length ctx.now.ops) (length ctx.now.blocks)) operands.now }
+    requires own { IfSome own (λ t. t.0 < length ctx.now.types) }
+    requires typed { IsTyped ctx.now }
+    ensures { IsTrue result ↔ (row_fits (type_in ctx.now) op (option_map (tree_at ctx.now) own) operands.now ≡ true) × (option_map (tree_at ctx.now) own ≡ row_result (type_in ctx.now) op (option_map (tree_at ctx.now) own) operands.now) × IfSome (option_map (tree_at ctx.now) own) IsInteger }
+{
+    operands_fit(ctx, op, operands, own)
+        && is_given(ctx, op, operands, own)
+        && is_integer_or_none(ctx.types(), own)
+}
+
+/// Whether an operation keeps the rule of its row.
+fn row_fits(
+    ctx: &Context,
+    func: OpRef,
+    op: Op,
+    operands: &[Value],
+    own: Option<TypeHandle>,
+    edges: &[Successor],
+) -> bool
+    requires func { IsSymbol ctx.now.ops func }
+    requires within { func.0 < length ctx.now.ops }
+    requires operands { All (IsValueWithin (length ctx.now.ops) (length ctx.now.blocks)) operands.now }
+    requires own { IfSome own (λ t. t.0 < length ctx.now.types) }
+    requires edges { All (IsSuccessorWithin (length ctx.now.ops) (length ctx.now.blocks)) edges.now }
+    requires typed { IsTyped ctx.now }
+    ensures { IsTrue result ↔ IsRow (type_in ctx.now) (func_at ctx.now func) op operands.now (option_map (tree_at ctx.now) own) edges.now }
+{
+    let rule = op.rule();
+    operands_taken(ctx, func, rule.takes, operands)
+        && types_fit(ctx, op, operands, own)
+        && edges_fit(ctx, func, edges, rule.leads.target_count())
 }
 
 /// Whether an `llvm.constant` is as its kind is.
 fn constant_op_fits(
     ctx: &Context,
-    func: OpRef,
     value: &ConstAttr,
     operands: &[Value],
     own: Option<TypeHandle>,
     edges: &[Successor],
 ) -> bool
-    requires func { IsSymbol ctx.now.ops func }
-    requires within { func.0 < length ctx.now.ops }
     requires value { HasTypesBelow (length ctx.now.types) value.now }
-    requires operands { All (IsValueWithin (length ctx.now.ops) (length ctx.now.blocks)) operands.now }
     requires own { IfSome own (λ t. t.0 < length ctx.now.types) }
-    requires edges { All (IsSuccessorWithin (length ctx.now.ops) (length ctx.now.blocks)) edges.now }
     requires typed { IsTyped ctx.now }
-    ensures { IsTrue result ↔ IsOfKind (type_in ctx.now) (func_at ctx.now func) operands.now (option_map (tree_at ctx.now) own) edges.now (ConstantOp (attr_tree (type_trees ctx.now.types) value.now)) }
+    ensures { (g : Func) → IsTrue result ↔ IsOfKind (type_in ctx.now) g operands.now (option_map (tree_at ctx.now) own) edges.now (ConstantOp (attr_tree (type_trees ctx.now.types) value.now)) }
 {
     operands.is_empty() && edges.is_empty() && constant_fits(ctx.types(), value, own)
-}
-
-/// Whether an `llvm.add` is as its kind is.
-fn add_op_fits(
-    ctx: &Context,
-    func: OpRef,
-    flags: IntegerOverflowFlagsAttr,
-    operands: &[Value],
-    own: Option<TypeHandle>,
-    edges: &[Successor],
-) -> bool
-    requires func { IsSymbol ctx.now.ops func }
-    requires within { func.0 < length ctx.now.ops }
-    requires operands { All (IsValueWithin (length ctx.now.ops) (length ctx.now.blocks)) operands.now }
-    requires own { IfSome own (λ t. t.0 < length ctx.now.types) }
-    requires edges { All (IsSuccessorWithin (length ctx.now.ops) (length ctx.now.blocks)) edges.now }
-    requires typed { IsTyped ctx.now }
-    ensures { IsTrue result ↔ IsOfKind (type_in ctx.now) (func_at ctx.now func) operands.now (option_map (tree_at ctx.now) own) edges.now (AddOp flags) }
-{
-    edges.is_empty() && add_fits(ctx, operands, own)
-}
-
-/// Whether an `llvm.icmp` is as its kind is.
-fn icmp_op_fits(
-    ctx: &Context,
-    func: OpRef,
-    predicate: ICmpPredicateAttr,
-    operands: &[Value],
-    own: Option<TypeHandle>,
-    edges: &[Successor],
-) -> bool
-    requires func { IsSymbol ctx.now.ops func }
-    requires within { func.0 < length ctx.now.ops }
-    requires operands { All (IsValueWithin (length ctx.now.ops) (length ctx.now.blocks)) operands.now }
-    requires own { IfSome own (λ t. t.0 < length ctx.now.types) }
-    requires edges { All (IsSuccessorWithin (length ctx.now.ops) (length ctx.now.blocks)) edges.now }
-    requires typed { IsTyped ctx.now }
-    ensures { IsTrue result ↔ IsOfKind (type_in ctx.now) (func_at ctx.now func) operands.now (option_map (tree_at ctx.now) own) edges.now (ICmpOp predicate) }
-{
-    edges.is_empty() && gives_bit(ctx.types(), own) && are_comparable(ctx, operands)
-}
-
-/// Whether there are neither operands nor a result.
-fn is_bare(ctx: &Context, operands: &[Value], own: Option<TypeHandle>) -> bool
-    ensures { IsTrue result ↔ (operands.now ≡ []) × (option_map (tree_at ctx.now) own ≡ None) }
-{
-    operands.is_empty() && own.is_none()
-}
-
-/// Whether there are a condition alone and no result.
-fn is_branch(ctx: &Context, operands: &[Value], own: Option<TypeHandle>) -> bool
-    requires operands { All (IsValueWithin (length ctx.now.ops) (length ctx.now.blocks)) operands.now }
-    requires typed { IsTyped ctx.now }
-    ensures { IsTrue result ↔ ((condition : Value) × (operands.now ≡ condition ∷ []) × (type_in ctx.now condition ≡ Some (IntegerType 1))) × (option_map (tree_at ctx.now) own ≡ None) }
-{
-    own.is_none() && is_condition(ctx, operands)
-}
-
-/// Whether an `llvm.br` is as its kind is.
-fn br_fits(
-    ctx: &Context,
-    func: OpRef,
-    operands: &[Value],
-    own: Option<TypeHandle>,
-    edges: &[Successor],
-) -> bool
-    requires func { IsSymbol ctx.now.ops func }
-    requires within { func.0 < length ctx.now.ops }
-    requires operands { All (IsValueWithin (length ctx.now.ops) (length ctx.now.blocks)) operands.now }
-    requires own { IfSome own (λ t. t.0 < length ctx.now.types) }
-    requires edges { All (IsSuccessorWithin (length ctx.now.ops) (length ctx.now.blocks)) edges.now }
-    requires typed { IsTyped ctx.now }
-    ensures { IsTrue result ↔ IsOfKind (type_in ctx.now) (func_at ctx.now func) operands.now (option_map (tree_at ctx.now) own) edges.now BrOp }
-{
-    is_bare(ctx, operands, own) && edges_fit(ctx, func, edges, 1)
-}
-
-/// Whether an `llvm.cond_br` is as its kind is.
-fn cond_br_fits(
-    ctx: &Context,
-    func: OpRef,
-    operands: &[Value],
-    own: Option<TypeHandle>,
-    edges: &[Successor],
-) -> bool
-    requires func { IsSymbol ctx.now.ops func }
-    requires within { func.0 < length ctx.now.ops }
-    requires operands { All (IsValueWithin (length ctx.now.ops) (length ctx.now.blocks)) operands.now }
-    requires own { IfSome own (λ t. t.0 < length ctx.now.types) }
-    requires edges { All (IsSuccessorWithin (length ctx.now.ops) (length ctx.now.blocks)) edges.now }
-    requires typed { IsTyped ctx.now }
-    ensures { IsTrue result ↔ IsOfKind (type_in ctx.now) (func_at ctx.now func) operands.now (option_map (tree_at ctx.now) own) edges.now CondBrOp }
-{
-    is_branch(ctx, operands, own) && edges_fit(ctx, func, edges, 2)
-}
-
-/// Whether an `llvm.return` is as its kind is.
-fn return_op_fits(
-    ctx: &Context,
-    func: OpRef,
-    operands: &[Value],
-    own: Option<TypeHandle>,
-    edges: &[Successor],
-) -> bool
-    requires func { IsSymbol ctx.now.ops func }
-    requires within { func.0 < length ctx.now.ops }
-    requires operands { All (IsValueWithin (length ctx.now.ops) (length ctx.now.blocks)) operands.now }
-    requires own { IfSome own (λ t. t.0 < length ctx.now.types) }
-    requires edges { All (IsSuccessorWithin (length ctx.now.ops) (length ctx.now.blocks)) edges.now }
-    requires typed { IsTyped ctx.now }
-    ensures { IsTrue result ↔ IsOfKind (type_in ctx.now) (func_at ctx.now func) operands.now (option_map (tree_at ctx.now) own) edges.now ReturnOp }
-{
-    own.is_none() && edges.is_empty() && return_fits(ctx, func, operands)
-}
-
-/// Whether an `llvm.unreachable` is as its kind is.
-fn unreachable_fits(
-    ctx: &Context,
-    func: OpRef,
-    operands: &[Value],
-    own: Option<TypeHandle>,
-    edges: &[Successor],
-) -> bool
-    requires func { IsSymbol ctx.now.ops func }
-    requires within { func.0 < length ctx.now.ops }
-    requires operands { All (IsValueWithin (length ctx.now.ops) (length ctx.now.blocks)) operands.now }
-    requires own { IfSome own (λ t. t.0 < length ctx.now.types) }
-    requires edges { All (IsSuccessorWithin (length ctx.now.ops) (length ctx.now.blocks)) edges.now }
-    requires typed { IsTyped ctx.now }
-    ensures { IsTrue result ↔ IsOfKind (type_in ctx.now) (func_at ctx.now func) operands.now (option_map (tree_at ctx.now) own) edges.now UnreachableOp }
-{
-    operands.is_empty() && edges.is_empty() && own.is_none()
 }
 
 /// Whether an operation is as its kind is.
@@ -306,13 +354,8 @@ fn kind_fits(
 {
     match kind {
         OpKind::Module | OpKind::Func => false,
-        OpKind::Constant(value) => constant_op_fits(ctx, func, value, operands, own, edges),
-        OpKind::Add(flags) => add_op_fits(ctx, func, *flags, operands, own, edges),
-        OpKind::ICmp(predicate) => icmp_op_fits(ctx, func, *predicate, operands, own, edges),
-        OpKind::Br => br_fits(ctx, func, operands, own, edges),
-        OpKind::CondBr => cond_br_fits(ctx, func, operands, own, edges),
-        OpKind::Return => return_op_fits(ctx, func, operands, own, edges),
-        OpKind::Unreachable => unreachable_fits(ctx, func, operands, own, edges),
+        OpKind::Constant(value) => constant_op_fits(ctx, value, operands, own, edges),
+        OpKind::Row(op) => row_fits(ctx, func, *op, operands, own, edges),
     }
 }
 
@@ -335,8 +378,9 @@ pub fn is_ending(kind: &OpKind) -> bool
     ensures { result ≡ ends_kind kind.now }
 {
     match kind {
-        OpKind::Br | OpKind::CondBr | OpKind::Return | OpKind::Unreachable => true,
-        OpKind::Module | OpKind::Func | OpKind::Constant(_) | OpKind::Add(_) | OpKind::ICmp(_) =>
-            false,
+        OpKind::Module => false,
+        OpKind::Func => false,
+        OpKind::Constant(_) => false,
+        OpKind::Row(op) => op.rule().leads.ends(),
     }
 }

@@ -2,11 +2,10 @@
 
 use crate::linkage::LinkageAttr;
 use crate::numbers::{BlockRef, OpRef};
-use crate::overflow::IntegerOverflowFlagsAttr;
-use crate::predicates::ICmpPredicateAttr;
 use dialect_types::attrs::ConstAttr;
 use dialect_types::identifier::Identifier;
 use dialect_types::types::TypeHandle;
+use kinds::op::Op;
 use support::items::Items;
 
 /// What an operand names.
@@ -25,7 +24,7 @@ pub struct Successor {
     pub args: Items<Value>,
 }
 
-/// What an operation is, with its immediates: a line for each kind.
+/// What an operation is, with its immediates.
 #[derive(Drop)]
 pub enum OpKind {
     /// `builtin.module`.
@@ -34,18 +33,8 @@ pub enum OpKind {
     Func,
     /// `llvm.constant`, with its `value`.
     Constant(ConstAttr),
-    /// `llvm.add` of two operands.
-    Add(IntegerOverflowFlagsAttr),
-    /// `llvm.icmp` of two operands, with its `predicate`.
-    ICmp(ICmpPredicateAttr),
-    /// `llvm.br` to its one successor.
-    Br,
-    /// `llvm.cond_br` on its operand: to the first successor where it is true, else to the second.
-    CondBr,
-    /// `llvm.return`.
-    Return,
-    /// `llvm.unreachable`.
-    Unreachable,
+    /// The operation of a row of the table, with its immediates.
+    Row(Op),
 }
 
 /// The type and the linkage of a function.

@@ -4,20 +4,20 @@ ghost use Rattle.std.specs.Prelude.{◌≡◌, ◌<◌, ◌++◌, IfSome, List, 
 ghost use Rattle.std.specs.Option.{option_copied, option_map};
 ghost use Rattle.dialect_types.specs.Trees.{TypeTree, attr_tree, type_at, type_trees, HasTypesBelow};
 ghost use Rattle.dialect_types.specs.Text.{Keeps};
-ghost use Rattle.dialect_core.specs.Data.{ConstantOp, AddOp, ICmpOp, HasKindTypesBelow, kind_of, op_of, IsTypedOp};
+ghost use Rattle.dialect_core.specs.Data.{ConstantOp, HasKindTypesBelow, kind_of, op_of, IsTypedOp};
 ghost use Rattle.dialect_core.specs.Numbering.{value_at, block_at};
-ghost use Rattle.dialect_core.specs.Text.{option_text, number_text, colon_text, value_text, block_name_text, values_text, successor_text, successors_text, gives_text, head_text, immediates_text, predicate_text, result_type_text, tail_text, kind_word, op_text};
+ghost use Rattle.dialect_core.specs.Text.{option_text, number_text, colon_text, value_text, block_name_text, values_text, successor_text, successors_text, gives_text, head_text, immediates_text, row_immediates_text, predicate_text, result_type_text, tail_text, kind_word, op_text};
+ghost use Rattle.kinds.specs.declared.op.Immediates.TheVariants as sorts;
 
 use crate::numbering::Numbering;
 use crate::numbers::{BlockRef, OpRef};
 use crate::ops::{OpData, OpKind, Successor, Value};
-use crate::overflow::IntegerOverflowFlagsAttr;
-use crate::predicates::ICmpPredicateAttr;
 use dialect_types::attrs::ConstAttr;
 use dialect_types::identifier::Identifier;
 use dialect_types::printing::{print_comma_before, print_number};
 use dialect_types::type_store::TypeStore;
 use dialect_types::types::TypeHandle;
+use kinds::op::{Immediates, LLVMIntPredicate, OverflowFlags};
 use std::alloc::AllocError;
 
 /// Appends a number, or `?` where there is none.
@@ -167,11 +167,8 @@ fn print_constant_immediates(
 }
 
 /// Appends the flags that are set, in braces.
-fn print_overflow_flags(
-    flags: IntegerOverflowFlagsAttr,
-    out: &mut Vec<u8>,
-) -> Result<(), AllocError>
-    ensures ok { OnOk result (out.new.items ≡ out.old.items ++ immediates_text (AddOp flags)) }
+fn print_overflow_flags(flags: OverflowFlags, out: &mut Vec<u8>) -> Result<(), AllocError>
+    ensures ok { OnOk result (out.new.items ≡ out.old.items ++ row_immediates_text (sorts.Overflow flags)) }
     ensures kept { Keeps out.old.items out.new.items }
 {
     match (flags.nsw, flags.nuw) {
@@ -183,26 +180,26 @@ fn print_overflow_flags(
 }
 
 /// The word of a predicate.
-fn predicate_word(predicate: ICmpPredicateAttr) -> &'static [u8]
+fn predicate_word(predicate: LLVMIntPredicate) -> &'static [u8]
     ensures { result.now ≡ predicate_text predicate }
 {
     match predicate {
-        ICmpPredicateAttr::EQ => b"EQ",
-        ICmpPredicateAttr::NE => b"NE",
-        ICmpPredicateAttr::UGT => b"UGT",
-        ICmpPredicateAttr::UGE => b"UGE",
-        ICmpPredicateAttr::ULT => b"ULT",
-        ICmpPredicateAttr::ULE => b"ULE",
-        ICmpPredicateAttr::SGT => b"SGT",
-        ICmpPredicateAttr::SGE => b"SGE",
-        ICmpPredicateAttr::SLT => b"SLT",
-        ICmpPredicateAttr::SLE => b"SLE",
+        LLVMIntPredicate::LLVMIntEQ => b"EQ",
+        LLVMIntPredicate::LLVMIntNE => b"NE",
+        LLVMIntPredicate::LLVMIntUGT => b"UGT",
+        LLVMIntPredicate::LLVMIntUGE => b"UGE",
+        LLVMIntPredicate::LLVMIntULT => b"ULT",
+        LLVMIntPredicate::LLVMIntULE => b"ULE",
+        LLVMIntPredicate::LLVMIntSGT => b"SGT",
+        LLVMIntPredicate::LLVMIntSGE => b"SGE",
+        LLVMIntPredicate::LLVMIntSLT => b"SLT",
+        LLVMIntPredicate::LLVMIntSLE => b"SLE",
     }
 }
 
 /// Appends the predicate of a comparison, in braces.
-fn print_predicate(predicate: ICmpPredicateAttr, out: &mut Vec<u8>) -> Result<(), AllocError>
-    ensures ok { OnOk result (out.new.items ≡ out.old.items ++ immediates_text (ICmpOp predicate)) }
+fn print_predicate(predicate: LLVMIntPredicate, out: &mut Vec<u8>) -> Result<(), AllocError>
+    ensures ok { OnOk result (out.new.items ≡ out.old.items ++ row_immediates_text (sorts.Predicate predicate)) }
     ensures kept { Keeps out.old.items out.new.items }
 {
     out.extend_from_slice(b" {predicate = ")?;
@@ -250,12 +247,19 @@ fn word_of(kind: &OpKind) -> Option<&'static [u8]>
     match kind {
         OpKind::Module | OpKind::Func => None,
         OpKind::Constant(_) => Some(b"llvm.constant"),
-        OpKind::Add(_) => Some(b"llvm.add"),
-        OpKind::ICmp(_) => Some(b"llvm.icmp"),
-        OpKind::Br => Some(b"llvm.br"),
-        OpKind::CondBr => Some(b"llvm.cond_br"),
-        OpKind::Return => Some(b"llvm.return"),
-        OpKind::Unreachable => Some(b"llvm.unreachable"),
+        OpKind::Row(op) => Some(op.word()),
+    }
+}
+
+/// Appends the immediates of a row: a line for each sort.
+fn print_row_immediates(held: Immediates, out: &mut Vec<u8>) -> Result<(), AllocError>
+    ensures ok { OnOk result (out.new.items ≡ out.old.items ++ row_immediates_text held) }
+    ensures kept { Keeps out.old.items out.new.items }
+{
+    match held {
+        Immediates::Nothing => Ok(()),
+        Immediates::Overflow(flags) => print_overflow_flags(flags, out),
+        Immediates::Predicate(predicate) => print_predicate(predicate, out),
     }
 }
 
@@ -267,9 +271,8 @@ fn print_immediates(types: &TypeStore, kind: &OpKind, out: &mut Vec<u8>) -> Resu
 {
     match kind {
         OpKind::Constant(value) => print_constant_immediates(types, value, out),
-        OpKind::Add(flags) => print_overflow_flags(*flags, out),
-        OpKind::ICmp(predicate) => print_predicate(*predicate, out),
-        _ => Ok(()),
+        OpKind::Row(op) => print_row_immediates(op.immediates(), out),
+        OpKind::Module | OpKind::Func => Ok(()),
     }
 }
 

@@ -1,7 +1,7 @@
 //! Tests of types: whether they are integers, signatures, and the same.
 
 ghost use Rattle.std.specs.Prelude.{◌≡◌, ◌<◌, ◌^◌, ◌↔◌, IsTrue, All, length, map};
-ghost use Rattle.dialect_types.specs.Trees.{IntegerType, type_at, type_trees};
+ghost use Rattle.dialect_types.specs.Trees.{IntType, type_at, type_trees};
 ghost use Rattle.dialect_core.specs.Form.{IsFitting, IsShortInt, IsShortResult};
 ghost use Rattle.dialect_core.specs.WellFormed.{IsInteger, IsReturned, IsSignature, IsNarrowSignature, params_of};
 
@@ -66,7 +66,7 @@ pub fn is_short(types: &TypeStore, ty: TypeHandle) -> bool
 /// Whether a type is the integer type of one bit.
 pub fn is_bit(types: &TypeStore, ty: TypeHandle) -> bool
     requires { ty.0 < length types.now }
-    ensures { IsTrue result ↔ type_at (type_trees types.now) ty ≡ IntegerType 1 }
+    ensures { IsTrue result ↔ type_at (type_trees types.now) ty ≡ IntType 1 }
 {
     match types.kind(ty) {
         TypeKind::Integer(width) => *width == 1,

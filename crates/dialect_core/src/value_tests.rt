@@ -1,8 +1,8 @@
 //! Tests of values and edges: which type a value has, and whether an edge fits its target.
 
-ghost use Rattle.std.specs.Prelude.{◌≡◌, ◌<◌, ◌↔◌, [], ◌∷◌, IsTrue, All, IfSome, Some, None, length, map, slice_get};
+ghost use Rattle.std.specs.Prelude.{◌≡◌, ◌<◌, ◌↔◌, IsTrue, All, IfSome, Some, None, length, map, slice_get};
 ghost use Rattle.std.specs.Option.{option_map, option_and_then};
-ghost use Rattle.dialect_types.specs.Trees.{TypeTree, type_at, type_trees};
+ghost use Rattle.dialect_types.specs.Trees.{type_trees};
 ghost use Rattle.dialect_core.specs.ContextData.{IsValueWithin, IsSuccessorWithin};
 ghost use Rattle.dialect_core.specs.Data.{DialectBlock, DialectOp, IsTyped, op_at, block_in, type_in};
 ghost use Rattle.dialect_core.specs.WellFormed.{AreEdges, IsEdge, IsFirst, IsPastFirsts};
@@ -23,7 +23,7 @@ fn result_of(ctx: &Context, op: OpRef) -> Option<TypeHandle>
 {
     match ctx.op_kind(op) {
         OpKind::Module | OpKind::Func => None,
-        _ => ctx.result_type(op),
+        OpKind::Constant(_) | OpKind::Row(_) => ctx.result_type(op),
     }
 }
 

@@ -5,7 +5,7 @@ use Rattle.std.specs.Prelude.{OnOk, Result, codes, is_ok, if◌then◌else◌}
 use Rattle.std.proofs.Math.Seq.{take-length}
 use Rattle.std.proofs.lemmas.List.{append-nil, take_more, map-append, length-map, length-take-le}
 use Rattle.dialect_types.specs.declared.types.TypeHandle.{TypeHandle}
-use Rattle.dialect_types.specs.Trees.{IntegerAttr, TypeTree, FuncType, types_at, type_at, AllBelow}
+use Rattle.dialect_types.specs.Trees.{IntegerAttr, TypeTree, FunctionType, types_at, type_at, AllBelow}
 use Rattle.dialect_types.specs.Text.{Keeps, attr_text, inner_type_text, comma_before, each_after, joined, truth_text, type_text, type_texts}
 
 pub keeps_same : (a : List ℕ) → Keeps a a
@@ -74,7 +74,7 @@ pub func_printed : (ts : List TypeTree) (r : TypeHandle) (ps qs : List TypeHandl
     → head ≡ o ++ codes "llvm.func <" → result ≡ head ++ type_text (type_at ts r) → opened ≡ result ++ codes " ("
     → params ≡ opened ++ joined (map (λ (x : TypeHandle). type_text (type_at ts x)) (take n qs))
     → end ≡ params ++ codes ") variadic = " ++ truth_text v ++ codes ">"
-    → end ≡ o ++ type_text (FuncType (type_at ts r) (types_at ts ps) v)
+    → end ≡ o ++ type_text (FunctionType (type_at ts r) (types_at ts ps) v)
 func_printed ts r ps qs v n o head result opened params end same all e1 e2 e3 e4 e5 =
     let whole : take n qs ≡ ps = ap (λ (k : ℕ). take k qs) all ∙ take-length qs ∙ same in
     let texts = ap joined (ap (map (λ (x : TypeHandle). type_text (type_at ts x))) whole ∙ sym (type_texts-map ts ps)) in

@@ -6,7 +6,7 @@ use Rattle.dialect_types.specs.declared.types.TypeHandle.{TypeHandle}
 use Rattle.dialect_types.specs.declared.types.TypeKind.{TypeKind}
 use Rattle.dialect_types.specs.declared.types.TypeKind.TheVariants.{Integer, Func, Void}
 use Rattle.support.specs.Interned.{Interned, IsDistinctList}
-use Rattle.dialect_types.specs.Trees.{TypeTree, VoidType, IntegerType, FuncType, trees_after, type_at, types_at, type_tree, type_trees, AllBelow, HasPartsBelow, IsGrounded, IsDistinctAsTrees}
+use Rattle.dialect_types.specs.Trees.{TypeTree, VoidType, IntType, FunctionType, trees_after, type_at, types_at, type_tree, type_trees, AllBelow, HasPartsBelow, IsGrounded, IsDistinctAsTrees}
 use Rattle.dialect_types.proofs.KeyLemmas.{same_handle}
 
 -- more types leave the trees of the earlier ones
@@ -70,10 +70,10 @@ pub tree_of_kind : (ks : List TypeKind) → IsGrounded ks → (t : TypeHandle) (
 tree_of_kind ks ok t k h = at_number [] ks t.0 t.0 k (omega arith) h (ok t.0 k h)
 
 -- of an integer type, a function type and the empty type, as a line each
-pub integer_tree : (ks : List TypeKind) → IsGrounded ks → (t : TypeHandle) (w : ℕ) → slice_get ks t.0 ≡ Some (Integer w) → type_at (type_trees ks) t ≡ IntegerType w
+pub integer_tree : (ks : List TypeKind) → IsGrounded ks → (t : TypeHandle) (w : ℕ) → slice_get ks t.0 ≡ Some (Integer w) → type_at (type_trees ks) t ≡ IntType w
 integer_tree ks ok t w h = tree_of_kind ks ok t (Integer w) h
 
-pub func_tree : (ks : List TypeKind) → IsGrounded ks → (t r : TypeHandle) (ps : List TypeHandle) (v : _) → slice_get ks t.0 ≡ Some (Func r ps v) → type_at (type_trees ks) t ≡ FuncType (type_at (type_trees ks) r) (types_at (type_trees ks) ps) v
+pub func_tree : (ks : List TypeKind) → IsGrounded ks → (t r : TypeHandle) (ps : List TypeHandle) (v : _) → slice_get ks t.0 ≡ Some (Func r ps v) → type_at (type_trees ks) t ≡ FunctionType (type_at (type_trees ks) r) (types_at (type_trees ks) ps) v
 func_tree ks ok t r ps v h = tree_of_kind ks ok t (Func r ps v) h
 
 pub void_tree : (ks : List TypeKind) → IsGrounded ks → (t : TypeHandle) → slice_get ks t.0 ≡ Some Void → type_at (type_trees ks) t ≡ VoidType

@@ -1,7 +1,7 @@
 -- The dialect text of types and constants.
 use Rattle.std.specs.Prelude.{◌≡◌, ℕ, zero, suc, Bool, true, false, List, [], ◌∷◌, ◌++◌, codes}
 use Rattle.std.specs.Fmt.{decimal}
-use Rattle.dialect_types.specs.Trees.{TypeTree, VoidType, IntegerType, FuncType, TypeTrees, NoTypes, ThenType, AttrTree, IntegerAttr}
+use Rattle.dialect_types.specs.Trees.{TypeTree, VoidType, IntType, FunctionType, TypeTrees, NoTypes, ThenType, AttrTree, IntegerAttr}
 
 -- the word of a truth value
 abbrev pub truth_text : Bool → List ℕ
@@ -32,8 +32,8 @@ abbrev mutual
   -- the text of a type
   pub type_text : TypeTree → List ℕ
   type_text VoidType = codes "llvm.void"
-  type_text (IntegerType w) = codes "builtin.integer i" ++ decimal w
-  type_text (FuncType result params variadic) =
+  type_text (IntType w) = codes "builtin.integer i" ++ decimal w
+  type_text (FunctionType result params variadic) =
       codes "llvm.func <" ++ type_text result ++ codes " (" ++ joined (type_texts params) ++ codes ") variadic = " ++ truth_text variadic ++ codes ">"
 
   -- the text of each type
@@ -43,7 +43,7 @@ abbrev mutual
 
 -- the type of an integer constant inside its text: `iW` for an integer type
 abbrev pub inner_type_text : TypeTree → List ℕ
-inner_type_text (IntegerType w) = codes "i" ++ decimal w
+inner_type_text (IntType w) = codes "i" ++ decimal w
 inner_type_text t = type_text t
 
 -- the text of a constant

@@ -1,21 +1,11 @@
 -- Types and constants as trees, and the tree that a number of a store stands for.
 use Rattle.std.specs.Prelude.{◌≡◌, ◌<◌, ◌+◌, ℕ, Bool, List, [], ◌∷◌, ◌++◌, max, length, slice_get, slice_index_or, Some}
+pub use Rattle.kinds.specs.Types.{TypeTree, VoidType, IntType, FunctionType, TypeTrees, NoTypes, ThenType}
 use Rattle.dialect_types.specs.declared.types.TypeHandle.{TypeHandle}
 use Rattle.dialect_types.specs.declared.types.TypeKind.{TypeKind}
 use Rattle.dialect_types.specs.declared.types.TypeKind.TheVariants.{Integer, Func, Void}
 use Rattle.dialect_types.specs.declared.attrs.ConstAttr.{ConstAttr}
 use Rattle.dialect_types.specs.declared.attrs.ConstAttr.TheVariants as A
-
-mutual
-  -- a type, a line for each kind
-  pub data TypeTree : Type 0 where
-    VoidType : TypeTree
-    IntegerType : (width : ℕ) → TypeTree
-    FuncType : (result : TypeTree) (params : TypeTrees) (variadic : Bool) → TypeTree
-
-  pub data TypeTrees : Type 0 where
-    NoTypes : TypeTrees
-    ThenType : TypeTree → TypeTrees → TypeTrees
 
 -- a constant, a line for each kind
 pub data AttrTree : Type 0 where
@@ -25,8 +15,8 @@ abbrev mutual
   -- how deep a type nests, its innermost part counted
   pub depth : TypeTree → ℕ
   depth VoidType = 1
-  depth (IntegerType w) = 1
-  depth (FuncType result params variadic) = 1 + max (depth result) (depths params)
+  depth (IntType w) = 1
+  depth (FunctionType result params variadic) = 1 + max (depth result) (depths params)
 
   -- the depth of the deepest
   pub depths : TypeTrees → ℕ
@@ -49,8 +39,8 @@ types_at ts (t ∷ xs) = ThenType (type_at ts t) (types_at ts xs)
 
 -- the tree of a kind, where the trees of its parts are ts
 abbrev pub type_tree : List TypeTree → TypeKind → TypeTree
-type_tree ts (Integer w) = IntegerType w
-type_tree ts (Func result params variadic) = FuncType (type_at ts result) (types_at ts params) variadic
+type_tree ts (Integer w) = IntType w
+type_tree ts (Func result params variadic) = FunctionType (type_at ts result) (types_at ts params) variadic
 type_tree ts Void = VoidType
 
 -- the trees of a store's numbers

@@ -27,7 +27,6 @@ use Rattle.meaning.specs.Pairs.{Matched}
 use Rattle.from_llvm_ir.specs.declared.values.Values.{Values}
 use Rattle.from_llvm_ir.specs.declared.entries.Entries.{Entries}
 use Rattle.from_llvm_ir.specs.Match.{IsPlaces}
-use Rattle.from_llvm_ir.specs.Types.{type_from}
 use Rattle.from_llvm_ir.specs.Values.{Targets, IsNoted, target_at}
 use Rattle.from_llvm_ir.specs.Source.{IsInstOf, AreEntries}
 use Rattle.from_llvm_ir.specs.Imported.{passed, rest_of, phis_of, front_for}
@@ -334,9 +333,9 @@ module _ (fr : Frame) (form : LF.IsFormFunction fr.source) (order : IsPlaces (le
           omega (arith, one)
 
   -- so the argument at its place has its type
-  pub phi_typed : (j x : ℕ) (b : L.Block) (p : Placed) → slice_get (blocks_of fr) j ≡ Some b → slice_get b.instructions x ≡ Some p → is_phi p ≡ true → slice_get (args_for g j b) x ≡ Some (type_from p.type)
+  pub phi_typed : (j x : ℕ) (b : L.Block) (p : Placed) → slice_get (blocks_of fr) j ≡ Some b → slice_get b.instructions x ≡ Some p → is_phi p ≡ true → slice_get (args_for g j b) x ≡ Some p.type
   phi_typed ℕ.zero x b p at here phi = absurd (no_entry_phi x b p (ordered_first fr.order g.blocks order b at) here phi)
-  phi_typed (ℕ.suc j) x b p at here phi = slice_get-map (λ (q : Placed). type_from q.type) (phis_of b) x ∙ ap (option_map (λ (q : Placed). type_from q.type)) (phi_place (ℕ.suc j) x b p at here phi)
+  phi_typed (ℕ.suc j) x b p at here phi = slice_get-map (λ (q : Placed). q.type) (phis_of b) x ∙ ap (option_map (λ (q : Placed). q.type)) (phi_place (ℕ.suc j) x b p at here phi)
 
 -- ---- a phi
 

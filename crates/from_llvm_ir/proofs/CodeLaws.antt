@@ -11,7 +11,6 @@ use Rattle.meaning.specs.Terms.{Match}
 use Rattle.meaning.specs.Code.{FunctionSymbol, External, SameNamed, SameBody, IsOneToOne}
 use Rattle.meaning.specs.Llvm as Llvm
 use Rattle.meaning.specs.Dialect as Dialect
-use Rattle.meaning.specs.Dialect.{type_of}
 use Rattle.meaning.proofs.ShapeLaws.{same_shape}
 use Rattle.meaning.proofs.EntryLaws.{some_blocks, not_empty, same_symbol, both}
 use Rattle.from_llvm_ir.specs.declared.matching.FunctionBlocks.{FunctionBlocks}
@@ -74,14 +73,14 @@ module _ (match : Match) (d : ModuleData) (f : L.Function) (x : FunctionBlocks) 
     traces = same_shape match d f g (h.shape match here);
   }
 
-  linked : FunctionSymbol (type_of g.type) (Dialect.linkage g.linkage) 0 (Dialect.has_blocks g) ≡ FunctionSymbol (type_of g.type) External 0 (Dialect.has_blocks g)
+  linked : FunctionSymbol g.type (Dialect.linkage g.linkage) 0 (Dialect.has_blocks g) ≡ FunctionSymbol g.type External 0 (Dialect.has_blocks g)
   linked = rw h.form.linkage refl
 
   pub imported_entry : SameNamed match (Llvm.entry d f) (Dialect.entry g)
   imported_entry = record {
     name = sym h.name;
     entry = record {
-      symbol = same_symbol match f.type (type_of g.type) f.space (Llvm.has_blocks f) (Dialect.has_blocks g) (sym h.type) form.space (has ∙ sym has_dialect) ∙ sym linked;
+      symbol = same_symbol match f.type g.type f.space (Llvm.has_blocks f) (Dialect.has_blocks g) (sym h.type) form.space (has ∙ sym has_dialect) ∙ sym linked;
       body = both match f.name (Llvm.has_blocks f) (Dialect.has_blocks g) (Llvm.body d f) (Dialect.body g) has has_dialect imported_body;
     };
   }

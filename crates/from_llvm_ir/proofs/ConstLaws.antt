@@ -12,9 +12,8 @@ use Rattle.llvm_core.specs.Form.{IsShortResult}
 use Rattle.llvm_core.specs.Data as L
 use Rattle.llvm_core.specs.Data.{ConstTree, IntConst, PlaceholderConst, IntType, VoidType, FunctionType, trees_of, type_at, const_at}
 use Rattle.llvm_core.proofs.DataLemmas.{int_const_of, placeholder_const_of}
-use Rattle.dialect_types.specs.Trees.{TypeTree, IntegerType, IntegerAttr}
+use Rattle.dialect_types.specs.Trees.{TypeTree, IntType, IntegerAttr}
 use Rattle.dialect_core.specs.Data.{ConstantOp}
-use Rattle.from_llvm_ir.specs.Types.{type_from}
 use Rattle.from_llvm_ir.specs.Building.{new_op}
 use Rattle.from_llvm_ir.specs.Source.{IsShortConst, IsUsed}
 use Rattle.from_llvm_ir.specs.Known.{IsConstantOp}
@@ -37,12 +36,12 @@ const_fits m c t v at h =
     omega (arith, p.4, bound)
 
 -- the operation with its value makes it
-pub const_made : (m : Module) (c : LLVMConst) (t : LLVMType) (v n : ℕ) (ty : TypeTree) → slice_get m.consts c.0 ≡ Some (C.Int t v) → IsShortConst (const_at (trees_of m).consts c) → ty ≡ type_from (type_at (trees_of m).types t)
+pub const_made : (m : Module) (c : LLVMConst) (t : LLVMType) (v n : ℕ) (ty : TypeTree) → slice_get m.consts c.0 ≡ Some (C.Int t v) → IsShortConst (const_at (trees_of m).consts c) → ty ≡ type_at (trees_of m).types t
     → IsConstantOp (const_at (trees_of m).consts c) (new_op n None (ConstantOp (IntegerAttr ty v)) [] [] (Some ty))
 const_made m c t v n ty at h is =
     let p = short_parts (type_at (trees_of m).types t) v (subst IsShortConst (int_const_of m c t v at) h) in
     let tree : const_at (trees_of m).consts c ≡ IntConst (IntType p.0) v = int_const_of m c t v at ∙ ap (λ (x : L.TypeTree). IntConst x v) p.1 in
-    let int : ty ≡ IntegerType p.0 = is ∙ ap type_from p.1 in
+    let int : ty ≡ IntType p.0 = is ∙ p.1 in
     subst (λ (x : ConstTree). IsConstantOp x (new_op n None (ConstantOp (IntegerAttr ty v)) [] [] (Some ty))) (sym tree)
     (ap (λ (x : TypeTree). new_op n None (ConstantOp (IntegerAttr x v)) [] [] (Some x)) int)
 

@@ -1,5 +1,5 @@
 -- The edges and operations of a whole function, and what they stand for.
-use Rattle.std.proofs.Common.{ℕ, zero, suc, ◌≡◌, ◌<◌, ◌+◌, ◌⊎◌, inl, inr, refl, sym, ap, subst, ◌∙◌, not, false, List, [], ◌∷◌, ◌++◌, Some, map, length, take, slice_get}
+use Rattle.std.proofs.Common.{ℕ, zero, suc, ◌≡◌, ◌<◌, ◌+◌, ◌⊎◌, inl, inr, refl, sym, ap, subst, ◌∙◌, not, false, List, ◌++◌, Some, map, length, take, slice_get}
 use Rattle.std.specs.Option.{option_map}
 use Rattle.std.proofs.lemmas.List.{length-map}
 use Rattle.std.proofs.lemmas.Bool.{not-true}
@@ -14,7 +14,6 @@ use Rattle.dialect_core.specs.declared.ops.Value.{Value}
 use Rattle.dialect_core.specs.declared.ops.Successor.{Successor}
 use Rattle.dialect_core.specs.Data.{DialectOp, DialectBlock}
 use Rattle.meaning.specs.Pairs.{Matched}
-use Rattle.from_llvm_ir.specs.Types.{type_from}
 use Rattle.from_llvm_ir.specs.Imported.{passed, phis_of, rest_of, front_for}
 use Rattle.from_llvm_ir.specs.Known.{Known, Stands, IsConstantOp, blocks_of}
 use Rattle.from_llvm_ir.specs.Converted.{IsEdge, IsRow, IsConverted}
@@ -22,23 +21,6 @@ use Rattle.from_llvm_ir.proofs.ListLaws.{other_there}
 use Rattle.from_llvm_ir.proofs.OrderLaws.{ordered_at, not_first}
 use Rattle.from_llvm_ir.proofs.PassLaws.{takes, at_passed, passed_length, edge_there, target_there}
 use Rattle.from_llvm_ir.proofs.Whole.{IsWhole, target_at, source_at, source_block_apart}
-
--- ---- short matched lists
-
-pub matched_none : {X Y : Type 0} (P : X → Y → Type 0) (ys : List Y) → Matched P [] ys → ys ≡ []
-matched_none P [] h = refl
-matched_none P (y ∷ ys) h = elim h [ ]
-
-pub matched_one : {X Y : Type 0} (P : X → Y → Type 0) (a : X) (ys : List Y) → Matched P (a ∷ []) ys → (y : Y) × (ys ≡ y ∷ []) × P a y
-matched_one P a [] h = elim h [ ]
-matched_one P a (y ∷ []) h = (y, refl, h.0)
-matched_one P a (y ∷ z ∷ ys) h = elim h.1 [ ]
-
-pub matched_two : {X Y : Type 0} (P : X → Y → Type 0) (a b : X) (ys : List Y) → Matched P (a ∷ b ∷ []) ys → (y : Y) × (z : Y) × (ys ≡ y ∷ z ∷ []) × P a y × P b z
-matched_two P a b [] h = elim h [ ]
-matched_two P a b (y ∷ []) h = elim h.1 [ ]
-matched_two P a b (y ∷ z ∷ []) h = (y, z, refl, h.0, h.1.0)
-matched_two P a b (y ∷ z ∷ x ∷ ys) h = elim h.1.1 [ ]
 
 module _ (k : Known) (cs : List DialectBlock) (h : IsWhole k cs) where
   abbrev g : L.Function
@@ -94,16 +76,16 @@ module _ (k : Known) (cs : List DialectBlock) (h : IsWhole k cs) where
     pub is : takes m phi ≡ Some operand
     pub usable : LF.IsOperand g phi.type operand
     pub stands : Stands k operand v
-    pub type : slice_get block.args y ≡ Some (type_from phi.type)
+    pub type : slice_get block.args y ≡ Some phi.type
 
   module _ (m t : ℕ) (s : Successor) (e : EdgeAt m t s) where
-    phi_types : e.block.args ≡ map (λ (p : Placed). type_from p.type) (phis_of e.target)
+    phi_types : e.block.args ≡ map (λ (p : Placed). p.type) (phis_of e.target)
     phi_types = e.converted.head.args
 
     pub args_length : length s.args ≡ length e.block.args
     args_length =
         matched_length (Stands k) (passed g m e.target.number) s.args e.args ∙ passed_length g h.form m e.source e.target e.at e.edge
-        ∙ sym (length-map (phis_of e.target) (λ (p : Placed). type_from p.type)) ∙ sym (ap (λ (ts : List TypeTree). length ts) phi_types)
+        ∙ sym (length-map (phis_of e.target) (λ (p : Placed). p.type)) ∙ sym (ap (λ (ts : List TypeTree). length ts) phi_types)
 
     pub arg_at : (y : ℕ) (v : Value) → slice_get s.args y ≡ Some v → ArgAt m e.target e.block y v
     arg_at y v at =
@@ -116,7 +98,7 @@ module _ (k : Known) (cs : List DialectBlock) (h : IsWhole k cs) where
           is = p.is;
           usable = p.usable;
           stands = matched_at (Stands k) (passed g m e.target.number) s.args e.args y o.0 v o.1 at;
-          type = ap (λ (ts : List TypeTree). slice_get ts y) phi_types ∙ slice_get-map (λ (q : Placed). type_from q.type) (phis_of e.target) y ∙ ap (option_map (λ (q : Placed). type_from q.type)) p.here;
+          type = ap (λ (ts : List TypeTree). slice_get ts y) phi_types ∙ slice_get-map (λ (q : Placed). q.type) (phis_of e.target) y ∙ ap (option_map (λ (q : Placed). q.type)) p.here;
         }
 
   -- ---- operations

@@ -102,13 +102,8 @@ first_there m p (e ∷ entries) v all h = by (nat_eq e.block.0 p.0) h (first_the
     by false k rest = rest k
 
 pub taken_there : (m : Module) (p : LLVMBasicBlock) (inst : LLVMInst) (v : LLVMValue) → HasValues m inst → taken_by p inst ≡ Some v → IsValue m v
-taken_there m p (I.Add l r f) v has h = absurd (none-some v h)
-taken_there m p (I.ICmp l r q) v has h = absurd (none-some v h)
 taken_there m p (I.Phi t entries) v has h = first_there m p entries v (λ i e at. (within_at entries (IsEntry m) has.1 i e at).0) h
-taken_there m p (I.Br a) v has h = absurd (none-some v h)
-taken_there m p (I.CondBr c a b) v has h = absurd (none-some v h)
-taken_there m p (I.Ret x) v has h = absurd (none-some v h)
-taken_there m p I.Unreachable v has h = absurd (none-some v h)
+taken_there m p (I.Row r) v has h = absurd (none-some v h)
 
 -- ---- the blocks of a function
 

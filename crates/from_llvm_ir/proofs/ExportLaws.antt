@@ -17,7 +17,6 @@ use Rattle.dialect_core.specs.declared.ops.Successor.{Successor}
 use Rattle.dialect_core.specs.Form as DF
 use Rattle.dialect_core.specs.Data.{DialectOp, DialectBlock, Func}
 use Rattle.meaning.specs.Pairs.{Matched}
-use Rattle.from_llvm_ir.specs.Types.{type_from}
 use Rattle.from_llvm_ir.specs.Imported.{passed, rest_of, phis_of, front_for}
 use Rattle.from_llvm_ir.specs.Building.{ops_of}
 use Rattle.from_llvm_ir.specs.Known.{Known, Stands, blocks_of}
@@ -32,13 +31,8 @@ use Rattle.from_llvm_ir.proofs.FormLaws.{constant_tests}
 
 -- what leads somewhere is no phi
 leads_on : (i : L.Instruction) (w t : ℕ) → slice_get (targets i) w ≡ Some t → not (is_some (phi_entries i)) ≡ true
-leads_on (L.Add l r f) w t h = refl
-leads_on (L.ICmp l r q) w t h = refl
 leads_on (L.Phi es) w t h = absurd (none-some t h)
-leads_on (L.Br a) w t h = refl
-leads_on (L.CondBr c a b) w t h = refl
-leads_on (L.Return v) w t h = refl
-leads_on L.Unreachable w t h = refl
+leads_on (L.Applied r) w t h = refl
 
 pub first_item : {X : Type 0} (xs : List X) → ¬ (xs ≡ []) → (x : X) × (slice_get xs 0 ≡ Some x)
 first_item [] not_none = absurd (not_none refl)
@@ -223,7 +217,7 @@ module _ (n : ℕ) (k : Known) (cs : List DialectBlock) (h : IsWhole k cs) where
   has_targets i c at some =
       let b = source_at n k cs h (suc i) c at in
       let o = ordered_at k.frame.order g.blocks h.order (suc i) b.0 b.1 in
-      let p = first_item (phis_of b.0) (λ none. some (b.2.head.args ∙ ap (map (λ (q : Placed). type_from q.type)) none)) in
+      let p = first_item (phis_of b.0) (λ none. some (b.2.head.args ∙ ap (map (λ (q : Placed). q.type)) none)) in
       let q = some_edge o.place b.0 p.0 o.at p.1 in
       let e = edge_between q.0 b.0.number q.1 in
       reached_by e.0 i b.0 c b.1 at e.1

@@ -1,5 +1,5 @@
 -- A whole function is of the dialect's form, and nothing of it is refused by an export.
-use Rattle.std.proofs.Common.{ℕ, zero, suc, ◌≡◌, inl, inr, refl, sym, ap, subst, ◌∙◌, true, false, not, List, [], ◌∷◌, ◌++◌, Option, Some, None, All, length, take, slice_get, codes, arith, rules}
+use Rattle.std.proofs.Common.{ℕ, zero, suc, ◌≡◌, inl, inr, refl, sym, ap, subst, ◌∙◌, true, false, not, List, [], ◌∷◌, ◌++◌, Option, Some, All, length, take, slice_get, codes, arith, rules}
 use Rattle.std.specs.Prelude.{IfSome}
 use Rattle.std.proofs.lemmas.Bool.{false≢true}
 use Rattle.std.proofs.lemmas.List.{append_assoc}
@@ -12,39 +12,39 @@ use Rattle.llvm_core.specs.Form as LF
 use Rattle.llvm_core.specs.Data as L
 use Rattle.llvm_core.specs.Data.{ConstTree, IntConst, PlaceholderConst, IntType, VoidType, FunctionType, Placed, targets}
 use Rattle.dialect_types.specs.Names.{IsPlainName}
-use Rattle.dialect_types.specs.Trees as D
-use Rattle.dialect_types.specs.Trees.{TypeTree, IntegerType, FuncType}
+use Rattle.dialect_types.specs.Trees.{TypeTree}
 use Rattle.dialect_core.specs.declared.ops.Value.{Value}
 use Rattle.dialect_core.specs.declared.ops.Successor.{Successor}
+use Rattle.kinds.specs.declared.rules.Takes.{Takes}
+use Rattle.kinds.specs.declared.rules.Takes.TheVariants as O
+use Rattle.kinds.specs.Rules.{operand_count}
+use Rattle.kinds.specs.Table.{rule_of}
+use Rattle.dialect_core.specs.Rules as R
 use Rattle.dialect_core.specs.Form as DF
 use Rattle.dialect_core.specs.Form.{types_list}
-use Rattle.dialect_core.specs.Data.{DialectOp, DialectBlock, Func, Kind}
+use Rattle.dialect_core.specs.Data.{DialectOp, DialectBlock, Func, Kind, value_type}
 use Rattle.meaning.specs.Pairs.{Matched}
-use Rattle.from_llvm_ir.specs.Types.{type_from, types_from, args_from, result_from}
+use Rattle.from_llvm_ir.specs.Types.{args_from, result_from}
 use Rattle.from_llvm_ir.specs.Imported.{given_name, rest_of, phis_of, front_for}
-use Rattle.from_llvm_ir.specs.Source.{IsShortConst}
+use Rattle.from_llvm_ir.specs.Source.{IsShortConst, IsUsable}
 use Rattle.from_llvm_ir.specs.Known.{Known, Stands, IsConstantOp, blocks_of}
 use Rattle.from_llvm_ir.specs.Converted.{IsKind, IsEdge, IsRow, IsConverted}
 use Rattle.from_llvm_ir.proofs.ListLaws.{other_there}
+use Rattle.from_llvm_ir.proofs.RowLaws.{HaveTypes, short_type, short_own, integer_own, integers, all_typed, values_fit, values_give}
 use Rattle.from_llvm_ir.proofs.NameLaws.{plain_legal}
 use Rattle.from_llvm_ir.proofs.OrderLaws.{ordered_at}
 use Rattle.from_llvm_ir.proofs.EndLaws.{ends_from, ends_filter, ends_as}
-use Rattle.from_llvm_ir.proofs.PassLaws.{inst_form, block_form, phi_is, phi_form}
-use Rattle.from_llvm_ir.proofs.Whole.{IsWhole, the_func, first_source, target_apart, source_at, entry, arg_typed, operand_typed, short_from}
-use Rattle.from_llvm_ir.proofs.EdgeLaws.{matched_none, matched_one, matched_two, EdgeAt, arg_at, RowAt, op_cases, op_edge}
+use Rattle.from_llvm_ir.proofs.PassLaws.{inst_form, block_form, phi_is, phi_form, row_usable, operands_usable}
+use Rattle.from_llvm_ir.proofs.Whole.{IsWhole, the_func, first_source, target_apart, source_at, entry, arg_typed, operand_typed}
+use Rattle.from_llvm_ir.proofs.EdgeLaws.{EdgeAt, arg_at, RowAt, op_cases, op_edge}
 
 -- ---- types and names
 
-pub short_type : (t : L.TypeTree) → LF.IsShortInt t → DF.IsShortInt (type_from t)
-short_type VoidType h = elim h [ ]
-short_type (IntType w) h = h
-short_type (FunctionType r ps v) h = elim h [ ]
-
-short_types : (ts : L.TypeTrees) → LF.AreShortInts ts → All DF.IsShortInt (types_list (types_from ts))
+short_types : (ts : L.TypeTrees) → LF.AreShortInts ts → All DF.IsShortInt (types_list ts)
 short_types L.NoTypes h = All-nil _
-short_types (L.ThenType t ts) h = All-cons DF.IsShortInt (type_from t) (types_list (types_from ts)) (short_type t h.0) (short_types ts h.1)
+short_types (L.ThenType t ts) h = All-cons DF.IsShortInt t (types_list ts) (short_type t h.0) (short_types ts h.1)
 
-short_returned : (t : L.TypeTree) → LF.IsShortResult t → DF.IsShortResult (type_from t)
+short_returned : (t : L.TypeTree) → LF.IsShortResult t → DF.IsShortResult t
 short_returned VoidType h = tt
 short_returned (IntType w) h = h
 short_returned (FunctionType r ps v) h = elim h [ ]
@@ -57,29 +57,11 @@ pub given_plain : (n : List ℕ) → IsPlainOrNone n → IfSome (given_name n) I
 given_plain [] h = tt
 given_plain (b ∷ bs) h = plain_legal (b ∷ bs) h
 
-none_plain : (n : List ℕ) → n ≡ [] → IsPlainOrNone n
-none_plain n e = subst IsPlainOrNone (sym e) tt
-
-pub name_form : (g : L.Function) (m : ℕ) (p : Placed) (i : L.Instruction) → LF.IsFormInstruction g m p i → IsPlainOrNone p.name
-name_form g m p (L.Add l r f) h = h.2
-name_form g m p (L.ICmp l r q) h = h.2
-name_form g m p (L.Phi es) h = h.3
-name_form g m p (L.Br a) h = none_plain p.name h.1.name
-name_form g m p (L.CondBr c a b) h = none_plain p.name h.3.name
-name_form g m p (L.Return None) h = none_plain p.name h.1.name
-name_form g m p (L.Return (Some o)) h = none_plain p.name h.1.name
-name_form g m p L.Unreachable h = none_plain p.name h.name
-
 -- ---- kinds
 
 kind_tests : (i : L.Instruction) (κ : Kind) → IsKind i κ → (DF.is_constant_kind κ ≡ false) × (DF.is_terminator_kind κ ≡ LF.is_terminator i)
-kind_tests (L.Add l r f) κ h = (ap DF.is_constant_kind h, ap DF.is_terminator_kind h)
-kind_tests (L.ICmp l r q) κ h = (ap DF.is_constant_kind h.2, ap DF.is_terminator_kind h.2)
 kind_tests (L.Phi es) κ h = elim h [ ]
-kind_tests (L.Br a) κ h = (ap DF.is_constant_kind h, ap DF.is_terminator_kind h)
-kind_tests (L.CondBr c a b) κ h = (ap DF.is_constant_kind h, ap DF.is_terminator_kind h)
-kind_tests (L.Return v) κ h = (ap DF.is_constant_kind h, ap DF.is_terminator_kind h)
-kind_tests L.Unreachable κ h = (ap DF.is_constant_kind h, ap DF.is_terminator_kind h)
+kind_tests (L.Applied r) κ h = (ap DF.is_constant_kind h, ap DF.is_terminator_kind h)
 
 pub constant_tests : (c : ConstTree) (o : DialectOp) → IsConstantOp c o → (DF.is_constant o ≡ true) × (DF.is_terminator o ≡ false) × (o.successors ≡ []) × (o.operands ≡ [])
 constant_tests (IntConst VoidType v) o h = elim h [ ]
@@ -92,13 +74,20 @@ ends_kept : (p : Placed) → LF.is_last p ≡ true → not (LF.is_phi p) ≡ tru
 ends_kept p h = by p.instruction h
   where
     by : (i : L.Instruction) → LF.is_terminator i ≡ true → not (LF.is_phi (record p { instruction = i })) ≡ true
-    by (L.Add l r f) e = refl
-    by (L.ICmp l r q) e = refl
     by (L.Phi es) e = let no : ⊥ = cc in absurd no
-    by (L.Br a) e = refl
-    by (L.CondBr c a b) e = refl
-    by (L.Return v) e = refl
-    by L.Unreachable e = refl
+    by (L.Applied r) e = refl
+
+-- ---- what a function returns
+
+result_same : (t : TypeTree) → R.result_of t ≡ LF.result_of t
+result_same VoidType = refl
+result_same (IntType w) = refl
+result_same (FunctionType r ps v) = refl
+
+void_same : (t : TypeTree) → R.is_void t ≡ LF.is_void t
+void_same VoidType = refl
+void_same (IntType w) = refl
+void_same (FunctionType r ps v) = refl
 
 module _ (n : ℕ) (k : Known) (cs : List DialectBlock) (h : IsWhole k cs) where
   abbrev g : L.Function
@@ -114,87 +103,91 @@ module _ (n : ℕ) (k : Known) (cs : List DialectBlock) (h : IsWhole k cs) where
 
   constant_form : (c : ConstTree) (o : DialectOp) → IsShortConst c → IsConstantOp c o → DF.IsFormOp G o
   constant_form (IntConst VoidType v) o s m = elim m [ ]
-  constant_form (IntConst (IntType w) v) o s m = subst (DF.IsFormOp G) (sym m) (record { kind = ((s.0, s.1), s.2, refl, refl, refl); name = tt })
+  constant_form (IntConst (IntType w) v) o s m = subst (DF.IsFormOp G) (sym m) (record {
+    kind = record { short = (s.0, s.1); fitting = s.2; result = refl; bare = refl; ends_here = refl };
+    operands = All-nil _;
+    passed = All-nil _;
+    result = (s.0, s.1);
+    name = tt;
+  })
   constant_form (IntConst (FunctionType r ps x) v) o s m = elim m [ ]
   constant_form (PlaceholderConst q t) o s m = elim m [ ]
 
-  operand_form : (t : L.TypeTree) (o : L.Operand) (w : Value) → Stands k o w → LF.IsOperand g t o → DF.IsOperand G (type_from t) w
-  operand_form t o w st f = record { typed = operand_typed n k cs h t o w st f; short = short_type t f.short }
+  value_form : (o : L.Operand) (w : Value) → Stands k o w → IsUsable g o → DF.IsShortValue G w
+  value_form o w st f = (f.0, record { typed = operand_typed n k cs h f.0 o w st f.1; short = short_type f.0 f.1.short })
 
-  edge_form : (m t : ℕ) (s : Successor) → EdgeAt k cs h m t s → DF.IsFormEdge G s
+  values_form : (os : List L.Operand) (ws : List Value) → ((j : ℕ) (o : L.Operand) → slice_get os j ≡ Some o → IsUsable g o) → Matched (Stands k) os ws → All (DF.IsShortValue G) ws
+  values_form [] [] f m = All-nil _
+  values_form [] (w ∷ ws) f m = elim m [ ]
+  values_form (o ∷ os) [] f m = elim m [ ]
+  values_form (o ∷ os) (w ∷ ws) f m = All-cons (DF.IsShortValue G) w ws (value_form o w m.0 (f 0 o refl)) (values_form os ws (λ j x at. f (suc j) x at) m.1)
+
+  -- and they have the operands' types
+  values_typed : (os : List L.Operand) (ws : List Value) → ((j : ℕ) (o : L.Operand) → slice_get os j ≡ Some o → IsUsable g o) → Matched (Stands k) os ws → HaveTypes (value_type G) (LF.types_of g os) ws
+  values_typed [] [] f m = tt
+  values_typed [] (w ∷ ws) f m = elim m [ ]
+  values_typed (o ∷ os) [] f m = elim m [ ]
+  values_typed (o ∷ os) (w ∷ ws) f m =
+      let u = f 0 o refl in
+      (operand_typed n k cs h u.0 o w m.0 u.1 ∙ ap Some (sym u.1.typed), values_typed os ws (λ j x at. f (suc j) x at) m.1)
+
+  edge_form : (m t : ℕ) (s : Successor) → EdgeAt k cs h m t s → R.IsEdge (value_type G) G s
   edge_form m t s e = record {
     no_entry = λ b at same. let no : 0 ≡ suc e.place = target_apart n k cs h 0 (suc e.place) b e.block at e.there (sym same ∙ e.leads) in absurd (omega (arith, no));
-    args = all_from (λ (v : Value). (type : TypeTree) × DF.IsOperand G type v) s.args (λ y v at. let a = arg_at k cs h m t s e y v at in (type_from a.phi.type, operand_form a.phi.type a.operand v a.stands a.usable));
+    args = all_from (R.IsTypedBy (value_type G)) s.args (λ y v at. let a = arg_at k cs h m t s e y v at in (a.phi.type, operand_typed n k cs h a.phi.type a.operand v a.stands a.usable));
     typed = λ y v type at_v wanted.
         let a = arg_at k cs h m t s e y v at_v in
-        let takes = arg_typed n k cs h (suc e.place) y e.block s.block (type_from a.phi.type) e.there e.leads a.type in
+        let takes = arg_typed n k cs h (suc e.place) y e.block s.block a.phi.type e.there e.leads a.type in
         operand_typed n k cs h a.phi.type a.operand v a.stands a.usable ∙ sym takes ∙ wanted;
   }
 
-  -- the edges of an operation with so many targets
-  edges_form : (m : ℕ) (ts : List ℕ) (o : DialectOp) → o.result ≡ None → length o.successors ≡ length ts → ((y : ℕ) (s : Successor) → slice_get o.successors y ≡ Some s → (t : ℕ) × EdgeAt k cs h m t s) → DF.Leads G o (length ts)
-  edges_form m ts o result count each = record {
-    result = result;
-    count_is = count;
-    edges = all_from (DF.IsFormEdge G) o.successors (λ y s at. let e = each y s at in edge_form m e.0 s e.1);
-  }
+  passed_form : (m t : ℕ) (s : Successor) → EdgeAt k cs h m t s → All (DF.IsShortValue G) s.args
+  passed_form m t s e = all_from (DF.IsShortValue G) s.args (λ y v at. let a = arg_at k cs h m t s e y v at in value_form a.operand v a.stands (a.phi.type, a.usable))
 
-  returned : (t : TypeTree) (w : Value) → DF.IsShortInt t → DF.IsOperand G t w → DF.Returns G t (w ∷ [])
-  returned D.VoidType w s f = elim s [ ]
-  returned (IntegerType q) w s f = f
-  returned (FuncType r ps v) w s f = elim s [ ]
+  result_is : R.result_of G.type ≡ LF.result_of g.type
+  result_is = result_same g.type
 
-  result_is : DF.result_of G.type ≡ type_from (LF.result_of g.type)
-  result_is = ap (λ (t : L.TypeTree). DF.result_of (type_from t)) h.form.type ∙ sym (ap (λ (t : L.TypeTree). type_from (LF.result_of t)) h.form.type)
+  -- what is returned
+  returning : (x : Takes) (os : List L.Operand) (ws : List Value) → LF.IsReturning x g os → HaveTypes (value_type G) (LF.types_of g os) ws → R.IsReturning x (value_type G) (R.result_of G.type) ws
+  returning O.Nothing os ws f m = tt
+  returning (O.One a) os ws f m = tt
+  returning (O.Two a b) os ws f m = tt
+  returning (O.Three a b c) os ws f m = tt
+  returning O.Return os ws f m =
+      subst (λ (t : TypeTree). All (λ (v : Value). value_type G v ≡ Some t) ws) (sym result_is)
+      (all_typed (value_type G) (LF.result_of g.type) (LF.types_of g os) ws m (All-map (λ (t : TypeTree). t ≡ LF.result_of g.type) (L.operand_type g) os f))
 
-  void_result : (p : Placed) (o : DialectOp) → LF.HasNoResult p → o.result ≡ result_from p.type → o.result ≡ None
-  void_result p o without is = is ∙ ap result_from without.type
+  row_kind : (m : ℕ) (p : Placed) (r : L.RowData) (ws : List Value) (ss : List Successor) (own : Option TypeTree) → LF.IsFormRow g p.type r → Matched (Stands k) r.operands ws → length ss ≡ length r.targets
+      → ((y : ℕ) (s : Successor) → slice_get ss y ≡ Some s → (t : ℕ) × EdgeAt k cs h m t s) → own ≡ result_from p.type → LF.IsShortResult p.type → R.IsRow (value_type G) G r.op ws own ss
+  row_kind m p r ws ss own f ops count each result short =
+      let ts = LF.types_of g r.operands in
+      let have = values_typed r.operands ws (row_usable g h.form p.type r f) ops in
+      record {
+        integers = integers (value_type G) ts ws have f.short;
+        count = matched_length (Stands k) r.operands ws ops ∙ f.count ∙ ap (operand_count (rule_of r.op).takes) (sym (ap R.is_void result_is ∙ void_same (LF.result_of g.type)));
+        fits = values_fit (value_type G) r.op r.written ts ws have f.fits p.type own f.short f.result result;
+        returns = returning (rule_of r.op).takes r.operands ws f.returns have;
+        result = values_give (value_type G) r.op r.written ts ws have f.fits p.type own f.short f.result result;
+        integer = subst (λ (x : Option TypeTree). IfSome x R.IsInteger) (sym result) (integer_own p.type short);
+        leads = (count ∙ f.leads, all_from (R.IsEdge (value_type G) G) ss (λ y s at. let e = each y s at in edge_form m e.0 s e.1));
+      }
 
-  kind_form : (m : ℕ) (p : Placed) (o : DialectOp) (i : L.Instruction) (κ : Kind) → LF.IsFormInstruction g m p i → IsKind i κ → Matched (Stands k) (LF.operands_of i) o.operands → length o.successors ≡ length (targets i)
-      → ((y : ℕ) (s : Successor) → slice_get o.successors y ≡ Some s → (t : ℕ) × EdgeAt k cs h m t s) → o.result ≡ result_from p.type → DF.IsFormKind G o κ
-  kind_form m p o (L.Add l r fl) κ f is ops count each result =
-      let x = matched_two (Stands k) l r o.operands ops in
-      subst (DF.IsFormKind G o) (sym is) (type_from p.type, x.0, x.1, x.2, no_items o.successors count, result ∙ short_from p.type f.0.short, operand_form p.type l x.0 x.3 f.0, operand_form p.type r x.1 x.4 f.1)
-    where
-      no_items : (ss : List Successor) → length ss ≡ 0 → ss ≡ []
-      no_items [] e = refl
-      no_items (s ∷ ss) e = absurd (omega (arith, e))
-  kind_form m p o (L.ICmp l r q) κ f is ops count each result =
-      let x = matched_two (Stands k) l r o.operands ops in
-      let t = f.0.0 in
-      subst (DF.IsFormKind G o) (sym is.2) (type_from t, x.0, x.1, x.2, no_items o.successors count, result ∙ ap result_from f.1, operand_form t l x.0 x.3 f.0.1, operand_form t r x.1 x.4 f.0.2)
-    where
-      no_items : (ss : List Successor) → length ss ≡ 0 → ss ≡ []
-      no_items [] e = refl
-      no_items (s ∷ ss) e = absurd (omega (arith, e))
-  kind_form m p o (L.Phi es) κ f is ops count each result = elim is [ ]
-  kind_form m p o (L.Br a) κ f is ops count each result =
-      subst (DF.IsFormKind G o) (sym is) (matched_none (Stands k) o.operands ops, edges_form m (a ∷ []) o (void_result p o f.1 result) count each)
-  kind_form m p o (L.CondBr c a b) κ f is ops count each result =
-      let x = matched_one (Stands k) c o.operands ops in
-      subst (DF.IsFormKind G o) (sym is) (x.0, x.1, operand_form (IntType 1) c x.0 x.2 f.0, edges_form m (a ∷ b ∷ []) o (void_result p o f.3 result) count each)
-  kind_form m p o (L.Return None) κ f is ops count each result =
-      let void : DF.result_of G.type ≡ D.VoidType = result_is ∙ ap type_from f.0 in
-      let none = matched_none (Stands k) o.operands ops in
-      subst (DF.IsFormKind G o) (sym is)
-      (subst (λ (t : TypeTree). DF.Returns G t o.operands) (sym void) (subst (DF.Returns G D.VoidType) (sym none) tt), edges_form m [] o (void_result p o f.1 result) count each)
-  kind_form m p o (L.Return (Some v)) κ f is ops count each result =
-      let x = matched_one (Stands k) v o.operands ops in
-      let operand = operand_form (LF.result_of g.type) v x.0 x.2 f.0 in
-      subst (DF.IsFormKind G o) (sym is) (
-        subst (λ (t : TypeTree). DF.Returns G t o.operands) (sym result_is) (subst (DF.Returns G (type_from (LF.result_of g.type))) (sym x.1) (returned (type_from (LF.result_of g.type)) x.0 operand.short operand)),
-        edges_form m [] o (void_result p o f.1 result) count each,
-      )
-  kind_form m p o L.Unreachable κ f is ops count each result = subst (DF.IsFormKind G o) (sym is) (matched_none (Stands k) o.operands ops, edges_form m [] o (void_result p o f result) count each)
+  kind_form : (m : ℕ) (p : Placed) (i : L.Instruction) (κ : Kind) (ws : List Value) (ss : List Successor) (own : Option TypeTree) → LF.IsFormInstruction g m p.type i → IsKind i κ → Matched (Stands k) (LF.operands_of i) ws → length ss ≡ length (targets i)
+      → ((y : ℕ) (s : Successor) → slice_get ss y ≡ Some s → (t : ℕ) × EdgeAt k cs h m t s) → own ≡ result_from p.type → LF.IsShortResult p.type → R.IsOfKind (value_type G) G ws own ss κ
+  kind_form m p (L.Phi es) κ ws ss own f is ops count each result short = elim is [ ]
+  kind_form m p (L.Applied r) κ ws ss own f is ops count each result short = subst (R.IsOfKind (value_type G) G ws own ss) (sym is) (row_kind m p r ws ss own f ops count each result short)
 
   row_form : (j : ℕ) (c : DialectBlock) (o : DialectOp) → RowAt k cs h j c o → DF.IsFormOp G o
   row_form j c o r =
       let f = inst_form g h.form r.source r.place r.block r.inst r.at r.there in
       let v = r.row.converted in
+      let edge : (y : ℕ) (s : Successor) → slice_get o.successors y ≡ Some s → (t : ℕ) × EdgeAt k cs h r.block.number t s = λ y s at. (let e = op_edge k cs h j y c o r s at in (e.0, e.2)) in
       record {
-        kind = kind_form r.block.number r.inst o r.inst.instruction o.kind f v.kind v.operands (matched_length (IsEdge k r.block.number) (targets r.inst.instruction) o.successors v.successors)
-            (λ y s at. let e = op_edge k cs h j y c o r s at in (e.0, e.2)) v.result;
-        name = subst (λ (x : Option (List ℕ)). IfSome x IsPlainName) (sym v.name) (given_plain r.inst.name (name_form g r.block.number r.inst r.inst.instruction f));
+        kind = kind_form r.block.number r.inst r.inst.instruction o.kind o.operands o.successors o.result f.instruction v.kind v.operands (matched_length (IsEdge k r.block.number) (targets r.inst.instruction) o.successors v.successors) edge v.result f.short;
+        operands = values_form (LF.operands_of r.inst.instruction) o.operands (operands_usable g h.form r.block.number r.inst f r.other) v.operands;
+        passed = all_from (λ (s : Successor). All (DF.IsShortValue G) s.args) o.successors (λ y s at. let e = edge y s at in passed_form r.block.number e.0 s e.1);
+        result = subst (λ (x : Option TypeTree). IfSome x R.IsShortInt) (sym v.result) (short_own r.inst.type f.short);
+        name = subst (λ (x : Option (List ℕ)). IfSome x IsPlainName) (sym v.name) (given_plain r.inst.name f.name);
       }
 
   op_form : (j y : ℕ) (c : DialectBlock) (o : DialectOp) → slice_get cs j ≡ Some c → slice_get c.ops y ≡ Some o → DF.IsFormOp G o
@@ -221,7 +214,7 @@ module _ (n : ℕ) (k : Known) (cs : List DialectBlock) (h : IsWhole k cs) where
   args_form : (j i : ℕ) (b : L.Block) (c : DialectBlock) → slice_get g.blocks i ≡ Some b → IsConverted k (take j cs) j b c → All DF.IsShortInt c.args
   args_form zero i b c at v = subst (All DF.IsShortInt) (sym (v.head.args ∙ ap args_from h.form.type)) (short_types h.form.types h.form.takes)
   args_form (suc j) i b c at v =
-      subst (All DF.IsShortInt) (sym v.head.args) (All-map DF.IsShortInt (λ (p : Placed). type_from p.type) (phis_of b) (all_from (λ (p : Placed). DF.IsShortInt (type_from p.type)) (phis_of b) (λ y p here. short_type p.type (phi_short i b y p at here))))
+      subst (All DF.IsShortInt) (sym v.head.args) (All-map DF.IsShortInt (λ (p : Placed). p.type) (phis_of b) (all_from (λ (p : Placed). DF.IsShortInt p.type) (phis_of b) (λ y p here. short_type p.type (phi_short i b y p at here))))
 
   pub constant_here : (i : ℕ) (o : DialectOp) → slice_get k.hoisted i ≡ Some o → (DF.is_constant o ≡ true) × (DF.is_terminator o ≡ false) × (o.successors ≡ []) × (o.operands ≡ [])
   constant_here i o at =
@@ -297,9 +290,9 @@ module _ (n : ℕ) (k : Known) (cs : List DialectBlock) (h : IsWhole k cs) where
       record {
         name = plain_legal g.name h.form.name;
         named = named g.name h.form.name;
-        result = type_from h.form.result;
-        types = types_from h.form.types;
-        type = ap type_from h.form.type;
+        result = h.form.result;
+        types = h.form.types;
+        type = h.form.type;
         returns = short_returned h.form.result h.form.returns;
         takes = short_types h.form.types h.form.takes;
         linkage = refl;

@@ -12,17 +12,16 @@ use Rattle.support.proofs.ListLaws.{all_from, slice_get-kept, take_next}
 use Rattle.llvm_core.specs.declared.numbers.LLVMConst.{LLVMConst}
 use Rattle.llvm_core.specs.declared.code.LLVMValue.TheVariants as K
 use Rattle.llvm_core.specs.Module.{Module}
-use Rattle.llvm_core.specs.Form.{is_phi, operands_of}
+use Rattle.llvm_core.specs.Form.{is_phi}
 use Rattle.llvm_core.specs.Data as L
 use Rattle.llvm_core.specs.Data.{ConstTree, trees_of, operand_of, const_at, AreApart}
 use Rattle.dialect_core.specs.declared.numbers.BlockRef.{BlockRef}
 use Rattle.dialect_core.specs.declared.ops.Value.{Value}
 use Rattle.dialect_core.specs.ContextData.{ContextData}
 use Rattle.dialect_core.specs.Data.{DialectOp}
-use Rattle.meaning.specs.Llvm.{row_of}
 use Rattle.from_llvm_ir.specs.declared.values.Values.{Values}
 use Rattle.from_llvm_ir.specs.Values.{value_at, IsNoted}
-use Rattle.from_llvm_ir.specs.Imported.{IsIn, UsedAgain, UsedFirst, constant_in, constants_in, passed}
+use Rattle.from_llvm_ir.specs.Imported.{IsIn, UsedAgain, UsedFirst, constant_in, constants_in}
 use Rattle.from_llvm_ir.specs.Building.{IsOpen, with_ops, ops_of}
 use Rattle.from_llvm_ir.specs.Source.{IsShortConst, used_by}
 use Rattle.from_llvm_ir.specs.Known.{Frame, IsConstantOp, StandsAt, value_of}
@@ -121,21 +120,10 @@ uses_more fr m c values uses os us o is h =
 pub uses_then : (fr : Frame) (m : Module) (c : ContextData) (values : Values) (uses us vs ws : List ConstTree) → ws ≡ us ++ vs → IsHoisting fr m c values ((uses ++ us) ++ vs) → IsHoisting fr m c values (uses ++ ws)
 uses_then fr m c values uses us vs ws is h = subst (IsHoisting fr m c values) (append_assoc uses us vs ∙ ap (λ (cs : List ConstTree). uses ++ cs) (sym is)) h
 
-row_operands : (d : L.ModuleData) (i : L.Instruction) → (row_of d i).2 ≡ operands_of i
-row_operands d (L.Add l r f) = refl
-row_operands d (L.ICmp l r q) = refl
-row_operands d (L.Phi es) = refl
-row_operands d (L.Br a) = refl
-row_operands d (L.CondBr c a b) = refl
-row_operands d (L.Return None) = refl
-row_operands d (L.Return (Some v)) = refl
-row_operands d L.Unreachable = refl
-
 -- the constants of what is no phi
 pub inst_uses : (d : L.ModuleData) (g : L.Function) (b : L.Block) (p : L.Placed) → is_phi p ≡ false → filter_map constant_in (used_by g b p) ≡ uses_of_inst d g b p
 inst_uses d g b p other =
-    ap (λ (os : List L.Operand). filter_map constant_in (os ++ flat_map (passed g b.number) (L.targets p.instruction))) (sym (row_operands d p.instruction))
-    ∙ sym (append-nil (constants_in d g b p))
+    sym (append-nil (constants_in d g b p))
     ∙ sym (ap (λ (t : Bool). flat_map (constants_in d g b) (cond (not t) (p ∷ []) [])) other)
 
 -- and a phi uses none

@@ -18,6 +18,7 @@ pub mod TakenLaws
 pub mod UsedLaws
 pub mod GraphLaws
 pub mod ForwardLaws
+pub mod RowLaws
 pub mod Whole
 pub mod EdgeLaws
 pub mod EndLaws

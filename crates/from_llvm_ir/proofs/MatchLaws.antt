@@ -1,4 +1,4 @@
--- Under a match types, immediates and the terms of constants stay as they are: no struct and no block is named yet.
+-- Under a match types and the terms of constants stay as they are: no struct and no block is named yet.
 use Rattle.std.proofs.Common.{ℕ, ◌≡◌, refl}
 use Rattle.llvm_core.specs.Data.{TypeTree, VoidType, IntType, FunctionType, TypeTrees, NoTypes, ThenType}
 use Rattle.meaning.specs.Terms.{Match, rename, rename_type, rename_types}

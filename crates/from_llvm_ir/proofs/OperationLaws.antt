@@ -26,12 +26,12 @@ use Rattle.dialect_core.specs.declared.ops.Value.TheVariants as V
 use Rattle.dialect_core.specs.declared.ops.Successor.{Successor}
 use Rattle.dialect_core.specs.ContextData.{ContextData, is_plain}
 use Rattle.dialect_core.specs.declared.ops.OpKind.{OpKind}
-use Rattle.dialect_core.specs.Data.{DialectBlock, DialectOp, Kind, AddOp, ICmpOp, BrOp, CondBrOp, ReturnOp, UnreachableOp, HasKindTypesBelow, kind_of}
+use Rattle.dialect_core.specs.Data.{DialectBlock, DialectOp, Kind, RowOp, HasKindTypesBelow, kind_of}
 use Rattle.dialect_core.specs.Form.{uses_of}
 use Rattle.dialect_core.proofs.ListLemmas.{slice_get-last}
 use Rattle.meaning.specs.Pairs.{Matched}
 use Rattle.from_llvm_ir.specs.declared.values.Values.{Values}
-use Rattle.from_llvm_ir.specs.Types.{args_from, type_from, result_from}
+use Rattle.from_llvm_ir.specs.Types.{args_from, result_from}
 use Rattle.from_llvm_ir.specs.Imported.{front_for, passed, phis_of, rest_of}
 use Rattle.from_llvm_ir.specs.Parts.{IsOpKind}
 use Rattle.from_llvm_ir.specs.Values.{IsNoted}
@@ -50,32 +50,17 @@ use Rattle.from_llvm_ir.proofs.ReadyLaws.{all_beside, body_known, body_ops, body
 
 -- the kind of an operation is that of its instruction
 pub kind_found : (t : Trees) (ts : List TypeTree) (inst : LLVMInst) (kind : OpKind) → IsOpKind inst kind → (k : Kind) × (kind_of ts kind ≡ Some k) × IsKind (instruction_of t inst) k
-kind_found t ts (I.Add l r f) kind h = (AddOp (record { nsw = f.nsw; nuw = f.nuw }), ap (kind_of ts) h, refl)
-kind_found t ts (I.ICmp l r q) kind h = (ICmpOp h.0, ap (kind_of ts) h.2, (h.0, h.1, refl))
 kind_found t ts (I.Phi type es) kind h = elim h [ ]
-kind_found t ts (I.Br a) kind h = (BrOp, ap (kind_of ts) h, refl)
-kind_found t ts (I.CondBr c a b) kind h = (CondBrOp, ap (kind_of ts) h, refl)
-kind_found t ts (I.Ret v) kind h = (ReturnOp, ap (kind_of ts) h, refl)
-kind_found t ts I.Unreachable kind h = (UnreachableOp, ap (kind_of ts) h, refl)
+kind_found t ts (I.Row r) kind h = (RowOp r.op, ap (kind_of ts) h, refl)
 
 -- it is no module and no function, and names no type
 pub plain_kind : (inst : LLVMInst) (kind : OpKind) → IsOpKind inst kind → IsTrue (is_plain kind)
-plain_kind (I.Add l r f) kind h = rw h refl
-plain_kind (I.ICmp l r q) kind h = rw h.2 refl
 plain_kind (I.Phi type es) kind h = elim h [ ]
-plain_kind (I.Br a) kind h = rw h refl
-plain_kind (I.CondBr c a b) kind h = rw h refl
-plain_kind (I.Ret v) kind h = rw h refl
-plain_kind I.Unreachable kind h = rw h refl
+plain_kind (I.Row r) kind h = rw h refl
 
 pub kind_types : (n : ℕ) (inst : LLVMInst) (kind : OpKind) → IsOpKind inst kind → HasKindTypesBelow n kind
-kind_types n (I.Add l r f) kind h = rw h tt
-kind_types n (I.ICmp l r q) kind h = rw h.2 tt
 kind_types n (I.Phi type es) kind h = elim h [ ]
-kind_types n (I.Br a) kind h = rw h tt
-kind_types n (I.CondBr c a b) kind h = rw h tt
-kind_types n (I.Ret v) kind h = rw h tt
-kind_types n I.Unreachable kind h = rw h tt
+kind_types n (I.Row r) kind h = rw h tt
 
 -- ---- what stood stands, as more is known
 
@@ -277,7 +262,7 @@ module _ (left : List DialectBlock) (now : DialectBlock) (os : List DialectOp) (
   op_before q a r at is = subst (StandsIn left new_block (length os)) (sym is) (q, a, ap (λ (ys : List DialectOp). slice_get (ops_of left ++ ys) q) (take_whole os) ∙ at, refl)
 
   from_stands : (p : Placed) (w : Value) → IsFrom (left ++ old_block ∷ []) p w → StandsIn left new_block (length os) w
-  from_stands p w (FromArgument j i c at is type) = subst (StandsIn left new_block (length os)) (sym is) (argument_still (record { 0 = c.number }) i j c at refl (slice_get_within c.args i (type_from p.type) type))
+  from_stands p w (FromArgument j i c at is type) = subst (StandsIn left new_block (length os)) (sym is) (argument_still (record { 0 = c.number }) i j c at refl (slice_get_within c.args i p.type type))
   from_stands p w (FromResult j y c a at here is type) =
       let q = flat_at (λ (d : DialectBlock). d.ops) (left ++ old_block ∷ []) j c y a at here in
       op_before q.0 a w (ap (λ (ys : List DialectOp). slice_get ys q.0) (sym (ops_behind left old_block [] (λ r d e. absurd (let no : ⊥ = cc in no)))) ∙ q.1) is

@@ -1,5 +1,5 @@
 -- What phis take on an edge: of each phi of the target its first entry for the block that the edge comes from.
-use Rattle.std.proofs.Common.{ℕ, zero, suc, ◌≡◌, ◌<◌, refl, sym, ap, subst, ◌∙◌, Bool, true, false, cond, nat_eq, List, [], ◌∷◌, Option, Some, None, filter, map, length, slice_get, arith, eq-eqb, eqb-true}
+use Rattle.std.proofs.Common.{ℕ, ◌≡◌, ◌<◌, refl, sym, ap, subst, ◌∙◌, Bool, true, false, cond, nat_eq, List, [], ◌∷◌, Option, Some, None, filter, map, length, slice_get, arith, eq-eqb, eqb-true}
 use Rattle.std.specs.Prelude.{is_some}
 use Rattle.std.specs.List.{find, flat_map, filter_map, cons_option}
 use Rattle.std.specs.Option.{option_map, option_and_then}
@@ -81,13 +81,8 @@ no_phi_is x h = by (phi_entries x.instruction) h
 
 -- a phi's instruction
 pub phi_instruction : (i : L.Instruction) (es : List (L.Operand × ℕ)) → phi_entries i ≡ Some es → i ≡ L.Phi es
-phi_instruction (L.Add l r f) es h = cc
-phi_instruction (L.ICmp l r q) es h = cc
 phi_instruction (L.Phi xs) es h = ap L.Phi (same_Some xs es h)
-phi_instruction (L.Br t) es h = cc
-phi_instruction (L.CondBr c a b) es h = cc
-phi_instruction (L.Return v) es h = cc
-phi_instruction L.Unreachable es h = cc
+phi_instruction (L.Applied r) es h = cc
 
 -- what is no phi takes nothing
 takes_phis : (p : ℕ) (ps : List Placed) → filter_map (takes p) ps ≡ filter_map (takes p) (filter LF.is_phi ps)
@@ -102,8 +97,8 @@ module _ (g : L.Function) (form : LF.IsFormFunction g) where
   pub block_form : (i : ℕ) (b : L.Block) → slice_get g.blocks i ≡ Some b → LF.IsFormBlock g b
   block_form i b at = within_at g.blocks (LF.IsFormBlock g) form.blocks i b at
 
-  pub inst_form : (i x : ℕ) (b : L.Block) (p : Placed) → slice_get g.blocks i ≡ Some b → slice_get b.instructions x ≡ Some p → LF.IsFormInstruction g b.number p p.instruction
-  inst_form i x b p at here = within_at b.instructions (λ (q : Placed). LF.IsFormInstruction g b.number q q.instruction) (block_form i b at).instructions x p here
+  pub inst_form : (i x : ℕ) (b : L.Block) (p : Placed) → slice_get g.blocks i ≡ Some b → slice_get b.instructions x ≡ Some p → LF.IsFormPlaced g b.number p
+  inst_form i x b p at here = within_at b.instructions (LF.IsFormPlaced g b.number) (block_form i b at).instructions x p here
 
   one_block : (i j : ℕ) (x y : L.Block) → slice_get g.blocks i ≡ Some x → slice_get g.blocks j ≡ Some y → x.number ≡ y.number → i ≡ j
   one_block i j x y at_x at_y same = number_apart (λ (b : L.Block). b.number) g.blocks form.block_numbers i j x y at_x at_y same
@@ -142,43 +137,31 @@ module _ (g : L.Function) (form : LF.IsFormFunction g) where
       record { place = b.0; block = f.item; at = b.1; number = eqb-true f.item.number p b.2; inner = r.place; inst = r.item; here = r.here; which = r.inner; leads = r.at }
 
   -- a target is a block behind the first
-  target_form : (m : ℕ) (p : Placed) (i : L.Instruction) (j t : ℕ) → LF.IsFormInstruction g m p i → slice_get (targets i) j ≡ Some t → LF.IsTarget g t
-  target_form m p (L.Add l r f) j t h at = cc
-  target_form m p (L.ICmp l r q) j t h at = cc
-  target_form m p (L.Phi es) j t h at = cc
-  target_form m p (L.Br a) ℕ.zero t h at = subst (LF.IsTarget g) (same_Some a t at) h.0
-  target_form m p (L.Br a) (ℕ.suc j) t h at = cc
-  target_form m p (L.CondBr c a b) ℕ.zero t h at = subst (LF.IsTarget g) (same_Some a t at) h.1
-  target_form m p (L.CondBr c a b) (ℕ.suc ℕ.zero) t h at = subst (LF.IsTarget g) (same_Some b t at) h.2
-  target_form m p (L.CondBr c a b) (ℕ.suc (ℕ.suc j)) t h at = cc
-  target_form m p (L.Return v) j t h at = cc
-  target_form m p L.Unreachable j t h at = cc
+  target_form : (m : ℕ) (type : L.TypeTree) (i : L.Instruction) (j t : ℕ) → LF.IsFormInstruction g m type i → slice_get (targets i) j ≡ Some t → LF.IsTarget g t
+  target_form m type (L.Phi es) j t h at = cc
+  target_form m type (L.Applied r) j t h at = within_at r.targets (LF.IsTarget g) h.targets j t at
 
   pub target_there : (i x j : ℕ) (b : L.Block) (p : Placed) (t : ℕ) → slice_get g.blocks i ≡ Some b → slice_get b.instructions x ≡ Some p → slice_get (targets p.instruction) j ≡ Some t → LF.IsTarget g t
-  target_there i x j b p t at here leads = target_form b.number p p.instruction j t (inst_form i x b p at here) leads
+  target_there i x j b p t at here leads = target_form b.number p.type p.instruction j t (inst_form i x b p at here).instruction leads
 
   -- each operand of what is no phi has a type
-  pub operands_usable : (m : ℕ) (p : Placed) (i : L.Instruction) → LF.IsFormInstruction g m p i → phi_entries i ≡ None → (j : ℕ) (o : L.Operand) → slice_get (LF.operands_of i) j ≡ Some o → IsUsable g o
-  operands_usable m p (L.Add l r f) h e zero o at = (p.type, subst (LF.IsOperand g p.type) (same_Some l o at) h.0)
-  operands_usable m p (L.Add l r f) h e (suc zero) o at = (p.type, subst (LF.IsOperand g p.type) (same_Some r o at) h.1)
-  operands_usable m p (L.Add l r f) h e (suc (suc j)) o at = absurd (none-some o at)
-  operands_usable m p (L.ICmp l r q) h e zero o at = (h.0.0, subst (LF.IsOperand g h.0.0) (same_Some l o at) h.0.1)
-  operands_usable m p (L.ICmp l r q) h e (suc zero) o at = (h.0.0, subst (LF.IsOperand g h.0.0) (same_Some r o at) h.0.2)
-  operands_usable m p (L.ICmp l r q) h e (suc (suc j)) o at = absurd (none-some o at)
-  operands_usable m p (L.Phi es) h e j o at = absurd (let no : ⊥ = cc in no)
-  operands_usable m p (L.Br a) h e j o at = absurd (none-some o at)
-  operands_usable m p (L.CondBr c a b) h e zero o at = (L.IntType 1, subst (LF.IsOperand g (L.IntType 1)) (same_Some c o at) h.0)
-  operands_usable m p (L.CondBr c a b) h e (suc j) o at = absurd (none-some o at)
-  operands_usable m p (L.Return None) h e j o at = absurd (none-some o at)
-  operands_usable m p (L.Return (Some v)) h e zero o at = (LF.result_of g.type, subst (LF.IsOperand g (LF.result_of g.type)) (same_Some v o at) h.0)
-  operands_usable m p (L.Return (Some v)) h e (suc j) o at = absurd (none-some o at)
-  operands_usable m p L.Unreachable h e j o at = absurd (none-some o at)
+  pub row_usable : (type : L.TypeTree) (r : L.RowData) → LF.IsFormRow g type r → (j : ℕ) (o : L.Operand) → slice_get r.operands j ≡ Some o → IsUsable g o
+  row_usable type r h j o at =
+      let short = within_at (LF.types_of g r.operands) LF.IsShortInt h.short j (L.operand_type g o) (slice_get-map (L.operand_type g) r.operands j ∙ ap (option_map (L.operand_type g)) at) in
+      (L.operand_type g o, record { stands = within_at r.operands (LF.IsOperandOf g) h.operands j o at; typed = refl; short = short })
+
+  pub operands_usable : (m : ℕ) (p : Placed) → LF.IsFormPlaced g m p → LF.is_phi p ≡ false → (j : ℕ) (o : L.Operand) → slice_get (LF.operands_of p.instruction) j ≡ Some o → IsUsable g o
+  operands_usable m p h other j o at = by p.instruction h.instruction (no_phi_is p other) at
+    where
+      by : (i : L.Instruction) → LF.IsFormInstruction g m p.type i → phi_entries i ≡ None → slice_get (LF.operands_of i) j ≡ Some o → IsUsable g o
+      by (L.Phi es) f e at = absurd (let no : ⊥ = cc in no)
+      by (L.Applied r) f e at = row_usable p.type r f j o at
 
   -- ---- what a phi takes on an edge
 
   -- the form of a phi
-  pub phi_form : (i x : ℕ) (b : L.Block) (p : Placed) (es : List (L.Operand × ℕ)) → slice_get g.blocks i ≡ Some b → slice_get b.instructions x ≡ Some p → phi_entries p.instruction ≡ Some es → LF.IsFormInstruction g b.number p (L.Phi es)
-  phi_form i x b p es at here is = subst (LF.IsFormInstruction g b.number p) (phi_instruction p.instruction es is) (inst_form i x b p at here)
+  pub phi_form : (i x : ℕ) (b : L.Block) (p : Placed) (es : List (L.Operand × ℕ)) → slice_get g.blocks i ≡ Some b → slice_get b.instructions x ≡ Some p → phi_entries p.instruction ≡ Some es → LF.IsFormInstruction g b.number p.type (L.Phi es)
+  phi_form i x b p es at here is = subst (LF.IsFormInstruction g b.number p.type) (phi_instruction p.instruction es is) (inst_form i x b p at here).instruction
 
   -- a phi takes an operand of its type on an edge
   pub record TakenFor (m : ℕ) (p : Placed) : Type 0 where

@@ -33,7 +33,7 @@ use Rattle.from_llvm_ir.specs.Body.{IsAt, IsLate, insts_before}
 use Rattle.from_llvm_ir.proofs.PlaceLaws.{retake, flat_at, flat_from, found, number_apart}
 use Rattle.from_llvm_ir.proofs.OrderLaws.{ordered_at, placed}
 use Rattle.from_llvm_ir.proofs.SourceLaws.{block_named, insts_listed, inst_name, inst_number}
-use Rattle.from_llvm_ir.proofs.PassLaws.{no_phi_is, block_form, inst_form, operands_usable, target_there, edge_there, at_passed}
+use Rattle.from_llvm_ir.proofs.PassLaws.{block_form, inst_form, operands_usable, target_there, edge_there, at_passed}
 
 -- something stands beside an item that passes
 beside_some : {X Y : Type 0} (test : X → Bool) (xs : List X) (ys : List Y) (i : ℕ) (x : X) → length ys ≡ length xs → slice_get xs i ≡ Some x → test x ≡ true → (y : Y) × (beside test xs ys ≡ Some y)
@@ -50,7 +50,7 @@ beside_some {X = X} {Y = Y} test (z ∷ xs) (y ∷ ys) (suc i) x n at passes = b
 
 pub used_usable : (g : L.Function) (form : LF.IsFormFunction g) (place x : ℕ) (b : L.Block) (p : Placed) → slice_get g.blocks place ≡ Some b → slice_get b.instructions x ≡ Some p → LF.is_phi p ≡ false → (o : L.Operand) → IsIn (used_by g b p) o → IsUsable g o
 used_usable g form place x b p at here other o is_in = elim (slice_get-behind_cases (LF.operands_of p.instruction) (flat_map (passed g b.number) (L.targets p.instruction)) is_in.0 o is_in.1) [
-  | inl a ↦ operands_usable g form b.number p p.instruction (inst_form g form place x b p at here) (no_phi_is p other) is_in.0 o a
+  | inl a ↦ operands_usable g form b.number p (inst_form g form place x b p at here) other is_in.0 o a
   | inr z ↦
       let r = flat_from (passed g b.number) (L.targets p.instruction) z.0 o z.2 in
       let t = target_there g form place x r.place b p r.item at here r.here in

@@ -11,7 +11,6 @@ use Rattle.std.proofs.lemmas.List.Concat.{flat_map-append}
 use Rattle.std.proofs.lemmas.Option.{same_Some, none-some, slice_get_within, slice_get-map, slice_get_past, get_or_from_slice_get}
 use Rattle.meaning.proofs.MatchedLaws.{matched_length, matched_at, matched_append}
 use Rattle.support.proofs.ListLaws.{item_there, slice_get-kept, filter_from}
-use Rattle.llvm_core.specs.declared.code.LLVMIntPredicate.{LLVMIntPredicate}
 use Rattle.llvm_core.specs.Form as LF
 use Rattle.llvm_core.specs.Data as L
 use Rattle.llvm_core.specs.Data.{ConstTree, Placed, operand_type, targets, phi_entries}
@@ -21,10 +20,9 @@ use Rattle.dialect_core.specs.declared.numbers.BlockRef.{BlockRef}
 use Rattle.dialect_core.specs.declared.ops.Value.{Value}
 use Rattle.dialect_core.specs.declared.ops.Value.TheVariants as V
 use Rattle.dialect_core.specs.declared.ops.Successor.{Successor}
-use Rattle.dialect_core.specs.Data.{DialectOp, DialectBlock, Func, Kind, value_type}
-use Rattle.meaning.specs.Terms.{Match, Opcode, Immediate, Flag, Number, Predicate, rename, rename_type, rename_immediate}
-use Rattle.meaning.specs.Terms as Op
-use Rattle.meaning.specs.Machine.{Row, Block, Operand, At, Applies}
+use Rattle.dialect_core.specs.Data.{DialectOp, DialectBlock, Func, RowOp, value_type}
+use Rattle.meaning.specs.Terms.{Match, rename, rename_type}
+use Rattle.meaning.specs.Machine.{Row, Block, Operand, At}
 use Rattle.meaning.specs.Pairs.{Matched, BothOrNone}
 use Rattle.meaning.specs.Llvm as Llvm
 use Rattle.meaning.specs.Llvm.{Key}
@@ -33,7 +31,7 @@ use Rattle.meaning.specs.Dialect.{option_type}
 use Rattle.meaning.specs.Shape.{Plan, SameRow, SameMove, SameEdge, SameBlock, SameBlocks, SameShape, IsFront}
 use Rattle.meaning.specs.Shape as Shape
 use Rattle.from_llvm_ir.specs.Order.{IsInverse}
-use Rattle.from_llvm_ir.specs.Types.{type_from, result_from}
+use Rattle.from_llvm_ir.specs.Types.{result_from}
 use Rattle.from_llvm_ir.specs.Imported.{phis_of, rest_of, front_for, first_entry}
 use Rattle.from_llvm_ir.specs.Source.{IsUsable}
 use Rattle.from_llvm_ir.specs.Known.{Known, Stands, blocks_of, value_of}
@@ -41,8 +39,7 @@ use Rattle.from_llvm_ir.specs.Converted.{IsKind, IsEdge, IsRow, IsConverted}
 use Rattle.from_llvm_ir.proofs.ListLaws.{matched_from, matched_map}
 use Rattle.from_llvm_ir.proofs.PlaceLaws.{flat_same, flat_none}
 use Rattle.from_llvm_ir.proofs.OrderLaws.{ordered_at, ordered_first, placed, not_first}
-use Rattle.from_llvm_ir.proofs.PassLaws.{takes, phi_is, no_phi_is, inst_form, operands_usable}
-use Rattle.from_llvm_ir.proofs.TypeLaws.{type_back}
+use Rattle.from_llvm_ir.proofs.PassLaws.{takes, phi_is, inst_form, operands_usable}
 use Rattle.from_llvm_ir.proofs.MatchLaws.{type_stays, int_stays}
 use Rattle.from_llvm_ir.proofs.HoistedLaws.{rows_of, is_among, term_of}
 use Rattle.from_llvm_ir.proofs.Whole.{IsWhole, the_func, bs_length, first_source, operand_typed, target_at, find_target, find_source, source_block_apart, target_apart, entry}
@@ -58,27 +55,29 @@ matched_flat P Q f g [] (y ∷ ys) each h = elim h [ ]
 matched_flat P Q f g (x ∷ xs) [] each h = elim h [ ]
 matched_flat P Q f g (x ∷ xs) (y ∷ ys) each h = matched_append Q (f x) (flat_map f xs) (g y) (flat_map g ys) (each x y h.0) (matched_flat P Q f g xs ys each h.1)
 
--- the rows of a block are those of what is no phi
-all_rows : (d : L.ModuleData) (g : L.Function) (ps : List Placed)
-    → filter_map (λ (p : Placed). Llvm.row d g p (phi_entries p.instruction)) ps ≡ map (λ (p : Placed). record { action = Llvm.action d g p; result = Llvm.ResultKey p.number }) (filter (λ (p : Placed). not (LF.is_phi p)) ps)
-all_rows d g [] = refl
-all_rows d g (p ∷ ps) = by (phi_entries p.instruction) (all_rows d g ps)
+-- what pairs off with the items that are kept pairs off with what is made of them
+matched_rows : {X Y Z W : Type 0} (keep : X → Bool) (f : X → Option Z) (g : Y → W) (P : X → Y → Type 0) (Q : Z → W → Type 0) → ((x : X) → keep x ≡ false → f x ≡ None) → ((x : X) (y : Y) → P x y → (z : Z) × (f x ≡ Some z) × Q z (g y))
+    → (xs : List X) (ys : List Y) → Matched P (filter keep xs) ys → Matched Q (filter_map f xs) (map g ys)
+matched_rows keep f g P Q none each [] [] h = tt
+matched_rows keep f g P Q none each [] (y ∷ ys) h = elim h [ ]
+matched_rows {X = X} {Y = Y} {Z = Z} keep f g P Q none each (x ∷ xs) ys h = by (keep x) refl (λ zs m. matched_rows keep f g P Q none each xs zs m) ys h
   where
-    by : (v : Option (List (L.Operand × ℕ))) → filter_map (λ (p : Placed). Llvm.row d g p (phi_entries p.instruction)) ps ≡ map (λ (p : Placed). record { action = Llvm.action d g p; result = Llvm.ResultKey p.number }) (filter (λ (p : Placed). not (LF.is_phi p)) ps)
-        → cons_option (Llvm.row d g p v) (filter_map (λ (p : Placed). Llvm.row d g p (phi_entries p.instruction)) ps)
-        ≡ map (λ (p : Placed). record { action = Llvm.action d g p; result = Llvm.ResultKey p.number }) (cond (not (is_some v)) (p ∷ filter (λ (p : Placed). not (LF.is_phi p)) ps) (filter (λ (p : Placed). not (LF.is_phi p)) ps))
-    by None e = ap (λ (rows : List (Row Key)). (record { action = Llvm.action d g p; result = Llvm.ResultKey p.number }) ∷ rows) e
-    by (Some es) e = e
+    by : (t : Bool) → keep x ≡ t → ((zs : List Y) → Matched P (filter keep xs) zs → Matched Q (filter_map f xs) (map g zs)) → (ys : List Y) → Matched P (cond t (x ∷ filter keep xs) (filter keep xs)) ys → Matched Q (cons_option (f x) (filter_map f xs)) (map g ys)
+    by false e rest ys h = subst (λ (o : Option Z). Matched Q (cons_option o (filter_map f xs)) (map g ys)) (sym (none x e)) (rest ys h)
+    by true e rest [] h = elim h [ ]
+    by true e rest (y ∷ ys) h =
+        let r = each x y h.0 in
+        subst (λ (o : Option Z). Matched Q (cons_option o (filter_map f xs)) (map g (y ∷ ys))) (sym r.1) (r.2, rest ys h.1)
+
+-- a phi is no row
+no_row : (d : L.ModuleData) (g : L.Function) (p : Placed) (i : L.Instruction) → not (is_some (phi_entries i)) ≡ false → Llvm.row d g p i ≡ None
+no_row d g p (L.Phi es) e = refl
+no_row d g p (L.Applied r) e = let no : ⊥ = cc in absurd no
 
 -- a phi leads nowhere
 no_targets : (i : L.Instruction) → not (is_some (phi_entries i)) ≡ false → targets i ≡ []
-no_targets (L.Add l r f) e = refl
-no_targets (L.ICmp l r q) e = refl
 no_targets (L.Phi es) e = refl
-no_targets (L.Br a) e = let no : ⊥ = cc in absurd no
-no_targets (L.CondBr c a b) e = let no : ⊥ = cc in absurd no
-no_targets (L.Return v) e = refl
-no_targets L.Unreachable e = refl
+no_targets (L.Applied r) e = let no : ⊥ = cc in absurd no
 
 all_targets : (ps : List Placed) → flat_map (λ (p : Placed). targets p.instruction) ps ≡ flat_map (λ (p : Placed). targets p.instruction) (filter (λ (p : Placed). not (LF.is_phi p)) ps)
 all_targets [] = refl
@@ -158,12 +157,9 @@ module _ (d : L.ModuleData) (n : ℕ) (k : Known) (cs : List DialectBlock) (h : 
   stands_for (L.Result m) w st = stands_value n k cs h (Llvm.ResultKey m) w st
 
   typed : (t : L.TypeTree) (o : L.Operand) (w : Value) → Stands k o w → LF.IsOperand g t o → rename_type match (operand_type g o) ≡ option_type (value_type G w)
-  typed t o w st f = type_stays match (operand_type g o) ∙ f.typed ∙ sym (type_back t) ∙ sym (ap option_type (operand_typed n k cs h t o w st f))
+  typed t o w st f = type_stays match (operand_type g o) ∙ f.typed ∙ sym (ap option_type (operand_typed n k cs h t o w st f))
 
   -- ---- rows
-
-  abbrev llvm_row : Placed → Row Key
-  llvm_row p = record { action = Llvm.action d g p; result = Llvm.ResultKey p.number }
 
   result_type : (p : Placed) (o : DialectOp) → o.result ≡ result_from p.type → rename_type match p.type ≡ option_type o.result
   result_type p o e = type_stays match p.type ∙ by p.type ∙ sym (ap option_type e)
@@ -171,36 +167,7 @@ module _ (d : L.ModuleData) (n : ℕ) (k : Known) (cs : List DialectBlock) (h : 
       by : (t : L.TypeTree) → t ≡ option_type (result_from t)
       by L.VoidType = refl
       by (L.IntType w) = refl
-      by (L.FunctionType r ps v) = sym (type_back (L.FunctionType r ps v))
-
-  -- the kind of an operation and that of its instruction apply the same
-  action_is : (o : DialectOp) (i : L.Instruction) (κ : Kind) → IsKind i κ → Dialect.action G o κ ≡ Dialect.applies G o (Llvm.row_of d i).0 (Llvm.row_of d i).1
-  action_is o (L.Add l r fl) κ is = ap (Dialect.action G o) is
-  action_is o (L.ICmp l r q) κ is = ap (Dialect.action G o) is.2 ∙ ap (λ (x : LLVMIntPredicate). Dialect.applies G o Op.ICmp (Predicate x ∷ [])) is.1
-  action_is o (L.Phi es) κ is = elim is [ ]
-  action_is o (L.Br a) κ is = ap (Dialect.action G o) is
-  action_is o (L.CondBr c a b) κ is = ap (Dialect.action G o) is
-  action_is o (L.Return v) κ is = ap (Dialect.action G o) is
-  action_is o L.Unreachable κ is = ap (Dialect.action G o) is
-
-  operands_are : (i : L.Instruction) (κ : Kind) → IsKind i κ → (Llvm.row_of d i).2 ≡ LF.operands_of i
-  operands_are (L.Add l r fl) κ is = refl
-  operands_are (L.ICmp l r q) κ is = refl
-  operands_are (L.Phi es) κ is = refl
-  operands_are (L.Br a) κ is = refl
-  operands_are (L.CondBr c a b) κ is = refl
-  operands_are (L.Return None) κ is = refl
-  operands_are (L.Return (Some v)) κ is = refl
-  operands_are L.Unreachable κ is = refl
-
-  immediate_stays : (x : Immediate) → rename_immediate match x ≡ x
-  immediate_stays (Flag b) = refl
-  immediate_stays (Number q) = refl
-  immediate_stays (Predicate p) = refl
-
-  immediates_stay : (xs : List Immediate) → map (rename_immediate match) xs ≡ xs
-  immediates_stay [] = refl
-  immediates_stay (x ∷ xs) = rw (immediate_stays x, immediates_stay xs) refl
+      by (L.FunctionType r ps v) = refl
 
   types_same : (os : List L.Operand) (ws : List Value) → ((j : ℕ) (o : L.Operand) → slice_get os j ≡ Some o → IsUsable g o) → Matched (Stands k) os ws → map (rename_type match) (map (operand_type g) os) ≡ map (λ (v : Value). option_type (value_type G v)) ws
   types_same [] [] f m = refl
@@ -208,27 +175,33 @@ module _ (d : L.ModuleData) (n : ℕ) (k : Known) (cs : List DialectBlock) (h : 
   types_same (o ∷ os) [] f m = elim m [ ]
   types_same (o ∷ os) (w ∷ ws) f m = let u = f 0 o refl in let x = typed u.0 o w m.0 u.1 in let xs = types_same os ws (λ j p at. f (suc j) p at) m.1 in cc (x, xs)
 
-  same_action : (p : Placed) (o : DialectOp) (os : List L.Operand) (op : Opcode) (is : List Immediate) → ((j : ℕ) (x : L.Operand) → slice_get os j ≡ Some x → IsUsable g x) → Matched (Stands k) os o.operands → o.result ≡ result_from p.type
-      → Shape.SameAction match the_plan (Applies op is p.type (map (operand_type g) os) (map (Llvm.operand d) os)) (Dialect.applies G o op is)
-  same_action p o os op is f m result = (
+  -- the row of the instruction, and the operation's
+  abbrev HasRow : Placed → DialectOp → Type 0
+  HasRow p o = (r : Row Key) × (Llvm.row d g p p.instruction ≡ Some r) × SameRow match the_plan r (Dialect.row G o)
+
+  same_action : (type : L.TypeTree) (r : L.RowData) (o : DialectOp) → ((j : ℕ) (x : L.Operand) → slice_get r.operands j ≡ Some x → IsUsable g x) → Matched (Stands k) r.operands o.operands → rename_type match type ≡ option_type o.result
+      → Shape.SameAction match the_plan (Llvm.action d g type r) (Dialect.action G o (RowOp r.op))
+  same_action type r o f m result = (
     refl,
-    immediates_stay is,
-    result_type p o result,
-    types_same os o.operands f m,
-    matched_map (Stands k) (Shape.StandsFor match the_plan) (Llvm.operand d) At os o.operands (λ x w st. stands_for x w st) m,
+    result,
+    types_same r.operands o.operands f m,
+    matched_map (Stands k) (Shape.StandsFor match the_plan) (Llvm.operand d) At r.operands o.operands (λ x w st. stands_for x w st) m,
   )
 
-  pub same_row : (i x : ℕ) (b : L.Block) (p : Placed) (o : DialectOp) → slice_get g.blocks i ≡ Some b → slice_get b.instructions x ≡ Some p → LF.is_phi p ≡ false → IsRow k b p o → SameRow match the_plan (llvm_row p) (Dialect.row G o)
-  same_row i x b p o at here other r =
-      let v = r.converted in
-      let f = operands_usable g h.form b.number p p.instruction (inst_form g h.form i x b p at here) (no_phi_is p other) in
-      let e = operands_are p.instruction o.kind v.kind in
-      record {
-        action = subst (Shape.SameAction match the_plan (llvm_row p).action) (sym (action_is o p.instruction o.kind v.kind))
-            (subst (λ (os : List L.Operand). Shape.SameAction match the_plan (Applies (Llvm.row_of d p.instruction).0 (Llvm.row_of d p.instruction).1 p.type (map (operand_type g) os) (map (Llvm.operand d) os)) (Dialect.applies G o (Llvm.row_of d p.instruction).0 (Llvm.row_of d p.instruction).1)) (sym e)
-            (same_action p o (LF.operands_of p.instruction) (Llvm.row_of d p.instruction).0 (Llvm.row_of d p.instruction).1 f v.operands v.result));
-        result = stands_value n k cs h (Llvm.ResultKey p.number) (value_of o) r.stands;
-      }
+  same_row : (i x : ℕ) (b : L.Block) (p : Placed) (o : DialectOp) → slice_get g.blocks i ≡ Some b → slice_get b.instructions x ≡ Some p → LF.is_phi p ≡ false → IsRow k b p o → HasRow p o
+  same_row i x b p o at here other r = by p.instruction r.converted.kind (operands_usable g h.form b.number p (inst_form g h.form i x b p at here) other) r.converted.operands
+    where
+      by : (a : L.Instruction) → IsKind a o.kind → ((j : ℕ) (y : L.Operand) → slice_get (LF.operands_of a) j ≡ Some y → IsUsable g y) → Matched (Stands k) (LF.operands_of a) o.operands
+          → (q : Row Key) × (Llvm.row d g p a ≡ Some q) × SameRow match the_plan q (Dialect.row G o)
+      by (L.Phi es) is f m = elim is [ ]
+      by (L.Applied a) is f m = (
+        record { action = Llvm.action d g p.type a; result = Llvm.ResultKey p.number },
+        refl,
+        record {
+          action = subst (Shape.SameAction match the_plan (Llvm.action d g p.type a)) (sym (ap (Dialect.action G o) is)) (same_action p.type a o f m (result_type p o r.converted.result));
+          result = stands_value n k cs h (Llvm.ResultKey p.number) (value_of o) r.stands;
+        },
+      )
 
   -- ---- edges
 
@@ -256,7 +229,7 @@ module _ (d : L.ModuleData) (n : ℕ) (k : Known) (cs : List DialectBlock) (h : 
         (a.operand, v.0, moves_is m p es.0 a.operand es.1 (ap (takes m) (sym same) ∙ a.is), v.1, a.stands)
       where
         phi_count : length e.block.args ≡ length (phis_of e.target)
-        phi_count = ap (λ (ts : List TypeTree). length ts) e.converted.head.args ∙ length-map (phis_of e.target) (λ (q : Placed). type_from q.type)
+        phi_count = ap (λ (ts : List TypeTree). length ts) e.converted.head.args ∙ length-map (phis_of e.target) (λ (q : Placed). q.type)
 
     pub same_moves : Matched (SameMove match the_plan) (filter_map (Llvm.phi_move d m) e.target.instructions) (Dialect.argument_moves s.block 0 (length e.block.args) s.args)
     same_moves =
@@ -267,7 +240,7 @@ module _ (d : L.ModuleData) (n : ℕ) (k : Known) (cs : List DialectBlock) (h : 
         move_there y p at = let q = phi_moves y p at in ((Llvm.ResultKey p.number, Some (Llvm.operand d q.0)), q.2)
 
         phi_count : length e.block.args ≡ length (phis_of e.target)
-        phi_count = ap (λ (ts : List TypeTree). length ts) e.converted.head.args ∙ length-map (phis_of e.target) (λ (q : Placed). type_from q.type)
+        phi_count = ap (λ (ts : List TypeTree). length ts) e.converted.head.args ∙ length-map (phis_of e.target) (λ (q : Placed). q.type)
 
         lengths : length (Dialect.argument_moves s.block 0 (length e.block.args) s.args) ≡ length (filter_map (Llvm.phi_move d m) (phis_of e.target))
         lengths = moves_length s.block 0 (length e.block.args) s.args ∙ phi_count ∙ sym (length-filter_map_all (Llvm.phi_move d m) (phis_of e.target) move_there)
@@ -322,7 +295,7 @@ module _ (d : L.ModuleData) (n : ℕ) (k : Known) (cs : List DialectBlock) (h : 
         (λ y t s at_t at_s. same_edge b.number t s (edge_at k cs h i x y b p t s at here at_t (matched_at (IsEdge k b.number) (targets p.instruction) o.successors m y t s at_t at_s)))
 
     abbrev Pairs : L.Block → Placed → DialectOp → Type 0
-    Pairs b p o = SameRow match the_plan (llvm_row p) (Dialect.row G o) × Matched (λ (t : ℕ) (s : Successor). SameEdge match the_plan here_of (Llvm.edge d g b.number t) (Dialect.edge G s)) (targets p.instruction) o.successors
+    Pairs b p o = HasRow p o × Matched (λ (t : ℕ) (s : Successor). SameEdge match the_plan here_of (Llvm.edge d g b.number t) (Dialect.edge G s)) (targets p.instruction) o.successors
 
     row_pair : (i y : ℕ) (b : L.Block) (rest : List DialectOp) (p : Placed) (o : DialectOp) → slice_get g.blocks i ≡ Some b → Matched (IsRow k b) (rest_of b) rest → slice_get (rest_of b) y ≡ Some p → slice_get rest y ≡ Some o → Pairs b p o
     row_pair i y b rest p o at m at_p at_o =
@@ -345,8 +318,7 @@ module _ (d : L.ModuleData) (n : ℕ) (k : Known) (cs : List DialectBlock) (h : 
 
     same_pairs : (i j : ℕ) (b : L.Block) (c : DialectBlock) (v : IsConverted k (take j cs) j b c) → slice_get g.blocks i ≡ Some b → Matched (SameRow match the_plan) (Llvm.block d g b).rows (rows_of G v.rest)
     same_pairs i j b c v at =
-        subst (λ (rows : List (Row Key)). Matched (SameRow match the_plan) rows (rows_of G v.rest)) (sym (all_rows d g b.instructions))
-        (matched_map (Pairs b) (SameRow match the_plan) llvm_row (Dialect.row G) (rest_of b) v.rest (λ p o x. x.0) (rows_pair i b v.rest at v.rows))
+        matched_rows (λ (p : Placed). not (LF.is_phi p)) (λ (p : Placed). Llvm.row d g p p.instruction) (Dialect.row G) (Pairs b) (SameRow match the_plan) (λ p phi. no_row d g p p.instruction phi) (λ p o x. x.0) b.instructions v.rest (rows_pair i b v.rest at v.rows)
 
     same_edges : (i j : ℕ) (b : L.Block) (c : DialectBlock) → IsConverted k (take j cs) j b c → slice_get g.blocks i ≡ Some b → Matched (SameEdge match the_plan here_of) (Llvm.block d g b).edges (Dialect.block G c).edges
     same_edges i j b c v at =

@@ -4,7 +4,6 @@ use Rattle.std.specs.Prelude.{is_some}
 use Rattle.std.specs.Option.{option_map}
 use Rattle.std.proofs.lemmas.List.Elements.{All-get_or}
 use Rattle.std.proofs.lemmas.Option.{slice_get_within, same_Some, get_or_from_slice_get, slice_get-get_or}
-use Rattle.llvm_core.proofs.FormTypes.{short_result}
 use Rattle.support.proofs.ListLaws.{item_there}
 use Rattle.support.proofs.OptionLaws.{part_of}
 use Rattle.llvm_core.specs.declared.numbers.LLVMType.{LLVMType}
@@ -25,11 +24,11 @@ use Rattle.llvm_core.specs.declared.code.LLVMValue.TheVariants as V
 use Rattle.llvm_core.specs.Parts.{is_phi, value_type}
 use Rattle.llvm_core.specs.Form as LF
 use Rattle.llvm_core.specs.Form.{IsForm, IsFormFunction, IsShortInt, IsShortResult, AreShortInts}
-use Rattle.llvm_core.specs.Data.{TypeTree, IntType, FunctionType, TypeTrees, type_at, types_at, type_tree, trees_of, Function, function_of, Block, block_of, Placed, placed_of, Instruction, Add, ICmp, Phi, Br, CondBr, Return, Unreachable, instruction_of, phi_entries, Trees, data_of}
+use Rattle.llvm_core.specs.Data.{TypeTree, IntType, FunctionType, TypeTrees, type_at, types_at, type_tree, trees_of, Function, function_of, Block, block_of, Placed, placed_of, Instruction, instruction_of, phi_entries, Trees, data_of}
 use Rattle.llvm_core.proofs.ApartLemmas.{apart}
 use Rattle.llvm_core.proofs.DataLemmas.{within_at, type_tree_of, void_tree_of, int_tree_of, function_tree_of, function_at, function_count, block_count_of, block_of_number, inst_count_of, inst_of_number}
 use Rattle.dialect_core.specs.Form.{types_list}
-use Rattle.from_llvm_ir.specs.Types.{type_from, types_from, result_from, args_from}
+use Rattle.from_llvm_ir.specs.Types.{result_from, args_from}
 use Rattle.from_llvm_ir.specs.Source.{IsSource, IsTypeOf, IsBlockOf, IsInstOf, AreBlocksOf, AreInstsOf}
 use Rattle.from_llvm_ir.proofs.TypeLaws.{listed}
 
@@ -95,11 +94,11 @@ parts_within m ty r ps v sound at =
 
 -- the types of its parameters, as the dialect has them
 pub params_listed : (m : Module) (f : LLVMFunction) (g : Function) (h : IsSource m f g) (ty : LLVMType) (k : LLVMTypeKind) (r : LLVMType) (ps : List LLVMType) (v : _) → option_map (λ (x : FunctionData). x.ty) (slice_get m.functions f.0) ≡ Some ty → slice_get m.types ty.0 ≡ Some k
-    → k ≡ T.Function r ps v → map (λ (t : LLVMType). type_from (type_at (trees_of m).types t)) ps ≡ args_from g.type
+    → k ≡ T.Function r ps v → map (λ (t : LLVMType). type_at (trees_of m).types t) ps ≡ args_from g.type
 params_listed m f g h ty k r ps v has at is =
     let e = signature m f g h ty k has at in
     let same : types_at (trees_of m).types ps ≡ h.form.types = cc (e, ap (type_tree (trees_of m).types) is) in
-    listed (trees_of m).types ps ∙ ap (λ (ts : TypeTrees). types_list (types_from ts)) same ∙ sym (ap args_from h.form.type)
+    listed (trees_of m).types ps ∙ ap (λ (ts : TypeTrees). types_list ts) same ∙ sym (ap args_from h.form.type)
 
 -- ---- blocks and instructions
 
@@ -176,13 +175,8 @@ block_name m g n place b name h has =
 
 -- whether an instruction is a phi
 pub phi_same : (t : Trees) (inst : LLVMInst) → is_some (phi_entries (instruction_of t inst)) ≡ is_phi inst
-phi_same t (I.Add l r f) = refl
-phi_same t (I.ICmp l r q) = refl
 phi_same t (I.Phi type es) = refl
-phi_same t (I.Br a) = refl
-phi_same t (I.CondBr c a b) = refl
-phi_same t (I.Ret v) = refl
-phi_same t I.Unreachable = refl
+phi_same t (I.Row r) = refl
 
 pub phi_read : (m : Module) (b : Block) (i : LLVMInstRef) (place : ℕ) (p : Placed) (inst : LLVMInst) → IsInstOf m b i place p → option_map (λ (x : InstData). x.inst) (slice_get m.insts i.0) ≡ Some inst → LF.is_phi p ≡ is_phi inst
 phi_read m b i place p inst h has = ap (λ (j : Instruction). is_some (phi_entries j)) (instruction_is m b i place p inst h has) ∙ phi_same (trees_of m) inst
@@ -236,23 +230,13 @@ block_named m f g place b to h at number =
         subst (λ (y : ℕ). IsBlockOf m g (record { 0 = y }) place b) is (subst (IsBlockOf m g n place) same x.1)
 
 -- the type of an instruction is short or void
-result_form : (g : Function) (b : ℕ) (p : Placed) (i : Instruction) → LF.IsFormInstruction g b p i → IsShortResult p.type
-result_form g b p (Add l r f) h = short_result p.type h.0.short
-result_form g b p (ICmp l r q) h = subst IsShortResult (sym h.1) (omega arith, omega arith)
-result_form g b p (Phi es) h = short_result p.type h.2
-result_form g b p (Br a) h = subst IsShortResult (sym h.1.type) tt
-result_form g b p (CondBr c x y) h = subst IsShortResult (sym h.3.type) tt
-result_form g b p (Return None) h = subst IsShortResult (sym h.1.type) tt
-result_form g b p (Return (Some v)) h = subst IsShortResult (sym h.1.type) tt
-result_form g b p Unreachable h = subst IsShortResult (sym h.type) tt
-
 pub type_of_inst : (m : Module) (f : LLVMFunction) (g : Function) (n : LLVMBasicBlock) (place : ℕ) (b : Block) (i : LLVMInstRef) (at : ℕ) (p : Placed) → IsSource m f g → IsBlockOf m g n place b → IsInstOf m b i at p → IsTypeOf m i p.type
 type_of_inst m f g n place b i at p h of_block inst = record {
   sound = h.sound;
   row = inst.row;
   here = inst.here;
   is = ap (λ (q : Placed). q.type) inst.is;
-  short = result_form g b.number p p.instruction (within_at b.instructions (λ (q : Placed). LF.IsFormInstruction g b.number q q.instruction) (within_at g.blocks (LF.IsFormBlock g) h.form.blocks place b of_block.at).instructions at p inst.at);
+  short = (within_at b.instructions (LF.IsFormPlaced g b.number) (within_at g.blocks (LF.IsFormBlock g) h.form.blocks place b of_block.at).instructions at p inst.at).short;
 }
 
 -- the type that is read of an instruction
@@ -277,9 +261,9 @@ params_counted m f g h ty k r ps v has at is =
 pub void_read : (m : Module) (i : LLVMInstRef) (t : TypeTree) (ty : LLVMType) → IsTypeOf m i t → value_type m (V.Inst i) ≡ Some ty → slice_get m.types ty.0 ≡ Some T.Void → None ≡ result_from t
 void_read m i t ty h has at = sym (ap result_from (sym (type_read m i t ty h has) ∙ void_tree_of m ty h.sound at))
 
-pub other_read : (m : Module) (i : LLVMInstRef) (t : TypeTree) (ty : LLVMType) (k : LLVMTypeKind) → IsTypeOf m i t → value_type m (V.Inst i) ≡ Some ty → slice_get m.types ty.0 ≡ Some k → ¬ (k ≡ T.Void) → Some (type_from t) ≡ result_from t
+pub other_read : (m : Module) (i : LLVMInstRef) (t : TypeTree) (ty : LLVMType) (k : LLVMTypeKind) → IsTypeOf m i t → value_type m (V.Inst i) ≡ Some ty → slice_get m.types ty.0 ≡ Some k → ¬ (k ≡ T.Void) → Some t ≡ result_from t
 other_read m i t ty T.Void h has at differs = absurd (differs refl)
-other_read m i t ty (T.Int w) h has at differs = let is : t ≡ IntType w = sym (type_read m i t ty h has) ∙ int_tree_of m ty w h.sound at in ap (λ (x : TypeTree). Some (type_from x)) is ∙ sym (ap result_from is)
+other_read m i t ty (T.Int w) h has at differs = let is : t ≡ IntType w = sym (type_read m i t ty h has) ∙ int_tree_of m ty w h.sound at in ap (λ (x : TypeTree). Some x) is ∙ sym (ap result_from is)
 other_read m i t ty (T.Function r ps v) h has at differs =
     let is : t ≡ FunctionType (type_at (trees_of m).types r) (types_at (trees_of m).types ps) v = sym (type_read m i t ty h has) ∙ function_tree_of m ty r ps v h.sound at in
-    ap (λ (x : TypeTree). Some (type_from x)) is ∙ sym (ap result_from is)
+    ap (λ (x : TypeTree). Some x) is ∙ sym (ap result_from is)

@@ -34,7 +34,7 @@ use Rattle.from_llvm_ir.specs.declared.values.Values.{Values}
 use Rattle.from_llvm_ir.specs.Match.{IsPlaces}
 use Rattle.from_llvm_ir.specs.Order.{IsInverse}
 use Rattle.from_llvm_ir.specs.Walks.{graph_of, HasDominatedUses}
-use Rattle.from_llvm_ir.specs.Types.{GrowsTypes, type_from}
+use Rattle.from_llvm_ir.specs.Types.{GrowsTypes}
 use Rattle.from_llvm_ir.specs.Values.{Targets, target_at, value_at, IsNoted}
 use Rattle.from_llvm_ir.specs.Imported.{FirstUses, NoUses, UsedAgain, UsedFirst, ImportedFunction, IsBuilding, IsBelow, front_for, given_name, label_for, phis_of}
 use Rattle.from_llvm_ir.specs.Building.{AreBare, AreFresh, AreNumbered, IsUnder, bare_func, with_blocks, with_ops, ops_of}
@@ -87,7 +87,7 @@ more_heads fr func c c' c1 j b x h grown here number label args ops added kind l
 
 -- a block behind the first
 pub later_heads : (fr : Frame) (func : FuncOp) (c c' c1 : ContextData) (j : ℕ) (b : L.Block) (x : DialectBlock) → HasHeads fr func c (j + 1) → GrowsTypes c c'
-    → slice_get (blocks_of fr) (j + 1) ≡ Some b → x.number ≡ length c'.blocks → x.label ≡ given_name b.name → x.args ≡ map (λ (p : L.Placed). type_from p.type) (phis_of b) → x.ops ≡ []
+    → slice_get (blocks_of fr) (j + 1) ≡ Some b → x.number ≡ length c'.blocks → x.label ≡ given_name b.name → x.args ≡ map (λ (p : L.Placed). p.type) (phis_of b) → x.ops ≡ []
     → ((m : ℕ) (body : BlockRef) (d : DialectModule) → IsBuilding c' m body d → IsBuilding c1 m body (with_func_block d func.0.0 x))
     → kind_at c1.ops func.0 ≡ Some O.Func → length c1.blocks ≡ length c'.blocks + 1
     → HasHeads fr func c1 (j + 2)
@@ -229,7 +229,7 @@ params_noted m fr f block n values number count first h = record {
 -- a function that was declared has no blocks yet
 abbrev pub framed : ℕ → BlockRef → DialectModule → ℕ → L.Function → List ℕ → ℕ → Frame
 framed m body d n g order base = record {
-  home = record { m = m; body = body; before = d; func = bare_func n g.name (type_from g.type) };
+  home = record { m = m; body = body; before = d; func = bare_func n g.name g.type };
   source = g;
   order = order;
   base = base;

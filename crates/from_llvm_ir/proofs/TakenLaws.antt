@@ -25,13 +25,8 @@ use Rattle.from_llvm_ir.proofs.EntryLaws.{first_is, taken_there}
 use Rattle.from_llvm_ir.proofs.PassLaws.{takes, no_phi_is, block_form, passed_is, taken_for}
 
 takes_inst : (t : Trees) (p : LLVMBasicBlock) (inst : LLVMInst) → option_and_then (first_entry p.0) (phi_entries (instruction_of t inst)) ≡ option_map (operand_of t) (taken_by p inst)
-takes_inst t p (I.Add l r f) = refl
-takes_inst t p (I.ICmp l r q) = refl
 takes_inst t p (I.Phi type entries) = first_is t p entries
-takes_inst t p (I.Br a) = refl
-takes_inst t p (I.CondBr c a b) = refl
-takes_inst t p (I.Ret v) = refl
-takes_inst t p I.Unreachable = refl
+takes_inst t p (I.Row r) = refl
 
 takes_is : (m : Module) (b : L.Block) (i : LLVMInstRef) (at : ℕ) (p : Placed) (from : LLVMBasicBlock) → IsInstOf m b i at p → takes from.0 p ≡ option_map (operand_of (trees_of m)) (taken m i from)
 takes_is m b i at p from h =

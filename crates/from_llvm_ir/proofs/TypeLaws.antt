@@ -6,12 +6,11 @@ use Rattle.llvm_core.specs.declared.numbers.LLVMType.{LLVMType}
 use Rattle.llvm_core.specs.Data as L
 use Rattle.llvm_core.specs.Form.{IsShortResult, AreShortInts, is_phi}
 use Rattle.dialect_types.specs.declared.types.TypeHandle.{TypeHandle}
-use Rattle.dialect_types.specs.Trees.{TypeTree, FuncType, TypeTrees, NoTypes, ThenType, depth, depths, type_at, types_at, type_trees, AllBelow}
+use Rattle.dialect_types.specs.Trees.{TypeTree, FunctionType, TypeTrees, NoTypes, ThenType, depth, depths, type_at, types_at, type_trees, AllBelow}
 use Rattle.dialect_core.specs.ContextData.{ContextData}
 use Rattle.dialect_core.specs.Form.{types_list}
-use Rattle.meaning.specs.Dialect.{type_of, types_of}
 use Rattle.from_llvm_ir.proofs.PlaceLaws.{filter_next, filter_skip}
-use Rattle.from_llvm_ir.specs.Types.{GrowsTypes, type_from, types_from, args_from}
+use Rattle.from_llvm_ir.specs.Types.{GrowsTypes, args_from}
 
 -- ---- types of the context that grow
 
@@ -42,22 +41,22 @@ within_kept a b g ts h = All-weaker (λ (t : TypeHandle). t.0 < length a.types) 
 
 pub record Imports (a b : ContextData) (trees : List L.TypeTree) (types : List LLVMType) (imported : List TypeHandle) : Type 0 where
   pub grown : GrowsTypes a b
-  pub are : map (type_at (type_trees b.types)) imported ≡ map (λ (t : LLVMType). type_from (L.type_at trees t)) types
+  pub are : map (type_at (type_trees b.types)) imported ≡ map (λ (t : LLVMType). L.type_at trees t) types
   pub within : All (λ (t : TypeHandle). t.0 < length b.types) imported
 
 pub imports_none : (a : ContextData) (trees : List L.TypeTree) → Imports a a trees [] []
 imports_none a trees = record { grown = grows_none a; are = refl; within = All-nil _ }
 
 pub imports_more : (a b c : ContextData) (trees : List L.TypeTree) (types : List LLVMType) (i : ℕ) (d : LLVMType) (imported : List TypeHandle) (t : TypeHandle)
-    → i < length types → Imports a b trees (take i types) imported → GrowsTypes b c → type_at (type_trees c.types) t ≡ type_from (L.type_at trees (get_or types i d)) → t.0 < length c.types
+    → i < length types → Imports a b trees (take i types) imported → GrowsTypes b c → type_at (type_trees c.types) t ≡ L.type_at trees (get_or types i d) → t.0 < length c.types
     → Imports a c trees (take (i + 1) types) (imported ++ t ∷ [])
 imports_more a b c trees types i d imported t lt h g is small = record {
   grown = grows_then a b c h.grown g;
   are =
       map_push (type_at (type_trees c.types)) imported t
       ∙ ap (λ (ts : List TypeTree). ts ++ type_at (type_trees c.types) t ∷ []) (trees_kept b c g imported h.within ∙ h.are)
-      ∙ ap (λ (x : TypeTree). map (λ (t : LLVMType). type_from (L.type_at trees t)) (take i types) ++ x ∷ []) is
-      ∙ sym (map_more (λ (t : LLVMType). type_from (L.type_at trees t)) types i d lt);
+      ∙ ap (λ (x : TypeTree). map (λ (t : LLVMType). L.type_at trees t) (take i types) ++ x ∷ []) is
+      ∙ sym (map_more (λ (t : LLVMType). L.type_at trees t) types i d lt);
   within = All-push (λ (t : TypeHandle). t.0 < length c.types) imported t (within_kept b c g imported h.within) small;
 }
 
@@ -68,7 +67,7 @@ imports_all a b trees types i imported le h = subst (λ (ts : List LLVMType). Im
 
 pub record ImportsPhis (a b : ContextData) (ps : List L.Placed) (imported : List TypeHandle) : Type 0 where
   pub grown : GrowsTypes a b
-  pub are : map (type_at (type_trees b.types)) imported ≡ map (λ (p : L.Placed). type_from p.type) (filter is_phi ps)
+  pub are : map (type_at (type_trees b.types)) imported ≡ map (λ (p : L.Placed). p.type) (filter is_phi ps)
   pub within : All (λ (t : TypeHandle). t.0 < length b.types) imported
 
 pub phis_none : (a : ContextData) → ImportsPhis a a [] []
@@ -77,28 +76,28 @@ phis_none a = record { grown = grows_none a; are = refl; within = All-nil _ }
 pub phis_skip : (a b : ContextData) (ps : List L.Placed) (i : ℕ) (p : L.Placed) (imported : List TypeHandle) → slice_get ps i ≡ Some p → is_phi p ≡ false → ImportsPhis a b (take i ps) imported → ImportsPhis a b (take (i + 1) ps) imported
 phis_skip a b ps i p imported at other h = record {
   grown = h.grown;
-  are = h.are ∙ ap (map (λ (q : L.Placed). type_from q.type)) (sym (filter_skip is_phi ps i p at other));
+  are = h.are ∙ ap (map (λ (q : L.Placed). q.type)) (sym (filter_skip is_phi ps i p at other));
   within = h.within;
 }
 
-pub phis_more : (a b c : ContextData) (ps : List L.Placed) (i : ℕ) (p : L.Placed) (imported : List TypeHandle) (t : TypeHandle) → slice_get ps i ≡ Some p → is_phi p ≡ true → ImportsPhis a b (take i ps) imported → GrowsTypes b c → type_at (type_trees c.types) t ≡ type_from p.type → t.0 < length c.types
+pub phis_more : (a b c : ContextData) (ps : List L.Placed) (i : ℕ) (p : L.Placed) (imported : List TypeHandle) (t : TypeHandle) → slice_get ps i ≡ Some p → is_phi p ≡ true → ImportsPhis a b (take i ps) imported → GrowsTypes b c → type_at (type_trees c.types) t ≡ p.type → t.0 < length c.types
     → ImportsPhis a c (take (i + 1) ps) (imported ++ t ∷ [])
 phis_more a b c ps i p imported t at phi h g is small = record {
   grown = grows_then a b c h.grown g;
   are =
       map_push (type_at (type_trees c.types)) imported t
       ∙ ap (λ (ts : List TypeTree). ts ++ type_at (type_trees c.types) t ∷ []) (trees_kept b c g imported h.within ∙ h.are)
-      ∙ ap (λ (x : TypeTree). map (λ (q : L.Placed). type_from q.type) (filter is_phi (take i ps)) ++ x ∷ []) is
-      ∙ sym (map_push (λ (q : L.Placed). type_from q.type) (filter is_phi (take i ps)) p)
-      ∙ ap (map (λ (q : L.Placed). type_from q.type)) (sym (filter_next is_phi ps i p at phi));
+      ∙ ap (λ (x : TypeTree). map (λ (q : L.Placed). q.type) (filter is_phi (take i ps)) ++ x ∷ []) is
+      ∙ sym (map_push (λ (q : L.Placed). q.type) (filter is_phi (take i ps)) p)
+      ∙ ap (map (λ (q : L.Placed). q.type)) (sym (filter_next is_phi ps i p at phi));
   within = All-push (λ (x : TypeHandle). x.0 < length c.types) imported t (within_kept b c g imported h.within) small;
 }
 
 -- ---- lists of types as trees
 
-pub listed : (trees : List L.TypeTree) (ps : List LLVMType) → map (λ (t : LLVMType). type_from (L.type_at trees t)) ps ≡ types_list (types_from (L.types_at trees ps))
+pub listed : (trees : List L.TypeTree) (ps : List LLVMType) → map (λ (t : LLVMType). L.type_at trees t) ps ≡ types_list (L.types_at trees ps)
 listed trees [] = refl
-listed trees (p ∷ ps) = ap (λ (ts : List TypeTree). type_from (L.type_at trees p) ∷ ts) (listed trees ps)
+listed trees (p ∷ ps) = ap (λ (ts : List TypeTree). L.type_at trees p ∷ ts) (listed trees ps)
 
 listed_at : (trees : List TypeTree) (ts : List TypeHandle) → map (type_at trees) ts ≡ types_list (types_at trees ts)
 listed_at trees [] = refl
@@ -110,8 +109,8 @@ list_one NoTypes (ThenType t ts) h = cc
 list_one (ThenType t ts) NoTypes h = cc
 list_one (ThenType t ts) (ThenType u us) h = let rest = list_one ts us (cc) in cc
 
-pub params_are : (trees : List TypeTree) (ts : List TypeHandle) (ps : L.TypeTrees) → map (type_at trees) ts ≡ types_list (types_from ps) → types_at trees ts ≡ types_from ps
-params_are trees ts ps h = list_one (types_at trees ts) (types_from ps) (sym (listed_at trees ts) ∙ h)
+pub params_are : (trees : List TypeTree) (ts : List TypeHandle) (ps : L.TypeTrees) → map (type_at trees) ts ≡ types_list ps → types_at trees ts ≡ ps
+params_are trees ts ps h = list_one (types_at trees ts) ps (sym (listed_at trees ts) ∙ h)
 
 pub all_below : (n : ℕ) (ts : List TypeHandle) → All (λ (t : TypeHandle). t.0 < n) ts → AllBelow n ts
 all_below n [] h = tt
@@ -119,40 +118,30 @@ all_below n (t ∷ ts) h = (All-head (λ (x : TypeHandle). x.0 < n) t ts h, all_
 
 -- ---- short types nest little
 
-short_depth : (t : L.TypeTree) → IsShortResult t → depth (type_from t) ≤ 1
+short_depth : (t : L.TypeTree) → IsShortResult t → depth t ≤ 1
 short_depth L.VoidType h = omega arith
 short_depth (L.IntType w) h = omega arith
 short_depth (L.FunctionType r ps v) h = elim h [ ]
 
-short_ints_depth : (ts : L.TypeTrees) → AreShortInts ts → depths (types_from ts) ≤ 1
+short_ints_depth : (ts : L.TypeTrees) → AreShortInts ts → depths ts ≤ 1
 short_ints_depth L.NoTypes h = omega arith
 short_ints_depth (L.ThenType L.VoidType ts) h = elim h.0 [ ]
 short_ints_depth (L.ThenType (L.IntType w) ts) h = omega (arith, short_ints_depth ts h.1)
 short_ints_depth (L.ThenType (L.FunctionType r ps v) ts) h = elim h.0 [ ]
 
-pub signature_depth : (r : TypeTree) (ps : TypeTrees) (s : L.TypeTree) (qs : L.TypeTrees) → r ≡ type_from s → ps ≡ types_from qs → IsShortResult s → AreShortInts qs → depth (FuncType r ps false) ≤ 1000
+pub signature_depth : (r : TypeTree) (ps : TypeTrees) (s : L.TypeTree) (qs : L.TypeTrees) → r ≡ s → ps ≡ qs → IsShortResult s → AreShortInts qs → depth (FunctionType r ps false) ≤ 1000
 signature_depth r ps s qs e f h k = rw (e, f) (omega (arith, short_depth s h, short_ints_depth qs k))
 
--- ---- back and forth
-
-mutual
-  pub type_back : (t : L.TypeTree) → type_of (type_from t) ≡ t
-  type_back L.VoidType = refl
-  type_back (L.IntType w) = refl
-  type_back (L.FunctionType r ps v) = cc (type_back r, types_back ps)
-
-  types_back : (ts : L.TypeTrees) → types_of (types_from ts) ≡ ts
-  types_back L.NoTypes = refl
-  types_back (L.ThenType t ts) = cc (type_back t, types_back ts)
+-- ---- parts of a signature
 
 -- the types of parameters, once the context has more types
 pub params_still : (a b : ContextData) (ts us : List TypeHandle) (t : L.TypeTree) (r : L.TypeTree) (ps : L.TypeTrees) → GrowsTypes a b → All (λ (t : TypeHandle). t.0 < length a.types) ts → map (type_at (type_trees a.types)) ts ≡ args_from t → t ≡ L.FunctionType r ps false → us ≡ ts
-    → types_at (type_trees b.types) us ≡ types_from ps
+    → types_at (type_trees b.types) us ≡ ps
 params_still a b ts us t r ps g within are is same =
     ap (types_at (type_trees b.types)) same ∙ params_are (type_trees b.types) ts ps (trees_kept a b g ts within ∙ are ∙ ap args_from is)
 
 pub below_still : (a b : ContextData) (ts us : List TypeHandle) → GrowsTypes a b → All (λ (t : TypeHandle). t.0 < length a.types) ts → us ≡ ts → AllBelow (length b.types) us
 below_still a b ts us g within same = subst (AllBelow (length b.types)) (sym same) (all_below (length b.types) ts (within_kept a b g ts within))
 
-pub both_parts : (r : TypeTree) (ps : TypeTrees) (s : L.TypeTree) (qs : L.TypeTrees) → r ≡ type_from s → ps ≡ types_from qs → FuncType r ps false ≡ type_from (L.FunctionType s qs false)
+pub both_parts : (r : TypeTree) (ps : TypeTrees) (s : L.TypeTree) (qs : L.TypeTrees) → r ≡ s → ps ≡ qs → FunctionType r ps false ≡ L.FunctionType s qs false
 both_parts r ps s qs e f = rw (e, f) refl

@@ -8,6 +8,10 @@ use Rattle.std.proofs.lemmas.Bool.{cases_lt, both_ways}
 use Rattle.std.proofs.lemmas.Option.{same_Some, slice_get_within, get_or_from_slice_get}
 use Rattle.support.proofs.ListLaws.{all_from, slice_get-behind_cases, filter_from}
 use Rattle.llvm_core.specs.Checked.{ends_in_only}
+use Rattle.kinds.specs.declared.rules.Leads.{Leads}
+use Rattle.kinds.specs.declared.rules.Leads.TheVariants as W
+use Rattle.kinds.specs.Rules.{target_count, ends as ends_by}
+use Rattle.kinds.specs.Table.{rule_of}
 use Rattle.llvm_core.specs.Form as LF
 use Rattle.llvm_core.specs.Data as L
 use Rattle.llvm_core.specs.Data.{Placed, phi_entries, placed_in}
@@ -27,7 +31,7 @@ use Rattle.from_llvm_ir.specs.Body.{IsLate}
 use Rattle.from_llvm_ir.proofs.PlaceLaws.{flat_at, flat_from}
 use Rattle.from_llvm_ir.proofs.EndLaws.{ends_from}
 use Rattle.from_llvm_ir.proofs.GraphLaws.{length-graph}
-use Rattle.from_llvm_ir.proofs.PassLaws.{phi_is, block_form, target_there, edge_there, at_passed}
+use Rattle.from_llvm_ir.proofs.PassLaws.{phi_is, block_form, inst_form, target_there, edge_there, at_passed}
 use Rattle.from_llvm_ir.proofs.RefusalLaws.{used_usable}
 
 -- ---- an order of a graph's nodes gives places
@@ -65,14 +69,13 @@ passed_in : (g : L.Function) (p m n y : ℕ) (o : L.Operand) → m ≡ n → sli
 passed_in g p m n y o same h = ap (λ (k : ℕ). slice_get (passed g p k) y) same ∙ h
 
 -- what leads to blocks ends its block
-ends : (i : L.Instruction) (j t : ℕ) → slice_get (L.targets i) j ≡ Some t → LF.is_terminator i ≡ true
-ends (L.Add l r f) j t at = cc
-ends (L.ICmp l r q) j t at = cc
-ends (L.Phi es) j t at = cc
-ends (L.Br a) j t at = refl
-ends (L.CondBr c a b) j t at = refl
-ends (L.Return v) j t at = refl
-ends L.Unreachable j t at = refl
+leads_end : (l : Leads) → 0 < target_count l → ends_by l ≡ true
+leads_end W.On lt = absurd (omega (arith, lt))
+leads_end (W.To n) lt = refl
+
+ends : (g : L.Function) (m : ℕ) (type : L.TypeTree) (i : L.Instruction) (j t : ℕ) → LF.IsFormInstruction g m type i → slice_get (L.targets i) j ≡ Some t → LF.is_terminator i ≡ true
+ends g m type (L.Phi es) j t h at = cc
+ends g m type (L.Applied r) j t h at = leads_end (rule_of r.op).leads (omega (arith, slice_get_within r.targets j t at, h.leads))
 
 -- the only item that passes stands last
 last_place : {X : Type 0} (test : X → Bool) (xs : List X) (i : ℕ) (x : X) → ends_in_only test xs ≡ true → slice_get xs i ≡ Some x → test x ≡ true → suc i ≡ length xs
@@ -122,7 +125,7 @@ module _ (g : L.Function) (form : LF.IsFormFunction g) where
               place = h.place;
               how = inr (
                 taken h.block h.b h.place r.place r.item r.inner n h.user h.at h.here r.here r.at,
-                last_place LF.is_last h.b.instructions h.place h.user (block_form g form h.block h.b h.at).ends h.here (ends h.user.instruction r.place r.item r.here),
+                last_place LF.is_last h.b.instructions h.place h.user (block_form g form h.block h.b h.at).ends h.here (ends g h.b.number h.user.type h.user.instruction r.place r.item (inst_form g form h.block h.place h.b h.user h.at h.here).instruction r.here),
               );
             },
             refl,

@@ -1,10 +1,10 @@
 -- What an instruction uses: its operands, and what its edges pass.
-use Rattle.std.proofs.Common.{ℕ, zero, suc, ◌≡◌, ◌<◌, ◌≤◌, ◌+◌, refl, sym, ap, subst, ◌∙◌, false, List, ◌++◌, Some, None, All, length, take, map, slice_get}
+use Rattle.std.proofs.Common.{ℕ, suc, ◌≡◌, ◌<◌, ◌≤◌, ◌+◌, refl, sym, ap, subst, ◌∙◌, false, List, ◌++◌, Some, All, length, take, map, slice_get}
 use Rattle.std.specs.List.{flat_map}
 use Rattle.std.specs.Option.{option_map}
 use Rattle.std.proofs.lemmas.List.{map-append, append-nil, append_assoc, take_all, take-map}
 use Rattle.std.proofs.lemmas.List.Elements.{All-append}
-use Rattle.std.proofs.lemmas.Option.{same_Some, none-some, slice_get-map}
+use Rattle.std.proofs.lemmas.Option.{slice_get-map}
 use Rattle.support.proofs.ListLaws.{all_from}
 use Rattle.llvm_core.specs.declared.numbers.LLVMFunction.{LLVMFunction}
 use Rattle.llvm_core.specs.declared.numbers.LLVMBasicBlock.{LLVMBasicBlock}
@@ -18,50 +18,28 @@ use Rattle.llvm_core.specs.Parts.{IsValue, HasValues, operands, is_phi}
 use Rattle.llvm_core.specs.Form as LF
 use Rattle.llvm_core.specs.Data as L
 use Rattle.llvm_core.specs.Data.{Placed, Trees, trees_of, operand_of, instruction_of}
+use Rattle.llvm_core.proofs.DataLemmas.{within_at}
 use Rattle.from_llvm_ir.specs.declared.entries.Entries.{Entries}
 use Rattle.from_llvm_ir.specs.Imported.{passed}
 use Rattle.from_llvm_ir.specs.Parts.{target_blocks}
 use Rattle.from_llvm_ir.specs.Source.{IsSite, LeadsTo, IsUsed, used_by}
 use Rattle.from_llvm_ir.proofs.PlaceLaws.{flat_next}
 use Rattle.from_llvm_ir.proofs.SourceLaws.{block_named, block_number, instruction_is, phi_read}
-use Rattle.from_llvm_ir.proofs.PassLaws.{no_phi_is, inst_form, operands_usable, edge_there, target_there}
+use Rattle.from_llvm_ir.proofs.PassLaws.{inst_form, operands_usable, edge_there, target_there}
 
 -- ---- the parts of an instruction
 
 pub operands_same : (t : Trees) (inst : LLVMInst) → is_phi inst ≡ false → map (operand_of t) (operands inst) ≡ LF.operands_of (instruction_of t inst)
-operands_same t (I.Add l r f) e = refl
-operands_same t (I.ICmp l r q) e = refl
 operands_same t (I.Phi type es) e = absurd (let no : ⊥ = cc in no)
-operands_same t (I.Br a) e = refl
-operands_same t (I.CondBr c a b) e = refl
-operands_same t (I.Ret None) e = refl
-operands_same t (I.Ret (Some v)) e = refl
-operands_same t I.Unreachable e = refl
+operands_same t (I.Row r) e = refl
 
 operands_there : (m : Module) (inst : LLVMInst) → is_phi inst ≡ false → HasValues m inst → (j : ℕ) (v : LLVMValue) → slice_get (operands inst) j ≡ Some v → IsValue m v
-operands_there m (I.Add l r f) e h zero v at = subst (IsValue m) (same_Some l v at) h.0
-operands_there m (I.Add l r f) e h (suc zero) v at = subst (IsValue m) (same_Some r v at) h.1
-operands_there m (I.Add l r f) e h (suc (suc j)) v at = absurd (none-some v at)
-operands_there m (I.ICmp l r q) e h zero v at = subst (IsValue m) (same_Some l v at) h.0
-operands_there m (I.ICmp l r q) e h (suc zero) v at = subst (IsValue m) (same_Some r v at) h.1
-operands_there m (I.ICmp l r q) e h (suc (suc j)) v at = absurd (none-some v at)
 operands_there m (I.Phi type es) e h j v at = absurd (let no : ⊥ = cc in no)
-operands_there m (I.Br a) e h j v at = absurd (none-some v at)
-operands_there m (I.CondBr c a b) e h zero v at = subst (IsValue m) (same_Some c v at) h.0
-operands_there m (I.CondBr c a b) e h (suc j) v at = absurd (none-some v at)
-operands_there m (I.Ret None) e h j v at = absurd (none-some v at)
-operands_there m (I.Ret (Some x)) e h zero v at = subst (IsValue m) (same_Some x v at) h
-operands_there m (I.Ret (Some x)) e h (suc j) v at = absurd (none-some v at)
-operands_there m I.Unreachable e h j v at = absurd (none-some v at)
+operands_there m (I.Row r) e h j v at = within_at r.operands (IsValue m) h.0 j v at
 
 pub targets_same : (t : Trees) (inst : LLVMInst) → map (λ (b : LLVMBasicBlock). b.0) (target_blocks inst) ≡ L.targets (instruction_of t inst)
-targets_same t (I.Add l r f) = refl
-targets_same t (I.ICmp l r q) = refl
 targets_same t (I.Phi type es) = refl
-targets_same t (I.Br a) = refl
-targets_same t (I.CondBr c a b) = refl
-targets_same t (I.Ret v) = refl
-targets_same t I.Unreachable = refl
+targets_same t (I.Row r) = refl
 
 -- ---- an instruction of a function
 
@@ -100,7 +78,7 @@ module _ (m : Module) (f : LLVMFunction) (g : L.Function) (entries : Entries) (f
       pub operands_used : HasValues m inst → All (IsUsed m g) (operands inst)
       operands_used values = all_from (IsUsed m g) (operands inst) (λ j v at. record {
         valid = operands_there m inst no_phi values j v at;
-        usable = operands_usable g h.source.form b.number p p.instruction (inst_form g h.source.form h.place h.at b p h.of_block.at h.inst.at) (no_phi_is p other) j (operand_of (trees_of m) v)
+        usable = operands_usable g h.source.form b.number p (inst_form g h.source.form h.place h.at b p h.of_block.at h.inst.at) other j (operand_of (trees_of m) v)
             (ap (λ (os : List L.Operand). slice_get os j) (sym operands_are) ∙ slice_get-map (operand_of (trees_of m)) (operands inst) j ∙ ap (option_map (operand_of (trees_of m))) at);
       })
 

@@ -17,11 +17,12 @@ use Rattle.dialect_core.specs.Form.{types_list}
 use Rattle.dialect_core.specs.Data.{DialectOp, DialectBlock, Func, value_type}
 use Rattle.meaning.specs.Pairs.{Matched}
 use Rattle.from_llvm_ir.specs.Match.{IsPlaces}
-use Rattle.from_llvm_ir.specs.Types.{type_from, types_from, result_from, args_from}
+use Rattle.from_llvm_ir.specs.Types.{args_from}
 use Rattle.from_llvm_ir.specs.Building.{AreNumbered, bare_func, ops_of}
 use Rattle.from_llvm_ir.specs.Source.{IsShortConst}
 use Rattle.from_llvm_ir.specs.Known.{Known, Stands, IsConstantOp, beside, blocks_of, value_of}
 use Rattle.from_llvm_ir.specs.Converted.{IsConverted, AreConverted, IsFrom, FromArgument, FromResult, AreFrom}
+use Rattle.from_llvm_ir.proofs.RowLaws.{short_from}
 use Rattle.from_llvm_ir.proofs.PlaceLaws.{flat_at, flat_from, flat_same, found, number_apart}
 use Rattle.from_llvm_ir.proofs.OrderLaws.{ordered_length, ordered_at, ordered_apart}
 
@@ -85,28 +86,23 @@ beside_more {X = X} {Y = Y} test (x ∷ xs) xs' (z ∷ ys) ys' y h = by (test x)
 
 -- ---- types of parameters
 
-nth_listed : (ts : L.TypeTrees) (i : ℕ) → i < LF.count_types ts → slice_get (types_list (types_from ts)) i ≡ Some (type_from (L.nth_type ts i))
+nth_listed : (ts : L.TypeTrees) (i : ℕ) → i < LF.count_types ts → slice_get (types_list ts) i ≡ Some (L.nth_type ts i)
 nth_listed L.NoTypes i lt = absurd (omega arith)
 nth_listed (L.ThenType t ts) ℕ.zero lt = refl
 nth_listed (L.ThenType t ts) (ℕ.suc i) lt = nth_listed ts i (omega arith)
 
-pub listed_length : (ts : L.TypeTrees) → length (types_list (types_from ts)) ≡ LF.count_types ts
+pub listed_length : (ts : L.TypeTrees) → length (types_list ts) ≡ LF.count_types ts
 listed_length L.NoTypes = refl
 listed_length (L.ThenType t ts) = let e = listed_length ts in omega (arith, e)
 
-constant_result : (c : ConstTree) (o : DialectOp) → IsConstantOp c o → o.result ≡ Some (type_from (L.const_type c))
+constant_result : (c : ConstTree) (o : DialectOp) → IsConstantOp c o → o.result ≡ Some (L.const_type c)
 constant_result (IntConst VoidType v) o h = elim h [ ]
 constant_result (IntConst (IntType w) v) o h = ap (λ (x : DialectOp). x.result) h
 constant_result (IntConst (FunctionType r ps x) v) o h = elim h [ ]
 constant_result (PlaceholderConst n t) o h = elim h [ ]
 
-pub short_from : (t : L.TypeTree) → LF.IsShortInt t → result_from t ≡ Some (type_from t)
-short_from VoidType h = elim h [ ]
-short_from (IntType w) h = refl
-short_from (FunctionType r ps v) h = elim h [ ]
-
 abbrev pub the_func : ℕ → Known → List DialectBlock → Func
-the_func n k cs = record (bare_func n k.frame.source.name (type_from k.frame.source.type)) { blocks = cs }
+the_func n k cs = record (bare_func n k.frame.source.name k.frame.source.type) { blocks = cs }
 
 module _ (n : ℕ) (k : Known) (cs : List DialectBlock) (h : IsWhole k cs) where
   abbrev g : L.Function
@@ -169,8 +165,8 @@ module _ (n : ℕ) (k : Known) (cs : List DialectBlock) (h : IsWhole k cs) where
       let i = op_at j y c o at here in
       ap (option_and_then (λ (x : DialectOp). x.result)) (found (λ (x : DialectOp). x.number) (ops_of cs) i.0 o o.number refl i.1 (λ a z at_z same. h.fresh a i.0 z o at_z i.1 same))
 
-  from_typed : (p : Placed) (w : Value) → IsFrom cs p w → LF.IsShortInt p.type → value_type G w ≡ Some (type_from p.type)
-  from_typed p w (FromArgument j i c at is type) short = ap (value_type G) is ∙ arg_typed j i c (record { 0 = c.number }) (type_from p.type) at refl type
+  from_typed : (p : Placed) (w : Value) → IsFrom cs p w → LF.IsShortInt p.type → value_type G w ≡ Some p.type
+  from_typed p w (FromArgument j i c at is type) short = ap (value_type G) is ∙ arg_typed j i c (record { 0 = c.number }) p.type at refl type
   from_typed p w (FromResult j y c o at here is type) short = ap (value_type G) is ∙ result_typed j y c o at here ∙ type ∙ short_from p.type short
 
   -- ---- instructions by their numbers
@@ -190,24 +186,24 @@ module _ (n : ℕ) (k : Known) (cs : List DialectBlock) (h : IsWhole k cs) where
 
   -- ---- types of operands
 
-  pub operand_typed : (t : L.TypeTree) (o : L.Operand) (w : Value) → Stands k o w → LF.IsOperand g t o → value_type G w ≡ Some (type_from t)
+  pub operand_typed : (t : L.TypeTree) (o : L.Operand) (w : Value) → Stands k o w → LF.IsOperand g t o → value_type G w ≡ Some t
   operand_typed t (L.Constant c) w st f =
       let makes = matched_at IsConstantOp k.constants k.hoisted h.made st.place c st.op st.here st.there in
       let at = ap (λ (os : List DialectOp). slice_get os st.place) entry.2.ops ∙ slice_get-kept k.hoisted entry.2.rest st.place st.op st.there in
-      ap (value_type G) st.is ∙ result_typed 0 st.place entry.0 st.op entry.1 at ∙ constant_result c st.op makes ∙ ap (λ (x : L.TypeTree). Some (type_from x)) f.typed
+      ap (value_type G) st.is ∙ result_typed 0 st.place entry.0 st.op entry.1 at ∙ constant_result c st.op makes ∙ ap (λ (x : L.TypeTree). Some x) f.typed
   operand_typed t (L.Parameter e i) w st f =
       let is : L.param_type g.type i ≡ t = sym (ap (λ (x : Bool). if x then L.param_type g.type i else VoidType) (eq-eqb e g.number st.0)) ∙ f.typed in
       let small : i < LF.count_types h.form.types = omega (arith, st.1, h.form.params) in
-      let type : slice_get entry.0.args i ≡ Some (type_from (L.param_type g.type i)) =
-      ap (λ (ts : List TypeTree). slice_get ts i) (entry.2.head.args ∙ ap args_from h.form.type) ∙ nth_listed h.form.types i small ∙ ap (λ (x : L.TypeTree). Some (type_from (L.param_type x i))) (sym h.form.type) in
+      let type : slice_get entry.0.args i ≡ Some (L.param_type g.type i) =
+      ap (λ (ts : List TypeTree). slice_get ts i) (entry.2.head.args ∙ ap args_from h.form.type) ∙ nth_listed h.form.types i small ∙ ap (λ (x : L.TypeTree). Some (L.param_type x i)) (sym h.form.type) in
       let number : k.frame.base ≡ entry.0.number = (let e = entry.2.head.number in omega (arith, e)) in
-      ap (value_type G) st.2 ∙ arg_typed 0 i entry.0 (record { 0 = k.frame.base }) _ entry.1 number type ∙ ap (λ (x : L.TypeTree). Some (type_from x)) is
+      ap (value_type G) st.2 ∙ arg_typed 0 i entry.0 (record { 0 = k.frame.base }) _ entry.1 number type ∙ ap (λ (x : L.TypeTree). Some x) is
   operand_typed t (L.Result m) w st f =
       let b = beside_from (λ (p : Placed). nat_eq p.number m) k.sources k.done w st in
       let number : b.item.number ≡ m = eqb-true b.item.number m b.passes in
       let here = source_placed b.place b.item b.here in
       let type : b.item.type ≡ t = sym (source_typed here.0 b.item here.1) ∙ ap (λ (x : ℕ). operand_type g (L.Result x)) number ∙ f.typed in
-      from_typed b.item w (h.from b.place b.item w b.here b.there) (subst LF.IsShortInt (sym type) f.short) ∙ ap (λ (x : L.TypeTree). Some (type_from x)) type
+      from_typed b.item w (h.from b.place b.item w b.here b.there) (subst LF.IsShortInt (sym type) f.short) ∙ ap (λ (x : L.TypeTree). Some x) type
 
   -- ---- results
 

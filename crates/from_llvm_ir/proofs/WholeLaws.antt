@@ -1,5 +1,5 @@
 -- A whole function stands for its source.
-use Rattle.std.proofs.Common.{ℕ, zero, suc, ◌≡◌, ◌<◌, ◌≤◌, inl, inr, refl, sym, ap, subst, ◌∙◌, List, [], ◌∷◌, ◌++◌, Some, None, map, length, take, slice_get, arith}
+use Rattle.std.proofs.Common.{ℕ, zero, suc, ◌≡◌, ◌<◌, ◌≤◌, inl, inr, refl, sym, ap, subst, ◌∙◌, List, ◌++◌, Some, None, length, take, slice_get, arith}
 use Rattle.std.specs.List.{flat_map}
 use Rattle.std.proofs.lemmas.Bool.{cases_lt}
 use Rattle.std.proofs.lemmas.List.{get_or_past}
@@ -9,19 +9,16 @@ use Rattle.llvm_core.specs.Data as L
 use Rattle.llvm_core.specs.Data.{ConstTree, IntConst, PlaceholderConst, IntType, VoidType, FunctionType, Placed}
 use Rattle.dialect_core.specs.Data.{DialectOp, DialectBlock}
 use Rattle.meaning.specs.Pairs.{BothOrNone}
-use Rattle.meaning.specs.Dialect.{type_of}
 use Rattle.block_order.specs.DepthFirst.{IsDepthFirst}
 use Rattle.from_llvm_ir.specs.declared.matching.FunctionBlocks.{FunctionBlocks}
 use Rattle.from_llvm_ir.specs.Match.{IsPlaces, place_at}
-use Rattle.from_llvm_ir.specs.Types.{type_from}
 use Rattle.from_llvm_ir.specs.Order.{IsInverse}
-use Rattle.from_llvm_ir.specs.Imported.{FirstUses, Makes, IsImportedBlock, ImportedFunction, HasGivenName, constants_in, constants_used, rest_of, phis_of, front_for, label_for}
+use Rattle.from_llvm_ir.specs.Imported.{FirstUses, Makes, IsImportedBlock, ImportedFunction, HasGivenName, constants_in, constants_used, rest_of, front_for, label_for}
 use Rattle.from_llvm_ir.specs.Walks.{graph_of, HasDominatedUses}
 use Rattle.from_llvm_ir.specs.Known.{Known, IsConstantOp, blocks_of}
 use Rattle.from_llvm_ir.specs.Converted.{IsRow, IsConverted, args_for}
 use Rattle.from_llvm_ir.proofs.ListLaws.{matched_weaker}
 use Rattle.from_llvm_ir.proofs.OrderLaws.{placed, not_first, in_order_is}
-use Rattle.from_llvm_ir.proofs.TypeLaws.{type_back}
 use Rattle.from_llvm_ir.proofs.Whole.{IsWhole, the_func, target_at, bs_length}
 use Rattle.from_llvm_ir.proofs.FormLaws.{form_of, constants_in_entry}
 use Rattle.from_llvm_ir.proofs.ExportLaws.{exportable, has_targets}
@@ -32,10 +29,6 @@ makes (IntConst VoidType v) o h = elim h [ ]
 makes (IntConst (IntType w) v) o h = (ap (λ (x : DialectOp). x.kind) h, ap (λ (x : DialectOp). x.name) h)
 makes (IntConst (FunctionType r ps x) v) o h = elim h [ ]
 makes (PlaceholderConst n t) o h = elim h [ ]
-
-phi_types : (ps : List Placed) → map type_of (map (λ (p : Placed). type_from p.type) ps) ≡ map (λ (p : Placed). p.type) ps
-phi_types [] = refl
-phi_types (p ∷ ps) = let e = type_back p.type in let es = phi_types ps in cc (e, es)
 
 module _ (d : L.ModuleData) (n : ℕ) (k : Known) (cs : List DialectBlock) (h : IsWhole k cs) (x : FunctionBlocks) (inverse : IsInverse k.frame.order x.places) (p : IsPlaces (length k.frame.source.blocks) x.places) where
   abbrev g : L.Function
@@ -56,7 +49,7 @@ module _ (d : L.ModuleData) (n : ℕ) (k : Known) (cs : List DialectBlock) (h : 
       let q = not_first k.frame.order g.blocks h.order j i at in
       record {
         label = v.head.label ∙ ap (λ (y : ℕ). label_for y b) q.1;
-        args = ap (map type_of) (v.head.args ∙ ap (λ (y : ℕ). args_for g y b) q.1) ∙ phi_types (phis_of b);
+        args = v.head.args ∙ ap (λ (y : ℕ). args_for g y b) q.1;
         rest = v.rest;
         ops = v.ops ∙ ap (λ (y : ℕ). front_for y k.hoisted ++ v.rest) q.1;
         names = matched_weaker (IsRow k b) HasGivenName (λ q o r. record { name = r.converted.name }) (rest_of b) v.rest v.rows;
@@ -89,7 +82,7 @@ module _ (d : L.ModuleData) (n : ℕ) (k : Known) (cs : List DialectBlock) (h : 
     order = (k.frame.order, depth_first, inverse);
     uses = dominated;
     name = refl;
-    type = type_back g.type;
+    type = refl;
     form = form_of n k cs h;
     first = constants_in_entry n k cs h;
     exportable = exportable n k cs h;

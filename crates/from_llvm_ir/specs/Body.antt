@@ -20,7 +20,6 @@ use Rattle.from_llvm_ir.specs.declared.conversion_err.ConversionErr.TheVariants 
 use Rattle.from_llvm_ir.specs.declared.values.Values.{Values}
 use Rattle.from_llvm_ir.specs.declared.entries.Entries.{Entries}
 use Rattle.from_llvm_ir.specs.Match.{IsPlaces}
-use Rattle.from_llvm_ir.specs.Types.{type_from}
 use Rattle.from_llvm_ir.specs.Values.{Targets, target_at}
 use Rattle.from_llvm_ir.specs.Imported.{constants_in, rest_of, front_for, IsBuilding, IsBelow, IsRefused}
 use Rattle.from_llvm_ir.specs.Building.{IsUnder, AreBare, bare_func, with_blocks, with_ops}
@@ -39,7 +38,7 @@ pub record IsFramed (m : Module) (f : LLVMFunction) (fr : Frame) : Type 0 where
   pub source : IsSource m f fr.source
   pub number : fr.source.number ≡ f.0
   pub order : IsPlaces (length fr.source.blocks) fr.order
-  pub func : (n : ℕ) × (fr.home.func ≡ bare_func n fr.source.name (type_from fr.source.type))
+  pub func : (n : ℕ) × (fr.home.func ≡ bare_func n fr.source.name fr.source.type)
 
 -- the constants that an instruction uses, if it is no phi
 abbrev pub uses_of_inst : L.ModuleData → L.Function → L.Block → Placed → List ConstTree

@@ -7,27 +7,20 @@ use Rattle.dialect_types.specs.Trees.{TypeTree}
 use Rattle.dialect_core.specs.declared.ops.Value.{Value}
 use Rattle.dialect_core.specs.declared.ops.Value.TheVariants as V
 use Rattle.dialect_core.specs.declared.ops.Successor.{Successor}
-use Rattle.dialect_core.specs.declared.predicates.ICmpPredicateAttr.{ICmpPredicateAttr}
-use Rattle.dialect_core.specs.Data.{DialectBlock, DialectOp, Kind, AddOp, ICmpOp, BrOp, CondBrOp, ReturnOp, UnreachableOp}
+use Rattle.dialect_core.specs.Data.{DialectBlock, DialectOp, Kind, RowOp}
 use Rattle.dialect_core.specs.Form.{uses_of}
-use Rattle.meaning.specs.Dialect.{predicate_of}
 use Rattle.meaning.specs.Pairs.{Matched}
-use Rattle.from_llvm_ir.specs.Types.{type_from, result_from, args_from}
+use Rattle.from_llvm_ir.specs.Types.{result_from, args_from}
 use Rattle.from_llvm_ir.specs.Imported.{passed, given_name, rest_of, phis_of, label_for, front_for}
 use Rattle.from_llvm_ir.specs.Building.{ops_of}
 use Rattle.from_llvm_ir.specs.Known.{Frame, Known, blocks_of, value_of, result_in, Stands}
 
 -- ---- operations
 
--- the kind that stands for an instruction, a line for each kind; a phi becomes no operation
+-- the kind that stands for an instruction: the same row of the table, with its immediates; a phi becomes no operation
 abbrev pub IsKind : L.Instruction → Kind → Type 0
-IsKind (L.Add lhs rhs flags) k = k ≡ AddOp (record { nsw = flags.nsw; nuw = flags.nuw })
-IsKind (L.ICmp lhs rhs predicate) k = (p : ICmpPredicateAttr) × (predicate_of p ≡ predicate) × (k ≡ ICmpOp p)
 IsKind (L.Phi entries) k = ⊥
-IsKind (L.Br target) k = k ≡ BrOp
-IsKind (L.CondBr condition first second) k = k ≡ CondBrOp
-IsKind (L.Return value) k = k ≡ ReturnOp
-IsKind L.Unreachable k = k ≡ UnreachableOp
+IsKind (L.Applied r) k = k ≡ RowOp r.op
 
 -- an edge from the block of the number `from` to that of the number `to`, and the same in the dialect
 pub record IsEdge (k : Known) (from to : ℕ) (s : Successor) : Type 0 where
@@ -56,7 +49,7 @@ pub record IsRow (k : Known) (b : L.Block) (p : Placed) (o : DialectOp) : Type 0
 -- the types of the arguments of the block at a place: those of the parameters, or of its phis
 abbrev pub args_for : L.Function → (place : ℕ) → L.Block → List TypeTree
 args_for g zero b = args_from g.type
-args_for g (suc n) b = map (λ (p : Placed). type_from p.type) (phis_of b)
+args_for g (suc n) b = map (λ (p : Placed). p.type) (phis_of b)
 
 -- the number, label and arguments of the block at a place
 pub record IsHead (fr : Frame) (place : ℕ) (b : L.Block) (c : DialectBlock) : Type 0 where
@@ -97,7 +90,7 @@ AreConverted k cs = (place : ℕ) (b : L.Block) (c : DialectBlock) → slice_get
 
 -- the value is an argument of the type of p of a block, or the result of an operation of it of that type
 pub data IsFrom (cs : List DialectBlock) (p : Placed) (w : Value) : Type 0 where
-  FromArgument : (j i : ℕ) (c : DialectBlock) → slice_get cs j ≡ Some c → w ≡ V.Argument (record { 0 = c.number }) i → slice_get c.args i ≡ Some (type_from p.type) → IsFrom cs p w
+  FromArgument : (j i : ℕ) (c : DialectBlock) → slice_get cs j ≡ Some c → w ≡ V.Argument (record { 0 = c.number }) i → slice_get c.args i ≡ Some p.type → IsFrom cs p w
   FromResult : (j y : ℕ) (c : DialectBlock) (o : DialectOp) → slice_get cs j ≡ Some c → slice_get c.ops y ≡ Some o → w ≡ value_of o → o.result ≡ result_from p.type → IsFrom cs p w
 
 -- each value that stands for an instruction does

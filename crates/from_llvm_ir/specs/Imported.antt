@@ -6,10 +6,10 @@ use Rattle.llvm_core.specs.Data as L
 use Rattle.llvm_core.specs.declared.numbers.LLVMInstRef.{LLVMInstRef}
 use Rattle.llvm_core.specs.declared.code.LLVMValue.{LLVMValue}
 use Rattle.llvm_core.specs.declared.code.LLVMValue.TheVariants as V
-use Rattle.llvm_core.specs.Data.{ConstTree, IntConst, IntType, Placed, targets, phi_entries, placed_in}
+use Rattle.llvm_core.specs.Data.{ConstTree, IntConst, Placed, targets, phi_entries, placed_in}
 use Rattle.llvm_core.specs.Form.{is_phi, operands_of}
 use Rattle.dialect_types.specs.Names.{legal_name}
-use Rattle.dialect_types.specs.Trees.{IntegerAttr, IntegerType}
+use Rattle.dialect_types.specs.Trees.{IntegerAttr, IntType}
 use Rattle.dialect_types.specs.declared.types.TypeHandle.{TypeHandle}
 use Rattle.dialect_core.specs.declared.numbers.OpRef.{OpRef}
 use Rattle.dialect_core.specs.declared.numbers.BlockRef.{BlockRef}
@@ -25,8 +25,6 @@ use Rattle.dialect_core.specs.WellFormed.{IsPlainAt, IsWellFormed}
 use Rattle.meaning.specs.Terms.{Match}
 use Rattle.meaning.specs.Pairs.{Matched, BothOrNone}
 use Rattle.meaning.specs.Code.{IsDistinctNames}
-use Rattle.meaning.specs.Llvm.{row_of}
-use Rattle.meaning.specs.Dialect.{type_of}
 use Rattle.meaning.specs.Shape.{SameShape}
 use Rattle.block_order.specs.DepthFirst.{IsDepthFirst}
 use Rattle.from_llvm_ir.specs.Match.{IsPlaces, place_at}
@@ -54,7 +52,7 @@ passed f p t = flat_map (λ (b : L.Block). filter_map (λ (x : Placed). option_a
 -- the constants that an instruction of a block uses: those of its operands in order, and then those that its edges
 -- pass, edge by edge
 abbrev pub constants_in : L.ModuleData → L.Function → L.Block → Placed → List ConstTree
-constants_in d f b p = filter_map constant_in ((row_of d p.instruction).2 ++ flat_map (passed f b.number) (targets p.instruction))
+constants_in d f b p = filter_map constant_in (operands_of p.instruction ++ flat_map (passed f b.number) (targets p.instruction))
 
 -- the item is in the list
 abbrev pub IsIn : {A : Type 0} → List A → A → Type 0
@@ -68,7 +66,7 @@ pub data FirstUses {A : Type 0} : (uses firsts : List A) → Type 0 where
 
 -- the operation makes the constant, and has no name
 abbrev pub Makes : ConstTree → DialectOp → Type 0
-Makes (IntConst (IntType w) v) o = (o.kind ≡ ConstantOp (IntegerAttr (IntegerType w) v)) × (o.name ≡ None)
+Makes (IntConst (IntType w) v) o = (o.kind ≡ ConstantOp (IntegerAttr (IntType w) v)) × (o.name ≡ None)
 Makes _ o = ⊥
 
 -- ---- functions
@@ -96,7 +94,7 @@ label_for (suc n) b = given_name b.name
 -- the types of the arguments behind the entry: those of the phis in order
 abbrev pub HasArguments : (place : ℕ) → L.Block → DialectBlock → Type 0
 HasArguments zero b c = Unit {0}
-HasArguments (suc n) b c = map type_of c.args ≡ map (λ (p : Placed). p.type) (phis_of b)
+HasArguments (suc n) b c = c.args ≡ map (λ (p : Placed). p.type) (phis_of b)
 
 -- what stands first in a block: the constants in the entry, nothing elsewhere
 abbrev pub front_for : (place : ℕ) → List DialectOp → List DialectOp
@@ -134,7 +132,7 @@ pub record ImportedFunction (d : L.ModuleData) (f : L.Function) (x : FunctionBlo
   pub order : (o : List ℕ) × IsDepthFirst (graph_of f) o × IsInverse o x.places
   pub uses : HasDominatedUses f
   pub name : g.name ≡ f.name
-  pub type : type_of g.type ≡ f.type
+  pub type : g.type ≡ f.type
   pub form : IsFormFunc g
   pub first : HasConstantsInEntry g
   pub exportable : IsExportable g

@@ -5,13 +5,12 @@ use Rattle.dialect_core.specs.declared.numbers.BlockRef.{BlockRef}
 use Rattle.dialect_core.specs.ContextData.{ContextData}
 use Rattle.dialect_core.specs.Data.{DialectModule, with_func}
 use Rattle.from_llvm_ir.specs.declared.matching.FunctionBlocks.{FunctionBlocks}
-use Rattle.from_llvm_ir.specs.Types.{type_from}
 use Rattle.from_llvm_ir.specs.Imported.{AreImported, IsBelow, IsBuilding}
 use Rattle.from_llvm_ir.specs.Building.{bare_func}
 
 -- the module's last function, behind those of d, has the name and type of g, and no block yet
 pub record IsDeclared (g : L.Function) (c : ContextData) (m : ℕ) (body : BlockRef) (d : DialectModule) (n : ℕ) : Type 0 where
-  pub building : IsBuilding c m body (with_func d (bare_func n g.name (type_from g.type)))
+  pub building : IsBuilding c m body (with_func d (bare_func n g.name g.type))
   pub before : All (IsBelow n (length c.blocks)) d.functions
 
 -- the first k functions of a module are imported, and matched

@@ -70,7 +70,7 @@ first_value from entries = option_map (λ (e : PhiEntry). e.value) (find (λ (e 
 -- the value that an instruction takes for a block: that of a phi's first entry for it
 abbrev pub taken_by : LLVMBasicBlock → LLVMInst → Option LLVMValue
 taken_by from (I.Phi type entries) = first_value from entries
-taken_by from _ = None
+taken_by from (I.Row r) = None
 
 abbrev pub taken : Module → LLVMInstRef → LLVMBasicBlock → Option LLVMValue
 taken m phi from = option_map_or (λ (x : InstData). taken_by from x.inst) (slice_get m.insts phi.0) None

@@ -1,33 +1,23 @@
--- The types of the dialect for those of the source.
+-- The types of results and parameters, and types of a context that grow. Both sides have one tree of types.
 use Rattle.std.specs.Prelude.{◌≡◌, ◌<◌, ◌≤◌, List, [], Option, None, Some, length}
-use Rattle.llvm_core.specs.Data as L
 use Rattle.dialect_types.specs.declared.types.TypeHandle.{TypeHandle}
 use Rattle.dialect_types.specs.declared.types.TypeKind.{TypeKind}
-use Rattle.dialect_types.specs.Trees.{TypeTree, VoidType, IntegerType, FuncType, TypeTrees, NoTypes, ThenType, type_at, type_trees}
+use Rattle.kinds.specs.Types.{TypeTree, VoidType, IntType, FunctionType}
+use Rattle.dialect_types.specs.Trees.{type_at, type_trees}
 use Rattle.dialect_core.specs.ContextData.{ContextData}
 use Rattle.dialect_core.specs.Form.{types_list}
 
--- the type that stands for one of the source, a line for each kind
-abbrev mutual
-  pub type_from : L.TypeTree → TypeTree
-  type_from L.VoidType = VoidType
-  type_from (L.IntType w) = IntegerType w
-  type_from (L.FunctionType result params variadic) = FuncType (type_from result) (types_from params) variadic
-
-  pub types_from : L.TypeTrees → TypeTrees
-  types_from L.NoTypes = NoTypes
-  types_from (L.ThenType t ts) = ThenType (type_from t) (types_from ts)
-
 -- the type of a result, none where it is void
-abbrev pub result_from : L.TypeTree → Option TypeTree
-result_from L.VoidType = None
-result_from (L.IntType w) = Some (IntegerType w)
-result_from (L.FunctionType result params variadic) = Some (type_from (L.FunctionType result params variadic))
+abbrev pub result_from : TypeTree → Option TypeTree
+result_from VoidType = None
+result_from (IntType w) = Some (IntType w)
+result_from (FunctionType result params variadic) = Some (FunctionType result params variadic)
 
 -- the types of the parameters of a function type
-abbrev pub args_from : L.TypeTree → List TypeTree
-args_from (L.FunctionType result params variadic) = types_list (types_from params)
-args_from _ = []
+abbrev pub args_from : TypeTree → List TypeTree
+args_from VoidType = []
+args_from (IntType w) = []
+args_from (FunctionType result params variadic) = types_list params
 
 -- more types, where earlier numbers keep their meaning
 pub record MoreTypes (old new : List TypeKind) : Type 0 where

@@ -87,7 +87,7 @@ fn note_inst(noted: &mut Entries, source: &LLVMModule, i: LLVMInstRef) -> Result
 {
     match source.inst(i) {
         LLVMInst::Phi(_, entries) => note_entries(noted, i, entries.as_slice()),
-        _ => Ok(()),
+        LLVMInst::Row(_) => Ok(()),
     }
 }
 
@@ -161,9 +161,9 @@ pub fn used_values(
     ensures used { IfOk result (λ vs. (f : LLVMFunction) → (g : Function) → (b : Block) → (p : Placed) → IsSite source.now f g entries.now from i b p → is_phi p ≡ false → All (IsUsed source.now g) vs.items) }
 {
     let inst = source.inst(i);
-    let mut values = operands_of(alloc, inst)?;
-    let targets = targets_of(alloc, inst)?;
-    for to in &targets {
+    let mut values = Vec::new(alloc);
+    values.extend_from_slice(operands_of(inst))?;
+    for to in targets_of(inst) {
         let passed = edge_values(alloc, source, entries, from, *to)?;
         values.extend_from_slice(passed.as_slice())?;
     }

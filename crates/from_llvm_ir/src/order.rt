@@ -49,7 +49,6 @@ pub fn text_places(
 
 /// Appends the places of the blocks that an instruction leads to.
 fn push_targets(
-    alloc: Global,
     source: &LLVMModule,
     places: &Places,
     i: LLVMInstRef,
@@ -59,8 +58,7 @@ fn push_targets(
     ensures { OnOk result ((f : LLVMFunction) → (g : Function) → (n : LLVMBasicBlock) → (b : Block) → (p : Placed) → IsInstIn source.now f g n b i p → ArePlacesOf g places.now
         → row.new.items ≡ row.old.items ++ map (place_of_block g) (targets p.instruction)) }
 {
-    let targets = targets_of(alloc, source.inst(i))?;
-    for target in &targets {
+    for target in targets_of(source.inst(i)) {
         let place = places[target];
         row.push(place)?;
     }
@@ -81,7 +79,7 @@ fn push_row(
 {
     let mut row = Vec::new(alloc);
     for i in source.instructions(block) {
-        push_targets(alloc, source, places, *i, &mut row)?;
+        push_targets(source, places, *i, &mut row)?;
     }
     succs.push(row.as_slice())
 }

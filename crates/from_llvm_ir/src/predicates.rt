@@ -4,7 +4,7 @@ ghost use Rattle.std.specs.Prelude.{◌≡◌};
 ghost use Rattle.meaning.specs.Dialect.{predicate_of};
 
 use dialect_core::predicates::ICmpPredicateAttr;
-use llvm_core::code::LLVMIntPredicate;
+use kinds::op::LLVMIntPredicate;
 
 /// The predicate of the dialect that stands for one of LLVM.
 pub fn convert_ipredicate(ipred: LLVMIntPredicate) -> ICmpPredicateAttr

@@ -83,7 +83,6 @@ pub fn known_successors(
     ensures ok { IfOk result (λ ss. (f : LLVMFunction) → (g : Function) → ((j : ℕ) → (t : LLVMBasicBlock) → slice_get (target_blocks inst.now) j ≡ Some t → IsReady source.now f g values.now targets.now entries.now from t) → Matched (IsKnownEdge source.now g values.now targets.now from) (target_blocks inst.now) ss.items) }
     ensures err { IfErr result (λ e. (f : LLVMFunction) → (g : Function) → ((j : ℕ) → (t : LLVMBasicBlock) → slice_get (target_blocks inst.now) j ≡ Some t → IsReady source.now f g values.now targets.now entries.now from t) → IsForward source.now values.now (flat_map (passed g from.0) (map (λ t. t.0) (target_blocks inst.now))) e) }
 {
-    let leads = targets_of(alloc, inst)?;
     known_edges(
         alloc,
         source,
@@ -91,6 +90,6 @@ pub fn known_successors(
         targets,
         entries,
         from,
-        leads.as_slice(),
+        targets_of(inst),
     )
 }

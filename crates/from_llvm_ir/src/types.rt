@@ -8,7 +8,7 @@ ghost use Rattle.llvm_core.specs.Data.{trees_of};
 ghost use Rattle.llvm_core.specs.Form.{IsShortResult, AreShortInts};
 ghost use Rattle.dialect_types.specs.Trees.{type_at, type_tree, type_trees, depth, HasPartsBelow};
 ghost use Rattle.from_llvm_ir.specs.Imported.{phis_of};
-ghost use Rattle.from_llvm_ir.specs.Types.{GrowsTypes, type_from, args_from, result_from};
+ghost use Rattle.from_llvm_ir.specs.Types.{GrowsTypes, args_from, result_from};
 ghost use Rattle.from_llvm_ir.specs.Source.{IsSource, IsBlockOf, IsTypeOf};
 
 use crate::parts::is_phi;
@@ -42,7 +42,7 @@ pub fn import_plain(
     requires within { ty.0 < length source.now.types }
     requires short { IsShortResult (L.type_at (trees_of source.now).types ty) }
     ensures grown { GrowsTypes ctx.old ctx.new }
-    ensures ty { IfOk result (λ t. type_at (type_trees ctx.new.types) t ≡ type_from (L.type_at (trees_of source.now).types ty)) }
+    ensures ty { IfOk result (λ t. type_at (type_trees ctx.new.types) t ≡ L.type_at (trees_of source.now).types ty) }
     ensures within { IfOk result (λ t. t.0 < length ctx.new.types) }
 {
     match source.type_kind(ty) {
@@ -63,7 +63,7 @@ fn import_all(
     requires within { All (λ t. t.0 < length source.now.types) types.now }
     requires short { AreShortInts (L.types_at (trees_of source.now).types types.now) }
     ensures grown { GrowsTypes ctx.old ctx.new }
-    ensures types { IfOk result (λ ts. map (type_at (type_trees ctx.new.types)) ts.items ≡ map (λ t. type_from (L.type_at (trees_of source.now).types t)) types.now) }
+    ensures types { IfOk result (λ ts. map (type_at (type_trees ctx.new.types)) ts.items ≡ map (λ t. L.type_at (trees_of source.now).types t) types.now) }
     ensures within { IfOk result (λ ts. All (λ t. t.0 < length ctx.new.types) ts.items) }
 {
     let mut imported = Vec::new(alloc);
@@ -99,7 +99,7 @@ fn import_result(
 ) -> Result<TypeHandle, AllocError>
     requires { (g : L.Function) × IsSource source.now f g }
     ensures grown { GrowsTypes ctx.old ctx.new }
-    ensures ty { IfOk result (λ t. (g : L.Function) → (h : IsSource source.now f g) → type_at (type_trees ctx.new.types) t ≡ type_from h.form.result) }
+    ensures ty { IfOk result (λ t. (g : L.Function) → (h : IsSource source.now f g) → type_at (type_trees ctx.new.types) t ≡ h.form.result) }
     ensures within { IfOk result (λ t. t.0 < length ctx.new.types) }
 {
     match source.type_kind(source.function_type(f)) {
@@ -117,7 +117,7 @@ pub fn import_function_type(
 ) -> Result<TypeHandle, AllocError>
     requires { (g : L.Function) × IsSource source.now f g }
     ensures grown { GrowsTypes ctx.old ctx.new }
-    ensures ty { IfOk result (λ t. (g : L.Function) → IsSource source.now f g → type_at (type_trees ctx.new.types) t ≡ type_from g.type) }
+    ensures ty { IfOk result (λ t. (g : L.Function) → IsSource source.now f g → type_at (type_trees ctx.new.types) t ≡ g.type) }
     ensures within { IfOk result (λ t. t.0 < length ctx.new.types) }
 {
     let params = import_params(alloc, ctx, source, f)?;
@@ -157,7 +157,7 @@ pub fn import_phi_types(
 ) -> Result<Vec<TypeHandle>, AllocError>
     requires { (f : LLVMFunction) × (g : L.Function) × (place : ℕ) × (b : L.Block) × IsSource source.now f g × IsBlockOf source.now g block place b }
     ensures grown { GrowsTypes ctx.old ctx.new }
-    ensures types { IfOk result (λ ts. (f : LLVMFunction) → (g : L.Function) → (place : ℕ) → (b : L.Block) → IsSource source.now f g → IsBlockOf source.now g block place b → map (type_at (type_trees ctx.new.types)) ts.items ≡ map (λ p. type_from p.type) (phis_of b)) }
+    ensures types { IfOk result (λ ts. (f : LLVMFunction) → (g : L.Function) → (place : ℕ) → (b : L.Block) → IsSource source.now f g → IsBlockOf source.now g block place b → map (type_at (type_trees ctx.new.types)) ts.items ≡ map (λ p. p.type) (phis_of b)) }
     ensures within { IfOk result (λ ts. All (λ t. t.0 < length ctx.new.types) ts.items) }
 {
     let mut types = Vec::new(alloc);

@@ -115,6 +115,5 @@ pub fn known_operands(
     ensures ok { IfOk result (λ ws. AreNoted values.now (operands inst.now) ws.items) }
     ensures err { IfErr result (λ e. IsForward source.now values.now (map (operand_of (trees_of source.now)) (operands inst.now)) e) }
 {
-    let used = operands_of(alloc, inst)?;
-    known_values(alloc, source, values, used.as_slice())
+    known_values(alloc, source, values, operands_of(inst))
 }

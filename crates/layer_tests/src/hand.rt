@@ -10,12 +10,12 @@ use dialect_core::context::Context;
 use dialect_core::linkage::LinkageAttr;
 use dialect_core::numbers::{BlockRef, ModuleOp, OpRef};
 use dialect_core::ops::{OpKind, Successor, Value};
-use dialect_core::overflow::IntegerOverflowFlagsAttr;
 use dialect_core::steps::Steps;
 use dialect_types::attrs::ConstAttr;
 use dialect_types::identifier::Identifier;
 use dialect_types::legaliser::Legaliser;
 use dialect_types::types::{TypeHandle, TypeKind};
+use kinds::op::{Op as Row, OverflowFlags};
 use std::alloc::{AllocError, Global};
 use std::sync::ledger::{Blank, Ledger};
 use support::items::Items;
@@ -367,14 +367,14 @@ fn double<L: Ledger>(
     let block = block(ctx, root, at)?;
     let value = Value::Result(op(ctx, root, operand)?);
     let ty = int(ctx, 64)?;
-    let flags = IntegerOverflowFlagsAttr {
+    let flags = OverflowFlags {
         nsw: false,
         nuw: false,
     };
     place(
         ctx,
         block,
-        OpKind::Add(flags),
+        OpKind::Row(Row::Add(flags)),
         &[value, value],
         &[],
         Some(ty),
@@ -399,11 +399,11 @@ fn end_kind(has_condition: bool, leads_on: bool) -> OpKind
     ensures types { (n : ℕ) → HasKindTypesBelow n result }
 {
     if has_condition {
-        OpKind::CondBr
+        OpKind::Row(Row::CondBr)
     } else if leads_on {
-        OpKind::Br
+        OpKind::Row(Row::Br)
     } else {
-        OpKind::Return
+        OpKind::Row(Row::Ret)
     }
 }
 

@@ -5,9 +5,10 @@ ghost use Rattle.llvm_core.specs.declared.types.LLVMTypeKind.TheVariants as kind
 ghost use Rattle.llvm_core.specs.Parts.{IsBlock, IsValue, HasValues};
 
 use crate::words::{number, word};
+use kinds::op::{LLVMIntPredicate, OverflowFlags};
 use llvm_core::check_err::CheckErr;
 use llvm_core::checking::check;
-use llvm_core::code::{LLVMInst, LLVMIntPredicate, LLVMValue, OverflowFlags};
+use llvm_core::code::{LLVMInst, LLVMValue};
 use llvm_core::consts::LLVMConstKind;
 use llvm_core::module::LLVMModule;
 use llvm_core::numbers::{LLVMBasicBlock, LLVMFunction, LLVMInstRef, LLVMType};
@@ -236,14 +237,14 @@ fn values(m: &mut LLVMModule, words: &mut SplitWhitespace<'_>) -> Option<(LLVMVa
 
 // ---- calls: None says that one was not done
 
-fn cond(m: &mut LLVMModule, words: &mut SplitWhitespace<'_>) -> Option<LLVMInst>
+fn cond(alloc: Global, m: &mut LLVMModule, words: &mut SplitWhitespace<'_>) -> Option<LLVMInst>
     ensures values { IfSome result (HasValues m.new) }
     ensures blocks { m.new.blocks ≡ m.old.blocks }
 {
     let condition = value(m, words)?;
     let yes = block(m, words)?;
     let no = block(m, words)?;
-    Some(LLVMInst::CondBr(condition, yes, no))
+    LLVMInst::cond_br(alloc, condition, yes, no).ok()
 }
 
 fn inst(alloc: Global, m: &mut LLVMModule, words: &mut SplitWhitespace<'_>) -> Option<LLVMInst>
@@ -257,21 +258,21 @@ fn inst(alloc: Global, m: &mut LLVMModule, words: &mut SplitWhitespace<'_>) -> O
                 nuw: false,
                 nsw: true,
             };
-            Some(LLVMInst::Add(lhs, rhs, flags))
+            LLVMInst::add(alloc, lhs, rhs, flags).ok()
         }
         Keyword::ICmp => {
             let (lhs, rhs) = values(m, words)?;
-            Some(LLVMInst::ICmp(lhs, rhs, LLVMIntPredicate::LLVMIntEQ))
+            LLVMInst::icmp(alloc, lhs, rhs, LLVMIntPredicate::LLVMIntEQ).ok()
         }
         Keyword::Phi => {
             let int = int(m, 64)?;
             Some(LLVMInst::Phi(int, Items::new(alloc)))
         }
-        Keyword::Br => Some(LLVMInst::Br(block(m, words)?)),
-        Keyword::Cond => cond(m, words),
-        Keyword::Ret => Some(LLVMInst::Ret(Some(value(m, words)?))),
-        Keyword::RetVoid => Some(LLVMInst::Ret(None)),
-        Keyword::Unreachable => Some(LLVMInst::Unreachable),
+        Keyword::Br => LLVMInst::br(alloc, block(m, words)?).ok(),
+        Keyword::Cond => cond(alloc, m, words),
+        Keyword::Ret => LLVMInst::ret(alloc, Some(value(m, words)?)).ok(),
+        Keyword::RetVoid => LLVMInst::ret(alloc, None).ok(),
+        Keyword::Unreachable => LLVMInst::unreachable(alloc).ok(),
         _ => None,
     }
 }

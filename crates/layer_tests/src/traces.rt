@@ -16,12 +16,13 @@ use crate::words::word;
 use dialect_core::context::Context;
 use dialect_core::linkage::LinkageAttr;
 use dialect_core::numbers::{FuncOp, ModuleOp};
+use kinds::op::Op;
 use ll_text::read::read_ll;
 use llvm_core::module::LLVMModule;
 use llvm_core::numbers::LLVMFunction;
 use std::alloc::{AllocError, Global};
 use std::str::SplitWhitespace;
-use tracing::table::{Opcode, TermNode, TermTable, ValueType};
+use tracing::table::{TermNode, TermTable, ValueType};
 use tracing::trace::{Trace, TraceItem};
 use tracing::tracing::{trace_of_dialect, trace_of_llvm};
 use transfer::transferring::transfer;
@@ -73,11 +74,11 @@ fn is_number(word: &str, mark: char, number: u32) -> bool {
     }
 }
 
-fn opcode_word(opcode: Opcode) -> &'static str {
-    match opcode {
-        Opcode::Br => "br",
-        Opcode::CondBr => "cond_br",
-        Opcode::Ret => "ret",
+fn op_word(op: Op) -> &'static str {
+    match op {
+        Op::Br => "br",
+        Op::CondBr => "cond_br",
+        Op::Ret => "ret",
         _ => "other",
     }
 }
@@ -129,12 +130,12 @@ fn is_item(terms: &TermTable, item: &TraceItem, words: &mut SplitWhitespace<'_>)
     match item {
         TraceItem::Block(block) => is_number(word(words), '^', *block),
         TraceItem::Event {
-            opcode,
-            imms,
+            op,
+            types,
             operands,
         } => {
-            word(words) == opcode_word(*opcode)
-                && are_types(imms.operand_types.as_slice(), words)
+            word(words) == op_word(*op)
+                && are_types(types.operands.as_slice(), words)
                 && are_operands(terms, operands.as_slice(), words)
         }
     }

@@ -6,7 +6,7 @@ use Rattle.std.proofs.lemmas.List.{append-nil}
 use Rattle.std.proofs.lemmas.Option.{same_Some}
 use Rattle.llvm_core.specs.Names.{IsPlainOrNone}
 use Rattle.llvm_core.specs.Data.{TypeTree, Placed, Block, Function}
-use Rattle.llvm_core.specs.Form.{IsFormInstruction, IsFormBlock}
+use Rattle.llvm_core.specs.Form.{IsFormPlaced, IsFormBlock}
 use Rattle.support.proofs.ListLaws.{slice_get-kept, slice_get-behind}
 use Rattle.llvm_core.proofs.DataLemmas.{within_at}
 use Rattle.ll_tree.specs.Text.{Text, is_bare, label}
@@ -44,10 +44,10 @@ body_printed : (f : Function) → IsPrintable f → (b : Block) → IsFormBlock 
 body_printed f h b form =
     let s = split b.instructions form.ends in
     let each = λ (i : ℕ) (p : Placed) (at : slice_get (s.front ++ s.last ∷ []) i ≡ Some p).
-    within_at b.instructions (λ (p : Placed). IsFormInstruction f b.number p p.instruction) form.instructions i p (ap (λ (ps : List Placed). slice_get ps i) s.are ∙ at) in
+    within_at b.instructions (IsFormPlaced f b.number) form.instructions i p (ap (λ (ps : List Placed). slice_get ps i) s.are ∙ at) in
     let at = last_at s.front s.last in
     let insts = insts_printed f h b.number s.front (λ i p found. each i p (slice_get-kept s.front (s.last ∷ []) i p found)) s.none in
-    let end = end_printed f h b.number s.last s.last.instruction refl (each at.0 s.last at.1) s.ends in
+    let end = end_printed f h b.number s.last (each at.0 s.last at.1) s.ends in
     (insts.0, end.0, record { front = s.front; last = s.last; are = s.are; trees = insts.1; end = end.1 })
 
 body_writes : (f : Function) (b : Block) (ts : List tree.Inst) (e : tree.Terminator) → IsBody f b ts e → Writes (flat_map (placed_text f) b.instructions) (flat_map inst ts ++ terminator e)

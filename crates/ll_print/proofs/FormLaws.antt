@@ -1,5 +1,5 @@
 -- Blocks and instructions of a function of the form belong to it; its parameters are printed one after another.
-use Rattle.std.proofs.Common.{◌≡◌, ℕ, zero, suc, ◌+◌, ◌<◌, ◌≤◌, codes, List, [], ◌∷◌, ◌++◌, length, map, take, get_or, slice_get, Some, None, All, refl, ap, sym, ◌∙◌, subst, append_assoc, arith}
+use Rattle.std.proofs.Common.{◌≡◌, ℕ, zero, suc, ◌+◌, ◌<◌, ◌≤◌, codes, List, [], ◌∷◌, ◌++◌, length, map, take, get_or, slice_get, Some, All, refl, ap, sym, ◌∙◌, subst, append_assoc, arith}
 use Rattle.std.specs.Prelude.{OnOk, Result}
 use Rattle.std.specs.List.{flat_map, filter_map}
 use Rattle.std.specs.Option.{option_map}
@@ -23,8 +23,8 @@ use Rattle.llvm_core.specs.Module.{Module}
 use Rattle.llvm_core.specs.Code.{param_names}
 use Rattle.llvm_core.specs.Parts.{IsValue, IsBlock, IsEntry, HasValues}
 use Rattle.llvm_core.specs.Sound.{IsModule}
-use Rattle.llvm_core.specs.Data.{TypeTree, Operand, Placed, Function, type_at, trees_of, operand_of, entry_of, instruction_of, placed_of, block_of, block_at, function_of, param_type, data_of}
-use Rattle.llvm_core.specs.Form.{IsOperandOf, IsOperand, IsTarget, FitsEdges, IsFormInstruction, IsFormBlock, IsFormFunction, result_of}
+use Rattle.llvm_core.specs.Data.{TypeTree, Operand, Function, type_at, trees_of, operand_of, entry_of, instruction_of, placed_of, block_of, block_at, function_of, param_type, data_of}
+use Rattle.llvm_core.specs.Form.{IsOperandOf, IsOperand, IsTarget, FitsEdges, IsFormInstruction, IsFormPlaced, IsFormBlock, IsFormFunction, result_of}
 use Rattle.llvm_core.proofs.DataLemmas.{within_at, block_of_number, inst_of_number, function_count}
 use Rattle.ll_print.specs.declared.numbers.Numbers.{Numbers}
 use Rattle.ll_print.specs.declared.places.Place.TheVariants as P
@@ -55,15 +55,22 @@ own_entries m f b type entries there typed fits = λ i d l.
     let operand = within_at (map (entry_of (trees_of m)) entries) (λ (e : Operand × ℕ). IsOperand (function_in m f) type e.0) typed i (entry_of (trees_of m) e) at in
     (own_operand m f e.value (there i d l).0 operand.stands, ((there i d l).1, entry_block (function_in m f) b (map (entry_of (trees_of m)) entries) i (entry_of (trees_of m) e) fits at))
 
-own_operands : (m : Module) (f : LLVMFunction) (b : ℕ) (p : Placed) (i : LLVMInst) → HasValues m i → IsFormInstruction (function_in m f) b p (instruction_of (trees_of m) i) → OwnsOperands m f i
-own_operands m f b p (I.Add lhs rhs flags) values form = (own_operand m f lhs values.0 form.0.stands, own_operand m f rhs values.1 form.1.stands)
-own_operands m f b p (I.ICmp lhs rhs predicate) values form = (own_operand m f lhs values.0 form.0.1.stands, own_operand m f rhs values.1 form.0.2.stands)
-own_operands m f b p (I.Phi type entries) values form = own_entries m f b p.type entries values.1 form.0 form.1
-own_operands m f b p (I.Br target) values form = own_target m f target values form.0
-own_operands m f b p (I.CondBr condition first second) values form = (own_operand m f condition values.0 form.0.stands, own_target m f first values.1 form.1, own_target m f second values.2 form.2)
-own_operands m f b p (I.Ret None) values form = tt
-own_operands m f b p (I.Ret (Some v)) values form = own_operand m f v values form.0.stands
-own_operands m f b p I.Unreachable values form = tt
+-- the operands of a row, and the blocks that it leads to
+own_values : (m : Module) (f : LLVMFunction) (vs : List LLVMValue) → All (IsValue m) vs → All (IsOperandOf (function_in m f)) (map (operand_of (trees_of m)) vs) → All (IsOwn m f) vs
+own_values m f vs there stand = λ i d l.
+    let v = get_or vs i d in
+    let at : slice_get (map (operand_of (trees_of m)) vs) i ≡ Some (operand_of (trees_of m) v) = slice_get-map (operand_of (trees_of m)) vs i ∙ ap (option_map (operand_of (trees_of m))) (slice_get-get_or vs i d l) in
+    own_operand m f v (there i d l) (within_at (map (operand_of (trees_of m)) vs) (IsOperandOf (function_in m f)) stand i (operand_of (trees_of m) v) at)
+
+own_targets : (m : Module) (f : LLVMFunction) (bs : List LLVMBasicBlock) → All (IsBlock m) bs → All (IsTarget (function_in m f)) (map (λ (b : LLVMBasicBlock). b.0) bs) → All (IsOwnBlock m f) bs
+own_targets m f bs there lead = λ i d l.
+    let b = get_or bs i d in
+    let at : slice_get (map (λ (b : LLVMBasicBlock). b.0) bs) i ≡ Some b.0 = slice_get-map (λ (b : LLVMBasicBlock). b.0) bs i ∙ ap (option_map (λ (b : LLVMBasicBlock). b.0)) (slice_get-get_or bs i d l) in
+    own_target m f b (there i d l) (within_at (map (λ (b : LLVMBasicBlock). b.0) bs) (IsTarget (function_in m f)) lead i b.0 at)
+
+own_operands : (m : Module) (f : LLVMFunction) (b : ℕ) (type : TypeTree) (i : LLVMInst) → HasValues m i → IsFormInstruction (function_in m f) b type (instruction_of (trees_of m) i) → OwnsOperands m f i
+own_operands m f b type (I.Phi ty entries) values form = own_entries m f b type entries values.1 form.0 form.1
+own_operands m f b type (I.Row r) values form = (own_values m f r.operands values.0 form.operands, own_targets m f r.targets values.1 form.targets)
 
 own_block : (m : Module) (f : LLVMFunction) (x : FunctionData) → IsModule m → slice_get m.functions f.0 ≡ Some x → x ≡ get_or m.functions f.0 no_function → IsFormFunction (function_in m f)
     → (j : ℕ) (b : LLVMBasicBlock) → slice_get x.blocks j ≡ Some b → b.0 < length m.blocks → OwnsBlock m f b
@@ -84,8 +91,8 @@ own_block m f x s at is form j b here within = record {
           within = within_insts;
           operands = λ z kept.
               let stands = inst_of_number m b y k i z s found placed kept in
-              own_operands m f b.0 (placed_of (trees_of m) i z) z.inst (s.insts i.0 z kept).values
-              (within_at block.instructions (λ (p : Placed). IsFormInstruction (function_in m f) b.0 p p.instruction) blocks.instructions k (placed_of (trees_of m) i z) stands);
+              own_operands m f b.0 (placed_of (trees_of m) i z).type z.inst (s.insts i.0 z kept).values
+              (within_at block.instructions (IsFormPlaced (function_in m f) b.0) blocks.instructions k (placed_of (trees_of m) i z) stands).instruction;
         }
 
 -- the blocks of a function of the form

@@ -1,12 +1,18 @@
 -- The instructions of a block: their lines are cut into the tokens of trees that say them, and define their results.
-use Rattle.std.proofs.Common.{◌≡◌, ℕ, suc, ◌-◌, true, false, not, ◌&&◌, List, [], ◌∷◌, ◌++◌, length, length-append, take, slice_get, Option, Some, None, append_assoc, refl, ap, sym, ◌∙◌, subst, arith}
+use Rattle.std.proofs.Common.{◌≡◌, ℕ, suc, ◌-◌, Bool, true, false, not, ◌&&◌, List, [], ◌∷◌, ◌++◌, length, length-append, take, slice_get, unwrap_or, Option, Some, append_assoc, refl, ap, sym, ◌∙◌, subst, arith}
 use Rattle.std.specs.List.{flat_map, list_any, AllByRecursion}
 use Rattle.std.specs.Option.{option_map_or}
 use Rattle.std.proofs.lemmas.Bool.{and_parts, not-true, or_parts}
 use Rattle.std.proofs.lemmas.List.{append-nil, take_at}
+use Rattle.kinds.specs.declared.op.Op.{Op}
+use Rattle.kinds.specs.declared.op.Op.TheVariants as O
+use Rattle.kinds.specs.declared.rules.Takes.TheVariants as T
+use Rattle.kinds.specs.Rules.{ends, operand_count}
+use Rattle.kinds.specs.Table.{rule_of}
 use Rattle.llvm_core.specs.Checked.{ends_in_only}
-use Rattle.llvm_core.specs.Data.{TypeTree, VoidType, IntType, Instruction, Add, ICmp, Phi, Br, CondBr, Return, Unreachable, Result, Placed, Function, operand_type, placed_in}
-use Rattle.llvm_core.specs.Form.{IsFormInstruction, is_terminator, is_last}
+use Rattle.llvm_core.specs.Data.{TypeTree, VoidType, IntType, Operand, RowData, Instruction, Phi, Applied, Result, Placed, Function, operand_type, placed_in}
+use Rattle.llvm_core.specs.Form.{IsFormRow, IsFormInstruction, IsFormPlaced, is_terminator, is_last, returns_void}
+use Rattle.llvm_core.specs.Names.{IsPlainOrNone}
 use Rattle.support.proofs.ListLaws.{slice_get-push}
 use Rattle.ll_tree.specs.Text.{Text, is_bare}
 use Rattle.ll_tree.specs.Tree as tree
@@ -17,35 +23,72 @@ use Rattle.ll_text.specs.Meaning.{Local, ValueLocal, local_key, define_written, 
 use Rattle.ll_tree.proofs.CuttingLaws.{Writes, nothing, joined}
 use Rattle.ll_print.specs.Printing.{ResultOf, local_text, placed_text}
 use Rattle.ll_print.proofs.DefineLaws.{defines}
-use Rattle.ll_print.proofs.EdgeLaws.{target_block}
-use Rattle.ll_print.proofs.LineLaws.{IsTree, IsEnd, add_printed, icmp_printed, return_void_printed, return_printed, br_printed, cond_br_printed, unreachable_printed}
+use Rattle.ll_print.proofs.LineLaws.{IsTree, IsEnd, HasNoResult, add_printed, icmp_printed, return_void_printed, return_printed, br_printed, cond_br_printed, unreachable_printed}
 use Rattle.ll_print.proofs.NameLaws.{local_says}
 use Rattle.ll_print.proofs.OperandLaws.{IsPrintable, local_of, width_in, scope_after, scope_of, placed_name, placed_found, block_prints}
 use Rattle.ll_print.proofs.PhiLaws.{phi_printed}
+use Rattle.ll_print.proofs.RowLaws.{row_gives, empty_row, leading, unary, branching, binary}
 use Rattle.ll_print.proofs.ScopeLaws.{Thing}
 use Rattle.ll_print.proofs.ThingLaws.{result_thing, result_things, things}
 
--- ---- instructions by their kind
+-- ---- rows by their word
 
-inst_printed : (f : Function) → IsPrintable f → (n : ℕ) (p : Placed) (i : Instruction) → p.instruction ≡ i → IsFormInstruction f n p i → is_terminator i ≡ false → (t : tree.Inst) × IsTree f p t
-inst_printed f h n p (Add lhs rhs flags) is form e = add_printed f h p lhs rhs flags is form.0 form.1 form.2
-inst_printed f h n p (ICmp lhs rhs predicate) is form e = icmp_printed f h p lhs rhs predicate form.0.0 is form.1 form.0.1 form.0.2 form.2
-inst_printed f h n p (Phi entries) is form e = phi_printed f h n p entries is form.0 form.1 form.2 form.3
-inst_printed f h n p (Br target) is form e = absurd cc
-inst_printed f h n p (CondBr condition first second) is form e = absurd cc
-inst_printed f h n p (Return value) is form e = absurd cc
-inst_printed f h n p Unreachable is form e = absurd cc
+abbrev row_of : Op → Option TypeTree → List Operand → List ℕ → RowData
+row_of op w os ts = record { op = op; written = w; operands = os; targets = ts }
 
-pub end_printed : (f : Function) → IsPrintable f → (n : ℕ) (p : Placed) (i : Instruction) → p.instruction ≡ i → IsFormInstruction f n p i → is_terminator i ≡ true → (t : tree.Terminator) × IsEnd f p t
-end_printed f h n p (Add lhs rhs flags) is form e = absurd cc
-end_printed f h n p (ICmp lhs rhs predicate) is form e = absurd cc
-end_printed f h n p (Phi entries) is form e = absurd cc
-end_printed f h n p (Br target) is form e = br_printed f p target is (block_prints f h target (target_block f target form.0)) form.1
-end_printed f h n p (CondBr condition first second) is form e =
-    cond_br_printed f h p condition first second is form.0 (block_prints f h first (target_block f first form.1)) (block_prints f h second (target_block f second form.2)) form.3
-end_printed f h n p (Return None) is form e = return_void_printed f p is form.1
-end_printed f h n p (Return (Some o)) is form e = return_printed f h p o _ is form.0 form.1
-end_printed f h n p Unreachable is form e = unreachable_printed f p is form
+-- a row that gives nothing has no result
+no_result : (p : Placed) → (p.type ≡ VoidType → p.name ≡ []) → p.type ≡ VoidType → HasNoResult p
+no_result p unnamed void = record { type = void; name = unnamed void }
+
+-- a row that ends no block, a line for each
+row_printed : (f : Function) → IsPrintable f → (p : Placed) → IsPlainOrNone p.name → (op : Op) (w : Option TypeTree) (os : List Operand) (ts : List ℕ) → p.instruction ≡ Applied (row_of op w os ts) → IsFormRow f p.type (row_of op w os ts)
+    → ends (rule_of op).leads ≡ false → (t : tree.Inst) × IsTree f p t
+row_printed f h p plain (O.Add flags) w os ts is form e =
+    let b = binary f p.type (row_of (O.Add flags) w os ts) form (λ w. refl) refl form.count refl in
+    add_printed f h p b.lhs b.rhs flags b.width (is ∙ b.is) (row_gives f p.type (row_of (O.Add flags) w os ts) form ∙ ap (λ (t : Option TypeTree). unwrap_or t VoidType) b.first) b.left b.right plain
+row_printed f h p plain (O.ICmp predicate) w os ts is form e =
+    let b = binary f p.type (row_of (O.ICmp predicate) w os ts) form (λ w. refl) refl form.count refl in
+    icmp_printed f h p b.lhs b.rhs predicate b.width (is ∙ b.is) (row_gives f p.type (row_of (O.ICmp predicate) w os ts) form) b.left b.right plain
+row_printed f h p plain O.Br w os ts is form e = absurd cc
+row_printed f h p plain O.CondBr w os ts is form e = absurd cc
+row_printed f h p plain O.Ret w os ts is form e = absurd cc
+row_printed f h p plain O.Unreachable w os ts is form e = absurd cc
+
+-- a return, of an operand or of none
+returned : (f : Function) → IsPrintable f → (p : Placed) (w : Option TypeTree) (os : List Operand) (ts : List ℕ) (void : Bool) → p.instruction ≡ Applied (row_of O.Ret w os ts) → IsFormRow f p.type (row_of O.Ret w os ts)
+    → length os ≡ operand_count T.Return void → HasNoResult p → (t : tree.Terminator) × IsEnd f p t
+returned f h p w os ts true is form count none = return_void_printed f p (is ∙ empty_row f p.type (row_of O.Ret w os ts) form (λ w. refl) count refl) none
+returned f h p w os ts false is form count none =
+    let u = unary f p.type (row_of O.Ret w os ts) form (λ w. refl) count refl in
+    return_printed f h p u.operand u.width (is ∙ u.is) u.typed none
+
+-- a row that ends its block, a line for each
+row_ends : (f : Function) → IsPrintable f → (p : Placed) → (p.type ≡ VoidType → p.name ≡ []) → (op : Op) (w : Option TypeTree) (os : List Operand) (ts : List ℕ) → p.instruction ≡ Applied (row_of op w os ts) → IsFormRow f p.type (row_of op w os ts)
+    → ends (rule_of op).leads ≡ true → (t : tree.Terminator) × IsEnd f p t
+row_ends f h p unnamed (O.Add flags) w os ts is form e = absurd cc
+row_ends f h p unnamed (O.ICmp predicate) w os ts is form e = absurd cc
+row_ends f h p unnamed O.Br w os ts is form e =
+    let l = leading f p.type (row_of O.Br w os ts) form (λ w. refl) form.count refl in
+    br_printed f p l.target (is ∙ l.is) (block_prints f h l.target l.listed) (no_result p unnamed (row_gives f p.type (row_of O.Br w os ts) form))
+row_ends f h p unnamed O.CondBr w os ts is form e =
+    let b = branching f p.type (row_of O.CondBr w os ts) form (λ w. refl) refl form.count refl in
+    cond_br_printed f h p b.condition b.first b.second (is ∙ b.is) b.bit (block_prints f h b.first b.first_listed) (block_prints f h b.second b.second_listed) (no_result p unnamed (row_gives f p.type (row_of O.CondBr w os ts) form))
+row_ends f h p unnamed O.Ret w os ts is form e = returned f h p w os ts (returns_void f) is form form.count (no_result p unnamed (row_gives f p.type (row_of O.Ret w os ts) form))
+row_ends f h p unnamed O.Unreachable w os ts is form e =
+    unreachable_printed f p (is ∙ empty_row f p.type (row_of O.Unreachable w os ts) form (λ w. refl) form.count refl) (no_result p unnamed (row_gives f p.type (row_of O.Unreachable w os ts) form))
+
+-- ---- phis and rows
+
+inst_printed : (f : Function) → IsPrintable f → (n : ℕ) (p : Placed) → IsFormPlaced f n p → (i : Instruction) → p.instruction ≡ i → IsFormInstruction f n p.type i → is_terminator i ≡ false → (t : tree.Inst) × IsTree f p t
+inst_printed f h n p placed (Phi entries) is form e = phi_printed f h n p entries is form.0 form.1 form.2 placed.name
+inst_printed f h n p placed (Applied r) is form e = row_printed f h p placed.name r.op r.written r.operands r.targets is form e
+
+end_of : (f : Function) → IsPrintable f → (n : ℕ) (p : Placed) → IsFormPlaced f n p → (i : Instruction) → p.instruction ≡ i → IsFormInstruction f n p.type i → is_terminator i ≡ true → (t : tree.Terminator) × IsEnd f p t
+end_of f h n p placed (Phi entries) is form e = absurd cc
+end_of f h n p placed (Applied r) is form e = row_ends f h p placed.unnamed r.op r.written r.operands r.targets is form e
+
+pub end_printed : (f : Function) → IsPrintable f → (n : ℕ) (p : Placed) → IsFormPlaced f n p → is_last p ≡ true → (t : tree.Terminator) × IsEnd f p t
+end_printed f h n p placed e = end_of f h n p placed p.instruction refl placed.instruction e
 
 -- ---- instructions in order
 
@@ -55,11 +98,11 @@ AreTrees f (t ∷ ts) (p ∷ ps) = IsTree f p t × AreTrees f ts ps
 AreTrees f [] (p ∷ ps) = ⊥
 AreTrees f (t ∷ ts) [] = ⊥
 
-pub insts_printed : (f : Function) → IsPrintable f → (n : ℕ) (ps : List Placed) → ((i : ℕ) (p : Placed) → slice_get ps i ≡ Some p → IsFormInstruction f n p p.instruction) → list_any is_last ps ≡ false → (ts : List tree.Inst) × AreTrees f ts ps
+pub insts_printed : (f : Function) → IsPrintable f → (n : ℕ) (ps : List Placed) → ((i : ℕ) (p : Placed) → slice_get ps i ≡ Some p → IsFormPlaced f n p) → list_any is_last ps ≡ false → (ts : List tree.Inst) × AreTrees f ts ps
 insts_printed f h n [] form none = ([], tt)
 insts_printed f h n (p ∷ ps) form none =
     let parts = or_parts (is_last p) (list_any is_last ps) none in
-    let one = inst_printed f h n p p.instruction refl (form 0 p refl) parts.0 in
+    let one = inst_printed f h n p (form 0 p refl) p.instruction refl (form 0 p refl).instruction parts.0 in
     let more = insts_printed f h n ps (λ i q at. form (suc i) q at) parts.1 in
     (one.0 ∷ more.0, (one.1, more.1))
 

@@ -8,7 +8,6 @@ pub mod CutLaws
 pub mod DecimalLaws
 pub mod DefineLaws
 pub mod EdgeLaws
-pub mod EntryLaws
 pub mod FormLaws
 pub mod HeadLaws
 pub mod InstLaws
@@ -21,9 +20,11 @@ pub mod OwnLaws
 pub mod PartLaws
 pub mod PhiLaws
 pub mod PositionLaws
+pub mod RowLaws
 pub mod SaysLaws
 pub mod ScopeLaws
 pub mod SpelledLaws
+pub mod StrungLaws
 pub mod TextLaws
 pub mod ThingLaws
 pub mod Trees

@@ -1,22 +1,24 @@
 -- The lines of instructions: each is cut into the tokens of a tree that says the instruction.
-use Rattle.std.proofs.Common.{◌≡◌, ℕ, ◌≤◌, Bool, true, false, codes, List, [], ◌∷◌, ◌++◌, Some, None, append_assoc, refl, ap, sym, ◌∙◌, subst}
-use Rattle.llvm_core.specs.declared.code.OverflowFlags.{OverflowFlags}
-use Rattle.llvm_core.specs.declared.code.LLVMIntPredicate.{LLVMIntPredicate}
-use Rattle.llvm_core.specs.declared.code.LLVMIntPredicate.TheVariants as P
+use Rattle.std.proofs.Common.{◌≡◌, ℕ, Bool, true, false, codes, List, [], ◌∷◌, ◌++◌, Some, append_assoc, append-nil, refl, ap, sym, ◌∙◌, subst}
+use Rattle.kinds.specs.declared.op.OverflowFlags.{OverflowFlags}
+use Rattle.kinds.specs.declared.op.LLVMIntPredicate.{LLVMIntPredicate}
+use Rattle.kinds.specs.declared.op.LLVMIntPredicate.TheVariants as P
 use Rattle.llvm_core.specs.Names.{IsPlainOrNone}
-use Rattle.llvm_core.specs.Data.{TypeTree, VoidType, IntType, FunctionType, Operand, Instruction, Add, ICmp, Br, CondBr, Return, Unreachable, Placed, Function, operand_type}
-use Rattle.llvm_core.specs.Form.{IsShortInt, IsOperand, HasNoResult}
+use Rattle.llvm_core.specs.Data.{TypeTree, VoidType, IntType, Operand, Instruction, Placed, Function, operand_type}
+use Rattle.llvm_core.specs.Form.{IsOperand}
 use Rattle.ll_tree.specs.Text.{Text, is_bare}
 use Rattle.ll_tree.specs.Tree as tree
 use Rattle.ll_tree.specs.Tree.{is_int_type, is_predicate, flag, inst, terminator, IsInst, IsTerminator}
+use Rattle.ll_text.specs.Rows as Rows
 use Rattle.ll_text.specs.Spelling.{widest}
 use Rattle.ll_text.specs.Meaning.{int_width, predicate_of, written_name, result_width, inst_data, terminator_data, IsTerminatorOf}
 use Rattle.ll_tree.proofs.CuttingLaws.{Writes, Alone, nothing, joined, same, writes_indent, writes_spaced, writes_line, alone_ret}
-use Rattle.ll_print.specs.Printing.{ResultOf, type_text, local_text, operand_text, block_ref, flag_text, predicate_text, instruction_text, placed_text}
+use Rattle.ll_print.specs.Printing.{ResultOf, type_text, local_text, operand_text, block_ref, flag_text, predicate_text, operands_text, targets_text, instruction_text, placed_text}
 use Rattle.ll_print.proofs.AloneLaws.{IsStop, alone_word}
 use Rattle.ll_print.proofs.CutLaws.{stop_space, stop_line, stop_comma, writes_comma, writes_equals}
 use Rattle.ll_print.proofs.NameLaws.{alone_local, local_is, alone_short, type_is, type_says}
 use Rattle.ll_print.proofs.OperandLaws.{IsPrintable, PrintsBlock, scope_of, operand_prints}
+use Rattle.ll_print.proofs.RowLaws.{IsWidth}
 
 -- the tree of an instruction that ends no block
 pub record IsTree (f : Function) (p : Placed) (i : tree.Inst) : Type 0 where
@@ -34,18 +36,12 @@ pub record IsEnd (f : Function) (p : Placed) (i : tree.Terminator) : Type 0 wher
   pub kinds : IsTerminator i
   pub says : IsTerminatorOf is_bare widest (scope_of f) i p
 
+-- an instruction without a result
+pub record HasNoResult (p : Placed) : Type 0 where
+  pub type : p.type ≡ VoidType
+  pub name : p.name ≡ []
+
 -- ---- types
-
-pub record IsWidth (t : TypeTree) (w : ℕ) : Type 0 where
-  pub is : t ≡ IntType w
-  pub some : 1 ≤ w
-  pub most : w ≤ 64
-
--- a short integer type has a width
-pub short_width : (t : TypeTree) → IsShortInt t → (w : ℕ) × IsWidth t w
-short_width VoidType short = absurd short
-short_width (FunctionType r ts v) short = absurd short
-short_width (IntType w) short = (w, record { is = refl; some = short.0; most = short.1 })
 
 -- an operand of a short type is one of its width
 pub at_width : (f : Function) (t : TypeTree) (w : ℕ) (o : Operand) → IsWidth t w → IsOperand f t o → IsOperand f (IntType w) o
@@ -151,20 +147,51 @@ void_line f p i ts void is body =
 ends : (f : Function) (p : Placed) (i : Instruction) (t : tree.Terminator) → p.instruction ≡ i → HasNoResult p → terminator_data is_bare widest (scope_of f) t ≡ Some i → IsTerminatorOf is_bare widest (scope_of f) t p
 ends f p i t is none says = record { instruction = says ∙ ap (λ (j : Instruction). Some j) (sym is); type = none.type; name = none.name }
 
+-- ---- operands and targets that end a line
+
+one_layout : (type space value line : List ℕ) → (type ++ space) ++ (value ++ line) ≡ (((type ++ space) ++ value) ++ []) ++ line
+one_layout type space value line = simp (append_assoc, append-nil)
+
+writes_one : (f : Function) (h : IsPrintable f) (w : ℕ) (o : Operand) → IsOperand f (IntType w) o → Writes (operands_text f (o ∷ []) ++ codes "\n") (type_text (operand_type f o) ∷ operand_text f o ∷ [])
+writes_one f h w o op =
+    same (one_layout (type_text (operand_type f o)) (codes " ") (operand_text f o) (codes "\n")) refl
+    (joined (writes_type (operand_type f o) w (operand_width f w o op)) (writes_line (operand_text f o) ((operand_prints f h w o op).alone 10 stop_line)))
+
+two_layout : (type space lhs comma rhs line : List ℕ) → (type ++ space) ++ ((lhs ++ comma) ++ (rhs ++ line)) ≡ (((type ++ space) ++ lhs) ++ ((comma ++ rhs) ++ [])) ++ line
+two_layout type space lhs comma rhs line = simp (append_assoc, append-nil)
+
+writes_two : (f : Function) (h : IsPrintable f) (w : ℕ) (lhs rhs : Operand) → IsOperand f (IntType w) lhs → IsOperand f (IntType w) rhs
+    → Writes (operands_text f (lhs ∷ rhs ∷ []) ++ codes "\n") (type_text (operand_type f lhs) ∷ operand_text f lhs ∷ codes "," ∷ operand_text f rhs ∷ [])
+writes_two f h w lhs rhs l r =
+    same (two_layout (type_text (operand_type f lhs)) (codes " ") (operand_text f lhs) (codes ", ") (operand_text f rhs) (codes "\n")) refl
+    (joined (writes_type (operand_type f lhs) w (operand_width f w lhs l))
+    (joined (writes_comma (operand_text f lhs) ((operand_prints f h w lhs l).alone 44 stop_comma)) (writes_line (operand_text f rhs) ((operand_prints f h w rhs r).alone 10 stop_line))))
+
+target_layout : (label target line : List ℕ) → label ++ (target ++ line) ≡ ((label ++ target) ++ []) ++ line
+target_layout label target line = simp (append_assoc, append-nil)
+
+writes_target : (f : Function) (n : ℕ) → PrintsBlock f n → Writes (targets_text f (n ∷ []) ++ codes "\n") (codes "label" ∷ block_ref f n ∷ [])
+writes_target f n block = same (target_layout (codes "label ") (block_ref f n) (codes "\n")) refl (joined writes_label (writes_line (block_ref f n) (block.alone 10 stop_line)))
+
+targets_layout : (label first comma second line : List ℕ) → label ++ ((first ++ comma) ++ (label ++ (second ++ line))) ≡ ((label ++ first) ++ ((comma ++ (label ++ second)) ++ [])) ++ line
+targets_layout label first comma second line = simp (append_assoc, append-nil)
+
+writes_targets : (f : Function) (a b : ℕ) → PrintsBlock f a → PrintsBlock f b → Writes (targets_text f (a ∷ b ∷ []) ++ codes "\n") (codes "label" ∷ block_ref f a ∷ codes "," ∷ codes "label" ∷ block_ref f b ∷ [])
+writes_targets f a b first second =
+    same (targets_layout (codes "label ") (block_ref f a) (codes ", ") (block_ref f b) (codes "\n")) refl
+    (joined writes_label (joined (writes_comma (block_ref f a) (first.alone 44 stop_comma)) (joined writes_label (writes_line (block_ref f b) (second.alone 10 stop_line)))))
+
 -- ---- two operands of a type
 
--- the rest of a line that has them
-writes_both : (f : Function) (h : IsPrintable f) (w : ℕ) (lhs rhs : Operand) → IsOperand f (IntType w) lhs → IsOperand f (IntType w) rhs
-    → Writes ((type_text (operand_type f lhs) ++ codes " ") ++ ((operand_text f lhs ++ codes ", ") ++ (operand_text f rhs ++ codes "\n"))) (type_text (operand_type f lhs) ∷ operand_text f lhs ∷ codes "," ∷ operand_text f rhs ∷ [])
-writes_both f h w lhs rhs l r =
-    joined (writes_type (operand_type f lhs) w (operand_width f w lhs l))
-    (joined (writes_comma (operand_text f lhs) ((operand_prints f h w lhs l).alone 44 stop_comma)) (writes_line (operand_text f rhs) ((operand_prints f h w rhs r).alone 10 stop_line)))
+-- a line with a result and two operands behind a head
+two_line : (f : Function) (h : IsPrintable f) (p : Placed) (i : Instruction) (v w : ℕ) (lhs rhs : Operand) (head : Text) (before : List Text) → p.type ≡ IntType v → p.instruction ≡ i
+    → head ++ operands_text f (lhs ∷ rhs ∷ []) ≡ instruction_text f (IntType v) i → IsPlainOrNone p.name → Writes head before → IsOperand f (IntType w) lhs → IsOperand f (IntType w) rhs
+    → Writes (placed_text f p) (local_text f p.name (ResultOf p.number) ∷ codes "=" ∷ (before ++ (type_text (operand_type f lhs) ∷ operand_text f lhs ∷ codes "," ∷ operand_text f rhs ∷ [])))
+two_line f h p i v w lhs rhs head before typed is text plain start l r =
+    let line = sym (append_assoc head (operands_text f (lhs ∷ rhs ∷ [])) (codes "\n")) ∙ ap (λ (t : Text). t ++ codes "\n") text in
+    result_line f h p i v _ typed is plain (same line refl (joined start (writes_two f h w lhs rhs l r)))
 
-add_layout : (add nuw nsw type space lhs comma rhs line : List ℕ)
-    → add ++ (nuw ++ (nsw ++ ((type ++ space) ++ ((lhs ++ comma) ++ (rhs ++ line))))) ≡ (((((add ++ nuw) ++ nsw) ++ ((type ++ space) ++ lhs)) ++ comma) ++ rhs) ++ line
-add_layout add nuw nsw type space lhs comma rhs line = simp append_assoc
-
-add_says : (f : Function) (h : IsPrintable f) (p : Placed) (lhs rhs : Operand) (flags : OverflowFlags) (w : ℕ) → p.instruction ≡ Add lhs rhs flags → p.type ≡ IntType w → IsOperand f (IntType w) lhs → IsOperand f (IntType w) rhs
+add_says : (f : Function) (h : IsPrintable f) (p : Placed) (lhs rhs : Operand) (flags : OverflowFlags) (w : ℕ) → p.instruction ≡ Rows.add flags.nuw flags.nsw lhs rhs → p.type ≡ IntType w → IsOperand f (IntType w) lhs → IsOperand f (IntType w) rhs
     → inst_data is_bare widest (scope_of f) (tree.Add (Some (local_text f p.name (ResultOf p.number))) flags.nuw flags.nsw (type_text (operand_type f lhs)) (operand_text f lhs) (operand_text f rhs)) ≡ Some (p.type, p.instruction)
 unfolding inst_data
 add_says f h p lhs rhs flags w is typed l r =
@@ -173,36 +200,26 @@ add_says f h p lhs rhs flags w is typed l r =
     let right = (operand_prints f h w rhs r).says in
     rw (width, left, right, is, typed) refl
 
-pub add_printed : (f : Function) → IsPrintable f → (p : Placed) (lhs rhs : Operand) (flags : OverflowFlags) → p.instruction ≡ Add lhs rhs flags → IsOperand f p.type lhs → IsOperand f p.type rhs → IsPlainOrNone p.name → (t : tree.Inst) × IsTree f p t
-add_printed f h p lhs rhs flags is lhs_form rhs_form plain =
-    let width = short_width p.type lhs_form.short in
-    let w = width.0 in
-    let l = at_width f p.type w lhs width.1 lhs_form in
-    let r = at_width f p.type w rhs width.1 rhs_form in
-    let type = type_text (operand_type f lhs) in
-    let local = local_text f p.name (ResultOf p.number) in
-    let body = joined writes_add (joined (writes_nuw flags.nuw) (joined (writes_nsw flags.nsw) (writes_both f h w lhs rhs l r))) in
-    let layout = add_layout (codes "add ") (flag_text (codes "nuw") flags.nuw) (flag_text (codes "nsw") flags.nsw) type (codes " ") (operand_text f lhs) (codes ", ") (operand_text f rhs) (codes "\n") in
-    let tokens = append_assoc (flag (codes "nuw") flags.nuw) (flag (codes "nsw") flags.nsw) (type ∷ operand_text f lhs ∷ codes "," ∷ operand_text f rhs ∷ []) in (
-      tree.Add (Some local) flags.nuw flags.nsw type (operand_text f lhs) (operand_text f rhs),
-      record {
-        writes = same refl (ap (λ (ts : List Text). local ∷ codes "=" ∷ codes "add" ∷ ts) (sym tokens)) (result_line f h p (Add lhs rhs flags) w _ width.1.is is plain (same layout refl body));
-        kinds = (local_is f p.name (ResultOf p.number), kind_type (operand_type f lhs) w (operand_width f w lhs l), (operand_prints f h w lhs l).operand, (operand_prints f h w rhs r).operand);
-        says = add_says f h p lhs rhs flags w is width.1.is l r;
-        width = w;
-        typed = width.1.is;
-        result = width_says (operand_type f lhs) w (operand_width f w lhs l);
-        name = refl;
-      },
-    )
+writes_flags : (flags : OverflowFlags) → Writes ((codes "add " ++ flag_text (codes "nuw") flags.nuw) ++ flag_text (codes "nsw") flags.nsw) (codes "add" ∷ (flag (codes "nuw") flags.nuw ++ flag (codes "nsw") flags.nsw))
+writes_flags flags =
+    same (sym (append_assoc (codes "add ") (flag_text (codes "nuw") flags.nuw) (flag_text (codes "nsw") flags.nsw))) refl (joined writes_add (joined (writes_nuw flags.nuw) (writes_nsw flags.nsw)))
 
--- ---- icmp
+pub add_printed : (f : Function) → IsPrintable f → (p : Placed) (lhs rhs : Operand) (flags : OverflowFlags) (w : ℕ) → p.instruction ≡ Rows.add flags.nuw flags.nsw lhs rhs → p.type ≡ IntType w → IsOperand f (IntType w) lhs → IsOperand f (IntType w) rhs
+    → IsPlainOrNone p.name → (t : tree.Inst) × IsTree f p t
+add_printed f h p lhs rhs flags w is typed l r plain = (
+  tree.Add (Some (local_text f p.name (ResultOf p.number))) flags.nuw flags.nsw (type_text (operand_type f lhs)) (operand_text f lhs) (operand_text f rhs),
+  record {
+    writes = two_line f h p (Rows.add flags.nuw flags.nsw lhs rhs) w w lhs rhs _ _ typed is refl plain (writes_flags flags) l r;
+    kinds = (local_is f p.name (ResultOf p.number), kind_type (operand_type f lhs) w (operand_width f w lhs l), (operand_prints f h w lhs l).operand, (operand_prints f h w rhs r).operand);
+    says = add_says f h p lhs rhs flags w is typed l r;
+    width = w;
+    typed = typed;
+    result = width_says (operand_type f lhs) w (operand_width f w lhs l);
+    name = refl;
+  },
+)
 
-icmp_layout : (icmp predicate space type lhs comma rhs line : List ℕ)
-    → icmp ++ ((predicate ++ space) ++ ((type ++ space) ++ ((lhs ++ comma) ++ (rhs ++ line)))) ≡ (((((icmp ++ predicate) ++ space) ++ ((type ++ space) ++ lhs)) ++ comma) ++ rhs) ++ line
-icmp_layout icmp predicate space type lhs comma rhs line = simp append_assoc
-
-icmp_says : (f : Function) (h : IsPrintable f) (p : Placed) (lhs rhs : Operand) (predicate : LLVMIntPredicate) (w : ℕ) → p.instruction ≡ ICmp lhs rhs predicate → p.type ≡ IntType 1 → IsOperand f (IntType w) lhs → IsOperand f (IntType w) rhs
+icmp_says : (f : Function) (h : IsPrintable f) (p : Placed) (lhs rhs : Operand) (predicate : LLVMIntPredicate) (w : ℕ) → p.instruction ≡ Rows.icmp predicate lhs rhs → p.type ≡ IntType 1 → IsOperand f (IntType w) lhs → IsOperand f (IntType w) rhs
     → inst_data is_bare widest (scope_of f) (tree.ICmp (Some (local_text f p.name (ResultOf p.number))) (predicate_text predicate) (type_text (operand_type f lhs)) (operand_text f lhs) (operand_text f rhs)) ≡ Some (p.type, p.instruction)
 unfolding inst_data
 icmp_says f h p lhs rhs predicate w is typed l r =
@@ -212,98 +229,86 @@ icmp_says f h p lhs rhs predicate w is typed l r =
     let word = predicate_says predicate in
     rw (width, left, right, word, is, typed) refl
 
-pub icmp_printed : (f : Function) → IsPrintable f → (p : Placed) (lhs rhs : Operand) (predicate : LLVMIntPredicate) (type : TypeTree) → p.instruction ≡ ICmp lhs rhs predicate → p.type ≡ IntType 1 → IsOperand f type lhs → IsOperand f type rhs
+writes_compare : (predicate : LLVMIntPredicate) → Writes ((codes "icmp " ++ predicate_text predicate) ++ codes " ") (codes "icmp" ∷ predicate_text predicate ∷ [])
+writes_compare predicate = same (sym (append_assoc (codes "icmp ") (predicate_text predicate) (codes " "))) refl (joined writes_icmp (writes_spaced (predicate_text predicate) (alone_predicate predicate)))
+
+pub icmp_printed : (f : Function) → IsPrintable f → (p : Placed) (lhs rhs : Operand) (predicate : LLVMIntPredicate) (w : ℕ) → p.instruction ≡ Rows.icmp predicate lhs rhs → p.type ≡ IntType 1 → IsOperand f (IntType w) lhs → IsOperand f (IntType w) rhs
     → IsPlainOrNone p.name → (t : tree.Inst) × IsTree f p t
-icmp_printed f h p lhs rhs predicate ty is typed lhs_form rhs_form plain =
-    let width = short_width ty lhs_form.short in
-    let w = width.0 in
-    let l = at_width f ty w lhs width.1 lhs_form in
-    let r = at_width f ty w rhs width.1 rhs_form in
-    let type = type_text (operand_type f lhs) in
-    let local = local_text f p.name (ResultOf p.number) in
-    let body = joined writes_icmp (joined (writes_spaced (predicate_text predicate) (alone_predicate predicate)) (writes_both f h w lhs rhs l r)) in
-    let layout = icmp_layout (codes "icmp ") (predicate_text predicate) (codes " ") type (operand_text f lhs) (codes ", ") (operand_text f rhs) (codes "\n") in (
-      tree.ICmp (Some local) (predicate_text predicate) type (operand_text f lhs) (operand_text f rhs),
-      record {
-        writes = result_line f h p (ICmp lhs rhs predicate) 1 _ typed is plain (same layout refl body);
-        kinds = (local_is f p.name (ResultOf p.number), predicate_is predicate, kind_type (operand_type f lhs) w (operand_width f w lhs l), (operand_prints f h w lhs l).operand, (operand_prints f h w rhs r).operand);
-        says = icmp_says f h p lhs rhs predicate w is typed l r;
-        width = 1;
-        typed = typed;
-        result = refl;
-        name = refl;
-      },
-    )
+icmp_printed f h p lhs rhs predicate w is typed l r plain = (
+  tree.ICmp (Some (local_text f p.name (ResultOf p.number))) (predicate_text predicate) (type_text (operand_type f lhs)) (operand_text f lhs) (operand_text f rhs),
+  record {
+    writes = two_line f h p (Rows.icmp predicate lhs rhs) 1 w lhs rhs _ _ typed is refl plain (writes_compare predicate) l r;
+    kinds = (local_is f p.name (ResultOf p.number), predicate_is predicate, kind_type (operand_type f lhs) w (operand_width f w lhs l), (operand_prints f h w lhs l).operand, (operand_prints f h w rhs r).operand);
+    says = icmp_says f h p lhs rhs predicate w is typed l r;
+    width = 1;
+    typed = typed;
+    result = refl;
+    name = refl;
+  },
+)
 
 -- ---- terminators
 
-pub return_void_printed : (f : Function) (p : Placed) → p.instruction ≡ Return None → HasNoResult p → (t : tree.Terminator) × IsEnd f p t
+word_layout : (word rest line : List ℕ) → word ++ (rest ++ line) ≡ (word ++ rest) ++ line
+word_layout word rest line = sym (append_assoc word rest line)
+
+pub return_void_printed : (f : Function) (p : Placed) → p.instruction ≡ Rows.return_void → HasNoResult p → (t : tree.Terminator) × IsEnd f p t
 unfolding terminator_data
 return_void_printed f p is none = (
   tree.ReturnVoid,
   record {
-    writes = void_line f p (Return None) _ none.type is (joined (writes_spaced (codes "ret") alone_ret) (writes_line (codes "void") (alone_void 10 stop_line)));
+    writes = void_line f p Rows.return_void _ none.type is (joined (writes_spaced (codes "ret") alone_ret) (writes_line (codes "void") (alone_void 10 stop_line)));
     kinds = tt;
-    says = ends f p (Return None) tree.ReturnVoid is none refl;
+    says = ends f p Rows.return_void tree.ReturnVoid is none refl;
   },
 )
 
-return_says : (f : Function) (h : IsPrintable f) (o : Operand) (w : ℕ) → IsOperand f (IntType w) o → terminator_data is_bare widest (scope_of f) (tree.Return (type_text (operand_type f o)) (operand_text f o)) ≡ Some (Return (Some o))
+return_says : (f : Function) (h : IsPrintable f) (o : Operand) (w : ℕ) → IsOperand f (IntType w) o → terminator_data is_bare widest (scope_of f) (tree.Return (type_text (operand_type f o)) (operand_text f o)) ≡ Some (Rows.return_of o)
 unfolding terminator_data
 return_says f h o w op =
     let width = width_says (operand_type f o) w (operand_width f w o op) in
     let value = (operand_prints f h w o op).says in
     rw (width, value) refl
 
-return_layout : (ret type space value line : List ℕ) → ret ++ ((type ++ space) ++ (value ++ line)) ≡ (ret ++ ((type ++ space) ++ value)) ++ line
-return_layout ret type space value line = simp append_assoc
-
-pub return_printed : (f : Function) → IsPrintable f → (p : Placed) (o : Operand) (type : TypeTree) → p.instruction ≡ Return (Some o) → IsOperand f type o → HasNoResult p → (t : tree.Terminator) × IsEnd f p t
-return_printed f h p o ty is form none =
-    let width = short_width ty form.short in
-    let w = width.0 in
-    let op = at_width f ty w o width.1 form in
+pub return_printed : (f : Function) → IsPrintable f → (p : Placed) (o : Operand) (w : ℕ) → p.instruction ≡ Rows.return_of o → IsOperand f (IntType w) o → HasNoResult p → (t : tree.Terminator) × IsEnd f p t
+return_printed f h p o w is op none =
     let type = type_text (operand_type f o) in
-    let value = operand_prints f h w o op in
-    let body = joined (writes_spaced (codes "ret") alone_ret) (joined (writes_type (operand_type f o) w (operand_width f w o op)) (writes_line (operand_text f o) (value.alone 10 stop_line))) in (
+    let body = joined (writes_spaced (codes "ret") alone_ret) (writes_one f h w o op) in (
       tree.Return type (operand_text f o),
       record {
-        writes = void_line f p (Return (Some o)) _ none.type is (same (return_layout (codes "ret ") type (codes " ") (operand_text f o) (codes "\n")) refl body);
-        kinds = (kind_type (operand_type f o) w (operand_width f w o op), value.operand);
-        says = ends f p (Return (Some o)) (tree.Return type (operand_text f o)) is none (return_says f h o w op);
+        writes = void_line f p (Rows.return_of o) _ none.type is (same (word_layout (codes "ret ") (operands_text f (o ∷ [])) (codes "\n")) refl body);
+        kinds = (kind_type (operand_type f o) w (operand_width f w o op), (operand_prints f h w o op).operand);
+        says = ends f p (Rows.return_of o) (tree.Return type (operand_text f o)) is none (return_says f h o w op);
       },
     )
 
-pub unreachable_printed : (f : Function) (p : Placed) → p.instruction ≡ Unreachable → HasNoResult p → (t : tree.Terminator) × IsEnd f p t
+pub unreachable_printed : (f : Function) (p : Placed) → p.instruction ≡ Rows.unreachable → HasNoResult p → (t : tree.Terminator) × IsEnd f p t
 unfolding terminator_data
 unreachable_printed f p is none = (
   tree.Unreachable,
   record {
-    writes = void_line f p Unreachable _ none.type is (writes_line (codes "unreachable") (alone_word 10 117 (codes "nreachable") stop_line refl refl refl refl refl));
+    writes = void_line f p Rows.unreachable _ none.type is (writes_line (codes "unreachable") (alone_word 10 117 (codes "nreachable") stop_line refl refl refl refl refl));
     kinds = tt;
-    says = ends f p Unreachable tree.Unreachable is none refl;
+    says = ends f p Rows.unreachable tree.Unreachable is none refl;
   },
 )
 
-br_says : (f : Function) (n : ℕ) → PrintsBlock f n → terminator_data is_bare widest (scope_of f) (tree.Br (block_ref f n)) ≡ Some (Br n)
+br_says : (f : Function) (n : ℕ) → PrintsBlock f n → terminator_data is_bare widest (scope_of f) (tree.Br (block_ref f n)) ≡ Some (Rows.br n)
 unfolding terminator_data
 br_says f n block = let says = block.says in rw says refl
 
-br_layout : (br label target line : List ℕ) → br ++ (label ++ (target ++ line)) ≡ ((br ++ label) ++ target) ++ line
-br_layout br label target line = simp append_assoc
-
-pub br_printed : (f : Function) (p : Placed) (n : ℕ) → p.instruction ≡ Br n → PrintsBlock f n → HasNoResult p → (t : tree.Terminator) × IsEnd f p t
+pub br_printed : (f : Function) (p : Placed) (n : ℕ) → p.instruction ≡ Rows.br n → PrintsBlock f n → HasNoResult p → (t : tree.Terminator) × IsEnd f p t
 br_printed f p n is block none = (
   tree.Br (block_ref f n),
   record {
-    writes = void_line f p (Br n) _ none.type is (same (br_layout (codes "br ") (codes "label ") (block_ref f n) (codes "\n")) refl (joined writes_br (joined writes_label (writes_line (block_ref f n) (block.alone 10 stop_line)))));
+    writes = void_line f p (Rows.br n) _ none.type is (same (word_layout (codes "br ") (targets_text f (n ∷ [])) (codes "\n")) refl (joined writes_br (writes_target f n block)));
     kinds = block.local;
-    says = ends f p (Br n) (tree.Br (block_ref f n)) is none (br_says f n block);
+    says = ends f p (Rows.br n) (tree.Br (block_ref f n)) is none (br_says f n block);
   },
 )
 
 cond_br_says : (f : Function) (h : IsPrintable f) (c : Operand) (a b : ℕ) → IsOperand f (IntType 1) c → PrintsBlock f a → PrintsBlock f b
-    → terminator_data is_bare widest (scope_of f) (tree.CondBr (type_text (operand_type f c)) (operand_text f c) (block_ref f a) (block_ref f b)) ≡ Some (CondBr c a b)
+    → terminator_data is_bare widest (scope_of f) (tree.CondBr (type_text (operand_type f c)) (operand_text f c) (block_ref f a) (block_ref f b)) ≡ Some (Rows.cond_br c a b)
 unfolding terminator_data
 cond_br_says f h c a b op first second =
     let width = width_says (operand_type f c) 1 (operand_width f 1 c op) in
@@ -312,21 +317,19 @@ cond_br_says f h c a b op first second =
     let two = second.says in
     rw (width, value, one, two) refl
 
-cond_br_layout : (br type space c comma label first second line : List ℕ)
-    → br ++ ((type ++ space) ++ ((c ++ comma) ++ (label ++ ((first ++ comma) ++ (label ++ (second ++ line)))))) ≡ (((((br ++ ((type ++ space) ++ c)) ++ (comma ++ label)) ++ first) ++ (comma ++ label)) ++ second) ++ line
-cond_br_layout br type space c comma label first second line = simp append_assoc
+cond_br_layout : (br type space c comma targets line : List ℕ) → br ++ ((type ++ space) ++ ((c ++ comma) ++ (targets ++ line))) ≡ (((br ++ (((type ++ space) ++ c) ++ [])) ++ comma) ++ targets) ++ line
+cond_br_layout br type space c comma targets line = simp (append_assoc, append-nil)
 
-pub cond_br_printed : (f : Function) → IsPrintable f → (p : Placed) (c : Operand) (a b : ℕ) → p.instruction ≡ CondBr c a b → IsOperand f (IntType 1) c → PrintsBlock f a → PrintsBlock f b → HasNoResult p → (t : tree.Terminator) × IsEnd f p t
+pub cond_br_printed : (f : Function) → IsPrintable f → (p : Placed) (c : Operand) (a b : ℕ) → p.instruction ≡ Rows.cond_br c a b → IsOperand f (IntType 1) c → PrintsBlock f a → PrintsBlock f b → HasNoResult p → (t : tree.Terminator) × IsEnd f p t
 cond_br_printed f h p c a b is op first second none =
     let type = type_text (operand_type f c) in
     let value = operand_prints f h 1 c op in
-    let targets = joined writes_label (joined (writes_comma (block_ref f a) (first.alone 44 stop_comma)) (joined writes_label (writes_line (block_ref f b) (second.alone 10 stop_line)))) in
-    let body = joined writes_br (joined (writes_type (operand_type f c) 1 (operand_width f 1 c op)) (joined (writes_comma (operand_text f c) (value.alone 44 stop_comma)) targets)) in
-    let layout = cond_br_layout (codes "br ") type (codes " ") (operand_text f c) (codes ", ") (codes "label ") (block_ref f a) (block_ref f b) (codes "\n") in (
+    let body = joined writes_br (joined (writes_type (operand_type f c) 1 (operand_width f 1 c op)) (joined (writes_comma (operand_text f c) (value.alone 44 stop_comma)) (writes_targets f a b first second))) in
+    let layout = cond_br_layout (codes "br ") type (codes " ") (operand_text f c) (codes ", ") (targets_text f (a ∷ b ∷ [])) (codes "\n") in (
       tree.CondBr type (operand_text f c) (block_ref f a) (block_ref f b),
       record {
-        writes = void_line f p (CondBr c a b) _ none.type is (same layout refl body);
+        writes = void_line f p (Rows.cond_br c a b) _ none.type is (same layout refl body);
         kinds = (kind_type (operand_type f c) 1 (operand_width f 1 c op), value.operand, first.local, second.local);
-        says = ends f p (CondBr c a b) (tree.CondBr type (operand_text f c) (block_ref f a) (block_ref f b)) is none (cond_br_says f h c a b op first second);
+        says = ends f p (Rows.cond_br c a b) (tree.CondBr type (operand_text f c) (block_ref f a) (block_ref f b)) is none (cond_br_says f h c a b op first second);
       },
     )

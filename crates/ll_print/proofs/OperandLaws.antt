@@ -1,12 +1,12 @@
 -- Operands and targets of a function of the form, as they are printed: whole tokens that say them in the scope of the whole function.
-use Rattle.std.proofs.Common.{◌≡◌, ◌≢◌, ℕ, zero, suc, ◌+◌, ◌<◌, ◌≤◌, Bool, true, cond, nat_eq, List, [], ◌∷◌, ◌++◌, length, map, slice_get, get_or, Option, Some, None, refl, ap, sym, ◌∙◌, subst, eq-eqb, ne_eqb, arith}
+use Rattle.std.proofs.Common.{◌≡◌, ◌≢◌, ℕ, zero, suc, ◌+◌, ◌<◌, ◌≤◌, Bool, true, cond, nat_eq, List, [], ◌∷◌, ◌++◌, length, map, slice_get, get_or, Option, Some, refl, ap, sym, ◌∙◌, subst, eq-eqb, ne_eqb, arith}
 use Rattle.std.specs.List.{find, flat_map}
 use Rattle.std.specs.Option.{option_map, option_map_or}
 use Rattle.std.proofs.lemmas.Option.{slice_get-map, slice_get-get_or, same_Some}
 use Rattle.support.specs.Interned.{IsDistinctList}
 use Rattle.llvm_core.specs.Names.{IsPlainOrNone}
-use Rattle.llvm_core.specs.Data.{TypeTree, VoidType, IntType, FunctionType, ConstTree, IntConst, PlaceholderConst, Operand, Constant, Parameter, Result, Instruction, Add, ICmp, Phi, Br, CondBr, Return, Unreachable, Placed, Block, Function, operand_type, placed_in, param_type, const_type}
-use Rattle.llvm_core.specs.Form.{IsFitting, IsOperandOf, IsOperand, HasNoResult, IsFormInstruction, IsFormBlock, IsFormFunction, local_names}
+use Rattle.llvm_core.specs.Data.{TypeTree, VoidType, IntType, FunctionType, ConstTree, IntConst, PlaceholderConst, Operand, Constant, Parameter, Result, Placed, Block, Function, operand_type, placed_in, param_type, const_type}
+use Rattle.llvm_core.specs.Form.{IsFitting, IsOperandOf, IsOperand, IsFormPlaced, IsFormBlock, IsFormFunction, local_names}
 use Rattle.llvm_core.proofs.DataLemmas.{within_at}
 use Rattle.ll_tree.specs.Text.{Text, is_bare, number_limit}
 use Rattle.ll_tree.specs.Tree.{is_local, is_operand}
@@ -72,42 +72,19 @@ stands_in (b ∷ bs) i p at = by b.instructions i at (λ j found. further (stand
     by (q ∷ ps) (suc i) at later here = by ps i at later (λ j found. here (suc j) found)
 
 -- each is one of the form
-pub form_at : (f : Function) → IsFormFunction f → (i : ℕ) (p : Placed) → slice_get (placed_in f) i ≡ Some p → (n : ℕ) × IsFormInstruction f n p p.instruction
+form_at : (f : Function) → IsFormFunction f → (i : ℕ) (p : Placed) → slice_get (placed_in f) i ≡ Some p → (n : ℕ) × IsFormPlaced f n p
 form_at f h i p at =
     let s = stands_in f.blocks i p at in
     let block = within_at f.blocks (IsFormBlock f) h.blocks s.place s.block s.listed in
-    (s.block.number, within_at s.block.instructions (λ (p : Placed). IsFormInstruction f s.block.number p p.instruction) block.instructions s.within p s.here)
-
-no_name : (p : Placed) → HasNoResult p → IsPlainOrNone p.name
-no_name p h = rw h.name tt
-
-instruction_name : (f : Function) (b : ℕ) (p : Placed) (i : Instruction) → IsFormInstruction f b p i → IsPlainOrNone p.name
-instruction_name f b p (Add lhs rhs flags) h = h.2
-instruction_name f b p (ICmp lhs rhs predicate) h = h.2
-instruction_name f b p (Phi entries) h = h.3
-instruction_name f b p (Br target) h = no_name p h.1
-instruction_name f b p (CondBr condition first second) h = no_name p h.3
-instruction_name f b p (Return None) h = no_name p h.1
-instruction_name f b p (Return (Some o)) h = no_name p h.1
-instruction_name f b p Unreachable h = no_name p h
+    (s.block.number, within_at s.block.instructions (IsFormPlaced f s.block.number) block.instructions s.within p s.here)
 
 pub placed_name : (f : Function) → IsFormFunction f → (i : ℕ) (p : Placed) → slice_get (placed_in f) i ≡ Some p → IsPlainOrNone p.name
-placed_name f h i p at = let o = form_at f h i p at in instruction_name f o.0 p p.instruction o.1
-
-void_name : (f : Function) (b : ℕ) (p : Placed) (i : Instruction) → IsFormInstruction f b p i → p.type ≡ VoidType → p.name ≡ []
-void_name f b p (Add lhs rhs flags) h void = absurd (rw void at h.0.short)
-void_name f b p (ICmp lhs rhs predicate) h void = let e : VoidType ≡ IntType 1 = sym void ∙ h.1 in absurd cc
-void_name f b p (Phi entries) h void = absurd (rw void at h.2)
-void_name f b p (Br target) h void = h.1.name
-void_name f b p (CondBr condition first second) h void = h.3.name
-void_name f b p (Return None) h void = h.1.name
-void_name f b p (Return (Some o)) h void = h.1.name
-void_name f b p Unreachable h void = h.name
+placed_name f h i p at = (form_at f h i p at).1.name
 
 names_results : (f : Function) → IsFormFunction f → AllNameResults f.blocks
-names_results f h i b listed j p at void =
+names_results f h i b listed j p at =
     let block = within_at f.blocks (IsFormBlock f) h.blocks i b listed in
-    void_name f b.number p p.instruction (within_at b.instructions (λ (p : Placed). IsFormInstruction f b.number p p.instruction) block.instructions j p at) void
+    (within_at b.instructions (IsFormPlaced f b.number) block.instructions j p at).unnamed
 
 -- ---- things by their numbers
 

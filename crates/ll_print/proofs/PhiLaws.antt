@@ -17,9 +17,10 @@ use Rattle.ll_print.specs.Parts.{HasBlockNumber}
 use Rattle.ll_print.proofs.AloneLaws.{alone_word}
 use Rattle.ll_print.proofs.CutLaws.{stop_space, stop_comma, writes_comma, writes_sep, writes_open, writes_closed}
 use Rattle.ll_print.proofs.EdgeLaws.{entry_block}
-use Rattle.ll_print.proofs.LineLaws.{IsTree, IsWidth, short_width, at_width, writes_type, kind_type, width_says, result_line}
+use Rattle.ll_print.proofs.LineLaws.{IsTree, at_width, writes_type, kind_type, width_says, result_line}
 use Rattle.ll_print.proofs.NameLaws.{local_is}
 use Rattle.ll_print.proofs.OperandLaws.{IsPrintable, scope_of, operand_prints, block_prints}
+use Rattle.ll_print.proofs.RowLaws.{IsWidth, short_width}
 
 -- ---- entries of a width
 

@@ -1,5 +1,5 @@
 -- What is printed of a part of a module is the text of that part's data.
-use Rattle.std.proofs.Common.{◌≡◌, ◌<◌, ◌≤◌, ◌+◌, ℕ, List, [], ◌++◌, length, take, get_or, slice_get, Some, ap, sym, ◌∙◌, subst, append_assoc}
+use Rattle.std.proofs.Common.{◌≡◌, ◌<◌, ◌≤◌, ◌+◌, ℕ, List, [], ◌++◌, length, take, get_or, slice_get, Some, ap, sym, ◌∙◌, subst}
 use Rattle.std.specs.Prelude.{OnOk, Result, Ok, Err, if◌then◌else◌}
 use Rattle.std.specs.Result.{is_ok}
 use Rattle.std.specs.declared.alloc.AllocError.{AllocError}
@@ -39,10 +39,6 @@ ok_extended (Err x) old new more e = tt
 -- two pieces, where the call that puts the second was Ok
 pub ok_two : (r : Result (Unit {0}) AllocError) (old mid new a b : List ℕ) → mid ≡ old ++ a → OnOk r (new ≡ mid ++ b) → OnOk r (new ≡ old ++ (a ++ b))
 ok_two r old mid new a b e h = on_ok_weaker r (appended_twice old mid new a b e) h
-
--- three pieces behind one, where the call that puts them was Ok
-pub ok_four : (r : Result (Unit {0}) AllocError) (old mid new a b c d : List ℕ) → mid ≡ old ++ a → OnOk r (new ≡ mid ++ (b ++ c ++ d)) → OnOk r (new ≡ old ++ (a ++ b ++ c ++ d))
-ok_four r old mid new a b c d e h = on_ok_weaker r (λ (f : new ≡ mid ++ (b ++ c ++ d)). rw (f, e) (simp append_assoc)) h
 
 -- a local, whatever its number was called
 pub local_put : (r : Result (Unit {0}) AllocError) (old new text name : List ℕ) (k j : ℕ) → OnOk r (new ≡ old ++ named_text name k) → k ≡ j → text ≡ named_text name j → OnOk r (new ≡ old ++ text)

@@ -1,5 +1,5 @@
 -- Parts of a module's data by their numbers, and their texts.
-use Rattle.std.specs.Prelude.{◌≡◌, ◌<◌, ◌≤◌, ℕ, List, [], ◌∷◌, ◌++◌, All, length, codes, slice_get, slice_index_or, Some, None, decimal}
+use Rattle.std.specs.Prelude.{◌≡◌, ◌<◌, ◌≤◌, ℕ, List, [], ◌∷◌, ◌++◌, All, length, codes, slice_get, slice_index_or, Some, decimal}
 use Rattle.std.specs.List.{flat_map}
 use Rattle.std.specs.Option.{option_map_or}
 use Rattle.llvm_core.specs.declared.numbers.LLVMType.{LLVMType}
@@ -107,16 +107,10 @@ IsOwnBlock m f b = (b.0 < length m.blocks) × HasBlockNumber b.0 (function_in m 
 abbrev pub OwnsEntry : Module → LLVMFunction → PhiEntry → Type 0
 OwnsEntry m f e = IsOwn m f e.value × IsOwnBlock m f e.block
 
--- the operands and blocks of an instruction belong to the function, a line for each kind
+-- the operands and blocks of an instruction belong to the function
 abbrev pub OwnsOperands : Module → LLVMFunction → LLVMInst → Type 0
-OwnsOperands m f (I.Add lhs rhs flags) = IsOwn m f lhs × IsOwn m f rhs
-OwnsOperands m f (I.ICmp lhs rhs predicate) = IsOwn m f lhs × IsOwn m f rhs
 OwnsOperands m f (I.Phi type entries) = All (OwnsEntry m f) entries
-OwnsOperands m f (I.Br target) = IsOwnBlock m f target
-OwnsOperands m f (I.CondBr condition first second) = IsOwn m f condition × IsOwnBlock m f first × IsOwnBlock m f second
-OwnsOperands m f (I.Ret None) = Unit {0}
-OwnsOperands m f (I.Ret (Some v)) = IsOwn m f v
-OwnsOperands m f I.Unreachable = Unit {0}
+OwnsOperands m f (I.Row r) = All (IsOwn m f) r.operands × All (IsOwnBlock m f) r.targets
 
 -- an instruction that is there, with operands of the function
 pub record OwnsInst (m : Module) (f : LLVMFunction) (i : LLVMInstRef) : Type 0 where

@@ -1,10 +1,12 @@
 -- The text that is printed of module data, a definition for each part.
-use Rattle.std.specs.Prelude.{◌≡◌, ℕ, zero, suc, ◌-◌, ◌^◌, Bool, true, false, List, [], ◌∷◌, ◌++◌, Some, None, nat_eq, nat_le, nat_lt, ◌==◌, if◌then◌else◌, drop, codes, decimal, slice_index_or}
+use Rattle.std.specs.Prelude.{◌≡◌, ℕ, zero, suc, ◌-◌, ◌^◌, Bool, true, false, List, [], ◌∷◌, ◌++◌, nat_eq, nat_le, nat_lt, ◌==◌, if◌then◌else◌, drop, codes, decimal, slice_index_or}
 use Rattle.std.specs.List.{flat_map, find, position_or_len}
 use Rattle.std.specs.Option.{option_map_or}
-use Rattle.llvm_core.specs.declared.code.LLVMIntPredicate.{LLVMIntPredicate}
-use Rattle.llvm_core.specs.declared.code.LLVMIntPredicate.TheVariants as P
-use Rattle.llvm_core.specs.Data.{TypeTree, VoidType, IntType, FunctionType, ConstTree, IntConst, PlaceholderConst, Operand, Constant, Parameter, Result, Instruction, Add, ICmp, Phi, Br, CondBr, Return, Unreachable, Placed, Block, Function, ModuleData, operand_type, placed_in, param_type}
+use Rattle.kinds.specs.declared.op.LLVMIntPredicate.{LLVMIntPredicate}
+use Rattle.kinds.specs.declared.op.LLVMIntPredicate.TheVariants as P
+use Rattle.kinds.specs.declared.op.Op.{Op}
+use Rattle.kinds.specs.declared.op.Op.TheVariants as O
+use Rattle.llvm_core.specs.Data.{TypeTree, VoidType, IntType, FunctionType, ConstTree, IntConst, PlaceholderConst, Operand, Constant, Parameter, Result, Instruction, Phi, Applied, Placed, Block, Function, ModuleData, operand_type, placed_in, param_type}
 use Rattle.llvm_core.specs.Form.{result_of}
 use Rattle.ll_tree.specs.Text.{Text, is_bare, global, quoted}
 
@@ -134,17 +136,37 @@ abbrev pub entries_text : Function → List (Operand × ℕ) → Text
 entries_text f [] = []
 entries_text f (e ∷ es) = entry_text f e ++ flat_map (next_entry_text f) es
 
--- an instruction whose result has that type, a line for each kind
+-- operands, of which the first stands behind its type
+abbrev pub operands_text : Function → List Operand → Text
+operands_text f [] = []
+operands_text f (o ∷ os) = value_text f o ++ flat_map (λ (x : Operand). codes ", " ++ operand_text f x) os
+
+-- what a return has
+abbrev pub returned_text : Function → List Operand → Text
+returned_text f [] = codes "void"
+returned_text f (o ∷ os) = operands_text f (o ∷ os)
+
+-- the blocks that a row leads to
+abbrev pub target_text : Function → ℕ → Text
+target_text f n = codes "label " ++ block_ref f n
+
+abbrev pub targets_text : Function → List ℕ → Text
+targets_text f [] = []
+targets_text f (n ∷ ns) = target_text f n ++ flat_map (λ (x : ℕ). codes ", " ++ target_text f x) ns
+
+-- a row: its word and what it names, a line for each
+abbrev pub row_text : Function → Op → List Operand → List ℕ → Text
+row_text f (O.Add flags) os ts = codes "add " ++ flag_text (codes "nuw") flags.nuw ++ flag_text (codes "nsw") flags.nsw ++ operands_text f os
+row_text f (O.ICmp predicate) os ts = codes "icmp " ++ predicate_text predicate ++ codes " " ++ operands_text f os
+row_text f O.Br os ts = codes "br " ++ targets_text f ts
+row_text f O.CondBr os ts = codes "br " ++ operands_text f os ++ codes ", " ++ targets_text f ts
+row_text f O.Ret os ts = codes "ret " ++ returned_text f os
+row_text f O.Unreachable os ts = codes "unreachable"
+
+-- an instruction whose result has that type
 abbrev pub instruction_text : Function → TypeTree → Instruction → Text
-instruction_text f type (Add lhs rhs flags) =
-    codes "add " ++ flag_text (codes "nuw") flags.nuw ++ flag_text (codes "nsw") flags.nsw ++ value_text f lhs ++ codes ", " ++ operand_text f rhs
-instruction_text f type (ICmp lhs rhs predicate) = codes "icmp " ++ predicate_text predicate ++ codes " " ++ value_text f lhs ++ codes ", " ++ operand_text f rhs
 instruction_text f type (Phi entries) = codes "phi " ++ type_text type ++ codes " " ++ entries_text f entries
-instruction_text f type (Br target) = codes "br label " ++ block_ref f target
-instruction_text f type (CondBr condition first second) = codes "br " ++ value_text f condition ++ codes ", label " ++ block_ref f first ++ codes ", label " ++ block_ref f second
-instruction_text f type (Return None) = codes "ret void"
-instruction_text f type (Return (Some o)) = codes "ret " ++ value_text f o
-instruction_text f type Unreachable = codes "unreachable"
+instruction_text f type (Applied r) = row_text f r.op r.operands r.targets
 
 -- the result, where there is one
 abbrev pub gives_text : Function → TypeTree → Placed → Text

@@ -5,14 +5,15 @@ ghost use Rattle.std.specs.List.{flat_map};
 ghost use Rattle.llvm_core.specs.declared.code.LLVMValue.TheVariants as values;
 ghost use Rattle.llvm_core.specs.Parts.{value_type};
 ghost use Rattle.llvm_core.specs.Data.{trees_of, type_at, operand_of, entry_of, instruction_of};
-ghost use Rattle.ll_print.specs.Printing.{type_text, operand_text, value_text, block_ref, flag_text, predicate_text, entry_text, entries_text, comma_text, instruction_text};
+ghost use Rattle.ll_print.specs.Printing.{type_text, flag_text, predicate_text, entry_text, entries_text, comma_text, operands_text, returned_text, targets_text, row_text, instruction_text};
 ghost use Rattle.ll_print.specs.Parts.{function_in, gives_of, line_of, IsOwn, IsOwnBlock, OwnsEntry, OwnsOperands, OwnsInst, IsPrinting};
 
 use crate::numbers::Numbers;
 use crate::operands::{put_block_ref, put_local, put_operand, put_value};
 use crate::places::Place;
 use crate::types::put_type;
-use llvm_core::code::{LLVMInst, LLVMIntPredicate, LLVMValue, OverflowFlags, PhiEntry};
+use kinds::op::{LLVMIntPredicate, Op, OverflowFlags};
+use llvm_core::code::{LLVMInst, LLVMValue, PhiEntry, Row};
 use llvm_core::module::LLVMModule;
 use llvm_core::numbers::{LLVMBasicBlock, LLVMInstRef, LLVMType};
 use llvm_core::types::LLVMTypeKind;
@@ -67,23 +68,65 @@ fn put_predicate(predicate: LLVMIntPredicate, out: &mut Vec<u8>) -> Result<(), A
     Ok(())
 }
 
-/// A type and two operands of it.
-fn put_both(
+/// Operands, of which the first stands behind its type.
+fn put_operands(
     alloc: Global,
     m: &LLVMModule,
     numbers: &Numbers,
-    lhs: LLVMValue,
-    rhs: LLVMValue,
+    operands: &[LLVMValue],
     out: &mut Vec<u8>,
 ) -> Result<(), AllocError>
     requires printing { IsPrinting m.now numbers.now }
-    requires lhs { IsOwn m.now numbers.now.function lhs }
-    requires rhs { IsOwn m.now numbers.now.function rhs }
-    ensures { OnOk result (out.new.items ≡ out.old.items ++ (value_text (function_in m.now numbers.now.function) (operand_of (trees_of m.now) lhs) ++ codes ", " ++ operand_text (function_in m.now numbers.now.function) (operand_of (trees_of m.now) rhs))) }
+    requires own { All (IsOwn m.now numbers.now.function) operands.now }
+    ensures { OnOk result (out.new.items ≡ out.old.items ++ operands_text (function_in m.now numbers.now.function) (map (operand_of (trees_of m.now)) operands.now)) }
 {
-    put_value(alloc, m, numbers, lhs, out)?;
-    out.extend_from_slice(b", ")?;
-    put_operand(alloc, m, numbers, rhs, out)
+    for (place, operand) in operands.iter().enumerate() {
+        if place == 0 {
+            put_value(alloc, m, numbers, *operand, out)?;
+        } else {
+            out.extend_from_slice(b", ")?;
+            put_operand(alloc, m, numbers, *operand, out)?;
+        }
+    }
+    Ok(())
+}
+
+/// What a return has.
+fn put_returned(
+    alloc: Global,
+    m: &LLVMModule,
+    numbers: &Numbers,
+    operands: &[LLVMValue],
+    out: &mut Vec<u8>,
+) -> Result<(), AllocError>
+    requires printing { IsPrinting m.now numbers.now }
+    requires own { All (IsOwn m.now numbers.now.function) operands.now }
+    ensures { OnOk result (out.new.items ≡ out.old.items ++ returned_text (function_in m.now numbers.now.function) (map (operand_of (trees_of m.now)) operands.now)) }
+{
+    if operands.is_empty() {
+        return out.extend_from_slice(b"void");
+    }
+    put_operands(alloc, m, numbers, operands, out)
+}
+
+/// The blocks that a row leads to.
+fn put_targets(
+    alloc: Global,
+    m: &LLVMModule,
+    numbers: &Numbers,
+    targets: &[LLVMBasicBlock],
+    out: &mut Vec<u8>,
+) -> Result<(), AllocError>
+    requires printing { IsPrinting m.now numbers.now }
+    requires own { All (IsOwnBlock m.now numbers.now.function) targets.now }
+    ensures { OnOk result (out.new.items ≡ out.old.items ++ targets_text (function_in m.now numbers.now.function) (map (λ b. b.0) targets.now)) }
+{
+    for (place, target) in targets.iter().enumerate() {
+        put_comma(place, out)?;
+        out.extend_from_slice(b"label ")?;
+        put_block_ref(alloc, m, numbers, *target, out)?;
+    }
+    Ok(())
 }
 
 /// A comma and a blank between parameters, or between entries.
@@ -134,30 +177,6 @@ fn put_entries(
     Ok(())
 }
 
-/// A branch on a condition.
-fn put_cond_br(
-    alloc: Global,
-    m: &LLVMModule,
-    numbers: &Numbers,
-    condition: LLVMValue,
-    first: LLVMBasicBlock,
-    second: LLVMBasicBlock,
-    out: &mut Vec<u8>,
-) -> Result<(), AllocError>
-    requires printing { IsPrinting m.now numbers.now }
-    requires condition { IsOwn m.now numbers.now.function condition }
-    requires first { IsOwnBlock m.now numbers.now.function first }
-    requires second { IsOwnBlock m.now numbers.now.function second }
-    ensures { OnOk result (out.new.items ≡ out.old.items ++ (codes "br " ++ value_text (function_in m.now numbers.now.function) (operand_of (trees_of m.now) condition) ++ codes ", label " ++ block_ref (function_in m.now numbers.now.function) first.0 ++ codes ", label " ++ block_ref (function_in m.now numbers.now.function) second.0)) }
-{
-    out.extend_from_slice(b"br ")?;
-    put_value(alloc, m, numbers, condition, out)?;
-    out.extend_from_slice(b", label ")?;
-    put_block_ref(alloc, m, numbers, first, out)?;
-    out.extend_from_slice(b", label ")?;
-    put_block_ref(alloc, m, numbers, second, out)
-}
-
 /// A phi of a type.
 fn put_phi(
     alloc: Global,
@@ -178,6 +197,48 @@ fn put_phi(
     put_entries(alloc, m, numbers, entries, out)
 }
 
+/// A row: its word and what it names, a line for each.
+fn put_row(
+    alloc: Global,
+    m: &LLVMModule,
+    numbers: &Numbers,
+    row: &Row,
+    out: &mut Vec<u8>,
+) -> Result<(), AllocError>
+    requires printing { IsPrinting m.now numbers.now }
+    requires operands { All (IsOwn m.now numbers.now.function) row.now.operands }
+    requires targets { All (IsOwnBlock m.now numbers.now.function) row.now.targets }
+    ensures { OnOk result (out.new.items ≡ out.old.items ++ row_text (function_in m.now numbers.now.function) row.now.op (map (operand_of (trees_of m.now)) row.now.operands) (map (λ b. b.0) row.now.targets)) }
+{
+    let operands = row.operands.as_slice();
+    let targets = row.targets.as_slice();
+    match row.op {
+        Op::Add(flags) => {
+            put_add(flags, out)?;
+            put_operands(alloc, m, numbers, operands, out)
+        }
+        Op::ICmp(predicate) => {
+            put_predicate(predicate, out)?;
+            put_operands(alloc, m, numbers, operands, out)
+        }
+        Op::Br => {
+            out.extend_from_slice(b"br ")?;
+            put_targets(alloc, m, numbers, targets, out)
+        }
+        Op::CondBr => {
+            out.extend_from_slice(b"br ")?;
+            put_operands(alloc, m, numbers, operands, out)?;
+            out.extend_from_slice(b", ")?;
+            put_targets(alloc, m, numbers, targets, out)
+        }
+        Op::Ret => {
+            out.extend_from_slice(b"ret ")?;
+            put_returned(alloc, m, numbers, operands, out)
+        }
+        Op::Unreachable => out.extend_from_slice(b"unreachable"),
+    }
+}
+
 /// An instruction without its result, which has that type.
 fn put_inst(
     alloc: Global,
@@ -193,28 +254,8 @@ fn put_inst(
     ensures { OnOk result (out.new.items ≡ out.old.items ++ instruction_text (function_in m.now numbers.now.function) (type_at (trees_of m.now).types ty) (instruction_of (trees_of m.now) inst.now)) }
 {
     match inst {
-        LLVMInst::Add(lhs, rhs, flags) => {
-            put_add(*flags, out)?;
-            put_both(alloc, m, numbers, *lhs, *rhs, out)
-        }
-        LLVMInst::ICmp(lhs, rhs, predicate) => {
-            put_predicate(*predicate, out)?;
-            put_both(alloc, m, numbers, *lhs, *rhs, out)
-        }
         LLVMInst::Phi(_, entries) => put_phi(alloc, m, numbers, ty, entries.as_slice(), out),
-        LLVMInst::Br(target) => {
-            out.extend_from_slice(b"br label ")?;
-            put_block_ref(alloc, m, numbers, *target, out)
-        }
-        LLVMInst::CondBr(condition, first, second) => {
-            put_cond_br(alloc, m, numbers, *condition, *first, *second, out)
-        }
-        LLVMInst::Ret(None) => out.extend_from_slice(b"ret void"),
-        LLVMInst::Ret(Some(value)) => {
-            out.extend_from_slice(b"ret ")?;
-            put_value(alloc, m, numbers, *value, out)
-        }
-        LLVMInst::Unreachable => out.extend_from_slice(b"unreachable"),
+        LLVMInst::Row(row) => put_row(alloc, m, numbers, row, out),
     }
 }
 

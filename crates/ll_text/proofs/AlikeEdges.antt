@@ -1,11 +1,11 @@
 -- Functions that differ in numbers alone have the same edges, under the numbers that are paired.
-use Rattle.std.proofs.Common.{◌≡◌, ◌≢◌, ◌<◌, ◌≤◌, ℕ, zero, suc, ◌+◌, Bool, nat_eq, inl, inr, ◌⊎◌, List, [], ◌∷◌, map, slice_get, Some, None, refl, ap, sym, ◌∙◌, subst, eq-eqb, ne_eqb, arith}
+use Rattle.std.proofs.Common.{◌≡◌, ◌≢◌, ◌<◌, ◌≤◌, ℕ, zero, suc, ◌+◌, Bool, nat_eq, inl, inr, ◌⊎◌, List, [], ◌∷◌, map, slice_get, Some, refl, ap, sym, ◌∙◌, subst, eq-eqb, ne_eqb, arith}
 use Rattle.std.specs.List.{AllZip, flat_map, filter}
 use Rattle.std.specs.Option.{option_map}
 use Rattle.std.proofs.lemmas.Option.{same_Some, slice_get-map}
 use Rattle.std.proofs.lemmas.Bool.Decides.{eqb_tells}
 use Rattle.llvm_core.specs.Data as L
-use Rattle.llvm_core.specs.Data.{Operand, Constant, Parameter, Result, Instruction, Add, ICmp, Phi, Br, CondBr, Return, Unreachable, Placed, Block, targets, placed_in}
+use Rattle.llvm_core.specs.Data.{Operand, Constant, Parameter, Result, Instruction, Phi, Applied, Placed, Block, targets}
 use Rattle.llvm_core.specs.Edges.{count_of}
 use Rattle.support.specs.Interned.{IsDistinctList}
 use Rattle.llvm_core.specs.Form.{targets_of, edges_between, IsTarget, FitsEdges}
@@ -111,14 +111,10 @@ module _ (g h : L.Function) (alike : FunctionsAlike g h) (here : IsDistinctList 
   -- ---- edges
 
   targets_pair : (x y : Instruction) → CodeAlike g h x y → AllZip (SameBlock g h) (targets x) (targets y)
-  targets_pair (Add a b flags) y p = subst (λ (y : Instruction). AllZip (SameBlock g h) [] (targets y)) (sym p.2) tt
-  targets_pair (ICmp a b predicate) y p = subst (λ (y : Instruction). AllZip (SameBlock g h) [] (targets y)) (sym p.2) tt
-  targets_pair (Phi es) y p = subst (λ (y : Instruction). AllZip (SameBlock g h) [] (targets y)) (sym p.1) tt
-  targets_pair (Br a) y p = subst (λ (y : Instruction). AllZip (SameBlock g h) (a ∷ []) (targets y)) (sym p.1) (p.2, tt)
-  targets_pair (CondBr o a b) y p = subst (λ (y : Instruction). AllZip (SameBlock g h) (a ∷ b ∷ []) (targets y)) (sym p.3) (p.5, (p.6, tt))
-  targets_pair (Return None) y p = subst (λ (y : Instruction). AllZip (SameBlock g h) [] (targets y)) (sym p) tt
-  targets_pair (Return (Some o)) y p = subst (λ (y : Instruction). AllZip (SameBlock g h) [] (targets y)) (sym p.1) tt
-  targets_pair Unreachable y p = subst (λ (y : Instruction). AllZip (SameBlock g h) [] (targets y)) (sym p) tt
+  targets_pair (Phi es) (Phi ds) p = tt
+  targets_pair (Applied r) (Applied s) p = p.targets
+  targets_pair (Phi es) (Applied s) p = elim p [ ]
+  targets_pair (Applied r) (Phi ds) p = elim p [ ]
 
   block_targets : (c d : Block) → BlocksAlike g h c d → AllZip (SameBlock g h) (targets_of c) (targets_of d)
   block_targets c d pair =

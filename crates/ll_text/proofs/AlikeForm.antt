@@ -1,17 +1,23 @@
 -- Functions that differ in numbers alone are both of the form, or neither is.
-use Rattle.std.proofs.Common.{◌≡◌, ◌-◌, ℕ, zero, suc, Bool, false, not, ◌&&◌, ◌||◌, is_some, List, [], ◌∷◌, length, take, slice_get, Option, Some, None, refl, ap, sym, ◌∙◌, subst, eq-eqb, All, arith}
+use Rattle.std.proofs.Common.{◌≡◌, ◌-◌, ℕ, zero, suc, Bool, false, not, ◌&&◌, ◌||◌, is_some, List, [], ◌∷◌, length, take, slice_get, Option, Some, refl, ap, sym, ◌∙◌, subst, eq-eqb, All, unwrap_or, arith}
 use Rattle.std.specs.List.{AllZip, AllByRecursion, list_any}
 use Rattle.std.specs.Option.{option_map_or}
 use Rattle.std.proofs.lemmas.List.Elements.{All-from_recursion, recursion_from_All}
+use Rattle.kinds.specs.declared.op.Op.{Op}
+use Rattle.kinds.specs.declared.rules.Takes.{Takes}
+use Rattle.kinds.specs.declared.rules.Takes.TheVariants as O
+use Rattle.kinds.specs.Rules.{ends, target_count, operand_count}
+use Rattle.kinds.specs.Table.{rule_of}
+use Rattle.kinds.specs.Typing.{fits_trees, typed}
 use Rattle.llvm_core.specs.Names.{is_plain, IsPlainOrNone}
 use Rattle.llvm_core.specs.Data as L
-use Rattle.llvm_core.specs.Data.{TypeTree, VoidType, IntType, Operand, Constant, Parameter, Result, Instruction, Add, ICmp, Phi, Br, CondBr, Return, Unreachable, Placed, Block, operand_type, param_type, placed_in}
+use Rattle.llvm_core.specs.Data.{TypeTree, VoidType, Operand, Constant, Parameter, Result, RowData, Instruction, Phi, Applied, Placed, Block, operand_type, param_type, placed_in}
 use Rattle.llvm_core.specs.Checked.{ends_in_only}
 use Rattle.support.specs.Interned.{IsDistinctList}
-use Rattle.llvm_core.specs.Form.{IsOperandOf, IsOperand, IsShortInt, result_of, HasNoResult, IsFormInstruction, is_last, is_terminator, HasPhisFirst, IsFormBlock, IsFormFunction}
+use Rattle.llvm_core.specs.Form.{IsOperandOf, IsOperand, IsShortInt, IsShortResult, IsTarget, result_of, returns_void, is_void, types_of, IsReturning, IsFormRow, IsFormInstruction, IsFormPlaced, is_last, is_terminator, HasPhisFirst, IsFormBlock, IsFormFunction}
 use Rattle.ll_text.proofs.ListLaws.{found}
 use Rattle.ll_text.proofs.NumberLaws.{block_numbers, result_numbers}
-use Rattle.ll_text.proofs.PairLaws.{SameBlock, SameResult, OperandsAlike, EntriesAlike, CodeAlike, PlacedAlike, BlocksAlike, FunctionsAlike, placed_alike}
+use Rattle.ll_text.proofs.PairLaws.{SameBlock, SameResult, OperandsAlike, EntriesAlike, RowAlike, CodeAlike, PlacedAlike, BlocksAlike, FunctionsAlike, placed_alike}
 use Rattle.ll_text.proofs.ZipLaws.{zip_length, zip_right, zip_left}
 use Rattle.ll_text.proofs.AlikeEdges.{unmapped_at, mapped_at, target_alike, fits_alike}
 
@@ -100,63 +106,76 @@ module _ (g h : L.Function) (alike : FunctionsAlike g h) (here : IsDistinctList 
 
   -- ---- instructions
 
-  no_result : (p q : Placed) → PlacedAlike g h p q → HasNoResult p → HasNoResult q
-  no_result p q x s = record { type = sym x.type ∙ s.type; name = sym x.name ∙ s.name }
-
-  plain_name : (p q : Placed) → PlacedAlike g h p q → IsPlainOrNone p.name → IsPlainOrNone q.name
-  plain_name p q x s = subst IsPlainOrNone x.name s
-
   returned : result_of g.type ≡ result_of h.type
   returned = ap result_of alike.type
 
-  form_alike : (a b : ℕ) (p q : Placed) (x y : Instruction) → SameBlock g h a b → PlacedAlike g h p q → CodeAlike g h x y → IsFormInstruction g a p x → IsFormInstruction h b q y
-  form_alike a b p q (Add l r flags) y at pair code s =
-      subst (IsFormInstruction h b q) (sym code.2)
-      (subst (λ (t : TypeTree). IsOperand h t code.0) pair.type (operand_alike p.type l code.0 code.3 s.0), subst (λ (t : TypeTree). IsOperand h t code.1) pair.type (operand_alike p.type r code.1 code.4 s.1), plain_name p q pair s.2)
-  form_alike a b p q (ICmp l r predicate) y at pair code s =
-      let both = s.0 in
-      subst (IsFormInstruction h b q) (sym code.2)
-      ((both.0, operand_alike both.0 l code.0 code.3 both.1, operand_alike both.0 r code.1 code.4 both.2), sym pair.type ∙ s.1, plain_name p q pair s.2)
-  form_alike a b p q (Phi es) y at pair code s =
-      let operands = each_alike (EntriesAlike g h) (λ (e : Operand × ℕ). IsOperand g p.type e.0) (λ (e : Operand × ℕ). IsOperand h q.type e.0)
-      (λ v w e t. subst (λ (t : TypeTree). IsOperand h t w.0) pair.type (operand_alike p.type v.0 w.0 e.0 t)) es code.0 code.2 s.0 in
-      subst (IsFormInstruction h b q) (sym code.1)
-      (operands, fits_alike g h alike here there left a b es code.0 at code.2 s.1, subst IsShortInt pair.type s.2, plain_name p q pair s.3)
-  form_alike a b p q (Br t) y at pair code s =
-      subst (IsFormInstruction h b q) (sym code.1) (target_alike g h alike here there t code.0 code.2 s.0, no_result p q pair s.1)
-  form_alike a b p q (CondBr o t u) y at pair code s =
-      subst (IsFormInstruction h b q) (sym code.3)
-      (operand_alike (IntType 1) o code.0 code.4 s.0, target_alike g h alike here there t code.1 code.5 s.1, target_alike g h alike here there u code.2 code.6 s.2, no_result p q pair s.3)
-  form_alike a b p q (Return None) y at pair code s = subst (IsFormInstruction h b q) (sym code) (sym returned ∙ s.0, no_result p q pair s.1)
-  form_alike a b p q (Return (Some o)) y at pair code s =
-      subst (IsFormInstruction h b q) (sym code.1) (subst (λ (t : TypeTree). IsOperand h t code.0) returned (operand_alike (result_of g.type) o code.0 code.2 s.0), no_result p q pair s.1)
-  form_alike a b p q Unreachable y at pair code s = subst (IsFormInstruction h b q) (sym code) (no_result p q pair s)
+  types_same : (os ps : List Operand) → AllZip (OperandsAlike g h) os ps → types_of g os ≡ types_of h ps
+  types_same [] [] pairs = refl
+  types_same [] (p ∷ ps) pairs = elim pairs [ ]
+  types_same (o ∷ os) [] pairs = elim pairs [ ]
+  types_same (o ∷ os) (p ∷ ps) pairs = let one = types_alike o p pairs.0 in let more = types_same os ps pairs.1 in cc (one, more)
+
+  -- a line for each word
+  returning_alike : (takes : Takes) (os ps : List Operand) → AllZip (OperandsAlike g h) os ps → IsReturning takes g os → IsReturning takes h ps
+  returning_alike O.Nothing os ps pairs s = tt
+  returning_alike (O.One x) os ps pairs s = tt
+  returning_alike (O.Two x y) os ps pairs s = tt
+  returning_alike (O.Three x y z) os ps pairs s = tt
+  returning_alike O.Return os ps pairs s =
+      each_alike (OperandsAlike g h) (λ (o : Operand). operand_type g o ≡ result_of g.type) (λ (p : Operand). operand_type h p ≡ result_of h.type) (λ o p x e. sym (types_alike o p x) ∙ e ∙ returned) os ps pairs s
+
+  row_alike : (t : TypeTree) (r s : RowData) → RowAlike g h r s → IsFormRow g t r → IsFormRow h t s
+  row_alike t r s pair form =
+      let op = pair.op in
+      let written = pair.written in
+      let types = types_same r.operands s.operands pair.operands in
+      let fits : fits_trees r.op r.written (types_of g r.operands) ≡ fits_trees s.op s.written (types_of h s.operands) = λ i. fits_trees (op i) (written i) (types i) in
+      let result : unwrap_or (typed r.op r.written (types_of g r.operands)) VoidType ≡ unwrap_or (typed s.op s.written (types_of h s.operands)) VoidType = λ i. unwrap_or (typed (op i) (written i) (types i)) VoidType in
+      let count : operand_count (rule_of r.op).takes (returns_void g) ≡ operand_count (rule_of s.op).takes (returns_void h) = λ i. operand_count (rule_of (op i)).takes (is_void (returned i)) in
+      record {
+        operands = each_alike (OperandsAlike g h) (IsOperandOf g) (IsOperandOf h) stands_alike r.operands s.operands pair.operands form.operands;
+        short = subst (All IsShortInt) types form.short;
+        count = sym (zip_length (OperandsAlike g h) r.operands s.operands pair.operands) ∙ form.count ∙ count;
+        fits = sym fits ∙ form.fits;
+        returns = subst (λ (x : Op). IsReturning (rule_of x).takes h s.operands) op (returning_alike (rule_of r.op).takes r.operands s.operands pair.operands form.returns);
+        result = form.result ∙ result;
+        targets = each_alike (SameBlock g h) (IsTarget g) (IsTarget h) (target_alike g h alike here there) r.targets s.targets pair.targets form.targets;
+        leads = sym (zip_length (SameBlock g h) r.targets s.targets pair.targets) ∙ form.leads ∙ ap (λ (x : Op). target_count (rule_of x).leads) op;
+      }
+
+  form_alike : (a b : ℕ) (t : TypeTree) (x y : Instruction) → SameBlock g h a b → CodeAlike g h x y → IsFormInstruction g a t x → IsFormInstruction h b t y
+  form_alike a b t (Phi es) (Phi ds) at code s =
+      let operands = each_alike (EntriesAlike g h) (λ (e : Operand × ℕ). IsOperand g t e.0) (λ (e : Operand × ℕ). IsOperand h t e.0) (λ v w e o. operand_alike t v.0 w.0 e.0 o) es ds code s.0 in
+      (operands, fits_alike g h alike here there left a b es ds at code s.1, s.2)
+  form_alike a b t (Applied r) (Applied q) at code s = row_alike t r q code s
+  form_alike a b t (Phi es) (Applied q) at code s = elim code [ ]
+  form_alike a b t (Applied r) (Phi ds) at code s = elim code [ ]
+
+  placed_form : (a b : ℕ) (p q : Placed) → SameBlock g h a b → PlacedAlike g h p q → IsFormPlaced g a p → IsFormPlaced h b q
+  placed_form a b p q at pair form = record {
+    instruction = subst (λ (t : TypeTree). IsFormInstruction h b t q.instruction) pair.type (form_alike a b p.type p.instruction q.instruction at pair.code form.instruction);
+    short = subst IsShortResult pair.type form.short;
+    name = subst IsPlainOrNone pair.name form.name;
+    unnamed = λ void. sym pair.name ∙ form.unnamed (pair.type ∙ void);
+  }
 
   -- ---- blocks
 
   last_same : (x y : Instruction) → CodeAlike g h x y → is_terminator x ≡ is_terminator y
-  last_same (Add l r flags) y p = sym (ap is_terminator p.2)
-  last_same (ICmp l r predicate) y p = sym (ap is_terminator p.2)
-  last_same (Phi es) y p = sym (ap is_terminator p.1)
-  last_same (Br t) y p = sym (ap is_terminator p.1)
-  last_same (CondBr o t u) y p = sym (ap is_terminator p.3)
-  last_same (Return None) y p = sym (ap is_terminator p)
-  last_same (Return (Some o)) y p = sym (ap is_terminator p.1)
-  last_same Unreachable y p = sym (ap is_terminator p)
+  last_same (Phi es) (Phi ds) p = refl
+  last_same (Applied r) (Applied q) p = ap (λ (x : Op). ends (rule_of x).leads) p.op
+  last_same (Phi es) (Applied q) p = elim p [ ]
+  last_same (Applied r) (Phi ds) p = elim p [ ]
 
   -- what tells a phi
   abbrev tells_phi : Instruction → Bool
   tells_phi x = is_some (L.phi_entries x)
 
   phi_same : (x y : Instruction) → CodeAlike g h x y → tells_phi x ≡ tells_phi y
-  phi_same (Add l r flags) y p = sym (ap tells_phi p.2)
-  phi_same (ICmp l r predicate) y p = sym (ap tells_phi p.2)
-  phi_same (Phi es) y p = sym (ap tells_phi p.1)
-  phi_same (Br t) y p = sym (ap tells_phi p.1)
-  phi_same (CondBr o t u) y p = sym (ap tells_phi p.3)
-  phi_same (Return None) y p = sym (ap tells_phi p)
-  phi_same (Return (Some o)) y p = sym (ap tells_phi p.1)
-  phi_same Unreachable y p = sym (ap tells_phi p)
+  phi_same (Phi es) (Phi ds) p = refl
+  phi_same (Applied r) (Applied q) p = refl
+  phi_same (Phi es) (Applied q) p = elim p [ ]
+  phi_same (Applied r) (Phi ds) p = elim p [ ]
 
   phis_alike : (ps qs : List Placed) → AllZip (PlacedAlike g h) ps qs → HasPhisFirst ps → HasPhisFirst qs
   phis_alike ps qs each first i j x y less at also none =
@@ -167,8 +186,7 @@ module _ (g h : L.Function) (alike : FunctionsAlike g h) (here : IsDistinctList 
   block_alike : (c d : Block) → BlocksAlike g h c d → IsFormBlock g c → IsFormBlock h d
   block_alike c d pair form = record {
     label = subst IsPlainOrNone pair.name form.label;
-    instructions = each_alike (PlacedAlike g h) (λ (p : Placed). IsFormInstruction g c.number p p.instruction) (λ (q : Placed). IsFormInstruction h d.number q q.instruction)
-        (λ p q x s. form_alike c.number d.number p q p.instruction q.instruction pair.number x x.code s) c.instructions d.instructions pair.instructions form.instructions;
+    instructions = each_alike (PlacedAlike g h) (IsFormPlaced g c.number) (IsFormPlaced h d.number) (λ p q x s. placed_form c.number d.number p q pair.number x s) c.instructions d.instructions pair.instructions form.instructions;
     phis = phis_alike c.instructions d.instructions pair.instructions form.phis;
     ends = sym (ends_same (PlacedAlike g h) is_last (λ p q x. last_same p.instruction q.instruction x.code) c.instructions d.instructions pair.instructions) ∙ form.ends;
   }

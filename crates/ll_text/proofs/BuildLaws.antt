@@ -1,6 +1,7 @@
 -- An instruction is built: what stood in the module stands, and its result does.
-use Rattle.std.proofs.Common.{◌≡◌, ℕ, ◌+◌, List, [], ◌∷◌, ◌++◌, Option, Some, None, length, length-append, slice_get, IsTrue, refl, ap, sym, ◌∙◌, subst, eq-eqb, arith}
+use Rattle.std.proofs.Common.{◌≡◌, ℕ, ◌+◌, Bool, true, if◌then◌else◌, All, List, [], ◌∷◌, ◌++◌, Option, Some, None, length, length-append, slice_get, IsTrue, refl, ap, sym, ◌∙◌, subst, eq-eqb, arith}
 use Rattle.std.specs.Option.{option_map, option_map_or}
+use Rattle.std.proofs.lemmas.List.Elements.{All-nil, All-cons}
 use Rattle.llvm_core.proofs.GrowLemmas.{types_more}
 use Rattle.llvm_core.specs.declared.numbers.LLVMType.{LLVMType}
 use Rattle.llvm_core.specs.declared.numbers.LLVMBasicBlock.{LLVMBasicBlock}
@@ -9,17 +10,23 @@ use Rattle.llvm_core.specs.declared.types.LLVMTypeKind.{LLVMTypeKind}
 use Rattle.llvm_core.specs.declared.types.LLVMTypeKind.TheVariants as T
 use Rattle.llvm_core.specs.declared.types.ResultType.{ResultType}
 use Rattle.llvm_core.specs.declared.types.ResultType.TheVariants as R
-use Rattle.llvm_core.specs.declared.code.LLVMIntPredicate.{LLVMIntPredicate}
+use Rattle.kinds.specs.declared.op.LLVMIntPredicate.{LLVMIntPredicate}
+use Rattle.kinds.specs.declared.op.Op.{Op}
+use Rattle.kinds.specs.declared.op.Op.TheVariants as O
+use Rattle.kinds.specs.declared.rules.Fit.TheVariants as F
+use Rattle.kinds.specs.declared.rules.Takes.{Takes}
+use Rattle.kinds.specs.declared.rules.Takes.TheVariants as K
+use Rattle.kinds.specs.Fitting.{takes_fit, view_shape, view_same}
 use Rattle.llvm_core.specs.declared.code.LLVMValue.{LLVMValue}
 use Rattle.llvm_core.specs.declared.code.LLVMValue.TheVariants as V
 use Rattle.llvm_core.specs.declared.code.LLVMInst.{LLVMInst}
 use Rattle.llvm_core.specs.declared.code.LLVMInst.TheVariants as I
-use Rattle.llvm_core.specs.declared.code.OverflowFlags.{OverflowFlags}
+use Rattle.kinds.specs.declared.op.OverflowFlags.{OverflowFlags}
 use Rattle.llvm_core.specs.declared.code.InstData.{InstData}
 use Rattle.llvm_core.specs.Module.{Module}
 use Rattle.llvm_core.specs.Code.{code_of, with_code, with_inst}
 use Rattle.llvm_core.specs.Sound.{IsModule}
-use Rattle.llvm_core.specs.Parts.{IsValue, IsResultType, both_type, is_phi, value_type, result_type}
+use Rattle.llvm_core.specs.Parts.{IsValue, IsBlock, IsResultType, view, is_phi, value_type, result_type}
 use Rattle.llvm_core.specs.Data.{TypeTree, IntType, VoidType, Placed, ModuleData, tree_of_result, trees_of, instruction_of, result_tree, data_of, with_instruction}
 use Rattle.support.proofs.ListLaws.{slice_get-kept, slice_get-push, length-with_change}
 use Rattle.llvm_core.proofs.DataLemmas.{int_tree_of}
@@ -193,22 +200,34 @@ end_added s i old mid new block n name inst only made said h number is named =
       };
     }
 
--- ---- operations
+-- ---- rows
+
+-- a row of these values that leads to these blocks, and writes no type beside its operands
+abbrev pub row : Op → List LLVMValue → List LLVMBasicBlock → LLVMInst
+row op operands targets = I.Row (record { op = op; written = None; operands = operands; targets = targets })
+
+abbrev pub two_types : Module → Takes → (a b : LLVMValue) → Bool
+two_types m takes a b = takes_fit view_shape view_same takes 2 None (option_map (view m.types) (value_type m a)) (option_map (view m.types) (value_type m b)) None
 
 -- two integers of one width are of one type
-both_int : (m : Module) (a b : LLVMValue) (w : ℕ) → IsModule m → (x : IsValueOf m a w) → IsValueOf m b w → both_type m.types (value_type m a) (value_type m b) ≡ Some x.type
-both_int m a b w sound x y =
+both_fit : (m : Module) (a b : LLVMValue) (w : ℕ) → IsModule m → IsValueOf m a w → IsValueOf m b w → two_types m (K.Two F.Number F.First) a b ≡ true
+both_fit m a b w sound x y =
     let same : x.type.0 ≡ y.type.0 = sound.types_once x.type.0 y.type.0 (T.Int w) x.int y.int in
     rw (x.typed, y.typed, eq-eqb x.type.0 y.type.0 same, x.int) refl
 
-pub add_gives : (m : Module) (a b : LLVMValue) (flags : OverflowFlags) (w : ℕ) → IsModule m → IsValueOf m a w → IsValueOf m b w → Gives m (I.Add a b flags) w
+-- values that a row names are there
+both_there : (m : Module) (a b : LLVMValue) → IsValue m a → IsValue m b → All (IsValue m) (a ∷ b ∷ [])
+both_there m a b x y = All-cons (IsValue m) a (b ∷ []) x (All-cons (IsValue m) b [] y (All-nil (IsValue m)))
+
+pub add_gives : (m : Module) (a b : LLVMValue) (flags : OverflowFlags) (w : ℕ) → IsModule m → IsValueOf m a w → IsValueOf m b w → Gives m (row (O.Add flags) (a ∷ b ∷ []) []) w
 add_gives m a b flags w sound x y = record {
-  values = (x.there, y.there);
-  result = subst (λ (o : Option LLVMType). IsResultOf m.types w (option_map R.There o)) (sym (both_int m a b w sound x y)) x.int;
+  values = (both_there m a b x.there y.there, All-nil (IsBlock m), tt);
+  result = subst (λ (t : Bool). IsResultOf m.types w (if t then option_map R.There (value_type m a) else None)) (sym (both_fit m a b w sound x y))
+      (subst (λ (o : Option LLVMType). IsResultOf m.types w (option_map R.There o)) (sym x.typed) x.int);
 }
 
-pub icmp_gives : (m : Module) (a b : LLVMValue) (p : LLVMIntPredicate) (w : ℕ) → IsModule m → IsValueOf m a w → IsValueOf m b w → Gives m (I.ICmp a b p) 1
+pub icmp_gives : (m : Module) (a b : LLVMValue) (p : LLVMIntPredicate) (w : ℕ) → IsModule m → IsValueOf m a w → IsValueOf m b w → Gives m (row (O.ICmp p) (a ∷ b ∷ []) []) 1
 icmp_gives m a b p w sound x y = record {
-  values = (x.there, y.there);
-  result = subst (λ (o : Option LLVMType). IsResultOf m.types 1 (option_map (λ _. R.Bit) o)) (sym (both_int m a b w sound x y)) refl;
+  values = (both_there m a b x.there y.there, All-nil (IsBlock m), tt);
+  result = subst (λ (t : Bool). IsResultOf m.types 1 (if t then Some R.Bit else None)) (sym (both_fit m a b w sound x y)) refl;
 }

@@ -1,5 +1,5 @@
 -- What stands in a module stands where an operand of an instruction changes, or a phi gets an entry.
-use Rattle.std.proofs.Common.{◌≡◌, ◌≢◌, ℕ, zero, suc, Bool, true, false, nat_eq, if◌then◌else◌, IsTrue, List, [], ◌∷◌, Option, Some, None, length, slice_get, map, refl, ap, sym, ◌∙◌, subst, eqb-true, eq-eqb, arith}
+use Rattle.std.proofs.Common.{◌≡◌, ◌≢◌, ℕ, Bool, true, false, nat_eq, IsTrue, List, [], ◌∷◌, Option, Some, None, length, slice_get, map, refl, ap, sym, ◌∙◌, subst, eqb-true, eq-eqb, arith}
 use Rattle.std.specs.Option.{option_map}
 use Rattle.std.proofs.lemmas.List.{map-append}
 use Rattle.std.proofs.lemmas.Option.{slice_get-map, same_Some}
@@ -16,7 +16,7 @@ use Rattle.llvm_core.specs.Module.{Module}
 use Rattle.llvm_core.specs.Code.{code_of, with_code, with_operand, with_entry, with_changed_inst}
 use Rattle.llvm_core.specs.Parts.{IsValue, TakesOperand, operands, is_phi, value_type}
 use Rattle.llvm_core.specs.Sound.{IsModule}
-use Rattle.support.proofs.ListLaws.{slice_get-kept, length-with_change}
+use Rattle.support.proofs.ListLaws.{slice_get-kept, slice_get-set_same, slice_get-set_other, length-with_change}
 use Rattle.llvm_core.proofs.ChangeLemmas.{slice_get-changed, slice_get-unchanged}
 use Rattle.ll_text.specs.Building.{IsValueOf, HasSlot, IsPhiAt, Keeps}
 
@@ -140,64 +140,16 @@ entry_other entries p q v w other h =
     ∙ sym (slice_get-map (λ (e : PhiEntry). e.value) entries p) ∙ h
 
 put_same : (inst : LLVMInst) (q : ℕ) (v w : LLVMValue) → slice_get (operands inst) q ≡ Some w → slice_get (operands (with_operand inst q v)) q ≡ Some v
-put_same (I.Add lhs rhs flags) zero v w h = refl
-put_same (I.Add lhs rhs flags) (suc zero) v w h = refl
-put_same (I.Add lhs rhs flags) (suc (suc q)) v w h = absurd cc
-put_same (I.ICmp lhs rhs predicate) zero v w h = refl
-put_same (I.ICmp lhs rhs predicate) (suc zero) v w h = refl
-put_same (I.ICmp lhs rhs predicate) (suc (suc q)) v w h = absurd cc
 put_same (I.Phi type entries) q v w h = entry_same entries q v w h
-put_same (I.Br target) q v w h = absurd cc
-put_same (I.CondBr condition first second) zero v w h = refl
-put_same (I.CondBr condition first second) (suc q) v w h = absurd cc
-put_same (I.Ret None) q v w h = absurd cc
-put_same (I.Ret (Some x)) zero v w h = refl
-put_same (I.Ret (Some x)) (suc q) v w h = absurd cc
-put_same I.Unreachable q v w h = absurd cc
+put_same (I.Row r) q v w h = slice_get-set_same r.operands q w v h
 
 put_other : (inst : LLVMInst) (p q : ℕ) (v u w : LLVMValue) → p ≢ q → slice_get (operands inst) q ≡ Some u → slice_get (operands inst) p ≡ Some w → slice_get (operands (with_operand inst q v)) p ≡ Some w
-put_other (I.Add lhs rhs flags) zero zero v u w other h k = absurd (other refl)
-put_other (I.Add lhs rhs flags) (suc p) zero v u w other h k = k
-put_other (I.Add lhs rhs flags) zero (suc zero) v u w other h k = k
-put_other (I.Add lhs rhs flags) zero (suc (suc q)) v u w other h k = absurd cc
-put_other (I.Add lhs rhs flags) (suc zero) (suc zero) v u w other h k = absurd (other refl)
-put_other (I.Add lhs rhs flags) (suc (suc p)) (suc zero) v u w other h k = absurd cc
-put_other (I.Add lhs rhs flags) (suc p) (suc (suc q)) v u w other h k = absurd cc
-put_other (I.ICmp lhs rhs predicate) zero zero v u w other h k = absurd (other refl)
-put_other (I.ICmp lhs rhs predicate) (suc p) zero v u w other h k = k
-put_other (I.ICmp lhs rhs predicate) zero (suc zero) v u w other h k = k
-put_other (I.ICmp lhs rhs predicate) zero (suc (suc q)) v u w other h k = absurd cc
-put_other (I.ICmp lhs rhs predicate) (suc zero) (suc zero) v u w other h k = absurd (other refl)
-put_other (I.ICmp lhs rhs predicate) (suc (suc p)) (suc zero) v u w other h k = absurd cc
-put_other (I.ICmp lhs rhs predicate) (suc p) (suc (suc q)) v u w other h k = absurd cc
 put_other (I.Phi type entries) p q v u w other h k = entry_other entries p q v w other k
-put_other (I.Br target) p q v u w other h k = absurd cc
-put_other (I.CondBr condition first second) zero zero v u w other h k = absurd (other refl)
-put_other (I.CondBr condition first second) (suc p) zero v u w other h k = absurd cc
-put_other (I.CondBr condition first second) p (suc q) v u w other h k = absurd cc
-put_other (I.Ret None) p q v u w other h k = absurd cc
-put_other (I.Ret (Some x)) zero zero v u w other h k = absurd (other refl)
-put_other (I.Ret (Some x)) (suc p) zero v u w other h k = absurd cc
-put_other (I.Ret (Some x)) p (suc q) v u w other h k = absurd cc
-put_other I.Unreachable p q v u w other h k = absurd cc
+put_other (I.Row r) p q v u w other h k = slice_get-set_other r.operands q p v other ∙ k
 
 phi_put : (inst : LLVMInst) (q : ℕ) (v : LLVMValue) → is_phi (with_operand inst q v) ≡ is_phi inst
-phi_put (I.Add lhs rhs flags) q v = by (nat_eq q 0)
-  where
-    by : (b : Bool) → is_phi (if b then I.Add v rhs flags else I.Add lhs v flags) ≡ false
-    by true = refl
-    by false = refl
-phi_put (I.ICmp lhs rhs predicate) q v = by (nat_eq q 0)
-  where
-    by : (b : Bool) → is_phi (if b then I.ICmp v rhs predicate else I.ICmp lhs v predicate) ≡ false
-    by true = refl
-    by false = refl
 phi_put (I.Phi type entries) q v = refl
-phi_put (I.Br target) q v = refl
-phi_put (I.CondBr condition first second) q v = refl
-phi_put (I.Ret None) q v = refl
-phi_put (I.Ret (Some x)) q v = refl
-phi_put I.Unreachable q v = refl
+phi_put (I.Row r) q v = refl
 
 -- a value of the type of another is of its width
 as_wide : (m : Module) (u v : LLVMValue) (w : ℕ) → value_type m u ≡ value_type m v → IsValue m v → IsValueOf m u w → IsValueOf m v w
@@ -225,23 +177,13 @@ operand_keeps old new i q v is sound takes there =
 -- ---- an entry of a phi
 
 entry_kept : (inst : LLVMInst) (e : PhiEntry) (p : ℕ) (v : LLVMValue) → slice_get (operands inst) p ≡ Some v → slice_get (operands (with_entry inst e)) p ≡ Some v
-entry_kept (I.Add lhs rhs flags) e p v h = h
-entry_kept (I.ICmp lhs rhs predicate) e p v h = h
 entry_kept (I.Phi type entries) e p v h =
     ap (λ (vs : List LLVMValue). slice_get vs p) (map-append (λ (e : PhiEntry). e.value) entries (e ∷ [])) ∙ slice_get-kept (map (λ (e : PhiEntry). e.value) entries) (e.value ∷ []) p v h
-entry_kept (I.Br target) e p v h = h
-entry_kept (I.CondBr condition first second) e p v h = h
-entry_kept (I.Ret x) e p v h = h
-entry_kept I.Unreachable e p v h = h
+entry_kept (I.Row r) e p v h = h
 
 phi_kept : (inst : LLVMInst) (e : PhiEntry) → is_phi (with_entry inst e) ≡ is_phi inst
-phi_kept (I.Add lhs rhs flags) e = refl
-phi_kept (I.ICmp lhs rhs predicate) e = refl
 phi_kept (I.Phi type entries) e = refl
-phi_kept (I.Br target) e = refl
-phi_kept (I.CondBr condition first second) e = refl
-phi_kept (I.Ret x) e = refl
-phi_kept I.Unreachable e = refl
+phi_kept (I.Row r) e = refl
 
 pub entry_keeps : (old new : Module) (i : LLVMInstRef) (e : PhiEntry) → Changes old new i (λ inst. with_entry inst e) → IsModule new → Keeps old new
 entry_keeps old new i e is sound =

@@ -1,6 +1,7 @@
 -- An instruction that is filled in is the one that a text says.
-use Rattle.std.proofs.Common.{◌≡◌, ℕ, ◌⊎◌, inl, inr, Bool, true, false, List, [], ◌∷◌, Option, Some, None, refl, ap, sym, ◌∙◌, subst, eqb-true, nat_eq, if◌then◌else◌}
+use Rattle.std.proofs.Common.{◌≡◌, ℕ, zero, suc, ◌⊎◌, inl, inr, Bool, true, false, List, [], ◌∷◌, slice_get, slice_set, Option, Some, None, refl, ap, sym, ◌∙◌, subst, eqb-true, nat_eq, if◌then◌else◌}
 use Rattle.std.specs.Option.{option_map}
+use Rattle.std.proofs.lemmas.Option.{same_Some}
 use Rattle.ll_text.proofs.PlainLaws.{mapped}
 use Rattle.ll_tree.proofs.Steps.{bind_some}
 use Rattle.llvm_core.specs.declared.numbers.LLVMType.{LLVMType}
@@ -11,9 +12,10 @@ use Rattle.llvm_core.specs.Module.{Module}
 use Rattle.llvm_core.specs.Names.{is_plain}
 use Rattle.llvm_core.specs.Parts.{IsValue, TakesOperand, value_type}
 use Rattle.llvm_core.specs.Data as L
-use Rattle.llvm_core.specs.Data.{TypeTree, IntType, Operand, Constant, Parameter, Result, Instruction, ModuleData, with_operand, with_changed, data_of}
-use Rattle.llvm_core.specs.declared.code.OverflowFlags.{OverflowFlags}
-use Rattle.llvm_core.specs.declared.code.LLVMIntPredicate.{LLVMIntPredicate}
+use Rattle.llvm_core.specs.Data.{TypeTree, IntType, Operand, Constant, Parameter, Result, Instruction, ModuleData}
+use Rattle.kinds.specs.declared.op.Op.{Op}
+use Rattle.kinds.specs.declared.op.Op.TheVariants as O
+use Rattle.ll_text.specs.Rows as Rows
 use Rattle.ll_tree.specs.Text.{Text, const_value}
 use Rattle.ll_tree.specs.Tree.{is_local, Add, ICmp, Phi, Incoming, ReturnVoid, Return, Br, CondBr, Unreachable}
 use Rattle.ll_tree.specs.Chain.{◌>>=◌}
@@ -88,30 +90,20 @@ put_data s n place t o old new e is = is ∙ ap (λ (r : Option ℕ). changed ol
 pub none_put : (d : ModuleData) (n place : ℕ) → d ≡ changed d (at_number n (put_result place None))
 none_put d n place = changed_by_none d n (put_result place None) (λ i. refl)
 
--- ---- both kinds of operations
+-- ---- rows
 
-fill_first : (s : Scope) (w : ℕ) (t : Text) (x b : Operand) (f : OverflowFlags) → value_of is_plain 64 s w t ≡ Some x → put_result 0 (result_of s t) (L.Add (open_operand w x) b f) ≡ L.Add x b f
-fill_first s w t x b f h = elim (filled s w t x h) [
-  | inl r ↦ ap (λ o. put_result 0 o (L.Add (open_operand w x) b f)) r.1 ∙ ap (λ (o : Operand). L.Add o b f) (sym r.2)
-  | inr r ↦ ap (λ o. put_result 0 o (L.Add (open_operand w x) b f)) r.0 ∙ ap (λ (o : Operand). L.Add o b f) r.1
-]
+-- an item put where it stands
+set_there : {X : Type 0} (xs : List X) (i : ℕ) (x : X) → slice_get xs i ≡ Some x → slice_set xs i x ≡ xs
+set_there {X = X} [] i x h = refl
+set_there {X = X} (y ∷ xs) zero x h = ap (λ (z : X). z ∷ xs) (sym (same_Some y x h))
+set_there {X = X} (y ∷ xs) (suc i) x h = ap (λ (zs : List X). y ∷ zs) (set_there xs i x h)
 
-fill_second : (s : Scope) (w : ℕ) (t : Text) (a x : Operand) (f : OverflowFlags) → value_of is_plain 64 s w t ≡ Some x → put_result 1 (result_of s t) (L.Add a (open_operand w x) f) ≡ L.Add a x f
-fill_second s w t a x f h = elim (filled s w t x h) [
-  | inl r ↦ ap (λ o. put_result 1 o (L.Add a (open_operand w x) f)) r.1 ∙ ap (λ (o : Operand). L.Add a o f) (sym r.2)
-  | inr r ↦ ap (λ o. put_result 1 o (L.Add a (open_operand w x) f)) r.0 ∙ ap (λ (o : Operand). L.Add a o f) r.1
-]
-
-compare_first : (s : Scope) (w : ℕ) (t : Text) (x b : Operand) (p : LLVMIntPredicate) → value_of is_plain 64 s w t ≡ Some x → put_result 0 (result_of s t) (L.ICmp (open_operand w x) b p) ≡ L.ICmp x b p
-compare_first s w t x b p h = elim (filled s w t x h) [
-  | inl r ↦ ap (λ o. put_result 0 o (L.ICmp (open_operand w x) b p)) r.1 ∙ ap (λ (o : Operand). L.ICmp o b p) (sym r.2)
-  | inr r ↦ ap (λ o. put_result 0 o (L.ICmp (open_operand w x) b p)) r.0 ∙ ap (λ (o : Operand). L.ICmp o b p) r.1
-]
-
-compare_second : (s : Scope) (w : ℕ) (t : Text) (a x : Operand) (p : LLVMIntPredicate) → value_of is_plain 64 s w t ≡ Some x → put_result 1 (result_of s t) (L.ICmp a (open_operand w x) p) ≡ L.ICmp a x p
-compare_second s w t a x p h = elim (filled s w t x h) [
-  | inl r ↦ ap (λ o. put_result 1 o (L.ICmp a (open_operand w x) p)) r.1 ∙ ap (λ (o : Operand). L.ICmp a o p) (sym r.2)
-  | inr r ↦ ap (λ o. put_result 1 o (L.ICmp a (open_operand w x) p)) r.0 ∙ ap (λ (o : Operand). L.ICmp a o p) r.1
+-- where an operand waits for a value, the value is put
+row_filled : (s : Scope) (w : ℕ) (t : Text) (x : Operand) (op : Op) (os : List Operand) (ts : List ℕ) (place : ℕ) → value_of is_plain 64 s w t ≡ Some x → slice_get os place ≡ Some (open_operand w x)
+    → put_result place (result_of s t) (Rows.row op os ts) ≡ Rows.row op (slice_set os place x) ts
+row_filled s w t x op os ts place h at = elim (filled s w t x h) [
+  | inl r ↦ ap (λ o. put_result place o (Rows.row op os ts)) r.1 ∙ ap (λ (o : Operand). Rows.row op (slice_set os place o) ts) (sym r.2)
+  | inr r ↦ ap (λ o. put_result place o (Rows.row op os ts)) r.0 ∙ ap (λ (ps : List Operand). Rows.row op ps ts) (sym (set_there os place x (at ∙ ap (λ (o : Operand). Some o) r.1)))
 ]
 
 -- the change of an operation
@@ -133,6 +125,11 @@ open_sides s w lhs rhs f c h =
     let y = mapped (open_operand w) (value_of is_plain 64 s w rhs) b.0 b.1 in
     (record { left = x.0; left_says = x.1; right = y.0; right_says = y.1 }, subst (λ u. f (open_operand w x.0) u ≡ Some c) (sym y.2) (subst (λ u. f u b.0 ≡ Some c) (sym x.2) b.2))
 
+sides_filled : (s : Scope) (w : ℕ) (lhs rhs : Text) (op : Op) (o : OpenSides s w lhs rhs) → put_both s lhs rhs (Rows.row op (open_operand w o.left ∷ open_operand w o.right ∷ []) []) ≡ Rows.row op (o.left ∷ o.right ∷ []) []
+sides_filled s w lhs rhs op o =
+    ap (put_result 1 (result_of s rhs)) (row_filled s w lhs o.left op (open_operand w o.left ∷ open_operand w o.right ∷ []) [] 0 o.left_says refl)
+    ∙ row_filled s w rhs o.right op (o.left ∷ open_operand w o.right ∷ []) [] 1 o.right_says refl
+
 pub add_turns : (s : Scope) (name : Option Text) (nuw nsw : Bool) (type lhs rhs : Text) → Turns s (Add name nuw nsw type lhs rhs) (put_both s lhs rhs)
 unfolding open_inst inst_data
 add_turns s name nuw nsw type lhs rhs = record {
@@ -140,10 +137,8 @@ add_turns s name nuw nsw type lhs rhs = record {
       let w = bind_some (int_width is_plain 64 type) _ said h in
       let sides = open_sides s w.0 lhs rhs _ said w.2 in
       let o = sides.0 in
-      let f : OverflowFlags = record { nuw = nuw; nsw = nsw } in
-      let is : (IntType w.0, L.Add (open_operand w.0 o.left) (open_operand w.0 o.right) f) ≡ said = cc (sides.1) in
-      let done : put_both s lhs rhs (L.Add (open_operand w.0 o.left) (open_operand w.0 o.right) f) ≡ L.Add o.left o.right f =
-      (ap (put_result 1 (result_of s rhs)) (fill_first s w.0 lhs o.left (open_operand w.0 o.right) f o.left_says) ∙ fill_second s w.0 rhs o.left o.right f o.right_says) in
+      let is : (IntType w.0, Rows.add nuw nsw (open_operand w.0 o.left) (open_operand w.0 o.right)) ≡ said = cc (sides.1) in
+      let done = sides_filled s w.0 lhs rhs (O.Add (record { nuw = nuw; nsw = nsw })) o in
       subst (λ (d : TypeTree × Instruction). inst_data is_plain 64 s (Add name nuw nsw type lhs rhs) ≡ Some (d.0, put_both s lhs rhs d.1)) is
       (some_bound (int_width is_plain 64 type) _ w.0 _ w.1 (some_bound (value_of is_plain 64 s w.0 lhs) _ o.left _ o.left_says (some_bound (value_of is_plain 64 s w.0 rhs) _ o.right _ o.right_says
       (ap (λ (i : Instruction). Some (IntType w.0, i)) (sym done)))));
@@ -157,9 +152,8 @@ icmp_turns s name predicate type lhs rhs = record {
       let sides = open_sides s w.0 lhs rhs _ said w.2 in
       let o = sides.0 in
       let p = bind_some (predicate_of predicate) _ said sides.1 in
-      let is : (IntType 1, L.ICmp (open_operand w.0 o.left) (open_operand w.0 o.right) p.0) ≡ said = cc (p.2) in
-      let done : put_both s lhs rhs (L.ICmp (open_operand w.0 o.left) (open_operand w.0 o.right) p.0) ≡ L.ICmp o.left o.right p.0 =
-      (ap (put_result 1 (result_of s rhs)) (compare_first s w.0 lhs o.left (open_operand w.0 o.right) p.0 o.left_says) ∙ compare_second s w.0 rhs o.left o.right p.0 o.right_says) in
+      let is : (IntType 1, Rows.icmp p.0 (open_operand w.0 o.left) (open_operand w.0 o.right)) ≡ said = cc (p.2) in
+      let done = sides_filled s w.0 lhs rhs (O.ICmp p.0) o in
       subst (λ (d : TypeTree × Instruction). inst_data is_plain 64 s (ICmp name predicate type lhs rhs) ≡ Some (d.0, put_both s lhs rhs d.1)) is
       (some_bound (int_width is_plain 64 type) _ w.0 _ w.1 (some_bound (value_of is_plain 64 s w.0 lhs) _ o.left _ o.left_says (some_bound (value_of is_plain 64 s w.0 rhs) _ o.right _ o.right_says
       (some_bound (predicate_of predicate) _ p.0 _ p.1 (ap (λ (i : Instruction). Some (IntType 1, i)) (sym done))))));
@@ -188,11 +182,8 @@ return_turns s type value = record {
       let w = bind_some (int_width is_plain 64 type) _ said h in
       let a = bind_some (open_value s w.0 value) _ said w.2 in
       let x = mapped (open_operand w.0) (value_of is_plain 64 s w.0 value) a.0 a.1 in
-      let is : L.Return (Some (open_operand w.0 x.0)) ≡ said = ap (λ (o : Operand). L.Return (Some o)) x.2 ∙ (let e : L.Return (Some a.0) ≡ said = cc (a.2) in e) in
-      let done : put_result 0 (result_of s value) (L.Return (Some (open_operand w.0 x.0))) ≡ L.Return (Some x.0) = elim (filled s w.0 value x.0 x.1) [
-        | inl r ↦ ap (λ o. put_result 0 o (L.Return (Some (open_operand w.0 x.0)))) r.1 ∙ ap (λ (o : Operand). L.Return (Some o)) (sym r.2)
-        | inr r ↦ ap (λ o. put_result 0 o (L.Return (Some (open_operand w.0 x.0)))) r.0 ∙ ap (λ (o : Operand). L.Return (Some o)) r.1
-      ] in
+      let is : Rows.return_of (open_operand w.0 x.0) ≡ said = ap (λ (o : Operand). Rows.return_of o) x.2 ∙ same_Some (Rows.return_of a.0) said a.2 in
+      let done = row_filled s w.0 value x.0 O.Ret (open_operand w.0 x.0 ∷ []) [] 0 x.1 refl in
       subst (λ (i : Instruction). terminator_data is_plain 64 s (Return type value) ≡ Some (put_result 0 (result_of s value) i)) is
       (some_bound (int_width is_plain 64 type) _ w.0 _ w.1 (some_bound (value_of is_plain 64 s w.0 value) _ x.0 _ x.1 (ap Some (sym done))));
 }
@@ -206,11 +197,8 @@ cond_turns s type condition first second = record {
       let b = bind_some (block_of is_plain 64 s first) _ said a.2 in
       let c = bind_some (block_of is_plain 64 s second) _ said b.2 in
       let x = mapped (open_operand w.0) (value_of is_plain 64 s w.0 condition) a.0 a.1 in
-      let is : L.CondBr (open_operand w.0 x.0) b.0 c.0 ≡ said = ap (λ (o : Operand). L.CondBr o b.0 c.0) x.2 ∙ (let e : L.CondBr a.0 b.0 c.0 ≡ said = cc (c.2) in e) in
-      let done : put_result 0 (result_of s condition) (L.CondBr (open_operand w.0 x.0) b.0 c.0) ≡ L.CondBr x.0 b.0 c.0 = elim (filled s w.0 condition x.0 x.1) [
-        | inl r ↦ ap (λ o. put_result 0 o (L.CondBr (open_operand w.0 x.0) b.0 c.0)) r.1 ∙ ap (λ (o : Operand). L.CondBr o b.0 c.0) (sym r.2)
-        | inr r ↦ ap (λ o. put_result 0 o (L.CondBr (open_operand w.0 x.0) b.0 c.0)) r.0 ∙ ap (λ (o : Operand). L.CondBr o b.0 c.0) r.1
-      ] in
+      let is : Rows.cond_br (open_operand w.0 x.0) b.0 c.0 ≡ said = ap (λ (o : Operand). Rows.cond_br o b.0 c.0) x.2 ∙ same_Some (Rows.cond_br a.0 b.0 c.0) said c.2 in
+      let done = row_filled s w.0 condition x.0 O.CondBr (open_operand w.0 x.0 ∷ []) (b.0 ∷ c.0 ∷ []) 0 x.1 refl in
       subst (λ (i : Instruction). terminator_data is_plain 64 s (CondBr type condition first second) ≡ Some (put_result 0 (result_of s condition) i)) is
       (some_bound (bit_width (int_width is_plain 64 type)) _ w.0 _ w.1 (some_bound (value_of is_plain 64 s w.0 condition) _ x.0 _ x.1
       (some_bound (block_of is_plain 64 s first) _ b.0 _ b.1 (some_bound (block_of is_plain 64 s second) _ c.0 _ c.1 (ap Some (sym done))))));

@@ -10,6 +10,7 @@ use Rattle.support.specs.Interned.{IsDistinctList}
 use Rattle.llvm_core.specs.Data as L
 use Rattle.llvm_core.specs.Data.{TypeTree, VoidType, IntType, FunctionType, TypeTrees, NoTypes, ThenType, Operand, Placed, Block, ModuleData, operand_type, placed_in}
 use Rattle.llvm_core.specs.Form.{IsShortInt, IsShortResult, AreShortInts, operands_of, IsNarrowPlaced, IsNarrowBlock, IsNarrowFunction, IsNarrow}
+use Rattle.ll_text.specs.Rows as Rows
 use Rattle.ll_tree.specs.Text.{Text}
 use Rattle.ll_tree.specs.Tree as tree
 use Rattle.ll_tree.specs.Tree.{Incoming, Inst, Add, ICmp, Phi, Terminator, ReturnVoid, Return, Br, CondBr, Unreachable, Param, Function, File, blocks_of}
@@ -66,7 +67,7 @@ inst_narrow d s (Add name nuw nsw type lhs rhs) x known e =
     let a = bind_some (value_of is_plain 64 s w.0 lhs) _ x w.2 in
     let b = bind_some (value_of is_plain 64 s w.0 rhs) _ x a.2 in
     let short = short_width type w.0 w.1 in
-    pair_narrow d (IntType w.0, L.Add a.0 b.0 (record { nuw = nuw; nsw = nsw })) x b.2
+    pair_narrow d (IntType w.0, Rows.add nuw nsw a.0 b.0) x b.2
     (record { result = short; operands = (operand_narrow d s w.0 lhs a.0 known short a.1, (operand_narrow d s w.0 rhs b.0 known short b.1, tt)) })
 inst_narrow d s (ICmp name predicate type lhs rhs) x known e =
     let w = bind_some (int_width is_plain 64 type) _ x e in
@@ -74,7 +75,7 @@ inst_narrow d s (ICmp name predicate type lhs rhs) x known e =
     let b = bind_some (value_of is_plain 64 s w.0 rhs) _ x a.2 in
     let p = bind_some (predicate_of predicate) _ x b.2 in
     let short = short_width type w.0 w.1 in
-    pair_narrow d (IntType 1, L.ICmp a.0 b.0 p.0) x p.2
+    pair_narrow d (IntType 1, Rows.icmp p.0 a.0 b.0) x p.2
     (record { result = (omega arith, omega arith); operands = (operand_narrow d s w.0 lhs a.0 known short a.1, (operand_narrow d s w.0 rhs b.0 known short b.1, tt)) })
 inst_narrow d s (Phi name type first more) x known e =
     let w = bind_some (int_width is_plain 64 type) _ x e in
@@ -87,19 +88,19 @@ code_narrow d x y e h = subst (HasNarrowOperands d) (same_Some x y e) h
 
 terminator_narrow : (d : L.Function) (s : Scope) (i : Terminator) (code : L.Instruction) → Holds (Typed d) s → terminator_data is_plain 64 s i ≡ Some code → HasNarrowOperands d code
 unfolding terminator_data
-terminator_narrow d s ReturnVoid code known e = code_narrow d (L.Return None) code e tt
+terminator_narrow d s ReturnVoid code known e = code_narrow d Rows.return_void code e tt
 terminator_narrow d s (Return type value) code known e =
     let w = bind_some (int_width is_plain 64 type) _ code e in
     let o = bind_some (value_of is_plain 64 s w.0 value) _ code w.2 in
-    code_narrow d (L.Return (Some o.0)) code o.2 (operand_narrow d s w.0 value o.0 known (short_width type w.0 w.1) o.1, tt)
-terminator_narrow d s (Br target) code known e = let b = bind_some (block_of is_plain 64 s target) _ code e in code_narrow d (L.Br b.0) code b.2 tt
+    code_narrow d (Rows.return_of o.0) code o.2 (operand_narrow d s w.0 value o.0 known (short_width type w.0 w.1) o.1, tt)
+terminator_narrow d s (Br target) code known e = let b = bind_some (block_of is_plain 64 s target) _ code e in code_narrow d (Rows.br b.0) code b.2 tt
 terminator_narrow d s (CondBr type condition first second) code known e =
     let w = bind_some (bit_width (int_width is_plain 64 type)) _ code e in
     let c = bind_some (value_of is_plain 64 s w.0 condition) _ code w.2 in
     let a = bind_some (block_of is_plain 64 s first) _ code c.2 in
     let b = bind_some (block_of is_plain 64 s second) _ code a.2 in
-    code_narrow d (L.CondBr c.0 a.0 b.0) code b.2 (operand_narrow d s w.0 condition c.0 known (one_bit (int_width is_plain 64 type) w.0 w.1) c.1, tt)
-terminator_narrow d s Unreachable code known e = code_narrow d L.Unreachable code e tt
+    code_narrow d (Rows.cond_br c.0 a.0 b.0) code b.2 (operand_narrow d s w.0 condition c.0 known (one_bit (int_width is_plain 64 type) w.0 w.1) c.1, tt)
+terminator_narrow d s Unreachable code known e = code_narrow d Rows.unreachable code e tt
 
 -- ---- blocks
 

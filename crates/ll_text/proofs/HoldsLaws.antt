@@ -8,6 +8,7 @@ use Rattle.ll_text.proofs.KnownLaws.{of_width}
 use Rattle.support.specs.Interned.{IsDistinctList}
 use Rattle.llvm_core.specs.Data as L
 use Rattle.llvm_core.specs.Data.{TypeTree, VoidType, IntType, FunctionType, TypeTrees, NoTypes, ThenType, Operand, Parameter, Result, Placed, Block, operand_type, nth_type, placed_in}
+use Rattle.ll_text.specs.Rows as Rows
 use Rattle.ll_tree.specs.Text.{Text, number_limit, const_value}
 use Rattle.ll_tree.specs.Tree as tree
 use Rattle.ll_tree.specs.Tree.{is_local, Inst, Add, ICmp, Phi, Param, Function, blocks_of}
@@ -143,7 +144,7 @@ module _ (is_name : Text → Bool) (widest : ℕ) where
       let a = bind_some (value_of is_name widest s v.0 lhs) _ (type, code) v.2 in
       let b = bind_some (value_of is_name widest s v.0 rhs) _ (type, code) a.2 in
       let same : Some v.0 ≡ Some w = sym v.1 ∙ f in
-      let is = some_pair_parts (IntType v.0) type (L.Add a.0 b.0 (record { nuw = nuw; nsw = nsw })) code b.2 in
+      let is = some_pair_parts (IntType v.0) type (Rows.add nuw nsw a.0 b.0) code b.2 in
       let first = is.0 in
       cc
   result_is s (ICmp name predicate ty lhs rhs) type code w e f =
@@ -151,7 +152,7 @@ module _ (is_name : Text → Bool) (widest : ℕ) where
       let a = bind_some (value_of is_name widest s v.0 lhs) _ (type, code) v.2 in
       let b = bind_some (value_of is_name widest s v.0 rhs) _ (type, code) a.2 in
       let p = bind_some (predicate_of predicate) _ (type, code) b.2 in
-      let is = some_pair_parts (IntType 1) type (L.ICmp a.0 b.0 p.0) code p.2 in
+      let is = some_pair_parts (IntType 1) type (Rows.icmp p.0 a.0 b.0) code p.2 in
       let first = is.0 in
       cc
   result_is s (Phi name ty one more) type code w e f =

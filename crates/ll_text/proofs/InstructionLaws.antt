@@ -1,19 +1,21 @@
 -- An instruction that is made is the one that a text says, but for results; and what is refused says none.
-use Rattle.std.proofs.Common.{◌≡◌, ◌<◌, ℕ, ◌⊎◌, inl, inr, Bool, false, List, [], Option, Some, None, Result, Ok, Err, OnOk, length, slice_get, refl, ap, sym, ◌∙◌, subst}
+use Rattle.std.proofs.Common.{◌≡◌, ◌<◌, ℕ, ◌⊎◌, inl, inr, Bool, true, false, if◌then◌else◌, All, List, [], ◌∷◌, Option, Some, None, Result, Ok, Err, OnOk, length, slice_get, refl, ap, sym, ◌∙◌, subst}
 use Rattle.std.specs.Option.{option_map}
-use Rattle.std.proofs.lemmas.List.Elements.{All-nil}
+use Rattle.std.proofs.lemmas.List.Elements.{All-nil, All-cons}
 use Rattle.std.proofs.lemmas.Option.{slice_get_within}
 use Rattle.llvm_core.specs.declared.numbers.LLVMType.{LLVMType}
 use Rattle.llvm_core.specs.declared.numbers.LLVMBasicBlock.{LLVMBasicBlock}
 use Rattle.llvm_core.specs.declared.types.LLVMTypeKind.TheVariants as T
+use Rattle.llvm_core.specs.declared.types.ResultType.{ResultType}
 use Rattle.llvm_core.specs.declared.code.LLVMValue.{LLVMValue}
 use Rattle.llvm_core.specs.declared.code.LLVMValue.TheVariants as V
 use Rattle.llvm_core.specs.declared.code.LLVMInst.TheVariants as I
-use Rattle.llvm_core.specs.declared.code.LLVMIntPredicate.{LLVMIntPredicate}
+use Rattle.kinds.specs.declared.op.LLVMIntPredicate.{LLVMIntPredicate}
+use Rattle.kinds.specs.declared.op.Op.TheVariants as O
 use Rattle.llvm_core.specs.Module.{Module}
 use Rattle.llvm_core.specs.Sound.{IsModule}
 use Rattle.llvm_core.specs.Names.{is_plain}
-use Rattle.llvm_core.specs.Parts.{IsEntry}
+use Rattle.llvm_core.specs.Parts.{IsValue, IsBlock, IsEntry, row_fits}
 use Rattle.llvm_core.specs.Data.{Operand, trees_of, operand_of}
 use Rattle.ll_tree.specs.Text.{Text}
 use Rattle.ll_tree.specs.Tree.{Add, ICmp, Phi, Incoming, ReturnVoid, Return, Br, CondBr, Unreachable}
@@ -25,7 +27,7 @@ use Rattle.ll_text.specs.Opening.{open_operand, open_value, open_inst, open_term
 use Rattle.ll_text.specs.Building.{IsValueOf, IsReady, IsLocalOf, IsTargetOf, OpensValue, IsMade, SaysInst, IsMadeEnd, SaysEnd}
 use Rattle.ll_text.proofs.OptionLaws.{some_bound, none_bound, not_bound}
 use Rattle.ll_text.proofs.ModuleLaws.{param_stands, target_stands}
-use Rattle.ll_text.proofs.BuildLaws.{add_gives, icmp_gives}
+use Rattle.ll_text.proofs.BuildLaws.{row, add_gives, icmp_gives}
 
 -- a fact that holds at Ok and at Err
 pub on_ok_of : {T E P : Type 0} (r : Result T E) → P → OnOk r P
@@ -51,7 +53,7 @@ operand_at m v w u x same = subst (IsValueOf m v) same x
 -- ---- add
 
 pub add_made : (name : Option Text) (nuw nsw : Bool) (type lhs rhs : Text) (w : ℕ) (m : Module) (a b : LLVMValue) → int_width is_plain 64 type ≡ Some w → IsModule m → IsValueOf m a w → IsValueOf m b w
-    → IsMade (Add name nuw nsw type lhs rhs) m (I.Add a b (record { nuw = nuw; nsw = nsw }))
+    → IsMade (Add name nuw nsw type lhs rhs) m (row (O.Add (record { nuw = nuw; nsw = nsw })) (a ∷ b ∷ []) [])
 add_made name nuw nsw type lhs rhs w m a b typed sound x y = record {
   width = w;
   written = typed;
@@ -60,7 +62,7 @@ add_made name nuw nsw type lhs rhs w m a b typed sound x y = record {
 }
 
 pub add_says : (s : Scope) (name : Option Text) (nuw nsw : Bool) (type lhs rhs : Text) (w : ℕ) (m : Module) (a b : LLVMValue) → int_width is_plain 64 type ≡ Some w → OpensValue s w lhs m a → OpensValue s w rhs m b
-    → SaysInst s (Add name nuw nsw type lhs rhs) m (I.Add a b (record { nuw = nuw; nsw = nsw }))
+    → SaysInst s (Add name nuw nsw type lhs rhs) m (row (O.Add (record { nuw = nuw; nsw = nsw })) (a ∷ b ∷ []) [])
 unfolding open_inst
 add_says s name nuw nsw type lhs rhs w m a b typed x y = record {
   width = w;
@@ -84,7 +86,7 @@ add_unvalued s name nuw nsw type lhs rhs w typed none = some_bound (int_width is
 -- ---- icmp
 
 pub icmp_made : (name : Option Text) (predicate type lhs rhs : Text) (w : ℕ) (p : LLVMIntPredicate) (m : Module) (a b : LLVMValue) → int_width is_plain 64 type ≡ Some w → IsModule m → IsValueOf m a w → IsValueOf m b w
-    → IsMade (ICmp name predicate type lhs rhs) m (I.ICmp a b p)
+    → IsMade (ICmp name predicate type lhs rhs) m (row (O.ICmp p) (a ∷ b ∷ []) [])
 icmp_made name predicate type lhs rhs w p m a b typed sound x y = record {
   width = 1;
   written = refl;
@@ -93,7 +95,7 @@ icmp_made name predicate type lhs rhs w p m a b typed sound x y = record {
 }
 
 pub icmp_says : (s : Scope) (name : Option Text) (predicate type lhs rhs : Text) (w : ℕ) (p : LLVMIntPredicate) (m : Module) (a b : LLVMValue) → int_width is_plain 64 type ≡ Some w → predicate_of predicate ≡ Some p → OpensValue s w lhs m a → OpensValue s w rhs m b
-    → SaysInst s (ICmp name predicate type lhs rhs) m (I.ICmp a b p)
+    → SaysInst s (ICmp name predicate type lhs rhs) m (row (O.ICmp p) (a ∷ b ∷ []) [])
 unfolding open_inst
 icmp_says s name predicate type lhs rhs w p m a b typed word x y = record {
   width = 1;
@@ -135,14 +137,25 @@ phi_untyped s name type first more none = none_bound (int_width is_plain 64 type
 
 -- ---- terminators
 
-pub void_says : (s : Scope) (m : Module) → SaysEnd s ReturnVoid m (I.Ret None)
+one_value : (m : Module) (v : LLVMValue) → IsValue m v → All (IsValue m) (v ∷ [])
+one_value m v x = All-cons (IsValue m) v [] x (All-nil (IsValue m))
+
+one_block : (m : Module) (b : LLVMBasicBlock) → IsBlock m b → All (IsBlock m) (b ∷ [])
+one_block m b x = All-cons (IsBlock m) b [] x (All-nil (IsBlock m))
+
+-- a row that gives nothing has no result, whether its operands fit or not
+none_either : (b : Bool) → (let none : Option ResultType = None in (if b then none else none) ≡ none)
+none_either true = refl
+none_either false = refl
+
+pub void_says : (s : Scope) (m : Module) → SaysEnd s ReturnVoid m (row O.Ret [] [])
 unfolding open_terminator
 void_says s m = record { says = refl }
 
-pub return_made : (type value : Text) (w : ℕ) (m : Module) (v : LLVMValue) → int_width is_plain 64 type ≡ Some w → IsValueOf m v w → IsMadeEnd (Return type value) m (I.Ret (Some v))
-return_made type value w m v typed x = record { values = x.there; void = refl; slots = λ u e. let same : w ≡ u = cc in record { value = v; at = refl; stands = operand_at m v w u x same } }
+pub return_made : (type value : Text) (w : ℕ) (m : Module) (v : LLVMValue) → int_width is_plain 64 type ≡ Some w → IsValueOf m v w → IsMadeEnd (Return type value) m (row O.Ret (v ∷ []) [])
+return_made type value w m v typed x = record { values = (one_value m v x.there, All-nil (IsBlock m), tt); void = refl; slots = λ u e. let same : w ≡ u = cc in record { value = v; at = refl; stands = operand_at m v w u x same } }
 
-pub return_says : (s : Scope) (type value : Text) (w : ℕ) (m : Module) (v : LLVMValue) → int_width is_plain 64 type ≡ Some w → OpensValue s w value m v → SaysEnd s (Return type value) m (I.Ret (Some v))
+pub return_says : (s : Scope) (type value : Text) (w : ℕ) (m : Module) (v : LLVMValue) → int_width is_plain 64 type ≡ Some w → OpensValue s w value m v → SaysEnd s (Return type value) m (row O.Ret (v ∷ []) [])
 unfolding open_terminator
 return_says s type value w m v typed x = record { says = some_bound (int_width is_plain 64 type) _ w _ typed (some_bound (open_value s w value) _ (operand_of (trees_of m) v) _ x.says refl) }
 
@@ -154,10 +167,10 @@ pub return_unvalued : (s : Scope) (type value : Text) (w : ℕ) → int_width is
 unfolding open_terminator
 return_unvalued s type value w typed none = some_bound (int_width is_plain 64 type) _ w None typed (none_bound (open_value s w value) _ (value_closed s w value none))
 
-pub br_made : (target : Text) (m : Module) (c : code.Scope) (b : LLVMBasicBlock) → IsReady false m c → IsTargetOf c target b → IsMadeEnd (Br target) m (I.Br b)
-br_made target m c b ready h = record { values = target_stands false m c target b ready h; void = refl; slots = tt }
+pub br_made : (target : Text) (m : Module) (c : code.Scope) (b : LLVMBasicBlock) → IsReady false m c → IsTargetOf c target b → IsMadeEnd (Br target) m (row O.Br [] (b ∷ []))
+br_made target m c b ready h = record { values = (All-nil (IsValue m), one_block m b (target_stands false m c target b ready h), tt); void = refl; slots = tt }
 
-pub br_says : (s : Scope) (target : Text) (m : Module) (b : LLVMBasicBlock) → block_of is_plain 64 s target ≡ Some b.0 → SaysEnd s (Br target) m (I.Br b)
+pub br_says : (s : Scope) (target : Text) (m : Module) (b : LLVMBasicBlock) → block_of is_plain 64 s target ≡ Some b.0 → SaysEnd s (Br target) m (row O.Br [] (b ∷ []))
 unfolding open_terminator
 br_says s target m b h = record { says = some_bound (block_of is_plain 64 s target) _ b.0 _ h refl }
 
@@ -165,11 +178,15 @@ pub br_untargeted : (s : Scope) (target : Text) → block_of is_plain 64 s targe
 unfolding open_terminator
 br_untargeted s target none = none_bound (block_of is_plain 64 s target) _ none
 
-pub cond_made : (type condition first second : Text) (w : ℕ) (m : Module) (v : LLVMValue) (a b : LLVMBasicBlock) → w ≡ 1 → IsValueOf m v w → a.0 < length m.blocks → b.0 < length m.blocks → IsMadeEnd (CondBr type condition first second) m (I.CondBr v a b)
-cond_made type condition first second w m v a b one x p q = record { values = (x.there, p, q); void = refl; slots = record { value = v; at = refl; stands = operand_at m v w 1 x one } }
+pub cond_made : (type condition first second : Text) (w : ℕ) (m : Module) (v : LLVMValue) (a b : LLVMBasicBlock) → w ≡ 1 → IsValueOf m v w → a.0 < length m.blocks → b.0 < length m.blocks → IsMadeEnd (CondBr type condition first second) m (row O.CondBr (v ∷ []) (a ∷ b ∷ []))
+cond_made type condition first second w m v a b one x p q = record {
+  values = (one_value m v x.there, All-cons (IsBlock m) a (b ∷ []) p (one_block m b q), tt);
+  void = none_either (row_fits m (record { op = O.CondBr; written = None; operands = v ∷ []; targets = a ∷ b ∷ [] }));
+  slots = record { value = v; at = refl; stands = operand_at m v w 1 x one };
+}
 
 pub cond_says : (s : Scope) (type condition first second : Text) (w : ℕ) (m : Module) (v : LLVMValue) (a b : LLVMBasicBlock) → bit_width (int_width is_plain 64 type) ≡ Some w → OpensValue s w condition m v → block_of is_plain 64 s first ≡ Some a.0 → block_of is_plain 64 s second ≡ Some b.0
-    → SaysEnd s (CondBr type condition first second) m (I.CondBr v a b)
+    → SaysEnd s (CondBr type condition first second) m (row O.CondBr (v ∷ []) (a ∷ b ∷ []))
 unfolding open_terminator
 cond_says s type condition first second w m v a b typed x p q = record {
   says = some_bound (bit_width (int_width is_plain 64 type)) _ w _ typed (some_bound (open_value s w condition) _ (operand_of (trees_of m) v) _ x.says
@@ -193,6 +210,6 @@ unfolding open_terminator
 cond_second s type condition first second none =
     not_bound (bit_width (int_width is_plain 64 type)) _ (λ w. not_bound (open_value s w condition) _ (λ c. not_bound (block_of is_plain 64 s first) _ (λ b. none_bound (block_of is_plain 64 s second) _ none)))
 
-pub unreachable_says : (s : Scope) (m : Module) → SaysEnd s Unreachable m I.Unreachable
+pub unreachable_says : (s : Scope) (m : Module) → SaysEnd s Unreachable m (row O.Unreachable [] [])
 unfolding open_terminator
 unreachable_says s m = record { says = refl }

@@ -1,32 +1,31 @@
 -- What is said by bare names and integers of any width, of a module of the form with a plain name, is said by plain names and narrow integers.
-use Rattle.std.proofs.Common.{◌≡◌, ℕ, suc, false, List, [], ◌∷◌, length, take, drop, ◌-◌, Option, Some, None, refl, ap, sym, ◌∙◌, subst, arith}
+use Rattle.std.proofs.Common.{◌≡◌, ℕ, suc, false, List, [], ◌∷◌, length, take, drop, ◌-◌, Option, Some, None, refl, ap, sym, ◌∙◌, subst}
 use Rattle.std.specs.List.{AllByRecursion}
 use Rattle.std.specs.Option.{option_map}
 use Rattle.std.proofs.lemmas.Option.{same_Some}
-use Rattle.std.proofs.lemmas.List.Elements.{recursion_from_All}
+use Rattle.std.proofs.lemmas.List.Elements.{recursion_from_All, All-head}
 use Rattle.ll_text.proofs.PlainLaws.{mapped}
-use Rattle.llvm_core.proofs.FormTypes.{short_result}
 use Rattle.ll_text.proofs.OptionLaws.{some_bound}
-use Rattle.llvm_core.specs.declared.code.OverflowFlags.{OverflowFlags}
 use Rattle.llvm_core.specs.Names.{is_plain, IsPlainOrNone}
 use Rattle.llvm_core.specs.Data as L
 use Rattle.llvm_core.specs.Data.{TypeTree, VoidType, IntType, FunctionType, TypeTrees, NoTypes, ThenType, Operand, Placed, Block, ModuleData, operand_type}
-use Rattle.llvm_core.specs.Form.{IsShortInt, IsShortResult, AreShortInts, IsOperand, result_of, IsFormInstruction, IsFormBlock, IsFormFunction, IsForm}
+use Rattle.llvm_core.specs.Form.{IsShortInt, IsShortResult, AreShortInts, types_of, IsFormInstruction, IsFormPlaced, IsFormBlock, IsFormFunction, IsForm}
 use Rattle.ll_tree.specs.Text.{Text, is_bare}
 use Rattle.ll_tree.specs.Tree as tree
 use Rattle.ll_tree.specs.Tree.{Incoming, Inst, Add, ICmp, Phi, Terminator, ReturnVoid, Return, Br, CondBr, Unreachable, Param, Function, File, blocks_of}
 use Rattle.ll_text.specs.Spelling.{widest}
+use Rattle.ll_text.specs.Rows as Rows
 use Rattle.ll_text.specs.Meaning.{ValueLocal, BlockLocal, Scope, empty_scope, bit_width, predicate_of, written_name, int_width, local_key, value_of, block_of, define_written, result_width, named_inst, AreNamed, NamesBlock, NameBlocks, entries_data, inst_data, terminator_data, AreInstructions, IsBlockOf, AreBlocks, param_data, result_data, AreParams, IsFunctionOf, AreFunctions, IsSource, IsFileOf}
 use Rattle.ll_tree.proofs.Steps.{bind_some}
-use Rattle.ll_text.proofs.ListLaws.{all_front, all_back, all_weaker}
+use Rattle.ll_text.proofs.ListLaws.{all_front, all_back}
 use Rattle.ll_text.proofs.HoldsLaws.{Holds, Typed, param_is, SaysBlock, SayBlocks, say_blocks, result_is, scope_typed, value_typed}
 use Rattle.ll_text.proofs.NarrowNames.{global_narrow, string_narrow, int_width_narrow, HasPlainKeys, no_keys, written_narrow, value_narrow, target_narrow, bit_narrow}
 
 -- ---- instructions
 
--- an operand of the form of that width is narrow
-width_short : (d : L.Function) (s : Scope) (w : ℕ) (t : Text) (o : Operand) (type : TypeTree) → Holds (Typed d) s → value_of is_bare widest s w t ≡ Some o → IsOperand d type o → IsShortInt (IntType w)
-width_short d s w t o type known e form = subst IsShortInt (sym form.typed ∙ value_typed is_bare widest d s w t o known e) form.short
+-- a width that is read of a narrow operand is narrow
+width_short : (d : L.Function) (s : Scope) (w : ℕ) (t : Text) (o : Operand) → Holds (Typed d) s → value_of is_bare widest s w t ≡ Some o → IsShortInt (operand_type d o) → IsShortInt (IntType w)
+width_short d s w t o known e short = subst IsShortInt (value_typed is_bare widest d s w t o known e) short
 
 entries_narrow : (s : Scope) (w : ℕ) (es : List Incoming) (xs : List (Operand × ℕ)) → HasPlainKeys s → entries_data is_bare widest s w es ≡ Some xs → entries_data is_plain 64 s w es ≡ Some xs
 unfolding entries_data
@@ -40,51 +39,48 @@ entries_narrow s w (e ∷ es) xs keys h =
     (some_bound (entries_data is_plain 64 s w es) _ more.0 _ (entries_narrow s w es more.0 keys more.1) more.2))
 
 -- the type and the instruction are those of an instruction of the form
-abbrev FormPair : L.Function → ℕ → Placed → TypeTree × L.Instruction → Type 0
-FormPair d b p x = (p.type ≡ x.0) × IsFormInstruction d b p x.1
+abbrev FormPair : L.Function → ℕ → TypeTree × L.Instruction → Type 0
+FormPair d b x = IsFormInstruction d b x.0 x.1
 
-form_pair : (d : L.Function) (b : ℕ) (p : Placed) (x y : TypeTree × L.Instruction) → Some y ≡ Some x → FormPair d b p x → FormPair d b p y
-form_pair d b p x y e form = subst (FormPair d b p) (sym (same_Some y x e)) form
+form_pair : (d : L.Function) (b : ℕ) (x y : TypeTree × L.Instruction) → Some y ≡ Some x → FormPair d b x → FormPair d b y
+form_pair d b x y e form = subst (FormPair d b) (sym (same_Some y x e)) form
 
-inst_narrow : (d : L.Function) (b : ℕ) (p : Placed) (s : Scope) (i : Inst) (x : TypeTree × L.Instruction) → HasPlainKeys s → Holds (Typed d) s → inst_data is_bare widest s i ≡ Some x → FormPair d b p x → inst_data is_plain 64 s i ≡ Some x
+inst_narrow : (d : L.Function) (b : ℕ) (s : Scope) (i : Inst) (x : TypeTree × L.Instruction) → HasPlainKeys s → Holds (Typed d) s → inst_data is_bare widest s i ≡ Some x → FormPair d b x → inst_data is_plain 64 s i ≡ Some x
 unfolding inst_data
-inst_narrow d b p s (Add name nuw nsw type lhs rhs) x keys known e form =
+inst_narrow d b s (Add name nuw nsw type lhs rhs) x keys known e form =
     let w = bind_some (int_width is_bare widest type) _ x e in
     let l = bind_some (value_of is_bare widest s w.0 lhs) _ x w.2 in
     let r = bind_some (value_of is_bare widest s w.0 rhs) _ x l.2 in
-    let flags : OverflowFlags = record { nuw = nuw; nsw = nsw } in
-    let made = form_pair d b p x (IntType w.0, L.Add l.0 r.0 flags) r.2 form in
-    let short = width_short d s w.0 lhs l.0 p.type known l.1 made.1.0 in
+    let made = form_pair d b x (IntType w.0, Rows.add nuw nsw l.0 r.0) r.2 form in
+    let short = width_short d s w.0 lhs l.0 known l.1 (All-head IsShortInt (operand_type d l.0) (types_of d (r.0 ∷ [])) made.short) in
     some_bound (int_width is_plain 64 type) _ w.0 _ (int_width_narrow type w.0 w.1 short)
     (some_bound (value_of is_plain 64 s w.0 lhs) _ l.0 _ (value_narrow s w.0 lhs l.0 keys l.1)
     (some_bound (value_of is_plain 64 s w.0 rhs) _ r.0 _ (value_narrow s w.0 rhs r.0 keys r.1) r.2))
-inst_narrow d b p s (ICmp name predicate type lhs rhs) x keys known e form =
+inst_narrow d b s (ICmp name predicate type lhs rhs) x keys known e form =
     let w = bind_some (int_width is_bare widest type) _ x e in
     let l = bind_some (value_of is_bare widest s w.0 lhs) _ x w.2 in
     let r = bind_some (value_of is_bare widest s w.0 rhs) _ x l.2 in
     let q = bind_some (predicate_of predicate) _ x r.2 in
-    let made = form_pair d b p x (IntType 1, L.ICmp l.0 r.0 q.0) q.2 form in
-    let both = made.1.0 in
-    let short = width_short d s w.0 lhs l.0 both.0 known l.1 both.1 in
+    let made = form_pair d b x (IntType 1, Rows.icmp q.0 l.0 r.0) q.2 form in
+    let short = width_short d s w.0 lhs l.0 known l.1 (All-head IsShortInt (operand_type d l.0) (types_of d (r.0 ∷ [])) made.short) in
     some_bound (int_width is_plain 64 type) _ w.0 _ (int_width_narrow type w.0 w.1 short)
     (some_bound (value_of is_plain 64 s w.0 lhs) _ l.0 _ (value_narrow s w.0 lhs l.0 keys l.1)
     (some_bound (value_of is_plain 64 s w.0 rhs) _ r.0 _ (value_narrow s w.0 rhs r.0 keys r.1) r.2))
-inst_narrow d b p s (Phi name type first more) x keys known e form =
+inst_narrow d b s (Phi name type first more) x keys known e form =
     let w = bind_some (int_width is_bare widest type) _ x e in
     let es = bind_some (entries_data is_bare widest s w.0 (first ∷ more)) _ x w.2 in
-    let made = form_pair d b p x (IntType w.0, L.Phi es.0) es.2 form in
-    let short : IsShortInt (IntType w.0) = subst IsShortInt made.0 made.1.2 in
-    some_bound (int_width is_plain 64 type) _ w.0 _ (int_width_narrow type w.0 w.1 short)
+    let made = form_pair d b x (IntType w.0, L.Phi es.0) es.2 form in
+    some_bound (int_width is_plain 64 type) _ w.0 _ (int_width_narrow type w.0 w.1 made.2)
     (some_bound (entries_data is_plain 64 s w.0 (first ∷ more)) _ es.0 _ (entries_narrow s w.0 (first ∷ more) es.0 keys es.1) es.2)
 
-terminator_narrow : (d : L.Function) (b : ℕ) (p : Placed) (s : Scope) (i : Terminator) (x : L.Instruction) → HasPlainKeys s → Holds (Typed d) s → terminator_data is_bare widest s i ≡ Some x → IsFormInstruction d b p x → terminator_data is_plain 64 s i ≡ Some x
+terminator_narrow : (d : L.Function) (b : ℕ) (t : TypeTree) (s : Scope) (i : Terminator) (x : L.Instruction) → HasPlainKeys s → Holds (Typed d) s → terminator_data is_bare widest s i ≡ Some x → IsFormInstruction d b t x → terminator_data is_plain 64 s i ≡ Some x
 unfolding terminator_data
 terminator_narrow d b p s ReturnVoid x keys known e form = e
 terminator_narrow d b p s (Return type value) x keys known e form =
     let w = bind_some (int_width is_bare widest type) _ x e in
     let o = bind_some (value_of is_bare widest s w.0 value) _ x w.2 in
-    let made = subst (IsFormInstruction d b p) (sym (same_Some (L.Return (Some o.0)) x o.2)) form in
-    let short = width_short d s w.0 value o.0 (result_of d.type) known o.1 made.0 in
+    let made = subst (IsFormInstruction d b p) (sym (same_Some (Rows.return_of o.0) x o.2)) form in
+    let short = width_short d s w.0 value o.0 known o.1 (All-head IsShortInt (operand_type d o.0) [] made.short) in
     some_bound (int_width is_plain 64 type) _ w.0 _ (int_width_narrow type w.0 w.1 short) (some_bound (value_of is_plain 64 s w.0 value) _ o.0 _ (value_narrow s w.0 value o.0 keys o.1) o.2)
 terminator_narrow d b p s (Br target) x keys known e form =
     let t = bind_some (block_of is_bare widest s target) _ x e in
@@ -102,21 +98,6 @@ terminator_narrow d b p s Unreachable x keys known e form = e
 
 -- ---- names and widths of results
 
--- the name and the type of an instruction of the form
-record IsFine (p : Placed) : Type 0 where
-  name : IsPlainOrNone p.name
-  type : IsShortResult p.type
-
-fine : (d : L.Function) (b : ℕ) (p : Placed) (x : L.Instruction) → IsFormInstruction d b p x → IsFine p
-fine d b p (L.Add lhs rhs flags) h = record { name = h.2; type = short_result p.type h.0.short }
-fine d b p (L.ICmp lhs rhs predicate) h = record { name = h.2; type = subst IsShortResult (sym h.1) (omega arith, omega arith) }
-fine d b p (L.Phi entries) h = record { name = h.3; type = short_result p.type h.2 }
-fine d b p (L.Br target) h = record { name = subst IsPlainOrNone (sym h.1.name) tt; type = subst IsShortResult (sym h.1.type) tt }
-fine d b p (L.CondBr condition first second) h = record { name = subst IsPlainOrNone (sym h.3.name) tt; type = subst IsShortResult (sym h.3.type) tt }
-fine d b p (L.Return None) h = record { name = subst IsPlainOrNone (sym h.1.name) tt; type = subst IsShortResult (sym h.1.type) tt }
-fine d b p (L.Return (Some o)) h = record { name = subst IsPlainOrNone (sym h.1.name) tt; type = subst IsShortResult (sym h.1.type) tt }
-fine d b p L.Unreachable h = record { name = subst IsPlainOrNone (sym h.name) tt; type = subst IsShortResult (sym h.type) tt }
-
 width_narrow : (i : Inst) (w : ℕ) → IsShortInt (IntType w) → result_width is_bare widest i ≡ Some w → result_width is_plain 64 i ≡ Some w
 width_narrow (Add name nuw nsw type lhs rhs) w short e = int_width_narrow type w e short
 width_narrow (ICmp name predicate type lhs rhs) w short e = e
@@ -130,31 +111,30 @@ named_narrow s n i e short plain keys h =
     let named = written_narrow (drop 1) s (ValueLocal (L.Result n) w.0) (written_name i) e w.2 plain keys in
     (some_bound (result_width is_plain 64 i) _ w.0 _ (width_narrow i w.0 (short w.0 w.1) w.1) named.0, named.1)
 
-names_narrow : (whole s : Scope) (is : List Inst) (ps : List Placed) (t : Scope) → AreNamed is_bare widest s is ps t → AreInstructions is_bare widest whole is ps → AllByRecursion IsFine ps → HasPlainKeys s
+names_narrow : (d : L.Function) (b : ℕ) (whole s : Scope) (is : List Inst) (ps : List Placed) (t : Scope) → AreNamed is_bare widest s is ps t → AreInstructions is_bare widest whole is ps → AllByRecursion (IsFormPlaced d b) ps → HasPlainKeys s
     → AreNamed is_plain 64 s is ps t × HasPlainKeys t
-names_narrow whole s [] [] t h k all keys = (h, subst HasPlainKeys h keys)
-names_narrow whole s (i ∷ is) (p ∷ ps) t h k all keys =
-    let short = λ (w : ℕ) (width : result_width is_bare widest i ≡ Some w). subst IsShortResult (result_is is_bare widest whole i p.type p.instruction w k.0 width) all.0.type in
+names_narrow d b whole s [] [] t h k all keys = (h, subst HasPlainKeys h keys)
+names_narrow d b whole s (i ∷ is) (p ∷ ps) t h k all keys =
+    let short = λ (w : ℕ) (width : result_width is_bare widest i ≡ Some w). subst IsShortResult (result_is is_bare widest whole i p.type p.instruction w k.0 width) all.0.short in
     let one = named_narrow s p.number i (p.name, h.0) short all.0.name keys h.1 in
-    let more = names_narrow whole h.0 is ps t h.2 k.1 all.1 one.1 in
+    let more = names_narrow d b whole h.0 is ps t h.2 k.1 all.1 one.1 in
     ((h.0, one.0, more.0), more.1)
-names_narrow whole s [] (p ∷ ps) t h k all keys = elim h [ ]
-names_narrow whole s (i ∷ is) [] t h k all keys = elim h [ ]
+names_narrow d b whole s [] (p ∷ ps) t h k all keys = elim h [ ]
+names_narrow d b whole s (i ∷ is) [] t h k all keys = elim h [ ]
 
 -- ---- blocks
 
 abbrev Forms : L.Function → ℕ → List Placed → Type 0
-Forms d b ps = AllByRecursion (λ (p : Placed). IsFormInstruction d b p p.instruction) ps
+Forms d b ps = AllByRecursion (IsFormPlaced d b) ps
 
 forms_of : (d : L.Function) (c : Block) → IsFormBlock d c → Forms d c.number c.instructions
-forms_of d c form = recursion_from_All (λ (p : Placed). IsFormInstruction d c.number p p.instruction) c.instructions form.instructions
+forms_of d c form = recursion_from_All (IsFormPlaced d c.number) c.instructions form.instructions
 
 label_narrow : (d : L.Function) (whole s : Scope) (b : tree.Block) (c : Block) (t : Scope) → SaysBlock is_bare widest whole s b c t → IsFormBlock d c → HasPlainKeys s → NamesBlock is_plain 64 s b c t × HasPlainKeys t
 label_narrow d whole s b c t h form keys =
     let label = written_narrow (λ t. take (length t - 1) t) s (BlockLocal c.number) b.label (c.name, h.after_label) h.label form.label keys in
-    let front = all_front (λ (p : Placed). IsFormInstruction d c.number p p.instruction) h.front (h.last ∷ []) (subst (Forms d c.number) h.are (forms_of d c form)) in
-    let each = all_weaker (λ (p : Placed). IsFormInstruction d c.number p p.instruction) IsFine h.front (λ p x. fine d c.number p p.instruction x) front in
-    let names = names_narrow whole h.after_label b.insts h.front t h.results h.instructions each label.1 in
+    let front = all_front (IsFormPlaced d c.number) h.front (h.last ∷ []) (subst (Forms d c.number) h.are (forms_of d c form)) in
+    let names = names_narrow d c.number whole h.after_label b.insts h.front t h.results h.instructions front label.1 in
     (record { after_label = h.after_label; label = label.0; front = h.front; last = h.last; are = h.are; results = names.0 }, names.1)
 
 labels_narrow : (d : L.Function) (whole s : Scope) (bs : List tree.Block) (cs : List Block) (t : Scope) → SayBlocks is_bare widest whole s bs cs t → AllByRecursion (IsFormBlock d) cs → HasPlainKeys s
@@ -169,13 +149,13 @@ labels_narrow d whole s (b ∷ bs) [] t h forms keys = elim h [ ]
 
 insts_narrow : (d : L.Function) (b : ℕ) (s : Scope) (is : List Inst) (ps : List Placed) → HasPlainKeys s → Holds (Typed d) s → Forms d b ps → AreInstructions is_bare widest s is ps → AreInstructions is_plain 64 s is ps
 insts_narrow d b s [] [] keys known forms h = tt
-insts_narrow d b s (i ∷ is) (p ∷ ps) keys known forms h = (inst_narrow d b p s i (p.type, p.instruction) keys known h.0 (refl, forms.0), insts_narrow d b s is ps keys known forms.1 h.1)
+insts_narrow d b s (i ∷ is) (p ∷ ps) keys known forms h = (inst_narrow d b s i (p.type, p.instruction) keys known h.0 forms.0.instruction, insts_narrow d b s is ps keys known forms.1 h.1)
 insts_narrow d b s [] (p ∷ ps) keys known forms h = elim h [ ]
 insts_narrow d b s (i ∷ is) [] keys known forms h = elim h [ ]
 
 block_narrow : (d : L.Function) (s : Scope) (b : tree.Block) (c : Block) → HasPlainKeys s → Holds (Typed d) s → IsFormBlock d c → IsBlockOf is_bare widest s b c → IsBlockOf is_plain 64 s b c
 block_narrow d s b c keys known form h =
-    let F : Placed → Type 0 = λ p. IsFormInstruction d c.number p p.instruction in
+    let F = IsFormPlaced d c.number in
     let all = subst (Forms d c.number) h.are (forms_of d c form) in
     record {
       front = h.front;
@@ -183,7 +163,7 @@ block_narrow d s b c keys known form h =
       are = h.are;
       instructions = insts_narrow d c.number s b.insts h.front keys known (all_front F h.front (h.last ∷ []) all) h.instructions;
       end = record {
-        instruction = terminator_narrow d c.number h.last s b.end h.last.instruction keys known h.end.instruction (all_back F h.front (h.last ∷ []) all).0;
+        instruction = terminator_narrow d c.number h.last.type s b.end h.last.instruction keys known h.end.instruction (all_back F h.front (h.last ∷ []) all).0.instruction;
         type = h.end.type;
         name = h.end.name;
       };

@@ -2,13 +2,13 @@
 use Rattle.std.proofs.Common.{◌≡◌, ℕ, suc, ◌+◌, List, [], ◌∷◌, length, slice_get, Bool, Option, Some, None, refl, sym, ap, ◌∙◌, subst}
 use Rattle.std.proofs.lemmas.Option.{same_Some}
 use Rattle.llvm_core.specs.Data as L
-use Rattle.llvm_core.specs.Data.{Operand, Constant, Parameter, Result, Instruction, Add, ICmp, Phi, Br, CondBr, Return, Unreachable, Placed, Block, ModuleData, placed_in}
+use Rattle.llvm_core.specs.Data.{Operand, Constant, Parameter, Result, Instruction, RowData, Phi, Applied, Placed, Block, ModuleData, placed_in}
 use Rattle.ll_tree.specs.Text.{Text, is_bare}
 use Rattle.ll_tree.specs.Tree.{Function, File}
 use Rattle.ll_text.specs.Meaning.{AreFunctions, IsSource, IsFileOf}
 use Rattle.ll_text.specs.Spelling.{widest, Spelled, IsNumbered}
 use Rattle.ll_text.proofs.NumberLaws.{block_numbers, result_numbers, numbers_same, NumberedFrom, from_numbered, split}
-use Rattle.ll_text.proofs.PairLaws.{OperandPair, EntryPair, CodePair, PlacedPair, BlockPair, SameBlock, SameResult, PlacedAlike, BlocksAlike, FunctionsAlike, placed_alike, functions_alike}
+use Rattle.ll_text.proofs.PairLaws.{OperandPair, EntryPair, RowPair, CodePair, PlacedPair, BlockPair, SameBlock, SameResult, PlacedAlike, BlocksAlike, FunctionsAlike, placed_alike, functions_alike}
 use Rattle.ll_text.proofs.ZipLaws.{SamePlace, SameLength, zip_length, zip_weaker, zip_same}
 
 -- ---- pairs of equal numbers are pairs of equal data
@@ -22,15 +22,19 @@ module _ (m n : ℕ) (same : m ≡ n) (B R : ℕ → ℕ → Type 0) (block_same
   entry_same : (x y : Operand × ℕ) → EntryPair m n B R x y → x ≡ y
   entry_same x y h = let o = operand_same x.0 y.0 h.0 in let b = block_same x.1 y.1 h.1 in λ i. (o i, b i)
 
+  row_same : (r s : RowData) → RowPair m n B R r s → r ≡ s
+  row_same r s h =
+      let op = h.op in
+      let written = h.written in
+      let operands = zip_same r.operands s.operands (zip_weaker (OperandPair m n B R) (λ o p. o ≡ p) r.operands s.operands operand_same h.operands) in
+      let targets = zip_same r.targets s.targets (zip_weaker B (λ a b. a ≡ b) r.targets s.targets block_same h.targets) in
+      λ i. record { op = op i; written = written i; operands = operands i; targets = targets i }
+
   code_same : (x y : Instruction) → CodePair m n B R x y → x ≡ y
-  code_same (Add a b flags) y h = let l = operand_same a h.0 h.3 in let r = operand_same b h.1 h.4 in let is = h.2 in cc (l, r, is)
-  code_same (ICmp a b predicate) y h = let l = operand_same a h.0 h.3 in let r = operand_same b h.1 h.4 in let is = h.2 in cc (l, r, is)
-  code_same (Phi es) y h = ap (λ (es : List (Operand × ℕ)). Phi es) (zip_same es h.0 (zip_weaker (EntryPair m n B R) (λ x y. x ≡ y) es h.0 entry_same h.2)) ∙ sym h.1
-  code_same (Br a) y h = ap (λ (k : ℕ). Br k) (block_same a h.0 h.2) ∙ sym h.1
-  code_same (CondBr o a b) y h = let t = operand_same o h.0 h.4 in let l = block_same a h.1 h.5 in let r = block_same b h.2 h.6 in let is = h.3 in cc (t, l, r, is)
-  code_same (Return None) y h = sym h
-  code_same (Return (Some o)) y h = ap (λ (p : Operand). Return (Some p)) (operand_same o h.0 h.2) ∙ sym h.1
-  code_same Unreachable y h = sym h
+  code_same (Phi es) (Phi ds) h = ap (λ (es : List (Operand × ℕ)). Phi es) (zip_same es ds (zip_weaker (EntryPair m n B R) (λ x y. x ≡ y) es ds entry_same h))
+  code_same (Applied r) (Applied s) h = ap Applied (row_same r s h)
+  code_same (Phi es) (Applied s) h = elim h [ ]
+  code_same (Applied r) (Phi ds) h = elim h [ ]
 
   placed_same : (p q : Placed) → PlacedPair m n B R p q → p ≡ q
   placed_same p q h =

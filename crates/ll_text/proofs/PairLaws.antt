@@ -5,9 +5,9 @@ use Rattle.std.specs.Option.{option_map}
 use Rattle.std.proofs.lemmas.Option.{cond_some, same_Some}
 use Rattle.std.proofs.lemmas.List.{length-map}
 use Rattle.ll_text.proofs.KnownLaws.{of_width}
-use Rattle.llvm_core.specs.declared.code.OverflowFlags.{OverflowFlags}
 use Rattle.llvm_core.specs.Data as L
-use Rattle.llvm_core.specs.Data.{TypeTree, VoidType, IntType, FunctionType, TypeTrees, NoTypes, ThenType, ConstTree, Operand, Constant, Parameter, Result, Placed, Block, placed_in}
+use Rattle.llvm_core.specs.Data.{TypeTree, VoidType, IntType, FunctionType, TypeTrees, NoTypes, ThenType, Operand, Constant, Parameter, Result, Placed, Block, placed_in}
+use Rattle.ll_text.specs.Rows as Rows
 use Rattle.ll_tree.specs.Text.{Text, number_limit, const_value}
 use Rattle.ll_tree.specs.Tree as tree
 use Rattle.ll_tree.specs.Tree.{is_local, Incoming, Inst, Add, ICmp, Phi, Terminator, ReturnVoid, Return, Br, CondBr, Unreachable, Param, Function, blocks_of}
@@ -92,16 +92,18 @@ module _ (m n : ℕ) (blocks results : ℕ → ℕ → Type 0) where
   abbrev pub EntryPair : Operand × ℕ → Operand × ℕ → Type 0
   EntryPair x y = OperandPair x.0 y.0 × blocks x.1 y.1
 
-  -- a line for each kind
+  -- rows of one operation and one written type, whose operands and targets are paired in order
+  pub record RowPair (r s : L.RowData) : Type 0 where
+    pub op : r.op ≡ s.op
+    pub written : r.written ≡ s.written
+    pub operands : AllZip OperandPair r.operands s.operands
+    pub targets : AllZip blocks r.targets s.targets
+
   abbrev pub CodePair : L.Instruction → L.Instruction → Type 0
-  CodePair (L.Add a b flags) y = (c : Operand) × (d : Operand) × (y ≡ L.Add c d flags) × OperandPair a c × OperandPair b d
-  CodePair (L.ICmp a b predicate) y = (c : Operand) × (d : Operand) × (y ≡ L.ICmp c d predicate) × OperandPair a c × OperandPair b d
-  CodePair (L.Phi es) y = (ds : List (Operand × ℕ)) × (y ≡ L.Phi ds) × AllZip EntryPair es ds
-  CodePair (L.Br a) y = (b : ℕ) × (y ≡ L.Br b) × blocks a b
-  CodePair (L.CondBr o a b) y = (p : Operand) × (c : ℕ) × (d : ℕ) × (y ≡ L.CondBr p c d) × OperandPair o p × blocks a c × blocks b d
-  CodePair (L.Return None) y = y ≡ L.Return None
-  CodePair (L.Return (Some o)) y = (p : Operand) × (y ≡ L.Return (Some p)) × OperandPair o p
-  CodePair L.Unreachable y = y ≡ L.Unreachable
+  CodePair (L.Phi es) (L.Phi ds) = AllZip EntryPair es ds
+  CodePair (L.Applied r) (L.Applied s) = RowPair r s
+  CodePair (L.Phi es) (L.Applied s) = ⊥
+  CodePair (L.Applied r) (L.Phi ds) = ⊥
 
   pub record PlacedPair (p q : Placed) : Type 0 where
     pub number : results p.number q.number
@@ -244,42 +246,41 @@ module _ (m n : ℕ) (blocks results : ℕ → ℕ → Type 0) where
     inst_pair : (s t : Scope) (i : Inst) (x y : TypeTree × L.Instruction) → ScopePair s t → inst_data is_name widest s i ≡ Some x → inst_data is_name widest t i ≡ Some y → CodesPair x y
     unfolding inst_data
     inst_pair s t (Add name nuw nsw type lhs rhs) x y h e f =
-        let flags : OverflowFlags = record { nuw = nuw; nsw = nsw } in
         one_step (int_width is_name widest type) _ _ x y e f (λ w e f.
         two_steps OperandPair (value_of is_name widest s w lhs) (value_of is_name widest t w lhs) _ _ x y e f (λ o p. value_pair s t w lhs o p h) (λ a c left e f.
         two_steps OperandPair (value_of is_name widest s w rhs) (value_of is_name widest t w rhs) _ _ x y e f (λ o p. value_pair s t w rhs o p h) (λ b d right e f.
-        codes_pair x y (IntType w, L.Add a b flags) (IntType w, L.Add c d flags) e f (refl, (c, d, refl, left, right)))))
+        codes_pair x y (IntType w, Rows.add nuw nsw a b) (IntType w, Rows.add nuw nsw c d) e f (refl, record { op = refl; written = refl; operands = (left, (right, tt)); targets = tt }))))
     inst_pair s t (ICmp name predicate type lhs rhs) x y h e f =
         one_step (int_width is_name widest type) _ _ x y e f (λ w e f.
         two_steps OperandPair (value_of is_name widest s w lhs) (value_of is_name widest t w lhs) _ _ x y e f (λ o p. value_pair s t w lhs o p h) (λ a c left e f.
         two_steps OperandPair (value_of is_name widest s w rhs) (value_of is_name widest t w rhs) _ _ x y e f (λ o p. value_pair s t w rhs o p h) (λ b d right e f.
         one_step (predicate_of predicate) _ _ x y e f (λ p e f.
-        codes_pair x y (IntType 1, L.ICmp a b p) (IntType 1, L.ICmp c d p) e f (refl, (c, d, refl, left, right))))))
+        codes_pair x y (IntType 1, Rows.icmp p a b) (IntType 1, Rows.icmp p c d) e f (refl, record { op = refl; written = refl; operands = (left, (right, tt)); targets = tt })))))
     inst_pair s t (Phi name type first more) x y h e f =
         one_step (int_width is_name widest type) _ _ x y e f (λ w e f.
         two_steps (AllZip EntryPair) (entries_data is_name widest s w (first ∷ more)) (entries_data is_name widest t w (first ∷ more)) _ _ x y e f (λ o p. entries_pair s t w (first ∷ more) o p h) (λ es ds each e f.
-        codes_pair x y (IntType w, L.Phi es) (IntType w, L.Phi ds) e f (refl, (ds, refl, each))))
+        codes_pair x y (IntType w, L.Phi es) (IntType w, L.Phi ds) e f (refl, each)))
 
     code_pair : (x y a b : L.Instruction) → Some a ≡ Some x → Some b ≡ Some y → CodePair a b → CodePair x y
     code_pair x y a b e f h = subst (λ (x : L.Instruction). CodePair x y) (same_Some a x e) (subst (CodePair a) (same_Some b y f) h)
 
     terminator_pair : (s t : Scope) (i : Terminator) (x y : L.Instruction) → ScopePair s t → terminator_data is_name widest s i ≡ Some x → terminator_data is_name widest t i ≡ Some y → CodePair x y
     unfolding terminator_data
-    terminator_pair s t ReturnVoid x y h e f = code_pair x y (L.Return None) (L.Return None) e f refl
+    terminator_pair s t ReturnVoid x y h e f = code_pair x y Rows.return_void Rows.return_void e f (record { op = refl; written = refl; operands = tt; targets = tt })
     terminator_pair s t (Return type value) x y h e f =
         one_step (int_width is_name widest type) _ _ x y e f (λ w e f.
         two_steps OperandPair (value_of is_name widest s w value) (value_of is_name widest t w value) _ _ x y e f (λ o p. value_pair s t w value o p h) (λ a c pair e f.
-        code_pair x y (L.Return (Some a)) (L.Return (Some c)) e f (c, refl, pair)))
+        code_pair x y (Rows.return_of a) (Rows.return_of c) e f (record { op = refl; written = refl; operands = (pair, tt); targets = tt })))
     terminator_pair s t (Br target) x y h e f =
         two_steps blocks (block_of is_name widest s target) (block_of is_name widest t target) _ _ x y e f (λ o p. target_pair s t target o p h) (λ a c pair e f.
-        code_pair x y (L.Br a) (L.Br c) e f (c, refl, pair))
+        code_pair x y (Rows.br a) (Rows.br c) e f (record { op = refl; written = refl; operands = tt; targets = (pair, tt) }))
     terminator_pair s t (CondBr type condition first second) x y h e f =
         one_step (bit_width (int_width is_name widest type)) _ _ x y e f (λ w e f.
         two_steps OperandPair (value_of is_name widest s w condition) (value_of is_name widest t w condition) _ _ x y e f (λ o p. value_pair s t w condition o p h) (λ o p test e f.
         two_steps blocks (block_of is_name widest s first) (block_of is_name widest t first) _ _ x y e f (λ o p. target_pair s t first o p h) (λ a c one e f.
         two_steps blocks (block_of is_name widest s second) (block_of is_name widest t second) _ _ x y e f (λ o p. target_pair s t second o p h) (λ b d two e f.
-        code_pair x y (L.CondBr o a b) (L.CondBr p c d) e f (p, c, d, refl, test, one, two)))))
-    terminator_pair s t Unreachable x y h e f = code_pair x y L.Unreachable L.Unreachable e f refl
+        code_pair x y (Rows.cond_br o a b) (Rows.cond_br p c d) e f (record { op = refl; written = refl; operands = (test, tt); targets = (one, (two, tt)) })))))
+    terminator_pair s t Unreachable x y h e f = code_pair x y Rows.unreachable Rows.unreachable e f (record { op = refl; written = refl; operands = tt; targets = tt })
 
     -- ---- parameters
 
@@ -413,6 +414,9 @@ module _ (g h : L.Function) where
 
   abbrev pub EntriesAlike : Operand × ℕ → Operand × ℕ → Type 0
   EntriesAlike = EntryPair g.number h.number SameBlock SameResult
+
+  abbrev pub RowAlike : L.RowData → L.RowData → Type 0
+  RowAlike = RowPair g.number h.number SameBlock SameResult
 
   abbrev pub CodeAlike : L.Instruction → L.Instruction → Type 0
   CodeAlike = CodePair g.number h.number SameBlock SameResult

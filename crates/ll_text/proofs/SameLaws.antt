@@ -1,12 +1,12 @@
 -- Functions that differ in numbers alone have the same names and lists of the same lengths.
-use Rattle.std.proofs.Common.{◌≡◌, ◌<◌, ◌^◌, ℕ, List, [], ◌∷◌, length, Some, None, refl, ap, sym, ◌∙◌, arith}
+use Rattle.std.proofs.Common.{◌≡◌, ◌<◌, ◌^◌, ℕ, List, [], ◌∷◌, length, refl, ap, sym, ◌∙◌, arith}
 use Rattle.std.specs.List.{AllZip, flat_map}
 use Rattle.std.proofs.lemmas.List.{length-map}
 use Rattle.llvm_core.specs.Checked.{named}
 use Rattle.llvm_core.specs.Data as L
-use Rattle.llvm_core.specs.Data.{Operand, Instruction, Add, ICmp, Phi, Br, CondBr, Return, Unreachable, Placed, Block, placed_in}
+use Rattle.llvm_core.specs.Data.{Operand, Instruction, Phi, Applied, Placed, Block, placed_in}
 use Rattle.llvm_core.specs.Form.{names_in, local_names, operands_of, IsFewIn}
-use Rattle.ll_text.proofs.PairLaws.{EntriesAlike, CodeAlike, PlacedAlike, BlocksAlike, FunctionsAlike, placed_alike}
+use Rattle.ll_text.proofs.PairLaws.{OperandsAlike, EntriesAlike, CodeAlike, PlacedAlike, BlocksAlike, FunctionsAlike, placed_alike}
 use Rattle.ll_text.proofs.ZipLaws.{zip_length, zip_weaker}
 use Rattle.ll_text.proofs.AlikeForm.{each_alike}
 
@@ -31,16 +31,10 @@ module _ (g h : L.Function) (alike : FunctionsAlike g h) where
       cc (params, blocks)
 
   operands_count : (x y : Instruction) → CodeAlike g h x y → length (operands_of x) ≡ length (operands_of y)
-  operands_count (Add a b flags) y p = sym (ap (λ (y : Instruction). length (operands_of y)) p.2)
-  operands_count (ICmp a b predicate) y p = sym (ap (λ (y : Instruction). length (operands_of y)) p.2)
-  operands_count (Phi es) y p =
-      length-map es (λ (e : Operand × ℕ). e.0) ∙ zip_length (EntriesAlike g h) es p.0 p.2 ∙ sym (length-map p.0 (λ (e : Operand × ℕ). e.0))
-      ∙ sym (ap (λ (y : Instruction). length (operands_of y)) p.1)
-  operands_count (Br a) y p = sym (ap (λ (y : Instruction). length (operands_of y)) p.1)
-  operands_count (CondBr o a b) y p = sym (ap (λ (y : Instruction). length (operands_of y)) p.3)
-  operands_count (Return None) y p = sym (ap (λ (y : Instruction). length (operands_of y)) p)
-  operands_count (Return (Some o)) y p = sym (ap (λ (y : Instruction). length (operands_of y)) p.1)
-  operands_count Unreachable y p = sym (ap (λ (y : Instruction). length (operands_of y)) p)
+  operands_count (Phi es) (Phi ds) p = length-map es (λ (e : Operand × ℕ). e.0) ∙ zip_length (EntriesAlike g h) es ds p ∙ sym (length-map ds (λ (e : Operand × ℕ). e.0))
+  operands_count (Applied r) (Applied s) p = zip_length (OperandsAlike g h) r.operands s.operands p.operands
+  operands_count (Phi es) (Applied s) p = elim p [ ]
+  operands_count (Applied r) (Phi ds) p = elim p [ ]
 
   few_operands : (p q : Placed) → PlacedAlike g h p q → length (operands_of p.instruction) < 2 ^ 31 → length (operands_of q.instruction) < 2 ^ 31
   few_operands p q pair few = let same = operands_count p.instruction q.instruction pair.code in omega (arith, same, few)

@@ -3,6 +3,7 @@ pub mod Bodies
 pub mod Building
 pub mod Built
 pub mod Filling
+pub mod Rows
 pub mod Meaning
 pub mod Numbered
 pub mod Opening

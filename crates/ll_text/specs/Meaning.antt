@@ -2,10 +2,11 @@
 use Rattle.std.specs.Prelude.{◌≡◌, ℕ, suc, ◌+◌, ◌-◌, Bool, false, ◌&&◌, nat_le, nat_lt, nat_eq, List, [], ◌∷◌, ◌++◌, length, take, drop, Option, Some, None, if◌then◌else◌, codes}
 use Rattle.std.specs.Str.{bytes_eq}
 use Rattle.std.specs.Map.{lookup}
-use Rattle.llvm_core.specs.declared.code.LLVMIntPredicate.{LLVMIntPredicate}
-use Rattle.llvm_core.specs.declared.code.LLVMIntPredicate.TheVariants as P
+use Rattle.kinds.specs.declared.op.LLVMIntPredicate.{LLVMIntPredicate}
+use Rattle.kinds.specs.declared.op.LLVMIntPredicate.TheVariants as P
 use Rattle.std.specs.Option.{option_map}
 use Rattle.llvm_core.specs.Data as L
+use Rattle.ll_text.specs.Rows as Rows
 use Rattle.llvm_core.specs.Data.{TypeTree, VoidType, IntType, FunctionType, TypeTrees, NoTypes, ThenType, Operand, Placed, Block, ModuleData}
 use Rattle.ll_tree.specs.Chain.{◌>>=◌}
 use Rattle.ll_tree.specs.Text.{Text, number_of, number_limit, width_of, const_value}
@@ -188,13 +189,13 @@ module _ (is_name : Text → Bool) (widest : ℕ) where
     w ← int_width type
     a ← value_of s w lhs
     b ← value_of s w rhs
-    Some (IntType w, L.Add a b (record { nuw = nuw; nsw = nsw }))
+    Some (IntType w, Rows.add nuw nsw a b)
   inst_data s (ICmp name predicate type lhs rhs) = do
     w ← int_width type
     a ← value_of s w lhs
     b ← value_of s w rhs
     p ← predicate_of predicate
-    Some (IntType 1, L.ICmp a b p)
+    Some (IntType 1, Rows.icmp p a b)
   inst_data s (Phi name type first more) = do
     w ← int_width type
     es ← entries_data s w (first ∷ more)
@@ -202,21 +203,21 @@ module _ (is_name : Text → Bool) (widest : ℕ) where
 
   -- a line for each kind
   unfoldable pub terminator_data : Scope → Terminator → Option L.Instruction
-  terminator_data s ReturnVoid = Some (L.Return None)
+  terminator_data s ReturnVoid = Some Rows.return_void
   terminator_data s (Return type value) = do
     w ← int_width type
     o ← value_of s w value
-    Some (L.Return (Some o))
+    Some (Rows.return_of o)
   terminator_data s (Br target) = do
     b ← block_of s target
-    Some (L.Br b)
+    Some (Rows.br b)
   terminator_data s (CondBr type condition first second) = do
     w ← bit_width (int_width type)
     c ← value_of s w condition
     a ← block_of s first
     b ← block_of s second
-    Some (L.CondBr c a b)
-  terminator_data s Unreachable = Some L.Unreachable
+    Some (Rows.cond_br c a b)
+  terminator_data s Unreachable = Some Rows.unreachable
 
   -- the instructions of a block but its terminator, in order
   abbrev pub AreInstructions : Scope → List Inst → List Placed → Type 0

@@ -1,8 +1,9 @@
 -- Instructions as they are built first: where an operand is a result stands a placeholder, and phis have no entries.
-use Rattle.std.specs.Prelude.{ℕ, [], Option, Some, None}
+use Rattle.std.specs.Prelude.{ℕ, [], Option, Some}
 use Rattle.std.specs.Option.{option_map}
 use Rattle.llvm_core.specs.Names.{is_plain}
 use Rattle.llvm_core.specs.Data as L
+use Rattle.ll_text.specs.Rows as Rows
 use Rattle.llvm_core.specs.Data.{TypeTree, IntType, Operand, Constant, Parameter, Result, PlaceholderConst}
 use Rattle.ll_tree.specs.Text.{Text}
 use Rattle.ll_tree.specs.Tree.{Inst, Add, ICmp, Phi, Terminator, ReturnVoid, Return, Br, CondBr, Unreachable}
@@ -28,31 +29,31 @@ open_inst s (Add name nuw nsw type lhs rhs) = do
   w ← int_width is_plain 64 type
   a ← open_value s w lhs
   b ← open_value s w rhs
-  Some (IntType w, L.Add a b (record { nuw = nuw; nsw = nsw }))
+  Some (IntType w, Rows.add nuw nsw a b)
 open_inst s (ICmp name predicate type lhs rhs) = do
   w ← int_width is_plain 64 type
   a ← open_value s w lhs
   b ← open_value s w rhs
   p ← predicate_of predicate
-  Some (IntType 1, L.ICmp a b p)
+  Some (IntType 1, Rows.icmp p a b)
 open_inst s (Phi name type first more) = do
   w ← int_width is_plain 64 type
   Some (IntType w, L.Phi [])
 
 -- a line for each kind
 unfoldable pub open_terminator : Scope → Terminator → Option L.Instruction
-open_terminator s ReturnVoid = Some (L.Return None)
+open_terminator s ReturnVoid = Some Rows.return_void
 open_terminator s (Return type value) = do
   w ← int_width is_plain 64 type
   o ← open_value s w value
-  Some (L.Return (Some o))
+  Some (Rows.return_of o)
 open_terminator s (Br target) = do
   b ← block_of is_plain 64 s target
-  Some (L.Br b)
+  Some (Rows.br b)
 open_terminator s (CondBr type condition first second) = do
   w ← bit_width (int_width is_plain 64 type)
   c ← open_value s w condition
   a ← block_of is_plain 64 s first
   b ← block_of is_plain 64 s second
-  Some (L.CondBr c a b)
-open_terminator s Unreachable = Some L.Unreachable
+  Some (Rows.cond_br c a b)
+open_terminator s Unreachable = Some Rows.unreachable

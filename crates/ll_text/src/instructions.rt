@@ -17,10 +17,11 @@ use crate::definitions::written_name;
 use crate::names::{bit_width, int_width, next_number, predicate, result_name};
 use crate::operands::{open_operand, target};
 use crate::scope::Scope;
+use kinds::op::OverflowFlags;
 use ll_tree::read_err::ReadErr;
 use ll_tree::tokens::Token;
 use ll_tree::tree::{Block, Function, Inst, Terminator};
-use llvm_core::code::{LLVMInst, LLVMValue, OverflowFlags};
+use llvm_core::code::{LLVMInst, LLVMValue};
 use llvm_core::module::LLVMModule;
 use llvm_core::numbers::LLVMBasicBlock;
 use llvm_core::types::LLVMTypeKind;
@@ -76,7 +77,7 @@ fn make_inst<'a>(
                 return Err(ReadErr::NotYet);
             };
             let (a, b) = both(draft, scope, width, lhs, rhs)?;
-            Ok(LLVMInst::Add(a, b, OverflowFlags { nuw, nsw }))
+            Ok(LLVMInst::add(alloc, a, b, OverflowFlags { nuw, nsw })?)
         }
         Inst::ICmp {
             predicate: word,
@@ -92,7 +93,7 @@ fn make_inst<'a>(
                 return Err(ReadErr::NotYet);
             };
             let (a, b) = both(draft, scope, width, lhs, rhs)?;
-            Ok(LLVMInst::ICmp(a, b, compare))
+            Ok(LLVMInst::icmp(alloc, a, b, compare)?)
         }
         Inst::Phi { ty, .. } => {
             let Some(width) = int_width(ty.text) else {
@@ -106,6 +107,7 @@ fn make_inst<'a>(
 
 /// The terminator that a text says, with a placeholder where its operand is a result.
 fn make_end<'a>(
+    alloc: Global,
     draft: &mut LLVMModule,
     scope: &Scope<'a>,
     end: &Terminator<'a>,
@@ -117,15 +119,15 @@ fn make_end<'a>(
     ensures not_yet { result ≡ Err ReadErr.NotYet → Refuses scope.now (λ s. open_terminator s (terminator_view end.now)) }
 {
     match end {
-        Terminator::ReturnVoid => Ok(LLVMInst::Ret(None)),
+        Terminator::ReturnVoid => Ok(LLVMInst::ret(alloc, None)?),
         Terminator::Return { ty, value } => {
             let Some(width) = int_width(ty.text) else {
                 return Err(ReadErr::NotYet);
             };
             let value = open_operand(draft, scope, width, *value)?;
-            Ok(LLVMInst::Ret(Some(value)))
+            Ok(LLVMInst::ret(alloc, Some(value))?)
         }
-        Terminator::Br { target: block } => Ok(LLVMInst::Br(target(scope, *block)?)),
+        Terminator::Br { target: block } => Ok(LLVMInst::br(alloc, target(scope, *block)?)?),
         Terminator::CondBr {
             ty,
             condition,
@@ -138,9 +140,9 @@ fn make_end<'a>(
             let condition = open_operand(draft, scope, width, *condition)?;
             let first = target(scope, *first)?;
             let second = target(scope, *second)?;
-            Ok(LLVMInst::CondBr(condition, first, second))
+            Ok(LLVMInst::cond_br(alloc, condition, first, second)?)
         }
-        Terminator::Unreachable => Ok(LLVMInst::Unreachable),
+        Terminator::Unreachable => Ok(LLVMInst::unreachable(alloc)?),
     }
 }
 
@@ -167,6 +169,7 @@ fn build_inst<'a>(
 
 /// Builds the terminator of a block as its last instruction.
 fn build_end<'a>(
+    alloc: Global,
     draft: &mut LLVMModule,
     scope: &Scope<'a>,
     block: LLVMBasicBlock,
@@ -180,7 +183,7 @@ fn build_end<'a>(
     ensures count { OnOk result (length draft.new.insts ≡ length draft.old.insts + 1) }
     ensures not_yet { result ≡ Err ReadErr.NotYet → Refuses scope.now (λ s. open_terminator s (terminator_view end.now)) }
 {
-    let made = make_end(draft, scope, end)?;
+    let made = make_end(alloc, draft, scope, end)?;
     draft.build(block, made, "")?;
     Ok(())
 }
@@ -224,7 +227,7 @@ fn build_block<'a>(
     ensures not_yet { result ≡ Err ReadErr.NotYet → Refuses scope.now (λ s. placed_block (open_inst s) (open_terminator s) (length draft.old.insts) (block_view block.now)) }
 {
     build_insts(alloc, draft, scope, number, block.insts.as_slice())?;
-    build_end(draft, scope, number, &block.end)
+    build_end(alloc, draft, scope, number, &block.end)
 }
 
 /// Builds the instructions of blocks in order, the first of which has that number.

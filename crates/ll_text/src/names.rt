@@ -10,10 +10,10 @@ ghost use Rattle.ll_text.specs.Numbered.{name_said};
 ghost use Rattle.ll_tree.specs.TreeView.{name_view};
 
 use crate::scope::Key;
+use kinds::op::LLVMIntPredicate;
 use ll_tree::literals::{number, plain_name};
 use ll_tree::read_err::ReadErr;
 use ll_tree::tokens::Token;
-use llvm_core::code::LLVMIntPredicate;
 
 /// The key that a plain name or digits say.
 fn key_of(text: &[u8]) -> Option<Key<'_>>

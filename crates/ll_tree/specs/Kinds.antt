@@ -2,8 +2,8 @@
 use Rattle.std.specs.Prelude.{Bool}
 use Rattle.ll_tree.specs.Text.{Text}
 use Rattle.ll_tree.specs.Tree.{is_local, is_global, is_label, is_string, is_int_type, is_operand, is_predicate}
-use Rattle.ll_tree.specs.declared.kinds.Kind.{Kind}
-use Rattle.ll_tree.specs.declared.kinds.Kind.TheVariants.{Local, Global, Label, String, IntType, Operand, Predicate}
+use Rattle.ll_tree.specs.declared.token_kinds.Kind.{Kind}
+use Rattle.ll_tree.specs.declared.token_kinds.Kind.TheVariants.{Local, Global, Label, String, IntType, Operand, Predicate}
 
 abbrev pub fits : Kind → Text → Bool
 fits Local = is_local

@@ -2,11 +2,11 @@
 #![tactic(auto)]
 
 mod bytes;
-pub mod kinds;
 pub mod laws;
 pub mod literals;
 pub mod pieces;
 pub mod read_err;
 pub mod reader;
+pub mod token_kinds;
 pub mod tokens;
 pub mod tree;

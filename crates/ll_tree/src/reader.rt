@@ -12,8 +12,8 @@ ghost use Rattle.ll_tree.specs.TreeView.{name_view, param_view, function_view, f
 mod blocks;
 mod instructions;
 
-use crate::kinds::Kind;
 use crate::read_err::ReadErr;
+use crate::token_kinds::Kind;
 use crate::tokens::Token;
 use crate::tree::{File, Function, Param};
 use std::alloc::Global;

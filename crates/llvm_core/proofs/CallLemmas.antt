@@ -24,6 +24,7 @@ use Rattle.llvm_core.specs.declared.code.LLVMInst.TheVariants as I
 use Rattle.llvm_core.specs.declared.code.FunctionData.{FunctionData}
 use Rattle.llvm_core.specs.declared.code.BlockData.{BlockData}
 use Rattle.llvm_core.specs.declared.code.InstData.{InstData}
+use Rattle.std.specs.Prelude.{IfSome}
 use Rattle.llvm_core.specs.Module.{Module}
 use Rattle.llvm_core.specs.Code.{code_of, with_code, with_param_name, with_block, with_inst}
 use Rattle.llvm_core.specs.Parts.{IsValue, HasValues, IsEntry, IsResultOver, IsResultType, made_kind, result_type}
@@ -54,21 +55,23 @@ entries_same m t u same (e ∷ es) h =
     let rest = entries_same m t u same es (All-tail (IsEntry m) e es h) in
     ap (λ o. (o, e.block.0) ∷ map (entry_of t) es) first ∙ ap (λ xs. entry_of u e ∷ xs) rest
 
+operands_same : (m : Module) (t u : Trees) → SameTrees m t u → (vs : List LLVMValue) → All (IsValue m) vs → map (operand_of t) vs ≡ map (operand_of u) vs
+operands_same m t u same [] h = refl
+operands_same m t u same (v ∷ vs) h =
+    let first = operand_same m t u same v (All-head (IsValue m) v vs h) in
+    let rest = operands_same m t u same vs (All-tail (IsValue m) v vs h) in
+    cc
+
+written_same : (m : Module) (t u : Trees) → SameTrees m t u → (o : Option LLVMType) → IfSome o (λ (x : LLVMType). x.0 < length m.types) → option_map (type_at t.types) o ≡ option_map (type_at u.types) o
+written_same m t u same None h = refl
+written_same m t u same (Some x) h = ap Some (same.types x h)
+
 instruction_same : (m : Module) (t u : Trees) → SameTrees m t u → (i : LLVMInst) → HasValues m i → instruction_of t i ≡ instruction_of u i
-instruction_same m t u same (I.Add lhs rhs flags) h =
-    let e = operand_same m t u same lhs h.0 in
-    let f = operand_same m t u same rhs h.1 in
-    cc
-instruction_same m t u same (I.ICmp lhs rhs predicate) h =
-    let e = operand_same m t u same lhs h.0 in
-    let f = operand_same m t u same rhs h.1 in
-    cc
 instruction_same m t u same (I.Phi type entries) h = ap d.Phi (entries_same m t u same entries h.1)
-instruction_same m t u same (I.Br target) h = refl
-instruction_same m t u same (I.CondBr condition first second) h = ap (λ o. d.CondBr o first.0 second.0) (operand_same m t u same condition h.0)
-instruction_same m t u same (I.Ret None) h = refl
-instruction_same m t u same (I.Ret (Some v)) h = ap (λ o. d.Return (Some o)) (operand_same m t u same v h)
-instruction_same m t u same I.Unreachable h = refl
+instruction_same m t u same (I.Row r) h =
+    let e = operands_same m t u same r.operands h.0 in
+    let f = written_same m t u same r.written h.2 in
+    cc
 
 placed_same : (m : Module) (t u : Trees) → SameTrees m t u → (i : LLVMInstRef) (x : InstData) → IsInstIn m x → placed_of t i x ≡ placed_of u i x
 placed_same m t u same i x h =
@@ -297,7 +300,7 @@ inst_data old types b i name ty inst s grown last values typed =
     let more = added old.types types made only in
     let same = retyped old types more.0 more.1 s in
     let new : Module = record old { types = types } in
-    let e = result_shown old new ty (result_type old inst) grown same (λ r e. result_within old inst r values e) typed in
+    let e = result_shown old new ty (result_type old inst) grown same (λ r e. result_within old inst r s values e) typed in
     let f = instruction_same old (trees_of new) (trees_of old) same inst values in
     inst_appended new b i name ty inst grown last
     ∙ ap (λ (m : d.ModuleData). d.with_instruction m b.0 (placed_of (trees_of new) i (record { name = name; block = b; ty = ty; inst = inst }))) (type_data old types made s only)

@@ -10,12 +10,13 @@ use Rattle.llvm_core.specs.declared.code.LLVMInst.{LLVMInst}
 use Rattle.llvm_core.specs.declared.code.FunctionData.{FunctionData}
 use Rattle.llvm_core.specs.declared.code.BlockData.{BlockData}
 use Rattle.llvm_core.specs.declared.code.InstData.{InstData}
+use Rattle.llvm_core.specs.declared.check_err.Place.{Place}
 use Rattle.llvm_core.specs.declared.check_err.Place.TheVariants as P
 use Rattle.llvm_core.specs.declared.check_err.CheckErr.{CheckErr}
 use Rattle.llvm_core.specs.declared.check_err.CheckErr.TheVariants.{NoMemory, NameTwice, NoTerminator, PhiPlace, PhiEntries, EntryHasPreds, OperandType, OperandCount, BlockOutside, IntrinsicBody, FunctionSpace, ListTooLong}
 use Rattle.llvm_core.specs.Module.{Module}
 use Rattle.llvm_core.specs.Names.{Stands}
-use Rattle.llvm_core.specs.Checked.{Fails, MayAnswer, IsTaken, IsFreshName, IsCheckedFunction, IsCheckedBlock, IsCheckedInst, IsCheckedEdges, IsChecked, IsLong, is_bad_name, is_terminator, is_terminator_at, ends_in_only, names_before}
+use Rattle.llvm_core.specs.Checked.{AtFunction, AtBlock, AtInst, HasLongList, HasOtherTypeAt, Fails, MayAnswer, IsTaken, IsFreshName, IsCheckedFunction, IsCheckedBlock, IsCheckedInst, IsCheckedEdges, IsChecked, IsLong, is_bad_name, is_terminator, is_terminator_at, ends_in_only, names_before}
 use Rattle.llvm_core.proofs.NameLemmas.{slice_get-taken}
 
 -- ---- names of functions
@@ -88,25 +89,52 @@ last_ends m insts d inst r lt at is = ap (λ o. option_map_or (is_terminator_at 
 
 -- ---- all rules
 
+-- a rule of functions, of blocks or of instructions fails nowhere where it fails at none of them
+no_function : {Q : ℕ → Type 0} (p : Place) → ((f : ℕ) → ¬ Q f) → ¬ AtFunction p Q
+no_function P.Module none h = h
+no_function (P.Function f) none h = none f h
+no_function (P.Block b) none h = h
+no_function (P.Inst i) none h = h
+
+no_block : {Q : ℕ → Type 0} (p : Place) → ((b : ℕ) → ¬ Q b) → ¬ AtBlock p Q
+no_block P.Module none h = h
+no_block (P.Function f) none h = h
+no_block (P.Block b) none h = none b h
+no_block (P.Inst i) none h = h
+
+no_inst : {Q : ℕ → Type 0} (p : Place) → ((i : ℕ) → ¬ Q i) → ¬ AtInst p Q
+no_inst P.Module none h = h
+no_inst (P.Function f) none h = h
+no_inst (P.Block b) none h = h
+no_inst (P.Inst i) none h = none i h
+
 module _ (m : Module) (few : ¬ IsLong m.functions) (fresh : (f : ℕ) → f < length m.functions → IsFreshName m f) (functions : (f : ℕ) → f < length m.functions → IsCheckedFunction m f)
     (blocks : (b : ℕ) → b < length m.blocks → IsCheckedBlock m b) (insts : (i : ℕ) → i < length m.insts → IsCheckedInst m i) (edges : IsCheckedEdges m) where
+  types_fit : (p : Place) → ¬ HasOtherTypeAt m p
+  types_fit P.Module h = h
+  types_fit (P.Function f) h = (functions f (slice_get_within m.functions f h.0 h.1)).types h
+  types_fit (P.Block b) h = h
+  types_fit (P.Inst i) h = (insts i (slice_get_within m.insts i h.0 h.1)).types h
+
+  none_long : (p : Place) → ¬ HasLongList m p
+  none_long P.Module h = few h
+  none_long (P.Function f) h = (functions f (slice_get_within m.functions f h.0 h.1)).lists h
+  none_long (P.Block b) h = (blocks b (slice_get_within m.blocks b h.0 h.1)).lists h
+  none_long (P.Inst i) h = (insts i (slice_get_within m.insts i h.0 h.1)).lists h
+
   pub all_checked : IsChecked m
-  all_checked (NameTwice (P.Function f)) (x, at, h) =
+  all_checked (NameTwice p) = no_function p (λ f (x, at, h).
       let within = slice_get_within m.functions f x at in
       let name = fresh f within x at in
-      elim h [ inl bad ↦ cc (name.0, bad) | inr more ↦ elim more [ inl t ↦ name.1 t | inr twice ↦ (functions f within).locals x at twice ] ]
-  all_checked (NoTerminator (P.Block b)) h = (blocks b (slice_get_within m.blocks b h.0 h.1)).terminators h
-  all_checked (PhiPlace (P.Block b)) h = (blocks b (slice_get_within m.blocks b h.0 h.1)).phis h
-  all_checked (PhiEntries (P.Inst i)) h = edges.entries i (slice_get_within m.insts i h.0 h.1) h
-  all_checked (EntryHasPreds (P.Function f)) h = edges.firsts f (slice_get_within m.functions f h.0 h.1) h
-  all_checked (OperandType (P.Function f)) h = (functions f (slice_get_within m.functions f h.0 h.1)).types h
-  all_checked (OperandType (P.Inst i)) h = (insts i (slice_get_within m.insts i h.0 h.1)).types h
-  all_checked (OperandCount (P.Inst i)) h = (insts i (slice_get_within m.insts i h.0 h.1)).counts h
-  all_checked (BlockOutside (P.Inst i)) h = (insts i (slice_get_within m.insts i h.0 h.1)).outside h
-  all_checked (IntrinsicBody (P.Function f)) h = (functions f (slice_get_within m.functions f h.0 h.1)).bodies h
-  all_checked (FunctionSpace (P.Function f)) h = (functions f (slice_get_within m.functions f h.0 h.1)).spaces h
-  all_checked (ListTooLong P.Module) h = few h
-  all_checked (ListTooLong (P.Function f)) h = (functions f (slice_get_within m.functions f h.0 h.1)).lists h
-  all_checked (ListTooLong (P.Block b)) h = (blocks b (slice_get_within m.blocks b h.0 h.1)).lists h
-  all_checked (ListTooLong (P.Inst i)) h = (insts i (slice_get_within m.insts i h.0 h.1)).lists h
-  all_checked e h = h
+      elim h [ inl bad ↦ cc (name.0, bad) | inr more ↦ elim more [ inl t ↦ name.1 t | inr twice ↦ (functions f within).locals x at twice ] ])
+  all_checked (NoTerminator p) = no_block p (λ b h. (blocks b (slice_get_within m.blocks b h.0 h.1)).terminators h)
+  all_checked (PhiPlace p) = no_block p (λ b h. (blocks b (slice_get_within m.blocks b h.0 h.1)).phis h)
+  all_checked (PhiEntries p) = no_inst p (λ i h. edges.entries i (slice_get_within m.insts i h.0 h.1) h)
+  all_checked (EntryHasPreds p) = no_function p (λ f h. edges.firsts f (slice_get_within m.functions f h.0 h.1) h)
+  all_checked (OperandType p) = types_fit p
+  all_checked (OperandCount p) = no_inst p (λ i h. (insts i (slice_get_within m.insts i h.0 h.1)).counts h)
+  all_checked (BlockOutside p) = no_inst p (λ i h. (insts i (slice_get_within m.insts i h.0 h.1)).outside h)
+  all_checked (IntrinsicBody p) = no_function p (λ f h. (functions f (slice_get_within m.functions f h.0 h.1)).bodies h)
+  all_checked (FunctionSpace p) = no_function p (λ f h. (functions f (slice_get_within m.functions f h.0 h.1)).spaces h)
+  all_checked (ListTooLong p) = none_long p
+  all_checked NoMemory = λ h. h

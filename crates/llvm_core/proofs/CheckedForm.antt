@@ -1,9 +1,9 @@
 -- A checked module with plain names and narrow types is of the form.
-use Rattle.std.proofs.Common.{◌≡◌, ◌≢◌, ◌<◌, ◌||◌, inl, inr, ℕ, zero, suc, true, false, nat_eq, [], Some, length, slice_get, refl, sym, ap, subst, ◌∙◌}
-use Rattle.std.specs.List.{flat_map}
-use Rattle.std.specs.Option.{option_map_or}
+use Rattle.std.proofs.Common.{◌≡◌, ◌≢◌, ◌<◌, inl, inr, ℕ, true, false, nat_eq, [], Option, None, Some, length, slice_get, refl, sym, ap, subst, ◌∙◌}
+use Rattle.std.specs.List.{flat_map, list_any}
+use Rattle.std.specs.Option.{option_map, option_map_or}
 use Rattle.std.proofs.lemmas.Bool.{cases_eq, cases_Bool, eqb-true, not-false, or_parts, false_from_ne_true, true_from_ne_false}
-use Rattle.std.proofs.lemmas.Option.{same_Some}
+use Rattle.std.proofs.lemmas.Option.{slice_get-map, same_Some}
 use Rattle.support.proofs.ListLaws.{all_from, item_there, in_joined, from_joined}
 use Rattle.llvm_core.specs.declared.numbers.LLVMFunction.{LLVMFunction}
 use Rattle.llvm_core.specs.declared.numbers.LLVMBasicBlock.{LLVMBasicBlock}
@@ -20,10 +20,11 @@ use Rattle.llvm_core.specs.Edges.{targets_at, targets_from}
 use Rattle.llvm_core.specs.Edges.{targets as leads_to}
 use Rattle.llvm_core.specs.Parts.{HasValues, IsBlock}
 use Rattle.llvm_core.specs.Sound.{IsModule}
-use Rattle.llvm_core.specs.Data.{Placed, Block, trees_of, instruction_of, data_of}
+use Rattle.llvm_core.specs.Data.{Placed, Block, trees_of, data_of}
 use Rattle.llvm_core.specs.Checked.{IsChecked, MisfitsType, misfits_count, home, ends_in_only, is_block_outside, is_outside, reaches_outside}
-use Rattle.llvm_core.specs.Form.{IsForm, IsFormFunction, IsFormBlock, IsFormInstruction, IsNarrow, IsNarrowFunction, IsNarrowBlock, IsNarrowPlaced, HasPhisFirst, count_types, is_last, is_phi}
+use Rattle.llvm_core.specs.Form.{IsForm, IsFormFunction, IsFormBlock, IsFormPlaced, IsNarrow, IsNarrowFunction, IsNarrowBlock, IsNarrowPlaced, HasPhisFirst, count_types, is_last, is_phi}
 use Rattle.llvm_core.proofs.DataLemmas.{within_at, function_at}
+use Rattle.llvm_core.proofs.GivenLemmas.{none_any_at}
 use Rattle.llvm_core.proofs.FormTypes.{numbered, signature_of, param_types_are, count_is}
 use Rattle.llvm_core.proofs.FormPlaces.{shown, shown_inst, same_block_ends, same_phi_at, inst_place, IsFromBlock, block_from, IsFromInst, inst_from}
 use Rattle.llvm_core.proofs.FormEdges.{StaysInside, count_present, same_edges}
@@ -34,20 +35,15 @@ use Rattle.llvm_core.proofs.CheckedInsts.{MeetsRules, form_of}
 
 -- a target of an instruction that reaches nothing outside is a block of the function
 target_inside : (m : Module) (f : LLVMFunction) (i : LLVMInst) (k t : ℕ) → HasValues m i → reaches_outside m f i ≡ false → slice_get (leads_to i) k ≡ Some t → IsBlock m (record { 0 = t }) × (is_block_outside m f (record { 0 = t }) ≡ false)
-target_inside m f (I.Add lhs rhs flags) k t here inside at = cc
-target_inside m f (I.ICmp lhs rhs predicate) k t here inside at = cc
 target_inside m f (I.Phi type entries) k t here inside at = cc
-target_inside m f (I.Br target) zero t here inside at = rw (← same_Some target.0 t at) (here, inside)
-target_inside m f (I.Br target) (suc k) t here inside at = cc
-target_inside m f (I.CondBr condition first second) zero t here inside at =
-    let outer = or_parts (is_outside m f condition || is_block_outside m f first) (is_block_outside m f second) inside in
-    rw (← same_Some first.0 t at) (here.1, (or_parts (is_outside m f condition) (is_block_outside m f first) outer.0).1)
-target_inside m f (I.CondBr condition first second) (suc zero) t here inside at =
-    let outer = or_parts (is_outside m f condition || is_block_outside m f first) (is_block_outside m f second) inside in
-    rw (← same_Some second.0 t at) (here.2, outer.1)
-target_inside m f (I.CondBr condition first second) (suc (suc k)) t here inside at = cc
-target_inside m f (I.Ret value) k t here inside at = cc
-target_inside m f I.Unreachable k t here inside at = cc
+target_inside m f (I.Row r) k t here inside at = by (slice_get r.targets k) refl (sym (slice_get-map (λ (b : LLVMBasicBlock). b.0) r.targets k) ∙ at)
+  where
+    none : list_any (is_block_outside m f) r.targets ≡ false
+    none = (or_parts (list_any (is_outside m f) r.operands) (list_any (is_block_outside m f) r.targets) inside).1
+
+    by : (o : Option LLVMBasicBlock) → slice_get r.targets k ≡ o → option_map (λ (b : LLVMBasicBlock). b.0) o ≡ Some t → IsBlock m (record { 0 = t }) × (is_block_outside m f (record { 0 = t }) ≡ false)
+    by None e h = absurd cc
+    by (Some b) e h = rw (← same_Some b.0 t h) (within_at r.targets (IsBlock m) here.1 k b e, none_any_at (is_block_outside m f) r.targets k b none e)
 
 module _ (m : Module) (sound : IsModule m) (checked : IsChecked m) where
   inside_at : (i : ℕ) (z : InstData) → slice_get m.insts i ≡ Some z → reaches_outside m (home m z) z.inst ≡ false
@@ -109,11 +105,16 @@ module _ (m : Module) (sound : IsModule m) (checked : IsChecked m) where
 
   module _ (f : ℕ) (x : FunctionData) (at : slice_get m.functions f ≡ Some x) (narrow : IsNarrowFunction (shown m f x)) where
     inst_form : (i : ℕ) (z : InstData) → slice_get m.insts i ≡ Some z → (y : BlockData) → slice_get m.blocks z.block.0 ≡ Some y → y.function.0 ≡ f → IsNarrowPlaced (shown m f x) (shown_inst m i z)
-        → IsFormInstruction (shown m f x) z.block.0 (shown_inst m i z) (instruction_of (trees_of m) z.inst)
+        → IsFormPlaced (shown m f x) z.block.0 (shown_inst m i z)
     inst_form i z is y block_is own short =
         let home_is : home m z ≡ numbered f = ap (λ o. option_map_or (λ (b : BlockData). b.function) o (record { 0 = 0 })) block_is ∙ ap numbered own in
-        form_of m f x sound at z.block.0 (shown_inst m i z) z.ty refl short.name short.unnamed z.inst (meets f i z is home_is) short.operands
-        (λ p. same_edges m f x sound at narrow.block_numbers stays_inside p z.block.0 y block_is own) (λ k t leads. leads_behind f x i z k t at is leads)
+        record {
+          instruction = form_of m f x sound at z.block.0 (shown_inst m i z).type z.ty refl z.inst (meets f i z is home_is) short.operands
+              (λ p. same_edges m f x sound at narrow.block_numbers stays_inside p z.block.0 y block_is own) (λ k t leads. leads_behind f x i z k t at is leads);
+          short = short.result;
+          name = short.name;
+          unnamed = short.unnamed;
+        }
 
     -- ---- blocks
 
@@ -121,15 +122,14 @@ module _ (m : Module) (sound : IsModule m) (checked : IsChecked m) where
       listed_inst : (j : ℕ) (p : Placed) → slice_get c.instructions j ≡ Some p → IsFromInst m l.number l.block j p
       listed_inst j p is = inst_from m l.number l.block j p sound l.here (ap (λ (d : Block). slice_get d.instructions j) (sym l.shown_as) ∙ is)
 
-      each_inst : (j : ℕ) (p : Placed) → slice_get c.instructions j ≡ Some p → IsFormInstruction (shown m f x) c.number p p.instruction
+      each_inst : (j : ℕ) (p : Placed) → slice_get c.instructions j ≡ Some p → IsFormPlaced (shown m f x) c.number p
       each_inst j p is =
           let i = listed_inst j p is in
           let block : slice_get m.blocks i.inst.block.0 ≡ Some l.block = ap (slice_get m.blocks) i.owned ∙ l.here in
           let number : i.inst.block.0 ≡ c.number = i.owned ∙ ap (λ (d : Block). d.number) (sym l.shown_as) in
           let narrow_inst = subst (IsNarrowPlaced (shown m f x)) i.shown_as (within_at c.instructions (IsNarrowPlaced (shown m f x)) short.instructions j p is) in
           let form = inst_form i.number i.inst i.here l.block block l.owned narrow_inst in
-          subst (λ (q : Placed). IsFormInstruction (shown m f x) c.number q q.instruction) (sym i.shown_as)
-          (subst (λ (n : ℕ). IsFormInstruction (shown m f x) n (shown_inst m i.number i.inst) (instruction_of (trees_of m) i.inst.inst)) number form)
+          subst (IsFormPlaced (shown m f x) c.number) (sym i.shown_as) (subst (λ (n : ℕ). IsFormPlaced (shown m f x) n (shown_inst m i.number i.inst)) number form)
 
       phis_first : HasPhisFirst c.instructions
       phis_first j k p q lt at_p at_q plain = elim (cases_Bool (is_phi q)) [
@@ -144,7 +144,7 @@ module _ (m : Module) (sound : IsModule m) (checked : IsChecked m) where
       block_form : IsFormBlock (shown m f x) c
       block_form = record {
         label = short.label;
-        instructions = all_from (λ (p : Placed). IsFormInstruction (shown m f x) c.number p p.instruction) c.instructions each_inst;
+        instructions = all_from (IsFormPlaced (shown m f x) c.number) c.instructions each_inst;
         phis = phis_first;
         ends = true_from_ne_false (ends_in_only is_last c.instructions) (λ open_end.
             let same = same_block_ends m (record { 0 = l.number }) l.block sound l.here ∙ ap (λ (d : Block). ends_in_only is_last d.instructions) (sym l.shown_as) in

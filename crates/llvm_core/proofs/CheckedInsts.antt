@@ -1,34 +1,42 @@
 -- The instructions of a checked module with plain names and narrow types are of the form.
-use Rattle.std.proofs.Common.{◌≡◌, ◌≢◌, inl, inr, ℕ, zero, suc, true, false, nat_eq, ◌||◌, List, [], ◌∷◌, Option, None, Some, map, slice_get, refl, sym, ap, subst, ◌∙◌, All}
-use Rattle.std.specs.Option.{option_map, option_map_or}
-use Rattle.std.proofs.lemmas.Bool.{cases_eq, eqb-true, not-false, or_parts, true_from_ne_false}
+use Rattle.std.proofs.Common.{◌≡◌, ◌≢◌, inl, inr, ℕ, zero, suc, false, not, nat_eq, List, [], ◌∷◌, Option, None, Some, length, map, slice_get, unwrap_or, refl, sym, ap, subst, ◌∙◌, All}
+use Rattle.std.specs.List.{list_any}
+use Rattle.std.specs.Option.{option_map}
+use Rattle.std.proofs.lemmas.Bool.{and_parts, cases_eq, eqb-true, false_from_ne_true, not-false, or_parts}
+use Rattle.std.proofs.lemmas.List.{length-map}
+use Rattle.std.proofs.lemmas.List.Elements.{All-nil, All-cons, All-head, All-tail, All-map}
 use Rattle.std.proofs.lemmas.Option.{slice_get-map, same_Some}
 use Rattle.support.proofs.ListLaws.{all_from, item_there}
+use Rattle.kinds.specs.Rules.{operand_count, target_count}
+use Rattle.kinds.specs.Table.{rule_of}
+use Rattle.kinds.specs.Typing.{fits_trees, typed}
 use Rattle.llvm_core.specs.declared.numbers.LLVMType.{LLVMType}
 use Rattle.llvm_core.specs.declared.numbers.LLVMBasicBlock.{LLVMBasicBlock}
+use Rattle.llvm_core.specs.declared.types.ResultType.{ResultType}
 use Rattle.llvm_core.specs.declared.types.ResultType.TheVariants as R
 use Rattle.llvm_core.specs.declared.code.LLVMValue.{LLVMValue}
 use Rattle.llvm_core.specs.declared.code.LLVMInst.{LLVMInst}
 use Rattle.llvm_core.specs.declared.code.LLVMInst.TheVariants as I
 use Rattle.llvm_core.specs.declared.code.PhiEntry.{PhiEntry}
+use Rattle.llvm_core.specs.declared.code.Row.{Row}
 use Rattle.llvm_core.specs.declared.code.FunctionData.{FunctionData}
 use Rattle.llvm_core.specs.Module.{Module}
-use Rattle.llvm_core.specs.Parts.{IsValue, IsBlock, IsEntry, HasValues, is_kind, value_type, result_type}
+use Rattle.llvm_core.specs.Parts.{IsValue, IsBlock, IsEntry, HasValues, row_fits, row_result, value_type, result_type}
 use Rattle.llvm_core.specs.Edges.{count_of, edge_count}
 use Rattle.llvm_core.specs.Edges.{targets as leads_to}
 use Rattle.llvm_core.specs.Sound.{IsModule, StandsFor}
-use Rattle.llvm_core.specs.Names.{IsPlainOrNone}
-use Rattle.llvm_core.specs.Data.{VoidType, IntType, Operand, Placed, Block, type_at, trees_of, entry_of, operand_of, instruction_of, operand_type}
-use Rattle.llvm_core.specs.Checked.{is_void, is_bit, return_type, returns_void, MisfitsType, misfits_count, is_outside, is_block_outside, is_entry_outside, reaches_outside, MisfitsEdges, sources}
-use Rattle.llvm_core.specs.Form.{IsShortInt, IsOperand, IsTarget, FitsEdges, HasNoResult, edges_between, result_of, IsFormInstruction, operands_of}
+use Rattle.llvm_core.specs.Data.{TypeTree, VoidType, Operand, Block, type_at, trees_of, tree_of_result, entry_of, operand_of, row_of, instruction_of, operand_type}
+use Rattle.llvm_core.specs.Checked.{returns_void, MisfitsType, misfits_row, misfits_return, is_counted, misfits_count, is_outside, is_block_outside, is_entry_outside, reaches_outside, MisfitsEdges, sources}
+use Rattle.llvm_core.specs.Form.{IsShortInt, IsOperand, IsTarget, FitsEdges, edges_between, IsFormRow, IsFormInstruction, operands_of}
 use Rattle.llvm_core.proofs.DataLemmas.{within_at, void_tree_of, int_tree_of}
 use Rattle.llvm_core.proofs.PhiLemmas.{same_block}
-use Rattle.llvm_core.proofs.DecideLemmas.{void_there, bit_there, type_decided, both_agree, value_decided}
+use Rattle.llvm_core.proofs.DecideLemmas.{type_decided, value_decided}
 use Rattle.llvm_core.proofs.GivenLemmas.{none_any_at}
-use Rattle.llvm_core.proofs.FormTypes.{numbered, signature_of, function_typed, return_type_is}
+use Rattle.llvm_core.proofs.RuleLaws.{tree, fits_by_tree, result_by_tree}
+use Rattle.llvm_core.proofs.FormTypes.{numbered}
 use Rattle.llvm_core.proofs.FormPlaces.{shown, shown_block, block_place}
 use Rattle.llvm_core.proofs.FormEdges.{same_sources}
-use Rattle.llvm_core.proofs.FormValues.{value_typed, value_stands}
+use Rattle.llvm_core.proofs.FormValues.{value_typed, value_stands, values_stand, types_same, same_void, return_form}
 
 -- the entry of a phi whose data stand at a place
 entry_from : (m : Module) (entries : List PhiEntry) (k : ℕ) (o : Operand × ℕ) → slice_get (map (entry_of (trees_of m)) entries) k ≡ Some o → (e : PhiEntry) × (slice_get entries k ≡ Some e) × (entry_of (trees_of m) e ≡ o)
@@ -62,15 +70,6 @@ module _ (m : Module) (f : ℕ) (x : FunctionData) (sound : IsModule m) (at : sl
       let typed : operand_type (shown m f x) (operand_of (trees_of m) v) ≡ type_at (trees_of m).types t = sym h.tree_is ∙ ap (type_at (trees_of m).types) same in
       record { stands = stands; typed = typed; short = subst IsShortInt typed short }
 
-  -- an operand that passes the test for i1
-  bit_operand : (v : LLVMValue) → IsValue m v → is_outside m (numbered f) v ≡ false → IsShortInt (operand_type (shown m f x) (operand_of (trees_of m) v)) → option_map_or (is_kind is_bit m.types) (value_type m v) false ≡ true
-      → IsOperand (shown m f x) (IntType 1) (operand_of (trees_of m) v)
-  bit_operand v here inside short bit = by (value_type m v) refl bit
-    where
-      by : (o : Option LLVMType) → value_type m v ≡ o → option_map_or (is_kind is_bit m.types) o false ≡ true → IsOperand (shown m f x) (IntType 1) (operand_of (trees_of m) v)
-      by None e h = absurd cc
-      by (Some t) e h = subst (λ u. IsOperand (shown m f x) u (operand_of (trees_of m) v)) (int_tree_of m t 1 sound (bit_there m.types t h)) (is_operand v t here inside short e)
-
   -- a block of the function that is not the first
   is_target : (b : LLVMBasicBlock) → IsBlock m b → is_block_outside m (numbered f) b ≡ false → slice_get x.blocks 0 ≢ Some b → IsTarget (shown m f x) b.0
   is_target b here inside behind =
@@ -83,34 +82,25 @@ module _ (m : Module) (f : ℕ) (x : FunctionData) (sound : IsModule m) (at : sl
       by zero listed c is number = absurd (behind listed)
       by (suc k) listed c is number = (k, c, is, number)
 
-  -- ---- what the function returns
+  targets_stand : (bs : List LLVMBasicBlock) → All (IsBlock m) bs → list_any (is_block_outside m (numbered f)) bs ≡ false
+      → ((k : ℕ) (t : LLVMBasicBlock) → slice_get (map (λ (b : LLVMBasicBlock). b.0) bs) k ≡ Some t.0 → slice_get x.blocks 0 ≢ Some t) → All (IsTarget (shown m f x)) (map (λ (b : LLVMBasicBlock). b.0) bs)
+  targets_stand [] here none behind = All-nil (IsTarget (shown m f x))
+  targets_stand (b ∷ bs) here none behind =
+      let inside = or_parts (is_block_outside m (numbered f) b) (list_any (is_block_outside m (numbered f)) bs) none in
+      All-cons (IsTarget (shown m f x)) b.0 (map (λ (b : LLVMBasicBlock). b.0) bs) (is_target b (All-head (IsBlock m) b bs here) inside.0 (behind 0 b refl))
+      (targets_stand bs (All-tail (IsBlock m) b bs here) inside.1 (λ k t is. behind (suc k) t is))
 
-  -- the type of what the function returns
-  record HasReturn : Type 0 where
-    returned : LLVMType
-    type_is : return_type m (numbered f) ≡ Some returned
-    tree_is : type_at (trees_of m).types returned ≡ result_of (shown m f x).type
+  -- the tree of what stands for a result's type, void where there is none
+  result_stood : (o : Option ResultType) (ty : LLVMType) → StandsFor m.types o ty → type_at (trees_of m).types ty ≡ unwrap_or (option_map (tree_of_result (trees_of m).types) o) VoidType
+  result_stood None ty h = void_tree_of m ty sound h
+  result_stood (Some (R.There t)) ty h = ap (type_at (trees_of m).types) h
+  result_stood (Some R.Bit) ty h = int_tree_of m ty 1 sound h
 
-  returned_here : HasReturn
-  returned_here =
-      let typed = function_typed m f x sound at in
-      let s = signature_of m f x typed.0 typed.1 typed.2 sound at typed.3 in
-      record { returned = s.returned; type_is = return_type_is m f x typed.0 typed.1 sound at s; tree_is = s.returned_is ∙ sym (ap result_of typed.3) }
-
-  returns_nothing : returns_void m (numbered f) ≡ true → result_of (shown m f x).type ≡ VoidType
-  returns_nothing h =
-      let r = returned_here in
-      let void = void_there m.types r.returned (sym (ap (λ o. option_map_or (is_kind is_void m.types) o false) r.type_is) ∙ h) in
-      sym r.tree_is ∙ void_tree_of m r.returned sound void
-
-  module _ (b : ℕ) (placed : Placed) (ty : LLVMType) (typed : placed.type ≡ type_at (trees_of m).types ty) (name : IsPlainOrNone placed.name) (unnamed : placed.type ≡ VoidType → placed.name ≡ []) where
-    no_result : StandsFor m.types None ty → HasNoResult placed
-    no_result void = let type = typed ∙ void_tree_of m ty sound void in record { type = type; name = unnamed type }
-
+  module _ (b : ℕ) (own : TypeTree) (ty : LLVMType) (own_is : own ≡ type_at (trees_of m).types ty) where
     -- ---- phis
 
     entry_operand : (type : LLVMType) (entries : List PhiEntry) → MeetsRules m f b ty (I.Phi type entries) → All IsShortHere (operands_of (instruction_of (trees_of m) (I.Phi type entries))) → (k : ℕ) (e : PhiEntry) → slice_get entries k ≡ Some e
-        → IsOperand (shown m f x) placed.type (operand_of (trees_of m) e.value)
+        → IsOperand (shown m f x) own (operand_of (trees_of m) e.value)
     entry_operand type entries h short k e is =
         let parts = or_parts (is_outside m (numbered f) e.value) (is_block_outside m (numbered f) e.block) (none_any_at (is_entry_outside m (numbered f)) entries k e h.outside is) in
         let value = type_decided (value_type m e.value) type (λ other. h.types (inr (k, e, is, other))) in
@@ -118,8 +108,8 @@ module _ (m : Module) (f : ℕ) (x : FunctionData) (sound : IsModule m) (at : sl
         let listed : slice_get (map (λ (o : Operand × ℕ). o.0) (map (entry_of (trees_of m)) entries)) k ≡ Some (operand_of (trees_of m) e.value) =
         (slice_get-map (λ (o : Operand × ℕ). o.0) (map (entry_of (trees_of m)) entries) k ∙ ap (option_map (λ (o : Operand × ℕ). o.0)) (slice_get-map (entry_of (trees_of m)) entries k ∙ ap (option_map (entry_of (trees_of m))) is)) in
         let narrow = within_at (map (λ (o : Operand × ℕ). o.0) (map (entry_of (trees_of m)) entries)) IsShortHere short k (operand_of (trees_of m) e.value) listed in
-        let own : type_at (trees_of m).types type ≡ placed.type = sym (typed ∙ ap (type_at (trees_of m).types) h.result) in
-        subst (λ t. IsOperand (shown m f x) t (operand_of (trees_of m) e.value)) own (is_operand e.value type entry.0 parts.0 narrow value)
+        let same : type_at (trees_of m).types type ≡ own = sym (own_is ∙ ap (type_at (trees_of m).types) h.result) in
+        subst (λ t. IsOperand (shown m f x) t (operand_of (trees_of m) e.value)) same (is_operand e.value type entry.0 parts.0 narrow value)
 
     counted : (type : LLVMType) (entries : List PhiEntry) → MeetsRules m f b ty (I.Phi type entries) → (p : ℕ) → count_of p (sources entries) ≡ edge_count m p b
     counted type entries h p = elim (cases_eq (count_of p (sources entries)) (edge_count m p b)) [ inl same ↦ same | inr other ↦ absurd (h.edges (inl (λ fits. other (fits p)))) ]
@@ -144,56 +134,38 @@ module _ (m : Module) (f : ℕ) (x : FunctionData) (sound : IsModule m) (at : sl
           absurd (let there = slice_get-map (entry_of (trees_of m)) entries 0 ∙ ap (option_map (entry_of (trees_of m))) e.1 in let empty = ap (λ os. slice_get os 0) none in cc (there, empty));
     }
 
-    -- ---- each kind
+    -- ---- rows
+
+    row_form : (r : Row) → MeetsRules m f b ty (I.Row r) → All IsShortHere (map (operand_of (trees_of m)) r.operands) → ((k : ℕ) (t : LLVMBasicBlock) → slice_get (leads_to (I.Row r)) k ≡ Some t.0 → slice_get x.blocks 0 ≢ Some t)
+        → IsFormRow (shown m f x) own (row_of (trees_of m) r)
+    row_form r h short behind =
+        let takes = (rule_of r.op).takes in
+        let os = map (operand_of (trees_of m)) r.operands in
+        let inside = or_parts (list_any (is_outside m (numbered f)) r.operands) (list_any (is_block_outside m (numbered f)) r.targets) h.outside in
+        let fits = or_parts (not (row_fits m r)) (misfits_return takes m (numbered f) r.operands) (false_from_ne_true (misfits_row m (numbered f) r) h.types) in
+        let counts = and_parts (nat_eq (length r.operands) (operand_count takes (returns_void m (numbered f)))) (nat_eq (length r.targets) (target_count (rule_of r.op).leads)) (not-false (is_counted m (numbered f) r) h.counts) in
+        let stand = values_stand m f x sound at r.operands h.values.0 inside.0 in
+        let types = types_same m f x sound at r.operands h.values.0 stand in
+        record {
+          operands = stand;
+          short = All-map IsShortInt (operand_type (shown m f x)) os short;
+          count = length-map r.operands (operand_of (trees_of m)) ∙ eqb-true (length r.operands) (operand_count takes (returns_void m (numbered f))) counts.0 ∙ ap (operand_count takes) (same_void m f x sound at);
+          fits = ap (fits_trees r.op (option_map (tree m sound) r.written)) types ∙ fits_by_tree m sound r h.values ∙ not-false (row_fits m r) fits.0;
+          returns = return_form m f x sound at takes r.operands h.values.0 stand fits.1;
+          result = own_is ∙ result_stood (row_result m r) ty h.result ∙ ap (λ o. unwrap_or o VoidType) (result_by_tree m sound r h.values ∙ ap (typed r.op (option_map (tree m sound) r.written)) (sym types));
+          targets = targets_stand r.targets h.values.1 inside.1 behind;
+          leads = length-map r.targets (λ (b : LLVMBasicBlock). b.0) ∙ eqb-true (length r.targets) (target_count (rule_of r.op).leads) counts.1;
+        }
+
+    -- ---- instructions
 
     -- an instruction that meets the rules is of the form, where the edges in the data are those of the module and none leads to the first block
     pub form_of : (i : LLVMInst) → MeetsRules m f b ty i → All IsShortHere (operands_of (instruction_of (trees_of m) i)) → ((p : ℕ) → edges_between (shown m f x) p b ≡ edge_count m p b)
-        → ((k : ℕ) (t : LLVMBasicBlock) → slice_get (leads_to i) k ≡ Some t.0 → slice_get x.blocks 0 ≢ Some t) → IsFormInstruction (shown m f x) b placed (instruction_of (trees_of m) i)
-    form_of (I.Add lhs rhs flags) h short edges behind =
-        let os = operands_of (instruction_of (trees_of m) (I.Add lhs rhs flags)) in
-        let t = both_agree m.types (value_type m lhs) (value_type m rhs) (λ e. h.types (ap (option_map R.There) e)) in
-        let result : result_type m (I.Add lhs rhs flags) ≡ Some (R.There t.0) = ap (option_map R.There) t.3 in
-        let same : ty ≡ t.0 = subst (λ r. StandsFor m.types r ty) result h.result in
-        let own : type_at (trees_of m).types t.0 ≡ placed.type = sym (typed ∙ ap (type_at (trees_of m).types) same) in
-        let outside = or_parts (is_outside m (numbered f) lhs) (is_outside m (numbered f) rhs) h.outside in (
-          subst (λ u. IsOperand (shown m f x) u (operand_of (trees_of m) lhs)) own (is_operand lhs t.0 h.values.0 outside.0 (within_at os IsShortHere short 0 (operand_of (trees_of m) lhs) refl) t.1),
-          subst (λ u. IsOperand (shown m f x) u (operand_of (trees_of m) rhs)) own (is_operand rhs t.0 h.values.1 outside.1 (within_at os IsShortHere short 1 (operand_of (trees_of m) rhs) refl) t.2),
-          name,
-        )
-    form_of (I.ICmp lhs rhs predicate) h short edges behind =
-        let os = operands_of (instruction_of (trees_of m) (I.ICmp lhs rhs predicate)) in
-        let t = both_agree m.types (value_type m lhs) (value_type m rhs) (λ e. h.types (ap (option_map (λ _. R.Bit)) e)) in
-        let result : result_type m (I.ICmp lhs rhs predicate) ≡ Some R.Bit = ap (option_map (λ _. R.Bit)) t.3 in
-        let bit = subst (λ r. StandsFor m.types r ty) result h.result in
-        let outside = or_parts (is_outside m (numbered f) lhs) (is_outside m (numbered f) rhs) h.outside in (
-          (
-            type_at (trees_of m).types t.0,
-            is_operand lhs t.0 h.values.0 outside.0 (within_at os IsShortHere short 0 (operand_of (trees_of m) lhs) refl) t.1,
-            is_operand rhs t.0 h.values.1 outside.1 (within_at os IsShortHere short 1 (operand_of (trees_of m) rhs) refl) t.2,
-          ),
-          typed ∙ int_tree_of m ty 1 sound bit,
-          name,
-        )
+        → ((k : ℕ) (t : LLVMBasicBlock) → slice_get (leads_to i) k ≡ Some t.0 → slice_get x.blocks 0 ≢ Some t) → IsFormInstruction (shown m f x) b own (instruction_of (trees_of m) i)
     form_of (I.Phi type entries) h short edges behind =
         let first = some_entry type entries h in
-        let each : All (λ (o : Operand × ℕ). IsOperand (shown m f x) placed.type o.0) (map (entry_of (trees_of m)) entries) = all_from (λ (o : Operand × ℕ). IsOperand (shown m f x) placed.type o.0) (map (entry_of (trees_of m)) entries) (λ k o is.
+        let each : All (λ (o : Operand × ℕ). IsOperand (shown m f x) own o.0) (map (entry_of (trees_of m)) entries) = all_from (λ (o : Operand × ℕ). IsOperand (shown m f x) own o.0) (map (entry_of (trees_of m)) entries) (λ k o is.
         let e = entry_from m entries k o is in
-        subst (λ (o : Operand × ℕ). IsOperand (shown m f x) placed.type o.0) e.2 (entry_operand type entries h short k e.0 e.1)) in
-        (each, phi_fits type entries h edges, (entry_operand type entries h short 0 first.0 first.1).short, name)
-    form_of (I.Br target) h short edges behind = (is_target target h.values h.outside (behind 0 target refl), no_result h.result)
-    form_of (I.CondBr condition first second) h short edges behind =
-        let os = operands_of (instruction_of (trees_of m) (I.CondBr condition first second)) in
-        let outer = or_parts (is_outside m (numbered f) condition || is_block_outside m (numbered f) first) (is_block_outside m (numbered f) second) h.outside in
-        let inner = or_parts (is_outside m (numbered f) condition) (is_block_outside m (numbered f) first) outer.0 in (
-          bit_operand condition h.values.0 inner.0 (within_at os IsShortHere short 0 (operand_of (trees_of m) condition) refl) (true_from_ne_false _ h.types),
-          is_target first h.values.1 inner.1 (behind 0 first refl),
-          is_target second h.values.2 outer.1 (behind 1 second refl),
-          no_result h.result,
-        )
-    form_of (I.Ret None) h short edges behind = (returns_nothing (not-false (returns_void m (numbered f)) h.counts), no_result h.result)
-    form_of (I.Ret (Some v)) h short edges behind =
-        let os = operands_of (instruction_of (trees_of m) (I.Ret (Some v))) in
-        let r = returned_here in
-        let value = type_decided (value_type m v) r.returned (λ other. h.types (λ e. other (e ∙ r.type_is))) in
-        (subst (λ u. IsOperand (shown m f x) u (operand_of (trees_of m) v)) r.tree_is (is_operand v r.returned h.values h.outside (within_at os IsShortHere short 0 (operand_of (trees_of m) v) refl) value), no_result h.result)
-    form_of I.Unreachable h short edges behind = no_result h.result
+        subst (λ (o : Operand × ℕ). IsOperand (shown m f x) own o.0) e.2 (entry_operand type entries h short k e.0 e.1)) in
+        (each, phi_fits type entries h edges, (entry_operand type entries h short 0 first.0 first.1).short)
+    form_of (I.Row r) h short edges behind = row_form r h short behind

@@ -1,12 +1,13 @@
 -- Counts in lists of numbers, and the lists of where edges come from.
-use Rattle.std.proofs.Common.{◌≡◌, ◌≢◌, ◌<◌, ◌≤◌, ◌+◌, ℕ, zero, suc, Bool, true, false, nat_eq, nat_lt, if◌then◌else◌, List, [], ◌∷◌, ◌++◌, Option, None, Some, length, slice_get, slice_set, take, get_or, sym, ap, ◌∙◌, refl, subst, arith, inl, inr, eq-eqb, All}
+use Rattle.std.proofs.Common.{◌≡◌, ◌≢◌, ◌<◌, ◌≤◌, ◌+◌, ℕ, zero, suc, Bool, true, false, nat_eq, nat_lt, if◌then◌else◌, List, [], ◌∷◌, ◌++◌, Option, None, Some, length, slice_get, slice_set, map, take, get_or, sym, ap, ◌∙◌, refl, subst, arith, inl, inr, eq-eqb, All}
 use Rattle.std.specs.List.{filter, flat_map}
 use Rattle.std.specs.Option.{option_map, option_map_or}
 use Rattle.std.proofs.lemmas.Bool.{eqb-true, cases_eq, cases_order}
 use Rattle.std.proofs.lemmas.List.{append-nil, take_more}
 use Rattle.std.proofs.lemmas.List.Concat.{flat_map-append}
-use Rattle.std.proofs.lemmas.List.Elements.{All-nil, All-cons}
+use Rattle.std.proofs.lemmas.List.Elements.{All-nil, All-cons, All-head, All-tail, All-map}
 use Rattle.std.proofs.lemmas.Option.{slice_get_within, get_or_from_slice_get}
+use Rattle.llvm_core.specs.declared.numbers.LLVMBasicBlock.{LLVMBasicBlock}
 use Rattle.llvm_core.specs.declared.code.LLVMInst.{LLVMInst}
 use Rattle.llvm_core.specs.declared.code.LLVMInst.TheVariants as I
 use Rattle.llvm_core.specs.declared.code.BlockData.{BlockData}
@@ -207,16 +208,15 @@ all_edges m ls n last before p b = before p b ∙ by (nat_lt p n) refl
         let none : slice_get m.blocks p ≡ None = past m.blocks p (omega (arith, le, last)) in
         sym (ap (λ o. count_of b (option_map_or (λ (x : BlockData). flat_map (targets_at m) x.insts) o [])) none)
 
+-- what holds of the images holds of the items, by them
+pub all_mapped : {X Y : Type 0} (P : X → Type 0) (f : Y → X) (ys : List Y) → All P (map f ys) → All (λ y. P (f y)) ys
+all_mapped P f [] h = All-nil (λ y. P (f y))
+all_mapped P f (y ∷ ys) h = All-cons (λ y. P (f y)) y ys (All-head P (f y) (map f ys) h) (all_mapped P f ys (All-tail P (f y) (map f ys) h))
+
 -- the targets of an instruction whose parts are there
 pub targets_within : (m : Module) (i : LLVMInst) → HasValues m i → All (λ b. b < length m.blocks) (targets i)
-targets_within m (I.Br target) h = All-cons (λ b. b < length m.blocks) target.0 [] h (All-nil (λ b. b < length m.blocks))
-targets_within m (I.CondBr condition first second) h =
-    All-cons (λ b. b < length m.blocks) first.0 (second.0 ∷ []) h.1 (All-cons (λ b. b < length m.blocks) second.0 [] h.2 (All-nil (λ b. b < length m.blocks)))
-targets_within m (I.Add lhs rhs flags) h = All-nil (λ b. b < length m.blocks)
-targets_within m (I.ICmp lhs rhs predicate) h = All-nil (λ b. b < length m.blocks)
 targets_within m (I.Phi type entries) h = All-nil (λ b. b < length m.blocks)
-targets_within m (I.Ret v) h = All-nil (λ b. b < length m.blocks)
-targets_within m I.Unreachable h = All-nil (λ b. b < length m.blocks)
+targets_within m (I.Row r) h = All-map (λ (n : ℕ). n < length m.blocks) (λ (b : LLVMBasicBlock). b.0) r.targets h.1
 
 -- the targets of an instruction and of a block whose parts were read
 pub targets_read : (m : Module) (i : LLVMInstRef) (x : LLVMInst) → option_map (λ (y : InstData). y.inst) (slice_get m.insts i.0) ≡ Some x → targets_at m i ≡ targets x

@@ -39,13 +39,8 @@ count_present n (x ∷ xs) (suc i) at e = count_present n xs i at (let h = count
 -- ---- targets
 
 pub same_targets : (m : Module) (i : LLVMInst) → leads_to i ≡ targets (instruction_of (trees_of m) i)
-same_targets m (I.Add lhs rhs flags) = refl
-same_targets m (I.ICmp lhs rhs predicate) = refl
 same_targets m (I.Phi type entries) = refl
-same_targets m (I.Br target) = refl
-same_targets m (I.CondBr condition first second) = refl
-same_targets m (I.Ret value) = refl
-same_targets m I.Unreachable = refl
+same_targets m (I.Row r) = refl
 
 same_targets_at : (m : Module) (i : LLVMInstRef) → targets_at m i ≡ option_map_or (λ (p : Placed). targets p.instruction) (placed_at (trees_of m) m.insts i) []
 same_targets_at m i = by (slice_get m.insts i.0)

@@ -1,41 +1,40 @@
 -- The instructions of a module of the form meet the rules.
-use Rattle.std.proofs.Common.{◌≡◌, ◌≢◌, ◌<◌, inl, inr, ℕ, zero, suc, false, not, ◌||◌, List, [], ◌∷◌, None, Some, length, map, slice_get, refl, sym, ap, subst, ◌∙◌, eq-eqb, All}
-use Rattle.std.specs.Option.{option_map, option_map_or}
+use Rattle.std.proofs.Common.{◌≡◌, ◌≢◌, ◌<◌, inl, inr, ℕ, suc, true, false, not, List, [], ◌∷◌, Some, length, map, slice_get, refl, sym, ap, subst, ◌∙◌, eq-eqb, All}
+use Rattle.std.specs.List.{list_any}
+use Rattle.std.specs.Option.{option_map}
 use Rattle.std.proofs.lemmas.Bool.{or_from}
 use Rattle.std.proofs.lemmas.List.{length-map}
-use Rattle.std.proofs.lemmas.Option.{slice_get-map, same_Some}
+use Rattle.std.proofs.lemmas.List.Elements.{All-head, All-tail}
+use Rattle.std.proofs.lemmas.Option.{slice_get-map}
+use Rattle.kinds.specs.Rules.{operand_count, target_count}
+use Rattle.kinds.specs.Table.{rule_of}
+use Rattle.kinds.specs.Typing.{fits_trees}
 use Rattle.llvm_core.specs.declared.numbers.LLVMType.{LLVMType}
 use Rattle.llvm_core.specs.declared.numbers.LLVMBasicBlock.{LLVMBasicBlock}
-use Rattle.llvm_core.specs.declared.types.ResultType.TheVariants as R
 use Rattle.llvm_core.specs.declared.code.LLVMValue.{LLVMValue}
 use Rattle.llvm_core.specs.declared.code.LLVMValue.TheVariants as V
 use Rattle.llvm_core.specs.declared.code.LLVMInst.{LLVMInst}
 use Rattle.llvm_core.specs.declared.code.LLVMInst.TheVariants as I
 use Rattle.llvm_core.specs.declared.code.PhiEntry.{PhiEntry}
+use Rattle.llvm_core.specs.declared.code.Row.{Row}
 use Rattle.llvm_core.specs.declared.code.FunctionData.{FunctionData}
 use Rattle.llvm_core.specs.Module.{Module}
-use Rattle.llvm_core.specs.Parts.{IsValue, IsEntry, HasValues, is_kind, value_type, result_type, both_type, operands}
+use Rattle.llvm_core.specs.Parts.{IsValue, IsEntry, HasParts, HasValues, row_fits, operands, result_type}
 use Rattle.llvm_core.specs.Edges.{count_of, edge_count}
 use Rattle.llvm_core.specs.Sound.{IsModule, StandsFor}
-use Rattle.llvm_core.specs.Data.{TypeTree, IntType, Operand, Instruction, Constant, Parameter, Result, Placed, Function, type_at, const_at, trees_of, entry_of, operand_of, instruction_of, operand_type, targets, AreApart}
+use Rattle.llvm_core.specs.Data.{TypeTree, Operand, Instruction, type_at, const_at, trees_of, entry_of, operand_of, row_of, instruction_of, targets, AreApart}
 use Rattle.llvm_core.specs.Data as D
-use Rattle.llvm_core.specs.Checked.{return_type, is_bit, MisfitsType, HasOtherType, HasTwoValues, misfits_count, HasNoPreds, is_outside, is_block_outside, is_entry_outside, reaches_outside, MisfitsEdges, sources}
-use Rattle.llvm_core.specs.Form.{IsShortInt, IsOperand, IsTarget, FitsEdges, edges_between, result_of, IsFormInstruction, IsFormFunction, operands_of}
+use Rattle.llvm_core.specs.Checked.{returns_void, MisfitsType, misfits_row, misfits_return, HasOtherType, HasTwoValues, misfits_count, HasNoPreds, is_outside, is_block_outside, is_entry_outside, reaches_outside, MisfitsEdges, sources}
+use Rattle.llvm_core.specs.Form.{IsShortInt, IsOperand, IsTarget, FitsEdges, edges_between, IsFormRow, IsFormInstruction, operands_of}
 use Rattle.llvm_core.proofs.DataLemmas.{within_at}
 use Rattle.llvm_core.proofs.GivenLemmas.{none_any}
-use Rattle.llvm_core.proofs.FormTypes.{HasSignature, numbered, signature_of, short_is_int, short_has_value, bit_is_bit, return_type_is, returns_nothing, returns_value}
+use Rattle.llvm_core.proofs.RuleLaws.{tree, fits_by_tree}
+use Rattle.llvm_core.proofs.FormTypes.{numbered, short_has_value}
 use Rattle.llvm_core.proofs.FormPlaces.{shown, block_from}
 use Rattle.llvm_core.proofs.FormEdges.{count_present, same_sources, edge_source}
-use Rattle.llvm_core.proofs.FormValues.{HasType, value_typed, value_inside}
+use Rattle.llvm_core.proofs.FormValues.{HasType, value_typed, value_inside, types_same, values_inside, same_void, return_fits}
 
 -- ---- operands
-
--- both sides of an operation that have one short integer type agree
-both_fit : (m : Module) (a b : LLVMValue) (tree : TypeTree) → IsModule m → AreApart m → IsShortInt tree → HasType m a tree → HasType m b tree → (t : LLVMType) × (both_type m.types (value_type m a) (value_type m b) ≡ Some t)
-both_fit m a b tree sound apart short p q =
-    let same : p.type.0 ≡ q.type.0 = ap (λ (t : LLVMType). t.0) (apart.types p.type q.type p.within q.within (p.tree_is ∙ sym q.tree_is)) in
-    let int = short_is_int m p.type sound p.within (subst IsShortInt (sym p.tree_is) short) in
-    (p.type, ap (λ o. both_type m.types o (value_type m b)) p.type_is ∙ ap (both_type m.types (Some p.type)) q.type_is ∙ rw (eq-eqb p.type.0 q.type.0 same, int) refl)
 
 -- values are known by their operands
 value_known : (m : Module) (v w : LLVMValue) → AreApart m → IsValue m v → IsValue m w → operand_of (trees_of m) v ≡ operand_of (trees_of m) w → v ≡ w
@@ -60,30 +59,16 @@ source_at : (entries : List PhiEntry) (k : ℕ) (e : PhiEntry) → slice_get ent
 source_at entries k e at = slice_get-map (λ (e : PhiEntry). e.block.0) entries k ∙ ap (option_map (λ (e : PhiEntry). e.block.0)) at
 
 pub same_operand_count : (m : Module) (i : LLVMInst) → length (operands i) ≡ length (operands_of (instruction_of (trees_of m) i))
-same_operand_count m (I.Add lhs rhs flags) = refl
-same_operand_count m (I.ICmp lhs rhs predicate) = refl
 same_operand_count m (I.Phi type entries) =
     length-map entries (λ (e : PhiEntry). e.value) ∙ sym (length-map (map (entry_of (trees_of m)) entries) (λ (e : Operand × ℕ). e.0) ∙ length-map entries (entry_of (trees_of m)))
-same_operand_count m (I.Br target) = refl
-same_operand_count m (I.CondBr condition first second) = refl
-same_operand_count m (I.Ret None) = refl
-same_operand_count m (I.Ret (Some v)) = refl
-same_operand_count m I.Unreachable = refl
+same_operand_count m (I.Row r) = sym (length-map r.operands (operand_of (trees_of m)))
 
 -- ---- targets
 
 -- an instruction of the form leads to blocks of its function behind the first
-pub leads_behind : (g : Function) (b : ℕ) (p : Placed) (i : Instruction) (k t : ℕ) → IsFormInstruction g b p i → slice_get (targets i) k ≡ Some t → IsTarget g t
-leads_behind g b p (D.Add lhs rhs flags) k t form at = cc
-leads_behind g b p (D.ICmp lhs rhs predicate) k t form at = cc
-leads_behind g b p (D.Phi entries) k t form at = cc
-leads_behind g b p (D.Br target) zero t form at = subst (IsTarget g) (same_Some target t at) form.0
-leads_behind g b p (D.Br target) (suc k) t form at = cc
-leads_behind g b p (D.CondBr condition first second) zero t form at = subst (IsTarget g) (same_Some first t at) form.1
-leads_behind g b p (D.CondBr condition first second) (suc zero) t form at = subst (IsTarget g) (same_Some second t at) form.2
-leads_behind g b p (D.CondBr condition first second) (suc (suc k)) t form at = cc
-leads_behind g b p (D.Return value) k t form at = cc
-leads_behind g b p D.Unreachable k t form at = cc
+pub leads_behind : (g : D.Function) (b : ℕ) (type : TypeTree) (i : Instruction) (k t : ℕ) → IsFormInstruction g b type i → slice_get (targets i) k ≡ Some t → IsTarget g t
+leads_behind g b type (D.Phi entries) k t form at = cc
+leads_behind g b type (D.Applied r) k t form at = within_at r.targets (IsTarget g) form.targets k t at
 
 module _ (m : Module) (f : ℕ) (x : FunctionData) (sound : IsModule m) (apart : AreApart m) (at : slice_get m.functions f ≡ Some x) where
   -- a block of the data of a function is not outside
@@ -97,94 +82,67 @@ module _ (m : Module) (f : ℕ) (x : FunctionData) (sound : IsModule m) (apart :
   target_inside : (b : LLVMBasicBlock) → IsTarget (shown m f x) b.0 → is_block_outside m (numbered f) b ≡ false
   target_inside b h = block_inside (suc h.0) b h.1 h.2 h.3
 
-  module _ (whole : IsFormFunction (shown m f x)) (b : ℕ) (placed : Placed) where
-    signature : HasSignature m x whole.result whole.types
-    signature = signature_of m f x whole.result whole.types false sound at whole.type
+  targets_inside : (bs : List LLVMBasicBlock) → All (IsTarget (shown m f x)) (map (λ (b : LLVMBasicBlock). b.0) bs) → list_any (is_block_outside m (numbered f)) bs ≡ false
+  targets_inside [] all = refl
+  targets_inside (b ∷ bs) all =
+      let ns = map (λ (b : LLVMBasicBlock). b.0) bs in
+      or_from (is_block_outside m (numbered f) b) (list_any (is_block_outside m (numbered f)) bs) (target_inside b (All-head (IsTarget (shown m f x)) b.0 ns all)) (targets_inside bs (All-tail (IsTarget (shown m f x)) b.0 ns all))
 
-    result_is : result_of (shown m f x).type ≡ whole.result
-    result_is = ap result_of whole.type
+  -- ---- types
 
-    -- an operand has the type that the data ask
-    operand_typed : (v : LLVMValue) (tree : TypeTree) → IsValue m v → IsOperand (shown m f x) tree (operand_of (trees_of m) v) → HasType m v tree
-    operand_typed v tree here o = subst (HasType m v) o.typed (value_typed m f x sound at v here o.stands)
+  -- an operand has the type that the data ask
+  operand_typed : (v : LLVMValue) (type : TypeTree) → IsValue m v → IsOperand (shown m f x) type (operand_of (trees_of m) v) → HasType m v type
+  operand_typed v type here o = subst (HasType m v) o.typed (value_typed m f x sound at v here o.stands)
 
-    returned_fits : (v : LLVMValue) → HasType m v (result_of (shown m f x).type) → value_type m v ≡ return_type m (numbered f)
-    unfolding signature
-    returned_fits v t =
-        let s = signature in
-        let same = apart.types t.type s.returned t.within s.within (t.tree_is ∙ result_is ∙ sym s.returned_is) in
-        t.type_is ∙ ap Some same ∙ sym (return_type_is m f x whole.result whole.types sound at s)
+  entry_operand : (entries : List PhiEntry) (k : ℕ) (e : PhiEntry) (type : TypeTree) → All (λ (e : Operand × ℕ). IsOperand (shown m f x) type e.0) (map (entry_of (trees_of m)) entries) → slice_get entries k ≡ Some e
+      → IsOperand (shown m f x) type (operand_of (trees_of m) e.value)
+  entry_operand entries k e type all is = within_at (map (entry_of (trees_of m)) entries) (λ (e : Operand × ℕ). IsOperand (shown m f x) type e.0) all k (entry_of (trees_of m) e) (entry_at m entries k e is)
 
-    entry_operand : (entries : List PhiEntry) (k : ℕ) (e : PhiEntry) (tree : TypeTree) → All (λ (e : Operand × ℕ). IsOperand (shown m f x) tree e.0) (map (entry_of (trees_of m)) entries) → slice_get entries k ≡ Some e
-        → IsOperand (shown m f x) tree (operand_of (trees_of m) e.value)
-    entry_operand entries k e tree all is = within_at (map (entry_of (trees_of m)) entries) (λ (e : Operand × ℕ). IsOperand (shown m f x) tree e.0) all k (entry_of (trees_of m) e) (entry_at m entries k e is)
+  entries_fit : (type : LLVMType) (entries : List PhiEntry) → type.0 < length m.types → All (IsEntry m) entries
+      → All (λ (e : Operand × ℕ). IsOperand (shown m f x) (type_at (trees_of m).types type) e.0) (map (entry_of (trees_of m)) entries) → ¬ HasOtherType m type entries
+  entries_fit type entries within here all (k, e, is, other) =
+      let entry = within_at entries (IsEntry m) here k e is in
+      let t = operand_typed e.value (type_at (trees_of m).types type) entry.0 (entry_operand entries k e (type_at (trees_of m).types type) all is) in
+      other (t.type_is ∙ ap Some (apart.types t.type type t.within within t.tree_is))
 
-    entries_fit : (type : LLVMType) (entries : List PhiEntry) → type.0 < length m.types → All (IsEntry m) entries
-        → All (λ (e : Operand × ℕ). IsOperand (shown m f x) (type_at (trees_of m).types type) e.0) (map (entry_of (trees_of m)) entries) → ¬ HasOtherType m type entries
-    entries_fit type entries within here all (k, e, is, other) =
-        let entry = within_at entries (IsEntry m) here k e is in
-        let t = operand_typed e.value (type_at (trees_of m).types type) entry.0 (entry_operand entries k e (type_at (trees_of m).types type) all is) in
-        other (t.type_is ∙ ap Some (apart.types t.type type t.within within t.tree_is))
+  row_fits_form : (r : Row) (type : TypeTree) → HasParts m r → IsFormRow (shown m f x) type (row_of (trees_of m) r) → misfits_row m (numbered f) r ≡ false
+  row_fits_form r type here form =
+      let types = types_same m f x sound at r.operands here.0 form.operands in
+      let fits : row_fits m r ≡ true = sym (fits_by_tree m sound r here) ∙ ap (fits_trees r.op (option_map (tree m sound) r.written)) (sym types) ∙ form.fits in
+      or_from (not (row_fits m r)) (misfits_return (rule_of r.op).takes m (numbered f) r.operands) (ap not fits) (return_fits m f x sound at (rule_of r.op).takes r.operands here.0 form.operands form.returns)
 
-    pub type_fits : (i : LLVMInst) (ty : LLVMType) → HasValues m i → StandsFor m.types (result_type m i) ty → placed.type ≡ type_at (trees_of m).types ty
-        → IsFormInstruction (shown m f x) b placed (instruction_of (trees_of m) i) → ¬ MisfitsType m (numbered f) i
-    type_fits (I.Add lhs rhs flags) ty here stands typed form h =
-        let t = both_fit m lhs rhs placed.type sound apart form.0.short (operand_typed lhs placed.type here.0 form.0) (operand_typed rhs placed.type here.1 form.1) in
-        absurd (let e : result_type m (I.Add lhs rhs flags) ≡ Some (R.There t.0) = ap (option_map R.There) t.1 in cc)
-    type_fits (I.ICmp lhs rhs predicate) ty here stands typed form h =
-        let tree = form.0.0 in
-        let t = both_fit m lhs rhs tree sound apart form.0.1.short (operand_typed lhs tree here.0 form.0.1) (operand_typed rhs tree here.1 form.0.2) in
-        absurd (let e : result_type m (I.ICmp lhs rhs predicate) ≡ Some R.Bit = ap (option_map (λ _. R.Bit)) t.1 in cc)
-    type_fits (I.Phi type entries) ty here stands typed form h =
-        let own : placed.type ≡ type_at (trees_of m).types type = typed ∙ ap (type_at (trees_of m).types) stands in
+  module _ (b : ℕ) (type : TypeTree) where
+    pub type_fits : (i : LLVMInst) (ty : LLVMType) → HasValues m i → StandsFor m.types (result_type m i) ty → type ≡ type_at (trees_of m).types ty → IsFormInstruction (shown m f x) b type (instruction_of (trees_of m) i) → ¬ MisfitsType m (numbered f) i
+    type_fits (I.Phi own entries) ty here stands typed form h =
+        let same : type ≡ type_at (trees_of m).types own = typed ∙ ap (type_at (trees_of m).types) stands in
         elim h [
-          | inl valueless ↦ (let value = short_has_value m type sound here.0 (subst IsShortInt own form.2) in absurd cc)
-          | inr other ↦ entries_fit type entries here.0 here.1 (subst (λ (t : TypeTree). All (λ (e : Operand × ℕ). IsOperand (shown m f x) t e.0) (map (entry_of (trees_of m)) entries)) own form.0) other
+          | inl valueless ↦ (let value = short_has_value m own sound here.0 (subst IsShortInt same form.2) in absurd cc)
+          | inr other ↦ entries_fit own entries here.0 here.1 (subst (λ (t : TypeTree). All (λ (e : Operand × ℕ). IsOperand (shown m f x) t e.0) (map (entry_of (trees_of m)) entries)) same form.0) other
         ]
-    type_fits (I.Br target) ty here stands typed form h = h
-    type_fits (I.CondBr condition first second) ty here stands typed form h =
-        let t = operand_typed condition (IntType 1) here.0 form.0 in
-        let bit = bit_is_bit m t.type sound t.within t.tree_is in
-        absurd (let e = ap (λ o. option_map_or (is_kind is_bit m.types) o false) t.type_is in cc)
-    type_fits (I.Ret None) ty here stands typed form h = h
-    type_fits (I.Ret (Some v)) ty here stands typed form h = h (returned_fits v (operand_typed v (result_of (shown m f x).type) here form.0))
-    type_fits I.Unreachable ty here stands typed form h = h
+    type_fits (I.Row r) ty here stands typed form h = let fits = row_fits_form r type here form in cc
 
-    pub count_fits : (i : LLVMInst) → IsFormInstruction (shown m f x) b placed (instruction_of (trees_of m) i) → misfits_count m (numbered f) i ≡ false
-    count_fits (I.Add lhs rhs flags) form = refl
-    count_fits (I.ICmp lhs rhs predicate) form = refl
-    count_fits (I.Phi type entries) form = refl
-    count_fits (I.Br target) form = refl
-    count_fits (I.CondBr condition first second) form = refl
-    count_fits I.Unreachable form = refl
-    count_fits (I.Ret None) form =
-        ap not (returns_nothing m f x whole.result whole.types sound at signature (sym result_is ∙ form.0))
-    count_fits (I.Ret (Some v)) form =
-        returns_value m f x whole.result whole.types sound at signature (subst IsShortInt result_is form.0.short)
+    pub count_fits : (i : LLVMInst) → IsFormInstruction (shown m f x) b type (instruction_of (trees_of m) i) → misfits_count m (numbered f) i ≡ false
+    count_fits (I.Phi own entries) form = refl
+    count_fits (I.Row r) form =
+        let operands = eq-eqb (length r.operands) (operand_count (rule_of r.op).takes (returns_void m (numbered f))) (sym (length-map r.operands (operand_of (trees_of m))) ∙ form.count ∙ ap (operand_count (rule_of r.op).takes) (sym (same_void m f x sound at))) in
+        let targets = eq-eqb (length r.targets) (target_count (rule_of r.op).leads) (sym (length-map r.targets (λ (b : LLVMBasicBlock). b.0)) ∙ form.leads) in
+        cc
 
-    operand_inside : (v : LLVMValue) (tree : TypeTree) → IsOperand (shown m f x) tree (operand_of (trees_of m) v) → is_outside m (numbered f) v ≡ false
-    operand_inside v tree o = value_inside m f x sound at v o.stands
+    operand_inside : (v : LLVMValue) (t : TypeTree) → IsOperand (shown m f x) t (operand_of (trees_of m) v) → is_outside m (numbered f) v ≡ false
+    operand_inside v t o = value_inside m f x sound at v o.stands
 
     -- an entry of a phi is for a block that leads to the phi
-    entry_inside : (entries : List PhiEntry) (k : ℕ) (e : PhiEntry) (tree : TypeTree) → All (λ (e : Operand × ℕ). IsOperand (shown m f x) tree e.0) (map (entry_of (trees_of m)) entries)
+    entry_inside : (entries : List PhiEntry) (k : ℕ) (e : PhiEntry) (t : TypeTree) → All (λ (e : Operand × ℕ). IsOperand (shown m f x) t e.0) (map (entry_of (trees_of m)) entries)
         → FitsEdges (shown m f x) b (map (entry_of (trees_of m)) entries) → slice_get entries k ≡ Some e → is_entry_outside m (numbered f) e ≡ false
-    entry_inside entries k e tree all fits is =
+    entry_inside entries k e t all fits is =
         let counted : count_of e.block.0 (sources entries) ≡ edges_between (shown m f x) e.block.0 b = ap (count_of e.block.0) (sym (same_sources m entries)) ∙ fits.counts e.block.0 in
         let led : edges_between (shown m f x) e.block.0 b ≢ 0 = λ none. count_present e.block.0 (sources entries) k (source_at entries k e is) (counted ∙ none) in
         let source = edge_source (shown m f x) e.block.0 b led in
-        or_from (is_outside m (numbered f) e.value) (is_block_outside m (numbered f) e.block) (operand_inside e.value tree (entry_operand entries k e tree all is)) (block_inside source.0 e.block source.1 source.2 source.3)
+        or_from (is_outside m (numbered f) e.value) (is_block_outside m (numbered f) e.block) (operand_inside e.value t (entry_operand entries k e t all is)) (block_inside source.0 e.block source.1 source.2 source.3)
 
-    pub inside : (i : LLVMInst) → IsFormInstruction (shown m f x) b placed (instruction_of (trees_of m) i) → reaches_outside m (numbered f) i ≡ false
-    inside (I.Add lhs rhs flags) form = rw (operand_inside lhs placed.type form.0, operand_inside rhs placed.type form.1) refl
-    inside (I.ICmp lhs rhs predicate) form = rw (operand_inside lhs form.0.0 form.0.1, operand_inside rhs form.0.0 form.0.2) refl
-    inside (I.Phi type entries) form = none_any (is_entry_outside m (numbered f)) entries (λ k e is. entry_inside entries k e placed.type form.0 form.1 is)
-    inside (I.Br target) form = target_inside target form.0
-    inside (I.CondBr condition first second) form =
-        or_from (is_outside m (numbered f) condition || is_block_outside m (numbered f) first) (is_block_outside m (numbered f) second)
-        (or_from (is_outside m (numbered f) condition) (is_block_outside m (numbered f) first) (operand_inside condition (IntType 1) form.0) (target_inside first form.1)) (target_inside second form.2)
-    inside I.Unreachable form = refl
-    inside (I.Ret None) form = refl
-    inside (I.Ret (Some v)) form = operand_inside v (result_of (shown m f x).type) form.0
+    pub inside : (i : LLVMInst) → IsFormInstruction (shown m f x) b type (instruction_of (trees_of m) i) → reaches_outside m (numbered f) i ≡ false
+    inside (I.Phi own entries) form = none_any (is_entry_outside m (numbered f)) entries (λ k e is. entry_inside entries k e type form.0 form.1 is)
+    inside (I.Row r) form = or_from (list_any (is_outside m (numbered f)) r.operands) (list_any (is_block_outside m (numbered f)) r.targets) (values_inside m f x sound at r.operands form.operands) (targets_inside r.targets form.targets)
 
     -- ---- the entries of a phi
 
@@ -200,16 +158,11 @@ module _ (m : Module) (f : ℕ) (x : FunctionData) (sound : IsModule m) (apart :
     some_lead (e ∷ es) counts some none = count_present e.block.0 (sources (e ∷ es)) 0 refl (counts e.block.0 ∙ none e.block.0)
 
     -- where the edges in the data are those of the module
-    pub fits_edges : (i : LLVMInst) → HasValues m i → ((p : ℕ) → edges_between (shown m f x) p b ≡ edge_count m p b) → IsFormInstruction (shown m f x) b placed (instruction_of (trees_of m) i) → ¬ MisfitsEdges m b i
-    fits_edges (I.Add lhs rhs flags) here edges form h = h
-    fits_edges (I.ICmp lhs rhs predicate) here edges form h = h
-    fits_edges (I.Phi type entries) here edges form h =
+    pub fits_edges : (i : LLVMInst) → HasValues m i → ((p : ℕ) → edges_between (shown m f x) p b ≡ edge_count m p b) → IsFormInstruction (shown m f x) b type (instruction_of (trees_of m) i) → ¬ MisfitsEdges m b i
+    fits_edges (I.Phi own entries) here edges form h =
         let counts : (p : ℕ) → count_of p (sources entries) ≡ edge_count m p b = λ p. ap (count_of p) (sym (same_sources m entries)) ∙ form.1.counts p ∙ edges p in
         elim h [
           | inl wrong ↦ wrong counts
           | inr more ↦ elim more [ inl two ↦ values_alike entries here.1 form.1 two | inr none ↦ some_lead entries counts form.1.some none ]
         ]
-    fits_edges (I.Br target) here edges form h = h
-    fits_edges (I.CondBr condition first second) here edges form h = h
-    fits_edges (I.Ret value) here edges form h = h
-    fits_edges I.Unreachable here edges form h = h
+    fits_edges (I.Row r) here edges form h = h

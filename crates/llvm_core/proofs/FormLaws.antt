@@ -18,7 +18,7 @@ use Rattle.llvm_core.specs.Names.{HasTwice}
 use Rattle.llvm_core.specs.Sound.{IsModule}
 use Rattle.llvm_core.specs.Data.{Placed, Block, Function, AreApart, trees_of, instruction_of, data_of, placed_in, targets}
 use Rattle.llvm_core.specs.Checked.{IsTaken, IsFreshName, IsCheckedFunction, IsCheckedBlock, IsCheckedInst, IsCheckedEdges, IsChecked, IsLong, HasNoPreds, HasLatePhi, MisfitsEdges, home, local_names, ends_in_only, is_terminator_at}
-use Rattle.llvm_core.specs.Form.{IsForm, IsFormFunction, IsFormBlock, IsFormInstruction, IsTarget, IsFewIn, HasFew, HasDistinctNames, edges_between, operands_of}
+use Rattle.llvm_core.specs.Form.{IsForm, IsFormFunction, IsFormBlock, IsFormPlaced, IsFormInstruction, IsTarget, IsFewIn, HasFew, HasDistinctNames, edges_between, operands_of}
 use Rattle.llvm_core.specs.Form.{local_names as names_of}
 use Rattle.llvm_core.proofs.DataLemmas.{within_at, function_at, function_count, block_count_of, inst_count_of, block_of_number, inst_of_number}
 use Rattle.llvm_core.proofs.CheckLemmas.{all_checked}
@@ -138,7 +138,7 @@ module _ (m : Module) (sound : IsModule m) (apart : AreApart m) (form : IsForm (
     block : BlockData
     block_is : slice_get m.blocks z.block.0 ≡ Some block
     own : block.function.0 ≡ f
-    form_is : IsFormInstruction (shown m f function) z.block.0 (shown_inst m i z) (instruction_of (trees_of m) z.inst)
+    form_is : IsFormInstruction (shown m f function) z.block.0 (shown_inst m i z).type (instruction_of (trees_of m) z.inst)
 
   inst_form : (i : ℕ) (z : InstData) → slice_get m.insts i ≡ Some z → HasInstForm i z
   inst_form i z at =
@@ -153,7 +153,7 @@ module _ (m : Module) (sound : IsModule m) (apart : AreApart m) (form : IsForm (
         block = p.block;
         block_is = p.block_is;
         own = refl;
-        form_is = within_at (shown_block m z.block.0 p.block).instructions (λ (q : Placed). IsFormInstruction g z.block.0 q q.instruction) b.block.instructions p.place (shown_inst m i z) p.here;
+        form_is = (within_at (shown_block m z.block.0 p.block).instructions (IsFormPlaced g z.block.0) b.block.instructions p.place (shown_inst m i z) p.here).instruction;
       }
 
   operands_few : (i : ℕ) (z : InstData) → slice_get m.insts i ≡ Some z → ¬ IsLong (operands z.inst)
@@ -170,13 +170,13 @@ module _ (m : Module) (sound : IsModule m) (apart : AreApart m) (form : IsForm (
     types = λ (z, at, misfits).
         let p = inst_form i z at in
         let here = sound.insts i z at in
-        type_fits m p.f p.function sound apart p.function_is (form_at m form p.f p.function p.function_is) z.block.0 (shown_inst m i z) z.inst z.ty here.values here.result refl p.form_is (rw p.home_is at misfits);
+        type_fits m p.f p.function sound apart p.function_is z.block.0 (shown_inst m i z).type z.inst z.ty here.values here.result refl p.form_is (rw p.home_is at misfits);
     counts = λ (z, at, misfits).
         let p = inst_form i z at in
-        cc (count_fits m p.f p.function sound apart p.function_is (form_at m form p.f p.function p.function_is) z.block.0 (shown_inst m i z) z.inst p.form_is, p.home_is, misfits);
+        cc (count_fits m p.f p.function sound apart p.function_is z.block.0 (shown_inst m i z).type z.inst p.form_is, p.home_is, misfits);
     outside = λ (z, at, reaches).
         let p = inst_form i z at in
-        cc (inside m p.f p.function sound apart p.function_is (form_at m form p.f p.function p.function_is) z.block.0 (shown_inst m i z) z.inst p.form_is, p.home_is, reaches);
+        cc (inside m p.f p.function sound apart p.function_is z.block.0 (shown_inst m i z).type z.inst p.form_is, p.home_is, reaches);
     lists = λ (z, at, long). operands_few i z at long;
   }
 
@@ -189,8 +189,8 @@ module _ (m : Module) (sound : IsModule m) (apart : AreApart m) (form : IsForm (
       let c = shown_block m p y in
       let g = shown m y.function.0 b.function in
       let from = from_joined (λ (q : Placed). targets q.instruction) c.instructions k t (sym (ap (λ ts. slice_get ts k) (same_targets_from m p y is)) ∙ led) in
-      let placed_form = within_at c.instructions (λ (q : Placed). IsFormInstruction g p q q.instruction) b.block.instructions from.0 from.2 from.3 in
-      leads_behind g p from.2 from.2.instruction from.1 t placed_form from.4
+      let placed_form = within_at c.instructions (IsFormPlaced g p) b.block.instructions from.0 from.2 from.3 in
+      leads_behind g p from.2.type from.2.instruction from.1 t placed_form.instruction from.4
 
   stays_inside : StaysInside m
   stays_inside p y k t is led =
@@ -206,7 +206,7 @@ module _ (m : Module) (sound : IsModule m) (apart : AreApart m) (form : IsForm (
       let whole = form_at m form p.f p.function p.function_is in
       let edges : (q : ℕ) → edges_between (shown m p.f p.function) q z.block.0 ≡ edge_count m q z.block.0 = λ q.
       same_edges m p.f p.function sound p.function_is whole.block_numbers stays_inside q z.block.0 p.block p.block_is p.own in
-      fits_edges m p.f p.function sound apart p.function_is whole z.block.0 (shown_inst m i z) z.inst (sound.insts i z at).values edges p.form_is
+      fits_edges m p.f p.function sound apart p.function_is z.block.0 (shown_inst m i z).type z.inst (sound.insts i z at).values edges p.form_is
 
   -- the first block of a function does not stand in it again
   first_once : (f : ℕ) (x : FunctionData) (b : LLVMBasicBlock) (z : BlockData) (i : ℕ) → slice_get m.functions f ≡ Some x → slice_get x.blocks 0 ≡ Some b → slice_get m.blocks b.0 ≡ Some z → slice_get x.blocks (suc i) ≢ Some b

@@ -53,13 +53,8 @@ module _ {X Y : Type 0} (h : X → Option Y) (p : X → Bool) (q : Y → Bool) w
 -- ---- terminators
 
 same_kind_ends : (m : Module) (i : LLVMInst) → ends_block i ≡ is_terminator (instruction_of (trees_of m) i)
-same_kind_ends m (I.Add lhs rhs flags) = refl
-same_kind_ends m (I.ICmp lhs rhs predicate) = refl
 same_kind_ends m (I.Phi type entries) = refl
-same_kind_ends m (I.Br target) = refl
-same_kind_ends m (I.CondBr condition first second) = refl
-same_kind_ends m (I.Ret value) = refl
-same_kind_ends m I.Unreachable = refl
+same_kind_ends m (I.Row r) = refl
 
 -- a block ends in its only terminator where its data do
 pub same_block_ends : (m : Module) (b : LLVMBasicBlock) (y : BlockData) → IsModule m → slice_get m.blocks b.0 ≡ Some y
@@ -77,13 +72,8 @@ same_block_ends m b y sound at = same_ends (placed_at (trees_of m) m.insts) (is_
 -- ---- phis
 
 pub same_kind_phi : (m : Module) (i : LLVMInst) → phi_of i ≡ is_some (phi_entries (instruction_of (trees_of m) i))
-same_kind_phi m (I.Add lhs rhs flags) = refl
-same_kind_phi m (I.ICmp lhs rhs predicate) = refl
 same_kind_phi m (I.Phi type entries) = refl
-same_kind_phi m (I.Br target) = refl
-same_kind_phi m (I.CondBr condition first second) = refl
-same_kind_phi m (I.Ret value) = refl
-same_kind_phi m I.Unreachable = refl
+same_kind_phi m (I.Row r) = refl
 
 -- an instruction that is there is a phi where its data are
 pub same_phi_at : (m : Module) (i : LLVMInstRef) (z : InstData) → slice_get m.insts i.0 ≡ Some z → is_phi_at m i ≡ is_phi (placed_of (trees_of m) i z)

@@ -1,5 +1,5 @@
 -- Which kinds stand under the numbers of types whose trees are those of the form.
-use Rattle.std.proofs.Common.{◌≡◌, ◌<◌, ℕ, zero, suc, Bool, true, false, List, [], ◌∷◌, Some, length, slice_get, refl, sym, ap, subst, ◌∙◌, arith, eq-eqb, IsTrue, All}
+use Rattle.std.proofs.Common.{◌≡◌, ◌<◌, ℕ, zero, suc, Bool, false, List, [], ◌∷◌, Some, length, slice_get, refl, sym, ap, subst, ◌∙◌, arith, IsTrue, All}
 use Rattle.std.specs.List.{list_any}
 use Rattle.std.specs.Option.{option_map_or}
 use Rattle.std.proofs.lemmas.Option.{slice_get_within}
@@ -11,11 +11,12 @@ use Rattle.llvm_core.specs.declared.types.LLVMTypeKind.{LLVMTypeKind}
 use Rattle.llvm_core.specs.declared.types.LLVMTypeKind.TheVariants as T
 use Rattle.llvm_core.specs.declared.code.FunctionData.{FunctionData}
 use Rattle.llvm_core.specs.Module.{Module}
-use Rattle.llvm_core.specs.Parts.{IsTypeOver, is_int, is_function, is_kind, type_params}
+use Rattle.llvm_core.specs.Parts.{IsTypeOver, is_function, is_kind, type_params}
 use Rattle.llvm_core.specs.Sound.{IsModule}
 use Rattle.llvm_core.specs.Data.{TypeTree, VoidType, IntType, FunctionType, TypeTrees, type_at, types_at, type_tree, trees_of, nth_type}
-use Rattle.llvm_core.specs.Checked.{is_void, is_valueless, is_bit, return_type, returns_void, misfits_signature}
+use Rattle.llvm_core.specs.Checked.{is_void, is_valueless, return_type, misfits_signature}
 use Rattle.llvm_core.specs.Form.{IsShortInt, IsShortResult, AreShortInts, count_types}
+use Rattle.llvm_core.specs.Form.{is_void as void_tree}
 use Rattle.llvm_core.proofs.DataLemmas.{type_tree_of}
 
 -- ---- the kind at a number
@@ -27,14 +28,6 @@ kind_by_tree m p b P each t sound within h =
     let k = item_there m.types t.0 within in
     rw k.1 (each k.0 (subst P (type_tree_of m t k.0 sound k.1) h))
 
-pub short_is_int : (m : Module) (t : LLVMType) → IsModule m → t.0 < length m.types → IsShortInt (type_at (trees_of m).types t) → is_kind is_int m.types t ≡ true
-short_is_int m = kind_by_tree m is_int true IsShortInt by
-  where
-    by : (k : LLVMTypeKind) → IsShortInt (type_tree (trees_of m).types k) → is_int k ≡ true
-    by T.Void h = absurd h
-    by (T.Int w) h = refl
-    by (T.Function result params variadic) h = absurd h
-
 pub short_has_value : (m : Module) (t : LLVMType) → IsModule m → t.0 < length m.types → IsShortInt (type_at (trees_of m).types t) → is_kind is_valueless m.types t ≡ false
 short_has_value m = kind_by_tree m is_valueless false IsShortInt by
   where
@@ -42,14 +35,6 @@ short_has_value m = kind_by_tree m is_valueless false IsShortInt by
     by T.Void h = absurd h
     by (T.Int w) h = refl
     by (T.Function result params variadic) h = absurd h
-
-short_not_void : (m : Module) (t : LLVMType) → IsModule m → t.0 < length m.types → IsShortInt (type_at (trees_of m).types t) → is_kind is_void m.types t ≡ false
-short_not_void m = kind_by_tree m is_void false IsShortInt by
-  where
-    by : (k : LLVMTypeKind) → IsShortInt (type_tree (trees_of m).types k) → is_void k ≡ false
-    by T.Void h = absurd h
-    by (T.Int w) h = refl
-    by (T.Function result params variadic) h = refl
 
 result_no_function : (m : Module) (t : LLVMType) → IsModule m → t.0 < length m.types → IsShortResult (type_at (trees_of m).types t) → is_kind is_function m.types t ≡ false
 result_no_function m = kind_by_tree m is_function false IsShortResult by
@@ -59,21 +44,15 @@ result_no_function m = kind_by_tree m is_function false IsShortResult by
     by (T.Int w) h = refl
     by (T.Function result params variadic) h = absurd h
 
-void_is_void : (m : Module) (t : LLVMType) → IsModule m → t.0 < length m.types → type_at (trees_of m).types t ≡ VoidType → is_kind is_void m.types t ≡ true
-void_is_void m = kind_by_tree m is_void true (λ t. t ≡ VoidType) by
+pub void_kept : (m : Module) (t : LLVMType) → IsModule m → t.0 < length m.types → is_kind is_void m.types t ≡ void_tree (type_at (trees_of m).types t)
+void_kept m t sound within =
+    let k = item_there m.types t.0 within in
+    rw k.1 (by k.0 ∙ ap void_tree (sym (type_tree_of m t k.0 sound k.1)))
   where
-    by : (k : LLVMTypeKind) → type_tree (trees_of m).types k ≡ VoidType → is_void k ≡ true
-    by T.Void h = refl
-    by (T.Int w) h = absurd cc
-    by (T.Function result params variadic) h = absurd cc
-
-pub bit_is_bit : (m : Module) (t : LLVMType) → IsModule m → t.0 < length m.types → type_at (trees_of m).types t ≡ IntType 1 → is_kind is_bit m.types t ≡ true
-bit_is_bit m = kind_by_tree m is_bit true (λ t. t ≡ IntType 1) by
-  where
-    by : (k : LLVMTypeKind) → type_tree (trees_of m).types k ≡ IntType 1 → is_bit k ≡ true
-    by T.Void h = absurd cc
-    by (T.Int w) h = eq-eqb w 1 (cc)
-    by (T.Function result params variadic) h = absurd cc
+    by : (k : LLVMTypeKind) → is_void k ≡ void_tree (type_tree (trees_of m).types k)
+    by T.Void = refl
+    by (T.Int w) = refl
+    by (T.Function result params variadic) = refl
 
 -- ---- lists of types
 
@@ -150,12 +129,6 @@ module _ (m : Module) (f : ℕ) (x : FunctionData) (result : TypeTree) (types : 
 
   pub return_type_is : return_type m (numbered f) ≡ Some s.returned
   return_type_is = rw (at, s.kind_is) refl
-
-  pub returns_nothing : result ≡ VoidType → returns_void m (numbered f) ≡ true
-  returns_nothing e = rw (return_type_is) (void_is_void m s.returned sound s.within (s.returned_is ∙ e))
-
-  pub returns_value : IsShortInt result → returns_void m (numbered f) ≡ false
-  returns_value short = rw (return_type_is) (short_not_void m s.returned sound s.within (subst IsShortInt (sym s.returned_is) short))
 
   pub param_types_are : type_params m.types x.ty ≡ s.params
   param_types_are = rw s.kind_is refl

@@ -1,10 +1,13 @@
 -- The types of the operands of a function, and which of them lie in it.
-use Rattle.std.proofs.Common.{◌≡◌, ◌<◌, ℕ, zero, suc, Bool, true, false, nat_eq, List, [], ◌∷◌, Option, None, Some, length, slice_get, refl, sym, ap, ◌∙◌, arith}
-use Rattle.std.specs.List.{find}
+use Rattle.std.proofs.Common.{◌≡◌, ◌<◌, ℕ, zero, suc, Bool, true, false, nat_eq, List, [], ◌∷◌, Option, None, Some, not, length, map, slice_get, refl, sym, ap, ◌∙◌, arith, All}
+use Rattle.std.specs.List.{find, list_any}
 use Rattle.std.specs.Option.{option_map_or}
-use Rattle.std.proofs.lemmas.Bool.{eqb-true, eqb-false, eq-eqb, not-false}
+use Rattle.std.proofs.lemmas.Bool.{eqb-true, eqb-false, eq-eqb, not-false, or_from, or_parts}
+use Rattle.std.proofs.lemmas.List.Elements.{All-nil, All-cons, All-head, All-tail}
 use Rattle.std.proofs.lemmas.Option.{slice_get_within}
 use Rattle.support.proofs.ListLaws.{item_there}
+use Rattle.kinds.specs.declared.rules.Takes.{Takes}
+use Rattle.kinds.specs.declared.rules.Takes.TheVariants as O
 use Rattle.llvm_core.specs.declared.numbers.LLVMType.{LLVMType}
 use Rattle.llvm_core.specs.declared.numbers.LLVMConst.{LLVMConst}
 use Rattle.llvm_core.specs.declared.numbers.LLVMFunction.{LLVMFunction}
@@ -18,11 +21,14 @@ use Rattle.llvm_core.specs.Module.{Module}
 use Rattle.llvm_core.specs.Code.{param_names}
 use Rattle.llvm_core.specs.Parts.{IsValue, value_type, param_types}
 use Rattle.llvm_core.specs.Sound.{IsModule}
-use Rattle.llvm_core.specs.Data.{TypeTree, VoidType, Placed, const_at, type_at, trees_of, const_type, operand_of, param_type, nth_type, placed_in, operand_type}
-use Rattle.llvm_core.specs.Checked.{home, is_placeholder, is_outside}
-use Rattle.llvm_core.specs.Form.{IsFitting, HasNumber, IsOperandOf}
+use Rattle.llvm_core.specs.Data.{TypeTree, VoidType, Operand, Placed, const_at, type_at, trees_of, const_type, operand_of, param_type, nth_type, placed_in, operand_type}
+use Rattle.llvm_core.specs.Checked.{home, is_placeholder, is_outside, return_type, returns_void, returns_other, misfits_return}
+use Rattle.llvm_core.specs.Form.{IsFitting, HasNumber, IsOperandOf, IsReturning, result_of, types_of}
+use Rattle.llvm_core.specs.Form.{is_void as void_tree, returns_void as void_returned}
+use Rattle.llvm_core.proofs.ApartLemmas.{apart, same_type}
+use Rattle.llvm_core.proofs.RuleLaws.{tree_of}
 use Rattle.llvm_core.proofs.DataLemmas.{within_at, int_tree_of, int_const_of, placeholder_const_of}
-use Rattle.llvm_core.proofs.FormTypes.{numbered, signature_of, function_typed, param_types_are, nth_is}
+use Rattle.llvm_core.proofs.FormTypes.{numbered, signature_of, function_typed, param_types_are, nth_is, return_type_is, void_kept}
 use Rattle.llvm_core.proofs.FormPlaces.{shown, own_inst, in_home}
 
 -- ---- instructions by number
@@ -149,3 +155,99 @@ module _ (m : Module) (f : ℕ) (x : FunctionData) (sound : IsModule m) (at : sl
       let number : own.number ≡ i.0 = ap (λ (q : Placed). q.number) (sym own.shown_as) ∙ h.3 in
       let here : slice_get m.insts i.0 ≡ Some own.inst = ap (slice_get m.insts) (sym number) ∙ own.here in
       rw here (rw (eq-eqb (home m own.inst).0 f own.home_is) refl)
+
+  -- ---- lists of values
+
+  -- the tree of a value's type is that of its operand
+  tree_same : (v : LLVMValue) → IsValue m v → IsOperandOf (shown m f x) (operand_of (trees_of m) v) → operand_type (shown m f x) (operand_of (trees_of m) v) ≡ tree_of m sound v
+  tree_same v here stands = let t = value_typed v here stands in rw t.type_is (sym t.tree_is)
+
+  pub types_same : (vs : List LLVMValue) → All (IsValue m) vs → All (IsOperandOf (shown m f x)) (map (operand_of (trees_of m)) vs) → types_of (shown m f x) (map (operand_of (trees_of m)) vs) ≡ map (tree_of m sound) vs
+  types_same [] here stand = refl
+  types_same (v ∷ vs) here stand =
+      let os = map (operand_of (trees_of m)) vs in
+      let first = tree_same v (All-head (IsValue m) v vs here) (All-head (IsOperandOf (shown m f x)) (operand_of (trees_of m) v) os stand) in
+      let rest = types_same vs (All-tail (IsValue m) v vs here) (All-tail (IsOperandOf (shown m f x)) (operand_of (trees_of m) v) os stand) in
+      cc
+
+  pub values_stand : (vs : List LLVMValue) → All (IsValue m) vs → list_any (is_outside m (numbered f)) vs ≡ false → All (IsOperandOf (shown m f x)) (map (operand_of (trees_of m)) vs)
+  values_stand [] here none = All-nil (IsOperandOf (shown m f x))
+  values_stand (v ∷ vs) here none =
+      let inside = or_parts (is_outside m (numbered f) v) (list_any (is_outside m (numbered f)) vs) none in
+      All-cons (IsOperandOf (shown m f x)) (operand_of (trees_of m) v) (map (operand_of (trees_of m)) vs) (value_stands v (All-head (IsValue m) v vs here) inside.0) (values_stand vs (All-tail (IsValue m) v vs here) inside.1)
+
+  pub values_inside : (vs : List LLVMValue) → All (IsOperandOf (shown m f x)) (map (operand_of (trees_of m)) vs) → list_any (is_outside m (numbered f)) vs ≡ false
+  values_inside [] stand = refl
+  values_inside (v ∷ vs) stand =
+      let os = map (operand_of (trees_of m)) vs in
+      or_from (is_outside m (numbered f) v) (list_any (is_outside m (numbered f)) vs) (value_inside v (All-head (IsOperandOf (shown m f x)) (operand_of (trees_of m) v) os stand))
+      (values_inside vs (All-tail (IsOperandOf (shown m f x)) (operand_of (trees_of m) v) os stand))
+
+  -- ---- what the function returns
+
+  -- the type of what the function returns
+  record HasReturn : Type 0 where
+    returned : LLVMType
+    type_is : return_type m (numbered f) ≡ Some returned
+    within : returned.0 < length m.types
+    tree_is : type_at (trees_of m).types returned ≡ result_of (shown m f x).type
+
+  returned_here : HasReturn
+  returned_here =
+      let typed = function_typed m f x sound at in
+      let s = signature_of m f x typed.0 typed.1 typed.2 sound at typed.3 in
+      record { returned = s.returned; type_is = return_type_is m f x typed.0 typed.1 sound at s; within = s.within; tree_is = s.returned_is ∙ sym (ap result_of typed.3) }
+
+  pub same_void : returns_void m (numbered f) ≡ void_returned (shown m f x)
+  same_void = let r = returned_here in rw r.type_is (void_kept m r.returned sound r.within ∙ ap void_tree r.tree_is)
+
+  -- a value is of the type that the function returns where its operand is
+  value_returned : (v : LLVMValue) → IsValue m v → IsOperandOf (shown m f x) (operand_of (trees_of m) v) → operand_type (shown m f x) (operand_of (trees_of m) v) ≡ result_of (shown m f x).type → returns_other m (numbered f) v ≡ false
+  value_returned v here stands e =
+      let t = value_typed v here stands in
+      let r = returned_here in
+      let same = (apart m sound).types t.type r.returned t.within r.within (t.tree_is ∙ e ∙ sym r.tree_is) in
+      rw (t.type_is, r.type_is) (ap not (eq-eqb t.type.0 r.returned.0 (ap (λ (t : LLVMType). t.0) same)))
+
+  operand_returned : (v : LLVMValue) → IsValue m v → IsOperandOf (shown m f x) (operand_of (trees_of m) v) → returns_other m (numbered f) v ≡ false → operand_type (shown m f x) (operand_of (trees_of m) v) ≡ result_of (shown m f x).type
+  operand_returned v here stands fits =
+      let t = value_typed v here stands in
+      let r = returned_here in
+      let same = eqb-true t.type.0 r.returned.0 (not-false (nat_eq t.type.0 r.returned.0) (rw (t.type_is, r.type_is) at fits)) in
+      sym t.tree_is ∙ ap (type_at (trees_of m).types) (same_type t.type r.returned same) ∙ r.tree_is
+
+  abbrev IsReturned : Operand → Type 0
+  IsReturned o = operand_type (shown m f x) o ≡ result_of (shown m f x).type
+
+  values_returned : (vs : List LLVMValue) → All (IsValue m) vs → All (IsOperandOf (shown m f x)) (map (operand_of (trees_of m)) vs) → All IsReturned (map (operand_of (trees_of m)) vs) → list_any (returns_other m (numbered f)) vs ≡ false
+  values_returned [] here stand all = refl
+  values_returned (v ∷ vs) here stand all =
+      let o = operand_of (trees_of m) v in
+      let os = map (operand_of (trees_of m)) vs in
+      or_from (returns_other m (numbered f) v) (list_any (returns_other m (numbered f)) vs)
+      (value_returned v (All-head (IsValue m) v vs here) (All-head (IsOperandOf (shown m f x)) o os stand) (All-head IsReturned o os all))
+      (values_returned vs (All-tail (IsValue m) v vs here) (All-tail (IsOperandOf (shown m f x)) o os stand) (All-tail IsReturned o os all))
+
+  operands_returned : (vs : List LLVMValue) → All (IsValue m) vs → All (IsOperandOf (shown m f x)) (map (operand_of (trees_of m)) vs) → list_any (returns_other m (numbered f)) vs ≡ false → All IsReturned (map (operand_of (trees_of m)) vs)
+  operands_returned [] here stand none = All-nil IsReturned
+  operands_returned (v ∷ vs) here stand none =
+      let o = operand_of (trees_of m) v in
+      let os = map (operand_of (trees_of m)) vs in
+      let parts = or_parts (returns_other m (numbered f) v) (list_any (returns_other m (numbered f)) vs) none in
+      All-cons IsReturned o os (operand_returned v (All-head (IsValue m) v vs here) (All-head (IsOperandOf (shown m f x)) o os stand) parts.0)
+      (operands_returned vs (All-tail (IsValue m) v vs here) (All-tail (IsOperandOf (shown m f x)) o os stand) parts.1)
+
+  -- a line for each word
+  pub return_fits : (k : Takes) (vs : List LLVMValue) → All (IsValue m) vs → All (IsOperandOf (shown m f x)) (map (operand_of (trees_of m)) vs) → IsReturning k (shown m f x) (map (operand_of (trees_of m)) vs) → misfits_return k m (numbered f) vs ≡ false
+  return_fits O.Nothing vs here stand all = refl
+  return_fits (O.One a) vs here stand all = refl
+  return_fits (O.Two a b) vs here stand all = refl
+  return_fits (O.Three a b c) vs here stand all = refl
+  return_fits O.Return vs here stand all = values_returned vs here stand all
+
+  pub return_form : (k : Takes) (vs : List LLVMValue) → All (IsValue m) vs → All (IsOperandOf (shown m f x)) (map (operand_of (trees_of m)) vs) → misfits_return k m (numbered f) vs ≡ false → IsReturning k (shown m f x) (map (operand_of (trees_of m)) vs)
+  return_form O.Nothing vs here stand none = tt
+  return_form (O.One a) vs here stand none = tt
+  return_form (O.Two a b) vs here stand none = tt
+  return_form (O.Three a b c) vs here stand none = tt
+  return_form O.Return vs here stand none = operands_returned vs here stand none

@@ -1,5 +1,5 @@
 -- What is right in a module stays right in one that has more.
-use Rattle.std.proofs.Common.{◌≡◌, ◌<◌, ◌≤◌, ℕ, Bool, false, ◌&&◌, nat_eq, if◌then◌else◌, List, [], Option, Some, None, length, slice_get, sym, ap, ◌∙◌, refl, arith, subst, ◌++◌}
+use Rattle.std.proofs.Common.{◌≡◌, ◌<◌, ◌≤◌, ℕ, List, [], Option, Some, None, length, slice_get, sym, ap, ◌∙◌, refl, arith, subst, ◌++◌}
 use Rattle.std.specs.Option.{option_map, option_map_or}
 use Rattle.std.proofs.lemmas.List.Elements.{All-weaker}
 use Rattle.std.proofs.lemmas.List.{append-nil}
@@ -25,9 +25,15 @@ use Rattle.llvm_core.specs.declared.code.BlockData.{BlockData}
 use Rattle.llvm_core.specs.declared.code.InstData.{InstData}
 use Rattle.llvm_core.specs.Module.{Module}
 use Rattle.llvm_core.specs.Code.{param_names}
-use Rattle.llvm_core.specs.Parts.{IsConstOver, IsFunctionType, IsValue, HasValues, IsBlock, IsEntry, const_type, type_params, kind_params, param_types, is_int, is_kind, both_type, value_type, result_type, IsResultType}
+use Rattle.llvm_core.specs.Parts.{IsConstOver, IsFunctionType, IsValue, HasValues, IsBlock, IsEntry, const_type, type_params, kind_params, param_types, value_type, result_type, IsResultType, type_nth, view_nth, view, shape_of}
+use Rattle.std.proofs.Common.{All, zero, suc, ◌∷◌}
+use Rattle.std.specs.Prelude.{IfSome}
+use Rattle.std.proofs.lemmas.List.Elements.{All-head, All-tail}
+use Rattle.kinds.specs.declared.fitting.Shape.{Shape}
+use Rattle.kinds.specs.declared.fitting.Shape.TheVariants as S
+use Rattle.kinds.specs.declared.fitting.TypeView.{TypeView}
 use Rattle.llvm_core.specs.Sound.{IsFunctionIn, IsBlockIn, IsInstIn, IsListedBlock, IsListedInst, StandsFor, IsModule}
-use Rattle.llvm_core.proofs.WithinLemmas.{value_type_within, param_there}
+use Rattle.llvm_core.proofs.WithinLemmas.{type_nth_within, param_there}
 use Rattle.llvm_core.proofs.ListedLemmas.{KeepsLists}
 
 -- what a function and a block list
@@ -96,15 +102,13 @@ block_there m n g b h = omega (arith, g.block_count, h)
 entry_kept : (m n : Module) → Grows m n → (e : PhiEntry) → IsEntry m e → IsEntry n e
 entry_kept m n g e h = (value_kept m n g e.value h.0, block_there m n g e.block h.1)
 
+written_kept : (m n : Module) → Grows m n → (o : Option LLVMType) → IfSome o (λ (t : LLVMType). t.0 < length m.types) → IfSome o (λ (t : LLVMType). t.0 < length n.types)
+written_kept m n g None h = h
+written_kept m n g (Some t) h = omega (arith, g.type_count, h)
+
 pub values_kept : (m n : Module) → Grows m n → (i : LLVMInst) → HasValues m i → HasValues n i
-values_kept m n g (I.Add lhs rhs flags) h = (value_kept m n g lhs h.0, value_kept m n g rhs h.1)
-values_kept m n g (I.ICmp lhs rhs predicate) h = (value_kept m n g lhs h.0, value_kept m n g rhs h.1)
 values_kept m n g (I.Phi type entries) h = (omega (arith, g.type_count, h.0), All-weaker (IsEntry m) (IsEntry n) (entry_kept m n g) entries h.1)
-values_kept m n g (I.Br target) h = block_there m n g target h
-values_kept m n g (I.CondBr condition first second) h = (value_kept m n g condition h.0, block_there m n g first h.1, block_there m n g second h.2)
-values_kept m n g (I.Ret None) h = h
-values_kept m n g (I.Ret (Some v)) h = value_kept m n g v h
-values_kept m n g I.Unreachable h = h
+values_kept m n g (I.Row r) h = (All-weaker (IsValue m) (IsValue n) (value_kept m n g) r.operands h.0, All-weaker (IsBlock m) (IsBlock n) (block_there m n g) r.targets h.1, written_kept m n g r.written h.2)
 
 -- ---- types of values
 
@@ -124,29 +128,35 @@ value_type_kept m n g s (V.Inst i) h =
     let y = g.inst_types i.0 x.0 x.1 in
     ap (option_map inst_type) y.1 ∙ ap Some y.2 ∙ ap (option_map inst_type) (sym x.1)
 
-is_kind_kept : (m n : Module) → Grows m n → (p : LLVMTypeKind → Bool) (t : LLVMType) → t.0 < length m.types → is_kind p n.types t ≡ is_kind p m.types t
-is_kind_kept m n g p t lt = let k = item_there m.types t.0 lt in ap (λ o. option_map_or p o false) (g.types t.0 k.0 k.1 ∙ sym k.1)
+type_nth_kept : (m n : Module) → Grows m n → IsModule m → (vs : List LLVMValue) (i : ℕ) → All (IsValue m) vs → type_nth n vs i ≡ type_nth m vs i
+type_nth_kept m n g s [] i h = refl
+type_nth_kept m n g s (v ∷ vs) zero h = value_type_kept m n g s v (All-head (IsValue m) v vs h)
+type_nth_kept m n g s (v ∷ vs) (suc i) h = type_nth_kept m n g s vs i (All-tail (IsValue m) v vs h)
 
-both_kept : (m n : Module) → Grows m n → (a b : Option LLVMType) → ((t : LLVMType) → a ≡ Some t → t.0 < length m.types) → both_type n.types a b ≡ both_type m.types a b
-both_kept m n g None b within = refl
-both_kept m n g (Some a) None within = refl
-both_kept m n g (Some a) (Some b) within = ap (λ (int : Bool). if nat_eq a.0 b.0 && int then Some a else None) (is_kind_kept m n g is_int a (within a refl))
+view_kept : (m n : Module) → Grows m n → (t : LLVMType) → t.0 < length m.types → view n.types t ≡ view m.types t
+view_kept m n g t lt =
+    let k = item_there m.types t.0 lt in
+    let with_shape : Shape → TypeView = λ s. record { number = t.0; shape = s } in
+    ap (λ o. with_shape (option_map_or shape_of o S.Void)) (g.types t.0 k.0 k.1 ∙ sym k.1)
 
-sides_kept : (m n : Module) → Grows m n → IsModule m → (lhs rhs : LLVMValue) → IsValue m lhs → IsValue m rhs
-    → both_type n.types (value_type n lhs) (value_type n rhs) ≡ both_type m.types (value_type m lhs) (value_type m rhs)
-sides_kept m n g s lhs rhs p q =
-    ap (λ a. both_type n.types a (value_type n rhs)) (value_type_kept m n g s lhs p) ∙ ap (both_type n.types (value_type m lhs)) (value_type_kept m n g s rhs q)
-    ∙ both_kept m n g (value_type m lhs) (value_type m rhs) (λ t e. value_type_within m lhs t s p e)
+some_view_kept : (m n : Module) → Grows m n → (o : Option LLVMType) → ((t : LLVMType) → o ≡ Some t → t.0 < length m.types) → option_map (view n.types) o ≡ option_map (view m.types) o
+some_view_kept m n g None h = refl
+some_view_kept m n g (Some t) h = ap Some (view_kept m n g t (h t refl))
+
+view_nth_kept : (m n : Module) → Grows m n → IsModule m → (vs : List LLVMValue) (i : ℕ) → All (IsValue m) vs → view_nth n vs i ≡ view_nth m vs i
+view_nth_kept m n g s vs i h = ap (option_map (view n.types)) (type_nth_kept m n g s vs i h) ∙ some_view_kept m n g (type_nth m vs i) (λ t e. type_nth_within m vs i t s h e)
 
 -- the type of a result stays
 pub result_kept : (m n : Module) → Grows m n → IsModule m → (i : LLVMInst) → HasValues m i → result_type n i ≡ result_type m i
-result_kept m n g s (I.Add lhs rhs flags) h = ap (option_map R.There) (sides_kept m n g s lhs rhs h.0 h.1)
-result_kept m n g s (I.ICmp lhs rhs predicate) h = ap (option_map (λ _. R.Bit)) (sides_kept m n g s lhs rhs h.0 h.1)
 result_kept m n g s (I.Phi type entries) h = refl
-result_kept m n g s (I.Br target) h = refl
-result_kept m n g s (I.CondBr condition first second) h = refl
-result_kept m n g s (I.Ret v) h = refl
-result_kept m n g s I.Unreachable h = refl
+result_kept m n g s (I.Row r) h =
+    let e = view_nth_kept m n g s r.operands 0 h.0 in
+    let f = view_nth_kept m n g s r.operands 1 h.0 in
+    let k = view_nth_kept m n g s r.operands 2 h.0 in
+    let a = type_nth_kept m n g s r.operands 0 h.0 in
+    let b = type_nth_kept m n g s r.operands 1 h.0 in
+    let w = some_view_kept m n g r.written (λ t at. subst (λ (o : Option LLVMType). IfSome o (λ (x : LLVMType). x.0 < length m.types)) at h.2) in
+    cc
 
 pub stands_kept : (m n : Module) → Grows m n → (r : Option ResultType) (ty : LLVMType) → StandsFor m.types r ty → StandsFor n.types r ty
 stands_kept m n g None ty h = g.types ty.0 T.Void h

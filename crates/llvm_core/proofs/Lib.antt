@@ -20,6 +20,7 @@ pub mod PhiLemmas
 pub mod FirstLemmas
 pub mod CheckLemmas
 pub mod ApartLemmas
+pub mod RuleLaws
 pub mod GivenLemmas
 pub mod FormNames
 pub mod FormTypes

@@ -1,13 +1,11 @@
 -- What stays right where an operand of an instruction changes, or a phi gets an entry.
-use Rattle.std.proofs.Common.{◌≡◌, ℕ, zero, suc, Bool, true, false, nat_eq, if◌then◌else◌, List, [], ◌∷◌, Option, None, Some, slice_get, map, sym, ap, ◌∙◌, refl, subst, inl, inr, arith, All}
-use Rattle.std.specs.Option.{option_map}
+use Rattle.std.proofs.Common.{◌≡◌, ℕ, zero, suc, List, [], ◌∷◌, Option, Some, slice_get, slice_set, length, map, sym, ap, ◌∙◌, refl, subst, inl, inr, arith, All}
 use Rattle.std.proofs.lemmas.List.{map-append}
 use Rattle.std.proofs.lemmas.List.Elements.{All-cons, All-head, All-tail, All-push}
 use Rattle.std.proofs.lemmas.Option.{same_Some}
 use Rattle.support.specs.Changes.{with_change}
 use Rattle.llvm_core.specs.declared.numbers.LLVMInstRef.{LLVMInstRef}
 use Rattle.llvm_core.specs.declared.types.ResultType.{ResultType}
-use Rattle.llvm_core.specs.declared.types.ResultType.TheVariants as R
 use Rattle.llvm_core.specs.declared.code.LLVMValue.{LLVMValue}
 use Rattle.llvm_core.specs.declared.code.PhiEntry.{PhiEntry}
 use Rattle.llvm_core.specs.declared.code.LLVMInst.{LLVMInst}
@@ -15,7 +13,7 @@ use Rattle.llvm_core.specs.declared.code.LLVMInst.TheVariants as I
 use Rattle.llvm_core.specs.declared.code.InstData.{InstData}
 use Rattle.llvm_core.specs.Module.{Module}
 use Rattle.llvm_core.specs.Code.{code_of, with_code, with_operand, with_entry, with_changed_inst}
-use Rattle.llvm_core.specs.Parts.{IsValue, HasValues, IsEntry, TakesOperand, operands, value_type, both_type, result_type}
+use Rattle.llvm_core.specs.Parts.{IsValue, HasValues, IsEntry, TakesOperand, operands, value_type, result_type, type_nth}
 use Rattle.llvm_core.specs.Sound.{StandsFor, IsModule}
 use Rattle.llvm_core.specs.Data as d
 use Rattle.llvm_core.specs.Data.{Trees, trees_of, operand_of, entry_of, instruction_of, data_of}
@@ -85,41 +83,35 @@ All-changed P f keeps zero (x ∷ xs) all = All-cons P (f x) xs (keeps x (All-he
 All-changed P f keeps (suc i) (x ∷ xs) all =
     subst (All P) (sym (with_change-cons f i x xs)) (All-cons P x (with_change f i xs) (All-head P x xs all) (All-changed P f keeps i xs (All-tail P x xs all)))
 
+All-set : {X : Type 0} (P : X → Type 0) (x : X) → P x → (i : ℕ) (xs : List X) → All P xs → All P (slice_set xs i x)
+All-set P x p i [] all = all
+All-set P x p zero (y ∷ xs) all = All-cons P x xs p (All-tail P y xs all)
+All-set P x p (suc i) (y ∷ xs) all = All-cons P y (slice_set xs i x) (All-head P y xs all) (All-set P x p i xs (All-tail P y xs all))
+
 values_put : (m : Module) (inst : LLVMInst) (place : ℕ) (v : LLVMValue) → HasValues m inst → IsValue m v → HasValues m (with_operand inst place v)
-values_put m (I.Add lhs rhs flags) place v h here = by (nat_eq place 0)
-  where
-    by : (b : Bool) → HasValues m (if b then I.Add v rhs flags else I.Add lhs v flags)
-    by true = (here, h.1)
-    by false = (h.0, here)
-values_put m (I.ICmp lhs rhs predicate) place v h here = by (nat_eq place 0)
-  where
-    by : (b : Bool) → HasValues m (if b then I.ICmp v rhs predicate else I.ICmp lhs v predicate)
-    by true = (here, h.1)
-    by false = (h.0, here)
 values_put m (I.Phi type entries) place v h here = (h.0, All-changed (IsEntry m) (λ (e : PhiEntry). record e { value = v }) (λ e is. (here, is.1)) place entries h.1)
-values_put m (I.Br target) place v h here = h
-values_put m (I.CondBr condition first second) place v h here = (here, h.1, h.2)
-values_put m (I.Ret None) place v h here = h
-values_put m (I.Ret (Some w)) place v h here = here
-values_put m I.Unreachable place v h here = h
+values_put m (I.Row r) place v h here = (All-set (IsValue m) v here place r.operands h.0, h.1, h.2)
+
+type_nth_put : (m : Module) (vs : List LLVMValue) (place : ℕ) (v w : LLVMValue) → slice_get vs place ≡ Some w → value_type m w ≡ value_type m v → (i : ℕ) → type_nth m (slice_set vs place v) i ≡ type_nth m vs i
+type_nth_put m [] place v w at same i = refl
+type_nth_put m (u ∷ vs) zero v w at same zero = sym (ap (value_type m) (same_Some u w at) ∙ same)
+type_nth_put m (u ∷ vs) zero v w at same (suc i) = refl
+type_nth_put m (u ∷ vs) (suc place) v w at same zero = refl
+type_nth_put m (u ∷ vs) (suc place) v w at same (suc i) = type_nth_put m vs place v w at same i
+
+length-set : {X : Type 0} (x : X) (i : ℕ) (xs : List X) → length (slice_set xs i x) ≡ length xs
+length-set x i [] = refl
+length-set x zero (y ∷ xs) = refl
+length-set x (suc i) (y ∷ xs) = ap (λ n. suc n) (length-set x i xs)
 
 result_put : (m : Module) (inst : LLVMInst) (place : ℕ) (v w : LLVMValue) → slice_get (operands inst) place ≡ Some w → value_type m w ≡ value_type m v → result_type m (with_operand inst place v) ≡ result_type m inst
-result_put m (I.Add lhs rhs flags) zero v w at same =
-    ap (λ a. option_map R.There (both_type m.types a (value_type m rhs))) (sym (ap (value_type m) (same_Some lhs w at) ∙ same))
-result_put m (I.Add lhs rhs flags) (suc zero) v w at same =
-    ap (λ a. option_map R.There (both_type m.types (value_type m lhs) a)) (sym (ap (value_type m) (same_Some rhs w at) ∙ same))
-result_put m (I.Add lhs rhs flags) (suc (suc place)) v w at same = cc
-result_put m (I.ICmp lhs rhs predicate) zero v w at same =
-    ap (λ a. option_map (λ _. R.Bit) (both_type m.types a (value_type m rhs))) (sym (ap (value_type m) (same_Some lhs w at) ∙ same))
-result_put m (I.ICmp lhs rhs predicate) (suc zero) v w at same =
-    ap (λ a. option_map (λ _. R.Bit) (both_type m.types (value_type m lhs) a)) (sym (ap (value_type m) (same_Some rhs w at) ∙ same))
-result_put m (I.ICmp lhs rhs predicate) (suc (suc place)) v w at same = cc
 result_put m (I.Phi type entries) place v w at same = refl
-result_put m (I.Br target) place v w at same = refl
-result_put m (I.CondBr condition first second) place v w at same = refl
-result_put m (I.Ret None) place v w at same = refl
-result_put m (I.Ret (Some x)) place v w at same = refl
-result_put m I.Unreachable place v w at same = refl
+result_put m (I.Row r) place v w at same =
+    let n = length-set v place r.operands in
+    let a = type_nth_put m r.operands place v w at same 0 in
+    let b = type_nth_put m r.operands place v w at same 1 in
+    let c = type_nth_put m r.operands place v w at same 2 in
+    cc
 
 map-changed : {X Y : Type 0} (h : X → Y) (f : X → X) (g : Y → Y) → ((x : X) → h (f x) ≡ g (h x)) → (i : ℕ) (xs : List X) → map h (with_change f i xs) ≡ with_change g i (map h xs)
 map-changed h f g same i [] = refl
@@ -127,26 +119,15 @@ map-changed h f g same zero (x ∷ xs) = ap (λ y. y ∷ map h xs) (same x)
 map-changed h f g same (suc i) (x ∷ xs) =
     ap (map h) (with_change-cons f i x xs) ∙ ap (λ ys. h x ∷ ys) (map-changed h f g same i xs) ∙ sym (with_change-cons g i (h x) (map h xs))
 
+map-set : {X Y : Type 0} (h : X → Y) (x : X) (i : ℕ) (xs : List X) → map h (slice_set xs i x) ≡ slice_set (map h xs) i (h x)
+map-set h x i [] = refl
+map-set h x zero (y ∷ xs) = refl
+map-set h x (suc i) (y ∷ xs) = ap (λ ys. h y ∷ ys) (map-set h x i xs)
+
 instruction_put : (t : Trees) (inst : LLVMInst) (place : ℕ) (v : LLVMValue) → instruction_of t (with_operand inst place v) ≡ d.with_operand (instruction_of t inst) place (operand_of t v)
-instruction_put t (I.Add lhs rhs flags) place v = by (nat_eq place 0)
-  where
-    by : (b : Bool) → instruction_of t (if b then I.Add v rhs flags else I.Add lhs v flags)
-        ≡ (if b then d.Add (operand_of t v) (operand_of t rhs) flags else d.Add (operand_of t lhs) (operand_of t v) flags)
-    by true = refl
-    by false = refl
-instruction_put t (I.ICmp lhs rhs predicate) place v = by (nat_eq place 0)
-  where
-    by : (b : Bool) → instruction_of t (if b then I.ICmp v rhs predicate else I.ICmp lhs v predicate)
-        ≡ (if b then d.ICmp (operand_of t v) (operand_of t rhs) predicate else d.ICmp (operand_of t lhs) (operand_of t v) predicate)
-    by true = refl
-    by false = refl
 instruction_put t (I.Phi type entries) place v =
     ap d.Phi (map-changed (entry_of t) (λ (e : PhiEntry). record e { value = v }) (λ (e : d.Operand × ℕ). (operand_of t v, e.1)) (λ e. refl) place entries)
-instruction_put t (I.Br target) place v = refl
-instruction_put t (I.CondBr condition first second) place v = refl
-instruction_put t (I.Ret None) place v = refl
-instruction_put t (I.Ret (Some w)) place v = refl
-instruction_put t I.Unreachable place v = refl
+instruction_put t (I.Row r) place v = let e = map-set (operand_of t) v place r.operands in cc
 
 pub operand_set : (m : Module) (i : LLVMInstRef) (place : ℕ) (v : LLVMValue) → IsModule m → TakesOperand m i place v → IsValue m v
     → IsModule (with_code m (with_changed_inst (code_of m) i (λ inst. with_operand inst place v)))
@@ -164,31 +145,16 @@ operand_set_data m i place v =
 -- ---- an entry of a phi
 
 values_extended : (m : Module) (inst : LLVMInst) (e : PhiEntry) → HasValues m inst → IsEntry m e → HasValues m (with_entry inst e)
-values_extended m (I.Add lhs rhs flags) e h here = h
-values_extended m (I.ICmp lhs rhs predicate) e h here = h
 values_extended m (I.Phi type entries) e h here = (h.0, All-push (IsEntry m) entries e h.1 here)
-values_extended m (I.Br target) e h here = h
-values_extended m (I.CondBr condition first second) e h here = h
-values_extended m (I.Ret v) e h here = h
-values_extended m I.Unreachable e h here = h
+values_extended m (I.Row r) e h here = h
 
 result_extended : (m : Module) (inst : LLVMInst) (e : PhiEntry) → result_type m (with_entry inst e) ≡ result_type m inst
-result_extended m (I.Add lhs rhs flags) e = refl
-result_extended m (I.ICmp lhs rhs predicate) e = refl
 result_extended m (I.Phi type entries) e = refl
-result_extended m (I.Br target) e = refl
-result_extended m (I.CondBr condition first second) e = refl
-result_extended m (I.Ret v) e = refl
-result_extended m I.Unreachable e = refl
+result_extended m (I.Row r) e = refl
 
 instruction_extended : (t : Trees) (inst : LLVMInst) (e : PhiEntry) → instruction_of t (with_entry inst e) ≡ d.with_entry (instruction_of t inst) (operand_of t e.value) e.block.0
-instruction_extended t (I.Add lhs rhs flags) e = refl
-instruction_extended t (I.ICmp lhs rhs predicate) e = refl
 instruction_extended t (I.Phi type entries) e = ap d.Phi (map-append (entry_of t) entries (e ∷ []))
-instruction_extended t (I.Br target) e = refl
-instruction_extended t (I.CondBr condition first second) e = refl
-instruction_extended t (I.Ret v) e = refl
-instruction_extended t I.Unreachable e = refl
+instruction_extended t (I.Row r) e = refl
 
 pub entry_added : (m : Module) (i : LLVMInstRef) (e : PhiEntry) → IsModule m → IsEntry m e → IsModule (with_code m (with_changed_inst (code_of m) i (λ inst. with_entry inst e)))
 entry_added m i e s here = inst_changed m i (λ inst. with_entry inst e) s (λ x at. (values_extended m x.inst e (s.insts i.0 x at).values here, result_extended m x.inst e))

@@ -1,5 +1,5 @@
 -- The types that a module's values name are there.
-use Rattle.std.proofs.Common.{◌≡◌, ◌<◌, ℕ, Bool, true, false, ◌&&◌, nat_eq, if◌then◌else◌, List, Option, Some, None, [], length, slice_get, sym, ap, ◌∙◌, refl, arith, get_or}
+use Rattle.std.proofs.Common.{◌≡◌, ◌<◌, ℕ, Bool, true, false, if◌then◌else◌, List, Option, Some, None, [], length, slice_get, sym, ap, ◌∙◌, refl, arith, get_or}
 use Rattle.std.specs.Option.{option_map, option_map_or}
 use Rattle.std.proofs.lemmas.Option.{slice_get_within, get_or_from_slice_get, same_Some}
 use Rattle.support.proofs.ListLaws.{item_there}
@@ -19,31 +19,18 @@ use Rattle.llvm_core.specs.declared.code.FunctionData.{FunctionData}
 use Rattle.llvm_core.specs.declared.code.InstData.{InstData}
 use Rattle.llvm_core.specs.Module.{Module}
 use Rattle.llvm_core.specs.Code.{param_names}
-use Rattle.llvm_core.specs.Parts.{IsTypeOver, IsConstOver, IsValue, HasValues, IsResultOver, const_type, type_params, kind_params, is_int, is_kind, both_type, param_types, value_type, result_type}
+use Rattle.llvm_core.specs.Parts.{IsTypeOver, IsConstOver, IsValue, HasValues, IsResultOver, const_type, type_params, kind_params, param_types, value_type, result_type, given, row_fits, type_nth}
+use Rattle.kinds.specs.declared.rules.Gives.{Gives}
+use Rattle.kinds.specs.declared.rules.Gives.TheVariants as G
+use Rattle.kinds.specs.Table.{rule_of}
+use Rattle.std.proofs.Common.{All, subst, zero, suc, ◌∷◌}
+use Rattle.std.specs.Prelude.{IfSome}
+use Rattle.std.proofs.lemmas.List.Elements.{All-head, All-tail}
 use Rattle.llvm_core.specs.Sound.{IsModule}
 
 pub const_type_within : (types : List LLVMTypeKind) (k : LLVMConstKind) → IsConstOver types k → (const_type k).0 < length types
 const_type_within types (C.Int t v) h = slice_get_within types t.0 _ h.1
 const_type_within types (C.Placeholder number t) h = h
-
--- a type that passes a test on its kind is there
-kind_there : (p : LLVMTypeKind → Bool) (types : List LLVMTypeKind) (t : LLVMType) → is_kind p types t ≡ true → t.0 < length types
-kind_there p types t h = by (slice_get types t.0) refl h
-  where
-    by : (o : Option LLVMTypeKind) → slice_get types t.0 ≡ o → option_map_or p o false ≡ true → t.0 < length types
-    by None at e = cc
-    by (Some k) at e = slice_get_within types t.0 k at
-
--- the type of both sides of an operation is there
-pub both_type_there : (types : List LLVMTypeKind) (a b : Option LLVMType) (t : LLVMType) → both_type types a b ≡ Some t → t.0 < length types
-both_type_there types None b t e = cc
-both_type_there types (Some x) None t e = cc
-both_type_there types (Some x) (Some y) t e = by (nat_eq x.0 y.0) (is_kind is_int types x) refl e
-  where
-    by : (same int : Bool) → is_kind is_int types x ≡ int → (if same && int then Some x else None) ≡ Some t → t.0 < length types
-    by false int at e = cc
-    by true false at e = cc
-    by true true at e = let here : x ≡ t = (cc) in rw (← here) (kind_there is_int types x at)
 
 pub param_within : (m : Module) (f : LLVMFunction) (place : ℕ) (x : FunctionData) (k : LLVMTypeKind) (d : LLVMType) → IsModule m
     → slice_get m.functions f.0 ≡ Some x → slice_get m.types x.ty.0 ≡ Some k → place < length (param_names m.functions f) → (get_or (kind_params k) place d).0 < length m.types
@@ -98,20 +85,35 @@ value_type_within m (V.Inst i) t s h e =
     let within = (s.insts i.0 x.0 x.1).typed in
     omega (arith, within, ap (λ (u : LLVMType). u.0) same)
 
+-- the type of the value at a place is there
+pub type_nth_within : (m : Module) (vs : List LLVMValue) (i : ℕ) (t : LLVMType) → IsModule m → All (IsValue m) vs → type_nth m vs i ≡ Some t → t.0 < length m.types
+type_nth_within m [] i t s h e = cc
+type_nth_within m (v ∷ vs) zero t s h e = value_type_within m v t s (All-head (IsValue m) v vs h) e
+type_nth_within m (v ∷ vs) (suc i) t s h e = type_nth_within m vs i t s (All-tail (IsValue m) v vs h) e
+
+there_within : (m : Module) (o : Option LLVMType) (r : ResultType) → ((t : LLVMType) → o ≡ Some t → t.0 < length m.types) → option_map R.There o ≡ Some r → IsResultOver m.types r
+there_within m None r h e = cc
+there_within m (Some t) r h e = rw (← same_Some (R.There t) r e) (h t refl)
+
+given_within : (m : Module) (g : Gives) (w a b : Option LLVMType) (r : ResultType) → ((t : LLVMType) → w ≡ Some t → t.0 < length m.types) → ((t : LLVMType) → a ≡ Some t → t.0 < length m.types) → ((t : LLVMType) → b ≡ Some t → t.0 < length m.types) → given g w a b ≡ Some r → IsResultOver m.types r
+given_within m G.Nothing w a b r hw ha hb e = cc
+given_within m G.First w a b r hw ha hb e = there_within m a r ha e
+given_within m G.Second w a b r hw ha hb e = there_within m b r hb e
+given_within m G.Written w a b r hw ha hb e = there_within m w r hw e
+given_within m G.Bit w a b r hw ha hb e = rw (← same_Some R.Bit r e) tt
+
 -- the type of a result is there, where it is one of the module's
-pub result_within : (m : Module) (i : LLVMInst) (r : ResultType) → HasValues m i → result_type m i ≡ Some r → IsResultOver m.types r
-result_within m (I.Add lhs rhs flags) r h e = by (both_type m.types (value_type m lhs) (value_type m rhs)) refl e
+pub result_within : (m : Module) (i : LLVMInst) (r : ResultType) → IsModule m → HasValues m i → result_type m i ≡ Some r → IsResultOver m.types r
+result_within m (I.Phi type entries) r s h e = rw (← same_Some (R.There type) r e) h.0
+result_within m (I.Row row) r s h e = by (row_fits m row) e
   where
-    by : (o : Option LLVMType) → both_type m.types (value_type m lhs) (value_type m rhs) ≡ o → option_map R.There o ≡ Some r → IsResultOver m.types r
-    by None at e = cc
-    by (Some t) at e = rw (← same_Some (R.There t) r e) (both_type_there m.types (value_type m lhs) (value_type m rhs) t at)
-result_within m (I.ICmp lhs rhs predicate) r h e = by (both_type m.types (value_type m lhs) (value_type m rhs)) e
-  where
-    by : (o : Option LLVMType) → option_map (λ _. R.Bit) o ≡ Some r → IsResultOver m.types r
-    by None e = cc
-    by (Some t) e = rw (← same_Some R.Bit r e) tt
-result_within m (I.Phi type entries) r h e = rw (← same_Some (R.There type) r e) h.0
-result_within m (I.Br target) r h e = cc
-result_within m (I.CondBr condition first second) r h e = cc
-result_within m (I.Ret v) r h e = cc
-result_within m I.Unreachable r h e = cc
+    by : (b : Bool) → (if b then given (rule_of row.op).gives row.written (type_nth m row.operands 0) (type_nth m row.operands 1) else None) ≡ Some r → IsResultOver m.types r
+    by true e =
+        given_within m (rule_of row.op).gives row.written (type_nth m row.operands 0) (type_nth m row.operands 1) r (λ t at. subst (λ (o : Option LLVMType). IfSome o (λ (x : LLVMType). x.0 < length m.types)) at h.2)
+        (λ t at. type_nth_within m row.operands 0 t s h.0 at) (λ t at. type_nth_within m row.operands 1 t s h.0 at) e
+    by false e = cc
+
+-- where there is one
+pub result_over : (m : Module) (i : LLVMInst) → IsModule m → HasValues m i → (o : Option ResultType) → o ≡ result_type m i → IfSome o (IsResultOver m.types)
+result_over m i s h None e = tt
+result_over m i s h (Some r) e = result_within m i r s h (sym e)

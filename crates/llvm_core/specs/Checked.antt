@@ -15,16 +15,22 @@ use Rattle.llvm_core.specs.declared.code.LLVMValue.TheVariants as V
 use Rattle.llvm_core.specs.declared.code.PhiEntry.{PhiEntry}
 use Rattle.llvm_core.specs.declared.code.LLVMInst.{LLVMInst}
 use Rattle.llvm_core.specs.declared.code.LLVMInst.TheVariants as I
+use Rattle.llvm_core.specs.declared.code.Row.{Row}
+use Rattle.kinds.specs.declared.rules.Takes.{Takes}
+use Rattle.kinds.specs.declared.rules.Takes.TheVariants as O
+use Rattle.kinds.specs.Rules.{ends, target_count, operand_count}
+use Rattle.kinds.specs.Table.{rule_of}
 use Rattle.llvm_core.specs.declared.code.FunctionData.{FunctionData}
 use Rattle.llvm_core.specs.declared.code.BlockData.{BlockData}
 use Rattle.llvm_core.specs.declared.code.InstData.{InstData}
+use Rattle.llvm_core.specs.declared.check_err.Place.{Place}
 use Rattle.llvm_core.specs.declared.check_err.Place.TheVariants as P
 use Rattle.llvm_core.specs.declared.check_err.CheckErr.{CheckErr}
 use Rattle.llvm_core.specs.declared.check_err.CheckErr.TheVariants.{NameTwice, NoTerminator, PhiPlace, PhiEntries, EntryHasPreds, OperandType, OperandCount, BlockOutside, IntrinsicBody, FunctionSpace, ListTooLong, NoMemory}
 use Rattle.llvm_core.specs.Module.{Module}
 use Rattle.llvm_core.specs.Names.{HasTwice}
 use Rattle.llvm_core.specs.Edges.{count_of, edge_count}
-use Rattle.llvm_core.specs.Parts.{value_type, result_type, is_function, is_kind, operands, is_phi}
+use Rattle.llvm_core.specs.Parts.{value_type, row_fits, is_function, is_kind, operands, is_phi}
 
 -- ---- names
 
@@ -57,15 +63,9 @@ IsTaken m f n = (g : ℕ) × (y : FunctionData) × (g < f) × (slice_get m.funct
 
 -- ---- terminators
 
--- a line for each kind
 abbrev pub is_terminator : LLVMInst → Bool
-is_terminator (I.Add lhs rhs flags) = false
-is_terminator (I.ICmp lhs rhs predicate) = false
 is_terminator (I.Phi type entries) = false
-is_terminator (I.Br target) = true
-is_terminator (I.CondBr condition first second) = true
-is_terminator (I.Ret value) = true
-is_terminator I.Unreachable = true
+is_terminator (I.Row r) = ends (rule_of r.op).leads
 
 abbrev pub is_terminator_at : Module → LLVMInstRef → Bool
 is_terminator_at m i = option_map_or (λ (x : InstData). is_terminator x.inst) (slice_get m.insts i.0) false
@@ -95,7 +95,7 @@ HasNoPreds m b = (p : ℕ) → edge_count m p b ≡ 0
 -- the entries of a phi of the block b are wrong; of another instruction it is not asked
 abbrev pub MisfitsEdges : Module → ℕ → LLVMInst → Type 0
 MisfitsEdges m b (I.Phi type entries) = (¬ FitsEdges m b entries) ⊎ HasTwoValues entries ⊎ HasNoPreds m b
-MisfitsEdges m b _ = ⊥
+MisfitsEdges m b (I.Row r) = ⊥
 
 abbrev pub is_phi_at : Module → LLVMInstRef → Bool
 is_phi_at m i = option_map_or (λ (x : InstData). is_phi x.inst) (slice_get m.insts i.0) false
@@ -135,11 +135,6 @@ abbrev pub misfits_signature : List LLVMTypeKind → LLVMTypeKind → Bool
 misfits_signature types (T.Function result params variadic) = list_any (is_kind is_valueless types) params || is_kind is_function types result
 misfits_signature types _ = false
 
--- i1
-abbrev pub is_bit : LLVMTypeKind → Bool
-is_bit (T.Int width) = nat_eq width 1
-is_bit _ = false
-
 -- the value of an entry has another type
 abbrev pub HasOtherType : Module → LLVMType → List PhiEntry → Type 0
 HasOtherType m type entries = (i : ℕ) × (e : PhiEntry) × (slice_get entries i ≡ Some e) × (value_type m e.value ≢ Some type)
@@ -148,27 +143,41 @@ HasOtherType m type entries = (i : ℕ) × (e : PhiEntry) × (slice_get entries 
 abbrev pub MisfitsPhi : Module → LLVMType → List PhiEntry → Type 0
 MisfitsPhi m type entries = (is_kind is_valueless m.types type ≡ true) ⊎ HasOtherType m type entries
 
--- the type of an operand does not fit, in an instruction of f: a line for each kind
-abbrev pub MisfitsType : Module → LLVMFunction → LLVMInst → Type 0
-MisfitsType m f (I.Add lhs rhs flags) = result_type m (I.Add lhs rhs flags) ≡ None
-MisfitsType m f (I.ICmp lhs rhs predicate) = result_type m (I.ICmp lhs rhs predicate) ≡ None
-MisfitsType m f (I.Phi type entries) = MisfitsPhi m type entries
-MisfitsType m f (I.Br target) = ⊥
-MisfitsType m f (I.CondBr condition first second) = option_map_or (is_kind is_bit m.types) (value_type m condition) false ≡ false
-MisfitsType m f (I.Ret None) = ⊥
-MisfitsType m f (I.Ret (Some v)) = value_type m v ≢ return_type m f
-MisfitsType m f I.Unreachable = ⊥
+-- both types are there, and are one
+abbrev pub is_type : Option LLVMType → Option LLVMType → Bool
+is_type (Some a) (Some b) = nat_eq a.0 b.0
+is_type None b = false
+is_type (Some a) None = false
 
--- the count of operands does not fit, in an instruction of f: a line for each kind
+-- the value is of another type than f returns
+abbrev pub returns_other : Module → LLVMFunction → LLVMValue → Bool
+returns_other m f v = not (is_type (value_type m v) (return_type m f))
+
+-- a return has a value of another type than f returns; of what takes other operands it is not asked
+abbrev pub misfits_return : Takes → Module → LLVMFunction → List LLVMValue → Bool
+misfits_return O.Nothing m f vs = false
+misfits_return (O.One x) m f vs = false
+misfits_return (O.Two x y) m f vs = false
+misfits_return (O.Three x y z) m f vs = false
+misfits_return O.Return m f vs = list_any (returns_other m f) vs
+
+-- the type of an operand, or the written type, does not fit the row, in the function f
+abbrev pub misfits_row : Module → LLVMFunction → Row → Bool
+misfits_row m f r = not (row_fits m r) || misfits_return (rule_of r.op).takes m f r.operands
+
+-- the type of an operand does not fit, in an instruction of f
+abbrev pub MisfitsType : Module → LLVMFunction → LLVMInst → Type 0
+MisfitsType m f (I.Phi type entries) = MisfitsPhi m type entries
+MisfitsType m f (I.Row r) = misfits_row m f r ≡ true
+
+-- as many operands and targets as the table says
+abbrev pub is_counted : Module → LLVMFunction → Row → Bool
+is_counted m f r = nat_eq (length r.operands) (operand_count (rule_of r.op).takes (returns_void m f)) && nat_eq (length r.targets) (target_count (rule_of r.op).leads)
+
+-- the count of operands or targets does not fit, in an instruction of f
 abbrev pub misfits_count : Module → LLVMFunction → LLVMInst → Bool
-misfits_count m f (I.Add lhs rhs flags) = false
-misfits_count m f (I.ICmp lhs rhs predicate) = false
 misfits_count m f (I.Phi type entries) = false
-misfits_count m f (I.Br target) = false
-misfits_count m f (I.CondBr condition first second) = false
-misfits_count m f (I.Ret None) = not (returns_void m f)
-misfits_count m f (I.Ret (Some v)) = returns_void m f
-misfits_count m f I.Unreachable = false
+misfits_count m f (I.Row r) = not (is_counted m f r)
 
 abbrev pub is_placeholder : LLVMConstKind → Bool
 is_placeholder (C.Placeholder number type) = true
@@ -187,16 +196,10 @@ is_block_outside m f b = not (nat_eq (option_map_or (λ (x : BlockData). x.funct
 abbrev pub is_entry_outside : Module → LLVMFunction → PhiEntry → Bool
 is_entry_outside m f e = is_outside m f e.value || is_block_outside m f e.block
 
--- an operand, target or source is one of another function, or a placeholder, in an instruction of f: a line for each kind
+-- an operand, target or source is one of another function, or a placeholder, in an instruction of f
 abbrev pub reaches_outside : Module → LLVMFunction → LLVMInst → Bool
-reaches_outside m f (I.Add lhs rhs flags) = is_outside m f lhs || is_outside m f rhs
-reaches_outside m f (I.ICmp lhs rhs predicate) = is_outside m f lhs || is_outside m f rhs
 reaches_outside m f (I.Phi type entries) = list_any (is_entry_outside m f) entries
-reaches_outside m f (I.Br target) = is_block_outside m f target
-reaches_outside m f (I.CondBr condition first second) = is_outside m f condition || is_block_outside m f first || is_block_outside m f second
-reaches_outside m f (I.Ret None) = false
-reaches_outside m f (I.Ret (Some v)) = is_outside m f v
-reaches_outside m f I.Unreachable = false
+reaches_outside m f (I.Row r) = list_any (is_outside m f) r.operands || list_any (is_block_outside m f) r.targets
 
 -- ---- the rules
 
@@ -216,24 +219,53 @@ OfBlock m b P = (x : BlockData) × (slice_get m.blocks b ≡ Some x) × P x
 abbrev pub OfInst : Module → ℕ → (InstData → Type 0) → Type 0
 OfInst m i P = (x : InstData) × (slice_get m.insts i ≡ Some x) × P x
 
--- the rule fails there
+-- a rule of functions, of blocks or of instructions: it fails at no other place
+abbrev pub AtFunction : Place → (ℕ → Type 0) → Type 0
+AtFunction P.Module Q = ⊥
+AtFunction (P.Function f) Q = Q f
+AtFunction (P.Block b) Q = ⊥
+AtFunction (P.Inst i) Q = ⊥
+
+abbrev pub AtBlock : Place → (ℕ → Type 0) → Type 0
+AtBlock P.Module Q = ⊥
+AtBlock (P.Function f) Q = ⊥
+AtBlock (P.Block b) Q = Q b
+AtBlock (P.Inst i) Q = ⊥
+
+abbrev pub AtInst : Place → (ℕ → Type 0) → Type 0
+AtInst P.Module Q = ⊥
+AtInst (P.Function f) Q = ⊥
+AtInst (P.Block b) Q = ⊥
+AtInst (P.Inst i) Q = Q i
+
+-- a list at the place has too many entries
+abbrev pub HasLongList : Module → Place → Type 0
+HasLongList m P.Module = IsLong m.functions
+HasLongList m (P.Function f) = OfFunction m f (λ x. IsLong x.params ⊎ IsLong x.blocks)
+HasLongList m (P.Block b) = OfBlock m b (λ x. IsLong x.insts)
+HasLongList m (P.Inst i) = OfInst m i (λ x. IsLong (operands x.inst))
+
+-- a signature or an operand of another type than fits
+abbrev pub HasOtherTypeAt : Module → Place → Type 0
+HasOtherTypeAt m P.Module = ⊥
+HasOtherTypeAt m (P.Function f) = OfFunction m f (λ x. option_map_or (misfits_signature m.types) (slice_get m.types x.ty.0) false ≡ true)
+HasOtherTypeAt m (P.Block b) = ⊥
+HasOtherTypeAt m (P.Inst i) = OfInst m i (λ x. MisfitsType m (home m x) x.inst)
+
+-- the rule fails there, a line for each rule
 abbrev pub Fails : Module → CheckErr → Type 0
-Fails m (NameTwice (P.Function f)) = OfFunction m f (λ x. (is_bad_name x.name ≡ true) ⊎ IsTaken m f x.name ⊎ HasTwice (local_names m x))
-Fails m (NoTerminator (P.Block b)) = OfBlock m b (λ x. ends_in_only (is_terminator_at m) x.insts ≡ false)
-Fails m (PhiPlace (P.Block b)) = OfBlock m b (λ x. HasLatePhi m x.insts)
-Fails m (PhiEntries (P.Inst i)) = OfInst m i (λ x. MisfitsEdges m x.block.0 x.inst)
-Fails m (EntryHasPreds (P.Function f)) = OfFunction m f (λ x. (b : LLVMBasicBlock) × (slice_get x.blocks 0 ≡ Some b) × ¬ HasNoPreds m b.0)
-Fails m (OperandType (P.Function f)) = OfFunction m f (λ x. option_map_or (misfits_signature m.types) (slice_get m.types x.ty.0) false ≡ true)
-Fails m (OperandType (P.Inst i)) = OfInst m i (λ x. MisfitsType m (home m x) x.inst)
-Fails m (OperandCount (P.Inst i)) = OfInst m i (λ x. misfits_count m (home m x) x.inst ≡ true)
-Fails m (BlockOutside (P.Inst i)) = OfInst m i (λ x. reaches_outside m (home m x) x.inst ≡ true)
-Fails m (IntrinsicBody (P.Function f)) = OfFunction m f (λ x. (starts_with nat_eq x.name intrinsic_prefix ≡ true) × (x.blocks ≢ []))
-Fails m (FunctionSpace (P.Function f)) = OfFunction m f (λ x. x.space ≢ 0)
-Fails m (ListTooLong P.Module) = IsLong m.functions
-Fails m (ListTooLong (P.Function f)) = OfFunction m f (λ x. IsLong x.params ⊎ IsLong x.blocks)
-Fails m (ListTooLong (P.Block b)) = OfBlock m b (λ x. IsLong x.insts)
-Fails m (ListTooLong (P.Inst i)) = OfInst m i (λ x. IsLong (operands x.inst))
-Fails m _ = ⊥
+Fails m (NameTwice p) = AtFunction p (λ f. OfFunction m f (λ x. (is_bad_name x.name ≡ true) ⊎ IsTaken m f x.name ⊎ HasTwice (local_names m x)))
+Fails m (NoTerminator p) = AtBlock p (λ b. OfBlock m b (λ x. ends_in_only (is_terminator_at m) x.insts ≡ false))
+Fails m (PhiPlace p) = AtBlock p (λ b. OfBlock m b (λ x. HasLatePhi m x.insts))
+Fails m (PhiEntries p) = AtInst p (λ i. OfInst m i (λ x. MisfitsEdges m x.block.0 x.inst))
+Fails m (EntryHasPreds p) = AtFunction p (λ f. OfFunction m f (λ x. (b : LLVMBasicBlock) × (slice_get x.blocks 0 ≡ Some b) × ¬ HasNoPreds m b.0))
+Fails m (OperandType p) = HasOtherTypeAt m p
+Fails m (OperandCount p) = AtInst p (λ i. OfInst m i (λ x. misfits_count m (home m x) x.inst ≡ true))
+Fails m (BlockOutside p) = AtInst p (λ i. OfInst m i (λ x. reaches_outside m (home m x) x.inst ≡ true))
+Fails m (IntrinsicBody p) = AtFunction p (λ f. OfFunction m f (λ x. (starts_with nat_eq x.name intrinsic_prefix ≡ true) × (x.blocks ≢ [])))
+Fails m (FunctionSpace p) = AtFunction p (λ f. OfFunction m f (λ x. x.space ≢ 0))
+Fails m (ListTooLong p) = HasLongList m p
+Fails m NoMemory = ⊥
 
 -- no rule fails anywhere
 abbrev pub IsChecked : Module → Type 0

@@ -1,5 +1,5 @@
 -- The functions, blocks and instructions of a module as lists, and how building calls change them.
-use Rattle.std.specs.Prelude.{◌<◌, ◌^◌, ℕ, List, [], ◌∷◌, ◌++◌, length, slice_get, slice_set, if◌then◌else◌, nat_eq, None, Some}
+use Rattle.std.specs.Prelude.{◌<◌, ◌^◌, ℕ, List, [], ◌∷◌, ◌++◌, length, slice_get, slice_set}
 use Rattle.std.specs.Option.{option_map_or}
 use Rattle.support.specs.Changes.{with_change}
 use Rattle.llvm_core.specs.declared.numbers.LLVMType.{LLVMType}
@@ -55,16 +55,10 @@ with_inst c b i name ty inst = record c {
   blocks = with_change (λ (x : BlockData). record x { insts = x.insts ++ i ∷ [] }) b.0 c.blocks;
 }
 
--- the instruction with v as the operand at that place, a line for each kind
+-- the instruction with v as the operand at that place
 abbrev pub with_operand : LLVMInst → ℕ → LLVMValue → LLVMInst
-with_operand (I.Add lhs rhs flags) place v = if nat_eq place 0 then I.Add v rhs flags else I.Add lhs v flags
-with_operand (I.ICmp lhs rhs predicate) place v = if nat_eq place 0 then I.ICmp v rhs predicate else I.ICmp lhs v predicate
 with_operand (I.Phi type entries) place v = I.Phi type (with_change (λ (e : PhiEntry). record e { value = v }) place entries)
-with_operand (I.Br target) place v = I.Br target
-with_operand (I.CondBr condition first second) place v = I.CondBr v first second
-with_operand (I.Ret None) place v = I.Ret None
-with_operand (I.Ret (Some w)) place v = I.Ret (Some v)
-with_operand I.Unreachable place v = I.Unreachable
+with_operand (I.Row r) place v = I.Row (record r { operands = slice_set r.operands place v })
 
 -- the phi with one more entry, last
 abbrev pub with_entry : LLVMInst → PhiEntry → LLVMInst

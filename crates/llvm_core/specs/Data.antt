@@ -1,5 +1,5 @@
 -- Module data: a module read as lists, with its types and constants as trees.
-use Rattle.std.specs.Prelude.{◌≡◌, ◌<◌, ℕ, zero, suc, Bool, length, if◌then◌else◌, nat_eq, List, [], ◌∷◌, ◌++◌, Option, Some, None, All, map, slice_get, slice_set, slice_index_or}
+use Rattle.std.specs.Prelude.{◌≡◌, ◌<◌, ℕ, zero, suc, length, if◌then◌else◌, nat_eq, List, [], ◌∷◌, ◌++◌, Option, Some, None, All, map, slice_get, slice_set, slice_index_or}
 use Rattle.std.specs.List.{filter_map, flat_map, find, enumerate_from}
 use Rattle.std.specs.Option.{option_map, option_map_or}
 use Rattle.support.specs.Changes.{with_change}
@@ -18,8 +18,9 @@ use Rattle.llvm_core.specs.declared.code.LLVMValue.TheVariants as V
 use Rattle.llvm_core.specs.declared.code.LLVMInst.{LLVMInst}
 use Rattle.llvm_core.specs.declared.code.LLVMInst.TheVariants as I
 use Rattle.llvm_core.specs.declared.code.PhiEntry.{PhiEntry}
-use Rattle.llvm_core.specs.declared.code.LLVMIntPredicate.{LLVMIntPredicate}
-use Rattle.llvm_core.specs.declared.code.OverflowFlags.{OverflowFlags}
+use Rattle.llvm_core.specs.declared.code.Row.{Row}
+use Rattle.kinds.specs.declared.op.Op.{Op}
+pub use Rattle.kinds.specs.Types.{TypeTree, VoidType, IntType, FunctionType, TypeTrees, NoTypes, ThenType}
 use Rattle.llvm_core.specs.declared.code.FunctionData.{FunctionData}
 use Rattle.llvm_core.specs.declared.code.BlockData.{BlockData}
 use Rattle.llvm_core.specs.declared.code.InstData.{InstData}
@@ -27,17 +28,6 @@ use Rattle.llvm_core.specs.Module.{Module}
 use Rattle.llvm_core.specs.Parts.{result_type}
 
 -- ---- the data
-
-mutual
-  -- a type, a line for each kind
-  pub data TypeTree : Type 0 where
-    VoidType : TypeTree
-    IntType : (width : ℕ) → TypeTree
-    FunctionType : (result : TypeTree) (params : TypeTrees) (variadic : Bool) → TypeTree
-
-  pub data TypeTrees : Type 0 where
-    NoTypes : TypeTrees
-    ThenType : TypeTree → TypeTrees → TypeTrees
 
 -- a constant, a line for each kind
 pub data ConstTree : Type 0 where
@@ -50,15 +40,18 @@ pub data Operand : Type 0 where
   Parameter : (function place : ℕ) → Operand
   Result : (instruction : ℕ) → Operand
 
--- an instruction, a line for each kind; blocks stand by number, and an entry of a phi is an operand and the block that it is for
+-- an instruction that is no phi; blocks stand by number
+pub record RowData : Type 0 where
+  pub op : Op
+  -- the type that is written beside the operands, as that of a cast
+  pub written : Option TypeTree
+  pub operands : List Operand
+  pub targets : List ℕ
+
+-- an entry of a phi is an operand and the block that it is for
 pub data Instruction : Type 0 where
-  Add : (lhs rhs : Operand) (flags : OverflowFlags) → Instruction
-  ICmp : (lhs rhs : Operand) (predicate : LLVMIntPredicate) → Instruction
   Phi : (entries : List (Operand × ℕ)) → Instruction
-  Br : (target : ℕ) → Instruction
-  CondBr : (condition : Operand) (first second : ℕ) → Instruction
-  Return : (value : Option Operand) → Instruction
-  Unreachable : Instruction
+  Applied : RowData → Instruction
 
 -- an instruction of a block, with the type of its result
 pub record Placed : Type 0 where
@@ -134,14 +127,17 @@ operand_of t (V.Inst i) = Result i.0
 abbrev pub entry_of : Trees → PhiEntry → Operand × ℕ
 entry_of t e = (operand_of t e.value, e.block.0)
 
+abbrev pub row_of : Trees → Row → RowData
+row_of t r = record {
+  op = r.op;
+  written = option_map (type_at t.types) r.written;
+  operands = map (operand_of t) r.operands;
+  targets = map (λ (b : LLVMBasicBlock). b.0) r.targets;
+}
+
 abbrev pub instruction_of : Trees → LLVMInst → Instruction
-instruction_of t (I.Add lhs rhs flags) = Add (operand_of t lhs) (operand_of t rhs) flags
-instruction_of t (I.ICmp lhs rhs predicate) = ICmp (operand_of t lhs) (operand_of t rhs) predicate
 instruction_of t (I.Phi type entries) = Phi (map (entry_of t) entries)
-instruction_of t (I.Br target) = Br target.0
-instruction_of t (I.CondBr condition first second) = CondBr (operand_of t condition) first.0 second.0
-instruction_of t (I.Ret value) = Return (option_map (operand_of t) value)
-instruction_of t I.Unreachable = Unreachable
+instruction_of t (I.Row r) = Applied (row_of t r)
 
 -- the tree of a result's type
 abbrev pub tree_of_result : List TypeTree → ResultType → TypeTree
@@ -246,15 +242,10 @@ with_instruction_in b i x = if nat_eq x.number b then record x { instructions = 
 abbrev pub with_instruction : ModuleData → ℕ → Placed → ModuleData
 with_instruction d b i = record d { functions = map (λ (x : Function). record x { blocks = map (with_instruction_in b i) x.blocks }) d.functions }
 
--- the instruction with o as the operand at that place, a line for each kind
+-- the instruction with o as the operand at that place
 abbrev pub with_operand : Instruction → ℕ → Operand → Instruction
-with_operand (Add lhs rhs flags) place o = if nat_eq place 0 then Add o rhs flags else Add lhs o flags
-with_operand (ICmp lhs rhs predicate) place o = if nat_eq place 0 then ICmp o rhs predicate else ICmp lhs o predicate
 with_operand (Phi entries) place o = Phi (with_change (λ (e : Operand × ℕ). (o, e.1)) place entries)
-with_operand (Br target) place o = Br target
-with_operand (CondBr condition first second) place o = CondBr o first second
-with_operand (Return value) place o = Return (option_map (λ _. o) value)
-with_operand Unreachable place o = Unreachable
+with_operand (Applied r) place o = Applied (record r { operands = slice_set r.operands place o })
 
 -- the phi with one more entry, last
 abbrev pub with_entry : Instruction → Operand → ℕ → Instruction
@@ -271,22 +262,12 @@ with_changed d i change =
 
 -- ---- edges
 
--- the blocks that an instruction leads to, by number, each as often as it is named: a line for each kind
+-- the blocks that an instruction leads to, by number, each as often as it is named
 abbrev pub targets : Instruction → List ℕ
-targets (Add lhs rhs flags) = []
-targets (ICmp lhs rhs predicate) = []
 targets (Phi entries) = []
-targets (Br target) = target ∷ []
-targets (CondBr condition first second) = first ∷ second ∷ []
-targets (Return value) = []
-targets Unreachable = []
+targets (Applied r) = r.targets
 
 -- the entries of a phi, an operand and the block that it is for; none for what is no phi
 abbrev pub phi_entries : Instruction → Option (List (Operand × ℕ))
-phi_entries (Add lhs rhs flags) = None
-phi_entries (ICmp lhs rhs predicate) = None
 phi_entries (Phi entries) = Some entries
-phi_entries (Br target) = None
-phi_entries (CondBr condition first second) = None
-phi_entries (Return value) = None
-phi_entries Unreachable = None
+phi_entries (Applied r) = None

@@ -1,7 +1,8 @@
 -- The edges between the blocks of a module, and lists of where they come from.
-use Rattle.std.specs.Prelude.{◌≡◌, ◌+◌, ℕ, nat_eq, if◌then◌else◌, List, [], ◌∷◌, length, slice_get}
+use Rattle.std.specs.Prelude.{◌≡◌, ◌+◌, ℕ, nat_eq, if◌then◌else◌, List, [], length, map, slice_get}
 use Rattle.std.specs.List.{filter, flat_map}
 use Rattle.std.specs.Option.{option_map_or}
+use Rattle.llvm_core.specs.declared.numbers.LLVMBasicBlock.{LLVMBasicBlock}
 use Rattle.llvm_core.specs.declared.numbers.LLVMInstRef.{LLVMInstRef}
 use Rattle.llvm_core.specs.declared.code.LLVMInst.{LLVMInst}
 use Rattle.llvm_core.specs.declared.code.LLVMInst.TheVariants as I
@@ -13,11 +14,10 @@ use Rattle.llvm_core.specs.Module.{Module}
 abbrev pub count_of : ℕ → List ℕ → ℕ
 count_of n xs = length (filter (nat_eq n) xs)
 
--- the numbers of the blocks that an instruction leads to, each as often as it is named: a line for each kind
+-- the numbers of the blocks that an instruction leads to, each as often as it is named
 abbrev pub targets : LLVMInst → List ℕ
-targets (I.Br target) = target.0 ∷ []
-targets (I.CondBr condition first second) = first.0 ∷ second.0 ∷ []
-targets _ = []
+targets (I.Phi type entries) = []
+targets (I.Row r) = map (λ (b : LLVMBasicBlock). b.0) r.targets
 
 abbrev pub targets_at : Module → LLVMInstRef → List ℕ
 targets_at m i = option_map_or (λ (x : InstData). targets x.inst) (slice_get m.insts i.0) []

@@ -1,8 +1,13 @@
--- Modules of the form that is translated today: functions with a body of `add`, `icmp`, `phi`, `br`, `ret` and
--- `unreachable` over integers of 1 to 64 bits.
-use Rattle.std.specs.Prelude.{◌≡◌, ◌<◌, ◌≤◌, ◌^◌, ◌+◌, ℕ, suc, Bool, true, false, is_some, nat_eq, List, [], ◌∷◌, ◌++◌, length, map, filter, slice_get, Some, None, All}
+-- Modules of the form that is translated today: functions with a body of phis and rows of the table over integers of 1 to
+-- 64 bits.
+use Rattle.std.specs.Prelude.{◌≡◌, ◌<◌, ◌≤◌, ◌^◌, ◌+◌, ℕ, suc, Bool, true, false, is_some, nat_eq, List, [], ◌++◌, length, map, filter, slice_get, unwrap_or, Some, All}
 use Rattle.std.specs.List.{flat_map}
-use Rattle.llvm_core.specs.Data.{TypeTree, VoidType, IntType, FunctionType, TypeTrees, NoTypes, ThenType, ConstTree, IntConst, Operand, Constant, Parameter, Result, Instruction, Add, ICmp, Phi, Br, CondBr, Return, Unreachable, Placed, Block, Function, ModuleData, operand_type, placed_in, targets, phi_entries}
+use Rattle.llvm_core.specs.Data.{TypeTree, VoidType, IntType, FunctionType, TypeTrees, NoTypes, ThenType, ConstTree, IntConst, Operand, Constant, Parameter, Result, RowData, Instruction, Phi, Applied, Placed, Block, Function, ModuleData, operand_type, placed_in, targets, phi_entries}
+use Rattle.kinds.specs.declared.rules.Takes.{Takes}
+use Rattle.kinds.specs.declared.rules.Takes.TheVariants as O
+use Rattle.kinds.specs.Rules.{ends, target_count, operand_count}
+use Rattle.kinds.specs.Table.{rule_of}
+use Rattle.kinds.specs.Typing.{fits_trees, typed}
 use Rattle.llvm_core.specs.Edges.{count_of}
 use Rattle.support.specs.Interned.{IsDistinctList}
 use Rattle.llvm_core.specs.Names.{is_plain, IsPlainOrNone}
@@ -73,34 +78,57 @@ pub record FitsEdges (f : Function) (b : ℕ) (entries : List (Operand × ℕ)) 
 -- ---- instructions
 
 abbrev pub result_of : TypeTree → TypeTree
+result_of VoidType = VoidType
+result_of (IntType w) = VoidType
 result_of (FunctionType result params variadic) = result
-result_of _ = VoidType
 
--- without a result, and so without a name
-pub record HasNoResult (p : Placed) : Type 0 where
-  pub type : p.type ≡ VoidType
-  pub name : p.name ≡ []
+abbrev pub is_void : TypeTree → Bool
+is_void VoidType = true
+is_void (IntType w) = false
+is_void (FunctionType result params variadic) = false
 
--- an instruction of the block of the number b in the function f: a line for each kind
-abbrev pub IsFormInstruction : Function → (b : ℕ) → Placed → Instruction → Type 0
-IsFormInstruction f b p (Add lhs rhs flags) = IsOperand f p.type lhs × IsOperand f p.type rhs × IsPlainOrNone p.name
-IsFormInstruction f b p (ICmp lhs rhs predicate) = ((type : TypeTree) × IsOperand f type lhs × IsOperand f type rhs) × (p.type ≡ IntType 1) × IsPlainOrNone p.name
-IsFormInstruction f b p (Phi entries) = All (λ (e : Operand × ℕ). IsOperand f p.type e.0) entries × FitsEdges f b entries × IsShortInt p.type × IsPlainOrNone p.name
-IsFormInstruction f b p (Br target) = IsTarget f target × HasNoResult p
-IsFormInstruction f b p (CondBr condition first second) = IsOperand f (IntType 1) condition × IsTarget f first × IsTarget f second × HasNoResult p
-IsFormInstruction f b p (Return None) = (result_of f.type ≡ VoidType) × HasNoResult p
-IsFormInstruction f b p (Return (Some o)) = IsOperand f (result_of f.type) o × HasNoResult p
-IsFormInstruction f b p Unreachable = HasNoResult p
+-- what a return has is of the type that the function returns; of what takes other operands it is not asked
+abbrev pub IsReturning : Takes → Function → List Operand → Type 0
+IsReturning O.Nothing f os = Unit {0}
+IsReturning (O.One x) f os = Unit {0}
+IsReturning (O.Two x y) f os = Unit {0}
+IsReturning (O.Three x y z) f os = Unit {0}
+IsReturning O.Return f os = All (λ (o : Operand). operand_type f o ≡ result_of f.type) os
 
--- a line for each kind
+abbrev pub returns_void : Function → Bool
+returns_void f = is_void (result_of f.type)
+
+-- the types of operands
+abbrev pub types_of : Function → List Operand → List TypeTree
+types_of f os = map (operand_type f) os
+
+-- a row of the function f, with a result of the type: what it names is there, and the table's rule holds
+pub record IsFormRow (f : Function) (type : TypeTree) (r : RowData) : Type 0 where
+  pub operands : All (IsOperandOf f) r.operands
+  pub short : All IsShortInt (types_of f r.operands)
+  pub count : length r.operands ≡ operand_count (rule_of r.op).takes (returns_void f)
+  pub fits : fits_trees r.op r.written (types_of f r.operands) ≡ true
+  pub returns : IsReturning (rule_of r.op).takes f r.operands
+  pub result : type ≡ unwrap_or (typed r.op r.written (types_of f r.operands)) VoidType
+  pub targets : All (IsTarget f) r.targets
+  pub leads : length r.targets ≡ target_count (rule_of r.op).leads
+
+-- an instruction of the block of the number b in the function f, with a result of the type
+abbrev pub IsFormInstruction : Function → (b : ℕ) → (type : TypeTree) → Instruction → Type 0
+IsFormInstruction f b type (Phi entries) = All (λ (e : Operand × ℕ). IsOperand f type e.0) entries × FitsEdges f b entries × IsShortInt type
+IsFormInstruction f b type (Applied r) = IsFormRow f type r
+
+-- an instruction of the block of the number b: a result, where it has one, is an integer of 1 to 64 bits and has a plain
+-- name or none, and what has no result has no name
+pub record IsFormPlaced (f : Function) (b : ℕ) (p : Placed) : Type 0 where
+  pub instruction : IsFormInstruction f b p.type p.instruction
+  pub short : IsShortResult p.type
+  pub name : IsPlainOrNone p.name
+  pub unnamed : p.type ≡ VoidType → p.name ≡ []
+
 abbrev pub is_terminator : Instruction → Bool
-is_terminator (Add lhs rhs flags) = false
-is_terminator (ICmp lhs rhs predicate) = false
 is_terminator (Phi entries) = false
-is_terminator (Br target) = true
-is_terminator (CondBr condition first second) = true
-is_terminator (Return value) = true
-is_terminator Unreachable = true
+is_terminator (Applied r) = ends (rule_of r.op).leads
 
 abbrev pub is_last : Placed → Bool
 is_last p = is_terminator p.instruction
@@ -117,7 +145,7 @@ HasPhisFirst ps = (i j : ℕ) (x y : Placed) → i < j → slice_get ps i ≡ So
 -- a block of the function f
 pub record IsFormBlock (f : Function) (b : Block) : Type 0 where
   pub label : IsPlainOrNone b.name
-  pub instructions : All (λ (p : Placed). IsFormInstruction f b.number p p.instruction) b.instructions
+  pub instructions : All (IsFormPlaced f b.number) b.instructions
   pub phis : HasPhisFirst b.instructions
   pub ends : ends_in_only is_last b.instructions ≡ true
 
@@ -143,16 +171,10 @@ IsForm d = All IsFormFunction d.functions
 
 -- ---- what the form asks beside the rules of a checked module
 
--- the operands of an instruction in order, a line for each kind
+-- the operands of an instruction in order
 abbrev pub operands_of : Instruction → List Operand
-operands_of (Add lhs rhs flags) = lhs ∷ rhs ∷ []
-operands_of (ICmp lhs rhs predicate) = lhs ∷ rhs ∷ []
 operands_of (Phi entries) = map (λ (e : Operand × ℕ). e.0) entries
-operands_of (Br target) = []
-operands_of (CondBr condition first second) = condition ∷ []
-operands_of (Return None) = []
-operands_of (Return (Some o)) = o ∷ []
-operands_of Unreachable = []
+operands_of (Applied r) = r.operands
 
 -- operands are integers of 1 to 64 bits, and so is a result where there is one; what has no result has no name
 pub record IsNarrowPlaced (f : Function) (p : Placed) : Type 0 where

@@ -1,6 +1,6 @@
 -- What the parts of a type, a constant and an instruction have to be.
-use Rattle.std.specs.Prelude.{◌≡◌, ◌<◌, ◌≤◌, ◌^◌, ℕ, Bool, true, false, ◌&&◌, nat_eq, if◌then◌else◌, IsTrue, List, [], ◌∷◌, map, length, slice_get, Option, Some, None, IfSome, All}
-use Rattle.std.specs.Option.{option_map, option_map_or}
+use Rattle.std.specs.Prelude.{◌≡◌, ◌<◌, ◌≤◌, ◌^◌, ℕ, Bool, true, false, if◌then◌else◌, IsTrue, List, [], map, length, slice_get, Option, Some, None, IfSome, All}
+use Rattle.std.specs.Option.{option_map, option_map_or, option_and_then}
 use Rattle.llvm_core.specs.declared.numbers.LLVMType.{LLVMType}
 use Rattle.llvm_core.specs.declared.numbers.LLVMBasicBlock.{LLVMBasicBlock}
 use Rattle.llvm_core.specs.declared.numbers.LLVMInstRef.{LLVMInstRef}
@@ -15,6 +15,14 @@ use Rattle.llvm_core.specs.declared.code.LLVMValue.TheVariants as V
 use Rattle.llvm_core.specs.declared.code.LLVMInst.{LLVMInst}
 use Rattle.llvm_core.specs.declared.code.LLVMInst.TheVariants as I
 use Rattle.llvm_core.specs.declared.code.PhiEntry.{PhiEntry}
+use Rattle.llvm_core.specs.declared.code.Row.{Row}
+use Rattle.kinds.specs.declared.rules.Gives.{Gives}
+use Rattle.kinds.specs.declared.rules.Gives.TheVariants as G
+use Rattle.kinds.specs.declared.fitting.Shape.{Shape}
+use Rattle.kinds.specs.declared.fitting.Shape.TheVariants as S
+use Rattle.kinds.specs.declared.fitting.TypeView.{TypeView}
+use Rattle.kinds.specs.Table.{rule_of}
+use Rattle.kinds.specs.Fitting.{fits, view_shape, view_same}
 use Rattle.llvm_core.specs.declared.code.FunctionData.{FunctionData}
 use Rattle.llvm_core.specs.declared.code.InstData.{InstData}
 use Rattle.support.specs.Interned.{Interned}
@@ -37,6 +45,10 @@ IsConstOver types (C.Placeholder number t) = t.0 < length types
 abbrev pub is_function : LLVMTypeKind → Bool
 is_function (T.Function result params variadic) = true
 is_function _ = false
+
+-- the type is there, and the test passes on its kind
+abbrev pub is_kind : (LLVMTypeKind → Bool) → List LLVMTypeKind → LLVMType → Bool
+is_kind p types t = option_map_or p (slice_get types t.0) false
 
 -- the type is there, and is a function type
 abbrev pub IsFunctionType : List LLVMTypeKind → LLVMType → Type 0
@@ -79,38 +91,53 @@ IsBlock m b = b.0 < length m.blocks
 abbrev pub IsEntry : Module → PhiEntry → Type 0
 IsEntry m e = IsValue m e.value × IsBlock m e.block
 
--- the operands, targets and types that an instruction names are there, a line for each kind
+-- what a row names is there
+abbrev pub HasParts : Module → Row → Type 0
+HasParts m r = All (IsValue m) r.operands × All (IsBlock m) r.targets × IfSome r.written (λ (t : LLVMType). t.0 < length m.types)
+
+-- what an instruction names is there
 abbrev pub HasValues : Module → LLVMInst → Type 0
-HasValues m (I.Add lhs rhs flags) = IsValue m lhs × IsValue m rhs
-HasValues m (I.ICmp lhs rhs predicate) = IsValue m lhs × IsValue m rhs
 HasValues m (I.Phi type entries) = (type.0 < length m.types) × All (IsEntry m) entries
-HasValues m (I.Br target) = IsBlock m target
-HasValues m (I.CondBr condition first second) = IsValue m condition × IsBlock m first × IsBlock m second
-HasValues m (I.Ret value) = IfSome value (IsValue m)
-HasValues m I.Unreachable = Unit {0}
+HasValues m (I.Row r) = HasParts m r
 
-abbrev pub is_int : LLVMTypeKind → Bool
-is_int (T.Int width) = true
-is_int _ = false
+-- ---- the type of a result
 
--- the type is there, and the test passes on its kind
-abbrev pub is_kind : (LLVMTypeKind → Bool) → List LLVMTypeKind → LLVMType → Bool
-is_kind p types t = option_map_or p (slice_get types t.0) false
+-- what rules look at, a line for each kind
+abbrev pub shape_of : LLVMTypeKind → Shape
+shape_of T.Void = S.Void
+shape_of (T.Int width) = S.Int width
+shape_of (T.Function result params variadic) = S.Function
 
--- the type of both sides, where they agree and are integers
-abbrev pub both_type : List LLVMTypeKind → Option LLVMType → Option LLVMType → Option LLVMType
-both_type types (Some a) (Some b) = if nat_eq a.0 b.0 && is_kind is_int types a then Some a else None
-both_type types _ _ = None
+abbrev pub view : List LLVMTypeKind → LLVMType → TypeView
+view types t = record { number = t.0; shape = option_map_or shape_of (slice_get types t.0) S.Void }
 
--- the type of the result, where the operands fit and it is not void: a line for each kind
+-- the type of the value at a place
+abbrev pub type_nth : Module → List LLVMValue → ℕ → Option LLVMType
+type_nth m vs i = option_and_then (value_type m) (slice_get vs i)
+
+abbrev pub view_nth : Module → List LLVMValue → ℕ → Option TypeView
+view_nth m vs i = option_map (view m.types) (type_nth m vs i)
+
+-- the type that is given, a line for each word
+abbrev pub given : Gives → (written first second : Option LLVMType) → Option ResultType
+given G.Nothing w a b = None
+given G.First w a b = option_map R.There a
+given G.Second w a b = option_map R.There b
+given G.Written w a b = option_map R.There w
+given G.Bit w a b = Some R.Bit
+
+-- the operands of a row fit it, as far as that can be told without its function
+abbrev pub row_fits : Module → Row → Bool
+row_fits m r =
+    fits view_shape view_same (rule_of r.op) (length r.operands) (option_map (view m.types) r.written) (view_nth m r.operands 0) (view_nth m r.operands 1) (view_nth m r.operands 2)
+
+abbrev pub row_result : Module → Row → Option ResultType
+row_result m r = if row_fits m r then given (rule_of r.op).gives r.written (type_nth m r.operands 0) (type_nth m r.operands 1) else None
+
+-- the type of the result, where the operands fit and it is not void
 abbrev pub result_type : Module → LLVMInst → Option ResultType
-result_type m (I.Add lhs rhs flags) = option_map R.There (both_type m.types (value_type m lhs) (value_type m rhs))
-result_type m (I.ICmp lhs rhs predicate) = option_map (λ _. R.Bit) (both_type m.types (value_type m lhs) (value_type m rhs))
 result_type m (I.Phi type entries) = Some (R.There type)
-result_type m (I.Br target) = None
-result_type m (I.CondBr condition first second) = None
-result_type m (I.Ret value) = None
-result_type m I.Unreachable = None
+result_type m (I.Row r) = row_result m r
 
 -- the kind of a result's type that may be new: i1 or void
 abbrev pub made_kind : Option ResultType → LLVMTypeKind
@@ -130,16 +157,10 @@ IsResultType None old new ty = Interned old new T.Void ty.0
 
 -- ---- operands by place
 
--- the operands of an instruction in order, a line for each kind
+-- the operands of an instruction in order
 abbrev pub operands : LLVMInst → List LLVMValue
-operands (I.Add lhs rhs flags) = lhs ∷ rhs ∷ []
-operands (I.ICmp lhs rhs predicate) = lhs ∷ rhs ∷ []
 operands (I.Phi type entries) = map (λ (e : PhiEntry). e.value) entries
-operands (I.Br target) = []
-operands (I.CondBr condition first second) = condition ∷ []
-operands (I.Ret None) = []
-operands (I.Ret (Some v)) = v ∷ []
-operands I.Unreachable = []
+operands (I.Row r) = r.operands
 
 -- the instruction i has an operand at that place, of the type of v
 abbrev pub TakesOperand : Module → LLVMInstRef → ℕ → LLVMValue → Type 0

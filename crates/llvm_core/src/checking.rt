@@ -168,18 +168,13 @@ fn check_function(m: &LLVMModule, f: LLVMFunction) -> Result<(), CheckErr>
     check_function_lists(m, f)
 }
 
-/// The kinds that end a block.
+/// Whether an instruction ends its block.
 fn is_terminator(inst: &LLVMInst) -> bool
     ensures { result ≡ is_terminator inst.now }
 {
     match inst {
-        LLVMInst::Add(..) => false,
-        LLVMInst::ICmp(..) => false,
         LLVMInst::Phi(..) => false,
-        LLVMInst::Br(_) => true,
-        LLVMInst::CondBr(..) => true,
-        LLVMInst::Ret(_) => true,
-        LLVMInst::Unreachable => true,
+        LLVMInst::Row(row) => row.op.rule().leads.ends(),
     }
 }
 

@@ -1,6 +1,7 @@
 //! Functions, blocks and instructions, as a module keeps them.
 
 use crate::numbers::{LLVMBasicBlock, LLVMConst, LLVMFunction, LLVMInstRef, LLVMType};
+pub use kinds::op::{LLVMIntPredicate, Op, OverflowFlags};
 use support::items::Items;
 use support::text::Text;
 
@@ -14,30 +15,6 @@ pub enum LLVMValue {
     Inst(LLVMInstRef),
 }
 
-/// Which overflows make the result poison (Language Reference, "add" Instruction).
-#[derive(Clone, Copy, PartialEq, Eq, Debug, Drop)]
-pub struct OverflowFlags {
-    /// No unsigned wrap.
-    pub nuw: bool,
-    /// No signed wrap.
-    pub nsw: bool,
-}
-
-/// How `icmp` compares two integers (Language Reference, "icmp" Instruction).
-#[derive(Clone, Copy, PartialEq, Eq, Debug, Drop)]
-pub enum LLVMIntPredicate {
-    LLVMIntEQ,
-    LLVMIntNE,
-    LLVMIntUGT,
-    LLVMIntUGE,
-    LLVMIntULT,
-    LLVMIntULE,
-    LLVMIntSGT,
-    LLVMIntSGE,
-    LLVMIntSLT,
-    LLVMIntSLE,
-}
-
 /// An entry of a phi: the value that it takes on an edge from the block.
 #[derive(Clone, Copy, PartialEq, Eq, Debug, Drop)]
 pub struct PhiEntry {
@@ -45,23 +22,24 @@ pub struct PhiEntry {
     pub block: LLVMBasicBlock,
 }
 
-/// An instruction: one variant for each kind, with its operands in order and then its immediates.
+/// An instruction that is no phi: a row of the table with its immediates, and all that it names.
+#[derive(Drop)]
+pub struct Row {
+    pub op: Op,
+    /// The type that is written beside the operands, as that of a cast.
+    pub written: Option<LLVMType>,
+    pub operands: Items<LLVMValue>,
+    /// The blocks that it leads to, in order.
+    pub targets: Items<LLVMBasicBlock>,
+}
+
+/// An instruction.
 #[derive(Drop)]
 pub enum LLVMInst {
-    /// `add` of two integers of one type (Language Reference, "add" Instruction).
-    Add(LLVMValue, LLVMValue, OverflowFlags),
-    /// `icmp` of two integers of one type (Language Reference, "icmp" Instruction).
-    ICmp(LLVMValue, LLVMValue, LLVMIntPredicate),
     /// `phi` of a type, with its entries in order (Language Reference, "phi" Instruction).
     Phi(LLVMType, Items<PhiEntry>),
-    /// `br` to a block (Language Reference, "br" Instruction).
-    Br(LLVMBasicBlock),
-    /// `br` on a condition: to the first block where it is true, else to the second.
-    CondBr(LLVMValue, LLVMBasicBlock, LLVMBasicBlock),
-    /// `ret void` or `ret` of a value (Language Reference, "ret" Instruction).
-    Ret(Option<LLVMValue>),
-    /// `unreachable` (Language Reference, "unreachable" Instruction).
-    Unreachable,
+    /// Any other instruction, as its row.
+    Row(Row),
 }
 
 /// A function of a module. The name of a parameter without one is empty.

@@ -1,6 +1,6 @@
 //! The functions, blocks and instructions of a module, under their numbers.
 
-ghost use Rattle.std.specs.Prelude.{◌≡◌, ◌<◌, IfOk, IsTrue, OnErr, OnOk, Some, [], if◌then◌else◌, nat_eq, length, slice_get};
+ghost use Rattle.std.specs.Prelude.{◌≡◌, ◌<◌, IfOk, IsTrue, OnErr, OnOk, Some, [], length, slice_get};
 ghost use Rattle.std.specs.Option.{option_map};
 ghost use Rattle.support.specs.Changes.{with_change};
 ghost use Rattle.llvm_core.specs.Code.{with_function, with_param_name, with_block, with_inst, with_operand, with_entry, with_changed_inst, param_names};
@@ -227,26 +227,8 @@ fn put_operand(inst: &mut LLVMInst, place: u32, value: LLVMValue)
     ensures { inst.new ≡ with_operand inst.old place value }
 {
     match inst {
-        LLVMInst::Add(lhs, rhs, _) => put_side(lhs, rhs, place, value),
-        LLVMInst::ICmp(lhs, rhs, _) => put_side(lhs, rhs, place, value),
         LLVMInst::Phi(_, entries) => put_entry(entries, place, value),
-        LLVMInst::CondBr(condition, _, _) => *condition = value,
-        LLVMInst::Ret(Some(operand)) => *operand = value,
-        LLVMInst::Ret(None) => (),
-        LLVMInst::Br(_) => (),
-        LLVMInst::Unreachable => (),
-    }
-}
-
-/// Puts a value in place of one side of an operation.
-fn put_side(lhs: &mut LLVMValue, rhs: &mut LLVMValue, place: u32, value: LLVMValue)
-    ensures lhs { lhs.new ≡ (if nat_eq place 0 then value else lhs.old) }
-    ensures rhs { rhs.new ≡ (if nat_eq place 0 then rhs.old else value) }
-{
-    if place == 0 {
-        *lhs = value;
-    } else {
-        *rhs = value;
+        LLVMInst::Row(row) => row.operands.set(place as usize, value),
     }
 }
 

@@ -1,6 +1,6 @@
 //! The edges between blocks, counted once for the whole module, and the rules that rest on them.
 
-ghost use Rattle.std.specs.Prelude.{◌≡◌, ◌<◌, ℕ, [], ◌∷◌, All, IfErr, IfOk, OnOk, Some, length, slice_get};
+ghost use Rattle.std.specs.Prelude.{◌≡◌, ◌<◌, ℕ, [], ◌∷◌, All, IfErr, IfOk, OnOk, Some, length, map, slice_get};
 ghost use Rattle.llvm_core.specs.declared.check_err.Place.TheVariants as places;
 ghost use Rattle.llvm_core.specs.declared.check_err.CheckErr.TheVariants as errors;
 ghost use Rattle.llvm_core.specs.Edges.{targets, targets_from, tally, Gains, HasIncoming};
@@ -35,18 +35,29 @@ fn push_edge(lists: &mut [Items<u32>], from: u32, to: LLVMBasicBlock) -> Result<
     Ok(())
 }
 
+/// Notes an edge to each of the targets.
+fn push_all(
+    lists: &mut [Items<u32>],
+    from: u32,
+    targets: &[LLVMBasicBlock],
+) -> Result<(), AllocError>
+    requires { All (λ b. b.0 < length lists.old) targets.now }
+    ensures { OnOk result (Gains lists.old lists.new from (map (λ b. b.0) targets.now)) }
+{
+    for target in targets {
+        push_edge(lists, from, *target)?;
+    }
+    Ok(())
+}
+
 /// Notes the edges of an instruction of the block `from`.
 fn push_targets(lists: &mut [Items<u32>], from: u32, inst: &LLVMInst) -> Result<(), AllocError>
     requires { All (λ b. b < length lists.old) (targets inst.now) }
     ensures { OnOk result (Gains lists.old lists.new from (targets inst.now)) }
 {
     match inst {
-        LLVMInst::Br(target) => push_edge(lists, from, *target),
-        LLVMInst::CondBr(_, yes, no) => {
-            push_edge(lists, from, *yes)?;
-            push_edge(lists, from, *no)
-        }
-        _ => Ok(()),
+        LLVMInst::Phi(..) => Ok(()),
+        LLVMInst::Row(row) => push_all(lists, from, row.targets.as_slice()),
     }
 }
 

@@ -8,6 +8,7 @@ pub mod code_store;
 pub mod consts;
 pub mod edges;
 pub mod laws;
+pub mod make;
 pub mod module;
 pub mod name_set;
 pub mod names;

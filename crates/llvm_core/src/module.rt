@@ -3,19 +3,22 @@
 ghost use Rattle.std.specs.Prelude.{◌≡◌, ◌<◌, ◌⊎◌, ◌++◌, ◌∷◌, [], IfOk, IfSome, OnErr, OnOk, None, Some, All, IsTrue, length, map, slice_get};
 ghost use Rattle.std.specs.Option.{option_map};
 ghost use Rattle.llvm_core.specs.declared.code.LLVMValue.TheVariants as values;
+ghost use Rattle.llvm_core.specs.declared.types.ResultType.TheVariants as results;
 ghost use Rattle.support.specs.Interned.{Interned};
 ghost use Rattle.llvm_core.specs.Module.{Module};
 ghost use Rattle.llvm_core.specs.Code.{code_of, with_code, with_function, with_param_name, with_block, with_inst, with_operand, with_entry, with_changed_inst, param_names};
-ghost use Rattle.llvm_core.specs.Parts.{IsTypeOver, IsConstOver, IsFunctionType, IsValue, IsBlock, HasValues, IsResultType, IsResultOver, TakesOperand, IsPhi, made_kind, const_type, is_function, is_int, both_type, kind_params, type_params, value_type, result_type};
+ghost use Rattle.llvm_core.specs.Parts.{IsTypeOver, IsConstOver, IsFunctionType, IsValue, IsBlock, HasParts, HasValues, IsResultType, IsResultOver, TakesOperand, IsPhi, made_kind, const_type, is_function, given, kind_params, type_params, value_type, result_type, row_fits, row_result, shape_of, type_nth, view, view_nth};
 ghost use Rattle.llvm_core.specs.Sound.{IsModule};
 ghost use Rattle.llvm_core.specs.Data as lists;
 ghost use Rattle.llvm_core.specs.Data.{trees_of, type_at, result_tree, operand_of, instruction_of, data_of, AreApart, AllBlocks, AllPlaced};
 
-use crate::code::{LLVMInst, LLVMValue, PhiEntry};
+use crate::code::{LLVMInst, LLVMValue, PhiEntry, Row};
 use crate::code_store::CodeStore;
 use crate::consts::LLVMConstKind;
 use crate::numbers::{LLVMBasicBlock, LLVMConst, LLVMFunction, LLVMInstRef, LLVMType};
 use crate::types::{LLVMTypeKind, ResultType};
+use kinds::fitting::{Shape, TypeView, fits};
+use kinds::rules::Gives;
 use std::alloc::{AllocError, Global};
 use std::marker::Model;
 use support::interner::Interner;
@@ -332,19 +335,6 @@ impl LLVMModule {
         self.code.inst(i).name.as_str()
     }
 
-    /// The type of both sides of an operation, where they agree and are integers.
-    fn both_type(&self, lhs: LLVMValue, rhs: LLVMValue) -> Option<LLVMType>
-        requires { IsValue self.now lhs × IsValue self.now rhs }
-        ensures { result ≡ both_type self.now.types (value_type self.now lhs) (value_type self.now rhs) }
-    {
-        let ty = self.type_of(lhs);
-        if ty == self.type_of(rhs) && is_int(self.type_kind(ty)) {
-            Some(ty)
-        } else {
-            None
-        }
-    }
-
     /// The number of the type of an instruction's result.
     fn result_number(&mut self, inst: &LLVMInst) -> Result<LLVMType, AllocError>
         requires { HasValues self.old inst.now }
@@ -415,19 +405,70 @@ impl LLVMModule {
         // This tells the proof of the invariant.
         let _ = &self.types;
         match inst {
-            LLVMInst::Add(lhs, rhs, _) => {
-                let ty = self.both_type(*lhs, *rhs)?;
-                Some(ResultType::There(ty))
-            }
-            LLVMInst::ICmp(lhs, rhs, _) => {
-                self.both_type(*lhs, *rhs)?;
-                Some(ResultType::Bit)
-            }
             LLVMInst::Phi(ty, _) => Some(ResultType::There(*ty)),
-            LLVMInst::Br(_) => None,
-            LLVMInst::CondBr(..) => None,
-            LLVMInst::Ret(_) => None,
-            LLVMInst::Unreachable => None,
+            LLVMInst::Row(row) => self.row_result(row),
+        }
+    }
+
+    /// Whether the operands of a row fit it, as far as that can be told without its function.
+    pub(crate) fn row_fits(&self, row: &Row) -> bool
+        requires { HasParts self.now row.now }
+        ensures { result ≡ row_fits self.now row.now }
+    {
+        let operands = row.operands.as_slice();
+        let first = self.view_nth(operands, 0);
+        let second = self.view_nth(operands, 1);
+        let third = self.view_nth(operands, 2);
+        let written = self.view_some(row.written);
+        fits(row.op.rule(), operands.len(), written, first, second, third)
+    }
+
+    /// The type of a row's result, where its operands fit and it is not void.
+    fn row_result(&self, row: &Row) -> Option<ResultType>
+        requires { HasParts self.now row.now }
+        ensures { result ≡ row_result self.now row.now }
+    {
+        if !self.row_fits(row) {
+            return None;
+        }
+        let operands = row.operands.as_slice();
+        let first = self.type_nth(operands, 0);
+        let second = self.type_nth(operands, 1);
+        given(row.op.rule().gives, row.written, first, second)
+    }
+
+    /// The type of the value at a place, as rules see it.
+    fn view_nth(&self, values: &[LLVMValue], place: usize) -> Option<TypeView>
+        requires { All (IsValue self.now) values.now }
+        ensures { result ≡ view_nth self.now values.now place }
+    {
+        self.view_some(self.type_nth(values, place))
+    }
+
+    /// The type of the value at a place.
+    fn type_nth(&self, values: &[LLVMValue], place: usize) -> Option<LLVMType>
+        requires { All (IsValue self.now) values.now }
+        ensures ty { result ≡ type_nth self.now values.now place }
+        ensures within { IfSome result (λ t. t.0 < length self.now.types) }
+    {
+        if place < values.len() {
+            Some(self.type_of(values[place]))
+        } else {
+            None
+        }
+    }
+
+    /// A type as rules see it.
+    fn view_some(&self, ty: Option<LLVMType>) -> Option<TypeView>
+        requires { IfSome ty (λ t. t.0 < length self.now.types) }
+        ensures { result ≡ option_map (view self.now.types) ty }
+    {
+        match ty {
+            Some(ty) => Some(TypeView {
+                number: ty.0,
+                shape: shape_of(self.type_kind(ty)),
+            }),
+            None => None,
         }
     }
 
@@ -449,10 +490,42 @@ fn const_type(kind: &LLVMConstKind) -> LLVMType
     }
 }
 
-fn is_int(kind: &LLVMTypeKind) -> bool
-    ensures { result ≡ is_int kind.now }
+/// What rules look at: a line for each kind.
+fn shape_of(kind: &LLVMTypeKind) -> Shape
+    ensures { result ≡ shape_of kind.now }
 {
-    matches!(kind, LLVMTypeKind::Int(_))
+    match kind {
+        LLVMTypeKind::Void => Shape::Void,
+        LLVMTypeKind::Int(width) => Shape::Int(*width),
+        LLVMTypeKind::Function { .. } => Shape::Function,
+    }
+}
+
+fn there(ty: Option<LLVMType>) -> Option<ResultType>
+    ensures { result ≡ option_map results.There ty }
+{
+    match ty {
+        Some(ty) => Some(ResultType::There(ty)),
+        None => None,
+    }
+}
+
+/// The type of a result: a line for each word.
+fn given(
+    gives: Gives,
+    written: Option<LLVMType>,
+    first: Option<LLVMType>,
+    second: Option<LLVMType>,
+) -> Option<ResultType>
+    ensures { result ≡ given gives written first second }
+{
+    match gives {
+        Gives::Nothing => None,
+        Gives::First => there(first),
+        Gives::Second => there(second),
+        Gives::Written => there(written),
+        Gives::Bit => Some(ResultType::Bit),
+    }
 }
 
 /// The types of the parameters of a function type.

@@ -5,15 +5,17 @@ ghost use Rattle.std.specs.List.{list_any};
 ghost use Rattle.std.specs.Option.{option_map};
 ghost use Rattle.llvm_core.specs.declared.check_err.Place.TheVariants as places;
 ghost use Rattle.llvm_core.specs.declared.check_err.CheckErr.TheVariants as errors;
-ghost use Rattle.llvm_core.specs.Parts.{IsValue, IsEntry, HasValues, operands, is_function};
-ghost use Rattle.llvm_core.specs.Checked.{is_void, MisfitsPhi, returns_void, return_type, home, is_outside, is_block_outside, is_entry_outside, reaches_outside, is_bit, is_placeholder, HasOtherType, Fails, IsCheckedInst};
+ghost use Rattle.kinds.specs.Table.{rule_of};
+ghost use Rattle.llvm_core.specs.Parts.{IsValue, IsBlock, IsEntry, HasParts, HasValues, operands, is_function};
+ghost use Rattle.llvm_core.specs.Checked.{is_void, MisfitsPhi, returns_void, return_type, home, is_outside, is_block_outside, is_entry_outside, reaches_outside, is_placeholder, HasOtherType, returns_other, misfits_return, misfits_row, is_counted, Fails, IsCheckedInst};
 
 use crate::check_err::{CheckErr, Place};
-use crate::code::{LLVMInst, LLVMValue, PhiEntry};
+use crate::code::{LLVMInst, LLVMValue, PhiEntry, Row};
 use crate::consts::LLVMConstKind;
 use crate::module::LLVMModule;
 use crate::numbers::{LLVMBasicBlock, LLVMFunction, LLVMInstRef, LLVMType};
 use crate::types::LLVMTypeKind;
+use kinds::rules::Takes;
 
 /// The number of entries from which on a list is too long.
 pub const TOO_LONG: usize = 1 << 31;
@@ -58,15 +60,6 @@ fn returns_void(m: &LLVMModule, f: LLVMFunction) -> bool
     is_void(m.type_kind(return_type(m, f)))
 }
 
-fn is_bit(kind: &LLVMTypeKind) -> bool
-    ensures { result ≡ is_bit kind.now }
-{
-    match kind {
-        LLVMTypeKind::Int(width) => *width == 1,
-        _ => false,
-    }
-}
-
 /// Whether an entry's value is of another type than `ty`.
 fn has_other_type(m: &LLVMModule, ty: LLVMType, entries: &[PhiEntry]) -> bool
     requires { All (IsEntry m.now) entries.now }
@@ -91,25 +84,76 @@ fn fits_phi(m: &LLVMModule, ty: LLVMType, entries: &[PhiEntry]) -> bool
     !is_void(kind) && !is_function(kind) && !has_other_type(m, ty, entries)
 }
 
+/// Whether a value is of another type than `f` returns.
+fn returns_other(m: &LLVMModule, f: LLVMFunction, value: LLVMValue) -> bool
+    requires function { f.0 < length m.now.functions }
+    requires value { IsValue m.now value }
+    ensures { result ≡ returns_other m.now f value }
+{
+    m.type_of(value) != return_type(m, f)
+}
+
+/// Whether a value is of another type than `f` returns.
+fn has_other_return(m: &LLVMModule, f: LLVMFunction, values: &[LLVMValue]) -> bool
+    requires function { f.0 < length m.now.functions }
+    requires values { All (IsValue m.now) values.now }
+    ensures { result ≡ list_any (returns_other m.now f) values.now }
+{
+    for value in values {
+        if returns_other(m, f, *value) {
+            return true;
+        }
+    }
+    false
+}
+
+/// Whether a return has a value of another type than `f` returns.
+fn misfits_return(m: &LLVMModule, f: LLVMFunction, row: &Row) -> bool
+    requires function { f.0 < length m.now.functions }
+    requires values { HasParts m.now row.now }
+    ensures { result ≡ misfits_return (rule_of row.now.op).takes m.now f row.now.operands }
+{
+    match row.op.rule().takes {
+        Takes::Nothing => false,
+        Takes::One(_) => false,
+        Takes::Two(..) => false,
+        Takes::Three(..) => false,
+        Takes::Return => has_other_return(m, f, row.operands.as_slice()),
+    }
+}
+
+/// Whether the type of an operand, or the written type, does not fit the row.
+fn misfits_row(m: &LLVMModule, f: LLVMFunction, row: &Row) -> bool
+    requires function { f.0 < length m.now.functions }
+    requires values { HasParts m.now row.now }
+    ensures { result ≡ misfits_row m.now f row.now }
+{
+    !m.row_fits(row) || misfits_return(m, f, row)
+}
+
 fn check_operand_types(m: &LLVMModule, i: LLVMInstRef) -> Result<(), CheckErr>
     requires { i.0 < length m.now.insts }
     ensures ok { OnOk result (¬ Fails m.now (errors.OperandType (places.Inst i.0))) }
     ensures err { IfErr result (λ e. Fails m.now e) }
 {
     let fits = match m.inst(i) {
-        LLVMInst::Add(..) => m.result_type(m.inst(i)).is_some(),
-        LLVMInst::ICmp(..) => m.result_type(m.inst(i)).is_some(),
         LLVMInst::Phi(ty, entries) => fits_phi(m, *ty, entries.as_slice()),
-        LLVMInst::Br(_) => true,
-        LLVMInst::CondBr(condition, _, _) => is_bit(m.type_kind(m.type_of(*condition))),
-        LLVMInst::Ret(None) => true,
-        LLVMInst::Ret(Some(value)) => m.type_of(*value) == return_type(m, home(m, i)),
-        LLVMInst::Unreachable => true,
+        LLVMInst::Row(row) => !misfits_row(m, home(m, i), row),
     };
     if !fits {
         return Err(CheckErr::OperandType(Place::Inst(i.0)));
     }
     Ok(())
+}
+
+/// Whether a row has as many operands and targets as the table says.
+fn is_counted(m: &LLVMModule, f: LLVMFunction, row: &Row) -> bool
+    requires { f.0 < length m.now.functions }
+    ensures { result ≡ is_counted m.now f row.now }
+{
+    let rule = row.op.rule();
+    row.operands.as_slice().len() == rule.takes.operand_count(returns_void(m, f))
+        && row.targets.as_slice().len() == rule.leads.target_count()
 }
 
 fn check_operand_count(m: &LLVMModule, i: LLVMInstRef) -> Result<(), CheckErr>
@@ -118,8 +162,8 @@ fn check_operand_count(m: &LLVMModule, i: LLVMInstRef) -> Result<(), CheckErr>
     ensures err { IfErr result (λ e. Fails m.now e) }
 {
     let fits = match m.inst(i) {
-        LLVMInst::Ret(value) => value.is_none() == returns_void(m, home(m, i)),
-        _ => true,
+        LLVMInst::Phi(..) => true,
+        LLVMInst::Row(row) => is_counted(m, home(m, i), row),
     };
     if !fits {
         return Err(CheckErr::OperandCount(Place::Inst(i.0)));
@@ -166,24 +210,41 @@ fn has_entry_outside(m: &LLVMModule, f: LLVMFunction, entries: &[PhiEntry]) -> b
     false
 }
 
+/// Whether a value is one of another function than `f`, or a placeholder.
+fn has_outside(m: &LLVMModule, f: LLVMFunction, values: &[LLVMValue]) -> bool
+    requires { All (IsValue m.now) values.now }
+    ensures { result ≡ list_any (is_outside m.now f) values.now }
+{
+    for value in values {
+        if is_outside(m, f, *value) {
+            return true;
+        }
+    }
+    false
+}
+
+/// Whether a block is one of another function than `f`.
+fn has_block_outside(m: &LLVMModule, f: LLVMFunction, blocks: &[LLVMBasicBlock]) -> bool
+    requires { All (IsBlock m.now) blocks.now }
+    ensures { result ≡ list_any (is_block_outside m.now f) blocks.now }
+{
+    for block in blocks {
+        if is_block_outside(m, f, *block) {
+            return true;
+        }
+    }
+    false
+}
+
 /// Whether an instruction names something of another function than `f`.
 fn reaches_outside(m: &LLVMModule, f: LLVMFunction, inst: &LLVMInst) -> bool
     requires { HasValues m.now inst.now }
     ensures { result ≡ reaches_outside m.now f inst.now }
 {
     match inst {
-        LLVMInst::Add(lhs, rhs, _) => is_outside(m, f, *lhs) || is_outside(m, f, *rhs),
-        LLVMInst::ICmp(lhs, rhs, _) => is_outside(m, f, *lhs) || is_outside(m, f, *rhs),
         LLVMInst::Phi(_, entries) => has_entry_outside(m, f, entries.as_slice()),
-        LLVMInst::Br(target) => is_block_outside(m, f, *target),
-        LLVMInst::CondBr(condition, yes, no) => {
-            is_outside(m, f, *condition)
-                || is_block_outside(m, f, *yes)
-                || is_block_outside(m, f, *no)
-        }
-        LLVMInst::Ret(None) => false,
-        LLVMInst::Ret(Some(value)) => is_outside(m, f, *value),
-        LLVMInst::Unreachable => false,
+        LLVMInst::Row(row) => has_outside(m, f, row.operands.as_slice())
+            || has_block_outside(m, f, row.targets.as_slice()),
     }
 }
 
@@ -203,14 +264,8 @@ fn operand_count(inst: &LLVMInst) -> usize
     ensures { result ≡ length (operands inst.now) }
 {
     match inst {
-        LLVMInst::Add(..) => 2,
-        LLVMInst::ICmp(..) => 2,
         LLVMInst::Phi(_, entries) => entries.as_slice().len(),
-        LLVMInst::Br(_) => 0,
-        LLVMInst::CondBr(..) => 1,
-        LLVMInst::Ret(None) => 0,
-        LLVMInst::Ret(Some(_)) => 1,
-        LLVMInst::Unreachable => 0,
+        LLVMInst::Row(row) => row.operands.as_slice().len(),
     }
 }
 

@@ -1,15 +1,14 @@
 -- Operations of the dialect as rows of a woven shape: which of them pair off, that constants keep to a plan, and that
 -- operations read only constants that are set, as the crates above show it of their operations.
-use Rattle.std.proofs.Common.{◌≡◌, ◌∙◌, ℕ, suc, Bool, true, false, not, ◌||◌, if◌then◌else◌, List, [], ◌∷◌, Some, All, map, take, slice_get, refl, sym, ap, ⊎_elim}
+use Rattle.std.proofs.Common.{◌≡◌, ◌∙◌, ℕ, suc, Bool, true, false, not, ◌||◌, if◌then◌else◌, List, [], ◌∷◌, Some, All, map, take, slice_get, refl, ap, ⊎_elim}
 use Rattle.std.proofs.lemmas.Bool.{false≢true, or_cases}
 use Rattle.std.proofs.lemmas.List.Elements.{All-nil, All-cons, All-head, All-tail, All-weaker}
 use Rattle.dialect_types.specs.Trees.{AttrTree}
 use Rattle.dialect_core.specs.declared.ops.Value.{Value}
 use Rattle.dialect_core.specs.declared.ops.Value.TheVariants.{Result}
-use Rattle.dialect_core.specs.Data.{Func, DialectOp, Kind, ConstantOp, AddOp, ICmpOp, BrOp, CondBrOp, ReturnOp, UnreachableOp}
+use Rattle.dialect_core.specs.Data.{Func, DialectOp, Kind, ConstantOp, RowOp}
 use Rattle.dialect_core.specs.Form.{is_constant, is_constant_kind, others_of}
-use Rattle.meaning.specs.Terms.{Opcode, Immediate}
-use Rattle.meaning.specs.Machine.{At, Action, Holds, Row}
+use Rattle.meaning.specs.Machine.{At, Row}
 use Rattle.meaning.specs.Dialect as dialect
 use Rattle.meaning.specs.Dialect.{attr_term, same_value}
 use Rattle.meaning.specs.Shape.{Plan, among, term_among, operands_of}
@@ -22,18 +21,9 @@ module _ (g : Func) where
 
   -- ---- rows that pair off
 
-  -- an operation holds a constant, or applies its kind to its operands: a line for each kind
-  by_kind : (o : DialectOp) (P : Kind → Action Value → Type 0) → ((value : AttrTree) → P (ConstantOp value) (Holds (attr_term value))) → ((k : Kind) (opcode : Opcode) (is : List Immediate) → is_constant_kind k ≡ false → P k (dialect.applies g o opcode is)) → (k : Kind) → P k (dialect.action g o k)
-  by_kind o P held applied (ConstantOp value) = held value
-  by_kind o P held applied (AddOp flags) = applied (AddOp flags) _ _ refl
-  by_kind o P held applied (ICmpOp predicate) = applied (ICmpOp predicate) _ _ refl
-  by_kind o P held applied BrOp = applied BrOp _ _ refl
-  by_kind o P held applied CondBrOp = applied CondBrOp _ _ refl
-  by_kind o P held applied ReturnOp = applied ReturnOp _ _ refl
-  by_kind o P held applied UnreachableOp = applied UnreachableOp _ _ refl
-
   constant_kind : (o : DialectOp) (k : Kind) → sets_constant (dialect.action g o k) ≡ is_constant_kind k
-  constant_kind o k = by_kind o (λ k a. sets_constant a ≡ is_constant_kind k) (λ value. refl) (λ k opcode is e. sym e) k
+  constant_kind o (ConstantOp value) = refl
+  constant_kind o (RowOp op) = refl
 
   paired_one : (o : DialectOp) (os : List DialectOp) (b : Bool) → paired (rows os) ≡ rows (others_of os) → (if not b then dialect.row g o ∷ paired (rows os) else paired (rows os)) ≡ rows (if not b then o ∷ others_of os else others_of os)
   paired_one o os true e = e
@@ -52,7 +42,8 @@ module _ (g : Func) where
     HasConstant o k = (value : AttrTree) → k ≡ ConstantOp value → (among plan.hoisted (Result (record { 0 = o.number })) ≡ true) × (term_among plan.hoisted (Result (record { 0 = o.number })) ≡ attr_term value)
 
     kept_row : (o : DialectOp) (k : Kind) → HasConstant o k → KeepsPlan plan (dialect.action g o k) (Result (record { 0 = o.number }))
-    kept_row o k h = by_kind o (λ k a. HasConstant o k → KeepsPlan plan a (Result (record { 0 = o.number }))) (λ value h. h value refl) (λ k opcode is e h. tt) k h
+    kept_row o (ConstantOp value) h = h value refl
+    kept_row o (RowOp op) h = tt
 
     pub kept_rows : (os : List DialectOp) → ((i : ℕ) (o : DialectOp) → slice_get os i ≡ Some o → HasConstant o o.kind) → All (λ (r : Row Value). KeepsPlan plan r.action r.result) (rows os)
     kept_rows [] h = All-nil _
@@ -69,7 +60,8 @@ module _ (g : Func) where
     are_set done (v ∷ vs) h = (All-head (IsSet done) v vs h, are_set done vs (All-tail (IsSet done) v vs h))
 
     operands_set : (done : List (Row Value)) (o : DialectOp) (k : Kind) → All (IsSet done) o.operands → AreSet plan done (operands_of (dialect.action g o k))
-    operands_set done o k h = by_kind o (λ k a. AreSet plan done (operands_of a)) (λ value. tt) (λ k opcode is e. are_set done o.operands h) k
+    operands_set done o (ConstantOp value) h = tt
+    operands_set done o (RowOp op) h = are_set done o.operands h
 
     -- if it is a constant, it is set by the rows that are done or by those operations
     abbrev pub IsSetBy : List (Row Value) → List DialectOp → Value → Type 0

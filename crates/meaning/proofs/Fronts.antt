@@ -1,9 +1,12 @@
 -- Silent rows that read only what earlier ones of them set: what they set, and what they leave.
 use Rattle.std.proofs.Common.{◌≡◌, ◌∙◌, Bool, true, false, ◌||◌, if◌then◌else◌, List, [], ◌∷◌, map, refl, sym, ap, ⊎_elim}
 use Rattle.std.proofs.lemmas.Bool.{or_parts, cond-false, false≢true, cases_Bool}
-use Rattle.llvm_core.specs.Data.{TypeTree}
+use Rattle.kinds.specs.declared.op.Op.{Op}
+use Rattle.kinds.specs.declared.rules.Family.{Family}
+use Rattle.kinds.specs.declared.rules.Family.TheVariants.{Shows, Builds}
+use Rattle.kinds.specs.Types.{TypeTree}
 use Rattle.dialect_core.specs.declared.ops.Value.{Value}
-use Rattle.meaning.specs.Terms.{Term, Unset, Expr, Opcode, Immediate, Family, Shows, Builds, family, made_by, terms_of}
+use Rattle.meaning.specs.Terms.{Term, Unset, Expr, family, made_by, terms_of}
 use Rattle.meaning.specs.Machine.{Operand, At, Fixed, Action, Holds, Applies, Row, Item, Event, State, read, set, reads, effect, apply, straight, begin}
 use Rattle.meaning.specs.Dialect.{same_value}
 use Rattle.meaning.specs.Shape.{IsSilent, among, AreAmong, operands_of, IsClosed, term_among}
@@ -13,7 +16,7 @@ use Rattle.meaning.specs.Shape.{IsSilent, among, AreAmong, operands_of, IsClosed
 -- the term that a silent action makes
 abbrev pub made : (Value → Term) → Action Value → Term
 made env (Holds t) = t
-made env (Applies o is ty tys os) = Expr o is ty (terms_of (map (read env) os))
+made env (Applies o ty tys os) = Expr o ty (terms_of (map (read env) os))
 
 -- the terms after a silent row, and after silent rows
 abbrev pub after_one : (Value → Term) → Row Value → Value → Term
@@ -30,13 +33,13 @@ pub record Ran (s t : State Value) (terms : Value → Term) : Type 0 where
   pub shown : t.shown ≡ s.shown
   pub env : t.env ≡ terms
 
-builds : (s : State Value) (v : Value) (event : Item) (f : Family) (o : Opcode) (is : List Immediate) (ty : TypeTree) (ts us : List Term) → f ≡ Builds → Ran s (effect Value same_value (reads Value same_value s us) v event (made_by f o is ty ts)) (set Value same_value s.env v (Expr o is ty (terms_of ts)))
-builds s v event Shows o is ty ts us h = absurd (cc h)
-builds s v event Builds o is ty ts us h = record { block = refl; count = refl; shown = refl; env = refl }
+builds : (s : State Value) (v : Value) (event : Item) (f : Family) (o : Op) (ty : TypeTree) (ts us : List Term) → f ≡ Builds → Ran s (effect Value same_value (reads Value same_value s us) v event (made_by f o ty ts)) (set Value same_value s.env v (Expr o ty (terms_of ts)))
+builds s v event Shows o ty ts us h = absurd (cc h)
+builds s v event Builds o ty ts us h = record { block = refl; count = refl; shown = refl; env = refl }
 
 applied : (s : State Value) (v : Value) (a : Action Value) → IsSilent a → Ran s (apply Value same_value s v a) (set Value same_value s.env v (made s.env a))
 applied s v (Holds t) h = record { block = refl; count = refl; shown = refl; env = refl }
-applied s v (Applies o is ty tys os) h = let ts : List Term = map (read s.env) os in builds s v (Event o is ty tys ts) (family o) o is ty ts ts h
+applied s v (Applies o ty tys os) h = let ts : List Term = map (read s.env) os in builds s v (Event o ty tys ts) (family o) o ty ts ts h
 
 pub ran : (done rows : List (Row Value)) → IsClosed done rows → (s : State Value) → Ran s (straight Value same_value s rows) (after s.env rows)
 ran done [] c s = record { block = refl; count = refl; shown = refl; env = refl }
@@ -67,7 +70,7 @@ reads_alike done d e h (Fixed t ∷ os) p = ap (λ (ts : List Term). t ∷ ts) (
 
 made_alike : (done : List (Row Value)) (d e : Value → Term) → Alike done d e → (a : Action Value) → AreAmong done (operands_of a) → made d a ≡ made e a
 made_alike done d e h (Holds t) p = refl
-made_alike done d e h (Applies o is ty tys os) p = ap (λ (ts : List Term). Expr o is ty (terms_of ts)) (reads_alike done d e h os p)
+made_alike done d e h (Applies o ty tys os) p = ap (λ (ts : List Term). Expr o ty (terms_of ts)) (reads_alike done d e h os p)
 
 if_alike : (b : Bool) (x y u v : Term) → x ≡ y → (b ≡ false → u ≡ v) → (if b then x else u) ≡ (if b then y else v)
 if_alike true x y u v h k = h

@@ -26,10 +26,10 @@ blocks : (place : ℕ) → BothOrNone (WovenBlock same_places plan (λ b. b)) (s
 blocks zero = record {
   constants = All-from_recursion (λ (r : Row Value). KeepsPlan plan r.action r.result) rows (tt, ((refl, refl), (tt, (tt, tt))));
   pairs = (
-    record { action = (refl, refl, refl, refl, (refl, (refl, tt))); result = refl },
+    record { action = (refl, refl, refl, (refl, (refl, tt))); result = refl },
     (
-      record { action = (refl, refl, refl, refl, (refl, ((refl, refl), tt))); result = refl },
-      (record { action = (refl, refl, refl, refl, (refl, tt)); result = refl }, tt),
+      record { action = (refl, refl, refl, (refl, ((refl, refl), tt))); result = refl },
+      (record { action = (refl, refl, refl, (refl, tt)); result = refl }, tt),
     ),
   );
   edges = tt;

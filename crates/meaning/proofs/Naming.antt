@@ -1,36 +1,34 @@
--- Terms under a match: what a silent kind makes of renamed operands, and the match that changes nothing.
+-- Terms under a match: what a silent row makes of renamed operands, and the match that changes nothing.
 use Rattle.std.proofs.Common.{ℕ, ◌≡◌, ◌∙◌, List, [], ◌∷◌, map, map-id, option_map, refl, ap}
 use mathlib.Core.Path.{fun_ext}
-use Rattle.llvm_core.specs.Data.{TypeTree}
-use Rattle.meaning.specs.Terms.{Match, Opcode, Immediate, Flag, Number, Predicate, Family, Shows, Builds, family, made_by, silent, Term, Param, Answer, Unset, Int, ListOf, Expr, Insert, Terms, NoTerms, ThenTerm, Path, Places, PlaceOf, terms_of, rename, rename_all, rename_path, rename_immediate, rename_type}
+use Rattle.kinds.specs.declared.op.Op.{Op}
+use Rattle.kinds.specs.declared.rules.Family.{Family}
+use Rattle.kinds.specs.declared.rules.Family.TheVariants.{Shows, Builds}
+use Rattle.kinds.specs.Types.{TypeTree}
+use Rattle.meaning.specs.Terms.{Match, family, made_by, silent, Term, Param, Answer, Unset, Int, ListOf, Expr, Insert, Terms, NoTerms, ThenTerm, Path, Places, PlaceOf, terms_of, rename, rename_all, rename_path, rename_type}
 use Rattle.meaning.specs.Machine.{Item, Entered, Event}
 use Rattle.meaning.specs.Code.{under}
 use Rattle.meaning.specs.Examples.{same_places}
 use Rattle.meaning.proofs.EntryLaws.{type_stays}
 
--- ---- silent kinds
+-- ---- silent rows
 
 rename-terms_of : (match : Match) (ts : List Term) → terms_of (map (rename match) ts) ≡ rename_all match (terms_of ts)
 rename-terms_of match [] = refl
 rename-terms_of match (t ∷ ts) = ap (ThenTerm (rename match t)) (rename-terms_of match ts)
 
-rename-made_by : (match : Match) (f : Family) (o : Opcode) (is : List Immediate) (ty : TypeTree) (ts : List Term) → option_map (rename match) (made_by f o is ty ts) ≡ made_by f o (map (rename_immediate match) is) (rename_type match ty) (map (rename match) ts)
-rename-made_by match Shows o is ty ts = refl
-rename-made_by match Builds o is ty ts = cc (rename-terms_of match ts)
+rename-made_by : (match : Match) (f : Family) (o : Op) (ty : TypeTree) (ts : List Term) → option_map (rename match) (made_by f o ty ts) ≡ made_by f o (rename_type match ty) (map (rename match) ts)
+rename-made_by match Shows o ty ts = refl
+rename-made_by match Builds o ty ts = cc (rename-terms_of match ts)
 
 -- the term of renamed operands is the renamed term
-pub rename-silent : (match : Match) (o : Opcode) (is : List Immediate) (ty : TypeTree) (ts : List Term) → option_map (rename match) (silent o is ty ts) ≡ silent o (map (rename_immediate match) is) (rename_type match ty) (map (rename match) ts)
-rename-silent match o is ty ts = rename-made_by match (family o) o is ty ts
+pub rename-silent : (match : Match) (o : Op) (ty : TypeTree) (ts : List Term) → option_map (rename match) (silent o ty ts) ≡ silent o (rename_type match ty) (map (rename match) ts)
+rename-silent match o ty ts = rename-made_by match (family o) o ty ts
 
 -- ---- the match that leaves all where it is
 
 map_same : {A : Type 0} (f : A → A) → ((x : A) → f x ≡ x) → (xs : List A) → map f xs ≡ xs
 map_same f h xs = ap (λ (g : _ → _). map g xs) (fun_ext h) ∙ map-id xs
-
-immediate_same : (i : Immediate) → rename_immediate same_places i ≡ i
-immediate_same (Flag b) = refl
-immediate_same (Number n) = refl
-immediate_same (Predicate p) = refl
 
 mutual
   term_same : (t : Term) → rename same_places t ≡ t
@@ -39,7 +37,7 @@ mutual
   term_same Unset = refl
   term_same (Int w v) = refl
   term_same (ListOf ty ts) = cc (type_stays same_places ty, terms_same ts)
-  term_same (Expr o is ty ts) = cc (map_same (rename_immediate same_places) immediate_same is, type_stays same_places ty, terms_same ts)
+  term_same (Expr o ty ts) = cc (type_stays same_places ty, terms_same ts)
   term_same (Insert ty a p e) = cc (type_stays same_places ty, term_same a, path_same p, term_same e)
 
   terms_same : (ts : Terms) → rename_all same_places ts ≡ ts
@@ -52,7 +50,7 @@ mutual
 
 item_same : (n : List ℕ) (i : Item) → under same_places n i ≡ i
 item_same n (Entered b) = refl
-item_same n (Event o is ty tys ts) = cc (map_same (rename_immediate same_places) immediate_same is, type_stays same_places ty, map_same (rename_type same_places) (type_stays same_places) tys, map_same (rename same_places) term_same ts)
+item_same n (Event o ty tys ts) = cc (type_stays same_places ty, map_same (rename_type same_places) (type_stays same_places) tys, map_same (rename same_places) term_same ts)
 
 pub items_same : (n : List ℕ) (items : List Item) → map (under same_places n) items ≡ items
 items_same n items = map_same (under same_places n) (item_same n) items

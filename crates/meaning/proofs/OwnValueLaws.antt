@@ -2,21 +2,20 @@
 -- that the function gives them.
 use Rattle.std.proofs.Common.{◌≡◌, ℕ, suc, List, [], ◌∷◌, Some, map, length, slice_get, refl, sym, ap, ◌∙◌}
 use Rattle.std.specs.List.{flat_map}
-use Rattle.llvm_core.specs.Data as L
+use Rattle.kinds.specs.Types.{TypeTree}
 use Rattle.dialect_types.specs.Trees.{type_trees}
 use Rattle.dialect_core.specs.declared.numbers.OpRef.{OpRef}
 use Rattle.dialect_core.specs.declared.ops.Value.{Value}
 use Rattle.dialect_core.specs.declared.ops.Successor.{Successor}
 use Rattle.dialect_core.specs.ContextData.{ContextData}
-use Rattle.dialect_core.specs.Data.{Kind, ConstantOp, AddOp, ICmpOp, BrOp, CondBrOp, ReturnOp, UnreachableOp, DialectBlock, DialectOp, Func, func_in, type_in, value_type}
+use Rattle.dialect_core.specs.Data.{Kind, ConstantOp, RowOp, DialectBlock, DialectOp, Func, func_in, type_in, value_type}
 use Rattle.dialect_core.specs.Form.{HasOwnValues, IsValueOf, uses_of}
 use Rattle.dialect_core.proofs.HoldLemmas.{stands_left}
 use Rattle.dialect_core.proofs.LineLemmas.{all_at}
 use Rattle.dialect_core.proofs.TypingLaws.{own_type}
-use Rattle.meaning.specs.Terms.{Opcode, Immediate}
 use Rattle.meaning.specs.Machine.{At, Action, Applies, Block, trace}
 use Rattle.meaning.specs.Code.{Body}
-use Rattle.meaning.specs.Dialect.{option_type, typed_applies, typed_action, typed_row, typed_block, typed_body, same_value, start}
+use Rattle.meaning.specs.Dialect.{option_type, typed_action, typed_row, typed_block, typed_body, same_value, start}
 
 module _ (c : ContextData) (f : OpRef) (g : Func) (is : func_in (type_trees c.types) c f ≡ Some g) where
   abbrev Own : List Value → Type 0
@@ -30,18 +29,9 @@ module _ (c : ContextData) (f : OpRef) (g : Func) (is : func_in (type_trees c.ty
       let rest = types_same vs (λ k w at. own (suc k) w at) in
       cc
 
-  applies_same : (o : DialectOp) (opcode : Opcode) (is : List Immediate) → Own o.operands → typed_applies (type_in c) o opcode is ≡ typed_applies (value_type g) o opcode is
-  applies_same o opcode is own = ap (λ (ts : List L.TypeTree). let a : Action Value = Applies opcode is (option_type o.result) ts (map At o.operands) in a) (types_same o.operands own)
-
-  -- a line for each kind
   action_same : (o : DialectOp) (k : Kind) → Own o.operands → typed_action (type_in c) o k ≡ typed_action (value_type g) o k
   action_same o (ConstantOp value) own = refl
-  action_same o (AddOp flags) own = applies_same o _ _ own
-  action_same o (ICmpOp predicate) own = applies_same o _ _ own
-  action_same o BrOp own = applies_same o _ _ own
-  action_same o CondBrOp own = applies_same o _ _ own
-  action_same o ReturnOp own = applies_same o _ _ own
-  action_same o UnreachableOp own = applies_same o _ _ own
+  action_same o (RowOp op) own = ap (λ (ts : List TypeTree). let a : Action Value = Applies op (option_type o.result) ts (map At o.operands) in a) (types_same o.operands own)
 
   rows_same : (os : List DialectOp) → ((k : ℕ) (o : DialectOp) → slice_get os k ≡ Some o → Own o.operands) → map (typed_row (type_in c)) os ≡ map (typed_row (value_type g)) os
   rows_same [] own = refl

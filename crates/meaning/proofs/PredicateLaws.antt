@@ -1,7 +1,7 @@
 -- Each predicate of LLVM stands for one of the dialect, and no two of the dialect become one.
 use Rattle.std.proofs.Common.{◌≡◌, refl, sym, ap, ◌∙◌}
-use Rattle.llvm_core.specs.declared.code.LLVMIntPredicate.{LLVMIntPredicate}
-use Rattle.llvm_core.specs.declared.code.LLVMIntPredicate.TheVariants as I
+use Rattle.kinds.specs.declared.op.LLVMIntPredicate.{LLVMIntPredicate}
+use Rattle.kinds.specs.declared.op.LLVMIntPredicate.TheVariants as I
 use Rattle.dialect_core.specs.declared.predicates.ICmpPredicateAttr.{ICmpPredicateAttr}
 use Rattle.dialect_core.specs.declared.predicates.ICmpPredicateAttr.TheVariants as P
 use Rattle.meaning.specs.Dialect.{predicate_of}

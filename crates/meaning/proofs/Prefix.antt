@@ -24,8 +24,8 @@ module _ (V : Type 0) (same : V → V → Bool) where
 
   apply_grows : (s : State V) (v : V) (a : Action V) → Grows s.shown (apply V same s v a).shown
   apply_grows s v (Holds t) = stays s.shown
-  apply_grows s v (Applies o is ty tys os) =
-      effect_grows (reads V same s (map (read s.env) os)) v (Event o is ty tys (map (read s.env) os)) (silent o is ty (map (read s.env) os))
+  apply_grows s v (Applies o ty tys os) =
+      effect_grows (reads V same s (map (read s.env) os)) v (Event o ty tys (map (read s.env) os)) (silent o ty (map (read s.env) os))
 
   straight_grows : (s : State V) (rs : List (Row V)) → Grows s.shown (straight V same s rs).shown
   straight_grows s [] = stays s.shown

@@ -80,7 +80,7 @@ module _ (match : Match) (plan : Plan) (is_plan : IsPlan plan) (name : List ℕ)
 
   read_excused : (t : State Value) (w : Value) (b : Action Value) → (lax && list_any is_unset (map (read t.env) (operands_of b))) ≡ true → Excused (apply Value same_value t w b)
   read_excused t w (Holds u) x = absurd (false≢true (and_parts lax false x).1)
-  read_excused t w (Applies o is ty tys os) x = and_more lax (list_any is_unset (map (read t.env) os)) _ (λ u. effect_unset Value same_value (reads Value same_value t (map (read t.env) os)) w _ _ ∙ or_right t.unset _ u) x
+  read_excused t w (Applies o ty tys os) x = and_more lax (list_any is_unset (map (read t.env) os)) _ (λ u. effect_unset Value same_value (reads Value same_value t (map (read t.env) os)) w _ _ ∙ or_right t.unset _ u) x
 
   pub row_follows : (s : State Key) (t : State Value) (r : Row Key) (q : Row Value) → Loosely s t → SameRow match plan r q → Loosely (apply Key same_key s r.result r.action) (apply Value same_value t q.result q.action)
   row_follows s t r q (inl x) h = inl (applied t q.result q.action x)

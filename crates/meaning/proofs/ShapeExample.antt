@@ -69,10 +69,10 @@ blocks zero = record {
   rows = refl;
   leads = refl;
   pairs = (
-    record { action = (refl, refl, refl, refl, (refl, (refl, tt))); result = refl },
+    record { action = (refl, refl, refl, (refl, (refl, tt))); result = refl },
     (
-      record { action = (refl, refl, refl, refl, (refl, ((refl, refl), tt))); result = refl },
-      (record { action = (refl, refl, refl, refl, (refl, tt)); result = refl }, tt),
+      record { action = (refl, refl, refl, (refl, ((refl, refl), tt))); result = refl },
+      (record { action = (refl, refl, refl, (refl, tt)); result = refl }, tt),
     ),
   );
   edges = tt;

@@ -3,7 +3,7 @@ use Rattle.std.proofs.Common.{◌≡◌, ◌∙◌, ℕ, zero, suc, Bool, false,
 use Rattle.std.proofs.lemmas.Bool.{false≢true}
 use mathlib.Core.Path.{fun_ext}
 use Rattle.llvm_core.specs.Data as L
-use Rattle.llvm_core.specs.Data.{ModuleData, Function, ConstTree, IntConst, PlaceholderConst, Constant, Parameter, Result, Instruction, Add, ICmp, Phi, Br, CondBr, Return, Unreachable, Placed}
+use Rattle.llvm_core.specs.Data.{ModuleData, Function, ConstTree, IntConst, PlaceholderConst, Constant, Parameter, Result, TypeTree, RowData, Instruction, Phi, Applied, Placed}
 use Rattle.dialect_core.specs.Data.{Func}
 use Rattle.dialect_core.specs.declared.ops.Value.{Value}
 use Rattle.meaning.specs.Terms.{Term, Match, rename}
@@ -123,21 +123,12 @@ operand_alike d d' (Constant c) = ap Fixed (const_alike d d' c)
 operand_alike d d' (Parameter f i) = refl
 operand_alike d d' (Result n) = refl
 
-row_of_alike : (d d' : ModuleData) (i : Instruction) → llvm.row_of d i ≡ llvm.row_of d' i
-row_of_alike d d' (Add lhs rhs flags) = refl
-row_of_alike d d' (ICmp lhs rhs predicate) = refl
-row_of_alike d d' (Phi entries) = refl
-row_of_alike d d' (Br target) = refl
-row_of_alike d d' (CondBr condition first second) = refl
-row_of_alike d d' (Return value) = refl
-row_of_alike d d' Unreachable = refl
+action_alike : (d d' : ModuleData) (f : Function) (type : TypeTree) (r : RowData) → llvm.action d f type r ≡ llvm.action d' f type r
+action_alike d d' f type r = let o : llvm.operand d ≡ llvm.operand d' = fun_ext (operand_alike d d') in cc o
 
-action_alike : (d d' : ModuleData) (f : Function) (p : Placed) → llvm.action d f p ≡ llvm.action d' f p
-action_alike d d' f p = let o : llvm.operand d ≡ llvm.operand d' = fun_ext (operand_alike d d') in cc (row_of_alike d d' p.instruction, o)
-
-row_alike : (d d' : ModuleData) (f : Function) (p : Placed) (x : Option (List (L.Operand × ℕ))) → llvm.row d f p x ≡ llvm.row d' f p x
-row_alike d d' f p None = cc (action_alike d d' f p)
-row_alike d d' f p (Some es) = refl
+row_alike : (d d' : ModuleData) (f : Function) (p : Placed) (i : Instruction) → llvm.row d f p i ≡ llvm.row d' f p i
+row_alike d d' f p (Phi es) = refl
+row_alike d d' f p (Applied r) = cc (action_alike d d' f p.type r)
 
 move_alike : (d d' : ModuleData) (from : ℕ) (p : Placed) → llvm.phi_move d from p ≡ llvm.phi_move d' from p
 move_alike d d' from p = simp (operand_alike d d')

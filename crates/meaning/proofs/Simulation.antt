@@ -147,17 +147,17 @@ module _ (match : Match) (plan : Plan) (is_plan : IsPlan plan) where
 
       -- where the constants that it reads are known to be set
       pub action_follows : (s : State Key) (t : State Value) (k : Key) (w : Value) (a : Action Key) (b : Action Value) → Tracks s t → plan.value k ≡ Some w → SameAction match plan a b → AreKnown plan known t.env (operands_of b) → Tracks (apply Key same_key s k a) (apply Value same_value t w b)
-      action_follows s t k w (Applies o is ty tys os) (Applies p js uy uys ps) f r h n =
+      action_follows s t k w (Applies o ty tys os) (Applies p uy uys ps) f r h n =
           let ts : List Term = map (read s.env) os in
           let us : List Term = map (read t.env) ps in
-          let same : map (rename match) ts ≡ us = operands_agree s.env t.env f.env os ps h.4 n in
-          let event : under match name (Event o is ty tys ts) ≡ Event p js uy uys us = cc (h.0, h.1, h.2, h.3, same) in
-          let made : option_map (rename match) (silent o is ty ts) ≡ silent p js uy us = rename-silent match o is ty ts ∙ cc (h.0, h.1, h.2, same) in
+          let same : map (rename match) ts ≡ us = operands_agree s.env t.env f.env os ps h.3 n in
+          let event : under match name (Event o ty tys ts) ≡ Event p uy uys us = cc (h.0, h.1, h.2, same) in
+          let made : option_map (rename match) (silent o ty ts) ≡ silent p uy us = rename-silent match o ty ts ∙ cc (h.0, h.1, same) in
           let g = reads_follow s t ts us f in
           subst
-          (λ (x : Option Term). Tracks (apply Key same_key s k (Applies o is ty tys os)) (effect Value same_value (reads Value same_value t us) w (Event p js uy uys us) x))
+          (λ (x : Option Term). Tracks (apply Key same_key s k (Applies o ty tys os)) (effect Value same_value (reads Value same_value t us) w (Event p uy uys us) x))
           made
-          (effect_follows _ _ k w (Event o is ty tys ts) (Event p js uy uys us) (silent o is ty ts) g r event)
-      action_follows s t k w (Applies o is ty tys os) (Holds u) f r h n = absurd h
-      action_follows s t k w (Holds t') (Applies p js uy uys ps) f r h n = absurd h
+          (effect_follows _ _ k w (Event o ty tys ts) (Event p uy uys us) (silent o ty ts) g r event)
+      action_follows s t k w (Applies o ty tys os) (Holds u) f r h n = absurd h
+      action_follows s t k w (Holds t') (Applies p uy uys ps) f r h n = absurd h
       action_follows s t k w (Holds t') (Holds u) f r h n = absurd h

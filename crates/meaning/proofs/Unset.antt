@@ -11,7 +11,7 @@ module _ (V : Type 0) (same : V → V → Bool) where
 
   pub apply_unset : (s : State V) (v : V) (a : Action V) → s.unset ≡ true → (apply V same s v a).unset ≡ true
   apply_unset s v (Holds t) u = u
-  apply_unset s v (Applies o is ty tys os) u = effect_unset (reads V same s (map (read s.env) os)) v _ _ ∙ or_left s.unset _ u
+  apply_unset s v (Applies o ty tys os) u = effect_unset (reads V same s (map (read s.env) os)) v _ _ ∙ or_left s.unset _ u
 
   pub straight_unset : (s : State V) (rs : List (Row V)) → s.unset ≡ true → (straight V same s rs).unset ≡ true
   straight_unset s [] u = u

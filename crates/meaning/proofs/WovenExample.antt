@@ -94,22 +94,22 @@ kept rows h = All-from_recursion Kept rows h
 blocks : (place : ℕ) → BothOrNone (WovenBlock same_places plan (λ b. b)) (slice_get (map (llvm.block late_module late) late.blocks) place) (slice_get (map (dialect.block late_func) late_func.blocks) place)
 blocks zero = record {
   constants = kept (rows 0) (tt, tt);
-  pairs = (record { action = (refl, refl, refl, refl, (refl, tt)); result = refl }, tt);
+  pairs = (record { action = (refl, refl, refl, (refl, tt)); result = refl }, tt);
   edges = (record { to = refl; moves = (record { target = refl; source = refl }, tt) }, (record { to = refl; moves = (record { target = refl; source = refl }, tt) }, tt));
 }
 blocks (suc zero) = record {
   constants = kept (rows 1) ((refl, refl), (tt, (tt, tt)));
   pairs = (
-    record { action = (refl, refl, refl, refl, (refl, ((refl, refl), tt))); result = refl },
-    (record { action = (refl, refl, refl, refl, (refl, tt)); result = refl }, tt),
+    record { action = (refl, refl, refl, (refl, ((refl, refl), tt))); result = refl },
+    (record { action = (refl, refl, refl, (refl, tt)); result = refl }, tt),
   );
   edges = (record { to = refl; moves = (record { target = refl; source = refl }, tt) }, (record { to = refl; moves = (record { target = refl; source = refl }, tt) }, tt));
 }
 blocks (suc (suc zero)) = record {
   constants = kept (rows 2) (tt, (tt, tt));
   pairs = (
-    record { action = (refl, refl, refl, refl, (refl, ((refl, refl), tt))); result = refl },
-    (record { action = (refl, refl, refl, refl, (refl, tt)); result = refl }, tt),
+    record { action = (refl, refl, refl, (refl, ((refl, refl), tt))); result = refl },
+    (record { action = (refl, refl, refl, (refl, tt)); result = refl }, tt),
   );
   edges = tt;
 }

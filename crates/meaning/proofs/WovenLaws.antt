@@ -70,8 +70,8 @@ module _ (match : Match) (plan : Plan) (is_plan : IsPlan plan) (name : List ℕ)
 
     woven_row : (q : Row Value) (qs : List (Row Value)) (a : Action Value) → q.action ≡ a → KeepsPlan plan a q.result → Keep qs → (rs : List (Row Key)) → Pairs rs (paired_from q a qs) → (s : State Key) (t : State Value) → Loose s t → Loose (straight Key same_key s rs) (straight Value same_value (apply Value same_value t q.result a) qs)
     woven_row q qs (Holds u) e k rest rs h s t f = rest rs h s _ (constant_follows s t q.result u f k)
-    woven_row q qs (Applies o is ty tys os) e k rest [] h s t f = absurd h
-    woven_row q qs (Applies o is ty tys os) e k rest (r ∷ rs) h s t f =
+    woven_row q qs (Applies o ty tys os) e k rest [] h s t f = absurd h
+    woven_row q qs (Applies o ty tys os) e k rest (r ∷ rs) h s t f =
         rest rs h.1 _ _ (subst (λ (a : Action Value). Loose (apply Key same_key s r.result r.action) (apply Value same_value t q.result a)) e (row_follows match plan is_plan name lax s t r q f h.0))
 
     woven_follows : (qs : List (Row Value)) → AreKept plan qs → Keep qs
@@ -122,9 +122,9 @@ module _ (match : Match) (plan : Plan) (is_plan : IsPlan plan) (name : List ℕ)
     count = f.count;
     shown = f.shown;
   })
-  first_row done q qs (Applies o is ty tys os) e k reads rest [] h s t f = absurd h
-  first_row done q qs (Applies o is ty tys os) e k reads rest (r ∷ rs) h s t f =
-      let g = action_follows match plan is_plan (set_by done) name s t r.result q.result r.action (Applies o is ty tys os) f h.0.result (subst (SameAction match plan r.action) e h.0.action) (set_known plan done t.env os reads) in
+  first_row done q qs (Applies o ty tys os) e k reads rest [] h s t f = absurd h
+  first_row done q qs (Applies o ty tys os) e k reads rest (r ∷ rs) h s t f =
+      let g = action_follows match plan is_plan (set_by done) name s t r.result q.result r.action (Applies o ty tys os) f h.0.result (subst (SameAction match plan r.action) e h.0.action) (set_known plan done t.env os reads) in
       rest rs h.1 _ _ (more_done done q r.result h.0.result _ _ g)
 
   first_rows_follow : (qs done : List (Row Value)) → AreKept plan qs → ReadsOnlySet plan done qs → Covers done qs → KeepFirst done qs

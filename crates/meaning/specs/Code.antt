@@ -1,8 +1,8 @@
 -- What a module means, whichever side it is of: its symbols, and for each body the trace of every list of choices.
 use Rattle.std.specs.Prelude.{ℕ, Bool, if◌then◌else◌, List, [], ◌∷◌, Option, Some, None, map, slice_get, ◌≡◌, ◌<◌}
 use Rattle.std.specs.Str.{bytes_eq}
-use Rattle.llvm_core.specs.Data.{TypeTree}
-use Rattle.meaning.specs.Terms.{Match, rename_type, rename_immediate, rename}
+use Rattle.kinds.specs.Types.{TypeTree}
+use Rattle.meaning.specs.Terms.{Match, rename_type, rename}
 use Rattle.meaning.specs.Machine.{Item, Entered, Event}
 
 -- how a symbol is linked
@@ -41,7 +41,7 @@ rename_symbol match (FunctionSymbol ty l s b) = FunctionSymbol (rename_type matc
 -- an item of the body of that name, under a match
 abbrev pub under : Match → List ℕ → Item → Item
 under match n (Entered b) = Entered (match.block n b)
-under match n (Event o i ty tys ts) = Event o (map (rename_immediate match) i) (rename_type match ty) (map (rename_type match) tys) (map (rename match) ts)
+under match n (Event o ty tys ts) = Event o (rename_type match ty) (map (rename_type match) tys) (map (rename match) ts)
 
 -- a one-to-one map from the blocks of one body onto those of the other
 pub record IsOneToOne (here : ℕ → ℕ) (source target : ℕ) : Type 0 where

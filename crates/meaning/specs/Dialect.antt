@@ -2,7 +2,7 @@
 use Rattle.std.specs.Prelude.{ℕ, zero, suc, Bool, false, ◌&&◌, if◌then◌else◌, List, [], ◌∷◌, Option, Some, None, map, option_map, length, nat_eq, nat_lt}
 use Rattle.std.specs.Option.{option_map_or}
 use Rattle.std.specs.List.{flat_map, filter_map, position_from, find}
-use Rattle.dialect_types.specs.Trees.{TypeTree, VoidType, IntegerType, FuncType, TypeTrees, NoTypes, ThenType, AttrTree, IntegerAttr}
+use Rattle.dialect_types.specs.Trees.{TypeTree, VoidType, AttrTree, IntegerAttr}
 use Rattle.dialect_core.specs.declared.numbers.BlockRef.{BlockRef}
 use Rattle.dialect_core.specs.declared.ops.Value.{Value}
 use Rattle.dialect_core.specs.declared.ops.Value.TheVariants.{Result, Argument}
@@ -11,26 +11,18 @@ use Rattle.dialect_core.specs.declared.linkage.LinkageAttr.{LinkageAttr}
 use Rattle.dialect_core.specs.declared.linkage.LinkageAttr.TheVariants as K
 use Rattle.dialect_core.specs.declared.predicates.ICmpPredicateAttr.{ICmpPredicateAttr}
 use Rattle.dialect_core.specs.declared.predicates.ICmpPredicateAttr.TheVariants as P
-use Rattle.dialect_core.specs.Data.{DialectModule, Func, DialectBlock, DialectOp, Kind, ConstantOp, AddOp, ICmpOp, BrOp, CondBrOp, ReturnOp, UnreachableOp, value_type}
+use Rattle.dialect_core.specs.Data.{DialectModule, Func, DialectBlock, DialectOp, Kind, ConstantOp, RowOp, value_type}
 use Rattle.dialect_core.specs.WellFormed.{Typing}
-use Rattle.llvm_core.specs.declared.code.LLVMIntPredicate.{LLVMIntPredicate}
-use Rattle.llvm_core.specs.declared.code.LLVMIntPredicate.TheVariants as I
-use Rattle.llvm_core.specs.Data as L
-use Rattle.meaning.specs.Terms.{Term, Param, Unset, Opcode, Add, ICmp, Br, CondBr, Ret, Unreachable, Immediate, Predicate, overflow_immediates}
+use Rattle.kinds.specs.declared.op.LLVMIntPredicate.{LLVMIntPredicate}
+use Rattle.kinds.specs.declared.op.LLVMIntPredicate.TheVariants as I
+use Rattle.meaning.specs.Terms.{Term, Param, Unset}
 use Rattle.meaning.specs.Machine.{Operand, At, Action, Holds, Applies, Row, Edge, Block, Item, trace}
 use Rattle.meaning.specs.Llvm.{int_of}
 use Rattle.meaning.specs.Code.{Code, Entry, Body, Symbol, FunctionSymbol, Linkage, External, AvailableExternally, LinkOnceAny, LinkOnceODR, WeakAny, WeakODR, Appending, Internal, Private, ExternalWeak, Common, Other}
 
--- the type of LLVM that a type of the dialect stands for
-abbrev mutual
-  pub type_of : TypeTree → L.TypeTree
-  type_of VoidType = L.VoidType
-  type_of (IntegerType w) = L.IntType w
-  type_of (FuncType r ps v) = L.FunctionType (type_of r) (types_of ps) v
-
-  pub types_of : TypeTrees → L.TypeTrees
-  types_of NoTypes = L.NoTypes
-  types_of (ThenType t ts) = L.ThenType (type_of t) (types_of ts)
+-- the type of LLVM that a type of the dialect stands for: both sides have one tree of types
+abbrev pub type_of : TypeTree → TypeTree
+type_of t = t
 
 -- the term of a constant, a line for each kind
 abbrev pub attr_term : AttrTree → Term
@@ -44,11 +36,11 @@ same_value _ _ = false
 -- ---- types of operands
 
 -- the type of LLVM of a result or operand, void where there is none
-abbrev pub option_type : Option TypeTree → L.TypeTree
-option_type None = L.VoidType
+abbrev pub option_type : Option TypeTree → TypeTree
+option_type None = VoidType
 option_type (Some t) = type_of t
 
--- ---- rows and edges, a line for each kind
+-- ---- rows and edges
 
 -- the predicate of LLVM that one of the dialect stands for
 abbrev pub predicate_of : ICmpPredicateAttr → LLVMIntPredicate
@@ -67,25 +59,13 @@ predicate_of P.SLE = I.LLVMIntSLE
 -- function it belongs to (`type_in`), or of a function, which gives its own values their types, and any other none
 -- (`value_type`).
 module _ (types : Typing) where
-  -- the opcode and the immediates, applied to the operands
-  abbrev pub typed_applies : DialectOp → Opcode → List Immediate → Action Value
-  typed_applies o opcode immediates = Applies opcode immediates (option_type o.result) (map (λ (v : Value). option_type (types v)) o.operands) (map At o.operands)
-
-  -- a constant operation holds the term of its constant; any other applies its kind to its operands
+  -- a constant operation holds the term of its constant; any other applies its row to its operands
   abbrev pub typed_action : DialectOp → Kind → Action Value
   typed_action o (ConstantOp value) = Holds (attr_term value)
-  typed_action o (AddOp flags) = typed_applies o Add (overflow_immediates flags.nsw flags.nuw)
-  typed_action o (ICmpOp predicate) = typed_applies o ICmp (Predicate (predicate_of predicate) ∷ [])
-  typed_action o BrOp = typed_applies o Br []
-  typed_action o CondBrOp = typed_applies o CondBr []
-  typed_action o ReturnOp = typed_applies o Ret []
-  typed_action o UnreachableOp = typed_applies o Unreachable []
+  typed_action o (RowOp op) = Applies op (option_type o.result) (map (λ (v : Value). option_type (types v)) o.operands) (map At o.operands)
 
   abbrev pub typed_row : DialectOp → Row Value
   typed_row o = record { action = typed_action o o.kind; result = Result (record { 0 = o.number }) }
-
-abbrev pub applies : Func → DialectOp → Opcode → List Immediate → Action Value
-applies f o opcode immediates = typed_applies (value_type f) o opcode immediates
 
 abbrev pub action : Func → DialectOp → Kind → Action Value
 action f o k = typed_action (value_type f) o k
@@ -147,7 +127,12 @@ linkage K.InternalLinkage = Internal
 linkage K.PrivateLinkage = Private
 linkage K.ExternalWeakLinkage = ExternalWeak
 linkage K.CommonLinkage = Common
-linkage _ = Other
+linkage K.LinkOnceODRAutoHideLinkage = Other
+linkage K.DLLImportLinkage = Other
+linkage K.DLLExportLinkage = Other
+linkage K.LinkerPrivateLinkage = Other
+linkage K.LinkerPrivateWeakLinkage = Other
+linkage K.GhostLinkage = Other
 
 abbrev pub has_blocks : Func → Bool
 has_blocks f = nat_lt 0 (length f.blocks)

@@ -1,14 +1,54 @@
 -- Small modules of both sides, on which the definitions are computed.
 use Rattle.std.specs.Prelude.{ℕ, true, false, List, [], ◌∷◌, Some, None, codes}
 use Rattle.llvm_core.specs.Data as L
-use Rattle.llvm_core.specs.Data.{VoidType, IntType, FunctionType, NoTypes, ThenType, IntConst, Add, Phi, Br, CondBr, Return, Constant, Parameter, Result}
+use Rattle.llvm_core.specs.Data.{VoidType, IntType, FunctionType, NoTypes, ThenType, IntConst, Phi, Constant, Parameter, Result}
+use Rattle.kinds.specs.declared.op.Op.{Op}
+use Rattle.kinds.specs.declared.op.Op.TheVariants as O
+use Rattle.kinds.specs.declared.op.OverflowFlags.{OverflowFlags}
 use Rattle.dialect_types.specs.Trees as T
 use Rattle.dialect_core.specs.declared.ops.Value.TheVariants as V
 use Rattle.dialect_core.specs.declared.linkage.LinkageAttr.TheVariants.{ExternalLinkage}
 use Rattle.dialect_core.specs.Data as D
-use Rattle.meaning.specs.Terms as M
-use Rattle.meaning.specs.Terms.{Match, Immediate, Term, Param, ListOf, Expr, NoTerms, ThenTerm}
+use Rattle.meaning.specs.Terms.{Match, Term, ListOf, Expr, NoTerms, ThenTerm}
 use Rattle.meaning.specs.Machine.{Item, Event}
+
+-- ---- rows of the table
+
+abbrev pub row : Op → List L.Operand → (targets : List ℕ) → L.Instruction
+row op operands targets = L.Applied (record { op = op; written = None; operands = operands; targets = targets })
+
+-- any overflow wraps, or a signed one gives poison
+abbrev pub wraps : OverflowFlags
+wraps = record { nuw = false; nsw = false }
+
+abbrev pub no_signed : OverflowFlags
+no_signed = record { nuw = false; nsw = true }
+
+abbrev pub add : OverflowFlags → (lhs rhs : L.Operand) → L.Instruction
+add flags lhs rhs = row (O.Add flags) (lhs ∷ rhs ∷ []) []
+
+abbrev pub br : (target : ℕ) → L.Instruction
+br target = row O.Br [] (target ∷ [])
+
+abbrev pub cond_br : (condition : L.Operand) → (first second : ℕ) → L.Instruction
+cond_br condition first second = row O.CondBr (condition ∷ []) (first ∷ second ∷ [])
+
+abbrev pub ret : (value : L.Operand) → L.Instruction
+ret value = row O.Ret (value ∷ []) []
+
+abbrev pub add_op : OverflowFlags → D.Kind
+add_op flags = D.RowOp (O.Add flags)
+
+abbrev pub br_op : D.Kind
+br_op = D.RowOp O.Br
+
+abbrev pub cond_br_op : D.Kind
+cond_br_op = D.RowOp O.CondBr
+
+abbrev pub ret_op : D.Kind
+ret_op = D.RowOp O.Ret
+
+-- ---- one block
 
 -- define i32 @f() { ret i32 7 }
 abbrev pub answer_function : L.Function
@@ -21,7 +61,7 @@ answer_function = record {
   blocks = (record {
     number = 0;
     name = [];
-    instructions = (record { number = 0; name = []; type = VoidType; instruction = Return (Some (Constant (IntConst (IntType 32) 7))) }) ∷ [];
+    instructions = (record { number = 0; name = []; type = VoidType; instruction = ret (Constant (IntConst (IntType 32) 7)) }) ∷ [];
   }) ∷ [];
 }
 
@@ -33,15 +73,15 @@ abbrev pub answer_func : D.Func
 answer_func = record {
   number = 1;
   name = codes "f";
-  type = T.FuncType (T.IntegerType 32) T.NoTypes false;
+  type = T.FunctionType (T.IntType 32) T.NoTypes false;
   linkage = ExternalLinkage;
   blocks = (record {
     number = 1;
     label = Some (codes "entry");
     args = [];
     ops =
-        (record { number = 2; name = None; kind = D.ConstantOp (T.IntegerAttr (T.IntegerType 32) 7); operands = []; successors = []; result = Some (T.IntegerType 32) })
-        ∷ (record { number = 3; name = None; kind = D.ReturnOp; operands = V.Result (record { 0 = 2 }) ∷ []; successors = []; result = None })
+        (record { number = 2; name = None; kind = D.ConstantOp (T.IntegerAttr (T.IntType 32) 7); operands = []; successors = []; result = Some (T.IntType 32) })
+        ∷ (record { number = 3; name = None; kind = ret_op; operands = V.Result (record { 0 = 2 }) ∷ []; successors = []; result = None })
         ∷ [];
   }) ∷ [];
 }
@@ -60,7 +100,7 @@ echo = record {
   blocks = (record {
     number = 0;
     name = [];
-    instructions = (record { number = 0; name = []; type = VoidType; instruction = Return (Some (Parameter 0 0)) }) ∷ [];
+    instructions = (record { number = 0; name = []; type = VoidType; instruction = ret (Parameter 0 0) }) ∷ [];
   }) ∷ [];
 }
 
@@ -87,9 +127,9 @@ sums = record {
     number = 0;
     name = [];
     instructions =
-        (record { number = 0; name = codes "s"; type = IntType 32; instruction = Add (Parameter 0 0) (Parameter 0 1) (record { nuw = false; nsw = true }) })
-        ∷ (record { number = 1; name = codes "t"; type = IntType 32; instruction = Add (Result 0) (Constant (IntConst (IntType 32) 5)) (record { nuw = false; nsw = false }) })
-        ∷ (record { number = 2; name = []; type = VoidType; instruction = Return (Some (Result 1)) })
+        (record { number = 0; name = codes "s"; type = IntType 32; instruction = add no_signed (Parameter 0 0) (Parameter 0 1) })
+        ∷ (record { number = 1; name = codes "t"; type = IntType 32; instruction = add wraps (Result 0) (Constant (IntConst (IntType 32) 5)) })
+        ∷ (record { number = 2; name = []; type = VoidType; instruction = ret (Result 1) })
         ∷ [];
   }) ∷ [];
 }
@@ -102,17 +142,17 @@ abbrev pub sums_func : D.Func
 sums_func = record {
   number = 1;
   name = codes "g";
-  type = T.FuncType (T.IntegerType 32) (T.ThenType (T.IntegerType 32) (T.ThenType (T.IntegerType 32) T.NoTypes)) false;
+  type = T.FunctionType (T.IntType 32) (T.ThenType (T.IntType 32) (T.ThenType (T.IntType 32) T.NoTypes)) false;
   linkage = ExternalLinkage;
   blocks = (record {
     number = 1;
     label = Some (codes "entry");
-    args = T.IntegerType 32 ∷ T.IntegerType 32 ∷ [];
+    args = T.IntType 32 ∷ T.IntType 32 ∷ [];
     ops =
-        (record { number = 2; name = None; kind = D.ConstantOp (T.IntegerAttr (T.IntegerType 32) 5); operands = []; successors = []; result = Some (T.IntegerType 32) })
-        ∷ (record { number = 3; name = Some (codes "s"); kind = D.AddOp (record { nsw = true; nuw = false }); operands = V.Argument (record { 0 = 1 }) 0 ∷ V.Argument (record { 0 = 1 }) 1 ∷ []; successors = []; result = Some (T.IntegerType 32) })
-        ∷ (record { number = 4; name = Some (codes "t"); kind = D.AddOp (record { nsw = false; nuw = false }); operands = V.Result (record { 0 = 3 }) ∷ V.Result (record { 0 = 2 }) ∷ []; successors = []; result = Some (T.IntegerType 32) })
-        ∷ (record { number = 5; name = None; kind = D.ReturnOp; operands = V.Result (record { 0 = 4 }) ∷ []; successors = []; result = None })
+        (record { number = 2; name = None; kind = D.ConstantOp (T.IntegerAttr (T.IntType 32) 5); operands = []; successors = []; result = Some (T.IntType 32) })
+        ∷ (record { number = 3; name = Some (codes "s"); kind = add_op no_signed; operands = V.Argument (record { 0 = 1 }) 0 ∷ V.Argument (record { 0 = 1 }) 1 ∷ []; successors = []; result = Some (T.IntType 32) })
+        ∷ (record { number = 4; name = Some (codes "t"); kind = add_op wraps; operands = V.Result (record { 0 = 3 }) ∷ V.Result (record { 0 = 2 }) ∷ []; successors = []; result = Some (T.IntType 32) })
+        ∷ (record { number = 5; name = None; kind = ret_op; operands = V.Result (record { 0 = 4 }) ∷ []; successors = []; result = None })
         ∷ [];
   }) ∷ [];
 }
@@ -121,8 +161,8 @@ abbrev pub sums_dialect : D.DialectModule
 sums_dialect = record { name = codes "_"; functions = sums_func ∷ [] }
 
 -- the term of an addition of two integers of 32 bits
-abbrev pub sum_of : List Immediate → Term → Term → Term
-sum_of flags a b = Expr M.Add flags (IntType 32) (ThenTerm a (ThenTerm b NoTerms))
+abbrev pub sum_of : OverflowFlags → Term → Term → Term
+sum_of flags a b = Expr (O.Add flags) (IntType 32) (ThenTerm a (ThenTerm b NoTerms))
 
 -- ---- more than one block
 
@@ -137,17 +177,17 @@ swap = record {
   space = 0;
   params = codes "a" ∷ codes "b" ∷ codes "c" ∷ [];
   blocks =
-      (record { number = 0; name = codes "entry"; instructions = (record { number = 0; name = []; type = VoidType; instruction = Br 1 }) ∷ [] })
+      (record { number = 0; name = codes "entry"; instructions = (record { number = 0; name = []; type = VoidType; instruction = br 1 }) ∷ [] })
       ∷ (record {
         number = 1;
         name = codes "loop";
         instructions =
             (record { number = 1; name = codes "x"; type = IntType 32; instruction = Phi ((Parameter 0 0, 0) ∷ (Result 2, 1) ∷ []) })
             ∷ (record { number = 2; name = codes "y"; type = IntType 32; instruction = Phi ((Parameter 0 1, 0) ∷ (Result 1, 1) ∷ []) })
-            ∷ (record { number = 3; name = []; type = VoidType; instruction = CondBr (Parameter 0 2) 1 2 })
+            ∷ (record { number = 3; name = []; type = VoidType; instruction = cond_br (Parameter 0 2) 1 2 })
             ∷ [];
       })
-      ∷ (record { number = 2; name = codes "exit"; instructions = (record { number = 4; name = []; type = VoidType; instruction = Return (Some (Result 1)) }) ∷ [] })
+      ∷ (record { number = 2; name = codes "exit"; instructions = (record { number = 4; name = []; type = VoidType; instruction = ret (Result 1) }) ∷ [] })
       ∷ [];
 }
 
@@ -159,23 +199,23 @@ abbrev pub swap_func : D.Func
 swap_func = record {
   number = 1;
   name = codes "swap";
-  type = T.FuncType (T.IntegerType 32) (T.ThenType (T.IntegerType 32) (T.ThenType (T.IntegerType 32) (T.ThenType (T.IntegerType 1) T.NoTypes))) false;
+  type = T.FunctionType (T.IntType 32) (T.ThenType (T.IntType 32) (T.ThenType (T.IntType 32) (T.ThenType (T.IntType 1) T.NoTypes))) false;
   linkage = ExternalLinkage;
   blocks =
       (record {
         number = 1;
         label = Some (codes "entry");
-        args = T.IntegerType 32 ∷ T.IntegerType 32 ∷ T.IntegerType 1 ∷ [];
-        ops = (record { number = 2; name = None; kind = D.BrOp; operands = []; successors = (record { block = record { 0 = 2 }; args = V.Argument (record { 0 = 1 }) 0 ∷ V.Argument (record { 0 = 1 }) 1 ∷ [] }) ∷ []; result = None }) ∷ [];
+        args = T.IntType 32 ∷ T.IntType 32 ∷ T.IntType 1 ∷ [];
+        ops = (record { number = 2; name = None; kind = br_op; operands = []; successors = (record { block = record { 0 = 2 }; args = V.Argument (record { 0 = 1 }) 0 ∷ V.Argument (record { 0 = 1 }) 1 ∷ [] }) ∷ []; result = None }) ∷ [];
       })
       ∷ (record {
         number = 2;
         label = Some (codes "loop");
-        args = T.IntegerType 32 ∷ T.IntegerType 32 ∷ [];
+        args = T.IntType 32 ∷ T.IntType 32 ∷ [];
         ops = (record {
           number = 3;
           name = None;
-          kind = D.CondBrOp;
+          kind = cond_br_op;
           operands = V.Argument (record { 0 = 1 }) 2 ∷ [];
           successors = (record { block = record { 0 = 2 }; args = V.Argument (record { 0 = 2 }) 1 ∷ V.Argument (record { 0 = 2 }) 0 ∷ [] }) ∷ (record { block = record { 0 = 3 }; args = [] }) ∷ [];
           result = None;
@@ -185,7 +225,7 @@ swap_func = record {
         number = 3;
         label = Some (codes "exit");
         args = [];
-        ops = (record { number = 4; name = None; kind = D.ReturnOp; operands = V.Argument (record { 0 = 2 }) 0 ∷ []; successors = []; result = None }) ∷ [];
+        ops = (record { number = 4; name = None; kind = ret_op; operands = V.Argument (record { 0 = 2 }) 0 ∷ []; successors = []; result = None }) ∷ [];
       })
       ∷ [];
 }
@@ -195,13 +235,13 @@ swap_dialect = record { name = codes "_"; functions = swap_func ∷ [] }
 
 -- a branch, a branch on a bit, and the return of an integer of that width
 abbrev pub branched : Item
-branched = Event M.Br [] VoidType [] []
+branched = Event O.Br VoidType [] []
 
 abbrev pub tested : Term → Item
-tested t = Event M.CondBr [] VoidType (IntType 1 ∷ []) (t ∷ [])
+tested t = Event O.CondBr VoidType (IntType 1 ∷ []) (t ∷ [])
 
 abbrev pub gave : (width : ℕ) → Term → Item
-gave w t = Event M.Ret [] VoidType (IntType w ∷ []) (t ∷ [])
+gave w t = Event O.Ret VoidType (IntType w ∷ []) (t ∷ [])
 
 -- a phi without an entry for the block that the edge comes from, which is not of the form:
 -- define i8 @h() { br label %next ; next: %x = phi i8 ; ret i8 %x }
@@ -213,13 +253,13 @@ lacking = record {
   space = 0;
   params = [];
   blocks =
-      (record { number = 0; name = []; instructions = (record { number = 0; name = []; type = VoidType; instruction = Br 1 }) ∷ [] })
+      (record { number = 0; name = []; instructions = (record { number = 0; name = []; type = VoidType; instruction = br 1 }) ∷ [] })
       ∷ (record {
         number = 1;
         name = codes "next";
         instructions =
             (record { number = 1; name = codes "x"; type = IntType 8; instruction = Phi [] })
-            ∷ (record { number = 2; name = []; type = VoidType; instruction = Return (Some (Result 1)) })
+            ∷ (record { number = 2; name = []; type = VoidType; instruction = ret (Result 1) })
             ∷ [];
       })
       ∷ [];
@@ -233,15 +273,15 @@ abbrev pub lacking_func : D.Func
 lacking_func = record {
   number = 1;
   name = codes "h";
-  type = T.FuncType (T.IntegerType 8) T.NoTypes false;
+  type = T.FunctionType (T.IntType 8) T.NoTypes false;
   linkage = ExternalLinkage;
   blocks =
-      (record { number = 1; label = None; args = []; ops = (record { number = 2; name = None; kind = D.BrOp; operands = []; successors = (record { block = record { 0 = 2 }; args = [] }) ∷ []; result = None }) ∷ [] })
+      (record { number = 1; label = None; args = []; ops = (record { number = 2; name = None; kind = br_op; operands = []; successors = (record { block = record { 0 = 2 }; args = [] }) ∷ []; result = None }) ∷ [] })
       ∷ (record {
         number = 2;
         label = Some (codes "next");
-        args = T.IntegerType 8 ∷ [];
-        ops = (record { number = 3; name = None; kind = D.ReturnOp; operands = V.Argument (record { 0 = 2 }) 0 ∷ []; successors = []; result = None }) ∷ [];
+        args = T.IntType 8 ∷ [];
+        ops = (record { number = 3; name = None; kind = ret_op; operands = V.Argument (record { 0 = 2 }) 0 ∷ []; successors = []; result = None }) ∷ [];
       })
       ∷ [];
 }

@@ -1,11 +1,10 @@
 -- What LLVM module data mean.
-use Rattle.std.specs.Prelude.{ℕ, Bool, false, not, ◌&&◌, if◌then◌else◌, List, [], ◌∷◌, Option, Some, None, map, option_map, length, filter, nat_eq, nat_lt, codes}
+use Rattle.std.specs.Prelude.{ℕ, Bool, false, not, ◌&&◌, if◌then◌else◌, List, [], Option, Some, None, map, option_map, length, filter, nat_eq, nat_lt, codes}
 use Rattle.std.specs.Option.{option_map_or}
 use Rattle.std.specs.List.{flat_map, filter_map, position_from, find, starts_with}
 use Rattle.llvm_core.specs.Data as L
-use Rattle.llvm_core.specs.Data.{TypeTree, VoidType, IntType, FunctionType, TypeTrees, NoTypes, ThenType, ConstTree, IntConst, PlaceholderConst, Instruction, Add, ICmp, Phi, Br, CondBr, Return, Unreachable, Constant, Parameter, Result, Placed, ModuleData, operand_type, targets, phi_entries}
-use Rattle.meaning.specs.Terms.{Term, Param, Unset, Int, Opcode, Ret, Immediate, Predicate, overflow_immediates}
-use Rattle.meaning.specs.Terms as Op
+use Rattle.llvm_core.specs.Data.{TypeTree, IntType, FunctionType, TypeTrees, NoTypes, ThenType, ConstTree, IntConst, PlaceholderConst, RowData, Instruction, Phi, Applied as AppliedRow, Constant, Parameter, Result, Placed, ModuleData, operand_type, targets, phi_entries}
+use Rattle.meaning.specs.Terms.{Term, Param, Unset, Int}
 use Rattle.meaning.specs.Machine.{Operand, At, Fixed, Action, Applies, Row, Edge, Block, Item, trace}
 use Rattle.meaning.specs.Code.{Code, Entry, Body, Symbol, FunctionSymbol, External}
 
@@ -33,30 +32,16 @@ operand d (Constant c) = Fixed (const_term d c)
 operand d (Parameter f i) = At (ParamKey f i)
 operand d (Result n) = At (ResultKey n)
 
--- ---- rows and edges, a line for each kind
+-- ---- rows and edges
 
-abbrev pub option_list : {A : Type 0} → Option A → List A
-option_list None = []
-option_list (Some x) = x ∷ []
-
--- opcode, immediates and operands; of a phi it is not asked
-abbrev pub row_of : ModuleData → Instruction → Opcode × List Immediate × List L.Operand
-row_of d (Add lhs rhs flags) = (Op.Add, overflow_immediates flags.nsw flags.nuw, lhs ∷ rhs ∷ [])
-row_of d (ICmp lhs rhs predicate) = (Op.ICmp, Predicate predicate ∷ [], lhs ∷ rhs ∷ [])
-row_of d (Phi entries) = (Op.Phi, [], map (λ (e : L.Operand × ℕ). e.0) entries)
-row_of d (Br target) = (Op.Br, [], [])
-row_of d (CondBr condition first second) = (Op.CondBr, [], condition ∷ [])
-row_of d (Return value) = (Ret, [], option_list value)
-row_of d Unreachable = (Op.Unreachable, [], [])
-
-abbrev pub action : ModuleData → L.Function → Placed → Action Key
-action d f p =
-    Applies (row_of d p.instruction).0 (row_of d p.instruction).1 p.type (map (operand_type f) (row_of d p.instruction).2) (map (operand d) (row_of d p.instruction).2)
+-- what a row shows, with a result of the type
+abbrev pub action : ModuleData → L.Function → TypeTree → RowData → Action Key
+action d f type r = Applies r.op type (map (operand_type f) r.operands) (map (operand d) r.operands)
 
 -- a phi is no row
-abbrev pub row : ModuleData → L.Function → Placed → Option (List (L.Operand × ℕ)) → Option (Row Key)
-row d f p None = Some (record { action = action d f p; result = ResultKey p.number })
-row d f p (Some entries) = None
+abbrev pub row : ModuleData → L.Function → Placed → Instruction → Option (Row Key)
+row d f p (Phi entries) = None
+row d f p (AppliedRow r) = Some (record { action = action d f p.type r; result = ResultKey p.number })
 
 -- a phi takes the operand of its first entry for the block that the edge comes from
 abbrev pub entry_for : ModuleData → ℕ → List (L.Operand × ℕ) → Option (Operand Key)
@@ -77,7 +62,7 @@ edge d f from to = record {
 
 abbrev pub block : ModuleData → L.Function → L.Block → Block Key
 block d f b = record {
-  rows = filter_map (λ (p : Placed). row d f p (phi_entries p.instruction)) b.instructions;
+  rows = filter_map (λ (p : Placed). row d f p p.instruction) b.instructions;
   edges = map (edge d f b.number) (flat_map (λ (p : Placed). targets p.instruction) b.instructions);
 }
 

@@ -1,18 +1,19 @@
 -- Runs of a body, whichever side it is of: V names the side's values.
 use Rattle.std.specs.Prelude.{ℕ, suc, Bool, false, ◌||◌, if◌then◌else◌, List, [], ◌∷◌, ◌++◌, Option, Some, None, map, slice_get}
 use Rattle.std.specs.List.{list_any}
-use Rattle.llvm_core.specs.Data.{TypeTree}
-use Rattle.meaning.specs.Terms.{Opcode, Immediate, Term, Answer, Unset, is_unset, silent}
+use Rattle.kinds.specs.declared.op.Op.{Op}
+use Rattle.kinds.specs.Types.{TypeTree}
+use Rattle.meaning.specs.Terms.{Term, Answer, Unset, is_unset, silent}
 
 -- an operand: a value, or a term that is written in place
 pub data Operand (V : Type 0) : Type 0 where
   At : V → Operand V
   Fixed : Term → Operand V
 
--- what an instruction or operation does: it holds a constant, or applies a kind to operands
+-- what an instruction or operation does: it holds a constant, or applies a row of the table to operands
 pub data Action (V : Type 0) : Type 0 where
   Holds : Term → Action V
-  Applies : (opcode : Opcode) (immediates : List Immediate) (type : TypeTree) (operand_types : List TypeTree) (operands : List (Operand V)) → Action V
+  Applies : (op : Op) (type : TypeTree) (operand_types : List TypeTree) (operands : List (Operand V)) → Action V
 
 -- what the runs see of an instruction or operation
 pub record Row (V : Type 0) : Type 0 where
@@ -32,7 +33,7 @@ pub record Block (V : Type 0) : Type 0 where
 -- what a run shows: a block that it enters, by place, or an event
 pub data Item : Type 0 where
   Entered : (block : ℕ) → Item
-  Event : (opcode : Opcode) (immediates : List Immediate) (type : TypeTree) (operand_types : List TypeTree) (operands : List Term) → Item
+  Event : (op : Op) (type : TypeTree) (operand_types : List TypeTree) (operands : List Term) → Item
 
 -- A run so far: the block it is in, the term of each value, how many events there were, what was shown,
 -- and whether it has read an unset value.
@@ -70,15 +71,15 @@ module _ (V : Type 0) (same : V → V → Bool) where
   abbrev pub answered : State V → V → Item → State V
   answered s v i = record (shows (set_in s v (Answer s.count)) i) { count = suc s.count }
 
-  -- a silent kind sets the result to its term, any other is an event
+  -- a silent row sets the result to its term, any other is an event
   abbrev pub effect : State V → V → Item → Option Term → State V
   effect s v event (Some t) = set_in s v t
   effect s v event None = answered s v event
 
   abbrev pub apply : State V → V → Action V → State V
   apply s v (Holds t) = set_in s v t
-  apply s v (Applies o i ty tys os) =
-      effect (reads s (map (read s.env) os)) v (Event o i ty tys (map (read s.env) os)) (silent o i ty (map (read s.env) os))
+  apply s v (Applies o ty tys os) =
+      effect (reads s (map (read s.env) os)) v (Event o ty tys (map (read s.env) os)) (silent o ty (map (read s.env) os))
 
   -- a straight run
   abbrev pub straight : State V → List (Row V) → State V

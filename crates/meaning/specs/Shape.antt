@@ -5,7 +5,8 @@ use Rattle.std.specs.List.{list_any}
 use Rattle.llvm_core.specs.Data as L
 use Rattle.dialect_core.specs.declared.ops.Value.{Value}
 use Rattle.dialect_core.specs.Data as D
-use Rattle.meaning.specs.Terms.{Term, Unset, Match, Builds, family, rename, rename_type, rename_immediate}
+use Rattle.kinds.specs.declared.rules.Family.TheVariants.{Builds}
+use Rattle.meaning.specs.Terms.{Term, Unset, Match, family, rename, rename_type}
 use Rattle.meaning.specs.Machine.{Operand, At, Fixed, Action, Holds, Applies, Row, Edge, Block, begin, straight}
 use Rattle.meaning.specs.Pairs.{Matched, BothOrNone}
 use Rattle.meaning.specs.Llvm as Llvm
@@ -18,7 +19,7 @@ use Rattle.meaning.specs.Dialect.{same_value}
 -- it makes a term whatever its operands are: it holds a constant, or builds an expression
 abbrev pub IsSilent : Action Value → Type 0
 IsSilent (Holds t) = Unit {0}
-IsSilent (Applies opcode immediates type types operands) = family opcode ≡ Builds
+IsSilent (Applies op type types operands) = family op ≡ Builds
 
 -- one of the rows sets the value
 abbrev pub among : List (Row Value) → Value → Bool
@@ -32,7 +33,7 @@ AreAmong rows (Fixed t ∷ os) = AreAmong rows os
 
 abbrev pub operands_of : Action Value → List (Operand Value)
 operands_of (Holds t) = []
-operands_of (Applies opcode immediates type types operands) = operands
+operands_of (Applies op type types operands) = operands
 
 -- silent rows that read only what those done and earlier ones of them set
 abbrev pub IsClosed : (done rows : List (Row Value)) → Type 0
@@ -59,11 +60,12 @@ module _ (match : Match) (plan : Plan) where
   StandsFor (Fixed t) (At w) = (among plan.hoisted w ≡ true) × (rename match t ≡ term_among plan.hoisted w)
   StandsFor (Fixed t) (Fixed u) = rename match t ≡ u
 
-  -- the same opcode, immediates and types, and operands that stand for one another
+  -- the same row of the table with the same immediates and types, and operands that stand for one another
   abbrev pub SameAction : Action Key → Action Value → Type 0
-  SameAction (Applies o is ty tys os) (Applies p js uy uys ps) =
-      (o ≡ p) × (map (rename_immediate match) is ≡ js) × (rename_type match ty ≡ uy) × (map (rename_type match) tys ≡ uys) × Matched StandsFor os ps
-  SameAction _ _ = ⊥
+  SameAction (Applies o ty tys os) (Applies p uy uys ps) = (o ≡ p) × (rename_type match ty ≡ uy) × (map (rename_type match) tys ≡ uys) × Matched StandsFor os ps
+  SameAction (Applies o ty tys os) (Holds u) = ⊥
+  SameAction (Holds t) (Applies p uy uys ps) = ⊥
+  SameAction (Holds t) (Holds u) = ⊥
 
   pub record SameRow (r : Row Key) (q : Row Value) : Type 0 where
     pub action : SameAction r.action q.action

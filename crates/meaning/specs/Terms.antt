@@ -1,28 +1,11 @@
--- Terms: what the operands of a run stand for, and what each silent kind makes of its operands.
+-- Terms: what the operands of a run stand for, and what each silent row makes of its operands.
 -- Types are the trees of module data, for both sides.
 use Rattle.std.specs.Prelude.{ℕ, zero, suc, Bool, true, false, List, [], ◌∷◌, Option, Some, None, map}
-use Rattle.llvm_core.specs.declared.code.LLVMIntPredicate.{LLVMIntPredicate}
-use Rattle.llvm_core.specs.Data.{TypeTree, VoidType, IntType, FunctionType, TypeTrees, NoTypes, ThenType}
-
--- what an instruction is: a word for each row of the instruction table
-pub data Opcode : Type 0 where
-  Add : Opcode
-  ICmp : Opcode
-  Phi : Opcode
-  Br : Opcode
-  CondBr : Opcode
-  Ret : Opcode
-  Unreachable : Opcode
-
--- what an instruction holds besides its operands, a line for each sort of it
-pub data Immediate : Type 0 where
-  Flag : Bool → Immediate
-  Number : ℕ → Immediate
-  Predicate : LLVMIntPredicate → Immediate
-
--- the flags of an operation that may overflow, the signed one first
-abbrev pub overflow_immediates : (nsw nuw : Bool) → List Immediate
-overflow_immediates nsw nuw = Flag nsw ∷ Flag nuw ∷ []
+use Rattle.kinds.specs.declared.op.Op.{Op}
+use Rattle.kinds.specs.declared.rules.Family.{Family}
+use Rattle.kinds.specs.declared.rules.Family.TheVariants.{Shows, Builds}
+use Rattle.kinds.specs.Table.{rule_of}
+use Rattle.kinds.specs.Types.{TypeTree, VoidType, IntType, FunctionType, TypeTrees, NoTypes, ThenType}
 
 -- ---- terms
 
@@ -37,8 +20,8 @@ mutual
     Int : (width value : ℕ) → Term
     -- an aggregate by its elements
     ListOf : (type : TypeTree) (elements : Terms) → Term
-    -- an expression of a silent kind
-    Expr : (opcode : Opcode) (immediates : List Immediate) (type : TypeTree) (operands : Terms) → Term
+    -- an expression of a silent row
+    Expr : (op : Op) (type : TypeTree) (operands : Terms) → Term
     -- an aggregate with an element put in, where the aggregate is not known by its elements
     Insert : (type : TypeTree) (aggregate : Term) (path : Path) (element : Term) → Term
 
@@ -96,27 +79,17 @@ put a (p ∷ path) e = replaced_in (elements_of a) p.1 (λ old. put old path e) 
 
 -- ---- silent and event
 
--- what a kind does in a run: it shows an event, or builds an expression
-pub data Family : Type 0 where
-  Shows Builds : Family
+-- what a row does in a run: it shows an event, or builds an expression
+abbrev pub family : Op → Family
+family o = (rule_of o).family
 
--- a line for each kind
-abbrev pub family : Opcode → Family
-family Add = Builds
-family ICmp = Shows
-family Phi = Shows
-family Br = Shows
-family CondBr = Shows
-family Ret = Shows
-family Unreachable = Shows
+abbrev pub made_by : Family → Op → TypeTree → List Term → Option Term
+made_by Shows o ty ts = None
+made_by Builds o ty ts = Some (Expr o ty (terms_of ts))
 
-abbrev pub made_by : Family → Opcode → List Immediate → TypeTree → List Term → Option Term
-made_by Shows o i ty ts = None
-made_by Builds o i ty ts = Some (Expr o i ty (terms_of ts))
-
--- the term of a silent instruction; none for an event
-abbrev pub silent : Opcode → List Immediate → TypeTree → List Term → Option Term
-silent o i ty ts = made_by (family o) o i ty ts
+-- the term of a silent row; none for an event
+abbrev pub silent : Op → TypeTree → List Term → Option Term
+silent o ty ts = made_by (family o) o ty ts
 
 -- ---- terms under a match
 
@@ -135,11 +108,6 @@ abbrev mutual
   rename_types match NoTypes = NoTypes
   rename_types match (ThenType t ts) = ThenType (rename_type match t) (rename_types match ts)
 
-abbrev pub rename_immediate : Match → Immediate → Immediate
-rename_immediate match (Flag b) = Flag b
-rename_immediate match (Number n) = Number n
-rename_immediate match (Predicate p) = Predicate p
-
 abbrev mutual
   pub rename : Match → Term → Term
   rename match (Param i) = Param i
@@ -147,7 +115,7 @@ abbrev mutual
   rename match Unset = Unset
   rename match (Int w v) = Int w v
   rename match (ListOf ty ts) = ListOf (rename_type match ty) (rename_all match ts)
-  rename match (Expr o i ty ts) = Expr o (map (rename_immediate match) i) (rename_type match ty) (rename_all match ts)
+  rename match (Expr o ty ts) = Expr o (rename_type match ty) (rename_all match ts)
   rename match (Insert ty a p e) = Insert (rename_type match ty) (rename match a) (rename_path match p) (rename match e)
 
   pub rename_all : Match → Terms → Terms

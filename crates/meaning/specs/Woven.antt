@@ -18,7 +18,7 @@ use Rattle.meaning.specs.Shape.{Plan, IsPlan, among, term_among, operands_of, Sa
 
 abbrev pub sets_constant : Action Value → Bool
 sets_constant (Holds t) = true
-sets_constant (Applies opcode immediates type types operands) = false
+sets_constant (Applies op type types operands) = false
 
 -- the rows that pair off with those of LLVM: all but those that hold constants
 abbrev pub paired : List (Row Value) → List (Row Value)
@@ -28,7 +28,7 @@ module _ (plan : Plan) where
   -- a row that holds a constant sets a constant of the plan, to the term that it has there
   abbrev pub KeepsPlan : Action Value → Value → Type 0
   KeepsPlan (Holds t) w = (among plan.hoisted w ≡ true) × (term_among plan.hoisted w ≡ t)
-  KeepsPlan (Applies opcode immediates type types operands) w = Unit {0}
+  KeepsPlan (Applies op type types operands) w = Unit {0}
 
   -- ---- constants that are set before they are read
 

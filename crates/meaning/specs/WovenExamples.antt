@@ -1,14 +1,14 @@
 -- Small functions whose constants do not stand first, on which the definitions are computed: one whose constant is set
 -- in a loop and read behind it too, where a run may come that never sets it, and one whose constant stands further down.
-use Rattle.std.specs.Prelude.{true, false, [], ◌∷◌, Some, None, codes}
+use Rattle.std.specs.Prelude.{false, [], ◌∷◌, Some, None, codes}
 use Rattle.llvm_core.specs.Data as L
-use Rattle.llvm_core.specs.Data.{VoidType, IntType, FunctionType, NoTypes, ThenType, IntConst, Add, Phi, CondBr, Return, Constant, Parameter, Result}
+use Rattle.llvm_core.specs.Data.{VoidType, IntType, FunctionType, NoTypes, ThenType, IntConst, Phi, Constant, Parameter, Result}
 use Rattle.dialect_types.specs.Trees as T
 use Rattle.dialect_core.specs.declared.ops.Value.TheVariants as V
 use Rattle.dialect_core.specs.declared.linkage.LinkageAttr.TheVariants.{ExternalLinkage}
 use Rattle.dialect_core.specs.Data as D
-use Rattle.meaning.specs.Terms.{Term, Int, Flag}
-use Rattle.meaning.specs.Examples.{sum_of}
+use Rattle.meaning.specs.Terms.{Term, Int}
+use Rattle.meaning.specs.Examples.{wraps, no_signed, add, cond_br, ret, add_op, cond_br_op, ret_op, sum_of}
 
 -- ---- a constant in a loop
 
@@ -23,14 +23,14 @@ late = record {
   space = 0;
   params = codes "a" ∷ codes "c" ∷ [];
   blocks =
-      (record { number = 0; name = codes "entry"; instructions = (record { number = 0; name = []; type = VoidType; instruction = CondBr (Parameter 0 1) 1 2 }) ∷ [] })
+      (record { number = 0; name = codes "entry"; instructions = (record { number = 0; name = []; type = VoidType; instruction = cond_br (Parameter 0 1) 1 2 }) ∷ [] })
       ∷ (record {
         number = 1;
         name = codes "loop";
         instructions =
             (record { number = 1; name = codes "x"; type = IntType 32; instruction = Phi ((Parameter 0 0, 0) ∷ (Result 2, 1) ∷ []) })
-            ∷ (record { number = 2; name = codes "y"; type = IntType 32; instruction = Add (Result 1) (Constant (IntConst (IntType 32) 1)) (record { nuw = false; nsw = false }) })
-            ∷ (record { number = 3; name = []; type = VoidType; instruction = CondBr (Parameter 0 1) 1 2 })
+            ∷ (record { number = 2; name = codes "y"; type = IntType 32; instruction = add wraps (Result 1) (Constant (IntConst (IntType 32) 1)) })
+            ∷ (record { number = 3; name = []; type = VoidType; instruction = cond_br (Parameter 0 1) 1 2 })
             ∷ [];
       })
       ∷ (record {
@@ -38,8 +38,8 @@ late = record {
         name = codes "exit";
         instructions =
             (record { number = 4; name = codes "z"; type = IntType 32; instruction = Phi ((Parameter 0 0, 0) ∷ (Result 2, 1) ∷ []) })
-            ∷ (record { number = 5; name = codes "s"; type = IntType 32; instruction = Add (Result 4) (Constant (IntConst (IntType 32) 1)) (record { nuw = false; nsw = false }) })
-            ∷ (record { number = 6; name = []; type = VoidType; instruction = Return (Some (Result 5)) })
+            ∷ (record { number = 5; name = codes "s"; type = IntType 32; instruction = add wraps (Result 4) (Constant (IntConst (IntType 32) 1)) })
+            ∷ (record { number = 6; name = []; type = VoidType; instruction = ret (Result 5) })
             ∷ [];
       })
       ∷ [];
@@ -53,17 +53,17 @@ abbrev pub late_func : D.Func
 late_func = record {
   number = 1;
   name = codes "late";
-  type = T.FuncType (T.IntegerType 32) (T.ThenType (T.IntegerType 32) (T.ThenType (T.IntegerType 1) T.NoTypes)) false;
+  type = T.FunctionType (T.IntType 32) (T.ThenType (T.IntType 32) (T.ThenType (T.IntType 1) T.NoTypes)) false;
   linkage = ExternalLinkage;
   blocks =
       (record {
         number = 1;
         label = Some (codes "entry");
-        args = T.IntegerType 32 ∷ T.IntegerType 1 ∷ [];
+        args = T.IntType 32 ∷ T.IntType 1 ∷ [];
         ops = (record {
           number = 2;
           name = None;
-          kind = D.CondBrOp;
+          kind = cond_br_op;
           operands = V.Argument (record { 0 = 1 }) 1 ∷ [];
           successors = (record { block = record { 0 = 2 }; args = V.Argument (record { 0 = 1 }) 0 ∷ [] }) ∷ (record { block = record { 0 = 3 }; args = V.Argument (record { 0 = 1 }) 0 ∷ [] }) ∷ [];
           result = None;
@@ -72,14 +72,14 @@ late_func = record {
       ∷ (record {
         number = 2;
         label = Some (codes "loop");
-        args = T.IntegerType 32 ∷ [];
+        args = T.IntType 32 ∷ [];
         ops =
-            (record { number = 3; name = None; kind = D.ConstantOp (T.IntegerAttr (T.IntegerType 32) 1); operands = []; successors = []; result = Some (T.IntegerType 32) })
-            ∷ (record { number = 4; name = Some (codes "y"); kind = D.AddOp (record { nsw = false; nuw = false }); operands = V.Argument (record { 0 = 2 }) 0 ∷ V.Result (record { 0 = 3 }) ∷ []; successors = []; result = Some (T.IntegerType 32) })
+            (record { number = 3; name = None; kind = D.ConstantOp (T.IntegerAttr (T.IntType 32) 1); operands = []; successors = []; result = Some (T.IntType 32) })
+            ∷ (record { number = 4; name = Some (codes "y"); kind = add_op wraps; operands = V.Argument (record { 0 = 2 }) 0 ∷ V.Result (record { 0 = 3 }) ∷ []; successors = []; result = Some (T.IntType 32) })
             ∷ (record {
               number = 5;
               name = None;
-              kind = D.CondBrOp;
+              kind = cond_br_op;
               operands = V.Argument (record { 0 = 1 }) 1 ∷ [];
               successors = (record { block = record { 0 = 2 }; args = V.Result (record { 0 = 4 }) ∷ [] }) ∷ (record { block = record { 0 = 3 }; args = V.Result (record { 0 = 4 }) ∷ [] }) ∷ [];
               result = None;
@@ -89,10 +89,10 @@ late_func = record {
       ∷ (record {
         number = 3;
         label = Some (codes "exit");
-        args = T.IntegerType 32 ∷ [];
+        args = T.IntType 32 ∷ [];
         ops =
-            (record { number = 6; name = Some (codes "s"); kind = D.AddOp (record { nsw = false; nuw = false }); operands = V.Argument (record { 0 = 3 }) 0 ∷ V.Result (record { 0 = 3 }) ∷ []; successors = []; result = Some (T.IntegerType 32) })
-            ∷ (record { number = 7; name = None; kind = D.ReturnOp; operands = V.Result (record { 0 = 6 }) ∷ []; successors = []; result = None })
+            (record { number = 6; name = Some (codes "s"); kind = add_op wraps; operands = V.Argument (record { 0 = 3 }) 0 ∷ V.Result (record { 0 = 3 }) ∷ []; successors = []; result = Some (T.IntType 32) })
+            ∷ (record { number = 7; name = None; kind = ret_op; operands = V.Result (record { 0 = 6 }) ∷ []; successors = []; result = None })
             ∷ [];
       })
       ∷ [];
@@ -103,7 +103,7 @@ late_dialect = record { name = codes "_"; functions = late_func ∷ [] }
 
 -- one more, and the sum with another term
 abbrev pub plus : Term → Term → Term
-plus u t = sum_of (Flag false ∷ Flag false ∷ []) t u
+plus u t = sum_of wraps t u
 
 abbrev pub plus_one : Term → Term
 plus_one t = plus (Int 32 1) t
@@ -115,17 +115,17 @@ abbrev pub mixed_func : D.Func
 mixed_func = record {
   number = 1;
   name = codes "g";
-  type = T.FuncType (T.IntegerType 32) (T.ThenType (T.IntegerType 32) (T.ThenType (T.IntegerType 32) T.NoTypes)) false;
+  type = T.FunctionType (T.IntType 32) (T.ThenType (T.IntType 32) (T.ThenType (T.IntType 32) T.NoTypes)) false;
   linkage = ExternalLinkage;
   blocks = (record {
     number = 1;
     label = Some (codes "entry");
-    args = T.IntegerType 32 ∷ T.IntegerType 32 ∷ [];
+    args = T.IntType 32 ∷ T.IntType 32 ∷ [];
     ops =
-        (record { number = 3; name = Some (codes "s"); kind = D.AddOp (record { nsw = true; nuw = false }); operands = V.Argument (record { 0 = 1 }) 0 ∷ V.Argument (record { 0 = 1 }) 1 ∷ []; successors = []; result = Some (T.IntegerType 32) })
-        ∷ (record { number = 2; name = None; kind = D.ConstantOp (T.IntegerAttr (T.IntegerType 32) 5); operands = []; successors = []; result = Some (T.IntegerType 32) })
-        ∷ (record { number = 4; name = Some (codes "t"); kind = D.AddOp (record { nsw = false; nuw = false }); operands = V.Result (record { 0 = 3 }) ∷ V.Result (record { 0 = 2 }) ∷ []; successors = []; result = Some (T.IntegerType 32) })
-        ∷ (record { number = 5; name = None; kind = D.ReturnOp; operands = V.Result (record { 0 = 4 }) ∷ []; successors = []; result = None })
+        (record { number = 3; name = Some (codes "s"); kind = add_op no_signed; operands = V.Argument (record { 0 = 1 }) 0 ∷ V.Argument (record { 0 = 1 }) 1 ∷ []; successors = []; result = Some (T.IntType 32) })
+        ∷ (record { number = 2; name = None; kind = D.ConstantOp (T.IntegerAttr (T.IntType 32) 5); operands = []; successors = []; result = Some (T.IntType 32) })
+        ∷ (record { number = 4; name = Some (codes "t"); kind = add_op wraps; operands = V.Result (record { 0 = 3 }) ∷ V.Result (record { 0 = 2 }) ∷ []; successors = []; result = Some (T.IntType 32) })
+        ∷ (record { number = 5; name = None; kind = ret_op; operands = V.Result (record { 0 = 4 }) ∷ []; successors = []; result = None })
         ∷ [];
   }) ∷ [];
 }

@@ -2,29 +2,29 @@
 
 ghost use Rattle.std.specs.Prelude.{◌≡◌, ◌∷◌, [], true, false, codes, map};
 ghost use Rattle.llvm_core.specs.Data.{VoidType, IntType, FunctionType, NoTypes};
-ghost use Rattle.meaning.specs.Terms.{Ret, Flag, Param, Int, Unset, Insert, Places, put};
-ghost use Rattle.meaning.specs.Machine.{Entered, Event, reads_unset};
-ghost use Rattle.meaning.specs.Code.{SameCode, entry_of, FunctionSymbol, External};
+ghost use Rattle.meaning.specs.Terms.{Param, Int, Unset, Insert, Places, put};
+ghost use Rattle.meaning.specs.Machine.{Entered, reads_unset};
+ghost use Rattle.meaning.specs.Code.{SameCode, FunctionSymbol, External};
 ghost use Rattle.meaning.specs.Llvm as llvm;
 ghost use Rattle.meaning.specs.Dialect as dialect;
 ghost use Rattle.dialect_core.specs.declared.ops.Value.{Value};
 ghost use Rattle.meaning.specs.Shape.{SameShape};
 ghost use Rattle.meaning.specs.Woven.{WovenShape, SetsConstantsFirst, func_reads_unset};
-ghost use Rattle.meaning.specs.Examples.{answer, answer_dialect, echo, echo_module, same_places, pair_of, sums, sums_module, sums_func, sums_dialect, sum_of, swap_module, swap_dialect, branched, tested, gave, lacking_module, lacking_dialect, lacking, lacking_func};
+ghost use Rattle.meaning.specs.Examples.{answer, answer_dialect, echo_module, same_places, pair_of, sums, sums_module, sums_func, sums_dialect, wraps, no_signed, sum_of, swap_module, swap_dialect, branched, tested, gave, lacking_module, lacking_dialect, lacking, lacking_func};
 ghost use Rattle.meaning.specs.WovenExamples.{late, late_module, late_func, late_dialect, plus, plus_one, mixed_func, mixed_dialect};
 
 /// `define i32 @f() { ret i32 7 }`, its symbol, its trace on both sides, and that the two have the same code.
 pub fn answer_means()
     ensures symbols { llvm.symbols_of answer ≡ (codes "f", FunctionSymbol (FunctionType (IntType 32) NoTypes false) External 0 true) ∷ [] }
     ensures dialect_symbols { dialect.symbols_of answer_dialect ≡ llvm.symbols_of answer }
-    ensures trace { llvm.traces_of answer (2 ∷ []) ≡ (Entered 0 ∷ Event Ret [] VoidType (IntType 32 ∷ []) (Int 32 7 ∷ []) ∷ []) ∷ [] }
+    ensures trace { llvm.traces_of answer (2 ∷ []) ≡ (Entered 0 ∷ gave 32 (Int 32 7) ∷ []) ∷ [] }
     ensures dialect_trace { dialect.traces_of answer_dialect (2 ∷ []) ≡ llvm.traces_of answer (2 ∷ []) }
     ensures same { SameCode same_places (llvm.code_of answer) (dialect.code_of answer_dialect) }
 {}
 
 /// A parameter is its term, and an insertion replaces the element at the end of its path or stands as it is.
 pub fn echo_and_put()
-    ensures parameter { llvm.traces_of echo_module [] ≡ (Entered 0 ∷ Event Ret [] VoidType (IntType 8 ∷ []) (Param 0 ∷ []) ∷ []) ∷ [] }
+    ensures parameter { llvm.traces_of echo_module [] ≡ (Entered 0 ∷ gave 8 (Param 0) ∷ []) ∷ [] }
     ensures replaced { put (pair_of (Int 8 1) (Int 8 2)) ((VoidType, 1) ∷ []) (Int 8 9) ≡ pair_of (Int 8 1) (Int 8 9) }
     ensures deep { put (pair_of Unset (pair_of (Int 8 1) Unset)) ((VoidType, 1) ∷ (VoidType, 0) ∷ []) (Int 8 9) ≡ pair_of Unset (pair_of (Int 8 9) Unset) }
     ensures past_the_end { put (pair_of Unset Unset) ((VoidType, 2) ∷ []) (Int 8 9) ≡ Insert VoidType (pair_of Unset Unset) (Places (2 ∷ [])) (Int 8 9) }
@@ -32,9 +32,9 @@ pub fn echo_and_put()
 {}
 
 /// `define i32 @g(i32 %a, i32 %b) { %s = add nsw i32 %a, %b ; %t = add i32 %s, 5 ; ret i32 %t }`,
-/// its trace on both sides, the flags as `nsw` and then `nuw`, and that the one stands for the other.
+/// its trace on both sides, and that the one stands for the other.
 pub fn sums_mean()
-    ensures trace { llvm.traces_of sums_module [] ≡ (Entered 0 ∷ Event Ret [] VoidType (IntType 32 ∷ []) (sum_of (Flag false ∷ Flag false ∷ []) (sum_of (Flag true ∷ Flag false ∷ []) (Param 0) (Param 1)) (Int 32 5) ∷ []) ∷ []) ∷ [] }
+    ensures trace { llvm.traces_of sums_module [] ≡ (Entered 0 ∷ gave 32 (sum_of wraps (sum_of no_signed (Param 0) (Param 1)) (Int 32 5)) ∷ []) ∷ [] }
     ensures dialect_trace { dialect.traces_of sums_dialect [] ≡ llvm.traces_of sums_module [] }
     ensures shape { SameShape same_places sums_module sums sums_func }
 {}

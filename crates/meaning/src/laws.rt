@@ -21,7 +21,7 @@ ghost use Rattle.meaning.specs.Dialect.{same_value};
 ghost use Rattle.meaning.specs.Dialect.{predicate_of};
 ghost use Rattle.dialect_core.specs.declared.ops.Value.{Value};
 ghost use Rattle.dialect_core.specs.declared.predicates.ICmpPredicateAttr.{ICmpPredicateAttr};
-ghost use Rattle.llvm_core.specs.declared.code.LLVMIntPredicate.{LLVMIntPredicate};
+ghost use Rattle.kinds.specs.declared.op.LLVMIntPredicate.{LLVMIntPredicate};
 
 /// Modules whose entries match one by one, under one name each and no name twice, have the same code.
 pub fn same_code_law()

@@ -11,12 +11,12 @@ use Rattle.llvm_core.specs.Data.{ModuleData, data_of}
 use Rattle.llvm_core.proofs.DistinctLaws.{distinct_of_checked, few_of_checked}
 use Rattle.dialect_types.specs.Names.{legal_name}
 use Rattle.dialect_core.specs.Data as D
-use Rattle.dialect_core.specs.Data.{IsTyped}
 use Rattle.ll_text.specs.Spelling.{Spells, IsNumbered, IsReadable}
 use Rattle.ll_text.proofs.MeaningLaws.{plain_bare}
 use Rattle.ll_print.specs.Printing.{IsBareOrNone}
 use Rattle.from_llvm_ir.specs.declared.matching.FunctionBlocks.{FunctionBlocks}
 use Rattle.from_llvm_ir.specs.Imported.{AreImported, NoneImported, ThenImported}
+use Rattle.to_llvm_ir.specs.Held.{IsReadable as IsExportable}
 use Rattle.transfer.specs.declared.transferred.Transferred.{Transferred}
 use Rattle.transfer.specs.Same.{SameThroughout, IsCause, back_of, dialect_of}
 use Rattle.transfer.specs.declared.transfer_err.TransferErr.{TransferErr}
@@ -48,12 +48,11 @@ all_named m d [] (x ∷ xs) gs small h = elim h [ ]
 all_named m d (f ∷ fs) [] gs small h = elim h [ ]
 all_named m d (f ∷ fs) (x ∷ xs) [] small h = elim h [ ]
 
-pub printable : (m : Module) (t : Transferred) → IsPlainOrNone m.name → SameThroughout (data_of m) t → IsChecked t.back → IsModule t.back → IsForm (data_of t.back) → t.dialect.0.0 < length t.ctx.ops → IsTyped t.ctx → IsPrintable m t
-printable m t plain same checked sound form there typed =
+pub printable : (m : Module) (t : Transferred) → IsPlainOrNone m.name → SameThroughout (data_of m) t → IsChecked t.back → IsModule t.back → IsForm (data_of t.back) → IsExportable t.ctx t.dialect.0.0 → IsPrintable m t
+printable m t plain same checked sound form readable =
     let name : (back_of t).name ≡ legal_name m.name = same.back_name ∙ same.name in
     record {
-      there = there;
-      typed = typed;
+      readable = readable;
       form = form;
       name = subst IsBareOrNone (sym name) (bare_legal m.name plain);
       named = subst (λ (n : List ℕ). n ≢ []) (sym name) (legal_named m.name);
@@ -66,10 +65,10 @@ printable m t plain same checked sound form there typed =
 
 pub rounds_of : (input : List ℕ) (m : Module) (t boxed : Transferred) (text : List ℕ) → boxed ≡ t → IsModule m → IsChecked m → IsNumbered (data_of m) → IsForm (data_of m) → IsPlainOrNone m.name
     → Spells input (data_of m)
-    → SameThroughout (data_of m) t → IsChecked t.back → IsOutput (data_of m) t text → Rounds input boxed text
-rounds_of input m t boxed text is sound checked numbered form name spelled same back output =
+    → SameThroughout (data_of m) t → IsChecked t.back → IsExportable t.ctx t.dialect.0.0 → t.structs.items ≡ [] → IsOutput (data_of m) t text → Rounds input boxed text
+rounds_of input m t boxed text is sound checked numbered form name spelled same back readable structs output =
     subst (λ (u : Transferred). Rounds input u text) (sym is)
-    (record { source = m; sound = sound; checked = checked; numbered = numbered; form = form; name = name; spelled = spelled; same = same; back_checked = back; output = output })
+    (record { source = m; sound = sound; checked = checked; numbered = numbered; form = form; name = name; spelled = spelled; same = same; back_checked = back; readable = readable; structs = structs; output = output })
 
 -- ---- refusals
 

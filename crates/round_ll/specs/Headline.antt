@@ -1,5 +1,5 @@
 -- What `round` has done where it ends with status 0.
-use Rattle.std.specs.Prelude.{ℕ, ◌≡◌, List, ◌++◌, codes}
+use Rattle.std.specs.Prelude.{ℕ, ◌≡◌, List, [], ◌++◌, codes}
 use Rattle.llvm_core.specs.Module.{Module}
 use Rattle.llvm_core.specs.Sound.{IsModule}
 use Rattle.llvm_core.specs.Names.{IsPlainOrNone}
@@ -11,6 +11,7 @@ use Rattle.dialect_core.specs.Text.{module_text}
 use Rattle.ll_text.specs.Spelling.{Spells, IsNumbered}
 use Rattle.ll_print.specs.Printing.{EndsLine}
 use Rattle.ll_print.specs.Printing.{module_text as printed_text}
+use Rattle.to_llvm_ir.specs.Held.{IsReadable}
 use Rattle.transfer.specs.declared.transferred.Transferred.{Transferred}
 use Rattle.transfer.specs.Same.{SameThroughout, dialect_of, back_of}
 use Rattle.round_ll.specs.Report.{report_text}
@@ -36,4 +37,8 @@ pub record Rounds (input : List ℕ) (t : Transferred) (text : List ℕ) : Type 
   pub spelled : Spells input (L.data_of source)
   pub same : SameThroughout (L.data_of source) t
   pub back_checked : IsChecked t.back
+  -- the dialect module stands in its context as a caller needs it, to print, check or export it once more
+  pub readable : IsReadable t.ctx t.dialect.0.0
+  -- no identified struct is held yet, so none is matched
+  pub structs : t.structs.items ≡ []
   pub output : IsOutput (L.data_of source) t text

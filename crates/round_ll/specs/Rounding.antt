@@ -3,7 +3,7 @@ use Rattle.std.specs.Prelude.{◌≢◌, ◌<◌, ℕ, List, [], length}
 use Rattle.llvm_core.specs.Module.{Module}
 use Rattle.llvm_core.specs.Form.{IsForm, HasDistinctNames, HasFew}
 use Rattle.llvm_core.specs.Data.{data_of}
-use Rattle.dialect_core.specs.Data.{IsTyped}
+use Rattle.to_llvm_ir.specs.Held.{IsReadable as IsExportable}
 use Rattle.ll_print.specs.Printing.{IsBareOrNone}
 use Rattle.transfer.specs.declared.transferred.Transferred.{Transferred}
 use Rattle.transfer.specs.declared.transfer_err.TransferErr.{TransferErr}
@@ -18,8 +18,7 @@ use Rattle.round_ll.specs.Report.{AllNamed}
 
 -- the dialect module is there, the module back is of the form with a name, and the match names functions of the source
 pub record IsPrintable (source : Module) (t : Transferred) : Type 0 where
-  pub there : t.dialect.0.0 < length t.ctx.ops
-  pub typed : IsTyped t.ctx
+  pub readable : IsExportable t.ctx t.dialect.0.0
   pub form : IsForm (back_of t)
   pub name : IsBareOrNone (back_of t).name
   pub named : (back_of t).name ≢ []

@@ -9,7 +9,6 @@ use Rattle.llvm_core.specs.declared.numbers.LLVMType.{LLVMType}
 use Rattle.llvm_core.specs.declared.numbers.LLVMBasicBlock.{LLVMBasicBlock}
 use Rattle.llvm_core.specs.declared.numbers.LLVMInstRef.{LLVMInstRef}
 use Rattle.llvm_core.specs.declared.types.LLVMTypeKind.{LLVMTypeKind}
-use Rattle.llvm_core.specs.declared.types.LLVMTypeKind.TheVariants as T
 use Rattle.llvm_core.specs.declared.types.ResultType.{ResultType}
 use Rattle.llvm_core.specs.declared.types.ResultType.TheVariants as R
 use Rattle.llvm_core.specs.declared.code.LLVMValue.TheVariants as V

@@ -14,9 +14,10 @@ use Rattle.dialect_core.specs.declared.numbers.BlockRef.{BlockRef}
 use Rattle.dialect_core.specs.declared.ops.Value.{Value}
 use Rattle.dialect_core.specs.declared.ops.Value.TheVariants.{Result, Argument}
 use Rattle.dialect_core.specs.declared.ops.Successor.{Successor}
-use Rattle.dialect_core.specs.Data.{DialectOp, DialectBlock, Func, Kind, ConstantOp, AddOp, ICmpOp, BrOp, CondBrOp, ReturnOp, UnreachableOp}
-use Rattle.dialect_core.specs.Form.{IsFormFunc, IsFormKind, IsFormEdge, FitsTarget, edges_of, is_constant, is_constant_kind}
-use Rattle.to_llvm_ir.specs.Made.{Numbers, block_for, operand_for, target_at, instruction_for, inst, insts, phis, block_phis, block_made, blocks_made, passed_to, passed, entry_with, block_passes, entries_from, number_past, number_after, number_behind}
+use Rattle.dialect_core.specs.Data.{DialectOp, DialectBlock, Func, Kind, ConstantOp, RowOp, value_type}
+use Rattle.dialect_core.specs.Rules.{IsEdge, IsOfKind}
+use Rattle.dialect_core.specs.Form.{IsFormFunc, IsShortValue, FitsTarget, edges_of, is_constant, is_constant_kind}
+use Rattle.to_llvm_ir.specs.Made.{Numbers, block_for, operand_for, instruction_for, inst, insts, phis, block_phis, block_made, blocks_made, passed_to, passed, entry_with, block_passes, entries_from, number_past, number_after, number_behind}
 use Rattle.to_llvm_ir.specs.Links.{HasTarget}
 use Rattle.to_llvm_ir.proofs.ListLaws.{AreNumbered, all_at}
 use Rattle.to_llvm_ir.proofs.LookupLaws.{op_form}
@@ -62,66 +63,30 @@ module _ (g : Func) (n : Numbers) where
   abbrev pub target_for : Successor → ℕ
   target_for s = block_for g n s.block.0
 
-  one_target : (ss : List Successor) → length ss ≡ 1 → target_at g n ss 0 ∷ [] ≡ map target_for ss
-  one_target [] e = absurd (omega (arith, e))
-  one_target (s ∷ []) e = refl
-  one_target (s ∷ (t ∷ ss)) e = absurd (omega (arith, e))
-
-  two_targets : (ss : List Successor) → length ss ≡ 2 → target_at g n ss 0 ∷ target_at g n ss 1 ∷ [] ≡ map target_for ss
-  two_targets [] e = absurd (omega (arith, e))
-  two_targets (s ∷ []) e = absurd (omega (arith, e))
-  two_targets (s ∷ (t ∷ [])) e = refl
-  two_targets (s ∷ (t ∷ (u ∷ ss))) e = absurd (omega (arith, e))
-
-  no_target : (ss : List Successor) → length ss ≡ 0 → [] ≡ map target_for ss
-  no_target [] e = refl
-  no_target (s ∷ ss) e = absurd (omega (arith, e))
-
-  no_targets : (ss : List Successor) → ss ≡ [] → [] ≡ map target_for ss
-  no_targets ss e = sym (ap (map target_for) e)
-
   -- an instruction leads where the operation does
-  pub op_targets : (o : DialectOp) (k : Kind) → IsFormKind g o k → targets (instruction_for g n k o.operands o.successors) ≡ map target_for o.successors
-  op_targets o (ConstantOp (IntegerAttr t v)) h = no_targets o.successors h.3
-  op_targets o (AddOp flags) h = no_targets o.successors h.4
-  op_targets o (ICmpOp predicate) h = no_targets o.successors h.4
-  op_targets o BrOp h = one_target o.successors h.1.count_is
-  op_targets o CondBrOp h = two_targets o.successors h.3.count_is
-  op_targets o ReturnOp h = no_target o.successors h.1.count_is
-  op_targets o UnreachableOp h = no_target o.successors h.1.count_is
+  pub op_targets : (k : Kind) (vs : List Value) (own : Option TypeTree) (ss : List Successor) → IsOfKind (value_type g) g vs own ss k → targets (instruction_for g n k own vs ss) ≡ map target_for ss
+  op_targets (ConstantOp (IntegerAttr t v)) vs own ss h = sym (ap (map target_for) h.ends_here)
+  op_targets (RowOp op) vs own ss h = refl
 
-  pub constant_ends : (o : DialectOp) (k : Kind) → is_constant_kind k ≡ true → IsFormKind g o k → o.successors ≡ []
-  constant_ends o (ConstantOp (IntegerAttr t v)) e h = h.3
-  constant_ends o (AddOp flags) e h = cc
-  constant_ends o (ICmpOp predicate) e h = cc
-  constant_ends o BrOp e h = cc
-  constant_ends o CondBrOp e h = cc
-  constant_ends o ReturnOp e h = cc
-  constant_ends o UnreachableOp e h = cc
+  pub constant_ends : (k : Kind) (vs : List Value) (own : Option TypeTree) (ss : List Successor) → is_constant_kind k ≡ true → IsOfKind (value_type g) g vs own ss k → ss ≡ []
+  constant_ends (ConstantOp (IntegerAttr t v)) vs own ss e h = h.ends_here
+  constant_ends (RowOp op) vs own ss e h = cc
 
-  none_form : (o : DialectOp) → o.successors ≡ [] → All (IsFormEdge g) o.successors
-  none_form o e = subst (All (IsFormEdge g)) (sym e) (all_from (IsFormEdge g) [] (λ i s at. absurd (none-some s at)))
-
-  pub op_edges : (o : DialectOp) (k : Kind) → IsFormKind g o k → All (IsFormEdge g) o.successors
-  op_edges o (ConstantOp (IntegerAttr t v)) h = none_form o h.3
-  op_edges o (AddOp flags) h = none_form o h.4
-  op_edges o (ICmpOp predicate) h = none_form o h.4
-  op_edges o BrOp h = h.1.edges
-  op_edges o CondBrOp h = h.3.edges
-  op_edges o ReturnOp h = h.1.edges
-  op_edges o UnreachableOp h = h.1.edges
+  pub op_edges : (k : Kind) (vs : List Value) (own : Option TypeTree) (ss : List Successor) → IsOfKind (value_type g) g vs own ss k → All (IsEdge (value_type g) g) ss
+  op_edges (ConstantOp (IntegerAttr t v)) vs own ss h = subst (All (IsEdge (value_type g) g)) (sym h.ends_here) (all_from (IsEdge (value_type g) g) [] (λ i s at. absurd (none-some s at)))
+  op_edges (RowOp op) vs own ss h = h.leads.1
 
   abbrev pub leads : Placed → List ℕ
   leads p = targets p.instruction
 
-  pub insts_lead : (k : ℕ) (os : List DialectOp) → ((i : ℕ) (o : DialectOp) → slice_get os i ≡ Some o → IsFormKind g o o.kind) → flat_map leads (insts g n k os) ≡ map target_for (flat_map (λ (o : DialectOp). o.successors) os)
+  pub insts_lead : (k : ℕ) (os : List DialectOp) → ((i : ℕ) (o : DialectOp) → slice_get os i ≡ Some o → IsOfKind (value_type g) g o.operands o.result o.successors o.kind) → flat_map leads (insts g n k os) ≡ map target_for (flat_map (λ (o : DialectOp). o.successors) os)
   insts_lead k [] h = refl
   insts_lead k (o ∷ os) h = by (is_constant o) refl (insts_lead (number_after o.result k) os (λ i x at. h (suc i) x at)) ∙ sym (map-append target_for o.successors (flat_map (λ (o : DialectOp). o.successors) os))
     where
       by : (t : Bool) → is_constant o ≡ t → flat_map leads (insts g n (number_after o.result k) os) ≡ map target_for (flat_map (λ (o : DialectOp). o.successors) os)
           → flat_map leads (if t then insts g n (number_after o.result k) os else inst g n k o ∷ insts g n (number_after o.result k) os) ≡ map target_for o.successors ++ map target_for (flat_map (λ (o : DialectOp). o.successors) os)
-      by true e r = r ∙ ap (λ (ss : List Successor). map target_for ss ++ map target_for (flat_map (λ (o : DialectOp). o.successors) os)) (sym (constant_ends o o.kind e (h 0 o refl)))
-      by false e r = ap (λ (ts : List ℕ). targets (instruction_for g n o.kind o.operands o.successors) ++ ts) r ∙ ap (λ (ts : List ℕ). ts ++ map target_for (flat_map (λ (o : DialectOp). o.successors) os)) (op_targets o o.kind (h 0 o refl))
+      by true e r = r ∙ ap (λ (ss : List Successor). map target_for ss ++ map target_for (flat_map (λ (o : DialectOp). o.successors) os)) (sym (constant_ends o.kind o.operands o.result o.successors e (h 0 o refl)))
+      by false e r = ap (λ (ts : List ℕ). targets (instruction_for g n o.kind o.result o.operands o.successors) ++ ts) r ∙ ap (λ (ts : List ℕ). ts ++ map target_for (flat_map (λ (o : DialectOp). o.successors) os)) (op_targets o.kind o.operands o.result o.successors (h 0 o refl))
 
   phis_lead : (given : Value → List (Operand × ℕ)) (b i k : ℕ) (ts : List TypeTree) → flat_map leads (phis g n given b i k ts) ≡ []
   phis_lead given b i k [] = refl
@@ -151,10 +116,14 @@ edge_among [] i l o s at at' = absurd (none-some o at)
 edge_among (x ∷ os) zero l o s at at' = (l, slice_get-kept x.successors (flat_map (λ (o : DialectOp). o.successors) os) l s (ap (λ (y : DialectOp). slice_get y.successors l) (same_Some x o at) ∙ at'))
 edge_among (x ∷ os) (suc i) l o s at at' = let r = edge_among os i l o s at at' in (length x.successors + r.0, slice_get-behind x.successors (flat_map (λ (o : DialectOp). o.successors) os) r.0 ∙ r.1)
 
-pub edge_form : (g : Func) (form : IsFormFunc g) (n : Numbers) (j i : ℕ) (c : DialectBlock) (s : Successor) → slice_get g.blocks j ≡ Some c → slice_get (edges_of c) i ≡ Some s → IsFormEdge g s
-edge_form g form n j i c s at at' = let r = edge_from c.ops i s at' in all_at (IsFormEdge g) r.1.successors r.2 s (op_edges g n r.1 r.1.kind (op_form g form j r.0 c r.1 at r.3).kind) r.4
+pub edge_form : (g : Func) (form : IsFormFunc g) (n : Numbers) (j i : ℕ) (c : DialectBlock) (s : Successor) → slice_get g.blocks j ≡ Some c → slice_get (edges_of c) i ≡ Some s → IsEdge (value_type g) g s
+edge_form g form n j i c s at at' = let r = edge_from c.ops i s at' in all_at (IsEdge (value_type g) g) r.1.successors r.2 s (op_edges g n r.1.kind r.1.operands r.1.result r.1.successors (op_form g form j r.0 c r.1 at r.3).kind) r.4
 
-pub edge_target : (g : Func) (s : Successor) → IsFormEdge g s → FitsTarget g s → HasTarget g s
+-- the values that an edge of an operation passes are of 1 to 64 bits
+pub edge_short : (g : Func) (form : IsFormFunc g) (j i : ℕ) (c : DialectBlock) (s : Successor) → slice_get g.blocks j ≡ Some c → slice_get (edges_of c) i ≡ Some s → All (IsShortValue g) s.args
+edge_short g form j i c s at at' = let r = edge_from c.ops i s at' in all_at (λ (s : Successor). All (IsShortValue g) s.args) r.1.successors r.2 s (op_form g form j r.0 c r.1 at r.3).passed r.4
+
+pub edge_target : (g : Func) (s : Successor) → IsEdge (value_type g) g s → FitsTarget g s → HasTarget g s
 edge_target g s form fits = by fits.0 fits.2
   where
     by : (i : ℕ) → slice_get g.blocks i ≡ Some fits.1 → HasTarget g s

@@ -1,67 +1,46 @@
 -- The lists of the function that is made are short.
 use Rattle.std.proofs.Common.{◌≡◌, ◌<◌, ◌≤◌, ◌^◌, ◌+◌, ◌*◌, ℕ, zero, suc, Bool, true, false, nat_eq, if◌then◌else◌, List, [], ◌∷◌, ◌++◌, Option, Some, None, All, length, take, slice_get, refl, ap, ◌∙◌, arith, length-append}
 use Rattle.std.specs.List.{flat_map}
-use Rattle.std.specs.Option.{option_map, option_map_or}
+use Rattle.std.specs.Option.{option_map_or}
 use Rattle.std.proofs.lemmas.List.{length-map, append-nil}
 use Rattle.std.proofs.lemmas.List.Concat.{flat_map-append}
-use Rattle.std.proofs.lemmas.List.Elements.{All-nil, All-cons, All-head, All-tail, All-append}
+use Rattle.std.proofs.lemmas.List.Elements.{All-nil, All-cons, All-append}
 use Rattle.support.proofs.ListLaws.{slice_get-kept, slice_get-push, all_from}
-use Rattle.llvm_core.specs.Data as L
-use Rattle.llvm_core.specs.Data.{Operand, Placed, Block, Function}
+use Rattle.llvm_core.specs.Data.{Operand, Placed, Block}
 use Rattle.llvm_core.specs.Form.{IsFewIn, operands_of}
-use Rattle.dialect_types.specs.Trees.{TypeTree, IntegerAttr}
+use Rattle.dialect_types.specs.Trees.{TypeTree}
 use Rattle.block_order.specs.Order.{IsOrder}
 use Rattle.dialect_core.specs.declared.numbers.BlockRef.{BlockRef}
 use Rattle.dialect_core.specs.declared.ops.Value.{Value}
 use Rattle.dialect_core.specs.declared.ops.Value.TheVariants.{Result, Argument}
 use Rattle.dialect_core.specs.declared.ops.Successor.{Successor}
-use Rattle.dialect_core.specs.Data.{DialectOp, DialectBlock, Func, Kind, ConstantOp, AddOp, ICmpOp, BrOp, CondBrOp, ReturnOp, UnreachableOp}
-use Rattle.dialect_core.specs.Form.{IsFormFunc, IsFormKind, is_constant, is_terminator, is_terminator_kind, edges_of}
+use Rattle.dialect_core.specs.Data.{DialectOp, DialectBlock, Func, Kind, ConstantOp, RowOp, value_type}
+use Rattle.kinds.specs.Table.{rule_of}
+use Rattle.dialect_core.specs.Rules.{IsOfKind, returns_void}
+use Rattle.dialect_core.specs.Form.{IsFormFunc, is_constant, edges_of}
 use Rattle.to_llvm_ir.specs.Made.{Numbers, operand_for, instruction_for, inst, insts, phis, block_phis, block_made, blocks_made, function_made, passed_to, passed, entry_with, block_passes, entries_from, entries, number_past, number_after, number_behind}
 use Rattle.to_llvm_ir.specs.Accepted.{IsAccepted}
 use Rattle.to_llvm_ir.proofs.LookupLaws.{block_form, op_form, entry_at}
 use Rattle.to_llvm_ir.proofs.PlacedLaws.{params_count}
 use Rattle.to_llvm_ir.proofs.EdgeLaws.{made_from, blocks_count}
+use Rattle.to_llvm_ir.proofs.SuccessorLaws.{all_edges, few, silent_ops}
+use Rattle.to_llvm_ir.proofs.TableLaws.{takes_few}
 
 -- ---- edges
-
-few_targets : (g : Func) (o : DialectOp) (k : Kind) → IsFormKind g o k → length o.successors ≤ 2
-few_targets g o (ConstantOp (IntegerAttr t v)) h = let e = ap (λ (ss : List Successor). length ss) h.3 in omega (arith, e)
-few_targets g o (AddOp flags) h = let e = ap (λ (ss : List Successor). length ss) h.4 in omega (arith, e)
-few_targets g o (ICmpOp predicate) h = let e = ap (λ (ss : List Successor). length ss) h.4 in omega (arith, e)
-few_targets g o BrOp h = let e = h.1.count_is in omega (arith, e)
-few_targets g o CondBrOp h = let e = h.3.count_is in omega (arith, e)
-few_targets g o ReturnOp h = let e = h.1.count_is in omega (arith, e)
-few_targets g o UnreachableOp h = let e = h.1.count_is in omega (arith, e)
-
-no_targets : (g : Func) (o : DialectOp) (k : Kind) → IsFormKind g o k → is_terminator_kind k ≡ false → o.successors ≡ []
-no_targets g o (ConstantOp (IntegerAttr t v)) h e = h.3
-no_targets g o (AddOp flags) h e = h.4
-no_targets g o (ICmpOp predicate) h e = h.4
-no_targets g o BrOp h e = cc
-no_targets g o CondBrOp h e = cc
-no_targets g o ReturnOp h e = cc
-no_targets g o UnreachableOp h e = cc
-
-pub open_edges : (g : Func) (os : List DialectOp) → ((i : ℕ) (o : DialectOp) → slice_get os i ≡ Some o → IsFormKind g o o.kind) → All (λ (o : DialectOp). is_terminator o ≡ false) os → flat_map (λ (o : DialectOp). o.successors) os ≡ []
-open_edges g [] h k = refl
-open_edges g (o ∷ os) h k =
-    let e = no_targets g o o.kind (h 0 o refl) (All-head (λ (o : DialectOp). is_terminator o ≡ false) o os k) in
-    ap (λ (ss : List Successor). ss ++ flat_map (λ (o : DialectOp). o.successors) os) e ∙ open_edges g os (λ i x at. h (suc i) x at) (All-tail (λ (o : DialectOp). is_terminator o ≡ false) o os k)
 
 -- the edges of a block are those of its last operation
 pub edges_are : (g : Func) (form : IsFormFunc g) (j : ℕ) (c : DialectBlock) → (at : slice_get g.blocks j ≡ Some c) → edges_of c ≡ (block_form g form j c at).ends.last.successors
 edges_are g form j c at =
     let e = (block_form g form j c at).ends in
-    ap (flat_map (λ (o : DialectOp). o.successors)) e.are ∙ flat_map-append (λ (o : DialectOp). o.successors) e.front (e.last ∷ [])
+    ap all_edges e.are ∙ flat_map-append (λ (o : DialectOp). o.successors) e.front (e.last ∷ [])
     ∙ ap (λ (ss : List Successor). ss ++ flat_map (λ (o : DialectOp). o.successors) (e.last ∷ []))
-    (open_edges g e.front (λ i o at'. (op_form g form j i c o at (ap (λ (os : List DialectOp). slice_get os i) e.are ∙ slice_get-kept e.front (e.last ∷ []) i o at')).kind) e.before)
+    (silent_ops g e.front e.before (λ i o at'. (op_form g form j i c o at (ap (λ (os : List DialectOp). slice_get os i) e.are ∙ slice_get-kept e.front (e.last ∷ []) i o at')).kind))
     ∙ append-nil e.last.successors
 
 few_edges : (g : Func) (form : IsFormFunc g) (j : ℕ) (c : DialectBlock) → slice_get g.blocks j ≡ Some c → length (edges_of c) ≤ 2
 few_edges g form j c at =
     let e = (block_form g form j c at).ends in
-    let l = few_targets g e.last e.last.kind (op_form g form j (length e.front) c e.last at (ap (λ (os : List DialectOp). slice_get os (length e.front)) e.are ∙ slice_get-push e.front e.last (length e.front) refl)).kind in
+    let l = few g e.last.operands e.last.result e.last.successors e.last.kind (op_form g form j (length e.front) c e.last at (ap (λ (os : List DialectOp). slice_get os (length e.front)) e.are ∙ slice_get-push e.front e.last (length e.front) refl)).kind in
     let same = ap (λ (ss : List Successor). length ss) (edges_are g form j c at) in
     omega (arith, l, same)
 
@@ -118,29 +97,20 @@ module _ (g : Func) (n : Numbers) where
 
   -- ---- operands
 
-  few_returned : (o : Option Value) → length (operands_of (L.Return (option_map (operand_for g n) o))) < 2 ^ 31
-  few_returned None = omega arith
-  few_returned (Some v) = omega arith
-
-  few_operands : (k : Kind) (vs : List Value) (ss : List Successor) → length (operands_of (instruction_for g n k vs ss)) < 2 ^ 31
-  few_operands (ConstantOp value) vs ss = omega arith
-  few_operands (AddOp flags) vs ss = omega arith
-  few_operands (ICmpOp predicate) vs ss = omega arith
-  few_operands BrOp vs ss = omega arith
-  few_operands CondBrOp vs ss = omega arith
-  few_operands ReturnOp vs ss = few_returned (slice_get vs 0)
-  few_operands UnreachableOp vs ss = omega arith
+  few_operands : (k : Kind) (vs : List Value) (own : Option TypeTree) (ss : List Successor) → IsOfKind (value_type g) g vs own ss k → length (operands_of (instruction_for g n k own vs ss)) < 2 ^ 31
+  few_operands (ConstantOp value) vs own ss h = omega arith
+  few_operands (RowOp op) vs own ss h = let e = length-map vs (operand_for g n) in let c = h.count in let f = takes_few (rule_of op).takes (returns_void g) in omega (arith, e, c, f)
 
   abbrev IsFewOf : Placed → Type 0
   IsFewOf p = length (operands_of p.instruction) < 2 ^ 31
 
-  insts_few : (k : ℕ) (os : List DialectOp) → All IsFewOf (insts g n k os)
-  insts_few k [] = All-nil IsFewOf
-  insts_few k (o ∷ os) = by (is_constant o) (insts_few (number_after o.result k) os)
+  insts_few : (k : ℕ) (os : List DialectOp) → ((i : ℕ) (o : DialectOp) → slice_get os i ≡ Some o → IsOfKind (value_type g) g o.operands o.result o.successors o.kind) → All IsFewOf (insts g n k os)
+  insts_few k [] h = All-nil IsFewOf
+  insts_few k (o ∷ os) h = by (is_constant o) (insts_few (number_after o.result k) os (λ i x at. h (suc i) x at))
     where
       by : (t : Bool) → All IsFewOf (insts g n (number_after o.result k) os) → All IsFewOf (if t then insts g n (number_after o.result k) os else inst g n k o ∷ insts g n (number_after o.result k) os)
       by true r = r
-      by false r = All-cons IsFewOf (inst g n k o) (insts g n (number_after o.result k) os) (few_operands o.kind o.operands o.successors) r
+      by false r = All-cons IsFewOf (inst g n k o) (insts g n (number_after o.result k) os) (few_operands o.kind o.operands o.result o.successors (h 0 o refl)) r
 
   phis_few : (given : Value → List (Operand × ℕ)) → ((v : Value) → length (given v) < 2 ^ 31) → (b i k : ℕ) (ts : List TypeTree) → All IsFewOf (phis g n given b i k ts)
   phis_few given h b i k [] = All-nil IsFewOf
@@ -150,18 +120,19 @@ module _ (g : Func) (n : Numbers) where
       let e = length-map (given v) (λ (e : Operand × ℕ). e.0) in
       All-cons IsFewOf _ (phis g n given b (suc i) (k + 1) ts) (omega (arith, few, e)) (phis_few given h b (suc i) (k + 1) ts)
 
-  block_few : (given : Value → List (Operand × ℕ)) → ((v : Value) → length (given v) < 2 ^ 31) → (p k : ℕ) (c : DialectBlock) → All IsFewOf (block_made g n given p k c).instructions
-  block_few given h p k c = All-append IsFewOf (block_phis g n given p k c) (insts g n (k + length c.args) c.ops) (front p) (insts_few (k + length c.args) c.ops)
+  block_few : (given : Value → List (Operand × ℕ)) → ((v : Value) → length (given v) < 2 ^ 31) → (p k : ℕ) (c : DialectBlock) → ((i : ℕ) (o : DialectOp) → slice_get c.ops i ≡ Some o → IsOfKind (value_type g) g o.operands o.result o.successors o.kind) → All IsFewOf (block_made g n given p k c).instructions
+  block_few given h p k c kinds = All-append IsFewOf (block_phis g n given p k c) (insts g n (k + length c.args) c.ops) (front p) (insts_few (k + length c.args) c.ops kinds)
     where
       front : (p : ℕ) → All IsFewOf (block_phis g n given p k c)
       front zero = All-nil IsFewOf
       front (suc p) = phis_few given h c.number 0 k c.args
 
-  blocks_few : (given : Value → List (Operand × ℕ)) → ((v : Value) → length (given v) < 2 ^ 31) → (p k : ℕ) (cs : List DialectBlock) → All IsFewOf (flat_map (λ (b : Block). b.instructions) (blocks_made g n given p k cs))
-  blocks_few given h p k [] = All-nil IsFewOf
-  blocks_few given h p k (c ∷ cs) =
+  blocks_few : (given : Value → List (Operand × ℕ)) → ((v : Value) → length (given v) < 2 ^ 31) → (p k : ℕ) (cs : List DialectBlock) → ((j i : ℕ) (c : DialectBlock) (o : DialectOp) → slice_get cs j ≡ Some c → slice_get c.ops i ≡ Some o → IsOfKind (value_type g) g o.operands o.result o.successors o.kind)
+      → All IsFewOf (flat_map (λ (b : Block). b.instructions) (blocks_made g n given p k cs))
+  blocks_few given h p k [] kinds = All-nil IsFewOf
+  blocks_few given h p k (c ∷ cs) kinds =
       All-append IsFewOf (block_made g n given p k c).instructions (flat_map (λ (b : Block). b.instructions) (blocks_made g n given (suc p) (number_behind (k + length c.args) c.ops) cs))
-      (block_few given h p k c) (blocks_few given h (suc p) (number_behind (k + length c.args) c.ops) cs)
+      (block_few given h p k c (λ i o at. kinds 0 i c o refl at)) (blocks_few given h (suc p) (number_behind (k + length c.args) c.ops) cs (λ j i d o at at'. kinds (suc j) i d o at at'))
 
   pub made_few : (form : IsFormFunc g) → IsOrder (length g.blocks) n.order → IsAccepted n.order g → IsFewIn (function_made g n (entries g n))
   made_few form order accepted = record {
@@ -178,5 +149,5 @@ module _ (g : Func) (n : Numbers) where
         let few = a.args in
         let few' = a.few in
         omega (arith, len, both, front, rest, few, few'));
-    operands = blocks_few (entries g n) (λ v. let e = few_entries n.order v (λ j c at. few_edges g form j c at) in let few = accepted.few in let count = order.count in omega (arith, e, few, count)) 0 0 g.blocks;
+    operands = blocks_few (entries g n) (λ v. let e = few_entries n.order v (λ j c at. few_edges g form j c at) in let few = accepted.few in let count = order.count in omega (arith, e, few, count)) 0 0 g.blocks (λ j i c o at at'. (op_form g form j i c o at at').kind);
   }

@@ -1,43 +1,49 @@
 -- The function that is made is of the form.
-use Rattle.std.proofs.Common.{◌≡◌, ◌<◌, ◌≤◌, ◌+◌, ◌-◌, ◌^◌, ◌&&◌, ◌||◌, ℕ, zero, suc, Bool, true, false, not, if◌then◌else◌, List, [], ◌∷◌, ◌++◌, Option, Some, None, All, length, map, take, slice_get, refl, sym, ap, subst, ◌∙◌, arith, ⊎_elim}
+use Rattle.std.proofs.Common.{◌≡◌, ◌<◌, ◌≤◌, ◌+◌, ◌-◌, ◌^◌, ◌&&◌, ◌||◌, ℕ, zero, suc, Bool, true, false, not, if◌then◌else◌, List, [], ◌∷◌, ◌++◌, Option, Some, None, All, length, map, take, slice_get, refl, sym, ap, subst, ◌∙◌, arith}
+use Rattle.std.specs.Prelude.{IfSome, unwrap_or}
 use Rattle.std.specs.List.{find, flat_map, list_any}
 use Rattle.std.specs.Option.{option_map, option_map_or}
 use Rattle.std.proofs.lemmas.Option.{same_Some, none-some, slice_get_within, slice_get-map}
 use Rattle.std.proofs.lemmas.Bool.{cond-false, and_from, or_from}
-use Rattle.std.proofs.lemmas.List.{append_assoc, length_push, take_at}
+use Rattle.std.proofs.lemmas.List.{append_assoc, length-map, length_push, take_at}
 use Rattle.std.proofs.lemmas.List.Elements.{All-nil, All-cons, All-head, All-tail, All-append}
+use Rattle.kinds.specs.declared.op.Op.{Op}
+use Rattle.kinds.specs.declared.rules.Takes.{Takes}
+use Rattle.kinds.specs.declared.rules.Takes.TheVariants as T
+use Rattle.kinds.specs.Rules.{operand_count}
+use Rattle.kinds.specs.Table.{rule_of}
 use Rattle.llvm_core.specs.Checked.{ends_in_only}
 use Rattle.llvm_core.specs.Edges.{count_of}
 use Rattle.support.specs.Interned.{IsDistinctList}
 use Rattle.llvm_core.specs.Names.{IsPlainOrNone}
-use Rattle.llvm_core.specs.Data as L
-use Rattle.llvm_core.specs.Data.{Operand, Placed, Block, Function, placed_in}
+use Rattle.llvm_core.specs.Data.{Operand, Placed, Block, Function, placed_in, operand_type}
 use Rattle.llvm_core.specs.Form as F
-use Rattle.llvm_core.specs.Form.{IsFormFunction, IsFormInstruction, IsFormBlock, HasNoResult, IsTarget, is_last}
+use Rattle.llvm_core.specs.Form.{IsFormFunction, IsFormInstruction, IsFormRow, IsFormPlaced, IsFormBlock, IsTarget, is_last}
 use Rattle.support.proofs.ListLaws.{slice_get-push, all_from, item_there}
-use Rattle.dialect_types.specs.Trees.{TypeTree, TypeTrees, VoidType, IntegerType, FuncType, NoTypes, ThenType}
+use Rattle.dialect_types.specs.Trees.{TypeTree, TypeTrees, VoidType, IntType, FunctionType, NoTypes, ThenType}
 use Rattle.block_order.specs.Order.{IsOrder}
 use Rattle.dialect_core.specs.declared.numbers.BlockRef.{BlockRef}
 use Rattle.dialect_core.specs.declared.ops.Value.{Value}
 use Rattle.dialect_core.specs.declared.ops.Value.TheVariants.{Argument}
 use Rattle.dialect_core.specs.declared.ops.Successor.{Successor}
-use Rattle.dialect_core.specs.Data.{DialectOp, DialectBlock, Func, Kind, ConstantOp, AddOp, ICmpOp, BrOp, CondBrOp, ReturnOp, UnreachableOp, value_type}
-use Rattle.dialect_core.specs.Form.{IsFormFunc, IsFormKind, IsShortInt, IsShortResult, HasTargets, result_of, types_list, is_constant, is_constant_kind, is_terminator, is_terminator_kind}
-use Rattle.meaning.specs.Dialect.{type_of, types_of, option_type}
+use Rattle.dialect_core.specs.Data.{DialectOp, DialectBlock, Func, Kind, ConstantOp, RowOp, value_type}
+use Rattle.dialect_core.specs.Rules.{IsOfKind, IsReturning, IsRow, is_void, type_nth}
+use Rattle.dialect_core.specs.Form.{IsFormFunc, IsFormOp, IsShortValue, IsShortInt, IsShortResult, HasTargets, result_of, types_list, is_constant, is_constant_kind, is_terminator, is_terminator_kind}
+use Rattle.meaning.specs.Dialect.{type_of, option_type}
 use Rattle.to_llvm_ir.specs.Order.{turn_of}
 use Rattle.to_llvm_ir.specs.Exported.{blocks_by, block_name, value_name, result_name}
-use Rattle.to_llvm_ir.specs.Made.{Numbers, operand_for, target_at, instruction_for, inst, insts, phis, block_phis, block_made, function_made, entries, number_past, entry_args, number_after, number_behind}
+use Rattle.to_llvm_ir.specs.Made.{Numbers, operand_for, row_for, instruction_for, inst, insts, phis, block_phis, block_made, function_made, entries, number_past, entry_args, number_after, number_behind}
 use Rattle.to_llvm_ir.specs.Accepted.{IsAccepted}
 use Rattle.to_llvm_ir.specs.Links.{HasTarget}
 use Rattle.to_llvm_ir.proofs.ListLaws.{AreNumbered, all_at}
 use Rattle.to_llvm_ir.proofs.NameLaws.{plain_is, bare_plain}
 use Rattle.to_llvm_ir.proofs.TurnLaws.{turn_at, filter_taken}
 use Rattle.to_llvm_ir.proofs.LookupLaws.{argument_type, block_form, op_form, entry_at, place_is}
-use Rattle.to_llvm_ir.proofs.PlacedLaws.{placed_numbered, params_count, operand_form}
+use Rattle.to_llvm_ir.proofs.PlacedLaws.{placed_numbered, params_count, operand_form, operand_typed, short_int}
 use Rattle.to_llvm_ir.proofs.EdgeLaws.{made_at, made_from, made_numbered, target_for, edge_among, edge_form, is_from, first_entry}
 use Rattle.to_llvm_ir.proofs.CountLaws.{sources_count, comes_by}
 use Rattle.to_llvm_ir.proofs.PhiLaws.{insts_no_phi, block_phis_phi, phis_first, has_target, phi_sources, phi_alike}
-use Rattle.to_llvm_ir.proofs.ShapeLaws.{returned}
+use Rattle.to_llvm_ir.proofs.RowLaws.{fits_row, typed_row}
 use Rattle.to_llvm_ir.proofs.EdgeLaws.{blocks_count}
 
 -- ---- numbers of values
@@ -68,19 +74,14 @@ block_past (d ∷ cs) (suc j) k c at = block_past cs j (number_behind (k + lengt
 
 short_result : (t : TypeTree) → IsShortResult t → F.IsShortResult (type_of t)
 short_result VoidType h = h
-short_result (IntegerType w) h = h
-short_result (FuncType r ps v) h = absurd h
+short_result (IntType w) h = h
+short_result (FunctionType r ps v) h = absurd h
 
-to_short : (t : TypeTree) → IsShortInt t → F.IsShortInt (type_of t)
-to_short VoidType h = absurd h
-to_short (IntegerType w) h = h
-to_short (FuncType r ps v) h = absurd h
-
-short_ints : (ts : TypeTrees) → All IsShortInt (types_list ts) → F.AreShortInts (types_of ts)
+short_ints : (ts : TypeTrees) → All IsShortInt (types_list ts) → F.AreShortInts ts
 short_ints NoTypes h = tt
-short_ints (ThenType t ts) h = (to_short t (All-head IsShortInt t (types_list ts) h), short_ints ts (All-tail IsShortInt t (types_list ts) h))
+short_ints (ThenType t ts) h = (short_int t (All-head IsShortInt t (types_list ts) h), short_ints ts (All-tail IsShortInt t (types_list ts) h))
 
-type_count : (ts : TypeTrees) → F.count_types (types_of ts) ≡ length (types_list ts)
+type_count : (ts : TypeTrees) → F.count_types ts ≡ length (types_list ts)
 type_count NoTypes = refl
 type_count (ThenType t ts) = let e = type_count ts in omega (arith, e)
 
@@ -95,6 +96,27 @@ numbers_distinct number xs h i j m at at' = by (slice_get xs i) refl (slice_get 
     by None e q f k l = absurd (none-some m k)
     by (Some a) e None f k l = absurd (none-some m l)
     by (Some a) e (Some b) f k l = h i j a b e f (same_Some (number a) m k ∙ sym (same_Some (number b) m l))
+
+-- ---- results
+
+own_type : (own : Option TypeTree) → option_type own ≡ unwrap_or own VoidType
+own_type None = refl
+own_type (Some t) = refl
+
+own_short : (own : Option TypeTree) → IfSome own IsShortInt → F.IsShortResult (option_type own)
+own_short None h = tt
+own_short (Some VoidType) h = absurd h
+own_short (Some (IntType w)) h = h
+own_short (Some (FunctionType r ps v)) h = absurd h
+
+no_void : (t : TypeTree) → IsShortInt t → t ≡ VoidType → ⊥
+no_void VoidType h e = h
+no_void (IntType w) h e = cc
+no_void (FunctionType r ps v) h e = h
+
+own_unnamed : (name : Option (List ℕ)) (own : Option TypeTree) (k : ℕ) → IfSome own IsShortInt → option_type own ≡ VoidType → result_name name own k ≡ []
+own_unnamed name None k h e = refl
+own_unnamed name (Some t) k h e = absurd (no_void t h e)
 
 -- ---- the last of a list
 
@@ -119,23 +141,13 @@ module _ (g : Func) (form : IsFormFunc g) (n : Numbers) (order : IsOrder (length
 
   -- ---- terminators
 
-  ends_alike : (k : Kind) (vs : List Value) (ss : List Successor) → is_constant_kind k ≡ false → F.is_terminator (instruction_for g n k vs ss) ≡ is_terminator_kind k
-  ends_alike (ConstantOp value) vs ss e = cc
-  ends_alike (AddOp flags) vs ss e = refl
-  ends_alike (ICmpOp predicate) vs ss e = refl
-  ends_alike BrOp vs ss e = refl
-  ends_alike CondBrOp vs ss e = refl
-  ends_alike ReturnOp vs ss e = refl
-  ends_alike UnreachableOp vs ss e = refl
+  ends_alike : (k : Kind) (own : Option TypeTree) (vs : List Value) (ss : List Successor) → F.is_terminator (instruction_for g n k own vs ss) ≡ is_terminator_kind k
+  ends_alike (ConstantOp value) own vs ss = refl
+  ends_alike (RowOp op) own vs ss = refl
 
   terminator_other : (k : Kind) → is_terminator_kind k ≡ true → is_constant_kind k ≡ false
   terminator_other (ConstantOp value) e = cc
-  terminator_other (AddOp flags) e = refl
-  terminator_other (ICmpOp predicate) e = refl
-  terminator_other BrOp e = refl
-  terminator_other CondBrOp e = refl
-  terminator_other ReturnOp e = refl
-  terminator_other UnreachableOp e = refl
+  terminator_other (RowOp op) e = refl
 
   insts_open : (k : ℕ) (os : List DialectOp) → All (λ (o : DialectOp). is_terminator o ≡ false) os → list_any is_last (insts g n k os) ≡ false
   insts_open k [] h = refl
@@ -143,7 +155,7 @@ module _ (g : Func) (form : IsFormFunc g) (n : Numbers) (order : IsOrder (length
     where
       by : (t : Bool) → is_constant o ≡ t → list_any is_last (insts g n (number_after o.result k) os) ≡ false → list_any is_last (if t then insts g n (number_after o.result k) os else inst g n k o ∷ insts g n (number_after o.result k) os) ≡ false
       by true e r = r
-      by false e r = or_from (is_last (inst g n k o)) (list_any is_last (insts g n (number_after o.result k) os)) (ends_alike o.kind o.operands o.successors e ∙ All-head (λ (o : DialectOp). is_terminator o ≡ false) o os h) r
+      by false e r = or_from (is_last (inst g n k o)) (list_any is_last (insts g n (number_after o.result k) os)) (ends_alike o.kind o.result o.operands o.successors ∙ All-head (λ (o : DialectOp). is_terminator o ≡ false) o os h) r
 
   phis_open : (given : Value → List (Operand × ℕ)) (b i k : ℕ) (ts : List TypeTree) → list_any is_last (phis g n given b i k ts) ≡ false
   phis_open given b i k [] = refl
@@ -175,7 +187,7 @@ module _ (g : Func) (form : IsFormFunc g) (n : Numbers) (order : IsOrder (length
       ap (ends_in_only is_last) are
       ∙ ends_last is_last (block_phis g n (entries g n) p k c ++ insts g n m e.front) (inst g n (number_behind m e.front) e.last)
       (any_append is_last (block_phis g n (entries g n) p k c) (insts g n m e.front) (block_phis_open (entries g n) p k c) (insts_open m e.front e.before))
-      (ends_alike e.last.kind e.last.operands e.last.successors other ∙ e.ends)
+      (ends_alike e.last.kind e.last.result e.last.operands e.last.successors ∙ e.ends)
 
   -- ---- targets
 
@@ -190,57 +202,91 @@ module _ (g : Func) (form : IsFormFunc g) (n : Numbers) (order : IsOrder (length
 
   -- ---- instructions
 
-  none_type : (o : DialectOp) → o.result ≡ None → option_type o.result ≡ L.VoidType
-  none_type o e = ap option_type e
+  operands_own : (vs : List Value) → All (IsShortValue g) vs → All (F.IsOperandOf made) (map (operand_for g n) vs)
+  operands_own [] h = All-nil (F.IsOperandOf made)
+  operands_own (v ∷ vs) h =
+      let one = All-head (IsShortValue g) v vs h in
+      All-cons (F.IsOperandOf made) (operand_for g n v) (map (operand_for g n) vs) (operand_form g form n order (entries g n) v one.0 one.1).stands (operands_own vs (All-tail (IsShortValue g) v vs h))
 
-  none_name : (o : DialectOp) (k : ℕ) → o.result ≡ None → result_name o.name o.result k ≡ []
-  none_name o k e = ap (λ (r : Option TypeTree). result_name o.name r k) e
+  operands_short : (vs : List Value) → All (IsShortValue g) vs → All F.IsShortInt (F.types_of made (map (operand_for g n) vs))
+  operands_short [] h = All-nil F.IsShortInt
+  operands_short (v ∷ vs) h =
+      let one = All-head (IsShortValue g) v vs h in
+      let is = operand_form g form n order (entries g n) v one.0 one.1 in
+      All-cons F.IsShortInt (operand_type made (operand_for g n v)) (F.types_of made (map (operand_for g n) vs)) (subst F.IsShortInt (sym is.typed) is.short) (operands_short vs (All-tail (IsShortValue g) v vs h))
 
-  no_result : (o : DialectOp) (k : ℕ) → o.result ≡ None → HasNoResult (inst g n k o)
-  no_result o k e = record { type = none_type o e; name = none_name o k e }
+  operands_typed : (vs : List Value) → All (IsShortValue g) vs → (i : ℕ) → slice_get (F.types_of made (map (operand_for g n) vs)) i ≡ type_nth (value_type g) vs i
+  operands_typed [] h i = refl
+  operands_typed (v ∷ vs) h zero = let one = All-head (IsShortValue g) v vs h in ap Some (operand_typed g form n order (entries g n) v one.0 one.1.typed) ∙ sym one.1.typed
+  operands_typed (v ∷ vs) h (suc i) = operands_typed vs (All-tail (IsShortValue g) v vs h) i
 
-  first_target : (ss : List Successor) (count : ℕ) → length ss ≡ suc count → All (λ (s : Successor). IsTarget made (target_for g n s)) ss → IsTarget made (target_at g n ss 0)
-  first_target [] count e h = absurd (omega (arith, e))
-  first_target (s ∷ ss) count e h = All-head (λ (s : Successor). IsTarget made (target_for g n s)) s ss h
+  operands_counted : (vs : List Value) → length (F.types_of made (map (operand_for g n) vs)) ≡ length vs
+  operands_counted vs = length-map (map (operand_for g n) vs) (operand_type made) ∙ length-map vs (operand_for g n)
 
-  second_target : (ss : List Successor) (count : ℕ) → length ss ≡ suc (suc count) → All (λ (s : Successor). IsTarget made (target_for g n s)) ss → IsTarget made (target_at g n ss 1)
-  second_target [] count e h = absurd (omega (arith, e))
-  second_target (s ∷ []) count e h = absurd (omega (arith, e))
-  second_target (s ∷ (t ∷ ss)) count e h = All-head (λ (s : Successor). IsTarget made (target_for g n s)) t ss (All-tail (λ (s : Successor). IsTarget made (target_for g n s)) s (t ∷ ss) h)
+  targets_form : (ss : List Successor) → All (λ (s : Successor). IsTarget made (target_for g n s)) ss → All (IsTarget made) (map (target_for g n) ss)
+  targets_form [] h = All-nil (IsTarget made)
+  targets_form (s ∷ ss) h =
+      All-cons (IsTarget made) (target_for g n s) (map (target_for g n) ss) (All-head (λ (s : Successor). IsTarget made (target_for g n s)) s ss h) (targets_form ss (All-tail (λ (s : Successor). IsTarget made (target_for g n s)) s ss h))
 
-  result_type : F.result_of made.type ≡ type_of (result_of g.type)
-  result_type = ap (λ (t : TypeTree). F.result_of (type_of t)) form.type ∙ ap (λ (t : TypeTree). type_of (result_of t)) (sym form.type)
+  result_type : F.result_of made.type ≡ result_of g.type
+  result_type = ap F.result_of form.type ∙ ap result_of (sym form.type)
 
-  instruction_form : (b k : ℕ) (o : DialectOp) (kind : Kind) → IsFormKind g o kind → is_constant_kind kind ≡ false → IsPlainOrNone (result_name o.name o.result k) → All (λ (s : Successor). IsTarget made (target_for g n s)) o.successors
-      → IsFormInstruction made b (inst g n k o) (instruction_for g n kind o.operands o.successors)
-  instruction_form b k o (ConstantOp value) h other name targets = cc
-  instruction_form b k o (AddOp flags) h other name targets =
-      let is : type_of h.0 ≡ option_type o.result = sym (ap option_type h.5) in
-      subst (λ (vs : List Value). IsFormInstruction made b (inst g n k o) (instruction_for g n (AddOp flags) vs o.successors)) (sym h.3)
-      (subst (λ (u : L.TypeTree). F.IsOperand made u (operand_for g n h.1)) is (operand_form g form n order (entries g n) h.1 h.0 h.6), subst (λ (u : L.TypeTree). F.IsOperand made u (operand_for g n h.2)) is (operand_form g form n order (entries g n) h.2 h.0 h.7), name)
-  instruction_form b k o (ICmpOp predicate) h other name targets =
-      subst (λ (vs : List Value). IsFormInstruction made b (inst g n k o) (instruction_for g n (ICmpOp predicate) vs o.successors)) (sym h.3)
-      ((type_of h.0, operand_form g form n order (entries g n) h.1 h.0 h.6, operand_form g form n order (entries g n) h.2 h.0 h.7), ap option_type h.5, name)
-  instruction_form b k o BrOp h other name targets = (first_target o.successors 0 h.1.count_is targets, no_result o k h.1.result)
-  instruction_form b k o CondBrOp h other name targets =
-      subst (λ (vs : List Value). IsFormInstruction made b (inst g n k o) (instruction_for g n CondBrOp vs o.successors)) (sym h.1)
-      (operand_form g form n order (entries g n) h.0 (IntegerType 1) h.2, first_target o.successors 1 h.3.count_is targets, second_target o.successors 0 h.3.count_is targets, no_result o k h.3.result)
-  instruction_form b k o ReturnOp h other name targets = ⊎_elim
-      (λ none. subst (λ (vs : List Value). IsFormInstruction made b (inst g n k o) (instruction_for g n ReturnOp vs o.successors)) (sym none.0) (result_type ∙ none.1, no_result o k h.1.result))
-      (λ one. subst (λ (vs : List Value). IsFormInstruction made b (inst g n k o) (instruction_for g n ReturnOp vs o.successors)) (sym one.1)
-      (subst (λ (u : L.TypeTree). F.IsOperand made u (operand_for g n one.0)) (sym result_type) (operand_form g form n order (entries g n) one.0 (result_of g.type) one.2), no_result o k h.1.result))
-      (returned g (result_of g.type) o.operands h.0)
-  instruction_form b k o UnreachableOp h other name targets = no_result o k h.1.result
+  void_same : (t : TypeTree) → F.is_void t ≡ is_void t
+  void_same VoidType = refl
+  void_same (IntType w) = refl
+  void_same (FunctionType r ps v) = refl
+
+  returning : (t : Takes) (vs : List Value) → IsReturning t (value_type g) (result_of g.type) vs → F.IsReturning t made (map (operand_for g n) vs)
+  returning T.Nothing vs h = tt
+  returning (T.One x) vs h = tt
+  returning (T.Two x y) vs h = tt
+  returning (T.Three x y z) vs h = tt
+  returning T.Return vs h = all vs h
+    where
+      all : (us : List Value) → All (λ (v : Value). value_type g v ≡ Some (result_of g.type)) us → All (λ (o : Operand). operand_type made o ≡ F.result_of made.type) (map (operand_for g n) us)
+      all [] k = All-nil (λ (o : Operand). operand_type made o ≡ F.result_of made.type)
+      all (v ∷ us) k =
+          All-cons (λ (o : Operand). operand_type made o ≡ F.result_of made.type) (operand_for g n v) (map (operand_for g n) us)
+          (operand_typed g form n order (entries g n) v (result_of g.type) (All-head (λ (v : Value). value_type g v ≡ Some (result_of g.type)) v us k) ∙ sym result_type)
+          (all us (All-tail (λ (v : Value). value_type g v ≡ Some (result_of g.type)) v us k))
+
+  row_form : (op : Op) (vs : List Value) (own : Option TypeTree) (ss : List Successor) → IsRow (value_type g) g op vs own ss → All (IsShortValue g) vs → All (λ (s : Successor). IsTarget made (target_for g n s)) ss
+      → IsFormRow made (option_type own) (row_for g n op own vs ss)
+  row_form op vs own ss row short targets =
+      let ts = F.types_of made (map (operand_for g n) vs) in
+      record {
+        operands = operands_own vs short;
+        short = operands_short vs short;
+        count = length-map vs (operand_for g n) ∙ row.count ∙ ap (operand_count (rule_of op).takes) (sym (void_same (result_of g.type)) ∙ sym (ap F.is_void result_type));
+        fits = fits_row (value_type g) g op vs own ss row ts (operands_counted vs) (operands_typed vs short);
+        returns = returning (rule_of op).takes vs row.returns;
+        result = own_type own ∙ ap (λ (o : Option TypeTree). unwrap_or o VoidType) (sym (typed_row (value_type g) g op vs own ss row ts (operands_counted vs) (operands_typed vs short)));
+        targets = targets_form ss targets;
+        leads = length-map ss (target_for g n) ∙ row.leads.0;
+      }
+
+  instruction_form : (b : ℕ) (kind : Kind) (vs : List Value) (own : Option TypeTree) (ss : List Successor) → IsOfKind (value_type g) g vs own ss kind → is_constant_kind kind ≡ false → All (IsShortValue g) vs → All (λ (s : Successor). IsTarget made (target_for g n s)) ss
+      → IsFormInstruction made b (option_type own) (instruction_for g n kind own vs ss)
+  instruction_form b (ConstantOp value) vs own ss h other short targets = absurd (let e : true ≡ false = other in cc)
+  instruction_form b (RowOp op) vs own ss h other short targets = row_form op vs own ss h short targets
+
+  placed_form : (b k : ℕ) (o : DialectOp) → IsFormOp g o → is_constant o ≡ false → IsPlainOrNone (result_name o.name o.result k) → All (λ (s : Successor). IsTarget made (target_for g n s)) o.successors → IsFormPlaced made b (inst g n k o)
+  placed_form b k o h other name targets = record {
+    instruction = instruction_form b o.kind o.operands o.result o.successors h.kind other h.operands targets;
+    short = own_short o.result h.result;
+    name = name;
+    unnamed = own_unnamed o.name o.result k h.result;
+  }
 
   insts_form : (b k : ℕ) (os : List DialectOp) → number_behind k os < 2 ^ 64
-      → ((i m : ℕ) (o : DialectOp) → slice_get os i ≡ Some o → is_constant o ≡ false → m < 2 ^ 64 → IsFormInstruction made b (inst g n m o) (inst g n m o).instruction) → All (λ (p : Placed). IsFormInstruction made b p p.instruction) (insts g n k os)
-  insts_form b k [] small h = All-nil (λ (p : Placed). IsFormInstruction made b p p.instruction)
+      → ((i m : ℕ) (o : DialectOp) → slice_get os i ≡ Some o → is_constant o ≡ false → m < 2 ^ 64 → IsFormPlaced made b (inst g n m o)) → All (IsFormPlaced made b) (insts g n k os)
+  insts_form b k [] small h = All-nil (IsFormPlaced made b)
   insts_form b k (o ∷ os) small h = by (is_constant o) refl (insts_form b (number_after o.result k) os small (λ i m x at. h (suc i) m x at))
     where
-      by : (t : Bool) → is_constant o ≡ t → All (λ (p : Placed). IsFormInstruction made b p p.instruction) (insts g n (number_after o.result k) os)
-          → All (λ (p : Placed). IsFormInstruction made b p p.instruction) (if t then insts g n (number_after o.result k) os else inst g n k o ∷ insts g n (number_after o.result k) os)
+      by : (t : Bool) → is_constant o ≡ t → All (IsFormPlaced made b) (insts g n (number_after o.result k) os)
+          → All (IsFormPlaced made b) (if t then insts g n (number_after o.result k) os else inst g n k o ∷ insts g n (number_after o.result k) os)
       by true e r = r
-      by false e r = All-cons (λ (p : Placed). IsFormInstruction made b p p.instruction) (inst g n k o) (insts g n (number_after o.result k) os) (h 0 k o refl e (let l = behind_le k (o ∷ os) in omega (arith, small, l))) r
+      by false e r = All-cons (IsFormPlaced made b) (inst g n k o) (insts g n (number_after o.result k) os) (h 0 k o refl e (let l = behind_le k (o ∷ os) in omega (arith, small, l))) r
 
   module _ (accepted : IsAccepted n.order g) (targets : HasTargets g) (small : number_past 0 g.blocks < 2 ^ 64) where
     op_leads : (j i : ℕ) (c : DialectBlock) (o : DialectOp) → slice_get g.blocks j ≡ Some c → slice_get c.ops i ≡ Some o → All (λ (s : Successor). IsTarget made (target_for g n s)) o.successors
@@ -281,30 +327,35 @@ module _ (g : Func) (form : IsFormFunc g) (n : Numbers) (order : IsOrder (length
     value_plain k lt = bare_plain 118 [] k lt refl refl
 
     phis_form : (t : ℕ) (c : DialectBlock) → slice_get g.blocks (suc t) ≡ Some c → (i k : ℕ) (ts : List TypeTree) → k + length ts < 2 ^ 64 → ((m : ℕ) (ty : TypeTree) → slice_get ts m ≡ Some ty → slice_get c.args (i + m) ≡ Some ty)
-        → All (λ (p : Placed). IsFormInstruction made (n.block + (0 + suc t)) p p.instruction) (phis g n (entries g n) c.number i k ts)
-    phis_form t c at i k [] lt are = All-nil (λ (p : Placed). IsFormInstruction made (n.block + (0 + suc t)) p p.instruction)
+        → All (IsFormPlaced made (n.block + (0 + suc t))) (phis g n (entries g n) c.number i k ts)
+    phis_form t c at i k [] lt are = All-nil (IsFormPlaced made (n.block + (0 + suc t)))
     phis_form t c at i k (ty ∷ ts) lt are =
         let v = Argument (record { 0 = c.number }) i in
         let type : slice_get c.args i ≡ Some ty = ap (slice_get c.args) (let e : i ≡ i + 0 = omega arith in e) ∙ are 0 ty refl in
-        All-cons (λ (p : Placed). IsFormInstruction made (n.block + (0 + suc t)) p p.instruction) _ (phis g n (entries g n) c.number (suc i) (k + 1) ts) (
-          all_from (λ (e : Operand × ℕ). F.IsOperand made (type_of ty) e.0) (entries g n v) (λ l x at'. phi_operand t c i ty at type l x at'),
-          record { counts = phi_counts t c i ty at type; alike = phi_alike g form n order accepted (record { 0 = c.number }) i; some = phi_some t c i ty at type },
-          to_short ty (all_at IsShortInt c.args i ty (block_form g form (suc t) c at).args type),
-          value_plain k (omega (arith, lt)),
-        ) (phis_form t c at (suc i) (k + 1) ts (omega (arith, lt)) (λ m u at'. ap (slice_get c.args) (let e : suc i + m ≡ i + suc m = omega arith in e) ∙ are (suc m) u at'))
+        let short = all_at IsShortInt c.args i ty (block_form g form (suc t) c at).args type in
+        All-cons (IsFormPlaced made (n.block + (0 + suc t))) _ (phis g n (entries g n) c.number (suc i) (k + 1) ts) (record {
+          instruction = (
+            all_from (λ (e : Operand × ℕ). F.IsOperand made (type_of ty) e.0) (entries g n v) (λ l x at'. phi_operand t c i ty at type l x at'),
+            record { counts = phi_counts t c i ty at type; alike = phi_alike g form n order accepted (record { 0 = c.number }) i; some = phi_some t c i ty at type },
+            short_int ty short,
+          );
+          short = own_short (Some ty) short;
+          name = value_plain k (omega (arith, lt));
+          unnamed = λ e. absurd (no_void ty short e);
+        }) (phis_form t c at (suc i) (k + 1) ts (omega (arith, lt)) (λ m u at'. ap (slice_get c.args) (let e : suc i + m ≡ i + suc m = omega arith in e) ∙ are (suc m) u at'))
 
     -- ---- blocks
 
     instructions_form : (j k : ℕ) (c : DialectBlock) → slice_get g.blocks j ≡ Some c → number_behind (k + length c.args) c.ops < 2 ^ 64
-        → All (λ (p : Placed). IsFormInstruction made (n.block + (0 + j)) p p.instruction) (block_made g n (entries g n) (0 + j) k c).instructions
+        → All (IsFormPlaced made (n.block + (0 + j))) (block_made g n (entries g n) (0 + j) k c).instructions
     instructions_form j k c at lt =
-        let P : Placed → Type 0 = λ p. IsFormInstruction made (n.block + (0 + j)) p p.instruction in
+        let P : Placed → Type 0 = IsFormPlaced made (n.block + (0 + j)) in
         All-append P (block_phis g n (entries g n) (0 + j) k c) (insts g n (k + length c.args) c.ops)
         (subst (λ (q : ℕ). All P (block_phis g n (entries g n) q k c)) (let e : j ≡ 0 + j = omega arith in e) (front j at))
-        (insts_form (n.block + (0 + j)) (k + length c.args) c.ops lt (λ i m o at' other small. instruction_form (n.block + (0 + j)) m o o.kind (op_form g form j i c o at at').kind other (((accepted.blocks j c at).ops i o at').named other m small) (op_leads j i c o at at')))
+        (insts_form (n.block + (0 + j)) (k + length c.args) c.ops lt (λ i m o at' other small. placed_form (n.block + (0 + j)) m o (op_form g form j i c o at at') other (((accepted.blocks j c at).ops i o at').named other m small) (op_leads j i c o at at')))
       where
-        front : (j : ℕ) → slice_get g.blocks j ≡ Some c → All (λ (p : Placed). IsFormInstruction made (n.block + (0 + j)) p p.instruction) (block_phis g n (entries g n) j k c)
-        front zero at = All-nil (λ (p : Placed). IsFormInstruction made (n.block + (0 + zero)) p p.instruction)
+        front : (j : ℕ) → slice_get g.blocks j ≡ Some c → All (IsFormPlaced made (n.block + (0 + j))) (block_phis g n (entries g n) j k c)
+        front zero at = All-nil (IsFormPlaced made (n.block + (0 + zero)))
         front (suc t) at = phis_form t c at 0 k c.args (let l = behind_le (k + length c.args) c.ops in omega (arith, l, lt)) (λ m ty at'. ap (slice_get c.args) (let e : 0 + m ≡ m = omega arith in e) ∙ at')
 
     made_block_form : (j : ℕ) (c : DialectBlock) → slice_get g.blocks j ≡ Some c → IsFormBlock made (block_made g n (entries g n) (0 + j) (number_past 0 (take j g.blocks)) c)
@@ -322,7 +373,7 @@ module _ (g : Func) (form : IsFormFunc g) (n : Numbers) (order : IsOrder (length
     made_form = record {
       name = plain_is g.name form.name form.named;
       result = type_of form.result;
-      types = types_of form.types;
+      types = form.types;
       type = ap type_of form.type;
       returns = short_result form.result form.returns;
       takes = short_ints form.types form.takes;

@@ -232,12 +232,7 @@ grows_inst old new more_types x types consts functions insts = record {
 
 changed_keeps : (e : PhiEntry) (inst : LLVMInst) → is_phi inst ≡ true → is_phi (code.with_entry inst e) ≡ true
 changed_keeps e (I.Phi type entries) h = refl
-changed_keeps e (I.Add lhs rhs flags) h = cc
-changed_keeps e (I.ICmp lhs rhs predicate) h = cc
-changed_keeps e (I.Br target) h = cc
-changed_keeps e (I.CondBr condition first second) h = cc
-changed_keeps e (I.Ret value) h = cc
-changed_keeps e I.Unreachable h = cc
+changed_keeps e (I.Row r) h = cc
 
 -- an entry more in a phi
 pub grows_entry : (old new : Module) (phi : LLVMInstRef) (e : PhiEntry) → new ≡ with_code old (with_changed_inst (code_of old) phi (λ i. code.with_entry i e)) → Grows old new

@@ -10,7 +10,7 @@ use Rattle.llvm_core.specs.declared.code.LLVMValue.TheVariants as V
 use Rattle.llvm_core.specs.Module.{Module}
 use Rattle.llvm_core.specs.Sound.{IsModule}
 use Rattle.llvm_core.specs.Parts.{IsPhi}
-use Rattle.llvm_core.specs.Data.{trees_of, operand_of}
+use Rattle.llvm_core.specs.Data.{trees_of, operand_of, data_of}
 use Rattle.support.proofs.ListLaws.{slice_get-kept, slice_get-push, slice_get-push_cases, item_there, slice_get-behind, slice_get-behind_cases, slice_get-take}
 use Rattle.llvm_core.proofs.NameLemmas.{slice_get-taken}
 use Rattle.dialect_types.specs.Trees.{TypeTree}
@@ -18,6 +18,7 @@ use Rattle.dialect_core.specs.declared.numbers.BlockRef.{BlockRef}
 use Rattle.dialect_core.specs.declared.numbers.OpRef.{OpRef}
 use Rattle.dialect_core.specs.declared.ops.Value.{Value}
 use Rattle.dialect_core.specs.declared.ops.Value.TheVariants.{Result, Argument}
+use Rattle.dialect_core.specs.ContextData.{ContextData}
 use Rattle.dialect_core.specs.Data.{DialectOp, DialectBlock, Func, value_type}
 use Rattle.dialect_core.specs.Form.{StandsBefore, ops_before}
 use Rattle.meaning.specs.Dialect.{type_of, same_value}
@@ -26,7 +27,7 @@ use Rattle.to_llvm_ir.specs.declared.values.Values.{Values}
 use Rattle.to_llvm_ir.specs.Exported.{result, arguments_of}
 use Rattle.to_llvm_ir.specs.Made.{Numbers, operand_for}
 use Rattle.to_llvm_ir.specs.Growth.{Grows, HasType}
-use Rattle.to_llvm_ir.specs.States.{found, Has, IsArgument, IsKnown, AreKnown, all_values, seen_before}
+use Rattle.to_llvm_ir.specs.States.{found, Has, IsArgument, IsKnown, AreKnown, all_values, seen_before, Spot, IsNext}
 use Rattle.to_llvm_ir.proofs.PlaceLaws.{argument_at, argument_from}
 use Rattle.to_llvm_ir.proofs.LookupLaws.{op_among, op_of_block}
 use Rattle.to_llvm_ir.proofs.GrowthLaws.{has_type_kept, operand_kept, phi_kept}
@@ -193,3 +194,19 @@ known_set g n seen values values' m m' v x type s grows typed set new h = record
           stands = new.stands ∙ ap (operand_for g n) e;
           phi = λ i f a. new.phi i f (subst IsArgument (sym e) a);
         }
+
+-- ---- types that are added
+
+-- they leave the spot as it was
+pub next_typed : (c : ContextData) (op : OpRef) (s : Spot) (values : Values) (m m' : Module) → IsNext c op s values m → Grows m m' → m' ≡ record m { types = m'.types } → data_of m' ≡ data_of m → IsModule m' → IsNext c op s values m'
+next_typed c op s values m m' h grows rest same sound = record {
+  spot = h.spot;
+  state = record {
+    is = same ∙ h.state.is;
+    sound = sound;
+    block_count = ap (λ (x : Module). length x.blocks) rest ∙ h.state.block_count;
+    inst_count = ap (λ (x : Module). length x.insts) rest ∙ h.state.inst_count;
+    next = h.state.next;
+    known = all_known s.task.source s.task.numbers _ values m m' h.state.sound grows h.state.known;
+  };
+}

@@ -1,14 +1,15 @@
--- The edges of an operation, at a spot: what they pass is used, and where they lead.
-use Rattle.std.proofs.Common.{◌≡◌, ◌<◌, ◌+◌, ℕ, List, Some, All, length, slice_get, get_or, sym, ap, subst, ◌∙◌, arith}
-use Rattle.std.proofs.lemmas.Option.{slice_get-get_or, slice_get_within, slice_get_read}
-use Rattle.std.proofs.lemmas.List.Elements.{All-get_or}
+-- What an operation uses, at a spot: its operands, and the edges, what they pass and where they lead.
+use Rattle.std.proofs.Common.{◌≡◌, ◌<◌, ◌+◌, ℕ, List, Some, All, length, slice_get, get_or, sym, ap, ◌∙◌, arith}
+use Rattle.std.proofs.lemmas.Option.{slice_get-get_or, slice_get_within}
 use Rattle.llvm_core.specs.Module.{Module}
 use Rattle.dialect_types.specs.Trees.{TypeTree}
 use Rattle.dialect_core.specs.declared.numbers.OpRef.{OpRef}
 use Rattle.dialect_core.specs.declared.ops.Value.{Value}
 use Rattle.dialect_core.specs.declared.ops.Successor.{Successor}
 use Rattle.dialect_core.specs.ContextData.{ContextData}
-use Rattle.dialect_core.specs.Form.{IsFormEdge, IsOperand}
+use Rattle.dialect_core.specs.Rules.{IsEdge}
+use Rattle.dialect_core.specs.Data.{value_type}
+use Rattle.dialect_core.specs.Form.{IsShortValue}
 use Rattle.to_llvm_ir.specs.Order.{StandsBeforeIn}
 use Rattle.to_llvm_ir.specs.declared.values.Values.{Values}
 use Rattle.to_llvm_ir.specs.declared.blocks.Blocks.{Blocks}
@@ -17,16 +18,28 @@ use Rattle.to_llvm_ir.specs.States.{Spot, IsSpot, IsNext, IsUsed, IsLead, AreAll
 use Rattle.to_llvm_ir.proofs.ListLaws.{all_at}
 use Rattle.to_llvm_ir.proofs.LookupLaws.{place_is}
 use Rattle.to_llvm_ir.proofs.EdgeLaws.{op_edges}
-use Rattle.to_llvm_ir.proofs.OpLaws.{spot_form, passed_used}
+use Rattle.to_llvm_ir.proofs.OpLaws.{spot_form, operand_used, passed_used}
 
-pub spot_edge : (c : ContextData) (op : OpRef) (s : Spot) (l : ℕ) (e : Successor) → IsSpot c op s → slice_get s.op.successors l ≡ Some e → IsFormEdge s.task.source e
-spot_edge c op s l e h at = all_at (IsFormEdge s.task.source) s.op.successors l e (op_edges s.task.source s.task.numbers s.op s.op.kind (spot_form c op s h).kind) at
+pub spot_edge : (c : ContextData) (op : OpRef) (s : Spot) (l : ℕ) (e : Successor) → IsSpot c op s → slice_get s.op.successors l ≡ Some e → IsEdge (value_type s.task.source) s.task.source e
+spot_edge c op s l e h at = all_at (IsEdge (value_type s.task.source) s.task.source) s.op.successors l e (op_edges s.task.source s.task.numbers s.op.kind s.op.operands s.op.result s.op.successors (spot_form c op s h).kind) at
 
+-- an operand at a place of a list that the context answered
+pub operand_as : (c : ContextData) (op : OpRef) (s : Spot) (i : ℕ) (xs : List Value) (d : Value) → IsSpot c op s → s.op.operands ≡ xs → i < length xs → (type : TypeTree) × IsUsed s (get_or xs i d) type
+operand_as c op s i xs d h are lt =
+    let there : slice_get s.op.operands i ≡ Some (get_or xs i d) = ap (λ (ys : List Value). slice_get ys i) are ∙ slice_get-get_or xs i d lt in
+    let typed = all_at (IsShortValue s.task.source) s.op.operands i (get_or xs i d) (spot_form c op s h).operands there in
+    (typed.0, operand_used s i (get_or xs i d) typed.0 there typed.1.typed)
+
+-- and an edge
+pub edge_at : (s : Spot) (xs : List Successor) (i : ℕ) (e : Successor) → s.op.successors ≡ xs → i < length xs → e ≡ get_or xs i e → slice_get s.op.successors i ≡ Some e
+edge_at s xs i e are lt is = ap (λ (ys : List Successor). slice_get ys i) are ∙ slice_get-get_or xs i e lt ∙ ap Some (sym is)
+
+-- a value at a place of what an edge passes
 pub passed_as : (c : ContextData) (op : OpRef) (s : Spot) (l i : ℕ) (e : Successor) (xs : List Value) (d : Value) → IsSpot c op s → slice_get s.op.successors l ≡ Some e → xs ≡ e.args → i < length xs → (type : TypeTree) × IsUsed s (get_or xs i d) type
 passed_as c op s l i e xs d h at are lt =
     let there : slice_get e.args i ≡ Some (get_or xs i d) = ap (λ (ys : List Value). slice_get ys i) (sym are) ∙ slice_get-get_or xs i d lt in
-    let form = spot_edge c op s l e h at in
-    let typed = all_at (λ (v : Value). (type : TypeTree) × IsOperand s.task.source type v) e.args i (get_or xs i d) form.args there in
+    let passed = all_at (λ (e : Successor). All (IsShortValue s.task.source) e.args) s.op.successors l e (spot_form c op s h).passed at in
+    let typed = all_at (IsShortValue s.task.source) e.args i (get_or xs i d) passed there in
     (typed.0, passed_used s l i e (get_or xs i d) typed.0 at there typed.1.typed)
 
 pub lead_is : (c : ContextData) (op : OpRef) (s : Spot) (values : Values) (m : Module) (blocks : Blocks) (e : Successor) (x : Target) → IsNext c op s values m → AreAllMapped s.task blocks → found_block blocks e.block ≡ Some x → All (StandsBeforeIn s.task.numbers.order s.task.source s.place s.at) e.args → IsLead s m e x.block
@@ -38,13 +51,3 @@ lead_is c op s values m blocks e x next mapped at before =
       there = let lt = slice_get_within s.task.source.blocks h.place h.block h.here in let e = h.block_is in let count = next.state.block_count in omega (arith, lt, e, count);
       before = before;
     }
-
--- the edge at a place of a list that the context answered
-pub edge_read : (s : Spot) (xs : List Successor) (i count : ℕ) (e : Successor) → s.op.successors ≡ xs → length s.op.successors ≡ count → i < count → e ≡ get_or xs i e → slice_get s.op.successors i ≡ Some e
-edge_read s xs i count e are count_is lt is =
-    let len : count ≡ length xs = sym count_is ∙ ap (λ (ys : List Successor). length ys) are in
-    ap (λ (ys : List Successor). slice_get ys i) are ∙ slice_get_read xs count i e len lt is
-
--- and what all edges of the list hold, it holds
-pub read_within : (P : Successor → Type 0) (xs : List Successor) (i : ℕ) (e : Successor) → All P xs → e ≡ get_or xs i e → i < length xs → P e
-read_within P xs i e all is lt = subst P (sym is) (All-get_or P xs i e lt all)

@@ -14,6 +14,7 @@ pub mod FormLaws
 pub mod GivenLaws
 pub mod GrowthLaws
 pub mod InstLaws
+pub mod RowLaws
 pub mod KnownLaws
 pub mod LeadLaws
 pub mod LinkedLaws
@@ -39,6 +40,7 @@ pub mod ResultLaws
 pub mod SetLaws
 pub mod StepLaws
 pub mod SuccessorLaws
+pub mod TableLaws
 pub mod TurnLaws
 pub mod TypeLaws
 pub mod UseLaws

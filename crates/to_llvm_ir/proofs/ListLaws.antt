@@ -1,5 +1,5 @@
 -- Items of lists by their places.
-use Rattle.std.proofs.Common.{◌≡◌, ◌<◌, ◌⊎◌, ◌+◌, ℕ, zero, suc, Bool, true, false, nat_eq, if◌then◌else◌, List, [], ◌∷◌, ◌++◌, Option, Some, None, All, length, map, take, drop, slice_get, get_or, filter, refl, sym, ap, subst, ◌∙◌, arith, eq-eqb, ne_eqb, eqb-true, ⊎_elim}
+use Rattle.std.proofs.Common.{◌≡◌, ◌<◌, ◌+◌, ℕ, zero, suc, Bool, true, false, nat_eq, if◌then◌else◌, List, [], ◌∷◌, ◌++◌, Option, Some, None, All, length, map, take, drop, slice_get, get_or, filter, refl, sym, ap, subst, ◌∙◌, arith, eq-eqb, ne_eqb, eqb-true, ⊎_elim}
 use Rattle.std.specs.List.{Contains, filter_map, cons_option, find, position_from}
 use Rattle.std.proofs.lemmas.Option.{same_Some, none-some, slice_get_within, get_or_from_slice_get, slice_get-get_or}
 use Rattle.std.proofs.lemmas.Bool.{cond-true, cond-false}
@@ -8,6 +8,7 @@ use Rattle.std.proofs.lemmas.List.Elements.{filter_map-append, All-head, All-tai
 use Rattle.support.specs.Interned.{IsDistinctList}
 use Rattle.support.proofs.ListLaws.{slice_get-kept, all_from, slice_get-behind, slice_get-behind_cases, filter_from}
 use Rattle.meaning.specs.Pairs.{Matched}
+use Rattle.meaning.proofs.MatchedLaws.{matched_push}
 
 -- ---- items that hold a property
 
@@ -170,3 +171,9 @@ matched_map P f h (x ∷ xs) (y ∷ ys) e same = (same 0 x y refl refl, matched_
 pub by_option : {X : Type 0} (P : Type 0) (o : Option X) → (o ≡ None → P) → ((x : X) → o ≡ Some x → P) → P
 by_option P None h k = h refl
 by_option P (Some x) h k = k x refl
+
+-- one item more of two lists that are matched item by item
+pub matched_more : {X Y : Type 0} (P : X → Y → Type 0) (xs : List X) (i : ℕ) (x : X) (ys zs : List Y) (y : Y) → slice_get xs i ≡ Some x → zs ≡ ys ++ y ∷ [] → Matched P (take i xs) ys → P x y → Matched P (take (i + 1) xs) zs
+matched_more P xs i x ys zs y at is h p =
+    let more : take (i + 1) xs ≡ take i xs ++ x ∷ [] = ap (λ (j : ℕ). take j xs) (let e : i + 1 ≡ suc i = omega arith in e) ∙ take_suc xs i x at in
+    rw (more, is) (matched_push P (take i xs) ys x y h p)

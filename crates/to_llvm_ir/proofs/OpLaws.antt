@@ -1,8 +1,9 @@
 -- What the context tells of an operation, and what its form says then.
-use Rattle.std.proofs.Common.{◌≡◌, ◌<◌, ◌^◌, ℕ, zero, suc, true, false, List, [], ◌∷◌, Option, Some, None, length, slice_get, get_or, refl, sym, ap, subst, ◌∙◌}
+use Rattle.std.proofs.Common.{◌≡◌, ◌<◌, ◌^◌, ℕ, zero, suc, true, List, [], ◌∷◌, Option, Some, None, length, slice_get, refl, sym, ap, subst, ◌∙◌}
+use Rattle.std.specs.Prelude.{IfSome}
 use Rattle.std.specs.List.{Contains, flat_map}
 use Rattle.std.specs.Option.{option_map, option_and_then}
-use Rattle.std.proofs.lemmas.Option.{same_Some, none-some, get_or_from_slice_get}
+use Rattle.std.proofs.lemmas.Option.{same_Some, none-some}
 use Rattle.std.proofs.lemmas.List.Elements.{Contains-append_left, Contains-append_right}
 use Rattle.support.proofs.ListLaws.{contains_at}
 use Rattle.llvm_core.specs.declared.numbers.LLVMType.{LLVMType}
@@ -16,7 +17,7 @@ use Rattle.llvm_core.specs.Data.{trees_of, operand_of}
 use Rattle.dialect_types.specs.declared.types.TypeHandle.{TypeHandle}
 use Rattle.dialect_types.specs.declared.attrs.ConstAttr.{ConstAttr}
 use Rattle.dialect_types.specs.declared.attrs.ConstAttr.TheVariants as A
-use Rattle.dialect_types.specs.Trees.{TypeTree, VoidType, IntegerType, FuncType, IntegerAttr, type_at, type_trees, attr_tree}
+use Rattle.dialect_types.specs.Trees.{TypeTree, VoidType, IntType, FunctionType, IntegerAttr, type_at, type_trees, attr_tree}
 use Rattle.dialect_core.specs.declared.numbers.OpRef.{OpRef}
 use Rattle.dialect_core.specs.declared.ops.Value.{Value}
 use Rattle.dialect_core.specs.declared.ops.Successor.{Successor}
@@ -24,12 +25,13 @@ use Rattle.dialect_core.specs.declared.ops.OpKind.{OpKind}
 use Rattle.dialect_core.specs.declared.ops.OpKind.TheVariants as K
 use Rattle.dialect_core.specs.declared.ops.OpData.{OpData}
 use Rattle.dialect_core.specs.ContextData.{ContextData, kind_at}
-use Rattle.dialect_core.specs.Data.{HasKindTypesBelow, IsTyped, Kind, ConstantOp, AddOp, ICmpOp, BrOp, CondBrOp, ReturnOp, UnreachableOp, DialectOp, kind_of, op_of, op_at, value_type, Func}
-use Rattle.dialect_core.specs.Form.{IsShortInt, IsFitting, IsFormKind, IsFormOp, uses_of, is_constant, is_constant_kind}
+use Rattle.dialect_core.specs.Data.{HasKindTypesBelow, IsTyped, Kind, ConstantOp, RowOp, DialectOp, kind_of, op_of, op_at, value_type}
+use Rattle.dialect_core.specs.Rules.{IsOfKind}
+use Rattle.dialect_core.specs.Form.{IsShortInt, IsFitting, IsFormOp, is_constant, is_constant_kind}
 use Rattle.meaning.specs.Dialect.{type_of}
 use Rattle.to_llvm_ir.specs.Growth.{HasType, IsTypeOf}
 use Rattle.to_llvm_ir.specs.Exported.{result}
-use Rattle.to_llvm_ir.specs.States.{Spot, IsSpot, IsUsed, IsUse}
+use Rattle.to_llvm_ir.specs.States.{Spot, IsSpot, IsUsed}
 use Rattle.to_llvm_ir.proofs.LookupLaws.{op_form, result_type}
 use Rattle.to_llvm_ir.proofs.GrowthLaws.{int_at, value_there}
 
@@ -94,41 +96,22 @@ pub spot_parts : (c : ContextData) (op : OpRef) (s : Spot) → IsSpot c op s →
 spot_parts c op s h = op_parts (type_trees c.types) c.ops op s.op h.is
 
 -- the kind of the operation, and what it asks
-pub spot_kind : (c : ContextData) (op : OpRef) (s : Spot) (k : OpKind) (kind : Kind) → IsSpot c op s → kind_at c.ops op ≡ Some k → kind_of (type_trees c.types) k ≡ Some kind → (s.op.kind ≡ kind) × IsFormKind s.task.source s.op kind
+pub spot_kind : (c : ContextData) (op : OpRef) (s : Spot) (k : OpKind) (kind : Kind) → IsSpot c op s → kind_at c.ops op ≡ Some k → kind_of (type_trees c.types) k ≡ Some kind → (s.op.kind ≡ kind) × IsOfKind (value_type s.task.source) s.task.source s.op.operands s.op.result s.op.successors kind
 spot_kind c op s k kind h at is =
     let same : s.op.kind ≡ kind = same_Some s.op.kind kind (sym (kind_is (type_trees c.types) c.ops op s.op k (spot_parts c op s h) at) ∙ is) in
-    (same, subst (IsFormKind s.task.source s.op) same (spot_form c op s h).kind)
+    (same, subst (IsOfKind (value_type s.task.source) s.task.source s.op.operands s.op.result s.op.successors) same (spot_form c op s h).kind)
 
 pub spot_type : (c : ContextData) (op : OpRef) (s : Spot) → IsSpot c op s → value_type s.task.source (result s.op) ≡ s.op.result
 spot_type c op s h = result_type s.task.source h.task.form s.place s.at (record { 0 = s.op.number }) s.block s.op h.here h.there refl
 
--- ---- operands by their places
+-- ---- what it uses
 
--- the operand at a place of a list that the context answered
-pub used_at : (s : Spot) (xs : List Value) (i : ℕ) (d v : Value) (type : TypeTree) → s.op.operands ≡ xs → slice_get s.op.operands i ≡ Some v → value_type s.task.source v ≡ Some type → IsUsed s (get_or xs i d) type
-used_at s xs i d v type are at typed =
-    let is : get_or xs i d ≡ v = get_or_from_slice_get xs i v d (ap (λ (ys : List Value). slice_get ys i) (sym are) ∙ at) in
-    record {
-      among = subst (Contains (uses_of s.op)) (sym is) (Contains-append_left s.op.operands (flat_map (λ (e : Successor). e.args) s.op.successors) v (contains_at s.op.operands i v at));
-      typed = ap (value_type s.task.source) is ∙ typed;
-    }
-
-pub use_at : (s : Spot) (m : Module) (xs : List Value) (i : ℕ) (d v : Value) (type : TypeTree) (x : LLVMValue) → s.op.operands ≡ xs → slice_get s.op.operands i ≡ Some v → IsUse s m (get_or xs i d) type x → IsUse s m v type x
-use_at s m xs i d v type x are at h = subst (λ (w : Value). IsUse s m w type x) (get_or_from_slice_get xs i v d (ap (λ (ys : List Value). slice_get ys i) (sym are) ∙ at)) h
-
--- the context answers as many operands as the form of the kind has
-pub operands_counted : (c : ContextData) (op : OpRef) {k : OpKind} (kind : Kind) (n : ℕ) {xs : List Value} → ((g : Func) (o : DialectOp) → IsFormKind g o kind → length o.operands ≡ n) → (s : Spot) × IsSpot c op s
-    → kind_at c.ops op ≡ Some k → kind_of (type_trees c.types) k ≡ Some kind → option_map (λ (x : OpData). x.operands) (slice_get c.ops op.0) ≡ Some xs → length xs ≡ n
-operands_counted c op {k} kind n {xs} counted spot at is are =
-    let s = spot.0 in
-    ap (λ (vs : List Value). length vs) (sym (operands_are (type_trees c.types) c.ops op s.op xs (spot_parts c op s spot.1) are)) ∙ counted s.task.source s.op (spot_kind c op s k kind spot.1 at is).1
-
--- and as many edges
-pub edges_counted : (c : ContextData) (op : OpRef) {k : OpKind} (kind : Kind) (n : ℕ) {es : List Successor} → ((g : Func) (o : DialectOp) → IsFormKind g o kind → length o.successors ≡ n) → (s : Spot) × IsSpot c op s
-    → kind_at c.ops op ≡ Some k → kind_of (type_trees c.types) k ≡ Some kind → option_map (λ (x : OpData). x.successors) (slice_get c.ops op.0) ≡ Some es → length es ≡ n
-edges_counted c op {k} kind n {es} counted spot at is are =
-    let s = spot.0 in
-    ap (λ (ss : List Successor). length ss) (sym (successors_are (type_trees c.types) c.ops op s.op es (spot_parts c op s spot.1) are)) ∙ counted s.task.source s.op (spot_kind c op s k kind spot.1 at is).1
+-- an operand
+pub operand_used : (s : Spot) (i : ℕ) (v : Value) (type : TypeTree) → slice_get s.op.operands i ≡ Some v → value_type s.task.source v ≡ Some type → IsUsed s v type
+operand_used s i v type at typed = record {
+  among = Contains-append_left s.op.operands (flat_map (λ (e : Successor). e.args) s.op.successors) v (contains_at s.op.operands i v at);
+  typed = typed;
+}
 
 -- a value that an edge passes
 pub passed_used : (s : Spot) (l i : ℕ) (e : Successor) (v : Value) (type : TypeTree) → slice_get s.op.successors l ≡ Some e → slice_get e.args i ≡ Some v → value_type s.task.source v ≡ Some type → IsUsed s v type
@@ -145,19 +128,13 @@ passed_used s l i e v type at at' typed = record {
 pub typed_there : (m : Module) (x : LLVMValue) (tree : L.TypeTree) → IsModule m → HasType m x tree → IsValue m x
 typed_there m x tree s h = value_there m x h.0 s h.1
 
--- an integer of the dialect becomes one of LLVM
-pub short_is : (type : TypeTree) → IsShortInt type → (w : ℕ) × (type_of type ≡ L.IntType w)
-short_is VoidType h = absurd h
-short_is (IntegerType w) h = (w, refl)
-short_is (FuncType r ps v) h = absurd h
-
 -- ---- constants
 
 pub record ConstantParts (o : DialectOp) (type : TypeTree) (value : ℕ) : Type 0 where
   pub kind : o.kind ≡ ConstantOp (IntegerAttr type value)
   pub constant : is_constant o ≡ true
   pub width : ℕ
-  pub type_is : type ≡ IntegerType width
+  pub type_is : type ≡ IntType width
   pub short : IsShortInt type
   pub fits : value < 2 ^ width
   pub result : o.result ≡ Some type
@@ -168,13 +145,13 @@ pub constant_parts : (c : ContextData) (op : OpRef) (s : Spot) (value : ConstAtt
 constant_parts c op s value ty n h at value_is =
     let ts = type_trees c.types in
     let k = spot_kind c op s (K.Constant value) (ConstantOp (IntegerAttr (type_at ts ty) n)) h at (ap (λ (v : ConstAttr). Some (ConstantOp (attr_tree ts v))) value_is) in
-    let width = wide (type_at ts ty) k.1.0 k.1.1 in
-    record { kind = k.0; constant = ap is_constant_kind k.0; width = width.0; type_is = width.1; short = k.1.0; fits = width.2; result = k.1.4; operands = k.1.2; successors = k.1.3 }
+    let width = wide (type_at ts ty) k.1.short k.1.fitting in
+    record { kind = k.0; constant = ap is_constant_kind k.0; width = width.0; type_is = width.1; short = k.1.short; fits = width.2; result = k.1.result; operands = k.1.bare; successors = k.1.ends_here }
   where
-    wide : (type : TypeTree) → IsShortInt type → IsFitting type n → (w : ℕ) × (type ≡ IntegerType w) × (n < 2 ^ w)
+    wide : (type : TypeTree) → IsShortInt type → IsFitting type n → (w : ℕ) × (type ≡ IntType w) × (n < 2 ^ w)
     wide VoidType short fits = absurd short
-    wide (IntegerType w) short fits = (w, refl, fits)
-    wide (FuncType r ps v) short fits = absurd short
+    wide (IntType w) short fits = (w, refl, fits)
+    wide (FunctionType r ps v) short fits = absurd short
 
 -- the number of its type is there
 pub constant_type_there : (c : ContextData) (op : OpRef) (value : ConstAttr) (ty : TypeHandle) (n : ℕ) → IsTyped c → kind_at c.ops op ≡ Some (K.Constant value) → value ≡ A.Integer ty n → ty.0 < length c.types
@@ -190,6 +167,22 @@ constant_type_there c op value ty n typed at value_is = by (slice_get c.ops op.0
 pub constant_fits : (m : Module) (o : DialectOp) (type : TypeTree) (value from : ℕ) (ty : LLVMType) → IsModule m → ConstantParts o type value → IsTypeOf m ty (type_of type) → from ≡ value → (w : ℕ) × (slice_get m.types ty.0 ≡ Some (T.Int w)) × (from < 2 ^ w)
 constant_fits m o type value from ty s parts ty_is from_is =
     (parts.width, int_at m ty parts.width s (subst (λ (x : TypeTree). IsTypeOf m ty (type_of x)) parts.type_is ty_is), subst (λ (n : ℕ). n < 2 ^ parts.width) (sym from_is) parts.fits)
+
+-- ---- results
+
+-- the number of the type of a result is there
+pub result_there : (c : ContextData) (op : OpRef) (r : Option TypeHandle) (t : TypeHandle) → IsTyped c → option_map (λ (x : OpData). x.result) (slice_get c.ops op.0) ≡ Some r → r ≡ Some t → t.0 < length c.types
+result_there c op r t typed at is = by (slice_get c.ops op.0) refl at
+  where
+    by : (x : Option OpData) → slice_get c.ops op.0 ≡ x → option_map (λ (x : OpData). x.result) x ≡ Some r → t.0 < length c.types
+    by None e f = absurd (none-some r f)
+    by (Some x) e f = subst (λ (o : Option TypeHandle). IfSome o (λ (t : TypeHandle). t.0 < length c.types)) (same_Some x.result r f ∙ is) (typed.ops op.0 x e).result
+
+-- and the type is of 1 to 64 bits
+pub result_short : (c : ContextData) (op : OpRef) (s : Spot) (r : Option TypeHandle) (t : TypeHandle) → IsSpot c op s → option_map (λ (x : OpData). x.result) (slice_get c.ops op.0) ≡ Some r → r ≡ Some t → (s.op.result ≡ Some (type_at (type_trees c.types) t)) × IsShortInt (type_at (type_trees c.types) t)
+result_short c op s r t h at is =
+    let e = result_is (type_trees c.types) c.ops op s.op r (spot_parts c op s h) at ∙ ap (option_map (type_at (type_trees c.types))) is in
+    (e, subst (λ (o : Option TypeTree). IfSome o IsShortInt) e (spot_form c op s h).result)
 
 -- ---- which kinds are operations of a block
 
@@ -212,27 +205,7 @@ pub kind_there : (ts : List TypeTree) (k : OpKind) → (k ≡ K.Module → ⊥) 
 kind_there ts K.Module h f = absurd (h refl)
 kind_there ts K.Func h f = absurd (f refl)
 kind_there ts (K.Constant value) h f = (ConstantOp (attr_tree ts value), refl)
-kind_there ts (K.Add flags) h f = (AddOp flags, refl)
-kind_there ts (K.ICmp predicate) h f = (ICmpOp predicate, refl)
-kind_there ts K.Br h f = (BrOp, refl)
-kind_there ts K.CondBr h f = (CondBrOp, refl)
-kind_there ts K.Return h f = (ReturnOp, refl)
-kind_there ts K.Unreachable h f = (UnreachableOp, refl)
-
-kind_other : (ts : List TypeTree) (k : OpKind) (kind : Kind) → ((value : ConstAttr) → k ≡ K.Constant value → ⊥) → kind_of ts k ≡ Some kind → is_constant_kind kind ≡ false
-kind_other ts K.Module kind h e = absurd (none-some kind e)
-kind_other ts K.Func kind h e = absurd (none-some kind e)
-kind_other ts (K.Constant value) kind h e = absurd (h value refl)
-kind_other ts (K.Add flags) kind h e = ap is_constant_kind (sym (same_Some (AddOp flags) kind e))
-kind_other ts (K.ICmp predicate) kind h e = ap is_constant_kind (sym (same_Some (ICmpOp predicate) kind e))
-kind_other ts K.Br kind h e = ap is_constant_kind (sym (same_Some BrOp kind e))
-kind_other ts K.CondBr kind h e = ap is_constant_kind (sym (same_Some CondBrOp kind e))
-kind_other ts K.Return kind h e = ap is_constant_kind (sym (same_Some ReturnOp kind e))
-kind_other ts K.Unreachable kind h e = ap is_constant_kind (sym (same_Some UnreachableOp kind e))
-
--- and where it is no constant's, the operation is none
-pub spot_other : (c : ContextData) (op : OpRef) (s : Spot) (k : OpKind) → IsSpot c op s → kind_at c.ops op ≡ Some k → ((value : ConstAttr) → k ≡ K.Constant value → ⊥) → is_constant s.op ≡ false
-spot_other c op s k h at other = kind_other (type_trees c.types) k s.op.kind other (kind_is (type_trees c.types) c.ops op s.op k (spot_parts c op s h) at)
+kind_there ts (K.Row op) h f = (RowOp op, refl)
 
 -- no spot is at what is no operation of a block
 pub nowhere : (c : ContextData) (op : OpRef) (s : Spot) → op_at (type_trees c.types) c.ops op ≡ None → IsSpot c op s → ⊥

@@ -27,7 +27,7 @@ use Rattle.dialect_core.specs.declared.numbers.BlockRef.{BlockRef}
 use Rattle.dialect_core.specs.ContextData.{ContextData}
 use Rattle.dialect_core.specs.Data.{DialectBlock, Func}
 use Rattle.dialect_core.specs.Form.{IsFormFunc, types_list}
-use Rattle.meaning.specs.Dialect.{type_of, types_of}
+use Rattle.meaning.specs.Dialect.{type_of}
 use Rattle.to_llvm_ir.specs.declared.blocks.Blocks.{Blocks}
 use Rattle.to_llvm_ir.specs.declared.blocks.Target.{Target}
 use Rattle.to_llvm_ir.specs.Exported.{block_name}
@@ -167,7 +167,7 @@ params_are m t r ps v s within h =
     ap (λ (o : Option LLVMTypeKind). L.types_at (trees_of m).types (option_map_or kind_params o [])) k.1 ∙ kind_of_function m t k.0 r ps v s k.1 h
 
 -- the parameter at the place of an argument
-param_at : (us : List L.TypeTree) (ps : List LLVMType) (ts : TypeTrees) (i : ℕ) (type : TypeTree) → L.types_at us ps ≡ types_of ts → slice_get (types_list ts) i ≡ Some type → (t : LLVMType) × (slice_get ps i ≡ Some t) × (L.type_at us t ≡ type_of type)
+param_at : (us : List L.TypeTree) (ps : List LLVMType) (ts : TypeTrees) (i : ℕ) (type : TypeTree) → L.types_at us ps ≡ ts → slice_get (types_list ts) i ≡ Some type → (t : LLVMType) × (slice_get ps i ≡ Some t) × (L.type_at us t ≡ type_of type)
 param_at us [] NoTypes i type e at = absurd (none-some type at)
 param_at us [] (ThenType t ts) i type e at = cc
 param_at us (p ∷ ps) NoTypes i type e at = cc
@@ -176,15 +176,15 @@ param_at us (p ∷ ps) (ThenType t ts) zero type e at =
     let here : L.type_at us p ≡ type_of t = cc in
     (p, refl, here ∙ ap type_of same)
 param_at us (p ∷ ps) (ThenType t ts) (suc i) type e at =
-    let rest : L.types_at us ps ≡ types_of ts = cc in
+    let rest : L.types_at us ps ≡ ts = cc in
     param_at us ps ts i type rest at
 
 -- as many empty names as arguments
-pub names_are : (us : List L.TypeTree) (ps : List LLVMType) (ts : TypeTrees) → L.types_at us ps ≡ types_of ts → map (λ (t : LLVMType). let none : List ℕ = [] in none) ps ≡ map (λ (t : TypeTree). let none : List ℕ = [] in none) (types_list ts)
+pub names_are : (us : List L.TypeTree) (ps : List LLVMType) (ts : TypeTrees) → L.types_at us ps ≡ ts → map (λ (t : LLVMType). let none : List ℕ = [] in none) ps ≡ map (λ (t : TypeTree). let none : List ℕ = [] in none) (types_list ts)
 names_are us [] NoTypes e = refl
 names_are us [] (ThenType t ts) e = cc
 names_are us (p ∷ ps) NoTypes e = cc
-names_are us (p ∷ ps) (ThenType t ts) e = let rest : L.types_at us ps ≡ types_of ts = cc in ap (λ (ns : List (List ℕ)). [] ∷ ns) (names_are us ps ts rest)
+names_are us (p ∷ ps) (ThenType t ts) e = let rest : L.types_at us ps ≡ ts = cc in ap (λ (ns : List (List ℕ)). [] ∷ ns) (names_are us ps ts rest)
 
 -- the parameters have the types of the entry's arguments
 pub has_params : (t : Task) (form : IsFormFunc t.source) (c : DialectBlock) (f : LLVMFunction) (ty : LLVMType) (m : Module) → slice_get t.source.blocks 0 ≡ Some c → IsModule m → f.0 ≡ t.numbers.function → HasFunction f ty (type_of t.source.type) m → HasParams t c f m
@@ -192,8 +192,8 @@ has_params t form c f ty m at s number h = record {
   number = number;
   typed = λ i type has.
       let entry : c ≡ form.entry = same_Some c form.entry (sym at ∙ entry_at t.source form) in
-      let tree : L.type_at (trees_of m).types ty ≡ L.FunctionType (type_of form.result) (types_of form.types) false = h.typed.1 ∙ ap type_of form.type in
-      let params = params_are m ty (type_of form.result) (types_of form.types) false s h.typed.0 tree in
+      let tree : L.type_at (trees_of m).types ty ≡ L.FunctionType (type_of form.result) form.types false = h.typed.1 ∙ ap type_of form.type in
+      let params = params_are m ty (type_of form.result) form.types false s h.typed.0 tree in
       let there : slice_get (types_list form.types) i ≡ Some type = ap (λ (ts : List TypeTree). slice_get ts i) (sym form.params) ∙ ap (λ (d : DialectBlock). slice_get d.args i) (sym entry) ∙ has in
       let p = param_at (trees_of m).types (type_params m.types ty) form.types i type params there in (
         p.0,

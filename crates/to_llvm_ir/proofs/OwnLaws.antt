@@ -2,11 +2,11 @@
 use Rattle.std.proofs.Common.{◌≡◌, ◌<◌, ◌≤◌, ◌+◌, ℕ, zero, suc, List, [], ◌∷◌, ◌++◌, Option, Some, None, All, length, take, slice_get, get_or, refl, sym, ap, subst, ◌∙◌, arith, ⊎_elim}
 use Rattle.std.specs.List.{filter_map, flat_map, cons_option}
 use Rattle.std.specs.Option.{option_map_or}
-use Rattle.std.proofs.lemmas.List.Elements.{All-append, All-cons, All-nil}
+use Rattle.std.proofs.lemmas.List.Elements.{All-append, All-cons, All-nil, All-weaker}
 use Rattle.std.proofs.lemmas.List.{take_all}
 use Rattle.std.proofs.lemmas.Option.{same_Some, none-some, slice_get-get_or}
 use Rattle.support.proofs.ListLaws.{all_from, contains_at}
-use Rattle.dialect_types.specs.Trees.{TypeTree, VoidType, IntegerType, FuncType, IntegerAttr, type_trees}
+use Rattle.dialect_types.specs.Trees.{TypeTree, IntegerAttr, type_trees}
 use Rattle.dialect_core.specs.declared.numbers.OpRef.{OpRef}
 use Rattle.dialect_core.specs.declared.numbers.BlockRef.{BlockRef}
 use Rattle.dialect_core.specs.declared.ops.Value.{Value}
@@ -14,9 +14,10 @@ use Rattle.dialect_core.specs.declared.ops.Value.TheVariants.{Result, Argument}
 use Rattle.dialect_core.specs.declared.ops.Successor.{Successor}
 use Rattle.dialect_core.specs.Lists.{Stands, list_at}
 use Rattle.dialect_core.specs.ContextData.{ContextData, region_at}
-use Rattle.dialect_core.specs.Data.{Kind, ConstantOp, AddOp, ICmpOp, BrOp, CondBrOp, ReturnOp, UnreachableOp, DialectOp, DialectBlock, Func, op_at, block_of, block_in, func_in, held, type_in}
-use Rattle.dialect_core.specs.Form.{HasOwnValues, IsValueOf, StandsBefore, result_of, uses_of}
-use Rattle.dialect_core.specs.WellFormed.{IsEdge, IsOfKind, IsTypedBy, IsWellFormedBlock, IsWellFormedFunc, IsWellFormedOp, Returned, Typing}
+use Rattle.dialect_core.specs.Data.{Kind, ConstantOp, RowOp, DialectOp, DialectBlock, Func, op_at, block_of, block_in, func_in, held, type_in}
+use Rattle.dialect_core.specs.Form.{HasOwnValues, IsValueOf, StandsBefore, uses_of}
+use Rattle.dialect_core.specs.Rules.{IsIntegerBy}
+use Rattle.dialect_core.specs.WellFormed.{IsEdge, IsOfKind, IsTypedBy, IsWellFormedBlock, IsWellFormedFunc, IsWellFormedOp, Typing}
 use Rattle.dialect_core.specs.Checking.{func_at}
 use Rattle.dialect_core.proofs.ChainLemmas.{same_op}
 use Rattle.dialect_core.proofs.HoldLemmas.{flat_stands, stands_cases, stands_flat, stands_left, stands_right}
@@ -95,26 +96,6 @@ module _ (types : Typing) where
   none : (vs : List Value) → vs ≡ [] → All P vs
   none vs e = subst (All P) (sym e) (λ k d l. absurd (omega arith))
 
-  one : (vs : List Value) (v : Value) → vs ≡ v ∷ [] → P v → All P vs
-  one vs v e p = subst (All P) (sym e) (all_from P (v ∷ []) at)
-    where
-      at : (i : ℕ) (w : Value) → slice_get (v ∷ []) i ≡ Some w → P w
-      at zero w h = subst P (same_Some v w h) p
-      at (suc i) w h = absurd (none-some w h)
-
-  two : (vs : List Value) (v u : Value) → vs ≡ v ∷ u ∷ [] → P v → P u → All P vs
-  two vs v u e p q = subst (All P) (sym e) (all_from P (v ∷ u ∷ []) at)
-    where
-      at : (i : ℕ) (w : Value) → slice_get (v ∷ u ∷ []) i ≡ Some w → P w
-      at zero w h = subst P (same_Some v w h) p
-      at (suc zero) w h = subst P (same_Some u w h) q
-      at (suc (suc i)) w h = absurd (none-some w h)
-
-  returned : (t : TypeTree) (vs : List Value) → Returned types t vs → All P vs
-  returned VoidType vs h = none vs h
-  returned (IntegerType w) vs h = one vs h.0 h.1 (IntegerType w, h.2)
-  returned (FuncType r ps n) vs h = one vs h.0 h.1 (FuncType r ps n, h.2)
-
   module _ (g : Func) where
     abbrev args : List Successor → List Value
     args ss = flat_map (λ (s : Successor). s.args) ss
@@ -128,13 +109,8 @@ module _ (types : Typing) where
         all_at P w.0.args w.2.0 v (all_at (IsEdge types g) ss w.1.0 w.0 h w.1.1).args w.2.1)
 
     kind_typed : (vs : List Value) (own : Option TypeTree) (ss : List Successor) (k : Kind) → IsOfKind types g vs own ss k → All P vs × All P (args ss)
-    kind_typed vs own ss (ConstantOp (IntegerAttr t v)) h = (none vs h.3, no_edges ss h.4)
-    kind_typed vs own ss (AddOp flags) h = (two vs h.1.lhs h.1.rhs h.1.are (h.0, h.1.left) (h.0, h.1.right), no_edges ss h.3)
-    kind_typed vs own ss (ICmpOp p) h = (two vs h.0.1.lhs h.0.1.rhs h.0.1.are (h.0.0, h.0.1.left) (h.0.0, h.0.1.right), no_edges ss h.2)
-    kind_typed vs own ss BrOp h = (none vs h.0, edges ss h.2.1)
-    kind_typed vs own ss CondBrOp h = (one vs h.0.0 h.0.1 (IntegerType 1, h.0.2), edges ss h.2.1)
-    kind_typed vs own ss ReturnOp h = (returned (result_of g.type) vs h.0, no_edges ss h.2)
-    kind_typed vs own ss UnreachableOp h = (none vs h.0, no_edges ss h.2)
+    kind_typed vs own ss (ConstantOp (IntegerAttr t v)) h = (none vs h.bare, no_edges ss h.ends_here)
+    kind_typed vs own ss (RowOp op) h = (All-weaker (IsIntegerBy types) P (λ v t. (t.0, t.1)) vs h.integers, edges ss h.leads.1)
 
     uses_typed : (o : DialectOp) → IsWellFormedOp types g o → All P (uses_of o)
     uses_typed o h = let b = kind_typed o.operands o.result o.successors o.kind h in All-append P o.operands (args o.successors) b.0 b.1

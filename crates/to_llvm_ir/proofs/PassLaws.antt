@@ -4,12 +4,11 @@ use Rattle.std.specs.Option.{option_map}
 use Rattle.std.proofs.lemmas.Bool.{cond-true}
 use Rattle.std.proofs.lemmas.Option.{slice_get_within}
 use Rattle.std.proofs.lemmas.List.{append-nil, take_all}
-use Rattle.std.proofs.lemmas.List.Elements.{All-weaker}
 use Rattle.support.proofs.ListLaws.{item_there}
 use Rattle.llvm_core.specs.declared.numbers.LLVMBasicBlock.{LLVMBasicBlock}
 use Rattle.llvm_core.specs.Module.{Module}
 use Rattle.llvm_core.specs.Data.{Operand}
-use Rattle.dialect_types.specs.Trees.{TypeTree, type_trees}
+use Rattle.dialect_types.specs.Trees.{type_trees}
 use Rattle.dialect_types.specs.declared.types.TypeHandle.{TypeHandle}
 use Rattle.dialect_core.specs.declared.numbers.BlockRef.{BlockRef}
 use Rattle.dialect_core.specs.declared.numbers.OpRef.{OpRef}
@@ -19,7 +18,7 @@ use Rattle.dialect_core.specs.declared.ops.Successor.{Successor}
 use Rattle.dialect_core.specs.declared.ops.BlockData.{BlockData}
 use Rattle.dialect_core.specs.ContextData.{ContextData}
 use Rattle.dialect_core.specs.Data.{DialectBlock, Func, block_in}
-use Rattle.dialect_core.specs.Form.{FitsTarget, IsOperand}
+use Rattle.dialect_core.specs.Form.{FitsTarget}
 use Rattle.meaning.specs.Dialect.{same_value}
 use Rattle.meaning.proofs.SameValues.{same_value-Decides}
 use Rattle.to_llvm_ir.specs.declared.to_llvm_err.ToLLVMErr.TheVariants as E
@@ -201,7 +200,7 @@ edge_next c op s l e from blocks given known m h fits =
       order = h.spot.task.order;
       insts = h.spot.task.insts;
       target = edge_target s.task.source e form fits;
-      args = All-weaker (λ (v : Value). (type : TypeTree) × IsOperand s.task.source type v) (IsTypedValue s.task.source) (λ v o. (o.0, o.1.typed)) e.args form.args;
+      args = form.args;
       there = let lt = slice_get_within s.task.source.blocks s.place s.block h.spot.here in let here = h.here in let count = h.state.block_count in omega (arith, lt, here, count);
       state = h.state;
     }

@@ -16,8 +16,8 @@ use Rattle.dialect_core.specs.declared.numbers.BlockRef.{BlockRef}
 use Rattle.dialect_core.specs.declared.ops.Value.{Value}
 use Rattle.dialect_core.specs.declared.ops.Value.TheVariants.{Argument}
 use Rattle.dialect_core.specs.declared.ops.Successor.{Successor}
-use Rattle.dialect_core.specs.Data.{DialectOp, DialectBlock, Func, Kind, ConstantOp, AddOp, ICmpOp, BrOp, CondBrOp, ReturnOp, UnreachableOp}
-use Rattle.dialect_core.specs.Form.{IsFormFunc, FitsTarget, edges_of, is_constant}
+use Rattle.dialect_core.specs.Data.{DialectOp, DialectBlock, Func, Kind, ConstantOp, RowOp}
+use Rattle.dialect_core.specs.Form.{IsFormFunc, FitsTarget, edges_of, is_constant, is_constant_kind}
 use Rattle.meaning.specs.Pairs.{BothOrNone}
 use Rattle.meaning.specs.Dialect.{type_of}
 use Rattle.to_llvm_ir.specs.Exported.{phi_types, edge_sources, blocks_by, HasEdges, HasPhis}
@@ -50,24 +50,19 @@ phis_only xs ys h k =
     ∙ ap (λ (ps : List Placed). xs ++ ps) (filter_none is_phi ys k) ∙ append-nil xs
 
 module _ (g : Func) (n : Numbers) where
-  pub no_phi : (k : Kind) (vs : List Value) (ss : List Successor) → phi_entries (instruction_for g n k vs ss) ≡ None
-  no_phi (ConstantOp value) vs ss = refl
-  no_phi (AddOp flags) vs ss = refl
-  no_phi (ICmpOp predicate) vs ss = refl
-  no_phi BrOp vs ss = refl
-  no_phi CondBrOp vs ss = refl
-  no_phi ReturnOp vs ss = refl
-  no_phi UnreachableOp vs ss = refl
+  pub no_phi : (k : Kind) (own : Option TypeTree) (vs : List Value) (ss : List Successor) → is_constant_kind k ≡ false → phi_entries (instruction_for g n k own vs ss) ≡ None
+  no_phi (ConstantOp value) own vs ss e = cc
+  no_phi (RowOp op) own vs ss e = refl
 
   -- what holds of all that has no entries
   insts_other : (P : Option (List (Operand × ℕ)) → Type 0) → P None → (k : ℕ) (os : List DialectOp) → All (λ (p : Placed). P (phi_entries p.instruction)) (insts g n k os)
   insts_other P none k [] = All-nil (λ (p : Placed). P (phi_entries p.instruction))
-  insts_other P none k (o ∷ os) = by (is_constant o) (insts_other P none (number_after o.result k) os)
+  insts_other P none k (o ∷ os) = by (is_constant o) refl (insts_other P none (number_after o.result k) os)
     where
-      by : (t : Bool) → All (λ (p : Placed). P (phi_entries p.instruction)) (insts g n (number_after o.result k) os)
+      by : (t : Bool) → is_constant o ≡ t → All (λ (p : Placed). P (phi_entries p.instruction)) (insts g n (number_after o.result k) os)
           → All (λ (p : Placed). P (phi_entries p.instruction)) (if t then insts g n (number_after o.result k) os else inst g n k o ∷ insts g n (number_after o.result k) os)
-      by true r = r
-      by false r = All-cons (λ (p : Placed). P (phi_entries p.instruction)) (inst g n k o) (insts g n (number_after o.result k) os) (subst P (sym (no_phi o.kind o.operands o.successors)) none) r
+      by true e r = r
+      by false e r = All-cons (λ (p : Placed). P (phi_entries p.instruction)) (inst g n k o) (insts g n (number_after o.result k) os) (subst P (sym (no_phi o.kind o.result o.operands o.successors e)) none) r
 
   pub insts_no_phi : (k : ℕ) (os : List DialectOp) → All (λ (p : Placed). is_phi p ≡ false) (insts g n k os)
   insts_no_phi k os = insts_other (λ (o : Option (List (Operand × ℕ))). is_some o ≡ false) refl k os

@@ -9,16 +9,17 @@ use Rattle.meaning.proofs.MatchedLaws.{matched_append}
 use Rattle.llvm_core.specs.Data as L
 use Rattle.llvm_core.specs.Data.{Operand, Placed, Block, Function, placed_in, operand_type}
 use Rattle.llvm_core.specs.Form as F
-use Rattle.dialect_types.specs.Trees.{TypeTree, TypeTrees, VoidType, IntegerType, FuncType, NoTypes, ThenType, AttrTree, IntegerAttr}
+use Rattle.dialect_types.specs.Trees.{TypeTree, TypeTrees, VoidType, IntType, FunctionType, NoTypes, ThenType, AttrTree, IntegerAttr}
 use Rattle.block_order.specs.Order.{IsOrder}
 use Rattle.dialect_core.specs.declared.numbers.BlockRef.{BlockRef}
 use Rattle.dialect_core.specs.declared.numbers.OpRef.{OpRef}
 use Rattle.dialect_core.specs.declared.ops.Value.{Value}
 use Rattle.dialect_core.specs.declared.ops.Value.TheVariants.{Result, Argument}
-use Rattle.dialect_core.specs.Data.{DialectOp, DialectBlock, Func, Kind, ConstantOp, AddOp, ICmpOp, BrOp, CondBrOp, ReturnOp, UnreachableOp, value_type}
-use Rattle.dialect_core.specs.Form.{IsFormFunc, IsFormKind, IsShortInt, IsFitting, IsOperand, is_constant, is_constant_kind, others_of, types_list}
+use Rattle.dialect_core.specs.Data.{DialectOp, DialectBlock, Func, Kind, ConstantOp, RowOp, value_type}
+use Rattle.dialect_core.specs.Rules.{IsOfKind}
+use Rattle.dialect_core.specs.Form.{IsFormFunc, IsShortInt, IsFitting, IsOperand, is_constant, is_constant_kind, others_of, types_list}
 use Rattle.meaning.specs.Pairs.{Matched}
-use Rattle.meaning.specs.Dialect.{type_of, types_of, option_type}
+use Rattle.meaning.specs.Dialect.{type_of, option_type}
 use Rattle.to_llvm_ir.specs.Exported.{result, arguments_from, phi_values}
 use Rattle.to_llvm_ir.specs.Made.{Numbers, result_values, values_from, values, values_by, const_of, constant_or, is_entry, number_of, operand_for, inst, insts, phis, block_phis, block_made, blocks_made, function_made, entry_args, number_after, number_behind}
 use Rattle.to_llvm_ir.proofs.ListLaws.{AreNumbered, find_numbered}
@@ -39,6 +40,13 @@ matched_back P xs [] i y m at = absurd (none-some y at)
 matched_back P [] (z ∷ ys) i y m at = absurd m
 matched_back P (x ∷ xs) (z ∷ ys) zero y m at = (x, refl, subst (λ w. P x w) (same_Some z y at) m.0)
 matched_back P (x ∷ xs) (z ∷ ys) (suc i) y m at = matched_back P xs ys i y m.1 at
+
+-- ---- types
+
+pub short_int : (t : TypeTree) → IsShortInt t → F.IsShortInt t
+short_int VoidType h = absurd h
+short_int (IntType w) h = h
+short_int (FunctionType r ps v) h = absurd h
 
 -- ---- the instruction of a value
 
@@ -122,7 +130,7 @@ module _ (g : Func) (form : IsFormFunc g) (n : Numbers) (order : IsOrder (length
   pub params_count : length made.params ≡ length form.entry.args
   params_count = length-map (entry_args g n) (λ (t : TypeTree). let none : List ℕ = [] in none) ∙ ap (λ (o : Option DialectBlock). length (option_map_or (λ (c : DialectBlock). c.args) o [])) (entry_at g form)
 
-  nth_is : (ts : TypeTrees) (i : ℕ) (t : TypeTree) → slice_get (types_list ts) i ≡ Some t → L.nth_type (types_of ts) i ≡ type_of t
+  nth_is : (ts : TypeTrees) (i : ℕ) (t : TypeTree) → slice_get (types_list ts) i ≡ Some t → L.nth_type ts i ≡ type_of t
   nth_is NoTypes i t at = absurd (none-some t at)
   nth_is (ThenType u ts) zero t at = ap type_of (same_Some u t at)
   nth_is (ThenType u ts) (suc i) t at = nth_is ts i t at
@@ -149,12 +157,7 @@ module _ (g : Func) (form : IsFormFunc g) (n : Numbers) (order : IsOrder (length
 
   other_kind : (x : Operand) (k : Kind) → is_constant_kind k ≡ false → constant_or x k ≡ x
   other_kind x (ConstantOp value) e = cc
-  other_kind x (AddOp flags) e = refl
-  other_kind x (ICmpOp predicate) e = refl
-  other_kind x BrOp e = refl
-  other_kind x CondBrOp e = refl
-  other_kind x ReturnOp e = refl
-  other_kind x UnreachableOp e = refl
+  other_kind x (RowOp op) e = refl
 
   pub result_operand : (j k : ℕ) (r : OpRef) (c : DialectBlock) (o : DialectOp) → slice_get g.blocks j ≡ Some c → slice_get c.ops k ≡ Some o → o.number ≡ r.0 → is_constant o ≡ false → operand_for g n (Result r) ≡ L.Result (number_of g n (Result r))
   result_operand j k r c o at at' is other = op_operand j k r c o at at' is ∙ other_kind (L.Result (number_of g n (Result r))) o.kind other
@@ -163,7 +166,7 @@ module _ (g : Func) (form : IsFormFunc g) (n : Numbers) (order : IsOrder (length
 
   pub data OperandIs (v : Value) (t : TypeTree) : Type 0 where
     IsParam : (i : ℕ) (b : BlockRef) → v ≡ Argument b i → b.0 ≡ form.entry.number → slice_get form.entry.args i ≡ Some t → operand_for g n v ≡ L.Parameter n.function i → OperandIs v t
-    IsConst : (j k : ℕ) (c : DialectBlock) (o : DialectOp) (value : AttrTree) → slice_get g.blocks j ≡ Some c → slice_get c.ops k ≡ Some o → v ≡ result o → o.kind ≡ ConstantOp value → o.result ≡ Some t → IsFormKind g o o.kind → operand_for g n v ≡ L.Constant (const_of value) → OperandIs v t
+    IsConst : (j k : ℕ) (c : DialectBlock) (o : DialectOp) (value : AttrTree) → slice_get g.blocks j ≡ Some c → slice_get c.ops k ≡ Some o → v ≡ result o → o.kind ≡ ConstantOp value → o.result ≡ Some t → IsOfKind (value_type g) g o.operands o.result o.successors o.kind → operand_for g n v ≡ L.Constant (const_of value) → OperandIs v t
     IsInst : (i : ℕ) → slice_get (values_by n.order g) i ≡ Some v → operand_for g n v ≡ L.Result (number_of g n v) → OperandIs v t
 
   argument_is : (b : BlockRef) (i : ℕ) (t : TypeTree) (place : ℕ) (c : DialectBlock) → slice_get g.blocks place ≡ Some c → c.number ≡ b.0 → slice_get c.args i ≡ Some t → OperandIs (Argument b i) t
@@ -178,12 +181,7 @@ module _ (g : Func) (form : IsFormFunc g) (n : Numbers) (order : IsOrder (length
   constant_is : (r : OpRef) (t : TypeTree) (place k : ℕ) (c : DialectBlock) (o : DialectOp) (kind : Kind) → slice_get g.blocks place ≡ Some c → slice_get c.ops k ≡ Some o → o.number ≡ r.0 → o.result ≡ Some t → o.kind ≡ kind → is_constant_kind kind ≡ true → OperandIs (Result r) t
   constant_is r t place k c o (ConstantOp value) at at' is type kind e =
       IsConst place k c o value at at' (ap (λ (m : ℕ). Result (record { 0 = m })) (sym is)) kind type (op_form g form place k c o at at').kind (constant_operand place k r c o value at at' is kind)
-  constant_is r t place k c o (AddOp flags) at at' is type kind e = cc
-  constant_is r t place k c o (ICmpOp predicate) at at' is type kind e = cc
-  constant_is r t place k c o BrOp at at' is type kind e = cc
-  constant_is r t place k c o CondBrOp at at' is type kind e = cc
-  constant_is r t place k c o ReturnOp at at' is type kind e = cc
-  constant_is r t place k c o UnreachableOp at at' is type kind e = cc
+  constant_is r t place k c o (RowOp op) at at' is type kind e = absurd (let never : false ≡ true = e in cc)
 
   result_is : (r : OpRef) (t : TypeTree) (h : IsResultOf g form r t) → (b : Bool) → is_constant h.op ≡ b → OperandIs (Result r) t
   result_is r t h true e = constant_is r t h.place h.at h.block h.op h.op.kind h.here h.there h.number h.type refl e
@@ -197,18 +195,13 @@ module _ (g : Func) (form : IsFormFunc g) (n : Numbers) (order : IsOrder (length
 
   -- ---- operands of the form
 
-  short_int : (t : TypeTree) → IsShortInt t → F.IsShortInt (type_of t)
-  short_int VoidType h = absurd h
-  short_int (IntegerType w) h = h
-  short_int (FuncType r ps v) h = absurd h
-
-  const_fits : (value : AttrTree) (k : Kind) (o : DialectOp) (t : TypeTree) → k ≡ ConstantOp value → o.result ≡ Some t → IsFormKind g o k → F.IsFitting (const_of value) × (L.const_type (const_of value) ≡ type_of t)
-  const_fits (IntegerAttr u m) k o t kind type h = let p = subst (IsFormKind g o) kind h in (fits u m p.0 p.1, ap type_of (same_Some u t (sym p.4 ∙ type)))
+  const_fits : (value : AttrTree) (k : Kind) (o : DialectOp) (t : TypeTree) → k ≡ ConstantOp value → o.result ≡ Some t → IsOfKind (value_type g) g o.operands o.result o.successors k → F.IsFitting (const_of value) × (L.const_type (const_of value) ≡ type_of t)
+  const_fits (IntegerAttr u m) k o t kind type h = let p = subst (IsOfKind (value_type g) g o.operands o.result o.successors) kind h in (fits u m p.short p.fitting, same_Some u t (sym p.result ∙ type))
     where
       fits : (u : TypeTree) (m : ℕ) → IsShortInt u → IsFitting u m → F.IsFitting (const_of (IntegerAttr u m))
       fits VoidType m short fit = absurd short
-      fits (IntegerType w) m short fit = fit
-      fits (FuncType r ps v) m short fit = absurd short
+      fits (IntType w) m short fit = fit
+      fits (FunctionType r ps v) m short fit = absurd short
 
   operand_typed_as : (v : Value) (t : TypeTree) → value_type g v ≡ Some t → OperandIs v t → F.IsOperandOf made (operand_for g n v) × (operand_type made (operand_for g n v) ≡ type_of t)
   operand_typed_as v t e (IsParam i b is entry type operand) = (

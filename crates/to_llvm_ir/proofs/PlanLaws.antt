@@ -7,12 +7,12 @@ use Rattle.std.proofs.lemmas.Option.{same_Some, none-some, slice_get_within, con
 use Rattle.support.proofs.ListLaws.{all_from, filter_from, filter_at}
 use Rattle.llvm_core.specs.Data as L
 use Rattle.llvm_core.specs.Data.{Operand, Placed, Function, Block}
-use Rattle.dialect_types.specs.Trees.{TypeTree, TypeTrees, VoidType, IntegerType, FuncType, NoTypes, ThenType, AttrTree, IntegerAttr}
+use Rattle.dialect_types.specs.Trees.{TypeTree, TypeTrees, VoidType, IntType, FunctionType, NoTypes, ThenType, AttrTree, IntegerAttr}
 use Rattle.block_order.specs.Order.{IsOrder}
 use Rattle.dialect_core.specs.declared.numbers.BlockRef.{BlockRef}
 use Rattle.dialect_core.specs.declared.ops.Value.{Value}
 use Rattle.dialect_core.specs.declared.ops.Value.TheVariants.{Result, Argument}
-use Rattle.dialect_core.specs.Data.{DialectOp, DialectBlock, Func, Kind, ConstantOp, AddOp, ICmpOp, BrOp, CondBrOp, ReturnOp, UnreachableOp, ops_in, value_type}
+use Rattle.dialect_core.specs.Data.{DialectOp, DialectBlock, Func, Kind, ConstantOp, RowOp, ops_in, value_type}
 use Rattle.dialect_core.specs.Form.{IsFormFunc, is_constant, is_constant_kind, types_list}
 use Rattle.meaning.specs.Terms.{Term, Param, Unset, rename}
 use Rattle.meaning.specs.Machine.{Row, At, begin}
@@ -20,7 +20,7 @@ use Rattle.meaning.specs.Examples.{same_places}
 use Rattle.meaning.specs.Llvm as llvm
 use Rattle.meaning.specs.Llvm.{Key, ParamKey, ResultKey}
 use Rattle.meaning.specs.Dialect as dialect
-use Rattle.meaning.specs.Dialect.{same_value, attr_term, type_of, types_of}
+use Rattle.meaning.specs.Dialect.{same_value, attr_term, type_of}
 use Rattle.meaning.specs.Shape as S
 use Rattle.meaning.specs.Shape.{Plan, IsPlan, IsSilent, among, AreAmong, operands_of, IsClosed, term_among}
 use Rattle.meaning.proofs.SameValues.{same_value-Decides}
@@ -46,12 +46,7 @@ constants_of g = filter is_constant (ops_in g)
 module _ (g : Func) where
   constant_silent : (done : List (Row Value)) (o : DialectOp) (k : Kind) → is_constant_kind k ≡ true → IsSilent (dialect.action g o k) × AreAmong done (operands_of (dialect.action g o k))
   constant_silent done o (ConstantOp value) e = (tt, tt)
-  constant_silent done o (AddOp flags) e = cc
-  constant_silent done o (ICmpOp predicate) e = cc
-  constant_silent done o BrOp e = cc
-  constant_silent done o CondBrOp e = cc
-  constant_silent done o ReturnOp e = cc
-  constant_silent done o UnreachableOp e = cc
+  constant_silent done o (RowOp op) e = absurd (let never : false ≡ true = e in cc)
 
   closed : (done : List (Row Value)) (os : List DialectOp) → All (λ (o : DialectOp). is_constant o ≡ true) os → IsClosed done (rows g os)
   closed done [] h = tt
@@ -193,7 +188,7 @@ module _ (g : Func) (form : IsFormFunc g) (n : Numbers) (order : IsOrder (length
 
   -- ---- the start
 
-  arity_count : (ts : TypeTrees) → llvm.count_types (types_of ts) ≡ length (types_list ts)
+  arity_count : (ts : TypeTrees) → llvm.count_types ts ≡ length (types_list ts)
   arity_count NoTypes = refl
   arity_count (ThenType t ts) = ap suc (arity_count ts)
 
@@ -225,10 +220,10 @@ module _ (g : Func) (form : IsFormFunc g) (n : Numbers) (order : IsOrder (length
 
   -- ---- operands
 
-  integer_same : (t : TypeTree) (m : ℕ) → rename same_places (llvm.int_of (type_of t) m) ≡ llvm.int_of (type_of t) m
+  integer_same : (t : TypeTree) (m : ℕ) → rename same_places (llvm.int_of t m) ≡ llvm.int_of t m
   integer_same VoidType m = refl
-  integer_same (IntegerType w) m = refl
-  integer_same (FuncType r ps v) m = refl
+  integer_same (IntType w) m = refl
+  integer_same (FunctionType r ps v) m = refl
 
   constant_same : (d : L.ModuleData) (value : AttrTree) → rename same_places (llvm.const_term d (const_of value)) ≡ attr_term value
   constant_same d (IntegerAttr t m) = integer_same t m

@@ -1,29 +1,28 @@
 -- The function that is made has the shape of the dialect's, with constants at any places.
-use Rattle.std.proofs.Common.{◌≡◌, ◌+◌, ℕ, zero, suc, Bool, true, false, not, nat_eq, if◌then◌else◌, ◌⊎◌, inl, inr, List, [], ◌∷◌, ◌++◌, Option, Some, None, length, map, take, slice_get, refl, sym, ap, subst, ◌∙◌, arith, ⊎_elim}
+use Rattle.std.proofs.Common.{◌≡◌, ◌+◌, ℕ, zero, suc, Bool, true, false, not, nat_eq, if◌then◌else◌, List, [], ◌∷◌, ◌++◌, Option, Some, None, All, length, map, take, slice_get, refl, sym, ap, subst, ◌∙◌, arith}
 use Rattle.std.specs.List.{filter_map, cons_option, find}
 use Rattle.std.specs.Option.{option_map, option_map_or}
 use Rattle.std.proofs.lemmas.List.{append-nil}
-use Rattle.std.proofs.lemmas.List.Elements.{filter_map-append}
+use Rattle.std.proofs.lemmas.List.Elements.{All-head, All-tail, filter_map-append}
 use Rattle.std.proofs.lemmas.Option.{slice_get-map, slice_get_within}
 use Rattle.llvm_core.specs.Data as L
-use Rattle.llvm_core.specs.Data.{Placed, Operand, Instruction, Function, Block, ModuleData, operand_type, phi_entries, targets}
-use Rattle.dialect_types.specs.Trees.{TypeTree, VoidType, IntegerType, FuncType}
+use Rattle.llvm_core.specs.Data.{Placed, Operand, Function, Block, ModuleData, operand_type}
+use Rattle.dialect_types.specs.Trees.{TypeTree}
 use Rattle.block_order.specs.Order.{IsOrder}
 use Rattle.dialect_core.specs.declared.numbers.BlockRef.{BlockRef}
 use Rattle.dialect_core.specs.declared.ops.Value.{Value}
 use Rattle.dialect_core.specs.declared.ops.Value.TheVariants.{Argument}
 use Rattle.dialect_core.specs.declared.ops.Successor.{Successor}
-use Rattle.dialect_core.specs.Data.{DialectOp, DialectBlock, Func, Kind, ConstantOp, AddOp, ICmpOp, BrOp, CondBrOp, ReturnOp, UnreachableOp, value_type}
-use Rattle.dialect_core.specs.Form.{IsFormFunc, IsFormKind, IsOperand, Returns, result_of, FitsTarget, is_constant, is_constant_kind, others_of, edges_of}
-use Rattle.meaning.specs.Terms as Op
-use Rattle.meaning.specs.Terms.{Term, Predicate, rename, rename_type, rename_types, rename_immediate, overflow_immediates}
-use Rattle.meaning.specs.Machine.{Row, Action, Applies, At, Operand as MachineOperand, Block as MachineBlock}
+use Rattle.dialect_core.specs.Data.{DialectOp, DialectBlock, Func, Kind, ConstantOp, RowOp, value_type}
+use Rattle.dialect_core.specs.Form.{IsFormFunc, IsShortValue, FitsTarget, is_constant, is_constant_kind, others_of, edges_of}
+use Rattle.meaning.specs.Terms.{rename_type, rename_types}
+use Rattle.meaning.specs.Machine.{Row, Action, At, Operand as MachineOperand, Block as MachineBlock}
 use Rattle.meaning.specs.Pairs.{Matched, BothOrNone}
 use Rattle.meaning.specs.Examples.{same_places}
 use Rattle.meaning.specs.Llvm as llvm
 use Rattle.meaning.specs.Llvm.{Key, ParamKey, ResultKey}
 use Rattle.meaning.specs.Dialect as dialect
-use Rattle.meaning.specs.Dialect.{type_of, option_type, attr_term, argument_moves, predicate_of}
+use Rattle.meaning.specs.Dialect.{option_type, argument_moves}
 use Rattle.meaning.specs.Shape as S
 use Rattle.meaning.specs.Shape.{SameAction, SameRow, SameEdge, SameMove}
 use Rattle.meaning.specs.Woven.{WovenBlock, WovenShape}
@@ -38,7 +37,7 @@ use Rattle.to_llvm_ir.proofs.TurnLaws.{argument_among, result_among, turn_at}
 use Rattle.to_llvm_ir.proofs.LookupLaws.{op_form, place_is, block_found}
 use Rattle.to_llvm_ir.proofs.PlacedLaws.{operand_typed}
 use Rattle.to_llvm_ir.proofs.PlanLaws.{plan, is_plan, starts, unset, has_constant, value_at, stands}
-use Rattle.to_llvm_ir.proofs.EdgeLaws.{made_at, made_none, made_numbered, target_for, block_leads, edge_form, edge_target, first_entry}
+use Rattle.to_llvm_ir.proofs.EdgeLaws.{made_at, made_none, made_numbered, target_for, block_leads, edge_form, edge_short, edge_target, first_entry}
 use Rattle.to_llvm_ir.proofs.PhiLaws.{no_phi}
 
 -- ---- the match that leaves all where it is
@@ -52,18 +51,6 @@ mutual
   types_same : (tys : L.TypeTrees) → rename_types same_places tys ≡ tys
   types_same L.NoTypes = refl
   types_same (L.ThenType t ts) = let e = type_same t in let f = types_same ts in cc
-
--- what a return has
-pub returned : (g : Func) (t : TypeTree) (vs : List Value) → Returns g t vs → ((vs ≡ []) × (type_of t ≡ L.VoidType)) ⊎ ((v : Value) × (vs ≡ v ∷ []) × IsOperand g t v)
-returned g VoidType [] h = inl (refl, refl)
-returned g (IntegerType w) [] h = absurd h
-returned g (FuncType r ps v) [] h = absurd h
-returned g VoidType (v ∷ []) h = inr (v, refl, h)
-returned g (IntegerType w) (v ∷ []) h = inr (v, refl, h)
-returned g (FuncType r ps x) (v ∷ []) h = inr (v, refl, h)
-returned g VoidType (v ∷ (u ∷ vs)) h = absurd h
-returned g (IntegerType w) (v ∷ (u ∷ vs)) h = absurd h
-returned g (FuncType r ps x) (v ∷ (u ∷ vs)) h = absurd h
 
 -- edges that are made one by one
 edges_match : {A B X : Type 0} (P : A → B → Type 0) (f : ℕ → A) (t : X → ℕ) (h : X → B) (xs : List X) → ((i : ℕ) (x : X) → slice_get xs i ≡ Some x → P (f (t x)) (h x)) → Matched P (map f (map t xs)) (map h xs)
@@ -85,58 +72,39 @@ module _ (g : Func) (form : IsFormFunc g) (n : Numbers) (order : IsOrder (length
 
   -- ---- rows
 
-  abbrev act : DialectOp → Instruction → Action Key
-  act o x = Applies (llvm.row_of d x).0 (llvm.row_of d x).1 (option_type o.result) (map (operand_type made) (llvm.row_of d x).2) (map (llvm.operand d) (llvm.row_of d x).2)
+  types_alike : (vs : List Value) → All (IsShortValue g) vs → map (rename_type same_places) (map (operand_type made) (map (operand_for g n) vs)) ≡ map (λ (v : Value). option_type (value_type g v)) vs
+  types_alike [] h = refl
+  types_alike (v ∷ vs) h =
+      let one = All-head (IsShortValue g) v vs h in
+      let e = typed_alike v one.0 one.1.typed in
+      let f = types_alike vs (All-tail (IsShortValue g) v vs h) in
+      cc
 
-  abbrev applied : DialectOp → Op.Opcode → List Op.Immediate → List Value → Action Value
-  applied o opcode is vs = Applies opcode is (option_type o.result) (map (λ (v : Value). option_type (value_type g v)) vs) (map At vs)
+  values_stand : (vs : List Value) → All (IsShortValue g) vs → Matched Alike (map (llvm.operand d) (map (operand_for g n) vs)) (map At vs)
+  values_stand [] h = tt
+  values_stand (v ∷ vs) h = let one = All-head (IsShortValue g) v vs h in (stands g form n order d v one.0 one.1.typed, values_stand vs (All-tail (IsShortValue g) v vs h))
 
-  actions : (o : DialectOp) (k : Kind) → IsFormKind g o k → is_constant o ≡ false → k ≡ o.kind → SameAction same_places (plan g form n order) (act o (instruction_for g n k o.operands o.successors)) (dialect.action g o k)
-  actions o (ConstantOp value) h other is = let e : true ≡ false = ap is_constant_kind is ∙ other in cc
-  actions o (AddOp flags) h other is =
-      subst (λ (vs : List Value). SameAction same_places (plan g form n order) (act o (instruction_for g n (AddOp flags) vs o.successors)) (applied o Op.Add (overflow_immediates flags.nsw flags.nuw) vs)) (sym h.3) (
-        refl,
-        refl,
-        type_same (option_type o.result),
-        (let e = typed_alike h.1 h.0 h.6.typed in let f = typed_alike h.2 h.0 h.7.typed in cc),
-        (stands g form n order d h.1 h.0 h.6.typed, (stands g form n order d h.2 h.0 h.7.typed, tt)),
-      )
-  actions o (ICmpOp predicate) h other is =
-      subst (λ (vs : List Value). SameAction same_places (plan g form n order) (act o (instruction_for g n (ICmpOp predicate) vs o.successors)) (applied o Op.ICmp (Predicate (predicate_of predicate) ∷ []) vs)) (sym h.3) (
-        refl,
-        refl,
-        type_same (option_type o.result),
-        (let e = typed_alike h.1 h.0 h.6.typed in let f = typed_alike h.2 h.0 h.7.typed in cc),
-        (stands g form n order d h.1 h.0 h.6.typed, (stands g form n order d h.2 h.0 h.7.typed, tt)),
-      )
-  actions o BrOp h other is =
-      subst (λ (vs : List Value). SameAction same_places (plan g form n order) (act o (instruction_for g n BrOp vs o.successors)) (applied o Op.Br [] vs)) (sym h.0)
-      (refl, refl, type_same (option_type o.result), refl, tt)
-  actions o CondBrOp h other is =
-      subst (λ (vs : List Value). SameAction same_places (plan g form n order) (act o (instruction_for g n CondBrOp vs o.successors)) (applied o Op.CondBr [] vs)) (sym h.1)
-      (refl, refl, type_same (option_type o.result), (let e = typed_alike h.0 (IntegerType 1) h.2.typed in cc), (stands g form n order d h.0 (IntegerType 1) h.2.typed, tt))
-  actions o ReturnOp h other is = ⊎_elim
-      (λ none. subst (λ (vs : List Value). SameAction same_places (plan g form n order) (act o (instruction_for g n ReturnOp vs o.successors)) (applied o Op.Ret [] vs)) (sym none.0)
-      (refl, refl, type_same (option_type o.result), refl, tt))
-      (λ one. subst (λ (vs : List Value). SameAction same_places (plan g form n order) (act o (instruction_for g n ReturnOp vs o.successors)) (applied o Op.Ret [] vs)) (sym one.1)
-      (refl, refl, type_same (option_type o.result), (let e = typed_alike one.0 (result_of g.type) one.2.typed in cc), (stands g form n order d one.0 (result_of g.type) one.2.typed, tt)))
-      (returned g (result_of g.type) o.operands h.0)
-  actions o UnreachableOp h other is =
-      subst (λ (vs : List Value). SameAction same_places (plan g form n order) (act o (instruction_for g n UnreachableOp vs o.successors)) (applied o Op.Unreachable [] vs)) (sym h.0)
-      (refl, refl, type_same (option_type o.result), refl, tt)
+  -- the row of what an operation becomes, where the next value has the number k
+  pub record IsPaired (k : ℕ) (o : DialectOp) : Type 0 where
+    pub row : Row Key
+    pub made_row : llvm.row d made (inst g n k o) (inst g n k o).instruction ≡ Some row
+    pub same : SameRow same_places (plan g form n order) row (dialect.row g o)
 
-  abbrev llvm_row : Placed → Row Key
-  llvm_row p = record { action = llvm.action d made p; result = ResultKey p.number }
+  actions : (k : ℕ) (o : DialectOp) (kind : Kind) → is_constant_kind kind ≡ false → All (IsShortValue g) o.operands
+      → (a : Action Key) × (llvm.row d made (inst g n k o) (instruction_for g n kind o.result o.operands o.successors) ≡ Some (record { action = a; result = ResultKey (inst g n k o).number })) × SameAction same_places (plan g form n order) a (dialect.action g o kind)
+  actions k o (ConstantOp value) other h = absurd (let e : true ≡ false = other in cc)
+  actions k o (RowOp op) other h = (_, refl, (refl, type_same (option_type o.result), types_alike o.operands h, values_stand o.operands h))
 
-  row_pair : (j i k : ℕ) (c : DialectBlock) (o : DialectOp) → slice_get g.blocks j ≡ Some c → slice_get c.ops i ≡ Some o → is_constant o ≡ false → SameRow same_places (plan g form n order) (llvm_row (inst g n k o)) (dialect.row g o)
+  row_pair : (j i k : ℕ) (c : DialectBlock) (o : DialectOp) → slice_get g.blocks j ≡ Some c → slice_get c.ops i ≡ Some o → is_constant o ≡ false → IsPaired k o
   row_pair j i k c o at at' other =
       let r = result_among g form n.order order j i c o at at' other in
-      record { action = actions o o.kind (op_form g form j i c o at at').kind other refl; result = value_at g form n order r.0 (result o) r.1 }
+      let a = actions k o o.kind other (op_form g form j i c o at at').operands in
+      record { row = record { action = a.0; result = ResultKey (inst g n k o).number }; made_row = a.1; same = record { action = a.2; result = value_at g form n order r.0 (result o) r.1 } }
 
   abbrev row_for : Placed → Option (Row Key)
-  row_for p = llvm.row d made p (phi_entries p.instruction)
+  row_for p = llvm.row d made p p.instruction
 
-  insts_rows : (k : ℕ) (os : List DialectOp) → ((i : ℕ) (o : DialectOp) → slice_get os i ≡ Some o → (k : ℕ) → is_constant o ≡ false → SameRow same_places (plan g form n order) (llvm_row (inst g n k o)) (dialect.row g o))
+  insts_rows : (k : ℕ) (os : List DialectOp) → ((i : ℕ) (o : DialectOp) → slice_get os i ≡ Some o → (k : ℕ) → is_constant o ≡ false → IsPaired k o)
       → Matched (SameRow same_places (plan g form n order)) (filter_map row_for (insts g n k os)) (map (dialect.row g) (others_of os))
   insts_rows k [] h = tt
   insts_rows k (o ∷ os) h = by (is_constant o) refl (insts_rows (number_after o.result k) os (λ i x at. h (suc i) x at))
@@ -145,8 +113,8 @@ module _ (g : Func) (form : IsFormFunc g) (n : Numbers) (order : IsOrder (length
           → Matched (SameRow same_places (plan g form n order)) (filter_map row_for (if t then insts g n (number_after o.result k) os else inst g n k o ∷ insts g n (number_after o.result k) os)) (map (dialect.row g) (if not t then o ∷ others_of os else others_of os))
       by true e m = m
       by false e m =
-          subst (λ (x : Option (List (Operand × ℕ))). Matched (SameRow same_places (plan g form n order)) (cons_option (llvm.row d made (inst g n k o) x) (filter_map row_for (insts g n (number_after o.result k) os))) (dialect.row g o ∷ map (dialect.row g) (others_of os)))
-          (sym (no_phi g n o.kind o.operands o.successors)) (h 0 o refl k e, m)
+          let p = h 0 o refl k e in
+          subst (λ (x : Option (Row Key)). Matched (SameRow same_places (plan g form n order)) (cons_option x (filter_map row_for (insts g n (number_after o.result k) os))) (dialect.row g o ∷ map (dialect.row g) (others_of os))) (sym p.made_row) (p.same, m)
 
   phis_rows : (b i k : ℕ) (ts : List TypeTree) → filter_map row_for (phis g n (entries g n) b i k ts) ≡ []
   phis_rows b i k [] = refl
@@ -166,12 +134,12 @@ module _ (g : Func) (form : IsFormFunc g) (n : Numbers) (order : IsOrder (length
 
   no_move : (from : ℕ) (k : ℕ) (os : List DialectOp) → filter_map (llvm.phi_move d from) (insts g n k os) ≡ []
   no_move from k [] = refl
-  no_move from k (o ∷ os) = by (is_constant o) (no_move from (number_after o.result k) os)
+  no_move from k (o ∷ os) = by (is_constant o) refl (no_move from (number_after o.result k) os)
     where
-      by : (t : Bool) → filter_map (llvm.phi_move d from) (insts g n (number_after o.result k) os) ≡ [] → filter_map (llvm.phi_move d from) (if t then insts g n (number_after o.result k) os else inst g n k o ∷ insts g n (number_after o.result k) os) ≡ []
-      by true e = e
-      by false e =
-          ap (λ (x : Option (List (Operand × ℕ))). cons_option (option_map (λ (es : List (Operand × ℕ)). (ResultKey (number_of g n (result o)), llvm.entry_for d from es)) x) (filter_map (llvm.phi_move d from) (insts g n (number_after o.result k) os))) (no_phi g n o.kind o.operands o.successors)
+      by : (t : Bool) → is_constant o ≡ t → filter_map (llvm.phi_move d from) (insts g n (number_after o.result k) os) ≡ [] → filter_map (llvm.phi_move d from) (if t then insts g n (number_after o.result k) os else inst g n k o ∷ insts g n (number_after o.result k) os) ≡ []
+      by true c e = e
+      by false c e =
+          ap (λ (x : Option (List (Operand × ℕ))). cons_option (option_map (λ (es : List (Operand × ℕ)). (ResultKey (number_of g n (result o)), llvm.entry_for d from es)) x) (filter_map (llvm.phi_move d from) (insts g n (number_after o.result k) os))) (no_phi g n o.kind o.result o.operands o.successors c)
           ∙ e
 
   moves_match : (from b i k : ℕ) (ts : List TypeTree) (vs : List Value) → length vs ≡ length ts
@@ -211,8 +179,7 @@ module _ (g : Func) (form : IsFormFunc g) (n : Numbers) (order : IsOrder (length
     passed_alike : (j l i : ℕ) (c : DialectBlock) (s : Successor) (v : Value) → slice_get g.blocks j ≡ Some c → slice_get (edges_of c) l ≡ Some s → slice_get s.args i ≡ Some v
         → BothOrNone Alike (llvm.entry_for d (n.block + (0 + j)) (entries g n (Argument s.block i))) (Some (At v))
     passed_alike j l i c s v at at' at'' =
-        let good = edge_form g form n j l c s at at' in
-        let typed = all_at (λ (v : Value). (type : TypeTree) × IsOperand g type v) s.args i v good.args at'' in
+        let typed = all_at (IsShortValue g) s.args i v (edge_short g form j l c s at at') at'' in
         entry_alike j l i c s v typed.0 at at' at'' typed.1.typed
 
     target_moves : (j l : ℕ) (c : DialectBlock) (s : Successor) → slice_get g.blocks j ≡ Some c → slice_get (edges_of c) l ≡ Some s → (h : HasTarget g s)

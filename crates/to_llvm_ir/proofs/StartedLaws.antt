@@ -20,7 +20,7 @@ use Rattle.dialect_core.specs.declared.numbers.OpRef.{OpRef}
 use Rattle.dialect_core.specs.ContextData.{ContextData}
 use Rattle.dialect_core.specs.Data.{DialectBlock, Func, func_in}
 use Rattle.dialect_core.specs.Form.{IsFormFunc, types_list}
-use Rattle.meaning.specs.Dialect.{type_of, types_of}
+use Rattle.meaning.specs.Dialect.{type_of}
 use Rattle.to_llvm_ir.specs.Order.{IsTaken}
 use Rattle.to_llvm_ir.specs.Growth.{IsTypeOf}
 use Rattle.to_llvm_ir.specs.Made.{Numbers, function_with}
@@ -49,8 +49,8 @@ numbers_of m f order = record { function = f.0; block = length m.blocks; inst = 
 
 declared_is : (g : Func) (form : IsFormFunc g) (order : List ℕ) (m0 m1 m2 : Module) (ty : LLVMType) (f : LLVMFunction) (name : List ℕ) → IsAdded m0 m1 m2 ty f name (type_of g.type) → name ≡ g.name → data_of m2 ≡ with_function (data_of m0) (function_with g (numbers_of m1 f order) [])
 declared_is g form order m0 m1 m2 ty f name h named =
-    let tree : L.type_at (trees_of m1).types ty ≡ L.FunctionType (type_of form.result) (types_of form.types) false = h.typed.1 ∙ ap type_of form.type in
-    let params = params_are m1 ty (type_of form.result) (types_of form.types) false h.sound h.typed.0 tree in
+    let tree : L.type_at (trees_of m1).types ty ≡ L.FunctionType (type_of form.result) form.types false = h.typed.1 ∙ ap type_of form.type in
+    let params = params_are m1 ty (type_of form.result) form.types false h.sound h.typed.0 tree in
     let args : option_map_or (λ (c : DialectBlock). c.args) (slice_get g.blocks 0) [] ≡ types_list form.types = ap (λ (o : Option DialectBlock). option_map_or (λ (c : DialectBlock). c.args) o []) (entry_at g form) ∙ form.params in
     let names : unnamed m1 ty ≡ map (λ (t : TypeTree). let none : List ℕ = [] in none) (option_map_or (λ (c : DialectBlock). c.args) (slice_get g.blocks 0) []) =
     names_are (trees_of m1).types (type_params m1.types ty) form.types params ∙ ap (λ (ts : List TypeTree). map (λ (x : TypeTree). let none : List ℕ = [] in none) ts) (sym args) in

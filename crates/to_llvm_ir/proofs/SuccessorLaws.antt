@@ -1,12 +1,12 @@
 -- Which operations lead somewhere, and where two edges of one differ.
-use Rattle.std.proofs.Common.{◌≡◌, ◌<◌, ℕ, zero, suc, Bool, true, false, not, Decides, List, [], ◌∷◌, ◌++◌, Some, All, length, slice_get, refl, sym, ap, ◌∙◌, arith}
+use Rattle.std.proofs.Common.{◌≡◌, ◌<◌, ℕ, zero, suc, Bool, true, false, not, Decides, List, [], ◌∷◌, ◌++◌, Option, Some, All, length, slice_get, refl, sym, ap, ◌∙◌, arith}
 use Rattle.std.specs.List.{flat_map}
 use Rattle.std.proofs.lemmas.Option.{same_Some, none-some}
 use Rattle.std.proofs.lemmas.List.Elements.{All-head, All-tail}
 use Rattle.std.proofs.lemmas.List.{append-nil}
 use Rattle.std.proofs.lemmas.List.Concat.{flat_map-append}
 use Rattle.support.proofs.ListLaws.{slice_get-kept}
-use Rattle.dialect_types.specs.Trees.{IntegerAttr}
+use Rattle.dialect_types.specs.Trees.{TypeTree, IntegerAttr}
 use Rattle.std.specs.Cmp.Lexicographic.{pointwise}
 use Rattle.std.proofs.lemmas.Slice.Eq.{slice_eq-Decides}
 use Rattle.dialect_core.specs.declared.numbers.OpRef.{OpRef}
@@ -16,8 +16,13 @@ use Rattle.dialect_core.specs.contracts.ops.ValuePartialEq.TheImpl as keys
 use Rattle.meaning.proofs.SameValues.{same_value-Decides}
 use Rattle.dialect_core.specs.declared.ops.Successor.{Successor}
 use Rattle.dialect_core.specs.ContextData.{ContextData}
-use Rattle.dialect_core.specs.Data.{Kind, ConstantOp, AddOp, ICmpOp, BrOp, CondBrOp, ReturnOp, UnreachableOp, DialectOp, DialectBlock, Func}
-use Rattle.dialect_core.specs.Form.{IsFormKind, IsFormFunc, is_terminator, is_terminator_kind, edges_of}
+use Rattle.kinds.specs.Rules.{ends, target_count}
+use Rattle.kinds.specs.Table.{rule_of}
+use Rattle.kinds.specs.declared.rules.Leads.{Leads}
+use Rattle.kinds.specs.declared.rules.Leads.TheVariants as L
+use Rattle.dialect_core.specs.Data.{Kind, ConstantOp, RowOp, DialectOp, DialectBlock, Func, value_type}
+use Rattle.dialect_core.specs.Rules.{IsOfKind}
+use Rattle.dialect_core.specs.Form.{IsFormFunc, is_terminator, is_terminator_kind, edges_of}
 use Rattle.to_llvm_ir.specs.declared.to_llvm_err.ToLLVMErr.TheVariants as E
 use Rattle.to_llvm_ir.specs.declared.blocks.Blocks.{Blocks}
 use Rattle.to_llvm_ir.specs.declared.blocks.Target.{Target}
@@ -28,40 +33,40 @@ use Rattle.to_llvm_ir.proofs.EdgeLaws.{edge_among}
 use Rattle.to_llvm_ir.proofs.LookupLaws.{op_form, block_form}
 use Rattle.to_llvm_ir.proofs.ListLaws.{at_middle}
 use Rattle.to_llvm_ir.proofs.OpLaws.{spot_form}
+use Rattle.to_llvm_ir.proofs.TableLaws.{leads_few}
 
 -- ---- how many edges an operation has
 
-few : (g : Func) (o : DialectOp) (k : Kind) → IsFormKind g o k → length o.successors < 3
-few g o (ConstantOp (IntegerAttr t v)) h = rw h.3 (omega arith)
-few g o (AddOp flags) h = rw h.4 (omega arith)
-few g o (ICmpOp predicate) h = rw h.4 (omega arith)
-few g o BrOp h = let e = h.1.count_is in omega (arith, e)
-few g o CondBrOp h = let e = h.3.count_is in omega (arith, e)
-few g o ReturnOp h = let e = h.1.count_is in omega (arith, e)
-few g o UnreachableOp h = let e = h.1.count_is in omega (arith, e)
+pub few : (g : Func) (vs : List Value) (own : Option TypeTree) (ss : List Successor) (k : Kind) → IsOfKind (value_type g) g vs own ss k → length ss < 3
+few g vs own ss (ConstantOp (IntegerAttr t v)) h = rw h.ends_here (omega arith)
+few g vs own ss (RowOp op) h = let e = h.leads.0 in let f = leads_few op in omega (arith, e, f)
 
 -- an operation has two edges at most
 pub few_edges : (c : ContextData) (op : OpRef) (s : Spot) → IsSpot c op s → length s.op.successors < 3
-few_edges c op s h = few s.task.source s.op s.op.kind (spot_form c op s h).kind
+few_edges c op s h = few s.task.source s.op.operands s.op.result s.op.successors s.op.kind (spot_form c op s h).kind
 
 -- ---- the edges of a block
 
-silent_kind : (g : Func) (o : DialectOp) (k : Kind) → is_terminator_kind k ≡ false → IsFormKind g o k → o.successors ≡ []
-silent_kind g o (ConstantOp (IntegerAttr t v)) e h = h.3
-silent_kind g o (AddOp flags) e h = h.4
-silent_kind g o (ICmpOp predicate) e h = h.4
-silent_kind g o BrOp e h = cc
-silent_kind g o CondBrOp e h = cc
-silent_kind g o ReturnOp e h = cc
-silent_kind g o UnreachableOp e h = cc
+none_of : (ss : List Successor) → length ss ≡ 0 → ss ≡ []
+none_of [] e = refl
+none_of (s ∷ ss) e = absurd (omega (arith, e))
+
+-- what does not end its block leads nowhere
+goes_on : (l : Leads) → ends l ≡ false → target_count l ≡ 0
+goes_on L.On e = refl
+goes_on (L.To n) e = cc
+
+silent_kind : (g : Func) (vs : List Value) (own : Option TypeTree) (ss : List Successor) (k : Kind) → is_terminator_kind k ≡ false → IsOfKind (value_type g) g vs own ss k → ss ≡ []
+silent_kind g vs own ss (ConstantOp (IntegerAttr t v)) e h = h.ends_here
+silent_kind g vs own ss (RowOp op) e h = none_of ss (h.leads.0 ∙ goes_on (rule_of op).leads e)
 
 abbrev pub all_edges : List DialectOp → List Successor
 all_edges os = flat_map (λ (o : DialectOp). o.successors) os
 
-silent_ops : (g : Func) (os : List DialectOp) → All (λ (o : DialectOp). is_terminator o ≡ false) os → ((i : ℕ) (o : DialectOp) → slice_get os i ≡ Some o → IsFormKind g o o.kind) → all_edges os ≡ []
+pub silent_ops : (g : Func) (os : List DialectOp) → All (λ (o : DialectOp). is_terminator o ≡ false) os → ((i : ℕ) (o : DialectOp) → slice_get os i ≡ Some o → IsOfKind (value_type g) g o.operands o.result o.successors o.kind) → all_edges os ≡ []
 silent_ops g [] h form = refl
 silent_ops g (o ∷ os) h form =
-    ap (λ (ss : List Successor). ss ++ all_edges os) (silent_kind g o o.kind (All-head (λ (o : DialectOp). is_terminator o ≡ false) o os h) (form 0 o refl))
+    ap (λ (ss : List Successor). ss ++ all_edges os) (silent_kind g o.operands o.result o.successors o.kind (All-head (λ (o : DialectOp). is_terminator o ≡ false) o os h) (form 0 o refl))
     ∙ silent_ops g os (All-tail (λ (o : DialectOp). is_terminator o ≡ false) o os h) (λ i x at. form (suc i) x at)
 
 -- the edges of a block are those of its last operation

@@ -16,9 +16,9 @@ use Rattle.llvm_core.proofs.DataLemmas.{function_tree_of}
 use Rattle.dialect_types.specs.declared.types.TypeHandle.{TypeHandle}
 use Rattle.dialect_types.specs.declared.types.TypeKind.{TypeKind}
 use Rattle.dialect_types.specs.declared.types.TypeKind.TheVariants as K
-use Rattle.dialect_types.specs.Trees.{TypeTree, VoidType, IntegerType, FuncType, TypeTrees, type_at, types_at, type_tree, AllBelow, HasPartsBelow}
+use Rattle.dialect_types.specs.Trees.{TypeTree, VoidType, IntType, FunctionType, TypeTrees, type_at, types_at, type_tree, AllBelow, HasPartsBelow}
 use Rattle.dialect_core.specs.Form.{IsShortInt, IsShortResult, types_list}
-use Rattle.meaning.specs.Dialect.{type_of, types_of}
+use Rattle.meaning.specs.Dialect.{type_of}
 use Rattle.to_llvm_ir.specs.Growth.{Grows, IsTypeOf, AreTypesOf, IsFormType}
 use Rattle.to_llvm_ir.proofs.GrowthLaws.{is_int_type, is_void_type, types_kept}
 
@@ -27,7 +27,7 @@ use Rattle.to_llvm_ir.proofs.GrowthLaws.{is_int_type, is_void_type, types_kept}
 pub int_type : (m : Module) (old : List LLVMTypeKind) (t : LLVMType) (w : ℕ) (kind : LLVMTypeKind) (k : TypeKind) (ts : List TypeTree) (tree : TypeTree) → IsModule m → Interned old m.types kind t.0 → kind ≡ T.Int w → k ≡ K.Integer w → tree ≡ type_tree ts k
     → IsTypeOf m t (type_of tree)
 int_type m old t w kind k ts tree s at kind_is k_is tree_is =
-    let e : tree ≡ IntegerType w = tree_is ∙ ap (type_tree ts) k_is in
+    let e : tree ≡ IntType w = tree_is ∙ ap (type_tree ts) k_is in
     rw e (is_int_type m t w s (at.here ∙ ap Some kind_is))
 
 pub void_type : (m : Module) (old : List LLVMTypeKind) (t : LLVMType) (kind : LLVMTypeKind) (k : TypeKind) (ts : List TypeTree) (tree : TypeTree) → IsModule m → Interned old m.types kind t.0 → kind ≡ T.Void → ((w : ℕ) → k ≡ K.Integer w → ⊥) → tree ≡ type_tree ts k → IsShortResult tree
@@ -55,7 +55,7 @@ one_type_more m ts t trees tree h k = (
   map_push (L.type_at (trees_of m).types) ts t ∙ (let e = h.1 in let f = k.1 in cc),
 )
 
-same_trees : (us : List L.TypeTree) (ts : List TypeTree) (xs : List LLVMType) (ys : List TypeHandle) → map (L.type_at us) xs ≡ map (tree_of ts) ys → L.types_at us xs ≡ types_of (types_at ts ys)
+same_trees : (us : List L.TypeTree) (ts : List TypeTree) (xs : List LLVMType) (ys : List TypeHandle) → map (L.type_at us) xs ≡ map (tree_of ts) ys → L.types_at us xs ≡ types_at ts ys
 same_trees us ts [] [] h = refl
 same_trees us ts [] (y ∷ ys) h = cc
 same_trees us ts (x ∷ xs) [] h = cc
@@ -88,7 +88,7 @@ pub form_parts : (ts : List TypeTree) (n i : ℕ) (k : TypeKind) (result : TypeH
     → IsFormType tree → i < n → k ≡ K.Func result params variadic → HasPartsBelow i k → tree ≡ type_tree ts k → FormParts ts n result params variadic
 form_parts ts n i k result params variadic tree form lt k_is below tree_is =
     let parts = subst (HasPartsBelow i) k_is below in
-    let e : FuncType form.0 form.1 false ≡ FuncType (type_at ts result) (types_at ts params) variadic = sym form.2 ∙ tree_is ∙ ap (type_tree ts) k_is in
+    let e : FunctionType form.0 form.1 false ≡ FunctionType (type_at ts result) (types_at ts params) variadic = sym form.2 ∙ tree_is ∙ ap (type_tree ts) k_is in
     let r : form.0 ≡ type_at ts result = cc in
     let p : form.1 ≡ types_at ts params = cc in
     record {
@@ -108,7 +108,7 @@ pub function_type : (m : Module) (old : List LLVMTypeKind) (t result : LLVMType)
     → IsModule m → Interned old m.types (T.Function result params variadic) t.0 → k ≡ K.Func r ps variadic → tree ≡ type_tree ts k → IsTypeOf m result (tree_of ts r) → AreTypesOf m params (map (tree_of ts) ps)
     → IsFunctionType m.types t × IsTypeOf m t (type_of tree)
 function_type m old t result params variadic ts k r ps tree s at k_is tree_is result_is params_are =
-    let e : tree ≡ FuncType (type_at ts r) (types_at ts ps) variadic = tree_is ∙ ap (type_tree ts) k_is in
+    let e : tree ≡ FunctionType (type_at ts r) (types_at ts ps) variadic = tree_is ∙ ap (type_tree ts) k_is in
     let parts = same_trees (trees_of m).types ts params ps params_are.1 in
     let one = result_is.1 in (
       (T.Function result params variadic, at.here, refl),
@@ -122,8 +122,8 @@ function_type m old t result params variadic ts k r ps tree s at k_is tree_is re
 -- what may be a parameter may be a result
 pub short_result : (tree : TypeTree) → IsShortInt tree → IsShortResult tree
 short_result VoidType h = absurd h
-short_result (IntegerType w) h = h
-short_result (FuncType r ps v) h = absurd h
+short_result (IntType w) h = h
+short_result (FunctionType r ps v) h = absurd h
 
 -- the type of a parameter more, in a module that grew
 pub types_more : (old m : Module) (ts us : List LLVMType) (t : LLVMType) (dialect : List TypeTree) (ps : List TypeHandle) (i : ℕ) (p : TypeHandle) → i < length ps → Grows old m → AreTypesOf old ts (map (tree_of dialect) (take i ps))

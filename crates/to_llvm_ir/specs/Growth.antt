@@ -10,7 +10,7 @@ use Rattle.llvm_core.specs.Module.{Module}
 use Rattle.llvm_core.specs.Parts.{value_type, is_phi}
 use Rattle.llvm_core.specs.Data as L
 use Rattle.llvm_core.specs.Data.{trees_of}
-use Rattle.dialect_types.specs.Trees.{TypeTree, TypeTrees, FuncType}
+use Rattle.dialect_types.specs.Trees.{TypeTree, TypeTrees, FunctionType}
 use Rattle.dialect_core.specs.Form.{IsShortInt, IsShortResult, types_list}
 
 -- the instruction keeps its type, and a phi stays one
@@ -41,4 +41,4 @@ HasType m v tree = (t : LLVMType) × (value_type m v ≡ Some t) × (L.type_at (
 
 -- the type of a function of the form
 abbrev pub IsFormType : TypeTree → Type 0
-IsFormType tree = (result : TypeTree) × (params : TypeTrees) × (tree ≡ FuncType result params false) × IsShortResult result × All IsShortInt (types_list params)
+IsFormType tree = (result : TypeTree) × (params : TypeTrees) × (tree ≡ FunctionType result params false) × IsShortResult result × All IsShortInt (types_list params)

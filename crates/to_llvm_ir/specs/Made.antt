@@ -1,19 +1,20 @@
 -- The function of LLVM that an export makes of a function of the dialect, as one term.
 use Rattle.std.specs.Prelude.{◌+◌, ℕ, zero, suc, Bool, false, nat_eq, if◌then◌else◌, List, [], ◌∷◌, ◌++◌, Option, Some, None, length, map, slice_get}
 use Rattle.std.specs.List.{flat_map, find}
-use Rattle.std.specs.Option.{option_map, option_map_or}
-use Rattle.llvm_core.specs.declared.code.OverflowFlags.{OverflowFlags}
+use Rattle.std.specs.Option.{option_map_or}
 use Rattle.llvm_core.specs.Data as L
-use Rattle.llvm_core.specs.Data.{ConstTree, IntConst, Operand, Parameter, Constant, Instruction, Placed}
+use Rattle.llvm_core.specs.Data.{ConstTree, IntConst, Operand, Parameter, Constant, RowData, Instruction, Placed}
 use Rattle.dialect_types.specs.Trees.{TypeTree, AttrTree, IntegerAttr}
 use Rattle.dialect_core.specs.declared.numbers.BlockRef.{BlockRef}
 use Rattle.dialect_core.specs.declared.ops.Value.{Value}
 use Rattle.dialect_core.specs.declared.ops.Value.TheVariants.{Result, Argument}
 use Rattle.dialect_core.specs.declared.ops.Successor.{Successor}
-use Rattle.dialect_core.specs.declared.overflow.IntegerOverflowFlagsAttr.{IntegerOverflowFlagsAttr}
-use Rattle.dialect_core.specs.Data.{DialectOp, DialectBlock, Func, Kind, ConstantOp, AddOp, ICmpOp, BrOp, CondBrOp, ReturnOp, UnreachableOp, ops_in}
+use Rattle.kinds.specs.declared.op.Op.{Op}
+use Rattle.kinds.specs.Table.{rule_of}
+use Rattle.kinds.specs.Typing.{written_for}
+use Rattle.dialect_core.specs.Data.{DialectOp, DialectBlock, Func, Kind, ConstantOp, RowOp, ops_in}
 use Rattle.dialect_core.specs.Form.{is_constant, others_of, edges_of}
-use Rattle.meaning.specs.Dialect.{type_of, option_type, place_of, predicate_of}
+use Rattle.meaning.specs.Dialect.{type_of, option_type, place_of}
 use Rattle.to_llvm_ir.specs.Exported.{block_name, value_name, result_name, result, phi_values, place_in}
 
 -- the number of the function, of its first block and of its first instruction: further blocks count on, and further
@@ -62,13 +63,10 @@ values_by order g = flat_map (block_values g) order
 abbrev pub const_of : AttrTree → ConstTree
 const_of (IntegerAttr type value) = IntConst (type_of type) value
 
-abbrev pub flags_of : IntegerOverflowFlagsAttr → OverflowFlags
-flags_of flags = record { nuw = flags.nuw; nsw = flags.nsw }
-
 -- the constant where there is one, else the other operand
 abbrev pub constant_or : Operand → Kind → Operand
 constant_or x (ConstantOp value) = Constant (const_of value)
-constant_or x _ = x
+constant_or x (RowOp op) = x
 
 abbrev pub is_entry : Func → ℕ → Bool
 is_entry g b = option_map_or (λ (c : DialectBlock). nat_eq c.number b) (slice_get g.blocks 0) false
@@ -89,21 +87,19 @@ module _ (g : Func) (n : Numbers) where
 
   -- ---- instructions
 
-  abbrev pub operand_at : List Value → ℕ → Operand
-  operand_at vs i = option_map_or operand_for (slice_get vs i) (Parameter 0 0)
+  -- the row that an operation becomes: that of its own row of the table, with what its operands and blocks become
+  abbrev pub row_for : Op → Option TypeTree → List Value → List Successor → RowData
+  row_for op own vs ss = record {
+    op = op;
+    written = written_for (rule_of op).gives own;
+    operands = map operand_for vs;
+    targets = map (λ (s : Successor). block_for s.block.0) ss;
+  }
 
-  abbrev pub target_at : List Successor → ℕ → ℕ
-  target_at ss i = option_map_or (λ (s : Successor). block_for s.block.0) (slice_get ss i) 0
-
-  -- a line for each kind; a constant becomes no instruction
-  abbrev pub instruction_for : Kind → List Value → List Successor → Instruction
-  instruction_for (ConstantOp value) vs ss = L.Unreachable
-  instruction_for (AddOp flags) vs ss = L.Add (operand_at vs 0) (operand_at vs 1) (flags_of flags)
-  instruction_for (ICmpOp predicate) vs ss = L.ICmp (operand_at vs 0) (operand_at vs 1) (predicate_of predicate)
-  instruction_for BrOp vs ss = L.Br (target_at ss 0)
-  instruction_for CondBrOp vs ss = L.CondBr (operand_at vs 0) (target_at ss 0) (target_at ss 1)
-  instruction_for ReturnOp vs ss = L.Return (option_map operand_for (slice_get vs 0))
-  instruction_for UnreachableOp vs ss = L.Unreachable
+  -- a constant becomes no instruction
+  abbrev pub instruction_for : Kind → Option TypeTree → List Value → List Successor → Instruction
+  instruction_for (ConstantOp value) own vs ss = L.Phi []
+  instruction_for (RowOp op) own vs ss = L.Applied (row_for op own vs ss)
 
   -- the instruction that an operation becomes, where the next value has the number k
   abbrev pub inst : ℕ → DialectOp → Placed
@@ -111,7 +107,7 @@ module _ (g : Func) (n : Numbers) where
     number = number_of (result o);
     name = result_name o.name o.result k;
     type = option_type o.result;
-    instruction = instruction_for o.kind o.operands o.successors;
+    instruction = instruction_for o.kind o.result o.operands o.successors;
   }
 
   abbrev pub insts : ℕ → List DialectOp → List Placed

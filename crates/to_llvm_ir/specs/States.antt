@@ -1,8 +1,11 @@
 -- A function on the way from the dialect to LLVM: what stands for its values, and what the module holds so far.
-use Rattle.std.specs.Prelude.{◌≡◌, ◌<◌, ◌+◌, ℕ, suc, Bool, false, nat_eq, nat_lt, if◌then◌else◌, List, [], ◌++◌, Option, Some, None, All, length, map, take, slice_get}
+use Rattle.std.specs.Prelude.{◌≡◌, ◌<◌, ◌+◌, ℕ, suc, Bool, false, nat_eq, nat_lt, if◌then◌else◌, List, [], ◌++◌, Option, Some, None, All, IfSome, length, map, option_map, take, slice_get}
 use Rattle.std.specs.List.{Contains, flat_map, filter_map}
 use Rattle.std.specs.HashMap.{get}
+use Rattle.kinds.specs.declared.rules.Gives.{Gives}
+use Rattle.kinds.specs.Typing.{written_for}
 use Rattle.llvm_core.specs.declared.numbers.LLVMInstRef.{LLVMInstRef}
+use Rattle.llvm_core.specs.declared.numbers.LLVMType.{LLVMType}
 use Rattle.llvm_core.specs.declared.numbers.LLVMBasicBlock.{LLVMBasicBlock}
 use Rattle.llvm_core.specs.declared.types.ResultType.{ResultType}
 use Rattle.llvm_core.specs.declared.code.LLVMInst.{LLVMInst}
@@ -24,6 +27,7 @@ use Rattle.dialect_core.specs.contracts.numbers.BlockRefPartialEq.TheImpl as blo
 use Rattle.dialect_core.specs.ContextData.{ContextData}
 use Rattle.dialect_core.specs.Data.{DialectOp, DialectBlock, Func, op_at, block_in, func_in, value_type}
 use Rattle.dialect_core.specs.Form.{IsFormFunc, uses_of, is_constant}
+use Rattle.meaning.specs.Pairs.{Matched}
 use Rattle.meaning.specs.Dialect.{type_of, option_type}
 use Rattle.to_llvm_ir.specs.declared.values.Values.{Values}
 use Rattle.to_llvm_ir.specs.declared.blocks.Blocks.{Blocks}
@@ -229,16 +233,31 @@ pub record IsUse (s : Spot) (m : Module) (v : Value) (type : TypeTree) (x : LLVM
   pub stands : operand_of (trees_of m) x ≡ operand_for s.task.source s.task.numbers v
   pub before : StandsBeforeIn s.task.numbers.order s.task.source s.place s.at v
 
+-- what was found for a value that has a type
+pub record IsUseOf (s : Spot) (m : Module) (v : Value) (x : LLVMValue) : Type 0 where
+  pub type : TypeTree
+  pub is : value_type s.task.source v ≡ Some type
+  pub used : IsUse s m v type x
+
+-- what was found for values, one by one
+abbrev pub AreUses : Spot → Module → List Value → List LLVMValue → Type 0
+AreUses s m vs xs = Matched (IsUseOf s m) vs xs
+
 -- the block that an edge of the operation there leads to
 pub record IsLead (s : Spot) (m : Module) (e : Successor) (b : LLVMBasicBlock) : Type 0 where
   pub is : b.0 ≡ block_for s.task.source s.task.numbers e.block.0
   pub there : b.0 < length m.blocks
   pub before : All (StandsBeforeIn s.task.numbers.order s.task.source s.place s.at) e.args
 
+-- the type that a row writes, where its result has the type: its number is there, and has that tree
+pub record IsWritten (m : Module) (gives : Gives) (own : Option TypeTree) (written : Option LLVMType) : Type 0 where
+  pub there : IfSome written (λ (t : LLVMType). t.0 < length m.types)
+  pub is : option_map (L.type_at (trees_of m).types) written ≡ written_for gives own
+
 -- the instruction that the operation there becomes
 pub record IsMade (s : Spot) (m : Module) (inst : LLVMInst) : Type 0 where
   pub values : HasValues m inst
-  pub is : instruction_of (trees_of m) inst ≡ instruction_for s.task.source s.task.numbers s.op.kind s.op.operands s.op.successors
+  pub is : instruction_of (trees_of m) inst ≡ instruction_for s.task.source s.task.numbers s.op.kind s.op.result s.op.operands s.op.successors
   pub type : result_tree m inst ≡ option_type s.op.result
   pub void : result_type m inst ≡ None → s.op.result ≡ None
   pub within : (t : ResultType) → result_type m inst ≡ Some t → IsResultOver m.types t

@@ -4,6 +4,8 @@ ghost use Rattle.std.specs.Prelude.{◌≡◌, ◌<◌, ◌≤◌, ◌^◌, ◌+
 ghost use Rattle.std.specs.List.{filter_map};
 ghost use Rattle.std.specs.Option.{option_map};
 ghost use Rattle.llvm_core.specs.Module.{Module};
+ghost use Rattle.llvm_core.specs.Sound.{IsModule};
+ghost use Rattle.llvm_core.specs.Data.{data_of};
 ghost use Rattle.llvm_core.specs.Names.{IsPlainOrNone};
 ghost use Rattle.llvm_core.specs.Parts.{HasValues, result_type};
 ghost use Rattle.dialect_types.specs.declared.attrs.ConstAttr.TheVariants as attrs;
@@ -12,29 +14,31 @@ ghost use Rattle.dialect_core.specs.declared.ops.OpKind.TheVariants as kinds;
 ghost use Rattle.dialect_core.specs.ContextData.{kind_at, IsValueWithin, IsSuccessorWithin};
 ghost use Rattle.dialect_core.specs.Data.{DialectBlock, DialectOp, IsTyped, op_at, name_at};
 ghost use Rattle.dialect_core.specs.Form.{is_constant};
+ghost use Rattle.meaning.specs.Pairs.{Matched};
+ghost use Rattle.to_llvm_ir.specs.Growth.{Grows};
 ghost use Rattle.to_llvm_ir.specs.Exported.{result_name, given_name};
 ghost use Rattle.to_llvm_ir.specs.Accepted.{IsAcceptedOp};
 ghost use Rattle.to_llvm_ir.specs.Causes.{IsFuncCause};
-ghost use Rattle.to_llvm_ir.specs.States.{Task, Spot, IsSpot, IsNext, IsUsed, IsUse, IsLead, IsMade, IsBegun, IsAtOp, IsBehindSpot, AreAllMapped, found};
+ghost use Rattle.to_llvm_ir.specs.States.{Task, Spot, IsSpot, IsNext, IsUsed, IsUse, AreUses, IsLead, IsWritten, IsMade, IsBegun, IsAtOp, IsBehindSpot, AreAllMapped, found};
 
 use crate::blocks::{Blocks, find_target};
 use crate::names::value_name;
-use crate::predicates::convert_ipredicate;
 use crate::to_llvm_err::ToLLVMErr;
 use crate::types::value_type;
 use crate::values::Values;
 use dialect_core::context::Context;
 use dialect_core::numbers::OpRef;
 use dialect_core::ops::{OpKind, Successor, Value};
-use dialect_core::overflow::IntegerOverflowFlagsAttr;
-use dialect_core::predicates::ICmpPredicateAttr;
 use dialect_types::attrs::ConstAttr;
 use dialect_types::types::TypeHandle;
-use llvm_core::code::{LLVMInst, LLVMValue, OverflowFlags};
+use kinds::op::Op;
+use kinds::rules::Gives;
+use llvm_core::code::{LLVMInst, LLVMValue, Row};
 use llvm_core::consts::LLVMConstKind;
 use llvm_core::module::LLVMModule;
-use llvm_core::numbers::LLVMBasicBlock;
+use llvm_core::numbers::{LLVMBasicBlock, LLVMType};
 use std::alloc::{AllocError, Global};
+use support::items::Items;
 use support::text::Text;
 
 /// The name of an operation, empty where it has none.
@@ -136,134 +140,96 @@ fn convert_constant(
     values.set(Value::Result(op), LLVMValue::Const(c))
 }
 
-/// An `add` for an `llvm.add`.
-fn convert_add(
+/// What stands for the values that an operation takes, in order.
+fn known_all(
     alloc: Global,
     ctx: &Context,
-    op: OpRef,
-    flags: IntegerOverflowFlagsAttr,
+    operands: &[Value],
     values: &Values,
-) -> Result<LLVMInst, ToLLVMErr>
-    requires within { op.0 < length ctx.now.ops }
-    requires kind { kind_at ctx.now.ops op ≡ Some (kinds.Add flags) }
-    requires spot { (s : Spot) × IsSpot ctx.now op s }
-    ensures ok { (s : Spot) (m : Module) → IsNext ctx.now op s values.now m → IfOk result (IsMade s m) }
-    ensures cause { (s : Spot) (m : Module) → IsNext ctx.now op s values.now m → IfErr result (IsFuncCause ctx.now s.task.source) }
+) -> Result<Items<LLVMValue>, ToLLVMErr>
+    requires within { All (IsValueWithin (length ctx.now.ops) (length ctx.now.blocks)) operands.now }
+    ensures ok { (s : Spot) (op : OpRef) (m : Module) → IsNext ctx.now op s values.now m → s.op.operands ≡ operands.now → IfOk result (AreUses s m operands.now) }
+    ensures cause { (s : Spot) (op : OpRef) (m : Module) → IsNext ctx.now op s values.now m → s.op.operands ≡ operands.now → IfErr result (IsFuncCause ctx.now s.task.source) }
 {
-    let operands = ctx.op_operands(op);
-    let lhs = known(alloc, ctx, operands[0], values)?;
-    let rhs = known(alloc, ctx, operands[1], values)?;
-    let flags = OverflowFlags {
-        nuw: flags.nuw,
-        nsw: flags.nsw,
-    };
-    Ok(LLVMInst::Add(lhs, rhs, flags))
-}
-
-/// An `icmp` for an `llvm.icmp`.
-fn convert_icmp(
-    alloc: Global,
-    ctx: &Context,
-    op: OpRef,
-    predicate: ICmpPredicateAttr,
-    values: &Values,
-) -> Result<LLVMInst, ToLLVMErr>
-    requires within { op.0 < length ctx.now.ops }
-    requires kind { kind_at ctx.now.ops op ≡ Some (kinds.ICmp predicate) }
-    requires spot { (s : Spot) × IsSpot ctx.now op s }
-    ensures ok { (s : Spot) (m : Module) → IsNext ctx.now op s values.now m → IfOk result (IsMade s m) }
-    ensures cause { (s : Spot) (m : Module) → IsNext ctx.now op s values.now m → IfErr result (IsFuncCause ctx.now s.task.source) }
-{
-    let operands = ctx.op_operands(op);
-    let lhs = known(alloc, ctx, operands[0], values)?;
-    let rhs = known(alloc, ctx, operands[1], values)?;
-    Ok(LLVMInst::ICmp(lhs, rhs, convert_ipredicate(predicate)))
-}
-
-/// A `br` for an `llvm.br`.
-fn convert_br(
-    alloc: Global,
-    ctx: &Context,
-    op: OpRef,
-    blocks: &Blocks,
-    values: &Values,
-) -> Result<LLVMInst, ToLLVMErr>
-    requires within { op.0 < length ctx.now.ops }
-    requires kind { kind_at ctx.now.ops op ≡ Some kinds.Br }
-    requires spot { (s : Spot) × IsSpot ctx.now op s }
-    ensures ok { (s : Spot) (m : Module) → IsNext ctx.now op s values.now m → AreAllMapped s.task blocks.now → IfOk result (IsMade s m) }
-    ensures cause { (s : Spot) (m : Module) → IsNext ctx.now op s values.now m → AreAllMapped s.task blocks.now → IfErr result (IsFuncCause ctx.now s.task.source) }
-{
-    let edges = ctx.op_successors(op);
-    let target = lead(alloc, ctx, &edges[0], blocks, values)?;
-    Ok(LLVMInst::Br(target))
-}
-
-/// A `br` on a condition for an `llvm.cond_br`.
-fn convert_cond_br(
-    alloc: Global,
-    ctx: &Context,
-    op: OpRef,
-    blocks: &Blocks,
-    values: &Values,
-) -> Result<LLVMInst, ToLLVMErr>
-    requires within { op.0 < length ctx.now.ops }
-    requires kind { kind_at ctx.now.ops op ≡ Some kinds.CondBr }
-    requires spot { (s : Spot) × IsSpot ctx.now op s }
-    ensures ok { (s : Spot) (m : Module) → IsNext ctx.now op s values.now m → AreAllMapped s.task blocks.now → IfOk result (IsMade s m) }
-    ensures cause { (s : Spot) (m : Module) → IsNext ctx.now op s values.now m → AreAllMapped s.task blocks.now → IfErr result (IsFuncCause ctx.now s.task.source) }
-{
-    let operands = ctx.op_operands(op);
-    let condition = known(alloc, ctx, operands[0], values)?;
-    let edges = ctx.op_successors(op);
-    let first = lead(alloc, ctx, &edges[0], blocks, values)?;
-    let second = lead(alloc, ctx, &edges[1], blocks, values)?;
-    Ok(LLVMInst::CondBr(condition, first, second))
-}
-
-/// A `ret` for an `llvm.return`.
-fn convert_return(
-    alloc: Global,
-    ctx: &Context,
-    op: OpRef,
-    values: &Values,
-) -> Result<LLVMInst, ToLLVMErr>
-    requires within { op.0 < length ctx.now.ops }
-    requires kind { kind_at ctx.now.ops op ≡ Some kinds.Return }
-    ensures ok { (s : Spot) (m : Module) → IsNext ctx.now op s values.now m → IfOk result (IsMade s m) }
-    ensures cause { (s : Spot) (m : Module) → IsNext ctx.now op s values.now m → IfErr result (IsFuncCause ctx.now s.task.source) }
-{
-    let operands = ctx.op_operands(op);
-    if operands.is_empty() {
-        return Ok(LLVMInst::Ret(None));
+    let mut stand = Items::new(alloc);
+    for operand in operands {
+        stand.push(known(alloc, ctx, *operand, values)?)?;
     }
-    let value = known(alloc, ctx, operands[0], values)?;
-    Ok(LLVMInst::Ret(Some(value)))
+    Ok(stand)
 }
 
-/// The instruction that an operation becomes. A constant, a module or a function becomes none.
-fn convert_inst(
+/// The blocks that the edges of an operation lead to, in order.
+fn leads(
+    alloc: Global,
+    ctx: &Context,
+    edges: &[Successor],
+    blocks: &Blocks,
+    values: &Values,
+) -> Result<Items<LLVMBasicBlock>, ToLLVMErr>
+    requires within { All (IsSuccessorWithin (length ctx.now.ops) (length ctx.now.blocks)) edges.now }
+    ensures ok { (s : Spot) (op : OpRef) (m : Module) → IsNext ctx.now op s values.now m → AreAllMapped s.task blocks.now → s.op.successors ≡ edges.now → IfOk result (Matched (IsLead s m) edges.now) }
+    ensures cause { (s : Spot) (op : OpRef) (m : Module) → IsNext ctx.now op s values.now m → AreAllMapped s.task blocks.now → s.op.successors ≡ edges.now → IfErr result (IsFuncCause ctx.now s.task.source) }
+{
+    let mut targets = Items::new(alloc);
+    for edge in edges {
+        targets.push(lead(alloc, ctx, edge, blocks, values)?)?;
+    }
+    Ok(targets)
+}
+
+/// The type that the row of an operation writes: that of its result, or none.
+fn written_type(
+    ctx: &Context,
+    op: OpRef,
+    gives: Gives,
+    back: &mut LLVMModule,
+) -> Result<Option<LLVMType>, AllocError>
+    requires typed { IsTyped ctx.now }
+    requires within { op.0 < length ctx.now.ops }
+    requires spot { (s : Spot) × IsSpot ctx.now op s }
+    requires sound { IsModule back.old }
+    ensures written { (s : Spot) → IsSpot ctx.now op s → IfOk result (IsWritten back.new gives s.op.result) }
+    ensures grows { OnOk result (Grows back.old back.new) }
+    ensures rest { OnOk result (back.new ≡ record back.old { types = back.new.types }) }
+    ensures data { OnOk result (data_of back.new ≡ data_of back.old) }
+    ensures sound { OnOk result (IsModule back.new) }
+{
+    match gives {
+        Gives::Written => match ctx.result_type(op) {
+            Some(ty) => Ok(Some(value_type(ctx, ty, back)?)),
+            None => Ok(None),
+        },
+        _ => Ok(None),
+    }
+}
+
+/// The row that an operation becomes, which is that of its own row of the table.
+fn convert_row(
     alloc: Global,
     ctx: &Context,
     op: OpRef,
+    held: Op,
     blocks: &Blocks,
     values: &Values,
+    back: &mut LLVMModule,
 ) -> Result<LLVMInst, ToLLVMErr>
+    requires typed { IsTyped ctx.now }
     requires within { op.0 < length ctx.now.ops }
-    requires spot { (s : Spot) × IsSpot ctx.now op s }
-    requires some { (s : Spot) → IsSpot ctx.now op s → is_constant s.op ≡ false }
-    ensures ok { (s : Spot) (m : Module) → IsNext ctx.now op s values.now m → AreAllMapped s.task blocks.now → IfOk result (IsMade s m) }
-    ensures cause { (s : Spot) (m : Module) → IsNext ctx.now op s values.now m → AreAllMapped s.task blocks.now → IfErr result (IsFuncCause ctx.now s.task.source) }
+    requires kind { kind_at ctx.now.ops op ≡ Some (kinds.Row held) }
+    requires spot { (s : Spot) × IsNext ctx.now op s values.now back.old }
+    ensures next { (s : Spot) → IsNext ctx.now op s values.now back.old → OnOk result (IsNext ctx.now op s values.now back.new) }
+    ensures ok { (s : Spot) → IsNext ctx.now op s values.now back.old → AreAllMapped s.task blocks.now → IfOk result (IsMade s back.new) }
+    ensures cause { (s : Spot) → IsNext ctx.now op s values.now back.old → AreAllMapped s.task blocks.now → IfErr result (IsFuncCause ctx.now s.task.source) }
 {
-    match ctx.op_kind(op) {
-        OpKind::Add(flags) => convert_add(alloc, ctx, op, *flags, values),
-        OpKind::ICmp(predicate) => convert_icmp(alloc, ctx, op, *predicate, values),
-        OpKind::Br => convert_br(alloc, ctx, op, blocks, values),
-        OpKind::CondBr => convert_cond_br(alloc, ctx, op, blocks, values),
-        OpKind::Return => convert_return(alloc, ctx, op, values),
-        OpKind::Unreachable => Ok(LLVMInst::Unreachable),
-        OpKind::Constant(_) | OpKind::Module | OpKind::Func => unreachable!(),
-    }
+    let written = written_type(ctx, op, held.rule().gives, back)?;
+    let operands = known_all(alloc, ctx, ctx.op_operands(op), values)?;
+    let targets = leads(alloc, ctx, ctx.op_successors(op), blocks, values)?;
+    Ok(LLVMInst::Row(Row {
+        op: held,
+        written,
+        operands,
+        targets,
+    }))
 }
 
 /// Appends the instruction that an operation became, under its name where it has a result.
@@ -314,8 +280,8 @@ fn convert_op(
             convert_constant(ctx, op, value, values, back)?;
             Ok(())
         }
-        _ => {
-            let inst = convert_inst(alloc, ctx, op, blocks, values)?;
+        OpKind::Row(held) => {
+            let inst = convert_row(alloc, ctx, op, *held, blocks, values, back)?;
             place_inst(alloc, ctx, op, inst, block, values, back)?;
             Ok(())
         }

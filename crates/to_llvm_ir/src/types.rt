@@ -4,7 +4,7 @@ ghost use Rattle.std.specs.Prelude.{◌≡◌, ◌<◌, ℕ, List, false, All, l
 ghost use Rattle.llvm_core.specs.Parts.{IsFunctionType};
 ghost use Rattle.llvm_core.specs.Data as lists;
 ghost use Rattle.llvm_core.specs.Sound.{IsModule};
-ghost use Rattle.dialect_types.specs.Trees.{TypeTree, TypeTrees, FuncType, type_at, type_trees};
+ghost use Rattle.dialect_types.specs.Trees.{TypeTree, TypeTrees, FunctionType, type_at, type_trees};
 ghost use Rattle.dialect_core.specs.Form.{IsShortInt, IsShortResult, types_list};
 ghost use Rattle.meaning.specs.Dialect.{type_of};
 ghost use Rattle.to_llvm_ir.specs.Growth.{Grows, IsTypeOf, AreTypesOf, IsFormType};

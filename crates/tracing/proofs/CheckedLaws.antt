@@ -1,136 +1,117 @@
--- What the rules of a checked module say of an instruction that is no phi: its operands are values of its function, and
--- neither they nor its result are functions.
-use Rattle.std.proofs.Common.{◌≡◌, ℕ, Bool, true, false, nat_eq, ◌&&◌, ◌||◌, List, [], ◌∷◌, Option, None, Some, All, slice_get, refl, sym, ap, subst, ◌∙◌}
-use Rattle.std.specs.Prelude.{if◌then◌else◌}
+-- What the rules of a checked module say of the row of an instruction: its operands are values of its function, and neither
+-- they nor its result are functions.
+use Rattle.std.proofs.Common.{◌≡◌, ◌<◌, ℕ, true, false, not, List, [], ◌∷◌, Option, None, Some, All, length, map, unwrap_or, sym, ap, subst, ◌∙◌}
 use Rattle.std.specs.List.{list_any}
 use Rattle.std.specs.Option.{option_map, option_map_or}
-use Rattle.std.proofs.lemmas.Bool.{or_parts, false_from_ne_true, true_from_ne_false}
-use Rattle.std.proofs.lemmas.List.Elements.{All-nil, All-cons}
+use Rattle.std.proofs.lemmas.Bool.{or_parts, false_from_ne_true, not-false}
+use Rattle.std.proofs.lemmas.List.Elements.{All-nil, All-cons, All-head, All-tail, All-map, All-weaker}
+use Rattle.support.proofs.ListLaws.{item_there}
+use Rattle.kinds.specs.declared.rules.Takes.{Takes}
+use Rattle.kinds.specs.declared.rules.Takes.TheVariants.{Return}
+use Rattle.kinds.specs.Types.{TypeTree, VoidType}
+use Rattle.kinds.specs.Table.{rule_of}
+use Rattle.kinds.specs.Typing.{fits_trees, typed}
 use Rattle.llvm_core.specs.declared.numbers.LLVMType.{LLVMType}
 use Rattle.llvm_core.specs.declared.types.LLVMTypeKind.{LLVMTypeKind}
 use Rattle.llvm_core.specs.declared.types.LLVMTypeKind.TheVariants as T
+use Rattle.llvm_core.specs.declared.types.ResultType.{ResultType}
 use Rattle.llvm_core.specs.declared.types.ResultType.TheVariants as R
 use Rattle.llvm_core.specs.declared.code.LLVMValue.{LLVMValue}
-use Rattle.llvm_core.specs.declared.code.LLVMInst.{LLVMInst}
 use Rattle.llvm_core.specs.declared.code.LLVMInst.TheVariants as I
-use Rattle.llvm_core.specs.declared.code.FunctionData.{FunctionData}
+use Rattle.llvm_core.specs.declared.code.Row.{Row}
 use Rattle.llvm_core.specs.declared.check_err.Place.TheVariants as P
 use Rattle.llvm_core.specs.declared.check_err.CheckErr.TheVariants.{OperandType}
 use Rattle.llvm_core.specs.Module.{Module}
-use Rattle.llvm_core.specs.Parts.{IsValue, value_type, both_type, is_int, is_function, is_kind, is_phi, operands}
+use Rattle.llvm_core.specs.Parts.{IsValue, is_function, is_kind, row_fits, row_result}
 use Rattle.llvm_core.specs.Sound.{IsModule, StandsFor}
-use Rattle.llvm_core.specs.Checked.{IsChecked, is_bit, is_valueless, is_outside, is_block_outside, misfits_signature, return_type}
-use Rattle.llvm_core.proofs.DecideLemmas.{both_agree, type_decided}
-use Rattle.llvm_core.proofs.FormTypes.{numbered, signature_of, function_typed, return_type_is}
+use Rattle.llvm_core.specs.Data.{Operand, type_at, type_tree, trees_of, tree_of_result, operand_of, operand_type}
+use Rattle.llvm_core.specs.Checked.{is_valueless, is_outside, is_block_outside, misfits_signature, misfits_return, misfits_row}
+use Rattle.llvm_core.specs.Form.{IsOperandOf, IsReturning, result_of, types_of}
+use Rattle.llvm_core.proofs.DataLemmas.{type_tree_of, void_tree_of, int_tree_of}
+use Rattle.llvm_core.proofs.FormTypes.{numbered, signature_of, function_typed}
+use Rattle.llvm_core.proofs.FormValues.{values_stand, types_same, return_form}
+use Rattle.llvm_core.proofs.RuleLaws.{tree, tree_of, fits_by_tree, result_by_tree}
 use Rattle.llvm_core.proofs.CheckedInsts.{MeetsRules}
+use Rattle.tracing.specs.LlvmBodies.{InChecked, IsNoFunction, data_in, IsUsed}
+use Rattle.tracing.proofs.WordLaws.{operands_plain, result_plain}
 
--- a value of the function, whose type is no function's
-pub record IsUsable (m : Module) (f : ℕ) (v : LLVMValue) : Type 0 where
-  pub here : IsValue m v
-  pub inside : is_outside m (numbered f) v ≡ false
-  pub type : LLVMType
-  pub typed : value_type m v ≡ Some type
-  pub plain : is_kind is_function m.types type ≡ false
-
--- ---- kinds of types
-
-int_plain : (types : List LLVMTypeKind) (t : LLVMType) → is_kind is_int types t ≡ true → is_kind is_function types t ≡ false
-int_plain types t h = by (slice_get types t.0) h
+-- a type of no function, as a tree
+plain_tree : (m : Module) (t : LLVMType) → IsModule m → t.0 < length m.types → is_kind is_function m.types t ≡ false → IsNoFunction (type_at (trees_of m).types t)
+plain_tree m t sound within plain =
+    let k = item_there m.types t.0 within in
+    by k.0 (type_tree_of m t k.0 sound k.1) (sym (ap (λ o. option_map_or is_function o false) k.1) ∙ plain)
   where
-    by : (o : Option LLVMTypeKind) → option_map_or is_int o false ≡ true → option_map_or is_function o false ≡ false
-    by None e = refl
-    by (Some T.Void) e = refl
-    by (Some (T.Int w)) e = refl
-    by (Some (T.Function r ps v)) e = cc
+    by : (k : LLVMTypeKind) → type_at (trees_of m).types t ≡ type_tree (trees_of m).types k → is_function k ≡ false → IsNoFunction (type_at (trees_of m).types t)
+    by T.Void e h = rw e tt
+    by (T.Int w) e h = rw e tt
+    by (T.Function r ps v) e h = cc
 
-bit_plain : (types : List LLVMTypeKind) (t : LLVMType) → is_kind is_bit types t ≡ true → is_kind is_function types t ≡ false
-bit_plain types t h = by (slice_get types t.0) h
-  where
-    by : (o : Option LLVMTypeKind) → option_map_or is_bit o false ≡ true → option_map_or is_function o false ≡ false
-    by None e = refl
-    by (Some T.Void) e = refl
-    by (Some (T.Int w)) e = refl
-    by (Some (T.Function r ps v)) e = cc
+-- the tree of what stands for a result's type, void where there is none
+result_stood : (m : Module) (o : Option ResultType) (ty : LLVMType) → IsModule m → StandsFor m.types o ty → type_at (trees_of m).types ty ≡ unwrap_or (option_map (tree_of_result (trees_of m).types) o) VoidType
+result_stood m None ty sound h = void_tree_of m ty sound h
+result_stood m (Some (R.There t)) ty sound h = ap (type_at (trees_of m).types) h
+result_stood m (Some R.Bit) ty sound h = int_tree_of m ty 1 sound h
 
--- what both sides of an operation have is an integer type
-both_int : (types : List LLVMTypeKind) (a b : Option LLVMType) (t : LLVMType) → both_type types a b ≡ Some t → is_kind is_int types t ≡ true
-both_int types None b t h = cc
-both_int types (Some x) None t h = cc
-both_int types (Some x) (Some y) t h = by (nat_eq x.0 y.0) (is_kind is_int types x) refl h
-  where
-    by : (same int : Bool) → is_kind is_int types x ≡ int → (if same && int then Some x else None) ≡ Some t → is_kind is_int types t ≡ true
-    by false int i e = cc
-    by true false i e = cc
-    by true true i e = let same : x ≡ t = (cc) in subst (λ (u : LLVMType). is_kind is_int types u ≡ true) same i
-
-module _ (m : Module) (f : ℕ) (x : FunctionData) (sound : IsModule m) (at : slice_get m.functions f ≡ Some x) (checked : IsChecked m) where
+module _ (m : Module) (h : InChecked m) where
   -- what the function returns is no function
-  returned_plain : (r : LLVMType) → return_type m (numbered f) ≡ Some r → is_kind is_function m.types r ≡ false
-  returned_plain r is =
-      let typed = function_typed m f x sound at in
-      let s = signature_of m f x typed.0 typed.1 typed.2 sound at typed.3 in
-      let same : s.returned ≡ r = (let e = return_type_is m f x typed.0 typed.1 sound at s in cc) in
-      let fits = false_from_ne_true (misfits_signature m.types (T.Function s.returned s.params s.variadic)) (λ bad. checked (OperandType (P.Function f)) (x, at, ap (λ o. option_map_or (misfits_signature m.types) o false) s.kind_is ∙ bad)) in
+  returned_plain : IsNoFunction (result_of (data_in m h).type)
+  returned_plain =
+      let typed = function_typed m h.number h.function h.sound h.at in
+      let s = signature_of m h.number h.function typed.0 typed.1 typed.2 h.sound h.at typed.3 in
+      let fits = false_from_ne_true (misfits_signature m.types (T.Function s.returned s.params s.variadic)) (λ bad. h.checked (OperandType (P.Function h.number)) (h.function, h.at, ap (λ o. option_map_or (misfits_signature m.types) o false) s.kind_is ∙ bad)) in
       let parts = or_parts (list_any (is_kind is_valueless m.types) s.params) (is_kind is_function m.types s.returned) fits in
-      subst (λ (u : LLVMType). is_kind is_function m.types u ≡ false) same parts.1
+      subst IsNoFunction (s.returned_is ∙ sym (ap result_of typed.3)) (plain_tree m s.returned h.sound s.within parts.1)
 
-  -- both sides of an operation, which have one integer type
-  both_usable : (lhs rhs : LLVMValue) → IsValue m lhs → IsValue m rhs → ¬ (both_type m.types (value_type m lhs) (value_type m rhs) ≡ None) → is_outside m (numbered f) lhs || is_outside m (numbered f) rhs ≡ false → All (IsUsable m f) (lhs ∷ rhs ∷ [])
-  both_usable lhs rhs left right some inside =
-      let t = both_agree m.types (value_type m lhs) (value_type m rhs) some in
-      let plain = int_plain m.types t.0 (both_int m.types (value_type m lhs) (value_type m rhs) t.0 t.3) in
-      let parts = or_parts (is_outside m (numbered f) lhs) (is_outside m (numbered f) rhs) inside in
-      All-cons (IsUsable m f) lhs (rhs ∷ []) (record { here = left; inside = parts.0; type = t.0; typed = t.1; plain = plain })
-      (All-cons (IsUsable m f) rhs [] (record { here = right; inside = parts.1; type = t.0; typed = t.2; plain = plain }) (All-nil (IsUsable m f)))
+  abbrev operands_in : List LLVMValue → List Operand
+  operands_in vs = map (operand_of (trees_of m)) vs
 
-  module _ (b : ℕ) (ty : LLVMType) where
-    -- a line for each kind
-    pub usable_all : (inst : LLVMInst) → is_phi inst ≡ false → MeetsRules m f b ty inst → All (IsUsable m f) (operands inst)
-    usable_all (I.Add lhs rhs flags) e h = both_usable lhs rhs h.values.0 h.values.1 (λ none. h.types (ap (option_map R.There) none)) h.outside
-    usable_all (I.ICmp lhs rhs predicate) e h = both_usable lhs rhs h.values.0 h.values.1 (λ none. h.types (ap (option_map (λ _. R.Bit)) none)) h.outside
-    usable_all (I.Phi type entries) e h = cc
-    usable_all (I.Br target) e h = All-nil (IsUsable m f)
-    usable_all (I.CondBr condition first second) e h =
-        let outer = or_parts (is_outside m (numbered f) condition || is_block_outside m (numbered f) first) (is_block_outside m (numbered f) second) h.outside in
-        let inner = or_parts (is_outside m (numbered f) condition) (is_block_outside m (numbered f) first) outer.0 in
-        All-cons (IsUsable m f) condition [] (by (value_type m condition) refl (true_from_ne_false _ h.types) inner.0) (All-nil (IsUsable m f))
-      where
-        by : (o : Option LLVMType) → value_type m condition ≡ o → option_map_or (is_kind is_bit m.types) o false ≡ true → is_outside m (numbered f) condition ≡ false → IsUsable m f condition
-        by None typed bit inside = cc
-        by (Some t) typed bit inside = record { here = h.values.0; inside = inside; type = t; typed = typed; plain = bit_plain m.types t bit }
-    usable_all (I.Ret None) e h = All-nil (IsUsable m f)
-    usable_all (I.Ret (Some v)) e h = All-cons (IsUsable m f) v [] (by (return_type m (numbered f)) refl) (All-nil (IsUsable m f))
-      where
-        by : (o : Option LLVMType) → return_type m (numbered f) ≡ o → IsUsable m f v
-        by None is =
-            let typed = function_typed m f x sound at in
-            let s = signature_of m f x typed.0 typed.1 typed.2 sound at typed.3 in
-            let known = return_type_is m f x typed.0 typed.1 sound at s in
-            absurd (let no : None ≡ Some s.returned = sym is ∙ known in cc)
-        by (Some r) is = record {
-          here = h.values;
-          inside = h.outside;
-          type = r;
-          typed = type_decided (value_type m v) r (λ other. h.types (λ e. other (e ∙ is)));
-          plain = returned_plain r is;
-        }
-    usable_all I.Unreachable e h = All-nil (IsUsable m f)
+  used_each : (vs : List LLVMValue) → All (IsValue m) vs → All (IsOperandOf (data_in m h)) (operands_in vs) → All IsNoFunction (types_of (data_in m h) (operands_in vs)) → All (IsUsed m h) vs
+  used_each [] here stand plain = All-nil (IsUsed m h)
+  used_each (v ∷ vs) here stand plain =
+      let o = operand_of (trees_of m) v in
+      let os = operands_in vs in
+      let t = operand_type (data_in m h) o in
+      let ts = types_of (data_in m h) os in
+      All-cons (IsUsed m h) v vs
+      (record { here = All-head (IsValue m) v vs here; stands = All-head (IsOperandOf (data_in m h)) o os stand; plain = All-head IsNoFunction t ts plain })
+      (used_each vs (All-tail (IsValue m) v vs here) (All-tail (IsOperandOf (data_in m h)) o os stand) (All-tail IsNoFunction t ts plain))
 
-    void_plain : StandsFor m.types None ty → is_kind is_function m.types ty ≡ false
-    void_plain h = ap (λ o. option_map_or is_function o false) h
+  -- what a return has is no function
+  returning_plain : (k : Takes) (os : List Operand) → IsReturning k (data_in m h) os → k ≡ Return → All IsNoFunction (types_of (data_in m h) os)
+  returning_plain k os is e =
+      let all : IsReturning Return (data_in m h) os = subst (λ (k : Takes). IsReturning k (data_in m h) os) e is in
+      All-map IsNoFunction (operand_type (data_in m h)) os (All-weaker (λ (o : Operand). operand_type (data_in m h) o ≡ result_of (data_in m h).type) (λ (o : Operand). IsNoFunction (operand_type (data_in m h) o)) (λ o same. subst IsNoFunction (sym same) returned_plain) os all)
 
-    -- a line for each kind
-    pub result_plain : (inst : LLVMInst) → is_phi inst ≡ false → MeetsRules m f b ty inst → is_kind is_function m.types ty ≡ false
-    result_plain (I.Add lhs rhs flags) e h =
-        let t = both_agree m.types (value_type m lhs) (value_type m rhs) (λ none. h.types (ap (option_map R.There) none)) in
-        let same : ty ≡ t.0 = subst (λ r. StandsFor m.types r ty) (ap (option_map R.There) t.3) h.result in
-        subst (λ (u : LLVMType). is_kind is_function m.types u ≡ false) (sym same) (int_plain m.types t.0 (both_int m.types (value_type m lhs) (value_type m rhs) t.0 t.3))
-    result_plain (I.ICmp lhs rhs predicate) e h =
-        let t = both_agree m.types (value_type m lhs) (value_type m rhs) (λ none. h.types (ap (option_map (λ _. R.Bit)) none)) in
-        let bit : slice_get m.types ty.0 ≡ Some (T.Int 1) = subst (λ r. StandsFor m.types r ty) (ap (option_map (λ _. R.Bit)) t.3) h.result in
-        ap (λ o. option_map_or is_function o false) bit
-    result_plain (I.Phi type entries) e h = cc
-    result_plain (I.Br target) e h = void_plain h.result
-    result_plain (I.CondBr condition first second) e h = void_plain h.result
-    result_plain (I.Ret value) e h = void_plain h.result
-    result_plain I.Unreachable e h = void_plain h.result
+  module _ (b : ℕ) (ty : LLVMType) (r : Row) (rules : MeetsRules m h.number b ty (I.Row r)) where
+    abbrev takes : Takes
+    takes = (rule_of r.op).takes
+
+    abbrev written : Option TypeTree
+    written = option_map (tree m h.sound) r.written
+
+    stand : All (IsOperandOf (data_in m h)) (operands_in r.operands)
+    stand =
+        let inside = or_parts (list_any (is_outside m (numbered h.number)) r.operands) (list_any (is_block_outside m (numbered h.number)) r.targets) rules.outside in
+        values_stand m h.number h.function h.sound h.at r.operands rules.values.0 inside.0
+
+    types_are : types_of (data_in m h) (operands_in r.operands) ≡ map (tree_of m h.sound) r.operands
+    types_are = types_same m h.number h.function h.sound h.at r.operands rules.values.0 stand
+
+    kept : (not (row_fits m r) ≡ false) × (misfits_return takes m (numbered h.number) r.operands ≡ false)
+    kept = or_parts (not (row_fits m r)) (misfits_return takes m (numbered h.number) r.operands) (false_from_ne_true (misfits_row m (numbered h.number) r) rules.types)
+
+    fits : fits_trees r.op written (types_of (data_in m h) (operands_in r.operands)) ≡ true
+    fits = ap (fits_trees r.op written) types_are ∙ fits_by_tree m h.sound r rules.values ∙ not-false (row_fits m r) kept.0
+
+    plain : All IsNoFunction (types_of (data_in m h) (operands_in r.operands))
+    plain = operands_plain r.op written (types_of (data_in m h) (operands_in r.operands)) fits (returning_plain takes (operands_in r.operands) (return_form m h.number h.function h.sound h.at takes r.operands rules.values.0 stand kept.1))
+
+    -- the operands are values of the function, and no functions
+    pub row_used : All (IsUsed m h) r.operands
+    row_used = used_each r.operands rules.values.0 stand plain
+
+    -- and its result is none
+    pub row_plain : IsNoFunction (type_at (trees_of m).types ty)
+    row_plain =
+        let type = result_stood m (row_result m r) ty h.sound rules.result ∙ ap (λ o. unwrap_or o VoidType) (result_by_tree m h.sound r rules.values ∙ ap (typed r.op written) (sym types_are)) in
+        subst IsNoFunction (sym type) (result_plain r.op written (types_of (data_in m h) (operands_in r.operands)) fits plain)

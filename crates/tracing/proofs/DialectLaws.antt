@@ -1,19 +1,17 @@
 -- The operations and values of a function of the dialect, in the names of the program.
-use Rattle.std.proofs.Common.{◌≡◌, ◌<◌, ℕ, Bool, true, false, List, [], ◌∷◌, Option, Some, None, All, length, map, slice_get, get_or, refl, sym, ap, subst, ◌∙◌, arith}
+use Rattle.std.proofs.Common.{◌≡◌, ◌<◌, ℕ, Bool, true, false, List, [], ◌∷◌, Option, Some, None, All, length, map, slice_get, get_or, refl, sym, ap, subst, ◌∙◌}
 use Rattle.std.specs.Prelude.{IfSome, nat_eq, if◌then◌else◌}
 use Rattle.std.specs.List.{filter_map, find}
 use Rattle.std.specs.Option.{option_map, option_and_then}
 use Rattle.std.proofs.Common.{eqb-true}
 use Rattle.std.proofs.lemmas.Option.{same_Some, none-some, slice_get_within}
-use Rattle.std.proofs.lemmas.List.Elements.{All-nil, All-cons, All-head, All-tail}
-use Rattle.llvm_core.specs.Data as L
+use Rattle.std.proofs.lemmas.List.Elements.{All-nil, All-head, All-tail, All-weaker}
+use Rattle.kinds.specs.declared.op.Op.{Op}
 use Rattle.dialect_types.specs.declared.types.TypeHandle.{TypeHandle}
 use Rattle.dialect_types.specs.declared.attrs.ConstAttr.{ConstAttr}
-use Rattle.dialect_types.specs.Trees.{TypeTree, VoidType, IntegerType, FuncType, IntegerAttr, HasTypesBelow, type_at, type_trees}
+use Rattle.dialect_types.specs.Trees.{TypeTree, IntegerAttr, HasTypesBelow, type_at, type_trees}
 use Rattle.dialect_core.specs.declared.numbers.OpRef.{OpRef}
 use Rattle.dialect_core.specs.declared.numbers.BlockRef.{BlockRef}
-use Rattle.dialect_core.specs.declared.predicates.ICmpPredicateAttr.{ICmpPredicateAttr}
-use Rattle.llvm_core.specs.declared.code.LLVMIntPredicate.{LLVMIntPredicate}
 use Rattle.dialect_core.specs.declared.ops.Value.{Value}
 use Rattle.dialect_core.specs.declared.ops.Value.TheVariants as V
 use Rattle.dialect_core.specs.declared.ops.Successor.{Successor}
@@ -24,22 +22,19 @@ use Rattle.dialect_core.specs.declared.ops.BlockData.{BlockData}
 use Rattle.dialect_core.specs.declared.ops.Symbol.{Symbol}
 use Rattle.dialect_core.specs.Lists.{list_at}
 use Rattle.dialect_core.specs.ContextData.{ContextData}
-use Rattle.dialect_core.specs.Data.{DialectOp, DialectBlock, Func, Kind, ConstantOp, AddOp, ICmpOp, BrOp, CondBrOp, ReturnOp, UnreachableOp, IsTyped, HasKindTypesBelow, kind_of, op_of, op_at, block_of, block_in, func_with, func_of, func_in, type_in}
-use Rattle.dialect_core.specs.Form.{result_of}
-use Rattle.dialect_core.specs.WellFormed.{Typing, IsInteger, IsReturned, IsSignature, IsOfKind, AreIntegers, Returned}
+use Rattle.dialect_core.specs.Data.{DialectOp, DialectBlock, Func, Kind, ConstantOp, RowOp, IsTyped, HasKindTypesBelow, kind_of, op_of, op_at, block_of, block_in, func_with, func_of, func_in, type_in}
+use Rattle.dialect_core.specs.Rules.{Typing, IsInteger, IsIntegerBy, IsOfKind}
 use Rattle.dialect_core.proofs.WellLaws.{short_integer}
-use Rattle.meaning.specs.Terms as M
 use Rattle.meaning.specs.Machine as Machine
 use Rattle.meaning.specs.Dialect as Dialect
-use Rattle.meaning.specs.Dialect.{same_value, option_type, predicate_of, typed_action, typed_applies}
+use Rattle.meaning.specs.Dialect.{same_value, option_type, typed_action}
 use Rattle.tracing.specs.declared.body.Slot.{Slot}
 use Rattle.tracing.specs.declared.body.Slot.TheVariants.{Result}
 use Rattle.tracing.specs.declared.body.Source.{Source}
 use Rattle.tracing.specs.declared.body.Action.{Action}
 use Rattle.tracing.specs.declared.body.Action.TheVariants as A
-use Rattle.tracing.specs.declared.table.Opcode.{Opcode}
-use Rattle.tracing.specs.declared.trace.Imms.{Imms}
-use Rattle.tracing.specs.Table.{tree_of, opcode_of, immediates_of}
+use Rattle.tracing.specs.declared.trace.Types.{Types}
+use Rattle.tracing.specs.Table.{tree_of}
 use Rattle.tracing.specs.Renamed.{renamed, renamed_action, renamed_row}
 use Rattle.tracing.specs.Bodies.{same_slot, source_of, action_of, row_of}
 use Rattle.tracing.specs.DialectBodies.{slot_of, InContext, AreOpsIn, IsOpIn, IsUsed}
@@ -200,48 +195,16 @@ used_result c r v is used =
 pub used_argument : (c : ContextData) (b : BlockRef) (i : ℕ) (v : Value) → v ≡ V.Argument b i → (used : IsUsed c v) → ArgumentRead c b i used.type
 used_argument c b i v is used = argument_read c b i used.type (ap (type_in c) (sym is) ∙ used.typed)
 
--- a function returns nothing or an integer
-returned_type : (t : TypeTree) → IsSignature t → IsReturned (result_of t)
-returned_type (FuncType r ps n) is = is.0
-returned_type VoidType is = absurd is
-returned_type (IntegerType w) is = absurd is
-
 module _ (c : ContextData) (g : Func) where
-  used_one : (type : TypeTree) (v : Value) (vs : List Value) → vs ≡ v ∷ [] → type_in c v ≡ Some type → IsInteger type → All (IsUsed c) vs
-  used_one type v vs e typed integer = subst (All (IsUsed c)) (sym e) (All-cons (IsUsed c) v [] (record { type = type; typed = typed; integer = integer }) (All-nil (IsUsed c)))
+  -- the operands of a well-formed operation are integers of the context
+  pub used_all : (vs : List Value) (own : Option TypeTree) (edges : List Successor) (k : Kind) → IsOfKind (type_in c) g vs own edges k → All (IsUsed c) vs
+  used_all vs own edges (ConstantOp (IntegerAttr type value)) is = subst (All (IsUsed c)) (sym is.bare) (All-nil (IsUsed c))
+  used_all vs own edges (RowOp op) is = All-weaker (IsIntegerBy (type_in c)) (IsUsed c) (λ v h. record { type = h.0; typed = h.1; integer = h.2 }) vs is.integers
 
-  used_two : (type : TypeTree) (vs : List Value) → AreIntegers (type_in c) type vs → All (IsUsed c) vs
-  used_two type vs h =
-      subst (All (IsUsed c)) (sym h.are)
-      (All-cons (IsUsed c) h.lhs (h.rhs ∷ []) (record { type = type; typed = h.left; integer = h.integer }) (All-cons (IsUsed c) h.rhs [] (record { type = type; typed = h.right; integer = h.integer }) (All-nil (IsUsed c))))
-
-  used_none : (vs : List Value) → vs ≡ [] → All (IsUsed c) vs
-  used_none vs e = subst (All (IsUsed c)) (sym e) (All-nil (IsUsed c))
-
-  used_returned : (type : TypeTree) (vs : List Value) → IsReturned type → Returned (type_in c) type vs → All (IsUsed c) vs
-  used_returned VoidType vs integer is = used_none vs is
-  used_returned (IntegerType w) vs integer is = used_one (IntegerType w) is.0 vs is.1 is.2 integer
-  used_returned (FuncType r ps n) vs integer is = absurd integer
-
-  -- the operands of a well-formed operation are integers of the context, a line for each kind
-  pub used_all : IsSignature g.type → (vs : List Value) (own : Option TypeTree) (edges : List Successor) (k : Kind) → IsOfKind (type_in c) g vs own edges k → All (IsUsed c) vs
-  used_all signature vs own edges (ConstantOp (IntegerAttr type value)) is = used_none vs is.3
-  used_all signature vs own edges (AddOp flags) is = used_two is.0 vs is.1
-  used_all signature vs own edges (ICmpOp predicate) is = used_two is.0.0 vs is.0.1
-  used_all signature vs own edges BrOp is = used_none vs is.0
-  used_all signature vs own edges CondBrOp is = used_one (IntegerType 1) is.0.0 vs is.0.1 is.0.2 (omega arith, omega arith)
-  used_all signature vs own edges ReturnOp is = used_returned (result_of g.type) vs (returned_type g.type signature) is.0
-  used_all signature vs own edges UnreachableOp is = used_none vs is.0
-
-  -- and it has no result but an integer, a line for each kind
+  -- and it has no result but an integer
   pub integer_result : (vs : List Value) (own : Option TypeTree) (edges : List Successor) (k : Kind) → IsOfKind (type_in c) g vs own edges k → IfSome own IsInteger
-  integer_result vs own edges (ConstantOp (IntegerAttr type value)) is = rw is.2 (short_integer type is.0)
-  integer_result vs own edges (AddOp flags) is = rw is.2 is.1.integer
-  integer_result vs own edges (ICmpOp predicate) is = rw is.1 (omega arith, omega arith)
-  integer_result vs own edges BrOp is = rw is.1 tt
-  integer_result vs own edges CondBrOp is = rw is.1 tt
-  integer_result vs own edges ReturnOp is = rw is.1 tt
-  integer_result vs own edges UnreachableOp is = rw is.1 tt
+  integer_result vs own edges (ConstantOp (IntegerAttr type value)) is = rw is.result (short_integer type is.short)
+  integer_result vs own edges (RowOp op) is = is.integer
 
 pub operands_kept : (c : ContextData) (r : OpRef) (o : DialectOp) (vs : List Value) → op_at (type_trees c.types) c.ops r ≡ Some o → option_map (λ (x : OpData). x.operands) (slice_get c.ops r.0) ≡ Some vs → o.operands ≡ vs
 operands_kept c r o vs at is = let k = kept_op c r o at in k.operands ∙ same_Some k.kept.operands vs (sym (ap (option_map (λ (x : OpData). x.operands)) k.there) ∙ is)
@@ -262,14 +225,14 @@ constant_within c r o value typed at is =
 
 -- ---- actions and rows
 
-applies_same : (o : M.Opcode) (is : List M.Immediate) (ty ty' : L.TypeTree) (tys tys' : List L.TypeTree) (os os' : List (Machine.Operand Slot)) → ty ≡ ty' → tys ≡ tys' → os ≡ os' → ◌≡◌ {A = Machine.Action Slot} (Machine.Applies o is ty tys os) (Machine.Applies o is ty' tys' os')
-applies_same o is ty ty' tys tys' os os' a b c = cc
+applies_same : (o : Op) (ty ty' : TypeTree) (tys tys' : List TypeTree) (os os' : List (Machine.Operand Slot)) → ty ≡ ty' → tys ≡ tys' → os ≡ os' → ◌≡◌ {A = Machine.Action Slot} (Machine.Applies o ty tys os) (Machine.Applies o ty' tys' os')
+applies_same o ty ty' tys tys' os os' a b c = cc
 
-pub applied_is : (types : Typing) (o : DialectOp) (opcode : Opcode) (imms : Imms) (os : List Source) (vs : List Value) → o.operands ≡ vs → tree_of imms.ty ≡ option_type o.result
-    → map tree_of imms.operand_types ≡ map (λ (v : Value). option_type (types v)) vs → map source_of os ≡ map (λ (v : Value). let o : Machine.Operand Slot = Machine.At (slot_of v) in o) vs
-    → action_of (A.Applies opcode imms os) ≡ renamed_action slot_of (typed_applies types o (opcode_of opcode) (immediates_of imms.immediates))
-applied_is types o opcode imms os vs operands type operand_types sources =
-    applies_same (opcode_of opcode) (immediates_of imms.immediates) _ _ _ _ _ _ type (operand_types ∙ ap (map (λ (v : Value). option_type (types v))) (sym operands))
+pub applied_is : (types : Typing) (o : DialectOp) (op : Op) (shown : Types) (os : List Source) (vs : List Value) → o.operands ≡ vs → tree_of shown.result ≡ option_type o.result
+    → map tree_of shown.operands ≡ map (λ (v : Value). option_type (types v)) vs → map source_of os ≡ map (λ (v : Value). let o : Machine.Operand Slot = Machine.At (slot_of v) in o) vs
+    → action_of (A.Applies op shown os) ≡ renamed_action slot_of (typed_action types o (RowOp op))
+applied_is types o op shown os vs operands type operand_types sources =
+    applies_same op _ _ _ _ _ _ type (operand_types ∙ ap (map (λ (v : Value). option_type (types v))) (sym operands))
     (sources ∙ ap (map (λ (v : Value). let o : Machine.Operand Slot = Machine.At (slot_of v) in o)) (sym operands) ∙ sym (mapped_twice (renamed slot_of) (λ (v : Value). let o : Machine.Operand Value = Machine.At v in o) o.operands))
 
 -- what an operation of a known kind does
@@ -277,9 +240,6 @@ pub action_of_kind : (c : ContextData) (r : OpRef) (o : DialectOp) (k : OpKind) 
     → a ≡ renamed_action slot_of (typed_action (type_in c) o kind) → a ≡ renamed_action slot_of (typed_action (type_in c) o o.kind)
 action_of_kind c r o k kind a at kept is here =
     here ∙ ap (λ (k : Kind). renamed_action slot_of (typed_action (type_in c) o k)) (same_Some kind o.kind (sym is ∙ kind_kept c r o k at kept))
-
-pub icmp_action : (types : Typing) (o : DialectOp) (by : ICmpPredicateAttr) (p : LLVMIntPredicate) (a : Machine.Action Slot) → p ≡ predicate_of by → a ≡ renamed_action slot_of (typed_applies types o M.ICmp (M.Predicate p ∷ [])) → a ≡ renamed_action slot_of (typed_action types o (ICmpOp by))
-icmp_action types o by p a same is = is ∙ ap (λ (p : LLVMIntPredicate). renamed_action slot_of (typed_applies types o M.ICmp (M.Predicate p ∷ []))) same
 
 row_same : (a b : Machine.Action Slot) (n k : ℕ) → a ≡ b → n ≡ k → ◌≡◌ {A = Machine.Row Slot} (record { action = a; result = Result n }) (record { action = b; result = Result k })
 row_same a b n k e f = cc

@@ -132,12 +132,12 @@ edges_are m h x index from (n ∷ ns) = let e = edge_is m h x index from n in le
 -- ---- a block
 
 module _ (m : Module) (h : InChecked m) (x : Index) (index : IsIndexOf m h x) where
-  rows_are : (ps : List Placed) → rows_in m h ps ≡ map (renamed_row slot_of) (filter_map (λ (p : Placed). row (data_of m) (data_in m h) p (phi_entries p.instruction)) ps)
+  rows_are : (ps : List Placed) → rows_in m h ps ≡ map (renamed_row slot_of) (filter_map (λ (p : Placed). row (data_of m) (data_in m h) p p.instruction) ps)
   rows_are [] = refl
-  rows_are (p ∷ ps) = by (row (data_of m) (data_in m h) p (phi_entries p.instruction)) (rows_are ps)
+  rows_are (p ∷ ps) = by (row (data_of m) (data_in m h) p p.instruction) (rows_are ps)
     where
-      by : (o : Option (M.Row Key)) → rows_in m h ps ≡ map (renamed_row slot_of) (filter_map (λ (p : Placed). row (data_of m) (data_in m h) p (phi_entries p.instruction)) ps)
-          → cons_option (option_map (renamed_row slot_of) o) (rows_in m h ps) ≡ map (renamed_row slot_of) (cons_option o (filter_map (λ (p : Placed). row (data_of m) (data_in m h) p (phi_entries p.instruction)) ps))
+      by : (o : Option (M.Row Key)) → rows_in m h ps ≡ map (renamed_row slot_of) (filter_map (λ (p : Placed). row (data_of m) (data_in m h) p p.instruction) ps)
+          → cons_option (option_map (renamed_row slot_of) o) (rows_in m h ps) ≡ map (renamed_row slot_of) (cons_option o (filter_map (λ (p : Placed). row (data_of m) (data_in m h) p p.instruction) ps))
       by None e = e
       by (Some r) e = ap (λ l. renamed_row slot_of r ∷ l) e
 

@@ -6,12 +6,10 @@ use Rattle.std.proofs.lemmas.List.{append-nil, take_more, take_all}
 use Rattle.std.proofs.lemmas.Option.{none-some, slice_get-get_or, same_Some}
 use Rattle.llvm_core.specs.declared.numbers.LLVMBasicBlock.{LLVMBasicBlock}
 use Rattle.llvm_core.specs.declared.numbers.LLVMInstRef.{LLVMInstRef}
-use Rattle.llvm_core.specs.declared.code.LLVMInst.{LLVMInst}
 use Rattle.llvm_core.specs.declared.code.LLVMInst.TheVariants as I
 use Rattle.llvm_core.specs.declared.code.PhiEntry.{PhiEntry}
 use Rattle.llvm_core.specs.declared.code.LLVMValue.TheVariants as V
 use Rattle.llvm_core.specs.declared.numbers.LLVMType.{LLVMType}
-use Rattle.llvm_core.specs.Parts.{is_phi as phi_of}
 use Rattle.indexmap.specs.IndexMap.{get}
 use Rattle.tracing.specs.declared.llvm_index.Phi.{Phi}
 use Rattle.tracing.specs.declared.body.Slot.TheVariants.{Result}
@@ -22,7 +20,7 @@ use Rattle.llvm_core.specs.declared.code.FunctionData.{FunctionData}
 use Rattle.llvm_core.specs.declared.code.InstData.{InstData}
 use Rattle.llvm_core.specs.Module.{Module}
 use Rattle.llvm_core.specs.Data as D
-use Rattle.llvm_core.specs.Data.{Placed, Block, Instruction, trees_of, entry_of, operand_of, instruction_of, phi_entries, placed_at, block_at, block_of, data_of}
+use Rattle.llvm_core.specs.Data.{Placed, Block, trees_of, entry_of, instruction_of, phi_entries, placed_at, block_at, block_of, data_of}
 use Rattle.llvm_core.specs.Checked.{home}
 use Rattle.llvm_core.specs.Form.{is_phi}
 use Rattle.llvm_core.proofs.DataLemmas.{blocks_there, insts_there, slice_get-filter_map_all, length-filter_map_all}
@@ -128,15 +126,6 @@ abbrev pub some_entry : PhiEntry
 some_entry = record { value = V.Const (record { 0 = 0 }); block = record { 0 = 0 } }
 
 -- ---- phis
-
-pub not_phi : (inst : LLVMInst) → ((t : LLVMType) (es : List PhiEntry) → inst ≡ I.Phi t es → ⊥) → phi_of inst ≡ false
-not_phi (I.Add lhs rhs flags) h = refl
-not_phi (I.ICmp lhs rhs predicate) h = refl
-not_phi (I.Phi t es) h = absurd (h t es refl)
-not_phi (I.Br target) h = refl
-not_phi (I.CondBr condition first second) h = refl
-not_phi (I.Ret value) h = refl
-not_phi I.Unreachable h = refl
 
 module _ (m : Module) where
   pub no_more : (xs : List Phi) (ps : List Placed) (p : Placed) → is_phi p ≡ false → Matched (IsPhiOf m) xs ps → Matched (IsPhiOf m) xs (ps ++ filter is_phi (p ∷ []))

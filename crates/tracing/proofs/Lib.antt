@@ -1,11 +1,13 @@
 -- The lemmas of the crate.
 pub mod ModuleLaws
+pub mod OpLaws
 pub mod NodeLaws
 pub mod TableLaws
 pub mod RunLaws
 pub mod MoveLaws
 pub mod Renaming
 pub mod PlaceLaws
+pub mod WordLaws
 pub mod CheckedLaws
 pub mod LlvmLaws
 pub mod ListLaws

@@ -45,15 +45,15 @@ module _ (V W : Type 0) (same_v : V → V → Bool) (same_w : W → W → Bool) 
 
     apply_alike : (v : V) (a : Action V) → Alike (apply V same_v s v a) (apply W same_w t (f v) (renamed_action f a))
     apply_alike v (Holds u) = set_alike v u
-    apply_alike v (Applies o is ty tys os) =
-        subst (λ (us : List Term). Alike (after (map (read s.env) os)) (effect W same_w (reads W same_w t us) (f v) (Event o is ty tys us) (silent o is ty us))) (sym (reads_alike os)) (by (map (read s.env) os) (silent o is ty (map (read s.env) os)))
+    apply_alike v (Applies o ty tys os) =
+        subst (λ (us : List Term). Alike (after (map (read s.env) os)) (effect W same_w (reads W same_w t us) (f v) (Event o ty tys us) (silent o ty us))) (sym (reads_alike os)) (by (map (read s.env) os) (silent o ty (map (read s.env) os)))
       where
         after : List Term → State V
-        after us = effect V same_v (reads V same_v s us) v (Event o is ty tys us) (silent o is ty us)
+        after us = effect V same_v (reads V same_v s us) v (Event o ty tys us) (silent o ty us)
 
-        by : (us : List Term) (x : Option Term) → Alike (effect V same_v (reads V same_v s us) v (Event o is ty tys us) x) (effect W same_w (reads W same_w t us) (f v) (Event o is ty tys us) x)
+        by : (us : List Term) (x : Option Term) → Alike (effect V same_v (reads V same_v s us) v (Event o ty tys us) x) (effect W same_w (reads W same_w t us) (f v) (Event o ty tys us) x)
         by us (Some u) = let e = set_alike v u in record { block = e.block; count = e.count; shown = e.shown; env = e.env }
-        by us None = let e = answered_alike v (Event o is ty tys us) in record { block = e.block; count = e.count; shown = e.shown; env = e.env }
+        by us None = let e = answered_alike v (Event o ty tys us) in record { block = e.block; count = e.count; shown = e.shown; env = e.env }
 
   straight_alike : (s : State V) (t : State W) → Alike s t → (rs : List (Row V)) → Alike (straight V same_v s rs) (straight W same_w t (map (renamed_row f) rs))
   straight_alike s t h [] = h

@@ -6,7 +6,10 @@ use Rattle.std.proofs.lemmas.List.Elements.{All-cons}
 use Rattle.std.proofs.lemmas.Option.{get_or_from_slice_get}
 use Rattle.meaning.proofs.MatchedLaws.{matched_push}
 use Rattle.indexmap.specs.IndexMap.{get}
-use Rattle.meaning.specs.Terms.{Term, Unset, Answer, Expr, Family, Shows, Builds, family, made_by, terms_of}
+use Rattle.kinds.specs.declared.op.Op.{Op}
+use Rattle.kinds.specs.declared.rules.Family.{Family}
+use Rattle.kinds.specs.declared.rules.Family.TheVariants.{Shows, Builds}
+use Rattle.meaning.specs.Terms.{Term, Unset, Answer, Expr, family, made_by, terms_of}
 use Rattle.meaning.specs.Machine as M
 use Rattle.meaning.specs.Machine.{Item, State}
 use Rattle.meaning.specs.Pairs.{Matched}
@@ -15,14 +18,13 @@ use Rattle.tracing.specs.declared.body.Slot.{Slot}
 use Rattle.tracing.specs.declared.body.Slot.TheVariants.{Input}
 use Rattle.tracing.specs.declared.body.Source.{Source}
 use Rattle.tracing.specs.declared.body.Source.TheVariants as S
-use Rattle.tracing.specs.declared.trace.Imms.{Imms}
+use Rattle.tracing.specs.declared.trace.Types.{Types}
 use Rattle.tracing.specs.declared.body.Action.TheVariants as A
 use Rattle.tracing.specs.declared.body.Row.{Row}
-use Rattle.tracing.specs.declared.table.Opcode.{Opcode}
 use Rattle.tracing.specs.declared.trace.TraceItem.{TraceItem}
 use Rattle.tracing.specs.declared.trace.TraceItem.TheVariants as I
 use Rattle.tracing.specs.declared.run.Run.{Run}
-use Rattle.tracing.specs.Table.{terms, term_at, opcode_of, immediates_of, tree_of}
+use Rattle.tracing.specs.Table.{terms, term_at, tree_of}
 use Rattle.tracing.specs.Bodies.{same_slot, source_of, action_of, row_of}
 use Rattle.tracing.specs.Runs.{is_built, item_of, HasPlacesBelow, Names, AllNamed, Reads, ShowsItem, IsAt, Keeps}
 use Rattle.tracing.proofs.TableLaws.{kept_term, named_below}
@@ -44,9 +46,9 @@ read_kept old new keeps (Some k) t h = keeps k t h
 
 item_kept : (old new : List TermNode) → Keeps old new → (x : TraceItem) (i : Item) → ShowsItem old x i → ShowsItem new x i
 item_kept old new keeps (I.Block b) (M.Entered c) h = h
-item_kept old new keeps (I.Event o imms ks) (M.Event p is ty tys ts) h = (h.0, h.1, h.2, h.3, all_kept old new keeps ks.items ts h.4)
-item_kept old new keeps (I.Block b) (M.Event p is ty tys ts) h = elim h [ ]
-item_kept old new keeps (I.Event o imms ks) (M.Entered c) h = elim h [ ]
+item_kept old new keeps (I.Event o types ks) (M.Event p ty tys ts) h = (h.0, h.1, h.2, all_kept old new keeps ks.items ts h.3)
+item_kept old new keeps (I.Block b) (M.Event p ty tys ts) h = elim h [ ]
+item_kept old new keeps (I.Event o types ks) (M.Entered c) h = elim h [ ]
 
 items_kept : (old new : List TermNode) → Keeps old new → (xs : List TraceItem) (is : List Item) → Matched (ShowsItem old) xs is → Matched (ShowsItem new) xs is
 items_kept old new keeps [] [] h = tt
@@ -159,24 +161,24 @@ not_built : (f : Family) → is_built f ≡ false → f ≡ Shows
 not_built Shows h = refl
 not_built Builds h = cc
 
-module _ (r : Run) (s : State Slot) (v : Slot) (o : Opcode) (imms : Imms) (operands : List Source) where
+module _ (r : Run) (s : State Slot) (v : Slot) (o : Op) (types : Types) (operands : List Source) where
   abbrev ts : List Term
   ts = map (M.read s.env) (map source_of operands)
 
   abbrev event : Item
-  event = M.Event (opcode_of o) (immediates_of imms.immediates) (tree_of imms.ty) (map tree_of imms.operand_types) ts
+  event = M.Event o (tree_of types.result) (map tree_of types.operands) ts
 
   abbrev effect_by : Family → State Slot
-  effect_by f = M.effect Slot same_slot (M.reads Slot same_slot s ts) v event (made_by f (opcode_of o) (immediates_of imms.immediates) (tree_of imms.ty) ts)
+  effect_by f = M.effect Slot same_slot (M.reads Slot same_slot s ts) v event (made_by f o (tree_of types.result) ts)
 
-  pub built_at : is_built (family (opcode_of o)) ≡ true → IsAt r (M.set_in Slot same_slot s v (Expr (opcode_of o) (immediates_of imms.immediates) (tree_of imms.ty) (terms_of ts)))
-      → IsAt r (M.apply Slot same_slot s v (action_of (A.Applies o imms operands)))
+  pub built_at : is_built (family o) ≡ true → IsAt r (M.set_in Slot same_slot s v (Expr o (tree_of types.result) (terms_of ts)))
+      → IsAt r (M.apply Slot same_slot s v (action_of (A.Applies o types operands)))
   built_at silent h =
-      subst (λ (f : Family). IsAt r (effect_by f)) (sym (builds (family (opcode_of o)) silent)) (at_alike r (M.set_in Slot same_slot s v (Expr (opcode_of o) (immediates_of imms.immediates) (tree_of imms.ty) (terms_of ts))) (effect_by Builds) refl (λ w. refl) refl refl h)
+      subst (λ (f : Family). IsAt r (effect_by f)) (sym (builds (family o) silent)) (at_alike r (M.set_in Slot same_slot s v (Expr o (tree_of types.result) (terms_of ts))) (effect_by Builds) refl (λ w. refl) refl refl h)
 
-  pub shown_at : is_built (family (opcode_of o)) ≡ false → IsAt r (M.answered Slot same_slot s v event) → IsAt r (M.apply Slot same_slot s v (action_of (A.Applies o imms operands)))
+  pub shown_at : is_built (family o) ≡ false → IsAt r (M.answered Slot same_slot s v event) → IsAt r (M.apply Slot same_slot s v (action_of (A.Applies o types operands)))
   shown_at shows h =
-      subst (λ (f : Family). IsAt r (effect_by f)) (sym (not_built (family (opcode_of o)) shows)) (at_alike r (M.answered Slot same_slot s v event) (effect_by Shows) refl (λ w. refl) refl refl h)
+      subst (λ (f : Family). IsAt r (effect_by f)) (sym (not_built (family o) shows)) (at_alike r (M.answered Slot same_slot s v event) (effect_by Shows) refl (λ w. refl) refl refl h)
 
 pub straight_push : (s : State Slot) (rs : List (M.Row Slot)) (r : M.Row Slot) → M.straight Slot same_slot s (rs ++ r ∷ []) ≡ M.apply Slot same_slot (M.straight Slot same_slot s rs) r.result r.action
 straight_push s [] r = refl
@@ -189,15 +191,14 @@ straight_step s rows i d lt = ap (M.straight Slot same_slot s) (take_push row_of
 
 item_is : (ns : List TermNode) (x : TraceItem) (i : Item) → ShowsItem ns x i → item_of (terms ns) x ≡ i
 item_is ns (I.Block b) (M.Entered c) h = ap M.Entered h
-item_is ns (I.Event o imms ks) (M.Event p is ty tys us) h =
+item_is ns (I.Event o types ks) (M.Event p ty tys us) h =
     let a = h.0 in
     let b = h.1 in
     let c = h.2 in
-    let d = h.3 in
-    let e = named_terms ns ks.items us h.4 in
+    let d = named_terms ns ks.items us h.3 in
     cc
-item_is ns (I.Block b) (M.Event p is ty tys us) h = elim h [ ]
-item_is ns (I.Event o imms ks) (M.Entered c) h = elim h [ ]
+item_is ns (I.Block b) (M.Event p ty tys us) h = elim h [ ]
+item_is ns (I.Event o types ks) (M.Entered c) h = elim h [ ]
 
 pub items_are : (ns : List TermNode) (xs : List TraceItem) (is : List Item) → Matched (ShowsItem ns) xs is → map (item_of (terms ns)) xs ≡ is
 items_are ns [] [] h = refl
@@ -207,8 +208,8 @@ items_are ns (x ∷ xs) [] h = elim h [ ]
 
 item_below : (ns : List TermNode) (x : TraceItem) (i : Item) → ShowsItem ns x i → HasPlacesBelow (length ns) x
 item_below ns (I.Block b) i h = tt
-item_below ns (I.Event o imms ks) (M.Event p is ty tys us) h = all_below ns ks.items us h.4
-item_below ns (I.Event o imms ks) (M.Entered c) h = elim h [ ]
+item_below ns (I.Event o types ks) (M.Event p ty tys us) h = all_below ns ks.items us h.3
+item_below ns (I.Event o types ks) (M.Entered c) h = elim h [ ]
 
 pub items_below : (ns : List TermNode) (xs : List TraceItem) (is : List Item) → Matched (ShowsItem ns) xs is → All (HasPlacesBelow (length ns)) xs
 items_below ns [] [] h = grind arith

@@ -12,14 +12,11 @@ use Rattle.support.proofs.ListLaws.{slice_get-kept, slice_get-push_cases, item_t
 use Rattle.llvm_core.proofs.TreeLemmas.{after-append, length-after, kept, at_number}
 use Rattle.meaning.specs.Terms.{Term, Unset, terms_of}
 use Rattle.meaning.specs.Terms as M
-use Rattle.tracing.specs.declared.table.Opcode.{Opcode}
 use Rattle.tracing.specs.declared.table.ValueType.{ValueType}
-use Rattle.tracing.specs.declared.table.Immediates.{Immediates}
-use Rattle.tracing.specs.declared.table.Immediates.TheVariants as I
 use Rattle.tracing.specs.declared.table.TermNode.{TermNode}
 use Rattle.tracing.specs.declared.table.TermNode.TheVariants as N
 use Rattle.tracing.specs.contracts.table.TermNodePartialEq.TheImpl as nodes
-use Rattle.tracing.specs.Table.{term_at, node_term, terms, HasPartsBelow, IsGrounded, Gives, opcode_of, immediates_of, tree_of}
+use Rattle.tracing.specs.Table.{term_at, node_term, terms, HasPartsBelow, IsGrounded, Gives, tree_of}
 use Rattle.tracing.proofs.NodeLaws.{same_node, node_decides}
 
 -- ---- terms by place
@@ -37,7 +34,7 @@ same_term ts us n same (N.Param i) h = refl
 same_term ts us n same (N.Answer i) h = refl
 same_term ts us n same N.Unset h = refl
 same_term ts us n same (N.Int w v) h = refl
-same_term ts us n same (N.Expr o is ty ks) h = ap (λ (l : List Term). M.Expr (opcode_of o) (immediates_of is) (tree_of ty) (terms_of l)) (same_parts ts us n same ks h)
+same_term ts us n same (N.Expr o ty ks) h = ap (λ (l : List Term). M.Expr o (tree_of ty) (terms_of l)) (same_parts ts us n same ks h)
 
 pub length-terms : (ns : List TermNode) → length (terms ns) ≡ length ns
 length-terms ns = length-after node_term Unset [] ns ∙ omega arith
@@ -65,6 +62,13 @@ pushed old x grounded below i y at = elim (slice_get-push_cases old x i y at) [
   | inl here ↦ grounded i y here
   | inr last ↦ subst (λ (n : ℕ). HasPartsBelow n y) (sym last.0) (subst (HasPartsBelow (length old)) (sym last.1) below)
 ]
+
+pub interned_grounded : (old new : List TermNode) (x : TermNode) (k : ℕ) → IsGrounded old → HasPartsBelow (length old) x → InternedBy nodes.eq-value.it old new x k → IsGrounded new
+interned_grounded old new x k grounded below h = by (list_any (nodes.eq-value.it x) old) h.grown
+  where
+    by : (b : Bool) → new ≡ (if b then old else old ++ x ∷ []) → IsGrounded new
+    by true e = subst IsGrounded (sym e) grounded
+    by false e = subst IsGrounded (sym e) (pushed old x grounded below)
 
 gives_at : (old more : List TermNode) (x : TermNode) (k : ℕ) → IsGrounded (old ++ more) → HasPartsBelow (length old) x → slice_get (old ++ more) k ≡ Some x → Gives old (old ++ more) k (node_term (terms old) x)
 gives_at old more x k grounded below at =
@@ -101,28 +105,12 @@ same_lists ts n m known (k ∷ ks) (l ∷ ls) p q h =
     let rest = same_lists ts n m known ks ls (All-tail (λ (k : ℕ). k < n) k ks p) (All-tail (λ (k : ℕ). k < m) l ls q) (cc) in
     cc
 
-opcode_known : (o p : Opcode) → opcode_of o ≡ opcode_of p → o ≡ p
-opcode_known o p h = grind arith
-
 type_known : (t u : ValueType) → tree_of t ≡ tree_of u → t ≡ u
 type_known t u h = grind arith
 
-immediates_known : (i j : Immediates) → immediates_of i ≡ immediates_of j → i ≡ j
-immediates_known I.None I.None h = refl
-immediates_known I.None (I.Overflow nsw nuw) h = cc
-immediates_known I.None (I.Predicate p) h = cc
-immediates_known (I.Overflow nsw nuw) I.None h = cc
-immediates_known (I.Overflow nsw nuw) (I.Overflow x y) h = cc
-immediates_known (I.Overflow nsw nuw) (I.Predicate p) h = cc
-immediates_known (I.Predicate p) I.None h = cc
-immediates_known (I.Predicate p) (I.Overflow nsw nuw) h = cc
-immediates_known (I.Predicate p) (I.Predicate q) h = cc
-
 same_nodes : (ts : List Term) (n m : ℕ) → ((i j : ℕ) → i < n → j < m → get_or ts i Unset ≡ get_or ts j Unset → i ≡ j) → (x y : TermNode) → HasPartsBelow n x → HasPartsBelow m y → node_term ts x ≡ node_term ts y → x ≡ y
-same_nodes ts n m known (N.Expr o is t ks) (N.Expr p js u ls) a b h =
+same_nodes ts n m known (N.Expr o t ks) (N.Expr p u ls) a b h =
     let same : ks ≡ ls = same_lists ts n m known ks ls a b (cc) in
-    let opcodes : o ≡ p = opcode_known o p (cc) in
-    let immediates : is ≡ js = immediates_known is js (cc) in
     let types : t ≡ u = type_known t u (cc) in
     cc
 same_nodes ts n m known x y p q h = grind arith

@@ -15,7 +15,7 @@ use Rattle.tracing.specs.declared.body.Row.{Row}
 use Rattle.tracing.specs.declared.body.Edge.{Edge}
 use Rattle.tracing.specs.declared.body.Block.{Block}
 use Rattle.tracing.specs.contracts.body.SlotPartialEq.TheImpl as slots
-use Rattle.tracing.specs.Table.{opcode_of, immediates_of, tree_of}
+use Rattle.tracing.specs.Table.{tree_of}
 
 -- what `==` answers of slots
 abbrev pub same_slot : Slot → Slot → Bool
@@ -28,7 +28,7 @@ source_of S.Unset = Fixed Unset
 
 abbrev pub action_of : Action → M.Action Slot
 action_of (A.Holds w v) = Holds (T.Int w v)
-action_of (A.Applies o imms operands) = Applies (opcode_of o) (immediates_of imms.immediates) (tree_of imms.ty) (map tree_of imms.operand_types) (map source_of operands)
+action_of (A.Applies o types operands) = Applies o (tree_of types.result) (map tree_of types.operands) (map source_of operands)
 
 abbrev pub row_of : Row → M.Row Slot
 row_of r = record { action = action_of r.action; result = r.result }

@@ -8,6 +8,8 @@ use Rattle.llvm_core.specs.declared.numbers.LLVMBasicBlock.{LLVMBasicBlock}
 use Rattle.llvm_core.specs.declared.code.LLVMValue.{LLVMValue}
 use Rattle.llvm_core.specs.declared.code.FunctionData.{FunctionData}
 use Rattle.llvm_core.specs.declared.code.InstData.{InstData}
+use Rattle.llvm_core.specs.declared.code.LLVMInst.TheVariants as I
+use Rattle.llvm_core.specs.declared.code.Row.{Row}
 use Rattle.llvm_core.specs.Module.{Module}
 use Rattle.llvm_core.specs.Sound.{IsModule}
 use Rattle.llvm_core.specs.Parts.{IsValue}
@@ -62,12 +64,17 @@ pub record IsPlacedIn (m : Module) (h : InChecked m) (b : ℕ) (i : LLVMInstRef)
   pub here : placed_at (trees_of m) m.insts i ≡ Some p
   pub owned : (x : InstData) → slice_get m.insts i.0 ≡ Some x → (x.block.0 ≡ b) × (home m x ≡ record { 0 = h.number })
 
+-- and it is of that row
+pub record IsRowIn (m : Module) (h : InChecked m) (b : ℕ) (i : LLVMInstRef) (p : Placed) (r : Row) : Type 0 where
+  pub placed : IsPlacedIn m h b i p
+  pub is : option_map (λ (x : InstData). x.inst) (slice_get m.insts i.0) ≡ Some (I.Row r)
+
 abbrev pub ArePlacedIn : (m : Module) → InChecked m → ℕ → List LLVMInstRef → List Placed → Type 0
 ArePlacedIn m h b is ps = Matched (IsPlacedIn m h b) is ps
 
 -- the row of an instruction, none for a phi
 abbrev pub row_in : (m : Module) → InChecked m → Placed → Option (M.Row Slot)
-row_in m h p = option_map (renamed_row slot_of) (row (data_of m) (data_in m h) p (phi_entries p.instruction))
+row_in m h p = option_map (renamed_row slot_of) (row (data_of m) (data_in m h) p p.instruction)
 
 abbrev pub rows_in : (m : Module) → InChecked m → List Placed → List (M.Row Slot)
 rows_in m h ps = filter_map (row_in m h) ps

@@ -10,7 +10,7 @@ module _ {V W : Type 0} (f : V → W) where
 
   abbrev pub renamed_action : Action V → Action W
   renamed_action (Holds t) = Holds t
-  renamed_action (Applies o is ty tys os) = Applies o is ty tys (map renamed os)
+  renamed_action (Applies o ty tys os) = Applies o ty tys (map renamed os)
 
   abbrev pub renamed_row : Row V → Row W
   renamed_row r = record { action = renamed_action r.action; result = f r.result }

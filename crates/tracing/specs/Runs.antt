@@ -1,7 +1,9 @@
 -- A run as the program keeps it, beside the machine's state.
 use Rattle.std.specs.Prelude.{◌≡◌, ◌<◌, ℕ, Bool, true, false, List, [], ◌∷◌, Option, Some, None, All, map, slice_get}
 use Rattle.indexmap.specs.IndexMap.{get}
-use Rattle.meaning.specs.Terms.{Term, Unset, Family, Shows, Builds}
+use Rattle.kinds.specs.declared.rules.Family.{Family}
+use Rattle.kinds.specs.declared.rules.Family.TheVariants.{Shows, Builds}
+use Rattle.meaning.specs.Terms.{Term, Unset}
 use Rattle.meaning.specs.Machine as M
 use Rattle.meaning.specs.Machine.{Item, State}
 use Rattle.meaning.specs.Pairs.{Matched}
@@ -10,7 +12,7 @@ use Rattle.tracing.specs.declared.body.Slot.{Slot}
 use Rattle.tracing.specs.declared.trace.TraceItem.{TraceItem}
 use Rattle.tracing.specs.declared.trace.TraceItem.TheVariants.{Block, Event}
 use Rattle.tracing.specs.declared.run.Run.{Run}
-use Rattle.tracing.specs.Table.{opcode_of, immediates_of, tree_of, terms, term_at}
+use Rattle.tracing.specs.Table.{tree_of, terms, term_at}
 use Rattle.tracing.specs.Bodies.{same_slot}
 
 -- ---- items
@@ -18,12 +20,12 @@ use Rattle.tracing.specs.Bodies.{same_slot}
 -- an item, with its operands looked up in the table
 abbrev pub item_of : List Term → TraceItem → Item
 item_of ts (Block b) = M.Entered b
-item_of ts (Event o imms ks) = M.Event (opcode_of o) (immediates_of imms.immediates) (tree_of imms.ty) (map tree_of imms.operand_types) (map (term_at ts) ks.items)
+item_of ts (Event o types ks) = M.Event o (tree_of types.result) (map tree_of types.operands) (map (term_at ts) ks.items)
 
 -- the operands of an item are places below n
 abbrev pub HasPlacesBelow : ℕ → TraceItem → Type 0
 HasPlacesBelow n (Block b) = Unit {0}
-HasPlacesBelow n (Event o imms ks) = All (λ (k : ℕ). k < n) ks.items
+HasPlacesBelow n (Event o types ks) = All (λ (k : ℕ). k < n) ks.items
 
 -- ---- while it runs
 
@@ -42,9 +44,9 @@ Reads ns (Some k) t = Names ns k t
 
 abbrev pub ShowsItem : List TermNode → TraceItem → Item → Type 0
 ShowsItem ns (Block b) (M.Entered c) = b ≡ c
-ShowsItem ns (Event o imms ks) (M.Event p is ty tys ts) =
-    (opcode_of o ≡ p) × (immediates_of imms.immediates ≡ is) × (tree_of imms.ty ≡ ty) × (map tree_of imms.operand_types ≡ tys) × AllNamed ns ks.items ts
-ShowsItem ns _ _ = ⊥
+ShowsItem ns (Event o types ks) (M.Event p ty tys ts) = (o ≡ p) × (tree_of types.result ≡ ty) × (map tree_of types.operands ≡ tys) × AllNamed ns ks.items ts
+ShowsItem ns (Block b) (M.Event p ty tys ts) = ⊥
+ShowsItem ns (Event o types ks) (M.Entered c) = ⊥
 
 -- the run is at that state, whether or not it has read an unset value
 pub record IsAt (r : Run) (s : State Slot) : Type 0 where

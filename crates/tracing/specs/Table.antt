@@ -1,42 +1,19 @@
 -- Terms in a table, each with its parts by the places of earlier ones.
-use Rattle.std.specs.Prelude.{◌≡◌, ◌<◌, ◌+◌, ℕ, if◌then◌else◌, List, [], ◌∷◌, ◌++◌, Some, All, map, slice_get, slice_index_or}
-use Rattle.llvm_core.specs.Data.{TypeTree, VoidType, IntType, trees_after}
+use Rattle.std.specs.Prelude.{◌≡◌, ◌<◌, ℕ, List, [], ◌++◌, Some, All, map, slice_get, slice_index_or}
+use Rattle.kinds.specs.Types.{TypeTree, VoidType, IntType}
+use Rattle.llvm_core.specs.Data.{trees_after}
 use Rattle.meaning.specs.Terms as M
-use Rattle.meaning.specs.Terms.{Term, Unset, Immediate, overflow_immediates, terms_of}
-use Rattle.tracing.specs.declared.table.Opcode.{Opcode}
-use Rattle.tracing.specs.declared.table.Opcode.TheVariants as O
+use Rattle.meaning.specs.Terms.{Term, Unset, terms_of}
 use Rattle.tracing.specs.declared.table.ValueType.{ValueType}
 use Rattle.tracing.specs.declared.table.ValueType.TheVariants as T
-use Rattle.tracing.specs.declared.table.Immediates.{Immediates}
-use Rattle.tracing.specs.declared.table.Immediates.TheVariants as I
 use Rattle.tracing.specs.declared.table.TermNode.{TermNode}
 use Rattle.tracing.specs.declared.table.TermNode.TheVariants as N
 
--- ---- what the parts of a term and of an item are, a line for each
-
-abbrev pub opcode_of : Opcode → M.Opcode
-opcode_of O.Add = M.Add
-opcode_of O.ICmp = M.ICmp
-opcode_of O.Phi = M.Phi
-opcode_of O.Br = M.Br
-opcode_of O.CondBr = M.CondBr
-opcode_of O.Ret = M.Ret
-opcode_of O.Unreachable = M.Unreachable
+-- ---- the type of a term or of an item, a line for each
 
 abbrev pub tree_of : ValueType → TypeTree
 tree_of T.Void = VoidType
 tree_of (T.Int w) = IntType w
-
-abbrev pub immediates_of : Immediates → List Immediate
-immediates_of I.None = []
-immediates_of (I.Overflow nsw nuw) = overflow_immediates nsw nuw
-immediates_of (I.Predicate p) = M.Predicate p ∷ []
-
--- what is hashed of immediates
-abbrev pub hash_code : Immediates → ℕ
-hash_code I.None = 0
-hash_code (I.Overflow nsw nuw) = 1 + (if nsw then 1 else 0) + (if nuw then 1 else 0)
-hash_code (I.Predicate p) = 4
 
 -- ---- terms
 
@@ -50,7 +27,7 @@ node_term ts (N.Param i) = M.Param i
 node_term ts (N.Answer n) = M.Answer n
 node_term ts N.Unset = Unset
 node_term ts (N.Int w v) = M.Int w v
-node_term ts (N.Expr o is ty ks) = M.Expr (opcode_of o) (immediates_of is) (tree_of ty) (terms_of (map (term_at ts) ks))
+node_term ts (N.Expr o ty ks) = M.Expr o (tree_of ty) (terms_of (map (term_at ts) ks))
 
 -- the terms of a table, each made of earlier ones
 abbrev pub terms : List TermNode → List Term
@@ -58,7 +35,7 @@ terms ns = trees_after node_term [] ns
 
 -- the parts of a node are places below n
 abbrev pub HasPartsBelow : ℕ → TermNode → Type 0
-HasPartsBelow n (N.Expr o is ty ks) = All (λ (k : ℕ). k < n) ks
+HasPartsBelow n (N.Expr o ty ks) = All (λ (k : ℕ). k < n) ks
 HasPartsBelow n _ = Unit {0}
 
 -- the parts of each stand before it

@@ -1,7 +1,7 @@
 //! What runs see of the body of a function, whichever side it is of.
 
-use crate::table::Opcode;
-use crate::trace::Imms;
+use crate::trace::Types;
+use kinds::op::Op;
 use support::items::Items;
 
 /// What sets a term in a run.
@@ -28,10 +28,10 @@ pub enum Source {
 pub enum Action {
     /// It holds an integer of a width.
     Holds(u32, u128),
-    /// It applies its kind to operands.
+    /// It applies a row of the table to operands.
     Applies {
-        opcode: Opcode,
-        imms: Imms,
+        op: Op,
+        types: Types,
         operands: Items<Source>,
     },
 }

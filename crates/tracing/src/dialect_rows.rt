@@ -2,28 +2,27 @@
 
 ghost use Rattle.std.specs.Prelude.{◌≡◌, ◌<◌, ℕ, List, All, IfOk, IfSome, Some, length, map, slice_get};
 ghost use Rattle.dialect_types.specs.declared.attrs.ConstAttr.TheVariants as attrs;
-ghost use Rattle.dialect_types.specs.Trees.{TypeTree, IntegerType, IntegerAttr, HasTypesBelow, type_at, type_trees, attr_tree};
-ghost use Rattle.dialect_core.specs.Data.{DialectBlock, DialectOp, IsTyped, block_in, op_at, type_in};
+ghost use Rattle.dialect_types.specs.Trees.{TypeTree, IntType, IntegerAttr, HasTypesBelow, type_at, type_trees, attr_tree};
+ghost use Rattle.dialect_core.specs.Data.{DialectBlock, DialectOp, RowOp, IsTyped, block_in, op_at, type_in};
 ghost use Rattle.dialect_core.specs.Form.{IsShortInt};
 ghost use Rattle.dialect_core.specs.WellFormed.{IsInteger};
 ghost use Rattle.meaning.specs.Machine as machine;
 ghost use Rattle.meaning.specs.Dialect as dialect;
-ghost use Rattle.meaning.specs.Dialect.{predicate_of, option_type, type_of};
-ghost use Rattle.tracing.specs.Table.{tree_of, opcode_of, immediates_of};
+ghost use Rattle.meaning.specs.Dialect.{option_type, type_of};
+ghost use Rattle.tracing.specs.Table.{tree_of};
 ghost use Rattle.tracing.specs.Bodies.{source_of, action_of, row_of};
 ghost use Rattle.tracing.specs.Renamed.{renamed_action, renamed_row};
 ghost use Rattle.tracing.specs.DialectBodies.{slot_of, InContext, AreOpsIn, IsOpIn, IsUsed, rows_of};
 
 use crate::body::{Action, Row, Slot, Source};
-use crate::table::{Immediates, Opcode, ValueType};
-use crate::trace::Imms;
+use crate::table::ValueType;
+use crate::trace::Types;
 use dialect_core::context::Context;
 use dialect_core::numbers::{BlockRef, OpRef};
 use dialect_core::ops::{OpKind, Value};
-use dialect_core::predicates::ICmpPredicateAttr;
 use dialect_types::attrs::ConstAttr;
 use dialect_types::types::{TypeHandle, TypeKind};
-use llvm_core::code::LLVMIntPredicate;
+use kinds::op::Op;
 use std::alloc::{AllocError, Global};
 use support::items::Items;
 
@@ -39,7 +38,7 @@ fn value_type(ctx: &Context, ty: TypeHandle) -> ValueType
 fn int_width(ctx: &Context, ty: TypeHandle) -> u32
     requires within { ty.0 < length ctx.now.types }
     requires integer { IsInteger (type_at (type_trees ctx.now.types) ty) }
-    ensures { type_at (type_trees ctx.now.types) ty ≡ IntegerType result }
+    ensures { type_at (type_trees ctx.now.types) ty ≡ IntType result }
 {
     match ctx.types().kind(ty) {
         TypeKind::Integer(width) => *width,
@@ -115,24 +114,6 @@ fn sources(alloc: Global, values: &[Value]) -> Result<Items<Source>, AllocError>
     Ok(sources)
 }
 
-/// The predicate of LLVM that one of the dialect stands for.
-fn predicate(predicate: ICmpPredicateAttr) -> LLVMIntPredicate
-    ensures { result ≡ predicate_of predicate }
-{
-    match predicate {
-        ICmpPredicateAttr::EQ => LLVMIntPredicate::LLVMIntEQ,
-        ICmpPredicateAttr::NE => LLVMIntPredicate::LLVMIntNE,
-        ICmpPredicateAttr::UGT => LLVMIntPredicate::LLVMIntUGT,
-        ICmpPredicateAttr::UGE => LLVMIntPredicate::LLVMIntUGE,
-        ICmpPredicateAttr::ULT => LLVMIntPredicate::LLVMIntULT,
-        ICmpPredicateAttr::ULE => LLVMIntPredicate::LLVMIntULE,
-        ICmpPredicateAttr::SGT => LLVMIntPredicate::LLVMIntSGT,
-        ICmpPredicateAttr::SGE => LLVMIntPredicate::LLVMIntSGE,
-        ICmpPredicateAttr::SLT => LLVMIntPredicate::LLVMIntSLT,
-        ICmpPredicateAttr::SLE => LLVMIntPredicate::LLVMIntSLE,
-    }
-}
-
 /// The type and the value of a constant.
 fn parts_of(value: &ConstAttr) -> (TypeHandle, u64)
     ensures { value.now ≡ attrs.Integer result.0 result.1 }
@@ -152,54 +133,33 @@ fn constant(ctx: &Context, value: &ConstAttr) -> Action
     Action::Holds(int_width(ctx, ty), u128::from(number))
 }
 
-/// What an operation does that applies its kind to its operands.
-fn applied(
-    alloc: Global,
-    ctx: &Context,
-    op: OpRef,
-    opcode: Opcode,
-    immediates: Immediates,
-) -> Result<Action, AllocError>
+/// What an operation of a row of the table does: it applies that to its operands.
+fn applied(alloc: Global, ctx: &Context, op: OpRef, row: Op) -> Result<Action, AllocError>
     requires { (h : InContext ctx.now) × (o : DialectOp) × IsOpIn ctx.now h op o }
-    ensures { IfOk result (λ a. (h : InContext ctx.now) → (o : DialectOp) → IsOpIn ctx.now h op o → action_of a ≡ renamed_action slot_of (dialect.typed_applies (type_in ctx.now) o (opcode_of opcode) (immediates_of immediates))) }
+    ensures { IfOk result (λ a. (h : InContext ctx.now) → (o : DialectOp) → IsOpIn ctx.now h op o → action_of a ≡ renamed_action slot_of (dialect.typed_action (type_in ctx.now) o (RowOp row))) }
 {
     let values = ctx.op_operands(op);
     let operand_types = operand_types(alloc, ctx, values)?;
     let operands = sources(alloc, values)?;
-    let imms = Imms {
-        immediates,
-        ty: result_type(ctx, op),
-        operand_types,
+    let types = Types {
+        result: result_type(ctx, op),
+        operands: operand_types,
     };
     Ok(Action::Applies {
-        opcode,
-        imms,
+        op: row,
+        types,
         operands,
     })
 }
 
-/// What an operation does: a line for each kind.
+/// What an operation does.
 fn action(alloc: Global, ctx: &Context, op: OpRef) -> Result<Action, AllocError>
     requires { (h : InContext ctx.now) × (o : DialectOp) × IsOpIn ctx.now h op o }
     ensures { IfOk result (λ a. (h : InContext ctx.now) → (o : DialectOp) → IsOpIn ctx.now h op o → action_of a ≡ renamed_action slot_of (dialect.typed_action (type_in ctx.now) o o.kind)) }
 {
     match ctx.op_kind(op) {
         OpKind::Constant(value) => Ok(constant(ctx, value)),
-        OpKind::Add(flags) => {
-            let immediates = Immediates::Overflow {
-                nsw: flags.nsw,
-                nuw: flags.nuw,
-            };
-            applied(alloc, ctx, op, Opcode::Add, immediates)
-        }
-        OpKind::ICmp(by) => {
-            let immediates = Immediates::Predicate(predicate(*by));
-            applied(alloc, ctx, op, Opcode::ICmp, immediates)
-        }
-        OpKind::Br => applied(alloc, ctx, op, Opcode::Br, Immediates::None),
-        OpKind::CondBr => applied(alloc, ctx, op, Opcode::CondBr, Immediates::None),
-        OpKind::Return => applied(alloc, ctx, op, Opcode::Ret, Immediates::None),
-        OpKind::Unreachable => applied(alloc, ctx, op, Opcode::Unreachable, Immediates::None),
+        OpKind::Row(row) => applied(alloc, ctx, op, *row),
         OpKind::Module | OpKind::Func => unreachable!(),
     }
 }

@@ -51,7 +51,23 @@ fn edge(alloc: Global, index: &Index, from: u32, to: LLVMBasicBlock) -> Result<E
     Ok(Edge { to: place, sources })
 }
 
-/// Appends the edges of an instruction: a line for each kind that leads to blocks.
+/// Appends the edges to blocks.
+fn push_all(
+    alloc: Global,
+    index: &Index,
+    from: u32,
+    targets: &[LLVMBasicBlock],
+    edges: &mut Items<Edge>,
+) -> Result<(), AllocError>
+    ensures { OnOk result (edges.new ≡ edges.old ++ map (λ b. edge_to index.now from b.0) targets.now) }
+{
+    for target in targets {
+        edges.push(edge(alloc, index, from, *target)?)?;
+    }
+    Ok(())
+}
+
+/// Appends the edges of an instruction.
 fn push_edges(
     alloc: Global,
     index: &Index,
@@ -62,12 +78,8 @@ fn push_edges(
     ensures { OnOk result (edges.new ≡ edges.old ++ map (edge_to index.now from) (leads_to inst.now)) }
 {
     match inst {
-        LLVMInst::Br(target) => edges.push(edge(alloc, index, from, *target)?),
-        LLVMInst::CondBr(_, yes, no) => {
-            edges.push(edge(alloc, index, from, *yes)?)?;
-            edges.push(edge(alloc, index, from, *no)?)
-        }
-        _ => Ok(()),
+        LLVMInst::Phi(..) => Ok(()),
+        LLVMInst::Row(row) => push_all(alloc, index, from, row.targets.as_slice(), edges),
     }
 }
 

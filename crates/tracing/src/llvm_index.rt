@@ -90,7 +90,7 @@ fn push_phi(
                 incoming,
             })
         }
-        _ => Ok(()),
+        LLVMInst::Row(_) => Ok(()),
     }
 }
 

@@ -1,24 +1,24 @@
 //! The instructions of a function of LLVM, as rows of a body.
 
-ghost use Rattle.std.specs.Prelude.{◌≡◌, ◌<◌, ℕ, [], ◌++◌, List, All, IfOk, OnOk, Some, false, length, map, slice_get};
+ghost use Rattle.std.specs.Prelude.{◌≡◌, ◌<◌, ℕ, [], ◌++◌, List, All, IfOk, OnOk, Some, length, map, slice_get};
 ghost use Rattle.std.specs.List.{cons_option};
 ghost use Rattle.llvm_core.specs.declared.code.LLVMValue.TheVariants as values;
 ghost use Rattle.llvm_core.specs.Sound.{IsModule};
 ghost use Rattle.llvm_core.specs.declared.types.LLVMTypeKind.TheVariants as types;
-ghost use Rattle.llvm_core.specs.Parts.{IsValue, operands, is_phi};
-ghost use Rattle.llvm_core.specs.Data.{IntType, ModuleData, Trees, Placed, type_at, const_at, operand_of, operand_type, instruction_of, trees_of, data_of};
-ghost use Rattle.llvm_core.specs.Form as form;
+ghost use Rattle.llvm_core.specs.Parts.{IsValue};
+ghost use Rattle.llvm_core.specs.Data.{IntType, Placed, type_at, const_at, operand_of, operand_type, row_of, trees_of, data_of};
 ghost use Rattle.meaning.specs.Machine as machine;
 ghost use Rattle.meaning.specs.Llvm as llvm;
-ghost use Rattle.tracing.specs.Table.{tree_of, opcode_of, immediates_of};
-ghost use Rattle.tracing.specs.Bodies.{source_of, action_of, row_of};
+ghost use Rattle.tracing.specs.Table.{tree_of};
+ghost use Rattle.tracing.specs.Bodies as bodies;
+ghost use Rattle.tracing.specs.Bodies.{source_of, action_of};
 ghost use Rattle.tracing.specs.Renamed.{renamed_action};
-ghost use Rattle.tracing.specs.LlvmBodies.{slot_of, InChecked, IsNoFunction, data_in, operand_in, IsUsed, IsPlacedIn, ArePlacedIn, row_in, rows_in};
+ghost use Rattle.tracing.specs.LlvmBodies.{slot_of, InChecked, IsNoFunction, data_in, operand_in, IsUsed, IsPlacedIn, ArePlacedIn, IsRowIn, row_in, rows_in};
 
 use crate::body::{Action, Row, Slot, Source};
-use crate::table::{Immediates, Opcode, ValueType};
-use crate::trace::Imms;
-use llvm_core::code::{LLVMInst, LLVMValue};
+use crate::table::ValueType;
+use crate::trace::Types;
+use llvm_core::code::{LLVMInst, LLVMValue, Row as TableRow};
 use llvm_core::consts::LLVMConstKind;
 use llvm_core::module::LLVMModule;
 use llvm_core::numbers::{LLVMConst, LLVMInstRef, LLVMType};
@@ -82,54 +82,6 @@ fn operand_type(m: &LLVMModule, v: LLVMValue) -> ValueType
     value_type(m, m.type_of(v))
 }
 
-/// What an instruction is: a line for each kind.
-fn opcode(inst: &LLVMInst) -> Opcode
-    ensures { (d : ModuleData) → (t : Trees) → opcode_of result ≡ (llvm.row_of d (instruction_of t inst.now)).0 }
-{
-    match inst {
-        LLVMInst::Add(..) => Opcode::Add,
-        LLVMInst::ICmp(..) => Opcode::ICmp,
-        LLVMInst::Phi(..) => Opcode::Phi,
-        LLVMInst::Br(..) => Opcode::Br,
-        LLVMInst::CondBr(..) => Opcode::CondBr,
-        LLVMInst::Ret(..) => Opcode::Ret,
-        LLVMInst::Unreachable => Opcode::Unreachable,
-    }
-}
-
-fn immediates(inst: &LLVMInst) -> Immediates
-    ensures { (d : ModuleData) → (t : Trees) → immediates_of result ≡ (llvm.row_of d (instruction_of t inst.now)).1 }
-{
-    match inst {
-        LLVMInst::Add(_, _, flags) => Immediates::Overflow {
-            nsw: flags.nsw,
-            nuw: flags.nuw,
-        },
-        LLVMInst::ICmp(_, _, predicate) => Immediates::Predicate(*predicate),
-        _ => Immediates::None,
-    }
-}
-
-/// The operands of an instruction that is no phi, in order: a line for each kind that has some.
-fn values(alloc: Global, inst: &LLVMInst) -> Result<Vec<LLVMValue>, AllocError>
-    requires { is_phi inst.now ≡ false }
-    ensures { IfOk result (λ vs. vs.items ≡ operands inst.now) }
-{
-    match inst {
-        LLVMInst::Add(lhs, rhs, _) => Vec::from_slice(alloc, &[*lhs, *rhs]),
-        LLVMInst::ICmp(lhs, rhs, _) => Vec::from_slice(alloc, &[*lhs, *rhs]),
-        LLVMInst::CondBr(condition, _, _) => Vec::from_slice(alloc, &[*condition]),
-        LLVMInst::Ret(Some(value)) => Vec::from_slice(alloc, &[*value]),
-        _ => Ok(Vec::new(alloc)),
-    }
-}
-
-pub fn is_phi(inst: &LLVMInst) -> bool
-    ensures { result ≡ is_phi inst.now }
-{
-    matches!(inst, LLVMInst::Phi(..))
-}
-
 fn operand_types(
     alloc: Global,
     m: &LLVMModule,
@@ -157,23 +109,26 @@ fn sources(alloc: Global, m: &LLVMModule, values: &[LLVMValue]) -> Result<Items<
     Ok(sources)
 }
 
-/// What an instruction that is no phi does.
-fn action(alloc: Global, m: &LLVMModule, i: LLVMInstRef) -> Result<Action, AllocError>
-    requires { (h : InChecked m.now) × (b : ℕ) × (p : Placed) × IsPlacedIn m.now h b i p × (form.is_phi p ≡ false) }
-    ensures { IfOk result (λ a. (h : InChecked m.now) → (b : ℕ) → (p : Placed) → IsPlacedIn m.now h b i p → action_of a ≡ renamed_action slot_of (llvm.action (data_of m.now) (data_in m.now h) p)) }
+/// What an instruction with that row does.
+fn action(
+    alloc: Global,
+    m: &LLVMModule,
+    i: LLVMInstRef,
+    row: &TableRow,
+) -> Result<Action, AllocError>
+    requires { (h : InChecked m.now) × (b : ℕ) × (p : Placed) × IsRowIn m.now h b i p row.now }
+    ensures { IfOk result (λ a. (h : InChecked m.now) → (b : ℕ) → (p : Placed) → IsRowIn m.now h b i p row.now → action_of a ≡ renamed_action slot_of (llvm.action (data_of m.now) (data_in m.now h) p.type (row_of (trees_of m.now) row.now))) }
 {
-    let inst = m.inst(i);
-    let values = values(alloc, inst)?;
-    let operand_types = operand_types(alloc, m, values.as_slice())?;
-    let operands = sources(alloc, m, values.as_slice())?;
-    let imms = Imms {
-        immediates: immediates(inst),
-        ty: value_type(m, m.type_of(LLVMValue::Inst(i))),
-        operand_types,
+    let values = row.operands.as_slice();
+    let operand_types = operand_types(alloc, m, values)?;
+    let operands = sources(alloc, m, values)?;
+    let types = Types {
+        result: value_type(m, m.type_of(LLVMValue::Inst(i))),
+        operands: operand_types,
     };
     Ok(Action::Applies {
-        opcode: opcode(inst),
-        imms,
+        op: row.op,
+        types,
         operands,
     })
 }
@@ -186,22 +141,24 @@ fn push_row(
     rows: &mut Items<Row>,
 ) -> Result<(), AllocError>
     requires { (h : InChecked m.now) × (b : ℕ) × (p : Placed) × IsPlacedIn m.now h b i p }
-    ensures { OnOk result ((h : InChecked m.now) → (b : ℕ) → (p : Placed) → IsPlacedIn m.now h b i p → map row_of rows.new ≡ map row_of rows.old ++ cons_option (row_in m.now h p) []) }
+    ensures { OnOk result ((h : InChecked m.now) → (b : ℕ) → (p : Placed) → IsPlacedIn m.now h b i p → map bodies.row_of rows.new ≡ map bodies.row_of rows.old ++ cons_option (row_in m.now h p) []) }
 {
-    if is_phi(m.inst(i)) {
-        return Ok(());
+    match m.inst(i) {
+        LLVMInst::Phi(..) => Ok(()),
+        LLVMInst::Row(row) => {
+            let action = action(alloc, m, i, row)?;
+            rows.push(Row {
+                action,
+                result: Slot::Result(i.0),
+            })
+        }
     }
-    let action = action(alloc, m, i)?;
-    rows.push(Row {
-        action,
-        result: Slot::Result(i.0),
-    })
 }
 
 /// The rows of the instructions of a block.
 pub fn rows(alloc: Global, m: &LLVMModule, insts: &[LLVMInstRef]) -> Result<Items<Row>, AllocError>
     requires { (h : InChecked m.now) × (b : ℕ) × (ps : List Placed) × ArePlacedIn m.now h b insts.now ps }
-    ensures { IfOk result (λ rows. (h : InChecked m.now) → (b : ℕ) → (ps : List Placed) → ArePlacedIn m.now h b insts.now ps → map row_of rows ≡ rows_in m.now h ps) }
+    ensures { IfOk result (λ rows. (h : InChecked m.now) → (b : ℕ) → (ps : List Placed) → ArePlacedIn m.now h b insts.now ps → map bodies.row_of rows ≡ rows_in m.now h ps) }
 {
     let mut rows = Items::new(alloc);
     for i in insts {

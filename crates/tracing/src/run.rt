@@ -7,15 +7,17 @@ ghost use Rattle.meaning.specs.Terms.{Term};
 ghost use Rattle.meaning.specs.Machine as machine;
 ghost use Rattle.meaning.specs.Machine.{State};
 ghost use Rattle.support.specs.Interned.{IsDistinctList};
-ghost use Rattle.tracing.specs.Table.{IsGrounded, HasPartsBelow, node_term, opcode_of, immediates_of, tree_of};
+ghost use Rattle.tracing.specs.Table.{IsGrounded, HasPartsBelow, node_term, tree_of};
 ghost use Rattle.tracing.specs.Table as table;
 ghost use Rattle.tracing.specs.Bodies.{same_slot, source_of, action_of, row_of, moves_from, given, params_at, code_of, start_of};
 ghost use Rattle.tracing.specs.Runs.{is_built, with_each, IsAt, IsRun, Names, AllNamed, Keeps, IsJumped, ShowsItem, HasPlacesBelow, item_of};
 
 use crate::body::{Action, Block, Body, Edge, Row, Slot, Source};
-use crate::table::{Immediates, Opcode, TermNode, TermTable};
-use crate::trace::{Imms, Trace, TraceItem};
+use crate::table::{TermNode, TermTable};
+use crate::trace::{Trace, TraceItem, Types};
 use indexmap::IndexMap;
+use kinds::op::Op;
+use kinds::rules::Family;
 use std::alloc::{AllocError, Global};
 use support::items::Items;
 
@@ -104,36 +106,34 @@ fn hold(run: &mut Run, slot: Slot, width: u32, value: u128) -> Result<(), AllocE
     set(run, slot, place)
 }
 
-/// A value is the expression of a silent kind.
+/// A value is the expression of a silent row.
 fn build(
     run: &mut Run,
     slot: Slot,
-    opcode: Opcode,
-    imms: &Imms,
+    op: Op,
+    types: &Types,
     places: Vec<u32>,
 ) -> Result<(), AllocError>
     requires { All (λ k. k < length run.old.table) places.items }
     ensures { OnOk result ((s : State Slot) → (ts : List Term) → IsAt run.old s → AllNamed run.old.table places.items ts
-        → IsAt run.new (machine.set_in Slot same_slot s slot (terms.Expr (opcode_of opcode) (immediates_of imms.now.immediates) (tree_of imms.now.ty) (terms.terms_of ts)))) }
+        → IsAt run.new (machine.set_in Slot same_slot s slot (terms.Expr op (tree_of types.now.result) (terms.terms_of ts)))) }
 {
     let node = TermNode::Expr {
-        opcode,
-        immediates: imms.immediates,
-        ty: imms.ty,
+        op,
+        ty: types.result,
         operands: Items::from_vec(places),
     };
     let place = intern(run, node)?;
     set(run, slot, place)
 }
 
-fn copy_imms(alloc: Global, imms: &Imms) -> Result<Imms, AllocError>
-    ensures { IfOk result (λ copy. copy ≡ imms.now) }
+fn copy_types(alloc: Global, types: &Types) -> Result<Types, AllocError>
+    ensures { IfOk result (λ copy. copy ≡ types.now) }
 {
-    let types = Vec::from_slice(alloc, imms.operand_types.as_slice())?;
-    Ok(Imms {
-        immediates: imms.immediates,
-        ty: imms.ty,
-        operand_types: Items::from_vec(types),
+    let operands = Vec::from_slice(alloc, types.operands.as_slice())?;
+    Ok(Types {
+        result: types.result,
+        operands: Items::from_vec(operands),
     })
 }
 
@@ -141,20 +141,20 @@ fn copy_imms(alloc: Global, imms: &Imms) -> Result<Imms, AllocError>
 fn show(
     run: &mut Run,
     slot: Slot,
-    opcode: Opcode,
-    imms: &Imms,
+    op: Op,
+    types: &Types,
     places: Vec<u32>,
 ) -> Result<(), AllocError>
     ensures { OnOk result ((s : State Slot) → (ts : List Term) → IsAt run.old s → AllNamed run.old.table places.items ts
-        → IsAt run.new (machine.answered Slot same_slot s slot (machine.Event (opcode_of opcode) (immediates_of imms.now.immediates) (tree_of imms.now.ty) (map tree_of imms.now.operand_types) ts))) }
+        → IsAt run.new (machine.answered Slot same_slot s slot (machine.Event op (tree_of types.now.result) (map tree_of types.now.operands) ts))) }
 {
     let count = run.count;
     if count >= u32::MAX {
         return Err(AllocError);
     }
     let event = TraceItem::Event {
-        opcode,
-        imms: copy_imms(run.alloc, imms)?,
+        op,
+        types: copy_types(run.alloc, types)?,
         operands: places,
     };
     note(run, event)?;
@@ -164,18 +164,13 @@ fn show(
     Ok(())
 }
 
-/// Whether a kind only builds an expression: a line for each kind.
-fn is_silent(opcode: Opcode) -> bool
-    ensures { result ≡ is_built (terms.family (opcode_of opcode)) }
+/// Whether a row only builds an expression.
+fn is_silent(op: Op) -> bool
+    ensures { result ≡ is_built (terms.family op) }
 {
-    match opcode {
-        Opcode::Add => true,
-        Opcode::ICmp => false,
-        Opcode::Phi => false,
-        Opcode::Br => false,
-        Opcode::CondBr => false,
-        Opcode::Ret => false,
-        Opcode::Unreachable => false,
+    match op.rule().family {
+        Family::Shows => false,
+        Family::Builds => true,
     }
 }
 
@@ -187,15 +182,15 @@ fn apply(run: &mut Run, row: &Row) -> Result<(), AllocError>
     match &row.action {
         Action::Holds(width, value) => hold(run, row.result, *width, *value),
         Action::Applies {
-            opcode,
-            imms,
+            op,
+            types,
             operands,
         } => {
             let places = read_all(run, operands.as_slice())?;
-            if is_silent(*opcode) {
-                build(run, row.result, *opcode, imms, places)
+            if is_silent(*op) {
+                build(run, row.result, *op, types, places)
             } else {
-                show(run, row.result, *opcode, imms, places)
+                show(run, row.result, *op, types, places)
             }
         }
     }

@@ -1,30 +1,14 @@
 //! Terms in a table, each with its parts by the places of earlier ones, and each kept once.
 
 ghost use Rattle.std.specs.Prelude.{◌≡◌, ◌<◌, ◌+◌, [], Some, IfOk, OnErr, length, slice_get};
-ghost use Rattle.std.proofs.Common.{rules};
-ghost use Rattle.std.specs.Hash as fed;
-ghost use Rattle.std.specs.Cmp.Rules.{hashing};
 ghost use Rattle.support.specs.Interned.{IsDistinctList};
-ghost use Rattle.tracing.specs.Table.{terms, node_term, HasPartsBelow, IsGrounded, Gives, hash_code};
+ghost use Rattle.tracing.specs.Table.{terms, node_term, HasPartsBelow, IsGrounded, Gives};
 
-use llvm_core::code::LLVMIntPredicate;
+use kinds::op::Op;
 use std::alloc::{AllocError, Global};
-use std::hash::{Hash, Hasher};
 use std::marker::Model;
 use support::interner::Interner;
 use support::items::Items;
-
-/// What an instruction or operation is: a variant for each kind.
-#[derive(Clone, Copy, PartialEq, Eq, Hash, Debug, Drop)]
-pub enum Opcode {
-    Add,
-    ICmp,
-    Phi,
-    Br,
-    CondBr,
-    Ret,
-    Unreachable,
-}
 
 /// The type of a value, or void: a line for each kind of type that a value has.
 #[derive(Clone, Copy, PartialEq, Eq, Hash, Debug, Drop)]
@@ -32,38 +16,6 @@ pub enum ValueType {
     Void,
     /// An integer type of a width in bits.
     Int(u32),
-}
-
-/// What an instruction holds besides its operands: a line for each sort of it.
-#[derive(Clone, Copy, PartialEq, Eq, Debug, Drop)]
-pub enum Immediates {
-    None,
-    /// Which overflows make the result poison.
-    Overflow { nsw: bool, nuw: bool },
-    /// How two integers are compared.
-    Predicate(LLVMIntPredicate),
-}
-
-// Written by hand, since a predicate has no hash: silent kinds have none.
-impl Hash for Immediates {
-    ghost hash_input = { λ i. fed.u8 (hash_code i) };
-
-    ghost respects_eq = { Prim.search (hashing, rules) };
-
-    fn hash<H: Hasher>(&self, state: &mut H) {
-        state.write_u8(code(*self));
-    }
-}
-
-/// A number for a hash.
-fn code(immediates: Immediates) -> u8
-    ensures { result ≡ hash_code immediates }
-{
-    match immediates {
-        Immediates::None => 0,
-        Immediates::Overflow { nsw, nuw } => 1 + nsw as u8 + nuw as u8,
-        Immediates::Predicate(_) => 4,
-    }
 }
 
 /// A term, whose parts are places of earlier ones: a line for each sort that a run makes today.
@@ -77,10 +29,9 @@ pub enum TermNode {
     Unset,
     /// An integer of a width.
     Int(u32, u128),
-    /// An expression of a silent kind.
+    /// An expression of a silent row.
     Expr {
-        opcode: Opcode,
-        immediates: Immediates,
+        op: Op,
         ty: ValueType,
         operands: Items<u32>,
     },

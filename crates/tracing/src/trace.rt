@@ -1,14 +1,14 @@
 //! What a run shows.
 
-use crate::table::{Immediates, Opcode, TermTable, ValueType};
+use crate::table::{TermTable, ValueType};
+use kinds::op::Op;
 use support::items::Items;
 
-/// The immediates of an instruction, and the types of its result and of its operands.
+/// The types of the result and of the operands of an instruction.
 #[derive(Drop)]
-pub struct Imms {
-    pub immediates: Immediates,
-    pub ty: ValueType,
-    pub operand_types: Items<ValueType>,
+pub struct Types {
+    pub result: ValueType,
+    pub operands: Items<ValueType>,
 }
 
 /// An item of a trace.
@@ -18,8 +18,8 @@ pub enum TraceItem {
     Block(u32),
     /// An event, whose operands are places of the table of terms.
     Event {
-        opcode: Opcode,
-        imms: Imms,
+        op: Op,
+        types: Types,
         operands: Vec<u32>,
     },
 }

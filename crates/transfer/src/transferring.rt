@@ -1,12 +1,13 @@
 //! The two halves in a row.
 
-ghost use Rattle.std.specs.Prelude.{◌≡◌, ◌<◌, [], IfOk, IfErr, length};
+ghost use Rattle.std.specs.Prelude.{◌≡◌, [], IfOk, IfErr};
 ghost use Rattle.llvm_core.specs.Checked.{IsChecked};
 ghost use Rattle.llvm_core.specs.Data.{data_of};
 ghost use Rattle.llvm_core.specs.Names.{IsPlainOrNone};
 ghost use Rattle.llvm_core.specs.Form.{HasDistinctNames, IsForm};
 ghost use Rattle.dialect_core.specs.Data.{IsTyped};
 ghost use Rattle.from_llvm_ir.specs.Refusals.{IsValid};
+ghost use Rattle.to_llvm_ir.specs.Held.{IsReadable};
 ghost use Rattle.transfer.specs.declared.transfer_err.TransferErr.TheVariants as refusals;
 ghost use Rattle.transfer.specs.Same.{SameThroughout, IsCause, transferred_of};
 
@@ -34,8 +35,7 @@ fn run_halves(alloc: Global, ctx: &mut Context, module: &LLVMModule) -> Result<H
     ensures same { IfOk result (λ h. SameThroughout (data_of «module».now) (transferred_of ctx.new h.imported h.back)) }
     ensures back { IfOk result (λ h. IsChecked h.back) }
     ensures form { IfOk result (λ h. IsForm (data_of h.back)) }
-    ensures there { IfOk result (λ h. h.imported.«module».0.0 < length ctx.new.ops) }
-    ensures typed { IsTyped ctx.new }
+    ensures readable { IfOk result (λ h. IsReadable ctx.new h.imported.«module».0.0) }
     ensures structs { IfOk result (λ h. h.imported.structs.items ≡ []) }
     ensures cause { IfErr result (λ e. IsCause (data_of «module».now) e) }
 {
@@ -48,7 +48,8 @@ fn run_halves(alloc: Global, ctx: &mut Context, module: &LLVMModule) -> Result<H
 }
 
 /// The dialect module of a checked module of the form, in a context of its own, the module back, the match of blocks, and
-/// the identified structs, of which there are none yet. The module back is checked. It is refused only where the import
+/// the identified structs, of which there are none yet. The module back is checked, and the dialect module stands in its
+/// context as an export reads it. It is refused only where the import
 /// refuses it: the export takes all that an import makes. So a module whose uses are valid is answered `Ok` or
 /// `NoMemory`.
 pub fn transfer(alloc: Global, module: &LLVMModule) -> Result<Transferred, TransferErr>
@@ -58,8 +59,7 @@ pub fn transfer(alloc: Global, module: &LLVMModule) -> Result<Transferred, Trans
     ensures same { IfOk result (λ t. SameThroughout (data_of «module».now) t) }
     ensures back { IfOk result (λ t. IsChecked t.back) }
     ensures form { IfOk result (λ t. IsForm (data_of t.back)) }
-    ensures there { IfOk result (λ t. t.dialect.0.0 < length t.ctx.ops) }
-    ensures typed { IfOk result (λ t. IsTyped t.ctx) }
+    ensures readable { IfOk result (λ t. IsReadable t.ctx t.dialect.0.0) }
     ensures structs { IfOk result (λ t. t.structs.items ≡ []) }
     ensures cause { IfErr result (λ e. IsCause (data_of «module».now) e) }
     ensures complete { IsValid (data_of «module».now) → IfErr result (λ e. e ≡ refusals.NoMemory) }

@@ -6,8 +6,8 @@ ghost use Rattle.ll_tree.specs.Reading.{left, Gives, is_ending, value_at, return
 ghost use Rattle.ll_tree.specs.TreeView.{inst_view, terminator_view, block_view};
 
 use super::Reader;
-use crate::kinds::Kind;
 use crate::read_err::ReadErr;
+use crate::token_kinds::Kind;
 use crate::tokens::Token;
 use crate::tree::{Block, Inst, Terminator};
 use std::alloc::Global;

@@ -5,8 +5,8 @@ ghost use Rattle.ll_tree.specs.Reading.{left, Gives, result_at, add_at, icmp_at,
 ghost use Rattle.ll_tree.specs.TreeView.{incoming_view, inst_view, name_view};
 
 use super::Reader;
-use crate::kinds::Kind;
 use crate::read_err::ReadErr;
+use crate::token_kinds::Kind;
 use crate::tokens::Token;
 use crate::tree::{Incoming, Inst};
 use std::alloc::Global;

@@ -17,7 +17,6 @@ use Rattle.from_llvm_ir.specs.Building.{new_op}
 use Rattle.from_llvm_ir.specs.Converted.{IsKind}
 use Rattle.from_llvm_ir.proofs.SourceLaws.{inst_within, inst_name, inst_number, instruction_is, phi_read, type_of_inst}
 use Rattle.from_llvm_ir.proofs.PassLaws.{inst_form}
-use Rattle.from_llvm_ir.proofs.FormLaws.{name_form}
 use Rattle.from_llvm_ir.proofs.UnderLaws.{typed_open}
 use Rattle.from_llvm_ir.proofs.ForwardLaws.{passed_on}
 use Rattle.from_llvm_ir.proofs.ReadyLaws.{body_open, edges_stand, edges_within, in_operands, in_targets, operands_settled, operands_stand, targets_ready, values_within}
@@ -59,7 +58,7 @@ pub given-requires : goal.given-requires
 given-requires g c =
     let r = c.requires in
     subst IsPlainOrNone (sym (inst_name c.args.source.now r.4 c.args.i r.3 r.5 c.inst_name.result.now r.6.inst c.inst_name.ensures))
-    (name_form r.0.source r.4.number r.5 r.5.instruction (inst_form r.0.source r.6.framed.source.form r.6.place r.3 r.4 r.5 r.6.of_block.at r.6.inst.at))
+    (inst_form r.0.source r.6.framed.source.form r.6.place r.3 r.4 r.5 r.6.of_block.at r.6.inst.at).name
 
 pub add_op-requires-clause-operands : goal.add_op-requires-clause-operands
 add_op-requires-clause-operands g c =

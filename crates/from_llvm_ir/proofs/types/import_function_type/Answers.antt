@@ -1,7 +1,6 @@
 -- What `types::import_function_type` owes besides what the check finds.
-use Rattle.std.proofs.Common.{◌∙◌, sym, ap}
+use Rattle.std.proofs.Common.{◌∙◌, sym}
 use Rattle.std.proofs.lemmas.Result.{IfOk-weaker}
-use Rattle.from_llvm_ir.specs.Types.{type_from}
 use Rattle.from_llvm_ir.proofs.TypeLaws.{grows_then, params_still, below_still, signature_depth, both_parts}
 use Rattle.from_llvm_ir.proofs.types.import_function_type.Goals as goal
 
@@ -27,5 +26,5 @@ returns-clause-ty c =
     is
     ∙ both_parts _ _ h.form.result h.form.types (c.in_ok-returned.ensures.ty g h)
     (params_still c.import_params.new.ctx c.import_result.new.ctx c.in_ok-params.params.items c.from_vec.result g.type h.form.result h.form.types c.import_result.ensures.grown c.in_ok-params.ensures.within (c.in_ok-params.ensures.types g h) h.form.type c.from_vec.ensures)
-    ∙ sym (ap type_from h.form.type))
+    ∙ sym (h.form.type))
     c.intern.ensures.ty

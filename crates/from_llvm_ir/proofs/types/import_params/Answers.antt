@@ -4,7 +4,6 @@ use Rattle.std.proofs.lemmas.Option.{slice_get_within}
 use Rattle.std.proofs.lemmas.Result.{IfOk-weaker}
 use Rattle.llvm_core.specs.Form.{AreShortInts}
 use Rattle.llvm_core.specs.Data.{trees_of, type_at, types_at}
-use Rattle.from_llvm_ir.specs.Types.{type_from}
 use Rattle.from_llvm_ir.proofs.SourceLaws.{function_within, function_kind, params_short, params_listed, parts_within}
 use Rattle.from_llvm_ir.proofs.types.import_params.Goals as goal
 
@@ -29,4 +28,4 @@ import_all-requires-clause-short c =
 
 pub returns-clause-types : goal.returns-clause-types
 returns-clause-types c =
-    IfOk-weaker c.import_all.result _ _ (λ ts are g h. are ∙ ap (map (λ t. type_from (type_at (trees_of c.args.source.now).types t))) c.as_slice.ensures ∙ params_listed c.args.source.now c.args.f g h c.function_type.result c.type_kind.result.now c.in-Function.result c.in-Function.params c.in-Function.variadic c.function_type.ensures.ty c.type_kind.ensures.kind c.in-Function.is) c.import_all.ensures.types
+    IfOk-weaker c.import_all.result _ _ (λ ts are g h. are ∙ ap (map (λ t. type_at (trees_of c.args.source.now).types t)) c.as_slice.ensures ∙ params_listed c.args.source.now c.args.f g h c.function_type.result c.type_kind.result.now c.in-Function.result c.in-Function.params c.in-Function.variadic c.function_type.ensures.ty c.type_kind.ensures.kind c.in-Function.is) c.import_all.ensures.types

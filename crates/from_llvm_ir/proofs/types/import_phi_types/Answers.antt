@@ -5,7 +5,6 @@ use Rattle.llvm_core.specs.Form.{IsShortResult}
 use Rattle.llvm_core.specs.Data as L
 use Rattle.dialect_types.specs.declared.types.TypeHandle.{TypeHandle}
 use Rattle.dialect_core.specs.ContextData.{ContextData}
-use Rattle.from_llvm_ir.specs.Types.{type_from}
 use Rattle.from_llvm_ir.proofs.SourceLaws.{listed_at, listed_within, insts_listed, phi_read, type_of_inst, type_read, block_within}
 use Rattle.from_llvm_ir.proofs.TypeLaws.{ImportsPhis, phis_skip, phis_more, grows_then}
 use Rattle.from_llvm_ir.proofs.types.import_phi_types.Goals as goal
@@ -34,7 +33,7 @@ loop-i-preserved c = λ f g place b s of_block.
     elim c.if-is_phi.branch [
       | then-is_phi+in_ok-import_plain+in_ok-push w ↦
           let t = type_of_inst m f g c.args.block place b _ c.loop-i.i-index x.0 s of_block x.1 in
-          let is = w.in_ok-import_plain.ensures.ty ∙ ap type_from (type_read m _ x.0.type w.type_of.result t w.type_of.ensures.ty) in
+          let is = w.in_ok-import_plain.ensures.ty ∙ (type_read m _ x.0.type w.type_of.result t w.type_of.ensures.ty) in
           subst (λ (k : ContextData). ImportsPhis c.args.ctx.now k (take (c.loop-i.i-index + 1) b.instructions) c.if-is_phi.types.items) (sym w.ctx-is)
           (subst (λ (ts : List TypeHandle). ImportsPhis c.args.ctx.now w.import_plain.new.ctx (take (c.loop-i.i-index + 1) b.instructions) ts) (sym (ap (λ v. v.items) w.types-is ∙ w.in_ok-push.ensures.items))
           (phis_more c.args.ctx.now c.loop-i.ctx w.import_plain.new.ctx b.instructions c.loop-i.i-index x.0 c.loop-i.types.items w.in_ok-import_plain.field-0 x.1.at (read ∙ w.if-is_phi.true) before w.import_plain.ensures.grown is w.in_ok-import_plain.ensures.within))

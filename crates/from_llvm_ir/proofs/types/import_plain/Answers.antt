@@ -3,7 +3,6 @@ use Rattle.std.proofs.Common.{◌∙◌, sym, ap, subst, Some}
 use Rattle.std.proofs.lemmas.Result.{IfOk-weaker}
 use Rattle.llvm_core.specs.Form.{IsShortResult}
 use Rattle.llvm_core.proofs.DataLemmas.{void_tree_of, int_tree_of, function_tree_of}
-use Rattle.from_llvm_ir.specs.Types.{type_from}
 use Rattle.from_llvm_ir.proofs.types.import_plain.Goals as goal
 
 pub unreachable-requires : goal.unreachable-requires
@@ -12,8 +11,8 @@ unreachable-requires c =
 
 pub returns-in-Void-clause-ty : goal.returns-in-Void-clause-ty
 returns-in-Void-clause-ty c =
-    IfOk-weaker c.intern.result _ _ (λ t h. h ∙ sym (ap type_from (void_tree_of c.args.source.now c.args.ty c.requires.sound (c.type_kind.ensures.kind ∙ ap Some c.in-Void.is)))) c.intern.ensures.ty
+    IfOk-weaker c.intern.result _ _ (λ t h. h ∙ sym (void_tree_of c.args.source.now c.args.ty c.requires.sound (c.type_kind.ensures.kind ∙ ap Some c.in-Void.is))) c.intern.ensures.ty
 
 pub returns-in-Int-clause-ty : goal.returns-in-Int-clause-ty
 returns-in-Int-clause-ty c =
-    IfOk-weaker c.intern-in-Int.result _ _ (λ t h. h ∙ sym (ap type_from (int_tree_of c.args.source.now c.args.ty c.in-Int.width c.requires.sound (c.type_kind.ensures.kind ∙ ap Some c.in-Int.is)))) c.intern-in-Int.ensures.ty
+    IfOk-weaker c.intern-in-Int.result _ _ (λ t h. h ∙ sym (int_tree_of c.args.source.now c.args.ty c.in-Int.width c.requires.sound (c.type_kind.ensures.kind ∙ ap Some c.in-Int.is))) c.intern-in-Int.ensures.ty

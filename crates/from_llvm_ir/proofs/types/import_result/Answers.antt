@@ -2,7 +2,6 @@
 use Rattle.std.proofs.Common.{◌∙◌, ap, Some}
 use Rattle.std.proofs.lemmas.Option.{slice_get_within}
 use Rattle.std.proofs.lemmas.Result.{IfOk-weaker}
-use Rattle.from_llvm_ir.specs.Types.{type_from}
 use Rattle.from_llvm_ir.proofs.SourceLaws.{function_within, function_kind, result_short, parts_within}
 use Rattle.from_llvm_ir.proofs.types.import_result.Goals as goal
 
@@ -27,4 +26,4 @@ import_plain-requires-clause-short c =
 
 pub returns-clause-ty : goal.returns-clause-ty
 returns-clause-ty c =
-    IfOk-weaker c.import_plain.result _ _ (λ t is g h. is ∙ ap type_from (result_short c.args.source.now c.args.f g h c.function_type.result c.type_kind.result.now c.in-Function.result c.in-Function.params c.in-Function.variadic c.function_type.ensures.ty c.type_kind.ensures.kind c.in-Function.is).0) c.import_plain.ensures.ty
+    IfOk-weaker c.import_plain.result _ _ (λ t is g h. is ∙ (result_short c.args.source.now c.args.f g h c.function_type.result c.type_kind.result.now c.in-Function.result c.in-Function.params c.in-Function.variadic c.function_type.ensures.ty c.type_kind.ensures.kind c.in-Function.is).0) c.import_plain.ensures.ty

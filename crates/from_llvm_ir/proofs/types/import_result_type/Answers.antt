@@ -1,6 +1,5 @@
 -- What `types::import_result_type` owes besides what the check finds.
 use Rattle.std.proofs.Common.{◌∙◌, ap, Some}
-use Rattle.from_llvm_ir.specs.Types.{type_from}
 use Rattle.from_llvm_ir.proofs.SourceLaws.{type_read, void_read, other_read}
 use Rattle.from_llvm_ir.proofs.types.import_result_type.Goals as goal
 
@@ -11,7 +10,7 @@ pub returns-in_ok-import_plain-in_default : goal.returns-in_ok-import_plain-in_d
 returns-in_ok-import_plain-in_default c = record {
   grown = c.import_plain.ensures.grown;
   ty = λ t h.
-      ap Some (c.in_ok-import_plain-in_default.ensures.ty ∙ ap type_from (type_read c.args.source.now c.args.i t c.type_of-ty.result h c.type_of-ty.ensures.ty))
+      ap Some (c.in_ok-import_plain-in_default.ensures.ty ∙ (type_read c.args.source.now c.args.i t c.type_of-ty.result h c.type_of-ty.ensures.ty))
       ∙ other_read c.args.source.now c.args.i t c.type_of-ty.result c.type_kind.result.now h c.type_of-ty.ensures.ty c.type_kind.ensures.kind c.in_default.not-Void;
   within = c.in_ok-import_plain-in_default.ensures.within;
 }

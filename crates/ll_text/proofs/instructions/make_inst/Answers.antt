@@ -41,32 +41,32 @@ returns-in_default-int_width-2-clause-not_yet c = λ e s knows.
     let i = c.in-Phi in
     rw c.in-Phi.is (phi_untyped s (name_view i.name) (text_of i.ty) (incoming_view i.first) (map incoming_view i.more.items) c.in_default-int_width-2.ensures.none)
 
-pub returns-in_ok-a-in-Add-clause-made : goal.returns-in_ok-a-in-Add-clause-made
-returns-in_ok-a-in-Add-clause-made c =
+pub returns-in_ok-add-in-Add-clause-made : goal.returns-in_ok-add-in-Add-clause-made
+returns-in_ok-add-in-Add-clause-made c =
     let i = c.in-Add in
     let e = c.in_ok-a-in-Add.ensures in
-    rw c.in-Add.is (add_made (name_view i.name) i.nuw i.nsw (text_of i.ty) (text_of i.lhs) (text_of i.rhs) c.in-Some.width c.both.new.draft c.in_ok-a-in-Add.a c.in_ok-a-in-Add.b
+    rw (c.in-Add.is, c.in_ok-add-in-Add.ensures) (add_made (name_view i.name) i.nuw i.nsw (text_of i.ty) (text_of i.lhs) (text_of i.rhs) c.in-Some.width c.both.new.draft c.in_ok-a-in-Add.a c.in_ok-a-in-Add.b
     c.in-Some.ensures.width (e.rest.sound c.requires.ready.sound) e.left e.right)
 
-pub returns-in_ok-a-in-Add-clause-says : goal.returns-in_ok-a-in-Add-clause-says
-returns-in_ok-a-in-Add-clause-says c = λ s knows.
+pub returns-in_ok-add-in-Add-clause-says : goal.returns-in_ok-add-in-Add-clause-says
+returns-in_ok-add-in-Add-clause-says c = λ s knows.
     let i = c.in-Add in
     let e = c.in_ok-a-in-Add.ensures in
-    rw c.in-Add.is (add_says s (name_view i.name) i.nuw i.nsw (text_of i.ty) (text_of i.lhs) (text_of i.rhs) c.in-Some.width c.both.new.draft c.in_ok-a-in-Add.a c.in_ok-a-in-Add.b
+    rw (c.in-Add.is, c.in_ok-add-in-Add.ensures) (add_says s (name_view i.name) i.nuw i.nsw (text_of i.ty) (text_of i.lhs) (text_of i.rhs) c.in-Some.width c.both.new.draft c.in_ok-a-in-Add.a c.in_ok-a-in-Add.b
     c.in-Some.ensures.width (e.lhs s knows) (e.rhs s knows))
 
-pub returns-in_ok-a-in-ICmp-clause-made : goal.returns-in_ok-a-in-ICmp-clause-made
-returns-in_ok-a-in-ICmp-clause-made c =
+pub returns-in_ok-icmp-in-ICmp-clause-made : goal.returns-in_ok-icmp-in-ICmp-clause-made
+returns-in_ok-icmp-in-ICmp-clause-made c =
     let i = c.in-ICmp in
     let e = c.in_ok-a-in-ICmp.ensures in
-    rw c.in-ICmp.is (icmp_made (name_view i.name) (text_of i.word) (text_of i.ty) (text_of i.lhs) (text_of i.rhs) c.in-Some-int_width.width c.in-Some-predicate.compare c.both-in-ICmp.new.draft c.in_ok-a-in-ICmp.a c.in_ok-a-in-ICmp.b
+    rw (c.in-ICmp.is, c.in_ok-icmp-in-ICmp.ensures) (icmp_made (name_view i.name) (text_of i.word) (text_of i.ty) (text_of i.lhs) (text_of i.rhs) c.in-Some-int_width.width c.in-Some-predicate.compare c.both-in-ICmp.new.draft c.in_ok-a-in-ICmp.a c.in_ok-a-in-ICmp.b
     c.in-Some-int_width.ensures.width (e.rest.sound c.requires.ready.sound) e.left e.right)
 
-pub returns-in_ok-a-in-ICmp-clause-says : goal.returns-in_ok-a-in-ICmp-clause-says
-returns-in_ok-a-in-ICmp-clause-says c = λ s knows.
+pub returns-in_ok-icmp-in-ICmp-clause-says : goal.returns-in_ok-icmp-in-ICmp-clause-says
+returns-in_ok-icmp-in-ICmp-clause-says c = λ s knows.
     let i = c.in-ICmp in
     let e = c.in_ok-a-in-ICmp.ensures in
-    rw c.in-ICmp.is (icmp_says s (name_view i.name) (text_of i.word) (text_of i.ty) (text_of i.lhs) (text_of i.rhs) c.in-Some-int_width.width c.in-Some-predicate.compare c.both-in-ICmp.new.draft c.in_ok-a-in-ICmp.a c.in_ok-a-in-ICmp.b
+    rw (c.in-ICmp.is, c.in_ok-icmp-in-ICmp.ensures) (icmp_says s (name_view i.name) (text_of i.word) (text_of i.ty) (text_of i.lhs) (text_of i.rhs) c.in-Some-int_width.width c.in-Some-predicate.compare c.both-in-ICmp.new.draft c.in_ok-a-in-ICmp.a c.in_ok-a-in-ICmp.b
     c.in-Some-int_width.ensures.width (sym c.predicate.ensures ∙ c.in-Some-predicate.is) (e.lhs s knows) (e.rhs s knows))
 
 pub returns-in_ok-ty-in-Phi-clause-made : goal.returns-in_ok-ty-in-Phi-clause-made

@@ -1,7 +1,8 @@
--- What `edges::push_targets` owes after both edges of a branch on a condition.
-use Rattle.std.proofs.lemmas.Result.{on_ok_weaker}
-use Rattle.llvm_core.proofs.EdgeLemmas.{gains_both}
+-- What `edges::push_targets` owes before the targets of a row are noted.
+use Rattle.std.proofs.Common.{◌<◌, ℕ, length}
+use Rattle.llvm_core.specs.declared.numbers.LLVMBasicBlock.{LLVMBasicBlock}
+use Rattle.llvm_core.proofs.EdgeLemmas.{all_mapped}
 use Rattle.llvm_core.proofs.edges.push_targets.Goals as goal
 
-pub returns-in_ok-push_edge-in-CondBr : goal.returns-in_ok-push_edge-in-CondBr
-returns-in_ok-push_edge-in-CondBr c = rw c.in-CondBr.is (on_ok_weaker c.push_edge-in-CondBr-2.result (gains_both _ _ _ c.args.from _ _ c.in_ok-push_edge-in-CondBr.ensures) c.push_edge-in-CondBr-2.ensures)
+pub push_all-requires : goal.push_all-requires
+push_all-requires c = rw c.as_slice.ensures (all_mapped (λ (n : ℕ). n < length c.args.lists.now) (λ (b : LLVMBasicBlock). b.0) c.in-Row.row.targets (rw c.in-Row.is at c.requires))

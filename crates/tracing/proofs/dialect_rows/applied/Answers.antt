@@ -17,7 +17,7 @@ operand_types-requires-clause-used c =
     let h = c.requires.0 in
     let o = c.requires.1 in
     let at = c.requires.2 in
-    subst (All (IsUsed x)) (operands_kept x c.args.op o _ at.here c.op_operands-values.ensures.operands) (used_all x h.function h.form.signature o.operands o.result o.successors o.kind at.form)
+    subst (All (IsUsed x)) (operands_kept x c.args.op o _ at.here c.op_operands-values.ensures.operands) (used_all x h.function o.operands o.result o.successors o.kind at.form)
 
 pub result_type-requires-clause-typed : goal.result_type-requires-clause-typed
 result_type-requires-clause-typed c = c.requires.0.typed
@@ -33,5 +33,5 @@ pub returns : goal.returns
 returns c = λ h o at.
     let x = c.args.ctx.now in
     let operands = operands_kept x c.args.op o c.op_operands-values.result.now at.here c.op_operands-values.ensures.operands in
-    applied_is (type_in x) o c.args.opcode (record { immediates = c.args.immediates; ty = c.result_type.result; operand_types = c.in_ok-operand_types.operand_types }) c.in_ok-operands.operands c.op_operands-values.result.now operands (c.result_type.ensures o at.here)
+    applied_is (type_in x) o c.args.row (record { result = c.result_type.result; operands = c.in_ok-operand_types.operand_types }) c.in_ok-operands.operands c.op_operands-values.result.now operands (c.result_type.ensures o at.here)
     c.in_ok-operand_types.ensures c.in_ok-operands.ensures

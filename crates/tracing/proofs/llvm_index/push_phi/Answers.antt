@@ -4,14 +4,14 @@ use Rattle.std.proofs.lemmas.Result.{on_ok_weaker}
 use Rattle.llvm_core.specs.Data.{trees_of, instruction_of}
 use Rattle.llvm_core.specs.Parts.{is_phi}
 use Rattle.tracing.proofs.LlvmLaws.{kept_at, kept_inst, kept_phi}
-use Rattle.tracing.proofs.IndexLaws.{not_phi, no_more, one_more, is_phi_of}
+use Rattle.tracing.proofs.IndexLaws.{no_more, one_more, is_phi_of}
 use Rattle.tracing.proofs.llvm_index.push_phi.Goals as goal
 
-pub returns-in_default : goal.returns-in_default
-returns-in_default c = λ h b p at xs before.
+pub returns-in-Row : goal.returns-in-Row
+returns-in-Row c = λ h b p at xs before.
     let m = c.args.m.now in
     let e = kept_inst m c.args.i p c.inst.result.now (kept_at m h b c.args.i p at) c.inst.ensures.inst in
-    no_more m c.args.phis.now xs p (kept_phi m p c.inst.result.now e ∙ not_phi c.inst.result.now c.in_default.not-Phi) before
+    no_more m c.args.phis.now xs p (kept_phi m p c.inst.result.now e ∙ ap is_phi c.in-Row.is) before
 
 pub returns-in_ok-incoming-in-Phi : goal.returns-in_ok-incoming-in-Phi
 returns-in_ok-incoming-in-Phi c =

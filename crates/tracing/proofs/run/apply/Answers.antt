@@ -14,7 +14,7 @@ returns-then-is_silent c =
     let r = c.in_ok-places-in-Applies.ensures.at s h in
     let named = rw c.as_slice.ensures at r.1 in
     rw c.in-Applies.is
-    (built_at c.build.new.run s c.args.row.now.result c.in-Applies.opcode c.in-Applies.imms c.in-Applies.operands (sym c.is_silent.ensures ∙ c.if-is_silent.true) (f s _ r.0 named)))
+    (built_at c.build.new.run s c.args.row.now.result c.in-Applies.op c.in-Applies.types c.in-Applies.operands (sym c.is_silent.ensures ∙ c.if-is_silent.true) (f s _ r.0 named)))
     c.build.ensures
 
 pub returns-else-is_silent : goal.returns-else-is_silent
@@ -24,5 +24,5 @@ returns-else-is_silent c =
     let r = c.in_ok-places-in-Applies.ensures.at s h in
     let named = rw c.as_slice.ensures at r.1 in
     rw c.in-Applies.is
-    (shown_at c.show.new.run s c.args.row.now.result c.in-Applies.opcode c.in-Applies.imms c.in-Applies.operands (sym c.is_silent.ensures ∙ c.if-is_silent.false) (f s _ r.0 named)))
+    (shown_at c.show.new.run s c.args.row.now.result c.in-Applies.op c.in-Applies.types c.in-Applies.operands (sym c.is_silent.ensures ∙ c.if-is_silent.false) (f s _ r.0 named)))
     c.show.ensures

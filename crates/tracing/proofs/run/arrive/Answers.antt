@@ -2,7 +2,6 @@
 use Rattle.std.proofs.Common.{refl}
 use Rattle.std.proofs.lemmas.Result.{on_ok_weaker}
 use Rattle.meaning.specs.Machine as M
-use Rattle.meaning.specs.Machine.{State}
 use Rattle.tracing.proofs.run.arrive.Goals as goal
 
 pub straight-requires : goal.straight-requires

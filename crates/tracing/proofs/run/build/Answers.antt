@@ -2,14 +2,14 @@
 use Rattle.std.proofs.Common.{subst, List}
 use Rattle.std.proofs.lemmas.Result.{on_ok_weaker}
 use Rattle.meaning.specs.Terms.{Term, Expr, terms_of}
-use Rattle.tracing.specs.Table.{opcode_of, immediates_of, tree_of}
+use Rattle.tracing.specs.Table.{tree_of}
 use Rattle.tracing.specs.Runs.{Names}
 use Rattle.tracing.proofs.RunLaws.{named_terms}
 use Rattle.tracing.proofs.run.build.Goals as goal
 
 pub returns : goal.returns
 returns c =
-    let expr = λ (us : List Term). Expr (opcode_of c.args.opcode) (immediates_of c.args.imms.now.immediates) (tree_of c.args.imms.now.ty) (terms_of us) in
+    let expr = λ (us : List Term). Expr c.args.op (tree_of c.args.types.now.result) (terms_of us) in
     let at = rw c.from_vec.ensures at c.in_ok-place.ensures.named in
     on_ok_weaker c.set.result
     (λ f s ts h named.

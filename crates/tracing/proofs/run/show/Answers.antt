@@ -3,21 +3,20 @@ use Rattle.std.proofs.Common.{refl, ap, map}
 use Rattle.meaning.specs.Terms.{Answer}
 use Rattle.meaning.specs.Machine as M
 use Rattle.tracing.specs.declared.body.Slot.{Slot}
-use Rattle.tracing.specs.declared.trace.Imms.{Imms}
-use Rattle.tracing.specs.Table.{opcode_of, immediates_of, tree_of}
+use Rattle.tracing.specs.declared.trace.Types.{Types}
+use Rattle.tracing.specs.Table.{tree_of}
 use Rattle.tracing.specs.Bodies.{same_slot}
 use Rattle.tracing.proofs.RunLaws.{answered_at}
 use Rattle.tracing.proofs.run.show.Goals as goal
 
 pub returns : goal.returns
 returns c = λ s ts h named.
-    let copy = c.in_ok-copy_imms.ensures in
-    let event = M.Event (opcode_of c.args.opcode) (immediates_of c.args.imms.now.immediates) (tree_of c.args.imms.now.ty) (map tree_of c.args.imms.now.operand_types) ts in
+    let copy = c.in_ok-copy_types.ensures in
+    let event = M.Event c.args.op (tree_of c.args.types.now.result) (map tree_of c.args.types.now.operands) ts in
     let noted = c.in_ok-note.ensures.at s event h (
       refl,
-      ap (λ (i : Imms). immediates_of i.immediates) copy,
-      ap (λ (i : Imms). tree_of i.ty) copy,
-      ap (λ (i : Imms). map tree_of i.operand_types) copy,
+      ap (λ (t : Types). tree_of t.result) copy,
+      ap (λ (t : Types). map tree_of t.operands) copy,
       named,
     ) in
     let shown = M.shows Slot same_slot s event in

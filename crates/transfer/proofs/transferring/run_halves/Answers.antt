@@ -23,11 +23,8 @@ returns-clause-back c =
     let i = c.in_ok-imported.imported in
     c.in_ok-exported.ensures.checked (distinct_dialect (data_of m) ctx i c.in_ok-imported.ensures.imported c.requires.distinct) (targets_of (data_of m) ctx i c.in_ok-imported.ensures.imported)
 
-pub returns-clause-there : goal.returns-clause-there
-returns-clause-there c = c.in_ok-imported.ensures.imported.building.there
-
-pub returns-clause-typed : goal.returns-clause-typed
-returns-clause-typed c = c.convert_module.ensures.typed c.requires.typed
+pub returns-clause-readable : goal.returns-clause-readable
+returns-clause-readable c = readable (data_of c.args.«module».now) c.convert_module.new.ctx c.in_ok-imported.imported c.in_ok-imported.ensures.imported (c.convert_module.ensures.typed c.requires.typed)
 
 pub returns-clause-structs : goal.returns-clause-structs
 returns-clause-structs c = c.in_ok-imported.ensures.structs

@@ -25,11 +25,8 @@ returns-clause-back c = c.in_ok-halves.ensures.back
 pub returns-clause-form : goal.returns-clause-form
 returns-clause-form c = c.in_ok-halves.ensures.form
 
-pub returns-clause-there : goal.returns-clause-there
-returns-clause-there c = c.in_ok-halves.ensures.there
-
-pub returns-clause-typed : goal.returns-clause-typed
-returns-clause-typed c = c.run_halves.ensures.typed
+pub returns-clause-readable : goal.returns-clause-readable
+returns-clause-readable c = c.in_ok-halves.ensures.readable
 
 pub returns-clause-structs : goal.returns-clause-structs
 returns-clause-structs c = c.in_ok-halves.ensures.structs

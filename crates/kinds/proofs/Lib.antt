@@ -1,0 +1,3 @@
+-- The laws that the answers of all crates share.
+pub mod TypeLaws
+pub mod FittingLaws

@@ -1,0 +1,60 @@
+-- Equal types, tested and proved: a line for each kind of type.
+use Rattle.std.proofs.Common.{◌≡◌, Bool, true, false, ◌&&◌, refl, ap, eq-eqb}
+use Rattle.std.proofs.lemmas.Bool.{eqb-true}
+use Rattle.kinds.specs.Types.{TypeTree, VoidType, IntType, FunctionType, TypeTrees, NoTypes, ThenType, same_bool, same_tree, same_trees}
+
+same_self : (b : Bool) → same_bool b b ≡ true
+same_self true = refl
+same_self false = refl
+
+same_bools : (a b : Bool) → same_bool a b ≡ true → a ≡ b
+same_bools true true e = refl
+same_bools true false e = cc
+same_bools false true e = cc
+same_bools false false e = refl
+
+mutual
+  -- a type is the same as itself
+  pub tree_self : (t : TypeTree) → same_tree t t ≡ true
+  tree_self VoidType = refl
+  tree_self (IntType w) = eq-eqb w w refl
+  tree_self (FunctionType r ps v) = let a = tree_self r in let b = trees_self ps in let c = same_self v in cc
+
+  trees_self : (ts : TypeTrees) → same_trees ts ts ≡ true
+  trees_self NoTypes = refl
+  trees_self (ThenType t ts) = let a = tree_self t in let b = trees_self ts in cc
+
+pub and_left : (a b : Bool) → (a && b) ≡ true → a ≡ true
+and_left true b e = refl
+and_left false b e = cc
+
+pub and_right : (a b : Bool) → (a && b) ≡ true → b ≡ true
+and_right true b e = e
+and_right false b e = cc
+
+mutual
+  -- types that are tested to be the same are equal
+  pub tree_told : (t u : TypeTree) → same_tree t u ≡ true → t ≡ u
+  tree_told VoidType VoidType e = refl
+  tree_told VoidType (IntType v) e = cc
+  tree_told VoidType (FunctionType s qs w) e = cc
+  tree_told (IntType w) VoidType e = cc
+  tree_told (IntType w) (IntType v) e = ap IntType (eqb-true w v e)
+  tree_told (IntType w) (FunctionType s qs v) e = cc
+  tree_told (FunctionType r ps v) VoidType e = cc
+  tree_told (FunctionType r ps v) (IntType w) e = cc
+  tree_told (FunctionType r ps v) (FunctionType s qs w) e =
+      let front = and_left (same_tree r s && same_trees ps qs) (same_bool v w) e in
+      let a = tree_told r s (and_left (same_tree r s) (same_trees ps qs) front) in
+      let b = trees_told ps qs (and_right (same_tree r s) (same_trees ps qs) front) in
+      let c = same_bools v w (and_right (same_tree r s && same_trees ps qs) (same_bool v w) e) in
+      cc
+
+  trees_told : (ts us : TypeTrees) → same_trees ts us ≡ true → ts ≡ us
+  trees_told NoTypes NoTypes e = refl
+  trees_told NoTypes (ThenType u us) e = cc
+  trees_told (ThenType t ts) NoTypes e = cc
+  trees_told (ThenType t ts) (ThenType u us) e =
+      let a = tree_told t u (and_left (same_tree t u) (same_trees ts us) e) in
+      let b = trees_told ts us (and_right (same_tree t u) (same_trees ts us) e) in
+      cc

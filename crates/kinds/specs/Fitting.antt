@@ -1,0 +1,103 @@
+-- Whether operands fit a row, given how many there are and the types of the first three, whatever a type is.
+use Rattle.std.specs.Prelude.{ℕ, Bool, true, false, ◌&&◌, nat_eq, nat_lt, Option, Some, None}
+use Rattle.kinds.specs.declared.rules.Fit.{Fit}
+use Rattle.kinds.specs.declared.rules.Fit.TheVariants as F
+use Rattle.kinds.specs.declared.rules.Takes.{Takes}
+use Rattle.kinds.specs.declared.rules.Takes.TheVariants as T
+use Rattle.kinds.specs.declared.rules.Gives.{Gives}
+use Rattle.kinds.specs.declared.rules.Gives.TheVariants as G
+use Rattle.kinds.specs.declared.rules.Rule.{Rule}
+use Rattle.kinds.specs.declared.fitting.Shape.{Shape}
+use Rattle.kinds.specs.declared.fitting.Shape.TheVariants as S
+use Rattle.kinds.specs.declared.fitting.TypeView.{TypeView}
+
+-- ---- shapes
+
+-- a type of a value
+abbrev pub is_value : Shape → Bool
+is_value S.Void = false
+is_value (S.Int w) = true
+is_value S.Function = false
+
+abbrev pub is_number : Shape → Bool
+is_number S.Void = false
+is_number (S.Int w) = true
+is_number S.Function = false
+
+-- i1
+abbrev pub is_bit : Shape → Bool
+is_bit S.Void = false
+is_bit (S.Int w) = nat_eq w 1
+is_bit S.Function = false
+
+-- two integers, of which the first is wider
+abbrev pub is_wider : Shape → Shape → Bool
+is_wider (S.Int v) (S.Int w) = nat_lt w v
+is_wider _ _ = false
+
+-- ---- types by number
+
+abbrev pub view_shape : TypeView → Shape
+view_shape t = t.shape
+
+abbrev pub view_same : TypeView → TypeView → Bool
+view_same a b = nat_eq a.number b.number
+
+-- ---- the evaluator
+
+-- a type is whatever has a shape and a test of sameness
+module _ {X : Type 0} (shape : X → Shape) (same : X → X → Bool) where
+  abbrev pub is_same : Option X → X → Bool
+  is_same (Some a) b = same a b
+  is_same None b = false
+
+  -- wider than the type that is written, where one is
+  abbrev pub is_above : Option X → X → Bool
+  is_above (Some w) own = is_wider (shape own) (shape w)
+  is_above None own = false
+
+  abbrev pub is_below : Option X → X → Bool
+  is_below (Some w) own = is_wider (shape w) (shape own)
+  is_below None own = false
+
+  -- a line for each word: w is the type that is written, a and b are those of the first two operands
+  abbrev pub fit_one : Fit → (w a b : Option X) → X → Bool
+  fit_one F.Any w a b own = is_value (shape own)
+  fit_one F.Number w a b own = is_number (shape own)
+  fit_one F.Bit w a b own = is_bit (shape own)
+  fit_one F.First w a b own = is_same a own
+  fit_one F.Second w a b own = is_same b own
+  fit_one F.Wider w a b own = is_above w own
+  fit_one F.Narrower w a b own = is_below w own
+
+  abbrev pub fit : Fit → (w a b own : Option X) → Bool
+  fit by w a b None = false
+  fit by w a b (Some own) = fit_one by w a b own
+
+  -- a line for each word; what a return takes is for its function to say
+  abbrev pub takes_fit : Takes → (count : ℕ) → (w a b c : Option X) → Bool
+  takes_fit T.Nothing count w a b c = nat_eq count 0
+  takes_fit (T.One f) count w a b c = nat_eq count 1 && fit f w a b a
+  takes_fit (T.Two f g) count w a b c = nat_eq count 2 && fit f w a b a && fit g w a b b
+  takes_fit (T.Three f g h) count w a b c = nat_eq count 3 && fit f w a b a && fit g w a b b && fit h w a b c
+  takes_fit T.Return count w a b c = true
+
+  abbrev pub is_no_type : Option X → Bool
+  is_no_type None = true
+  is_no_type (Some w) = false
+
+  abbrev pub is_value_type : Option X → Bool
+  is_value_type None = false
+  is_value_type (Some w) = is_value (shape w)
+
+  -- a type is written just where one is asked, and is then one of a value
+  abbrev pub is_written : Gives → Option X → Bool
+  is_written G.Nothing w = is_no_type w
+  is_written G.First w = is_no_type w
+  is_written G.Second w = is_no_type w
+  is_written G.Written w = is_value_type w
+  is_written G.Bit w = is_no_type w
+
+  -- so many operands fit, of which the first three have these types, beside a written type or none
+  abbrev pub fits : Rule → (count : ℕ) → (w a b c : Option X) → Bool
+  fits rule count w a b c = is_written rule.gives w && takes_fit rule.takes count w a b c

@@ -1,0 +1,6 @@
+-- The definitions that contracts cite.
+pub mod Types
+pub mod Rules
+pub mod Table
+pub mod Fitting
+pub mod Typing

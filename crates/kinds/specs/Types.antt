@@ -1,0 +1,39 @@
+-- Types as trees, the same for both sides.
+use Rattle.std.specs.Prelude.{ℕ, Bool, true, false, ◌&&◌, nat_eq}
+use Rattle.kinds.specs.declared.fitting.Shape.{Shape}
+use Rattle.kinds.specs.declared.fitting.Shape.TheVariants as S
+
+mutual
+  -- a type, a line for each kind
+  pub data TypeTree : Type 0 where
+    VoidType : TypeTree
+    IntType : (width : ℕ) → TypeTree
+    FunctionType : (result : TypeTree) (params : TypeTrees) (variadic : Bool) → TypeTree
+
+  pub data TypeTrees : Type 0 where
+    NoTypes : TypeTrees
+    ThenType : TypeTree → TypeTrees → TypeTrees
+
+-- what rules look at, a line for each kind
+abbrev pub shape : TypeTree → Shape
+shape VoidType = S.Void
+shape (IntType w) = S.Int w
+shape (FunctionType result params variadic) = S.Function
+
+abbrev pub same_bool : Bool → Bool → Bool
+same_bool true b = b
+same_bool false true = false
+same_bool false false = true
+
+-- whether two types are one, a line for each kind
+abbrev mutual
+  pub same_tree : TypeTree → TypeTree → Bool
+  same_tree VoidType VoidType = true
+  same_tree (IntType w) (IntType v) = nat_eq w v
+  same_tree (FunctionType r ps v) (FunctionType s qs w) = same_tree r s && same_trees ps qs && same_bool v w
+  same_tree _ _ = false
+
+  pub same_trees : TypeTrees → TypeTrees → Bool
+  same_trees NoTypes NoTypes = true
+  same_trees (ThenType t ts) (ThenType u us) = same_tree t u && same_trees ts us
+  same_trees _ _ = false

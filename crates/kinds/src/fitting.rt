@@ -1,0 +1,153 @@
+//! Whether operands fit a row: one evaluator of the table's words, for either side.
+
+ghost use Rattle.std.specs.Prelude.{◌≡◌};
+ghost use Rattle.kinds.specs.Fitting.{fit, is_same, is_wider, is_written, takes_fit, fits, view_same, view_shape, is_value, is_number, is_bit};
+
+use crate::rules::{Fit, Gives, Rule, Takes};
+
+/// What rules look at in a type.
+#[derive(Clone, Copy, PartialEq, Eq, Debug, Drop)]
+pub enum Shape {
+    Void,
+    /// An integer type of this width.
+    Int(u32),
+    /// A type of no value.
+    Function,
+}
+
+/// A type by its number, with its shape.
+#[derive(Clone, Copy, PartialEq, Eq, Debug, Drop)]
+pub struct TypeView {
+    pub number: u32,
+    pub shape: Shape,
+}
+
+fn is_value(shape: Shape) -> bool
+    ensures { result ≡ is_value shape }
+{
+    match shape {
+        Shape::Void => false,
+        Shape::Int(_) => true,
+        Shape::Function => false,
+    }
+}
+
+fn is_number(shape: Shape) -> bool
+    ensures { result ≡ is_number shape }
+{
+    match shape {
+        Shape::Void => false,
+        Shape::Int(_) => true,
+        Shape::Function => false,
+    }
+}
+
+fn is_bit(shape: Shape) -> bool
+    ensures { result ≡ is_bit shape }
+{
+    match shape {
+        Shape::Void => false,
+        Shape::Int(width) => width == 1,
+        Shape::Function => false,
+    }
+}
+
+/// Whether both are integers, and the first is wider.
+fn is_wider(a: Shape, b: Shape) -> bool
+    ensures { result ≡ is_wider a b }
+{
+    match (a, b) {
+        (Shape::Int(v), Shape::Int(w)) => w < v,
+        _ => false,
+    }
+}
+
+fn is_same(a: Option<TypeView>, b: TypeView) -> bool
+    ensures { result ≡ is_same view_shape view_same a b }
+{
+    match a {
+        Some(a) => a.number == b.number,
+        None => false,
+    }
+}
+
+/// Whether an operand fits, beside the type that is written and the first two operands' types.
+fn fit(
+    by: Fit,
+    written: Option<TypeView>,
+    a: Option<TypeView>,
+    b: Option<TypeView>,
+    own: Option<TypeView>,
+) -> bool
+    ensures { result ≡ fit view_shape view_same by written a b own }
+{
+    let Some(own) = own else {
+        return false;
+    };
+    match by {
+        Fit::Any => is_value(own.shape),
+        Fit::Number => is_number(own.shape),
+        Fit::Bit => is_bit(own.shape),
+        Fit::First => is_same(a, own),
+        Fit::Second => is_same(b, own),
+        Fit::Wider => match written {
+            Some(written) => is_wider(own.shape, written.shape),
+            None => false,
+        },
+        Fit::Narrower => match written {
+            Some(written) => is_wider(written.shape, own.shape),
+            None => false,
+        },
+    }
+}
+
+/// Whether so many operands fit, of which the first three have these types. What a return takes is for its function to
+/// say.
+fn takes_fit(
+    takes: Takes,
+    count: usize,
+    written: Option<TypeView>,
+    a: Option<TypeView>,
+    b: Option<TypeView>,
+    c: Option<TypeView>,
+) -> bool
+    ensures { result ≡ takes_fit view_shape view_same takes count written a b c }
+{
+    match takes {
+        Takes::Nothing => count == 0,
+        Takes::One(f) => count == 1 && fit(f, written, a, b, a),
+        Takes::Two(f, g) => { count == 2 && fit(f, written, a, b, a) && fit(g, written, a, b, b) }
+        Takes::Three(f, g, h) => {
+            count == 3
+                && fit(f, written, a, b, a)
+                && fit(g, written, a, b, b)
+                && fit(h, written, a, b, c)
+        }
+        Takes::Return => true,
+    }
+}
+
+/// Whether a type is written just where one is asked, and is then one of a value.
+fn is_written(gives: Gives, written: Option<TypeView>) -> bool
+    ensures { result ≡ is_written view_shape view_same gives written }
+{
+    match (gives, written) {
+        (Gives::Written, Some(written)) => is_value(written.shape),
+        (Gives::Written, None) => false,
+        (_, written) => written.is_none(),
+    }
+}
+
+/// Whether a row may have so many operands, of which the first three have these types, and a written type or none.
+pub fn fits(
+    rule: Rule,
+    count: usize,
+    written: Option<TypeView>,
+    a: Option<TypeView>,
+    b: Option<TypeView>,
+    c: Option<TypeView>,
+) -> bool
+    ensures { result ≡ fits view_shape view_same rule count written a b c }
+{
+    is_written(rule.gives, written) && takes_fit(rule.takes, count, written, a, b, c)
+}

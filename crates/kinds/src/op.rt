@@ -1,0 +1,113 @@
+//! The table: an instruction with its immediates, the rule of each and its word in the dialect.
+
+ghost use Rattle.std.specs.Prelude.{◌≡◌};
+ghost use Rattle.kinds.specs.Table.{immediates_of, rule_of, op_word};
+
+use crate::rules::{Family, Fit, Gives, Leads, Rule, Takes};
+
+/// Which overflows make the result poison (Language Reference, "add" Instruction).
+#[derive(Clone, Copy, PartialEq, Eq, Hash, Debug, Drop)]
+pub struct OverflowFlags {
+    /// No unsigned wrap.
+    pub nuw: bool,
+    /// No signed wrap.
+    pub nsw: bool,
+}
+
+/// How `icmp` compares two integers (Language Reference, "icmp" Instruction).
+#[derive(Clone, Copy, PartialEq, Eq, Hash, Debug, Drop)]
+pub enum LLVMIntPredicate {
+    LLVMIntEQ,
+    LLVMIntNE,
+    LLVMIntUGT,
+    LLVMIntUGE,
+    LLVMIntULT,
+    LLVMIntULE,
+    LLVMIntSGT,
+    LLVMIntSGE,
+    LLVMIntSLT,
+    LLVMIntSLE,
+}
+
+/// An instruction of either side that is no phi, without what it names: a variant for each row of the table, with its
+/// immediates.
+#[derive(Clone, Copy, PartialEq, Eq, Hash, Debug, Drop)]
+pub enum Op {
+    /// `add` (Language Reference, "add" Instruction).
+    Add(OverflowFlags),
+    /// `icmp` (Language Reference, "icmp" Instruction).
+    ICmp(LLVMIntPredicate),
+    /// `br` to a block (Language Reference, "br" Instruction).
+    Br,
+    /// `br` on a condition: to the first block where it is true, else to the second.
+    CondBr,
+    /// `ret` (Language Reference, "ret" Instruction).
+    Ret,
+    /// `unreachable` (Language Reference, "unreachable" Instruction).
+    Unreachable,
+}
+
+/// What a row holds besides what it names: a variant for each sort of it.
+#[derive(Clone, Copy, PartialEq, Eq, Debug, Drop)]
+pub enum Immediates {
+    Nothing,
+    Overflow(OverflowFlags),
+    Predicate(LLVMIntPredicate),
+}
+
+/// A line of the table.
+const fn rule(takes: Takes, gives: Gives, leads: Leads, family: Family) -> Rule
+    ensures { result ≡ record { takes = takes; gives = gives; leads = leads; family = family } }
+{
+    Rule {
+        takes,
+        gives,
+        leads,
+        family,
+    }
+}
+
+impl Op {
+    /// What it takes, what it gives, where it leads and what it does in a run.
+    #[rattlefmt::skip]
+    pub fn rule(self) -> Rule
+        ensures { result ≡ rule_of self }
+    {
+        match self {
+            Op::Add(_) => rule(Takes::Two(Fit::Number, Fit::First), Gives::First, Leads::On, Family::Builds),
+            Op::ICmp(_) => rule(Takes::Two(Fit::Number, Fit::First), Gives::Bit, Leads::On, Family::Shows),
+            Op::Br => rule(Takes::Nothing, Gives::Nothing, Leads::To(1), Family::Shows),
+            Op::CondBr => rule(Takes::One(Fit::Bit), Gives::Nothing, Leads::To(2), Family::Shows),
+            Op::Ret => rule(Takes::Return, Gives::Nothing, Leads::To(0), Family::Shows),
+            Op::Unreachable => rule(Takes::Nothing, Gives::Nothing, Leads::To(0), Family::Shows),
+        }
+    }
+
+    /// Its immediates.
+    pub fn immediates(self) -> Immediates
+        ensures { result ≡ immediates_of self }
+    {
+        match self {
+            Op::Add(flags) => Immediates::Overflow(flags),
+            Op::ICmp(predicate) => Immediates::Predicate(predicate),
+            Op::Br => Immediates::Nothing,
+            Op::CondBr => Immediates::Nothing,
+            Op::Ret => Immediates::Nothing,
+            Op::Unreachable => Immediates::Nothing,
+        }
+    }
+
+    /// The word of its operation.
+    pub fn word(self) -> &'static [u8]
+        ensures { result.now ≡ op_word self }
+    {
+        match self {
+            Op::Add(_) => b"llvm.add",
+            Op::ICmp(_) => b"llvm.icmp",
+            Op::Br => b"llvm.br",
+            Op::CondBr => b"llvm.cond_br",
+            Op::Ret => b"llvm.return",
+            Op::Unreachable => b"llvm.unreachable",
+        }
+    }
+}

@@ -1,0 +1,113 @@
+//! The words of the table: what a row takes, what it gives, where it leads and what it does in a run.
+
+ghost use Rattle.std.specs.Prelude.{◌≡◌, ◌↔◌, IsTrue};
+ghost use Rattle.kinds.specs.Rules.{ends, target_count, operand_count};
+
+/// What the type of an operand has to be.
+#[derive(Clone, Copy, PartialEq, Eq, Debug, Drop)]
+pub enum Fit {
+    /// A type of a value.
+    Any,
+    /// An integer.
+    Number,
+    /// `i1`.
+    Bit,
+    /// The type of the first operand.
+    First,
+    /// The type of the second operand.
+    Second,
+    /// An integer wider than the type that is written.
+    Wider,
+    /// An integer narrower than the type that is written.
+    Narrower,
+}
+
+/// The operands of a row, in order.
+#[derive(Clone, Copy, PartialEq, Eq, Debug, Drop)]
+pub enum Takes {
+    Nothing,
+    One(Fit),
+    Two(Fit, Fit),
+    Three(Fit, Fit, Fit),
+    /// What the function returns: nothing where it returns void, else one value of that type.
+    Return,
+}
+
+/// The type of the result.
+#[derive(Clone, Copy, PartialEq, Eq, Debug, Drop)]
+pub enum Gives {
+    /// There is no result.
+    Nothing,
+    /// That of the first operand.
+    First,
+    /// That of the second operand.
+    Second,
+    /// The type that is written beside the operands, as that of a cast.
+    Written,
+    /// `i1`.
+    Bit,
+}
+
+/// How many blocks a row leads to.
+#[derive(Clone, Copy, PartialEq, Eq, Debug, Drop)]
+pub enum Leads {
+    /// To none: it ends no block.
+    On,
+    /// To so many: it ends its block.
+    To(u32),
+}
+
+/// What a row does in a run.
+#[derive(Clone, Copy, PartialEq, Eq, Debug, Drop)]
+pub enum Family {
+    /// It shows an event.
+    Shows,
+    /// It is silent, and its result stands for the expression of its operands.
+    Builds,
+}
+
+/// A line of the table.
+#[derive(Clone, Copy, PartialEq, Eq, Debug, Drop)]
+pub struct Rule {
+    pub takes: Takes,
+    pub gives: Gives,
+    pub leads: Leads,
+    pub family: Family,
+}
+
+impl Leads {
+    /// Whether a row that leads so ends its block.
+    pub fn ends(self) -> bool
+        ensures { result ≡ ends self }
+    {
+        match self {
+            Leads::On => false,
+            Leads::To(_) => true,
+        }
+    }
+
+    /// How many blocks are named.
+    pub fn target_count(self) -> usize
+        ensures { result ≡ target_count self }
+    {
+        match self {
+            Leads::On => 0,
+            Leads::To(count) => count as usize,
+        }
+    }
+}
+
+impl Takes {
+    /// How many operands are taken, in a function that returns void or does not.
+    pub fn operand_count(self, returns_void: bool) -> usize
+        ensures { result ≡ operand_count self returns_void }
+    {
+        match self {
+            Takes::Nothing => 0,
+            Takes::One(_) => 1,
+            Takes::Two(..) => 2,
+            Takes::Three(..) => 3,
+            Takes::Return => { if returns_void { 0 } else { 1 } }
+        }
+    }
+}
