@@ -1,0 +1,137 @@
+#!/usr/bin/env python3
+"""Instructions and peak memory of `round_ll round`, for each byte of seven kinds of text.
+
+Instructions are counted by callgrind, so a busy machine changes nothing; memory is the most that a run without
+callgrind held. Each kind is a text of about a mebibyte, or of so many bytes as the first word says.
+usage: bench/counts.py [BYTES [PROGRAM]]
+"""
+import os
+import pathlib
+import re
+import resource
+import subprocess
+import sys
+import tempfile
+
+ROOT = pathlib.Path(__file__).resolve().parent.parent
+PROGRAM = ROOT / "crates/program/out/program"
+
+
+def small(number):
+    """A function with a loop."""
+    return (
+        f"define i32 @f{number}(i32 %n, i32 %step) {{\nentry:\n  br label %loop\n\nloop:\n"
+        f"  %i = phi i32 [ 0, %entry ], [ %next, %loop ]\n  %sum = phi i32 [ {number % 1000}, %entry ], [ %more, %loop ]\n"
+        "  %more = add nsw i32 %sum, %i\n  %next = add i32 %i, %step\n  %go = icmp ult i32 %next, %n\n"
+        "  br i1 %go, label %loop, label %exit\n\nexit:\n  ret i32 %sum\n}\n\n"
+    )
+
+
+def line(number):
+    """A function of one line."""
+    return f"define i32 @f{number}() {{\n  ret i32 {number % 100000}\n}}\n"
+
+
+def repeated(part, size):
+    """So many parts, each by its number, that the text has that many bytes."""
+    text, length, number = [], 0, 0
+    while length < size:
+        text.append(part(number))
+        length += len(text[-1])
+        number += 1
+    return "".join(text)
+
+
+def inside(head, part, tail, size):
+    """One function, of so many parts that the text has that many bytes."""
+    body = repeated(part, size - len(head))
+    count = body.count("\n")
+    return head + body + tail(count) + "}\n"
+
+
+def adds(size):
+    """One function of adds, each of the one before."""
+    part = lambda k: f"  %x{k + 1} = add nsw i32 %x{k}, %a\n"
+    return inside("define i32 @f(i32 %x0, i32 %a) {\nentry:\n", part, lambda n: f"  ret i32 %x{n}\n", size)
+
+
+def blocks(size):
+    """One function of many blocks, each of which leads to the next or to the exit."""
+    part = lambda k: f"  br i1 %c, label %b{k + 1}, label %exit\n\nb{k + 1}:\n"
+    head = "define void @f(i1 %c) {\nentry:\n"
+    return inside(head, part, lambda n: "  br label %exit\n\nexit:\n  ret void\n", size)
+
+
+def names(size):
+    """One function of adds with names of 200 letters."""
+    name = lambda k: "a" * 190 + f"{k:010}"
+    part = lambda k: f"  %{name(k + 1)} = add i32 %{name(k)}, %b\n"
+    return inside(f"define i32 @f(i32 %{name(0)}, i32 %b) {{\nentry:\n", part, lambda n: f"  ret i32 %{name(n)}\n", size)
+
+
+def constants(size):
+    """One function of adds, with a constant of its own in each."""
+    part = lambda k: f"  %x{k + 1} = add i32 %x{k}, {k + 10}\n"
+    return inside("define i32 @f(i32 %x0) {\nentry:\n", part, lambda n: f"  ret i32 %x{n}\n", size)
+
+
+def phis(size):
+    """One function with a loop of many phis."""
+    part = lambda k: f"  %x{k} = phi i32 [ %a, %entry ], [ %x{k}, %loop ]\n"
+    head = "define i32 @f(i32 %a, i1 %c) {\nentry:\n  br label %loop\n\nloop:\n"
+    return inside(head, part, lambda n: "  br i1 %c, label %loop, label %exit\n\nexit:\n  ret i32 %x0\n", size)
+
+
+KINDS = {
+    "small functions": lambda size: repeated(small, size),
+    "functions of one line": lambda size: repeated(line, size),
+    "one function of adds": adds,
+    "one of many blocks": blocks,
+    "long names": names,
+    "many constants": constants,
+    "many phis": phis,
+}
+
+
+def instructions(program, path, scratch):
+    """How many instructions a run takes."""
+    words = ["valgrind", "--tool=callgrind", f"--callgrind-out-file={scratch}/out", str(program), "round"]
+    with open(path, "rb") as text:
+        ran = subprocess.run(words, stdin=text, stdout=subprocess.DEVNULL, stderr=subprocess.PIPE, text=True)
+    found = re.search(r"Collected : (\d+)", ran.stderr)
+    if ran.returncode or not found:
+        sys.exit(f"counts: status {ran.returncode}: {ran.stderr[-400:]}")
+    return int(found[1])
+
+
+def memory(program, path):
+    """The most bytes that a run holds."""
+    with open(path, "rb") as text:
+        pid = os.fork()
+        if pid == 0:
+            os.dup2(text.fileno(), 0)
+            os.dup2(os.open(os.devnull, os.O_WRONLY), 1)
+            os.execv(str(program), [str(program), "round"])
+        _, status, usage = os.wait4(pid, 0)
+    if status:
+        sys.exit(f"counts: a run ended with {status}")
+    return usage.ru_maxrss * 1024
+
+
+def main():
+    size = int(sys.argv[1]) if len(sys.argv) > 1 else 1 << 20
+    program = pathlib.Path(sys.argv[2]) if len(sys.argv) > 2 else PROGRAM
+    print(f"{'':24}{'bytes':>10}{'instructions a byte':>22}{'memory a byte':>16}")
+    with tempfile.TemporaryDirectory() as scratch:
+        path = f"{scratch}/text.ll"
+        for name, made in KINDS.items():
+            text = made(size)
+            pathlib.Path(path).write_text(text)
+            count = instructions(program, path, scratch)
+            held = memory(program, path)
+            print(f"{name:24}{len(text):10}{count / len(text):22.1f}{held / len(text):16.1f}", flush=True)
+
+
+if __name__ == "__main__":
+    resource.setrlimit(resource.RLIMIT_CORE, (0, 0))
+    main()
