@@ -15,12 +15,13 @@ use Rattle.from_llvm_ir.specs.Types.{GrowsTypes, args_from}
 -- ---- types of the context that grow
 
 pub grows_none : (c : ContextData) → GrowsTypes c c
-grows_none c = record { rest = refl; more = record { longer = omega arith; kept = λ t small. refl } }
+grows_none c = record { rest = refl; more = record { still = λ i k at. at; longer = omega arith; kept = λ t small. refl } }
 
 pub grows_then : (a b c : ContextData) → GrowsTypes a b → GrowsTypes b c → GrowsTypes a c
 grows_then a b c x y = record {
   rest = y.rest ∙ ap (λ (d : ContextData). record d { types = c.types }) x.rest;
   more = record {
+    still = λ i k at. y.more.still i k (x.more.still i k at);
     longer = omega (arith, x.more.longer, y.more.longer);
     kept = λ t small. y.more.kept t (omega (arith, small, x.more.longer)) ∙ x.more.kept t small;
   };

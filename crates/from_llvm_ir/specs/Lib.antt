@@ -1,6 +1,7 @@
 -- The definitions that clauses cite.
 pub mod Match
 pub mod Imported
+pub mod Staying
 pub mod Types
 pub mod Keeping
 pub mod Order

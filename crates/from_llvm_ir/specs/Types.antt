@@ -6,6 +6,7 @@ use Rattle.kinds.specs.Types.{TypeTree, VoidType, IntType, FunctionType}
 use Rattle.dialect_types.specs.Trees.{type_at, type_trees}
 use Rattle.dialect_core.specs.ContextData.{ContextData}
 use Rattle.dialect_core.specs.Form.{types_list}
+use Rattle.from_llvm_ir.specs.Staying.{AllStay}
 
 -- the type of a result, none where it is void
 abbrev pub result_from : TypeTree → Option TypeTree
@@ -21,6 +22,7 @@ args_from (FunctionType result params variadic) = types_list params
 
 -- more types, where earlier numbers keep their meaning
 pub record MoreTypes (old new : List TypeKind) : Type 0 where
+  pub still : AllStay old new
   pub longer : length old ≤ length new
   pub kept : (t : TypeHandle) → t.0 < length old → type_at (type_trees new) t ≡ type_at (type_trees old) t
 

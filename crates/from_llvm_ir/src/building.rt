@@ -36,7 +36,7 @@ pub fn add_func<L: Ledger>(
     ensures number { IfOk result (λ f. f.0.0 ≡ length ctx.old.ops) }
     ensures blocks { OnOk result (ctx.new.blocks ≡ ctx.old.blocks) }
     ensures types { ctx.new.types ≡ ctx.old.types }
-    ensures kept { (m : ℕ) → (d : DialectModule) → IsBuilding ctx.old m body d → (n b : ℕ) → n ≤ m → Keeps n b ctx.old ctx.new }
+    ensures kept { (m : ℕ) → (d : DialectModule) → IsBuilding ctx.old m body d → (n b : ℕ) → n ≤ m → b ≤ body.0 → Keeps n b ctx.old ctx.new }
 {
     ctx.keeps_regions();
     let func = ctx.create_func(name, ty, LinkageAttr::ExternalLinkage)?;
@@ -45,7 +45,7 @@ pub fn add_func<L: Ledger>(
 }
 
 /// A new block without operations, as the last of an operation's region: `add_block` of the context, with a clause that
-/// says that it leaves the modules that the context held.
+/// says that it leaves all that the context held.
 pub fn add_bare_block(
     ctx: &mut Context,
     holder: OpRef,

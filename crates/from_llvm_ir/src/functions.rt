@@ -191,7 +191,7 @@ fn declare<L: Ledger>(
     ensures func { IfOk result (λ n. kind_at ctx.new.ops n.0 ≡ Some kinds.Func) }
     ensures number { IfOk result (λ n. n.0.0 ≡ length ctx.old.ops) }
     ensures blocks { OnOk result (ctx.new.blocks ≡ ctx.old.blocks) }
-    ensures kept { (m : ℕ) → (d : DialectModule) → IsBuilding ctx.old m body d → (n b : ℕ) → n ≤ m → Keeps n b ctx.old ctx.new }
+    ensures kept { (m : ℕ) → (d : DialectModule) → IsBuilding ctx.old m body d → (n b : ℕ) → n ≤ m → b ≤ body.0 → Keeps n b ctx.old ctx.new }
 {
     let ty = import_function_type(alloc, ctx, source, f)?;
     let name = name.clone(alloc)?;

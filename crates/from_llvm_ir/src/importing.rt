@@ -132,7 +132,7 @@ fn import_counted<L: Ledger>(
     ensures number { IfOk result (λ i. i.«module».0.0 ≡ length ctx.old.ops) }
     ensures structs { IfOk result (λ i. i.structs.items ≡ []) }
     ensures cause { IfErr result (λ e. IsCause (data_of source.now) e) }
-    ensures others { IsTyped ctx.old → AreOthersKept ctx.old ctx.new }
+    ensures others { AreOthersKept ctx.old ctx.new }
     ensures typed { IsTyped ctx.old → IsTyped ctx.new }
 {
     let mut steps = Steps::<L>::new(blank);
@@ -151,8 +151,9 @@ fn import_counted<L: Ledger>(
 }
 
 /// A new module of a context, whose functions stand for those of a module of the form, in order, and the match of blocks.
-/// The context may hold other modules; where its numbers of types are there, each of them stays what it was, and the
-/// numbers stay there, whatever is answered. After a refusal the context may hold more operations and types.
+/// The context may be any. All that it held stays, whatever is answered: its types, its operations and where they stand,
+/// its blocks and what they list. Where its numbers of types are there, they stay there, and each of its modules has the
+/// data that it had. After a refusal the context may hold more operations, blocks and types.
 /// Refuses a function that uses the result of an instruction where it is not defined: `UndefinedValue`.
 pub fn convert_module(
     alloc: Global,
@@ -166,7 +167,7 @@ pub fn convert_module(
     ensures number { IfOk result (λ i. i.«module».0.0 ≡ length ctx.old.ops) }
     ensures structs { IfOk result (λ i. i.structs.items ≡ []) }
     ensures cause { IfErr result (λ e. IsCause (data_of «module».now) e) }
-    ensures others { IsTyped ctx.old → AreOthersKept ctx.old ctx.new }
+    ensures others { AreOthersKept ctx.old ctx.new }
     ensures typed { IsTyped ctx.old → IsTyped ctx.new }
 {
     let mut names = Legaliser::new(alloc);

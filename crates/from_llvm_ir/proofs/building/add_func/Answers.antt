@@ -19,14 +19,14 @@ returns-clause-func g c =
     is_func c.args.ctx.now c.create_func.new.self c.insert_at_back.new.self c.args.body c.in_ok-func.func.0 c.args.name c.args.ty c.in_ok-func.ensures.ok c.in_ok-func.ensures.number c.insert_at_back.ensures.appended
 
 pub returns-in_err-func-clause-kept : goal.returns-in_err-func-clause-kept
-returns-in_err-func-clause-kept g c = λ m d h n b before. keeps_same n b c.args.ctx.now c.create_func.new.self c.in_err-func.ensures.err
+returns-in_err-func-clause-kept g c = λ m d h n b before behind. keeps_same n b c.args.ctx.now c.create_func.new.self c.in_err-func.ensures.err
 
 pub returns-clause-kept : goal.returns-clause-kept
-returns-clause-kept g c = λ m d h n b before.
+returns-clause-kept g c = λ m d h n b before behind.
     let c0 = c.args.ctx.now in
     let c1 = c.create_func.new.self in
     let f = func_here c0 c1 c.in_ok-func.func.0 c.args.name c.args.ty c.in_ok-func.ensures.ok c.in_ok-func.ensures.number in
-    keeps_func n b c0 c1 c.insert_at_back.new.self m c.args.body d _ c.in_ok-func.func.0 h c.keeps_regions.ensures before c.in_ok-func.ensures.ok c.in_ok-func.ensures.data c.insert_at_back.ensures.appended
+    keeps_func n b c0 c1 c.insert_at_back.new.self m c.args.body d _ c.in_ok-func.func.0 h c.keeps_regions.ensures before behind c.in_ok-func.ensures.ok c.in_ok-func.ensures.number c.in_ok-func.ensures.data c.insert_at_back.ensures.appended
     (c.insert_at_back.ensures.data_other _ f) (λ typed. c.insert_at_back.ensures.typed (c.in_ok-func.ensures.typed typed))
 
 pub insert_at_back-requires-clause-free : goal.insert_at_back-requires-clause-free

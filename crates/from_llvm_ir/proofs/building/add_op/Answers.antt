@@ -5,7 +5,7 @@ use Rattle.from_llvm_ir.specs.Building.{op_data}
 use Rattle.from_llvm_ir.proofs.BuildLaws.{length-push}
 use Rattle.from_llvm_ir.proofs.OpLaws.{kind_of_new, plain_here, stands_plain}
 use Rattle.from_llvm_ir.proofs.UnderLaws.{added_open, open_within}
-use Rattle.from_llvm_ir.proofs.KeepLaws.{keeps_then, keeps_op}
+use Rattle.from_llvm_ir.proofs.KeepLaws.{keeps_op}
 use Rattle.from_llvm_ir.proofs.building.add_op.Goals as goal
 
 pub insert_at_back-requires-clause-block : goal.insert_at_back-requires-clause-block
@@ -31,5 +31,5 @@ returns-clause-kept g c = λ n b behind.
     let c1 = c.create_named.new.ctx in
     let o = c.in_ok-op.op in
     let here = plain_here c.args.ctx.now c1 (op_data c.args.kind c.args.name c.args.operands.now c.args.successors.now c.args.result_ty) o c.requires.plain c.in_ok-op.ensures.ok c.in_ok-op.ensures.number in
-    keeps_then n b c.args.ctx.now c1 c.insert_at_back.new.self (c.create_named.ensures.kept n b)
-    (keeps_op n b c1 c.insert_at_back.new.self o c.args.block here.0 c.insert_at_back.ensures.appended (c.insert_at_back.ensures.data_op here.0 here.1) c.insert_at_back.ensures.typed behind)
+    keeps_op n b c.args.ctx.now c1 c.insert_at_back.new.self o c.args.block here.0 (c.create_named.ensures.kept n b) c.in_ok-op.ensures.number
+    c.insert_at_back.ensures.appended (c.insert_at_back.ensures.data_op here.0 here.1) c.insert_at_back.ensures.typed behind

@@ -38,13 +38,13 @@ pub returns-clause-blocks : goal.returns-clause-blocks
 returns-clause-blocks g c = on_ok_weaker c.add_func.result (λ same. same ∙ ap (λ (y : ContextData). y.blocks) c.import_function_type.ensures.grown.rest) c.add_func.ensures.blocks
 
 pub returns-in_err-ty-clause-kept : goal.returns-in_err-ty-clause-kept
-returns-in_err-ty-clause-kept g c = λ m d h n b before. keeps_types n b c.args.ctx.now c.import_function_type.new.ctx c.import_function_type.ensures.grown
+returns-in_err-ty-clause-kept g c = λ m d h n b before behind. keeps_types n b c.args.ctx.now c.import_function_type.new.ctx c.import_function_type.ensures.grown
 
 pub returns-in_err-name-clause-kept : goal.returns-in_err-name-clause-kept
-returns-in_err-name-clause-kept g c = λ m d h n b before. keeps_types n b c.args.ctx.now c.import_function_type.new.ctx c.import_function_type.ensures.grown
+returns-in_err-name-clause-kept g c = λ m d h n b before behind. keeps_types n b c.args.ctx.now c.import_function_type.new.ctx c.import_function_type.ensures.grown
 
 pub returns-clause-kept : goal.returns-clause-kept
-returns-clause-kept g c = λ m d h n b before. keeps_then n b c.args.ctx.now c.import_function_type.new.ctx c.add_func.new.ctx (keeps_types n b c.args.ctx.now c.import_function_type.new.ctx c.import_function_type.ensures.grown) (c.add_func.ensures.kept m d (typed_building c.args.ctx.now c.import_function_type.new.ctx m c.args.body d h c.import_function_type.ensures.grown) n b before)
+returns-clause-kept g c = λ m d h n b before behind. keeps_then n b c.args.ctx.now c.import_function_type.new.ctx c.add_func.new.ctx (keeps_types n b c.args.ctx.now c.import_function_type.new.ctx c.import_function_type.ensures.grown) (c.add_func.ensures.kept m d (typed_building c.args.ctx.now c.import_function_type.new.ctx m c.args.body d h c.import_function_type.ensures.grown) n b before behind)
 
 pub import_function_type-requires : goal.import_function_type-requires
 import_function_type-requires g c = c.requires.source

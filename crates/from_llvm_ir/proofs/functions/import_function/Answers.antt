@@ -71,18 +71,18 @@ returns-clause-ok g c = λ h source n d building.
     r.depth_first (c.in_ok-order.ensures.dominated h source)
 
 pub returns-in_err-func-clause-kept : goal.returns-in_err-func-clause-kept
-returns-in_err-func-clause-kept g c = λ m d h n b before behind. c.declare.ensures.kept m d h n b before
+returns-in_err-func-clause-kept g c = λ m d h n b before behind. c.declare.ensures.kept m d h n b before behind
 
 pub returns-in_err-import_body-clause-kept : goal.returns-in_err-import_body-clause-kept
 returns-in_err-import_body-clause-kept g c = λ m d h n b before behind.
     let there : length c.declare.new.ctx.blocks ≡ length c.args.ctx.now.blocks = ap (λ (bs : List BlockData). length bs) c.in_ok-func.ensures.blocks in
-    keeps_then n b c.args.ctx.now c.declare.new.ctx c.import_body.new.ctx (c.declare.ensures.kept m d h n b before)
+    keeps_then n b c.args.ctx.now c.declare.new.ctx c.import_body.new.ctx (c.declare.ensures.kept m d h n b before behind)
     (c.import_body.ensures.kept n b (omega (arith, before, h.there, c.in_ok-func.ensures.number)) (omega (arith, behind, h.held.block, there)))
 
 pub returns-clause-kept : goal.returns-clause-kept
 returns-clause-kept g c = λ m d h n b before behind.
     let there : length c.declare.new.ctx.blocks ≡ length c.args.ctx.now.blocks = ap (λ (bs : List BlockData). length bs) c.in_ok-func.ensures.blocks in
-    keeps_then n b c.args.ctx.now c.declare.new.ctx c.import_body.new.ctx (c.declare.ensures.kept m d h n b before)
+    keeps_then n b c.args.ctx.now c.declare.new.ctx c.import_body.new.ctx (c.declare.ensures.kept m d h n b before behind)
     (c.import_body.ensures.kept n b (omega (arith, before, h.there, c.in_ok-func.ensures.number)) (omega (arith, behind, h.held.block, there)))
 
 pub checked_order-requires : goal.checked_order-requires

@@ -5,7 +5,7 @@ pub returns-in-Ok-clause-there : goal.returns-in-Ok-clause-there
 returns-in-Ok-clause-there c = c.in-Ok.ensures.imported.building.there
 
 pub returns-in-Ok-clause-more : goal.returns-in-Ok-clause-more
-returns-in-Ok-clause-more c = (c.convert_module.ensures.others c.requires.typed).more
+returns-in-Ok-clause-more c = c.convert_module.ensures.others.still.longer
 
 pub returns-in-Err-clause-more : goal.returns-in-Err-clause-more
-returns-in-Err-clause-more c = (c.convert_module.ensures.others c.requires.typed).more
+returns-in-Err-clause-more c = c.convert_module.ensures.others.still.longer
