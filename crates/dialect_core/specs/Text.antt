@@ -132,6 +132,7 @@ abbrev pub row_immediates_text : Immediates → List ℕ
 row_immediates_text M.Nothing = []
 row_immediates_text (M.Overflow flags) = keys_text (flag_key flags.nsw (codes "nsw") ++ flag_key flags.nuw (codes "nuw"))
 row_immediates_text (M.Predicate predicate) = codes " {predicate = " ++ predicate_text predicate ++ codes "}"
+row_immediates_text (M.NonNegative nneg) = keys_text (flag_key nneg (codes "nneg"))
 
 -- its immediates, where it has any
 abbrev pub immediates_text : Kind → List ℕ

@@ -260,6 +260,8 @@ fn print_row_immediates(held: Immediates, out: &mut Vec<u8>) -> Result<(), Alloc
         Immediates::Nothing => Ok(()),
         Immediates::Overflow(flags) => print_overflow_flags(flags, out),
         Immediates::Predicate(predicate) => print_predicate(predicate, out),
+        Immediates::NonNegative(true) => out.extend_from_slice(b" {nneg}"),
+        Immediates::NonNegative(false) => Ok(()),
     }
 }
 

@@ -1,3 +1,4 @@
 -- The laws that the answers of all crates share.
 pub mod TypeLaws
 pub mod FittingLaws
+pub mod TableLaws

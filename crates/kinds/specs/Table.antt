@@ -21,7 +21,21 @@ rule takes gives leads family = record { takes = takes; gives = gives; leads = l
 -- the line of the table for an instruction
 abbrev pub rule_of : Op → Rule
 rule_of (O.Add flags) = rule (T.Two F.Number F.First) G.First L.On Builds
+rule_of (O.Sub flags) = rule (T.Two F.Number F.First) G.First L.On Builds
+rule_of (O.Mul flags) = rule (T.Two F.Number F.First) G.First L.On Shows
+rule_of (O.Shl flags) = rule (T.Two F.Number F.First) G.First L.On Shows
+rule_of O.UDiv = rule (T.Two F.Number F.First) G.First L.On Shows
+rule_of O.SDiv = rule (T.Two F.Number F.First) G.First L.On Shows
+rule_of O.URem = rule (T.Two F.Number F.First) G.First L.On Shows
+rule_of O.SRem = rule (T.Two F.Number F.First) G.First L.On Shows
+rule_of O.LShr = rule (T.Two F.Number F.First) G.First L.On Shows
+rule_of O.AShr = rule (T.Two F.Number F.First) G.First L.On Shows
 rule_of (O.ICmp predicate) = rule (T.Two F.Number F.First) G.Bit L.On Shows
+rule_of O.Trunc = rule (T.One F.Wider) G.Written L.On Builds
+rule_of O.SExt = rule (T.One F.Narrower) G.Written L.On Shows
+rule_of (O.ZExt nneg) = rule (T.One F.Narrower) G.Written L.On Shows
+rule_of O.Select = rule (T.Three F.Bit F.Any F.Second) G.Second L.On Shows
+rule_of O.Freeze = rule (T.One F.Any) G.First L.On Shows
 rule_of O.Br = rule T.Nothing G.Nothing (L.To 1) Shows
 rule_of O.CondBr = rule (T.One F.Bit) G.Nothing (L.To 2) Shows
 rule_of O.Ret = rule T.Return G.Nothing (L.To 0) Shows
@@ -30,7 +44,21 @@ rule_of O.Unreachable = rule T.Nothing G.Nothing (L.To 0) Shows
 -- its immediates
 abbrev pub immediates_of : Op → Immediates
 immediates_of (O.Add flags) = M.Overflow flags
+immediates_of (O.Sub flags) = M.Overflow flags
+immediates_of (O.Mul flags) = M.Overflow flags
+immediates_of (O.Shl flags) = M.Overflow flags
+immediates_of O.UDiv = M.Nothing
+immediates_of O.SDiv = M.Nothing
+immediates_of O.URem = M.Nothing
+immediates_of O.SRem = M.Nothing
+immediates_of O.LShr = M.Nothing
+immediates_of O.AShr = M.Nothing
 immediates_of (O.ICmp predicate) = M.Predicate predicate
+immediates_of O.Trunc = M.Nothing
+immediates_of O.SExt = M.Nothing
+immediates_of (O.ZExt nneg) = M.NonNegative nneg
+immediates_of O.Select = M.Nothing
+immediates_of O.Freeze = M.Nothing
 immediates_of O.Br = M.Nothing
 immediates_of O.CondBr = M.Nothing
 immediates_of O.Ret = M.Nothing
@@ -39,7 +67,21 @@ immediates_of O.Unreachable = M.Nothing
 -- the word of its operation in the dialect
 abbrev pub op_word : Op → List ℕ
 op_word (O.Add flags) = codes "llvm.add"
+op_word (O.Sub flags) = codes "llvm.sub"
+op_word (O.Mul flags) = codes "llvm.mul"
+op_word (O.Shl flags) = codes "llvm.shl"
+op_word O.UDiv = codes "llvm.udiv"
+op_word O.SDiv = codes "llvm.sdiv"
+op_word O.URem = codes "llvm.urem"
+op_word O.SRem = codes "llvm.srem"
+op_word O.LShr = codes "llvm.lshr"
+op_word O.AShr = codes "llvm.ashr"
 op_word (O.ICmp predicate) = codes "llvm.icmp"
+op_word O.Trunc = codes "llvm.trunc"
+op_word O.SExt = codes "llvm.sext"
+op_word (O.ZExt nneg) = codes "llvm.zext"
+op_word O.Select = codes "llvm.select"
+op_word O.Freeze = codes "llvm.freeze"
 op_word O.Br = codes "llvm.br"
 op_word O.CondBr = codes "llvm.cond_br"
 op_word O.Ret = codes "llvm.return"

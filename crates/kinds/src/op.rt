@@ -35,8 +35,36 @@ pub enum LLVMIntPredicate {
 pub enum Op {
     /// `add` (Language Reference, "add" Instruction).
     Add(OverflowFlags),
+    /// `sub` (Language Reference, "sub" Instruction).
+    Sub(OverflowFlags),
+    /// `mul` (Language Reference, "mul" Instruction).
+    Mul(OverflowFlags),
+    /// `shl` (Language Reference, "shl" Instruction).
+    Shl(OverflowFlags),
+    /// `udiv` (Language Reference, "udiv" Instruction).
+    UDiv,
+    /// `sdiv` (Language Reference, "sdiv" Instruction).
+    SDiv,
+    /// `urem` (Language Reference, "urem" Instruction).
+    URem,
+    /// `srem` (Language Reference, "srem" Instruction).
+    SRem,
+    /// `lshr` (Language Reference, "lshr" Instruction).
+    LShr,
+    /// `ashr` (Language Reference, "ashr" Instruction).
+    AShr,
     /// `icmp` (Language Reference, "icmp" Instruction).
     ICmp(LLVMIntPredicate),
+    /// `trunc` (Language Reference, "trunc .. to" Instruction).
+    Trunc,
+    /// `sext` (Language Reference, "sext .. to" Instruction).
+    SExt,
+    /// `zext` (Language Reference, "zext .. to" Instruction); true is the flag `nneg`.
+    ZExt(bool),
+    /// `select` (Language Reference, "select" Instruction).
+    Select,
+    /// `freeze` (Language Reference, "freeze" Instruction).
+    Freeze,
     /// `br` to a block (Language Reference, "br" Instruction).
     Br,
     /// `br` on a condition: to the first block where it is true, else to the second.
@@ -53,6 +81,8 @@ pub enum Immediates {
     Nothing,
     Overflow(OverflowFlags),
     Predicate(LLVMIntPredicate),
+    /// Whether the operand is known not to be negative.
+    NonNegative(bool),
 }
 
 /// A line of the table.
@@ -75,7 +105,21 @@ impl Op {
     {
         match self {
             Op::Add(_) => rule(Takes::Two(Fit::Number, Fit::First), Gives::First, Leads::On, Family::Builds),
+            Op::Sub(_) => rule(Takes::Two(Fit::Number, Fit::First), Gives::First, Leads::On, Family::Builds),
+            Op::Mul(_) => rule(Takes::Two(Fit::Number, Fit::First), Gives::First, Leads::On, Family::Shows),
+            Op::Shl(_) => rule(Takes::Two(Fit::Number, Fit::First), Gives::First, Leads::On, Family::Shows),
+            Op::UDiv => rule(Takes::Two(Fit::Number, Fit::First), Gives::First, Leads::On, Family::Shows),
+            Op::SDiv => rule(Takes::Two(Fit::Number, Fit::First), Gives::First, Leads::On, Family::Shows),
+            Op::URem => rule(Takes::Two(Fit::Number, Fit::First), Gives::First, Leads::On, Family::Shows),
+            Op::SRem => rule(Takes::Two(Fit::Number, Fit::First), Gives::First, Leads::On, Family::Shows),
+            Op::LShr => rule(Takes::Two(Fit::Number, Fit::First), Gives::First, Leads::On, Family::Shows),
+            Op::AShr => rule(Takes::Two(Fit::Number, Fit::First), Gives::First, Leads::On, Family::Shows),
             Op::ICmp(_) => rule(Takes::Two(Fit::Number, Fit::First), Gives::Bit, Leads::On, Family::Shows),
+            Op::Trunc => rule(Takes::One(Fit::Wider), Gives::Written, Leads::On, Family::Builds),
+            Op::SExt => rule(Takes::One(Fit::Narrower), Gives::Written, Leads::On, Family::Shows),
+            Op::ZExt(_) => rule(Takes::One(Fit::Narrower), Gives::Written, Leads::On, Family::Shows),
+            Op::Select => rule(Takes::Three(Fit::Bit, Fit::Any, Fit::Second), Gives::Second, Leads::On, Family::Shows),
+            Op::Freeze => rule(Takes::One(Fit::Any), Gives::First, Leads::On, Family::Shows),
             Op::Br => rule(Takes::Nothing, Gives::Nothing, Leads::To(1), Family::Shows),
             Op::CondBr => rule(Takes::One(Fit::Bit), Gives::Nothing, Leads::To(2), Family::Shows),
             Op::Ret => rule(Takes::Return, Gives::Nothing, Leads::To(0), Family::Shows),
@@ -89,7 +133,21 @@ impl Op {
     {
         match self {
             Op::Add(flags) => Immediates::Overflow(flags),
+            Op::Sub(flags) => Immediates::Overflow(flags),
+            Op::Mul(flags) => Immediates::Overflow(flags),
+            Op::Shl(flags) => Immediates::Overflow(flags),
+            Op::UDiv => Immediates::Nothing,
+            Op::SDiv => Immediates::Nothing,
+            Op::URem => Immediates::Nothing,
+            Op::SRem => Immediates::Nothing,
+            Op::LShr => Immediates::Nothing,
+            Op::AShr => Immediates::Nothing,
             Op::ICmp(predicate) => Immediates::Predicate(predicate),
+            Op::Trunc => Immediates::Nothing,
+            Op::SExt => Immediates::Nothing,
+            Op::ZExt(nneg) => Immediates::NonNegative(nneg),
+            Op::Select => Immediates::Nothing,
+            Op::Freeze => Immediates::Nothing,
             Op::Br => Immediates::Nothing,
             Op::CondBr => Immediates::Nothing,
             Op::Ret => Immediates::Nothing,
@@ -103,7 +161,21 @@ impl Op {
     {
         match self {
             Op::Add(_) => b"llvm.add",
+            Op::Sub(_) => b"llvm.sub",
+            Op::Mul(_) => b"llvm.mul",
+            Op::Shl(_) => b"llvm.shl",
+            Op::UDiv => b"llvm.udiv",
+            Op::SDiv => b"llvm.sdiv",
+            Op::URem => b"llvm.urem",
+            Op::SRem => b"llvm.srem",
+            Op::LShr => b"llvm.lshr",
+            Op::AShr => b"llvm.ashr",
             Op::ICmp(_) => b"llvm.icmp",
+            Op::Trunc => b"llvm.trunc",
+            Op::SExt => b"llvm.sext",
+            Op::ZExt(_) => b"llvm.zext",
+            Op::Select => b"llvm.select",
+            Op::Freeze => b"llvm.freeze",
             Op::Br => b"llvm.br",
             Op::CondBr => b"llvm.cond_br",
             Op::Ret => b"llvm.return",

@@ -103,6 +103,20 @@ alone_word s b bs stop name no_digit no_minus start h = record {
       name_piece b (bs ++ s ∷ rest) name no_digit ∙ rw (names, slice_index-behind (b ∷ bs) s rest, stop.colon, no_minus, start, words, one) refl;
 }
 
+-- a word that is one token before such a byte
+abbrev pub is_word : Text → Bool
+is_word [] = false
+is_word (b ∷ bs) = is_name_byte b && (not (is_digit b) && (not (b == 45) && (is_word_start b && list_all is_word_byte bs)))
+
+pub alone_of : (s : ℕ) (t : Text) → IsStop s → is_word t ≡ true → Alone s t
+alone_of s [] stop h = absurd cc
+alone_of s (b ∷ bs) stop h =
+    let name = and_parts (is_name_byte b) _ h in
+    let digit = and_parts (not (is_digit b)) _ name.1 in
+    let minus = and_parts (not (b == 45)) _ digit.1 in
+    let start = and_parts (is_word_start b) (list_all is_word_byte bs) minus.1 in
+    alone_word s b bs stop name.0 (not-true (is_digit b) digit.0) (not-true (b == 45) minus.0) start.0 start.1
+
 -- i and digits
 pub alone_type : (s : ℕ) (digits : Text) → IsStop s → list_all is_digit digits ≡ true → Alone s (105 ∷ digits)
 unfolding piece_at word_at

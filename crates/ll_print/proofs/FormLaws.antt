@@ -70,7 +70,7 @@ own_targets m f bs there lead = λ i d l.
 
 own_operands : (m : Module) (f : LLVMFunction) (b : ℕ) (type : TypeTree) (i : LLVMInst) → HasValues m i → IsFormInstruction (function_in m f) b type (instruction_of (trees_of m) i) → OwnsOperands m f i
 own_operands m f b type (I.Phi ty entries) values form = own_entries m f b type entries values.1 form.0 form.1
-own_operands m f b type (I.Row r) values form = (own_values m f r.operands values.0 form.operands, own_targets m f r.targets values.1 form.targets)
+own_operands m f b type (I.Row r) values form = (own_values m f r.operands values.0 form.operands, own_targets m f r.targets values.1 form.targets, values.2)
 
 own_block : (m : Module) (f : LLVMFunction) (x : FunctionData) → IsModule m → slice_get m.functions f.0 ≡ Some x → x ≡ get_or m.functions f.0 no_function → IsFormFunction (function_in m f)
     → (j : ℕ) (b : LLVMBasicBlock) → slice_get x.blocks j ≡ Some b → b.0 < length m.blocks → OwnsBlock m f b

@@ -1,17 +1,20 @@
 -- The instructions of a block: their lines are cut into the tokens of trees that say them, and define their results.
-use Rattle.std.proofs.Common.{◌≡◌, ℕ, suc, ◌-◌, Bool, true, false, not, ◌&&◌, List, [], ◌∷◌, ◌++◌, length, length-append, take, slice_get, unwrap_or, Option, Some, append_assoc, refl, ap, sym, ◌∙◌, subst, arith}
+use Rattle.std.proofs.Common.{◌≡◌, ℕ, suc, ◌-◌, Bool, true, false, not, ◌&&◌, codes, List, [], ◌∷◌, ◌++◌, length, length-append, take, slice_get, unwrap_or, Option, Some, append_assoc, refl, ap, sym, ◌∙◌, subst, arith}
 use Rattle.std.specs.List.{flat_map, list_any, AllByRecursion}
 use Rattle.std.specs.Option.{option_map_or}
 use Rattle.std.proofs.lemmas.Bool.{and_parts, not-true, or_parts}
 use Rattle.std.proofs.lemmas.List.{append-nil, take_at}
 use Rattle.kinds.specs.declared.op.Op.{Op}
 use Rattle.kinds.specs.declared.op.Op.TheVariants as O
+use Rattle.kinds.specs.declared.op.OverflowFlags.{OverflowFlags}
+use Rattle.kinds.specs.declared.rules.Gives.TheVariants as G
+use Rattle.kinds.specs.declared.rules.Rule.{Rule}
 use Rattle.kinds.specs.declared.rules.Takes.TheVariants as T
-use Rattle.kinds.specs.Rules.{ends, operand_count}
+use Rattle.kinds.specs.Rules.{ends, operand_count, target_count}
 use Rattle.kinds.specs.Table.{rule_of}
 use Rattle.llvm_core.specs.Checked.{ends_in_only}
 use Rattle.llvm_core.specs.Data.{TypeTree, VoidType, IntType, Operand, RowData, Instruction, Phi, Applied, Result, Placed, Function, operand_type, placed_in}
-use Rattle.llvm_core.specs.Form.{IsFormRow, IsFormInstruction, IsFormPlaced, is_terminator, is_last, returns_void}
+use Rattle.llvm_core.specs.Form.{IsFormRow, IsFormInstruction, IsFormPlaced, is_terminator, is_last, returns_void, IsShortResult}
 use Rattle.llvm_core.specs.Names.{IsPlainOrNone}
 use Rattle.support.proofs.ListLaws.{slice_get-push}
 use Rattle.ll_tree.specs.Text.{Text, is_bare}
@@ -22,12 +25,13 @@ use Rattle.ll_tree.specs.Chain.{◌>>=◌}
 use Rattle.ll_text.specs.Meaning.{Local, ValueLocal, local_key, define_written, written_name, named_inst, AreNamed, AreInstructions}
 use Rattle.ll_tree.proofs.CuttingLaws.{Writes, nothing, joined}
 use Rattle.ll_print.specs.Printing.{ResultOf, local_text, placed_text}
+use Rattle.ll_print.proofs.CastLaws.{IsCastRow, cast_printed, select_printed, freeze_printed}
 use Rattle.ll_print.proofs.DefineLaws.{defines}
-use Rattle.ll_print.proofs.LineLaws.{IsTree, IsEnd, HasNoResult, add_printed, icmp_printed, return_void_printed, return_printed, br_printed, cond_br_printed, unreachable_printed}
+use Rattle.ll_print.proofs.LineLaws.{IsTree, IsEnd, HasNoResult, IsBinaryRow, binary_printed, icmp_printed, return_void_printed, return_printed, br_printed, cond_br_printed, unreachable_printed}
 use Rattle.ll_print.proofs.NameLaws.{local_says}
 use Rattle.ll_print.proofs.OperandLaws.{IsPrintable, local_of, width_in, scope_after, scope_of, placed_name, placed_found, block_prints}
 use Rattle.ll_print.proofs.PhiLaws.{phi_printed}
-use Rattle.ll_print.proofs.RowLaws.{row_gives, empty_row, leading, unary, branching, binary}
+use Rattle.ll_print.proofs.RowLaws.{row_gives, row_gives_by, first_none, empty_row, leading, unary, branching, binary, casting, selecting}
 use Rattle.ll_print.proofs.ScopeLaws.{Thing}
 use Rattle.ll_print.proofs.ThingLaws.{result_thing, result_things, things}
 
@@ -40,19 +44,55 @@ row_of op w os ts = record { op = op; written = w; operands = os; targets = ts }
 no_result : (p : Placed) → (p.type ≡ VoidType → p.name ≡ []) → p.type ≡ VoidType → HasNoResult p
 no_result p unnamed void = record { type = void; name = unnamed void }
 
+-- a row on two integers of one type
+row_binary : (f : Function) → IsPrintable f → (p : Placed) → IsPlainOrNone p.name → (op : Op) (word : Text) (flags : OverflowFlags) (w : Option TypeTree) (os : List Operand) (ts : List ℕ) → IsBinaryRow op word flags
+    → p.instruction ≡ Applied (row_of op w os ts) → IsFormRow f p.type (row_of op w os ts) → (t : tree.Inst) × IsTree f p t
+row_binary f h p plain op word flags w os ts row is form =
+    let r = row_of op w os ts in
+    let gives : (rule_of op).gives ≡ G.First = ap (λ (x : Rule). x.gives) row.ruled in
+    let b = binary f p.type r form (first_none r gives) (ap (λ (x : Rule). x.takes) row.ruled) (form.count ∙ ap (λ (x : Rule). operand_count x.takes (returns_void f)) row.ruled) (ap (λ (x : Rule). target_count x.leads) row.ruled) in
+    let typed = row_gives_by f p.type r G.First form gives ∙ ap (λ (t : Option TypeTree). unwrap_or t VoidType) b.first in
+    binary_printed f h p op word flags b.lhs b.rhs b.width row (is ∙ b.is) typed b.left b.right plain
+
+-- and one to another width
+row_cast : (f : Function) → IsPrintable f → (p : Placed) → IsPlainOrNone p.name → IsShortResult p.type → (op : Op) (word : Text) (nneg : Bool) (w : Option TypeTree) (os : List Operand) (ts : List ℕ) → IsCastRow op word nneg
+    → p.instruction ≡ Applied (row_of op w os ts) → IsFormRow f p.type (row_of op w os ts) → (t : tree.Inst) × IsTree f p t
+row_cast f h p plain short op word nneg w os ts row is form =
+    let c = casting f p.type (row_of op w os ts) form short row.gives (form.count ∙ row.takes (returns_void f)) row.leads in
+    cast_printed f h p op word nneg c.operand c.width c.to row c.fits (is ∙ c.is) c.given c.typed plain
+
+abbrev no_flags : OverflowFlags
+no_flags = record { nuw = false; nsw = false }
+
 -- a row that ends no block, a line for each
-row_printed : (f : Function) → IsPrintable f → (p : Placed) → IsPlainOrNone p.name → (op : Op) (w : Option TypeTree) (os : List Operand) (ts : List ℕ) → p.instruction ≡ Applied (row_of op w os ts) → IsFormRow f p.type (row_of op w os ts)
-    → ends (rule_of op).leads ≡ false → (t : tree.Inst) × IsTree f p t
-row_printed f h p plain (O.Add flags) w os ts is form e =
-    let b = binary f p.type (row_of (O.Add flags) w os ts) form (λ w. refl) refl form.count refl in
-    add_printed f h p b.lhs b.rhs flags b.width (is ∙ b.is) (row_gives f p.type (row_of (O.Add flags) w os ts) form ∙ ap (λ (t : Option TypeTree). unwrap_or t VoidType) b.first) b.left b.right plain
-row_printed f h p plain (O.ICmp predicate) w os ts is form e =
+row_printed : (f : Function) → IsPrintable f → (p : Placed) → IsPlainOrNone p.name → IsShortResult p.type → (op : Op) (w : Option TypeTree) (os : List Operand) (ts : List ℕ) → p.instruction ≡ Applied (row_of op w os ts)
+    → IsFormRow f p.type (row_of op w os ts) → ends (rule_of op).leads ≡ false → (t : tree.Inst) × IsTree f p t
+row_printed f h p plain short (O.Add flags) w os ts is form e = row_binary f h p plain (O.Add flags) (codes "add") flags w os ts (record { ruled = refl; head = refl; names = λ f w os ts. refl; one = refl; kind = refl; flagged = refl; says = refl }) is form
+row_printed f h p plain short (O.Sub flags) w os ts is form e = row_binary f h p plain (O.Sub flags) (codes "sub") flags w os ts (record { ruled = refl; head = refl; names = λ f w os ts. refl; one = refl; kind = refl; flagged = refl; says = refl }) is form
+row_printed f h p plain short (O.Mul flags) w os ts is form e = row_binary f h p plain (O.Mul flags) (codes "mul") flags w os ts (record { ruled = refl; head = refl; names = λ f w os ts. refl; one = refl; kind = refl; flagged = refl; says = refl }) is form
+row_printed f h p plain short (O.Shl flags) w os ts is form e = row_binary f h p plain (O.Shl flags) (codes "shl") flags w os ts (record { ruled = refl; head = refl; names = λ f w os ts. refl; one = refl; kind = refl; flagged = refl; says = refl }) is form
+row_printed f h p plain short O.UDiv w os ts is form e = row_binary f h p plain O.UDiv (codes "udiv") no_flags w os ts (record { ruled = refl; head = refl; names = λ f w os ts. refl; one = refl; kind = refl; flagged = refl; says = refl }) is form
+row_printed f h p plain short O.SDiv w os ts is form e = row_binary f h p plain O.SDiv (codes "sdiv") no_flags w os ts (record { ruled = refl; head = refl; names = λ f w os ts. refl; one = refl; kind = refl; flagged = refl; says = refl }) is form
+row_printed f h p plain short O.URem w os ts is form e = row_binary f h p plain O.URem (codes "urem") no_flags w os ts (record { ruled = refl; head = refl; names = λ f w os ts. refl; one = refl; kind = refl; flagged = refl; says = refl }) is form
+row_printed f h p plain short O.SRem w os ts is form e = row_binary f h p plain O.SRem (codes "srem") no_flags w os ts (record { ruled = refl; head = refl; names = λ f w os ts. refl; one = refl; kind = refl; flagged = refl; says = refl }) is form
+row_printed f h p plain short O.LShr w os ts is form e = row_binary f h p plain O.LShr (codes "lshr") no_flags w os ts (record { ruled = refl; head = refl; names = λ f w os ts. refl; one = refl; kind = refl; flagged = refl; says = refl }) is form
+row_printed f h p plain short O.AShr w os ts is form e = row_binary f h p plain O.AShr (codes "ashr") no_flags w os ts (record { ruled = refl; head = refl; names = λ f w os ts. refl; one = refl; kind = refl; flagged = refl; says = refl }) is form
+row_printed f h p plain short (O.ICmp predicate) w os ts is form e =
     let b = binary f p.type (row_of (O.ICmp predicate) w os ts) form (λ w. refl) refl form.count refl in
     icmp_printed f h p b.lhs b.rhs predicate b.width (is ∙ b.is) (row_gives f p.type (row_of (O.ICmp predicate) w os ts) form) b.left b.right plain
-row_printed f h p plain O.Br w os ts is form e = absurd cc
-row_printed f h p plain O.CondBr w os ts is form e = absurd cc
-row_printed f h p plain O.Ret w os ts is form e = absurd cc
-row_printed f h p plain O.Unreachable w os ts is form e = absurd cc
+row_printed f h p plain short O.Trunc w os ts is form e = row_cast f h p plain short O.Trunc (codes "trunc") false w os ts (record { takes = λ v. refl; gives = refl; leads = refl; head = refl; names = λ f w os ts. refl; one = refl; kind = refl; flagged = refl; found = refl }) is form
+row_printed f h p plain short O.SExt w os ts is form e = row_cast f h p plain short O.SExt (codes "sext") false w os ts (record { takes = λ v. refl; gives = refl; leads = refl; head = refl; names = λ f w os ts. refl; one = refl; kind = refl; flagged = refl; found = refl }) is form
+row_printed f h p plain short (O.ZExt nneg) w os ts is form e = row_cast f h p plain short (O.ZExt nneg) (codes "zext") nneg w os ts (record { takes = λ v. refl; gives = refl; leads = refl; head = refl; names = λ f w os ts. refl; one = refl; kind = refl; flagged = refl; found = refl }) is form
+row_printed f h p plain short O.Select w os ts is form e =
+    let s = selecting f p.type (row_of O.Select w os ts) form (λ w. refl) refl refl form.count refl in
+    select_printed f h p s.condition s.lhs s.rhs s.width (is ∙ s.is) s.given s.bit s.left s.right plain
+row_printed f h p plain short O.Freeze w os ts is form e =
+    let u = unary f p.type (row_of O.Freeze w os ts) form (λ w. refl) form.count refl in
+    freeze_printed f h p u.operand u.width (is ∙ u.is) (row_gives f p.type (row_of O.Freeze w os ts) form ∙ ap (λ (t : Option TypeTree). unwrap_or t VoidType) u.first) u.typed plain
+row_printed f h p plain short O.Br w os ts is form e = absurd cc
+row_printed f h p plain short O.CondBr w os ts is form e = absurd cc
+row_printed f h p plain short O.Ret w os ts is form e = absurd cc
+row_printed f h p plain short O.Unreachable w os ts is form e = absurd cc
 
 -- a return, of an operand or of none
 returned : (f : Function) → IsPrintable f → (p : Placed) (w : Option TypeTree) (os : List Operand) (ts : List ℕ) (void : Bool) → p.instruction ≡ Applied (row_of O.Ret w os ts) → IsFormRow f p.type (row_of O.Ret w os ts)
@@ -66,7 +106,21 @@ returned f h p w os ts false is form count none =
 row_ends : (f : Function) → IsPrintable f → (p : Placed) → (p.type ≡ VoidType → p.name ≡ []) → (op : Op) (w : Option TypeTree) (os : List Operand) (ts : List ℕ) → p.instruction ≡ Applied (row_of op w os ts) → IsFormRow f p.type (row_of op w os ts)
     → ends (rule_of op).leads ≡ true → (t : tree.Terminator) × IsEnd f p t
 row_ends f h p unnamed (O.Add flags) w os ts is form e = absurd cc
+row_ends f h p unnamed (O.Sub flags) w os ts is form e = absurd cc
+row_ends f h p unnamed (O.Mul flags) w os ts is form e = absurd cc
+row_ends f h p unnamed (O.Shl flags) w os ts is form e = absurd cc
+row_ends f h p unnamed O.UDiv w os ts is form e = absurd cc
+row_ends f h p unnamed O.SDiv w os ts is form e = absurd cc
+row_ends f h p unnamed O.URem w os ts is form e = absurd cc
+row_ends f h p unnamed O.SRem w os ts is form e = absurd cc
+row_ends f h p unnamed O.LShr w os ts is form e = absurd cc
+row_ends f h p unnamed O.AShr w os ts is form e = absurd cc
 row_ends f h p unnamed (O.ICmp predicate) w os ts is form e = absurd cc
+row_ends f h p unnamed O.Trunc w os ts is form e = absurd cc
+row_ends f h p unnamed O.SExt w os ts is form e = absurd cc
+row_ends f h p unnamed (O.ZExt nneg) w os ts is form e = absurd cc
+row_ends f h p unnamed O.Select w os ts is form e = absurd cc
+row_ends f h p unnamed O.Freeze w os ts is form e = absurd cc
 row_ends f h p unnamed O.Br w os ts is form e =
     let l = leading f p.type (row_of O.Br w os ts) form (λ w. refl) form.count refl in
     br_printed f p l.target (is ∙ l.is) (block_prints f h l.target l.listed) (no_result p unnamed (row_gives f p.type (row_of O.Br w os ts) form))
@@ -81,7 +135,7 @@ row_ends f h p unnamed O.Unreachable w os ts is form e =
 
 inst_printed : (f : Function) → IsPrintable f → (n : ℕ) (p : Placed) → IsFormPlaced f n p → (i : Instruction) → p.instruction ≡ i → IsFormInstruction f n p.type i → is_terminator i ≡ false → (t : tree.Inst) × IsTree f p t
 inst_printed f h n p placed (Phi entries) is form e = phi_printed f h n p entries is form.0 form.1 form.2 placed.name
-inst_printed f h n p placed (Applied r) is form e = row_printed f h p placed.name r.op r.written r.operands r.targets is form e
+inst_printed f h n p placed (Applied r) is form e = row_printed f h p placed.name placed.short r.op r.written r.operands r.targets is form e
 
 end_of : (f : Function) → IsPrintable f → (n : ℕ) (p : Placed) → IsFormPlaced f n p → (i : Instruction) → p.instruction ≡ i → IsFormInstruction f n p.type i → is_terminator i ≡ true → (t : tree.Terminator) × IsEnd f p t
 end_of f h n p placed (Phi entries) is form e = absurd cc

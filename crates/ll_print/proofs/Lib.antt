@@ -2,6 +2,7 @@
 pub mod AloneLaws
 pub mod ApartLaws
 pub mod BlockLaws
+pub mod CastLaws
 pub mod ConstLaws
 pub mod CountLaws
 pub mod CutLaws

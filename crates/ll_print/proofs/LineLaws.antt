@@ -1,20 +1,27 @@
 -- The lines of instructions: each is cut into the tokens of a tree that says the instruction.
-use Rattle.std.proofs.Common.{◌≡◌, ℕ, Bool, true, false, codes, List, [], ◌∷◌, ◌++◌, Some, append_assoc, append-nil, refl, ap, sym, ◌∙◌, subst}
+use Rattle.std.proofs.Common.{◌≡◌, ℕ, Bool, true, false, not, ◌||◌, codes, List, [], ◌∷◌, ◌++◌, Option, Some, None, append_assoc, append-nil, refl, ap, sym, ◌∙◌, subst}
+use Rattle.kinds.specs.declared.op.Op.{Op}
+use Rattle.kinds.specs.declared.op.Op.TheVariants as O
 use Rattle.kinds.specs.declared.op.OverflowFlags.{OverflowFlags}
 use Rattle.kinds.specs.declared.op.LLVMIntPredicate.{LLVMIntPredicate}
 use Rattle.kinds.specs.declared.op.LLVMIntPredicate.TheVariants as P
+use Rattle.kinds.specs.declared.rules.Fit.TheVariants as F
+use Rattle.kinds.specs.declared.rules.Gives.TheVariants as G
+use Rattle.kinds.specs.declared.rules.Leads.TheVariants as L
+use Rattle.kinds.specs.declared.rules.Takes.TheVariants as T
+use Rattle.kinds.specs.Table.{rule, rule_of}
 use Rattle.llvm_core.specs.Names.{IsPlainOrNone}
 use Rattle.llvm_core.specs.Data.{TypeTree, VoidType, IntType, Operand, Instruction, Placed, Function, operand_type}
 use Rattle.llvm_core.specs.Form.{IsOperand}
 use Rattle.ll_tree.specs.Text.{Text, is_bare}
 use Rattle.ll_tree.specs.Tree as tree
-use Rattle.ll_tree.specs.Tree.{is_int_type, is_predicate, flag, inst, terminator, IsInst, IsTerminator}
+use Rattle.ll_tree.specs.Tree.{is_int_type, is_predicate, is_binary, takes_flags, flag, inst, terminator, IsInst, IsTerminator}
 use Rattle.ll_text.specs.Rows as Rows
 use Rattle.ll_text.specs.Spelling.{widest}
 use Rattle.ll_text.specs.Meaning.{int_width, predicate_of, written_name, result_width, inst_data, terminator_data, IsTerminatorOf}
 use Rattle.ll_tree.proofs.CuttingLaws.{Writes, Alone, nothing, joined, same, writes_indent, writes_spaced, writes_line, alone_ret}
-use Rattle.ll_print.specs.Printing.{ResultOf, type_text, local_text, operand_text, block_ref, flag_text, predicate_text, operands_text, targets_text, instruction_text, placed_text}
-use Rattle.ll_print.proofs.AloneLaws.{IsStop, alone_word}
+use Rattle.ll_print.specs.Printing.{ResultOf, type_text, local_text, operand_text, block_ref, flag_text, predicate_text, operands_text, targets_text, flagged_text, to_text, row_head, row_names, instruction_text, placed_text}
+use Rattle.ll_print.proofs.AloneLaws.{IsStop, is_word, alone_of, alone_word}
 use Rattle.ll_print.proofs.CutLaws.{stop_space, stop_line, stop_comma, writes_comma, writes_equals}
 use Rattle.ll_print.proofs.NameLaws.{alone_local, local_is, alone_short, type_is, type_says}
 use Rattle.ll_print.proofs.OperandLaws.{IsPrintable, PrintsBlock, scope_of, operand_prints}
@@ -65,7 +72,7 @@ operand_width f w o op = record { is = op.typed; some = op.short.0; most = op.sh
 pub alone_void : (s : ℕ) → IsStop s → Alone s (codes "void")
 alone_void s stop = alone_word s 118 (codes "oid") stop refl refl refl refl refl
 
-writes_flag : (word : Text) (set : Bool) → Alone 32 word → Writes (flag_text word set) (flag word set)
+pub writes_flag : (word : Text) (set : Bool) → Alone 32 word → Writes (flag_text word set) (flag word set)
 writes_flag word true alone = writes_spaced word alone
 writes_flag word false alone = nothing
 
@@ -74,9 +81,6 @@ writes_nuw set = writes_flag (codes "nuw") set (alone_word 32 110 (codes "uw") s
 
 writes_nsw : (set : Bool) → Writes (flag_text (codes "nsw") set) (flag (codes "nsw") set)
 writes_nsw set = writes_flag (codes "nsw") set (alone_word 32 110 (codes "sw") stop_space refl refl refl refl refl)
-
-writes_add : Writes (codes "add ") (codes "add" ∷ [])
-writes_add = writes_spaced (codes "add") (alone_word 32 97 (codes "dd") stop_space refl refl refl refl refl)
 
 writes_icmp : Writes (codes "icmp ") (codes "icmp" ∷ [])
 writes_icmp = writes_spaced (codes "icmp") (alone_word 32 105 (codes "cmp") stop_space refl refl refl refl refl)
@@ -152,7 +156,7 @@ ends f p i t is none says = record { instruction = says ∙ ap (λ (j : Instruct
 one_layout : (type space value line : List ℕ) → (type ++ space) ++ (value ++ line) ≡ (((type ++ space) ++ value) ++ []) ++ line
 one_layout type space value line = simp (append_assoc, append-nil)
 
-writes_one : (f : Function) (h : IsPrintable f) (w : ℕ) (o : Operand) → IsOperand f (IntType w) o → Writes (operands_text f (o ∷ []) ++ codes "\n") (type_text (operand_type f o) ∷ operand_text f o ∷ [])
+pub writes_one : (f : Function) (h : IsPrintable f) (w : ℕ) (o : Operand) → IsOperand f (IntType w) o → Writes (operands_text f (o ∷ []) ++ codes "\n") (type_text (operand_type f o) ∷ operand_text f o ∷ [])
 writes_one f h w o op =
     same (one_layout (type_text (operand_type f o)) (codes " ") (operand_text f o) (codes "\n")) refl
     (joined (writes_type (operand_type f o) w (operand_width f w o op)) (writes_line (operand_text f o) ((operand_prints f h w o op).alone 10 stop_line)))
@@ -181,7 +185,27 @@ writes_targets f a b first second =
     same (targets_layout (codes "label ") (block_ref f a) (codes ", ") (block_ref f b) (codes "\n")) refl
     (joined writes_label (joined (writes_comma (block_ref f a) (first.alone 44 stop_comma)) (joined writes_label (writes_line (block_ref f b) (second.alone 10 stop_line)))))
 
+-- ---- rows by their words
+
+-- what a row names stands behind its head: its operands, and the type that it writes
+abbrev pub NamesOperands : Op → Type 0
+NamesOperands op = (f : Function) (w : Option TypeTree) (os : List Operand) (ts : List ℕ) → row_names f op w os ts ≡ operands_text f os ++ to_text w
+
+-- an operation on two integers of one type, by its word and its flags
+pub record IsBinaryRow (op : Op) (word : Text) (flags : OverflowFlags) : Type 0 where
+  pub ruled : rule_of op ≡ rule (T.Two F.Number F.First) G.First L.On (rule_of op).family
+  pub head : row_head op ≡ flagged_text word flags
+  pub names : NamesOperands op
+  pub one : is_word word ≡ true
+  pub kind : is_binary word ≡ true
+  pub flagged : (takes_flags word || not (flags.nuw || flags.nsw)) ≡ true
+  pub says : Rows.binary_op word flags ≡ Some op
+
 -- ---- two operands of a type
+
+-- what stands on the line of a row without a written type
+pub plain_names : (f : Function) (op : Op) (os : List Operand) (t : TypeTree) → NamesOperands op → row_head op ++ operands_text f os ≡ instruction_text f t (Rows.row op os [])
+plain_names f op os t names = ap (λ (x : Text). row_head op ++ x) (sym (append-nil (operands_text f os)) ∙ sym (names f None os []))
 
 -- a line with a result and two operands behind a head
 two_line : (f : Function) (h : IsPrintable f) (p : Placed) (i : Instruction) (v w : ℕ) (lhs rhs : Operand) (head : Text) (before : List Text) → p.type ≡ IntType v → p.instruction ≡ i
@@ -191,27 +215,29 @@ two_line f h p i v w lhs rhs head before typed is text plain start l r =
     let line = sym (append_assoc head (operands_text f (lhs ∷ rhs ∷ [])) (codes "\n")) ∙ ap (λ (t : Text). t ++ codes "\n") text in
     result_line f h p i v _ typed is plain (same line refl (joined start (writes_two f h w lhs rhs l r)))
 
-add_says : (f : Function) (h : IsPrintable f) (p : Placed) (lhs rhs : Operand) (flags : OverflowFlags) (w : ℕ) → p.instruction ≡ Rows.add flags.nuw flags.nsw lhs rhs → p.type ≡ IntType w → IsOperand f (IntType w) lhs → IsOperand f (IntType w) rhs
-    → inst_data is_bare widest (scope_of f) (tree.Add (Some (local_text f p.name (ResultOf p.number))) flags.nuw flags.nsw (type_text (operand_type f lhs)) (operand_text f lhs) (operand_text f rhs)) ≡ Some (p.type, p.instruction)
+binary_says : (f : Function) (h : IsPrintable f) (p : Placed) (op : Op) (word : Text) (flags : OverflowFlags) (lhs rhs : Operand) (w : ℕ) → Rows.binary_op word flags ≡ Some op
+    → p.instruction ≡ Rows.binary op lhs rhs → p.type ≡ IntType w → IsOperand f (IntType w) lhs → IsOperand f (IntType w) rhs
+    → inst_data is_bare widest (scope_of f) (tree.Binary (Some (local_text f p.name (ResultOf p.number))) word flags.nuw flags.nsw (type_text (operand_type f lhs)) (operand_text f lhs) (operand_text f rhs)) ≡ Some (p.type, p.instruction)
 unfolding inst_data
-add_says f h p lhs rhs flags w is typed l r =
+binary_says f h p op word flags lhs rhs w found is typed l r =
     let width = width_says (operand_type f lhs) w (operand_width f w lhs l) in
     let left = (operand_prints f h w lhs l).says in
     let right = (operand_prints f h w rhs r).says in
-    rw (width, left, right, is, typed) refl
+    rw (width, left, right, found, is, typed) refl
 
-writes_flags : (flags : OverflowFlags) → Writes ((codes "add " ++ flag_text (codes "nuw") flags.nuw) ++ flag_text (codes "nsw") flags.nsw) (codes "add" ∷ (flag (codes "nuw") flags.nuw ++ flag (codes "nsw") flags.nsw))
-writes_flags flags =
-    same (sym (append_assoc (codes "add ") (flag_text (codes "nuw") flags.nuw) (flag_text (codes "nsw") flags.nsw))) refl (joined writes_add (joined (writes_nuw flags.nuw) (writes_nsw flags.nsw)))
+writes_flagged : (word : Text) (flags : OverflowFlags) → is_word word ≡ true → Writes (flagged_text word flags) (word ∷ (flag (codes "nuw") flags.nuw ++ flag (codes "nsw") flags.nsw))
+writes_flagged word flags one =
+    same (sym (append_assoc (word ++ codes " ") (flag_text (codes "nuw") flags.nuw) (flag_text (codes "nsw") flags.nsw))) refl
+    (joined (writes_spaced word (alone_of 32 word stop_space one)) (joined (writes_nuw flags.nuw) (writes_nsw flags.nsw)))
 
-pub add_printed : (f : Function) → IsPrintable f → (p : Placed) (lhs rhs : Operand) (flags : OverflowFlags) (w : ℕ) → p.instruction ≡ Rows.add flags.nuw flags.nsw lhs rhs → p.type ≡ IntType w → IsOperand f (IntType w) lhs → IsOperand f (IntType w) rhs
-    → IsPlainOrNone p.name → (t : tree.Inst) × IsTree f p t
-add_printed f h p lhs rhs flags w is typed l r plain = (
-  tree.Add (Some (local_text f p.name (ResultOf p.number))) flags.nuw flags.nsw (type_text (operand_type f lhs)) (operand_text f lhs) (operand_text f rhs),
+pub binary_printed : (f : Function) → IsPrintable f → (p : Placed) (op : Op) (word : Text) (flags : OverflowFlags) (lhs rhs : Operand) (w : ℕ) → IsBinaryRow op word flags
+    → p.instruction ≡ Rows.binary op lhs rhs → p.type ≡ IntType w → IsOperand f (IntType w) lhs → IsOperand f (IntType w) rhs → IsPlainOrNone p.name → (t : tree.Inst) × IsTree f p t
+binary_printed f h p op word flags lhs rhs w row is typed l r plain = (
+  tree.Binary (Some (local_text f p.name (ResultOf p.number))) word flags.nuw flags.nsw (type_text (operand_type f lhs)) (operand_text f lhs) (operand_text f rhs),
   record {
-    writes = two_line f h p (Rows.add flags.nuw flags.nsw lhs rhs) w w lhs rhs _ _ typed is refl plain (writes_flags flags) l r;
-    kinds = (local_is f p.name (ResultOf p.number), kind_type (operand_type f lhs) w (operand_width f w lhs l), (operand_prints f h w lhs l).operand, (operand_prints f h w rhs r).operand);
-    says = add_says f h p lhs rhs flags w is typed l r;
+    writes = two_line f h p (Rows.binary op lhs rhs) w w lhs rhs (row_head op) _ typed is (plain_names f op (lhs ∷ rhs ∷ []) (IntType w) row.names) plain (same (sym row.head) refl (writes_flagged word flags row.one)) l r;
+    kinds = (local_is f p.name (ResultOf p.number), row.kind, row.flagged, kind_type (operand_type f lhs) w (operand_width f w lhs l), (operand_prints f h w lhs l).operand, (operand_prints f h w rhs r).operand);
+    says = binary_says f h p op word flags lhs rhs w row.says is typed l r;
     width = w;
     typed = typed;
     result = width_says (operand_type f lhs) w (operand_width f w lhs l);
@@ -237,7 +263,7 @@ pub icmp_printed : (f : Function) → IsPrintable f → (p : Placed) (lhs rhs : 
 icmp_printed f h p lhs rhs predicate w is typed l r plain = (
   tree.ICmp (Some (local_text f p.name (ResultOf p.number))) (predicate_text predicate) (type_text (operand_type f lhs)) (operand_text f lhs) (operand_text f rhs),
   record {
-    writes = two_line f h p (Rows.icmp predicate lhs rhs) 1 w lhs rhs _ _ typed is refl plain (writes_compare predicate) l r;
+    writes = two_line f h p (Rows.icmp predicate lhs rhs) 1 w lhs rhs (row_head (O.ICmp predicate)) _ typed is (plain_names f (O.ICmp predicate) (lhs ∷ rhs ∷ []) (IntType 1) (λ f w os ts. refl)) plain (writes_compare predicate) l r;
     kinds = (local_is f p.name (ResultOf p.number), predicate_is predicate, kind_type (operand_type f lhs) w (operand_width f w lhs l), (operand_prints f h w lhs l).operand, (operand_prints f h w rhs r).operand);
     says = icmp_says f h p lhs rhs predicate w is typed l r;
     width = 1;

@@ -6,7 +6,7 @@ use Rattle.std.proofs.lemmas.List.{append-nil, take_all, length-map}
 use Rattle.std.proofs.lemmas.Option.{slice_get-get_or, slice_get-map, slice_get_within, same_Some}
 use Rattle.support.proofs.ListLaws.{flat_map-take_more}
 use Rattle.llvm_core.specs.Data.{Operand, Function}
-use Rattle.ll_print.specs.Printing.{entry_text, entries_text, operand_text, value_text, operands_text, target_text, targets_text, comma_text}
+use Rattle.ll_print.specs.Printing.{entry_text, entries_text, operand_text, value_text, operands_text, values_text, target_text, targets_text, comma_text}
 
 -- ---- a first item and further ones
 
@@ -86,3 +86,7 @@ targets_strung f (n ∷ ns) = refl
 pub operands_strung : (f : Function) (os : List Operand) → strung (value_text f) (behind_comma (operand_text f)) os ≡ operands_text f os
 operands_strung f [] = refl
 operands_strung f (o ∷ os) = refl
+
+pub values_strung : (f : Function) (os : List Operand) → strung (value_text f) (behind_comma (value_text f)) os ≡ values_text f os
+values_strung f [] = refl
+values_strung f (o ∷ os) = refl

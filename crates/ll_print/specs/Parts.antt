@@ -1,5 +1,5 @@
 -- Parts of a module's data by their numbers, and their texts.
-use Rattle.std.specs.Prelude.{◌≡◌, ◌<◌, ◌≤◌, ℕ, List, [], ◌∷◌, ◌++◌, All, length, codes, slice_get, slice_index_or, Some, decimal}
+use Rattle.std.specs.Prelude.{◌≡◌, ◌<◌, ◌≤◌, ℕ, List, [], ◌∷◌, ◌++◌, All, length, codes, slice_get, slice_index_or, Some, IfSome, decimal}
 use Rattle.std.specs.List.{flat_map}
 use Rattle.std.specs.Option.{option_map_or}
 use Rattle.llvm_core.specs.declared.numbers.LLVMType.{LLVMType}
@@ -107,10 +107,10 @@ IsOwnBlock m f b = (b.0 < length m.blocks) × HasBlockNumber b.0 (function_in m 
 abbrev pub OwnsEntry : Module → LLVMFunction → PhiEntry → Type 0
 OwnsEntry m f e = IsOwn m f e.value × IsOwnBlock m f e.block
 
--- the operands and blocks of an instruction belong to the function
+-- the operands and blocks of an instruction belong to the function, and the type that it writes is there
 abbrev pub OwnsOperands : Module → LLVMFunction → LLVMInst → Type 0
 OwnsOperands m f (I.Phi type entries) = All (OwnsEntry m f) entries
-OwnsOperands m f (I.Row r) = All (IsOwn m f) r.operands × All (IsOwnBlock m f) r.targets
+OwnsOperands m f (I.Row r) = All (IsOwn m f) r.operands × All (IsOwnBlock m f) r.targets × IfSome r.written (λ (t : LLVMType). t.0 < length m.types)
 
 -- an instruction that is there, with operands of the function
 pub record OwnsInst (m : Module) (f : LLVMFunction) (i : LLVMInstRef) : Type 0 where

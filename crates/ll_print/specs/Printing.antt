@@ -1,12 +1,13 @@
 -- The text that is printed of module data, a definition for each part.
-use Rattle.std.specs.Prelude.{◌≡◌, ℕ, zero, suc, ◌-◌, ◌^◌, Bool, true, false, List, [], ◌∷◌, ◌++◌, nat_eq, nat_le, nat_lt, ◌==◌, if◌then◌else◌, drop, codes, decimal, slice_index_or}
+use Rattle.std.specs.Prelude.{◌≡◌, ℕ, zero, suc, ◌-◌, ◌^◌, Bool, true, false, List, [], ◌∷◌, ◌++◌, Option, None, Some, nat_eq, nat_le, nat_lt, ◌==◌, if◌then◌else◌, drop, codes, decimal, slice_index_or}
 use Rattle.std.specs.List.{flat_map, find, position_or_len}
 use Rattle.std.specs.Option.{option_map_or}
 use Rattle.kinds.specs.declared.op.LLVMIntPredicate.{LLVMIntPredicate}
 use Rattle.kinds.specs.declared.op.LLVMIntPredicate.TheVariants as P
+use Rattle.kinds.specs.declared.op.OverflowFlags.{OverflowFlags}
 use Rattle.kinds.specs.declared.op.Op.{Op}
 use Rattle.kinds.specs.declared.op.Op.TheVariants as O
-use Rattle.llvm_core.specs.Data.{TypeTree, VoidType, IntType, FunctionType, ConstTree, IntConst, PlaceholderConst, Operand, Constant, Parameter, Result, Instruction, Phi, Applied, Placed, Block, Function, ModuleData, operand_type, placed_in, param_type}
+use Rattle.llvm_core.specs.Data.{TypeTree, VoidType, IntType, FunctionType, ConstTree, IntConst, PlaceholderConst, Operand, Constant, Parameter, Result, Instruction, Phi, RowData, Applied, Placed, Block, Function, ModuleData, operand_type, placed_in, param_type}
 use Rattle.llvm_core.specs.Form.{result_of}
 use Rattle.ll_tree.specs.Text.{Text, is_bare, global, quoted}
 
@@ -154,19 +155,59 @@ abbrev pub targets_text : Function → List ℕ → Text
 targets_text f [] = []
 targets_text f (n ∷ ns) = target_text f n ++ flat_map (λ (x : ℕ). codes ", " ++ target_text f x) ns
 
--- a row: its word and what it names, a line for each
-abbrev pub row_text : Function → Op → List Operand → List ℕ → Text
-row_text f (O.Add flags) os ts = codes "add " ++ flag_text (codes "nuw") flags.nuw ++ flag_text (codes "nsw") flags.nsw ++ operands_text f os
-row_text f (O.ICmp predicate) os ts = codes "icmp " ++ predicate_text predicate ++ codes " " ++ operands_text f os
-row_text f O.Br os ts = codes "br " ++ targets_text f ts
-row_text f O.CondBr os ts = codes "br " ++ operands_text f os ++ codes ", " ++ targets_text f ts
-row_text f O.Ret os ts = codes "ret " ++ returned_text f os
-row_text f O.Unreachable os ts = codes "unreachable"
+-- operands, each behind its type
+abbrev pub values_text : Function → List Operand → Text
+values_text f [] = []
+values_text f (o ∷ os) = value_text f o ++ flat_map (λ (x : Operand). codes ", " ++ value_text f x) os
+
+-- the type that is written behind operands
+abbrev pub to_text : Option TypeTree → Text
+to_text None = []
+to_text (Some type) = codes " to " ++ type_text type
+
+-- a word, and the flags that are set, each before a blank
+abbrev pub flagged_text : Text → OverflowFlags → Text
+flagged_text word flags = word ++ codes " " ++ flag_text (codes "nuw") flags.nuw ++ flag_text (codes "nsw") flags.nsw
+
+-- what stands before the operands and blocks of a row: its word and immediates, each before a blank, a line for each
+abbrev pub row_head : Op → Text
+row_head (O.Add flags) = flagged_text (codes "add") flags
+row_head (O.Sub flags) = flagged_text (codes "sub") flags
+row_head (O.Mul flags) = flagged_text (codes "mul") flags
+row_head (O.Shl flags) = flagged_text (codes "shl") flags
+row_head O.UDiv = codes "udiv "
+row_head O.SDiv = codes "sdiv "
+row_head O.URem = codes "urem "
+row_head O.SRem = codes "srem "
+row_head O.LShr = codes "lshr "
+row_head O.AShr = codes "ashr "
+row_head (O.ICmp predicate) = codes "icmp " ++ predicate_text predicate ++ codes " "
+row_head O.Trunc = codes "trunc "
+row_head O.SExt = codes "sext "
+row_head (O.ZExt nneg) = codes "zext " ++ flag_text (codes "nneg") nneg
+row_head O.Select = codes "select "
+row_head O.Freeze = codes "freeze "
+row_head O.Br = codes "br "
+row_head O.CondBr = codes "br "
+row_head O.Ret = codes "ret "
+row_head O.Unreachable = codes "unreachable"
+
+-- what a row names: most rows their operands, and behind them the type where one is written; a line for each that differs
+abbrev pub row_names : Function → Op → Option TypeTree → List Operand → List ℕ → Text
+row_names f O.Select written os ts = values_text f os
+row_names f O.Br written os ts = targets_text f ts
+row_names f O.CondBr written os ts = operands_text f os ++ codes ", " ++ targets_text f ts
+row_names f O.Ret written os ts = returned_text f os
+row_names f O.Unreachable written os ts = []
+row_names f _ written os ts = operands_text f os ++ to_text written
+
+abbrev pub row_text : Function → RowData → Text
+row_text f r = row_head r.op ++ row_names f r.op r.written r.operands r.targets
 
 -- an instruction whose result has that type
 abbrev pub instruction_text : Function → TypeTree → Instruction → Text
 instruction_text f type (Phi entries) = codes "phi " ++ type_text type ++ codes " " ++ entries_text f entries
-instruction_text f type (Applied r) = row_text f r.op r.operands r.targets
+instruction_text f type (Applied r) = row_text f r
 
 -- the result, where there is one
 abbrev pub gives_text : Function → TypeTree → Placed → Text

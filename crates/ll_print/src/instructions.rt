@@ -1,11 +1,13 @@
 //! Prints instructions.
 
-ghost use Rattle.std.specs.Prelude.{◌≡◌, ◌<◌, ◌++◌, All, OnOk, Some, codes, length, map};
+ghost use Rattle.std.specs.Prelude.{◌≡◌, ◌<◌, ◌++◌, All, OnOk, Some, IfSome, codes, length, map};
 ghost use Rattle.std.specs.List.{flat_map};
+ghost use Rattle.std.specs.Option.{option_map};
 ghost use Rattle.llvm_core.specs.declared.code.LLVMValue.TheVariants as values;
 ghost use Rattle.llvm_core.specs.Parts.{value_type};
+ghost use Rattle.llvm_core.specs.Sound.{IsModule};
 ghost use Rattle.llvm_core.specs.Data.{trees_of, type_at, operand_of, entry_of, instruction_of};
-ghost use Rattle.ll_print.specs.Printing.{type_text, flag_text, predicate_text, entry_text, entries_text, comma_text, operands_text, returned_text, targets_text, row_text, instruction_text};
+ghost use Rattle.ll_print.specs.Printing.{type_text, flag_text, predicate_text, entry_text, entries_text, comma_text, operands_text, values_text, to_text, flagged_text, returned_text, targets_text, row_head, row_names, instruction_text};
 ghost use Rattle.ll_print.specs.Parts.{function_in, gives_of, line_of, IsOwn, IsOwnBlock, OwnsEntry, OwnsOperands, OwnsInst, IsPrinting};
 
 use crate::numbers::Numbers;
@@ -32,12 +34,24 @@ fn put_flags(flags: OverflowFlags, out: &mut Vec<u8>) -> Result<(), AllocError>
     Ok(())
 }
 
-/// `add` and its flags, each before a blank.
-fn put_add(flags: OverflowFlags, out: &mut Vec<u8>) -> Result<(), AllocError>
-    ensures { OnOk result (out.new.items ≡ out.old.items ++ (codes "add " ++ flag_text (codes "nuw") flags.nuw ++ flag_text (codes "nsw") flags.nsw)) }
+/// A word and its flags, each before a blank.
+fn put_flagged(word: &[u8], flags: OverflowFlags, out: &mut Vec<u8>) -> Result<(), AllocError>
+    ensures { OnOk result (out.new.items ≡ out.old.items ++ flagged_text word.now flags) }
 {
-    out.extend_from_slice(b"add ")?;
+    out.extend_from_slice(word)?;
+    out.push(b' ')?;
     put_flags(flags, out)
+}
+
+/// `zext` and its flag, each before a blank.
+fn put_zext(nneg: bool, out: &mut Vec<u8>) -> Result<(), AllocError>
+    ensures { OnOk result (out.new.items ≡ out.old.items ++ (codes "zext " ++ flag_text (codes "nneg") nneg)) }
+{
+    out.extend_from_slice(b"zext ")?;
+    if nneg {
+        out.extend_from_slice(b"nneg ")?;
+    }
+    Ok(())
 }
 
 /// The word of a predicate.
@@ -197,7 +211,105 @@ fn put_phi(
     put_entries(alloc, m, numbers, entries, out)
 }
 
-/// A row: its word and what it names, a line for each.
+/// What stands before the operands and blocks of a row: its word and immediates, each before a blank, a line for each.
+fn put_head(op: Op, out: &mut Vec<u8>) -> Result<(), AllocError>
+    ensures { OnOk result (out.new.items ≡ out.old.items ++ row_head op) }
+{
+    match op {
+        Op::Add(flags) => put_flagged(b"add", flags, out),
+        Op::Sub(flags) => put_flagged(b"sub", flags, out),
+        Op::Mul(flags) => put_flagged(b"mul", flags, out),
+        Op::Shl(flags) => put_flagged(b"shl", flags, out),
+        Op::UDiv => out.extend_from_slice(b"udiv "),
+        Op::SDiv => out.extend_from_slice(b"sdiv "),
+        Op::URem => out.extend_from_slice(b"urem "),
+        Op::SRem => out.extend_from_slice(b"srem "),
+        Op::LShr => out.extend_from_slice(b"lshr "),
+        Op::AShr => out.extend_from_slice(b"ashr "),
+        Op::ICmp(predicate) => put_predicate(predicate, out),
+        Op::Trunc => out.extend_from_slice(b"trunc "),
+        Op::SExt => out.extend_from_slice(b"sext "),
+        Op::ZExt(nneg) => put_zext(nneg, out),
+        Op::Select => out.extend_from_slice(b"select "),
+        Op::Freeze => out.extend_from_slice(b"freeze "),
+        Op::Br => out.extend_from_slice(b"br "),
+        Op::CondBr => out.extend_from_slice(b"br "),
+        Op::Ret => out.extend_from_slice(b"ret "),
+        Op::Unreachable => out.extend_from_slice(b"unreachable"),
+    }
+}
+
+/// Operands, each behind its type.
+fn put_values(
+    alloc: Global,
+    m: &LLVMModule,
+    numbers: &Numbers,
+    operands: &[LLVMValue],
+    out: &mut Vec<u8>,
+) -> Result<(), AllocError>
+    requires printing { IsPrinting m.now numbers.now }
+    requires own { All (IsOwn m.now numbers.now.function) operands.now }
+    ensures { OnOk result (out.new.items ≡ out.old.items ++ values_text (function_in m.now numbers.now.function) (map (operand_of (trees_of m.now)) operands.now)) }
+{
+    for (place, operand) in operands.iter().enumerate() {
+        put_comma(place, out)?;
+        put_value(alloc, m, numbers, *operand, out)?;
+    }
+    Ok(())
+}
+
+/// The type that is written behind operands.
+fn put_written(
+    alloc: Global,
+    m: &LLVMModule,
+    written: Option<LLVMType>,
+    out: &mut Vec<u8>,
+) -> Result<(), AllocError>
+    requires sound { IsModule m.now }
+    requires within { IfSome written (λ t. t.0 < length m.now.types) }
+    ensures { OnOk result (out.new.items ≡ out.old.items ++ to_text (option_map (type_at (trees_of m.now).types) written)) }
+{
+    let Some(ty) = written else {
+        return Ok(());
+    };
+    out.extend_from_slice(b" to ")?;
+    put_type(alloc, m, ty, out)
+}
+
+/// What a row names: most rows their operands, and behind them the type where one is written.
+fn put_names(
+    alloc: Global,
+    m: &LLVMModule,
+    numbers: &Numbers,
+    row: &Row,
+    out: &mut Vec<u8>,
+) -> Result<(), AllocError>
+    requires printing { IsPrinting m.now numbers.now }
+    requires operands { All (IsOwn m.now numbers.now.function) row.now.operands }
+    requires targets { All (IsOwnBlock m.now numbers.now.function) row.now.targets }
+    requires written { IfSome row.now.written (λ t. t.0 < length m.now.types) }
+    ensures { OnOk result (out.new.items ≡ out.old.items ++ row_names (function_in m.now numbers.now.function) row.now.op (option_map (type_at (trees_of m.now).types) row.now.written) (map (operand_of (trees_of m.now)) row.now.operands) (map (λ b. b.0) row.now.targets)) }
+{
+    let operands = row.operands.as_slice();
+    let targets = row.targets.as_slice();
+    match row.op {
+        Op::Select => put_values(alloc, m, numbers, operands, out),
+        Op::Br => put_targets(alloc, m, numbers, targets, out),
+        Op::CondBr => {
+            put_operands(alloc, m, numbers, operands, out)?;
+            out.extend_from_slice(b", ")?;
+            put_targets(alloc, m, numbers, targets, out)
+        }
+        Op::Ret => put_returned(alloc, m, numbers, operands, out),
+        Op::Unreachable => Ok(()),
+        _ => {
+            put_operands(alloc, m, numbers, operands, out)?;
+            put_written(alloc, m, row.written, out)
+        }
+    }
+}
+
+/// A row: its word with its immediates, and what it names.
 fn put_row(
     alloc: Global,
     m: &LLVMModule,
@@ -208,35 +320,11 @@ fn put_row(
     requires printing { IsPrinting m.now numbers.now }
     requires operands { All (IsOwn m.now numbers.now.function) row.now.operands }
     requires targets { All (IsOwnBlock m.now numbers.now.function) row.now.targets }
-    ensures { OnOk result (out.new.items ≡ out.old.items ++ row_text (function_in m.now numbers.now.function) row.now.op (map (operand_of (trees_of m.now)) row.now.operands) (map (λ b. b.0) row.now.targets)) }
+    requires written { IfSome row.now.written (λ t. t.0 < length m.now.types) }
+    ensures { OnOk result (out.new.items ≡ out.old.items ++ (row_head row.now.op ++ row_names (function_in m.now numbers.now.function) row.now.op (option_map (type_at (trees_of m.now).types) row.now.written) (map (operand_of (trees_of m.now)) row.now.operands) (map (λ b. b.0) row.now.targets))) }
 {
-    let operands = row.operands.as_slice();
-    let targets = row.targets.as_slice();
-    match row.op {
-        Op::Add(flags) => {
-            put_add(flags, out)?;
-            put_operands(alloc, m, numbers, operands, out)
-        }
-        Op::ICmp(predicate) => {
-            put_predicate(predicate, out)?;
-            put_operands(alloc, m, numbers, operands, out)
-        }
-        Op::Br => {
-            out.extend_from_slice(b"br ")?;
-            put_targets(alloc, m, numbers, targets, out)
-        }
-        Op::CondBr => {
-            out.extend_from_slice(b"br ")?;
-            put_operands(alloc, m, numbers, operands, out)?;
-            out.extend_from_slice(b", ")?;
-            put_targets(alloc, m, numbers, targets, out)
-        }
-        Op::Ret => {
-            out.extend_from_slice(b"ret ")?;
-            put_returned(alloc, m, numbers, operands, out)
-        }
-        Op::Unreachable => out.extend_from_slice(b"unreachable"),
-    }
+    put_head(row.op, out)?;
+    put_names(alloc, m, numbers, row, out)
 }
 
 /// An instruction without its result, which has that type.

@@ -4,9 +4,10 @@ use Rattle.std.specs.Option.{option_map}
 use Rattle.llvm_core.specs.Names.{is_plain}
 use Rattle.llvm_core.specs.Data.{VoidType, IntType, FunctionType, TypeTrees, NoTypes, ThenType, Operand, Parameter, Result}
 use Rattle.ll_tree.specs.Text.{Text, number_limit, const_value}
-use Rattle.ll_tree.specs.Tree.{is_local, Inst, Add, ICmp, Phi, Incoming, Terminator, ReturnVoid, Return, Br, CondBr, Unreachable, Param}
+use Rattle.ll_tree.specs.Tree.{is_local, Inst, Binary, Cast, Select, Freeze, ICmp, Phi, Incoming, Terminator, ReturnVoid, Return, Br, CondBr, Unreachable, Param}
 use Rattle.ll_tree.specs.Chain.{◌>>=◌}
-use Rattle.ll_text.specs.Meaning.{Key, Named, Numbered, same_key, Local, ValueLocal, BlockLocal, Scope, with_key, counted, define, option_block, bit_width, predicate_of, written_name, result_width, value_of_width, constant, int_width, local_key, label_key, optional_key, value_of, block_of, define_written, named_inst, entries_data, inst_data, terminator_data, param_data, AreParams}
+use Rattle.ll_text.specs.Rows as Rows
+use Rattle.ll_text.specs.Meaning.{Key, Named, Numbered, same_key, Local, ValueLocal, BlockLocal, Scope, with_key, counted, define, option_block, bit_width, same_width, predicate_of, written_name, result_width, value_of_width, constant, int_width, local_key, label_key, optional_key, value_of, block_of, define_written, named_inst, entries_data, inst_data, terminator_data, param_data, AreParams}
 use Rattle.ll_text.specs.Refusals.{kind_of, Alike}
 
 -- ---- two answers that go together
@@ -169,8 +170,16 @@ sides_both s t w lhs rhs f g a h =
 
 pub inst_both : (s t : Scope) (i : Inst) → Alike s t → Both Any (inst_data is_plain 64 s i) (inst_data is_plain 64 t i)
 unfolding inst_data
-inst_both s t (Add name nuw nsw type lhs rhs) a =
-    same_bind Any (int_width is_plain 64 type) _ _ (λ w. sides_both s t w lhs rhs _ _ a (λ x y u v. tt))
+inst_both s t (Binary name word nuw nsw type lhs rhs) a =
+    same_bind Any (int_width is_plain 64 type) _ _ (λ w. sides_both s t w lhs rhs _ _ a (λ x y u v. same_bind Any (Rows.binary_op word (record { nuw = nuw; nsw = nsw })) _ _ (λ op. tt)))
+inst_both s t (Cast name word nneg type value to) a =
+    same_bind Any (int_width is_plain 64 type) _ _ (λ w. same_bind Any (int_width is_plain 64 to) _ _
+    (λ v. both_bind Any Any (value_of is_plain 64 s w value) (value_of is_plain 64 t w value) _ _ (value_both s t w value a) (λ x y h. same_bind Any (Rows.cast_op word nneg w v) _ _ (λ op. tt))))
+inst_both s t (Select name bit condition type lhs other rhs) a =
+    same_bind Any (bit_width (int_width is_plain 64 bit)) _ _ (λ one. same_bind Any (int_width is_plain 64 type) _ _ (λ w. same_bind Any (same_width w (int_width is_plain 64 other)) _ _
+    (λ same. both_bind Any Any (value_of is_plain 64 s one condition) (value_of is_plain 64 t one condition) _ _ (value_both s t one condition a) (λ x y h. sides_both s t w lhs rhs _ _ a (λ b c u v. tt)))))
+inst_both s t (Freeze name type value) a =
+    same_bind Any (int_width is_plain 64 type) _ _ (λ w. both_bind Any Any (value_of is_plain 64 s w value) (value_of is_plain 64 t w value) _ _ (value_both s t w value a) (λ x y h. tt))
 inst_both s t (ICmp name predicate type lhs rhs) a =
     same_bind Any (int_width is_plain 64 type) _ _ (λ w. sides_both s t w lhs rhs _ _ a (λ x y u v. same_bind Any (predicate_of predicate) _ _ (λ p. tt)))
 inst_both s t (Phi name type first more) a =

@@ -1,7 +1,8 @@
 -- An instruction is built: what stood in the module stands, and its result does.
-use Rattle.std.proofs.Common.{◌≡◌, ℕ, ◌+◌, Bool, true, if◌then◌else◌, All, List, [], ◌∷◌, ◌++◌, Option, Some, None, length, length-append, slice_get, IsTrue, refl, ap, sym, ◌∙◌, subst, eq-eqb, arith}
+use Rattle.std.proofs.Common.{◌≡◌, ℕ, ◌+◌, Bool, true, if◌then◌else◌, All, List, [], ◌∷◌, ◌++◌, Option, Some, None, length, length-append, map, slice_get, IsTrue, refl, ap, sym, ◌∙◌, subst, eq-eqb, arith}
 use Rattle.std.specs.Option.{option_map, option_map_or}
 use Rattle.std.proofs.lemmas.List.Elements.{All-nil, All-cons}
+use Rattle.std.proofs.lemmas.Option.{slice_get_within}
 use Rattle.llvm_core.proofs.GrowLemmas.{types_more}
 use Rattle.llvm_core.specs.declared.numbers.LLVMType.{LLVMType}
 use Rattle.llvm_core.specs.declared.numbers.LLVMBasicBlock.{LLVMBasicBlock}
@@ -13,20 +14,21 @@ use Rattle.llvm_core.specs.declared.types.ResultType.TheVariants as R
 use Rattle.kinds.specs.declared.op.LLVMIntPredicate.{LLVMIntPredicate}
 use Rattle.kinds.specs.declared.op.Op.{Op}
 use Rattle.kinds.specs.declared.op.Op.TheVariants as O
-use Rattle.kinds.specs.declared.rules.Fit.TheVariants as F
-use Rattle.kinds.specs.declared.rules.Takes.{Takes}
-use Rattle.kinds.specs.declared.rules.Takes.TheVariants as K
-use Rattle.kinds.specs.Fitting.{takes_fit, view_shape, view_same}
+use Rattle.kinds.specs.declared.rules.Gives as kinds
+use Rattle.kinds.specs.declared.rules.Gives.TheVariants as G
+use Rattle.kinds.specs.Table.{rule_of}
+use Rattle.kinds.specs.Typing.{fits_trees}
+use Rattle.llvm_core.specs.declared.code.Row.{Row}
+use Rattle.llvm_core.proofs.RuleLaws.{tree, tree_of, fits_by_tree}
 use Rattle.llvm_core.specs.declared.code.LLVMValue.{LLVMValue}
 use Rattle.llvm_core.specs.declared.code.LLVMValue.TheVariants as V
 use Rattle.llvm_core.specs.declared.code.LLVMInst.{LLVMInst}
 use Rattle.llvm_core.specs.declared.code.LLVMInst.TheVariants as I
-use Rattle.kinds.specs.declared.op.OverflowFlags.{OverflowFlags}
 use Rattle.llvm_core.specs.declared.code.InstData.{InstData}
 use Rattle.llvm_core.specs.Module.{Module}
 use Rattle.llvm_core.specs.Code.{code_of, with_code, with_inst}
 use Rattle.llvm_core.specs.Sound.{IsModule}
-use Rattle.llvm_core.specs.Parts.{IsValue, IsBlock, IsResultType, view, is_phi, value_type, result_type}
+use Rattle.llvm_core.specs.Parts.{IsValue, IsBlock, HasParts, IsResultType, given, is_phi, row_fits, type_nth, value_type, result_type}
 use Rattle.llvm_core.specs.Data.{TypeTree, IntType, VoidType, Placed, ModuleData, tree_of_result, trees_of, instruction_of, result_tree, data_of, with_instruction}
 use Rattle.support.proofs.ListLaws.{slice_get-kept, slice_get-push, length-with_change}
 use Rattle.llvm_core.proofs.DataLemmas.{int_tree_of}
@@ -206,28 +208,72 @@ end_added s i old mid new block n name inst only made said h number is named =
 abbrev pub row : Op → List LLVMValue → List LLVMBasicBlock → LLVMInst
 row op operands targets = I.Row (record { op = op; written = None; operands = operands; targets = targets })
 
-abbrev pub two_types : Module → Takes → (a b : LLVMValue) → Bool
-two_types m takes a b = takes_fit view_shape view_same takes 2 None (option_map (view m.types) (value_type m a)) (option_map (view m.types) (value_type m b)) None
-
--- two integers of one width are of one type
-both_fit : (m : Module) (a b : LLVMValue) (w : ℕ) → IsModule m → IsValueOf m a w → IsValueOf m b w → two_types m (K.Two F.Number F.First) a b ≡ true
-both_fit m a b w sound x y =
-    let same : x.type.0 ≡ y.type.0 = sound.types_once x.type.0 y.type.0 (T.Int w) x.int y.int in
-    rw (x.typed, y.typed, eq-eqb x.type.0 y.type.0 same, x.int) refl
-
 -- values that a row names are there
 both_there : (m : Module) (a b : LLVMValue) → IsValue m a → IsValue m b → All (IsValue m) (a ∷ b ∷ [])
 both_there m a b x y = All-cons (IsValue m) a (b ∷ []) x (All-cons (IsValue m) b [] y (All-nil (IsValue m)))
 
-pub add_gives : (m : Module) (a b : LLVMValue) (flags : OverflowFlags) (w : ℕ) → IsModule m → IsValueOf m a w → IsValueOf m b w → Gives m (row (O.Add flags) (a ∷ b ∷ []) []) w
-add_gives m a b flags w sound x y = record {
-  values = (both_there m a b x.there y.there, All-nil (IsBlock m), tt);
-  result = subst (λ (t : Bool). IsResultOf m.types w (if t then option_map R.There (value_type m a) else None)) (sym (both_fit m a b w sound x y))
-      (subst (λ (o : Option LLVMType). IsResultOf m.types w (option_map R.There o)) (sym x.typed) x.int);
+-- the tree of the type of a value that is there
+value_tree : (m : Module) (v : LLVMValue) (w : ℕ) (sound : IsModule m) → IsValueOf m v w → tree_of m sound v ≡ IntType w
+value_tree m v w sound x = ap (λ (o : Option LLVMType). option_map_or (tree m sound) o VoidType) x.typed ∙ int_tree_of m x.type w sound x.int
+
+-- a row fits where the trees of its types do
+row_fit : (m : Module) (r : Row) (w : Option TypeTree) (ts : List TypeTree) (sound : IsModule m) → HasParts m r → option_map (tree m sound) r.written ≡ w → map (tree_of m sound) r.operands ≡ ts → fits_trees r.op w ts ≡ true → row_fits m r ≡ true
+row_fit m r w ts sound parts written types fit =
+    sym (fits_by_tree m sound r parts) ∙ ap (λ (o : Option TypeTree). fits_trees r.op o (map (tree_of m sound) r.operands)) written ∙ ap (λ (us : List TypeTree). fits_trees r.op w us) types ∙ fit
+
+-- a row that fits gives what the table says
+row_gives : (m : Module) (r : Row) (g : kinds.Gives) (w : ℕ) → HasParts m r → row_fits m r ≡ true → (rule_of r.op).gives ≡ g → IsResultOf m.types w (given g r.written (type_nth m r.operands 0) (type_nth m r.operands 1)) → Gives m (I.Row r) w
+row_gives m r g w parts fit gives result = record {
+  values = parts;
+  result = subst (λ (t : Bool). IsResultOf m.types w (if t then given (rule_of r.op).gives r.written (type_nth m r.operands 0) (type_nth m r.operands 1) else None)) (sym fit)
+      (subst (λ (h : kinds.Gives). IsResultOf m.types w (given h r.written (type_nth m r.operands 0) (type_nth m r.operands 1))) (sym gives) result);
 }
 
+-- the type of a value is the one that is given
+typed_result : (m : Module) (v : LLVMValue) (w : ℕ) → IsValueOf m v w → IsResultOf m.types w (option_map R.There (value_type m v))
+typed_result m v w x = subst (λ (o : Option LLVMType). IsResultOf m.types w (option_map R.There o)) (sym x.typed) x.int
+
+-- two operands of one width, whatever is given
+sides_fit : (m : Module) (op : Op) (a b : LLVMValue) (w : ℕ) → IsModule m → fits_trees op None (IntType w ∷ IntType w ∷ []) ≡ true → IsValueOf m a w → IsValueOf m b w → row_fits m (record { op = op; written = None; operands = a ∷ b ∷ []; targets = [] }) ≡ true
+sides_fit m op a b w sound fit x y =
+    let one = value_tree m a w sound x in
+    let two = value_tree m b w sound y in
+    row_fit m (record { op = op; written = None; operands = a ∷ b ∷ []; targets = [] }) None (IntType w ∷ IntType w ∷ []) sound (both_there m a b x.there y.there, All-nil (IsBlock m), tt) refl (cc (one, two)) fit
+
+pub binary_gives : (m : Module) (a b : LLVMValue) (op : Op) (w : ℕ) → IsModule m → fits_trees op None (IntType w ∷ IntType w ∷ []) ≡ true → (rule_of op).gives ≡ G.First → IsValueOf m a w → IsValueOf m b w → Gives m (row op (a ∷ b ∷ []) []) w
+binary_gives m a b op w sound fit gives x y =
+    row_gives m (record { op = op; written = None; operands = a ∷ b ∷ []; targets = [] }) G.First w (both_there m a b x.there y.there, All-nil (IsBlock m), tt) (sides_fit m op a b w sound fit x y) gives (typed_result m a w x)
+
 pub icmp_gives : (m : Module) (a b : LLVMValue) (p : LLVMIntPredicate) (w : ℕ) → IsModule m → IsValueOf m a w → IsValueOf m b w → Gives m (row (O.ICmp p) (a ∷ b ∷ []) []) 1
-icmp_gives m a b p w sound x y = record {
-  values = (both_there m a b x.there y.there, All-nil (IsBlock m), tt);
-  result = subst (λ (t : Bool). IsResultOf m.types 1 (if t then Some R.Bit else None)) (sym (both_fit m a b w sound x y)) refl;
-}
+icmp_gives m a b p w sound x y =
+    let same = eq-eqb w w refl in
+    row_gives m (record { op = O.ICmp p; written = None; operands = a ∷ b ∷ []; targets = [] }) G.Bit 1 (both_there m a b x.there y.there, All-nil (IsBlock m), tt) (sides_fit m (O.ICmp p) a b w sound (rw same refl) x y) refl refl
+
+-- a row of one operand that writes the type of its result
+abbrev pub cast_row : Op → LLVMType → LLVMValue → LLVMInst
+cast_row op t v = I.Row (record { op = op; written = Some t; operands = v ∷ []; targets = [] })
+
+pub cast_gives : (m : Module) (a : LLVMValue) (t : LLVMType) (op : Op) (w v : ℕ) → IsModule m → fits_trees op (Some (IntType v)) (IntType w ∷ []) ≡ true → (rule_of op).gives ≡ G.Written → IsValueOf m a w → slice_get m.types t.0 ≡ Some (T.Int v) → Gives m (cast_row op t a) v
+cast_gives m a t op w v sound fit gives x int =
+    let r : Row = record { op = op; written = Some t; operands = a ∷ []; targets = [] } in
+    let parts : HasParts m r = (All-cons (IsValue m) a [] x.there (All-nil (IsValue m)), All-nil (IsBlock m), slice_get_within m.types t.0 (T.Int v) int) in
+    let to = int_tree_of m t v sound int in
+    let from = value_tree m a w sound x in
+    row_gives m r G.Written v parts (row_fit m r (Some (IntType v)) (IntType w ∷ []) sound parts (ap (λ (u : TypeTree). Some u) to) (ap (λ (u : TypeTree). u ∷ []) from) fit) gives int
+
+pub select_gives : (m : Module) (c a b : LLVMValue) (w : ℕ) → IsModule m → IsValueOf m c 1 → IsValueOf m a w → IsValueOf m b w → Gives m (row O.Select (c ∷ a ∷ b ∷ []) []) w
+select_gives m c a b w sound z x y =
+    let r : Row = record { op = O.Select; written = None; operands = c ∷ a ∷ b ∷ []; targets = [] } in
+    let parts : HasParts m r = (All-cons (IsValue m) c (a ∷ b ∷ []) z.there (both_there m a b x.there y.there), All-nil (IsBlock m), tt) in
+    let test = value_tree m c 1 sound z in
+    let one = value_tree m a w sound x in
+    let two = value_tree m b w sound y in
+    let same = eq-eqb w w refl in
+    row_gives m r G.Second w parts (row_fit m r None (IntType 1 ∷ IntType w ∷ IntType w ∷ []) sound parts refl (cc (test, one, two)) (rw same refl)) refl (typed_result m a w x)
+
+pub freeze_gives : (m : Module) (a : LLVMValue) (w : ℕ) → IsModule m → IsValueOf m a w → Gives m (row O.Freeze (a ∷ []) []) w
+freeze_gives m a w sound x =
+    let r : Row = record { op = O.Freeze; written = None; operands = a ∷ []; targets = [] } in
+    let parts : HasParts m r = (All-cons (IsValue m) a [] x.there (All-nil (IsValue m)), All-nil (IsBlock m), tt) in
+    let one = value_tree m a w sound x in
+    row_gives m r G.First w parts (row_fit m r None (IntType w ∷ []) sound parts refl (ap (λ (u : TypeTree). u ∷ []) one) refl) refl (typed_result m a w x)

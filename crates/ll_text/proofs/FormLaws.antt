@@ -13,9 +13,9 @@ use Rattle.llvm_core.specs.Form.{IsShortInt, IsShortResult, AreShortInts, operan
 use Rattle.ll_text.specs.Rows as Rows
 use Rattle.ll_tree.specs.Text.{Text}
 use Rattle.ll_tree.specs.Tree as tree
-use Rattle.ll_tree.specs.Tree.{Incoming, Inst, Add, ICmp, Phi, Terminator, ReturnVoid, Return, Br, CondBr, Unreachable, Param, Function, File, blocks_of}
+use Rattle.ll_tree.specs.Tree.{Incoming, Inst, Binary, Cast, Select, Freeze, ICmp, Phi, Terminator, ReturnVoid, Return, Br, CondBr, Unreachable, Param, Function, File, blocks_of}
 use Rattle.ll_text.specs.Spelling.{IsNumbered}
-use Rattle.ll_text.specs.Meaning.{ValueLocal, BlockLocal, Scope, empty_scope, bit_width, predicate_of, written_name, int_width, local_key, label_key, value_of, block_of, result_width, named_inst, AreNamed, entries_data, inst_data, terminator_data, AreInstructions, AreBlocks, result_data, AreParams, IsFunctionOf, AreFunctions, IsSource, IsFileOf}
+use Rattle.ll_text.specs.Meaning.{ValueLocal, BlockLocal, Scope, empty_scope, bit_width, same_width, predicate_of, written_name, int_width, local_key, label_key, value_of, block_of, result_width, named_inst, AreNamed, entries_data, inst_data, terminator_data, AreInstructions, AreBlocks, result_data, AreParams, IsFunctionOf, AreFunctions, IsSource, IsFileOf}
 use Rattle.ll_tree.proofs.Steps.{bind_some}
 use Rattle.ll_text.proofs.PlainLaws.{not_void, plain_or_none, local_plain, label_plain, written_plain, global_plain, string_plain, short_width, mapped}
 use Rattle.ll_text.proofs.ListLaws.{all_both}
@@ -62,13 +62,36 @@ one_bit (Some v) w e = let one : w ≡ 1 = grind (arith, nat_tests, e) in (omega
 
 inst_narrow : (d : L.Function) (s : Scope) (i : Inst) (x : TypeTree × L.Instruction) → Holds (Typed d) s → inst_data is_plain 64 s i ≡ Some x → IsNarrowPair d x
 unfolding inst_data
-inst_narrow d s (Add name nuw nsw type lhs rhs) x known e =
+inst_narrow d s (Binary name word nuw nsw type lhs rhs) x known e =
     let w = bind_some (int_width is_plain 64 type) _ x e in
     let a = bind_some (value_of is_plain 64 s w.0 lhs) _ x w.2 in
     let b = bind_some (value_of is_plain 64 s w.0 rhs) _ x a.2 in
+    let op = bind_some (Rows.binary_op word (record { nuw = nuw; nsw = nsw })) _ x b.2 in
     let short = short_width type w.0 w.1 in
-    pair_narrow d (IntType w.0, Rows.add nuw nsw a.0 b.0) x b.2
+    pair_narrow d (IntType w.0, Rows.binary op.0 a.0 b.0) x op.2
     (record { result = short; operands = (operand_narrow d s w.0 lhs a.0 known short a.1, (operand_narrow d s w.0 rhs b.0 known short b.1, tt)) })
+inst_narrow d s (Cast name word nneg type value to) x known e =
+    let w = bind_some (int_width is_plain 64 type) _ x e in
+    let v = bind_some (int_width is_plain 64 to) _ x w.2 in
+    let a = bind_some (value_of is_plain 64 s w.0 value) _ x v.2 in
+    let op = bind_some (Rows.cast_op word nneg w.0 v.0) _ x a.2 in
+    pair_narrow d (IntType v.0, Rows.cast op.0 v.0 a.0) x op.2 (record { result = short_width to v.0 v.1; operands = (operand_narrow d s w.0 value a.0 known (short_width type w.0 w.1) a.1, tt) })
+inst_narrow d s (Select name bit condition type lhs other rhs) x known e =
+    let one = bind_some (bit_width (int_width is_plain 64 bit)) _ x e in
+    let w = bind_some (int_width is_plain 64 type) _ x one.2 in
+    let u = bind_some (same_width w.0 (int_width is_plain 64 other)) _ x w.2 in
+    let c = bind_some (value_of is_plain 64 s one.0 condition) _ x u.2 in
+    let a = bind_some (value_of is_plain 64 s w.0 lhs) _ x c.2 in
+    let b = bind_some (value_of is_plain 64 s w.0 rhs) _ x a.2 in
+    let short = short_width type w.0 w.1 in
+    let test = operand_narrow d s one.0 condition c.0 known (one_bit (int_width is_plain 64 bit) one.0 one.1) c.1 in
+    pair_narrow d (IntType w.0, Rows.select c.0 a.0 b.0) x b.2
+    (record { result = short; operands = (test, (operand_narrow d s w.0 lhs a.0 known short a.1, (operand_narrow d s w.0 rhs b.0 known short b.1, tt))) })
+inst_narrow d s (Freeze name type value) x known e =
+    let w = bind_some (int_width is_plain 64 type) _ x e in
+    let a = bind_some (value_of is_plain 64 s w.0 value) _ x w.2 in
+    let short = short_width type w.0 w.1 in
+    pair_narrow d (IntType w.0, Rows.freeze a.0) x a.2 (record { result = short; operands = (operand_narrow d s w.0 value a.0 known short a.1, tt) })
 inst_narrow d s (ICmp name predicate type lhs rhs) x known e =
     let w = bind_some (int_width is_plain 64 type) _ x e in
     let a = bind_some (value_of is_plain 64 s w.0 lhs) _ x w.2 in

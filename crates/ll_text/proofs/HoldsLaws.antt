@@ -11,9 +11,9 @@ use Rattle.llvm_core.specs.Data.{TypeTree, VoidType, IntType, FunctionType, Type
 use Rattle.ll_text.specs.Rows as Rows
 use Rattle.ll_tree.specs.Text.{Text, number_limit, const_value}
 use Rattle.ll_tree.specs.Tree as tree
-use Rattle.ll_tree.specs.Tree.{is_local, Inst, Add, ICmp, Phi, Param, Function, blocks_of}
+use Rattle.ll_tree.specs.Tree.{is_local, Inst, Binary, Cast, Select, Freeze, ICmp, Phi, Param, Function, blocks_of}
 use Rattle.ll_tree.specs.Chain.{◌>>=◌}
-use Rattle.ll_text.specs.Meaning.{Key, Named, Numbered, same_key, Local, ValueLocal, BlockLocal, Scope, empty_scope, with_key, counted, define, value_of_width, constant, written_name, predicate_of, int_width, local_key, label_key, optional_key, value_of, define_written, result_width, named_inst, AreNamed, NamesBlock, NameBlocks, entries_data, inst_data, AreInstructions, IsTerminatorOf, IsBlockOf, AreBlocks, param_data, AreParams, IsFunctionOf}
+use Rattle.ll_text.specs.Meaning.{Key, Named, Numbered, same_key, Local, ValueLocal, BlockLocal, Scope, empty_scope, with_key, counted, define, bit_width, same_width, value_of_width, constant, written_name, predicate_of, int_width, local_key, label_key, optional_key, value_of, define_written, result_width, named_inst, AreNamed, NamesBlock, NameBlocks, entries_data, inst_data, AreInstructions, IsTerminatorOf, IsBlockOf, AreBlocks, param_data, AreParams, IsFunctionOf}
 use Rattle.ll_tree.proofs.Steps.{bind_some}
 use Rattle.ll_text.proofs.ListLaws.{all_each, all_front, all_flat, front_same, found}
 
@@ -139,12 +139,40 @@ module _ (is_name : Text → Bool) (widest : ℕ) where
   -- the type of a result is that of its width
   pub result_is : (s : Scope) (i : Inst) (type : TypeTree) (code : L.Instruction) (w : ℕ) → inst_data is_name widest s i ≡ Some (type, code) → result_width is_name widest i ≡ Some w → type ≡ IntType w
   unfolding inst_data
-  result_is s (Add name nuw nsw ty lhs rhs) type code w e f =
+  result_is s (Binary name word nuw nsw ty lhs rhs) type code w e f =
       let v = bind_some (int_width is_name widest ty) _ (type, code) e in
       let a = bind_some (value_of is_name widest s v.0 lhs) _ (type, code) v.2 in
       let b = bind_some (value_of is_name widest s v.0 rhs) _ (type, code) a.2 in
+      let op = bind_some (Rows.binary_op word (record { nuw = nuw; nsw = nsw })) _ (type, code) b.2 in
       let same : Some v.0 ≡ Some w = sym v.1 ∙ f in
-      let is = some_pair_parts (IntType v.0) type (Rows.add nuw nsw a.0 b.0) code b.2 in
+      let is = some_pair_parts (IntType v.0) type (Rows.binary op.0 a.0 b.0) code op.2 in
+      let first = is.0 in
+      cc
+  result_is s (Cast name word nneg ty value to) type code w e f =
+      let u = bind_some (int_width is_name widest ty) _ (type, code) e in
+      let v = bind_some (int_width is_name widest to) _ (type, code) u.2 in
+      let a = bind_some (value_of is_name widest s u.0 value) _ (type, code) v.2 in
+      let op = bind_some (Rows.cast_op word nneg u.0 v.0) _ (type, code) a.2 in
+      let same : Some v.0 ≡ Some w = sym v.1 ∙ f in
+      let is = some_pair_parts (IntType v.0) type (Rows.cast op.0 v.0 a.0) code op.2 in
+      let first = is.0 in
+      cc
+  result_is s (Select name bit condition ty lhs other rhs) type code w e f =
+      let one = bind_some (bit_width (int_width is_name widest bit)) _ (type, code) e in
+      let v = bind_some (int_width is_name widest ty) _ (type, code) one.2 in
+      let u = bind_some (same_width v.0 (int_width is_name widest other)) _ (type, code) v.2 in
+      let c = bind_some (value_of is_name widest s one.0 condition) _ (type, code) u.2 in
+      let a = bind_some (value_of is_name widest s v.0 lhs) _ (type, code) c.2 in
+      let b = bind_some (value_of is_name widest s v.0 rhs) _ (type, code) a.2 in
+      let same : Some v.0 ≡ Some w = sym v.1 ∙ f in
+      let is = some_pair_parts (IntType v.0) type (Rows.select c.0 a.0 b.0) code b.2 in
+      let first = is.0 in
+      cc
+  result_is s (Freeze name ty value) type code w e f =
+      let v = bind_some (int_width is_name widest ty) _ (type, code) e in
+      let a = bind_some (value_of is_name widest s v.0 value) _ (type, code) v.2 in
+      let same : Some v.0 ≡ Some w = sym v.1 ∙ f in
+      let is = some_pair_parts (IntType v.0) type (Rows.freeze a.0) code a.2 in
       let first = is.0 in
       cc
   result_is s (ICmp name predicate ty lhs rhs) type code w e f =

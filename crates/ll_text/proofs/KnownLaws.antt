@@ -12,7 +12,7 @@ use Rattle.ll_text.specs.ScopeView.{key_name}
 use Rattle.ll_text.specs.Numbered.{name_said}
 use Rattle.ll_text.specs.Building.{AllKnown, AllLocals}
 use Rattle.ll_tree.specs.Chain.{◌>>=◌}
-use Rattle.ll_text.specs.Meaning.{Key, Named, Numbered, same_key, Local, ValueLocal, BlockLocal, Scope, empty_scope, with_key, counted, define, value_of_width, constant, optional_key, value_of, define_written, local_key, label_key}
+use Rattle.ll_text.specs.Meaning.{Key, Named, Numbered, same_key, Local, ValueLocal, BlockLocal, Scope, empty_scope, with_key, counted, define, same_width, value_of_width, constant, optional_key, value_of, define_written, local_key, label_key}
 
 -- ---- steps that give something
 
@@ -27,6 +27,11 @@ same_triple {A} {B} {C} a d b e c f h =
     (ap (λ (x : A × B × C). x.0) s, ap (λ (x : A × B × C). let y : B × C = (x.1, x.2) in y) s)
 
 -- ---- names and widths
+
+-- a width that is the same as another is there
+pub same_there : (w : ℕ) (o : Option ℕ) (u : ℕ) → same_width w o ≡ Some u → (o ≡ Some u) × (u ≡ w)
+same_there w None u e = absurd cc
+same_there w (Some v) u e = let c = chosen (nat_eq v w) (Some v) u e in let same : v ≡ u = same_Some v u c.1 in (c.1, sym same ∙ eqb-true v w c.0)
 
 -- a key whose name is plain
 abbrev pub IsPlainKey : Key → Type 0

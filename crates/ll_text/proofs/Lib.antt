@@ -36,6 +36,7 @@ pub mod ReadLaws
 pub mod RefusalLaws
 pub mod RenumberLaws
 pub mod ResultLaws
+pub mod RowLaws
 pub mod SameLaws
 pub mod ScopeLaws
 pub mod SignatureLaws

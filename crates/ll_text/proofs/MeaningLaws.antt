@@ -10,10 +10,10 @@ use Rattle.llvm_core.specs.Data as L
 use Rattle.llvm_core.specs.Data.{TypeTree, VoidType, IntType, FunctionType, TypeTrees, NoTypes, ThenType, Operand, Placed, Block, ModuleData}
 use Rattle.ll_tree.specs.Text.{Text, is_bare, is_name_byte, width_of}
 use Rattle.ll_tree.specs.Tree as tree
-use Rattle.ll_tree.specs.Tree.{is_local, is_digits, Incoming, Inst, Add, ICmp, Phi, Terminator, ReturnVoid, Return, Br, CondBr, Unreachable, Param, Function, File, blocks_of}
+use Rattle.ll_tree.specs.Tree.{is_local, is_digits, Incoming, Inst, Binary, Cast, Select, Freeze, ICmp, Phi, Terminator, ReturnVoid, Return, Br, CondBr, Unreachable, Param, Function, File, blocks_of}
 use Rattle.ll_text.specs.Spelling.{widest}
 use Rattle.ll_tree.specs.Chain.{◌>>=◌}
-use Rattle.ll_text.specs.Meaning.{Key, Named, Local, ValueLocal, BlockLocal, Scope, empty_scope, legal_width, bit_width, written_name, int_width, key_of, local_key, label_key, optional_key, global_name, string_name, value_of, block_of, define_written, result_width, named_inst, AreNamed, NamesBlock, NameBlocks, entries_data, inst_data, terminator_data, AreInstructions, IsBlockOf, AreBlocks, param_data, result_data, AreParams, IsFunctionOf, AreFunctions, IsSource, IsFileOf}
+use Rattle.ll_text.specs.Meaning.{Key, Named, Local, ValueLocal, BlockLocal, Scope, empty_scope, legal_width, bit_width, same_width, written_name, int_width, key_of, local_key, label_key, optional_key, global_name, string_name, value_of, block_of, define_written, result_width, named_inst, AreNamed, NamesBlock, NameBlocks, entries_data, inst_data, terminator_data, AreInstructions, IsBlockOf, AreBlocks, param_data, result_data, AreParams, IsFunctionOf, AreFunctions, IsSource, IsFileOf}
 
 -- ---- what is given stays given
 
@@ -106,7 +106,10 @@ local_gives : (s : Scope) (x : Local) (o : Option Text) → Gives (define_writte
 local_gives s x o = written_gives s x (local_key is_plain 64) (local_key is_bare widest) (λ t. key_gives (drop 1 t)) o
 
 result_width_gives : (i : Inst) → Gives (result_width is_plain 64 i) (result_width is_bare widest i)
-result_width_gives (Add name nuw nsw type lhs rhs) = int_width_gives type
+result_width_gives (Binary name word nuw nsw type lhs rhs) = int_width_gives type
+result_width_gives (Cast name word nneg type value to) = int_width_gives to
+result_width_gives (Select name bit condition type lhs other rhs) = int_width_gives type
+result_width_gives (Freeze name type value) = int_width_gives type
 result_width_gives (ICmp name predicate type lhs rhs) = same_gives _
 result_width_gives (Phi name type first more) = int_width_gives type
 
@@ -122,24 +125,43 @@ entries_gives s w (e ∷ es) =
     (λ o. bind_gives (block_of is_plain 64 s e.block) (block_of is_bare widest s e.block) _ _ (block_gives s e.block)
     (λ b. bind_gives (entries_data is_plain 64 s w es) (entries_data is_bare widest s w es) _ _ (entries_gives s w es) (λ more. same_gives _)))
 
-inst_gives : (s : Scope) (i : Inst) → Gives (inst_data is_plain 64 s i) (inst_data is_bare widest s i)
-unfolding inst_data
-inst_gives s (Add name nuw nsw type lhs rhs) =
-    bind_gives (int_width is_plain 64 type) (int_width is_bare widest type) _ _ (int_width_gives type)
-    (λ w. bind_gives (value_of is_plain 64 s w lhs) (value_of is_bare widest s w lhs) _ _ (value_gives s w lhs)
-    (λ a. bind_gives (value_of is_plain 64 s w rhs) (value_of is_bare widest s w rhs) _ _ (value_gives s w rhs) (λ b. same_gives _)))
-inst_gives s (ICmp name predicate type lhs rhs) =
-    bind_gives (int_width is_plain 64 type) (int_width is_bare widest type) _ _ (int_width_gives type)
-    (λ w. bind_gives (value_of is_plain 64 s w lhs) (value_of is_bare widest s w lhs) _ _ (value_gives s w lhs)
-    (λ a. bind_gives (value_of is_plain 64 s w rhs) (value_of is_bare widest s w rhs) _ _ (value_gives s w rhs) (λ b. same_gives _)))
-inst_gives s (Phi name type first more) =
-    bind_gives (int_width is_plain 64 type) (int_width is_bare widest type) _ _ (int_width_gives type)
-    (λ w. bind_gives (entries_data is_plain 64 s w (first ∷ more)) (entries_data is_bare widest s w (first ∷ more)) _ _ (entries_gives s w (first ∷ more)) (λ es. same_gives _))
-
 -- one bit stays one bit
 bit_gives : (x y : Option ℕ) → Gives x y → Gives (bit_width x) (bit_width y)
 bit_gives None y h b e = cc
 bit_gives (Some w) y h b e = ap bit_width (h w refl) ∙ e
+
+-- the same width stays the same
+same_width_gives : (w : ℕ) (x y : Option ℕ) → Gives x y → Gives (same_width w x) (same_width w y)
+same_width_gives w None y h b e = cc
+same_width_gives w (Some u) y h b e = ap (same_width w) (h u refl) ∙ e
+
+-- both sides of an operation
+sides_gives : {A : Type 0} (s : Scope) (w : ℕ) (lhs rhs : Text) (f : Operand → Operand → Option A) → Gives (value_of is_plain 64 s w lhs >>= λ a. value_of is_plain 64 s w rhs >>= λ b. f a b) (value_of is_bare widest s w lhs >>= λ a. value_of is_bare widest s w rhs >>= λ b. f a b)
+sides_gives s w lhs rhs f =
+    bind_gives (value_of is_plain 64 s w lhs) (value_of is_bare widest s w lhs) _ _ (value_gives s w lhs)
+    (λ a. bind_gives (value_of is_plain 64 s w rhs) (value_of is_bare widest s w rhs) _ _ (value_gives s w rhs) (λ b. same_gives _))
+
+inst_gives : (s : Scope) (i : Inst) → Gives (inst_data is_plain 64 s i) (inst_data is_bare widest s i)
+unfolding inst_data
+inst_gives s (Binary name word nuw nsw type lhs rhs) =
+    bind_gives (int_width is_plain 64 type) (int_width is_bare widest type) _ _ (int_width_gives type) (λ w. sides_gives s w lhs rhs _)
+inst_gives s (Cast name word nneg type value to) =
+    bind_gives (int_width is_plain 64 type) (int_width is_bare widest type) _ _ (int_width_gives type)
+    (λ w. bind_gives (int_width is_plain 64 to) (int_width is_bare widest to) _ _ (int_width_gives to)
+    (λ v. bind_gives (value_of is_plain 64 s w value) (value_of is_bare widest s w value) _ _ (value_gives s w value) (λ a. same_gives _)))
+inst_gives s (Select name bit condition type lhs other rhs) =
+    bind_gives (bit_width (int_width is_plain 64 bit)) (bit_width (int_width is_bare widest bit)) _ _ (bit_gives (int_width is_plain 64 bit) (int_width is_bare widest bit) (int_width_gives bit))
+    (λ one. bind_gives (int_width is_plain 64 type) (int_width is_bare widest type) _ _ (int_width_gives type)
+    (λ w. bind_gives (same_width w (int_width is_plain 64 other)) (same_width w (int_width is_bare widest other)) _ _ (same_width_gives w (int_width is_plain 64 other) (int_width is_bare widest other) (int_width_gives other))
+    (λ same. bind_gives (value_of is_plain 64 s one condition) (value_of is_bare widest s one condition) _ _ (value_gives s one condition) (λ c. sides_gives s w lhs rhs _))))
+inst_gives s (Freeze name type value) =
+    bind_gives (int_width is_plain 64 type) (int_width is_bare widest type) _ _ (int_width_gives type)
+    (λ w. bind_gives (value_of is_plain 64 s w value) (value_of is_bare widest s w value) _ _ (value_gives s w value) (λ a. same_gives _))
+inst_gives s (ICmp name predicate type lhs rhs) =
+    bind_gives (int_width is_plain 64 type) (int_width is_bare widest type) _ _ (int_width_gives type) (λ w. sides_gives s w lhs rhs _)
+inst_gives s (Phi name type first more) =
+    bind_gives (int_width is_plain 64 type) (int_width is_bare widest type) _ _ (int_width_gives type)
+    (λ w. bind_gives (entries_data is_plain 64 s w (first ∷ more)) (entries_data is_bare widest s w (first ∷ more)) _ _ (entries_gives s w (first ∷ more)) (λ es. same_gives _))
 
 terminator_gives : (s : Scope) (i : Terminator) → Gives (terminator_data is_plain 64 s i) (terminator_data is_bare widest s i)
 unfolding terminator_data

@@ -28,13 +28,13 @@ use Rattle.support.proofs.ListLaws.{slice_get-kept}
 use Rattle.llvm_core.proofs.DataLemmas.{int_tree_of, int_const_of, placeholder_const_of}
 use Rattle.llvm_core.proofs.TreeLemmas.{const_at-kept, const_trees-retyped}
 use Rattle.ll_tree.specs.Text.{Text, const_value}
-use Rattle.ll_tree.specs.Tree.{Inst, Add, ICmp, Phi, Terminator, ReturnVoid, Return, Br, CondBr, Unreachable}
+use Rattle.ll_tree.specs.Tree.{Inst, Binary, Cast, Select, Freeze, ICmp, Phi, Terminator, ReturnVoid, Return, Br, CondBr, Unreachable}
 use Rattle.ll_text.specs.Meaning.{Local, ValueLocal, BlockLocal, Scope}
 use Rattle.ll_text.specs.declared.scope.Scope as code
 use Rattle.ll_text.specs.declared.scope.Local as code_local
 use Rattle.ll_text.specs.ScopeView.{key_view, local_view, Knows}
 use Rattle.ll_text.specs.Opening.{placeholder}
-use Rattle.ll_text.specs.Building.{AllLocals, IsValueOf, result_value, Stands, IsReady, OnlyInterns, IsNamedBy, IsLocalOf, IsTargetOf, SaysConstant, HasSlot, IsPhiAt, Slots, EndSlots, HasEndSlots, IsBuilt, Keeps}
+use Rattle.ll_text.specs.Building.{AllLocals, IsValueOf, result_value, Stands, IsReady, OnlyInterns, IsNamedBy, IsLocalOf, IsTargetOf, OpensValue, SaysConstant, HasSlot, IsPhiAt, Slots, EndSlots, HasEndSlots, IsBuilt, Keeps}
 use Rattle.ll_text.specs.Filling.{IsOpen, IsOpenEnd}
 
 -- ---- only types and constants are added
@@ -129,6 +129,13 @@ operand_longer m ts cs (V.Inst i) s h = refl
 -- what a value says stays
 pub operand_kept : (old new : Module) (v : LLVMValue) → OnlyInterns old new → IsModule old → IsValue old v → operand_of (trees_of new) v ≡ operand_of (trees_of old) v
 operand_kept old new v h s x = ap (λ (m : Module). operand_of (trees_of m) v) (is_longer old new h) ∙ operand_longer old h.more_types h.more_consts v s x
+
+pub opens_kept : (old new : Module) (s : Scope) (w : ℕ) (t : Text) (v : LLVMValue) → OnlyInterns old new → IsModule old → IsValue old v → OpensValue s w t old v → OpensValue s w t new v
+opens_kept old new s w t v h sound x says = record { says = says.says ∙ ap (λ (o : Operand). Some o) (sym (operand_kept old new v h sound x)) }
+
+-- a type stays
+pub int_kept : (old new : Module) (t : LLVMType) (w : ℕ) → OnlyInterns old new → slice_get old.types t.0 ≡ Some (T.Int w) → slice_get new.types t.0 ≡ Some (T.Int w)
+int_kept old new t w h int = ap (λ (ts : List LLVMTypeKind). slice_get ts t.0) h.types ∙ slice_get-kept old.types h.more_types t.0 (T.Int w) int
 
 -- ---- constants
 
@@ -233,7 +240,10 @@ ready_of built m c s sound knows all = record { sound = sound; stand = λ k x e.
 -- ---- operands of a kind
 
 pub slots_map : (S U : ℕ → ℕ → Type 0) (P Q : Type 0) (i : Inst) → ((p w : ℕ) → S p w → U p w) → (P → Q) → Slots S P i → Slots U Q i
-slots_map S U P Q (Add name nuw nsw type lhs rhs) f g h = λ w e. (f 0 w (h w e).0, f 1 w (h w e).1)
+slots_map S U P Q (Binary name word nuw nsw type lhs rhs) f g h = λ w e. (f 0 w (h w e).0, f 1 w (h w e).1)
+slots_map S U P Q (Cast name word nneg type value to) f g h = λ w e. f 0 w (h w e)
+slots_map S U P Q (Select name bit condition type lhs other rhs) f g h = λ w e. (f 0 1 (h w e).0, f 1 w (h w e).1, f 2 w (h w e).2)
+slots_map S U P Q (Freeze name type value) f g h = λ w e. f 0 w (h w e)
 slots_map S U P Q (ICmp name predicate type lhs rhs) f g h = λ w e. (f 0 w (h w e).0, f 1 w (h w e).1)
 slots_map S U P Q (Phi name type first more) f g h = g h
 

@@ -12,11 +12,13 @@ use Rattle.llvm_core.specs.Data.{TypeTree, VoidType, IntType, FunctionType, Type
 use Rattle.llvm_core.specs.Form.{IsShortInt, IsShortResult, AreShortInts, types_of, IsFormInstruction, IsFormPlaced, IsFormBlock, IsFormFunction, IsForm}
 use Rattle.ll_tree.specs.Text.{Text, is_bare}
 use Rattle.ll_tree.specs.Tree as tree
-use Rattle.ll_tree.specs.Tree.{Incoming, Inst, Add, ICmp, Phi, Terminator, ReturnVoid, Return, Br, CondBr, Unreachable, Param, Function, File, blocks_of}
+use Rattle.ll_tree.specs.Tree.{Incoming, Inst, Binary, Cast, Select, Freeze, ICmp, Phi, Terminator, ReturnVoid, Return, Br, CondBr, Unreachable, Param, Function, File, blocks_of}
 use Rattle.ll_text.specs.Spelling.{widest}
 use Rattle.ll_text.specs.Rows as Rows
-use Rattle.ll_text.specs.Meaning.{ValueLocal, BlockLocal, Scope, empty_scope, bit_width, predicate_of, written_name, int_width, local_key, value_of, block_of, define_written, result_width, named_inst, AreNamed, NamesBlock, NameBlocks, entries_data, inst_data, terminator_data, AreInstructions, IsBlockOf, AreBlocks, param_data, result_data, AreParams, IsFunctionOf, AreFunctions, IsSource, IsFileOf}
+use Rattle.ll_text.specs.Meaning.{ValueLocal, BlockLocal, Scope, empty_scope, bit_width, same_width, predicate_of, written_name, int_width, local_key, value_of, block_of, define_written, result_width, named_inst, AreNamed, NamesBlock, NameBlocks, entries_data, inst_data, terminator_data, AreInstructions, IsBlockOf, AreBlocks, param_data, result_data, AreParams, IsFunctionOf, AreFunctions, IsSource, IsFileOf}
+use Rattle.ll_tree.specs.Chain.{◌>>=◌}
 use Rattle.ll_tree.proofs.Steps.{bind_some}
+use Rattle.ll_text.proofs.KnownLaws.{same_there}
 use Rattle.ll_text.proofs.ListLaws.{all_front, all_back}
 use Rattle.ll_text.proofs.HoldsLaws.{Holds, Typed, param_is, SaysBlock, SayBlocks, say_blocks, result_is, scope_typed, value_typed}
 use Rattle.ll_text.proofs.NarrowNames.{global_narrow, string_narrow, int_width_narrow, HasPlainKeys, no_keys, written_narrow, value_narrow, target_narrow, bit_narrow}
@@ -45,32 +47,74 @@ FormPair d b x = IsFormInstruction d b x.0 x.1
 form_pair : (d : L.Function) (b : ℕ) (x y : TypeTree × L.Instruction) → Some y ≡ Some x → FormPair d b x → FormPair d b y
 form_pair d b x y e form = subst (FormPair d b) (sym (same_Some y x e)) form
 
-inst_narrow : (d : L.Function) (b : ℕ) (s : Scope) (i : Inst) (x : TypeTree × L.Instruction) → HasPlainKeys s → Holds (Typed d) s → inst_data is_bare widest s i ≡ Some x → FormPair d b x → inst_data is_plain 64 s i ≡ Some x
+-- the result of what is said has a narrow type
+result_short : (x y : TypeTree × L.Instruction) → Some y ≡ Some x → IsShortResult x.0 → IsShortResult y.0
+result_short x y e short = subst (λ (z : TypeTree × L.Instruction). IsShortResult z.0) (sym (same_Some y x e)) short
+
+-- the same width is read, where it is narrow
+same_narrow : (w : ℕ) (t : Text) (u : ℕ) → IsShortInt (IntType w) → same_width w (int_width is_bare widest t) ≡ Some u → same_width w (int_width is_plain 64 t) ≡ Some u
+same_narrow w t u short e =
+    let k = same_there w (int_width is_bare widest t) u e in
+    let narrow = int_width_narrow t u k.0 (subst (λ (v : ℕ). IsShortInt (IntType v)) (sym k.1) short) in
+    ap (same_width w) narrow ∙ sym (ap (same_width w) k.0) ∙ e
+
+-- both sides of an operation
+sides_narrow : {A : Type 0} (s : Scope) (w : ℕ) (lhs rhs : Text) (f : Operand → Operand → Option A) (x : A) → HasPlainKeys s
+    → (value_of is_bare widest s w lhs >>= λ a. value_of is_bare widest s w rhs >>= λ b. f a b) ≡ Some x → (value_of is_plain 64 s w lhs >>= λ a. value_of is_plain 64 s w rhs >>= λ b. f a b) ≡ Some x
+sides_narrow s w lhs rhs f x keys e =
+    let l = bind_some (value_of is_bare widest s w lhs) _ x e in
+    let r = bind_some (value_of is_bare widest s w rhs) _ x l.2 in
+    some_bound (value_of is_plain 64 s w lhs) _ l.0 _ (value_narrow s w lhs l.0 keys l.1) (some_bound (value_of is_plain 64 s w rhs) _ r.0 _ (value_narrow s w rhs r.0 keys r.1) r.2)
+
+inst_narrow : (d : L.Function) (b : ℕ) (s : Scope) (i : Inst) (x : TypeTree × L.Instruction) → HasPlainKeys s → Holds (Typed d) s → inst_data is_bare widest s i ≡ Some x → FormPair d b x → IsShortResult x.0 → inst_data is_plain 64 s i ≡ Some x
 unfolding inst_data
-inst_narrow d b s (Add name nuw nsw type lhs rhs) x keys known e form =
+inst_narrow d b s (Binary name word nuw nsw type lhs rhs) x keys known e form result =
     let w = bind_some (int_width is_bare widest type) _ x e in
     let l = bind_some (value_of is_bare widest s w.0 lhs) _ x w.2 in
     let r = bind_some (value_of is_bare widest s w.0 rhs) _ x l.2 in
-    let made = form_pair d b x (IntType w.0, Rows.add nuw nsw l.0 r.0) r.2 form in
-    let short = width_short d s w.0 lhs l.0 known l.1 (All-head IsShortInt (operand_type d l.0) (types_of d (r.0 ∷ [])) made.short) in
-    some_bound (int_width is_plain 64 type) _ w.0 _ (int_width_narrow type w.0 w.1 short)
-    (some_bound (value_of is_plain 64 s w.0 lhs) _ l.0 _ (value_narrow s w.0 lhs l.0 keys l.1)
-    (some_bound (value_of is_plain 64 s w.0 rhs) _ r.0 _ (value_narrow s w.0 rhs r.0 keys r.1) r.2))
-inst_narrow d b s (ICmp name predicate type lhs rhs) x keys known e form =
+    let q = bind_some (Rows.binary_op word (record { nuw = nuw; nsw = nsw })) _ x r.2 in
+    let short = result_short x (IntType w.0, Rows.binary q.0 l.0 r.0) q.2 result in
+    some_bound (int_width is_plain 64 type) _ w.0 _ (int_width_narrow type w.0 w.1 short) (sides_narrow s w.0 lhs rhs _ x keys w.2)
+inst_narrow d b s (Cast name word nneg type value to) x keys known e form result =
+    let w = bind_some (int_width is_bare widest type) _ x e in
+    let v = bind_some (int_width is_bare widest to) _ x w.2 in
+    let o = bind_some (value_of is_bare widest s w.0 value) _ x v.2 in
+    let q = bind_some (Rows.cast_op word nneg w.0 v.0) _ x o.2 in
+    let made = form_pair d b x (IntType v.0, Rows.cast q.0 v.0 o.0) q.2 form in
+    let from = width_short d s w.0 value o.0 known o.1 (All-head IsShortInt (operand_type d o.0) [] made.short) in
+    let short = result_short x (IntType v.0, Rows.cast q.0 v.0 o.0) q.2 result in
+    some_bound (int_width is_plain 64 type) _ w.0 _ (int_width_narrow type w.0 w.1 from)
+    (some_bound (int_width is_plain 64 to) _ v.0 _ (int_width_narrow to v.0 v.1 short) (some_bound (value_of is_plain 64 s w.0 value) _ o.0 _ (value_narrow s w.0 value o.0 keys o.1) o.2))
+inst_narrow d b s (Select name bit condition type lhs other rhs) x keys known e form result =
+    let one = bind_some (bit_width (int_width is_bare widest bit)) _ x e in
+    let w = bind_some (int_width is_bare widest type) _ x one.2 in
+    let u = bind_some (same_width w.0 (int_width is_bare widest other)) _ x w.2 in
+    let c = bind_some (value_of is_bare widest s one.0 condition) _ x u.2 in
+    let l = bind_some (value_of is_bare widest s w.0 lhs) _ x c.2 in
+    let r = bind_some (value_of is_bare widest s w.0 rhs) _ x l.2 in
+    let short = result_short x (IntType w.0, Rows.select c.0 l.0 r.0) r.2 result in
+    some_bound (bit_width (int_width is_plain 64 bit)) _ one.0 _ (bit_narrow bit one.0 one.1)
+    (some_bound (int_width is_plain 64 type) _ w.0 _ (int_width_narrow type w.0 w.1 short)
+    (some_bound (same_width w.0 (int_width is_plain 64 other)) _ u.0 _ (same_narrow w.0 other u.0 short u.1)
+    (some_bound (value_of is_plain 64 s one.0 condition) _ c.0 _ (value_narrow s one.0 condition c.0 keys c.1) (sides_narrow s w.0 lhs rhs _ x keys c.2))))
+inst_narrow d b s (Freeze name type value) x keys known e form result =
+    let w = bind_some (int_width is_bare widest type) _ x e in
+    let o = bind_some (value_of is_bare widest s w.0 value) _ x w.2 in
+    let short = result_short x (IntType w.0, Rows.freeze o.0) o.2 result in
+    some_bound (int_width is_plain 64 type) _ w.0 _ (int_width_narrow type w.0 w.1 short) (some_bound (value_of is_plain 64 s w.0 value) _ o.0 _ (value_narrow s w.0 value o.0 keys o.1) o.2)
+inst_narrow d b s (ICmp name predicate type lhs rhs) x keys known e form result =
     let w = bind_some (int_width is_bare widest type) _ x e in
     let l = bind_some (value_of is_bare widest s w.0 lhs) _ x w.2 in
     let r = bind_some (value_of is_bare widest s w.0 rhs) _ x l.2 in
     let q = bind_some (predicate_of predicate) _ x r.2 in
     let made = form_pair d b x (IntType 1, Rows.icmp q.0 l.0 r.0) q.2 form in
     let short = width_short d s w.0 lhs l.0 known l.1 (All-head IsShortInt (operand_type d l.0) (types_of d (r.0 ∷ [])) made.short) in
-    some_bound (int_width is_plain 64 type) _ w.0 _ (int_width_narrow type w.0 w.1 short)
-    (some_bound (value_of is_plain 64 s w.0 lhs) _ l.0 _ (value_narrow s w.0 lhs l.0 keys l.1)
-    (some_bound (value_of is_plain 64 s w.0 rhs) _ r.0 _ (value_narrow s w.0 rhs r.0 keys r.1) r.2))
-inst_narrow d b s (Phi name type first more) x keys known e form =
+    some_bound (int_width is_plain 64 type) _ w.0 _ (int_width_narrow type w.0 w.1 short) (sides_narrow s w.0 lhs rhs _ x keys w.2)
+inst_narrow d b s (Phi name type first more) x keys known e form result =
     let w = bind_some (int_width is_bare widest type) _ x e in
     let es = bind_some (entries_data is_bare widest s w.0 (first ∷ more)) _ x w.2 in
-    let made = form_pair d b x (IntType w.0, L.Phi es.0) es.2 form in
-    some_bound (int_width is_plain 64 type) _ w.0 _ (int_width_narrow type w.0 w.1 made.2)
+    let short = result_short x (IntType w.0, L.Phi es.0) es.2 result in
+    some_bound (int_width is_plain 64 type) _ w.0 _ (int_width_narrow type w.0 w.1 short)
     (some_bound (entries_data is_plain 64 s w.0 (first ∷ more)) _ es.0 _ (entries_narrow s w.0 (first ∷ more) es.0 keys es.1) es.2)
 
 terminator_narrow : (d : L.Function) (b : ℕ) (t : TypeTree) (s : Scope) (i : Terminator) (x : L.Instruction) → HasPlainKeys s → Holds (Typed d) s → terminator_data is_bare widest s i ≡ Some x → IsFormInstruction d b t x → terminator_data is_plain 64 s i ≡ Some x
@@ -99,7 +143,10 @@ terminator_narrow d b p s Unreachable x keys known e form = e
 -- ---- names and widths of results
 
 width_narrow : (i : Inst) (w : ℕ) → IsShortInt (IntType w) → result_width is_bare widest i ≡ Some w → result_width is_plain 64 i ≡ Some w
-width_narrow (Add name nuw nsw type lhs rhs) w short e = int_width_narrow type w e short
+width_narrow (Binary name word nuw nsw type lhs rhs) w short e = int_width_narrow type w e short
+width_narrow (Cast name word nneg type value to) w short e = int_width_narrow to w e short
+width_narrow (Select name bit condition type lhs other rhs) w short e = int_width_narrow type w e short
+width_narrow (Freeze name type value) w short e = int_width_narrow type w e short
 width_narrow (ICmp name predicate type lhs rhs) w short e = e
 width_narrow (Phi name type first more) w short e = int_width_narrow type w e short
 
@@ -149,7 +196,7 @@ labels_narrow d whole s (b ∷ bs) [] t h forms keys = elim h [ ]
 
 insts_narrow : (d : L.Function) (b : ℕ) (s : Scope) (is : List Inst) (ps : List Placed) → HasPlainKeys s → Holds (Typed d) s → Forms d b ps → AreInstructions is_bare widest s is ps → AreInstructions is_plain 64 s is ps
 insts_narrow d b s [] [] keys known forms h = tt
-insts_narrow d b s (i ∷ is) (p ∷ ps) keys known forms h = (inst_narrow d b s i (p.type, p.instruction) keys known h.0 forms.0.instruction, insts_narrow d b s is ps keys known forms.1 h.1)
+insts_narrow d b s (i ∷ is) (p ∷ ps) keys known forms h = (inst_narrow d b s i (p.type, p.instruction) keys known h.0 forms.0.instruction forms.0.short, insts_narrow d b s is ps keys known forms.1 h.1)
 insts_narrow d b s [] (p ∷ ps) keys known forms h = elim h [ ]
 insts_narrow d b s (i ∷ is) [] keys known forms h = elim h [ ]
 

@@ -1,5 +1,6 @@
 -- Steps that may give nothing, one after another.
-use Rattle.std.proofs.Common.{◌≡◌, List, [], ◌∷◌, ◌++◌, Option, Some, None, refl, ap, ◌∙◌}
+use Rattle.std.specs.Prelude.{is_some, IfSome, IfNone}
+use Rattle.std.proofs.Common.{◌≡◌, true, false, List, [], ◌∷◌, ◌++◌, Option, Some, None, refl, ap, ◌∙◌}
 use Rattle.ll_tree.specs.Chain.{◌>>=◌}
 
 pub none_bound : {A B : Type 0} (x : Option A) (f : A → Option B) → x ≡ None → (x >>= f) ≡ None
@@ -23,6 +24,15 @@ bind_same (Some a) f g h = h a
 pub bind_id : {A : Type 0} (x : Option A) → (x >>= λ a. Some a) ≡ x
 bind_id None = refl
 bind_id (Some a) = refl
+
+-- what is said of nothing, and of something, where a test finds it
+pub none_there : {A P : Type 0} (o : Option A) → IfNone o P → is_some o ≡ false → P
+none_there None p e = p
+none_there (Some a) p e = absurd cc
+
+pub some_there : {A : Type 0} (Q : A → Type 0) (o : Option A) → IfSome o Q → is_some o ≡ true → (x : A) × Q x
+some_there Q None q e = absurd cc
+some_there Q (Some a) q e = (a, q)
 
 -- ---- lists of things, each of which may be nothing
 

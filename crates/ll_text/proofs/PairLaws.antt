@@ -10,9 +10,9 @@ use Rattle.llvm_core.specs.Data.{TypeTree, VoidType, IntType, FunctionType, Type
 use Rattle.ll_text.specs.Rows as Rows
 use Rattle.ll_tree.specs.Text.{Text, number_limit, const_value}
 use Rattle.ll_tree.specs.Tree as tree
-use Rattle.ll_tree.specs.Tree.{is_local, Incoming, Inst, Add, ICmp, Phi, Terminator, ReturnVoid, Return, Br, CondBr, Unreachable, Param, Function, blocks_of}
+use Rattle.ll_tree.specs.Tree.{is_local, Incoming, Inst, Binary, Cast, Select, Freeze, ICmp, Phi, Terminator, ReturnVoid, Return, Br, CondBr, Unreachable, Param, Function, blocks_of}
 use Rattle.ll_tree.specs.Chain.{◌>>=◌}
-use Rattle.ll_text.specs.Meaning.{Key, Named, Numbered, same_key, Local, ValueLocal, BlockLocal, Scope, empty_scope, with_key, counted, define, bit_width, value_of_width, option_block, predicate_of, written_name, constant, int_width, local_key, label_key, optional_key, global_name, value_of, block_of, define_written, result_width, named_inst, AreNamed, entries_data, inst_data, terminator_data, AreInstructions, param_data, result_data, AreParams, IsFunctionOf}
+use Rattle.ll_text.specs.Meaning.{Key, Named, Numbered, same_key, Local, ValueLocal, BlockLocal, Scope, empty_scope, with_key, counted, define, bit_width, same_width, value_of_width, option_block, predicate_of, written_name, constant, int_width, local_key, label_key, optional_key, global_name, value_of, block_of, define_written, result_width, named_inst, AreNamed, entries_data, inst_data, terminator_data, AreInstructions, param_data, result_data, AreParams, IsFunctionOf}
 use Rattle.ll_tree.proofs.Steps.{bind_some}
 use Rattle.ll_text.proofs.HoldsLaws.{param_is, SaysBlock, SayBlocks, say_blocks}
 use Rattle.ll_text.proofs.NumberLaws.{block_numbers, result_numbers}
@@ -243,19 +243,43 @@ module _ (m n : ℕ) (blocks results : ℕ → ℕ → Type 0) where
     codes_pair : (x y a b : TypeTree × L.Instruction) → Some a ≡ Some x → Some b ≡ Some y → CodesPair a b → CodesPair x y
     codes_pair x y a b e f h = subst (λ (x : TypeTree × L.Instruction). CodesPair x y) (same_Some a x e) (subst (CodesPair a) (same_Some b y f) h)
 
+    -- both sides of an operation
+    sides_pair : {B P : Type 0} (s t : Scope) (w : ℕ) (lhs rhs : Text) (f g : Operand → Operand → Option B) (x y : B) → ScopePair s t
+        → (value_of is_name widest s w lhs >>= λ a. value_of is_name widest s w rhs >>= λ b. f a b) ≡ Some x → (value_of is_name widest t w lhs >>= λ c. value_of is_name widest t w rhs >>= λ d. g c d) ≡ Some y
+        → ((a b c d : Operand) → AllZip OperandPair (a ∷ b ∷ []) (c ∷ d ∷ []) → f a b ≡ Some x → g c d ≡ Some y → P) → P
+    sides_pair s t w lhs rhs f g x y h e k both =
+        two_steps OperandPair (value_of is_name widest s w lhs) (value_of is_name widest t w lhs) _ _ x y e k (λ o p. value_pair s t w lhs o p h) (λ a c left e k.
+        two_steps OperandPair (value_of is_name widest s w rhs) (value_of is_name widest t w rhs) _ _ x y e k (λ o p. value_pair s t w rhs o p h) (λ b d right e k. both a b c d (left, (right, tt)) e k))
+
     inst_pair : (s t : Scope) (i : Inst) (x y : TypeTree × L.Instruction) → ScopePair s t → inst_data is_name widest s i ≡ Some x → inst_data is_name widest t i ≡ Some y → CodesPair x y
     unfolding inst_data
-    inst_pair s t (Add name nuw nsw type lhs rhs) x y h e f =
+    inst_pair s t (Binary name word nuw nsw type lhs rhs) x y h e f =
         one_step (int_width is_name widest type) _ _ x y e f (λ w e f.
-        two_steps OperandPair (value_of is_name widest s w lhs) (value_of is_name widest t w lhs) _ _ x y e f (λ o p. value_pair s t w lhs o p h) (λ a c left e f.
-        two_steps OperandPair (value_of is_name widest s w rhs) (value_of is_name widest t w rhs) _ _ x y e f (λ o p. value_pair s t w rhs o p h) (λ b d right e f.
-        codes_pair x y (IntType w, Rows.add nuw nsw a b) (IntType w, Rows.add nuw nsw c d) e f (refl, record { op = refl; written = refl; operands = (left, (right, tt)); targets = tt }))))
+        sides_pair s t w lhs rhs _ _ x y h e f (λ a b c d both e f.
+        one_step (Rows.binary_op word (record { nuw = nuw; nsw = nsw })) _ _ x y e f (λ op e f.
+        codes_pair x y (IntType w, Rows.binary op a b) (IntType w, Rows.binary op c d) e f (refl, record { op = refl; written = refl; operands = both; targets = tt }))))
+    inst_pair s t (Cast name word nneg type value to) x y h e f =
+        one_step (int_width is_name widest type) _ _ x y e f (λ w e f.
+        one_step (int_width is_name widest to) _ _ x y e f (λ v e f.
+        two_steps OperandPair (value_of is_name widest s w value) (value_of is_name widest t w value) _ _ x y e f (λ o p. value_pair s t w value o p h) (λ a c pair e f.
+        one_step (Rows.cast_op word nneg w v) _ _ x y e f (λ op e f.
+        codes_pair x y (IntType v, Rows.cast op v a) (IntType v, Rows.cast op v c) e f (refl, record { op = refl; written = refl; operands = (pair, tt); targets = tt })))))
+    inst_pair s t (Select name bit condition type lhs other rhs) x y h e f =
+        one_step (bit_width (int_width is_name widest bit)) _ _ x y e f (λ one e f.
+        one_step (int_width is_name widest type) _ _ x y e f (λ w e f.
+        one_step (same_width w (int_width is_name widest other)) _ _ x y e f (λ same e f.
+        two_steps OperandPair (value_of is_name widest s one condition) (value_of is_name widest t one condition) _ _ x y e f (λ o p. value_pair s t one condition o p h) (λ o p test e f.
+        sides_pair s t w lhs rhs _ _ x y h e f (λ a b c d both e f.
+        codes_pair x y (IntType w, Rows.select o a b) (IntType w, Rows.select p c d) e f (refl, record { op = refl; written = refl; operands = (test, both); targets = tt }))))))
+    inst_pair s t (Freeze name type value) x y h e f =
+        one_step (int_width is_name widest type) _ _ x y e f (λ w e f.
+        two_steps OperandPair (value_of is_name widest s w value) (value_of is_name widest t w value) _ _ x y e f (λ o p. value_pair s t w value o p h) (λ a c pair e f.
+        codes_pair x y (IntType w, Rows.freeze a) (IntType w, Rows.freeze c) e f (refl, record { op = refl; written = refl; operands = (pair, tt); targets = tt })))
     inst_pair s t (ICmp name predicate type lhs rhs) x y h e f =
         one_step (int_width is_name widest type) _ _ x y e f (λ w e f.
-        two_steps OperandPair (value_of is_name widest s w lhs) (value_of is_name widest t w lhs) _ _ x y e f (λ o p. value_pair s t w lhs o p h) (λ a c left e f.
-        two_steps OperandPair (value_of is_name widest s w rhs) (value_of is_name widest t w rhs) _ _ x y e f (λ o p. value_pair s t w rhs o p h) (λ b d right e f.
+        sides_pair s t w lhs rhs _ _ x y h e f (λ a b c d both e f.
         one_step (predicate_of predicate) _ _ x y e f (λ p e f.
-        codes_pair x y (IntType 1, Rows.icmp p a b) (IntType 1, Rows.icmp p c d) e f (refl, record { op = refl; written = refl; operands = (left, (right, tt)); targets = tt })))))
+        codes_pair x y (IntType 1, Rows.icmp p a b) (IntType 1, Rows.icmp p c d) e f (refl, record { op = refl; written = refl; operands = both; targets = tt }))))
     inst_pair s t (Phi name type first more) x y h e f =
         one_step (int_width is_name widest type) _ _ x y e f (λ w e f.
         two_steps (AllZip EntryPair) (entries_data is_name widest s w (first ∷ more)) (entries_data is_name widest t w (first ∷ more)) _ _ x y e f (λ o p. entries_pair s t w (first ∷ more) o p h) (λ es ds each e f.

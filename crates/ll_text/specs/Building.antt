@@ -21,7 +21,7 @@ use Rattle.ll_text.specs.declared.scope.Scope as code
 use Rattle.ll_text.specs.declared.scope.Key as code_key
 use Rattle.ll_text.specs.declared.scope.Local as code_local
 use Rattle.ll_text.specs.ScopeView.{local_view, local_at, Knows}
-use Rattle.ll_tree.specs.Tree.{Inst, Add, ICmp, Phi, Terminator, ReturnVoid, Return, Br, CondBr, Unreachable}
+use Rattle.ll_tree.specs.Tree.{Inst, Binary, Cast, Select, Freeze, ICmp, Phi, Terminator, ReturnVoid, Return, Br, CondBr, Unreachable}
 use Rattle.ll_tree.specs.Text.{Text, const_value}
 use Rattle.ll_text.specs.Meaning.{Key, Local, ValueLocal, BlockLocal, Scope, value_of, block_of, constant, int_width, result_width}
 use Rattle.ll_text.specs.Numbered.{result_name}
@@ -132,7 +132,10 @@ IsPhiAt m n = let i : LLVMInstRef = record { 0 = n } in IsPhi m.insts i
 
 -- what is asked of the operands of an instruction, by place and width, and of a phi: a line for each kind
 abbrev pub Slots : (ℕ → ℕ → Type 0) → Type 0 → Inst → Type 0
-Slots Slot IsPhi (Add name nuw nsw type lhs rhs) = (w : ℕ) → int_width is_plain 64 type ≡ Some w → Slot 0 w × Slot 1 w
+Slots Slot IsPhi (Binary name word nuw nsw type lhs rhs) = (w : ℕ) → int_width is_plain 64 type ≡ Some w → Slot 0 w × Slot 1 w
+Slots Slot IsPhi (Cast name word nneg type value to) = (w : ℕ) → int_width is_plain 64 type ≡ Some w → Slot 0 w
+Slots Slot IsPhi (Select name bit condition type lhs other rhs) = (w : ℕ) → int_width is_plain 64 type ≡ Some w → Slot 0 1 × Slot 1 w × Slot 2 w
+Slots Slot IsPhi (Freeze name type value) = (w : ℕ) → int_width is_plain 64 type ≡ Some w → Slot 0 w
 Slots Slot IsPhi (ICmp name predicate type lhs rhs) = (w : ℕ) → int_width is_plain 64 type ≡ Some w → Slot 0 w × Slot 1 w
 Slots Slot IsPhi (Phi name type first more) = IsPhi
 

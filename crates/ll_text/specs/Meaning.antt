@@ -11,7 +11,7 @@ use Rattle.llvm_core.specs.Data.{TypeTree, VoidType, IntType, FunctionType, Type
 use Rattle.ll_tree.specs.Chain.{◌>>=◌}
 use Rattle.ll_tree.specs.Text.{Text, number_of, number_limit, width_of, const_value}
 use Rattle.ll_tree.specs.Tree as tree
-use Rattle.ll_tree.specs.Tree.{is_local, is_digits, Inst, Add, ICmp, Phi, Incoming, Terminator, ReturnVoid, Return, Br, CondBr, Unreachable, Param, Function, File, blocks_of}
+use Rattle.ll_tree.specs.Tree.{is_local, is_digits, Inst, Binary, Cast, Select, Freeze, ICmp, Phi, Incoming, Terminator, ReturnVoid, Return, Br, CondBr, Unreachable, Param, Function, File, blocks_of}
 
 -- the words of the predicates
 abbrev pub predicate_words : List (Text × LLVMIntPredicate)
@@ -82,13 +82,21 @@ abbrev pub bit_width : Option ℕ → Option ℕ
 bit_width None = None
 bit_width (Some w) = if nat_eq w 1 then Some w else None
 
+-- the width, where the other one is the same
+abbrev pub same_width : ℕ → Option ℕ → Option ℕ
+same_width w None = None
+same_width w (Some u) = if nat_eq u w then Some u else None
+
 -- the predicate of a word
 abbrev pub predicate_of : Text → Option LLVMIntPredicate
 predicate_of t = lookup (bytes_eq t) predicate_words
 
 -- what is written of the name of an instruction's result
 abbrev pub written_name : Inst → Option Text
-written_name (Add name nuw nsw type lhs rhs) = name
+written_name (Binary name word nuw nsw type lhs rhs) = name
+written_name (Cast name word nneg type value to) = name
+written_name (Select name bit condition type lhs other rhs) = name
+written_name (Freeze name type value) = name
 written_name (ICmp name predicate type lhs rhs) = name
 written_name (Phi name type first more) = name
 
@@ -142,7 +150,10 @@ module _ (is_name : Text → Bool) (widest : ℕ) where
 
   -- the width of an instruction's result: a line for each kind
   abbrev pub result_width : Inst → Option ℕ
-  result_width (Add name nuw nsw type lhs rhs) = int_width type
+  result_width (Binary name word nuw nsw type lhs rhs) = int_width type
+  result_width (Cast name word nneg type value to) = int_width to
+  result_width (Select name bit condition type lhs other rhs) = int_width type
+  result_width (Freeze name type value) = int_width type
   result_width (ICmp name predicate type lhs rhs) = Some 1
   result_width (Phi name type first more) = int_width type
 
@@ -185,11 +196,30 @@ module _ (is_name : Text → Bool) (widest : ℕ) where
 
   -- the type of the result and the instruction: a line for each kind
   unfoldable pub inst_data : Scope → Inst → Option (TypeTree × L.Instruction)
-  inst_data s (Add name nuw nsw type lhs rhs) = do
+  inst_data s (Binary name word nuw nsw type lhs rhs) = do
     w ← int_width type
     a ← value_of s w lhs
     b ← value_of s w rhs
-    Some (IntType w, Rows.add nuw nsw a b)
+    op ← Rows.binary_op word (record { nuw = nuw; nsw = nsw })
+    Some (IntType w, Rows.binary op a b)
+  inst_data s (Cast name word nneg type value to) = do
+    w ← int_width type
+    v ← int_width to
+    a ← value_of s w value
+    op ← Rows.cast_op word nneg w v
+    Some (IntType v, Rows.cast op v a)
+  inst_data s (Select name bit condition type lhs other rhs) = do
+    one ← bit_width (int_width bit)
+    w ← int_width type
+    same ← same_width w (int_width other)
+    c ← value_of s one condition
+    a ← value_of s w lhs
+    b ← value_of s w rhs
+    Some (IntType w, Rows.select c a b)
+  inst_data s (Freeze name type value) = do
+    w ← int_width type
+    a ← value_of s w value
+    Some (IntType w, Rows.freeze a)
   inst_data s (ICmp name predicate type lhs rhs) = do
     w ← int_width type
     a ← value_of s w lhs

@@ -6,9 +6,9 @@ use Rattle.llvm_core.specs.Data as L
 use Rattle.ll_text.specs.Rows as Rows
 use Rattle.llvm_core.specs.Data.{TypeTree, IntType, Operand, Constant, Parameter, Result, PlaceholderConst}
 use Rattle.ll_tree.specs.Text.{Text}
-use Rattle.ll_tree.specs.Tree.{Inst, Add, ICmp, Phi, Terminator, ReturnVoid, Return, Br, CondBr, Unreachable}
+use Rattle.ll_tree.specs.Tree.{Inst, Binary, Cast, Select, Freeze, ICmp, Phi, Terminator, ReturnVoid, Return, Br, CondBr, Unreachable}
 use Rattle.ll_tree.specs.Chain.{◌>>=◌}
-use Rattle.ll_text.specs.Meaning.{Scope, bit_width, predicate_of, int_width, value_of, block_of}
+use Rattle.ll_text.specs.Meaning.{Scope, bit_width, same_width, predicate_of, int_width, value_of, block_of}
 
 -- what stands for a result of a width
 abbrev pub placeholder : ℕ → Operand
@@ -25,11 +25,30 @@ open_value s w t = option_map (open_operand w) (value_of is_plain 64 s w t)
 
 -- a line for each kind
 unfoldable pub open_inst : Scope → Inst → Option (TypeTree × L.Instruction)
-open_inst s (Add name nuw nsw type lhs rhs) = do
+open_inst s (Binary name word nuw nsw type lhs rhs) = do
   w ← int_width is_plain 64 type
   a ← open_value s w lhs
   b ← open_value s w rhs
-  Some (IntType w, Rows.add nuw nsw a b)
+  op ← Rows.binary_op word (record { nuw = nuw; nsw = nsw })
+  Some (IntType w, Rows.binary op a b)
+open_inst s (Cast name word nneg type value to) = do
+  w ← int_width is_plain 64 type
+  v ← int_width is_plain 64 to
+  a ← open_value s w value
+  op ← Rows.cast_op word nneg w v
+  Some (IntType v, Rows.cast op v a)
+open_inst s (Select name bit condition type lhs other rhs) = do
+  one ← bit_width (int_width is_plain 64 bit)
+  w ← int_width is_plain 64 type
+  same ← same_width w (int_width is_plain 64 other)
+  c ← open_value s one condition
+  a ← open_value s w lhs
+  b ← open_value s w rhs
+  Some (IntType w, Rows.select c a b)
+open_inst s (Freeze name type value) = do
+  w ← int_width is_plain 64 type
+  a ← open_value s w value
+  Some (IntType w, Rows.freeze a)
 open_inst s (ICmp name predicate type lhs rhs) = do
   w ← int_width is_plain 64 type
   a ← open_value s w lhs

@@ -23,7 +23,10 @@ pub fn written_name<'a>(inst: &Inst<'a>) -> Option<Token<'a>>
     ensures { name_view result ≡ written_name (inst_view inst.now) }
 {
     match inst {
-        Inst::Add { name, .. } => *name,
+        Inst::Binary { name, .. } => *name,
+        Inst::Cast { name, .. } => *name,
+        Inst::Select { name, .. } => *name,
+        Inst::Freeze { name, .. } => *name,
         Inst::ICmp { name, .. } => *name,
         Inst::Phi { name, .. } => *name,
     }
@@ -35,7 +38,10 @@ fn result_width(inst: &Inst<'_>) -> Option<u32>
     ensures none { IfNone result (result_width is_plain 64 (inst_view inst.now) ≡ None) }
 {
     match inst {
-        Inst::Add { ty, .. } => int_width(ty.text),
+        Inst::Binary { ty, .. } => int_width(ty.text),
+        Inst::Cast { to, .. } => int_width(to.text),
+        Inst::Select { ty, .. } => int_width(ty.text),
+        Inst::Freeze { ty, .. } => int_width(ty.text),
         Inst::ICmp { .. } => Some(1),
         Inst::Phi { ty, .. } => int_width(ty.text),
     }

@@ -79,6 +79,28 @@ fn fill_both<'a>(
     fill_operand(draft, scope, inst, 1, rhs);
 }
 
+/// Likewise of an operation with three operands.
+fn fill_three<'a>(
+    draft: &mut LLVMModule,
+    scope: &Scope<'a>,
+    inst: LLVMInstRef,
+    condition: Token<'a>,
+    lhs: Token<'a>,
+    rhs: Token<'a>,
+)
+    requires ready { IsReady true draft.old scope.now }
+    requires condition { HasOpen draft.old scope.now inst.0 0 (text_of condition) }
+    requires lhs { HasOpen draft.old scope.now inst.0 1 (text_of lhs) }
+    requires rhs { HasOpen draft.old scope.now inst.0 2 (text_of rhs) }
+    ensures data { (s : meaning.Scope) → Knows scope.now s → data_of draft.new ≡ changed (data_of draft.old) (at_number inst.0 (λ i. put_result 2 (result_of s (text_of rhs.entry)) (put_result 1 (result_of s (text_of lhs.entry)) (put_result 0 (result_of s (text_of condition.entry)) i)))) }
+    ensures keeps { Keeps draft.old draft.new }
+    ensures same { length draft.new.insts ≡ length draft.old.insts }
+{
+    fill_operand(draft, scope, inst, 0, condition);
+    fill_operand(draft, scope, inst, 1, lhs);
+    fill_operand(draft, scope, inst, 2, rhs);
+}
+
 /// Fills in an instruction that is built.
 fn fill_inst<'a>(
     draft: &mut LLVMModule,
@@ -95,8 +117,25 @@ fn fill_inst<'a>(
 {
     let at = LLVMInstRef(number);
     match inst {
-        Inst::Add { lhs, rhs, .. } => {
+        Inst::Binary { lhs, rhs, .. } => {
             fill_both(draft, scope, at, *lhs, *rhs);
+            Ok(())
+        }
+        Inst::Cast { value, .. } => {
+            fill_operand(draft, scope, at, 0, *value);
+            Ok(())
+        }
+        Inst::Select {
+            condition,
+            lhs,
+            rhs,
+            ..
+        } => {
+            fill_three(draft, scope, at, *condition, *lhs, *rhs);
+            Ok(())
+        }
+        Inst::Freeze { value, .. } => {
+            fill_operand(draft, scope, at, 0, *value);
             Ok(())
         }
         Inst::ICmp { lhs, rhs, .. } => {

@@ -1,7 +1,9 @@
 //! Builds instructions, with a placeholder wherever an operand is a result, and phis without entries.
 
-ghost use Rattle.std.specs.Prelude.{◌≡◌, ◌+◌, ◌<◌, ◌≤◌, ◌⊎◌, false, None, Err, IfOk, OnOk, length, map};
+ghost use Rattle.std.specs.Prelude.{◌≡◌, ◌+◌, ◌<◌, ◌≤◌, ◌⊎◌, false, Option, None, Err, IfOk, OnOk, length, map};
 ghost use Rattle.llvm_core.specs.Names.{is_plain};
+ghost use Rattle.ll_tree.specs.Text.{Text};
+ghost use Rattle.ll_tree.specs.Tree as tree;
 ghost use Rattle.ll_tree.specs.Tree.{blocks_of};
 ghost use Rattle.ll_text.specs.Meaning as meaning;
 ghost use Rattle.ll_text.specs.Meaning.{value_of};
@@ -14,7 +16,9 @@ ghost use Rattle.ll_text.specs.Building.{IsValueOf, IsReady, OnlyInterns, OpensV
 ghost use Rattle.ll_text.specs.Bodies.{AddsInsts, AddsBody, AddsBodies};
 
 use crate::definitions::written_name;
-use crate::names::{bit_width, int_width, next_number, predicate, result_name};
+use crate::names::{
+    binary_op, bit_width, cast_op, int_width, next_number, predicate, result_name, same_width,
+};
 use crate::operands::{open_operand, target};
 use crate::scope::Scope;
 use kinds::op::OverflowFlags;
@@ -51,6 +55,143 @@ fn both<'a>(
     Ok((a, b))
 }
 
+/// An operation on two integers of one type.
+fn make_binary<'a>(
+    alloc: Global,
+    draft: &mut LLVMModule,
+    scope: &Scope<'a>,
+    word: Token<'a>,
+    flags: OverflowFlags,
+    ty: Token<'a>,
+    lhs: Token<'a>,
+    rhs: Token<'a>,
+) -> Result<LLVMInst, ReadErr>
+    requires ready { IsReady false draft.old scope.now }
+    ensures made { IfOk result (λ x. (name : Option Text) → IsMade (tree.Binary name (text_of word.entry) flags.nuw flags.nsw (text_of ty.entry) (text_of lhs.entry) (text_of rhs.entry)) draft.new x) }
+    ensures says { IfOk result (λ x. (name : Option Text) (s : meaning.Scope) → Knows scope.now s → SaysInst s (tree.Binary name (text_of word.entry) flags.nuw flags.nsw (text_of ty.entry) (text_of lhs.entry) (text_of rhs.entry)) draft.new x) }
+    ensures rest { OnOk result (OnlyInterns draft.old draft.new) }
+    ensures not_yet { result ≡ Err ReadErr.NotYet → (name : Option Text) → Refuses scope.now (λ s. open_inst s (tree.Binary name (text_of word.entry) flags.nuw flags.nsw (text_of ty.entry) (text_of lhs.entry) (text_of rhs.entry))) }
+{
+    let Some(width) = int_width(ty.text) else {
+        return Err(ReadErr::NotYet);
+    };
+    let Some(op) = binary_op(word.text, flags) else {
+        return Err(ReadErr::NotYet);
+    };
+    let (a, b) = both(draft, scope, width, lhs, rhs)?;
+    Ok(LLVMInst::binary(alloc, op, a, b)?)
+}
+
+/// A comparison of two integers.
+fn make_icmp<'a>(
+    alloc: Global,
+    draft: &mut LLVMModule,
+    scope: &Scope<'a>,
+    word: Token<'a>,
+    ty: Token<'a>,
+    lhs: Token<'a>,
+    rhs: Token<'a>,
+) -> Result<LLVMInst, ReadErr>
+    requires ready { IsReady false draft.old scope.now }
+    ensures made { IfOk result (λ x. (name : Option Text) → IsMade (tree.ICmp name (text_of word.entry) (text_of ty.entry) (text_of lhs.entry) (text_of rhs.entry)) draft.new x) }
+    ensures says { IfOk result (λ x. (name : Option Text) (s : meaning.Scope) → Knows scope.now s → SaysInst s (tree.ICmp name (text_of word.entry) (text_of ty.entry) (text_of lhs.entry) (text_of rhs.entry)) draft.new x) }
+    ensures rest { OnOk result (OnlyInterns draft.old draft.new) }
+    ensures not_yet { result ≡ Err ReadErr.NotYet → (name : Option Text) → Refuses scope.now (λ s. open_inst s (tree.ICmp name (text_of word.entry) (text_of ty.entry) (text_of lhs.entry) (text_of rhs.entry))) }
+{
+    let Some(width) = int_width(ty.text) else {
+        return Err(ReadErr::NotYet);
+    };
+    let Some(compare) = predicate(word.text) else {
+        return Err(ReadErr::NotYet);
+    };
+    let (a, b) = both(draft, scope, width, lhs, rhs)?;
+    Ok(LLVMInst::icmp(alloc, a, b, compare)?)
+}
+
+/// An integer taken to another width.
+fn make_cast<'a>(
+    alloc: Global,
+    draft: &mut LLVMModule,
+    scope: &Scope<'a>,
+    word: Token<'a>,
+    nneg: bool,
+    ty: Token<'a>,
+    value: Token<'a>,
+    to: Token<'a>,
+) -> Result<LLVMInst, ReadErr>
+    requires ready { IsReady false draft.old scope.now }
+    ensures made { IfOk result (λ x. (name : Option Text) → IsMade (tree.Cast name (text_of word.entry) nneg (text_of ty.entry) (text_of value.entry) (text_of to.entry)) draft.new x) }
+    ensures says { IfOk result (λ x. (name : Option Text) (s : meaning.Scope) → Knows scope.now s → SaysInst s (tree.Cast name (text_of word.entry) nneg (text_of ty.entry) (text_of value.entry) (text_of to.entry)) draft.new x) }
+    ensures rest { OnOk result (OnlyInterns draft.old draft.new) }
+    ensures not_yet { result ≡ Err ReadErr.NotYet → (name : Option Text) → Refuses scope.now (λ s. open_inst s (tree.Cast name (text_of word.entry) nneg (text_of ty.entry) (text_of value.entry) (text_of to.entry))) }
+{
+    let Some(from) = int_width(ty.text) else {
+        return Err(ReadErr::NotYet);
+    };
+    let Some(width) = int_width(to.text) else {
+        return Err(ReadErr::NotYet);
+    };
+    let Some(op) = cast_op(word.text, nneg, from, width) else {
+        return Err(ReadErr::NotYet);
+    };
+    let ty = draft.type_get(LLVMTypeKind::Int(width))?;
+    let value = open_operand(draft, scope, from, value)?;
+    Ok(LLVMInst::cast(alloc, op, ty, value)?)
+}
+
+/// One of two integers of one type, by a condition.
+fn make_select<'a>(
+    alloc: Global,
+    draft: &mut LLVMModule,
+    scope: &Scope<'a>,
+    bit: Token<'a>,
+    condition: Token<'a>,
+    ty: Token<'a>,
+    lhs: Token<'a>,
+    other: Token<'a>,
+    rhs: Token<'a>,
+) -> Result<LLVMInst, ReadErr>
+    requires ready { IsReady false draft.old scope.now }
+    ensures made { IfOk result (λ x. (name : Option Text) → IsMade (tree.Select name (text_of bit.entry) (text_of condition.entry) (text_of ty.entry) (text_of lhs.entry) (text_of other.entry) (text_of rhs.entry)) draft.new x) }
+    ensures says { IfOk result (λ x. (name : Option Text) (s : meaning.Scope) → Knows scope.now s → SaysInst s (tree.Select name (text_of bit.entry) (text_of condition.entry) (text_of ty.entry) (text_of lhs.entry) (text_of other.entry) (text_of rhs.entry)) draft.new x) }
+    ensures rest { OnOk result (OnlyInterns draft.old draft.new) }
+    ensures not_yet { result ≡ Err ReadErr.NotYet → (name : Option Text) → Refuses scope.now (λ s. open_inst s (tree.Select name (text_of bit.entry) (text_of condition.entry) (text_of ty.entry) (text_of lhs.entry) (text_of other.entry) (text_of rhs.entry))) }
+{
+    let Some(one) = bit_width(bit.text) else {
+        return Err(ReadErr::NotYet);
+    };
+    let Some(width) = int_width(ty.text) else {
+        return Err(ReadErr::NotYet);
+    };
+    if same_width(width, other.text).is_none() {
+        return Err(ReadErr::NotYet);
+    }
+    let condition = open_operand(draft, scope, one, condition)?;
+    let (a, b) = both(draft, scope, width, lhs, rhs)?;
+    Ok(LLVMInst::select(alloc, condition, a, b)?)
+}
+
+/// An integer that stays as it is read first.
+fn make_freeze<'a>(
+    alloc: Global,
+    draft: &mut LLVMModule,
+    scope: &Scope<'a>,
+    ty: Token<'a>,
+    value: Token<'a>,
+) -> Result<LLVMInst, ReadErr>
+    requires ready { IsReady false draft.old scope.now }
+    ensures made { IfOk result (λ x. (name : Option Text) → IsMade (tree.Freeze name (text_of ty.entry) (text_of value.entry)) draft.new x) }
+    ensures says { IfOk result (λ x. (name : Option Text) (s : meaning.Scope) → Knows scope.now s → SaysInst s (tree.Freeze name (text_of ty.entry) (text_of value.entry)) draft.new x) }
+    ensures rest { OnOk result (OnlyInterns draft.old draft.new) }
+    ensures not_yet { result ≡ Err ReadErr.NotYet → (name : Option Text) → Refuses scope.now (λ s. open_inst s (tree.Freeze name (text_of ty.entry) (text_of value.entry))) }
+{
+    let Some(width) = int_width(ty.text) else {
+        return Err(ReadErr::NotYet);
+    };
+    let value = open_operand(draft, scope, width, value)?;
+    Ok(LLVMInst::freeze(alloc, value)?)
+}
+
 /// The instruction that a text says, with a placeholder for each operand that is a result; a phi without entries.
 fn make_inst<'a>(
     alloc: Global,
@@ -65,7 +206,8 @@ fn make_inst<'a>(
     ensures not_yet { result ≡ Err ReadErr.NotYet → Refuses scope.now (λ s. open_inst s (inst_view inst.now)) }
 {
     match *inst {
-        Inst::Add {
+        Inst::Binary {
+            word,
             nuw,
             nsw,
             ty,
@@ -73,28 +215,34 @@ fn make_inst<'a>(
             rhs,
             ..
         } => {
-            let Some(width) = int_width(ty.text) else {
-                return Err(ReadErr::NotYet);
-            };
-            let (a, b) = both(draft, scope, width, lhs, rhs)?;
-            Ok(LLVMInst::add(alloc, a, b, OverflowFlags { nuw, nsw })?)
+            let flags = OverflowFlags { nuw, nsw };
+            make_binary(alloc, draft, scope, word, flags, ty, lhs, rhs)
         }
+        Inst::Cast {
+            word,
+            nneg,
+            ty,
+            value,
+            to,
+            ..
+        } => make_cast(alloc, draft, scope, word, nneg, ty, value, to),
+        Inst::Select {
+            bit,
+            condition,
+            ty,
+            lhs,
+            other,
+            rhs,
+            ..
+        } => make_select(alloc, draft, scope, bit, condition, ty, lhs, other, rhs),
+        Inst::Freeze { ty, value, .. } => make_freeze(alloc, draft, scope, ty, value),
         Inst::ICmp {
             predicate: word,
             ty,
             lhs,
             rhs,
             ..
-        } => {
-            let Some(width) = int_width(ty.text) else {
-                return Err(ReadErr::NotYet);
-            };
-            let Some(compare) = predicate(word.text) else {
-                return Err(ReadErr::NotYet);
-            };
-            let (a, b) = both(draft, scope, width, lhs, rhs)?;
-            Ok(LLVMInst::icmp(alloc, a, b, compare)?)
-        }
+        } => make_icmp(alloc, draft, scope, word, ty, lhs, rhs),
         Inst::Phi { ty, .. } => {
             let Some(width) = int_width(ty.text) else {
                 return Err(ReadErr::NotYet);

@@ -1,16 +1,22 @@
 //! Names, numbers and widths, as tokens write them.
 
 ghost use Rattle.std.specs.Prelude.{◌≡◌, ◌+◌, ◌≤◌, None, Some, Err, IfOk, IfSome, IfNone};
+ghost use Rattle.std.specs.Map.{lookup};
+ghost use Rattle.std.specs.Option.{option_map};
+ghost use Rattle.std.specs.Str.{bytes_eq};
 ghost use Rattle.llvm_core.specs.Names.{is_plain};
 ghost use Rattle.ll_text.specs.Meaning as meaning;
-ghost use Rattle.ll_text.specs.Meaning.{key_of, local_key, label_key, optional_key, define_written, global_name, string_name, int_width, bit_width, predicate_of};
+ghost use Rattle.ll_text.specs.Meaning.{key_of, local_key, label_key, optional_key, define_written, global_name, string_name, int_width, bit_width, same_width, predicate_of};
+ghost use Rattle.ll_text.specs.Rows as Rows;
+ghost use Rattle.kinds.specs.declared.fitting.Shape.TheVariants as shapes;
 ghost use Rattle.ll_text.specs.Refusals.{IsNoKey};
 ghost use Rattle.ll_text.specs.ScopeView.{key_view, option_key, key_name};
 ghost use Rattle.ll_text.specs.Numbered.{name_said};
 ghost use Rattle.ll_tree.specs.TreeView.{name_view};
 
 use crate::scope::Key;
-use kinds::op::LLVMIntPredicate;
+use kinds::fitting::{Shape, TypeView, fits};
+use kinds::op::{LLVMIntPredicate, Op, OverflowFlags};
 use ll_tree::literals::{number, plain_name};
 use ll_tree::read_err::ReadErr;
 use ll_tree::tokens::Token;
@@ -148,6 +154,76 @@ pub fn bit_width(text: &[u8]) -> Option<u32>
         return None;
     };
     (width == 1).then_some(width)
+}
+
+/// The width of an integer type, where it is that one.
+pub fn same_width(width: u32, text: &[u8]) -> Option<u32>
+    ensures width { IfSome result (λ w. same_width width (int_width is_plain 64 text.now) ≡ Some w) }
+    ensures none { IfNone result (same_width width (int_width is_plain 64 text.now) ≡ None) }
+{
+    let Some(own) = int_width(text) else {
+        return None;
+    };
+    (own == width).then_some(own)
+}
+
+/// The row of a word of an operation on two integers.
+pub fn binary_op(word: &[u8], flags: OverflowFlags) -> Option<Op>
+    ensures { result ≡ Rows.binary_op word.now flags }
+{
+    match word {
+        b"add" => Some(Op::Add(flags)),
+        b"sub" => Some(Op::Sub(flags)),
+        b"mul" => Some(Op::Mul(flags)),
+        b"shl" => Some(Op::Shl(flags)),
+        b"udiv" => Some(Op::UDiv),
+        b"sdiv" => Some(Op::SDiv),
+        b"urem" => Some(Op::URem),
+        b"srem" => Some(Op::SRem),
+        b"lshr" => Some(Op::LShr),
+        b"ashr" => Some(Op::AShr),
+        _ => None,
+    }
+}
+
+/// The row of a word that takes an integer to another width.
+fn cast_row(word: &[u8], nneg: bool) -> Option<Op>
+    ensures { result ≡ option_map (λ of. of nneg) (lookup (bytes_eq word.now) Rows.cast_rows) }
+{
+    match word {
+        b"trunc" => Some(Op::Trunc),
+        b"sext" => Some(Op::SExt),
+        b"zext" => Some(Op::ZExt(nneg)),
+        _ => None,
+    }
+}
+
+/// The row of such a word, where it may take one width to the other.
+pub fn cast_op(word: &[u8], nneg: bool, from: u32, to: u32) -> Option<Op>
+    ensures { result ≡ Rows.cast_op word.now nneg from to }
+{
+    let Some(op) = cast_row(word, nneg) else {
+        return None;
+    };
+    let fit = fits(
+        op.rule(),
+        1,
+        Some(integer(to)),
+        Some(integer(from)),
+        None,
+        None,
+    );
+    fit.then_some(op)
+}
+
+/// What the table looks at in an integer of a width.
+fn integer(width: u32) -> TypeView
+    ensures { result ≡ record { number = width; shape = shapes.Int width } }
+{
+    TypeView {
+        number: width,
+        shape: Shape::Int(width),
+    }
 }
 
 /// How a word of `icmp` compares.

@@ -1,14 +1,15 @@
 -- Blocks: what is read is written so, and what is written so is read.
-use Rattle.std.proofs.Common.{◌≡◌, ◌≤◌, Bool, true, false, ◌||◌, List, [], ◌∷◌, ◌++◌, length, length-append, Option, Some, None, codes, refl, sym, subst, append_assoc, arith, inl, inr, ◌⊎◌}
+use Rattle.std.proofs.Common.{◌≡◌, ◌≤◌, true, false, ◌||◌, List, [], ◌∷◌, ◌++◌, length, length-append, Option, Some, None, codes, refl, sym, subst, append_assoc, arith, inl, inr}
 use Rattle.std.specs.List.{flat_map, AllByRecursion}
-use Rattle.std.proofs.lemmas.Bool.{not-true, and_parts}
+use Rattle.std.proofs.lemmas.Bool.{not-true, and_parts, or_cases}
 use Rattle.ll_tree.specs.Text.{Text}
 use Rattle.ll_tree.specs.Tree.{is_label, Inst, Terminator, ReturnVoid, Return, Br, CondBr, Unreachable, Block, optional, inst, terminator, block, IsInst, IsBlock, IfPresent}
 use Rattle.ll_tree.specs.Reading.{is_next, rest, passes_next, optional_at, is_ending, inst_at, insts_at, terminator_at, block_at, blocks_at}
 use Rattle.ll_tree.proofs.Steps.{then, gives}
 use Rattle.ll_tree.proofs.Many.{Sound, many_takes, many_again}
 use Rattle.ll_tree.proofs.NextLaws.{next_is, unlike, optional_takes, optional_again}
-use Rattle.ll_tree.proofs.InstLaws.{inst_sound, inst_again, inst_begins, follows_inst}
+use Rattle.ll_tree.proofs.InstLaws.{inst_sound, inst_again, inst_begins}
+use Rattle.ll_tree.proofs.WordLaws.{follows_inst}
 use Rattle.ll_tree.proofs.TerminatorLaws.{terminator_takes, terminator_again}
 
 -- ---- the instructions of a block
@@ -17,17 +18,13 @@ pub insts_takes : (ts : List Text) (x : List Inst × List Text) → insts_at ts 
 unfolding insts_at
 insts_takes ts x e = many_takes inst IsInst inst_at is_ending ts x inst_sound e
 
-either_true : (a b : Bool) → (a || b) ≡ true → (a ≡ true) ⊎ (b ≡ true)
-either_true true b e = inl refl
-either_true false b e = inr e
-
 word_follows : (t : Text) (us : List Text) → is_next t us ≡ true → follows_inst (t ∷ rest us) ≡ true → follows_inst us ≡ true
 word_follows t us e h = subst (λ (ts : List Text). follows_inst ts ≡ true) (sym (next_is t us e)) h
 
 -- the word of a terminator is neither a comma nor a label
 ending_follows : (us : List Text) → is_ending us ≡ true → follows_inst us ≡ true
-ending_follows us e = elim (either_true (is_next (codes "ret") us || is_next (codes "br") us) (is_next (codes "unreachable") us) e) [
-  | inl w ↦ elim (either_true (is_next (codes "ret") us) (is_next (codes "br") us) w) [
+ending_follows us e = elim (or_cases (is_next (codes "ret") us || is_next (codes "br") us) (is_next (codes "unreachable") us) e) [
+  | inl w ↦ elim (or_cases (is_next (codes "ret") us) (is_next (codes "br") us) w) [
     | inl v ↦ word_follows (codes "ret") us v refl
     | inr v ↦ word_follows (codes "br") us v refl
   ]

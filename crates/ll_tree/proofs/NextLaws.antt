@@ -1,12 +1,12 @@
 -- Reading one token, or a type with its values. Each rule has two laws, here and in the files that use this one: `.._takes`, what is read stood at the
 -- front and is of its kind, and `.._again`, what stands there and is of its kind is read.
-use Rattle.std.proofs.Common.{◌≡◌, Bool, true, false, List, [], ◌∷◌, ◌++◌, Option, Some, None, codes, refl, sym, ap, ◌∙◌, arith, inl, inr}
+use Rattle.std.proofs.Common.{◌≡◌, Bool, true, false, List, [], ◌∷◌, ◌++◌, ◌||◌, not, Option, Some, None, codes, refl, sym, ap, ◌∙◌, arith, inl, inr}
 use Rattle.std.specs.Str.{bytes_eq}
 use Rattle.std.proofs.lemmas.Slice.Eq.{bytes_eq-Decides}
 use Rattle.std.proofs.lemmas.Option.{cond_some}
 use Rattle.ll_tree.specs.Text.{Text}
 use Rattle.ll_tree.specs.Tree.{is_int_type, is_operand, flag, optional, IfPresent}
-use Rattle.ll_tree.specs.Reading.{is_next, rest, passes_next, skip_at, one_at, flag_at, optional_at, typed_at, both_at}
+use Rattle.ll_tree.specs.Reading.{is_next, rest, passes_next, skip_at, one_at, flag_at, flag_where, optional_at, typed_at, both_at, next_typed_at}
 use Rattle.ll_tree.proofs.Steps.{chosen, then, gives}
 
 pub next_is : (t : Text) (ts : List Text) → is_next t ts ≡ true → ts ≡ t ∷ rest ts
@@ -49,6 +49,18 @@ pub flag_again : (t : Text) (b : Bool) (us : List Text) → is_next t us ≡ fal
 unfolding flag_at
 flag_again t true us h = rw (next_again t us) refl
 flag_again t false us h = rw h refl
+
+-- a flag behind what takes it
+pub flag_where_takes : (takes : Bool) (t : Text) (ts : List Text) (x : Bool × List Text) → flag_where takes t ts ≡ Some x → (ts ≡ flag t x.0 ++ x.1) × ((takes || not x.0) ≡ true)
+unfolding flag_where
+flag_where_takes true t ts x e = (flag_takes t ts x e, refl)
+flag_where_takes false t ts x e = let i : x ≡ (false, ts) = cc in rw i (refl, refl)
+
+pub flag_where_again : (takes : Bool) (t : Text) (b : Bool) (us : List Text) → (takes || not b) ≡ true → is_next t us ≡ false → flag_where takes t (flag t b ++ us) ≡ Some (b, us)
+unfolding flag_where
+flag_where_again true t b us may h = flag_again t b us h
+flag_where_again false t true us may h = absurd cc
+flag_where_again false t false us may h = refl
 
 -- ---- what may be left out
 
@@ -93,3 +105,14 @@ both_takes ts x e =
 pub both_again : (ty a b : Text) (us : List Text) → is_int_type ty ≡ true → is_operand a ≡ true → is_operand b ≡ true → both_at (ty ∷ a ∷ codes "," ∷ b ∷ us) ≡ Some ((ty, a, b), us)
 unfolding both_at
 both_again ty a b us p q r = rw (typed_again ty a (codes "," ∷ b ∷ us) p q, skip_again (codes ",") (b ∷ us), one_again is_operand b us r) refl
+
+pub next_typed_takes : (ts : List Text) (x : (Text × Text) × List Text) → next_typed_at ts ≡ Some x → (ts ≡ codes "," ∷ x.0.0 ∷ x.0.1 ∷ x.1) × (is_int_type x.0.0 ≡ true) × (is_operand x.0.1 ≡ true)
+unfolding next_typed_at
+next_typed_takes ts x e =
+    let Q = λ (y : (Text × Text) × List Text). (ts ≡ codes "," ∷ y.0.0 ∷ y.0.1 ∷ y.1) × (is_int_type y.0.0 ≡ true) × (is_operand y.0.1 ≡ true) in
+    (then _ Q (skip_at (codes ",") ts) _ (skip_takes (codes ",") ts)
+    λ comma p. record { at = λ y f. let g = typed_takes comma y f in (rw (p, g.0) refl, g.1, g.2) }).at x e
+
+pub next_typed_again : (ty v : Text) (us : List Text) → is_int_type ty ≡ true → is_operand v ≡ true → next_typed_at (codes "," ∷ ty ∷ v ∷ us) ≡ Some ((ty, v), us)
+unfolding next_typed_at
+next_typed_again ty v us p q = rw (skip_again (codes ",") (ty ∷ v ∷ us)) (typed_again ty v us p q)

@@ -4,7 +4,7 @@ use Rattle.std.specs.Str.{bytes_eq}
 use Rattle.ll_tree.specs.Text.{Text}
 use Rattle.ll_tree.specs.TokenView.{texts_of}
 use Rattle.ll_tree.specs.Chain.{◌>>=◌}
-use Rattle.ll_tree.specs.Tree.{is_local, is_global, is_label, is_string, is_int_type, is_operand, is_predicate, Incoming, Inst, Add, ICmp, Phi, Terminator, ReturnVoid, Return, Br, CondBr, Unreachable, Param, Block, Function, File}
+use Rattle.ll_tree.specs.Tree.{is_local, is_global, is_label, is_string, is_int_type, is_operand, is_predicate, is_binary, takes_flags, is_cast, takes_nneg, Incoming, Inst, Binary, Cast, Select, Freeze, ICmp, Phi, Terminator, ReturnVoid, Return, Br, CondBr, Unreachable, Param, Block, Function, File}
 use Rattle.ll_tree.specs.declared.read_err.ReadErr.{ReadErr}
 use Rattle.ll_tree.specs.declared.reader.Reader.{Reader}
 use Rattle.ll_tree.specs.declared.read_err.ReadErr.TheVariants.{NotYet, NoMemory}
@@ -58,6 +58,10 @@ optional_at p (u ∷ us) = if p u then Some (Some u, us) else Some (None, u ∷ 
 unfoldable pub flag_at : Text → List Text → Read Bool
 flag_at t ts = if is_next t ts then Some (true, rest ts) else Some (false, ts)
 
+-- that word, or none, behind what takes it; none behind anything else
+unfoldable pub flag_where : Bool → Text → List Text → Read Bool
+flag_where takes t ts = if takes then flag_at t ts else Some (false, ts)
+
 -- as many as stand before the stop; the number bounds how many
 unfoldable pub many_within : {A : Type 0} → (List Text → Bool) → (List Text → Read A) → ℕ → List Text → Read (List A)
 many_within stop item zero ts = if stop ts then Some ([], ts) else None
@@ -87,6 +91,12 @@ both_at ts = do
   b ← one_at is_operand comma
   Some ((a.0.0, a.0.1, b.0), b.1)
 
+-- a comma, a type and a value of it
+unfoldable pub next_typed_at : List Text → Read (Text × Text)
+next_typed_at ts = do
+  comma ← skip_at (codes ",") ts
+  typed_at comma
+
 -- ---- productions
 
 -- [LOCAL "="]: what stands behind the local, if there is one
@@ -97,12 +107,34 @@ behind_local (Some t) ts = skip_at (codes "=") ts >>= λ us. Some (Some t, us)
 unfoldable pub result_at : List Text → Read (Option Text)
 result_at ts = optional_at is_local ts >>= λ name. behind_local name.0 name.1
 
-unfoldable pub add_at : Option Text → List Text → Read Inst
-add_at name ts = do
-  nuw ← flag_at (codes "nuw") ts
-  nsw ← flag_at (codes "nsw") nuw.1
+unfoldable pub binary_at : Option Text → List Text → Read Inst
+binary_at name ts = do
+  word ← one_at is_binary ts
+  nuw ← flag_where (takes_flags word.0) (codes "nuw") word.1
+  nsw ← flag_where (takes_flags word.0) (codes "nsw") nuw.1
   both ← both_at nsw.1
-  Some (Add name nuw.0 nsw.0 both.0.0 both.0.1 both.0.2, both.1)
+  Some (Binary name word.0 nuw.0 nsw.0 both.0.0 both.0.1 both.0.2, both.1)
+
+unfoldable pub cast_at : Option Text → List Text → Read Inst
+cast_at name ts = do
+  word ← one_at is_cast ts
+  nneg ← flag_where (takes_nneg word.0) (codes "nneg") word.1
+  value ← typed_at nneg.1
+  between ← skip_at (codes "to") value.1
+  to ← one_at is_int_type between
+  Some (Cast name word.0 nneg.0 value.0.0 value.0.1 to.0, to.1)
+
+unfoldable pub select_at : Option Text → List Text → Read Inst
+select_at name ts = do
+  condition ← typed_at ts
+  lhs ← next_typed_at condition.1
+  rhs ← next_typed_at lhs.1
+  Some (Select name condition.0.0 condition.0.1 lhs.0.0 lhs.0.1 rhs.0.0 rhs.0.1, rhs.1)
+
+unfoldable pub freeze_at : Option Text → List Text → Read Inst
+freeze_at name ts = do
+  value ← typed_at ts
+  Some (Freeze name value.0.0 value.0.1, value.1)
 
 unfoldable pub icmp_at : Option Text → List Text → Read Inst
 icmp_at name ts = do
@@ -139,12 +171,20 @@ phi_at name ts = do
   more ← next_incomings_at first.1
   Some (Phi name ty.0 first.0 more.0, more.1)
 
+-- an instruction that a word of its own begins, behind what is written of its name
+unfoldable pub worded_at : Option Text → List Text → Read Inst
+worded_at name ts =
+    if is_next (codes "icmp") ts then icmp_at name (rest ts)
+    else (if is_next (codes "select") ts then select_at name (rest ts)
+    else (if is_next (codes "freeze") ts then freeze_at name (rest ts)
+    else (skip_at (codes "phi") ts >>= λ word. phi_at name word)))
+
 -- an instruction behind what is written of its name
 unfoldable pub kind_at : Option Text → List Text → Read Inst
 kind_at name ts =
-    if is_next (codes "add") ts then add_at name (rest ts)
-    else (if is_next (codes "icmp") ts then icmp_at name (rest ts)
-    else (skip_at (codes "phi") ts >>= λ word. phi_at name word))
+    if passes_next is_binary ts then binary_at name ts
+    else (if passes_next is_cast ts then cast_at name ts
+    else worded_at name ts)
 
 unfoldable pub inst_at : List Text → Read Inst
 inst_at ts = do

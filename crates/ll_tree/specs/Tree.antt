@@ -53,6 +53,32 @@ predicates = codes "eq" ∷ codes "ne" ∷ codes "ugt" ∷ codes "uge" ∷ codes
 abbrev pub is_predicate : Text → Bool
 is_predicate t = list_any (bytes_eq t) predicates
 
+-- the words of operations on two integers of one type: those that nuw and nsw may follow, and the others
+abbrev pub overflow_words : List Text
+overflow_words = codes "add" ∷ codes "sub" ∷ codes "mul" ∷ codes "shl" ∷ []
+
+abbrev pub plain_words : List Text
+plain_words = codes "udiv" ∷ codes "sdiv" ∷ codes "urem" ∷ codes "srem" ∷ codes "lshr" ∷ codes "ashr" ∷ []
+
+abbrev pub takes_flags : Text → Bool
+takes_flags t = list_any (bytes_eq t) overflow_words
+
+abbrev pub is_binary : Text → Bool
+is_binary t = takes_flags t || list_any (bytes_eq t) plain_words
+
+-- the words that take an integer to another width, and those of them that nneg may follow
+abbrev pub cast_words : List Text
+cast_words = codes "trunc" ∷ codes "sext" ∷ codes "zext" ∷ []
+
+abbrev pub nneg_words : List Text
+nneg_words = codes "zext" ∷ []
+
+abbrev pub is_cast : Text → Bool
+is_cast t = list_any (bytes_eq t) cast_words
+
+abbrev pub takes_nneg : Text → Bool
+takes_nneg t = list_any (bytes_eq t) nneg_words
+
 -- ---- trees
 
 -- an entry of a phi: what it takes on an edge, and the block that the edge comes from
@@ -62,7 +88,10 @@ pub record Incoming : Type 0 where
 
 -- an instruction that ends no block, a line for each kind
 pub data Inst : Type 0 where
-  Add : (name : Option Text) (nuw nsw : Bool) (type lhs rhs : Text) → Inst
+  Binary : (name : Option Text) (word : Text) (nuw nsw : Bool) (type lhs rhs : Text) → Inst
+  Cast : (name : Option Text) (word : Text) (nneg : Bool) (type value to : Text) → Inst
+  Select : (name : Option Text) (bit condition type lhs other rhs : Text) → Inst
+  Freeze : (name : Option Text) (type value : Text) → Inst
   ICmp : (name : Option Text) (predicate type lhs rhs : Text) → Inst
   Phi : (name : Option Text) (type : Text) (first : Incoming) (more : List Incoming) → Inst
 
@@ -125,7 +154,10 @@ next_incoming e = codes "," ∷ incoming e
 
 -- a line for each kind
 abbrev pub inst : Inst → List Text
-inst (Add name nuw nsw type lhs rhs) = result name ++ codes "add" ∷ flag (codes "nuw") nuw ++ flag (codes "nsw") nsw ++ type ∷ lhs ∷ codes "," ∷ rhs ∷ []
+inst (Binary name word nuw nsw type lhs rhs) = result name ++ word ∷ flag (codes "nuw") nuw ++ flag (codes "nsw") nsw ++ type ∷ lhs ∷ codes "," ∷ rhs ∷ []
+inst (Cast name word nneg type value to) = result name ++ word ∷ flag (codes "nneg") nneg ++ type ∷ value ∷ codes "to" ∷ to ∷ []
+inst (Select name bit condition type lhs other rhs) = result name ++ codes "select" ∷ bit ∷ condition ∷ codes "," ∷ type ∷ lhs ∷ codes "," ∷ other ∷ rhs ∷ []
+inst (Freeze name type value) = result name ++ codes "freeze" ∷ type ∷ value ∷ []
 inst (ICmp name predicate type lhs rhs) = result name ++ codes "icmp" ∷ predicate ∷ type ∷ lhs ∷ codes "," ∷ rhs ∷ []
 inst (Phi name type first more) = result name ++ codes "phi" ∷ type ∷ incoming first ++ flat_map next_incoming more
 
@@ -179,7 +211,13 @@ IsIncoming e = (is_operand e.value ≡ true) × (is_local e.block ≡ true)
 
 -- a line for each kind
 abbrev pub IsInst : Inst → Type 0
-IsInst (Add name nuw nsw type lhs rhs) = IfPresent is_local name × (is_int_type type ≡ true) × (is_operand lhs ≡ true) × (is_operand rhs ≡ true)
+IsInst (Binary name word nuw nsw type lhs rhs) =
+    IfPresent is_local name × (is_binary word ≡ true) × ((takes_flags word || not (nuw || nsw)) ≡ true) × (is_int_type type ≡ true) × (is_operand lhs ≡ true) × (is_operand rhs ≡ true)
+IsInst (Cast name word nneg type value to) =
+    IfPresent is_local name × (is_cast word ≡ true) × ((takes_nneg word || not nneg) ≡ true) × (is_int_type type ≡ true) × (is_operand value ≡ true) × (is_int_type to ≡ true)
+IsInst (Select name bit condition type lhs other rhs) =
+    IfPresent is_local name × (is_int_type bit ≡ true) × (is_operand condition ≡ true) × (is_int_type type ≡ true) × (is_operand lhs ≡ true) × (is_int_type other ≡ true) × (is_operand rhs ≡ true)
+IsInst (Freeze name type value) = IfPresent is_local name × (is_int_type type ≡ true) × (is_operand value ≡ true)
 IsInst (ICmp name predicate type lhs rhs) = IfPresent is_local name × (is_predicate predicate ≡ true) × (is_int_type type ≡ true) × (is_operand lhs ≡ true) × (is_operand rhs ≡ true)
 IsInst (Phi name type first more) = IfPresent is_local name × (is_int_type type ≡ true) × IsIncoming first × AllByRecursion IsIncoming more
 

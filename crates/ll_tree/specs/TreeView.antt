@@ -6,7 +6,7 @@ use Rattle.ll_tree.specs.Tree as tree
 use Rattle.ll_tree.specs.declared.tokens.Token.{Token}
 use Rattle.ll_tree.specs.declared.tree.Incoming.{Incoming}
 use Rattle.ll_tree.specs.declared.tree.Inst.{Inst}
-use Rattle.ll_tree.specs.declared.tree.Inst.TheVariants.{Add, ICmp, Phi}
+use Rattle.ll_tree.specs.declared.tree.Inst.TheVariants.{Binary, Cast, Select, Freeze, ICmp, Phi}
 use Rattle.ll_tree.specs.declared.tree.Terminator.{Terminator}
 use Rattle.ll_tree.specs.declared.tree.Terminator.TheVariants.{ReturnVoid, Return, Br, CondBr, Unreachable}
 use Rattle.ll_tree.specs.declared.tree.Block.{Block}
@@ -22,7 +22,10 @@ abbrev pub incoming_view : Incoming → tree.Incoming
 incoming_view e = record { value = text_of e.value; block = text_of e.block }
 
 abbrev pub inst_view : Inst → tree.Inst
-inst_view (Add name nuw nsw type lhs rhs) = tree.Add (name_view name) nuw nsw (text_of type) (text_of lhs) (text_of rhs)
+inst_view (Binary name word nuw nsw type lhs rhs) = tree.Binary (name_view name) (text_of word) nuw nsw (text_of type) (text_of lhs) (text_of rhs)
+inst_view (Cast name word nneg type value to) = tree.Cast (name_view name) (text_of word) nneg (text_of type) (text_of value) (text_of to)
+inst_view (Select name bit condition type lhs other rhs) = tree.Select (name_view name) (text_of bit) (text_of condition) (text_of type) (text_of lhs) (text_of other) (text_of rhs)
+inst_view (Freeze name type value) = tree.Freeze (name_view name) (text_of type) (text_of value)
 inst_view (ICmp name predicate type lhs rhs) = tree.ICmp (name_view name) (text_of predicate) (text_of type) (text_of lhs) (text_of rhs)
 inst_view (Phi name type first more) = tree.Phi (name_view name) (text_of type) (incoming_view first) (map incoming_view more.items)
 

@@ -6,7 +6,7 @@ ghost use Rattle.ll_tree.specs.TokenView.{text_of, texts_of};
 ghost use Rattle.ll_tree.specs.Tree as tree;
 ghost use Rattle.ll_tree.specs.Tree.{IsFile, file as write_file};
 ghost use Rattle.ll_tree.specs.Kinds.{fits};
-ghost use Rattle.ll_tree.specs.Reading.{left, Gives, is_next, is_end, skip_at, one_at, optional_at, flag_at, typed_at, both_at, param_at, next_param_at, next_params_at, params_at, result_type_at, function_at, functions_at, source_at, file_at, with_front};
+ghost use Rattle.ll_tree.specs.Reading.{left, Gives, is_next, passes_next, is_end, skip_at, one_at, optional_at, flag_at, flag_where, typed_at, both_at, next_typed_at, param_at, next_param_at, next_params_at, params_at, result_type_at, function_at, functions_at, source_at, file_at, with_front};
 ghost use Rattle.ll_tree.specs.TreeView.{name_view, param_view, function_view, file_view};
 
 mod blocks;
@@ -36,6 +36,16 @@ impl<'t, 'a> Reader<'t, 'a> {
         }
     }
 
+    /// Is the next token of that kind?
+    fn passes_next(&self, kind: Kind) -> bool
+        ensures { result ≡ passes_next (fits kind) (left self.now) }
+    {
+        match self.left {
+            [first, ..] => kind.fits(first.text),
+            [] => false,
+        }
+    }
+
     fn is_end(&self) -> bool
         ensures { result ≡ is_end (left self.now) }
     {
@@ -54,6 +64,14 @@ impl<'t, 'a> Reader<'t, 'a> {
             }
             _ => false,
         }
+    }
+
+    /// Takes that token if it is next behind what takes it, and answers whether it was.
+    #[tactic(auto, unfolding(crate::specs::Reading::flag_where))]
+    fn flag_where(&mut self, takes: bool, text: &[u8]) -> bool
+        ensures { flag_where takes text.now (left self.old) ≡ Some (result, left self.new) }
+    {
+        takes && self.flag(text)
     }
 
     /// Takes that token.
@@ -112,6 +130,15 @@ impl<'t, 'a> Reader<'t, 'a> {
         self.skip(b",")?;
         let rhs = self.one(Kind::Operand)?;
         Ok((ty, lhs, rhs))
+    }
+
+    /// A comma, a type and a value of it.
+    #[tactic(auto, unfolding(crate::specs::Reading::next_typed_at))]
+    fn next_typed(&mut self) -> Result<(Token<'a>, Token<'a>), ReadErr>
+        ensures { Gives (λ x. ((text_of x.0, text_of x.1), left self.new)) result (next_typed_at (left self.old)) }
+    {
+        self.skip(b",")?;
+        self.typed()
     }
 }
 

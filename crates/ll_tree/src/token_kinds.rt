@@ -2,7 +2,7 @@
 
 ghost use Rattle.std.specs.Prelude.{◌≡◌};
 ghost use Rattle.ll_tree.specs.Kinds.{fits};
-ghost use Rattle.ll_tree.specs.Tree.{is_local, is_label, is_quoted, is_digits, is_int, is_int_type, is_operand, is_predicate};
+ghost use Rattle.ll_tree.specs.Tree.{is_local, is_label, is_quoted, is_digits, is_int, is_int_type, is_operand, is_predicate, takes_flags, is_binary, is_cast, takes_nneg};
 
 use crate::bytes::all_digits;
 
@@ -23,6 +23,10 @@ pub enum Kind {
     Operand,
     /// A word that compares two integers.
     Predicate,
+    /// The word of an operation on two integers of one type.
+    Binary,
+    /// A word that takes an integer to another width.
+    Cast,
 }
 
 impl Kind {
@@ -38,6 +42,8 @@ impl Kind {
             Kind::IntType => is_int_type(token),
             Kind::Operand => is_operand(token),
             Kind::Predicate => is_predicate(token),
+            Kind::Binary => is_binary(token),
+            Kind::Cast => is_cast(token),
         }
     }
 }
@@ -106,4 +112,45 @@ fn is_predicate(token: &[u8]) -> bool
         b"sle".as_slice(),
     ]
     .contains(&token)
+}
+
+/// May `nuw` and `nsw` follow this word?
+pub fn takes_flags(token: &[u8]) -> bool
+    ensures { result ≡ takes_flags token.now }
+{
+    [
+        b"add".as_slice(),
+        b"sub".as_slice(),
+        b"mul".as_slice(),
+        b"shl".as_slice(),
+    ]
+    .contains(&token)
+}
+
+fn is_binary(token: &[u8]) -> bool
+    ensures { result ≡ is_binary token.now }
+{
+    takes_flags(token)
+        || [
+            b"udiv".as_slice(),
+            b"sdiv".as_slice(),
+            b"urem".as_slice(),
+            b"srem".as_slice(),
+            b"lshr".as_slice(),
+            b"ashr".as_slice(),
+        ]
+        .contains(&token)
+}
+
+fn is_cast(token: &[u8]) -> bool
+    ensures { result ≡ is_cast token.now }
+{
+    [b"trunc".as_slice(), b"sext".as_slice(), b"zext".as_slice()].contains(&token)
+}
+
+/// May `nneg` follow this word?
+pub fn takes_nneg(token: &[u8]) -> bool
+    ensures { result ≡ takes_nneg token.now }
+{
+    [b"zext".as_slice()].contains(&token)
 }

@@ -12,13 +12,39 @@ pub struct Incoming<'a> {
 /// An instruction that ends no block: a variant for each kind.
 #[derive(Drop)]
 pub enum Inst<'a> {
-    Add {
+    /// Flags stand only behind a word that takes them.
+    Binary {
         name: Option<Token<'a>>,
+        word: Token<'a>,
         nuw: bool,
         nsw: bool,
         ty: Token<'a>,
         lhs: Token<'a>,
         rhs: Token<'a>,
+    },
+    /// A flag stands only behind a word that takes it.
+    Cast {
+        name: Option<Token<'a>>,
+        word: Token<'a>,
+        nneg: bool,
+        ty: Token<'a>,
+        value: Token<'a>,
+        to: Token<'a>,
+    },
+    /// Each operand has its own type before it.
+    Select {
+        name: Option<Token<'a>>,
+        bit: Token<'a>,
+        condition: Token<'a>,
+        ty: Token<'a>,
+        lhs: Token<'a>,
+        other: Token<'a>,
+        rhs: Token<'a>,
+    },
+    Freeze {
+        name: Option<Token<'a>>,
+        ty: Token<'a>,
+        value: Token<'a>,
     },
     ICmp {
         name: Option<Token<'a>>,

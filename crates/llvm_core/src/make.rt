@@ -1,15 +1,16 @@
-//! Instructions by their names: a line for each row of the table.
+//! Instructions by their names, and rows by what operands they have.
 
-ghost use Rattle.std.specs.Prelude.{◌≡◌, [], ◌∷◌, IfOk, None};
+ghost use Rattle.std.specs.Prelude.{◌≡◌, [], ◌∷◌, IfOk, Some, None};
 ghost use Rattle.std.specs.Option.{option_map_or};
 ghost use Rattle.kinds.specs.declared.op.Op.TheVariants as ops;
 ghost use Rattle.llvm_core.specs.declared.code.LLVMInst.TheVariants as insts;
 
 use crate::code::{LLVMInst, LLVMIntPredicate, LLVMValue, Op, OverflowFlags, Row};
-use crate::numbers::LLVMBasicBlock;
+use crate::numbers::{LLVMBasicBlock, LLVMType};
 use std::alloc::{AllocError, Global};
 use support::items::Items;
 
+/// A row that writes no type beside its operands.
 fn row(
     alloc: Global,
     op: Op,
@@ -27,6 +28,53 @@ fn row(
 }
 
 impl LLVMInst {
+    /// A row of two operands.
+    pub fn binary(
+        alloc: Global,
+        op: Op,
+        lhs: LLVMValue,
+        rhs: LLVMValue,
+    ) -> Result<LLVMInst, AllocError>
+        ensures { IfOk result (λ i. i ≡ insts.Row (record { op = op; written = None; operands = lhs ∷ rhs ∷ []; targets = [] })) }
+    {
+        row(alloc, op, &[lhs, rhs], &[])
+    }
+
+    /// A row of one operand, to the type.
+    pub fn cast(
+        alloc: Global,
+        op: Op,
+        ty: LLVMType,
+        value: LLVMValue,
+    ) -> Result<LLVMInst, AllocError>
+        ensures { IfOk result (λ i. i ≡ insts.Row (record { op = op; written = Some ty; operands = value ∷ []; targets = [] })) }
+    {
+        Ok(LLVMInst::Row(Row {
+            op,
+            written: Some(ty),
+            operands: Items::from_vec(Vec::from_slice(alloc, &[value])?),
+            targets: Items::new(alloc),
+        }))
+    }
+
+    /// The second where the condition is true, else the third.
+    pub fn select(
+        alloc: Global,
+        condition: LLVMValue,
+        lhs: LLVMValue,
+        rhs: LLVMValue,
+    ) -> Result<LLVMInst, AllocError>
+        ensures { IfOk result (λ i. i ≡ insts.Row (record { op = ops.Select; written = None; operands = condition ∷ lhs ∷ rhs ∷ []; targets = [] })) }
+    {
+        row(alloc, Op::Select, &[condition, lhs, rhs], &[])
+    }
+
+    pub fn freeze(alloc: Global, value: LLVMValue) -> Result<LLVMInst, AllocError>
+        ensures { IfOk result (λ i. i ≡ insts.Row (record { op = ops.Freeze; written = None; operands = value ∷ []; targets = [] })) }
+    {
+        row(alloc, Op::Freeze, &[value], &[])
+    }
+
     pub fn add(
         alloc: Global,
         lhs: LLVMValue,

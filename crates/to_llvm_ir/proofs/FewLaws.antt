@@ -24,7 +24,7 @@ use Rattle.to_llvm_ir.proofs.LookupLaws.{block_form, op_form, entry_at}
 use Rattle.to_llvm_ir.proofs.PlacedLaws.{params_count}
 use Rattle.to_llvm_ir.proofs.EdgeLaws.{made_from, blocks_count}
 use Rattle.to_llvm_ir.proofs.SuccessorLaws.{all_edges, few, silent_ops}
-use Rattle.to_llvm_ir.proofs.TableLaws.{takes_few}
+use Rattle.kinds.proofs.TableLaws.{takes_few}
 
 -- ---- edges
 

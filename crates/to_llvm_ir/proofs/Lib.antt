@@ -40,7 +40,6 @@ pub mod ResultLaws
 pub mod SetLaws
 pub mod StepLaws
 pub mod SuccessorLaws
-pub mod TableLaws
 pub mod TurnLaws
 pub mod TypeLaws
 pub mod UseLaws

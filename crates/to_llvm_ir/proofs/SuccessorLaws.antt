@@ -33,7 +33,7 @@ use Rattle.to_llvm_ir.proofs.EdgeLaws.{edge_among}
 use Rattle.to_llvm_ir.proofs.LookupLaws.{op_form, block_form}
 use Rattle.to_llvm_ir.proofs.ListLaws.{at_middle}
 use Rattle.to_llvm_ir.proofs.OpLaws.{spot_form}
-use Rattle.to_llvm_ir.proofs.TableLaws.{leads_few}
+use Rattle.kinds.proofs.TableLaws.{leads_few}
 
 -- ---- how many edges an operation has
 

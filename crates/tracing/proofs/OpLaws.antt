@@ -2,6 +2,7 @@
 -- a tactic goes through the variants: a further row costs no line, and a further sort of immediates one lemma.
 use Rattle.std.proofs.Common.{◌≡◌, inl, inr, Bool, true, false, List, [], ◌∷◌, refl, ap, arith}
 use Rattle.std.proofs.lemmas.Bool.{false≢true}
+use mathlib.Core.Bool.{beq}
 use denote.Struct.Field.{Field}
 use denote.Struct.Values.{Values}
 use denote.Enum.Declared.{Choice, values_one}
@@ -38,10 +39,19 @@ same_choice ((field ∷ fields) ∷ parts) each (inr c) (inr d) h told = ap inr 
 flags_told : (x y : OverflowFlags × Unit {0}) → flags_eq.eq-value.it x.0 y.0 ≡ true → x ≡ y
 flags_told x y h = let same : x.0 ≡ y.0 = grind arith in ap (λ (f : OverflowFlags). (f, tt)) same
 
+same_truth : (a b : Bool) → beq a b ≡ true → a ≡ b
+same_truth true true h = refl
+same_truth true false h = absurd cc
+same_truth false true h = absurd cc
+same_truth false false h = refl
+
+truth_told : (x y : Bool × Unit {0}) → beq x.0 y.0 ≡ true → x ≡ y
+truth_told x y h = ap (λ (b : Bool). (b, tt)) (same_truth x.0 y.0 h)
+
 predicate_told : (x y : LLVMIntPredicate × Unit {0}) → predicate_eq.eq-value.it x.0 y.0 ≡ true → x ≡ y
 predicate_told x y h = let same : x.0 ≡ y.0 = grind arith in ap (λ (p : LLVMIntPredicate). (p, tt)) same
 
 -- ---- rows
 
 pub same_op : (a b : Op) → ops.eq-value.it a b ≡ true → a ≡ b
-same_op a b h = values_one op.enum a b (same_choice op.enum.parts _ (op.as_values a) (op.as_values b) h (search (flags_told, predicate_told) depth 200))
+same_op a b h = values_one op.enum a b (same_choice op.enum.parts _ (op.as_values a) (op.as_values b) h (search (flags_told, predicate_told, truth_told) depth 200))

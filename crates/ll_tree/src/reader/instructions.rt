@@ -1,12 +1,12 @@
 //! Reads the instructions that end no block.
 
 ghost use Rattle.std.specs.Prelude.{◌≡◌, map};
-ghost use Rattle.ll_tree.specs.Reading.{left, Gives, result_at, add_at, icmp_at, incoming_at, next_incoming_at, next_incomings_at, phi_at, kind_at, inst_at};
+ghost use Rattle.ll_tree.specs.Reading.{left, Gives, result_at, binary_at, cast_at, select_at, freeze_at, icmp_at, incoming_at, next_incoming_at, next_incomings_at, phi_at, worded_at, kind_at, inst_at};
 ghost use Rattle.ll_tree.specs.TreeView.{incoming_view, inst_view, name_view};
 
 use super::Reader;
 use crate::read_err::ReadErr;
-use crate::token_kinds::Kind;
+use crate::token_kinds::{Kind, takes_flags, takes_nneg};
 use crate::tokens::Token;
 use crate::tree::{Incoming, Inst};
 use std::alloc::Global;
@@ -24,22 +24,73 @@ impl<'t, 'a> Reader<'t, 'a> {
         Ok(Some(name))
     }
 
-    /// What stands behind `add`, whose result has that name.
-    #[tactic(auto, unfolding(crate::specs::Reading::add_at))]
-    fn add(&mut self, name: Option<Token<'a>>) -> Result<Inst<'a>, ReadErr>
-        ensures { Gives (λ x. (inst_view x, left self.new)) result (add_at (name_view name.entry) (left self.old)) }
+    /// The word of an operation on two integers and what stands behind it; its result has that name.
+    #[tactic(auto, unfolding(crate::specs::Reading::binary_at))]
+    fn binary(&mut self, name: Option<Token<'a>>) -> Result<Inst<'a>, ReadErr>
+        ensures { Gives (λ x. (inst_view x, left self.new)) result (binary_at (name_view name.entry) (left self.old)) }
     {
-        let nuw = self.flag(b"nuw");
-        let nsw = self.flag(b"nsw");
+        let word = self.one(Kind::Binary)?;
+        let takes = takes_flags(word.text);
+        let nuw = self.flag_where(takes, b"nuw");
+        let nsw = self.flag_where(takes, b"nsw");
         let (ty, lhs, rhs) = self.both()?;
-        Ok(Inst::Add {
+        Ok(Inst::Binary {
             name,
+            word,
             nuw,
             nsw,
             ty,
             lhs,
             rhs,
         })
+    }
+
+    /// The word of a cast and what stands behind it; its result has that name.
+    #[tactic(auto, unfolding(crate::specs::Reading::cast_at))]
+    fn cast(&mut self, name: Option<Token<'a>>) -> Result<Inst<'a>, ReadErr>
+        ensures { Gives (λ x. (inst_view x, left self.new)) result (cast_at (name_view name.entry) (left self.old)) }
+    {
+        let word = self.one(Kind::Cast)?;
+        let nneg = self.flag_where(takes_nneg(word.text), b"nneg");
+        let (ty, value) = self.typed()?;
+        self.skip(b"to")?;
+        let to = self.one(Kind::IntType)?;
+        Ok(Inst::Cast {
+            name,
+            word,
+            nneg,
+            ty,
+            value,
+            to,
+        })
+    }
+
+    /// What stands behind `select`, whose result has that name.
+    #[tactic(auto, unfolding(crate::specs::Reading::select_at))]
+    fn select(&mut self, name: Option<Token<'a>>) -> Result<Inst<'a>, ReadErr>
+        ensures { Gives (λ x. (inst_view x, left self.new)) result (select_at (name_view name.entry) (left self.old)) }
+    {
+        let (bit, condition) = self.typed()?;
+        let (ty, lhs) = self.next_typed()?;
+        let (other, rhs) = self.next_typed()?;
+        Ok(Inst::Select {
+            name,
+            bit,
+            condition,
+            ty,
+            lhs,
+            other,
+            rhs,
+        })
+    }
+
+    /// What stands behind `freeze`, whose result has that name.
+    #[tactic(auto, unfolding(crate::specs::Reading::freeze_at))]
+    fn freeze(&mut self, name: Option<Token<'a>>) -> Result<Inst<'a>, ReadErr>
+        ensures { Gives (λ x. (inst_view x, left self.new)) result (freeze_at (name_view name.entry) (left self.old)) }
+    {
+        let (ty, value) = self.typed()?;
+        Ok(Inst::Freeze { name, ty, value })
     }
 
     /// What stands behind `icmp`, whose result has that name.
@@ -108,19 +159,36 @@ impl<'t, 'a> Reader<'t, 'a> {
         })
     }
 
-    /// An instruction behind what is written of its result's name.
-    #[tactic(auto, unfolding(crate::specs::Reading::kind_at, crate::specs::Reading::flag_at))]
-    fn kind(&mut self, alloc: Global, name: Option<Token<'a>>) -> Result<Inst<'a>, ReadErr>
-        ensures { Gives (λ x. (inst_view x, left self.new)) result (kind_at (name_view name.entry) (left self.old)) }
+    /// An instruction that a word of its own begins, behind what is written of its result's name.
+    #[tactic(auto, unfolding(crate::specs::Reading::worded_at, crate::specs::Reading::flag_at))]
+    fn worded(&mut self, alloc: Global, name: Option<Token<'a>>) -> Result<Inst<'a>, ReadErr>
+        ensures { Gives (λ x. (inst_view x, left self.new)) result (worded_at (name_view name.entry) (left self.old)) }
     {
-        if self.flag(b"add") {
-            return self.add(name);
-        }
         if self.flag(b"icmp") {
             return self.icmp(name);
         }
+        if self.flag(b"select") {
+            return self.select(name);
+        }
+        if self.flag(b"freeze") {
+            return self.freeze(name);
+        }
         self.skip(b"phi")?;
         self.phi(alloc, name)
+    }
+
+    /// An instruction behind what is written of its result's name.
+    #[tactic(auto, unfolding(crate::specs::Reading::kind_at))]
+    fn kind(&mut self, alloc: Global, name: Option<Token<'a>>) -> Result<Inst<'a>, ReadErr>
+        ensures { Gives (λ x. (inst_view x, left self.new)) result (kind_at (name_view name.entry) (left self.old)) }
+    {
+        if self.passes_next(Kind::Binary) {
+            return self.binary(name);
+        }
+        if self.passes_next(Kind::Cast) {
+            return self.cast(name);
+        }
+        self.worded(alloc, name)
     }
 
     /// An instruction (`inst_law`).

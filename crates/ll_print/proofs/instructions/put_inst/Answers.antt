@@ -9,3 +9,6 @@ put_row-requires-clause-operands c = let own = rw c.in-Row.is at c.requires.own 
 
 pub put_row-requires-clause-targets : goal.put_row-requires-clause-targets
 put_row-requires-clause-targets c = let own = rw c.in-Row.is at c.requires.own in own.1
+
+pub put_row-requires-clause-written : goal.put_row-requires-clause-written
+put_row-requires-clause-written c = let own = rw c.in-Row.is at c.requires.own in own.2

@@ -1,6 +1,6 @@
 -- What `instructions::both` owes besides what the check finds.
-use Rattle.std.proofs.Common.{Some, ap, sym, ◌∙◌, inl, inr}
-use Rattle.ll_text.proofs.ModuleLaws.{value_kept, ready_kept, interns_keep, operand_kept, interned_twice}
+use Rattle.std.proofs.Common.{inl, inr}
+use Rattle.ll_text.proofs.ModuleLaws.{value_kept, ready_kept, interns_keep, opens_kept, interned_twice}
 use Rattle.ll_text.proofs.RefusalLaws.{passed_on}
 use Rattle.ll_text.proofs.instructions.both.Goals as goal
 
@@ -13,9 +13,7 @@ returns-clause-left c = value_kept _ _ _ _ c.in_ok-b.ensures.rest c.in_ok-a.ensu
 pub returns-clause-lhs : goal.returns-clause-lhs
 returns-clause-lhs c = λ s knows.
     let e = c.in_ok-a.ensures in
-    let v = e.value s knows in
-    let stands = e.stands in
-    record { says = v.says ∙ ap (λ o. Some o) (sym (operand_kept _ _ _ c.in_ok-b.ensures.rest (e.rest.sound c.requires.ready.sound) stands.there)) }
+    opens_kept _ _ _ _ _ _ c.in_ok-b.ensures.rest (e.rest.sound c.requires.ready.sound) e.stands.there (e.value s knows)
 
 pub returns-clause-rest : goal.returns-clause-rest
 returns-clause-rest c = interned_twice _ _ _ c.in_ok-a.ensures.rest c.in_ok-b.ensures.rest

@@ -1,4 +1,4 @@
--- How many operands and edges a row of the table has at most.
+-- How many operands and targets a row of the table has at most.
 use Rattle.std.proofs.Common.{◌<◌, Bool, true, false, arith}
 use Rattle.kinds.specs.declared.op.Op.{Op}
 use Rattle.kinds.specs.declared.op.Op.TheVariants as O
