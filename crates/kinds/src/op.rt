@@ -53,6 +53,8 @@ pub enum Op {
     LShr,
     /// `ashr` (Language Reference, "ashr" Instruction).
     AShr,
+    /// `and` (Language Reference, "and" Instruction).
+    And,
     /// `icmp` (Language Reference, "icmp" Instruction).
     ICmp(LLVMIntPredicate),
     /// `trunc` (Language Reference, "trunc .. to" Instruction).
@@ -114,6 +116,7 @@ impl Op {
             Op::SRem => rule(Takes::Two(Fit::Number, Fit::First), Gives::First, Leads::On, Family::Shows),
             Op::LShr => rule(Takes::Two(Fit::Number, Fit::First), Gives::First, Leads::On, Family::Shows),
             Op::AShr => rule(Takes::Two(Fit::Number, Fit::First), Gives::First, Leads::On, Family::Shows),
+            Op::And => rule(Takes::Two(Fit::Number, Fit::First), Gives::First, Leads::On, Family::Shows),
             Op::ICmp(_) => rule(Takes::Two(Fit::Number, Fit::First), Gives::Bit, Leads::On, Family::Shows),
             Op::Trunc => rule(Takes::One(Fit::Wider), Gives::Written, Leads::On, Family::Builds),
             Op::SExt => rule(Takes::One(Fit::Narrower), Gives::Written, Leads::On, Family::Shows),
@@ -142,6 +145,7 @@ impl Op {
             Op::SRem => Immediates::Nothing,
             Op::LShr => Immediates::Nothing,
             Op::AShr => Immediates::Nothing,
+            Op::And => Immediates::Nothing,
             Op::ICmp(predicate) => Immediates::Predicate(predicate),
             Op::Trunc => Immediates::Nothing,
             Op::SExt => Immediates::Nothing,
@@ -170,6 +174,7 @@ impl Op {
             Op::SRem => b"llvm.srem",
             Op::LShr => b"llvm.lshr",
             Op::AShr => b"llvm.ashr",
+            Op::And => b"llvm.and",
             Op::ICmp(_) => b"llvm.icmp",
             Op::Trunc => b"llvm.trunc",
             Op::SExt => b"llvm.sext",

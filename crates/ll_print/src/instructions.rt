@@ -226,6 +226,7 @@ fn put_head(op: Op, out: &mut Vec<u8>) -> Result<(), AllocError>
         Op::SRem => out.extend_from_slice(b"srem "),
         Op::LShr => out.extend_from_slice(b"lshr "),
         Op::AShr => out.extend_from_slice(b"ashr "),
+        Op::And => out.extend_from_slice(b"and "),
         Op::ICmp(predicate) => put_predicate(predicate, out),
         Op::Trunc => out.extend_from_slice(b"trunc "),
         Op::SExt => out.extend_from_slice(b"sext "),

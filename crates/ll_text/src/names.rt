@@ -182,6 +182,7 @@ pub fn binary_op(word: &[u8], flags: OverflowFlags) -> Option<Op>
         b"srem" => Some(Op::SRem),
         b"lshr" => Some(Op::LShr),
         b"ashr" => Some(Op::AShr),
+        b"and" => Some(Op::And),
         _ => None,
     }
 }

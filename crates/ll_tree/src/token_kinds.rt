@@ -138,6 +138,7 @@ fn is_binary(token: &[u8]) -> bool
             b"srem".as_slice(),
             b"lshr".as_slice(),
             b"ashr".as_slice(),
+            b"and".as_slice(),
         ]
         .contains(&token)
 }
