@@ -55,6 +55,8 @@ pub enum Op {
     AShr,
     /// `and` (Language Reference, "and" Instruction).
     And,
+    /// `or` (Language Reference, "or" Instruction).
+    Or,
     /// `icmp` (Language Reference, "icmp" Instruction).
     ICmp(LLVMIntPredicate),
     /// `trunc` (Language Reference, "trunc .. to" Instruction).
@@ -117,6 +119,7 @@ impl Op {
             Op::LShr => rule(Takes::Two(Fit::Number, Fit::First), Gives::First, Leads::On, Family::Shows),
             Op::AShr => rule(Takes::Two(Fit::Number, Fit::First), Gives::First, Leads::On, Family::Shows),
             Op::And => rule(Takes::Two(Fit::Number, Fit::First), Gives::First, Leads::On, Family::Shows),
+            Op::Or => rule(Takes::Two(Fit::Number, Fit::First), Gives::First, Leads::On, Family::Shows),
             Op::ICmp(_) => rule(Takes::Two(Fit::Number, Fit::First), Gives::Bit, Leads::On, Family::Shows),
             Op::Trunc => rule(Takes::One(Fit::Wider), Gives::Written, Leads::On, Family::Builds),
             Op::SExt => rule(Takes::One(Fit::Narrower), Gives::Written, Leads::On, Family::Shows),
@@ -146,6 +149,7 @@ impl Op {
             Op::LShr => Immediates::Nothing,
             Op::AShr => Immediates::Nothing,
             Op::And => Immediates::Nothing,
+            Op::Or => Immediates::Nothing,
             Op::ICmp(predicate) => Immediates::Predicate(predicate),
             Op::Trunc => Immediates::Nothing,
             Op::SExt => Immediates::Nothing,
@@ -175,6 +179,7 @@ impl Op {
             Op::LShr => b"llvm.lshr",
             Op::AShr => b"llvm.ashr",
             Op::And => b"llvm.and",
+            Op::Or => b"llvm.or",
             Op::ICmp(_) => b"llvm.icmp",
             Op::Trunc => b"llvm.trunc",
             Op::SExt => b"llvm.sext",

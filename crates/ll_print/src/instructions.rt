@@ -227,6 +227,7 @@ fn put_head(op: Op, out: &mut Vec<u8>) -> Result<(), AllocError>
         Op::LShr => out.extend_from_slice(b"lshr "),
         Op::AShr => out.extend_from_slice(b"ashr "),
         Op::And => out.extend_from_slice(b"and "),
+        Op::Or => out.extend_from_slice(b"or "),
         Op::ICmp(predicate) => put_predicate(predicate, out),
         Op::Trunc => out.extend_from_slice(b"trunc "),
         Op::SExt => out.extend_from_slice(b"sext "),

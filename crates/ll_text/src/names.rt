@@ -183,6 +183,7 @@ pub fn binary_op(word: &[u8], flags: OverflowFlags) -> Option<Op>
         b"lshr" => Some(Op::LShr),
         b"ashr" => Some(Op::AShr),
         b"and" => Some(Op::And),
+        b"or" => Some(Op::Or),
         _ => None,
     }
 }

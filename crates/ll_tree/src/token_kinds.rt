@@ -139,6 +139,7 @@ fn is_binary(token: &[u8]) -> bool
             b"lshr".as_slice(),
             b"ashr".as_slice(),
             b"and".as_slice(),
+            b"or".as_slice(),
         ]
         .contains(&token)
 }
