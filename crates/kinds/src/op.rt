@@ -57,6 +57,8 @@ pub enum Op {
     And,
     /// `or` (Language Reference, "or" Instruction).
     Or,
+    /// `xor` (Language Reference, "xor" Instruction).
+    Xor,
     /// `icmp` (Language Reference, "icmp" Instruction).
     ICmp(LLVMIntPredicate),
     /// `trunc` (Language Reference, "trunc .. to" Instruction).
@@ -120,6 +122,7 @@ impl Op {
             Op::AShr => rule(Takes::Two(Fit::Number, Fit::First), Gives::First, Leads::On, Family::Shows),
             Op::And => rule(Takes::Two(Fit::Number, Fit::First), Gives::First, Leads::On, Family::Shows),
             Op::Or => rule(Takes::Two(Fit::Number, Fit::First), Gives::First, Leads::On, Family::Shows),
+            Op::Xor => rule(Takes::Two(Fit::Number, Fit::First), Gives::First, Leads::On, Family::Shows),
             Op::ICmp(_) => rule(Takes::Two(Fit::Number, Fit::First), Gives::Bit, Leads::On, Family::Shows),
             Op::Trunc => rule(Takes::One(Fit::Wider), Gives::Written, Leads::On, Family::Builds),
             Op::SExt => rule(Takes::One(Fit::Narrower), Gives::Written, Leads::On, Family::Shows),
@@ -150,6 +153,7 @@ impl Op {
             Op::AShr => Immediates::Nothing,
             Op::And => Immediates::Nothing,
             Op::Or => Immediates::Nothing,
+            Op::Xor => Immediates::Nothing,
             Op::ICmp(predicate) => Immediates::Predicate(predicate),
             Op::Trunc => Immediates::Nothing,
             Op::SExt => Immediates::Nothing,
@@ -180,6 +184,7 @@ impl Op {
             Op::AShr => b"llvm.ashr",
             Op::And => b"llvm.and",
             Op::Or => b"llvm.or",
+            Op::Xor => b"llvm.xor",
             Op::ICmp(_) => b"llvm.icmp",
             Op::Trunc => b"llvm.trunc",
             Op::SExt => b"llvm.sext",

@@ -79,6 +79,7 @@ row_printed f h p plain short O.LShr w os ts is form e = row_binary f h p plain 
 row_printed f h p plain short O.AShr w os ts is form e = row_binary f h p plain O.AShr (codes "ashr") no_flags w os ts (record { ruled = refl; head = refl; names = λ f w os ts. refl; one = refl; kind = refl; flagged = refl; says = refl }) is form
 row_printed f h p plain short O.And w os ts is form e = row_binary f h p plain O.And (codes "and") no_flags w os ts (record { ruled = refl; head = refl; names = λ f w os ts. refl; one = refl; kind = refl; flagged = refl; says = refl }) is form
 row_printed f h p plain short O.Or w os ts is form e = row_binary f h p plain O.Or (codes "or") no_flags w os ts (record { ruled = refl; head = refl; names = λ f w os ts. refl; one = refl; kind = refl; flagged = refl; says = refl }) is form
+row_printed f h p plain short O.Xor w os ts is form e = row_binary f h p plain O.Xor (codes "xor") no_flags w os ts (record { ruled = refl; head = refl; names = λ f w os ts. refl; one = refl; kind = refl; flagged = refl; says = refl }) is form
 row_printed f h p plain short (O.ICmp predicate) w os ts is form e =
     let b = binary f p.type (row_of (O.ICmp predicate) w os ts) form (λ w. refl) refl form.count refl in
     icmp_printed f h p b.lhs b.rhs predicate b.width (is ∙ b.is) (row_gives f p.type (row_of (O.ICmp predicate) w os ts) form) b.left b.right plain
@@ -119,6 +120,7 @@ row_ends f h p unnamed O.LShr w os ts is form e = absurd cc
 row_ends f h p unnamed O.AShr w os ts is form e = absurd cc
 row_ends f h p unnamed O.And w os ts is form e = absurd cc
 row_ends f h p unnamed O.Or w os ts is form e = absurd cc
+row_ends f h p unnamed O.Xor w os ts is form e = absurd cc
 row_ends f h p unnamed (O.ICmp predicate) w os ts is form e = absurd cc
 row_ends f h p unnamed O.Trunc w os ts is form e = absurd cc
 row_ends f h p unnamed O.SExt w os ts is form e = absurd cc

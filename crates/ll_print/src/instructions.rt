@@ -228,6 +228,7 @@ fn put_head(op: Op, out: &mut Vec<u8>) -> Result<(), AllocError>
         Op::AShr => out.extend_from_slice(b"ashr "),
         Op::And => out.extend_from_slice(b"and "),
         Op::Or => out.extend_from_slice(b"or "),
+        Op::Xor => out.extend_from_slice(b"xor "),
         Op::ICmp(predicate) => put_predicate(predicate, out),
         Op::Trunc => out.extend_from_slice(b"trunc "),
         Op::SExt => out.extend_from_slice(b"sext "),

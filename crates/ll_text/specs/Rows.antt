@@ -20,7 +20,7 @@ abbrev pub binary_rows : List (Text × (OverflowFlags → Op))
 binary_rows =
     (codes "add", O.Add) ∷ (codes "sub", O.Sub) ∷ (codes "mul", O.Mul) ∷ (codes "shl", O.Shl)
     ∷ (codes "udiv", λ flags. O.UDiv) ∷ (codes "sdiv", λ flags. O.SDiv) ∷ (codes "urem", λ flags. O.URem) ∷ (codes "srem", λ flags. O.SRem)
-    ∷ (codes "lshr", λ flags. O.LShr) ∷ (codes "ashr", λ flags. O.AShr) ∷ (codes "and", λ flags. O.And) ∷ (codes "or", λ flags. O.Or) ∷ []
+    ∷ (codes "lshr", λ flags. O.LShr) ∷ (codes "ashr", λ flags. O.AShr) ∷ (codes "and", λ flags. O.And) ∷ (codes "or", λ flags. O.Or) ∷ (codes "xor", λ flags. O.Xor) ∷ []
 
 abbrev pub binary_op : Text → OverflowFlags → Option Op
 binary_op word flags = option_map (λ (of : OverflowFlags → Op). of flags) (lookup (bytes_eq word) binary_rows)

@@ -184,6 +184,7 @@ pub fn binary_op(word: &[u8], flags: OverflowFlags) -> Option<Op>
         b"ashr" => Some(Op::AShr),
         b"and" => Some(Op::And),
         b"or" => Some(Op::Or),
+        b"xor" => Some(Op::Xor),
         _ => None,
     }
 }

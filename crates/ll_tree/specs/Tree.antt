@@ -58,7 +58,7 @@ abbrev pub overflow_words : List Text
 overflow_words = codes "add" ∷ codes "sub" ∷ codes "mul" ∷ codes "shl" ∷ []
 
 abbrev pub plain_words : List Text
-plain_words = codes "udiv" ∷ codes "sdiv" ∷ codes "urem" ∷ codes "srem" ∷ codes "lshr" ∷ codes "ashr" ∷ codes "and" ∷ codes "or" ∷ []
+plain_words = codes "udiv" ∷ codes "sdiv" ∷ codes "urem" ∷ codes "srem" ∷ codes "lshr" ∷ codes "ashr" ∷ codes "and" ∷ codes "or" ∷ codes "xor" ∷ []
 
 abbrev pub takes_flags : Text → Bool
 takes_flags t = list_any (bytes_eq t) overflow_words

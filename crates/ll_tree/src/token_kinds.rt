@@ -140,6 +140,7 @@ fn is_binary(token: &[u8]) -> bool
             b"ashr".as_slice(),
             b"and".as_slice(),
             b"or".as_slice(),
+            b"xor".as_slice(),
         ]
         .contains(&token)
 }
