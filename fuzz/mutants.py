@@ -17,7 +17,7 @@ import runs
 
 TOKEN = re.compile(rb"\s+|;[^\n]*|[@%]?[A-Za-z0-9$._-]+:?|\"[^\"]*\"|.", re.S)
 EXTRA = [b"%", b"@", b"0", b"1", b"-1", b"i1", b"i32", b"i64", b"i65", b"void", b"add", b"ret", b"nuw",
-         b"nsw", b",", b"(", b")", b"{", b"}", b"=", b":", b"define", b"%0", b"%a", b"7:", b"\n", b"true", b"\xff", b"br", b"label", b"phi", b"icmp", b"eq",
+         b"nsw", b",", b"(", b")", b"{", b"}", b"=", b":", b"define", b"%0", b"%a", b"7:", b"\n", b"true", b"\xff", b"br", b"label", b"phi", b"icmp", b"eq", b"udiv", b"select", b"freeze", b"zext", b"nneg", b"trunc", b"to",
          b"slt", b"unreachable", b"[", b"]", b"%loop", b"%x", b"%y"]
 
 
