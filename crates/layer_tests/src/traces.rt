@@ -1,5 +1,5 @@
-//! The trace of a loop that swaps, of a function of LLVM and of the dialect function that stands for it; and that of a
-//! dialect function that uses a value of another.
+//! The traces of a loop that swaps and of a function of operations on integers, each of a function of LLVM and of the
+//! dialect function that stands for it; and that of a dialect function that uses a value of another.
 
 ghost use Rattle.std.specs.Prelude.{◌≡◌, ◌<◌, All, IfOk, IfSome, length};
 ghost use Rattle.llvm_core.specs.Checked.{IsChecked};
@@ -43,9 +43,31 @@ exit:
 /// The branch choices: the loop is entered three times and left at the third turn.
 const CHOICES: &[u32] = &[0, 0, 0, 1];
 
-/// What both traces show, `^` a block that is entered and `%` a parameter that the event before it takes, after its width.
+/// What both traces show, `^` a block that is entered, and behind an event the types of its operands, and then these: `%` a
+/// parameter, `!` the answer of the event of that number, or the word of a silent operation.
 /// At the third turn the first phi holds the first parameter again.
 const WANT: &str = "^0 br ^1 cond_br i1 %2 ^1 cond_br i1 %2 ^1 cond_br i1 %2 ^2 ret i32 %0";
+
+/// Operations of each shape, of which `sub` and `trunc` are silent.
+const OPERATIONS: &str = "define i8 @f(i32 %a, i32 %b, i1 %c) {
+  %q = udiv i32 %a, %b
+  %r = srem i32 %q, %b
+  %d = sub nsw i32 %q, %r
+  %m = mul nuw i32 %d, %a
+  %n = trunc i32 %m to i8
+  %k = freeze i8 %n
+  %w = zext nneg i8 %k to i32
+  %x = xor i32 %w, %q
+  %s = select i1 %c, i32 %x, i32 %a
+  %l = trunc i32 %s to i8
+  ret i8 %l
+}
+";
+
+/// What both of its traces show.
+const SHOWN: &str =
+    "^0 udiv i32 i32 %0 %1 srem i32 i32 !0 %1 mul i32 i32 sub %0 freeze i8 trunc zext i8 !3 \
+xor i32 i32 !4 !0 select i1 i32 i32 %2 !5 %0 ret i8 trunc";
 
 /// Two functions, of which the first branches on a value of the second.
 const FOREIGN: &[Step] = &[
@@ -76,6 +98,15 @@ fn is_number(word: &str, mark: char, number: u32) -> bool {
 
 fn op_word(op: Op) -> &'static str {
     match op {
+        Op::Sub(_) => "sub",
+        Op::Trunc => "trunc",
+        Op::Mul(_) => "mul",
+        Op::UDiv => "udiv",
+        Op::SRem => "srem",
+        Op::Xor => "xor",
+        Op::ZExt(true) => "zext",
+        Op::Select => "select",
+        Op::Freeze => "freeze",
         Op::Br => "br",
         Op::CondBr => "cond_br",
         Op::Ret => "ret",
@@ -86,6 +117,7 @@ fn op_word(op: Op) -> &'static str {
 fn type_word(ty: &ValueType) -> &'static str {
     match ty {
         ValueType::Int(1) => "i1",
+        ValueType::Int(8) => "i8",
         ValueType::Int(32) => "i32",
         ValueType::Int(_) => "other",
         ValueType::Void => "void",
@@ -106,6 +138,8 @@ fn are_types(types: &[ValueType], words: &mut SplitWhitespace<'_>) -> bool {
 fn is_term(node: &TermNode, word: &str) -> bool {
     match node {
         TermNode::Param(at) => is_number(word, '%', *at),
+        TermNode::Answer(event) => is_number(word, '!', *event),
+        TermNode::Expr { op, .. } => word == op_word(*op),
         TermNode::Unset => word == "unset",
         _ => false,
     }
@@ -219,12 +253,12 @@ fn imported_shows(alloc: Global, module: &LLVMModule, want: &str) -> bool
     }
 }
 
-/// Whether the trace of the loop, and that of what the import makes of it, show what they should.
-fn swaps(alloc: Global) -> (bool, bool) {
-    match read_ll(alloc, SWAP.as_bytes()) {
+/// Whether the trace of a text's first function, and that of what the import makes of it, show these words.
+fn both_show(alloc: Global, text: &str, want: &str) -> (bool, bool) {
+    match read_ll(alloc, text.as_bytes()) {
         Ok(module) => (
-            llvm_shows(alloc, &module, WANT),
-            imported_shows(alloc, &module, WANT),
+            llvm_shows(alloc, &module, want),
+            imported_shows(alloc, &module, want),
         ),
         Err(_) => (false, false),
     }
@@ -232,7 +266,14 @@ fn swaps(alloc: Global) -> (bool, bool) {
 
 #[test]
 fn both_sides_swap(rt: HostRuntime) {
-    let (source, dialect) = swaps(rt.alloc());
+    let (source, dialect) = both_show(rt.alloc(), SWAP, WANT);
+    assert!(rt; source, "the source");
+    assert!(rt; dialect, "the dialect");
+}
+
+#[test]
+fn both_sides_show_operations(rt: HostRuntime) {
+    let (source, dialect) = both_show(rt.alloc(), OPERATIONS, SHOWN);
     assert!(rt; source, "the source");
     assert!(rt; dialect, "the dialect");
 }
