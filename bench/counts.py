@@ -49,10 +49,11 @@ def inside(head, part, tail, size):
     return head + body + tail(count) + "}\n"
 
 
-def adds(size):
-    """One function of adds, each of the one before."""
-    part = lambda k: f"  %x{k + 1} = add nsw i32 %x{k}, %a\n"
-    return inside("define i32 @f(i32 %x0, i32 %a) {\nentry:\n", part, lambda n: f"  ret i32 %x{n}\n", size)
+def chain(other, size, name=lambda k: f"x{k}", add="add"):
+    """One function of adds, each of the one before it and of another operand, which may go by the number of the line."""
+    part = lambda k: f"  %{name(k + 1)} = {add} i32 %{name(k)}, {other(k)}\n"
+    head = f"define i32 @f(i32 %{name(0)}, i32 %a) {{\nentry:\n"
+    return inside(head, part, lambda n: f"  ret i32 %{name(n)}\n", size)
 
 
 def blocks(size):
@@ -60,19 +61,6 @@ def blocks(size):
     part = lambda k: f"  br i1 %c, label %b{k + 1}, label %exit\n\nb{k + 1}:\n"
     head = "define void @f(i1 %c) {\nentry:\n"
     return inside(head, part, lambda n: "  br label %exit\n\nexit:\n  ret void\n", size)
-
-
-def names(size):
-    """One function of adds with names of 200 letters."""
-    name = lambda k: "a" * 190 + f"{k:010}"
-    part = lambda k: f"  %{name(k + 1)} = add i32 %{name(k)}, %b\n"
-    return inside(f"define i32 @f(i32 %{name(0)}, i32 %b) {{\nentry:\n", part, lambda n: f"  ret i32 %{name(n)}\n", size)
-
-
-def constants(size):
-    """One function of adds, with a constant of its own in each."""
-    part = lambda k: f"  %x{k + 1} = add i32 %x{k}, {k + 10}\n"
-    return inside("define i32 @f(i32 %x0) {\nentry:\n", part, lambda n: f"  ret i32 %x{n}\n", size)
 
 
 def phis(size):
@@ -85,10 +73,10 @@ def phis(size):
 KINDS = {
     "small functions": lambda size: repeated(small, size),
     "functions of one line": lambda size: repeated(line, size),
-    "one function of adds": adds,
+    "one function of adds": lambda size: chain(lambda k: "%a", size, add="add nsw"),
     "one of many blocks": blocks,
-    "long names": names,
-    "many constants": constants,
+    "long names": lambda size: chain(lambda k: "%a", size, name=lambda k: "a" * 190 + f"{k:010}"),
+    "many constants": lambda size: chain(lambda k: k + 10, size),
     "many phis": phis,
 }
 
