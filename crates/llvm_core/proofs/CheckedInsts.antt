@@ -1,5 +1,5 @@
 -- The instructions of a checked module with plain names and narrow types are of the form.
-use Rattle.std.proofs.Common.{◌≡◌, ◌≢◌, inl, inr, ℕ, zero, suc, false, not, nat_eq, List, [], ◌∷◌, Option, None, Some, length, map, slice_get, unwrap_or, refl, sym, ap, subst, ◌∙◌, All}
+use Rattle.std.proofs.Common.{◌≡◌, ◌≢◌, inl, inr, ℕ, zero, suc, false, not, ◌&&◌, ◌||◌, nat_eq, List, [], ◌∷◌, Option, None, Some, length, map, slice_get, unwrap_or, refl, sym, ap, subst, ◌∙◌, All}
 use Rattle.std.specs.List.{list_any}
 use Rattle.std.specs.Option.{option_map}
 use Rattle.std.proofs.lemmas.Bool.{and_parts, cases_eq, eqb-true, false_from_ne_true, not-false, or_parts}
@@ -54,6 +54,13 @@ pub record MeetsRules (m : Module) (f b : ℕ) (ty : LLVMType) (i : LLVMInst) : 
   pub edges : ¬ MisfitsEdges m b i
   pub values : HasValues m i
   pub result : StandsFor m.types (result_type m i) ty
+
+-- a row that meets them has the right count, so the types of its operands fit
+pub row_kept : (m : Module) (f b : ℕ) (ty : LLVMType) (r : Row) → MeetsRules m f b ty (I.Row r) → (not (row_fits m r) ≡ false) × (misfits_return (rule_of r.op).takes m (numbered f) r.operands ≡ false)
+row_kept m f b ty r h =
+    let other = misfits_return (rule_of r.op).takes m (numbered f) r.operands in
+    let counted = not-false (is_counted m (numbered f) r) h.counts in
+    or_parts (not (row_fits m r)) other (sym (ap (λ c. c && (not (row_fits m r) || other)) counted) ∙ false_from_ne_true (misfits_row m (numbered f) r) h.types)
 
 module _ (m : Module) (f : ℕ) (x : FunctionData) (sound : IsModule m) (at : slice_get m.functions f ≡ Some x) where
   -- ---- operands and targets
@@ -142,7 +149,7 @@ module _ (m : Module) (f : ℕ) (x : FunctionData) (sound : IsModule m) (at : sl
         let takes = (rule_of r.op).takes in
         let os = map (operand_of (trees_of m)) r.operands in
         let inside = or_parts (list_any (is_outside m (numbered f)) r.operands) (list_any (is_block_outside m (numbered f)) r.targets) h.outside in
-        let fits = or_parts (not (row_fits m r)) (misfits_return takes m (numbered f) r.operands) (false_from_ne_true (misfits_row m (numbered f) r) h.types) in
+        let fits = row_kept m f b ty r h in
         let counts = and_parts (nat_eq (length r.operands) (operand_count takes (returns_void m (numbered f)))) (nat_eq (length r.targets) (target_count (rule_of r.op).leads)) (not-false (is_counted m (numbered f) r) h.counts) in
         let stand = values_stand m f x sound at r.operands h.values.0 inside.0 in
         let types = types_same m f x sound at r.operands h.values.0 stand in

@@ -1,8 +1,9 @@
 -- The instructions of a module of the form meet the rules.
-use Rattle.std.proofs.Common.{◌≡◌, ◌≢◌, ◌<◌, inl, inr, ℕ, suc, true, false, not, List, [], ◌∷◌, Some, length, map, slice_get, refl, sym, ap, subst, ◌∙◌, eq-eqb, All}
+use Rattle.std.proofs.Common.{◌≡◌, ◌≢◌, ◌<◌, inl, inr, ℕ, suc, true, false, not, ◌&&◌, List, [], ◌∷◌, Some, length, map, slice_get, refl, sym, ap, subst, ◌∙◌, eq-eqb, All}
 use Rattle.std.specs.List.{list_any}
 use Rattle.std.specs.Option.{option_map}
 use Rattle.std.proofs.lemmas.Bool.{or_from}
+use Rattle.std.proofs.Math.Bool.{and-false}
 use Rattle.std.proofs.lemmas.List.{length-map}
 use Rattle.std.proofs.lemmas.List.Elements.{All-head, All-tail}
 use Rattle.std.proofs.lemmas.Option.{slice_get-map}
@@ -24,7 +25,7 @@ use Rattle.llvm_core.specs.Edges.{count_of, edge_count}
 use Rattle.llvm_core.specs.Sound.{IsModule, StandsFor}
 use Rattle.llvm_core.specs.Data.{TypeTree, Operand, Instruction, type_at, const_at, trees_of, entry_of, operand_of, row_of, instruction_of, targets, AreApart}
 use Rattle.llvm_core.specs.Data as D
-use Rattle.llvm_core.specs.Checked.{returns_void, MisfitsType, misfits_row, misfits_return, HasOtherType, HasTwoValues, misfits_count, HasNoPreds, is_outside, is_block_outside, is_entry_outside, reaches_outside, MisfitsEdges, sources}
+use Rattle.llvm_core.specs.Checked.{returns_void, MisfitsType, misfits_row, misfits_return, is_counted, HasOtherType, HasTwoValues, misfits_count, HasNoPreds, is_outside, is_block_outside, is_entry_outside, reaches_outside, MisfitsEdges, sources}
 use Rattle.llvm_core.specs.Form.{IsShortInt, IsOperand, IsTarget, FitsEdges, edges_between, IsFormRow, IsFormInstruction, operands_of}
 use Rattle.llvm_core.proofs.DataLemmas.{within_at}
 use Rattle.llvm_core.proofs.GivenLemmas.{none_any}
@@ -109,7 +110,8 @@ module _ (m : Module) (f : ℕ) (x : FunctionData) (sound : IsModule m) (apart :
   row_fits_form r type here form =
       let types = types_same m f x sound at r.operands here.0 form.operands in
       let fits : row_fits m r ≡ true = sym (fits_by_tree m sound r here) ∙ ap (fits_trees r.op (option_map (tree m sound) r.written)) (sym types) ∙ form.fits in
-      or_from (not (row_fits m r)) (misfits_return (rule_of r.op).takes m (numbered f) r.operands) (ap not fits) (return_fits m f x sound at (rule_of r.op).takes r.operands here.0 form.operands form.returns)
+      let types_fit = or_from (not (row_fits m r)) (misfits_return (rule_of r.op).takes m (numbered f) r.operands) (ap not fits) (return_fits m f x sound at (rule_of r.op).takes r.operands here.0 form.operands form.returns) in
+      ap (λ c. is_counted m (numbered f) r && c) types_fit ∙ and-false (is_counted m (numbered f) r)
 
   module _ (b : ℕ) (type : TypeTree) where
     pub type_fits : (i : LLVMInst) (ty : LLVMType) → HasValues m i → StandsFor m.types (result_type m i) ty → type ≡ type_at (trees_of m).types ty → IsFormInstruction (shown m f x) b type (instruction_of (trees_of m) i) → ¬ MisfitsType m (numbered f) i

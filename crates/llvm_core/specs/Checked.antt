@@ -161,18 +161,18 @@ misfits_return (O.Two x y) m f vs = false
 misfits_return (O.Three x y z) m f vs = false
 misfits_return O.Return m f vs = list_any (returns_other m f) vs
 
--- the type of an operand, or the written type, does not fit the row, in the function f
+-- as many operands and targets as the table says
+abbrev pub is_counted : Module → LLVMFunction → Row → Bool
+is_counted m f r = nat_eq (length r.operands) (operand_count (rule_of r.op).takes (returns_void m f)) && nat_eq (length r.targets) (target_count (rule_of r.op).leads)
+
+-- of a row with the right count: the type of an operand, or the written type, does not fit it, in the function f
 abbrev pub misfits_row : Module → LLVMFunction → Row → Bool
-misfits_row m f r = not (row_fits m r) || misfits_return (rule_of r.op).takes m f r.operands
+misfits_row m f r = is_counted m f r && (not (row_fits m r) || misfits_return (rule_of r.op).takes m f r.operands)
 
 -- the type of an operand does not fit, in an instruction of f
 abbrev pub MisfitsType : Module → LLVMFunction → LLVMInst → Type 0
 MisfitsType m f (I.Phi type entries) = MisfitsPhi m type entries
 MisfitsType m f (I.Row r) = misfits_row m f r ≡ true
-
--- as many operands and targets as the table says
-abbrev pub is_counted : Module → LLVMFunction → Row → Bool
-is_counted m f r = nat_eq (length r.operands) (operand_count (rule_of r.op).takes (returns_void m f)) && nat_eq (length r.targets) (target_count (rule_of r.op).leads)
 
 -- the count of operands or targets does not fit, in an instruction of f
 abbrev pub misfits_count : Module → LLVMFunction → LLVMInst → Bool

@@ -122,13 +122,23 @@ fn misfits_return(m: &LLVMModule, f: LLVMFunction, row: &Row) -> bool
     }
 }
 
-/// Whether the type of an operand, or the written type, does not fit the row.
+/// Whether a row has as many operands and targets as the table says.
+fn is_counted(m: &LLVMModule, f: LLVMFunction, row: &Row) -> bool
+    requires { f.0 < length m.now.functions }
+    ensures { result ≡ is_counted m.now f row.now }
+{
+    let rule = row.op.rule();
+    row.operands.as_slice().len() == rule.takes.operand_count(returns_void(m, f))
+        && row.targets.as_slice().len() == rule.leads.target_count()
+}
+
+/// Whether a row of the right count has an operand, or a written type, of a type that does not fit it.
 fn misfits_row(m: &LLVMModule, f: LLVMFunction, row: &Row) -> bool
     requires function { f.0 < length m.now.functions }
     requires values { HasParts m.now row.now }
     ensures { result ≡ misfits_row m.now f row.now }
 {
-    !m.row_fits(row) || misfits_return(m, f, row)
+    is_counted(m, f, row) && (!m.row_fits(row) || misfits_return(m, f, row))
 }
 
 fn check_operand_types(m: &LLVMModule, i: LLVMInstRef) -> Result<(), CheckErr>
@@ -144,16 +154,6 @@ fn check_operand_types(m: &LLVMModule, i: LLVMInstRef) -> Result<(), CheckErr>
         return Err(CheckErr::OperandType(Place::Inst(i.0)));
     }
     Ok(())
-}
-
-/// Whether a row has as many operands and targets as the table says.
-fn is_counted(m: &LLVMModule, f: LLVMFunction, row: &Row) -> bool
-    requires { f.0 < length m.now.functions }
-    ensures { result ≡ is_counted m.now f row.now }
-{
-    let rule = row.op.rule();
-    row.operands.as_slice().len() == rule.takes.operand_count(returns_void(m, f))
-        && row.targets.as_slice().len() == rule.leads.target_count()
 }
 
 fn check_operand_count(m: &LLVMModule, i: LLVMInstRef) -> Result<(), CheckErr>

@@ -25,13 +25,13 @@ use Rattle.llvm_core.specs.Module.{Module}
 use Rattle.llvm_core.specs.Parts.{IsValue, is_function, is_kind, row_fits, row_result}
 use Rattle.llvm_core.specs.Sound.{IsModule, StandsFor}
 use Rattle.llvm_core.specs.Data.{Operand, type_at, type_tree, trees_of, tree_of_result, operand_of, operand_type}
-use Rattle.llvm_core.specs.Checked.{is_valueless, is_outside, is_block_outside, misfits_signature, misfits_return, misfits_row}
+use Rattle.llvm_core.specs.Checked.{is_valueless, is_outside, is_block_outside, misfits_signature, misfits_return}
 use Rattle.llvm_core.specs.Form.{IsOperandOf, IsReturning, result_of, types_of}
 use Rattle.llvm_core.proofs.DataLemmas.{type_tree_of, void_tree_of, int_tree_of}
 use Rattle.llvm_core.proofs.FormTypes.{numbered, signature_of, function_typed}
 use Rattle.llvm_core.proofs.FormValues.{values_stand, types_same, return_form}
 use Rattle.llvm_core.proofs.RuleLaws.{tree, tree_of, fits_by_tree, result_by_tree}
-use Rattle.llvm_core.proofs.CheckedInsts.{MeetsRules}
+use Rattle.llvm_core.proofs.CheckedInsts.{MeetsRules, row_kept}
 use Rattle.tracing.specs.LlvmBodies.{InChecked, IsNoFunction, data_in, IsUsed}
 use Rattle.tracing.proofs.WordLaws.{operands_plain, result_plain}
 
@@ -98,7 +98,7 @@ module _ (m : Module) (h : InChecked m) where
     types_are = types_same m h.number h.function h.sound h.at r.operands rules.values.0 stand
 
     kept : (not (row_fits m r) ≡ false) × (misfits_return takes m (numbered h.number) r.operands ≡ false)
-    kept = or_parts (not (row_fits m r)) (misfits_return takes m (numbered h.number) r.operands) (false_from_ne_true (misfits_row m (numbered h.number) r) rules.types)
+    kept = row_kept m h.number b ty r rules
 
     fits : fits_trees r.op written (types_of (data_in m h) (operands_in r.operands)) ≡ true
     fits = ap (fits_trees r.op written) types_are ∙ fits_by_tree m h.sound r rules.values ∙ not-false (row_fits m r) kept.0
