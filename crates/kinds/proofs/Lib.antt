@@ -2,3 +2,4 @@
 pub mod TypeLaws
 pub mod FittingLaws
 pub mod TableLaws
+pub mod OpLaws

@@ -1,6 +1,5 @@
 -- The lemmas of the crate.
 pub mod ModuleLaws
-pub mod OpLaws
 pub mod NodeLaws
 pub mod TableLaws
 pub mod RunLaws

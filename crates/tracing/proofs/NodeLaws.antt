@@ -12,7 +12,7 @@ use Rattle.tracing.specs.declared.table.TermNode.TheVariants as N
 use Rattle.tracing.specs.contracts.table.ValueTypePartialEq.TheImpl as types
 use Rattle.tracing.specs.contracts.table.TermNodePartialEq.TheImpl as nodes
 use Rattle.tracing.specs.contracts.table.TermNodeEq.TheImpl.Laws as node_eq
-use Rattle.tracing.proofs.OpLaws.{same_op}
+use Rattle.kinds.proofs.OpLaws.{same_op}
 
 same_type : (a b : ValueType) → types.eq-value.it a b ≡ true → a ≡ b
 same_type a b h = grind arith

@@ -16,31 +16,9 @@ use Rattle.kinds.specs.Table.{rule_of}
 use Rattle.kinds.specs.Fitting.{is_value, is_number, is_bit, is_wider, is_same, is_above, is_below, fit_one, fit, takes_fit, is_written}
 use Rattle.kinds.specs.Typing.{fits_trees, given, typed}
 use Rattle.kinds.proofs.TypeLaws.{tree_told}
+use Rattle.kinds.proofs.TableLaws.{names_earlier, is_ordered, table_ordered}
 use Rattle.llvm_core.proofs.DataLemmas.{within_at}
 use Rattle.tracing.specs.LlvmBodies.{IsNoFunction}
-
--- ---- words that name an earlier operand, or none
-
--- a line for each word: whether the first and the second operand are earlier ones
-abbrev pub names_earlier : (first second : Bool) → Fit → Bool
-names_earlier first second F.Any = true
-names_earlier first second F.Number = true
-names_earlier first second F.Bit = true
-names_earlier first second F.First = first
-names_earlier first second F.Second = second
-names_earlier first second F.Wider = true
-names_earlier first second F.Narrower = true
-
--- each word names operands before its own
-abbrev pub is_ordered : Takes → Bool
-is_ordered T.Nothing = true
-is_ordered (T.One f) = names_earlier false false f
-is_ordered (T.Two f g) = names_earlier false false f && names_earlier true false g
-is_ordered (T.Three f g h) = names_earlier false false f && names_earlier true false g && names_earlier true true h
-is_ordered T.Return = true
-
-pub table_ordered : (op : Op) → is_ordered (rule_of op).takes ≡ true
-table_ordered op = grind arith
 
 -- ---- one operand
 
