@@ -1,8 +1,8 @@
 #!/usr/bin/env python3
-"""Instructions and peak memory of `round_ll round`, for each byte of seven kinds of text.
+"""Instructions, peak memory and allocations of `round_ll round` on seven kinds of text.
 
 Instructions are counted by callgrind, so a busy machine changes nothing; memory is the most that a run without
-callgrind held. Each kind is a text of about a mebibyte, or of so many bytes as the first word says.
+callgrind held; allocations are counted by memcheck, for each line. Each kind is a text of about a mebibyte, or of so many bytes as the first word says.
 usage: bench/counts.py [BYTES [PROGRAM]]
 """
 import os
@@ -106,10 +106,21 @@ def memory(program, path):
     return usage.ru_maxrss * 1024
 
 
+def allocations(program, path):
+    """How many times a run asks for memory."""
+    words = ["valgrind", "--leak-check=no", str(program), "round"]
+    with open(path, "rb") as text:
+        ran = subprocess.run(words, stdin=text, stdout=subprocess.DEVNULL, stderr=subprocess.PIPE, text=True)
+    found = re.search(r"total heap usage: ([0-9,]+) allocs", ran.stderr)
+    if ran.returncode or not found:
+        sys.exit(f"counts: status {ran.returncode}: {ran.stderr[-400:]}")
+    return int(found[1].replace(",", ""))
+
+
 def main():
     size = int(sys.argv[1]) if len(sys.argv) > 1 else 1 << 20
     program = pathlib.Path(sys.argv[2]) if len(sys.argv) > 2 else PROGRAM
-    print(f"{'':24}{'bytes':>10}{'instructions a byte':>22}{'memory a byte':>16}")
+    print(f"{'':24}{'bytes':>10}{'instructions a byte':>22}{'memory a byte':>16}{'allocations a line':>20}")
     with tempfile.TemporaryDirectory() as scratch:
         path = f"{scratch}/text.ll"
         for name, made in KINDS.items():
@@ -117,7 +128,8 @@ def main():
             pathlib.Path(path).write_text(text)
             count = instructions(program, path, scratch)
             held = memory(program, path)
-            print(f"{name:24}{len(text):10}{count / len(text):22.1f}{held / len(text):16.1f}", flush=True)
+            asked = allocations(program, path) / text.count("\n")
+            print(f"{name:24}{len(text):10}{count / len(text):22.1f}{held / len(text):16.1f}{asked:20.1f}", flush=True)
 
 
 if __name__ == "__main__":

@@ -26,6 +26,7 @@ use std::alloc::{AllocError, Global};
 use std::marker::Model;
 use std::sync::ledger::Ledger;
 use support::items::Items;
+use support::short_list::ShortList;
 
 /// Operations, blocks and their types. Operations that stand in no block are kept too.
 #[derive(Drop)]
@@ -227,7 +228,7 @@ fn bare(alloc: Global, kind: OpKind, name: Option<Identifier>, symbol: Option<Sy
     OpData {
         kind,
         name,
-        operands: Items::new(alloc),
+        operands: ShortList::zero(),
         successors: Items::new(alloc),
         result: None,
         symbol,
@@ -245,7 +246,7 @@ fn plain(
 ) -> Result<OpData, AllocError>
     ensures { IfOk result (λ x. x ≡ record { kind = kind; name = None; operands = operands.now; successors = successors.now; result = result_ty; symbol = None; blocks = [] }) }
 {
-    let operands = copy_values(alloc, operands)?;
+    let operands = ShortList::from_slice(alloc, operands)?;
     let successors = copy_successors(alloc, successors)?;
     Ok(OpData {
         kind,
@@ -272,19 +273,12 @@ fn push_type(args: &mut Items<TypeHandle>, ty: TypeHandle) -> Result<u32, AllocE
     Ok(place as u32)
 }
 
-fn copy_values(alloc: Global, values: &[Value]) -> Result<Items<Value>, AllocError>
-    ensures { IfOk result (λ xs. xs ≡ values.now) }
-{
-    let copies = Vec::from_slice(alloc, values)?;
-    Ok(Items::from_vec(copies))
-}
-
 fn copy_successors(alloc: Global, successors: &[Successor]) -> Result<Items<Successor>, AllocError>
     ensures { IfOk result (λ xs. xs ≡ successors.now) }
 {
     let mut copies = Items::new(alloc);
     for s in successors {
-        let args = copy_values(alloc, s.args.as_slice())?;
+        let args = ShortList::from_slice(alloc, s.args.as_slice())?;
         copies.push(Successor {
             block: s.block,
             args,

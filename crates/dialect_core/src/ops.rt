@@ -7,6 +7,7 @@ use dialect_types::identifier::Identifier;
 use dialect_types::types::TypeHandle;
 use kinds::op::Op;
 use support::items::Items;
+use support::short_list::ShortList;
 
 /// What an operand names.
 #[derive(Clone, Copy, PartialEq, Eq, Hash, Debug, Drop)]
@@ -21,7 +22,7 @@ pub enum Value {
 #[derive(Drop)]
 pub struct Successor {
     pub block: BlockRef,
-    pub args: Items<Value>,
+    pub args: ShortList<Value>,
 }
 
 /// What an operation is, with its immediates.
@@ -49,7 +50,7 @@ pub struct Symbol {
 pub struct OpData {
     pub kind: OpKind,
     pub name: Option<Identifier>,
-    pub operands: Items<Value>,
+    pub operands: ShortList<Value>,
     pub successors: Items<Successor>,
     pub result: Option<TypeHandle>,
     pub symbol: Option<Symbol>,

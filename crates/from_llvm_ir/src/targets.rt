@@ -20,7 +20,6 @@ use llvm_core::module::LLVMModule;
 use llvm_core::numbers::{LLVMBasicBlock, LLVMFunction};
 use std::alloc::Global;
 use std::collections::HashMap;
-use support::items::Items;
 
 /// The blocks of the dialect that stand for those of a source function.
 pub type Targets = HashMap<LLVMBasicBlock, BlockRef>;
@@ -42,10 +41,7 @@ fn known_edge(
     let taken = edge_values(alloc, source, entries, from, to)?;
     let args = known_values(alloc, source, values, taken.as_slice())?;
     let block = targets[&to];
-    Ok(Successor {
-        block,
-        args: Items::from_vec(args),
-    })
+    Ok(Successor { block, args })
 }
 
 /// The edges of the dialect for those of the source, from a block to others.

@@ -13,6 +13,7 @@ use llvm_core::module::LLVMModule;
 use llvm_core::numbers::LLVMInstRef;
 use std::alloc::{AllocError, Global};
 use std::collections::HashMap;
+use support::short_list::ShortList;
 use support::text::Text;
 
 /// The values of the dialect that stand for parameters, constants and results of a source function.
@@ -91,14 +92,14 @@ pub fn known_values(
     source: &LLVMModule,
     values: &Values,
     used: &[LLVMValue],
-) -> Result<Vec<Value>, ConversionErr>
+) -> Result<ShortList<Value>, ConversionErr>
     requires { All (IsSettled source.now values.now) used.now }
-    ensures ok { IfOk result (λ ws. AreNoted values.now used.now ws.items) }
+    ensures ok { IfOk result (λ ws. AreNoted values.now used.now ws) }
     ensures err { IfErr result (λ e. IsForward source.now values.now (map (operand_of (trees_of source.now)) used.now) e) }
 {
-    let mut known = Vec::new(alloc);
+    let mut known = ShortList::zero();
     for value in used {
-        known.push(known_value(alloc, source, values, *value)?)?;
+        known.push(alloc, known_value(alloc, source, values, *value)?)?;
     }
     Ok(known)
 }
@@ -109,10 +110,10 @@ pub fn known_operands(
     source: &LLVMModule,
     values: &Values,
     inst: &LLVMInst,
-) -> Result<Vec<Value>, ConversionErr>
+) -> Result<ShortList<Value>, ConversionErr>
     requires other { is_phi inst.now ≡ false }
     requires settled { All (IsSettled source.now values.now) (operands inst.now) }
-    ensures ok { IfOk result (λ ws. AreNoted values.now (operands inst.now) ws.items) }
+    ensures ok { IfOk result (λ ws. AreNoted values.now (operands inst.now) ws) }
     ensures err { IfErr result (λ e. IsForward source.now values.now (map (operand_of (trees_of source.now)) (operands inst.now)) e) }
 {
     known_values(alloc, source, values, operands_of(inst))

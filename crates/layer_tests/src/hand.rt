@@ -19,6 +19,7 @@ use kinds::op::{Op as Row, OverflowFlags};
 use std::alloc::{AllocError, Global};
 use std::sync::ledger::{Blank, Ledger};
 use support::items::Items;
+use support::short_list::ShortList;
 
 /// A block, by the function that has it, counted from 1, and its place there. The function 0 is the module itself.
 pub type At = (usize, usize);
@@ -107,25 +108,23 @@ fn op(ctx: &Context, root: ModuleOp, op: Op) -> Option<OpRef>
 }
 
 /// What an edge passes.
-fn passed(alloc: Global, ctx: &Context, root: ModuleOp, value: Option<Op>) -> Option<Items<Value>>
+fn passed(ctx: &Context, root: ModuleOp, value: Option<Op>) -> Option<ShortList<Value>>
     requires { root.0.0 < length ctx.now.ops }
     ensures { IfSome result (All (IsValueWithin (length ctx.now.ops) (length ctx.now.blocks))) }
 {
     let Some(value) = value else {
-        return Some(Items::new(alloc));
+        return Some(ShortList::zero());
     };
     let op = op(ctx, root, value)?;
-    let mut args = Items::new(alloc);
-    args.push(Value::Result(op)).ok()?;
-    Some(args)
+    Some(ShortList::one(Value::Result(op)))
 }
 
-fn edge(alloc: Global, ctx: &Context, root: ModuleOp, edge: &Edge) -> Option<Successor>
+fn edge(ctx: &Context, root: ModuleOp, edge: &Edge) -> Option<Successor>
     requires { root.0.0 < length ctx.now.ops }
     ensures { IfSome result (IsSuccessorWithin (length ctx.now.ops) (length ctx.now.blocks)) }
 {
     let block = block(ctx, root, edge.0)?;
-    let args = passed(alloc, ctx, root, edge.1)?;
+    let args = passed(ctx, root, edge.1)?;
     Some(Successor { block, args })
 }
 
@@ -135,7 +134,7 @@ fn edges(alloc: Global, ctx: &Context, root: ModuleOp, edges: &[Edge]) -> Option
 {
     let mut successors = Vec::new(alloc);
     for to in edges {
-        let successor = edge(alloc, ctx, root, to)?;
+        let successor = edge(ctx, root, to)?;
         successors.push(successor).ok()?;
     }
     Some(successors)
@@ -441,7 +440,7 @@ fn end<L: Ledger>(
     ensures more { IfSome result (λ _. length ctx.old.ops ≤ length ctx.new.ops) }
 {
     let block = block(ctx, root, at)?;
-    let operands = passed(alloc, ctx, root, condition)?;
+    let operands = passed(ctx, root, condition)?;
     let successors = edges(alloc, ctx, root, to)?;
     end_at(
         ctx,

@@ -28,6 +28,8 @@ mod rules;
 #[cfg(test)]
 mod runs;
 #[cfg(test)]
+mod sizes;
+#[cfg(test)]
 mod traces;
 #[cfg(test)]
 mod words;

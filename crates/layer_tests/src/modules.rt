@@ -237,14 +237,14 @@ fn values(m: &mut LLVMModule, words: &mut SplitWhitespace<'_>) -> Option<(LLVMVa
 
 // ---- calls: None says that one was not done
 
-fn cond(alloc: Global, m: &mut LLVMModule, words: &mut SplitWhitespace<'_>) -> Option<LLVMInst>
+fn cond(m: &mut LLVMModule, words: &mut SplitWhitespace<'_>) -> Option<LLVMInst>
     ensures values { IfSome result (HasValues m.new) }
     ensures blocks { m.new.blocks ≡ m.old.blocks }
 {
     let condition = value(m, words)?;
     let yes = block(m, words)?;
     let no = block(m, words)?;
-    LLVMInst::cond_br(alloc, condition, yes, no).ok()
+    Some(LLVMInst::cond_br(condition, yes, no))
 }
 
 fn inst(alloc: Global, m: &mut LLVMModule, words: &mut SplitWhitespace<'_>) -> Option<LLVMInst>
@@ -258,21 +258,21 @@ fn inst(alloc: Global, m: &mut LLVMModule, words: &mut SplitWhitespace<'_>) -> O
                 nuw: false,
                 nsw: true,
             };
-            LLVMInst::add(alloc, lhs, rhs, flags).ok()
+            Some(LLVMInst::add(lhs, rhs, flags))
         }
         Keyword::ICmp => {
             let (lhs, rhs) = values(m, words)?;
-            LLVMInst::icmp(alloc, lhs, rhs, LLVMIntPredicate::LLVMIntEQ).ok()
+            Some(LLVMInst::icmp(lhs, rhs, LLVMIntPredicate::LLVMIntEQ))
         }
         Keyword::Phi => {
             let int = int(m, 64)?;
             Some(LLVMInst::Phi(int, Items::new(alloc)))
         }
-        Keyword::Br => LLVMInst::br(alloc, block(m, words)?).ok(),
-        Keyword::Cond => cond(alloc, m, words),
-        Keyword::Ret => LLVMInst::ret(alloc, Some(value(m, words)?)).ok(),
-        Keyword::RetVoid => LLVMInst::ret(alloc, None).ok(),
-        Keyword::Unreachable => LLVMInst::unreachable(alloc).ok(),
+        Keyword::Br => Some(LLVMInst::br(block(m, words)?)),
+        Keyword::Cond => cond(m, words),
+        Keyword::Ret => Some(LLVMInst::ret(Some(value(m, words)?))),
+        Keyword::RetVoid => Some(LLVMInst::ret(None)),
+        Keyword::Unreachable => Some(LLVMInst::unreachable()),
         _ => None,
     }
 }

@@ -57,7 +57,6 @@ fn both<'a>(
 
 /// An operation on two integers of one type.
 fn make_binary<'a>(
-    alloc: Global,
     draft: &mut LLVMModule,
     scope: &Scope<'a>,
     word: Token<'a>,
@@ -79,12 +78,11 @@ fn make_binary<'a>(
         return Err(ReadErr::NotYet);
     };
     let (a, b) = both(draft, scope, width, lhs, rhs)?;
-    Ok(LLVMInst::binary(alloc, op, a, b)?)
+    Ok(LLVMInst::binary(op, a, b))
 }
 
 /// A comparison of two integers.
 fn make_icmp<'a>(
-    alloc: Global,
     draft: &mut LLVMModule,
     scope: &Scope<'a>,
     word: Token<'a>,
@@ -105,12 +103,11 @@ fn make_icmp<'a>(
         return Err(ReadErr::NotYet);
     };
     let (a, b) = both(draft, scope, width, lhs, rhs)?;
-    Ok(LLVMInst::icmp(alloc, a, b, compare)?)
+    Ok(LLVMInst::icmp(a, b, compare))
 }
 
 /// An integer taken to another width.
 fn make_cast<'a>(
-    alloc: Global,
     draft: &mut LLVMModule,
     scope: &Scope<'a>,
     word: Token<'a>,
@@ -136,12 +133,11 @@ fn make_cast<'a>(
     };
     let ty = draft.type_get(LLVMTypeKind::Int(width))?;
     let value = open_operand(draft, scope, from, value)?;
-    Ok(LLVMInst::cast(alloc, op, ty, value)?)
+    Ok(LLVMInst::cast(op, ty, value))
 }
 
 /// One of two integers of one type, by a condition.
 fn make_select<'a>(
-    alloc: Global,
     draft: &mut LLVMModule,
     scope: &Scope<'a>,
     bit: Token<'a>,
@@ -168,12 +164,11 @@ fn make_select<'a>(
     }
     let condition = open_operand(draft, scope, one, condition)?;
     let (a, b) = both(draft, scope, width, lhs, rhs)?;
-    Ok(LLVMInst::select(alloc, condition, a, b)?)
+    Ok(LLVMInst::select(condition, a, b))
 }
 
 /// An integer that stays as it is read first.
 fn make_freeze<'a>(
-    alloc: Global,
     draft: &mut LLVMModule,
     scope: &Scope<'a>,
     ty: Token<'a>,
@@ -189,7 +184,7 @@ fn make_freeze<'a>(
         return Err(ReadErr::NotYet);
     };
     let value = open_operand(draft, scope, width, value)?;
-    Ok(LLVMInst::freeze(alloc, value)?)
+    Ok(LLVMInst::freeze(value))
 }
 
 /// The instruction that a text says, with a placeholder for each operand that is a result; a phi without entries.
@@ -216,7 +211,7 @@ fn make_inst<'a>(
             ..
         } => {
             let flags = OverflowFlags { nuw, nsw };
-            make_binary(alloc, draft, scope, word, flags, ty, lhs, rhs)
+            make_binary(draft, scope, word, flags, ty, lhs, rhs)
         }
         Inst::Cast {
             word,
@@ -225,7 +220,7 @@ fn make_inst<'a>(
             value,
             to,
             ..
-        } => make_cast(alloc, draft, scope, word, nneg, ty, value, to),
+        } => make_cast(draft, scope, word, nneg, ty, value, to),
         Inst::Select {
             bit,
             condition,
@@ -234,15 +229,15 @@ fn make_inst<'a>(
             other,
             rhs,
             ..
-        } => make_select(alloc, draft, scope, bit, condition, ty, lhs, other, rhs),
-        Inst::Freeze { ty, value, .. } => make_freeze(alloc, draft, scope, ty, value),
+        } => make_select(draft, scope, bit, condition, ty, lhs, other, rhs),
+        Inst::Freeze { ty, value, .. } => make_freeze(draft, scope, ty, value),
         Inst::ICmp {
             predicate: word,
             ty,
             lhs,
             rhs,
             ..
-        } => make_icmp(alloc, draft, scope, word, ty, lhs, rhs),
+        } => make_icmp(draft, scope, word, ty, lhs, rhs),
         Inst::Phi { ty, .. } => {
             let Some(width) = int_width(ty.text) else {
                 return Err(ReadErr::NotYet);
@@ -255,7 +250,6 @@ fn make_inst<'a>(
 
 /// The terminator that a text says, with a placeholder where its operand is a result.
 fn make_end<'a>(
-    alloc: Global,
     draft: &mut LLVMModule,
     scope: &Scope<'a>,
     end: &Terminator<'a>,
@@ -267,15 +261,15 @@ fn make_end<'a>(
     ensures not_yet { result ≡ Err ReadErr.NotYet → Refuses scope.now (λ s. open_terminator s (terminator_view end.now)) }
 {
     match end {
-        Terminator::ReturnVoid => Ok(LLVMInst::ret(alloc, None)?),
+        Terminator::ReturnVoid => Ok(LLVMInst::ret(None)),
         Terminator::Return { ty, value } => {
             let Some(width) = int_width(ty.text) else {
                 return Err(ReadErr::NotYet);
             };
             let value = open_operand(draft, scope, width, *value)?;
-            Ok(LLVMInst::ret(alloc, Some(value))?)
+            Ok(LLVMInst::ret(Some(value)))
         }
-        Terminator::Br { target: block } => Ok(LLVMInst::br(alloc, target(scope, *block)?)?),
+        Terminator::Br { target: block } => Ok(LLVMInst::br(target(scope, *block)?)),
         Terminator::CondBr {
             ty,
             condition,
@@ -288,9 +282,9 @@ fn make_end<'a>(
             let condition = open_operand(draft, scope, width, *condition)?;
             let first = target(scope, *first)?;
             let second = target(scope, *second)?;
-            Ok(LLVMInst::cond_br(alloc, condition, first, second)?)
+            Ok(LLVMInst::cond_br(condition, first, second))
         }
-        Terminator::Unreachable => Ok(LLVMInst::unreachable(alloc)?),
+        Terminator::Unreachable => Ok(LLVMInst::unreachable()),
     }
 }
 
@@ -317,7 +311,6 @@ fn build_inst<'a>(
 
 /// Builds the terminator of a block as its last instruction.
 fn build_end<'a>(
-    alloc: Global,
     draft: &mut LLVMModule,
     scope: &Scope<'a>,
     block: LLVMBasicBlock,
@@ -331,7 +324,7 @@ fn build_end<'a>(
     ensures count { OnOk result (length draft.new.insts ≡ length draft.old.insts + 1) }
     ensures not_yet { result ≡ Err ReadErr.NotYet → Refuses scope.now (λ s. open_terminator s (terminator_view end.now)) }
 {
-    let made = make_end(alloc, draft, scope, end)?;
+    let made = make_end(draft, scope, end)?;
     draft.build(block, made, "")?;
     Ok(())
 }
@@ -375,7 +368,7 @@ fn build_block<'a>(
     ensures not_yet { result ≡ Err ReadErr.NotYet → Refuses scope.now (λ s. placed_block (open_inst s) (open_terminator s) (length draft.old.insts) (block_view block.now)) }
 {
     build_insts(alloc, draft, scope, number, block.insts.as_slice())?;
-    build_end(alloc, draft, scope, number, &block.end)
+    build_end(draft, scope, number, &block.end)
 }
 
 /// Builds the instructions of blocks in order, the first of which has that number.

@@ -3,6 +3,7 @@
 use crate::numbers::{LLVMBasicBlock, LLVMConst, LLVMFunction, LLVMInstRef, LLVMType};
 pub use kinds::op::{LLVMIntPredicate, Op, OverflowFlags};
 use support::items::Items;
+use support::short_list::ShortList;
 use support::text::Text;
 
 /// What an operand names.
@@ -28,9 +29,9 @@ pub struct Row {
     pub op: Op,
     /// The type that is written beside the operands, as that of a cast.
     pub written: Option<LLVMType>,
-    pub operands: Items<LLVMValue>,
+    pub operands: ShortList<LLVMValue>,
     /// The blocks that it leads to, in order.
-    pub targets: Items<LLVMBasicBlock>,
+    pub targets: ShortList<LLVMBasicBlock>,
 }
 
 /// An instruction.

@@ -1,132 +1,108 @@
 //! Instructions by their names, and rows by what operands they have.
 
-ghost use Rattle.std.specs.Prelude.{◌≡◌, [], ◌∷◌, IfOk, Some, None};
+ghost use Rattle.std.specs.Prelude.{◌≡◌, [], ◌∷◌, Some, None};
 ghost use Rattle.std.specs.Option.{option_map_or};
 ghost use Rattle.kinds.specs.declared.op.Op.TheVariants as ops;
 ghost use Rattle.llvm_core.specs.declared.code.LLVMInst.TheVariants as insts;
 
 use crate::code::{LLVMInst, LLVMIntPredicate, LLVMValue, Op, OverflowFlags, Row};
 use crate::numbers::{LLVMBasicBlock, LLVMType};
-use std::alloc::{AllocError, Global};
-use support::items::Items;
+use support::short_list::ShortList;
 
 /// A row that writes no type beside its operands.
-fn row(
-    alloc: Global,
-    op: Op,
-    operands: &[LLVMValue],
-    targets: &[LLVMBasicBlock],
-) -> Result<LLVMInst, AllocError>
-    ensures { IfOk result (λ i. i ≡ insts.Row (record { op = op; written = None; operands = operands.now; targets = targets.now })) }
+fn row(op: Op, operands: ShortList<LLVMValue>, targets: ShortList<LLVMBasicBlock>) -> LLVMInst
+    ensures { result ≡ insts.Row (record { op = op; written = None; operands = operands; targets = targets }) }
 {
-    Ok(LLVMInst::Row(Row {
+    LLVMInst::Row(Row {
         op,
         written: None,
-        operands: Items::from_vec(Vec::from_slice(alloc, operands)?),
-        targets: Items::from_vec(Vec::from_slice(alloc, targets)?),
-    }))
+        operands,
+        targets,
+    })
 }
 
 impl LLVMInst {
     /// A row of two operands.
-    pub fn binary(
-        alloc: Global,
-        op: Op,
-        lhs: LLVMValue,
-        rhs: LLVMValue,
-    ) -> Result<LLVMInst, AllocError>
-        ensures { IfOk result (λ i. i ≡ insts.Row (record { op = op; written = None; operands = lhs ∷ rhs ∷ []; targets = [] })) }
+    pub fn binary(op: Op, lhs: LLVMValue, rhs: LLVMValue) -> LLVMInst
+        ensures { result ≡ insts.Row (record { op = op; written = None; operands = lhs ∷ rhs ∷ []; targets = [] }) }
     {
-        row(alloc, op, &[lhs, rhs], &[])
+        row(op, ShortList::two(lhs, rhs), ShortList::zero())
     }
 
     /// A row of one operand, to the type.
-    pub fn cast(
-        alloc: Global,
-        op: Op,
-        ty: LLVMType,
-        value: LLVMValue,
-    ) -> Result<LLVMInst, AllocError>
-        ensures { IfOk result (λ i. i ≡ insts.Row (record { op = op; written = Some ty; operands = value ∷ []; targets = [] })) }
+    pub fn cast(op: Op, ty: LLVMType, value: LLVMValue) -> LLVMInst
+        ensures { result ≡ insts.Row (record { op = op; written = Some ty; operands = value ∷ []; targets = [] }) }
     {
-        Ok(LLVMInst::Row(Row {
+        LLVMInst::Row(Row {
             op,
             written: Some(ty),
-            operands: Items::from_vec(Vec::from_slice(alloc, &[value])?),
-            targets: Items::new(alloc),
-        }))
+            operands: ShortList::one(value),
+            targets: ShortList::zero(),
+        })
     }
 
     /// The second where the condition is true, else the third.
-    pub fn select(
-        alloc: Global,
-        condition: LLVMValue,
-        lhs: LLVMValue,
-        rhs: LLVMValue,
-    ) -> Result<LLVMInst, AllocError>
-        ensures { IfOk result (λ i. i ≡ insts.Row (record { op = ops.Select; written = None; operands = condition ∷ lhs ∷ rhs ∷ []; targets = [] })) }
+    pub fn select(condition: LLVMValue, lhs: LLVMValue, rhs: LLVMValue) -> LLVMInst
+        ensures { result ≡ insts.Row (record { op = ops.Select; written = None; operands = condition ∷ lhs ∷ rhs ∷ []; targets = [] }) }
     {
-        row(alloc, Op::Select, &[condition, lhs, rhs], &[])
+        row(
+            Op::Select,
+            ShortList::three(condition, lhs, rhs),
+            ShortList::zero(),
+        )
     }
 
-    pub fn freeze(alloc: Global, value: LLVMValue) -> Result<LLVMInst, AllocError>
-        ensures { IfOk result (λ i. i ≡ insts.Row (record { op = ops.Freeze; written = None; operands = value ∷ []; targets = [] })) }
+    pub fn freeze(value: LLVMValue) -> LLVMInst
+        ensures { result ≡ insts.Row (record { op = ops.Freeze; written = None; operands = value ∷ []; targets = [] }) }
     {
-        row(alloc, Op::Freeze, &[value], &[])
+        row(Op::Freeze, ShortList::one(value), ShortList::zero())
     }
 
-    pub fn add(
-        alloc: Global,
-        lhs: LLVMValue,
-        rhs: LLVMValue,
-        flags: OverflowFlags,
-    ) -> Result<LLVMInst, AllocError>
-        ensures { IfOk result (λ i. i ≡ insts.Row (record { op = ops.Add flags; written = None; operands = lhs ∷ rhs ∷ []; targets = [] })) }
+    pub fn add(lhs: LLVMValue, rhs: LLVMValue, flags: OverflowFlags) -> LLVMInst
+        ensures { result ≡ insts.Row (record { op = ops.Add flags; written = None; operands = lhs ∷ rhs ∷ []; targets = [] }) }
     {
-        row(alloc, Op::Add(flags), &[lhs, rhs], &[])
+        row(Op::Add(flags), ShortList::two(lhs, rhs), ShortList::zero())
     }
 
-    pub fn icmp(
-        alloc: Global,
-        lhs: LLVMValue,
-        rhs: LLVMValue,
-        predicate: LLVMIntPredicate,
-    ) -> Result<LLVMInst, AllocError>
-        ensures { IfOk result (λ i. i ≡ insts.Row (record { op = ops.ICmp predicate; written = None; operands = lhs ∷ rhs ∷ []; targets = [] })) }
+    pub fn icmp(lhs: LLVMValue, rhs: LLVMValue, predicate: LLVMIntPredicate) -> LLVMInst
+        ensures { result ≡ insts.Row (record { op = ops.ICmp predicate; written = None; operands = lhs ∷ rhs ∷ []; targets = [] }) }
     {
-        row(alloc, Op::ICmp(predicate), &[lhs, rhs], &[])
+        row(
+            Op::ICmp(predicate),
+            ShortList::two(lhs, rhs),
+            ShortList::zero(),
+        )
     }
 
-    pub fn br(alloc: Global, target: LLVMBasicBlock) -> Result<LLVMInst, AllocError>
-        ensures { IfOk result (λ i. i ≡ insts.Row (record { op = ops.Br; written = None; operands = []; targets = target ∷ [] })) }
+    pub fn br(target: LLVMBasicBlock) -> LLVMInst
+        ensures { result ≡ insts.Row (record { op = ops.Br; written = None; operands = []; targets = target ∷ [] }) }
     {
-        row(alloc, Op::Br, &[], &[target])
+        row(Op::Br, ShortList::zero(), ShortList::one(target))
     }
 
     /// To the first block where the condition is true, else to the second.
-    pub fn cond_br(
-        alloc: Global,
-        condition: LLVMValue,
-        first: LLVMBasicBlock,
-        second: LLVMBasicBlock,
-    ) -> Result<LLVMInst, AllocError>
-        ensures { IfOk result (λ i. i ≡ insts.Row (record { op = ops.CondBr; written = None; operands = condition ∷ []; targets = first ∷ second ∷ [] })) }
+    pub fn cond_br(condition: LLVMValue, first: LLVMBasicBlock, second: LLVMBasicBlock) -> LLVMInst
+        ensures { result ≡ insts.Row (record { op = ops.CondBr; written = None; operands = condition ∷ []; targets = first ∷ second ∷ [] }) }
     {
-        row(alloc, Op::CondBr, &[condition], &[first, second])
+        row(
+            Op::CondBr,
+            ShortList::one(condition),
+            ShortList::two(first, second),
+        )
     }
 
-    pub fn ret(alloc: Global, value: Option<LLVMValue>) -> Result<LLVMInst, AllocError>
-        ensures { IfOk result (λ i. i ≡ insts.Row (record { op = ops.Ret; written = None; operands = option_map_or (λ v. v ∷ []) value []; targets = [] })) }
+    pub fn ret(value: Option<LLVMValue>) -> LLVMInst
+        ensures { result ≡ insts.Row (record { op = ops.Ret; written = None; operands = option_map_or (λ v. v ∷ []) value []; targets = [] }) }
     {
         match value {
-            Some(value) => row(alloc, Op::Ret, &[value], &[]),
-            None => row(alloc, Op::Ret, &[], &[]),
+            Some(value) => row(Op::Ret, ShortList::one(value), ShortList::zero()),
+            None => row(Op::Ret, ShortList::zero(), ShortList::zero()),
         }
     }
 
-    pub fn unreachable(alloc: Global) -> Result<LLVMInst, AllocError>
-        ensures { IfOk result (λ i. i ≡ insts.Row (record { op = ops.Unreachable; written = None; operands = []; targets = [] })) }
+    pub fn unreachable() -> LLVMInst
+        ensures { result ≡ insts.Row (record { op = ops.Unreachable; written = None; operands = []; targets = [] }) }
     {
-        row(alloc, Op::Unreachable, &[], &[])
+        row(Op::Unreachable, ShortList::zero(), ShortList::zero())
     }
 }

@@ -6,7 +6,7 @@ use round_ll::outside::{StdSink, StdSource};
 use round_ll::run::{run, say};
 use std::io::ErrorKind;
 use std::process::ExitCode;
-use std::{env, io};
+use std::{env, io, mem};
 
 /// The words of the command line behind the program's name.
 fn words(rt: &HostRuntime) -> io::Result<Vec<String>> {
@@ -38,5 +38,8 @@ fn main(rt: HostRuntime) -> ExitCode {
         &mut out,
         &mut err,
     );
-    ExitCode::from(ended.status())
+    let status = ended.status();
+    // The process ends here, so the modules are not let go one list after another.
+    mem::forget(ended);
+    ExitCode::from(status)
 }

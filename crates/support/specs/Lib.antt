@@ -3,3 +3,4 @@ pub mod Interned
 pub mod Options
 pub mod Changes
 pub mod Maps
+pub mod ShortLists

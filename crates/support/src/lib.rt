@@ -4,4 +4,5 @@
 pub mod interner;
 pub mod items;
 pub mod noting;
+pub mod short_list;
 pub mod text;

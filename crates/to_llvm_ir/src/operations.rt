@@ -38,7 +38,7 @@ use llvm_core::consts::LLVMConstKind;
 use llvm_core::module::LLVMModule;
 use llvm_core::numbers::{LLVMBasicBlock, LLVMType};
 use std::alloc::{AllocError, Global};
-use support::items::Items;
+use support::short_list::ShortList;
 use support::text::Text;
 
 /// The name of an operation, empty where it has none.
@@ -146,14 +146,14 @@ fn known_all(
     ctx: &Context,
     operands: &[Value],
     values: &Values,
-) -> Result<Items<LLVMValue>, ToLLVMErr>
+) -> Result<ShortList<LLVMValue>, ToLLVMErr>
     requires within { All (IsValueWithin (length ctx.now.ops) (length ctx.now.blocks)) operands.now }
     ensures ok { (s : Spot) (op : OpRef) (m : Module) → IsNext ctx.now op s values.now m → s.op.operands ≡ operands.now → IfOk result (AreUses s m operands.now) }
     ensures cause { (s : Spot) (op : OpRef) (m : Module) → IsNext ctx.now op s values.now m → s.op.operands ≡ operands.now → IfErr result (IsFuncCause ctx.now s.task.source) }
 {
-    let mut stand = Items::new(alloc);
+    let mut stand = ShortList::zero();
     for operand in operands {
-        stand.push(known(alloc, ctx, *operand, values)?)?;
+        stand.push(alloc, known(alloc, ctx, *operand, values)?)?;
     }
     Ok(stand)
 }
@@ -165,14 +165,14 @@ fn leads(
     edges: &[Successor],
     blocks: &Blocks,
     values: &Values,
-) -> Result<Items<LLVMBasicBlock>, ToLLVMErr>
+) -> Result<ShortList<LLVMBasicBlock>, ToLLVMErr>
     requires within { All (IsSuccessorWithin (length ctx.now.ops) (length ctx.now.blocks)) edges.now }
     ensures ok { (s : Spot) (op : OpRef) (m : Module) → IsNext ctx.now op s values.now m → AreAllMapped s.task blocks.now → s.op.successors ≡ edges.now → IfOk result (Matched (IsLead s m) edges.now) }
     ensures cause { (s : Spot) (op : OpRef) (m : Module) → IsNext ctx.now op s values.now m → AreAllMapped s.task blocks.now → s.op.successors ≡ edges.now → IfErr result (IsFuncCause ctx.now s.task.source) }
 {
-    let mut targets = Items::new(alloc);
+    let mut targets = ShortList::zero();
     for edge in edges {
-        targets.push(lead(alloc, ctx, edge, blocks, values)?)?;
+        targets.push(alloc, lead(alloc, ctx, edge, blocks, values)?)?;
     }
     Ok(targets)
 }

@@ -66,7 +66,7 @@ add_op-requires-clause-operands g c =
     let m = c.args.source.now in
     let noted = c.in_ok-operands.ensures.ok in
     subst (λ (x : ContextData). All (IsValueWithin (length x.ops) (length x.blocks)) c.as_slice.result.now) (sym c.import_result_type.ensures.grown.rest)
-    (subst (All (IsValueWithin (length c.args.ctx.now.ops) (length c.args.ctx.now.blocks))) (sym c.as_slice.ensures.value) (values_within r.0 m c.args.ctx.now c.args.values.now r.2 r.3 r.4 r.6.body _ c.in_ok-operands.operands.items (operands_stand r.0 m r.1 c.args.targets.now c.args.entries.now c.args.ctx.now c.args.values.now c.args.from c.args.block c.args.i r.2 r.3 r.4 r.5 r.6 c.inst-inst.result.now c.inst-inst.ensures.inst r.7 c.in_ok-operands.operands.items noted)))
+    (subst (All (IsValueWithin (length c.args.ctx.now.ops) (length c.args.ctx.now.blocks))) (sym c.as_slice.ensures.value) (values_within r.0 m c.args.ctx.now c.args.values.now r.2 r.3 r.4 r.6.body _ c.in_ok-operands.operands (operands_stand r.0 m r.1 c.args.targets.now c.args.entries.now c.args.ctx.now c.args.values.now c.args.from c.args.block c.args.i r.2 r.3 r.4 r.5 r.6 c.inst-inst.result.now c.inst-inst.ensures.inst r.7 c.in_ok-operands.operands noted)))
 
 pub add_op-requires-clause-successors : goal.add_op-requires-clause-successors
 add_op-requires-clause-successors g c =

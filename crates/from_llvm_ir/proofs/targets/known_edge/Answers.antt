@@ -33,5 +33,5 @@ returns-clause-ok c = λ f g h. record {
   leads = c.index-block.ensures;
   taken = c.in_ok-taken.taken.items;
   passes = c.in_ok-taken.ensures.passed f g h.leads;
-  args = subst (λ (vs : List LLVMValue). AreNoted c.args.values.now vs c.from_vec.result) c.as_slice.ensures.value (subst (AreNoted c.args.values.now c.as_slice.result.now) (sym c.from_vec.ensures) c.in_ok-args.ensures.ok);
+  args = subst (λ (vs : List LLVMValue). AreNoted c.args.values.now vs c.in_ok-args.args) c.as_slice.ensures.value c.in_ok-args.ensures.ok;
 }

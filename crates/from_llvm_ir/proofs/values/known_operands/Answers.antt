@@ -10,7 +10,7 @@ pub known_values-requires : goal.known_values-requires
 known_values-requires c = subst (All (IsSettled c.args.source.now c.args.values.now)) (sym c.operands_of.ensures) c.requires.settled
 
 pub returns-clause-ok : goal.returns-clause-ok
-returns-clause-ok c = subst (λ (vs : List LLVMValue). IfOk c.known_values.result (λ ws. AreNoted c.args.values.now vs ws.items)) c.operands_of.ensures c.known_values.ensures.ok
+returns-clause-ok c = subst (λ (vs : List LLVMValue). IfOk c.known_values.result (λ ws. AreNoted c.args.values.now vs ws)) c.operands_of.ensures c.known_values.ensures.ok
 
 pub returns-clause-err : goal.returns-clause-err
 returns-clause-err c =

@@ -12,17 +12,17 @@ use Rattle.from_llvm_ir.proofs.values.known_values.Goals as goal
 
 pub loop-value-preserved : goal.loop-value-preserved
 loop-value-preserved c =
-    matched_next (λ (v : LLVMValue) (w : Value). value_at c.args.values.now v ≡ Some w) c.args.used.now c.loop-value.value-index _ c.loop-value.known.items c.push.new.self.items c.in_ok-known_value.field-0
-    (slice_get-get_or c.args.used.now c.loop-value.value-index _ c.loop-value-test.true) c.loop-value.invariant c.in_ok-known_value.ensures.ok c.in_ok-push.ensures.items
+    matched_next (λ (v : LLVMValue) (w : Value). value_at c.args.values.now v ≡ Some w) c.args.used.now c.loop-value.value-index _ c.loop-value.known c.push.new.self c.in_ok-known_value.field-0
+    (slice_get-get_or c.args.used.now c.loop-value.value-index _ c.loop-value-test.true) c.loop-value.invariant c.in_ok-known_value.ensures.ok c.in_ok-push.ensures.ok
 
 pub known_value-requires : goal.known_value-requires
 known_value-requires c = c.requires c.loop-value.value-index _ c.loop-value-test.true
 
 pub loop-value-init : goal.loop-value-init
-loop-value-init c = subst (AreNoted c.args.values.now []) (sym c.new-known.ensures.items) tt
+loop-value-init c = subst (AreNoted c.args.values.now []) (sym c.zero-known.ensures) tt
 
 pub returns-clause-ok : goal.returns-clause-ok
-returns-clause-ok c = subst (λ (vs : List LLVMValue). AreNoted c.args.values.now vs c.loop-value.known.items) (take_all c.loop-value.value-index c.args.used.now c.loop-value-test.false) c.loop-value.invariant
+returns-clause-ok c = subst (λ (vs : List LLVMValue). AreNoted c.args.values.now vs c.loop-value.known) (take_all c.loop-value.value-index c.args.used.now c.loop-value-test.false) c.loop-value.invariant
 
 pub returns-in_err-known_value-clause-err : goal.returns-in_err-known_value-clause-err
 returns-in_err-known_value-clause-err c =

@@ -4,4 +4,4 @@ use Rattle.from_llvm_ir.specs.Values.{AreNoted}
 use Rattle.from_llvm_ir.proofs.values.known_values.Given as goal
 
 abbrev pub invariant-loop-value : goal.invariant-loop-value
-invariant-loop-value l = AreNoted l.values (take l.value-index l.used) l.known.items
+invariant-loop-value l = AreNoted l.values (take l.value-index l.used) l.known

@@ -11,7 +11,7 @@ use Rattle.to_llvm_ir.proofs.LeadLaws.{operand_as}
 use Rattle.to_llvm_ir.proofs.operations.known_all.Goals as goal
 
 pub loop-operand-init : goal.loop-operand-init
-loop-operand-init c = λ s op m next are. rw c.new-stand.ensures tt
+loop-operand-init c = λ s op m next are. rw c.zero-stand.ensures tt
 
 pub loop-operand-preserved : goal.loop-operand-preserved
 loop-operand-preserved c = λ s op m next are.

@@ -12,7 +12,7 @@ use Rattle.to_llvm_ir.proofs.LeadLaws.{edge_at}
 use Rattle.to_llvm_ir.proofs.operations.leads.Goals as goal
 
 pub loop-edge-init : goal.loop-edge-init
-loop-edge-init c = λ s op m next mapped are. rw c.new-targets.ensures tt
+loop-edge-init c = λ s op m next mapped are. rw c.zero-targets.ensures tt
 
 pub loop-edge-preserved : goal.loop-edge-preserved
 loop-edge-preserved c = λ s op m next mapped are.
