@@ -6,30 +6,8 @@ use Rattle.std.proofs.Math.Seq.{take-length}
 use Rattle.std.proofs.lemmas.List.{append-nil, take_more, map-append, length-map, length-take-le}
 use Rattle.dialect_types.specs.declared.types.TypeHandle.{TypeHandle}
 use Rattle.dialect_types.specs.Trees.{IntegerAttr, TypeTree, FunctionType, types_at, type_at, AllBelow}
-use Rattle.dialect_types.specs.Text.{Keeps, attr_text, inner_type_text, comma_before, each_after, joined, truth_text, type_text, type_texts}
-
-pub keeps_same : (a : List ℕ) → Keeps a a
-keeps_same a = record { rest = []; is = sym (append-nil a) }
-
-pub keeps_more : (a b c : List ℕ) → Keeps a b → Keeps a (b ++ c)
-keeps_more a b c h = record { rest = h.rest ++ c; is = ap (λ (x : List ℕ). x ++ c) h.is ∙ append_assoc a h.rest c }
-
-pub keeps_then : (a b c : List ℕ) → Keeps a b → Keeps b c → Keeps a c
-keeps_then a b c h k = record { rest = h.rest ++ k.rest; is = k.is ∙ ap (λ (x : List ℕ). x ++ k.rest) h.is ∙ append_assoc a h.rest k.rest }
-
-pub keeps_appended : (a x b : List ℕ) → b ≡ a ++ x → Keeps a b
-keeps_appended a x b e = record { rest = x; is = e }
-
-pub keeps_equal : (a b c : List ℕ) → Keeps a b → c ≡ b → Keeps a c
-keeps_equal a b c h e = record { rest = h.rest; is = e ∙ h.is }
-
--- after a call that appends on `Ok` alone
-pub keeps_extended : {E : Type 0} (r : Result (Unit {0}) E) (a x b : List ℕ) → b ≡ (if is_ok r then a ++ x else a) → Keeps a b
-keeps_extended (Ok v) a x b e = keeps_appended a x b e
-keeps_extended (Err v) a x b e = keeps_equal a a b (keeps_same a) e
-
--- the rules by which bytes keep what stood there
-pub ruleset keeping = (keeps_same, keeps_more, keeps_then)
+pub use Rattle.support.proofs.KeepLaws.{keeps_same, keeps_more, keeps_then, keeps_appended, keeps_equal, keeps_extended}
+use Rattle.dialect_types.specs.Text.{attr_text, inner_type_text, comma_before, each_after, joined, truth_text, type_text, type_texts}
 
 -- ---- commas
 

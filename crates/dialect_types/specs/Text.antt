@@ -1,17 +1,13 @@
 -- The dialect text of types and constants.
 use Rattle.std.specs.Prelude.{◌≡◌, ℕ, zero, suc, Bool, true, false, List, [], ◌∷◌, ◌++◌, codes}
 use Rattle.std.specs.Fmt.{decimal}
+pub use Rattle.support.specs.Appended.{Keeps}
 use Rattle.dialect_types.specs.Trees.{TypeTree, VoidType, IntType, FunctionType, TypeTrees, NoTypes, ThenType, AttrTree, IntegerAttr}
 
 -- the word of a truth value
 abbrev pub truth_text : Bool → List ℕ
 truth_text true = codes "true"
 truth_text false = codes "false"
-
--- the bytes begin with what stood there before
-pub record Keeps (before after : List ℕ) : Type 0 where
-  pub rest : List ℕ
-  pub is : after ≡ before ++ rest
 
 -- a comma before each text but the first, which stands at the place 0
 abbrev pub comma_before : ℕ → List ℕ

@@ -1,6 +1,6 @@
 //! The dialect text of types and constants.
 
-ghost use Rattle.std.specs.Prelude.{◌≡◌, ◌<◌, ◌++◌, codes, length, take, OnErr, OnOk};
+ghost use Rattle.std.specs.Prelude.{◌≡◌, ◌<◌, ◌++◌, codes, length, OnErr, OnOk};
 ghost use Rattle.std.specs.Fmt.{decimal};
 ghost use Rattle.dialect_types.specs.Trees.{type_at, type_trees, attr_tree, HasTypesBelow, IntegerAttr};
 ghost use Rattle.dialect_types.specs.Text.{Keeps, comma_before, inner_type_text, type_text, attr_text, truth_text};
@@ -10,6 +10,7 @@ use crate::type_store::TypeStore;
 use crate::types::{TypeHandle, TypeKind};
 use itoa::Buffer;
 use std::alloc::AllocError;
+use support::appending::undo_failed;
 
 /// Appends a number in decimal.
 pub fn print_number(number: u64, out: &mut Vec<u8>) -> Result<(), AllocError>
@@ -51,22 +52,6 @@ fn print_func_end(variadic: bool, out: &mut Vec<u8>) -> Result<(), AllocError>
     out.extend_from_slice(b") variadic = ")?;
     print_truth(variadic, out)?;
     out.extend_from_slice(b">")
-}
-
-/// Takes back what was appended behind the first `len` bytes, where the printing failed.
-pub fn undo_failed(
-    printed: Result<(), AllocError>,
-    out: &mut Vec<u8>,
-    len: usize,
-) -> Result<(), AllocError>
-    ensures same { result ≡ printed }
-    ensures ok { OnOk printed (out.new.items ≡ out.old.items) }
-    ensures err { OnErr printed (out.new.items ≡ take len out.old.items) }
-{
-    if printed.is_err() {
-        out.truncate(len);
-    }
-    printed
 }
 
 impl TypeStore {

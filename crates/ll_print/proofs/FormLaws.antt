@@ -29,7 +29,7 @@ use Rattle.llvm_core.proofs.DataLemmas.{within_at, block_of_number, inst_of_numb
 use Rattle.ll_print.specs.declared.numbers.Numbers.{Numbers}
 use Rattle.ll_print.specs.declared.places.Place.TheVariants as P
 use Rattle.ll_print.specs.Printing.{ParamAt, comma_text, type_text, local_text, head_text, params_text, blocks_text, function_text}
-use Rattle.ll_print.specs.Numbering.{noted_at, or_number}
+use Rattle.ll_print.specs.Numbering.{number_at}
 use Rattle.ll_print.specs.Parts.{no_function, function_in, named_text, all_lines_of, IsOwn, IsOwnBlock, OwnsEntry, OwnsOperands, OwnsInst, OwnsBlock, IsPrinting}
 use Rattle.ll_print.proofs.PartLaws.{read, function_there, all_lines}
 use Rattle.ll_print.proofs.CountLaws.{param_read}
@@ -129,17 +129,17 @@ pub put_param : (o0 o1 o2 o3 o4 o5 comma type local : List ℕ) (start : List �
 put_param o0 o1 o2 o3 o4 o5 comma type local start e1 e2 e3 e4 e5 = rw (e5, e4, e3, e2, e1) (simp append_assoc)
 
 -- one parameter further
-pub param_put : (m : Module) (n : Numbers) (types : List LLVMType) (place : ℕ) (name : List ℕ) (number : ℕ) (old now o1 o2 o3 new : List ℕ) → IsPrinting m n
+pub param_put : (m : Module) (n : Numbers) (types : List LLVMType) (place : ℕ) (name : List ℕ) (old now o1 o2 o3 new : List ℕ) → IsPrinting m n
     → ((i : ℕ) (t : LLVMType) → slice_get types i ≡ Some t → param_type (function_in m n.function).type i ≡ type_at (trees_of m).types t) → place < length types
-    → slice_get (param_names m.functions n.function) place ≡ Some name → number ≡ or_number (noted_at n (P.Param place)) n.count
+    → slice_get (param_names m.functions n.function) place ≡ Some name
     → now ≡ old ++ params_text (function_in m n.function) 0 (take place (function_in m n.function).params) → o1 ≡ now ++ comma_text place → o2 ≡ o1 ++ type_text (type_at (trees_of m).types (get_or types place (record { 0 = 0 })))
-    → o3 ≡ o2 ++ codes " " → new ≡ o3 ++ named_text name number → new ≡ old ++ params_text (function_in m n.function) 0 (take (place + 1) (function_in m n.function).params)
-param_put m n types place name number old now o1 o2 o3 new h typed within at numbered e1 e2 e3 e4 e5 =
+    → o3 ≡ o2 ++ codes " " → new ≡ o3 ++ named_text name (number_at n (P.Param place)) → new ≡ old ++ params_text (function_in m n.function) 0 (take (place + 1) (function_in m n.function).params)
+param_put m n types place name old now o1 o2 o3 new h typed within at e1 e2 e3 e4 e5 =
     let f = function_in m n.function in
     let here : 0 + place ≡ place = omega arith in
     let type : param_type f.type place ≡ type_at (trees_of m).types (get_or types place (record { 0 = 0 })) = typed place (get_or types place (record { 0 = 0 })) (slice_get-get_or types place (record { 0 = 0 }) within) in
     let more = params_more f 0 place f.params name (param_read m n.function place name at) ∙ ap (λ (j : ℕ). params_text f 0 (take place f.params) ++ param_text f j name) here in
-    let local = ap (named_text name) numbered ∙ sym (thing_local m n (P.Param place) name h) in
+    let local = sym (thing_local m n (P.Param place) name h) in
     put_is _ _ _ _
     (put_param old now o1 o2 o3 new (comma_text place) (type_text (param_type f.type place)) (local_text f name (ParamAt place)) (params_text f 0 (take place f.params)) e1 e2
     (e3 ∙ ap (λ (t : TypeTree). o1 ++ type_text t) (sym type)) e4 (e5 ∙ ap (λ (t : List ℕ). o3 ++ t) local)) more

@@ -27,7 +27,7 @@ use Rattle.ll_print.specs.declared.numbers.Numbers.{Numbers}
 use Rattle.ll_print.specs.declared.places.Place.{Place}
 use Rattle.ll_print.specs.declared.places.Place.TheVariants as P
 use Rattle.ll_print.specs.Printing.{Unnamed, ParamAt, BlockOf, ResultOf, unnamed_in, unnamed_number, local_text, operand_text, type_text, value_text, block_ref, gives_text}
-use Rattle.ll_print.specs.Numbering.{thing_of, noted_at, or_number, place_in}
+use Rattle.ll_print.specs.Numbering.{thing_of, noted_at, or_number, number_at, place_in}
 use Rattle.ll_print.specs.Parts.{no_function, function_in, named_text, label_line, entry_label_line, gives_of, line_of, entry_lines_of, lines_of, HasBlockNumber, IsOwn, IsOwnBlock, IsPrinting}
 use Rattle.ll_print.proofs.NumberLaws.{place_number}
 use Rattle.ll_print.proofs.PartLaws.{read_item, type_of_function, gives_of-inst, entry_head, lines_of-block, entry_lines_of-block}
@@ -47,7 +47,7 @@ item_is (y ∷ xs) zero d x at = same_Some y x at
 item_is (y ∷ xs) (suc i) d x at = item_is xs i d x at
 
 -- what is printed of a thing of the function
-pub thing_local : (m : Module) (n : Numbers) (p : Place) (name : List ℕ) → IsPrinting m n → local_text (function_in m n.function) name (thing_of p) ≡ named_text name (or_number (noted_at n p) n.count)
+pub thing_local : (m : Module) (n : Numbers) (p : Place) (name : List ℕ) → IsPrinting m n → local_text (function_in m n.function) name (thing_of p) ≡ named_text name (number_at n p)
 thing_local m n p name h =
     let xs = unnamed_in (function_in m n.function) in
     sym (named_is (function_in m n.function) name (thing_of p) _ (number_is xs h.numbered.count (h.numbered.numbers p) ∙ place_number xs (thing_of p)))
@@ -56,7 +56,7 @@ thing_local m n p name h =
     number_is xs count noted = rw (count, noted) refl
 
 pub param_operand : (m : Module) (n : Numbers) (f : LLVMFunction) (place : ℕ) (name : List ℕ) → IsPrinting m n → f ≡ n.function → slice_get (param_names m.functions f) place ≡ Some name
-    → operand_text (function_in m n.function) (Parameter f.0 place) ≡ named_text name (or_number (noted_at n (P.Param place)) n.count)
+    → operand_text (function_in m n.function) (Parameter f.0 place) ≡ named_text name (number_at n (P.Param place))
 param_operand m n f place name h same at =
     let g = function_in m n.function in
     let read = param_read m n.function place name (subst (λ (h : LLVMFunction). slice_get (param_names m.functions h) place ≡ Some name) same at) in
@@ -64,7 +64,7 @@ param_operand m n f place name h same at =
 
 -- what is printed of a result
 pub result_operand : (m : Module) (n : Numbers) (i : LLVMInstRef) (name : List ℕ) → IsPrinting m n → HasNumber i.0 (placed_in (function_in m n.function)) → option_map (λ (x : InstData). x.name) (slice_get m.insts i.0) ≡ Some name
-    → operand_text (function_in m n.function) (Result i.0) ≡ named_text name (or_number (noted_at n (P.Result i)) n.count)
+    → operand_text (function_in m n.function) (Result i.0) ≡ named_text name (number_at n (P.Result i))
 result_operand m n i name h has named =
     let x = read_item (λ (x : InstData). x.name) m.insts i.0 name named in
     let g = function_in m n.function in
@@ -73,7 +73,7 @@ result_operand m n i name h has named =
 
 -- what is printed of a block
 pub block_local : (m : Module) (n : Numbers) (b : LLVMBasicBlock) (name : List ℕ) → IsPrinting m n → HasBlockNumber b.0 (function_in m n.function).blocks → option_map (λ (x : BlockData). x.name) (slice_get m.blocks b.0) ≡ Some name
-    → block_ref (function_in m n.function) b.0 ≡ named_text name (or_number (noted_at n (P.Block b)) n.count)
+    → block_ref (function_in m n.function) b.0 ≡ named_text name (number_at n (P.Block b))
 block_local m n b name h has named =
     let x = read_item (λ (x : BlockData). x.name) m.blocks b.0 name named in
     let g = function_in m n.function in
@@ -81,30 +81,30 @@ block_local m n b name h has named =
     ∙ ap (λ (t : List ℕ). local_text g t (BlockOf b.0)) x.2 ∙ thing_local m n (P.Block b) name h
 
 -- the label line of a block
-label_put : (m : Module) (n : Numbers) (b : LLVMBasicBlock) (name : List ℕ) (k : ℕ) → IsPrinting m n → HasBlockNumber b.0 (function_in m n.function).blocks → option_map (λ (x : BlockData). x.name) (slice_get m.blocks b.0) ≡ Some name
-    → k ≡ or_number (noted_at n (P.Block b)) n.count → drop 1 (block_ref (function_in m n.function) b.0) ++ codes ":\n" ≡ label_line name k
-label_put m n b name k h has named is = ap (λ (t : List ℕ). drop 1 t ++ codes ":\n") (block_local m n b name h has named) ∙ ap (label_line name) (sym is)
+label_put : (m : Module) (n : Numbers) (b : LLVMBasicBlock) (name : List ℕ) → IsPrinting m n → HasBlockNumber b.0 (function_in m n.function).blocks → option_map (λ (x : BlockData). x.name) (slice_get m.blocks b.0) ≡ Some name
+    → drop 1 (block_ref (function_in m n.function) b.0) ++ codes ":\n" ≡ label_line name (number_at n (P.Block b))
+label_put m n b name h has named = ap (λ (t : List ℕ). drop 1 t ++ codes ":\n") (block_local m n b name h has named)
 
-entry_put : (m : Module) (n : Numbers) (b : LLVMBasicBlock) (name : List ℕ) (k : ℕ) → IsPrinting m n → HasBlockNumber b.0 (function_in m n.function).blocks → option_map (λ (x : BlockData). x.name) (slice_get m.blocks b.0) ≡ Some name
-    → k ≡ or_number (noted_at n (P.Block b)) n.count → entry_head (function_in m n.function) b.0 name ≡ entry_label_line name k
-entry_put m n b [] k h has named is = refl
-entry_put m n b (c ∷ cs) k h has named is = label_put m n b (c ∷ cs) k h has named is
+entry_put : (m : Module) (n : Numbers) (b : LLVMBasicBlock) (name : List ℕ) → IsPrinting m n → HasBlockNumber b.0 (function_in m n.function).blocks → option_map (λ (x : BlockData). x.name) (slice_get m.blocks b.0) ≡ Some name
+    → entry_head (function_in m n.function) b.0 name ≡ entry_label_line name (number_at n (P.Block b))
+entry_put m n b [] h has named = refl
+entry_put m n b (c ∷ cs) h has named = label_put m n b (c ∷ cs) h has named
 
 -- the lines of a block behind the first
-pub block_put : (m : Module) (n : Numbers) (b : LLVMBasicBlock) (name : List ℕ) (k : ℕ) (insts : List LLVMInstRef) (old line head new : List ℕ) → IsPrinting m n → IsOwnBlock m n.function b
-    → option_map (λ (x : BlockData). x.name) (slice_get m.blocks b.0) ≡ Some name → option_map (λ (x : BlockData). x.insts) (slice_get m.blocks b.0) ≡ Some insts → k ≡ or_number (noted_at n (P.Block b)) n.count
-    → line ≡ old ++ 10 ∷ [] → head ≡ line ++ label_line name k → new ≡ head ++ flat_map (line_of m (function_in m n.function)) insts → new ≡ old ++ lines_of m (function_in m n.function) b
-block_put m n b name k insts old line head new h own named held is e1 e2 e3 =
-    put_is old new _ _ (appended_twice old head new ((10 ∷ []) ++ label_line name k) _ (appended_twice old line head (10 ∷ []) (label_line name k) e1 e2) e3)
-    (lines_of-block m (function_in m n.function) b name insts named held ∙ ap (λ (t : List ℕ). ((10 ∷ []) ++ t) ++ flat_map (line_of m (function_in m n.function)) insts) (label_put m n b name k h own.1 named is))
+pub block_put : (m : Module) (n : Numbers) (b : LLVMBasicBlock) (name : List ℕ) (insts : List LLVMInstRef) (old line head new : List ℕ) → IsPrinting m n → IsOwnBlock m n.function b
+    → option_map (λ (x : BlockData). x.name) (slice_get m.blocks b.0) ≡ Some name → option_map (λ (x : BlockData). x.insts) (slice_get m.blocks b.0) ≡ Some insts
+    → line ≡ old ++ 10 ∷ [] → head ≡ line ++ label_line name (number_at n (P.Block b)) → new ≡ head ++ flat_map (line_of m (function_in m n.function)) insts → new ≡ old ++ lines_of m (function_in m n.function) b
+block_put m n b name insts old line head new h own named held e1 e2 e3 =
+    put_is old new _ _ (appended_twice old head new ((10 ∷ []) ++ label_line name (number_at n (P.Block b))) _ (appended_twice old line head (10 ∷ []) (label_line name (number_at n (P.Block b))) e1 e2) e3)
+    (lines_of-block m (function_in m n.function) b name insts named held ∙ ap (λ (t : List ℕ). ((10 ∷ []) ++ t) ++ flat_map (line_of m (function_in m n.function)) insts) (label_put m n b name h own.1 named))
 
 -- and those of the first
-pub entry_block_put : (m : Module) (n : Numbers) (b : LLVMBasicBlock) (name : List ℕ) (k : ℕ) (insts : List LLVMInstRef) (old head new : List ℕ) → IsPrinting m n → IsOwnBlock m n.function b
-    → option_map (λ (x : BlockData). x.name) (slice_get m.blocks b.0) ≡ Some name → option_map (λ (x : BlockData). x.insts) (slice_get m.blocks b.0) ≡ Some insts → k ≡ or_number (noted_at n (P.Block b)) n.count
-    → head ≡ old ++ entry_label_line name k → new ≡ head ++ flat_map (line_of m (function_in m n.function)) insts → new ≡ old ++ entry_lines_of m (function_in m n.function) b
-entry_block_put m n b name k insts old head new h own named held is e1 e2 =
-    put_is old new _ _ (appended_twice old head new (entry_label_line name k) _ e1 e2)
-    (entry_lines_of-block m (function_in m n.function) b name insts named held ∙ ap (λ (t : List ℕ). t ++ flat_map (line_of m (function_in m n.function)) insts) (entry_put m n b name k h own.1 named is))
+pub entry_block_put : (m : Module) (n : Numbers) (b : LLVMBasicBlock) (name : List ℕ) (insts : List LLVMInstRef) (old head new : List ℕ) → IsPrinting m n → IsOwnBlock m n.function b
+    → option_map (λ (x : BlockData). x.name) (slice_get m.blocks b.0) ≡ Some name → option_map (λ (x : BlockData). x.insts) (slice_get m.blocks b.0) ≡ Some insts
+    → head ≡ old ++ entry_label_line name (number_at n (P.Block b)) → new ≡ head ++ flat_map (line_of m (function_in m n.function)) insts → new ≡ old ++ entry_lines_of m (function_in m n.function) b
+entry_block_put m n b name insts old head new h own named held e1 e2 =
+    put_is old new _ _ (appended_twice old head new (entry_label_line name (number_at n (P.Block b))) _ e1 e2)
+    (entry_lines_of-block m (function_in m n.function) b name insts named held ∙ ap (λ (t : List ℕ). t ++ flat_map (line_of m (function_in m n.function)) insts) (entry_put m n b name h own.1 named))
 
 -- ---- types
 
@@ -167,7 +167,7 @@ kind_gives f ts (T.Function r ps v) p h = refl
 -- and one with a result
 pub result_gives : (m : Module) (n : Numbers) (i : LLVMInstRef) (ty : LLVMType) (k : LLVMTypeKind) (name : List ℕ) → IsPrinting m n
     → option_map (λ (x : InstData). x.ty) (slice_get m.insts i.0) ≡ Some ty → option_map (λ (x : InstData). x.name) (slice_get m.insts i.0) ≡ Some name → slice_get m.types ty.0 ≡ Some k → k ≢ T.Void
-    → gives_of m (function_in m n.function) i ≡ named_text name (or_number (noted_at n (P.Result i)) n.count) ++ codes " = "
+    → gives_of m (function_in m n.function) i ≡ named_text name (number_at n (P.Result i)) ++ codes " = "
 result_gives m n i ty k name h typed named at some =
     let f = function_in m n.function in
     let p = gives_of-inst m f i ty name typed named in

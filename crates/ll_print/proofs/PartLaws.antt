@@ -1,5 +1,5 @@
 -- From what readers of a module answer to its data.
-use Rattle.std.proofs.Common.{◌≡◌, ℕ, zero, suc, ◌+◌, ◌<◌, Bool, codes, List, [], ◌∷◌, ◌++◌, length, drop, get_or, slice_get, Option, Some, None, All, refl, ap, sym, ◌∙◌, arith}
+use Rattle.std.proofs.Common.{◌≡◌, ℕ, zero, suc, ◌<◌, Bool, codes, List, [], ◌∷◌, ◌++◌, length, drop, get_or, slice_get, Option, Some, None, All, refl, ap, sym, ◌∙◌, arith}
 use Rattle.std.specs.List.{flat_map, filter_map, cons_option}
 use Rattle.std.specs.Option.{option_map, option_map_or}
 use Rattle.std.proofs.lemmas.Option.{slice_get-get_or, slice_get_within, same_Some}

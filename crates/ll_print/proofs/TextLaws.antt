@@ -20,7 +20,6 @@ use Rattle.llvm_core.specs.Parts.{const_type as kind_type}
 use Rattle.llvm_core.specs.Data.{TypeTree, type_at, type_tree, const_at, trees_of, const_type}
 use Rattle.llvm_core.proofs.DataLemmas.{type_tree_of, int_tree_of, int_const_of, placeholder_const_of}
 use Rattle.ll_print.specs.Printing.{type_text, int_text, int_of_type, const_text}
-use Rattle.ll_print.specs.Parts.{named_text}
 use Rattle.ll_print.proofs.PartLaws.{read_item}
 
 -- the same text under another name
@@ -39,10 +38,6 @@ ok_extended (Err x) old new more e = tt
 -- two pieces, where the call that puts the second was Ok
 pub ok_two : (r : Result (Unit {0}) AllocError) (old mid new a b : List ℕ) → mid ≡ old ++ a → OnOk r (new ≡ mid ++ b) → OnOk r (new ≡ old ++ (a ++ b))
 ok_two r old mid new a b e h = on_ok_weaker r (appended_twice old mid new a b e) h
-
--- a local, whatever its number was called
-pub local_put : (r : Result (Unit {0}) AllocError) (old new text name : List ℕ) (k j : ℕ) → OnOk r (new ≡ old ++ named_text name k) → k ≡ j → text ≡ named_text name j → OnOk r (new ≡ old ++ text)
-local_put r old new text name k j h same is = ok_is r old new (named_text name k) text h (is ∙ ap (named_text name) (sym same))
 
 -- one item of a list further
 pub items_put : {X : Type 0} (g : X → List ℕ) (xs : List X) (i : ℕ) (d : X) (old now new : List ℕ) → i < length xs → now ≡ old ++ flat_map g (take i xs) → new ≡ now ++ g (get_or xs i d) → new ≡ old ++ flat_map g (take (i + 1) xs)

@@ -26,6 +26,10 @@ abbrev pub or_number : Option ℕ → ℕ → ℕ
 or_number None n = n
 or_number (Some k) n = k
 
+-- the number of a thing that has no name: the one that was noted, else the count
+abbrev pub number_at : Numbers → Place → ℕ
+number_at n p = or_number (noted_at n p) n.count
+
 -- the place of a thing in a list, where it stands there
 abbrev pub place_in : List Unnamed → Unnamed → Option ℕ
 place_in xs x = if nat_lt (position_or_len (same_unnamed x) xs) (length xs) then Some (position_or_len (same_unnamed x) xs) else None

@@ -195,14 +195,31 @@ row_head O.CondBr = codes "br "
 row_head O.Ret = codes "ret "
 row_head O.Unreachable = codes "unreachable"
 
--- what a row names: most rows their operands, and behind them the type where one is written; a line for each that differs
+-- what a row names, a line for each: most rows their operands, and behind them the type where one is written
 abbrev pub row_names : Function → Op → Option TypeTree → List Operand → List ℕ → Text
+row_names f (O.Add flags) written os ts = operands_text f os ++ to_text written
+row_names f (O.Sub flags) written os ts = operands_text f os ++ to_text written
+row_names f (O.Mul flags) written os ts = operands_text f os ++ to_text written
+row_names f (O.Shl flags) written os ts = operands_text f os ++ to_text written
+row_names f O.UDiv written os ts = operands_text f os ++ to_text written
+row_names f O.SDiv written os ts = operands_text f os ++ to_text written
+row_names f O.URem written os ts = operands_text f os ++ to_text written
+row_names f O.SRem written os ts = operands_text f os ++ to_text written
+row_names f O.LShr written os ts = operands_text f os ++ to_text written
+row_names f O.AShr written os ts = operands_text f os ++ to_text written
+row_names f O.And written os ts = operands_text f os ++ to_text written
+row_names f O.Or written os ts = operands_text f os ++ to_text written
+row_names f O.Xor written os ts = operands_text f os ++ to_text written
+row_names f (O.ICmp predicate) written os ts = operands_text f os ++ to_text written
+row_names f O.Trunc written os ts = operands_text f os ++ to_text written
+row_names f O.SExt written os ts = operands_text f os ++ to_text written
+row_names f (O.ZExt nneg) written os ts = operands_text f os ++ to_text written
 row_names f O.Select written os ts = values_text f os
+row_names f O.Freeze written os ts = operands_text f os ++ to_text written
 row_names f O.Br written os ts = targets_text f ts
 row_names f O.CondBr written os ts = operands_text f os ++ codes ", " ++ targets_text f ts
 row_names f O.Ret written os ts = returned_text f os
 row_names f O.Unreachable written os ts = []
-row_names f _ written os ts = operands_text f os ++ to_text written
 
 abbrev pub row_text : Function → RowData → Text
 row_text f r = row_head r.op ++ row_names f r.op r.written r.operands r.targets

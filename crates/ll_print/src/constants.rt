@@ -1,6 +1,7 @@
 //! Prints constants.
 
 ghost use Rattle.std.specs.Prelude.{◌≡◌, ◌<◌, ◌≤◌, ◌^◌, ◌++◌, length, OnOk};
+ghost use Rattle.support.specs.Appended.{Keeps};
 ghost use Rattle.llvm_core.specs.declared.consts.LLVMConstKind.TheVariants as kinds;
 ghost use Rattle.llvm_core.specs.Parts.{IsConstOver};
 ghost use Rattle.llvm_core.specs.Sound.{IsModule};
@@ -12,60 +13,52 @@ use llvm_core::consts::LLVMConstKind;
 use llvm_core::module::LLVMModule;
 use llvm_core::numbers::{LLVMConst, LLVMType};
 use llvm_core::types::LLVMTypeKind;
-use std::alloc::{AllocError, Global};
+use std::alloc::AllocError;
 
 /// An integer of a width: one bit as a word, up to 128 bits signed.
-fn put_int(alloc: Global, width: u32, value: u128, out: &mut Vec<u8>) -> Result<(), AllocError>
+fn put_int(width: u32, value: u128, out: &mut Vec<u8>) -> Result<(), AllocError>
     requires some { 1 ≤ width }
     requires fits { value < 2 ^ width }
-    ensures { OnOk result (out.new.items ≡ out.old.items ++ int_text width value) }
+    ensures text { OnOk result (out.new.items ≡ out.old.items ++ int_text width value) }
+    ensures kept { Keeps out.old.items out.new.items }
 {
     if width == 1 {
         let word = if value == 0 { "false" } else { "true" };
         return out.extend_from_slice(word.as_bytes());
     }
     if width > 128 {
-        return put_decimal(alloc, value, out);
+        return put_decimal(value, out);
     }
     let half = 1u128 << (width - 1);
     if value < half {
-        return put_decimal(alloc, value, out);
+        return put_decimal(value, out);
     }
     out.push(b'-')?;
-    put_decimal(alloc, half - (value - half), out)
+    put_decimal(half - (value - half), out)
 }
 
 /// A value of an integer type.
-fn put_typed(
-    alloc: Global,
-    m: &LLVMModule,
-    ty: LLVMType,
-    value: u128,
-    out: &mut Vec<u8>,
-) -> Result<(), AllocError>
+fn put_typed(m: &LLVMModule, ty: LLVMType, value: u128, out: &mut Vec<u8>) -> Result<(), AllocError>
     requires sound { IsModule m.now }
     requires typed { IsConstOver m.now.types (kinds.Int ty value) }
-    ensures { OnOk result (out.new.items ≡ out.old.items ++ int_of_type (type_at (trees_of m.now).types ty) value) }
+    ensures text { OnOk result (out.new.items ≡ out.old.items ++ int_of_type (type_at (trees_of m.now).types ty) value) }
+    ensures kept { Keeps out.old.items out.new.items }
 {
     let LLVMTypeKind::Int(width) = m.type_kind(ty) else {
         unreachable!();
     };
-    put_int(alloc, *width, value, out)
+    put_int(*width, value, out)
 }
 
 /// A constant without its type; a placeholder has no text.
-pub fn put_const(
-    alloc: Global,
-    m: &LLVMModule,
-    c: LLVMConst,
-    out: &mut Vec<u8>,
-) -> Result<(), AllocError>
+pub fn put_const(m: &LLVMModule, c: LLVMConst, out: &mut Vec<u8>) -> Result<(), AllocError>
     requires sound { IsModule m.now }
     requires within { c.0 < length m.now.consts }
-    ensures { OnOk result (out.new.items ≡ out.old.items ++ const_text (const_at (trees_of m.now).consts c)) }
+    ensures text { OnOk result (out.new.items ≡ out.old.items ++ const_text (const_at (trees_of m.now).consts c)) }
+    ensures kept { Keeps out.old.items out.new.items }
 {
     match m.const_kind(c) {
-        LLVMConstKind::Int(ty, value) => put_typed(alloc, m, *ty, *value, out),
+        LLVMConstKind::Int(ty, value) => put_typed(m, *ty, *value, out),
         LLVMConstKind::Placeholder(..) => Ok(()),
     }
 }

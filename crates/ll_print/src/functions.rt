@@ -2,10 +2,12 @@
 
 ghost use Rattle.std.specs.Prelude.{◌≡◌, ◌<◌, ◌^◌, ◌++◌, ℕ, Some, All, OnOk, length, slice_get};
 ghost use Rattle.std.specs.List.{flat_map};
+ghost use Rattle.support.specs.Appended.{Keeps};
 ghost use Rattle.llvm_core.specs.Sound.{IsModule};
 ghost use Rattle.llvm_core.specs.Data.{trees_of, type_at, param_type};
 ghost use Rattle.llvm_core.specs.Form.{IsFormFunction, result_of};
 ghost use Rattle.ll_print.specs.Printing.{type_text, head_text, params_text, function_text};
+ghost use Rattle.ll_print.specs.Numbering.{number_at};
 ghost use Rattle.ll_print.specs.Parts.{function_in, entry_lines_of, lines_of, all_lines_of, label_line, entry_label_line, OwnsBlock, IsPrinting, IsNumberable, IsSignature};
 
 use crate::instructions::{put_comma, put_lines};
@@ -20,31 +22,37 @@ use llvm_core::types::LLVMTypeKind;
 use std::alloc::{AllocError, Global};
 
 /// The label line of a block: its name, or the number of what has none.
-fn put_label(alloc: Global, name: &str, number: u32, out: &mut Vec<u8>) -> Result<(), AllocError>
-    ensures { OnOk result (out.new.items ≡ out.old.items ++ label_line name.now number) }
+fn put_label(
+    numbers: &Numbers,
+    name: &str,
+    place: Place,
+    out: &mut Vec<u8>,
+) -> Result<(), AllocError>
+    ensures text { OnOk result (out.new.items ≡ out.old.items ++ label_line name.now (number_at numbers.now place)) }
+    ensures kept { Keeps out.old.items out.new.items }
 {
-    put_bare(alloc, name, number, out)?;
+    put_bare(numbers, name, place, out)?;
     out.extend_from_slice(b":\n")
 }
 
 /// The label line of the first block, where it has a name.
 fn put_entry_label(
-    alloc: Global,
+    numbers: &Numbers,
     name: &str,
-    number: u32,
+    place: Place,
     out: &mut Vec<u8>,
 ) -> Result<(), AllocError>
-    ensures { OnOk result (out.new.items ≡ out.old.items ++ entry_label_line name.now number) }
+    ensures text { OnOk result (out.new.items ≡ out.old.items ++ entry_label_line name.now (number_at numbers.now place)) }
+    ensures kept { Keeps out.old.items out.new.items }
 {
     if !name.is_empty() {
-        put_label(alloc, name, number, out)?;
+        put_label(numbers, name, place, out)?;
     }
     Ok(())
 }
 
 /// The first block.
 fn put_entry_block(
-    alloc: Global,
     m: &LLVMModule,
     numbers: &Numbers,
     b: LLVMBasicBlock,
@@ -52,16 +60,15 @@ fn put_entry_block(
 ) -> Result<(), AllocError>
     requires printing { IsPrinting m.now numbers.now }
     requires own { OwnsBlock m.now numbers.now.function b }
-    ensures { OnOk result (out.new.items ≡ out.old.items ++ entry_lines_of m.now (function_in m.now numbers.now.function) b) }
+    ensures text { OnOk result (out.new.items ≡ out.old.items ++ entry_lines_of m.now (function_in m.now numbers.now.function) b) }
+    ensures kept { Keeps out.old.items out.new.items }
 {
-    let number = numbers.number(Place::Block(b));
-    put_entry_label(alloc, m.block_name(b), number, out)?;
-    put_lines(alloc, m, numbers, m.instructions(b), out)
+    put_entry_label(numbers, m.block_name(b), Place::Block(b), out)?;
+    put_lines(m, numbers, m.instructions(b), out)
 }
 
 /// A block behind the first, after a blank line.
 fn put_block(
-    alloc: Global,
     m: &LLVMModule,
     numbers: &Numbers,
     b: LLVMBasicBlock,
@@ -69,17 +76,16 @@ fn put_block(
 ) -> Result<(), AllocError>
     requires printing { IsPrinting m.now numbers.now }
     requires own { OwnsBlock m.now numbers.now.function b }
-    ensures { OnOk result (out.new.items ≡ out.old.items ++ lines_of m.now (function_in m.now numbers.now.function) b) }
+    ensures text { OnOk result (out.new.items ≡ out.old.items ++ lines_of m.now (function_in m.now numbers.now.function) b) }
+    ensures kept { Keeps out.old.items out.new.items }
 {
-    let number = numbers.number(Place::Block(b));
     out.push(b'\n')?;
-    put_label(alloc, m.block_name(b), number, out)?;
-    put_lines(alloc, m, numbers, m.instructions(b), out)
+    put_label(numbers, m.block_name(b), Place::Block(b), out)?;
+    put_lines(m, numbers, m.instructions(b), out)
 }
 
 /// Blocks behind the first in order.
 fn put_later_blocks(
-    alloc: Global,
     m: &LLVMModule,
     numbers: &Numbers,
     blocks: &[LLVMBasicBlock],
@@ -87,17 +93,17 @@ fn put_later_blocks(
 ) -> Result<(), AllocError>
     requires printing { IsPrinting m.now numbers.now }
     requires own { All (OwnsBlock m.now numbers.now.function) blocks.now }
-    ensures { OnOk result (out.new.items ≡ out.old.items ++ flat_map (lines_of m.now (function_in m.now numbers.now.function)) blocks.now) }
+    ensures text { OnOk result (out.new.items ≡ out.old.items ++ flat_map (lines_of m.now (function_in m.now numbers.now.function)) blocks.now) }
+    ensures kept { Keeps out.old.items out.new.items }
 {
     for b in blocks {
-        put_block(alloc, m, numbers, *b, out)?;
+        put_block(m, numbers, *b, out)?;
     }
     Ok(())
 }
 
 /// The blocks of a function in order.
 fn put_blocks(
-    alloc: Global,
     m: &LLVMModule,
     numbers: &Numbers,
     blocks: &[LLVMBasicBlock],
@@ -105,18 +111,18 @@ fn put_blocks(
 ) -> Result<(), AllocError>
     requires printing { IsPrinting m.now numbers.now }
     requires own { All (OwnsBlock m.now numbers.now.function) blocks.now }
-    ensures { OnOk result (out.new.items ≡ out.old.items ++ all_lines_of m.now (function_in m.now numbers.now.function) blocks.now) }
+    ensures text { OnOk result (out.new.items ≡ out.old.items ++ all_lines_of m.now (function_in m.now numbers.now.function) blocks.now) }
+    ensures kept { Keeps out.old.items out.new.items }
 {
     if let Some((entry, more)) = blocks.split_first() {
-        put_entry_block(alloc, m, numbers, *entry, out)?;
-        put_later_blocks(alloc, m, numbers, more, out)?;
+        put_entry_block(m, numbers, *entry, out)?;
+        put_later_blocks(m, numbers, more, out)?;
     }
     Ok(())
 }
 
 /// The types and the names of parameters.
 fn put_params(
-    alloc: Global,
     m: &LLVMModule,
     numbers: &Numbers,
     types: &[LLVMType],
@@ -127,16 +133,16 @@ fn put_params(
     requires all { length types.now ≡ length (function_in m.now numbers.now.function).params }
     requires few { length types.now < 2 ^ 32 }
     requires typed { (i : ℕ) (t : LLVMType) → slice_get types.now i ≡ Some t → param_type (function_in m.now numbers.now.function).type i ≡ type_at (trees_of m.now).types t }
-    ensures { OnOk result (out.new.items ≡ out.old.items ++ params_text (function_in m.now numbers.now.function) 0 (function_in m.now numbers.now.function).params) }
+    ensures text { OnOk result (out.new.items ≡ out.old.items ++ params_text (function_in m.now numbers.now.function) 0 (function_in m.now numbers.now.function).params) }
+    ensures kept { Keeps out.old.items out.new.items }
 {
     let f = numbers.function;
     let params = types.len() as u32;
     for place in 0..params {
         put_comma(place as usize, out)?;
-        put_type(alloc, m, types[place as usize], out)?;
+        put_type(m, types[place as usize], out)?;
         out.push(b' ')?;
-        let number = numbers.number(Place::Param(place));
-        put_local(alloc, m.param_name(f, place), number, out)?;
+        put_local(numbers, m.param_name(f, place), Place::Param(place), out)?;
     }
     Ok(())
 }
@@ -160,7 +166,6 @@ fn signature(m: &LLVMModule, f: LLVMFunction) -> (LLVMType, &[LLVMType])
 
 /// What stands before the parameters of a function, after a blank line: what it returns, and its name.
 fn put_head(
-    alloc: Global,
     m: &LLVMModule,
     f: LLVMFunction,
     returned: LLVMType,
@@ -170,10 +175,11 @@ fn put_head(
     requires within { f.0 < length m.now.functions }
     requires ty { returned.0 < length m.now.types }
     requires returned { result_of (function_in m.now f).type ≡ type_at (trees_of m.now).types returned }
-    ensures { OnOk result (out.new.items ≡ out.old.items ++ head_text (function_in m.now f)) }
+    ensures text { OnOk result (out.new.items ≡ out.old.items ++ head_text (function_in m.now f)) }
+    ensures kept { Keeps out.old.items out.new.items }
 {
     out.extend_from_slice(b"\ndefine ")?;
-    put_type(alloc, m, returned, out)?;
+    put_type(m, returned, out)?;
     out.extend_from_slice(b" @")?;
     out.extend_from_slice(m.function_name(f).as_bytes())?;
     out.extend_from_slice(b"(")
@@ -181,7 +187,6 @@ fn put_head(
 
 /// A function whose unnamed things have numbers.
 fn put_numbered(
-    alloc: Global,
     m: &LLVMModule,
     numbers: &Numbers,
     returned: LLVMType,
@@ -192,13 +197,14 @@ fn put_numbered(
     requires form { IsFormFunction (function_in m.now numbers.now.function) }
     requires few { length types.now < 2 ^ 32 }
     requires signature { IsSignature m.now numbers.now.function returned types.now }
-    ensures { OnOk result (out.new.items ≡ out.old.items ++ function_text (function_in m.now numbers.now.function)) }
+    ensures text { OnOk result (out.new.items ≡ out.old.items ++ function_text (function_in m.now numbers.now.function)) }
+    ensures kept { Keeps out.old.items out.new.items }
 {
     let f = numbers.function;
-    put_head(alloc, m, f, returned, out)?;
-    put_params(alloc, m, numbers, types, out)?;
+    put_head(m, f, returned, out)?;
+    put_params(m, numbers, types, out)?;
     out.extend_from_slice(b") {\n")?;
-    put_blocks(alloc, m, numbers, m.blocks(f), out)?;
+    put_blocks(m, numbers, m.blocks(f), out)?;
     out.extend_from_slice(b"}\n")
 }
 
@@ -214,10 +220,11 @@ pub fn put_function(
     requires form { IsFormFunction (function_in m.now f) }
     requires few { length (function_in m.now f).params < 2 ^ 31 }
     ensures text { OnOk result (out.new.items ≡ out.old.items ++ function_text (function_in m.now f)) }
+    ensures kept { Keeps out.old.items out.new.items }
     // More unnamed things than there are numbers want memory.
     ensures numbers { OnOk result (IsNumberable (function_in m.now f)) }
 {
     let (returned, types) = signature(m, f);
     let numbers = numbers_of(alloc, m, f, types.len() as u32)?;
-    put_numbered(alloc, m, &numbers, returned, types, out)
+    put_numbered(m, &numbers, returned, types, out)
 }

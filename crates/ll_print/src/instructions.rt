@@ -3,6 +3,7 @@
 ghost use Rattle.std.specs.Prelude.{◌≡◌, ◌<◌, ◌++◌, All, OnOk, Some, IfSome, codes, length, map};
 ghost use Rattle.std.specs.List.{flat_map};
 ghost use Rattle.std.specs.Option.{option_map};
+ghost use Rattle.support.specs.Appended.{Keeps};
 ghost use Rattle.llvm_core.specs.declared.code.LLVMValue.TheVariants as values;
 ghost use Rattle.llvm_core.specs.Parts.{value_type};
 ghost use Rattle.llvm_core.specs.Sound.{IsModule};
@@ -19,11 +20,12 @@ use llvm_core::code::{LLVMInst, LLVMValue, PhiEntry, Row};
 use llvm_core::module::LLVMModule;
 use llvm_core::numbers::{LLVMBasicBlock, LLVMInstRef, LLVMType};
 use llvm_core::types::LLVMTypeKind;
-use std::alloc::{AllocError, Global};
+use std::alloc::AllocError;
 
 /// The flags that are set, each before a blank.
 fn put_flags(flags: OverflowFlags, out: &mut Vec<u8>) -> Result<(), AllocError>
-    ensures { OnOk result (out.new.items ≡ out.old.items ++ (flag_text (codes "nuw") flags.nuw ++ flag_text (codes "nsw") flags.nsw)) }
+    ensures text { OnOk result (out.new.items ≡ out.old.items ++ (flag_text (codes "nuw") flags.nuw ++ flag_text (codes "nsw") flags.nsw)) }
+    ensures kept { Keeps out.old.items out.new.items }
 {
     if flags.nuw {
         out.extend_from_slice(b"nuw ")?;
@@ -36,7 +38,8 @@ fn put_flags(flags: OverflowFlags, out: &mut Vec<u8>) -> Result<(), AllocError>
 
 /// A word and its flags, each before a blank.
 fn put_flagged(word: &[u8], flags: OverflowFlags, out: &mut Vec<u8>) -> Result<(), AllocError>
-    ensures { OnOk result (out.new.items ≡ out.old.items ++ flagged_text word.now flags) }
+    ensures text { OnOk result (out.new.items ≡ out.old.items ++ flagged_text word.now flags) }
+    ensures kept { Keeps out.old.items out.new.items }
 {
     out.extend_from_slice(word)?;
     out.push(b' ')?;
@@ -45,7 +48,8 @@ fn put_flagged(word: &[u8], flags: OverflowFlags, out: &mut Vec<u8>) -> Result<(
 
 /// `zext` and its flag, each before a blank.
 fn put_zext(nneg: bool, out: &mut Vec<u8>) -> Result<(), AllocError>
-    ensures { OnOk result (out.new.items ≡ out.old.items ++ (codes "zext " ++ flag_text (codes "nneg") nneg)) }
+    ensures text { OnOk result (out.new.items ≡ out.old.items ++ (codes "zext " ++ flag_text (codes "nneg") nneg)) }
+    ensures kept { Keeps out.old.items out.new.items }
 {
     out.extend_from_slice(b"zext ")?;
     if nneg {
@@ -74,7 +78,8 @@ fn predicate_word(predicate: LLVMIntPredicate) -> &'static [u8]
 
 /// `icmp` and its predicate, each before a blank.
 fn put_predicate(predicate: LLVMIntPredicate, out: &mut Vec<u8>) -> Result<(), AllocError>
-    ensures { OnOk result (out.new.items ≡ out.old.items ++ (codes "icmp " ++ predicate_text predicate ++ codes " ")) }
+    ensures text { OnOk result (out.new.items ≡ out.old.items ++ (codes "icmp " ++ predicate_text predicate ++ codes " ")) }
+    ensures kept { Keeps out.old.items out.new.items }
 {
     out.extend_from_slice(b"icmp ")?;
     out.extend_from_slice(predicate_word(predicate))?;
@@ -84,7 +89,6 @@ fn put_predicate(predicate: LLVMIntPredicate, out: &mut Vec<u8>) -> Result<(), A
 
 /// Operands, of which the first stands behind its type.
 fn put_operands(
-    alloc: Global,
     m: &LLVMModule,
     numbers: &Numbers,
     operands: &[LLVMValue],
@@ -92,14 +96,15 @@ fn put_operands(
 ) -> Result<(), AllocError>
     requires printing { IsPrinting m.now numbers.now }
     requires own { All (IsOwn m.now numbers.now.function) operands.now }
-    ensures { OnOk result (out.new.items ≡ out.old.items ++ operands_text (function_in m.now numbers.now.function) (map (operand_of (trees_of m.now)) operands.now)) }
+    ensures text { OnOk result (out.new.items ≡ out.old.items ++ operands_text (function_in m.now numbers.now.function) (map (operand_of (trees_of m.now)) operands.now)) }
+    ensures kept { Keeps out.old.items out.new.items }
 {
     for (place, operand) in operands.iter().enumerate() {
         if place == 0 {
-            put_value(alloc, m, numbers, *operand, out)?;
+            put_value(m, numbers, *operand, out)?;
         } else {
             out.extend_from_slice(b", ")?;
-            put_operand(alloc, m, numbers, *operand, out)?;
+            put_operand(m, numbers, *operand, out)?;
         }
     }
     Ok(())
@@ -107,7 +112,6 @@ fn put_operands(
 
 /// What a return has.
 fn put_returned(
-    alloc: Global,
     m: &LLVMModule,
     numbers: &Numbers,
     operands: &[LLVMValue],
@@ -115,17 +119,17 @@ fn put_returned(
 ) -> Result<(), AllocError>
     requires printing { IsPrinting m.now numbers.now }
     requires own { All (IsOwn m.now numbers.now.function) operands.now }
-    ensures { OnOk result (out.new.items ≡ out.old.items ++ returned_text (function_in m.now numbers.now.function) (map (operand_of (trees_of m.now)) operands.now)) }
+    ensures text { OnOk result (out.new.items ≡ out.old.items ++ returned_text (function_in m.now numbers.now.function) (map (operand_of (trees_of m.now)) operands.now)) }
+    ensures kept { Keeps out.old.items out.new.items }
 {
     if operands.is_empty() {
         return out.extend_from_slice(b"void");
     }
-    put_operands(alloc, m, numbers, operands, out)
+    put_operands(m, numbers, operands, out)
 }
 
 /// The blocks that a row leads to.
 fn put_targets(
-    alloc: Global,
     m: &LLVMModule,
     numbers: &Numbers,
     targets: &[LLVMBasicBlock],
@@ -133,19 +137,21 @@ fn put_targets(
 ) -> Result<(), AllocError>
     requires printing { IsPrinting m.now numbers.now }
     requires own { All (IsOwnBlock m.now numbers.now.function) targets.now }
-    ensures { OnOk result (out.new.items ≡ out.old.items ++ targets_text (function_in m.now numbers.now.function) (map (λ b. b.0) targets.now)) }
+    ensures text { OnOk result (out.new.items ≡ out.old.items ++ targets_text (function_in m.now numbers.now.function) (map (λ b. b.0) targets.now)) }
+    ensures kept { Keeps out.old.items out.new.items }
 {
     for (place, target) in targets.iter().enumerate() {
         put_comma(place, out)?;
         out.extend_from_slice(b"label ")?;
-        put_block_ref(alloc, m, numbers, *target, out)?;
+        put_block_ref(m, numbers, *target, out)?;
     }
     Ok(())
 }
 
 /// A comma and a blank between parameters, or between entries.
 pub fn put_comma(place: usize, out: &mut Vec<u8>) -> Result<(), AllocError>
-    ensures { OnOk result (out.new.items ≡ out.old.items ++ comma_text place) }
+    ensures text { OnOk result (out.new.items ≡ out.old.items ++ comma_text place) }
+    ensures kept { Keeps out.old.items out.new.items }
 {
     if place > 0 {
         out.extend_from_slice(b", ")?;
@@ -155,7 +161,6 @@ pub fn put_comma(place: usize, out: &mut Vec<u8>) -> Result<(), AllocError>
 
 /// An entry of a phi.
 fn put_entry(
-    alloc: Global,
     m: &LLVMModule,
     numbers: &Numbers,
     entry: PhiEntry,
@@ -163,18 +168,18 @@ fn put_entry(
 ) -> Result<(), AllocError>
     requires printing { IsPrinting m.now numbers.now }
     requires own { OwnsEntry m.now numbers.now.function entry }
-    ensures { OnOk result (out.new.items ≡ out.old.items ++ entry_text (function_in m.now numbers.now.function) (entry_of (trees_of m.now) entry)) }
+    ensures text { OnOk result (out.new.items ≡ out.old.items ++ entry_text (function_in m.now numbers.now.function) (entry_of (trees_of m.now) entry)) }
+    ensures kept { Keeps out.old.items out.new.items }
 {
     out.extend_from_slice(b"[ ")?;
-    put_operand(alloc, m, numbers, entry.value, out)?;
+    put_operand(m, numbers, entry.value, out)?;
     out.extend_from_slice(b", ")?;
-    put_block_ref(alloc, m, numbers, entry.block, out)?;
+    put_block_ref(m, numbers, entry.block, out)?;
     out.extend_from_slice(b" ]")
 }
 
 /// The entries of a phi in order.
 fn put_entries(
-    alloc: Global,
     m: &LLVMModule,
     numbers: &Numbers,
     entries: &[PhiEntry],
@@ -182,18 +187,18 @@ fn put_entries(
 ) -> Result<(), AllocError>
     requires printing { IsPrinting m.now numbers.now }
     requires own { All (OwnsEntry m.now numbers.now.function) entries.now }
-    ensures { OnOk result (out.new.items ≡ out.old.items ++ entries_text (function_in m.now numbers.now.function) (map (entry_of (trees_of m.now)) entries.now)) }
+    ensures text { OnOk result (out.new.items ≡ out.old.items ++ entries_text (function_in m.now numbers.now.function) (map (entry_of (trees_of m.now)) entries.now)) }
+    ensures kept { Keeps out.old.items out.new.items }
 {
     for (place, entry) in entries.iter().enumerate() {
         put_comma(place, out)?;
-        put_entry(alloc, m, numbers, *entry, out)?;
+        put_entry(m, numbers, *entry, out)?;
     }
     Ok(())
 }
 
 /// A phi of a type.
 fn put_phi(
-    alloc: Global,
     m: &LLVMModule,
     numbers: &Numbers,
     ty: LLVMType,
@@ -203,17 +208,19 @@ fn put_phi(
     requires printing { IsPrinting m.now numbers.now }
     requires ty { ty.0 < length m.now.types }
     requires own { All (OwnsEntry m.now numbers.now.function) entries.now }
-    ensures { OnOk result (out.new.items ≡ out.old.items ++ (codes "phi " ++ type_text (type_at (trees_of m.now).types ty) ++ codes " " ++ entries_text (function_in m.now numbers.now.function) (map (entry_of (trees_of m.now)) entries.now))) }
+    ensures text { OnOk result (out.new.items ≡ out.old.items ++ (codes "phi " ++ type_text (type_at (trees_of m.now).types ty) ++ codes " " ++ entries_text (function_in m.now numbers.now.function) (map (entry_of (trees_of m.now)) entries.now))) }
+    ensures kept { Keeps out.old.items out.new.items }
 {
     out.extend_from_slice(b"phi ")?;
-    put_type(alloc, m, ty, out)?;
+    put_type(m, ty, out)?;
     out.push(b' ')?;
-    put_entries(alloc, m, numbers, entries, out)
+    put_entries(m, numbers, entries, out)
 }
 
 /// What stands before the operands and blocks of a row: its word and immediates, each before a blank, a line for each.
 fn put_head(op: Op, out: &mut Vec<u8>) -> Result<(), AllocError>
-    ensures { OnOk result (out.new.items ≡ out.old.items ++ row_head op) }
+    ensures text { OnOk result (out.new.items ≡ out.old.items ++ row_head op) }
+    ensures kept { Keeps out.old.items out.new.items }
 {
     match op {
         Op::Add(flags) => put_flagged(b"add", flags, out),
@@ -244,7 +251,6 @@ fn put_head(op: Op, out: &mut Vec<u8>) -> Result<(), AllocError>
 
 /// Operands, each behind its type.
 fn put_values(
-    alloc: Global,
     m: &LLVMModule,
     numbers: &Numbers,
     operands: &[LLVMValue],
@@ -252,36 +258,36 @@ fn put_values(
 ) -> Result<(), AllocError>
     requires printing { IsPrinting m.now numbers.now }
     requires own { All (IsOwn m.now numbers.now.function) operands.now }
-    ensures { OnOk result (out.new.items ≡ out.old.items ++ values_text (function_in m.now numbers.now.function) (map (operand_of (trees_of m.now)) operands.now)) }
+    ensures text { OnOk result (out.new.items ≡ out.old.items ++ values_text (function_in m.now numbers.now.function) (map (operand_of (trees_of m.now)) operands.now)) }
+    ensures kept { Keeps out.old.items out.new.items }
 {
     for (place, operand) in operands.iter().enumerate() {
         put_comma(place, out)?;
-        put_value(alloc, m, numbers, *operand, out)?;
+        put_value(m, numbers, *operand, out)?;
     }
     Ok(())
 }
 
 /// The type that is written behind operands.
 fn put_written(
-    alloc: Global,
     m: &LLVMModule,
     written: Option<LLVMType>,
     out: &mut Vec<u8>,
 ) -> Result<(), AllocError>
     requires sound { IsModule m.now }
     requires within { IfSome written (λ t. t.0 < length m.now.types) }
-    ensures { OnOk result (out.new.items ≡ out.old.items ++ to_text (option_map (type_at (trees_of m.now).types) written)) }
+    ensures text { OnOk result (out.new.items ≡ out.old.items ++ to_text (option_map (type_at (trees_of m.now).types) written)) }
+    ensures kept { Keeps out.old.items out.new.items }
 {
     let Some(ty) = written else {
         return Ok(());
     };
     out.extend_from_slice(b" to ")?;
-    put_type(alloc, m, ty, out)
+    put_type(m, ty, out)
 }
 
 /// What a row names: most rows their operands, and behind them the type where one is written.
 fn put_names(
-    alloc: Global,
     m: &LLVMModule,
     numbers: &Numbers,
     row: &Row,
@@ -291,30 +297,30 @@ fn put_names(
     requires operands { All (IsOwn m.now numbers.now.function) row.now.operands }
     requires targets { All (IsOwnBlock m.now numbers.now.function) row.now.targets }
     requires written { IfSome row.now.written (λ t. t.0 < length m.now.types) }
-    ensures { OnOk result (out.new.items ≡ out.old.items ++ row_names (function_in m.now numbers.now.function) row.now.op (option_map (type_at (trees_of m.now).types) row.now.written) (map (operand_of (trees_of m.now)) row.now.operands) (map (λ b. b.0) row.now.targets)) }
+    ensures text { OnOk result (out.new.items ≡ out.old.items ++ row_names (function_in m.now numbers.now.function) row.now.op (option_map (type_at (trees_of m.now).types) row.now.written) (map (operand_of (trees_of m.now)) row.now.operands) (map (λ b. b.0) row.now.targets)) }
+    ensures kept { Keeps out.old.items out.new.items }
 {
     let operands = row.operands.as_slice();
     let targets = row.targets.as_slice();
     match row.op {
-        Op::Select => put_values(alloc, m, numbers, operands, out),
-        Op::Br => put_targets(alloc, m, numbers, targets, out),
+        Op::Select => put_values(m, numbers, operands, out),
+        Op::Br => put_targets(m, numbers, targets, out),
         Op::CondBr => {
-            put_operands(alloc, m, numbers, operands, out)?;
+            put_operands(m, numbers, operands, out)?;
             out.extend_from_slice(b", ")?;
-            put_targets(alloc, m, numbers, targets, out)
+            put_targets(m, numbers, targets, out)
         }
-        Op::Ret => put_returned(alloc, m, numbers, operands, out),
+        Op::Ret => put_returned(m, numbers, operands, out),
         Op::Unreachable => Ok(()),
         _ => {
-            put_operands(alloc, m, numbers, operands, out)?;
-            put_written(alloc, m, row.written, out)
+            put_operands(m, numbers, operands, out)?;
+            put_written(m, row.written, out)
         }
     }
 }
 
 /// A row: its word with its immediates, and what it names.
 fn put_row(
-    alloc: Global,
     m: &LLVMModule,
     numbers: &Numbers,
     row: &Row,
@@ -324,15 +330,15 @@ fn put_row(
     requires operands { All (IsOwn m.now numbers.now.function) row.now.operands }
     requires targets { All (IsOwnBlock m.now numbers.now.function) row.now.targets }
     requires written { IfSome row.now.written (λ t. t.0 < length m.now.types) }
-    ensures { OnOk result (out.new.items ≡ out.old.items ++ (row_head row.now.op ++ row_names (function_in m.now numbers.now.function) row.now.op (option_map (type_at (trees_of m.now).types) row.now.written) (map (operand_of (trees_of m.now)) row.now.operands) (map (λ b. b.0) row.now.targets))) }
+    ensures text { OnOk result (out.new.items ≡ out.old.items ++ (row_head row.now.op ++ row_names (function_in m.now numbers.now.function) row.now.op (option_map (type_at (trees_of m.now).types) row.now.written) (map (operand_of (trees_of m.now)) row.now.operands) (map (λ b. b.0) row.now.targets))) }
+    ensures kept { Keeps out.old.items out.new.items }
 {
     put_head(row.op, out)?;
-    put_names(alloc, m, numbers, row, out)
+    put_names(m, numbers, row, out)
 }
 
 /// An instruction without its result, which has that type.
 fn put_inst(
-    alloc: Global,
     m: &LLVMModule,
     numbers: &Numbers,
     ty: LLVMType,
@@ -342,17 +348,17 @@ fn put_inst(
     requires printing { IsPrinting m.now numbers.now }
     requires ty { ty.0 < length m.now.types }
     requires own { OwnsOperands m.now numbers.now.function inst.now }
-    ensures { OnOk result (out.new.items ≡ out.old.items ++ instruction_text (function_in m.now numbers.now.function) (type_at (trees_of m.now).types ty) (instruction_of (trees_of m.now) inst.now)) }
+    ensures text { OnOk result (out.new.items ≡ out.old.items ++ instruction_text (function_in m.now numbers.now.function) (type_at (trees_of m.now).types ty) (instruction_of (trees_of m.now) inst.now)) }
+    ensures kept { Keeps out.old.items out.new.items }
 {
     match inst {
-        LLVMInst::Phi(_, entries) => put_phi(alloc, m, numbers, ty, entries.as_slice(), out),
-        LLVMInst::Row(row) => put_row(alloc, m, numbers, row, out),
+        LLVMInst::Phi(_, entries) => put_phi(m, numbers, ty, entries.as_slice(), out),
+        LLVMInst::Row(row) => put_row(m, numbers, row, out),
     }
 }
 
 /// The result of an instruction, of that type, where it is not void.
 fn put_result(
-    alloc: Global,
     m: &LLVMModule,
     numbers: &Numbers,
     i: LLVMInstRef,
@@ -363,13 +369,13 @@ fn put_result(
     requires own { OwnsInst m.now numbers.now.function i }
     requires ty { value_type m.now (values.Inst i) ≡ Some ty }
     requires within { ty.0 < length m.now.types }
-    ensures { OnOk result (out.new.items ≡ out.old.items ++ gives_of m.now (function_in m.now numbers.now.function) i) }
+    ensures text { OnOk result (out.new.items ≡ out.old.items ++ gives_of m.now (function_in m.now numbers.now.function) i) }
+    ensures kept { Keeps out.old.items out.new.items }
 {
     match m.type_kind(ty) {
         LLVMTypeKind::Void => Ok(()),
         _ => {
-            let number = numbers.number(Place::Result(i));
-            put_local(alloc, m.inst_name(i), number, out)?;
+            put_local(numbers, m.inst_name(i), Place::Result(i), out)?;
             out.extend_from_slice(b" = ")
         }
     }
@@ -377,7 +383,6 @@ fn put_result(
 
 /// The line of an instruction.
 fn put_line(
-    alloc: Global,
     m: &LLVMModule,
     numbers: &Numbers,
     i: LLVMInstRef,
@@ -385,19 +390,19 @@ fn put_line(
 ) -> Result<(), AllocError>
     requires printing { IsPrinting m.now numbers.now }
     requires own { OwnsInst m.now numbers.now.function i }
-    ensures { OnOk result (out.new.items ≡ out.old.items ++ line_of m.now (function_in m.now numbers.now.function) i) }
+    ensures text { OnOk result (out.new.items ≡ out.old.items ++ line_of m.now (function_in m.now numbers.now.function) i) }
+    ensures kept { Keeps out.old.items out.new.items }
 {
     let ty = m.type_of(LLVMValue::Inst(i));
     out.extend_from_slice(b"  ")?;
-    put_result(alloc, m, numbers, i, ty, out)?;
-    put_inst(alloc, m, numbers, ty, m.inst(i), out)?;
+    put_result(m, numbers, i, ty, out)?;
+    put_inst(m, numbers, ty, m.inst(i), out)?;
     out.push(b'\n')?;
     Ok(())
 }
 
 /// The lines of instructions.
 pub fn put_lines(
-    alloc: Global,
     m: &LLVMModule,
     numbers: &Numbers,
     insts: &[LLVMInstRef],
@@ -405,10 +410,11 @@ pub fn put_lines(
 ) -> Result<(), AllocError>
     requires printing { IsPrinting m.now numbers.now }
     requires own { All (OwnsInst m.now numbers.now.function) insts.now }
-    ensures { OnOk result (out.new.items ≡ out.old.items ++ flat_map (line_of m.now (function_in m.now numbers.now.function)) insts.now) }
+    ensures text { OnOk result (out.new.items ≡ out.old.items ++ flat_map (line_of m.now (function_in m.now numbers.now.function)) insts.now) }
+    ensures kept { Keeps out.old.items out.new.items }
 {
     for i in insts {
-        put_line(alloc, m, numbers, *i, out)?;
+        put_line(m, numbers, *i, out)?;
     }
     Ok(())
 }

@@ -4,7 +4,7 @@ ghost use Rattle.std.specs.Prelude.{◌≡◌, ◌≤◌, ◌+◌, [], OnOk, Som
 ghost use Rattle.support.specs.Options.{or_else};
 ghost use Rattle.ll_tree.specs.Text.{number_limit};
 ghost use Rattle.ll_print.specs.Printing.{if_unnamed};
-ghost use Rattle.ll_print.specs.Numbering.{thing_of, same_place, noted_at, or_number, IsNumbering, Counts};
+ghost use Rattle.ll_print.specs.Numbering.{thing_of, same_place, noted_at, number_at, IsNumbering, Counts};
 
 use crate::places::Place;
 use llvm_core::numbers::LLVMFunction;
@@ -36,7 +36,7 @@ impl Numbers {
 
     /// The number of a thing, and the count where it has none.
     pub fn number(&self, place: Place) -> u32
-        ensures { result ≡ or_number (noted_at self.now place) self.now.count }
+        ensures { result ≡ number_at self.now place }
     {
         match self.places.get(&place) {
             Some(number) => *number,

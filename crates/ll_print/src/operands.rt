@@ -1,8 +1,10 @@
 //! Prints operands and the names of what they name.
 
 ghost use Rattle.std.specs.Prelude.{◌≡◌, ◌++◌, OnOk};
+ghost use Rattle.support.specs.Appended.{Keeps};
 ghost use Rattle.llvm_core.specs.Data.{trees_of, operand_of};
 ghost use Rattle.ll_print.specs.Printing.{operand_text, value_text, block_ref};
+ghost use Rattle.ll_print.specs.Numbering.{number_at};
 ghost use Rattle.ll_print.specs.Parts.{function_in, bare_text, named_text, IsOwn, IsOwnBlock, IsPrinting};
 
 use crate::constants::put_const;
@@ -12,35 +14,41 @@ use crate::types::{put_decimal, put_type};
 use llvm_core::code::LLVMValue;
 use llvm_core::module::LLVMModule;
 use llvm_core::numbers::LLVMBasicBlock;
-use std::alloc::{AllocError, Global};
+use std::alloc::AllocError;
 
-/// A name, or the number of what has none.
-pub fn put_bare(alloc: Global, name: &str, number: u32, out: &mut Vec<u8>) -> Result<(), AllocError>
-    ensures { OnOk result (out.new.items ≡ out.old.items ++ bare_text name.now number) }
+/// The name of a thing, or its number, which is looked up only where it has no name.
+pub fn put_bare(
+    numbers: &Numbers,
+    name: &str,
+    place: Place,
+    out: &mut Vec<u8>,
+) -> Result<(), AllocError>
+    ensures text { OnOk result (out.new.items ≡ out.old.items ++ bare_text name.now (number_at numbers.now place)) }
+    ensures kept { Keeps out.old.items out.new.items }
 {
     if name.is_empty() {
-        put_decimal(alloc, u128::from(number), out)
+        put_decimal(u128::from(numbers.number(place)), out)
     } else {
         out.extend_from_slice(name.as_bytes())
     }
 }
 
-/// `%` and the name, or the number of what has none.
+/// `%` and the name of a thing, or its number where it has none.
 pub fn put_local(
-    alloc: Global,
+    numbers: &Numbers,
     name: &str,
-    number: u32,
+    place: Place,
     out: &mut Vec<u8>,
 ) -> Result<(), AllocError>
-    ensures { OnOk result (out.new.items ≡ out.old.items ++ named_text name.now number) }
+    ensures text { OnOk result (out.new.items ≡ out.old.items ++ named_text name.now (number_at numbers.now place)) }
+    ensures kept { Keeps out.old.items out.new.items }
 {
     out.push(b'%')?;
-    put_bare(alloc, name, number, out)
+    put_bare(numbers, name, place, out)
 }
 
 /// An operand without its type.
 pub fn put_operand(
-    alloc: Global,
     m: &LLVMModule,
     numbers: &Numbers,
     value: LLVMValue,
@@ -48,24 +56,20 @@ pub fn put_operand(
 ) -> Result<(), AllocError>
     requires printing { IsPrinting m.now numbers.now }
     requires own { IsOwn m.now numbers.now.function value }
-    ensures { OnOk result (out.new.items ≡ out.old.items ++ operand_text (function_in m.now numbers.now.function) (operand_of (trees_of m.now) value)) }
+    ensures text { OnOk result (out.new.items ≡ out.old.items ++ operand_text (function_in m.now numbers.now.function) (operand_of (trees_of m.now) value)) }
+    ensures kept { Keeps out.old.items out.new.items }
 {
     match value {
-        LLVMValue::Const(c) => put_const(alloc, m, c, out),
+        LLVMValue::Const(c) => put_const(m, c, out),
         LLVMValue::Param(f, place) => {
-            let number = numbers.number(Place::Param(place));
-            put_local(alloc, m.param_name(f, place), number, out)
+            put_local(numbers, m.param_name(f, place), Place::Param(place), out)
         }
-        LLVMValue::Inst(i) => {
-            let number = numbers.number(Place::Result(i));
-            put_local(alloc, m.inst_name(i), number, out)
-        }
+        LLVMValue::Inst(i) => put_local(numbers, m.inst_name(i), Place::Result(i), out),
     }
 }
 
 /// An operand with its type.
 pub fn put_value(
-    alloc: Global,
     m: &LLVMModule,
     numbers: &Numbers,
     value: LLVMValue,
@@ -73,16 +77,16 @@ pub fn put_value(
 ) -> Result<(), AllocError>
     requires printing { IsPrinting m.now numbers.now }
     requires own { IsOwn m.now numbers.now.function value }
-    ensures { OnOk result (out.new.items ≡ out.old.items ++ value_text (function_in m.now numbers.now.function) (operand_of (trees_of m.now) value)) }
+    ensures text { OnOk result (out.new.items ≡ out.old.items ++ value_text (function_in m.now numbers.now.function) (operand_of (trees_of m.now) value)) }
+    ensures kept { Keeps out.old.items out.new.items }
 {
-    put_type(alloc, m, m.type_of(value), out)?;
+    put_type(m, m.type_of(value), out)?;
     out.push(b' ')?;
-    put_operand(alloc, m, numbers, value, out)
+    put_operand(m, numbers, value, out)
 }
 
 /// `%` and the name or the number of a block.
 pub fn put_block_ref(
-    alloc: Global,
     m: &LLVMModule,
     numbers: &Numbers,
     b: LLVMBasicBlock,
@@ -90,8 +94,8 @@ pub fn put_block_ref(
 ) -> Result<(), AllocError>
     requires printing { IsPrinting m.now numbers.now }
     requires own { IsOwnBlock m.now numbers.now.function b }
-    ensures { OnOk result (out.new.items ≡ out.old.items ++ block_ref (function_in m.now numbers.now.function) b.0) }
+    ensures text { OnOk result (out.new.items ≡ out.old.items ++ block_ref (function_in m.now numbers.now.function) b.0) }
+    ensures kept { Keeps out.old.items out.new.items }
 {
-    let number = numbers.number(Place::Block(b));
-    put_local(alloc, m.block_name(b), number, out)
+    put_local(numbers, m.block_name(b), Place::Block(b), out)
 }

@@ -1,6 +1,7 @@
 //! Prints a module as LLVM text.
 
-ghost use Rattle.std.specs.Prelude.{◌≡◌, ◌≢◌, ◌++◌, [], OnOk, OnErr, IfOk};
+ghost use Rattle.std.specs.Prelude.{◌≡◌, ◌≢◌, ◌++◌, [], OnOk, OnErr};
+ghost use Rattle.support.specs.Appended.{Keeps};
 ghost use Rattle.llvm_core.specs.Data.{data_of};
 ghost use Rattle.llvm_core.specs.Form.{IsForm, HasDistinctNames, HasFew};
 ghost use Rattle.ll_text.specs.Spelling.{Spells};
@@ -11,10 +12,12 @@ use crate::functions::put_function;
 use llvm_core::module::LLVMModule;
 use llvm_core::numbers::LLVMFunction;
 use std::alloc::{AllocError, Global};
+use support::appending::undo_failed;
 
 /// The line of a module's name, where it has one.
 fn put_source(name: &str, out: &mut Vec<u8>) -> Result<(), AllocError>
-    ensures { OnOk result (out.new.items ≡ out.old.items ++ source_text name.now) }
+    ensures text { OnOk result (out.new.items ≡ out.old.items ++ source_text name.now) }
+    ensures kept { Keeps out.old.items out.new.items }
 {
     if !name.is_empty() {
         out.extend_from_slice(b"source_filename = \"")?;
@@ -24,20 +27,20 @@ fn put_source(name: &str, out: &mut Vec<u8>) -> Result<(), AllocError>
     Ok(())
 }
 
-/// The text of a module.
-fn text_of(alloc: Global, m: &LLVMModule) -> Result<Vec<u8>, AllocError>
+/// The text of a module, or a front of it where memory is wanting.
+fn put_module(alloc: Global, m: &LLVMModule, out: &mut Vec<u8>) -> Result<(), AllocError>
     requires form { IsForm (data_of m.now) }
     requires few { HasFew (data_of m.now) }
-    ensures text { IfOk result (λ v. v.items ≡ module_text (data_of m.now)) }
+    ensures text { OnOk result (out.new.items ≡ out.old.items ++ module_text (data_of m.now)) }
+    ensures kept { Keeps out.old.items out.new.items }
     // A function with more unnamed things than there are numbers wants memory.
     ensures numbers { OnOk result (AreNumberable (data_of m.now)) }
 {
-    let mut out = Vec::new(alloc);
-    put_source(m.name(), &mut out)?;
+    put_source(m.name(), out)?;
     for f in 0..m.functions() {
-        put_function(alloc, m, LLVMFunction(f), &mut out)?;
+        put_function(alloc, m, LLVMFunction(f), out)?;
     }
-    Ok(out)
+    Ok(())
 }
 
 /// Appends the text of a module of the form.
@@ -53,6 +56,7 @@ pub fn print_ll(alloc: Global, module: &LLVMModule, out: &mut Vec<u8>) -> Result
     // The last line of the text of a module with a name has an end.
     ensures lines { OnOk result («module».now.name ≢ [] → EndsLine (module_text (data_of «module».now))) }
 {
-    let text = text_of(alloc, module)?;
-    out.extend_from_slice(text.as_slice())
+    let len = out.len();
+    let printed = put_module(alloc, module, out);
+    undo_failed(printed, out, len)
 }

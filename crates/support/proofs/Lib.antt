@@ -3,3 +3,4 @@ pub mod OptionLaws
 pub mod ResultLaws
 pub mod ListLaws
 pub mod InternedLaws
+pub mod KeepLaws

@@ -4,3 +4,4 @@ pub mod Options
 pub mod Changes
 pub mod Maps
 pub mod ShortLists
+pub mod Appended

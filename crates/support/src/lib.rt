@@ -1,6 +1,7 @@
-//! What the crates above are made of: lists, texts and interners that clauses see as lists, and laws of lists, options and results.
+//! What the crates above are made of: lists, texts and interners that clauses see as lists, bytes that are appended to, and laws of lists, options and results.
 #![tactic(auto)]
 
+pub mod appending;
 pub mod interner;
 pub mod items;
 pub mod noting;

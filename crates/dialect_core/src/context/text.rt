@@ -7,8 +7,8 @@ ghost use Rattle.dialect_core.specs.Text.{module_text};
 use super::Context;
 use crate::module_printing::print_module;
 use crate::numbers::ModuleOp;
-use dialect_types::printing::undo_failed;
 use std::alloc::AllocError;
+use support::appending::undo_failed;
 
 impl Context {
     /// Appends the dialect text of a module. Want of memory leaves `out` as it was.

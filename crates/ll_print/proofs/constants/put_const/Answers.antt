@@ -4,9 +4,9 @@ use Rattle.std.proofs.lemmas.List.{append-nil}
 use Rattle.ll_print.proofs.TextLaws.{ok_is, put_is, const_text-int, const_text-placeholder}
 use Rattle.ll_print.proofs.constants.put_const.Goals as goal
 
-pub returns-in-Int : goal.returns-in-Int
-returns-in-Int c = ok_is _ _ _ _ _ c.put_typed.ensures (const_text-int c.args.m.now c.args.c c.in-Int.ty c.in-Int.value (rw c.in-Int.is at c.const_kind.ensures.kind))
+pub returns-in-Int-clause-text : goal.returns-in-Int-clause-text
+returns-in-Int-clause-text c = ok_is _ _ _ _ _ c.put_typed.ensures.text (const_text-int c.args.m.now c.args.c c.in-Int.ty c.in-Int.value (rw c.in-Int.is at c.const_kind.ensures.kind))
 
-pub returns-in-Placeholder : goal.returns-in-Placeholder
-returns-in-Placeholder c =
+pub returns-in-Placeholder-clause-text : goal.returns-in-Placeholder-clause-text
+returns-in-Placeholder-clause-text c =
     put_is _ _ _ _ (sym (append-nil c.args.out.now.items)) (const_text-placeholder c.args.m.now c.args.c c.in-Placeholder.field-0 c.in-Placeholder.field-1 (rw c.in-Placeholder.is at c.const_kind.ensures.kind))

@@ -15,4 +15,4 @@ put_numbered-requires-clause-signature c =
     subst (λ (f : LLVMFunction). IsSignature c.args.m.now f c.signature.result.0 c.signature.result.1.now) (sym c.in_ok-numbers.ensures.function) c.signature.ensures
 
 pub returns-clause-text : goal.returns-clause-text
-returns-clause-text c = subst (λ (f : LLVMFunction). OnOk c.put_numbered.result (c.put_numbered.new.out.items ≡ c.args.out.now.items ++ function_text (function_in c.args.m.now f))) c.in_ok-numbers.ensures.function c.put_numbered.ensures
+returns-clause-text c = subst (λ (f : LLVMFunction). OnOk c.put_numbered.result (c.put_numbered.new.out.items ≡ c.args.out.now.items ++ function_text (function_in c.args.m.now f))) c.in_ok-numbers.ensures.function c.put_numbered.ensures.text

@@ -13,7 +13,7 @@ put_block-requires-clause-own c = c.requires.own c.loop-b.b-index _ c.loop-b-tes
 
 pub loop-b-preserved : goal.loop-b-preserved
 loop-b-preserved c =
-    items_put (lines_of c.args.m.now (function_in c.args.m.now c.args.numbers.now.function)) c.args.blocks.now c.loop-b.b-index (record { 0 = 0 }) c.args.out.now.items _ _ c.loop-b-test.true c.loop-b.invariant c.in_ok-put_block.ensures
+    items_put (lines_of c.args.m.now (function_in c.args.m.now c.args.numbers.now.function)) c.args.blocks.now c.loop-b.b-index (record { 0 = 0 }) c.args.out.now.items _ _ c.loop-b-test.true c.loop-b.invariant c.in_ok-put_block.ensures.text
 
-pub returns : goal.returns
-returns c = items_all (lines_of c.args.m.now (function_in c.args.m.now c.args.numbers.now.function)) c.args.blocks.now c.loop-b.b-index c.args.out.now.items _ c.loop-b-test.false c.loop-b.invariant
+pub returns-clause-text : goal.returns-clause-text
+returns-clause-text c = items_all (lines_of c.args.m.now (function_in c.args.m.now c.args.numbers.now.function)) c.args.blocks.now c.loop-b.b-index c.args.out.now.items _ c.loop-b-test.false c.loop-b.invariant

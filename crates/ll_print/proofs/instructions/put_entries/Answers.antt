@@ -13,10 +13,10 @@ pub loop-place-preserved : goal.loop-place-preserved
 loop-place-preserved c =
     let entry = entry_text (function_in c.args.m.now c.args.numbers.now.function) in
     strung_put entry (behind_comma entry) (entry_of (trees_of c.args.m.now)) c.args.entries.now c.loop-place.place _ c.args.out.now.items _ _ c.loop-place-test.true c.loop-place.invariant
-    (comma_put entry c.loop-place.place _ _ _ _ c.in_ok-put_comma.ensures c.in_ok-put_entry.ensures)
+    (comma_put entry c.loop-place.place _ _ _ _ c.in_ok-put_comma.ensures.text c.in_ok-put_entry.ensures.text)
 
-pub returns : goal.returns
-returns c =
+pub returns-clause-text : goal.returns-clause-text
+returns-clause-text c =
     let f = function_in c.args.m.now c.args.numbers.now.function in
     strung_all (entry_text f) (behind_comma (entry_text f)) (entry_of (trees_of c.args.m.now)) c.args.entries.now c.loop-place.place c.args.out.now.items _ c.loop-place-test.false c.loop-place.invariant
     ∙ ap (λ (t : List ℕ). c.args.out.now.items ++ t) (entries_strung f _)

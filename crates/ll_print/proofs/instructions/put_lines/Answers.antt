@@ -13,7 +13,7 @@ put_line-requires-clause-own c = c.requires.own c.loop-i.i-index _ c.loop-i-test
 
 pub loop-i-preserved : goal.loop-i-preserved
 loop-i-preserved c =
-    items_put (line_of c.args.m.now (function_in c.args.m.now c.args.numbers.now.function)) c.args.insts.now c.loop-i.i-index (record { 0 = 0 }) c.args.out.now.items _ _ c.loop-i-test.true c.loop-i.invariant c.in_ok-put_line.ensures
+    items_put (line_of c.args.m.now (function_in c.args.m.now c.args.numbers.now.function)) c.args.insts.now c.loop-i.i-index (record { 0 = 0 }) c.args.out.now.items _ _ c.loop-i-test.true c.loop-i.invariant c.in_ok-put_line.ensures.text
 
-pub returns : goal.returns
-returns c = items_all (line_of c.args.m.now (function_in c.args.m.now c.args.numbers.now.function)) c.args.insts.now c.loop-i.i-index c.args.out.now.items _ c.loop-i-test.false c.loop-i.invariant
+pub returns-clause-text : goal.returns-clause-text
+returns-clause-text c = items_all (line_of c.args.m.now (function_in c.args.m.now c.args.numbers.now.function)) c.args.insts.now c.loop-i.i-index c.args.out.now.items _ c.loop-i-test.false c.loop-i.invariant

@@ -8,8 +8,8 @@ use Rattle.support.proofs.ListLaws.{appended_twice}
 use Rattle.ll_print.proofs.instructions.put_operands.Goals as goal
 use Rattle.ll_print.proofs.instructions.put_operands.Goals.{then-place-eq0+in_ok-put_value, else-place-eq0+in_ok-extend_from_slice+in_ok-put_operand}
 
-pub returns : goal.returns
-returns c =
+pub returns-clause-text : goal.returns-clause-text
+returns-clause-text c =
     let f = function_in c.args.m.now c.args.numbers.now.function in
     strung_all (value_text f) (behind_comma (operand_text f)) (operand_of (trees_of c.args.m.now)) c.args.operands.now c.loop-place.place c.args.out.now.items _ c.loop-place-test.false c.loop-place.invariant
     ∙ ap (λ (t : List ℕ). c.args.out.now.items ++ t) (operands_strung f _)
@@ -19,7 +19,7 @@ loop-place-preserved c =
     let f = function_in c.args.m.now c.args.numbers.now.function in
     strung_put (value_text f) (behind_comma (operand_text f)) (operand_of (trees_of c.args.m.now)) c.args.operands.now c.loop-place.place _ c.args.out.now.items _ _ c.loop-place-test.true c.loop-place.invariant
     (elim c.if-place-eq0.branch [
-      | then-place-eq0+in_ok-put_value w ↦ first_put (value_text f) (behind_comma (operand_text f)) c.loop-place.place _ _ _ w.if-place-eq0.true (rw (← w.out-is) at w.in_ok-put_value.ensures)
+      | then-place-eq0+in_ok-put_value w ↦ first_put (value_text f) (behind_comma (operand_text f)) c.loop-place.place _ _ _ w.if-place-eq0.true (rw (← w.out-is) at w.in_ok-put_value.ensures.text)
       | else-place-eq0+in_ok-extend_from_slice+in_ok-put_operand w ↦
-          next_put (value_text f) (behind_comma (operand_text f)) c.loop-place.place _ _ _ w.if-place-eq0.false (appended_twice _ _ _ _ _ w.in_ok-extend_from_slice.ensures.items (rw (← w.out-is) at w.in_ok-put_operand.ensures))
+          next_put (value_text f) (behind_comma (operand_text f)) c.loop-place.place _ _ _ w.if-place-eq0.false (appended_twice _ _ _ _ _ w.in_ok-extend_from_slice.ensures.items (rw (← w.out-is) at w.in_ok-put_operand.ensures.text))
     ])

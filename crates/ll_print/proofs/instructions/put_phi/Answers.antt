@@ -7,10 +7,10 @@ use Rattle.ll_print.specs.Printing.{type_text}
 use Rattle.ll_print.proofs.TextLaws.{ok_two}
 use Rattle.ll_print.proofs.instructions.put_phi.Goals as goal
 
-pub returns : goal.returns
-returns c =
+pub returns-clause-text : goal.returns-clause-text
+returns-clause-text c =
     let old = c.args.out.now.items in
     let type = type_text (type_at (trees_of c.args.m.now).types c.args.ty) in
-    let two = appended_twice old c.extend_from_slice.new.self.items c.put_type.new.out.items (codes "phi ") type c.in_ok-extend_from_slice.ensures.items c.in_ok-put_type.ensures in
+    let two = appended_twice old c.extend_from_slice.new.self.items c.put_type.new.out.items (codes "phi ") type c.in_ok-extend_from_slice.ensures.items c.in_ok-put_type.ensures.text in
     let three = appended_twice old c.put_type.new.out.items c.push.new.self.items (codes "phi " ++ type) (codes " ") two c.in_ok-push.ensures.items in
-    ok_two c.put_entries.result old c.push.new.self.items c.put_entries.new.out.items (codes "phi " ++ type ++ codes " ") _ three c.put_entries.ensures
+    ok_two c.put_entries.result old c.push.new.self.items c.put_entries.new.out.items (codes "phi " ++ type ++ codes " ") _ three c.put_entries.ensures.text

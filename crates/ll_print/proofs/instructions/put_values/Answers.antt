@@ -13,10 +13,10 @@ pub loop-place-preserved : goal.loop-place-preserved
 loop-place-preserved c =
     let value = value_text (function_in c.args.m.now c.args.numbers.now.function) in
     strung_put value (behind_comma value) (operand_of (trees_of c.args.m.now)) c.args.operands.now c.loop-place.place _ c.args.out.now.items _ _ c.loop-place-test.true c.loop-place.invariant
-    (comma_put value c.loop-place.place _ _ _ _ c.in_ok-put_comma.ensures c.in_ok-put_value.ensures)
+    (comma_put value c.loop-place.place _ _ _ _ c.in_ok-put_comma.ensures.text c.in_ok-put_value.ensures.text)
 
-pub returns : goal.returns
-returns c =
+pub returns-clause-text : goal.returns-clause-text
+returns-clause-text c =
     let f = function_in c.args.m.now c.args.numbers.now.function in
     strung_all (value_text f) (behind_comma (value_text f)) (operand_of (trees_of c.args.m.now)) c.args.operands.now c.loop-place.place c.args.out.now.items _ c.loop-place-test.false c.loop-place.invariant
     ∙ ap (λ (t : List ℕ). c.args.out.now.items ++ t) (values_strung f _)

@@ -4,15 +4,15 @@ use Rattle.std.proofs.lemmas.List.{append-nil}
 use Rattle.ll_print.proofs.TextLaws.{put_is, ok_is, ok_two, ok_extended, type_text-kind}
 use Rattle.ll_print.proofs.types.put_type.Goals as goal
 
-pub returns-in-Void : goal.returns-in-Void
-returns-in-Void c =
+pub returns-in-Void-clause-text : goal.returns-in-Void-clause-text
+returns-in-Void-clause-text c =
     ok_is _ _ _ _ _ (ok_extended c.extend_from_slice.result _ _ (codes "void") c.extend_from_slice.ensures.items) (type_text-kind c.args.m.now c.args.ty _ c.requires.sound (rw c.in-Void.is at c.type_kind.ensures.kind))
 
-pub returns-in_ok-push-in-Int : goal.returns-in_ok-push-in-Int
-returns-in_ok-push-in-Int c =
-    ok_is _ _ _ _ _ (ok_two _ _ _ _ _ _ c.in_ok-push-in-Int.ensures.items (rw c.from.ensures at c.put_decimal.ensures))
+pub returns-in_ok-push-in-Int-clause-text : goal.returns-in_ok-push-in-Int-clause-text
+returns-in_ok-push-in-Int-clause-text c =
+    ok_is _ _ _ _ _ (ok_two _ _ _ _ _ _ c.in_ok-push-in-Int.ensures.items (rw c.from.ensures at c.put_decimal.ensures.text))
     (type_text-kind c.args.m.now c.args.ty _ c.requires.sound (rw c.in-Int.is at c.type_kind.ensures.kind))
 
-pub returns-in-Function : goal.returns-in-Function
-returns-in-Function c =
+pub returns-in-Function-clause-text : goal.returns-in-Function-clause-text
+returns-in-Function-clause-text c =
     put_is _ _ _ _ (sym (append-nil c.args.out.now.items)) (type_text-kind c.args.m.now c.args.ty _ c.requires.sound (rw c.in-Function.is at c.type_kind.ensures.kind))
