@@ -9,6 +9,7 @@ use Rattle.llvm_core.proofs.DataLemmas.{within_at}
 use Rattle.dialect_core.specs.Data as D
 use Rattle.meaning.specs.Terms.{Match}
 use Rattle.meaning.specs.Code.{FunctionSymbol, External, SameNamed, SameBody, IsOneToOne}
+use Rattle.meaning.specs.Setting.{Setting}
 use Rattle.meaning.specs.Llvm as Llvm
 use Rattle.meaning.specs.Dialect as Dialect
 use Rattle.meaning.proofs.ShapeLaws.{same_shape}
@@ -67,20 +68,20 @@ module _ (match : Match) (d : ModuleData) (f : L.Function) (x : FunctionBlocks) 
   has_dialect : Dialect.has_blocks g ≡ true
   has_dialect = some_blocks g.blocks (not_empty f.blocks g.blocks (same_blocks d f x g h) form.body)
 
-  pub imported_body : SameBody match f.name (Llvm.body d f) (Dialect.body g)
-  imported_body = record {
+  pub imported_body : (source made : Setting) → SameBody match f.name (Llvm.body source f) (Dialect.body made g)
+  imported_body source made = record {
     blocks = one_to_one x (length f.blocks) (length g.blocks) (match.block f.name) h.places here (same_blocks d f x g h);
-    traces = same_shape match d f g (h.shape match here);
+    traces = same_shape match source f made g (h.shape match source made here);
   }
 
   linked : FunctionSymbol g.type (Dialect.linkage g.linkage) 0 (Dialect.has_blocks g) ≡ FunctionSymbol g.type External 0 (Dialect.has_blocks g)
   linked = rw h.form.linkage refl
 
-  pub imported_entry : SameNamed match (Llvm.entry d f) (Dialect.entry g)
-  imported_entry = record {
+  pub imported_entry : (source made : Setting) → SameNamed match (Llvm.entry source f) (Dialect.entry made g)
+  imported_entry source made = record {
     name = sym h.name;
     entry = record {
       symbol = same_symbol match f.type g.type f.space (Llvm.has_blocks f) (Dialect.has_blocks g) (sym h.type) form.space (has ∙ sym has_dialect) ∙ sym linked;
-      body = both match f.name (Llvm.has_blocks f) (Dialect.has_blocks g) (Llvm.body d f) (Dialect.body g) has has_dialect imported_body;
+      body = both match f.name (Llvm.has_blocks f) (Dialect.has_blocks g) (Llvm.body source f) (Dialect.body made g) has has_dialect (imported_body source made);
     };
   }

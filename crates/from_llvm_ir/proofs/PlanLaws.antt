@@ -12,6 +12,7 @@ use Rattle.dialect_core.specs.declared.ops.Value.{Value}
 use Rattle.dialect_core.specs.declared.ops.Value.TheVariants as V
 use Rattle.dialect_core.specs.Data.{DialectOp, DialectBlock, Func}
 use Rattle.meaning.specs.Terms.{Match, Param, Unset, rename}
+use Rattle.meaning.specs.Setting.{Setting}
 use Rattle.meaning.specs.Llvm as Llvm
 use Rattle.meaning.specs.Llvm.{Key, ParamKey, ResultKey}
 use Rattle.meaning.specs.Dialect as Dialect
@@ -51,8 +52,9 @@ module _ (n : ℕ) (k : Known) (cs : List DialectBlock) (h : IsWhole k cs) where
   value (ParamKey f i) = if nat_eq f g.number && nat_lt i (length g.params) then Some (V.Argument entry_ref i) else None
   value (ResultKey m) = result_in k m
 
-  abbrev pub plan : Plan
-  plan = record { value = value; hoisted = rows_of G k.hoisted }
+  -- with the rows of the constants as the dialect's module tells them
+  abbrev pub plan : Setting → Plan
+  plan made = record { value = value; hoisted = rows_of made G k.hoisted }
 
   -- what has a value stands for it, and what stands for it has it
   pub value_stands : (q : Key) (w : Value) → value q ≡ Some w → Stands k (operand_of_key q) w
@@ -142,11 +144,11 @@ module _ (n : ℕ) (k : Known) (cs : List DialectBlock) (h : IsWhole k cs) where
       by (V.Result r) differs = ne_eqb o.number r.0 (λ e. differs (ap (λ (x : ℕ). V.Result (record { 0 = x })) (sym e)))
       by (V.Argument b i) differs = refl
 
-  pub is_plan : IsPlan plan
-  is_plan = record {
-    closed = closed G [] k.constants k.hoisted h.made;
+  pub is_plan : (made : Setting) → IsPlan (plan made)
+  is_plan made = record {
+    closed = closed made G [] k.constants k.hoisted h.made;
     one_to_one = λ j q w a b. one_key j q w (value_stands j w a) (value_stands q w b);
-    apart = λ q w a. not_among G k.hoisted w (none_hoisted q w (value_stands q w a));
+    apart = λ q w a. not_among made G k.hoisted w (none_hoisted q w (value_stands q w a));
   }
 
   -- ---- the start

@@ -12,6 +12,7 @@ use Rattle.dialect_core.specs.ContextData.{ContextData}
 use Rattle.dialect_core.specs.Data as D
 use Rattle.meaning.specs.Pairs.{Matched}
 use Rattle.meaning.specs.Code.{IsDistinctNames, SameNamed, SameCode}
+use Rattle.meaning.specs.Setting.{Setting}
 use Rattle.meaning.specs.Llvm as Llvm
 use Rattle.meaning.specs.Dialect as Dialect
 use Rattle.meaning.proofs.CodeLaws.{same_code}
@@ -32,17 +33,20 @@ plain_names (f ∷ fs) h = All-cons HasPlainName f fs (All-head IsFormFunction f
 
 module _ (d : ModuleData) (xs : List FunctionBlocks) (gs : List D.Func) (form : All IsFormFunction d.functions) (distinct : IsDistinctNames (function_names d.functions))
     (numbered : (i : ℕ) (f : L.Function) → slice_get d.functions i ≡ Some f → f.number ≡ i) (h : AreImported d d.functions xs gs) where
-  entries_there : Matched (λ (f : L.Function) (g : D.Func). SameNamed (match_of d xs) (Llvm.entry d f) (Dialect.entry g)) d.functions gs
-  entries_there = matched_of (λ (f : L.Function) (g : D.Func). SameNamed (match_of d xs) (Llvm.entry d f) (Dialect.entry g)) d.functions gs (sym (count_imported d d.functions xs gs h).1) (λ i f g at gt.
+  -- whatever the modules tell
+  entries_there : (source made : Setting) → Matched (λ (f : L.Function) (g : D.Func). SameNamed (match_of d xs) (Llvm.entry source f) (Dialect.entry made g)) d.functions gs
+  entries_there source made = matched_of (λ (f : L.Function) (g : D.Func). SameNamed (match_of d xs) (Llvm.entry source f) (Dialect.entry made g)) d.functions gs (sym (count_imported d d.functions xs gs h).1) (λ i f g at gt.
       let p = partner d d.functions xs gs h i f at in
       let same : p.func ≡ g = let e = sym p.func_at ∙ gt in cc in
-      subst (λ (g : D.Func). SameNamed (match_of d xs) (Llvm.entry d f) (Dialect.entry g)) same
-      (imported_entry (match_of d xs) d f p.entry p.func (matched_place d xs gs distinct numbered h i f p.entry at p.entry_at) (within_at d.functions IsFormFunction form i f at) p.imported))
+      subst (λ (g : D.Func). SameNamed (match_of d xs) (Llvm.entry source f) (Dialect.entry made g)) same
+      (imported_entry (match_of d xs) d f p.entry p.func (matched_place d xs gs distinct numbered h i f p.entry at p.entry_at) (within_at d.functions IsFormFunction form i f at) p.imported source made))
 
   pub same_dialect : (target : D.DialectModule) → target.functions ≡ gs → SameCode (match_of d xs) (Llvm.code_of d) (Dialect.code_of target)
   same_dialect target are =
       let match = match_of d xs in
-      let pairs = matched_map (SameNamed match) (Llvm.entry d) Dialect.entry d.functions gs entries_there in
+      let source = Llvm.setting_of d in
+      let made = Dialect.setting_of target in
+      let pairs = matched_map (SameNamed match) (Llvm.entry source) (Dialect.entry made) d.functions gs (entries_there source made) in
       same_code match (Llvm.code_of d) (Dialect.code_of target) (distinct_code d (plain_names d.functions form) distinct) (rw (all_kept d.functions (plain_names d.functions form), are) pairs)
 
 -- ---- modules

@@ -23,6 +23,7 @@ use Rattle.dialect_core.specs.Data.{DialectModule, DialectBlock, DialectOp, Func
 use Rattle.dialect_core.specs.Form.{IsFormFunc, HasConstantsInEntry, IsExportable, HasTargets}
 use Rattle.dialect_core.specs.WellFormed.{IsPlainAt, IsWellFormed}
 use Rattle.meaning.specs.Terms.{Match}
+use Rattle.meaning.specs.Setting.{Setting}
 use Rattle.meaning.specs.Pairs.{Matched, BothOrNone}
 use Rattle.meaning.specs.Code.{IsDistinctNames}
 use Rattle.meaning.specs.Shape.{SameShape}
@@ -125,7 +126,8 @@ constants_used d f places = flat_map (λ (b : L.Block). flat_map (constants_in d
 
 -- The function g stands for the function f of the module d: its blocks in the depth-first order of their graph, where
 -- each definition dominates its uses; the constants that it uses once each in order of first use, block by block an
--- operation for each instruction, and under every match that puts its blocks at these places the same shape.
+-- operation for each instruction, and under every match that puts its blocks at these places the same shape, whatever the
+-- module of the one and that of the other tell their bodies.
 pub record ImportedFunction (d : L.ModuleData) (f : L.Function) (x : FunctionBlocks) (g : Func) : Type 0 where
   pub function : x.function.0 ≡ f.number
   pub places : IsPlaces (length f.blocks) x.places
@@ -142,7 +144,7 @@ pub record ImportedFunction (d : L.ModuleData) (f : L.Function) (x : FunctionBlo
   pub hoisted : List DialectOp
   pub made : Matched Makes constants hoisted
   pub blocks : (i : ℕ) → BothOrNone (IsImportedBlock hoisted i) (slice_get f.blocks i) (slice_get g.blocks (place_at i x))
-  pub shape : (match : Match) → ((b : ℕ) → match.block f.name b ≡ place_at b x) → SameShape match d f g
+  pub shape : (match : Match) (source made : Setting) → ((b : ℕ) → match.block f.name b ≡ place_at b x) → SameShape match source f made g
 
 -- ---- modules
 

@@ -9,45 +9,46 @@ use Rattle.dialect_core.specs.declared.ops.Value.TheVariants.{Result}
 use Rattle.dialect_core.specs.Data.{Func, DialectOp, Kind, ConstantOp, RowOp}
 use Rattle.dialect_core.specs.Form.{is_constant, is_constant_kind, others_of}
 use Rattle.meaning.specs.Machine.{At, Row}
+use Rattle.meaning.specs.Setting.{Setting}
 use Rattle.meaning.specs.Dialect as dialect
 use Rattle.meaning.specs.Dialect.{attr_term, same_value}
 use Rattle.meaning.specs.Shape.{Plan, among, term_among, operands_of}
 use Rattle.meaning.specs.Woven.{sets_constant, paired, KeepsPlan, AreSet, ReadsOnlySet}
 use Rattle.meaning.proofs.WovenLaws.{swap_or}
 
-module _ (g : Func) where
+module _ (setting : Setting) (g : Func) where
   abbrev pub rows : List DialectOp → List (Row Value)
-  rows os = map (dialect.row g) os
+  rows os = map (dialect.row setting g) os
 
   -- ---- rows that pair off
 
-  constant_kind : (o : DialectOp) (k : Kind) → sets_constant (dialect.action g o k) ≡ is_constant_kind k
+  constant_kind : (o : DialectOp) (k : Kind) → sets_constant (dialect.action setting g o k) ≡ is_constant_kind k
   constant_kind o (ConstantOp value) = refl
   constant_kind o (RowOp op) = refl
 
-  paired_one : (o : DialectOp) (os : List DialectOp) (b : Bool) → paired (rows os) ≡ rows (others_of os) → (if not b then dialect.row g o ∷ paired (rows os) else paired (rows os)) ≡ rows (if not b then o ∷ others_of os else others_of os)
+  paired_one : (o : DialectOp) (os : List DialectOp) (b : Bool) → paired (rows os) ≡ rows (others_of os) → (if not b then dialect.row setting g o ∷ paired (rows os) else paired (rows os)) ≡ rows (if not b then o ∷ others_of os else others_of os)
   paired_one o os true e = e
-  paired_one o os false e = ap (λ (rs : List (Row Value)). dialect.row g o ∷ rs) e
+  paired_one o os false e = ap (λ (rs : List (Row Value)). dialect.row setting g o ∷ rs) e
 
   -- the rows of the operations but the constants
   pub paired_rows : (os : List DialectOp) → paired (rows os) ≡ rows (others_of os)
   paired_rows [] = refl
-  paired_rows (o ∷ os) = ap (λ (b : Bool). if not b then dialect.row g o ∷ paired (rows os) else paired (rows os)) (constant_kind o o.kind) ∙ paired_one o os (is_constant o) (paired_rows os)
+  paired_rows (o ∷ os) = ap (λ (b : Bool). if not b then dialect.row setting g o ∷ paired (rows os) else paired (rows os)) (constant_kind o o.kind) ∙ paired_one o os (is_constant o) (paired_rows os)
 
   module _ (plan : Plan) where
     -- ---- rows that keep to a plan
 
     -- the plan has the constant of that operation
     abbrev pub HasConstant : DialectOp → Kind → Type 0
-    HasConstant o k = (value : AttrTree) → k ≡ ConstantOp value → (among plan.hoisted (Result (record { 0 = o.number })) ≡ true) × (term_among plan.hoisted (Result (record { 0 = o.number })) ≡ attr_term value)
+    HasConstant o k = (value : AttrTree) → k ≡ ConstantOp value → (among plan.hoisted (Result (record { 0 = o.number })) ≡ true) × (term_among plan.hoisted (Result (record { 0 = o.number })) ≡ attr_term setting value)
 
-    kept_row : (o : DialectOp) (k : Kind) → HasConstant o k → KeepsPlan plan (dialect.action g o k) (Result (record { 0 = o.number }))
+    kept_row : (o : DialectOp) (k : Kind) → HasConstant o k → KeepsPlan plan (dialect.action setting g o k) (Result (record { 0 = o.number }))
     kept_row o (ConstantOp value) h = h value refl
     kept_row o (RowOp op) h = tt
 
     pub kept_rows : (os : List DialectOp) → ((i : ℕ) (o : DialectOp) → slice_get os i ≡ Some o → HasConstant o o.kind) → All (λ (r : Row Value). KeepsPlan plan r.action r.result) (rows os)
     kept_rows [] h = All-nil _
-    kept_rows (o ∷ os) h = All-cons (λ (r : Row Value). KeepsPlan plan r.action r.result) (dialect.row g o) (rows os) (kept_row o o.kind (h 0 o refl)) (kept_rows os (λ i x at. h (suc i) x at))
+    kept_rows (o ∷ os) h = All-cons (λ (r : Row Value). KeepsPlan plan r.action r.result) (dialect.row setting g o) (rows os) (kept_row o o.kind (h 0 o refl)) (kept_rows os (λ i x at. h (suc i) x at))
 
     -- ---- rows that read only what is set
 
@@ -59,7 +60,7 @@ module _ (g : Func) where
     are_set done [] h = tt
     are_set done (v ∷ vs) h = (All-head (IsSet done) v vs h, are_set done vs (All-tail (IsSet done) v vs h))
 
-    operands_set : (done : List (Row Value)) (o : DialectOp) (k : Kind) → All (IsSet done) o.operands → AreSet plan done (operands_of (dialect.action g o k))
+    operands_set : (done : List (Row Value)) (o : DialectOp) (k : Kind) → All (IsSet done) o.operands → AreSet plan done (operands_of (dialect.action setting g o k))
     operands_set done o (ConstantOp value) h = tt
     operands_set done o (RowOp op) h = are_set done o.operands h
 
@@ -71,7 +72,7 @@ module _ (g : Func) where
     pub reads_set : (os : List DialectOp) (done : List (Row Value)) → ((i : ℕ) (o : DialectOp) → slice_get os i ≡ Some o → All (IsSetBy done (take i os)) o.operands) → ReadsOnlySet plan done (rows os)
     reads_set [] done h = tt
     reads_set (o ∷ os) done h =
-        let q = dialect.row g o in (
+        let q = dialect.row setting g o in (
           operands_set done o o.kind (All-weaker (IsSetBy done []) (IsSet done) (λ v s m. ⊎_elim (λ x. x) (λ x. absurd (false≢true x)) (or_cases (among done v) false (s m))) o.operands (h 0 o refl)),
           reads_set os (q ∷ done) (λ i x at. All-weaker (IsSetBy done (take (suc i) (o ∷ os))) (IsSetBy (q ∷ done) (take i os)) (λ v s m. swap_or (among done v) (same_value q.result v) (among (rows (take i os)) v) (s m)) x.operands (h (suc i) x at)),
         )

@@ -8,6 +8,7 @@ use Rattle.llvm_core.specs.Data.{ModuleData, TypeTree, VoidType, IntType, Functi
 use Rattle.llvm_core.proofs.FormNames.{own_of_plain}
 use Rattle.meaning.specs.Terms.{Match, rename_type, rename_types}
 use Rattle.meaning.specs.Code.{Body, Entry, FunctionSymbol, External, SameBody, SameBodies, IsDistinctNames, names_of, rename_symbol}
+use Rattle.meaning.specs.Setting.{Setting}
 use Rattle.meaning.specs.Llvm as Llvm
 
 -- ---- types under a match: no struct is held yet
@@ -51,9 +52,9 @@ pub all_kept : (fs : List L.Function) → All HasPlainName fs → filter (λ (f 
 all_kept [] h = refl
 all_kept (f ∷ fs) h = rw (own f (All-head HasPlainName f fs h), all_kept fs (All-tail HasPlainName f fs h)) refl
 
-entries_names : (d : ModuleData) (fs : List L.Function) → map (λ (e : Entry). e.name) (map (Llvm.entry d) fs) ≡ map (λ (f : L.Function). f.name) fs
-entries_names d [] = refl
-entries_names d (f ∷ fs) = rw (entries_names d fs) refl
+entries_names : (setting : Setting) (fs : List L.Function) → map (λ (e : Entry). e.name) (map (Llvm.entry setting) fs) ≡ map (λ (f : L.Function). f.name) fs
+entries_names setting [] = refl
+entries_names setting (f ∷ fs) = rw (entries_names setting fs) refl
 
 pub distinct_code : (d : ModuleData) → All HasPlainName d.functions → IsDistinctNames (map (λ (f : L.Function). f.name) d.functions) → IsDistinctNames (names_of (Llvm.code_of d))
-distinct_code d plain h = subst IsDistinctNames (sym (ap (λ (fs : List L.Function). map (λ (e : Entry). e.name) (map (Llvm.entry d) fs)) (all_kept d.functions plain) ∙ entries_names d d.functions)) h
+distinct_code d plain h = subst IsDistinctNames (sym (ap (λ (fs : List L.Function). map (λ (e : Entry). e.name) (map (Llvm.entry (Llvm.setting_of d)) fs)) (all_kept d.functions plain) ∙ entries_names (Llvm.setting_of d) d.functions)) h

@@ -19,10 +19,10 @@ abbrev f_name : List ℕ
 f_name = codes "f"
 
 abbrev llvm_trace : List ℕ → List Item
-llvm_trace choices = (llvm.body answer answer_function).trace choices
+llvm_trace choices = (llvm.body (llvm.setting_of answer) answer_function).trace choices
 
 abbrev dialect_trace : List ℕ → List Item
-dialect_trace choices = (dialect.body answer_func).trace choices
+dialect_trace choices = (dialect.body (dialect.setting_of answer_dialect) answer_func).trace choices
 
 traces : (choices : List ℕ) →
     map (under same_places f_name) (llvm_trace choices) ≡ dialect_trace choices

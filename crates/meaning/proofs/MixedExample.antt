@@ -13,16 +13,16 @@ use Rattle.meaning.specs.Dialect as dialect
 use Rattle.meaning.specs.Shape.{among}
 use Rattle.meaning.specs.Woven.{KeepsPlan, SetsConstantsFirst, WovenBlock, WovenShape}
 use Rattle.meaning.specs.Examples.{same_places, sums, sums_module}
-use Rattle.meaning.specs.WovenExamples.{mixed_func}
+use Rattle.meaning.specs.WovenExamples.{mixed_dialect, mixed_func}
 use Rattle.meaning.proofs.ShapeExample.{plan, is_plan, each}
 
 abbrev target : List (Block Value)
-target = map (dialect.block mixed_func) mixed_func.blocks
+target = map (dialect.block (dialect.setting_of mixed_dialect) mixed_func) mixed_func.blocks
 
 abbrev rows : List (Row Value)
 rows = flat_map (λ (b : Block Value). b.rows) target
 
-blocks : (place : ℕ) → BothOrNone (WovenBlock same_places plan (λ b. b)) (slice_get (map (llvm.block sums_module sums) sums.blocks) place) (slice_get target place)
+blocks : (place : ℕ) → BothOrNone (WovenBlock same_places plan (λ b. b)) (slice_get (map (llvm.block (llvm.setting_of sums_module) sums) sums.blocks) place) (slice_get target place)
 blocks zero = record {
   constants = All-from_recursion (λ (r : Row Value). KeepsPlan plan r.action r.result) rows (tt, ((refl, refl), (tt, (tt, tt))));
   pairs = (
@@ -40,7 +40,7 @@ unset : (w : Value) → among plan.hoisted w ≡ true → dialect.start mixed_fu
 unset (Result r) m = refl
 unset (Argument b i) m = absurd (false≢true m)
 
-abbrev mixed_shape : WovenShape same_places sums_module sums mixed_func
+abbrev mixed_shape : WovenShape same_places (llvm.setting_of sums_module) sums (dialect.setting_of mixed_dialect) mixed_func
 mixed_shape = record {
   plan = plan;
   is_plan = is_plan;
@@ -61,5 +61,5 @@ sets_first = record {
     sets (Result r) m = or_right (nat_eq 3 r.0) _ (or_left (nat_eq 2 r.0) _ (⊎_elim (λ x. x) (λ x. absurd (false≢true x)) (or_cases (nat_eq 2 r.0) false m)))
     sets (Argument b i) m = absurd (false≢true m)
 
-pub mixed : (h : WovenShape same_places sums_module sums mixed_func) × SetsConstantsFirst h.plan target
+pub mixed : (h : WovenShape same_places (llvm.setting_of sums_module) sums (dialect.setting_of mixed_dialect) mixed_func) × SetsConstantsFirst h.plan target
 mixed = (mixed_shape, sets_first)

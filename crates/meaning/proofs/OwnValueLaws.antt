@@ -15,9 +15,10 @@ use Rattle.dialect_core.proofs.LineLemmas.{all_at}
 use Rattle.dialect_core.proofs.TypingLaws.{own_type}
 use Rattle.meaning.specs.Machine.{At, Action, Applies, Block, trace}
 use Rattle.meaning.specs.Code.{Body}
+use Rattle.meaning.specs.Setting.{Setting}
 use Rattle.meaning.specs.Dialect.{option_type, typed_action, typed_row, typed_block, typed_body, same_value, start}
 
-module _ (c : ContextData) (f : OpRef) (g : Func) (is : func_in (type_trees c.types) c f ≡ Some g) where
+module _ (setting : Setting) (c : ContextData) (f : OpRef) (g : Func) (is : func_in (type_trees c.types) c f ≡ Some g) where
   abbrev Own : List Value → Type 0
   Own vs = (k : ℕ) (v : Value) → slice_get vs k ≡ Some v → IsValueOf g v
 
@@ -29,25 +30,25 @@ module _ (c : ContextData) (f : OpRef) (g : Func) (is : func_in (type_trees c.ty
       let rest = types_same vs (λ k w at. own (suc k) w at) in
       cc
 
-  action_same : (o : DialectOp) (k : Kind) → Own o.operands → typed_action (type_in c) o k ≡ typed_action (value_type g) o k
+  action_same : (o : DialectOp) (k : Kind) → Own o.operands → typed_action setting (type_in c) o k ≡ typed_action setting (value_type g) o k
   action_same o (ConstantOp value) own = refl
   action_same o (RowOp op) own = ap (λ (ts : List TypeTree). let a : Action Value = Applies op (option_type o.result) ts (map At o.operands) in a) (types_same o.operands own)
 
-  rows_same : (os : List DialectOp) → ((k : ℕ) (o : DialectOp) → slice_get os k ≡ Some o → Own o.operands) → map (typed_row (type_in c)) os ≡ map (typed_row (value_type g)) os
+  rows_same : (os : List DialectOp) → ((k : ℕ) (o : DialectOp) → slice_get os k ≡ Some o → Own o.operands) → map (typed_row setting (type_in c)) os ≡ map (typed_row setting (value_type g)) os
   rows_same [] own = refl
   rows_same (o ∷ os) own =
       let here = action_same o o.kind (own 0 o refl) in
       let rest = rows_same os (λ k x at. own (suc k) x at) in
       cc
 
-  blocks_same : (bs : List DialectBlock) → ((j k : ℕ) (b : DialectBlock) (o : DialectOp) → slice_get bs j ≡ Some b → slice_get b.ops k ≡ Some o → Own o.operands) → map (typed_block (type_in c) g) bs ≡ map (typed_block (value_type g) g) bs
+  blocks_same : (bs : List DialectBlock) → ((j k : ℕ) (b : DialectBlock) (o : DialectOp) → slice_get bs j ≡ Some b → slice_get b.ops k ≡ Some o → Own o.operands) → map (typed_block setting (type_in c) g) bs ≡ map (typed_block setting (value_type g) g) bs
   blocks_same [] own = refl
   blocks_same (b ∷ bs) own =
       let here = rows_same b.ops (λ k o at. own 0 k b o refl at) in
       let rest = blocks_same bs (λ j k d o at within. own (suc j) k d o at within) in
       cc
 
-  pub own_body : HasOwnValues g → typed_body (type_in c) g ≡ typed_body (value_type g) g
+  pub own_body : HasOwnValues g → typed_body setting (type_in c) g ≡ typed_body setting (value_type g) g
   own_body own =
       let operands : (j k : ℕ) (b : DialectBlock) (o : DialectOp) → slice_get g.blocks j ≡ Some b → slice_get b.ops k ≡ Some o → Own o.operands =
       λ j k b o at within i v here.

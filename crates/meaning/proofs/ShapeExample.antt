@@ -10,7 +10,7 @@ use Rattle.meaning.specs.Llvm as llvm
 use Rattle.meaning.specs.Llvm.{Key, ParamKey, ResultKey}
 use Rattle.meaning.specs.Dialect as dialect
 use Rattle.meaning.specs.Shape.{Plan, IsPlan, among, SameBlock, SameShape}
-use Rattle.meaning.specs.Examples.{same_places, sums, sums_module, sums_func}
+use Rattle.meaning.specs.Examples.{same_places, sums, sums_module, sums_dialect, sums_func}
 
 abbrev pub first_arg : Value
 first_arg = Argument (record { 0 = 1 }) 0
@@ -31,7 +31,7 @@ value_of _ = None
 
 -- the rows of the dialect's one block, of which the first is the constant
 abbrev pub rows : List (Row Value)
-rows = flat_map (λ (b : Block Value). b.rows) (map (dialect.block sums_func) sums_func.blocks)
+rows = flat_map (λ (b : Block Value). b.rows) (map (dialect.block (dialect.setting_of sums_dialect) sums_func) sums_func.blocks)
 
 abbrev pub plan : Plan
 plan = record { value = value_of; hoisted = take 1 rows }
@@ -62,7 +62,7 @@ is_plan = record {
   apart = each (λ k w. among plan.hoisted w ≡ false) refl refl refl refl refl;
 }
 
-blocks : (place : ℕ) → BothOrNone (SameBlock same_places plan (λ b. b) place) (slice_get (map (llvm.block sums_module sums) sums.blocks) place) (slice_get (map (dialect.block sums_func) sums_func.blocks) place)
+blocks : (place : ℕ) → BothOrNone (SameBlock same_places plan (λ b. b) place) (slice_get (map (llvm.block (llvm.setting_of sums_module) sums) sums.blocks) place) (slice_get (map (dialect.block (dialect.setting_of sums_dialect) sums_func) sums_func.blocks) place)
 blocks zero = record {
   front = take 1 rows;
   rest = drop 1 rows;
@@ -79,7 +79,7 @@ blocks zero = record {
 }
 blocks (suc n) = tt
 
-pub sums_shape : SameShape same_places sums_module sums sums_func
+pub sums_shape : SameShape same_places (llvm.setting_of sums_module) sums (dialect.setting_of sums_dialect) sums_func
 sums_shape = record {
   plan = plan;
   is_plan = is_plan;

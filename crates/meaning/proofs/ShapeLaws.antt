@@ -1,13 +1,12 @@
 -- A function of the dialect that stands for one of LLVM has its traces.
 use Rattle.std.proofs.Common.{◌≡◌, ◌∙◌, ℕ, zero, suc, Bool, false, inr, List, [], ◌∷◌, ◌++◌, Option, Some, None, map, slice_get, refl, sym, ap, subst}
 use Rattle.std.proofs.lemmas.Bool.{false≢true}
-use mathlib.Core.Path.{fun_ext}
-use Rattle.llvm_core.specs.Data as L
-use Rattle.llvm_core.specs.Data.{ModuleData, Function, ConstTree, IntConst, PlaceholderConst, Constant, Parameter, Result, TypeTree, RowData, Instruction, Phi, Applied, Placed}
+use Rattle.llvm_core.specs.Data.{Function}
 use Rattle.dialect_core.specs.Data.{Func}
 use Rattle.dialect_core.specs.declared.ops.Value.{Value}
 use Rattle.meaning.specs.Terms.{Term, Match, rename}
-use Rattle.meaning.specs.Machine.{Fixed, Row, Block, Entered, State, straight, shows, begin, enter_first, first, trace}
+use Rattle.meaning.specs.Machine.{Row, Block, Entered, State, straight, shows, begin, enter_first, first, trace}
+use Rattle.meaning.specs.Setting.{Setting}
 use Rattle.meaning.specs.Pairs.{Matched, BothOrNone}
 use Rattle.meaning.specs.Code.{under}
 use Rattle.meaning.specs.Llvm as llvm
@@ -108,44 +107,6 @@ module _ (match : Match) (plan : Plan) (is_plan : IsPlan plan) (name : List ℕ)
     pub same_traces : (choices : List ℕ) → map (under match name) (trace Key same_key start source choices) ≡ trace Value same_value start' target choices
     same_traces choices = traces_follow match plan is_plan name false BlockPair edges_match rows_follow source target same.blocks start start' first_follows choices false≢true
 
-pub same_shape : (match : Match) (d : ModuleData) (f : Function) (g : Func) → SameShape match d f g → (choices : List ℕ) → map (under match f.name) ((llvm.body d f).trace choices) ≡ (dialect.body g).trace choices
-same_shape match d f g h choices =
-    same_traces match h.plan h.is_plan f.name (map (llvm.block d f) f.blocks) (map (dialect.block g) g.blocks) h.same (llvm.start f) (dialect.start g.blocks) h.starts choices
-
--- ---- the module beside a function: no constant reads it
-
-const_alike : (d d' : ModuleData) (c : ConstTree) → llvm.const_term d c ≡ llvm.const_term d' c
-const_alike d d' (IntConst ty n) = refl
-const_alike d d' (PlaceholderConst n ty) = refl
-
-operand_alike : (d d' : ModuleData) (o : L.Operand) → llvm.operand d o ≡ llvm.operand d' o
-operand_alike d d' (Constant c) = ap Fixed (const_alike d d' c)
-operand_alike d d' (Parameter f i) = refl
-operand_alike d d' (Result n) = refl
-
-action_alike : (d d' : ModuleData) (f : Function) (type : TypeTree) (r : RowData) → llvm.action d f type r ≡ llvm.action d' f type r
-action_alike d d' f type r = let o : llvm.operand d ≡ llvm.operand d' = fun_ext (operand_alike d d') in cc o
-
-row_alike : (d d' : ModuleData) (f : Function) (p : Placed) (i : Instruction) → llvm.row d f p i ≡ llvm.row d' f p i
-row_alike d d' f p (Phi es) = refl
-row_alike d d' f p (Applied r) = cc (action_alike d d' f p.type r)
-
-move_alike : (d d' : ModuleData) (from : ℕ) (p : Placed) → llvm.phi_move d from p ≡ llvm.phi_move d' from p
-move_alike d d' from p = simp (operand_alike d d')
-
-edge_alike : (d d' : ModuleData) (f : Function) (from to : ℕ) → llvm.edge d f from to ≡ llvm.edge d' f from to
-edge_alike d d' f from to = let m : llvm.phi_move d from ≡ llvm.phi_move d' from = fun_ext (move_alike d d' from) in rw m
-
-block_alike : (d d' : ModuleData) (f : Function) (b : L.Block) → llvm.block d f b ≡ llvm.block d' f b
-block_alike d d' f b = let e : llvm.edge d f b.number ≡ llvm.edge d' f b.number = fun_ext (edge_alike d d' f b.number) in rw e (simp (row_alike d d' f))
-
-pub blocks_alike : (d d' : ModuleData) (f : Function) → map (llvm.block d f) f.blocks ≡ map (llvm.block d' f) f.blocks
-blocks_alike d d' f = ap (λ (b : L.Block → Block Key). map b f.blocks) (fun_ext (block_alike d d' f))
-
-pub any_module : (match : Match) (d d' : ModuleData) (f : Function) (g : Func) → SameShape match d f g → SameShape match d' f g
-any_module match d d' f g h = record {
-  plan = h.plan;
-  is_plan = h.is_plan;
-  starts = h.starts;
-  same = subst (λ (bs : List (Block Key)). SameBlocks match h.plan (match.block f.name) bs (map (dialect.block g) g.blocks)) (blocks_alike d d' f) h.same;
-}
+pub same_shape : (match : Match) (a : Setting) (f : Function) (b : Setting) (g : Func) → SameShape match a f b g → (choices : List ℕ) → map (under match f.name) ((llvm.body a f).trace choices) ≡ (dialect.body b g).trace choices
+same_shape match a f b g h choices =
+    same_traces match h.plan h.is_plan f.name (map (llvm.block a f) f.blocks) (map (dialect.block b g) g.blocks) h.same (llvm.start f) (dialect.start g.blocks) h.starts choices

@@ -17,7 +17,7 @@ use Rattle.meaning.specs.Dialect as dialect
 use Rattle.meaning.specs.Shape.{Plan, IsPlan, among}
 use Rattle.meaning.specs.Woven.{KeepsPlan, WovenBlock, WovenShape}
 use Rattle.meaning.specs.Examples.{same_places}
-use Rattle.meaning.specs.WovenExamples.{late, late_module, late_func}
+use Rattle.meaning.specs.WovenExamples.{late, late_module, late_func, late_dialect}
 
 abbrev arg : ℕ → ℕ → Value
 arg b i = Argument (record { 0 = b }) i
@@ -83,7 +83,7 @@ is_plan = record {
 }
 
 abbrev rows : ℕ → List (Row Value)
-rows place = option_map_or (λ (b : Block Value). b.rows) (slice_get (map (dialect.block late_func) late_func.blocks) place) []
+rows place = option_map_or (λ (b : Block Value). b.rows) (slice_get (map (dialect.block (dialect.setting_of late_dialect) late_func) late_func.blocks) place) []
 
 abbrev Kept : Row Value → Type 0
 Kept r = KeepsPlan plan r.action r.result
@@ -91,7 +91,7 @@ Kept r = KeepsPlan plan r.action r.result
 kept : (rows : List (Row Value)) → AllByRecursion Kept rows → All Kept rows
 kept rows h = All-from_recursion Kept rows h
 
-blocks : (place : ℕ) → BothOrNone (WovenBlock same_places plan (λ b. b)) (slice_get (map (llvm.block late_module late) late.blocks) place) (slice_get (map (dialect.block late_func) late_func.blocks) place)
+blocks : (place : ℕ) → BothOrNone (WovenBlock same_places plan (λ b. b)) (slice_get (map (llvm.block (llvm.setting_of late_module) late) late.blocks) place) (slice_get (map (dialect.block (dialect.setting_of late_dialect) late_func) late_func.blocks) place)
 blocks zero = record {
   constants = kept (rows 0) (tt, tt);
   pairs = (record { action = (refl, refl, refl, (refl, tt)); result = refl }, tt);
@@ -115,7 +115,7 @@ blocks (suc (suc zero)) = record {
 }
 blocks (suc (suc (suc n))) = tt
 
-pub late_shape : WovenShape same_places late_module late late_func
+pub late_shape : WovenShape same_places (llvm.setting_of late_module) late (dialect.setting_of late_dialect) late_func
 late_shape = record {
   plan = plan;
   is_plan = is_plan;

@@ -3,11 +3,12 @@
 use Rattle.std.proofs.Common.{◌≡◌, ◌∙◌, ℕ, Bool, true, false, not, ◌||◌, inl, inr, List, [], ◌∷◌, Option, Some, None, All, map, slice_get, if◌then◌else◌, refl, sym, ap, subst, ⊎_elim}
 use Rattle.std.proofs.lemmas.Bool.{false≢true, both_ways, or_cases}
 use Rattle.std.proofs.lemmas.List.Elements.{All-head, All-tail}
-use Rattle.llvm_core.specs.Data.{ModuleData, Function}
+use Rattle.llvm_core.specs.Data.{Function}
 use Rattle.dialect_core.specs.Data.{Func}
 use Rattle.dialect_core.specs.declared.ops.Value.{Value}
 use Rattle.meaning.specs.Terms.{Term, Unset, Match, is_unset, rename}
 use Rattle.meaning.specs.Machine.{Operand, At, Fixed, Action, Holds, Applies, Row, Block, Entered, State, apply, set_in, straight, shows, begin, enter_first, first, trace, reads_unset}
+use Rattle.meaning.specs.Setting.{Setting}
 use Rattle.meaning.specs.Pairs.{Matched, BothOrNone}
 use Rattle.meaning.specs.Code.{under}
 use Rattle.meaning.specs.Llvm as llvm
@@ -17,7 +18,6 @@ use Rattle.meaning.specs.Dialect.{same_value}
 use Rattle.meaning.specs.Shape.{Plan, IsPlan, among, operands_of, SameAction, SameRow, SameEdge}
 use Rattle.meaning.specs.Woven.{sets_constant, paired, KeepsPlan, AreSet, ReadsOnlySet, SetsConstantsFirst, WovenBlock, WovenBlocks, WovenShape, SameTrace, func_reads_unset}
 use Rattle.meaning.proofs.Simulation.{Follows, AreKnown, not_hoisted, constant_agrees, less_agrees, action_follows}
-use Rattle.meaning.proofs.ShapeLaws.{blocks_alike}
 use Rattle.meaning.proofs.Runs.{known, Loosely, entered, row_follows, arrive_follows, blocks_at, traces_follow}
 
 -- a value that the rows set, whatever its term
@@ -187,20 +187,10 @@ module _ (match : Match) (plan : Plan) (is_plan : IsPlan plan) (name : List ℕ)
       pub first_traces : (choices : List ℕ) → map (under match name) (trace Key same_key start source choices) ≡ trace Value same_value start' target choices
       first_traces choices = traces_follow match plan is_plan name false (Pair false) (edges_match false) (rows_follow false) source target same.blocks start start' (inr first_enters) choices false≢true
 
-pub woven : (match : Match) (d : ModuleData) (f : Function) (g : Func) → WovenShape match d f g → (choices : List ℕ) → func_reads_unset g choices ≡ false → SameTrace match d f g choices
-woven match d f g h choices set =
-    woven_traces match h.plan h.is_plan f.name (map (llvm.block d f) f.blocks) (map (dialect.block g) g.blocks) h.same (llvm.start f) (dialect.start g.blocks) h.starts h.unset choices set
+pub woven : (match : Match) (a : Setting) (f : Function) (b : Setting) (g : Func) → WovenShape match a f b g → (choices : List ℕ) → func_reads_unset b g choices ≡ false → SameTrace match a f b g choices
+woven match a f b g h choices set =
+    woven_traces match h.plan h.is_plan f.name (map (llvm.block a f) f.blocks) (map (dialect.block b g) g.blocks) h.same (llvm.start f) (dialect.start g.blocks) h.starts h.unset choices set
 
-pub woven_first : (match : Match) (d : ModuleData) (f : Function) (g : Func) (h : WovenShape match d f g) → SetsConstantsFirst h.plan (map (dialect.block g) g.blocks) → (choices : List ℕ) → SameTrace match d f g choices
-woven_first match d f g h sets choices =
-    first_traces match h.plan h.is_plan f.name (map (llvm.block d f) f.blocks) (map (dialect.block g) g.blocks) h.same (llvm.start f) (dialect.start g.blocks) h.starts sets choices
-
--- it does not depend on the module beside the function either, and the plan stays
-abbrev pub any_module_woven : (match : Match) (d d' : ModuleData) (f : Function) (g : Func) → WovenShape match d f g → WovenShape match d' f g
-any_module_woven match d d' f g h = record {
-  plan = h.plan;
-  is_plan = h.is_plan;
-  starts = h.starts;
-  unset = h.unset;
-  same = subst (λ (bs : List (Block Key)). WovenBlocks match h.plan (match.block f.name) bs (map (dialect.block g) g.blocks)) (blocks_alike d d' f) h.same;
-}
+pub woven_first : (match : Match) (a : Setting) (f : Function) (b : Setting) (g : Func) (h : WovenShape match a f b g) → SetsConstantsFirst h.plan (map (dialect.block b g) g.blocks) → (choices : List ℕ) → SameTrace match a f b g choices
+woven_first match a f b g h sets choices =
+    first_traces match h.plan h.is_plan f.name (map (llvm.block a f) f.blocks) (map (dialect.block b g) g.blocks) h.same (llvm.start f) (dialect.start g.blocks) h.starts sets choices

@@ -18,6 +18,7 @@ use Rattle.kinds.specs.declared.op.LLVMIntPredicate.TheVariants as I
 use Rattle.meaning.specs.Terms.{Term, Param, Unset}
 use Rattle.meaning.specs.Machine.{Operand, At, Action, Holds, Applies, Row, Edge, Block, Item, trace}
 use Rattle.meaning.specs.Llvm.{int_of}
+use Rattle.meaning.specs.Setting.{Setting, TellsNothing}
 use Rattle.meaning.specs.Code.{Code, Entry, Body, Symbol, FunctionSymbol, Linkage, External, AvailableExternally, LinkOnceAny, LinkOnceODR, WeakAny, WeakODR, Appending, Internal, Private, ExternalWeak, Common, Other}
 
 -- the type of LLVM that a type of the dialect stands for: both sides have one tree of types
@@ -25,8 +26,8 @@ abbrev pub type_of : TypeTree → TypeTree
 type_of t = t
 
 -- the term of a constant, a line for each kind
-abbrev pub attr_term : AttrTree → Term
-attr_term (IntegerAttr ty n) = int_of (type_of ty) n
+abbrev pub attr_term : Setting → AttrTree → Term
+attr_term setting (IntegerAttr ty n) = int_of (type_of ty) n
 
 abbrev pub same_value : Value → Value → Bool
 same_value (Result m) (Result n) = nat_eq m.0 n.0
@@ -58,20 +59,20 @@ predicate_of P.SLE = I.LLVMIntSLE
 -- The types of the operands of an operation are those of a typing: of a context, which gives each value its type, whichever
 -- function it belongs to (`type_in`), or of a function, which gives its own values their types, and any other none
 -- (`value_type`).
-module _ (types : Typing) where
+module _ (setting : Setting) (types : Typing) where
   -- a constant operation holds the term of its constant; any other applies its row to its operands
   abbrev pub typed_action : DialectOp → Kind → Action Value
-  typed_action o (ConstantOp value) = Holds (attr_term value)
+  typed_action o (ConstantOp value) = Holds (attr_term setting value)
   typed_action o (RowOp op) = Applies op (option_type o.result) (map (λ (v : Value). option_type (types v)) o.operands) (map At o.operands)
 
   abbrev pub typed_row : DialectOp → Row Value
   typed_row o = record { action = typed_action o o.kind; result = Result (record { 0 = o.number }) }
 
-abbrev pub action : Func → DialectOp → Kind → Action Value
-action f o k = typed_action (value_type f) o k
+abbrev pub action : Setting → Func → DialectOp → Kind → Action Value
+action setting f o k = typed_action setting (value_type f) o k
 
-abbrev pub row : Func → DialectOp → Row Value
-row f o = typed_row (value_type f) o
+abbrev pub row : Setting → Func → DialectOp → Row Value
+row setting f o = typed_row setting (value_type f) o
 
 -- an argument takes the edge's value at its place, and nothing where the edge has none
 abbrev pub argument_moves : BlockRef → ℕ → ℕ → List Value → List (Value × Option (Operand Value))
@@ -89,14 +90,14 @@ edge f s = record {
   moves = option_map_or (λ (b : DialectBlock). argument_moves s.block 0 (length b.args) s.args) (find (λ (b : DialectBlock). nat_eq b.number s.block.0) f.blocks) [];
 }
 
-abbrev pub typed_block : Typing → Func → DialectBlock → Block Value
-typed_block types f b = record {
-  rows = map (typed_row types) b.ops;
+abbrev pub typed_block : Setting → Typing → Func → DialectBlock → Block Value
+typed_block setting types f b = record {
+  rows = map (typed_row setting types) b.ops;
   edges = map (edge f) (flat_map (λ (o : DialectOp). o.successors) b.ops);
 }
 
-abbrev pub block : Func → DialectBlock → Block Value
-block f b = typed_block (value_type f) f b
+abbrev pub block : Setting → Func → DialectBlock → Block Value
+block setting f b = typed_block setting (value_type f) f b
 
 -- ---- the code of a module
 
@@ -106,14 +107,14 @@ start [] v = Unset
 start (b ∷ bs) (Result r) = Unset
 start (b ∷ bs) (Argument c i) = if nat_eq c.0 b.number && nat_lt i (length b.args) then Param i else Unset
 
-abbrev pub typed_body : Typing → Func → Body
-typed_body types f = record {
+abbrev pub typed_body : Setting → Typing → Func → Body
+typed_body setting types f = record {
   blocks = length f.blocks;
-  trace = trace Value same_value (start f.blocks) (map (typed_block types f) f.blocks);
+  trace = trace Value same_value (start f.blocks) (map (typed_block setting types f) f.blocks);
 }
 
-abbrev pub body : Func → Body
-body f = typed_body (value_type f) f
+abbrev pub body : Setting → Func → Body
+body setting f = typed_body setting (value_type f) f
 
 abbrev pub linkage : LinkageAttr → Linkage
 linkage K.ExternalLinkage = External
@@ -138,16 +139,20 @@ abbrev pub has_blocks : Func → Bool
 has_blocks f = nat_lt 0 (length f.blocks)
 
 -- a function is in space 0
-abbrev pub entry : Func → Entry
-entry f = record {
+abbrev pub entry : Setting → Func → Entry
+entry setting f = record {
   name = f.name;
   symbol = FunctionSymbol (type_of f.type) (linkage f.linkage) 0 (has_blocks f);
-  body = if has_blocks f then Some (body f) else None;
+  body = if has_blocks f then Some (body setting f) else None;
 }
+
+-- what a module tells its bodies
+abbrev pub setting_of : DialectModule → Setting
+setting_of d = TellsNothing
 
 -- the symbols and bodies of a module
 abbrev pub code_of : DialectModule → Code
-code_of d = record { entries = map entry d.functions }
+code_of d = record { entries = map (entry (setting_of d)) d.functions }
 
 -- what the entries of a module show, for reading: the symbols, and the traces for one list of choices
 abbrev pub symbols_of : DialectModule → List (List ℕ × Symbol)

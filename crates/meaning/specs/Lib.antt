@@ -1,6 +1,7 @@
 -- The definitions that clauses cite.
 pub mod Terms
 pub mod Machine
+pub mod Setting
 pub mod Code
 pub mod Llvm
 pub mod Dialect

@@ -6,6 +6,7 @@ use Rattle.llvm_core.specs.Data as L
 use Rattle.llvm_core.specs.Data.{TypeTree, IntType, FunctionType, TypeTrees, NoTypes, ThenType, ConstTree, IntConst, PlaceholderConst, RowData, Instruction, Phi, Applied as AppliedRow, Constant, Parameter, Result, Placed, ModuleData, operand_type, targets, phi_entries}
 use Rattle.meaning.specs.Terms.{Term, Param, Unset, Int}
 use Rattle.meaning.specs.Machine.{Operand, At, Fixed, Action, Applies, Row, Edge, Block, Item, trace}
+use Rattle.meaning.specs.Setting.{Setting, TellsNothing}
 use Rattle.meaning.specs.Code.{Code, Entry, Body, Symbol, FunctionSymbol, External}
 
 abbrev pub int_of : TypeTree → ℕ → Term
@@ -13,9 +14,9 @@ int_of (IntType w) n = Int w n
 int_of _ n = Unset
 
 -- the term of a constant of the module, a line for each kind
-abbrev pub const_term : ModuleData → ConstTree → Term
-const_term d (IntConst ty n) = int_of ty n
-const_term d (PlaceholderConst n ty) = Unset
+abbrev pub const_term : Setting → ConstTree → Term
+const_term setting (IntConst ty n) = int_of ty n
+const_term setting (PlaceholderConst n ty) = Unset
 
 -- what sets a term in a run: a parameter of a function, or the result of an instruction
 pub data Key : Type 0 where
@@ -27,43 +28,43 @@ same_key (ParamKey f i) (ParamKey g j) = nat_eq f g && nat_eq i j
 same_key (ResultKey m) (ResultKey n) = nat_eq m n
 same_key _ _ = false
 
-abbrev pub operand : ModuleData → L.Operand → Operand Key
-operand d (Constant c) = Fixed (const_term d c)
-operand d (Parameter f i) = At (ParamKey f i)
-operand d (Result n) = At (ResultKey n)
+abbrev pub operand : Setting → L.Operand → Operand Key
+operand setting (Constant c) = Fixed (const_term setting c)
+operand setting (Parameter f i) = At (ParamKey f i)
+operand setting (Result n) = At (ResultKey n)
 
 -- ---- rows and edges
 
 -- what a row shows, with a result of the type
-abbrev pub action : ModuleData → L.Function → TypeTree → RowData → Action Key
-action d f type r = Applies r.op type (map (operand_type f) r.operands) (map (operand d) r.operands)
+abbrev pub action : Setting → L.Function → TypeTree → RowData → Action Key
+action setting f type r = Applies r.op type (map (operand_type f) r.operands) (map (operand setting) r.operands)
 
 -- a phi is no row
-abbrev pub row : ModuleData → L.Function → Placed → Instruction → Option (Row Key)
-row d f p (Phi entries) = None
-row d f p (AppliedRow r) = Some (record { action = action d f p.type r; result = ResultKey p.number })
+abbrev pub row : Setting → L.Function → Placed → Instruction → Option (Row Key)
+row setting f p (Phi entries) = None
+row setting f p (AppliedRow r) = Some (record { action = action setting f p.type r; result = ResultKey p.number })
 
 -- a phi takes the operand of its first entry for the block that the edge comes from
-abbrev pub entry_for : ModuleData → ℕ → List (L.Operand × ℕ) → Option (Operand Key)
-entry_for d from entries = option_map (λ (e : L.Operand × ℕ). operand d e.0) (find (λ (e : L.Operand × ℕ). nat_eq e.1 from) entries)
+abbrev pub entry_for : Setting → ℕ → List (L.Operand × ℕ) → Option (Operand Key)
+entry_for setting from entries = option_map (λ (e : L.Operand × ℕ). operand setting e.0) (find (λ (e : L.Operand × ℕ). nat_eq e.1 from) entries)
 
-abbrev pub phi_move : ModuleData → ℕ → Placed → Option (Key × Option (Operand Key))
-phi_move d from p = option_map (λ (es : List (L.Operand × ℕ)). (ResultKey p.number, entry_for d from es)) (phi_entries p.instruction)
+abbrev pub phi_move : Setting → ℕ → Placed → Option (Key × Option (Operand Key))
+phi_move setting from p = option_map (λ (es : List (L.Operand × ℕ)). (ResultKey p.number, entry_for setting from es)) (phi_entries p.instruction)
 
 -- the place of a block in a body, which is past the end where the body has no such block
 abbrev pub place_of : List L.Block → ℕ → ℕ
 place_of blocks n = option_map_or (λ i. i) (position_from (λ (b : L.Block). nat_eq b.number n) 0 blocks) (length blocks)
 
-abbrev pub edge : ModuleData → L.Function → ℕ → ℕ → Edge Key
-edge d f from to = record {
+abbrev pub edge : Setting → L.Function → ℕ → ℕ → Edge Key
+edge setting f from to = record {
   to = place_of f.blocks to;
-  moves = option_map_or (λ (b : L.Block). filter_map (phi_move d from) b.instructions) (find (λ (b : L.Block). nat_eq b.number to) f.blocks) [];
+  moves = option_map_or (λ (b : L.Block). filter_map (phi_move setting from) b.instructions) (find (λ (b : L.Block). nat_eq b.number to) f.blocks) [];
 }
 
-abbrev pub block : ModuleData → L.Function → L.Block → Block Key
-block d f b = record {
-  rows = filter_map (λ (p : Placed). row d f p p.instruction) b.instructions;
-  edges = map (edge d f b.number) (flat_map (λ (p : Placed). targets p.instruction) b.instructions);
+abbrev pub block : Setting → L.Function → L.Block → Block Key
+block setting f b = record {
+  rows = filter_map (λ (p : Placed). row setting f p p.instruction) b.instructions;
+  edges = map (edge setting f b.number) (flat_map (λ (p : Placed). targets p.instruction) b.instructions);
 }
 
 -- ---- the code of a module
@@ -81,30 +82,34 @@ abbrev pub start : L.Function → Key → Term
 start f (ParamKey g i) = if nat_eq g f.number && nat_lt i (arity f.type) then Param i else Unset
 start f (ResultKey n) = Unset
 
-abbrev pub body : ModuleData → L.Function → Body
-body d f = record {
+abbrev pub body : Setting → L.Function → Body
+body setting f = record {
   blocks = length f.blocks;
-  trace = trace Key same_key (start f) (map (block d f) f.blocks);
+  trace = trace Key same_key (start f) (map (block setting f) f.blocks);
 }
 
 abbrev pub has_blocks : L.Function → Bool
 has_blocks f = nat_lt 0 (length f.blocks)
 
 -- a function is external: no other linkage is held yet
-abbrev pub entry : ModuleData → L.Function → Entry
-entry d f = record {
+abbrev pub entry : Setting → L.Function → Entry
+entry setting f = record {
   name = f.name;
   symbol = FunctionSymbol f.type External f.space (has_blocks f);
-  body = if has_blocks f then Some (body d f) else None;
+  body = if has_blocks f then Some (body setting f) else None;
 }
 
 -- a function whose name begins with `llvm.`
 abbrev pub is_intrinsic : L.Function → Bool
 is_intrinsic f = starts_with nat_eq f.name (codes "llvm.")
 
+-- what a module tells its bodies
+abbrev pub setting_of : ModuleData → Setting
+setting_of d = TellsNothing
+
 -- the symbols and bodies of a module, intrinsics aside
 abbrev pub code_of : ModuleData → Code
-code_of d = record { entries = map (entry d) (filter (λ (f : L.Function). not (is_intrinsic f)) d.functions) }
+code_of d = record { entries = map (entry (setting_of d)) (filter (λ (f : L.Function). not (is_intrinsic f)) d.functions) }
 
 -- what the entries of a module show, for reading: the symbols, and the traces for one list of choices
 abbrev pub symbols_of : ModuleData → List (List ℕ × Symbol)

@@ -8,6 +8,7 @@ use Rattle.dialect_core.specs.Data as D
 use Rattle.kinds.specs.declared.rules.Family.TheVariants.{Builds}
 use Rattle.meaning.specs.Terms.{Term, Unset, Match, family, rename, rename_type}
 use Rattle.meaning.specs.Machine.{Operand, At, Fixed, Action, Holds, Applies, Row, Edge, Block, begin, straight}
+use Rattle.meaning.specs.Setting.{Setting}
 use Rattle.meaning.specs.Pairs.{Matched, BothOrNone}
 use Rattle.meaning.specs.Llvm as Llvm
 use Rattle.meaning.specs.Llvm.{Key}
@@ -113,10 +114,11 @@ pub record IsPlan (plan : Plan) : Type 0 where
   pub one_to_one : (j k : Key) (w : Value) → plan.value j ≡ Some w → plan.value k ≡ Some w → j ≡ k
   pub apart : (k : Key) (w : Value) → plan.value k ≡ Some w → among plan.hoisted w ≡ false
 
--- the function g of the dialect stands for the function f of the module d, under a match of blocks and structs
-pub record SameShape (match : Match) (d : L.ModuleData) (f : L.Function) (g : D.Func) : Type 0 where
+-- The function g of the dialect, whose module tells b, stands for the function f of LLVM, whose module tells a, under a
+-- match of blocks and structs.
+pub record SameShape (match : Match) (a : Setting) (f : L.Function) (b : Setting) (g : D.Func) : Type 0 where
   pub plan : Plan
   pub is_plan : IsPlan plan
   -- before the first event, values have the terms of what they stand for
   pub starts : (k : Key) (w : Value) → plan.value k ≡ Some w → rename match (Llvm.start f k) ≡ Dialect.start g.blocks w
-  pub same : SameBlocks match plan (match.block f.name) (map (Llvm.block d f) f.blocks) (map (Dialect.block g) g.blocks)
+  pub same : SameBlocks match plan (match.block f.name) (map (Llvm.block a f) f.blocks) (map (Dialect.block b g) g.blocks)

@@ -6,6 +6,7 @@ use Rattle.dialect_core.specs.declared.ops.Value.{Value}
 use Rattle.dialect_core.specs.Data as D
 use Rattle.meaning.specs.Terms.{Unset, Match, rename}
 use Rattle.meaning.specs.Machine.{Operand, At, Fixed, Action, Holds, Applies, Row, Block, reads_unset}
+use Rattle.meaning.specs.Setting.{Setting}
 use Rattle.meaning.specs.Pairs.{Matched, BothOrNone}
 use Rattle.meaning.specs.Code.{under}
 use Rattle.meaning.specs.Llvm as Llvm
@@ -64,29 +65,29 @@ module _ (match : Match) (plan : Plan) (here : ℕ → ℕ) where
     pub first : here 0 ≡ 0
     pub blocks : (place : ℕ) → BothOrNone WovenBlock (slice_get source place) (slice_get target (here place))
 
--- The function g of the dialect stands for the function f of the module d, under a match of blocks and structs,
--- with constants at any places. The plan's hoisted rows are here its constants.
-pub record WovenShape (match : Match) (d : L.ModuleData) (f : L.Function) (g : D.Func) : Type 0 where
+-- The function g of the dialect, whose module tells b, stands for the function f of LLVM, whose module tells a, under a
+-- match of blocks and structs, with constants at any places. The plan's hoisted rows are here its constants.
+pub record WovenShape (match : Match) (a : Setting) (f : L.Function) (b : Setting) (g : D.Func) : Type 0 where
   pub plan : Plan
   pub is_plan : IsPlan plan
   -- before the first event, values have the terms of what they stand for, and no constant is set
   pub starts : (k : Key) (w : Value) → plan.value k ≡ Some w → rename match (Llvm.start f k) ≡ Dialect.start g.blocks w
   pub unset : (w : Value) → among plan.hoisted w ≡ true → Dialect.start g.blocks w ≡ Unset
-  pub same : WovenBlocks match plan (match.block f.name) (map (Llvm.block d f) f.blocks) (map (Dialect.block g) g.blocks)
+  pub same : WovenBlocks match plan (match.block f.name) (map (Llvm.block a f) f.blocks) (map (Dialect.block b g) g.blocks)
 
 -- ---- what follows from it
 
 -- the run of the function of the dialect reads an unset value
-abbrev pub func_reads_unset : D.Func → List ℕ → Bool
-func_reads_unset g choices = reads_unset Value same_value (Dialect.start g.blocks) (map (Dialect.block g) g.blocks) choices
+abbrev pub func_reads_unset : Setting → D.Func → List ℕ → Bool
+func_reads_unset b g choices = reads_unset Value same_value (Dialect.start g.blocks) (map (Dialect.block b g) g.blocks) choices
 
-abbrev pub SameTrace : Match → L.ModuleData → L.Function → D.Func → List ℕ → Type 0
-SameTrace match d f g choices = map (under match f.name) ((Llvm.body d f).trace choices) ≡ (Dialect.body g).trace choices
+abbrev pub SameTrace : Match → Setting → L.Function → Setting → D.Func → List ℕ → Type 0
+SameTrace match a f b g choices = map (under match f.name) ((Llvm.body a f).trace choices) ≡ (Dialect.body b g).trace choices
 
 -- the traces are equal for every list of choices by which the function of the dialect reads no unset value
 abbrev pub WovenLaw : Type 0
-WovenLaw = (match : Match) → (d : L.ModuleData) → (f : L.Function) → (g : D.Func) → WovenShape match d f g → (choices : List ℕ) → func_reads_unset g choices ≡ false → SameTrace match d f g choices
+WovenLaw = (match : Match) → (a : Setting) → (f : L.Function) → (b : Setting) → (g : D.Func) → WovenShape match a f b g → (choices : List ℕ) → func_reads_unset b g choices ≡ false → SameTrace match a f b g choices
 
 -- the traces are equal for every list of choices, where the first block sets the constants
 abbrev pub WovenFirstLaw : Type 0
-WovenFirstLaw = (match : Match) → (d : L.ModuleData) → (f : L.Function) → (g : D.Func) → (h : WovenShape match d f g) → SetsConstantsFirst h.plan (map (Dialect.block g) g.blocks) → (choices : List ℕ) → SameTrace match d f g choices
+WovenFirstLaw = (match : Match) → (a : Setting) → (f : L.Function) → (b : Setting) → (g : D.Func) → (h : WovenShape match a f b g) → SetsConstantsFirst h.plan (map (Dialect.block b g) g.blocks) → (choices : List ℕ) → SameTrace match a f b g choices

@@ -36,7 +36,7 @@ pub fn echo_and_put()
 pub fn sums_mean()
     ensures trace { llvm.traces_of sums_module [] ≡ (Entered 0 ∷ gave 32 (sum_of wraps (sum_of no_signed (Param 0) (Param 1)) (Int 32 5)) ∷ []) ∷ [] }
     ensures dialect_trace { dialect.traces_of sums_dialect [] ≡ llvm.traces_of sums_module [] }
-    ensures shape { SameShape same_places sums_module sums sums_func }
+    ensures shape { SameShape same_places (llvm.setting_of sums_module) sums (dialect.setting_of sums_dialect) sums_func }
 {}
 
 /// A loop whose two phis take each other's value, as `swap` and `swap_dialect` of the example modules: all are read
@@ -53,27 +53,27 @@ pub fn swap_means()
 pub fn lacking_means()
     ensures trace { llvm.traces_of lacking_module (0 ∷ []) ≡ (Entered 0 ∷ branched ∷ Entered 1 ∷ gave 8 Unset ∷ []) ∷ [] }
     ensures dialect_trace { dialect.traces_of lacking_dialect (0 ∷ []) ≡ llvm.traces_of lacking_module (0 ∷ []) }
-    ensures unset { reads_unset llvm.Key llvm.same_key (llvm.start lacking) (map (llvm.block lacking_module lacking) lacking.blocks) (0 ∷ []) ≡ true }
-    ensures dialect_unset { reads_unset Value dialect.same_value (dialect.start lacking_func.blocks) (map (dialect.block lacking_func) lacking_func.blocks) (0 ∷ []) ≡ true }
+    ensures unset { reads_unset llvm.Key llvm.same_key (llvm.start lacking) (map (llvm.block (llvm.setting_of lacking_module) lacking) lacking.blocks) (0 ∷ []) ≡ true }
+    ensures dialect_unset { reads_unset Value dialect.same_value (dialect.start lacking_func.blocks) (map (dialect.block (dialect.setting_of lacking_dialect) lacking_func) lacking_func.blocks) (0 ∷ []) ≡ true }
 {}
 
 /// A loop that sets the constant it adds, as `late` and `late_dialect` of the example modules, which has the woven shape:
 /// run through the loop it gives what LLVM does, and past it the constant is read before it is set, so that the traces
 /// differ.
 pub fn late_means()
-    ensures shape { WovenShape same_places late_module late late_func }
+    ensures shape { WovenShape same_places (llvm.setting_of late_module) late (dialect.setting_of late_dialect) late_func }
     ensures trace { llvm.traces_of late_module (0 ∷ 0 ∷ 1 ∷ []) ≡ (Entered 0 ∷ tested (Param 1) ∷ Entered 1 ∷ tested (Param 1) ∷ Entered 1 ∷ tested (Param 1) ∷ Entered 2 ∷ gave 32 (plus_one (plus_one (plus_one (Param 0)))) ∷ []) ∷ [] }
     ensures dialect_trace { dialect.traces_of late_dialect (0 ∷ 0 ∷ 1 ∷ []) ≡ llvm.traces_of late_module (0 ∷ 0 ∷ 1 ∷ []) }
-    ensures set { func_reads_unset late_func (0 ∷ 0 ∷ 1 ∷ []) ≡ false }
+    ensures set { func_reads_unset (dialect.setting_of late_dialect) late_func (0 ∷ 0 ∷ 1 ∷ []) ≡ false }
     ensures past { llvm.traces_of late_module (1 ∷ []) ≡ (Entered 0 ∷ tested (Param 1) ∷ Entered 2 ∷ gave 32 (plus_one (Param 0)) ∷ []) ∷ [] }
     ensures dialect_past { dialect.traces_of late_dialect (1 ∷ []) ≡ (Entered 0 ∷ tested (Param 1) ∷ Entered 2 ∷ gave 32 (plus Unset (Param 0)) ∷ []) ∷ [] }
-    ensures unset { func_reads_unset late_func (1 ∷ []) ≡ true }
+    ensures unset { func_reads_unset (dialect.setting_of late_dialect) late_func (1 ∷ []) ≡ true }
     ensures differ { ¬ (dialect.traces_of late_dialect (1 ∷ []) ≡ llvm.traces_of late_module (1 ∷ [])) }
 {}
 
 /// The sums with the constant between them: the woven shape, the first block sets the constant before it is read, and
 /// the trace is that of LLVM.
 pub fn mixed_means()
-    ensures shape { (h : WovenShape same_places sums_module sums mixed_func) × SetsConstantsFirst h.plan (map (dialect.block mixed_func) mixed_func.blocks) }
+    ensures shape { (h : WovenShape same_places (llvm.setting_of sums_module) sums (dialect.setting_of mixed_dialect) mixed_func) × SetsConstantsFirst h.plan (map (dialect.block (dialect.setting_of mixed_dialect) mixed_func) mixed_func.blocks) }
     ensures trace { dialect.traces_of mixed_dialect [] ≡ llvm.traces_of sums_module [] }
 {}

@@ -3,7 +3,8 @@
 ghost use Rattle.std.specs.Prelude.{◌≡◌, ◌++◌, ℕ, List, Some, map};
 ghost use Rattle.meaning.specs.Terms.{Match, Term};
 ghost use Rattle.meaning.specs.Pairs.{Matched};
-ghost use Rattle.llvm_core.specs.Data.{ModuleData, Function};
+ghost use Rattle.meaning.specs.Setting.{Setting};
+ghost use Rattle.llvm_core.specs.Data.{Function};
 ghost use Rattle.dialect_types.specs.Trees.{type_trees};
 ghost use Rattle.dialect_core.specs.ContextData.{ContextData};
 ghost use Rattle.dialect_core.specs.Data.{Func, func_in, type_in};
@@ -29,9 +30,9 @@ pub fn same_code_law()
 {}
 
 /// A function of the dialect that stands for one of LLVM gives its blocks and events, under the
-/// match, for every list of branch choices.
+/// match, for every list of branch choices. Each is run in the setting that its own module makes.
 pub fn same_shape_law()
-    ensures { (match : Match) → (d : ModuleData) → (f : Function) → (g : Func) → SameShape match d f g → (choices : List ℕ) → map (under match f.name) ((llvm.body d f).trace choices) ≡ (dialect.body g).trace choices }
+    ensures { (match : Match) → (a : Setting) → (f : Function) → (b : Setting) → (g : Func) → SameShape match a f b g → (choices : List ℕ) → map (under match f.name) ((llvm.body a f).trace choices) ≡ (dialect.body b g).trace choices }
 {}
 
 /// The same where rows for constants stand at any places of any blocks, for every list of choices by which the
@@ -48,7 +49,7 @@ pub fn woven_first_law()
 /// A function of a context whose values are its own has the body, and so the traces, that it has by itself: the context
 /// gives its values the types that it gives them.
 pub fn own_values_law()
-    ensures { (c : ContextData) → (f : OpRef) → (g : Func) → func_in (type_trees c.types) c f ≡ Some g → HasOwnValues g → dialect.typed_body (type_in c) g ≡ dialect.body g }
+    ensures { (setting : Setting) → (c : ContextData) → (f : OpRef) → (g : Func) → func_in (type_trees c.types) c f ≡ Some g → HasOwnValues g → dialect.typed_body setting (type_in c) g ≡ dialect.body setting g }
 {}
 
 /// A match that leaves all where it is changes nothing.

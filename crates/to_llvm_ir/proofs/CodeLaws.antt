@@ -8,6 +8,7 @@ use Rattle.dialect_core.specs.ContextData.{ContextData}
 use Rattle.dialect_core.specs.Data as D
 use Rattle.dialect_core.specs.Form.{HasOnlyEntryConstants}
 use Rattle.dialect_core.specs.WellFormed.{IsOpenForm}
+use Rattle.meaning.specs.Setting.{Setting}
 use Rattle.meaning.specs.Pairs.{Matched, BothOrNone}
 use Rattle.meaning.specs.Code.{External, FunctionSymbol, IsDistinctNames, IsOneToOne, SameBody, SameNamed, SameCode, rename_symbol}
 use Rattle.meaning.specs.Examples.{same_places}
@@ -27,8 +28,8 @@ both_count P [] (y ∷ ys) h = absurd (h 0)
 both_count P (x ∷ xs) [] h = absurd (h 0)
 
 -- a block for each block
-pub named_count : (d : ModuleData) (g : D.Func) (f : L.Function) → ExportedFunction d g f → length f.blocks ≡ length g.blocks
-named_count d g f h = both_count (HasNames g) g.blocks f.blocks h.names
+pub named_count : (g : D.Func) (f : L.Function) → ExportedFunction g f → length f.blocks ≡ length g.blocks
+named_count g f h = both_count (HasNames g) g.blocks f.blocks h.names
 
 stays : (n m : ℕ) → m ≡ n → IsOneToOne (λ (b : ℕ). b) n m
 stays n m same = record {
@@ -39,7 +40,7 @@ stays n m same = record {
 
 -- ---- a function and what an export made of it
 
-module _ (c : ContextData) (d : ModuleData) (g : D.Func) (f : L.Function) (form : IsOpenForm c g) (h : ExportedFunction d g f) where
+module _ (c : ContextData) (g : D.Func) (f : L.Function) (form : IsOpenForm c g) (h : ExportedFunction g f) where
   some : ¬ (g.blocks ≡ [])
   some = form.1.body
 
@@ -47,29 +48,29 @@ module _ (c : ContextData) (d : ModuleData) (g : D.Func) (f : L.Function) (form 
   has_dialect = some_blocks g.blocks some
 
   count : length f.blocks ≡ length g.blocks
-  count = named_count d g f h
+  count = named_count g f h
 
   has : Llvm.has_blocks f ≡ true
   has = some_blocks f.blocks (not_empty g.blocks f.blocks count some)
 
-  exported_body : HasOnlyEntryConstants g → SameBody same_places f.name (Llvm.body d f) (Dialect.body g)
-  exported_body only = record {
+  exported_body : (a b : Setting) → HasOnlyEntryConstants g → SameBody same_places f.name (Llvm.body a f) (Dialect.body b g)
+  exported_body a b only = record {
     blocks = stays (length f.blocks) (length g.blocks) (sym count);
-    traces = woven_first same_places d f g h.shape (h.sets only);
+    traces = woven_first same_places a f b g (h.shape a b) (h.sets only a b);
   }
 
   linked : FunctionSymbol (type_of g.type) (Dialect.linkage g.linkage) 0 (Dialect.has_blocks g) ≡ FunctionSymbol (type_of g.type) External 0 (Dialect.has_blocks g)
   linked = rw form.1.linkage refl
 
-  exported_symbol : rename_symbol same_places (Llvm.entry d f).symbol ≡ (Dialect.entry g).symbol
-  exported_symbol = same_symbol same_places f.type (type_of g.type) f.space (Llvm.has_blocks f) (Dialect.has_blocks g) h.type h.space (has ∙ sym has_dialect) ∙ sym linked
+  exported_symbol : (a b : Setting) → rename_symbol same_places (Llvm.entry a f).symbol ≡ (Dialect.entry b g).symbol
+  exported_symbol a b = same_symbol same_places f.type (type_of g.type) f.space (Llvm.has_blocks f) (Dialect.has_blocks g) h.type h.space (has ∙ sym has_dialect) ∙ sym linked
 
-  exported_entry : HasOnlyEntryConstants g → SameNamed same_places (Llvm.entry d f) (Dialect.entry g)
-  exported_entry only = record {
+  exported_entry : (a b : Setting) → HasOnlyEntryConstants g → SameNamed same_places (Llvm.entry a f) (Dialect.entry b g)
+  exported_entry a b only = record {
     name = h.name;
     entry = record {
-      symbol = exported_symbol;
-      body = both same_places f.name (Llvm.has_blocks f) (Dialect.has_blocks g) (Llvm.body d f) (Dialect.body g) has has_dialect (exported_body only);
+      symbol = exported_symbol a b;
+      body = both same_places f.name (Llvm.has_blocks f) (Dialect.has_blocks g) (Llvm.body a f) (Dialect.body b g) has has_dialect (exported_body a b only);
     };
   }
 
@@ -78,40 +79,40 @@ module _ (c : ContextData) (d : ModuleData) (g : D.Func) (f : L.Function) (form 
 
 -- ---- modules
 
-pub names_exported : (d : ModuleData) (gs : List D.Func) (fs : List L.Function) → Matched (ExportedFunction d) gs fs → map (λ (f : L.Function). f.name) fs ≡ map (λ (g : D.Func). g.name) gs
-names_exported d [] [] h = refl
-names_exported d (g ∷ gs) (f ∷ fs) h = rw (h.0.name, names_exported d gs fs h.1) refl
-names_exported d [] (f ∷ fs) h = absurd h
-names_exported d (g ∷ gs) [] h = absurd h
+pub names_exported : (gs : List D.Func) (fs : List L.Function) → Matched ExportedFunction gs fs → map (λ (f : L.Function). f.name) fs ≡ map (λ (g : D.Func). g.name) gs
+names_exported [] [] h = refl
+names_exported (g ∷ gs) (f ∷ fs) h = rw (h.0.name, names_exported gs fs h.1) refl
+names_exported [] (f ∷ fs) h = absurd h
+names_exported (g ∷ gs) [] h = absurd h
 
-plain_names : (c : ContextData) (d : ModuleData) (gs : List D.Func) (fs : List L.Function) → All (IsOpenForm c) gs → Matched (ExportedFunction d) gs fs → All HasPlainName fs
-plain_names c d [] [] forms h = All-nil HasPlainName
-plain_names c d (g ∷ gs) (f ∷ fs) forms h = All-cons HasPlainName f fs (plain_name c d g f (All-head (IsOpenForm c) g gs forms) h.0) (plain_names c d gs fs (All-tail (IsOpenForm c) g gs forms) h.1)
-plain_names c d [] (f ∷ fs) forms h = absurd h
-plain_names c d (g ∷ gs) [] forms h = absurd h
+plain_names : (c : ContextData) (gs : List D.Func) (fs : List L.Function) → All (IsOpenForm c) gs → Matched ExportedFunction gs fs → All HasPlainName fs
+plain_names c [] [] forms h = All-nil HasPlainName
+plain_names c (g ∷ gs) (f ∷ fs) forms h = All-cons HasPlainName f fs (plain_name c g f (All-head (IsOpenForm c) g gs forms) h.0) (plain_names c gs fs (All-tail (IsOpenForm c) g gs forms) h.1)
+plain_names c [] (f ∷ fs) forms h = absurd h
+plain_names c (g ∷ gs) [] forms h = absurd h
 
-entries : (c : ContextData) (d : ModuleData) (gs : List D.Func) (fs : List L.Function) → All (IsOpenForm c) gs → All HasOnlyEntryConstants gs → Matched (ExportedFunction d) gs fs → Matched (SameNamed same_places) (map (Llvm.entry d) fs) (map Dialect.entry gs)
-entries c d [] [] forms only h = tt
-entries c d (g ∷ gs) (f ∷ fs) forms only h = (
-  exported_entry c d g f (All-head (IsOpenForm c) g gs forms) h.0 (All-head HasOnlyEntryConstants g gs only),
-  entries c d gs fs (All-tail (IsOpenForm c) g gs forms) (All-tail HasOnlyEntryConstants g gs only) h.1,
+entries : (c : ContextData) (a b : Setting) (gs : List D.Func) (fs : List L.Function) → All (IsOpenForm c) gs → All HasOnlyEntryConstants gs → Matched ExportedFunction gs fs → Matched (SameNamed same_places) (map (Llvm.entry a) fs) (map (Dialect.entry b) gs)
+entries c a b [] [] forms only h = tt
+entries c a b (g ∷ gs) (f ∷ fs) forms only h = (
+  exported_entry c g f (All-head (IsOpenForm c) g gs forms) h.0 a b (All-head HasOnlyEntryConstants g gs only),
+  entries c a b gs fs (All-tail (IsOpenForm c) g gs forms) (All-tail HasOnlyEntryConstants g gs only) h.1,
 )
-entries c d [] (f ∷ fs) forms only h = absurd h
-entries c d (g ∷ gs) [] forms only h = absurd h
+entries c a b [] (f ∷ fs) forms only h = absurd h
+entries c a b (g ∷ gs) [] forms only h = absurd h
 
 -- function by function
-pub traces_exported : (c : ContextData) (d : ModuleData) (gs : List D.Func) (fs : List L.Function) → All (IsOpenForm c) gs → Matched (ExportedFunction d) gs fs → Matched (HasTraces d) gs fs
-traces_exported c d [] [] forms h = tt
-traces_exported c d (g ∷ gs) (f ∷ fs) forms h = (
-  record { symbol = exported_symbol c d g f (All-head (IsOpenForm c) g gs forms) h.0; first = λ only choices. woven_first same_places d f g h.0.shape (h.0.sets only) choices; set = λ choices reads. woven same_places d f g h.0.shape choices reads },
-  traces_exported c d gs fs (All-tail (IsOpenForm c) g gs forms) h.1,
+pub traces_exported : (c : ContextData) (a b : Setting) (gs : List D.Func) (fs : List L.Function) → All (IsOpenForm c) gs → Matched ExportedFunction gs fs → Matched (HasTraces a b) gs fs
+traces_exported c a b [] [] forms h = tt
+traces_exported c a b (g ∷ gs) (f ∷ fs) forms h = (
+  record { symbol = exported_symbol c g f (All-head (IsOpenForm c) g gs forms) h.0 a b; first = λ only choices. woven_first same_places a f b g (h.0.shape a b) (h.0.sets only a b) choices; set = λ choices reads. woven same_places a f b g (h.0.shape a b) choices reads },
+  traces_exported c a b gs fs (All-tail (IsOpenForm c) g gs forms) h.1,
 )
-traces_exported c d [] (f ∷ fs) forms h = absurd h
-traces_exported c d (g ∷ gs) [] forms h = absurd h
+traces_exported c a b [] (f ∷ fs) forms h = absurd h
+traces_exported c a b (g ∷ gs) [] forms h = absurd h
 
-pub same_exported : (c : ContextData) (source : D.DialectModule) (d : ModuleData) → All (IsOpenForm c) source.functions → All HasOnlyEntryConstants source.functions → Matched (ExportedFunction d) source.functions d.functions
+pub same_exported : (c : ContextData) (source : D.DialectModule) (d : ModuleData) → All (IsOpenForm c) source.functions → All HasOnlyEntryConstants source.functions → Matched ExportedFunction source.functions d.functions
     → IsDistinctNames (map (λ (g : D.Func). g.name) source.functions) → SameCode same_places (Llvm.code_of d) (Dialect.code_of source)
 same_exported c source d forms only h distinct =
-    let plain = plain_names c d source.functions d.functions forms h in
-    let names = subst IsDistinctNames (sym (names_exported d source.functions d.functions h)) distinct in
-    same_code same_places (Llvm.code_of d) (Dialect.code_of source) (distinct_code d plain names) (rw (all_kept d.functions plain) (entries c d source.functions d.functions forms only h))
+    let plain = plain_names c source.functions d.functions forms h in
+    let names = subst IsDistinctNames (sym (names_exported source.functions d.functions h)) distinct in
+    same_code same_places (Llvm.code_of d) (Dialect.code_of source) (distinct_code d plain names) (rw (all_kept d.functions plain) (entries c (Llvm.setting_of d) (Dialect.setting_of source) source.functions d.functions forms only h))

@@ -16,6 +16,7 @@ use Rattle.dialect_core.specs.Data.{DialectOp, DialectBlock, Func, Kind, Constan
 use Rattle.dialect_core.specs.Form.{IsFormFunc, is_constant, is_constant_kind, types_list}
 use Rattle.meaning.specs.Terms.{Term, Param, Unset, rename}
 use Rattle.meaning.specs.Machine.{Row, At, begin}
+use Rattle.meaning.specs.Setting.{Setting}
 use Rattle.meaning.specs.Examples.{same_places}
 use Rattle.meaning.specs.Llvm as llvm
 use Rattle.meaning.specs.Llvm.{Key, ParamKey, ResultKey}
@@ -43,59 +44,59 @@ of_number n = Result (record { 0 = n })
 abbrev pub constants_of : Func → List DialectOp
 constants_of g = filter is_constant (ops_in g)
 
-module _ (g : Func) where
-  constant_silent : (done : List (Row Value)) (o : DialectOp) (k : Kind) → is_constant_kind k ≡ true → IsSilent (dialect.action g o k) × AreAmong done (operands_of (dialect.action g o k))
+module _ (setting : Setting) (g : Func) where
+  constant_silent : (done : List (Row Value)) (o : DialectOp) (k : Kind) → is_constant_kind k ≡ true → IsSilent (dialect.action setting g o k) × AreAmong done (operands_of (dialect.action setting g o k))
   constant_silent done o (ConstantOp value) e = (tt, tt)
   constant_silent done o (RowOp op) e = absurd (let never : false ≡ true = e in cc)
 
-  closed : (done : List (Row Value)) (os : List DialectOp) → All (λ (o : DialectOp). is_constant o ≡ true) os → IsClosed done (rows g os)
+  closed : (done : List (Row Value)) (os : List DialectOp) → All (λ (o : DialectOp). is_constant o ≡ true) os → IsClosed done (rows setting g os)
   closed done [] h = tt
   closed done (o ∷ os) h =
       let one = constant_silent done o o.kind (All-head (λ (o : DialectOp). is_constant o ≡ true) o os h) in
-      (one.0, one.1, closed (dialect.row g o ∷ done) os (All-tail (λ (o : DialectOp). is_constant o ≡ true) o os h))
+      (one.0, one.1, closed (dialect.row setting g o ∷ done) os (All-tail (λ (o : DialectOp). is_constant o ≡ true) o os h))
 
-  among_none : (os : List DialectOp) (w : Value) → ((i : ℕ) (o : DialectOp) → slice_get os i ≡ Some o → same_value (result o) w ≡ false) → among (rows g os) w ≡ false
+  among_none : (os : List DialectOp) (w : Value) → ((i : ℕ) (o : DialectOp) → slice_get os i ≡ Some o → same_value (result o) w ≡ false) → among (rows setting g os) w ≡ false
   among_none [] w h = refl
-  among_none (o ∷ os) w h = or_from (same_value (result o) w) (among (rows g os) w) (h 0 o refl) (among_none os w (λ i x at. h (suc i) x at))
+  among_none (o ∷ os) w h = or_from (same_value (result o) w) (among (rows setting g os) w) (h 0 o refl) (among_none os w (λ i x at. h (suc i) x at))
 
   -- no operation sets an argument
-  pub no_argument : (os : List DialectOp) (b : BlockRef) (i : ℕ) → ¬ (among (rows g os) (Argument b i) ≡ true)
+  pub no_argument : (os : List DialectOp) (b : BlockRef) (i : ℕ) → ¬ (among (rows setting g os) (Argument b i) ≡ true)
   no_argument os b i m = false≢true (sym (among_none os (Argument b i) (λ k o at. refl)) ∙ m)
 
-  pub among_at : (os : List DialectOp) (i n : ℕ) (o : DialectOp) → slice_get os i ≡ Some o → o.number ≡ n → among (rows g os) (of_number n) ≡ true
+  pub among_at : (os : List DialectOp) (i n : ℕ) (o : DialectOp) → slice_get os i ≡ Some o → o.number ≡ n → among (rows setting g os) (of_number n) ≡ true
   among_at [] i n o at e = absurd (none-some o at)
-  among_at (x ∷ os) zero n o at e = or_left (nat_eq x.number n) (among (rows g os) (of_number n)) (eq-eqb x.number n (ap (λ (y : DialectOp). y.number) (same_Some x o at) ∙ e))
-  among_at (x ∷ os) (suc i) n o at e = or_right (nat_eq x.number n) (among (rows g os) (of_number n)) (among_at os i n o at e)
+  among_at (x ∷ os) zero n o at e = or_left (nat_eq x.number n) (among (rows setting g os) (of_number n)) (eq-eqb x.number n (ap (λ (y : DialectOp). y.number) (same_Some x o at) ∙ e))
+  among_at (x ∷ os) (suc i) n o at e = or_right (nat_eq x.number n) (among (rows setting g os) (of_number n)) (among_at os i n o at e)
 
-  held : (e : Value → Term) (o : DialectOp) (k : Kind) (value : AttrTree) → k ≡ ConstantOp value → made e (dialect.action g o k) ≡ attr_term value
-  held e o k value is = ap (λ (x : Kind). made e (dialect.action g o x)) is
+  held : (e : Value → Term) (o : DialectOp) (k : Kind) (value : AttrTree) → k ≡ ConstantOp value → made e (dialect.action setting g o k) ≡ attr_term setting value
+  held e o k value is = ap (λ (x : Kind). made e (dialect.action setting g o x)) is
 
-  after_at : (e : Value → Term) (os : List DialectOp) (i n : ℕ) (o : DialectOp) (value : AttrTree) → AreNumbered (λ (o : DialectOp). o.number) os → slice_get os i ≡ Some o → o.number ≡ n → o.kind ≡ ConstantOp value → after e (rows g os) (of_number n) ≡ attr_term value
+  after_at : (e : Value → Term) (os : List DialectOp) (i n : ℕ) (o : DialectOp) (value : AttrTree) → AreNumbered (λ (o : DialectOp). o.number) os → slice_get os i ≡ Some o → o.number ≡ n → o.kind ≡ ConstantOp value → after e (rows setting g os) (of_number n) ≡ attr_term setting value
   after_at e [] i n o value numbered at is kind = absurd (none-some o at)
   after_at e (x ∷ os) zero n o value numbered at is kind =
       let same : x ≡ o = same_Some x o at in
       let number : x.number ≡ n = ap (λ (y : DialectOp). y.number) same ∙ is in
       let none = among_none os (of_number n) (λ i y at'. ne_eqb y.number n (λ k. let z : suc i ≡ 0 = numbered (suc i) 0 y x at' refl (k ∙ sym number) in omega (arith, z))) in
-      others (rows g os) (after_one e (dialect.row g x)) (of_number n) none
-      ∙ cond-true (nat_eq x.number n) (made e (dialect.action g x x.kind)) (e (of_number n)) (eq-eqb x.number n number)
+      others (rows setting g os) (after_one e (dialect.row setting g x)) (of_number n) none
+      ∙ cond-true (nat_eq x.number n) (made e (dialect.action setting g x x.kind)) (e (of_number n)) (eq-eqb x.number n number)
       ∙ held e x x.kind value (ap (λ (y : DialectOp). y.kind) same ∙ kind)
-  after_at e (x ∷ os) (suc i) n o value numbered at is kind = after_at (after_one e (dialect.row g x)) os i n o value (numbered_rest (λ (o : DialectOp). o.number) x os numbered) at is kind
+  after_at e (x ∷ os) (suc i) n o value numbered at is kind = after_at (after_one e (dialect.row setting g x)) os i n o value (numbered_rest (λ (o : DialectOp). o.number) x os numbered) at is kind
 
   pub term_at : (os : List DialectOp) (i n : ℕ) (o : DialectOp) (value : AttrTree) → All (λ (o : DialectOp). is_constant o ≡ true) os → AreNumbered (λ (o : DialectOp). o.number) os → slice_get os i ≡ Some o → o.number ≡ n → o.kind ≡ ConstantOp value
-      → term_among (rows g os) (of_number n) ≡ attr_term value
+      → term_among (rows setting g os) (of_number n) ≡ attr_term setting value
   term_at os i n o value constants numbered at is kind =
-      let r = ran [] (rows g os) (closed [] os constants) (begin Value same_value (λ (v : Value). Unset)) in
+      let r = ran [] (rows setting g os) (closed [] os constants) (begin Value same_value (λ (v : Value). Unset)) in
       ap (λ (env : Value → Term). env (of_number n)) r.env ∙ after_at (λ (v : Value). Unset) os i n o value numbered at is kind
 
 -- ---- the plan
 
-module _ (g : Func) (form : IsFormFunc g) (n : Numbers) (order : IsOrder (length g.blocks) n.order) where
+module _ (setting : Setting) (g : Func) (form : IsFormFunc g) (n : Numbers) (order : IsOrder (length g.blocks) n.order) where
   abbrev pub value_of : Key → Option Value
   value_of (ParamKey m i) = if nat_eq m n.function && nat_lt i (length form.entry.args) then Some (Argument (record { 0 = form.entry.number }) i) else None
   value_of (ResultKey m) = if nat_le n.inst m then slice_get (values_by n.order g) (m - n.inst) else None
 
   abbrev pub plan : Plan
-  plan = record { value = value_of; hoisted = rows g (constants_of g) }
+  plan = record { value = value_of; hoisted = rows setting g (constants_of g) }
 
   -- ---- the constants
 
@@ -106,11 +107,11 @@ module _ (g : Func) (form : IsFormFunc g) (n : Numbers) (order : IsOrder (length
   constants_numbered = let h : AreNumbered (λ (o : DialectOp). o.number) (ops_in g) = form.numbers in filter_numbered (λ (o : DialectOp). o.number) is_constant (ops_in g) h
 
   -- the plan has the constant of each operation that holds one
-  pub has_constant : (j k : ℕ) (c : DialectBlock) (o : DialectOp) → slice_get g.blocks j ≡ Some c → slice_get c.ops k ≡ Some o → HasConstant g plan o o.kind
+  pub has_constant : (j k : ℕ) (c : DialectBlock) (o : DialectOp) → slice_get g.blocks j ≡ Some c → slice_get c.ops k ≡ Some o → HasConstant setting g plan o o.kind
   has_constant j k c o at at' value kind =
       let among_all = op_among g.blocks j k c o at at' in
       let i = filter_at is_constant (ops_in g) among_all.0 o among_all.1 (ap is_constant_kind kind) in
-      (among_at g (constants_of g) i.0 o.number o i.1 refl, term_at g (constants_of g) i.0 o.number o value all_constants constants_numbered i.1 refl kind)
+      (among_at setting g (constants_of g) i.0 o.number o i.1 refl, term_at setting g (constants_of g) i.0 o.number o value all_constants constants_numbered i.1 refl kind)
 
   -- ---- what the plan says
 
@@ -176,15 +177,15 @@ module _ (g : Func) (form : IsFormFunc g) (n : Numbers) (order : IsOrder (length
       let i = values_by_distinct g form n.order order p.0 q.0 w p.1 q.1 in
       ap ResultKey (p.2 ∙ ap (λ (k : ℕ). n.inst + k) i ∙ sym q.2)
 
-  apart_from : (w : Value) → ((k : ℕ) (o : DialectOp) → slice_get (constants_of g) k ≡ Some o → result o ≡ w → ⊥) → among (rows g (constants_of g)) w ≡ false
-  apart_from w h = among_none g (constants_of g) w (λ k o at. false_from_ne_true (same_value (result o) w) (λ e. h k o at ((same_value-Decides (result o) w).0 e)))
+  apart_from : (w : Value) → ((k : ℕ) (o : DialectOp) → slice_get (constants_of g) k ≡ Some o → result o ≡ w → ⊥) → among (rows setting g (constants_of g)) w ≡ false
+  apart_from w h = among_none setting g (constants_of g) w (λ k o at. false_from_ne_true (same_value (result o) w) (λ e. h k o at ((same_value-Decides (result o) w).0 e)))
 
-  apart : (k : Key) (w : Value) → value_of k ≡ Some w → among (rows g (constants_of g)) w ≡ false
+  apart : (k : Key) (w : Value) → value_of k ≡ Some w → among (rows setting g (constants_of g)) w ≡ false
   apart (ParamKey m i) w e = let p = param_parts m i w e in apart_from w (λ k o at is. let never : result o ≡ Argument (record { 0 = form.entry.number }) i = is ∙ p.2 in cc)
   apart (ResultKey m) w e = let p = result_parts m w e in apart_from w (λ k o at is. constant_apart p.0 o.number k o (p.1 ∙ ap Some (sym is)) at refl)
 
   pub is_plan : IsPlan plan
-  is_plan = record { closed = closed g [] (constants_of g) all_constants; one_to_one = one_to_one; apart = apart }
+  is_plan = record { closed = closed setting g [] (constants_of g) all_constants; one_to_one = one_to_one; apart = apart }
 
   -- ---- the start
 
@@ -214,9 +215,9 @@ module _ (g : Func) (form : IsFormFunc g) (n : Numbers) (order : IsOrder (length
       sym (ap (λ (bs : List DialectBlock). dialect.start bs w) form.body ∙ start_none w (λ i is. argument_apart p.0 form.entry.number i (p.1 ∙ ap Some is) refl))
 
   -- no constant is set there
-  pub unset : (w : Value) → among (rows g (constants_of g)) w ≡ true → dialect.start g.blocks w ≡ Unset
+  pub unset : (w : Value) → among (rows setting g (constants_of g)) w ≡ true → dialect.start g.blocks w ≡ Unset
   unset (Result r) m = ap (λ (bs : List DialectBlock). dialect.start bs (Result r)) form.body
-  unset (Argument b i) m = absurd (no_argument g (constants_of g) b i m)
+  unset (Argument b i) m = absurd (no_argument setting g (constants_of g) b i m)
 
   -- ---- operands
 
@@ -225,21 +226,21 @@ module _ (g : Func) (form : IsFormFunc g) (n : Numbers) (order : IsOrder (length
   integer_same (IntType w) m = refl
   integer_same (FunctionType r ps v) m = refl
 
-  constant_same : (d : L.ModuleData) (value : AttrTree) → rename same_places (llvm.const_term d (const_of value)) ≡ attr_term value
-  constant_same d (IntegerAttr t m) = integer_same t m
+  constant_same : (back : Setting) (value : AttrTree) → rename same_places (llvm.const_term back (const_of value)) ≡ attr_term setting value
+  constant_same back (IntegerAttr t m) = integer_same t m
 
-  stands_as : (d : L.ModuleData) (given : Value → List (Operand × ℕ)) (v : Value) (t : TypeTree) → OperandIs g form n order given v t → S.StandsFor same_places plan (llvm.operand d (operand_for g n v)) (At v)
-  stands_as d given v t (IsParam i b is entry type operand) =
+  stands_as : (back : Setting) (given : Value → List (Operand × ℕ)) (v : Value) (t : TypeTree) → OperandIs g form n order given v t → S.StandsFor same_places plan (llvm.operand back (operand_for g n v)) (At v)
+  stands_as back given v t (IsParam i b is entry type operand) =
       let lt = slice_get_within form.entry.args i t type in
-      subst (λ (o : Operand). S.StandsFor same_places plan (llvm.operand d o) (At v)) (sym operand)
+      subst (λ (o : Operand). S.StandsFor same_places plan (llvm.operand back o) (At v)) (sym operand)
       (cond-true (nat_eq n.function n.function && nat_lt i (length form.entry.args)) (Some (Argument (record { 0 = form.entry.number }) i)) None
       (and_from (nat_eq n.function n.function) (nat_lt i (length form.entry.args)) (eq-eqb n.function n.function refl) (lt-ltb i (length form.entry.args) lt))
       ∙ ap (λ (m : ℕ). Some (Argument (record { 0 = m }) i)) (sym entry) ∙ ap Some (sym is))
-  stands_as d given v t (IsConst j k c o value here at is kind type h operand) =
+  stands_as back given v t (IsConst j k c o value here at is kind type h operand) =
       let held = has_constant j k c o here at value kind in
-      subst (λ (o : Operand). S.StandsFor same_places plan (llvm.operand d o) (At v)) (sym operand)
-      (subst (λ (w : Value). S.StandsFor same_places plan (llvm.operand d (L.Constant (const_of value))) (At w)) (sym is) (held.0, constant_same d value ∙ sym held.1))
-  stands_as d given v t (IsInst i at operand) = subst (λ (o : Operand). S.StandsFor same_places plan (llvm.operand d o) (At v)) (sym operand) (value_at i v at)
+      subst (λ (o : Operand). S.StandsFor same_places plan (llvm.operand back o) (At v)) (sym operand)
+      (subst (λ (w : Value). S.StandsFor same_places plan (llvm.operand back (L.Constant (const_of value))) (At w)) (sym is) (held.0, constant_same back value ∙ sym held.1))
+  stands_as back given v t (IsInst i at operand) = subst (λ (o : Operand). S.StandsFor same_places plan (llvm.operand back o) (At v)) (sym operand) (value_at i v at)
 
-  pub stands : (d : L.ModuleData) (v : Value) (t : TypeTree) → value_type g v ≡ Some t → S.StandsFor same_places plan (llvm.operand d (operand_for g n v)) (At v)
-  stands d v t e = stands_as d (λ v. []) v t (operand_is g form n order (λ v. []) v t e)
+  pub stands : (back : Setting) (v : Value) (t : TypeTree) → value_type g v ≡ Some t → S.StandsFor same_places plan (llvm.operand back (operand_for g n v)) (At v)
+  stands back v t e = stands_as back (λ v. []) v t (operand_is g form n order (λ v. []) v t e)

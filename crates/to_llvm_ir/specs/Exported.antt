@@ -17,6 +17,7 @@ use Rattle.dialect_core.specs.declared.ops.BlockData.{BlockData}
 use Rattle.dialect_core.specs.ContextData.{ContextData}
 use Rattle.dialect_core.specs.Data.{DialectModule, DialectBlock, DialectOp, Func, name_at}
 use Rattle.dialect_core.specs.Form.{others_of, uses_of, edges_of, FitsTarget, HasEqualEdges, HasTargets, HasOnlyEntryConstants}
+use Rattle.meaning.specs.Setting.{Setting}
 use Rattle.meaning.specs.Pairs.{Matched, BothOrNone}
 use Rattle.meaning.specs.Code.{rename_symbol}
 use Rattle.meaning.specs.Llvm as Llvm
@@ -140,14 +141,14 @@ pub record HasNoCause (order : List ℕ) (g : Func) : Type 0 where
   pub targets : (j : ℕ) (c : DialectBlock) → slice_get g.blocks j ≡ Some c → All (FitsTarget g) (edges_of c)
   pub equal : (j : ℕ) (c : DialectBlock) → slice_get g.blocks j ≡ Some c → HasEqualEdges c
 
--- the function f of the module d stands for the function g of the dialect, whose constants stand at any places
-pub record ExportedFunction (d : L.ModuleData) (g : Func) (f : L.Function) : Type 0 where
+-- the function f stands for the function g of the dialect, whose constants stand at any places, whatever their modules tell
+pub record ExportedFunction (g : Func) (f : L.Function) : Type 0 where
   pub name : f.name ≡ g.name
   pub type : f.type ≡ type_of g.type
   pub space : f.space ≡ 0
-  pub shape : WovenShape same_places d f g
+  pub shape : (a b : Setting) → WovenShape same_places a f b g
   -- where all constants stand in the first block, it sets them before what reads them
-  pub sets : HasOnlyEntryConstants g → SetsConstantsFirst shape.plan (map (Dialect.block g) g.blocks)
+  pub sets : HasOnlyEntryConstants g → (a b : Setting) → SetsConstantsFirst (shape a b).plan (map (Dialect.block b g) g.blocks)
   -- parameters have no names
   pub params : All (λ (n : List ℕ). n ≡ []) f.params
   pub names : (place : ℕ) → BothOrNone (HasNames g place) (slice_get g.blocks place) (slice_get f.blocks place)
@@ -157,24 +158,25 @@ pub record ExportedFunction (d : L.ModuleData) (g : Func) (f : L.Function) : Typ
   pub taken : HasNoCause order g
   -- whether an edge leads to the block or not
   pub phis : (place : ℕ) → BothOrNone (HasPhis order f place) (slice_get g.blocks place) (slice_get f.blocks place)
-  pub arguments : (place : ℕ) → BothOrNone (StandForArguments shape.plan) (slice_get g.blocks place) (slice_get f.blocks place)
+  pub arguments : (a b : Setting) (place : ℕ) → BothOrNone (StandForArguments (shape a b).plan) (slice_get g.blocks place) (slice_get f.blocks place)
   pub locals : IsDistinctList (local_names f)
   pub few : IsFewIn f
   -- where each block with arguments is an edge's target, each phi has an edge
   pub form : HasTargets g → IsFormFunction f
 
--- The function f of the module d has the traces of the function g of the dialect: for every list of choices where all
--- constants of g stand in its first block, and else for every list whose run of g reads no unset value. For a constant
--- of another block may be read in a run that never sets it, and f has it written in place. And f is the same symbol.
-pub record HasTraces (d : L.ModuleData) (g : Func) (f : L.Function) : Type 0 where
-  pub symbol : rename_symbol same_places (Llvm.entry d f).symbol ≡ (Dialect.entry g).symbol
-  pub first : HasOnlyEntryConstants g → (choices : List ℕ) → SameTrace same_places d f g choices
-  pub set : (choices : List ℕ) → func_reads_unset g choices ≡ false → SameTrace same_places d f g choices
+-- The function f, whose module tells a, has the traces of the function g of the dialect, whose module tells b: for every
+-- list of choices where all constants of g stand in its first block, and else for every list whose run of g reads no
+-- unset value. For a constant of another block may be read in a run that never sets it, and f has it written in place.
+-- And f is the same symbol.
+pub record HasTraces (a b : Setting) (g : Func) (f : L.Function) : Type 0 where
+  pub symbol : rename_symbol same_places (Llvm.entry a f).symbol ≡ (Dialect.entry b g).symbol
+  pub first : HasOnlyEntryConstants g → (choices : List ℕ) → SameTrace same_places a f b g choices
+  pub set : (choices : List ℕ) → func_reads_unset b g choices ≡ false → SameTrace same_places a f b g choices
 
 -- the module back has a function for each of the dialect's, in order, and its name
 pub record IsExported (d : DialectModule) (back : Module) : Type 0 where
   pub name : (data_of back).name ≡ d.name
-  pub functions : Matched (ExportedFunction (data_of back)) d.functions (data_of back).functions
+  pub functions : Matched ExportedFunction d.functions (data_of back).functions
   pub few : length (data_of back).functions < 2 ^ 31
 
 -- ---- refusals

@@ -10,8 +10,11 @@ use Rattle.dialect_types.specs.Trees.{type_trees}
 use Rattle.dialect_core.specs.declared.numbers.OpRef.{OpRef}
 use Rattle.dialect_core.specs.ContextData.{ContextData, region_at}
 use Rattle.dialect_core.specs.Data.{Func, DialectBlock, block_in, func_in}
+use Rattle.dialect_core.specs.Form.{IsFormFunc}
 use Rattle.meaning.specs.Pairs.{Matched}
-use Rattle.to_llvm_ir.specs.Exported.{ExportedFunction}
+use Rattle.to_llvm_ir.specs.Order.{IsTaken}
+use Rattle.to_llvm_ir.specs.Made.{Numbers, function_made, entries}
+use Rattle.to_llvm_ir.specs.Accepted.{IsAccepted}
 use Rattle.to_llvm_ir.specs.Opening.{IsDeclared}
 use Rattle.to_llvm_ir.specs.States.{Task, IsTask}
 
@@ -23,23 +26,29 @@ blocks_of c o = filter_map (block_in (type_trees c.types) c) (region_at c.ops o.
 abbrev pub functions_in : ContextData → List OpRef → List Func
 functions_in c ops = filter_map (func_in (type_trees c.types) c) ops
 
--- a last function is new, which stands for g
+-- The function f is the one that is made of g, with some numbers: the term is computed from g and from these. And what was
+-- found of g: it is of the form, its blocks are taken in an order of an export, and nothing of it is refused.
+pub record IsMadeOf (g : Func) (f : L.Function) : Type 0 where
+  pub numbers : Numbers
+  pub form : IsFormFunc g
+  pub taken : IsTaken g numbers.order
+  pub accepted : IsAccepted numbers.order g
+  pub is : f ≡ function_made g numbers (entries g numbers)
+
+-- a last function is new, which is made of g
 pub record AddsFunction (g : Func) (old new : ModuleData) : Type 0 where
   pub function : L.Function
   pub is : new ≡ with_function old function
-  pub stands : ExportedFunction new g function
+  pub made : IsMadeOf g function
   pub few : length new.functions < 2 ^ 31
 
--- the module has that name so far, and stands for the functions, in order
-pub record HasExported (name : List ℕ) (gs : List Func) (d : ModuleData) : Type 0 where
-  pub name_is : d.name ≡ name
-  pub functions : Matched (ExportedFunction d) gs d.functions
-  pub few : length d.functions < 2 ^ 31
+-- new functions, made of these in order, stand behind those that were there
+pub record AddsFunctions (more : List Func) (old new : ModuleData) : Type 0 where
+  pub functions : List L.Function
+  pub is : new ≡ record old { functions = old.functions ++ functions }
+  pub made : Matched IsMadeOf more functions
+  pub few : length old.functions < 2 ^ 31 → length new.functions < 2 ^ 31
 
--- the functions are new, behind those that were exported
-abbrev pub AddsFunctions : List Func → ModuleData → ModuleData → Type 0
-AddsFunctions more old new = (name : List ℕ) (gs : List Func) → HasExported name gs old → HasExported name (gs ++ more) new
-
--- a last function of the module stands for g, whose blocks are taken in the order, and has no blocks yet
+-- a last function of the module is made of g, whose blocks are taken in the order, and has no blocks yet
 abbrev pub IsStarted : ContextData → Func → List ℕ → LLVMFunction → (old new : Module) → Type 0
 IsStarted c g order f old new = (t : Task) × (ty : LLVMType) × (t.source ≡ g) × (t.before ≡ data_of old) × IsTask c t × IsDeclared t f ty new × (length new.functions ≡ length old.functions + 1) × (t.numbers.order ≡ order)

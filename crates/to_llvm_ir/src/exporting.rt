@@ -175,7 +175,7 @@ fn know_sound(m: &LLVMModule)
 pub fn convert_module(alloc: Global, ctx: &Context, module: ModuleOp) -> Result<Exported, ToLLVMErr>
     requires { IsReadable ctx.now «module».0.0 }
     ensures exported { IfOk result (λ x. IsExported (data_of ctx.now «module».0.0) x.«module») }
-    ensures traces { IfOk result (λ x. Matched (HasTraces (lists.data_of x.«module»)) (data_of ctx.now «module».0.0).functions (lists.data_of x.«module»).functions) }
+    ensures traces { IfOk result (λ x. Matched (HasTraces (llvm.setting_of (lists.data_of x.«module»)) (dialect.setting_of (data_of ctx.now «module».0.0))) (data_of ctx.now «module».0.0).functions (lists.data_of x.«module»).functions) }
     ensures same { IsDistinctNames (map (λ g. g.name) (data_of ctx.now «module».0.0).functions) → All HasOnlyEntryConstants (data_of ctx.now «module».0.0).functions → IfOk result (λ x. SameCode same_places (llvm.code_of (lists.data_of x.«module»)) (dialect.code_of (data_of ctx.now «module».0.0))) }
     ensures form { All HasTargets (data_of ctx.now «module».0.0).functions → IfOk result (λ x. IsForm (lists.data_of x.«module»)) }
     ensures checked { IsDistinctNames (map (λ g. g.name) (data_of ctx.now «module».0.0).functions) → All HasTargets (data_of ctx.now «module».0.0).functions → IfOk result (λ x. IsChecked x.«module») }

@@ -10,6 +10,7 @@ use Rattle.dialect_core.specs.declared.ops.Successor.{Successor}
 use Rattle.dialect_core.specs.ContextData.{ContextData}
 use Rattle.dialect_core.specs.Data.{DialectBlock, DialectOp, Func, type_in}
 use Rattle.meaning.specs.Machine as M
+use Rattle.meaning.specs.Setting.{Setting}
 use Rattle.meaning.specs.Dialect.{argument_moves, typed_row, edge, typed_block}
 use Rattle.tracing.specs.declared.body.Slot.{Slot}
 use Rattle.tracing.specs.declared.body.Slot.TheVariants.{Input}
@@ -88,11 +89,11 @@ edges_are g numbers are (s ∷ ss) = let e = edge_is g s numbers are in let rest
 
 -- ---- a block
 
-pub block_is : (c : ContextData) (h : InContext c) (r : B.Block) (y : DialectBlock) (numbers : List ℕ) → numbers ≡ numbers_of h.function → map row_of r.rows ≡ rows_of c y.ops
-    → r.edges ≡ map (edge_to numbers) (flat_map (λ (o : DialectOp). o.successors) y.ops) → block_of (params_of h.function) r ≡ renamed_block slot_of (typed_block (type_in c) h.function y)
-block_is c h r y numbers are rows edges =
+pub block_is : (setting : Setting) (c : ContextData) (h : InContext c) (r : B.Block) (y : DialectBlock) (numbers : List ℕ) → numbers ≡ numbers_of h.function → map row_of r.rows ≡ rows_of setting c y.ops
+    → r.edges ≡ map (edge_to numbers) (flat_map (λ (o : DialectOp). o.successors) y.ops) → block_of (params_of h.function) r ≡ renamed_block slot_of (typed_block setting (type_in c) h.function y)
+block_is setting c h r y numbers are rows edges =
     let g = h.function in
     let ss = flat_map (λ (o : DialectOp). o.successors) y.ops in
-    let all_rows = rows ∙ sym (mapped_twice (renamed_row slot_of) (typed_row (type_in c)) y.ops) in
+    let all_rows = rows ∙ sym (mapped_twice (renamed_row slot_of) (typed_row setting (type_in c)) y.ops) in
     let all_edges = ap (map (edge_of (params_of g))) edges ∙ edges_are g numbers are ss in
     λ i. record { rows = all_rows i; edges = all_edges i }

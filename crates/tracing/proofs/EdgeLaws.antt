@@ -12,7 +12,7 @@ use Rattle.meaning.proofs.MatchedLaws.{matched_get}
 use Rattle.indexmap.specs.IndexMap.{get}
 use Rattle.llvm_core.specs.Module.{Module}
 use Rattle.llvm_core.specs.Data as D
-use Rattle.llvm_core.specs.Data.{Placed, Block, trees_of, targets, phi_entries, data_of}
+use Rattle.llvm_core.specs.Data.{Placed, Block, trees_of, targets, phi_entries}
 use Rattle.llvm_core.specs.Form.{is_phi}
 use Rattle.meaning.specs.Machine as M
 use Rattle.meaning.specs.Pairs.{Matched, BothOrNone}
@@ -27,7 +27,7 @@ use Rattle.tracing.specs.declared.llvm_index.Phi.{Phi}
 use Rattle.tracing.specs.declared.llvm_index.Index.{Index}
 use Rattle.tracing.specs.Bodies.{source_of, moves_from, params_at, row_of, edge_of, block_of}
 use Rattle.tracing.specs.Renamed.{renamed, renamed_row, renamed_move, renamed_edge, renamed_block}
-use Rattle.tracing.specs.LlvmBodies.{slot_of, InChecked, data_in, IsPhiOf, ArePhisOf, slots_of, taken_from, IsIndexOf, IsBlockIn, rows_in, params_in, phis_at, edge_to}
+use Rattle.tracing.specs.LlvmBodies.{setting_in, slot_of, InChecked, data_in, IsPhiOf, ArePhisOf, slots_of, taken_from, IsIndexOf, IsBlockIn, rows_in, params_in, phis_at, edge_to}
 use Rattle.tracing.proofs.PlaceLaws.{place_by_number}
 
 -- the place of what passes the test, past the end where nothing does
@@ -64,14 +64,14 @@ module _ (m : Module) (from : ℕ) where
   taken x = (x.slot, option_map source_of (get nat_eq x.incoming from))
 
   abbrev moves_in : List Placed → List (Slot × Option (M.Operand Slot))
-  moves_in ps = map (renamed_move slot_of) (filter_map (phi_move (data_of m) from) ps)
+  moves_in ps = map (renamed_move slot_of) (filter_map (phi_move (setting_in m) from) ps)
 
   -- what a phi takes is its move
-  phi_taken : (x : Phi) (p : Placed) (es : List (D.Operand × ℕ)) → phi_entries p.instruction ≡ Some es → IsPhiOf m x p → taken x ≡ renamed_move slot_of (ResultKey p.number, entry_for (data_of m) from es)
+  phi_taken : (x : Phi) (p : Placed) (es : List (D.Operand × ℕ)) → phi_entries p.instruction ≡ Some es → IsPhiOf m x p → taken x ≡ renamed_move slot_of (ResultKey p.number, entry_for (setting_in m) from es)
   phi_taken x p es e is =
       let same : is.entries ≡ es = same_Some is.entries es (sym is.are ∙ e) in
       let slot = is.slot in
-      let source = is.incoming from ∙ ap (λ (l : List (D.Operand × ℕ)). option_map (renamed slot_of) (entry_for (data_of m) from l)) same in
+      let source = is.incoming from ∙ ap (λ (l : List (D.Operand × ℕ)). option_map (renamed slot_of) (entry_for (setting_in m) from l)) same in
       ap (λ (v : Slot). (v, option_map source_of (get nat_eq x.incoming from))) slot ∙ ap (λ (o : Option (M.Operand Slot)). let r : Slot × Option (M.Operand Slot) = (Result p.number, o) in r) source
 
   moves_each : (ps : List Placed) (xs : List Phi) → ArePhisOf m xs ps → map taken xs ≡ moves_in ps
@@ -80,12 +80,12 @@ module _ (m : Module) (from : ℕ) where
   moves_each (p ∷ ps) xs h = by (phi_entries p.instruction) refl (moves_each ps) h
     where
       one : (es : List (D.Operand × ℕ)) → phi_entries p.instruction ≡ Some es → ((ys : List Phi) → ArePhisOf m ys ps → map taken ys ≡ moves_in ps) → (ys : List Phi) → Matched (IsPhiOf m) ys (p ∷ filter is_phi ps)
-          → map taken ys ≡ renamed_move slot_of (ResultKey p.number, entry_for (data_of m) from es) ∷ moves_in ps
+          → map taken ys ≡ renamed_move slot_of (ResultKey p.number, entry_for (setting_in m) from es) ∷ moves_in ps
       one es e rest [] k = elim k [ ]
       one es e rest (y ∷ ys) k = let here = phi_taken y p es e k.0 in let more = rest ys k.1 in cc
 
       by : (o : Option (List (D.Operand × ℕ))) → phi_entries p.instruction ≡ o → ((ys : List Phi) → ArePhisOf m ys ps → map taken ys ≡ moves_in ps) → Matched (IsPhiOf m) xs (cond (is_some o) (p ∷ filter is_phi ps) (filter is_phi ps))
-          → map taken xs ≡ map (renamed_move slot_of) (cons_option (option_map (λ (es : List (D.Operand × ℕ)). (ResultKey p.number, entry_for (data_of m) from es)) o) (filter_map (phi_move (data_of m) from) ps))
+          → map taken xs ≡ map (renamed_move slot_of) (cons_option (option_map (λ (es : List (D.Operand × ℕ)). (ResultKey p.number, entry_for (setting_in m) from es)) o) (filter_map (phi_move (setting_in m) from) ps))
       by None e rest k = rest xs k
       by (Some es) e rest k = one es e rest xs k
 
@@ -106,47 +106,47 @@ module _ (m : Module) (h : InChecked m) (x : Index) (index : IsIndexOf m h x) (f
   Both xs y = ArePhisOf m xs y.instructions
 
   moves_by : (o : Option (List Phi)) (y : Option Block) → BothOrNone Both o y → moves_from 0 (option_map_or (λ (ps : List Slot). ps) (option_map slots_of o) []) (taken_from from (option_map_or (λ (xs : List Phi). xs) o []))
-      ≡ map (renamed_move slot_of) (option_map_or (λ (b : Block). filter_map (phi_move (data_of m) from) b.instructions) y [])
+      ≡ map (renamed_move slot_of) (option_map_or (λ (b : Block). filter_map (phi_move (setting_in m) from) b.instructions) y [])
   moves_by None None k = refl
   moves_by (Some xs) (Some y) k = moves_are m from xs y.instructions k
   moves_by None (Some y) k = elim k [ ]
   moves_by (Some xs) None k = elim k [ ]
 
-  edge_at : (n : ℕ) → n ≡ place → edge_of (params_in x) (record { to = n; sources = taken_from from (phis_at x n) }) ≡ renamed_edge slot_of (edge (data_of m) (data_in m h) from to)
+  edge_at : (n : ℕ) → n ≡ place → edge_of (params_in x) (record { to = n; sources = taken_from from (phis_at x n) }) ≡ renamed_edge slot_of (edge (setting_in m) (data_in m h) from to)
   edge_at n e =
       let bs = (data_in m h).blocks in
-      let moves : moves_from 0 (params_at (params_in x) n) (taken_from from (phis_at x n)) ≡ map (renamed_move slot_of) (edge (data_of m) (data_in m h) from to).moves =
+      let moves : moves_from 0 (params_at (params_in x) n) (taken_from from (phis_at x n)) ≡ map (renamed_move slot_of) (edge (setting_in m) (data_in m h) from to).moves =
       ap (λ (o : Option (List Slot)). moves_from 0 (option_map_or (λ (ps : List Slot). ps) o []) (taken_from from (phis_at x n))) (slice_get-map slots_of x.phis n)
       ∙ moves_by (slice_get x.phis n) (slice_get bs n) (matched_get Both x.phis bs n index.phis)
-      ∙ ap (λ (o : Option Block). map (renamed_move slot_of) (option_map_or (λ (b : Block). filter_map (phi_move (data_of m) from) b.instructions) o [])) (ap (slice_get bs) e ∙ sym (find_at there bs)) in
-      let leads : n ≡ (edge (data_of m) (data_in m h) from to).to = e ∙ sym (place_is there bs) in
+      ∙ ap (λ (o : Option Block). map (renamed_move slot_of) (option_map_or (λ (b : Block). filter_map (phi_move (setting_in m) from) b.instructions) o [])) (ap (slice_get bs) e ∙ sym (find_at there bs)) in
+      let leads : n ≡ (edge (setting_in m) (data_in m h) from to).to = e ∙ sym (place_is there bs) in
       λ i. record { to = leads i; moves = moves i }
 
-  pub edge_is : edge_of (params_in x) (edge_to x from to) ≡ renamed_edge slot_of (edge (data_of m) (data_in m h) from to)
+  pub edge_is : edge_of (params_in x) (edge_to x from to) ≡ renamed_edge slot_of (edge (setting_in m) (data_in m h) from to)
   edge_is = edge_at (position_or_len (nat_eq to) x.places) to_is
 
-pub edges_are : (m : Module) (h : InChecked m) (x : Index) → IsIndexOf m h x → (from : ℕ) (ns : List ℕ) → map (edge_of (params_in x)) (map (edge_to x from) ns) ≡ map (renamed_edge slot_of) (map (edge (data_of m) (data_in m h) from) ns)
+pub edges_are : (m : Module) (h : InChecked m) (x : Index) → IsIndexOf m h x → (from : ℕ) (ns : List ℕ) → map (edge_of (params_in x)) (map (edge_to x from) ns) ≡ map (renamed_edge slot_of) (map (edge (setting_in m) (data_in m h) from) ns)
 edges_are m h x index from [] = refl
 edges_are m h x index from (n ∷ ns) = let e = edge_is m h x index from n in let rest = edges_are m h x index from ns in cc
 
 -- ---- a block
 
 module _ (m : Module) (h : InChecked m) (x : Index) (index : IsIndexOf m h x) where
-  rows_are : (ps : List Placed) → rows_in m h ps ≡ map (renamed_row slot_of) (filter_map (λ (p : Placed). row (data_of m) (data_in m h) p p.instruction) ps)
+  rows_are : (ps : List Placed) → rows_in m h ps ≡ map (renamed_row slot_of) (filter_map (λ (p : Placed). row (setting_in m) (data_in m h) p p.instruction) ps)
   rows_are [] = refl
-  rows_are (p ∷ ps) = by (row (data_of m) (data_in m h) p p.instruction) (rows_are ps)
+  rows_are (p ∷ ps) = by (row (setting_in m) (data_in m h) p p.instruction) (rows_are ps)
     where
-      by : (o : Option (M.Row Key)) → rows_in m h ps ≡ map (renamed_row slot_of) (filter_map (λ (p : Placed). row (data_of m) (data_in m h) p p.instruction) ps)
-          → cons_option (option_map (renamed_row slot_of) o) (rows_in m h ps) ≡ map (renamed_row slot_of) (cons_option o (filter_map (λ (p : Placed). row (data_of m) (data_in m h) p p.instruction) ps))
+      by : (o : Option (M.Row Key)) → rows_in m h ps ≡ map (renamed_row slot_of) (filter_map (λ (p : Placed). row (setting_in m) (data_in m h) p p.instruction) ps)
+          → cons_option (option_map (renamed_row slot_of) o) (rows_in m h ps) ≡ map (renamed_row slot_of) (cons_option o (filter_map (λ (p : Placed). row (setting_in m) (data_in m h) p p.instruction) ps))
       by None e = e
       by (Some r) e = ap (λ l. renamed_row slot_of r ∷ l) e
 
   pub block_is : (r : B.Block) (y : Block) (from : ℕ) → from ≡ y.number → map row_of r.rows ≡ rows_in m h y.instructions → r.edges ≡ map (edge_to x from) (flat_map (λ (p : Placed). targets p.instruction) y.instructions)
-      → block_of (params_in x) r ≡ renamed_block slot_of (block (data_of m) (data_in m h) y)
+      → block_of (params_in x) r ≡ renamed_block slot_of (block (setting_in m) (data_in m h) y)
   block_is r y from number rows edges =
       let all_rows = rows ∙ rows_are y.instructions in
       let ns = flat_map (λ (p : Placed). targets p.instruction) y.instructions in
-      let all_edges = ap (map (edge_of (params_in x))) edges ∙ edges_are m h x index from ns ∙ ap (λ (n : ℕ). map (renamed_edge slot_of) (map (edge (data_of m) (data_in m h) n) ns)) number in
+      let all_edges = ap (map (edge_of (params_in x))) edges ∙ edges_are m h x index from ns ∙ ap (λ (n : ℕ). map (renamed_edge slot_of) (map (edge (setting_in m) (data_in m h) n) ns)) number in
       λ i. record { rows = all_rows i; edges = all_edges i }
 
 -- the number of a block is that of its data

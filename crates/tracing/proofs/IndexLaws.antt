@@ -20,7 +20,7 @@ use Rattle.llvm_core.specs.declared.code.FunctionData.{FunctionData}
 use Rattle.llvm_core.specs.declared.code.InstData.{InstData}
 use Rattle.llvm_core.specs.Module.{Module}
 use Rattle.llvm_core.specs.Data as D
-use Rattle.llvm_core.specs.Data.{Placed, Block, trees_of, entry_of, instruction_of, phi_entries, placed_at, block_at, block_of, data_of}
+use Rattle.llvm_core.specs.Data.{Placed, Block, trees_of, entry_of, instruction_of, phi_entries, placed_at, block_at, block_of}
 use Rattle.llvm_core.specs.Checked.{home}
 use Rattle.llvm_core.specs.Form.{is_phi}
 use Rattle.llvm_core.proofs.DataLemmas.{blocks_there, insts_there, slice_get-filter_map_all, length-filter_map_all}
@@ -38,23 +38,23 @@ use Rattle.tracing.specs.Bodies.{start_of}
 use Rattle.meaning.specs.Llvm.{entry_for, operand, arity, count_types, start, Key, ParamKey, ResultKey}
 use Rattle.tracing.specs.Renamed.{renamed}
 use Rattle.tracing.specs.declared.body.Slot.{Slot}
-use Rattle.tracing.specs.LlvmBodies.{slot_of, first_of, operand_in, InChecked, data_in, IsPlacedIn, ArePlacedIn, IsBlockIn, IsPhiOf}
+use Rattle.tracing.specs.LlvmBodies.{setting_in, slot_of, first_of, operand_in, InChecked, data_in, IsPlacedIn, ArePlacedIn, IsBlockIn, IsPhiOf}
 
 module _ (m : Module) (from : ℕ) where
   abbrev pub taken_of : List PhiEntry → Option (M.Operand Slot)
-  taken_of es = option_map (renamed slot_of) (entry_for (data_of m) from (map (entry_of (trees_of m)) es))
+  taken_of es = option_map (renamed slot_of) (entry_for (setting_in m) from (map (entry_of (trees_of m)) es))
 
   abbrev pub here_of : PhiEntry → Option (M.Operand Slot)
   here_of e = if nat_eq e.block.0 from then Some (operand_in m e.value) else None
 
   abbrev shown : Option (D.Operand × ℕ) → Option (M.Operand Slot)
-  shown o = option_map (renamed slot_of) (option_map (λ (x : D.Operand × ℕ). operand (data_of m) x.0) o)
+  shown o = option_map (renamed slot_of) (option_map (λ (x : D.Operand × ℕ). operand (setting_in m) x.0) o)
 
   -- one entry more counts where no earlier one is for the block
   taken_push : (es : List PhiEntry) (e : PhiEntry) → taken_of (es ++ e ∷ []) ≡ first_of (taken_of es) (here_of e)
   taken_push [] e = by (nat_eq e.block.0 from)
     where
-      by : (b : Bool) → option_map (renamed slot_of) (option_map (λ (x : D.Operand × ℕ). operand (data_of m) x.0) (cond b (Some (entry_of (trees_of m) e)) None)) ≡ (if b then Some (operand_in m e.value) else None)
+      by : (b : Bool) → option_map (renamed slot_of) (option_map (λ (x : D.Operand × ℕ). operand (setting_in m) x.0) (cond b (Some (entry_of (trees_of m) e)) None)) ≡ (if b then Some (operand_in m e.value) else None)
       by true = refl
       by false = refl
   taken_push (x ∷ es) e = by (nat_eq x.block.0 from) (taken_push es e)

@@ -13,7 +13,7 @@ use Rattle.llvm_core.specs.Module.{Module}
 use Rattle.llvm_core.specs.declared.code.InstData.{InstData}
 use Rattle.llvm_core.specs.Parts.{value_type, is_phi}
 use Rattle.llvm_core.specs.Data as D
-use Rattle.llvm_core.specs.Data.{Placed, Instruction, placed_of, row_of, instruction_of, TypeTree, type_at, trees_of, operand_of, operand_type, phi_entries, data_of}
+use Rattle.llvm_core.specs.Data.{Placed, Instruction, placed_of, row_of, instruction_of, TypeTree, type_at, trees_of, operand_of, operand_type, phi_entries}
 use Rattle.std.specs.Option.{is_some, option_map}
 use Rattle.std.proofs.lemmas.Option.{none-some, same_Some}
 use Rattle.llvm_core.specs.Form as F
@@ -38,7 +38,7 @@ use Rattle.tracing.specs.declared.body.Source.{Source}
 use Rattle.tracing.specs.declared.body.Action.TheVariants as A
 use Rattle.tracing.proofs.ListLaws.{mapped_twice}
 use Rattle.tracing.specs.declared.body.Slot.{Slot}
-use Rattle.tracing.specs.LlvmBodies.{slot_of, InChecked, IsNoFunction, data_in, operand_in, IsUsed, IsPlacedIn, IsRowIn, row_in}
+use Rattle.tracing.specs.LlvmBodies.{setting_in, slot_of, InChecked, IsNoFunction, data_in, operand_in, IsUsed, IsPlacedIn, IsRowIn, row_in}
 
 -- the number of the type of a value of the function stands for what the data say
 pub used_tree : (m : Module) (h : InChecked m) (v : LLVMValue) (t : LLVMType) → IsUsed m h v → value_type m v ≡ Some t → type_at (trees_of m).types t ≡ operand_type (data_in m h) (operand_of (trees_of m) v)
@@ -108,22 +108,22 @@ module _ (m : Module) (h : InChecked m) where
   -- what an instruction of that row does
   pub action_is : (type : TypeTree) (r : Row) (types : Types) (os : List Source) → tree_of types.result ≡ type
       → map tree_of types.operands ≡ map (λ (v : LLVMValue). operand_type (data_in m h) (operand_of (trees_of m) v)) r.operands → map source_of os ≡ map (operand_in m) r.operands
-      → action_of (A.Applies r.op types os) ≡ renamed_action slot_of (action (data_of m) (data_in m h) type (row_of (trees_of m) r))
+      → action_of (A.Applies r.op types os) ≡ renamed_action slot_of (action (setting_in m) (data_in m h) type (row_of (trees_of m) r))
   action_is type r types os result operands sources =
       let t = trees_of m in
       let same_types = operands ∙ sym (mapped_twice (operand_type (data_in m h)) (operand_of t) r.operands) in
-      let same_sources = sources ∙ sym (ap (map (renamed slot_of)) (mapped_twice (operand (data_of m)) (operand_of t) r.operands) ∙ mapped_twice (renamed slot_of) (λ (v : LLVMValue). operand (data_of m) (operand_of t v)) r.operands) in
+      let same_sources = sources ∙ sym (ap (map (renamed slot_of)) (mapped_twice (operand (setting_in m)) (operand_of t) r.operands) ∙ mapped_twice (renamed slot_of) (λ (v : LLVMValue). operand (setting_in m) (operand_of t v)) r.operands) in
       applies_same r.op _ _ _ _ _ _ result same_types same_sources
 
   -- the row of the data of an instruction
-  row_shown : (p : Placed) (inst : LLVMInst) → p.instruction ≡ instruction_of (trees_of m) inst → row_in m h p ≡ option_map (renamed_row slot_of) (row (data_of m) (data_in m h) p (instruction_of (trees_of m) inst))
-  row_shown p inst e = ap (λ (j : Instruction). option_map (renamed_row slot_of) (row (data_of m) (data_in m h) p j)) e
+  row_shown : (p : Placed) (inst : LLVMInst) → p.instruction ≡ instruction_of (trees_of m) inst → row_in m h p ≡ option_map (renamed_row slot_of) (row (setting_in m) (data_in m h) p (instruction_of (trees_of m) inst))
+  row_shown p inst e = ap (λ (j : Instruction). option_map (renamed_row slot_of) (row (setting_in m) (data_in m h) p j)) e
 
-  pub row_is : (b : ℕ) (i : LLVMInstRef) (p : Placed) (r : Row) (a : Action) → IsRowIn m h b i p r → action_of a ≡ renamed_action slot_of (action (data_of m) (data_in m h) p.type (row_of (trees_of m) r)) → row_in m h p ≡ Some (row_of_body (record { action = a; result = Result i.0 }))
+  pub row_is : (b : ℕ) (i : LLVMInstRef) (p : Placed) (r : Row) (a : Action) → IsRowIn m h b i p r → action_of a ≡ renamed_action slot_of (action (setting_in m) (data_in m h) p.type (row_of (trees_of m) r)) → row_in m h p ≡ Some (row_of_body (record { action = a; result = Result i.0 }))
   row_is b i p r a at is =
       let k = kept_at m h b i p at.placed in
       let number : i.0 ≡ p.number = sym (ap (λ (q : Placed). q.number) k.is) in
-      row_shown p (I.Row r) (kept_inst m i p (I.Row r) k at.is) ∙ sym (row_same (action_of a) (renamed_action slot_of (action (data_of m) (data_in m h) p.type (row_of (trees_of m) r))) i.0 p.number is number)
+      row_shown p (I.Row r) (kept_inst m i p (I.Row r) k at.is) ∙ sym (row_same (action_of a) (renamed_action slot_of (action (setting_in m) (data_in m h) p.type (row_of (trees_of m) r))) i.0 p.number is number)
 
   -- a phi has none
   pub no_row : (b : ℕ) (i : LLVMInstRef) (p : Placed) (t : LLVMType) (es : List PhiEntry) → IsPlacedIn m h b i p → option_map (λ (x : InstData). x.inst) (slice_get m.insts i.0) ≡ Some (I.Phi t es) → row_in m h p ≡ None

@@ -8,6 +8,7 @@ use Rattle.dialect_core.specs.ContextData.{ContextData}
 use Rattle.dialect_core.specs.Data.{DialectOp, Func, IsTyped, data_of, func_in, op_at, type_in}
 use Rattle.dialect_core.specs.WellFormed.{IsInteger, IsWellFormedFunc, IsWellFormedOp}
 use Rattle.meaning.specs.Machine as M
+use Rattle.meaning.specs.Setting.{Setting}
 use Rattle.meaning.specs.Dialect as Dialect
 use Rattle.meaning.specs.Pairs.{Matched}
 use Rattle.tracing.specs.declared.body.Slot.{Slot}
@@ -50,6 +51,6 @@ pub record IsUsed (c : ContextData) (v : Value) : Type 0 where
   pub typed : type_in c v ≡ Some type
   pub integer : IsInteger type
 
--- the rows of operations
-abbrev pub rows_of : ContextData → List DialectOp → List (M.Row Slot)
-rows_of c os = map (λ (o : DialectOp). renamed_row slot_of (Dialect.typed_row (type_in c) o)) os
+-- the rows of operations, in what a module tells
+abbrev pub rows_of : Setting → ContextData → List DialectOp → List (M.Row Slot)
+rows_of setting c os = map (λ (o : DialectOp). renamed_row slot_of (Dialect.typed_row setting (type_in c) o)) os

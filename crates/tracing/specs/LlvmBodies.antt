@@ -18,7 +18,8 @@ use Rattle.llvm_core.specs.Data.{Placed, Function, trees_of, function_of, block_
 use Rattle.llvm_core.specs.Checked.{IsChecked, home}
 use Rattle.llvm_core.specs.Form.{IsOperandOf, is_phi}
 use Rattle.meaning.specs.Machine as M
-use Rattle.meaning.specs.Llvm.{Key, ParamKey, ResultKey, operand, row, entry_for}
+use Rattle.meaning.specs.Llvm.{Key, ParamKey, ResultKey, setting_of, operand, row, entry_for}
+use Rattle.meaning.specs.Setting.{Setting}
 use Rattle.meaning.specs.Pairs.{Matched}
 use Rattle.tracing.specs.declared.body.Slot.{Slot}
 use Rattle.tracing.specs.declared.body.Slot.TheVariants.{Input, Result}
@@ -45,8 +46,12 @@ pub record InChecked (m : Module) : Type 0 where
 abbrev pub data_in : (m : Module) → InChecked m → Function
 data_in m h = function_of (trees_of m) m.blocks m.insts (h.number, h.function)
 
+-- what it tells its bodies
+abbrev pub setting_in : Module → Setting
+setting_in m = setting_of (data_of m)
+
 abbrev pub operand_in : Module → LLVMValue → M.Operand Slot
-operand_in m v = renamed slot_of (operand (data_of m) (operand_of (trees_of m) v))
+operand_in m v = renamed slot_of (operand (setting_in m) (operand_of (trees_of m) v))
 
 -- no type of a function
 abbrev pub IsNoFunction : L.TypeTree → Type 0
@@ -74,7 +79,7 @@ ArePlacedIn m h b is ps = Matched (IsPlacedIn m h b) is ps
 
 -- the row of an instruction, none for a phi
 abbrev pub row_in : (m : Module) → InChecked m → Placed → Option (M.Row Slot)
-row_in m h p = option_map (renamed_row slot_of) (row (data_of m) (data_in m h) p p.instruction)
+row_in m h p = option_map (renamed_row slot_of) (row (setting_in m) (data_in m h) p p.instruction)
 
 abbrev pub rows_in : (m : Module) → InChecked m → List Placed → List (M.Row Slot)
 rows_in m h ps = filter_map (row_in m h) ps
@@ -90,7 +95,7 @@ pub record IsPhiOf (m : Module) (x : Phi) (p : Placed) : Type 0 where
   pub entries : List (L.Operand × ℕ)
   pub are : phi_entries p.instruction ≡ Some entries
   pub slot : x.slot ≡ Result p.number
-  pub incoming : (from : ℕ) → option_map source_of (get nat_eq x.incoming from) ≡ option_map (renamed slot_of) (entry_for (data_of m) from entries)
+  pub incoming : (from : ℕ) → option_map source_of (get nat_eq x.incoming from) ≡ option_map (renamed slot_of) (entry_for (setting_in m) from entries)
 
 -- the phis of instructions, in order
 abbrev pub ArePhisOf : Module → List Phi → List Placed → Type 0

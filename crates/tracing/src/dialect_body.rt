@@ -5,6 +5,7 @@ ghost use Rattle.std.specs.List.{flat_map};
 ghost use Rattle.support.specs.Interned.{IsDistinctList};
 ghost use Rattle.dialect_core.specs.declared.ops.Value as values;
 ghost use Rattle.dialect_core.specs.Data.{DialectBlock, DialectOp, type_in};
+ghost use Rattle.meaning.specs.Setting.{Setting};
 ghost use Rattle.meaning.specs.Dialect as dialect;
 ghost use Rattle.tracing.specs.Bodies.{block_of, code_of, start_of};
 ghost use Rattle.tracing.specs.Renamed.{renamed_block, renamed_code};
@@ -101,7 +102,7 @@ fn ops_of(alloc: Global, ctx: &Context, b: BlockRef) -> Result<Vec<OpRef>, Alloc
 fn block(alloc: Global, ctx: &Context, places: &Places, b: BlockRef) -> Result<Block, AllocError>
     requires within { b.0 < length ctx.now.blocks }
     requires block { (h : InContext ctx.now) × (y : DialectBlock) × IsBlockIn ctx.now h b y }
-    ensures { IfOk result (λ r. (h : InContext ctx.now) → (y : DialectBlock) → IsBlockIn ctx.now h b y → places.now ≡ numbers_of h.function → block_of (params_of h.function) r ≡ renamed_block slot_of (dialect.typed_block (type_in ctx.now) h.function y)) }
+    ensures { IfOk result (λ r. (setting : Setting) → (h : InContext ctx.now) → (y : DialectBlock) → IsBlockIn ctx.now h b y → places.now ≡ numbers_of h.function → block_of (params_of h.function) r ≡ renamed_block slot_of (dialect.typed_block setting (type_in ctx.now) h.function y)) }
 {
     let ops = ops_of(alloc, ctx, b)?;
     Ok(Block {
@@ -119,7 +120,7 @@ fn blocks(
 ) -> Result<Items<Block>, AllocError>
     requires within { All (λ b. b.0 < length ctx.now.blocks) list.now }
     requires blocks { (h : InContext ctx.now) × AreBlocksIn ctx.now h list.now }
-    ensures { IfOk result (λ bs. (h : InContext ctx.now) → AreBlocksIn ctx.now h list.now → places.now ≡ numbers_of h.function → code_of (params_of h.function) bs ≡ renamed_code slot_of (map (dialect.typed_block (type_in ctx.now) h.function) h.function.blocks)) }
+    ensures { IfOk result (λ bs. (setting : Setting) → (h : InContext ctx.now) → AreBlocksIn ctx.now h list.now → places.now ≡ numbers_of h.function → code_of (params_of h.function) bs ≡ renamed_code slot_of (map (dialect.typed_block setting (type_in ctx.now) h.function) h.function.blocks)) }
 {
     let mut blocks = Items::new(alloc);
     for b in list {
@@ -188,7 +189,7 @@ fn placed_blocks(
     requires within { All (λ b. b.0 < length ctx.now.blocks) list.now }
     requires once { IsDistinctList (map (λ b. b.0) list.now) }
     requires blocks { (h : InContext ctx.now) × AreBlocksIn ctx.now h list.now }
-    ensures { IfOk result (λ bs. (h : InContext ctx.now) → AreBlocksIn ctx.now h list.now → code_of (params_of h.function) bs ≡ renamed_code slot_of (map (dialect.typed_block (type_in ctx.now) h.function) h.function.blocks)) }
+    ensures { IfOk result (λ bs. (setting : Setting) → (h : InContext ctx.now) → AreBlocksIn ctx.now h list.now → code_of (params_of h.function) bs ≡ renamed_code slot_of (map (dialect.typed_block setting (type_in ctx.now) h.function) h.function.blocks)) }
 {
     let places = block_places(alloc, list)?;
     blocks(alloc, ctx, &places, list)
@@ -197,7 +198,7 @@ fn placed_blocks(
 /// The body of a well-formed function.
 pub fn dialect_body(alloc: Global, ctx: &Context, f: FuncOp) -> Result<Body, AllocError>
     requires { (h : InContext ctx.now) × (h.op ≡ f.0) }
-    ensures code { IfOk result (λ body. (h : InContext ctx.now) → h.op ≡ f.0 → code_of body.params body.blocks ≡ renamed_code slot_of (map (dialect.typed_block (type_in ctx.now) h.function) h.function.blocks)) }
+    ensures code { IfOk result (λ body. (setting : Setting) → (h : InContext ctx.now) → h.op ≡ f.0 → code_of body.params body.blocks ≡ renamed_code slot_of (map (dialect.typed_block setting (type_in ctx.now) h.function) h.function.blocks)) }
     ensures start { IfOk result (λ body. (h : InContext ctx.now) → h.op ≡ f.0 → (v : values.Value) → start_of body.holder body.inputs (slot_of v) ≡ dialect.start h.function.blocks v) }
 {
     let list = ctx.op_blocks(f.0);

@@ -7,6 +7,7 @@ ghost use Rattle.dialect_core.specs.Data.{DialectBlock, DialectOp, RowOp, IsType
 ghost use Rattle.dialect_core.specs.Form.{IsShortInt};
 ghost use Rattle.dialect_core.specs.WellFormed.{IsInteger};
 ghost use Rattle.meaning.specs.Machine as machine;
+ghost use Rattle.meaning.specs.Setting.{Setting};
 ghost use Rattle.meaning.specs.Dialect as dialect;
 ghost use Rattle.meaning.specs.Dialect.{option_type, type_of};
 ghost use Rattle.tracing.specs.Table.{tree_of};
@@ -127,7 +128,7 @@ fn parts_of(value: &ConstAttr) -> (TypeHandle, u64)
 fn constant(ctx: &Context, value: &ConstAttr) -> Action
     requires within { HasTypesBelow (length ctx.now.types) value.now }
     requires short { (type : TypeTree) → (number : ℕ) → attr_tree (type_trees ctx.now.types) value.now ≡ IntegerAttr type number → IsShortInt type }
-    ensures { action_of result ≡ machine.Holds (dialect.attr_term (attr_tree (type_trees ctx.now.types) value.now)) }
+    ensures { (setting : Setting) → action_of result ≡ machine.Holds (dialect.attr_term setting (attr_tree (type_trees ctx.now.types) value.now)) }
 {
     let (ty, number) = parts_of(value);
     Action::Holds(int_width(ctx, ty), u128::from(number))
@@ -136,7 +137,7 @@ fn constant(ctx: &Context, value: &ConstAttr) -> Action
 /// What an operation of a row of the table does: it applies that to its operands.
 fn applied(alloc: Global, ctx: &Context, op: OpRef, row: Op) -> Result<Action, AllocError>
     requires { (h : InContext ctx.now) × (o : DialectOp) × IsOpIn ctx.now h op o }
-    ensures { IfOk result (λ a. (h : InContext ctx.now) → (o : DialectOp) → IsOpIn ctx.now h op o → action_of a ≡ renamed_action slot_of (dialect.typed_action (type_in ctx.now) o (RowOp row))) }
+    ensures { IfOk result (λ a. (setting : Setting) → (h : InContext ctx.now) → (o : DialectOp) → IsOpIn ctx.now h op o → action_of a ≡ renamed_action slot_of (dialect.typed_action setting (type_in ctx.now) o (RowOp row))) }
 {
     let values = ctx.op_operands(op);
     let operand_types = operand_types(alloc, ctx, values)?;
@@ -155,7 +156,7 @@ fn applied(alloc: Global, ctx: &Context, op: OpRef, row: Op) -> Result<Action, A
 /// What an operation does.
 fn action(alloc: Global, ctx: &Context, op: OpRef) -> Result<Action, AllocError>
     requires { (h : InContext ctx.now) × (o : DialectOp) × IsOpIn ctx.now h op o }
-    ensures { IfOk result (λ a. (h : InContext ctx.now) → (o : DialectOp) → IsOpIn ctx.now h op o → action_of a ≡ renamed_action slot_of (dialect.typed_action (type_in ctx.now) o o.kind)) }
+    ensures { IfOk result (λ a. (setting : Setting) → (h : InContext ctx.now) → (o : DialectOp) → IsOpIn ctx.now h op o → action_of a ≡ renamed_action slot_of (dialect.typed_action setting (type_in ctx.now) o o.kind)) }
 {
     match ctx.op_kind(op) {
         OpKind::Constant(value) => Ok(constant(ctx, value)),
@@ -166,7 +167,7 @@ fn action(alloc: Global, ctx: &Context, op: OpRef) -> Result<Action, AllocError>
 
 fn row(alloc: Global, ctx: &Context, op: OpRef) -> Result<Row, AllocError>
     requires { (h : InContext ctx.now) × (o : DialectOp) × IsOpIn ctx.now h op o }
-    ensures { IfOk result (λ r. (h : InContext ctx.now) → (o : DialectOp) → IsOpIn ctx.now h op o → row_of r ≡ renamed_row slot_of (dialect.typed_row (type_in ctx.now) o)) }
+    ensures { IfOk result (λ r. (setting : Setting) → (h : InContext ctx.now) → (o : DialectOp) → IsOpIn ctx.now h op o → row_of r ≡ renamed_row slot_of (dialect.typed_row setting (type_in ctx.now) o)) }
 {
     let action = action(alloc, ctx, op)?;
     Ok(Row {
@@ -178,7 +179,7 @@ fn row(alloc: Global, ctx: &Context, op: OpRef) -> Result<Row, AllocError>
 /// The rows of the operations of a block.
 pub fn rows(alloc: Global, ctx: &Context, ops: &[OpRef]) -> Result<Items<Row>, AllocError>
     requires { (h : InContext ctx.now) × (os : List DialectOp) × AreOpsIn ctx.now h ops.now os }
-    ensures { IfOk result (λ rows. (h : InContext ctx.now) → (os : List DialectOp) → AreOpsIn ctx.now h ops.now os → map row_of rows ≡ rows_of ctx.now os) }
+    ensures { IfOk result (λ rows. (setting : Setting) → (h : InContext ctx.now) → (os : List DialectOp) → AreOpsIn ctx.now h ops.now os → map row_of rows ≡ rows_of setting ctx.now os) }
 {
     let mut rows = Items::new(alloc);
     for op in ops {

@@ -5,11 +5,11 @@ ghost use Rattle.std.specs.List.{flat_map};
 ghost use Rattle.std.specs.Option.{option_map_or};
 ghost use Rattle.llvm_core.specs.Edges.{targets as leads_to};
 ghost use Rattle.llvm_core.specs.Data as lists;
-ghost use Rattle.llvm_core.specs.Data.{Placed, targets, data_of};
+ghost use Rattle.llvm_core.specs.Data.{Placed, targets};
 ghost use Rattle.meaning.specs.Llvm as llvm;
 ghost use Rattle.tracing.specs.Bodies.{block_of, code_of, start_of};
 ghost use Rattle.tracing.specs.Renamed.{renamed_block, renamed_code};
-ghost use Rattle.tracing.specs.LlvmBodies.{slot_of, InChecked, data_in, ArePlacedIn, IsIndexOf, IsBlockIn, slots_of, taken_from, phis_at, params_in, edge_to};
+ghost use Rattle.tracing.specs.LlvmBodies.{setting_in, slot_of, InChecked, data_in, ArePlacedIn, IsIndexOf, IsBlockIn, slots_of, taken_from, phis_at, params_in, edge_to};
 
 use crate::body::{Block, Body, Edge, Slot, Source};
 use crate::llvm_index::{Index, Phi, index_of};
@@ -109,7 +109,7 @@ fn block(
 ) -> Result<Block, AllocError>
     requires within { b.0 < length m.now.blocks }
     requires block { (h : InChecked m.now) × (y : lists.Block) × IsBlockIn m.now h b y }
-    ensures { IfOk result (λ r. (h : InChecked m.now) → (y : lists.Block) → IsBlockIn m.now h b y → IsIndexOf m.now h index.now → block_of (params_in index.now) r ≡ renamed_block slot_of (llvm.block (data_of m.now) (data_in m.now h) y)) }
+    ensures { IfOk result (λ r. (h : InChecked m.now) → (y : lists.Block) → IsBlockIn m.now h b y → IsIndexOf m.now h index.now → block_of (params_in index.now) r ≡ renamed_block slot_of (llvm.block (setting_in m.now) (data_in m.now h) y)) }
 {
     let insts = m.instructions(b);
     Ok(Block {
@@ -126,7 +126,7 @@ fn blocks(
     f: LLVMFunction,
 ) -> Result<Items<Block>, AllocError>
     requires { (h : InChecked m.now) × (h.number ≡ f.0) }
-    ensures { IfOk result (λ bs. (h : InChecked m.now) → h.number ≡ f.0 → IsIndexOf m.now h index.now → code_of (params_in index.now) bs ≡ renamed_code slot_of (map (llvm.block (data_of m.now) (data_in m.now h)) (data_in m.now h).blocks)) }
+    ensures { IfOk result (λ bs. (h : InChecked m.now) → h.number ≡ f.0 → IsIndexOf m.now h index.now → code_of (params_in index.now) bs ≡ renamed_code slot_of (map (llvm.block (setting_in m.now) (data_in m.now h)) (data_in m.now h).blocks)) }
 {
     let mut blocks = Items::new(alloc);
     for b in m.blocks(f) {
@@ -189,7 +189,7 @@ fn body_over(
     index: &Index,
 ) -> Result<Body, AllocError>
     requires { (h : InChecked m.now) × (h.number ≡ f.0) }
-    ensures code { IfOk result (λ body. (h : InChecked m.now) → h.number ≡ f.0 → IsIndexOf m.now h index.now → code_of body.params body.blocks ≡ renamed_code slot_of (map (llvm.block (data_of m.now) (data_in m.now h)) (data_in m.now h).blocks)) }
+    ensures code { IfOk result (λ body. (h : InChecked m.now) → h.number ≡ f.0 → IsIndexOf m.now h index.now → code_of body.params body.blocks ≡ renamed_code slot_of (map (llvm.block (setting_in m.now) (data_in m.now h)) (data_in m.now h).blocks)) }
     ensures start { IfOk result (λ body. (h : InChecked m.now) → h.number ≡ f.0 → inputs ≡ llvm.arity (data_in m.now h).type → (k : llvm.Key) → start_of body.holder body.inputs (slot_of k) ≡ llvm.start (data_in m.now h) k) }
 {
     let params = params(alloc, index)?;
@@ -205,7 +205,7 @@ fn body_over(
 /// The body of a function of a checked module.
 pub fn llvm_body(alloc: Global, m: &LLVMModule, f: LLVMFunction) -> Result<Body, AllocError>
     requires { (h : InChecked m.now) × (h.number ≡ f.0) }
-    ensures code { IfOk result (λ body. (h : InChecked m.now) → h.number ≡ f.0 → code_of body.params body.blocks ≡ renamed_code slot_of (map (llvm.block (data_of m.now) (data_in m.now h)) (data_in m.now h).blocks)) }
+    ensures code { IfOk result (λ body. (h : InChecked m.now) → h.number ≡ f.0 → code_of body.params body.blocks ≡ renamed_code slot_of (map (llvm.block (setting_in m.now) (data_in m.now h)) (data_in m.now h).blocks)) }
     ensures start { IfOk result (λ body. (h : InChecked m.now) → h.number ≡ f.0 → (k : llvm.Key) → start_of body.holder body.inputs (slot_of k) ≡ llvm.start (data_in m.now h) k) }
 {
     let inputs = inputs(m, f)?;

@@ -6,13 +6,13 @@ ghost use Rattle.indexmap.specs.IndexMap.{get};
 ghost use Rattle.support.specs.Interned.{IsDistinctList};
 ghost use Rattle.llvm_core.specs.Sound.{IsModule};
 ghost use Rattle.llvm_core.specs.Parts.{IsEntry};
-ghost use Rattle.llvm_core.specs.Data.{Placed, entry_of, trees_of, data_of};
+ghost use Rattle.llvm_core.specs.Data.{Placed, entry_of, trees_of};
 ghost use Rattle.llvm_core.specs.Form as form;
 ghost use Rattle.meaning.specs.Llvm as llvm;
 ghost use Rattle.meaning.specs.Pairs.{Matched};
 ghost use Rattle.tracing.specs.Bodies.{source_of};
 ghost use Rattle.tracing.specs.Renamed.{renamed};
-ghost use Rattle.tracing.specs.LlvmBodies.{slot_of, first_of, operand_in, InChecked, data_in, ArePlacedIn, IsPlacedIn, IsPhiOf, ArePhisOf, IsIndexOf, IsBlockIn};
+ghost use Rattle.tracing.specs.LlvmBodies.{setting_in, slot_of, first_of, operand_in, InChecked, data_in, ArePlacedIn, IsPlacedIn, IsPhiOf, ArePhisOf, IsIndexOf, IsBlockIn};
 
 use crate::body::{Slot, Source};
 use crate::llvm_rows::source;
@@ -63,7 +63,7 @@ fn incoming(
 ) -> Result<IndexMap<u32, Source>, AllocError>
     requires sound { IsModule m.now }
     requires entries { All (IsEntry m.now) entries.now }
-    ensures { IfOk result (λ incoming. (from : ℕ) → option_map source_of (get nat_eq incoming from) ≡ option_map (renamed slot_of) (llvm.entry_for (data_of m.now) from (map (entry_of (trees_of m.now)) entries.now))) }
+    ensures { IfOk result (λ incoming. (from : ℕ) → option_map source_of (get nat_eq incoming from) ≡ option_map (renamed slot_of) (llvm.entry_for (setting_in m.now) from (map (entry_of (trees_of m.now)) entries.now))) }
 {
     let mut incoming = IndexMap::new(alloc);
     for entry in entries {

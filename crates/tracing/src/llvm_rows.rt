@@ -6,14 +6,14 @@ ghost use Rattle.llvm_core.specs.declared.code.LLVMValue.TheVariants as values;
 ghost use Rattle.llvm_core.specs.Sound.{IsModule};
 ghost use Rattle.llvm_core.specs.declared.types.LLVMTypeKind.TheVariants as types;
 ghost use Rattle.llvm_core.specs.Parts.{IsValue};
-ghost use Rattle.llvm_core.specs.Data.{IntType, Placed, type_at, const_at, operand_of, operand_type, row_of, trees_of, data_of};
+ghost use Rattle.llvm_core.specs.Data.{IntType, Placed, type_at, const_at, operand_of, operand_type, row_of, trees_of};
 ghost use Rattle.meaning.specs.Machine as machine;
 ghost use Rattle.meaning.specs.Llvm as llvm;
 ghost use Rattle.tracing.specs.Table.{tree_of};
 ghost use Rattle.tracing.specs.Bodies as bodies;
 ghost use Rattle.tracing.specs.Bodies.{source_of, action_of};
 ghost use Rattle.tracing.specs.Renamed.{renamed_action};
-ghost use Rattle.tracing.specs.LlvmBodies.{slot_of, InChecked, IsNoFunction, data_in, operand_in, IsUsed, IsPlacedIn, ArePlacedIn, IsRowIn, row_in, rows_in};
+ghost use Rattle.tracing.specs.LlvmBodies.{setting_in, slot_of, InChecked, IsNoFunction, data_in, operand_in, IsUsed, IsPlacedIn, ArePlacedIn, IsRowIn, row_in, rows_in};
 
 use crate::body::{Action, Row, Slot, Source};
 use crate::table::ValueType;
@@ -54,7 +54,7 @@ fn int_width(m: &LLVMModule, ty: LLVMType) -> u32
 fn constant(m: &LLVMModule, c: LLVMConst) -> Source
     requires sound { IsModule m.now }
     requires within { c.0 < length m.now.consts }
-    ensures { source_of result ≡ machine.Fixed (llvm.const_term (data_of m.now) (const_at (trees_of m.now).consts c)) }
+    ensures { source_of result ≡ machine.Fixed (llvm.const_term (setting_in m.now) (const_at (trees_of m.now).consts c)) }
 {
     match m.const_kind(c) {
         LLVMConstKind::Int(ty, value) => Source::Int(int_width(m, *ty), *value),
@@ -117,7 +117,7 @@ fn action(
     row: &TableRow,
 ) -> Result<Action, AllocError>
     requires { (h : InChecked m.now) × (b : ℕ) × (p : Placed) × IsRowIn m.now h b i p row.now }
-    ensures { IfOk result (λ a. (h : InChecked m.now) → (b : ℕ) → (p : Placed) → IsRowIn m.now h b i p row.now → action_of a ≡ renamed_action slot_of (llvm.action (data_of m.now) (data_in m.now h) p.type (row_of (trees_of m.now) row.now))) }
+    ensures { IfOk result (λ a. (h : InChecked m.now) → (b : ℕ) → (p : Placed) → IsRowIn m.now h b i p row.now → action_of a ≡ renamed_action slot_of (llvm.action (setting_in m.now) (data_in m.now h) p.type (row_of (trees_of m.now) row.now))) }
 {
     let values = row.operands.as_slice();
     let operand_types = operand_types(alloc, m, values)?;

@@ -33,7 +33,7 @@ pub fn trace_of_llvm(
 ) -> Result<Trace, AllocError>
     requires checked { IsChecked «module».now }
     requires function { f.0 < length «module».now.functions }
-    ensures exact { IfOk result (λ t. (x : Function) → slice_get (data_of «module».now).functions f.0 ≡ Some x → map (item_of (terms t.terms)) t.items.items ≡ (llvm.body (data_of «module».now) x).trace choices.now) }
+    ensures exact { IfOk result (λ t. (x : Function) → slice_get (data_of «module».now).functions f.0 ≡ Some x → map (item_of (terms t.terms)) t.items.items ≡ (llvm.body (llvm.setting_of (data_of «module».now)) x).trace choices.now) }
     ensures within { IfOk result (λ t. All (HasPlacesBelow (length t.terms)) t.items.items) }
     ensures shared { IfOk result (λ t. IsDistinctList (terms t.terms)) }
     ensures parts { IfOk result (λ t. IsGrounded t.terms) }
@@ -57,7 +57,7 @@ pub fn trace_of_dialect(
     requires typed { IsTyped ctx.now }
     requires well_formed { IsWellFormed ctx.now «module».0.0 }
     requires body { HasBody ctx.now «module».0.0 f.0 }
-    ensures exact { IfOk result (λ t. (place : ℕ) (g : Func) → slice_get (context.data_of ctx.now «module».0.0).functions place ≡ Some g → g.number ≡ f.0.0 → map (item_of (terms t.terms)) t.items.items ≡ (dialect.typed_body (type_in ctx.now) g).trace choices.now) }
+    ensures exact { IfOk result (λ t. (place : ℕ) (g : Func) → slice_get (context.data_of ctx.now «module».0.0).functions place ≡ Some g → g.number ≡ f.0.0 → map (item_of (terms t.terms)) t.items.items ≡ (dialect.typed_body (dialect.setting_of (context.data_of ctx.now «module».0.0)) (type_in ctx.now) g).trace choices.now) }
     ensures within { IfOk result (λ t. All (HasPlacesBelow (length t.terms)) t.items.items) }
     ensures shared { IfOk result (λ t. IsDistinctList (terms t.terms)) }
     ensures parts { IfOk result (λ t. IsGrounded t.terms) }

@@ -5,6 +5,7 @@ use Rattle.llvm_core.specs.Data.{ModuleData}
 use Rattle.llvm_core.specs.Form.{IsFormFunction}
 use Rattle.dialect_core.specs.Data as D
 use Rattle.meaning.specs.Terms.{Match}
+use Rattle.meaning.specs.Setting.{Setting}
 use Rattle.meaning.specs.Code.{FunctionSymbol, External, SameNamed, SameBody}
 use Rattle.meaning.specs.Examples.{same_places}
 use Rattle.meaning.specs.Llvm as Llvm
@@ -21,9 +22,10 @@ use Rattle.to_llvm_ir.proofs.CodeLaws.{named_count}
 
 module _ (match : Match) (d : ModuleData) (f : L.Function) (x : FunctionBlocks) (g : D.Func) (here : (b : ℕ) → match.block f.name b ≡ place_at b x)
     (form : IsFormFunction f) (h : ImportedFunction d f x g) where
-  module _ (d' : ModuleData) (f' : L.Function) (k : ExportedFunction d' g f') where
+  -- whatever the source, the dialect module and the module back tell
+  module _ (f' : L.Function) (k : ExportedFunction g f') (source made back : Setting) where
     back_blocks : length f'.blocks ≡ length f.blocks
-    back_blocks = named_count d' g f' k ∙ same_blocks d f x g h
+    back_blocks = named_count g f' k ∙ same_blocks d f x g h
 
     pub form_back : IsFormFunction f'
     form_back = k.form h.targets
@@ -32,22 +34,22 @@ module _ (match : Match) (d : ModuleData) (f : L.Function) (x : FunctionBlocks) 
     has_back = some_blocks f'.blocks form_back.body
 
     -- the trace of the function back is that of the dialect's
-    trace_back : (cs : List ℕ) → (Llvm.body d' f').trace cs ≡ (Dialect.body g).trace cs
-    trace_back cs = sym (items_same f'.name ((Llvm.body d' f').trace cs)) ∙ woven_first same_places d' f' g k.shape (k.sets h.first.others) cs
+    trace_back : (cs : List ℕ) → (Llvm.body back f').trace cs ≡ (Dialect.body made g).trace cs
+    trace_back cs = sym (items_same f'.name ((Llvm.body back f').trace cs)) ∙ woven_first same_places back f' made g (k.shape back made) (k.sets h.first.others back made) cs
 
-    body_back : SameBody match f.name (Llvm.body d f) (Llvm.body d' f')
+    body_back : SameBody match f.name (Llvm.body source f) (Llvm.body back f')
     body_back = record {
       blocks = one_to_one x (length f.blocks) (length f'.blocks) (match.block f.name) h.places here back_blocks;
-      traces = λ cs. (imported_body match d f x g here form h).traces cs ∙ sym (trace_back cs);
+      traces = λ cs. (imported_body match d f x g here form h source made).traces cs ∙ sym (trace_back cs);
     }
 
-    pub entry_back : SameNamed match (Llvm.entry d f) (Llvm.entry d' f')
+    pub entry_back : SameNamed match (Llvm.entry source f) (Llvm.entry back f')
     entry_back = record {
       name = sym h.name ∙ sym k.name;
       entry = record {
         symbol =
             same_symbol match f.type f'.type f.space (Llvm.has_blocks f) (Llvm.has_blocks f') (sym h.type ∙ sym k.type) form.space (has match d f x g here form h ∙ sym has_back)
             ∙ ap (λ (s : ℕ). FunctionSymbol f'.type External s (Llvm.has_blocks f')) (sym form_back.space);
-        body = both match f.name (Llvm.has_blocks f) (Llvm.has_blocks f') (Llvm.body d f) (Llvm.body d' f') (has match d f x g here form h) has_back body_back;
+        body = both match f.name (Llvm.has_blocks f) (Llvm.has_blocks f') (Llvm.body source f) (Llvm.body back f') (has match d f x g here form h) has_back body_back;
       };
     }

@@ -13,7 +13,9 @@ use Rattle.dialect_core.specs.Form.{HasTargets, IsExportable, LeadsToOwn}
 use Rattle.dialect_core.proofs.TypingLaws.{module_open}
 use Rattle.meaning.specs.Pairs.{Matched}
 use Rattle.meaning.specs.Code.{IsDistinctNames, SameNamed, SameCode}
+use Rattle.meaning.specs.Setting.{Setting}
 use Rattle.meaning.specs.Llvm as Llvm
+use Rattle.meaning.specs.Dialect as Dialect
 use Rattle.meaning.proofs.CodeLaws.{same_code}
 use Rattle.meaning.proofs.EntryLaws.{all_kept, distinct_code}
 use Rattle.from_llvm_ir.specs.declared.importing.Imported.{Imported}
@@ -67,16 +69,16 @@ module _ (d : ModuleData) (xs : List FunctionBlocks) (gs : List D.Func) (form : 
   form_at : (i : ℕ) (f : L.Function) → slice_get d.functions i ≡ Some f → IsFormFunction f
   form_at i f at = within_at d.functions IsFormFunction form i f at
 
-  module _ (d' : ModuleData) (k : Matched (ExportedFunction d') gs d'.functions) where
-    exported_at : (i : ℕ) (g : D.Func) (f' : L.Function) → slice_get gs i ≡ Some g → slice_get d'.functions i ≡ Some f' → ExportedFunction d' g f'
-    exported_at i g f' at bt = matched_at (ExportedFunction d') gs d'.functions k i g f' at bt
+  module _ (d' : ModuleData) (k : Matched ExportedFunction gs d'.functions) where
+    exported_at : (i : ℕ) (g : D.Func) (f' : L.Function) → slice_get gs i ≡ Some g → slice_get d'.functions i ≡ Some f' → ExportedFunction g f'
+    exported_at i g f' at bt = matched_at ExportedFunction gs d'.functions k i g f' at bt
 
-    entries_back : Matched (λ (f f' : L.Function). SameNamed (match_of d xs) (Llvm.entry d f) (Llvm.entry d' f')) d.functions d'.functions
-    entries_back = matched_of (λ (f f' : L.Function). SameNamed (match_of d xs) (Llvm.entry d f) (Llvm.entry d' f')) d.functions d'.functions
-        (sym (matched_length (ExportedFunction d') gs d'.functions k ∙ (count_imported d d.functions xs gs h).1)) (λ i f f' at bt.
+    entries_back : (source made back : Setting) → Matched (λ (f f' : L.Function). SameNamed (match_of d xs) (Llvm.entry source f) (Llvm.entry back f')) d.functions d'.functions
+    entries_back source made back = matched_of (λ (f f' : L.Function). SameNamed (match_of d xs) (Llvm.entry source f) (Llvm.entry back f')) d.functions d'.functions
+        (sym (matched_length ExportedFunction gs d'.functions k ∙ (count_imported d d.functions xs gs h).1)) (λ i f f' at bt.
         let p = partner d d.functions xs gs h i f at in
-        entry_back (match_of d xs) d f p.entry p.func (matched_place d xs gs distinct numbered h i f p.entry at p.entry_at) (form_at i f at) p.imported d' f'
-        (exported_at i p.func f' p.func_at bt))
+        entry_back (match_of d xs) d f p.entry p.func (matched_place d xs gs distinct numbered h i f p.entry at p.entry_at) (form_at i f at) p.imported f'
+        (exported_at i p.func f' p.func_at bt) source made back)
 
 -- ---- modules
 
@@ -87,14 +89,16 @@ module _ (m back : Module) (c : ContextData) (i : Imported) (form : IsForm (data
 
   names_back : function_names (data_of back).functions ≡ function_names (data_of m).functions
   names_back =
-      names_exported (data_of back) (imported_data c i).functions (data_of back).functions exported.functions
+      names_exported (imported_data c i).functions (data_of back).functions exported.functions
       ∙ names_imported (data_of m) (data_of m).functions i.blocks (imported_data c i).functions imported.functions
 
   same_back : SameCode (match_of (data_of m) i.blocks) (Llvm.code_of (data_of m)) (Llvm.code_of (data_of back))
   same_back =
       let match = match_of (data_of m) i.blocks in
-      let pairs = matched_map (SameNamed match) (Llvm.entry (data_of m)) (Llvm.entry (data_of back)) (data_of m).functions (data_of back).functions
-      (entries_back (data_of m) i.blocks (imported_data c i).functions form distinct.functions (function_numbered m) imported.functions (data_of back) exported.functions) in
+      let source = Llvm.setting_of (data_of m) in
+      let returned = Llvm.setting_of (data_of back) in
+      let pairs = matched_map (SameNamed match) (Llvm.entry source) (Llvm.entry returned) (data_of m).functions (data_of back).functions
+      (entries_back (data_of m) i.blocks (imported_data c i).functions form distinct.functions (function_numbered m) imported.functions (data_of back) exported.functions source (Dialect.setting_of (imported_data c i)) returned) in
       same_code match (Llvm.code_of (data_of m)) (Llvm.code_of (data_of back)) (distinct_code (data_of m) (plain_names (data_of m).functions form) distinct.functions)
       (rw (all_kept (data_of m).functions (plain_names (data_of m).functions form), all_kept (data_of back).functions (plain_names (data_of back).functions form_of_back)) pairs)
 

@@ -46,7 +46,7 @@ pub record SameThroughout (m : ModuleData) (t : Transferred) : Type 0 where
   pub functions : map (λ (f : D.Func). f.name) (dialect_of t).functions ≡ map (λ (f : L.Function). f.name) m.functions
   pub back_functions : map (λ (f : L.Function). f.name) (back_of t).functions ≡ map (λ (f : L.Function). f.name) m.functions
   pub imported : AreImported m m.functions t.blocks (dialect_of t).functions
-  pub exported : Matched (ExportedFunction (back_of t)) (dialect_of t).functions (back_of t).functions
+  pub exported : Matched ExportedFunction (dialect_of t).functions (back_of t).functions
   pub well_formed : IsWellFormed t.ctx t.dialect.0.0
 
 -- ---- refusals

@@ -6,11 +6,11 @@ use Rattle.dialect_core.specs.Data.{func_in}
 use Rattle.to_llvm_ir.specs.Exported.{IsCause}
 use Rattle.to_llvm_ir.proofs.ResultLaws.{passed}
 use Rattle.to_llvm_ir.proofs.ListLaws.{by_option}
-use Rattle.to_llvm_ir.proofs.FinishLaws.{exported_none, held_at, form_held, adds_more, adds_all}
+use Rattle.to_llvm_ir.proofs.FinishLaws.{adds_nothing, held_at, form_held, adds_more, adds_all}
 use Rattle.to_llvm_ir.proofs.exporting.convert_functions.Goals as goal
 
 pub loop-op-init : goal.loop-op-init
-loop-op-init c = exported_none (L.data_of c.args.cctx.now.module)
+loop-op-init c = adds_nothing (L.data_of c.args.cctx.now.module)
 
 pub convert_held-requires-clause-form : goal.convert_held-requires-clause-form
 convert_held-requires-clause-form c = λ g is. form_held c.args.ctx.now c.args.ops.now c.loop-op.op-index _ g c.requires.forms c.loop-op-test.true is

@@ -9,7 +9,7 @@ use Rattle.dialect_core.proofs.TypingLaws.{own_form}
 use Rattle.to_llvm_ir.specs.Causes.{IsFuncCause}
 use Rattle.to_llvm_ir.proofs.ContextLaws.{no_func, some_func}
 use Rattle.to_llvm_ir.proofs.ResultLaws.{passed}
-use Rattle.to_llvm_ir.proofs.FinishLaws.{exported_more, adds_some, adds_none}
+use Rattle.to_llvm_ir.proofs.FinishLaws.{adds_one, adds_some, adds_none}
 use Rattle.to_llvm_ir.proofs.exporting.convert_held.Goals as goal
 
 pub check_own-requires-clause-form : goal.check_own-requires-clause-form
@@ -39,7 +39,7 @@ pub returns-clause-ok : goal.returns-clause-ok
 returns-clause-ok c =
     let g = some_func c.args.ctx.now c.args.op (c.has_symbol.ensures ∙ ap Some c.if-not-has_symbol.false) in
     on_ok_weaker c.convert_func.result
-    (λ adds. adds_some c.args.ctx.now c.args.op g.0 (L.data_of c.args.cctx.now.module) (L.data_of c.convert_func.new.cctx.module) g.1 (exported_more g.0 (L.data_of c.args.cctx.now.module) (L.data_of c.convert_func.new.cctx.module) adds))
+    (λ adds. adds_some c.args.ctx.now c.args.op g.0 (L.data_of c.args.cctx.now.module) (L.data_of c.convert_func.new.cctx.module) g.1 (adds_one g.0 (L.data_of c.args.cctx.now.module) (L.data_of c.convert_func.new.cctx.module) adds))
     (c.convert_func.ensures.ok g.0 g.1 (own_form c.args.ctx.now c.args.op g.0 g.1 (c.in_ok-check_own.ensures.own g.0 g.1 (c.requires.form g.0 g.1)) (c.requires.form g.0 g.1)))
 
 pub returns-clause-cause : goal.returns-clause-cause

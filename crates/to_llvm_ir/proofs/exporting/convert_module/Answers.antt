@@ -3,6 +3,8 @@ use Rattle.std.proofs.Common.{refl}
 use Rattle.llvm_core.specs.Data as L
 use Rattle.llvm_core.proofs.FormLaws.{checked_of_form}
 use Rattle.dialect_core.specs.Data as D
+use Rattle.meaning.specs.Llvm as Llvm
+use Rattle.meaning.specs.Dialect as Dialect
 use Rattle.to_llvm_ir.specs.Exported.{IsCause}
 use Rattle.to_llvm_ir.proofs.ResultLaws.{passed}
 use Rattle.to_llvm_ir.proofs.FinishLaws.{all_exported}
@@ -24,7 +26,7 @@ returns c =
     let made = all_exported context root (D.held context root) _ (L.data_of c.in_ok-cctx.cctx.module) back refl c.in_ok-cctx.ensures.module_data c.name_of.ensures c.in_ok-convert_held_functions.ensures.ok in
     record {
       exported = made;
-      traces = traces_exported context (L.data_of back) source.functions (L.data_of back).functions c.requires.functions made.functions;
+      traces = traces_exported context (Llvm.setting_of (L.data_of back)) (Dialect.setting_of source) source.functions (L.data_of back).functions c.requires.functions made.functions;
       same = λ distinct only. same_exported context source (L.data_of back) c.requires.functions only made.functions distinct;
       form = λ targets. form_exported source back made targets;
       checked = λ distinct targets.

@@ -21,8 +21,8 @@ edges-requires c =
     (h, y.ops, subst (λ (rs : List OpRef). AreOpsIn c.args.ctx.now h rs y.ops) (sym listed) (ops_are c.args.ctx.now h c.args.b y c.requires.block.2))
 
 pub returns : goal.returns
-returns c = λ h y at numbers.
+returns c = λ setting h y at numbers.
     let ops = ops_are c.args.ctx.now h c.args.b y at in
     let first = subst (λ (rs : List OpRef). AreOpsIn c.args.ctx.now h rs y.ops) (sym (c.as_slice.ensures.value ∙ c.in_ok-ops.ensures)) ops in
     let second = subst (λ (rs : List OpRef). AreOpsIn c.args.ctx.now h rs y.ops) (sym (c.as_slice-2.ensures.value ∙ c.in_ok-ops.ensures)) ops in
-    block_is c.args.ctx.now h _ y c.args.places.now numbers (c.in_ok-rows.ensures h y.ops first) (c.in_ok-edges.ensures h y.ops second)
+    block_is setting c.args.ctx.now h _ y c.args.places.now numbers (c.in_ok-rows.ensures setting h y.ops first) (c.in_ok-edges.ensures h y.ops second)

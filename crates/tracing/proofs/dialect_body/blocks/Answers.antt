@@ -18,16 +18,16 @@ block-requires-clause-block c =
 
 pub loop-b-preserved : goal.loop-b-preserved
 loop-b-preserved c = record {
-  at = λ h all numbers.
+  at = λ setting h all numbers.
       let g = h.function in
       let s = matched_at (IsBlockIn c.args.ctx.now h) c.args.list.now g.blocks c.loop-b.b-index some_ref c.loop-b-test.true all in
       rw c.in_ok-push.ensures.ok
-      (mapped_next (block_of (params_of g)) (λ (y : DialectBlock). renamed_block slot_of (typed_block (type_in c.args.ctx.now) g y)) c.loop-b.blocks c.in_ok-made.made g.blocks c.loop-b.b-index s.item s.at (c.loop-b.invariant.at h all numbers) (c.in_ok-made.ensures h s.item s.fits numbers));
+      (mapped_next (block_of (params_of g)) (λ (y : DialectBlock). renamed_block slot_of (typed_block setting (type_in c.args.ctx.now) g y)) c.loop-b.blocks c.in_ok-made.made g.blocks c.loop-b.b-index s.item s.at (c.loop-b.invariant.at setting h all numbers) (c.in_ok-made.ensures setting h s.item s.fits numbers));
 }
 
 pub returns : goal.returns
-returns c = λ h all numbers.
+returns c = λ setting h all numbers.
     let g = h.function in
-    c.loop-b.invariant.at h all numbers
-    ∙ ap (map (λ (y : DialectBlock). renamed_block slot_of (typed_block (type_in c.args.ctx.now) g y))) (take_whole (IsBlockIn c.args.ctx.now h) c.args.list.now g.blocks c.loop-b.b-index c.loop-b-test.false all)
-    ∙ sym (mapped_twice (renamed_block slot_of) (typed_block (type_in c.args.ctx.now) g) g.blocks)
+    c.loop-b.invariant.at setting h all numbers
+    ∙ ap (map (λ (y : DialectBlock). renamed_block slot_of (typed_block setting (type_in c.args.ctx.now) g y))) (take_whole (IsBlockIn c.args.ctx.now h) c.args.list.now g.blocks c.loop-b.b-index c.loop-b-test.false all)
+    ∙ sym (mapped_twice (renamed_block slot_of) (typed_block setting (type_in c.args.ctx.now) g) g.blocks)

@@ -17,11 +17,11 @@ placed_blocks-requires-clause-blocks c =
     (c.requires.0, blocks_are c.args.ctx.now c.requires.0 c.args.f.0 c.op_blocks-list.result.now c.requires.1 c.op_blocks-list.ensures.blocks c.op_blocks-list.ensures.within)
 
 pub returns-clause-code : goal.returns-clause-code
-returns-clause-code c = λ h is.
+returns-clause-code c = λ setting h is.
     let x = c.args.ctx.now in
     let list = c.op_blocks-list.result.now in
     let all = blocks_are x h c.args.f.0 list is c.op_blocks-list.ensures.blocks c.op_blocks-list.ensures.within in
-    rw (c.in_ok-params.ensures h all) (c.in_ok-blocks.ensures h all)
+    rw (c.in_ok-params.ensures h all) (c.in_ok-blocks.ensures setting h all)
 
 pub returns-clause-start : goal.returns-clause-start
 returns-clause-start c = λ h is.

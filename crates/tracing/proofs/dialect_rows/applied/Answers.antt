@@ -30,8 +30,8 @@ result_type-requires-clause-here c =
     (o, at.here, integer_result c.args.ctx.now h.function o.operands o.result o.successors o.kind at.form)
 
 pub returns : goal.returns
-returns c = λ h o at.
+returns c = λ setting h o at.
     let x = c.args.ctx.now in
     let operands = operands_kept x c.args.op o c.op_operands-values.result.now at.here c.op_operands-values.ensures.operands in
-    applied_is (type_in x) o c.args.row (record { result = c.result_type.result; operands = c.in_ok-operand_types.operand_types }) c.in_ok-operands.operands c.op_operands-values.result.now operands (c.result_type.ensures o at.here)
+    applied_is setting (type_in x) o c.args.row (record { result = c.result_type.result; operands = c.in_ok-operand_types.operand_types }) c.in_ok-operands.operands c.op_operands-values.result.now operands (c.result_type.ensures o at.here)
     c.in_ok-operand_types.ensures c.in_ok-operands.ensures

@@ -17,7 +17,7 @@ pub int_width-requires-clause-integer : goal.int_width-requires-clause-integer
 int_width-requires-clause-integer c = short_integer _ (c.requires.short _ _ (ap (attr_tree (type_trees c.args.ctx.now.types)) c.parts_of-number.ensures))
 
 pub returns : goal.returns
-returns c =
+returns c = λ setting.
     let ts = type_trees c.args.ctx.now.types in
     ap (λ (n : ℕ). let a : Action Slot = Holds (Int c.int_width.result n) in a) c.from.ensures
-    ∙ sym (ap (λ (k : ConstAttr). let a : Action Slot = Holds (attr_term (attr_tree ts k)) in a) c.parts_of-number.ensures ∙ ap (λ (t : TypeTree). let a : Action Slot = Holds (int_of (type_of t) c.parts_of-number.result.1) in a) c.int_width.ensures)
+    ∙ sym (ap (λ (k : ConstAttr). let a : Action Slot = Holds (attr_term setting (attr_tree ts k)) in a) c.parts_of-number.ensures ∙ ap (λ (t : TypeTree). let a : Action Slot = Holds (int_of (type_of t) c.parts_of-number.result.1) in a) c.int_width.ensures)

@@ -17,13 +17,13 @@ row-requires c =
 
 pub loop-op-preserved : goal.loop-op-preserved
 loop-op-preserved c = record {
-  at = λ h os all.
+  at = λ setting h os all.
       let s = op_in_at c.args.ctx.now h c.args.ops.now os c.loop-op.op-index c.loop-op-test.true all in
       rw c.in_ok-push.ensures.ok
-      (mapped_next row_of (λ (o : DialectOp). renamed_row slot_of (Dialect.typed_row (type_in c.args.ctx.now) o)) c.loop-op.rows _ os c.loop-op.op-index s.item s.at (c.loop-op.invariant.at h os all) (c.in_ok-row.ensures h s.item s.fits));
+      (mapped_next row_of (λ (o : DialectOp). renamed_row slot_of (Dialect.typed_row setting (type_in c.args.ctx.now) o)) c.loop-op.rows _ os c.loop-op.op-index s.item s.at (c.loop-op.invariant.at setting h os all) (c.in_ok-row.ensures setting h s.item s.fits));
 }
 
 pub returns : goal.returns
-returns c = λ h os all.
-    c.loop-op.invariant.at h os all
-    ∙ ap (rows_of c.args.ctx.now) (take_whole (IsOpIn c.args.ctx.now h) c.args.ops.now os c.loop-op.op-index c.loop-op-test.false all)
+returns c = λ setting h os all.
+    c.loop-op.invariant.at setting h os all
+    ∙ ap (rows_of setting c.args.ctx.now) (take_whole (IsOpIn c.args.ctx.now h) c.args.ops.now os c.loop-op.op-index c.loop-op-test.false all)
