@@ -66,7 +66,7 @@ add_op-requires-clause-operands g c =
     let m = c.args.source.now in
     let noted = c.in_ok-operands.ensures.ok in
     subst (λ (x : ContextData). All (IsValueWithin (length x.ops) (length x.blocks)) c.as_slice.result.now) (sym c.import_result_type.ensures.grown.rest)
-    (subst (All (IsValueWithin (length c.args.ctx.now.ops) (length c.args.ctx.now.blocks))) (sym c.as_slice.ensures.value) (values_within r.0 m c.args.ctx.now c.args.values.now r.2 r.3 r.4 r.6.body _ c.in_ok-operands.operands (operands_stand r.0 m r.1 c.args.targets.now c.args.entries.now c.args.ctx.now c.args.values.now c.args.from c.args.block c.args.i r.2 r.3 r.4 r.5 r.6 c.inst-inst.result.now c.inst-inst.ensures.inst r.7 c.in_ok-operands.operands noted)))
+    (subst (All (IsValueWithin (length c.args.ctx.now.ops) (length c.args.ctx.now.blocks))) (sym c.as_slice.ensures) (values_within r.0 m c.args.ctx.now c.args.values.now r.2 r.3 r.4 r.6.body _ c.in_ok-operands.operands (operands_stand r.0 m r.1 c.args.targets.now c.args.entries.now c.args.ctx.now c.args.values.now c.args.from c.args.block c.args.i r.2 r.3 r.4 r.5 r.6 c.inst-inst.result.now c.inst-inst.ensures.inst r.7 c.in_ok-operands.operands noted)))
 
 pub add_op-requires-clause-successors : goal.add_op-requires-clause-successors
 add_op-requires-clause-successors g c =
@@ -95,7 +95,7 @@ returns-clause-ok g c = λ fr f j x b p h other.
     (record {
       kind = subst (λ (i : Instruction). IsKind i kind.0) (sym (instruction_is m b c.args.i x p c.inst-inst.result.now h.inst c.inst-inst.ensures.inst)) kind.2;
       name = c.in_ok-name.ensures ∙ ap given_name (inst_name m b c.args.i x p c.inst_name.result.now h.inst c.inst_name.ensures);
-      operands = operands_stand fr m f c.args.targets.now c.args.entries.now c.args.ctx.now c.args.values.now c.args.from c.args.block c.args.i j x b p h c.inst-inst.result.now c.inst-inst.ensures.inst other c.as_slice.result.now (subst (AreNoted c.args.values.now (operands c.inst-inst.result.now)) (sym c.as_slice.ensures.value) noted);
+      operands = operands_stand fr m f c.args.targets.now c.args.entries.now c.args.ctx.now c.args.values.now c.args.from c.args.block c.args.i j x b p h c.inst-inst.result.now c.inst-inst.ensures.inst other c.as_slice.result.now (subst (AreNoted c.args.values.now (operands c.inst-inst.result.now)) (sym c.as_slice.ensures) noted);
       successors = edges_stand fr m f c.args.targets.now c.args.entries.now c.args.ctx.now c.args.values.now c.args.from c.args.block c.args.i j x b p h c.inst-inst.result.now c.inst-inst.ensures.inst c.as_slice-2.result.now (subst (λ (ss : List Successor). Matched (IsKnownEdge m fr.source c.args.values.now c.args.targets.now c.args.from) (target_blocks c.inst-inst.result.now) ss) (sym c.as_slice-2.ensures.value) edges);
       result = c.in_ok-ty.ensures.ty p.type (type_of_inst m f fr.source c.args.from h.place b c.args.i x p h.framed.source h.of_block h.inst);
     })

@@ -23,7 +23,7 @@ returns-clause-made c =
     let a = c.args in
     let e = c.in_ok-a.ensures in
     let found = sym c.binary_op.ensures ∙ c.in-Some-binary_op.is in
-    rw c.in_ok-binary.ensures (λ name. binary_made name (text_of a.word) a.flags (text_of a.ty) (text_of a.lhs) (text_of a.rhs) c.in-Some.width c.in-Some-binary_op.op c.both.new.draft c.in_ok-a.a c.in_ok-a.b
+    rw c.binary.ensures (λ name. binary_made name (text_of a.word) a.flags (text_of a.ty) (text_of a.lhs) (text_of a.rhs) c.in-Some.width c.in-Some-binary_op.op c.both.new.draft c.in_ok-a.a c.in_ok-a.b
     c.in-Some.ensures.width found (e.rest.sound c.requires.ready.sound) e.left e.right)
 
 pub returns-clause-says : goal.returns-clause-says
@@ -31,5 +31,5 @@ returns-clause-says c =
     let a = c.args in
     let e = c.in_ok-a.ensures in
     let found = sym c.binary_op.ensures ∙ c.in-Some-binary_op.is in
-    rw c.in_ok-binary.ensures (λ name s knows. binary_says s name (text_of a.word) a.flags (text_of a.ty) (text_of a.lhs) (text_of a.rhs) c.in-Some.width c.in-Some-binary_op.op c.both.new.draft c.in_ok-a.a c.in_ok-a.b
+    rw c.binary.ensures (λ name s knows. binary_says s name (text_of a.word) a.flags (text_of a.ty) (text_of a.lhs) (text_of a.rhs) c.in-Some.width c.in-Some-binary_op.op c.both.new.draft c.in_ok-a.a c.in_ok-a.b
     c.in-Some.ensures.width found (e.lhs s knows) (e.rhs s knows))

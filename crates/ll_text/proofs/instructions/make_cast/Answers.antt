@@ -37,7 +37,7 @@ returns-clause-made c =
     let t = c.in_ok-ty.ensures in
     let v = c.in_ok-value.ensures in
     let found = sym c.cast_op.ensures ∙ c.in-Some-cast_op.is in
-    rw c.in_ok-cast.ensures (λ name. cast_made name (text_of a.word) a.nneg (text_of a.ty) (text_of a.value) (text_of a.to) c.in-Some.from c.in-Some-int_width.width c.in-Some-cast_op.op c.open_operand.new.draft c.in_ok-ty.ty c.in_ok-value.value
+    rw c.cast.ensures (λ name. cast_made name (text_of a.word) a.nneg (text_of a.ty) (text_of a.value) (text_of a.to) c.in-Some.from c.in-Some-int_width.width c.in-Some-cast_op.op c.open_operand.new.draft c.in_ok-ty.ty c.in_ok-value.value
     c.in-Some.ensures.width c.in-Some-int_width.ensures.width found (v.rest.sound t.sound) v.stands (int_kept _ _ c.in_ok-ty.ty c.in-Some-int_width.width v.rest t.interned.here))
 
 pub returns-clause-says : goal.returns-clause-says
@@ -46,7 +46,7 @@ returns-clause-says c =
     let t = c.in_ok-ty.ensures in
     let v = c.in_ok-value.ensures in
     let found = sym c.cast_op.ensures ∙ c.in-Some-cast_op.is in
-    rw c.in_ok-cast.ensures (λ name s knows. cast_says s name (text_of a.word) a.nneg (text_of a.ty) (text_of a.value) (text_of a.to) c.in-Some.from c.in-Some-int_width.width c.in-Some-cast_op.op c.open_operand.new.draft c.in_ok-ty.ty c.in_ok-value.value
+    rw c.cast.ensures (λ name s knows. cast_says s name (text_of a.word) a.nneg (text_of a.ty) (text_of a.value) (text_of a.to) c.in-Some.from c.in-Some-int_width.width c.in-Some-cast_op.op c.open_operand.new.draft c.in_ok-ty.ty c.in_ok-value.value
     c.in-Some.ensures.width c.in-Some-int_width.ensures.width found (v.rest.sound t.sound) (v.value s knows) (int_kept _ _ c.in_ok-ty.ty c.in-Some-int_width.width v.rest t.interned.here))
 
 pub returns-clause-rest : goal.returns-clause-rest

@@ -14,4 +14,4 @@ returns-in_err-value-clause-not_yet c = λ e name s knows.
     freeze_unvalued s name (text_of c.args.ty) (text_of c.args.value) c.in-Some.width c.in-Some.ensures.width none
 
 pub returns-clause-says : goal.returns-clause-says
-returns-clause-says c = rw c.in_ok-freeze.ensures (λ name s knows. freeze_says s name (text_of c.args.ty) (text_of c.args.value) c.in-Some.width c.open_operand.new.draft c.in_ok-value.value c.in-Some.ensures.width (c.in_ok-value.ensures.value s knows))
+returns-clause-says c = rw c.freeze.ensures (λ name s knows. freeze_says s name (text_of c.args.ty) (text_of c.args.value) c.in-Some.width c.open_operand.new.draft c.in_ok-value.value c.in-Some.ensures.width (c.in_ok-value.ensures.value s knows))

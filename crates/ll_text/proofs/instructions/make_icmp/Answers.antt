@@ -22,7 +22,7 @@ pub returns-clause-made : goal.returns-clause-made
 returns-clause-made c =
     let a = c.args in
     let e = c.in_ok-a.ensures in
-    rw c.in_ok-icmp.ensures (λ name. icmp_made name (text_of a.word) (text_of a.ty) (text_of a.lhs) (text_of a.rhs) c.in-Some.width c.in-Some-predicate.compare c.both.new.draft c.in_ok-a.a c.in_ok-a.b
+    rw c.icmp.ensures (λ name. icmp_made name (text_of a.word) (text_of a.ty) (text_of a.lhs) (text_of a.rhs) c.in-Some.width c.in-Some-predicate.compare c.both.new.draft c.in_ok-a.a c.in_ok-a.b
     c.in-Some.ensures.width (e.rest.sound c.requires.ready.sound) e.left e.right)
 
 pub returns-clause-says : goal.returns-clause-says
@@ -30,5 +30,5 @@ returns-clause-says c =
     let a = c.args in
     let e = c.in_ok-a.ensures in
     let found = sym c.predicate.ensures ∙ c.in-Some-predicate.is in
-    rw c.in_ok-icmp.ensures (λ name s knows. icmp_says s name (text_of a.word) (text_of a.ty) (text_of a.lhs) (text_of a.rhs) c.in-Some.width c.in-Some-predicate.compare c.both.new.draft c.in_ok-a.a c.in_ok-a.b
+    rw c.icmp.ensures (λ name s knows. icmp_says s name (text_of a.word) (text_of a.ty) (text_of a.lhs) (text_of a.rhs) c.in-Some.width c.in-Some-predicate.compare c.both.new.draft c.in_ok-a.a c.in_ok-a.b
     c.in-Some.ensures.width found (e.lhs s knows) (e.rhs s knows))

@@ -45,7 +45,7 @@ returns-clause-made c =
     let a = c.args in
     let v = c.in_ok-condition.ensures in
     let e = c.in_ok-a.ensures in
-    rw c.in_ok-select.ensures (λ name. select_made name (text_of a.bit) (text_of a.condition) (text_of a.ty) (text_of a.lhs) (text_of a.other) (text_of a.rhs) c.in-Some.one c.in-Some-int_width.width c.both.new.draft c.in_ok-condition.condition c.in_ok-a.a c.in_ok-a.b
+    rw c.select.ensures (λ name. select_made name (text_of a.bit) (text_of a.condition) (text_of a.ty) (text_of a.lhs) (text_of a.other) (text_of a.rhs) c.in-Some.one c.in-Some-int_width.width c.both.new.draft c.in_ok-condition.condition c.in_ok-a.a c.in_ok-a.b
     c.in-Some-int_width.ensures.width c.in-Some.ensures.one (e.rest.sound (v.rest.sound c.requires.ready.sound)) (value_kept _ _ _ _ e.rest v.stands) e.left e.right)
 
 pub returns-clause-says : goal.returns-clause-says
@@ -54,5 +54,5 @@ returns-clause-says c =
     let v = c.in_ok-condition.ensures in
     let e = c.in_ok-a.ensures in
     let same = some_there (λ (w : ℕ). same_width c.in-Some-int_width.width (int_width is_plain 64 (text_of a.other)) ≡ Some w) c.same_width.result c.same_width.ensures.width c.if-is_none.ensures in
-    rw c.in_ok-select.ensures (λ name s knows. select_says s name (text_of a.bit) (text_of a.condition) (text_of a.ty) (text_of a.lhs) (text_of a.other) (text_of a.rhs) c.in-Some.one c.in-Some-int_width.width same.0 c.both.new.draft c.in_ok-condition.condition c.in_ok-a.a c.in_ok-a.b
+    rw c.select.ensures (λ name s knows. select_says s name (text_of a.bit) (text_of a.condition) (text_of a.ty) (text_of a.lhs) (text_of a.other) (text_of a.rhs) c.in-Some.one c.in-Some-int_width.width same.0 c.both.new.draft c.in_ok-condition.condition c.in_ok-a.a c.in_ok-a.b
     c.in-Some.ensures.width c.in-Some-int_width.ensures.width same.1 (opens_kept _ _ _ _ _ _ e.rest (v.rest.sound c.requires.ready.sound) v.stands.there (v.value s knows)) (e.lhs s knows) (e.rhs s knows))
