@@ -7,7 +7,7 @@ use Rattle.llvm_core.specs.declared.numbers.LLVMInstRef.{LLVMInstRef}
 use Rattle.llvm_core.specs.declared.code.LLVMValue.{LLVMValue}
 use Rattle.llvm_core.specs.declared.code.LLVMValue.TheVariants as V
 use Rattle.llvm_core.specs.Data.{ConstTree, IntConst, Placed, targets, phi_entries, placed_in}
-use Rattle.llvm_core.specs.Form.{is_phi, operands_of}
+use Rattle.llvm_core.specs.Form.{is_phi}
 use Rattle.dialect_types.specs.Names.{legal_name}
 use Rattle.dialect_types.specs.Trees.{IntegerAttr, IntType}
 use Rattle.dialect_types.specs.declared.types.TypeHandle.{TypeHandle}
@@ -26,6 +26,7 @@ use Rattle.meaning.specs.Terms.{Match}
 use Rattle.meaning.specs.Setting.{Setting}
 use Rattle.meaning.specs.Pairs.{Matched, BothOrNone}
 use Rattle.meaning.specs.Code.{IsDistinctNames}
+use Rattle.meaning.specs.Llvm.{used}
 use Rattle.meaning.specs.Shape.{SameShape}
 use Rattle.block_order.specs.DepthFirst.{IsDepthFirst}
 use Rattle.from_llvm_ir.specs.Match.{IsPlaces, place_at}
@@ -50,10 +51,10 @@ constant_in _ = None
 abbrev pub passed : L.Function → (p t : ℕ) → List L.Operand
 passed f p t = flat_map (λ (b : L.Block). filter_map (λ (x : Placed). option_and_then (first_entry p) (phi_entries x.instruction)) b.instructions) (filter (λ (b : L.Block). nat_eq b.number t) f.blocks)
 
--- the constants that an instruction of a block uses: those of its operands in order, and then those that its edges
+-- the constants that an instruction of a block uses: those among what it uses itself in order, and then those that its edges
 -- pass, edge by edge
 abbrev pub constants_in : L.ModuleData → L.Function → L.Block → Placed → List ConstTree
-constants_in d f b p = filter_map constant_in (operands_of p.instruction ++ flat_map (passed f b.number) (targets p.instruction))
+constants_in d f b p = filter_map constant_in (used p.instruction ++ flat_map (passed f b.number) (targets p.instruction))
 
 -- the item is in the list
 abbrev pub IsIn : {A : Type 0} → List A → A → Type 0
@@ -208,7 +209,7 @@ pub record IsImported (d : L.ModuleData) (c : ContextData) (i : Imported) : Type
 
 -- an instruction of the block b that is no phi uses the result of the instruction n
 abbrev pub IsUsedBy : L.Function → L.Block → Placed → ℕ → Type 0
-IsUsedBy f b user n = (is_phi user ≡ false) × IsIn (operands_of user.instruction ++ flat_map (passed f b.number) (targets user.instruction)) (L.Result n)
+IsUsedBy f b user n = (is_phi user ≡ false) × IsIn (used user.instruction ++ flat_map (passed f b.number) (targets user.instruction)) (L.Result n)
 
 -- The result of the instruction n is used where it does not stand before, the blocks taken in the order of their
 -- places: an operand of the instruction at place k of the block b, whose definition stands neither in a block of a

@@ -17,7 +17,8 @@ use Rattle.llvm_core.specs.Sound.{IsModule}
 use Rattle.llvm_core.specs.Parts.{IsValue}
 use Rattle.llvm_core.specs.Data as L
 use Rattle.llvm_core.specs.Data.{Placed, ConstTree, IntConst, IntType, trees_of, type_at, operand_of, placed_of, block_of, AreApart, data_of}
-use Rattle.llvm_core.specs.Form.{IsFormFunction, IsShortResult, IsOperand, operands_of, edges_between}
+use Rattle.llvm_core.specs.Form.{IsFormFunction, IsShortResult, IsOperand, edges_between}
+use Rattle.meaning.specs.Llvm.{used}
 use Rattle.from_llvm_ir.specs.declared.entries.Entries.{Entries}
 use Rattle.from_llvm_ir.specs.contracts.entries.EntryPartialEq.TheImpl as keys
 use Rattle.from_llvm_ir.specs.Imported.{passed}
@@ -113,7 +114,7 @@ pub record IsSite (m : Module) (f : LLVMFunction) (g : L.Function) (entries : En
 
 -- the operands of an instruction of the block b, and what its edges pass
 abbrev pub used_by : L.Function → L.Block → Placed → List L.Operand
-used_by g b p = operands_of p.instruction ++ flat_map (passed g b.number) (L.targets p.instruction)
+used_by g b p = used p.instruction ++ flat_map (passed g b.number) (L.targets p.instruction)
 
 -- an operand of some type
 abbrev pub IsUsable : L.Function → L.Operand → Type 0

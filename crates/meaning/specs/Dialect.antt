@@ -56,6 +56,10 @@ predicate_of P.SGE = I.LLVMIntSGE
 predicate_of P.SLT = I.LLVMIntSLT
 predicate_of P.SLE = I.LLVMIntSLE
 
+-- what an action of an operation holds: all that it uses
+abbrev pub shown : DialectOp → List Value
+shown o = o.operands
+
 -- The types of the operands of an operation are those of a typing: of a context, which gives each value its type, whichever
 -- function it belongs to (`type_in`), or of a function, which gives its own values their types, and any other none
 -- (`value_type`).
@@ -63,7 +67,7 @@ module _ (setting : Setting) (types : Typing) where
   -- a constant operation holds the term of its constant; any other applies its row to its operands
   abbrev pub typed_action : DialectOp → Kind → Action Value
   typed_action o (ConstantOp value) = Holds (attr_term setting value)
-  typed_action o (RowOp op) = Applies op (option_type o.result) (map (λ (v : Value). option_type (types v)) o.operands) (map At o.operands)
+  typed_action o (RowOp op) = Applies op (option_type o.result) (map (λ (v : Value). option_type (types v)) (shown o)) (map At (shown o))
 
   abbrev pub typed_row : DialectOp → Row Value
   typed_row o = record { action = typed_action o o.kind; result = Result (record { 0 = o.number }) }

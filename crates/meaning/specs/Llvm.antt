@@ -4,6 +4,7 @@ use Rattle.std.specs.Option.{option_map_or}
 use Rattle.std.specs.List.{flat_map, filter_map, position_from, find, starts_with}
 use Rattle.llvm_core.specs.Data as L
 use Rattle.llvm_core.specs.Data.{TypeTree, IntType, FunctionType, TypeTrees, NoTypes, ThenType, ConstTree, IntConst, PlaceholderConst, RowData, Instruction, Phi, Applied as AppliedRow, Constant, Parameter, Result, Placed, ModuleData, operand_type, targets, phi_entries}
+use Rattle.llvm_core.specs.Form.{operands_of}
 use Rattle.meaning.specs.Terms.{Term, Param, Unset, Int}
 use Rattle.meaning.specs.Machine.{Operand, At, Fixed, Action, Applies, Row, Edge, Block, Item, trace}
 use Rattle.meaning.specs.Setting.{Setting, TellsNothing}
@@ -33,11 +34,21 @@ operand setting (Constant c) = Fixed (const_term setting c)
 operand setting (Parameter f i) = At (ParamKey f i)
 operand setting (Result n) = At (ResultKey n)
 
+-- ---- what an instruction uses, and what its row shows
+
+-- what must stand before it, and what is hoisted of it where it is a constant
+abbrev pub used : Instruction → List L.Operand
+used i = operands_of i
+
+-- what an action of its row holds: all that it uses, since no operand yet is shown otherwise than it is used
+abbrev pub shown : RowData → List L.Operand
+shown r = r.operands
+
 -- ---- rows and edges
 
--- what a row shows, with a result of the type
+-- what a row does, with a result of the type
 abbrev pub action : Setting → L.Function → TypeTree → RowData → Action Key
-action setting f type r = Applies r.op type (map (operand_type f) r.operands) (map (operand setting) r.operands)
+action setting f type r = Applies r.op type (map (operand_type f) (shown r)) (map (operand setting) (shown r))
 
 -- a phi is no row
 abbrev pub row : Setting → L.Function → Placed → Instruction → Option (Row Key)
