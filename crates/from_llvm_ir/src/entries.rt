@@ -1,6 +1,6 @@
 //! What phis take, found by the phi and the block that an edge comes from.
 
-ghost use Rattle.std.specs.Prelude.{◌≡◌, ◌<◌, ◌&&◌, ℕ, false, nat_eq, IfOk, OnOk, IsSome, None, Some, All, if◌then◌else◌, length, map, slice_get};
+ghost use Rattle.std.specs.Prelude.{◌≡◌, ◌<◌, ◌&&◌, ◌++◌, ℕ, false, nat_eq, IfOk, OnOk, IsSome, None, Some, All, if◌then◌else◌, length, map, slice_get};
 ghost use Rattle.support.specs.Options.{or_else};
 ghost use Rattle.llvm_core.specs.Data.{Block, Function, Placed, trees_of, operand_of};
 ghost use Rattle.llvm_core.specs.Form.{is_phi};
@@ -13,6 +13,7 @@ use llvm_core::module::LLVMModule;
 use llvm_core::numbers::{LLVMBasicBlock, LLVMFunction, LLVMInstRef};
 use std::alloc::{AllocError, Global};
 use std::collections::HashMap;
+use support::short_list::ShortList;
 
 /// A phi, and a block that an edge to it comes from.
 #[derive(PartialEq, Eq, Hash, Drop)]
@@ -148,6 +149,20 @@ pub fn edge_values(
     Ok(values)
 }
 
+/// Appends values in order.
+fn push_all(
+    alloc: Global,
+    values: &mut ShortList<LLVMValue>,
+    more: &[LLVMValue],
+) -> Result<(), AllocError>
+    ensures { OnOk result (values.new ≡ values.old ++ more.now) }
+{
+    for value in more {
+        values.push(alloc, *value)?;
+    }
+    Ok(())
+}
+
 /// The operands of an instruction that is no phi, and then what its edges pass.
 pub fn used_values(
     alloc: Global,
@@ -155,17 +170,16 @@ pub fn used_values(
     entries: &Entries,
     from: LLVMBasicBlock,
     i: LLVMInstRef,
-) -> Result<Vec<LLVMValue>, AllocError>
+) -> Result<ShortList<LLVMValue>, AllocError>
     requires { (f : LLVMFunction) × (g : Function) × (b : Block) × (p : Placed) × IsSite source.now f g entries.now from i b p × (is_phi p ≡ false) }
-    ensures are { IfOk result (λ vs. (f : LLVMFunction) → (g : Function) → (b : Block) → (p : Placed) → IsSite source.now f g entries.now from i b p → is_phi p ≡ false → map (operand_of (trees_of source.now)) vs.items ≡ used_by g b p) }
-    ensures used { IfOk result (λ vs. (f : LLVMFunction) → (g : Function) → (b : Block) → (p : Placed) → IsSite source.now f g entries.now from i b p → is_phi p ≡ false → All (IsUsed source.now g) vs.items) }
+    ensures are { IfOk result (λ vs. (f : LLVMFunction) → (g : Function) → (b : Block) → (p : Placed) → IsSite source.now f g entries.now from i b p → is_phi p ≡ false → map (operand_of (trees_of source.now)) vs ≡ used_by g b p) }
+    ensures used { IfOk result (λ vs. (f : LLVMFunction) → (g : Function) → (b : Block) → (p : Placed) → IsSite source.now f g entries.now from i b p → is_phi p ≡ false → All (IsUsed source.now g) vs) }
 {
     let inst = source.inst(i);
-    let mut values = Vec::new(alloc);
-    values.extend_from_slice(operands_of(inst))?;
+    let mut values = ShortList::from_slice(alloc, operands_of(inst))?;
     for to in targets_of(inst) {
         let passed = edge_values(alloc, source, entries, from, *to)?;
-        values.extend_from_slice(passed.as_slice())?;
+        push_all(alloc, &mut values, passed.as_slice())?;
     }
     Ok(values)
 }

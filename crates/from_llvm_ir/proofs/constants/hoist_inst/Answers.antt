@@ -17,7 +17,7 @@ pub hoist_values-requires-clause-used : goal.hoist_values-requires-clause-used
 hoist_values-requires-clause-used g c =
     let r = c.requires.site in
     let other = phi_read c.args.source.now r.2 c.args.i r.4.at r.3 c.inst.result.now r.4.inst c.inst.ensures.inst ∙ sym c.is_phi.ensures ∙ c.if-is_phi.false in
-    (r.1, subst (All (IsUsed c.args.source.now r.1)) (sym c.as_slice.ensures.value) (c.in_ok-used.ensures.used r.0 r.1 r.2 r.3 r.4 other))
+    (r.1, subst (All (IsUsed c.args.source.now r.1)) (sym c.as_slice.ensures) (c.in_ok-used.ensures.used r.0 r.1 r.2 r.3 r.4 other))
 
 pub returns-clause-hoisting : goal.returns-clause-hoisting
 returns-clause-hoisting g c =
@@ -25,7 +25,7 @@ returns-clause-hoisting g c =
     (λ hoisted f h b p s fr uses hoisting number.
     let m = c.args.source.now in
     let other = phi_read m b c.args.i s.at p c.inst.result.now s.inst c.inst.ensures.inst ∙ sym c.is_phi.ensures ∙ c.if-is_phi.false in
-    let are = ap (map (operand_of (trees_of m))) c.as_slice.ensures.value ∙ c.in_ok-used.ensures.are f h b p s other in
+    let are = ap (map (operand_of (trees_of m))) c.as_slice.ensures ∙ c.in_ok-used.ensures.are f h b p s other in
     subst (λ (us : List ConstTree). IsHoisting fr m c.hoist_values.new.ctx c.hoist_values.new.values (uses ++ us)) (ap (filter_map constant_in) are ∙ inst_uses (data_of m) h b p other) (hoisted fr uses hoisting number))
     c.hoist_values.ensures.hoisting
 

@@ -1,5 +1,5 @@
 -- What `entries::used_values` owes besides what the check finds.
-use Rattle.std.proofs.Common.{◌≡◌, ◌∙◌, ◌+◌, ◌++◌, sym, ap, subst, List, All, map}
+use Rattle.std.proofs.Common.{◌≡◌, ◌∙◌, ◌+◌, sym, ap, subst, List, All, map}
 use Rattle.std.specs.List.{slice_get}
 use Rattle.std.proofs.lemmas.Option.{slice_get-get_or}
 use Rattle.llvm_core.specs.declared.numbers.LLVMBasicBlock.{LLVMBasicBlock}
@@ -14,8 +14,8 @@ use Rattle.from_llvm_ir.proofs.entries.used_values.Goals as goal
 pub loop-to-init : goal.loop-to-init
 loop-to-init c = λ f g b p h other.
     let m = c.args.source.now in
-    let vs = c.extend_from_slice.new.self.items in
-    let same : vs ≡ operands c.inst-inst.result.now = c.in_ok-extend_from_slice.ensures.items ∙ ap (λ (us : List LLVMValue). us ++ c.operands_of.result.now) c.new-values.ensures.items ∙ c.operands_of.ensures in
+    let vs = c.in_ok-values.values in
+    let same : vs ≡ operands c.inst-inst.result.now = c.in_ok-values.ensures ∙ c.operands_of.ensures in
     used_none m g b p c.targets_of-to-items.result.now vs
     (ap (map (operand_of (trees_of m))) same ∙ operands_are m f g c.args.entries.now c.args.from c.args.i b p h c.inst-inst.result.now c.inst-inst.ensures.inst other)
     (subst (All (IsUsed m g)) (sym same) (operands_used m f g c.args.entries.now c.args.from c.args.i b p h c.inst-inst.result.now c.inst-inst.ensures.inst other c.inst-inst.ensures.values))
@@ -34,8 +34,8 @@ loop-to-preserved c = λ f g b p h other.
     let items = c.targets_of-to-items.ensures in
     let at = slice_get-get_or c.targets_of-to-items.result.now c.loop-to.to-index (record { 0 = 0 }) c.loop-to-test.true in
     let to = leads m f g c.args.entries.now c.args.from c.args.i b p h c.inst-inst.result.now c.inst-inst.ensures.inst c.loop-to.to-index _ (ap (λ (ts : List LLVMBasicBlock). slice_get ts c.loop-to.to-index) (sym items) ∙ at) in
-    subst (λ (vs : List LLVMValue). UsedTo m g b p c.targets_of-to-items.result.now vs (c.loop-to.to-index + 1)) (sym c.in_ok-extend_from_slice-2.ensures.items)
-    (used_more m g b p c.targets_of-to-items.result.now c.loop-to.values.items c.as_slice.result.now c.loop-to.to-index _ c.args.from (c.loop-to.invariant f g b p h other) at (block_number m g c.args.from h.place b h.of_block)
+    subst (λ (vs : List LLVMValue). UsedTo m g b p c.targets_of-to-items.result.now vs (c.loop-to.to-index + 1)) (sym c.in_ok-push_all.ensures)
+    (used_more m g b p c.targets_of-to-items.result.now c.loop-to.values c.as_slice.result.now c.loop-to.to-index _ c.args.from (c.loop-to.invariant f g b p h other) at (block_number m g c.args.from h.place b h.of_block)
     (ap (map (operand_of (trees_of m))) c.as_slice.ensures.value ∙ c.in_ok-passed.ensures.passed f g to)
     (subst (All (IsUsed m g)) (sym c.as_slice.ensures.value) (c.in_ok-passed.ensures.used f g to)))
 
@@ -43,7 +43,7 @@ pub returns-clause-are : goal.returns-clause-are
 returns-clause-are c = λ f g b p h other.
     let m = c.args.source.now in
     let items = c.targets_of-to-items.ensures in
-    used_all m g b p c.targets_of-to-items.result.now c.loop-to.values.items c.loop-to.to-index c.loop-to-test.false
+    used_all m g b p c.targets_of-to-items.result.now c.loop-to.values c.loop-to.to-index c.loop-to-test.false
     (ap (map (λ (x : LLVMBasicBlock). x.0)) items ∙ targets_are m f g c.args.entries.now c.args.from c.args.i b p h c.inst-inst.result.now c.inst-inst.ensures.inst) (c.loop-to.invariant f g b p h other)
 
 pub returns-clause-used : goal.returns-clause-used

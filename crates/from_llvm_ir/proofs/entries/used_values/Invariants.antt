@@ -8,4 +8,4 @@ use Rattle.from_llvm_ir.proofs.UsedLaws.{UsedTo}
 use Rattle.from_llvm_ir.proofs.entries.used_values.Given as goal
 
 abbrev pub invariant-loop-to : goal.invariant-loop-to
-invariant-loop-to l = (f : LLVMFunction) → (g : Function) → (b : Block) → (p : Placed) → IsSite l.source f g l.entries l.from l.fn.i b p → is_phi p ≡ false → UsedTo l.source g b p l.to-items l.values.items l.to-index
+invariant-loop-to l = (f : LLVMFunction) → (g : Function) → (b : Block) → (p : Placed) → IsSite l.source f g l.entries l.from l.fn.i b p → is_phi p ≡ false → UsedTo l.source g b p l.to-items l.values l.to-index

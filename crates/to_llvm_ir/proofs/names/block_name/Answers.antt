@@ -14,8 +14,8 @@ returns-in-Some-clause-name c =
     let label = c.as_str.result.now in
     let place = c.args.place in
     let same : Some label ≡ option_copied c.args.label = ap Some c.as_str.ensures.text ∙ sym (ap option_copied c.in-Some.is) in
-    IfOk-weaker c.format.result (λ s. string_bytes s ≡ label ++ (codes "_block" ++ decimal place)) (λ s. string_bytes s ≡ block_name (option_copied c.args.label) place)
-    (λ s wrote. wrote ∙ sym (append_assoc label (codes "_block") (decimal place)) ∙ ap (λ l. block_name l place) same) c.format.ensures.ok
+    IfOk-weaker c.joined.result (λ s. string_bytes s ≡ label ++ (codes "_block" ++ decimal place)) (λ s. string_bytes s ≡ block_name (option_copied c.args.label) place)
+    (λ s wrote. wrote ∙ sym (append_assoc label (codes "_block") (decimal place)) ∙ ap (λ l. block_name l place) same) (rw c.from.ensures at c.joined.ensures)
 
 pub returns-in-Some-clause-plain : goal.returns-in-Some-clause-plain
 returns-in-Some-clause-plain c = λ plain k lt.

@@ -14,8 +14,8 @@ returns-in-Some-clause-name c =
     let given = c.as_str.result.now in
     let number = c.args.number in
     let same : Some given ≡ option_copied c.args.given = ap Some c.as_str.ensures.text ∙ sym (ap option_copied c.in-Some.is) in
-    IfOk-weaker c.format.result (λ s. string_bytes s ≡ given ++ (codes "_v" ++ decimal number)) (λ s. string_bytes s ≡ value_name (option_copied c.args.given) number)
-    (λ s wrote. wrote ∙ sym (append_assoc given (codes "_v") (decimal number)) ∙ ap (λ l. value_name l number) same) c.format.ensures.ok
+    IfOk-weaker c.joined.result (λ s. string_bytes s ≡ given ++ (codes "_v" ++ decimal number)) (λ s. string_bytes s ≡ value_name (option_copied c.args.given) number)
+    (λ s wrote. wrote ∙ sym (append_assoc given (codes "_v") (decimal number)) ∙ ap (λ l. value_name l number) same) c.joined.ensures
 
 pub returns-in-Some-clause-plain : goal.returns-in-Some-clause-plain
 returns-in-Some-clause-plain c = λ plain k lt.
