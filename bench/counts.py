@@ -2,7 +2,8 @@
 """Instructions, peak memory and allocations of `round_ll round` on seven kinds of text.
 
 Instructions are counted by callgrind, so a busy machine changes nothing; memory is the most that a run without
-callgrind held; allocations are counted by memcheck, for each line. Each kind is a text of about a mebibyte, or of so many bytes as the first word says.
+callgrind held; allocations are counted by memcheck, for each line. Each kind is a text of about a mebibyte, or of so
+many bytes as the first word says.
 usage: bench/counts.py [BYTES [PROGRAM]]
 """
 import os
