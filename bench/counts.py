@@ -94,17 +94,18 @@ def instructions(program, path, scratch):
 
 
 def memory(program, path):
-    """The most bytes that a run holds."""
-    with open(path, "rb") as text:
-        pid = os.fork()
-        if pid == 0:
-            os.dup2(text.fileno(), 0)
-            os.dup2(os.open(os.devnull, os.O_WRONLY), 1)
-            os.execv(str(program), [str(program), "round"])
-        _, status, usage = os.wait4(pid, 0)
-    if status:
-        sys.exit(f"counts: a run ended with {status}")
-    return usage.ru_maxrss * 1024
+    """The most bytes that a run holds: nothing is written before the whole output is there, so it is read off then.
+
+    What `wait4` tells would count this script too, of which the run is a copy at first.
+    """
+    with open(path, "rb") as text, subprocess.Popen([str(program), "round"], stdin=text, stdout=subprocess.PIPE) as run:
+        first = run.stdout.read(1)
+        held = re.search(r"VmHWM:\s*(\d+) kB", pathlib.Path(f"/proc/{run.pid}/status").read_text())
+        while run.stdout.read(1 << 16):
+            pass
+    if run.returncode or not first:
+        sys.exit(f"counts: a run ended with {run.returncode}")
+    return int(held[1]) * 1024
 
 
 def allocations(program, path):
