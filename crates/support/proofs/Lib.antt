@@ -4,3 +4,4 @@ pub mod ResultLaws
 pub mod ListLaws
 pub mod InternedLaws
 pub mod KeepLaws
+pub mod NumberMapLaws

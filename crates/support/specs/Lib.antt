@@ -4,4 +4,6 @@ pub mod Options
 pub mod Changes
 pub mod Maps
 pub mod ShortLists
+pub mod Texts
+pub mod NumberMaps
 pub mod Appended

@@ -5,5 +5,7 @@ pub mod appending;
 pub mod interner;
 pub mod items;
 pub mod noting;
+pub mod number_map;
 pub mod short_list;
+pub mod short_text;
 pub mod text;

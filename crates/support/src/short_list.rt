@@ -104,6 +104,18 @@ impl<T: Copy + Drop> ShortList<T> {
     }
 }
 
+impl<T: Copy + Drop> ShortList<T> {
+    /// Puts items behind the last.
+    pub fn extend_from_slice(&mut self, alloc: Global, items: &[T]) -> Result<(), AllocError>
+        ensures { OnOk result (self.new ≡ self.old ++ items.now) }
+    {
+        for item in items {
+            self.push(alloc, *item)?;
+        }
+        Ok(())
+    }
+}
+
 /// A list of items that lie apart.
 fn apart<T: Drop>(alloc: Global, items: Vec<T>) -> Result<ShortList<T>, AllocError>
     ensures { IfOk result (λ l. l ≡ items.items) }

@@ -1,0 +1,6 @@
+-- What is left to show of `short_text::ShortText::as_str`.
+use Rattle.std.proofs.lemmas.Str.{IsUtf8-had}
+use Rattle.support.proofs.short_text.ShortText.as_str.Goals as goal
+
+pub from_utf8_unchecked-requires : goal.from_utf8_unchecked-requires
+from_utf8_unchecked-requires c = IsUtf8-had _ c.self.invariant.1
