@@ -543,9 +543,9 @@ fn params_of(kind: &LLVMTypeKind) -> &[LLVMType]
 fn unnamed(alloc: Global, types: &[LLVMType]) -> Result<Items<Text>, AllocError>
     ensures { IfOk result (λ names. names ≡ map (λ _. []) types.now) }
 {
-    let mut names = Items::new(alloc);
+    let mut names = Items::from_vec(Vec::with_capacity(alloc, types.len())?);
     for _ty in types {
-        names.push(Text::new(String::new(alloc)))?;
+        names.push(Text::empty())?;
     }
     Ok(names)
 }

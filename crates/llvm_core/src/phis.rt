@@ -1,18 +1,18 @@
 //! What is asked of the phis of a block and of a phi's entries.
 
-ghost use Rattle.std.specs.Prelude.{◌≡◌, ◌<◌, ℕ, All, IfOk, IsTrue, None, false, length, nat_eq};
+ghost use Rattle.std.specs.Prelude.{◌≡◌, ◌<◌, ℕ, All, IfOk, IsTrue, None, false, length};
 ghost use Rattle.llvm_core.specs.Parts.{is_phi};
 ghost use Rattle.llvm_core.specs.Edges.{count_of};
 ghost use Rattle.llvm_core.specs.Checked.{HasLatePhi, HasTwoValues, sources};
 ghost use Rattle.std.specs.List.Sorted.{IsPermutation, IsSorted};
 ghost use Rattle.std.specs.Ordering.{nat_cmp};
-ghost use Rattle.indexmap.specs.IndexMap.{get};
+ghost use Rattle.support.specs.NumberMaps.{value_at};
 
 use crate::code::{LLVMInst, LLVMValue, PhiEntry};
 use crate::module::LLVMModule;
 use crate::numbers::LLVMInstRef;
-use indexmap::IndexMap;
 use std::alloc::{AllocError, Global};
+use support::number_map::NumberMap;
 
 fn is_phi(inst: &LLVMInst) -> bool
     ensures { result ≡ is_phi inst.now }
@@ -40,18 +40,19 @@ pub fn has_late_phi(m: &LLVMModule, insts: &[LLVMInstRef]) -> bool
 /// Whether two entries for one block have two values. Until then each block's value is noted, where none was noted before.
 fn finds_two_values(
     entries: &[PhiEntry],
-    values: &mut IndexMap<u32, LLVMValue>,
+    values: &mut NumberMap<LLVMValue>,
 ) -> Result<bool, AllocError>
-    requires { (b : ℕ) → get nat_eq values.old b ≡ None }
+    requires { (b : ℕ) → value_at values.old b ≡ None }
     ensures yes { IfOk result (λ two. IsTrue two → HasTwoValues entries.now) }
     ensures no { IfOk result (λ two. two ≡ false → ¬ HasTwoValues entries.now) }
 {
     for entry in entries {
-        if let Some(value) = values.insert(entry.block.0, entry.value)? {
+        if let Some(value) = values.get(entry.block.0) {
             if value != entry.value {
                 return Ok(true);
             }
         }
+        values.set(entry.block.0, entry.value)?;
     }
     Ok(false)
 }
@@ -61,7 +62,7 @@ pub fn has_two_values(alloc: Global, entries: &[PhiEntry]) -> Result<bool, Alloc
     ensures yes { IfOk result (λ two. IsTrue two → HasTwoValues entries.now) }
     ensures no { IfOk result (λ two. two ≡ false → ¬ HasTwoValues entries.now) }
 {
-    finds_two_values(entries, &mut IndexMap::new(alloc))
+    finds_two_values(entries, &mut NumberMap::new(alloc))
 }
 
 /// The numbers of the blocks that entries are for, in ascending order.

@@ -14,4 +14,4 @@ one_more names new name types i lt before pushed none =
 
 pub loop-ty-preserved : goal.loop-ty-preserved
 loop-ty-preserved c =
-    one_more c.loop-ty.names _ _ c.args.types.now c.loop-ty._ty-index c.loop-ty-test.true c.loop-ty.invariant c.in_ok-push.ensures.ok (c.new-in-loop-ty.ensures ∙ c.new.ensures.bytes)
+    one_more c.loop-ty.names _ _ c.args.types.now c.loop-ty._ty-index c.loop-ty-test.true c.loop-ty.invariant c.in_ok-push.ensures.ok c.empty.ensures
