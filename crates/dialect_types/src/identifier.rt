@@ -1,6 +1,6 @@
 //! Names of the dialect.
 
-ghost use Rattle.std.specs.Prelude.{◌≡◌, nat_eq, string_bytes, IfOk};
+ghost use Rattle.std.specs.Prelude.{◌≡◌, nat_eq, IfOk};
 ghost use Rattle.std.proofs.Common.{rules};
 ghost use Rattle.std.specs.Cmp.Rules.{comparing, hashing};
 ghost use Rattle.std.specs.Cmp.Lexicographic.{pointwise};
@@ -10,31 +10,33 @@ ghost use Rattle.dialect_types.specs.Names.{IsIdentifier};
 use std::alloc::{AllocError, Global};
 use std::hash::{Hash, Hasher};
 use std::marker::Model;
+use support::text::Text;
 
 /// A nonempty text of letters, digits and `_` that does not begin with a digit, seen as its bytes.
 #[derive(Debug, Drop)]
 pub struct Identifier {
-    text: String,
+    text: Text,
 }
 
 impl Model for Identifier {
-    ghost use Rattle.std.specs.Prelude.{ℕ, List, string_bytes};
+    ghost use Rattle.std.specs.Prelude.{ℕ, List};
     ghost use Rattle.dialect_types.specs.Names.{IsIdentifier};
 
     ghost Value = { List ℕ };
 
-    ghost view = { λ i. string_bytes i.text };
+    ghost view = { λ i. i.text };
 
-    ghost invariant = { λ i. IsIdentifier (string_bytes i.text) };
+    ghost invariant = { λ i. IsIdentifier i.text };
 }
 
 impl Identifier {
-    /// The identifier of a text that is one.
-    pub fn new(text: String) -> Identifier
-        requires { IsIdentifier (string_bytes text) }
-        ensures { result ≡ string_bytes text }
+    /// The identifier of a copy of a text that is one.
+    pub fn copy(alloc: Global, text: &str) -> Result<Identifier, AllocError>
+        requires { IsIdentifier text.now }
+        ensures { IfOk result (λ i. i ≡ text.now) }
     {
-        Identifier { text }
+        let text = Text::copy(alloc, text)?;
+        Ok(Identifier { text })
     }
 
     pub fn as_str(&self) -> &str
@@ -48,7 +50,7 @@ impl Identifier {
     pub fn clone(&self, alloc: Global) -> Result<Identifier, AllocError>
         ensures { IfOk result (λ i. i ≡ self.now) }
     {
-        let text = String::from_str(alloc, self.text.as_str())?;
+        let text = Text::copy(alloc, self.text.as_str())?;
         Ok(Identifier { text })
     }
 }

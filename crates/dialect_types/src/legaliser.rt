@@ -24,8 +24,7 @@ impl Legaliser {
         ensures { IfOk result (λ i. i ≡ legal_name name.now) }
     {
         let legal = if name.is_empty() { "_" } else { name };
-        let text = String::from_str(self.alloc, legal)?;
-        Ok(Identifier::new(text))
+        Identifier::copy(self.alloc, legal)
     }
 }
 
