@@ -6,6 +6,7 @@ pub mod Form
 pub mod Lending
 pub mod Links
 pub mod Lists
+pub mod ValueMaps
 pub mod Numbering
 pub mod Text
 pub mod WellFormed

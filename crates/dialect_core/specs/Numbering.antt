@@ -1,8 +1,8 @@
 -- The numbers that were noted, as functions of values and blocks.
 use Rattle.std.specs.Prelude.{◌≡◌, ℕ, List, [], ◌∷◌, Option}
-use Rattle.std.specs.HashMap.{get}
 use Rattle.std.specs.Map.{lookup}
 use Rattle.support.specs.Options.{or_else}
+use Rattle.support.specs.NumberMaps.{value_at as number_at}
 use Rattle.dialect_types.specs.Trees.{type_trees}
 use Rattle.dialect_core.specs.declared.numbers.OpRef.{OpRef}
 use Rattle.dialect_core.specs.declared.numbers.BlockRef.{BlockRef}
@@ -11,16 +11,15 @@ use Rattle.dialect_core.specs.declared.numbering.Numbering.{Numbering}
 use Rattle.dialect_core.specs.ContextData.{ContextData}
 use Rattle.dialect_core.specs.Data.{DialectOp, Func, op_at, block_in, func_in}
 use Rattle.dialect_core.specs.Text.{same_value, same_block, option_items, result_of, block_values, func_values, func_blocks, numbered_from}
-use Rattle.dialect_core.specs.contracts.ops.ValuePartialEq.TheImpl as values
-use Rattle.dialect_core.specs.contracts.numbers.BlockRefPartialEq.TheImpl as blocks
+use Rattle.dialect_core.specs.ValueMaps.{mapped}
 
 -- the number of a value
 abbrev pub value_at : Numbering → Value → Option ℕ
-value_at n v = get values.eq-value.it n.values v
+value_at n v = mapped n.values v
 
 -- the number of a block
 abbrev pub block_at : Numbering → BlockRef → Option ℕ
-block_at n b = get blocks.eq-value.it n.blocks b
+block_at n b = number_at n.blocks b.0
 
 -- the values and blocks of the lists have their numbers there, where they had none before; all others are as before
 pub record Numbered (old new : Numbering) (vs : List (Value × ℕ)) (bs : List (BlockRef × ℕ)) : Type 0 where

@@ -276,7 +276,7 @@ fn push_type(args: &mut Items<TypeHandle>, ty: TypeHandle) -> Result<u32, AllocE
 fn copy_successors(alloc: Global, successors: &[Successor]) -> Result<Items<Successor>, AllocError>
     ensures { IfOk result (λ xs. xs ≡ successors.now) }
 {
-    let mut copies = Items::new(alloc);
+    let mut copies = Items::from_vec(Vec::with_capacity(alloc, successors.len())?);
     for s in successors {
         let args = ShortList::from_slice(alloc, s.args.as_slice())?;
         copies.push(Successor {

@@ -13,14 +13,13 @@ use crate::numbers::{BlockRef, ModuleOp, OpRef};
 use crate::ops::{OpKind, Value};
 use dialect_types::types::TypeHandle;
 use std::alloc::{AllocError, Global};
-use support::noting::note;
 
 /// Gives a value the next number, where it has none, and answers the number after that.
 fn number_value(numbers: &mut Numbering, value: Value, next: u64) -> Result<u64, AllocError>
     ensures numbered { OnOk result (Numbered numbers.old numbers.new ((value, next) ∷ []) []) }
     ensures next { IfOk result (λ n. n ≡ next + 1) }
 {
-    note(&mut numbers.values, value, next)?;
+    numbers.values.note(value, next)?;
     let after = next.checked_add(1).ok_or(AllocError)?;
     Ok(after)
 }
@@ -33,8 +32,7 @@ fn number_block_name(
 ) -> Result<(), AllocError>
     ensures { OnOk result (Numbered numbers.old numbers.new [] ((block, number) ∷ [])) }
 {
-    note(&mut numbers.blocks, block, number)?;
-    Ok(())
+    numbers.blocks.note(block.0, number)
 }
 
 /// A place as a number of 32 bits.

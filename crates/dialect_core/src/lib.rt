@@ -16,6 +16,7 @@ pub mod predicates;
 mod printing;
 pub mod steps;
 mod type_tests;
+pub mod value_map;
 mod value_tests;
 pub mod walking;
 mod well_formed;

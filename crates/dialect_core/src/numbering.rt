@@ -5,14 +5,15 @@ ghost use Rattle.dialect_core.specs.Numbering.{value_at, block_at};
 
 use crate::numbers::BlockRef;
 use crate::ops::Value;
+use crate::value_map::ValueMap;
 use std::alloc::Global;
-use std::collections::HashMap;
+use support::number_map::NumberMap;
 
 /// The numbers of values and blocks that were met.
 #[derive(Drop)]
 pub struct Numbering {
-    pub values: HashMap<Value, u64>,
-    pub blocks: HashMap<BlockRef, u64>,
+    pub values: ValueMap<u64>,
+    pub blocks: NumberMap<u64>,
 }
 
 impl Numbering {
@@ -22,8 +23,8 @@ impl Numbering {
         ensures no_blocks { (b : BlockRef) → block_at result b ≡ None }
     {
         Numbering {
-            values: HashMap::new(alloc),
-            blocks: HashMap::new(alloc),
+            values: ValueMap::new(alloc),
+            blocks: NumberMap::new(alloc),
         }
     }
 
@@ -31,13 +32,13 @@ impl Numbering {
     pub fn value(&self, value: Value) -> Option<u64>
         ensures { result ≡ value_at self.now value }
     {
-        self.values.get(&value).copied()
+        self.values.get(value)
     }
 
     /// The number of a block.
     pub fn block(&self, block: BlockRef) -> Option<u64>
         ensures { result ≡ block_at self.now block }
     {
-        self.blocks.get(&block).copied()
+        self.blocks.get(block.0)
     }
 }

@@ -1,6 +1,0 @@
--- What `numbering::Numbering::value` owes: what the map gives is what was copied.
-use Rattle.std.proofs.Common.{◌∙◌}
-use Rattle.dialect_core.proofs.numbering.Numbering.value.Goals as goal
-
-pub returns : goal.returns
-returns c = c.copied.ensures ∙ c.get.ensures.value
