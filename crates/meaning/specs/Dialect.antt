@@ -20,6 +20,7 @@ use Rattle.meaning.specs.Machine.{Operand, At, Action, Holds, Applies, Row, Edge
 use Rattle.meaning.specs.Llvm.{int_of}
 use Rattle.meaning.specs.Setting.{Setting, TellsNothing}
 use Rattle.meaning.specs.Code.{Code, Entry, Body, Symbol, FunctionSymbol, Linkage, External, AvailableExternally, LinkOnceAny, LinkOnceODR, WeakAny, WeakODR, Appending, Internal, Private, ExternalWeak, Common, Other}
+pub use Rattle.dialect_core.specs.Text.{same_value}
 
 -- the type of LLVM that a type of the dialect stands for: both sides have one tree of types
 abbrev pub type_of : TypeTree → TypeTree
@@ -28,11 +29,6 @@ type_of t = t
 -- the term of a constant, a line for each kind
 abbrev pub attr_term : Setting → AttrTree → Term
 attr_term setting (IntegerAttr ty n) = int_of (type_of ty) n
-
-abbrev pub same_value : Value → Value → Bool
-same_value (Result m) (Result n) = nat_eq m.0 n.0
-same_value (Argument b i) (Argument c j) = nat_eq b.0 c.0 && nat_eq i j
-same_value _ _ = false
 
 -- ---- types of operands
 

@@ -1,4 +1,4 @@
--- What its module tells a body: one record for both sides, so that neither side's rows take a module.
+-- What its module tells a body: one type for both sides, so that neither side's rows take a module.
 
 -- nothing yet: no constant that is held names a thing of its module
 pub data Setting : Type 0 where
