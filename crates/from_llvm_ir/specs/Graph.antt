@@ -1,11 +1,10 @@
 -- The graph of a function as it is made: which place each block has, and where an instruction stands.
 use Rattle.std.specs.Prelude.{ℕ, ◌≡◌, Option, Some, slice_get}
-use Rattle.std.specs.HashMap.{get}
-use Rattle.support.specs.Maps.{MapOf}
+use Rattle.support.specs.declared.number_map.NumberMap.{NumberMap}
+use Rattle.support.specs.NumberMaps.{value_at}
 use Rattle.llvm_core.specs.declared.numbers.LLVMBasicBlock.{LLVMBasicBlock}
 use Rattle.llvm_core.specs.declared.numbers.LLVMFunction.{LLVMFunction}
 use Rattle.llvm_core.specs.declared.numbers.LLVMInstRef.{LLVMInstRef}
-use Rattle.llvm_core.specs.contracts.numbers.LLVMBasicBlockPartialEq.TheImpl as keys
 use Rattle.llvm_core.specs.Module.{Module}
 use Rattle.llvm_core.specs.Data as L
 use Rattle.llvm_core.specs.Data.{Placed}
@@ -13,11 +12,11 @@ use Rattle.from_llvm_ir.specs.Source.{IsBlockOf, IsInstOf, IsSource}
 
 -- the places of blocks
 abbrev pub Places : Type 0
-Places = MapOf LLVMBasicBlock ℕ
+Places = NumberMap ℕ
 
 -- the place of a block, where one was noted
 abbrev pub noted_place : Places → LLVMBasicBlock → Option ℕ
-noted_place places n = get keys.eq-value.it places n
+noted_place places n = value_at places n.0
 
 -- each block of the function has its place
 abbrev pub ArePlacesOf : L.Function → Places → Type 0

@@ -1,7 +1,8 @@
 -- Which values of the dialect stand for those of a source function, and which are not known yet.
 use Rattle.std.specs.Prelude.{ℕ, ◌≡◌, ◌<◌, List, Option, None, Some, IsSome, if◌then◌else◌, length, slice_get}
 use Rattle.std.specs.HashMap.{get}
-use Rattle.support.specs.Maps.{MapOf}
+use Rattle.support.specs.declared.number_map.NumberMap.{NumberMap}
+use Rattle.support.specs.NumberMaps as numbers
 use Rattle.std.specs.Option.{option_map}
 use Rattle.llvm_core.specs.declared.numbers.LLVMInstRef.{LLVMInstRef}
 use Rattle.llvm_core.specs.declared.code.LLVMValue.{LLVMValue}
@@ -10,7 +11,6 @@ use Rattle.llvm_core.specs.declared.code.InstData.{InstData}
 use Rattle.llvm_core.specs.contracts.code.LLVMValuePartialEq.TheImpl as keys
 use Rattle.llvm_core.specs.Module.{Module}
 use Rattle.llvm_core.specs.declared.numbers.LLVMBasicBlock.{LLVMBasicBlock}
-use Rattle.llvm_core.specs.contracts.numbers.LLVMBasicBlockPartialEq.TheImpl as block_keys
 use Rattle.llvm_core.specs.Data as L
 use Rattle.dialect_core.specs.declared.numbers.BlockRef.{BlockRef}
 use Rattle.meaning.specs.Pairs.{Matched}
@@ -22,7 +22,9 @@ use Rattle.from_llvm_ir.specs.Imported.{IsIn}
 
 -- the value that stands for one of the source, where one was noted
 abbrev pub value_at : Values → LLVMValue → Option Value
-value_at s v = get keys.eq-value.it s.map v
+value_at s (V.Inst i) = numbers.value_at s.insts i.0
+value_at s (V.Const c) = numbers.value_at s.consts c.0
+value_at s (V.Param f i) = get keys.eq-value.it s.params (V.Param f i)
 
 -- the value is the result of an instruction among the operands, for which no value was noted, and has that name
 pub record IsUnknown (m : Module) (values : Values) (among : List L.Operand) (name : List ℕ) (v : LLVMValue) : Type 0 where
@@ -59,8 +61,8 @@ AreNoted values vs ws = Matched (λ (v : LLVMValue) (w : Value). value_at values
 
 -- the blocks that stand for those of the source
 abbrev pub Targets : Type 0
-Targets = MapOf LLVMBasicBlock BlockRef
+Targets = NumberMap BlockRef
 
 -- the block that stands for one of the source
 abbrev pub target_at : Targets → LLVMBasicBlock → Option BlockRef
-target_at t n = get block_keys.eq-value.it t n
+target_at t n = numbers.value_at t n.0

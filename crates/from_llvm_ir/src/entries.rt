@@ -1,6 +1,6 @@
 //! What phis take, found by the phi and the block that an edge comes from.
 
-ghost use Rattle.std.specs.Prelude.{◌≡◌, ◌<◌, ◌&&◌, ◌++◌, ℕ, false, nat_eq, IfOk, OnOk, IsSome, None, Some, All, if◌then◌else◌, length, map, slice_get};
+ghost use Rattle.std.specs.Prelude.{◌≡◌, ◌<◌, ◌&&◌, ℕ, false, nat_eq, IfOk, OnOk, IsSome, None, Some, All, if◌then◌else◌, length, map, slice_get};
 ghost use Rattle.support.specs.Options.{or_else};
 ghost use Rattle.llvm_core.specs.Data.{Block, Function, Placed, trees_of, operand_of};
 ghost use Rattle.llvm_core.specs.Form.{is_phi};
@@ -149,20 +149,6 @@ pub fn edge_values(
     Ok(values)
 }
 
-/// Appends values in order.
-fn push_all(
-    alloc: Global,
-    values: &mut ShortList<LLVMValue>,
-    more: &[LLVMValue],
-) -> Result<(), AllocError>
-    ensures { OnOk result (values.new ≡ values.old ++ more.now) }
-{
-    for value in more {
-        values.push(alloc, *value)?;
-    }
-    Ok(())
-}
-
 /// The operands of an instruction that is no phi, and then what its edges pass.
 pub fn used_values(
     alloc: Global,
@@ -179,7 +165,7 @@ pub fn used_values(
     let mut values = ShortList::from_slice(alloc, operands_of(inst))?;
     for to in targets_of(inst) {
         let passed = edge_values(alloc, source, entries, from, *to)?;
-        push_all(alloc, &mut values, passed.as_slice())?;
+        values.extend_from_slice(alloc, passed.as_slice())?;
     }
     Ok(values)
 }

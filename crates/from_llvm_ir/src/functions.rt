@@ -24,7 +24,7 @@ use crate::entries::entries_of;
 use crate::matching::FunctionBlocks;
 use crate::operations::{given, import_blocks};
 use crate::order::{graph, place_of, places_of};
-use crate::targets::Targets;
+use crate::targets::{Targets, target_of};
 use crate::types::{import_function_type, import_params, import_phi_types, param_count};
 use crate::uses::check_uses;
 use crate::values::Values;
@@ -39,8 +39,8 @@ use llvm_core::code::LLVMValue;
 use llvm_core::module::LLVMModule;
 use llvm_core::numbers::{LLVMBasicBlock, LLVMFunction};
 use std::alloc::{AllocError, Global};
-use std::collections::HashMap;
 use std::sync::ledger::Ledger;
+use support::number_map::NumberMap;
 
 /// The first block: its label, and an argument for each parameter.
 fn add_entry(
@@ -98,12 +98,12 @@ fn add_blocks(
 {
     let blocks = source.blocks(f);
     let first = add_entry(alloc, ctx, names, source, f, func)?;
-    let mut targets = HashMap::new(alloc);
-    targets.insert(blocks[0], first)?;
+    let mut targets = NumberMap::new(alloc);
+    targets.set(blocks[0].0, first)?;
     for j in 1..order.len() {
         let from = blocks[order[j] as usize];
-        targets.insert(
-            from,
+        targets.set(
+            from.0,
             add_later_block(alloc, ctx, names, source, func, from)?,
         )?;
     }
@@ -147,7 +147,7 @@ fn import_body<L: Ledger>(
 {
     let entries = entries_of(alloc, source, f)?;
     let targets = add_blocks(alloc, ctx, names, source, f, func, order)?;
-    let block = targets[&source.blocks(f)[0]];
+    let block = target_of(&targets, source.blocks(f)[0]);
     let mut values = parameters(alloc, f, block, param_count(source, f))?;
     hoist_constants(
         alloc,

@@ -1,11 +1,11 @@
 //! The match of blocks that a translation hands out.
 
 use llvm_core::numbers::LLVMFunction;
-use support::items::Items;
+use support::short_list::ShortList;
 
 /// The place in the dialect of each block of a source function, in the source's order.
 #[derive(Drop)]
 pub struct FunctionBlocks {
     pub function: LLVMFunction,
-    pub places: Items<u32>,
+    pub places: ShortList<u32>,
 }

@@ -19,7 +19,7 @@ use crate::conversion_err::ConversionErr;
 use crate::entries::Entries;
 use crate::order::place_of;
 use crate::parts::{is_phi, kind_of};
-use crate::targets::{Targets, known_successors};
+use crate::targets::{Targets, known_successors, target_of};
 use crate::types::import_result_type;
 use crate::values::{Values, known_operands};
 use dialect_core::context::Context;
@@ -192,7 +192,7 @@ pub fn import_blocks<L: Ledger>(
     let blocks = source.blocks(f);
     for place in order {
         let from = blocks[*place as usize];
-        let block = targets[&from];
+        let block = target_of(targets, from);
         import_insts(
             alloc, ctx, names, source, targets, entries, values, from, block, steps,
         )?;

@@ -1,9 +1,9 @@
 //! The order in which an import takes the blocks of a function: depth first in their graph.
 
-ghost use Rattle.std.specs.Prelude.{◌≡◌, ◌∷◌, ◌++◌, [], IfOk, OnOk, length, map};
+ghost use Rattle.std.specs.Prelude.{◌≡◌, ◌∷◌, ◌++◌, [], IfOk, IsSome, OnOk, Some, length, map};
 ghost use Rattle.llvm_core.specs.Data.{Block, Function, Placed, targets};
 ghost use Rattle.llvm_core.specs.Form.{targets_of as targets_from};
-ghost use Rattle.from_llvm_ir.specs.Graph.{ArePlacesOf, IsBlockIn, IsInstIn};
+ghost use Rattle.from_llvm_ir.specs.Graph.{ArePlacesOf, IsBlockIn, IsInstIn, noted_place};
 ghost use Rattle.from_llvm_ir.specs.Match.{IsPlaces};
 ghost use Rattle.from_llvm_ir.specs.Order.{IsInverse};
 ghost use Rattle.from_llvm_ir.specs.Source.{IsSource};
@@ -14,8 +14,8 @@ use block_order::succs::Succs;
 use llvm_core::module::LLVMModule;
 use llvm_core::numbers::{LLVMBasicBlock, LLVMFunction, LLVMInstRef};
 use std::alloc::{AllocError, Global};
-use std::collections::HashMap;
-use support::items::Items;
+use support::number_map::NumberMap;
+use support::short_list::ShortList;
 
 /// A place as a number of 32 bits.
 pub fn place_of(place: usize) -> Result<u32, AllocError>
@@ -27,8 +27,19 @@ pub fn place_of(place: usize) -> Result<u32, AllocError>
     }
 }
 
-/// The place of each block of a function in the order of the text.
-pub type Places = HashMap<LLVMBasicBlock, u32>;
+/// The place of each block of a function in the order of the text, by the number of the block.
+pub type Places = NumberMap<u32>;
+
+/// The place of a block in the order of the text.
+pub fn text_place(places: &Places, block: LLVMBasicBlock) -> u32
+    requires { IsSome (noted_place places.now block) }
+    ensures { noted_place places.now block ≡ Some result }
+{
+    match places.get(block.0) {
+        Some(place) => place,
+        None => unreachable!(),
+    }
+}
 
 /// The place of each block of a function.
 pub fn text_places(
@@ -40,9 +51,9 @@ pub fn text_places(
     ensures { IfOk result (λ places. (g : Function) → IsSource source.now f g → ArePlacesOf g places) }
 {
     let blocks = source.blocks(f);
-    let mut places = HashMap::new(alloc);
+    let mut places = NumberMap::new(alloc);
     for i in 0..blocks.len() {
-        places.insert(blocks[i], place_of(i)?)?;
+        places.set(blocks[i].0, place_of(i)?)?;
     }
     Ok(places)
 }
@@ -59,7 +70,7 @@ fn push_targets(
         → row.new.items ≡ row.old.items ++ map (place_of_block g) (targets p.instruction)) }
 {
     for target in targets_of(source.inst(i)) {
-        let place = places[target];
+        let place = text_place(places, *target);
         row.push(place)?;
     }
     Ok(())
@@ -98,14 +109,24 @@ pub fn graph(alloc: Global, source: &LLVMModule, f: LLVMFunction) -> Result<Succ
 }
 
 /// The place that an order gives each block.
-pub fn places_of(alloc: Global, order: &[u32]) -> Result<Items<u32>, AllocError>
+fn turned(alloc: Global, order: &[u32]) -> Result<Vec<u32>, AllocError>
     requires { IsPlaces (length order.now) order.now }
-    ensures places { IfOk result (λ p. IsPlaces (length order.now) p) }
-    ensures inverse { IfOk result (λ p. IsInverse order.now p) }
+    ensures places { IfOk result (λ p. IsPlaces (length order.now) p.items) }
+    ensures inverse { IfOk result (λ p. IsInverse order.now p.items) }
 {
     let mut places = vec![in alloc; 0u32; order.len()]?;
     for j in 0..order.len() {
         places[order[j] as usize] = place_of(j)?;
     }
-    Ok(Items::from_vec(places))
+    Ok(places)
+}
+
+/// The place that an order gives each block, kept short: it is handed out, and most functions have few blocks.
+pub fn places_of(alloc: Global, order: &[u32]) -> Result<ShortList<u32>, AllocError>
+    requires { IsPlaces (length order.now) order.now }
+    ensures places { IfOk result (λ p. IsPlaces (length order.now) p) }
+    ensures inverse { IfOk result (λ p. IsInverse order.now p) }
+{
+    let places = turned(alloc, order)?;
+    ShortList::from_slice(alloc, places.as_slice())
 }

@@ -1,12 +1,12 @@
 //! Which block of the dialect stands for each of a source function, and the edges that lead there.
 
-ghost use Rattle.std.specs.Prelude.{◌≡◌, ℕ, IfErr, IfOk, Some, map, slice_get};
+ghost use Rattle.std.specs.Prelude.{◌≡◌, ℕ, IfErr, IfOk, IsSome, Some, map, slice_get};
 ghost use Rattle.std.specs.List.{flat_map};
 ghost use Rattle.llvm_core.specs.Data.{Function};
 ghost use Rattle.meaning.specs.Pairs.{Matched};
 ghost use Rattle.from_llvm_ir.specs.Imported.{passed};
 ghost use Rattle.from_llvm_ir.specs.Parts.{target_blocks};
-ghost use Rattle.from_llvm_ir.specs.Values.{IsForward};
+ghost use Rattle.from_llvm_ir.specs.Values.{IsForward, target_at};
 ghost use Rattle.from_llvm_ir.specs.Edges.{IsKnownEdge, IsReady};
 
 use crate::conversion_err::ConversionErr;
@@ -19,10 +19,21 @@ use llvm_core::code::LLVMInst;
 use llvm_core::module::LLVMModule;
 use llvm_core::numbers::{LLVMBasicBlock, LLVMFunction};
 use std::alloc::Global;
-use std::collections::HashMap;
+use support::number_map::NumberMap;
 
-/// The blocks of the dialect that stand for those of a source function.
-pub type Targets = HashMap<LLVMBasicBlock, BlockRef>;
+/// The blocks of the dialect that stand for those of a source function, by the number of the block.
+pub type Targets = NumberMap<BlockRef>;
+
+/// The block of the dialect that stands for one of the source.
+pub fn target_of(targets: &Targets, block: LLVMBasicBlock) -> BlockRef
+    requires { IsSome (target_at targets.now block) }
+    ensures { target_at targets.now block ≡ Some result }
+{
+    match targets.get(block.0) {
+        Some(target) => target,
+        None => unreachable!(),
+    }
+}
 
 /// The edge of the dialect for one of the source.
 fn known_edge(
@@ -40,7 +51,7 @@ fn known_edge(
 {
     let taken = edge_values(alloc, source, entries, from, to)?;
     let args = known_values(alloc, source, values, taken.as_slice())?;
-    let block = targets[&to];
+    let block = target_of(targets, to);
     Ok(Successor { block, args })
 }
 
@@ -58,7 +69,7 @@ fn known_edges(
     ensures ok { IfOk result (λ ss. (f : LLVMFunction) → (g : Function) → ((j : ℕ) → (t : LLVMBasicBlock) → slice_get to.now j ≡ Some t → IsReady source.now f g values.now targets.now entries.now from t) → Matched (IsKnownEdge source.now g values.now targets.now from) to.now ss.items) }
     ensures err { IfErr result (λ e. (f : LLVMFunction) → (g : Function) → ((j : ℕ) → (t : LLVMBasicBlock) → slice_get to.now j ≡ Some t → IsReady source.now f g values.now targets.now entries.now from t) → IsForward source.now values.now (flat_map (passed g from.0) (map (λ t. t.0) to.now)) e) }
 {
-    let mut edges = Vec::new(alloc);
+    let mut edges = Vec::with_capacity(alloc, to.len())?;
     for target in to {
         edges.push(known_edge(alloc, source, values, targets, entries, from, *target)?)?;
     }

@@ -13,13 +13,18 @@ use llvm_core::module::LLVMModule;
 use llvm_core::numbers::LLVMInstRef;
 use std::alloc::{AllocError, Global};
 use std::collections::HashMap;
+use support::number_map::NumberMap;
 use support::short_list::ShortList;
 use support::text::Text;
 
 /// The values of the dialect that stand for parameters, constants and results of a source function.
 #[derive(Drop)]
 pub struct Values {
-    pub map: HashMap<LLVMValue, Value>,
+    /// The values of results, by the number of the instruction.
+    pub insts: NumberMap<Value>,
+    /// The values of constants, by their number.
+    pub consts: NumberMap<Value>,
+    pub params: HashMap<LLVMValue, Value>,
 }
 
 impl Values {
@@ -28,7 +33,9 @@ impl Values {
         ensures { (v : LLVMValue) → value_at result v ≡ None }
     {
         Values {
-            map: HashMap::new(alloc),
+            insts: NumberMap::new(alloc),
+            consts: NumberMap::new(alloc),
+            params: HashMap::new(alloc),
         }
     }
 
@@ -36,22 +43,36 @@ impl Values {
     pub fn get(&self, value: LLVMValue) -> Option<Value>
         ensures { result ≡ value_at self.now value }
     {
-        self.map.get(&value).copied()
+        match value {
+            LLVMValue::Inst(i) => self.insts.get(i.0),
+            LLVMValue::Const(c) => self.consts.get(c.0),
+            LLVMValue::Param(..) => self.params.get(&value).copied(),
+        }
     }
 
     /// Whether a value stands for one of the source.
     pub fn has(&self, value: LLVMValue) -> bool
         ensures { result ≡ is_some (value_at self.now value) }
     {
-        self.map.contains_key(&value)
+        match value {
+            LLVMValue::Inst(i) => self.insts.get(i.0).is_some(),
+            LLVMValue::Const(c) => self.consts.get(c.0).is_some(),
+            LLVMValue::Param(..) => self.params.contains_key(&value),
+        }
     }
 
     /// Notes the value that stands for one of the source.
     pub fn set(&mut self, value: LLVMValue, to: Value) -> Result<(), AllocError>
         ensures { OnOk result (IsNoted self.old self.new value to) }
     {
-        self.map.insert(value, to)?;
-        Ok(())
+        match value {
+            LLVMValue::Inst(i) => self.insts.set(i.0, to),
+            LLVMValue::Const(c) => self.consts.set(c.0, to),
+            LLVMValue::Param(..) => {
+                self.params.insert(value, to)?;
+                Ok(())
+            }
+        }
     }
 }
 

@@ -23,7 +23,7 @@ loop-j-init c =
       heads = λ fr framed order h. c.in_ok-first.ensures.heads fr framed h;
       targets = λ fr framed order h.
           let x = first_at m c.args.f fr c.blocks-blocks.result.now (record { 0 = 0 }) framed c.blocks-blocks.ensures.blocks in
-          more_targets m c.args.f fr c.new-targets.result c.insert.new.self 0 x.block _ c.in_ok-first.first framed c.in_ok-insert.ensures.updates.0 x.here (block_number m fr.source _ 0 x.block x.is)
+          more_targets m c.args.f fr c.new-targets.result c.set.new.self 0 x.block _ c.in_ok-first.first framed (λ q. c.in_ok-set.ensures q.0) x.here (block_number m fr.source _ 0 x.block x.is)
           (let e = c.in_ok-first.ensures.number fr h in omega (arith, e)) (λ place b lt at. absurd (omega (arith, lt)));
       kept = λ n b later. c.add_entry.ensures.kept n b later;
     }
@@ -54,7 +54,7 @@ loop-j-preserved c =
           (c.in_ok-add_later_block.ensures.heads fr c.args.f p.0 _ x.block framed x.is (ap (slice_get (blocks_of fr)) (sym p.1) ∙ x.here) (subst (HasHeads fr c.args.func c.loop-j.ctx) p.1 (c.loop-j.invariant.heads fr framed order h)));
       targets = λ fr framed order h.
           let x = named_at m c.args.f fr c.args.order.now ns j framed order c.blocks-blocks.ensures.blocks c.loop-j-test.true in
-          more_targets m c.args.f fr c.loop-j.targets c.insert-in-loop-j.new.self j x.block _ c.in_ok-add_later_block.field-0 framed c.in_ok-insert-2.ensures.updates.0 x.here (block_number m fr.source _ _ x.block x.is)
+          more_targets m c.args.f fr c.loop-j.targets c.set-in-loop-j.new.self j x.block _ c.in_ok-add_later_block.field-0 framed (λ q. c.in_ok-set-2.ensures q.0) x.here (block_number m fr.source _ _ x.block x.is)
           (c.in_ok-add_later_block.ensures.number fr j (c.loop-j.invariant.heads fr framed order h)) (c.loop-j.invariant.targets fr framed order h);
       kept = λ n b later. keeps_then n b c.args.ctx.now c.loop-j.ctx c.add_later_block.new.ctx (c.loop-j.invariant.kept n b later) (c.add_later_block.ensures.kept n b later);
     }
@@ -66,8 +66,8 @@ returns-clause-targets c = λ fr framed order h.
 pub returns-in_err-add_later_block-clause-kept : goal.returns-in_err-add_later_block-clause-kept
 returns-in_err-add_later_block-clause-kept c = λ n b later. keeps_then n b c.args.ctx.now c.loop-j.ctx c.add_later_block.new.ctx (c.loop-j.invariant.kept n b later) (c.add_later_block.ensures.kept n b later)
 
-pub returns-in_err-insert-2-clause-kept : goal.returns-in_err-insert-2-clause-kept
-returns-in_err-insert-2-clause-kept c = λ n b later. keeps_then n b c.args.ctx.now c.loop-j.ctx c.add_later_block.new.ctx (c.loop-j.invariant.kept n b later) (c.add_later_block.ensures.kept n b later)
+pub returns-in_err-set-2-clause-kept : goal.returns-in_err-set-2-clause-kept
+returns-in_err-set-2-clause-kept c = λ n b later. keeps_then n b c.args.ctx.now c.loop-j.ctx c.add_later_block.new.ctx (c.loop-j.invariant.kept n b later) (c.add_later_block.ensures.kept n b later)
 
 pub add_entry-requires : goal.add_entry-requires
 add_entry-requires c = let r = c.requires in (r.0, r.1, r.3)
@@ -75,8 +75,8 @@ add_entry-requires c = let r = c.requires in (r.0, r.1, r.3)
 pub returns-in_err-first-clause-kept : goal.returns-in_err-first-clause-kept
 returns-in_err-first-clause-kept c = c.add_entry.ensures.kept
 
-pub returns-in_err-insert-clause-kept : goal.returns-in_err-insert-clause-kept
-returns-in_err-insert-clause-kept c = c.add_entry.ensures.kept
+pub returns-in_err-set-clause-kept : goal.returns-in_err-set-clause-kept
+returns-in_err-set-clause-kept c = c.add_entry.ensures.kept
 
 pub returns-clause-kept : goal.returns-clause-kept
 returns-clause-kept c = c.loop-j.invariant.kept

@@ -14,16 +14,16 @@ blocks-requires g c = function_within c.args.source.now c.args.f c.requires.0.so
 pub bounds-blocks-0 : goal.bounds-blocks-0
 bounds-blocks-0 g c = blocks_there c.args.source.now c.args.f c.requires.0.source c.blocks-2.result.now c.requires.1.source c.blocks-2.ensures.blocks
 
-pub index-block-requires : goal.index-block-requires
-index-block-requires g c =
+pub target_of-block-requires : goal.target_of-block-requires
+target_of-block-requires g c =
     let r = c.requires in
     rw (first_target c.args.source.now c.args.f r.0 c.blocks-2.result.now (record { 0 = 0 }) c.in_ok-targets.targets r.1 c.blocks-2.ensures.blocks (c.in_ok-targets.ensures.targets r.0 r.1 r.2 r.3)) refl
 
 pub hoist_constants-requires : goal.hoist_constants-requires
 hoist_constants-requires g c =
     let r = c.requires in
-    let s = started c.args.source.now c.args.f r.0 c.args.func c.add_blocks.new.ctx c.in_ok-values.values c.args.order.now c.blocks-2.result.now (record { 0 = 0 }) c.in_ok-targets.targets c.index-block.result.now c.param_count.result r.1 r.2
-    c.blocks-2.ensures.blocks (c.in_ok-targets.ensures.targets r.0 r.1 r.2 r.3) c.index-block.ensures (c.in_ok-targets.ensures.heads r.0 r.1 r.2 r.3) (c.param_count.ensures r.0.source r.1.source) c.in_ok-values.ensures in
+    let s = started c.args.source.now c.args.f r.0 c.args.func c.add_blocks.new.ctx c.in_ok-values.values c.args.order.now c.blocks-2.result.now (record { 0 = 0 }) c.in_ok-targets.targets c.target_of-block.result c.param_count.result r.1 r.2
+    c.blocks-2.ensures.blocks (c.in_ok-targets.ensures.targets r.0 r.1 r.2 r.3) c.target_of-block.ensures (c.in_ok-targets.ensures.heads r.0 r.1 r.2 r.3) (c.param_count.ensures r.0.source r.1.source) c.in_ok-values.ensures in
     (r.0, r.1, r.2, c.in_ok-entries.ensures r.0.source r.1.source, s.hoisting, s.first)
 
 pub import_blocks-requires : goal.import_blocks-requires
@@ -32,8 +32,8 @@ import_blocks-requires g c =
     let m = c.args.source.now in
     let noted = c.in_ok-entries.ensures r.0.source r.1.source in
     let leads = c.in_ok-targets.ensures.targets r.0 r.1 r.2 r.3 in
-    let s = started m c.args.f r.0 c.args.func c.add_blocks.new.ctx c.in_ok-values.values c.args.order.now c.blocks-2.result.now (record { 0 = 0 }) c.in_ok-targets.targets c.index-block.result.now c.param_count.result r.1 r.2
-    c.blocks-2.ensures.blocks leads c.index-block.ensures (c.in_ok-targets.ensures.heads r.0 r.1 r.2 r.3) (c.param_count.ensures r.0.source r.1.source) c.in_ok-values.ensures in
+    let s = started m c.args.f r.0 c.args.func c.add_blocks.new.ctx c.in_ok-values.values c.args.order.now c.blocks-2.result.now (record { 0 = 0 }) c.in_ok-targets.targets c.target_of-block.result c.param_count.result r.1 r.2
+    c.blocks-2.ensures.blocks leads c.target_of-block.ensures (c.in_ok-targets.ensures.heads r.0 r.1 r.2 r.3) (c.param_count.ensures r.0.source r.1.source) c.in_ok-values.ensures in
     (r.0, r.1, r.2, leads, noted, not_filled r.0 m c.hoist_constants.new.ctx c.hoist_constants.new.values (c.in_ok-hoist_constants.ensures.hoisting r.0 r.1 r.2 noted s.hoisting s.first))
 
 pub returns-clause-err : goal.returns-clause-err
@@ -43,8 +43,8 @@ returns-clause-err g c =
     let m = c.args.source.now in
     let noted = c.in_ok-entries.ensures fr.source framed.source in
     let leads = c.in_ok-targets.ensures.targets fr framed order h in
-    let s = started m c.args.f fr c.args.func c.add_blocks.new.ctx c.in_ok-values.values c.args.order.now c.blocks-2.result.now (record { 0 = 0 }) c.in_ok-targets.targets c.index-block.result.now c.param_count.result framed order
-    c.blocks-2.ensures.blocks leads c.index-block.ensures (c.in_ok-targets.ensures.heads fr framed order h) (c.param_count.ensures fr.source framed.source) c.in_ok-values.ensures in
+    let s = started m c.args.f fr c.args.func c.add_blocks.new.ctx c.in_ok-values.values c.args.order.now c.blocks-2.result.now (record { 0 = 0 }) c.in_ok-targets.targets c.target_of-block.result c.param_count.result framed order
+    c.blocks-2.ensures.blocks leads c.target_of-block.ensures (c.in_ok-targets.ensures.heads fr framed order h) (c.param_count.ensures fr.source framed.source) c.in_ok-values.ensures in
     late fr framed order leads noted (not_filled fr m c.hoist_constants.new.ctx c.hoist_constants.new.values (c.in_ok-hoist_constants.ensures.hoisting fr framed order noted s.hoisting s.first)))
     c.import_blocks.ensures.err
 
@@ -55,8 +55,8 @@ returns-clause-ok g c =
     let m = c.args.source.now in
     let noted = c.in_ok-entries.ensures fr.source framed.source in
     let leads = c.in_ok-targets.ensures.targets fr framed order h in
-    let s = started m c.args.f fr c.args.func c.add_blocks.new.ctx c.in_ok-values.values c.args.order.now c.blocks-2.result.now (record { 0 = 0 }) c.in_ok-targets.targets c.index-block.result.now c.param_count.result framed order
-    c.blocks-2.ensures.blocks leads c.index-block.ensures (c.in_ok-targets.ensures.heads fr framed order h) (c.param_count.ensures fr.source framed.source) c.in_ok-values.ensures in
+    let s = started m c.args.f fr c.args.func c.add_blocks.new.ctx c.in_ok-values.values c.args.order.now c.blocks-2.result.now (record { 0 = 0 }) c.in_ok-targets.targets c.target_of-block.result c.param_count.result framed order
+    c.blocks-2.ensures.blocks leads c.target_of-block.ensures (c.in_ok-targets.ensures.heads fr framed order h) (c.param_count.ensures fr.source framed.source) c.in_ok-values.ensures in
     (c.import_blocks.new.values, filled fr framed order leads noted (not_filled fr m c.hoist_constants.new.ctx c.hoist_constants.new.values (c.in_ok-hoist_constants.ensures.hoisting fr framed order noted s.hoisting s.first))))
     c.import_blocks.ensures.ok
 
@@ -68,8 +68,8 @@ returns-in_err-hoist_constants-clause-kept g c = λ n b later behind.
     let r = c.requires in
     let m = c.args.source.now in
     let leads = c.in_ok-targets.ensures.targets r.0 r.1 r.2 r.3 in
-    let s = started m c.args.f r.0 c.args.func c.add_blocks.new.ctx c.in_ok-values.values c.args.order.now c.blocks-2.result.now (record { 0 = 0 }) c.in_ok-targets.targets c.index-block.result.now c.param_count.result r.1 r.2
-    c.blocks-2.ensures.blocks leads c.index-block.ensures (c.in_ok-targets.ensures.heads r.0 r.1 r.2 r.3) (c.param_count.ensures r.0.source r.1.source) c.in_ok-values.ensures in
+    let s = started m c.args.f r.0 c.args.func c.add_blocks.new.ctx c.in_ok-values.values c.args.order.now c.blocks-2.result.now (record { 0 = 0 }) c.in_ok-targets.targets c.target_of-block.result c.param_count.result r.1 r.2
+    c.blocks-2.ensures.blocks leads c.target_of-block.ensures (c.in_ok-targets.ensures.heads r.0 r.1 r.2 r.3) (c.param_count.ensures r.0.source r.1.source) c.in_ok-values.ensures in
     let base = r.3.blocks in
     keeps_then n b c.args.ctx.now c.add_blocks.new.ctx c.hoist_constants.new.ctx (c.add_blocks.ensures.kept n b later) (c.hoist_constants.ensures.kept n b (omega (arith, behind, base, s.first)))
 
@@ -78,8 +78,8 @@ returns-clause-kept g c = λ n b later behind.
     let r = c.requires in
     let m = c.args.source.now in
     let leads = c.in_ok-targets.ensures.targets r.0 r.1 r.2 r.3 in
-    let s = started m c.args.f r.0 c.args.func c.add_blocks.new.ctx c.in_ok-values.values c.args.order.now c.blocks-2.result.now (record { 0 = 0 }) c.in_ok-targets.targets c.index-block.result.now c.param_count.result r.1 r.2
-    c.blocks-2.ensures.blocks leads c.index-block.ensures (c.in_ok-targets.ensures.heads r.0 r.1 r.2 r.3) (c.param_count.ensures r.0.source r.1.source) c.in_ok-values.ensures in
+    let s = started m c.args.f r.0 c.args.func c.add_blocks.new.ctx c.in_ok-values.values c.args.order.now c.blocks-2.result.now (record { 0 = 0 }) c.in_ok-targets.targets c.target_of-block.result c.param_count.result r.1 r.2
+    c.blocks-2.ensures.blocks leads c.target_of-block.ensures (c.in_ok-targets.ensures.heads r.0 r.1 r.2 r.3) (c.param_count.ensures r.0.source r.1.source) c.in_ok-values.ensures in
     let base = r.3.blocks in
     keeps_then n b c.args.ctx.now c.hoist_constants.new.ctx c.import_blocks.new.ctx (keeps_then n b c.args.ctx.now c.add_blocks.new.ctx c.hoist_constants.new.ctx (c.add_blocks.ensures.kept n b later) (c.hoist_constants.ensures.kept n b (omega (arith, behind, base, s.first)))) (c.import_blocks.ensures.kept r.0 r.1 r.2 leads n b (omega (arith, behind, base)))
 

@@ -23,8 +23,8 @@ loop-place-init g c = record {
 pub bounds-blocks-place : goal.bounds-blocks-place
 bounds-blocks-place g c = (named_at c.args.source.now c.args.f c.requires.0 c.args.order.now c.blocks-blocks.result.now c.loop-place.place-index c.requires.1 c.requires.2 c.blocks-blocks.ensures.blocks c.loop-place-test.true).within
 
-pub index-block-requires : goal.index-block-requires
-index-block-requires g c =
+pub target_of-block-requires : goal.target_of-block-requires
+target_of-block-requires g c =
     let r = c.requires in
     let x = named_at c.args.source.now c.args.f r.0 c.args.order.now c.blocks-blocks.result.now c.loop-place.place-index r.1 r.2 c.blocks-blocks.ensures.blocks c.loop-place-test.true in
     subst IsSome (sym (target_named c.args.source.now r.0 c.args.targets.now c.args.order.now c.blocks-blocks.result.now c.loop-place.place-index r.3 x)) refl
@@ -34,7 +34,7 @@ import_insts-requires g c =
     let r = c.requires in
     let m = c.args.source.now in
     let x = named_at m c.args.f r.0 c.args.order.now c.blocks-blocks.result.now c.loop-place.place-index r.1 r.2 c.blocks-blocks.ensures.blocks c.loop-place-test.true in
-    (r.0, c.args.f, c.loop-place.place-index, x.block, begins_at m c.args.f r.0 c.args.targets.now c.args.entries.now c.loop-place.ctx c.loop-place.values c.args.order.now c.blocks-blocks.result.now c.loop-place.place-index c.index-block.result.now r.1 r.3 r.4 x c.index-block.ensures (c.loop-place.invariant.filled r.0 r.1 r.2 r.3 r.4 r.5))
+    (r.0, c.args.f, c.loop-place.place-index, x.block, begins_at m c.args.f r.0 c.args.targets.now c.args.entries.now c.loop-place.ctx c.loop-place.values c.args.order.now c.blocks-blocks.result.now c.loop-place.place-index c.target_of-block.result r.1 r.3 r.4 x c.target_of-block.ensures (c.loop-place.invariant.filled r.0 r.1 r.2 r.3 r.4 r.5))
 
 pub returns-in_err-import_insts-clause-err : goal.returns-in_err-import_insts-clause-err
 returns-in_err-import_insts-clause-err g c =
@@ -42,17 +42,17 @@ returns-in_err-import_insts-clause-err g c =
     (λ fr framed order leads noted filled.
     let m = c.args.source.now in
     let x = named_at m c.args.f fr c.args.order.now c.blocks-blocks.result.now c.loop-place.place-index framed order c.blocks-blocks.ensures.blocks c.loop-place-test.true in
-    c.in_err-import_insts.ensures.err fr c.args.f c.loop-place.place-index x.block (begins_at m c.args.f fr c.args.targets.now c.args.entries.now c.loop-place.ctx c.loop-place.values c.args.order.now c.blocks-blocks.result.now c.loop-place.place-index c.index-block.result.now framed leads noted x c.index-block.ensures (c.loop-place.invariant.filled fr framed order leads noted filled)))
+    c.in_err-import_insts.ensures.err fr c.args.f c.loop-place.place-index x.block (begins_at m c.args.f fr c.args.targets.now c.args.entries.now c.loop-place.ctx c.loop-place.values c.args.order.now c.blocks-blocks.result.now c.loop-place.place-index c.target_of-block.result framed leads noted x c.target_of-block.ensures (c.loop-place.invariant.filled fr framed order leads noted filled)))
 
 pub loop-place-preserved : goal.loop-place-preserved
 loop-place-preserved g c = record {
   filled = λ fr framed order leads noted filled.
       let m = c.args.source.now in
       let x = named_at m c.args.f fr c.args.order.now c.blocks-blocks.result.now c.loop-place.place-index framed order c.blocks-blocks.ensures.blocks c.loop-place-test.true in
-      c.in_ok-import_insts.ensures.ok fr c.args.f c.loop-place.place-index x.block (begins_at m c.args.f fr c.args.targets.now c.args.entries.now c.loop-place.ctx c.loop-place.values c.args.order.now c.blocks-blocks.result.now c.loop-place.place-index c.index-block.result.now framed leads noted x c.index-block.ensures (c.loop-place.invariant.filled fr framed order leads noted filled));
+      c.in_ok-import_insts.ensures.ok fr c.args.f c.loop-place.place-index x.block (begins_at m c.args.f fr c.args.targets.now c.args.entries.now c.loop-place.ctx c.loop-place.values c.args.order.now c.blocks-blocks.result.now c.loop-place.place-index c.target_of-block.result framed leads noted x c.target_of-block.ensures (c.loop-place.invariant.filled fr framed order leads noted filled));
   kept = λ fr framed order leads n b behind.
       let x = named_at c.args.source.now c.args.f fr c.args.order.now c.blocks-blocks.result.now c.loop-place.place-index framed order c.blocks-blocks.ensures.blocks c.loop-place-test.true in
-      let at = same_Some _ _ (sym c.index-block.ensures ∙ target_named c.args.source.now fr c.args.targets.now c.args.order.now c.blocks-blocks.result.now c.loop-place.place-index leads x) in
+      let at = same_Some _ _ (sym c.target_of-block.ensures ∙ target_named c.args.source.now fr c.args.targets.now c.args.order.now c.blocks-blocks.result.now c.loop-place.place-index leads x) in
       keeps_then n b c.args.ctx.now c.loop-place.ctx c.import_insts.new.ctx (c.loop-place.invariant.kept fr framed order leads n b behind) (c.import_insts.ensures.kept n b (omega (arith, behind, ap (λ (y : BlockRef). y.0) at)));
 }
 
@@ -63,7 +63,7 @@ returns-clause-ok g c = λ fr framed order leads noted filled.
 pub returns-in_err-import_insts-clause-kept : goal.returns-in_err-import_insts-clause-kept
 returns-in_err-import_insts-clause-kept g c = λ fr framed order leads n b behind.
     let x = named_at c.args.source.now c.args.f fr c.args.order.now c.blocks-blocks.result.now c.loop-place.place-index framed order c.blocks-blocks.ensures.blocks c.loop-place-test.true in
-    let at = same_Some _ _ (sym c.index-block.ensures ∙ target_named c.args.source.now fr c.args.targets.now c.args.order.now c.blocks-blocks.result.now c.loop-place.place-index leads x) in
+    let at = same_Some _ _ (sym c.target_of-block.ensures ∙ target_named c.args.source.now fr c.args.targets.now c.args.order.now c.blocks-blocks.result.now c.loop-place.place-index leads x) in
     keeps_then n b c.args.ctx.now c.loop-place.ctx c.import_insts.new.ctx (c.loop-place.invariant.kept fr framed order leads n b behind) (c.import_insts.ensures.kept n b (omega (arith, behind, ap (λ (y : BlockRef). y.0) at)))
 
 pub returns-clause-kept : goal.returns-clause-kept

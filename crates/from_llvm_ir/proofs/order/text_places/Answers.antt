@@ -14,9 +14,9 @@ loop-i-init c = λ j n lt at. absurd (omega (arith, lt))
 pub loop-i-preserved : goal.loop-i-preserved
 loop-i-preserved c =
     let ns = c.blocks-blocks.result.now in
-    places_more ns c.loop-i.i c.in_ok-place_of.field-0 _ c.loop-i.places c.insert.new.self (slice_get-get_or ns c.loop-i.i (record { 0 = 0 }) c.loop-i-test.true)
+    places_more ns c.loop-i.i c.in_ok-place_of.field-0 _ c.loop-i.places c.set.new.self (slice_get-get_or ns c.loop-i.i (record { 0 = 0 }) c.loop-i-test.true)
     (blocks_apart c.args.source.now c.args.f c.requires.0 ns c.requires.1 c.blocks-blocks.ensures.blocks)
-    c.in_ok-place_of.ensures c.in_ok-insert.ensures.updates.0 c.loop-i.invariant
+    c.in_ok-place_of.ensures (λ q. c.in_ok-set.ensures q.0) c.loop-i.invariant
 
 pub bounds-blocks-i : goal.bounds-blocks-i
 bounds-blocks-i c = c.loop-i-test.true

@@ -30,7 +30,7 @@ returns-in_err-args-clause-err c =
 
 pub returns-clause-ok : goal.returns-clause-ok
 returns-clause-ok c = λ f g h. record {
-  leads = c.index-block.ensures;
+  leads = c.target_of-block.ensures;
   taken = c.in_ok-taken.taken.items;
   passes = c.in_ok-taken.ensures.passed f g h.leads;
   args = subst (λ (vs : List LLVMValue). AreNoted c.args.values.now vs c.in_ok-args.args) c.as_slice.ensures.value c.in_ok-args.ensures.ok;

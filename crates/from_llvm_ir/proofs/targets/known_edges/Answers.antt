@@ -16,7 +16,7 @@ known_edge-requires c = (c.requires.0, c.requires.1, c.requires.2 c.loop-target.
 pub returns-in_err-known_edge-clause-err : goal.returns-in_err-known_edge-clause-err
 returns-in_err-known_edge-clause-err c =
     let at = slice_get-get_or c.args.to.now c.loop-target.target-index (record { 0 = 0 }) c.loop-target-test.true in
-    passed_on c.from_residual.result c.in_err-known_edge.field-0.0 _ c.from_residual.ensures.1
+    passed_on c.from_residual-in_err-known_edge.result c.in_err-known_edge.field-0.0 _ c.from_residual-in_err-known_edge.ensures.1
     (λ f g h. forward_flat c.args.source.now c.args.values.now (passed g c.args.from.0) c.args.to.now c.loop-target.target-index _ c.in_err-known_edge.field-0.0 at (c.in_err-known_edge.ensures.err f g (h c.loop-target.target-index _ at)))
 
 pub loop-target-preserved : goal.loop-target-preserved

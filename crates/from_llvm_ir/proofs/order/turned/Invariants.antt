@@ -1,7 +1,7 @@
--- What the loop of `order::places_of` keeps.
+-- What the loop of `order::turned` keeps.
 use Rattle.std.proofs.Common.{◌≡◌, length}
 use Rattle.from_llvm_ir.proofs.OrderLaws.{AreTurned}
-use Rattle.from_llvm_ir.proofs.order.places_of.Given as goal
+use Rattle.from_llvm_ir.proofs.order.turned.Given as goal
 
 abbrev pub invariant-loop-j : goal.invariant-loop-j
 invariant-loop-j l = record {
