@@ -1,6 +1,6 @@
 -- Whether each value of a function stands before its uses, the blocks taken in order.
 use Rattle.std.proofs.Common.{◌≡◌, ◌<◌, ◌≤◌, ◌+◌, ℕ, suc, Bool, true, false, if◌then◌else◌, Result, Ok, Err, List, [], ◌∷◌, ◌++◌, Option, Some, None, All, length, map, take, drop, slice_get, get_or, refl, sym, ap, subst, ◌∙◌, arith, append_assoc, ⊎_elim}
-use Rattle.std.specs.Prelude.{IfOk, MatchBool}
+use Rattle.std.specs.Prelude.{IfOk, MatchBool, is_some}
 use Rattle.std.specs.List.{flat_map, cons_option}
 use Rattle.std.proofs.lemmas.Bool.{cond-true, cond-false, cases_Bool, false≢true}
 use Rattle.std.proofs.lemmas.Option.{none-some, same_Some, slice_get_within}
@@ -33,6 +33,10 @@ of_blocks c t bs h = record { some = (let e = ap (λ (bs : List DialectBlock). l
 
 pub seen_none : (seen : Seen) → ((v : Value) → is_seen seen v ≡ false) → AreSeen seen []
 seen_none seen h v = (λ e. absurd (false≢true (sym (h v) ∙ e)), λ has. absurd (none-some v has.1))
+
+pub noted_if : {X : Type 0} (t : Bool) (x : X) (o : Option X) → is_some (if t then Some x else o) ≡ (if t then true else is_some o)
+noted_if true x o = refl
+noted_if false x o = refl
 
 pub seen_more : (old new : Seen) (v : Value) (vs : List Value) → ((q : Value) → is_seen new q ≡ (if same_value v q then true else is_seen old q)) → AreSeen old vs → AreSeen new (vs ++ v ∷ [])
 seen_more old new v vs set h q = (

@@ -1,16 +1,14 @@
 -- How the order of an export is found: which values stand before, and where edges lead.
-use Rattle.std.specs.Prelude.{◌≡◌, ◌<◌, ◌++◌, ℕ, Bool, true, List, Option, Some, All, length, map, take, slice_get}
+use Rattle.std.specs.Prelude.{◌≡◌, ◌<◌, ◌++◌, ℕ, Bool, true, List, Option, Some, is_some, All, length, map, take, slice_get}
 use Rattle.std.specs.List.{filter_map}
-use Rattle.std.specs.HashMap.{get}
-use Rattle.std.specs.HashSet.{contains}
+use Rattle.support.specs.NumberMaps.{value_at}
 use Rattle.dialect_types.specs.Trees.{type_trees}
 use Rattle.dialect_core.specs.declared.numbers.OpRef.{OpRef}
 use Rattle.dialect_core.specs.declared.numbers.BlockRef.{BlockRef}
 use Rattle.dialect_core.specs.declared.ops.Value.{Value}
-use Rattle.dialect_core.specs.contracts.ops.ValuePartialEq.TheImpl as keys
-use Rattle.dialect_core.specs.contracts.numbers.BlockRefPartialEq.TheImpl as block_keys
 use Rattle.dialect_core.specs.ContextData.{ContextData}
 use Rattle.dialect_core.specs.Data.{DialectOp, DialectBlock, Func, op_at, block_in}
+use Rattle.dialect_core.specs.ValueMaps.{mapped}
 use Rattle.dialect_core.specs.Form.{uses_of}
 use Rattle.to_llvm_ir.specs.declared.order.Seen.{Seen}
 use Rattle.to_llvm_ir.specs.declared.graph.Places.{Places}
@@ -38,7 +36,7 @@ pub record AreBlocksOf (c : ContextData) (g : Func) (bs : List BlockRef) : Type 
 
 -- whether a value is noted
 abbrev pub is_seen : Seen → Value → Bool
-is_seen seen v = contains keys.eq-value.it seen.values v
+is_seen seen v = is_some (mapped seen.values v)
 
 -- the values of a list, and no others, are noted
 abbrev pub AreSeen : Seen → List Value → Type 0
@@ -56,7 +54,7 @@ HasUsesAmong vs os = (k : ℕ) (o : DialectOp) → slice_get os k ≡ Some o →
 
 -- the place that is noted for a block
 abbrev pub noted_place : Places → BlockRef → Option ℕ
-noted_place places b = get block_keys.eq-value.it places.map b
+noted_place places b = value_at places.map b.0
 
 -- the blocks of the function have their places, and no others have one
 abbrev pub ArePlacesOf : Func → Places → Type 0

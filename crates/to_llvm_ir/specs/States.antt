@@ -1,7 +1,7 @@
 -- A function on the way from the dialect to LLVM: what stands for its values, and what the module holds so far.
 use Rattle.std.specs.Prelude.{◌≡◌, ◌<◌, ◌+◌, ℕ, suc, Bool, false, nat_eq, nat_lt, if◌then◌else◌, List, [], ◌++◌, Option, Some, None, All, IfSome, length, map, option_map, take, slice_get}
 use Rattle.std.specs.List.{Contains, flat_map, filter_map}
-use Rattle.std.specs.HashMap.{get}
+use Rattle.support.specs.NumberMaps.{value_at}
 use Rattle.kinds.specs.declared.rules.Gives.{Gives}
 use Rattle.kinds.specs.Typing.{written_for}
 use Rattle.llvm_core.specs.declared.numbers.LLVMInstRef.{LLVMInstRef}
@@ -22,10 +22,9 @@ use Rattle.dialect_core.specs.declared.numbers.BlockRef.{BlockRef}
 use Rattle.dialect_core.specs.declared.ops.Value.{Value}
 use Rattle.dialect_core.specs.declared.ops.Value.TheVariants.{Result, Argument}
 use Rattle.dialect_core.specs.declared.ops.Successor.{Successor}
-use Rattle.dialect_core.specs.contracts.ops.ValuePartialEq.TheImpl as keys
-use Rattle.dialect_core.specs.contracts.numbers.BlockRefPartialEq.TheImpl as block_keys
 use Rattle.dialect_core.specs.ContextData.{ContextData}
 use Rattle.dialect_core.specs.Data.{DialectOp, DialectBlock, Func, op_at, block_in, func_in, value_type}
+use Rattle.dialect_core.specs.ValueMaps.{mapped}
 use Rattle.dialect_core.specs.Form.{IsFormFunc, uses_of, is_constant}
 use Rattle.meaning.specs.Pairs.{Matched}
 use Rattle.meaning.specs.Dialect.{type_of, option_type}
@@ -42,7 +41,7 @@ use Rattle.to_llvm_ir.specs.Growth.{HasType}
 
 -- what stands for a value, where it is known
 abbrev pub found : Values → Value → Option LLVMValue
-found values v = get keys.eq-value.it values.stands v
+found values v = mapped values.stands v
 
 -- the value is one of the list
 abbrev pub Has : List Value → Value → Type 0
@@ -172,7 +171,7 @@ same_block b c = nat_eq b.0 c.0
 
 -- what a block became, where it is known
 abbrev pub found_block : Blocks → BlockRef → Option Target
-found_block blocks b = get block_keys.eq-value.it blocks.targets b
+found_block blocks b = value_at blocks.targets b.0
 
 -- the block of that number is one of the first i of the function, and x says where it stands
 pub record IsTargetOf (g : Func) (n : Numbers) (i : ℕ) (b : BlockRef) (x : Target) : Type 0 where

@@ -17,7 +17,7 @@ use dialect_core::ops::Successor;
 use llvm_core::module::LLVMModule;
 use llvm_core::numbers::{LLVMBasicBlock, LLVMFunction};
 use std::alloc::{AllocError, Global};
-use std::collections::HashMap;
+use support::number_map::NumberMap;
 use support::text::Text;
 
 /// What a block became, and its place in the function.
@@ -30,7 +30,7 @@ pub struct Target {
 /// What the blocks of a function became.
 #[derive(Drop)]
 pub struct Blocks {
-    pub targets: HashMap<BlockRef, Target>,
+    pub targets: NumberMap<Target>,
 }
 
 impl Blocks {
@@ -39,7 +39,7 @@ impl Blocks {
         ensures { (b : _) → found_block result b ≡ None }
     {
         Blocks {
-            targets: HashMap::new(alloc),
+            targets: NumberMap::new(alloc),
         }
     }
 
@@ -47,15 +47,14 @@ impl Blocks {
     pub fn get(&self, block: BlockRef) -> Option<Target>
         ensures { result ≡ found_block self.now block }
     {
-        self.targets.get(&block).copied()
+        self.targets.get(block.0)
     }
 
     /// What a block became.
     pub fn set(&mut self, block: BlockRef, target: Target) -> Result<(), AllocError>
         ensures { OnOk result ((q : _) → found_block self.new q ≡ (if same_block block q then Some target else found_block self.old q)) }
     {
-        self.targets.insert(block, target)?;
-        Ok(())
+        self.targets.set(block.0, target)
     }
 }
 

@@ -13,12 +13,12 @@ use block_order::succs::Succs;
 use dialect_core::context::Context;
 use dialect_core::numbers::{BlockRef, OpRef};
 use std::alloc::{AllocError, Global};
-use std::collections::HashMap;
+use support::number_map::NumberMap;
 
 /// The place of each block of a function.
 #[derive(Drop)]
 pub struct Places {
-    pub map: HashMap<BlockRef, u32>,
+    pub map: NumberMap<u32>,
 }
 
 impl Places {
@@ -27,7 +27,7 @@ impl Places {
         ensures { (b : _) → noted_place result b ≡ None }
     {
         Places {
-            map: HashMap::new(alloc),
+            map: NumberMap::new(alloc),
         }
     }
 
@@ -35,15 +35,14 @@ impl Places {
     fn get(&self, block: BlockRef) -> Option<u32>
         ensures { result ≡ noted_place self.now block }
     {
-        self.map.get(&block).copied()
+        self.map.get(block.0)
     }
 
     /// Notes the place of a block.
     fn set(&mut self, block: BlockRef, place: u32) -> Result<(), AllocError>
         ensures { OnOk result ((q : _) → noted_place self.new q ≡ (if nat_eq block.0 q.0 then Some place else noted_place self.old q)) }
     {
-        self.map.insert(block, place)?;
-        Ok(())
+        self.map.set(block.0, place)
     }
 }
 

@@ -18,13 +18,13 @@ use block_order::ordering::rpo;
 use dialect_core::context::Context;
 use dialect_core::numbers::{BlockRef, OpRef};
 use dialect_core::ops::Value;
+use dialect_core::value_map::ValueMap;
 use std::alloc::{AllocError, Global};
-use std::collections::HashSet;
 
 /// Values that stand before.
 #[derive(Drop)]
 pub struct Seen {
-    pub values: HashSet<Value>,
+    pub values: ValueMap<()>,
 }
 
 impl Seen {
@@ -33,7 +33,7 @@ impl Seen {
         ensures { (v : _) → is_seen result v ≡ false }
     {
         Seen {
-            values: HashSet::new(alloc),
+            values: ValueMap::new(alloc),
         }
     }
 
@@ -41,15 +41,14 @@ impl Seen {
     fn has(&self, value: Value) -> bool
         ensures { result ≡ is_seen self.now value }
     {
-        self.values.contains(&value)
+        self.values.get(value).is_some()
     }
 
     /// Notes a value.
     fn note(&mut self, value: Value) -> Result<(), AllocError>
         ensures { OnOk result ((q : _) → is_seen self.new q ≡ (if same_value value q then true else is_seen self.old q)) }
     {
-        self.values.insert(value)?;
-        Ok(())
+        self.values.set(value, ())
     }
 }
 

@@ -5,15 +5,15 @@ ghost use Rattle.meaning.specs.Dialect.{same_value};
 ghost use Rattle.to_llvm_ir.specs.States.{found};
 
 use dialect_core::ops::Value;
+use dialect_core::value_map::ValueMap;
 use llvm_core::code::LLVMValue;
 use std::alloc::{AllocError, Global};
-use std::collections::HashMap;
 
 /// What the values of a function became so far.
 #[derive(Drop)]
 pub struct Values {
     /// What stands for a value.
-    pub stands: HashMap<Value, LLVMValue>,
+    pub stands: ValueMap<LLVMValue>,
     /// The number of the next value.
     pub next: u64,
 }
@@ -25,7 +25,7 @@ impl Values {
         ensures next { result.next ≡ 0 }
     {
         Values {
-            stands: HashMap::new(alloc),
+            stands: ValueMap::new(alloc),
             next: 0,
         }
     }
@@ -34,7 +34,7 @@ impl Values {
     pub fn get(&self, value: Value) -> Option<LLVMValue>
         ensures { result ≡ found self.now value }
     {
-        self.stands.get(&value).copied()
+        self.stands.get(value)
     }
 
     /// The next value, and what stands for it.
@@ -44,7 +44,7 @@ impl Values {
         ensures found { OnOk result ((q : _) → found self.new q ≡ (if same_value value q then Some stands else found self.old q)) }
     {
         let next = self.next.checked_add(1).ok_or(AllocError)?;
-        self.stands.insert(value, stands)?;
+        self.stands.set(value, stands)?;
         self.next = next;
         Ok(())
     }

@@ -1,5 +1,5 @@
 -- The texts of the two literals, and that they are plain.
-use Rattle.std.proofs.Common.{◌≡◌, ◌++◌, ℕ, Some, None, Option, List, ap, sym, subst, ◌∙◌, append_assoc, string_bytes, refl}
+use Rattle.std.proofs.Common.{◌≡◌, ◌++◌, ℕ, Some, None, Option, List, ap, sym, subst, ◌∙◌, append_assoc, refl}
 use Rattle.std.specs.Prelude.{codes}
 use Rattle.std.specs.Fmt.{decimal}
 use Rattle.std.specs.Option.{option_copied}
@@ -14,7 +14,7 @@ returns-in-Some-clause-name c =
     let label = c.as_str.result.now in
     let place = c.args.place in
     let same : Some label ≡ option_copied c.args.label = ap Some c.as_str.ensures.text ∙ sym (ap option_copied c.in-Some.is) in
-    IfOk-weaker c.joined.result (λ s. string_bytes s ≡ label ++ (codes "_block" ++ decimal place)) (λ s. string_bytes s ≡ block_name (option_copied c.args.label) place)
+    IfOk-weaker c.joined.result (λ s. s ≡ label ++ (codes "_block" ++ decimal place)) (λ s. s ≡ block_name (option_copied c.args.label) place)
     (λ s wrote. wrote ∙ sym (append_assoc label (codes "_block") (decimal place)) ∙ ap (λ l. block_name l place) same) (rw c.from.ensures at c.joined.ensures)
 
 pub returns-in-Some-clause-plain : goal.returns-in-Some-clause-plain

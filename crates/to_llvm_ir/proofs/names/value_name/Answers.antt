@@ -1,5 +1,5 @@
 -- The texts of the two literals, and that they are plain.
-use Rattle.std.proofs.Common.{◌≡◌, ◌++◌, [], ℕ, Some, None, Option, List, ap, sym, subst, ◌∙◌, append_assoc, string_bytes, refl}
+use Rattle.std.proofs.Common.{◌≡◌, ◌++◌, [], ℕ, Some, None, Option, List, ap, sym, subst, ◌∙◌, append_assoc, refl}
 use Rattle.std.specs.Prelude.{codes}
 use Rattle.std.specs.Fmt.{decimal}
 use Rattle.std.specs.Option.{option_copied}
@@ -14,7 +14,7 @@ returns-in-Some-clause-name c =
     let given = c.as_str.result.now in
     let number = c.args.number in
     let same : Some given ≡ option_copied c.args.given = ap Some c.as_str.ensures.text ∙ sym (ap option_copied c.in-Some.is) in
-    IfOk-weaker c.joined.result (λ s. string_bytes s ≡ given ++ (codes "_v" ++ decimal number)) (λ s. string_bytes s ≡ value_name (option_copied c.args.given) number)
+    IfOk-weaker c.joined.result (λ s. s ≡ given ++ (codes "_v" ++ decimal number)) (λ s. s ≡ value_name (option_copied c.args.given) number)
     (λ s wrote. wrote ∙ sym (append_assoc given (codes "_v") (decimal number)) ∙ ap (λ l. value_name l number) same) c.joined.ensures
 
 pub returns-in-Some-clause-plain : goal.returns-in-Some-clause-plain

@@ -54,7 +54,7 @@ returns-clause-ok c = λ s next made here.
     let r = there (result_type c.args.back.now c.args.inst) (λ e. none-some type.0 (sym (made.void e) ∙ type.1)) in
     let given = name_is (type_trees c.args.ctx.now.types) c.args.ctx.now.ops c.args.op s.op _ parts c.op_name.ensures in
     let name : c.as_str.result.now ≡ result_name s.op.name s.op.result (number_behind (first_at s.task.source s.place + length s.block.args) (take s.at s.block.ops)) =
-    c.as_str.ensures.value ∙ c.in_ok-name.ensures.name ∙ ap (λ (n : Option (List ℕ)). value_name n c.args.values.now.next) (sym given) ∙ ap (value_name s.op.name) next.state.next ∙ ap (λ (t : Option TypeTree). result_name s.op.name t (number_behind (first_at s.task.source s.place + length s.block.args) (take s.at s.block.ops))) (sym type.1) in
+    c.as_str.ensures ∙ c.in_ok-name.ensures.name ∙ ap (λ (n : Option (List ℕ)). value_name n c.args.values.now.next) (sym given) ∙ ap (value_name s.op.name) next.state.next ∙ ap (λ (t : Option TypeTree). result_name s.op.name t (number_behind (first_at s.task.source s.place + length s.block.args) (take s.at s.block.ops))) (sym type.1) in
     both c.set.result c.set.ensures.next c.set.ensures.found (λ _.
     typed_placed c.args.ctx.now c.args.op s c.args.values.now c.args.back.now next c.args.inst made c.in_ok-i.i c.as_str.result.now c.args.block c.build-2.new.self built.ok built.number built.data built.sound here name type.0 r.0 c.set.new.self type.1 r.1)
 
