@@ -1,5 +1,6 @@
 -- The lemmas of the crate.
 pub mod BlockLaws
+pub mod ByteLaws
 pub mod CuttingLaws
 pub mod FunctionLaws
 pub mod InstLaws

@@ -1,6 +1,6 @@
 //! Kinds of bytes in LLVM text.
 
-ghost use Rattle.std.specs.Prelude.{◌≡◌};
+ghost use Rattle.std.specs.Prelude.{◌≡◌, slice_index_or};
 ghost use Rattle.std.specs.List.{list_all};
 ghost use Rattle.llvm_core.specs.Names.{is_digit, is_letter, is_plain_byte};
 ghost use Rattle.ll_tree.specs.Text.{is_name_byte};
@@ -34,11 +34,32 @@ pub fn is_letter(b: u8) -> bool
     (b >= b'A' && b <= b'Z') || (b >= b'a' && b <= b'z')
 }
 
+/// What each byte is in a name: `p` of a plain name, `n` of a bare name only, `.` of none. A row has 32 bytes.
+static NAME_KINDS: [u8; 256] = *b"\
+................................\
+....n........nn.pppppppppp......\
+.pppppppppppppppppppppppppp....p\
+.pppppppppppppppppppppppppp.....\
+................................\
+................................\
+................................\
+................................";
+
+/// What a byte is in a name, by a table.
+fn kind_at(kinds: &[u8], b: u8) -> u8
+    ensures { result ≡ slice_index_or kinds.now b 46 }
+{
+    match kinds.get(b as usize) {
+        Some(kind) => *kind,
+        None => b'.',
+    }
+}
+
 /// A byte of a bare name.
 pub fn is_name_byte(b: u8) -> bool
     ensures { result ≡ is_name_byte b }
 {
-    is_letter(b) || is_digit(b) || b == b'$' || b == b'.' || b == b'_' || b == b'-'
+    kind_at(&NAME_KINDS, b) != b'.'
 }
 
 /// `@` or `%`.
@@ -80,5 +101,5 @@ pub fn is_word_byte(b: u8) -> bool
 pub fn is_plain_byte(b: u8) -> bool
     ensures { result ≡ is_plain_byte b }
 {
-    is_letter(b) || is_digit(b) || b == b'_'
+    kind_at(&NAME_KINDS, b) == b'p'
 }

@@ -88,5 +88,6 @@ pub fn plain_name(text: &[u8]) -> Option<&str>
     if !is_plain(text) {
         return None;
     }
-    str::from_utf8(text).ok()
+    // Letters, digits and `_` are ASCII, which is UTF-8.
+    Some(unsafe { str::from_utf8_unchecked(text) })
 }
