@@ -20,13 +20,14 @@ use llvm_core::checking::check;
 use llvm_core::module::LLVMModule;
 use std::alloc::Global;
 
-/// The module that tokens say, which may break a rule.
-fn build_tokens(alloc: Global, tokens: &[Token<'_>]) -> Result<LLVMModule, ReadErr>
-    ensures says { IfOk result (λ m. SaysPlainly (texts_of tokens.now) (data_of m)) }
+/// The module that tokens say, which may break a rule. They are let go before it is built: its parts lie in the text.
+fn build_tokens(alloc: Global, tokens: Vec<Token<'_>>) -> Result<LLVMModule, ReadErr>
+    ensures says { IfOk result (λ m. SaysPlainly (texts_of tokens.entry.items) (data_of m)) }
     ensures numbered { IfOk result (λ m. IsNumbered (data_of m)) }
-    ensures not_yet { result ≡ Err errors.NotYet → (d : ModuleData) → ¬ SaysPlainly (texts_of tokens.now) d }
+    ensures not_yet { result ≡ Err errors.NotYet → (d : ModuleData) → ¬ SaysPlainly (texts_of tokens.entry.items) d }
 {
-    let tree = read_tree(alloc, tokens)?;
+    let tree = read_tree(alloc, tokens.as_slice())?;
+    drop(tokens);
     build_file(alloc, &tree)
 }
 
@@ -56,6 +57,6 @@ pub fn read_ll(alloc: Global, bytes: &[u8]) -> Result<LLVMModule, ReadErr>
     ensures not_yet { result ≡ Err errors.NotYet → ¬ IsSpelled bytes.now }
 {
     let tokens = tokens(alloc, bytes)?;
-    let built = build_tokens(alloc, tokens.as_slice())?;
+    let built = build_tokens(alloc, tokens)?;
     check_built(&built).and(Ok(built))
 }
