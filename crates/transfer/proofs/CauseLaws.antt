@@ -56,13 +56,13 @@ module _ (d : DialectModule) (forms : All IsFormFunc d.functions) (fit : All IsE
       let equal = within_at h.edge.block.function.blocks HasEqualEdges (exportable h.edge.block).equal h.edge.block.block h.edge.block.is h.edge.block.there in
       h.differs (equal h.other_place h.edge.place h.other h.edge.edge h.at h.edge.at h.same)
 
-  -- so no refusal of an export comes out
-  pub of_export_cause : (c : ContextData) (m : ModuleData) (e : ToLLVMErr) → X.IsCause c d e → IsCause m (of_export e)
-  of_export_cause c m (E.UndefinedValue name) h = absurd (no_early_use c name h)
-  of_export_cause c m (E.UndefinedBlock label) h = absurd (never_outside c label h)
-  of_export_cause c m E.NumBlockArgsNumPhisMismatch h = absurd (never_mismatched h)
-  of_export_cause c m (E.EdgeArgsDiffer p t) h = absurd (never_other p t h)
-  of_export_cause c m E.NoMemory h = tt
+  -- so an export is refused for want of memory alone
+  pub only_memory_exported : (c : ContextData) (e : ToLLVMErr) → X.IsCause c d e → of_export e ≡ T.NoMemory
+  only_memory_exported c (E.UndefinedValue name) h = absurd (no_early_use c name h)
+  only_memory_exported c (E.UndefinedBlock label) h = absurd (never_outside c label h)
+  only_memory_exported c E.NumBlockArgsNumPhisMismatch h = absurd (never_mismatched h)
+  only_memory_exported c (E.EdgeArgsDiffer p t) h = absurd (never_other p t h)
+  only_memory_exported c E.NoMemory h = refl
 
 pub of_import_cause : (m : ModuleData) (e : ConversionErr) → Import.IsCause m e → IsCause m (of_import e)
 of_import_cause m (C.UndefinedValue name v) h = h

@@ -2,3 +2,4 @@
 pub mod SameFunctions
 pub mod CauseLaws
 pub mod TransferLaws
+pub mod BegunLaws

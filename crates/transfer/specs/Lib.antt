@@ -1,2 +1,3 @@
 -- The definitions that clauses cite.
 pub mod Same
+pub mod Begun

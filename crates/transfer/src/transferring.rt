@@ -1,14 +1,15 @@
-//! The two halves in a row.
+//! The two halves in a row: a module is begun, which imports it, and finished, which exports what was imported.
 
 ghost use Rattle.std.specs.Prelude.{◌≡◌, [], IfOk, IfErr};
+ghost use Rattle.llvm_core.specs.Module.{Module};
 ghost use Rattle.llvm_core.specs.Checked.{IsChecked};
 ghost use Rattle.llvm_core.specs.Data.{data_of};
 ghost use Rattle.llvm_core.specs.Names.{IsPlainOrNone};
-ghost use Rattle.llvm_core.specs.Form.{HasDistinctNames, IsForm};
-ghost use Rattle.dialect_core.specs.Data.{IsTyped};
+ghost use Rattle.llvm_core.specs.Form.{IsForm};
 ghost use Rattle.from_llvm_ir.specs.Refusals.{IsValid};
 ghost use Rattle.to_llvm_ir.specs.Held.{IsReadable};
 ghost use Rattle.transfer.specs.declared.transfer_err.TransferErr.TheVariants as refusals;
+ghost use Rattle.transfer.specs.Begun.{IsBegun};
 ghost use Rattle.transfer.specs.Same.{SameThroughout, IsCause, transferred_of};
 
 use crate::transfer_err::TransferErr;
@@ -19,31 +20,48 @@ use llvm_core::module::LLVMModule;
 use std::alloc::Global;
 use to_llvm_ir::exporting::convert_module as export;
 
-/// What the two halves made: the import in a context of the caller's, and the export back.
+/// A translation of which the import is done, in a context of its own. The module that was imported may be let go.
 #[derive(Drop)]
-struct Halves {
-    imported: Imported,
-    back: LLVMModule,
+pub struct Begun {
+    pub ctx: Context,
+    pub imported: Imported,
 }
 
-/// The two halves in a row. The context is its caller's, so that neither refusal has to let go of it.
-fn run_halves(alloc: Global, ctx: &mut Context, module: &LLVMModule) -> Result<Halves, TransferErr>
+/// Imports a checked module of the form into a context of its own. It is refused only where the import refuses it. So a
+/// module whose uses are valid is answered `Ok` or `NoMemory`.
+pub fn begin(alloc: Global, module: &LLVMModule) -> Result<Begun, TransferErr>
     requires form { IsForm (data_of «module».now) }
     requires name { IsPlainOrNone «module».now.name }
-    requires distinct { HasDistinctNames (data_of «module».now) }
-    requires typed { IsTyped ctx.old }
-    ensures same { IfOk result (λ h. SameThroughout (data_of «module».now) (transferred_of ctx.new h.imported h.back)) }
-    ensures back { IfOk result (λ h. IsChecked h.back) }
-    ensures form { IfOk result (λ h. IsForm (data_of h.back)) }
-    ensures readable { IfOk result (λ h. IsReadable ctx.new h.imported.«module».0.0) }
-    ensures structs { IfOk result (λ h. h.imported.structs.items ≡ []) }
+    requires checked { IsChecked «module».now }
+    ensures begun { IfOk result (λ b. IsBegun «module».now b) }
+    ensures readable { IfOk result (λ b. IsReadable b.ctx b.imported.«module».0.0) }
     ensures cause { IfErr result (λ e. IsCause (data_of «module».now) e) }
+    ensures complete { IsValid (data_of «module».now) → IfErr result (λ e. e ≡ refusals.NoMemory) }
 {
-    let imported = import(alloc, ctx, module)?;
-    let exported = export(alloc, ctx, imported.module)?;
-    Ok(Halves {
-        imported,
+    let mut ctx = Context::new(alloc);
+    let imported = import(alloc, &mut ctx, module)?;
+    Ok(Begun { ctx, imported })
+}
+
+/// Exports what was imported. It is refused for want of memory alone: the export takes all that an import makes.
+pub fn finish(alloc: Global, begun: Begun) -> Result<Transferred, TransferErr>
+    requires begun { (m : Module) × IsBegun m begun }
+    ensures same { (m : Module) → IsBegun m begun → IfOk result (λ t. SameThroughout (data_of m) t) }
+    ensures kept { IfOk result (λ t. t ≡ transferred_of begun.ctx begun.imported t.back) }
+    ensures back { IfOk result (λ t. IsChecked t.back) }
+    ensures form { IfOk result (λ t. IsForm (data_of t.back)) }
+    ensures readable { IfOk result (λ t. IsReadable t.ctx t.dialect.0.0) }
+    ensures structs { IfOk result (λ t. t.structs.items ≡ []) }
+    ensures memory { IfErr result (λ e. e ≡ refusals.NoMemory) }
+{
+    let exported = export(alloc, &begun.ctx, begun.imported.module)?;
+    let Begun { ctx, imported } = begun;
+    Ok(Transferred {
+        ctx,
+        dialect: imported.module,
         back: exported.module,
+        blocks: imported.blocks,
+        structs: imported.structs,
     })
 }
 
@@ -64,13 +82,6 @@ pub fn transfer(alloc: Global, module: &LLVMModule) -> Result<Transferred, Trans
     ensures cause { IfErr result (λ e. IsCause (data_of «module».now) e) }
     ensures complete { IsValid (data_of «module».now) → IfErr result (λ e. e ≡ refusals.NoMemory) }
 {
-    let mut ctx = Context::new(alloc);
-    let halves = run_halves(alloc, &mut ctx, module)?;
-    Ok(Transferred {
-        ctx,
-        dialect: halves.imported.module,
-        back: halves.back,
-        blocks: halves.imported.blocks,
-        structs: halves.imported.structs,
-    })
+    let begun = begin(alloc, module)?;
+    finish(alloc, begun)
 }
