@@ -1,5 +1,5 @@
 -- From what the halves made to what `round` promises.
-use Rattle.std.proofs.Common.{ℕ, suc, ◌≡◌, ◌≢◌, ◌<◌, sym, ◌∙◌, subst, List, [], ◌∷◌, Some, slice_get, length, refl}
+use Rattle.std.proofs.Common.{ℕ, suc, ◌≡◌, ◌≢◌, ◌<◌, sym, ap, ◌∙◌, subst, List, [], ◌∷◌, ◌++◌, Some, slice_get, length, codes, append_assoc, refl}
 use Rattle.std.proofs.lemmas.List.Elements.{All-nil, All-cons}
 use Rattle.llvm_core.specs.Module.{Module}
 use Rattle.llvm_core.specs.Sound.{IsModule}
@@ -11,6 +11,7 @@ use Rattle.llvm_core.specs.Data.{ModuleData, data_of}
 use Rattle.llvm_core.proofs.DistinctLaws.{distinct_of_checked, few_of_checked}
 use Rattle.dialect_types.specs.Names.{legal_name}
 use Rattle.dialect_core.specs.Data as D
+use Rattle.dialect_core.specs.Text.{module_text as dialect_text}
 use Rattle.ll_text.specs.Spelling.{Spells, IsNumbered, IsReadable}
 use Rattle.ll_text.proofs.MeaningLaws.{plain_bare}
 use Rattle.ll_print.specs.Printing.{IsBareOrNone}
@@ -18,12 +19,14 @@ use Rattle.from_llvm_ir.specs.declared.matching.FunctionBlocks.{FunctionBlocks}
 use Rattle.from_llvm_ir.specs.Imported.{AreImported, NoneImported, ThenImported}
 use Rattle.to_llvm_ir.specs.Held.{IsReadable as IsExportable}
 use Rattle.transfer.specs.declared.transferred.Transferred.{Transferred}
-use Rattle.transfer.specs.Same.{SameThroughout, IsCause, back_of, dialect_of}
+use Rattle.transfer.specs.declared.transferring.Begun.{Begun}
+use Rattle.transfer.specs.Begun.{IsBegun}
+use Rattle.transfer.specs.Same.{SameThroughout, IsCause, back_of, dialect_of, transferred_of}
 use Rattle.transfer.specs.declared.transfer_err.TransferErr.{TransferErr}
 use Rattle.transfer.specs.declared.transfer_err.TransferErr.TheVariants as T
 use Rattle.round_ll.specs.Headline.{IsOutput, Rounds}
-use Rattle.round_ll.specs.Report.{AllNamed}
-use Rattle.round_ll.specs.Rounding.{IsPrintable, TextCause}
+use Rattle.round_ll.specs.Report.{AllNamed, report_text}
+use Rattle.round_ll.specs.Rounding.{IsEnded, IsPrintable, IsStarted, TextCause}
 use Rattle.round_ll.specs.Stopping.{stop_of_transfer}
 use Rattle.round_ll.proofs.ReportLaws.{number_within}
 
@@ -48,27 +51,48 @@ all_named m d [] (x ∷ xs) gs small h = elim h [ ]
 all_named m d (f ∷ fs) [] gs small h = elim h [ ]
 all_named m d (f ∷ fs) (x ∷ xs) [] small h = elim h [ ]
 
-pub printable : (m : Module) (t : Transferred) → IsPlainOrNone m.name → SameThroughout (data_of m) t → IsChecked t.back → IsModule t.back → IsForm (data_of t.back) → IsExportable t.ctx t.dialect.0.0 → IsPrintable m t
-printable m t plain same checked sound form readable =
+pub printable : (m : Module) (t : Transferred) → IsPlainOrNone m.name → SameThroughout (data_of m) t → IsChecked t.back → IsModule t.back → IsForm (data_of t.back) → IsPrintable t.back
+printable m t plain same checked sound form =
     let name : (back_of t).name ≡ legal_name m.name = same.back_name ∙ same.name in
     record {
-      readable = readable;
       form = form;
       name = subst IsBareOrNone (sym name) (bare_legal m.name plain);
       named = subst (λ (n : List ℕ). n ≢ []) (sym name) (legal_named m.name);
       names = distinct_of_checked t.back checked;
       few = few_of_checked t.back checked sound;
-      matched = all_named (length m.functions) (data_of m) (data_of m).functions t.blocks (dialect_of t).functions (number_within m) same.imported;
     }
+
+pub begun_named : (m : Module) (b : Begun) → IsBegun m b → AllNamed (length m.functions) b.imported.blocks
+begun_named m b h = all_named (length m.functions) (data_of m) (data_of m).functions b.imported.blocks (D.data_of b.ctx b.imported.«module».0.0).functions (number_within m) h.imported.functions
+
+-- ---- the output
+
+-- five texts behind each other
+five : (a b c d e : List ℕ) → (((a ++ b) ++ c) ++ d) ++ e ≡ a ++ b ++ c ++ d ++ e
+five a b c d e = append_assoc ((a ++ b) ++ c) d e ∙ append_assoc (a ++ b) c (d ++ e) ∙ append_assoc a b (c ++ (d ++ e))
+
+pub output_of : (m : Module) (b : Begun) (t : Transferred) (text report all : List ℕ) → t ≡ transferred_of b.ctx b.imported t.back → IsStarted m b text report → IsEnded (back_of t) report text all
+    → IsOutput (data_of m) t all
+output_of m b t text report all kept started ended = record {
+  llvm = ended.llvm;
+  printed = ended.printed;
+  spells = ended.spells;
+  lines = ended.lines;
+  whole =
+      let made = λ (u : Transferred). dialect_text (dialect_of u) ++ codes ";; llvm\n" ++ ended.llvm ++ codes ";; report\n" ++ report_text (data_of m) u.blocks in
+      ended.whole ∙ ap (λ (front : List ℕ). ((front ++ ended.llvm) ++ codes ";; report\n") ++ report) started.text
+      ∙ ap (λ (r : List ℕ). (((dialect_text (D.data_of b.ctx b.imported.«module».0.0) ++ codes ";; llvm\n") ++ ended.llvm) ++ codes ";; report\n") ++ r) started.report
+      ∙ five (dialect_text (D.data_of b.ctx b.imported.«module».0.0)) (codes ";; llvm\n") ended.llvm (codes ";; report\n") (report_text (data_of m) b.imported.blocks)
+      ∙ ap made (sym kept);
+}
 
 -- ---- all that is promised
 
-pub rounds_of : (input : List ℕ) (m : Module) (t boxed : Transferred) (text : List ℕ) → boxed ≡ t → IsModule m → IsChecked m → IsNumbered (data_of m) → IsForm (data_of m) → IsPlainOrNone m.name
-    → Spells input (data_of m)
+pub rounds_of : (input : List ℕ) (m : Module) (t boxed : Transferred) (text : List ℕ) → boxed ≡ t → IsReadable m → IsNumbered (data_of m) → Spells input (data_of m)
     → SameThroughout (data_of m) t → IsChecked t.back → IsExportable t.ctx t.dialect.0.0 → t.structs.items ≡ [] → IsOutput (data_of m) t text → Rounds input boxed text
-rounds_of input m t boxed text is sound checked numbered form name spelled same back readable structs output =
+rounds_of input m t boxed text is read numbered spelled same back readable structs output =
     subst (λ (u : Transferred). Rounds input u text) (sym is)
-    (record { source = m; sound = sound; checked = checked; numbered = numbered; form = form; name = name; spelled = spelled; same = same; back_checked = back; readable = readable; structs = structs; output = output })
+    (record { source = m; sound = read.sound; checked = read.checked; numbered = numbered; form = read.form; name = read.name; spelled = spelled; same = same; back_checked = back; readable = readable; structs = structs; output = output })
 
 -- ---- refusals
 

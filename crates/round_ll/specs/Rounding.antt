@@ -1,30 +1,44 @@
 -- What the modules of a translation need to be printed, and why a text is refused.
-use Rattle.std.specs.Prelude.{◌≢◌, ◌<◌, ℕ, List, [], length}
+use Rattle.std.specs.Prelude.{◌≡◌, ◌≢◌, ℕ, List, [], ◌++◌, codes}
 use Rattle.llvm_core.specs.Module.{Module}
 use Rattle.llvm_core.specs.Form.{IsForm, HasDistinctNames, HasFew}
-use Rattle.llvm_core.specs.Data.{data_of}
-use Rattle.to_llvm_ir.specs.Held.{IsReadable as IsExportable}
-use Rattle.ll_print.specs.Printing.{IsBareOrNone}
-use Rattle.transfer.specs.declared.transferred.Transferred.{Transferred}
+use Rattle.llvm_core.specs.Data.{ModuleData, data_of}
+use Rattle.dialect_core.specs.Data as D
+use Rattle.dialect_core.specs.Text.{module_text as dialect_text}
+use Rattle.ll_print.specs.Printing.{EndsLine, IsBareOrNone, module_text as llvm_text}
+use Rattle.transfer.specs.declared.transferring.Begun.{Begun}
+use Rattle.transfer.specs.Begun.{IsBegun}
 use Rattle.transfer.specs.declared.transfer_err.TransferErr.{TransferErr}
 use Rattle.transfer.specs.declared.transfer_err.TransferErr.TheVariants as T
-use Rattle.transfer.specs.Same.{back_of, IsCause}
+use Rattle.transfer.specs.Same.{IsCause}
 use Rattle.ll_text.specs.Spelling.{Spells, IsSpelled, IsReadable, IsNumbered}
 use Rattle.ll_tree.specs.declared.read_err.ReadErr.TheVariants as read
 use Rattle.round_ll.specs.declared.ended.Fault.TheVariants.{Text, Transfer}
 use Rattle.round_ll.specs.declared.stopped.Stopped.{Stopped}
 use Rattle.round_ll.specs.declared.stopped.Stopped.TheVariants as stop
-use Rattle.round_ll.specs.Report.{AllNamed}
+use Rattle.round_ll.specs.Report.{report_text}
 
--- the dialect module is there, the module back is of the form with a name, and the match names functions of the source
-pub record IsPrintable (source : Module) (t : Transferred) : Type 0 where
-  pub readable : IsExportable t.ctx t.dialect.0.0
-  pub form : IsForm (back_of t)
-  pub name : IsBareOrNone (back_of t).name
-  pub named : (back_of t).name ≢ []
-  pub names : HasDistinctNames (back_of t)
-  pub few : HasFew (back_of t)
-  pub matched : AllNamed (length source.functions) t.blocks
+-- the module back is of the form with a name
+pub record IsPrintable (back : Module) : Type 0 where
+  pub form : IsForm (data_of back)
+  pub name : IsBareOrNone (data_of back).name
+  pub named : (data_of back).name ≢ []
+  pub names : HasDistinctNames (data_of back)
+  pub few : HasFew (data_of back)
+
+-- a module is imported, and the text of that and the report are written
+pub record IsStarted (m : Module) (b : Begun) (text report : List ℕ) : Type 0 where
+  pub begun : IsBegun m b
+  pub text : text ≡ dialect_text (D.data_of b.ctx b.imported.«module».0.0) ++ codes ";; llvm\n"
+  pub report : report ≡ report_text (data_of m) b.imported.blocks
+
+-- the text of the module back and the report are appended
+pub record IsEnded (back : ModuleData) (report before after : List ℕ) : Type 0 where
+  pub llvm : List ℕ
+  pub printed : llvm ≡ llvm_text back
+  pub spells : Spells llvm back
+  pub lines : EndsLine llvm
+  pub whole : after ≡ ((before ++ llvm) ++ codes ";; report\n") ++ report
 
 -- a refusal of the translation that is no want of memory
 abbrev pub IsRefusal : TransferErr → Type 0

@@ -1,0 +1,13 @@
+-- What `rounding::start` owes besides what the check finds.
+use Rattle.std.proofs.Common.{rules}
+use Rattle.round_ll.proofs.RoundingLaws.{begun_named, refused_of}
+use Rattle.round_ll.proofs.rounding.start.Goals as goal
+
+pub report_of-requires : goal.report_of-requires
+report_of-requires c = begun_named c.args.source c.in_ok-begun.begun c.in_ok-begun.ensures.begun
+
+pub returns-in_err-begun-clause-cause : goal.returns-in_err-begun-clause-cause
+returns-in_err-begun-clause-cause c = λ text spelled.
+    let e = c.in_err-begun.field-0.0 in
+    let cause = refused_of text c.args.source e c.requires.readable c.requires.numbered spelled c.in_err-begun.ensures.cause in
+    search rules
