@@ -1,11 +1,13 @@
 #!/usr/bin/env python3
-"""Lets each allocation of a run fail in turn, and looks at how the run ends.
+"""Lets each allocation of a run fail in turn, and looks at how the run ends; and that a row takes no allocation.
 
     fuzz/allocations.py [FILE ..]
 
 Over each file (three of the examples, where none is named) it counts the allocations of
 `round_ll round`, and then runs it once for each of them with that one failing. A run has to end with status 8,
-its line and no output, or just as with ample memory. It needs a C compiler and a loader that knows LD_PRELOAD.
+its line and no output, or just as with ample memory. And for one function of 20,000 instructions it may ask for memory
+at most three times as often as for one of 200: what grows are vectors, not rows. It needs a C compiler and a loader that
+knows LD_PRELOAD.
 """
 import collections
 import os
@@ -31,12 +33,32 @@ def is_well(done, ample):
     return (done.returncode, done.stdout, done.stderr) == (ample.returncode, ample.stdout, ample.stderr)
 
 
+def counted(shim, folder, text):
+    """A run with ample memory, and how often it asks for some."""
+    count_file = os.path.join(folder, "count")
+    ample = run(shim, text, COUNT_TO=count_file)
+    return ample, int(pathlib.Path(count_file).read_text())
+
+
+def adds(count):
+    """A function of so many named additions, each of a constant."""
+    lines = "".join(f"  %x{k + 1} = add nsw i32 %x{k}, {k}\n" for k in range(count))
+    return f"define i32 @f(i32 %x0) {{\n{lines}  ret i32 %x{count}\n}}\n".encode()
+
+
+def growth(shim, folder):
+    """Prints a line on what instructions ask for, and answers 1 where that grows with them."""
+    runs = [counted(shim, folder, adds(count)) for count in (200, 20000)]
+    few, many = (asked for _, asked in runs)
+    well = all(done.returncode == 0 for done, _ in runs) and many <= 3 * few
+    print(f"200 instructions: {few} allocations; 20,000: {many}; {0 if well else 1} faults")
+    return 0 if well else 1
+
+
 def faults_of(shim, folder, path):
     """Prints a line on a file, and answers how many of its runs ended otherwise."""
     text = path.read_bytes()
-    count_file = os.path.join(folder, "count")
-    ample = run(shim, text, COUNT_TO=count_file)
-    allocations = int(pathlib.Path(count_file).read_text())
+    ample, allocations = counted(shim, folder, text)
     statuses, faults = collections.Counter(), 0
     for number in range(1, allocations + 1):
         done = run(shim, text, FAIL_AT=str(number))
@@ -58,7 +80,7 @@ def main():
         shim = os.path.join(folder, "failing_malloc.so")
         source = str(ROOT / "fuzz/failing_malloc.c")
         subprocess.run(["cc", "-shared", "-fPIC", "-o", shim, source, "-ldl"], check=True)
-        faults = sum([faults_of(shim, folder, path) for path in paths])
+        faults = growth(shim, folder) + sum([faults_of(shim, folder, path) for path in paths])
     sys.exit(1 if faults else 0)
 
 
