@@ -13,15 +13,16 @@ use Rattle.ll_text.proofs.read.build_tokens.Goals as goal
 pub returns-in_err-tree-clause-not_yet : goal.returns-in_err-tree-clause-not_yet
 returns-in_err-tree-clause-not_yet c = λ e d h.
     let refused : c.read_tree.result ≡ Err errors.NotYet = search rules in
-    let none = rw refused at (c.read_tree.ensures.only h.tree h.each h.written) in
+    let only = rw c.as_slice.ensures.value at c.read_tree.ensures.only in
+    let none = rw refused at (only h.tree h.each h.written) in
     cc
 
 pub returns-clause-says : goal.returns-clause-says
-returns-clause-says c = plainly (texts_of c.args.tokens.now) (file_view c.in_ok-tree.tree) c.build_file.result c.in_ok-tree.ensures.found c.build_file.ensures.says
+returns-clause-says c = plainly (texts_of c.args.tokens.items) (file_view c.in_ok-tree.tree) c.build_file.result (rw c.as_slice.ensures.value at c.in_ok-tree.ensures.found) c.build_file.ensures.says
 
 pub returns-clause-not_yet : goal.returns-clause-not_yet
 returns-clause-not_yet c = λ e d h.
-    let found = c.in_ok-tree.ensures.found in
+    let found = rw c.as_slice.ensures.value at c.in_ok-tree.ensures.found in
     let t = file_view c.in_ok-tree.tree in
     let same = one_file h.tree t h.each found.1 (sym h.written ∙ found.0) in
     c.build_file.ensures.not_yet e d (subst (λ (n : File). IsFileOf is_plain 64 n d) same h.says)

@@ -18,7 +18,7 @@ use Rattle.ll_text.proofs.read.read_ll.Goals as goal
 pub returns-clause-spelled : goal.returns-clause-spelled
 returns-clause-spelled c =
     let m = c.in_ok-built.built in
-    let s = rw c.as_slice.ensures.value at c.in_ok-built.ensures.says in
+    let s = c.in_ok-built.ensures.says in
     let spells : Spells c.args.bytes.now (data_of m) = (
       texts_of c.in_ok-tokens.tokens.items,
       c.in_ok-tokens.ensures.found,
@@ -62,7 +62,7 @@ returns-clause-not_yet c = λ e spelled.
     let failed = refused c.check_built.result m errors.NotYet (rw c.and.ensures at e) in
     let unchecked = c.check_built.ensures.not_yet failed in
     let sound : IsModule m = search rules in
-    let s = rw c.as_slice.ensures.value at c.in_ok-built.ensures.says in
+    let s = c.in_ok-built.ensures.says in
     let said = form_said c.args.bytes.now _ s.tree spelled c.in_ok-tokens.ensures.found (s.written, s.each) in
     unchecked (checked_of_said s.tree m said sound s.says c.in_ok-built.ensures.numbered)
 
@@ -70,4 +70,4 @@ pub returns-in_err-built-clause-not_yet : goal.returns-in_err-built-clause-not_y
 returns-in_err-built-clause-not_yet c = λ e spelled.
     let failed : c.build_tokens.result ≡ Err errors.NotYet = search rules in
     let p = said_plainly c.args.bytes.now _ spelled c.in_ok-tokens.ensures.found in
-    c.build_tokens.ensures.not_yet failed p.0 (rw c.as_slice.ensures.value p.1)
+    c.build_tokens.ensures.not_yet failed p.0 p.1
