@@ -1,5 +1,5 @@
 -- From what the halves made to what `round` promises.
-use Rattle.std.proofs.Common.{ℕ, suc, ◌≡◌, ◌≢◌, ◌<◌, sym, ap, ◌∙◌, subst, List, [], ◌∷◌, ◌++◌, Some, slice_get, length, codes, append_assoc, refl}
+use Rattle.std.proofs.Common.{ℕ, suc, ◌≡◌, ◌≢◌, ◌<◌, sym, ap, ◌∙◌, subst, List, [], ◌∷◌, ◌++◌, Some, slice_get, length, codes, refl}
 use Rattle.std.proofs.lemmas.List.Elements.{All-nil, All-cons}
 use Rattle.llvm_core.specs.Module.{Module}
 use Rattle.llvm_core.specs.Sound.{IsModule}
@@ -67,10 +67,6 @@ begun_named m b h = all_named (length m.functions) (data_of m) (data_of m).funct
 
 -- ---- the output
 
--- five texts behind each other
-five : (a b c d e : List ℕ) → (((a ++ b) ++ c) ++ d) ++ e ≡ a ++ b ++ c ++ d ++ e
-five a b c d e = append_assoc ((a ++ b) ++ c) d e ∙ append_assoc (a ++ b) c (d ++ e) ∙ append_assoc a b (c ++ (d ++ e))
-
 pub output_of : (m : Module) (b : Begun) (t : Transferred) (text report all : List ℕ) → t ≡ transferred_of b.ctx b.imported t.back → IsStarted m b text report → IsEnded (back_of t) report text all
     → IsOutput (data_of m) t all
 output_of m b t text report all kept started ended = record {
@@ -80,9 +76,8 @@ output_of m b t text report all kept started ended = record {
   lines = ended.lines;
   whole =
       let made = λ (u : Transferred). dialect_text (dialect_of u) ++ codes ";; llvm\n" ++ ended.llvm ++ codes ";; report\n" ++ report_text (data_of m) u.blocks in
-      ended.whole ∙ ap (λ (front : List ℕ). ((front ++ ended.llvm) ++ codes ";; report\n") ++ report) started.text
-      ∙ ap (λ (r : List ℕ). (((dialect_text (D.data_of b.ctx b.imported.«module».0.0) ++ codes ";; llvm\n") ++ ended.llvm) ++ codes ";; report\n") ++ r) started.report
-      ∙ five (dialect_text (D.data_of b.ctx b.imported.«module».0.0)) (codes ";; llvm\n") ended.llvm (codes ";; report\n") (report_text (data_of m) b.imported.blocks)
+      ended.whole ∙ ap (λ (front : List ℕ). front ++ ended.llvm ++ codes ";; report\n" ++ report) started.shown
+      ∙ ap (λ (r : List ℕ). dialect_text (D.data_of b.ctx b.imported.«module».0.0) ++ codes ";; llvm\n" ++ ended.llvm ++ codes ";; report\n" ++ r) started.reported
       ∙ ap made (sym kept);
 }
 

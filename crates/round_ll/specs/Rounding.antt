@@ -29,8 +29,8 @@ pub record IsPrintable (back : Module) : Type 0 where
 -- a module is imported, and the text of that and the report are written
 pub record IsStarted (m : Module) (b : Begun) (text report : List ℕ) : Type 0 where
   pub begun : IsBegun m b
-  pub text : text ≡ dialect_text (D.data_of b.ctx b.imported.«module».0.0) ++ codes ";; llvm\n"
-  pub report : report ≡ report_text (data_of m) b.imported.blocks
+  pub shown : text ≡ dialect_text (D.data_of b.ctx b.imported.«module».0.0) ++ codes ";; llvm\n"
+  pub reported : report ≡ report_text (data_of m) b.imported.blocks
 
 -- the text of the module back and the report are appended
 pub record IsEnded (back : ModuleData) (report before after : List ℕ) : Type 0 where
@@ -38,7 +38,7 @@ pub record IsEnded (back : ModuleData) (report before after : List ℕ) : Type 0
   pub printed : llvm ≡ llvm_text back
   pub spells : Spells llvm back
   pub lines : EndsLine llvm
-  pub whole : after ≡ ((before ++ llvm) ++ codes ";; report\n") ++ report
+  pub whole : after ≡ before ++ llvm ++ codes ";; report\n" ++ report
 
 -- a refusal of the translation that is no want of memory
 abbrev pub IsRefusal : TransferErr → Type 0

@@ -101,12 +101,19 @@ fn print_rest(
     text.extend_from_slice(report)
 }
 
-/// The modules, in a box, with their text.
-fn output_of(alloc: Global, transferred: Transferred, text: Vec<u8>) -> Result<Output, AllocError>
+/// The modules, in a box, with the whole output, for what is written of it so far.
+fn completed(
+    alloc: Global,
+    transferred: Transferred,
+    mut text: Vec<u8>,
+    report: &[u8],
+) -> Result<Output, AllocError>
+    requires { IsPrintable transferred.back }
     ensures modules { IfOk result (λ o. o.transferred.value ≡ transferred) }
-    ensures text { IfOk result (λ o. o.text.items ≡ text.items) }
+    ensures ended { IfOk result (λ o. IsEnded (data_of transferred.back) report.now text.items o.text.items) }
 {
     let transferred = Box::new(alloc, transferred)?;
+    print_rest(alloc, &transferred.back, report, &mut text)?;
     Ok(Output { transferred, text })
 }
 
@@ -119,13 +126,12 @@ fn end(alloc: Global, started: Started) -> Result<Output, Stopped>
 {
     let Started {
         begun,
-        mut text,
+        text,
         report,
     } = started;
     let transferred = finish(alloc, begun)?;
     know_sound(&transferred.back);
-    print_rest(alloc, &transferred.back, report.as_slice(), &mut text)?;
-    let output = output_of(alloc, transferred, text)?;
+    let output = completed(alloc, transferred, text, report.as_slice())?;
     Ok(output)
 }
 
