@@ -1,0 +1,131 @@
+-- What is looked up in flat tables is what the grammar of their rows says.
+use Rattle.std.proofs.Common.{◌≡◌, ◌<◌, ◌≤◌, ℕ, zero, suc, ◌+◌, ◌-◌, ◌*◌, Bool, true, false, if◌then◌else◌, nat_eq, List, [], ◌∷◌, length, map, take, drop, Option, Some, None, slice_get, slice_index_or, refl, sym, ap, ◌∙◌, subst, arith, inl, inr}
+use Rattle.std.proofs.lemmas.Bool.{cases_lt}
+use Rattle.grammars.specs.declared.symbols.Symbol.{Symbol}
+use Rattle.grammars.specs.declared.rows.Alternative.{Alternative}
+use Rattle.grammars.specs.declared.rows.Row.{Row}
+use Rattle.grammars.specs.Numbers.{some_number}
+use Rattle.grammars.specs.Rows.{has}
+use Rattle.grammars.specs.RowGrammar.{◌>>=◌, numbered, begun_by, chosen_of}
+use Rattle.grammars.specs.Flat.{part, symbols_of, numbered_from, row_of, rows_of}
+use Rattle.grammars.specs.Lines.{begun, chosen_at, AreLines}
+use Rattle.std.proofs.lemmas.List.{get_or_past}
+use Rattle.std.proofs.lemmas.Option.{slice_get_read}
+use Rattle.grammars.proofs.LineLaws.{behind}
+use Rattle.grammars.proofs.GrammarLaws.{or_left, or_right, either}
+
+-- an item is where it was found
+pub found_at : {X : Type 0} (xs : List X) (i : ℕ) (x : X) → i < length xs → x ≡ slice_index_or xs i x → slice_get xs i ≡ Some x
+found_at xs i x h e = slice_get_read xs (length xs) i x refl h e
+
+-- ---- the symbols of an alternative
+
+-- the numbers go up one by one
+numbered_at : (symbols : List Symbol) (firsts : List ℕ) (n j : ℕ) (all : List Alternative) → numbered (suc (n + j)) (numbered_from symbols firsts (suc n) all) ≡ (slice_get all j >>= λ a. Some (symbols_of symbols a))
+numbered_at symbols firsts n j [] = refl
+numbered_at symbols firsts n zero (a ∷ others) = first (nat_eq (suc n) (suc (n + 0))) (grind arith)
+  where
+    first : (b : Bool) → b ≡ true → (if b then Some (symbols_of symbols a) else numbered (suc (n + 0)) (numbered_from symbols firsts (suc (suc n)) others)) ≡ Some (symbols_of symbols a)
+    first b h = rw h refl
+numbered_at symbols firsts n (suc j) (a ∷ others) =
+    let e : n + suc j ≡ suc n + j = omega arith in
+    subst (λ m. numbered (suc m) (numbered_from symbols firsts (suc n) (a ∷ others)) ≡ (slice_get others j >>= λ x. Some (symbols_of symbols x))) (sym e)
+    (other (nat_eq (suc n) (suc (suc n + j))) (grind arith) (numbered_at symbols firsts (suc n) j others))
+  where
+    other : (b : Bool) → b ≡ false → numbered (suc (suc n + j)) (numbered_from symbols firsts (suc (suc n)) others) ≡ (slice_get others j >>= λ x. Some (symbols_of symbols x)) → (if b then Some (symbols_of symbols a) else numbered (suc (suc n + j)) (numbered_from symbols firsts (suc (suc n)) others)) ≡ (slice_get others j >>= λ x. Some (symbols_of symbols x))
+    other b h later = rw h later
+
+-- and none is below the first
+numbered_below : (symbols : List Symbol) (firsts : List ℕ) (n i : ℕ) (all : List Alternative) → i ≤ n → numbered i (numbered_from symbols firsts (suc n) all) ≡ None
+numbered_below symbols firsts n i [] h = refl
+numbered_below symbols firsts n i (a ∷ others) h = other (nat_eq (suc n) i) (grind (arith, h)) (numbered_below symbols firsts (suc n) i others (omega (arith, h)))
+  where
+    other : (b : Bool) → b ≡ false → numbered i (numbered_from symbols firsts (suc (suc n)) others) ≡ None → (if b then Some (symbols_of symbols a) else numbered i (numbered_from symbols firsts (suc (suc n)) others)) ≡ None
+    other b e later = rw e later
+
+map_get : {A B : Type 0} (f : A → B) (xs : List A) (j : ℕ) (x : A) → slice_get xs j ≡ Some x → slice_get (map f xs) j ≡ Some (f x)
+map_get f [] j x e = absurd cc
+map_get f (y ∷ ys) zero x e = let i : y ≡ x = cc in ap (λ z. Some (f z)) i
+map_get f (y ∷ ys) (suc j) x e = map_get f ys j x e
+
+-- no alternative has the number 0
+pub no_zero : (symbols : List Symbol) (alternatives : List Alternative) (rows : List Row) (firsts mores : List ℕ) (r : ℕ) → (slice_get (rows_of symbols alternatives rows firsts mores) r >>= λ row. numbered 0 row.alternatives) ≡ None
+no_zero symbols alternatives [] firsts mores r = refl
+no_zero symbols alternatives (x ∷ xs) firsts mores zero = numbered_below symbols firsts x.start 0 (part alternatives x.start x.end) (omega arith)
+no_zero symbols alternatives (x ∷ xs) firsts mores (suc r) = no_zero symbols alternatives xs firsts mores r
+
+module _ (symbols : List Symbol) (alternatives : List Alternative) (rows : List Row) (firsts mores : List ℕ) (r i : ℕ) (row : Row) (at : slice_get rows r ≡ Some row) where
+  here : (slice_get (rows_of symbols alternatives rows firsts mores) r >>= λ x. numbered i x.alternatives) ≡ numbered i (numbered_from symbols firsts (suc row.start) (part alternatives row.start row.end))
+  here = ap (λ o. o >>= λ x. numbered i x.alternatives) (map_get (row_of symbols alternatives firsts mores) rows r row at)
+
+  pub symbols_below : i ≤ row.start → None ≡ (slice_get (rows_of symbols alternatives rows firsts mores) r >>= λ x. numbered i x.alternatives)
+  symbols_below h = sym (here ∙ numbered_below symbols firsts row.start i (part alternatives row.start row.end) h)
+
+  placed : row.start < i → numbered i (numbered_from symbols firsts (suc row.start) (part alternatives row.start row.end)) ≡ (slice_get (part alternatives row.start row.end) (i - row.start - 1) >>= λ a. Some (symbols_of symbols a))
+  placed h = let e : i ≡ suc (row.start + (i - row.start - 1)) = omega (arith, h) in ap (λ n. numbered n (numbered_from symbols firsts (suc row.start) (part alternatives row.start row.end))) e ∙ numbered_at symbols firsts row.start (i - row.start - 1) (part alternatives row.start row.end)
+
+  pub symbols_past : row.start < i → slice_get (part alternatives row.start row.end) (i - row.start - 1) ≡ None → None ≡ (slice_get (rows_of symbols alternatives rows firsts mores) r >>= λ x. numbered i x.alternatives)
+  symbols_past h e = sym (here ∙ placed h ∙ ap (λ o. o >>= λ a. Some (symbols_of symbols a)) e)
+
+  pub symbols_at : (a : Alternative) → row.start < i → slice_get (part alternatives row.start row.end) (i - row.start - 1) ≡ Some a → Some (symbols_of symbols a) ≡ (slice_get (rows_of symbols alternatives rows firsts mores) r >>= λ x. numbered i x.alternatives)
+  symbols_at a h e = sym (here ∙ placed h ∙ ap (λ o. o >>= λ x. Some (symbols_of symbols x)) e)
+
+-- ---- the alternative that a class begins
+
+begun_is : (symbols : List Symbol) (firsts : List ℕ) (n c other : ℕ) (all : List Alternative) → some_number (begun firsts all (suc n) c other) ≡ begun_by c (numbered_from symbols firsts (suc n) all) (some_number other)
+begun_is symbols firsts n c other [] = refl
+begun_is symbols firsts n c other (a ∷ others) = by (has (part firsts a.first a.first_end) c) (begun_is symbols firsts (suc n) c other others)
+  where
+    by : (b : Bool) → some_number (begun firsts others (suc (suc n)) c other) ≡ begun_by c (numbered_from symbols firsts (suc (suc n)) others) (some_number other) → some_number (if b then suc n else begun firsts others (suc (suc n)) c other) ≡ (if b then Some (suc n) else begun_by c (numbered_from symbols firsts (suc (suc n)) others) (some_number other))
+    by true later = refl
+    by false later = later
+
+has_take : (xs : List ℕ) (n c : ℕ) → has (take n xs) c ≡ true → has xs c ≡ true
+has_take xs zero c h = absurd cc
+has_take [] (suc n) c h = absurd cc
+has_take (x ∷ xs) (suc n) c h = elim (either (nat_eq c x) (has (take n xs) c) h) [
+  | inl e ↦ or_left (nat_eq c x) (has xs c) e
+  | inr e ↦ or_right (nat_eq c x) (has xs c) (has_take xs n c e)
+]
+
+has_drop : (xs : List ℕ) (n c : ℕ) → has (drop n xs) c ≡ true → has xs c ≡ true
+has_drop xs zero c h = h
+has_drop [] (suc n) c h = h
+has_drop (x ∷ xs) (suc n) c h = or_right (nat_eq c x) (has xs c) (has_drop xs n c h)
+
+-- what is no class of a table is none of a part of it
+none_of_part : (firsts : List ℕ) (start end c : ℕ) → (has firsts c ≡ true → ⊥) → has (part firsts start end) c ≡ false
+none_of_part firsts start end c none = by (has (part firsts start end) c) (λ h. none (has_drop firsts start c (has_take (drop start firsts) _ c h)))
+  where
+    by : (b : Bool) → (b ≡ true → ⊥) → b ≡ false
+    by true h = absurd (h refl)
+    by false h = refl
+
+none_begun : (symbols : List Symbol) (firsts : List ℕ) (n c : ℕ) (other : Option ℕ) (all : List Alternative) → (has firsts c ≡ true → ⊥) → other ≡ begun_by c (numbered_from symbols firsts n all) other
+none_begun symbols firsts n c other [] none = refl
+none_begun symbols firsts n c other (a ∷ others) none = rw (none_of_part firsts a.first a.first_end c none) (none_begun symbols firsts (suc n) c other others none)
+
+module _ (symbols : List Symbol) (alternatives : List Alternative) (firsts mores : List ℕ) where
+  chosen_is : (rows : List Row) (r c : ℕ) → r < length rows → some_number (chosen_at firsts alternatives rows r c) ≡ (slice_get (rows_of symbols alternatives rows firsts mores) r >>= λ row. chosen_of row (Some c))
+  chosen_is [] r c h = absurd (omega (arith, h))
+  chosen_is (x ∷ xs) zero c h = begun_is symbols firsts x.start c x.nothing (part alternatives x.start x.end)
+  chosen_is (x ∷ xs) (suc r) c h = chosen_is xs r c (omega (arith, h))
+
+  none_past : (rows : List Row) (r : ℕ) (n : Option ℕ) → length rows ≤ r → (slice_get (rows_of symbols alternatives rows firsts mores) r >>= λ row. chosen_of row n) ≡ None
+  none_past [] r n h = refl
+  none_past (x ∷ xs) zero n h = absurd (omega (arith, h))
+  none_past (x ∷ xs) (suc r) n h = none_past xs r n (omega (arith, h))
+
+  -- a class that begins nothing
+  pub others_are : (rows : List Row) (r c : ℕ) → (has firsts c ≡ true → ⊥) → (slice_get (rows_of symbols alternatives rows firsts mores) r >>= λ row. chosen_of row None) ≡ (slice_get (rows_of symbols alternatives rows firsts mores) r >>= λ row. chosen_of row (Some c))
+  others_are [] r c none = refl
+  others_are (x ∷ xs) zero c none = none_begun symbols firsts (suc x.start) c (some_number x.nothing) (part alternatives x.start x.end) none
+  others_are (x ∷ xs) (suc r) c none = others_are xs r c none
+
+  -- what stands in the lines
+  pub entries_are : (rows : List Row) (classes r c : ℕ) (table : List ℕ) → AreLines classes (length rows) (chosen_at firsts alternatives rows) table → c < classes
+      → some_number (slice_index_or table (r * classes + c) 0) ≡ (slice_get (rows_of symbols alternatives rows firsts mores) r >>= λ row. chosen_of row (Some c))
+  entries_are rows classes r c table lines h = elim (cases_lt r (length rows)) [
+    | inl l ↦ ap (λ n. some_number n) (lines.entries r c l h) ∙ chosen_is rows r c l
+    | inr l ↦ ap (λ n. some_number n) (get_or_past table (r * classes + c) 0 (rw lines.length (behind (length rows) r classes c l))) ∙ sym (none_past rows r (Some c) l)
+  ]

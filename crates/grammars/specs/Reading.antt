@@ -1,0 +1,44 @@
+-- A reader as the symbols that are still to be read, and what was read.
+use Rattle.std.specs.Prelude.{◌≡◌, ◌<◌, ◌≤◌, ℕ, ◌+◌, Option, List, [], ◌∷◌, ◌++◌, length, reverse, take}
+use Rattle.grammars.specs.declared.symbols.Symbol.{Symbol}
+use Rattle.grammars.specs.declared.symbols.Symbol.TheVariants.{Rule}
+use Rattle.grammars.specs.declared.symbols.Event.{Event}
+use Rattle.grammars.specs.declared.symbols.Token.{Token}
+use Rattle.grammars.specs.declared.grammar.Grammar as code
+use Rattle.grammars.specs.declared.reader.Reader.{Reader}
+use Rattle.grammars.specs.Grammar.{Grammar, Writes}
+use Rattle.grammars.specs.Moving.{Moves, Takes}
+use Rattle.grammars.specs.FlatGrammar.{grammar_of, tables_of}
+
+abbrev pub stack_of : Reader → List Symbol
+stack_of r = reverse r.stack.items
+
+-- a token is taken, and what was read by it stands behind the other events
+pub record TakesToken (g : code.Grammar) (t : Token) (old new : Reader) : Type 0 where
+  pub read : List Event
+  pub events : new.events.items ≡ old.events.items ++ read
+  pub takes : Takes (grammar_of g) (tables_of g) t (stack_of old) read (stack_of new)
+
+-- so far no token is taken
+pub record IsOnTheWay (g : code.Grammar) (ahead : Option ℕ) (old new : Reader) : Type 0 where
+  pub read : List Event
+  pub events : new.events.items ≡ old.events.items ++ read
+  pub moves : Moves (grammar_of g) (tables_of g) ahead (stack_of old) read (stack_of new)
+
+-- the tokens are over, and what was still to be read is written as none
+pub record ReadsRest (g : code.Grammar) (old new : Reader) : Type 0 where
+  pub read : List Event
+  pub events : new.events.items ≡ old.events.items ++ read
+  pub written : Writes (grammar_of g) (stack_of old) read []
+
+-- of what the rule writes, those tokens were taken
+pub record IsBehind (g : code.Grammar) (r : ℕ) (now : Reader) (front : List Token) : Type 0 where
+  pub sound : (es : List Event) (ts : List Token) → Writes (grammar_of g) (stack_of now) es ts → Writes (grammar_of g) (Rule r ∷ []) (now.events.items ++ es) (front ++ ts)
+  pub only : (es : List Event) (ts : List Token) → Writes (grammar_of g) (Rule r ∷ []) es (front ++ ts) → (fs : List Event) × (es ≡ now.events.items ++ fs) × Writes (grammar_of g) (stack_of now) fs ts
+
+-- The rule does not write these tokens, for what stands at that place, or for their end.
+pub record IsRefusedAt (g : Grammar) (r : ℕ) (ts : List Token) (place : ℕ) : Type 0 where
+  pub none : (es : List Event) → Writes g (Rule r ∷ []) es ts → ⊥
+  pub within : place ≤ length ts
+  -- nor others that begin so
+  pub begun : place < length ts → (es : List Event) (us : List Token) → Writes g (Rule r ∷ []) es (take (place + 1) ts ++ us) → ⊥

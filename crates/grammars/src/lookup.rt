@@ -1,0 +1,36 @@
+//! What a grammar says, looked up in its tables.
+
+ghost use Rattle.std.specs.Prelude.{◌≡◌, None, reverse};
+ghost use Rattle.std.specs.Option.{option_map};
+ghost use Rattle.grammars.specs.Numbers.{some_number};
+ghost use Rattle.grammars.specs.FlatGrammar.{grammar_of};
+
+use crate::grammar::Grammar;
+use crate::parts::part_of;
+use crate::symbols::Symbol;
+
+impl<'g> Grammar<'g> {
+    /// The symbols of an alternative of a rule, the last first.
+    pub fn symbols_of(&self, rule: u16, alternative: u16) -> Option<&'g [Symbol]>
+        ensures { option_map (λ s. reverse s.now) result ≡ (grammar_of self.now).symbols rule alternative }
+    {
+        let row = self.rows.get(rule as usize)?;
+        if alternative <= row.start {
+            return None;
+        }
+        let alternatives = part_of(self.alternatives, row.start, row.end);
+        let place = alternative - row.start - 1;
+        let found = alternatives.get(place as usize)?;
+        Some(part_of(self.symbols, found.start, found.end))
+    }
+
+    /// The number of the alternative of a rule that may be nothing, or 0.
+    pub fn nothing_of(&self, rule: u16) -> u16
+        ensures { some_number result ≡ (grammar_of self.now).choose rule None }
+    {
+        match self.rows.get(rule as usize) {
+            Some(row) => row.nothing,
+            None => 0,
+        }
+    }
+}
