@@ -1,7 +1,7 @@
 //! What `round` makes of a text. The module that was read is let go as soon as it is imported and its part of the report is
 //! written, so that it and the module back are not held at once.
 
-ghost use Rattle.std.specs.Prelude.{◌≡◌, ◌++◌, ℕ, List, IfOk, IfErr, OnOk, codes, length};
+ghost use Rattle.std.specs.Prelude.{◌≡◌, ◌++◌, ℕ, List, [], IfOk, IfErr, OnOk, codes, length};
 ghost use Rattle.llvm_core.specs.Module.{Module};
 ghost use Rattle.llvm_core.specs.Sound.{IsModule};
 ghost use Rattle.llvm_core.specs.Data.{data_of, AreApart};
@@ -56,12 +56,22 @@ fn report_of(alloc: Global, source: &LLVMModule, begun: &Begun) -> Result<Vec<u8
     Ok(text)
 }
 
-/// The text of the dialect module, and the line behind it. The bytes have that much room from the first.
+/// No bytes, with that much room where there is memory for it: room is a wish, and no text is refused for want of it.
+fn roomy(alloc: Global, room: usize) -> Vec<u8>
+    ensures { result.items ≡ [] }
+{
+    match Vec::with_capacity(alloc, room) {
+        Ok(bytes) => bytes,
+        Err(_) => Vec::new(alloc),
+    }
+}
+
+/// The text of the dialect module, and the line behind it. The bytes have that much room from the first, if they can.
 fn dialect_text(alloc: Global, begun: &Begun, room: usize) -> Result<Vec<u8>, AllocError>
     requires { IsExportable begun.now.ctx begun.now.imported.«module».0.0 }
     ensures { IfOk result (λ text. text.items ≡ module_text (D.data_of begun.now.ctx begun.now.imported.«module».0.0) ++ codes ";; llvm\n") }
 {
-    let mut text = Vec::with_capacity(alloc, room)?;
+    let mut text = roomy(alloc, room);
     begun.ctx.print_module(begun.imported.module, &mut text)?;
     text.extend_from_slice(b";; llvm\n")?;
     Ok(text)
