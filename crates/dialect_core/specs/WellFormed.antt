@@ -1,7 +1,7 @@
 -- Well-formed modules: the rules of the dialect for the kinds of operations that there are, and what the open form
 -- (`IsOpenForm`) asks besides.
 use Rattle.std.specs.Prelude.{◌≡◌, ◌<◌, ◌≤◌, ◌^◌, ℕ, Bool, true, false, List, [], ◌∷◌, length, slice_get, Some, All, IfSome}
-use Rattle.dialect_types.specs.Trees.{TypeTree, VoidType, FunctionType, type_at, type_trees}
+use Rattle.dialect_types.specs.Trees.{TypeTree, VoidType, IntType, FunctionType, type_at, type_trees}
 use Rattle.dialect_types.specs.declared.types.TypeHandle.{TypeHandle}
 use Rattle.dialect_types.specs.Names.{IsPlainName}
 use Rattle.dialect_core.specs.declared.numbers.OpRef.{OpRef}
@@ -30,12 +30,14 @@ IsReturned t = IsInteger t
 -- the type of a function: void stands only as its result, and it stands in no other type
 abbrev pub IsSignature : TypeTree → Type 0
 IsSignature (FunctionType result params variadic) = IsReturned result × All IsInteger (types_list params)
-IsSignature _ = ⊥
+IsSignature VoidType = ⊥
+IsSignature (IntType w) = ⊥
 
 -- what a function of that type takes
 abbrev pub params_of : TypeTree → List TypeTree
 params_of (FunctionType result params variadic) = types_list params
-params_of _ = []
+params_of VoidType = []
+params_of (IntType w) = []
 
 -- ---- operations
 
@@ -55,7 +57,21 @@ pub record IsWellFormedBlock (types : Typing) (g : Func) (b : DialectBlock) : Ty
 abbrev pub suits_declaration : LinkageAttr → Bool
 suits_declaration L.ExternalLinkage = true
 suits_declaration L.ExternalWeakLinkage = true
-suits_declaration _ = false
+suits_declaration L.AvailableExternallyLinkage = false
+suits_declaration L.LinkOnceAnyLinkage = false
+suits_declaration L.LinkOnceODRLinkage = false
+suits_declaration L.WeakAnyLinkage = false
+suits_declaration L.WeakODRLinkage = false
+suits_declaration L.AppendingLinkage = false
+suits_declaration L.InternalLinkage = false
+suits_declaration L.PrivateLinkage = false
+suits_declaration L.CommonLinkage = false
+suits_declaration L.LinkOnceODRAutoHideLinkage = false
+suits_declaration L.DLLImportLinkage = false
+suits_declaration L.DLLExportLinkage = false
+suits_declaration L.LinkerPrivateLinkage = false
+suits_declaration L.LinkerPrivateWeakLinkage = false
+suits_declaration L.GhostLinkage = false
 
 -- a linkage that a function with a body may have: one that has a word in a text, and is none of extern_weak, common and
 -- appending
@@ -68,7 +84,15 @@ suits_body L.WeakAnyLinkage = true
 suits_body L.WeakODRLinkage = true
 suits_body L.InternalLinkage = true
 suits_body L.PrivateLinkage = true
-suits_body _ = false
+suits_body L.AppendingLinkage = false
+suits_body L.ExternalWeakLinkage = false
+suits_body L.CommonLinkage = false
+suits_body L.LinkOnceODRAutoHideLinkage = false
+suits_body L.DLLImportLinkage = false
+suits_body L.DLLExportLinkage = false
+suits_body L.LinkerPrivateLinkage = false
+suits_body L.LinkerPrivateWeakLinkage = false
+suits_body L.GhostLinkage = false
 
 -- a linkage that a function with these blocks may have
 abbrev pub suits : List DialectBlock → LinkageAttr → Bool
@@ -172,7 +196,8 @@ pub record IsNarrowBlock (b : DialectBlock) : Type 0 where
 -- the types that a function takes and returns are of 1 to 64 bits, and it is not variadic
 abbrev pub IsNarrowSignature : TypeTree → Type 0
 IsNarrowSignature (FunctionType result params variadic) = IsShortResult result × All IsShortInt (types_list params) × (variadic ≡ false)
-IsNarrowSignature _ = ⊥
+IsNarrowSignature VoidType = ⊥
+IsNarrowSignature (IntType w) = ⊥
 
 -- a function of the form, as far as that is narrower: it has a body and external linkage
 pub record IsNarrowFunc (g : Func) : Type 0 where

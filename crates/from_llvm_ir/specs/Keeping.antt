@@ -21,7 +21,8 @@ pub record HasKept (n b : ℕ) (old new : ContextData) : Type 0 where
   pub typed : IsTyped new
   pub same : (k : ℕ) → k < n → All (IsBelow n b) (data_of old k).functions → data_of new k ≡ data_of old k
 
--- so it is where the context had as many operations, and the latter where the numbers of types were there
+-- the first n operations and b blocks are still there, where there were n operations; and what they hold is kept, where
+-- the numbers of types were there
 pub record Keeps (n b : ℕ) (old new : ContextData) : Type 0 where
   pub still : n ≤ length old.ops → IsStill n b old new
   pub kept : IsTyped old → n ≤ length old.ops → HasKept n b old new

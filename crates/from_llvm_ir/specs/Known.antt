@@ -5,8 +5,8 @@ use Rattle.support.specs.Interned.{IsDistinctList}
 use Rattle.llvm_core.specs.Module.{Module}
 use Rattle.llvm_core.specs.Parts.{IsValue}
 use Rattle.llvm_core.specs.Data as L
-use Rattle.llvm_core.specs.Data.{ConstTree, IntConst, Placed, trees_of, operand_of}
-use Rattle.dialect_types.specs.Trees.{IntegerAttr, IntType}
+use Rattle.llvm_core.specs.Data.{ConstTree, IntConst, PlaceholderConst, Placed, trees_of, operand_of}
+use Rattle.dialect_types.specs.Trees.{IntegerAttr, VoidType, IntType, FunctionType}
 use Rattle.dialect_core.specs.declared.ops.Value.{Value}
 use Rattle.dialect_core.specs.declared.ops.Value.TheVariants as V
 use Rattle.dialect_core.specs.Data.{DialectOp, ConstantOp}
@@ -75,7 +75,9 @@ pub record Notes (m : Module) (values : Values) (k : Known) : Type 0 where
 -- the operation makes the constant, and nothing else
 abbrev pub IsConstantOp : ConstTree → DialectOp → Type 0
 IsConstantOp (IntConst (IntType w) v) o = o ≡ new_op o.number None (ConstantOp (IntegerAttr (IntType w) v)) [] [] (Some (IntType w))
-IsConstantOp _ o = ⊥
+IsConstantOp (IntConst VoidType v) o = ⊥
+IsConstantOp (IntConst (FunctionType result params variadic) v) o = ⊥
+IsConstantOp (PlaceholderConst n type) o = ⊥
 
 -- the value is of an operation from `split` up to n, or one of the first arguments of the block `at`, or one of a
 -- block before

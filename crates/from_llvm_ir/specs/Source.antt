@@ -16,7 +16,7 @@ use Rattle.llvm_core.specs.Module.{Module}
 use Rattle.llvm_core.specs.Sound.{IsModule}
 use Rattle.llvm_core.specs.Parts.{IsValue}
 use Rattle.llvm_core.specs.Data as L
-use Rattle.llvm_core.specs.Data.{Placed, ConstTree, IntConst, IntType, trees_of, type_at, operand_of, placed_of, block_of, AreApart, data_of}
+use Rattle.llvm_core.specs.Data.{Placed, ConstTree, IntConst, PlaceholderConst, VoidType, IntType, FunctionType, trees_of, type_at, operand_of, placed_of, block_of, AreApart, data_of}
 use Rattle.llvm_core.specs.Form.{IsFormFunction, IsShortResult, IsOperand, edges_between}
 use Rattle.meaning.specs.Llvm.{used}
 use Rattle.from_llvm_ir.specs.declared.entries.Entries.{Entries}
@@ -128,4 +128,6 @@ pub record IsUsed (m : Module) (g : L.Function) (v : LLVMValue) : Type 0 where
 -- an integer constant of 1 to 64 bits
 abbrev pub IsShortConst : ConstTree → Type 0
 IsShortConst (IntConst (IntType w) v) = (1 ≤ w) × (w ≤ 64) × (v < 2 ^ w)
-IsShortConst _ = ⊥
+IsShortConst (IntConst VoidType v) = ⊥
+IsShortConst (IntConst (FunctionType result params variadic) v) = ⊥
+IsShortConst (PlaceholderConst n type) = ⊥

@@ -31,7 +31,8 @@ int_text w v =
 
 abbrev pub int_of_type : TypeTree → ℕ → Text
 int_of_type (IntType w) v = int_text w v
-int_of_type _ v = []
+int_of_type VoidType v = []
+int_of_type (FunctionType result params variadic) v = []
 
 -- a constant without its type, a line for each kind; a checked module has no placeholder
 abbrev pub const_text : ConstTree → Text

@@ -111,7 +111,8 @@ home m x = option_map_or (λ (b : BlockData). b.function) (slice_get m.blocks x.
 
 abbrev pub kind_result : LLVMTypeKind → Option LLVMType
 kind_result (T.Function result params variadic) = Some result
-kind_result _ = None
+kind_result T.Void = None
+kind_result (T.Int width) = None
 
 -- the type of what a function returns
 abbrev pub return_type : Module → LLVMFunction → Option LLVMType
@@ -119,7 +120,8 @@ return_type m f = option_map_or (λ (x : FunctionData). option_map_or kind_resul
 
 abbrev pub is_void : LLVMTypeKind → Bool
 is_void T.Void = true
-is_void _ = false
+is_void (T.Int width) = false
+is_void (T.Function result params variadic) = false
 
 abbrev pub returns_void : Module → LLVMFunction → Bool
 returns_void m f = option_map_or (is_kind is_void m.types) (return_type m f) false
@@ -133,7 +135,8 @@ is_valueless k = is_void k || is_function k
 -- a function type with a parameter of no value, or that returns a function
 abbrev pub misfits_signature : List LLVMTypeKind → LLVMTypeKind → Bool
 misfits_signature types (T.Function result params variadic) = list_any (is_kind is_valueless types) params || is_kind is_function types result
-misfits_signature types _ = false
+misfits_signature types T.Void = false
+misfits_signature types (T.Int width) = false
 
 -- the value of an entry has another type
 abbrev pub HasOtherType : Module → LLVMType → List PhiEntry → Type 0
@@ -181,7 +184,7 @@ misfits_count m f (I.Row r) = not (is_counted m f r)
 
 abbrev pub is_placeholder : LLVMConstKind → Bool
 is_placeholder (C.Placeholder number type) = true
-is_placeholder _ = false
+is_placeholder (C.Int type value) = false
 
 -- a parameter or result of another function than f, or a placeholder
 abbrev pub is_outside : Module → LLVMFunction → LLVMValue → Bool

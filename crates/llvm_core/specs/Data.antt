@@ -192,7 +192,8 @@ nth_type (ThenType t ts) (suc i) = nth_type ts i
 -- the type of a parameter of a function of that type
 abbrev pub param_type : TypeTree → ℕ → TypeTree
 param_type (FunctionType result params variadic) i = nth_type params i
-param_type _ i = VoidType
+param_type VoidType i = VoidType
+param_type (IntType w) i = VoidType
 
 -- a line for each kind of constant
 abbrev pub const_type : ConstTree → TypeTree

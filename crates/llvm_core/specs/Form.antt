@@ -2,7 +2,7 @@
 -- 64 bits.
 use Rattle.std.specs.Prelude.{◌≡◌, ◌<◌, ◌≤◌, ◌^◌, ◌+◌, ℕ, suc, Bool, true, false, is_some, nat_eq, List, [], ◌++◌, length, map, filter, slice_get, unwrap_or, Some, All}
 use Rattle.std.specs.List.{flat_map}
-use Rattle.llvm_core.specs.Data.{TypeTree, VoidType, IntType, FunctionType, TypeTrees, NoTypes, ThenType, ConstTree, IntConst, Operand, Constant, Parameter, Result, RowData, Instruction, Phi, Applied, Placed, Block, Function, ModuleData, operand_type, placed_in, targets, phi_entries}
+use Rattle.llvm_core.specs.Data.{TypeTree, VoidType, IntType, FunctionType, TypeTrees, NoTypes, ThenType, ConstTree, IntConst, PlaceholderConst, Operand, Constant, Parameter, Result, RowData, Instruction, Phi, Applied, Placed, Block, Function, ModuleData, operand_type, placed_in, targets, phi_entries}
 use Rattle.kinds.specs.declared.rules.Takes.{Takes}
 use Rattle.kinds.specs.declared.rules.Takes.TheVariants as O
 use Rattle.kinds.specs.Rules.{ends, target_count, operand_count}
@@ -18,7 +18,8 @@ use Rattle.llvm_core.specs.Checked.{ends_in_only, named}
 -- an integer type of 1 to 64 bits
 abbrev pub IsShortInt : TypeTree → Type 0
 IsShortInt (IntType w) = (1 ≤ w) × (w ≤ 64)
-IsShortInt _ = ⊥
+IsShortInt VoidType = ⊥
+IsShortInt (FunctionType result params variadic) = ⊥
 
 -- what a function of the form returns
 abbrev pub IsShortResult : TypeTree → Type 0
@@ -36,7 +37,9 @@ count_types (ThenType t ts) = 1 + count_types ts
 -- an integer that fits its type
 abbrev pub IsFitting : ConstTree → Type 0
 IsFitting (IntConst (IntType w) v) = v < 2 ^ w
-IsFitting _ = ⊥
+IsFitting (IntConst VoidType v) = ⊥
+IsFitting (IntConst (FunctionType result params variadic) v) = ⊥
+IsFitting (PlaceholderConst n type) = ⊥
 
 -- one of the instructions has that number
 abbrev pub HasNumber : ℕ → List Placed → Type 0

@@ -44,7 +44,8 @@ IsConstOver types (C.Placeholder number t) = t.0 < length types
 
 abbrev pub is_function : LLVMTypeKind → Bool
 is_function (T.Function result params variadic) = true
-is_function _ = false
+is_function T.Void = false
+is_function (T.Int width) = false
 
 -- the type is there, and the test passes on its kind
 abbrev pub is_kind : (LLVMTypeKind → Bool) → List LLVMTypeKind → LLVMType → Bool
@@ -56,7 +57,8 @@ IsFunctionType types t = (k : LLVMTypeKind) × (slice_get types t.0 ≡ Some k) 
 
 abbrev pub kind_params : LLVMTypeKind → List LLVMType
 kind_params (T.Function result params variadic) = params
-kind_params _ = []
+kind_params T.Void = []
+kind_params (T.Int width) = []
 
 -- the parameters of a function type
 abbrev pub type_params : List LLVMTypeKind → LLVMType → List LLVMType
@@ -142,7 +144,8 @@ result_type m (I.Row r) = row_result m r
 -- the kind of a result's type that may be new: i1 or void
 abbrev pub made_kind : Option ResultType → LLVMTypeKind
 made_kind (Some R.Bit) = T.Int 1
-made_kind _ = T.Void
+made_kind (Some (R.There t)) = T.Void
+made_kind None = T.Void
 
 -- the result's type is there, where it is one of the module's
 abbrev pub IsResultOver : List LLVMTypeKind → ResultType → Type 0
@@ -168,7 +171,7 @@ TakesOperand m i place v = (x : InstData) × (w : LLVMValue) × (slice_get m.ins
 
 abbrev pub is_phi : LLVMInst → Bool
 is_phi (I.Phi type entries) = true
-is_phi _ = false
+is_phi (I.Row r) = false
 
 -- the instruction i is there, and is a phi
 abbrev pub IsPhi : List InstData → LLVMInstRef → Type 0

@@ -3,7 +3,7 @@ use Rattle.std.specs.Prelude.{ℕ, Bool, false, not, ◌&&◌, if◌then◌else�
 use Rattle.std.specs.Option.{option_map_or}
 use Rattle.std.specs.List.{flat_map, filter_map, position_from, find, starts_with}
 use Rattle.llvm_core.specs.Data as L
-use Rattle.llvm_core.specs.Data.{TypeTree, IntType, FunctionType, TypeTrees, NoTypes, ThenType, ConstTree, IntConst, PlaceholderConst, RowData, Instruction, Phi, Applied as AppliedRow, Constant, Parameter, Result, Placed, ModuleData, operand_type, targets, phi_entries}
+use Rattle.llvm_core.specs.Data.{TypeTree, VoidType, IntType, FunctionType, TypeTrees, NoTypes, ThenType, ConstTree, IntConst, PlaceholderConst, RowData, Instruction, Phi, Applied as AppliedRow, Constant, Parameter, Result, Placed, ModuleData, operand_type, targets, phi_entries}
 use Rattle.llvm_core.specs.Form.{operands_of}
 use Rattle.meaning.specs.Terms.{Term, Param, Unset, Int}
 use Rattle.meaning.specs.Machine.{Operand, At, Fixed, Action, Applies, Row, Edge, Block, Item, trace}
@@ -12,7 +12,8 @@ use Rattle.meaning.specs.Code.{Code, Entry, Body, Symbol, FunctionSymbol, Extern
 
 abbrev pub int_of : TypeTree → ℕ → Term
 int_of (IntType w) n = Int w n
-int_of _ n = Unset
+int_of VoidType n = Unset
+int_of (FunctionType r ps v) n = Unset
 
 -- the term of a constant of the module, a line for each kind
 abbrev pub const_term : Setting → ConstTree → Term
@@ -86,7 +87,8 @@ count_types (ThenType t ts) = ℕ.suc (count_types ts)
 
 abbrev pub arity : TypeTree → ℕ
 arity (FunctionType r ps v) = count_types ps
-arity _ = 0
+arity VoidType = 0
+arity (IntType w) = 0
 
 -- each parameter of the function is set, and nothing else
 abbrev pub start : L.Function → Key → Term

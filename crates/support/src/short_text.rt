@@ -1,6 +1,6 @@
 //! A text of at most 22 bytes, which clauses see as its bytes.
 
-ghost use Rattle.std.specs.Prelude.{◌≡◌, ◌+◌, ◌≤◌, ◌++◌, [], true, false, IfSome, length};
+ghost use Rattle.std.specs.Prelude.{◌≡◌, ◌+◌, ◌≤◌, ◌<◌, ◌++◌, [], true, false, IfSome, IfNone, length};
 
 use std::marker::Model;
 use std::{fmt, str};
@@ -38,7 +38,8 @@ impl ShortText {
 
     /// A copy of a text that is short enough.
     pub fn copy(text: &str) -> Option<ShortText>
-        ensures { IfSome result (λ t. t ≡ text.now) }
+        ensures copy { IfSome result (λ t. t ≡ text.now) }
+        ensures long { IfNone result (22 < length text.now) }
     {
         let mut copy = ShortText::empty();
         if copy.push_str(text) {
@@ -58,6 +59,7 @@ impl ShortText {
     pub fn push_str(&mut self, more: &str) -> bool
         ensures ok { result ≡ true → self.new ≡ self.old ++ more.now }
         ensures err { result ≡ false → self.new ≡ self.old }
+        ensures full { result ≡ false → 22 < length self.old + length more.now }
     {
         let len = self.len as usize;
         if more.len() > MOST - len {

@@ -56,7 +56,8 @@ operand_in m v = renamed slot_of (operand (setting_in m) (operand_of (trees_of m
 -- no type of a function
 abbrev pub IsNoFunction : L.TypeTree → Type 0
 IsNoFunction (L.FunctionType result params variadic) = ⊥
-IsNoFunction _ = Unit {0}
+IsNoFunction L.VoidType = Unit {0}
+IsNoFunction (L.IntType w) = Unit {0}
 
 -- the value is one of the function, and no function
 pub record IsUsed (m : Module) (h : InChecked m) (v : LLVMValue) : Type 0 where
