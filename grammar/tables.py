@@ -444,7 +444,7 @@ class Grammar:
 def rust(g):
     symbols, alternatives, rows, firsts, mores = g.flat()
     out = []
-    out.append('//! The grammar of LLVM text in tables. A script makes them of the readable grammar.\n')
+    out.append('//! The grammar of LLVM text in tables, which `grammar/tables.py merged rust` makes of `grammar/ll.grammar`.\n')
     out.append('use grammars::grammar::Grammar;')
     out.append('use grammars::rows::{Alternative, Row};')
     out.append('use grammars::symbols::Symbol;\n')
