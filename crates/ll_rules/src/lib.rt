@@ -1,0 +1,4 @@
+//! The grammar of LLVM text, in tables that pass the check of grammars.
+#![tactic(auto)]
+
+pub mod tables;

@@ -1,0 +1,6797 @@
+//! The grammar of LLVM text in tables, which `grammar/tables.py merged rust` makes of `grammar/ll.grammar`.
+
+use grammars::grammar::Grammar;
+use grammars::rows::{Alternative, Row};
+use grammars::symbols::Symbol;
+
+/// The symbols of all alternatives, those of each with the last first.
+static SYMBOLS: [Symbol; 918] = [
+    // 1: file = item file
+    Symbol::Rule(0),
+    Symbol::Rule(1),
+    // 2: file = nothing
+    // 3: item = 'source_filename' '=' STR
+    Symbol::Leaf(4),
+    Symbol::Word(43),
+    Symbol::Word(112),
+    // 4: item = 'target' target '=' STR
+    Symbol::Leaf(4),
+    Symbol::Word(43),
+    Symbol::Rule(2),
+    Symbol::Word(117),
+    // 5: item = LOCAL '=' 'type' type_body
+    Symbol::Rule(4),
+    Symbol::Word(120),
+    Symbol::Word(43),
+    Symbol::Leaf(1),
+    // 6: item = GLOBAL '=' symbol
+    Symbol::Rule(12),
+    Symbol::Word(43),
+    Symbol::Leaf(0),
+    // 7: item = 'declare' attachments declare_linkage head function_attrs
+    Symbol::Rule(37),
+    Symbol::Rule(21),
+    Symbol::Rule(9),
+    Symbol::Rule(150),
+    Symbol::Word(77),
+    // 8: item = 'define' define_linkage head function_attrs attachments '{' body '}'
+    Symbol::Word(50),
+    Symbol::Rule(28),
+    Symbol::Word(49),
+    Symbol::Rule(150),
+    Symbol::Rule(37),
+    Symbol::Rule(21),
+    Symbol::Rule(8),
+    Symbol::Word(78),
+    // 9: item = 'attributes' GROUP '=' '{' group_attrs '}'
+    Symbol::Word(50),
+    Symbol::Rule(41),
+    Symbol::Word(49),
+    Symbol::Word(43),
+    Symbol::Leaf(6),
+    Symbol::Word(71),
+    // 10: item = mdname '=' '!' '{' mdrefs '}'
+    Symbol::Word(50),
+    Symbol::Rule(153),
+    Symbol::Word(49),
+    Symbol::Word(53),
+    Symbol::Word(43),
+    Symbol::Rule(151),
+    // 11: item = MDNUM '=' distinct node
+    Symbol::Rule(155),
+    Symbol::Rule(3),
+    Symbol::Word(43),
+    Symbol::Leaf(8),
+    // 12: target = TARGET
+    Symbol::Leaf(15),
+    // 13: distinct = 'distinct'
+    Symbol::Word(81),
+    // 14: distinct = nothing
+    // 15: type_body = 'opaque'
+    Symbol::Word(104),
+    // 16: type_body = '{' types '}'
+    Symbol::Word(50),
+    Symbol::Rule(66),
+    Symbol::Word(49),
+    // 17: type_body = '<' '{' types '}' '>'
+    Symbol::Word(52),
+    Symbol::Word(50),
+    Symbol::Rule(66),
+    Symbol::Word(49),
+    Symbol::Word(51),
+    // 18: body_linkage = BODY_LINKAGE
+    Symbol::Leaf(16),
+    // 19: body_linkage = @'weak'
+    Symbol::Leaf(127),
+    // 20: data_linkage = body_linkage
+    Symbol::Rule(5),
+    // 21: data_linkage = DATA_LINKAGE
+    Symbol::Leaf(17),
+    // 22: outer_linkage = @'external'
+    Symbol::Leaf(85),
+    // 23: outer_linkage = @'extern_weak'
+    Symbol::Leaf(84),
+    // 24: define_linkage = body_linkage
+    Symbol::Rule(5),
+    // 25: define_linkage = @'external'
+    Symbol::Leaf(85),
+    // 26: define_linkage = nothing
+    // 27: declare_linkage = outer_linkage
+    Symbol::Rule(7),
+    // 28: declare_linkage = nothing
+    // 29: dso = DSO
+    Symbol::Leaf(18),
+    // 30: dso = nothing
+    // 31: unnamed = UNNAMED
+    Symbol::Leaf(19),
+    // 32: unnamed = nothing
+    // 33: symbol = outer_linkage dso unnamed outer_symbol
+    Symbol::Rule(13),
+    Symbol::Rule(11),
+    Symbol::Rule(10),
+    Symbol::Rule(7),
+    // 34: symbol = data_linkage dso unnamed inner_symbol
+    Symbol::Rule(14),
+    Symbol::Rule(11),
+    Symbol::Rule(10),
+    Symbol::Rule(6),
+    // 35: symbol = dso unnamed inner_symbol
+    Symbol::Rule(14),
+    Symbol::Rule(11),
+    Symbol::Rule(10),
+    // 36: outer_symbol = space storage type variable_tail
+    Symbol::Rule(17),
+    Symbol::Rule(62),
+    Symbol::Rule(15),
+    Symbol::Rule(16),
+    // 37: outer_symbol = 'alias' alias
+    Symbol::Rule(20),
+    Symbol::Word(64),
+    // 38: inner_symbol = space storage tconst variable_tail
+    Symbol::Rule(17),
+    Symbol::Rule(73),
+    Symbol::Rule(15),
+    Symbol::Rule(16),
+    // 39: inner_symbol = 'alias' alias
+    Symbol::Rule(20),
+    Symbol::Word(64),
+    // 40: storage = STORAGE
+    Symbol::Leaf(20),
+    // 41: space = 'addrspace' '(' INT ')'
+    Symbol::Word(46),
+    Symbol::Leaf(3),
+    Symbol::Word(45),
+    Symbol::Word(63),
+    // 42: space = nothing
+    // 43: variable_tail = ',' align_or_node
+    Symbol::Rule(18),
+    Symbol::Word(44),
+    // 44: variable_tail = lost_groups
+    Symbol::Rule(19),
+    // 45: align_or_node = 'align' INT attached lost_groups
+    Symbol::Rule(19),
+    Symbol::Rule(149),
+    Symbol::Leaf(3),
+    Symbol::Word(65),
+    // 46: align_or_node = mdname mdref attached lost_groups
+    Symbol::Rule(19),
+    Symbol::Rule(149),
+    Symbol::Rule(152),
+    Symbol::Rule(151),
+    // 47: lost_groups = GROUP lost_groups
+    Symbol::Rule(19),
+    Symbol::Leaf(6),
+    // 48: lost_groups = nothing
+    // 49: alias = called_type ',' tconst
+    Symbol::Rule(73),
+    Symbol::Word(44),
+    Symbol::Rule(68),
+    // 50: head = dso lost_attrs type GLOBAL parameters
+    Symbol::Rule(22),
+    Symbol::Leaf(0),
+    Symbol::Rule(62),
+    Symbol::Rule(34),
+    Symbol::Rule(10),
+    // 51: parameters = '(' params ')' unnamed space
+    Symbol::Rule(16),
+    Symbol::Rule(11),
+    Symbol::Word(46),
+    Symbol::Rule(23),
+    Symbol::Word(45),
+    // 52: params = param more_params
+    Symbol::Rule(24),
+    Symbol::Rule(26),
+    // 53: params = '...'
+    Symbol::Word(55),
+    // 54: params = nothing
+    // 55: more_params = ',' param_or_dots
+    Symbol::Rule(25),
+    Symbol::Word(44),
+    // 56: more_params = nothing
+    // 57: param_or_dots = param more_params
+    Symbol::Rule(24),
+    Symbol::Rule(26),
+    // 58: param_or_dots = '...'
+    Symbol::Word(55),
+    // 59: param = type lost_attrs name
+    Symbol::Rule(27),
+    Symbol::Rule(34),
+    Symbol::Rule(62),
+    // 60: name = LOCAL
+    Symbol::Leaf(1),
+    // 61: name = nothing
+    // 62: body = body_part body_parts
+    Symbol::Rule(29),
+    Symbol::Rule(30),
+    // 63: body_parts = body_part body_parts
+    Symbol::Rule(29),
+    Symbol::Rule(30),
+    // 64: body_parts = nothing
+    // 65: body_part = LABEL
+    Symbol::Leaf(2),
+    // 66: body_part = line
+    Symbol::Rule(31),
+    // 67: line = records result inst
+    Symbol::Rule(84),
+    Symbol::Rule(33),
+    Symbol::Rule(32),
+    // 68: records = RECORD node_parens records
+    Symbol::Rule(32),
+    Symbol::Rule(55),
+    Symbol::Leaf(7),
+    // 69: records = nothing
+    // 70: result = LOCAL '='
+    Symbol::Word(43),
+    Symbol::Leaf(1),
+    // 71: result = nothing
+    // 72: lost_attrs = lost_attr lost_attrs
+    Symbol::Rule(34),
+    Symbol::Rule(35),
+    // 73: lost_attrs = nothing
+    // 74: lost_attr = ENUM_ATTR_LOST_ATTR
+    Symbol::Leaf(21),
+    // 75: lost_attr = @'nocapture'
+    Symbol::Leaf(100),
+    // 76: lost_attr = @'dead_on_return'
+    Symbol::Leaf(76),
+    // 77: lost_attr = @'align' INT
+    Symbol::Leaf(3),
+    Symbol::Leaf(65),
+    // 78: lost_attr = LOST_ATTR_NUMBER_ATTR '(' INT ')'
+    Symbol::Word(46),
+    Symbol::Leaf(3),
+    Symbol::Word(45),
+    Symbol::Leaf(22),
+    // 79: lost_attr = EITHER_ATTR_LOST_ATTR parens
+    Symbol::Rule(53),
+    Symbol::Leaf(23),
+    // 80: lost_attr = LOST_ATTR_RANGE_ATTR parens
+    Symbol::Rule(53),
+    Symbol::Leaf(24),
+    // 81: lost_attr = @'elementtype' '(' type ')'
+    Symbol::Word(46),
+    Symbol::Rule(62),
+    Symbol::Word(45),
+    Symbol::Leaf(82),
+    // 82: lost_attr = STR text_value
+    Symbol::Rule(36),
+    Symbol::Leaf(4),
+    // 83: text_value = '=' STR
+    Symbol::Leaf(4),
+    Symbol::Word(43),
+    // 84: text_value = nothing
+    // 85: function_attrs = function_attr function_attrs
+    Symbol::Rule(37),
+    Symbol::Rule(38),
+    // 86: function_attrs = nothing
+    // 87: function_attr = GROUP
+    Symbol::Leaf(6),
+    // 88: function_attr = attr
+    Symbol::Rule(43),
+    // 89: function_attr = @'align' align_value
+    Symbol::Rule(39),
+    Symbol::Leaf(65),
+    // 90: align_value = INT
+    Symbol::Leaf(3),
+    // 91: align_value = '(' 'int' INT ')'
+    Symbol::Word(46),
+    Symbol::Leaf(3),
+    Symbol::Word(96),
+    Symbol::Word(45),
+    // 92: call_attrs = GROUP call_attrs
+    Symbol::Rule(40),
+    Symbol::Leaf(6),
+    // 93: call_attrs = group_attr call_attrs
+    Symbol::Rule(40),
+    Symbol::Rule(42),
+    // 94: call_attrs = nothing
+    // 95: group_attrs = group_attr group_attrs
+    Symbol::Rule(41),
+    Symbol::Rule(42),
+    // 96: group_attrs = nothing
+    // 97: group_attr = attr
+    Symbol::Rule(43),
+    // 98: group_attr = 'align' '(' 'int' INT ')'
+    Symbol::Word(46),
+    Symbol::Leaf(3),
+    Symbol::Word(96),
+    Symbol::Word(45),
+    Symbol::Word(65),
+    // 99: attr = STR text_value
+    Symbol::Rule(36),
+    Symbol::Leaf(4),
+    // 100: attr = enum_attr
+    Symbol::Rule(52),
+    // 101: attr = 'alignstack' stack_value
+    Symbol::Rule(44),
+    Symbol::Word(66),
+    // 102: attr = 'uwtable' unwind_value
+    Symbol::Rule(46),
+    Symbol::Word(122),
+    // 103: attr = number_attr '(' 'int' INT ')'
+    Symbol::Word(46),
+    Symbol::Leaf(3),
+    Symbol::Word(96),
+    Symbol::Word(45),
+    Symbol::Rule(48),
+    // 104: attr = either_attr '(' number_or_inside
+    Symbol::Rule(50),
+    Symbol::Word(45),
+    Symbol::Rule(49),
+    // 105: attr = range_attr parens
+    Symbol::Rule(53),
+    Symbol::Rule(51),
+    // 106: attr = 'elementtype' '(' type ')'
+    Symbol::Word(46),
+    Symbol::Rule(62),
+    Symbol::Word(45),
+    Symbol::Word(82),
+    // 107: stack_value = '(' stack_number ')'
+    Symbol::Word(46),
+    Symbol::Rule(45),
+    Symbol::Word(45),
+    // 108: stack_value = '=' INT
+    Symbol::Leaf(3),
+    Symbol::Word(43),
+    // 109: stack_number = INT
+    Symbol::Leaf(3),
+    // 110: stack_number = 'int' INT
+    Symbol::Leaf(3),
+    Symbol::Word(96),
+    // 111: unwind_value = '(' unwind_number ')'
+    Symbol::Word(46),
+    Symbol::Rule(47),
+    Symbol::Word(45),
+    // 112: unwind_value = nothing
+    // 113: unwind_number = UNWIND_NUMBER
+    Symbol::Leaf(25),
+    // 114: unwind_number = 'int' INT
+    Symbol::Leaf(3),
+    Symbol::Word(96),
+    // 115: number_attr = 'dead_on_return'
+    Symbol::Word(76),
+    // 116: number_attr = 'denormal_fpenv'
+    Symbol::Word(79),
+    // 117: number_attr = LOST_ATTR_NUMBER_ATTR
+    Symbol::Leaf(22),
+    // 118: either_attr = EITHER_ATTR
+    Symbol::Leaf(26),
+    // 119: either_attr = EITHER_ATTR_LOST_ATTR
+    Symbol::Leaf(23),
+    // 120: number_or_inside = 'int' INT ')'
+    Symbol::Word(46),
+    Symbol::Leaf(3),
+    Symbol::Word(96),
+    // 121: number_or_inside = ')'
+    Symbol::Word(46),
+    // 122: number_or_inside = '(' inside inside
+    Symbol::Rule(54),
+    Symbol::Rule(54),
+    Symbol::Word(45),
+    // 123: number_or_inside = most_words inside
+    Symbol::Rule(54),
+    Symbol::Rule(59),
+    // 124: number_or_inside = plain inside
+    Symbol::Rule(54),
+    Symbol::Rule(57),
+    // 125: range_attr = LOST_ATTR_RANGE_ATTR
+    Symbol::Leaf(24),
+    // 126: enum_attr = ENUM_ATTR_LOST_ATTR
+    Symbol::Leaf(21),
+    // 127: enum_attr = ENUM_ATTR
+    Symbol::Leaf(27),
+    // 128: parens = '(' inside
+    Symbol::Rule(54),
+    Symbol::Word(45),
+    // 129: inside = ')'
+    Symbol::Word(46),
+    // 130: inside = '(' inside inside
+    Symbol::Rule(54),
+    Symbol::Rule(54),
+    Symbol::Word(45),
+    // 131: inside = any_word inside
+    Symbol::Rule(54),
+    Symbol::Rule(60),
+    // 132: inside = plain inside
+    Symbol::Rule(54),
+    Symbol::Rule(57),
+    // 133: node_parens = '(' node_inside
+    Symbol::Rule(56),
+    Symbol::Word(45),
+    // 134: node_inside = ')'
+    Symbol::Word(46),
+    // 135: node_inside = '(' node_inside node_inside
+    Symbol::Rule(56),
+    Symbol::Rule(56),
+    Symbol::Word(45),
+    // 136: node_inside = node_word node_inside
+    Symbol::Rule(56),
+    Symbol::Rule(61),
+    // 137: node_inside = plain node_inside
+    Symbol::Rule(56),
+    Symbol::Rule(57),
+    // 138: node_inside = FLOAT node_inside
+    Symbol::Rule(56),
+    Symbol::Leaf(11),
+    // 139: plain = INT
+    Symbol::Leaf(3),
+    // 140: plain = STR
+    Symbol::Leaf(4),
+    // 141: plain = CSTR
+    Symbol::Leaf(5),
+    // 142: plain = GLOBAL
+    Symbol::Leaf(0),
+    // 143: plain = LOCAL
+    Symbol::Leaf(1),
+    // 144: plain = LABEL
+    Symbol::Leaf(2),
+    // 145: plain = GROUP
+    Symbol::Leaf(6),
+    // 146: plain = RECORD
+    Symbol::Leaf(7),
+    // 147: plain = MDNUM
+    Symbol::Leaf(8),
+    // 148: plain = MDSTR
+    Symbol::Leaf(10),
+    // 149: plain = mdname
+    Symbol::Rule(151),
+    // 150: plain = mark
+    Symbol::Rule(58),
+    // 151: mark = '='
+    Symbol::Word(43),
+    // 152: mark = ','
+    Symbol::Word(44),
+    // 153: mark = '['
+    Symbol::Word(47),
+    // 154: mark = ']'
+    Symbol::Word(48),
+    // 155: mark = '{'
+    Symbol::Word(49),
+    // 156: mark = '}'
+    Symbol::Word(50),
+    // 157: mark = '<'
+    Symbol::Word(51),
+    // 158: mark = '>'
+    Symbol::Word(52),
+    // 159: mark = '!'
+    Symbol::Word(53),
+    // 160: mark = '|'
+    Symbol::Word(54),
+    // 161: mark = '...'
+    Symbol::Word(55),
+    // 162: most_words = @'addrspace'
+    Symbol::Leaf(63),
+    // 163: most_words = @'alias'
+    Symbol::Leaf(64),
+    // 164: most_words = @'align'
+    Symbol::Leaf(65),
+    // 165: most_words = @'alignstack'
+    Symbol::Leaf(66),
+    // 166: most_words = @'alloca'
+    Symbol::Leaf(67),
+    // 167: most_words = @'asm'
+    Symbol::Leaf(68),
+    // 168: most_words = @'atomic'
+    Symbol::Leaf(69),
+    // 169: most_words = @'atomicrmw'
+    Symbol::Leaf(70),
+    // 170: most_words = @'attributes'
+    Symbol::Leaf(71),
+    // 171: most_words = @'blockaddress'
+    Symbol::Leaf(72),
+    // 172: most_words = @'br'
+    Symbol::Leaf(73),
+    // 173: most_words = @'call'
+    Symbol::Leaf(74),
+    // 174: most_words = @'cmpxchg'
+    Symbol::Leaf(75),
+    // 175: most_words = @'dead_on_return'
+    Symbol::Leaf(76),
+    // 176: most_words = @'declare'
+    Symbol::Leaf(77),
+    // 177: most_words = @'define'
+    Symbol::Leaf(78),
+    // 178: most_words = @'denormal_fpenv'
+    Symbol::Leaf(79),
+    // 179: most_words = @'disjoint'
+    Symbol::Leaf(80),
+    // 180: most_words = @'distinct'
+    Symbol::Leaf(81),
+    // 181: most_words = @'elementtype'
+    Symbol::Leaf(82),
+    // 182: most_words = @'exact'
+    Symbol::Leaf(83),
+    // 183: most_words = @'extern_weak'
+    Symbol::Leaf(84),
+    // 184: most_words = @'external'
+    Symbol::Leaf(85),
+    // 185: most_words = @'extractelement'
+    Symbol::Leaf(86),
+    // 186: most_words = @'extractvalue'
+    Symbol::Leaf(87),
+    // 187: most_words = @'fence'
+    Symbol::Leaf(88),
+    // 188: most_words = @'freeze'
+    Symbol::Leaf(89),
+    // 189: most_words = @'getelementptr'
+    Symbol::Leaf(90),
+    // 190: most_words = @'i1'
+    Symbol::Leaf(91),
+    // 191: most_words = @'icmp'
+    Symbol::Leaf(92),
+    // 192: most_words = @'indirectbr'
+    Symbol::Leaf(93),
+    // 193: most_words = @'inrange'
+    Symbol::Leaf(94),
+    // 194: most_words = @'insertvalue'
+    Symbol::Leaf(95),
+    // 195: most_words = @'label'
+    Symbol::Leaf(97),
+    // 196: most_words = @'load'
+    Symbol::Leaf(98),
+    // 197: most_words = @'nneg'
+    Symbol::Leaf(99),
+    // 198: most_words = @'nocapture'
+    Symbol::Leaf(100),
+    // 199: most_words = @'nsw'
+    Symbol::Leaf(101),
+    // 200: most_words = @'null'
+    Symbol::Leaf(102),
+    // 201: most_words = @'nuw'
+    Symbol::Leaf(103),
+    // 202: most_words = @'opaque'
+    Symbol::Leaf(104),
+    // 203: most_words = @'or'
+    Symbol::Leaf(105),
+    // 204: most_words = @'phi'
+    Symbol::Leaf(106),
+    // 205: most_words = @'ptr'
+    Symbol::Leaf(107),
+    // 206: most_words = @'ret'
+    Symbol::Leaf(108),
+    // 207: most_words = @'samesign'
+    Symbol::Leaf(109),
+    // 208: most_words = @'shufflevector'
+    Symbol::Leaf(110),
+    // 209: most_words = @'sideeffect'
+    Symbol::Leaf(111),
+    // 210: most_words = @'source_filename'
+    Symbol::Leaf(112),
+    // 211: most_words = @'splat'
+    Symbol::Leaf(113),
+    // 212: most_words = @'store'
+    Symbol::Leaf(114),
+    // 213: most_words = @'switch'
+    Symbol::Leaf(115),
+    // 214: most_words = @'syncscope'
+    Symbol::Leaf(116),
+    // 215: most_words = @'target'
+    Symbol::Leaf(117),
+    // 216: most_words = @'to'
+    Symbol::Leaf(118),
+    // 217: most_words = @'trunc'
+    Symbol::Leaf(119),
+    // 218: most_words = @'type'
+    Symbol::Leaf(120),
+    // 219: most_words = @'unreachable'
+    Symbol::Leaf(121),
+    // 220: most_words = @'uwtable'
+    Symbol::Leaf(122),
+    // 221: most_words = @'va_arg'
+    Symbol::Leaf(123),
+    // 222: most_words = @'void'
+    Symbol::Leaf(124),
+    // 223: most_words = @'volatile'
+    Symbol::Leaf(125),
+    // 224: most_words = @'vscale'
+    Symbol::Leaf(126),
+    // 225: most_words = @'weak'
+    Symbol::Leaf(127),
+    // 226: most_words = @'x'
+    Symbol::Leaf(128),
+    // 227: most_words = @'zext'
+    Symbol::Leaf(129),
+    // 228: most_words = INTTYPE
+    Symbol::Leaf(12),
+    // 229: most_words = WORD
+    Symbol::Leaf(14),
+    // 230: most_words = TARGET
+    Symbol::Leaf(15),
+    // 231: most_words = BODY_LINKAGE
+    Symbol::Leaf(16),
+    // 232: most_words = DATA_LINKAGE
+    Symbol::Leaf(17),
+    // 233: most_words = DSO
+    Symbol::Leaf(18),
+    // 234: most_words = UNNAMED
+    Symbol::Leaf(19),
+    // 235: most_words = STORAGE
+    Symbol::Leaf(20),
+    // 236: most_words = ENUM_ATTR_LOST_ATTR
+    Symbol::Leaf(21),
+    // 237: most_words = LOST_ATTR_NUMBER_ATTR
+    Symbol::Leaf(22),
+    // 238: most_words = EITHER_ATTR_LOST_ATTR
+    Symbol::Leaf(23),
+    // 239: most_words = LOST_ATTR_RANGE_ATTR
+    Symbol::Leaf(24),
+    // 240: most_words = UNWIND_NUMBER
+    Symbol::Leaf(25),
+    // 241: most_words = EITHER_ATTR
+    Symbol::Leaf(26),
+    // 242: most_words = ENUM_ATTR
+    Symbol::Leaf(27),
+    // 243: most_words = FLAT
+    Symbol::Leaf(28),
+    // 244: most_words = CONST
+    Symbol::Leaf(29),
+    // 245: most_words = CAST_CONST_CAST
+    Symbol::Leaf(30),
+    // 246: most_words = CONST_SUM_RMW_KIND_SUM
+    Symbol::Leaf(31),
+    // 247: most_words = SIMPLE
+    Symbol::Leaf(32),
+    // 248: most_words = SUM
+    Symbol::Leaf(33),
+    // 249: most_words = QUOTIENT
+    Symbol::Leaf(34),
+    // 250: most_words = BITS
+    Symbol::Leaf(35),
+    // 251: most_words = BITS_RMW_KIND
+    Symbol::Leaf(36),
+    // 252: most_words = PREDICATE
+    Symbol::Leaf(37),
+    // 253: most_words = CAST
+    Symbol::Leaf(38),
+    // 254: most_words = RMW_KIND
+    Symbol::Leaf(39),
+    // 255: most_words = ORDERING
+    Symbol::Leaf(40),
+    // 256: most_words = GEP_FLAG
+    Symbol::Leaf(41),
+    // 257: most_words = TAIL
+    Symbol::Leaf(42),
+    // 258: any_word = most_words
+    Symbol::Rule(59),
+    // 259: any_word = @'int'
+    Symbol::Leaf(96),
+    // 260: node_word = any_word
+    Symbol::Rule(60),
+    // 261: node_word = REFUSED
+    Symbol::Leaf(13),
+    // 262: type = 'void'
+    Symbol::Word(124),
+    // 263: type = solid
+    Symbol::Rule(63),
+    // 264: solid = flat
+    Symbol::Rule(64),
+    // 265: solid = '{' types '}'
+    Symbol::Word(50),
+    Symbol::Rule(66),
+    Symbol::Word(49),
+    // 266: flat = INTTYPE
+    Symbol::Leaf(12),
+    // 267: flat = @'i1'
+    Symbol::Leaf(91),
+    // 268: flat = 'ptr' space
+    Symbol::Rule(16),
+    Symbol::Word(107),
+    // 269: flat = FLAT
+    Symbol::Leaf(28),
+    // 270: flat = '[' INT 'x' type ']'
+    Symbol::Word(48),
+    Symbol::Rule(62),
+    Symbol::Word(128),
+    Symbol::Leaf(3),
+    Symbol::Word(47),
+    // 271: flat = '<' angle_type
+    Symbol::Rule(65),
+    Symbol::Word(51),
+    // 272: flat = LOCAL
+    Symbol::Leaf(1),
+    // 273: angle_type = INT 'x' type '>'
+    Symbol::Word(52),
+    Symbol::Rule(62),
+    Symbol::Word(128),
+    Symbol::Leaf(3),
+    // 274: angle_type = 'vscale' 'x' INT 'x' type '>'
+    Symbol::Word(52),
+    Symbol::Rule(62),
+    Symbol::Word(128),
+    Symbol::Leaf(3),
+    Symbol::Word(128),
+    Symbol::Word(126),
+    // 275: angle_type = '{' types '}' '>'
+    Symbol::Word(52),
+    Symbol::Word(50),
+    Symbol::Rule(66),
+    Symbol::Word(49),
+    // 276: types = type more_types
+    Symbol::Rule(67),
+    Symbol::Rule(62),
+    // 277: types = nothing
+    // 278: more_types = ',' type more_types
+    Symbol::Rule(67),
+    Symbol::Rule(62),
+    Symbol::Word(44),
+    // 279: more_types = nothing
+    // 280: called_type = type signature
+    Symbol::Rule(69),
+    Symbol::Rule(62),
+    // 281: signature = '(' argument_types ')'
+    Symbol::Word(46),
+    Symbol::Rule(70),
+    Symbol::Word(45),
+    // 282: signature = nothing
+    // 283: argument_types = type more_argument_types
+    Symbol::Rule(71),
+    Symbol::Rule(62),
+    // 284: argument_types = '...'
+    Symbol::Word(55),
+    // 285: argument_types = nothing
+    // 286: more_argument_types = ',' type_or_dots
+    Symbol::Rule(72),
+    Symbol::Word(44),
+    // 287: more_argument_types = nothing
+    // 288: type_or_dots = type more_argument_types
+    Symbol::Rule(71),
+    Symbol::Rule(62),
+    // 289: type_or_dots = '...'
+    Symbol::Word(55),
+    // 290: tconst = type const
+    Symbol::Rule(74),
+    Symbol::Rule(62),
+    // 291: const = INT
+    Symbol::Leaf(3),
+    // 292: const = CONST
+    Symbol::Leaf(29),
+    // 293: const = 'null'
+    Symbol::Word(102),
+    // 294: const = '[' tconsts ']'
+    Symbol::Word(48),
+    Symbol::Rule(81),
+    Symbol::Word(47),
+    // 295: const = '{' tconsts '}'
+    Symbol::Word(50),
+    Symbol::Rule(81),
+    Symbol::Word(49),
+    // 296: const = '<' const_angle
+    Symbol::Rule(75),
+    Symbol::Word(51),
+    // 297: const = CSTR
+    Symbol::Leaf(5),
+    // 298: const = 'splat' '(' tconst ')'
+    Symbol::Word(46),
+    Symbol::Rule(73),
+    Symbol::Word(45),
+    Symbol::Word(113),
+    // 299: const = GLOBAL
+    Symbol::Leaf(0),
+    // 300: const = 'blockaddress' '(' GLOBAL ',' LOCAL ')'
+    Symbol::Word(46),
+    Symbol::Leaf(1),
+    Symbol::Word(44),
+    Symbol::Leaf(0),
+    Symbol::Word(45),
+    Symbol::Word(72),
+    // 301: const = const_cast '(' tconst 'to' type ')'
+    Symbol::Word(46),
+    Symbol::Rule(62),
+    Symbol::Word(118),
+    Symbol::Rule(73),
+    Symbol::Word(45),
+    Symbol::Rule(79),
+    // 302: const = const_sum lost_wraps '(' tconst ',' tconst ')'
+    Symbol::Word(46),
+    Symbol::Rule(73),
+    Symbol::Word(44),
+    Symbol::Rule(73),
+    Symbol::Word(45),
+    Symbol::Rule(97),
+    Symbol::Rule(80),
+    // 303: const = 'getelementptr' gep_flags in_range '(' type ',' tconst more_tconsts ')'
+    Symbol::Word(46),
+    Symbol::Rule(82),
+    Symbol::Rule(73),
+    Symbol::Word(44),
+    Symbol::Rule(62),
+    Symbol::Word(45),
+    Symbol::Rule(83),
+    Symbol::Rule(127),
+    Symbol::Word(90),
+    // 304: const_angle = '{' const_brace
+    Symbol::Rule(76),
+    Symbol::Word(49),
+    // 305: const_angle = flat const more_tconsts '>'
+    Symbol::Word(52),
+    Symbol::Rule(82),
+    Symbol::Rule(74),
+    Symbol::Rule(64),
+    // 306: const_angle = 'void' const more_tconsts '>'
+    Symbol::Word(52),
+    Symbol::Rule(82),
+    Symbol::Rule(74),
+    Symbol::Word(124),
+    // 307: const_brace = '}' const_empty
+    Symbol::Rule(77),
+    Symbol::Word(50),
+    // 308: const_brace = type const_braced
+    Symbol::Rule(78),
+    Symbol::Rule(62),
+    // 309: const_empty = '>'
+    Symbol::Word(52),
+    // 310: const_empty = const more_tconsts '>'
+    Symbol::Word(52),
+    Symbol::Rule(82),
+    Symbol::Rule(74),
+    // 311: const_braced = const more_tconsts '}' '>'
+    Symbol::Word(52),
+    Symbol::Word(50),
+    Symbol::Rule(82),
+    Symbol::Rule(74),
+    // 312: const_braced = more_types '}' const more_tconsts '>'
+    Symbol::Word(52),
+    Symbol::Rule(82),
+    Symbol::Rule(74),
+    Symbol::Word(50),
+    Symbol::Rule(67),
+    // 313: const_cast = CAST_CONST_CAST
+    Symbol::Leaf(30),
+    // 314: const_cast = 'trunc'
+    Symbol::Word(119),
+    // 315: const_sum = CONST_SUM_RMW_KIND_SUM
+    Symbol::Leaf(31),
+    // 316: tconsts = tconst more_tconsts
+    Symbol::Rule(82),
+    Symbol::Rule(73),
+    // 317: tconsts = nothing
+    // 318: more_tconsts = ',' tconst more_tconsts
+    Symbol::Rule(82),
+    Symbol::Rule(73),
+    Symbol::Word(44),
+    // 319: more_tconsts = nothing
+    // 320: in_range = @'inrange' parens
+    Symbol::Rule(53),
+    Symbol::Leaf(94),
+    // 321: in_range = nothing
+    // 322: inst = simple attached
+    Symbol::Rule(149),
+    Symbol::Rule(85),
+    // 323: inst = 'alloca' type alloca_tail
+    Symbol::Rule(108),
+    Symbol::Rule(62),
+    Symbol::Word(67),
+    // 324: inst = 'load' load
+    Symbol::Rule(114),
+    Symbol::Word(98),
+    // 325: inst = 'store' store
+    Symbol::Rule(116),
+    Symbol::Word(114),
+    // 326: inst = 'atomicrmw' rmw_kind address_and_value order lost_align_attached
+    Symbol::Rule(138),
+    Symbol::Rule(124),
+    Symbol::Rule(120),
+    Symbol::Rule(119),
+    Symbol::Word(70),
+    // 327: inst = 'cmpxchg' lost_weak exchange
+    Symbol::Rule(122),
+    Symbol::Rule(121),
+    Symbol::Word(75),
+    // 328: inst = 'getelementptr' gep_flags type ',' typed more_indices
+    Symbol::Rule(129),
+    Symbol::Rule(87),
+    Symbol::Word(44),
+    Symbol::Rule(62),
+    Symbol::Rule(127),
+    Symbol::Word(90),
+    // 329: inst = 'extractvalue' typed ',' INT more_places
+    Symbol::Rule(131),
+    Symbol::Leaf(3),
+    Symbol::Word(44),
+    Symbol::Rule(87),
+    Symbol::Word(87),
+    // 330: inst = 'insertvalue' typed ',' typed ',' INT more_places
+    Symbol::Rule(131),
+    Symbol::Leaf(3),
+    Symbol::Word(44),
+    Symbol::Rule(87),
+    Symbol::Word(44),
+    Symbol::Rule(87),
+    Symbol::Word(95),
+    // 331: inst = 'phi' type entry more_entries
+    Symbol::Rule(134),
+    Symbol::Rule(133),
+    Symbol::Rule(62),
+    Symbol::Word(106),
+    // 332: simple = 'ret' ret
+    Symbol::Rule(89),
+    Symbol::Word(108),
+    // 333: simple = 'br' br
+    Symbol::Rule(90),
+    Symbol::Word(73),
+    // 334: simple = 'switch' typed ',' 'label' LOCAL '[' cases ']'
+    Symbol::Word(48),
+    Symbol::Rule(91),
+    Symbol::Word(47),
+    Symbol::Leaf(1),
+    Symbol::Word(97),
+    Symbol::Word(44),
+    Symbol::Rule(87),
+    Symbol::Word(115),
+    // 335: simple = 'indirectbr' typed ',' '[' labels ']'
+    Symbol::Word(48),
+    Symbol::Rule(92),
+    Symbol::Word(47),
+    Symbol::Word(44),
+    Symbol::Rule(87),
+    Symbol::Word(93),
+    // 336: simple = 'unreachable'
+    Symbol::Word(121),
+    // 337: simple = sum wraps pair
+    Symbol::Rule(88),
+    Symbol::Rule(95),
+    Symbol::Rule(94),
+    // 338: simple = quotient lost_exact pair
+    Symbol::Rule(88),
+    Symbol::Rule(101),
+    Symbol::Rule(100),
+    // 339: simple = bits pair
+    Symbol::Rule(88),
+    Symbol::Rule(102),
+    // 340: simple = 'or' lost_disjoint pair
+    Symbol::Rule(88),
+    Symbol::Rule(103),
+    Symbol::Word(105),
+    // 341: simple = 'icmp' lost_samesign predicate pair
+    Symbol::Rule(88),
+    Symbol::Rule(105),
+    Symbol::Rule(104),
+    Symbol::Word(92),
+    // 342: simple = cast typed 'to' type
+    Symbol::Rule(62),
+    Symbol::Word(118),
+    Symbol::Rule(87),
+    Symbol::Rule(106),
+    // 343: simple = 'trunc' lost_wraps typed 'to' type
+    Symbol::Rule(62),
+    Symbol::Word(118),
+    Symbol::Rule(87),
+    Symbol::Rule(97),
+    Symbol::Word(119),
+    // 344: simple = 'zext' nneg typed 'to' type
+    Symbol::Rule(62),
+    Symbol::Word(118),
+    Symbol::Rule(87),
+    Symbol::Rule(107),
+    Symbol::Word(129),
+    // 345: simple = 'fence' order
+    Symbol::Rule(124),
+    Symbol::Word(88),
+    // 346: simple = 'extractelement' typed ',' typed
+    Symbol::Rule(87),
+    Symbol::Word(44),
+    Symbol::Rule(87),
+    Symbol::Word(86),
+    // 347: simple = SIMPLE typed ',' typed ',' typed
+    Symbol::Rule(87),
+    Symbol::Word(44),
+    Symbol::Rule(87),
+    Symbol::Word(44),
+    Symbol::Rule(87),
+    Symbol::Leaf(32),
+    // 348: simple = 'shufflevector' typed ',' typed ',' tconst
+    Symbol::Rule(73),
+    Symbol::Word(44),
+    Symbol::Rule(87),
+    Symbol::Word(44),
+    Symbol::Rule(87),
+    Symbol::Word(110),
+    // 349: simple = 'freeze' typed
+    Symbol::Rule(87),
+    Symbol::Word(89),
+    // 350: simple = 'va_arg' typed ',' type
+    Symbol::Rule(62),
+    Symbol::Word(44),
+    Symbol::Rule(87),
+    Symbol::Word(123),
+    // 351: simple = tail 'call' call
+    Symbol::Rule(141),
+    Symbol::Word(74),
+    Symbol::Rule(140),
+    // 352: value = LOCAL
+    Symbol::Leaf(1),
+    // 353: value = const
+    Symbol::Rule(74),
+    // 354: typed = type value
+    Symbol::Rule(86),
+    Symbol::Rule(62),
+    // 355: pair = type value ',' value
+    Symbol::Rule(86),
+    Symbol::Word(44),
+    Symbol::Rule(86),
+    Symbol::Rule(62),
+    // 356: ret = 'void'
+    Symbol::Word(124),
+    // 357: ret = solid value
+    Symbol::Rule(86),
+    Symbol::Rule(63),
+    // 358: br = 'label' LOCAL
+    Symbol::Leaf(1),
+    Symbol::Word(97),
+    // 359: br = 'i1' value ',' 'label' LOCAL ',' 'label' LOCAL
+    Symbol::Leaf(1),
+    Symbol::Word(97),
+    Symbol::Word(44),
+    Symbol::Leaf(1),
+    Symbol::Word(97),
+    Symbol::Word(44),
+    Symbol::Rule(86),
+    Symbol::Word(91),
+    // 360: cases = tconst ',' 'label' LOCAL cases
+    Symbol::Rule(91),
+    Symbol::Leaf(1),
+    Symbol::Word(97),
+    Symbol::Word(44),
+    Symbol::Rule(73),
+    // 361: cases = nothing
+    // 362: labels = 'label' LOCAL more_labels
+    Symbol::Rule(93),
+    Symbol::Leaf(1),
+    Symbol::Word(97),
+    // 363: labels = nothing
+    // 364: more_labels = ',' 'label' LOCAL more_labels
+    Symbol::Rule(93),
+    Symbol::Leaf(1),
+    Symbol::Word(97),
+    Symbol::Word(44),
+    // 365: more_labels = nothing
+    // 366: sum = CONST_SUM_RMW_KIND_SUM
+    Symbol::Leaf(31),
+    // 367: sum = SUM
+    Symbol::Leaf(33),
+    // 368: wraps = 'nuw' nsw
+    Symbol::Rule(96),
+    Symbol::Word(103),
+    // 369: wraps = 'nsw'
+    Symbol::Word(101),
+    // 370: wraps = nothing
+    // 371: nsw = 'nsw'
+    Symbol::Word(101),
+    // 372: nsw = nothing
+    // 373: lost_wraps = @'nuw' lost_nsw
+    Symbol::Rule(98),
+    Symbol::Leaf(103),
+    // 374: lost_wraps = @'nsw' lost_nuw
+    Symbol::Rule(99),
+    Symbol::Leaf(101),
+    // 375: lost_wraps = nothing
+    // 376: lost_nsw = @'nsw'
+    Symbol::Leaf(101),
+    // 377: lost_nsw = nothing
+    // 378: lost_nuw = @'nuw'
+    Symbol::Leaf(103),
+    // 379: lost_nuw = nothing
+    // 380: quotient = QUOTIENT
+    Symbol::Leaf(34),
+    // 381: lost_exact = @'exact'
+    Symbol::Leaf(83),
+    // 382: lost_exact = nothing
+    // 383: bits = BITS
+    Symbol::Leaf(35),
+    // 384: bits = BITS_RMW_KIND
+    Symbol::Leaf(36),
+    // 385: lost_disjoint = @'disjoint'
+    Symbol::Leaf(80),
+    // 386: lost_disjoint = nothing
+    // 387: lost_samesign = @'samesign'
+    Symbol::Leaf(109),
+    // 388: lost_samesign = nothing
+    // 389: predicate = PREDICATE
+    Symbol::Leaf(37),
+    // 390: cast = CAST_CONST_CAST
+    Symbol::Leaf(30),
+    // 391: cast = CAST
+    Symbol::Leaf(38),
+    // 392: nneg = 'nneg'
+    Symbol::Word(99),
+    // 393: nneg = nothing
+    // 394: alloca_tail = ',' alloca_part
+    Symbol::Rule(109),
+    Symbol::Word(44),
+    // 395: alloca_tail = nothing
+    // 396: alloca_part = typed alloca_rest
+    Symbol::Rule(110),
+    Symbol::Rule(87),
+    // 397: alloca_part = 'align' INT alloca_end
+    Symbol::Rule(112),
+    Symbol::Leaf(3),
+    Symbol::Word(65),
+    // 398: alloca_part = 'addrspace' '(' INT ')' attached
+    Symbol::Rule(149),
+    Symbol::Word(46),
+    Symbol::Leaf(3),
+    Symbol::Word(45),
+    Symbol::Word(63),
+    // 399: alloca_part = mdname mdref attached
+    Symbol::Rule(149),
+    Symbol::Rule(152),
+    Symbol::Rule(151),
+    // 400: alloca_rest = ',' alloca_rest_part
+    Symbol::Rule(111),
+    Symbol::Word(44),
+    // 401: alloca_rest = nothing
+    // 402: alloca_rest_part = 'align' INT alloca_end
+    Symbol::Rule(112),
+    Symbol::Leaf(3),
+    Symbol::Word(65),
+    // 403: alloca_rest_part = 'addrspace' '(' INT ')' attached
+    Symbol::Rule(149),
+    Symbol::Word(46),
+    Symbol::Leaf(3),
+    Symbol::Word(45),
+    Symbol::Word(63),
+    // 404: alloca_rest_part = mdname mdref attached
+    Symbol::Rule(149),
+    Symbol::Rule(152),
+    Symbol::Rule(151),
+    // 405: alloca_end = ',' alloca_end_part
+    Symbol::Rule(113),
+    Symbol::Word(44),
+    // 406: alloca_end = nothing
+    // 407: alloca_end_part = 'addrspace' '(' INT ')' attached
+    Symbol::Rule(149),
+    Symbol::Word(46),
+    Symbol::Leaf(3),
+    Symbol::Word(45),
+    Symbol::Word(63),
+    // 408: alloca_end_part = mdname mdref attached
+    Symbol::Rule(149),
+    Symbol::Rule(152),
+    Symbol::Rule(151),
+    // 409: load = volatile type ',' typed align_attached
+    Symbol::Rule(136),
+    Symbol::Rule(87),
+    Symbol::Word(44),
+    Symbol::Rule(62),
+    Symbol::Rule(118),
+    // 410: load = 'atomic' atomic_load
+    Symbol::Rule(115),
+    Symbol::Word(69),
+    // 411: atomic_load = type ',' typed order align_attached
+    Symbol::Rule(136),
+    Symbol::Rule(124),
+    Symbol::Rule(87),
+    Symbol::Word(44),
+    Symbol::Rule(62),
+    // 412: store = volatile typed ',' typed align_attached
+    Symbol::Rule(136),
+    Symbol::Rule(87),
+    Symbol::Word(44),
+    Symbol::Rule(87),
+    Symbol::Rule(118),
+    // 413: store = 'atomic' atomic_store
+    Symbol::Rule(117),
+    Symbol::Word(69),
+    // 414: atomic_store = typed ',' typed order align_attached
+    Symbol::Rule(136),
+    Symbol::Rule(124),
+    Symbol::Rule(87),
+    Symbol::Word(44),
+    Symbol::Rule(87),
+    // 415: volatile = 'volatile'
+    Symbol::Word(125),
+    // 416: volatile = nothing
+    // 417: rmw_kind = RMW_KIND
+    Symbol::Leaf(39),
+    // 418: rmw_kind = CONST_SUM_RMW_KIND_SUM
+    Symbol::Leaf(31),
+    // 419: rmw_kind = BITS_RMW_KIND
+    Symbol::Leaf(36),
+    // 420: rmw_kind = 'or'
+    Symbol::Word(105),
+    // 421: address_and_value = typed ',' typed
+    Symbol::Rule(87),
+    Symbol::Word(44),
+    Symbol::Rule(87),
+    // 422: lost_weak = @'weak'
+    Symbol::Leaf(127),
+    // 423: lost_weak = nothing
+    // 424: exchange = typed ',' address_and_value exchange_order lost_align_attached
+    Symbol::Rule(138),
+    Symbol::Rule(123),
+    Symbol::Rule(120),
+    Symbol::Word(44),
+    Symbol::Rule(87),
+    // 425: exchange_order = scope ordering ordering
+    Symbol::Rule(126),
+    Symbol::Rule(126),
+    Symbol::Rule(125),
+    // 426: order = scope ordering
+    Symbol::Rule(126),
+    Symbol::Rule(125),
+    // 427: scope = 'syncscope' '(' STR ')'
+    Symbol::Word(46),
+    Symbol::Leaf(4),
+    Symbol::Word(45),
+    Symbol::Word(116),
+    // 428: scope = nothing
+    // 429: ordering = ORDERING
+    Symbol::Leaf(40),
+    // 430: gep_flags = gep_flag gep_flags
+    Symbol::Rule(127),
+    Symbol::Rule(128),
+    // 431: gep_flags = nothing
+    // 432: gep_flag = GEP_FLAG
+    Symbol::Leaf(41),
+    // 433: gep_flag = 'nuw'
+    Symbol::Word(103),
+    // 434: more_indices = ',' index_or_node
+    Symbol::Rule(130),
+    Symbol::Word(44),
+    // 435: more_indices = nothing
+    // 436: index_or_node = typed more_indices
+    Symbol::Rule(129),
+    Symbol::Rule(87),
+    // 437: index_or_node = mdname mdref attached
+    Symbol::Rule(149),
+    Symbol::Rule(152),
+    Symbol::Rule(151),
+    // 438: more_places = ',' place_or_node
+    Symbol::Rule(132),
+    Symbol::Word(44),
+    // 439: more_places = nothing
+    // 440: place_or_node = INT more_places
+    Symbol::Rule(131),
+    Symbol::Leaf(3),
+    // 441: place_or_node = mdname mdref attached
+    Symbol::Rule(149),
+    Symbol::Rule(152),
+    Symbol::Rule(151),
+    // 442: entry = '[' value ',' LOCAL ']'
+    Symbol::Word(48),
+    Symbol::Leaf(1),
+    Symbol::Word(44),
+    Symbol::Rule(86),
+    Symbol::Word(47),
+    // 443: more_entries = ',' entry_or_node
+    Symbol::Rule(135),
+    Symbol::Word(44),
+    // 444: more_entries = nothing
+    // 445: entry_or_node = entry more_entries
+    Symbol::Rule(134),
+    Symbol::Rule(133),
+    // 446: entry_or_node = mdname mdref attached
+    Symbol::Rule(149),
+    Symbol::Rule(152),
+    Symbol::Rule(151),
+    // 447: align_attached = ',' align_or_attached
+    Symbol::Rule(137),
+    Symbol::Word(44),
+    // 448: align_attached = nothing
+    // 449: align_or_attached = 'align' INT attached
+    Symbol::Rule(149),
+    Symbol::Leaf(3),
+    Symbol::Word(65),
+    // 450: align_or_attached = mdname mdref attached
+    Symbol::Rule(149),
+    Symbol::Rule(152),
+    Symbol::Rule(151),
+    // 451: lost_align_attached = ',' lost_align_or_attached
+    Symbol::Rule(139),
+    Symbol::Word(44),
+    // 452: lost_align_attached = nothing
+    // 453: lost_align_or_attached = @'align' INT attached
+    Symbol::Rule(149),
+    Symbol::Leaf(3),
+    Symbol::Leaf(65),
+    // 454: lost_align_or_attached = mdname mdref attached
+    Symbol::Rule(149),
+    Symbol::Rule(152),
+    Symbol::Rule(151),
+    // 455: tail = TAIL
+    Symbol::Leaf(42),
+    // 456: tail = nothing
+    // 457: call = lost_attrs called_type callee arguments call_attrs
+    Symbol::Rule(40),
+    Symbol::Rule(145),
+    Symbol::Rule(142),
+    Symbol::Rule(68),
+    Symbol::Rule(34),
+    // 458: callee = GLOBAL
+    Symbol::Leaf(0),
+    // 459: callee = LOCAL
+    Symbol::Leaf(1),
+    // 460: callee = 'asm' asm
+    Symbol::Rule(143),
+    Symbol::Word(68),
+    // 461: asm = 'sideeffect' asm_text
+    Symbol::Rule(144),
+    Symbol::Word(111),
+    // 462: asm = asm_text
+    Symbol::Rule(144),
+    // 463: asm_text = STR ',' STR
+    Symbol::Leaf(4),
+    Symbol::Word(44),
+    Symbol::Leaf(4),
+    // 464: arguments = '(' args ')'
+    Symbol::Word(46),
+    Symbol::Rule(146),
+    Symbol::Word(45),
+    // 465: args = arg more_args
+    Symbol::Rule(147),
+    Symbol::Rule(148),
+    // 466: args = nothing
+    // 467: more_args = ',' arg more_args
+    Symbol::Rule(147),
+    Symbol::Rule(148),
+    Symbol::Word(44),
+    // 468: more_args = nothing
+    // 469: arg = type lost_attrs value
+    Symbol::Rule(86),
+    Symbol::Rule(34),
+    Symbol::Rule(62),
+    // 470: attached = ',' mdname mdref attached
+    Symbol::Rule(149),
+    Symbol::Rule(152),
+    Symbol::Rule(151),
+    Symbol::Word(44),
+    // 471: attached = nothing
+    // 472: attachments = mdname mdref attachments
+    Symbol::Rule(150),
+    Symbol::Rule(152),
+    Symbol::Rule(151),
+    // 473: attachments = nothing
+    // 474: mdname = MDNAME
+    Symbol::Leaf(9),
+    // 475: mdname = @'!DICompileUnit'
+    Symbol::Leaf(56),
+    // 476: mdname = @'!DIFile'
+    Symbol::Leaf(57),
+    // 477: mdname = @'!DISubprogram'
+    Symbol::Leaf(61),
+    // 478: mdname = @'!DISubroutineType'
+    Symbol::Leaf(62),
+    // 479: mdname = @'!DILexicalBlock'
+    Symbol::Leaf(58),
+    // 480: mdname = @'!DILexicalBlockFile'
+    Symbol::Leaf(59),
+    // 481: mdname = @'!DILocation'
+    Symbol::Leaf(60),
+    // 482: mdref = MDNUM
+    Symbol::Leaf(8),
+    // 483: mdref = node
+    Symbol::Rule(155),
+    // 484: mdrefs = mdref more_mdrefs
+    Symbol::Rule(154),
+    Symbol::Rule(152),
+    // 485: mdrefs = nothing
+    // 486: more_mdrefs = ',' mdref more_mdrefs
+    Symbol::Rule(154),
+    Symbol::Rule(152),
+    Symbol::Word(44),
+    // 487: more_mdrefs = nothing
+    // 488: node = '!' '{' mdops '}'
+    Symbol::Word(50),
+    Symbol::Rule(157),
+    Symbol::Word(49),
+    Symbol::Word(53),
+    // 489: node = debug_node '(' fields ')'
+    Symbol::Word(46),
+    Symbol::Rule(160),
+    Symbol::Word(45),
+    Symbol::Rule(156),
+    // 490: node = MDNAME node_parens
+    Symbol::Rule(55),
+    Symbol::Leaf(9),
+    // 491: debug_node = '!DICompileUnit'
+    Symbol::Word(56),
+    // 492: debug_node = '!DIFile'
+    Symbol::Word(57),
+    // 493: debug_node = '!DISubprogram'
+    Symbol::Word(61),
+    // 494: debug_node = '!DISubroutineType'
+    Symbol::Word(62),
+    // 495: debug_node = '!DILexicalBlock'
+    Symbol::Word(58),
+    // 496: debug_node = '!DILexicalBlockFile'
+    Symbol::Word(59),
+    // 497: debug_node = '!DILocation'
+    Symbol::Word(60),
+    // 498: mdops = mdop more_mdops
+    Symbol::Rule(158),
+    Symbol::Rule(159),
+    // 499: mdops = nothing
+    // 500: more_mdops = ',' mdop more_mdops
+    Symbol::Rule(158),
+    Symbol::Rule(159),
+    Symbol::Word(44),
+    // 501: more_mdops = nothing
+    // 502: mdop = 'null'
+    Symbol::Word(102),
+    // 503: mdop = MDSTR
+    Symbol::Leaf(10),
+    // 504: mdop = mdref
+    Symbol::Rule(152),
+    // 505: mdop = tconst
+    Symbol::Rule(73),
+    // 506: fields = field more_fields
+    Symbol::Rule(161),
+    Symbol::Rule(162),
+    // 507: fields = nothing
+    // 508: more_fields = ',' field more_fields
+    Symbol::Rule(161),
+    Symbol::Rule(162),
+    Symbol::Word(44),
+    // 509: more_fields = nothing
+    // 510: field = LABEL field_value
+    Symbol::Rule(163),
+    Symbol::Leaf(2),
+    // 511: field_value = INT
+    Symbol::Leaf(3),
+    // 512: field_value = STR
+    Symbol::Leaf(4),
+    // 513: field_value = node_word more_words
+    Symbol::Rule(164),
+    Symbol::Rule(61),
+    // 514: field_value = mdref
+    Symbol::Rule(152),
+    // 515: more_words = '|' node_word more_words
+    Symbol::Rule(164),
+    Symbol::Rule(61),
+    Symbol::Word(54),
+    // 516: more_words = nothing
+];
+
+/// The alternatives of all rules.
+static ALTERNATIVES: [Alternative; 516] = [
+    // file
+    Alternative {
+        start: 0,
+        end: 2,
+        first: 0,
+        first_end: 16,
+    },
+    Alternative {
+        start: 2,
+        end: 2,
+        first: 16,
+        first_end: 16,
+    },
+    // item
+    Alternative {
+        start: 2,
+        end: 5,
+        first: 16,
+        first_end: 17,
+    },
+    Alternative {
+        start: 5,
+        end: 9,
+        first: 17,
+        first_end: 18,
+    },
+    Alternative {
+        start: 9,
+        end: 13,
+        first: 18,
+        first_end: 19,
+    },
+    Alternative {
+        start: 13,
+        end: 16,
+        first: 19,
+        first_end: 20,
+    },
+    Alternative {
+        start: 16,
+        end: 21,
+        first: 20,
+        first_end: 21,
+    },
+    Alternative {
+        start: 21,
+        end: 29,
+        first: 21,
+        first_end: 22,
+    },
+    Alternative {
+        start: 29,
+        end: 35,
+        first: 22,
+        first_end: 23,
+    },
+    Alternative {
+        start: 35,
+        end: 41,
+        first: 23,
+        first_end: 31,
+    },
+    Alternative {
+        start: 41,
+        end: 45,
+        first: 31,
+        first_end: 32,
+    },
+    // target
+    Alternative {
+        start: 45,
+        end: 46,
+        first: 32,
+        first_end: 33,
+    },
+    // distinct
+    Alternative {
+        start: 46,
+        end: 47,
+        first: 33,
+        first_end: 34,
+    },
+    Alternative {
+        start: 47,
+        end: 47,
+        first: 34,
+        first_end: 34,
+    },
+    // type_body
+    Alternative {
+        start: 47,
+        end: 48,
+        first: 34,
+        first_end: 35,
+    },
+    Alternative {
+        start: 48,
+        end: 51,
+        first: 35,
+        first_end: 36,
+    },
+    Alternative {
+        start: 51,
+        end: 56,
+        first: 36,
+        first_end: 37,
+    },
+    // body_linkage
+    Alternative {
+        start: 56,
+        end: 57,
+        first: 37,
+        first_end: 38,
+    },
+    Alternative {
+        start: 57,
+        end: 58,
+        first: 38,
+        first_end: 39,
+    },
+    // data_linkage
+    Alternative {
+        start: 58,
+        end: 59,
+        first: 39,
+        first_end: 41,
+    },
+    Alternative {
+        start: 59,
+        end: 60,
+        first: 41,
+        first_end: 42,
+    },
+    // outer_linkage
+    Alternative {
+        start: 60,
+        end: 61,
+        first: 42,
+        first_end: 43,
+    },
+    Alternative {
+        start: 61,
+        end: 62,
+        first: 43,
+        first_end: 44,
+    },
+    // define_linkage
+    Alternative {
+        start: 62,
+        end: 63,
+        first: 44,
+        first_end: 46,
+    },
+    Alternative {
+        start: 63,
+        end: 64,
+        first: 46,
+        first_end: 47,
+    },
+    Alternative {
+        start: 64,
+        end: 64,
+        first: 47,
+        first_end: 47,
+    },
+    // declare_linkage
+    Alternative {
+        start: 64,
+        end: 65,
+        first: 47,
+        first_end: 49,
+    },
+    Alternative {
+        start: 65,
+        end: 65,
+        first: 49,
+        first_end: 49,
+    },
+    // dso
+    Alternative {
+        start: 65,
+        end: 66,
+        first: 49,
+        first_end: 50,
+    },
+    Alternative {
+        start: 66,
+        end: 66,
+        first: 50,
+        first_end: 50,
+    },
+    // unnamed
+    Alternative {
+        start: 66,
+        end: 67,
+        first: 50,
+        first_end: 51,
+    },
+    Alternative {
+        start: 67,
+        end: 67,
+        first: 51,
+        first_end: 51,
+    },
+    // symbol
+    Alternative {
+        start: 67,
+        end: 71,
+        first: 51,
+        first_end: 53,
+    },
+    Alternative {
+        start: 71,
+        end: 75,
+        first: 53,
+        first_end: 56,
+    },
+    Alternative {
+        start: 75,
+        end: 78,
+        first: 56,
+        first_end: 61,
+    },
+    // outer_symbol
+    Alternative {
+        start: 78,
+        end: 82,
+        first: 61,
+        first_end: 63,
+    },
+    Alternative {
+        start: 82,
+        end: 84,
+        first: 63,
+        first_end: 64,
+    },
+    // inner_symbol
+    Alternative {
+        start: 84,
+        end: 88,
+        first: 64,
+        first_end: 66,
+    },
+    Alternative {
+        start: 88,
+        end: 90,
+        first: 66,
+        first_end: 67,
+    },
+    // storage
+    Alternative {
+        start: 90,
+        end: 91,
+        first: 67,
+        first_end: 68,
+    },
+    // space
+    Alternative {
+        start: 91,
+        end: 95,
+        first: 68,
+        first_end: 69,
+    },
+    Alternative {
+        start: 95,
+        end: 95,
+        first: 69,
+        first_end: 69,
+    },
+    // variable_tail
+    Alternative {
+        start: 95,
+        end: 97,
+        first: 69,
+        first_end: 70,
+    },
+    Alternative {
+        start: 97,
+        end: 98,
+        first: 70,
+        first_end: 71,
+    },
+    // align_or_node
+    Alternative {
+        start: 98,
+        end: 102,
+        first: 71,
+        first_end: 72,
+    },
+    Alternative {
+        start: 102,
+        end: 106,
+        first: 72,
+        first_end: 80,
+    },
+    // lost_groups
+    Alternative {
+        start: 106,
+        end: 108,
+        first: 80,
+        first_end: 81,
+    },
+    Alternative {
+        start: 108,
+        end: 108,
+        first: 81,
+        first_end: 81,
+    },
+    // alias
+    Alternative {
+        start: 108,
+        end: 111,
+        first: 81,
+        first_end: 90,
+    },
+    // head
+    Alternative {
+        start: 111,
+        end: 116,
+        first: 90,
+        first_end: 109,
+    },
+    // parameters
+    Alternative {
+        start: 116,
+        end: 121,
+        first: 109,
+        first_end: 110,
+    },
+    // params
+    Alternative {
+        start: 121,
+        end: 123,
+        first: 110,
+        first_end: 119,
+    },
+    Alternative {
+        start: 123,
+        end: 124,
+        first: 119,
+        first_end: 120,
+    },
+    Alternative {
+        start: 124,
+        end: 124,
+        first: 120,
+        first_end: 120,
+    },
+    // more_params
+    Alternative {
+        start: 124,
+        end: 126,
+        first: 120,
+        first_end: 121,
+    },
+    Alternative {
+        start: 126,
+        end: 126,
+        first: 121,
+        first_end: 121,
+    },
+    // param_or_dots
+    Alternative {
+        start: 126,
+        end: 128,
+        first: 121,
+        first_end: 130,
+    },
+    Alternative {
+        start: 128,
+        end: 129,
+        first: 130,
+        first_end: 131,
+    },
+    // param
+    Alternative {
+        start: 129,
+        end: 132,
+        first: 131,
+        first_end: 140,
+    },
+    // name
+    Alternative {
+        start: 132,
+        end: 133,
+        first: 140,
+        first_end: 141,
+    },
+    Alternative {
+        start: 133,
+        end: 133,
+        first: 141,
+        first_end: 141,
+    },
+    // body
+    Alternative {
+        start: 133,
+        end: 135,
+        first: 141,
+        first_end: 177,
+    },
+    // body_parts
+    Alternative {
+        start: 135,
+        end: 137,
+        first: 177,
+        first_end: 213,
+    },
+    Alternative {
+        start: 137,
+        end: 137,
+        first: 213,
+        first_end: 213,
+    },
+    // body_part
+    Alternative {
+        start: 137,
+        end: 138,
+        first: 213,
+        first_end: 214,
+    },
+    Alternative {
+        start: 138,
+        end: 139,
+        first: 214,
+        first_end: 249,
+    },
+    // line
+    Alternative {
+        start: 139,
+        end: 142,
+        first: 249,
+        first_end: 284,
+    },
+    // records
+    Alternative {
+        start: 142,
+        end: 145,
+        first: 284,
+        first_end: 285,
+    },
+    Alternative {
+        start: 145,
+        end: 145,
+        first: 285,
+        first_end: 285,
+    },
+    // result
+    Alternative {
+        start: 145,
+        end: 147,
+        first: 285,
+        first_end: 286,
+    },
+    Alternative {
+        start: 147,
+        end: 147,
+        first: 286,
+        first_end: 286,
+    },
+    // lost_attrs
+    Alternative {
+        start: 147,
+        end: 149,
+        first: 286,
+        first_end: 295,
+    },
+    Alternative {
+        start: 149,
+        end: 149,
+        first: 295,
+        first_end: 295,
+    },
+    // lost_attr
+    Alternative {
+        start: 149,
+        end: 150,
+        first: 295,
+        first_end: 296,
+    },
+    Alternative {
+        start: 150,
+        end: 151,
+        first: 296,
+        first_end: 297,
+    },
+    Alternative {
+        start: 151,
+        end: 152,
+        first: 297,
+        first_end: 298,
+    },
+    Alternative {
+        start: 152,
+        end: 154,
+        first: 298,
+        first_end: 299,
+    },
+    Alternative {
+        start: 154,
+        end: 158,
+        first: 299,
+        first_end: 300,
+    },
+    Alternative {
+        start: 158,
+        end: 160,
+        first: 300,
+        first_end: 301,
+    },
+    Alternative {
+        start: 160,
+        end: 162,
+        first: 301,
+        first_end: 302,
+    },
+    Alternative {
+        start: 162,
+        end: 166,
+        first: 302,
+        first_end: 303,
+    },
+    Alternative {
+        start: 166,
+        end: 168,
+        first: 303,
+        first_end: 304,
+    },
+    // text_value
+    Alternative {
+        start: 168,
+        end: 170,
+        first: 304,
+        first_end: 305,
+    },
+    Alternative {
+        start: 170,
+        end: 170,
+        first: 305,
+        first_end: 305,
+    },
+    // function_attrs
+    Alternative {
+        start: 170,
+        end: 172,
+        first: 305,
+        first_end: 319,
+    },
+    Alternative {
+        start: 172,
+        end: 172,
+        first: 319,
+        first_end: 319,
+    },
+    // function_attr
+    Alternative {
+        start: 172,
+        end: 173,
+        first: 319,
+        first_end: 320,
+    },
+    Alternative {
+        start: 173,
+        end: 174,
+        first: 320,
+        first_end: 332,
+    },
+    Alternative {
+        start: 174,
+        end: 176,
+        first: 332,
+        first_end: 333,
+    },
+    // align_value
+    Alternative {
+        start: 176,
+        end: 177,
+        first: 333,
+        first_end: 334,
+    },
+    Alternative {
+        start: 177,
+        end: 181,
+        first: 334,
+        first_end: 335,
+    },
+    // call_attrs
+    Alternative {
+        start: 181,
+        end: 183,
+        first: 335,
+        first_end: 336,
+    },
+    Alternative {
+        start: 183,
+        end: 185,
+        first: 336,
+        first_end: 349,
+    },
+    Alternative {
+        start: 185,
+        end: 185,
+        first: 349,
+        first_end: 349,
+    },
+    // group_attrs
+    Alternative {
+        start: 185,
+        end: 187,
+        first: 349,
+        first_end: 362,
+    },
+    Alternative {
+        start: 187,
+        end: 187,
+        first: 362,
+        first_end: 362,
+    },
+    // group_attr
+    Alternative {
+        start: 187,
+        end: 188,
+        first: 362,
+        first_end: 374,
+    },
+    Alternative {
+        start: 188,
+        end: 193,
+        first: 374,
+        first_end: 375,
+    },
+    // attr
+    Alternative {
+        start: 193,
+        end: 195,
+        first: 375,
+        first_end: 376,
+    },
+    Alternative {
+        start: 195,
+        end: 196,
+        first: 376,
+        first_end: 378,
+    },
+    Alternative {
+        start: 196,
+        end: 198,
+        first: 378,
+        first_end: 379,
+    },
+    Alternative {
+        start: 198,
+        end: 200,
+        first: 379,
+        first_end: 380,
+    },
+    Alternative {
+        start: 200,
+        end: 205,
+        first: 380,
+        first_end: 383,
+    },
+    Alternative {
+        start: 205,
+        end: 208,
+        first: 383,
+        first_end: 385,
+    },
+    Alternative {
+        start: 208,
+        end: 210,
+        first: 385,
+        first_end: 386,
+    },
+    Alternative {
+        start: 210,
+        end: 214,
+        first: 386,
+        first_end: 387,
+    },
+    // stack_value
+    Alternative {
+        start: 214,
+        end: 217,
+        first: 387,
+        first_end: 388,
+    },
+    Alternative {
+        start: 217,
+        end: 219,
+        first: 388,
+        first_end: 389,
+    },
+    // stack_number
+    Alternative {
+        start: 219,
+        end: 220,
+        first: 389,
+        first_end: 390,
+    },
+    Alternative {
+        start: 220,
+        end: 222,
+        first: 390,
+        first_end: 391,
+    },
+    // unwind_value
+    Alternative {
+        start: 222,
+        end: 225,
+        first: 391,
+        first_end: 392,
+    },
+    Alternative {
+        start: 225,
+        end: 225,
+        first: 392,
+        first_end: 392,
+    },
+    // unwind_number
+    Alternative {
+        start: 225,
+        end: 226,
+        first: 392,
+        first_end: 393,
+    },
+    Alternative {
+        start: 226,
+        end: 228,
+        first: 393,
+        first_end: 394,
+    },
+    // number_attr
+    Alternative {
+        start: 228,
+        end: 229,
+        first: 394,
+        first_end: 395,
+    },
+    Alternative {
+        start: 229,
+        end: 230,
+        first: 395,
+        first_end: 396,
+    },
+    Alternative {
+        start: 230,
+        end: 231,
+        first: 396,
+        first_end: 397,
+    },
+    // either_attr
+    Alternative {
+        start: 231,
+        end: 232,
+        first: 397,
+        first_end: 398,
+    },
+    Alternative {
+        start: 232,
+        end: 233,
+        first: 398,
+        first_end: 399,
+    },
+    // number_or_inside
+    Alternative {
+        start: 233,
+        end: 236,
+        first: 399,
+        first_end: 400,
+    },
+    Alternative {
+        start: 236,
+        end: 237,
+        first: 400,
+        first_end: 401,
+    },
+    Alternative {
+        start: 237,
+        end: 240,
+        first: 401,
+        first_end: 402,
+    },
+    Alternative {
+        start: 240,
+        end: 242,
+        first: 402,
+        first_end: 498,
+    },
+    Alternative {
+        start: 242,
+        end: 244,
+        first: 498,
+        first_end: 527,
+    },
+    // range_attr
+    Alternative {
+        start: 244,
+        end: 245,
+        first: 527,
+        first_end: 528,
+    },
+    // enum_attr
+    Alternative {
+        start: 245,
+        end: 246,
+        first: 528,
+        first_end: 529,
+    },
+    Alternative {
+        start: 246,
+        end: 247,
+        first: 529,
+        first_end: 530,
+    },
+    // parens
+    Alternative {
+        start: 247,
+        end: 249,
+        first: 530,
+        first_end: 531,
+    },
+    // inside
+    Alternative {
+        start: 249,
+        end: 250,
+        first: 531,
+        first_end: 532,
+    },
+    Alternative {
+        start: 250,
+        end: 253,
+        first: 532,
+        first_end: 533,
+    },
+    Alternative {
+        start: 253,
+        end: 255,
+        first: 533,
+        first_end: 630,
+    },
+    Alternative {
+        start: 255,
+        end: 257,
+        first: 630,
+        first_end: 659,
+    },
+    // node_parens
+    Alternative {
+        start: 257,
+        end: 259,
+        first: 659,
+        first_end: 660,
+    },
+    // node_inside
+    Alternative {
+        start: 259,
+        end: 260,
+        first: 660,
+        first_end: 661,
+    },
+    Alternative {
+        start: 260,
+        end: 263,
+        first: 661,
+        first_end: 662,
+    },
+    Alternative {
+        start: 263,
+        end: 265,
+        first: 662,
+        first_end: 760,
+    },
+    Alternative {
+        start: 265,
+        end: 267,
+        first: 760,
+        first_end: 789,
+    },
+    Alternative {
+        start: 267,
+        end: 269,
+        first: 789,
+        first_end: 790,
+    },
+    // plain
+    Alternative {
+        start: 269,
+        end: 270,
+        first: 790,
+        first_end: 791,
+    },
+    Alternative {
+        start: 270,
+        end: 271,
+        first: 791,
+        first_end: 792,
+    },
+    Alternative {
+        start: 271,
+        end: 272,
+        first: 792,
+        first_end: 793,
+    },
+    Alternative {
+        start: 272,
+        end: 273,
+        first: 793,
+        first_end: 794,
+    },
+    Alternative {
+        start: 273,
+        end: 274,
+        first: 794,
+        first_end: 795,
+    },
+    Alternative {
+        start: 274,
+        end: 275,
+        first: 795,
+        first_end: 796,
+    },
+    Alternative {
+        start: 275,
+        end: 276,
+        first: 796,
+        first_end: 797,
+    },
+    Alternative {
+        start: 276,
+        end: 277,
+        first: 797,
+        first_end: 798,
+    },
+    Alternative {
+        start: 277,
+        end: 278,
+        first: 798,
+        first_end: 799,
+    },
+    Alternative {
+        start: 278,
+        end: 279,
+        first: 799,
+        first_end: 800,
+    },
+    Alternative {
+        start: 279,
+        end: 280,
+        first: 800,
+        first_end: 808,
+    },
+    Alternative {
+        start: 280,
+        end: 281,
+        first: 808,
+        first_end: 819,
+    },
+    // mark
+    Alternative {
+        start: 281,
+        end: 282,
+        first: 819,
+        first_end: 820,
+    },
+    Alternative {
+        start: 282,
+        end: 283,
+        first: 820,
+        first_end: 821,
+    },
+    Alternative {
+        start: 283,
+        end: 284,
+        first: 821,
+        first_end: 822,
+    },
+    Alternative {
+        start: 284,
+        end: 285,
+        first: 822,
+        first_end: 823,
+    },
+    Alternative {
+        start: 285,
+        end: 286,
+        first: 823,
+        first_end: 824,
+    },
+    Alternative {
+        start: 286,
+        end: 287,
+        first: 824,
+        first_end: 825,
+    },
+    Alternative {
+        start: 287,
+        end: 288,
+        first: 825,
+        first_end: 826,
+    },
+    Alternative {
+        start: 288,
+        end: 289,
+        first: 826,
+        first_end: 827,
+    },
+    Alternative {
+        start: 289,
+        end: 290,
+        first: 827,
+        first_end: 828,
+    },
+    Alternative {
+        start: 290,
+        end: 291,
+        first: 828,
+        first_end: 829,
+    },
+    Alternative {
+        start: 291,
+        end: 292,
+        first: 829,
+        first_end: 830,
+    },
+    // most_words
+    Alternative {
+        start: 292,
+        end: 293,
+        first: 830,
+        first_end: 831,
+    },
+    Alternative {
+        start: 293,
+        end: 294,
+        first: 831,
+        first_end: 832,
+    },
+    Alternative {
+        start: 294,
+        end: 295,
+        first: 832,
+        first_end: 833,
+    },
+    Alternative {
+        start: 295,
+        end: 296,
+        first: 833,
+        first_end: 834,
+    },
+    Alternative {
+        start: 296,
+        end: 297,
+        first: 834,
+        first_end: 835,
+    },
+    Alternative {
+        start: 297,
+        end: 298,
+        first: 835,
+        first_end: 836,
+    },
+    Alternative {
+        start: 298,
+        end: 299,
+        first: 836,
+        first_end: 837,
+    },
+    Alternative {
+        start: 299,
+        end: 300,
+        first: 837,
+        first_end: 838,
+    },
+    Alternative {
+        start: 300,
+        end: 301,
+        first: 838,
+        first_end: 839,
+    },
+    Alternative {
+        start: 301,
+        end: 302,
+        first: 839,
+        first_end: 840,
+    },
+    Alternative {
+        start: 302,
+        end: 303,
+        first: 840,
+        first_end: 841,
+    },
+    Alternative {
+        start: 303,
+        end: 304,
+        first: 841,
+        first_end: 842,
+    },
+    Alternative {
+        start: 304,
+        end: 305,
+        first: 842,
+        first_end: 843,
+    },
+    Alternative {
+        start: 305,
+        end: 306,
+        first: 843,
+        first_end: 844,
+    },
+    Alternative {
+        start: 306,
+        end: 307,
+        first: 844,
+        first_end: 845,
+    },
+    Alternative {
+        start: 307,
+        end: 308,
+        first: 845,
+        first_end: 846,
+    },
+    Alternative {
+        start: 308,
+        end: 309,
+        first: 846,
+        first_end: 847,
+    },
+    Alternative {
+        start: 309,
+        end: 310,
+        first: 847,
+        first_end: 848,
+    },
+    Alternative {
+        start: 310,
+        end: 311,
+        first: 848,
+        first_end: 849,
+    },
+    Alternative {
+        start: 311,
+        end: 312,
+        first: 849,
+        first_end: 850,
+    },
+    Alternative {
+        start: 312,
+        end: 313,
+        first: 850,
+        first_end: 851,
+    },
+    Alternative {
+        start: 313,
+        end: 314,
+        first: 851,
+        first_end: 852,
+    },
+    Alternative {
+        start: 314,
+        end: 315,
+        first: 852,
+        first_end: 853,
+    },
+    Alternative {
+        start: 315,
+        end: 316,
+        first: 853,
+        first_end: 854,
+    },
+    Alternative {
+        start: 316,
+        end: 317,
+        first: 854,
+        first_end: 855,
+    },
+    Alternative {
+        start: 317,
+        end: 318,
+        first: 855,
+        first_end: 856,
+    },
+    Alternative {
+        start: 318,
+        end: 319,
+        first: 856,
+        first_end: 857,
+    },
+    Alternative {
+        start: 319,
+        end: 320,
+        first: 857,
+        first_end: 858,
+    },
+    Alternative {
+        start: 320,
+        end: 321,
+        first: 858,
+        first_end: 859,
+    },
+    Alternative {
+        start: 321,
+        end: 322,
+        first: 859,
+        first_end: 860,
+    },
+    Alternative {
+        start: 322,
+        end: 323,
+        first: 860,
+        first_end: 861,
+    },
+    Alternative {
+        start: 323,
+        end: 324,
+        first: 861,
+        first_end: 862,
+    },
+    Alternative {
+        start: 324,
+        end: 325,
+        first: 862,
+        first_end: 863,
+    },
+    Alternative {
+        start: 325,
+        end: 326,
+        first: 863,
+        first_end: 864,
+    },
+    Alternative {
+        start: 326,
+        end: 327,
+        first: 864,
+        first_end: 865,
+    },
+    Alternative {
+        start: 327,
+        end: 328,
+        first: 865,
+        first_end: 866,
+    },
+    Alternative {
+        start: 328,
+        end: 329,
+        first: 866,
+        first_end: 867,
+    },
+    Alternative {
+        start: 329,
+        end: 330,
+        first: 867,
+        first_end: 868,
+    },
+    Alternative {
+        start: 330,
+        end: 331,
+        first: 868,
+        first_end: 869,
+    },
+    Alternative {
+        start: 331,
+        end: 332,
+        first: 869,
+        first_end: 870,
+    },
+    Alternative {
+        start: 332,
+        end: 333,
+        first: 870,
+        first_end: 871,
+    },
+    Alternative {
+        start: 333,
+        end: 334,
+        first: 871,
+        first_end: 872,
+    },
+    Alternative {
+        start: 334,
+        end: 335,
+        first: 872,
+        first_end: 873,
+    },
+    Alternative {
+        start: 335,
+        end: 336,
+        first: 873,
+        first_end: 874,
+    },
+    Alternative {
+        start: 336,
+        end: 337,
+        first: 874,
+        first_end: 875,
+    },
+    Alternative {
+        start: 337,
+        end: 338,
+        first: 875,
+        first_end: 876,
+    },
+    Alternative {
+        start: 338,
+        end: 339,
+        first: 876,
+        first_end: 877,
+    },
+    Alternative {
+        start: 339,
+        end: 340,
+        first: 877,
+        first_end: 878,
+    },
+    Alternative {
+        start: 340,
+        end: 341,
+        first: 878,
+        first_end: 879,
+    },
+    Alternative {
+        start: 341,
+        end: 342,
+        first: 879,
+        first_end: 880,
+    },
+    Alternative {
+        start: 342,
+        end: 343,
+        first: 880,
+        first_end: 881,
+    },
+    Alternative {
+        start: 343,
+        end: 344,
+        first: 881,
+        first_end: 882,
+    },
+    Alternative {
+        start: 344,
+        end: 345,
+        first: 882,
+        first_end: 883,
+    },
+    Alternative {
+        start: 345,
+        end: 346,
+        first: 883,
+        first_end: 884,
+    },
+    Alternative {
+        start: 346,
+        end: 347,
+        first: 884,
+        first_end: 885,
+    },
+    Alternative {
+        start: 347,
+        end: 348,
+        first: 885,
+        first_end: 886,
+    },
+    Alternative {
+        start: 348,
+        end: 349,
+        first: 886,
+        first_end: 887,
+    },
+    Alternative {
+        start: 349,
+        end: 350,
+        first: 887,
+        first_end: 888,
+    },
+    Alternative {
+        start: 350,
+        end: 351,
+        first: 888,
+        first_end: 889,
+    },
+    Alternative {
+        start: 351,
+        end: 352,
+        first: 889,
+        first_end: 890,
+    },
+    Alternative {
+        start: 352,
+        end: 353,
+        first: 890,
+        first_end: 891,
+    },
+    Alternative {
+        start: 353,
+        end: 354,
+        first: 891,
+        first_end: 892,
+    },
+    Alternative {
+        start: 354,
+        end: 355,
+        first: 892,
+        first_end: 893,
+    },
+    Alternative {
+        start: 355,
+        end: 356,
+        first: 893,
+        first_end: 894,
+    },
+    Alternative {
+        start: 356,
+        end: 357,
+        first: 894,
+        first_end: 895,
+    },
+    Alternative {
+        start: 357,
+        end: 358,
+        first: 895,
+        first_end: 896,
+    },
+    Alternative {
+        start: 358,
+        end: 359,
+        first: 896,
+        first_end: 897,
+    },
+    Alternative {
+        start: 359,
+        end: 360,
+        first: 897,
+        first_end: 898,
+    },
+    Alternative {
+        start: 360,
+        end: 361,
+        first: 898,
+        first_end: 899,
+    },
+    Alternative {
+        start: 361,
+        end: 362,
+        first: 899,
+        first_end: 900,
+    },
+    Alternative {
+        start: 362,
+        end: 363,
+        first: 900,
+        first_end: 901,
+    },
+    Alternative {
+        start: 363,
+        end: 364,
+        first: 901,
+        first_end: 902,
+    },
+    Alternative {
+        start: 364,
+        end: 365,
+        first: 902,
+        first_end: 903,
+    },
+    Alternative {
+        start: 365,
+        end: 366,
+        first: 903,
+        first_end: 904,
+    },
+    Alternative {
+        start: 366,
+        end: 367,
+        first: 904,
+        first_end: 905,
+    },
+    Alternative {
+        start: 367,
+        end: 368,
+        first: 905,
+        first_end: 906,
+    },
+    Alternative {
+        start: 368,
+        end: 369,
+        first: 906,
+        first_end: 907,
+    },
+    Alternative {
+        start: 369,
+        end: 370,
+        first: 907,
+        first_end: 908,
+    },
+    Alternative {
+        start: 370,
+        end: 371,
+        first: 908,
+        first_end: 909,
+    },
+    Alternative {
+        start: 371,
+        end: 372,
+        first: 909,
+        first_end: 910,
+    },
+    Alternative {
+        start: 372,
+        end: 373,
+        first: 910,
+        first_end: 911,
+    },
+    Alternative {
+        start: 373,
+        end: 374,
+        first: 911,
+        first_end: 912,
+    },
+    Alternative {
+        start: 374,
+        end: 375,
+        first: 912,
+        first_end: 913,
+    },
+    Alternative {
+        start: 375,
+        end: 376,
+        first: 913,
+        first_end: 914,
+    },
+    Alternative {
+        start: 376,
+        end: 377,
+        first: 914,
+        first_end: 915,
+    },
+    Alternative {
+        start: 377,
+        end: 378,
+        first: 915,
+        first_end: 916,
+    },
+    Alternative {
+        start: 378,
+        end: 379,
+        first: 916,
+        first_end: 917,
+    },
+    Alternative {
+        start: 379,
+        end: 380,
+        first: 917,
+        first_end: 918,
+    },
+    Alternative {
+        start: 380,
+        end: 381,
+        first: 918,
+        first_end: 919,
+    },
+    Alternative {
+        start: 381,
+        end: 382,
+        first: 919,
+        first_end: 920,
+    },
+    Alternative {
+        start: 382,
+        end: 383,
+        first: 920,
+        first_end: 921,
+    },
+    Alternative {
+        start: 383,
+        end: 384,
+        first: 921,
+        first_end: 922,
+    },
+    Alternative {
+        start: 384,
+        end: 385,
+        first: 922,
+        first_end: 923,
+    },
+    Alternative {
+        start: 385,
+        end: 386,
+        first: 923,
+        first_end: 924,
+    },
+    Alternative {
+        start: 386,
+        end: 387,
+        first: 924,
+        first_end: 925,
+    },
+    Alternative {
+        start: 387,
+        end: 388,
+        first: 925,
+        first_end: 926,
+    },
+    // any_word
+    Alternative {
+        start: 388,
+        end: 389,
+        first: 926,
+        first_end: 1022,
+    },
+    Alternative {
+        start: 389,
+        end: 390,
+        first: 1022,
+        first_end: 1023,
+    },
+    // node_word
+    Alternative {
+        start: 390,
+        end: 391,
+        first: 1023,
+        first_end: 1120,
+    },
+    Alternative {
+        start: 391,
+        end: 392,
+        first: 1120,
+        first_end: 1121,
+    },
+    // type
+    Alternative {
+        start: 392,
+        end: 393,
+        first: 1121,
+        first_end: 1122,
+    },
+    Alternative {
+        start: 393,
+        end: 394,
+        first: 1122,
+        first_end: 1130,
+    },
+    // solid
+    Alternative {
+        start: 394,
+        end: 395,
+        first: 1130,
+        first_end: 1137,
+    },
+    Alternative {
+        start: 395,
+        end: 398,
+        first: 1137,
+        first_end: 1138,
+    },
+    // flat
+    Alternative {
+        start: 398,
+        end: 399,
+        first: 1138,
+        first_end: 1139,
+    },
+    Alternative {
+        start: 399,
+        end: 400,
+        first: 1139,
+        first_end: 1140,
+    },
+    Alternative {
+        start: 400,
+        end: 402,
+        first: 1140,
+        first_end: 1141,
+    },
+    Alternative {
+        start: 402,
+        end: 403,
+        first: 1141,
+        first_end: 1142,
+    },
+    Alternative {
+        start: 403,
+        end: 408,
+        first: 1142,
+        first_end: 1143,
+    },
+    Alternative {
+        start: 408,
+        end: 410,
+        first: 1143,
+        first_end: 1144,
+    },
+    Alternative {
+        start: 410,
+        end: 411,
+        first: 1144,
+        first_end: 1145,
+    },
+    // angle_type
+    Alternative {
+        start: 411,
+        end: 415,
+        first: 1145,
+        first_end: 1146,
+    },
+    Alternative {
+        start: 415,
+        end: 421,
+        first: 1146,
+        first_end: 1147,
+    },
+    Alternative {
+        start: 421,
+        end: 425,
+        first: 1147,
+        first_end: 1148,
+    },
+    // types
+    Alternative {
+        start: 425,
+        end: 427,
+        first: 1148,
+        first_end: 1157,
+    },
+    Alternative {
+        start: 427,
+        end: 427,
+        first: 1157,
+        first_end: 1157,
+    },
+    // more_types
+    Alternative {
+        start: 427,
+        end: 430,
+        first: 1157,
+        first_end: 1158,
+    },
+    Alternative {
+        start: 430,
+        end: 430,
+        first: 1158,
+        first_end: 1158,
+    },
+    // called_type
+    Alternative {
+        start: 430,
+        end: 432,
+        first: 1158,
+        first_end: 1167,
+    },
+    // signature
+    Alternative {
+        start: 432,
+        end: 435,
+        first: 1167,
+        first_end: 1168,
+    },
+    Alternative {
+        start: 435,
+        end: 435,
+        first: 1168,
+        first_end: 1168,
+    },
+    // argument_types
+    Alternative {
+        start: 435,
+        end: 437,
+        first: 1168,
+        first_end: 1177,
+    },
+    Alternative {
+        start: 437,
+        end: 438,
+        first: 1177,
+        first_end: 1178,
+    },
+    Alternative {
+        start: 438,
+        end: 438,
+        first: 1178,
+        first_end: 1178,
+    },
+    // more_argument_types
+    Alternative {
+        start: 438,
+        end: 440,
+        first: 1178,
+        first_end: 1179,
+    },
+    Alternative {
+        start: 440,
+        end: 440,
+        first: 1179,
+        first_end: 1179,
+    },
+    // type_or_dots
+    Alternative {
+        start: 440,
+        end: 442,
+        first: 1179,
+        first_end: 1188,
+    },
+    Alternative {
+        start: 442,
+        end: 443,
+        first: 1188,
+        first_end: 1189,
+    },
+    // tconst
+    Alternative {
+        start: 443,
+        end: 445,
+        first: 1189,
+        first_end: 1198,
+    },
+    // const
+    Alternative {
+        start: 445,
+        end: 446,
+        first: 1198,
+        first_end: 1199,
+    },
+    Alternative {
+        start: 446,
+        end: 447,
+        first: 1199,
+        first_end: 1200,
+    },
+    Alternative {
+        start: 447,
+        end: 448,
+        first: 1200,
+        first_end: 1201,
+    },
+    Alternative {
+        start: 448,
+        end: 451,
+        first: 1201,
+        first_end: 1202,
+    },
+    Alternative {
+        start: 451,
+        end: 454,
+        first: 1202,
+        first_end: 1203,
+    },
+    Alternative {
+        start: 454,
+        end: 456,
+        first: 1203,
+        first_end: 1204,
+    },
+    Alternative {
+        start: 456,
+        end: 457,
+        first: 1204,
+        first_end: 1205,
+    },
+    Alternative {
+        start: 457,
+        end: 461,
+        first: 1205,
+        first_end: 1206,
+    },
+    Alternative {
+        start: 461,
+        end: 462,
+        first: 1206,
+        first_end: 1207,
+    },
+    Alternative {
+        start: 462,
+        end: 468,
+        first: 1207,
+        first_end: 1208,
+    },
+    Alternative {
+        start: 468,
+        end: 474,
+        first: 1208,
+        first_end: 1210,
+    },
+    Alternative {
+        start: 474,
+        end: 481,
+        first: 1210,
+        first_end: 1211,
+    },
+    Alternative {
+        start: 481,
+        end: 490,
+        first: 1211,
+        first_end: 1212,
+    },
+    // const_angle
+    Alternative {
+        start: 490,
+        end: 492,
+        first: 1212,
+        first_end: 1213,
+    },
+    Alternative {
+        start: 492,
+        end: 496,
+        first: 1213,
+        first_end: 1220,
+    },
+    Alternative {
+        start: 496,
+        end: 500,
+        first: 1220,
+        first_end: 1221,
+    },
+    // const_brace
+    Alternative {
+        start: 500,
+        end: 502,
+        first: 1221,
+        first_end: 1222,
+    },
+    Alternative {
+        start: 502,
+        end: 504,
+        first: 1222,
+        first_end: 1231,
+    },
+    // const_empty
+    Alternative {
+        start: 504,
+        end: 505,
+        first: 1231,
+        first_end: 1232,
+    },
+    Alternative {
+        start: 505,
+        end: 508,
+        first: 1232,
+        first_end: 1246,
+    },
+    // const_braced
+    Alternative {
+        start: 508,
+        end: 512,
+        first: 1246,
+        first_end: 1260,
+    },
+    Alternative {
+        start: 512,
+        end: 517,
+        first: 1260,
+        first_end: 1262,
+    },
+    // const_cast
+    Alternative {
+        start: 517,
+        end: 518,
+        first: 1262,
+        first_end: 1263,
+    },
+    Alternative {
+        start: 518,
+        end: 519,
+        first: 1263,
+        first_end: 1264,
+    },
+    // const_sum
+    Alternative {
+        start: 519,
+        end: 520,
+        first: 1264,
+        first_end: 1265,
+    },
+    // tconsts
+    Alternative {
+        start: 520,
+        end: 522,
+        first: 1265,
+        first_end: 1274,
+    },
+    Alternative {
+        start: 522,
+        end: 522,
+        first: 1274,
+        first_end: 1274,
+    },
+    // more_tconsts
+    Alternative {
+        start: 522,
+        end: 525,
+        first: 1274,
+        first_end: 1275,
+    },
+    Alternative {
+        start: 525,
+        end: 525,
+        first: 1275,
+        first_end: 1275,
+    },
+    // in_range
+    Alternative {
+        start: 525,
+        end: 527,
+        first: 1275,
+        first_end: 1276,
+    },
+    Alternative {
+        start: 527,
+        end: 527,
+        first: 1276,
+        first_end: 1276,
+    },
+    // inst
+    Alternative {
+        start: 527,
+        end: 529,
+        first: 1276,
+        first_end: 1300,
+    },
+    Alternative {
+        start: 529,
+        end: 532,
+        first: 1300,
+        first_end: 1301,
+    },
+    Alternative {
+        start: 532,
+        end: 534,
+        first: 1301,
+        first_end: 1302,
+    },
+    Alternative {
+        start: 534,
+        end: 536,
+        first: 1302,
+        first_end: 1303,
+    },
+    Alternative {
+        start: 536,
+        end: 541,
+        first: 1303,
+        first_end: 1304,
+    },
+    Alternative {
+        start: 541,
+        end: 544,
+        first: 1304,
+        first_end: 1305,
+    },
+    Alternative {
+        start: 544,
+        end: 550,
+        first: 1305,
+        first_end: 1306,
+    },
+    Alternative {
+        start: 550,
+        end: 555,
+        first: 1306,
+        first_end: 1307,
+    },
+    Alternative {
+        start: 555,
+        end: 562,
+        first: 1307,
+        first_end: 1308,
+    },
+    Alternative {
+        start: 562,
+        end: 566,
+        first: 1308,
+        first_end: 1309,
+    },
+    // simple
+    Alternative {
+        start: 566,
+        end: 568,
+        first: 1309,
+        first_end: 1310,
+    },
+    Alternative {
+        start: 568,
+        end: 570,
+        first: 1310,
+        first_end: 1311,
+    },
+    Alternative {
+        start: 570,
+        end: 578,
+        first: 1311,
+        first_end: 1312,
+    },
+    Alternative {
+        start: 578,
+        end: 584,
+        first: 1312,
+        first_end: 1313,
+    },
+    Alternative {
+        start: 584,
+        end: 585,
+        first: 1313,
+        first_end: 1314,
+    },
+    Alternative {
+        start: 585,
+        end: 588,
+        first: 1314,
+        first_end: 1316,
+    },
+    Alternative {
+        start: 588,
+        end: 591,
+        first: 1316,
+        first_end: 1317,
+    },
+    Alternative {
+        start: 591,
+        end: 593,
+        first: 1317,
+        first_end: 1319,
+    },
+    Alternative {
+        start: 593,
+        end: 596,
+        first: 1319,
+        first_end: 1320,
+    },
+    Alternative {
+        start: 596,
+        end: 600,
+        first: 1320,
+        first_end: 1321,
+    },
+    Alternative {
+        start: 600,
+        end: 604,
+        first: 1321,
+        first_end: 1323,
+    },
+    Alternative {
+        start: 604,
+        end: 609,
+        first: 1323,
+        first_end: 1324,
+    },
+    Alternative {
+        start: 609,
+        end: 614,
+        first: 1324,
+        first_end: 1325,
+    },
+    Alternative {
+        start: 614,
+        end: 616,
+        first: 1325,
+        first_end: 1326,
+    },
+    Alternative {
+        start: 616,
+        end: 620,
+        first: 1326,
+        first_end: 1327,
+    },
+    Alternative {
+        start: 620,
+        end: 626,
+        first: 1327,
+        first_end: 1328,
+    },
+    Alternative {
+        start: 626,
+        end: 632,
+        first: 1328,
+        first_end: 1329,
+    },
+    Alternative {
+        start: 632,
+        end: 634,
+        first: 1329,
+        first_end: 1330,
+    },
+    Alternative {
+        start: 634,
+        end: 638,
+        first: 1330,
+        first_end: 1331,
+    },
+    Alternative {
+        start: 638,
+        end: 641,
+        first: 1331,
+        first_end: 1333,
+    },
+    // value
+    Alternative {
+        start: 641,
+        end: 642,
+        first: 1333,
+        first_end: 1334,
+    },
+    Alternative {
+        start: 642,
+        end: 643,
+        first: 1334,
+        first_end: 1348,
+    },
+    // typed
+    Alternative {
+        start: 643,
+        end: 645,
+        first: 1348,
+        first_end: 1357,
+    },
+    // pair
+    Alternative {
+        start: 645,
+        end: 649,
+        first: 1357,
+        first_end: 1366,
+    },
+    // ret
+    Alternative {
+        start: 649,
+        end: 650,
+        first: 1366,
+        first_end: 1367,
+    },
+    Alternative {
+        start: 650,
+        end: 652,
+        first: 1367,
+        first_end: 1375,
+    },
+    // br
+    Alternative {
+        start: 652,
+        end: 654,
+        first: 1375,
+        first_end: 1376,
+    },
+    Alternative {
+        start: 654,
+        end: 662,
+        first: 1376,
+        first_end: 1377,
+    },
+    // cases
+    Alternative {
+        start: 662,
+        end: 667,
+        first: 1377,
+        first_end: 1386,
+    },
+    Alternative {
+        start: 667,
+        end: 667,
+        first: 1386,
+        first_end: 1386,
+    },
+    // labels
+    Alternative {
+        start: 667,
+        end: 670,
+        first: 1386,
+        first_end: 1387,
+    },
+    Alternative {
+        start: 670,
+        end: 670,
+        first: 1387,
+        first_end: 1387,
+    },
+    // more_labels
+    Alternative {
+        start: 670,
+        end: 674,
+        first: 1387,
+        first_end: 1388,
+    },
+    Alternative {
+        start: 674,
+        end: 674,
+        first: 1388,
+        first_end: 1388,
+    },
+    // sum
+    Alternative {
+        start: 674,
+        end: 675,
+        first: 1388,
+        first_end: 1389,
+    },
+    Alternative {
+        start: 675,
+        end: 676,
+        first: 1389,
+        first_end: 1390,
+    },
+    // wraps
+    Alternative {
+        start: 676,
+        end: 678,
+        first: 1390,
+        first_end: 1391,
+    },
+    Alternative {
+        start: 678,
+        end: 679,
+        first: 1391,
+        first_end: 1392,
+    },
+    Alternative {
+        start: 679,
+        end: 679,
+        first: 1392,
+        first_end: 1392,
+    },
+    // nsw
+    Alternative {
+        start: 679,
+        end: 680,
+        first: 1392,
+        first_end: 1393,
+    },
+    Alternative {
+        start: 680,
+        end: 680,
+        first: 1393,
+        first_end: 1393,
+    },
+    // lost_wraps
+    Alternative {
+        start: 680,
+        end: 682,
+        first: 1393,
+        first_end: 1394,
+    },
+    Alternative {
+        start: 682,
+        end: 684,
+        first: 1394,
+        first_end: 1395,
+    },
+    Alternative {
+        start: 684,
+        end: 684,
+        first: 1395,
+        first_end: 1395,
+    },
+    // lost_nsw
+    Alternative {
+        start: 684,
+        end: 685,
+        first: 1395,
+        first_end: 1396,
+    },
+    Alternative {
+        start: 685,
+        end: 685,
+        first: 1396,
+        first_end: 1396,
+    },
+    // lost_nuw
+    Alternative {
+        start: 685,
+        end: 686,
+        first: 1396,
+        first_end: 1397,
+    },
+    Alternative {
+        start: 686,
+        end: 686,
+        first: 1397,
+        first_end: 1397,
+    },
+    // quotient
+    Alternative {
+        start: 686,
+        end: 687,
+        first: 1397,
+        first_end: 1398,
+    },
+    // lost_exact
+    Alternative {
+        start: 687,
+        end: 688,
+        first: 1398,
+        first_end: 1399,
+    },
+    Alternative {
+        start: 688,
+        end: 688,
+        first: 1399,
+        first_end: 1399,
+    },
+    // bits
+    Alternative {
+        start: 688,
+        end: 689,
+        first: 1399,
+        first_end: 1400,
+    },
+    Alternative {
+        start: 689,
+        end: 690,
+        first: 1400,
+        first_end: 1401,
+    },
+    // lost_disjoint
+    Alternative {
+        start: 690,
+        end: 691,
+        first: 1401,
+        first_end: 1402,
+    },
+    Alternative {
+        start: 691,
+        end: 691,
+        first: 1402,
+        first_end: 1402,
+    },
+    // lost_samesign
+    Alternative {
+        start: 691,
+        end: 692,
+        first: 1402,
+        first_end: 1403,
+    },
+    Alternative {
+        start: 692,
+        end: 692,
+        first: 1403,
+        first_end: 1403,
+    },
+    // predicate
+    Alternative {
+        start: 692,
+        end: 693,
+        first: 1403,
+        first_end: 1404,
+    },
+    // cast
+    Alternative {
+        start: 693,
+        end: 694,
+        first: 1404,
+        first_end: 1405,
+    },
+    Alternative {
+        start: 694,
+        end: 695,
+        first: 1405,
+        first_end: 1406,
+    },
+    // nneg
+    Alternative {
+        start: 695,
+        end: 696,
+        first: 1406,
+        first_end: 1407,
+    },
+    Alternative {
+        start: 696,
+        end: 696,
+        first: 1407,
+        first_end: 1407,
+    },
+    // alloca_tail
+    Alternative {
+        start: 696,
+        end: 698,
+        first: 1407,
+        first_end: 1408,
+    },
+    Alternative {
+        start: 698,
+        end: 698,
+        first: 1408,
+        first_end: 1408,
+    },
+    // alloca_part
+    Alternative {
+        start: 698,
+        end: 700,
+        first: 1408,
+        first_end: 1417,
+    },
+    Alternative {
+        start: 700,
+        end: 703,
+        first: 1417,
+        first_end: 1418,
+    },
+    Alternative {
+        start: 703,
+        end: 708,
+        first: 1418,
+        first_end: 1419,
+    },
+    Alternative {
+        start: 708,
+        end: 711,
+        first: 1419,
+        first_end: 1427,
+    },
+    // alloca_rest
+    Alternative {
+        start: 711,
+        end: 713,
+        first: 1427,
+        first_end: 1428,
+    },
+    Alternative {
+        start: 713,
+        end: 713,
+        first: 1428,
+        first_end: 1428,
+    },
+    // alloca_rest_part
+    Alternative {
+        start: 713,
+        end: 716,
+        first: 1428,
+        first_end: 1429,
+    },
+    Alternative {
+        start: 716,
+        end: 721,
+        first: 1429,
+        first_end: 1430,
+    },
+    Alternative {
+        start: 721,
+        end: 724,
+        first: 1430,
+        first_end: 1438,
+    },
+    // alloca_end
+    Alternative {
+        start: 724,
+        end: 726,
+        first: 1438,
+        first_end: 1439,
+    },
+    Alternative {
+        start: 726,
+        end: 726,
+        first: 1439,
+        first_end: 1439,
+    },
+    // alloca_end_part
+    Alternative {
+        start: 726,
+        end: 731,
+        first: 1439,
+        first_end: 1440,
+    },
+    Alternative {
+        start: 731,
+        end: 734,
+        first: 1440,
+        first_end: 1448,
+    },
+    // load
+    Alternative {
+        start: 734,
+        end: 739,
+        first: 1448,
+        first_end: 1458,
+    },
+    Alternative {
+        start: 739,
+        end: 741,
+        first: 1458,
+        first_end: 1459,
+    },
+    // atomic_load
+    Alternative {
+        start: 741,
+        end: 746,
+        first: 1459,
+        first_end: 1468,
+    },
+    // store
+    Alternative {
+        start: 746,
+        end: 751,
+        first: 1468,
+        first_end: 1478,
+    },
+    Alternative {
+        start: 751,
+        end: 753,
+        first: 1478,
+        first_end: 1479,
+    },
+    // atomic_store
+    Alternative {
+        start: 753,
+        end: 758,
+        first: 1479,
+        first_end: 1488,
+    },
+    // volatile
+    Alternative {
+        start: 758,
+        end: 759,
+        first: 1488,
+        first_end: 1489,
+    },
+    Alternative {
+        start: 759,
+        end: 759,
+        first: 1489,
+        first_end: 1489,
+    },
+    // rmw_kind
+    Alternative {
+        start: 759,
+        end: 760,
+        first: 1489,
+        first_end: 1490,
+    },
+    Alternative {
+        start: 760,
+        end: 761,
+        first: 1490,
+        first_end: 1491,
+    },
+    Alternative {
+        start: 761,
+        end: 762,
+        first: 1491,
+        first_end: 1492,
+    },
+    Alternative {
+        start: 762,
+        end: 763,
+        first: 1492,
+        first_end: 1493,
+    },
+    // address_and_value
+    Alternative {
+        start: 763,
+        end: 766,
+        first: 1493,
+        first_end: 1502,
+    },
+    // lost_weak
+    Alternative {
+        start: 766,
+        end: 767,
+        first: 1502,
+        first_end: 1503,
+    },
+    Alternative {
+        start: 767,
+        end: 767,
+        first: 1503,
+        first_end: 1503,
+    },
+    // exchange
+    Alternative {
+        start: 767,
+        end: 772,
+        first: 1503,
+        first_end: 1512,
+    },
+    // exchange_order
+    Alternative {
+        start: 772,
+        end: 775,
+        first: 1512,
+        first_end: 1514,
+    },
+    // order
+    Alternative {
+        start: 775,
+        end: 777,
+        first: 1514,
+        first_end: 1516,
+    },
+    // scope
+    Alternative {
+        start: 777,
+        end: 781,
+        first: 1516,
+        first_end: 1517,
+    },
+    Alternative {
+        start: 781,
+        end: 781,
+        first: 1517,
+        first_end: 1517,
+    },
+    // ordering
+    Alternative {
+        start: 781,
+        end: 782,
+        first: 1517,
+        first_end: 1518,
+    },
+    // gep_flags
+    Alternative {
+        start: 782,
+        end: 784,
+        first: 1518,
+        first_end: 1520,
+    },
+    Alternative {
+        start: 784,
+        end: 784,
+        first: 1520,
+        first_end: 1520,
+    },
+    // gep_flag
+    Alternative {
+        start: 784,
+        end: 785,
+        first: 1520,
+        first_end: 1521,
+    },
+    Alternative {
+        start: 785,
+        end: 786,
+        first: 1521,
+        first_end: 1522,
+    },
+    // more_indices
+    Alternative {
+        start: 786,
+        end: 788,
+        first: 1522,
+        first_end: 1523,
+    },
+    Alternative {
+        start: 788,
+        end: 788,
+        first: 1523,
+        first_end: 1523,
+    },
+    // index_or_node
+    Alternative {
+        start: 788,
+        end: 790,
+        first: 1523,
+        first_end: 1532,
+    },
+    Alternative {
+        start: 790,
+        end: 793,
+        first: 1532,
+        first_end: 1540,
+    },
+    // more_places
+    Alternative {
+        start: 793,
+        end: 795,
+        first: 1540,
+        first_end: 1541,
+    },
+    Alternative {
+        start: 795,
+        end: 795,
+        first: 1541,
+        first_end: 1541,
+    },
+    // place_or_node
+    Alternative {
+        start: 795,
+        end: 797,
+        first: 1541,
+        first_end: 1542,
+    },
+    Alternative {
+        start: 797,
+        end: 800,
+        first: 1542,
+        first_end: 1550,
+    },
+    // entry
+    Alternative {
+        start: 800,
+        end: 805,
+        first: 1550,
+        first_end: 1551,
+    },
+    // more_entries
+    Alternative {
+        start: 805,
+        end: 807,
+        first: 1551,
+        first_end: 1552,
+    },
+    Alternative {
+        start: 807,
+        end: 807,
+        first: 1552,
+        first_end: 1552,
+    },
+    // entry_or_node
+    Alternative {
+        start: 807,
+        end: 809,
+        first: 1552,
+        first_end: 1553,
+    },
+    Alternative {
+        start: 809,
+        end: 812,
+        first: 1553,
+        first_end: 1561,
+    },
+    // align_attached
+    Alternative {
+        start: 812,
+        end: 814,
+        first: 1561,
+        first_end: 1562,
+    },
+    Alternative {
+        start: 814,
+        end: 814,
+        first: 1562,
+        first_end: 1562,
+    },
+    // align_or_attached
+    Alternative {
+        start: 814,
+        end: 817,
+        first: 1562,
+        first_end: 1563,
+    },
+    Alternative {
+        start: 817,
+        end: 820,
+        first: 1563,
+        first_end: 1571,
+    },
+    // lost_align_attached
+    Alternative {
+        start: 820,
+        end: 822,
+        first: 1571,
+        first_end: 1572,
+    },
+    Alternative {
+        start: 822,
+        end: 822,
+        first: 1572,
+        first_end: 1572,
+    },
+    // lost_align_or_attached
+    Alternative {
+        start: 822,
+        end: 825,
+        first: 1572,
+        first_end: 1573,
+    },
+    Alternative {
+        start: 825,
+        end: 828,
+        first: 1573,
+        first_end: 1581,
+    },
+    // tail
+    Alternative {
+        start: 828,
+        end: 829,
+        first: 1581,
+        first_end: 1582,
+    },
+    Alternative {
+        start: 829,
+        end: 829,
+        first: 1582,
+        first_end: 1582,
+    },
+    // call
+    Alternative {
+        start: 829,
+        end: 834,
+        first: 1582,
+        first_end: 1600,
+    },
+    // callee
+    Alternative {
+        start: 834,
+        end: 835,
+        first: 1600,
+        first_end: 1601,
+    },
+    Alternative {
+        start: 835,
+        end: 836,
+        first: 1601,
+        first_end: 1602,
+    },
+    Alternative {
+        start: 836,
+        end: 838,
+        first: 1602,
+        first_end: 1603,
+    },
+    // asm
+    Alternative {
+        start: 838,
+        end: 840,
+        first: 1603,
+        first_end: 1604,
+    },
+    Alternative {
+        start: 840,
+        end: 841,
+        first: 1604,
+        first_end: 1605,
+    },
+    // asm_text
+    Alternative {
+        start: 841,
+        end: 844,
+        first: 1605,
+        first_end: 1606,
+    },
+    // arguments
+    Alternative {
+        start: 844,
+        end: 847,
+        first: 1606,
+        first_end: 1607,
+    },
+    // args
+    Alternative {
+        start: 847,
+        end: 849,
+        first: 1607,
+        first_end: 1616,
+    },
+    Alternative {
+        start: 849,
+        end: 849,
+        first: 1616,
+        first_end: 1616,
+    },
+    // more_args
+    Alternative {
+        start: 849,
+        end: 852,
+        first: 1616,
+        first_end: 1617,
+    },
+    Alternative {
+        start: 852,
+        end: 852,
+        first: 1617,
+        first_end: 1617,
+    },
+    // arg
+    Alternative {
+        start: 852,
+        end: 855,
+        first: 1617,
+        first_end: 1626,
+    },
+    // attached
+    Alternative {
+        start: 855,
+        end: 859,
+        first: 1626,
+        first_end: 1627,
+    },
+    Alternative {
+        start: 859,
+        end: 859,
+        first: 1627,
+        first_end: 1627,
+    },
+    // attachments
+    Alternative {
+        start: 859,
+        end: 862,
+        first: 1627,
+        first_end: 1635,
+    },
+    Alternative {
+        start: 862,
+        end: 862,
+        first: 1635,
+        first_end: 1635,
+    },
+    // mdname
+    Alternative {
+        start: 862,
+        end: 863,
+        first: 1635,
+        first_end: 1636,
+    },
+    Alternative {
+        start: 863,
+        end: 864,
+        first: 1636,
+        first_end: 1637,
+    },
+    Alternative {
+        start: 864,
+        end: 865,
+        first: 1637,
+        first_end: 1638,
+    },
+    Alternative {
+        start: 865,
+        end: 866,
+        first: 1638,
+        first_end: 1639,
+    },
+    Alternative {
+        start: 866,
+        end: 867,
+        first: 1639,
+        first_end: 1640,
+    },
+    Alternative {
+        start: 867,
+        end: 868,
+        first: 1640,
+        first_end: 1641,
+    },
+    Alternative {
+        start: 868,
+        end: 869,
+        first: 1641,
+        first_end: 1642,
+    },
+    Alternative {
+        start: 869,
+        end: 870,
+        first: 1642,
+        first_end: 1643,
+    },
+    // mdref
+    Alternative {
+        start: 870,
+        end: 871,
+        first: 1643,
+        first_end: 1644,
+    },
+    Alternative {
+        start: 871,
+        end: 872,
+        first: 1644,
+        first_end: 1653,
+    },
+    // mdrefs
+    Alternative {
+        start: 872,
+        end: 874,
+        first: 1653,
+        first_end: 1663,
+    },
+    Alternative {
+        start: 874,
+        end: 874,
+        first: 1663,
+        first_end: 1663,
+    },
+    // more_mdrefs
+    Alternative {
+        start: 874,
+        end: 877,
+        first: 1663,
+        first_end: 1664,
+    },
+    Alternative {
+        start: 877,
+        end: 877,
+        first: 1664,
+        first_end: 1664,
+    },
+    // node
+    Alternative {
+        start: 877,
+        end: 881,
+        first: 1664,
+        first_end: 1665,
+    },
+    Alternative {
+        start: 881,
+        end: 885,
+        first: 1665,
+        first_end: 1672,
+    },
+    Alternative {
+        start: 885,
+        end: 887,
+        first: 1672,
+        first_end: 1673,
+    },
+    // debug_node
+    Alternative {
+        start: 887,
+        end: 888,
+        first: 1673,
+        first_end: 1674,
+    },
+    Alternative {
+        start: 888,
+        end: 889,
+        first: 1674,
+        first_end: 1675,
+    },
+    Alternative {
+        start: 889,
+        end: 890,
+        first: 1675,
+        first_end: 1676,
+    },
+    Alternative {
+        start: 890,
+        end: 891,
+        first: 1676,
+        first_end: 1677,
+    },
+    Alternative {
+        start: 891,
+        end: 892,
+        first: 1677,
+        first_end: 1678,
+    },
+    Alternative {
+        start: 892,
+        end: 893,
+        first: 1678,
+        first_end: 1679,
+    },
+    Alternative {
+        start: 893,
+        end: 894,
+        first: 1679,
+        first_end: 1680,
+    },
+    // mdops
+    Alternative {
+        start: 894,
+        end: 896,
+        first: 1680,
+        first_end: 1701,
+    },
+    Alternative {
+        start: 896,
+        end: 896,
+        first: 1701,
+        first_end: 1701,
+    },
+    // more_mdops
+    Alternative {
+        start: 896,
+        end: 899,
+        first: 1701,
+        first_end: 1702,
+    },
+    Alternative {
+        start: 899,
+        end: 899,
+        first: 1702,
+        first_end: 1702,
+    },
+    // mdop
+    Alternative {
+        start: 899,
+        end: 900,
+        first: 1702,
+        first_end: 1703,
+    },
+    Alternative {
+        start: 900,
+        end: 901,
+        first: 1703,
+        first_end: 1704,
+    },
+    Alternative {
+        start: 901,
+        end: 902,
+        first: 1704,
+        first_end: 1714,
+    },
+    Alternative {
+        start: 902,
+        end: 903,
+        first: 1714,
+        first_end: 1723,
+    },
+    // fields
+    Alternative {
+        start: 903,
+        end: 905,
+        first: 1723,
+        first_end: 1724,
+    },
+    Alternative {
+        start: 905,
+        end: 905,
+        first: 1724,
+        first_end: 1724,
+    },
+    // more_fields
+    Alternative {
+        start: 905,
+        end: 908,
+        first: 1724,
+        first_end: 1725,
+    },
+    Alternative {
+        start: 908,
+        end: 908,
+        first: 1725,
+        first_end: 1725,
+    },
+    // field
+    Alternative {
+        start: 908,
+        end: 910,
+        first: 1725,
+        first_end: 1726,
+    },
+    // field_value
+    Alternative {
+        start: 910,
+        end: 911,
+        first: 1726,
+        first_end: 1727,
+    },
+    Alternative {
+        start: 911,
+        end: 912,
+        first: 1727,
+        first_end: 1728,
+    },
+    Alternative {
+        start: 912,
+        end: 914,
+        first: 1728,
+        first_end: 1826,
+    },
+    Alternative {
+        start: 914,
+        end: 915,
+        first: 1826,
+        first_end: 1836,
+    },
+    // more_words
+    Alternative {
+        start: 915,
+        end: 918,
+        first: 1836,
+        first_end: 1837,
+    },
+    Alternative {
+        start: 918,
+        end: 918,
+        first: 1837,
+        first_end: 1837,
+    },
+];
+
+/// The rules.
+static ROWS: [Row; 165] = [
+    // 0: file
+    Row {
+        start: 0,
+        end: 2,
+        more: 0,
+        more_end: 35,
+        nothing: 2,
+        height: 3,
+    },
+    // 1: item
+    Row {
+        start: 2,
+        end: 11,
+        more: 35,
+        more_end: 54,
+        nothing: 0,
+        height: 2,
+    },
+    // 2: target
+    Row {
+        start: 11,
+        end: 12,
+        more: 54,
+        more_end: 54,
+        nothing: 0,
+        height: 1,
+    },
+    // 3: distinct
+    Row {
+        start: 12,
+        end: 14,
+        more: 54,
+        more_end: 55,
+        nothing: 14,
+        height: 1,
+    },
+    // 4: type_body
+    Row {
+        start: 14,
+        end: 17,
+        more: 55,
+        more_end: 55,
+        nothing: 0,
+        height: 1,
+    },
+    // 5: body_linkage
+    Row {
+        start: 17,
+        end: 19,
+        more: 55,
+        more_end: 55,
+        nothing: 0,
+        height: 1,
+    },
+    // 6: data_linkage
+    Row {
+        start: 19,
+        end: 21,
+        more: 55,
+        more_end: 55,
+        nothing: 0,
+        height: 2,
+    },
+    // 7: outer_linkage
+    Row {
+        start: 21,
+        end: 23,
+        more: 55,
+        more_end: 55,
+        nothing: 0,
+        height: 1,
+    },
+    // 8: define_linkage
+    Row {
+        start: 23,
+        end: 26,
+        more: 55,
+        more_end: 58,
+        nothing: 26,
+        height: 2,
+    },
+    // 9: declare_linkage
+    Row {
+        start: 26,
+        end: 28,
+        more: 58,
+        more_end: 60,
+        nothing: 28,
+        height: 2,
+    },
+    // 10: dso
+    Row {
+        start: 28,
+        end: 30,
+        more: 60,
+        more_end: 61,
+        nothing: 30,
+        height: 1,
+    },
+    // 11: unnamed
+    Row {
+        start: 30,
+        end: 32,
+        more: 61,
+        more_end: 62,
+        nothing: 32,
+        height: 1,
+    },
+    // 12: symbol
+    Row {
+        start: 32,
+        end: 35,
+        more: 62,
+        more_end: 65,
+        nothing: 0,
+        height: 6,
+    },
+    // 13: outer_symbol
+    Row {
+        start: 35,
+        end: 37,
+        more: 65,
+        more_end: 68,
+        nothing: 0,
+        height: 3,
+    },
+    // 14: inner_symbol
+    Row {
+        start: 37,
+        end: 39,
+        more: 68,
+        more_end: 70,
+        nothing: 0,
+        height: 3,
+    },
+    // 15: storage
+    Row {
+        start: 39,
+        end: 40,
+        more: 70,
+        more_end: 70,
+        nothing: 0,
+        height: 1,
+    },
+    // 16: space
+    Row {
+        start: 40,
+        end: 42,
+        more: 70,
+        more_end: 71,
+        nothing: 42,
+        height: 1,
+    },
+    // 17: variable_tail
+    Row {
+        start: 42,
+        end: 44,
+        more: 71,
+        more_end: 73,
+        nothing: 44,
+        height: 2,
+    },
+    // 18: align_or_node
+    Row {
+        start: 44,
+        end: 46,
+        more: 73,
+        more_end: 75,
+        nothing: 0,
+        height: 2,
+    },
+    // 19: lost_groups
+    Row {
+        start: 46,
+        end: 48,
+        more: 75,
+        more_end: 76,
+        nothing: 48,
+        height: 1,
+    },
+    // 20: alias
+    Row {
+        start: 48,
+        end: 49,
+        more: 76,
+        more_end: 76,
+        nothing: 0,
+        height: 5,
+    },
+    // 21: head
+    Row {
+        start: 49,
+        end: 50,
+        more: 76,
+        more_end: 78,
+        nothing: 0,
+        height: 7,
+    },
+    // 22: parameters
+    Row {
+        start: 50,
+        end: 51,
+        more: 78,
+        more_end: 80,
+        nothing: 0,
+        height: 1,
+    },
+    // 23: params
+    Row {
+        start: 51,
+        end: 54,
+        more: 80,
+        more_end: 102,
+        nothing: 54,
+        height: 5,
+    },
+    // 24: more_params
+    Row {
+        start: 54,
+        end: 56,
+        more: 102,
+        more_end: 115,
+        nothing: 56,
+        height: 1,
+    },
+    // 25: param_or_dots
+    Row {
+        start: 56,
+        end: 58,
+        more: 115,
+        more_end: 128,
+        nothing: 0,
+        height: 5,
+    },
+    // 26: param
+    Row {
+        start: 58,
+        end: 59,
+        more: 128,
+        more_end: 140,
+        nothing: 0,
+        height: 4,
+    },
+    // 27: name
+    Row {
+        start: 59,
+        end: 61,
+        more: 140,
+        more_end: 141,
+        nothing: 61,
+        height: 1,
+    },
+    // 28: body
+    Row {
+        start: 61,
+        end: 62,
+        more: 141,
+        more_end: 195,
+        nothing: 0,
+        height: 8,
+    },
+    // 29: body_parts
+    Row {
+        start: 62,
+        end: 64,
+        more: 195,
+        more_end: 249,
+        nothing: 64,
+        height: 8,
+    },
+    // 30: body_part
+    Row {
+        start: 64,
+        end: 66,
+        more: 249,
+        more_end: 267,
+        nothing: 0,
+        height: 7,
+    },
+    // 31: line
+    Row {
+        start: 66,
+        end: 67,
+        more: 267,
+        more_end: 285,
+        nothing: 0,
+        height: 6,
+    },
+    // 32: records
+    Row {
+        start: 67,
+        end: 69,
+        more: 285,
+        more_end: 286,
+        nothing: 69,
+        height: 1,
+    },
+    // 33: result
+    Row {
+        start: 69,
+        end: 71,
+        more: 286,
+        more_end: 287,
+        nothing: 71,
+        height: 1,
+    },
+    // 34: lost_attrs
+    Row {
+        start: 71,
+        end: 73,
+        more: 287,
+        more_end: 297,
+        nothing: 73,
+        height: 2,
+    },
+    // 35: lost_attr
+    Row {
+        start: 73,
+        end: 82,
+        more: 297,
+        more_end: 298,
+        nothing: 0,
+        height: 1,
+    },
+    // 36: text_value
+    Row {
+        start: 82,
+        end: 84,
+        more: 298,
+        more_end: 299,
+        nothing: 84,
+        height: 1,
+    },
+    // 37: function_attrs
+    Row {
+        start: 84,
+        end: 86,
+        more: 299,
+        more_end: 315,
+        nothing: 86,
+        height: 4,
+    },
+    // 38: function_attr
+    Row {
+        start: 86,
+        end: 89,
+        more: 315,
+        more_end: 317,
+        nothing: 0,
+        height: 3,
+    },
+    // 39: align_value
+    Row {
+        start: 89,
+        end: 91,
+        more: 317,
+        more_end: 317,
+        nothing: 0,
+        height: 1,
+    },
+    // 40: call_attrs
+    Row {
+        start: 91,
+        end: 94,
+        more: 317,
+        more_end: 333,
+        nothing: 94,
+        height: 4,
+    },
+    // 41: group_attrs
+    Row {
+        start: 94,
+        end: 96,
+        more: 333,
+        more_end: 348,
+        nothing: 96,
+        height: 4,
+    },
+    // 42: group_attr
+    Row {
+        start: 96,
+        end: 98,
+        more: 348,
+        more_end: 350,
+        nothing: 0,
+        height: 3,
+    },
+    // 43: attr
+    Row {
+        start: 98,
+        end: 106,
+        more: 350,
+        more_end: 352,
+        nothing: 0,
+        height: 2,
+    },
+    // 44: stack_value
+    Row {
+        start: 106,
+        end: 108,
+        more: 352,
+        more_end: 352,
+        nothing: 0,
+        height: 1,
+    },
+    // 45: stack_number
+    Row {
+        start: 108,
+        end: 110,
+        more: 352,
+        more_end: 352,
+        nothing: 0,
+        height: 1,
+    },
+    // 46: unwind_value
+    Row {
+        start: 110,
+        end: 112,
+        more: 352,
+        more_end: 353,
+        nothing: 112,
+        height: 1,
+    },
+    // 47: unwind_number
+    Row {
+        start: 112,
+        end: 114,
+        more: 353,
+        more_end: 353,
+        nothing: 0,
+        height: 1,
+    },
+    // 48: number_attr
+    Row {
+        start: 114,
+        end: 117,
+        more: 353,
+        more_end: 353,
+        nothing: 0,
+        height: 1,
+    },
+    // 49: either_attr
+    Row {
+        start: 117,
+        end: 119,
+        more: 353,
+        more_end: 353,
+        nothing: 0,
+        height: 1,
+    },
+    // 50: number_or_inside
+    Row {
+        start: 119,
+        end: 124,
+        more: 353,
+        more_end: 353,
+        nothing: 0,
+        height: 3,
+    },
+    // 51: range_attr
+    Row {
+        start: 124,
+        end: 125,
+        more: 353,
+        more_end: 353,
+        nothing: 0,
+        height: 1,
+    },
+    // 52: enum_attr
+    Row {
+        start: 125,
+        end: 127,
+        more: 353,
+        more_end: 353,
+        nothing: 0,
+        height: 1,
+    },
+    // 53: parens
+    Row {
+        start: 127,
+        end: 128,
+        more: 353,
+        more_end: 353,
+        nothing: 0,
+        height: 1,
+    },
+    // 54: inside
+    Row {
+        start: 128,
+        end: 132,
+        more: 353,
+        more_end: 353,
+        nothing: 0,
+        height: 3,
+    },
+    // 55: node_parens
+    Row {
+        start: 132,
+        end: 133,
+        more: 353,
+        more_end: 353,
+        nothing: 0,
+        height: 1,
+    },
+    // 56: node_inside
+    Row {
+        start: 133,
+        end: 138,
+        more: 353,
+        more_end: 353,
+        nothing: 0,
+        height: 4,
+    },
+    // 57: plain
+    Row {
+        start: 138,
+        end: 150,
+        more: 353,
+        more_end: 353,
+        nothing: 0,
+        height: 2,
+    },
+    // 58: mark
+    Row {
+        start: 150,
+        end: 161,
+        more: 353,
+        more_end: 353,
+        nothing: 0,
+        height: 1,
+    },
+    // 59: most_words
+    Row {
+        start: 161,
+        end: 257,
+        more: 353,
+        more_end: 353,
+        nothing: 0,
+        height: 1,
+    },
+    // 60: any_word
+    Row {
+        start: 257,
+        end: 259,
+        more: 353,
+        more_end: 353,
+        nothing: 0,
+        height: 2,
+    },
+    // 61: node_word
+    Row {
+        start: 259,
+        end: 261,
+        more: 353,
+        more_end: 353,
+        nothing: 0,
+        height: 3,
+    },
+    // 62: type
+    Row {
+        start: 261,
+        end: 263,
+        more: 353,
+        more_end: 354,
+        nothing: 0,
+        height: 3,
+    },
+    // 63: solid
+    Row {
+        start: 263,
+        end: 265,
+        more: 354,
+        more_end: 355,
+        nothing: 0,
+        height: 2,
+    },
+    // 64: flat
+    Row {
+        start: 265,
+        end: 272,
+        more: 355,
+        more_end: 356,
+        nothing: 0,
+        height: 1,
+    },
+    // 65: angle_type
+    Row {
+        start: 272,
+        end: 275,
+        more: 356,
+        more_end: 356,
+        nothing: 0,
+        height: 1,
+    },
+    // 66: types
+    Row {
+        start: 275,
+        end: 277,
+        more: 356,
+        more_end: 367,
+        nothing: 277,
+        height: 4,
+    },
+    // 67: more_types
+    Row {
+        start: 277,
+        end: 279,
+        more: 367,
+        more_end: 369,
+        nothing: 279,
+        height: 1,
+    },
+    // 68: called_type
+    Row {
+        start: 279,
+        end: 280,
+        more: 369,
+        more_end: 371,
+        nothing: 0,
+        height: 4,
+    },
+    // 69: signature
+    Row {
+        start: 280,
+        end: 282,
+        more: 371,
+        more_end: 372,
+        nothing: 282,
+        height: 1,
+    },
+    // 70: argument_types
+    Row {
+        start: 282,
+        end: 285,
+        more: 372,
+        more_end: 384,
+        nothing: 285,
+        height: 4,
+    },
+    // 71: more_argument_types
+    Row {
+        start: 285,
+        end: 287,
+        more: 384,
+        more_end: 386,
+        nothing: 287,
+        height: 1,
+    },
+    // 72: type_or_dots
+    Row {
+        start: 287,
+        end: 289,
+        more: 386,
+        more_end: 388,
+        nothing: 0,
+        height: 4,
+    },
+    // 73: tconst
+    Row {
+        start: 289,
+        end: 290,
+        more: 388,
+        more_end: 388,
+        nothing: 0,
+        height: 4,
+    },
+    // 74: const
+    Row {
+        start: 290,
+        end: 303,
+        more: 388,
+        more_end: 388,
+        nothing: 0,
+        height: 2,
+    },
+    // 75: const_angle
+    Row {
+        start: 303,
+        end: 306,
+        more: 388,
+        more_end: 388,
+        nothing: 0,
+        height: 2,
+    },
+    // 76: const_brace
+    Row {
+        start: 306,
+        end: 308,
+        more: 388,
+        more_end: 388,
+        nothing: 0,
+        height: 4,
+    },
+    // 77: const_empty
+    Row {
+        start: 308,
+        end: 310,
+        more: 388,
+        more_end: 388,
+        nothing: 0,
+        height: 3,
+    },
+    // 78: const_braced
+    Row {
+        start: 310,
+        end: 312,
+        more: 388,
+        more_end: 388,
+        nothing: 0,
+        height: 3,
+    },
+    // 79: const_cast
+    Row {
+        start: 312,
+        end: 314,
+        more: 388,
+        more_end: 388,
+        nothing: 0,
+        height: 1,
+    },
+    // 80: const_sum
+    Row {
+        start: 314,
+        end: 315,
+        more: 388,
+        more_end: 388,
+        nothing: 0,
+        height: 1,
+    },
+    // 81: tconsts
+    Row {
+        start: 315,
+        end: 317,
+        more: 388,
+        more_end: 398,
+        nothing: 317,
+        height: 5,
+    },
+    // 82: more_tconsts
+    Row {
+        start: 317,
+        end: 319,
+        more: 398,
+        more_end: 399,
+        nothing: 319,
+        height: 1,
+    },
+    // 83: in_range
+    Row {
+        start: 319,
+        end: 321,
+        more: 399,
+        more_end: 400,
+        nothing: 321,
+        height: 1,
+    },
+    // 84: inst
+    Row {
+        start: 321,
+        end: 331,
+        more: 400,
+        more_end: 418,
+        nothing: 0,
+        height: 3,
+    },
+    // 85: simple
+    Row {
+        start: 331,
+        end: 351,
+        more: 418,
+        more_end: 435,
+        nothing: 0,
+        height: 2,
+    },
+    // 86: value
+    Row {
+        start: 351,
+        end: 353,
+        more: 435,
+        more_end: 435,
+        nothing: 0,
+        height: 3,
+    },
+    // 87: typed
+    Row {
+        start: 353,
+        end: 354,
+        more: 435,
+        more_end: 435,
+        nothing: 0,
+        height: 4,
+    },
+    // 88: pair
+    Row {
+        start: 354,
+        end: 355,
+        more: 435,
+        more_end: 435,
+        nothing: 0,
+        height: 4,
+    },
+    // 89: ret
+    Row {
+        start: 355,
+        end: 357,
+        more: 435,
+        more_end: 435,
+        nothing: 0,
+        height: 3,
+    },
+    // 90: br
+    Row {
+        start: 357,
+        end: 359,
+        more: 435,
+        more_end: 435,
+        nothing: 0,
+        height: 1,
+    },
+    // 91: cases
+    Row {
+        start: 359,
+        end: 361,
+        more: 435,
+        more_end: 444,
+        nothing: 361,
+        height: 5,
+    },
+    // 92: labels
+    Row {
+        start: 361,
+        end: 363,
+        more: 444,
+        more_end: 446,
+        nothing: 363,
+        height: 1,
+    },
+    // 93: more_labels
+    Row {
+        start: 363,
+        end: 365,
+        more: 446,
+        more_end: 447,
+        nothing: 365,
+        height: 1,
+    },
+    // 94: sum
+    Row {
+        start: 365,
+        end: 367,
+        more: 447,
+        more_end: 447,
+        nothing: 0,
+        height: 1,
+    },
+    // 95: wraps
+    Row {
+        start: 367,
+        end: 370,
+        more: 447,
+        more_end: 449,
+        nothing: 370,
+        height: 1,
+    },
+    // 96: nsw
+    Row {
+        start: 370,
+        end: 372,
+        more: 449,
+        more_end: 450,
+        nothing: 372,
+        height: 1,
+    },
+    // 97: lost_wraps
+    Row {
+        start: 372,
+        end: 375,
+        more: 450,
+        more_end: 452,
+        nothing: 375,
+        height: 1,
+    },
+    // 98: lost_nsw
+    Row {
+        start: 375,
+        end: 377,
+        more: 452,
+        more_end: 453,
+        nothing: 377,
+        height: 1,
+    },
+    // 99: lost_nuw
+    Row {
+        start: 377,
+        end: 379,
+        more: 453,
+        more_end: 454,
+        nothing: 379,
+        height: 1,
+    },
+    // 100: quotient
+    Row {
+        start: 379,
+        end: 380,
+        more: 454,
+        more_end: 454,
+        nothing: 0,
+        height: 1,
+    },
+    // 101: lost_exact
+    Row {
+        start: 380,
+        end: 382,
+        more: 454,
+        more_end: 455,
+        nothing: 382,
+        height: 1,
+    },
+    // 102: bits
+    Row {
+        start: 382,
+        end: 384,
+        more: 455,
+        more_end: 455,
+        nothing: 0,
+        height: 1,
+    },
+    // 103: lost_disjoint
+    Row {
+        start: 384,
+        end: 386,
+        more: 455,
+        more_end: 456,
+        nothing: 386,
+        height: 1,
+    },
+    // 104: lost_samesign
+    Row {
+        start: 386,
+        end: 388,
+        more: 456,
+        more_end: 457,
+        nothing: 388,
+        height: 1,
+    },
+    // 105: predicate
+    Row {
+        start: 388,
+        end: 389,
+        more: 457,
+        more_end: 457,
+        nothing: 0,
+        height: 1,
+    },
+    // 106: cast
+    Row {
+        start: 389,
+        end: 391,
+        more: 457,
+        more_end: 457,
+        nothing: 0,
+        height: 1,
+    },
+    // 107: nneg
+    Row {
+        start: 391,
+        end: 393,
+        more: 457,
+        more_end: 458,
+        nothing: 393,
+        height: 1,
+    },
+    // 108: alloca_tail
+    Row {
+        start: 393,
+        end: 395,
+        more: 458,
+        more_end: 459,
+        nothing: 395,
+        height: 1,
+    },
+    // 109: alloca_part
+    Row {
+        start: 395,
+        end: 399,
+        more: 459,
+        more_end: 460,
+        nothing: 0,
+        height: 5,
+    },
+    // 110: alloca_rest
+    Row {
+        start: 399,
+        end: 401,
+        more: 460,
+        more_end: 461,
+        nothing: 401,
+        height: 1,
+    },
+    // 111: alloca_rest_part
+    Row {
+        start: 401,
+        end: 404,
+        more: 461,
+        more_end: 462,
+        nothing: 0,
+        height: 2,
+    },
+    // 112: alloca_end
+    Row {
+        start: 404,
+        end: 406,
+        more: 462,
+        more_end: 463,
+        nothing: 406,
+        height: 1,
+    },
+    // 113: alloca_end_part
+    Row {
+        start: 406,
+        end: 408,
+        more: 463,
+        more_end: 464,
+        nothing: 0,
+        height: 2,
+    },
+    // 114: load
+    Row {
+        start: 408,
+        end: 410,
+        more: 464,
+        more_end: 465,
+        nothing: 0,
+        height: 5,
+    },
+    // 115: atomic_load
+    Row {
+        start: 410,
+        end: 411,
+        more: 465,
+        more_end: 466,
+        nothing: 0,
+        height: 4,
+    },
+    // 116: store
+    Row {
+        start: 411,
+        end: 413,
+        more: 466,
+        more_end: 467,
+        nothing: 0,
+        height: 6,
+    },
+    // 117: atomic_store
+    Row {
+        start: 413,
+        end: 414,
+        more: 467,
+        more_end: 468,
+        nothing: 0,
+        height: 5,
+    },
+    // 118: volatile
+    Row {
+        start: 414,
+        end: 416,
+        more: 468,
+        more_end: 469,
+        nothing: 416,
+        height: 1,
+    },
+    // 119: rmw_kind
+    Row {
+        start: 416,
+        end: 420,
+        more: 469,
+        more_end: 469,
+        nothing: 0,
+        height: 1,
+    },
+    // 120: address_and_value
+    Row {
+        start: 420,
+        end: 421,
+        more: 469,
+        more_end: 469,
+        nothing: 0,
+        height: 5,
+    },
+    // 121: lost_weak
+    Row {
+        start: 421,
+        end: 423,
+        more: 469,
+        more_end: 470,
+        nothing: 423,
+        height: 1,
+    },
+    // 122: exchange
+    Row {
+        start: 423,
+        end: 424,
+        more: 470,
+        more_end: 471,
+        nothing: 0,
+        height: 5,
+    },
+    // 123: exchange_order
+    Row {
+        start: 424,
+        end: 425,
+        more: 471,
+        more_end: 471,
+        nothing: 0,
+        height: 3,
+    },
+    // 124: order
+    Row {
+        start: 425,
+        end: 426,
+        more: 471,
+        more_end: 471,
+        nothing: 0,
+        height: 3,
+    },
+    // 125: scope
+    Row {
+        start: 426,
+        end: 428,
+        more: 471,
+        more_end: 472,
+        nothing: 428,
+        height: 1,
+    },
+    // 126: ordering
+    Row {
+        start: 428,
+        end: 429,
+        more: 472,
+        more_end: 472,
+        nothing: 0,
+        height: 1,
+    },
+    // 127: gep_flags
+    Row {
+        start: 429,
+        end: 431,
+        more: 472,
+        more_end: 474,
+        nothing: 431,
+        height: 2,
+    },
+    // 128: gep_flag
+    Row {
+        start: 431,
+        end: 433,
+        more: 474,
+        more_end: 474,
+        nothing: 0,
+        height: 1,
+    },
+    // 129: more_indices
+    Row {
+        start: 433,
+        end: 435,
+        more: 474,
+        more_end: 475,
+        nothing: 435,
+        height: 1,
+    },
+    // 130: index_or_node
+    Row {
+        start: 435,
+        end: 437,
+        more: 475,
+        more_end: 476,
+        nothing: 0,
+        height: 5,
+    },
+    // 131: more_places
+    Row {
+        start: 437,
+        end: 439,
+        more: 476,
+        more_end: 477,
+        nothing: 439,
+        height: 1,
+    },
+    // 132: place_or_node
+    Row {
+        start: 439,
+        end: 441,
+        more: 477,
+        more_end: 478,
+        nothing: 0,
+        height: 2,
+    },
+    // 133: entry
+    Row {
+        start: 441,
+        end: 442,
+        more: 478,
+        more_end: 478,
+        nothing: 0,
+        height: 1,
+    },
+    // 134: more_entries
+    Row {
+        start: 442,
+        end: 444,
+        more: 478,
+        more_end: 479,
+        nothing: 444,
+        height: 1,
+    },
+    // 135: entry_or_node
+    Row {
+        start: 444,
+        end: 446,
+        more: 479,
+        more_end: 480,
+        nothing: 0,
+        height: 2,
+    },
+    // 136: align_attached
+    Row {
+        start: 446,
+        end: 448,
+        more: 480,
+        more_end: 481,
+        nothing: 448,
+        height: 1,
+    },
+    // 137: align_or_attached
+    Row {
+        start: 448,
+        end: 450,
+        more: 481,
+        more_end: 482,
+        nothing: 0,
+        height: 2,
+    },
+    // 138: lost_align_attached
+    Row {
+        start: 450,
+        end: 452,
+        more: 482,
+        more_end: 483,
+        nothing: 452,
+        height: 1,
+    },
+    // 139: lost_align_or_attached
+    Row {
+        start: 452,
+        end: 454,
+        more: 483,
+        more_end: 484,
+        nothing: 0,
+        height: 2,
+    },
+    // 140: tail
+    Row {
+        start: 454,
+        end: 456,
+        more: 484,
+        more_end: 485,
+        nothing: 456,
+        height: 1,
+    },
+    // 141: call
+    Row {
+        start: 456,
+        end: 457,
+        more: 485,
+        more_end: 501,
+        nothing: 0,
+        height: 7,
+    },
+    // 142: callee
+    Row {
+        start: 457,
+        end: 460,
+        more: 501,
+        more_end: 501,
+        nothing: 0,
+        height: 1,
+    },
+    // 143: asm
+    Row {
+        start: 460,
+        end: 462,
+        more: 501,
+        more_end: 501,
+        nothing: 0,
+        height: 2,
+    },
+    // 144: asm_text
+    Row {
+        start: 462,
+        end: 463,
+        more: 501,
+        more_end: 501,
+        nothing: 0,
+        height: 1,
+    },
+    // 145: arguments
+    Row {
+        start: 463,
+        end: 464,
+        more: 501,
+        more_end: 501,
+        nothing: 0,
+        height: 1,
+    },
+    // 146: args
+    Row {
+        start: 464,
+        end: 466,
+        more: 501,
+        more_end: 511,
+        nothing: 466,
+        height: 5,
+    },
+    // 147: more_args
+    Row {
+        start: 466,
+        end: 468,
+        more: 511,
+        more_end: 512,
+        nothing: 468,
+        height: 1,
+    },
+    // 148: arg
+    Row {
+        start: 468,
+        end: 469,
+        more: 512,
+        more_end: 512,
+        nothing: 0,
+        height: 4,
+    },
+    // 149: attached
+    Row {
+        start: 469,
+        end: 471,
+        more: 512,
+        more_end: 513,
+        nothing: 471,
+        height: 1,
+    },
+    // 150: attachments
+    Row {
+        start: 471,
+        end: 473,
+        more: 513,
+        more_end: 521,
+        nothing: 473,
+        height: 2,
+    },
+    // 151: mdname
+    Row {
+        start: 473,
+        end: 481,
+        more: 521,
+        more_end: 521,
+        nothing: 0,
+        height: 1,
+    },
+    // 152: mdref
+    Row {
+        start: 481,
+        end: 483,
+        more: 521,
+        more_end: 521,
+        nothing: 0,
+        height: 3,
+    },
+    // 153: mdrefs
+    Row {
+        start: 483,
+        end: 485,
+        more: 521,
+        more_end: 532,
+        nothing: 485,
+        height: 4,
+    },
+    // 154: more_mdrefs
+    Row {
+        start: 485,
+        end: 487,
+        more: 532,
+        more_end: 533,
+        nothing: 487,
+        height: 1,
+    },
+    // 155: node
+    Row {
+        start: 487,
+        end: 490,
+        more: 533,
+        more_end: 533,
+        nothing: 0,
+        height: 2,
+    },
+    // 156: debug_node
+    Row {
+        start: 490,
+        end: 497,
+        more: 533,
+        more_end: 533,
+        nothing: 0,
+        height: 1,
+    },
+    // 157: mdops
+    Row {
+        start: 497,
+        end: 499,
+        more: 533,
+        more_end: 555,
+        nothing: 499,
+        height: 6,
+    },
+    // 158: more_mdops
+    Row {
+        start: 499,
+        end: 501,
+        more: 555,
+        more_end: 556,
+        nothing: 501,
+        height: 1,
+    },
+    // 159: mdop
+    Row {
+        start: 501,
+        end: 505,
+        more: 556,
+        more_end: 556,
+        nothing: 0,
+        height: 5,
+    },
+    // 160: fields
+    Row {
+        start: 505,
+        end: 507,
+        more: 556,
+        more_end: 559,
+        nothing: 507,
+        height: 2,
+    },
+    // 161: more_fields
+    Row {
+        start: 507,
+        end: 509,
+        more: 559,
+        more_end: 561,
+        nothing: 509,
+        height: 1,
+    },
+    // 162: field
+    Row {
+        start: 509,
+        end: 510,
+        more: 561,
+        more_end: 562,
+        nothing: 0,
+        height: 1,
+    },
+    // 163: field_value
+    Row {
+        start: 510,
+        end: 514,
+        more: 562,
+        more_end: 563,
+        nothing: 0,
+        height: 4,
+    },
+    // 164: more_words
+    Row {
+        start: 514,
+        end: 516,
+        more: 563,
+        more_end: 564,
+        nothing: 516,
+        height: 1,
+    },
+];
+
+/// The classes that may begin alternatives.
+static FIRSTS: [u16; 1837] = [
+    // file
+    0, 1, 8, 9, 56, 57, 58, 59, 60, 61, 62, 71, 77, 78, 112, 117,
+    // item
+    112, 117, 1, 0, 77, 78, 71, 9, 56, 57, 58, 59, 60, 61, 62, 8,
+    // target
+    15,
+    // distinct
+    81,
+    // type_body
+    104, 49, 51,
+    // body_linkage
+    16, 127,
+    // data_linkage
+    16, 127, 17,
+    // outer_linkage
+    85, 84,
+    // define_linkage
+    16, 127, 85,
+    // declare_linkage
+    84, 85,
+    // dso
+    18,
+    // unnamed
+    19,
+    // symbol
+    84, 85, 16, 17, 127, 18, 19, 20, 63, 64,
+    // outer_symbol
+    20, 63, 64,
+    // inner_symbol
+    20, 63, 64,
+    // storage
+    20,
+    // space
+    63,
+    // variable_tail
+    44, 6,
+    // align_or_node
+    65, 9, 56, 57, 58, 59, 60, 61, 62,
+    // lost_groups
+    6,
+    // alias
+    1, 12, 28, 47, 49, 51, 91, 107, 124,
+    // head
+    1, 4, 12, 18, 21, 22, 23, 24, 28, 47, 49, 51, 65, 76, 82, 91, 100, 107, 124,
+    // parameters
+    45,
+    // params
+    1, 12, 28, 47, 49, 51, 91, 107, 124, 55,
+    // more_params
+    44,
+    // param_or_dots
+    1, 12, 28, 47, 49, 51, 91, 107, 124, 55,
+    // param
+    1, 12, 28, 47, 49, 51, 91, 107, 124,
+    // name
+    1,
+    // body
+    1, 2, 7, 30, 31, 32, 33, 34, 35, 36, 38, 42, 67, 70, 73, 74, 75, 86, 87, 88, 89, 90, 92, 93,
+    95, 98, 105, 106, 108, 110, 114, 115, 119, 121, 123, 129,
+    // body_parts
+    1, 2, 7, 30, 31, 32, 33, 34, 35, 36, 38, 42, 67, 70, 73, 74, 75, 86, 87, 88, 89, 90, 92, 93,
+    95, 98, 105, 106, 108, 110, 114, 115, 119, 121, 123, 129,
+    // body_part
+    2, 1, 7, 30, 31, 32, 33, 34, 35, 36, 38, 42, 67, 70, 73, 74, 75, 86, 87, 88, 89, 90, 92, 93,
+    95, 98, 105, 106, 108, 110, 114, 115, 119, 121, 123, 129,
+    // line
+    1, 7, 30, 31, 32, 33, 34, 35, 36, 38, 42, 67, 70, 73, 74, 75, 86, 87, 88, 89, 90, 92, 93, 95,
+    98, 105, 106, 108, 110, 114, 115, 119, 121, 123, 129,
+    // records
+    7,
+    // result
+    1,
+    // lost_attrs
+    4, 21, 22, 23, 24, 65, 76, 82, 100,
+    // lost_attr
+    21, 100, 76, 65, 22, 23, 24, 82, 4,
+    // text_value
+    43,
+    // function_attrs
+    4, 6, 21, 22, 23, 24, 26, 27, 65, 66, 76, 79, 82, 122,
+    // function_attr
+    6, 4, 21, 22, 23, 24, 26, 27, 66, 76, 79, 82, 122, 65,
+    // align_value
+    3, 45,
+    // call_attrs
+    6, 4, 21, 22, 23, 24, 26, 27, 65, 66, 76, 79, 82, 122,
+    // group_attrs
+    4, 21, 22, 23, 24, 26, 27, 65, 66, 76, 79, 82, 122,
+    // group_attr
+    4, 21, 22, 23, 24, 26, 27, 66, 76, 79, 82, 122, 65,
+    // attr
+    4, 21, 27, 66, 122, 22, 76, 79, 23, 26, 24, 82,
+    // stack_value
+    45, 43,
+    // stack_number
+    3, 96,
+    // unwind_value
+    45,
+    // unwind_number
+    25, 96,
+    // number_attr
+    76, 79, 22,
+    // either_attr
+    26, 23,
+    // number_or_inside
+    96, 46, 45, 12, 14, 15, 16, 17, 18, 19, 20, 21, 22, 23, 24, 25, 26, 27, 28, 29, 30, 31, 32, 33,
+    34, 35, 36, 37, 38, 39, 40, 41, 42, 63, 64, 65, 66, 67, 68, 69, 70, 71, 72, 73, 74, 75, 76, 77,
+    78, 79, 80, 81, 82, 83, 84, 85, 86, 87, 88, 89, 90, 91, 92, 93, 94, 95, 97, 98, 99, 100, 101,
+    102, 103, 104, 105, 106, 107, 108, 109, 110, 111, 112, 113, 114, 115, 116, 117, 118, 119, 120,
+    121, 122, 123, 124, 125, 126, 127, 128, 129, 0, 1, 2, 3, 4, 5, 6, 7, 8, 9, 10, 43, 44, 47, 48,
+    49, 50, 51, 52, 53, 54, 55, 56, 57, 58, 59, 60, 61, 62,
+    // range_attr
+    24,
+    // enum_attr
+    21, 27,
+    // parens
+    45,
+    // inside
+    46, 45, 12, 14, 15, 16, 17, 18, 19, 20, 21, 22, 23, 24, 25, 26, 27, 28, 29, 30, 31, 32, 33, 34,
+    35, 36, 37, 38, 39, 40, 41, 42, 63, 64, 65, 66, 67, 68, 69, 70, 71, 72, 73, 74, 75, 76, 77, 78,
+    79, 80, 81, 82, 83, 84, 85, 86, 87, 88, 89, 90, 91, 92, 93, 94, 95, 96, 97, 98, 99, 100, 101,
+    102, 103, 104, 105, 106, 107, 108, 109, 110, 111, 112, 113, 114, 115, 116, 117, 118, 119, 120,
+    121, 122, 123, 124, 125, 126, 127, 128, 129, 0, 1, 2, 3, 4, 5, 6, 7, 8, 9, 10, 43, 44, 47, 48,
+    49, 50, 51, 52, 53, 54, 55, 56, 57, 58, 59, 60, 61, 62,
+    // node_parens
+    45,
+    // node_inside
+    46, 45, 12, 13, 14, 15, 16, 17, 18, 19, 20, 21, 22, 23, 24, 25, 26, 27, 28, 29, 30, 31, 32, 33,
+    34, 35, 36, 37, 38, 39, 40, 41, 42, 63, 64, 65, 66, 67, 68, 69, 70, 71, 72, 73, 74, 75, 76, 77,
+    78, 79, 80, 81, 82, 83, 84, 85, 86, 87, 88, 89, 90, 91, 92, 93, 94, 95, 96, 97, 98, 99, 100,
+    101, 102, 103, 104, 105, 106, 107, 108, 109, 110, 111, 112, 113, 114, 115, 116, 117, 118, 119,
+    120, 121, 122, 123, 124, 125, 126, 127, 128, 129, 0, 1, 2, 3, 4, 5, 6, 7, 8, 9, 10, 43, 44, 47,
+    48, 49, 50, 51, 52, 53, 54, 55, 56, 57, 58, 59, 60, 61, 62, 11,
+    // plain
+    3, 4, 5, 0, 1, 2, 6, 7, 8, 10, 9, 56, 57, 58, 59, 60, 61, 62, 43, 44, 47, 48, 49, 50, 51, 52,
+    53, 54, 55,
+    // mark
+    43, 44, 47, 48, 49, 50, 51, 52, 53, 54, 55,
+    // most_words
+    63, 64, 65, 66, 67, 68, 69, 70, 71, 72, 73, 74, 75, 76, 77, 78, 79, 80, 81, 82, 83, 84, 85, 86,
+    87, 88, 89, 90, 91, 92, 93, 94, 95, 97, 98, 99, 100, 101, 102, 103, 104, 105, 106, 107, 108,
+    109, 110, 111, 112, 113, 114, 115, 116, 117, 118, 119, 120, 121, 122, 123, 124, 125, 126, 127,
+    128, 129, 12, 14, 15, 16, 17, 18, 19, 20, 21, 22, 23, 24, 25, 26, 27, 28, 29, 30, 31, 32, 33,
+    34, 35, 36, 37, 38, 39, 40, 41, 42,
+    // any_word
+    12, 14, 15, 16, 17, 18, 19, 20, 21, 22, 23, 24, 25, 26, 27, 28, 29, 30, 31, 32, 33, 34, 35, 36,
+    37, 38, 39, 40, 41, 42, 63, 64, 65, 66, 67, 68, 69, 70, 71, 72, 73, 74, 75, 76, 77, 78, 79, 80,
+    81, 82, 83, 84, 85, 86, 87, 88, 89, 90, 91, 92, 93, 94, 95, 97, 98, 99, 100, 101, 102, 103,
+    104, 105, 106, 107, 108, 109, 110, 111, 112, 113, 114, 115, 116, 117, 118, 119, 120, 121, 122,
+    123, 124, 125, 126, 127, 128, 129, 96,
+    // node_word
+    12, 14, 15, 16, 17, 18, 19, 20, 21, 22, 23, 24, 25, 26, 27, 28, 29, 30, 31, 32, 33, 34, 35, 36,
+    37, 38, 39, 40, 41, 42, 63, 64, 65, 66, 67, 68, 69, 70, 71, 72, 73, 74, 75, 76, 77, 78, 79, 80,
+    81, 82, 83, 84, 85, 86, 87, 88, 89, 90, 91, 92, 93, 94, 95, 96, 97, 98, 99, 100, 101, 102, 103,
+    104, 105, 106, 107, 108, 109, 110, 111, 112, 113, 114, 115, 116, 117, 118, 119, 120, 121, 122,
+    123, 124, 125, 126, 127, 128, 129, 13,
+    // type
+    124, 1, 12, 28, 47, 49, 51, 91, 107,
+    // solid
+    1, 12, 28, 47, 51, 91, 107, 49,
+    // flat
+    12, 91, 107, 28, 47, 51, 1,
+    // angle_type
+    3, 126, 49,
+    // types
+    1, 12, 28, 47, 49, 51, 91, 107, 124,
+    // more_types
+    44,
+    // called_type
+    1, 12, 28, 47, 49, 51, 91, 107, 124,
+    // signature
+    45,
+    // argument_types
+    1, 12, 28, 47, 49, 51, 91, 107, 124, 55,
+    // more_argument_types
+    44,
+    // type_or_dots
+    1, 12, 28, 47, 49, 51, 91, 107, 124, 55,
+    // tconst
+    1, 12, 28, 47, 49, 51, 91, 107, 124,
+    // const
+    3, 29, 102, 47, 49, 51, 5, 113, 0, 72, 30, 119, 31, 90,
+    // const_angle
+    49, 1, 12, 28, 47, 51, 91, 107, 124,
+    // const_brace
+    50, 1, 12, 28, 47, 49, 51, 91, 107, 124,
+    // const_empty
+    52, 0, 3, 5, 29, 30, 31, 47, 49, 51, 72, 90, 102, 113, 119,
+    // const_braced
+    0, 3, 5, 29, 30, 31, 47, 49, 51, 72, 90, 102, 113, 119, 44, 50,
+    // const_cast
+    30, 119,
+    // const_sum
+    31,
+    // tconsts
+    1, 12, 28, 47, 49, 51, 91, 107, 124,
+    // more_tconsts
+    44,
+    // in_range
+    94,
+    // inst
+    30, 31, 32, 33, 34, 35, 36, 38, 42, 73, 74, 86, 88, 89, 92, 93, 105, 108, 110, 115, 119, 121,
+    123, 129, 67, 98, 114, 70, 75, 90, 87, 95, 106,
+    // simple
+    108, 73, 115, 93, 121, 31, 33, 34, 35, 36, 105, 92, 30, 38, 119, 129, 88, 86, 32, 110, 89, 123,
+    42, 74,
+    // value
+    1, 0, 3, 5, 29, 30, 31, 47, 49, 51, 72, 90, 102, 113, 119,
+    // typed
+    1, 12, 28, 47, 49, 51, 91, 107, 124,
+    // pair
+    1, 12, 28, 47, 49, 51, 91, 107, 124,
+    // ret
+    124, 1, 12, 28, 47, 49, 51, 91, 107,
+    // br
+    97, 91,
+    // cases
+    1, 12, 28, 47, 49, 51, 91, 107, 124,
+    // labels
+    97,
+    // more_labels
+    44,
+    // sum
+    31, 33,
+    // wraps
+    103, 101,
+    // nsw
+    101,
+    // lost_wraps
+    103, 101,
+    // lost_nsw
+    101,
+    // lost_nuw
+    103,
+    // quotient
+    34,
+    // lost_exact
+    83,
+    // bits
+    35, 36,
+    // lost_disjoint
+    80,
+    // lost_samesign
+    109,
+    // predicate
+    37,
+    // cast
+    30, 38,
+    // nneg
+    99,
+    // alloca_tail
+    44,
+    // alloca_part
+    1, 12, 28, 47, 49, 51, 91, 107, 124, 65, 63, 9, 56, 57, 58, 59, 60, 61, 62,
+    // alloca_rest
+    44,
+    // alloca_rest_part
+    65, 63, 9, 56, 57, 58, 59, 60, 61, 62,
+    // alloca_end
+    44,
+    // alloca_end_part
+    63, 9, 56, 57, 58, 59, 60, 61, 62,
+    // load
+    1, 12, 28, 47, 49, 51, 91, 107, 124, 125, 69,
+    // atomic_load
+    1, 12, 28, 47, 49, 51, 91, 107, 124,
+    // store
+    1, 12, 28, 47, 49, 51, 91, 107, 124, 125, 69,
+    // atomic_store
+    1, 12, 28, 47, 49, 51, 91, 107, 124,
+    // volatile
+    125,
+    // rmw_kind
+    39, 31, 36, 105,
+    // address_and_value
+    1, 12, 28, 47, 49, 51, 91, 107, 124,
+    // lost_weak
+    127,
+    // exchange
+    1, 12, 28, 47, 49, 51, 91, 107, 124,
+    // exchange_order
+    40, 116,
+    // order
+    40, 116,
+    // scope
+    116,
+    // ordering
+    40,
+    // gep_flags
+    41, 103,
+    // gep_flag
+    41, 103,
+    // more_indices
+    44,
+    // index_or_node
+    1, 12, 28, 47, 49, 51, 91, 107, 124, 9, 56, 57, 58, 59, 60, 61, 62,
+    // more_places
+    44,
+    // place_or_node
+    3, 9, 56, 57, 58, 59, 60, 61, 62,
+    // entry
+    47,
+    // more_entries
+    44,
+    // entry_or_node
+    47, 9, 56, 57, 58, 59, 60, 61, 62,
+    // align_attached
+    44,
+    // align_or_attached
+    65, 9, 56, 57, 58, 59, 60, 61, 62,
+    // lost_align_attached
+    44,
+    // lost_align_or_attached
+    65, 9, 56, 57, 58, 59, 60, 61, 62,
+    // tail
+    42,
+    // call
+    1, 4, 12, 21, 22, 23, 24, 28, 47, 49, 51, 65, 76, 82, 91, 100, 107, 124,
+    // callee
+    0, 1, 68,
+    // asm
+    111, 4,
+    // asm_text
+    4,
+    // arguments
+    45,
+    // args
+    1, 12, 28, 47, 49, 51, 91, 107, 124,
+    // more_args
+    44,
+    // arg
+    1, 12, 28, 47, 49, 51, 91, 107, 124,
+    // attached
+    44,
+    // attachments
+    9, 56, 57, 58, 59, 60, 61, 62,
+    // mdname
+    9, 56, 57, 61, 62, 58, 59, 60,
+    // mdref
+    8, 9, 53, 56, 57, 58, 59, 60, 61, 62,
+    // mdrefs
+    8, 9, 53, 56, 57, 58, 59, 60, 61, 62,
+    // more_mdrefs
+    44,
+    // node
+    53, 56, 57, 58, 59, 60, 61, 62, 9,
+    // debug_node
+    56, 57, 61, 62, 58, 59, 60,
+    // mdops
+    1, 8, 9, 10, 12, 28, 47, 49, 51, 53, 56, 57, 58, 59, 60, 61, 62, 91, 102, 107, 124,
+    // more_mdops
+    44,
+    // mdop
+    102, 10, 8, 9, 53, 56, 57, 58, 59, 60, 61, 62, 1, 12, 28, 47, 49, 51, 91, 107, 124,
+    // fields
+    2,
+    // more_fields
+    44,
+    // field
+    2,
+    // field_value
+    3, 4, 12, 13, 14, 15, 16, 17, 18, 19, 20, 21, 22, 23, 24, 25, 26, 27, 28, 29, 30, 31, 32, 33,
+    34, 35, 36, 37, 38, 39, 40, 41, 42, 63, 64, 65, 66, 67, 68, 69, 70, 71, 72, 73, 74, 75, 76, 77,
+    78, 79, 80, 81, 82, 83, 84, 85, 86, 87, 88, 89, 90, 91, 92, 93, 94, 95, 96, 97, 98, 99, 100,
+    101, 102, 103, 104, 105, 106, 107, 108, 109, 110, 111, 112, 113, 114, 115, 116, 117, 118, 119,
+    120, 121, 122, 123, 124, 125, 126, 127, 128, 129, 8, 9, 53, 56, 57, 58, 59, 60, 61, 62,
+    // more_words
+    54,
+];
+
+/// The classes that might go on with rules.
+static MORES: [u16; 564] = [
+    // file
+    0, 1, 4, 6, 8, 9, 19, 21, 22, 23, 24, 26, 27, 43, 44, 45, 56, 57, 58, 59, 60, 61, 62, 63, 65,
+    66, 71, 76, 77, 78, 79, 82, 112, 117, 122,
+    // item
+    4, 6, 19, 21, 22, 23, 24, 26, 27, 43, 44, 45, 63, 65, 66, 76, 79, 82, 122,
+    // distinct
+    81,
+    // define_linkage
+    16, 85, 127,
+    // declare_linkage
+    84, 85,
+    // dso
+    18,
+    // unnamed
+    19,
+    // symbol
+    6, 44, 63,
+    // outer_symbol
+    6, 44, 63,
+    // inner_symbol
+    6, 44,
+    // space
+    63,
+    // variable_tail
+    6, 44,
+    // align_or_node
+    6, 44,
+    // lost_groups
+    6,
+    // head
+    19, 63,
+    // parameters
+    19, 63,
+    // params
+    1, 4, 12, 21, 22, 23, 24, 28, 43, 44, 47, 49, 51, 55, 63, 65, 76, 82, 91, 100, 107, 124,
+    // more_params
+    1, 4, 21, 22, 23, 24, 43, 44, 63, 65, 76, 82, 100,
+    // param_or_dots
+    1, 4, 21, 22, 23, 24, 43, 44, 63, 65, 76, 82, 100,
+    // param
+    1, 4, 21, 22, 23, 24, 43, 63, 65, 76, 82, 100,
+    // name
+    1,
+    // body
+    1, 2, 4, 6, 7, 21, 22, 23, 24, 26, 27, 30, 31, 32, 33, 34, 35, 36, 38, 42, 43, 44, 45, 63, 65,
+    66, 67, 70, 73, 74, 75, 76, 79, 82, 86, 87, 88, 89, 90, 92, 93, 95, 98, 105, 106, 108, 110,
+    114, 115, 119, 121, 122, 123, 129,
+    // body_parts
+    1, 2, 4, 6, 7, 21, 22, 23, 24, 26, 27, 30, 31, 32, 33, 34, 35, 36, 38, 42, 43, 44, 45, 63, 65,
+    66, 67, 70, 73, 74, 75, 76, 79, 82, 86, 87, 88, 89, 90, 92, 93, 95, 98, 105, 106, 108, 110,
+    114, 115, 119, 121, 122, 123, 129,
+    // body_part
+    4, 6, 21, 22, 23, 24, 26, 27, 43, 44, 45, 63, 65, 66, 76, 79, 82, 122,
+    // line
+    4, 6, 21, 22, 23, 24, 26, 27, 43, 44, 45, 63, 65, 66, 76, 79, 82, 122,
+    // records
+    7,
+    // result
+    1,
+    // lost_attrs
+    4, 21, 22, 23, 24, 43, 65, 76, 82, 100,
+    // lost_attr
+    43,
+    // text_value
+    43,
+    // function_attrs
+    4, 6, 21, 22, 23, 24, 26, 27, 43, 45, 65, 66, 76, 79, 82, 122,
+    // function_attr
+    43, 45,
+    // call_attrs
+    4, 6, 21, 22, 23, 24, 26, 27, 43, 45, 65, 66, 76, 79, 82, 122,
+    // group_attrs
+    4, 21, 22, 23, 24, 26, 27, 43, 45, 65, 66, 76, 79, 82, 122,
+    // group_attr
+    43, 45,
+    // attr
+    43, 45,
+    // unwind_value
+    45,
+    // type
+    63,
+    // solid
+    63,
+    // flat
+    63,
+    // types
+    1, 12, 28, 44, 47, 49, 51, 63, 91, 107, 124,
+    // more_types
+    44, 63,
+    // called_type
+    45, 63,
+    // signature
+    45,
+    // argument_types
+    1, 12, 28, 44, 47, 49, 51, 55, 63, 91, 107, 124,
+    // more_argument_types
+    44, 63,
+    // type_or_dots
+    44, 63,
+    // tconsts
+    1, 12, 28, 44, 47, 49, 51, 91, 107, 124,
+    // more_tconsts
+    44,
+    // in_range
+    94,
+    // inst
+    4, 6, 21, 22, 23, 24, 26, 27, 43, 44, 45, 63, 65, 66, 76, 79, 82, 122,
+    // simple
+    4, 6, 21, 22, 23, 24, 26, 27, 43, 45, 63, 65, 66, 76, 79, 82, 122,
+    // cases
+    1, 12, 28, 47, 49, 51, 91, 107, 124,
+    // labels
+    44, 97,
+    // more_labels
+    44,
+    // wraps
+    101, 103,
+    // nsw
+    101,
+    // lost_wraps
+    101, 103,
+    // lost_nsw
+    101,
+    // lost_nuw
+    103,
+    // lost_exact
+    83,
+    // lost_disjoint
+    80,
+    // lost_samesign
+    109,
+    // nneg
+    99,
+    // alloca_tail
+    44,
+    // alloca_part
+    44,
+    // alloca_rest
+    44,
+    // alloca_rest_part
+    44,
+    // alloca_end
+    44,
+    // alloca_end_part
+    44,
+    // load
+    44,
+    // atomic_load
+    44,
+    // store
+    44,
+    // atomic_store
+    44,
+    // volatile
+    125,
+    // lost_weak
+    127,
+    // exchange
+    44,
+    // scope
+    116,
+    // gep_flags
+    41, 103,
+    // more_indices
+    44,
+    // index_or_node
+    44,
+    // more_places
+    44,
+    // place_or_node
+    44,
+    // more_entries
+    44,
+    // entry_or_node
+    44,
+    // align_attached
+    44,
+    // align_or_attached
+    44,
+    // lost_align_attached
+    44,
+    // lost_align_or_attached
+    44,
+    // tail
+    42,
+    // call
+    4, 6, 21, 22, 23, 24, 26, 27, 43, 45, 65, 66, 76, 79, 82, 122,
+    // args
+    1, 12, 28, 44, 47, 49, 51, 91, 107, 124,
+    // more_args
+    44,
+    // attached
+    44,
+    // attachments
+    9, 56, 57, 58, 59, 60, 61, 62,
+    // mdrefs
+    8, 9, 44, 53, 56, 57, 58, 59, 60, 61, 62,
+    // more_mdrefs
+    44,
+    // mdops
+    1, 8, 9, 10, 12, 28, 44, 47, 49, 51, 53, 56, 57, 58, 59, 60, 61, 62, 91, 102, 107, 124,
+    // more_mdops
+    44,
+    // fields
+    2, 44, 54,
+    // more_fields
+    44, 54,
+    // field
+    54,
+    // field_value
+    54,
+    // more_words
+    54,
+];
+
+/// The grammar.
+pub fn llvm() -> Grammar<'static> {
+    Grammar {
+        symbols: &SYMBOLS,
+        alternatives: &ALTERNATIVES,
+        rows: &ROWS,
+        firsts: &FIRSTS,
+        mores: &MORES,
+    }
+}

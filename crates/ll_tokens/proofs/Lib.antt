@@ -1,0 +1,7 @@
+-- The lemmas of the crate.
+pub mod ByteLaws
+pub mod FitLaws
+pub mod OrderLaws
+pub mod PieceLaws
+pub mod RunLaws
+pub mod TokenLaws

@@ -1,0 +1,14 @@
+-- The kinds of runs that the cutting of a text asks for, each a test of a byte.
+use Rattle.std.specs.Prelude.{ℕ, Bool}
+use Rattle.ll_tokens.specs.Bytes.{is_digit, is_letter_or_digit, is_name_byte, is_word_byte, is_word_start, in_line, in_string}
+use Rattle.ll_tokens.specs.declared.runs.Run.{Run}
+use Rattle.ll_tokens.specs.declared.runs.Run.TheVariants.{Name, Word, Digits, LettersAndDigits, Record, Line, String}
+
+abbrev pub in_run : Run → ℕ → Bool
+in_run Name = is_name_byte
+in_run Word = is_word_byte
+in_run Digits = is_digit
+in_run LettersAndDigits = is_letter_or_digit
+in_run Record = is_word_start
+in_run Line = in_line
+in_run String = in_string

@@ -1,0 +1,17 @@
+//! The bytes of LLVM text as tokens, each with its kind and its place.
+#![tactic(auto)]
+
+mod bytes;
+pub mod kinds;
+pub mod laws;
+mod names;
+mod numbers;
+mod piece;
+mod pieces;
+mod runs;
+mod strings;
+#[cfg(test)]
+mod tests;
+pub mod token_err;
+pub mod tokens;
+mod words;
