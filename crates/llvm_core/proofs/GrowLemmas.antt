@@ -112,7 +112,7 @@ values_kept m n g (I.Row r) h = (All-weaker (IsValue m) (IsValue n) (value_kept 
 
 -- ---- types of values
 
-value_type_kept : (m n : Module) → Grows m n → IsModule m → (v : LLVMValue) → IsValue m v → value_type n v ≡ value_type m v
+pub value_type_kept : (m n : Module) → Grows m n → IsModule m → (v : LLVMValue) → IsValue m v → value_type n v ≡ value_type m v
 value_type_kept m n g s (V.Const c) h =
     let k = item_there m.consts c.0 h in
     ap (option_map const_type) (g.consts c.0 k.0 k.1 ∙ sym k.1)

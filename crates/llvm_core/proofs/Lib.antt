@@ -13,6 +13,7 @@ pub mod ChangedLemmas
 pub mod OperandLemmas
 pub mod FreshLemmas
 pub mod NameLemmas
+pub mod NamedLemmas
 pub mod LocalLemmas
 pub mod EdgeLemmas
 pub mod SortLemmas
@@ -33,3 +34,8 @@ pub mod DecideLemmas
 pub mod CheckedInsts
 pub mod DistinctLaws
 pub mod CheckedForm
+pub mod BodyLists
+pub mod BodyFrames
+pub mod BodySound
+pub mod BodyData
+pub mod BodyTypes

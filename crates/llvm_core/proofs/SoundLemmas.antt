@@ -237,7 +237,7 @@ params_set fs i x y at same f = at_place fs i f.0 at
     at_place (w ∷ xs) (suc i) zero e = omega arith
     at_place (w ∷ xs) (suc i) (suc j) e = at_place xs i j e
 
-params_changed : (change : FunctionData → FunctionData) → ((x : FunctionData) → length (change x).params ≡ length x.params) → (i : ℕ) (fs : List FunctionData) (f : LLVMFunction) → length (param_names fs f) ≤ length (param_names (with_change change i fs) f)
+pub params_changed : (change : FunctionData → FunctionData) → ((x : FunctionData) → length (change x).params ≡ length x.params) → (i : ℕ) (fs : List FunctionData) (f : LLVMFunction) → length (param_names fs f) ≤ length (param_names (with_change change i fs) f)
 params_changed change same i fs f = by (slice_get fs i) refl
   where
     by : (o : Option FunctionData) → slice_get fs i ≡ o → length (param_names fs f) ≤ length (param_names (option_map_or (λ x. slice_set fs i (change x)) o fs) f)

@@ -5,6 +5,7 @@ pub mod Code
 pub mod Parts
 pub mod Sound
 pub mod Data
+pub mod Bodies
 pub mod Names
 pub mod Edges
 pub mod Checked

@@ -1,11 +1,13 @@
 //! The functions, blocks and instructions of a module, under their numbers.
 
-ghost use Rattle.std.specs.Prelude.{◌≡◌, ◌<◌, IfOk, IsTrue, OnErr, OnOk, Some, [], length, slice_get};
+ghost use Rattle.std.specs.Prelude.{◌≡◌, ◌<◌, ◌+◌, ◌^◌, IfOk, IsTrue, OnErr, OnOk, Some, [], length, slice_get};
 ghost use Rattle.std.specs.Option.{option_map};
 ghost use Rattle.support.specs.Changes.{with_change};
 ghost use Rattle.llvm_core.specs.Code.{with_function, with_param_name, with_block, with_inst, with_operand, with_entry, with_changed_inst, param_names};
+ghost use Rattle.llvm_core.specs.Bodies.{with_body, with_lists};
 ghost use Rattle.llvm_core.specs.Parts.{IsPhi, is_phi, operands};
 
+use crate::bodies::{BodyBlock, Numbered, append_items, append_reserved, number_body};
 use crate::code::{BlockData, FunctionData, InstData, LLVMInst, LLVMValue, PhiEntry};
 use crate::numbers::{LLVMBasicBlock, LLVMFunction, LLVMInstRef, LLVMType};
 use std::alloc::{AllocError, Global};
@@ -162,6 +164,38 @@ impl CodeStore {
             number,
         )?;
         Ok(number)
+    }
+
+    /// Appends a body to a function.
+    pub fn add_body(&mut self, f: LLVMFunction, body: Items<BodyBlock>) -> Result<(), AllocError>
+        requires { f.0 < length self.old.functions }
+        ensures ok { OnOk result (self.new ≡ with_body self.old f body) }
+        ensures err { OnErr result (self.new ≡ self.old) }
+    {
+        let numbered = number_body(self.alloc, f, body, self.block_count(), self.inst_count())?;
+        self.append_numbered(f, numbered)
+    }
+
+    /// Appends what a body becomes to all three lists, or leaves them.
+    fn append_numbered(&mut self, f: LLVMFunction, body: Numbered) -> Result<(), AllocError>
+        requires function { f.0 < length self.old.functions }
+        requires few_blocks { length self.old.blocks + length body.blocks.items < 2 ^ 32 }
+        requires few_insts { length self.old.insts + length body.insts.items < 2 ^ 32 }
+        ensures ok { OnOk result (self.new ≡ with_lists self.old f body.numbers body.blocks.items body.insts.items) }
+        ensures err { OnErr result (self.new ≡ self.old) }
+    {
+        let Numbered {
+            numbers,
+            blocks,
+            insts,
+        } = body;
+        self.blocks.reserve(blocks.len())?;
+        self.insts.reserve(insts.len())?;
+        let function = &mut self.functions[f.0 as usize];
+        append_items(self.alloc, &mut function.blocks, numbers)?;
+        append_reserved(&mut self.blocks, blocks);
+        append_reserved(&mut self.insts, insts);
+        Ok(())
     }
 
     /// Puts a value in place of an operand.

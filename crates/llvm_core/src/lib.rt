@@ -1,6 +1,7 @@
 //! LLVM modules in memory, their builder, and the rules that a checked module meets.
 #![tactic(auto)]
 
+pub mod bodies;
 pub mod check_err;
 pub mod checking;
 pub mod code;

@@ -25,6 +25,9 @@ use support::interner::Interner;
 use support::items::Items;
 use support::text::Text;
 
+mod adding;
+mod naming;
+
 /// A module in memory.
 #[derive(Drop)]
 pub struct LLVMModule {
@@ -357,13 +360,15 @@ impl LLVMModule {
         self.alloc
     }
 
-    pub(crate) fn block_count(&self) -> u32
+    /// How many blocks there are, in all functions together.
+    pub fn block_count(&self) -> u32
         ensures { result ≡ length self.now.blocks }
     {
         self.code.block_count()
     }
 
-    pub(crate) fn inst_count(&self) -> u32
+    /// How many instructions there are, in all functions together.
+    pub fn inst_count(&self) -> u32
         ensures { result ≡ length self.now.insts }
     {
         self.code.inst_count()

@@ -1,0 +1,149 @@
+//! Bodies that are handed over whole: their blocks and instructions name each other by the numbers that they get.
+
+ghost use Rattle.std.specs.Prelude.{◌≡◌, ◌+◌, ◌<◌, ◌≤◌, ◌^◌, ◌++◌, IfOk, OnErr, OnOk, length, map};
+ghost use Rattle.std.specs.Vec.{vec_len, vec_capacity};
+ghost use Rattle.llvm_core.specs.Bodies.{block_numbers, body_blocks, body_insts, inst_in, inst_numbers};
+
+use crate::code::{BlockData, InstData, LLVMInst};
+use crate::numbers::{LLVMBasicBlock, LLVMFunction, LLVMInstRef, LLVMType};
+use std::alloc::{AllocError, Global};
+use std::mem;
+use support::items::{Items, append_both};
+use support::text::Text;
+
+/// An instruction of a body: the name of its result, empty where it has none, the type of its result, and what it does.
+#[derive(Drop)]
+pub struct BodyInst {
+    pub name: Text,
+    pub ty: LLVMType,
+    pub inst: LLVMInst,
+}
+
+/// A block of a body; an empty name is none.
+#[derive(Drop)]
+pub struct BodyBlock {
+    pub name: Text,
+    pub insts: Items<BodyInst>,
+}
+
+/// What a module gets of a body: blocks, their numbers, and instructions.
+#[derive(Drop)]
+pub(crate) struct Numbered {
+    pub numbers: Items<LLVMBasicBlock>,
+    pub blocks: Vec<BlockData>,
+    pub insts: Vec<InstData>,
+}
+
+/// Gives the blocks of a body of `f` the numbers from `first_block` on, and its instructions those from `first_inst` on.
+pub(crate) fn number_body(
+    alloc: Global,
+    f: LLVMFunction,
+    body: Items<BodyBlock>,
+    first_block: u32,
+    first_inst: u32,
+) -> Result<Numbered, AllocError>
+    ensures numbers { IfOk result (λ n. n.numbers ≡ block_numbers first_block body) }
+    ensures blocks { IfOk result (λ n. n.blocks.items ≡ body_blocks f first_inst body) }
+    ensures insts { IfOk result (λ n. n.insts.items ≡ body_insts first_block body) }
+    ensures few_blocks { IfOk result (λ n. first_block + length n.blocks.items < 2 ^ 32) }
+    ensures few_insts { IfOk result (λ n. first_inst + length n.insts.items < 2 ^ 32) }
+{
+    let mut next_block = first_block;
+    let mut next_inst = first_inst;
+    let mut numbers = Items::new(alloc);
+    let mut blocks = Vec::new(alloc);
+    let mut insts = Vec::new(alloc);
+    for block in body.into_vec() {
+        let number = LLVMBasicBlock(take_number(&mut next_block)?);
+        let (of_block, next) = push_insts(alloc, number, block.insts, next_inst, &mut insts)?;
+        next_inst = next;
+        let row = BlockData {
+            name: block.name,
+            function: f,
+            insts: of_block,
+        };
+        append_both(&mut blocks, &mut numbers, row, number)?;
+    }
+    Ok(Numbered {
+        numbers,
+        blocks,
+        insts,
+    })
+}
+
+/// Appends the instructions of a block, under the numbers from `first` on, and answers these and the next one.
+fn push_insts(
+    alloc: Global,
+    block: LLVMBasicBlock,
+    insts: Items<BodyInst>,
+    first: u32,
+    rows: &mut Vec<InstData>,
+) -> Result<(Items<LLVMInstRef>, u32), AllocError>
+    ensures numbers { IfOk result (λ r. r.0 ≡ inst_numbers first insts) }
+    ensures next { IfOk result (λ r. r.1 ≡ first + length insts) }
+    ensures few { IfOk result (λ r. r.1 < 2 ^ 32) }
+    ensures rows { OnOk result (rows.new.items ≡ rows.old.items ++ map (inst_in block.0) insts) }
+{
+    let mut next = first;
+    let mut numbers = Items::new(alloc);
+    for inst in insts.into_vec() {
+        let number = LLVMInstRef(take_number(&mut next)?);
+        append_both(rows, &mut numbers, inst_in(block, inst), number)?;
+    }
+    Ok((numbers, next))
+}
+
+/// An instruction as a block has it.
+fn inst_in(block: LLVMBasicBlock, inst: BodyInst) -> InstData
+    ensures { result ≡ inst_in block.0 inst }
+{
+    let BodyInst { name, ty, inst } = inst;
+    InstData {
+        name,
+        block,
+        ty,
+        inst,
+    }
+}
+
+/// The next number, which is taken.
+fn take_number(next: &mut u32) -> Result<u32, AllocError>
+    ensures number { IfOk result (λ n. n ≡ next.old) }
+    ensures next { OnOk result (next.new ≡ next.old + 1) }
+    ensures few { OnOk result (next.new < 2 ^ 32) }
+{
+    let number = *next;
+    if number == u32::MAX {
+        return Err(AllocError);
+    }
+    *next = number + 1;
+    Ok(number)
+}
+
+/// Appends one list to another, or leaves that.
+pub(crate) fn append_items<T: Drop>(
+    alloc: Global,
+    list: &mut Items<T>,
+    more: Items<T>,
+) -> Result<(), AllocError>
+    ensures ok { OnOk result (list.new ≡ list.old ++ more) }
+    ensures err { OnErr result (list.new ≡ list.old) }
+{
+    let mut joined = mem::replace(list, Items::new(alloc)).into_vec();
+    let mut rest = more.into_vec();
+    let appended = joined.append(&mut rest);
+    *list = Items::from_vec(joined);
+    appended
+}
+
+/// Appends one list to another that has the room for it.
+pub(crate) fn append_reserved<T: Drop>(list: &mut Vec<T>, more: Vec<T>)
+    requires { vec_len list.old + vec_len more ≤ vec_capacity list.old }
+    ensures { list.new.items ≡ list.old.items ++ more.items }
+{
+    let mut rest = more;
+    match list.append(&mut rest) {
+        Ok(()) => (),
+        Err(_) => unreachable!(),
+    }
+}

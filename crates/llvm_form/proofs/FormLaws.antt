@@ -1,0 +1,190 @@
+-- The test of a module decides whether it is of the form.
+use Rattle.std.proofs.Common.{◌≡◌, ◌<◌, ℕ, Bool, true, false, not, nat_lt, ◌&&◌, List, [], ◌∷◌, Some, length, map, slice_get, refl, sym, ap, subst, ◌∙◌, arith, All}
+use Rattle.std.specs.Bool.{Decides}
+use Rattle.std.specs.List.{list_all}
+use Rattle.std.specs.Option.{option_map_or}
+use Rattle.std.proofs.lemmas.Bool.{ltb-true, lt-ltb, and_from, and_parts}
+use Rattle.std.proofs.lemmas.Option.{same_Some}
+use Rattle.std.proofs.lemmas.Bool.Decides.{Decides-at, Decides-and, Decides-like, Decides-by_and}
+use Rattle.std.proofs.lemmas.List.Elements.{All-nil, All-cons, All-head, All-tail, All-weaker}
+use Rattle.support.proofs.ListLaws.{all_from, item_there}
+use Rattle.support.specs.Interned.{IsDistinctList}
+use Rattle.llvm_core.specs.declared.numbers.LLVMBasicBlock.{LLVMBasicBlock}
+use Rattle.llvm_core.specs.declared.code.FunctionData.{FunctionData}
+use Rattle.llvm_core.specs.declared.code.BlockData.{BlockData}
+use Rattle.llvm_core.specs.Module.{Module}
+use Rattle.llvm_core.specs.Names.{is_plain, IsPlainOrNone}
+use Rattle.llvm_core.specs.Parts.{is_kind}
+use Rattle.llvm_core.specs.Sound.{IsModule}
+use Rattle.llvm_core.specs.Data.{TypeTree, TypeTrees, FunctionType, Operand, Placed, Block, Function, ModuleData, Instruction, Phi, Applied, type_at, types_at, trees_of, data_of, operand_type, placed_in}
+use Rattle.llvm_core.specs.Checked.{IsChecked}
+use Rattle.llvm_core.specs.Form.{IsShortInt, IsShortResult, AreShortInts, IsOperand, IsForm, IsFormFunction, IsFormBlock, IsFormPlaced, IsFormInstruction, IsNarrow, IsNarrowFunction, IsNarrowBlock, IsNarrowPlaced, operands_of}
+use Rattle.llvm_core.proofs.DataLemmas.{within_at, function_at, function_tree_of, block_count_of, block_of_number}
+use Rattle.llvm_core.proofs.FormTypes.{signature_of, function_typed}
+use Rattle.llvm_core.proofs.FormPlaces.{shown, shown_block, block_from}
+use Rattle.llvm_core.proofs.DistinctLaws.{each_function, blocks_once}
+use Rattle.llvm_core.proofs.CheckedForm.{form_of_checked}
+use Rattle.llvm_form.specs.Narrow.{is_plain_or_none, is_short, is_short_result_kind, is_narrow_block, is_narrow_block_data, is_narrow_signature, has_body, is_narrow_function_data, is_narrow}
+use Rattle.llvm_form.specs.Once.{HasInstsOnce, AreInstsOnce}
+use Rattle.llvm_form.proofs.AllLaws.{each_passes, all_pass}
+use Rattle.llvm_form.proofs.TypeLaws.{plain_or_none, short_types, short_result_decided}
+use Rattle.llvm_form.proofs.CodeLaws.{block_decided}
+
+-- ---- functions
+
+-- what the form asks of a function's type
+abbrev IsNarrowType : TypeTree → Type 0
+IsNarrowType τ = (result : TypeTree) × (types : TypeTrees) × (τ ≡ FunctionType result types false) × IsShortResult result × AreShortInts types
+
+type_by : (result : TypeTree) (types : TypeTrees) (variadic returned params : Bool) → Decides returned (IsShortResult result) → Decides params (AreShortInts types)
+    → Decides (not variadic && returned && params) (IsNarrowType (FunctionType result types variadic))
+type_by result types true returned params d e = (λ h. absurd (let p = and_parts false returned (and_parts (false && returned) params h).0 in let no : false ≡ true = p.0 in cc), λ h. absurd (let same : FunctionType result types true ≡ FunctionType h.0 h.1 false = h.2 in cc))
+type_by result types false returned params d e = (
+  λ h. let p = and_parts (true && returned) params h in (result, types, refl, d.0 (and_parts true returned p.0).1, e.0 p.1),
+  λ h. let same : FunctionType result types false ≡ FunctionType h.0 h.1 false = h.2 in
+      let first : h.0 ≡ result = (cc) in
+      let others : h.1 ≡ types = (cc) in
+      and_from (true && returned) params (and_from true returned refl (d.1 (subst IsShortResult first h.3))) (e.1 (subst AreShortInts others h.4)),
+)
+
+module _ (m : Module) (sound : IsModule m) (checked : IsChecked m) (f : ℕ) (x : FunctionData) (at : slice_get m.functions f ≡ Some x) where
+  type_decided : Decides (is_kind (is_narrow_signature m) m.types x.ty) (IsNarrowType (shown m f x).type)
+  type_decided =
+      let typed = function_typed m f x sound at in
+      let s = signature_of m f x typed.0 typed.1 typed.2 sound at typed.3 in
+      let here = ap (λ o. option_map_or (is_narrow_signature m) o false) s.kind_is in
+      let tree = function_tree_of m x.ty s.returned s.params s.variadic sound s.kind_is in
+      Decides-at (is_kind (is_narrow_signature m) m.types x.ty) (not s.variadic && is_kind is_short_result_kind m.types s.returned && list_all (is_short m) s.params) here
+      (subst (λ τ. Decides (not s.variadic && is_kind is_short_result_kind m.types s.returned && list_all (is_short m) s.params) (IsNarrowType τ)) (sym tree)
+      (type_by (type_at (trees_of m).types s.returned) (types_at (trees_of m).types s.params) s.variadic (is_kind is_short_result_kind m.types s.returned) (list_all (is_short m) s.params)
+      (short_result_decided m sound s.returned s.within) (short_types m sound s.params s.params_within)))
+
+  body_decided : Decides (has_body m x) (¬ ((shown m f x).blocks ≡ []))
+  body_decided =
+      let count = block_count_of m f x sound at in (
+        λ e h. let some = ltb-true 0 (length x.blocks) e in let none = ap length h in absurd (omega (arith, some, none, count)),
+        λ h. lt-ltb 0 (length x.blocks) (by x.blocks (shown m f x).blocks count h),
+      )
+    where
+      by : (xs : List LLVMBasicBlock) (bs : List Block) → length bs ≡ length xs → ¬ (bs ≡ []) → 0 < length xs
+      by [] [] e h = absurd (h refl)
+      by [] (b ∷ bs) e h = absurd (omega (arith, e))
+      by (y ∷ xs) bs e h = omega arith
+
+  blocks_decided : Decides (list_all (is_narrow_block m) x.blocks) (All (IsNarrowBlock (shown m f x)) (shown m f x).blocks)
+  blocks_decided = (
+    λ e. all_from (IsNarrowBlock (shown m f x)) (shown m f x).blocks (λ place c is.
+        let l = block_from m f x place c sound at is in
+        let passes = each_passes (is_narrow_block m) x.blocks place (record { 0 = l.number }) e l.listed in
+        (block_decided m sound f x at checked place c l).0 (sym (ap (λ o. option_map_or (is_narrow_block_data m) o false) l.here) ∙ passes)),
+    λ all. all_pass (is_narrow_block m) x.blocks (λ place b listed.
+        let y = item_there m.blocks b.0 (within_at x.blocks (λ (b : LLVMBasicBlock). b.0 < length m.blocks) (sound.functions f x at).blocks place b listed) in
+        let is = block_of_number m f x place b y.0 sound at listed y.1 in
+        let l = block_from m f x place _ sound at is in
+        let number : b ≡ record { 0 = l.number } = same_Some b (record { 0 = l.number }) (sym listed ∙ l.listed) in
+        let here = ap (λ (b : LLVMBasicBlock). slice_get m.blocks b.0) number ∙ l.here in
+        ap (λ o. option_map_or (is_narrow_block_data m) o false) here ∙ (block_decided m sound f x at checked place _ l).1 (within_at (shown m f x).blocks (IsNarrowBlock (shown m f x)) all place _ is)),
+  )
+
+  -- the parts of a narrow function
+  record NarrowParts : Type 0 where
+    name : is_plain x.name ≡ true
+    type : IsNarrowType (shown m f x).type
+    params : All IsPlainOrNone x.params
+    body : ¬ ((shown m f x).blocks ≡ [])
+    blocks : All (IsNarrowBlock (shown m f x)) (shown m f x).blocks
+
+  parts_decided : Decides (is_narrow_function_data m x) NarrowParts
+  parts_decided =
+      let named = is_plain x.name in
+      let typed = is_kind (is_narrow_signature m) m.types x.ty in
+      let params = list_all is_plain_or_none x.params in
+      let name_decided : Decides named (is_plain x.name ≡ true) = (λ e. e, λ h. h) in
+      let params_decided : Decides params (All IsPlainOrNone x.params) = Decides-by_and is_plain_or_none IsPlainOrNone (list_all is_plain_or_none) plain_or_none refl (λ n ns. refl) x.params in
+      let first = Decides-and named typed name_decided type_decided in
+      let second = Decides-and (named && typed) params first params_decided in
+      let third = Decides-and (named && typed && params) (has_body m x) second body_decided in
+      Decides-like (is_narrow_function_data m x) (λ h. record { name = h.0.0.0.0; type = h.0.0.0.1; params = h.0.0.1; body = h.0.1; blocks = h.1 })
+      (λ (p : NarrowParts). ((((p.name, p.type), p.params), p.body), p.blocks))
+      (Decides-and (named && typed && params && has_body m x) (list_all (is_narrow_block m) x.blocks) third blocks_decided)
+
+  function_decided : HasInstsOnce (shown m f x) → Decides (is_narrow_function_data m x) (IsNarrowFunction (shown m f x))
+  function_decided once = Decides-like (is_narrow_function_data m x) to back parts_decided
+    where
+      to : NarrowParts → IsNarrowFunction (shown m f x)
+      to p = record {
+        name = p.name;
+        result = p.type.0;
+        types = p.type.1;
+        type = p.type.2;
+        returns = p.type.3;
+        takes = p.type.4;
+        param_names = p.params;
+        body = p.body;
+        blocks = p.blocks;
+        block_numbers = blocks_once m f x sound at;
+        numbers = once;
+      }
+
+      back : IsNarrowFunction (shown m f x) → NarrowParts
+      back n = record { name = n.name; type = (n.result, n.types, n.type, n.returns, n.takes); params = n.param_names; body = n.body; blocks = n.blocks }
+
+-- ---- a function of the form is narrow
+
+module _ (f : Function) where
+  operands_short : (b : ℕ) (type : TypeTree) (i : Instruction) → IsFormInstruction f b type i → All (λ (o : Operand). IsShortInt (operand_type f o)) (operands_of i)
+  operands_short b type (Phi entries) form = by entries form.0
+    where
+      by : (es : List (Operand × ℕ)) → All (λ (e : Operand × ℕ). IsOperand f type e.0) es → All (λ (o : Operand). IsShortInt (operand_type f o)) (map (λ (e : Operand × ℕ). e.0) es)
+      by [] all = All-nil (λ (o : Operand). IsShortInt (operand_type f o))
+      by (e ∷ es) all =
+          let P : Operand → Type 0 = λ o. IsShortInt (operand_type f o) in
+          let Q : Operand × ℕ → Type 0 = λ e. IsOperand f type e.0 in
+          let here = All-head Q e es all in
+          All-cons P e.0 (map (λ (e : Operand × ℕ). e.0) es) (subst IsShortInt (sym here.typed) here.short) (by es (All-tail Q e es all))
+  operands_short b type (Applied r) form = of_types r.operands form.short
+    where
+      of_types : (os : List Operand) → All IsShortInt (map (operand_type f) os) → All (λ (o : Operand). IsShortInt (operand_type f o)) os
+      of_types [] all = All-nil (λ (o : Operand). IsShortInt (operand_type f o))
+      of_types (o ∷ os) all = All-cons (λ (o : Operand). IsShortInt (operand_type f o)) o os (All-head IsShortInt (operand_type f o) (map (operand_type f) os) all) (of_types os (All-tail IsShortInt (operand_type f o) (map (operand_type f) os) all))
+
+  narrow_placed : (b : ℕ) (p : Placed) → IsFormPlaced f b p → IsNarrowPlaced f p
+  narrow_placed b p form = record { name = form.name; unnamed = form.unnamed; result = form.short; operands = operands_short b p.type p.instruction form.instruction }
+
+  narrow_block : (b : Block) → IsFormBlock f b → IsNarrowBlock f b
+  narrow_block b form = record { label = form.label; instructions = All-weaker (IsFormPlaced f b.number) (IsNarrowPlaced f) (narrow_placed b.number) b.instructions form.instructions }
+
+  narrow_function : IsFormFunction f → IsNarrowFunction f
+  narrow_function form = record {
+    name = form.name;
+    result = form.result;
+    types = form.types;
+    type = form.type;
+    returns = form.returns;
+    takes = form.takes;
+    param_names = form.param_names;
+    body = form.body;
+    blocks = All-weaker (IsFormBlock f) (IsNarrowBlock f) narrow_block f.blocks form.blocks;
+    block_numbers = form.block_numbers;
+    numbers = form.numbers;
+  }
+
+pub narrow_of_form : (d : ModuleData) → IsForm d → IsNarrow d
+narrow_of_form d form = All-weaker IsFormFunction IsNarrowFunction narrow_function d.functions form
+
+-- ---- a module
+
+module _ (m : Module) (sound : IsModule m) (checked : IsChecked m) (once : AreInstsOnce (data_of m)) where
+  shown_once : (f : ℕ) (x : FunctionData) → slice_get m.functions f ≡ Some x → HasInstsOnce (shown m f x)
+  shown_once f x at = within_at (data_of m).functions HasInstsOnce once f (shown m f x) (function_at m f x at)
+
+  narrow_decided : Decides (is_narrow m) (IsNarrow (data_of m))
+  narrow_decided = (
+    λ e. each_function m IsNarrowFunction (λ f x at. (function_decided m sound checked f x at (shown_once f x at)).0 (each_passes (is_narrow_function_data m) m.functions f x e at)),
+    λ narrow. all_pass (is_narrow_function_data m) m.functions (λ f x at.
+        (function_decided m sound checked f x at (shown_once f x at)).1 (within_at (data_of m).functions IsNarrowFunction narrow f (shown m f x) (function_at m f x at))),
+  )
+
+  -- the test says whether the module is of the form
+  pub form_decided : Decides (is_narrow m) (IsForm (data_of m))
+  form_decided = (λ e. form_of_checked m sound checked (narrow_decided.0 e), λ form. narrow_decided.1 (narrow_of_form (data_of m) form))

@@ -1,0 +1,6 @@
+-- The lemmas of the crate.
+pub mod AllLaws
+pub mod FewLaws
+pub mod TypeLaws
+pub mod CodeLaws
+pub mod FormLaws

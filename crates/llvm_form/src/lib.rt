@@ -1,0 +1,6 @@
+//! The form of modules that is translated today, asked of a module.
+#![tactic(auto)]
+
+pub mod form;
+pub mod functions;
+pub mod narrow;

@@ -1,0 +1,71 @@
+//! Whether names are plain, and types integers of 1 to 64 bits.
+
+ghost use Rattle.std.specs.Prelude.{◌≡◌};
+ghost use Rattle.std.specs.List.{list_all};
+ghost use Rattle.llvm_core.specs.Names.{is_letter, is_plain, is_plain_byte};
+ghost use Rattle.llvm_core.specs.Checked.{is_void};
+ghost use Rattle.llvm_form.specs.Narrow.{is_short_kind, is_plain_or_none, is_short_result_kind};
+
+use llvm_core::types::LLVMTypeKind;
+
+fn is_letter(b: u8) -> bool
+    ensures { result ≡ is_letter b }
+{
+    b.is_ascii_uppercase() || b.is_ascii_lowercase()
+}
+
+fn is_plain_byte(b: u8) -> bool
+    ensures { result ≡ is_plain_byte b }
+{
+    is_letter(b) || b.is_ascii_digit() || b == b'_'
+}
+
+fn are_plain_bytes(bytes: &[u8]) -> bool
+    ensures { result ≡ list_all is_plain_byte bytes.now }
+{
+    bytes.iter().all(|b| is_plain_byte(*b))
+}
+
+/// Whether a name is plain: a letter, then letters, digits and `_`.
+pub fn is_plain(name: &str) -> bool
+    ensures { result ≡ is_plain name.now }
+{
+    match name.as_bytes() {
+        [first, rest @ ..] => is_letter(*first) && are_plain_bytes(rest),
+        [] => false,
+    }
+}
+
+/// Whether a name is plain, or none.
+pub fn is_plain_or_none(name: &str) -> bool
+    ensures { result ≡ is_plain_or_none name.now }
+{
+    name.is_empty() || is_plain(name)
+}
+
+/// Whether a type is an integer of 1 to 64 bits.
+pub fn is_short_kind(kind: &LLVMTypeKind) -> bool
+    ensures { result ≡ is_short_kind kind.now }
+{
+    match kind {
+        LLVMTypeKind::Int(width) => *width <= 64,
+        _ => false,
+    }
+}
+
+/// Whether a type is that of no value.
+pub fn is_void(kind: &LLVMTypeKind) -> bool
+    ensures { result ≡ is_void kind.now }
+{
+    match kind {
+        LLVMTypeKind::Void => true,
+        _ => false,
+    }
+}
+
+/// Whether a type is what a function of the form returns.
+pub fn is_short_result_kind(kind: &LLVMTypeKind) -> bool
+    ensures { result ≡ is_short_result_kind kind.now }
+{
+    is_void(kind) || is_short_kind(kind)
+}
