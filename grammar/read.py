@@ -130,7 +130,7 @@ class Tokenizer:
         c = b[i]
         behind = b[i + 1] if i + 1 < len(b) else -1
         if c in NAME:
-            end = run(b, i, DIGITS if c in DIGITS else NAME)
+            end = run(b, i, NAME)
             if b[end:end + 1] == b':':
                 return 'LABEL', 'LABEL', end + 1
         if c == 34:
@@ -177,6 +177,8 @@ class Tokenizer:
             m = FLOAT.match(b, i)
             if m:
                 return 'FLOAT', 'FLOAT', m.end()
+            if b[i:i + 2] == b'0x':
+                raise BadToken(i)
             return 'INT', 'INT', INT.match(b, i).end()
         if b[i:i + 3] == b'...':
             return '...', '...', i + 3

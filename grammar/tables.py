@@ -5,6 +5,8 @@
     tables.py classes      the classes by number
     tables.py rules        the rules, by number, with their alternatives, first classes, more and height
     tables.py rust         the tables as arrays
+    tables.py numbers      the classes of kinds of tokens, as constants
+    tables.py words        the words with their classes, as arrays
     tables.py merged ..    the same of a grammar in which words that stand for each other have one class: the words that stand in
                            the same alternatives but for themselves, as the attributes that are one word. They are held then.
 """
@@ -445,25 +447,28 @@ def rust(g):
     symbols, alternatives, rows, firsts, mores = g.flat()
     out = []
     out.append('//! The grammar of LLVM text in tables, which `grammar/tables.py merged rust` makes of `grammar/ll.grammar`.\n')
+    out.append('ghost use Rattle.std.specs.Prelude.{◌≡◌};')
+    out.append('ghost use Rattle.grammars.specs.FlatGrammar.{grammar_of};')
+    out.append('ghost use Rattle.ll_rules.specs.Llvm.{llvm};\n')
     out.append('use grammars::grammar::Grammar;')
     out.append('use grammars::rows::{Alternative, Row};')
     out.append('use grammars::symbols::Symbol;\n')
     out.append('/// The symbols of all alternatives, those of each with the last first.')
-    out.append('static SYMBOLS: [Symbol; %d] = [' % len(symbols))
+    out.append('pub static SYMBOLS: [Symbol; %d] = [' % len(symbols))
     for i, (start, end, _, _) in enumerate(alternatives):
         out.append('    // %d: %s' % (i + 1, g.alternative_text(i + 1)))
         for s, n in symbols[start:end]:
             out.append('    Symbol::%s(%d),' % (s, n))
     out.append('];\n')
     out.append('/// The alternatives of all rules.')
-    out.append('static ALTERNATIVES: [Alternative; %d] = [' % len(alternatives))
+    out.append('pub static ALTERNATIVES: [Alternative; %d] = [' % len(alternatives))
     for rule, (start, end) in enumerate(g.spans):
         out.append('    // %s' % g.rules[rule])
         for a in alternatives[start:end]:
             out.append('    Alternative {\n        start: %d,\n        end: %d,\n        first: %d,\n        first_end: %d,\n    },' % a)
     out.append('];\n')
     out.append('/// The rules.')
-    out.append('static ROWS: [Row; %d] = [' % len(rows))
+    out.append('pub static ROWS: [Row; %d] = [' % len(rows))
     for rule, r in enumerate(rows):
         out.append('    // %d: %s' % (rule, g.rules[rule]))
         out.append('    Row {\n        start: %d,\n        end: %d,\n        more: %d,\n        more_end: %d,\n        nothing: %d,\n        height: %d,\n    },' % r)
@@ -471,7 +476,7 @@ def rust(g):
 
     def numbers(name, what, xs, parts):
         out.append('/// %s' % what)
-        out.append('static %s: [u16; %d] = [' % (name, len(xs)))
+        out.append('pub static %s: [u16; %d] = [' % (name, len(xs)))
         for title, start, end in parts:
             if start == end:
                 continue
@@ -484,7 +489,9 @@ def rust(g):
     numbers('MORES', 'The classes that might go on with rules.', mores,
             [(g.rules[rule], r[2], r[3]) for rule, r in enumerate(rows)])
     out.append('''/// The grammar.
-pub fn llvm() -> Grammar<'static> {
+pub fn llvm() -> Grammar<'static>
+    ensures { grammar_of result ≡ llvm }
+{
     Grammar {
         symbols: &SYMBOLS,
         alternatives: &ALTERNATIVES,
@@ -497,6 +504,87 @@ pub fn llvm() -> Grammar<'static> {
     return '\n'.join(out)
 
 
+MARK_NAMES = {'=': 'EQUALS', ',': 'COMMA', '(': 'OPEN_PAREN', ')': 'CLOSE_PAREN', '[': 'OPEN_BRACKET', ']': 'CLOSE_BRACKET', '{': 'OPEN_BRACE',
+              '}': 'CLOSE_BRACE', '<': 'LESS', '>': 'GREATER', '!': 'BANG', '|': 'BAR', '...': 'DOTS'}
+BUCKETS = 256
+
+
+def bucket_of(text):
+    """The number of the bucket that a text stands in, as `bucket_of` of `ll_classes` says."""
+    b = text.encode()
+    return (len(b) + 12 * b[0] + 150 * b[len(b) // 2] + 129 * b[-1]) % BUCKETS
+
+
+def numbers_rust(g):
+    out = ['//! The numbers of the classes that kinds of tokens have, which `grammar/tables.py merged numbers` makes of', '//! `grammar/ll.grammar`.\n']
+    out.append('/// How many classes there are.')
+    out.append('pub const CLASSES: u16 = %d;\n' % len(g.classes))
+    shared = set(g.class_of_word.values())
+    for c in g.kinds + g.marks:
+        if c not in shared:
+            out.append('/// %s' % ('`%s`' % c if c in MARK_NAMES else c))
+            out.append('pub const %s: u16 = %d;' % (MARK_NAMES.get(c, c), g.class_number[c]))
+    return '\n'.join(out) + '\n'
+
+
+def words_rust(g):
+    """The words in buckets, and the names of metadata behind them."""
+    classes = {w: g.class_number[c] for w, c in g.class_of_word.items()}
+    classes.update((w, g.class_number['REFUSED']) for w in g.refused_everywhere)
+    classes.update((n, g.class_number[n]) for n in g.nodes)
+    buckets = [[] for _ in range(BUCKETS)]
+    for w in sorted(set(classes) - set(g.nodes)):
+        buckets[bucket_of(w)].append(w)
+    words = [w for bucket in buckets for w in bucket]
+    order = words + g.nodes
+    out = ['//! The words of LLVM text with their classes, which `grammar/tables.py merged words` makes of `grammar/ll.grammar`.\n']
+    out.append('ghost use Rattle.std.specs.Prelude.{◌≡◌};')
+    out.append('ghost use Rattle.ll_classes.specs.Classes.{names, words};')
+    out.append('ghost use Rattle.ll_classes.specs.Llvm.{llvm_names, llvm_rows};\n')
+    out.append('use crate::words::{Bucket, Word, Words};\n')
+    out.append('/// The texts of all words, one behind another.')
+    out.append('pub static TEXTS: [u8; %d] = *b"\\' % sum(map(len, order)))
+    for i in range(0, len(order), 8):
+        out.append(''.join(order[i:i + 8]) + ('\\' if i + 8 < len(order) else '";\n'))
+    out.append('/// The words that the grammar names and those that are refused everywhere, in the order of their buckets, and behind')
+    out.append('/// them the names of metadata that have a class of their own.')
+    out.append('pub static WORDS: [Word; %d] = [' % len(order))
+    start = 0
+    for w in order:
+        out.append('    // %s: %s' % (w, g.classes[classes[w]]))
+        out.append('    Word {\n        start: %d,\n        end: %d,\n        class: %d,\n    },' % (start, start + len(w), classes[w]))
+        start += len(w)
+    out.append('];\n')
+    out.append('/// The words of each bucket.')
+    out.append('pub static BUCKETS: [Bucket; %d] = [' % BUCKETS)
+    start = 0
+    for bucket in buckets:
+        out.append('    Bucket {\n        start: %d,\n        end: %d,\n    },' % (start, start + len(bucket)))
+        start += len(bucket)
+    out.append('];\n')
+    out.append('''/// The names of metadata.
+pub const NAMES: Bucket = Bucket {
+    start: %d,
+    end: %d,
+};
+
+/// The words of LLVM text.
+#[tactic(auto, unfolding(crate::specs::Buckets::bucket_of))]
+pub fn llvm_words() -> Words<'static>
+    ensures rows { words result ≡ llvm_rows }
+    ensures names { names result ≡ llvm_names }
+{
+    Words {
+        texts: &TEXTS,
+        words: &WORDS,
+        buckets: &BUCKETS,
+        names: NAMES,
+    }
+}
+''' % (len(words), len(order)))
+    return '\n'.join(out)
+
+
 def main():
     words = sys.argv[1:]
     merged = words[:1] == ['merged']
@@ -505,6 +593,10 @@ def main():
     what = what[0]
     if what == 'rust':
         print(rust(g), end='')
+    elif what == 'numbers':
+        print(numbers_rust(g), end='')
+    elif what == 'words':
+        print(words_rust(g), end='')
     elif what == 'classes':
         for i, c in enumerate(g.classes):
             sort = 'kind' if c in g.kinds else 'mark' if c in g.marks else 'node' if c in g.nodes else 'word'

@@ -8,6 +8,7 @@
 4. The arrays that `tables.py rust` prints are the tables.
 5. Refusals tell the right place: whatever the reader says that a place would take can be put there, and nothing else.
 6. The tables of the engine's own example come out as they stand in its tests.
+7. The quick reader cuts the examples as read.py does, and reads them likewise.
 """
 import os
 import random
@@ -15,6 +16,7 @@ import re
 import sys
 import tempfile
 
+import quick
 import read
 import tables
 
@@ -201,6 +203,33 @@ def test_lists():
     print('the tables of the engine\'s own example are made as they stand there')
 
 
+def test_quick(g, reader):
+    fast, slow = quick.Quick(g), read.Tokenizer(g)
+    rule, cut = None, 0
+    for line in open(os.path.join(tables.HERE, 'examples', 'examples.txt'), encoding='utf-8'):
+        mark, _, text = line.rstrip('\n').partition(' ')
+        if mark == '==':
+            rule = text.strip()
+        if mark not in ('+', '-S', '-R', '-B', '='):
+            continue
+        b = text.replace('▶', '').replace('¶', '\n').encode('utf-8')
+        try:
+            tokens = slow.tokens(b)
+        except read.BadToken as e:
+            tokens = e.at
+        try:
+            found = fast.cut(b)
+        except read.BadToken as e:
+            assert e.at == tokens, line
+            continue
+        assert list(zip(found.classes, found.places, found.ends)) == [(t.cls, t.at, t.end) for t in tokens], line
+        cut += 1
+        if rule != 'tokens':
+            refusal, _ = reader.read(g.rule_number[rule], tokens)
+            assert fast.reads(rule, found.classes) == (refusal and refusal.at), line
+    print('%d examples are cut and read by the quick reader as by the other' % cut)
+
+
 def main():
     rng = random.Random(int(sys.argv[1]) if len(sys.argv) > 1 else 1)
     g = tables.Grammar(merged='merged' in sys.argv)
@@ -210,6 +239,7 @@ def main():
     test_bad(rng)
     test_rust(g)
     test_lists()
+    test_quick(g, reader)
 
 
 if __name__ == '__main__':

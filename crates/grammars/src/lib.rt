@@ -5,7 +5,7 @@ pub mod choices;
 pub mod grammar;
 pub mod laws;
 mod lookup;
-mod parts;
+pub mod parts;
 pub mod read_err;
 pub mod reader;
 pub mod rows;

@@ -1,11 +1,15 @@
 //! The grammar of LLVM text in tables, which `grammar/tables.py merged rust` makes of `grammar/ll.grammar`.
 
+ghost use Rattle.std.specs.Prelude.{◌≡◌};
+ghost use Rattle.grammars.specs.FlatGrammar.{grammar_of};
+ghost use Rattle.ll_rules.specs.Llvm.{llvm};
+
 use grammars::grammar::Grammar;
 use grammars::rows::{Alternative, Row};
 use grammars::symbols::Symbol;
 
 /// The symbols of all alternatives, those of each with the last first.
-static SYMBOLS: [Symbol; 918] = [
+pub static SYMBOLS: [Symbol; 915] = [
     // 1: file = item file
     Symbol::Rule(0),
     Symbol::Rule(1),
@@ -13,15 +17,15 @@ static SYMBOLS: [Symbol; 918] = [
     // 3: item = 'source_filename' '=' STR
     Symbol::Leaf(4),
     Symbol::Word(43),
-    Symbol::Word(112),
+    Symbol::Word(111),
     // 4: item = 'target' target '=' STR
     Symbol::Leaf(4),
     Symbol::Word(43),
     Symbol::Rule(2),
-    Symbol::Word(117),
+    Symbol::Word(116),
     // 5: item = LOCAL '=' 'type' type_body
     Symbol::Rule(4),
-    Symbol::Word(120),
+    Symbol::Word(119),
     Symbol::Word(43),
     Symbol::Leaf(1),
     // 6: item = GLOBAL '=' symbol
@@ -68,7 +72,7 @@ static SYMBOLS: [Symbol; 918] = [
     Symbol::Word(81),
     // 14: distinct = nothing
     // 15: type_body = 'opaque'
-    Symbol::Word(104),
+    Symbol::Word(103),
     // 16: type_body = '{' types '}'
     Symbol::Word(50),
     Symbol::Rule(66),
@@ -82,7 +86,7 @@ static SYMBOLS: [Symbol; 918] = [
     // 18: body_linkage = BODY_LINKAGE
     Symbol::Leaf(16),
     // 19: body_linkage = @'weak'
-    Symbol::Leaf(127),
+    Symbol::Leaf(126),
     // 20: data_linkage = body_linkage
     Symbol::Rule(5),
     // 21: data_linkage = DATA_LINKAGE
@@ -231,7 +235,7 @@ static SYMBOLS: [Symbol; 918] = [
     // 74: lost_attr = ENUM_ATTR_LOST_ATTR
     Symbol::Leaf(21),
     // 75: lost_attr = @'nocapture'
-    Symbol::Leaf(100),
+    Symbol::Leaf(99),
     // 76: lost_attr = @'dead_on_return'
     Symbol::Leaf(76),
     // 77: lost_attr = @'align' INT
@@ -276,7 +280,7 @@ static SYMBOLS: [Symbol; 918] = [
     // 91: align_value = '(' 'int' INT ')'
     Symbol::Word(46),
     Symbol::Leaf(3),
-    Symbol::Word(96),
+    Symbol::Word(95),
     Symbol::Word(45),
     // 92: call_attrs = GROUP call_attrs
     Symbol::Rule(40),
@@ -294,7 +298,7 @@ static SYMBOLS: [Symbol; 918] = [
     // 98: group_attr = 'align' '(' 'int' INT ')'
     Symbol::Word(46),
     Symbol::Leaf(3),
-    Symbol::Word(96),
+    Symbol::Word(95),
     Symbol::Word(45),
     Symbol::Word(65),
     // 99: attr = STR text_value
@@ -307,11 +311,11 @@ static SYMBOLS: [Symbol; 918] = [
     Symbol::Word(66),
     // 102: attr = 'uwtable' unwind_value
     Symbol::Rule(46),
-    Symbol::Word(122),
+    Symbol::Word(121),
     // 103: attr = number_attr '(' 'int' INT ')'
     Symbol::Word(46),
     Symbol::Leaf(3),
-    Symbol::Word(96),
+    Symbol::Word(95),
     Symbol::Word(45),
     Symbol::Rule(48),
     // 104: attr = either_attr '(' number_or_inside
@@ -337,7 +341,7 @@ static SYMBOLS: [Symbol; 918] = [
     Symbol::Leaf(3),
     // 110: stack_number = 'int' INT
     Symbol::Leaf(3),
-    Symbol::Word(96),
+    Symbol::Word(95),
     // 111: unwind_value = '(' unwind_number ')'
     Symbol::Word(46),
     Symbol::Rule(47),
@@ -347,7 +351,7 @@ static SYMBOLS: [Symbol; 918] = [
     Symbol::Leaf(25),
     // 114: unwind_number = 'int' INT
     Symbol::Leaf(3),
-    Symbol::Word(96),
+    Symbol::Word(95),
     // 115: number_attr = 'dead_on_return'
     Symbol::Word(76),
     // 116: number_attr = 'denormal_fpenv'
@@ -361,7 +365,7 @@ static SYMBOLS: [Symbol; 918] = [
     // 120: number_or_inside = 'int' INT ')'
     Symbol::Word(46),
     Symbol::Leaf(3),
-    Symbol::Word(96),
+    Symbol::Word(95),
     // 121: number_or_inside = ')'
     Symbol::Word(46),
     // 122: number_or_inside = '(' inside inside
@@ -515,273 +519,269 @@ static SYMBOLS: [Symbol; 918] = [
     Symbol::Leaf(89),
     // 189: most_words = @'getelementptr'
     Symbol::Leaf(90),
-    // 190: most_words = @'i1'
+    // 190: most_words = @'icmp'
     Symbol::Leaf(91),
-    // 191: most_words = @'icmp'
+    // 191: most_words = @'indirectbr'
     Symbol::Leaf(92),
-    // 192: most_words = @'indirectbr'
+    // 192: most_words = @'inrange'
     Symbol::Leaf(93),
-    // 193: most_words = @'inrange'
+    // 193: most_words = @'insertvalue'
     Symbol::Leaf(94),
-    // 194: most_words = @'insertvalue'
-    Symbol::Leaf(95),
-    // 195: most_words = @'label'
-    Symbol::Leaf(97),
-    // 196: most_words = @'load'
-    Symbol::Leaf(98),
-    // 197: most_words = @'nneg'
-    Symbol::Leaf(99),
-    // 198: most_words = @'nocapture'
-    Symbol::Leaf(100),
-    // 199: most_words = @'nsw'
-    Symbol::Leaf(101),
-    // 200: most_words = @'null'
-    Symbol::Leaf(102),
-    // 201: most_words = @'nuw'
-    Symbol::Leaf(103),
-    // 202: most_words = @'opaque'
-    Symbol::Leaf(104),
-    // 203: most_words = @'or'
-    Symbol::Leaf(105),
-    // 204: most_words = @'phi'
-    Symbol::Leaf(106),
-    // 205: most_words = @'ptr'
-    Symbol::Leaf(107),
-    // 206: most_words = @'ret'
-    Symbol::Leaf(108),
-    // 207: most_words = @'samesign'
-    Symbol::Leaf(109),
-    // 208: most_words = @'shufflevector'
-    Symbol::Leaf(110),
-    // 209: most_words = @'sideeffect'
-    Symbol::Leaf(111),
-    // 210: most_words = @'source_filename'
-    Symbol::Leaf(112),
-    // 211: most_words = @'splat'
-    Symbol::Leaf(113),
-    // 212: most_words = @'store'
-    Symbol::Leaf(114),
-    // 213: most_words = @'switch'
-    Symbol::Leaf(115),
-    // 214: most_words = @'syncscope'
-    Symbol::Leaf(116),
-    // 215: most_words = @'target'
-    Symbol::Leaf(117),
-    // 216: most_words = @'to'
-    Symbol::Leaf(118),
-    // 217: most_words = @'trunc'
-    Symbol::Leaf(119),
-    // 218: most_words = @'type'
-    Symbol::Leaf(120),
-    // 219: most_words = @'unreachable'
-    Symbol::Leaf(121),
-    // 220: most_words = @'uwtable'
-    Symbol::Leaf(122),
-    // 221: most_words = @'va_arg'
-    Symbol::Leaf(123),
-    // 222: most_words = @'void'
-    Symbol::Leaf(124),
-    // 223: most_words = @'volatile'
-    Symbol::Leaf(125),
-    // 224: most_words = @'vscale'
-    Symbol::Leaf(126),
-    // 225: most_words = @'weak'
-    Symbol::Leaf(127),
-    // 226: most_words = @'x'
-    Symbol::Leaf(128),
-    // 227: most_words = @'zext'
-    Symbol::Leaf(129),
-    // 228: most_words = INTTYPE
-    Symbol::Leaf(12),
-    // 229: most_words = WORD
-    Symbol::Leaf(14),
-    // 230: most_words = TARGET
-    Symbol::Leaf(15),
-    // 231: most_words = BODY_LINKAGE
-    Symbol::Leaf(16),
-    // 232: most_words = DATA_LINKAGE
-    Symbol::Leaf(17),
-    // 233: most_words = DSO
-    Symbol::Leaf(18),
-    // 234: most_words = UNNAMED
-    Symbol::Leaf(19),
-    // 235: most_words = STORAGE
-    Symbol::Leaf(20),
-    // 236: most_words = ENUM_ATTR_LOST_ATTR
-    Symbol::Leaf(21),
-    // 237: most_words = LOST_ATTR_NUMBER_ATTR
-    Symbol::Leaf(22),
-    // 238: most_words = EITHER_ATTR_LOST_ATTR
-    Symbol::Leaf(23),
-    // 239: most_words = LOST_ATTR_RANGE_ATTR
-    Symbol::Leaf(24),
-    // 240: most_words = UNWIND_NUMBER
-    Symbol::Leaf(25),
-    // 241: most_words = EITHER_ATTR
-    Symbol::Leaf(26),
-    // 242: most_words = ENUM_ATTR
-    Symbol::Leaf(27),
-    // 243: most_words = FLAT
-    Symbol::Leaf(28),
-    // 244: most_words = CONST
-    Symbol::Leaf(29),
-    // 245: most_words = CAST_CONST_CAST
-    Symbol::Leaf(30),
-    // 246: most_words = CONST_SUM_RMW_KIND_SUM
-    Symbol::Leaf(31),
-    // 247: most_words = SIMPLE
-    Symbol::Leaf(32),
-    // 248: most_words = SUM
-    Symbol::Leaf(33),
-    // 249: most_words = QUOTIENT
-    Symbol::Leaf(34),
-    // 250: most_words = BITS
-    Symbol::Leaf(35),
-    // 251: most_words = BITS_RMW_KIND
-    Symbol::Leaf(36),
-    // 252: most_words = PREDICATE
-    Symbol::Leaf(37),
-    // 253: most_words = CAST
-    Symbol::Leaf(38),
-    // 254: most_words = RMW_KIND
-    Symbol::Leaf(39),
-    // 255: most_words = ORDERING
-    Symbol::Leaf(40),
-    // 256: most_words = GEP_FLAG
-    Symbol::Leaf(41),
-    // 257: most_words = TAIL
-    Symbol::Leaf(42),
-    // 258: any_word = most_words
-    Symbol::Rule(59),
-    // 259: any_word = @'int'
+    // 194: most_words = @'label'
     Symbol::Leaf(96),
-    // 260: node_word = any_word
+    // 195: most_words = @'load'
+    Symbol::Leaf(97),
+    // 196: most_words = @'nneg'
+    Symbol::Leaf(98),
+    // 197: most_words = @'nocapture'
+    Symbol::Leaf(99),
+    // 198: most_words = @'nsw'
+    Symbol::Leaf(100),
+    // 199: most_words = @'null'
+    Symbol::Leaf(101),
+    // 200: most_words = @'nuw'
+    Symbol::Leaf(102),
+    // 201: most_words = @'opaque'
+    Symbol::Leaf(103),
+    // 202: most_words = @'or'
+    Symbol::Leaf(104),
+    // 203: most_words = @'phi'
+    Symbol::Leaf(105),
+    // 204: most_words = @'ptr'
+    Symbol::Leaf(106),
+    // 205: most_words = @'ret'
+    Symbol::Leaf(107),
+    // 206: most_words = @'samesign'
+    Symbol::Leaf(108),
+    // 207: most_words = @'shufflevector'
+    Symbol::Leaf(109),
+    // 208: most_words = @'sideeffect'
+    Symbol::Leaf(110),
+    // 209: most_words = @'source_filename'
+    Symbol::Leaf(111),
+    // 210: most_words = @'splat'
+    Symbol::Leaf(112),
+    // 211: most_words = @'store'
+    Symbol::Leaf(113),
+    // 212: most_words = @'switch'
+    Symbol::Leaf(114),
+    // 213: most_words = @'syncscope'
+    Symbol::Leaf(115),
+    // 214: most_words = @'target'
+    Symbol::Leaf(116),
+    // 215: most_words = @'to'
+    Symbol::Leaf(117),
+    // 216: most_words = @'trunc'
+    Symbol::Leaf(118),
+    // 217: most_words = @'type'
+    Symbol::Leaf(119),
+    // 218: most_words = @'unreachable'
+    Symbol::Leaf(120),
+    // 219: most_words = @'uwtable'
+    Symbol::Leaf(121),
+    // 220: most_words = @'va_arg'
+    Symbol::Leaf(122),
+    // 221: most_words = @'void'
+    Symbol::Leaf(123),
+    // 222: most_words = @'volatile'
+    Symbol::Leaf(124),
+    // 223: most_words = @'vscale'
+    Symbol::Leaf(125),
+    // 224: most_words = @'weak'
+    Symbol::Leaf(126),
+    // 225: most_words = @'x'
+    Symbol::Leaf(127),
+    // 226: most_words = @'zext'
+    Symbol::Leaf(128),
+    // 227: most_words = INTTYPE
+    Symbol::Leaf(12),
+    // 228: most_words = WORD
+    Symbol::Leaf(14),
+    // 229: most_words = TARGET
+    Symbol::Leaf(15),
+    // 230: most_words = BODY_LINKAGE
+    Symbol::Leaf(16),
+    // 231: most_words = DATA_LINKAGE
+    Symbol::Leaf(17),
+    // 232: most_words = DSO
+    Symbol::Leaf(18),
+    // 233: most_words = UNNAMED
+    Symbol::Leaf(19),
+    // 234: most_words = STORAGE
+    Symbol::Leaf(20),
+    // 235: most_words = ENUM_ATTR_LOST_ATTR
+    Symbol::Leaf(21),
+    // 236: most_words = LOST_ATTR_NUMBER_ATTR
+    Symbol::Leaf(22),
+    // 237: most_words = EITHER_ATTR_LOST_ATTR
+    Symbol::Leaf(23),
+    // 238: most_words = LOST_ATTR_RANGE_ATTR
+    Symbol::Leaf(24),
+    // 239: most_words = UNWIND_NUMBER
+    Symbol::Leaf(25),
+    // 240: most_words = EITHER_ATTR
+    Symbol::Leaf(26),
+    // 241: most_words = ENUM_ATTR
+    Symbol::Leaf(27),
+    // 242: most_words = FLAT
+    Symbol::Leaf(28),
+    // 243: most_words = CONST
+    Symbol::Leaf(29),
+    // 244: most_words = CAST_CONST_CAST
+    Symbol::Leaf(30),
+    // 245: most_words = CONST_SUM_RMW_KIND_SUM
+    Symbol::Leaf(31),
+    // 246: most_words = SIMPLE
+    Symbol::Leaf(32),
+    // 247: most_words = SUM
+    Symbol::Leaf(33),
+    // 248: most_words = QUOTIENT
+    Symbol::Leaf(34),
+    // 249: most_words = BITS
+    Symbol::Leaf(35),
+    // 250: most_words = BITS_RMW_KIND
+    Symbol::Leaf(36),
+    // 251: most_words = PREDICATE
+    Symbol::Leaf(37),
+    // 252: most_words = CAST
+    Symbol::Leaf(38),
+    // 253: most_words = RMW_KIND
+    Symbol::Leaf(39),
+    // 254: most_words = ORDERING
+    Symbol::Leaf(40),
+    // 255: most_words = GEP_FLAG
+    Symbol::Leaf(41),
+    // 256: most_words = TAIL
+    Symbol::Leaf(42),
+    // 257: any_word = most_words
+    Symbol::Rule(59),
+    // 258: any_word = @'int'
+    Symbol::Leaf(95),
+    // 259: node_word = any_word
     Symbol::Rule(60),
-    // 261: node_word = REFUSED
+    // 260: node_word = REFUSED
     Symbol::Leaf(13),
-    // 262: type = 'void'
-    Symbol::Word(124),
-    // 263: type = solid
+    // 261: type = 'void'
+    Symbol::Word(123),
+    // 262: type = solid
     Symbol::Rule(63),
-    // 264: solid = flat
+    // 263: solid = flat
     Symbol::Rule(64),
-    // 265: solid = '{' types '}'
+    // 264: solid = '{' types '}'
     Symbol::Word(50),
     Symbol::Rule(66),
     Symbol::Word(49),
-    // 266: flat = INTTYPE
+    // 265: flat = INTTYPE
     Symbol::Leaf(12),
-    // 267: flat = @'i1'
-    Symbol::Leaf(91),
-    // 268: flat = 'ptr' space
+    // 266: flat = 'ptr' space
     Symbol::Rule(16),
-    Symbol::Word(107),
-    // 269: flat = FLAT
+    Symbol::Word(106),
+    // 267: flat = FLAT
     Symbol::Leaf(28),
-    // 270: flat = '[' INT 'x' type ']'
+    // 268: flat = '[' INT 'x' type ']'
     Symbol::Word(48),
     Symbol::Rule(62),
-    Symbol::Word(128),
+    Symbol::Word(127),
     Symbol::Leaf(3),
     Symbol::Word(47),
-    // 271: flat = '<' angle_type
+    // 269: flat = '<' angle_type
     Symbol::Rule(65),
     Symbol::Word(51),
-    // 272: flat = LOCAL
+    // 270: flat = LOCAL
     Symbol::Leaf(1),
-    // 273: angle_type = INT 'x' type '>'
+    // 271: angle_type = INT 'x' type '>'
     Symbol::Word(52),
     Symbol::Rule(62),
-    Symbol::Word(128),
+    Symbol::Word(127),
     Symbol::Leaf(3),
-    // 274: angle_type = 'vscale' 'x' INT 'x' type '>'
+    // 272: angle_type = 'vscale' 'x' INT 'x' type '>'
     Symbol::Word(52),
     Symbol::Rule(62),
-    Symbol::Word(128),
+    Symbol::Word(127),
     Symbol::Leaf(3),
-    Symbol::Word(128),
-    Symbol::Word(126),
-    // 275: angle_type = '{' types '}' '>'
+    Symbol::Word(127),
+    Symbol::Word(125),
+    // 273: angle_type = '{' types '}' '>'
     Symbol::Word(52),
     Symbol::Word(50),
     Symbol::Rule(66),
     Symbol::Word(49),
-    // 276: types = type more_types
+    // 274: types = type more_types
     Symbol::Rule(67),
     Symbol::Rule(62),
-    // 277: types = nothing
-    // 278: more_types = ',' type more_types
+    // 275: types = nothing
+    // 276: more_types = ',' type more_types
     Symbol::Rule(67),
     Symbol::Rule(62),
     Symbol::Word(44),
-    // 279: more_types = nothing
-    // 280: called_type = type signature
+    // 277: more_types = nothing
+    // 278: called_type = type signature
     Symbol::Rule(69),
     Symbol::Rule(62),
-    // 281: signature = '(' argument_types ')'
+    // 279: signature = '(' argument_types ')'
     Symbol::Word(46),
     Symbol::Rule(70),
     Symbol::Word(45),
-    // 282: signature = nothing
-    // 283: argument_types = type more_argument_types
+    // 280: signature = nothing
+    // 281: argument_types = type more_argument_types
     Symbol::Rule(71),
     Symbol::Rule(62),
-    // 284: argument_types = '...'
+    // 282: argument_types = '...'
     Symbol::Word(55),
-    // 285: argument_types = nothing
-    // 286: more_argument_types = ',' type_or_dots
+    // 283: argument_types = nothing
+    // 284: more_argument_types = ',' type_or_dots
     Symbol::Rule(72),
     Symbol::Word(44),
-    // 287: more_argument_types = nothing
-    // 288: type_or_dots = type more_argument_types
+    // 285: more_argument_types = nothing
+    // 286: type_or_dots = type more_argument_types
     Symbol::Rule(71),
     Symbol::Rule(62),
-    // 289: type_or_dots = '...'
+    // 287: type_or_dots = '...'
     Symbol::Word(55),
-    // 290: tconst = type const
+    // 288: tconst = type const
     Symbol::Rule(74),
     Symbol::Rule(62),
-    // 291: const = INT
+    // 289: const = INT
     Symbol::Leaf(3),
-    // 292: const = CONST
+    // 290: const = CONST
     Symbol::Leaf(29),
-    // 293: const = 'null'
-    Symbol::Word(102),
-    // 294: const = '[' tconsts ']'
+    // 291: const = 'null'
+    Symbol::Word(101),
+    // 292: const = '[' tconsts ']'
     Symbol::Word(48),
     Symbol::Rule(81),
     Symbol::Word(47),
-    // 295: const = '{' tconsts '}'
+    // 293: const = '{' tconsts '}'
     Symbol::Word(50),
     Symbol::Rule(81),
     Symbol::Word(49),
-    // 296: const = '<' const_angle
+    // 294: const = '<' const_angle
     Symbol::Rule(75),
     Symbol::Word(51),
-    // 297: const = CSTR
+    // 295: const = CSTR
     Symbol::Leaf(5),
-    // 298: const = 'splat' '(' tconst ')'
+    // 296: const = 'splat' '(' tconst ')'
     Symbol::Word(46),
     Symbol::Rule(73),
     Symbol::Word(45),
-    Symbol::Word(113),
-    // 299: const = GLOBAL
+    Symbol::Word(112),
+    // 297: const = GLOBAL
     Symbol::Leaf(0),
-    // 300: const = 'blockaddress' '(' GLOBAL ',' LOCAL ')'
+    // 298: const = 'blockaddress' '(' GLOBAL ',' LOCAL ')'
     Symbol::Word(46),
     Symbol::Leaf(1),
     Symbol::Word(44),
     Symbol::Leaf(0),
     Symbol::Word(45),
     Symbol::Word(72),
-    // 301: const = const_cast '(' tconst 'to' type ')'
+    // 299: const = const_cast '(' tconst 'to' type ')'
     Symbol::Word(46),
     Symbol::Rule(62),
-    Symbol::Word(118),
+    Symbol::Word(117),
     Symbol::Rule(73),
     Symbol::Word(45),
     Symbol::Rule(79),
-    // 302: const = const_sum lost_wraps '(' tconst ',' tconst ')'
+    // 300: const = const_sum lost_wraps '(' tconst ',' tconst ')'
     Symbol::Word(46),
     Symbol::Rule(73),
     Symbol::Word(44),
@@ -789,7 +789,7 @@ static SYMBOLS: [Symbol; 918] = [
     Symbol::Word(45),
     Symbol::Rule(97),
     Symbol::Rule(80),
-    // 303: const = 'getelementptr' gep_flags in_range '(' type ',' tconst more_tconsts ')'
+    // 301: const = 'getelementptr' gep_flags in_range '(' type ',' tconst more_tconsts ')'
     Symbol::Word(46),
     Symbol::Rule(82),
     Symbol::Rule(73),
@@ -799,651 +799,650 @@ static SYMBOLS: [Symbol; 918] = [
     Symbol::Rule(83),
     Symbol::Rule(127),
     Symbol::Word(90),
-    // 304: const_angle = '{' const_brace
+    // 302: const_angle = '{' const_brace
     Symbol::Rule(76),
     Symbol::Word(49),
-    // 305: const_angle = flat const more_tconsts '>'
+    // 303: const_angle = flat const more_tconsts '>'
     Symbol::Word(52),
     Symbol::Rule(82),
     Symbol::Rule(74),
     Symbol::Rule(64),
-    // 306: const_angle = 'void' const more_tconsts '>'
+    // 304: const_angle = 'void' const more_tconsts '>'
     Symbol::Word(52),
     Symbol::Rule(82),
     Symbol::Rule(74),
-    Symbol::Word(124),
-    // 307: const_brace = '}' const_empty
+    Symbol::Word(123),
+    // 305: const_brace = '}' const_empty
     Symbol::Rule(77),
     Symbol::Word(50),
-    // 308: const_brace = type const_braced
+    // 306: const_brace = type const_braced
     Symbol::Rule(78),
     Symbol::Rule(62),
-    // 309: const_empty = '>'
+    // 307: const_empty = '>'
     Symbol::Word(52),
-    // 310: const_empty = const more_tconsts '>'
+    // 308: const_empty = const more_tconsts '>'
     Symbol::Word(52),
     Symbol::Rule(82),
     Symbol::Rule(74),
-    // 311: const_braced = const more_tconsts '}' '>'
+    // 309: const_braced = const more_tconsts '}' '>'
     Symbol::Word(52),
     Symbol::Word(50),
     Symbol::Rule(82),
     Symbol::Rule(74),
-    // 312: const_braced = more_types '}' const more_tconsts '>'
+    // 310: const_braced = more_types '}' const more_tconsts '>'
     Symbol::Word(52),
     Symbol::Rule(82),
     Symbol::Rule(74),
     Symbol::Word(50),
     Symbol::Rule(67),
-    // 313: const_cast = CAST_CONST_CAST
+    // 311: const_cast = CAST_CONST_CAST
     Symbol::Leaf(30),
-    // 314: const_cast = 'trunc'
-    Symbol::Word(119),
-    // 315: const_sum = CONST_SUM_RMW_KIND_SUM
+    // 312: const_cast = 'trunc'
+    Symbol::Word(118),
+    // 313: const_sum = CONST_SUM_RMW_KIND_SUM
     Symbol::Leaf(31),
-    // 316: tconsts = tconst more_tconsts
+    // 314: tconsts = tconst more_tconsts
     Symbol::Rule(82),
     Symbol::Rule(73),
-    // 317: tconsts = nothing
-    // 318: more_tconsts = ',' tconst more_tconsts
+    // 315: tconsts = nothing
+    // 316: more_tconsts = ',' tconst more_tconsts
     Symbol::Rule(82),
     Symbol::Rule(73),
     Symbol::Word(44),
-    // 319: more_tconsts = nothing
-    // 320: in_range = @'inrange' parens
+    // 317: more_tconsts = nothing
+    // 318: in_range = @'inrange' parens
     Symbol::Rule(53),
-    Symbol::Leaf(94),
-    // 321: in_range = nothing
-    // 322: inst = simple attached
+    Symbol::Leaf(93),
+    // 319: in_range = nothing
+    // 320: inst = simple attached
     Symbol::Rule(149),
     Symbol::Rule(85),
-    // 323: inst = 'alloca' type alloca_tail
+    // 321: inst = 'alloca' type alloca_tail
     Symbol::Rule(108),
     Symbol::Rule(62),
     Symbol::Word(67),
-    // 324: inst = 'load' load
+    // 322: inst = 'load' load
     Symbol::Rule(114),
-    Symbol::Word(98),
-    // 325: inst = 'store' store
+    Symbol::Word(97),
+    // 323: inst = 'store' store
     Symbol::Rule(116),
-    Symbol::Word(114),
-    // 326: inst = 'atomicrmw' rmw_kind address_and_value order lost_align_attached
+    Symbol::Word(113),
+    // 324: inst = 'atomicrmw' rmw_kind address_and_value order lost_align_attached
     Symbol::Rule(138),
     Symbol::Rule(124),
     Symbol::Rule(120),
     Symbol::Rule(119),
     Symbol::Word(70),
-    // 327: inst = 'cmpxchg' lost_weak exchange
+    // 325: inst = 'cmpxchg' lost_weak exchange
     Symbol::Rule(122),
     Symbol::Rule(121),
     Symbol::Word(75),
-    // 328: inst = 'getelementptr' gep_flags type ',' typed more_indices
+    // 326: inst = 'getelementptr' gep_flags type ',' typed more_indices
     Symbol::Rule(129),
     Symbol::Rule(87),
     Symbol::Word(44),
     Symbol::Rule(62),
     Symbol::Rule(127),
     Symbol::Word(90),
-    // 329: inst = 'extractvalue' typed ',' INT more_places
+    // 327: inst = 'extractvalue' typed ',' INT more_places
     Symbol::Rule(131),
     Symbol::Leaf(3),
     Symbol::Word(44),
     Symbol::Rule(87),
     Symbol::Word(87),
-    // 330: inst = 'insertvalue' typed ',' typed ',' INT more_places
+    // 328: inst = 'insertvalue' typed ',' typed ',' INT more_places
     Symbol::Rule(131),
     Symbol::Leaf(3),
     Symbol::Word(44),
     Symbol::Rule(87),
     Symbol::Word(44),
     Symbol::Rule(87),
-    Symbol::Word(95),
-    // 331: inst = 'phi' type entry more_entries
+    Symbol::Word(94),
+    // 329: inst = 'phi' type entry more_entries
     Symbol::Rule(134),
     Symbol::Rule(133),
     Symbol::Rule(62),
-    Symbol::Word(106),
-    // 332: simple = 'ret' ret
+    Symbol::Word(105),
+    // 330: simple = 'ret' ret
     Symbol::Rule(89),
-    Symbol::Word(108),
-    // 333: simple = 'br' br
+    Symbol::Word(107),
+    // 331: simple = 'br' br
     Symbol::Rule(90),
     Symbol::Word(73),
-    // 334: simple = 'switch' typed ',' 'label' LOCAL '[' cases ']'
+    // 332: simple = 'switch' typed ',' 'label' LOCAL '[' cases ']'
     Symbol::Word(48),
     Symbol::Rule(91),
     Symbol::Word(47),
     Symbol::Leaf(1),
-    Symbol::Word(97),
+    Symbol::Word(96),
     Symbol::Word(44),
     Symbol::Rule(87),
-    Symbol::Word(115),
-    // 335: simple = 'indirectbr' typed ',' '[' labels ']'
+    Symbol::Word(114),
+    // 333: simple = 'indirectbr' typed ',' '[' labels ']'
     Symbol::Word(48),
     Symbol::Rule(92),
     Symbol::Word(47),
     Symbol::Word(44),
     Symbol::Rule(87),
-    Symbol::Word(93),
-    // 336: simple = 'unreachable'
-    Symbol::Word(121),
-    // 337: simple = sum wraps pair
+    Symbol::Word(92),
+    // 334: simple = 'unreachable'
+    Symbol::Word(120),
+    // 335: simple = sum wraps pair
     Symbol::Rule(88),
     Symbol::Rule(95),
     Symbol::Rule(94),
-    // 338: simple = quotient lost_exact pair
+    // 336: simple = quotient lost_exact pair
     Symbol::Rule(88),
     Symbol::Rule(101),
     Symbol::Rule(100),
-    // 339: simple = bits pair
+    // 337: simple = bits pair
     Symbol::Rule(88),
     Symbol::Rule(102),
-    // 340: simple = 'or' lost_disjoint pair
+    // 338: simple = 'or' lost_disjoint pair
     Symbol::Rule(88),
     Symbol::Rule(103),
-    Symbol::Word(105),
-    // 341: simple = 'icmp' lost_samesign predicate pair
+    Symbol::Word(104),
+    // 339: simple = 'icmp' lost_samesign predicate pair
     Symbol::Rule(88),
     Symbol::Rule(105),
     Symbol::Rule(104),
-    Symbol::Word(92),
-    // 342: simple = cast typed 'to' type
+    Symbol::Word(91),
+    // 340: simple = cast typed 'to' type
     Symbol::Rule(62),
-    Symbol::Word(118),
+    Symbol::Word(117),
     Symbol::Rule(87),
     Symbol::Rule(106),
-    // 343: simple = 'trunc' lost_wraps typed 'to' type
+    // 341: simple = 'trunc' lost_wraps typed 'to' type
     Symbol::Rule(62),
-    Symbol::Word(118),
+    Symbol::Word(117),
     Symbol::Rule(87),
     Symbol::Rule(97),
-    Symbol::Word(119),
-    // 344: simple = 'zext' nneg typed 'to' type
-    Symbol::Rule(62),
     Symbol::Word(118),
+    // 342: simple = 'zext' nneg typed 'to' type
+    Symbol::Rule(62),
+    Symbol::Word(117),
     Symbol::Rule(87),
     Symbol::Rule(107),
-    Symbol::Word(129),
-    // 345: simple = 'fence' order
+    Symbol::Word(128),
+    // 343: simple = 'fence' order
     Symbol::Rule(124),
     Symbol::Word(88),
-    // 346: simple = 'extractelement' typed ',' typed
+    // 344: simple = 'extractelement' typed ',' typed
     Symbol::Rule(87),
     Symbol::Word(44),
     Symbol::Rule(87),
     Symbol::Word(86),
-    // 347: simple = SIMPLE typed ',' typed ',' typed
+    // 345: simple = SIMPLE typed ',' typed ',' typed
     Symbol::Rule(87),
     Symbol::Word(44),
     Symbol::Rule(87),
     Symbol::Word(44),
     Symbol::Rule(87),
     Symbol::Leaf(32),
-    // 348: simple = 'shufflevector' typed ',' typed ',' tconst
+    // 346: simple = 'shufflevector' typed ',' typed ',' tconst
     Symbol::Rule(73),
     Symbol::Word(44),
     Symbol::Rule(87),
     Symbol::Word(44),
     Symbol::Rule(87),
-    Symbol::Word(110),
-    // 349: simple = 'freeze' typed
+    Symbol::Word(109),
+    // 347: simple = 'freeze' typed
     Symbol::Rule(87),
     Symbol::Word(89),
-    // 350: simple = 'va_arg' typed ',' type
+    // 348: simple = 'va_arg' typed ',' type
     Symbol::Rule(62),
     Symbol::Word(44),
     Symbol::Rule(87),
-    Symbol::Word(123),
-    // 351: simple = tail 'call' call
+    Symbol::Word(122),
+    // 349: simple = tail 'call' call
     Symbol::Rule(141),
     Symbol::Word(74),
     Symbol::Rule(140),
-    // 352: value = LOCAL
+    // 350: value = LOCAL
     Symbol::Leaf(1),
-    // 353: value = const
+    // 351: value = const
     Symbol::Rule(74),
-    // 354: typed = type value
+    // 352: typed = type value
     Symbol::Rule(86),
     Symbol::Rule(62),
-    // 355: pair = type value ',' value
+    // 353: pair = type value ',' value
     Symbol::Rule(86),
     Symbol::Word(44),
     Symbol::Rule(86),
     Symbol::Rule(62),
-    // 356: ret = 'void'
-    Symbol::Word(124),
-    // 357: ret = solid value
+    // 354: ret = 'void'
+    Symbol::Word(123),
+    // 355: ret = solid value
     Symbol::Rule(86),
     Symbol::Rule(63),
-    // 358: br = 'label' LOCAL
+    // 356: br = 'label' LOCAL
     Symbol::Leaf(1),
-    Symbol::Word(97),
-    // 359: br = 'i1' value ',' 'label' LOCAL ',' 'label' LOCAL
+    Symbol::Word(96),
+    // 357: br = typed ',' 'label' LOCAL ',' 'label' LOCAL
     Symbol::Leaf(1),
-    Symbol::Word(97),
+    Symbol::Word(96),
     Symbol::Word(44),
     Symbol::Leaf(1),
-    Symbol::Word(97),
+    Symbol::Word(96),
     Symbol::Word(44),
-    Symbol::Rule(86),
-    Symbol::Word(91),
-    // 360: cases = tconst ',' 'label' LOCAL cases
+    Symbol::Rule(87),
+    // 358: cases = tconst ',' 'label' LOCAL cases
     Symbol::Rule(91),
     Symbol::Leaf(1),
-    Symbol::Word(97),
+    Symbol::Word(96),
     Symbol::Word(44),
     Symbol::Rule(73),
-    // 361: cases = nothing
-    // 362: labels = 'label' LOCAL more_labels
+    // 359: cases = nothing
+    // 360: labels = 'label' LOCAL more_labels
     Symbol::Rule(93),
     Symbol::Leaf(1),
-    Symbol::Word(97),
-    // 363: labels = nothing
-    // 364: more_labels = ',' 'label' LOCAL more_labels
+    Symbol::Word(96),
+    // 361: labels = nothing
+    // 362: more_labels = ',' 'label' LOCAL more_labels
     Symbol::Rule(93),
     Symbol::Leaf(1),
-    Symbol::Word(97),
+    Symbol::Word(96),
     Symbol::Word(44),
-    // 365: more_labels = nothing
-    // 366: sum = CONST_SUM_RMW_KIND_SUM
+    // 363: more_labels = nothing
+    // 364: sum = CONST_SUM_RMW_KIND_SUM
     Symbol::Leaf(31),
-    // 367: sum = SUM
+    // 365: sum = SUM
     Symbol::Leaf(33),
-    // 368: wraps = 'nuw' nsw
+    // 366: wraps = 'nuw' nsw
     Symbol::Rule(96),
-    Symbol::Word(103),
-    // 369: wraps = 'nsw'
-    Symbol::Word(101),
-    // 370: wraps = nothing
-    // 371: nsw = 'nsw'
-    Symbol::Word(101),
-    // 372: nsw = nothing
-    // 373: lost_wraps = @'nuw' lost_nsw
+    Symbol::Word(102),
+    // 367: wraps = 'nsw'
+    Symbol::Word(100),
+    // 368: wraps = nothing
+    // 369: nsw = 'nsw'
+    Symbol::Word(100),
+    // 370: nsw = nothing
+    // 371: lost_wraps = @'nuw' lost_nsw
     Symbol::Rule(98),
-    Symbol::Leaf(103),
-    // 374: lost_wraps = @'nsw' lost_nuw
+    Symbol::Leaf(102),
+    // 372: lost_wraps = @'nsw' lost_nuw
     Symbol::Rule(99),
-    Symbol::Leaf(101),
-    // 375: lost_wraps = nothing
-    // 376: lost_nsw = @'nsw'
-    Symbol::Leaf(101),
-    // 377: lost_nsw = nothing
-    // 378: lost_nuw = @'nuw'
-    Symbol::Leaf(103),
-    // 379: lost_nuw = nothing
-    // 380: quotient = QUOTIENT
+    Symbol::Leaf(100),
+    // 373: lost_wraps = nothing
+    // 374: lost_nsw = @'nsw'
+    Symbol::Leaf(100),
+    // 375: lost_nsw = nothing
+    // 376: lost_nuw = @'nuw'
+    Symbol::Leaf(102),
+    // 377: lost_nuw = nothing
+    // 378: quotient = QUOTIENT
     Symbol::Leaf(34),
-    // 381: lost_exact = @'exact'
+    // 379: lost_exact = @'exact'
     Symbol::Leaf(83),
-    // 382: lost_exact = nothing
-    // 383: bits = BITS
+    // 380: lost_exact = nothing
+    // 381: bits = BITS
     Symbol::Leaf(35),
-    // 384: bits = BITS_RMW_KIND
+    // 382: bits = BITS_RMW_KIND
     Symbol::Leaf(36),
-    // 385: lost_disjoint = @'disjoint'
+    // 383: lost_disjoint = @'disjoint'
     Symbol::Leaf(80),
-    // 386: lost_disjoint = nothing
-    // 387: lost_samesign = @'samesign'
-    Symbol::Leaf(109),
-    // 388: lost_samesign = nothing
-    // 389: predicate = PREDICATE
+    // 384: lost_disjoint = nothing
+    // 385: lost_samesign = @'samesign'
+    Symbol::Leaf(108),
+    // 386: lost_samesign = nothing
+    // 387: predicate = PREDICATE
     Symbol::Leaf(37),
-    // 390: cast = CAST_CONST_CAST
+    // 388: cast = CAST_CONST_CAST
     Symbol::Leaf(30),
-    // 391: cast = CAST
+    // 389: cast = CAST
     Symbol::Leaf(38),
-    // 392: nneg = 'nneg'
-    Symbol::Word(99),
-    // 393: nneg = nothing
-    // 394: alloca_tail = ',' alloca_part
+    // 390: nneg = 'nneg'
+    Symbol::Word(98),
+    // 391: nneg = nothing
+    // 392: alloca_tail = ',' alloca_part
     Symbol::Rule(109),
     Symbol::Word(44),
-    // 395: alloca_tail = nothing
-    // 396: alloca_part = typed alloca_rest
+    // 393: alloca_tail = nothing
+    // 394: alloca_part = typed alloca_rest
     Symbol::Rule(110),
     Symbol::Rule(87),
-    // 397: alloca_part = 'align' INT alloca_end
+    // 395: alloca_part = 'align' INT alloca_end
     Symbol::Rule(112),
     Symbol::Leaf(3),
     Symbol::Word(65),
-    // 398: alloca_part = 'addrspace' '(' INT ')' attached
+    // 396: alloca_part = 'addrspace' '(' INT ')' attached
     Symbol::Rule(149),
     Symbol::Word(46),
     Symbol::Leaf(3),
     Symbol::Word(45),
     Symbol::Word(63),
-    // 399: alloca_part = mdname mdref attached
+    // 397: alloca_part = mdname mdref attached
     Symbol::Rule(149),
     Symbol::Rule(152),
     Symbol::Rule(151),
-    // 400: alloca_rest = ',' alloca_rest_part
+    // 398: alloca_rest = ',' alloca_rest_part
     Symbol::Rule(111),
     Symbol::Word(44),
-    // 401: alloca_rest = nothing
-    // 402: alloca_rest_part = 'align' INT alloca_end
+    // 399: alloca_rest = nothing
+    // 400: alloca_rest_part = 'align' INT alloca_end
     Symbol::Rule(112),
     Symbol::Leaf(3),
     Symbol::Word(65),
-    // 403: alloca_rest_part = 'addrspace' '(' INT ')' attached
+    // 401: alloca_rest_part = 'addrspace' '(' INT ')' attached
     Symbol::Rule(149),
     Symbol::Word(46),
     Symbol::Leaf(3),
     Symbol::Word(45),
     Symbol::Word(63),
-    // 404: alloca_rest_part = mdname mdref attached
+    // 402: alloca_rest_part = mdname mdref attached
     Symbol::Rule(149),
     Symbol::Rule(152),
     Symbol::Rule(151),
-    // 405: alloca_end = ',' alloca_end_part
+    // 403: alloca_end = ',' alloca_end_part
     Symbol::Rule(113),
     Symbol::Word(44),
-    // 406: alloca_end = nothing
-    // 407: alloca_end_part = 'addrspace' '(' INT ')' attached
+    // 404: alloca_end = nothing
+    // 405: alloca_end_part = 'addrspace' '(' INT ')' attached
     Symbol::Rule(149),
     Symbol::Word(46),
     Symbol::Leaf(3),
     Symbol::Word(45),
     Symbol::Word(63),
-    // 408: alloca_end_part = mdname mdref attached
+    // 406: alloca_end_part = mdname mdref attached
     Symbol::Rule(149),
     Symbol::Rule(152),
     Symbol::Rule(151),
-    // 409: load = volatile type ',' typed align_attached
+    // 407: load = volatile type ',' typed align_attached
     Symbol::Rule(136),
     Symbol::Rule(87),
     Symbol::Word(44),
     Symbol::Rule(62),
     Symbol::Rule(118),
-    // 410: load = 'atomic' atomic_load
+    // 408: load = 'atomic' atomic_load
     Symbol::Rule(115),
     Symbol::Word(69),
-    // 411: atomic_load = type ',' typed order align_attached
+    // 409: atomic_load = type ',' typed order align_attached
     Symbol::Rule(136),
     Symbol::Rule(124),
     Symbol::Rule(87),
     Symbol::Word(44),
     Symbol::Rule(62),
-    // 412: store = volatile typed ',' typed align_attached
+    // 410: store = volatile typed ',' typed align_attached
     Symbol::Rule(136),
     Symbol::Rule(87),
     Symbol::Word(44),
     Symbol::Rule(87),
     Symbol::Rule(118),
-    // 413: store = 'atomic' atomic_store
+    // 411: store = 'atomic' atomic_store
     Symbol::Rule(117),
     Symbol::Word(69),
-    // 414: atomic_store = typed ',' typed order align_attached
+    // 412: atomic_store = typed ',' typed order align_attached
     Symbol::Rule(136),
     Symbol::Rule(124),
     Symbol::Rule(87),
     Symbol::Word(44),
     Symbol::Rule(87),
-    // 415: volatile = 'volatile'
-    Symbol::Word(125),
-    // 416: volatile = nothing
-    // 417: rmw_kind = RMW_KIND
+    // 413: volatile = 'volatile'
+    Symbol::Word(124),
+    // 414: volatile = nothing
+    // 415: rmw_kind = RMW_KIND
     Symbol::Leaf(39),
-    // 418: rmw_kind = CONST_SUM_RMW_KIND_SUM
+    // 416: rmw_kind = CONST_SUM_RMW_KIND_SUM
     Symbol::Leaf(31),
-    // 419: rmw_kind = BITS_RMW_KIND
+    // 417: rmw_kind = BITS_RMW_KIND
     Symbol::Leaf(36),
-    // 420: rmw_kind = 'or'
-    Symbol::Word(105),
-    // 421: address_and_value = typed ',' typed
+    // 418: rmw_kind = 'or'
+    Symbol::Word(104),
+    // 419: address_and_value = typed ',' typed
     Symbol::Rule(87),
     Symbol::Word(44),
     Symbol::Rule(87),
-    // 422: lost_weak = @'weak'
-    Symbol::Leaf(127),
-    // 423: lost_weak = nothing
-    // 424: exchange = typed ',' address_and_value exchange_order lost_align_attached
+    // 420: lost_weak = @'weak'
+    Symbol::Leaf(126),
+    // 421: lost_weak = nothing
+    // 422: exchange = typed ',' address_and_value exchange_order lost_align_attached
     Symbol::Rule(138),
     Symbol::Rule(123),
     Symbol::Rule(120),
     Symbol::Word(44),
     Symbol::Rule(87),
-    // 425: exchange_order = scope ordering ordering
+    // 423: exchange_order = scope ordering ordering
     Symbol::Rule(126),
     Symbol::Rule(126),
     Symbol::Rule(125),
-    // 426: order = scope ordering
+    // 424: order = scope ordering
     Symbol::Rule(126),
     Symbol::Rule(125),
-    // 427: scope = 'syncscope' '(' STR ')'
+    // 425: scope = 'syncscope' '(' STR ')'
     Symbol::Word(46),
     Symbol::Leaf(4),
     Symbol::Word(45),
-    Symbol::Word(116),
-    // 428: scope = nothing
-    // 429: ordering = ORDERING
+    Symbol::Word(115),
+    // 426: scope = nothing
+    // 427: ordering = ORDERING
     Symbol::Leaf(40),
-    // 430: gep_flags = gep_flag gep_flags
+    // 428: gep_flags = gep_flag gep_flags
     Symbol::Rule(127),
     Symbol::Rule(128),
-    // 431: gep_flags = nothing
-    // 432: gep_flag = GEP_FLAG
+    // 429: gep_flags = nothing
+    // 430: gep_flag = GEP_FLAG
     Symbol::Leaf(41),
-    // 433: gep_flag = 'nuw'
-    Symbol::Word(103),
-    // 434: more_indices = ',' index_or_node
+    // 431: gep_flag = 'nuw'
+    Symbol::Word(102),
+    // 432: more_indices = ',' index_or_node
     Symbol::Rule(130),
     Symbol::Word(44),
-    // 435: more_indices = nothing
-    // 436: index_or_node = typed more_indices
+    // 433: more_indices = nothing
+    // 434: index_or_node = typed more_indices
     Symbol::Rule(129),
     Symbol::Rule(87),
-    // 437: index_or_node = mdname mdref attached
+    // 435: index_or_node = mdname mdref attached
     Symbol::Rule(149),
     Symbol::Rule(152),
     Symbol::Rule(151),
-    // 438: more_places = ',' place_or_node
+    // 436: more_places = ',' place_or_node
     Symbol::Rule(132),
     Symbol::Word(44),
-    // 439: more_places = nothing
-    // 440: place_or_node = INT more_places
+    // 437: more_places = nothing
+    // 438: place_or_node = INT more_places
     Symbol::Rule(131),
     Symbol::Leaf(3),
-    // 441: place_or_node = mdname mdref attached
+    // 439: place_or_node = mdname mdref attached
     Symbol::Rule(149),
     Symbol::Rule(152),
     Symbol::Rule(151),
-    // 442: entry = '[' value ',' LOCAL ']'
+    // 440: entry = '[' value ',' LOCAL ']'
     Symbol::Word(48),
     Symbol::Leaf(1),
     Symbol::Word(44),
     Symbol::Rule(86),
     Symbol::Word(47),
-    // 443: more_entries = ',' entry_or_node
+    // 441: more_entries = ',' entry_or_node
     Symbol::Rule(135),
     Symbol::Word(44),
-    // 444: more_entries = nothing
-    // 445: entry_or_node = entry more_entries
+    // 442: more_entries = nothing
+    // 443: entry_or_node = entry more_entries
     Symbol::Rule(134),
     Symbol::Rule(133),
-    // 446: entry_or_node = mdname mdref attached
+    // 444: entry_or_node = mdname mdref attached
     Symbol::Rule(149),
     Symbol::Rule(152),
     Symbol::Rule(151),
-    // 447: align_attached = ',' align_or_attached
+    // 445: align_attached = ',' align_or_attached
     Symbol::Rule(137),
     Symbol::Word(44),
-    // 448: align_attached = nothing
-    // 449: align_or_attached = 'align' INT attached
+    // 446: align_attached = nothing
+    // 447: align_or_attached = 'align' INT attached
     Symbol::Rule(149),
     Symbol::Leaf(3),
     Symbol::Word(65),
-    // 450: align_or_attached = mdname mdref attached
+    // 448: align_or_attached = mdname mdref attached
     Symbol::Rule(149),
     Symbol::Rule(152),
     Symbol::Rule(151),
-    // 451: lost_align_attached = ',' lost_align_or_attached
+    // 449: lost_align_attached = ',' lost_align_or_attached
     Symbol::Rule(139),
     Symbol::Word(44),
-    // 452: lost_align_attached = nothing
-    // 453: lost_align_or_attached = @'align' INT attached
+    // 450: lost_align_attached = nothing
+    // 451: lost_align_or_attached = @'align' INT attached
     Symbol::Rule(149),
     Symbol::Leaf(3),
     Symbol::Leaf(65),
-    // 454: lost_align_or_attached = mdname mdref attached
+    // 452: lost_align_or_attached = mdname mdref attached
     Symbol::Rule(149),
     Symbol::Rule(152),
     Symbol::Rule(151),
-    // 455: tail = TAIL
+    // 453: tail = TAIL
     Symbol::Leaf(42),
-    // 456: tail = nothing
-    // 457: call = lost_attrs called_type callee arguments call_attrs
+    // 454: tail = nothing
+    // 455: call = lost_attrs called_type callee arguments call_attrs
     Symbol::Rule(40),
     Symbol::Rule(145),
     Symbol::Rule(142),
     Symbol::Rule(68),
     Symbol::Rule(34),
-    // 458: callee = GLOBAL
+    // 456: callee = GLOBAL
     Symbol::Leaf(0),
-    // 459: callee = LOCAL
+    // 457: callee = LOCAL
     Symbol::Leaf(1),
-    // 460: callee = 'asm' asm
+    // 458: callee = 'asm' asm
     Symbol::Rule(143),
     Symbol::Word(68),
-    // 461: asm = 'sideeffect' asm_text
+    // 459: asm = 'sideeffect' asm_text
     Symbol::Rule(144),
-    Symbol::Word(111),
-    // 462: asm = asm_text
+    Symbol::Word(110),
+    // 460: asm = asm_text
     Symbol::Rule(144),
-    // 463: asm_text = STR ',' STR
+    // 461: asm_text = STR ',' STR
     Symbol::Leaf(4),
     Symbol::Word(44),
     Symbol::Leaf(4),
-    // 464: arguments = '(' args ')'
+    // 462: arguments = '(' args ')'
     Symbol::Word(46),
     Symbol::Rule(146),
     Symbol::Word(45),
-    // 465: args = arg more_args
+    // 463: args = arg more_args
     Symbol::Rule(147),
     Symbol::Rule(148),
-    // 466: args = nothing
-    // 467: more_args = ',' arg more_args
+    // 464: args = nothing
+    // 465: more_args = ',' arg more_args
     Symbol::Rule(147),
     Symbol::Rule(148),
     Symbol::Word(44),
-    // 468: more_args = nothing
-    // 469: arg = type lost_attrs value
+    // 466: more_args = nothing
+    // 467: arg = type lost_attrs value
     Symbol::Rule(86),
     Symbol::Rule(34),
     Symbol::Rule(62),
-    // 470: attached = ',' mdname mdref attached
+    // 468: attached = ',' mdname mdref attached
     Symbol::Rule(149),
     Symbol::Rule(152),
     Symbol::Rule(151),
     Symbol::Word(44),
-    // 471: attached = nothing
-    // 472: attachments = mdname mdref attachments
+    // 469: attached = nothing
+    // 470: attachments = mdname mdref attachments
     Symbol::Rule(150),
     Symbol::Rule(152),
     Symbol::Rule(151),
-    // 473: attachments = nothing
-    // 474: mdname = MDNAME
+    // 471: attachments = nothing
+    // 472: mdname = MDNAME
     Symbol::Leaf(9),
-    // 475: mdname = @'!DICompileUnit'
+    // 473: mdname = @'!DICompileUnit'
     Symbol::Leaf(56),
-    // 476: mdname = @'!DIFile'
+    // 474: mdname = @'!DIFile'
     Symbol::Leaf(57),
-    // 477: mdname = @'!DISubprogram'
+    // 475: mdname = @'!DISubprogram'
     Symbol::Leaf(61),
-    // 478: mdname = @'!DISubroutineType'
+    // 476: mdname = @'!DISubroutineType'
     Symbol::Leaf(62),
-    // 479: mdname = @'!DILexicalBlock'
+    // 477: mdname = @'!DILexicalBlock'
     Symbol::Leaf(58),
-    // 480: mdname = @'!DILexicalBlockFile'
+    // 478: mdname = @'!DILexicalBlockFile'
     Symbol::Leaf(59),
-    // 481: mdname = @'!DILocation'
+    // 479: mdname = @'!DILocation'
     Symbol::Leaf(60),
-    // 482: mdref = MDNUM
+    // 480: mdref = MDNUM
     Symbol::Leaf(8),
-    // 483: mdref = node
+    // 481: mdref = node
     Symbol::Rule(155),
-    // 484: mdrefs = mdref more_mdrefs
+    // 482: mdrefs = mdref more_mdrefs
     Symbol::Rule(154),
     Symbol::Rule(152),
-    // 485: mdrefs = nothing
-    // 486: more_mdrefs = ',' mdref more_mdrefs
+    // 483: mdrefs = nothing
+    // 484: more_mdrefs = ',' mdref more_mdrefs
     Symbol::Rule(154),
     Symbol::Rule(152),
     Symbol::Word(44),
-    // 487: more_mdrefs = nothing
-    // 488: node = '!' '{' mdops '}'
+    // 485: more_mdrefs = nothing
+    // 486: node = '!' '{' mdops '}'
     Symbol::Word(50),
     Symbol::Rule(157),
     Symbol::Word(49),
     Symbol::Word(53),
-    // 489: node = debug_node '(' fields ')'
+    // 487: node = debug_node '(' fields ')'
     Symbol::Word(46),
     Symbol::Rule(160),
     Symbol::Word(45),
     Symbol::Rule(156),
-    // 490: node = MDNAME node_parens
+    // 488: node = MDNAME node_parens
     Symbol::Rule(55),
     Symbol::Leaf(9),
-    // 491: debug_node = '!DICompileUnit'
+    // 489: debug_node = '!DICompileUnit'
     Symbol::Word(56),
-    // 492: debug_node = '!DIFile'
+    // 490: debug_node = '!DIFile'
     Symbol::Word(57),
-    // 493: debug_node = '!DISubprogram'
+    // 491: debug_node = '!DISubprogram'
     Symbol::Word(61),
-    // 494: debug_node = '!DISubroutineType'
+    // 492: debug_node = '!DISubroutineType'
     Symbol::Word(62),
-    // 495: debug_node = '!DILexicalBlock'
+    // 493: debug_node = '!DILexicalBlock'
     Symbol::Word(58),
-    // 496: debug_node = '!DILexicalBlockFile'
+    // 494: debug_node = '!DILexicalBlockFile'
     Symbol::Word(59),
-    // 497: debug_node = '!DILocation'
+    // 495: debug_node = '!DILocation'
     Symbol::Word(60),
-    // 498: mdops = mdop more_mdops
+    // 496: mdops = mdop more_mdops
     Symbol::Rule(158),
     Symbol::Rule(159),
-    // 499: mdops = nothing
-    // 500: more_mdops = ',' mdop more_mdops
+    // 497: mdops = nothing
+    // 498: more_mdops = ',' mdop more_mdops
     Symbol::Rule(158),
     Symbol::Rule(159),
     Symbol::Word(44),
-    // 501: more_mdops = nothing
-    // 502: mdop = 'null'
-    Symbol::Word(102),
-    // 503: mdop = MDSTR
+    // 499: more_mdops = nothing
+    // 500: mdop = 'null'
+    Symbol::Word(101),
+    // 501: mdop = MDSTR
     Symbol::Leaf(10),
-    // 504: mdop = mdref
+    // 502: mdop = mdref
     Symbol::Rule(152),
-    // 505: mdop = tconst
+    // 503: mdop = tconst
     Symbol::Rule(73),
-    // 506: fields = field more_fields
+    // 504: fields = field more_fields
     Symbol::Rule(161),
     Symbol::Rule(162),
-    // 507: fields = nothing
-    // 508: more_fields = ',' field more_fields
+    // 505: fields = nothing
+    // 506: more_fields = ',' field more_fields
     Symbol::Rule(161),
     Symbol::Rule(162),
     Symbol::Word(44),
-    // 509: more_fields = nothing
-    // 510: field = LABEL field_value
+    // 507: more_fields = nothing
+    // 508: field = LABEL field_value
     Symbol::Rule(163),
     Symbol::Leaf(2),
-    // 511: field_value = INT
+    // 509: field_value = INT
     Symbol::Leaf(3),
-    // 512: field_value = STR
+    // 510: field_value = STR
     Symbol::Leaf(4),
-    // 513: field_value = node_word more_words
+    // 511: field_value = node_word more_words
     Symbol::Rule(164),
     Symbol::Rule(61),
-    // 514: field_value = mdref
+    // 512: field_value = mdref
     Symbol::Rule(152),
-    // 515: more_words = '|' node_word more_words
+    // 513: more_words = '|' node_word more_words
     Symbol::Rule(164),
     Symbol::Rule(61),
     Symbol::Word(54),
-    // 516: more_words = nothing
+    // 514: more_words = nothing
 ];
 
 /// The alternatives of all rules.
-static ALTERNATIVES: [Alternative; 516] = [
+pub static ALTERNATIVES: [Alternative; 514] = [
     // file
     Alternative {
         start: 0,
@@ -1757,2958 +1756,2946 @@ static ALTERNATIVES: [Alternative; 516] = [
         start: 108,
         end: 111,
         first: 81,
-        first_end: 90,
+        first_end: 89,
     },
     // head
     Alternative {
         start: 111,
         end: 116,
-        first: 90,
-        first_end: 109,
+        first: 89,
+        first_end: 107,
     },
     // parameters
     Alternative {
         start: 116,
         end: 121,
-        first: 109,
-        first_end: 110,
+        first: 107,
+        first_end: 108,
     },
     // params
     Alternative {
         start: 121,
         end: 123,
-        first: 110,
-        first_end: 119,
+        first: 108,
+        first_end: 116,
     },
     Alternative {
         start: 123,
         end: 124,
-        first: 119,
-        first_end: 120,
+        first: 116,
+        first_end: 117,
     },
     Alternative {
         start: 124,
         end: 124,
-        first: 120,
-        first_end: 120,
+        first: 117,
+        first_end: 117,
     },
     // more_params
     Alternative {
         start: 124,
         end: 126,
-        first: 120,
-        first_end: 121,
+        first: 117,
+        first_end: 118,
     },
     Alternative {
         start: 126,
         end: 126,
-        first: 121,
-        first_end: 121,
+        first: 118,
+        first_end: 118,
     },
     // param_or_dots
     Alternative {
         start: 126,
         end: 128,
-        first: 121,
-        first_end: 130,
+        first: 118,
+        first_end: 126,
     },
     Alternative {
         start: 128,
         end: 129,
-        first: 130,
-        first_end: 131,
+        first: 126,
+        first_end: 127,
     },
     // param
     Alternative {
         start: 129,
         end: 132,
-        first: 131,
-        first_end: 140,
+        first: 127,
+        first_end: 135,
     },
     // name
     Alternative {
         start: 132,
         end: 133,
-        first: 140,
-        first_end: 141,
+        first: 135,
+        first_end: 136,
     },
     Alternative {
         start: 133,
         end: 133,
-        first: 141,
-        first_end: 141,
+        first: 136,
+        first_end: 136,
     },
     // body
     Alternative {
         start: 133,
         end: 135,
-        first: 141,
-        first_end: 177,
+        first: 136,
+        first_end: 172,
     },
     // body_parts
     Alternative {
         start: 135,
         end: 137,
-        first: 177,
-        first_end: 213,
+        first: 172,
+        first_end: 208,
     },
     Alternative {
         start: 137,
         end: 137,
-        first: 213,
-        first_end: 213,
+        first: 208,
+        first_end: 208,
     },
     // body_part
     Alternative {
         start: 137,
         end: 138,
-        first: 213,
-        first_end: 214,
+        first: 208,
+        first_end: 209,
     },
     Alternative {
         start: 138,
         end: 139,
-        first: 214,
-        first_end: 249,
+        first: 209,
+        first_end: 244,
     },
     // line
     Alternative {
         start: 139,
         end: 142,
-        first: 249,
-        first_end: 284,
+        first: 244,
+        first_end: 279,
     },
     // records
     Alternative {
         start: 142,
         end: 145,
-        first: 284,
-        first_end: 285,
+        first: 279,
+        first_end: 280,
     },
     Alternative {
         start: 145,
         end: 145,
-        first: 285,
-        first_end: 285,
+        first: 280,
+        first_end: 280,
     },
     // result
     Alternative {
         start: 145,
         end: 147,
-        first: 285,
-        first_end: 286,
+        first: 280,
+        first_end: 281,
     },
     Alternative {
         start: 147,
         end: 147,
-        first: 286,
-        first_end: 286,
+        first: 281,
+        first_end: 281,
     },
     // lost_attrs
     Alternative {
         start: 147,
         end: 149,
-        first: 286,
-        first_end: 295,
+        first: 281,
+        first_end: 290,
     },
     Alternative {
         start: 149,
         end: 149,
-        first: 295,
-        first_end: 295,
+        first: 290,
+        first_end: 290,
     },
     // lost_attr
     Alternative {
         start: 149,
         end: 150,
-        first: 295,
-        first_end: 296,
+        first: 290,
+        first_end: 291,
     },
     Alternative {
         start: 150,
         end: 151,
-        first: 296,
-        first_end: 297,
+        first: 291,
+        first_end: 292,
     },
     Alternative {
         start: 151,
         end: 152,
-        first: 297,
-        first_end: 298,
+        first: 292,
+        first_end: 293,
     },
     Alternative {
         start: 152,
         end: 154,
-        first: 298,
-        first_end: 299,
+        first: 293,
+        first_end: 294,
     },
     Alternative {
         start: 154,
         end: 158,
-        first: 299,
-        first_end: 300,
+        first: 294,
+        first_end: 295,
     },
     Alternative {
         start: 158,
         end: 160,
-        first: 300,
-        first_end: 301,
+        first: 295,
+        first_end: 296,
     },
     Alternative {
         start: 160,
         end: 162,
-        first: 301,
-        first_end: 302,
+        first: 296,
+        first_end: 297,
     },
     Alternative {
         start: 162,
         end: 166,
-        first: 302,
-        first_end: 303,
+        first: 297,
+        first_end: 298,
     },
     Alternative {
         start: 166,
         end: 168,
-        first: 303,
-        first_end: 304,
+        first: 298,
+        first_end: 299,
     },
     // text_value
     Alternative {
         start: 168,
         end: 170,
-        first: 304,
-        first_end: 305,
+        first: 299,
+        first_end: 300,
     },
     Alternative {
         start: 170,
         end: 170,
-        first: 305,
-        first_end: 305,
+        first: 300,
+        first_end: 300,
     },
     // function_attrs
     Alternative {
         start: 170,
         end: 172,
-        first: 305,
-        first_end: 319,
+        first: 300,
+        first_end: 314,
     },
     Alternative {
         start: 172,
         end: 172,
-        first: 319,
-        first_end: 319,
+        first: 314,
+        first_end: 314,
     },
     // function_attr
     Alternative {
         start: 172,
         end: 173,
-        first: 319,
-        first_end: 320,
+        first: 314,
+        first_end: 315,
     },
     Alternative {
         start: 173,
         end: 174,
-        first: 320,
-        first_end: 332,
+        first: 315,
+        first_end: 327,
     },
     Alternative {
         start: 174,
         end: 176,
-        first: 332,
-        first_end: 333,
+        first: 327,
+        first_end: 328,
     },
     // align_value
     Alternative {
         start: 176,
         end: 177,
-        first: 333,
-        first_end: 334,
+        first: 328,
+        first_end: 329,
     },
     Alternative {
         start: 177,
         end: 181,
-        first: 334,
-        first_end: 335,
+        first: 329,
+        first_end: 330,
     },
     // call_attrs
     Alternative {
         start: 181,
         end: 183,
-        first: 335,
-        first_end: 336,
+        first: 330,
+        first_end: 331,
     },
     Alternative {
         start: 183,
         end: 185,
-        first: 336,
-        first_end: 349,
+        first: 331,
+        first_end: 344,
     },
     Alternative {
         start: 185,
         end: 185,
-        first: 349,
-        first_end: 349,
+        first: 344,
+        first_end: 344,
     },
     // group_attrs
     Alternative {
         start: 185,
         end: 187,
-        first: 349,
-        first_end: 362,
+        first: 344,
+        first_end: 357,
     },
     Alternative {
         start: 187,
         end: 187,
-        first: 362,
-        first_end: 362,
+        first: 357,
+        first_end: 357,
     },
     // group_attr
     Alternative {
         start: 187,
         end: 188,
-        first: 362,
-        first_end: 374,
+        first: 357,
+        first_end: 369,
     },
     Alternative {
         start: 188,
         end: 193,
-        first: 374,
-        first_end: 375,
+        first: 369,
+        first_end: 370,
     },
     // attr
     Alternative {
         start: 193,
         end: 195,
-        first: 375,
-        first_end: 376,
+        first: 370,
+        first_end: 371,
     },
     Alternative {
         start: 195,
         end: 196,
-        first: 376,
-        first_end: 378,
+        first: 371,
+        first_end: 373,
     },
     Alternative {
         start: 196,
         end: 198,
-        first: 378,
-        first_end: 379,
+        first: 373,
+        first_end: 374,
     },
     Alternative {
         start: 198,
         end: 200,
-        first: 379,
-        first_end: 380,
+        first: 374,
+        first_end: 375,
     },
     Alternative {
         start: 200,
         end: 205,
-        first: 380,
-        first_end: 383,
+        first: 375,
+        first_end: 378,
     },
     Alternative {
         start: 205,
         end: 208,
-        first: 383,
-        first_end: 385,
+        first: 378,
+        first_end: 380,
     },
     Alternative {
         start: 208,
         end: 210,
-        first: 385,
-        first_end: 386,
+        first: 380,
+        first_end: 381,
     },
     Alternative {
         start: 210,
         end: 214,
-        first: 386,
-        first_end: 387,
+        first: 381,
+        first_end: 382,
     },
     // stack_value
     Alternative {
         start: 214,
         end: 217,
-        first: 387,
-        first_end: 388,
+        first: 382,
+        first_end: 383,
     },
     Alternative {
         start: 217,
         end: 219,
-        first: 388,
-        first_end: 389,
+        first: 383,
+        first_end: 384,
     },
     // stack_number
     Alternative {
         start: 219,
         end: 220,
-        first: 389,
-        first_end: 390,
+        first: 384,
+        first_end: 385,
     },
     Alternative {
         start: 220,
         end: 222,
-        first: 390,
-        first_end: 391,
+        first: 385,
+        first_end: 386,
     },
     // unwind_value
     Alternative {
         start: 222,
         end: 225,
-        first: 391,
-        first_end: 392,
+        first: 386,
+        first_end: 387,
     },
     Alternative {
         start: 225,
         end: 225,
-        first: 392,
-        first_end: 392,
+        first: 387,
+        first_end: 387,
     },
     // unwind_number
     Alternative {
         start: 225,
         end: 226,
-        first: 392,
-        first_end: 393,
+        first: 387,
+        first_end: 388,
     },
     Alternative {
         start: 226,
         end: 228,
-        first: 393,
-        first_end: 394,
+        first: 388,
+        first_end: 389,
     },
     // number_attr
     Alternative {
         start: 228,
         end: 229,
-        first: 394,
-        first_end: 395,
+        first: 389,
+        first_end: 390,
     },
     Alternative {
         start: 229,
         end: 230,
-        first: 395,
-        first_end: 396,
+        first: 390,
+        first_end: 391,
     },
     Alternative {
         start: 230,
         end: 231,
-        first: 396,
-        first_end: 397,
+        first: 391,
+        first_end: 392,
     },
     // either_attr
     Alternative {
         start: 231,
         end: 232,
-        first: 397,
-        first_end: 398,
+        first: 392,
+        first_end: 393,
     },
     Alternative {
         start: 232,
         end: 233,
-        first: 398,
-        first_end: 399,
+        first: 393,
+        first_end: 394,
     },
     // number_or_inside
     Alternative {
         start: 233,
         end: 236,
-        first: 399,
-        first_end: 400,
+        first: 394,
+        first_end: 395,
     },
     Alternative {
         start: 236,
         end: 237,
-        first: 400,
-        first_end: 401,
+        first: 395,
+        first_end: 396,
     },
     Alternative {
         start: 237,
         end: 240,
-        first: 401,
-        first_end: 402,
+        first: 396,
+        first_end: 397,
     },
     Alternative {
         start: 240,
         end: 242,
-        first: 402,
-        first_end: 498,
+        first: 397,
+        first_end: 492,
     },
     Alternative {
         start: 242,
         end: 244,
-        first: 498,
-        first_end: 527,
+        first: 492,
+        first_end: 521,
     },
     // range_attr
     Alternative {
         start: 244,
         end: 245,
-        first: 527,
-        first_end: 528,
+        first: 521,
+        first_end: 522,
     },
     // enum_attr
     Alternative {
         start: 245,
         end: 246,
-        first: 528,
-        first_end: 529,
+        first: 522,
+        first_end: 523,
     },
     Alternative {
         start: 246,
         end: 247,
-        first: 529,
-        first_end: 530,
+        first: 523,
+        first_end: 524,
     },
     // parens
     Alternative {
         start: 247,
         end: 249,
-        first: 530,
-        first_end: 531,
+        first: 524,
+        first_end: 525,
     },
     // inside
     Alternative {
         start: 249,
         end: 250,
-        first: 531,
-        first_end: 532,
+        first: 525,
+        first_end: 526,
     },
     Alternative {
         start: 250,
         end: 253,
-        first: 532,
-        first_end: 533,
+        first: 526,
+        first_end: 527,
     },
     Alternative {
         start: 253,
         end: 255,
-        first: 533,
-        first_end: 630,
+        first: 527,
+        first_end: 623,
     },
     Alternative {
         start: 255,
         end: 257,
-        first: 630,
-        first_end: 659,
+        first: 623,
+        first_end: 652,
     },
     // node_parens
     Alternative {
         start: 257,
         end: 259,
-        first: 659,
-        first_end: 660,
+        first: 652,
+        first_end: 653,
     },
     // node_inside
     Alternative {
         start: 259,
         end: 260,
-        first: 660,
-        first_end: 661,
+        first: 653,
+        first_end: 654,
     },
     Alternative {
         start: 260,
         end: 263,
-        first: 661,
-        first_end: 662,
+        first: 654,
+        first_end: 655,
     },
     Alternative {
         start: 263,
         end: 265,
-        first: 662,
-        first_end: 760,
+        first: 655,
+        first_end: 752,
     },
     Alternative {
         start: 265,
         end: 267,
-        first: 760,
-        first_end: 789,
+        first: 752,
+        first_end: 781,
     },
     Alternative {
         start: 267,
         end: 269,
-        first: 789,
-        first_end: 790,
+        first: 781,
+        first_end: 782,
     },
     // plain
     Alternative {
         start: 269,
         end: 270,
-        first: 790,
-        first_end: 791,
+        first: 782,
+        first_end: 783,
     },
     Alternative {
         start: 270,
         end: 271,
-        first: 791,
-        first_end: 792,
+        first: 783,
+        first_end: 784,
     },
     Alternative {
         start: 271,
         end: 272,
-        first: 792,
-        first_end: 793,
+        first: 784,
+        first_end: 785,
     },
     Alternative {
         start: 272,
         end: 273,
-        first: 793,
-        first_end: 794,
+        first: 785,
+        first_end: 786,
     },
     Alternative {
         start: 273,
         end: 274,
-        first: 794,
-        first_end: 795,
+        first: 786,
+        first_end: 787,
     },
     Alternative {
         start: 274,
         end: 275,
-        first: 795,
-        first_end: 796,
+        first: 787,
+        first_end: 788,
     },
     Alternative {
         start: 275,
         end: 276,
-        first: 796,
-        first_end: 797,
+        first: 788,
+        first_end: 789,
     },
     Alternative {
         start: 276,
         end: 277,
-        first: 797,
-        first_end: 798,
+        first: 789,
+        first_end: 790,
     },
     Alternative {
         start: 277,
         end: 278,
-        first: 798,
-        first_end: 799,
+        first: 790,
+        first_end: 791,
     },
     Alternative {
         start: 278,
         end: 279,
-        first: 799,
-        first_end: 800,
+        first: 791,
+        first_end: 792,
     },
     Alternative {
         start: 279,
         end: 280,
-        first: 800,
-        first_end: 808,
+        first: 792,
+        first_end: 800,
     },
     Alternative {
         start: 280,
         end: 281,
-        first: 808,
-        first_end: 819,
+        first: 800,
+        first_end: 811,
     },
     // mark
     Alternative {
         start: 281,
         end: 282,
-        first: 819,
-        first_end: 820,
+        first: 811,
+        first_end: 812,
     },
     Alternative {
         start: 282,
         end: 283,
-        first: 820,
-        first_end: 821,
+        first: 812,
+        first_end: 813,
     },
     Alternative {
         start: 283,
         end: 284,
-        first: 821,
-        first_end: 822,
+        first: 813,
+        first_end: 814,
     },
     Alternative {
         start: 284,
         end: 285,
-        first: 822,
-        first_end: 823,
+        first: 814,
+        first_end: 815,
     },
     Alternative {
         start: 285,
         end: 286,
-        first: 823,
-        first_end: 824,
+        first: 815,
+        first_end: 816,
     },
     Alternative {
         start: 286,
         end: 287,
-        first: 824,
-        first_end: 825,
+        first: 816,
+        first_end: 817,
     },
     Alternative {
         start: 287,
         end: 288,
-        first: 825,
-        first_end: 826,
+        first: 817,
+        first_end: 818,
     },
     Alternative {
         start: 288,
         end: 289,
-        first: 826,
-        first_end: 827,
+        first: 818,
+        first_end: 819,
     },
     Alternative {
         start: 289,
         end: 290,
-        first: 827,
-        first_end: 828,
+        first: 819,
+        first_end: 820,
     },
     Alternative {
         start: 290,
         end: 291,
-        first: 828,
-        first_end: 829,
+        first: 820,
+        first_end: 821,
     },
     Alternative {
         start: 291,
         end: 292,
-        first: 829,
-        first_end: 830,
+        first: 821,
+        first_end: 822,
     },
     // most_words
     Alternative {
         start: 292,
         end: 293,
-        first: 830,
-        first_end: 831,
+        first: 822,
+        first_end: 823,
     },
     Alternative {
         start: 293,
         end: 294,
-        first: 831,
-        first_end: 832,
+        first: 823,
+        first_end: 824,
     },
     Alternative {
         start: 294,
         end: 295,
-        first: 832,
-        first_end: 833,
+        first: 824,
+        first_end: 825,
     },
     Alternative {
         start: 295,
         end: 296,
-        first: 833,
-        first_end: 834,
+        first: 825,
+        first_end: 826,
     },
     Alternative {
         start: 296,
         end: 297,
-        first: 834,
-        first_end: 835,
+        first: 826,
+        first_end: 827,
     },
     Alternative {
         start: 297,
         end: 298,
-        first: 835,
-        first_end: 836,
+        first: 827,
+        first_end: 828,
     },
     Alternative {
         start: 298,
         end: 299,
-        first: 836,
-        first_end: 837,
+        first: 828,
+        first_end: 829,
     },
     Alternative {
         start: 299,
         end: 300,
-        first: 837,
-        first_end: 838,
+        first: 829,
+        first_end: 830,
     },
     Alternative {
         start: 300,
         end: 301,
-        first: 838,
-        first_end: 839,
+        first: 830,
+        first_end: 831,
     },
     Alternative {
         start: 301,
         end: 302,
-        first: 839,
-        first_end: 840,
+        first: 831,
+        first_end: 832,
     },
     Alternative {
         start: 302,
         end: 303,
-        first: 840,
-        first_end: 841,
+        first: 832,
+        first_end: 833,
     },
     Alternative {
         start: 303,
         end: 304,
-        first: 841,
-        first_end: 842,
+        first: 833,
+        first_end: 834,
     },
     Alternative {
         start: 304,
         end: 305,
-        first: 842,
-        first_end: 843,
+        first: 834,
+        first_end: 835,
     },
     Alternative {
         start: 305,
         end: 306,
-        first: 843,
-        first_end: 844,
+        first: 835,
+        first_end: 836,
     },
     Alternative {
         start: 306,
         end: 307,
-        first: 844,
-        first_end: 845,
+        first: 836,
+        first_end: 837,
     },
     Alternative {
         start: 307,
         end: 308,
-        first: 845,
-        first_end: 846,
+        first: 837,
+        first_end: 838,
     },
     Alternative {
         start: 308,
         end: 309,
-        first: 846,
-        first_end: 847,
+        first: 838,
+        first_end: 839,
     },
     Alternative {
         start: 309,
         end: 310,
-        first: 847,
-        first_end: 848,
+        first: 839,
+        first_end: 840,
     },
     Alternative {
         start: 310,
         end: 311,
-        first: 848,
-        first_end: 849,
+        first: 840,
+        first_end: 841,
     },
     Alternative {
         start: 311,
         end: 312,
-        first: 849,
-        first_end: 850,
+        first: 841,
+        first_end: 842,
     },
     Alternative {
         start: 312,
         end: 313,
-        first: 850,
-        first_end: 851,
+        first: 842,
+        first_end: 843,
     },
     Alternative {
         start: 313,
         end: 314,
-        first: 851,
-        first_end: 852,
+        first: 843,
+        first_end: 844,
     },
     Alternative {
         start: 314,
         end: 315,
-        first: 852,
-        first_end: 853,
+        first: 844,
+        first_end: 845,
     },
     Alternative {
         start: 315,
         end: 316,
-        first: 853,
-        first_end: 854,
+        first: 845,
+        first_end: 846,
     },
     Alternative {
         start: 316,
         end: 317,
-        first: 854,
-        first_end: 855,
+        first: 846,
+        first_end: 847,
     },
     Alternative {
         start: 317,
         end: 318,
-        first: 855,
-        first_end: 856,
+        first: 847,
+        first_end: 848,
     },
     Alternative {
         start: 318,
         end: 319,
-        first: 856,
-        first_end: 857,
+        first: 848,
+        first_end: 849,
     },
     Alternative {
         start: 319,
         end: 320,
-        first: 857,
-        first_end: 858,
+        first: 849,
+        first_end: 850,
     },
     Alternative {
         start: 320,
         end: 321,
-        first: 858,
-        first_end: 859,
+        first: 850,
+        first_end: 851,
     },
     Alternative {
         start: 321,
         end: 322,
-        first: 859,
-        first_end: 860,
+        first: 851,
+        first_end: 852,
     },
     Alternative {
         start: 322,
         end: 323,
-        first: 860,
-        first_end: 861,
+        first: 852,
+        first_end: 853,
     },
     Alternative {
         start: 323,
         end: 324,
-        first: 861,
-        first_end: 862,
+        first: 853,
+        first_end: 854,
     },
     Alternative {
         start: 324,
         end: 325,
-        first: 862,
-        first_end: 863,
+        first: 854,
+        first_end: 855,
     },
     Alternative {
         start: 325,
         end: 326,
-        first: 863,
-        first_end: 864,
+        first: 855,
+        first_end: 856,
     },
     Alternative {
         start: 326,
         end: 327,
-        first: 864,
-        first_end: 865,
+        first: 856,
+        first_end: 857,
     },
     Alternative {
         start: 327,
         end: 328,
-        first: 865,
-        first_end: 866,
+        first: 857,
+        first_end: 858,
     },
     Alternative {
         start: 328,
         end: 329,
-        first: 866,
-        first_end: 867,
+        first: 858,
+        first_end: 859,
     },
     Alternative {
         start: 329,
         end: 330,
-        first: 867,
-        first_end: 868,
+        first: 859,
+        first_end: 860,
     },
     Alternative {
         start: 330,
         end: 331,
-        first: 868,
-        first_end: 869,
+        first: 860,
+        first_end: 861,
     },
     Alternative {
         start: 331,
         end: 332,
-        first: 869,
-        first_end: 870,
+        first: 861,
+        first_end: 862,
     },
     Alternative {
         start: 332,
         end: 333,
-        first: 870,
-        first_end: 871,
+        first: 862,
+        first_end: 863,
     },
     Alternative {
         start: 333,
         end: 334,
-        first: 871,
-        first_end: 872,
+        first: 863,
+        first_end: 864,
     },
     Alternative {
         start: 334,
         end: 335,
-        first: 872,
-        first_end: 873,
+        first: 864,
+        first_end: 865,
     },
     Alternative {
         start: 335,
         end: 336,
-        first: 873,
-        first_end: 874,
+        first: 865,
+        first_end: 866,
     },
     Alternative {
         start: 336,
         end: 337,
-        first: 874,
-        first_end: 875,
+        first: 866,
+        first_end: 867,
     },
     Alternative {
         start: 337,
         end: 338,
-        first: 875,
-        first_end: 876,
+        first: 867,
+        first_end: 868,
     },
     Alternative {
         start: 338,
         end: 339,
-        first: 876,
-        first_end: 877,
+        first: 868,
+        first_end: 869,
     },
     Alternative {
         start: 339,
         end: 340,
-        first: 877,
-        first_end: 878,
+        first: 869,
+        first_end: 870,
     },
     Alternative {
         start: 340,
         end: 341,
-        first: 878,
-        first_end: 879,
+        first: 870,
+        first_end: 871,
     },
     Alternative {
         start: 341,
         end: 342,
-        first: 879,
-        first_end: 880,
+        first: 871,
+        first_end: 872,
     },
     Alternative {
         start: 342,
         end: 343,
-        first: 880,
-        first_end: 881,
+        first: 872,
+        first_end: 873,
     },
     Alternative {
         start: 343,
         end: 344,
-        first: 881,
-        first_end: 882,
+        first: 873,
+        first_end: 874,
     },
     Alternative {
         start: 344,
         end: 345,
-        first: 882,
-        first_end: 883,
+        first: 874,
+        first_end: 875,
     },
     Alternative {
         start: 345,
         end: 346,
-        first: 883,
-        first_end: 884,
+        first: 875,
+        first_end: 876,
     },
     Alternative {
         start: 346,
         end: 347,
-        first: 884,
-        first_end: 885,
+        first: 876,
+        first_end: 877,
     },
     Alternative {
         start: 347,
         end: 348,
-        first: 885,
-        first_end: 886,
+        first: 877,
+        first_end: 878,
     },
     Alternative {
         start: 348,
         end: 349,
-        first: 886,
-        first_end: 887,
+        first: 878,
+        first_end: 879,
     },
     Alternative {
         start: 349,
         end: 350,
-        first: 887,
-        first_end: 888,
+        first: 879,
+        first_end: 880,
     },
     Alternative {
         start: 350,
         end: 351,
-        first: 888,
-        first_end: 889,
+        first: 880,
+        first_end: 881,
     },
     Alternative {
         start: 351,
         end: 352,
-        first: 889,
-        first_end: 890,
+        first: 881,
+        first_end: 882,
     },
     Alternative {
         start: 352,
         end: 353,
-        first: 890,
-        first_end: 891,
+        first: 882,
+        first_end: 883,
     },
     Alternative {
         start: 353,
         end: 354,
-        first: 891,
-        first_end: 892,
+        first: 883,
+        first_end: 884,
     },
     Alternative {
         start: 354,
         end: 355,
-        first: 892,
-        first_end: 893,
+        first: 884,
+        first_end: 885,
     },
     Alternative {
         start: 355,
         end: 356,
-        first: 893,
-        first_end: 894,
+        first: 885,
+        first_end: 886,
     },
     Alternative {
         start: 356,
         end: 357,
-        first: 894,
-        first_end: 895,
+        first: 886,
+        first_end: 887,
     },
     Alternative {
         start: 357,
         end: 358,
-        first: 895,
-        first_end: 896,
+        first: 887,
+        first_end: 888,
     },
     Alternative {
         start: 358,
         end: 359,
-        first: 896,
-        first_end: 897,
+        first: 888,
+        first_end: 889,
     },
     Alternative {
         start: 359,
         end: 360,
-        first: 897,
-        first_end: 898,
+        first: 889,
+        first_end: 890,
     },
     Alternative {
         start: 360,
         end: 361,
-        first: 898,
-        first_end: 899,
+        first: 890,
+        first_end: 891,
     },
     Alternative {
         start: 361,
         end: 362,
-        first: 899,
-        first_end: 900,
+        first: 891,
+        first_end: 892,
     },
     Alternative {
         start: 362,
         end: 363,
-        first: 900,
-        first_end: 901,
+        first: 892,
+        first_end: 893,
     },
     Alternative {
         start: 363,
         end: 364,
-        first: 901,
-        first_end: 902,
+        first: 893,
+        first_end: 894,
     },
     Alternative {
         start: 364,
         end: 365,
-        first: 902,
-        first_end: 903,
+        first: 894,
+        first_end: 895,
     },
     Alternative {
         start: 365,
         end: 366,
-        first: 903,
-        first_end: 904,
+        first: 895,
+        first_end: 896,
     },
     Alternative {
         start: 366,
         end: 367,
-        first: 904,
-        first_end: 905,
+        first: 896,
+        first_end: 897,
     },
     Alternative {
         start: 367,
         end: 368,
-        first: 905,
-        first_end: 906,
+        first: 897,
+        first_end: 898,
     },
     Alternative {
         start: 368,
         end: 369,
-        first: 906,
-        first_end: 907,
+        first: 898,
+        first_end: 899,
     },
     Alternative {
         start: 369,
         end: 370,
-        first: 907,
-        first_end: 908,
+        first: 899,
+        first_end: 900,
     },
     Alternative {
         start: 370,
         end: 371,
-        first: 908,
-        first_end: 909,
+        first: 900,
+        first_end: 901,
     },
     Alternative {
         start: 371,
         end: 372,
-        first: 909,
-        first_end: 910,
+        first: 901,
+        first_end: 902,
     },
     Alternative {
         start: 372,
         end: 373,
-        first: 910,
-        first_end: 911,
+        first: 902,
+        first_end: 903,
     },
     Alternative {
         start: 373,
         end: 374,
-        first: 911,
-        first_end: 912,
+        first: 903,
+        first_end: 904,
     },
     Alternative {
         start: 374,
         end: 375,
-        first: 912,
-        first_end: 913,
+        first: 904,
+        first_end: 905,
     },
     Alternative {
         start: 375,
         end: 376,
-        first: 913,
-        first_end: 914,
+        first: 905,
+        first_end: 906,
     },
     Alternative {
         start: 376,
         end: 377,
-        first: 914,
-        first_end: 915,
+        first: 906,
+        first_end: 907,
     },
     Alternative {
         start: 377,
         end: 378,
-        first: 915,
-        first_end: 916,
+        first: 907,
+        first_end: 908,
     },
     Alternative {
         start: 378,
         end: 379,
-        first: 916,
-        first_end: 917,
+        first: 908,
+        first_end: 909,
     },
     Alternative {
         start: 379,
         end: 380,
-        first: 917,
-        first_end: 918,
+        first: 909,
+        first_end: 910,
     },
     Alternative {
         start: 380,
         end: 381,
-        first: 918,
-        first_end: 919,
+        first: 910,
+        first_end: 911,
     },
     Alternative {
         start: 381,
         end: 382,
-        first: 919,
-        first_end: 920,
+        first: 911,
+        first_end: 912,
     },
     Alternative {
         start: 382,
         end: 383,
-        first: 920,
-        first_end: 921,
+        first: 912,
+        first_end: 913,
     },
     Alternative {
         start: 383,
         end: 384,
-        first: 921,
-        first_end: 922,
+        first: 913,
+        first_end: 914,
     },
     Alternative {
         start: 384,
         end: 385,
-        first: 922,
-        first_end: 923,
+        first: 914,
+        first_end: 915,
     },
     Alternative {
         start: 385,
         end: 386,
-        first: 923,
-        first_end: 924,
+        first: 915,
+        first_end: 916,
     },
     Alternative {
         start: 386,
         end: 387,
-        first: 924,
-        first_end: 925,
-    },
-    Alternative {
-        start: 387,
-        end: 388,
-        first: 925,
-        first_end: 926,
+        first: 916,
+        first_end: 917,
     },
     // any_word
     Alternative {
-        start: 388,
-        end: 389,
-        first: 926,
-        first_end: 1022,
+        start: 387,
+        end: 388,
+        first: 917,
+        first_end: 1012,
     },
     Alternative {
-        start: 389,
-        end: 390,
-        first: 1022,
-        first_end: 1023,
+        start: 388,
+        end: 389,
+        first: 1012,
+        first_end: 1013,
     },
     // node_word
     Alternative {
-        start: 390,
-        end: 391,
-        first: 1023,
-        first_end: 1120,
+        start: 389,
+        end: 390,
+        first: 1013,
+        first_end: 1109,
     },
     Alternative {
-        start: 391,
-        end: 392,
-        first: 1120,
-        first_end: 1121,
+        start: 390,
+        end: 391,
+        first: 1109,
+        first_end: 1110,
     },
     // type
     Alternative {
-        start: 392,
-        end: 393,
-        first: 1121,
-        first_end: 1122,
+        start: 391,
+        end: 392,
+        first: 1110,
+        first_end: 1111,
     },
     Alternative {
-        start: 393,
-        end: 394,
-        first: 1122,
-        first_end: 1130,
+        start: 392,
+        end: 393,
+        first: 1111,
+        first_end: 1118,
     },
     // solid
     Alternative {
-        start: 394,
-        end: 395,
-        first: 1130,
-        first_end: 1137,
+        start: 393,
+        end: 394,
+        first: 1118,
+        first_end: 1124,
     },
     Alternative {
-        start: 395,
-        end: 398,
-        first: 1137,
-        first_end: 1138,
+        start: 394,
+        end: 397,
+        first: 1124,
+        first_end: 1125,
     },
     // flat
     Alternative {
-        start: 398,
-        end: 399,
-        first: 1138,
-        first_end: 1139,
+        start: 397,
+        end: 398,
+        first: 1125,
+        first_end: 1126,
     },
     Alternative {
-        start: 399,
+        start: 398,
         end: 400,
-        first: 1139,
-        first_end: 1140,
+        first: 1126,
+        first_end: 1127,
     },
     Alternative {
         start: 400,
-        end: 402,
-        first: 1140,
-        first_end: 1141,
+        end: 401,
+        first: 1127,
+        first_end: 1128,
     },
     Alternative {
-        start: 402,
-        end: 403,
-        first: 1141,
+        start: 401,
+        end: 406,
+        first: 1128,
+        first_end: 1129,
+    },
+    Alternative {
+        start: 406,
+        end: 408,
+        first: 1129,
+        first_end: 1130,
+    },
+    Alternative {
+        start: 408,
+        end: 409,
+        first: 1130,
+        first_end: 1131,
+    },
+    // angle_type
+    Alternative {
+        start: 409,
+        end: 413,
+        first: 1131,
+        first_end: 1132,
+    },
+    Alternative {
+        start: 413,
+        end: 419,
+        first: 1132,
+        first_end: 1133,
+    },
+    Alternative {
+        start: 419,
+        end: 423,
+        first: 1133,
+        first_end: 1134,
+    },
+    // types
+    Alternative {
+        start: 423,
+        end: 425,
+        first: 1134,
         first_end: 1142,
     },
     Alternative {
-        start: 403,
-        end: 408,
+        start: 425,
+        end: 425,
+        first: 1142,
+        first_end: 1142,
+    },
+    // more_types
+    Alternative {
+        start: 425,
+        end: 428,
         first: 1142,
         first_end: 1143,
     },
     Alternative {
-        start: 408,
-        end: 410,
+        start: 428,
+        end: 428,
         first: 1143,
-        first_end: 1144,
-    },
-    Alternative {
-        start: 410,
-        end: 411,
-        first: 1144,
-        first_end: 1145,
-    },
-    // angle_type
-    Alternative {
-        start: 411,
-        end: 415,
-        first: 1145,
-        first_end: 1146,
-    },
-    Alternative {
-        start: 415,
-        end: 421,
-        first: 1146,
-        first_end: 1147,
-    },
-    Alternative {
-        start: 421,
-        end: 425,
-        first: 1147,
-        first_end: 1148,
-    },
-    // types
-    Alternative {
-        start: 425,
-        end: 427,
-        first: 1148,
-        first_end: 1157,
-    },
-    Alternative {
-        start: 427,
-        end: 427,
-        first: 1157,
-        first_end: 1157,
-    },
-    // more_types
-    Alternative {
-        start: 427,
-        end: 430,
-        first: 1157,
-        first_end: 1158,
-    },
-    Alternative {
-        start: 430,
-        end: 430,
-        first: 1158,
-        first_end: 1158,
+        first_end: 1143,
     },
     // called_type
     Alternative {
-        start: 430,
-        end: 432,
-        first: 1158,
-        first_end: 1167,
+        start: 428,
+        end: 430,
+        first: 1143,
+        first_end: 1151,
     },
     // signature
     Alternative {
-        start: 432,
-        end: 435,
-        first: 1167,
-        first_end: 1168,
+        start: 430,
+        end: 433,
+        first: 1151,
+        first_end: 1152,
     },
     Alternative {
-        start: 435,
-        end: 435,
-        first: 1168,
-        first_end: 1168,
+        start: 433,
+        end: 433,
+        first: 1152,
+        first_end: 1152,
     },
     // argument_types
     Alternative {
+        start: 433,
+        end: 435,
+        first: 1152,
+        first_end: 1160,
+    },
+    Alternative {
         start: 435,
-        end: 437,
-        first: 1168,
-        first_end: 1177,
+        end: 436,
+        first: 1160,
+        first_end: 1161,
     },
     Alternative {
-        start: 437,
-        end: 438,
-        first: 1177,
-        first_end: 1178,
-    },
-    Alternative {
-        start: 438,
-        end: 438,
-        first: 1178,
-        first_end: 1178,
+        start: 436,
+        end: 436,
+        first: 1161,
+        first_end: 1161,
     },
     // more_argument_types
     Alternative {
-        start: 438,
-        end: 440,
-        first: 1178,
-        first_end: 1179,
+        start: 436,
+        end: 438,
+        first: 1161,
+        first_end: 1162,
     },
     Alternative {
-        start: 440,
-        end: 440,
-        first: 1179,
-        first_end: 1179,
+        start: 438,
+        end: 438,
+        first: 1162,
+        first_end: 1162,
     },
     // type_or_dots
     Alternative {
-        start: 440,
-        end: 442,
-        first: 1179,
-        first_end: 1188,
+        start: 438,
+        end: 440,
+        first: 1162,
+        first_end: 1170,
     },
     Alternative {
-        start: 442,
-        end: 443,
-        first: 1188,
-        first_end: 1189,
+        start: 440,
+        end: 441,
+        first: 1170,
+        first_end: 1171,
     },
     // tconst
     Alternative {
-        start: 443,
-        end: 445,
-        first: 1189,
-        first_end: 1198,
+        start: 441,
+        end: 443,
+        first: 1171,
+        first_end: 1179,
     },
     // const
     Alternative {
+        start: 443,
+        end: 444,
+        first: 1179,
+        first_end: 1180,
+    },
+    Alternative {
+        start: 444,
+        end: 445,
+        first: 1180,
+        first_end: 1181,
+    },
+    Alternative {
         start: 445,
         end: 446,
-        first: 1198,
-        first_end: 1199,
+        first: 1181,
+        first_end: 1182,
     },
     Alternative {
         start: 446,
-        end: 447,
-        first: 1199,
+        end: 449,
+        first: 1182,
+        first_end: 1183,
+    },
+    Alternative {
+        start: 449,
+        end: 452,
+        first: 1183,
+        first_end: 1184,
+    },
+    Alternative {
+        start: 452,
+        end: 454,
+        first: 1184,
+        first_end: 1185,
+    },
+    Alternative {
+        start: 454,
+        end: 455,
+        first: 1185,
+        first_end: 1186,
+    },
+    Alternative {
+        start: 455,
+        end: 459,
+        first: 1186,
+        first_end: 1187,
+    },
+    Alternative {
+        start: 459,
+        end: 460,
+        first: 1187,
+        first_end: 1188,
+    },
+    Alternative {
+        start: 460,
+        end: 466,
+        first: 1188,
+        first_end: 1189,
+    },
+    Alternative {
+        start: 466,
+        end: 472,
+        first: 1189,
+        first_end: 1191,
+    },
+    Alternative {
+        start: 472,
+        end: 479,
+        first: 1191,
+        first_end: 1192,
+    },
+    Alternative {
+        start: 479,
+        end: 488,
+        first: 1192,
+        first_end: 1193,
+    },
+    // const_angle
+    Alternative {
+        start: 488,
+        end: 490,
+        first: 1193,
+        first_end: 1194,
+    },
+    Alternative {
+        start: 490,
+        end: 494,
+        first: 1194,
         first_end: 1200,
     },
     Alternative {
-        start: 447,
-        end: 448,
+        start: 494,
+        end: 498,
         first: 1200,
         first_end: 1201,
     },
+    // const_brace
     Alternative {
-        start: 448,
-        end: 451,
+        start: 498,
+        end: 500,
         first: 1201,
         first_end: 1202,
     },
     Alternative {
-        start: 451,
-        end: 454,
+        start: 500,
+        end: 502,
         first: 1202,
-        first_end: 1203,
-    },
-    Alternative {
-        start: 454,
-        end: 456,
-        first: 1203,
-        first_end: 1204,
-    },
-    Alternative {
-        start: 456,
-        end: 457,
-        first: 1204,
-        first_end: 1205,
-    },
-    Alternative {
-        start: 457,
-        end: 461,
-        first: 1205,
-        first_end: 1206,
-    },
-    Alternative {
-        start: 461,
-        end: 462,
-        first: 1206,
-        first_end: 1207,
-    },
-    Alternative {
-        start: 462,
-        end: 468,
-        first: 1207,
-        first_end: 1208,
-    },
-    Alternative {
-        start: 468,
-        end: 474,
-        first: 1208,
         first_end: 1210,
     },
+    // const_empty
     Alternative {
-        start: 474,
-        end: 481,
+        start: 502,
+        end: 503,
         first: 1210,
         first_end: 1211,
     },
     Alternative {
-        start: 481,
-        end: 490,
+        start: 503,
+        end: 506,
         first: 1211,
-        first_end: 1212,
-    },
-    // const_angle
-    Alternative {
-        start: 490,
-        end: 492,
-        first: 1212,
-        first_end: 1213,
-    },
-    Alternative {
-        start: 492,
-        end: 496,
-        first: 1213,
-        first_end: 1220,
-    },
-    Alternative {
-        start: 496,
-        end: 500,
-        first: 1220,
-        first_end: 1221,
-    },
-    // const_brace
-    Alternative {
-        start: 500,
-        end: 502,
-        first: 1221,
-        first_end: 1222,
-    },
-    Alternative {
-        start: 502,
-        end: 504,
-        first: 1222,
-        first_end: 1231,
-    },
-    // const_empty
-    Alternative {
-        start: 504,
-        end: 505,
-        first: 1231,
-        first_end: 1232,
-    },
-    Alternative {
-        start: 505,
-        end: 508,
-        first: 1232,
-        first_end: 1246,
+        first_end: 1225,
     },
     // const_braced
     Alternative {
-        start: 508,
-        end: 512,
-        first: 1246,
-        first_end: 1260,
+        start: 506,
+        end: 510,
+        first: 1225,
+        first_end: 1239,
     },
     Alternative {
-        start: 512,
-        end: 517,
-        first: 1260,
-        first_end: 1262,
+        start: 510,
+        end: 515,
+        first: 1239,
+        first_end: 1241,
     },
     // const_cast
     Alternative {
-        start: 517,
-        end: 518,
-        first: 1262,
-        first_end: 1263,
+        start: 515,
+        end: 516,
+        first: 1241,
+        first_end: 1242,
     },
     Alternative {
-        start: 518,
-        end: 519,
-        first: 1263,
-        first_end: 1264,
+        start: 516,
+        end: 517,
+        first: 1242,
+        first_end: 1243,
     },
     // const_sum
     Alternative {
-        start: 519,
-        end: 520,
-        first: 1264,
-        first_end: 1265,
+        start: 517,
+        end: 518,
+        first: 1243,
+        first_end: 1244,
     },
     // tconsts
     Alternative {
-        start: 520,
-        end: 522,
-        first: 1265,
-        first_end: 1274,
+        start: 518,
+        end: 520,
+        first: 1244,
+        first_end: 1252,
     },
     Alternative {
-        start: 522,
-        end: 522,
-        first: 1274,
-        first_end: 1274,
+        start: 520,
+        end: 520,
+        first: 1252,
+        first_end: 1252,
     },
     // more_tconsts
     Alternative {
-        start: 522,
-        end: 525,
-        first: 1274,
-        first_end: 1275,
+        start: 520,
+        end: 523,
+        first: 1252,
+        first_end: 1253,
     },
     Alternative {
-        start: 525,
-        end: 525,
-        first: 1275,
-        first_end: 1275,
+        start: 523,
+        end: 523,
+        first: 1253,
+        first_end: 1253,
     },
     // in_range
     Alternative {
-        start: 525,
-        end: 527,
-        first: 1275,
-        first_end: 1276,
+        start: 523,
+        end: 525,
+        first: 1253,
+        first_end: 1254,
     },
     Alternative {
-        start: 527,
-        end: 527,
-        first: 1276,
-        first_end: 1276,
+        start: 525,
+        end: 525,
+        first: 1254,
+        first_end: 1254,
     },
     // inst
     Alternative {
-        start: 527,
-        end: 529,
-        first: 1276,
-        first_end: 1300,
+        start: 525,
+        end: 527,
+        first: 1254,
+        first_end: 1278,
     },
     Alternative {
-        start: 529,
+        start: 527,
+        end: 530,
+        first: 1278,
+        first_end: 1279,
+    },
+    Alternative {
+        start: 530,
         end: 532,
-        first: 1300,
-        first_end: 1301,
+        first: 1279,
+        first_end: 1280,
     },
     Alternative {
         start: 532,
         end: 534,
+        first: 1280,
+        first_end: 1281,
+    },
+    Alternative {
+        start: 534,
+        end: 539,
+        first: 1281,
+        first_end: 1282,
+    },
+    Alternative {
+        start: 539,
+        end: 542,
+        first: 1282,
+        first_end: 1283,
+    },
+    Alternative {
+        start: 542,
+        end: 548,
+        first: 1283,
+        first_end: 1284,
+    },
+    Alternative {
+        start: 548,
+        end: 553,
+        first: 1284,
+        first_end: 1285,
+    },
+    Alternative {
+        start: 553,
+        end: 560,
+        first: 1285,
+        first_end: 1286,
+    },
+    Alternative {
+        start: 560,
+        end: 564,
+        first: 1286,
+        first_end: 1287,
+    },
+    // simple
+    Alternative {
+        start: 564,
+        end: 566,
+        first: 1287,
+        first_end: 1288,
+    },
+    Alternative {
+        start: 566,
+        end: 568,
+        first: 1288,
+        first_end: 1289,
+    },
+    Alternative {
+        start: 568,
+        end: 576,
+        first: 1289,
+        first_end: 1290,
+    },
+    Alternative {
+        start: 576,
+        end: 582,
+        first: 1290,
+        first_end: 1291,
+    },
+    Alternative {
+        start: 582,
+        end: 583,
+        first: 1291,
+        first_end: 1292,
+    },
+    Alternative {
+        start: 583,
+        end: 586,
+        first: 1292,
+        first_end: 1294,
+    },
+    Alternative {
+        start: 586,
+        end: 589,
+        first: 1294,
+        first_end: 1295,
+    },
+    Alternative {
+        start: 589,
+        end: 591,
+        first: 1295,
+        first_end: 1297,
+    },
+    Alternative {
+        start: 591,
+        end: 594,
+        first: 1297,
+        first_end: 1298,
+    },
+    Alternative {
+        start: 594,
+        end: 598,
+        first: 1298,
+        first_end: 1299,
+    },
+    Alternative {
+        start: 598,
+        end: 602,
+        first: 1299,
+        first_end: 1301,
+    },
+    Alternative {
+        start: 602,
+        end: 607,
         first: 1301,
         first_end: 1302,
     },
     Alternative {
-        start: 534,
-        end: 536,
+        start: 607,
+        end: 612,
         first: 1302,
         first_end: 1303,
     },
     Alternative {
-        start: 536,
-        end: 541,
+        start: 612,
+        end: 614,
         first: 1303,
         first_end: 1304,
     },
     Alternative {
-        start: 541,
-        end: 544,
+        start: 614,
+        end: 618,
         first: 1304,
         first_end: 1305,
     },
     Alternative {
-        start: 544,
-        end: 550,
+        start: 618,
+        end: 624,
         first: 1305,
         first_end: 1306,
     },
     Alternative {
-        start: 550,
-        end: 555,
+        start: 624,
+        end: 630,
         first: 1306,
         first_end: 1307,
     },
     Alternative {
-        start: 555,
-        end: 562,
+        start: 630,
+        end: 632,
         first: 1307,
         first_end: 1308,
     },
     Alternative {
-        start: 562,
-        end: 566,
+        start: 632,
+        end: 636,
         first: 1308,
         first_end: 1309,
     },
-    // simple
     Alternative {
-        start: 566,
-        end: 568,
+        start: 636,
+        end: 639,
         first: 1309,
-        first_end: 1310,
-    },
-    Alternative {
-        start: 568,
-        end: 570,
-        first: 1310,
         first_end: 1311,
     },
+    // value
     Alternative {
-        start: 570,
-        end: 578,
+        start: 639,
+        end: 640,
         first: 1311,
         first_end: 1312,
     },
     Alternative {
-        start: 578,
-        end: 584,
-        first: 1312,
-        first_end: 1313,
-    },
-    Alternative {
-        start: 584,
-        end: 585,
-        first: 1313,
-        first_end: 1314,
-    },
-    Alternative {
-        start: 585,
-        end: 588,
-        first: 1314,
-        first_end: 1316,
-    },
-    Alternative {
-        start: 588,
-        end: 591,
-        first: 1316,
-        first_end: 1317,
-    },
-    Alternative {
-        start: 591,
-        end: 593,
-        first: 1317,
-        first_end: 1319,
-    },
-    Alternative {
-        start: 593,
-        end: 596,
-        first: 1319,
-        first_end: 1320,
-    },
-    Alternative {
-        start: 596,
-        end: 600,
-        first: 1320,
-        first_end: 1321,
-    },
-    Alternative {
-        start: 600,
-        end: 604,
-        first: 1321,
-        first_end: 1323,
-    },
-    Alternative {
-        start: 604,
-        end: 609,
-        first: 1323,
-        first_end: 1324,
-    },
-    Alternative {
-        start: 609,
-        end: 614,
-        first: 1324,
-        first_end: 1325,
-    },
-    Alternative {
-        start: 614,
-        end: 616,
-        first: 1325,
-        first_end: 1326,
-    },
-    Alternative {
-        start: 616,
-        end: 620,
-        first: 1326,
-        first_end: 1327,
-    },
-    Alternative {
-        start: 620,
-        end: 626,
-        first: 1327,
-        first_end: 1328,
-    },
-    Alternative {
-        start: 626,
-        end: 632,
-        first: 1328,
-        first_end: 1329,
-    },
-    Alternative {
-        start: 632,
-        end: 634,
-        first: 1329,
-        first_end: 1330,
-    },
-    Alternative {
-        start: 634,
-        end: 638,
-        first: 1330,
-        first_end: 1331,
-    },
-    Alternative {
-        start: 638,
+        start: 640,
         end: 641,
-        first: 1331,
-        first_end: 1333,
-    },
-    // value
-    Alternative {
-        start: 641,
-        end: 642,
-        first: 1333,
-        first_end: 1334,
-    },
-    Alternative {
-        start: 642,
-        end: 643,
-        first: 1334,
-        first_end: 1348,
+        first: 1312,
+        first_end: 1326,
     },
     // typed
     Alternative {
-        start: 643,
-        end: 645,
-        first: 1348,
-        first_end: 1357,
+        start: 641,
+        end: 643,
+        first: 1326,
+        first_end: 1334,
     },
     // pair
     Alternative {
-        start: 645,
-        end: 649,
-        first: 1357,
-        first_end: 1366,
+        start: 643,
+        end: 647,
+        first: 1334,
+        first_end: 1342,
     },
     // ret
     Alternative {
-        start: 649,
-        end: 650,
-        first: 1366,
-        first_end: 1367,
+        start: 647,
+        end: 648,
+        first: 1342,
+        first_end: 1343,
     },
     Alternative {
-        start: 650,
-        end: 652,
-        first: 1367,
-        first_end: 1375,
+        start: 648,
+        end: 650,
+        first: 1343,
+        first_end: 1350,
     },
     // br
     Alternative {
-        start: 652,
-        end: 654,
-        first: 1375,
-        first_end: 1376,
+        start: 650,
+        end: 652,
+        first: 1350,
+        first_end: 1351,
     },
     Alternative {
-        start: 654,
-        end: 662,
-        first: 1376,
-        first_end: 1377,
+        start: 652,
+        end: 659,
+        first: 1351,
+        first_end: 1359,
     },
     // cases
     Alternative {
-        start: 662,
-        end: 667,
-        first: 1377,
-        first_end: 1386,
+        start: 659,
+        end: 664,
+        first: 1359,
+        first_end: 1367,
     },
     Alternative {
-        start: 667,
-        end: 667,
-        first: 1386,
-        first_end: 1386,
+        start: 664,
+        end: 664,
+        first: 1367,
+        first_end: 1367,
     },
     // labels
     Alternative {
-        start: 667,
-        end: 670,
-        first: 1386,
-        first_end: 1387,
+        start: 664,
+        end: 667,
+        first: 1367,
+        first_end: 1368,
     },
     Alternative {
-        start: 670,
-        end: 670,
-        first: 1387,
-        first_end: 1387,
+        start: 667,
+        end: 667,
+        first: 1368,
+        first_end: 1368,
     },
     // more_labels
     Alternative {
-        start: 670,
-        end: 674,
-        first: 1387,
-        first_end: 1388,
+        start: 667,
+        end: 671,
+        first: 1368,
+        first_end: 1369,
     },
     Alternative {
-        start: 674,
-        end: 674,
-        first: 1388,
-        first_end: 1388,
+        start: 671,
+        end: 671,
+        first: 1369,
+        first_end: 1369,
     },
     // sum
     Alternative {
-        start: 674,
+        start: 671,
+        end: 672,
+        first: 1369,
+        first_end: 1370,
+    },
+    Alternative {
+        start: 672,
+        end: 673,
+        first: 1370,
+        first_end: 1371,
+    },
+    // wraps
+    Alternative {
+        start: 673,
         end: 675,
-        first: 1388,
-        first_end: 1389,
+        first: 1371,
+        first_end: 1372,
     },
     Alternative {
         start: 675,
         end: 676,
-        first: 1389,
-        first_end: 1390,
+        first: 1372,
+        first_end: 1373,
     },
-    // wraps
     Alternative {
         start: 676,
-        end: 678,
-        first: 1390,
-        first_end: 1391,
-    },
-    Alternative {
-        start: 678,
-        end: 679,
-        first: 1391,
-        first_end: 1392,
-    },
-    Alternative {
-        start: 679,
-        end: 679,
-        first: 1392,
-        first_end: 1392,
+        end: 676,
+        first: 1373,
+        first_end: 1373,
     },
     // nsw
     Alternative {
-        start: 679,
-        end: 680,
-        first: 1392,
-        first_end: 1393,
+        start: 676,
+        end: 677,
+        first: 1373,
+        first_end: 1374,
     },
     Alternative {
-        start: 680,
-        end: 680,
-        first: 1393,
-        first_end: 1393,
+        start: 677,
+        end: 677,
+        first: 1374,
+        first_end: 1374,
     },
     // lost_wraps
     Alternative {
-        start: 680,
-        end: 682,
-        first: 1393,
-        first_end: 1394,
+        start: 677,
+        end: 679,
+        first: 1374,
+        first_end: 1375,
     },
     Alternative {
-        start: 682,
-        end: 684,
-        first: 1394,
-        first_end: 1395,
+        start: 679,
+        end: 681,
+        first: 1375,
+        first_end: 1376,
     },
     Alternative {
-        start: 684,
-        end: 684,
-        first: 1395,
-        first_end: 1395,
+        start: 681,
+        end: 681,
+        first: 1376,
+        first_end: 1376,
     },
     // lost_nsw
     Alternative {
-        start: 684,
-        end: 685,
-        first: 1395,
-        first_end: 1396,
+        start: 681,
+        end: 682,
+        first: 1376,
+        first_end: 1377,
     },
     Alternative {
-        start: 685,
-        end: 685,
-        first: 1396,
-        first_end: 1396,
+        start: 682,
+        end: 682,
+        first: 1377,
+        first_end: 1377,
     },
     // lost_nuw
     Alternative {
-        start: 685,
-        end: 686,
-        first: 1396,
-        first_end: 1397,
+        start: 682,
+        end: 683,
+        first: 1377,
+        first_end: 1378,
     },
     Alternative {
-        start: 686,
-        end: 686,
-        first: 1397,
-        first_end: 1397,
+        start: 683,
+        end: 683,
+        first: 1378,
+        first_end: 1378,
     },
     // quotient
     Alternative {
-        start: 686,
-        end: 687,
-        first: 1397,
-        first_end: 1398,
+        start: 683,
+        end: 684,
+        first: 1378,
+        first_end: 1379,
     },
     // lost_exact
     Alternative {
+        start: 684,
+        end: 685,
+        first: 1379,
+        first_end: 1380,
+    },
+    Alternative {
+        start: 685,
+        end: 685,
+        first: 1380,
+        first_end: 1380,
+    },
+    // bits
+    Alternative {
+        start: 685,
+        end: 686,
+        first: 1380,
+        first_end: 1381,
+    },
+    Alternative {
+        start: 686,
+        end: 687,
+        first: 1381,
+        first_end: 1382,
+    },
+    // lost_disjoint
+    Alternative {
         start: 687,
         end: 688,
+        first: 1382,
+        first_end: 1383,
+    },
+    Alternative {
+        start: 688,
+        end: 688,
+        first: 1383,
+        first_end: 1383,
+    },
+    // lost_samesign
+    Alternative {
+        start: 688,
+        end: 689,
+        first: 1383,
+        first_end: 1384,
+    },
+    Alternative {
+        start: 689,
+        end: 689,
+        first: 1384,
+        first_end: 1384,
+    },
+    // predicate
+    Alternative {
+        start: 689,
+        end: 690,
+        first: 1384,
+        first_end: 1385,
+    },
+    // cast
+    Alternative {
+        start: 690,
+        end: 691,
+        first: 1385,
+        first_end: 1386,
+    },
+    Alternative {
+        start: 691,
+        end: 692,
+        first: 1386,
+        first_end: 1387,
+    },
+    // nneg
+    Alternative {
+        start: 692,
+        end: 693,
+        first: 1387,
+        first_end: 1388,
+    },
+    Alternative {
+        start: 693,
+        end: 693,
+        first: 1388,
+        first_end: 1388,
+    },
+    // alloca_tail
+    Alternative {
+        start: 693,
+        end: 695,
+        first: 1388,
+        first_end: 1389,
+    },
+    Alternative {
+        start: 695,
+        end: 695,
+        first: 1389,
+        first_end: 1389,
+    },
+    // alloca_part
+    Alternative {
+        start: 695,
+        end: 697,
+        first: 1389,
+        first_end: 1397,
+    },
+    Alternative {
+        start: 697,
+        end: 700,
+        first: 1397,
+        first_end: 1398,
+    },
+    Alternative {
+        start: 700,
+        end: 705,
         first: 1398,
         first_end: 1399,
     },
     Alternative {
-        start: 688,
-        end: 688,
+        start: 705,
+        end: 708,
         first: 1399,
-        first_end: 1399,
-    },
-    // bits
-    Alternative {
-        start: 688,
-        end: 689,
-        first: 1399,
-        first_end: 1400,
-    },
-    Alternative {
-        start: 689,
-        end: 690,
-        first: 1400,
-        first_end: 1401,
-    },
-    // lost_disjoint
-    Alternative {
-        start: 690,
-        end: 691,
-        first: 1401,
-        first_end: 1402,
-    },
-    Alternative {
-        start: 691,
-        end: 691,
-        first: 1402,
-        first_end: 1402,
-    },
-    // lost_samesign
-    Alternative {
-        start: 691,
-        end: 692,
-        first: 1402,
-        first_end: 1403,
-    },
-    Alternative {
-        start: 692,
-        end: 692,
-        first: 1403,
-        first_end: 1403,
-    },
-    // predicate
-    Alternative {
-        start: 692,
-        end: 693,
-        first: 1403,
-        first_end: 1404,
-    },
-    // cast
-    Alternative {
-        start: 693,
-        end: 694,
-        first: 1404,
-        first_end: 1405,
-    },
-    Alternative {
-        start: 694,
-        end: 695,
-        first: 1405,
-        first_end: 1406,
-    },
-    // nneg
-    Alternative {
-        start: 695,
-        end: 696,
-        first: 1406,
         first_end: 1407,
     },
+    // alloca_rest
     Alternative {
-        start: 696,
-        end: 696,
-        first: 1407,
-        first_end: 1407,
-    },
-    // alloca_tail
-    Alternative {
-        start: 696,
-        end: 698,
+        start: 708,
+        end: 710,
         first: 1407,
         first_end: 1408,
     },
     Alternative {
-        start: 698,
-        end: 698,
+        start: 710,
+        end: 710,
         first: 1408,
         first_end: 1408,
     },
-    // alloca_part
+    // alloca_rest_part
     Alternative {
-        start: 698,
-        end: 700,
+        start: 710,
+        end: 713,
         first: 1408,
-        first_end: 1417,
+        first_end: 1409,
     },
     Alternative {
-        start: 700,
-        end: 703,
-        first: 1417,
+        start: 713,
+        end: 718,
+        first: 1409,
+        first_end: 1410,
+    },
+    Alternative {
+        start: 718,
+        end: 721,
+        first: 1410,
         first_end: 1418,
     },
+    // alloca_end
     Alternative {
-        start: 703,
-        end: 708,
+        start: 721,
+        end: 723,
         first: 1418,
         first_end: 1419,
     },
     Alternative {
-        start: 708,
-        end: 711,
+        start: 723,
+        end: 723,
         first: 1419,
-        first_end: 1427,
-    },
-    // alloca_rest
-    Alternative {
-        start: 711,
-        end: 713,
-        first: 1427,
-        first_end: 1428,
-    },
-    Alternative {
-        start: 713,
-        end: 713,
-        first: 1428,
-        first_end: 1428,
-    },
-    // alloca_rest_part
-    Alternative {
-        start: 713,
-        end: 716,
-        first: 1428,
-        first_end: 1429,
-    },
-    Alternative {
-        start: 716,
-        end: 721,
-        first: 1429,
-        first_end: 1430,
-    },
-    Alternative {
-        start: 721,
-        end: 724,
-        first: 1430,
-        first_end: 1438,
-    },
-    // alloca_end
-    Alternative {
-        start: 724,
-        end: 726,
-        first: 1438,
-        first_end: 1439,
-    },
-    Alternative {
-        start: 726,
-        end: 726,
-        first: 1439,
-        first_end: 1439,
+        first_end: 1419,
     },
     // alloca_end_part
     Alternative {
-        start: 726,
-        end: 731,
-        first: 1439,
-        first_end: 1440,
+        start: 723,
+        end: 728,
+        first: 1419,
+        first_end: 1420,
     },
     Alternative {
-        start: 731,
-        end: 734,
-        first: 1440,
-        first_end: 1448,
+        start: 728,
+        end: 731,
+        first: 1420,
+        first_end: 1428,
     },
     // load
     Alternative {
-        start: 734,
-        end: 739,
-        first: 1448,
-        first_end: 1458,
+        start: 731,
+        end: 736,
+        first: 1428,
+        first_end: 1437,
     },
     Alternative {
-        start: 739,
-        end: 741,
-        first: 1458,
-        first_end: 1459,
+        start: 736,
+        end: 738,
+        first: 1437,
+        first_end: 1438,
     },
     // atomic_load
     Alternative {
-        start: 741,
-        end: 746,
-        first: 1459,
-        first_end: 1468,
+        start: 738,
+        end: 743,
+        first: 1438,
+        first_end: 1446,
     },
     // store
     Alternative {
-        start: 746,
-        end: 751,
-        first: 1468,
-        first_end: 1478,
+        start: 743,
+        end: 748,
+        first: 1446,
+        first_end: 1455,
     },
     Alternative {
-        start: 751,
-        end: 753,
-        first: 1478,
-        first_end: 1479,
+        start: 748,
+        end: 750,
+        first: 1455,
+        first_end: 1456,
     },
     // atomic_store
     Alternative {
-        start: 753,
-        end: 758,
-        first: 1479,
-        first_end: 1488,
+        start: 750,
+        end: 755,
+        first: 1456,
+        first_end: 1464,
     },
     // volatile
     Alternative {
-        start: 758,
-        end: 759,
-        first: 1488,
-        first_end: 1489,
+        start: 755,
+        end: 756,
+        first: 1464,
+        first_end: 1465,
     },
     Alternative {
-        start: 759,
-        end: 759,
-        first: 1489,
-        first_end: 1489,
+        start: 756,
+        end: 756,
+        first: 1465,
+        first_end: 1465,
     },
     // rmw_kind
     Alternative {
-        start: 759,
-        end: 760,
-        first: 1489,
-        first_end: 1490,
+        start: 756,
+        end: 757,
+        first: 1465,
+        first_end: 1466,
     },
     Alternative {
+        start: 757,
+        end: 758,
+        first: 1466,
+        first_end: 1467,
+    },
+    Alternative {
+        start: 758,
+        end: 759,
+        first: 1467,
+        first_end: 1468,
+    },
+    Alternative {
+        start: 759,
+        end: 760,
+        first: 1468,
+        first_end: 1469,
+    },
+    // address_and_value
+    Alternative {
         start: 760,
-        end: 761,
+        end: 763,
+        first: 1469,
+        first_end: 1477,
+    },
+    // lost_weak
+    Alternative {
+        start: 763,
+        end: 764,
+        first: 1477,
+        first_end: 1478,
+    },
+    Alternative {
+        start: 764,
+        end: 764,
+        first: 1478,
+        first_end: 1478,
+    },
+    // exchange
+    Alternative {
+        start: 764,
+        end: 769,
+        first: 1478,
+        first_end: 1486,
+    },
+    // exchange_order
+    Alternative {
+        start: 769,
+        end: 772,
+        first: 1486,
+        first_end: 1488,
+    },
+    // order
+    Alternative {
+        start: 772,
+        end: 774,
+        first: 1488,
+        first_end: 1490,
+    },
+    // scope
+    Alternative {
+        start: 774,
+        end: 778,
         first: 1490,
         first_end: 1491,
     },
     Alternative {
-        start: 761,
-        end: 762,
+        start: 778,
+        end: 778,
         first: 1491,
-        first_end: 1492,
-    },
-    Alternative {
-        start: 762,
-        end: 763,
-        first: 1492,
-        first_end: 1493,
-    },
-    // address_and_value
-    Alternative {
-        start: 763,
-        end: 766,
-        first: 1493,
-        first_end: 1502,
-    },
-    // lost_weak
-    Alternative {
-        start: 766,
-        end: 767,
-        first: 1502,
-        first_end: 1503,
-    },
-    Alternative {
-        start: 767,
-        end: 767,
-        first: 1503,
-        first_end: 1503,
-    },
-    // exchange
-    Alternative {
-        start: 767,
-        end: 772,
-        first: 1503,
-        first_end: 1512,
-    },
-    // exchange_order
-    Alternative {
-        start: 772,
-        end: 775,
-        first: 1512,
-        first_end: 1514,
-    },
-    // order
-    Alternative {
-        start: 775,
-        end: 777,
-        first: 1514,
-        first_end: 1516,
-    },
-    // scope
-    Alternative {
-        start: 777,
-        end: 781,
-        first: 1516,
-        first_end: 1517,
-    },
-    Alternative {
-        start: 781,
-        end: 781,
-        first: 1517,
-        first_end: 1517,
+        first_end: 1491,
     },
     // ordering
     Alternative {
-        start: 781,
-        end: 782,
-        first: 1517,
-        first_end: 1518,
+        start: 778,
+        end: 779,
+        first: 1491,
+        first_end: 1492,
     },
     // gep_flags
     Alternative {
-        start: 782,
-        end: 784,
-        first: 1518,
-        first_end: 1520,
+        start: 779,
+        end: 781,
+        first: 1492,
+        first_end: 1494,
     },
     Alternative {
-        start: 784,
-        end: 784,
-        first: 1520,
-        first_end: 1520,
+        start: 781,
+        end: 781,
+        first: 1494,
+        first_end: 1494,
     },
     // gep_flag
     Alternative {
-        start: 784,
-        end: 785,
-        first: 1520,
-        first_end: 1521,
+        start: 781,
+        end: 782,
+        first: 1494,
+        first_end: 1495,
     },
     Alternative {
-        start: 785,
-        end: 786,
-        first: 1521,
-        first_end: 1522,
+        start: 782,
+        end: 783,
+        first: 1495,
+        first_end: 1496,
     },
     // more_indices
     Alternative {
-        start: 786,
-        end: 788,
-        first: 1522,
-        first_end: 1523,
+        start: 783,
+        end: 785,
+        first: 1496,
+        first_end: 1497,
     },
     Alternative {
-        start: 788,
-        end: 788,
-        first: 1523,
-        first_end: 1523,
+        start: 785,
+        end: 785,
+        first: 1497,
+        first_end: 1497,
     },
     // index_or_node
     Alternative {
-        start: 788,
-        end: 790,
-        first: 1523,
-        first_end: 1532,
+        start: 785,
+        end: 787,
+        first: 1497,
+        first_end: 1505,
     },
     Alternative {
-        start: 790,
-        end: 793,
-        first: 1532,
-        first_end: 1540,
+        start: 787,
+        end: 790,
+        first: 1505,
+        first_end: 1513,
     },
     // more_places
     Alternative {
-        start: 793,
-        end: 795,
-        first: 1540,
-        first_end: 1541,
+        start: 790,
+        end: 792,
+        first: 1513,
+        first_end: 1514,
     },
     Alternative {
-        start: 795,
-        end: 795,
-        first: 1541,
-        first_end: 1541,
+        start: 792,
+        end: 792,
+        first: 1514,
+        first_end: 1514,
     },
     // place_or_node
     Alternative {
-        start: 795,
-        end: 797,
-        first: 1541,
-        first_end: 1542,
+        start: 792,
+        end: 794,
+        first: 1514,
+        first_end: 1515,
     },
     Alternative {
-        start: 797,
-        end: 800,
-        first: 1542,
-        first_end: 1550,
+        start: 794,
+        end: 797,
+        first: 1515,
+        first_end: 1523,
     },
     // entry
     Alternative {
-        start: 800,
-        end: 805,
-        first: 1550,
-        first_end: 1551,
+        start: 797,
+        end: 802,
+        first: 1523,
+        first_end: 1524,
     },
     // more_entries
     Alternative {
-        start: 805,
-        end: 807,
-        first: 1551,
-        first_end: 1552,
+        start: 802,
+        end: 804,
+        first: 1524,
+        first_end: 1525,
     },
     Alternative {
-        start: 807,
-        end: 807,
-        first: 1552,
-        first_end: 1552,
+        start: 804,
+        end: 804,
+        first: 1525,
+        first_end: 1525,
     },
     // entry_or_node
     Alternative {
-        start: 807,
-        end: 809,
-        first: 1552,
-        first_end: 1553,
+        start: 804,
+        end: 806,
+        first: 1525,
+        first_end: 1526,
     },
     Alternative {
-        start: 809,
-        end: 812,
-        first: 1553,
-        first_end: 1561,
+        start: 806,
+        end: 809,
+        first: 1526,
+        first_end: 1534,
     },
     // align_attached
     Alternative {
-        start: 812,
-        end: 814,
-        first: 1561,
-        first_end: 1562,
+        start: 809,
+        end: 811,
+        first: 1534,
+        first_end: 1535,
     },
     Alternative {
-        start: 814,
-        end: 814,
-        first: 1562,
-        first_end: 1562,
+        start: 811,
+        end: 811,
+        first: 1535,
+        first_end: 1535,
     },
     // align_or_attached
     Alternative {
-        start: 814,
-        end: 817,
-        first: 1562,
-        first_end: 1563,
+        start: 811,
+        end: 814,
+        first: 1535,
+        first_end: 1536,
     },
     Alternative {
-        start: 817,
-        end: 820,
-        first: 1563,
-        first_end: 1571,
+        start: 814,
+        end: 817,
+        first: 1536,
+        first_end: 1544,
     },
     // lost_align_attached
     Alternative {
-        start: 820,
-        end: 822,
-        first: 1571,
-        first_end: 1572,
+        start: 817,
+        end: 819,
+        first: 1544,
+        first_end: 1545,
     },
     Alternative {
-        start: 822,
-        end: 822,
-        first: 1572,
-        first_end: 1572,
+        start: 819,
+        end: 819,
+        first: 1545,
+        first_end: 1545,
     },
     // lost_align_or_attached
     Alternative {
+        start: 819,
+        end: 822,
+        first: 1545,
+        first_end: 1546,
+    },
+    Alternative {
         start: 822,
         end: 825,
+        first: 1546,
+        first_end: 1554,
+    },
+    // tail
+    Alternative {
+        start: 825,
+        end: 826,
+        first: 1554,
+        first_end: 1555,
+    },
+    Alternative {
+        start: 826,
+        end: 826,
+        first: 1555,
+        first_end: 1555,
+    },
+    // call
+    Alternative {
+        start: 826,
+        end: 831,
+        first: 1555,
+        first_end: 1572,
+    },
+    // callee
+    Alternative {
+        start: 831,
+        end: 832,
         first: 1572,
         first_end: 1573,
     },
     Alternative {
-        start: 825,
-        end: 828,
+        start: 832,
+        end: 833,
         first: 1573,
-        first_end: 1581,
-    },
-    // tail
-    Alternative {
-        start: 828,
-        end: 829,
-        first: 1581,
-        first_end: 1582,
+        first_end: 1574,
     },
     Alternative {
-        start: 829,
-        end: 829,
-        first: 1582,
-        first_end: 1582,
-    },
-    // call
-    Alternative {
-        start: 829,
-        end: 834,
-        first: 1582,
-        first_end: 1600,
-    },
-    // callee
-    Alternative {
-        start: 834,
+        start: 833,
         end: 835,
-        first: 1600,
-        first_end: 1601,
-    },
-    Alternative {
-        start: 835,
-        end: 836,
-        first: 1601,
-        first_end: 1602,
-    },
-    Alternative {
-        start: 836,
-        end: 838,
-        first: 1602,
-        first_end: 1603,
+        first: 1574,
+        first_end: 1575,
     },
     // asm
     Alternative {
-        start: 838,
-        end: 840,
-        first: 1603,
-        first_end: 1604,
+        start: 835,
+        end: 837,
+        first: 1575,
+        first_end: 1576,
     },
     Alternative {
-        start: 840,
-        end: 841,
-        first: 1604,
-        first_end: 1605,
+        start: 837,
+        end: 838,
+        first: 1576,
+        first_end: 1577,
     },
     // asm_text
     Alternative {
-        start: 841,
-        end: 844,
-        first: 1605,
-        first_end: 1606,
+        start: 838,
+        end: 841,
+        first: 1577,
+        first_end: 1578,
     },
     // arguments
     Alternative {
-        start: 844,
-        end: 847,
-        first: 1606,
-        first_end: 1607,
+        start: 841,
+        end: 844,
+        first: 1578,
+        first_end: 1579,
     },
     // args
     Alternative {
-        start: 847,
-        end: 849,
-        first: 1607,
-        first_end: 1616,
+        start: 844,
+        end: 846,
+        first: 1579,
+        first_end: 1587,
     },
     Alternative {
-        start: 849,
-        end: 849,
-        first: 1616,
-        first_end: 1616,
+        start: 846,
+        end: 846,
+        first: 1587,
+        first_end: 1587,
     },
     // more_args
     Alternative {
-        start: 849,
-        end: 852,
-        first: 1616,
-        first_end: 1617,
+        start: 846,
+        end: 849,
+        first: 1587,
+        first_end: 1588,
     },
     Alternative {
-        start: 852,
-        end: 852,
-        first: 1617,
-        first_end: 1617,
+        start: 849,
+        end: 849,
+        first: 1588,
+        first_end: 1588,
     },
     // arg
     Alternative {
-        start: 852,
-        end: 855,
-        first: 1617,
-        first_end: 1626,
+        start: 849,
+        end: 852,
+        first: 1588,
+        first_end: 1596,
     },
     // attached
     Alternative {
-        start: 855,
-        end: 859,
-        first: 1626,
-        first_end: 1627,
+        start: 852,
+        end: 856,
+        first: 1596,
+        first_end: 1597,
     },
     Alternative {
-        start: 859,
-        end: 859,
-        first: 1627,
-        first_end: 1627,
+        start: 856,
+        end: 856,
+        first: 1597,
+        first_end: 1597,
     },
     // attachments
     Alternative {
-        start: 859,
-        end: 862,
-        first: 1627,
-        first_end: 1635,
+        start: 856,
+        end: 859,
+        first: 1597,
+        first_end: 1605,
     },
     Alternative {
-        start: 862,
-        end: 862,
-        first: 1635,
-        first_end: 1635,
+        start: 859,
+        end: 859,
+        first: 1605,
+        first_end: 1605,
     },
     // mdname
     Alternative {
+        start: 859,
+        end: 860,
+        first: 1605,
+        first_end: 1606,
+    },
+    Alternative {
+        start: 860,
+        end: 861,
+        first: 1606,
+        first_end: 1607,
+    },
+    Alternative {
+        start: 861,
+        end: 862,
+        first: 1607,
+        first_end: 1608,
+    },
+    Alternative {
         start: 862,
         end: 863,
-        first: 1635,
-        first_end: 1636,
+        first: 1608,
+        first_end: 1609,
     },
     Alternative {
         start: 863,
         end: 864,
-        first: 1636,
-        first_end: 1637,
+        first: 1609,
+        first_end: 1610,
     },
     Alternative {
         start: 864,
         end: 865,
-        first: 1637,
-        first_end: 1638,
+        first: 1610,
+        first_end: 1611,
     },
     Alternative {
         start: 865,
         end: 866,
-        first: 1638,
-        first_end: 1639,
+        first: 1611,
+        first_end: 1612,
     },
     Alternative {
         start: 866,
         end: 867,
-        first: 1639,
-        first_end: 1640,
+        first: 1612,
+        first_end: 1613,
     },
+    // mdref
     Alternative {
         start: 867,
         end: 868,
-        first: 1640,
-        first_end: 1641,
+        first: 1613,
+        first_end: 1614,
     },
     Alternative {
         start: 868,
         end: 869,
-        first: 1641,
+        first: 1614,
+        first_end: 1623,
+    },
+    // mdrefs
+    Alternative {
+        start: 869,
+        end: 871,
+        first: 1623,
+        first_end: 1633,
+    },
+    Alternative {
+        start: 871,
+        end: 871,
+        first: 1633,
+        first_end: 1633,
+    },
+    // more_mdrefs
+    Alternative {
+        start: 871,
+        end: 874,
+        first: 1633,
+        first_end: 1634,
+    },
+    Alternative {
+        start: 874,
+        end: 874,
+        first: 1634,
+        first_end: 1634,
+    },
+    // node
+    Alternative {
+        start: 874,
+        end: 878,
+        first: 1634,
+        first_end: 1635,
+    },
+    Alternative {
+        start: 878,
+        end: 882,
+        first: 1635,
         first_end: 1642,
     },
     Alternative {
-        start: 869,
-        end: 870,
+        start: 882,
+        end: 884,
         first: 1642,
         first_end: 1643,
     },
-    // mdref
+    // debug_node
     Alternative {
-        start: 870,
-        end: 871,
+        start: 884,
+        end: 885,
         first: 1643,
         first_end: 1644,
     },
     Alternative {
-        start: 871,
-        end: 872,
-        first: 1644,
-        first_end: 1653,
-    },
-    // mdrefs
-    Alternative {
-        start: 872,
-        end: 874,
-        first: 1653,
-        first_end: 1663,
-    },
-    Alternative {
-        start: 874,
-        end: 874,
-        first: 1663,
-        first_end: 1663,
-    },
-    // more_mdrefs
-    Alternative {
-        start: 874,
-        end: 877,
-        first: 1663,
-        first_end: 1664,
-    },
-    Alternative {
-        start: 877,
-        end: 877,
-        first: 1664,
-        first_end: 1664,
-    },
-    // node
-    Alternative {
-        start: 877,
-        end: 881,
-        first: 1664,
-        first_end: 1665,
-    },
-    Alternative {
-        start: 881,
-        end: 885,
-        first: 1665,
-        first_end: 1672,
-    },
-    Alternative {
         start: 885,
-        end: 887,
-        first: 1672,
-        first_end: 1673,
+        end: 886,
+        first: 1644,
+        first_end: 1645,
     },
-    // debug_node
+    Alternative {
+        start: 886,
+        end: 887,
+        first: 1645,
+        first_end: 1646,
+    },
     Alternative {
         start: 887,
         end: 888,
-        first: 1673,
-        first_end: 1674,
+        first: 1646,
+        first_end: 1647,
     },
     Alternative {
         start: 888,
         end: 889,
-        first: 1674,
-        first_end: 1675,
+        first: 1647,
+        first_end: 1648,
     },
     Alternative {
         start: 889,
         end: 890,
-        first: 1675,
-        first_end: 1676,
+        first: 1648,
+        first_end: 1649,
     },
     Alternative {
         start: 890,
         end: 891,
-        first: 1676,
-        first_end: 1677,
-    },
-    Alternative {
-        start: 891,
-        end: 892,
-        first: 1677,
-        first_end: 1678,
-    },
-    Alternative {
-        start: 892,
-        end: 893,
-        first: 1678,
-        first_end: 1679,
-    },
-    Alternative {
-        start: 893,
-        end: 894,
-        first: 1679,
-        first_end: 1680,
+        first: 1649,
+        first_end: 1650,
     },
     // mdops
     Alternative {
-        start: 894,
-        end: 896,
-        first: 1680,
-        first_end: 1701,
+        start: 891,
+        end: 893,
+        first: 1650,
+        first_end: 1670,
     },
     Alternative {
-        start: 896,
-        end: 896,
-        first: 1701,
-        first_end: 1701,
+        start: 893,
+        end: 893,
+        first: 1670,
+        first_end: 1670,
     },
     // more_mdops
     Alternative {
-        start: 896,
-        end: 899,
-        first: 1701,
-        first_end: 1702,
+        start: 893,
+        end: 896,
+        first: 1670,
+        first_end: 1671,
     },
     Alternative {
-        start: 899,
-        end: 899,
-        first: 1702,
-        first_end: 1702,
+        start: 896,
+        end: 896,
+        first: 1671,
+        first_end: 1671,
     },
     // mdop
     Alternative {
+        start: 896,
+        end: 897,
+        first: 1671,
+        first_end: 1672,
+    },
+    Alternative {
+        start: 897,
+        end: 898,
+        first: 1672,
+        first_end: 1673,
+    },
+    Alternative {
+        start: 898,
+        end: 899,
+        first: 1673,
+        first_end: 1683,
+    },
+    Alternative {
         start: 899,
         end: 900,
-        first: 1702,
-        first_end: 1703,
-    },
-    Alternative {
-        start: 900,
-        end: 901,
-        first: 1703,
-        first_end: 1704,
-    },
-    Alternative {
-        start: 901,
-        end: 902,
-        first: 1704,
-        first_end: 1714,
-    },
-    Alternative {
-        start: 902,
-        end: 903,
-        first: 1714,
-        first_end: 1723,
+        first: 1683,
+        first_end: 1691,
     },
     // fields
     Alternative {
-        start: 903,
-        end: 905,
-        first: 1723,
-        first_end: 1724,
+        start: 900,
+        end: 902,
+        first: 1691,
+        first_end: 1692,
     },
     Alternative {
-        start: 905,
-        end: 905,
-        first: 1724,
-        first_end: 1724,
+        start: 902,
+        end: 902,
+        first: 1692,
+        first_end: 1692,
     },
     // more_fields
     Alternative {
-        start: 905,
-        end: 908,
-        first: 1724,
-        first_end: 1725,
+        start: 902,
+        end: 905,
+        first: 1692,
+        first_end: 1693,
     },
     Alternative {
-        start: 908,
-        end: 908,
-        first: 1725,
-        first_end: 1725,
+        start: 905,
+        end: 905,
+        first: 1693,
+        first_end: 1693,
     },
     // field
     Alternative {
-        start: 908,
-        end: 910,
-        first: 1725,
-        first_end: 1726,
+        start: 905,
+        end: 907,
+        first: 1693,
+        first_end: 1694,
     },
     // field_value
     Alternative {
-        start: 910,
+        start: 907,
+        end: 908,
+        first: 1694,
+        first_end: 1695,
+    },
+    Alternative {
+        start: 908,
+        end: 909,
+        first: 1695,
+        first_end: 1696,
+    },
+    Alternative {
+        start: 909,
         end: 911,
-        first: 1726,
-        first_end: 1727,
+        first: 1696,
+        first_end: 1793,
     },
     Alternative {
         start: 911,
         end: 912,
-        first: 1727,
-        first_end: 1728,
-    },
-    Alternative {
-        start: 912,
-        end: 914,
-        first: 1728,
-        first_end: 1826,
-    },
-    Alternative {
-        start: 914,
-        end: 915,
-        first: 1826,
-        first_end: 1836,
+        first: 1793,
+        first_end: 1803,
     },
     // more_words
     Alternative {
-        start: 915,
-        end: 918,
-        first: 1836,
-        first_end: 1837,
+        start: 912,
+        end: 915,
+        first: 1803,
+        first_end: 1804,
     },
     Alternative {
-        start: 918,
-        end: 918,
-        first: 1837,
-        first_end: 1837,
+        start: 915,
+        end: 915,
+        first: 1804,
+        first_end: 1804,
     },
 ];
 
 /// The rules.
-static ROWS: [Row; 165] = [
+pub static ROWS: [Row; 165] = [
     // 0: file
     Row {
         start: 0,
@@ -4921,7 +4908,7 @@ static ROWS: [Row; 165] = [
         start: 51,
         end: 54,
         more: 80,
-        more_end: 102,
+        more_end: 101,
         nothing: 54,
         height: 5,
     },
@@ -4929,8 +4916,8 @@ static ROWS: [Row; 165] = [
     Row {
         start: 54,
         end: 56,
-        more: 102,
-        more_end: 115,
+        more: 101,
+        more_end: 114,
         nothing: 56,
         height: 1,
     },
@@ -4938,8 +4925,8 @@ static ROWS: [Row; 165] = [
     Row {
         start: 56,
         end: 58,
-        more: 115,
-        more_end: 128,
+        more: 114,
+        more_end: 127,
         nothing: 0,
         height: 5,
     },
@@ -4947,8 +4934,8 @@ static ROWS: [Row; 165] = [
     Row {
         start: 58,
         end: 59,
-        more: 128,
-        more_end: 140,
+        more: 127,
+        more_end: 139,
         nothing: 0,
         height: 4,
     },
@@ -4956,8 +4943,8 @@ static ROWS: [Row; 165] = [
     Row {
         start: 59,
         end: 61,
-        more: 140,
-        more_end: 141,
+        more: 139,
+        more_end: 140,
         nothing: 61,
         height: 1,
     },
@@ -4965,8 +4952,8 @@ static ROWS: [Row; 165] = [
     Row {
         start: 61,
         end: 62,
-        more: 141,
-        more_end: 195,
+        more: 140,
+        more_end: 194,
         nothing: 0,
         height: 8,
     },
@@ -4974,8 +4961,8 @@ static ROWS: [Row; 165] = [
     Row {
         start: 62,
         end: 64,
-        more: 195,
-        more_end: 249,
+        more: 194,
+        more_end: 248,
         nothing: 64,
         height: 8,
     },
@@ -4983,8 +4970,8 @@ static ROWS: [Row; 165] = [
     Row {
         start: 64,
         end: 66,
-        more: 249,
-        more_end: 267,
+        more: 248,
+        more_end: 266,
         nothing: 0,
         height: 7,
     },
@@ -4992,8 +4979,8 @@ static ROWS: [Row; 165] = [
     Row {
         start: 66,
         end: 67,
-        more: 267,
-        more_end: 285,
+        more: 266,
+        more_end: 284,
         nothing: 0,
         height: 6,
     },
@@ -5001,8 +4988,8 @@ static ROWS: [Row; 165] = [
     Row {
         start: 67,
         end: 69,
-        more: 285,
-        more_end: 286,
+        more: 284,
+        more_end: 285,
         nothing: 69,
         height: 1,
     },
@@ -5010,8 +4997,8 @@ static ROWS: [Row; 165] = [
     Row {
         start: 69,
         end: 71,
-        more: 286,
-        more_end: 287,
+        more: 285,
+        more_end: 286,
         nothing: 71,
         height: 1,
     },
@@ -5019,8 +5006,8 @@ static ROWS: [Row; 165] = [
     Row {
         start: 71,
         end: 73,
-        more: 287,
-        more_end: 297,
+        more: 286,
+        more_end: 296,
         nothing: 73,
         height: 2,
     },
@@ -5028,8 +5015,8 @@ static ROWS: [Row; 165] = [
     Row {
         start: 73,
         end: 82,
-        more: 297,
-        more_end: 298,
+        more: 296,
+        more_end: 297,
         nothing: 0,
         height: 1,
     },
@@ -5037,8 +5024,8 @@ static ROWS: [Row; 165] = [
     Row {
         start: 82,
         end: 84,
-        more: 298,
-        more_end: 299,
+        more: 297,
+        more_end: 298,
         nothing: 84,
         height: 1,
     },
@@ -5046,8 +5033,8 @@ static ROWS: [Row; 165] = [
     Row {
         start: 84,
         end: 86,
-        more: 299,
-        more_end: 315,
+        more: 298,
+        more_end: 314,
         nothing: 86,
         height: 4,
     },
@@ -5055,8 +5042,8 @@ static ROWS: [Row; 165] = [
     Row {
         start: 86,
         end: 89,
-        more: 315,
-        more_end: 317,
+        more: 314,
+        more_end: 316,
         nothing: 0,
         height: 3,
     },
@@ -5064,8 +5051,8 @@ static ROWS: [Row; 165] = [
     Row {
         start: 89,
         end: 91,
-        more: 317,
-        more_end: 317,
+        more: 316,
+        more_end: 316,
         nothing: 0,
         height: 1,
     },
@@ -5073,8 +5060,8 @@ static ROWS: [Row; 165] = [
     Row {
         start: 91,
         end: 94,
-        more: 317,
-        more_end: 333,
+        more: 316,
+        more_end: 332,
         nothing: 94,
         height: 4,
     },
@@ -5082,8 +5069,8 @@ static ROWS: [Row; 165] = [
     Row {
         start: 94,
         end: 96,
-        more: 333,
-        more_end: 348,
+        more: 332,
+        more_end: 347,
         nothing: 96,
         height: 4,
     },
@@ -5091,8 +5078,8 @@ static ROWS: [Row; 165] = [
     Row {
         start: 96,
         end: 98,
-        more: 348,
-        more_end: 350,
+        more: 347,
+        more_end: 349,
         nothing: 0,
         height: 3,
     },
@@ -5100,8 +5087,8 @@ static ROWS: [Row; 165] = [
     Row {
         start: 98,
         end: 106,
-        more: 350,
-        more_end: 352,
+        more: 349,
+        more_end: 351,
         nothing: 0,
         height: 2,
     },
@@ -5109,8 +5096,8 @@ static ROWS: [Row; 165] = [
     Row {
         start: 106,
         end: 108,
-        more: 352,
-        more_end: 352,
+        more: 351,
+        more_end: 351,
         nothing: 0,
         height: 1,
     },
@@ -5118,8 +5105,8 @@ static ROWS: [Row; 165] = [
     Row {
         start: 108,
         end: 110,
-        more: 352,
-        more_end: 352,
+        more: 351,
+        more_end: 351,
         nothing: 0,
         height: 1,
     },
@@ -5127,8 +5114,8 @@ static ROWS: [Row; 165] = [
     Row {
         start: 110,
         end: 112,
-        more: 352,
-        more_end: 353,
+        more: 351,
+        more_end: 352,
         nothing: 112,
         height: 1,
     },
@@ -5136,8 +5123,8 @@ static ROWS: [Row; 165] = [
     Row {
         start: 112,
         end: 114,
-        more: 353,
-        more_end: 353,
+        more: 352,
+        more_end: 352,
         nothing: 0,
         height: 1,
     },
@@ -5145,8 +5132,8 @@ static ROWS: [Row; 165] = [
     Row {
         start: 114,
         end: 117,
-        more: 353,
-        more_end: 353,
+        more: 352,
+        more_end: 352,
         nothing: 0,
         height: 1,
     },
@@ -5154,8 +5141,8 @@ static ROWS: [Row; 165] = [
     Row {
         start: 117,
         end: 119,
-        more: 353,
-        more_end: 353,
+        more: 352,
+        more_end: 352,
         nothing: 0,
         height: 1,
     },
@@ -5163,8 +5150,8 @@ static ROWS: [Row; 165] = [
     Row {
         start: 119,
         end: 124,
-        more: 353,
-        more_end: 353,
+        more: 352,
+        more_end: 352,
         nothing: 0,
         height: 3,
     },
@@ -5172,8 +5159,8 @@ static ROWS: [Row; 165] = [
     Row {
         start: 124,
         end: 125,
-        more: 353,
-        more_end: 353,
+        more: 352,
+        more_end: 352,
         nothing: 0,
         height: 1,
     },
@@ -5181,8 +5168,8 @@ static ROWS: [Row; 165] = [
     Row {
         start: 125,
         end: 127,
-        more: 353,
-        more_end: 353,
+        more: 352,
+        more_end: 352,
         nothing: 0,
         height: 1,
     },
@@ -5190,8 +5177,8 @@ static ROWS: [Row; 165] = [
     Row {
         start: 127,
         end: 128,
-        more: 353,
-        more_end: 353,
+        more: 352,
+        more_end: 352,
         nothing: 0,
         height: 1,
     },
@@ -5199,8 +5186,8 @@ static ROWS: [Row; 165] = [
     Row {
         start: 128,
         end: 132,
-        more: 353,
-        more_end: 353,
+        more: 352,
+        more_end: 352,
         nothing: 0,
         height: 3,
     },
@@ -5208,8 +5195,8 @@ static ROWS: [Row; 165] = [
     Row {
         start: 132,
         end: 133,
-        more: 353,
-        more_end: 353,
+        more: 352,
+        more_end: 352,
         nothing: 0,
         height: 1,
     },
@@ -5217,8 +5204,8 @@ static ROWS: [Row; 165] = [
     Row {
         start: 133,
         end: 138,
-        more: 353,
-        more_end: 353,
+        more: 352,
+        more_end: 352,
         nothing: 0,
         height: 4,
     },
@@ -5226,8 +5213,8 @@ static ROWS: [Row; 165] = [
     Row {
         start: 138,
         end: 150,
-        more: 353,
-        more_end: 353,
+        more: 352,
+        more_end: 352,
         nothing: 0,
         height: 2,
     },
@@ -5235,987 +5222,987 @@ static ROWS: [Row; 165] = [
     Row {
         start: 150,
         end: 161,
-        more: 353,
-        more_end: 353,
+        more: 352,
+        more_end: 352,
         nothing: 0,
         height: 1,
     },
     // 59: most_words
     Row {
         start: 161,
-        end: 257,
-        more: 353,
-        more_end: 353,
+        end: 256,
+        more: 352,
+        more_end: 352,
         nothing: 0,
         height: 1,
     },
     // 60: any_word
     Row {
-        start: 257,
-        end: 259,
-        more: 353,
-        more_end: 353,
+        start: 256,
+        end: 258,
+        more: 352,
+        more_end: 352,
         nothing: 0,
         height: 2,
     },
     // 61: node_word
     Row {
-        start: 259,
-        end: 261,
-        more: 353,
-        more_end: 353,
+        start: 258,
+        end: 260,
+        more: 352,
+        more_end: 352,
         nothing: 0,
         height: 3,
     },
     // 62: type
     Row {
-        start: 261,
-        end: 263,
-        more: 353,
-        more_end: 354,
+        start: 260,
+        end: 262,
+        more: 352,
+        more_end: 353,
         nothing: 0,
         height: 3,
     },
     // 63: solid
     Row {
-        start: 263,
-        end: 265,
-        more: 354,
-        more_end: 355,
+        start: 262,
+        end: 264,
+        more: 353,
+        more_end: 354,
         nothing: 0,
         height: 2,
     },
     // 64: flat
     Row {
-        start: 265,
-        end: 272,
-        more: 355,
-        more_end: 356,
+        start: 264,
+        end: 270,
+        more: 354,
+        more_end: 355,
         nothing: 0,
         height: 1,
     },
     // 65: angle_type
     Row {
-        start: 272,
-        end: 275,
-        more: 356,
-        more_end: 356,
+        start: 270,
+        end: 273,
+        more: 355,
+        more_end: 355,
         nothing: 0,
         height: 1,
     },
     // 66: types
     Row {
-        start: 275,
-        end: 277,
-        more: 356,
-        more_end: 367,
-        nothing: 277,
+        start: 273,
+        end: 275,
+        more: 355,
+        more_end: 365,
+        nothing: 275,
         height: 4,
     },
     // 67: more_types
     Row {
-        start: 277,
-        end: 279,
-        more: 367,
-        more_end: 369,
-        nothing: 279,
+        start: 275,
+        end: 277,
+        more: 365,
+        more_end: 367,
+        nothing: 277,
         height: 1,
     },
     // 68: called_type
     Row {
-        start: 279,
-        end: 280,
-        more: 369,
-        more_end: 371,
+        start: 277,
+        end: 278,
+        more: 367,
+        more_end: 369,
         nothing: 0,
         height: 4,
     },
     // 69: signature
     Row {
-        start: 280,
-        end: 282,
-        more: 371,
-        more_end: 372,
-        nothing: 282,
+        start: 278,
+        end: 280,
+        more: 369,
+        more_end: 370,
+        nothing: 280,
         height: 1,
     },
     // 70: argument_types
     Row {
-        start: 282,
-        end: 285,
-        more: 372,
-        more_end: 384,
-        nothing: 285,
+        start: 280,
+        end: 283,
+        more: 370,
+        more_end: 381,
+        nothing: 283,
         height: 4,
     },
     // 71: more_argument_types
     Row {
-        start: 285,
-        end: 287,
-        more: 384,
-        more_end: 386,
-        nothing: 287,
+        start: 283,
+        end: 285,
+        more: 381,
+        more_end: 383,
+        nothing: 285,
         height: 1,
     },
     // 72: type_or_dots
     Row {
-        start: 287,
-        end: 289,
-        more: 386,
-        more_end: 388,
+        start: 285,
+        end: 287,
+        more: 383,
+        more_end: 385,
         nothing: 0,
         height: 4,
     },
     // 73: tconst
     Row {
-        start: 289,
-        end: 290,
-        more: 388,
-        more_end: 388,
+        start: 287,
+        end: 288,
+        more: 385,
+        more_end: 385,
         nothing: 0,
         height: 4,
     },
     // 74: const
     Row {
-        start: 290,
-        end: 303,
-        more: 388,
-        more_end: 388,
+        start: 288,
+        end: 301,
+        more: 385,
+        more_end: 385,
         nothing: 0,
         height: 2,
     },
     // 75: const_angle
     Row {
-        start: 303,
-        end: 306,
-        more: 388,
-        more_end: 388,
+        start: 301,
+        end: 304,
+        more: 385,
+        more_end: 385,
         nothing: 0,
         height: 2,
     },
     // 76: const_brace
     Row {
-        start: 306,
-        end: 308,
-        more: 388,
-        more_end: 388,
+        start: 304,
+        end: 306,
+        more: 385,
+        more_end: 385,
         nothing: 0,
         height: 4,
     },
     // 77: const_empty
     Row {
-        start: 308,
-        end: 310,
-        more: 388,
-        more_end: 388,
+        start: 306,
+        end: 308,
+        more: 385,
+        more_end: 385,
         nothing: 0,
         height: 3,
     },
     // 78: const_braced
     Row {
-        start: 310,
-        end: 312,
-        more: 388,
-        more_end: 388,
+        start: 308,
+        end: 310,
+        more: 385,
+        more_end: 385,
         nothing: 0,
         height: 3,
     },
     // 79: const_cast
     Row {
-        start: 312,
-        end: 314,
-        more: 388,
-        more_end: 388,
+        start: 310,
+        end: 312,
+        more: 385,
+        more_end: 385,
         nothing: 0,
         height: 1,
     },
     // 80: const_sum
     Row {
-        start: 314,
-        end: 315,
-        more: 388,
-        more_end: 388,
+        start: 312,
+        end: 313,
+        more: 385,
+        more_end: 385,
         nothing: 0,
         height: 1,
     },
     // 81: tconsts
     Row {
-        start: 315,
-        end: 317,
-        more: 388,
-        more_end: 398,
-        nothing: 317,
+        start: 313,
+        end: 315,
+        more: 385,
+        more_end: 394,
+        nothing: 315,
         height: 5,
     },
     // 82: more_tconsts
     Row {
-        start: 317,
-        end: 319,
-        more: 398,
-        more_end: 399,
-        nothing: 319,
+        start: 315,
+        end: 317,
+        more: 394,
+        more_end: 395,
+        nothing: 317,
         height: 1,
     },
     // 83: in_range
     Row {
-        start: 319,
-        end: 321,
-        more: 399,
-        more_end: 400,
-        nothing: 321,
+        start: 317,
+        end: 319,
+        more: 395,
+        more_end: 396,
+        nothing: 319,
         height: 1,
     },
     // 84: inst
     Row {
-        start: 321,
-        end: 331,
-        more: 400,
-        more_end: 418,
+        start: 319,
+        end: 329,
+        more: 396,
+        more_end: 414,
         nothing: 0,
         height: 3,
     },
     // 85: simple
     Row {
-        start: 331,
-        end: 351,
-        more: 418,
-        more_end: 435,
+        start: 329,
+        end: 349,
+        more: 414,
+        more_end: 431,
         nothing: 0,
         height: 2,
     },
     // 86: value
     Row {
-        start: 351,
-        end: 353,
-        more: 435,
-        more_end: 435,
+        start: 349,
+        end: 351,
+        more: 431,
+        more_end: 431,
         nothing: 0,
         height: 3,
     },
     // 87: typed
     Row {
-        start: 353,
-        end: 354,
-        more: 435,
-        more_end: 435,
+        start: 351,
+        end: 352,
+        more: 431,
+        more_end: 431,
         nothing: 0,
         height: 4,
     },
     // 88: pair
     Row {
-        start: 354,
-        end: 355,
-        more: 435,
-        more_end: 435,
+        start: 352,
+        end: 353,
+        more: 431,
+        more_end: 431,
         nothing: 0,
         height: 4,
     },
     // 89: ret
     Row {
-        start: 355,
-        end: 357,
-        more: 435,
-        more_end: 435,
+        start: 353,
+        end: 355,
+        more: 431,
+        more_end: 431,
         nothing: 0,
         height: 3,
     },
     // 90: br
     Row {
-        start: 357,
-        end: 359,
-        more: 435,
-        more_end: 435,
+        start: 355,
+        end: 357,
+        more: 431,
+        more_end: 431,
         nothing: 0,
-        height: 1,
+        height: 5,
     },
     // 91: cases
     Row {
-        start: 359,
-        end: 361,
-        more: 435,
-        more_end: 444,
-        nothing: 361,
+        start: 357,
+        end: 359,
+        more: 431,
+        more_end: 439,
+        nothing: 359,
         height: 5,
     },
     // 92: labels
     Row {
-        start: 361,
-        end: 363,
-        more: 444,
-        more_end: 446,
-        nothing: 363,
+        start: 359,
+        end: 361,
+        more: 439,
+        more_end: 441,
+        nothing: 361,
         height: 1,
     },
     // 93: more_labels
     Row {
-        start: 363,
-        end: 365,
-        more: 446,
-        more_end: 447,
-        nothing: 365,
+        start: 361,
+        end: 363,
+        more: 441,
+        more_end: 442,
+        nothing: 363,
         height: 1,
     },
     // 94: sum
     Row {
-        start: 365,
-        end: 367,
-        more: 447,
-        more_end: 447,
+        start: 363,
+        end: 365,
+        more: 442,
+        more_end: 442,
         nothing: 0,
         height: 1,
     },
     // 95: wraps
     Row {
-        start: 367,
-        end: 370,
-        more: 447,
-        more_end: 449,
-        nothing: 370,
+        start: 365,
+        end: 368,
+        more: 442,
+        more_end: 444,
+        nothing: 368,
         height: 1,
     },
     // 96: nsw
     Row {
-        start: 370,
-        end: 372,
-        more: 449,
-        more_end: 450,
-        nothing: 372,
+        start: 368,
+        end: 370,
+        more: 444,
+        more_end: 445,
+        nothing: 370,
         height: 1,
     },
     // 97: lost_wraps
     Row {
-        start: 372,
-        end: 375,
-        more: 450,
-        more_end: 452,
-        nothing: 375,
+        start: 370,
+        end: 373,
+        more: 445,
+        more_end: 447,
+        nothing: 373,
         height: 1,
     },
     // 98: lost_nsw
     Row {
-        start: 375,
-        end: 377,
-        more: 452,
-        more_end: 453,
-        nothing: 377,
+        start: 373,
+        end: 375,
+        more: 447,
+        more_end: 448,
+        nothing: 375,
         height: 1,
     },
     // 99: lost_nuw
     Row {
-        start: 377,
-        end: 379,
-        more: 453,
-        more_end: 454,
-        nothing: 379,
+        start: 375,
+        end: 377,
+        more: 448,
+        more_end: 449,
+        nothing: 377,
         height: 1,
     },
     // 100: quotient
     Row {
-        start: 379,
-        end: 380,
-        more: 454,
-        more_end: 454,
+        start: 377,
+        end: 378,
+        more: 449,
+        more_end: 449,
         nothing: 0,
         height: 1,
     },
     // 101: lost_exact
     Row {
-        start: 380,
-        end: 382,
-        more: 454,
-        more_end: 455,
-        nothing: 382,
+        start: 378,
+        end: 380,
+        more: 449,
+        more_end: 450,
+        nothing: 380,
         height: 1,
     },
     // 102: bits
     Row {
-        start: 382,
-        end: 384,
-        more: 455,
-        more_end: 455,
+        start: 380,
+        end: 382,
+        more: 450,
+        more_end: 450,
         nothing: 0,
         height: 1,
     },
     // 103: lost_disjoint
     Row {
-        start: 384,
-        end: 386,
-        more: 455,
-        more_end: 456,
-        nothing: 386,
+        start: 382,
+        end: 384,
+        more: 450,
+        more_end: 451,
+        nothing: 384,
         height: 1,
     },
     // 104: lost_samesign
     Row {
-        start: 386,
-        end: 388,
-        more: 456,
-        more_end: 457,
-        nothing: 388,
+        start: 384,
+        end: 386,
+        more: 451,
+        more_end: 452,
+        nothing: 386,
         height: 1,
     },
     // 105: predicate
     Row {
-        start: 388,
-        end: 389,
-        more: 457,
-        more_end: 457,
+        start: 386,
+        end: 387,
+        more: 452,
+        more_end: 452,
         nothing: 0,
         height: 1,
     },
     // 106: cast
     Row {
-        start: 389,
-        end: 391,
-        more: 457,
-        more_end: 457,
+        start: 387,
+        end: 389,
+        more: 452,
+        more_end: 452,
         nothing: 0,
         height: 1,
     },
     // 107: nneg
     Row {
-        start: 391,
-        end: 393,
-        more: 457,
-        more_end: 458,
-        nothing: 393,
+        start: 389,
+        end: 391,
+        more: 452,
+        more_end: 453,
+        nothing: 391,
         height: 1,
     },
     // 108: alloca_tail
     Row {
-        start: 393,
-        end: 395,
-        more: 458,
-        more_end: 459,
-        nothing: 395,
+        start: 391,
+        end: 393,
+        more: 453,
+        more_end: 454,
+        nothing: 393,
         height: 1,
     },
     // 109: alloca_part
     Row {
-        start: 395,
-        end: 399,
-        more: 459,
-        more_end: 460,
+        start: 393,
+        end: 397,
+        more: 454,
+        more_end: 455,
         nothing: 0,
         height: 5,
     },
     // 110: alloca_rest
     Row {
-        start: 399,
-        end: 401,
-        more: 460,
-        more_end: 461,
-        nothing: 401,
+        start: 397,
+        end: 399,
+        more: 455,
+        more_end: 456,
+        nothing: 399,
         height: 1,
     },
     // 111: alloca_rest_part
     Row {
-        start: 401,
-        end: 404,
-        more: 461,
-        more_end: 462,
+        start: 399,
+        end: 402,
+        more: 456,
+        more_end: 457,
         nothing: 0,
         height: 2,
     },
     // 112: alloca_end
     Row {
-        start: 404,
-        end: 406,
-        more: 462,
-        more_end: 463,
-        nothing: 406,
+        start: 402,
+        end: 404,
+        more: 457,
+        more_end: 458,
+        nothing: 404,
         height: 1,
     },
     // 113: alloca_end_part
     Row {
-        start: 406,
-        end: 408,
-        more: 463,
-        more_end: 464,
+        start: 404,
+        end: 406,
+        more: 458,
+        more_end: 459,
         nothing: 0,
         height: 2,
     },
     // 114: load
     Row {
-        start: 408,
-        end: 410,
-        more: 464,
-        more_end: 465,
+        start: 406,
+        end: 408,
+        more: 459,
+        more_end: 460,
         nothing: 0,
         height: 5,
     },
     // 115: atomic_load
     Row {
-        start: 410,
-        end: 411,
-        more: 465,
-        more_end: 466,
+        start: 408,
+        end: 409,
+        more: 460,
+        more_end: 461,
         nothing: 0,
         height: 4,
     },
     // 116: store
     Row {
-        start: 411,
-        end: 413,
-        more: 466,
-        more_end: 467,
+        start: 409,
+        end: 411,
+        more: 461,
+        more_end: 462,
         nothing: 0,
         height: 6,
     },
     // 117: atomic_store
     Row {
-        start: 413,
-        end: 414,
-        more: 467,
-        more_end: 468,
+        start: 411,
+        end: 412,
+        more: 462,
+        more_end: 463,
         nothing: 0,
         height: 5,
     },
     // 118: volatile
     Row {
-        start: 414,
-        end: 416,
-        more: 468,
-        more_end: 469,
-        nothing: 416,
+        start: 412,
+        end: 414,
+        more: 463,
+        more_end: 464,
+        nothing: 414,
         height: 1,
     },
     // 119: rmw_kind
     Row {
-        start: 416,
-        end: 420,
-        more: 469,
-        more_end: 469,
+        start: 414,
+        end: 418,
+        more: 464,
+        more_end: 464,
         nothing: 0,
         height: 1,
     },
     // 120: address_and_value
     Row {
-        start: 420,
-        end: 421,
-        more: 469,
-        more_end: 469,
+        start: 418,
+        end: 419,
+        more: 464,
+        more_end: 464,
         nothing: 0,
         height: 5,
     },
     // 121: lost_weak
     Row {
-        start: 421,
-        end: 423,
-        more: 469,
-        more_end: 470,
-        nothing: 423,
+        start: 419,
+        end: 421,
+        more: 464,
+        more_end: 465,
+        nothing: 421,
         height: 1,
     },
     // 122: exchange
     Row {
-        start: 423,
-        end: 424,
-        more: 470,
-        more_end: 471,
+        start: 421,
+        end: 422,
+        more: 465,
+        more_end: 466,
         nothing: 0,
         height: 5,
     },
     // 123: exchange_order
     Row {
-        start: 424,
-        end: 425,
-        more: 471,
-        more_end: 471,
+        start: 422,
+        end: 423,
+        more: 466,
+        more_end: 466,
         nothing: 0,
         height: 3,
     },
     // 124: order
     Row {
-        start: 425,
-        end: 426,
-        more: 471,
-        more_end: 471,
+        start: 423,
+        end: 424,
+        more: 466,
+        more_end: 466,
         nothing: 0,
         height: 3,
     },
     // 125: scope
     Row {
-        start: 426,
-        end: 428,
-        more: 471,
-        more_end: 472,
-        nothing: 428,
+        start: 424,
+        end: 426,
+        more: 466,
+        more_end: 467,
+        nothing: 426,
         height: 1,
     },
     // 126: ordering
     Row {
-        start: 428,
-        end: 429,
-        more: 472,
-        more_end: 472,
+        start: 426,
+        end: 427,
+        more: 467,
+        more_end: 467,
         nothing: 0,
         height: 1,
     },
     // 127: gep_flags
     Row {
-        start: 429,
-        end: 431,
-        more: 472,
-        more_end: 474,
-        nothing: 431,
+        start: 427,
+        end: 429,
+        more: 467,
+        more_end: 469,
+        nothing: 429,
         height: 2,
     },
     // 128: gep_flag
     Row {
-        start: 431,
-        end: 433,
-        more: 474,
-        more_end: 474,
+        start: 429,
+        end: 431,
+        more: 469,
+        more_end: 469,
         nothing: 0,
         height: 1,
     },
     // 129: more_indices
     Row {
-        start: 433,
-        end: 435,
-        more: 474,
-        more_end: 475,
-        nothing: 435,
+        start: 431,
+        end: 433,
+        more: 469,
+        more_end: 470,
+        nothing: 433,
         height: 1,
     },
     // 130: index_or_node
     Row {
-        start: 435,
-        end: 437,
-        more: 475,
-        more_end: 476,
+        start: 433,
+        end: 435,
+        more: 470,
+        more_end: 471,
         nothing: 0,
         height: 5,
     },
     // 131: more_places
     Row {
-        start: 437,
-        end: 439,
-        more: 476,
-        more_end: 477,
-        nothing: 439,
+        start: 435,
+        end: 437,
+        more: 471,
+        more_end: 472,
+        nothing: 437,
         height: 1,
     },
     // 132: place_or_node
     Row {
-        start: 439,
-        end: 441,
-        more: 477,
-        more_end: 478,
+        start: 437,
+        end: 439,
+        more: 472,
+        more_end: 473,
         nothing: 0,
         height: 2,
     },
     // 133: entry
     Row {
-        start: 441,
-        end: 442,
-        more: 478,
-        more_end: 478,
+        start: 439,
+        end: 440,
+        more: 473,
+        more_end: 473,
         nothing: 0,
         height: 1,
     },
     // 134: more_entries
     Row {
-        start: 442,
-        end: 444,
-        more: 478,
-        more_end: 479,
-        nothing: 444,
+        start: 440,
+        end: 442,
+        more: 473,
+        more_end: 474,
+        nothing: 442,
         height: 1,
     },
     // 135: entry_or_node
     Row {
-        start: 444,
-        end: 446,
-        more: 479,
-        more_end: 480,
+        start: 442,
+        end: 444,
+        more: 474,
+        more_end: 475,
         nothing: 0,
         height: 2,
     },
     // 136: align_attached
     Row {
-        start: 446,
-        end: 448,
-        more: 480,
-        more_end: 481,
-        nothing: 448,
+        start: 444,
+        end: 446,
+        more: 475,
+        more_end: 476,
+        nothing: 446,
         height: 1,
     },
     // 137: align_or_attached
     Row {
-        start: 448,
-        end: 450,
-        more: 481,
-        more_end: 482,
+        start: 446,
+        end: 448,
+        more: 476,
+        more_end: 477,
         nothing: 0,
         height: 2,
     },
     // 138: lost_align_attached
     Row {
-        start: 450,
-        end: 452,
-        more: 482,
-        more_end: 483,
-        nothing: 452,
+        start: 448,
+        end: 450,
+        more: 477,
+        more_end: 478,
+        nothing: 450,
         height: 1,
     },
     // 139: lost_align_or_attached
     Row {
-        start: 452,
-        end: 454,
-        more: 483,
-        more_end: 484,
+        start: 450,
+        end: 452,
+        more: 478,
+        more_end: 479,
         nothing: 0,
         height: 2,
     },
     // 140: tail
     Row {
-        start: 454,
-        end: 456,
-        more: 484,
-        more_end: 485,
-        nothing: 456,
+        start: 452,
+        end: 454,
+        more: 479,
+        more_end: 480,
+        nothing: 454,
         height: 1,
     },
     // 141: call
     Row {
-        start: 456,
-        end: 457,
-        more: 485,
-        more_end: 501,
+        start: 454,
+        end: 455,
+        more: 480,
+        more_end: 496,
         nothing: 0,
         height: 7,
     },
     // 142: callee
     Row {
-        start: 457,
-        end: 460,
-        more: 501,
-        more_end: 501,
+        start: 455,
+        end: 458,
+        more: 496,
+        more_end: 496,
         nothing: 0,
         height: 1,
     },
     // 143: asm
     Row {
-        start: 460,
-        end: 462,
-        more: 501,
-        more_end: 501,
+        start: 458,
+        end: 460,
+        more: 496,
+        more_end: 496,
         nothing: 0,
         height: 2,
     },
     // 144: asm_text
     Row {
-        start: 462,
-        end: 463,
-        more: 501,
-        more_end: 501,
+        start: 460,
+        end: 461,
+        more: 496,
+        more_end: 496,
         nothing: 0,
         height: 1,
     },
     // 145: arguments
     Row {
-        start: 463,
-        end: 464,
-        more: 501,
-        more_end: 501,
+        start: 461,
+        end: 462,
+        more: 496,
+        more_end: 496,
         nothing: 0,
         height: 1,
     },
     // 146: args
     Row {
-        start: 464,
-        end: 466,
-        more: 501,
-        more_end: 511,
-        nothing: 466,
+        start: 462,
+        end: 464,
+        more: 496,
+        more_end: 505,
+        nothing: 464,
         height: 5,
     },
     // 147: more_args
     Row {
-        start: 466,
-        end: 468,
-        more: 511,
-        more_end: 512,
-        nothing: 468,
+        start: 464,
+        end: 466,
+        more: 505,
+        more_end: 506,
+        nothing: 466,
         height: 1,
     },
     // 148: arg
     Row {
-        start: 468,
-        end: 469,
-        more: 512,
-        more_end: 512,
+        start: 466,
+        end: 467,
+        more: 506,
+        more_end: 506,
         nothing: 0,
         height: 4,
     },
     // 149: attached
     Row {
-        start: 469,
-        end: 471,
-        more: 512,
-        more_end: 513,
-        nothing: 471,
+        start: 467,
+        end: 469,
+        more: 506,
+        more_end: 507,
+        nothing: 469,
         height: 1,
     },
     // 150: attachments
     Row {
-        start: 471,
-        end: 473,
-        more: 513,
-        more_end: 521,
-        nothing: 473,
+        start: 469,
+        end: 471,
+        more: 507,
+        more_end: 515,
+        nothing: 471,
         height: 2,
     },
     // 151: mdname
     Row {
-        start: 473,
-        end: 481,
-        more: 521,
-        more_end: 521,
+        start: 471,
+        end: 479,
+        more: 515,
+        more_end: 515,
         nothing: 0,
         height: 1,
     },
     // 152: mdref
     Row {
-        start: 481,
-        end: 483,
-        more: 521,
-        more_end: 521,
+        start: 479,
+        end: 481,
+        more: 515,
+        more_end: 515,
         nothing: 0,
         height: 3,
     },
     // 153: mdrefs
     Row {
-        start: 483,
-        end: 485,
-        more: 521,
-        more_end: 532,
-        nothing: 485,
+        start: 481,
+        end: 483,
+        more: 515,
+        more_end: 526,
+        nothing: 483,
         height: 4,
     },
     // 154: more_mdrefs
     Row {
-        start: 485,
-        end: 487,
-        more: 532,
-        more_end: 533,
-        nothing: 487,
+        start: 483,
+        end: 485,
+        more: 526,
+        more_end: 527,
+        nothing: 485,
         height: 1,
     },
     // 155: node
     Row {
-        start: 487,
-        end: 490,
-        more: 533,
-        more_end: 533,
+        start: 485,
+        end: 488,
+        more: 527,
+        more_end: 527,
         nothing: 0,
         height: 2,
     },
     // 156: debug_node
     Row {
-        start: 490,
-        end: 497,
-        more: 533,
-        more_end: 533,
+        start: 488,
+        end: 495,
+        more: 527,
+        more_end: 527,
         nothing: 0,
         height: 1,
     },
     // 157: mdops
     Row {
-        start: 497,
-        end: 499,
-        more: 533,
-        more_end: 555,
-        nothing: 499,
+        start: 495,
+        end: 497,
+        more: 527,
+        more_end: 548,
+        nothing: 497,
         height: 6,
     },
     // 158: more_mdops
     Row {
-        start: 499,
-        end: 501,
-        more: 555,
-        more_end: 556,
-        nothing: 501,
+        start: 497,
+        end: 499,
+        more: 548,
+        more_end: 549,
+        nothing: 499,
         height: 1,
     },
     // 159: mdop
     Row {
-        start: 501,
-        end: 505,
-        more: 556,
-        more_end: 556,
+        start: 499,
+        end: 503,
+        more: 549,
+        more_end: 549,
         nothing: 0,
         height: 5,
     },
     // 160: fields
     Row {
-        start: 505,
-        end: 507,
-        more: 556,
-        more_end: 559,
-        nothing: 507,
+        start: 503,
+        end: 505,
+        more: 549,
+        more_end: 552,
+        nothing: 505,
         height: 2,
     },
     // 161: more_fields
     Row {
-        start: 507,
-        end: 509,
-        more: 559,
-        more_end: 561,
-        nothing: 509,
+        start: 505,
+        end: 507,
+        more: 552,
+        more_end: 554,
+        nothing: 507,
         height: 1,
     },
     // 162: field
     Row {
-        start: 509,
-        end: 510,
-        more: 561,
-        more_end: 562,
+        start: 507,
+        end: 508,
+        more: 554,
+        more_end: 555,
         nothing: 0,
         height: 1,
     },
     // 163: field_value
     Row {
-        start: 510,
-        end: 514,
-        more: 562,
-        more_end: 563,
+        start: 508,
+        end: 512,
+        more: 555,
+        more_end: 556,
         nothing: 0,
         height: 4,
     },
     // 164: more_words
     Row {
-        start: 514,
-        end: 516,
-        more: 563,
-        more_end: 564,
-        nothing: 516,
+        start: 512,
+        end: 514,
+        more: 556,
+        more_end: 557,
+        nothing: 514,
         height: 1,
     },
 ];
 
 /// The classes that may begin alternatives.
-static FIRSTS: [u16; 1837] = [
+pub static FIRSTS: [u16; 1804] = [
     // file
-    0, 1, 8, 9, 56, 57, 58, 59, 60, 61, 62, 71, 77, 78, 112, 117,
+    0, 1, 8, 9, 56, 57, 58, 59, 60, 61, 62, 71, 77, 78, 111, 116,
     // item
-    112, 117, 1, 0, 77, 78, 71, 9, 56, 57, 58, 59, 60, 61, 62, 8,
+    111, 116, 1, 0, 77, 78, 71, 9, 56, 57, 58, 59, 60, 61, 62, 8,
     // target
     15,
     // distinct
     81,
     // type_body
-    104, 49, 51,
+    103, 49, 51,
     // body_linkage
-    16, 127,
+    16, 126,
     // data_linkage
-    16, 127, 17,
+    16, 126, 17,
     // outer_linkage
     85, 84,
     // define_linkage
-    16, 127, 85,
+    16, 126, 85,
     // declare_linkage
     84, 85,
     // dso
@@ -6223,7 +6210,7 @@ static FIRSTS: [u16; 1837] = [
     // unnamed
     19,
     // symbol
-    84, 85, 16, 17, 127, 18, 19, 20, 63, 64,
+    84, 85, 16, 17, 126, 18, 19, 20, 63, 64,
     // outer_symbol
     20, 63, 64,
     // inner_symbol
@@ -6239,76 +6226,76 @@ static FIRSTS: [u16; 1837] = [
     // lost_groups
     6,
     // alias
-    1, 12, 28, 47, 49, 51, 91, 107, 124,
+    1, 12, 28, 47, 49, 51, 106, 123,
     // head
-    1, 4, 12, 18, 21, 22, 23, 24, 28, 47, 49, 51, 65, 76, 82, 91, 100, 107, 124,
+    1, 4, 12, 18, 21, 22, 23, 24, 28, 47, 49, 51, 65, 76, 82, 99, 106, 123,
     // parameters
     45,
     // params
-    1, 12, 28, 47, 49, 51, 91, 107, 124, 55,
+    1, 12, 28, 47, 49, 51, 106, 123, 55,
     // more_params
     44,
     // param_or_dots
-    1, 12, 28, 47, 49, 51, 91, 107, 124, 55,
+    1, 12, 28, 47, 49, 51, 106, 123, 55,
     // param
-    1, 12, 28, 47, 49, 51, 91, 107, 124,
+    1, 12, 28, 47, 49, 51, 106, 123,
     // name
     1,
     // body
-    1, 2, 7, 30, 31, 32, 33, 34, 35, 36, 38, 42, 67, 70, 73, 74, 75, 86, 87, 88, 89, 90, 92, 93,
-    95, 98, 105, 106, 108, 110, 114, 115, 119, 121, 123, 129,
+    1, 2, 7, 30, 31, 32, 33, 34, 35, 36, 38, 42, 67, 70, 73, 74, 75, 86, 87, 88, 89, 90, 91, 92,
+    94, 97, 104, 105, 107, 109, 113, 114, 118, 120, 122, 128,
     // body_parts
-    1, 2, 7, 30, 31, 32, 33, 34, 35, 36, 38, 42, 67, 70, 73, 74, 75, 86, 87, 88, 89, 90, 92, 93,
-    95, 98, 105, 106, 108, 110, 114, 115, 119, 121, 123, 129,
+    1, 2, 7, 30, 31, 32, 33, 34, 35, 36, 38, 42, 67, 70, 73, 74, 75, 86, 87, 88, 89, 90, 91, 92,
+    94, 97, 104, 105, 107, 109, 113, 114, 118, 120, 122, 128,
     // body_part
-    2, 1, 7, 30, 31, 32, 33, 34, 35, 36, 38, 42, 67, 70, 73, 74, 75, 86, 87, 88, 89, 90, 92, 93,
-    95, 98, 105, 106, 108, 110, 114, 115, 119, 121, 123, 129,
+    2, 1, 7, 30, 31, 32, 33, 34, 35, 36, 38, 42, 67, 70, 73, 74, 75, 86, 87, 88, 89, 90, 91, 92,
+    94, 97, 104, 105, 107, 109, 113, 114, 118, 120, 122, 128,
     // line
-    1, 7, 30, 31, 32, 33, 34, 35, 36, 38, 42, 67, 70, 73, 74, 75, 86, 87, 88, 89, 90, 92, 93, 95,
-    98, 105, 106, 108, 110, 114, 115, 119, 121, 123, 129,
+    1, 7, 30, 31, 32, 33, 34, 35, 36, 38, 42, 67, 70, 73, 74, 75, 86, 87, 88, 89, 90, 91, 92, 94,
+    97, 104, 105, 107, 109, 113, 114, 118, 120, 122, 128,
     // records
     7,
     // result
     1,
     // lost_attrs
-    4, 21, 22, 23, 24, 65, 76, 82, 100,
+    4, 21, 22, 23, 24, 65, 76, 82, 99,
     // lost_attr
-    21, 100, 76, 65, 22, 23, 24, 82, 4,
+    21, 99, 76, 65, 22, 23, 24, 82, 4,
     // text_value
     43,
     // function_attrs
-    4, 6, 21, 22, 23, 24, 26, 27, 65, 66, 76, 79, 82, 122,
+    4, 6, 21, 22, 23, 24, 26, 27, 65, 66, 76, 79, 82, 121,
     // function_attr
-    6, 4, 21, 22, 23, 24, 26, 27, 66, 76, 79, 82, 122, 65,
+    6, 4, 21, 22, 23, 24, 26, 27, 66, 76, 79, 82, 121, 65,
     // align_value
     3, 45,
     // call_attrs
-    6, 4, 21, 22, 23, 24, 26, 27, 65, 66, 76, 79, 82, 122,
+    6, 4, 21, 22, 23, 24, 26, 27, 65, 66, 76, 79, 82, 121,
     // group_attrs
-    4, 21, 22, 23, 24, 26, 27, 65, 66, 76, 79, 82, 122,
+    4, 21, 22, 23, 24, 26, 27, 65, 66, 76, 79, 82, 121,
     // group_attr
-    4, 21, 22, 23, 24, 26, 27, 66, 76, 79, 82, 122, 65,
+    4, 21, 22, 23, 24, 26, 27, 66, 76, 79, 82, 121, 65,
     // attr
-    4, 21, 27, 66, 122, 22, 76, 79, 23, 26, 24, 82,
+    4, 21, 27, 66, 121, 22, 76, 79, 23, 26, 24, 82,
     // stack_value
     45, 43,
     // stack_number
-    3, 96,
+    3, 95,
     // unwind_value
     45,
     // unwind_number
-    25, 96,
+    25, 95,
     // number_attr
     76, 79, 22,
     // either_attr
     26, 23,
     // number_or_inside
-    96, 46, 45, 12, 14, 15, 16, 17, 18, 19, 20, 21, 22, 23, 24, 25, 26, 27, 28, 29, 30, 31, 32, 33,
+    95, 46, 45, 12, 14, 15, 16, 17, 18, 19, 20, 21, 22, 23, 24, 25, 26, 27, 28, 29, 30, 31, 32, 33,
     34, 35, 36, 37, 38, 39, 40, 41, 42, 63, 64, 65, 66, 67, 68, 69, 70, 71, 72, 73, 74, 75, 76, 77,
-    78, 79, 80, 81, 82, 83, 84, 85, 86, 87, 88, 89, 90, 91, 92, 93, 94, 95, 97, 98, 99, 100, 101,
+    78, 79, 80, 81, 82, 83, 84, 85, 86, 87, 88, 89, 90, 91, 92, 93, 94, 96, 97, 98, 99, 100, 101,
     102, 103, 104, 105, 106, 107, 108, 109, 110, 111, 112, 113, 114, 115, 116, 117, 118, 119, 120,
-    121, 122, 123, 124, 125, 126, 127, 128, 129, 0, 1, 2, 3, 4, 5, 6, 7, 8, 9, 10, 43, 44, 47, 48,
-    49, 50, 51, 52, 53, 54, 55, 56, 57, 58, 59, 60, 61, 62,
+    121, 122, 123, 124, 125, 126, 127, 128, 0, 1, 2, 3, 4, 5, 6, 7, 8, 9, 10, 43, 44, 47, 48, 49,
+    50, 51, 52, 53, 54, 55, 56, 57, 58, 59, 60, 61, 62,
     // range_attr
     24,
     // enum_attr
@@ -6320,8 +6307,8 @@ static FIRSTS: [u16; 1837] = [
     35, 36, 37, 38, 39, 40, 41, 42, 63, 64, 65, 66, 67, 68, 69, 70, 71, 72, 73, 74, 75, 76, 77, 78,
     79, 80, 81, 82, 83, 84, 85, 86, 87, 88, 89, 90, 91, 92, 93, 94, 95, 96, 97, 98, 99, 100, 101,
     102, 103, 104, 105, 106, 107, 108, 109, 110, 111, 112, 113, 114, 115, 116, 117, 118, 119, 120,
-    121, 122, 123, 124, 125, 126, 127, 128, 129, 0, 1, 2, 3, 4, 5, 6, 7, 8, 9, 10, 43, 44, 47, 48,
-    49, 50, 51, 52, 53, 54, 55, 56, 57, 58, 59, 60, 61, 62,
+    121, 122, 123, 124, 125, 126, 127, 128, 0, 1, 2, 3, 4, 5, 6, 7, 8, 9, 10, 43, 44, 47, 48, 49,
+    50, 51, 52, 53, 54, 55, 56, 57, 58, 59, 60, 61, 62,
     // node_parens
     45,
     // node_inside
@@ -6329,8 +6316,8 @@ static FIRSTS: [u16; 1837] = [
     34, 35, 36, 37, 38, 39, 40, 41, 42, 63, 64, 65, 66, 67, 68, 69, 70, 71, 72, 73, 74, 75, 76, 77,
     78, 79, 80, 81, 82, 83, 84, 85, 86, 87, 88, 89, 90, 91, 92, 93, 94, 95, 96, 97, 98, 99, 100,
     101, 102, 103, 104, 105, 106, 107, 108, 109, 110, 111, 112, 113, 114, 115, 116, 117, 118, 119,
-    120, 121, 122, 123, 124, 125, 126, 127, 128, 129, 0, 1, 2, 3, 4, 5, 6, 7, 8, 9, 10, 43, 44, 47,
-    48, 49, 50, 51, 52, 53, 54, 55, 56, 57, 58, 59, 60, 61, 62, 11,
+    120, 121, 122, 123, 124, 125, 126, 127, 128, 0, 1, 2, 3, 4, 5, 6, 7, 8, 9, 10, 43, 44, 47, 48,
+    49, 50, 51, 52, 53, 54, 55, 56, 57, 58, 59, 60, 61, 62, 11,
     // plain
     3, 4, 5, 0, 1, 2, 6, 7, 8, 10, 9, 56, 57, 58, 59, 60, 61, 62, 43, 44, 47, 48, 49, 50, 51, 52,
     53, 54, 55,
@@ -6338,100 +6325,100 @@ static FIRSTS: [u16; 1837] = [
     43, 44, 47, 48, 49, 50, 51, 52, 53, 54, 55,
     // most_words
     63, 64, 65, 66, 67, 68, 69, 70, 71, 72, 73, 74, 75, 76, 77, 78, 79, 80, 81, 82, 83, 84, 85, 86,
-    87, 88, 89, 90, 91, 92, 93, 94, 95, 97, 98, 99, 100, 101, 102, 103, 104, 105, 106, 107, 108,
+    87, 88, 89, 90, 91, 92, 93, 94, 96, 97, 98, 99, 100, 101, 102, 103, 104, 105, 106, 107, 108,
     109, 110, 111, 112, 113, 114, 115, 116, 117, 118, 119, 120, 121, 122, 123, 124, 125, 126, 127,
-    128, 129, 12, 14, 15, 16, 17, 18, 19, 20, 21, 22, 23, 24, 25, 26, 27, 28, 29, 30, 31, 32, 33,
-    34, 35, 36, 37, 38, 39, 40, 41, 42,
+    128, 12, 14, 15, 16, 17, 18, 19, 20, 21, 22, 23, 24, 25, 26, 27, 28, 29, 30, 31, 32, 33, 34,
+    35, 36, 37, 38, 39, 40, 41, 42,
     // any_word
     12, 14, 15, 16, 17, 18, 19, 20, 21, 22, 23, 24, 25, 26, 27, 28, 29, 30, 31, 32, 33, 34, 35, 36,
     37, 38, 39, 40, 41, 42, 63, 64, 65, 66, 67, 68, 69, 70, 71, 72, 73, 74, 75, 76, 77, 78, 79, 80,
-    81, 82, 83, 84, 85, 86, 87, 88, 89, 90, 91, 92, 93, 94, 95, 97, 98, 99, 100, 101, 102, 103,
+    81, 82, 83, 84, 85, 86, 87, 88, 89, 90, 91, 92, 93, 94, 96, 97, 98, 99, 100, 101, 102, 103,
     104, 105, 106, 107, 108, 109, 110, 111, 112, 113, 114, 115, 116, 117, 118, 119, 120, 121, 122,
-    123, 124, 125, 126, 127, 128, 129, 96,
+    123, 124, 125, 126, 127, 128, 95,
     // node_word
     12, 14, 15, 16, 17, 18, 19, 20, 21, 22, 23, 24, 25, 26, 27, 28, 29, 30, 31, 32, 33, 34, 35, 36,
     37, 38, 39, 40, 41, 42, 63, 64, 65, 66, 67, 68, 69, 70, 71, 72, 73, 74, 75, 76, 77, 78, 79, 80,
     81, 82, 83, 84, 85, 86, 87, 88, 89, 90, 91, 92, 93, 94, 95, 96, 97, 98, 99, 100, 101, 102, 103,
     104, 105, 106, 107, 108, 109, 110, 111, 112, 113, 114, 115, 116, 117, 118, 119, 120, 121, 122,
-    123, 124, 125, 126, 127, 128, 129, 13,
+    123, 124, 125, 126, 127, 128, 13,
     // type
-    124, 1, 12, 28, 47, 49, 51, 91, 107,
+    123, 1, 12, 28, 47, 49, 51, 106,
     // solid
-    1, 12, 28, 47, 51, 91, 107, 49,
+    1, 12, 28, 47, 51, 106, 49,
     // flat
-    12, 91, 107, 28, 47, 51, 1,
+    12, 106, 28, 47, 51, 1,
     // angle_type
-    3, 126, 49,
+    3, 125, 49,
     // types
-    1, 12, 28, 47, 49, 51, 91, 107, 124,
+    1, 12, 28, 47, 49, 51, 106, 123,
     // more_types
     44,
     // called_type
-    1, 12, 28, 47, 49, 51, 91, 107, 124,
+    1, 12, 28, 47, 49, 51, 106, 123,
     // signature
     45,
     // argument_types
-    1, 12, 28, 47, 49, 51, 91, 107, 124, 55,
+    1, 12, 28, 47, 49, 51, 106, 123, 55,
     // more_argument_types
     44,
     // type_or_dots
-    1, 12, 28, 47, 49, 51, 91, 107, 124, 55,
+    1, 12, 28, 47, 49, 51, 106, 123, 55,
     // tconst
-    1, 12, 28, 47, 49, 51, 91, 107, 124,
+    1, 12, 28, 47, 49, 51, 106, 123,
     // const
-    3, 29, 102, 47, 49, 51, 5, 113, 0, 72, 30, 119, 31, 90,
+    3, 29, 101, 47, 49, 51, 5, 112, 0, 72, 30, 118, 31, 90,
     // const_angle
-    49, 1, 12, 28, 47, 51, 91, 107, 124,
+    49, 1, 12, 28, 47, 51, 106, 123,
     // const_brace
-    50, 1, 12, 28, 47, 49, 51, 91, 107, 124,
+    50, 1, 12, 28, 47, 49, 51, 106, 123,
     // const_empty
-    52, 0, 3, 5, 29, 30, 31, 47, 49, 51, 72, 90, 102, 113, 119,
+    52, 0, 3, 5, 29, 30, 31, 47, 49, 51, 72, 90, 101, 112, 118,
     // const_braced
-    0, 3, 5, 29, 30, 31, 47, 49, 51, 72, 90, 102, 113, 119, 44, 50,
+    0, 3, 5, 29, 30, 31, 47, 49, 51, 72, 90, 101, 112, 118, 44, 50,
     // const_cast
-    30, 119,
+    30, 118,
     // const_sum
     31,
     // tconsts
-    1, 12, 28, 47, 49, 51, 91, 107, 124,
+    1, 12, 28, 47, 49, 51, 106, 123,
     // more_tconsts
     44,
     // in_range
-    94,
+    93,
     // inst
-    30, 31, 32, 33, 34, 35, 36, 38, 42, 73, 74, 86, 88, 89, 92, 93, 105, 108, 110, 115, 119, 121,
-    123, 129, 67, 98, 114, 70, 75, 90, 87, 95, 106,
+    30, 31, 32, 33, 34, 35, 36, 38, 42, 73, 74, 86, 88, 89, 91, 92, 104, 107, 109, 114, 118, 120,
+    122, 128, 67, 97, 113, 70, 75, 90, 87, 94, 105,
     // simple
-    108, 73, 115, 93, 121, 31, 33, 34, 35, 36, 105, 92, 30, 38, 119, 129, 88, 86, 32, 110, 89, 123,
+    107, 73, 114, 92, 120, 31, 33, 34, 35, 36, 104, 91, 30, 38, 118, 128, 88, 86, 32, 109, 89, 122,
     42, 74,
     // value
-    1, 0, 3, 5, 29, 30, 31, 47, 49, 51, 72, 90, 102, 113, 119,
+    1, 0, 3, 5, 29, 30, 31, 47, 49, 51, 72, 90, 101, 112, 118,
     // typed
-    1, 12, 28, 47, 49, 51, 91, 107, 124,
+    1, 12, 28, 47, 49, 51, 106, 123,
     // pair
-    1, 12, 28, 47, 49, 51, 91, 107, 124,
+    1, 12, 28, 47, 49, 51, 106, 123,
     // ret
-    124, 1, 12, 28, 47, 49, 51, 91, 107,
+    123, 1, 12, 28, 47, 49, 51, 106,
     // br
-    97, 91,
+    96, 1, 12, 28, 47, 49, 51, 106, 123,
     // cases
-    1, 12, 28, 47, 49, 51, 91, 107, 124,
+    1, 12, 28, 47, 49, 51, 106, 123,
     // labels
-    97,
+    96,
     // more_labels
     44,
     // sum
     31, 33,
     // wraps
-    103, 101,
+    102, 100,
     // nsw
-    101,
+    100,
     // lost_wraps
-    103, 101,
+    102, 100,
     // lost_nsw
-    101,
+    100,
     // lost_nuw
-    103,
+    102,
     // quotient
     34,
     // lost_exact
@@ -6441,17 +6428,17 @@ static FIRSTS: [u16; 1837] = [
     // lost_disjoint
     80,
     // lost_samesign
-    109,
+    108,
     // predicate
     37,
     // cast
     30, 38,
     // nneg
-    99,
+    98,
     // alloca_tail
     44,
     // alloca_part
-    1, 12, 28, 47, 49, 51, 91, 107, 124, 65, 63, 9, 56, 57, 58, 59, 60, 61, 62,
+    1, 12, 28, 47, 49, 51, 106, 123, 65, 63, 9, 56, 57, 58, 59, 60, 61, 62,
     // alloca_rest
     44,
     // alloca_rest_part
@@ -6461,39 +6448,39 @@ static FIRSTS: [u16; 1837] = [
     // alloca_end_part
     63, 9, 56, 57, 58, 59, 60, 61, 62,
     // load
-    1, 12, 28, 47, 49, 51, 91, 107, 124, 125, 69,
+    1, 12, 28, 47, 49, 51, 106, 123, 124, 69,
     // atomic_load
-    1, 12, 28, 47, 49, 51, 91, 107, 124,
+    1, 12, 28, 47, 49, 51, 106, 123,
     // store
-    1, 12, 28, 47, 49, 51, 91, 107, 124, 125, 69,
+    1, 12, 28, 47, 49, 51, 106, 123, 124, 69,
     // atomic_store
-    1, 12, 28, 47, 49, 51, 91, 107, 124,
+    1, 12, 28, 47, 49, 51, 106, 123,
     // volatile
-    125,
+    124,
     // rmw_kind
-    39, 31, 36, 105,
+    39, 31, 36, 104,
     // address_and_value
-    1, 12, 28, 47, 49, 51, 91, 107, 124,
+    1, 12, 28, 47, 49, 51, 106, 123,
     // lost_weak
-    127,
+    126,
     // exchange
-    1, 12, 28, 47, 49, 51, 91, 107, 124,
+    1, 12, 28, 47, 49, 51, 106, 123,
     // exchange_order
-    40, 116,
+    40, 115,
     // order
-    40, 116,
+    40, 115,
     // scope
-    116,
+    115,
     // ordering
     40,
     // gep_flags
-    41, 103,
+    41, 102,
     // gep_flag
-    41, 103,
+    41, 102,
     // more_indices
     44,
     // index_or_node
-    1, 12, 28, 47, 49, 51, 91, 107, 124, 9, 56, 57, 58, 59, 60, 61, 62,
+    1, 12, 28, 47, 49, 51, 106, 123, 9, 56, 57, 58, 59, 60, 61, 62,
     // more_places
     44,
     // place_or_node
@@ -6515,21 +6502,21 @@ static FIRSTS: [u16; 1837] = [
     // tail
     42,
     // call
-    1, 4, 12, 21, 22, 23, 24, 28, 47, 49, 51, 65, 76, 82, 91, 100, 107, 124,
+    1, 4, 12, 21, 22, 23, 24, 28, 47, 49, 51, 65, 76, 82, 99, 106, 123,
     // callee
     0, 1, 68,
     // asm
-    111, 4,
+    110, 4,
     // asm_text
     4,
     // arguments
     45,
     // args
-    1, 12, 28, 47, 49, 51, 91, 107, 124,
+    1, 12, 28, 47, 49, 51, 106, 123,
     // more_args
     44,
     // arg
-    1, 12, 28, 47, 49, 51, 91, 107, 124,
+    1, 12, 28, 47, 49, 51, 106, 123,
     // attached
     44,
     // attachments
@@ -6547,11 +6534,11 @@ static FIRSTS: [u16; 1837] = [
     // debug_node
     56, 57, 61, 62, 58, 59, 60,
     // mdops
-    1, 8, 9, 10, 12, 28, 47, 49, 51, 53, 56, 57, 58, 59, 60, 61, 62, 91, 102, 107, 124,
+    1, 8, 9, 10, 12, 28, 47, 49, 51, 53, 56, 57, 58, 59, 60, 61, 62, 101, 106, 123,
     // more_mdops
     44,
     // mdop
-    102, 10, 8, 9, 53, 56, 57, 58, 59, 60, 61, 62, 1, 12, 28, 47, 49, 51, 91, 107, 124,
+    101, 10, 8, 9, 53, 56, 57, 58, 59, 60, 61, 62, 1, 12, 28, 47, 49, 51, 106, 123,
     // fields
     2,
     // more_fields
@@ -6563,22 +6550,22 @@ static FIRSTS: [u16; 1837] = [
     34, 35, 36, 37, 38, 39, 40, 41, 42, 63, 64, 65, 66, 67, 68, 69, 70, 71, 72, 73, 74, 75, 76, 77,
     78, 79, 80, 81, 82, 83, 84, 85, 86, 87, 88, 89, 90, 91, 92, 93, 94, 95, 96, 97, 98, 99, 100,
     101, 102, 103, 104, 105, 106, 107, 108, 109, 110, 111, 112, 113, 114, 115, 116, 117, 118, 119,
-    120, 121, 122, 123, 124, 125, 126, 127, 128, 129, 8, 9, 53, 56, 57, 58, 59, 60, 61, 62,
+    120, 121, 122, 123, 124, 125, 126, 127, 128, 8, 9, 53, 56, 57, 58, 59, 60, 61, 62,
     // more_words
     54,
 ];
 
 /// The classes that might go on with rules.
-static MORES: [u16; 564] = [
+pub static MORES: [u16; 557] = [
     // file
     0, 1, 4, 6, 8, 9, 19, 21, 22, 23, 24, 26, 27, 43, 44, 45, 56, 57, 58, 59, 60, 61, 62, 63, 65,
-    66, 71, 76, 77, 78, 79, 82, 112, 117, 122,
+    66, 71, 76, 77, 78, 79, 82, 111, 116, 121,
     // item
-    4, 6, 19, 21, 22, 23, 24, 26, 27, 43, 44, 45, 63, 65, 66, 76, 79, 82, 122,
+    4, 6, 19, 21, 22, 23, 24, 26, 27, 43, 44, 45, 63, 65, 66, 76, 79, 82, 121,
     // distinct
     81,
     // define_linkage
-    16, 85, 127,
+    16, 85, 126,
     // declare_linkage
     84, 85,
     // dso
@@ -6604,45 +6591,45 @@ static MORES: [u16; 564] = [
     // parameters
     19, 63,
     // params
-    1, 4, 12, 21, 22, 23, 24, 28, 43, 44, 47, 49, 51, 55, 63, 65, 76, 82, 91, 100, 107, 124,
+    1, 4, 12, 21, 22, 23, 24, 28, 43, 44, 47, 49, 51, 55, 63, 65, 76, 82, 99, 106, 123,
     // more_params
-    1, 4, 21, 22, 23, 24, 43, 44, 63, 65, 76, 82, 100,
+    1, 4, 21, 22, 23, 24, 43, 44, 63, 65, 76, 82, 99,
     // param_or_dots
-    1, 4, 21, 22, 23, 24, 43, 44, 63, 65, 76, 82, 100,
+    1, 4, 21, 22, 23, 24, 43, 44, 63, 65, 76, 82, 99,
     // param
-    1, 4, 21, 22, 23, 24, 43, 63, 65, 76, 82, 100,
+    1, 4, 21, 22, 23, 24, 43, 63, 65, 76, 82, 99,
     // name
     1,
     // body
     1, 2, 4, 6, 7, 21, 22, 23, 24, 26, 27, 30, 31, 32, 33, 34, 35, 36, 38, 42, 43, 44, 45, 63, 65,
-    66, 67, 70, 73, 74, 75, 76, 79, 82, 86, 87, 88, 89, 90, 92, 93, 95, 98, 105, 106, 108, 110,
-    114, 115, 119, 121, 122, 123, 129,
+    66, 67, 70, 73, 74, 75, 76, 79, 82, 86, 87, 88, 89, 90, 91, 92, 94, 97, 104, 105, 107, 109,
+    113, 114, 118, 120, 121, 122, 128,
     // body_parts
     1, 2, 4, 6, 7, 21, 22, 23, 24, 26, 27, 30, 31, 32, 33, 34, 35, 36, 38, 42, 43, 44, 45, 63, 65,
-    66, 67, 70, 73, 74, 75, 76, 79, 82, 86, 87, 88, 89, 90, 92, 93, 95, 98, 105, 106, 108, 110,
-    114, 115, 119, 121, 122, 123, 129,
+    66, 67, 70, 73, 74, 75, 76, 79, 82, 86, 87, 88, 89, 90, 91, 92, 94, 97, 104, 105, 107, 109,
+    113, 114, 118, 120, 121, 122, 128,
     // body_part
-    4, 6, 21, 22, 23, 24, 26, 27, 43, 44, 45, 63, 65, 66, 76, 79, 82, 122,
+    4, 6, 21, 22, 23, 24, 26, 27, 43, 44, 45, 63, 65, 66, 76, 79, 82, 121,
     // line
-    4, 6, 21, 22, 23, 24, 26, 27, 43, 44, 45, 63, 65, 66, 76, 79, 82, 122,
+    4, 6, 21, 22, 23, 24, 26, 27, 43, 44, 45, 63, 65, 66, 76, 79, 82, 121,
     // records
     7,
     // result
     1,
     // lost_attrs
-    4, 21, 22, 23, 24, 43, 65, 76, 82, 100,
+    4, 21, 22, 23, 24, 43, 65, 76, 82, 99,
     // lost_attr
     43,
     // text_value
     43,
     // function_attrs
-    4, 6, 21, 22, 23, 24, 26, 27, 43, 45, 65, 66, 76, 79, 82, 122,
+    4, 6, 21, 22, 23, 24, 26, 27, 43, 45, 65, 66, 76, 79, 82, 121,
     // function_attr
     43, 45,
     // call_attrs
-    4, 6, 21, 22, 23, 24, 26, 27, 43, 45, 65, 66, 76, 79, 82, 122,
+    4, 6, 21, 22, 23, 24, 26, 27, 43, 45, 65, 66, 76, 79, 82, 121,
     // group_attrs
-    4, 21, 22, 23, 24, 26, 27, 43, 45, 65, 66, 76, 79, 82, 122,
+    4, 21, 22, 23, 24, 26, 27, 43, 45, 65, 66, 76, 79, 82, 121,
     // group_attr
     43, 45,
     // attr
@@ -6656,7 +6643,7 @@ static MORES: [u16; 564] = [
     // flat
     63,
     // types
-    1, 12, 28, 44, 47, 49, 51, 63, 91, 107, 124,
+    1, 12, 28, 44, 47, 49, 51, 63, 106, 123,
     // more_types
     44, 63,
     // called_type
@@ -6664,45 +6651,45 @@ static MORES: [u16; 564] = [
     // signature
     45,
     // argument_types
-    1, 12, 28, 44, 47, 49, 51, 55, 63, 91, 107, 124,
+    1, 12, 28, 44, 47, 49, 51, 55, 63, 106, 123,
     // more_argument_types
     44, 63,
     // type_or_dots
     44, 63,
     // tconsts
-    1, 12, 28, 44, 47, 49, 51, 91, 107, 124,
+    1, 12, 28, 44, 47, 49, 51, 106, 123,
     // more_tconsts
     44,
     // in_range
-    94,
+    93,
     // inst
-    4, 6, 21, 22, 23, 24, 26, 27, 43, 44, 45, 63, 65, 66, 76, 79, 82, 122,
+    4, 6, 21, 22, 23, 24, 26, 27, 43, 44, 45, 63, 65, 66, 76, 79, 82, 121,
     // simple
-    4, 6, 21, 22, 23, 24, 26, 27, 43, 45, 63, 65, 66, 76, 79, 82, 122,
+    4, 6, 21, 22, 23, 24, 26, 27, 43, 45, 63, 65, 66, 76, 79, 82, 121,
     // cases
-    1, 12, 28, 47, 49, 51, 91, 107, 124,
+    1, 12, 28, 47, 49, 51, 106, 123,
     // labels
-    44, 97,
+    44, 96,
     // more_labels
     44,
     // wraps
-    101, 103,
+    100, 102,
     // nsw
-    101,
+    100,
     // lost_wraps
-    101, 103,
+    100, 102,
     // lost_nsw
-    101,
+    100,
     // lost_nuw
-    103,
+    102,
     // lost_exact
     83,
     // lost_disjoint
     80,
     // lost_samesign
-    109,
+    108,
     // nneg
-    99,
+    98,
     // alloca_tail
     44,
     // alloca_part
@@ -6724,15 +6711,15 @@ static MORES: [u16; 564] = [
     // atomic_store
     44,
     // volatile
-    125,
+    124,
     // lost_weak
-    127,
+    126,
     // exchange
     44,
     // scope
-    116,
+    115,
     // gep_flags
-    41, 103,
+    41, 102,
     // more_indices
     44,
     // index_or_node
@@ -6756,9 +6743,9 @@ static MORES: [u16; 564] = [
     // tail
     42,
     // call
-    4, 6, 21, 22, 23, 24, 26, 27, 43, 45, 65, 66, 76, 79, 82, 122,
+    4, 6, 21, 22, 23, 24, 26, 27, 43, 45, 65, 66, 76, 79, 82, 121,
     // args
-    1, 12, 28, 44, 47, 49, 51, 91, 107, 124,
+    1, 12, 28, 44, 47, 49, 51, 106, 123,
     // more_args
     44,
     // attached
@@ -6770,7 +6757,7 @@ static MORES: [u16; 564] = [
     // more_mdrefs
     44,
     // mdops
-    1, 8, 9, 10, 12, 28, 44, 47, 49, 51, 53, 56, 57, 58, 59, 60, 61, 62, 91, 102, 107, 124,
+    1, 8, 9, 10, 12, 28, 44, 47, 49, 51, 53, 56, 57, 58, 59, 60, 61, 62, 101, 106, 123,
     // more_mdops
     44,
     // fields
@@ -6786,7 +6773,9 @@ static MORES: [u16; 564] = [
 ];
 
 /// The grammar.
-pub fn llvm() -> Grammar<'static> {
+pub fn llvm() -> Grammar<'static>
+    ensures { grammar_of result ≡ llvm }
+{
     Grammar {
         symbols: &SYMBOLS,
         alternatives: &ALTERNATIVES,

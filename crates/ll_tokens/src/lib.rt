@@ -1,14 +1,14 @@
 //! The bytes of LLVM text as tokens, each with its kind and its place.
 #![tactic(auto)]
 
-mod bytes;
+pub mod bytes;
 pub mod kinds;
 pub mod laws;
 mod names;
 mod numbers;
-mod piece;
-mod pieces;
-mod runs;
+pub mod piece;
+pub mod pieces;
+pub mod runs;
 mod strings;
 #[cfg(test)]
 mod tests;
