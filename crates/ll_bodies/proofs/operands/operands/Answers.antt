@@ -1,0 +1,29 @@
+-- What `operands::operands` owes besides what the check finds.
+use Rattle.std.proofs.Common.{◌≡◌, ◌+◌, suc, arith}
+use Rattle.std.proofs.lemmas.Option.{slice_get-get_or}
+use Rattle.llvm_core.specs.Data.{operand_of}
+use Rattle.ll_lines.specs.Lines.{Typed}
+use Rattle.ll_bodies.specs.Meaning.{operand}
+use Rattle.ll_bodies.specs.SourceViews.{typed_in, source_trees}
+use Rattle.ll_bodies.proofs.ListLaws.{done_more, done_all, done_refused}
+use Rattle.ll_bodies.proofs.operands.operands.Goals as goal
+
+pub loop-x-preserved : goal.loop-x-preserved
+loop-x-preserved c = λ s knows.
+    let source = c.args.source.now in
+    let at = c.loop-x.x-index in
+    let next : at + 1 ≡ suc at = omega arith in
+    let here = slice_get-get_or c.args.typed.now at _ c.loop-x-test.true in
+    rw c.in_ok-push-in-Some.ensures.ok (done_more (typed_in source) (λ (x : Typed). operand s x.type x.said) (operand_of (source_trees source)) c.args.typed.now at (at + 1) c.loop-x.values _ c.in-Some.value here next (c.in-Some.ensures s knows) (c.loop-x.invariant s knows))
+
+pub returns-in-None-clause-not_yet : goal.returns-in-None-clause-not_yet
+returns-in-None-clause-not_yet c = λ e s knows.
+    let source = c.args.source.now in
+    let at = c.loop-x.x-index in
+    let here = slice_get-get_or c.args.typed.now at _ c.loop-x-test.true in
+    done_refused (typed_in source) (λ (x : Typed). operand s x.type x.said) (operand_of (source_trees source)) c.args.typed.now at c.loop-x.values _ here (c.in-None.ensures s knows) (c.loop-x.invariant s knows)
+
+pub returns-clause-ok : goal.returns-clause-ok
+returns-clause-ok c = λ s knows.
+    let source = c.args.source.now in
+    done_all (typed_in source) (λ (x : Typed). operand s x.type x.said) (operand_of (source_trees source)) c.args.typed.now c.loop-x.x-index c.loop-x.values c.loop-x-test.false (c.loop-x.invariant s knows)

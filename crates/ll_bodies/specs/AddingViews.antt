@@ -1,0 +1,60 @@
+-- What clauses see of a module that a function is added to.
+use Rattle.std.specs.Prelude.{◌≡◌, ◌+◌, ℕ, List, [], ◌∷◌, ◌++◌, length, map, slice_get, Some}
+use Rattle.llvm_core.specs.declared.numbers.LLVMFunction.{LLVMFunction}
+use Rattle.llvm_core.specs.declared.types.LLVMTypeKind.{LLVMTypeKind}
+use Rattle.llvm_core.specs.declared.code.FunctionData.{FunctionData}
+use Rattle.llvm_core.specs.Module.{Module}
+use Rattle.llvm_core.specs.Data.{ModuleData, data_of, with_param}
+use Rattle.ll_lines.specs.declared.lines.Param.{Param}
+use Rattle.std.specs.Prelude.{false}
+use Rattle.kinds.specs.Types.{FunctionType}
+use Rattle.llvm_core.specs.Data as L
+use Rattle.llvm_core.specs.Data.{Trees, Block}
+use Rattle.ll_lines.specs.declared.lines.Function as code
+use Rattle.ll_lines.specs.Lines as said
+use Rattle.ll_lines.specs.Lines.{Text}
+use Rattle.ll_lines.specs.Views.{text_of, function_view}
+use Rattle.ll_bodies.specs.Meaning.{types_of, function_data}
+use Rattle.ll_bodies.specs.Scopes.{global_name}
+use Rattle.llvm_core.specs.Bodies.{with_blocks}
+use Rattle.llvm_core.specs.Data.{trees_of}
+use Rattle.ll_bodies.specs.Scopes.{local_key, written_name}
+use Rattle.std.specs.Option.{option_map}
+
+-- only types are added
+pub record AddsTypes (old new : Module) : Type 0 where
+  pub more : List LLVMTypeKind
+  pub types : new.types ≡ old.types ++ more
+  pub rest : new ≡ record old { types = new.types }
+  pub same : data_of new ≡ data_of old
+
+-- the names of parameters, empty where none is written
+abbrev pub names_in : List ℕ → List Param → List (List ℕ)
+names_in bytes ps = map (λ (p : Param). written_name local_key (option_map (text_of bytes) p.name)) ps
+
+-- the function of the number f has these names of parameters, from a place on
+abbrev pub with_params : ModuleData → (f place : ℕ) → List (List ℕ) → ModuleData
+with_params d f i [] = d
+with_params d f i (name ∷ names) = with_params (with_param d f i name) f (i + 1) names
+
+-- only names of parameters of the function f are others
+pub record Renames (f : LLVMFunction) (old new : Module) : Type 0 where
+  pub rest : new ≡ record old { functions = new.functions }
+  pub function : (x : FunctionData) → slice_get old.functions f.0 ≡ Some x → (y : FunctionData) × (slice_get new.functions f.0 ≡ Some y) × (y.ty ≡ x.ty) × (length y.params ≡ length x.params)
+
+-- the function that is said, with the number f, that name and those blocks
+abbrev pub function_with : (bytes : List ℕ) → Trees → (f : ℕ) → Text → code.Function → List Block → L.Function
+function_with bytes t f name x blocks = record {
+  number = f;
+  name = name;
+  type = FunctionType (function_view bytes t x).result (types_of (function_view bytes t x).params) false;
+  space = 0;
+  params = map (λ (p : said.Param). written_name local_key p.name) (function_view bytes t x).params;
+  blocks = blocks;
+}
+
+-- the function f gets the blocks that are said of it
+pub record GivesBody (bytes : List ℕ) (f : ℕ) (x : code.Function) (old new : Module) : Type 0 where
+  pub blocks : List Block
+  pub is : function_data f (length old.blocks) (length old.insts) (function_view bytes (trees_of old) x) ≡ option_map (λ name. function_with bytes (trees_of old) f name x blocks) (global_name (text_of bytes x.name))
+  pub given : data_of new ≡ with_blocks (data_of old) f blocks

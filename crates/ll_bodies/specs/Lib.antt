@@ -1,0 +1,10 @@
+-- The definitions of the crate.
+pub mod Scopes
+pub mod Meaning
+pub mod BlockViews
+pub mod ScopeViews
+pub mod SourceViews
+pub mod BodyViews
+pub mod TypedViews
+pub mod FunctionViews
+pub mod AddingViews

@@ -1,0 +1,57 @@
+-- What clauses see of a scope of the program.
+use Rattle.std.specs.Prelude.{◌≡◌, ◌≤◌, ◌⊎◌, ℕ, List, Option, Some, None}
+use Rattle.std.specs.Option.{option_map}
+use Rattle.std.specs.HashMap.{get}
+use Rattle.llvm_core.specs.Data as L
+use Rattle.llvm_core.specs.Data.{TypeTree, type_at}
+use Rattle.ll_tree.specs.Text.{number_limit}
+use Rattle.ll_bodies.specs.Scopes as spec
+use Rattle.ll_bodies.specs.declared.scope.Key.{Key}
+use Rattle.ll_bodies.specs.declared.scope.Key.TheVariants.{Named, Numbered}
+use Rattle.ll_bodies.specs.declared.scope.Local.{Local}
+use Rattle.ll_bodies.specs.declared.scope.Local.TheVariants.{Param, Result, Block}
+use Rattle.ll_bodies.specs.declared.scope.Scope.{Scope}
+use Rattle.ll_bodies.specs.contracts.scope.KeyPartialEq.TheImpl as keys
+
+abbrev pub key_view : Key → spec.Key
+key_view (Named name) = spec.Named name.now
+key_view (Numbered n) = spec.Numbered n
+
+abbrev pub option_key : Option Key → Option spec.Key
+option_key None = None
+option_key (Some k) = Some (key_view k)
+
+-- over the trees of the types
+abbrev pub local_view : List TypeTree → Local → spec.Local
+local_view types (Param f place ty) = spec.ValueLocal (L.Parameter f.0 place) (type_at types ty)
+local_view types (Result i ty) = spec.ValueLocal (L.Result i.0) (type_at types ty)
+local_view types (Block b) = spec.BlockLocal b.0
+
+-- what a key stands for
+abbrev pub local_at : Scope → Key → Option Local
+local_at s k = get keys.eq-value.it s.known k
+
+-- the scope of the program is that of the definitions: the counters are equal, and each key stands for the same;
+-- under a number that nothing can have stands nothing
+pub record Knows (types : List TypeTree) (code : Scope) (s : spec.Scope) : Type 0 where
+  pub next : s.next ≡ code.next
+  pub known : (k : Key) → s.known (key_view k) ≡ option_map (local_view types) (local_at code k)
+  pub limited : (n : ℕ) → number_limit ≤ n → local_at code (Numbered n) ≡ None
+
+-- what the scope of the program becomes is what the step makes of that of the definitions
+abbrev pub Takes : List TypeTree → Scope → Scope → (spec.Scope → Option spec.Scope) → Type 0
+Takes types old new step = (s : spec.Scope) → Knows types old s → (t : spec.Scope) × (step s ≡ Some t) × Knows types new t
+
+-- the step makes nothing of the scope of the definitions
+abbrev pub Refuses : {A : Type 0} → List TypeTree → Scope → (spec.Scope → Option A) → Type 0
+Refuses types old step = (s : spec.Scope) → Knows types old s → step s ≡ None
+
+-- each key that stands for something now stood for it before, or Q holds of that
+pub record Adds (Q : Local → Type 0) (old new : Scope) : Type 0 where
+  pub at : (k : Key) (y : Local) → local_at new k ≡ Some y → Q y ⊎ (local_at old k ≡ Some y)
+
+-- no key, or a number that nothing can have
+abbrev pub IsNoKey : Option spec.Key → Type 0
+IsNoKey None = Unit {0}
+IsNoKey (Some (spec.Named name)) = ⊥
+IsNoKey (Some (spec.Numbered n)) = number_limit ≤ n

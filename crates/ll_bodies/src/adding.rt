@@ -1,0 +1,158 @@
+//! Functions of lines are added to a module.
+
+ghost use Rattle.std.specs.Prelude.{◌≡◌, false, None, Some, Err, IfOk, OnOk, [], map, length, slice_get};
+ghost use Rattle.std.specs.Prelude.{◌≤◌};
+ghost use Rattle.llvm_core.specs.Parts.{IsTypeOver};
+ghost use Rattle.llvm_core.specs.Code.{param_names};
+ghost use Rattle.llvm_core.specs.Data.{data_of, trees_of, with_function};
+ghost use Rattle.llvm_core.specs.Sound.{IsModule};
+ghost use Rattle.llvm_core.specs.declared.types.LLVMTypeKind.TheVariants as kinds;
+ghost use Rattle.ll_lines.specs.Views.{IsFunctionIn, function_view};
+ghost use Rattle.ll_bodies.specs.Meaning.{function_data};
+ghost use Rattle.ll_bodies.specs.AddingViews.{AddsTypes, Renames, names_in, with_params, function_with, GivesBody};
+ghost use Rattle.ll_bodies.specs.FunctionViews.{IsNext};
+
+use crate::build_err::BuildErr;
+use crate::definitions::next_number;
+use crate::functions::body_of;
+use crate::names::local_name;
+use crate::results::Source;
+use ll_lines::lines::{Function, Param};
+use llvm_core::module::LLVMModule;
+use llvm_core::numbers::{LLVMFunction, LLVMType};
+use llvm_core::types::LLVMTypeKind;
+use std::alloc::{AllocError, Global};
+use support::items::Items;
+
+/// The types that a function needs beside those that it says.
+struct Needed {
+    bit: LLVMType,
+    void: LLVMType,
+    function: LLVMType,
+}
+
+/// The types of parameters.
+fn param_types(alloc: Global, params: &[Param]) -> Result<Items<LLVMType>, AllocError>
+    ensures { IfOk result (λ types. types ≡ map (λ (p : Param). p.ty) params.now) }
+{
+    let mut types = Items::new(alloc);
+    for param in params {
+        types.push(param.ty)?;
+    }
+    Ok(types)
+}
+
+/// The number of a type, new or old.
+fn type_number(module: &mut LLVMModule, kind: LLVMTypeKind) -> Result<LLVMType, AllocError>
+    requires { IsTypeOver (length module.old.types) kind }
+    ensures grows { OnOk result (AddsTypes module.old module.new) }
+    ensures here { IfOk result (λ t. slice_get module.new.types t.0 ≡ Some kind) }
+    ensures sound { IsModule module.new }
+{
+    module.type_get(kind)
+}
+
+/// The types that a function needs.
+fn needed_types(
+    alloc: Global,
+    module: &mut LLVMModule,
+    said: &Function,
+) -> Result<Needed, AllocError>
+    requires { IsFunctionIn module.old said.now }
+    ensures grows { OnOk result (AddsTypes module.old module.new) }
+    ensures bit { IfOk result (λ t. slice_get module.new.types t.bit.0 ≡ Some (kinds.Int 1)) }
+    ensures void { IfOk result (λ t. slice_get module.new.types t.void.0 ≡ Some kinds.Void) }
+    ensures function { IfOk result (λ t. slice_get module.new.types t.function.0 ≡ Some (kinds.Function said.now.result (map (λ (p : Param). p.ty) said.now.params.items) false)) }
+    ensures sound { OnOk result (IsModule module.new) }
+{
+    let params = param_types(alloc, said.params.as_slice())?;
+    let function = type_number(
+        module,
+        LLVMTypeKind::Function {
+            result: said.result,
+            params,
+            variadic: false,
+        },
+    )?;
+    let bit = type_number(module, LLVMTypeKind::Int(1))?;
+    let void = type_number(module, LLVMTypeKind::Void)?;
+    Ok(Needed {
+        bit,
+        void,
+        function,
+    })
+}
+
+/// Names the parameters of a function.
+fn name_params(
+    module: &mut LLVMModule,
+    bytes: &[u8],
+    f: LLVMFunction,
+    params: &[Param],
+) -> Result<(), BuildErr>
+    requires { length params.now ≡ length (param_names module.old.functions f) }
+    ensures data { OnOk result (data_of module.new ≡ with_params (data_of module.old) f.0 0 (names_in bytes.now params.now)) }
+    ensures renames { OnOk result (Renames f module.old module.new) }
+    ensures not_yet { ¬ (result ≡ Err BuildErr.NotYet) }
+    ensures sound { OnOk result (IsModule module.old → IsModule module.new) }
+{
+    let mut place = 0;
+    for param in params {
+        module.set_param_name(f, place, local_name(bytes, param.name))?;
+        place = next_number(place)?;
+    }
+    Ok(())
+}
+
+/// Adds a function without blocks, whose parameters have their names.
+fn declare(
+    module: &mut LLVMModule,
+    bytes: &[u8],
+    name: &str,
+    ty: LLVMType,
+    said: &Function,
+) -> Result<LLVMFunction, BuildErr>
+    requires sound { IsModule module.old }
+    requires ty { slice_get module.old.types ty.0 ≡ Some (kinds.Function said.now.result (map (λ (p : Param). p.ty) said.now.params.items) false) }
+    ensures number { IfOk result (λ f. f.0 ≡ length module.old.functions) }
+    ensures data { OnOk result (data_of module.new ≡ with_function (data_of module.old) (function_with bytes.now (trees_of module.old) (length module.old.functions) name.now said.now [])) }
+    ensures next { IfOk result (λ f. IsNext module.new f (length module.old.blocks) (length module.old.insts) said.now) }
+    ensures rest { OnOk result (module.new ≡ record module.old { functions = module.new.functions }) }
+    ensures sound { OnOk result (IsModule module.new) }
+    ensures not_yet { ¬ (result ≡ Err BuildErr.NotYet) }
+{
+    let f = module.add_function(name, ty, 0)?;
+    name_params(module, bytes, f, said.params.as_slice())?;
+    Ok(f)
+}
+
+/// Gives a function that has none the blocks that are said of it.
+fn give_body(
+    alloc: Global,
+    module: &mut LLVMModule,
+    bytes: &[u8],
+    f: LLVMFunction,
+    types: &Needed,
+    said: &Function,
+) -> Result<(), BuildErr>
+    requires sound { IsModule module.old }
+    requires said { IsFunctionIn module.old said.now }
+    requires next { IsNext module.old f (length module.old.blocks) (length module.old.insts) said.now }
+    requires bit { slice_get module.old.types types.now.bit.0 ≡ Some (kinds.Int 1) }
+    requires void { slice_get module.old.types types.now.void.0 ≡ Some kinds.Void }
+    ensures ok { OnOk result (GivesBody bytes.now f.0 said.now module.old module.new) }
+    ensures not_yet { result ≡ Err BuildErr.NotYet → function_data f.0 (length module.old.blocks) (length module.old.insts) (function_view bytes.now (trees_of module.old) said.now) ≡ None }
+    ensures sound { OnOk result (IsModule module.new) }
+{
+    let first_block = module.block_count();
+    let first = module.inst_count();
+    let source = Source {
+        bytes,
+        module: &*module,
+        bit: types.bit,
+        void: types.void,
+    };
+    let body = body_of(alloc, &source, f, first_block, first, said)?;
+    module.add_body(f, body)?;
+    Ok(())
+}

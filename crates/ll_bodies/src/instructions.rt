@@ -1,0 +1,119 @@
+//! Instructions of lines to instructions of a module.
+
+ghost use Rattle.std.specs.Prelude.{◌≡◌, None, Some, Err, IfOk, IfSome, OnOk, All, map};
+ghost use Rattle.std.specs.Option.{option_map};
+ghost use Rattle.llvm_core.specs.Data.{type_at, entry_of, instruction_of};
+ghost use Rattle.ll_lines.specs.Views.{IsTypeIn, IsSaidIn, IsInstIn};
+ghost use Rattle.ll_bodies.specs.Scopes as spec;
+ghost use Rattle.ll_bodies.specs.Meaning as meaning;
+ghost use Rattle.ll_bodies.specs.Meaning.{all_of};
+ghost use Rattle.ll_bodies.specs.ScopeViews.{Knows, Refuses};
+ghost use Rattle.ll_bodies.specs.SourceViews.{IsSource, IsRowIn, source_trees, types_in, entry_in, inst_in, row_in, IsScopeIn};
+ghost use Rattle.ll_bodies.specs.TypedViews.{IsTypedInst};
+ghost use Rattle.kinds.specs.Types.{TypeTree, VoidType};
+ghost use Rattle.std.specs.Option.{option_map_or};
+
+use crate::build_err::BuildErr;
+use crate::operands::{block, operand, operands, targets};
+use crate::results::{Source, row_fits};
+use crate::scope::Scope;
+use ll_lines::lines::{Incoming, Inst, RowLine};
+use llvm_core::code::{LLVMInst, PhiEntry, Row};
+use llvm_core::numbers::LLVMType;
+use std::alloc::Global;
+use support::items::Items;
+
+/// An entry of a phi of a type.
+fn entry(source: &Source<'_>, scope: &Scope<'_>, ty: LLVMType, said: &Incoming) -> Option<PhiEntry>
+    requires source { IsSource source.now }
+    requires scope { IsScopeIn source.now.module.now scope.now }
+    requires ty { IsTypeIn source.now.module.now ty }
+    requires said { IsSaidIn source.now.module.now said.now.said }
+    ensures { (s : spec.Scope) → Knows (types_in source.now) scope.now s → meaning.entry s (type_at (types_in source.now) ty) (entry_in source.now said.now) ≡ option_map (entry_of (source_trees source.now)) result }
+{
+    match operand(source, scope, ty, said.said) {
+        Some(value) => match block(source, scope, said.block) {
+            Some(found) => Some(PhiEntry {
+                value,
+                block: found,
+            }),
+            None => None,
+        },
+        None => None,
+    }
+}
+
+/// The entries of a phi of a type.
+fn entries(
+    alloc: Global,
+    source: &Source<'_>,
+    scope: &Scope<'_>,
+    ty: LLVMType,
+    said: &[Incoming],
+) -> Result<Items<PhiEntry>, BuildErr>
+    requires source { IsSource source.now }
+    requires scope { IsScopeIn source.now.module.now scope.now }
+    requires ty { IsTypeIn source.now.module.now ty }
+    requires said { All (λ e. IsSaidIn source.now.module.now e.said) said.now }
+    ensures ok { IfOk result (λ es. (s : spec.Scope) → Knows (types_in source.now) scope.now s → all_of (meaning.entry s (type_at (types_in source.now) ty)) (map (entry_in source.now) said.now) ≡ Some (map (entry_of (source_trees source.now)) es)) }
+    ensures not_yet { result ≡ Err BuildErr.NotYet → Refuses (types_in source.now) scope.now (λ s. all_of (meaning.entry s (type_at (types_in source.now) ty)) (map (entry_in source.now) said.now)) }
+{
+    let mut made = Items::new(alloc);
+    for x in said {
+        match entry(source, scope, ty, x) {
+            Some(found) => made.push(found)?,
+            None => return Err(BuildErr::NotYet),
+        }
+    }
+    Ok(made)
+}
+
+/// A row whose operands fit it.
+fn row(
+    alloc: Global,
+    source: &Source<'_>,
+    scope: &Scope<'_>,
+    said: &RowLine,
+) -> Result<LLVMInst, BuildErr>
+    requires source { IsSource source.now }
+    requires scope { IsScopeIn source.now.module.now scope.now }
+    requires said { IsRowIn source.now.module.now said.now }
+    ensures ok { IfOk result (λ i. (s : spec.Scope) → Knows (types_in source.now) scope.now s → meaning.instruction s (row_in source.now said.now) ≡ Some (instruction_of (source_trees source.now) i)) }
+    ensures typed { IfOk result (λ i. (ty : LLVMType) → IsTypedInst source.now.module.now ty i) }
+    ensures not_yet { result ≡ Err BuildErr.NotYet → Refuses (types_in source.now) scope.now (λ s. meaning.instruction s (row_in source.now said.now)) }
+{
+    let named = operands(alloc, source, scope, said.operands.as_slice())?;
+    let blocks = targets(alloc, source, scope, said.targets.as_slice())?;
+    if !row_fits(source.module, said) {
+        return Err(BuildErr::NotYet);
+    }
+    Ok(LLVMInst::Row(Row {
+        op: said.op,
+        written: said.written,
+        operands: named,
+        targets: blocks,
+    }))
+}
+
+/// An instruction.
+pub fn instruction(
+    alloc: Global,
+    source: &Source<'_>,
+    scope: &Scope<'_>,
+    inst: &Inst,
+) -> Result<LLVMInst, BuildErr>
+    requires source { IsSource source.now }
+    requires scope { IsScopeIn source.now.module.now scope.now }
+    requires inst { IsInstIn source.now.module.now inst.now }
+    ensures ok { IfOk result (λ i. (s : spec.Scope) → Knows (types_in source.now) scope.now s → meaning.instruction s (inst_in source.now inst.now) ≡ Some (instruction_of (source_trees source.now) i)) }
+    ensures typed { IfOk result (λ i. (ty : LLVMType) → type_at (types_in source.now) ty ≡ option_map_or (λ (τ : TypeTree). τ) (meaning.result_type (inst_in source.now inst.now)) VoidType → IsTypedInst source.now.module.now ty i) }
+    ensures not_yet { result ≡ Err BuildErr.NotYet → Refuses (types_in source.now) scope.now (λ s. meaning.instruction s (inst_in source.now inst.now)) }
+{
+    match inst {
+        Inst::Phi(ty, said) => {
+            let made = entries(alloc, source, scope, *ty, said.as_slice())?;
+            Ok(LLVMInst::Phi(*ty, made))
+        }
+        Inst::Row(said) => row(alloc, source, scope, said),
+    }
+}

@@ -1,0 +1,145 @@
+//! The second pass: what lines name, in the scope of their whole function.
+
+ghost use Rattle.std.specs.Prelude.{◌≡◌, ◌<◌, nat_eq, if◌then◌else◌, None, Some, Err, IfOk, IfSome, All, map, length};
+ghost use Rattle.std.specs.Option.{option_map};
+ghost use Rattle.kinds.specs.Types.{same_tree};
+ghost use Rattle.llvm_core.specs.Module.{Module};
+ghost use Rattle.llvm_core.specs.Sound.{IsModule};
+ghost use Rattle.llvm_core.specs.Data.{type_at, const_at, const_type, trees_of, operand_of};
+ghost use Rattle.llvm_core.specs.Data as trees;
+ghost use Rattle.ll_lines.specs.Lines as said;
+ghost use Rattle.ll_lines.specs.Views.{text_of, IsTypeIn, IsSaidIn, IsTypedIn};
+ghost use Rattle.ll_bodies.specs.Scopes as spec;
+ghost use Rattle.ll_bodies.specs.Scopes.{value_of_type, block_of};
+ghost use Rattle.ll_bodies.specs.Meaning as meaning;
+ghost use Rattle.ll_bodies.specs.Meaning.{all_of};
+ghost use Rattle.ll_bodies.specs.ScopeViews.{local_view, Knows, Refuses};
+ghost use Rattle.ll_bodies.specs.SourceViews.{IsSource, source_trees, types_in, said_in, typed_in, IsLocalIn, IsScopeIn};
+
+use crate::build_err::BuildErr;
+use crate::names::local_key;
+use crate::results::Source;
+use crate::scope::{Local, Scope};
+use ll_lines::lines::{Said, Typed};
+use ll_lines::names::Name;
+use llvm_core::code::LLVMValue;
+use llvm_core::numbers::{LLVMBasicBlock, LLVMConst, LLVMType};
+use std::alloc::Global;
+use support::short_list::ShortList;
+
+/// The value, where the type is its own.
+fn of_type(value: LLVMValue, own: LLVMType, ty: LLVMType) -> Option<LLVMValue>
+    ensures { result ≡ (if nat_eq own.0 ty.0 then Some value else None) }
+{
+    (own == ty).then_some(value)
+}
+
+/// What is defined, where it is a value of that type.
+fn value_of(local: Local, ty: LLVMType) -> Option<LLVMValue>
+    ensures { (m : Module) → IsModule m → IsLocalIn m local → IsTypeIn m ty → value_of_type (type_at (trees_of m).types ty) (Some (local_view (trees_of m).types local)) ≡ option_map (operand_of (trees_of m)) result }
+{
+    match local {
+        Local::Param(f, place, own) => of_type(LLVMValue::Param(f, place), own, ty),
+        Local::Result(i, own) => of_type(LLVMValue::Inst(i), own, ty),
+        Local::Block(_) => None,
+    }
+}
+
+/// What a key stands for, where it is a value of that type.
+fn local_value(local: Option<Local>, ty: LLVMType) -> Option<LLVMValue>
+    ensures { (m : Module) → IsModule m → IfSome local (IsLocalIn m) → IsTypeIn m ty → value_of_type (type_at (trees_of m).types ty) (option_map (local_view (trees_of m).types) local) ≡ option_map (operand_of (trees_of m)) result }
+{
+    match local {
+        Some(local) => value_of(local, ty),
+        None => None,
+    }
+}
+
+/// A constant, where it has that type.
+fn constant(source: &Source<'_>, ty: LLVMType, c: LLVMConst) -> Option<LLVMValue>
+    requires source { IsSource source.now }
+    requires ty { IsTypeIn source.now.module.now ty }
+    requires constant { c.0 < length source.now.module.now.consts }
+    ensures { (if same_tree (const_type (const_at (source_trees source.now).consts c)) (type_at (types_in source.now) ty) then Some (trees.Constant (const_at (source_trees source.now).consts c)) else None) ≡ option_map (operand_of (source_trees source.now)) result }
+{
+    let value = LLVMValue::Const(c);
+    of_type(value, source.module.type_of(value), ty)
+}
+
+/// What is said as an operand of a type.
+pub fn operand(
+    source: &Source<'_>,
+    scope: &Scope<'_>,
+    ty: LLVMType,
+    said: Said,
+) -> Option<LLVMValue>
+    requires source { IsSource source.now }
+    requires scope { IsScopeIn source.now.module.now scope.now }
+    requires ty { IsTypeIn source.now.module.now ty }
+    requires said { IsSaidIn source.now.module.now said }
+    ensures { (s : spec.Scope) → Knows (types_in source.now) scope.now s → meaning.operand s (type_at (types_in source.now) ty) (said_in source.now said) ≡ option_map (operand_of (source_trees source.now)) result }
+{
+    match said {
+        Said::Const(c) => constant(source, ty, c),
+        Said::Local(name) => match local_key(name.text(source.bytes)) {
+            Some(key) => local_value(scope.get(key), ty),
+            None => None,
+        },
+    }
+}
+
+/// The block that a name says.
+pub fn block(source: &Source<'_>, scope: &Scope<'_>, name: Name) -> Option<LLVMBasicBlock>
+    ensures { (s : spec.Scope) → Knows (types_in source.now) scope.now s → block_of s (text_of source.now.bytes.now name) ≡ option_map (λ (b : LLVMBasicBlock). b.0) result }
+{
+    match local_key(name.text(source.bytes)) {
+        Some(key) => match scope.get(key) {
+            Some(Local::Block(b)) => Some(b),
+            _ => None,
+        },
+        None => None,
+    }
+}
+
+/// The operands of a row.
+pub fn operands(
+    alloc: Global,
+    source: &Source<'_>,
+    scope: &Scope<'_>,
+    typed: &[Typed],
+) -> Result<ShortList<LLVMValue>, BuildErr>
+    requires source { IsSource source.now }
+    requires scope { IsScopeIn source.now.module.now scope.now }
+    requires typed { All (IsTypedIn source.now.module.now) typed.now }
+    ensures ok { IfOk result (λ vs. (s : spec.Scope) → Knows (types_in source.now) scope.now s → all_of (λ (x : said.Typed). meaning.operand s x.type x.said) (map (typed_in source.now) typed.now) ≡ Some (map (operand_of (source_trees source.now)) vs)) }
+    ensures not_yet { result ≡ Err BuildErr.NotYet → Refuses (types_in source.now) scope.now (λ s. all_of (λ (x : said.Typed). meaning.operand s x.type x.said) (map (typed_in source.now) typed.now)) }
+{
+    let mut values = ShortList::zero();
+    for x in typed {
+        match operand(source, scope, x.ty, x.said) {
+            Some(value) => values.push(alloc, value)?,
+            None => return Err(BuildErr::NotYet),
+        }
+    }
+    Ok(values)
+}
+
+/// The blocks that a row leads to.
+pub fn targets(
+    alloc: Global,
+    source: &Source<'_>,
+    scope: &Scope<'_>,
+    names: &[Name],
+) -> Result<ShortList<LLVMBasicBlock>, BuildErr>
+    ensures ok { IfOk result (λ bs. (s : spec.Scope) → Knows (types_in source.now) scope.now s → all_of (block_of s) (map (text_of source.now.bytes.now) names.now) ≡ Some (map (λ (b : LLVMBasicBlock). b.0) bs)) }
+    ensures not_yet { result ≡ Err BuildErr.NotYet → Refuses (types_in source.now) scope.now (λ s. all_of (block_of s) (map (text_of source.now.bytes.now) names.now)) }
+{
+    let mut blocks = ShortList::zero();
+    for name in names {
+        match block(source, scope, *name) {
+            Some(found) => blocks.push(alloc, found)?,
+            None => return Err(BuildErr::NotYet),
+        }
+    }
+    Ok(blocks)
+}

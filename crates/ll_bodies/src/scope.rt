@@ -1,0 +1,102 @@
+//! What the names and numbers of a function stand for.
+
+ghost use Rattle.std.specs.Prelude.{◌≡◌, List, None, Some, Err, OnOk};
+ghost use Rattle.llvm_core.specs.Data.{TypeTree};
+ghost use Rattle.ll_bodies.specs.Scopes as spec;
+ghost use Rattle.ll_bodies.specs.Scopes.{empty_scope, counted, define};
+ghost use Rattle.ll_bodies.specs.ScopeViews.{option_key, local_view, local_at, Knows, Takes, Refuses, Adds};
+
+use crate::build_err::BuildErr;
+use llvm_core::numbers::{LLVMBasicBlock, LLVMFunction, LLVMInstRef, LLVMType};
+use std::alloc::Global;
+use std::collections::HashMap;
+
+/// A name or a number of a function's scope.
+#[derive(Clone, Copy, PartialEq, Eq, Hash, Drop)]
+pub enum Key<'a> {
+    Named(&'a str),
+    Numbered(u32),
+}
+
+/// What a key stands for: a value with its type, or a block.
+#[derive(Clone, Copy, Drop)]
+pub enum Local {
+    /// The parameter of a function at a place.
+    Param(LLVMFunction, u32, LLVMType),
+    Result(LLVMInstRef, LLVMType),
+    Block(LLVMBasicBlock),
+}
+
+/// What is defined so far in a function, and the counter of what has no name.
+#[derive(Drop)]
+pub struct Scope<'a> {
+    next: u32,
+    known: HashMap<Key<'a>, Local>,
+}
+
+impl<'a> Scope<'a> {
+    /// A scope in which nothing is defined.
+    pub fn new(alloc: Global) -> Scope<'a>
+        ensures knows { (types : List TypeTree) → Knows types result empty_scope }
+        ensures none { (k : _) → local_at result k ≡ None }
+    {
+        Scope {
+            next: 0,
+            known: HashMap::new(alloc),
+        }
+    }
+
+    /// What a key stands for.
+    pub fn get(&self, key: Key<'a>) -> Option<Local>
+        ensures { result ≡ local_at self.now key.entry }
+    {
+        self.known.get(&key).copied()
+    }
+
+    /// Defines what takes a number, and counts on behind it.
+    fn count(&mut self, local: Local, number: u32) -> Result<(), BuildErr>
+        ensures ok { OnOk result ((types : List TypeTree) → Takes types self.old self.new (λ s. counted s (local_view types local) number)) }
+        ensures adds { OnOk result (Adds (λ (y : Local). y ≡ local) self.old self.new) }
+        ensures not_yet { result ≡ Err BuildErr.NotYet → (types : List TypeTree) → Refuses types self.old (λ s. counted s (local_view types local) number) }
+    {
+        if number == u32::MAX {
+            return Err(BuildErr::NotYet);
+        }
+        self.known.insert(Key::Numbered(number), local)?;
+        self.next = number + 1;
+        Ok(())
+    }
+
+    /// Defines a thing under a name, or under a number that is at least the counter.
+    fn define_under(&mut self, local: Local, key: Key<'a>) -> Result<(), BuildErr>
+        ensures ok { OnOk result ((types : List TypeTree) → Takes types self.old self.new (λ s. define s (local_view types local) (option_key (Some key.entry)))) }
+        ensures adds { OnOk result (Adds (λ (y : Local). y ≡ local) self.old self.new) }
+        ensures not_yet { result ≡ Err BuildErr.NotYet → (types : List TypeTree) → Refuses types self.old (λ s. define s (local_view types local) (option_key (Some key.entry))) }
+    {
+        match key {
+            Key::Numbered(number) => {
+                if number < self.next {
+                    return Err(BuildErr::NotYet);
+                }
+                self.count(local, number)
+            }
+            Key::Named(name) => {
+                self.known.insert(Key::Named(name), local)?;
+                Ok(())
+            }
+        }
+    }
+
+    /// Defines the next thing of the function, under what is written of its name. What has neither a name nor a number takes
+    /// the counter.
+    pub fn define(&mut self, local: Local, key: Option<Key<'a>>) -> Result<(), BuildErr>
+        ensures ok { OnOk result ((types : List TypeTree) → Takes types self.old self.new (λ s. define s (local_view types local) (option_key key.entry))) }
+        ensures adds { OnOk result (Adds (λ (y : Local). y ≡ local) self.old self.new) }
+        ensures not_yet { result ≡ Err BuildErr.NotYet → (types : List TypeTree) → Refuses types self.old (λ s. define s (local_view types local) (option_key key.entry)) }
+    {
+        match key {
+            None => self.count(local, self.next),
+            Some(key) => self.define_under(local, key),
+        }
+    }
+}

@@ -1,0 +1,61 @@
+-- What a text says, with names and numbers as they are written. A name is the text of its token.
+use Rattle.std.specs.Prelude.{ℕ, List, Option}
+use Rattle.kinds.specs.declared.op.Op.{Op}
+use Rattle.kinds.specs.Types.{TypeTree}
+use Rattle.llvm_core.specs.Data.{ConstTree}
+
+abbrev pub Text : Type 0
+Text = List ℕ
+
+-- a value: % and a name or a number, or a constant
+pub data Said : Type 0 where
+  Local : Text → Said
+  Const : ConstTree → Said
+
+-- a value with its type
+pub record Typed : Type 0 where
+  pub type : TypeTree
+  pub said : Said
+
+-- an instruction that is no phi, as a row of the table
+pub record RowLine : Type 0 where
+  pub op : Op
+  -- the type that is written beside the operands, as that of a cast
+  pub written : Option TypeTree
+  pub operands : List Typed
+  pub targets : List Text
+
+-- an entry of a phi: what it takes on an edge, and the block that the edge comes from
+pub record Incoming : Type 0 where
+  pub said : Said
+  pub block : Text
+
+pub data Inst : Type 0 where
+  Phi : (type : TypeTree) (entries : List Incoming) → Inst
+  Row : RowLine → Inst
+
+-- an instruction, and what is written of the name of its result
+pub record Line : Type 0 where
+  pub result : Option Text
+  pub inst : Inst
+
+-- a part of a body: a name or a number and a colon, or a line
+pub data Part : Type 0 where
+  Label : Text → Part
+  Does : Line → Part
+
+pub record Param : Type 0 where
+  pub type : TypeTree
+  pub name : Option Text
+
+pub record Function : Type 0 where
+  pub result : TypeTree
+  -- @ and a name
+  pub name : Text
+  pub params : List Param
+  pub body : List Part
+
+pub record File : Type 0 where
+  -- the name of the module, between quotes
+  pub source : Option Text
+  pub functions : List Function

@@ -1,0 +1,87 @@
+-- A line means the instruction that it says.
+use Rattle.std.proofs.Common.{◌≡◌, ℕ, List, [], ◌∷◌, map, slice_get, Option, Some, refl, ap, sym, ◌∙◌}
+use Rattle.std.specs.Option.{option_map_or}
+use Rattle.kinds.specs.Types.{TypeTree, VoidType, IntType, FunctionType}
+use Rattle.llvm_core.specs.Data.{Operand, RowData, Instruction, Phi, Applied, Placed, Function, operand_type, placed_in}
+use Rattle.llvm_core.specs.Form.{IsOperand, IsOperandOf, IsShortInt, IsTarget, types_of, IsFormRow, IsFormInstruction, IsFormPlaced}
+use Rattle.llvm_core.specs.Names.{IsPlainOrNone}
+use Rattle.llvm_core.proofs.DataLemmas.{within_at}
+use Rattle.std.proofs.lemmas.Option.{slice_get-map}
+use Rattle.std.specs.Option.{option_map}
+use Rattle.ll_tree.specs.Text.{Text}
+use Rattle.ll_tree.specs.Chain.{◌>>=◌}
+use Rattle.ll_lines.specs.Lines.{Typed}
+use Rattle.ll_bodies.specs.Scopes.{Key, key_name, local_key, written_name, block_of}
+use Rattle.ll_bodies.specs.Meaning.{all_of, operand, entry, instruction, placed, result_type}
+use Rattle.ll_said.specs.Naming.{Unnamed, ResultOf, block_ref, local_text}
+use Rattle.ll_said.specs.Said.{typed_of, entry_of, inst_of, gives_of, line_of}
+use Rattle.ll_said.specs.Sayable.{IsSayable}
+use Rattle.ll_said.proofs.AllLaws.{all_of-map}
+use Rattle.ll_said.proofs.EdgeLaws.{entry_block, target_block}
+use Rattle.ll_said.proofs.KnownLaws.{scope_of}
+use Rattle.ll_said.proofs.NameLaws.{key_in, local_says}
+use Rattle.ll_said.proofs.OperandLaws.{operand_said, block_said, entry_said, short_valued}
+use Rattle.ll_said.proofs.TypeLaws.{option_type, types_said, type_said}
+
+-- ---- instructions
+
+phi_said : (f : Function) → IsSayable f → (b : ℕ) (type : TypeTree) (es : List (Operand × ℕ)) → IsFormInstruction f b type (Phi es) → instruction (scope_of f) (inst_of f type (Phi es)) ≡ Some (Phi es)
+phi_said f h b type es form =
+    let entries = all_of-map (entry (scope_of f) type) (entry_of f) es (λ i e at. entry_said f h type e (within_at es (λ (e : Operand × ℕ). IsOperand f type e.0) form.0 i e at) (entry_block f b es i e form.1 at)) in
+    ap (λ (o : Option (List (Operand × ℕ))). o >>= λ (es : List (Operand × ℕ)). Some (Phi es)) entries
+
+row_said : (f : Function) → IsSayable f → (type : TypeTree) (r : RowData) → IsFormRow f type r → instruction (scope_of f) (inst_of f type (Applied r)) ≡ Some (Applied r)
+row_said f h type r form = rw (operands, targets, types_said f r.operands, form.fits) refl
+  where
+    short_at : (i : ℕ) (o : Operand) → slice_get r.operands i ≡ Some o → IsShortInt (operand_type f o)
+    short_at i o at = within_at (types_of f r.operands) IsShortInt form.short i (operand_type f o) (slice_get-map (operand_type f) r.operands i ∙ ap (option_map (operand_type f)) at)
+
+    operands : all_of (λ (x : Typed). operand (scope_of f) x.type x.said) (map (typed_of f) r.operands) ≡ Some r.operands
+    operands = all_of-map (λ (x : Typed). operand (scope_of f) x.type x.said) (typed_of f) r.operands (λ i o at. operand_said f h o (within_at r.operands (IsOperandOf f) form.operands i o at) (short_valued (operand_type f o) (short_at i o at)))
+
+    targets : all_of (block_of (scope_of f)) (map (block_ref f) r.targets) ≡ Some r.targets
+    targets = all_of-map (block_of (scope_of f)) (block_ref f) r.targets (λ i n at. block_said f h n (target_block f n (within_at r.targets (IsTarget f) form.targets i n at)))
+
+-- an instruction of the form
+pub instruction_said : (f : Function) → IsSayable f → (b : ℕ) (type : TypeTree) (i : Instruction) → IsFormInstruction f b type i → instruction (scope_of f) (inst_of f type i) ≡ Some i
+instruction_said f h b type (Phi es) form = phi_said f h b type es form
+instruction_said f h b type (Applied r) form = row_said f h type r form
+
+-- ---- results
+
+-- the name that is said of a thing is its name
+pub name_said : (f : Function) → IsSayable f → (n : Text) (x : Unnamed) (key : Text → Option Key) (t : Text) → key t ≡ Some (key_in f n x) → written_name key (Some t) ≡ n
+name_said f h [] x key t says = ap key_name says
+name_said f h (c ∷ cs) x key t says = ap key_name says
+
+gives_said : (f : Function) → IsSayable f → (type : TypeTree) (p : Placed) → IsPlainOrNone p.name → (type ≡ VoidType → p.name ≡ []) → written_name local_key (gives_of f type p) ≡ p.name
+gives_said f h VoidType p plain none = sym (none refl)
+gives_said f h (IntType w) p plain none = name_said f h p.name (ResultOf p.number) local_key (local_text f p.name (ResultOf p.number)) (local_says f p.name (ResultOf p.number) h.few plain)
+gives_said f h (FunctionType r ts v) p plain none = name_said f h p.name (ResultOf p.number) local_key (local_text f p.name (ResultOf p.number)) (local_says f p.name (ResultOf p.number) h.few plain)
+
+-- ---- lines
+
+-- an instruction of the function, in some block
+pub record IsLine (f : Function) (p : Placed) : Type 0 where
+  pub block : ℕ
+  pub form : IsFormPlaced f block p
+  pub place : ℕ
+  pub at : slice_get (placed_in f) place ≡ Some p
+
+same_placed : (p : Placed) (n : ℕ) (name : List ℕ) (type : TypeTree) → p.number ≡ n → name ≡ p.name → type ≡ p.type
+    → Some (let x : Placed = record { number = n; name = name; type = type; instruction = p.instruction } in x) ≡ Some p
+same_placed p n name type e g k = rw (← e, g, k) refl
+
+-- a line under its number
+pub line_said : (f : Function) → IsSayable f → (n : ℕ) (p : Placed) → IsLine f p → p.number ≡ n → placed (scope_of f) n (line_of f p) ≡ Some p
+line_said f h n p line numbered =
+    let typed : option_map_or (λ (τ : TypeTree). τ) (result_type (inst_of f p.type p.instruction)) VoidType ≡ p.type =
+    ap (λ (o : Option TypeTree). option_map_or (λ (τ : TypeTree). τ) o VoidType) (type_said f line.block p.type p.instruction line.form.instruction) ∙ option_type p.type in
+    let named = gives_said f h p.type p line.form.name line.form.unnamed in
+    ap (λ (o : Option Instruction). o >>= λ (i : Instruction). Some (let x : Placed = record {
+      number = n;
+      name = written_name local_key (gives_of f p.type p);
+      type = option_map_or (λ (τ : TypeTree). τ) (result_type (inst_of f p.type p.instruction)) VoidType;
+      instruction = i;
+    } in x)) (instruction_said f h line.block p.type p.instruction line.form.instruction)
+    ∙ same_placed p n _ _ numbered named typed

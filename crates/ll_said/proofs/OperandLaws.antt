@@ -1,0 +1,82 @@
+-- What is said of operands and blocks stands for them in the scope of the whole function.
+use Rattle.std.proofs.Common.{◌≡◌, ◌≢◌, ℕ, ◌+◌, ◌<◌, Bool, cond, [], get_or, length, slice_get, Some, refl, ap, sym, ◌∙◌, subst, eq-eqb, arith}
+use Rattle.std.specs.List.{flat_map}
+use Rattle.std.proofs.lemmas.Option.{slice_get-get_or}
+use Rattle.kinds.specs.Types.{TypeTree, VoidType}
+use Rattle.kinds.proofs.TypeLaws.{tree_self}
+use Rattle.llvm_core.specs.Names.{IsPlainOrNone}
+use Rattle.llvm_core.specs.Data.{Operand, Constant, Parameter, Result, Placed, Block, Function, operand_type, placed_in, param_type, const_type}
+use Rattle.llvm_core.specs.Form.{IsOperandOf, IsOperand, IsFormBlock, IsShortInt}
+use Rattle.llvm_core.proofs.DataLemmas.{within_at}
+use Rattle.ll_tree.specs.Text.{Text}
+use Rattle.ll_lines.specs.Lines.{Local}
+use Rattle.ll_bodies.specs.Scopes.{ValueLocal, BlockLocal, block_of}
+use Rattle.ll_bodies.specs.Meaning.{operand, entry}
+use Rattle.ll_said.specs.Naming.{Unnamed, ParamAt, BlockOf, ResultOf, local_text, block_ref}
+use Rattle.ll_said.specs.Said.{said_of, entry_of}
+use Rattle.ll_said.specs.Sayable.{IsSayable}
+use Rattle.ll_said.proofs.NameLaws.{key_in, local_says}
+use Rattle.ll_said.proofs.ScopeLaws.{Thing, Has}
+use Rattle.ll_said.proofs.ThingLaws.{HasBlockNumber, param_things, block_thing, block_things, has_front, has_behind, has_param, has_block, has_placed}
+use Rattle.ll_said.proofs.KnownLaws.{scope_of, placed_name, type_of_result, name_of_result, block_ref_is, known_key}
+
+-- ---- values
+
+local_value : (f : Function) → IsSayable f → (n : Text) (x : Unnamed) (o : Operand) (τ : TypeTree) → IsPlainOrNone n → (scope_of f).known (key_in f n x) ≡ Some (ValueLocal o τ)
+    → operand (scope_of f) τ (Local (local_text f n x)) ≡ Some o
+local_value f h n x o τ plain known = rw (local_says f n x h.few plain, known, tree_self τ) refl
+
+result_said : (f : Function) → IsSayable f → (i : ℕ) (p : Placed) → slice_get (placed_in f) i ≡ Some p → p.type ≢ VoidType
+    → operand (scope_of f) (operand_type f (Result p.number)) (said_of f (Result p.number)) ≡ Some (Result p.number)
+result_said f h i p at some =
+    let t : Thing = record { name = p.name; place = ResultOf p.number } in
+    let has = has_behind t (param_things 0 f.params) (flat_map block_things f.blocks) (has_placed f.blocks i p at some) in
+    ap (λ (n : Text). operand (scope_of f) (operand_type f (Result p.number)) (Local (local_text f n (ResultOf p.number)))) (name_of_result f h.form i p at)
+    ∙ local_value f h p.name (ResultOf p.number) (Result p.number) (operand_type f (Result p.number)) (placed_name f h.form i p at) (known_key f h t has)
+
+param_said : (f : Function) → IsSayable f → (i : ℕ) → i < length f.params → operand (scope_of f) (param_type f.type i) (said_of f (Parameter f.number i)) ≡ Some (Parameter f.number i)
+param_said f h i within =
+    let n = get_or f.params i [] in
+    let at : slice_get f.params i ≡ Some n = slice_get-get_or f.params i [] within in
+    let here : 0 + i ≡ i = omega arith in
+    let t : Thing = record { name = n; place = ParamAt i } in
+    let has = has_front t (param_things 0 f.params) (flat_map block_things f.blocks) (subst (λ (j : ℕ). Has (record { name = n; place = ParamAt j }) (param_things 0 f.params)) here (has_param 0 i f.params n at)) in
+    local_value f h n (ParamAt i) (Parameter f.number i) (param_type f.type i) (h.form.param_names i [] within) (known_key f h t has)
+
+-- an operand of the function
+pub operand_said : (f : Function) → IsSayable f → (o : Operand) → IsOperandOf f o → operand_type f o ≢ VoidType → operand (scope_of f) (operand_type f o) (said_of f o) ≡ Some o
+operand_said f h (Constant c) stands some = rw (tree_self (const_type c)) refl
+operand_said f h (Parameter g i) stands some =
+    let own : operand_type f (Parameter f.number i) ≡ param_type f.type i = ap (λ (b : Bool). cond b (param_type f.type i) VoidType) (eq-eqb f.number f.number refl) in
+    let said = ap (λ (τ : TypeTree). operand (scope_of f) τ (said_of f (Parameter f.number i))) own ∙ param_said f h i stands.1 in
+    subst (λ (k : ℕ). operand (scope_of f) (operand_type f (Parameter k i)) (said_of f (Parameter k i)) ≡ Some (Parameter k i)) (sym stands.0) said
+operand_said f h (Result n) stands some =
+    let p = stands.1 in
+    let valued : p.type ≢ VoidType = λ e. some (ap (λ (k : ℕ). operand_type f (Result k)) (sym stands.3) ∙ type_of_result f h.form stands.0 p stands.2 ∙ e) in
+    subst (λ (k : ℕ). operand (scope_of f) (operand_type f (Result k)) (said_of f (Result k)) ≡ Some (Result k)) stands.3 (result_said f h stands.0 p stands.2 valued)
+
+-- an integer type is not void
+pub short_valued : (τ : TypeTree) → IsShortInt τ → τ ≢ VoidType
+short_valued τ short e = rw e at short
+
+-- ---- blocks
+
+block_here : (f : Function) → IsSayable f → (i : ℕ) (b : Block) → slice_get f.blocks i ≡ Some b → block_of (scope_of f) (block_ref f b.number) ≡ Some b.number
+block_here f h i b at =
+    let plain = (within_at f.blocks (IsFormBlock f) h.form.blocks i b at).label in
+    let has = has_behind (block_thing b) (param_things 0 f.params) (flat_map block_things f.blocks) (has_block f.blocks i b at) in
+    ap (block_of (scope_of f)) (block_ref_is f h.form i b at) ∙ local_block b.name b.number plain (known_key f h (block_thing b) has)
+  where
+    local_block : (n : Text) (k : ℕ) → IsPlainOrNone n → (scope_of f).known (key_in f n (BlockOf k)) ≡ Some (BlockLocal k) → block_of (scope_of f) (local_text f n (BlockOf k)) ≡ Some k
+    local_block n k plain known = rw (local_says f n (BlockOf k) h.few plain, known) refl
+
+-- a block of the function
+pub block_said : (f : Function) → IsSayable f → (n : ℕ) → HasBlockNumber n f.blocks → block_of (scope_of f) (block_ref f n) ≡ Some n
+block_said f h n has = subst (λ (k : ℕ). block_of (scope_of f) (block_ref f k) ≡ Some k) has.3 (block_here f h has.0 has.1 has.2)
+
+-- an entry of a phi
+pub entry_said : (f : Function) → IsSayable f → (τ : TypeTree) (e : Operand × ℕ) → IsOperand f τ e.0 → HasBlockNumber e.1 f.blocks → entry (scope_of f) τ (entry_of f e) ≡ Some e
+entry_said f h τ e op has =
+    let valued : operand_type f e.0 ≢ VoidType = λ v. short_valued τ op.short (sym op.typed ∙ v) in
+    let value : operand (scope_of f) τ (said_of f e.0) ≡ Some e.0 = subst (λ (υ : TypeTree). operand (scope_of f) υ (said_of f e.0) ≡ Some e.0) op.typed (operand_said f h e.0 op.stands valued) in
+    rw (value, block_said f h e.1 has) refl

@@ -1,0 +1,89 @@
+-- What the text of module data says, a definition for each part.
+use Rattle.std.specs.Prelude.{ℕ, suc, List, [], ◌∷◌, ◌++◌, Option, Some, None, map, drop, slice_index_or}
+use Rattle.std.specs.List.{flat_map}
+use Rattle.llvm_core.specs.Data.{TypeTree, VoidType, Operand, Constant, Parameter, Result, RowData, Instruction, Phi, Applied, Placed, Block, Function, ModuleData, operand_type, param_type}
+use Rattle.llvm_core.specs.Form.{result_of}
+use Rattle.ll_tree.specs.Text.{global, label, quoted}
+use Rattle.ll_lines.specs.Lines as L
+use Rattle.ll_lines.specs.Lines.{Text, Said, Typed, RowLine, Incoming, Inst, Line, Part, Param, File}
+use Rattle.ll_said.specs.Naming.{ParamAt, ResultOf, local_text, result_name, block_ref}
+
+-- ---- instructions
+
+-- an operand, a line for each kind
+abbrev pub said_of : Function → Operand → Said
+said_of f (Constant c) = L.Const c
+said_of f (Parameter g i) = L.Local (local_text f (slice_index_or f.params i []) (ParamAt i))
+said_of f (Result n) = L.Local (local_text f (result_name f n) (ResultOf n))
+
+abbrev pub typed_of : Function → Operand → Typed
+typed_of f o = record { type = operand_type f o; said = said_of f o }
+
+abbrev pub entry_of : Function → Operand × ℕ → Incoming
+entry_of f e = record { said = said_of f e.0; block = block_ref f e.1 }
+
+abbrev pub row_of : Function → RowData → RowLine
+row_of f r = record {
+  op = r.op;
+  written = r.written;
+  operands = map (typed_of f) r.operands;
+  targets = map (block_ref f) r.targets;
+}
+
+-- an instruction whose result has that type
+abbrev pub inst_of : Function → TypeTree → Instruction → Inst
+inst_of f type (Phi entries) = L.Phi type (map (entry_of f) entries)
+inst_of f type (Applied r) = L.Row (row_of f r)
+
+-- the name or number of a result, where there is one
+abbrev pub gives_of : Function → TypeTree → Placed → Option Text
+gives_of f VoidType p = None
+gives_of f type p = Some (local_text f p.name (ResultOf p.number))
+
+abbrev pub line_of : Function → Placed → Line
+line_of f p = record { result = gives_of f p.type p; inst = inst_of f p.type p.instruction }
+
+-- ---- blocks
+
+abbrev pub lines_of : Function → Block → List Part
+lines_of f b = map (λ (p : Placed). L.Does (line_of f p)) b.instructions
+
+-- the name of a block, or the number of what has none
+abbrev pub label_of : Function → Block → Text
+label_of f b = label (drop 1 (block_ref f b.number))
+
+-- the label of the first block, which an unnamed one lacks
+abbrev pub entry_label : Function → Block → (name : Text) → List Part
+entry_label f b [] = []
+entry_label f b (c ∷ cs) = L.Label (label_of f b) ∷ []
+
+abbrev pub block_parts : Function → Block → List Part
+block_parts f b = L.Label (label_of f b) ∷ lines_of f b
+
+-- the parts of a body
+abbrev pub parts_of : Function → List Block → List Part
+parts_of f [] = []
+parts_of f (b ∷ bs) = entry_label f b b.name ++ (lines_of f b ++ flat_map (block_parts f) bs)
+
+-- ---- functions and modules
+
+-- the parameters from a place on
+abbrev pub params_of : Function → (place : ℕ) → List Text → List Param
+params_of f i [] = []
+params_of f i (n ∷ ns) = record { type = param_type f.type i; name = Some (local_text f n (ParamAt i)) } ∷ params_of f (suc i) ns
+
+abbrev pub function_of : Function → L.Function
+function_of f = record {
+  result = result_of f.type;
+  name = global f.name;
+  params = params_of f 0 f.params;
+  body = parts_of f f.blocks;
+}
+
+-- the name of the module between quotes, none for an empty name
+abbrev pub source_of : Text → Option Text
+source_of [] = None
+source_of (b ∷ bs) = Some (quoted (b ∷ bs))
+
+abbrev pub file_of : ModuleData → File
+file_of d = record { source = source_of d.name; functions = map function_of d.functions }

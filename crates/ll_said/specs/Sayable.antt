@@ -1,0 +1,56 @@
+-- Module data that a text says whole.
+use Rattle.std.specs.Prelude.{◌≡◌, ◌≤◌, ℕ, suc, true, List, [], ◌∷◌, length, map, All}
+use Rattle.std.specs.List.{flat_map}
+use Rattle.support.specs.Interned.{IsDistinctList}
+use Rattle.llvm_core.specs.Data.{Placed, Block, Function, ModuleData}
+use Rattle.llvm_core.specs.Data as L
+use Rattle.llvm_core.specs.Form.{IsFormFunction, local_names}
+use Rattle.ll_tree.specs.Text.{Text, is_bare, number_limit}
+use Rattle.ll_said.specs.Naming.{unnamed_in}
+
+-- the numbers of unnamed things lie below the limit
+abbrev pub HasFewUnnamed : Function → Type 0
+HasFewUnnamed f = length (unnamed_in f) ≤ number_limit
+
+-- a function of the form, in which no two named things share a name, with few unnamed ones
+pub record IsSayable (f : Function) : Type 0 where
+  pub form : IsFormFunction f
+  pub names : IsDistinctList (local_names f)
+  pub few : HasFewUnnamed f
+
+-- ---- numbers of things
+
+-- n, n + 1, .. , as many as the list has items
+abbrev pub counting : {A : Type 0} → ℕ → List A → List ℕ
+counting n [] = []
+counting n (x ∷ xs) = n ∷ counting (suc n) xs
+
+-- the function has the number f, its blocks are numbered from b and its instructions from n
+pub record IsNumberedFrom (f b n : ℕ) (x : Function) : Type 0 where
+  pub number : x.number ≡ f
+  pub blocks : map (λ (c : Block). c.number) x.blocks ≡ counting b x.blocks
+  pub instructions : map (λ (p : Placed). p.number) (L.placed_in x) ≡ counting n (L.placed_in x)
+
+abbrev pub blocks_in : ModuleData → List Block
+blocks_in d = flat_map (λ (f : Function). f.blocks) d.functions
+
+abbrev pub placed_in : ModuleData → List Placed
+placed_in d = flat_map (λ (b : Block). b.instructions) (blocks_in d)
+
+-- functions, blocks and instructions are each numbered from 0 in order
+pub record IsNumbered (d : ModuleData) : Type 0 where
+  pub functions : map (λ (f : Function). f.number) d.functions ≡ counting 0 d.functions
+  pub blocks : map (λ (b : Block). b.number) (blocks_in d) ≡ counting 0 (blocks_in d)
+  pub instructions : map (λ (p : Placed). p.number) (placed_in d) ≡ counting 0 (placed_in d)
+
+-- ---- modules
+
+-- a bare name, or none
+abbrev pub IsBareOrNone : Text → Type 0
+IsBareOrNone [] = Unit {0}
+IsBareOrNone (b ∷ bs) = is_bare (b ∷ bs) ≡ true
+
+-- a module whose functions a text says whole, under a bare name or none, however it is numbered
+pub record IsSayableModule (d : ModuleData) : Type 0 where
+  pub functions : All IsSayable d.functions
+  pub name : IsBareOrNone d.name

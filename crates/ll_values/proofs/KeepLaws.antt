@@ -1,0 +1,145 @@
+-- What values say stays as the module and the store grow.
+use Rattle.std.proofs.Common.{◌≡◌, ◌<◌, ◌≤◌, ℕ, zero, suc, List, [], ◌∷◌, ◌++◌, Some, length, length-append, map, slice_get, refl, ap, ◌∙◌, arith, All}
+use Rattle.std.proofs.lemmas.List.Elements.{All-weaker, All-nil}
+use Rattle.support.proofs.ListLaws.{item_there}
+use Rattle.llvm_core.specs.Module.{Module}
+use Rattle.llvm_core.specs.Data.{trees_of}
+use Rattle.ll_lines.specs.declared.lines.Param.{Param}
+use Rattle.ll_lines.specs.Views.{param_view, IsTypeIn, IsInstIn}
+use Rattle.ll_values.specs.declared.store.Store.{Store}
+use Rattle.ll_values.specs.declared.value.Piece.{Piece}
+use Rattle.ll_values.specs.declared.value.Piece.TheVariants as P
+use Rattle.ll_values.specs.declared.value.Definition.{Definition}
+use Rattle.ll_values.specs.declared.value.Value.{Value}
+use Rattle.ll_values.specs.declared.value.Value.TheVariants as V
+use Rattle.ll_values.specs.Lists.{list_at}
+use Rattle.ll_values.specs.Values as S
+use Rattle.ll_values.specs.Views.{inst_at, part_view, body_at, params_at, definition_view, functions_at, value_view, IsPieceIn, IsDefinitionIn, IsValueIn, IsStoreIn}
+use Rattle.ll_values.specs.Growing.{Interns, KeepsLists, Keeps}
+use Rattle.ll_values.proofs.ListLaws.{at_front}
+use Rattle.ll_values.proofs.GrowLaws.{map_same, all_item, inst_same, param_same, typed_same, said_same, inst_there, typed_there, said_there}
+
+-- the items of a list among lists
+pub all_at : {T : Type 0} (Q : T → Type 0) (ls : List (List T)) (n : ℕ) → All (All Q) ls → n ≤ length ls → All Q (list_at ls n)
+all_at Q ls zero h le = All-nil Q
+all_at Q ls (suc n) h le = h n [] (omega (arith, le))
+
+pub all_lists : {T : Type 0} (P Q : T → Type 0) → ((x : T) → P x → Q x) → (ls : List (List T)) → All (All P) ls → All (All Q) ls
+all_lists P Q f ls h = All-weaker (All P) (All Q) (λ xs k. All-weaker P Q f xs k) ls h
+
+pub lists_kept : {T : Type 0} (ls : List (List T)) → KeepsLists ls ls
+lists_kept ls = record { count = omega arith; at = λ n h. refl }
+
+pub lists_pushed : {T : Type 0} (old new : List (List T)) (xs : List T) → new ≡ old ++ xs ∷ [] → KeepsLists old new
+lists_pushed old new xs e = record { count = omega (arith, ap length e, length-append old (xs ∷ [])); at = λ n h. rw e (at_front old (xs ∷ []) n h) }
+
+lists_twice : {T : Type 0} (a b c : List (List T)) → KeepsLists a b → KeepsLists b c → KeepsLists a c
+lists_twice a b c g h = record { count = omega (arith, g.count, h.count); at = λ n le. h.at n (omega (arith, g.count, le)) ∙ g.at n le }
+
+pub store_kept : (s : Store) → Keeps s s
+store_kept s = record { inst_count = omega arith; insts = λ n h. refl; entries = lists_kept s.entries; bodies = lists_kept s.bodies; params = lists_kept s.params; functions = lists_kept s.functions }
+
+pub kept_twice : (a b c : Store) → Keeps a b → Keeps b c → Keeps a c
+kept_twice a b c g h = record {
+  inst_count = omega (arith, g.inst_count, h.inst_count);
+  insts = λ n lt. h.insts n (omega (arith, g.inst_count, lt)) ∙ g.insts n lt;
+  entries = lists_twice a.entries b.entries c.entries g.entries h.entries;
+  bodies = lists_twice a.bodies b.bodies c.bodies g.bodies h.bodies;
+  params = lists_twice a.params b.params c.params g.params h.params;
+  functions = lists_twice a.functions b.functions c.functions g.functions h.functions;
+}
+
+-- a store stays right as types and constants are added
+pub store_there : (m n : Module) (s : Store) → Interns m n → IsStoreIn m s → IsStoreIn n s
+store_there m n s g st = record {
+  sound = g.sound;
+  insts = All-weaker (IsInstIn m) (IsInstIn n) (inst_there [] m n g) s.insts.items st.insts;
+  bodies = all_lists (IsPieceIn m s) (IsPieceIn n s) piece s.bodies st.bodies;
+  params = all_lists (λ (p : Param). IsTypeIn m p.ty) (λ (p : Param). IsTypeIn n p.ty) (λ p h. omega (arith, g.type_count, h)) s.params st.params;
+  functions = all_lists (IsDefinitionIn m s) (IsDefinitionIn n s) (λ d h. ((omega (arith, g.type_count, h.0.0), h.0.1), h.1)) s.functions st.functions;
+}
+  where
+    piece : (p : Piece) → IsPieceIn m s p → IsPieceIn n s p
+    piece (P.Label k) h = tt
+    piece (P.Does name i) h = h
+
+module _ (bytes : List ℕ) (m n : Module) (s t : Store) (g : Interns m n) (k : Keeps s t) (st : IsStoreIn m s) where
+  pub inst_at_same : (i : ℕ) → i < length s.insts.items → inst_at bytes (trees_of n) t i ≡ inst_at bytes (trees_of m) s i
+  inst_at_same i h =
+      let x = item_there s.insts.items i h in
+      let new : slice_get t.insts.items i ≡ Some x.0 = k.insts i h ∙ x.1 in
+      rw (new, x.1) (inst_same bytes m n g x.0 (all_item (IsInstIn m) s.insts.items i x.0 st.insts x.1))
+
+  pub piece_same : (p : Piece) → IsPieceIn m s p → part_view bytes (trees_of n) t p ≡ part_view bytes (trees_of m) s p
+  piece_same (P.Label l) h = refl
+  piece_same (P.Does name i) h = rw (inst_at_same i h) refl
+
+  pub body_same : (i : ℕ) → i ≤ length s.bodies → body_at bytes (trees_of n) t i ≡ body_at bytes (trees_of m) s i
+  body_same i h = rw (k.bodies.at i h) (map_same (IsPieceIn m s) (part_view bytes (trees_of n) t) (part_view bytes (trees_of m) s) piece_same (list_at s.bodies i) (all_at (IsPieceIn m s) s.bodies i st.bodies h))
+
+  pub params_same : (i : ℕ) → i ≤ length s.params → params_at bytes (trees_of n) t i ≡ params_at bytes (trees_of m) s i
+  params_same i h =
+      let Q : Param → Type 0 = λ (p : Param). IsTypeIn m p.ty in
+      rw (k.params.at i h) (map_same Q (param_view bytes (trees_of n)) (param_view bytes (trees_of m)) (param_same bytes m n g) (list_at s.params i) (all_at Q s.params i st.params h))
+
+  pub definition_same : (d : Definition) → IsDefinitionIn m s d → definition_view bytes (trees_of n) t d ≡ definition_view bytes (trees_of m) s d
+  definition_same d h = rw (g.types d.head.result h.0.0, params_same d.head.params h.0.1, body_same d.body h.1) refl
+
+  pub functions_same : (i : ℕ) → i ≤ length s.functions → functions_at bytes (trees_of n) t i ≡ functions_at bytes (trees_of m) s i
+  functions_same i h =
+      rw (k.functions.at i h) (map_same (IsDefinitionIn m s) (definition_view bytes (trees_of n) t) (definition_view bytes (trees_of m) s) definition_same (list_at s.functions i) (all_at (IsDefinitionIn m s) s.functions i st.functions h))
+
+  pub value_same : (v : Value) → IsValueIn m s v → value_view bytes (trees_of n) t v ≡ value_view bytes (trees_of m) s v
+  value_same V.Nothing h = refl
+  value_same (V.Text l) h = refl
+  value_same (V.Flag b) h = refl
+  value_same (V.Wraps flags) h = refl
+  value_same (V.Type ty) h = rw (g.types ty h) refl
+  value_same (V.Literal l) h = refl
+  value_same (V.Typed x) h = ap S.TypedV (typed_same bytes m n g x h)
+  value_same (V.Pair ty a b) h = rw (g.types ty h.0, said_same bytes m n g a h.1, said_same bytes m n g b h.2) refl
+  value_same (V.Entry e) h = refl
+  value_same (V.Entries i) h = rw (k.entries.at i h) refl
+  value_same (V.Inst i) h = rw (inst_at_same i h) refl
+  value_same (V.Part p) h = ap S.PartV (piece_same p h)
+  value_same (V.Body i) h = ap S.BodyV (body_same i h)
+  value_same (V.Param p) h = ap S.ParamV (param_same bytes m n g p h)
+  value_same (V.Params i) h = ap S.ParamsV (params_same i h)
+  value_same (V.Head d) h = rw (g.types d.result h.0, params_same d.params h.1) refl
+  value_same (V.Source l) h = refl
+  value_same (V.Function d) h = ap S.FunctionV (definition_same d h)
+  value_same (V.File name i) h = rw (functions_same i h) refl
+
+  piece_there : (p : Piece) → IsPieceIn m s p → IsPieceIn n t p
+  piece_there (P.Label l) h = tt
+  piece_there (P.Does name i) h = omega (arith, k.inst_count, h)
+
+  definition_there : (d : Definition) → IsDefinitionIn m s d → IsDefinitionIn n t d
+  definition_there d h = ((omega (arith, g.type_count, h.0.0), omega (arith, k.params.count, h.0.1)), omega (arith, k.bodies.count, h.1))
+
+  pub value_there : (v : Value) → IsValueIn m s v → IsValueIn n t v
+  value_there V.Nothing h = tt
+  value_there (V.Text l) h = tt
+  value_there (V.Flag b) h = tt
+  value_there (V.Wraps flags) h = tt
+  value_there (V.Type ty) h = omega (arith, g.type_count, h)
+  value_there (V.Literal l) h = tt
+  value_there (V.Typed x) h = typed_there bytes m n g x h
+  value_there (V.Pair ty a b) h = (omega (arith, g.type_count, h.0), said_there bytes m n g a h.1, said_there bytes m n g b h.2)
+  value_there (V.Entry e) h = tt
+  value_there (V.Entries i) h = omega (arith, k.entries.count, h)
+  value_there (V.Inst i) h = omega (arith, k.inst_count, h)
+  value_there (V.Part p) h = piece_there p h
+  value_there (V.Body i) h = omega (arith, k.bodies.count, h)
+  value_there (V.Param p) h = omega (arith, g.type_count, h)
+  value_there (V.Params i) h = omega (arith, k.params.count, h)
+  value_there (V.Head d) h = (omega (arith, g.type_count, h.0), omega (arith, k.params.count, h.1))
+  value_there (V.Source l) h = tt
+  value_there (V.Function d) h = definition_there d h
+  value_there (V.File name i) h = omega (arith, k.functions.count, h)
+
+  pub values_same : (vs : List Value) → All (IsValueIn m s) vs → map (value_view bytes (trees_of n) t) vs ≡ map (value_view bytes (trees_of m) s) vs
+  values_same vs h = map_same (IsValueIn m s) (value_view bytes (trees_of n) t) (value_view bytes (trees_of m) s) value_same vs h
+
+  pub values_there : (vs : List Value) → All (IsValueIn m s) vs → All (IsValueIn n t) vs
+  values_there vs h = All-weaker (IsValueIn m s) (IsValueIn n t) value_there vs h

@@ -1,0 +1,107 @@
+-- A store with one item more says what is made.
+use Rattle.std.proofs.Common.{◌≡◌, ◌<◌, ◌≤◌, ℕ, List, [], ◌∷◌, ◌++◌, Some, None, length, length-append, slice_get, refl, ap, sym, ◌∙◌, subst, arith, All}
+use Rattle.std.proofs.lemmas.List.Elements.{All-push, All-cons}
+use Rattle.support.proofs.ListLaws.{slice_get-before, slice_get-push}
+use Rattle.llvm_core.specs.Module.{Module}
+use Rattle.ll_lines.specs.declared.lines.Inst.{Inst}
+use Rattle.ll_lines.specs.declared.lines.Param.{Param}
+use Rattle.ll_lines.specs.Views.{IsTypeIn, IsInstIn}
+use Rattle.ll_values.specs.declared.store.Store.{Store}
+use Rattle.ll_values.specs.declared.value.Entry.{Entry}
+use Rattle.ll_values.specs.declared.value.Piece.{Piece}
+use Rattle.ll_values.specs.declared.value.Piece.TheVariants as P
+use Rattle.ll_values.specs.declared.value.Definition.{Definition}
+use Rattle.ll_values.specs.declared.value.Value.{Value}
+use Rattle.ll_values.specs.declared.value.Value.TheVariants as V
+use Rattle.ll_values.specs.declared.value.Made.TheVariants as M
+use Rattle.ll_values.specs.Lists.{list_at}
+use Rattle.ll_values.specs.Views.{IsPieceIn, IsDefinitionIn, IsValueIn, IsStoreIn}
+use Rattle.ll_values.specs.Growing.{Kept}
+use Rattle.ll_values.proofs.ListLaws.{at_last}
+use Rattle.ll_values.proofs.KeepLaws.{all_at, all_lists, lists_kept, lists_pushed, store_kept}
+
+pub kept_value : (bytes : List ℕ) (m : Module) (s : Store) (v : Value) → IsStoreIn m s → IsValueIn m s v → Kept bytes m s s (M.Value v) v
+kept_value bytes m s v st h = record { store = st; keeps = store_kept s; there = h; value = refl }
+
+-- lists with one list more, of an item that is right before a list that is there
+all_put : {T : Type 0} (Q : T → Type 0) (old new : List (List T)) (x : T) (n : ℕ) → new ≡ old ++ (x ∷ list_at old n) ∷ [] → n ≤ length old → Q x → All (All Q) old → All (All Q) new
+all_put Q old new x n e le q h = rw e (All-push (All Q) old (x ∷ list_at old n) h (All-cons Q x (list_at old n) q (all_at Q old n h le)))
+
+last_of : {T : Type 0} (old new : List (List T)) (xs : List T) (v : ℕ) → new ≡ old ++ xs ∷ [] → v ≡ length new → list_at new v ≡ xs
+last_of old new xs v e h = rw e (at_last old xs v (h ∙ ap length e))
+
+module _ (bytes : List ℕ) (m : Module) (s : Store) (st : IsStoreIn m s) where
+  pub kept_entries : (e : Entry) (n : ℕ) (new : List (List Entry)) (v : ℕ) → n ≤ length s.entries → new ≡ s.entries ++ (e ∷ list_at s.entries n) ∷ [] → v ≡ length new → Kept bytes m s (record s { entries = new }) (M.Entries e n) (V.Entries v)
+  kept_entries e n new v le put last = record {
+    store = record { sound = st.sound; insts = st.insts; bodies = st.bodies; params = st.params; functions = st.functions };
+    keeps = record { inst_count = omega arith; insts = λ n h. refl; entries = lists_pushed s.entries new (e ∷ list_at s.entries n) put; bodies = lists_kept s.bodies; params = lists_kept s.params; functions = lists_kept s.functions };
+    there = omega (arith, last);
+    value = rw (last_of s.entries new (e ∷ list_at s.entries n) v put last) refl;
+  }
+
+  pub kept_body : (p : Piece) (n : ℕ) (new : List (List Piece)) (v : ℕ) → IsPieceIn m s p → n ≤ length s.bodies → new ≡ s.bodies ++ (p ∷ list_at s.bodies n) ∷ [] → v ≡ length new → Kept bytes m s (record s { bodies = new }) (M.Body p n) (V.Body v)
+  kept_body p n new v q le put last =
+      let more = lists_pushed s.bodies new (p ∷ list_at s.bodies n) put in
+      record {
+        store = record {
+          sound = st.sound;
+          insts = st.insts;
+          bodies = all_put (IsPieceIn m s) s.bodies new p n put le q st.bodies;
+          params = st.params;
+          functions = all_lists (IsDefinitionIn m s) (IsDefinitionIn m (record s { bodies = new })) (λ d h. (h.0, omega (arith, more.count, h.1))) s.functions st.functions;
+        };
+        keeps = record { inst_count = omega arith; insts = λ n h. refl; entries = lists_kept s.entries; bodies = more; params = lists_kept s.params; functions = lists_kept s.functions };
+        there = omega (arith, last);
+        value = rw (last_of s.bodies new (p ∷ list_at s.bodies n) v put last) refl;
+      }
+
+  pub kept_params : (p : Param) (n : ℕ) (new : List (List Param)) (v : ℕ) → IsTypeIn m p.ty → n ≤ length s.params → new ≡ s.params ++ (p ∷ list_at s.params n) ∷ [] → v ≡ length new → Kept bytes m s (record s { params = new }) (M.Params p n) (V.Params v)
+  kept_params p n new v q le put last =
+      let more = lists_pushed s.params new (p ∷ list_at s.params n) put in
+      record {
+        store = record {
+          sound = st.sound;
+          insts = st.insts;
+          bodies = st.bodies;
+          params = all_put (λ (x : Param). IsTypeIn m x.ty) s.params new p n put le q st.params;
+          functions = all_lists (IsDefinitionIn m s) (IsDefinitionIn m (record s { params = new })) (λ d h. ((h.0.0, omega (arith, more.count, h.0.1)), h.1)) s.functions st.functions;
+        };
+        keeps = record { inst_count = omega arith; insts = λ n h. refl; entries = lists_kept s.entries; bodies = lists_kept s.bodies; params = more; functions = lists_kept s.functions };
+        there = omega (arith, last);
+        value = rw (last_of s.params new (p ∷ list_at s.params n) v put last) refl;
+      }
+
+  pub kept_file : (d : Definition) (n : ℕ) (new : List (List Definition)) (v : ℕ) → IsDefinitionIn m s d → n ≤ length s.functions → new ≡ s.functions ++ (d ∷ list_at s.functions n) ∷ [] → v ≡ length new → Kept bytes m s (record s { functions = new }) (M.File d n) (V.File None v)
+  kept_file d n new v q le put last = record {
+    store = record { sound = st.sound; insts = st.insts; bodies = st.bodies; params = st.params; functions = all_put (IsDefinitionIn m s) s.functions new d n put le q st.functions };
+    keeps = record { inst_count = omega arith; insts = λ n h. refl; entries = lists_kept s.entries; bodies = lists_kept s.bodies; params = lists_kept s.params; functions = lists_pushed s.functions new (d ∷ list_at s.functions n) put };
+    there = omega (arith, last);
+    value = rw (last_of s.functions new (d ∷ list_at s.functions n) v put last) refl;
+  }
+
+  pub kept_inst : (i : Inst) (new : Store) (v : ℕ) → IsInstIn m i → new ≡ record s { insts = new.insts } → new.insts.items ≡ s.insts.items ++ i ∷ [] → v ≡ length s.insts.items → Kept bytes m s new (M.Inst i) (V.Inst v)
+  kept_inst i new v q is put last = subst (λ (x : Store). Kept bytes m s x (M.Inst i) (V.Inst v)) (sym is) here
+    where
+      longer : length s.insts.items < length new.insts.items
+      longer = omega (arith, ap length put, length-append s.insts.items (i ∷ []))
+
+      piece : (p : Piece) → IsPieceIn m s p → IsPieceIn m (record s { insts = new.insts }) p
+      piece (P.Label l) h = tt
+      piece (P.Does name j) h = omega (arith, longer, h)
+
+      at : slice_get new.insts.items v ≡ Some i
+      at = rw put (slice_get-push s.insts.items i v last)
+
+      here : Kept bytes m s (record s { insts = new.insts }) (M.Inst i) (V.Inst v)
+      here = record {
+        store = record {
+          sound = st.sound;
+          insts = rw put (All-push (IsInstIn m) s.insts.items i st.insts q);
+          bodies = all_lists (IsPieceIn m s) (IsPieceIn m (record s { insts = new.insts })) piece s.bodies st.bodies;
+          params = st.params;
+          functions = st.functions;
+        };
+        keeps = record { inst_count = omega (arith, longer); insts = λ j h. rw put (slice_get-before s.insts.items (i ∷ []) j h); entries = lists_kept s.entries; bodies = lists_kept s.bodies; params = lists_kept s.params; functions = lists_kept s.functions };
+        there = omega (arith, longer, last);
+        value = rw at refl;
+      }

@@ -1,0 +1,10 @@
+-- The lemmas of the crate.
+pub mod ListLaws
+pub mod GrowLaws
+pub mod KeepLaws
+pub mod KeptLaws
+pub mod SaidLaws
+pub mod PhiLaws
+pub mod StackLaws
+pub mod WalkLaws
+pub mod FileLaws

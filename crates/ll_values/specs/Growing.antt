@@ -1,0 +1,50 @@
+-- How a module and a store grow while values are made: what is there stays, and says the same.
+use Rattle.std.specs.Prelude.{◌≡◌, ◌<◌, ◌≤◌, ℕ, List, map, length, slice_get, Some}
+use Rattle.llvm_core.specs.declared.numbers.LLVMType.{LLVMType}
+use Rattle.llvm_core.specs.declared.numbers.LLVMConst.{LLVMConst}
+use Rattle.llvm_core.specs.Module.{Module}
+use Rattle.llvm_core.specs.Sound.{IsModule}
+use Rattle.llvm_core.specs.Data.{trees_of, type_at, const_at, data_of}
+use Rattle.ll_values.specs.declared.form.Kind.{Kind}
+use Rattle.ll_values.specs.declared.store.Store.{Store}
+use Rattle.ll_values.specs.declared.value.Value.{Value}
+use Rattle.ll_values.specs.declared.value.Made.{Made}
+use Rattle.ll_values.specs.Lists.{list_at}
+use Rattle.ll_values.specs.Values.{value_by}
+use Rattle.ll_values.specs.Views.{value_view, made_view, IsValueIn, IsStoreIn}
+
+-- only types and constants are added
+pub record Interns (old new : Module) : Type 0 where
+  pub type_count : length old.types ≤ length new.types
+  pub const_count : length old.consts ≤ length new.consts
+  pub types : (t : LLVMType) → t.0 < length old.types → type_at (trees_of new).types t ≡ type_at (trees_of old).types t
+  pub consts : (c : LLVMConst) → c.0 < length old.consts → const_at (trees_of new).consts c ≡ const_at (trees_of old).consts c
+  pub same_data : data_of new ≡ data_of old
+  pub sound : IsModule new
+
+pub record KeepsLists {T : Type 0} (old new : List (List T)) : Type 0 where
+  pub count : length old ≤ length new
+  pub at : (n : ℕ) → n ≤ length old → list_at new n ≡ list_at old n
+
+pub record Keeps (old new : Store) : Type 0 where
+  pub inst_count : length old.insts.items ≤ length new.insts.items
+  pub insts : (n : ℕ) → n < length old.insts.items → slice_get new.insts.items n ≡ slice_get old.insts.items n
+  pub entries : KeepsLists old.entries new.entries
+  pub bodies : KeepsLists old.bodies new.bodies
+  pub params : KeepsLists old.params new.params
+  pub functions : KeepsLists old.functions new.functions
+
+-- the value is what is made, which the store keeps now
+pub record Kept (bytes : List ℕ) (m : Module) (old new : Store) (made : Made) (v : Value) : Type 0 where
+  pub store : IsStoreIn m new
+  pub keeps : Keeps old new
+  pub there : IsValueIn m new v
+  pub value : value_view bytes (trees_of m) new v ≡ made_view bytes (trees_of m) old made
+
+-- the value is what is made of parts
+pub record Makes (bytes : List ℕ) (m n : Module) (old new : Store) (kind : Kind) (parts : List Value) (v : Value) : Type 0 where
+  pub interns : Interns m n
+  pub store : IsStoreIn n new
+  pub keeps : Keeps old new
+  pub there : IsValueIn n new v
+  pub value : value_by kind (map (value_view bytes (trees_of m) old) parts) ≡ Some (value_view bytes (trees_of n) new v)

@@ -1,0 +1,9 @@
+-- The definitions of the crate.
+pub mod Parts
+pub mod Words
+pub mod Values
+pub mod Folding
+pub mod Lists
+pub mod Views
+pub mod Growing
+pub mod Stack

@@ -1,0 +1,176 @@
+-- What the alternatives of the form say: the values of a text, and how each is made of the values in it.
+use Rattle.std.specs.Prelude.{◌^◌, Bool, true, false, ◌&&◌, nat_le, if◌then◌else◌, List, [], ◌∷◌, Option, Some, None}
+use Rattle.std.specs.Option.{option_map}
+use Rattle.kinds.specs.declared.op.OverflowFlags.{OverflowFlags}
+use Rattle.kinds.specs.declared.op.Op.{Op}
+use Rattle.kinds.specs.declared.op.Op.TheVariants as O
+use Rattle.kinds.specs.Types.{TypeTree, VoidType, IntType}
+use Rattle.llvm_core.specs.Data.{IntConst}
+use Rattle.ll_tree.specs.Chain.{◌>>=◌}
+use Rattle.ll_tree.specs.Text.{width_of, const_value}
+use Rattle.ll_lines.specs.Lines.{Text, Said, Local, Const, Typed, Incoming, Inst, Phi, Row, Part, Label, Does, Param, Function, File}
+use Rattle.ll_values.specs.declared.form.Kind.{Kind}
+use Rattle.ll_values.specs.declared.form.Kind.TheVariants as K
+use Rattle.ll_values.specs.declared.form.DetailKind.{DetailKind}
+use Rattle.ll_values.specs.declared.form.DetailKind.TheVariants as D
+use Rattle.ll_values.specs.declared.form.ListKind.{ListKind}
+use Rattle.ll_values.specs.declared.form.ListKind.TheVariants as L
+use Rattle.ll_values.specs.declared.form.RowKind.{RowKind}
+use Rattle.ll_values.specs.declared.form.RowKind.TheVariants as R
+use Rattle.ll_values.specs.declared.form.TypedKind.{TypedKind}
+use Rattle.ll_values.specs.declared.form.TypedKind.TheVariants as T
+use Rattle.ll_values.specs.Words.{binary_op, cast_op, three_op, predicate_of, no_wraps}
+
+-- a literal as it is written: its type is known from what it stands in
+pub data Literal : Type 0 where
+  -- % and a name or a number
+  LocalL : Text → Literal
+  -- an integer's digits, true or false
+  ConstL : Text → Literal
+
+-- an entry of a phi
+pub record Entry : Type 0 where
+  pub literal : Literal
+  pub block : Text
+
+-- what stands before the body of a function
+pub record Head : Type 0 where
+  pub result : TypeTree
+  pub name : Text
+  pub params : List Param
+
+pub data Value : Type 0 where
+  NoneV : Value
+  TextV : Text → Value
+  FlagV : Bool → Value
+  WrapsV : OverflowFlags → Value
+  TypeV : TypeTree → Value
+  LiteralV : Literal → Value
+  TypedV : Typed → Value
+  PairV : Typed → Typed → Value
+  EntryV : Entry → Value
+  EntriesV : List Entry → Value
+  InstV : Inst → Value
+  PartV : Part → Value
+  BodyV : List Part → Value
+  ParamV : Param → Value
+  ParamsV : List Param → Value
+  HeadV : Head → Value
+  SourceV : Text → Value
+  FunctionV : Function → Value
+  FileV : File → Value
+
+-- ---- types and literals
+
+-- i and the digits of 1 to 2^23
+abbrev pub int_type : Text → Option TypeTree
+int_type t = width_of t >>= λ w. if nat_le 1 w && nat_le w (2 ^ 23) then Some (IntType w) else None
+
+-- what a literal says at a type: a local is a name still, and constants are integers of at most 64 bits
+abbrev pub said : TypeTree → Literal → Option Said
+said τ (LocalL t) = Some (Local t)
+said (IntType w) (ConstL t) = if nat_le w 64 then option_map (λ n. Const (IntConst (IntType w) n)) (const_value w t) else None
+said _ (ConstL t) = None
+
+abbrev pub typed : TypeTree → Literal → Option Typed
+typed τ ℓ = said τ ℓ >>= λ s. Some (record { type = τ; said = s })
+
+-- entries at the type of their phi
+abbrev pub incoming : TypeTree → List Entry → Option (List Incoming)
+incoming τ [] = Some []
+incoming τ (e ∷ es) = said τ e.literal >>= λ s. incoming τ es >>= λ more. Some (record { said = s; block = e.block } ∷ more)
+
+-- ---- instructions
+
+-- of these operands, where no type is written beside them
+abbrev pub row : Op → List Typed → (targets : List Text) → Inst
+row op operands targets = Row (record { op = op; written = None; operands = operands; targets = targets })
+
+-- to that type
+abbrev pub cast : Op → Typed → TypeTree → Inst
+cast op x τ = Row (record { op = op; written = Some τ; operands = x ∷ []; targets = [] })
+
+-- ---- files
+
+-- a name, or a function, before functions that no name stands among
+abbrev pub named : Text → (source : Option Text) → List Function → Option Value
+named t None fs = Some (FileV (record { source = Some t; functions = fs }))
+named t (Some u) fs = None
+
+abbrev pub defined : Function → (source : Option Text) → List Function → Option Value
+defined f None fs = Some (FileV (record { source = None; functions = f ∷ fs }))
+defined f (Some u) fs = None
+
+-- ---- a line for each kind
+
+-- parts of functions and of instructions
+abbrev pub detail_by : DetailKind → List Value → Option Value
+detail_by D.Local (TextV t ∷ []) = Some (LiteralV (LocalL t))
+detail_by D.Literal (TextV t ∷ []) = Some (LiteralV (ConstL t))
+detail_by D.Nuw (FlagV nsw ∷ []) = Some (WrapsV (record { nuw = true; nsw = nsw }))
+detail_by D.Nsw [] = Some (WrapsV (record { nuw = false; nsw = true }))
+detail_by D.NoWraps [] = Some (WrapsV no_wraps)
+detail_by D.Entry (LiteralV ℓ ∷ TextV t ∷ []) = Some (EntryV (record { literal = ℓ; block = t }))
+detail_by D.Inst (InstV i ∷ NoneV ∷ []) = Some (InstV i)
+detail_by D.Line (NoneV ∷ NoneV ∷ InstV i ∷ []) = Some (PartV (Does (record { result = None; inst = i })))
+detail_by D.Line (NoneV ∷ TextV t ∷ InstV i ∷ []) = Some (PartV (Does (record { result = Some t; inst = i })))
+detail_by D.Label (TextV t ∷ []) = Some (PartV (Label t))
+detail_by D.Param (TypeV τ ∷ NoneV ∷ NoneV ∷ []) = Some (ParamV (record { type = τ; name = None }))
+detail_by D.Param (TypeV τ ∷ NoneV ∷ TextV t ∷ []) = Some (ParamV (record { type = τ; name = Some t }))
+detail_by D.Source (TextV t ∷ []) = Some (SourceV t)
+detail_by _ _ = None
+
+-- lists, and what holds them; the name of the module stands first, where it stands
+abbrev pub list_by : ListKind → List Value → Option Value
+list_by L.EntriesEnd [] = Some (EntriesV [])
+list_by L.EntriesMore (EntryV e ∷ EntriesV es ∷ []) = Some (EntriesV (e ∷ es))
+list_by L.BodyEnd [] = Some (BodyV [])
+list_by L.BodyMore (PartV p ∷ BodyV ps ∷ []) = Some (BodyV (p ∷ ps))
+list_by L.ParamsEnd [] = Some (ParamsV [])
+list_by L.ParamsMore (ParamV p ∷ ParamsV ps ∷ []) = Some (ParamsV (p ∷ ps))
+list_by L.Parameters (ParamsV ps ∷ NoneV ∷ NoneV ∷ []) = Some (ParamsV ps)
+list_by L.Head (NoneV ∷ NoneV ∷ TypeV τ ∷ TextV t ∷ ParamsV ps ∷ []) = Some (HeadV (record { result = τ; name = t; params = ps }))
+list_by L.Define (NoneV ∷ HeadV h ∷ NoneV ∷ NoneV ∷ BodyV ps ∷ []) = Some (FunctionV (record { result = h.result; name = h.name; params = h.params; body = ps }))
+list_by L.FileEnd [] = Some (FileV (record { source = None; functions = [] }))
+list_by L.FileMore (SourceV t ∷ FileV f ∷ []) = named t f.source f.functions
+list_by L.FileMore (FunctionV d ∷ FileV f ∷ []) = defined d f.source f.functions
+list_by _ _ = None
+
+-- instructions that are no phi
+abbrev pub row_by : RowKind → List Value → Option Value
+row_by R.Sum (TextV word ∷ WrapsV flags ∷ PairV x y ∷ []) = binary_op word flags >>= λ op. Some (InstV (row op (x ∷ y ∷ []) []))
+row_by R.Quotient (TextV word ∷ NoneV ∷ PairV x y ∷ []) = binary_op word no_wraps >>= λ op. Some (InstV (row op (x ∷ y ∷ []) []))
+row_by R.Bits (TextV word ∷ PairV x y ∷ []) = binary_op word no_wraps >>= λ op. Some (InstV (row op (x ∷ y ∷ []) []))
+row_by R.Or (NoneV ∷ PairV x y ∷ []) = Some (InstV (row O.Or (x ∷ y ∷ []) []))
+row_by R.ICmp (NoneV ∷ TextV word ∷ PairV x y ∷ []) = predicate_of word >>= λ p. Some (InstV (row (O.ICmp p) (x ∷ y ∷ []) []))
+row_by R.Cast (TextV word ∷ TypedV x ∷ TypeV τ ∷ []) = cast_op word >>= λ op. Some (InstV (cast op x τ))
+row_by R.Trunc (NoneV ∷ TypedV x ∷ TypeV τ ∷ []) = Some (InstV (cast O.Trunc x τ))
+row_by R.ZExt (FlagV nneg ∷ TypedV x ∷ TypeV τ ∷ []) = Some (InstV (cast (O.ZExt nneg) x τ))
+row_by R.Three (TextV word ∷ TypedV x ∷ TypedV y ∷ TypedV z ∷ []) = three_op word >>= λ op. Some (InstV (row op (x ∷ y ∷ z ∷ []) []))
+row_by R.Freeze (TypedV x ∷ []) = Some (InstV (row O.Freeze (x ∷ []) []))
+row_by R.Return (NoneV ∷ []) = Some (InstV (row O.Ret [] []))
+row_by R.Return (TypedV x ∷ []) = Some (InstV (row O.Ret (x ∷ []) []))
+row_by R.Jump (TextV t ∷ []) = Some (InstV (row O.Br [] (t ∷ [])))
+row_by R.Branch (TypedV x ∷ TextV t ∷ TextV u ∷ []) = Some (InstV (row O.CondBr (x ∷ []) (t ∷ u ∷ [])))
+row_by R.Unreachable [] = Some (InstV (row O.Unreachable [] []))
+row_by _ _ = None
+
+-- types, and what a literal takes its type from
+abbrev pub typed_by : TypedKind → List Value → Option Value
+typed_by T.Void [] = Some (TypeV VoidType)
+typed_by T.Int (TextV t ∷ []) = option_map TypeV (int_type t)
+typed_by T.Typed (TypeV τ ∷ LiteralV ℓ ∷ []) = option_map TypedV (typed τ ℓ)
+typed_by T.Pair (TypeV τ ∷ LiteralV ℓ ∷ LiteralV r ∷ []) = typed τ ℓ >>= λ x. typed τ r >>= λ y. Some (PairV x y)
+typed_by T.Phi (TypeV τ ∷ EntryV e ∷ EntriesV es ∷ []) = incoming τ (e ∷ es) >>= λ xs. Some (InstV (Phi τ xs))
+typed_by _ _ = None
+
+abbrev pub value_by : Kind → List Value → Option Value
+value_by K.Nothing [] = Some NoneV
+value_by K.Same (v ∷ []) = Some v
+value_by K.Yes [] = Some (FlagV true)
+value_by K.No [] = Some (FlagV false)
+value_by (K.Detail k) vs = detail_by k vs
+value_by (K.List k) vs = list_by k vs
+value_by (K.Row k) vs = row_by k vs
+value_by (K.Typed k) vs = typed_by k vs
+value_by _ _ = None

@@ -1,0 +1,152 @@
+-- What the values on a stack say, over the bytes of the text, the trees of the module and what is kept in a store.
+use Rattle.std.specs.Prelude.{◌<◌, ◌≤◌, ℕ, List, [], ◌∷◌, map, length, slice_get, None, Some, All}
+use Rattle.std.specs.Option.{option_map, option_map_or}
+use Rattle.kinds.specs.Types.{VoidType}
+use Rattle.llvm_core.specs.declared.numbers.LLVMType.{LLVMType}
+use Rattle.llvm_core.specs.Module.{Module}
+use Rattle.llvm_core.specs.Sound.{IsModule}
+use Rattle.llvm_core.specs.Data.{Trees, type_at}
+use Rattle.kinds.specs.declared.op.Op.{Op}
+use Rattle.ll_lines.specs.declared.names.Name.{Name}
+use Rattle.ll_lines.specs.declared.lines.Typed as code_typed
+use Rattle.ll_lines.specs.declared.lines.Inst.TheVariants as I
+use Rattle.ll_lines.specs.declared.lines.Param as code_param
+use Rattle.ll_lines.specs.Lines.{Inst, Phi, Part, Label, Does, Param, Function}
+use Rattle.ll_lines.specs.Views.{text_of, typed_view, inst_view, param_view, IsTypeIn, IsSaidIn, IsTypedIn, IsInstIn}
+use Rattle.ll_values.specs.declared.store.Store.{Store}
+use Rattle.ll_values.specs.declared.value.Literal as code_literal
+use Rattle.ll_values.specs.declared.value.Literal.TheVariants as L
+use Rattle.ll_values.specs.declared.value.Entry as code_entry
+use Rattle.ll_values.specs.declared.value.Piece.{Piece}
+use Rattle.ll_values.specs.declared.value.Piece.TheVariants as P
+use Rattle.ll_values.specs.declared.value.Head as code_head
+use Rattle.ll_values.specs.declared.value.Definition.{Definition}
+use Rattle.ll_values.specs.declared.value.Value as code_value
+use Rattle.ll_values.specs.declared.value.Value.TheVariants as V
+use Rattle.ll_values.specs.declared.value.Made.{Made}
+use Rattle.ll_values.specs.declared.value.Made.TheVariants as M
+use Rattle.ll_values.specs.Lists.{list_at}
+use Rattle.ll_values.specs.Values.{Literal, LocalL, ConstL, Entry, Head, Value, NoneV, TextV, FlagV, WrapsV, TypeV, LiteralV, TypedV, PairV, EntryV, EntriesV, InstV, PartV, BodyV, ParamV, ParamsV, HeadV, SourceV, FunctionV, FileV}
+
+-- ---- what is said
+
+module _ (bytes : List ℕ) where
+  abbrev pub literal_view : code_literal.Literal → Literal
+  literal_view (L.Local n) = LocalL (text_of bytes n)
+  literal_view (L.Const n) = ConstL (text_of bytes n)
+
+  abbrev pub entry_view : code_entry.Entry → Entry
+  entry_view e = record { literal = literal_view e.literal; block = text_of bytes e.block }
+
+module _ (bytes : List ℕ) (t : Trees) (s : Store) where
+  abbrev pub entries_at : ℕ → List Entry
+  entries_at n = map (entry_view bytes) (list_at s.entries n)
+
+  abbrev pub inst_at : ℕ → Inst
+  inst_at n = option_map_or (inst_view bytes t) (slice_get s.insts.items n) (Phi VoidType [])
+
+  abbrev pub part_view : Piece → Part
+  part_view (P.Label n) = Label (text_of bytes n)
+  part_view (P.Does name i) = Does (record { result = option_map (text_of bytes) name; inst = inst_at i })
+
+  abbrev pub body_at : ℕ → List Part
+  body_at n = map part_view (list_at s.bodies n)
+
+  abbrev pub params_at : ℕ → List Param
+  params_at n = map (param_view bytes t) (list_at s.params n)
+
+  abbrev pub head_view : code_head.Head → Head
+  head_view h = record { result = type_at t.types h.result; name = text_of bytes h.name; params = params_at h.params }
+
+  abbrev pub definition_view : Definition → Function
+  definition_view d = record { result = type_at t.types d.head.result; name = text_of bytes d.head.name; params = params_at d.head.params; body = body_at d.body }
+
+  abbrev pub functions_at : ℕ → List Function
+  functions_at n = map definition_view (list_at s.functions n)
+
+  abbrev pub value_view : code_value.Value → Value
+  value_view V.Nothing = NoneV
+  value_view (V.Text n) = TextV (text_of bytes n)
+  value_view (V.Flag b) = FlagV b
+  value_view (V.Wraps flags) = WrapsV flags
+  value_view (V.Type ty) = TypeV (type_at t.types ty)
+  value_view (V.Literal l) = LiteralV (literal_view bytes l)
+  value_view (V.Typed x) = TypedV (typed_view bytes t x)
+  value_view (V.Pair ty a b) = PairV (typed_view bytes t (record { ty = ty; said = a })) (typed_view bytes t (record { ty = ty; said = b }))
+  value_view (V.Entry e) = EntryV (entry_view bytes e)
+  value_view (V.Entries n) = EntriesV (entries_at n)
+  value_view (V.Inst n) = InstV (inst_at n)
+  value_view (V.Part p) = PartV (part_view p)
+  value_view (V.Body n) = BodyV (body_at n)
+  value_view (V.Param p) = ParamV (param_view bytes t p)
+  value_view (V.Params n) = ParamsV (params_at n)
+  value_view (V.Head h) = HeadV (head_view h)
+  value_view (V.Source n) = SourceV (text_of bytes n)
+  value_view (V.Function d) = FunctionV (definition_view d)
+  value_view (V.File name n) = FileV (record { source = option_map (text_of bytes) name; functions = functions_at n })
+
+  -- and what is still to be kept
+  abbrev pub made_view : Made → Value
+  made_view (M.Value v) = value_view v
+  made_view (M.Inst i) = InstV (inst_view bytes t i)
+  made_view (M.Entries e n) = EntriesV (entry_view bytes e ∷ entries_at n)
+  made_view (M.Body p n) = BodyV (part_view p ∷ body_at n)
+  made_view (M.Params p n) = ParamsV (param_view bytes t p ∷ params_at n)
+  made_view (M.File d n) = FileV (record { source = None; functions = definition_view d ∷ functions_at n })
+
+-- instructions that are still to be kept: of these operands, and one of one operand that is taken to a type
+abbrev pub made_row : Op → List code_typed.Typed → (targets : List Name) → Made
+made_row op operands targets = M.Inst (I.Row (record { op = op; written = None; operands = operands; targets = targets }))
+
+abbrev pub made_cast : Op → code_typed.Typed → LLVMType → Made
+made_cast op x ty = M.Inst (I.Row (record { op = op; written = Some ty; operands = x ∷ []; targets = [] }))
+
+-- ---- what it names is there
+
+module _ (m : Module) (s : Store) where
+  abbrev pub IsPieceIn : Piece → Type 0
+  IsPieceIn (P.Label n) = Unit {0}
+  IsPieceIn (P.Does name i) = i < length s.insts.items
+
+  abbrev pub IsHeadIn : code_head.Head → Type 0
+  IsHeadIn h = IsTypeIn m h.result × (h.params ≤ length s.params)
+
+  abbrev pub IsDefinitionIn : Definition → Type 0
+  IsDefinitionIn d = IsHeadIn d.head × (d.body ≤ length s.bodies)
+
+  abbrev pub IsValueIn : code_value.Value → Type 0
+  IsValueIn V.Nothing = Unit {0}
+  IsValueIn (V.Text n) = Unit {0}
+  IsValueIn (V.Flag b) = Unit {0}
+  IsValueIn (V.Wraps flags) = Unit {0}
+  IsValueIn (V.Type ty) = IsTypeIn m ty
+  IsValueIn (V.Literal l) = Unit {0}
+  IsValueIn (V.Typed x) = IsTypedIn m x
+  IsValueIn (V.Pair ty a b) = IsTypeIn m ty × IsSaidIn m a × IsSaidIn m b
+  IsValueIn (V.Entry e) = Unit {0}
+  IsValueIn (V.Entries n) = n ≤ length s.entries
+  IsValueIn (V.Inst n) = n < length s.insts.items
+  IsValueIn (V.Part p) = IsPieceIn p
+  IsValueIn (V.Body n) = n ≤ length s.bodies
+  IsValueIn (V.Param p) = IsTypeIn m p.ty
+  IsValueIn (V.Params n) = n ≤ length s.params
+  IsValueIn (V.Head h) = IsHeadIn h
+  IsValueIn (V.Source n) = Unit {0}
+  IsValueIn (V.Function d) = IsDefinitionIn d
+  IsValueIn (V.File name n) = n ≤ length s.functions
+
+  abbrev pub IsMadeIn : Made → Type 0
+  IsMadeIn (M.Value v) = IsValueIn v
+  IsMadeIn (M.Inst i) = IsInstIn m i
+  IsMadeIn (M.Entries e n) = n ≤ length s.entries
+  IsMadeIn (M.Body p n) = IsPieceIn p × (n ≤ length s.bodies)
+  IsMadeIn (M.Params p n) = IsTypeIn m p.ty × (n ≤ length s.params)
+  IsMadeIn (M.File d n) = IsDefinitionIn d × (n ≤ length s.functions)
+
+  -- what is kept names what is there
+  pub record IsStoreIn : Type 0 where
+    pub sound : IsModule m
+    pub insts : All (IsInstIn m) s.insts.items
+    pub bodies : All (All IsPieceIn) s.bodies
+    pub params : All (All (λ (p : code_param.Param). IsTypeIn m p.ty)) s.params
+    pub functions : All (All IsDefinitionIn) s.functions

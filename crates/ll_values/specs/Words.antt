@@ -1,0 +1,47 @@
+-- Words of instructions, each with its row of the table.
+use Rattle.std.specs.Prelude.{false, List, [], ◌∷◌, Option, codes}
+use Rattle.std.specs.Option.{option_map}
+use Rattle.std.specs.Map.{lookup}
+use Rattle.std.specs.Str.{bytes_eq}
+use Rattle.kinds.specs.declared.op.LLVMIntPredicate.{LLVMIntPredicate}
+use Rattle.kinds.specs.declared.op.LLVMIntPredicate.TheVariants as P
+use Rattle.kinds.specs.declared.op.OverflowFlags.{OverflowFlags}
+use Rattle.kinds.specs.declared.op.Op.{Op}
+use Rattle.kinds.specs.declared.op.Op.TheVariants as O
+use Rattle.ll_lines.specs.Lines.{Text}
+
+abbrev pub no_wraps : OverflowFlags
+no_wraps = record { nuw = false; nsw = false }
+
+-- of two operands of one type
+abbrev pub binary_rows : List (Text × (OverflowFlags → Op))
+binary_rows =
+    (codes "add", O.Add) ∷ (codes "sub", O.Sub) ∷ (codes "mul", O.Mul) ∷ (codes "shl", O.Shl)
+    ∷ (codes "udiv", λ flags. O.UDiv) ∷ (codes "sdiv", λ flags. O.SDiv) ∷ (codes "urem", λ flags. O.URem) ∷ (codes "srem", λ flags. O.SRem)
+    ∷ (codes "lshr", λ flags. O.LShr) ∷ (codes "ashr", λ flags. O.AShr) ∷ (codes "and", λ flags. O.And) ∷ (codes "xor", λ flags. O.Xor) ∷ []
+
+abbrev pub binary_op : Text → OverflowFlags → Option Op
+binary_op word flags = option_map (λ (of : OverflowFlags → Op). of flags) (lookup (bytes_eq word) binary_rows)
+
+-- of one operand and the type that it is taken to
+abbrev pub cast_rows : List (Text × Op)
+cast_rows = (codes "sext", O.SExt) ∷ []
+
+abbrev pub cast_op : Text → Option Op
+cast_op word = lookup (bytes_eq word) cast_rows
+
+-- of three operands
+abbrev pub three_rows : List (Text × Op)
+three_rows = (codes "select", O.Select) ∷ []
+
+abbrev pub three_op : Text → Option Op
+three_op word = lookup (bytes_eq word) three_rows
+
+-- the words of icmp
+abbrev pub predicate_rows : List (Text × LLVMIntPredicate)
+predicate_rows =
+    (codes "eq", P.LLVMIntEQ) ∷ (codes "ne", P.LLVMIntNE) ∷ (codes "ugt", P.LLVMIntUGT) ∷ (codes "uge", P.LLVMIntUGE) ∷ (codes "ult", P.LLVMIntULT)
+    ∷ (codes "ule", P.LLVMIntULE) ∷ (codes "sgt", P.LLVMIntSGT) ∷ (codes "sge", P.LLVMIntSGE) ∷ (codes "slt", P.LLVMIntSLT) ∷ (codes "sle", P.LLVMIntSLE) ∷ []
+
+abbrev pub predicate_of : Text → Option LLVMIntPredicate
+predicate_of word = lookup (bytes_eq word) predicate_rows

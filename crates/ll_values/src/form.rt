@@ -1,0 +1,781 @@
+//! What the alternatives of the form say, which `grammar/form.py write` makes of `grammar/form.txt`.
+
+ghost use Rattle.std.specs.Prelude.{◌≡◌};
+ghost use Rattle.ll_values.specs.Parts.{detail_count, list_count, row_count, typed_count, part_count};
+
+/// Parts of functions and of instructions.
+#[derive(Clone, Copy, Drop)]
+pub enum DetailKind {
+    Source,
+    Param,
+    Label,
+    Line,
+    Literal,
+    Local,
+    Inst,
+    Entry,
+    Nuw,
+    Nsw,
+    NoWraps,
+}
+
+/// Lists, and what holds them.
+#[derive(Clone, Copy, Drop)]
+pub enum ListKind {
+    FileMore,
+    FileEnd,
+    Define,
+    Head,
+    Parameters,
+    ParamsMore,
+    ParamsEnd,
+    BodyMore,
+    BodyEnd,
+    EntriesEnd,
+    EntriesMore,
+}
+
+/// Instructions that are no phi.
+#[derive(Clone, Copy, Drop)]
+pub enum RowKind {
+    Return,
+    Unreachable,
+    Sum,
+    Quotient,
+    Bits,
+    Or,
+    ICmp,
+    Cast,
+    Trunc,
+    ZExt,
+    Three,
+    Freeze,
+    Jump,
+    Branch,
+}
+
+/// What adds types or constants.
+#[derive(Clone, Copy, Drop)]
+pub enum TypedKind {
+    Void,
+    Int,
+    Typed,
+    Pair,
+    Phi,
+}
+
+/// What an alternative says.
+#[derive(Clone, Copy, Drop)]
+pub enum Kind {
+    /// It is outside of the form.
+    Outside,
+    Nothing,
+    Same,
+    Yes,
+    No,
+    Detail(DetailKind),
+    List(ListKind),
+    Row(RowKind),
+    Typed(TypedKind),
+}
+
+impl DetailKind {
+    /// How many parts it has: held tokens, and what rules say.
+    pub fn part_count(self) -> usize
+        ensures { result ≡ detail_count self }
+    {
+        match self {
+            DetailKind::Source => 1,
+            DetailKind::Param => 3,
+            DetailKind::Label => 1,
+            DetailKind::Line => 3,
+            DetailKind::Literal => 1,
+            DetailKind::Local => 1,
+            DetailKind::Inst => 2,
+            DetailKind::Entry => 2,
+            DetailKind::Nuw => 1,
+            DetailKind::Nsw => 0,
+            DetailKind::NoWraps => 0,
+        }
+    }
+}
+
+impl ListKind {
+    /// How many parts it has: held tokens, and what rules say.
+    pub fn part_count(self) -> usize
+        ensures { result ≡ list_count self }
+    {
+        match self {
+            ListKind::FileMore => 2,
+            ListKind::FileEnd => 0,
+            ListKind::Define => 5,
+            ListKind::Head => 5,
+            ListKind::Parameters => 3,
+            ListKind::ParamsMore => 2,
+            ListKind::ParamsEnd => 0,
+            ListKind::BodyMore => 2,
+            ListKind::BodyEnd => 0,
+            ListKind::EntriesEnd => 0,
+            ListKind::EntriesMore => 2,
+        }
+    }
+}
+
+impl RowKind {
+    /// How many parts it has: held tokens, and what rules say.
+    pub fn part_count(self) -> usize
+        ensures { result ≡ row_count self }
+    {
+        match self {
+            RowKind::Return => 1,
+            RowKind::Unreachable => 0,
+            RowKind::Sum => 3,
+            RowKind::Quotient => 3,
+            RowKind::Bits => 2,
+            RowKind::Or => 2,
+            RowKind::ICmp => 3,
+            RowKind::Cast => 3,
+            RowKind::Trunc => 3,
+            RowKind::ZExt => 3,
+            RowKind::Three => 4,
+            RowKind::Freeze => 1,
+            RowKind::Jump => 1,
+            RowKind::Branch => 3,
+        }
+    }
+}
+
+impl TypedKind {
+    /// How many parts it has: held tokens, and what rules say.
+    pub fn part_count(self) -> usize
+        ensures { result ≡ typed_count self }
+    {
+        match self {
+            TypedKind::Void => 0,
+            TypedKind::Int => 1,
+            TypedKind::Typed => 2,
+            TypedKind::Pair => 3,
+            TypedKind::Phi => 3,
+        }
+    }
+}
+
+impl Kind {
+    /// How many parts it has: held tokens, and what rules say.
+    pub fn part_count(self) -> usize
+        ensures { result ≡ part_count self }
+    {
+        match self {
+            Kind::Outside => 0,
+            Kind::Nothing => 0,
+            Kind::Same => 1,
+            Kind::Yes => 0,
+            Kind::No => 0,
+            Kind::Detail(kind) => kind.part_count(),
+            Kind::List(kind) => kind.part_count(),
+            Kind::Row(kind) => kind.part_count(),
+            Kind::Typed(kind) => kind.part_count(),
+        }
+    }
+}
+
+/// The kinds of all alternatives, by their numbers; no alternative has the number 0.
+pub static KINDS: [Kind; 515] = [
+    Kind::Outside,
+    // 1: file = item file
+    Kind::List(ListKind::FileMore),
+    // 2: file = nothing
+    Kind::List(ListKind::FileEnd),
+    // 3: item = 'source_filename' '=' STR
+    Kind::Detail(DetailKind::Source),
+    Kind::Outside,
+    Kind::Outside,
+    Kind::Outside,
+    Kind::Outside,
+    // 8: item = 'define' define_linkage head function_attrs attachments '{' body '}'
+    Kind::List(ListKind::Define),
+    Kind::Outside,
+    Kind::Outside,
+    Kind::Outside,
+    Kind::Outside,
+    Kind::Outside,
+    Kind::Outside,
+    Kind::Outside,
+    Kind::Outside,
+    Kind::Outside,
+    Kind::Outside,
+    Kind::Outside,
+    Kind::Outside,
+    Kind::Outside,
+    Kind::Outside,
+    Kind::Outside,
+    Kind::Outside,
+    Kind::Outside,
+    // 26: define_linkage = nothing
+    Kind::Nothing,
+    Kind::Outside,
+    Kind::Outside,
+    Kind::Outside,
+    // 30: dso = nothing
+    Kind::Nothing,
+    Kind::Outside,
+    // 32: unnamed = nothing
+    Kind::Nothing,
+    Kind::Outside,
+    Kind::Outside,
+    Kind::Outside,
+    Kind::Outside,
+    Kind::Outside,
+    Kind::Outside,
+    Kind::Outside,
+    Kind::Outside,
+    Kind::Outside,
+    // 42: space = nothing
+    Kind::Nothing,
+    Kind::Outside,
+    Kind::Outside,
+    Kind::Outside,
+    Kind::Outside,
+    Kind::Outside,
+    Kind::Outside,
+    Kind::Outside,
+    // 50: head = dso lost_attrs type GLOBAL parameters
+    Kind::List(ListKind::Head),
+    // 51: parameters = '(' params ')' unnamed space
+    Kind::List(ListKind::Parameters),
+    // 52: params = param more_params
+    Kind::List(ListKind::ParamsMore),
+    Kind::Outside,
+    // 54: params = nothing
+    Kind::List(ListKind::ParamsEnd),
+    // 55: more_params = ',' param_or_dots
+    Kind::Same,
+    // 56: more_params = nothing
+    Kind::List(ListKind::ParamsEnd),
+    // 57: param_or_dots = param more_params
+    Kind::List(ListKind::ParamsMore),
+    Kind::Outside,
+    // 59: param = type lost_attrs name
+    Kind::Detail(DetailKind::Param),
+    // 60: name = LOCAL
+    Kind::Same,
+    // 61: name = nothing
+    Kind::Nothing,
+    // 62: body = body_part body_parts
+    Kind::List(ListKind::BodyMore),
+    // 63: body_parts = body_part body_parts
+    Kind::List(ListKind::BodyMore),
+    // 64: body_parts = nothing
+    Kind::List(ListKind::BodyEnd),
+    // 65: body_part = LABEL
+    Kind::Detail(DetailKind::Label),
+    // 66: body_part = line
+    Kind::Same,
+    // 67: line = records result inst
+    Kind::Detail(DetailKind::Line),
+    Kind::Outside,
+    // 69: records = nothing
+    Kind::Nothing,
+    // 70: result = LOCAL '='
+    Kind::Same,
+    // 71: result = nothing
+    Kind::Nothing,
+    Kind::Outside,
+    // 73: lost_attrs = nothing
+    Kind::Nothing,
+    Kind::Outside,
+    Kind::Outside,
+    Kind::Outside,
+    Kind::Outside,
+    Kind::Outside,
+    Kind::Outside,
+    Kind::Outside,
+    Kind::Outside,
+    Kind::Outside,
+    Kind::Outside,
+    Kind::Outside,
+    Kind::Outside,
+    // 86: function_attrs = nothing
+    Kind::Nothing,
+    Kind::Outside,
+    Kind::Outside,
+    Kind::Outside,
+    Kind::Outside,
+    Kind::Outside,
+    Kind::Outside,
+    Kind::Outside,
+    Kind::Outside,
+    Kind::Outside,
+    Kind::Outside,
+    Kind::Outside,
+    Kind::Outside,
+    Kind::Outside,
+    Kind::Outside,
+    Kind::Outside,
+    Kind::Outside,
+    Kind::Outside,
+    Kind::Outside,
+    Kind::Outside,
+    Kind::Outside,
+    Kind::Outside,
+    Kind::Outside,
+    Kind::Outside,
+    Kind::Outside,
+    Kind::Outside,
+    Kind::Outside,
+    Kind::Outside,
+    Kind::Outside,
+    Kind::Outside,
+    Kind::Outside,
+    Kind::Outside,
+    Kind::Outside,
+    Kind::Outside,
+    Kind::Outside,
+    Kind::Outside,
+    Kind::Outside,
+    Kind::Outside,
+    Kind::Outside,
+    Kind::Outside,
+    Kind::Outside,
+    Kind::Outside,
+    Kind::Outside,
+    Kind::Outside,
+    Kind::Outside,
+    Kind::Outside,
+    Kind::Outside,
+    Kind::Outside,
+    Kind::Outside,
+    Kind::Outside,
+    Kind::Outside,
+    Kind::Outside,
+    Kind::Outside,
+    Kind::Outside,
+    Kind::Outside,
+    Kind::Outside,
+    Kind::Outside,
+    Kind::Outside,
+    Kind::Outside,
+    Kind::Outside,
+    Kind::Outside,
+    Kind::Outside,
+    Kind::Outside,
+    Kind::Outside,
+    Kind::Outside,
+    Kind::Outside,
+    Kind::Outside,
+    Kind::Outside,
+    Kind::Outside,
+    Kind::Outside,
+    Kind::Outside,
+    Kind::Outside,
+    Kind::Outside,
+    Kind::Outside,
+    Kind::Outside,
+    Kind::Outside,
+    Kind::Outside,
+    Kind::Outside,
+    Kind::Outside,
+    Kind::Outside,
+    Kind::Outside,
+    Kind::Outside,
+    Kind::Outside,
+    Kind::Outside,
+    Kind::Outside,
+    Kind::Outside,
+    Kind::Outside,
+    Kind::Outside,
+    Kind::Outside,
+    Kind::Outside,
+    Kind::Outside,
+    Kind::Outside,
+    Kind::Outside,
+    Kind::Outside,
+    Kind::Outside,
+    Kind::Outside,
+    Kind::Outside,
+    Kind::Outside,
+    Kind::Outside,
+    Kind::Outside,
+    Kind::Outside,
+    Kind::Outside,
+    Kind::Outside,
+    Kind::Outside,
+    Kind::Outside,
+    Kind::Outside,
+    Kind::Outside,
+    Kind::Outside,
+    Kind::Outside,
+    Kind::Outside,
+    Kind::Outside,
+    Kind::Outside,
+    Kind::Outside,
+    Kind::Outside,
+    Kind::Outside,
+    Kind::Outside,
+    Kind::Outside,
+    Kind::Outside,
+    Kind::Outside,
+    Kind::Outside,
+    Kind::Outside,
+    Kind::Outside,
+    Kind::Outside,
+    Kind::Outside,
+    Kind::Outside,
+    Kind::Outside,
+    Kind::Outside,
+    Kind::Outside,
+    Kind::Outside,
+    Kind::Outside,
+    Kind::Outside,
+    Kind::Outside,
+    Kind::Outside,
+    Kind::Outside,
+    Kind::Outside,
+    Kind::Outside,
+    Kind::Outside,
+    Kind::Outside,
+    Kind::Outside,
+    Kind::Outside,
+    Kind::Outside,
+    Kind::Outside,
+    Kind::Outside,
+    Kind::Outside,
+    Kind::Outside,
+    Kind::Outside,
+    Kind::Outside,
+    Kind::Outside,
+    Kind::Outside,
+    Kind::Outside,
+    Kind::Outside,
+    Kind::Outside,
+    Kind::Outside,
+    Kind::Outside,
+    Kind::Outside,
+    Kind::Outside,
+    Kind::Outside,
+    Kind::Outside,
+    Kind::Outside,
+    Kind::Outside,
+    Kind::Outside,
+    Kind::Outside,
+    Kind::Outside,
+    Kind::Outside,
+    Kind::Outside,
+    Kind::Outside,
+    Kind::Outside,
+    Kind::Outside,
+    Kind::Outside,
+    Kind::Outside,
+    Kind::Outside,
+    Kind::Outside,
+    Kind::Outside,
+    Kind::Outside,
+    Kind::Outside,
+    // 261: type = 'void'
+    Kind::Typed(TypedKind::Void),
+    // 262: type = solid
+    Kind::Same,
+    // 263: solid = flat
+    Kind::Same,
+    Kind::Outside,
+    // 265: flat = INTTYPE
+    Kind::Typed(TypedKind::Int),
+    Kind::Outside,
+    Kind::Outside,
+    Kind::Outside,
+    Kind::Outside,
+    Kind::Outside,
+    Kind::Outside,
+    Kind::Outside,
+    Kind::Outside,
+    Kind::Outside,
+    Kind::Outside,
+    Kind::Outside,
+    Kind::Outside,
+    Kind::Outside,
+    Kind::Outside,
+    Kind::Outside,
+    Kind::Outside,
+    Kind::Outside,
+    Kind::Outside,
+    Kind::Outside,
+    Kind::Outside,
+    Kind::Outside,
+    Kind::Outside,
+    Kind::Outside,
+    // 289: const = INT
+    Kind::Detail(DetailKind::Literal),
+    // 290: const = CONST
+    Kind::Detail(DetailKind::Literal),
+    Kind::Outside,
+    Kind::Outside,
+    Kind::Outside,
+    Kind::Outside,
+    Kind::Outside,
+    Kind::Outside,
+    Kind::Outside,
+    Kind::Outside,
+    Kind::Outside,
+    Kind::Outside,
+    Kind::Outside,
+    Kind::Outside,
+    Kind::Outside,
+    Kind::Outside,
+    Kind::Outside,
+    Kind::Outside,
+    Kind::Outside,
+    Kind::Outside,
+    Kind::Outside,
+    Kind::Outside,
+    Kind::Outside,
+    Kind::Outside,
+    Kind::Outside,
+    Kind::Outside,
+    Kind::Outside,
+    Kind::Outside,
+    Kind::Outside,
+    Kind::Outside,
+    Kind::Outside,
+    // 320: inst = simple attached
+    Kind::Detail(DetailKind::Inst),
+    Kind::Outside,
+    Kind::Outside,
+    Kind::Outside,
+    Kind::Outside,
+    Kind::Outside,
+    Kind::Outside,
+    Kind::Outside,
+    Kind::Outside,
+    // 329: inst = 'phi' type entry more_entries
+    Kind::Typed(TypedKind::Phi),
+    // 330: simple = 'ret' ret
+    Kind::Row(RowKind::Return),
+    // 331: simple = 'br' br
+    Kind::Same,
+    Kind::Outside,
+    Kind::Outside,
+    // 334: simple = 'unreachable'
+    Kind::Row(RowKind::Unreachable),
+    // 335: simple = sum wraps pair
+    Kind::Row(RowKind::Sum),
+    // 336: simple = quotient lost_exact pair
+    Kind::Row(RowKind::Quotient),
+    // 337: simple = bits pair
+    Kind::Row(RowKind::Bits),
+    // 338: simple = 'or' lost_disjoint pair
+    Kind::Row(RowKind::Or),
+    // 339: simple = 'icmp' lost_samesign predicate pair
+    Kind::Row(RowKind::ICmp),
+    // 340: simple = cast typed 'to' type
+    Kind::Row(RowKind::Cast),
+    // 341: simple = 'trunc' lost_wraps typed 'to' type
+    Kind::Row(RowKind::Trunc),
+    // 342: simple = 'zext' nneg typed 'to' type
+    Kind::Row(RowKind::ZExt),
+    Kind::Outside,
+    Kind::Outside,
+    // 345: simple = SIMPLE typed ',' typed ',' typed
+    Kind::Row(RowKind::Three),
+    Kind::Outside,
+    // 347: simple = 'freeze' typed
+    Kind::Row(RowKind::Freeze),
+    Kind::Outside,
+    Kind::Outside,
+    // 350: value = LOCAL
+    Kind::Detail(DetailKind::Local),
+    // 351: value = const
+    Kind::Same,
+    // 352: typed = type value
+    Kind::Typed(TypedKind::Typed),
+    // 353: pair = type value ',' value
+    Kind::Typed(TypedKind::Pair),
+    // 354: ret = 'void'
+    Kind::Nothing,
+    // 355: ret = solid value
+    Kind::Typed(TypedKind::Typed),
+    // 356: br = 'label' LOCAL
+    Kind::Row(RowKind::Jump),
+    // 357: br = typed ',' 'label' LOCAL ',' 'label' LOCAL
+    Kind::Row(RowKind::Branch),
+    Kind::Outside,
+    Kind::Outside,
+    Kind::Outside,
+    Kind::Outside,
+    Kind::Outside,
+    Kind::Outside,
+    // 364: sum = CONST_SUM_RMW_KIND_SUM
+    Kind::Same,
+    // 365: sum = SUM
+    Kind::Same,
+    // 366: wraps = 'nuw' nsw
+    Kind::Detail(DetailKind::Nuw),
+    // 367: wraps = 'nsw'
+    Kind::Detail(DetailKind::Nsw),
+    // 368: wraps = nothing
+    Kind::Detail(DetailKind::NoWraps),
+    // 369: nsw = 'nsw'
+    Kind::Yes,
+    // 370: nsw = nothing
+    Kind::No,
+    Kind::Outside,
+    Kind::Outside,
+    // 373: lost_wraps = nothing
+    Kind::Nothing,
+    Kind::Outside,
+    Kind::Outside,
+    Kind::Outside,
+    Kind::Outside,
+    // 378: quotient = QUOTIENT
+    Kind::Same,
+    Kind::Outside,
+    // 380: lost_exact = nothing
+    Kind::Nothing,
+    // 381: bits = BITS
+    Kind::Same,
+    // 382: bits = BITS_RMW_KIND
+    Kind::Same,
+    Kind::Outside,
+    // 384: lost_disjoint = nothing
+    Kind::Nothing,
+    Kind::Outside,
+    // 386: lost_samesign = nothing
+    Kind::Nothing,
+    // 387: predicate = PREDICATE
+    Kind::Same,
+    Kind::Outside,
+    // 389: cast = CAST
+    Kind::Same,
+    // 390: nneg = 'nneg'
+    Kind::Yes,
+    // 391: nneg = nothing
+    Kind::No,
+    Kind::Outside,
+    Kind::Outside,
+    Kind::Outside,
+    Kind::Outside,
+    Kind::Outside,
+    Kind::Outside,
+    Kind::Outside,
+    Kind::Outside,
+    Kind::Outside,
+    Kind::Outside,
+    Kind::Outside,
+    Kind::Outside,
+    Kind::Outside,
+    Kind::Outside,
+    Kind::Outside,
+    Kind::Outside,
+    Kind::Outside,
+    Kind::Outside,
+    Kind::Outside,
+    Kind::Outside,
+    Kind::Outside,
+    Kind::Outside,
+    Kind::Outside,
+    Kind::Outside,
+    Kind::Outside,
+    Kind::Outside,
+    Kind::Outside,
+    Kind::Outside,
+    Kind::Outside,
+    Kind::Outside,
+    Kind::Outside,
+    Kind::Outside,
+    Kind::Outside,
+    Kind::Outside,
+    Kind::Outside,
+    Kind::Outside,
+    Kind::Outside,
+    Kind::Outside,
+    Kind::Outside,
+    Kind::Outside,
+    Kind::Outside,
+    Kind::Outside,
+    Kind::Outside,
+    Kind::Outside,
+    Kind::Outside,
+    Kind::Outside,
+    Kind::Outside,
+    Kind::Outside,
+    // 440: entry = '[' value ',' LOCAL ']'
+    Kind::Detail(DetailKind::Entry),
+    // 441: more_entries = ',' entry_or_node
+    Kind::Same,
+    // 442: more_entries = nothing
+    Kind::List(ListKind::EntriesEnd),
+    // 443: entry_or_node = entry more_entries
+    Kind::List(ListKind::EntriesMore),
+    Kind::Outside,
+    Kind::Outside,
+    Kind::Outside,
+    Kind::Outside,
+    Kind::Outside,
+    Kind::Outside,
+    Kind::Outside,
+    Kind::Outside,
+    Kind::Outside,
+    Kind::Outside,
+    Kind::Outside,
+    Kind::Outside,
+    Kind::Outside,
+    Kind::Outside,
+    Kind::Outside,
+    Kind::Outside,
+    Kind::Outside,
+    Kind::Outside,
+    Kind::Outside,
+    Kind::Outside,
+    Kind::Outside,
+    Kind::Outside,
+    Kind::Outside,
+    Kind::Outside,
+    Kind::Outside,
+    // 469: attached = nothing
+    Kind::Nothing,
+    Kind::Outside,
+    // 471: attachments = nothing
+    Kind::Nothing,
+    Kind::Outside,
+    Kind::Outside,
+    Kind::Outside,
+    Kind::Outside,
+    Kind::Outside,
+    Kind::Outside,
+    Kind::Outside,
+    Kind::Outside,
+    Kind::Outside,
+    Kind::Outside,
+    Kind::Outside,
+    Kind::Outside,
+    Kind::Outside,
+    Kind::Outside,
+    Kind::Outside,
+    Kind::Outside,
+    Kind::Outside,
+    Kind::Outside,
+    Kind::Outside,
+    Kind::Outside,
+    Kind::Outside,
+    Kind::Outside,
+    Kind::Outside,
+    Kind::Outside,
+    Kind::Outside,
+    Kind::Outside,
+    Kind::Outside,
+    Kind::Outside,
+    Kind::Outside,
+    Kind::Outside,
+    Kind::Outside,
+    Kind::Outside,
+    Kind::Outside,
+    Kind::Outside,
+    Kind::Outside,
+    Kind::Outside,
+    Kind::Outside,
+    Kind::Outside,
+    Kind::Outside,
+    Kind::Outside,
+    Kind::Outside,
+    Kind::Outside,
+    Kind::Outside,
+];

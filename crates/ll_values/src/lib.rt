@@ -1,0 +1,18 @@
+//! From the events of a text to what it says: values, made from the last event to the first.
+#![tactic(auto)]
+
+mod assemble;
+mod fold;
+pub mod form;
+mod keep;
+pub mod lists;
+mod make;
+mod plan;
+mod plan_row;
+pub mod read;
+mod said;
+pub mod store;
+mod typed;
+pub mod value;
+pub mod value_err;
+mod words;

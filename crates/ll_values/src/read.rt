@@ -1,0 +1,70 @@
+//! What the events of a text say.
+
+ghost use Rattle.std.specs.Prelude.{◌≡◌, ℕ, [], ◌∷◌, Option, Some, None, Err, IfOk, IfSome, OnOk};
+ghost use Rattle.llvm_core.specs.Sound.{IsModule};
+ghost use Rattle.llvm_core.specs.Data.{trees_of, data_of};
+ghost use Rattle.ll_lines.specs.Lines as said;
+ghost use Rattle.ll_lines.specs.Views.{file_view, IsFileIn};
+ghost use Rattle.ll_values.specs.declared.form.TheConstants.{KINDS};
+ghost use Rattle.ll_lines.specs.declared.names.Name as names;
+ghost use Rattle.ll_values.specs.declared.value.Value.TheVariants as V;
+ghost use Rattle.ll_values.specs.Values.{FileV};
+ghost use Rattle.ll_values.specs.Folding.{fold};
+
+use crate::assemble::functions;
+use crate::fold::{Source, fold};
+use crate::form::KINDS;
+use crate::store::Store;
+use crate::value::Value;
+use crate::value_err::ValueErr;
+use grammars::symbols::Event;
+use ll_lines::lines::File;
+use ll_lines::names::Name;
+use ll_tokens::tokens::Token;
+use llvm_core::module::LLVMModule;
+use std::alloc::Global;
+
+/// The name of the module and the number of the functions, where a file is the only value.
+fn file_of(values: &[Value]) -> Option<(Option<Name>, u32)>
+    ensures file { IfSome result (λ p. values.now ≡ V.File p.0 p.1 ∷ []) }
+    ensures none { result ≡ None → (name : Option names.Name) (n : ℕ) → values.now ≡ V.File name n ∷ [] → ⊥ }
+{
+    match *values {
+        [Value::File(name, list)] => Some((name, list)),
+        _ => None,
+    }
+}
+
+/// The file that events say, whose types and constants are added to the module.
+pub fn read_file(
+    alloc: Global,
+    m: &mut LLVMModule,
+    bytes: &[u8],
+    tokens: &[Token],
+    events: &[Event],
+) -> Result<File, ValueErr>
+    ensures file { IfOk result (λ f. fold KINDS bytes.now tokens.now events.now ≡ Some (FileV (file_view bytes.now (trees_of m.new) f) ∷ [])) }
+    ensures there { IfOk result (IsFileIn m.new) }
+    ensures rest { OnOk result (data_of m.new ≡ data_of m.old) }
+    ensures sound { OnOk result (IsModule m.new) }
+    ensures not_yet { result ≡ Err ValueErr.NotYet → (f : said.File) → fold KINDS bytes.now tokens.now events.now ≡ Some (FileV f ∷ []) → ⊥ }
+{
+    let _count = m.types();
+    let text = Source {
+        kinds: &KINDS,
+        bytes,
+        tokens,
+    };
+    let mut store = Store::new(alloc);
+    let values = match fold(alloc, m, &mut store, &text, events) {
+        Ok(values) => values,
+        Err(e) => return Err(e),
+    };
+    let Some((source, list)) = file_of(values.as_slice()) else {
+        return Err(ValueErr::NotYet);
+    };
+    match functions(alloc, m, &store, bytes, list) {
+        Ok(functions) => Ok(File { source, functions }),
+        Err(_) => Err(ValueErr::NoMemory),
+    }
+}

@@ -1,0 +1,89 @@
+//! Types and constants of the module, as a text says them.
+
+ghost use Rattle.std.specs.Prelude.{◌≡◌, ◌≤◌, Some, None, Err, IfOk, IfSome, OnOk, slice_get};
+ghost use Rattle.kinds.specs.Types.{VoidType, IntType};
+ghost use Rattle.llvm_core.specs.declared.types.LLVMTypeKind.TheVariants as T;
+ghost use Rattle.llvm_core.specs.Sound.{IsModule};
+ghost use Rattle.llvm_core.specs.Data.{trees_of, type_at};
+ghost use Rattle.ll_lines.specs.Lines.{Text};
+ghost use Rattle.ll_lines.specs.Views.{said_view, IsTypeIn, IsSaidIn};
+ghost use Rattle.ll_values.specs.Values.{said, ConstL};
+ghost use Rattle.ll_values.specs.Views.{literal_view};
+ghost use Rattle.ll_values.specs.Growing.{Interns};
+
+use crate::value::Literal;
+use crate::value_err::ValueErr;
+use ll_lines::lines::Said;
+use ll_tree::literals::const_value;
+use llvm_core::consts::LLVMConstKind;
+use llvm_core::module::LLVMModule;
+use llvm_core::numbers::LLVMType;
+use llvm_core::types::LLVMTypeKind;
+use std::alloc::AllocError;
+
+/// The type `void`.
+pub fn void_type(m: &mut LLVMModule) -> Result<LLVMType, AllocError>
+    requires sound { IsModule m.old }
+    ensures interns { OnOk result (Interns m.old m.new) }
+    ensures there { IfOk result (IsTypeIn m.new) }
+    ensures tree { IfOk result (λ t. type_at (trees_of m.new).types t ≡ VoidType) }
+{
+    let ty = m.type_get(LLVMTypeKind::Void)?;
+    Ok(ty)
+}
+
+/// An integer type of 1 to 2^23 bits.
+pub fn int_type(m: &mut LLVMModule, width: u32) -> Result<LLVMType, AllocError>
+    requires sound { IsModule m.old }
+    requires least { 1 ≤ width }
+    requires most { width ≤ 8388608 }
+    ensures interns { OnOk result (Interns m.old m.new) }
+    ensures there { IfOk result (IsTypeIn m.new) }
+    ensures tree { IfOk result (λ t. type_at (trees_of m.new).types t ≡ IntType width) }
+{
+    let ty = m.type_get(LLVMTypeKind::Int(width))?;
+    Ok(ty)
+}
+
+/// The width of an integer type whose constants are read: of at most 64 bits.
+fn const_width(m: &LLVMModule, ty: LLVMType) -> Option<u32>
+    requires sound { IsModule m.now }
+    requires there { IsTypeIn m.now ty }
+    ensures int { IfSome result (λ w. slice_get m.now.types ty.0 ≡ Some (T.Int w)) }
+    ensures most { IfSome result (λ w. w ≤ 64) }
+    ensures none { result ≡ None → (t : Text) → said (type_at (trees_of m.now).types ty) (ConstL t) ≡ None }
+{
+    match m.type_kind(ty) {
+        LLVMTypeKind::Int(width) => (*width <= 64).then_some(*width),
+        LLVMTypeKind::Void => None,
+        LLVMTypeKind::Function { .. } => None,
+    }
+}
+
+/// What a literal says at a type.
+pub fn said(
+    m: &mut LLVMModule,
+    bytes: &[u8],
+    ty: LLVMType,
+    literal: Literal,
+) -> Result<Said, ValueErr>
+    requires sound { IsModule m.old }
+    requires there { IsTypeIn m.old ty }
+    ensures interns { OnOk result (Interns m.old m.new) }
+    ensures there { IfOk result (IsSaidIn m.new) }
+    ensures said { IfOk result (λ x. said (type_at (trees_of m.old).types ty) (literal_view bytes.now literal) ≡ Some (said_view bytes.now (trees_of m.new) x)) }
+    ensures not_yet { result ≡ Err ValueErr.NotYet → said (type_at (trees_of m.old).types ty) (literal_view bytes.now literal) ≡ None }
+{
+    let text = match literal {
+        Literal::Local(name) => return Ok(Said::Local(name)),
+        Literal::Const(name) => name.text(bytes),
+    };
+    let Some(width) = const_width(m, ty) else {
+        return Err(ValueErr::NotYet);
+    };
+    let Some(value) = const_value(text, width) else {
+        return Err(ValueErr::NotYet);
+    };
+    let c = m.const_get(LLVMConstKind::Int(ty, value))?;
+    Ok(Said::Const(c))
+}

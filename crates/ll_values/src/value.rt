@@ -1,0 +1,84 @@
+//! The values of a text, as they stand on a stack: what is longer is a number of a store.
+
+use kinds::op::OverflowFlags;
+use ll_lines::lines::{Inst, Param, Said, Typed};
+use ll_lines::names::Name;
+use llvm_core::numbers::LLVMType;
+
+/// A literal as it is written.
+#[derive(Clone, Copy, Drop)]
+pub enum Literal {
+    /// `%` and a name or a number.
+    Local(Name),
+    /// An integer's digits, `true` or `false`.
+    Const(Name),
+}
+
+/// An entry of a phi.
+#[derive(Clone, Copy, Drop)]
+pub struct Entry {
+    pub literal: Literal,
+    pub block: Name,
+}
+
+/// A part of a body.
+#[derive(Clone, Copy, Drop)]
+pub enum Piece {
+    Label(Name),
+    /// What is written of the name of a result, and the number of the instruction.
+    Does(Option<Name>, u32),
+}
+
+/// What stands before the body of a function, with the number of the parameters.
+#[derive(Clone, Copy, Drop)]
+pub struct Head {
+    pub result: LLVMType,
+    pub name: Name,
+    pub params: u32,
+}
+
+/// A function, with the number of its body.
+#[derive(Clone, Copy, Drop)]
+pub struct Definition {
+    pub head: Head,
+    pub body: u32,
+}
+
+/// A value. Numbers are those of lists and instructions of a store.
+#[derive(Clone, Copy, Drop)]
+pub enum Value {
+    Nothing,
+    Text(Name),
+    Flag(bool),
+    Wraps(OverflowFlags),
+    Type(LLVMType),
+    Literal(Literal),
+    Typed(Typed),
+    /// Two values of one type.
+    Pair(LLVMType, Said, Said),
+    Entry(Entry),
+    Entries(u32),
+    Inst(u32),
+    Part(Piece),
+    Body(u32),
+    Param(Param),
+    Params(u32),
+    Head(Head),
+    Source(Name),
+    Function(Definition),
+    /// The name of the module and the functions.
+    File(Option<Name>, u32),
+}
+
+/// What is made of parts: a value, or what is still to be kept for it.
+#[derive(Drop)]
+pub enum Made {
+    Value(Value),
+    Inst(Inst),
+    /// An item before a list, here and below.
+    Entries(Entry, u32),
+    Body(Piece, u32),
+    Params(Param, u32),
+    /// A function before those of a file without a name.
+    File(Definition, u32),
+}

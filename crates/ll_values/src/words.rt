@@ -1,0 +1,86 @@
+//! Words of instructions, and types and literals as tokens write them.
+
+ghost use Rattle.std.specs.Prelude.{◌≡◌, ◌≤◌, IfSome};
+ghost use Rattle.std.specs.Option.{option_map};
+ghost use Rattle.kinds.specs.Types.{IntType};
+ghost use Rattle.ll_values.specs.Words.{binary_op, cast_op, three_op, predicate_of};
+ghost use Rattle.ll_values.specs.Values.{int_type};
+
+use kinds::op::{LLVMIntPredicate, Op, OverflowFlags};
+use ll_tree::literals::number;
+
+/// The row of a word of an operation on two values of one type.
+pub fn binary_op(word: &[u8], flags: OverflowFlags) -> Option<Op>
+    ensures { result ≡ binary_op word.now flags }
+{
+    match word {
+        b"add" => Some(Op::Add(flags)),
+        b"sub" => Some(Op::Sub(flags)),
+        b"mul" => Some(Op::Mul(flags)),
+        b"shl" => Some(Op::Shl(flags)),
+        b"udiv" => Some(Op::UDiv),
+        b"sdiv" => Some(Op::SDiv),
+        b"urem" => Some(Op::URem),
+        b"srem" => Some(Op::SRem),
+        b"lshr" => Some(Op::LShr),
+        b"ashr" => Some(Op::AShr),
+        b"and" => Some(Op::And),
+        b"xor" => Some(Op::Xor),
+        _ => None,
+    }
+}
+
+/// The row of a word that takes a value to another type.
+pub fn cast_op(word: &[u8]) -> Option<Op>
+    ensures { result ≡ cast_op word.now }
+{
+    if word == b"sext".as_slice() {
+        return Some(Op::SExt);
+    }
+    None
+}
+
+/// The row of a word of an operation on three values.
+pub fn three_op(word: &[u8]) -> Option<Op>
+    ensures { result ≡ three_op word.now }
+{
+    if word == b"select".as_slice() {
+        return Some(Op::Select);
+    }
+    None
+}
+
+/// How a word of `icmp` compares.
+pub fn predicate(word: &[u8]) -> Option<LLVMIntPredicate>
+    ensures { result ≡ predicate_of word.now }
+{
+    match word {
+        b"eq" => Some(LLVMIntPredicate::LLVMIntEQ),
+        b"ne" => Some(LLVMIntPredicate::LLVMIntNE),
+        b"ugt" => Some(LLVMIntPredicate::LLVMIntUGT),
+        b"uge" => Some(LLVMIntPredicate::LLVMIntUGE),
+        b"ult" => Some(LLVMIntPredicate::LLVMIntULT),
+        b"ule" => Some(LLVMIntPredicate::LLVMIntULE),
+        b"sgt" => Some(LLVMIntPredicate::LLVMIntSGT),
+        b"sge" => Some(LLVMIntPredicate::LLVMIntSGE),
+        b"slt" => Some(LLVMIntPredicate::LLVMIntSLT),
+        b"sle" => Some(LLVMIntPredicate::LLVMIntSLE),
+        _ => None,
+    }
+}
+
+/// The width of an integer type, of 1 to 2^23 bits.
+pub fn int_width(text: &[u8]) -> Option<u32>
+    ensures made { option_map (λ w. IntType w) result ≡ int_type text.now }
+    ensures least { IfSome result (λ w. 1 ≤ w) }
+    ensures most { IfSome result (λ w. w ≤ 8388608) }
+{
+    let [b'i', digits @ ..] = text else {
+        return None;
+    };
+    let width = number(digits, 1 << 23)? as u32;
+    if width == 0 {
+        return None;
+    }
+    Some(width)
+}

@@ -1,0 +1,84 @@
+-- Printed numbers are numbers of the text, and printed integers literals of their value.
+use Rattle.std.proofs.Common.{◌≡◌, ℕ, zero, suc, Bool, true, false, cond, nat_eq, nat_lt, nat_le, ◌==◌, ◌^◌, ◌+◌, ◌-◌, ◌*◌, ◌≤◌, ◌<◌, [], ◌∷◌, Some, pow-suc, refl, sym, subst, ◌∙◌, arith}
+use Rattle.std.specs.Prelude.{decimal}
+use Rattle.std.specs.Str.{bytes_eq}
+use Rattle.std.proofs.lemmas.Bool.Decides.{nat_tests}
+use Rattle.std.proofs.lemmas.Nat.{pow_pos}
+use Rattle.std.proofs.Math.Nat.{pow-le-pow_right}
+use Rattle.llvm_core.specs.Names.{is_digit}
+use Rattle.ll_tree.specs.Text.{Text, number_of, if_number, at_width, const_value, width_of}
+use Rattle.ll_written.specs.Printing.{signed_text, int_text}
+use Rattle.ll_said.proofs.DecimalLaws.{IsDecimal, IsDecimal-decimal}
+
+-- ---- what is printed is a literal of the value
+
+-- i and a number is a type
+pub width_of-decimal : (t : Text) (w : ℕ) → IsDecimal t w → width_of (105 ∷ t) ≡ Some w
+width_of-decimal t w d = d.number
+
+no_word : (b c : ℕ) (bs cs : Text) → is_digit b ≡ true → is_digit c ≡ false → bytes_eq (b ∷ bs) (c ∷ cs) ≡ false
+no_word b c bs cs h g = by (nat_eq b c) refl
+  where
+    by : (x : Bool) → nat_eq b c ≡ x → bytes_eq (b ∷ bs) (c ∷ cs) ≡ false
+    by true e = let same : b ≡ c = grind (arith, nat_tests) in absurd (let k : is_digit c ≡ true = rw (← same) h in cc)
+    by false e = rw e refl
+
+-- digits are no word
+digits_literal : (w n : ℕ) (b : ℕ) (bs : Text) → is_digit b ≡ true → const_value w (b ∷ bs) ≡ if_number (at_width w) (number_of (b ∷ bs))
+digits_literal w n b bs h =
+    let no_minus : (b == 45) ≡ false = grind (arith, nat_tests) in
+    rw (no_word b 116 bs (114 ∷ 117 ∷ 101 ∷ []) h refl, no_word b 102 bs (97 ∷ 108 ∷ 115 ∷ 101 ∷ []) h refl, no_minus) refl
+
+literal_at : (w n : ℕ) → n < 2 ^ w → at_width w n ≡ Some n
+literal_at w n h = let t : nat_lt n (2 ^ w) ≡ true = grind (arith, nat_tests) in rw t refl
+
+pub const_value-decimal : (t : Text) (w n : ℕ) → IsDecimal t n → n < 2 ^ w → const_value w t ≡ Some n
+const_value-decimal t w n d h =
+    let number : number_of (d.first ∷ d.others) ≡ Some n = rw d.text at d.number in
+    rw d.text (digits_literal w n d.first d.others d.digit ∙ rw number (literal_at w n h))
+
+-- a minus before digits
+pub const_value-negative : (t : Text) (w v n : ℕ) → IsDecimal t n → 0 < n → v + n ≡ 2 ^ w → 2 * n ≤ 2 ^ w → const_value w (45 ∷ t) ≡ Some v
+const_value-negative t w v n d some sum small =
+    let nonzero : (n == 0) ≡ false = grind (arith, nat_tests) in
+    let half : nat_le (2 * n) (2 ^ w) ≡ true = grind (arith, nat_tests) in
+    let back : 2 ^ w - n ≡ v = omega (arith, sum) in
+    rw (d.number, nonzero, half, back) refl
+
+twice : (w : ℕ) → 1 ≤ w → 2 ^ w ≡ 2 * 2 ^ (w - 1)
+twice zero h = absurd (omega arith)
+twice (suc w) h = let e : suc w - 1 ≡ w = omega arith in rw e (omega (arith, pow-suc 2 w))
+
+signed_by : (w v : ℕ) (b : Bool) → 1 ≤ w → w ≤ 64 → v < 2 ^ w → nat_lt v (2 ^ (w - 1)) ≡ b → const_value w (cond b (decimal v) (45 ∷ decimal (2 ^ w - v))) ≡ Some v
+signed_by w v true some most fits e =
+    let wide : 2 ^ w ≤ 2 ^ 64 = pow-le-pow_right {n = 2} (omega arith) {i = w} {j = 64} most in
+    const_value-decimal (decimal v) w v (IsDecimal-decimal v (omega (arith, wide, fits))) fits
+signed_by w v false some most fits e =
+    let wide : 2 ^ w ≤ 2 ^ 64 = pow-le-pow_right {n = 2} (omega arith) {i = w} {j = 64} most in
+    let high : 2 ^ (w - 1) ≤ v = grind (arith, nat_tests) in
+    let two = twice w some in
+    let n = 2 ^ w - v in
+    let pos = pow_pos (w - 1) in
+    const_value-negative (decimal n) w v n (IsDecimal-decimal n (omega (arith, wide, fits, high, pos))) (omega (arith, fits)) (omega (arith, fits)) (omega (arith, two, high, fits))
+
+-- a printed integer is a literal of its value
+pub const_value-signed : (w v : ℕ) → 1 ≤ w → w ≤ 64 → v < 2 ^ w → const_value w (signed_text w v) ≡ Some v
+const_value-signed w v some most fits = signed_by w v (nat_lt v (2 ^ (w - 1))) some most fits refl
+
+one_bit : (v : ℕ) → v < 2 → const_value 1 (int_text 1 v) ≡ Some v
+one_bit zero h = refl
+one_bit (suc zero) h = refl
+one_bit (suc (suc v)) h = absurd (omega arith)
+
+int_by : (w v : ℕ) (b : Bool) → 1 ≤ w → w ≤ 64 → v < 2 ^ w → (w == 1) ≡ b → const_value w (int_text w v) ≡ Some v
+int_by w v true some most fits e =
+    let one : w ≡ 1 = grind (arith, nat_tests) in
+    let small : v < 2 = rw one at fits in
+    rw one (one_bit v small)
+int_by w v false some most fits e =
+    let narrow : nat_le w 128 ≡ true = grind (arith, nat_tests) in
+    let same : int_text w v ≡ signed_text w v = rw (e, narrow) refl in
+    subst (λ (t : Text). const_value w t ≡ Some v) (sym same) (const_value-signed w v some most fits)
+
+pub const_value-int : (w v : ℕ) → 1 ≤ w → w ≤ 64 → v < 2 ^ w → const_value w (int_text w v) ≡ Some v
+const_value-int w v some most fits = int_by w v (w == 1) some most fits refl

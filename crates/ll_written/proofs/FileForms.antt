@@ -1,0 +1,111 @@
+-- What module data say is writable, where they are of the form.
+use Rattle.std.proofs.Common.{◌≡◌, ◌≤◌, ◌<◌, ℕ, zero, suc, ◌+◌, true, ◌&&◌, not, List, [], ◌∷◌, ◌++◌, length, map, refl, sym, subst, arith}
+use Rattle.std.specs.Prelude.{IfSome}
+use Rattle.std.specs.List.{flat_map, list_all, AllByRecursion}
+use Rattle.std.proofs.lemmas.Bool.{and_parts}
+use Rattle.std.proofs.lemmas.Bool.Decides.{nat_tests}
+use Rattle.std.proofs.lemmas.List.Elements.{recursion_from_All}
+use Rattle.kinds.specs.Types.{TypeTree, TypeTrees, NoTypes, ThenType}
+use Rattle.llvm_core.specs.Checked.{ends_in_only}
+use Rattle.llvm_core.specs.Data.{Placed, Block, Function, ModuleData, nth_type, param_type}
+use Rattle.llvm_core.specs.Form.{IsShortInt, AreShortInts, count_types, result_of, is_last, IsFormPlaced, IsFormBlock}
+use Rattle.llvm_core.specs.Names.{IsPlainOrNone}
+use Rattle.ll_lines.specs.Lines as L
+use Rattle.ll_lines.specs.Lines.{Text, Part, Param}
+use Rattle.ll_said.specs.Naming.{ParamAt}
+use Rattle.ll_said.specs.Said.{line_of, lines_of, entry_label, block_parts, parts_of, params_of, function_of, source_of, file_of}
+use Rattle.ll_said.specs.Sayable.{IsSayable, IsBareOrNone, IsSayableModule}
+use Rattle.ll_spacing.specs.Forms.{IsText, quoted as string}
+use Rattle.ll_spacing.proofs.WholeLaws.{all_weaker}
+use Rattle.ll_tokens.specs.Bytes.{in_string}
+use Rattle.ll_tokens.specs.declared.kinds.Kind.TheVariants as K
+use Rattle.llvm_core.specs.Names.{is_digit}
+use Rattle.ll_tree.specs.Text.{is_name_byte, quoted}
+use Rattle.ll_written.specs.Writable.{IsIntType, IsResult, IsPart, IsParam, IsFunction, IsWritable}
+use Rattle.ll_written.proofs.NameForms.{global_form, local_form, label_form}
+use Rattle.ll_written.proofs.LineForms.{short_int, short_result, line_form}
+
+-- ---- parameters
+
+nth_short : (ts : TypeTrees) (i : ℕ) → AreShortInts ts → i < count_types ts → IsShortInt (nth_type ts i)
+nth_short NoTypes i all within = absurd (omega arith)
+nth_short (ThenType t ts) zero all within = all.0
+nth_short (ThenType t ts) (suc i) all within = nth_short ts i all.1 (omega (arith, within))
+
+all_then : {A : Type 0} (Q : A → Type 0) (xs ys : List A) → AllByRecursion Q xs → AllByRecursion Q ys → AllByRecursion Q (xs ++ ys)
+all_then Q [] ys h k = k
+all_then Q (x ∷ xs) ys h k = (h.0, all_then Q xs ys h.1 k)
+
+module _ (f : Function) (sayable : IsSayable f) where
+  type_form : (i : ℕ) → i < length f.params → IsIntType (param_type f.type i)
+  type_form i within =
+      let form = sayable.form in
+      subst (λ (τ : TypeTree). IsIntType (param_type τ i)) (sym form.type) (short_int (nth_type form.types i) (nth_short form.types i form.takes (omega (arith, within, form.params))))
+
+  params_form : (i : ℕ) (ns : List Text) → i + length ns ≤ length f.params → AllByRecursion IsPlainOrNone ns → AllByRecursion IsParam (params_of f i ns)
+  params_form i [] within all = tt
+  params_form i (n ∷ ns) within all = (record { type = type_form i (omega (arith, within)); name = local_form f sayable n (ParamAt i) all.0 }, params_form (suc i) ns (omega (arith, within)) all.1)
+
+  -- ---- bodies
+
+  lines_form : (n : ℕ) (ps : List Placed) → AllByRecursion (IsFormPlaced f n) ps → AllByRecursion IsPart (map (λ (p : Placed). L.Does (line_of f p)) ps)
+  lines_form n [] all = tt
+  lines_form n (p ∷ ps) all = (line_form f sayable n p all.0, lines_form n ps all.1)
+
+  block_lines : (b : Block) → IsFormBlock f b → AllByRecursion IsPart (lines_of f b)
+  block_lines b h = lines_form b.number b.instructions (recursion_from_All (IsFormPlaced f b.number) b.instructions h.instructions)
+
+  blocks_form : (bs : List Block) → AllByRecursion (IsFormBlock f) bs → AllByRecursion IsPart (flat_map (block_parts f) bs)
+  blocks_form [] all = tt
+  blocks_form (b ∷ bs) all = (label_form f sayable b, all_then IsPart (lines_of f b) (flat_map (block_parts f) bs) (block_lines b all.0) (blocks_form bs all.1))
+
+  entry_form : (b : Block) (name : Text) → AllByRecursion IsPart (entry_label f b name)
+  entry_form b [] = tt
+  entry_form b (c ∷ cs) = (label_form f sayable b, tt)
+
+  body_form : (bs : List Block) → AllByRecursion (IsFormBlock f) bs → AllByRecursion IsPart (parts_of f bs)
+  body_form [] all = tt
+  body_form (b ∷ bs) all =
+      all_then IsPart (entry_label f b b.name) (lines_of f b ++ flat_map (block_parts f) bs) (entry_form b b.name) (all_then IsPart (lines_of f b) (flat_map (block_parts f) bs) (block_lines b all.0) (blocks_form bs all.1))
+
+  some_by : (b : Block) (name : Text) (ps : List Placed) (rest : List Part) → ends_in_only is_last ps ≡ true → ¬ (entry_label f b name ++ (map (λ (p : Placed). L.Does (line_of f p)) ps ++ rest) ≡ [])
+  some_by b (c ∷ cs) ps rest ends = λ e. absurd cc
+  some_by b [] (p ∷ ps) rest ends = λ e. absurd cc
+  some_by b [] [] rest ends = λ e. absurd cc
+
+  some_form : (bs : List Block) → AllByRecursion (IsFormBlock f) bs → ¬ (bs ≡ []) → ¬ (parts_of f bs ≡ [])
+  some_form [] all some = absurd (some refl)
+  some_form (b ∷ bs) all some = some_by b b.name b.instructions (flat_map (block_parts f) bs) all.0.ends
+
+  function_form : IsFunction (function_of f)
+  function_form =
+      let form = sayable.form in
+      let blocks = recursion_from_All (IsFormBlock f) f.blocks form.blocks in
+      record {
+        result = subst (λ (τ : TypeTree). IsResult (result_of τ)) (sym form.type) (short_result form.result form.returns);
+        name = global_form f.name form.name;
+        params = params_form 0 f.params (omega arith) (recursion_from_All IsPlainOrNone f.params form.param_names);
+        body = body_form f.blocks blocks;
+        some = some_form f.blocks blocks form.body;
+      }
+
+functions_form : (fs : List Function) → AllByRecursion IsSayable fs → AllByRecursion IsFunction (map function_of fs)
+functions_form [] all = tt
+functions_form (f ∷ fs) all = (function_form f all.0, functions_form fs all.1)
+
+-- ---- files
+
+name_in_string : (b : ℕ) → is_name_byte b ≡ true → in_string b ≡ true
+name_in_string b e = grind (arith, nat_tests)
+
+source_form : (name : Text) → IsBareOrNone name → IfSome (source_of name) (IsText K.Str)
+source_form [] h = tt
+source_form (b ∷ bs) h =
+    let k = and_parts (is_name_byte b && not (is_digit b)) (list_all is_name_byte bs) h in
+    let first = name_in_string b (and_parts (is_name_byte b) (not (is_digit b)) k.0).0 in
+    let inside : list_all in_string (b ∷ bs) ≡ true = rw (first, all_weaker is_name_byte in_string bs name_in_string k.1) refl in
+    IsText.string (quoted (b ∷ bs)) (string (b ∷ bs) inside)
+
+-- what module data say may be written
+pub file_form : (d : ModuleData) → IsSayableModule d → IsWritable (file_of d)
+file_form d h = record { source = source_form d.name h.name; functions = functions_form d.functions (recursion_from_All IsSayable d.functions h.functions) }

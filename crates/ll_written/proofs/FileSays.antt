@@ -1,0 +1,64 @@
+-- What the tokens of functions and files say.
+use Rattle.std.proofs.Common.{List, [], ◌∷◌, ◌++◌, Option, Some, None, codes, append_assoc, refl, subst}
+use Rattle.std.specs.List.{flat_map, AllByRecursion}
+use Rattle.grammars.specs.declared.symbols.Symbol.TheVariants.{Rule}
+use Rattle.kinds.specs.Types.{TypeTree}
+use Rattle.ll_lines.specs.Lines.{Text, Param, Function, File}
+use Rattle.ll_rules.specs.Llvm.{llvm}
+use Rattle.ll_spacing.specs.Spacing.{Spaced}
+use Rattle.ll_tokens.specs.declared.kinds.Kind.TheVariants as T
+use Rattle.ll_values.specs.declared.form.TheConstants.{KINDS}
+use Rattle.ll_values.specs.Values.{ParamV, ParamsV, FunctionV, FileV}
+use Rattle.ll_written.specs.Saying.{Says}
+use Rattle.ll_written.specs.Classed.{all_classed}
+use Rattle.ll_written.specs.Rules as N
+use Rattle.ll_written.specs.Written.{token, apart, close, written_param, next_param, written_params, written_type, written_body, written_function, next_function, written_file, written}
+use Rattle.ll_written.specs.Writable.{IsIntType, IsParam, IsFunction, IsWritable}
+use Rattle.ll_written.proofs.TellLaws.{last}
+use Rattle.ll_written.proofs.Productions as P
+use Rattle.ll_written.proofs.Productions.{Reads}
+use Rattle.ll_written.proofs.ValueSays.{type_says, int_says}
+use Rattle.ll_written.proofs.BodySays.{body_says}
+
+-- ---- parameters
+
+param_by : (b : Text) (τ : TypeTree) (name : Option Text) → IsIntType τ → Reads N.param (ParamV (record { type = τ; name = name })) (written_param b (record { type = τ; name = name }))
+param_by b τ None type = P.param (int_says b τ type) (P.lost_attrs_none) (P.name_none) refl
+param_by b τ (Some t) type = P.param (int_says b τ type) (P.lost_attrs_none) (P.name_local (codes " ") t) refl
+
+param_says : (b : Text) (p : Param) → IsParam p → Reads N.param (ParamV p) (written_param b p)
+param_says b p h = param_by b p.type p.name h.type
+
+more_say : (ps : List Param) → AllByRecursion IsParam ps → Reads N.more_params (ParamsV ps) (flat_map next_param ps)
+more_say [] all = P.more_params_end refl
+more_say (p ∷ ps) all = P.more_params_param_or_dots [] (P.param_or_dots_more (param_says (codes " ") p all.0) (more_say ps all.1) refl)
+
+params_say : (ps : List Param) → AllByRecursion IsParam ps → Reads N.params (ParamsV ps) (written_params ps)
+params_say [] all = P.params_end refl
+params_say (p ∷ ps) all = P.params_more (param_says [] p all.0) (more_say ps all.1) refl
+
+-- ---- functions
+
+pub function_says : (b : Text) (f : Function) → IsFunction f → Reads N.item (FunctionV f) (written_function b f)
+function_says b f h =
+    let params = P.parameters [] [] (params_say f.params h.params) (P.unnamed_none) (P.space_none) refl in
+    let head = P.head (codes " ") f.name (P.dso_none) (P.lost_attrs_none) (type_says (codes " ") f.result h.result) params refl in
+    let whole = P.item_define b (codes " ") (codes "\n") (P.define_linkage_none) head (P.function_attrs_none) (P.attachments_none) (body_says f.body h.body h.some) refl in
+    let front = token b T.Word (codes "define") ∷ written_type f.result ∷ apart T.Global f.name ∷ close T.OpenParen (codes "(") ∷ [] in
+    let rest = apart T.OpenBrace (codes "{") ∷ (written_body f.body ++ (token (codes "\n") T.CloseBrace (codes "}") ∷ [])) in
+    subst (λ (xs : List Spaced). Reads N.item (FunctionV f) (front ++ xs)) (append_assoc (written_params f.params) (close T.CloseParen (codes ")") ∷ []) rest) whole
+
+functions_say : (fs : List Function) → AllByRecursion IsFunction fs → Reads N.file (FileV (record { source = None; functions = fs })) (flat_map next_function fs)
+functions_say [] all = P.file_end refl
+functions_say (f ∷ fs) all = P.file_more (function_says (codes "\n\n") f all.0) (functions_say fs all.1) refl
+
+-- ---- files
+
+file_by : (source : Option Text) (fs : List Function) → AllByRecursion IsFunction fs → Reads N.file (FileV (record { source = source; functions = fs })) (written_file source fs)
+file_by (Some t) fs all = P.file_more (P.item_source [] (codes " ") (codes " ") t refl) (functions_say fs all) refl
+file_by None [] all = P.file_end refl
+file_by None (f ∷ fs) all = P.file_more (function_says (codes "\n") f all.0) (functions_say fs all.1) refl
+
+-- the tokens of a file say it
+pub file_says : (f : File) → IsWritable f → Says llvm KINDS (Rule N.file ∷ []) (FileV f ∷ []) (all_classed (written f))
+file_says f h = (last llvm KINDS (file_by f.source f.functions h.functions)).says

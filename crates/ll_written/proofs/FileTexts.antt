@@ -1,0 +1,163 @@
+-- The text of the tokens of what module data say is the printed text.
+use Rattle.std.proofs.Common.{◌≡◌, ◌≢◌, ℕ, suc, true, List, [], ◌∷◌, ◌++◌, map, codes, append_assoc, refl, sym, ap, ◌∙◌}
+use Rattle.std.specs.List.{flat_map, AllByRecursion}
+use Rattle.std.proofs.lemmas.List.{append-nil}
+use Rattle.std.proofs.lemmas.List.Elements.{recursion_from_All}
+use Rattle.llvm_core.specs.Data.{Placed, Block, Function, ModuleData, param_type}
+use Rattle.llvm_core.specs.Checked.{ends_in_only}
+use Rattle.llvm_core.specs.Form.{result_of, is_last, IsFormPlaced, IsFormBlock, IsFormFunction}
+use Rattle.ll_lines.specs.Lines as L
+use Rattle.ll_lines.specs.Lines.{Text, Part, Param}
+use Rattle.ll_said.specs.Naming.{ParamAt, local_text}
+use Rattle.ll_said.specs.Said.{line_of, lines_of, label_of, entry_label, block_parts, parts_of, params_of, function_of, source_of, file_of}
+use Rattle.ll_said.specs.Sayable.{IsSayable, IsSayableModule}
+use Rattle.ll_spacing.specs.Spacing.{Spaced, text_of}
+use Rattle.ll_tokens.specs.declared.kinds.Kind.TheVariants as T
+use Rattle.ll_tree.specs.Text.{global, quoted}
+use Rattle.ll_written.specs.Printing as P
+use Rattle.ll_written.specs.Written.{token, close, apart, next_part, written_body, next_param, written_params, written_function, next_function, written_source, written_file, written, end_of}
+use Rattle.ll_written.proofs.RowTexts.{joined, text_both}
+use Rattle.ll_written.proofs.LineTexts.{line_text}
+
+-- ---- what ends its lines in place of beginning them
+
+abbrev Turns : List Spaced → Text → Type 0
+Turns xs t = text_of xs ++ codes "\n" ≡ codes "\n" ++ t
+
+turns_both : (xs ys : List Spaced) (t u : Text) → Turns xs t → Turns ys u → Turns (xs ++ ys) (t ++ u)
+turns_both xs ys t u e f =
+    ap (λ (s : Text). s ++ codes "\n") (text_both xs ys) ∙ append_assoc (text_of xs) (text_of ys) (codes "\n") ∙ ap (λ (s : Text). text_of xs ++ s) f
+    ∙ sym (append_assoc (text_of xs) (codes "\n") u) ∙ ap (λ (s : Text). s ++ u) e ∙ append_assoc (codes "\n") t u
+
+turns_each : {A B : Type 0} (Q : B → Type 0) (f : A → List Spaced) (of : B → A) (g : B → Text) → ((x : B) → Q x → Turns (f (of x)) (g x)) → (xs : List B) → AllByRecursion Q xs → Turns (flat_map f (map of xs)) (flat_map g xs)
+turns_each Q f of g turns [] all = refl
+turns_each Q f of g turns (x ∷ xs) all = turns_both (f (of x)) (flat_map f (map of xs)) (g x) (flat_map g xs) (turns x all.0) (turns_each Q f of g turns xs all.1)
+
+each_weaker : {A : Type 0} (Q R : A → Type 0) → ((x : A) → Q x → R x) → (xs : List A) → AllByRecursion Q xs → AllByRecursion R xs
+each_weaker Q R h [] all = tt
+each_weaker Q R h (x ∷ xs) all = (h x all.0, each_weaker Q R h xs all.1)
+
+flat_both : {A B : Type 0} (f : A → List B) (xs ys : List A) → flat_map f (xs ++ ys) ≡ flat_map f xs ++ flat_map f ys
+flat_both f [] ys = refl
+flat_both {B = B} f (x ∷ xs) ys = ap (λ (zs : List B). f x ++ zs) (flat_both f xs ys) ∙ sym (append_assoc (f x) (flat_map f xs) (flat_map f ys))
+
+module _ (f : Function) where
+  -- ---- blocks
+
+  abbrev Lined : ℕ → Placed → Type 0
+  Lined n p = IsFormPlaced f n p
+
+  lines_turn : (n : ℕ) (ps : List Placed) → AllByRecursion (Lined n) ps → Turns (flat_map next_part (map (λ (p : Placed). L.Does (line_of f p)) ps)) (flat_map (P.placed_text f) ps)
+  lines_turn n ps all = turns_each (Lined n) next_part (λ (p : Placed). L.Does (line_of f p)) (P.placed_text f) (λ p h. line_text f n p h.instruction) ps all
+
+  label_turns : (b : Block) → Turns (token (codes "\n") T.Label (label_of f b) ∷ []) (P.label_text f b)
+  label_turns b = simp (append_assoc, append-nil)
+
+  next_label_turns : (b : Block) → Turns (next_part (L.Label (label_of f b))) (codes "\n" ++ P.label_text f b)
+  next_label_turns b = simp (append_assoc, append-nil)
+
+  -- a block with its lines in the form
+  pub record IsLined (b : Block) : Type 0 where
+    pub lines : AllByRecursion (Lined b.number) b.instructions
+    pub some : b.instructions ≢ []
+
+  block_turns : (b : Block) → IsLined b → Turns (flat_map next_part (block_parts f b)) (P.block_text f b)
+  block_turns b h = turns_both (next_part (L.Label (label_of f b))) (flat_map next_part (lines_of f b)) (codes "\n" ++ P.label_text f b) (flat_map (P.placed_text f) b.instructions) (next_label_turns b) (lines_turn b.number b.instructions h.lines)
+
+  blocks_turn : (bs : List Block) → AllByRecursion IsLined bs → Turns (flat_map next_part (flat_map (block_parts f) bs)) (flat_map (P.block_text f) bs)
+  blocks_turn [] all = refl
+  blocks_turn (b ∷ bs) all =
+      ap (λ (xs : List Spaced). text_of xs ++ codes "\n") (flat_both next_part (block_parts f b) (flat_map (block_parts f) bs))
+      ∙ turns_both (flat_map next_part (block_parts f b)) (flat_map next_part (flat_map (block_parts f) bs)) (P.block_text f b) (flat_map (P.block_text f) bs) (block_turns b all.0) (blocks_turn bs all.1)
+
+  -- lines and the blocks behind them
+  rest_turns : (b : Block) (bs : List Block) → IsLined b → AllByRecursion IsLined bs
+      → Turns (flat_map next_part (lines_of f b ++ flat_map (block_parts f) bs)) (flat_map (P.placed_text f) b.instructions ++ flat_map (P.block_text f) bs)
+  rest_turns b bs h all =
+      ap (λ (xs : List Spaced). text_of xs ++ codes "\n") (flat_both next_part (lines_of f b) (flat_map (block_parts f) bs))
+      ∙ turns_both (flat_map next_part (lines_of f b)) (flat_map next_part (flat_map (block_parts f) bs)) (flat_map (P.placed_text f) b.instructions) (flat_map (P.block_text f) bs) (lines_turn b.number b.instructions h.lines) (blocks_turn bs all)
+
+  -- where a line stands first, it stands as it does behind others
+  begins_with_line : (ps : List Placed) (qs : List Part) → ps ≢ [] → written_body (map (λ (p : Placed). L.Does (line_of f p)) ps ++ qs) ≡ flat_map next_part (map (λ (p : Placed). L.Does (line_of f p)) ps ++ qs)
+  begins_with_line [] qs some = absurd (some refl)
+  begins_with_line (p ∷ ps) qs some = refl
+
+  entry_turns : (b : Block) (bs : List Block) (name : Text) → IsLined b → AllByRecursion IsLined bs
+      → Turns (written_body (entry_label f b name ++ (lines_of f b ++ flat_map (block_parts f) bs))) (P.entry_label_text f b name ++ flat_map (P.placed_text f) b.instructions ++ flat_map (P.block_text f) bs)
+  entry_turns b bs [] h all =
+      ap (λ (xs : List Spaced). text_of xs ++ codes "\n") (begins_with_line b.instructions (flat_map (block_parts f) bs) h.some) ∙ rest_turns b bs h all
+  entry_turns b bs (c ∷ cs) h all =
+      turns_both (token (codes "\n") T.Label (label_of f b) ∷ []) (flat_map next_part (lines_of f b ++ flat_map (block_parts f) bs)) (P.label_text f b) (flat_map (P.placed_text f) b.instructions ++ flat_map (P.block_text f) bs) (label_turns b) (rest_turns b bs h all)
+      ∙ simp append_assoc
+
+  body_turns : (bs : List Block) → AllByRecursion IsLined bs → Turns (written_body (parts_of f bs)) (P.blocks_text f bs)
+  body_turns [] all = refl
+  body_turns (b ∷ bs) all = entry_turns b bs b.name all.0 all.1
+
+  -- ---- functions
+
+  next_params_text : (i : ℕ) (ns : List Text) → text_of (flat_map next_param (params_of f (suc i) ns)) ≡ P.params_text f (suc i) ns
+  next_params_text i [] = refl
+  next_params_text i (n ∷ ns) =
+      ap (λ (t : Text). codes ", " ++ P.type_text (param_type f.type (suc i)) ++ (codes " " ++ local_text f n (ParamAt (suc i)) ++ t)) (next_params_text (suc i) ns) ∙ simp append_assoc
+
+  params_text : (ns : List Text) → text_of (written_params (params_of f 0 ns)) ≡ P.params_text f 0 ns
+  params_text [] = refl
+  params_text (n ∷ ns) = ap (λ (t : Text). P.type_text (param_type f.type 0) ++ (codes " " ++ local_text f n (ParamAt 0) ++ t)) (next_params_text 0 ns) ∙ simp append_assoc
+
+  -- a function, behind the line end before it
+  abbrev define_text : Text
+  define_text = codes "define " ++ P.type_text (result_of f.type) ++ codes " " ++ global f.name ++ codes "(" ++ P.params_text f 0 f.params ++ codes ") {\n" ++ P.blocks_text f f.blocks ++ codes "}\n"
+
+  body_text : (xs : List Spaced) (t : Text) → Turns xs t → text_of (xs ++ (token (codes "\n") T.CloseBrace (codes "}") ∷ [])) ++ codes "\n" ≡ codes "\n" ++ (t ++ codes "}\n")
+  body_text xs t e = turns_both xs (token (codes "\n") T.CloseBrace (codes "}") ∷ []) t (codes "}\n") e refl
+
+  function_at : (b : Text) → AllByRecursion IsLined f.blocks → text_of (written_function b (function_of f)) ++ codes "\n" ≡ b ++ define_text
+  function_at b all =
+      let body = written_body (parts_of f f.blocks) ++ (token (codes "\n") T.CloseBrace (codes "}") ∷ []) in
+      let inner = close T.CloseParen (codes ")") ∷ apart T.OpenBrace (codes "{") ∷ body in
+      let one : text_of (written_params (params_of f 0 f.params) ++ inner) ≡ P.params_text f 0 f.params ++ (codes ") {" ++ text_of body) = joined (written_params (params_of f 0 f.params)) inner (P.params_text f 0 f.params) (codes ") {" ++ text_of body) (params_text f.params) refl in
+      let two : text_of body ++ codes "\n" ≡ codes "\n" ++ (P.blocks_text f f.blocks ++ codes "}\n") = body_text (written_body (parts_of f f.blocks)) (P.blocks_text f f.blocks) (body_turns f.blocks all) in
+      let front = b ++ codes "define" ++ (codes " " ++ P.type_text (result_of f.type)) ++ (codes " " ++ global f.name) ++ codes "(" in
+      let start : text_of (written_function b (function_of f)) ≡ front ++ text_of (written_params (params_of f 0 f.params) ++ inner) = simp append_assoc in
+      ap (λ (t : Text). t ++ codes "\n") start ∙ ap (λ (t : Text). front ++ t ++ codes "\n") one ∙ regroup front (P.params_text f 0 f.params) (text_of body) ∙ ap (λ (t : Text). front ++ (P.params_text f 0 f.params ++ (codes ") {" ++ t))) two ∙ simp append_assoc
+    where
+      regroup : (x y z : Text) → x ++ (y ++ (codes ") {" ++ z)) ++ codes "\n" ≡ x ++ (y ++ (codes ") {" ++ (z ++ codes "\n")))
+      regroup x y z = simp append_assoc
+
+  function_text_is : P.function_text f ≡ codes "\n" ++ define_text
+  function_text_is = refl
+
+  -- ---- what the form asks is enough
+
+  lined : (b : Block) → IsFormBlock f b → IsLined b
+  lined b h = record { lines = recursion_from_All (IsFormPlaced f b.number) b.instructions h.instructions; some = λ e. let k : ends_in_only is_last b.instructions ≡ true = h.ends in let n : ends_in_only is_last [] ≡ true = rw e at k in cc }
+
+  all_lined : IsFormFunction f → AllByRecursion IsLined f.blocks
+  all_lined h = each_weaker (IsFormBlock f) IsLined lined f.blocks (recursion_from_All (IsFormBlock f) f.blocks h.blocks)
+
+function_turns : (f : Function) → IsSayable f → Turns (next_function (function_of f)) (P.function_text f)
+function_turns f h = function_at f (codes "\n\n") (all_lined f h.form)
+
+functions_turn : (fs : List Function) → AllByRecursion IsSayable fs → Turns (flat_map next_function (map function_of fs)) (flat_map P.function_text fs)
+functions_turn fs all = turns_each IsSayable next_function function_of P.function_text function_turns fs all
+
+-- ---- files
+
+file_by : (name : Text) (fs : List Function) → AllByRecursion IsSayable fs
+    → text_of (written_file (source_of name) (map function_of fs)) ++ end_of (written_file (source_of name) (map function_of fs)) ≡ P.source_text name ++ flat_map P.function_text fs
+file_by [] [] all = refl
+file_by [] (f ∷ fs) all =
+    let rest = flat_map next_function (map function_of fs) in
+    ap (λ (t : Text). t ++ codes "\n") (text_both (written_function (codes "\n") (function_of f)) rest) ∙ append_assoc (text_of (written_function (codes "\n") (function_of f))) (text_of rest) (codes "\n")
+    ∙ ap (λ (t : Text). text_of (written_function (codes "\n") (function_of f)) ++ t) (functions_turn fs all.1) ∙ sym (append_assoc (text_of (written_function (codes "\n") (function_of f))) (codes "\n") (flat_map P.function_text fs))
+    ∙ ap (λ (t : Text). t ++ flat_map P.function_text fs) (function_at f (codes "\n") (all_lined f all.0.form))
+file_by (b ∷ bs) fs all =
+    let rest = flat_map next_function (map function_of fs) in
+    let t = quoted (b ∷ bs) in
+    let one : text_of (written_source t ++ rest) ++ codes "\n" ≡ codes "source_filename = " ++ (t ++ (text_of rest ++ codes "\n")) = simp append_assoc in
+    one ∙ ap (λ (u : Text). codes "source_filename = " ++ (t ++ u)) (functions_turn fs all) ∙ simp append_assoc
+
+-- the printed text is that of the tokens, and the end of the last line
+pub file_text : (d : ModuleData) → IsSayableModule d → text_of (written (file_of d)) ++ end_of (written (file_of d)) ≡ P.module_text d
+file_text d h = file_by d.name d.functions (recursion_from_All IsSayable d.functions h.functions)

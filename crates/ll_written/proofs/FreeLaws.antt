@@ -1,0 +1,61 @@
+-- Tokens that may be written behind any token.
+use Rattle.std.proofs.Common.{◌≡◌, ℕ, true, List, [], ◌∷◌, ◌++◌, Option, Some, None, refl}
+use Rattle.std.specs.List.{flat_map, AllByRecursion}
+use Rattle.ll_lines.specs.Lines.{Text}
+use Rattle.ll_spacing.specs.Forms.{IsText, is_word}
+use Rattle.ll_spacing.specs.Spacing.{Spaced, Follows, AreSpacedBehind, AreBlanks, IsWhole}
+use Rattle.ll_spacing.proofs.FollowLaws.{blanks_follow, plain_follows}
+use Rattle.ll_spacing.proofs.SignLaws.{sign_whole}
+use Rattle.ll_spacing.proofs.TextLaws.{text_whole}
+use Rattle.ll_tokens.specs.Pieces.{token as piece, sign_at}
+use Rattle.ll_tokens.specs.declared.kinds.Kind.{Kind}
+use Rattle.ll_tokens.specs.declared.kinds.Kind.TheVariants.{Word, Comma}
+use Rattle.ll_written.specs.Written.{token, apart, word, comma}
+
+abbrev pub IsFree : Spaced → Type 0
+IsFree x = (last : Option Kind) → Follows last x
+
+abbrev pub AreFree : List Spaced → Type 0
+AreFree xs = AllByRecursion IsFree xs
+
+-- ---- lists
+
+pub both_free : (xs ys : List Spaced) → AreFree xs → AreFree ys → AreFree (xs ++ ys)
+both_free [] ys h k = k
+both_free (x ∷ xs) ys h k = (h.0, both_free xs ys h.1 k)
+
+pub each_free : {A : Type 0} (P : A → Type 0) (f : A → List Spaced) → ((x : A) → P x → AreFree (f x)) → (xs : List A) → AllByRecursion P xs → AreFree (flat_map f xs)
+each_free P f free [] all = tt
+each_free P f free (x ∷ xs) all = both_free (f x) (flat_map f xs) (free x all.0) (each_free P f free xs all.1)
+
+pub free_spaced : (last : Option Kind) (xs : List Spaced) → AreFree xs → AreSpacedBehind last xs
+free_spaced last [] h = tt
+free_spaced last (x ∷ xs) h = (h.0 last, free_spaced (Some x.kind) xs h.1)
+
+pub spaced_then : (last : Option Kind) (xs ys : List Spaced) → AreSpacedBehind last xs → ((l : Option Kind) → AreSpacedBehind l ys) → AreSpacedBehind last (xs ++ ys)
+spaced_then last [] ys h k = k last
+spaced_then last (x ∷ xs) ys h k = (h.0, spaced_then (Some x.kind) xs ys h.1 k)
+
+-- ---- tokens
+
+-- behind a blank
+pub gap_free : (b : ℕ) (bs : Text) (k : Kind) (t : Text) → AreBlanks (b ∷ bs) → IsWhole k t → IsFree (token (b ∷ bs) k t)
+gap_free b bs k t blanks whole None = record { blanks = blanks; whole = whole; apart = tt }
+gap_free b bs k t blanks whole (Some j) = record { blanks = blanks; whole = whole; apart = blanks_follow j (b ∷ bs) blanks }
+
+pub apart_free : (k : Kind) (t : Text) → IsText k t → IsFree (apart k t)
+apart_free k t is = gap_free 32 [] k t refl (text_whole k t is)
+
+pub word_whole : (t : Text) → is_word t ≡ true → IsWhole Word t
+word_whole t e = text_whole Word t (IsText.word t e)
+
+pub word_free : (t : Text) → is_word t ≡ true → IsFree (word t)
+word_free t e = apart_free Word t (IsText.word t e)
+
+pub sign_free : (k : Kind) (b : ℕ) → sign_at b ≡ piece k 1 → IsFree (apart k (b ∷ []))
+sign_free k b e = apart_free k (b ∷ []) (IsText.sign k b e)
+
+pub comma_free : IsFree comma
+unfolding sign_at
+comma_free None = record { blanks = refl; whole = sign_whole Comma 44 refl; apart = tt }
+comma_free (Some j) = record { blanks = refl; whole = sign_whole Comma 44 refl; apart = plain_follows j 44 refl }

@@ -1,0 +1,24 @@
+-- The lemmas of the crate.
+pub mod SayingLaws
+pub mod TellLaws
+pub mod WordClasses
+pub mod Productions
+pub mod DecimalLaws
+pub mod TypeLaws
+pub mod ValueSays
+pub mod RowForms
+pub mod RowSays
+pub mod BodySays
+pub mod FileSays
+pub mod FreeLaws
+pub mod SpacedParts
+pub mod SpacedLaws
+pub mod RowTexts
+pub mod LineTexts
+pub mod FileTexts
+pub mod ReadLaws
+pub mod NameForms
+pub mod LineForms
+pub mod FileForms
+pub mod PrintLaws
+pub mod OneLaws

@@ -1,0 +1,103 @@
+-- The names and numbers of a function have the forms of their tokens.
+use Rattle.std.proofs.Common.{◌≡◌, ◌<◌, ◌^◌, ℕ, Bool, true, false, cond, not, nat_eq, List, [], ◌∷◌, ◌++◌, drop, Some, refl, arith}
+use Rattle.std.specs.Prelude.{decimal}
+use Rattle.std.specs.List.{flat_map, find, list_all, AllByRecursion}
+use Rattle.std.specs.Option.{option_map_or}
+use Rattle.std.proofs.lemmas.Bool.{and_parts}
+use Rattle.std.proofs.lemmas.Bool.Decides.{nat_tests}
+use Rattle.std.proofs.lemmas.List.Elements.{recursion_from_All}
+use Rattle.std.proofs.lemmas.List.Sums.{prefix_len-le-length}
+use Rattle.llvm_core.specs.Data.{Placed, Block, Function, placed_in}
+use Rattle.llvm_core.specs.Form.{IsFormPlaced, IsFormBlock}
+use Rattle.llvm_core.specs.Names.{is_letter, is_plain, is_plain_byte, IsPlainOrNone}
+use Rattle.ll_lines.specs.Lines.{Text}
+use Rattle.ll_said.specs.Naming.{Unnamed, BlockOf, same_unnamed, unnamed_in, unnamed_number, local_text, result_name, block_name, block_ref}
+use Rattle.ll_said.specs.Sayable.{IsSayable}
+use Rattle.ll_spacing.specs.Forms.{IsText, IsName, AreDigits, AreNameBytes}
+use Rattle.ll_spacing.proofs.WholeLaws.{all_weaker}
+use Rattle.ll_tokens.specs.Bytes.{is_digit, is_name_byte}
+use Rattle.ll_tokens.specs.declared.kinds.Kind.TheVariants as K
+use Rattle.ll_tree.specs.Text.{global, label}
+use Rattle.ll_written.specs.Writable.{IsLocal}
+use Rattle.ll_said.proofs.DecimalLaws.{IsDecimal-decimal}
+
+-- ---- names
+
+plain_in_name : (b : ℕ) → is_plain_byte b ≡ true → is_name_byte b ≡ true
+plain_in_name b e = grind (arith, nat_tests)
+
+plain_name : (n : Text) → is_plain n ≡ true → IsName n
+plain_name [] e = absurd cc
+plain_name (b ∷ bs) e =
+    let k = and_parts (is_letter b) (list_all is_plain_byte bs) e in
+    let letter : is_letter b ≡ true = k.0 in
+    let digit : is_digit b ≡ false = grind (arith, nat_tests) in
+    let name : is_name_byte b ≡ true = grind (arith, nat_tests) in
+    let others = all_weaker is_plain_byte is_name_byte bs plain_in_name k.1 in
+    let all : AreNameBytes (b ∷ bs) = rw (name, others) refl in
+    IsName.bare b bs digit all
+
+pub global_form : (n : Text) → is_plain n ≡ true → IsText K.Global (global n)
+global_form n e = IsText.global n (plain_name n e)
+
+-- ---- numbers
+
+number_name : (n : ℕ) → n < 2 ^ 64 → IsName (decimal n)
+number_name n h =
+    let d = IsDecimal-decimal n h in
+    let digits : AreDigits (d.first ∷ d.others) = rw (d.digit, d.digits) refl in
+    rw d.text (IsName.digits d.first d.others digits)
+
+module _ (f : Function) (sayable : IsSayable f) where
+  small : (x : Unnamed) → unnamed_number f x < 2 ^ 64
+  small x = omega (arith, prefix_len-le-length (λ (y : Unnamed). not (same_unnamed x y)) (unnamed_in f), sayable.few)
+
+  local_name : (n : Text) (x : Unnamed) → IsPlainOrNone n → IsName (drop 1 (local_text f n x))
+  local_name [] x plain = number_name (unnamed_number f x) (small x)
+  local_name (b ∷ bs) x plain = plain_name (b ∷ bs) plain
+
+  pub local_form : (n : Text) (x : Unnamed) → IsPlainOrNone n → IsLocal (local_text f n x)
+  local_form [] x plain = IsText.local (decimal (unnamed_number f x)) (number_name (unnamed_number f x) (small x))
+  local_form (b ∷ bs) x plain = IsText.local (b ∷ bs) (plain_name (b ∷ bs) plain)
+
+  -- ---- of what has that number
+
+  named_found : {A : Type 0} (name : A → Text) (p : A → Bool) (xs : List A) → AllByRecursion (λ x. IsPlainOrNone (name x)) xs → IsPlainOrNone (option_map_or name (find p xs) [])
+  named_found name p [] all = tt
+  named_found name p (x ∷ xs) all = by (p x) all.0 (named_found name p xs all.1)
+    where
+      by : (b : Bool) → IsPlainOrNone (name x) → IsPlainOrNone (option_map_or name (find p xs) []) → IsPlainOrNone (option_map_or name (cond b (Some x) (find p xs)) [])
+      by true here others = here
+      by false here others = others
+
+  abbrev blocks : AllByRecursion (IsFormBlock f) f.blocks
+  blocks = recursion_from_All (IsFormBlock f) f.blocks sayable.form.blocks
+
+  block_names : (bs : List Block) → AllByRecursion (IsFormBlock f) bs → AllByRecursion (λ (b : Block). IsPlainOrNone b.name) bs
+  block_names [] all = tt
+  block_names (b ∷ bs) all = (all.0.label, block_names bs all.1)
+
+  names_then : (xs ys : List Placed) → AllByRecursion (λ (p : Placed). IsPlainOrNone p.name) xs → AllByRecursion (λ (p : Placed). IsPlainOrNone p.name) ys → AllByRecursion (λ (p : Placed). IsPlainOrNone p.name) (xs ++ ys)
+  names_then [] ys h k = k
+  names_then (x ∷ xs) ys h k = (h.0, names_then xs ys h.1 k)
+
+  placed_names : (n : ℕ) (ps : List Placed) → AllByRecursion (IsFormPlaced f n) ps → AllByRecursion (λ (p : Placed). IsPlainOrNone p.name) ps
+  placed_names n [] all = tt
+  placed_names n (p ∷ ps) all = (all.0.name, placed_names n ps all.1)
+
+  result_names : (bs : List Block) → AllByRecursion (IsFormBlock f) bs → AllByRecursion (λ (p : Placed). IsPlainOrNone p.name) (flat_map (λ (b : Block). b.instructions) bs)
+  result_names [] all = tt
+  result_names (b ∷ bs) all =
+      names_then b.instructions (flat_map (λ (b : Block). b.instructions) bs) (placed_names b.number b.instructions (recursion_from_All (IsFormPlaced f b.number) b.instructions all.0.instructions)) (result_names bs all.1)
+
+  pub result_name_form : (n : ℕ) → IsPlainOrNone (result_name f n)
+  result_name_form n = named_found (λ (p : Placed). p.name) (λ (p : Placed). nat_eq p.number n) (placed_in f) (result_names f.blocks blocks)
+
+  block_name_form : (n : ℕ) → IsPlainOrNone (block_name f n)
+  block_name_form n = named_found (λ (b : Block). b.name) (λ (b : Block). nat_eq b.number n) f.blocks (block_names f.blocks blocks)
+
+  pub block_form : (n : ℕ) → IsLocal (block_ref f n)
+  block_form n = local_form (block_name f n) (BlockOf n) (block_name_form n)
+
+  pub label_form : (b : Block) → IsText K.Label (label (drop 1 (block_ref f b.number)))
+  label_form b = IsText.label (drop 1 (block_ref f b.number)) (local_name (block_name f b.number) (BlockOf b.number) (block_name_form b.number))

@@ -1,0 +1,154 @@
+-- What the tokens of rows say.
+use Rattle.std.proofs.Common.{◌≡◌, Bool, true, false, List, [], ◌∷◌, ◌++◌, Option, Some, codes, refl, ap}
+use Rattle.kinds.specs.declared.op.LLVMIntPredicate.{LLVMIntPredicate}
+use Rattle.kinds.specs.declared.op.LLVMIntPredicate.TheVariants as I
+use Rattle.kinds.specs.declared.op.OverflowFlags.{OverflowFlags}
+use Rattle.kinds.specs.declared.op.Op.{Op}
+use Rattle.kinds.specs.declared.op.Op.TheVariants as O
+use Rattle.kinds.specs.declared.rules.Fit.TheVariants as F
+use Rattle.kinds.specs.Types.{TypeTree}
+use Rattle.ll_lines.specs.Lines as L
+use Rattle.ll_lines.specs.Lines.{Text, Typed, RowLine, Inst}
+use Rattle.ll_tokens.specs.declared.kinds.Kind.TheVariants as T
+use Rattle.ll_tree.specs.Chain.{◌>>=◌}
+use Rattle.ll_values.specs.Values.{Value, TextV, FlagV, WrapsV, InstV, row}
+use Rattle.ll_values.specs.Words.{binary_op, predicate_of, no_wraps}
+use Rattle.ll_written.specs.Printing.{predicate_text}
+use Rattle.ll_written.specs.Rules as N
+use Rattle.ll_written.specs.Written.{token, word, written_operands, written_values, written_returned, written_targets, written_to, written_flag, written_wraps, written_row, comma}
+use Rattle.ll_written.specs.Writable.{IsRow}
+use Rattle.ll_written.proofs.Productions as P
+use Rattle.ll_written.proofs.Productions.{Reads}
+use Rattle.ll_written.proofs.ValueSays.{int_says, typed_says, returned_says, pair_says}
+use Rattle.ll_written.proofs.RowForms.{IsPair, pair, pair_form, IsCast, cast, cast_form, IsThree, three, three_form, IsOne, one, one_form, IsJump, jump, jump_form, IsBranch, branch, branch_form, IsReturn, no_value, value, return_form, IsBare, bare, bare_form}
+
+abbrev row_line : Op → Option TypeTree → List Typed → List Text → RowLine
+row_line op wr os ts = record { op = op; written = wr; operands = os; targets = ts }
+
+-- what is said of such a row
+abbrev says : Op → Option TypeTree → List Typed → List Text → Value
+says op wr os ts = InstV (L.Row (row_line op wr os ts))
+
+predicate_again : (p : LLVMIntPredicate) → predicate_of (predicate_text p) ≡ Some p
+predicate_again I.LLVMIntEQ = refl
+predicate_again I.LLVMIntNE = refl
+predicate_again I.LLVMIntUGT = refl
+predicate_again I.LLVMIntUGE = refl
+predicate_again I.LLVMIntULT = refl
+predicate_again I.LLVMIntULE = refl
+predicate_again I.LLVMIntSGT = refl
+predicate_again I.LLVMIntSGE = refl
+predicate_again I.LLVMIntSLT = refl
+predicate_again I.LLVMIntSLE = refl
+
+-- ---- immediates
+
+nsw_says : (b : Bool) → Reads N.nsw (FlagV b) (written_flag (codes "nsw") b)
+nsw_says true = P.nsw_yes (codes " ")
+nsw_says false = P.nsw_no
+
+wraps_by : (nuw nsw : Bool) → Reads N.wraps (WrapsV (record { nuw = nuw; nsw = nsw })) (written_wraps (record { nuw = nuw; nsw = nsw }))
+wraps_by true nsw = P.wraps_nuw (codes " ") (nsw_says nsw) refl
+wraps_by false true = P.wraps_nsw (codes " ") refl
+wraps_by false false = P.wraps_nowraps refl
+
+wraps_says : (flags : OverflowFlags) → Reads N.wraps (WrapsV flags) (written_wraps flags)
+wraps_says flags = wraps_by flags.nuw flags.nsw
+
+nneg_says : (b : Bool) → Reads N.nneg (FlagV b) (written_flag (codes "nneg") b)
+nneg_says true = P.nneg_yes (codes " ")
+nneg_says false = P.nneg_no
+
+predicate_says : (p : LLVMIntPredicate) → Reads N.predicate (TextV (predicate_text p)) (word (predicate_text p) ∷ [])
+predicate_says I.LLVMIntEQ = P.predicate_eq (codes " ")
+predicate_says I.LLVMIntNE = P.predicate_ne (codes " ")
+predicate_says I.LLVMIntUGT = P.predicate_ugt (codes " ")
+predicate_says I.LLVMIntUGE = P.predicate_uge (codes " ")
+predicate_says I.LLVMIntULT = P.predicate_ult (codes " ")
+predicate_says I.LLVMIntULE = P.predicate_ule (codes " ")
+predicate_says I.LLVMIntSGT = P.predicate_sgt (codes " ")
+predicate_says I.LLVMIntSGE = P.predicate_sge (codes " ")
+predicate_says I.LLVMIntSLT = P.predicate_slt (codes " ")
+predicate_says I.LLVMIntSLE = P.predicate_sle (codes " ")
+
+-- ---- rows by their form
+
+sum_row : (b t : Text) (op : Op) (flags : OverflowFlags) (wr : Option TypeTree) (os : List Typed) (ts : List Text) → Reads N.sum (TextV t) (token b T.Word t ∷ []) → binary_op t flags ≡ Some op → IsPair wr os ts
+    → Reads N.simple (says op wr os ts) (token b T.Word t ∷ (written_wraps flags ++ (written_operands os ++ written_to wr)))
+sum_row b t op flags _ _ _ first made (pair x y h k same) = P.simple_sum first (wraps_says flags) (pair_says x y h k same) (ap (λ (o : Option Op). o >>= λ op. Some (InstV (row op (x ∷ y ∷ []) []))) made)
+
+quotient_row : (b t : Text) (op : Op) (wr : Option TypeTree) (os : List Typed) (ts : List Text) → Reads N.quotient (TextV t) (token b T.Word t ∷ []) → binary_op t no_wraps ≡ Some op → IsPair wr os ts
+    → Reads N.simple (says op wr os ts) (token b T.Word t ∷ (written_operands os ++ written_to wr))
+quotient_row b t op _ _ _ first made (pair x y h k same) =
+    P.simple_quotient first (P.lost_exact_none) (pair_says x y h k same) (ap (λ (o : Option Op). o >>= λ op. Some (InstV (row op (x ∷ y ∷ []) []))) made)
+
+bits_row : (b t : Text) (op : Op) (wr : Option TypeTree) (os : List Typed) (ts : List Text) → Reads N.bits (TextV t) (token b T.Word t ∷ []) → binary_op t no_wraps ≡ Some op → IsPair wr os ts
+    → Reads N.simple (says op wr os ts) (token b T.Word t ∷ (written_operands os ++ written_to wr))
+bits_row b t op _ _ _ first made (pair x y h k same) = P.simple_bits first (pair_says x y h k same) (ap (λ (o : Option Op). o >>= λ op. Some (InstV (row op (x ∷ y ∷ []) []))) made)
+
+or_row : (b : Text) (wr : Option TypeTree) (os : List Typed) (ts : List Text) → IsPair wr os ts → Reads N.simple (says O.Or wr os ts) (token b T.Word (codes "or") ∷ (written_operands os ++ written_to wr))
+or_row b _ _ _ (pair x y h k same) = P.simple_or b (P.lost_disjoint_none) (pair_says x y h k same) refl
+
+icmp_row : (b : Text) (p : LLVMIntPredicate) (wr : Option TypeTree) (os : List Typed) (ts : List Text) → IsPair wr os ts
+    → Reads N.simple (says (O.ICmp p) wr os ts) (token b T.Word (codes "icmp") ∷ word (predicate_text p) ∷ (written_operands os ++ written_to wr))
+icmp_row b p _ _ _ (pair x y h k same) =
+    P.simple_icmp b (P.lost_samesign_none) (predicate_says p) (pair_says x y h k same) (ap (λ (o : Option LLVMIntPredicate). o >>= λ q. Some (InstV (row (O.ICmp q) (x ∷ y ∷ []) []))) (predicate_again p))
+
+sext_row : (b : Text) (wr : Option TypeTree) (os : List Typed) (ts : List Text) → IsCast wr os ts → Reads N.simple (says O.SExt wr os ts) (token b T.Word (codes "sext") ∷ (written_operands os ++ written_to wr))
+sext_row b _ _ _ (cast x τ h type) = P.simple_cast (codes " ") (P.cast_sext b) (typed_says x h) (int_says (codes " ") τ type) refl
+
+trunc_row : (b : Text) (wr : Option TypeTree) (os : List Typed) (ts : List Text) → IsCast wr os ts → Reads N.simple (says O.Trunc wr os ts) (token b T.Word (codes "trunc") ∷ (written_operands os ++ written_to wr))
+trunc_row b _ _ _ (cast x τ h type) = P.simple_trunc b (codes " ") (P.lost_wraps_none) (typed_says x h) (int_says (codes " ") τ type) refl
+
+zext_row : (b : Text) (nneg : Bool) (wr : Option TypeTree) (os : List Typed) (ts : List Text) → IsCast wr os ts
+    → Reads N.simple (says (O.ZExt nneg) wr os ts) (token b T.Word (codes "zext") ∷ (written_flag (codes "nneg") nneg ++ (written_operands os ++ written_to wr)))
+zext_row b nneg _ _ _ (cast x τ h type) = P.simple_zext b (codes " ") (nneg_says nneg) (typed_says x h) (int_says (codes " ") τ type) refl
+
+select_row : (b : Text) (wr : Option TypeTree) (os : List Typed) (ts : List Text) → IsThree wr os ts → Reads N.simple (says O.Select wr os ts) (token b T.Word (codes "select") ∷ written_values os)
+select_row b _ _ _ (three x y z h k l) = P.simple_three_select b [] [] (typed_says x h) (typed_says y k) (typed_says z l) refl
+
+freeze_row : (b : Text) (wr : Option TypeTree) (os : List Typed) (ts : List Text) → IsOne wr os ts → Reads N.simple (says O.Freeze wr os ts) (token b T.Word (codes "freeze") ∷ (written_operands os ++ written_to wr))
+freeze_row b _ _ _ (one x h) = P.simple_freeze b (typed_says x h) refl
+
+jump_row : (b : Text) (wr : Option TypeTree) (os : List Typed) (ts : List Text) → IsJump wr os ts → Reads N.simple (says O.Br wr os ts) (token b T.Word (codes "br") ∷ written_targets ts)
+jump_row b _ _ _ (jump t) = P.simple_br b (P.br_jump (codes " ") (codes " ") t refl)
+
+branch_row : (b : Text) (wr : Option TypeTree) (os : List Typed) (ts : List Text) → IsBranch wr os ts → Reads N.simple (says O.CondBr wr os ts) (token b T.Word (codes "br") ∷ (written_operands os ++ (comma ∷ written_targets ts)))
+branch_row b _ _ _ (branch x t u h) = P.simple_br b (P.br_branch [] (codes " ") (codes " ") t [] (codes " ") (codes " ") u (typed_says x h) refl)
+
+return_row : (b : Text) (wr : Option TypeTree) (os : List Typed) (ts : List Text) → IsReturn wr os ts → Reads N.simple (says O.Ret wr os ts) (token b T.Word (codes "ret") ∷ written_returned os)
+return_row b _ _ _ no_value = P.simple_return b (P.ret_none (codes " ")) refl
+return_row b _ _ _ (value x h) = P.simple_return b (returned_says x h) refl
+
+bare_row : (b : Text) (wr : Option TypeTree) (os : List Typed) (ts : List Text) → IsBare wr os ts → Reads N.simple (says O.Unreachable wr os ts) (token b T.Word (codes "unreachable") ∷ [])
+bare_row b _ _ _ bare = P.simple_unreachable b refl
+
+-- ---- a line for each row of the table
+
+row_by : (b : Text) (op : Op) (wr : Option TypeTree) (os : List Typed) (ts : List Text) → IsRow (row_line op wr os ts) → Reads N.simple (says op wr os ts) (written_row b (row_line op wr os ts))
+row_by b (O.Add flags) wr os ts h = sum_row b (codes "add") (O.Add flags) flags wr os ts (P.sum_add b) refl (pair_form wr os ts h.fits h.count h.leads h.operands)
+row_by b (O.Sub flags) wr os ts h = sum_row b (codes "sub") (O.Sub flags) flags wr os ts (P.sum_sub b) refl (pair_form wr os ts h.fits h.count h.leads h.operands)
+row_by b (O.Mul flags) wr os ts h = sum_row b (codes "mul") (O.Mul flags) flags wr os ts (P.sum_mul b) refl (pair_form wr os ts h.fits h.count h.leads h.operands)
+row_by b (O.Shl flags) wr os ts h = sum_row b (codes "shl") (O.Shl flags) flags wr os ts (P.sum_shl b) refl (pair_form wr os ts h.fits h.count h.leads h.operands)
+row_by b O.UDiv wr os ts h = quotient_row b (codes "udiv") O.UDiv wr os ts (P.quotient_udiv b) refl (pair_form wr os ts h.fits h.count h.leads h.operands)
+row_by b O.SDiv wr os ts h = quotient_row b (codes "sdiv") O.SDiv wr os ts (P.quotient_sdiv b) refl (pair_form wr os ts h.fits h.count h.leads h.operands)
+row_by b O.URem wr os ts h = bits_row b (codes "urem") O.URem wr os ts (P.bits_urem b) refl (pair_form wr os ts h.fits h.count h.leads h.operands)
+row_by b O.SRem wr os ts h = bits_row b (codes "srem") O.SRem wr os ts (P.bits_srem b) refl (pair_form wr os ts h.fits h.count h.leads h.operands)
+row_by b O.LShr wr os ts h = quotient_row b (codes "lshr") O.LShr wr os ts (P.quotient_lshr b) refl (pair_form wr os ts h.fits h.count h.leads h.operands)
+row_by b O.AShr wr os ts h = quotient_row b (codes "ashr") O.AShr wr os ts (P.quotient_ashr b) refl (pair_form wr os ts h.fits h.count h.leads h.operands)
+row_by b O.And wr os ts h = bits_row b (codes "and") O.And wr os ts (P.bits_and b) refl (pair_form wr os ts h.fits h.count h.leads h.operands)
+row_by b O.Or wr os ts h = or_row b wr os ts (pair_form wr os ts h.fits h.count h.leads h.operands)
+row_by b O.Xor wr os ts h = bits_row b (codes "xor") O.Xor wr os ts (P.bits_xor b) refl (pair_form wr os ts h.fits h.count h.leads h.operands)
+row_by b (O.ICmp p) wr os ts h = icmp_row b p wr os ts (pair_form wr os ts h.fits h.count h.leads h.operands)
+row_by b O.Trunc wr os ts h = trunc_row b wr os ts (cast_form F.Wider wr os ts h.fits h.count h.leads h.written h.operands)
+row_by b O.SExt wr os ts h = sext_row b wr os ts (cast_form F.Narrower wr os ts h.fits h.count h.leads h.written h.operands)
+row_by b (O.ZExt nneg) wr os ts h = zext_row b nneg wr os ts (cast_form F.Narrower wr os ts h.fits h.count h.leads h.written h.operands)
+row_by b O.Select wr os ts h = select_row b wr os ts (three_form wr os ts _ h.fits h.count h.leads h.operands)
+row_by b O.Freeze wr os ts h = freeze_row b wr os ts (one_form wr os ts _ h.fits h.count h.leads h.operands)
+row_by b O.Br wr os ts h = jump_row b wr os ts (jump_form wr os ts _ h.fits h.count h.leads)
+row_by b O.CondBr wr os ts h = branch_row b wr os ts (branch_form wr os ts _ h.fits h.count h.leads h.operands)
+row_by b O.Ret wr os ts h = return_row b wr os ts (return_form wr os ts _ h.void h.fits h.count h.leads h.operands)
+row_by b O.Unreachable wr os ts h = bare_row b wr os ts (bare_form wr os ts _ h.fits h.count h.leads)
+
+pub row_says : (b : Text) (r : RowLine) → IsRow r → Reads N.simple (InstV (L.Row r)) (written_row b r)
+row_says b r h = row_by b r.op r.written r.operands r.targets h

@@ -1,0 +1,141 @@
+-- The tokens of what a text says are well spaced.
+use Rattle.std.proofs.Common.{◌≡◌, ℕ, false, List, [], ◌∷◌, ◌++◌, Option, Some, None, codes, refl}
+use Rattle.std.specs.Prelude.{IfSome}
+use Rattle.std.specs.List.{flat_map, AllByRecursion}
+use Rattle.kinds.specs.declared.op.Op.{Op}
+use Rattle.kinds.specs.declared.op.Op.TheVariants as O
+use Rattle.kinds.specs.Types.{TypeTree}
+use Rattle.ll_lines.specs.Lines as L
+use Rattle.ll_lines.specs.Lines.{Text, RowLine, Incoming, Inst, Line, Part, Param, Function, File}
+use Rattle.ll_spacing.specs.Forms.{IsText}
+use Rattle.ll_spacing.specs.Spacing.{Spaced, AreSpaced, AreSpacedBehind, AreBlanks, IsApart, Follows}
+use Rattle.ll_spacing.specs.Following.{goes_on}
+use Rattle.ll_spacing.proofs.FollowLaws.{plain_follows}
+use Rattle.ll_spacing.proofs.SignLaws.{sign_whole}
+use Rattle.ll_spacing.proofs.TextLaws.{text_whole}
+use Rattle.ll_tokens.specs.Pieces.{token as piece, sign_at}
+use Rattle.ll_tokens.specs.declared.kinds.Kind.{Kind}
+use Rattle.ll_tokens.specs.declared.kinds.Kind.TheVariants as T
+use Rattle.ll_written.specs.Printing.{type_text}
+use Rattle.ll_written.specs.Written as W
+use Rattle.ll_written.specs.Written.{token, apart, close, word, comma, indent}
+use Rattle.ll_written.specs.Writable.{IsLocal, IsRow, IsIncoming, IsInst, IsPart, IsParam, IsFunction, IsWritable}
+use Rattle.ll_written.proofs.FreeLaws.{AreFree, IsFree, both_free, each_free, free_spaced, spaced_then, gap_free, apart_free, word_whole, sign_free, comma_free}
+use Rattle.ll_written.proofs.SpacedParts.{type_whole, int_whole, said_free, operands_free, values_free, returned_free, targets_free, to_free, head_free, first_free}
+
+-- ---- instructions
+
+most_free : (r : RowLine) → IsRow r → AreFree (W.written_operands r.operands ++ W.written_to r.written)
+most_free r h = both_free (W.written_operands r.operands) (W.written_to r.written) (operands_free r.operands h.operands) (to_free r.written h.written)
+
+names_free : (op : Op) (r : RowLine) → IsRow r → AreFree (W.written_names op r)
+names_free O.Select r h = values_free r.operands h.operands
+names_free O.Br r h = targets_free r.targets h.targets
+names_free O.CondBr r h = both_free (W.written_operands r.operands) (comma ∷ W.written_targets r.targets) (operands_free r.operands h.operands) (comma_free, targets_free r.targets h.targets)
+names_free O.Ret r h = returned_free r.operands h.operands
+names_free O.Unreachable r h = tt
+names_free (O.Add flags) r h = most_free r h
+names_free (O.Sub flags) r h = most_free r h
+names_free (O.Mul flags) r h = most_free r h
+names_free (O.Shl flags) r h = most_free r h
+names_free O.UDiv r h = most_free r h
+names_free O.SDiv r h = most_free r h
+names_free O.URem r h = most_free r h
+names_free O.SRem r h = most_free r h
+names_free O.LShr r h = most_free r h
+names_free O.AShr r h = most_free r h
+names_free O.And r h = most_free r h
+names_free O.Or r h = most_free r h
+names_free O.Xor r h = most_free r h
+names_free (O.ICmp p) r h = most_free r h
+names_free O.Trunc r h = most_free r h
+names_free O.SExt r h = most_free r h
+names_free (O.ZExt nneg) r h = most_free r h
+names_free O.Freeze r h = most_free r h
+
+entry_free : (τ : TypeTree) (e : Incoming) → IsIncoming τ e → AreFree (W.written_entry e)
+unfolding sign_at
+entry_free τ e h = (sign_free T.OpenBracket 91 refl, (said_free τ e.said h.said, (comma_free, (apart_free T.Local e.block h.block, (sign_free T.CloseBracket 93 refl, tt)))))
+
+entries_free : (τ : TypeTree) (es : List Incoming) → AllByRecursion (IsIncoming τ) es → AreFree (W.written_entries es)
+entries_free τ [] all = tt
+entries_free τ (e ∷ es) all = both_free (W.written_entry e) (flat_map W.next_entry es) (entry_free τ e all.0) (each_free (IsIncoming τ) W.next_entry (λ x h. (comma_free, entry_free τ x h)) es all.1)
+
+inst_free : (b : ℕ) (bs : Text) → AreBlanks (b ∷ bs) → (i : Inst) → IsInst i → AreFree (W.written_inst (b ∷ bs) i)
+inst_free b bs blanks (L.Phi τ es) h = (first_free b bs blanks (codes "phi") refl, (apart_free T.Word (type_text τ) (int_whole τ h.0), entries_free τ es h.1))
+inst_free b bs blanks (L.Row r) h = both_free (W.written_head (b ∷ bs) r.op) (W.written_names r.op r) (head_free b bs blanks r.op) (names_free r.op r h)
+
+line_by : (result : Option Text) (i : Inst) → IfSome result IsLocal → IsInst i → AreFree (W.written_behind result i)
+unfolding sign_at
+line_by None i h k = inst_free 10 (codes "  ") refl i k
+line_by (Some t) i h k = (gap_free 10 (codes "  ") T.Local t refl (text_whole T.Local t h), (sign_free T.Equals 61 refl, inst_free 32 [] refl i k))
+
+-- ---- bodies
+
+part_free : (b : ℕ) (bs : Text) → AreBlanks (b ∷ bs) → (p : Part) → IsPart p → AreFree (W.written_part (b ∷ bs) p)
+part_free b bs blanks (L.Label t) h = (gap_free b bs T.Label t blanks (text_whole T.Label t h), tt)
+part_free b bs blanks (L.Does l) h = line_by l.result l.inst h.result h.inst
+
+body_free : (ps : List Part) → AllByRecursion IsPart ps → AreFree (W.written_body ps)
+body_free [] all = tt
+body_free (p ∷ ps) all = both_free (W.written_part (codes "\n") p) (flat_map W.next_part ps) (part_free 10 [] refl p all.0) (each_free IsPart W.next_part (λ q h. part_free 10 (codes "\n") refl q h) ps all.1)
+
+-- ---- functions
+
+name_free : (name : Option Text) → IfSome name IsLocal → AreFree (W.written_name name)
+name_free None h = tt
+name_free (Some t) h = (apart_free T.Local t h, tt)
+
+next_param_free : (p : Param) → IsParam p → AreFree (W.next_param p)
+next_param_free p h = (comma_free, (apart_free T.Word (type_text p.type) (int_whole p.type h.type), name_free p.name h.name))
+
+open_apart : (t : Text) → IsApart (Some T.OpenParen) t
+open_apart [] = tt
+open_apart (b ∷ bs) = refl
+
+-- parameters stand directly behind the sign that opens them
+params_spaced : (ps : List Param) (rest : List Spaced) → AllByRecursion IsParam ps → AreFree rest → AreSpacedBehind (Some T.OpenParen) (W.written_params ps ++ rest)
+params_spaced [] rest all free = free_spaced (Some T.OpenParen) rest free
+params_spaced (p ∷ ps) rest all free =
+    let type : Follows (Some T.OpenParen) (close T.Word (type_text p.type)) = record { blanks = refl; whole = text_whole T.Word (type_text p.type) (int_whole p.type all.0.type); apart = open_apart (type_text p.type) } in
+    let others = both_free (W.written_name p.name ++ flat_map W.next_param ps) rest (both_free (W.written_name p.name) (flat_map W.next_param ps) (name_free p.name all.0.name) (each_free IsParam W.next_param next_param_free ps all.1)) free in
+    (type, free_spaced (Some T.Word) (W.written_name p.name ++ flat_map W.next_param ps ++ rest) others)
+
+sign_close : (k : Kind) (b : ℕ) → sign_at b ≡ piece k 1 → ((j : Kind) → goes_on j b ≡ false) → IsFree (close k (b ∷ []))
+sign_close k b e next None = record { blanks = refl; whole = sign_whole k b e; apart = tt }
+sign_close k b e next (Some j) = record { blanks = refl; whole = sign_whole k b e; apart = next j }
+
+function_spaced : (b : ℕ) (bs : Text) → AreBlanks (b ∷ bs) → (last : Option Kind) (f : Function) (rest : List Spaced) → IsFunction f → ((l : Option Kind) → AreSpacedBehind l rest) → AreSpacedBehind last (W.written_function (b ∷ bs) f ++ rest)
+unfolding sign_at
+function_spaced b bs blanks last f rest h free =
+    let body = apart T.OpenBrace (codes "{") ∷ (W.written_body f.body ++ (token (codes "\n") T.CloseBrace (codes "}") ∷ [])) in
+    let inside : AreFree body = (sign_free T.OpenBrace 123 refl, both_free (W.written_body f.body) (token (codes "\n") T.CloseBrace (codes "}") ∷ []) (body_free f.body h.body) (gap_free 10 [] T.CloseBrace (codes "}") refl (sign_whole T.CloseBrace 125 refl), tt)) in
+    let end : AreFree (close T.CloseParen (codes ")") ∷ body) = (sign_close T.CloseParen 41 refl (λ j. plain_follows j 41 refl), inside) in
+    let params : AreSpacedBehind (Some T.OpenParen) (W.written_params f.params ++ (close T.CloseParen (codes ")") ∷ body) ++ rest) =
+    spaced_then (Some T.OpenParen) (W.written_params f.params ++ (close T.CloseParen (codes ")") ∷ body)) rest (params_spaced f.params (close T.CloseParen (codes ")") ∷ body) h.params end) free in (
+      first_free b bs blanks (codes "define") refl last,
+      (
+        apart_free T.Word (type_text f.result) (type_whole f.result h.result) (Some T.Word),
+        (
+          apart_free T.Global f.name h.name (Some T.Word),
+          (sign_close T.OpenParen 40 refl (λ j. plain_follows j 40 refl) (Some T.Global), params),
+        ),
+      ),
+    )
+
+functions_spaced : (fs : List Function) → AllByRecursion IsFunction fs → (last : Option Kind) → AreSpacedBehind last (flat_map W.next_function fs)
+functions_spaced [] all last = tt
+functions_spaced (f ∷ fs) all last = function_spaced 10 (codes "\n") refl last f (flat_map W.next_function fs) all.0 (functions_spaced fs all.1)
+
+-- ---- files
+
+file_by : (source : Option Text) (fs : List Function) → IfSome source (IsText T.Str) → AllByRecursion IsFunction fs → AreSpaced (W.written_file source fs)
+unfolding sign_at
+file_by (Some t) fs h all =
+    let first : Follows None (close T.Word (codes "source_filename")) = record { blanks = refl; whole = word_whole (codes "source_filename") refl; apart = tt } in
+    (first, (sign_free T.Equals 61 refl (Some T.Word), (apart_free T.Str t h (Some T.Equals), functions_spaced fs all (Some T.Str))))
+file_by None [] h all = tt
+file_by None (f ∷ fs) h all = function_spaced 10 [] refl None f (flat_map W.next_function fs) all.0 (functions_spaced fs all.1)
+
+pub file_spaced : (f : File) → IsWritable f → AreSpaced (W.written f)
+file_spaced f h = file_by f.source f.functions h.source h.functions

@@ -1,0 +1,173 @@
+-- The tokens of what a text says are well spaced.
+use Rattle.std.proofs.Common.{◌≡◌, ◌≤◌, ◌<◌, ◌^◌, ℕ, zero, suc, Bool, true, false, cond, ◌==◌, ◌-◌, nat_le, nat_lt, List, [], ◌∷◌, Option, Some, None, codes, refl, subst, arith}
+use Rattle.std.specs.Prelude.{decimal, IfSome}
+use Rattle.std.specs.List.{flat_map, list_all, AllByRecursion}
+use Rattle.std.proofs.lemmas.Bool.Decides.{nat_tests}
+use Rattle.std.proofs.Math.Nat.{pow-le-pow_right}
+use Rattle.kinds.specs.declared.op.LLVMIntPredicate.{LLVMIntPredicate}
+use Rattle.kinds.specs.declared.op.LLVMIntPredicate.TheVariants as I
+use Rattle.kinds.specs.declared.op.OverflowFlags.{OverflowFlags}
+use Rattle.kinds.specs.declared.op.Op.{Op}
+use Rattle.kinds.specs.declared.op.Op.TheVariants as O
+use Rattle.kinds.specs.Types.{TypeTree, VoidType, IntType, FunctionType}
+use Rattle.ll_lines.specs.Lines as L
+use Rattle.ll_lines.specs.Lines.{Text, Said, Typed, RowLine, Incoming, Inst, Line, Part, Param, Function, File}
+use Rattle.ll_spacing.specs.Forms.{IsText, IsInt, is_word}
+use Rattle.ll_spacing.specs.Spacing.{AreBlanks}
+use Rattle.ll_spacing.proofs.WholeLaws.{all_weaker}
+use Rattle.std.proofs.lemmas.Nat.{pow_pos}
+use Rattle.ll_tokens.specs.Bytes.{is_digit, is_word_byte}
+use Rattle.ll_tokens.specs.declared.kinds.Kind.{Kind}
+use Rattle.ll_tokens.specs.declared.kinds.Kind.TheVariants as T
+use Rattle.ll_written.specs.Printing.{type_text, int_text, signed_text, predicate_text}
+use Rattle.ll_written.specs.Written as W
+use Rattle.ll_written.specs.Written.{token, apart, close, word, comma, indent}
+use Rattle.ll_written.specs.Writable.{IsIntType, IsResult, an_int, IsLocal, IsSaidOf, IsTyped}
+use Rattle.ll_said.proofs.DecimalLaws.{IsDecimal-decimal}
+use Rattle.ll_written.proofs.FreeLaws.{AreFree, IsFree, both_free, each_free, gap_free, apart_free, word_whole, word_free, comma_free}
+
+-- ---- types and values
+
+digits_word : (bs : Text) → list_all is_digit bs ≡ true → list_all is_word_byte bs ≡ true
+digits_word bs e = all_weaker is_digit is_word_byte bs (λ b d. grind (arith, nat_tests)) e
+
+below : (w m : ℕ) (n : ℕ) → w ≤ m → m ≤ 63 → n ≤ 2 ^ w → n < 2 ^ 64
+below w m n h k fits = omega (arith, pow-le-pow_right {n = 2} (omega arith) {i = w} {j = 63} (omega arith))
+
+int_type_text : (n : ℕ) → n < 2 ^ 64 → IsText T.Word (105 ∷ decimal n)
+int_type_text n h =
+    let d = IsDecimal-decimal n h in
+    let digits : list_all is_digit (d.first ∷ d.others) ≡ true = rw (d.digit, d.digits) refl in
+    rw d.text (IsText.word (105 ∷ d.first ∷ d.others) (digits_word (d.first ∷ d.others) digits))
+
+pub type_whole : (τ : TypeTree) → IsResult τ → IsText T.Word (type_text τ)
+type_whole VoidType h = IsText.word (codes "void") refl
+type_whole (IntType n) h = int_type_text n (below 23 23 n (omega arith) (omega arith) h.1)
+type_whole (FunctionType r ts v) h = absurd h
+
+pub int_whole : (τ : TypeTree) → IsIntType τ → IsText T.Word (type_text τ)
+int_whole (IntType n) h = type_whole (IntType n) h
+int_whole VoidType h = absurd h
+int_whole (FunctionType r ts v) h = absurd h
+
+decimal_text : (n : ℕ) → n < 2 ^ 64 → IsText T.Int (decimal n)
+decimal_text n h =
+    let d = IsDecimal-decimal n h in
+    let digits : list_all is_digit (d.first ∷ d.others) ≡ true = rw (d.digit, d.digits) refl in
+    rw d.text (IsText.int (d.first ∷ d.others) (IsInt.plain d.first d.others digits))
+
+minus_text : (n : ℕ) → n < 2 ^ 64 → IsText T.Int (45 ∷ decimal n)
+minus_text n h =
+    let d = IsDecimal-decimal n h in
+    let digits : list_all is_digit (d.first ∷ d.others) ≡ true = rw (d.digit, d.digits) refl in
+    rw d.text (IsText.int (45 ∷ d.first ∷ d.others) (IsInt.minus d.first d.others digits))
+
+power_most : (w n : ℕ) → w ≤ 64 → n < 2 ^ w → n < 2 ^ 64
+power_most w n h fits = omega (arith, pow-le-pow_right {n = 2} (omega arith) {i = w} {j = 64} h)
+
+signed_by : (w n : ℕ) (b : Bool) → w ≤ 64 → n < 2 ^ w → nat_lt n (2 ^ (w - 1)) ≡ b → IsText T.Int (cond b (decimal n) (45 ∷ decimal (2 ^ w - n)))
+signed_by w n true most fits e = decimal_text n (power_most w n most fits)
+signed_by w n false most fits e =
+    let high : 2 ^ (w - 1) ≤ n = grind (arith, nat_tests) in
+    let pos = pow_pos (w - 1) in
+    let wide : 2 ^ w ≤ 2 ^ 64 = pow-le-pow_right {n = 2} (omega arith) {i = w} {j = 64} most in
+    minus_text (2 ^ w - n) (omega (arith, high, pos, wide))
+
+bit_text : (n : ℕ) → n < 2 → IsText T.Word (int_text 1 n)
+bit_text zero h = IsText.word (codes "false") refl
+bit_text (suc zero) h = IsText.word (codes "true") refl
+bit_text (suc (suc n)) h = absurd (omega arith)
+
+int_by : (w n : ℕ) (b : Bool) → w ≤ 64 → n < 2 ^ w → (w == 1) ≡ b → IsText (W.int_kind (IntType w)) (int_text w n)
+int_by w n true most fits e =
+    let one : 1 ≡ w = grind (arith, nat_tests) in
+    let small : n < 2 = rw (← one) at fits in
+    subst (λ (v : ℕ). IsText (W.int_kind (IntType v)) (int_text v n)) one (bit_text n small)
+int_by w n false most fits e =
+    let narrow : nat_le w 128 ≡ true = grind (arith, nat_tests) in
+    let kind : T.Int ≡ W.int_kind (IntType w) = rw e refl in
+    let same : signed_text w n ≡ int_text w n = rw (e, narrow) refl in
+    subst (λ (k : Kind). IsText k (int_text w n)) kind (subst (λ (t : Text). IsText T.Int t) same (signed_by w n (nat_lt n (2 ^ (w - 1))) most fits refl))
+
+pub said_free : (τ : TypeTree) (s : Said) → IsSaidOf τ s → IsFree (W.written_said s)
+said_free τ (L.Local t) h = apart_free T.Local t h
+said_free τ (L.Const c) (an_int w n most fits) = apart_free (W.int_kind (IntType w)) (int_text w n) (int_by w n (w == 1) most fits refl)
+
+pub typed_free : (x : Typed) → IsTyped x → AreFree (W.written_typed x)
+typed_free x h = (apart_free T.Word (type_text x.type) (int_whole x.type h.type), (said_free x.type x.said h.said, tt))
+
+-- ---- rows
+
+pub operands_free : (xs : List Typed) → AllByRecursion IsTyped xs → AreFree (W.written_operands xs)
+operands_free [] all = tt
+operands_free (x ∷ xs) all =
+    both_free (W.written_typed x) (flat_map W.next_said xs) (typed_free x all.0) (each_free IsTyped W.next_said (λ y h. (comma_free, (said_free y.type y.said h.said, tt))) xs all.1)
+
+pub values_free : (xs : List Typed) → AllByRecursion IsTyped xs → AreFree (W.written_values xs)
+values_free [] all = tt
+values_free (x ∷ xs) all =
+    both_free (W.written_typed x) (flat_map W.next_typed xs) (typed_free x all.0) (each_free IsTyped W.next_typed (λ y h. (comma_free, typed_free y h)) xs all.1)
+
+pub returned_free : (xs : List Typed) → AllByRecursion IsTyped xs → AreFree (W.written_returned xs)
+returned_free [] all = (word_free (codes "void") refl, tt)
+returned_free (x ∷ xs) all = operands_free (x ∷ xs) all
+
+target_free : (t : Text) → IsLocal t → AreFree (W.written_target t)
+target_free t h = (word_free (codes "label") refl, (apart_free T.Local t h, tt))
+
+pub targets_free : (ts : List Text) → AllByRecursion IsLocal ts → AreFree (W.written_targets ts)
+targets_free [] all = tt
+targets_free (t ∷ ts) all = both_free (W.written_target t) (flat_map W.next_target ts) (target_free t all.0) (each_free IsLocal W.next_target (λ u h. (comma_free, target_free u h)) ts all.1)
+
+pub to_free : (w : Option TypeTree) → IfSome w IsIntType → AreFree (W.written_to w)
+to_free None h = tt
+to_free (Some τ) h = (word_free (codes "to") refl, (apart_free T.Word (type_text τ) (int_whole τ h), tt))
+
+flag_free : (t : Text) (b : Bool) → is_word t ≡ true → AreFree (W.written_flag t b)
+flag_free t false e = tt
+flag_free t true e = (word_free t e, tt)
+
+wraps_free : (flags : OverflowFlags) → AreFree (W.written_wraps flags)
+wraps_free flags = both_free (W.written_flag (codes "nuw") flags.nuw) (W.written_flag (codes "nsw") flags.nsw) (flag_free (codes "nuw") flags.nuw refl) (flag_free (codes "nsw") flags.nsw refl)
+
+predicate_free : (p : LLVMIntPredicate) → IsFree (word (predicate_text p))
+predicate_free I.LLVMIntEQ = word_free (codes "eq") refl
+predicate_free I.LLVMIntNE = word_free (codes "ne") refl
+predicate_free I.LLVMIntUGT = word_free (codes "ugt") refl
+predicate_free I.LLVMIntUGE = word_free (codes "uge") refl
+predicate_free I.LLVMIntULT = word_free (codes "ult") refl
+predicate_free I.LLVMIntULE = word_free (codes "ule") refl
+predicate_free I.LLVMIntSGT = word_free (codes "sgt") refl
+predicate_free I.LLVMIntSGE = word_free (codes "sge") refl
+predicate_free I.LLVMIntSLT = word_free (codes "slt") refl
+predicate_free I.LLVMIntSLE = word_free (codes "sle") refl
+
+-- behind a gap
+module _ (b : ℕ) (bs : Text) (blanks : AreBlanks (b ∷ bs)) where
+  pub first_free : (t : Text) → is_word t ≡ true → IsFree (token (b ∷ bs) T.Word t)
+  first_free t e = gap_free b bs T.Word t blanks (word_whole t e)
+
+  pub head_free : (op : Op) → AreFree (W.written_head (b ∷ bs) op)
+  head_free (O.Add flags) = (first_free (codes "add") refl, wraps_free flags)
+  head_free (O.Sub flags) = (first_free (codes "sub") refl, wraps_free flags)
+  head_free (O.Mul flags) = (first_free (codes "mul") refl, wraps_free flags)
+  head_free (O.Shl flags) = (first_free (codes "shl") refl, wraps_free flags)
+  head_free O.UDiv = (first_free (codes "udiv") refl, tt)
+  head_free O.SDiv = (first_free (codes "sdiv") refl, tt)
+  head_free O.URem = (first_free (codes "urem") refl, tt)
+  head_free O.SRem = (first_free (codes "srem") refl, tt)
+  head_free O.LShr = (first_free (codes "lshr") refl, tt)
+  head_free O.AShr = (first_free (codes "ashr") refl, tt)
+  head_free O.And = (first_free (codes "and") refl, tt)
+  head_free O.Or = (first_free (codes "or") refl, tt)
+  head_free O.Xor = (first_free (codes "xor") refl, tt)
+  head_free (O.ICmp p) = (first_free (codes "icmp") refl, (predicate_free p, tt))
+  head_free O.Trunc = (first_free (codes "trunc") refl, tt)
+  head_free O.SExt = (first_free (codes "sext") refl, tt)
+  head_free (O.ZExt nneg) = (first_free (codes "zext") refl, flag_free (codes "nneg") nneg refl)
+  head_free O.Select = (first_free (codes "select") refl, tt)
+  head_free O.Freeze = (first_free (codes "freeze") refl, tt)
+  head_free O.Br = (first_free (codes "br") refl, tt)
+  head_free O.CondBr = (first_free (codes "br") refl, tt)
+  head_free O.Ret = (first_free (codes "ret") refl, tt)
+  head_free O.Unreachable = (first_free (codes "unreachable") refl, tt)

@@ -1,0 +1,229 @@
+-- The text that is printed of module data, a definition for each part.
+use Rattle.std.specs.Prelude.{ℕ, zero, suc, ◌-◌, ◌^◌, Bool, true, false, List, [], ◌∷◌, ◌++◌, Option, None, Some, nat_le, nat_lt, ◌==◌, if◌then◌else◌, drop, codes, decimal, slice_index_or}
+use Rattle.std.specs.List.{flat_map}
+use Rattle.kinds.specs.declared.op.LLVMIntPredicate.{LLVMIntPredicate}
+use Rattle.kinds.specs.declared.op.LLVMIntPredicate.TheVariants as P
+use Rattle.kinds.specs.declared.op.OverflowFlags.{OverflowFlags}
+use Rattle.kinds.specs.declared.op.Op.{Op}
+use Rattle.kinds.specs.declared.op.Op.TheVariants as O
+use Rattle.llvm_core.specs.Data.{TypeTree, VoidType, IntType, FunctionType, ConstTree, IntConst, PlaceholderConst, Operand, Constant, Parameter, Result, Instruction, Phi, RowData, Applied, Placed, Block, Function, ModuleData, operand_type, param_type}
+use Rattle.llvm_core.specs.Form.{result_of}
+use Rattle.ll_tree.specs.Text.{Text, global, quoted}
+use Rattle.ll_said.specs.Naming.{ParamAt, ResultOf, local_text, result_name, block_ref}
+
+-- ---- types and constants
+
+-- a type, a line for each kind; a function type stands nowhere by itself
+abbrev pub type_text : TypeTree → Text
+type_text VoidType = codes "void"
+type_text (IntType w) = 105 ∷ decimal w
+type_text (FunctionType result params variadic) = []
+
+-- a number of a width in two's complement, printed signed
+abbrev pub signed_text : ℕ → ℕ → Text
+signed_text w v = if nat_lt v (2 ^ (w - 1)) then decimal v else 45 ∷ decimal (2 ^ w - v)
+
+-- an integer of a width: one bit prints as a word, up to 128 bits signed, more unsigned
+abbrev pub int_text : ℕ → ℕ → Text
+int_text w v =
+    if w == 1 then (if v == 0 then codes "false" else codes "true")
+    else (if nat_le w 128 then signed_text w v else decimal v)
+
+abbrev pub int_of_type : TypeTree → ℕ → Text
+int_of_type (IntType w) v = int_text w v
+int_of_type VoidType v = []
+int_of_type (FunctionType result params variadic) v = []
+
+-- a constant without its type, a line for each kind; a checked module has no placeholder
+abbrev pub const_text : ConstTree → Text
+const_text (IntConst type v) = int_of_type type v
+const_text (PlaceholderConst number type) = []
+
+-- ---- instructions
+
+-- an operand without its type, a line for each kind
+abbrev pub operand_text : Function → Operand → Text
+operand_text f (Constant c) = const_text c
+operand_text f (Parameter g i) = local_text f (slice_index_or f.params i []) (ParamAt i)
+operand_text f (Result n) = local_text f (result_name f n) (ResultOf n)
+
+-- a type and an operand of it
+abbrev pub value_text : Function → Operand → Text
+value_text f o = type_text (operand_type f o) ++ codes " " ++ operand_text f o
+
+-- a word and a blank, where it is set
+abbrev pub flag_text : Text → Bool → Text
+flag_text word false = []
+flag_text word true = word ++ codes " "
+
+abbrev pub predicate_text : LLVMIntPredicate → Text
+predicate_text P.LLVMIntEQ = codes "eq"
+predicate_text P.LLVMIntNE = codes "ne"
+predicate_text P.LLVMIntUGT = codes "ugt"
+predicate_text P.LLVMIntUGE = codes "uge"
+predicate_text P.LLVMIntULT = codes "ult"
+predicate_text P.LLVMIntULE = codes "ule"
+predicate_text P.LLVMIntSGT = codes "sgt"
+predicate_text P.LLVMIntSGE = codes "sge"
+predicate_text P.LLVMIntSLT = codes "slt"
+predicate_text P.LLVMIntSLE = codes "sle"
+
+-- an entry of a phi
+abbrev pub entry_text : Function → Operand × ℕ → Text
+entry_text f e = codes "[ " ++ operand_text f e.0 ++ codes ", " ++ block_ref f e.1 ++ codes " ]"
+
+-- entries behind the first
+abbrev pub next_entry_text : Function → Operand × ℕ → Text
+next_entry_text f e = codes ", " ++ entry_text f e
+
+-- entries, of which there is one at least in a checked module
+abbrev pub entries_text : Function → List (Operand × ℕ) → Text
+entries_text f [] = []
+entries_text f (e ∷ es) = entry_text f e ++ flat_map (next_entry_text f) es
+
+-- operands, of which the first stands behind its type
+abbrev pub operands_text : Function → List Operand → Text
+operands_text f [] = []
+operands_text f (o ∷ os) = value_text f o ++ flat_map (λ (x : Operand). codes ", " ++ operand_text f x) os
+
+-- what a return has
+abbrev pub returned_text : Function → List Operand → Text
+returned_text f [] = codes "void"
+returned_text f (o ∷ os) = operands_text f (o ∷ os)
+
+-- the blocks that a row leads to
+abbrev pub target_text : Function → ℕ → Text
+target_text f n = codes "label " ++ block_ref f n
+
+abbrev pub targets_text : Function → List ℕ → Text
+targets_text f [] = []
+targets_text f (n ∷ ns) = target_text f n ++ flat_map (λ (x : ℕ). codes ", " ++ target_text f x) ns
+
+-- operands, each behind its type
+abbrev pub values_text : Function → List Operand → Text
+values_text f [] = []
+values_text f (o ∷ os) = value_text f o ++ flat_map (λ (x : Operand). codes ", " ++ value_text f x) os
+
+-- the type that is written behind operands
+abbrev pub to_text : Option TypeTree → Text
+to_text None = []
+to_text (Some type) = codes " to " ++ type_text type
+
+-- a word, and the flags that are set, each before a blank
+abbrev pub flagged_text : Text → OverflowFlags → Text
+flagged_text word flags = word ++ codes " " ++ flag_text (codes "nuw") flags.nuw ++ flag_text (codes "nsw") flags.nsw
+
+-- what stands before the operands and blocks of a row: its word and immediates, each before a blank, a line for each
+abbrev pub row_head : Op → Text
+row_head (O.Add flags) = flagged_text (codes "add") flags
+row_head (O.Sub flags) = flagged_text (codes "sub") flags
+row_head (O.Mul flags) = flagged_text (codes "mul") flags
+row_head (O.Shl flags) = flagged_text (codes "shl") flags
+row_head O.UDiv = codes "udiv "
+row_head O.SDiv = codes "sdiv "
+row_head O.URem = codes "urem "
+row_head O.SRem = codes "srem "
+row_head O.LShr = codes "lshr "
+row_head O.AShr = codes "ashr "
+row_head O.And = codes "and "
+row_head O.Or = codes "or "
+row_head O.Xor = codes "xor "
+row_head (O.ICmp predicate) = codes "icmp " ++ predicate_text predicate ++ codes " "
+row_head O.Trunc = codes "trunc "
+row_head O.SExt = codes "sext "
+row_head (O.ZExt nneg) = codes "zext " ++ flag_text (codes "nneg") nneg
+row_head O.Select = codes "select "
+row_head O.Freeze = codes "freeze "
+row_head O.Br = codes "br "
+row_head O.CondBr = codes "br "
+row_head O.Ret = codes "ret "
+row_head O.Unreachable = codes "unreachable"
+
+-- what a row names, a line for each: most rows their operands, and behind them the type where one is written
+abbrev pub row_names : Function → Op → Option TypeTree → List Operand → List ℕ → Text
+row_names f (O.Add flags) written os ts = operands_text f os ++ to_text written
+row_names f (O.Sub flags) written os ts = operands_text f os ++ to_text written
+row_names f (O.Mul flags) written os ts = operands_text f os ++ to_text written
+row_names f (O.Shl flags) written os ts = operands_text f os ++ to_text written
+row_names f O.UDiv written os ts = operands_text f os ++ to_text written
+row_names f O.SDiv written os ts = operands_text f os ++ to_text written
+row_names f O.URem written os ts = operands_text f os ++ to_text written
+row_names f O.SRem written os ts = operands_text f os ++ to_text written
+row_names f O.LShr written os ts = operands_text f os ++ to_text written
+row_names f O.AShr written os ts = operands_text f os ++ to_text written
+row_names f O.And written os ts = operands_text f os ++ to_text written
+row_names f O.Or written os ts = operands_text f os ++ to_text written
+row_names f O.Xor written os ts = operands_text f os ++ to_text written
+row_names f (O.ICmp predicate) written os ts = operands_text f os ++ to_text written
+row_names f O.Trunc written os ts = operands_text f os ++ to_text written
+row_names f O.SExt written os ts = operands_text f os ++ to_text written
+row_names f (O.ZExt nneg) written os ts = operands_text f os ++ to_text written
+row_names f O.Select written os ts = values_text f os
+row_names f O.Freeze written os ts = operands_text f os ++ to_text written
+row_names f O.Br written os ts = targets_text f ts
+row_names f O.CondBr written os ts = operands_text f os ++ codes ", " ++ targets_text f ts
+row_names f O.Ret written os ts = returned_text f os
+row_names f O.Unreachable written os ts = []
+
+abbrev pub row_text : Function → RowData → Text
+row_text f r = row_head r.op ++ row_names f r.op r.written r.operands r.targets
+
+-- an instruction whose result has that type
+abbrev pub instruction_text : Function → TypeTree → Instruction → Text
+instruction_text f type (Phi entries) = codes "phi " ++ type_text type ++ codes " " ++ entries_text f entries
+instruction_text f type (Applied r) = row_text f r
+
+-- the result, where there is one
+abbrev pub gives_text : Function → TypeTree → Placed → Text
+gives_text f VoidType p = []
+gives_text f type p = local_text f p.name (ResultOf p.number) ++ codes " = "
+
+abbrev pub placed_text : Function → Placed → Text
+placed_text f p = codes "  " ++ gives_text f p.type p ++ instruction_text f p.type p.instruction ++ codes "\n"
+
+-- ---- functions and modules
+
+-- the label line of a block: its name, or the number of what has none
+abbrev pub label_text : Function → Block → Text
+label_text f b = drop 1 (block_ref f b.number) ++ codes ":\n"
+
+-- the lines of a block behind the first, after a blank line
+abbrev pub block_text : Function → Block → Text
+block_text f b = codes "\n" ++ label_text f b ++ flat_map (placed_text f) b.instructions
+
+-- the label line of the entry, which an unnamed one lacks
+abbrev pub entry_label_text : Function → Block → Text → Text
+entry_label_text f b [] = []
+entry_label_text f b (c ∷ cs) = label_text f b
+
+-- the lines of the blocks of a function
+abbrev pub blocks_text : Function → List Block → Text
+blocks_text f [] = []
+blocks_text f (b ∷ bs) = entry_label_text f b b.name ++ flat_map (placed_text f) b.instructions ++ flat_map (block_text f) bs
+
+-- a comma and a blank between parameters
+abbrev pub comma_text : (place : ℕ) → Text
+comma_text zero = []
+comma_text (suc i) = codes ", "
+
+-- the parameters from a place on: the type and the name of each
+abbrev pub params_text : Function → (place : ℕ) → List Text → Text
+params_text f i [] = []
+params_text f i (n ∷ ns) = comma_text i ++ type_text (param_type f.type i) ++ codes " " ++ local_text f n (ParamAt i) ++ params_text f (suc i) ns
+
+-- what stands before the parameters of a function, after a blank line
+abbrev pub head_text : Function → Text
+head_text f = codes "\ndefine " ++ type_text (result_of f.type) ++ codes " " ++ global f.name ++ codes "("
+
+-- a function, after a blank line
+abbrev pub function_text : Function → Text
+function_text f =
+    head_text f ++ params_text f 0 f.params ++ codes ") {\n" ++ blocks_text f f.blocks ++ codes "}\n"
+
+-- the line of a module's name, none for an empty name
+abbrev pub source_text : Text → Text
+source_text [] = []
+source_text (b ∷ bs) = codes "source_filename = " ++ quoted (b ∷ bs) ++ codes "\n"
+
+abbrev pub module_text : ModuleData → Text
+module_text d = source_text d.name ++ flat_map function_text d.functions

@@ -1,0 +1,219 @@
+-- The tokens of what a text says, with what stands before each: a definition for each part.
+use Rattle.std.specs.Prelude.{Bool, true, false, List, [], ◌∷◌, ◌++◌, Option, None, Some, ◌==◌, if◌then◌else◌, codes}
+use Rattle.std.specs.List.{flat_map}
+use Rattle.kinds.specs.declared.op.OverflowFlags.{OverflowFlags}
+use Rattle.kinds.specs.declared.op.Op.{Op}
+use Rattle.kinds.specs.declared.op.Op.TheVariants as O
+use Rattle.kinds.specs.Types.{TypeTree, IntType}
+use Rattle.llvm_core.specs.Data.{ConstTree, IntConst, PlaceholderConst}
+use Rattle.ll_tokens.specs.declared.kinds.Kind.{Kind}
+use Rattle.ll_tokens.specs.declared.kinds.Kind.TheVariants as K
+use Rattle.ll_lines.specs.Lines as L
+use Rattle.ll_lines.specs.Lines.{Text, Said, Typed, RowLine, Incoming, Inst, Line, Part, Param, Function, File}
+use Rattle.ll_spacing.specs.Spacing.{Spaced}
+use Rattle.ll_written.specs.Printing.{type_text, const_text, predicate_text}
+
+-- ---- tokens
+
+abbrev pub token : (before : Text) → Kind → Text → Spaced
+token before kind text = record { before = before; kind = kind; text = text }
+
+-- directly behind the token before, and behind a blank
+abbrev pub close : Kind → Text → Spaced
+close kind text = token [] kind text
+
+abbrev pub apart : Kind → Text → Spaced
+apart kind text = token (codes " ") kind text
+
+abbrev pub word : Text → Spaced
+word text = apart K.Word text
+
+abbrev pub comma : Spaced
+comma = close K.Comma (codes ",")
+
+-- what stands before a line of a body
+abbrev pub indent : Text
+indent = codes "\n  "
+
+-- ---- types and values
+
+abbrev pub written_type : TypeTree → Spaced
+written_type τ = word (type_text τ)
+
+-- one bit is a word, other integers are numbers
+abbrev pub int_kind : TypeTree → Kind
+int_kind (IntType w) = if w == 1 then K.Word else K.Int
+int_kind τ = K.Int
+
+abbrev pub const_kind : ConstTree → Kind
+const_kind (IntConst τ n) = int_kind τ
+const_kind (PlaceholderConst n τ) = K.Int
+
+abbrev pub written_said : Said → Spaced
+written_said (L.Local t) = apart K.Local t
+written_said (L.Const c) = apart (const_kind c) (const_text c)
+
+-- a type and a value of it
+abbrev pub written_typed : Typed → List Spaced
+written_typed x = written_type x.type ∷ written_said x.said ∷ []
+
+-- ---- instructions
+
+abbrev pub next_said : Typed → List Spaced
+next_said x = comma ∷ written_said x.said ∷ []
+
+-- operands, of which the first stands behind its type
+abbrev pub written_operands : List Typed → List Spaced
+written_operands [] = []
+written_operands (x ∷ xs) = written_typed x ++ flat_map next_said xs
+
+abbrev pub next_typed : Typed → List Spaced
+next_typed x = comma ∷ written_typed x
+
+-- operands, each behind its type
+abbrev pub written_values : List Typed → List Spaced
+written_values [] = []
+written_values (x ∷ xs) = written_typed x ++ flat_map next_typed xs
+
+-- what a return has
+abbrev pub written_returned : List Typed → List Spaced
+written_returned [] = word (codes "void") ∷ []
+written_returned (x ∷ xs) = written_operands (x ∷ xs)
+
+abbrev pub written_target : Text → List Spaced
+written_target t = word (codes "label") ∷ apart K.Local t ∷ []
+
+abbrev pub next_target : Text → List Spaced
+next_target t = comma ∷ written_target t
+
+-- the blocks that a row leads to
+abbrev pub written_targets : List Text → List Spaced
+written_targets [] = []
+written_targets (t ∷ ts) = written_target t ++ flat_map next_target ts
+
+-- the type that is written behind operands
+abbrev pub written_to : Option TypeTree → List Spaced
+written_to None = []
+written_to (Some τ) = word (codes "to") ∷ written_type τ ∷ []
+
+-- a word where it is set
+abbrev pub written_flag : Text → Bool → List Spaced
+written_flag t false = []
+written_flag t true = word t ∷ []
+
+abbrev pub written_wraps : OverflowFlags → List Spaced
+written_wraps flags = written_flag (codes "nuw") flags.nuw ++ written_flag (codes "nsw") flags.nsw
+
+-- the word of a row and its immediates, a line for each
+abbrev pub written_head : (before : Text) → Op → List Spaced
+written_head before (O.Add flags) = token before K.Word (codes "add") ∷ written_wraps flags
+written_head before (O.Sub flags) = token before K.Word (codes "sub") ∷ written_wraps flags
+written_head before (O.Mul flags) = token before K.Word (codes "mul") ∷ written_wraps flags
+written_head before (O.Shl flags) = token before K.Word (codes "shl") ∷ written_wraps flags
+written_head before O.UDiv = token before K.Word (codes "udiv") ∷ []
+written_head before O.SDiv = token before K.Word (codes "sdiv") ∷ []
+written_head before O.URem = token before K.Word (codes "urem") ∷ []
+written_head before O.SRem = token before K.Word (codes "srem") ∷ []
+written_head before O.LShr = token before K.Word (codes "lshr") ∷ []
+written_head before O.AShr = token before K.Word (codes "ashr") ∷ []
+written_head before O.And = token before K.Word (codes "and") ∷ []
+written_head before O.Or = token before K.Word (codes "or") ∷ []
+written_head before O.Xor = token before K.Word (codes "xor") ∷ []
+written_head before (O.ICmp predicate) = token before K.Word (codes "icmp") ∷ word (predicate_text predicate) ∷ []
+written_head before O.Trunc = token before K.Word (codes "trunc") ∷ []
+written_head before O.SExt = token before K.Word (codes "sext") ∷ []
+written_head before (O.ZExt nneg) = token before K.Word (codes "zext") ∷ written_flag (codes "nneg") nneg
+written_head before O.Select = token before K.Word (codes "select") ∷ []
+written_head before O.Freeze = token before K.Word (codes "freeze") ∷ []
+written_head before O.Br = token before K.Word (codes "br") ∷ []
+written_head before O.CondBr = token before K.Word (codes "br") ∷ []
+written_head before O.Ret = token before K.Word (codes "ret") ∷ []
+written_head before O.Unreachable = token before K.Word (codes "unreachable") ∷ []
+
+-- what a row names, a line for each that is not as most: operands, and behind them the type where one is written
+abbrev pub written_names : Op → RowLine → List Spaced
+written_names O.Select r = written_values r.operands
+written_names O.Br r = written_targets r.targets
+written_names O.CondBr r = written_operands r.operands ++ (comma ∷ written_targets r.targets)
+written_names O.Ret r = written_returned r.operands
+written_names O.Unreachable r = []
+written_names op r = written_operands r.operands ++ written_to r.written
+
+abbrev pub written_row : (before : Text) → RowLine → List Spaced
+written_row before r = written_head before r.op ++ written_names r.op r
+
+abbrev pub written_entry : Incoming → List Spaced
+written_entry e = apart K.OpenBracket (codes "[") ∷ written_said e.said ∷ comma ∷ apart K.Local e.block ∷ apart K.CloseBracket (codes "]") ∷ []
+
+abbrev pub next_entry : Incoming → List Spaced
+next_entry e = comma ∷ written_entry e
+
+abbrev pub written_entries : List Incoming → List Spaced
+written_entries [] = []
+written_entries (e ∷ es) = written_entry e ++ flat_map next_entry es
+
+abbrev pub written_inst : (before : Text) → Inst → List Spaced
+written_inst before (L.Phi τ es) = token before K.Word (codes "phi") ∷ written_type τ ∷ written_entries es
+written_inst before (L.Row r) = written_row before r
+
+-- an instruction behind its result, where there is one
+abbrev pub written_behind : (result : Option Text) → Inst → List Spaced
+written_behind None i = written_inst indent i
+written_behind (Some t) i = token indent K.Local t ∷ apart K.Equals (codes "=") ∷ written_inst (codes " ") i
+
+abbrev pub written_line : Line → List Spaced
+written_line l = written_behind l.result l.inst
+
+-- ---- functions and files
+
+abbrev pub written_part : (before : Text) → Part → List Spaced
+written_part before (L.Label t) = token before K.Label t ∷ []
+written_part before (L.Does l) = written_line l
+
+-- a label behind other parts stands after a blank line
+abbrev pub next_part : Part → List Spaced
+next_part p = written_part (codes "\n\n") p
+
+abbrev pub written_body : List Part → List Spaced
+written_body [] = []
+written_body (p ∷ ps) = written_part (codes "\n") p ++ flat_map next_part ps
+
+abbrev pub written_name : Option Text → List Spaced
+written_name None = []
+written_name (Some t) = apart K.Local t ∷ []
+
+-- a parameter, whose type stands behind that
+abbrev pub written_param : (before : Text) → Param → List Spaced
+written_param before p = token before K.Word (type_text p.type) ∷ written_name p.name
+
+abbrev pub next_param : Param → List Spaced
+next_param p = comma ∷ written_param (codes " ") p
+
+abbrev pub written_params : List Param → List Spaced
+written_params [] = []
+written_params (p ∷ ps) = written_param [] p ++ flat_map next_param ps
+
+abbrev pub written_function : (before : Text) → Function → List Spaced
+written_function before f =
+    token before K.Word (codes "define") ∷ written_type f.result ∷ apart K.Global f.name ∷ close K.OpenParen (codes "(")
+    ∷ (written_params f.params ++ (close K.CloseParen (codes ")") ∷ apart K.OpenBrace (codes "{") ∷ (written_body f.body ++ (token (codes "\n") K.CloseBrace (codes "}") ∷ []))))
+
+-- a function behind other things stands after a blank line
+abbrev pub next_function : Function → List Spaced
+next_function f = written_function (codes "\n\n") f
+
+abbrev pub written_source : Text → List Spaced
+written_source t = close K.Word (codes "source_filename") ∷ apart K.Equals (codes "=") ∷ apart K.Str t ∷ []
+
+abbrev pub written_file : (source : Option Text) → List Function → List Spaced
+written_file (Some t) fs = written_source t ++ flat_map next_function fs
+written_file None [] = []
+written_file None (f ∷ fs) = written_function (codes "\n") f ++ flat_map next_function fs
+
+abbrev pub written : File → List Spaced
+written f = written_file f.source f.functions
+
+-- behind the last token: a line end, where there is one
+abbrev pub end_of : List Spaced → Text
+end_of [] = []
+end_of (x ∷ xs) = codes "\n"
