@@ -1,9 +1,8 @@
 -- A module that a function is added to.
-use Rattle.std.proofs.Common.{◌≡◌, ◌<◌, ◌≤◌, ◌+◌, ◌⊎◌, inl, inr, ℕ, suc, List, [], ◌∷◌, ◌++◌, Some, None, All, map, drop, length, length-append, slice_get, slice_set, refl, ap, sym, ◌∙◌, subst, arith}
+use Rattle.std.proofs.Common.{◌≡◌, ◌<◌, ◌≤◌, ◌+◌, ℕ, suc, List, [], ◌∷◌, ◌++◌, Some, All, map, drop, length, length-append, slice_get, slice_set, refl, ap, sym, ◌∙◌, subst, arith}
 use Rattle.std.specs.Option.{option_map, option_map_or}
-use Rattle.std.proofs.lemmas.List.{append_assoc, append-nil, drop_all}
+use Rattle.std.proofs.lemmas.List.{append_assoc, drop_all}
 use Rattle.support.specs.Interned.{Interned}
-use Rattle.support.specs.Changes.{with_change}
 use Rattle.support.proofs.InternedLaws.{interned_more}
 use Rattle.support.proofs.ListLaws.{slice_get-kept, length-slice_set}
 use Rattle.llvm_core.specs.declared.numbers.LLVMType.{LLVMType}
@@ -11,7 +10,7 @@ use Rattle.llvm_core.specs.declared.numbers.LLVMFunction.{LLVMFunction}
 use Rattle.llvm_core.specs.declared.types.LLVMTypeKind.{LLVMTypeKind}
 use Rattle.llvm_core.specs.declared.code.FunctionData.{FunctionData}
 use Rattle.llvm_core.specs.Module.{Module}
-use Rattle.llvm_core.specs.Code.{code_of, with_code, with_param_name, param_names}
+use Rattle.llvm_core.specs.Code.{code_of, with_code, with_param_name}
 use Rattle.llvm_core.specs.Data.{ModuleData, data_of, with_param}
 use Rattle.std.specs.List.{enumerate_from}
 use Rattle.std.proofs.Common.{if◌then◌else◌, nat_eq, zero}
@@ -47,7 +46,6 @@ use Rattle.ll_bodies.specs.AddingViews.{AddsTypes, Renames, names_in, with_param
 use Rattle.ll_lines.specs.Views.{text_of}
 use Rattle.ll_bodies.specs.Scopes.{local_key, written_name}
 use Rattle.ll_bodies.proofs.BlockLaws.{drop_at}
-use Rattle.ll_bodies.proofs.StayLaws.{function_stays}
 
 pub adds_one : (old new : Module) (k : LLVMTypeKind) (n : ℕ) → Interned old.types new.types k n → new ≡ record old { types = new.types } → data_of new ≡ data_of old → AddsTypes old new
 adds_one old new k n h rest is = let g = interned_more old.types new.types k n h in record { more = g.0; types = g.1; rest = rest; same = is }
@@ -214,12 +212,6 @@ next_of m a n f ty x r types blocks insts kind y =
       blocks = sym (ap (λ (k : Module). length k.blocks) r.rest ∙ ap (λ (bs : List BlockData). length bs) blocks);
       insts = sym (ap (λ (k : Module). length k.insts) r.rest ∙ ap (λ (is : List InstData). length is) insts);
     }
-
--- a function that gets the body that is made of it
-pub body_given : (bytes : List ℕ) (f : ℕ) (x : code_function.Function) (m n : Module) (b i : ℕ) (bs : List D.Block) → b ≡ length m.blocks → i ≡ length m.insts
-    → function_data f b i (function_view bytes (trees_of m) x) ≡ option_map (λ name. function_with bytes (trees_of m) f name x bs) (global_name (text_of bytes x.name))
-    → data_of n ≡ with_blocks (data_of m) f bs → GivesBody bytes f x m n
-body_given bytes f x m n b i bs e g is given = record { blocks = bs; is = rw (sym e, sym g) is; given = given }
 
 -- a function that is declared and then gets its body is the one that is said
 pub function_added : (bytes : List ℕ) (f : ℕ) (name : List ℕ) (x : code_function.Function) (m a n : Module) → f ≡ length m.functions → a ≡ record m { functions = a.functions } → global_name (text_of bytes x.name) ≡ Some name

@@ -23,3 +23,8 @@ on_ok_any (R.Err e) q = tt
 pub ok_by_both : {T E : Type 0} (P Q S : T → Type 0) (r : R.Result T E) → ((x : T) → P x → Q x → S x) → R.IfOk r P → R.IfOk r Q → R.IfOk r S
 ok_by_both P Q S (R.Ok x) h p q = h x p q
 ok_by_both P Q S (R.Err e) h p q = tt
+
+-- the same, of what holds where a call succeeded
+pub on_ok_both : {T E P Q S : Type 0} (r : R.Result T E) → (P → Q → S) → R.OnOk r P → R.OnOk r Q → R.OnOk r S
+on_ok_both (R.Ok x) h p q = h p q
+on_ok_both (R.Err e) h p q = tt

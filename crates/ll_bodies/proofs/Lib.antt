@@ -15,3 +15,7 @@ pub mod ValueLaws
 pub mod RightLaws
 pub mod AddingLaws
 pub mod StayLaws
+pub mod ViewLaws
+pub mod JoinLaws
+pub mod FoldLaws
+pub mod FileLaws

@@ -5,7 +5,7 @@ use Rattle.ll_tree.specs.Chain.{◌>>=◌}
 use Rattle.ll_bodies.specs.Meaning.{all_of}
 use Rattle.ll_bodies.proofs.BlockLaws.{drop_at}
 
-then_some : {B : Type 0} (r : Option (List B)) (y : B) (done : List B) → ((r >>= λ ys. Some (y ∷ ys)) >>= λ zs. Some (done ++ zs)) ≡ (r >>= λ ys. Some ((done ++ y ∷ []) ++ ys))
+pub then_some : {B : Type 0} (r : Option (List B)) (y : B) (done : List B) → ((r >>= λ ys. Some (y ∷ ys)) >>= λ zs. Some (done ++ zs)) ≡ (r >>= λ ys. Some ((done ++ y ∷ []) ++ ys))
 then_some None y done = refl
 then_some (Some ys) y done = ap (λ zs. Some zs) (sym (append_assoc done (y ∷ []) ys))
 

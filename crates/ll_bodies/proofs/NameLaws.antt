@@ -1,5 +1,5 @@
 -- What bare names are made of.
-use Rattle.std.proofs.Common.{◌≡◌, ◌<◌, ◌&&◌, not, ℕ, zero, suc, true, List, [], ◌∷◌, arith}
+use Rattle.std.proofs.Common.{◌≡◌, ◌<◌, ◌-◌, ◌&&◌, not, if◌then◌else◌, ℕ, zero, suc, Bool, true, List, [], ◌∷◌, Some, None, length, take, drop, ap, sym, ◌∙◌, arith}
 use Rattle.std.specs.List.{list_all}
 use Rattle.std.specs.Str.{IsAscii, IsUtf8}
 use Rattle.std.proofs.lemmas.Str.{IsUtf8-from_ascii}
@@ -7,6 +7,7 @@ use Rattle.std.proofs.lemmas.Bool.Decides.{nat_tests}
 use Rattle.std.proofs.lemmas.Bool.{and_parts}
 use Rattle.llvm_core.specs.Names.{is_digit}
 use Rattle.ll_tree.specs.Text.{is_name_byte, is_bare}
+use Rattle.ll_bodies.specs.Meaning.{string_name}
 
 name_ascii : (b : ℕ) → is_name_byte b ≡ true → b < 128
 name_ascii b h = grind (arith, nat_tests)
@@ -26,3 +27,8 @@ bare_ascii (b ∷ bs) h =
 -- a bare name is UTF-8
 pub IsUtf8-bare : (text : List ℕ) → is_bare text ≡ true → IsUtf8 text
 IsUtf8-bare text h = IsUtf8-from_ascii text (bare_ascii text h)
+
+-- a bare name between quotes is the name
+pub string_named : (text middle name : List ℕ) → middle ≡ take (length text - 2) (drop 1 text) → name ≡ middle → is_bare middle ≡ true → string_name text ≡ Some name
+string_named text middle name e is bare =
+    ap (λ (m : List ℕ). if is_bare m then Some m else None) (sym e) ∙ ap (λ (b : Bool). if b then Some middle else None) bare ∙ ap (λ (m : List ℕ). Some m) (sym is)

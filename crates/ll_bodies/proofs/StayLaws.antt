@@ -1,5 +1,5 @@
 -- What is said of a module stays said where types and constants are added.
-use Rattle.std.proofs.Common.{◌≤◌, ◌<◌, Option, Some, None, All, length, arith}
+use Rattle.std.proofs.Common.{◌≤◌, Option, Some, None, length, arith}
 use Rattle.std.specs.Prelude.{IfSome}
 use Rattle.std.proofs.lemmas.List.Elements.{All-weaker}
 use Rattle.llvm_core.specs.declared.numbers.LLVMType.{LLVMType}

@@ -1,5 +1,5 @@
 -- What the lines of a function name is there in the module that has its body, with the type that is asked for.
-use Rattle.std.proofs.Common.{◌≡◌, ◌<◌, ◌+◌, ◌⊎◌, inl, inr, ℕ, zero, suc, Bool, true, false, if◌then◌else◌, List, [], ◌∷◌, ◌++◌, Option, Some, None, All, map, take, length, slice_get, refl, ap, sym, ◌∙◌, subst, arith}
+use Rattle.std.proofs.Common.{◌≡◌, ◌<◌, ◌+◌, ◌⊎◌, inl, inr, ℕ, zero, suc, Bool, true, false, if◌then◌else◌, List, [], ◌∷◌, ◌++◌, Option, Some, None, map, take, length, slice_get, refl, ap, sym, ◌∙◌, subst, arith}
 use Rattle.std.specs.List.{flat_map}
 use Rattle.std.specs.Option.{option_map, option_map_or}
 use Rattle.std.proofs.lemmas.Option.{slice_get_within, slice_get-map, same_Some}
@@ -54,7 +54,7 @@ use Rattle.ll_bodies.specs.declared.scope.Key.{Key}
 use Rattle.ll_bodies.specs.declared.scope.Key.TheVariants.{Named, Numbered}
 use Rattle.ll_bodies.specs.declared.scope.Scope as code_scope
 use Rattle.ll_bodies.specs.ScopeViews.{key_view, local_view, local_at, Knows}
-use Rattle.ll_bodies.specs.SourceViews.{types_in, source_trees, line_in, count_lines, IsParamAmong, IsOfBlocks, IsResultAmong}
+use Rattle.ll_bodies.specs.SourceViews.{types_in, source_trees, line_in, count_lines}
 
 -- ---- what is found
 

@@ -4,7 +4,8 @@ use Rattle.llvm_core.specs.declared.numbers.LLVMFunction.{LLVMFunction}
 use Rattle.llvm_core.specs.declared.types.LLVMTypeKind.{LLVMTypeKind}
 use Rattle.llvm_core.specs.declared.code.FunctionData.{FunctionData}
 use Rattle.llvm_core.specs.Module.{Module}
-use Rattle.llvm_core.specs.Data.{ModuleData, data_of, with_param}
+use Rattle.llvm_core.specs.Data.{ModuleData, data_of, with_param, with_function}
+use Rattle.llvm_core.specs.Sound.{IsModule}
 use Rattle.ll_lines.specs.declared.lines.Param.{Param}
 use Rattle.std.specs.Prelude.{false}
 use Rattle.kinds.specs.Types.{FunctionType}
@@ -14,7 +15,7 @@ use Rattle.ll_lines.specs.declared.lines.Function as code
 use Rattle.ll_lines.specs.Lines as said
 use Rattle.ll_lines.specs.Lines.{Text}
 use Rattle.ll_lines.specs.Views.{text_of, function_view}
-use Rattle.ll_bodies.specs.Meaning.{types_of, function_data}
+use Rattle.ll_bodies.specs.Meaning.{types_of, function_data, functions_data, count_insts}
 use Rattle.ll_bodies.specs.Scopes.{global_name}
 use Rattle.llvm_core.specs.Bodies.{with_blocks}
 use Rattle.llvm_core.specs.Data.{trees_of}
@@ -58,3 +59,30 @@ pub record GivesBody (bytes : List ℕ) (f : ℕ) (x : code.Function) (old new :
   pub blocks : List Block
   pub is : function_data f (length old.blocks) (length old.insts) (function_view bytes (trees_of old) x) ≡ option_map (λ name. function_with bytes (trees_of old) f name x blocks) (global_name (text_of bytes x.name))
   pub given : data_of new ≡ with_blocks (data_of old) f blocks
+  pub types : new.types ≡ old.types
+  pub consts : new.consts ≡ old.consts
+  pub block_count : length new.blocks ≡ length old.blocks + length blocks
+  pub inst_count : length new.insts ≡ length old.insts + count_insts blocks
+
+-- types are added, and constants stay
+pub record Keeps (old new : Module) : Type 0 where
+  pub more : List LLVMTypeKind
+  pub types : new.types ≡ old.types ++ more
+  pub consts : new.consts ≡ old.consts
+
+-- the function that is said goes behind those that are there
+pub record AddsFunction (bytes : List ℕ) (x : code.Function) (old new : Module) : Type 0 where
+  pub function : L.Function
+  pub is : function_data (length old.functions) (length old.blocks) (length old.insts) (function_view bytes (trees_of old) x) ≡ Some function
+  pub given : data_of new ≡ with_function (data_of old) function
+  pub keeps : Keeps old new
+  pub blocks : length new.blocks ≡ length old.blocks + length function.blocks
+  pub insts : length new.insts ≡ length old.insts + count_insts function.blocks
+  pub sound : IsModule new
+
+-- the functions that are said go behind those that are there
+pub record AddsFunctions (bytes : List ℕ) (xs : List code.Function) (old new : Module) : Type 0 where
+  pub made : List L.Function
+  pub is : functions_data (length old.functions) (length old.blocks) (length old.insts) (map (function_view bytes (trees_of old)) xs) ≡ Some made
+  pub given : data_of new ≡ record (data_of old) { functions = (data_of old).functions ++ made }
+  pub sound : IsModule new

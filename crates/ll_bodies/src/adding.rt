@@ -1,23 +1,23 @@
 //! Functions of lines are added to a module.
 
-ghost use Rattle.std.specs.Prelude.{◌≡◌, false, None, Some, Err, IfOk, OnOk, [], map, length, slice_get};
+ghost use Rattle.std.specs.Prelude.{◌≡◌, false, None, Some, Err, IfOk, OnOk, [], map, length, slice_get, All};
 ghost use Rattle.std.specs.Prelude.{◌≤◌};
 ghost use Rattle.llvm_core.specs.Parts.{IsTypeOver};
 ghost use Rattle.llvm_core.specs.Code.{param_names};
 ghost use Rattle.llvm_core.specs.Data.{data_of, trees_of, with_function};
 ghost use Rattle.llvm_core.specs.Sound.{IsModule};
 ghost use Rattle.llvm_core.specs.declared.types.LLVMTypeKind.TheVariants as kinds;
-ghost use Rattle.ll_lines.specs.Views.{IsFunctionIn, function_view};
-ghost use Rattle.ll_bodies.specs.Meaning.{function_data};
-ghost use Rattle.ll_bodies.specs.AddingViews.{AddsTypes, Renames, names_in, with_params, function_with, GivesBody};
+ghost use Rattle.ll_lines.specs.Views.{IsFunctionIn, IsFileIn, function_view, file_view};
+ghost use Rattle.ll_bodies.specs.Meaning.{function_data, functions_data, file_data};
+ghost use Rattle.ll_bodies.specs.AddingViews.{AddsTypes, Renames, names_in, with_params, function_with, GivesBody, AddsFunction, AddsFunctions};
 ghost use Rattle.ll_bodies.specs.FunctionViews.{IsNext};
 
 use crate::build_err::BuildErr;
 use crate::definitions::next_number;
 use crate::functions::body_of;
-use crate::names::local_name;
+use crate::names::{global_name, local_name, source_name};
 use crate::results::Source;
-use ll_lines::lines::{Function, Param};
+use ll_lines::lines::{File, Function, Param};
 use llvm_core::module::LLVMModule;
 use llvm_core::numbers::{LLVMFunction, LLVMType};
 use llvm_core::types::LLVMTypeKind;
@@ -25,6 +25,7 @@ use std::alloc::{AllocError, Global};
 use support::items::Items;
 
 /// The types that a function needs beside those that it says.
+#[derive(Clone, Copy, Drop)]
 struct Needed {
     bit: LLVMType,
     void: LLVMType,
@@ -155,4 +156,62 @@ fn give_body(
     let body = body_of(alloc, &source, f, first_block, first, said)?;
     module.add_body(f, body)?;
     Ok(())
+}
+
+/// Adds a function behind those that are there.
+fn add_function(
+    alloc: Global,
+    module: &mut LLVMModule,
+    bytes: &[u8],
+    said: &Function,
+) -> Result<(), BuildErr>
+    requires sound { IsModule module.old }
+    requires said { IsFunctionIn module.old said.now }
+    ensures ok { OnOk result (AddsFunction bytes.now said.now module.old module.new) }
+    ensures not_yet { result ≡ Err BuildErr.NotYet → function_data (length module.old.functions) (length module.old.blocks) (length module.old.insts) (function_view bytes.now (trees_of module.old) said.now) ≡ None }
+{
+    let Some(name) = global_name(said.name.text(bytes)) else {
+        return Err(BuildErr::NotYet);
+    };
+    let types = needed_types(alloc, module, said)?;
+    let f = declare(module, bytes, name, types.function, said)?;
+    give_body(alloc, module, bytes, f, &types, said)
+}
+
+/// Adds functions behind those that are there, in their order.
+fn add_functions(
+    alloc: Global,
+    module: &mut LLVMModule,
+    bytes: &[u8],
+    functions: &[Function],
+) -> Result<(), BuildErr>
+    requires sound { IsModule module.old }
+    requires said { All (IsFunctionIn module.old) functions.now }
+    ensures ok { OnOk result (AddsFunctions bytes.now functions.now module.old module.new) }
+    ensures not_yet { result ≡ Err BuildErr.NotYet → functions_data (length module.old.functions) (length module.old.blocks) (length module.old.insts) (map (function_view bytes.now (trees_of module.old)) functions.now) ≡ None }
+{
+    for function in functions {
+        add_function(alloc, module, bytes, function)?;
+    }
+    Ok(())
+}
+
+/// Gives a module without functions the name and the functions of a file of lines.
+pub fn add_file(
+    alloc: Global,
+    module: &mut LLVMModule,
+    bytes: &[u8],
+    said: &File,
+) -> Result<(), BuildErr>
+    requires said { IsFileIn module.old said.now }
+    requires empty { (data_of module.old).functions ≡ [] }
+    ensures data { OnOk result (file_data (file_view bytes.now (trees_of module.old) said.now) ≡ Some (data_of module.new)) }
+    ensures not_yet { result ≡ Err BuildErr.NotYet → file_data (file_view bytes.now (trees_of module.old) said.now) ≡ None }
+    ensures sound { OnOk result (IsModule module.new) }
+{
+    let Some(name) = source_name(bytes, said.source) else {
+        return Err(BuildErr::NotYet);
+    };
+    module.set_name(name)?;
+    add_functions(alloc, module, bytes, said.functions.as_slice())
 }

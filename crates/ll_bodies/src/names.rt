@@ -8,6 +8,7 @@ ghost use Rattle.ll_tree.specs.Text.{is_bare, is_name_byte};
 ghost use Rattle.ll_lines.specs.Views.{text_of};
 ghost use Rattle.ll_bodies.specs.Scopes as spec;
 ghost use Rattle.ll_bodies.specs.Scopes.{key_of, local_key, label_key, optional_key, define_written, global_name, written_name};
+ghost use Rattle.ll_bodies.specs.Meaning.{string_name, source_name};
 ghost use Rattle.ll_bodies.specs.ScopeViews.{key_view, option_key, IsNoKey};
 
 use crate::build_err::BuildErr;
@@ -164,5 +165,27 @@ pub fn global_name(text: &[u8]) -> Option<&str>
     match text {
         [_, name @ ..] => bare_name(name),
         [] => None,
+    }
+}
+
+/// The name that a token says between its quotes.
+pub fn string_name(text: &[u8]) -> Option<&str>
+    ensures name { IfSome result (λ s. string_name text.now ≡ Some s.now) }
+    ensures none { IfNone result (string_name text.now ≡ None) }
+{
+    match text {
+        [_, name @ .., _] => bare_name(name),
+        [] | [_] => None,
+    }
+}
+
+/// The name that a file says of its module, empty where none is written.
+pub fn source_name(bytes: &[u8], source: Option<Name>) -> Option<&str>
+    ensures name { IfSome result (λ s. source_name (option_map (text_of bytes.now) source) ≡ Some s.now) }
+    ensures none { IfNone result (source_name (option_map (text_of bytes.now) source) ≡ None) }
+{
+    match source {
+        Some(token) => string_name(token.text(bytes)),
+        None => Some(""),
     }
 }

@@ -1,15 +1,6 @@
-//! LLVM text read: what the tree of a text says, and the module in memory that it spells.
+//! LLVM text to a module in memory.
 #![tactic(auto)]
 
-mod bodies;
-mod builder;
-mod definitions;
-mod filling;
-mod instructions;
-pub mod meaning_laws;
-mod names;
-mod operands;
-mod phis;
+pub mod laws;
 pub mod read;
-mod scope;
-mod signatures;
+pub mod read_err;

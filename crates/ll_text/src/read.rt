@@ -1,34 +1,110 @@
 //! Reads LLVM text to a module in memory.
 
-ghost use Rattle.std.specs.Prelude.{◌≡◌, Err, IfOk, OnOk};
+ghost use Rattle.std.specs.Prelude.{◌≡◌, ℕ, [], List, Err, Some, IfOk, OnOk};
+ghost use Rattle.grammars.specs.declared.symbols.Event.{Event};
 ghost use Rattle.llvm_core.specs.Checked.{IsChecked};
-ghost use Rattle.llvm_core.specs.Data.{ModuleData, data_of};
+ghost use Rattle.llvm_core.specs.Data.{ModuleData, data_of, trees_of};
 ghost use Rattle.llvm_core.specs.Form.{IsForm};
 ghost use Rattle.llvm_core.specs.Names.{IsPlainOrNone};
 ghost use Rattle.llvm_core.specs.Sound.{IsModule};
-ghost use Rattle.ll_tree.specs.TokenView.{texts_of};
-ghost use Rattle.ll_tree.specs.declared.read_err.ReadErr.TheVariants as errors;
-ghost use Rattle.ll_text.specs.Built.{SaysPlainly};
-ghost use Rattle.ll_text.specs.Spelling.{Spells, IsSpelled, IsNumbered};
+ghost use Rattle.ll_tokens.specs.declared.tokens.Token.{Token};
+ghost use Rattle.ll_lines.specs.Lines.{File};
+ghost use Rattle.ll_lines.specs.Views.{file_view, IsFileIn};
+ghost use Rattle.ll_bodies.specs.Meaning.{file_data};
+ghost use Rattle.ll_written.specs.Reading.{AreReadAs, IsReadAs};
+ghost use Rattle.llvm_form.specs.Once.{AreInstsOnce};
+ghost use Rattle.ll_text.specs.declared.read_err.ReadErr.TheVariants as errors;
+ghost use Rattle.ll_text.specs.Spelling.{Means, Spells, IsSpelled, IsNumbered};
 
-use crate::builder::build_file;
-use ll_tree::read_err::ReadErr;
-use ll_tree::reader::read_tree;
-use ll_tree::tokens::{Token, tokens};
+use crate::read_err::ReadErr;
+use grammars::choices::Choices;
+use ll_bodies::adding::add_file;
+use ll_bodies::build_err::BuildErr;
+use ll_classes::llvm_words::llvm_words;
+use ll_events::event_err::EventErr;
+use ll_events::reading::{Reading, events};
+use ll_rules::tables::llvm;
+use ll_values::read::read_file;
+use ll_values::value_err::ValueErr;
 use llvm_core::check_err::CheckErr;
 use llvm_core::checking::check;
 use llvm_core::module::LLVMModule;
+use llvm_form::form::is_form;
+use llvm_form::narrow::is_plain_or_none;
 use std::alloc::Global;
 
-/// The module that tokens say, which may break a rule. They are let go before it is built: its parts lie in the text.
-fn build_tokens(alloc: Global, tokens: Vec<Token<'_>>) -> Result<LLVMModule, ReadErr>
-    ensures says { IfOk result (λ m. SaysPlainly (texts_of tokens.entry.items) (data_of m)) }
-    ensures numbered { IfOk result (λ m. IsNumbered (data_of m)) }
-    ensures not_yet { result ≡ Err errors.NotYet → (d : ModuleData) → ¬ SaysPlainly (texts_of tokens.entry.items) d }
+/// The tokens and the events of a text.
+fn read_events(alloc: Global, bytes: &[u8]) -> Result<Reading, ReadErr>
+    ensures read { IfOk result (λ r. AreReadAs bytes.now r.tokens.items r.events.items) }
+    ensures not_yet { result ≡ Err errors.NotYet → (ts : List Token) (es : List Event) → ¬ AreReadAs bytes.now ts es }
 {
-    let tree = read_tree(alloc, tokens.as_slice())?;
-    drop(tokens);
-    build_file(alloc, &tree)
+    let grammar = llvm();
+    let choices = Choices::new(alloc, &grammar)?;
+    let words = llvm_words();
+    match events(alloc, &grammar, &choices, &words, 0, bytes) {
+        Ok(reading) => Ok(reading),
+        Err(EventErr::BadToken(_)) => Err(ReadErr::NotYet),
+        Err(EventErr::Refused(_)) => Err(ReadErr::NotYet),
+        Err(EventErr::NoMemory) => Err(ReadErr::NoMemory),
+    }
+}
+
+/// What a text says, whose types and constants are added to the module.
+fn read_lines(
+    alloc: Global,
+    m: &mut LLVMModule,
+    bytes: &[u8],
+) -> Result<ll_lines::lines::File, ReadErr>
+    ensures says { IfOk result (λ f. IsReadAs bytes.now (file_view bytes.now (trees_of m.new) f)) }
+    ensures there { IfOk result (IsFileIn m.new) }
+    ensures rest { OnOk result (data_of m.new ≡ data_of m.old) }
+    ensures sound { OnOk result (IsModule m.new) }
+    ensures not_yet { result ≡ Err errors.NotYet → (f : File) → ¬ IsReadAs bytes.now f }
+{
+    let reading = match read_events(alloc, bytes) {
+        Ok(reading) => reading,
+        Err(e) => return Err(e),
+    };
+    match read_file(
+        alloc,
+        m,
+        bytes,
+        reading.tokens.as_slice(),
+        reading.events.as_slice(),
+    ) {
+        Ok(file) => Ok(file),
+        Err(ValueErr::NoMemory) => Err(ReadErr::NoMemory),
+        Err(ValueErr::NotYet) => Err(ReadErr::NotYet),
+    }
+}
+
+/// Gives an empty module what the lines of a text mean.
+fn fill(alloc: Global, m: &mut LLVMModule, bytes: &[u8]) -> Result<(), ReadErr>
+    requires { (data_of m.old).functions ≡ [] }
+    ensures means { OnOk result (Means bytes.now (data_of m.new)) }
+    ensures sound { OnOk result (IsModule m.new) }
+    ensures not_yet { result ≡ Err errors.NotYet → (d : ModuleData) → ¬ Means bytes.now d }
+{
+    let file = match read_lines(alloc, m, bytes) {
+        Ok(file) => file,
+        Err(e) => return Err(e),
+    };
+    match add_file(alloc, m, bytes, &file) {
+        Ok(()) => Ok(()),
+        Err(BuildErr::NoMemory) => Err(ReadErr::NoMemory),
+        Err(BuildErr::NotYet) => Err(ReadErr::NotYet),
+    }
+}
+
+/// The module that the lines of a text mean, which may break a rule.
+fn build(alloc: Global, bytes: &[u8]) -> Result<LLVMModule, ReadErr>
+    ensures means { IfOk result (λ m. Means bytes.now (data_of m)) }
+    ensures sound { IfOk result IsModule }
+    ensures not_yet { result ≡ Err errors.NotYet → (d : ModuleData) → ¬ Means bytes.now d }
+{
+    let mut m = LLVMModule::new(alloc, "")?;
+    let filled = fill(alloc, &mut m, bytes);
+    filled.and(Ok(m))
 }
 
 /// A module that breaks a rule is outside the form.
@@ -45,6 +121,21 @@ fn check_built(m: &LLVMModule) -> Result<(), ReadErr>
     }
 }
 
+/// A module that the lines of a text mean has to be checked, of the form, and of a plain name or none.
+fn check_form(m: &LLVMModule) -> Result<(), ReadErr>
+    requires once { AreInstsOnce (data_of m.now) }
+    ensures checked { OnOk result (IsChecked m.now) }
+    ensures form { OnOk result (IsForm (data_of m.now)) }
+    ensures name { OnOk result (IsPlainOrNone m.now.name) }
+    ensures not_yet { result ≡ Err errors.NotYet → IsChecked m.now → IsForm (data_of m.now) → ¬ IsPlainOrNone m.now.name }
+{
+    match check_built(m) {
+        Err(e) => Err(e),
+        Ok(()) if is_form(m) && is_plain_or_none(m.name()) => Ok(()),
+        Ok(()) => Err(ReadErr::NotYet),
+    }
+}
+
 /// The module that a text of the form spells. A text is refused only where it spells no checked module of the
 /// form, however the parts of such a module are numbered.
 pub fn read_ll(alloc: Global, bytes: &[u8]) -> Result<LLVMModule, ReadErr>
@@ -56,7 +147,6 @@ pub fn read_ll(alloc: Global, bytes: &[u8]) -> Result<LLVMModule, ReadErr>
     ensures sound { IfOk result IsModule }
     ensures not_yet { result ≡ Err errors.NotYet → ¬ IsSpelled bytes.now }
 {
-    let tokens = tokens(alloc, bytes)?;
-    let built = build_tokens(alloc, tokens)?;
-    check_built(&built).and(Ok(built))
+    let built = build(alloc, bytes)?;
+    check_form(&built).and(Ok(built))
 }

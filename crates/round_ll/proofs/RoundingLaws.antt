@@ -13,7 +13,7 @@ use Rattle.dialect_types.specs.Names.{legal_name}
 use Rattle.dialect_core.specs.Data as D
 use Rattle.dialect_core.specs.Text.{module_text as dialect_text}
 use Rattle.ll_text.specs.Spelling.{Spells, IsNumbered, IsReadable}
-use Rattle.ll_text.proofs.MeaningLaws.{plain_bare}
+use Rattle.ll_said.proofs.NameLaws.{plain_bare}
 use Rattle.ll_print.specs.Printing.{IsBareOrNone}
 use Rattle.from_llvm_ir.specs.declared.matching.FunctionBlocks.{FunctionBlocks}
 use Rattle.from_llvm_ir.specs.Imported.{AreImported, NoneImported, ThenImported}

@@ -1,9 +1,12 @@
 -- How the answer of the program follows from what its two halves did, and what it means for bytes that spell a module.
 use Rattle.std.proofs.Common.{List, ℕ, ◌≡◌, ◌≤◌, ◌^◌, length, [], Option, Some, None, sym, ◌∙◌, ap, subst, arith}
-use Rattle.ll_tree.specs.declared.read_err.ReadErr.TheVariants as read
-use Rattle.ll_text.specs.Spelling.{IsSpelled, IsNumbered, Spelled, Spells}
-use Rattle.ll_text.proofs.ReadLaws.{one_of_tokens}
+use Rattle.ll_text.specs.declared.read_err.ReadErr.TheVariants as read
+use Rattle.ll_said.specs.Numbered.{numbered}
+use Rattle.ll_said.proofs.OwnLaws.{own_twin}
+use Rattle.ll_text.specs.Spelling.{IsSpelled, IsNumbered, Spells}
+use Rattle.ll_text.proofs.ReadLaws.{one_meant}
 use Rattle.llvm_core.specs.Data.{ModuleData, data_of}
+use Rattle.llvm_core.specs.Form.{IsForm}
 use Rattle.from_llvm_ir.specs.declared.conversion_err.ConversionErr.TheVariants as C
 use Rattle.from_llvm_ir.specs.Refusals.{IsValid}
 use Rattle.from_llvm_ir.proofs.UndefinedLaws.{no_undefined_use}
@@ -64,10 +67,8 @@ no_cause d (T.Export e) valid refusal h = h
 no_cause d T.NoMemory valid refusal h = refusal
 
 -- what bytes spell is one module, once its parts are numbered
-one_spelled : (bytes : List ℕ) (d e : ModuleData) → Spells bytes d → Spells bytes e → IsNumbered d → IsNumbered e → d ≡ e
-one_spelled bytes d e h k n o =
-    let same : h.0 ≡ k.0 = let e = sym h.1 ∙ k.1 in cc in
-    one_of_tokens k.0 d e (subst (Spelled d []) same h.2) k.2 n o
+one_spelled : (bytes : List ℕ) (d e : ModuleData) → IsForm d → IsForm e → Spells bytes d → Spells bytes e → IsNumbered d → IsNumbered e → d ≡ e
+one_spelled bytes d e form other h k n o = sym (own_twin d form n) ∙ one_meant bytes (numbered d) (numbered e) h k ∙ own_twin e other o
 
 pub takes_spelled : (command : Option Command) (s s' o o' : Told) (ended : Ended) → RunEnded command s s' o o' ended → TakesSpelled command s s' o o' ended
 takes_spelled None s s' o o' ended h = tt
@@ -83,5 +84,5 @@ takes_spelled (Some Round) s s' o o' (Refused (Text read.NoMemory)) h = elim h [
 takes_spelled (Some Round) s s' o o' (Refused (Transfer e)) h = λ input m told short readable numbered spelled valid reads writes.
     let same = gave s.bytes s'.bytes input h.input told h.read.all in
     let r = h.refused in
-    let one = one_spelled input (data_of m) (data_of r.source) spelled (subst (λ (bs : List ℕ). Spells bs (data_of r.source)) same r.spelled) numbered r.numbered in
+    let one = one_spelled input (data_of m) (data_of r.source) readable.form r.readable.form spelled (subst (λ (bs : List ℕ). Spells bs (data_of r.source)) same r.spelled) numbered r.numbered in
     no_cause (data_of r.source) e (subst IsValid one valid) r.refusal r.cause

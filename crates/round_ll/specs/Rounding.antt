@@ -12,7 +12,7 @@ use Rattle.transfer.specs.declared.transfer_err.TransferErr.{TransferErr}
 use Rattle.transfer.specs.declared.transfer_err.TransferErr.TheVariants as T
 use Rattle.transfer.specs.Same.{IsCause}
 use Rattle.ll_text.specs.Spelling.{Spells, IsSpelled, IsReadable, IsNumbered}
-use Rattle.ll_tree.specs.declared.read_err.ReadErr.TheVariants as read
+use Rattle.ll_text.specs.declared.read_err.ReadErr.TheVariants as read
 use Rattle.round_ll.specs.declared.ended.Fault.TheVariants.{Text, Transfer}
 use Rattle.round_ll.specs.declared.stopped.Stopped.{Stopped}
 use Rattle.round_ll.specs.declared.stopped.Stopped.TheVariants as stop

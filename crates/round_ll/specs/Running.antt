@@ -9,7 +9,7 @@ use Rattle.round_ll.specs.declared.ended.Ended.{Ended}
 use Rattle.round_ll.specs.declared.ended.Ended.TheVariants.{Done, Refused, NoMemory}
 use Rattle.round_ll.specs.declared.ended.Fault.{Fault}
 use Rattle.round_ll.specs.declared.ended.Fault.TheVariants.{Usage, ReadFault, WriteFault, TooLong, Text, Transfer}
-use Rattle.ll_tree.specs.declared.read_err.ReadErr.TheVariants as read
+use Rattle.ll_text.specs.declared.read_err.ReadErr.TheVariants as read
 use Rattle.round_ll.specs.declared.stopped.Stopped.{Stopped}
 use Rattle.round_ll.specs.declared.stopped.Stopped.TheVariants as stop
 use Rattle.llvm_core.specs.Module.{Module}

@@ -1,8 +1,8 @@
 -- Which answer a call below stands for.
 use Rattle.round_ll.specs.declared.outside.all_bytes.ReadAllError.{ReadAllError}
 use Rattle.round_ll.specs.declared.outside.all_bytes.ReadAllError.TheVariants as all
-use Rattle.ll_tree.specs.declared.read_err.ReadErr.{ReadErr}
-use Rattle.ll_tree.specs.declared.read_err.ReadErr.TheVariants as read
+use Rattle.ll_text.specs.declared.read_err.ReadErr.{ReadErr}
+use Rattle.ll_text.specs.declared.read_err.ReadErr.TheVariants as read
 use Rattle.round_ll.specs.declared.ended.Fault.TheVariants.{ReadFault, TooLong, Text, Transfer}
 use Rattle.transfer.specs.declared.transfer_err.TransferErr.{TransferErr}
 use Rattle.transfer.specs.declared.transfer_err.TransferErr.TheVariants as T

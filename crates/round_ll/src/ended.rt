@@ -4,7 +4,7 @@ ghost use Rattle.std.specs.Prelude.{◌≡◌};
 ghost use Rattle.round_ll.specs.Ending.{head_of, name_of, refusal_head, refusal_name, status_of};
 
 use from_llvm_ir::conversion_err::ConversionErr;
-use ll_tree::read_err::ReadErr;
+use ll_text::read_err::ReadErr;
 use thiserror::Error;
 use to_llvm_ir::to_llvm_err::ToLLVMErr;
 use transfer::transfer_err::TransferErr;

@@ -6,7 +6,7 @@ ghost use Rattle.round_ll.specs.Stopping.{stop_of_read, stop_of_text, stop_of_tr
 
 use crate::ended::Fault;
 use crate::outside::ReadAllError;
-use ll_tree::read_err::ReadErr;
+use ll_text::read_err::ReadErr;
 use std::alloc::AllocError;
 use transfer::transfer_err::TransferErr;
 

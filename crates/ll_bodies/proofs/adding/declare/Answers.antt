@@ -1,7 +1,7 @@
 -- What `adding::declare` owes besides what the check finds.
-use Rattle.std.proofs.Common.{◌≡◌, ℕ, ap, sym, ◌∙◌, subst, length}
+use Rattle.std.proofs.Common.{ℕ, ap, sym, ◌∙◌, length}
 use Rattle.std.specs.Option.{option_map_or}
-use Rattle.std.proofs.Common.{List, Some, Option, []}
+use Rattle.std.proofs.Common.{List, Option, []}
 use Rattle.ll_lines.specs.declared.lines.Param.{Param}
 use Rattle.llvm_core.specs.declared.code.FunctionData.{FunctionData}
 use Rattle.llvm_core.specs.Module.{Module}

@@ -1,5 +1,5 @@
 -- What `adding::give_body` owes besides what the check finds.
-use Rattle.std.proofs.Common.{◌≡◌, ℕ, length, subst}
+use Rattle.std.proofs.Common.{◌≡◌, ◌+◌, ℕ, length, ap, sym, ◌∙◌, subst}
 use Rattle.std.specs.Option.{option_map}
 use Rattle.std.proofs.lemmas.Option.{slice_get_within}
 use Rattle.llvm_core.specs.Data.{trees_of}
@@ -9,6 +9,9 @@ use Rattle.ll_lines.specs.Views.{function_view, text_of}
 use Rattle.ll_bodies.specs.Scopes.{global_name}
 use Rattle.ll_bodies.specs.Meaning.{function_data}
 use Rattle.ll_bodies.specs.AddingViews.{function_with}
+use Rattle.llvm_core.specs.Module.{Module}
+use Rattle.llvm_core.proofs.BodyTypes.{blocks_after, insts_after}
+use Rattle.ll_bodies.proofs.JoinLaws.{block_total, inst_total}
 use Rattle.ll_bodies.proofs.adding.give_body.Goals as goal
 
 pub body_of-requires-clause-source : goal.body_of-requires-clause-source
@@ -39,4 +42,8 @@ returns-clause-ok c =
       is = subst (λ (k : ℕ). function_data f k (length m.insts) (function_view bytes t x) ≡ option_map (λ name. function_with bytes t f name x (blocks_from t k (length m.insts) body)) (global_name (text_of bytes x.name))) c.block_count-first_block.ensures
           (subst (λ (k : ℕ). function_data f c.block_count-first_block.result k (function_view bytes t x) ≡ option_map (λ name. function_with bytes t f name x (blocks_from t c.block_count-first_block.result k body)) (global_name (text_of bytes x.name))) c.inst_count-first.ensures c.in_ok-body.ensures.ok);
       given = c.in_ok-add_body.ensures.data;
+      types = ap (λ (k : Module). k.types) c.in_ok-add_body.ensures.ok;
+      consts = ap (λ (k : Module). k.consts) c.in_ok-add_body.ensures.ok;
+      block_count = ap (λ (k : Module). length k.blocks) c.in_ok-add_body.ensures.ok ∙ blocks_after m c.args.f body ∙ ap (λ (k : ℕ). length m.blocks + k) (sym (block_total t (length m.blocks) (length m.insts) body));
+      inst_count = ap (λ (k : Module). length k.insts) c.in_ok-add_body.ensures.ok ∙ insts_after m c.args.f body ∙ ap (λ (k : ℕ). length m.insts + k) (sym (inst_total t (length m.blocks) (length m.insts) body));
     }

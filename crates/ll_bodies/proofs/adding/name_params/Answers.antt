@@ -1,9 +1,9 @@
 -- What `adding::name_params` owes besides what the check finds.
-use Rattle.std.proofs.Common.{◌≡◌, ℕ, List, ◌+◌, ap, sym, ◌∙◌, drop}
+use Rattle.std.proofs.Common.{ℕ, List, ◌+◌, ap, sym, ◌∙◌, drop}
 use Rattle.std.proofs.lemmas.Option.{slice_get-get_or}
 use Rattle.llvm_core.specs.Data.{ModuleData, data_of, with_param}
 use Rattle.ll_bodies.specs.AddingViews.{names_in, with_params}
-use Rattle.ll_bodies.proofs.AddingLaws.{renames_one, names_at, names_all}
+use Rattle.ll_bodies.proofs.AddingLaws.{renames_one, names_at}
 use Rattle.ll_bodies.proofs.adding.name_params.Goals as goal
 
 pub loop-param-preserved : goal.loop-param-preserved

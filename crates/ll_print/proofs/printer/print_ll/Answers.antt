@@ -1,8 +1,7 @@
 -- What is printed is cut into tokens that spell the module, and its last line has an end.
 use Rattle.std.proofs.lemmas.Result.{on_ok_weaker}
 use Rattle.llvm_core.specs.Data.{data_of}
-use Rattle.ll_text.proofs.InstructionLaws.{on_ok_of}
-use Rattle.ll_print.proofs.SpelledLaws.{module_spelled, module_lines}
+use Rattle.ll_print.proofs.SpelledLaws.{module_spelled, module_lines, on_ok_of}
 use Rattle.ll_print.proofs.printer.print_ll.Goals as goal
 
 pub returns-clause-spelled : goal.returns-clause-spelled

@@ -1,0 +1,97 @@
+-- Functions that go behind those of a module one after another.
+use Rattle.std.proofs.Common.{◌≡◌, ◌+◌, ◌≤◌, ℕ, suc, List, [], ◌∷◌, ◌++◌, Option, Some, None, length, length-append, slice_get, map, drop, refl, ap, sym, ◌∙◌, arith}
+use Rattle.std.proofs.lemmas.List.{drop_all, append-nil, append_assoc}
+use Rattle.llvm_core.specs.declared.types.LLVMTypeKind.{LLVMTypeKind}
+use Rattle.llvm_core.specs.Module.{Module}
+use Rattle.llvm_core.specs.Sound.{IsModule}
+use Rattle.llvm_core.specs.Data as D
+use Rattle.llvm_core.specs.Data.{data_of, trees_of}
+use Rattle.ll_lines.specs.declared.lines.Function.{Function}
+use Rattle.ll_lines.specs.Lines as L
+use Rattle.ll_lines.specs.Views.{function_view, IsFunctionIn}
+use Rattle.ll_tree.specs.Chain.{◌>>=◌}
+use Rattle.ll_bodies.specs.Meaning.{function_data, functions_data, count_insts}
+use Rattle.ll_bodies.specs.AddingViews.{Keeps, AddsFunction, AddsFunctions}
+use Rattle.ll_bodies.proofs.BlockLaws.{drop_at}
+use Rattle.ll_bodies.proofs.JoinLaws.{function_total}
+use Rattle.ll_bodies.proofs.ListLaws.{then_some}
+use Rattle.ll_bodies.proofs.ViewLaws.{function_same}
+
+pub keeps_none : (m : Module) → Keeps m m
+keeps_none m = record { more = []; types = sym (append-nil m.types); consts = refl }
+
+pub keeps_twice : (a b c : Module) → Keeps a b → Keeps b c → Keeps a c
+keeps_twice a b c g h = record {
+  more = g.more ++ h.more;
+  types = h.types ∙ ap (λ (ts : List LLVMTypeKind). ts ++ h.more) g.types ∙ append_assoc a.types g.more h.more;
+  consts = h.consts ∙ g.consts;
+}
+
+module _ (bytes : List ℕ) (old : Module) (xs : List Function) where
+  -- what is said from a place on, as the module before says it
+  abbrev pub left : ℕ → List L.Function
+  left at = map (function_view bytes (trees_of old)) (drop at xs)
+
+  -- what functions mean behind those of a module
+  abbrev pub meant : Module → List L.Function → Option (List D.Function)
+  meant m ys = functions_data (length m.functions) (length m.blocks) (length m.insts) ys
+
+  -- those before a place have been added
+  pub record Added (at : ℕ) (now : Module) : Type 0 where
+    pub made : List D.Function
+    pub is : meant old (map (function_view bytes (trees_of old)) xs) ≡ (meant now (left at) >>= λ ys. Some (made ++ ys))
+    pub given : data_of now ≡ record (data_of old) { functions = (data_of old).functions ++ made }
+    pub keeps : Keeps old now
+    pub sound : IsModule now
+
+  start : (r : Option (List D.Function)) → r ≡ (r >>= λ ys. Some ys)
+  start None = refl
+  start (Some ys) = refl
+
+  pub added_none : IsModule old → Added 0 old
+  added_none s = record {
+    made = [];
+    is = start (meant old (map (function_view bytes (trees_of old)) xs));
+    given = ap (λ (fs : List D.Function). record (data_of old) { functions = fs }) (sym (append-nil (data_of old).functions));
+    keeps = keeps_none old;
+    sound = s;
+  }
+
+  module _ (s : IsModule old) (at : ℕ) (now : Module) (x : Function) (here : slice_get xs at ≡ Some x) (there : IsFunctionIn old x) (a : Added at now) where
+    -- the next function, as the module now says it
+    next_is : meant now (left at) ≡ (function_data (length now.functions) (length now.blocks) (length now.insts) (function_view bytes (trees_of now) x) >>= λ d. functions_data (suc (length now.functions)) (length now.blocks + length d.blocks) (length now.insts + count_insts d.blocks) (left (suc at)) >>= λ ds. Some (d ∷ ds))
+    next_is =
+        ap (λ (ys : List Function). meant now (map (function_view bytes (trees_of old)) ys)) (drop_at xs at x here)
+        ∙ ap (λ (y : L.Function). function_data (length now.functions) (length now.blocks) (length now.insts) y >>= λ d. functions_data (suc (length now.functions)) (length now.blocks + length d.blocks) (length now.insts + count_insts d.blocks) (left (suc at)) >>= λ ds. Some (d ∷ ds))
+        (sym (function_same bytes old now a.keeps s x there))
+
+    pub added_refused : function_data (length now.functions) (length now.blocks) (length now.insts) (function_view bytes (trees_of now) x) ≡ None → meant old (map (function_view bytes (trees_of old)) xs) ≡ None
+    added_refused h =
+        a.is ∙ ap (λ o. o >>= λ ys. Some (a.made ++ ys)) (next_is ∙ ap (λ o. o >>= λ d. functions_data (suc (length now.functions)) (length now.blocks + length d.blocks) (length now.insts + count_insts d.blocks) (left (suc at)) >>= λ ds. Some (d ∷ ds)) h)
+
+    pub added_more : (new : Module) (next : ℕ) → next ≡ suc at → AddsFunction bytes x now new → Added next new
+    added_more new next e f =
+        let d = f.function in
+        let count : length new.functions ≡ suc (length now.functions) = omega (arith, function_total new, function_total now, length-append (data_of now).functions (d ∷ []), ap (λ (z : D.ModuleData). length z.functions) f.given) in
+        let rest : functions_data (suc (length now.functions)) (length now.blocks + length d.blocks) (length now.insts + count_insts d.blocks) (left (suc at)) ≡ meant new (left (suc at))
+        = ap (λ (k : ℕ). functions_data k (length now.blocks + length d.blocks) (length now.insts + count_insts d.blocks) (left (suc at))) (sym count)
+        ∙ ap (λ (k : ℕ). functions_data (length new.functions) k (length now.insts + count_insts d.blocks) (left (suc at))) (sym f.blocks)
+        ∙ ap (λ (k : ℕ). functions_data (length new.functions) (length new.blocks) k (left (suc at))) (sym f.insts) in
+        rw e (record {
+          made = a.made ++ d ∷ [];
+          is =
+              a.is ∙ ap (λ o. o >>= λ ys. Some (a.made ++ ys)) (next_is ∙ ap (λ o. o >>= λ d. functions_data (suc (length now.functions)) (length now.blocks + length d.blocks) (length now.insts + count_insts d.blocks) (left (suc at)) >>= λ ds. Some (d ∷ ds)) f.is)
+              ∙ ap (λ o. (o >>= λ ds. Some (d ∷ ds)) >>= λ ys. Some (a.made ++ ys)) rest
+              ∙ then_some (meant new (left (suc at))) d a.made;
+          given = f.given ∙ ap (λ (z : D.ModuleData). D.with_function z d) a.given ∙ ap (λ (fs : List D.Function). record (data_of old) { functions = fs }) (append_assoc (data_of old).functions a.made (d ∷ []));
+          keeps = keeps_twice old now new a.keeps f.keeps;
+          sound = f.sound;
+        })
+
+  pub added_all : (at : ℕ) (now : Module) → length xs ≤ at → Added at now → AddsFunctions bytes xs old now
+  added_all at now past a = record {
+    made = a.made;
+    is = a.is ∙ ap (λ (ys : List Function). meant now (map (function_view bytes (trees_of old)) ys) >>= λ ys. Some (a.made ++ ys)) (drop_all at xs past) ∙ ap (λ (ys : List D.Function). Some ys) (append-nil a.made);
+    given = a.given;
+    sound = a.sound;
+  }

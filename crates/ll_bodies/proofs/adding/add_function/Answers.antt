@@ -1,0 +1,20 @@
+-- What `adding::add_function` owes besides what the check finds.
+use Rattle.std.proofs.Common.{sym, ap, ◌∙◌}
+use Rattle.ll_bodies.specs.Scopes.{global_name}
+use Rattle.ll_bodies.proofs.ErrLaws.{on_ok_both}
+use Rattle.ll_bodies.proofs.JoinLaws.{joined, unjoined}
+use Rattle.ll_bodies.proofs.adding.add_function.Goals as goal
+
+pub returns-clause-ok : goal.returns-clause-ok
+returns-clause-ok c =
+    let called = ap (λ t. global_name t) (sym c.text.ensures) ∙ c.in-Some.ensures.name in
+    let o = c.in_ok-f.ensures in
+    on_ok_both c.give_body.result (λ b sound.
+    joined c.args.bytes.now c.in_ok-f.f.0 c.in-Some.name.now c.args.said.now c.args.module.now c.needed_types.new.module c.declare.new.module c.give_body.new.module
+    c.requires.sound c.requires.said c.in_ok-types.ensures.grows o.number o.rest called o.data b sound) c.give_body.ensures.ok c.give_body.ensures.sound
+
+pub returns-clause-not_yet : goal.returns-clause-not_yet
+returns-clause-not_yet c = λ e.
+    let o = c.in_ok-f.ensures in
+    unjoined c.args.bytes.now c.in_ok-f.f.0 c.args.said.now c.args.module.now c.needed_types.new.module c.declare.new.module
+    c.requires.sound c.requires.said c.in_ok-types.ensures.grows o.number o.rest (c.give_body.ensures.not_yet e)
