@@ -1,6 +1,6 @@
 -- A body is cut into blocks from its end.
-use Rattle.std.proofs.Common.{◌≡◌, ◌≢◌, ◌≤◌, ◌+◌, ℕ, zero, suc, true, false, List, [], ◌∷◌, ◌++◌, Some, None, map, take, drop, length, slice_get, refl, ap, sym, ◌∙◌, subst, arith}
-use Rattle.std.proofs.lemmas.List.{reverse-append, append-nil, append_assoc, length-append, drop_all}
+use Rattle.std.proofs.Common.{◌≡◌, ◌≢◌, ◌+◌, ℕ, zero, suc, true, false, List, [], ◌∷◌, ◌++◌, Some, None, map, take, drop, length, slice_get, refl, ap, sym, ◌∙◌, subst, arith}
+use Rattle.std.proofs.lemmas.List.{append_assoc, length-append}
 use Rattle.support.proofs.ListLaws.{slice_get-behind, slice_get-kept}
 use Rattle.llvm_core.specs.Data.{Trees}
 use Rattle.ll_lines.specs.declared.lines.Part.{Part}
@@ -9,10 +9,9 @@ use Rattle.ll_lines.specs.declared.lines.Line as code_line
 use Rattle.ll_lines.specs.declared.names.Name.{Name}
 use Rattle.ll_lines.specs.Lines as L
 use Rattle.ll_lines.specs.Views.{text_of, line_view, part_view}
-use Rattle.ll_bodies.specs.declared.blocks.SaidBlock as code
-use Rattle.ll_tree.specs.Chain.{◌>>=◌}
+use Rattle.ll_literals.specs.Chain.{◌>>=◌}
 use Rattle.ll_bodies.specs.Meaning.{SaidBlock, ends_block, unlabelled, put_line, put_label, cut, blocks_of}
-use Rattle.ll_bodies.specs.BlockViews.{BeginsWithLine, IsBehind, lines_of, lines_view, block_view, blocks_view}
+use Rattle.ll_bodies.specs.BlockViews.{BeginsWithLine, IsBehind, lines_of, lines_view}
 
 -- what stands from a place on
 pub drop_at : {A : Type 0} (xs : List A) (at : ℕ) (x : A) → slice_get xs at ≡ Some x → drop at xs ≡ x ∷ drop (suc at) xs
@@ -50,34 +49,6 @@ module _ (bytes : List ℕ) (t : Trees) where
   put_more l [] lines bs b e some is = absurd (some refl)
   put_more l (Does m ∷ old) lines bs b e some is = rw (e, is) refl
   put_more l (Label m ∷ old) lines bs b e some is = absurd b
-
-  pub put_none : (l : code_line.Line) (old : List Part) (bs : List SaidBlock) → ends_block (line_view bytes t l) ≡ false
-      → length old ≡ 0 → put_line (line_view bytes t l) (lines_view bytes t old, bs) ≡ None
-  put_none l [] bs e none = rw e refl
-  put_none l (m ∷ old) bs e none = absurd (omega (arith, none))
-
-  pub label_some : (n : Name) (old : List Part) (bs new : List SaidBlock) → BeginsWithLine old → length old ≢ 0 → new ≡ record { label = Some (text_of bytes n); lines = lines_view bytes t old } ∷ bs
-      → put_label (text_of bytes n) (lines_view bytes t old, bs) ≡ Some ([], new)
-  label_some n [] bs new b some is = absurd (some refl)
-  label_some n (Does m ∷ old) bs new b some is = rw is refl
-  label_some n (Label m ∷ old) bs new b some is = absurd b
-
-  pub label_none : (n : Name) (old : List Part) (bs : List SaidBlock) → length old ≡ 0 → put_label (text_of bytes n) (lines_view bytes t old, bs) ≡ None
-  label_none n [] bs none = refl
-  label_none n (m ∷ old) bs none = absurd (omega (arith, none))
-
-  -- a block more, which stands first
-  pub pushed : (b : code.SaidBlock) (old new : List code.SaidBlock) → new ≡ old ++ b ∷ [] → blocks_view bytes t new ≡ block_view bytes t b ∷ blocks_view bytes t old
-  pushed b old new is = rw (is, reverse-append old (b ∷ [])) refl
-
-  pub unlabelled_some : (old : List Part) (bs : List SaidBlock) → BeginsWithLine old → length old ≢ 0 → record { label = None; lines = lines_view bytes t old } ∷ bs ≡ unlabelled (lines_view bytes t old) bs
-  unlabelled_some [] bs b some = absurd (some refl)
-  unlabelled_some (Does m ∷ old) bs b some = refl
-  unlabelled_some (Label m ∷ old) bs b some = absurd b
-
-  pub unlabelled_none : (old : List Part) (bs : List SaidBlock) → length old ≡ 0 → bs ≡ unlabelled (lines_view bytes t old) bs
-  unlabelled_none [] bs none = refl
-  unlabelled_none (m ∷ old) bs none = absurd (omega (arith, none))
 
   -- a part before what is cut
   pub cut_line : (parts : List Part) (at : ℕ) (l : code_line.Line) (x : List L.Line × List SaidBlock) (y : List L.Line × List SaidBlock) → slice_get parts at ≡ Some (Does l)
@@ -164,10 +135,3 @@ line_reached parts at next first number j p l h e r there =
     let is : lines_of parts ≡ r.done ++ (lines_of (p ∷ []) ++ lines_of (drop next parts)) = r.is ∙ ap (λ ls. r.done ++ ls) (lines_at parts at next p h e) in
     let behind = slice_get-behind r.done (lines_of (p ∷ []) ++ lines_of (drop next parts)) j in
     (length r.done + j, ap (λ ls. slice_get ls (length r.done + j)) is ∙ behind ∙ slice_get-kept (lines_of (p ∷ [])) (lines_of (drop next parts)) j l there, omega (arith, r.count))
-
-pub reached_all : (parts : List Part) (at first number : ℕ) → length parts ≤ at → Reached parts at first number → number ≡ first + length (lines_of parts)
-reached_all parts at first number past r =
-    let none = drop_all at parts past in
-    let e : lines_of parts ≡ r.done ++ [] = r.is ∙ ap (λ ps. r.done ++ lines_of ps) none in
-    let size = ap (λ (ls : List code_line.Line). length ls) (e ∙ append-nil r.done) in
-    omega (arith, size, r.count)

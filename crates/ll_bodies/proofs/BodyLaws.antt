@@ -1,21 +1,19 @@
 -- Bodies that are made line by line and block by block.
 use Rattle.std.proofs.Common.{◌≡◌, ◌≤◌, ℕ, suc, ◌+◌, List, [], ◌∷◌, ◌++◌, Option, Some, None, map, take, drop, length, slice_get, refl, ap, sym, ◌∙◌, subst, arith}
-use Rattle.std.specs.Option.{option_map_or}
 use Rattle.std.proofs.lemmas.List.{drop_all, append-nil, append_assoc, map-append, length-map, length-append, take-append-drop, take_all}
 use Rattle.support.proofs.ListLaws.{take_next}
-use Rattle.kinds.specs.Types.{TypeTree, VoidType}
-use Rattle.llvm_core.specs.Data.{Trees, Placed, Block, type_at, instruction_of}
+use Rattle.llvm_core.specs.Data.{Trees, Placed, Block}
 use Rattle.ll_lines.specs.declared.lines.Part.{Part}
 use Rattle.ll_lines.specs.declared.lines.Line as code_line
 use Rattle.ll_lines.specs.Lines as L
-use Rattle.ll_tree.specs.Chain.{◌>>=◌}
+use Rattle.ll_literals.specs.Chain.{◌>>=◌}
 use Rattle.ll_bodies.specs.declared.blocks.SaidBlock as code_block
 use Rattle.llvm_core.specs.declared.bodies.BodyInst.{BodyInst}
 use Rattle.llvm_core.specs.declared.bodies.BodyBlock.{BodyBlock}
 use Rattle.ll_bodies.specs.declared.results.Source.{Source}
 use Rattle.ll_bodies.specs.declared.scope.Scope as code
-use Rattle.ll_bodies.specs.Scopes.{Scope, written_name, local_key, label_key}
-use Rattle.ll_bodies.specs.Meaning.{SaidBlock, all_from, placed, instruction, blocks_data, result_type}
+use Rattle.ll_bodies.specs.Scopes.{Scope, written_name, label_key}
+use Rattle.ll_bodies.specs.Meaning.{SaidBlock, all_from, placed, blocks_data}
 use Rattle.ll_bodies.specs.BlockViews.{lines_of}
 use Rattle.ll_bodies.specs.ScopeViews.{Knows, Refuses}
 use Rattle.ll_bodies.specs.SourceViews.{types_in, source_trees, line_in, lines_in, block_in, count_lines}
@@ -32,10 +30,6 @@ joined (Some zs) y done = refl
 nothing_before : {B : Type 0} (r : Option (List B)) → r ≡ (r >>= λ zs. Some zs)
 nothing_before None = refl
 nothing_before (Some zs) = refl
-
-bind_same : {A B : Type 0} (r : Option A) (f g : A → Option B) → ((x : A) → f x ≡ g x) → (r >>= f) ≡ (r >>= g)
-bind_same None f g h = refl
-bind_same (Some x) f g h = h x
 
 module _ {A B : Type 0} (f : ℕ → A → Option B) where
   -- what is made of two lists, of which the first means something
@@ -71,25 +65,10 @@ module _ (source : Source) (scope : code.Scope) where
 
   -- ---- a line
 
-  pub placed_is : (s : Scope) (n : ℕ) (l : code_line.Line) (x : BodyInst) → x.name ≡ written_name local_key (line_in source l).result
-      → type_at (types_in source) x.ty ≡ option_map_or (λ (τ : TypeTree). τ) (result_type (line_in source l).inst) VoidType
-      → instruction s (line_in source l).inst ≡ Some (instruction_of (source_trees source) x.inst) → placed s n (line_in source l) ≡ Some (placed_one (source_trees source) n x)
-  placed_is s n l x name type inst = ap (λ o. o >>= λ i. Some (record { number = n; name = written_name local_key (line_in source l).result; type = option_map_or (λ (τ : TypeTree). τ) (result_type (line_in source l).inst) VoidType; instruction = i })) inst
-      ∙ rw (sym name, sym type) refl
-
-  pub unplaced : (s : Scope) (n : ℕ) (l : code_line.Line) → instruction s (line_in source l).inst ≡ None → placed s n (line_in source l) ≡ None
-  unplaced s n l h = rw h refl
-
   -- ---- lines
 
   pub made_none : Made source scope [] []
   made_none = record { count = refl; is = λ s n h. refl }
-
-  pub made_one : (l : code_line.Line) (x : BodyInst) → ((s : Scope) (n : ℕ) → Knows (types_in source) scope s → placed s n (line_in source l) ≡ Some (placed_one (source_trees source) n x)) → Made source scope (l ∷ []) (x ∷ [])
-  made_one l x h = record { count = refl; is = λ s n k. ap (λ o. o >>= λ y. Some (y ∷ [])) (h s n k) }
-
-  pub one_unmade : (l : code_line.Line) → ((n : ℕ) → Refuses (types_in source) scope (λ s. placed s n (line_in source l))) → (n : ℕ) → Refuses (types_in source) scope (λ s. all_placed s n (l ∷ []))
-  one_unmade l h n = λ s k. ap (λ o. o >>= λ y. Some (y ∷ [])) (h n s k)
 
   pub made_joined : (xs ys : List code_line.Line) (a b : List BodyInst) → Made source scope xs a → Made source scope ys b → Made source scope (xs ++ ys) (a ++ b)
   made_joined xs ys a b h k =

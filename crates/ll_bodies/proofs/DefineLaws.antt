@@ -11,7 +11,7 @@ use Rattle.ll_bodies.specs.declared.blocks.SaidBlock as code_block
 use Rattle.ll_lines.specs.declared.lines.Part.{Part}
 use Rattle.ll_lines.specs.declared.lines.Line as code_line
 use Rattle.ll_lines.specs.Lines as L
-use Rattle.ll_tree.specs.Chain.{◌>>=◌}
+use Rattle.ll_literals.specs.Chain.{◌>>=◌}
 use Rattle.ll_bodies.specs.declared.results.Source.{Source}
 use Rattle.ll_bodies.specs.declared.scope.Scope.{Scope}
 use Rattle.ll_bodies.specs.declared.scope.Local.{Local}

@@ -8,7 +8,7 @@ use Rattle.llvm_core.specs.Data.{data_of, trees_of}
 use Rattle.ll_lines.specs.declared.lines.Function.{Function}
 use Rattle.ll_lines.specs.declared.lines.File.{File}
 use Rattle.ll_lines.specs.Views.{function_view, file_view, text_of}
-use Rattle.ll_tree.specs.Chain.{◌>>=◌}
+use Rattle.ll_literals.specs.Chain.{◌>>=◌}
 use Rattle.ll_bodies.specs.Meaning.{functions_data, source_name, file_data}
 use Rattle.ll_bodies.specs.AddingViews.{AddsFunctions}
 use Rattle.ll_bodies.proofs.JoinLaws.{function_total}

@@ -1,6 +1,6 @@
 -- Functions that go behind those of a module one after another.
-use Rattle.std.proofs.Common.{◌≡◌, ◌+◌, ◌≤◌, ℕ, suc, List, [], ◌∷◌, ◌++◌, Option, Some, None, length, length-append, slice_get, map, drop, refl, ap, sym, ◌∙◌, arith}
-use Rattle.std.proofs.lemmas.List.{drop_all, append-nil, append_assoc}
+use Rattle.std.proofs.Common.{◌≡◌, ◌+◌, ℕ, suc, List, [], ◌∷◌, ◌++◌, Option, Some, None, length, length-append, slice_get, map, drop, ap, sym, ◌∙◌, arith}
+use Rattle.std.proofs.lemmas.List.{append_assoc}
 use Rattle.llvm_core.specs.declared.types.LLVMTypeKind.{LLVMTypeKind}
 use Rattle.llvm_core.specs.Module.{Module}
 use Rattle.llvm_core.specs.Sound.{IsModule}
@@ -9,16 +9,13 @@ use Rattle.llvm_core.specs.Data.{data_of, trees_of}
 use Rattle.ll_lines.specs.declared.lines.Function.{Function}
 use Rattle.ll_lines.specs.Lines as L
 use Rattle.ll_lines.specs.Views.{function_view, IsFunctionIn}
-use Rattle.ll_tree.specs.Chain.{◌>>=◌}
+use Rattle.ll_literals.specs.Chain.{◌>>=◌}
 use Rattle.ll_bodies.specs.Meaning.{function_data, functions_data, count_insts}
-use Rattle.ll_bodies.specs.AddingViews.{Keeps, AddsFunction, AddsFunctions}
+use Rattle.ll_bodies.specs.AddingViews.{Keeps, AddsFunction}
 use Rattle.ll_bodies.proofs.BlockLaws.{drop_at}
 use Rattle.ll_bodies.proofs.JoinLaws.{function_total}
 use Rattle.ll_bodies.proofs.ListLaws.{then_some}
 use Rattle.ll_bodies.proofs.ViewLaws.{function_same}
-
-pub keeps_none : (m : Module) → Keeps m m
-keeps_none m = record { more = []; types = sym (append-nil m.types); consts = refl }
 
 pub keeps_twice : (a b c : Module) → Keeps a b → Keeps b c → Keeps a c
 keeps_twice a b c g h = record {
@@ -43,19 +40,6 @@ module _ (bytes : List ℕ) (old : Module) (xs : List Function) where
     pub given : data_of now ≡ record (data_of old) { functions = (data_of old).functions ++ made }
     pub keeps : Keeps old now
     pub sound : IsModule now
-
-  start : (r : Option (List D.Function)) → r ≡ (r >>= λ ys. Some ys)
-  start None = refl
-  start (Some ys) = refl
-
-  pub added_none : IsModule old → Added 0 old
-  added_none s = record {
-    made = [];
-    is = start (meant old (map (function_view bytes (trees_of old)) xs));
-    given = ap (λ (fs : List D.Function). record (data_of old) { functions = fs }) (sym (append-nil (data_of old).functions));
-    keeps = keeps_none old;
-    sound = s;
-  }
 
   module _ (s : IsModule old) (at : ℕ) (now : Module) (x : Function) (here : slice_get xs at ≡ Some x) (there : IsFunctionIn old x) (a : Added at now) where
     -- the next function, as the module now says it
@@ -87,11 +71,3 @@ module _ (bytes : List ℕ) (old : Module) (xs : List Function) where
           keeps = keeps_twice old now new a.keeps f.keeps;
           sound = f.sound;
         })
-
-  pub added_all : (at : ℕ) (now : Module) → length xs ≤ at → Added at now → AddsFunctions bytes xs old now
-  added_all at now past a = record {
-    made = a.made;
-    is = a.is ∙ ap (λ (ys : List Function). meant now (map (function_view bytes (trees_of old)) ys) >>= λ ys. Some (a.made ++ ys)) (drop_all at xs past) ∙ ap (λ (ys : List D.Function). Some ys) (append-nil a.made);
-    given = a.given;
-    sound = a.sound;
-  }

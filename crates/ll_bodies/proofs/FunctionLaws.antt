@@ -5,7 +5,7 @@ use Rattle.llvm_core.proofs.DataLemmas.{within_at}
 use Rattle.ll_lines.specs.declared.lines.Param as code_param
 use Rattle.ll_lines.specs.declared.lines.Function as code_function
 use Rattle.ll_lines.specs.Views.{IsTypeIn, part_view}
-use Rattle.ll_tree.specs.Chain.{◌>>=◌}
+use Rattle.ll_literals.specs.Chain.{◌>>=◌}
 use Rattle.ll_bodies.specs.declared.blocks.SaidBlock as code_block
 use Rattle.ll_bodies.specs.declared.results.Source.{Source}
 use Rattle.ll_bodies.specs.declared.scope.Key.{Key}

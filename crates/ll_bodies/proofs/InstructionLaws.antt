@@ -14,7 +14,7 @@ use Rattle.ll_lines.specs.declared.lines.Typed as code_typed
 use Rattle.ll_lines.specs.declared.lines.Incoming as code_incoming
 use Rattle.ll_lines.specs.Lines as L
 use Rattle.ll_lines.specs.Views.{text_of}
-use Rattle.ll_tree.specs.Chain.{◌>>=◌}
+use Rattle.ll_literals.specs.Chain.{◌>>=◌}
 use Rattle.ll_bodies.specs.declared.results.Source.{Source}
 use Rattle.ll_bodies.specs.Scopes.{Scope, block_of}
 use Rattle.ll_bodies.specs.Meaning.{all_of, operand, entry, instruction}
@@ -47,12 +47,6 @@ module _ (source : Source) (s : Scope) where
 
   pub row_unnamed : (r : RowLine) → said_operands r ≡ None → instruction s (row_in source r) ≡ None
   row_unnamed r a = row_is r ∙ ap (λ o. o >>= λ os. said_targets r >>= λ bs. rest r os bs (said_fits r)) a
-
-  pub row_unled : (r : RowLine) (os : List Operand) → said_operands r ≡ Some os → said_targets r ≡ None → instruction s (row_in source r) ≡ None
-  row_unled r os a b =
-      row_is r
-      ∙ ap (λ o. o >>= λ os. said_targets r >>= λ bs. rest r os bs (said_fits r)) a
-      ∙ ap (λ o. o >>= λ bs. rest r os bs (said_fits r)) b
 
   pub row_unfit : (r : RowLine) (os : List Operand) (bs : List ℕ) → said_operands r ≡ Some os → said_targets r ≡ Some bs → said_fits r ≡ false → instruction s (row_in source r) ≡ None
   row_unfit r os bs a b c =

@@ -1,7 +1,7 @@
 -- Lists of things, each of which may mean nothing, as they are made one after another.
 use Rattle.std.proofs.Common.{◌≡◌, ◌≤◌, ℕ, suc, List, [], ◌∷◌, ◌++◌, Option, Some, None, map, drop, length, slice_get, refl, ap, sym, ◌∙◌}
 use Rattle.std.proofs.lemmas.List.{drop_all, append-nil, append_assoc, map-append}
-use Rattle.ll_tree.specs.Chain.{◌>>=◌}
+use Rattle.ll_literals.specs.Chain.{◌>>=◌}
 use Rattle.ll_bodies.specs.Meaning.{all_of}
 use Rattle.ll_bodies.proofs.BlockLaws.{drop_at}
 
@@ -9,20 +9,10 @@ pub then_some : {B : Type 0} (r : Option (List B)) (y : B) (done : List B) → (
 then_some None y done = refl
 then_some (Some ys) y done = ap (λ zs. Some zs) (sym (append_assoc done (y ∷ []) ys))
 
-bind_none : {B C : Type 0} (r : Option B) (f : B → Option C) → r ≡ None → (r >>= f) ≡ None
-bind_none r f e = ap (λ o. o >>= f) e
-
 module _ {X A B Y : Type 0} (view : X → A) (f : A → Option B) (out : Y → B) where
   -- so much of the list has been made
   pub record Done (xs : List X) (at : ℕ) (ys : List Y) : Type 0 where
     pub is : all_of f (map view xs) ≡ (all_of f (map view (drop at xs)) >>= λ zs. Some (map out ys ++ zs))
-
-  start : (r : Option (List B)) → r ≡ (r >>= λ zs. Some zs)
-  start None = refl
-  start (Some zs) = refl
-
-  pub done_none : (xs : List X) → Done xs 0 []
-  done_none xs = record { is = start (all_of f (map view xs)) }
 
   pub done_more : (xs : List X) (at next : ℕ) (ys : List Y) (x : X) (y : Y) → slice_get xs at ≡ Some x → next ≡ suc at → f (view x) ≡ Some (out y) → Done xs at ys → Done xs next (ys ++ y ∷ [])
   done_more xs at next ys x y h e is d = rw e (record {

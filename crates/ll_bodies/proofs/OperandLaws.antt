@@ -18,7 +18,7 @@ use Rattle.llvm_core.specs.Parts as P
 use Rattle.llvm_core.specs.Data.{ConstTree, type_at, const_at, const_tree, const_type, trees_of, operand_of}
 use Rattle.llvm_core.proofs.DataLemmas.{const_tree_of}
 use Rattle.ll_lines.specs.Views.{IsTypeIn}
-use Rattle.ll_tree.specs.Chain.{◌>>=◌}
+use Rattle.ll_literals.specs.Chain.{◌>>=◌}
 use Rattle.ll_bodies.specs.Scopes as spec
 use Rattle.ll_bodies.specs.declared.scope.Key.{Key}
 use Rattle.ll_bodies.specs.declared.scope.Key.TheVariants.{Numbered}

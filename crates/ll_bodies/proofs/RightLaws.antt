@@ -38,7 +38,7 @@ use Rattle.ll_lines.specs.declared.lines.Part.TheVariants.{Label, Does}
 use Rattle.ll_lines.specs.declared.names.Name.{Name}
 use Rattle.ll_lines.specs.Lines as L
 use Rattle.ll_lines.specs.Views.{IsTypeIn, IsSaidIn, IsTypedIn, IsInstIn, IsPartIn, text_of}
-use Rattle.ll_tree.specs.Chain.{◌>>=◌}
+use Rattle.ll_literals.specs.Chain.{◌>>=◌}
 use Rattle.ll_bodies.specs.declared.blocks.SaidBlock as code_block
 use Rattle.ll_bodies.specs.declared.results.Source.{Source}
 use Rattle.ll_bodies.specs.Scopes as spec

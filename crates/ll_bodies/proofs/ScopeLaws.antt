@@ -3,8 +3,8 @@ use Rattle.std.proofs.Common.{◌≡◌, ℕ, ◌+◌, ◌<◌, ◌≤◌, ◌�
 use Rattle.std.specs.Option.{option_map}
 use Rattle.std.proofs.lemmas.Bool.Decides.{nat_tests}
 use Rattle.llvm_core.specs.Data.{TypeTree}
-use Rattle.ll_tree.specs.Text.{number_limit}
-use Rattle.ll_tree.specs.Chain.{◌>>=◌}
+use Rattle.ll_literals.specs.Numbers.{number_limit}
+use Rattle.ll_literals.specs.Chain.{◌>>=◌}
 use Rattle.ll_lines.specs.Lines.{Text}
 use Rattle.ll_bodies.specs.Scopes as spec
 use Rattle.ll_bodies.specs.Scopes.{same_key}
@@ -94,9 +94,6 @@ module _ (types : List TypeTree) where
         let b = k a.0 a.2 in
         (b.0, a.1 ∙ is a.0 ∙ ap (λ o. o >>= more) b.1, b.2);
   }
-
-  pub steps_same : (old now : Scope) (whole rest more : spec.Scope → Option spec.Scope) → Steps types old now whole rest → ((t : spec.Scope) → rest t ≡ more t) → Steps types old now whole more
-  steps_same old now whole rest more h is = record { at = λ s in_old. let a = h.at s in_old in (a.0, a.1 ∙ is a.0, a.2) }
 
   pub steps_end : (old now : Scope) (whole rest : spec.Scope → Option spec.Scope) → Steps types old now whole rest → ((t : spec.Scope) → rest t ≡ Some t) → Takes types old now whole
   steps_end old now whole rest h is = λ s in_old. let a = h.at s in_old in (a.0, a.1 ∙ is a.0, a.2)

@@ -41,7 +41,7 @@ use Rattle.ll_bodies.specs.Scopes.{local_key, block_of}
 use Rattle.ll_bodies.specs.SourceViews.{said_in}
 use Rattle.ll_lines.specs.declared.lines.Param as code_param
 use Rattle.ll_lines.specs.declared.lines.Line as code_line
-use Rattle.ll_tree.specs.Chain.{◌>>=◌}
+use Rattle.ll_literals.specs.Chain.{◌>>=◌}
 use Rattle.ll_bodies.specs.declared.blocks.SaidBlock as code_block
 use Rattle.ll_bodies.specs.declared.results.Source.{Source}
 use Rattle.ll_bodies.specs.declared.scope.Local.{Local}

@@ -13,7 +13,7 @@ use Rattle.ll_lines.specs.declared.lines.Function as code
 use Rattle.ll_lines.specs.Lines as said
 use Rattle.ll_lines.specs.Lines.{Text, Function}
 use Rattle.ll_lines.specs.Views.{function_view}
-use Rattle.ll_tree.specs.Chain.{◌>>=◌}
+use Rattle.ll_literals.specs.Chain.{◌>>=◌}
 use Rattle.ll_bodies.specs.declared.blocks.SaidBlock.{SaidBlock}
 use Rattle.ll_bodies.specs.declared.results.Source.{Source}
 use Rattle.ll_bodies.specs.Scopes.{Scope, empty_scope, local_key, written_name}

@@ -7,8 +7,8 @@ use Rattle.kinds.specs.Types.{TypeTree, VoidType, FunctionType, TypeTrees, NoTyp
 use Rattle.kinds.specs.Typing.{fits_trees, typed}
 use Rattle.llvm_core.specs.Data as L
 use Rattle.llvm_core.specs.Data.{Operand, Placed, Block, ModuleData, const_type}
-use Rattle.ll_tree.specs.Chain.{◌>>=◌}
-use Rattle.ll_tree.specs.Text.{is_bare}
+use Rattle.ll_literals.specs.Chain.{◌>>=◌}
+use Rattle.ll_literals.specs.Names.{is_bare}
 use Rattle.ll_lines.specs.Lines.{Text, Said, Local, Const, Typed, Incoming, Inst, Phi, Row, Line, Part, Label, Does, Param, Function, File}
 use Rattle.ll_bodies.specs.Scopes.{Scope, ValueLocal, BlockLocal, empty_scope, local_key, label_key, global_name, define_written, written_name, value_of_type, block_of}
 

@@ -4,7 +4,7 @@ use Rattle.std.specs.Option.{option_map}
 use Rattle.std.specs.HashMap.{get}
 use Rattle.llvm_core.specs.Data as L
 use Rattle.llvm_core.specs.Data.{TypeTree, type_at}
-use Rattle.ll_tree.specs.Text.{number_limit}
+use Rattle.ll_literals.specs.Numbers.{number_limit}
 use Rattle.ll_bodies.specs.Scopes as spec
 use Rattle.ll_bodies.specs.declared.scope.Key.{Key}
 use Rattle.ll_bodies.specs.declared.scope.Key.TheVariants.{Named, Numbered}

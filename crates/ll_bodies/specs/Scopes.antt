@@ -4,9 +4,9 @@ use Rattle.std.specs.Str.{bytes_eq}
 use Rattle.std.specs.Option.{option_map}
 use Rattle.kinds.specs.Types.{TypeTree, same_tree}
 use Rattle.llvm_core.specs.Data.{Operand}
-use Rattle.ll_tree.specs.Chain.{◌>>=◌}
-use Rattle.ll_tree.specs.Text.{number_of, number_limit, is_bare}
-use Rattle.ll_tree.specs.Tree.{is_digits}
+use Rattle.ll_literals.specs.Chain.{◌>>=◌}
+use Rattle.ll_literals.specs.Numbers.{number_of, number_limit, is_digits}
+use Rattle.ll_literals.specs.Names.{is_bare}
 use Rattle.ll_lines.specs.Lines.{Text}
 
 -- ---- keys

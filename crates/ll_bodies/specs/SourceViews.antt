@@ -26,7 +26,7 @@ use Rattle.ll_bodies.specs.declared.scope.Local.{Local}
 use Rattle.ll_bodies.specs.declared.scope.Local.TheVariants.{Param, Result, Block}
 use Rattle.ll_bodies.specs.Scopes.{Scope, BlockLocal, ValueLocal, local_key, label_key, define_written}
 use Rattle.ll_bodies.specs.Meaning.{SaidBlock, result_type, result_scope, lines_scope}
-use Rattle.ll_tree.specs.Chain.{◌>>=◌}
+use Rattle.ll_literals.specs.Chain.{◌>>=◌}
 use Rattle.ll_bodies.specs.BlockViews.{lines_of, lines_view, block_view}
 use Rattle.ll_bodies.specs.declared.results.Source.{Source}
 

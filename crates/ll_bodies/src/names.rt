@@ -1,10 +1,7 @@
 //! Names and numbers, as tokens write them.
 
-ghost use Rattle.std.specs.Prelude.{◌≡◌, ◌≤◌, true, false, None, Some, Err, IfOk, IfSome, IfNone};
-ghost use Rattle.std.specs.List.{list_all};
+ghost use Rattle.std.specs.Prelude.{◌≡◌, None, Some, Err, IfOk, IfSome, IfNone};
 ghost use Rattle.std.specs.Option.{option_map};
-ghost use Rattle.llvm_core.specs.Names.{is_digit};
-ghost use Rattle.ll_tree.specs.Text.{is_bare, is_name_byte};
 ghost use Rattle.ll_lines.specs.Views.{text_of};
 ghost use Rattle.ll_bodies.specs.Scopes as spec;
 ghost use Rattle.ll_bodies.specs.Scopes.{key_of, local_key, label_key, optional_key, define_written, global_name, written_name};
@@ -14,54 +11,8 @@ ghost use Rattle.ll_bodies.specs.ScopeViews.{key_view, option_key, IsNoKey};
 use crate::build_err::BuildErr;
 use crate::scope::Key;
 use ll_lines::names::Name;
-use ll_tree::literals::number;
-use std::str;
-
-fn is_digit(b: u8) -> bool
-    ensures { result ≡ is_digit b }
-{
-    b >= b'0' && b <= b'9'
-}
-
-/// A byte of a bare name.
-fn is_name_byte(b: u8) -> bool
-    ensures { result ≡ is_name_byte b }
-{
-    (b >= b'A' && b <= b'Z')
-        || (b >= b'a' && b <= b'z')
-        || is_digit(b)
-        || b == b'$'
-        || b == b'.'
-        || b == b'_'
-        || b == b'-'
-}
-
-fn all_name_bytes(bytes: &[u8]) -> bool
-    ensures { result ≡ list_all is_name_byte bytes.now }
-{
-    bytes.iter().all(|b| is_name_byte(*b))
-}
-
-fn is_bare(text: &[u8]) -> bool
-    ensures { result ≡ is_bare text.now }
-{
-    let [b, rest @ ..] = text else {
-        return false;
-    };
-    is_name_byte(*b) && !is_digit(*b) && all_name_bytes(rest)
-}
-
-/// The text, where it is a bare name.
-fn bare_name(text: &[u8]) -> Option<&str>
-    ensures found { IfSome result (λ s. (s.now ≡ text.now) × (is_bare text.now ≡ true)) }
-    ensures none { IfNone result (is_bare text.now ≡ false) }
-{
-    if !is_bare(text) {
-        return None;
-    }
-    // Bytes of names are ASCII, which is UTF-8.
-    Some(unsafe { str::from_utf8_unchecked(text) })
-}
+use ll_literals::names::bare_name;
+use ll_literals::numbers::number;
 
 /// The key that a bare name or digits say.
 fn key_of(text: &[u8]) -> Option<Key<'_>>

@@ -5,7 +5,8 @@ use Rattle.std.specs.List.{flat_map}
 use Rattle.std.proofs.lemmas.List.{append-nil}
 use Rattle.llvm_core.specs.Data.{Function, ModuleData}
 use Rattle.llvm_core.specs.Form.{IsForm, HasDistinctNames, result_of}
-use Rattle.ll_tree.specs.Text.{Text, global, quoted}
+use Rattle.ll_literals.specs.Text.{Text}
+use Rattle.ll_literals.specs.Names.{global, quoted}
 use Rattle.ll_said.specs.Said.{file_of}
 use Rattle.ll_said.specs.Sayable.{IsBareOrNone}
 use Rattle.ll_said.proofs.FileLaws.{sayable_from}

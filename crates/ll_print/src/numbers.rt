@@ -2,7 +2,7 @@
 
 ghost use Rattle.std.specs.Prelude.{◌≡◌, ◌≤◌, ◌+◌, [], OnOk, Some, None, if◌then◌else◌};
 ghost use Rattle.support.specs.Options.{or_else};
-ghost use Rattle.ll_tree.specs.Text.{number_limit};
+ghost use Rattle.ll_literals.specs.Numbers.{number_limit};
 ghost use Rattle.ll_print.specs.Printing.{if_unnamed};
 ghost use Rattle.ll_print.specs.Numbering.{thing_of, same_place, noted_at, number_at, IsNumbering, Counts};
 

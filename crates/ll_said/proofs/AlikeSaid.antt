@@ -8,7 +8,8 @@ use Rattle.support.specs.Interned.{IsDistinctList}
 use Rattle.llvm_core.specs.Data as D
 use Rattle.llvm_core.specs.Data.{TypeTree, VoidType, IntType, FunctionType, Operand, Constant, Parameter, Result, RowData, Instruction, Phi, Applied, Placed, Block, operand_type, param_type, placed_in}
 use Rattle.llvm_core.specs.Form.{result_of}
-use Rattle.ll_tree.specs.Text.{Text, global, label}
+use Rattle.ll_literals.specs.Text.{Text}
+use Rattle.ll_literals.specs.Names.{global, label}
 use Rattle.ll_lines.specs.Lines as L
 use Rattle.ll_lines.specs.Lines.{Typed, RowLine, Part, Param}
 use Rattle.ll_said.specs.Naming.{Unnamed, ParamAt, BlockOf, ResultOf, same_unnamed, if_unnamed, unnamed_params, unnamed_result, unnamed_block, unnamed_in, local_text, result_name, block_name, block_ref}

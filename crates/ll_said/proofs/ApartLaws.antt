@@ -8,7 +8,7 @@ use Rattle.support.specs.Interned.{IsDistinctList}
 use Rattle.llvm_core.specs.Data.{TypeTree, VoidType, IntType, FunctionType, Placed, Block, Function, placed_in}
 use Rattle.llvm_core.specs.Form.{HasNumber}
 use Rattle.support.proofs.ListLaws.{slice_get-kept, slice_get-behind}
-use Rattle.ll_tree.specs.Text.{Text}
+use Rattle.ll_literals.specs.Text.{Text}
 use Rattle.ll_said.specs.Naming.{Unnamed, ParamAt, BlockOf, ResultOf, same_unnamed, if_unnamed}
 use Rattle.ll_said.proofs.PositionLaws.{position, position_cons, position_behind, same_self, same_is}
 use Rattle.ll_said.proofs.ScopeLaws.{Thing, Has, unnamed}

@@ -5,8 +5,9 @@ use Rattle.std.proofs.lemmas.List.{append-nil, length-map}
 use Rattle.kinds.specs.Types.{TypeTree, VoidType, IntType, FunctionType}
 use Rattle.llvm_core.specs.Names.{IsPlainOrNone}
 use Rattle.llvm_core.specs.Data.{Result, Placed, Block, Function, operand_type}
-use Rattle.ll_tree.specs.Text.{Text, label}
-use Rattle.ll_tree.specs.Chain.{◌>>=◌}
+use Rattle.ll_literals.specs.Text.{Text}
+use Rattle.ll_literals.specs.Names.{label}
+use Rattle.ll_literals.specs.Chain.{◌>>=◌}
 use Rattle.ll_bodies.specs.Scopes.{ValueLocal, BlockLocal, Scope, define_written, local_key, label_key, written_name}
 use Rattle.ll_bodies.specs.Meaning.{SaidBlock, all_from, result_type, result_scope, lines_scope, blocks_scope, params_scope, placed, blocks_data}
 use Rattle.ll_said.specs.Naming.{ParamAt, BlockOf, ResultOf, local_text, block_ref}

@@ -8,7 +8,7 @@ use Rattle.llvm_core.specs.Checked.{ends_in_only}
 use Rattle.llvm_core.specs.Form.{is_terminator, is_last}
 use Rattle.ll_lines.specs.Lines.{Text, Line, Part, Does}
 use Rattle.ll_bodies.specs.Meaning.{SaidBlock, ends_inst, ends_block, unlabelled, put_line, put_label, cut, blocks_of}
-use Rattle.ll_tree.specs.Chain.{◌>>=◌}
+use Rattle.ll_literals.specs.Chain.{◌>>=◌}
 use Rattle.ll_said.specs.Said.{inst_of, line_of, lines_of, label_of, entry_label, block_parts, parts_of}
 
 -- ---- blocks that end in a terminator

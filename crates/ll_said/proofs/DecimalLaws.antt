@@ -8,7 +8,8 @@ use Rattle.std.proofs.lemmas.Str.Parse.{IsDigitsTest, FoldsDigits, IsNumeralMode
 use Rattle.std.proofs.lemmas.Fmt.{decimal_nonempty, digits_decimal, digits_value-decimal}
 use Rattle.std.proofs.lemmas.Bool.{and_parts}
 use Rattle.llvm_core.specs.Names.{is_digit}
-use Rattle.ll_tree.specs.Text.{Text, number_of, value_after}
+use Rattle.ll_literals.specs.Text.{Text}
+use Rattle.ll_literals.specs.Numbers.{number_of, value_after}
 
 -- a text of decimal digits that says the number
 pub record IsDecimal (t : Text) (n : ℕ) : Type 0 where

@@ -3,8 +3,9 @@ use Rattle.std.proofs.Common.{◌≡◌, ◌≤◌, List, [], ◌∷◌, ◌++�
 use Rattle.std.specs.Option.{option_map}
 use Rattle.std.proofs.lemmas.Grind.{flat_map-append}
 use Rattle.llvm_core.specs.Data.{Function}
-use Rattle.ll_tree.specs.Text.{Text, number_limit}
-use Rattle.ll_tree.specs.Chain.{◌>>=◌}
+use Rattle.ll_literals.specs.Text.{Text}
+use Rattle.ll_literals.specs.Numbers.{number_limit}
+use Rattle.ll_literals.specs.Chain.{◌>>=◌}
 use Rattle.ll_bodies.specs.Scopes.{Key, Scope, empty_scope, define, define_written}
 use Rattle.ll_said.specs.Naming.{Unnamed, if_unnamed}
 use Rattle.ll_said.specs.Sayable.{IsSayable}

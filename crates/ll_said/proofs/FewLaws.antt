@@ -7,9 +7,10 @@ use Rattle.std.proofs.lemmas.Option.{same_Some}
 use Rattle.kinds.specs.Types.{TypeTree, VoidType, IntType, FunctionType}
 use Rattle.llvm_core.specs.Data.{Result, Parameter, Placed, Block, Function, ModuleData}
 use Rattle.llvm_core.specs.Form.{IsForm, HasDistinctNames}
-use Rattle.ll_tree.specs.Text.{Text, number_limit, number_of, is_bare}
-use Rattle.ll_tree.specs.Tree.{is_digits}
-use Rattle.ll_tree.specs.Chain.{◌>>=◌}
+use Rattle.ll_literals.specs.Text.{Text}
+use Rattle.ll_literals.specs.Numbers.{number_limit, number_of, is_digits}
+use Rattle.ll_literals.specs.Names.{is_bare}
+use Rattle.ll_literals.specs.Chain.{◌>>=◌}
 use Rattle.ll_lines.specs.Lines as L
 use Rattle.ll_lines.specs.Lines.{Line, Param, File}
 use Rattle.ll_bodies.specs.Scopes.{Key, Named, Numbered, key_of, key_name, local_key, label_key, Local, ValueLocal, BlockLocal, Scope, empty_scope, with_key, counted, define, define_written, written_name}

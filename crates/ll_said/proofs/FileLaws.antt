@@ -6,7 +6,7 @@ use Rattle.support.proofs.ListLaws.{all_from}
 use Rattle.llvm_core.specs.Data.{Function, ModuleData}
 use Rattle.llvm_core.specs.Form.{IsFormFunction, IsForm, local_names, HasDistinctNames}
 use Rattle.llvm_core.proofs.DataLemmas.{within_at}
-use Rattle.ll_tree.specs.Text.{Text}
+use Rattle.ll_literals.specs.Text.{Text}
 use Rattle.ll_bodies.specs.Meaning.{count_insts, functions_data, source_name, file_data}
 use Rattle.ll_said.specs.Said.{function_of, source_of, file_of}
 use Rattle.ll_said.specs.Sayable.{HasFewUnnamed, IsSayable, IsBareOrNone, IsSayableModule, IsNumbered, blocks_in, placed_in}

@@ -7,7 +7,7 @@ use Rattle.llvm_core.specs.Names.{IsPlainOrNone}
 use Rattle.llvm_core.specs.Data.{Placed, Block, Function, nth_type, param_type}
 use Rattle.llvm_core.specs.Form.{IsFormPlaced, IsFormBlock, count_types, result_of}
 use Rattle.llvm_core.proofs.DataLemmas.{within_at}
-use Rattle.ll_tree.specs.Text.{Text}
+use Rattle.ll_literals.specs.Text.{Text}
 use Rattle.ll_lines.specs.Lines as L
 use Rattle.ll_lines.specs.Lines.{Param}
 use Rattle.ll_bodies.specs.Scopes.{Scope, empty_scope, global_name, local_key, written_name}

@@ -9,7 +9,7 @@ use Rattle.llvm_core.specs.Names.{IsPlainOrNone}
 use Rattle.llvm_core.specs.Data.{VoidType, Parameter, Result, Placed, Block, Function, operand_type, placed_in, param_type}
 use Rattle.llvm_core.specs.Form.{IsFormPlaced, IsFormBlock, IsFormFunction}
 use Rattle.llvm_core.proofs.DataLemmas.{within_at}
-use Rattle.ll_tree.specs.Text.{Text}
+use Rattle.ll_literals.specs.Text.{Text}
 use Rattle.ll_bodies.specs.Scopes.{Numbered, Local, ValueLocal, BlockLocal, Scope, empty_scope}
 use Rattle.ll_said.specs.Naming.{Unnamed, ParamAt, BlockOf, ResultOf, local_text, result_name, block_ref}
 use Rattle.ll_said.specs.Sayable.{IsSayable}

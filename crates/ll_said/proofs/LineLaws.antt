@@ -8,8 +8,8 @@ use Rattle.llvm_core.specs.Names.{IsPlainOrNone}
 use Rattle.llvm_core.proofs.DataLemmas.{within_at}
 use Rattle.std.proofs.lemmas.Option.{slice_get-map}
 use Rattle.std.specs.Option.{option_map}
-use Rattle.ll_tree.specs.Text.{Text}
-use Rattle.ll_tree.specs.Chain.{◌>>=◌}
+use Rattle.ll_literals.specs.Text.{Text}
+use Rattle.ll_literals.specs.Chain.{◌>>=◌}
 use Rattle.ll_lines.specs.Lines.{Typed}
 use Rattle.ll_bodies.specs.Scopes.{Key, key_name, local_key, written_name, block_of}
 use Rattle.ll_bodies.specs.Meaning.{all_of, operand, entry, instruction, placed, result_type}

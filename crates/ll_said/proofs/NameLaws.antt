@@ -7,8 +7,9 @@ use Rattle.std.proofs.lemmas.List.{take_at}
 use Rattle.llvm_core.proofs.FormNames.{letter_digit}
 use Rattle.llvm_core.specs.Names.{is_digit, is_letter, is_plain_byte, is_plain, IsPlainOrNone}
 use Rattle.llvm_core.specs.Data.{Function}
-use Rattle.ll_tree.specs.Text.{Text, is_name_byte, is_bare, global, label, quoted, number_of, number_limit}
-use Rattle.ll_tree.specs.Tree.{is_digits}
+use Rattle.ll_literals.specs.Text.{Text}
+use Rattle.ll_literals.specs.Names.{is_name_byte, is_bare, global, label, quoted}
+use Rattle.ll_literals.specs.Numbers.{number_of, number_limit, is_digits}
 use Rattle.ll_bodies.specs.Scopes.{Key, Named, Numbered, key_of, local_key, label_key, global_name}
 use Rattle.ll_bodies.specs.Meaning.{string_name}
 use Rattle.ll_said.specs.Naming.{Unnamed, unnamed_number, unnamed_in, local_text}

@@ -8,7 +8,7 @@ use Rattle.llvm_core.specs.Names.{IsPlainOrNone}
 use Rattle.llvm_core.specs.Data.{Operand, Constant, Parameter, Result, Placed, Block, Function, operand_type, placed_in, param_type, const_type}
 use Rattle.llvm_core.specs.Form.{IsOperandOf, IsOperand, IsFormBlock, IsShortInt}
 use Rattle.llvm_core.proofs.DataLemmas.{within_at}
-use Rattle.ll_tree.specs.Text.{Text}
+use Rattle.ll_literals.specs.Text.{Text}
 use Rattle.ll_lines.specs.Lines.{Local}
 use Rattle.ll_bodies.specs.Scopes.{ValueLocal, BlockLocal, block_of}
 use Rattle.ll_bodies.specs.Meaning.{operand, entry}

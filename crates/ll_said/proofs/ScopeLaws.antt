@@ -7,7 +7,8 @@ use Rattle.std.proofs.lemmas.Slice.Eq.{bytes_eq-Decides}
 use Rattle.support.proofs.ListLaws.{distinct_rest}
 use Rattle.support.specs.Interned.{IsDistinctList}
 use Rattle.llvm_core.specs.Checked.{named}
-use Rattle.ll_tree.specs.Text.{Text, number_limit}
+use Rattle.ll_literals.specs.Text.{Text}
+use Rattle.ll_literals.specs.Numbers.{number_limit}
 use Rattle.ll_bodies.specs.Scopes.{Key, Named, Numbered, Local, Scope, empty_scope, with_key, define}
 use Rattle.ll_said.specs.Naming.{Unnamed, same_unnamed, if_unnamed}
 use Rattle.ll_said.proofs.PositionLaws.{position, position_cons, position_here, position_behind, same_self, same_is}

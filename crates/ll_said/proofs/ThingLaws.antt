@@ -6,7 +6,7 @@ use Rattle.std.proofs.lemmas.Grind.{flat_map-append}
 use Rattle.llvm_core.specs.Checked.{named}
 use Rattle.llvm_core.specs.Data.{TypeTree, VoidType, IntType, FunctionType, Placed, Block, Function}
 use Rattle.llvm_core.specs.Form.{names_in, local_names}
-use Rattle.ll_tree.specs.Text.{Text}
+use Rattle.ll_literals.specs.Text.{Text}
 use Rattle.ll_said.specs.Naming.{Unnamed, ParamAt, BlockOf, ResultOf, if_unnamed, unnamed_params, unnamed_result, unnamed_block, unnamed_in}
 use Rattle.ll_said.proofs.ScopeLaws.{Thing, Has, unnamed, names}
 

@@ -9,7 +9,8 @@ use Rattle.support.proofs.ListLaws.{distinct_rest}
 use Rattle.llvm_core.specs.Data.{Placed, Block, Function, ModuleData, placed_in}
 use Rattle.llvm_core.specs.Form.{IsFormFunction, IsForm, local_names, HasDistinctNames, IsFewIn, HasFew}
 use Rattle.llvm_core.proofs.DataLemmas.{within_at}
-use Rattle.ll_tree.specs.Text.{Text, number_limit}
+use Rattle.ll_literals.specs.Text.{Text}
+use Rattle.ll_literals.specs.Numbers.{number_limit}
 use Rattle.ll_lines.specs.Lines as L
 use Rattle.ll_bodies.specs.Meaning.{count_insts, file_data}
 use Rattle.ll_said.specs.Naming.{unnamed_in}

@@ -5,7 +5,7 @@ use Rattle.kinds.specs.declared.op.Op.TheVariants as O
 use Rattle.kinds.specs.declared.op.OverflowFlags.{OverflowFlags}
 use Rattle.kinds.specs.Types.{TypeTree, VoidType, IntType, FunctionType, NoTypes, ThenType}
 use Rattle.llvm_core.specs.Data as D
-use Rattle.ll_tree.specs.Text.{Text}
+use Rattle.ll_literals.specs.Text.{Text}
 use Rattle.ll_lines.specs.Lines as L
 
 -- ---- data

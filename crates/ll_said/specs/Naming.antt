@@ -3,7 +3,7 @@ use Rattle.std.specs.Prelude.{ℕ, suc, Bool, false, List, [], ◌∷◌, ◌++�
 use Rattle.std.specs.List.{flat_map, find, position_or_len}
 use Rattle.std.specs.Option.{option_map_or}
 use Rattle.llvm_core.specs.Data.{TypeTree, VoidType, Placed, Block, Function, placed_in}
-use Rattle.ll_tree.specs.Text.{Text}
+use Rattle.ll_literals.specs.Text.{Text}
 
 -- ---- what has no name
 

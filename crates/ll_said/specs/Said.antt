@@ -3,7 +3,7 @@ use Rattle.std.specs.Prelude.{ℕ, suc, List, [], ◌∷◌, ◌++◌, Option, S
 use Rattle.std.specs.List.{flat_map}
 use Rattle.llvm_core.specs.Data.{TypeTree, VoidType, Operand, Constant, Parameter, Result, RowData, Instruction, Phi, Applied, Placed, Block, Function, ModuleData, operand_type, param_type}
 use Rattle.llvm_core.specs.Form.{result_of}
-use Rattle.ll_tree.specs.Text.{global, label, quoted}
+use Rattle.ll_literals.specs.Names.{global, label, quoted}
 use Rattle.ll_lines.specs.Lines as L
 use Rattle.ll_lines.specs.Lines.{Text, Said, Typed, RowLine, Incoming, Inst, Line, Part, Param, File}
 use Rattle.ll_said.specs.Naming.{ParamAt, ResultOf, local_text, result_name, block_ref}

@@ -5,7 +5,9 @@ use Rattle.support.specs.Interned.{IsDistinctList}
 use Rattle.llvm_core.specs.Data.{Placed, Block, Function, ModuleData}
 use Rattle.llvm_core.specs.Data as L
 use Rattle.llvm_core.specs.Form.{IsFormFunction, local_names}
-use Rattle.ll_tree.specs.Text.{Text, is_bare, number_limit}
+use Rattle.ll_literals.specs.Text.{Text}
+use Rattle.ll_literals.specs.Names.{is_bare}
+use Rattle.ll_literals.specs.Numbers.{number_limit}
 use Rattle.ll_said.specs.Naming.{unnamed_in}
 
 -- the numbers of unnamed things lie below the limit

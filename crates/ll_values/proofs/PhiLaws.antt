@@ -4,7 +4,7 @@ use Rattle.std.proofs.lemmas.List.{append-nil, map-append}
 use Rattle.llvm_core.specs.declared.numbers.LLVMType.{LLVMType}
 use Rattle.llvm_core.specs.Module.{Module}
 use Rattle.llvm_core.specs.Data.{trees_of, type_at}
-use Rattle.ll_tree.specs.Chain.{◌>>=◌}
+use Rattle.ll_literals.specs.Chain.{◌>>=◌}
 use Rattle.ll_lines.specs.declared.lines.Said as code_said
 use Rattle.ll_lines.specs.declared.lines.Incoming as code
 use Rattle.ll_lines.specs.Lines.{Incoming}

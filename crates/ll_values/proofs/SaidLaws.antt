@@ -12,7 +12,7 @@ use Rattle.llvm_core.specs.Module.{Module}
 use Rattle.llvm_core.specs.Sound.{IsModule}
 use Rattle.llvm_core.specs.Data.{IntConst, trees_of, type_at, const_at}
 use Rattle.llvm_core.proofs.DataLemmas.{type_tree_of, int_tree_of, int_const_of}
-use Rattle.ll_tree.specs.Text.{const_value}
+use Rattle.ll_literals.specs.Literals.{const_value}
 use Rattle.ll_lines.specs.Lines.{Text, Const}
 use Rattle.ll_values.specs.Values.{said, ConstL}
 

@@ -5,7 +5,7 @@ use Rattle.grammars.specs.declared.symbols.Event.{Event}
 use Rattle.grammars.specs.declared.symbols.Event.TheVariants.{Took, Held}
 use Rattle.grammars.specs.declared.symbols.Token as symbols
 use Rattle.ll_tokens.specs.declared.tokens.Token.{Token}
-use Rattle.ll_tree.specs.Chain.{◌>>=◌}
+use Rattle.ll_literals.specs.Chain.{◌>>=◌}
 use Rattle.ll_lines.specs.Views.{text_of}
 use Rattle.ll_values.specs.declared.form.Kind.{Kind}
 use Rattle.ll_values.specs.declared.form.Kind.TheVariants.{Outside}

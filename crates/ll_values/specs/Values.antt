@@ -6,8 +6,9 @@ use Rattle.kinds.specs.declared.op.Op.{Op}
 use Rattle.kinds.specs.declared.op.Op.TheVariants as O
 use Rattle.kinds.specs.Types.{TypeTree, VoidType, IntType}
 use Rattle.llvm_core.specs.Data.{IntConst}
-use Rattle.ll_tree.specs.Chain.{◌>>=◌}
-use Rattle.ll_tree.specs.Text.{width_of, const_value}
+use Rattle.ll_literals.specs.Chain.{◌>>=◌}
+use Rattle.ll_literals.specs.Numbers.{width_of}
+use Rattle.ll_literals.specs.Literals.{const_value}
 use Rattle.ll_lines.specs.Lines.{Text, Said, Local, Const, Typed, Incoming, Inst, Phi, Row, Part, Label, Does, Param, Function, File}
 use Rattle.ll_values.specs.declared.form.Kind.{Kind}
 use Rattle.ll_values.specs.declared.form.Kind.TheVariants as K

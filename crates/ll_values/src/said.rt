@@ -14,7 +14,7 @@ ghost use Rattle.ll_values.specs.Growing.{Interns};
 use crate::value::Literal;
 use crate::value_err::ValueErr;
 use ll_lines::lines::Said;
-use ll_tree::literals::const_value;
+use ll_literals::literals::const_value;
 use llvm_core::consts::LLVMConstKind;
 use llvm_core::module::LLVMModule;
 use llvm_core::numbers::LLVMType;

@@ -7,7 +7,7 @@ ghost use Rattle.ll_values.specs.Words.{binary_op, cast_op, three_op, predicate_
 ghost use Rattle.ll_values.specs.Values.{int_type};
 
 use kinds::op::{LLVMIntPredicate, Op, OverflowFlags};
-use ll_tree::literals::number;
+use ll_literals::numbers::number;
 
 /// The row of a word of an operation on two values of one type.
 pub fn binary_op(word: &[u8], flags: OverflowFlags) -> Option<Op>

@@ -6,7 +6,7 @@ use Rattle.kinds.specs.Types.{TypeTree}
 use Rattle.ll_lines.specs.Lines as L
 use Rattle.ll_lines.specs.Lines.{Text, Incoming, Inst, Line, Part}
 use Rattle.ll_spacing.specs.Spacing.{Spaced}
-use Rattle.ll_tree.specs.Chain.{◌>>=◌}
+use Rattle.ll_literals.specs.Chain.{◌>>=◌}
 use Rattle.ll_values.specs.Values.{EntryV, EntriesV, InstV, PartV, BodyV, Entry, incoming}
 use Rattle.ll_written.specs.Rules as N
 use Rattle.ll_written.specs.Written.{indent, written_entry, next_entry, written_row, written_inst, written_behind, written_line, written_part, next_part, written_body}

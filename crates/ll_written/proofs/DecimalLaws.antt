@@ -6,7 +6,9 @@ use Rattle.std.proofs.lemmas.Bool.Decides.{nat_tests}
 use Rattle.std.proofs.lemmas.Nat.{pow_pos}
 use Rattle.std.proofs.Math.Nat.{pow-le-pow_right}
 use Rattle.llvm_core.specs.Names.{is_digit}
-use Rattle.ll_tree.specs.Text.{Text, number_of, if_number, at_width, const_value, width_of}
+use Rattle.ll_literals.specs.Text.{Text}
+use Rattle.ll_literals.specs.Numbers.{number_of, width_of}
+use Rattle.ll_literals.specs.Literals.{if_number, at_width, const_value}
 use Rattle.ll_written.specs.Printing.{signed_text, int_text}
 use Rattle.ll_said.proofs.DecimalLaws.{IsDecimal, IsDecimal-decimal}
 

@@ -20,7 +20,7 @@ use Rattle.ll_spacing.proofs.WholeLaws.{all_weaker}
 use Rattle.ll_tokens.specs.Bytes.{in_string}
 use Rattle.ll_tokens.specs.declared.kinds.Kind.TheVariants as K
 use Rattle.llvm_core.specs.Names.{is_digit}
-use Rattle.ll_tree.specs.Text.{is_name_byte, quoted}
+use Rattle.ll_literals.specs.Names.{is_name_byte, quoted}
 use Rattle.ll_written.specs.Writable.{IsIntType, IsResult, IsPart, IsParam, IsFunction, IsWritable}
 use Rattle.ll_written.proofs.NameForms.{global_form, local_form, label_form}
 use Rattle.ll_written.proofs.LineForms.{short_int, short_result, line_form}

@@ -13,7 +13,7 @@ use Rattle.ll_said.specs.Said.{line_of, lines_of, label_of, entry_label, block_p
 use Rattle.ll_said.specs.Sayable.{IsSayable, IsSayableModule}
 use Rattle.ll_spacing.specs.Spacing.{Spaced, text_of}
 use Rattle.ll_tokens.specs.declared.kinds.Kind.TheVariants as T
-use Rattle.ll_tree.specs.Text.{global, quoted}
+use Rattle.ll_literals.specs.Names.{global, quoted}
 use Rattle.ll_written.specs.Printing as P
 use Rattle.ll_written.specs.Written.{token, close, apart, next_part, written_body, next_param, written_params, written_function, next_function, written_source, written_file, written, end_of}
 use Rattle.ll_written.proofs.RowTexts.{joined, text_both}
@@ -124,9 +124,6 @@ module _ (f : Function) where
     where
       regroup : (x y z : Text) → x ++ (y ++ (codes ") {" ++ z)) ++ codes "\n" ≡ x ++ (y ++ (codes ") {" ++ (z ++ codes "\n")))
       regroup x y z = simp append_assoc
-
-  function_text_is : P.function_text f ≡ codes "\n" ++ define_text
-  function_text_is = refl
 
   -- ---- what the form asks is enough
 

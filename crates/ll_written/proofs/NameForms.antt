@@ -17,7 +17,7 @@ use Rattle.ll_spacing.specs.Forms.{IsText, IsName, AreDigits, AreNameBytes}
 use Rattle.ll_spacing.proofs.WholeLaws.{all_weaker}
 use Rattle.ll_tokens.specs.Bytes.{is_digit, is_name_byte}
 use Rattle.ll_tokens.specs.declared.kinds.Kind.TheVariants as K
-use Rattle.ll_tree.specs.Text.{global, label}
+use Rattle.ll_literals.specs.Names.{global, label}
 use Rattle.ll_written.specs.Writable.{IsLocal}
 use Rattle.ll_said.proofs.DecimalLaws.{IsDecimal-decimal}
 

@@ -10,7 +10,7 @@ use Rattle.ll_rules.specs.Llvm.{llvm}
 use Rattle.ll_spacing.specs.Spacing.{Spaced, AreBlanks, text_of, placed}
 use Rattle.ll_spacing.proofs.CutLaws.{cut_behind, bytes_there, split_text}
 use Rattle.ll_tokens.specs.declared.tokens.Token.{Token}
-use Rattle.ll_tree.specs.Chain.{◌>>=◌}
+use Rattle.ll_literals.specs.Chain.{◌>>=◌}
 use Rattle.ll_values.specs.declared.form.TheConstants.{KINDS}
 use Rattle.ll_values.specs.declared.form.Kind.{Kind}
 use Rattle.ll_values.specs.Folding.{fold}

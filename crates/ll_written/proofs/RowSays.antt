@@ -10,7 +10,7 @@ use Rattle.kinds.specs.Types.{TypeTree}
 use Rattle.ll_lines.specs.Lines as L
 use Rattle.ll_lines.specs.Lines.{Text, Typed, RowLine, Inst}
 use Rattle.ll_tokens.specs.declared.kinds.Kind.TheVariants as T
-use Rattle.ll_tree.specs.Chain.{◌>>=◌}
+use Rattle.ll_literals.specs.Chain.{◌>>=◌}
 use Rattle.ll_values.specs.Values.{Value, TextV, FlagV, WrapsV, InstV, row}
 use Rattle.ll_values.specs.Words.{binary_op, predicate_of, no_wraps}
 use Rattle.ll_written.specs.Printing.{predicate_text}

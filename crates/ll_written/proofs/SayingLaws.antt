@@ -7,7 +7,7 @@ use Rattle.grammars.specs.declared.symbols.Event.TheVariants.{Took, Held}
 use Rattle.grammars.specs.declared.symbols.Token as symbols
 use Rattle.grammars.specs.Grammar.{Grammar, Writes, at_end, at_word, at_leaf, at_rule}
 use Rattle.ll_tokens.specs.declared.tokens.Token.{Token}
-use Rattle.ll_tree.specs.Chain.{◌>>=◌}
+use Rattle.ll_literals.specs.Chain.{◌>>=◌}
 use Rattle.ll_values.specs.declared.form.Kind.{Kind}
 use Rattle.ll_values.specs.Parts.{part_count}
 use Rattle.ll_values.specs.Values.{Value, TextV, value_by}

@@ -13,7 +13,7 @@ use Rattle.ll_classes.specs.declared.numbers.TheConstants.{INTTYPE, WORD}
 use Rattle.ll_classes.specs.Words.{Row, class_among}
 use Rattle.kinds.specs.Types.{IntType}
 use Rattle.ll_tokens.specs.declared.kinds.Kind.TheVariants.{Word}
-use Rattle.ll_tree.specs.Text.{Text}
+use Rattle.ll_literals.specs.Text.{Text}
 use Rattle.ll_values.specs.Values.{int_type}
 use Rattle.ll_said.proofs.DecimalLaws.{IsDecimal, IsDecimal-decimal}
 use Rattle.ll_written.proofs.DecimalLaws.{width_of-decimal}

@@ -9,7 +9,7 @@ use Rattle.ll_lines.specs.Lines as L
 use Rattle.ll_lines.specs.Lines.{Text, Said, Typed}
 use Rattle.ll_tokens.specs.declared.kinds.Kind.{Kind}
 use Rattle.ll_tokens.specs.declared.kinds.Kind.TheVariants as T
-use Rattle.ll_tree.specs.Chain.{◌>>=◌}
+use Rattle.ll_literals.specs.Chain.{◌>>=◌}
 use Rattle.ll_values.specs.Values.{TypeV, LiteralV, TypedV, PairV, Literal, LocalL, ConstL, said, typed}
 use Rattle.ll_written.specs.Printing.{type_text, const_text, int_text}
 use Rattle.ll_written.specs.Rules as N

@@ -8,7 +8,8 @@ use Rattle.kinds.specs.declared.op.Op.{Op}
 use Rattle.kinds.specs.declared.op.Op.TheVariants as O
 use Rattle.llvm_core.specs.Data.{TypeTree, VoidType, IntType, FunctionType, ConstTree, IntConst, PlaceholderConst, Operand, Constant, Parameter, Result, Instruction, Phi, RowData, Applied, Placed, Block, Function, ModuleData, operand_type, param_type}
 use Rattle.llvm_core.specs.Form.{result_of}
-use Rattle.ll_tree.specs.Text.{Text, global, quoted}
+use Rattle.ll_literals.specs.Text.{Text}
+use Rattle.ll_literals.specs.Names.{global, quoted}
 use Rattle.ll_said.specs.Naming.{ParamAt, ResultOf, local_text, result_name, block_ref}
 
 -- ---- types and constants

@@ -1,7 +1,7 @@
 -- The parameters are counted, and then the blocks.
 use Rattle.std.proofs.Common.{ℕ, ◌≤◌, ◌∙◌, subst}
 use Rattle.llvm_core.specs.declared.numbers.LLVMFunction.{LLVMFunction}
-use Rattle.ll_tree.specs.Text.{number_limit}
+use Rattle.ll_literals.specs.Numbers.{number_limit}
 use Rattle.ll_print.specs.Printing.{unnamed_params}
 use Rattle.ll_print.specs.Numbering.{Counts}
 use Rattle.ll_print.specs.Parts.{function_in}

@@ -2,7 +2,7 @@
 use Rattle.std.proofs.Common.{◌≡◌, None, Some, ap, sym, ◌∙◌}
 use Rattle.std.proofs.lemmas.Option.{slice_get_within}
 use Rattle.llvm_core.specs.Module.{Module}
-use Rattle.ll_tree.specs.Text.{const_value}
+use Rattle.ll_literals.specs.Literals.{const_value}
 use Rattle.ll_lines.specs.Views.{text_of}
 use Rattle.ll_values.proofs.GrowLaws.{const_interned}
 use Rattle.ll_values.proofs.SaidLaws.{said_const, said_no_const}

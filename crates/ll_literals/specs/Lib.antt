@@ -1,0 +1,6 @@
+-- The definitions that clauses cite.
+pub mod Chain
+pub mod Literals
+pub mod Names
+pub mod Numbers
+pub mod Text

@@ -1,0 +1,6 @@
+//! Names, numbers and integer literals, as LLVM text writes them.
+#![tactic(auto)]
+
+pub mod literals;
+pub mod names;
+pub mod numbers;

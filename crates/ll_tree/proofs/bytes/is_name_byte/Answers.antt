@@ -1,7 +1,0 @@
--- The table says it.
-use Rattle.std.proofs.Common.{ℕ, not, nat_eq, ap, ◌∙◌}
-use Rattle.ll_tree.proofs.ByteLaws.{name_kinds}
-use Rattle.ll_tree.proofs.bytes.is_name_byte.Goals as goal
-
-pub returns : goal.returns
-returns c = ap (λ (k : ℕ). not (nat_eq k 46)) c.kind_at.ensures ∙ name_kinds c.args.b c.ranges.b.fits
