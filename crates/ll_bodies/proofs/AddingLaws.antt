@@ -1,9 +1,7 @@
 -- A module that a function is added to.
-use Rattle.std.proofs.Common.{◌≡◌, ◌<◌, ◌≤◌, ◌+◌, ℕ, suc, List, [], ◌∷◌, ◌++◌, Some, All, map, drop, length, length-append, slice_get, slice_set, refl, ap, sym, ◌∙◌, subst, arith}
+use Rattle.std.proofs.Common.{◌≡◌, ◌<◌, ◌+◌, ℕ, suc, List, [], ◌∷◌, ◌++◌, Some, All, map, drop, length, length-append, slice_get, slice_set, refl, ap, sym, ◌∙◌, subst, arith}
 use Rattle.std.specs.Option.{option_map, option_map_or}
-use Rattle.std.proofs.lemmas.List.{append_assoc, drop_all}
-use Rattle.support.specs.Interned.{Interned}
-use Rattle.support.proofs.InternedLaws.{interned_more}
+use Rattle.std.proofs.lemmas.List.{append_assoc}
 use Rattle.support.proofs.ListLaws.{slice_get-kept, length-slice_set}
 use Rattle.llvm_core.specs.declared.numbers.LLVMType.{LLVMType}
 use Rattle.llvm_core.specs.declared.numbers.LLVMFunction.{LLVMFunction}
@@ -47,24 +45,10 @@ use Rattle.ll_lines.specs.Views.{text_of}
 use Rattle.ll_bodies.specs.Scopes.{local_key, written_name}
 use Rattle.ll_bodies.proofs.BlockLaws.{drop_at}
 
-pub adds_one : (old new : Module) (k : LLVMTypeKind) (n : ℕ) → Interned old.types new.types k n → new ≡ record old { types = new.types } → data_of new ≡ data_of old → AddsTypes old new
-adds_one old new k n h rest is = let g = interned_more old.types new.types k n h in record { more = g.0; types = g.1; rest = rest; same = is }
-
-pub adds_twice : (a b c : Module) → AddsTypes a b → AddsTypes b c → AddsTypes a c
-adds_twice a b c g h = record {
-  more = g.more ++ h.more;
-  types = h.types ∙ ap (λ ts. ts ++ h.more) g.types ∙ append_assoc a.types g.more h.more;
-  rest = h.rest ∙ ap (λ (m : Module). record m { types = c.types }) g.rest;
-  same = h.same ∙ g.same;
-}
-
 pub adds_kept : (a b : Module) → AddsTypes a b → (i : ℕ) (k : LLVMTypeKind) → slice_get a.types i ≡ Some k → slice_get b.types i ≡ Some k
 adds_kept a b g i k h = ap (λ ts. slice_get ts i) g.types ∙ slice_get-kept a.types g.more i k h
 
 -- ---- names of parameters
-
-pub renames_none : (f : LLVMFunction) (m : Module) → Renames f m m
-renames_none f m = record { rest = refl; function = λ x e. (x, e, refl, refl) }
 
 pub renames_one : (f : LLVMFunction) (a b c : Module) (place : ℕ) (name : List ℕ) → Renames f a b → c ≡ with_code b (with_param_name (code_of b) f place name) → Renames f a c
 renames_one f a b c place name r e = record {
@@ -82,9 +66,6 @@ names_at bytes d f ps at p h =
     let e : suc at ≡ at + 1 = omega arith in
     ap (λ (qs : List code_param.Param). with_params d f at (names_in bytes qs)) (drop_at ps at p h)
     ∙ ap (λ (k : ℕ). with_params (with_param d f at (written_name local_key (option_map (text_of bytes) p.name))) f (at + 1) (names_in bytes (drop k ps))) e
-
-pub names_all : (bytes : List ℕ) (d : ModuleData) (f : ℕ) (ps : List code_param.Param) (at : ℕ) → length ps ≤ at → with_params d f at (names_in bytes (drop at ps)) ≡ d
-names_all bytes d f ps at past = ap (λ (qs : List code_param.Param). with_params d f at (names_in bytes qs)) (drop_all at ps past)
 
 -- ---- the type of the function
 

@@ -4,15 +4,11 @@ use Rattle.std.proofs.Common as R
 use Rattle.std.specs.Result.{IsErrAnd}
 use Rattle.std.proofs.lemmas.Result.{err_from_is_err_and}
 use Rattle.ll_bodies.specs.declared.build_err.BuildErr.{BuildErr}
-use Rattle.ll_bodies.specs.declared.build_err.BuildErr.TheVariants.{NotYet, NoMemory}
+use Rattle.ll_bodies.specs.declared.build_err.BuildErr.TheVariants.{NotYet}
 
 -- the error that a `?` passes on
 pub passed_on : {T U : Type 0} (r : R.Result T BuildErr) (e : BuildErr) → IsErrAnd r (λ x. x ≡ e) → r ≡ R.Err NotYet → ◌≡◌ {A = R.Result U BuildErr} (R.Err e) (R.Err NotYet)
 passed_on r e h is = let p = err_from_is_err_and r h in let i : e ≡ NotYet = cc (p.1, p.2) in ap (λ x. R.Err x) i
-
--- the error that a `?` makes of one of memory
-pub no_memory : {T : Type 0} (r : R.Result T BuildErr) → IsErrAnd r (λ x. x ≡ NoMemory) → r ≡ R.Err NotYet → ⊥
-no_memory r h is = let p = err_from_is_err_and r h in absurd (cc (p.1, p.2, is))
 
 -- what holds anyway holds where a call succeeded
 pub on_ok_any : {T E Q : Type 0} (r : R.Result T E) → Q → R.OnOk r Q

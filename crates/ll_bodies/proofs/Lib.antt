@@ -14,7 +14,6 @@ pub mod TypeLaws
 pub mod ValueLaws
 pub mod RightLaws
 pub mod AddingLaws
-pub mod StayLaws
 pub mod ViewLaws
 pub mod JoinLaws
 pub mod FoldLaws

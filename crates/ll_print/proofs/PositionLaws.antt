@@ -43,19 +43,3 @@ position_behind x (y ∷ xs) ys h = by (position_behind x xs ys) (same_unnamed x
         let c = position_cons x y xs e in
         let o = further (omega (arith, c)) in
         omega (arith, position_cons x y (xs ++ ys) e, o)
-
-pub same_self : (x : Unnamed) → same_unnamed x x ≡ true
-same_self (ParamAt i) = eq-eqb i i refl
-same_self (BlockOf i) = eq-eqb i i refl
-same_self (ResultOf i) = eq-eqb i i refl
-
-pub same_is : (x y : Unnamed) → same_unnamed x y ≡ true → x ≡ y
-same_is (ParamAt i) (ParamAt j) h = ap ParamAt (eqb-true i j h)
-same_is (BlockOf i) (BlockOf j) h = ap BlockOf (eqb-true i j h)
-same_is (ResultOf i) (ResultOf j) h = ap ResultOf (eqb-true i j h)
-same_is (ParamAt i) (BlockOf j) h = absurd cc
-same_is (ParamAt i) (ResultOf j) h = absurd cc
-same_is (BlockOf i) (ParamAt j) h = absurd cc
-same_is (BlockOf i) (ResultOf j) h = absurd cc
-same_is (ResultOf i) (ParamAt j) h = absurd cc
-same_is (ResultOf i) (BlockOf j) h = absurd cc

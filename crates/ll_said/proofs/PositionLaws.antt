@@ -1,5 +1,5 @@
 -- Where a thing stands in a list of unnamed things.
-use Rattle.std.proofs.Common.{◌≡◌, ℕ, suc, ◌+◌, ◌<◌, ◌≤◌, Bool, true, false, List, [], ◌∷◌, ◌++◌, length, refl, ap, sym, ◌∙◌, eq-eqb, eqb-true, arith}
+use Rattle.std.proofs.Common.{◌≡◌, ℕ, suc, ◌+◌, ◌≤◌, Bool, true, false, List, [], ◌∷◌, ◌++◌, length, refl, ap, eq-eqb, eqb-true, arith}
 use Rattle.std.specs.List.{position_or_len}
 use Rattle.ll_said.specs.Naming.{Unnamed, ParamAt, BlockOf, ResultOf, same_unnamed}
 
@@ -19,18 +19,6 @@ position_le x (y ∷ xs) = by (position_le x xs) (same_unnamed x y) refl
     by : position x xs ≤ length xs → (b : Bool) → same_unnamed x y ≡ b → position x (y ∷ xs) ≤ length (y ∷ xs)
     by o true e = omega (arith, position_here x y xs e)
     by o false e = omega (arith, position_cons x y xs e, o)
-
--- what stands in a front stands there in the whole
-pub position_front : (x : Unnamed) (xs ys : List Unnamed) → position x xs < length xs → position x (xs ++ ys) ≡ position x xs
-position_front x [] ys h = absurd (omega arith)
-position_front x (y ∷ xs) ys h = by (position_front x xs ys) (same_unnamed x y) refl
-  where
-    by : (position x xs < length xs → position x (xs ++ ys) ≡ position x xs) → (b : Bool) → same_unnamed x y ≡ b → position x (y ∷ (xs ++ ys)) ≡ position x (y ∷ xs)
-    by further true e = position_here x y (xs ++ ys) e ∙ sym (position_here x y xs e)
-    by further false e =
-        let c = position_cons x y xs e in
-        let o = further (omega (arith, c)) in
-        omega (arith, c, position_cons x y (xs ++ ys) e, o)
 
 -- and what does not, stands behind it
 pub position_behind : (x : Unnamed) (xs ys : List Unnamed) → position x xs ≡ length xs → position x (xs ++ ys) ≡ length xs + position x ys

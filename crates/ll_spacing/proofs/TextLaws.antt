@@ -19,10 +19,6 @@ use Rattle.ll_spacing.proofs.SignLaws.{sign_whole}
 as_long : (k : Kind) (m n : ℕ) → m ≡ n → token k m ≡ token k n
 as_long k m n e = ap (λ (l : ℕ). token k l) e
 
--- a string has two bytes more than what stands between its quotes
-string_len : (bs r : List ℕ) → length (bs ++ r) ≡ length bs + length r
-string_len bs r = length-append bs r
-
 name_whole : (k : Kind) (bs : List ℕ) → IsName bs → name_at k bs ≡ token k (suc (length bs))
 name_whole k bs (IsName.bare b ns d e) = bare_name k b ns d e ∙ as_long k _ _ (omega arith)
 name_whole k bs (IsName.digits b ds e) = digits_name k b ds e ∙ as_long k _ _ (omega arith)
