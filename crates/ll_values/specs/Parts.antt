@@ -13,6 +13,7 @@ use Rattle.ll_values.specs.declared.form.TypedKind.TheVariants as T
 
 abbrev pub detail_count : DetailKind → ℕ
 detail_count D.Source = 1
+detail_count D.External = 1
 detail_count D.Param = 3
 detail_count D.Label = 1
 detail_count D.Line = 3

@@ -119,6 +119,7 @@ detail_by D.Label (TextV t ∷ []) = Some (PartV (Label t))
 detail_by D.Param (TypeV τ ∷ NoneV ∷ NoneV ∷ []) = Some (ParamV (record { type = τ; name = None }))
 detail_by D.Param (TypeV τ ∷ NoneV ∷ TextV t ∷ []) = Some (ParamV (record { type = τ; name = Some t }))
 detail_by D.Source (TextV t ∷ []) = Some (SourceV t)
+detail_by D.External (TextV t ∷ []) = Some NoneV
 detail_by _ _ = None
 
 -- lists, and what holds them; the name of the module stands first, where it stands

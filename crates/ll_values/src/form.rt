@@ -7,6 +7,7 @@ ghost use Rattle.ll_values.specs.Parts.{detail_count, list_count, row_count, typ
 #[derive(Clone, Copy, Drop)]
 pub enum DetailKind {
     Source,
+    External,
     Param,
     Label,
     Line,
@@ -86,6 +87,7 @@ impl DetailKind {
     {
         match self {
             DetailKind::Source => 1,
+            DetailKind::External => 1,
             DetailKind::Param => 3,
             DetailKind::Label => 1,
             DetailKind::Line => 3,
@@ -210,7 +212,8 @@ pub static KINDS: [Kind; 515] = [
     Kind::Outside,
     Kind::Outside,
     Kind::Outside,
-    Kind::Outside,
+    // 25: define_linkage = @'external'
+    Kind::Detail(DetailKind::External),
     // 26: define_linkage = nothing
     Kind::Nothing,
     Kind::Outside,

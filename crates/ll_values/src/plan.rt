@@ -40,6 +40,7 @@ pub fn plan_detail(m: &LLVMModule, store: &Store, bytes: &[u8], kind: DetailKind
             _ => return None,
         },
         DetailKind::Source => match *parts { [Value::Text(n)] => Value::Source(n), _ => return None },
+        DetailKind::External => match *parts { [Value::Text(_)] => Value::Nothing, _ => return None },
     };
     Some(Made::Value(value))
 }

@@ -39,6 +39,11 @@ pub item_define : {v v1 v2 v3 v4 v6 : Value} {x1 x2 x3 x4 x6 : List Spaced} (b0 
 item_define {v1} {v2} {v3} {v4} {v6} b0 b5 b7 h1 h2 h3 h4 h6 made_by =
     made llvm KINDS 1 8 (K.List L.Define) {cs = v1 ∷ v2 ∷ v3 ∷ v4 ∷ v6 ∷ []} refl refl refl made_by (word llvm KINDS (token b0 Word (codes "define")) C.word_define (rule llvm KINDS h1 (rule llvm KINDS h2 (rule llvm KINDS h3 (rule llvm KINDS h4 (word llvm KINDS (token b5 OpenBrace (codes "{")) C.sign_openbrace (rule llvm KINDS h6 (word llvm KINDS (token b7 CloseBrace (codes "}")) C.sign_closebrace (nothing llvm KINDS)))))))))
 
+-- define_linkage = @'external'
+pub define_linkage_external : {v : Value} (b0 : Text) → value_by (K.Detail D.External) (TextV (codes "external") ∷ []) ≡ Some v → Reads N.define_linkage v (token b0 Word (codes "external") ∷ [])
+define_linkage_external b0 made_by =
+    made llvm KINDS 8 25 (K.Detail D.External) {cs = TextV (codes "external") ∷ []} refl refl refl made_by (leaf llvm KINDS (token b0 Word (codes "external")) C.word_external (nothing llvm KINDS))
+
 -- define_linkage = nothing
 pub define_linkage_none : Reads N.define_linkage NoneV []
 define_linkage_none = made llvm KINDS 8 26 K.Nothing {cs = []} refl refl refl refl (nothing llvm KINDS)

@@ -73,6 +73,9 @@ word_br = word_class (codes "br") 73 refl
 pub word_define : llvm_class Word (codes "define") ≡ 78
 word_define = word_class (codes "define") 78 refl
 
+pub word_external : llvm_class Word (codes "external") ≡ 85
+word_external = word_class (codes "external") 85 refl
+
 pub word_freeze : llvm_class Word (codes "freeze") ≡ 89
 word_freeze = word_class (codes "freeze") 89 refl
 
