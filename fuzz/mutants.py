@@ -1,14 +1,16 @@
 #!/usr/bin/env python3
 """Mutates the examples byte by byte and token by token, and runs `round_ll round` over each mutant.
 
-    fuzz/mutants.py [SEED [COUNT]]
+    fuzz/mutants.py [SEED [COUNT [FOLDER]]]
 
+In place of the examples it takes the texts of a folder, such as a compiler printed, where one is named.
 Fails on any status other than 0, 6 and 7, on a run that takes longer than ten seconds, and on any
 output beside status 6 and 7. Where an LLVM of version 19 or later is installed, its `llvm-as` has to take each
 text that ends with status 0, and the module back that is printed of it, unless all that it says is that a
 definition does not dominate a use, which is not looked at here; earlier ones refuse numbers that leave some out.
 """
 import collections
+import pathlib
 import random
 import re
 import sys
@@ -79,7 +81,8 @@ def main():
     seed, count = runs.arguments(20000)
     program = runs.built()
     assembler = runs.tool_of_19("llvm-as")
-    examples = [path.read_bytes() for path in sorted((runs.ROOT / "examples").glob("*.ll"))]
+    folder = pathlib.Path(sys.argv[3]) if len(sys.argv) > 3 else runs.ROOT / "examples"
+    examples = [path.read_bytes() for path in sorted(folder.glob("*.ll"))]
     rng, counts, faults = random.Random(seed), collections.Counter(), 0
     for _ in range(count):
         text = rng.choice(examples)
