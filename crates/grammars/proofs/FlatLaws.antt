@@ -18,6 +18,36 @@ use Rattle.grammars.proofs.GrammarLaws.{or_left, or_right, either}
 pub found_at : {X : Type 0} (xs : List X) (i : ℕ) (x : X) → i < length xs → x ≡ slice_index_or xs i x → slice_get xs i ≡ Some x
 found_at xs i x h e = slice_get_read xs (length xs) i x refl h e
 
+-- ---- what stands in a part
+
+drop_at : {X : Type 0} (xs : List X) (n j : ℕ) → slice_get (drop n xs) j ≡ slice_get xs (n + j)
+drop_at xs zero j = rw add_zero refl
+  where
+    add_zero : 0 + j ≡ j
+    add_zero = omega arith
+drop_at [] (suc n) j = refl
+drop_at (x ∷ xs) (suc n) j = let e : suc n + j ≡ suc (n + j) = omega arith in rw e (drop_at xs n j)
+
+take_at : {X : Type 0} (xs : List X) (n j : ℕ) → j < n → slice_get (take n xs) j ≡ slice_get xs j
+take_at xs zero j h = absurd (omega (arith, h))
+take_at [] (suc n) j h = refl
+take_at (x ∷ xs) (suc n) zero h = refl
+take_at (x ∷ xs) (suc n) (suc j) h = take_at xs n j (omega (arith, h))
+
+take_past : {X : Type 0} (xs : List X) (n j : ℕ) → n ≤ j → slice_get (take n xs) j ≡ None
+take_past xs zero j h = refl
+take_past [] (suc n) j h = refl
+take_past (x ∷ xs) (suc n) zero h = absurd (omega (arith, h))
+take_past (x ∷ xs) (suc n) (suc j) h = take_past xs n j (omega (arith, h))
+
+part_at : {X : Type 0} (xs : List X) (start end i : ℕ) → start < i → i ≤ end → slice_get (part xs start end) (i - start - 1) ≡ slice_get xs (i - 1)
+part_at xs start end i h k =
+    let e : start + (i - start - 1) ≡ i - 1 = omega (arith, h) in
+    take_at (drop start xs) (end - start) (i - start - 1) (omega (arith, h, k)) ∙ drop_at xs start (i - start - 1) ∙ ap (λ n. slice_get xs n) e
+
+part_past : {X : Type 0} (xs : List X) (start end i : ℕ) → start < i → end < i → slice_get (part xs start end) (i - start - 1) ≡ None
+part_past xs start end i h k = take_past (drop start xs) (end - start) (i - start - 1) (omega (arith, h, k))
+
 -- ---- the symbols of an alternative
 
 -- the numbers go up one by one
@@ -64,11 +94,14 @@ module _ (symbols : List Symbol) (alternatives : List Alternative) (rows : List 
   placed : row.start < i → numbered i (numbered_from symbols firsts (suc row.start) (part alternatives row.start row.end)) ≡ (slice_get (part alternatives row.start row.end) (i - row.start - 1) >>= λ a. Some (symbols_of symbols a))
   placed h = let e : i ≡ suc (row.start + (i - row.start - 1)) = omega (arith, h) in ap (λ n. numbered n (numbered_from symbols firsts (suc row.start) (part alternatives row.start row.end))) e ∙ numbered_at symbols firsts row.start (i - row.start - 1) (part alternatives row.start row.end)
 
-  pub symbols_past : row.start < i → slice_get (part alternatives row.start row.end) (i - row.start - 1) ≡ None → None ≡ (slice_get (rows_of symbols alternatives rows firsts mores) r >>= λ x. numbered i x.alternatives)
-  symbols_past h e = sym (here ∙ placed h ∙ ap (λ o. o >>= λ a. Some (symbols_of symbols a)) e)
+  pub symbols_above : row.start < i → row.end < i → None ≡ (slice_get (rows_of symbols alternatives rows firsts mores) r >>= λ x. numbered i x.alternatives)
+  symbols_above h k = sym (here ∙ placed h ∙ ap (λ o. o >>= λ a. Some (symbols_of symbols a)) (part_past alternatives row.start row.end i h k))
 
-  pub symbols_at : (a : Alternative) → row.start < i → slice_get (part alternatives row.start row.end) (i - row.start - 1) ≡ Some a → Some (symbols_of symbols a) ≡ (slice_get (rows_of symbols alternatives rows firsts mores) r >>= λ x. numbered i x.alternatives)
-  symbols_at a h e = sym (here ∙ placed h ∙ ap (λ o. o >>= λ x. Some (symbols_of symbols x)) e)
+  pub symbols_past : row.start < i → i ≤ row.end → slice_get alternatives (i - 1) ≡ None → None ≡ (slice_get (rows_of symbols alternatives rows firsts mores) r >>= λ x. numbered i x.alternatives)
+  symbols_past h k e = sym (here ∙ placed h ∙ ap (λ o. o >>= λ a. Some (symbols_of symbols a)) (part_at alternatives row.start row.end i h k ∙ e))
+
+  pub symbols_at : (a : Alternative) → row.start < i → i ≤ row.end → slice_get alternatives (i - 1) ≡ Some a → Some (symbols_of symbols a) ≡ (slice_get (rows_of symbols alternatives rows firsts mores) r >>= λ x. numbered i x.alternatives)
+  symbols_at a h k e = sym (here ∙ placed h ∙ ap (λ o. o >>= λ x. Some (symbols_of symbols x)) (part_at alternatives row.start row.end i h k ∙ e))
 
 -- ---- the alternative that a class begins
 

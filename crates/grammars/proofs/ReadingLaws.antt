@@ -1,5 +1,5 @@
 -- Steps of a reader.
-use Rattle.std.proofs.Common.{◌≡◌, ℕ, Bool, true, false, nat_eq, zero, suc, ◌<◌, List, [], ◌∷◌, ◌++◌, reverse, length, take, drop, slice_index_or, ◌+◌, Option, Some, None, refl, sym, ap, ◌∙◌, subst, append_assoc, drop-cons, arith}
+use Rattle.std.proofs.Common.{◌≡◌, ℕ, Bool, true, false, nat_eq, is_none, zero, suc, ◌<◌, List, [], ◌∷◌, ◌++◌, reverse, length, take, drop, slice_index_or, ◌+◌, Option, Some, None, refl, sym, ap, eqb-true, ◌∙◌, subst, append_assoc, drop-cons, arith}
 use Rattle.std.proofs.lemmas.List.{reverse-append, append-nil, take-append-drop, take_more}
 use Rattle.grammars.specs.declared.symbols.Symbol.{Symbol}
 use Rattle.grammars.specs.declared.symbols.Symbol.TheVariants.{Word, Leaf, Rule}
@@ -9,38 +9,35 @@ use Rattle.grammars.specs.declared.symbols.Token.{Token}
 use Rattle.grammars.specs.declared.grammar.Grammar as code
 use Rattle.grammars.specs.declared.reader.Reader.{Reader}
 use Rattle.grammars.specs.Numbers.{some_number}
-use Rattle.grammars.specs.Grammar.{Writes, at_end}
+use Rattle.grammars.specs.Grammar.{Grammar, Writes, at_end}
 use Rattle.grammars.specs.Right.{IsRight, lead}
 use Rattle.grammars.specs.Moving.{Moves, Refuses}
 use Rattle.grammars.specs.FlatGrammar.{rows, grammar_of, tables_of}
-use Rattle.grammars.specs.Reading.{stack_of, TakesToken, ReadsRest, IsOnTheWay, IsBehind, IsRefusedAt}
+use Rattle.grammars.specs.Reading.{stack_of, class_ahead, is_class, ReadsUpTo, StopsAt, TakesToken, ReadsRest, IsOnTheWay, IsBehind, IsRefusedAt}
 use Rattle.grammars.proofs.RowLaws.{rows_are_right}
 use Rattle.grammars.proofs.FlatLaws.{no_zero}
-use Rattle.grammars.proofs.GrammarLaws.{moves_rule, refuses_choice, refuses_symbols, takes_word, takes_leaf, refuses_word, refuses_leaf, lead_rule, none_word, none_leaf}
+use Rattle.grammars.proofs.GrammarLaws.{moves_rule, refuses_choice, refuses_symbols, takes_word, takes_leaf, refuses_word, refuses_leaf, lead_rule, from_end, none_word, none_leaf}
 
 -- a grammar in flat tables passed the check
 pub right_of : (g : code.Grammar) → IsRight (grammar_of g) (tables_of g)
 right_of g = rows_are_right (rows g) g.right
 
 -- what stands last in the program stands first
-pub front : (xs ys : List Symbol) (s : Symbol) → xs ≡ ys ++ s ∷ [] → reverse xs ≡ s ∷ reverse ys
-front xs ys s e = ap (λ (zs : List Symbol). reverse zs) e ∙ reverse-append ys (s ∷ [])
+pub front : {A : Type 0} (xs ys : List A) (s : A) → xs ≡ ys ++ s ∷ [] → reverse xs ≡ s ∷ reverse ys
+front xs ys s e = ap (λ zs. reverse zs) e ∙ reverse-append ys (s ∷ [])
 
 module _ (g : code.Grammar) (n : Option ℕ) (old now new : Reader) (way : IsOnTheWay g n old now) where
   -- the moves, with the symbol that stood next
-  pub moves_to : (s : Symbol) → now.stack.items ≡ new.stack.items ++ s ∷ [] → Moves (grammar_of g) (tables_of g) n (stack_of old) way.read (s ∷ stack_of new)
-  moves_to s e = subst (λ st. Moves (grammar_of g) (tables_of g) n (stack_of old) way.read st) (front now.stack.items new.stack.items s e) way.moves
+  pub moves_to : (s : Symbol) → stack_of now ≡ s ∷ stack_of new → Moves (grammar_of g) (tables_of g) n (stack_of old) way.read (s ∷ stack_of new)
+  moves_to s e = subst (λ st. Moves (grammar_of g) (tables_of g) n (stack_of old) way.read st) e way.moves
 
   -- no alternative begins so
-  pub no_alternative : (r i : ℕ) → now.stack.items ≡ new.stack.items ++ Rule r ∷ [] → some_number i ≡ (grammar_of g).choose r n → (grammar_of g).symbols r i ≡ None
+  pub no_alternative : (r i : ℕ) → stack_of now ≡ Rule r ∷ stack_of new → some_number i ≡ (grammar_of g).choose r n → (grammar_of g).symbols r i ≡ None
       → Refuses (grammar_of g) n (stack_of old)
   no_alternative r zero e c s = refuses_choice (grammar_of g) (tables_of g) (right_of g) n (stack_of old) way.read r (stack_of new) (moves_to (Rule r) e) (sym c)
   no_alternative r (suc i) e c s = refuses_symbols (grammar_of g) (tables_of g) (right_of g) n (stack_of old) way.read r (suc i) (stack_of new) (moves_to (Rule r) e) (sym c) s
 
-  module _ (last : Reader) (r i : ℕ) (symbols : List Symbol) (popped : now.stack.items ≡ new.stack.items ++ Rule r ∷ []) (chosen : some_number i ≡ (grammar_of g).choose r n) (stand : Some (reverse symbols) ≡ (grammar_of g).symbols r i) (pushed : last.stack.items ≡ new.stack.items ++ symbols) where
-    stacked : stack_of last ≡ reverse symbols ++ stack_of new
-    stacked = ap (λ (zs : List Symbol). reverse zs) pushed ∙ reverse-append new.stack.items symbols
-
+  module _ (last : Reader) (r i : ℕ) (symbols : List Symbol) (popped : stack_of now ≡ Rule r ∷ stack_of new) (chosen : some_number i ≡ (grammar_of g).choose r n) (stand : Some (reverse symbols) ≡ (grammar_of g).symbols r i) (stacked : stack_of last ≡ reverse symbols ++ stack_of new) where
     pub goes_on : last.events.items ≡ now.events.items ++ Took i ∷ [] → IsOnTheWay g n old last
     goes_on more = record {
       read = way.read ++ Took i ∷ [];
@@ -56,32 +53,32 @@ module _ (g : code.Grammar) (n : Option ℕ) (old now new : Reader) (way : IsOnT
     pub less : lead (tables_of g) (stack_of last) < lead (tables_of g) (stack_of now)
     less =
         let a = lead_rule (grammar_of g) (tables_of g) (right_of g) r i (reverse symbols) (stack_of new) (sym stand) in
-        rw (stacked, front now.stack.items new.stack.items (Rule r) popped) a
+        rw (stacked, popped) a
 
 module _ (g : code.Grammar) (t : Token) (old now new : Reader) (way : IsOnTheWay g (Some t.class) old now) where
-  pub word_taken : (d : ℕ) → now.stack.items ≡ new.stack.items ++ Word d ∷ [] → new.events.items ≡ now.events.items → d ≡ t.class → TakesToken g t old new
+  pub word_taken : (d : ℕ) → stack_of now ≡ Word d ∷ stack_of new → new.events.items ≡ now.events.items → d ≡ t.class → TakesToken g t old new
   word_taken d e same is = record { read = way.read; events = same ∙ way.events; takes = takes_word (grammar_of g) (tables_of g) t (stack_of old) way.read (stack_of new) d (moves_to g (Some t.class) old now new way (Word d) e) is }
 
-  pub leaf_taken : (d : ℕ) → now.stack.items ≡ new.stack.items ++ Leaf d ∷ [] → new.events.items ≡ now.events.items ++ Held t ∷ [] → d ≡ t.class → TakesToken g t old new
+  pub leaf_taken : (d : ℕ) → stack_of now ≡ Leaf d ∷ stack_of new → new.events.items ≡ now.events.items ++ Held t ∷ [] → d ≡ t.class → TakesToken g t old new
   leaf_taken d e more is = record {
     read = way.read ++ Held t ∷ [];
     events = more ∙ ap (λ (es : List Event). es ++ Held t ∷ []) way.events ∙ append_assoc old.events.items way.read (Held t ∷ []);
     takes = takes_leaf (grammar_of g) (tables_of g) t (stack_of old) way.read (stack_of new) d (moves_to g (Some t.class) old now new way (Leaf d) e) is;
   }
 
-  pub other_word : (d : ℕ) → now.stack.items ≡ new.stack.items ++ Word d ∷ [] → (d ≡ t.class → ⊥) → (es : List Event) (ts : List Token) → Writes (grammar_of g) (stack_of old) es (t ∷ ts) → ⊥
+  pub other_word : (d : ℕ) → stack_of now ≡ Word d ∷ stack_of new → (d ≡ t.class → ⊥) → (es : List Event) (ts : List Token) → Writes (grammar_of g) (stack_of old) es (t ∷ ts) → ⊥
   other_word d e is = refuses_word (grammar_of g) (tables_of g) t (stack_of old) way.read (stack_of new) d (moves_to g (Some t.class) old now new way (Word d) e) is
 
-  pub other_leaf : (d : ℕ) → now.stack.items ≡ new.stack.items ++ Leaf d ∷ [] → (d ≡ t.class → ⊥) → (es : List Event) (ts : List Token) → Writes (grammar_of g) (stack_of old) es (t ∷ ts) → ⊥
+  pub other_leaf : (d : ℕ) → stack_of now ≡ Leaf d ∷ stack_of new → (d ≡ t.class → ⊥) → (es : List Event) (ts : List Token) → Writes (grammar_of g) (stack_of old) es (t ∷ ts) → ⊥
   other_leaf d e is = refuses_leaf (grammar_of g) (tables_of g) t (stack_of old) way.read (stack_of new) d (moves_to g (Some t.class) old now new way (Leaf d) e) is
 
 pub unequal : (a b : ℕ) → nat_eq a b ≡ false → a ≡ b → ⊥
 unequal a b h e = grind (arith, h, e)
 
 -- the tokens are over, and so are the symbols
-pub all_read : (g : code.Grammar) (old now new : Reader) → IsOnTheWay g None old now → now.stack.items ≡ [] → new.events.items ≡ now.events.items → ReadsRest g old new
+pub all_read : (g : code.Grammar) (old now new : Reader) → IsOnTheWay g None old now → stack_of now ≡ [] → new.events.items ≡ now.events.items → ReadsRest g old new
 all_read g old now new way none same =
-    let m = subst (λ st. Moves (grammar_of g) (tables_of g) None (stack_of old) way.read st) (ap (λ (zs : List Symbol). reverse zs) none) way.moves in
+    let m = subst (λ st. Moves (grammar_of g) (tables_of g) None (stack_of old) way.read st) none way.moves in
     record { read = way.read; events = same ∙ way.events; written = subst (λ es. Writes (grammar_of g) (stack_of old) es []) (append-nil way.read) (m.sound [] [] refl at_end) }
 
 -- the symbol is written as a token and more
@@ -91,10 +88,44 @@ wants (Leaf d) = true
 wants (Rule r) = false
 
 -- what stands next wants a token
-pub no_token : (g : code.Grammar) (old now new : Reader) (s : Symbol) → IsOnTheWay g None old now → now.stack.items ≡ new.stack.items ++ s ∷ [] → wants s ≡ true → (es : List Event) → Writes (grammar_of g) (stack_of old) es [] → ⊥
+pub no_token : (g : code.Grammar) (old now new : Reader) (s : Symbol) → IsOnTheWay g None old now → stack_of now ≡ s ∷ stack_of new → wants s ≡ true → (es : List Event) → Writes (grammar_of g) (stack_of old) es [] → ⊥
 no_token g old now new (Word d) way e is es w = none_word (grammar_of g) (tables_of g) ((moves_to g None old now new way (Word d) e).only es [] refl w).2
 no_token g old now new (Leaf d) way e is es w = none_leaf (grammar_of g) (tables_of g) ((moves_to g None old now new way (Leaf d) e).only es [] refl w).2
 no_token g old now new (Rule d) way e is es w = absurd cc
+
+-- ---- a token, or the end
+
+pub stops : (g : Grammar) (a : Option Token) (st : List Symbol) → Refuses g (class_ahead a) st → StopsAt g a st
+stops g None st none = λ es. none es [] refl
+stops g (Some t) st none = λ es ts. none es (t ∷ ts) refl
+
+pub word_read : (g : code.Grammar) (a : Option Token) (old now new : Reader) → IsOnTheWay g (class_ahead a) old now → (d : ℕ) → stack_of now ≡ Word d ∷ stack_of new → new.events.items ≡ now.events.items → is_class a d ≡ true → ReadsUpTo g a old new
+word_read g None old now new way d e same is = absurd cc
+word_read g (Some t) old now new way d e same is = word_taken g t old now new way d e same (eqb-true d t.class is)
+
+pub word_stops : (g : code.Grammar) (a : Option Token) (old now new : Reader) → IsOnTheWay g (class_ahead a) old now → (d : ℕ) → stack_of now ≡ Word d ∷ stack_of new → is_class a d ≡ false → StopsAt (grammar_of g) a (stack_of old)
+word_stops g None old now new way d e is = no_token g old now new (Word d) way e refl
+word_stops g (Some t) old now new way d e is = other_word g t old now new way d e (unequal d t.class is)
+
+pub leaf_read : (g : code.Grammar) (a : Option Token) (t : Token) → a ≡ Some t → (old now new : Reader) → IsOnTheWay g (class_ahead a) old now → (d : ℕ) → stack_of now ≡ Leaf d ∷ stack_of new
+    → new.events.items ≡ now.events.items ++ Held t ∷ [] → t.class ≡ d → ReadsUpTo g a old new
+leaf_read g a t this old now new way d e more is =
+    rw this (leaf_taken g t old now new (subst (λ (b : Option Token). IsOnTheWay g (class_ahead b) old now) this way) d e more (sym is))
+
+pub leaf_stops : (g : code.Grammar) (a : Option Token) (old now new : Reader) → IsOnTheWay g (class_ahead a) old now → (d : ℕ) → stack_of now ≡ Leaf d ∷ stack_of new → is_class a d ≡ false → StopsAt (grammar_of g) a (stack_of old)
+leaf_stops g None old now new way d e is = no_token g old now new (Leaf d) way e refl
+leaf_stops g (Some t) old now new way d e is = other_leaf g t old now new way d e (unequal d t.class is)
+
+pub end_read : (g : code.Grammar) (a : Option Token) (old now new : Reader) → IsOnTheWay g (class_ahead a) old now → stack_of now ≡ [] → new.events.items ≡ now.events.items → is_none a ≡ true → ReadsUpTo g a old new
+end_read g None old now new way none same is = all_read g old now new way none same
+end_read g (Some t) old now new way none same is = absurd cc
+
+pub end_stops : (g : code.Grammar) (a : Option Token) (old now : Reader) → IsOnTheWay g (class_ahead a) old now → stack_of now ≡ [] → is_none a ≡ false → StopsAt (grammar_of g) a (stack_of old)
+end_stops g None old now way none is = absurd cc
+end_stops g (Some t) old now way none is = λ es ts w.
+    let x = way.moves.only es (t ∷ ts) refl w in
+    let y = from_end (grammar_of g) (tables_of g) (subst (λ st. Writes (grammar_of g) st x.0 (t ∷ ts)) none x.2) in
+    let z = y.1 in absurd cc
 
 -- ---- all tokens
 

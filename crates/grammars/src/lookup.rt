@@ -15,12 +15,10 @@ impl<'g> Grammar<'g> {
         ensures { option_map (λ s. reverse s.now) result ≡ (grammar_of self.now).symbols rule alternative }
     {
         let row = self.rows.get(rule as usize)?;
-        if alternative <= row.start {
+        if alternative <= row.start || alternative > row.end {
             return None;
         }
-        let alternatives = part_of(self.alternatives, row.start, row.end);
-        let place = alternative - row.start - 1;
-        let found = alternatives.get(place as usize)?;
+        let found = self.alternatives.get(alternative as usize - 1)?;
         Some(part_of(self.symbols, found.start, found.end))
     }
 

@@ -1,6 +1,6 @@
 //! Reads tokens by a grammar, over a stack of symbols, so that nesting costs no stack of the machine.
 
-ghost use Rattle.std.specs.Prelude.{◌≡◌, ◌∷◌, [], List, ℕ, IfOk, IsTrue, Err, false};
+ghost use Rattle.std.specs.Prelude.{◌≡◌, ◌∷◌, ◌++◌, [], List, ℕ, IfOk, OnOk, IfSome, IfNone, IsTrue, Err, false, reverse};
 ghost use Rattle.grammars.specs.declared.symbols.Symbol.TheVariants as S;
 ghost use Rattle.grammars.specs.declared.symbols.Event.{Event};
 ghost use Rattle.grammars.specs.declared.symbols.Token.{Token};
@@ -8,42 +8,149 @@ ghost use Rattle.grammars.specs.Grammar.{Writes};
 ghost use Rattle.grammars.specs.Right.{Tables, Fits};
 ghost use Rattle.grammars.specs.FlatGrammar.{grammar_of, tables_of};
 ghost use Rattle.grammars.specs.Choosing.{AreChoices};
-ghost use Rattle.grammars.specs.Reading.{stack_of, TakesToken, ReadsRest, IsRefusedAt};
+ghost use Rattle.grammars.specs.Reading.{stack_of, class_ahead, is_class, TellsAhead, ReadsUpTo, StopsAt, TakesToken, ReadsRest, IsRefusedAt};
+ghost use Rattle.grammars.specs.Numbers.{some_number};
 
 use crate::choices::Choices;
 use crate::grammar::Grammar;
+use crate::parts::number_at;
 use crate::read_err::ReadErr;
 use crate::symbols::{Event, Symbol, Token};
 use std::alloc::{AllocError, Global};
 
 /// A reader between two tokens. Its events may be emptied there.
 #[derive(Drop)]
-pub struct Reader {
-    /// What is still to be read, the last first.
-    pub stack: Vec<Symbol>,
+pub struct Reader<'g> {
+    /// What stands next, the last first.
+    pub next: &'g [Symbol],
+    /// What stands behind that: what is left of alternatives, the outermost first.
+    pub stack: Vec<&'g [Symbol]>,
+    /// The rule that stands behind all of these.
+    pub last: Option<u16>,
     /// What was read.
     pub events: Vec<Event>,
 }
 
-impl Reader {
+/// What is ahead of a reader: a token, or the end of the tokens; and the choices before it.
+#[derive(Clone, Copy)]
+struct Ahead<'c> {
+    token: Option<Token>,
+    /// The class of the token, any at the end.
+    class: u16,
+    /// Of the table of choices, none at the end.
+    classes: u32,
+    entries: &'c [u16],
+}
+
+impl Ahead<'_> {
+    /// Is it a token of that class?
+    fn is_class(&self, class: u16) -> bool
+        ensures { result ≡ is_class self.now.token class }
+    {
+        match self.token {
+            Some(token) => class == token.class,
+            None => false,
+        }
+    }
+
+    /// The number of the alternative that a rule goes on with, or 0.
+    fn choose(&self, grammar: &Grammar<'_>, rule: u16) -> u16
+        requires { TellsAhead grammar.now self.now }
+        ensures { some_number result ≡ (grammar_of grammar.now).choose rule (class_ahead self.now.token) }
+    {
+        if self.class as u32 >= self.classes {
+            return grammar.nothing_of(rule);
+        }
+        number_at(
+            self.entries,
+            rule as usize * self.classes as usize + self.class as usize,
+        )
+    }
+}
+
+impl<'g> Reader<'g> {
     /// A reader of what a rule writes.
-    pub fn new(alloc: Global, rule: u16) -> Result<Reader, AllocError>
+    pub fn new(alloc: Global, rule: u16) -> Result<Reader<'g>, AllocError>
         ensures stack { IfOk result (λ r. stack_of r ≡ S.Rule rule ∷ []) }
         ensures events { IfOk result (λ r. r.events.items ≡ []) }
         ensures fits { IfOk result (λ r. (k : Tables) → Fits k (stack_of r)) }
     {
-        let mut stack = Vec::new(alloc);
-        stack.push(Symbol::Rule(rule))?;
         Ok(Reader {
-            stack,
+            next: &[],
+            stack: Vec::new(alloc),
+            last: Some(rule),
             events: Vec::new(alloc),
         })
+    }
+
+    /// Takes off the symbol that stands next.
+    fn pop(&mut self) -> Option<Symbol>
+        ensures some { IfSome result (λ s. stack_of self.old ≡ s ∷ stack_of self.new) }
+        ensures none { IfNone result (stack_of self.old ≡ []) }
+        ensures events { self.new.events ≡ self.old.events }
+    {
+        loop {
+            if let Some((first, others)) = self.next.split_last() {
+                self.next = others;
+                return Some(*first);
+            }
+            match self.stack.pop() {
+                Some(part) => self.next = part,
+                None => return Some(Symbol::Rule(self.last.take()?)),
+            }
+        }
+    }
+
+    /// Puts symbols before what stands next, the last first. Where nothing is left of an alternative, it is not kept.
+    fn put(&mut self, symbols: &'g [Symbol]) -> Result<(), AllocError>
+        ensures stack { OnOk result (stack_of self.new ≡ reverse symbols.now ++ stack_of self.old) }
+        ensures events { self.new.events ≡ self.old.events }
+    {
+        if symbols.is_empty() {
+            return Ok(());
+        }
+        if !self.next.is_empty() {
+            self.stack.push(self.next)?;
+        }
+        self.next = symbols;
+        Ok(())
+    }
+
+    /// Reads on, up to a token or to their end: whether that may stand next.
+    fn read_on(&mut self, grammar: &Grammar<'g>, ahead: Ahead<'_>) -> Result<bool, AllocError>
+        requires choices { TellsAhead grammar.now ahead }
+        requires fits { Fits (tables_of grammar.now) (stack_of self.old) }
+        ensures reads { IfOk result (λ on. IsTrue on → ReadsUpTo grammar.now ahead.entry.token self.old self.new) }
+        ensures refused { IfOk result (λ on. on ≡ false → StopsAt (grammar_of grammar.now) ahead.entry.token (stack_of self.old)) }
+    {
+        while let Some(top) = self.pop() {
+            let event = match top {
+                Symbol::Word(class) => return Ok(ahead.is_class(class)),
+                Symbol::Leaf(class) => match ahead.token {
+                    Some(token) if token.class == class => Event::Held(token),
+                    _ => return Ok(false),
+                },
+                Symbol::Rule(rule) => {
+                    let alternative = ahead.choose(grammar, rule);
+                    let Some(symbols) = grammar.symbols_of(rule, alternative) else {
+                        return Ok(false);
+                    };
+                    self.put(symbols)?;
+                    Event::Took(alternative)
+                }
+            };
+            self.events.push(event)?;
+            if let Event::Held(_) = event {
+                return Ok(true);
+            }
+        }
+        Ok(ahead.token.is_none())
     }
 
     /// Takes a token: whether one of its class may stand next. A reader that refused one is of no use any more.
     pub fn take(
         &mut self,
-        grammar: &Grammar<'_>,
+        grammar: &Grammar<'g>,
         choices: &Choices,
         token: Token,
     ) -> Result<bool, AllocError>
@@ -52,47 +159,28 @@ impl Reader {
         ensures takes { IfOk result (λ taken. IsTrue taken → TakesToken grammar.now token self.old self.new) }
         ensures refused { IfOk result (λ taken. taken ≡ false → (es : List Event) (ts : List Token) → Writes (grammar_of grammar.now) (stack_of self.old) es (token ∷ ts) → ⊥) }
     {
-        while let Some(top) = self.stack.pop() {
-            match top {
-                Symbol::Word(class) => return Ok(class == token.class),
-                Symbol::Leaf(class) => {
-                    if class == token.class {
-                        self.events.push(Event::Held(token))?;
-                        return Ok(true);
-                    }
-                    return Ok(false);
-                }
-                Symbol::Rule(rule) => {
-                    let alternative = choices.choose(grammar, rule, token.class);
-                    let Some(symbols) = grammar.symbols_of(rule, alternative) else {
-                        return Ok(false);
-                    };
-                    self.events.push(Event::Took(alternative))?;
-                    self.stack.extend_from_slice(symbols)?;
-                }
-            }
-        }
-        Ok(false)
+        let ahead = Ahead {
+            token: Some(token),
+            class: token.class,
+            classes: choices.classes,
+            entries: &choices.entries,
+        };
+        self.read_on(grammar, ahead)
     }
 
     /// Reads what is left, where the tokens are over: whether it may be nothing.
-    pub fn finish(&mut self, grammar: &Grammar<'_>) -> Result<bool, AllocError>
+    pub fn finish(&mut self, grammar: &Grammar<'g>) -> Result<bool, AllocError>
         requires fits { Fits (tables_of grammar.now) (stack_of self.old) }
         ensures reads { IfOk result (λ over. IsTrue over → ReadsRest grammar.now self.old self.new) }
         ensures refused { IfOk result (λ over. over ≡ false → (es : List Event) → Writes (grammar_of grammar.now) (stack_of self.old) es [] → ⊥) }
     {
-        while let Some(top) = self.stack.pop() {
-            let Symbol::Rule(rule) = top else {
-                return Ok(false);
-            };
-            let alternative = grammar.nothing_of(rule);
-            let Some(symbols) = grammar.symbols_of(rule, alternative) else {
-                return Ok(false);
-            };
-            self.events.push(Event::Took(alternative))?;
-            self.stack.extend_from_slice(symbols)?;
-        }
-        Ok(true)
+        let ahead = Ahead {
+            token: None,
+            class: 0,
+            classes: 0,
+            entries: &[],
+        };
+        self.read_on(grammar, ahead)
     }
 }
 

@@ -1,12 +1,11 @@
 -- What is left and what was read tell what stood at first; each round takes a rule from the front.
-use Rattle.std.proofs.Common.{None}
 use Rattle.grammars.specs.Right.{lead}
 use Rattle.grammars.specs.FlatGrammar.{tables_of}
-use Rattle.grammars.specs.Reading.{stack_of, IsOnTheWay}
-use Rattle.grammars.proofs.reader.Reader.finish.Given as goal
+use Rattle.grammars.specs.Reading.{stack_of, class_ahead, IsOnTheWay}
+use Rattle.grammars.proofs.reader.Reader.read_on.Given as goal
 
 abbrev pub invariant-loop-top : goal.invariant-loop-top
-invariant-loop-top l = IsOnTheWay l.grammar None l.fn.self l.self
+invariant-loop-top l = IsOnTheWay l.grammar (class_ahead l.ahead.token) l.fn.self l.self
 
 abbrev pub decreases-loop-top : goal.decreases-loop-top
 decreases-loop-top l = lead (tables_of l.grammar) (stack_of l.self)
