@@ -123,6 +123,7 @@ impl<'g> Reader<'g> {
         ensures reads { IfOk result (λ on. IsTrue on → ReadsUpTo grammar.now ahead.entry.token self.old self.new) }
         ensures refused { IfOk result (λ on. on ≡ false → StopsAt (grammar_of grammar.now) ahead.entry.token (stack_of self.old)) }
     {
+        let grammar = *grammar;
         while let Some(top) = self.pop() {
             let event = match top {
                 Symbol::Word(class) => return Ok(ahead.is_class(class)),
@@ -131,7 +132,7 @@ impl<'g> Reader<'g> {
                     _ => return Ok(false),
                 },
                 Symbol::Rule(rule) => {
-                    let alternative = ahead.choose(grammar, rule);
+                    let alternative = ahead.choose(&grammar, rule);
                     let Some(symbols) = grammar.symbols_of(rule, alternative) else {
                         return Ok(false);
                     };

@@ -1,8 +1,9 @@
 -- Cutting a text into tokens, as a loop does.
-use Rattle.std.proofs.Common.{◌≡◌, ℕ, zero, suc, ◌+◌, ◌-◌, ◌≤◌, ◌<◌, List, [], ◌∷◌, ◌++◌, length, length-drop, drop, Option, Some, None, refl, sym, ap, ◌∙◌, append_assoc, arith}
+use Rattle.std.proofs.Common.{◌≡◌, ℕ, zero, suc, ◌+◌, ◌-◌, ◌≤◌, ◌<◌, List, [], ◌∷◌, ◌++◌, length, length-drop, drop, drop-cons, slice_index, true, Option, Some, None, refl, sym, ap, ◌∙◌, append_assoc, arith}
 use Rattle.std.specs.Option.{option_map}
 use Rattle.std.proofs.lemmas.List.{append-nil}
-use Rattle.ll_tokens.specs.Pieces.{piece_at}
+use Rattle.ll_tokens.specs.Bytes.{is_blank}
+use Rattle.ll_tokens.specs.Pieces.{blank, piece_at}
 use Rattle.ll_tokens.specs.Tokens.{IsBadAt, IsCut, put, tokens_from, tokens_of}
 use Rattle.ll_tokens.specs.declared.kinds.Kind.{Kind}
 use Rattle.ll_tokens.specs.declared.piece.Piece.{Piece}
@@ -59,6 +60,14 @@ pub passes : (p : Piece) (at : ℕ) (front : List Token) (bytes : List ℕ) (tot
 passes p at front bytes total ge le e is_none so_far =
     let one : tokens_from 0 at bytes ≡ tokens_from 0 (at + p.len) (drop p.len bytes) = steps p at bytes ge le e ∙ rw is_none refl in
     ap (with_front front) (sym one) ∙ so_far
+
+-- a blank is a piece
+blank_first : (b : ℕ) (bs : List ℕ) → is_blank b ≡ true → piece_at (b ∷ bs) ≡ blank 1
+unfolding piece_at
+blank_first b bs e = rw e refl
+
+pub blank_at : (bytes : List ℕ) (at : ℕ) → at < length bytes → is_blank (slice_index bytes at) ≡ true → piece_at (drop at bytes) ≡ blank 1
+blank_at bytes at within e = ap piece_at (drop-cons bytes at 0 within) ∙ blank_first (slice_index bytes at) (drop (suc at) bytes) e
 
 -- a text is bad where no piece begins behind whole pieces
 pub bad : (bytes : List ℕ) (place : ℕ) (front : List Token) → IsCut bytes place → place < length bytes → piece_at (drop place bytes) ≡ None

@@ -4,6 +4,7 @@ ghost use Rattle.std.specs.Prelude.{◌≡◌, ℕ, Some, None, Err, IfOk};
 ghost use Rattle.ll_tokens.specs.Tokens.{tokens_of, IsBadAt};
 ghost use Rattle.ll_tokens.specs.declared.token_err.TokenErr.TheVariants.{BadToken};
 
+use crate::bytes::is_blank;
 use crate::kinds::Kind;
 use crate::pieces::piece_at;
 use crate::runs::name_len;
@@ -30,6 +31,11 @@ pub fn tokens(alloc: Global, bytes: &[u8]) -> Result<Vec<Token>, TokenErr>
     let mut at = 0;
     let mut known = 0;
     while at < bytes.len() {
+        if is_blank(bytes[at]) {
+            at += 1;
+            known = 0;
+            continue;
+        }
         let (_, rest) = bytes.split_at(at);
         let run = if known > 0 { known } else { name_len(rest) };
         let Some(piece) = piece_at(rest, run) else {

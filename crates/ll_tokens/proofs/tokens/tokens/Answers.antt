@@ -4,9 +4,10 @@ use Rattle.std.specs.List.{prefix_len}
 use Rattle.ll_tokens.specs.Bytes.{is_name_byte}
 use Rattle.ll_tokens.specs.Pieces.{piece_at}
 use Rattle.ll_tokens.specs.Tokens.{IsBadAt, IsCut, tokens_of}
+use Rattle.ll_tokens.specs.declared.piece.Piece.{Piece}
 use Rattle.ll_tokens.specs.declared.tokens.Token.{Token}
 use Rattle.ll_tokens.proofs.RunLaws.{known_run, run-behind}
-use Rattle.ll_tokens.proofs.TokenLaws.{with_front, bad, is_done, goes_on, passes}
+use Rattle.ll_tokens.proofs.TokenLaws.{with_front, blank_at, bad, is_done, goes_on, passes}
 use Rattle.ll_tokens.proofs.tokens.tokens.Goals as goal
 use Rattle.ll_tokens.proofs.tokens.tokens.Goals.{then-known-gt0, else-known-gt0, in-Some-kind+in_ok-push, in_default-kind}
 
@@ -21,6 +22,21 @@ loop-at-init c = record {
   within = omega arith;
   run = inl refl;
 }
+
+pub loop-at-preserved-then-is_blank : goal.loop-at-preserved-then-is_blank
+loop-at-preserved-then-is_blank c =
+    let bytes = c.args.bytes.now in
+    let at = c.loop-at.at in
+    let p : Piece = record { kind = None; len = 1 } in
+    let found : piece_at (drop at bytes) ≡ Some p = blank_at bytes at c.loop-at-test.true (sym c.is_blank.ensures ∙ c.if-is_blank.true) in
+    let long : length (drop at bytes) ≡ length bytes - at = length-drop at bytes in
+    let behind : drop 1 (drop at bytes) ≡ drop (at + 1) bytes = drop-drop 1 at bytes in
+    record {
+      so_far = rw (← behind) (passes p at c.loop-at.found.items (drop at bytes) (tokens_of bytes) (omega arith) (let l = c.loop-at-test.true in omega arith) found refl c.loop-at.invariant.so_far);
+      cut = IsCut.behind at p c.loop-at.invariant.cut found;
+      within = let l = c.loop-at-test.true in omega arith;
+      run = inl refl;
+    }
 
 pub returns-in_default-clause-bad : goal.returns-in_default-clause-bad
 returns-in_default-clause-bad c place e =
