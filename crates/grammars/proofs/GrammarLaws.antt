@@ -139,7 +139,7 @@ module _ (g : Grammar) (k : Tables) where
   pub from_word : {d : ℕ} {st : List Symbol} {es : List Event} {t : Token} {ts : List Token} → Writes g (Word d ∷ st) es (t ∷ ts) → (d ≡ t.class) × Writes g st es ts
   from_word (at_word st es ts t w) = (refl, w)
 
-  pub from_leaf : {d : ℕ} {st : List Symbol} {es : List Event} {t : Token} {ts : List Token} → Writes g (Leaf d ∷ st) es (t ∷ ts) → (d ≡ t.class) × ((fs : List Event) × (es ≡ Held t ∷ fs) × Writes g st fs ts)
+  pub from_leaf : {d : ℕ} {st : List Symbol} {es : List Event} {t : Token} {ts : List Token} → Writes g (Leaf d ∷ st) es (t ∷ ts) → (d ≡ t.class) × ((fs : List Event) × (es ≡ Held t.at ∷ fs) × Writes g st fs ts)
   from_leaf (at_leaf st es ts t w) = (refl, (es, refl, w))
 
   pub from_rule : {r : ℕ} {st : List Symbol} {es : List Event} {ts : List Token} → Writes g (Rule r ∷ st) es ts
@@ -155,7 +155,7 @@ module _ (g : Grammar) (k : Tables) where
   pub one : IsRight g k → {st : List Symbol} {es : List Event} {ts : List Token} → Writes g st es ts → (fs : List Event) → Fits k st → Writes g st fs ts → es ≡ fs
   one right at_end fs fits v = sym (from_end v).0
   one right (at_word st es ts t w) fs fits v = one right w fs fits.1 (from_word v).1
-  one right (at_leaf st es ts t w) fs fits v = let x = (from_leaf v).1 in ap (λ (ys : List Event). Held t ∷ ys) (one right w x.0 fits.1 x.2) ∙ sym x.1
+  one right (at_leaf st es ts t w) fs fits v = let x = (from_leaf v).1 in ap (λ (ys : List Event). Held t.at ∷ ys) (one right w x.0 fits.1 x.2) ∙ sym x.1
   one right (at_rule st es ts r i α s w) fs fits v =
       let x = from_rule v in
       let same : i ≡ x.0 = let y = sym (predicts right r i α st es ts fits s w) ∙ predicts right r x.0 x.1 st x.2 ts fits x.3 x.5 in cc in
@@ -204,13 +204,13 @@ module _ (g : Grammar) (k : Tables) where
     fits = m.fits.1;
   }
 
-  pub takes_leaf : (t : Token) (old : List Symbol) (read : List Event) (st : List Symbol) (d : ℕ) → Moves g k (Some t.class) old read (Leaf d ∷ st) → d ≡ t.class → Takes g k t old (read ++ Held t ∷ []) st
+  pub takes_leaf : (t : Token) (old : List Symbol) (read : List Event) (st : List Symbol) (d : ℕ) → Moves g k (Some t.class) old read (Leaf d ∷ st) → d ≡ t.class → Takes g k t old (read ++ Held t.at ∷ []) st
   takes_leaf t old read st d m is = record {
-    sound = λ es ts w. subst (λ ys. Writes g old ys (t ∷ ts)) (sym (append_assoc read (Held t ∷ []) es)) (m.sound (Held t ∷ es) (t ∷ ts) refl (subst (λ c. Writes g (Leaf c ∷ st) (Held t ∷ es) (t ∷ ts)) (sym is) (at_leaf st es ts t w)));
+    sound = λ es ts w. subst (λ ys. Writes g old ys (t ∷ ts)) (sym (append_assoc read (Held t.at ∷ []) es)) (m.sound (Held t.at ∷ es) (t ∷ ts) refl (subst (λ c. Writes g (Leaf c ∷ st) (Held t.at ∷ es) (t ∷ ts)) (sym is) (at_leaf st es ts t w)));
     only = λ es ts w.
         let x = m.only es (t ∷ ts) refl w in
         let y = (from_leaf x.2).1 in
-        (y.0, x.1 ∙ ap (λ (ys : List Event). read ++ ys) y.1 ∙ sym (append_assoc read (Held t ∷ []) y.0), y.2);
+        (y.0, x.1 ∙ ap (λ (ys : List Event). read ++ ys) y.1 ∙ sym (append_assoc read (Held t.at ∷ []) y.0), y.2);
     fits = m.fits.1;
   }
 

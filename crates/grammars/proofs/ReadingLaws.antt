@@ -59,10 +59,10 @@ module _ (g : code.Grammar) (t : Token) (old now new : Reader) (way : IsOnTheWay
   pub word_taken : (d : ℕ) → stack_of now ≡ Word d ∷ stack_of new → new.events.items ≡ now.events.items → d ≡ t.class → TakesToken g t old new
   word_taken d e same is = record { read = way.read; events = same ∙ way.events; takes = takes_word (grammar_of g) (tables_of g) t (stack_of old) way.read (stack_of new) d (moves_to g (Some t.class) old now new way (Word d) e) is }
 
-  pub leaf_taken : (d : ℕ) → stack_of now ≡ Leaf d ∷ stack_of new → new.events.items ≡ now.events.items ++ Held t ∷ [] → d ≡ t.class → TakesToken g t old new
+  pub leaf_taken : (d : ℕ) → stack_of now ≡ Leaf d ∷ stack_of new → new.events.items ≡ now.events.items ++ Held t.at ∷ [] → d ≡ t.class → TakesToken g t old new
   leaf_taken d e more is = record {
-    read = way.read ++ Held t ∷ [];
-    events = more ∙ ap (λ (es : List Event). es ++ Held t ∷ []) way.events ∙ append_assoc old.events.items way.read (Held t ∷ []);
+    read = way.read ++ Held t.at ∷ [];
+    events = more ∙ ap (λ (es : List Event). es ++ Held t.at ∷ []) way.events ∙ append_assoc old.events.items way.read (Held t.at ∷ []);
     takes = takes_leaf (grammar_of g) (tables_of g) t (stack_of old) way.read (stack_of new) d (moves_to g (Some t.class) old now new way (Leaf d) e) is;
   }
 
@@ -108,7 +108,7 @@ word_stops g None old now new way d e is = no_token g old now new (Word d) way e
 word_stops g (Some t) old now new way d e is = other_word g t old now new way d e (unequal d t.class is)
 
 pub leaf_read : (g : code.Grammar) (a : Option Token) (t : Token) → a ≡ Some t → (old now new : Reader) → IsOnTheWay g (class_ahead a) old now → (d : ℕ) → stack_of now ≡ Leaf d ∷ stack_of new
-    → new.events.items ≡ now.events.items ++ Held t ∷ [] → t.class ≡ d → ReadsUpTo g a old new
+    → new.events.items ≡ now.events.items ++ Held t.at ∷ [] → t.class ≡ d → ReadsUpTo g a old new
 leaf_read g a t this old now new way d e more is =
     rw this (leaf_taken g t old now new (subst (λ (b : Option Token). IsOnTheWay g (class_ahead b) old now) this way) d e more (sym is))
 

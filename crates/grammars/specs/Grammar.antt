@@ -16,7 +16,7 @@ pub record Grammar : Type 0 where
 pub data Writes (g : Grammar) : List Symbol → List Event → List Token → Type 0 where
   at_end : Writes g [] [] []
   at_word : (st : List Symbol) (es : List Event) (ts : List Token) (t : Token) → Writes g st es ts → Writes g (Word t.class ∷ st) es (t ∷ ts)
-  at_leaf : (st : List Symbol) (es : List Event) (ts : List Token) (t : Token) → Writes g st es ts → Writes g (Leaf t.class ∷ st) (Held t ∷ es) (t ∷ ts)
+  at_leaf : (st : List Symbol) (es : List Event) (ts : List Token) (t : Token) → Writes g st es ts → Writes g (Leaf t.class ∷ st) (Held t.at ∷ es) (t ∷ ts)
   at_rule : (st : List Symbol) (es : List Event) (ts : List Token) (r i : ℕ) (α : List Symbol) → g.symbols r i ≡ Some α → Writes g (α ++ st) es ts → Writes g (Rule r ∷ st) (Took i ∷ es) ts
 
 -- the class of the next token

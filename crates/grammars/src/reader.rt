@@ -128,7 +128,7 @@ impl<'g> Reader<'g> {
             let event = match top {
                 Symbol::Word(class) => return Ok(ahead.is_class(class)),
                 Symbol::Leaf(class) => match ahead.token {
-                    Some(token) if token.class == class => Event::Held(token),
+                    Some(token) if token.class == class => Event::Held(token.at),
                     _ => return Ok(false),
                 },
                 Symbol::Rule(rule) => {

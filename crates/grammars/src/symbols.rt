@@ -23,6 +23,6 @@ pub struct Token {
 pub enum Event {
     /// The alternative of that number, of the rule that stands next.
     Took(u16),
-    /// The token of the leaf that stands next.
-    Held(Token),
+    /// The token of the leaf that stands next, by where its text stands.
+    Held(u32),
 }

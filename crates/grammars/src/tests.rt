@@ -146,7 +146,7 @@ fn events_of(alloc: Global, classes: &[u16]) -> Result<Vec<Event>, ReadErr> {
 fn code(event: Event) -> u32 {
     match event {
         Event::Took(alternative) => alternative as u32,
-        Event::Held(token) => 1000 + token.at % 1000,
+        Event::Held(at) => 1000 + at % 1000,
     }
 }
 

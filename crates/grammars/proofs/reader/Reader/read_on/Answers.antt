@@ -20,7 +20,7 @@ returns-in-Held-clause-reads c _ =
     elim c.match-top.branch [
       | in-Leaf+in-Some-token w ↦
           let e : stack_of c.loop-top.self ≡ _ ∷ stack_of last = rw (w.self-is, ← w.in-Leaf.is) c.in-Some.ensures.some in
-          let more : last.events.items ≡ c.loop-top.self.events.items ++ Held w.in-Some-token.token ∷ [] = rw (← c.in-Some.ensures.events, ← w.self-is, ← w.event-is) c.in_ok-push.ensures.items in
+          let more : last.events.items ≡ c.loop-top.self.events.items ++ Held w.in-Some-token.token.at ∷ [] = rw (← c.in-Some.ensures.events, ← w.self-is, ← w.event-is) c.in_ok-push.ensures.items in
           leaf_read c.args.grammar.now c.args.ahead.token w.in-Some-token.token w.in-Some-token.is c.args.self.now c.loop-top.self last c.loop-top.invariant w.in-Leaf.class e more w.if-token-class.true
       | in-Rule+in-Some-symbols_of+in_ok-put-in-Rule w ↦ let x = sym w.event-is ∙ c.in-Held.is in absurd cc
     ]
