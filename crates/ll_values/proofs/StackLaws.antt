@@ -1,9 +1,8 @@
--- One event, on values over a module and a store; and all events.
+-- One alternative, on values over a module and a store; and all events.
 use Rattle.std.proofs.Common.{◌≡◌, ◌<◌, ℕ, suc, ◌+◌, List, [], ◌∷◌, ◌++◌, length, take, drop, slice_index_or, Some, None, refl, ap, ◌∙◌, arith, drop-cons, All}
 use Rattle.std.proofs.lemmas.List.{take-map, drop-map}
 use Rattle.std.proofs.lemmas.List.Elements.{All-drop}
 use Rattle.grammars.specs.declared.symbols.Event.{Event}
-use Rattle.grammars.specs.declared.symbols.Event.TheVariants.{Took}
 use Rattle.llvm_core.specs.Module.{Module}
 use Rattle.llvm_core.specs.Data.{trees_of}
 use Rattle.ll_values.specs.declared.form.Kind.{Kind}
@@ -12,21 +11,21 @@ use Rattle.ll_values.specs.declared.fold.Source.{Source}
 use Rattle.ll_values.specs.declared.value.Value as code
 use Rattle.ll_values.specs.Parts.{part_count}
 use Rattle.ll_values.specs.Values.{Value, value_by}
-use Rattle.ll_values.specs.Folding.{kind_at, fold}
+use Rattle.ll_values.specs.Folding.{make, fold}
 use Rattle.ll_values.specs.Views.{value_view, IsValueIn, IsStoreIn}
 use Rattle.ll_values.specs.Growing.{Interns, Keeps}
 use Rattle.ll_values.specs.Stack.{over, step_of, fold_of}
 use Rattle.ll_values.proofs.KeepLaws.{values_same}
 
-module _ (x : Source) (i : ℕ) (k : Kind) (known : k ≡ kind_at x.kinds.now i) (m : Module) (s : Store) (vs : List code.Value) where
+module _ (x : Source) (k : Kind) (m : Module) (s : Store) (vs : List code.Value) where
   pub took : (n : Module) (t : Store) → Interns m n → Keeps s t → IsStoreIn m s → All (IsValueIn m s) vs → (v : code.Value) → value_by k (over x m s (take (part_count k) vs)) ≡ Some (value_view x.bytes.now (trees_of n) t v)
-      → step_of x (Took i) (over x m s vs) ≡ Some (over x n t (v ∷ drop (part_count k) vs))
+      → make k (over x m s vs) ≡ Some (over x n t (v ∷ drop (part_count k) vs))
   took n t g keeps st all v made =
       let rest : over x n t (drop (part_count k) vs) ≡ over x m s (drop (part_count k) vs) = values_same x.bytes.now m n s t g keeps st (drop (part_count k) vs) (All-drop (IsValueIn m s) (part_count k) vs all) in
-      rw (← known, take-map (value_view x.bytes.now (trees_of m) s) (part_count k) vs, drop-map (value_view x.bytes.now (trees_of m) s) (part_count k) vs, made, rest) refl
+      rw (take-map (value_view x.bytes.now (trees_of m) s) (part_count k) vs, drop-map (value_view x.bytes.now (trees_of m) s) (part_count k) vs, made, rest) refl
 
-  pub took_none : value_by k (over x m s (take (part_count k) vs)) ≡ None → step_of x (Took i) (over x m s vs) ≡ None
-  took_none none = rw (← known, take-map (value_view x.bytes.now (trees_of m) s) (part_count k) vs, none) refl
+  pub took_none : value_by k (over x m s (take (part_count k) vs)) ≡ None → make k (over x m s vs) ≡ None
+  took_none none = rw (take-map (value_view x.bytes.now (trees_of m) s) (part_count k) vs, none) refl
 
 -- ---- all events
 

@@ -1,14 +1,15 @@
 //! Values from events, from the last event to the first, over a stack, so that nesting costs no stack of the machine.
 
-ghost use Rattle.std.specs.Prelude.{◌≡◌, take, drop, reverse, slice_get, OnOk, OnErr, IfOk, Err, None, Some};
+ghost use Rattle.std.specs.Prelude.{◌≡◌, reverse, slice_get, OnOk, IfOk, Err, None, Some};
 ghost use Rattle.std.specs.Option.{option_map};
-ghost use Rattle.ll_values.specs.Folding.{kind_at};
+ghost use Rattle.ll_values.specs.Folding.{kind_at, make};
 ghost use Rattle.ll_values.specs.Views.{IsStoreIn};
 ghost use Rattle.ll_values.specs.Stack.{IsStanding, over, name_of, step_of, fold_of};
 ghost use Rattle.ll_values.specs.Growing.{Interns};
 
 use crate::form::Kind;
 use crate::make::make;
+use crate::stack::Stack;
 use crate::store::Store;
 use crate::value::Value;
 use crate::value_err::ValueErr;
@@ -49,20 +50,57 @@ fn kind_of(kinds: &[Kind], alternative: u16) -> Kind
     }
 }
 
-/// Takes so many parts off a stack.
-fn take_parts(stack: &mut Vec<Value>, n: usize, parts: &mut Vec<Value>) -> Result<(), ValueErr>
-    ensures parts { OnOk result (parts.new.items ≡ take n (reverse stack.old.items)) }
-    ensures rest { OnOk result (reverse stack.new.items ≡ drop n (reverse stack.old.items)) }
-    ensures memory { OnErr result (result ≡ Err ValueErr.NoMemory) }
+/// Makes a value of the parts on top, in their place.
+fn take(
+    alloc: Global,
+    m: &mut LLVMModule,
+    store: &mut Store,
+    source: &Source<'_>,
+    stack: &mut Stack,
+    kind: Kind,
+) -> Result<(), ValueErr>
+    requires standing { IsStanding m.old store.old stack.old }
+    ensures standing { OnOk result (IsStanding m.new store.new stack.new) }
+    ensures interns { OnOk result (Interns m.old m.new) }
+    ensures done { OnOk result (make kind (over source.now m.old store.old stack.old) ≡ Some (over source.now m.new store.new stack.new)) }
+    ensures not_yet { result ≡ Err ValueErr.NotYet → make kind (over source.now m.old store.old stack.old) ≡ None }
 {
-    parts.clear();
-    while parts.len() < n {
-        let Some(value) = stack.pop() else {
-            return Ok(());
-        };
-        parts.push(value)?;
+    let n = kind.part_count();
+    match make(alloc, m, store, source.bytes, kind, stack.first(n)) {
+        Ok(value) => stack.replace(alloc, n, value)?,
+        Err(e) => return Err(e),
     }
     Ok(())
+}
+
+/// Does an alternative of that kind to the values behind it. What says the same as its part leaves the stack as it is.
+fn turn(
+    alloc: Global,
+    m: &mut LLVMModule,
+    store: &mut Store,
+    source: &Source<'_>,
+    stack: &mut Stack,
+    kind: Kind,
+) -> Result<(), ValueErr>
+    requires standing { IsStanding m.old store.old stack.old }
+    ensures standing { OnOk result (IsStanding m.new store.new stack.new) }
+    ensures interns { OnOk result (Interns m.old m.new) }
+    ensures done { OnOk result (make kind (over source.now m.old store.old stack.old) ≡ Some (over source.now m.new store.new stack.new)) }
+    ensures not_yet { result ≡ Err ValueErr.NotYet → make kind (over source.now m.old store.old stack.old) ≡ None }
+{
+    match kind {
+        Kind::Same => {
+            if stack.is_empty() {
+                return Err(ValueErr::NotYet);
+            }
+            Ok(())
+        }
+        Kind::Nothing => {
+            stack.push(alloc, Value::Nothing)?;
+            Ok(())
+        }
+        _ => take(alloc, m, store, source, stack, kind),
+    }
 }
 
 /// Does an event to the values behind it.
@@ -71,33 +109,28 @@ fn step(
     m: &mut LLVMModule,
     store: &mut Store,
     source: &Source<'_>,
-    stack: &mut Vec<Value>,
-    parts: &mut Vec<Value>,
+    stack: &mut Stack,
     event: Event,
 ) -> Result<(), ValueErr>
-    requires standing { IsStanding m.old store.old (reverse stack.old.items) }
-    ensures standing { OnOk result (IsStanding m.new store.new (reverse stack.new.items)) }
+    requires standing { IsStanding m.old store.old stack.old }
+    ensures standing { OnOk result (IsStanding m.new store.new stack.new) }
     ensures interns { OnOk result (Interns m.old m.new) }
-    ensures done { OnOk result (step_of source.now event (over source.now m.old store.old (reverse stack.old.items)) ≡ Some (over source.now m.new store.new (reverse stack.new.items))) }
-    ensures not_yet { result ≡ Err ValueErr.NotYet → step_of source.now event (over source.now m.old store.old (reverse stack.old.items)) ≡ None }
+    ensures done { OnOk result (step_of source.now event (over source.now m.old store.old stack.old) ≡ Some (over source.now m.new store.new stack.new)) }
+    ensures not_yet { result ≡ Err ValueErr.NotYet → step_of source.now event (over source.now m.old store.old stack.old) ≡ None }
 {
     match event {
         Event::Held(token) => {
             let Some(name) = name_at(source.tokens, token.at) else {
                 return Err(ValueErr::NotYet);
             };
-            stack.push(Value::Text(name))?;
+            stack.push(alloc, Value::Text(name))?;
+            Ok(())
         }
         Event::Took(alternative) => {
             let kind = kind_of(source.kinds, alternative);
-            take_parts(stack, kind.part_count(), parts)?;
-            match make(alloc, m, store, source.bytes, kind, parts) {
-                Ok(value) => stack.push(value)?,
-                Err(e) => return Err(e),
-            }
+            turn(alloc, m, store, source, stack, kind)
         }
     }
-    Ok(())
 }
 
 /// The values of events; the first value is the last on the stack.
@@ -114,23 +147,14 @@ pub fn fold(
     ensures folded { IfOk result (λ vs. fold_of source.now events.now ≡ Some (over source.now m.new store.new (reverse vs.items))) }
     ensures not_yet { result ≡ Err ValueErr.NotYet → fold_of source.now events.now ≡ None }
 {
-    let mut stack = Vec::new(alloc);
-    let mut parts = Vec::new(alloc);
+    let mut stack = Stack::new(alloc);
     let mut left = events.len();
     while left > 0 {
         left -= 1;
-        match step(
-            alloc,
-            m,
-            store,
-            source,
-            &mut stack,
-            &mut parts,
-            events[left],
-        ) {
+        match step(alloc, m, store, source, &mut stack, events[left]) {
             Ok(()) => (),
             Err(e) => return Err(e),
         }
     }
-    Ok(stack)
+    Ok(stack.into_vec(alloc)?)
 }

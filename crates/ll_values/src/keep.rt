@@ -26,6 +26,7 @@ fn keep_inst(store: &mut Store, inst: Inst) -> Result<u32, ValueErr>
 }
 
 /// Keeps what is made, and gives its value.
+#[inline(always)]
 pub fn keep(m: &LLVMModule, store: &mut Store, bytes: &[u8], made: Made) -> Result<Value, ValueErr>
     requires store { IsStoreIn m.now store.old }
     requires made { IsMadeIn m.now store.old made }

@@ -1,24 +1,24 @@
-//! What is made of parts, where no type and no constant is added: a line for each kind.
+//! Parts of functions and of instructions, as values: a line for each kind.
 
 ghost use Rattle.std.specs.Prelude.{◌≡◌, [], map, All, IfSome};
 ghost use Rattle.std.specs.Option.{option_map};
 ghost use Rattle.llvm_core.specs.Data.{trees_of};
-ghost use Rattle.ll_values.specs.Values.{detail_by, list_by};
-ghost use Rattle.ll_values.specs.Views.{value_view, made_view, IsValueIn, IsMadeIn};
+ghost use Rattle.ll_values.specs.Values.{detail_by};
+ghost use Rattle.ll_values.specs.Views.{value_view, IsValueIn};
 
-use crate::form::{DetailKind, ListKind};
+use crate::form::DetailKind;
 use crate::store::Store;
-use crate::value::{Definition, Entry, Head, Literal, Made, Piece, Value};
+use crate::value::{Entry, Literal, Piece, Value};
 use kinds::op::OverflowFlags;
 use ll_lines::lines::Param;
 use llvm_core::module::LLVMModule;
 
 /// Parts of functions and of instructions.
 #[rattlefmt::skip]
-pub fn plan_detail(m: &LLVMModule, store: &Store, bytes: &[u8], kind: DetailKind, parts: &[Value]) -> Option<Made>
+pub fn plan_detail(m: &LLVMModule, store: &Store, bytes: &[u8], kind: DetailKind, parts: &[Value]) -> Option<Value>
     requires parts { All (IsValueIn m.now store.now) parts.now }
-    ensures made { option_map (made_view bytes.now (trees_of m.now) store.now) result ≡ detail_by kind (map (value_view bytes.now (trees_of m.now) store.now) parts.now) }
-    ensures there { IfSome result (IsMadeIn m.now store.now) }
+    ensures made { option_map (value_view bytes.now (trees_of m.now) store.now) result ≡ detail_by kind (map (value_view bytes.now (trees_of m.now) store.now) parts.now) }
+    ensures there { IfSome result (IsValueIn m.now store.now) }
 {
     let value = match kind {
         DetailKind::Local => match *parts { [Value::Text(n)] => Value::Literal(Literal::Local(n)), _ => return None },
@@ -42,37 +42,5 @@ pub fn plan_detail(m: &LLVMModule, store: &Store, bytes: &[u8], kind: DetailKind
         DetailKind::Source => match *parts { [Value::Text(n)] => Value::Source(n), _ => return None },
         DetailKind::External => match *parts { [Value::Text(_)] => Value::Nothing, _ => return None },
     };
-    Some(Made::Value(value))
-}
-
-/// Lists, and what holds them.
-#[rattlefmt::skip]
-pub fn plan_list(m: &LLVMModule, store: &Store, bytes: &[u8], kind: ListKind, parts: &[Value]) -> Option<Made>
-    requires parts { All (IsValueIn m.now store.now) parts.now }
-    ensures made { option_map (made_view bytes.now (trees_of m.now) store.now) result ≡ list_by kind (map (value_view bytes.now (trees_of m.now) store.now) parts.now) }
-    ensures there { IfSome result (IsMadeIn m.now store.now) }
-{
-    match kind {
-        ListKind::EntriesEnd => match *parts { [] => Some(Made::Value(Value::Entries(0))), _ => None },
-        ListKind::EntriesMore => match *parts { [Value::Entry(e), Value::Entries(n)] => Some(Made::Entries(e, n)), _ => None },
-        ListKind::BodyEnd => match *parts { [] => Some(Made::Value(Value::Body(0))), _ => None },
-        ListKind::BodyMore => match *parts { [Value::Part(p), Value::Body(n)] => Some(Made::Body(p, n)), _ => None },
-        ListKind::ParamsEnd => match *parts { [] => Some(Made::Value(Value::Params(0))), _ => None },
-        ListKind::ParamsMore => match *parts { [Value::Param(p), Value::Params(n)] => Some(Made::Params(p, n)), _ => None },
-        ListKind::Parameters => match *parts { [Value::Params(n), Value::Nothing, Value::Nothing] => Some(Made::Value(Value::Params(n))), _ => None },
-        ListKind::Head => match *parts {
-            [Value::Nothing, Value::Nothing, Value::Type(result), Value::Text(name), Value::Params(params)] => Some(Made::Value(Value::Head(Head { result, name, params }))),
-            _ => None,
-        },
-        ListKind::Define => match *parts {
-            [Value::Nothing, Value::Head(head), Value::Nothing, Value::Nothing, Value::Body(body)] => Some(Made::Value(Value::Function(Definition { head, body }))),
-            _ => None,
-        },
-        ListKind::FileEnd => match *parts { [] => Some(Made::Value(Value::File(None, 0))), _ => None },
-        ListKind::FileMore => match *parts {
-            [Value::Source(name), Value::File(None, n)] => Some(Made::Value(Value::File(Some(name), n))),
-            [Value::Function(d), Value::File(None, n)] => Some(Made::File(d, n)),
-            _ => None,
-        },
-    }
+    Some(value)
 }

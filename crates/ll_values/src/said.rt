@@ -32,6 +32,20 @@ pub fn void_type(m: &mut LLVMModule) -> Result<LLVMType, AllocError>
     Ok(ty)
 }
 
+/// An integer type, where it is one of the first of the module: most texts have few.
+fn early_int(m: &LLVMModule, width: u32) -> Option<LLVMType>
+    ensures { IfSome result (λ t. slice_get m.now.types t.0 ≡ Some (T.Int width)) }
+{
+    for i in 0..m.types().min(4) {
+        if let LLVMTypeKind::Int(found) = m.type_kind(LLVMType(i))
+            && *found == width
+        {
+            return Some(LLVMType(i));
+        }
+    }
+    None
+}
+
 /// An integer type of 1 to 2^23 bits.
 pub fn int_type(m: &mut LLVMModule, width: u32) -> Result<LLVMType, AllocError>
     requires sound { IsModule m.old }
@@ -41,6 +55,9 @@ pub fn int_type(m: &mut LLVMModule, width: u32) -> Result<LLVMType, AllocError>
     ensures there { IfOk result (IsTypeIn m.new) }
     ensures tree { IfOk result (λ t. type_at (trees_of m.new).types t ≡ IntType width) }
 {
+    if let Some(ty) = early_int(m, width) {
+        return Ok(ty);
+    }
     let ty = m.type_get(LLVMTypeKind::Int(width))?;
     Ok(ty)
 }

@@ -1,5 +1,5 @@
 -- Each round does the event before.
-use Rattle.std.proofs.Common.{◌≡◌, ◌<◌, ◌-◌, ◌+◌, [], List, ℕ, length, take, drop, reverse, Result, Err, Some, None, sym, ap, ◌∙◌, subst, arith}
+use Rattle.std.proofs.Common.{◌≡◌, ◌<◌, ◌-◌, ◌+◌, [], List, ℕ, length, take, drop, Result, Err, Some, None, sym, ◌∙◌, subst, arith}
 use Rattle.std.proofs.lemmas.List.{drop_all, take-append-drop}
 use Rattle.std.proofs.lemmas.List.Elements.{All-nil}
 use Rattle.grammars.specs.declared.symbols.Event.{Event}
@@ -16,7 +16,7 @@ fails e = Err e
 
 pub loop-left-init : goal.loop-left-init
 loop-left-init c =
-    let none : reverse c.new-stack.result.items ≡ [] = ap reverse c.new-stack.ensures.items in (
+    let none : c.new-stack.result ≡ [] = c.new-stack.ensures in (
       omega arith,
       rw none (record { store = c.requires.store; values = All-nil _ }),
       none_interned c.args.m.now c.requires.store.sound,
@@ -28,7 +28,7 @@ loop-left-preserved c =
     let i = c.loop-left.left - 1 in
     let inside : i < length c.args.events.now = omega arith in
     let next : i + 1 ≡ c.loop-left.left = omega arith in
-    let behind = subst (λ (n : ℕ). fold_of c.args.source.now (drop n c.args.events.now) ≡ Some (over c.args.source.now c.loop-left.m c.loop-left.store (reverse c.loop-left.stack.items))) (sym next) c.loop-left.invariant.3 in (
+    let behind = subst (λ (n : ℕ). fold_of c.args.source.now (drop n c.args.events.now) ≡ Some (over c.args.source.now c.loop-left.m c.loop-left.store c.loop-left.stack)) (sym next) c.loop-left.invariant.3 in (
       omega arith,
       c.in-Ok.ensures.standing,
       interned_twice c.args.m.now c.loop-left.m c.step.new.m c.loop-left.invariant.2 c.in-Ok.ensures.interns,
@@ -40,7 +40,7 @@ returns-in-Err-clause-not_yet c = λ e.
     let i = c.loop-left.left - 1 in
     let inside : i < length c.args.events.now = omega arith in
     let next : i + 1 ≡ c.loop-left.left = omega arith in
-    let behind = subst (λ (n : ℕ). fold_of c.args.source.now (drop n c.args.events.now) ≡ Some (over c.args.source.now c.loop-left.m c.loop-left.store (reverse c.loop-left.stack.items))) (sym next) c.loop-left.invariant.3 in
+    let behind = subst (λ (n : ℕ). fold_of c.args.source.now (drop n c.args.events.now) ≡ Some (over c.args.source.now c.loop-left.m c.loop-left.store c.loop-left.stack)) (sym next) c.loop-left.invariant.3 in
     let is : fails c.in-Err.e ≡ fails NotYet = cc in
     let here = before c.args.source.now c.args.events.now i (Took 0) _ inside behind ∙ c.in-Err.ensures.not_yet is in
     subst (λ (es : List Event). fold_of c.args.source.now es ≡ None) (take-append-drop i c.args.events.now) (none_behind c.args.source.now (take i c.args.events.now) (drop i c.args.events.now) here)

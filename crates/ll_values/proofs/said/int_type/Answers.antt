@@ -12,3 +12,6 @@ returns-clause-there c = slice_get_within _ _ _ c.in_ok-ty.ensures.interned.here
 
 pub returns-clause-tree : goal.returns-clause-tree
 returns-clause-tree c = int_tree_of c.type_get.new.self c.in_ok-ty.ty c.args.width c.in_ok-ty.ensures.sound c.in_ok-ty.ensures.interned.here
+
+pub returns-in-Some-clause-tree : goal.returns-in-Some-clause-tree
+returns-in-Some-clause-tree c = int_tree_of c.args.m.now c.in-Some.ty c.args.width c.requires.sound c.in-Some.ensures
