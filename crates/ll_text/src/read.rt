@@ -65,13 +65,8 @@ fn read_lines(
         Ok(reading) => reading,
         Err(e) => return Err(e),
     };
-    match read_file(
-        alloc,
-        m,
-        bytes,
-        reading.tokens.as_slice(),
-        reading.events.as_slice(),
-    ) {
+    let Reading { tokens, events } = reading;
+    match read_file(alloc, m, bytes, tokens, events) {
         Ok(file) => Ok(file),
         Err(ValueErr::NoMemory) => Err(ReadErr::NoMemory),
         Err(ValueErr::NotYet) => Err(ReadErr::NotYet),

@@ -67,4 +67,18 @@ impl<T: Copy + Drop> Lists<T> {
         let link = self.links[n as usize - 1];
         Some((link.item, link.rest))
     }
+
+    /// How many items a list has.
+    pub fn count(&self, n: u32) -> usize
+        requires { n ≤ length self.now }
+        ensures { result ≡ length (list_at self.now n) }
+    {
+        let mut count = 0;
+        let mut next = n;
+        while let Some((_, rest)) = self.first(next) {
+            count += 1;
+            next = rest;
+        }
+        count
+    }
 }

@@ -1,6 +1,6 @@
 //! What the events of a text say.
 
-ghost use Rattle.std.specs.Prelude.{◌≡◌, ℕ, [], ◌∷◌, Option, Some, None, Err, IfOk, IfSome, OnOk};
+ghost use Rattle.std.specs.Prelude.{◌≡◌, ℕ, [], ◌∷◌, map, reverse, Option, Some, None, Err, IfOk, IfSome, OnOk};
 ghost use Rattle.llvm_core.specs.Sound.{IsModule};
 ghost use Rattle.llvm_core.specs.Data.{trees_of, data_of};
 ghost use Rattle.ll_lines.specs.Lines as said;
@@ -10,6 +10,9 @@ ghost use Rattle.ll_lines.specs.declared.names.Name as names;
 ghost use Rattle.ll_values.specs.declared.value.Value.TheVariants as V;
 ghost use Rattle.ll_values.specs.Values.{FileV};
 ghost use Rattle.ll_values.specs.Folding.{fold};
+ghost use Rattle.ll_values.specs.Views.{value_view, IsStoreIn};
+ghost use Rattle.ll_values.specs.Stack.{IsStanding};
+ghost use Rattle.ll_values.specs.Growing.{Interns};
 
 use crate::assemble::functions;
 use crate::fold::{Source, fold};
@@ -35,28 +38,46 @@ fn file_of(values: &[Value]) -> Option<(Option<Name>, u32)>
     }
 }
 
+/// The values of events, which are let go with the tokens.
+fn values_of(
+    alloc: Global,
+    m: &mut LLVMModule,
+    store: &mut Store,
+    bytes: &[u8],
+    tokens: Vec<Token>,
+    events: Vec<Event>,
+) -> Result<Vec<Value>, ValueErr>
+    requires store { IsStoreIn m.old store.old }
+    ensures standing { IfOk result (λ vs. IsStanding m.new store.new (reverse vs.items)) }
+    ensures interns { OnOk result (Interns m.old m.new) }
+    ensures folded { IfOk result (λ vs. fold KINDS bytes.now tokens.items events.items ≡ Some (map (value_view bytes.now (trees_of m.new) store.new) (reverse vs.items))) }
+    ensures not_yet { result ≡ Err ValueErr.NotYet → fold KINDS bytes.now tokens.items events.items ≡ None }
+{
+    let text = Source {
+        kinds: &KINDS,
+        bytes,
+        tokens: tokens.as_slice(),
+    };
+    fold(alloc, m, store, &text, events.as_slice())
+}
+
 /// The file that events say, whose types and constants are added to the module.
 pub fn read_file(
     alloc: Global,
     m: &mut LLVMModule,
     bytes: &[u8],
-    tokens: &[Token],
-    events: &[Event],
+    tokens: Vec<Token>,
+    events: Vec<Event>,
 ) -> Result<File, ValueErr>
-    ensures file { IfOk result (λ f. fold KINDS bytes.now tokens.now events.now ≡ Some (FileV (file_view bytes.now (trees_of m.new) f) ∷ [])) }
+    ensures file { IfOk result (λ f. fold KINDS bytes.now tokens.items events.items ≡ Some (FileV (file_view bytes.now (trees_of m.new) f) ∷ [])) }
     ensures there { IfOk result (IsFileIn m.new) }
     ensures rest { OnOk result (data_of m.new ≡ data_of m.old) }
     ensures sound { OnOk result (IsModule m.new) }
-    ensures not_yet { result ≡ Err ValueErr.NotYet → (f : said.File) → fold KINDS bytes.now tokens.now events.now ≡ Some (FileV f ∷ []) → ⊥ }
+    ensures not_yet { result ≡ Err ValueErr.NotYet → (f : said.File) → fold KINDS bytes.now tokens.items events.items ≡ Some (FileV f ∷ []) → ⊥ }
 {
     let _count = m.types();
-    let text = Source {
-        kinds: &KINDS,
-        bytes,
-        tokens,
-    };
     let mut store = Store::new(alloc);
-    let values = match fold(alloc, m, &mut store, &text, events) {
+    let values = match values_of(alloc, m, &mut store, bytes, tokens, events) {
         Ok(values) => values,
         Err(e) => return Err(e),
     };
