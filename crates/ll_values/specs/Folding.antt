@@ -22,12 +22,15 @@ make k vs = value_by k (take (part_count k) vs) >>= λ v. Some (v ∷ drop (part
 
 module _ (kinds : List Kind) (bytes : List ℕ) (tokens : List Token) where
   -- the bytes of the token at a place
+  abbrev pub token_at : (at : ℕ) → Option Value
+  token_at at = option_map (λ (x : Token). TextV (text_of bytes (record { start = x.start; end = x.end }))) (slice_get tokens at)
+
   abbrev pub token_by : symbols.Token → Option Value
-  token_by t = option_map (λ (x : Token). TextV (text_of bytes (record { start = x.start; end = x.end }))) (slice_get tokens t.at)
+  token_by t = token_at t.at
 
   -- what an event does to the values that stand behind it
   abbrev pub step : Event → List Value → Option (List Value)
-  step (Held t) vs = token_by t >>= λ v. Some (v ∷ vs)
+  step (Held at) vs = token_at at >>= λ v. Some (v ∷ vs)
   step (Took i) vs = make (kind_at kinds i) vs
 
   unfoldable pub fold : List Event → Option (List Value)

@@ -119,8 +119,8 @@ fn step(
     ensures not_yet { result ≡ Err ValueErr.NotYet → step_of source.now event (over source.now m.old store.old stack.old) ≡ None }
 {
     match event {
-        Event::Held(token) => {
-            let Some(name) = name_at(source.tokens, token.at) else {
+        Event::Held(at) => {
+            let Some(name) = name_at(source.tokens, at) else {
                 return Err(ValueErr::NotYet);
             };
             stack.push(alloc, Value::Text(name))?;

@@ -61,11 +61,11 @@ module _ (g : Grammar) (kinds : List Kind) (bytes : List ℕ) (tokens : List Tok
   split [] (w ∷ ws) us h = absurd h
   split (t ∷ ts) (w ∷ ws) us h = let r = split ts ws us h.2 in record { front = t ∷ r.front; back = r.back; both = ap (λ rs. t ∷ rs) r.both; first = (h.0, h.1, r.first); second = r.second }
 
-  held_folds : (t : symbols.Token) (v : Value) (es : List Event) (vs : List Value) → token_by kinds bytes tokens t ≡ Some v → FoldsTo es vs → FoldsTo (Held t ∷ es) (v ∷ vs)
+  held_folds : (t : symbols.Token) (v : Value) (es : List Event) (vs : List Value) → token_by kinds bytes tokens t ≡ Some v → FoldsTo es vs → FoldsTo (Held t.at ∷ es) (v ∷ vs)
   unfolding fold
-  held_folds t v es vs is folds fs = ap (λ o. o >>= step kinds bytes tokens (Held t)) (folds fs) ∙ by (fold kinds bytes tokens fs)
+  held_folds t v es vs is folds fs = ap (λ o. o >>= step kinds bytes tokens (Held t.at)) (folds fs) ∙ by (fold kinds bytes tokens fs)
     where
-      by : (o : Option (List Value)) → ((o >>= λ us. Some (vs ++ us)) >>= step kinds bytes tokens (Held t)) ≡ (o >>= λ us. Some (v ∷ (vs ++ us)))
+      by : (o : Option (List Value)) → ((o >>= λ us. Some (vs ++ us)) >>= step kinds bytes tokens (Held t.at)) ≡ (o >>= λ us. Some (v ∷ (vs ++ us)))
       by None = refl
       by (Some us) = ap (λ o. o >>= λ (v : Value). Some (v ∷ (vs ++ us))) is
 
@@ -113,8 +113,8 @@ module _ (g : Grammar) (kinds : List Kind) (bytes : List ℕ) (tokens : List Tok
   events_of _ _ _ (t ∷ ts) (says_leaf st vs ws w s) h =
       let r = events_of st vs ws ts s h.2 in
       record {
-        events = Held t ∷ r.events;
-        written = subst (λ (c : ℕ). Writes g (Leaf c ∷ st) (Held t ∷ r.events) (t ∷ ts)) h.0 (at_leaf st r.events ts t r.written);
+        events = Held t.at ∷ r.events;
+        written = subst (λ (c : ℕ). Writes g (Leaf c ∷ st) (Held t.at ∷ r.events) (t ∷ ts)) h.0 (at_leaf st r.events ts t r.written);
         folds = held_folds t (TextV w.text) r.events vs h.1 r.folds;
       }
   events_of _ _ _ ts (says_rule i_r i α st v cs vs ws us is count made inside behind) h =
