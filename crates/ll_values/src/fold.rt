@@ -74,7 +74,7 @@ fn take(
 }
 
 /// Does an alternative of that kind to the values behind it. What says the same as its part leaves the stack as it is.
-fn turn(
+fn apply(
     alloc: Global,
     m: &mut LLVMModule,
     store: &mut Store,
@@ -128,7 +128,7 @@ fn step(
         }
         Event::Took(alternative) => {
             let kind = kind_of(source.kinds, alternative);
-            turn(alloc, m, store, source, stack, kind)
+            apply(alloc, m, store, source, stack, kind)
         }
     }
 }

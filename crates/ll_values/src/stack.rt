@@ -30,7 +30,7 @@ fn lowered(alloc: Global, cells: &[Value], free: usize) -> Result<Vec<Value>, Al
     ensures cells { IfOk result (λ v. drop free v.items ≡ cells.now) }
     ensures room { IfOk result (λ v. length v.items ≡ free + length cells.now) }
 {
-    let mut more = Vec::new(alloc);
+    let mut more = Vec::with_capacity(alloc, free.saturating_add(cells.len()))?;
     more.resize(free, Value::Nothing)?;
     more.extend_from_slice(cells)?;
     Ok(more)
