@@ -36,7 +36,7 @@ pub fn void_type(m: &mut LLVMModule) -> Result<LLVMType, AllocError>
 fn early_int(m: &LLVMModule, width: u32) -> Option<LLVMType>
     ensures { IfSome result (λ t. slice_get m.now.types t.0 ≡ Some (T.Int width)) }
 {
-    for i in 0..m.types().min(4) {
+    for i in 0..m.types().min(6) {
         if let LLVMTypeKind::Int(found) = m.type_kind(LLVMType(i))
             && *found == width
         {
