@@ -6,6 +6,7 @@ pub mod dominance;
 pub mod laws;
 pub mod ordering;
 mod proposal;
+mod quick;
 mod semi;
 mod spanning;
 pub mod succs;
