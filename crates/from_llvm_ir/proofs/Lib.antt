@@ -17,6 +17,7 @@ pub mod PassLaws
 pub mod TakenLaws
 pub mod UsedLaws
 pub mod GraphLaws
+pub mod OneLaws
 pub mod ForwardLaws
 pub mod RowLaws
 pub mod Whole

@@ -23,11 +23,12 @@ use crate::conversion_err::ConversionErr;
 use crate::entries::entries_of;
 use crate::matching::FunctionBlocks;
 use crate::operations::{given, import_blocks};
-use crate::order::{graph, place_of, places_of};
+use crate::order::{graph, place_of, places_of, text_places};
 use crate::targets::{Targets, target_of};
 use crate::types::{import_function_type, import_params, import_phi_types, param_count};
 use crate::uses::check_uses;
 use crate::values::Values;
+use block_order::dominance::Dominance;
 use block_order::ordering::rpo;
 use dialect_core::context::Context;
 use dialect_core::numbers::{BlockRef, FuncOp};
@@ -198,7 +199,7 @@ fn declare<L: Ledger>(
     add_func(ctx, body, name, ty, steps)
 }
 
-/// The places of a function's blocks in depth-first order. Refuses a function that uses the result of an instruction
+/// The places of a function's blocks in depth-first order, which one block has without a walk. Refuses a function that uses the result of an instruction
 /// where it is not defined: `UndefinedValue`.
 fn checked_order(
     alloc: Global,
@@ -210,9 +211,16 @@ fn checked_order(
     ensures dominated { OnOk result ((g : Function) → IsSource source.now f g → HasDominatedUses g) }
     ensures err { IfErr result (λ e. (g : Function) → IsSource source.now f g → IsRefusalOfFunction g e) }
 {
-    let succs = graph(alloc, source, f)?;
+    let places = text_places(alloc, source, f)?;
+    if source.blocks(f).len() == 1 {
+        check_uses(alloc, source, f, places, None)?;
+        let alone = vec![in alloc; 0u32; 1]?;
+        return Ok(alone);
+    }
+    let succs = graph(alloc, source, f, &places)?;
     let order = rpo(alloc, &succs)?;
-    check_uses(alloc, source, f, succs)?;
+    let dominance = Dominance::new(alloc, succs)?;
+    check_uses(alloc, source, f, places, Some(dominance))?;
     Ok(order)
 }
 

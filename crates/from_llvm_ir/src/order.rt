@@ -96,14 +96,18 @@ fn push_row(
 }
 
 /// The graph of a function: for each block, in the order of the text, the places of those that it leads to.
-pub fn graph(alloc: Global, source: &LLVMModule, f: LLVMFunction) -> Result<Succs, AllocError>
-    requires { (g : Function) × IsSource source.now f g }
-    ensures { IfOk result (λ s. (g : Function) → IsSource source.now f g → s ≡ graph_of g) }
+pub fn graph(
+    alloc: Global,
+    source: &LLVMModule,
+    f: LLVMFunction,
+    places: &Places,
+) -> Result<Succs, AllocError>
+    requires { (g : Function) × IsSource source.now f g × ArePlacesOf g places.now }
+    ensures { IfOk result (λ s. (g : Function) → IsSource source.now f g → ArePlacesOf g places.now → s ≡ graph_of g) }
 {
-    let places = text_places(alloc, source, f)?;
     let mut succs = Succs::new(alloc);
     for block in source.blocks(f) {
-        push_row(alloc, source, &places, *block, &mut succs)?;
+        push_row(alloc, source, places, *block, &mut succs)?;
     }
     Ok(succs)
 }
