@@ -43,6 +43,27 @@ first_push p (x ∷ xs) e = by (nat_eq x.block.0 p.0) (first_push p xs e)
     by true h = refl
     by false h = h
 
+-- none of the entries before an entry is for the block, and so none of those up to one that is not
+pub first_none : (p : LLVMBasicBlock) (entries : List PhiEntry) (i : ℕ) (e : PhiEntry) → slice_get entries i ≡ Some e → first_value p (take i entries) ≡ None → nat_eq e.block.0 p.0 ≡ false → first_value p (take (i + 1) entries) ≡ None
+first_none p entries i e at none differs =
+    ap (first_value p) (take_next entries i e at) ∙ first_push p (take i entries) e
+    ∙ ap (λ (o : Option LLVMValue). or_else o (if nat_eq e.block.0 p.0 then Some e.value else None)) none
+    ∙ ap (λ (t : Bool). or_else None (if t then Some e.value else None)) differs
+
+-- the entry is the first for the block
+pub first_at : (p : LLVMBasicBlock) (entries : List PhiEntry) (i : ℕ) (e : PhiEntry) → slice_get entries i ≡ Some e → first_value p (take i entries) ≡ None → nat_eq e.block.0 p.0 ≡ true → first_value p entries ≡ Some e.value
+first_at p [] i e at none same = cc
+first_at p (x ∷ xs) ℕ.zero e at none same =
+    let is : x ≡ e = same_Some x e at in
+    ap (λ (b : Bool). option_map (λ (y : PhiEntry). y.value) (cond b (Some x) (find (λ (y : PhiEntry). nat_eq y.block.0 p.0) xs))) (subst (λ (y : PhiEntry). nat_eq y.block.0 p.0 ≡ true) (sym is) same)
+    ∙ ap (λ (y : PhiEntry). Some y.value) is
+first_at p (x ∷ xs) (ℕ.suc i) e at none same = by (nat_eq x.block.0 p.0) (λ h. first_at p xs i e at h same) none
+  where
+    by : (b : Bool) → (first_value p (take i xs) ≡ None → first_value p xs ≡ Some e.value) → option_map (λ (y : PhiEntry). y.value) (cond b (Some x) (find (λ (y : PhiEntry). nat_eq y.block.0 p.0) (take i xs))) ≡ None
+        → option_map (λ (y : PhiEntry). y.value) (cond b (Some x) (find (λ (y : PhiEntry). nat_eq y.block.0 p.0) xs)) ≡ Some e.value
+    by true rest h = absurd (none-some x.value (sym h))
+    by false rest h = rest h
+
 -- the entries of a phi were noted, as far as these
 abbrev pub AreNotedTo : (old new : Entries) → LLVMInstRef → List PhiEntry → Type 0
 AreNotedTo old new phi entries = (q : LLVMInstRef) (p : LLVMBasicBlock) → entry_at new q p ≡ or_else (entry_at old q p) (if nat_eq phi.0 q.0 then first_value p entries else None)

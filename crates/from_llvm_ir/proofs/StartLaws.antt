@@ -1,9 +1,9 @@
 -- The start of a body, and its end: blocks that are added, what parameters stand for, and a function that is whole.
-use Rattle.std.proofs.Common.{ℕ, ◌≡◌, ◌<◌, ◌≤◌, ◌+◌, ◌⊎◌, if◌then◌else◌, inl, inr, refl, sym, ap, subst, ◌∙◌, Bool, true, false, nat_eq, List, [], ◌∷◌, ◌++◌, Some, None, All, length, map, slice_get, get_or, arith, eq-eqb, ne_eqb, length-append, ◌≢◌}
+use Rattle.std.proofs.Common.{ℕ, ◌≡◌, ◌<◌, ◌≤◌, ◌+◌, ◌⊎◌, ◌&&◌, nat_lt, eqb-true, if◌then◌else◌, inl, inr, refl, sym, ap, subst, ◌∙◌, Bool, true, false, nat_eq, List, [], ◌∷◌, ◌++◌, Some, None, All, length, map, slice_get, get_or, arith, eq-eqb, ne_eqb, length-append, ◌≢◌}
 use Rattle.std.specs.Prelude.{IsSome}
 use Rattle.std.specs.Option.{option_map}
 use Rattle.std.specs.List.{flat_map}
-use Rattle.std.proofs.lemmas.Bool.{cases_lt, both_ways}
+use Rattle.std.proofs.lemmas.Bool.{cases_lt, both_ways, ltb-true, lt-ltb}
 use Rattle.std.proofs.lemmas.List.{take_all, append-nil}
 use Rattle.std.proofs.lemmas.List.Elements.{All-nil, All-weaker}
 use Rattle.std.proofs.lemmas.Option.{slice_get_within, same_Some, none-some}
@@ -11,6 +11,8 @@ use Rattle.dialect_types.proofs.TreeLemmas.{push_cases}
 use Rattle.support.specs.Interned.{IsDistinctList}
 use Rattle.llvm_core.specs.declared.numbers.LLVMFunction.{LLVMFunction}
 use Rattle.llvm_core.specs.declared.numbers.LLVMBasicBlock.{LLVMBasicBlock}
+use Rattle.llvm_core.specs.declared.numbers.LLVMConst.{LLVMConst}
+use Rattle.llvm_core.specs.declared.numbers.LLVMInstRef.{LLVMInstRef}
 use Rattle.llvm_core.specs.declared.code.LLVMValue.{LLVMValue}
 use Rattle.llvm_core.specs.declared.code.LLVMValue.TheVariants as K
 use Rattle.llvm_core.specs.declared.code.FunctionData.{FunctionData}
@@ -30,12 +32,13 @@ use Rattle.dialect_core.specs.ContextData.{ContextData, kind_at}
 use Rattle.dialect_core.specs.Data.{DialectModule, Func, DialectBlock, DialectOp, with_func, with_func_block}
 use Rattle.block_order.specs.DepthFirst.{IsDepthFirst}
 use Rattle.from_llvm_ir.specs.declared.matching.FunctionBlocks.{FunctionBlocks}
+use Rattle.from_llvm_ir.specs.declared.values.Params.{Params}
 use Rattle.from_llvm_ir.specs.declared.values.Values.{Values}
 use Rattle.from_llvm_ir.specs.Match.{IsPlaces}
 use Rattle.from_llvm_ir.specs.Order.{IsInverse}
 use Rattle.from_llvm_ir.specs.Walks.{graph_of, HasDominatedUses}
 use Rattle.from_llvm_ir.specs.Types.{GrowsTypes}
-use Rattle.from_llvm_ir.specs.Values.{Targets, target_at, value_at, IsNoted}
+use Rattle.from_llvm_ir.specs.Values.{Targets, target_at, param_at, value_at, IsNoted}
 use Rattle.from_llvm_ir.specs.Imported.{FirstUses, NoUses, UsedAgain, UsedFirst, ImportedFunction, IsBuilding, IsBelow, front_for, given_name, label_for, phis_of}
 use Rattle.from_llvm_ir.specs.Building.{AreBare, AreFresh, AreNumbered, IsUnder, bare_func, with_blocks, with_ops, ops_of}
 use Rattle.from_llvm_ir.specs.Source.{IsSource, IsBlockOf}
@@ -171,40 +174,31 @@ pub record AreParams (f : LLVMFunction) (block : BlockRef) (n : ℕ) (values : V
   pub only : (v : LLVMValue) (w : Value) → value_at values v ≡ Some w → (i : ℕ) × (i < n) × (v ≡ K.Param f i) × (w ≡ V.Argument block i)
   pub each : (i : ℕ) → i < n → value_at values (K.Param f i) ≡ Some (V.Argument block i)
 
-pub no_params : (f : LLVMFunction) (block : BlockRef) (values : Values) → ((v : LLVMValue) → value_at values v ≡ None) → AreParams f block 0 values
-no_params f block values h = record {
-  only = λ v w at. absurd (none-some w (sym (h v) ∙ at));
-  each = λ i lt. absurd (omega (arith, lt));
-}
+abbrev pub params_of : LLVMFunction → BlockRef → ℕ → Params
+params_of f block n = record { function = f; block = block; count = n }
 
-pub more_params : (f : LLVMFunction) (block : BlockRef) (n : ℕ) (old new : Values) → AreParams f block n old → IsNoted old new (K.Param f n) (V.Argument block n) → AreParams f block (n + 1) new
-more_params f block n old new h note = record {
-  only = λ v w at. only v w (keys.eq-value.it (K.Param f n) v) refl (sym (note v) ∙ at);
-  each = λ i lt. each i lt (keys.eq-value.it (K.Param f n) (K.Param f i)) refl;
-}
+-- so it is of maps that hold nothing yet
+pub params_known : (f : LLVMFunction) (block : BlockRef) (n : ℕ) (values : Values) → values.params ≡ params_of f block n → ((i : LLVMInstRef) → value_at values (K.Inst i) ≡ None) → ((c : LLVMConst) → value_at values (K.Const c) ≡ None) → AreParams f block n values
+params_known f block n values params insts consts = record { only = only; each = each }
   where
-    only : (v : LLVMValue) (w : Value) (t : Bool) → keys.eq-value.it (K.Param f n) v ≡ t → (if keys.eq-value.it (K.Param f n) v then Some (V.Argument block n) else value_at old v) ≡ Some w → (i : ℕ) × (i < n + 1) × (v ≡ K.Param f i) × (w ≡ V.Argument block i)
-    only v w true same at =
-        let e : K.Param f n ≡ v = (key_decides (K.Param f n) v).0 same in
-        let is : V.Argument block n ≡ w = same_Some (V.Argument block n) w (sym (ap (λ (t : Bool). if t then Some (V.Argument block n) else value_at old v) same) ∙ at) in
-        (n, omega arith, sym e, sym is)
-    only v w false apart at =
-        let x = h.only v w (sym (ap (λ (t : Bool). if t then Some (V.Argument block n) else value_at old v) apart) ∙ at) in
-        (x.0, omega (arith, x.1), x.2, x.3)
+    read : (e : LLVMFunction) (i : ℕ) → value_at values (K.Param e i) ≡ (if nat_eq e.0 f.0 && nat_lt i n then Some (V.Argument block i) else None)
+    read e i = ap (λ (p : Params). param_at p e i) params
 
-    each : (i : ℕ) → i < n + 1 → (t : Bool) → keys.eq-value.it (K.Param f n) (K.Param f i) ≡ t → value_at new (K.Param f i) ≡ Some (V.Argument block i)
-    each i lt t is = elim (cases_lt i n) [
-      | inl small ↦ by_key i t is (inl small)
-      | inr past ↦ by_key i t is (inr (omega (arith, lt, past)))
-    ]
+    only : (v : LLVMValue) (w : Value) → value_at values v ≡ Some w → (i : ℕ) × (i < n) × (v ≡ K.Param f i) × (w ≡ V.Argument block i)
+    only (K.Inst i) w at = absurd (none-some w (sym (insts i) ∙ at))
+    only (K.Const c) w at = absurd (none-some w (sym (consts c) ∙ at))
+    only (K.Param e i) w at = by (nat_eq e.0 f.0) (nat_lt i n) refl refl (sym (read e i) ∙ at)
       where
-        by_key : (i : ℕ) (t : Bool) → keys.eq-value.it (K.Param f n) (K.Param f i) ≡ t → (i < n) ⊎ (n ≡ i) → value_at new (K.Param f i) ≡ Some (V.Argument block i)
-        by_key i true same w =
-            let e : K.Param f n ≡ K.Param f i = (key_decides (K.Param f n) (K.Param f i)).0 same in
-            let is : n ≡ i = cc e in
-            note (K.Param f i) ∙ ap (λ (t : Bool). if t then Some (V.Argument block n) else value_at old (K.Param f i)) same ∙ ap (λ (k : ℕ). Some (V.Argument block k)) is
-        by_key i false apart (inl small) = note (K.Param f i) ∙ ap (λ (t : Bool). if t then Some (V.Argument block n) else value_at old (K.Param f i)) apart ∙ h.each i small
-        by_key i false apart (inr e) = absurd (both_ways (keys.eq-value.it (K.Param f n) (K.Param f i)) apart ((key_decides (K.Param f n) (K.Param f i)).1 (ap (K.Param f) e)))
+        by : (s t : Bool) → nat_eq e.0 f.0 ≡ s → nat_lt i n ≡ t → (if s && t then Some (V.Argument block i) else None) ≡ Some w → (k : ℕ) × (k < n) × (K.Param e i ≡ K.Param f k) × (w ≡ V.Argument block k)
+        by true true same lt is = (i, ltb-true i n lt, ap (λ (k : ℕ). K.Param (record { 0 = k }) i) (eqb-true e.0 f.0 same), sym (same_Some (V.Argument block i) w is))
+        by true false same lt is = absurd (none-some w is)
+        by false true same lt is = absurd (none-some w is)
+        by false false same lt is = absurd (none-some w is)
+
+    each : (i : ℕ) → i < n → value_at values (K.Param f i) ≡ Some (V.Argument block i)
+    each i lt =
+        read f i ∙ ap (λ (t : Bool). if t && nat_lt i n then Some (V.Argument block i) else None) (eq-eqb f.0 f.0 refl)
+        ∙ ap (λ (t : Bool). if true && t then Some (V.Argument block i) else None) (lt-ltb i n lt)
 
 pub params_noted : (m : Module) (fr : Frame) (f : LLVMFunction) (block : BlockRef) (n : ℕ) (values : Values) → fr.source.number ≡ f.0 → length fr.source.params ≡ n → block.0 ≡ fr.base → AreParams f block n values → Notes m values (knows fr [] [] [] [])
 params_noted m fr f block n values number count first h = record {

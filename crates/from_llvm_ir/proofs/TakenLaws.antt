@@ -19,7 +19,7 @@ use Rattle.llvm_core.specs.Data as L
 use Rattle.llvm_core.specs.Data.{Placed, Trees, trees_of, operand_of, instruction_of, phi_entries}
 use Rattle.from_llvm_ir.specs.declared.entries.Entries.{Entries}
 use Rattle.from_llvm_ir.specs.Imported.{first_entry, passed}
-use Rattle.from_llvm_ir.specs.Source.{LeadsTo, IsInstOf, IsUsed, entry_at, taken, taken_by}
+use Rattle.from_llvm_ir.specs.Source.{LeadsTo, IsInstOf, IsNotedOf, IsUsed, taken, taken_by}
 use Rattle.from_llvm_ir.proofs.SourceLaws.{block_number}
 use Rattle.from_llvm_ir.proofs.EntryLaws.{first_is, taken_there}
 use Rattle.from_llvm_ir.proofs.PassLaws.{takes, no_phi_is, block_form, passed_is, taken_for}
@@ -36,7 +36,8 @@ takes_is m b i at p from h =
 -- what a phi of the target takes
 pub record EdgeValue (m : Module) (g : L.Function) (entries : Entries) (from : LLVMBasicBlock) (i : LLVMInstRef) (p : Placed) : Type 0 where
   pub value : LLVMValue
-  pub noted : entry_at entries i from ≡ Some value
+  pub noted : IsNotedOf m entries i
+  pub is : taken m i from ≡ Some value
   pub used : IsUsed m g value
   pub takes_it : takes from.0 p ≡ Some (operand_of (trees_of m) value)
 
@@ -53,7 +54,8 @@ edge_value m f g entries from to h i at p inst phi =
         let by_inst : taken_by from inst.row.inst ≡ Some v = sym (ap (λ (x : Option InstData). option_map_or (λ (y : InstData). taken_by from y.inst) x None) inst.here) ∙ e in
         record {
           value = v;
-          noted = h.noted.each to h.place h.block i at p h.is inst from ∙ e;
+          noted = h.noted.each to h.place h.block i at p h.is inst;
+          is = e;
           used = record { valid = taken_there m from inst.row.inst v (h.source.sound.insts i.0 inst.row inst.here).values by_inst; usable = (p.type, subst (LF.IsOperand g p.type) (sym same) usable) };
           takes_it = takes_is m h.block i at p from inst ∙ ap (option_map (operand_of (trees_of m))) e;
         }
@@ -70,10 +72,10 @@ passed_none m f g entries from to h = record { are = refl; used = All-nil _ }
 taken_next : (from : LLVMBasicBlock) (ps : List Placed) (at : ℕ) (p : Placed) → slice_get ps at ≡ Some p → filter_map (takes from.0) (take (at + 1) ps) ≡ filter_map (takes from.0) (take at ps) ++ cons_option (takes from.0 p) []
 taken_next from ps at p here = ap (filter_map (takes from.0)) (take_next ps at p here) ∙ filter_map-append (takes from.0) (take at ps) (p ∷ [])
 
-pub passed_more : (m : Module) (f : LLVMFunction) (g : L.Function) (entries : Entries) (from to : LLVMBasicBlock) (h : LeadsTo m f g entries from to) (vs : List LLVMValue) (i : LLVMInstRef) (at : ℕ) (p : Placed) (v : LLVMValue) → IsInstOf m h.block i at p → LF.is_phi p ≡ true → entry_at entries i from ≡ Some v → PassedTo m f g entries from to h vs at → PassedTo m f g entries from to h (vs ++ v ∷ []) (at + 1)
+pub passed_more : (m : Module) (f : LLVMFunction) (g : L.Function) (entries : Entries) (from to : LLVMBasicBlock) (h : LeadsTo m f g entries from to) (vs : List LLVMValue) (i : LLVMInstRef) (at : ℕ) (p : Placed) (v : LLVMValue) → IsInstOf m h.block i at p → LF.is_phi p ≡ true → taken m i from ≡ Some v → PassedTo m f g entries from to h vs at → PassedTo m f g entries from to h (vs ++ v ∷ []) (at + 1)
 passed_more m f g entries from to h vs i at p v inst phi noted before =
     let e = edge_value m f g entries from to h i at p inst phi in
-    let same : e.value ≡ v = same_Some e.value v (sym e.noted ∙ noted) in
+    let same : e.value ≡ v = same_Some e.value v (sym e.is ∙ noted) in
     record {
       are = map_push (operand_of (trees_of m)) vs v ∙ ap (λ (os : List L.Operand). os ++ operand_of (trees_of m) v ∷ []) before.are
           ∙ sym (ap (λ (o : Option L.Operand). filter_map (takes from.0) (take at h.block.instructions) ++ cons_option o []) (e.takes_it ∙ ap (λ (x : LLVMValue). Some (operand_of (trees_of m) x)) same))

@@ -84,11 +84,16 @@ entry_at e phi from = get keys.eq-value.it e.map (record { phi = phi; from = fro
 abbrev pub AreRight : Module → Entries → Type 0
 AreRight m e = (phi : LLVMInstRef) (from : LLVMBasicBlock) → (entry_at e phi from ≡ taken m phi from) ⊎ (entry_at e phi from ≡ None)
 
--- what an instruction takes was noted
-abbrev pub IsNotedOf : Module → Entries → LLVMInstRef → Type 0
-IsNotedOf m e phi = (from : LLVMBasicBlock) → entry_at e phi from ≡ taken m phi from
+-- what an instruction takes is found in it, entry by entry: it is no phi with more than a few entries
+abbrev pub HasFew : LLVMInst → Type 0
+HasFew (I.Phi type entries) = length entries ≤ 8
+HasFew (I.Row r) = Unit {0}
 
--- what phis take was noted, and rightly
+-- what an instruction takes was noted, unless it is found in it
+abbrev pub IsNotedOf : Module → Entries → LLVMInstRef → Type 0
+IsNotedOf m e phi = (x : InstData) → slice_get m.insts phi.0 ≡ Some x → ¬ HasFew x.inst → (from : LLVMBasicBlock) → entry_at e phi from ≡ taken m phi from
+
+-- what phis take that is not found in them was noted
 pub record AreEntries (m : Module) (g : L.Function) (e : Entries) : Type 0 where
   pub each : (n : LLVMBasicBlock) (place : ℕ) (b : L.Block) (i : LLVMInstRef) (at : ℕ) (p : Placed) → IsBlockOf m g n place b → IsInstOf m b i at p → IsNotedOf m e i
 

@@ -1,9 +1,9 @@
 -- Which values of the dialect stand for those of a source function, and which are not known yet.
-use Rattle.std.specs.Prelude.{ℕ, ◌≡◌, ◌<◌, List, Option, None, Some, IsSome, if◌then◌else◌, length, slice_get}
-use Rattle.std.specs.HashMap.{get}
+use Rattle.std.specs.Prelude.{ℕ, ◌≡◌, ◌<◌, ◌&&◌, nat_eq, nat_lt, List, Option, None, Some, IsSome, if◌then◌else◌, length, slice_get}
 use Rattle.support.specs.declared.number_map.NumberMap.{NumberMap}
 use Rattle.support.specs.NumberMaps as numbers
 use Rattle.std.specs.Option.{option_map}
+use Rattle.llvm_core.specs.declared.numbers.LLVMFunction.{LLVMFunction}
 use Rattle.llvm_core.specs.declared.numbers.LLVMInstRef.{LLVMInstRef}
 use Rattle.llvm_core.specs.declared.code.LLVMValue.{LLVMValue}
 use Rattle.llvm_core.specs.declared.code.LLVMValue.TheVariants as V
@@ -15,16 +15,22 @@ use Rattle.llvm_core.specs.Data as L
 use Rattle.dialect_core.specs.declared.numbers.BlockRef.{BlockRef}
 use Rattle.meaning.specs.Pairs.{Matched}
 use Rattle.dialect_core.specs.declared.ops.Value.{Value}
+use Rattle.dialect_core.specs.declared.ops.Value.TheVariants as D
+use Rattle.from_llvm_ir.specs.declared.values.Params.{Params}
 use Rattle.from_llvm_ir.specs.declared.values.Values.{Values}
 use Rattle.from_llvm_ir.specs.declared.conversion_err.ConversionErr.{ConversionErr}
 use Rattle.from_llvm_ir.specs.declared.conversion_err.ConversionErr.TheVariants as E
 use Rattle.from_llvm_ir.specs.Imported.{IsIn}
 
+-- the value that stands for a parameter, where there is one
+abbrev pub param_at : Params → LLVMFunction → ℕ → Option Value
+param_at p f i = if nat_eq f.0 p.function.0 && nat_lt i p.count then Some (D.Argument p.block i) else None
+
 -- the value that stands for one of the source, where one was noted
 abbrev pub value_at : Values → LLVMValue → Option Value
 value_at s (V.Inst i) = numbers.value_at s.insts i.0
 value_at s (V.Const c) = numbers.value_at s.consts c.0
-value_at s (V.Param f i) = get keys.eq-value.it s.params (V.Param f i)
+value_at s (V.Param f i) = param_at s.params f i
 
 -- the value is the result of an instruction among the operands, for which no value was noted, and has that name
 pub record IsUnknown (m : Module) (values : Values) (among : List L.Operand) (name : List ℕ) (v : LLVMValue) : Type 0 where
@@ -50,6 +56,12 @@ IsRefusalOf m i E.NoMemory = Unit {0}
 abbrev pub IsSettled : Module → Values → LLVMValue → Type 0
 IsSettled m values (V.Inst i) = i.0 < length m.insts
 IsSettled m values v = IsSome (value_at values v)
+
+-- a constant, or the result of an instruction
+abbrev pub IsMade : LLVMValue → Type 0
+IsMade (V.Inst i) = Unit {0}
+IsMade (V.Const c) = Unit {0}
+IsMade (V.Param f i) = ⊥
 
 -- one more value is noted
 abbrev pub IsNoted : Values → Values → LLVMValue → Value → Type 0

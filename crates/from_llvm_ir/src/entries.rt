@@ -1,11 +1,12 @@
-//! What phis take, found by the phi and the block that an edge comes from.
+//! What phis take for the block that an edge comes from: found in the phi where it has few entries, and else in a map by
+//! the phi and the block.
 
 ghost use Rattle.std.specs.Prelude.{◌≡◌, ◌<◌, ◌&&◌, ℕ, false, nat_eq, IfOk, OnOk, IsSome, None, Some, All, if◌then◌else◌, length, map, slice_get};
 ghost use Rattle.support.specs.Options.{or_else};
 ghost use Rattle.llvm_core.specs.Data.{Block, Function, Placed, trees_of, operand_of};
 ghost use Rattle.llvm_core.specs.Form.{is_phi};
 ghost use Rattle.from_llvm_ir.specs.Imported.{passed};
-ghost use Rattle.from_llvm_ir.specs.Source.{IsSource, LeadsTo, IsSite, IsUsed, AreEntries, AreRight, IsNotedOf, entry_at, first_value, used_by};
+ghost use Rattle.from_llvm_ir.specs.Source.{IsSource, LeadsTo, IsSite, IsUsed, AreEntries, AreRight, IsNotedOf, entry_at, first_value, taken, used_by};
 
 use crate::parts::{is_phi, operands_of, targets_of};
 use llvm_core::code::{LLVMInst, LLVMValue, PhiEntry};
@@ -22,7 +23,7 @@ pub struct Entry {
     pub from: LLVMBasicBlock,
 }
 
-/// What each phi of a function takes for each block: the value of its first entry for it.
+/// What each phi of a function that has more than a few entries takes for each block: the value of its first entry for it.
 #[derive(Drop)]
 pub struct Entries {
     pub map: HashMap<Entry, LLVMValue>,
@@ -78,7 +79,38 @@ fn note_entries(
     Ok(())
 }
 
-/// Notes what an instruction takes: the entries of a phi.
+/// The value of the first of some entries that is for a block.
+fn first_for(entries: &[PhiEntry], from: LLVMBasicBlock) -> LLVMValue
+    requires { IsSome (first_value from entries.now) }
+    ensures { first_value from entries.now ≡ Some result }
+{
+    for entry in entries {
+        if entry.block.0 == from.0 {
+            return entry.value;
+        }
+    }
+    unreachable!()
+}
+
+/// What a phi takes for a block.
+fn value_for(
+    source: &LLVMModule,
+    entries: &Entries,
+    phi: LLVMInstRef,
+    from: LLVMBasicBlock,
+) -> LLVMValue
+    requires within { phi.0 < length source.now.insts }
+    requires noted { IsNotedOf source.now entries.now phi }
+    requires some { IsSome (taken source.now phi from) }
+    ensures { taken source.now phi from ≡ Some result }
+{
+    match source.inst(phi) {
+        LLVMInst::Phi(_, own) if own.as_slice().len() <= 8 => first_for(own.as_slice(), from),
+        _ => entries.of(phi, from),
+    }
+}
+
+/// Notes what an instruction takes: the entries of a phi that has more than a few.
 fn note_inst(noted: &mut Entries, source: &LLVMModule, i: LLVMInstRef) -> Result<(), AllocError>
     requires within { i.0 < length source.now.insts }
     requires right { AreRight source.now noted.old }
@@ -87,8 +119,10 @@ fn note_inst(noted: &mut Entries, source: &LLVMModule, i: LLVMInstRef) -> Result
     ensures kept { OnOk result ((q : LLVMInstRef) → IsNotedOf source.now noted.old q → IsNotedOf source.now noted.new q) }
 {
     match source.inst(i) {
-        LLVMInst::Phi(_, entries) => note_entries(noted, i, entries.as_slice()),
-        LLVMInst::Row(_) => Ok(()),
+        LLVMInst::Phi(_, entries) if entries.as_slice().len() > 8 => {
+            note_entries(noted, i, entries.as_slice())
+        }
+        _ => Ok(()),
     }
 }
 
@@ -110,7 +144,7 @@ fn note_insts(
     Ok(())
 }
 
-/// What each phi of a function takes for each block.
+/// What each phi of a function that has more than a few entries takes for each block.
 pub fn entries_of(
     alloc: Global,
     source: &LLVMModule,
@@ -133,15 +167,15 @@ pub fn edge_values(
     entries: &Entries,
     from: LLVMBasicBlock,
     to: LLVMBasicBlock,
-) -> Result<Vec<LLVMValue>, AllocError>
+) -> Result<ShortList<LLVMValue>, AllocError>
     requires { (f : LLVMFunction) × (g : Function) × LeadsTo source.now f g entries.now from to }
-    ensures passed { IfOk result (λ vs. (f : LLVMFunction) → (g : Function) → LeadsTo source.now f g entries.now from to → map (operand_of (trees_of source.now)) vs.items ≡ passed g from.0 to.0) }
-    ensures used { IfOk result (λ vs. (f : LLVMFunction) → (g : Function) → LeadsTo source.now f g entries.now from to → All (IsUsed source.now g) vs.items) }
+    ensures passed { IfOk result (λ vs. (f : LLVMFunction) → (g : Function) → LeadsTo source.now f g entries.now from to → map (operand_of (trees_of source.now)) vs ≡ passed g from.0 to.0) }
+    ensures used { IfOk result (λ vs. (f : LLVMFunction) → (g : Function) → LeadsTo source.now f g entries.now from to → All (IsUsed source.now g) vs) }
 {
-    let mut values = Vec::new(alloc);
+    let mut values = ShortList::zero();
     for i in source.instructions(to) {
         if is_phi(source.inst(*i)) {
-            values.push(entries.of(*i, from))?;
+            values.push(alloc, value_for(source, entries, *i, from))?;
         } else {
             break;
         }

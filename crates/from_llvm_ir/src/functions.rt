@@ -27,16 +27,14 @@ use crate::order::{graph, place_of, places_of, text_places};
 use crate::targets::{Targets, target_of};
 use crate::types::{import_function_type, import_params, import_phi_types, param_count};
 use crate::uses::check_uses;
-use crate::values::Values;
+use crate::values::{Params, Values};
 use block_order::dominance::Dominance;
 use block_order::ordering::rpo;
 use dialect_core::context::Context;
 use dialect_core::numbers::{BlockRef, FuncOp};
-use dialect_core::ops::Value;
 use dialect_core::steps::Steps;
 use dialect_types::identifier::Identifier;
 use dialect_types::legaliser::Legaliser;
-use llvm_core::code::LLVMValue;
 use llvm_core::module::LLVMModule;
 use llvm_core::numbers::{LLVMBasicBlock, LLVMFunction};
 use std::alloc::{AllocError, Global};
@@ -120,12 +118,12 @@ fn parameters(
 ) -> Result<Values, AllocError>
     ensures { IfOk result (λ values. (m : Module) → (fr : Frame) → fr.source.number ≡ f.0 → length fr.source.params ≡ count → block.0 ≡ fr.base → Notes m values (knows fr [] [] [] [])) }
 {
-    let mut values = Values::new(alloc);
-    for i in 0..count {
-        let place = place_of(i)?;
-        values.set(LLVMValue::Param(f, place), Value::Argument(block, place))?;
-    }
-    Ok(values)
+    let params = Params {
+        function: f,
+        block,
+        count: place_of(count)?,
+    };
+    Ok(Values::new(alloc, params))
 }
 
 /// The body of a function, in a function of the dialect that has no block yet.

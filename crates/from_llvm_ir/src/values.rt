@@ -1,21 +1,43 @@
 //! Which value of the dialect stands for each of a source function.
 
 ghost use Rattle.std.specs.Prelude.{◌≡◌, IfErr, IfOk, OnOk, IsSome, is_some, All, None, Some, ◌∷◌, [], ◌<◌, false, length, map};
+ghost use Rattle.llvm_core.specs.declared.code.LLVMValue.TheVariants as sources;
 ghost use Rattle.llvm_core.specs.Parts.{is_phi, operands};
 ghost use Rattle.llvm_core.specs.Data.{trees_of, operand_of};
-ghost use Rattle.from_llvm_ir.specs.Values.{value_at, AreNoted, IsNoted, IsForward, IsRefusalOf, IsSettled};
+ghost use Rattle.from_llvm_ir.specs.Values.{value_at, param_at, AreNoted, IsMade, IsNoted, IsForward, IsRefusalOf, IsSettled};
 
 use crate::conversion_err::ConversionErr;
 use crate::parts::operands_of;
+use dialect_core::numbers::BlockRef;
 use dialect_core::ops::Value;
 use llvm_core::code::{LLVMInst, LLVMValue};
 use llvm_core::module::LLVMModule;
-use llvm_core::numbers::LLVMInstRef;
+use llvm_core::numbers::{LLVMConst, LLVMFunction, LLVMInstRef};
 use std::alloc::{AllocError, Global};
-use std::collections::HashMap;
 use support::number_map::NumberMap;
 use support::short_list::ShortList;
 use support::text::Text;
+
+/// The parameters of a source function: the arguments of a block stand for them, each for that at its place.
+#[derive(Clone, Copy, Drop)]
+pub struct Params {
+    pub function: LLVMFunction,
+    pub block: BlockRef,
+    pub count: u32,
+}
+
+impl Params {
+    /// The value that stands for a parameter, where there is one.
+    fn get(&self, function: LLVMFunction, place: u32) -> Option<Value>
+        ensures { result ≡ param_at self.now function place }
+    {
+        if function.0 == self.function.0 && place < self.count {
+            Some(Value::Argument(self.block, place))
+        } else {
+            None
+        }
+    }
+}
 
 /// The values of the dialect that stand for parameters, constants and results of a source function.
 #[derive(Drop)]
@@ -24,18 +46,20 @@ pub struct Values {
     pub insts: NumberMap<Value>,
     /// The values of constants, by their number.
     pub consts: NumberMap<Value>,
-    pub params: HashMap<LLVMValue, Value>,
+    pub params: Params,
 }
 
 impl Values {
-    /// No values.
-    pub fn new(alloc: Global) -> Values
-        ensures { (v : LLVMValue) → value_at result v ≡ None }
+    /// The values of these parameters alone.
+    pub fn new(alloc: Global, params: Params) -> Values
+        ensures params { result.params ≡ params }
+        ensures insts { (i : LLVMInstRef) → value_at result (sources.Inst i) ≡ None }
+        ensures consts { (c : LLVMConst) → value_at result (sources.Const c) ≡ None }
     {
         Values {
             insts: NumberMap::new(alloc),
             consts: NumberMap::new(alloc),
-            params: HashMap::new(alloc),
+            params,
         }
     }
 
@@ -46,7 +70,7 @@ impl Values {
         match value {
             LLVMValue::Inst(i) => self.insts.get(i.0),
             LLVMValue::Const(c) => self.consts.get(c.0),
-            LLVMValue::Param(..) => self.params.get(&value).copied(),
+            LLVMValue::Param(function, place) => self.params.get(function, place),
         }
     }
 
@@ -57,21 +81,19 @@ impl Values {
         match value {
             LLVMValue::Inst(i) => self.insts.get(i.0).is_some(),
             LLVMValue::Const(c) => self.consts.get(c.0).is_some(),
-            LLVMValue::Param(..) => self.params.contains_key(&value),
+            LLVMValue::Param(function, place) => self.params.get(function, place).is_some(),
         }
     }
 
-    /// Notes the value that stands for one of the source.
+    /// Notes the value that stands for one of the source that is no parameter.
     pub fn set(&mut self, value: LLVMValue, to: Value) -> Result<(), AllocError>
+        requires { IsMade value }
         ensures { OnOk result (IsNoted self.old self.new value to) }
     {
         match value {
             LLVMValue::Inst(i) => self.insts.set(i.0, to),
             LLVMValue::Const(c) => self.consts.set(c.0, to),
-            LLVMValue::Param(..) => {
-                self.params.insert(value, to)?;
-                Ok(())
-            }
+            LLVMValue::Param(..) => unreachable!(),
         }
     }
 }

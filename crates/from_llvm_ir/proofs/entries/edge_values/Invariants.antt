@@ -6,4 +6,4 @@ use Rattle.from_llvm_ir.proofs.TakenLaws.{PassedTo}
 use Rattle.from_llvm_ir.proofs.entries.edge_values.Given as goal
 
 abbrev pub invariant-loop-i : goal.invariant-loop-i
-invariant-loop-i l = (f : LLVMFunction) → (g : Function) → (h : LeadsTo l.source f g l.entries l.from l.fn.to) → PassedTo l.source f g l.entries l.from l.fn.to h l.values.items l.i-index
+invariant-loop-i l = (f : LLVMFunction) → (g : Function) → (h : LeadsTo l.source f g l.entries l.from l.fn.to) → PassedTo l.source f g l.entries l.from l.fn.to h l.values l.i-index

@@ -36,8 +36,8 @@ loop-to-preserved c = λ f g b p h other.
     let to = leads m f g c.args.entries.now c.args.from c.args.i b p h c.inst-inst.result.now c.inst-inst.ensures.inst c.loop-to.to-index _ (ap (λ (ts : List LLVMBasicBlock). slice_get ts c.loop-to.to-index) (sym items) ∙ at) in
     subst (λ (vs : List LLVMValue). UsedTo m g b p c.targets_of-to-items.result.now vs (c.loop-to.to-index + 1)) (sym c.in_ok-extend_from_slice.ensures)
     (used_more m g b p c.targets_of-to-items.result.now c.loop-to.values c.as_slice.result.now c.loop-to.to-index _ c.args.from (c.loop-to.invariant f g b p h other) at (block_number m g c.args.from h.place b h.of_block)
-    (ap (map (operand_of (trees_of m))) c.as_slice.ensures.value ∙ c.in_ok-passed.ensures.passed f g to)
-    (subst (All (IsUsed m g)) (sym c.as_slice.ensures.value) (c.in_ok-passed.ensures.used f g to)))
+    (ap (map (operand_of (trees_of m))) c.as_slice.ensures ∙ c.in_ok-passed.ensures.passed f g to)
+    (subst (All (IsUsed m g)) (sym c.as_slice.ensures) (c.in_ok-passed.ensures.used f g to)))
 
 pub returns-clause-are : goal.returns-clause-are
 returns-clause-are c = λ f g b p h other.

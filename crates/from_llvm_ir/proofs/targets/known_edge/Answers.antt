@@ -18,20 +18,20 @@ known_values-requires c =
     let h = c.requires.2 in
     let vs = c.as_slice.result.now in
     all_from (IsSettled m c.args.values.now) vs (λ i v at.
-    let here : slice_get c.in_ok-taken.taken.items i ≡ Some v = ap (λ (xs : List LLVMValue). slice_get xs i) (sym c.as_slice.ensures.value) ∙ at in
-    h.settled v (within_at c.in_ok-taken.taken.items (IsUsed m c.requires.1) (c.in_ok-taken.ensures.used c.requires.0 c.requires.1 h.leads) i v here)
-    (i, ap (λ (os : List L.Operand). slice_get os i) (sym (c.in_ok-taken.ensures.passed c.requires.0 c.requires.1 h.leads)) ∙ slice_get-map (operand_of (trees_of m)) c.in_ok-taken.taken.items i ∙ ap (option_map (operand_of (trees_of m))) here))
+    let here : slice_get c.in_ok-taken.taken i ≡ Some v = ap (λ (xs : List LLVMValue). slice_get xs i) (sym c.as_slice.ensures) ∙ at in
+    h.settled v (within_at c.in_ok-taken.taken (IsUsed m c.requires.1) (c.in_ok-taken.ensures.used c.requires.0 c.requires.1 h.leads) i v here)
+    (i, ap (λ (os : List L.Operand). slice_get os i) (sym (c.in_ok-taken.ensures.passed c.requires.0 c.requires.1 h.leads)) ∙ slice_get-map (operand_of (trees_of m)) c.in_ok-taken.taken i ∙ ap (option_map (operand_of (trees_of m))) here))
 
 pub returns-in_err-args-clause-err : goal.returns-in_err-args-clause-err
 returns-in_err-args-clause-err c =
     let m = c.args.source.now in
     passed_on c.from_residual-in_err-args.result c.in_err-args.field-0.0 _ c.from_residual-in_err-args.ensures.1
-    (λ f g h. subst (λ (os : List L.Operand). IsForward m c.args.values.now os c.in_err-args.field-0.0) (ap (map (operand_of (trees_of m))) c.as_slice.ensures.value ∙ c.in_ok-taken.ensures.passed f g h.leads) c.in_err-args.ensures.err)
+    (λ f g h. subst (λ (os : List L.Operand). IsForward m c.args.values.now os c.in_err-args.field-0.0) (ap (map (operand_of (trees_of m))) c.as_slice.ensures ∙ c.in_ok-taken.ensures.passed f g h.leads) c.in_err-args.ensures.err)
 
 pub returns-clause-ok : goal.returns-clause-ok
 returns-clause-ok c = λ f g h. record {
   leads = c.target_of-block.ensures;
-  taken = c.in_ok-taken.taken.items;
+  taken = c.in_ok-taken.taken;
   passes = c.in_ok-taken.ensures.passed f g h.leads;
-  args = subst (λ (vs : List LLVMValue). AreNoted c.args.values.now vs c.in_ok-args.args) c.as_slice.ensures.value c.in_ok-args.ensures.ok;
+  args = subst (λ (vs : List LLVMValue). AreNoted c.args.values.now vs c.in_ok-args.args) c.as_slice.ensures c.in_ok-args.ensures.ok;
 }
