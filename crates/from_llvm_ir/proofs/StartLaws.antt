@@ -1,9 +1,9 @@
 -- The start of a body, and its end: blocks that are added, what parameters stand for, and a function that is whole.
-use Rattle.std.proofs.Common.{ℕ, ◌≡◌, ◌<◌, ◌≤◌, ◌+◌, ◌⊎◌, ◌&&◌, nat_lt, eqb-true, if◌then◌else◌, inl, inr, refl, sym, ap, subst, ◌∙◌, Bool, true, false, nat_eq, List, [], ◌∷◌, ◌++◌, Some, None, All, length, map, slice_get, get_or, arith, eq-eqb, ne_eqb, length-append, ◌≢◌}
+use Rattle.std.proofs.Common.{ℕ, ◌≡◌, ◌<◌, ◌≤◌, ◌+◌, ◌&&◌, nat_lt, eqb-true, if◌then◌else◌, inl, inr, refl, sym, ap, subst, ◌∙◌, Bool, true, false, nat_eq, List, [], ◌∷◌, ◌++◌, Some, None, All, length, map, slice_get, get_or, arith, eq-eqb, ne_eqb, length-append, ◌≢◌}
 use Rattle.std.specs.Prelude.{IsSome}
 use Rattle.std.specs.Option.{option_map}
 use Rattle.std.specs.List.{flat_map}
-use Rattle.std.proofs.lemmas.Bool.{cases_lt, both_ways, ltb-true, lt-ltb}
+use Rattle.std.proofs.lemmas.Bool.{cases_lt, ltb-true, lt-ltb}
 use Rattle.std.proofs.lemmas.List.{take_all, append-nil}
 use Rattle.std.proofs.lemmas.List.Elements.{All-nil, All-weaker}
 use Rattle.std.proofs.lemmas.Option.{slice_get_within, same_Some, none-some}
@@ -16,7 +16,6 @@ use Rattle.llvm_core.specs.declared.numbers.LLVMInstRef.{LLVMInstRef}
 use Rattle.llvm_core.specs.declared.code.LLVMValue.{LLVMValue}
 use Rattle.llvm_core.specs.declared.code.LLVMValue.TheVariants as K
 use Rattle.llvm_core.specs.declared.code.FunctionData.{FunctionData}
-use Rattle.llvm_core.specs.contracts.code.LLVMValuePartialEq.TheImpl as keys
 use Rattle.llvm_core.specs.Module.{Module}
 use Rattle.llvm_core.specs.Parts.{IsValue}
 use Rattle.llvm_core.specs.Data as L
@@ -38,7 +37,7 @@ use Rattle.from_llvm_ir.specs.Match.{IsPlaces}
 use Rattle.from_llvm_ir.specs.Order.{IsInverse}
 use Rattle.from_llvm_ir.specs.Walks.{graph_of, HasDominatedUses}
 use Rattle.from_llvm_ir.specs.Types.{GrowsTypes}
-use Rattle.from_llvm_ir.specs.Values.{Targets, target_at, param_at, value_at, IsNoted}
+use Rattle.from_llvm_ir.specs.Values.{Targets, target_at, param_at, value_at}
 use Rattle.from_llvm_ir.specs.Imported.{FirstUses, NoUses, UsedAgain, UsedFirst, ImportedFunction, IsBuilding, IsBelow, front_for, given_name, label_for, phis_of}
 use Rattle.from_llvm_ir.specs.Building.{AreBare, AreFresh, AreNumbered, IsUnder, bare_func, with_blocks, with_ops, ops_of}
 use Rattle.from_llvm_ir.specs.Source.{IsSource, IsBlockOf}
@@ -52,7 +51,6 @@ use Rattle.from_llvm_ir.proofs.PlaceLaws.{flat_none, number_apart}
 use Rattle.from_llvm_ir.proofs.OrderLaws.{ordered_length, ordered_here, ordered_apart}
 use Rattle.from_llvm_ir.proofs.SourceLaws.{block_listed_at, block_number, blocks_listed, number_is}
 use Rattle.from_llvm_ir.proofs.FrameLaws.{frame_length}
-use Rattle.from_llvm_ir.proofs.ValueLaws.{key_decides}
 use Rattle.from_llvm_ir.proofs.Whole.{IsWhole, the_func}
 use Rattle.from_llvm_ir.proofs.WholeLaws.{imported}
 

@@ -1,5 +1,5 @@
 -- What `functions::parameters` owes besides what the check finds.
-use Rattle.std.proofs.Common.{◌≡◌, ◌∙◌, ap}
+use Rattle.std.proofs.Common.{◌∙◌, ap}
 use Rattle.from_llvm_ir.proofs.StartLaws.{params_known, params_noted, params_of}
 use Rattle.from_llvm_ir.proofs.functions.parameters.Goals as goal
 
