@@ -44,6 +44,7 @@ pub mod TurnLaws
 pub mod TypeLaws
 pub mod UseLaws
 pub mod ValueLaws
+pub mod ValueTableLaws
 pub mod FinishLaws
 pub mod StartedLaws
 pub mod CodeLaws

@@ -1,4 +1,5 @@
 -- The definitions that clauses cite.
+pub mod ValueTables
 pub mod Order
 pub mod Exported
 pub mod Made

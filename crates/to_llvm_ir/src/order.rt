@@ -14,17 +14,17 @@ ghost use Rattle.to_llvm_ir.specs.Ordering.{AreBlocksOf, AreSeen, HasUsesAmong, 
 use crate::graph::graph;
 use crate::numbers::place_of;
 use crate::operations::is_block_op;
+use crate::value_table::ValueTable;
 use block_order::ordering::rpo;
 use dialect_core::context::Context;
 use dialect_core::numbers::{BlockRef, OpRef};
 use dialect_core::ops::Value;
-use dialect_core::value_map::ValueMap;
 use std::alloc::{AllocError, Global};
 
 /// Values that stand before.
 #[derive(Drop)]
 pub struct Seen {
-    pub values: ValueMap<()>,
+    pub values: ValueTable<()>,
 }
 
 impl Seen {
@@ -33,7 +33,7 @@ impl Seen {
         ensures { (v : _) → is_seen result v ≡ false }
     {
         Seen {
-            values: ValueMap::new(alloc),
+            values: ValueTable::new(alloc),
         }
     }
 
