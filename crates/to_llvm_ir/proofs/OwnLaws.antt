@@ -15,7 +15,7 @@ use Rattle.dialect_core.specs.declared.ops.Successor.{Successor}
 use Rattle.dialect_core.specs.Lists.{Stands, list_at}
 use Rattle.dialect_core.specs.ContextData.{ContextData, region_at}
 use Rattle.dialect_core.specs.Data.{Kind, ConstantOp, RowOp, DialectOp, DialectBlock, Func, op_at, block_of, block_in, func_in, held, type_in}
-use Rattle.dialect_core.specs.Form.{HasOwnValues, IsValueOf, StandsBefore, uses_of}
+use Rattle.dialect_core.specs.Form.{HasOwnValues, IsInOrder, IsValueOf, StandsBefore, uses_of}
 use Rattle.dialect_core.specs.Rules.{IsIntegerBy}
 use Rattle.dialect_core.specs.WellFormed.{IsEdge, IsOfKind, IsTypedBy, IsWellFormedBlock, IsWellFormedFunc, IsWellFormedOp, Typing}
 use Rattle.dialect_core.specs.Checking.{func_at}
@@ -135,6 +135,25 @@ module _ (c : ContextData) (f : OpRef) (g : Func) (is : func_in (type_trees c.ty
       let e : m.0 ≡ r = same_op m.0 r (sym (op_number (type_trees c.types) c.ops m.0 o m.2) ∙ same) in
       stands_flat (list_at c.lists) (region_at c.ops f.0) b r region.0 region.1 (m.1.0, m.1.1 ∙ ap Some e)
 
+  -- ---- what stands before a use is held
+
+  before_held : (j k : ℕ) (v : Value) → StandsBefore g j k v → IsHeld c f v
+  before_held j k (Argument b i) s = held_block s.0 s.1 b s.3 s.4
+  before_held j k (Result r) s =
+      ⊎_elim before here (stands_cases s.1 (flat_map (λ (b : DialectBlock). b.ops) (take j g.blocks)) (option_map_or (λ (b : DialectBlock). take k b.ops) (slice_get g.blocks j) []) s.0 s.2)
+    where
+      before : Stands s.1 (flat_map (λ (b : DialectBlock). b.ops) (take j g.blocks)) → Stands r (held c f.0)
+      before h =
+          let w = flat_stands (λ (b : DialectBlock). b.ops) (take j g.blocks) s.1 h.0 h.1 in
+          held_op w.1.0 w.2.0 w.0 s.1 r (take_there j g.blocks w.1.0 w.0 w.1.1) w.2.1 s.3
+
+      here : Stands s.1 (option_map_or (λ (b : DialectBlock). take k b.ops) (slice_get g.blocks j) []) → Stands r (held c f.0)
+      here h = by (slice_get g.blocks j) refl h.1
+        where
+          by : (d : Option DialectBlock) → slice_get g.blocks j ≡ d → slice_get (option_map_or (λ (b : DialectBlock). take k b.ops) d []) h.0 ≡ Some s.1 → Stands r (held c f.0)
+          by None at e = absurd (none-some s.1 e)
+          by (Some d) at e = held_op j h.0 d s.1 r at (take_there k d.ops h.0 s.1 e) s.3
+
   -- ---- what is not held stands before nothing
 
   module _ (order : List ℕ) where
@@ -218,3 +237,11 @@ module _ (c : ContextData) (f : OpRef) (g : Func) (is : func_in (type_trees c.ty
         let block = all_at (IsWellFormedBlock (type_in c) g) g.blocks j b well.blocks at in
         let typed = uses_typed (type_in c) g o (all_at (IsWellFormedOp (type_in c) g) b.ops k o block.ops here) in
         all_from (IsValueOf g) (uses_of o) (λ i v at'. own_value v (all_at (IsHeld c f) (uses_of o) i v uses at') (all_at (IsTypedBy (type_in c)) (uses_of o) i v typed at'))
+
+    -- where each value stands before its uses
+    pub own_in_order : IsInOrder g → IsWellFormedFunc (type_in c) g → HasOwnValues g
+    own_in_order order well j k b o at here =
+        let block = all_at (IsWellFormedBlock (type_in c) g) g.blocks j b well.blocks at in
+        let typed = uses_typed (type_in c) g o (all_at (IsWellFormedOp (type_in c) g) b.ops k o block.ops here) in
+        let uses = order j k b o at here in
+        all_from (IsValueOf g) (uses_of o) (λ i v at'. own_value v (before_held j k v (all_at (StandsBefore g j k) (uses_of o) i v uses at')) (all_at (IsTypedBy (type_in c)) (uses_of o) i v typed at'))

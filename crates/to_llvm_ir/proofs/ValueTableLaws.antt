@@ -1,5 +1,5 @@
 -- Tables of values: a map more, and a value more.
-use Rattle.std.proofs.Common.{◌≡◌, ◌≢◌, ℕ, zero, suc, Bool, true, false, nat_eq, if◌then◌else◌, List, [], ◌∷◌, ◌++◌, Option, Some, None, slice_get, slice_set, refl, sym, ap, ◌∙◌, arith}
+use Rattle.std.proofs.Common.{◌≡◌, ℕ, zero, suc, Bool, true, false, nat_eq, if◌then◌else◌, List, [], ◌∷◌, ◌++◌, Option, Some, None, slice_get, slice_set, refl, sym, ap, ◌∙◌, arith}
 use Rattle.std.specs.Prelude.{option_and_then, ◌&&◌}
 use Rattle.support.proofs.ListLaws.{slice_get-set_same, slice_get-set_other}
 use Rattle.support.specs.NumberMaps.{value_at}
@@ -30,6 +30,6 @@ map_set {V} ms old new p n x at set i q = by (nat_eq p i) refl
     by true same =
         let e : p ≡ i = grind (arith, same) in
         ap (λ (j : ℕ). value_in (slice_set ms p new) j q) (sym e) ∙ ap (option_and_then (λ (m : NumberMap V). value_at m q)) (slice_get-set_same ms p old new at) ∙ set q
-            ∙ ap (λ (o : Option V). if nat_eq n q then Some x else o) (sym (ap (λ (j : ℕ). value_in ms j q) (sym e) ∙ ap (option_and_then (λ (m : NumberMap V). value_at m q)) at))
-            ∙ also (nat_eq n q) (Some x) (value_in ms i q)
+        ∙ ap (λ (o : Option V). if nat_eq n q then Some x else o) (sym (ap (λ (j : ℕ). value_in ms j q) (sym e) ∙ ap (option_and_then (λ (m : NumberMap V). value_at m q)) at))
+        ∙ also (nat_eq n q) (Some x) (value_in ms i q)
     by false differs = ap (option_and_then (λ (m : NumberMap V). value_at m q)) (slice_get-set_other ms p i new (λ e. absurd (grind (arith, differs, e)))) ∙ never (nat_eq n q) (Some x) (value_in ms i q)

@@ -8,6 +8,7 @@ ghost use Rattle.llvm_core.specs.Parts.{IsBlock};
 ghost use Rattle.to_llvm_ir.specs.States.{Task, IsBlockAt, IsAtArgument};
 ghost use Rattle.to_llvm_ir.specs.Opening.{HasParams};
 
+use crate::guesses::Guesses;
 use crate::names::value_name;
 use crate::numbers::place_of;
 use crate::types::value_type;
@@ -46,6 +47,7 @@ fn add_phi(
     i: usize,
     ty: TypeHandle,
     target: LLVMBasicBlock,
+    guesses: &mut Guesses,
     values: &mut Values,
     back: &mut LLVMModule,
 ) -> Result<(), AllocError>
@@ -55,7 +57,7 @@ fn add_phi(
     ensures { (t : Task) (p : ℕ) (c : DialectBlock) → IsBlockAt ctx.now t (suc p) c block → target.0 ≡ t.numbers.block + suc p → slice_get c.args i ≡ Some (type_at (type_trees ctx.now.types) ty) → IsAtArgument t (suc p) c i values.old back.old → OnOk result (IsAtArgument t (suc p) c (suc i) values.new back.new) }
 {
     let place = place_of(i)?;
-    let ty = value_type(ctx, ty, back)?;
+    let ty = value_type(ctx, ty, guesses, back)?;
     let name = value_name(alloc, None, values.next)?;
     let phi = back.build(target, LLVMInst::Phi(ty, Items::new(alloc)), name.as_str())?;
     values.set(Value::Argument(block, place), LLVMValue::Inst(phi))
@@ -67,6 +69,7 @@ pub fn add_phis(
     ctx: &Context,
     block: BlockRef,
     target: LLVMBasicBlock,
+    guesses: &mut Guesses,
     values: &mut Values,
     back: &mut LLVMModule,
 ) -> Result<(), AllocError>
@@ -76,7 +79,7 @@ pub fn add_phis(
     ensures { (t : Task) (p : ℕ) (c : DialectBlock) → IsBlockAt ctx.now t (suc p) c block → target.0 ≡ t.numbers.block + suc p → IsAtArgument t (suc p) c 0 values.old back.old → OnOk result (IsAtArgument t (suc p) c (length c.args) values.new back.new) }
 {
     for (i, ty) in ctx.block_args(block).iter().enumerate() {
-        add_phi(alloc, ctx, block, i, *ty, target, values, back)?;
+        add_phi(alloc, ctx, block, i, *ty, target, guesses, values, back)?;
     }
     Ok(())
 }

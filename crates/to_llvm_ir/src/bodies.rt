@@ -9,13 +9,15 @@ ghost use Rattle.to_llvm_ir.specs.States.{Task, IsBetween, IsLinking, found_bloc
 
 use crate::arguments::{add_phis, set_params};
 use crate::blocks::{Blocks, Target};
+use crate::guesses::Guesses;
+use crate::listing::read_ops;
 use crate::numbering::first_numbers;
 use crate::numbers::check_few;
 use crate::operations::convert_ops;
 use crate::to_llvm_err::ToLLVMErr;
 use crate::values::Values;
 use dialect_core::context::Context;
-use dialect_core::numbers::BlockRef;
+use dialect_core::numbers::{BlockRef, OpRef};
 use llvm_core::module::LLVMModule;
 use llvm_core::numbers::LLVMFunction;
 use std::alloc::Global;
@@ -39,6 +41,8 @@ fn convert_block(
     place: usize,
     first: u64,
     f: LLVMFunction,
+    ops: &mut Vec<OpRef>,
+    guesses: &mut Guesses,
     blocks: &Blocks,
     values: &mut Values,
     back: &mut LLVMModule,
@@ -57,14 +61,15 @@ fn convert_block(
     if place == 0 {
         set_params(block, count, f, values)?;
     } else {
-        add_phis(alloc, ctx, block, target.block, values, back)?;
+        add_phis(alloc, ctx, block, target.block, guesses, values, back)?;
     }
-    let ops = ctx.block_ops(block)?;
+    read_ops(ctx, block, ops)?;
     check_few(ops.len())?;
     convert_ops(
         alloc,
         ctx,
         ops.as_slice(),
+        guesses,
         blocks,
         target.block,
         values,
@@ -79,6 +84,8 @@ pub fn convert_blocks(
     list: &[BlockRef],
     order: &[u32],
     f: LLVMFunction,
+    ops: &mut Vec<OpRef>,
+    guesses: &mut Guesses,
     blocks: &Blocks,
     back: &mut LLVMModule,
 ) -> Result<Values, ToLLVMErr>
@@ -89,7 +96,7 @@ pub fn convert_blocks(
     ensures accepted { (t : Task) → IsBlocksBegun ctx.now t list.now order.now f blocks.now back.old → OnOk result ((j : ℕ) (c : DialectBlock) → slice_get t.source.blocks j ≡ Some c → IsBodyAccepted t.numbers.order t.source j c) }
     ensures cause { (t : Task) → IsBlocksBegun ctx.now t list.now order.now f blocks.now back.old → IfErr result (IsFuncCause ctx.now t.source) }
 {
-    let firsts = first_numbers(alloc, ctx, list)?;
+    let firsts = first_numbers(alloc, ctx, list, ops)?;
     let numbers = firsts.as_slice();
     let mut values = Values::new(alloc);
     for place in order {
@@ -101,6 +108,8 @@ pub fn convert_blocks(
             j,
             numbers[j],
             f,
+            ops,
+            guesses,
             blocks,
             &mut values,
             back,

@@ -5,7 +5,9 @@ ghost use Rattle.llvm_core.specs.Data.{data_of};
 ghost use Rattle.to_llvm_ir.specs.States.{found, found_block};
 
 use crate::blocks::Blocks;
+use crate::guesses::Guesses;
 use crate::values::Values;
+use dialect_core::numbers::OpRef;
 use llvm_core::module::LLVMModule;
 use std::alloc::{AllocError, Global};
 
@@ -19,6 +21,10 @@ pub struct ConversionContext {
     pub(crate) blocks: Blocks,
     /// What the values of the function became so far.
     pub(crate) values: Values,
+    /// The operations of the block at hand.
+    pub(crate) ops: Vec<OpRef>,
+    /// Where types were found in the module.
+    pub(crate) guesses: Guesses,
 }
 
 impl ConversionContext {
@@ -35,6 +41,8 @@ impl ConversionContext {
             module,
             blocks: Blocks::new(alloc),
             values: Values::new(alloc),
+            ops: Vec::new(alloc),
+            guesses: Guesses::new(),
         })
     }
 

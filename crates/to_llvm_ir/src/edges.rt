@@ -15,6 +15,7 @@ ghost use Rattle.to_llvm_ir.specs.States.{Task, Spot, IsSpot, IsLinking, AreAllM
 
 use crate::blocks::{Blocks, Target, find_target};
 use crate::bodies::target_of;
+use crate::listing::read_ops;
 use crate::numbers::place_of;
 use crate::operations::is_block_op;
 use crate::to_llvm_err::ToLLVMErr;
@@ -175,6 +176,7 @@ fn add_block_edges(
     alloc: Global,
     ctx: &Context,
     block: BlockRef,
+    ops: &mut Vec<OpRef>,
     blocks: &Blocks,
     values: &Values,
     back: &mut LLVMModule,
@@ -186,7 +188,7 @@ fn add_block_edges(
     ensures cause { (t : Task) (j : ℕ) (c : DialectBlock) (given : Given) → IsBlockLinked ctx.now t j c block blocks.now given values.now back.old → IfErr result (IsFuncCause ctx.now t.source) }
 {
     let from = target_of(blocks, block);
-    let ops = ctx.block_ops(block)?;
+    read_ops(ctx, block, ops)?;
     for op in ops.as_slice() {
         add_op_edges(alloc, ctx, *op, from, blocks, values, back)?;
     }
@@ -199,6 +201,7 @@ pub fn add_edges(
     ctx: &Context,
     list: &[BlockRef],
     order: &[u32],
+    ops: &mut Vec<OpRef>,
     blocks: &Blocks,
     values: &Values,
     back: &mut LLVMModule,
@@ -210,7 +213,7 @@ pub fn add_edges(
     ensures cause { (t : Task) → AreBlocks ctx.now t list.now → order.now ≡ t.numbers.order → AreAllMapped t blocks.now → IsLinking t no_entries values.now back.old → IfErr result (IsFuncCause ctx.now t.source) }
 {
     for place in order {
-        add_block_edges(alloc, ctx, list[*place as usize], blocks, values, back)?;
+        add_block_edges(alloc, ctx, list[*place as usize], ops, blocks, values, back)?;
     }
     Ok(())
 }

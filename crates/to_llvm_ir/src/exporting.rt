@@ -24,11 +24,11 @@ ghost use Rattle.to_llvm_ir.specs.Functions.{AddsFunction, AddsFunctions, IsStar
 use crate::bodies::convert_blocks;
 use crate::conversion_context::ConversionContext;
 use crate::edges::add_edges;
+use crate::guesses::Guesses;
 use crate::numbers::check_few;
 use crate::opening::append_blocks;
 use crate::operations::name_of;
-use crate::order::export_order;
-use crate::own::check_own;
+use crate::own::own_order;
 use crate::to_llvm_err::ToLLVMErr;
 use crate::types::function_type;
 use dialect_core::context::Context;
@@ -48,6 +48,7 @@ fn start_func(
     alloc: Global,
     ctx: &Context,
     op: OpRef,
+    guesses: &mut Guesses,
     back: &mut LLVMModule,
 ) -> Result<LLVMFunction, AllocError>
     requires typed { IsTyped ctx.now }
@@ -55,36 +56,38 @@ fn start_func(
     requires form { (g : Func) × (func_in (type_trees ctx.now.types) ctx.now op ≡ Some g) × IsFormFunc g }
     ensures { (g : Func) → func_in (type_trees ctx.now.types) ctx.now op ≡ Some g → IsFormFunc g → (order : List ℕ) → IsTaken g order → IfOk result (λ f. IsStarted ctx.now g order f back.old back.new) }
 {
-    let ty = function_type(alloc, ctx, ctx.symbol_type(op), back)?;
+    let ty = function_type(alloc, ctx, ctx.symbol_type(op), guesses, back)?;
     back.add_function(name_of(ctx, op), ty, 0)
 }
 
-/// The function that an operation is, as the last of the module.
+/// The function that an operation is, as the last of the module, its blocks taken in the order.
 fn convert_func(
     alloc: Global,
     ctx: &Context,
     op: OpRef,
+    order: &[u32],
     cctx: &mut ConversionContext,
 ) -> Result<(), ToLLVMErr>
     requires typed { IsTyped ctx.now }
     requires within { op.0 < length ctx.now.ops }
     requires form { (g : Func) × (func_in (type_trees ctx.now.types) ctx.now op ≡ Some g) × IsFormFunc g }
+    requires taken { (g : Func) → func_in (type_trees ctx.now.types) ctx.now op ≡ Some g → IsTaken g order.now }
     ensures ok { (g : Func) → func_in (type_trees ctx.now.types) ctx.now op ≡ Some g → IsFormFunc g → OnOk result (AddsFunction g (lists.data_of cctx.old.«module») (lists.data_of cctx.new.«module»)) }
     ensures cause { (g : Func) → func_in (type_trees ctx.now.types) ctx.now op ≡ Some g → IsFormFunc g → IfErr result (IsFuncCause ctx.now g) }
 {
-    cctx.clear_per_function_data();
     let list = ctx.op_blocks(op);
     check_few(list.len())?;
     check_few(cctx.module.functions() as usize)?;
-    let f = start_func(alloc, ctx, op, &mut cctx.module)?;
-    let order = export_order(alloc, ctx, list)?;
+    let f = start_func(alloc, ctx, op, &mut cctx.guesses, &mut cctx.module)?;
     cctx.blocks = append_blocks(alloc, ctx, list, f, &mut cctx.module)?;
     cctx.values = convert_blocks(
         alloc,
         ctx,
         list,
-        order.as_slice(),
+        order,
         f,
+        &mut cctx.ops,
+        &mut cctx.guesses,
         &cctx.blocks,
         &mut cctx.module,
     )?;
@@ -92,7 +95,8 @@ fn convert_func(
         alloc,
         ctx,
         list,
-        order.as_slice(),
+        order,
+        &mut cctx.ops,
         &cctx.blocks,
         &cctx.values,
         &mut cctx.module,
@@ -116,8 +120,9 @@ fn convert_held(
     if !ctx.has_symbol(op) {
         return Ok(());
     }
-    check_own(alloc, ctx, op)?;
-    convert_func(alloc, ctx, op, cctx)
+    cctx.clear_per_function_data();
+    let order = own_order(alloc, ctx, op, &mut cctx.ops)?;
+    convert_func(alloc, ctx, op, order.as_slice(), cctx)
 }
 
 /// The functions among operations of a module, in order, as the last of the module.

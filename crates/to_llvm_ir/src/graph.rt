@@ -7,6 +7,7 @@ ghost use Rattle.dialect_core.specs.Data.{DialectBlock, Func, block_in};
 ghost use Rattle.to_llvm_ir.specs.Order.{block_place, graph_of, targets_of};
 ghost use Rattle.to_llvm_ir.specs.Ordering.{AreBlocksOf, ArePlacesOf, noted_place, ops_of};
 
+use crate::listing::read_ops;
 use crate::numbers::place_of;
 use crate::operations::is_block_op;
 use block_order::succs::Succs;
@@ -92,12 +93,13 @@ fn row_of(
     ctx: &Context,
     block: BlockRef,
     places: &Places,
+    ops: &mut Vec<OpRef>,
 ) -> Result<Vec<u32>, AllocError>
     requires { block.0 < length ctx.now.blocks }
     ensures { IfOk result (λ row. (g : Func) (c : DialectBlock) → ArePlacesOf g places.now → block_in (type_trees ctx.now.types) ctx.now block ≡ Some c → row.items ≡ targets_of g c) }
 {
     let mut row = Vec::new(alloc);
-    let ops = ctx.block_ops(block)?;
+    read_ops(ctx, block, ops)?;
     for op in ops.as_slice() {
         push_targets(ctx, *op, places, &mut row)?;
     }
@@ -105,14 +107,19 @@ fn row_of(
 }
 
 /// The graph of a function: for each block, in order, the places of those that it leads to.
-pub fn graph(alloc: Global, ctx: &Context, list: &[BlockRef]) -> Result<Succs, AllocError>
+pub fn graph(
+    alloc: Global,
+    ctx: &Context,
+    list: &[BlockRef],
+    ops: &mut Vec<OpRef>,
+) -> Result<Succs, AllocError>
     requires { All (λ b. b.0 < length ctx.now.blocks) list.now }
     ensures { IfOk result (λ s. (g : Func) → AreBlocksOf ctx.now g list.now → s ≡ graph_of g) }
 {
     let places = places_of(alloc, list)?;
     let mut succs = Succs::new(alloc);
     for block in list {
-        let row = row_of(alloc, ctx, *block, &places)?;
+        let row = row_of(alloc, ctx, *block, &places, ops)?;
         succs.push(row.as_slice())?;
     }
     Ok(succs)

@@ -8,6 +8,8 @@ pub mod conversion_context;
 pub mod edges;
 pub mod exporting;
 pub mod graph;
+pub mod guesses;
+pub mod listing;
 pub mod names;
 pub mod narrow;
 pub mod narrow_types;

@@ -6,6 +6,7 @@ ghost use Rattle.to_llvm_ir.specs.Made.{number_behind};
 ghost use Rattle.to_llvm_ir.specs.States.{first_at};
 ghost use Rattle.to_llvm_ir.specs.Ordering.{AreBlocksOf, ops_of};
 
+use crate::listing::read_ops;
 use crate::operations::is_block_op;
 use dialect_core::context::Context;
 use dialect_core::numbers::{BlockRef, OpRef};
@@ -49,6 +50,7 @@ pub fn first_numbers(
     alloc: Global,
     ctx: &Context,
     list: &[BlockRef],
+    ops: &mut Vec<OpRef>,
 ) -> Result<Vec<u64>, AllocError>
     requires within { All (λ b. b.0 < length ctx.now.blocks) list.now }
     ensures { IfOk result (λ numbers. (g : Func) → AreBlocksOf ctx.now g list.now → (j : ℕ) (c : DialectBlock) → slice_get g.blocks j ≡ Some c → slice_get numbers.items j ≡ Some (first_at g j)) }
@@ -58,7 +60,7 @@ pub fn first_numbers(
     for block in list {
         numbers.push(next)?;
         let start = sum_of(next, ctx.block_args(*block).len())?;
-        let ops = ctx.block_ops(*block)?;
+        read_ops(ctx, *block, ops)?;
         next = number_behind(ctx, ops.as_slice(), start)?;
     }
     Ok(numbers)

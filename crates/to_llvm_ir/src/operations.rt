@@ -22,6 +22,7 @@ ghost use Rattle.to_llvm_ir.specs.Causes.{IsFuncCause};
 ghost use Rattle.to_llvm_ir.specs.States.{Task, Spot, IsSpot, IsNext, IsUsed, IsUse, AreUses, IsLead, IsWritten, IsMade, IsBegun, IsAtOp, IsBehindSpot, AreAllMapped, found};
 
 use crate::blocks::{Blocks, find_target};
+use crate::guesses::Guesses;
 use crate::names::value_name;
 use crate::to_llvm_err::ToLLVMErr;
 use crate::types::value_type;
@@ -126,6 +127,7 @@ fn convert_constant(
     ctx: &Context,
     op: OpRef,
     value: &ConstAttr,
+    guesses: &mut Guesses,
     values: &mut Values,
     back: &mut LLVMModule,
 ) -> Result<(), AllocError>
@@ -135,7 +137,7 @@ fn convert_constant(
     ensures { (s : Spot) → IsNext ctx.now op s values.old back.old → OnOk result (IsBehindSpot s values.new back.new) }
 {
     let (ty, number) = parts_of(value);
-    let ty = value_type(ctx, ty, back)?;
+    let ty = value_type(ctx, ty, guesses, back)?;
     let c = back.const_get(LLVMConstKind::Int(ty, u128::from(number)))?;
     values.set(Value::Result(op), LLVMValue::Const(c))
 }
@@ -182,6 +184,7 @@ fn written_type(
     ctx: &Context,
     op: OpRef,
     gives: Gives,
+    guesses: &mut Guesses,
     back: &mut LLVMModule,
 ) -> Result<Option<LLVMType>, AllocError>
     requires typed { IsTyped ctx.now }
@@ -196,7 +199,7 @@ fn written_type(
 {
     match gives {
         Gives::Written => match ctx.result_type(op) {
-            Some(ty) => Ok(Some(value_type(ctx, ty, back)?)),
+            Some(ty) => Ok(Some(value_type(ctx, ty, guesses, back)?)),
             None => Ok(None),
         },
         _ => Ok(None),
@@ -209,6 +212,7 @@ fn convert_row(
     ctx: &Context,
     op: OpRef,
     held: Op,
+    guesses: &mut Guesses,
     blocks: &Blocks,
     values: &Values,
     back: &mut LLVMModule,
@@ -221,7 +225,7 @@ fn convert_row(
     ensures ok { (s : Spot) → IsNext ctx.now op s values.now back.old → AreAllMapped s.task blocks.now → IfOk result (IsMade s back.new) }
     ensures cause { (s : Spot) → IsNext ctx.now op s values.now back.old → AreAllMapped s.task blocks.now → IfErr result (IsFuncCause ctx.now s.task.source) }
 {
-    let written = written_type(ctx, op, held.rule().gives, back)?;
+    let written = written_type(ctx, op, held.rule().gives, guesses, back)?;
     let operands = known_all(alloc, ctx, ctx.op_operands(op), values)?;
     let targets = leads(alloc, ctx, ctx.op_successors(op), blocks, values)?;
     Ok(LLVMInst::Row(Row {
@@ -261,6 +265,7 @@ fn convert_op(
     alloc: Global,
     ctx: &Context,
     op: OpRef,
+    guesses: &mut Guesses,
     blocks: &Blocks,
     block: LLVMBasicBlock,
     values: &mut Values,
@@ -277,11 +282,11 @@ fn convert_op(
     match ctx.op_kind(op) {
         OpKind::Module | OpKind::Func => Ok(()),
         OpKind::Constant(value) => {
-            convert_constant(ctx, op, value, values, back)?;
+            convert_constant(ctx, op, value, guesses, values, back)?;
             Ok(())
         }
         OpKind::Row(held) => {
-            let inst = convert_row(alloc, ctx, op, *held, blocks, values, back)?;
+            let inst = convert_row(alloc, ctx, op, *held, guesses, blocks, values, back)?;
             place_inst(alloc, ctx, op, inst, block, values, back)?;
             Ok(())
         }
@@ -293,6 +298,7 @@ pub fn convert_ops(
     alloc: Global,
     ctx: &Context,
     ops: &[OpRef],
+    guesses: &mut Guesses,
     blocks: &Blocks,
     block: LLVMBasicBlock,
     values: &mut Values,
@@ -306,7 +312,7 @@ pub fn convert_ops(
     ensures cause { (t : Task) (j : ℕ) (c : DialectBlock) → IsBegun ctx.now t j c ops.now blocks.now block values.old back.old → IfErr result (IsFuncCause ctx.now t.source) }
 {
     for op in ops {
-        convert_op(alloc, ctx, *op, blocks, block, values, back)?;
+        convert_op(alloc, ctx, *op, guesses, blocks, block, values, back)?;
     }
     Ok(())
 }

@@ -12,6 +12,7 @@ ghost use Rattle.to_llvm_ir.specs.States.{all_values};
 ghost use Rattle.to_llvm_ir.specs.Ordering.{AreBlocksOf, AreSeen, HasUsesAmong, is_seen, ops_of};
 
 use crate::graph::graph;
+use crate::listing::read_ops;
 use crate::numbers::place_of;
 use crate::operations::is_block_op;
 use crate::value_table::ValueTable;
@@ -120,24 +121,34 @@ fn note_arguments(ctx: &Context, block: BlockRef, seen: &mut Seen) -> Result<(),
 }
 
 /// Whether each operation of a block uses only what stands before it. Notes the values of the block.
-fn is_block_in_order(ctx: &Context, block: BlockRef, seen: &mut Seen) -> Result<bool, AllocError>
+fn is_block_in_order(
+    ctx: &Context,
+    block: BlockRef,
+    ops: &mut Vec<OpRef>,
+    seen: &mut Seen,
+) -> Result<bool, AllocError>
     requires within { block.0 < length ctx.now.blocks }
     ensures { (c : DialectBlock) (vs : List Value) → block_in (type_trees ctx.now.types) ctx.now block ≡ Some c → AreSeen seen.old vs
         → IfOk result (λ yes. MatchBool yes (HasUsesAmong (vs ++ arguments_of c) c.ops × AreSeen seen.new (vs ++ all_values c)) (¬ HasUsesAmong (vs ++ arguments_of c) c.ops)) }
 {
     note_arguments(ctx, block, seen)?;
-    let ops = ctx.block_ops(block)?;
+    read_ops(ctx, block, ops)?;
     are_ops_in_order(ctx, ops.as_slice(), seen)
 }
 
 /// Whether each value of a function stands before its uses, the blocks taken in order.
-fn is_in_order(alloc: Global, ctx: &Context, list: &[BlockRef]) -> Result<bool, AllocError>
+pub fn is_in_order(
+    alloc: Global,
+    ctx: &Context,
+    list: &[BlockRef],
+    ops: &mut Vec<OpRef>,
+) -> Result<bool, AllocError>
     requires within { All (λ b. b.0 < length ctx.now.blocks) list.now }
     ensures { (g : Func) → AreBlocksOf ctx.now g list.now → IfOk result (λ yes. MatchBool yes (IsInOrder g) (¬ IsInOrder g)) }
 {
     let mut seen = Seen::new(alloc);
     for block in list {
-        if !is_block_in_order(ctx, *block, &mut seen)? {
+        if !is_block_in_order(ctx, *block, ops, &mut seen)? {
             return Ok(false);
         }
     }
@@ -145,7 +156,7 @@ fn is_in_order(alloc: Global, ctx: &Context, list: &[BlockRef]) -> Result<bool, 
 }
 
 /// The numbers below another, in order.
-fn counted(alloc: Global, count: usize) -> Result<Vec<u32>, AllocError>
+pub fn counted(alloc: Global, count: usize) -> Result<Vec<u32>, AllocError>
     ensures { IfOk result (λ order. order.items ≡ range_with_len 0 count) }
 {
     let mut order = Vec::new(alloc);
@@ -157,14 +168,19 @@ fn counted(alloc: Global, count: usize) -> Result<Vec<u32>, AllocError>
 
 /// The order in which an export takes the blocks of a function: that of the dialect where each value stands before
 /// its uses in it, else depth first.
-pub fn export_order(alloc: Global, ctx: &Context, list: &[BlockRef]) -> Result<Vec<u32>, AllocError>
+pub fn export_order(
+    alloc: Global,
+    ctx: &Context,
+    list: &[BlockRef],
+    ops: &mut Vec<OpRef>,
+) -> Result<Vec<u32>, AllocError>
     requires within { All (λ b. b.0 < length ctx.now.blocks) list.now }
     requires blocks { (g : Func) × AreBlocksOf ctx.now g list.now }
     ensures { IfOk result (λ order. (g : Func) → AreBlocksOf ctx.now g list.now → IsTaken g order.items) }
 {
-    if is_in_order(alloc, ctx, list)? {
+    if is_in_order(alloc, ctx, list, ops)? {
         return counted(alloc, list.len());
     }
-    let succs = graph(alloc, ctx, list)?;
+    let succs = graph(alloc, ctx, list, ops)?;
     rpo(alloc, &succs)
 }

@@ -1,16 +1,17 @@
 //! Whether what a function uses are values of its own.
 
-ghost use Rattle.std.specs.Prelude.{◌≡◌, ◌<◌, ◌↔◌, IsTrue, IfErr, IfSome, OnOk, All, Some, length};
+ghost use Rattle.std.specs.Prelude.{◌≡◌, ◌<◌, ◌↔◌, IsTrue, IfOk, IfErr, IfSome, OnOk, All, Some, length};
 ghost use Rattle.dialect_types.specs.Trees.{type_trees};
 ghost use Rattle.dialect_core.specs.ContextData.{IsValueWithin};
 ghost use Rattle.dialect_core.specs.Data.{Func, IsTyped, func_in};
 ghost use Rattle.dialect_core.specs.Form.{HasOwnValues};
 ghost use Rattle.dialect_core.specs.WellFormed.{IsOpenForm};
 ghost use Rattle.to_llvm_ir.specs.Causes.{IsFuncCause};
+ghost use Rattle.to_llvm_ir.specs.Order.{IsTaken};
 ghost use Rattle.to_llvm_ir.specs.Own.{IsForeignAmong, IsForeignAt, IsForeignIn, IsHeld};
 
 use crate::operations::{given_name, is_block_op};
-use crate::order::export_order;
+use crate::order::{counted, export_order, is_in_order};
 use crate::to_llvm_err::ToLLVMErr;
 use dialect_core::context::Context;
 use dialect_core::numbers::OpRef;
@@ -92,6 +93,31 @@ pub fn check_own(alloc: Global, ctx: &Context, func: OpRef) -> Result<(), ToLLVM
         return Ok(());
     };
     // The cause speaks of the order in which the blocks would be taken.
-    export_order(alloc, ctx, list)?;
+    export_order(alloc, ctx, list, &mut Vec::new(alloc))?;
     Err(ToLLVMErr::UndefinedValue(given_name(alloc, ctx, value)?))
+}
+
+/// The order in which an export takes the blocks of a function, each of whose uses is of a value of its own: where each value
+/// stands before its uses, it is, and else this is asked first. `UndefinedValue` as of `check_own`.
+pub fn own_order(
+    alloc: Global,
+    ctx: &Context,
+    func: OpRef,
+    ops: &mut Vec<OpRef>,
+) -> Result<Vec<u32>, ToLLVMErr>
+    requires within { func.0 < length ctx.now.ops }
+    requires typed { IsTyped ctx.now }
+    requires form { (g : Func) × (func_in (type_trees ctx.now.types) ctx.now func ≡ Some g) × IsOpenForm ctx.now g }
+    ensures taken { IfOk result (λ order. (g : Func) → func_in (type_trees ctx.now.types) ctx.now func ≡ Some g → IsOpenForm ctx.now g → IsTaken g order.items) }
+    ensures own { (g : Func) → func_in (type_trees ctx.now.types) ctx.now func ≡ Some g → IsOpenForm ctx.now g → OnOk result (HasOwnValues g) }
+    ensures cause { (g : Func) → func_in (type_trees ctx.now.types) ctx.now func ≡ Some g → IsOpenForm ctx.now g → IfErr result (IsFuncCause ctx.now g) }
+{
+    let list = ctx.op_blocks(func);
+    if is_in_order(alloc, ctx, list, ops)? {
+        let order = counted(alloc, list.len())?;
+        return Ok(order);
+    }
+    check_own(alloc, ctx, func)?;
+    let order = export_order(alloc, ctx, list, ops)?;
+    Ok(order)
 }

@@ -9,6 +9,7 @@ ghost use Rattle.dialect_core.specs.Form.{IsShortInt, IsShortResult, types_list}
 ghost use Rattle.meaning.specs.Dialect.{type_of};
 ghost use Rattle.to_llvm_ir.specs.Growth.{Grows, IsTypeOf, AreTypesOf, IsFormType};
 
+use crate::guesses::Guesses;
 use dialect_core::context::Context;
 use dialect_types::types::{TypeHandle, TypeKind};
 use llvm_core::module::LLVMModule;
@@ -21,6 +22,7 @@ use support::items::Items;
 pub fn value_type(
     ctx: &Context,
     ty: TypeHandle,
+    guesses: &mut Guesses,
     back: &mut LLVMModule,
 ) -> Result<LLVMType, AllocError>
     requires within { ty.0 < length ctx.now.types }
@@ -35,7 +37,7 @@ pub fn value_type(
         TypeKind::Integer(width) => LLVMTypeKind::Int(*width),
         _ => LLVMTypeKind::Void,
     };
-    back.type_get(kind)
+    guesses.type_get(ty, kind, back)
 }
 
 /// The types of parameters.
@@ -43,6 +45,7 @@ fn param_types(
     alloc: Global,
     ctx: &Context,
     params: &[TypeHandle],
+    guesses: &mut Guesses,
     back: &mut LLVMModule,
 ) -> Result<Items<LLVMType>, AllocError>
     requires within { All (λ t. t.0 < length ctx.now.types) params.now }
@@ -56,7 +59,7 @@ fn param_types(
 {
     let mut types = Items::new(alloc);
     for param in params {
-        let ty = value_type(ctx, *param, back)?;
+        let ty = value_type(ctx, *param, guesses, back)?;
         types.push(ty)?;
     }
     Ok(types)
@@ -67,6 +70,7 @@ pub fn function_type(
     alloc: Global,
     ctx: &Context,
     ty: TypeHandle,
+    guesses: &mut Guesses,
     back: &mut LLVMModule,
 ) -> Result<LLVMType, AllocError>
     requires within { ty.0 < length ctx.now.types }
@@ -84,13 +88,14 @@ pub fn function_type(
             params,
             variadic,
         } => {
-            let result = value_type(ctx, *result, back)?;
-            let params = param_types(alloc, ctx, params.as_slice(), back)?;
-            let number = back.type_get(LLVMTypeKind::Function {
+            let result = value_type(ctx, *result, guesses, back)?;
+            let params = param_types(alloc, ctx, params.as_slice(), guesses, back)?;
+            let kind = LLVMTypeKind::Function {
                 result,
                 params,
                 variadic: *variadic,
-            })?;
+            };
+            let number = guesses.type_get(ty, kind, back)?;
             Ok(number)
         }
         _ => unreachable!(),

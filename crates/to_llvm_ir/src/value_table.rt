@@ -9,7 +9,7 @@ use std::alloc::{AllocError, Global};
 use support::number_map::NumberMap;
 
 /// A map from values, quick where their numbers lie near each other: a result by the number of its operation, an argument
-/// by its place and the number of its block. Nothing is hashed.
+/// by its place and the number of its block. It takes a map for each argument of the widest block.
 #[derive(Drop)]
 pub struct ValueTable<V> {
     alloc: Global,

@@ -24,12 +24,12 @@ add_phis-requires-clause-begun c =
     (b.0, p.0, b.1, p.2, p.3, p.4)
 
 -- the arguments are done
-begun_ops : (c : goal.After-convert_ops-arg-3-1) (t : Task) (b : DialectBlock) → IsBlockBegun c.args.ctx.now t c.args.place b c.args.block c.args.first c.args.f c.args.blocks.now c.args.values.now c.args.back.now → IsBegun c.args.ctx.now t c.args.place b c.as_slice.result.now c.args.blocks.now c.target_of-target.result.block c.if-place-eq0.values c.if-place-eq0.back
+begun_ops : (c : goal.After-convert_ops-arg-4-1) (t : Task) (b : DialectBlock) → IsBlockBegun c.args.ctx.now t c.args.place b c.args.block c.args.first c.args.f c.args.blocks.now c.args.values.now c.args.back.now → IsBegun c.args.ctx.now t c.args.place b c.as_slice.result.now c.args.blocks.now c.target_of-target.result.block c.if-place-eq0.values c.if-place-eq0.back
 begun_ops c t b begun =
     let place = target_here c.args.ctx.now t c.args.place b c.args.block c.args.blocks.now c.target_of-target.result begun.at begun.mapped c.target_of-target.ensures in
     let count = args_count c.args.ctx.now t c.args.place b c.args.block c.block_args-count.result.now begun.at c.block_args-count.ensures in
     record {
-      listed = listed c.args.ctx.now t c.args.place b c.args.block c.as_slice.result.now begun.at (c.as_slice.ensures.value ∙ c.in_ok-ops.ensures.ops);
+      listed = listed c.args.ctx.now t c.args.place b c.args.block c.as_slice.result.now begun.at (c.as_slice.ensures.value ∙ c.in_ok-read_ops.ensures.ops);
       mapped = begun.mapped;
       here = place.1;
       state = elim c.if-place-eq0.branch [
@@ -45,7 +45,7 @@ begun_ops c t b begun =
     }
 
 pub convert_ops-requires-clause-within : goal.convert_ops-requires-clause-within
-convert_ops-requires-clause-within c = subst (All (λ (o : OpRef). o.0 < length c.args.ctx.now.ops)) (sym c.as_slice.ensures.value) c.in_ok-ops.ensures.within
+convert_ops-requires-clause-within c = subst (All (λ (o : OpRef). o.0 < length c.args.ctx.now.ops)) (sym c.as_slice.ensures.value) c.in_ok-read_ops.ensures.within
 
 pub convert_ops-requires-clause-begun : goal.convert_ops-requires-clause-begun
 convert_ops-requires-clause-begun c =
@@ -53,16 +53,16 @@ convert_ops-requires-clause-begun c =
     (b.0, c.args.place, b.1, begun_ops c b.0 b.1 b.2)
 
 pub returns-clause-cause : goal.returns-clause-cause
-returns-clause-cause c = λ t b begun. c.convert_ops.ensures.cause t c.args.place b (begun_ops c.before.before t b begun)
+returns-clause-cause c = λ t b begun. c.convert_ops.ensures.cause t c.args.place b (begun_ops c.before t b begun)
 
 pub returns-clause-ok : goal.returns-clause-ok
 returns-clause-ok c = λ t b begun.
-    on_ok_weaker c.convert_ops.result (end_block c.args.ctx.now t begun.at.task c.args.place b begun.at.here c.convert_ops.new.values c.convert_ops.new.back) (c.convert_ops.ensures.ok t c.args.place b (begun_ops c.before.before t b begun))
+    on_ok_weaker c.convert_ops.result (end_block c.args.ctx.now t begun.at.task c.args.place b begun.at.here c.convert_ops.new.values c.convert_ops.new.back) (c.convert_ops.ensures.ok t c.args.place b (begun_ops c.before t b begun))
 
 pub returns-clause-accepted : goal.returns-clause-accepted
 returns-clause-accepted c = λ t b begun.
     let count = args_count c.args.ctx.now t c.args.place b c.args.block c.block_args-count.result.now begun.at c.block_args-count.ensures in
-    let list = listed c.args.ctx.now t c.args.place b c.args.block c.as_slice.result.now begun.at (c.as_slice.ensures.value ∙ c.in_ok-ops.ensures.ops) in
+    let list = listed c.args.ctx.now t c.args.place b c.args.block c.as_slice.result.now begun.at (c.as_slice.ensures.value ∙ c.in_ok-read_ops.ensures.ops) in
     let fewer = fewer_ops c.args.ctx.now t c.args.place b c.as_slice.result.now list in
     on_ok_weaker c.convert_ops.result
     (λ accepted. record {
@@ -70,4 +70,4 @@ returns-clause-accepted c = λ t b begun.
       few = let few = c.in_ok-check_few-2.ensures in let same = c.len.ensures in let len = ap (λ (os : List OpRef). length os) (c.as_slice.ensures.value) in omega (arith, few, fewer, same, len);
       ops = accepted;
     })
-    (c.convert_ops.ensures.accepted t c.args.place b (begun_ops c.before.before t b begun))
+    (c.convert_ops.ensures.accepted t c.args.place b (begun_ops c.before t b begun))

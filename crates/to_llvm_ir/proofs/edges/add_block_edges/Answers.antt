@@ -28,7 +28,7 @@ add_op_edges-requires-clause-next c = λ o is.
     let ops = c.as_slice-op-items.result.now in (
       spot_of c.args.ctx.now ops c.loop-op.op-index t j b o,
       linked_given t j b (count_to c.args.ctx.now ops c.loop-op.op-index) given,
-      op_next c.args.ctx.now t j b c.args.block ops c.loop-op.op-index _ o c.args.blocks.now c.target_of-from.result given c.args.values.now c.args.back.now c.loop-op.back h (c.as_slice-op-items.ensures.value ∙ c.in_ok-ops.ensures.ops) c.target_of-from.ensures c.loop-op-test.true is (c.loop-op.invariant t j b given h),
+      op_next c.args.ctx.now t j b c.args.block ops c.loop-op.op-index _ o c.args.blocks.now c.target_of-from.result given c.args.values.now c.args.back.now c.loop-op.back h (c.as_slice-op-items.ensures.value ∙ c.in_ok-read_ops.ensures.ops) c.target_of-from.ensures c.loop-op-test.true is (c.loop-op.invariant t j b given h),
     )
 
 pub returns-in_err-add_op_edges-clause-cause : goal.returns-in_err-add_op_edges-clause-cause
@@ -39,30 +39,30 @@ returns-in_err-add_op_edges-clause-cause c = λ t j b given h.
     (λ is. absurd (let e = (c.in_err-add_op_edges.ensures.skipped is).0 in cc))
     (λ o is.
     c.in_err-add_op_edges.ensures.cause (spot_of c.args.ctx.now ops c.loop-op.op-index t j b o) (linked_given t j b (count_to c.args.ctx.now ops c.loop-op.op-index) given)
-    (op_next c.args.ctx.now t j b c.args.block ops c.loop-op.op-index _ o c.args.blocks.now c.target_of-from.result given c.args.values.now c.args.back.now c.loop-op.back h (c.as_slice-op-items.ensures.value ∙ c.in_ok-ops.ensures.ops) c.target_of-from.ensures c.loop-op-test.true is (c.loop-op.invariant t j b given h))))
+    (op_next c.args.ctx.now t j b c.args.block ops c.loop-op.op-index _ o c.args.blocks.now c.target_of-from.result given c.args.values.now c.args.back.now c.loop-op.back h (c.as_slice-op-items.ensures.value ∙ c.in_ok-read_ops.ensures.ops) c.target_of-from.ensures c.loop-op-test.true is (c.loop-op.invariant t j b given h))))
 
 pub loop-op-preserved : goal.loop-op-preserved
 loop-op-preserved c = λ t j b given h.
     let ops = c.as_slice-op-items.result.now in
     let done = c.loop-op.invariant t j b given h in
-    let list = listed c.args.ctx.now t j b c.args.block ops h.at (c.as_slice-op-items.ensures.value ∙ c.in_ok-ops.ensures.ops) in
+    let list = listed c.args.ctx.now t j b c.args.block ops h.at (c.as_slice-op-items.ensures.value ∙ c.in_ok-read_ops.ensures.ops) in
     by_option (AreLinked t j b (count_to c.args.ctx.now ops (c.loop-op.op-index + 1)) given c.args.values.now c.add_op_edges.new.back) (op_at (type_trees c.args.ctx.now.types) c.args.ctx.now.ops (get_or ops c.loop-op.op-index _))
     (λ is. linked_none c.args.ctx.now t j b ops c.loop-op.op-index _ given c.args.values.now c.loop-op.back c.add_op_edges.new.back c.loop-op-test.true is (c.in_ok-add_op_edges.ensures.skipped is).1 done)
     (λ o is.
     let s = spot_of c.args.ctx.now ops c.loop-op.op-index t j b o in
     let so_far = linked_given t j b (count_to c.args.ctx.now ops c.loop-op.op-index) given in
-    let next = op_next c.args.ctx.now t j b c.args.block ops c.loop-op.op-index _ o c.args.blocks.now c.target_of-from.result given c.args.values.now c.args.back.now c.loop-op.back h (c.as_slice-op-items.ensures.value ∙ c.in_ok-ops.ensures.ops) c.target_of-from.ensures c.loop-op-test.true is done in
+    let next = op_next c.args.ctx.now t j b c.args.block ops c.loop-op.op-index _ o c.args.blocks.now c.target_of-from.result given c.args.values.now c.args.back.now c.loop-op.back h (c.as_slice-op-items.ensures.value ∙ c.in_ok-read_ops.ensures.ops) c.target_of-from.ensures c.loop-op-test.true is done in
     linked_some c.args.ctx.now t j b ops c.loop-op.op-index _ o c.target_of-from.result.block.0 given c.args.values.now c.loop-op.back c.add_op_edges.new.back list c.loop-op-test.true is next.here done
     (c.in_ok-add_op_edges.ensures.ok s so_far next) (c.in_ok-add_op_edges.ensures.fits s so_far next) (c.in_ok-add_op_edges.ensures.equal s so_far next))
 
 pub returns-clause-ok : goal.returns-clause-ok
 returns-clause-ok c = λ t j b given h.
     let ops = c.as_slice-op-items.result.now in
-    let list = listed c.args.ctx.now t j b c.args.block ops h.at (c.as_slice-op-items.ensures.value ∙ c.in_ok-ops.ensures.ops) in
+    let list = listed c.args.ctx.now t j b c.args.block ops h.at (c.as_slice-op-items.ensures.value ∙ c.in_ok-read_ops.ensures.ops) in
     linked_block t j b given c.args.values.now c.loop-op.back (linked_all c.args.ctx.now t j b ops c.loop-op.op-index given c.args.values.now c.loop-op.back list c.loop-op-test.false (c.loop-op.invariant t j b given h))
 
 pub returns-clause-accepted : goal.returns-clause-accepted
 returns-clause-accepted c = λ t j b given h.
     let ops = c.as_slice-op-items.result.now in
-    let list = listed c.args.ctx.now t j b c.args.block ops h.at (c.as_slice-op-items.ensures.value ∙ c.in_ok-ops.ensures.ops) in
+    let list = listed c.args.ctx.now t j b c.args.block ops h.at (c.as_slice-op-items.ensures.value ∙ c.in_ok-read_ops.ensures.ops) in
     linked_accepted t h.at.task.form j b given c.args.values.now c.loop-op.back h.at.here (linked_all c.args.ctx.now t j b ops c.loop-op.op-index given c.args.values.now c.loop-op.back list c.loop-op-test.false (c.loop-op.invariant t j b given h))

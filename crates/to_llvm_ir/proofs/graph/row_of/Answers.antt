@@ -12,4 +12,4 @@ loop-op-preserved c = λ g are.
 
 pub returns : goal.returns
 returns c = λ g block are is.
-    row_all c.args.ctx.now g c.args.block block c.as_slice-op-items.result.now c.loop-op.op-index c.loop-op.row.items is (c.as_slice-op-items.ensures.value ∙ c.in_ok-ops.ensures.ops) c.loop-op-test.false (c.loop-op.invariant g are)
+    row_all c.args.ctx.now g c.args.block block c.as_slice-op-items.result.now c.loop-op.op-index c.loop-op.row.items is (c.as_slice-op-items.ensures.value ∙ c.in_ok-read_ops.ensures.ops) c.loop-op-test.false (c.loop-op.invariant g are)

@@ -8,5 +8,5 @@ use Rattle.to_llvm_ir.proofs.order.is_block_in_order.Goals as goal
 
 pub returns : goal.returns
 returns c = λ b vs is seen.
-    let are : ops_of c.args.ctx.now c.as_slice.result.now ≡ b.ops = ap (ops_of c.args.ctx.now) (c.as_slice.ensures.value ∙ c.in_ok-ops.ensures.ops) ∙ sym (block_parts c.args.ctx.now c.args.block b is).ops in
+    let are : ops_of c.args.ctx.now c.as_slice.result.now ≡ b.ops = ap (ops_of c.args.ctx.now) (c.as_slice.ensures.value ∙ c.in_ok-read_ops.ensures.ops) ∙ sym (block_parts c.args.ctx.now c.args.block b is).ops in
     block_answer b vs (ops_of c.args.ctx.now c.as_slice.result.now) c.are_ops_in_order.new.seen c.are_ops_in_order.result are (c.are_ops_in_order.ensures (vs ++ arguments_of b) (c.in_ok-note_arguments.ensures b vs is seen))

@@ -22,7 +22,7 @@ returns-in_default-clause-own c = λ g is form.
     own_of x c.args.func g is there (subst (All (UsesHeld x c.args.func)) (c.as_slice.ensures.value ∙ c.in_ok-ops.ensures.ops) uses) form.0
 
 -- the blocks of the function
-blocks_are : (c : goal.In-Some) (g : Func) → func_in (type_trees c.args.ctx.now.types) c.args.ctx.now c.args.func ≡ Some g → IsOpenForm c.args.ctx.now g → AreBlocksOf c.args.ctx.now g c.op_blocks-list.result.now
+blocks_are : (c : goal.After-export_order-arg-1) (g : Func) → func_in (type_trees c.args.ctx.now.types) c.args.ctx.now c.args.func ≡ Some g → IsOpenForm c.args.ctx.now g → AreBlocksOf c.args.ctx.now g c.op_blocks-list.result.now
 blocks_are c g is form = blocks_apart c.args.ctx.now c.args.func g c.op_blocks-list.result.now (some_of g.blocks form.1.body) form.0.block_numbers is c.op_blocks-list.ensures.blocks c.op_blocks-list.ensures.within
 
 pub export_order-requires-clause-blocks : goal.export_order-requires-clause-blocks

@@ -39,14 +39,14 @@ returns c =
     let one = c.in_ok-result-in-Func.ensures in
     let two = c.in_ok-params-in-Func.ensures in
     let last = c.in_ok-number-in-Func.ensures in
-    let grown = grows_type c.param_types.new.back c.type_get.new.self _ _ last.interned last.rest in
+    let grown = grows_type c.param_types.new.back c.type_get.new.back _ _ last.interned last.rest in
     let params = subst (λ (xs : List TypeHandle). AreTypesOf c.param_types.new.back c.in_ok-params-in-Func.params (map (tree_of (type_trees c.args.ctx.now.types)) xs)) c.as_slice.ensures two.types in
     let made = function_type _ _ _ _ _ _ _ _ _ _ _ last.sound last.interned c.in-Func.is (rw types at c.kind.ensures.tree) (type_kept _ _ _ _ grown (type_kept _ _ _ _ two.grows one.tree)) (types_kept _ _ _ _ grown params) in
     record {
       function = made.0;
       tree = made.1;
       grows = grows_then _ _ _ one.grows (grows_then _ _ _ two.grows grown);
-      rest = last.rest ∙ ap (λ (m : Module). let n : Module = record m { types = c.type_get.new.self.types } in n) (two.rest ∙ ap (λ (m : Module). let n : Module = record m { types = c.param_types.new.back.types } in n) one.rest);
+      rest = last.rest ∙ ap (λ (m : Module). let n : Module = record m { types = c.type_get.new.back.types } in n) (two.rest ∙ ap (λ (m : Module). let n : Module = record m { types = c.param_types.new.back.types } in n) one.rest);
       «data» = last.data ∙ two.data ∙ one.data;
       sound = last.sound;
     }

@@ -1,5 +1,5 @@
 -- The map of the place has one value more, and the others say what they said.
-use Rattle.std.proofs.Common.{◌≡◌, ◌<◌, ◌∙◌, ap, sym, Option, Some, nat_eq, if◌then◌else◌, length, arith}
+use Rattle.std.proofs.Common.{◌<◌, ◌∙◌, ap, sym, Option, Some, nat_eq, if◌then◌else◌, length, arith}
 use Rattle.std.specs.Prelude.{◌&&◌}
 use Rattle.std.proofs.lemmas.Option.{slice_get-get_or}
 use Rattle.std.proofs.lemmas.Result.{on_ok_weaker}
