@@ -1,21 +1,27 @@
-//! A map from the values of a function, by numbers alone.
+//! A map from the values of a function, for the most part by numbers.
 
 ghost use Rattle.std.specs.Prelude.{◌≡◌, ◌+◌, ◌&&◌, ℕ, nat_eq, length, None, Some, OnOk, if◌then◌else◌};
 ghost use Rattle.meaning.specs.Dialect.{same_value};
-ghost use Rattle.to_llvm_ir.specs.ValueTables.{tabled, value_in};
+ghost use Rattle.to_llvm_ir.specs.ValueTables.{far_at, tabled, value_in};
 
 use dialect_core::ops::Value;
 use std::alloc::{AllocError, Global};
+use std::collections::HashMap;
 use support::number_map::NumberMap;
 
+/// Places below this have a map each.
+const NEAR: u32 = 16;
+
 /// A map from values, quick where their numbers lie near each other: a result by the number of its operation, an argument
-/// by its place and the number of its block. It takes a map for each argument of the widest block.
+/// by its place and the number of its block. Arguments at far places lie in a hash map.
 #[derive(Drop)]
 pub struct ValueTable<V> {
     alloc: Global,
     pub results: NumberMap<V>,
-    /// A map for each place, of the arguments at it by their blocks.
+    /// A map for each near place, of the arguments at it by their blocks.
     pub arguments: Vec<NumberMap<V>>,
+    /// The arguments at other places, where there are some.
+    pub far: Option<HashMap<Value, V>>,
 }
 
 impl<V> ValueTable<V> {
@@ -27,6 +33,7 @@ impl<V> ValueTable<V> {
             alloc,
             results: NumberMap::new(alloc),
             arguments: Vec::new(alloc),
+            far: None,
         }
     }
 }
@@ -38,10 +45,13 @@ impl<V: Copy + Drop> ValueTable<V> {
     {
         match value {
             Value::Result(op) => self.results.get(op.0),
-            Value::Argument(block, place) => match self.arguments.get(place as usize) {
-                Some(map) => map.get(block.0),
-                None => None,
-            },
+            Value::Argument(block, place) => {
+                if place < NEAR {
+                    placed(self.arguments.as_slice(), place, block.0)
+                } else {
+                    far_value(&self.far, value)
+                }
+            }
         }
     }
 
@@ -52,10 +62,52 @@ impl<V: Copy + Drop> ValueTable<V> {
         match value {
             Value::Result(op) => self.results.set(op.0, to),
             Value::Argument(block, place) => {
-                set_placed(self.alloc, &mut self.arguments, place, block.0, to)
+                if place < NEAR {
+                    set_placed(self.alloc, &mut self.arguments, place, block.0, to)
+                } else {
+                    set_far(self.alloc, &mut self.far, value, to)
+                }
             }
         }
     }
+}
+
+/// The value of a number in the map of a place, where the place has one.
+fn placed<V: Copy + Drop>(maps: &[NumberMap<V>], place: u32, number: u32) -> Option<V>
+    ensures { result ≡ value_in maps.now place number }
+{
+    match maps.get(place as usize) {
+        Some(map) => map.get(number),
+        None => None,
+    }
+}
+
+/// The value of an argument at a far place.
+fn far_value<V: Copy + Drop>(far: &Option<HashMap<Value, V>>, value: Value) -> Option<V>
+    ensures { result ≡ far_at far.now value }
+{
+    match far {
+        Some(far) => far.get(&value).copied(),
+        None => None,
+    }
+}
+
+/// Sets the value of an argument at a far place.
+fn set_far<V: Copy + Drop>(
+    alloc: Global,
+    far: &mut Option<HashMap<Value, V>>,
+    value: Value,
+    to: V,
+) -> Result<(), AllocError>
+    ensures { OnOk result ((q : Value) → far_at far.new q ≡ (if same_value value q then Some to else far_at far.old q)) }
+{
+    let mut map = match far.take() {
+        Some(map) => map,
+        None => HashMap::new(alloc),
+    };
+    map.insert(value, to)?;
+    *far = Some(map);
+    Ok(())
 }
 
 /// Sets the value of a number in the map of a place.
