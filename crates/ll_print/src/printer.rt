@@ -51,7 +51,7 @@ pub fn print_ll(alloc: Global, module: &LLVMModule, out: &mut Vec<u8>) -> Result
     requires few { HasFew (data_of «module».now) }
     ensures text { OnOk result (out.new.items ≡ out.old.items ++ module_text (data_of «module».now)) }
     ensures err { OnErr result (out.new.items ≡ out.old.items) }
-    // What is printed is cut into tokens that spell the module.
+    // What is printed is read again as what the data say.
     ensures spelled { OnOk result (Spells (module_text (data_of «module».now)) (data_of «module».now)) }
     // The last line of the text of a module with a name has an end.
     ensures lines { OnOk result («module».now.name ≢ [] → EndsLine (module_text (data_of «module».now))) }
