@@ -103,6 +103,28 @@ module _ (symbols : List Symbol) (alternatives : List Alternative) (rows : List 
   pub symbols_at : (a : Alternative) → row.start < i → i ≤ row.end → slice_get alternatives (i - 1) ≡ Some a → Some (symbols_of symbols a) ≡ (slice_get (rows_of symbols alternatives rows firsts mores) r >>= λ x. numbered i x.alternatives)
   symbols_at a h k e = sym (here ∙ placed h ∙ ap (λ o. o >>= λ x. Some (symbols_of symbols x)) (part_at alternatives row.start row.end i h k ∙ e))
 
+-- the symbols of an alternative that stands in a row, by its number alone
+module _ (symbols : List Symbol) (alternatives : List Alternative) (firsts mores : List ℕ) (i : ℕ) where
+  none_there : (rows : List Row) (r : ℕ) → slice_get rows r ≡ None → (slice_get (rows_of symbols alternatives rows firsts mores) r >>= λ x. numbered i x.alternatives) ≡ None
+  none_there [] r h = refl
+  none_there (x ∷ xs) zero h = absurd cc
+  none_there (x ∷ xs) (suc r) h = none_there xs r h
+
+  module _ (rows : List Row) (r : ℕ) (α : List Symbol) (e : (slice_get (rows_of symbols alternatives rows firsts mores) r >>= λ x. numbered i x.alternatives) ≡ Some α) where
+    placed_alone : (row : Row) → slice_get rows r ≡ Some row → row.start < i → i ≤ row.end → (o : Option Alternative) → slice_get alternatives (i - 1) ≡ o → (o >>= λ a. Some (symbols_of symbols a)) ≡ Some α
+    placed_alone row at l k None p = let x = symbols_past symbols alternatives rows firsts mores r i row at l k p ∙ e in absurd cc
+    placed_alone row at l k (Some a) p = symbols_at symbols alternatives rows firsts mores r i row at a l k p ∙ e
+
+    pub symbols_alone : (o : Option Row) → slice_get rows r ≡ o → (slice_get alternatives (i - 1) >>= λ a. Some (symbols_of symbols a)) ≡ Some α
+    symbols_alone None at = let x = sym (none_there rows r at) ∙ e in absurd cc
+    symbols_alone (Some row) at = elim (cases_lt row.start i) [
+      | inl l ↦ elim (cases_lt row.end i) [
+        | inl k ↦ let x = symbols_above symbols alternatives rows firsts mores r i row at l k ∙ e in absurd cc
+        | inr k ↦ placed_alone row at l k (slice_get alternatives (i - 1)) refl
+      ]
+      | inr l ↦ let x = symbols_below symbols alternatives rows firsts mores r i row at l ∙ e in absurd cc
+    ]
+
 -- ---- the alternative that a class begins
 
 begun_is : (symbols : List Symbol) (firsts : List ℕ) (n c other : ℕ) (all : List Alternative) → some_number (begun firsts all (suc n) c other) ≡ begun_by c (numbered_from symbols firsts (suc n) all) (some_number other)

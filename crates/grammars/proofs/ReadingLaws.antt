@@ -1,5 +1,6 @@
 -- Steps of a reader.
-use Rattle.std.proofs.Common.{◌≡◌, ℕ, Bool, true, false, nat_eq, is_none, zero, suc, ◌<◌, List, [], ◌∷◌, ◌++◌, reverse, length, take, drop, slice_index_or, ◌+◌, Option, Some, None, refl, sym, ap, eqb-true, ◌∙◌, subst, append_assoc, drop-cons, arith}
+use Rattle.std.proofs.Common.{◌≡◌, ℕ, Bool, true, false, nat_eq, is_none, zero, suc, ◌<◌, ◌≤◌, List, [], ◌∷◌, ◌++◌, reverse, length, take, drop, slice_get, slice_index_or, ◌+◌, ◌-◌, Option, Some, None, refl, sym, ap, eqb-true, ◌∙◌, subst, append_assoc, drop-cons, arith}
+use Rattle.std.specs.Prelude.{Result, Ok, Err, IfOk, IsTrue}
 use Rattle.std.proofs.lemmas.List.{reverse-append, append-nil, take-append-drop, take_more}
 use Rattle.grammars.specs.declared.symbols.Symbol.{Symbol}
 use Rattle.grammars.specs.declared.symbols.Symbol.TheVariants.{Word, Leaf, Rule}
@@ -13,14 +14,25 @@ use Rattle.grammars.specs.Grammar.{Grammar, Writes, at_end}
 use Rattle.grammars.specs.Right.{IsRight, lead}
 use Rattle.grammars.specs.Moving.{Moves, Refuses}
 use Rattle.grammars.specs.FlatGrammar.{rows, grammar_of, tables_of}
-use Rattle.grammars.specs.Reading.{stack_of, class_ahead, is_class, ReadsUpTo, StopsAt, TakesToken, ReadsRest, IsOnTheWay, IsBehind, IsRefusedAt}
-use Rattle.grammars.proofs.RowLaws.{rows_are_right}
-use Rattle.grammars.proofs.FlatLaws.{no_zero}
+use Rattle.grammars.specs.Reading.{stack_of, class_ahead, is_class, ReadsUpTo, StopsAt, TakesToken, ReadsRest, IsOnTheWay, Holds, IsBehind, IsRefusedAt}
+use Rattle.grammars.specs.declared.rows.Alternative.{Alternative}
+use Rattle.grammars.specs.RowGrammar.{◌>>=◌}
+use Rattle.grammars.specs.Flat.{symbols_of}
+use Rattle.grammars.proofs.RowLaws.{rows_are_right, chosen_stands}
+use Rattle.grammars.proofs.FlatLaws.{no_zero, symbols_alone}
 use Rattle.grammars.proofs.GrammarLaws.{moves_rule, refuses_choice, refuses_symbols, takes_word, takes_leaf, refuses_word, refuses_leaf, lead_rule, from_end, none_word, none_leaf}
 
 -- a grammar in flat tables passed the check
 pub right_of : (g : code.Grammar) → IsRight (grammar_of g) (tables_of g)
 right_of g = rows_are_right (rows g) g.right
+
+-- the symbols of the alternative that a rule goes on with are those at its number's place
+pub symbols_there : (g : code.Grammar) (r i : ℕ) (n : Option ℕ) (o : Option Alternative) → 1 ≤ i → some_number i ≡ (grammar_of g).choose r n → slice_get g.alternatives.now (i - 1) ≡ o
+    → (o >>= λ a. Some (symbols_of g.symbols.now a)) ≡ (grammar_of g).symbols r i
+symbols_there g r zero n o h e at = absurd (omega (arith, h))
+symbols_there g r (suc i) n o h e at =
+    let x = chosen_stands (rows g) g.right r (suc i) n (sym e) in
+    ap (λ (p : Option Alternative). p >>= λ a. Some (symbols_of g.symbols.now a)) (sym at) ∙ symbols_alone g.symbols.now g.alternatives.now g.firsts.now g.mores.now (suc i) g.rows.now r x.0 x.1 (slice_get g.rows.now r) refl ∙ sym x.1
 
 -- what stands last in the program stands first
 pub front : {A : Type 0} (xs ys : List A) (s : A) → xs ≡ ys ++ s ∷ [] → reverse xs ≡ s ∷ reverse ys
@@ -111,6 +123,16 @@ pub leaf_read : (g : code.Grammar) (a : Option Token) (t : Token) → a ≡ Some
     → new.events.items ≡ now.events.items ++ Held t.at ∷ [] → t.class ≡ d → ReadsUpTo g a old new
 leaf_read g a t this old now new way d e more is =
     rw this (leaf_taken g t old now new (subst (λ (b : Option Token). IsOnTheWay g (class_ahead b) old now) this way) d e more (sym is))
+
+held_read : (g : code.Grammar) (a : Option Token) (old now mid new : Reader) → IsOnTheWay g (class_ahead a) old now → (d : ℕ) → stack_of now ≡ Leaf d ∷ stack_of mid → mid.events ≡ now.events → stack_of new ≡ stack_of mid
+    → Holds a d mid.events.items new.events.items → ReadsUpTo g a old new
+held_read g a old now mid new way d e same stays h =
+    leaf_read g a h.token h.is old now new way d (rw stays e) (rw (← same) h.events) h.class_is
+
+pub leaf_held : {E : Type 0} (g : code.Grammar) (a : Option Token) (old now mid new : Reader) → IsOnTheWay g (class_ahead a) old now → (d : ℕ) → stack_of now ≡ Leaf d ∷ stack_of mid → mid.events ≡ now.events → stack_of new ≡ stack_of mid
+    → (r : Result Bool E) → IfOk r (λ on. IsTrue on → Holds a d mid.events.items new.events.items) → IfOk r (λ on. IsTrue on → ReadsUpTo g a old new)
+leaf_held g a old now mid new way d e same stays (Ok on) h = λ is. held_read g a old now mid new way d e same stays (h is)
+leaf_held g a old now mid new way d e same stays (Err x) h = tt
 
 pub leaf_stops : (g : code.Grammar) (a : Option Token) (old now new : Reader) → IsOnTheWay g (class_ahead a) old now → (d : ℕ) → stack_of now ≡ Leaf d ∷ stack_of new → is_class a d ≡ false → StopsAt (grammar_of g) a (stack_of old)
 leaf_stops g None old now new way d e is = no_token g old now new (Leaf d) way e refl

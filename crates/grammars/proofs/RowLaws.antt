@@ -1,10 +1,10 @@
 -- Rows that pass the check are a grammar of which the next token tells how to go on.
-use Rattle.std.proofs.Common.{◌≡◌, ℕ, zero, suc, ◌+◌, Bool, true, false, not, ◌||◌, ◌&&◌, if◌then◌else◌, nat_eq, nat_lt, List, [], ◌∷◌, ◌++◌, map, Option, Some, None, slice_get, slice_index_or, refl, sym, ap, ◌∙◌, subst, arith, inl, inr, eqb-true}
-use Rattle.std.specs.List.{list_all, flat_map}
+use Rattle.std.proofs.Common.{◌≡◌, ℕ, zero, suc, ◌+◌, Bool, true, false, not, ◌||◌, ◌&&◌, if◌then◌else◌, nat_eq, nat_lt, List, [], ◌∷◌, ◌++◌, map, Option, Some, None, slice_get, slice_index_or, refl, sym, ap, ◌∙◌, subst, arith, inl, inr, ◌⊎◌, eqb-true}
+use Rattle.std.specs.List.{list_all, list_any, flat_map}
 use Rattle.grammars.specs.declared.symbols.Symbol.{Symbol}
 use Rattle.grammars.specs.declared.symbols.Symbol.TheVariants.{Word, Leaf, Rule}
 use Rattle.grammars.specs.Right.{Tables, empties, begins, extends, Fits, lead, IsRightAt, IsRight}
-use Rattle.grammars.specs.Rows.{Alternative, Row, is_some, is_number, all_firsts, all_nulls, all_mores, all_heights, has, subset, apart, firsts_of, implies, begins_with, is_null, lead_of, all_fit, check_alternative, apart_all, check_row, check_rows}
+use Rattle.grammars.specs.Rows.{Alternative, Row, is_some, is_number, all_firsts, all_nulls, all_mores, all_heights, has, subset, apart, firsts_of, implies, begins_with, is_null, lead_of, all_fit, check_alternative, apart_all, is_own, check_row, check_rows}
 use Rattle.grammars.specs.RowGrammar.{◌>>=◌, numbered, begun_by, chosen_of, grammar_of_rows, tables_of_rows}
 use Rattle.grammars.proofs.GrammarLaws.{either, both, or_left, or_right}
 
@@ -178,7 +178,8 @@ right_at : (rows : List Row) (r i : ℕ) (row : Row) (j : ℕ) (a : Alternative)
     → slice_get rows r ≡ Some row → slice_get row.alternatives j ≡ Some a → a.number ≡ i → IsRightAt (grammar_of_rows rows) (tables_of_rows rows) r i a.symbols
 right_at rows r i row j a h at_row at is =
     let each = tested (list_all (check_alternative (F rows) (N rows) (M rows) (H rows) row) row.alternatives) _ h in
-    let alone = tested (apart_all row.alternatives) (implies (is_some row.nothing) (subset (firsts_of row) row.more)) each.1 in
+    let alone = tested (apart_all row.alternatives) _ each.1 in
+    let behind = tested (implies (is_some row.nothing) (subset (firsts_of row) row.more)) (is_own row) alone.1 in
     let mine = all_at (check_alternative (F rows) (N rows) (M rows) (H rows) row) row.alternatives j a each.0 at in
     let sub = tested (subset (begins_with (F rows) (N rows) a.symbols) a.firsts) _ mine in
     let fit = tested (all_fit (F rows) (N rows) (M rows) row.more a.symbols) _ sub.1 in
@@ -202,7 +203,7 @@ right_at rows r i row j a h at_row at is =
       chosen = λ c e. here (Some c) ∙ begun row.alternatives j a c _ alone.0 at (begun_is c e) ∙ number_too;
       default = λ e c none. here (Some c) ∙ unbegun row.alternatives c _ (sym (ap (λ (xs : List ℕ). has xs c) firsts_are) ∙ none) ∙ nothing_is e ∙ number_too;
       over = λ e. here None ∙ nothing_is e ∙ number_too;
-      opens = λ e c f. ap (λ (xs : List ℕ). has xs c) more_is ∙ in_subset (firsts_of row) row.more c (implied (is_some row.nothing) _ alone.1 (null_too e)) (sym (ap (λ (xs : List ℕ). has xs c) firsts_are) ∙ f);
+      opens = λ e c f. ap (λ (xs : List ℕ). has xs c) more_is ∙ in_subset (firsts_of row) row.more c (implied (is_some row.nothing) _ behind.0 (null_too e)) (sym (ap (λ (xs : List ℕ). has xs c) firsts_are) ∙ f);
     }
 
 pub rows_are_right : (rows : List Row) → check_rows rows ≡ true → IsRight (grammar_of_rows rows) (tables_of_rows rows)
@@ -213,3 +214,47 @@ rows_are_right rows h = record {
       subst (λ β. IsRightAt (grammar_of_rows rows) (tables_of_rows rows) r i β) y.4
       (right_at rows r i x.0 y.0 y.1 (all_at (check_row (all_firsts rows) (all_nulls rows) (all_mores rows) (all_heights rows)) rows r x.0 h x.1) x.1 y.2 y.3);
 }
+
+-- ---- what is chosen is there
+
+number_among : (o : Option ℕ) (i : ℕ) (bs : List Alternative) → o ≡ Some i → list_any (λ (a : Alternative). is_number o a.number) bs ≡ true → (α : List Symbol) × (numbered i bs ≡ Some α)
+number_among o i [] e h = absurd cc
+number_among o i (b ∷ bs) e h = by (nat_eq b.number i) refl (either (is_number o b.number) (list_any (λ (a : Alternative). is_number o a.number) bs) h) (λ m. number_among o i bs e m)
+  where
+    by : (t : Bool) → nat_eq b.number i ≡ t → (is_number o b.number ≡ true) ⊎ (list_any (λ (a : Alternative). is_number o a.number) bs ≡ true)
+        → (list_any (λ (a : Alternative). is_number o a.number) bs ≡ true → (α : List Symbol) × (numbered i bs ≡ Some α)) → (α : List Symbol) × ((if t then Some b.symbols else numbered i bs) ≡ Some α)
+    by true t s later = (b.symbols, refl)
+    by false t (inl m) later = let x : Some b.number ≡ Some i = sym (number_is o b.number m) ∙ e in let y : b.number ≡ i = cc in absurd (grind (arith, t, y))
+    by false t (inr m) later = later m
+
+begun_among : (c i : ℕ) (bs : List Alternative) (other : Option ℕ) → begun_by c bs other ≡ Some i → ((α : List Symbol) × (numbered i bs ≡ Some α)) ⊎ (other ≡ Some i)
+begun_among c i [] other e = inr e
+begun_among c i (b ∷ bs) other e = by (has b.firsts c) (nat_eq b.number i) refl e (λ f. begun_among c i bs other f)
+  where
+    by : (t s : Bool) → nat_eq b.number i ≡ s → (if t then Some b.number else begun_by c bs other) ≡ Some i → (begun_by c bs other ≡ Some i → ((α : List Symbol) × (numbered i bs ≡ Some α)) ⊎ (other ≡ Some i))
+        → ((α : List Symbol) × ((if s then Some b.symbols else numbered i bs) ≡ Some α)) ⊎ (other ≡ Some i)
+    by t true s f later = inl (b.symbols, refl)
+    by true false s f later = let y : b.number ≡ i = cc in absurd (grind (arith, s, y))
+    by false false s f later = later f
+
+nothing_in : (row : Row) (i : ℕ) → is_own row ≡ true → row.nothing ≡ Some i → (α : List Symbol) × (numbered i row.alternatives ≡ Some α)
+nothing_in row i own e = number_among row.nothing i row.alternatives e (implied (is_some row.nothing) _ own (some_is row.nothing i e))
+
+chosen_in : (row : Row) (i : ℕ) (n : Option ℕ) → is_own row ≡ true → chosen_of row n ≡ Some i → (α : List Symbol) × (numbered i row.alternatives ≡ Some α)
+chosen_in row i None own e = nothing_in row i own e
+chosen_in row i (Some c) own e = elim (begun_among c i row.alternatives row.nothing e) [
+  | inl x ↦ x
+  | inr x ↦ nothing_in row i own x
+]
+
+-- the alternative that the next token tells is one of the rule
+pub chosen_stands : (rows : List Row) → check_rows rows ≡ true → (r i : ℕ) (n : Option ℕ) → (grammar_of_rows rows).choose r n ≡ Some i → (α : List Symbol) × ((grammar_of_rows rows).symbols r i ≡ Some α)
+chosen_stands rows h r i n e =
+    let x = bind_some (slice_get rows r) (λ row. chosen_of row n) i e in
+    let row = x.0 in
+    let c = all_at (check_row (all_firsts rows) (all_nulls rows) (all_mores rows) (all_heights rows)) rows r row h x.1 in
+    let each = tested (list_all (check_alternative (F rows) (N rows) (M rows) (H rows) row) row.alternatives) _ c in
+    let alone = tested (apart_all row.alternatives) _ each.1 in
+    let own = tested (implies (is_some row.nothing) (subset (firsts_of row) row.more)) (is_own row) alone.1 in
+    let y = chosen_in row i n own.1 x.2 in
+    (y.0, ap (λ (o : Option Row). o >>= λ z. numbered i z.alternatives) x.1 ∙ y.1)

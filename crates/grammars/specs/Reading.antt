@@ -4,6 +4,7 @@ use Rattle.std.specs.Borrow.{Bor}
 use Rattle.grammars.specs.declared.symbols.Symbol.{Symbol}
 use Rattle.grammars.specs.declared.symbols.Symbol.TheVariants.{Rule}
 use Rattle.grammars.specs.declared.symbols.Event.{Event}
+use Rattle.grammars.specs.declared.symbols.Event.TheVariants.{Held}
 use Rattle.grammars.specs.declared.symbols.Token.{Token}
 use Rattle.grammars.specs.declared.grammar.Grammar as code
 use Rattle.grammars.specs.declared.reader.Ahead.{Ahead}
@@ -30,6 +31,13 @@ pub record TakesToken (g : code.Grammar) (t : Token) (old new : Reader) : Type 0
   pub read : List Event
   pub events : new.events.items ≡ old.events.items ++ read
   pub takes : Takes (grammar_of g) (tables_of g) t (stack_of old) read (stack_of new)
+
+-- the token ahead is of the class, and is held behind the other events
+pub record Holds (ahead : Option Token) (class : ℕ) (old new : List Event) : Type 0 where
+  pub token : Token
+  pub is : ahead ≡ Some token
+  pub class_is : token.class ≡ class
+  pub events : new ≡ old ++ Held token.at ∷ []
 
 -- so far no token is taken
 pub record IsOnTheWay (g : code.Grammar) (ahead : Option ℕ) (old new : Reader) : Type 0 where

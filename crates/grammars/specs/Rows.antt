@@ -99,6 +99,10 @@ check_alternative firsts nulls mores heights r a =
     else false)
     else false
 
+-- what may be nothing is an alternative of the row
+abbrev pub is_own : Row → Bool
+is_own r = implies (is_some r.nothing) (list_any (λ (a : Alternative). is_number r.nothing a.number) r.alternatives)
+
 -- no class begins two alternatives
 abbrev pub apart_all : List Alternative → Bool
 apart_all [] = true
@@ -107,7 +111,7 @@ apart_all (a ∷ others) = if list_all (λ (b : Alternative). apart a.firsts b.f
 abbrev pub check_row : (firsts : List (List ℕ)) (nulls : List Bool) (mores : List (List ℕ)) (heights : List ℕ) → Row → Bool
 check_row firsts nulls mores heights r =
     if list_all (check_alternative firsts nulls mores heights r) r.alternatives
-    then (if apart_all r.alternatives then implies (is_some r.nothing) (subset (firsts_of r) r.more) else false)
+    then (if apart_all r.alternatives then (if implies (is_some r.nothing) (subset (firsts_of r) r.more) then is_own r else false) else false)
     else false
 
 -- the next token tells how to go on, by the grammar of these rows

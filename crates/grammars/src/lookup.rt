@@ -1,6 +1,6 @@
 //! What a grammar says, looked up in its tables.
 
-ghost use Rattle.std.specs.Prelude.{◌≡◌, None, reverse};
+ghost use Rattle.std.specs.Prelude.{◌≡◌, ℕ, Option, None, reverse};
 ghost use Rattle.std.specs.Option.{option_map};
 ghost use Rattle.grammars.specs.Numbers.{some_number};
 ghost use Rattle.grammars.specs.FlatGrammar.{grammar_of};
@@ -10,15 +10,12 @@ use crate::parts::part_of;
 use crate::symbols::Symbol;
 
 impl<'g> Grammar<'g> {
-    /// The symbols of an alternative of a rule, the last first.
-    pub fn symbols_of(&self, rule: u16, alternative: u16) -> Option<&'g [Symbol]>
-        ensures { option_map (λ s. reverse s.now) result ≡ (grammar_of self.now).symbols rule alternative }
+    /// The symbols of an alternative that a rule goes on with, the last first.
+    pub fn symbols_of(&self, alternative: u16) -> Option<&'g [Symbol]>
+        ensures { (r : ℕ) (n : Option ℕ) → some_number alternative ≡ (grammar_of self.now).choose r n → option_map (λ s. reverse s.now) result ≡ (grammar_of self.now).symbols r alternative }
     {
-        let row = self.rows.get(rule as usize)?;
-        if alternative <= row.start || alternative > row.end {
-            return None;
-        }
-        let found = self.alternatives.get(alternative as usize - 1)?;
+        let place = (alternative as usize).checked_sub(1)?;
+        let found = self.alternatives.get(place)?;
         Some(part_of(self.symbols, found.start, found.end))
     }
 

@@ -8,7 +8,7 @@ ghost use Rattle.grammars.specs.Grammar.{Writes};
 ghost use Rattle.grammars.specs.Right.{Tables, Fits};
 ghost use Rattle.grammars.specs.FlatGrammar.{grammar_of, tables_of};
 ghost use Rattle.grammars.specs.Choosing.{AreChoices};
-ghost use Rattle.grammars.specs.Reading.{stack_of, class_ahead, is_class, TellsAhead, ReadsUpTo, StopsAt, TakesToken, ReadsRest, IsRefusedAt};
+ghost use Rattle.grammars.specs.Reading.{stack_of, class_ahead, is_class, TellsAhead, ReadsUpTo, StopsAt, TakesToken, Holds, ReadsRest, IsRefusedAt};
 ghost use Rattle.grammars.specs.Numbers.{some_number};
 
 use crate::choices::Choices;
@@ -116,6 +116,21 @@ impl<'g> Reader<'g> {
         Ok(())
     }
 
+    /// Holds the token that is ahead: whether it is one of that class.
+    fn hold(&mut self, ahead: Option<Token>, class: u16) -> Result<bool, AllocError>
+        ensures stack { stack_of self.new ≡ stack_of self.old }
+        ensures held { IfOk result (λ on. IsTrue on → Holds ahead class self.old.events.items self.new.events.items) }
+        ensures other { IfOk result (λ on. on ≡ false → is_class ahead class ≡ false) }
+    {
+        match ahead {
+            Some(token) if token.class == class => {
+                self.events.push(Event::Held(token.at))?;
+                Ok(true)
+            }
+            _ => Ok(false),
+        }
+    }
+
     /// Reads on, up to a token or to their end: whether that may stand next.
     fn read_on(&mut self, grammar: &Grammar<'g>, ahead: Ahead<'_>) -> Result<bool, AllocError>
         requires choices { TellsAhead grammar.now ahead }
@@ -125,24 +140,17 @@ impl<'g> Reader<'g> {
     {
         let grammar = *grammar;
         while let Some(top) = self.pop() {
-            let event = match top {
+            match top {
                 Symbol::Word(class) => return Ok(ahead.is_class(class)),
-                Symbol::Leaf(class) => match ahead.token {
-                    Some(token) if token.class == class => Event::Held(token.at),
-                    _ => return Ok(false),
-                },
+                Symbol::Leaf(class) => return self.hold(ahead.token, class),
                 Symbol::Rule(rule) => {
                     let alternative = ahead.choose(&grammar, rule);
-                    let Some(symbols) = grammar.symbols_of(rule, alternative) else {
+                    let Some(symbols) = grammar.symbols_of(alternative) else {
                         return Ok(false);
                     };
                     self.put(symbols)?;
-                    Event::Took(alternative)
+                    self.events.push(Event::Took(alternative))?;
                 }
-            };
-            self.events.push(event)?;
-            if let Event::Held(_) = event {
-                return Ok(true);
             }
         }
         Ok(ahead.token.is_none())
