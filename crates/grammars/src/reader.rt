@@ -132,6 +132,7 @@ impl<'g> Reader<'g> {
     }
 
     /// Reads on, up to a token or to their end: whether that may stand next.
+    #[inline(always)]
     fn read_on(&mut self, grammar: &Grammar<'g>, ahead: Ahead<'_>) -> Result<bool, AllocError>
         requires choices { TellsAhead grammar.now ahead }
         requires fits { Fits (tables_of grammar.now) (stack_of self.old) }
