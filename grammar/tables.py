@@ -417,6 +417,8 @@ class Grammar:
                     if both:
                         bad.append('%s, alternatives %d and %d: both begin with %s' % (where, number, other, name(both)))
             if nothing:
+                if nothing not in [number for number, _, _ in own]:
+                    bad.append('%s may be nothing by alternative %d, which is none of its own' % (where, nothing))
                 missing = [c for c in all_firsts[rule] if not has(more, c)]
                 if missing:
                     bad.append('%s may be nothing, and %s is not in its more' % (where, name(missing)))
