@@ -13,7 +13,7 @@ use Rattle.ll_bodies.specs.declared.scope.Key.TheVariants.{Named, Numbered}
 use Rattle.ll_bodies.specs.declared.scope.Local.{Local}
 use Rattle.ll_bodies.specs.declared.scope.Scope.{Scope}
 use Rattle.ll_bodies.specs.contracts.scope.KeyPartialEq.TheImpl as keys
-use Rattle.ll_bodies.specs.ScopeViews.{key_view, local_view, local_at, Knows, Takes, Refuses, Adds}
+use Rattle.ll_bodies.specs.ScopeViews.{key_view, local_view, local_at, IsPut, Knows, Takes, Refuses, Adds}
 
 pub same_key_is : (a b : Key) → keys.eq-value.it a b ≡ same_key (key_view a) (key_view b)
 same_key_is (Named a) (Named b) = refl
@@ -31,10 +31,6 @@ IsLimited k = (n : ℕ) → number_limit ≤ n → keys.eq-value.it k (Numbered 
 
 limited_number : (n : ℕ) → n < number_limit → IsLimited (Numbered n)
 limited_number n small m past = let e : nat_eq n m ≡ false = grind (arith, nat_tests) in e
-
--- what was put under a key
-abbrev pub IsPut : Scope → Scope → Key → Local → Type 0
-IsPut old new k x = (q : Key) → local_at new q ≡ cond (keys.eq-value.it k q) (Some x) (local_at old q)
 
 -- what is put under a key is what the key stands for
 put : (types : List TypeTree) (old new : Scope) (s : spec.Scope) (k : Key) (x : Local) (n : ℕ) → IsLimited k → Knows types old s → n ≡ new.next

@@ -1,7 +1,9 @@
 -- What clauses see of a scope of the program.
-use Rattle.std.specs.Prelude.{◌≡◌, ◌≤◌, ◌⊎◌, ℕ, List, Option, Some, None}
+use Rattle.std.specs.Prelude.{◌≡◌, ◌≤◌, ◌⊎◌, ℕ, List, Option, Some, None, cond}
 use Rattle.std.specs.Option.{option_map}
 use Rattle.std.specs.HashMap.{get}
+use Rattle.std.specs.Str.{bytes_eq}
+use Rattle.support.specs.NumberMaps.{value_at}
 use Rattle.llvm_core.specs.Data as L
 use Rattle.llvm_core.specs.Data.{TypeTree, type_at}
 use Rattle.ll_literals.specs.Numbers.{number_limit}
@@ -29,7 +31,12 @@ local_view types (Block b) = spec.BlockLocal b.0
 
 -- what a key stands for
 abbrev pub local_at : Scope → Key → Option Local
-local_at s k = get keys.eq-value.it s.known k
+local_at s (Named name) = get (λ a b. bytes_eq a.now b.now) s.named name
+local_at s (Numbered n) = value_at s.numbered n
+
+-- the thing was put under a key
+abbrev pub IsPut : Scope → Scope → Key → Local → Type 0
+IsPut old new k x = (q : Key) → local_at new q ≡ cond (keys.eq-value.it k q) (Some x) (local_at old q)
 
 -- the scope of the program is that of the definitions: the counters are equal, and each key stands for the same;
 -- under a number that nothing can have stands nothing

@@ -23,9 +23,17 @@ use llvm_core::numbers::LLVMFunction;
 use std::alloc::Global;
 use support::items::Items;
 
-/// The scope of a function, whose blocks have the numbers from `first_block` on, and its instructions those from `first` on.
+/// Room for all that a function defines, as far as its length tells.
+fn room(said: &Function) -> usize {
+    let params = said.params.as_slice().len();
+    params.saturating_add(said.body.as_slice().len())
+}
+
+/// The scope of a function, whose blocks have the numbers from `first_block` on, and its instructions those from `first` on, made
+/// for about so many names.
 fn scope_of<'a>(
     alloc: Global,
+    room: usize,
     source: &Source<'a>,
     f: LLVMFunction,
     first_block: u32,
@@ -41,7 +49,7 @@ fn scope_of<'a>(
     ensures named { IfOk result (λ scope. (k : Key) (y : Local) → local_at scope k ≡ Some y → IsNamed source.now f first_block first params.now blocks.now y) }
     ensures not_yet { result ≡ Err BuildErr.NotYet → function_scope source.now f.0 first_block first params.now blocks.now ≡ None }
 {
-    let mut scope = Scope::new(alloc);
+    let mut scope = Scope::new(alloc, room);
     define_params(source, &mut scope, f, params)?;
     define_blocks(source, &mut scope, first_block, first, blocks)?;
     Ok(scope)
@@ -66,6 +74,7 @@ pub fn body_of(
     let blocks = blocks_of(alloc, said.body.as_slice())?;
     let scope = scope_of(
         alloc,
+        room(said),
         source,
         f,
         first_block,

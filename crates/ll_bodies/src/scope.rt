@@ -4,15 +4,17 @@ ghost use Rattle.std.specs.Prelude.{◌≡◌, List, None, Some, Err, OnOk};
 ghost use Rattle.llvm_core.specs.Data.{TypeTree};
 ghost use Rattle.ll_bodies.specs.Scopes as spec;
 ghost use Rattle.ll_bodies.specs.Scopes.{empty_scope, counted, define};
-ghost use Rattle.ll_bodies.specs.ScopeViews.{option_key, local_view, local_at, Knows, Takes, Refuses, Adds};
+ghost use Rattle.ll_bodies.specs.ScopeViews.{option_key, local_view, local_at, IsPut, Knows, Takes, Refuses, Adds};
+ghost use Rattle.ll_bodies.specs.declared.scope.Key.TheVariants as keys;
 
 use crate::build_err::BuildErr;
 use llvm_core::numbers::{LLVMBasicBlock, LLVMFunction, LLVMInstRef, LLVMType};
-use std::alloc::Global;
+use std::alloc::{AllocError, Global};
 use std::collections::HashMap;
+use support::number_map::NumberMap;
 
 /// A name or a number of a function's scope.
-#[derive(Clone, Copy, PartialEq, Eq, Hash, Drop)]
+#[derive(Clone, Copy, PartialEq, Eq, Drop)]
 pub enum Key<'a> {
     Named(&'a str),
     Numbered(u32),
@@ -31,18 +33,23 @@ pub enum Local {
 #[derive(Drop)]
 pub struct Scope<'a> {
     next: u32,
-    known: HashMap<Key<'a>, Local>,
+    numbered: NumberMap<Local>,
+    named: HashMap<&'a str, Local>,
+    /// The room that is made for names with the first one.
+    room: usize,
 }
 
 impl<'a> Scope<'a> {
-    /// A scope in which nothing is defined.
-    pub fn new(alloc: Global) -> Scope<'a>
+    /// A scope in which nothing is defined, for about so many names.
+    pub fn new(alloc: Global, room: usize) -> Scope<'a>
         ensures knows { (types : List TypeTree) → Knows types result empty_scope }
         ensures none { (k : _) → local_at result k ≡ None }
     {
         Scope {
             next: 0,
-            known: HashMap::new(alloc),
+            numbered: NumberMap::new(alloc),
+            named: HashMap::new(alloc),
+            room,
         }
     }
 
@@ -50,7 +57,29 @@ impl<'a> Scope<'a> {
     pub fn get(&self, key: Key<'a>) -> Option<Local>
         ensures { result ≡ local_at self.now key.entry }
     {
-        self.known.get(&key).copied()
+        match key {
+            Key::Named(name) => self.named.get(&name).copied(),
+            Key::Numbered(number) => self.numbered.get(number),
+        }
+    }
+
+    /// Lets a name stand for a thing.
+    fn set_name(&mut self, name: &'a str, local: Local) -> Result<(), AllocError>
+        ensures put { OnOk result (IsPut self.old self.new (keys.Named name.entry) local) }
+        ensures next { self.new.next ≡ self.old.next }
+    {
+        if self.named.is_empty() {
+            self.named.reserve(self.room)?;
+        }
+        self.named.insert(name, local)?;
+        Ok(())
+    }
+
+    /// Lets a number stand for a thing.
+    fn set_number(&mut self, number: u32, local: Local) -> Result<(), AllocError>
+        ensures put { OnOk result (IsPut self.old self.new (keys.Numbered number) local) }
+    {
+        self.numbered.set(number, local)
     }
 
     /// Defines what takes a number, and counts on behind it.
@@ -62,7 +91,7 @@ impl<'a> Scope<'a> {
         if number == u32::MAX {
             return Err(BuildErr::NotYet);
         }
-        self.known.insert(Key::Numbered(number), local)?;
+        self.set_number(number, local)?;
         self.next = number + 1;
         Ok(())
     }
@@ -81,7 +110,7 @@ impl<'a> Scope<'a> {
                 self.count(local, number)
             }
             Key::Named(name) => {
-                self.known.insert(Key::Named(name), local)?;
+                self.set_name(name, local)?;
                 Ok(())
             }
         }

@@ -5,7 +5,7 @@ use Rattle.ll_bodies.specs.declared.scope.Key.TheVariants.{Numbered}
 use Rattle.ll_bodies.proofs.scope.Scope.count.Goals as goal
 
 pub returns-clause-ok : goal.returns-clause-ok
-returns-clause-ok c = λ types. counted_put types c.args.self.now _ c.args.local c.args.number (omega arith) refl (λ q. c.in_ok-insert.ensures.updates.0 q)
+returns-clause-ok c = λ types. counted_put types c.args.self.now _ c.args.local c.args.number (omega arith) refl c.in_ok-set_number.ensures.put
 
 pub returns-clause-adds : goal.returns-clause-adds
-returns-clause-adds c = adds c.args.self.now _ (Numbered c.args.number) c.args.local (λ q. c.in_ok-insert.ensures.updates.0 q)
+returns-clause-adds c = adds c.args.self.now _ (Numbered c.args.number) c.args.local c.in_ok-set_number.ensures.put
