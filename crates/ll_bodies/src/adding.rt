@@ -36,7 +36,7 @@ struct Needed {
 fn param_types(alloc: Global, params: &[Param]) -> Result<Items<LLVMType>, AllocError>
     ensures { IfOk result (λ types. types ≡ map (λ (p : Param). p.ty) params.now) }
 {
-    let mut types = Items::new(alloc);
+    let mut types = Items::from_vec(Vec::with_capacity(alloc, params.len())?);
     for param in params {
         types.push(param.ty)?;
     }

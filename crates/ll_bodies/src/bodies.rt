@@ -100,7 +100,7 @@ pub fn body_insts(
     ensures typed { IfOk result (AreTypedInsts source.now.module.now) }
     ensures not_yet { result ≡ Err BuildErr.NotYet → (n : ℕ) → Refuses (types_in source.now) scope.now (λ s. all_from (meaning.placed s) n (lines_in source.now lines.now)) }
 {
-    let mut made = Items::new(alloc);
+    let mut made = Items::from_vec(Vec::with_capacity(alloc, lines.len())?);
     for part in lines {
         add_part(alloc, source, scope, part, &mut made)?;
     }
@@ -141,7 +141,7 @@ pub fn body_blocks(
     ensures typed { IfOk result (AreTypedBlocks source.now.module.now) }
     ensures not_yet { result ≡ Err BuildErr.NotYet → (b n : ℕ) → Refuses (types_in source.now) scope.now (λ s. blocks_data s b n (map (block_in source.now) blocks.now)) }
 {
-    let mut made = Items::new(alloc);
+    let mut made = Items::from_vec(Vec::with_capacity(alloc, blocks.len())?);
     for block in blocks {
         let body = body_block(alloc, source, scope, block)?;
         made.push(body)?;

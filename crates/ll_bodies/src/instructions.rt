@@ -58,7 +58,7 @@ fn entries(
     ensures ok { IfOk result (λ es. (s : spec.Scope) → Knows (types_in source.now) scope.now s → all_of (meaning.entry s (type_at (types_in source.now) ty)) (map (entry_in source.now) said.now) ≡ Some (map (entry_of (source_trees source.now)) es)) }
     ensures not_yet { result ≡ Err BuildErr.NotYet → Refuses (types_in source.now) scope.now (λ s. all_of (meaning.entry s (type_at (types_in source.now) ty)) (map (entry_in source.now) said.now)) }
 {
-    let mut made = Items::new(alloc);
+    let mut made = Items::from_vec(Vec::with_capacity(alloc, said.len())?);
     for x in said {
         match entry(source, scope, ty, x) {
             Some(found) => made.push(found)?,

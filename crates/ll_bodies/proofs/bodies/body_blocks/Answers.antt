@@ -10,7 +10,7 @@ use Rattle.ll_bodies.proofs.ErrLaws.{passed_on}
 use Rattle.ll_bodies.proofs.bodies.body_blocks.Goals as goal
 
 pub loop-block-init : goal.loop-block-init
-loop-block-init c = rw c.new-made.ensures (no_blocks c.args.source.now c.args.scope.now, All-nil (λ (b : BodyBlock). AreTypedInsts c.args.source.now.module.now b.insts))
+loop-block-init c = rw (c.from_vec-made.ensures, c.in_ok-with_capacity.ensures.items) (no_blocks c.args.source.now c.args.scope.now, All-nil (λ (b : BodyBlock). AreTypedInsts c.args.source.now.module.now b.insts))
 
 pub loop-block-preserved : goal.loop-block-preserved
 loop-block-preserved c =
@@ -29,4 +29,4 @@ returns-in_err-body-clause-not_yet c = λ e.
     let at = c.loop-block.block-index in
     let here = slice_get_read c.args.blocks.now _ at _ refl c.loop-block-test.true c.block-item.is in
     blocks_unmade c.args.source.now c.args.scope.now c.args.blocks.now at c.block-item.result c.loop-block.made here c.loop-block.invariant.0
-    (x.ensures.not_yet (passed_on c.from_residual.result x.field-0.0 c.from_residual.ensures.1 e))
+    (x.ensures.not_yet (passed_on c.from_residual-in_err-body.result x.field-0.0 c.from_residual-in_err-body.ensures.1 e))

@@ -8,7 +8,7 @@ use Rattle.ll_bodies.proofs.ErrLaws.{passed_on}
 use Rattle.ll_bodies.proofs.bodies.body_insts.Goals as goal
 
 pub loop-part-init : goal.loop-part-init
-loop-part-init c = rw c.new-made.ensures (up_to_none c.args.source.now c.args.scope.now c.args.lines.now, All-nil (IsTypedBody c.args.source.now.module.now))
+loop-part-init c = rw (c.from_vec-made.ensures, c.in_ok-with_capacity.ensures.items) (up_to_none c.args.source.now c.args.scope.now c.args.lines.now, All-nil (IsTypedBody c.args.source.now.module.now))
 
 pub loop-part-preserved : goal.loop-part-preserved
 loop-part-preserved c =
@@ -26,4 +26,4 @@ returns-in_err-add_part-clause-not_yet c = λ e.
     let at = c.loop-part.part-index in
     let here = slice_get_read c.args.lines.now _ at _ refl c.loop-part-test.true c.part-item.is in
     up_to_refused c.args.source.now c.args.scope.now c.args.lines.now at c.part-item.result c.loop-part.made here c.loop-part.invariant.0
-    (x.ensures.not_yet (passed_on c.from_residual.result x.field-0.0 c.from_residual.ensures.1 e))
+    (x.ensures.not_yet (passed_on c.from_residual-in_err-add_part.result x.field-0.0 c.from_residual-in_err-add_part.ensures.1 e))
