@@ -1,5 +1,5 @@
 -- What clauses see of what the passes read.
-use Rattle.std.specs.Prelude.{◌≡◌, ◌+◌, ◌⊎◌, ℕ, List, [], ◌∷◌, take, Option, Some, length, slice_get, All, IfSome}
+use Rattle.std.specs.Prelude.{◌≡◌, ◌+◌, ◌⊎◌, ℕ, true, List, [], ◌∷◌, map, take, Option, Some, length, slice_get, All, IfSome}
 use Rattle.std.specs.Option.{option_map}
 use Rattle.kinds.specs.Types.{TypeTree, IntType, VoidType}
 use Rattle.llvm_core.specs.Module.{Module}
@@ -13,6 +13,8 @@ use Rattle.ll_lines.specs.Lines.{Text, Line}
 use Rattle.ll_lines.specs.Views.{text_of, line_view, IsTypeIn, IsTypedIn, IsPartIn, param_view, said_view, typed_view, incoming_view, inst_view, row_view}
 use Rattle.ll_lines.specs.declared.lines.Incoming as code_incoming
 use Rattle.ll_lines.specs.declared.lines.Inst as code_inst
+use Rattle.ll_lines.specs.declared.lines.Inst.TheVariants as code_insts
+use Rattle.kinds.specs.Typing.{fits_trees}
 use Rattle.ll_lines.specs.declared.lines.Said as code_said
 use Rattle.ll_lines.specs.declared.lines.Typed as code_typed
 use Rattle.ll_bodies.specs.declared.scope.Key.{Key}
@@ -41,6 +43,15 @@ pub record IsSource (s : Source) : Type 0 where
 -- the types and constants of a row are there
 abbrev pub IsRowIn : Module → RowLine → Type 0
 IsRowIn m r = IfSome r.written (IsTypeIn m) × All (IsTypedIn m) r.operands
+
+-- the operands of a row fit it
+abbrev pub IsFittingRow : Trees → RowLine → Type 0
+IsFittingRow t r = fits_trees r.op (option_map (type_at t.types) r.written) (map (λ (x : code_typed.Typed). type_at t.types x.ty) r.operands) ≡ true
+
+-- the operands of a line fit it, where it is a row
+abbrev pub IsFitting : Trees → code_inst.Inst → Type 0
+IsFitting t (code_insts.Phi ty entries) = Unit {0}
+IsFitting t (code_insts.Row r) = IsFittingRow t r
 
 -- ---- what is said, as the source has it
 

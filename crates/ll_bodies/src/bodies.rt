@@ -11,7 +11,7 @@ ghost use Rattle.ll_bodies.specs.Meaning as meaning;
 ghost use Rattle.ll_bodies.specs.Meaning.{all_from, blocks_data};
 ghost use Rattle.ll_bodies.specs.BlockViews.{lines_of};
 ghost use Rattle.ll_bodies.specs.ScopeViews.{Knows, Refuses};
-ghost use Rattle.ll_bodies.specs.SourceViews.{IsSource, IsScopeIn, HasLinesIn, source_trees, types_in, line_in, lines_in, block_in};
+ghost use Rattle.ll_bodies.specs.SourceViews.{IsSource, IsScopeIn, IsFitting, HasLinesIn, source_trees, types_in, line_in, lines_in, block_in};
 ghost use Rattle.ll_bodies.specs.BodyViews.{placed_one, Made, Extends, MadeBlocks};
 ghost use Rattle.ll_bodies.specs.TypedViews.{IsTypedBody, AreTypedInsts, AreTypedBlocks};
 
@@ -19,7 +19,7 @@ use crate::blocks::SaidBlock;
 use crate::build_err::BuildErr;
 use crate::instructions::instruction;
 use crate::names::{label_name, local_name};
-use crate::results::{Source, result_type};
+use crate::results::{Source, fitting_type};
 use crate::scope::Scope;
 use ll_lines::lines::{Inst, Line, Part};
 use llvm_core::bodies::{BodyBlock, BodyInst};
@@ -28,14 +28,15 @@ use std::alloc::Global;
 use support::items::Items;
 use support::text::Text;
 
-/// The type of a line's result, void where it has none.
+/// The type of the result of a line whose operands fit, void where it has none.
 fn type_or_void(source: &Source<'_>, inst: &Inst) -> LLVMType
     requires source { IsSource source.now }
     requires inst { IsInstIn source.now.module.now inst.now }
+    requires fits { IsFitting (source_trees source.now) inst.now }
     ensures ty { (bytes : List ℕ) → type_at (types_in source.now) result ≡ option_map_or (λ (τ : TypeTree). τ) (meaning.result_type (inst_view bytes (source_trees source.now) inst.now)) VoidType }
     ensures within { IsTypeIn source.now.module.now result }
 {
-    match result_type(source, inst) {
+    match fitting_type(source, inst) {
         Some(ty) => ty,
         None => source.void,
     }
@@ -56,8 +57,8 @@ fn body_inst(
     ensures not_yet { result ≡ Err BuildErr.NotYet → (n : ℕ) → Refuses (types_in source.now) scope.now (λ s. meaning.placed s n (line_in source.now line.now)) }
 {
     let name = Text::copy(alloc, local_name(source.bytes, line.result))?;
-    let ty = type_or_void(source, &line.inst);
     let inst = instruction(alloc, source, scope, &line.inst)?;
+    let ty = type_or_void(source, &line.inst);
     Ok(BodyInst { name, ty, inst })
 }
 

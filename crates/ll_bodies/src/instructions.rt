@@ -8,7 +8,7 @@ ghost use Rattle.ll_bodies.specs.Scopes as spec;
 ghost use Rattle.ll_bodies.specs.Meaning as meaning;
 ghost use Rattle.ll_bodies.specs.Meaning.{all_of};
 ghost use Rattle.ll_bodies.specs.ScopeViews.{Knows, Refuses};
-ghost use Rattle.ll_bodies.specs.SourceViews.{IsSource, IsRowIn, source_trees, types_in, entry_in, inst_in, row_in, IsScopeIn};
+ghost use Rattle.ll_bodies.specs.SourceViews.{IsSource, IsRowIn, IsFittingRow, IsFitting, source_trees, types_in, entry_in, inst_in, row_in, IsScopeIn};
 ghost use Rattle.ll_bodies.specs.TypedViews.{IsTypedInst};
 ghost use Rattle.kinds.specs.Types.{TypeTree, VoidType};
 ghost use Rattle.std.specs.Option.{option_map_or};
@@ -80,6 +80,7 @@ fn row(
     requires said { IsRowIn source.now.module.now said.now }
     ensures ok { IfOk result (λ i. (s : spec.Scope) → Knows (types_in source.now) scope.now s → meaning.instruction s (row_in source.now said.now) ≡ Some (instruction_of (source_trees source.now) i)) }
     ensures typed { IfOk result (λ i. (ty : LLVMType) → IsTypedInst source.now.module.now ty i) }
+    ensures fits { OnOk result (IsFittingRow (source_trees source.now) said.now) }
     ensures not_yet { result ≡ Err BuildErr.NotYet → Refuses (types_in source.now) scope.now (λ s. meaning.instruction s (row_in source.now said.now)) }
 {
     let named = operands(alloc, source, scope, said.operands.as_slice())?;
@@ -107,6 +108,7 @@ pub fn instruction(
     requires inst { IsInstIn source.now.module.now inst.now }
     ensures ok { IfOk result (λ i. (s : spec.Scope) → Knows (types_in source.now) scope.now s → meaning.instruction s (inst_in source.now inst.now) ≡ Some (instruction_of (source_trees source.now) i)) }
     ensures typed { IfOk result (λ i. (ty : LLVMType) → type_at (types_in source.now) ty ≡ option_map_or (λ (τ : TypeTree). τ) (meaning.result_type (inst_in source.now inst.now)) VoidType → IsTypedInst source.now.module.now ty i) }
+    ensures fits { OnOk result (IsFitting (source_trees source.now) inst.now) }
     ensures not_yet { result ≡ Err BuildErr.NotYet → Refuses (types_in source.now) scope.now (λ s. meaning.instruction s (inst_in source.now inst.now)) }
 {
     match inst {

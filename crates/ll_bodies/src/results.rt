@@ -10,7 +10,7 @@ ghost use Rattle.llvm_core.specs.Parts.{view, shape_of};
 ghost use Rattle.llvm_core.specs.Sound.{IsModule};
 ghost use Rattle.ll_lines.specs.Views.{inst_view, IsTypeIn, IsTypedIn, IsInstIn};
 ghost use Rattle.ll_bodies.specs.Meaning as meaning;
-ghost use Rattle.ll_bodies.specs.SourceViews.{IsSource, IsRowIn};
+ghost use Rattle.ll_bodies.specs.SourceViews.{IsSource, IsRowIn, IsFittingRow, IsFitting};
 
 use kinds::fitting::{Shape, TypeView, fits};
 use kinds::rules::Gives;
@@ -100,6 +100,19 @@ fn given(
     }
 }
 
+/// The type of the result of a row whose operands fit, none where it has none.
+fn row_gives(source: &Source<'_>, row: &RowLine) -> Option<LLVMType>
+    requires source { IsSource source.now }
+    requires row { IsRowIn source.now.module.now row.now }
+    ensures ty { IsFittingRow (trees_of source.now.module.now) row.now → typing.typed row.now.op (option_map (type_at (trees_of source.now.module.now).types) row.now.written) (map (λ (x : Typed). type_at (trees_of source.now.module.now).types x.ty) row.now.operands) ≡ option_map (type_at (trees_of source.now.module.now).types) result }
+    ensures within { IfSome result (IsTypeIn source.now.module.now) }
+{
+    let operands = row.operands.as_slice();
+    let first = type_nth(operands, 0);
+    let second = type_nth(operands, 1);
+    given(row.op.rule().gives, row.written, first, second, source.bit)
+}
+
 /// The type of a row's result, none where it has none or its operands do not fit.
 fn row_result(source: &Source<'_>, row: &RowLine) -> Option<LLVMType>
     requires source { IsSource source.now }
@@ -110,10 +123,20 @@ fn row_result(source: &Source<'_>, row: &RowLine) -> Option<LLVMType>
     if !row_fits(source.module, row) {
         return None;
     }
-    let operands = row.operands.as_slice();
-    let first = type_nth(operands, 0);
-    let second = type_nth(operands, 1);
-    given(row.op.rule().gives, row.written, first, second, source.bit)
+    row_gives(source, row)
+}
+
+/// The type of the result of a line whose operands fit, none where it has none.
+pub fn fitting_type(source: &Source<'_>, inst: &Inst) -> Option<LLVMType>
+    requires source { IsSource source.now }
+    requires inst { IsInstIn source.now.module.now inst.now }
+    ensures ty { IsFitting (trees_of source.now.module.now) inst.now → (bytes : List ℕ) → meaning.result_type (inst_view bytes (trees_of source.now.module.now) inst.now) ≡ option_map (type_at (trees_of source.now.module.now).types) result }
+    ensures within { IfSome result (IsTypeIn source.now.module.now) }
+{
+    match inst {
+        Inst::Phi(ty, _) => Some(*ty),
+        Inst::Row(row) => row_gives(source, row),
+    }
 }
 
 /// The type of a line's result, none where it has none or its operands do not fit.

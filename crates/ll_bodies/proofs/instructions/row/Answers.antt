@@ -21,3 +21,6 @@ returns-then-not-row_fits-clause-not_yet c = λ e s knows.
     let a = rw c.as_slice.ensures at (c.in_ok-named.ensures.ok s knows) in
     let b = rw c.as_slice-2.ensures at (c.in_ok-blocks.ensures.ok s knows) in
     row_unfit c.args.source.now s c.args.said.now _ _ a b (sym c.row_fits.ensures ∙ c.if-not-row_fits.true)
+
+pub returns-clause-fits : goal.returns-clause-fits
+returns-clause-fits c = sym c.row_fits.ensures ∙ c.if-not-row_fits.false
