@@ -21,6 +21,24 @@ use llvm_core::types::LLVMTypeKind;
 use std::alloc::{AllocError, Global};
 use support::items::Items;
 
+/// How many types are looked at before one is looked for by hash.
+const FIRST: u32 = 8;
+
+/// The number of a type among the first few of the context, which are most used: so most are found without a hash.
+fn among_first(ctx: &Context, kind: &TypeKind) -> Option<TypeHandle>
+    ensures ty { IfSome result (λ t. type_at (type_trees ctx.now.types) t ≡ type_tree (type_trees ctx.now.types) kind.now) }
+    ensures within { IfSome result (λ t. t.0 < length ctx.now.types) }
+{
+    let types = ctx.types();
+    for t in 0..types.len().min(FIRST) {
+        let ty = TypeHandle(t);
+        if types.kind(ty) == kind {
+            return Some(ty);
+        }
+    }
+    None
+}
+
 /// The number of a type of the context, new or old.
 fn intern(ctx: &mut Context, kind: TypeKind) -> Result<TypeHandle, AllocError>
     requires parts { HasPartsBelow (length ctx.old.types) kind }
@@ -29,6 +47,9 @@ fn intern(ctx: &mut Context, kind: TypeKind) -> Result<TypeHandle, AllocError>
     ensures ty { IfOk result (λ t. type_at (type_trees ctx.new.types) t ≡ type_tree (type_trees ctx.old.types) kind) }
     ensures within { IfOk result (λ t. t.0 < length ctx.new.types) }
 {
+    if let Some(ty) = among_first(ctx, &kind) {
+        return Ok(ty);
+    }
     ctx.types_mut().get(kind)
 }
 
