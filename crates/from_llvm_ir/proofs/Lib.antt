@@ -42,6 +42,7 @@ pub mod BodyLaws
 pub mod StartLaws
 pub mod SiteLaws
 pub mod UseLaws
+pub mod AloneLaws
 pub mod PairLaws
 pub mod MatchedLaws
 pub mod WellLaws

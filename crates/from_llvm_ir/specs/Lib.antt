@@ -18,3 +18,4 @@ pub mod Walks
 pub mod Refusals
 pub mod Graph
 pub mod Uses
+pub mod Alone

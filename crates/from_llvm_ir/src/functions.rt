@@ -17,6 +17,7 @@ ghost use Rattle.from_llvm_ir.specs.Importing.{IsDeclared};
 ghost use Rattle.from_llvm_ir.specs.Refusals.{IsRefusalOfFunction};
 ghost use Rattle.from_llvm_ir.specs.Walks.{HasDominatedUses, graph_of};
 
+use crate::alone::is_plain;
 use crate::building::{add_func, add_func_block};
 use crate::constants::hoist_constants;
 use crate::conversion_err::ConversionErr;
@@ -197,9 +198,9 @@ fn declare<L: Ledger>(
     add_func(ctx, body, name, ty, steps)
 }
 
-/// The places of a function's blocks in depth-first order, which one block has without a walk. Refuses a function that uses the result of an instruction
-/// where it is not defined: `UndefinedValue`.
-fn checked_order(
+/// The places of a function's blocks in depth-first order, which one block has without a walk. Refuses a function that
+/// uses the result of an instruction where it is not defined: `UndefinedValue`.
+fn walked_order(
     alloc: Global,
     source: &LLVMModule,
     f: LLVMFunction,
@@ -220,6 +221,25 @@ fn checked_order(
     let dominance = Dominance::new(alloc, succs)?;
     check_uses(alloc, source, f, places, Some(dominance))?;
     Ok(order)
+}
+
+/// The places of a function's blocks in depth-first order. Refuses a function that uses the result of an instruction where
+/// it is not defined: `UndefinedValue`. Where the numbers of one block tell that none is, nothing is looked up.
+fn checked_order(
+    alloc: Global,
+    source: &LLVMModule,
+    f: LLVMFunction,
+) -> Result<Vec<u32>, ConversionErr>
+    requires { (g : Function) × IsSource source.now f g }
+    ensures rpo { IfOk result (λ order. (g : Function) → IsSource source.now f g → IsRpo (graph_of g) order.items) }
+    ensures dominated { OnOk result ((g : Function) → IsSource source.now f g → HasDominatedUses g) }
+    ensures err { IfErr result (λ e. (g : Function) → IsSource source.now f g → IsRefusalOfFunction g e) }
+{
+    if is_plain(source, f) {
+        let alone = vec![in alloc; 0u32; 1]?;
+        return Ok(alone);
+    }
+    walked_order(alloc, source, f)
 }
 
 /// A function of the dialect for one of the source, its blocks in depth-first order, and their places. Refuses a

@@ -1,6 +1,7 @@
 //! The import: an LLVM module to a dialect module.
 #![tactic(auto)]
 
+mod alone;
 mod building;
 mod constants;
 pub mod conversion_err;
