@@ -148,3 +148,12 @@ turned_more order n j d places h count lt old q i small at =
           let within = All-get_or (λ (p : ℕ). p < n) order j d lt h.within in
           rw (same, is) (slice_get-set_same places (get_or order j d) j (omega (arith, within, count)))
     ]
+
+-- the order of one block is its own inverse
+pub self_inverse : (order : List ℕ) → IsPlaces (length order) order → length order ≡ 1 → IsInverse order order
+self_inverse order h one j i at =
+    let lt = slice_get_within order j i at in
+    let first = h.first (omega (arith, one)) in
+    let zero : j ≡ 0 = omega (arith, lt, one) in
+    let same : i ≡ 0 = same_Some i 0 (sym at ∙ ap (slice_get order) zero ∙ first) in
+    ap (slice_get order) same ∙ first ∙ ap Some (sym zero)

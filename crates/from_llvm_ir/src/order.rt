@@ -125,12 +125,16 @@ fn turned(alloc: Global, order: &[u32]) -> Result<Vec<u32>, AllocError>
     Ok(places)
 }
 
-/// The place that an order gives each block, kept short: it is handed out, and most functions have few blocks.
+/// The place that an order gives each block, kept short: it is handed out, and most functions have few blocks. The order of
+/// one block is its own.
 pub fn places_of(alloc: Global, order: &[u32]) -> Result<ShortList<u32>, AllocError>
     requires { IsPlaces (length order.now) order.now }
     ensures places { IfOk result (λ p. IsPlaces (length order.now) p) }
     ensures inverse { IfOk result (λ p. IsInverse order.now p) }
 {
+    if order.len() == 1 {
+        return ShortList::from_slice(alloc, order);
+    }
     let places = turned(alloc, order)?;
     ShortList::from_slice(alloc, places.as_slice())
 }
