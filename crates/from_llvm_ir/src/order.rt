@@ -76,21 +76,21 @@ fn push_targets(
     Ok(())
 }
 
-/// Appends the row of a block to a graph: the places of the blocks that it leads to.
+/// Appends the row of a block to a graph: the places of the blocks that it leads to, which are gathered in a lent list.
 fn push_row(
-    alloc: Global,
     source: &LLVMModule,
     places: &Places,
     block: LLVMBasicBlock,
+    row: &mut Vec<u32>,
     succs: &mut Succs,
 ) -> Result<(), AllocError>
     requires { (f : LLVMFunction) × (g : Function) × (b : Block) × IsBlockIn source.now f g block b × ArePlacesOf g places.now }
     ensures { OnOk result ((f : LLVMFunction) → (g : Function) → (b : Block) → IsBlockIn source.now f g block b → ArePlacesOf g places.now
         → succs.new ≡ succs.old ++ map (place_of_block g) (targets_from b) ∷ []) }
 {
-    let mut row = Vec::new(alloc);
+    row.clear();
     for i in source.instructions(block) {
-        push_targets(source, places, *i, &mut row)?;
+        push_targets(source, places, *i, row)?;
     }
     succs.push(row.as_slice())
 }
@@ -106,8 +106,9 @@ pub fn graph(
     ensures { IfOk result (λ s. (g : Function) → IsSource source.now f g → ArePlacesOf g places.now → s ≡ graph_of g) }
 {
     let mut succs = Succs::new(alloc);
+    let mut row = Vec::new(alloc);
     for block in source.blocks(f) {
-        push_row(alloc, source, places, *block, &mut succs)?;
+        push_row(source, places, *block, &mut row, &mut succs)?;
     }
     Ok(succs)
 }

@@ -9,7 +9,7 @@ pub instructions-i-items-requires : goal.instructions-i-items-requires
 instructions-i-items-requires c = let r = c.requires in block_within c.args.source.now r.1 c.args.block r.3.place r.2 r.3.of_block
 
 pub loop-i-init : goal.loop-i-init
-loop-i-init c = λ f g b h are. c.new-row.ensures.items
+loop-i-init c = λ f g b h are. c.clear.ensures.items
 
 pub push_targets-requires : goal.push_targets-requires
 push_targets-requires c =
