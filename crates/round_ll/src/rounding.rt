@@ -146,14 +146,16 @@ fn end(alloc: Global, started: Started) -> Result<Output, Stopped>
 }
 
 /// The modules and the whole output for a text of the form. It is refused only where it spells no checked
-/// module of the form, or the one that it spells has a cause to be refused; printing wants nothing but memory.
-pub fn round_text(alloc: Global, bytes: &[u8]) -> Result<Output, Stopped>
-    ensures rounds { IfOk result (λ o. Rounds bytes.now o.transferred.value o.text.items) }
-    ensures cause { IfErr result (TextCause bytes.now) }
+/// module of the form, or the one that it spells has a cause to be refused; printing wants nothing but memory. The text
+/// is let go once it is read.
+pub fn round_text(alloc: Global, bytes: Vec<u8>) -> Result<Output, Stopped>
+    ensures rounds { IfOk result (λ o. Rounds bytes.items o.transferred.value o.text.items) }
+    ensures cause { IfErr result (TextCause bytes.items) }
 {
-    let source = read_ll(alloc, bytes)?;
+    let source = read_ll(alloc, bytes.as_slice())?;
     // The output of few texts is longer; room that is not written to costs no memory of the machine.
     let room = bytes.len().saturating_mul(8);
+    drop(bytes);
     let started = start(alloc, source, room)?;
     end(alloc, started)
 }

@@ -86,7 +86,7 @@ fn make<S: Source>(alloc: Global, source: &mut S) -> Result<Output, Stopped>
     ensures front { GaveAtMost (2 ^ 24 + 1) (S.left source.old) (S.left source.new) }
 {
     let bytes = read_all(alloc, source)?;
-    let output = round_text(alloc, bytes.as_slice())?;
+    let output = round_text(alloc, bytes)?;
     Ok(output)
 }
 
