@@ -144,10 +144,10 @@ impl Context {
         ensures typed { OnOk result (IsTyped self.old → IsTyped self.new) }
         ensures err { OnErr result (self.new ≡ self.old) }
     {
-        let args = Items::from_vec(Vec::from_slice(self.alloc, args)?);
+        let args = ShortList::from_slice(self.alloc, args)?;
         self.blocks.reserve(1)?;
         let op = &mut self.ops[holder.0 as usize];
-        let number = self.lists.add_block(&mut op.blocks)?;
+        let number = self.lists.add_block(self.alloc, &mut op.blocks)?;
         match self.blocks.push(BlockData {
             holder,
             label,
@@ -169,7 +169,7 @@ impl Context {
         ensures err { OnErr result (self.new ≡ self.old) }
     {
         let data = &mut self.blocks[block.0 as usize];
-        let place = push_type(&mut data.args, ty)?;
+        let place = push_type(self.alloc, &mut data.args, ty)?;
         Ok(place)
     }
 
@@ -232,7 +232,7 @@ fn bare(alloc: Global, kind: OpKind, name: Option<Identifier>, symbol: Option<Sy
         successors: Items::new(alloc),
         result: None,
         symbol,
-        blocks: Items::new(alloc),
+        blocks: ShortList::zero(),
     }
 }
 
@@ -255,12 +255,16 @@ fn plain(
         successors,
         result: result_ty,
         symbol: None,
-        blocks: Items::new(alloc),
+        blocks: ShortList::zero(),
     })
 }
 
 /// Appends a type, and answers its place.
-fn push_type(args: &mut Items<TypeHandle>, ty: TypeHandle) -> Result<u32, AllocError>
+fn push_type(
+    alloc: Global,
+    args: &mut ShortList<TypeHandle>,
+    ty: TypeHandle,
+) -> Result<u32, AllocError>
     ensures ok { OnOk result (args.new ≡ args.old ++ ty ∷ []) }
     ensures place { IfOk result (λ place. place ≡ length args.old) }
     ensures err { OnErr result (args.new ≡ args.old) }
@@ -269,7 +273,7 @@ fn push_type(args: &mut Items<TypeHandle>, ty: TypeHandle) -> Result<u32, AllocE
     if place >= u32::MAX as usize {
         return Err(AllocError);
     }
-    args.push(ty)?;
+    args.push(alloc, ty)?;
     Ok(place as u32)
 }
 

@@ -9,7 +9,7 @@ ghost use Rattle.dialect_core.specs.Links.{with_next};
 use crate::numbers::{BlockRef, OpRef};
 use std::alloc::{AllocError, Global};
 use std::marker::Model;
-use support::items::{Items, append_both};
+use support::short_list::{ShortList, append_both};
 
 /// The block that an operation stands in, and the operation after it there.
 #[derive(Clone, Copy, Drop)]
@@ -73,7 +73,11 @@ impl OpLists {
     }
 
     /// A new last block, without operations, last in a region too.
-    pub fn add_block(&mut self, region: &mut Items<BlockRef>) -> Result<BlockRef, AllocError>
+    pub fn add_block(
+        &mut self,
+        alloc: Global,
+        region: &mut ShortList<BlockRef>,
+    ) -> Result<BlockRef, AllocError>
         ensures ok { OnOk result (self.new ≡ record self.old { lists = self.old.lists ++ [] ∷ [] }) }
         ensures number { IfOk result (λ b. b.0 ≡ length self.old.lists) }
         ensures region { IfOk result (λ b. region.new ≡ region.old ++ b ∷ []) }
@@ -85,7 +89,7 @@ impl OpLists {
             return Err(AllocError);
         }
         let number = BlockRef(at as u32);
-        append_both(&mut self.ends, region, None, number)?;
+        append_both(alloc, &mut self.ends, region, None, number)?;
         Ok(number)
     }
 

@@ -55,7 +55,7 @@ pub struct OpData {
     pub result: Option<TypeHandle>,
     pub symbol: Option<Symbol>,
     /// The blocks of its region.
-    pub blocks: Items<BlockRef>,
+    pub blocks: ShortList<BlockRef>,
 }
 
 /// A block of a context, with the operation that holds it.
@@ -63,5 +63,5 @@ pub struct OpData {
 pub struct BlockData {
     pub holder: OpRef,
     pub label: Option<Identifier>,
-    pub args: Items<TypeHandle>,
+    pub args: ShortList<TypeHandle>,
 }

@@ -16,6 +16,7 @@ use llvm_core::types::LLVMTypeKind;
 use std::alloc::Global;
 use std::str::SplitWhitespace;
 use support::items::Items;
+use support::short_list::ShortList;
 
 // What the check answers, `Ok` or an error, and the calls that make the module:
 //
@@ -266,7 +267,7 @@ fn inst(alloc: Global, m: &mut LLVMModule, words: &mut SplitWhitespace<'_>) -> O
         }
         Keyword::Phi => {
             let int = int(m, 64)?;
-            Some(LLVMInst::Phi(int, Items::new(alloc)))
+            Some(LLVMInst::Phi(int, ShortList::zero()))
         }
         Keyword::Br => Some(LLVMInst::br(block(m, words)?)),
         Keyword::Cond => cond(m, words),

@@ -21,7 +21,7 @@ use ll_lines::lines::{Incoming, Inst, RowLine};
 use llvm_core::code::{LLVMInst, PhiEntry, Row};
 use llvm_core::numbers::LLVMType;
 use std::alloc::Global;
-use support::items::Items;
+use support::short_list::ShortList;
 
 /// An entry of a phi of a type.
 fn entry(source: &Source<'_>, scope: &Scope<'_>, ty: LLVMType, said: &Incoming) -> Option<PhiEntry>
@@ -50,7 +50,7 @@ fn entries(
     scope: &Scope<'_>,
     ty: LLVMType,
     said: &[Incoming],
-) -> Result<Items<PhiEntry>, BuildErr>
+) -> Result<ShortList<PhiEntry>, BuildErr>
     requires source { IsSource source.now }
     requires scope { IsScopeIn source.now.module.now scope.now }
     requires ty { IsTypeIn source.now.module.now ty }
@@ -58,10 +58,10 @@ fn entries(
     ensures ok { IfOk result (λ es. (s : spec.Scope) → Knows (types_in source.now) scope.now s → all_of (meaning.entry s (type_at (types_in source.now) ty)) (map (entry_in source.now) said.now) ≡ Some (map (entry_of (source_trees source.now)) es)) }
     ensures not_yet { result ≡ Err BuildErr.NotYet → Refuses (types_in source.now) scope.now (λ s. all_of (meaning.entry s (type_at (types_in source.now) ty)) (map (entry_in source.now) said.now)) }
 {
-    let mut made = Items::from_vec(Vec::with_capacity(alloc, said.len())?);
+    let mut made = ShortList::zero();
     for x in said {
         match entry(source, scope, ty, x) {
-            Some(found) => made.push(found)?,
+            Some(found) => made.push(alloc, found)?,
             None => return Err(BuildErr::NotYet),
         }
     }

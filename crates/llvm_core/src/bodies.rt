@@ -1,14 +1,14 @@
 //! Bodies that are handed over whole: their blocks and instructions name each other by the numbers that they get.
 
-ghost use Rattle.std.specs.Prelude.{◌≡◌, ◌+◌, ◌<◌, ◌≤◌, ◌^◌, ◌++◌, IfOk, OnErr, OnOk, length, map};
+ghost use Rattle.std.specs.Prelude.{◌≡◌, ◌+◌, ◌<◌, ◌≤◌, ◌^◌, ◌++◌, IfOk, OnOk, length, map};
 ghost use Rattle.std.specs.Vec.{vec_len, vec_capacity};
 ghost use Rattle.llvm_core.specs.Bodies.{block_numbers, body_blocks, body_insts, inst_in, inst_numbers};
 
 use crate::code::{BlockData, InstData, LLVMInst};
 use crate::numbers::{LLVMBasicBlock, LLVMFunction, LLVMInstRef, LLVMType};
 use std::alloc::{AllocError, Global};
-use std::mem;
-use support::items::{Items, append_both};
+use support::items::Items;
+use support::short_list::{ShortList, append_both};
 use support::text::Text;
 
 /// An instruction of a body: the name of its result, empty where it has none, the type of its result, and what it does.
@@ -29,7 +29,7 @@ pub struct BodyBlock {
 /// What a module gets of a body: blocks, their numbers, and instructions.
 #[derive(Drop)]
 pub(crate) struct Numbered {
-    pub numbers: Items<LLVMBasicBlock>,
+    pub numbers: ShortList<LLVMBasicBlock>,
     pub blocks: Vec<BlockData>,
     pub insts: Vec<InstData>,
 }
@@ -50,7 +50,7 @@ pub(crate) fn number_body(
 {
     let mut next_block = first_block;
     let mut next_inst = first_inst;
-    let mut numbers = Items::new(alloc);
+    let mut numbers = ShortList::zero();
     let mut blocks = Vec::new(alloc);
     let mut insts = Vec::new(alloc);
     for block in body.into_vec() {
@@ -62,7 +62,7 @@ pub(crate) fn number_body(
             function: f,
             insts: of_block,
         };
-        append_both(&mut blocks, &mut numbers, row, number)?;
+        append_both(alloc, &mut blocks, &mut numbers, row, number)?;
     }
     Ok(Numbered {
         numbers,
@@ -78,17 +78,17 @@ fn push_insts(
     insts: Items<BodyInst>,
     first: u32,
     rows: &mut Vec<InstData>,
-) -> Result<(Items<LLVMInstRef>, u32), AllocError>
+) -> Result<(ShortList<LLVMInstRef>, u32), AllocError>
     ensures numbers { IfOk result (λ r. r.0 ≡ inst_numbers first insts) }
     ensures next { IfOk result (λ r. r.1 ≡ first + length insts) }
     ensures few { IfOk result (λ r. r.1 < 2 ^ 32) }
     ensures rows { OnOk result (rows.new.items ≡ rows.old.items ++ map (inst_in block.0) insts) }
 {
     let mut next = first;
-    let mut numbers = Items::new(alloc);
+    let mut numbers = ShortList::zero();
     for inst in insts.into_vec() {
         let number = LLVMInstRef(take_number(&mut next)?);
-        append_both(rows, &mut numbers, inst_in(block, inst), number)?;
+        append_both(alloc, rows, &mut numbers, inst_in(block, inst), number)?;
     }
     Ok((numbers, next))
 }
@@ -118,22 +118,6 @@ fn take_number(next: &mut u32) -> Result<u32, AllocError>
     }
     *next = number + 1;
     Ok(number)
-}
-
-/// Appends one list to another, or leaves that.
-pub(crate) fn append_items<T: Drop>(
-    alloc: Global,
-    list: &mut Items<T>,
-    more: Items<T>,
-) -> Result<(), AllocError>
-    ensures ok { OnOk result (list.new ≡ list.old ++ more) }
-    ensures err { OnErr result (list.new ≡ list.old) }
-{
-    let mut joined = mem::replace(list, Items::new(alloc)).into_vec();
-    let mut rest = more.into_vec();
-    let appended = joined.append(&mut rest);
-    *list = Items::from_vec(joined);
-    appended
 }
 
 /// Appends one list to another that has the room for it.

@@ -38,7 +38,7 @@ pub struct Row {
 #[derive(Drop)]
 pub enum LLVMInst {
     /// `phi` of a type, with its entries in order (Language Reference, "phi" Instruction).
-    Phi(LLVMType, Items<PhiEntry>),
+    Phi(LLVMType, ShortList<PhiEntry>),
     /// Any other instruction, as its row.
     Row(Row),
 }
@@ -50,7 +50,7 @@ pub struct FunctionData {
     pub ty: LLVMType,
     pub space: u32,
     pub params: Items<Text>,
-    pub blocks: Items<LLVMBasicBlock>,
+    pub blocks: ShortList<LLVMBasicBlock>,
 }
 
 /// A block of a module, with the function that holds it.
@@ -58,7 +58,7 @@ pub struct FunctionData {
 pub struct BlockData {
     pub name: Text,
     pub function: LLVMFunction,
-    pub insts: Items<LLVMInstRef>,
+    pub insts: ShortList<LLVMInstRef>,
 }
 
 /// An instruction of a module, with the block that holds it and the type of its result.

@@ -7,12 +7,13 @@ ghost use Rattle.llvm_core.specs.Code.{with_function, with_param_name, with_bloc
 ghost use Rattle.llvm_core.specs.Bodies.{with_body, with_lists};
 ghost use Rattle.llvm_core.specs.Parts.{IsPhi, is_phi, operands};
 
-use crate::bodies::{BodyBlock, Numbered, append_items, append_reserved, number_body};
+use crate::bodies::{BodyBlock, Numbered, append_reserved, number_body};
 use crate::code::{BlockData, FunctionData, InstData, LLVMInst, LLVMValue, PhiEntry};
 use crate::numbers::{LLVMBasicBlock, LLVMFunction, LLVMInstRef, LLVMType};
 use std::alloc::{AllocError, Global};
 use std::marker::Model;
-use support::items::{Items, append_both};
+use support::items::Items;
+use support::short_list::{ShortList, append_both};
 use support::text::Text;
 
 /// The functions, blocks and instructions of a module, seen as their lists.
@@ -71,7 +72,7 @@ impl CodeStore {
             return Err(AllocError);
         }
         let name = Text::copy(self.alloc, name)?;
-        let blocks = Items::new(self.alloc);
+        let blocks = ShortList::zero();
         self.functions.push(FunctionData {
             name,
             ty,
@@ -117,9 +118,10 @@ impl CodeStore {
         }
         let name = Text::copy(self.alloc, name)?;
         let number = LLVMBasicBlock(at as u32);
-        let insts = Items::new(self.alloc);
+        let insts = ShortList::zero();
         let function = &mut self.functions[f.0 as usize];
         append_both(
+            self.alloc,
             &mut self.blocks,
             &mut function.blocks,
             BlockData {
@@ -153,6 +155,7 @@ impl CodeStore {
         let number = LLVMInstRef(at as u32);
         let row = &mut self.blocks[block.0 as usize];
         append_both(
+            self.alloc,
             &mut self.insts,
             &mut row.insts,
             InstData {
@@ -192,7 +195,7 @@ impl CodeStore {
         self.blocks.reserve(blocks.len())?;
         self.insts.reserve(insts.len())?;
         let function = &mut self.functions[f.0 as usize];
-        append_items(self.alloc, &mut function.blocks, numbers)?;
+        function.blocks.append(self.alloc, numbers.as_slice())?;
         append_reserved(&mut self.blocks, blocks);
         append_reserved(&mut self.insts, insts);
         Ok(())
@@ -212,7 +215,7 @@ impl CodeStore {
         ensures ok { OnOk result (self.new ≡ with_changed_inst self.old phi (λ inst. with_entry inst entry)) }
         ensures err { OnErr result (self.new ≡ self.old) }
     {
-        push_entry(&mut self.insts[phi.0 as usize].inst, entry)
+        push_entry(self.alloc, &mut self.insts[phi.0 as usize].inst, entry)
     }
 
     pub fn function_count(&self) -> u32
@@ -267,7 +270,7 @@ fn put_operand(inst: &mut LLVMInst, place: u32, value: LLVMValue)
 }
 
 /// Puts a value in place of that of an entry.
-fn put_entry(entries: &mut Items<PhiEntry>, place: u32, value: LLVMValue)
+fn put_entry(entries: &mut ShortList<PhiEntry>, place: u32, value: LLVMValue)
     requires { place < length entries.old }
     ensures { entries.new ≡ with_change (λ e. record e { value = value }) place entries.old }
 {
@@ -276,13 +279,13 @@ fn put_entry(entries: &mut Items<PhiEntry>, place: u32, value: LLVMValue)
 }
 
 /// Appends an entry to a phi.
-fn push_entry(inst: &mut LLVMInst, entry: PhiEntry) -> Result<(), AllocError>
+fn push_entry(alloc: Global, inst: &mut LLVMInst, entry: PhiEntry) -> Result<(), AllocError>
     requires { IsTrue (is_phi inst.old) }
     ensures ok { OnOk result (inst.new ≡ with_entry inst.old entry) }
     ensures err { OnErr result (inst.new ≡ inst.old) }
 {
     match inst {
-        LLVMInst::Phi(_, entries) => entries.push(entry),
+        LLVMInst::Phi(_, entries) => entries.push(alloc, entry),
         _ => unreachable!(),
     }
 }

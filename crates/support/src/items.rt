@@ -95,23 +95,3 @@ impl<T: Hash> Hash for Items<T> {
         self.items.hash(state);
     }
 }
-
-/// Appends an item to one list and its number to another, or leaves both.
-pub fn append_both<T: Drop, N: Drop>(
-    items: &mut Vec<T>,
-    numbers: &mut Items<N>,
-    item: T,
-    number: N,
-) -> Result<(), AllocError>
-    ensures items { OnOk result (items.new.items ≡ items.old.items ++ item ∷ []) }
-    ensures numbers { OnOk result (numbers.new ≡ numbers.old ++ number ∷ []) }
-    ensures items_err { OnErr result (items.new.items ≡ items.old.items) }
-    ensures numbers_err { OnErr result (numbers.new ≡ numbers.old) }
-{
-    items.reserve(1)?;
-    numbers.push(number)?;
-    match items.push(item) {
-        Ok(()) => Ok(()),
-        Err(_) => unreachable!(),
-    }
-}

@@ -161,3 +161,51 @@ impl<T: Drop> ShortList<T> {
         }
     }
 }
+
+impl<T: Copy + Drop> ShortList<T> {
+    /// Puts items behind the last, or leaves the list.
+    pub fn append(&mut self, alloc: Global, more: &[T]) -> Result<(), AllocError>
+        ensures ok { OnOk result (self.new ≡ self.old ++ more.now) }
+        ensures err { OnErr result (self.new ≡ self.old) }
+    {
+        if let Place::Apart(items) = &mut self.place {
+            return items.extend_from_slice(more);
+        }
+        *self = joined(alloc, self.as_slice(), more)?;
+        Ok(())
+    }
+}
+
+/// The items of two slices.
+fn joined<T: Copy + Drop>(
+    alloc: Global,
+    items: &[T],
+    more: &[T],
+) -> Result<ShortList<T>, AllocError>
+    ensures { IfOk result (λ l. l ≡ items.now ++ more.now) }
+{
+    let mut all = ShortList::from_slice(alloc, items)?;
+    all.extend_from_slice(alloc, more)?;
+    Ok(all)
+}
+
+/// Appends an item to one list and its number to another, or leaves both.
+pub fn append_both<T: Drop, N: Copy + Drop>(
+    alloc: Global,
+    items: &mut Vec<T>,
+    numbers: &mut ShortList<N>,
+    item: T,
+    number: N,
+) -> Result<(), AllocError>
+    ensures items { OnOk result (items.new.items ≡ items.old.items ++ item ∷ []) }
+    ensures numbers { OnOk result (numbers.new ≡ numbers.old ++ number ∷ []) }
+    ensures items_err { OnErr result (items.new.items ≡ items.old.items) }
+    ensures numbers_err { OnErr result (numbers.new ≡ numbers.old) }
+{
+    items.reserve(1)?;
+    numbers.push(alloc, number)?;
+    match items.push(item) {
+        Ok(()) => Ok(()),
+        Err(_) => unreachable!(),
+    }
+}

@@ -21,7 +21,7 @@ use llvm_core::code::{LLVMInst, LLVMValue};
 use llvm_core::module::LLVMModule;
 use llvm_core::numbers::{LLVMBasicBlock, LLVMFunction};
 use std::alloc::{AllocError, Global};
-use support::items::Items;
+use support::short_list::ShortList;
 
 /// The parameters of a function stand for the arguments of its entry.
 pub fn set_params(
@@ -59,7 +59,7 @@ fn add_phi(
     let place = place_of(i)?;
     let ty = value_type(ctx, ty, guesses, back)?;
     let name = value_name(alloc, None, values.next)?;
-    let phi = back.build(target, LLVMInst::Phi(ty, Items::new(alloc)), name.as_str())?;
+    let phi = back.build(target, LLVMInst::Phi(ty, ShortList::zero()), name.as_str())?;
     values.set(Value::Argument(block, place), LLVMValue::Inst(phi))
 }
 

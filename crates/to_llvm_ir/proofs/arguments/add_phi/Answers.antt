@@ -24,5 +24,5 @@ returns c = λ t p b at here arg start.
     let is_set = subst (λ (q : ℕ). IsSet (found c.args.values.now) (found c.set.new.self) (Argument c.args.block q) (V.Inst c.in_ok-phi.phi)) c.in_ok-place.ensures set in
     phi_more c.args.ctx.now t p b c.args.block c.args.i (type_at (type_trees c.args.ctx.now.types) c.args.ty) at arg c.args.values.now c.set.new.self c.args.back.now c.value_type.new.back c.build.new.self start
     c.in_ok-ty.ty type.tree type.grows type.rest type.data
-    (I.Phi c.in_ok-ty.ty c.new.result) (ap (I.Phi c.in_ok-ty.ty) c.new.ensures) c.in_ok-phi.phi c.as_str.result.now c.args.target built.ok built.number built.data built.sound
+    (I.Phi c.in_ok-ty.ty c.zero.result) (ap (I.Phi c.in_ok-ty.ty) c.zero.ensures) c.in_ok-phi.phi c.as_str.result.now c.args.target built.ok built.number built.data built.sound
     here (c.as_str.ensures ∙ c.in_ok-name.ensures.name) next is_set)

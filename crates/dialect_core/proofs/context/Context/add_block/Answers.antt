@@ -24,10 +24,10 @@ invariant_of-self-2 c =
     rw (ap (λ (l : Lists). l.parents) c.in_ok-number.ensures.ok)
     (record {
       numbers = region_kept c.self.inside.ops.items c.self.inside.blocks.items _ c.push.new.self.items c.self.inside.lists.parents c.self.inside.lists.lists _ c.args.holder c.index_mut-op.result.now c.add_block.new.region c.in_ok-number.number
-          (record { holder = c.args.holder; label = c.args.label; args = c.from_vec-args.result }) c.self.invariant.numbers there
+          (record { holder = c.args.holder; label = c.args.label; args = c.in_ok-args.args }) c.self.invariant.numbers there
           c.index_mut-op.ensures.value c.in_ok-number.ensures.region c.in_ok-number.ensures.number refl c.in_ok-reserve.ensures.items c.in-Ok.ensures.items (ap (λ (l : Lists). l.lists) c.in_ok-number.ensures.ok);
       regions = new_block_regions c.self.inside.ops.items c.self.inside.blocks.items _ c.push.new.self.items c.args.holder c.index_mut-op.result.now c.add_block.new.region c.in_ok-number.number
-          (record { holder = c.args.holder; label = c.args.label; args = c.from_vec-args.result }) c.self.invariant.regions there c.index_mut-op.ensures.value c.in_ok-number.ensures.region
+          (record { holder = c.args.holder; label = c.args.label; args = c.in_ok-args.args }) c.self.invariant.regions there c.index_mut-op.ensures.value c.in_ok-number.ensures.region
           (c.in_ok-number.ensures.number ∙ c.self.invariant.numbers.list_each) refl c.in_ok-reserve.ensures.items c.in-Ok.ensures.items;
     })
 
@@ -36,8 +36,8 @@ returns-clause-ok c =
     let holder = rw (← c.self.view_is) at c.requires.holder in
     let there = holder_there c.self.inside.ops.items c.args.holder holder in
     rw (← c.self.view_is, ap (λ (l : Lists). l.parents) c.in_ok-number.ensures.ok)
-    (block_view c.self.inside.types c.self.inside.ops.items c.self.inside.blocks.items _ c.push.new.self.items c.self.inside.lists.parents c.self.inside.lists.lists _ c.in_ok-number.number c.args.holder c.args.label c.from_vec-args.result _ c.index_mut-op.result.now c.add_block.new.region there
-    c.index_mut-op.ensures.value c.in_ok-number.ensures.region c.in_ok-reserve.ensures.items c.in-Ok.ensures.items (c.from_vec-args.ensures ∙ c.in_ok-from_slice.ensures.items) (ap (λ (l : Lists). l.lists) c.in_ok-number.ensures.ok))
+    (block_view c.self.inside.types c.self.inside.ops.items c.self.inside.blocks.items _ c.push.new.self.items c.self.inside.lists.parents c.self.inside.lists.lists _ c.in_ok-number.number c.args.holder c.args.label c.in_ok-args.args _ c.index_mut-op.result.now c.add_block.new.region there
+    c.index_mut-op.ensures.value c.in_ok-number.ensures.region c.in_ok-reserve.ensures.items c.in-Ok.ensures.items c.in_ok-args.ensures (ap (λ (l : Lists). l.lists) c.in_ok-number.ensures.ok))
 
 pub returns-clause-bare : goal.returns-clause-bare
 returns-clause-bare c = ap (λ (l : Lists). list_at l.lists c.in_ok-number.number) c.in_ok-number.ensures.ok ∙ last_list c.self.inside.lists.lists c.in_ok-number.number c.in_ok-number.ensures.number
@@ -46,8 +46,8 @@ pub returns-clause-data : goal.returns-clause-data
 returns-clause-data c =
     let holder = rw (← c.self.view_is) at c.requires.holder in
     let there = holder_there c.self.inside.ops.items c.args.holder holder in
-    let viewed = block_view c.self.inside.types c.self.inside.ops.items c.self.inside.blocks.items _ c.push.new.self.items c.self.inside.lists.parents c.self.inside.lists.lists c.add_block.new.self.lists c.in_ok-number.number c.args.holder c.args.label c.from_vec-args.result c.args.args.now c.index_mut-op.result.now c.add_block.new.region there
-    c.index_mut-op.ensures.value c.in_ok-number.ensures.region c.in_ok-reserve.ensures.items c.in-Ok.ensures.items (c.from_vec-args.ensures ∙ c.in_ok-from_slice.ensures.items) (ap (λ (l : Lists). l.lists) c.in_ok-number.ensures.ok) in
+    let viewed = block_view c.self.inside.types c.self.inside.ops.items c.self.inside.blocks.items _ c.push.new.self.items c.self.inside.lists.parents c.self.inside.lists.lists c.add_block.new.self.lists c.in_ok-number.number c.args.holder c.args.label c.in_ok-args.args c.args.args.now c.index_mut-op.result.now c.add_block.new.region there
+    c.index_mut-op.ensures.value c.in_ok-number.ensures.region c.in_ok-reserve.ensures.items c.in-Ok.ensures.items c.in_ok-args.ensures (ap (λ (l : Lists). l.lists) c.in_ok-number.ensures.ok) in
     rw (← c.self.view_is, ap (λ (l : Lists). l.parents) c.in_ok-number.ensures.ok)
     (λ m. ap (λ (d : ContextData). data_of d m) viewed ∙ new_block_data (context c.self.inside.types c.self.inside.ops.items c.self.inside.blocks.items c.self.inside.lists.parents c.self.inside.lists.lists) c.in_ok-number.number (record { holder = c.args.holder; label = c.args.label; args = c.args.args.now }) c.self.invariant.numbers (c.in_ok-number.ensures.number ∙ c.self.invariant.numbers.list_each) m)
 
@@ -56,8 +56,8 @@ returns-clause-typed c =
     let args = rw (← c.self.view_is) at c.requires.args in
     let holder = rw (← c.self.view_is) at c.requires.holder in
     let there = holder_there c.self.inside.ops.items c.args.holder holder in
-    let viewed = block_view c.self.inside.types c.self.inside.ops.items c.self.inside.blocks.items _ c.push.new.self.items c.self.inside.lists.parents c.self.inside.lists.lists c.add_block.new.self.lists c.in_ok-number.number c.args.holder c.args.label c.from_vec-args.result c.args.args.now c.index_mut-op.result.now c.add_block.new.region there
-    c.index_mut-op.ensures.value c.in_ok-number.ensures.region c.in_ok-reserve.ensures.items c.in-Ok.ensures.items (c.from_vec-args.ensures ∙ c.in_ok-from_slice.ensures.items) (ap (λ (l : Lists). l.lists) c.in_ok-number.ensures.ok) in
+    let viewed = block_view c.self.inside.types c.self.inside.ops.items c.self.inside.blocks.items _ c.push.new.self.items c.self.inside.lists.parents c.self.inside.lists.lists c.add_block.new.self.lists c.in_ok-number.number c.args.holder c.args.label c.in_ok-args.args c.args.args.now c.index_mut-op.result.now c.add_block.new.region there
+    c.index_mut-op.ensures.value c.in_ok-number.ensures.region c.in_ok-reserve.ensures.items c.in-Ok.ensures.items c.in_ok-args.ensures (ap (λ (l : Lists). l.lists) c.in_ok-number.ensures.ok) in
     rw (← c.self.view_is, ap (λ (l : Lists). l.parents) c.in_ok-number.ensures.ok)
     (λ typed. subst IsTyped (sym viewed) (block_typed (context c.self.inside.types c.self.inside.ops.items c.self.inside.blocks.items c.self.inside.lists.parents c.self.inside.lists.lists) c.in_ok-number.number (record { holder = c.args.holder; label = c.args.label; args = c.args.args.now }) typed args))
 

@@ -15,4 +15,4 @@ returns-clause-ok c =
     let there = rw (← c.self.view_is) at c.requires in
     let pushed = c.in_ok-append_both.ensures in
     rw (← c.self.view_is)
-    (block_appended (the_view c.self.inside) c.args.f _ c.index_mut-function.result.now _ _ _ _ _ there c.index_mut-function.ensures.value c.in_ok-name.ensures c.new-insts.ensures pushed.items pushed.numbers)
+    (block_appended (the_view c.self.inside) c.args.f _ c.index_mut-function.result.now _ _ _ _ _ there c.index_mut-function.ensures.value c.in_ok-name.ensures c.zero-insts.ensures pushed.items pushed.numbers)
