@@ -3,5 +3,6 @@ pub mod ByteLaws
 pub mod FitLaws
 pub mod OrderLaws
 pub mod PieceLaws
+pub mod PlainLaws
 pub mod RunLaws
 pub mod TokenLaws

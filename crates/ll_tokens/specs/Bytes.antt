@@ -29,6 +29,10 @@ is_word_start b = is_letter b || b == 95
 abbrev pub is_word_byte : ℕ → Bool
 is_word_byte b = is_letter b || is_digit b || b == 95 || b == 46
 
+-- of no name, no : and no "
+abbrev pub ends_name : ℕ → Bool
+ends_name b = not (is_name_byte b || b == 58 || b == 34)
+
 -- + and -
 abbrev pub is_plus_or_minus : ℕ → Bool
 is_plus_or_minus b = b == 43 || b == 45

@@ -8,6 +8,7 @@ mod names;
 mod numbers;
 pub mod piece;
 pub mod pieces;
+mod plain;
 pub mod runs;
 mod strings;
 #[cfg(test)]

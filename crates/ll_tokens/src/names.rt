@@ -6,7 +6,7 @@ ghost use Rattle.ll_tokens.specs.Pieces.{name_at, escaped_len, bang_at, hash_at,
 use crate::bytes::{is_digit, is_hex_digit, is_name_byte, is_word_start};
 use crate::kinds::Kind;
 use crate::piece::{Piece, token};
-use crate::runs::{Run, run_len};
+use crate::runs::{Run, name_len, run_len};
 use crate::strings::inner_len;
 
 /// What stands behind `@` or `%`.
@@ -22,7 +22,7 @@ pub fn name_at(kind: Kind, bytes: &[u8]) -> Option<Piece>
         return token(kind, 2 + run_len(rest, Run::Digits));
     }
     if is_name_byte(*b) {
-        return token(kind, 2 + run_len(rest, Run::Name));
+        return token(kind, 2 + name_len(rest));
     }
     if *b != b'"' {
         return None;

@@ -3,7 +3,7 @@
 ghost use Rattle.std.specs.Prelude.{◌≡◌, ◌≤◌, ◌<◌, ◌&&◌, length, slice_index, ◌==◌};
 ghost use Rattle.std.specs.List.{prefix_len};
 ghost use Rattle.ll_tokens.specs.Runs.{in_run};
-ghost use Rattle.ll_tokens.specs.Bytes.{is_name_byte, in_string};
+ghost use Rattle.ll_tokens.specs.Bytes.{is_name_byte, is_word_byte, in_string};
 ghost use Rattle.ll_tokens.specs.Pieces.{closes};
 
 use crate::bytes::{is_digit, is_letter_or_digit, is_name_byte, is_word_byte, is_word_start};
@@ -49,10 +49,56 @@ pub fn run_len(bytes: &[u8], run: Run) -> usize
     bytes.iter().take_while(|b| run.has(**b)).count()
 }
 
-/// How many bytes of a name the text begins with.
+/// How many bytes of a name the text begins with. It looks at four in a turn.
+#[inline(always)]
 pub fn name_len(bytes: &[u8]) -> usize
     ensures run { result ≡ prefix_len is_name_byte bytes.now }
     ensures within { result ≤ length bytes.now }
 {
-    run_len(bytes, Run::Name)
+    let mut n = 0;
+    let mut rest = bytes;
+    while let [a, b, c, d, behind @ ..] = rest {
+        if !is_name_byte(*a) {
+            return n;
+        }
+        if !is_name_byte(*b) {
+            return n + 1;
+        }
+        if !is_name_byte(*c) {
+            return n + 2;
+        }
+        if !is_name_byte(*d) {
+            return n + 3;
+        }
+        n += 4;
+        rest = behind;
+    }
+    n + run_len(rest, Run::Name)
+}
+
+/// How many bytes of a word the text begins with. It looks at four in a turn.
+#[inline(always)]
+pub(crate) fn word_len(bytes: &[u8]) -> usize
+    ensures run { result ≡ prefix_len is_word_byte bytes.now }
+    ensures within { result ≤ length bytes.now }
+{
+    let mut n = 0;
+    let mut rest = bytes;
+    while let [a, b, c, d, behind @ ..] = rest {
+        if !is_word_byte(*a) {
+            return n;
+        }
+        if !is_word_byte(*b) {
+            return n + 1;
+        }
+        if !is_word_byte(*c) {
+            return n + 2;
+        }
+        if !is_word_byte(*d) {
+            return n + 3;
+        }
+        n += 4;
+        rest = behind;
+    }
+    n + run_len(rest, Run::Word)
 }

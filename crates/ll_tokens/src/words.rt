@@ -9,7 +9,7 @@ use crate::bytes::is_digit;
 use crate::kinds::Kind;
 use crate::numbers::{minus_at, number_at};
 use crate::piece::{Piece, token};
-use crate::runs::{Run, run_len};
+use crate::runs::{name_len, word_len};
 use crate::strings::inner_len;
 
 /// Behind a point: two more.
@@ -36,7 +36,7 @@ fn word_at(b: u8, rest: &[u8]) -> Option<Piece>
             return token(Kind::CStr, 3 + n);
         }
     }
-    token(Kind::Word, 1 + run_len(rest, Run::Word))
+    token(Kind::Word, 1 + word_len(rest))
 }
 
 /// The piece that begins with a byte of a name. `run` is how many of them the text begins with.
@@ -55,7 +55,7 @@ pub fn bare_at(bytes: &[u8], b: u8, rest: &[u8], run: usize) -> Option<Piece>
     }
     match b {
         b'-' => minus_at(rest),
-        b'$' => token(Kind::Comdat, 1 + run_len(rest, Run::Name)),
+        b'$' => token(Kind::Comdat, 1 + name_len(rest)),
         b'.' => dots_at(rest),
         _ => word_at(b, rest),
     }

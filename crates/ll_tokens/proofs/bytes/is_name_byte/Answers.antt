@@ -1,7 +1,7 @@
 -- The table says it.
-use Rattle.std.proofs.Common.{ℕ, not, nat_eq, ap, ◌∙◌}
+use Rattle.std.proofs.Common.{ℕ, nat_le, ap, ◌∙◌}
 use Rattle.ll_tokens.proofs.ByteLaws.{name_kinds}
 use Rattle.ll_tokens.proofs.bytes.is_name_byte.Goals as goal
 
 pub returns : goal.returns
-returns c = ap (λ (k : ℕ). not (nat_eq k 46)) c.kind_at.ensures ∙ name_kinds c.args.b c.ranges.b.fits
+returns c = ap (λ (k : ℕ). nat_le 97 k) c.kind_at.ensures ∙ name_kinds c.args.b c.ranges.b.fits
