@@ -1,6 +1,8 @@
 //! Words with classes, in tables in which one is found without looking at all.
 
 ghost use Rattle.std.specs.Prelude.{◌≡◌, IsTrue, List, slice_get};
+ghost use Rattle.std.specs.Str.{bytes_eq};
+ghost use Rattle.grammars.specs.Flat.{part};
 ghost use Rattle.ll_classes.specs.Names.{unescaped};
 ghost use Rattle.ll_classes.specs.Words.{are_right, bucket_words, class_among, words_in, words_at, words_of};
 
@@ -35,12 +37,40 @@ pub struct Words<'w> {
     pub ghost right: { IsTrue (are_right texts.now words.now buckets.now names) },
 }
 
+/// The part of a table from a start to an end. It mostly lies within, so that is asked first.
+#[inline(always)]
+fn part_within<T>(table: &[T], start: u16, end: u16) -> &[T]
+    ensures { result.now ≡ part table.now start end }
+{
+    let (from, to) = (start as usize, end as usize);
+    if from <= to && to <= table.len() {
+        &table[from..to]
+    } else {
+        part_of(table, start, end)
+    }
+}
+
+/// Are the bytes of a word the same? It is short, so they are compared one by one.
+fn are_same(text: &[u8], word: &[u8]) -> bool
+    ensures { result ≡ bytes_eq text.now word.now }
+{
+    if text.len() != word.len() {
+        return false;
+    }
+    for place in 0..text.len() {
+        if text[place] != word[place] {
+            return false;
+        }
+    }
+    true
+}
+
 /// The class of the word of that text.
 fn class_among(texts: &[u8], words: &[Word], text: &[u8]) -> Option<u16>
     ensures { result ≡ class_among (words_in texts.now words.now) text.now }
 {
     for word in words {
-        if text == part_of(texts, word.start, word.end) {
+        if are_same(text, part_within(texts, word.start, word.end)) {
             return Some(word.class);
         }
     }
@@ -65,7 +95,7 @@ impl Words<'_> {
         ensures { result ≡ class_among (words_at self.now.texts.now self.now.words.now (slice_get self.now.buckets.now number)) text.now }
     {
         let bucket = self.buckets.get(number)?;
-        let words = part_of(self.words, bucket.start, bucket.end);
+        let words = part_within(self.words, bucket.start, bucket.end);
         class_among(self.texts, words, text)
     }
 
