@@ -3,6 +3,7 @@
 
 pub mod bytes;
 pub mod kinds;
+mod lanes;
 pub mod laws;
 mod names;
 mod numbers;

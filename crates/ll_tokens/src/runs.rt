@@ -7,6 +7,7 @@ ghost use Rattle.ll_tokens.specs.Bytes.{is_name_byte, is_word_byte, in_string};
 ghost use Rattle.ll_tokens.specs.Pieces.{closes};
 
 use crate::bytes::{is_digit, is_letter_or_digit, is_name_byte, is_word_byte, is_word_start};
+use crate::lanes::lanes_len;
 
 /// What a run of bytes is made of.
 #[derive(Clone, Copy)]
@@ -49,7 +50,8 @@ pub fn run_len(bytes: &[u8], run: Run) -> usize
     bytes.iter().take_while(|b| run.has(**b)).count()
 }
 
-/// How many bytes of a name the text begins with. It looks at four in a turn.
+/// How many bytes of a name the text begins with. Most names have few bytes, and of the others sixteen are looked at at a
+/// time.
 #[inline(always)]
 pub fn name_len(bytes: &[u8]) -> usize
     ensures run { result ≡ prefix_len is_name_byte bytes.now }
@@ -57,7 +59,7 @@ pub fn name_len(bytes: &[u8]) -> usize
 {
     let mut n = 0;
     let mut rest = bytes;
-    while let [a, b, c, d, behind @ ..] = rest {
+    while let [a, b, c, d, e, f, g, h, behind @ ..] = rest {
         if !is_name_byte(*a) {
             return n;
         }
@@ -70,8 +72,21 @@ pub fn name_len(bytes: &[u8]) -> usize
         if !is_name_byte(*d) {
             return n + 3;
         }
-        n += 4;
-        rest = behind;
+        if !is_name_byte(*e) {
+            return n + 4;
+        }
+        if !is_name_byte(*f) {
+            return n + 5;
+        }
+        if !is_name_byte(*g) {
+            return n + 6;
+        }
+        if !is_name_byte(*h) {
+            return n + 7;
+        }
+        let more = lanes_len(behind);
+        n += 8 + more;
+        rest = &behind[more..];
     }
     n + run_len(rest, Run::Name)
 }
