@@ -2,6 +2,7 @@
 use Rattle.std.proofs.Common.{◌≡◌, ℕ, Bool, true, false, nat_eq, is_none, zero, suc, ◌<◌, ◌≤◌, List, [], ◌∷◌, ◌++◌, reverse, length, take, drop, slice_get, slice_index_or, ◌+◌, ◌-◌, Option, Some, None, refl, sym, ap, eqb-true, ◌∙◌, subst, append_assoc, drop-cons, arith}
 use Rattle.std.specs.Prelude.{Result, Ok, Err, IfOk, IsTrue}
 use Rattle.std.proofs.lemmas.List.{reverse-append, append-nil, take-append-drop, take_more}
+use Rattle.std.proofs.lemmas.Option.{slice_get_within}
 use Rattle.grammars.specs.declared.symbols.Symbol.{Symbol}
 use Rattle.grammars.specs.declared.symbols.Symbol.TheVariants.{Word, Leaf, Rule}
 use Rattle.grammars.specs.declared.symbols.Event.{Event}
@@ -20,7 +21,7 @@ use Rattle.grammars.specs.RowGrammar.{◌>>=◌}
 use Rattle.grammars.specs.Flat.{symbols_of}
 use Rattle.grammars.proofs.RowLaws.{rows_are_right, chosen_stands}
 use Rattle.grammars.proofs.FlatLaws.{no_zero, symbols_alone}
-use Rattle.grammars.proofs.GrammarLaws.{moves_rule, refuses_choice, refuses_symbols, takes_word, takes_leaf, refuses_word, refuses_leaf, lead_rule, from_end, none_word, none_leaf}
+use Rattle.grammars.proofs.GrammarLaws.{moves_rule, refuses_choice, takes_word, takes_leaf, refuses_word, refuses_leaf, lead_rule, from_end, none_word, none_leaf}
 
 -- a grammar in flat tables passed the check
 pub right_of : (g : code.Grammar) → IsRight (grammar_of g) (tables_of g)
@@ -34,6 +35,18 @@ symbols_there g r (suc i) n o h e at =
     let x = chosen_stands (rows g) g.right r (suc i) n (sym e) in
     ap (λ (p : Option Alternative). p >>= λ a. Some (symbols_of g.symbols.now a)) (sym at) ∙ symbols_alone g.symbols.now g.alternatives.now g.firsts.now g.mores.now (suc i) g.rows.now r x.0 x.1 (slice_get g.rows.now r) refl ∙ sym x.1
 
+-- and there is one
+pub chosen_within : (g : code.Grammar) (r i : ℕ) (n : Option ℕ) → 1 ≤ i → some_number i ≡ (grammar_of g).choose r n → i ≤ length g.alternatives.now
+chosen_within g r i n h e = if_any (slice_get g.alternatives.now (i - 1)) refl
+  where
+    none_there : (j : ℕ) → 1 ≤ j → some_number j ≡ (grammar_of g).choose r n → None ≡ (grammar_of g).symbols r j → ⊥
+    none_there zero h e s = absurd (omega (arith, h))
+    none_there (suc j) h e s = let x = chosen_stands (rows g) g.right r (suc j) n (sym e) in let y : None ≡ Some x.0 = s ∙ x.1 in absurd cc
+
+    if_any : (o : Option Alternative) → slice_get g.alternatives.now (i - 1) ≡ o → i ≤ length g.alternatives.now
+    if_any (Some a) at = let inside = slice_get_within g.alternatives.now (i - 1) a at in omega (arith, inside, h)
+    if_any None at = absurd (none_there i h e (symbols_there g r i n None h e at))
+
 -- what stands last in the program stands first
 pub front : {A : Type 0} (xs ys : List A) (s : A) → xs ≡ ys ++ s ∷ [] → reverse xs ≡ s ∷ reverse ys
 front xs ys s e = ap (λ zs. reverse zs) e ∙ reverse-append ys (s ∷ [])
@@ -44,10 +57,8 @@ module _ (g : code.Grammar) (n : Option ℕ) (old now new : Reader) (way : IsOnT
   moves_to s e = subst (λ st. Moves (grammar_of g) (tables_of g) n (stack_of old) way.read st) e way.moves
 
   -- no alternative begins so
-  pub no_alternative : (r i : ℕ) → stack_of now ≡ Rule r ∷ stack_of new → some_number i ≡ (grammar_of g).choose r n → (grammar_of g).symbols r i ≡ None
-      → Refuses (grammar_of g) n (stack_of old)
-  no_alternative r zero e c s = refuses_choice (grammar_of g) (tables_of g) (right_of g) n (stack_of old) way.read r (stack_of new) (moves_to (Rule r) e) (sym c)
-  no_alternative r (suc i) e c s = refuses_symbols (grammar_of g) (tables_of g) (right_of g) n (stack_of old) way.read r (suc i) (stack_of new) (moves_to (Rule r) e) (sym c) s
+  pub no_choice : (r i : ℕ) → stack_of now ≡ Rule r ∷ stack_of new → some_number i ≡ (grammar_of g).choose r n → i ≡ 0 → Refuses (grammar_of g) n (stack_of old)
+  no_choice r i e c is = refuses_choice (grammar_of g) (tables_of g) (right_of g) n (stack_of old) way.read r (stack_of new) (moves_to (Rule r) e) (sym c ∙ ap some_number is)
 
   module _ (last : Reader) (r i : ℕ) (symbols : List Symbol) (popped : stack_of now ≡ Rule r ∷ stack_of new) (chosen : some_number i ≡ (grammar_of g).choose r n) (stand : Some (reverse symbols) ≡ (grammar_of g).symbols r i) (stacked : stack_of last ≡ reverse symbols ++ stack_of new) where
     pub goes_on : last.events.items ≡ now.events.items ++ Took i ∷ [] → IsOnTheWay g n old last

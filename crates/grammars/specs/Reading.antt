@@ -23,8 +23,16 @@ abbrev pub rule_of : Option ℕ → List Symbol
 rule_of None = []
 rule_of (Some r) = Rule r ∷ []
 
+-- of the parts of a reader
+abbrev pub stack_from : (next : List Symbol) → List (Bor (List Symbol)) → (last : Option ℕ) → List Symbol
+stack_from next stack last = reverse next ++ left_of (reverse stack) ++ rule_of last
+
 abbrev pub stack_of : Reader → List Symbol
 stack_of r = reverse r.next.now ++ left_of (reverse r.stack.items) ++ rule_of r.last
+
+-- a reader before which other symbols stand next
+abbrev pub with_next : Reader → (next : List Symbol) → Reader
+with_next r next = record { next = record { ref_ptr = r.next.ref_ptr; now = next }; stack = r.stack; last = r.last; events = r.events }
 
 -- a token is taken, and what was read by it stands behind the other events
 pub record TakesToken (g : code.Grammar) (t : Token) (old new : Reader) : Type 0 where

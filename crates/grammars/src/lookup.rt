@@ -1,7 +1,6 @@
 //! What a grammar says, looked up in its tables.
 
-ghost use Rattle.std.specs.Prelude.{◌≡◌, ℕ, Option, None, reverse};
-ghost use Rattle.std.specs.Option.{option_map};
+ghost use Rattle.std.specs.Prelude.{◌≡◌, ◌≤◌, ℕ, Option, Some, None, length, reverse};
 ghost use Rattle.grammars.specs.Numbers.{some_number};
 ghost use Rattle.grammars.specs.FlatGrammar.{grammar_of};
 
@@ -11,12 +10,14 @@ use crate::symbols::Symbol;
 
 impl<'g> Grammar<'g> {
     /// The symbols of an alternative that a rule goes on with, the last first.
-    pub fn symbols_of(&self, alternative: u16) -> Option<&'g [Symbol]>
-        ensures { (r : ℕ) (n : Option ℕ) → some_number alternative ≡ (grammar_of self.now).choose r n → option_map (λ s. reverse s.now) result ≡ (grammar_of self.now).symbols r alternative }
+    #[inline(always)]
+    pub(crate) fn symbols_of(&self, alternative: u16) -> &'g [Symbol]
+        requires some { 1 ≤ alternative }
+        requires within { alternative ≤ length self.now.alternatives.now }
+        ensures { (r : ℕ) (n : Option ℕ) → some_number alternative ≡ (grammar_of self.now).choose r n → Some (reverse result.now) ≡ (grammar_of self.now).symbols r alternative }
     {
-        let place = (alternative as usize).checked_sub(1)?;
-        let found = self.alternatives.get(place)?;
-        Some(part_of(self.symbols, found.start, found.end))
+        let found = self.alternatives[alternative as usize - 1];
+        part_of(self.symbols, found.start, found.end)
     }
 
     /// The number of the alternative of a rule that may be nothing, or 0.

@@ -4,6 +4,7 @@ ghost use Rattle.std.specs.Prelude.{◌≡◌, ◌≤◌, ◌-◌, length, slice
 ghost use Rattle.grammars.specs.Flat.{part};
 
 /// The part of a table from a start to an end.
+#[inline(always)]
 pub fn part_of<T>(table: &[T], start: u16, end: u16) -> &[T]
     ensures part { result.now ≡ part table.now start end }
     ensures short { length result.now ≤ end - start }
@@ -13,15 +14,16 @@ pub fn part_of<T>(table: &[T], start: u16, end: u16) -> &[T]
     } else {
         table.len()
     };
-    let start = start as usize;
-    if start < end {
-        &table[start..end]
+    let start = if (start as usize) < end {
+        start as usize
     } else {
-        &table[0..0]
-    }
+        end
+    };
+    &table[start..end]
 }
 
 /// The number at a place of a table, or 0.
+#[inline(always)]
 pub fn number_at(table: &[u16], place: usize) -> u16
     ensures { result ≡ slice_index_or table.now place 0 }
 {

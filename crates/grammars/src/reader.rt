@@ -1,6 +1,6 @@
 //! Reads tokens by a grammar, over a stack of symbols, so that nesting costs no stack of the machine.
 
-ghost use Rattle.std.specs.Prelude.{◌≡◌, ◌∷◌, ◌++◌, [], List, ℕ, IfOk, OnOk, IfSome, IfNone, IsTrue, Err, false, reverse};
+ghost use Rattle.std.specs.Prelude.{◌≡◌, ◌∷◌, ◌++◌, [], List, Option, ℕ, IfOk, OnOk, IfSome, IfNone, IsTrue, Err, false, reverse};
 ghost use Rattle.grammars.specs.declared.symbols.Symbol.TheVariants as S;
 ghost use Rattle.grammars.specs.declared.symbols.Event.{Event};
 ghost use Rattle.grammars.specs.declared.symbols.Token.{Token};
@@ -8,7 +8,7 @@ ghost use Rattle.grammars.specs.Grammar.{Writes};
 ghost use Rattle.grammars.specs.Right.{Tables, Fits};
 ghost use Rattle.grammars.specs.FlatGrammar.{grammar_of, tables_of};
 ghost use Rattle.grammars.specs.Choosing.{AreChoices};
-ghost use Rattle.grammars.specs.Reading.{stack_of, class_ahead, is_class, TellsAhead, ReadsUpTo, StopsAt, TakesToken, Holds, ReadsRest, IsRefusedAt};
+ghost use Rattle.grammars.specs.Reading.{stack_from, stack_of, class_ahead, is_class, TellsAhead, ReadsUpTo, StopsAt, TakesToken, Holds, ReadsRest, IsRefusedAt};
 ghost use Rattle.grammars.specs.Numbers.{some_number};
 
 use crate::choices::Choices;
@@ -68,6 +68,47 @@ impl Ahead<'_> {
     }
 }
 
+/// Takes off the symbol that stands next, of those of a reader.
+#[inline(always)]
+fn pop<'g>(
+    next: &mut &'g [Symbol],
+    stack: &mut Vec<&'g [Symbol]>,
+    last: &mut Option<u16>,
+) -> Option<Symbol>
+    ensures some { IfSome result (λ s. stack_from next.old.now stack.old.items last.old ≡ s ∷ stack_from next.new.now stack.new.items last.new) }
+    ensures none { IfNone result (stack_from next.old.now stack.old.items last.old ≡ []) }
+{
+    loop {
+        if let Some((first, others)) = next.split_last() {
+            *next = others;
+            return Some(*first);
+        }
+        match stack.pop() {
+            Some(part) => *next = part,
+            None => return Some(Symbol::Rule(last.take()?)),
+        }
+    }
+}
+
+/// Puts symbols before what stands next, the last first. Where nothing is left of an alternative, it is not kept.
+#[inline(always)]
+fn put<'g>(
+    next: &mut &'g [Symbol],
+    stack: &mut Vec<&'g [Symbol]>,
+    symbols: &'g [Symbol],
+) -> Result<(), AllocError>
+    ensures stack { (last : Option ℕ) → OnOk result (stack_from next.new.now stack.new.items last ≡ reverse symbols.now ++ stack_from next.old.now stack.old.items last) }
+{
+    if symbols.is_empty() {
+        return Ok(());
+    }
+    if !next.is_empty() {
+        stack.push(*next)?;
+    }
+    *next = symbols;
+    Ok(())
+}
+
 impl<'g> Reader<'g> {
     /// A reader of what a rule writes.
     pub fn new(alloc: Global, rule: u16) -> Result<Reader<'g>, AllocError>
@@ -81,39 +122,6 @@ impl<'g> Reader<'g> {
             last: Some(rule),
             events: Vec::new(alloc),
         })
-    }
-
-    /// Takes off the symbol that stands next.
-    fn pop(&mut self) -> Option<Symbol>
-        ensures some { IfSome result (λ s. stack_of self.old ≡ s ∷ stack_of self.new) }
-        ensures none { IfNone result (stack_of self.old ≡ []) }
-        ensures events { self.new.events ≡ self.old.events }
-    {
-        loop {
-            if let Some((first, others)) = self.next.split_last() {
-                self.next = others;
-                return Some(*first);
-            }
-            match self.stack.pop() {
-                Some(part) => self.next = part,
-                None => return Some(Symbol::Rule(self.last.take()?)),
-            }
-        }
-    }
-
-    /// Puts symbols before what stands next, the last first. Where nothing is left of an alternative, it is not kept.
-    fn put(&mut self, symbols: &'g [Symbol]) -> Result<(), AllocError>
-        ensures stack { OnOk result (stack_of self.new ≡ reverse symbols.now ++ stack_of self.old) }
-        ensures events { self.new.events ≡ self.old.events }
-    {
-        if symbols.is_empty() {
-            return Ok(());
-        }
-        if !self.next.is_empty() {
-            self.stack.push(self.next)?;
-        }
-        self.next = symbols;
-        Ok(())
     }
 
     /// Holds the token that is ahead: whether it is one of that class.
@@ -140,24 +148,35 @@ impl<'g> Reader<'g> {
         ensures refused { IfOk result (λ on. on ≡ false → StopsAt (grammar_of grammar.now) ahead.entry.token (stack_of self.old)) }
     {
         let grammar = *grammar;
-        while let Some(top) = self.pop() {
+        // apart from the reader, so that it need not be looked up and kept at each symbol
+        let mut next = self.next;
+        while let Some(top) = pop(&mut next, &mut self.stack, &mut self.last) {
             match top {
-                Symbol::Word(class) => return Ok(ahead.is_class(class)),
-                Symbol::Leaf(class) => return self.hold(ahead.token, class),
                 Symbol::Rule(rule) => {
                     let alternative = ahead.choose(&grammar, rule);
-                    let Some(symbols) = grammar.symbols_of(alternative) else {
+                    if alternative == 0 {
                         return Ok(false);
-                    };
-                    self.put(symbols)?;
+                    }
                     self.events.push(Event::Took(alternative))?;
+                    let symbols = grammar.symbols_of(alternative);
+                    put(&mut next, &mut self.stack, symbols)?;
+                }
+                Symbol::Word(class) => {
+                    self.next = next;
+                    return Ok(ahead.is_class(class));
+                }
+                Symbol::Leaf(class) => {
+                    self.next = next;
+                    return self.hold(ahead.token, class);
                 }
             }
         }
+        self.next = next;
         Ok(ahead.token.is_none())
     }
 
     /// Takes a token: whether one of its class may stand next. A reader that refused one is of no use any more.
+    #[inline(always)]
     pub fn take(
         &mut self,
         grammar: &Grammar<'g>,
