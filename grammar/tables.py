@@ -19,6 +19,11 @@ WORD_TEXT = re.compile(r'[A-Za-z_][A-Za-z0-9_.]*\Z')
 PIECE = re.compile(r"\s*(?:(?P<quoted>[@~]?'[^']+')|(?P<name>~?[A-Za-z_][A-Za-z0-9_]*)|(?P<bar>\|)|(?P<minus>-))")
 
 
+# Rules that most lines of a text go through. In the merged grammar their alternatives stand where the rule would be an
+# alternative, so that a reader goes there in one step. The rules stay, and may be used by no other.
+IN_PLACE = ('line', 'solid', 'flat', 'const')
+
+
 class GrammarError(Exception):
     pass
 
@@ -41,6 +46,7 @@ class Grammar:
         self.merged = merged
         if merged:
             self.merge()
+            self.put_in_place()
         self.number()
         self.solve()
 
@@ -163,6 +169,18 @@ class Grammar:
                     kept.append((new, at))
             alternatives[:] = kept
 
+    def put_in_place(self):
+        """Writes the alternatives of such rules where the rule is an alternative."""
+        alternatives_of = dict(self.written)
+
+        def put(symbols, at):
+            if len(symbols) != 1 or symbols[0] not in IN_PLACE:
+                return [(symbols, at)]
+            return [found for inner, _ in alternatives_of[symbols[0]] for found in put(inner, at)]
+
+        for _, alternatives in self.written:
+            alternatives[:] = [found for symbols, at in alternatives for found in put(symbols, at)]
+
     # ---- numbers
 
     def number(self):
@@ -199,7 +217,7 @@ class Grammar:
                     self.alternatives.append((rule, [self.symbol(s, name, at) for s in expanded], at))
             self.spans.append((start, len(self.alternatives)))
         used = {n for _, symbols, _ in self.alternatives for s, n in symbols if s == 'Rule'}
-        lost = [n for i, n in enumerate(self.rules) if i not in used and i != 0]
+        lost = [n for i, n in enumerate(self.rules) if i not in used and i != 0 and not (self.merged and n in IN_PLACE)]
         if lost:
             raise GrammarError('rules that no rule uses: %s' % lost)
         self.check_lists()

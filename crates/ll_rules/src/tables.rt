@@ -9,7 +9,7 @@ use grammars::rows::{Alternative, Row};
 use grammars::symbols::Symbol;
 
 /// The symbols of all alternatives, those of each with the last first.
-pub static SYMBOLS: [Symbol; 915] = [
+pub static SYMBOLS: [Symbol; 986] = [
     // 1: file = item file
     Symbol::Rule(0),
     Symbol::Rule(1),
@@ -213,8 +213,10 @@ pub static SYMBOLS: [Symbol; 915] = [
     // 64: body_parts = nothing
     // 65: body_part = LABEL
     Symbol::Leaf(2),
-    // 66: body_part = line
-    Symbol::Rule(31),
+    // 66: body_part = records result inst
+    Symbol::Rule(84),
+    Symbol::Rule(33),
+    Symbol::Rule(32),
     // 67: line = records result inst
     Symbol::Rule(84),
     Symbol::Rule(33),
@@ -663,125 +665,161 @@ pub static SYMBOLS: [Symbol; 915] = [
     Symbol::Leaf(13),
     // 261: type = 'void'
     Symbol::Word(123),
-    // 262: type = solid
-    Symbol::Rule(63),
-    // 263: solid = flat
-    Symbol::Rule(64),
-    // 264: solid = '{' types '}'
-    Symbol::Word(50),
-    Symbol::Rule(66),
-    Symbol::Word(49),
-    // 265: flat = INTTYPE
+    // 262: type = INTTYPE
     Symbol::Leaf(12),
-    // 266: flat = 'ptr' space
+    // 263: type = 'ptr' space
     Symbol::Rule(16),
     Symbol::Word(106),
-    // 267: flat = FLAT
+    // 264: type = FLAT
     Symbol::Leaf(28),
-    // 268: flat = '[' INT 'x' type ']'
+    // 265: type = '[' INT 'x' type ']'
     Symbol::Word(48),
     Symbol::Rule(62),
     Symbol::Word(127),
     Symbol::Leaf(3),
     Symbol::Word(47),
-    // 269: flat = '<' angle_type
+    // 266: type = '<' angle_type
     Symbol::Rule(65),
     Symbol::Word(51),
-    // 270: flat = LOCAL
+    // 267: type = LOCAL
     Symbol::Leaf(1),
-    // 271: angle_type = INT 'x' type '>'
+    // 268: type = '{' types '}'
+    Symbol::Word(50),
+    Symbol::Rule(66),
+    Symbol::Word(49),
+    // 269: solid = INTTYPE
+    Symbol::Leaf(12),
+    // 270: solid = 'ptr' space
+    Symbol::Rule(16),
+    Symbol::Word(106),
+    // 271: solid = FLAT
+    Symbol::Leaf(28),
+    // 272: solid = '[' INT 'x' type ']'
+    Symbol::Word(48),
+    Symbol::Rule(62),
+    Symbol::Word(127),
+    Symbol::Leaf(3),
+    Symbol::Word(47),
+    // 273: solid = '<' angle_type
+    Symbol::Rule(65),
+    Symbol::Word(51),
+    // 274: solid = LOCAL
+    Symbol::Leaf(1),
+    // 275: solid = '{' types '}'
+    Symbol::Word(50),
+    Symbol::Rule(66),
+    Symbol::Word(49),
+    // 276: flat = INTTYPE
+    Symbol::Leaf(12),
+    // 277: flat = 'ptr' space
+    Symbol::Rule(16),
+    Symbol::Word(106),
+    // 278: flat = FLAT
+    Symbol::Leaf(28),
+    // 279: flat = '[' INT 'x' type ']'
+    Symbol::Word(48),
+    Symbol::Rule(62),
+    Symbol::Word(127),
+    Symbol::Leaf(3),
+    Symbol::Word(47),
+    // 280: flat = '<' angle_type
+    Symbol::Rule(65),
+    Symbol::Word(51),
+    // 281: flat = LOCAL
+    Symbol::Leaf(1),
+    // 282: angle_type = INT 'x' type '>'
     Symbol::Word(52),
     Symbol::Rule(62),
     Symbol::Word(127),
     Symbol::Leaf(3),
-    // 272: angle_type = 'vscale' 'x' INT 'x' type '>'
+    // 283: angle_type = 'vscale' 'x' INT 'x' type '>'
     Symbol::Word(52),
     Symbol::Rule(62),
     Symbol::Word(127),
     Symbol::Leaf(3),
     Symbol::Word(127),
     Symbol::Word(125),
-    // 273: angle_type = '{' types '}' '>'
+    // 284: angle_type = '{' types '}' '>'
     Symbol::Word(52),
     Symbol::Word(50),
     Symbol::Rule(66),
     Symbol::Word(49),
-    // 274: types = type more_types
+    // 285: types = type more_types
     Symbol::Rule(67),
     Symbol::Rule(62),
-    // 275: types = nothing
-    // 276: more_types = ',' type more_types
+    // 286: types = nothing
+    // 287: more_types = ',' type more_types
     Symbol::Rule(67),
     Symbol::Rule(62),
     Symbol::Word(44),
-    // 277: more_types = nothing
-    // 278: called_type = type signature
+    // 288: more_types = nothing
+    // 289: called_type = type signature
     Symbol::Rule(69),
     Symbol::Rule(62),
-    // 279: signature = '(' argument_types ')'
+    // 290: signature = '(' argument_types ')'
     Symbol::Word(46),
     Symbol::Rule(70),
     Symbol::Word(45),
-    // 280: signature = nothing
-    // 281: argument_types = type more_argument_types
+    // 291: signature = nothing
+    // 292: argument_types = type more_argument_types
     Symbol::Rule(71),
     Symbol::Rule(62),
-    // 282: argument_types = '...'
+    // 293: argument_types = '...'
     Symbol::Word(55),
-    // 283: argument_types = nothing
-    // 284: more_argument_types = ',' type_or_dots
+    // 294: argument_types = nothing
+    // 295: more_argument_types = ',' type_or_dots
     Symbol::Rule(72),
     Symbol::Word(44),
-    // 285: more_argument_types = nothing
-    // 286: type_or_dots = type more_argument_types
+    // 296: more_argument_types = nothing
+    // 297: type_or_dots = type more_argument_types
     Symbol::Rule(71),
     Symbol::Rule(62),
-    // 287: type_or_dots = '...'
+    // 298: type_or_dots = '...'
     Symbol::Word(55),
-    // 288: tconst = type const
+    // 299: tconst = type const
     Symbol::Rule(74),
     Symbol::Rule(62),
-    // 289: const = INT
+    // 300: const = INT
     Symbol::Leaf(3),
-    // 290: const = CONST
+    // 301: const = CONST
     Symbol::Leaf(29),
-    // 291: const = 'null'
+    // 302: const = 'null'
     Symbol::Word(101),
-    // 292: const = '[' tconsts ']'
+    // 303: const = '[' tconsts ']'
     Symbol::Word(48),
     Symbol::Rule(81),
     Symbol::Word(47),
-    // 293: const = '{' tconsts '}'
+    // 304: const = '{' tconsts '}'
     Symbol::Word(50),
     Symbol::Rule(81),
     Symbol::Word(49),
-    // 294: const = '<' const_angle
+    // 305: const = '<' const_angle
     Symbol::Rule(75),
     Symbol::Word(51),
-    // 295: const = CSTR
+    // 306: const = CSTR
     Symbol::Leaf(5),
-    // 296: const = 'splat' '(' tconst ')'
+    // 307: const = 'splat' '(' tconst ')'
     Symbol::Word(46),
     Symbol::Rule(73),
     Symbol::Word(45),
     Symbol::Word(112),
-    // 297: const = GLOBAL
+    // 308: const = GLOBAL
     Symbol::Leaf(0),
-    // 298: const = 'blockaddress' '(' GLOBAL ',' LOCAL ')'
+    // 309: const = 'blockaddress' '(' GLOBAL ',' LOCAL ')'
     Symbol::Word(46),
     Symbol::Leaf(1),
     Symbol::Word(44),
     Symbol::Leaf(0),
     Symbol::Word(45),
     Symbol::Word(72),
-    // 299: const = const_cast '(' tconst 'to' type ')'
+    // 310: const = const_cast '(' tconst 'to' type ')'
     Symbol::Word(46),
     Symbol::Rule(62),
     Symbol::Word(117),
     Symbol::Rule(73),
     Symbol::Word(45),
     Symbol::Rule(79),
-    // 300: const = const_sum lost_wraps '(' tconst ',' tconst ')'
+    // 311: const = const_sum lost_wraps '(' tconst ',' tconst ')'
     Symbol::Word(46),
     Symbol::Rule(73),
     Symbol::Word(44),
@@ -789,7 +827,7 @@ pub static SYMBOLS: [Symbol; 915] = [
     Symbol::Word(45),
     Symbol::Rule(97),
     Symbol::Rule(80),
-    // 301: const = 'getelementptr' gep_flags in_range '(' type ',' tconst more_tconsts ')'
+    // 312: const = 'getelementptr' gep_flags in_range '(' type ',' tconst more_tconsts ')'
     Symbol::Word(46),
     Symbol::Rule(82),
     Symbol::Rule(73),
@@ -799,98 +837,98 @@ pub static SYMBOLS: [Symbol; 915] = [
     Symbol::Rule(83),
     Symbol::Rule(127),
     Symbol::Word(90),
-    // 302: const_angle = '{' const_brace
+    // 313: const_angle = '{' const_brace
     Symbol::Rule(76),
     Symbol::Word(49),
-    // 303: const_angle = flat const more_tconsts '>'
+    // 314: const_angle = flat const more_tconsts '>'
     Symbol::Word(52),
     Symbol::Rule(82),
     Symbol::Rule(74),
     Symbol::Rule(64),
-    // 304: const_angle = 'void' const more_tconsts '>'
+    // 315: const_angle = 'void' const more_tconsts '>'
     Symbol::Word(52),
     Symbol::Rule(82),
     Symbol::Rule(74),
     Symbol::Word(123),
-    // 305: const_brace = '}' const_empty
+    // 316: const_brace = '}' const_empty
     Symbol::Rule(77),
     Symbol::Word(50),
-    // 306: const_brace = type const_braced
+    // 317: const_brace = type const_braced
     Symbol::Rule(78),
     Symbol::Rule(62),
-    // 307: const_empty = '>'
+    // 318: const_empty = '>'
     Symbol::Word(52),
-    // 308: const_empty = const more_tconsts '>'
+    // 319: const_empty = const more_tconsts '>'
     Symbol::Word(52),
     Symbol::Rule(82),
     Symbol::Rule(74),
-    // 309: const_braced = const more_tconsts '}' '>'
+    // 320: const_braced = const more_tconsts '}' '>'
     Symbol::Word(52),
     Symbol::Word(50),
     Symbol::Rule(82),
     Symbol::Rule(74),
-    // 310: const_braced = more_types '}' const more_tconsts '>'
+    // 321: const_braced = more_types '}' const more_tconsts '>'
     Symbol::Word(52),
     Symbol::Rule(82),
     Symbol::Rule(74),
     Symbol::Word(50),
     Symbol::Rule(67),
-    // 311: const_cast = CAST_CONST_CAST
+    // 322: const_cast = CAST_CONST_CAST
     Symbol::Leaf(30),
-    // 312: const_cast = 'trunc'
+    // 323: const_cast = 'trunc'
     Symbol::Word(118),
-    // 313: const_sum = CONST_SUM_RMW_KIND_SUM
+    // 324: const_sum = CONST_SUM_RMW_KIND_SUM
     Symbol::Leaf(31),
-    // 314: tconsts = tconst more_tconsts
+    // 325: tconsts = tconst more_tconsts
     Symbol::Rule(82),
     Symbol::Rule(73),
-    // 315: tconsts = nothing
-    // 316: more_tconsts = ',' tconst more_tconsts
+    // 326: tconsts = nothing
+    // 327: more_tconsts = ',' tconst more_tconsts
     Symbol::Rule(82),
     Symbol::Rule(73),
     Symbol::Word(44),
-    // 317: more_tconsts = nothing
-    // 318: in_range = @'inrange' parens
+    // 328: more_tconsts = nothing
+    // 329: in_range = @'inrange' parens
     Symbol::Rule(53),
     Symbol::Leaf(93),
-    // 319: in_range = nothing
-    // 320: inst = simple attached
+    // 330: in_range = nothing
+    // 331: inst = simple attached
     Symbol::Rule(149),
     Symbol::Rule(85),
-    // 321: inst = 'alloca' type alloca_tail
+    // 332: inst = 'alloca' type alloca_tail
     Symbol::Rule(108),
     Symbol::Rule(62),
     Symbol::Word(67),
-    // 322: inst = 'load' load
+    // 333: inst = 'load' load
     Symbol::Rule(114),
     Symbol::Word(97),
-    // 323: inst = 'store' store
+    // 334: inst = 'store' store
     Symbol::Rule(116),
     Symbol::Word(113),
-    // 324: inst = 'atomicrmw' rmw_kind address_and_value order lost_align_attached
+    // 335: inst = 'atomicrmw' rmw_kind address_and_value order lost_align_attached
     Symbol::Rule(138),
     Symbol::Rule(124),
     Symbol::Rule(120),
     Symbol::Rule(119),
     Symbol::Word(70),
-    // 325: inst = 'cmpxchg' lost_weak exchange
+    // 336: inst = 'cmpxchg' lost_weak exchange
     Symbol::Rule(122),
     Symbol::Rule(121),
     Symbol::Word(75),
-    // 326: inst = 'getelementptr' gep_flags type ',' typed more_indices
+    // 337: inst = 'getelementptr' gep_flags type ',' typed more_indices
     Symbol::Rule(129),
     Symbol::Rule(87),
     Symbol::Word(44),
     Symbol::Rule(62),
     Symbol::Rule(127),
     Symbol::Word(90),
-    // 327: inst = 'extractvalue' typed ',' INT more_places
+    // 338: inst = 'extractvalue' typed ',' INT more_places
     Symbol::Rule(131),
     Symbol::Leaf(3),
     Symbol::Word(44),
     Symbol::Rule(87),
     Symbol::Word(87),
-    // 328: inst = 'insertvalue' typed ',' typed ',' INT more_places
+    // 339: inst = 'insertvalue' typed ',' typed ',' INT more_places
     Symbol::Rule(131),
     Symbol::Leaf(3),
     Symbol::Word(44),
@@ -898,18 +936,18 @@ pub static SYMBOLS: [Symbol; 915] = [
     Symbol::Word(44),
     Symbol::Rule(87),
     Symbol::Word(94),
-    // 329: inst = 'phi' type entry more_entries
+    // 340: inst = 'phi' type entry more_entries
     Symbol::Rule(134),
     Symbol::Rule(133),
     Symbol::Rule(62),
     Symbol::Word(105),
-    // 330: simple = 'ret' ret
+    // 341: simple = 'ret' ret
     Symbol::Rule(89),
     Symbol::Word(107),
-    // 331: simple = 'br' br
+    // 342: simple = 'br' br
     Symbol::Rule(90),
     Symbol::Word(73),
-    // 332: simple = 'switch' typed ',' 'label' LOCAL '[' cases ']'
+    // 343: simple = 'switch' typed ',' 'label' LOCAL '[' cases ']'
     Symbol::Word(48),
     Symbol::Rule(91),
     Symbol::Word(47),
@@ -918,107 +956,163 @@ pub static SYMBOLS: [Symbol; 915] = [
     Symbol::Word(44),
     Symbol::Rule(87),
     Symbol::Word(114),
-    // 333: simple = 'indirectbr' typed ',' '[' labels ']'
+    // 344: simple = 'indirectbr' typed ',' '[' labels ']'
     Symbol::Word(48),
     Symbol::Rule(92),
     Symbol::Word(47),
     Symbol::Word(44),
     Symbol::Rule(87),
     Symbol::Word(92),
-    // 334: simple = 'unreachable'
+    // 345: simple = 'unreachable'
     Symbol::Word(120),
-    // 335: simple = sum wraps pair
+    // 346: simple = sum wraps pair
     Symbol::Rule(88),
     Symbol::Rule(95),
     Symbol::Rule(94),
-    // 336: simple = quotient lost_exact pair
+    // 347: simple = quotient lost_exact pair
     Symbol::Rule(88),
     Symbol::Rule(101),
     Symbol::Rule(100),
-    // 337: simple = bits pair
+    // 348: simple = bits pair
     Symbol::Rule(88),
     Symbol::Rule(102),
-    // 338: simple = 'or' lost_disjoint pair
+    // 349: simple = 'or' lost_disjoint pair
     Symbol::Rule(88),
     Symbol::Rule(103),
     Symbol::Word(104),
-    // 339: simple = 'icmp' lost_samesign predicate pair
+    // 350: simple = 'icmp' lost_samesign predicate pair
     Symbol::Rule(88),
     Symbol::Rule(105),
     Symbol::Rule(104),
     Symbol::Word(91),
-    // 340: simple = cast typed 'to' type
+    // 351: simple = cast typed 'to' type
     Symbol::Rule(62),
     Symbol::Word(117),
     Symbol::Rule(87),
     Symbol::Rule(106),
-    // 341: simple = 'trunc' lost_wraps typed 'to' type
+    // 352: simple = 'trunc' lost_wraps typed 'to' type
     Symbol::Rule(62),
     Symbol::Word(117),
     Symbol::Rule(87),
     Symbol::Rule(97),
     Symbol::Word(118),
-    // 342: simple = 'zext' nneg typed 'to' type
+    // 353: simple = 'zext' nneg typed 'to' type
     Symbol::Rule(62),
     Symbol::Word(117),
     Symbol::Rule(87),
     Symbol::Rule(107),
     Symbol::Word(128),
-    // 343: simple = 'fence' order
+    // 354: simple = 'fence' order
     Symbol::Rule(124),
     Symbol::Word(88),
-    // 344: simple = 'extractelement' typed ',' typed
+    // 355: simple = 'extractelement' typed ',' typed
     Symbol::Rule(87),
     Symbol::Word(44),
     Symbol::Rule(87),
     Symbol::Word(86),
-    // 345: simple = SIMPLE typed ',' typed ',' typed
+    // 356: simple = SIMPLE typed ',' typed ',' typed
     Symbol::Rule(87),
     Symbol::Word(44),
     Symbol::Rule(87),
     Symbol::Word(44),
     Symbol::Rule(87),
     Symbol::Leaf(32),
-    // 346: simple = 'shufflevector' typed ',' typed ',' tconst
+    // 357: simple = 'shufflevector' typed ',' typed ',' tconst
     Symbol::Rule(73),
     Symbol::Word(44),
     Symbol::Rule(87),
     Symbol::Word(44),
     Symbol::Rule(87),
     Symbol::Word(109),
-    // 347: simple = 'freeze' typed
+    // 358: simple = 'freeze' typed
     Symbol::Rule(87),
     Symbol::Word(89),
-    // 348: simple = 'va_arg' typed ',' type
+    // 359: simple = 'va_arg' typed ',' type
     Symbol::Rule(62),
     Symbol::Word(44),
     Symbol::Rule(87),
     Symbol::Word(122),
-    // 349: simple = tail 'call' call
+    // 360: simple = tail 'call' call
     Symbol::Rule(141),
     Symbol::Word(74),
     Symbol::Rule(140),
-    // 350: value = LOCAL
+    // 361: value = LOCAL
     Symbol::Leaf(1),
-    // 351: value = const
-    Symbol::Rule(74),
-    // 352: typed = type value
+    // 362: value = INT
+    Symbol::Leaf(3),
+    // 363: value = CONST
+    Symbol::Leaf(29),
+    // 364: value = 'null'
+    Symbol::Word(101),
+    // 365: value = '[' tconsts ']'
+    Symbol::Word(48),
+    Symbol::Rule(81),
+    Symbol::Word(47),
+    // 366: value = '{' tconsts '}'
+    Symbol::Word(50),
+    Symbol::Rule(81),
+    Symbol::Word(49),
+    // 367: value = '<' const_angle
+    Symbol::Rule(75),
+    Symbol::Word(51),
+    // 368: value = CSTR
+    Symbol::Leaf(5),
+    // 369: value = 'splat' '(' tconst ')'
+    Symbol::Word(46),
+    Symbol::Rule(73),
+    Symbol::Word(45),
+    Symbol::Word(112),
+    // 370: value = GLOBAL
+    Symbol::Leaf(0),
+    // 371: value = 'blockaddress' '(' GLOBAL ',' LOCAL ')'
+    Symbol::Word(46),
+    Symbol::Leaf(1),
+    Symbol::Word(44),
+    Symbol::Leaf(0),
+    Symbol::Word(45),
+    Symbol::Word(72),
+    // 372: value = const_cast '(' tconst 'to' type ')'
+    Symbol::Word(46),
+    Symbol::Rule(62),
+    Symbol::Word(117),
+    Symbol::Rule(73),
+    Symbol::Word(45),
+    Symbol::Rule(79),
+    // 373: value = const_sum lost_wraps '(' tconst ',' tconst ')'
+    Symbol::Word(46),
+    Symbol::Rule(73),
+    Symbol::Word(44),
+    Symbol::Rule(73),
+    Symbol::Word(45),
+    Symbol::Rule(97),
+    Symbol::Rule(80),
+    // 374: value = 'getelementptr' gep_flags in_range '(' type ',' tconst more_tconsts ')'
+    Symbol::Word(46),
+    Symbol::Rule(82),
+    Symbol::Rule(73),
+    Symbol::Word(44),
+    Symbol::Rule(62),
+    Symbol::Word(45),
+    Symbol::Rule(83),
+    Symbol::Rule(127),
+    Symbol::Word(90),
+    // 375: typed = type value
     Symbol::Rule(86),
     Symbol::Rule(62),
-    // 353: pair = type value ',' value
+    // 376: pair = type value ',' value
     Symbol::Rule(86),
     Symbol::Word(44),
     Symbol::Rule(86),
     Symbol::Rule(62),
-    // 354: ret = 'void'
+    // 377: ret = 'void'
     Symbol::Word(123),
-    // 355: ret = solid value
+    // 378: ret = solid value
     Symbol::Rule(86),
     Symbol::Rule(63),
-    // 356: br = 'label' LOCAL
+    // 379: br = 'label' LOCAL
     Symbol::Leaf(1),
     Symbol::Word(96),
-    // 357: br = typed ',' 'label' LOCAL ',' 'label' LOCAL
+    // 380: br = typed ',' 'label' LOCAL ',' 'label' LOCAL
     Symbol::Leaf(1),
     Symbol::Word(96),
     Symbol::Word(44),
@@ -1026,423 +1120,423 @@ pub static SYMBOLS: [Symbol; 915] = [
     Symbol::Word(96),
     Symbol::Word(44),
     Symbol::Rule(87),
-    // 358: cases = tconst ',' 'label' LOCAL cases
+    // 381: cases = tconst ',' 'label' LOCAL cases
     Symbol::Rule(91),
     Symbol::Leaf(1),
     Symbol::Word(96),
     Symbol::Word(44),
     Symbol::Rule(73),
-    // 359: cases = nothing
-    // 360: labels = 'label' LOCAL more_labels
+    // 382: cases = nothing
+    // 383: labels = 'label' LOCAL more_labels
     Symbol::Rule(93),
     Symbol::Leaf(1),
     Symbol::Word(96),
-    // 361: labels = nothing
-    // 362: more_labels = ',' 'label' LOCAL more_labels
+    // 384: labels = nothing
+    // 385: more_labels = ',' 'label' LOCAL more_labels
     Symbol::Rule(93),
     Symbol::Leaf(1),
     Symbol::Word(96),
     Symbol::Word(44),
-    // 363: more_labels = nothing
-    // 364: sum = CONST_SUM_RMW_KIND_SUM
+    // 386: more_labels = nothing
+    // 387: sum = CONST_SUM_RMW_KIND_SUM
     Symbol::Leaf(31),
-    // 365: sum = SUM
+    // 388: sum = SUM
     Symbol::Leaf(33),
-    // 366: wraps = 'nuw' nsw
+    // 389: wraps = 'nuw' nsw
     Symbol::Rule(96),
     Symbol::Word(102),
-    // 367: wraps = 'nsw'
+    // 390: wraps = 'nsw'
     Symbol::Word(100),
-    // 368: wraps = nothing
-    // 369: nsw = 'nsw'
+    // 391: wraps = nothing
+    // 392: nsw = 'nsw'
     Symbol::Word(100),
-    // 370: nsw = nothing
-    // 371: lost_wraps = @'nuw' lost_nsw
+    // 393: nsw = nothing
+    // 394: lost_wraps = @'nuw' lost_nsw
     Symbol::Rule(98),
     Symbol::Leaf(102),
-    // 372: lost_wraps = @'nsw' lost_nuw
+    // 395: lost_wraps = @'nsw' lost_nuw
     Symbol::Rule(99),
     Symbol::Leaf(100),
-    // 373: lost_wraps = nothing
-    // 374: lost_nsw = @'nsw'
+    // 396: lost_wraps = nothing
+    // 397: lost_nsw = @'nsw'
     Symbol::Leaf(100),
-    // 375: lost_nsw = nothing
-    // 376: lost_nuw = @'nuw'
+    // 398: lost_nsw = nothing
+    // 399: lost_nuw = @'nuw'
     Symbol::Leaf(102),
-    // 377: lost_nuw = nothing
-    // 378: quotient = QUOTIENT
+    // 400: lost_nuw = nothing
+    // 401: quotient = QUOTIENT
     Symbol::Leaf(34),
-    // 379: lost_exact = @'exact'
+    // 402: lost_exact = @'exact'
     Symbol::Leaf(83),
-    // 380: lost_exact = nothing
-    // 381: bits = BITS
+    // 403: lost_exact = nothing
+    // 404: bits = BITS
     Symbol::Leaf(35),
-    // 382: bits = BITS_RMW_KIND
+    // 405: bits = BITS_RMW_KIND
     Symbol::Leaf(36),
-    // 383: lost_disjoint = @'disjoint'
+    // 406: lost_disjoint = @'disjoint'
     Symbol::Leaf(80),
-    // 384: lost_disjoint = nothing
-    // 385: lost_samesign = @'samesign'
+    // 407: lost_disjoint = nothing
+    // 408: lost_samesign = @'samesign'
     Symbol::Leaf(108),
-    // 386: lost_samesign = nothing
-    // 387: predicate = PREDICATE
+    // 409: lost_samesign = nothing
+    // 410: predicate = PREDICATE
     Symbol::Leaf(37),
-    // 388: cast = CAST_CONST_CAST
+    // 411: cast = CAST_CONST_CAST
     Symbol::Leaf(30),
-    // 389: cast = CAST
+    // 412: cast = CAST
     Symbol::Leaf(38),
-    // 390: nneg = 'nneg'
+    // 413: nneg = 'nneg'
     Symbol::Word(98),
-    // 391: nneg = nothing
-    // 392: alloca_tail = ',' alloca_part
+    // 414: nneg = nothing
+    // 415: alloca_tail = ',' alloca_part
     Symbol::Rule(109),
     Symbol::Word(44),
-    // 393: alloca_tail = nothing
-    // 394: alloca_part = typed alloca_rest
+    // 416: alloca_tail = nothing
+    // 417: alloca_part = typed alloca_rest
     Symbol::Rule(110),
     Symbol::Rule(87),
-    // 395: alloca_part = 'align' INT alloca_end
+    // 418: alloca_part = 'align' INT alloca_end
     Symbol::Rule(112),
     Symbol::Leaf(3),
     Symbol::Word(65),
-    // 396: alloca_part = 'addrspace' '(' INT ')' attached
+    // 419: alloca_part = 'addrspace' '(' INT ')' attached
     Symbol::Rule(149),
     Symbol::Word(46),
     Symbol::Leaf(3),
     Symbol::Word(45),
     Symbol::Word(63),
-    // 397: alloca_part = mdname mdref attached
+    // 420: alloca_part = mdname mdref attached
     Symbol::Rule(149),
     Symbol::Rule(152),
     Symbol::Rule(151),
-    // 398: alloca_rest = ',' alloca_rest_part
+    // 421: alloca_rest = ',' alloca_rest_part
     Symbol::Rule(111),
     Symbol::Word(44),
-    // 399: alloca_rest = nothing
-    // 400: alloca_rest_part = 'align' INT alloca_end
+    // 422: alloca_rest = nothing
+    // 423: alloca_rest_part = 'align' INT alloca_end
     Symbol::Rule(112),
     Symbol::Leaf(3),
     Symbol::Word(65),
-    // 401: alloca_rest_part = 'addrspace' '(' INT ')' attached
+    // 424: alloca_rest_part = 'addrspace' '(' INT ')' attached
     Symbol::Rule(149),
     Symbol::Word(46),
     Symbol::Leaf(3),
     Symbol::Word(45),
     Symbol::Word(63),
-    // 402: alloca_rest_part = mdname mdref attached
+    // 425: alloca_rest_part = mdname mdref attached
     Symbol::Rule(149),
     Symbol::Rule(152),
     Symbol::Rule(151),
-    // 403: alloca_end = ',' alloca_end_part
+    // 426: alloca_end = ',' alloca_end_part
     Symbol::Rule(113),
     Symbol::Word(44),
-    // 404: alloca_end = nothing
-    // 405: alloca_end_part = 'addrspace' '(' INT ')' attached
+    // 427: alloca_end = nothing
+    // 428: alloca_end_part = 'addrspace' '(' INT ')' attached
     Symbol::Rule(149),
     Symbol::Word(46),
     Symbol::Leaf(3),
     Symbol::Word(45),
     Symbol::Word(63),
-    // 406: alloca_end_part = mdname mdref attached
+    // 429: alloca_end_part = mdname mdref attached
     Symbol::Rule(149),
     Symbol::Rule(152),
     Symbol::Rule(151),
-    // 407: load = volatile type ',' typed align_attached
+    // 430: load = volatile type ',' typed align_attached
     Symbol::Rule(136),
     Symbol::Rule(87),
     Symbol::Word(44),
     Symbol::Rule(62),
     Symbol::Rule(118),
-    // 408: load = 'atomic' atomic_load
+    // 431: load = 'atomic' atomic_load
     Symbol::Rule(115),
     Symbol::Word(69),
-    // 409: atomic_load = type ',' typed order align_attached
+    // 432: atomic_load = type ',' typed order align_attached
     Symbol::Rule(136),
     Symbol::Rule(124),
     Symbol::Rule(87),
     Symbol::Word(44),
     Symbol::Rule(62),
-    // 410: store = volatile typed ',' typed align_attached
+    // 433: store = volatile typed ',' typed align_attached
     Symbol::Rule(136),
     Symbol::Rule(87),
     Symbol::Word(44),
     Symbol::Rule(87),
     Symbol::Rule(118),
-    // 411: store = 'atomic' atomic_store
+    // 434: store = 'atomic' atomic_store
     Symbol::Rule(117),
     Symbol::Word(69),
-    // 412: atomic_store = typed ',' typed order align_attached
+    // 435: atomic_store = typed ',' typed order align_attached
     Symbol::Rule(136),
     Symbol::Rule(124),
     Symbol::Rule(87),
     Symbol::Word(44),
     Symbol::Rule(87),
-    // 413: volatile = 'volatile'
+    // 436: volatile = 'volatile'
     Symbol::Word(124),
-    // 414: volatile = nothing
-    // 415: rmw_kind = RMW_KIND
+    // 437: volatile = nothing
+    // 438: rmw_kind = RMW_KIND
     Symbol::Leaf(39),
-    // 416: rmw_kind = CONST_SUM_RMW_KIND_SUM
+    // 439: rmw_kind = CONST_SUM_RMW_KIND_SUM
     Symbol::Leaf(31),
-    // 417: rmw_kind = BITS_RMW_KIND
+    // 440: rmw_kind = BITS_RMW_KIND
     Symbol::Leaf(36),
-    // 418: rmw_kind = 'or'
+    // 441: rmw_kind = 'or'
     Symbol::Word(104),
-    // 419: address_and_value = typed ',' typed
+    // 442: address_and_value = typed ',' typed
     Symbol::Rule(87),
     Symbol::Word(44),
     Symbol::Rule(87),
-    // 420: lost_weak = @'weak'
+    // 443: lost_weak = @'weak'
     Symbol::Leaf(126),
-    // 421: lost_weak = nothing
-    // 422: exchange = typed ',' address_and_value exchange_order lost_align_attached
+    // 444: lost_weak = nothing
+    // 445: exchange = typed ',' address_and_value exchange_order lost_align_attached
     Symbol::Rule(138),
     Symbol::Rule(123),
     Symbol::Rule(120),
     Symbol::Word(44),
     Symbol::Rule(87),
-    // 423: exchange_order = scope ordering ordering
+    // 446: exchange_order = scope ordering ordering
     Symbol::Rule(126),
     Symbol::Rule(126),
     Symbol::Rule(125),
-    // 424: order = scope ordering
+    // 447: order = scope ordering
     Symbol::Rule(126),
     Symbol::Rule(125),
-    // 425: scope = 'syncscope' '(' STR ')'
+    // 448: scope = 'syncscope' '(' STR ')'
     Symbol::Word(46),
     Symbol::Leaf(4),
     Symbol::Word(45),
     Symbol::Word(115),
-    // 426: scope = nothing
-    // 427: ordering = ORDERING
+    // 449: scope = nothing
+    // 450: ordering = ORDERING
     Symbol::Leaf(40),
-    // 428: gep_flags = gep_flag gep_flags
+    // 451: gep_flags = gep_flag gep_flags
     Symbol::Rule(127),
     Symbol::Rule(128),
-    // 429: gep_flags = nothing
-    // 430: gep_flag = GEP_FLAG
+    // 452: gep_flags = nothing
+    // 453: gep_flag = GEP_FLAG
     Symbol::Leaf(41),
-    // 431: gep_flag = 'nuw'
+    // 454: gep_flag = 'nuw'
     Symbol::Word(102),
-    // 432: more_indices = ',' index_or_node
+    // 455: more_indices = ',' index_or_node
     Symbol::Rule(130),
     Symbol::Word(44),
-    // 433: more_indices = nothing
-    // 434: index_or_node = typed more_indices
+    // 456: more_indices = nothing
+    // 457: index_or_node = typed more_indices
     Symbol::Rule(129),
     Symbol::Rule(87),
-    // 435: index_or_node = mdname mdref attached
+    // 458: index_or_node = mdname mdref attached
     Symbol::Rule(149),
     Symbol::Rule(152),
     Symbol::Rule(151),
-    // 436: more_places = ',' place_or_node
+    // 459: more_places = ',' place_or_node
     Symbol::Rule(132),
     Symbol::Word(44),
-    // 437: more_places = nothing
-    // 438: place_or_node = INT more_places
+    // 460: more_places = nothing
+    // 461: place_or_node = INT more_places
     Symbol::Rule(131),
     Symbol::Leaf(3),
-    // 439: place_or_node = mdname mdref attached
+    // 462: place_or_node = mdname mdref attached
     Symbol::Rule(149),
     Symbol::Rule(152),
     Symbol::Rule(151),
-    // 440: entry = '[' value ',' LOCAL ']'
+    // 463: entry = '[' value ',' LOCAL ']'
     Symbol::Word(48),
     Symbol::Leaf(1),
     Symbol::Word(44),
     Symbol::Rule(86),
     Symbol::Word(47),
-    // 441: more_entries = ',' entry_or_node
+    // 464: more_entries = ',' entry_or_node
     Symbol::Rule(135),
     Symbol::Word(44),
-    // 442: more_entries = nothing
-    // 443: entry_or_node = entry more_entries
+    // 465: more_entries = nothing
+    // 466: entry_or_node = entry more_entries
     Symbol::Rule(134),
     Symbol::Rule(133),
-    // 444: entry_or_node = mdname mdref attached
+    // 467: entry_or_node = mdname mdref attached
     Symbol::Rule(149),
     Symbol::Rule(152),
     Symbol::Rule(151),
-    // 445: align_attached = ',' align_or_attached
+    // 468: align_attached = ',' align_or_attached
     Symbol::Rule(137),
     Symbol::Word(44),
-    // 446: align_attached = nothing
-    // 447: align_or_attached = 'align' INT attached
+    // 469: align_attached = nothing
+    // 470: align_or_attached = 'align' INT attached
     Symbol::Rule(149),
     Symbol::Leaf(3),
     Symbol::Word(65),
-    // 448: align_or_attached = mdname mdref attached
+    // 471: align_or_attached = mdname mdref attached
     Symbol::Rule(149),
     Symbol::Rule(152),
     Symbol::Rule(151),
-    // 449: lost_align_attached = ',' lost_align_or_attached
+    // 472: lost_align_attached = ',' lost_align_or_attached
     Symbol::Rule(139),
     Symbol::Word(44),
-    // 450: lost_align_attached = nothing
-    // 451: lost_align_or_attached = @'align' INT attached
+    // 473: lost_align_attached = nothing
+    // 474: lost_align_or_attached = @'align' INT attached
     Symbol::Rule(149),
     Symbol::Leaf(3),
     Symbol::Leaf(65),
-    // 452: lost_align_or_attached = mdname mdref attached
+    // 475: lost_align_or_attached = mdname mdref attached
     Symbol::Rule(149),
     Symbol::Rule(152),
     Symbol::Rule(151),
-    // 453: tail = TAIL
+    // 476: tail = TAIL
     Symbol::Leaf(42),
-    // 454: tail = nothing
-    // 455: call = lost_attrs called_type callee arguments call_attrs
+    // 477: tail = nothing
+    // 478: call = lost_attrs called_type callee arguments call_attrs
     Symbol::Rule(40),
     Symbol::Rule(145),
     Symbol::Rule(142),
     Symbol::Rule(68),
     Symbol::Rule(34),
-    // 456: callee = GLOBAL
+    // 479: callee = GLOBAL
     Symbol::Leaf(0),
-    // 457: callee = LOCAL
+    // 480: callee = LOCAL
     Symbol::Leaf(1),
-    // 458: callee = 'asm' asm
+    // 481: callee = 'asm' asm
     Symbol::Rule(143),
     Symbol::Word(68),
-    // 459: asm = 'sideeffect' asm_text
+    // 482: asm = 'sideeffect' asm_text
     Symbol::Rule(144),
     Symbol::Word(110),
-    // 460: asm = asm_text
+    // 483: asm = asm_text
     Symbol::Rule(144),
-    // 461: asm_text = STR ',' STR
+    // 484: asm_text = STR ',' STR
     Symbol::Leaf(4),
     Symbol::Word(44),
     Symbol::Leaf(4),
-    // 462: arguments = '(' args ')'
+    // 485: arguments = '(' args ')'
     Symbol::Word(46),
     Symbol::Rule(146),
     Symbol::Word(45),
-    // 463: args = arg more_args
+    // 486: args = arg more_args
     Symbol::Rule(147),
     Symbol::Rule(148),
-    // 464: args = nothing
-    // 465: more_args = ',' arg more_args
+    // 487: args = nothing
+    // 488: more_args = ',' arg more_args
     Symbol::Rule(147),
     Symbol::Rule(148),
     Symbol::Word(44),
-    // 466: more_args = nothing
-    // 467: arg = type lost_attrs value
+    // 489: more_args = nothing
+    // 490: arg = type lost_attrs value
     Symbol::Rule(86),
     Symbol::Rule(34),
     Symbol::Rule(62),
-    // 468: attached = ',' mdname mdref attached
+    // 491: attached = ',' mdname mdref attached
     Symbol::Rule(149),
     Symbol::Rule(152),
     Symbol::Rule(151),
     Symbol::Word(44),
-    // 469: attached = nothing
-    // 470: attachments = mdname mdref attachments
+    // 492: attached = nothing
+    // 493: attachments = mdname mdref attachments
     Symbol::Rule(150),
     Symbol::Rule(152),
     Symbol::Rule(151),
-    // 471: attachments = nothing
-    // 472: mdname = MDNAME
+    // 494: attachments = nothing
+    // 495: mdname = MDNAME
     Symbol::Leaf(9),
-    // 473: mdname = @'!DICompileUnit'
+    // 496: mdname = @'!DICompileUnit'
     Symbol::Leaf(56),
-    // 474: mdname = @'!DIFile'
+    // 497: mdname = @'!DIFile'
     Symbol::Leaf(57),
-    // 475: mdname = @'!DISubprogram'
+    // 498: mdname = @'!DISubprogram'
     Symbol::Leaf(61),
-    // 476: mdname = @'!DISubroutineType'
+    // 499: mdname = @'!DISubroutineType'
     Symbol::Leaf(62),
-    // 477: mdname = @'!DILexicalBlock'
+    // 500: mdname = @'!DILexicalBlock'
     Symbol::Leaf(58),
-    // 478: mdname = @'!DILexicalBlockFile'
+    // 501: mdname = @'!DILexicalBlockFile'
     Symbol::Leaf(59),
-    // 479: mdname = @'!DILocation'
+    // 502: mdname = @'!DILocation'
     Symbol::Leaf(60),
-    // 480: mdref = MDNUM
+    // 503: mdref = MDNUM
     Symbol::Leaf(8),
-    // 481: mdref = node
+    // 504: mdref = node
     Symbol::Rule(155),
-    // 482: mdrefs = mdref more_mdrefs
+    // 505: mdrefs = mdref more_mdrefs
     Symbol::Rule(154),
     Symbol::Rule(152),
-    // 483: mdrefs = nothing
-    // 484: more_mdrefs = ',' mdref more_mdrefs
+    // 506: mdrefs = nothing
+    // 507: more_mdrefs = ',' mdref more_mdrefs
     Symbol::Rule(154),
     Symbol::Rule(152),
     Symbol::Word(44),
-    // 485: more_mdrefs = nothing
-    // 486: node = '!' '{' mdops '}'
+    // 508: more_mdrefs = nothing
+    // 509: node = '!' '{' mdops '}'
     Symbol::Word(50),
     Symbol::Rule(157),
     Symbol::Word(49),
     Symbol::Word(53),
-    // 487: node = debug_node '(' fields ')'
+    // 510: node = debug_node '(' fields ')'
     Symbol::Word(46),
     Symbol::Rule(160),
     Symbol::Word(45),
     Symbol::Rule(156),
-    // 488: node = MDNAME node_parens
+    // 511: node = MDNAME node_parens
     Symbol::Rule(55),
     Symbol::Leaf(9),
-    // 489: debug_node = '!DICompileUnit'
+    // 512: debug_node = '!DICompileUnit'
     Symbol::Word(56),
-    // 490: debug_node = '!DIFile'
+    // 513: debug_node = '!DIFile'
     Symbol::Word(57),
-    // 491: debug_node = '!DISubprogram'
+    // 514: debug_node = '!DISubprogram'
     Symbol::Word(61),
-    // 492: debug_node = '!DISubroutineType'
+    // 515: debug_node = '!DISubroutineType'
     Symbol::Word(62),
-    // 493: debug_node = '!DILexicalBlock'
+    // 516: debug_node = '!DILexicalBlock'
     Symbol::Word(58),
-    // 494: debug_node = '!DILexicalBlockFile'
+    // 517: debug_node = '!DILexicalBlockFile'
     Symbol::Word(59),
-    // 495: debug_node = '!DILocation'
+    // 518: debug_node = '!DILocation'
     Symbol::Word(60),
-    // 496: mdops = mdop more_mdops
+    // 519: mdops = mdop more_mdops
     Symbol::Rule(158),
     Symbol::Rule(159),
-    // 497: mdops = nothing
-    // 498: more_mdops = ',' mdop more_mdops
+    // 520: mdops = nothing
+    // 521: more_mdops = ',' mdop more_mdops
     Symbol::Rule(158),
     Symbol::Rule(159),
     Symbol::Word(44),
-    // 499: more_mdops = nothing
-    // 500: mdop = 'null'
+    // 522: more_mdops = nothing
+    // 523: mdop = 'null'
     Symbol::Word(101),
-    // 501: mdop = MDSTR
+    // 524: mdop = MDSTR
     Symbol::Leaf(10),
-    // 502: mdop = mdref
+    // 525: mdop = mdref
     Symbol::Rule(152),
-    // 503: mdop = tconst
+    // 526: mdop = tconst
     Symbol::Rule(73),
-    // 504: fields = field more_fields
+    // 527: fields = field more_fields
     Symbol::Rule(161),
     Symbol::Rule(162),
-    // 505: fields = nothing
-    // 506: more_fields = ',' field more_fields
+    // 528: fields = nothing
+    // 529: more_fields = ',' field more_fields
     Symbol::Rule(161),
     Symbol::Rule(162),
     Symbol::Word(44),
-    // 507: more_fields = nothing
-    // 508: field = LABEL field_value
+    // 530: more_fields = nothing
+    // 531: field = LABEL field_value
     Symbol::Rule(163),
     Symbol::Leaf(2),
-    // 509: field_value = INT
+    // 532: field_value = INT
     Symbol::Leaf(3),
-    // 510: field_value = STR
+    // 533: field_value = STR
     Symbol::Leaf(4),
-    // 511: field_value = node_word more_words
+    // 534: field_value = node_word more_words
     Symbol::Rule(164),
     Symbol::Rule(61),
-    // 512: field_value = mdref
+    // 535: field_value = mdref
     Symbol::Rule(152),
-    // 513: more_words = '|' node_word more_words
+    // 536: more_words = '|' node_word more_words
     Symbol::Rule(164),
     Symbol::Rule(61),
     Symbol::Word(54),
-    // 514: more_words = nothing
+    // 537: more_words = nothing
 ];
 
 /// The alternatives of all rules.
-pub static ALTERNATIVES: [Alternative; 514] = [
+pub static ALTERNATIVES: [Alternative; 537] = [
     // file
     Alternative {
         start: 0,
@@ -1866,2829 +1960,2967 @@ pub static ALTERNATIVES: [Alternative; 514] = [
     },
     Alternative {
         start: 138,
-        end: 139,
+        end: 141,
         first: 209,
         first_end: 244,
     },
     // line
     Alternative {
-        start: 139,
-        end: 142,
+        start: 141,
+        end: 144,
         first: 244,
         first_end: 279,
     },
     // records
     Alternative {
-        start: 142,
-        end: 145,
+        start: 144,
+        end: 147,
         first: 279,
         first_end: 280,
     },
     Alternative {
-        start: 145,
-        end: 145,
+        start: 147,
+        end: 147,
         first: 280,
         first_end: 280,
     },
     // result
     Alternative {
-        start: 145,
-        end: 147,
+        start: 147,
+        end: 149,
         first: 280,
         first_end: 281,
     },
     Alternative {
-        start: 147,
-        end: 147,
+        start: 149,
+        end: 149,
         first: 281,
         first_end: 281,
     },
     // lost_attrs
     Alternative {
-        start: 147,
-        end: 149,
+        start: 149,
+        end: 151,
         first: 281,
         first_end: 290,
     },
     Alternative {
-        start: 149,
-        end: 149,
+        start: 151,
+        end: 151,
         first: 290,
         first_end: 290,
     },
     // lost_attr
     Alternative {
-        start: 149,
-        end: 150,
+        start: 151,
+        end: 152,
         first: 290,
         first_end: 291,
     },
     Alternative {
-        start: 150,
-        end: 151,
+        start: 152,
+        end: 153,
         first: 291,
         first_end: 292,
     },
     Alternative {
-        start: 151,
-        end: 152,
+        start: 153,
+        end: 154,
         first: 292,
         first_end: 293,
     },
     Alternative {
-        start: 152,
-        end: 154,
+        start: 154,
+        end: 156,
         first: 293,
         first_end: 294,
     },
     Alternative {
-        start: 154,
-        end: 158,
+        start: 156,
+        end: 160,
         first: 294,
         first_end: 295,
     },
     Alternative {
-        start: 158,
-        end: 160,
+        start: 160,
+        end: 162,
         first: 295,
         first_end: 296,
     },
     Alternative {
-        start: 160,
-        end: 162,
+        start: 162,
+        end: 164,
         first: 296,
         first_end: 297,
     },
     Alternative {
-        start: 162,
-        end: 166,
+        start: 164,
+        end: 168,
         first: 297,
         first_end: 298,
     },
     Alternative {
-        start: 166,
-        end: 168,
+        start: 168,
+        end: 170,
         first: 298,
         first_end: 299,
     },
     // text_value
     Alternative {
-        start: 168,
-        end: 170,
+        start: 170,
+        end: 172,
         first: 299,
         first_end: 300,
     },
     Alternative {
-        start: 170,
-        end: 170,
+        start: 172,
+        end: 172,
         first: 300,
         first_end: 300,
     },
     // function_attrs
     Alternative {
-        start: 170,
-        end: 172,
+        start: 172,
+        end: 174,
         first: 300,
         first_end: 314,
     },
     Alternative {
-        start: 172,
-        end: 172,
+        start: 174,
+        end: 174,
         first: 314,
         first_end: 314,
     },
     // function_attr
     Alternative {
-        start: 172,
-        end: 173,
+        start: 174,
+        end: 175,
         first: 314,
         first_end: 315,
     },
     Alternative {
-        start: 173,
-        end: 174,
+        start: 175,
+        end: 176,
         first: 315,
         first_end: 327,
     },
     Alternative {
-        start: 174,
-        end: 176,
+        start: 176,
+        end: 178,
         first: 327,
         first_end: 328,
     },
     // align_value
     Alternative {
-        start: 176,
-        end: 177,
+        start: 178,
+        end: 179,
         first: 328,
         first_end: 329,
     },
     Alternative {
-        start: 177,
-        end: 181,
+        start: 179,
+        end: 183,
         first: 329,
         first_end: 330,
     },
     // call_attrs
     Alternative {
-        start: 181,
-        end: 183,
+        start: 183,
+        end: 185,
         first: 330,
         first_end: 331,
     },
     Alternative {
-        start: 183,
-        end: 185,
+        start: 185,
+        end: 187,
         first: 331,
         first_end: 344,
     },
     Alternative {
-        start: 185,
-        end: 185,
+        start: 187,
+        end: 187,
         first: 344,
         first_end: 344,
     },
     // group_attrs
     Alternative {
-        start: 185,
-        end: 187,
+        start: 187,
+        end: 189,
         first: 344,
         first_end: 357,
     },
     Alternative {
-        start: 187,
-        end: 187,
+        start: 189,
+        end: 189,
         first: 357,
         first_end: 357,
     },
     // group_attr
     Alternative {
-        start: 187,
-        end: 188,
+        start: 189,
+        end: 190,
         first: 357,
         first_end: 369,
     },
     Alternative {
-        start: 188,
-        end: 193,
+        start: 190,
+        end: 195,
         first: 369,
         first_end: 370,
     },
     // attr
     Alternative {
-        start: 193,
-        end: 195,
+        start: 195,
+        end: 197,
         first: 370,
         first_end: 371,
     },
     Alternative {
-        start: 195,
-        end: 196,
+        start: 197,
+        end: 198,
         first: 371,
         first_end: 373,
     },
     Alternative {
-        start: 196,
-        end: 198,
+        start: 198,
+        end: 200,
         first: 373,
         first_end: 374,
     },
     Alternative {
-        start: 198,
-        end: 200,
+        start: 200,
+        end: 202,
         first: 374,
         first_end: 375,
     },
     Alternative {
-        start: 200,
-        end: 205,
+        start: 202,
+        end: 207,
         first: 375,
         first_end: 378,
     },
     Alternative {
-        start: 205,
-        end: 208,
+        start: 207,
+        end: 210,
         first: 378,
         first_end: 380,
     },
     Alternative {
-        start: 208,
-        end: 210,
+        start: 210,
+        end: 212,
         first: 380,
         first_end: 381,
     },
     Alternative {
-        start: 210,
-        end: 214,
+        start: 212,
+        end: 216,
         first: 381,
         first_end: 382,
     },
     // stack_value
     Alternative {
-        start: 214,
-        end: 217,
+        start: 216,
+        end: 219,
         first: 382,
         first_end: 383,
     },
     Alternative {
-        start: 217,
-        end: 219,
+        start: 219,
+        end: 221,
         first: 383,
         first_end: 384,
     },
     // stack_number
     Alternative {
-        start: 219,
-        end: 220,
+        start: 221,
+        end: 222,
         first: 384,
         first_end: 385,
     },
     Alternative {
-        start: 220,
-        end: 222,
+        start: 222,
+        end: 224,
         first: 385,
         first_end: 386,
     },
     // unwind_value
     Alternative {
-        start: 222,
-        end: 225,
+        start: 224,
+        end: 227,
         first: 386,
         first_end: 387,
     },
     Alternative {
-        start: 225,
-        end: 225,
+        start: 227,
+        end: 227,
         first: 387,
         first_end: 387,
     },
     // unwind_number
     Alternative {
-        start: 225,
-        end: 226,
+        start: 227,
+        end: 228,
         first: 387,
         first_end: 388,
     },
     Alternative {
-        start: 226,
-        end: 228,
+        start: 228,
+        end: 230,
         first: 388,
         first_end: 389,
     },
     // number_attr
     Alternative {
-        start: 228,
-        end: 229,
+        start: 230,
+        end: 231,
         first: 389,
         first_end: 390,
     },
     Alternative {
-        start: 229,
-        end: 230,
+        start: 231,
+        end: 232,
         first: 390,
         first_end: 391,
     },
     Alternative {
-        start: 230,
-        end: 231,
+        start: 232,
+        end: 233,
         first: 391,
         first_end: 392,
     },
     // either_attr
     Alternative {
-        start: 231,
-        end: 232,
+        start: 233,
+        end: 234,
         first: 392,
         first_end: 393,
     },
     Alternative {
-        start: 232,
-        end: 233,
+        start: 234,
+        end: 235,
         first: 393,
         first_end: 394,
     },
     // number_or_inside
     Alternative {
-        start: 233,
-        end: 236,
+        start: 235,
+        end: 238,
         first: 394,
         first_end: 395,
     },
     Alternative {
-        start: 236,
-        end: 237,
+        start: 238,
+        end: 239,
         first: 395,
         first_end: 396,
     },
     Alternative {
-        start: 237,
-        end: 240,
+        start: 239,
+        end: 242,
         first: 396,
         first_end: 397,
     },
     Alternative {
-        start: 240,
-        end: 242,
+        start: 242,
+        end: 244,
         first: 397,
         first_end: 492,
     },
     Alternative {
-        start: 242,
-        end: 244,
+        start: 244,
+        end: 246,
         first: 492,
         first_end: 521,
     },
     // range_attr
     Alternative {
-        start: 244,
-        end: 245,
+        start: 246,
+        end: 247,
         first: 521,
         first_end: 522,
     },
     // enum_attr
     Alternative {
-        start: 245,
-        end: 246,
+        start: 247,
+        end: 248,
         first: 522,
         first_end: 523,
     },
     Alternative {
-        start: 246,
-        end: 247,
+        start: 248,
+        end: 249,
         first: 523,
         first_end: 524,
     },
     // parens
     Alternative {
-        start: 247,
-        end: 249,
+        start: 249,
+        end: 251,
         first: 524,
         first_end: 525,
     },
     // inside
     Alternative {
-        start: 249,
-        end: 250,
+        start: 251,
+        end: 252,
         first: 525,
         first_end: 526,
     },
     Alternative {
-        start: 250,
-        end: 253,
+        start: 252,
+        end: 255,
         first: 526,
         first_end: 527,
     },
     Alternative {
-        start: 253,
-        end: 255,
+        start: 255,
+        end: 257,
         first: 527,
         first_end: 623,
     },
     Alternative {
-        start: 255,
-        end: 257,
+        start: 257,
+        end: 259,
         first: 623,
         first_end: 652,
     },
     // node_parens
     Alternative {
-        start: 257,
-        end: 259,
+        start: 259,
+        end: 261,
         first: 652,
         first_end: 653,
     },
     // node_inside
     Alternative {
-        start: 259,
-        end: 260,
+        start: 261,
+        end: 262,
         first: 653,
         first_end: 654,
     },
     Alternative {
-        start: 260,
-        end: 263,
+        start: 262,
+        end: 265,
         first: 654,
         first_end: 655,
     },
     Alternative {
-        start: 263,
-        end: 265,
+        start: 265,
+        end: 267,
         first: 655,
         first_end: 752,
     },
     Alternative {
-        start: 265,
-        end: 267,
+        start: 267,
+        end: 269,
         first: 752,
         first_end: 781,
     },
     Alternative {
-        start: 267,
-        end: 269,
+        start: 269,
+        end: 271,
         first: 781,
         first_end: 782,
     },
     // plain
     Alternative {
-        start: 269,
-        end: 270,
+        start: 271,
+        end: 272,
         first: 782,
         first_end: 783,
     },
     Alternative {
-        start: 270,
-        end: 271,
+        start: 272,
+        end: 273,
         first: 783,
         first_end: 784,
     },
     Alternative {
-        start: 271,
-        end: 272,
+        start: 273,
+        end: 274,
         first: 784,
         first_end: 785,
     },
     Alternative {
-        start: 272,
-        end: 273,
+        start: 274,
+        end: 275,
         first: 785,
         first_end: 786,
     },
     Alternative {
-        start: 273,
-        end: 274,
+        start: 275,
+        end: 276,
         first: 786,
         first_end: 787,
     },
     Alternative {
-        start: 274,
-        end: 275,
+        start: 276,
+        end: 277,
         first: 787,
         first_end: 788,
     },
     Alternative {
-        start: 275,
-        end: 276,
+        start: 277,
+        end: 278,
         first: 788,
         first_end: 789,
     },
     Alternative {
-        start: 276,
-        end: 277,
+        start: 278,
+        end: 279,
         first: 789,
         first_end: 790,
     },
     Alternative {
-        start: 277,
-        end: 278,
+        start: 279,
+        end: 280,
         first: 790,
         first_end: 791,
     },
     Alternative {
-        start: 278,
-        end: 279,
+        start: 280,
+        end: 281,
         first: 791,
         first_end: 792,
     },
     Alternative {
-        start: 279,
-        end: 280,
+        start: 281,
+        end: 282,
         first: 792,
         first_end: 800,
     },
     Alternative {
-        start: 280,
-        end: 281,
+        start: 282,
+        end: 283,
         first: 800,
         first_end: 811,
     },
     // mark
     Alternative {
-        start: 281,
-        end: 282,
+        start: 283,
+        end: 284,
         first: 811,
         first_end: 812,
     },
     Alternative {
-        start: 282,
-        end: 283,
+        start: 284,
+        end: 285,
         first: 812,
         first_end: 813,
     },
     Alternative {
-        start: 283,
-        end: 284,
+        start: 285,
+        end: 286,
         first: 813,
         first_end: 814,
     },
     Alternative {
-        start: 284,
-        end: 285,
+        start: 286,
+        end: 287,
         first: 814,
         first_end: 815,
     },
     Alternative {
-        start: 285,
-        end: 286,
+        start: 287,
+        end: 288,
         first: 815,
         first_end: 816,
     },
     Alternative {
-        start: 286,
-        end: 287,
+        start: 288,
+        end: 289,
         first: 816,
         first_end: 817,
     },
     Alternative {
-        start: 287,
-        end: 288,
+        start: 289,
+        end: 290,
         first: 817,
         first_end: 818,
     },
     Alternative {
-        start: 288,
-        end: 289,
+        start: 290,
+        end: 291,
         first: 818,
         first_end: 819,
     },
     Alternative {
-        start: 289,
-        end: 290,
+        start: 291,
+        end: 292,
         first: 819,
         first_end: 820,
     },
     Alternative {
-        start: 290,
-        end: 291,
+        start: 292,
+        end: 293,
         first: 820,
         first_end: 821,
     },
     Alternative {
-        start: 291,
-        end: 292,
+        start: 293,
+        end: 294,
         first: 821,
         first_end: 822,
     },
     // most_words
     Alternative {
-        start: 292,
-        end: 293,
+        start: 294,
+        end: 295,
         first: 822,
         first_end: 823,
     },
     Alternative {
-        start: 293,
-        end: 294,
+        start: 295,
+        end: 296,
         first: 823,
         first_end: 824,
     },
     Alternative {
-        start: 294,
-        end: 295,
+        start: 296,
+        end: 297,
         first: 824,
         first_end: 825,
     },
     Alternative {
-        start: 295,
-        end: 296,
+        start: 297,
+        end: 298,
         first: 825,
         first_end: 826,
     },
     Alternative {
-        start: 296,
-        end: 297,
+        start: 298,
+        end: 299,
         first: 826,
         first_end: 827,
     },
     Alternative {
-        start: 297,
-        end: 298,
+        start: 299,
+        end: 300,
         first: 827,
         first_end: 828,
     },
     Alternative {
-        start: 298,
-        end: 299,
+        start: 300,
+        end: 301,
         first: 828,
         first_end: 829,
     },
     Alternative {
-        start: 299,
-        end: 300,
+        start: 301,
+        end: 302,
         first: 829,
         first_end: 830,
     },
     Alternative {
-        start: 300,
-        end: 301,
+        start: 302,
+        end: 303,
         first: 830,
         first_end: 831,
     },
     Alternative {
-        start: 301,
-        end: 302,
+        start: 303,
+        end: 304,
         first: 831,
         first_end: 832,
     },
     Alternative {
-        start: 302,
-        end: 303,
+        start: 304,
+        end: 305,
         first: 832,
         first_end: 833,
     },
     Alternative {
-        start: 303,
-        end: 304,
+        start: 305,
+        end: 306,
         first: 833,
         first_end: 834,
     },
     Alternative {
-        start: 304,
-        end: 305,
+        start: 306,
+        end: 307,
         first: 834,
         first_end: 835,
     },
     Alternative {
-        start: 305,
-        end: 306,
+        start: 307,
+        end: 308,
         first: 835,
         first_end: 836,
     },
     Alternative {
-        start: 306,
-        end: 307,
+        start: 308,
+        end: 309,
         first: 836,
         first_end: 837,
     },
     Alternative {
-        start: 307,
-        end: 308,
+        start: 309,
+        end: 310,
         first: 837,
         first_end: 838,
     },
     Alternative {
-        start: 308,
-        end: 309,
+        start: 310,
+        end: 311,
         first: 838,
         first_end: 839,
     },
     Alternative {
-        start: 309,
-        end: 310,
+        start: 311,
+        end: 312,
         first: 839,
         first_end: 840,
     },
     Alternative {
-        start: 310,
-        end: 311,
+        start: 312,
+        end: 313,
         first: 840,
         first_end: 841,
     },
     Alternative {
-        start: 311,
-        end: 312,
+        start: 313,
+        end: 314,
         first: 841,
         first_end: 842,
     },
     Alternative {
-        start: 312,
-        end: 313,
+        start: 314,
+        end: 315,
         first: 842,
         first_end: 843,
     },
     Alternative {
-        start: 313,
-        end: 314,
+        start: 315,
+        end: 316,
         first: 843,
         first_end: 844,
     },
     Alternative {
-        start: 314,
-        end: 315,
+        start: 316,
+        end: 317,
         first: 844,
         first_end: 845,
     },
     Alternative {
-        start: 315,
-        end: 316,
+        start: 317,
+        end: 318,
         first: 845,
         first_end: 846,
     },
     Alternative {
-        start: 316,
-        end: 317,
+        start: 318,
+        end: 319,
         first: 846,
         first_end: 847,
     },
     Alternative {
-        start: 317,
-        end: 318,
+        start: 319,
+        end: 320,
         first: 847,
         first_end: 848,
     },
     Alternative {
-        start: 318,
-        end: 319,
+        start: 320,
+        end: 321,
         first: 848,
         first_end: 849,
     },
     Alternative {
-        start: 319,
-        end: 320,
+        start: 321,
+        end: 322,
         first: 849,
         first_end: 850,
     },
     Alternative {
-        start: 320,
-        end: 321,
+        start: 322,
+        end: 323,
         first: 850,
         first_end: 851,
     },
     Alternative {
-        start: 321,
-        end: 322,
+        start: 323,
+        end: 324,
         first: 851,
         first_end: 852,
     },
     Alternative {
-        start: 322,
-        end: 323,
+        start: 324,
+        end: 325,
         first: 852,
         first_end: 853,
     },
     Alternative {
-        start: 323,
-        end: 324,
+        start: 325,
+        end: 326,
         first: 853,
         first_end: 854,
     },
     Alternative {
-        start: 324,
-        end: 325,
+        start: 326,
+        end: 327,
         first: 854,
         first_end: 855,
     },
     Alternative {
-        start: 325,
-        end: 326,
+        start: 327,
+        end: 328,
         first: 855,
         first_end: 856,
     },
     Alternative {
-        start: 326,
-        end: 327,
+        start: 328,
+        end: 329,
         first: 856,
         first_end: 857,
     },
     Alternative {
-        start: 327,
-        end: 328,
+        start: 329,
+        end: 330,
         first: 857,
         first_end: 858,
     },
     Alternative {
-        start: 328,
-        end: 329,
+        start: 330,
+        end: 331,
         first: 858,
         first_end: 859,
     },
     Alternative {
-        start: 329,
-        end: 330,
+        start: 331,
+        end: 332,
         first: 859,
         first_end: 860,
     },
     Alternative {
-        start: 330,
-        end: 331,
+        start: 332,
+        end: 333,
         first: 860,
         first_end: 861,
     },
     Alternative {
-        start: 331,
-        end: 332,
+        start: 333,
+        end: 334,
         first: 861,
         first_end: 862,
     },
     Alternative {
-        start: 332,
-        end: 333,
+        start: 334,
+        end: 335,
         first: 862,
         first_end: 863,
     },
     Alternative {
-        start: 333,
-        end: 334,
+        start: 335,
+        end: 336,
         first: 863,
         first_end: 864,
     },
     Alternative {
-        start: 334,
-        end: 335,
+        start: 336,
+        end: 337,
         first: 864,
         first_end: 865,
     },
     Alternative {
-        start: 335,
-        end: 336,
+        start: 337,
+        end: 338,
         first: 865,
         first_end: 866,
     },
     Alternative {
-        start: 336,
-        end: 337,
+        start: 338,
+        end: 339,
         first: 866,
         first_end: 867,
     },
     Alternative {
-        start: 337,
-        end: 338,
+        start: 339,
+        end: 340,
         first: 867,
         first_end: 868,
     },
     Alternative {
-        start: 338,
-        end: 339,
+        start: 340,
+        end: 341,
         first: 868,
         first_end: 869,
     },
     Alternative {
-        start: 339,
-        end: 340,
+        start: 341,
+        end: 342,
         first: 869,
         first_end: 870,
     },
     Alternative {
-        start: 340,
-        end: 341,
+        start: 342,
+        end: 343,
         first: 870,
         first_end: 871,
     },
     Alternative {
-        start: 341,
-        end: 342,
+        start: 343,
+        end: 344,
         first: 871,
         first_end: 872,
     },
     Alternative {
-        start: 342,
-        end: 343,
+        start: 344,
+        end: 345,
         first: 872,
         first_end: 873,
     },
     Alternative {
-        start: 343,
-        end: 344,
+        start: 345,
+        end: 346,
         first: 873,
         first_end: 874,
     },
     Alternative {
-        start: 344,
-        end: 345,
+        start: 346,
+        end: 347,
         first: 874,
         first_end: 875,
     },
     Alternative {
-        start: 345,
-        end: 346,
+        start: 347,
+        end: 348,
         first: 875,
         first_end: 876,
     },
     Alternative {
-        start: 346,
-        end: 347,
+        start: 348,
+        end: 349,
         first: 876,
         first_end: 877,
     },
     Alternative {
-        start: 347,
-        end: 348,
+        start: 349,
+        end: 350,
         first: 877,
         first_end: 878,
     },
     Alternative {
-        start: 348,
-        end: 349,
+        start: 350,
+        end: 351,
         first: 878,
         first_end: 879,
     },
     Alternative {
-        start: 349,
-        end: 350,
+        start: 351,
+        end: 352,
         first: 879,
         first_end: 880,
     },
     Alternative {
-        start: 350,
-        end: 351,
+        start: 352,
+        end: 353,
         first: 880,
         first_end: 881,
     },
     Alternative {
-        start: 351,
-        end: 352,
+        start: 353,
+        end: 354,
         first: 881,
         first_end: 882,
     },
     Alternative {
-        start: 352,
-        end: 353,
+        start: 354,
+        end: 355,
         first: 882,
         first_end: 883,
     },
     Alternative {
-        start: 353,
-        end: 354,
+        start: 355,
+        end: 356,
         first: 883,
         first_end: 884,
     },
     Alternative {
-        start: 354,
-        end: 355,
+        start: 356,
+        end: 357,
         first: 884,
         first_end: 885,
     },
     Alternative {
-        start: 355,
-        end: 356,
+        start: 357,
+        end: 358,
         first: 885,
         first_end: 886,
     },
     Alternative {
-        start: 356,
-        end: 357,
+        start: 358,
+        end: 359,
         first: 886,
         first_end: 887,
     },
     Alternative {
-        start: 357,
-        end: 358,
+        start: 359,
+        end: 360,
         first: 887,
         first_end: 888,
     },
     Alternative {
-        start: 358,
-        end: 359,
+        start: 360,
+        end: 361,
         first: 888,
         first_end: 889,
     },
     Alternative {
-        start: 359,
-        end: 360,
+        start: 361,
+        end: 362,
         first: 889,
         first_end: 890,
     },
     Alternative {
-        start: 360,
-        end: 361,
+        start: 362,
+        end: 363,
         first: 890,
         first_end: 891,
     },
     Alternative {
-        start: 361,
-        end: 362,
+        start: 363,
+        end: 364,
         first: 891,
         first_end: 892,
     },
     Alternative {
-        start: 362,
-        end: 363,
+        start: 364,
+        end: 365,
         first: 892,
         first_end: 893,
     },
     Alternative {
-        start: 363,
-        end: 364,
+        start: 365,
+        end: 366,
         first: 893,
         first_end: 894,
     },
     Alternative {
-        start: 364,
-        end: 365,
+        start: 366,
+        end: 367,
         first: 894,
         first_end: 895,
     },
     Alternative {
-        start: 365,
-        end: 366,
+        start: 367,
+        end: 368,
         first: 895,
         first_end: 896,
     },
     Alternative {
-        start: 366,
-        end: 367,
+        start: 368,
+        end: 369,
         first: 896,
         first_end: 897,
     },
     Alternative {
-        start: 367,
-        end: 368,
+        start: 369,
+        end: 370,
         first: 897,
         first_end: 898,
     },
     Alternative {
-        start: 368,
-        end: 369,
+        start: 370,
+        end: 371,
         first: 898,
         first_end: 899,
     },
     Alternative {
-        start: 369,
-        end: 370,
+        start: 371,
+        end: 372,
         first: 899,
         first_end: 900,
     },
     Alternative {
-        start: 370,
-        end: 371,
+        start: 372,
+        end: 373,
         first: 900,
         first_end: 901,
     },
     Alternative {
-        start: 371,
-        end: 372,
+        start: 373,
+        end: 374,
         first: 901,
         first_end: 902,
     },
     Alternative {
-        start: 372,
-        end: 373,
+        start: 374,
+        end: 375,
         first: 902,
         first_end: 903,
     },
     Alternative {
-        start: 373,
-        end: 374,
+        start: 375,
+        end: 376,
         first: 903,
         first_end: 904,
     },
     Alternative {
-        start: 374,
-        end: 375,
+        start: 376,
+        end: 377,
         first: 904,
         first_end: 905,
     },
     Alternative {
-        start: 375,
-        end: 376,
+        start: 377,
+        end: 378,
         first: 905,
         first_end: 906,
     },
     Alternative {
-        start: 376,
-        end: 377,
+        start: 378,
+        end: 379,
         first: 906,
         first_end: 907,
     },
     Alternative {
-        start: 377,
-        end: 378,
+        start: 379,
+        end: 380,
         first: 907,
         first_end: 908,
     },
     Alternative {
-        start: 378,
-        end: 379,
+        start: 380,
+        end: 381,
         first: 908,
         first_end: 909,
     },
     Alternative {
-        start: 379,
-        end: 380,
+        start: 381,
+        end: 382,
         first: 909,
         first_end: 910,
     },
     Alternative {
-        start: 380,
-        end: 381,
+        start: 382,
+        end: 383,
         first: 910,
         first_end: 911,
     },
     Alternative {
-        start: 381,
-        end: 382,
+        start: 383,
+        end: 384,
         first: 911,
         first_end: 912,
     },
     Alternative {
-        start: 382,
-        end: 383,
+        start: 384,
+        end: 385,
         first: 912,
         first_end: 913,
     },
     Alternative {
-        start: 383,
-        end: 384,
+        start: 385,
+        end: 386,
         first: 913,
         first_end: 914,
     },
     Alternative {
-        start: 384,
-        end: 385,
+        start: 386,
+        end: 387,
         first: 914,
         first_end: 915,
     },
     Alternative {
-        start: 385,
-        end: 386,
+        start: 387,
+        end: 388,
         first: 915,
         first_end: 916,
     },
     Alternative {
-        start: 386,
-        end: 387,
+        start: 388,
+        end: 389,
         first: 916,
         first_end: 917,
     },
     // any_word
     Alternative {
-        start: 387,
-        end: 388,
+        start: 389,
+        end: 390,
         first: 917,
         first_end: 1012,
     },
     Alternative {
-        start: 388,
-        end: 389,
+        start: 390,
+        end: 391,
         first: 1012,
         first_end: 1013,
     },
     // node_word
     Alternative {
-        start: 389,
-        end: 390,
+        start: 391,
+        end: 392,
         first: 1013,
         first_end: 1109,
     },
     Alternative {
-        start: 390,
-        end: 391,
+        start: 392,
+        end: 393,
         first: 1109,
         first_end: 1110,
     },
     // type
     Alternative {
-        start: 391,
-        end: 392,
+        start: 393,
+        end: 394,
         first: 1110,
         first_end: 1111,
     },
     Alternative {
-        start: 392,
-        end: 393,
+        start: 394,
+        end: 395,
         first: 1111,
+        first_end: 1112,
+    },
+    Alternative {
+        start: 395,
+        end: 397,
+        first: 1112,
+        first_end: 1113,
+    },
+    Alternative {
+        start: 397,
+        end: 398,
+        first: 1113,
+        first_end: 1114,
+    },
+    Alternative {
+        start: 398,
+        end: 403,
+        first: 1114,
+        first_end: 1115,
+    },
+    Alternative {
+        start: 403,
+        end: 405,
+        first: 1115,
+        first_end: 1116,
+    },
+    Alternative {
+        start: 405,
+        end: 406,
+        first: 1116,
+        first_end: 1117,
+    },
+    Alternative {
+        start: 406,
+        end: 409,
+        first: 1117,
         first_end: 1118,
     },
     // solid
     Alternative {
-        start: 393,
-        end: 394,
+        start: 409,
+        end: 410,
         first: 1118,
+        first_end: 1119,
+    },
+    Alternative {
+        start: 410,
+        end: 412,
+        first: 1119,
+        first_end: 1120,
+    },
+    Alternative {
+        start: 412,
+        end: 413,
+        first: 1120,
+        first_end: 1121,
+    },
+    Alternative {
+        start: 413,
+        end: 418,
+        first: 1121,
+        first_end: 1122,
+    },
+    Alternative {
+        start: 418,
+        end: 420,
+        first: 1122,
+        first_end: 1123,
+    },
+    Alternative {
+        start: 420,
+        end: 421,
+        first: 1123,
         first_end: 1124,
     },
     Alternative {
-        start: 394,
-        end: 397,
+        start: 421,
+        end: 424,
         first: 1124,
         first_end: 1125,
     },
     // flat
     Alternative {
-        start: 397,
-        end: 398,
+        start: 424,
+        end: 425,
         first: 1125,
         first_end: 1126,
     },
     Alternative {
-        start: 398,
-        end: 400,
+        start: 425,
+        end: 427,
         first: 1126,
         first_end: 1127,
     },
     Alternative {
-        start: 400,
-        end: 401,
+        start: 427,
+        end: 428,
         first: 1127,
         first_end: 1128,
     },
     Alternative {
-        start: 401,
-        end: 406,
+        start: 428,
+        end: 433,
         first: 1128,
         first_end: 1129,
     },
     Alternative {
-        start: 406,
-        end: 408,
+        start: 433,
+        end: 435,
         first: 1129,
         first_end: 1130,
     },
     Alternative {
-        start: 408,
-        end: 409,
+        start: 435,
+        end: 436,
         first: 1130,
         first_end: 1131,
     },
     // angle_type
     Alternative {
-        start: 409,
-        end: 413,
+        start: 436,
+        end: 440,
         first: 1131,
         first_end: 1132,
     },
     Alternative {
-        start: 413,
-        end: 419,
+        start: 440,
+        end: 446,
         first: 1132,
         first_end: 1133,
     },
     Alternative {
-        start: 419,
-        end: 423,
+        start: 446,
+        end: 450,
         first: 1133,
         first_end: 1134,
     },
     // types
     Alternative {
-        start: 423,
-        end: 425,
+        start: 450,
+        end: 452,
         first: 1134,
         first_end: 1142,
     },
     Alternative {
-        start: 425,
-        end: 425,
+        start: 452,
+        end: 452,
         first: 1142,
         first_end: 1142,
     },
     // more_types
     Alternative {
-        start: 425,
-        end: 428,
+        start: 452,
+        end: 455,
         first: 1142,
         first_end: 1143,
     },
     Alternative {
-        start: 428,
-        end: 428,
+        start: 455,
+        end: 455,
         first: 1143,
         first_end: 1143,
     },
     // called_type
     Alternative {
-        start: 428,
-        end: 430,
+        start: 455,
+        end: 457,
         first: 1143,
         first_end: 1151,
     },
     // signature
     Alternative {
-        start: 430,
-        end: 433,
+        start: 457,
+        end: 460,
         first: 1151,
         first_end: 1152,
     },
     Alternative {
-        start: 433,
-        end: 433,
+        start: 460,
+        end: 460,
         first: 1152,
         first_end: 1152,
     },
     // argument_types
     Alternative {
-        start: 433,
-        end: 435,
+        start: 460,
+        end: 462,
         first: 1152,
         first_end: 1160,
     },
     Alternative {
-        start: 435,
-        end: 436,
+        start: 462,
+        end: 463,
         first: 1160,
         first_end: 1161,
     },
     Alternative {
-        start: 436,
-        end: 436,
+        start: 463,
+        end: 463,
         first: 1161,
         first_end: 1161,
     },
     // more_argument_types
     Alternative {
-        start: 436,
-        end: 438,
+        start: 463,
+        end: 465,
         first: 1161,
         first_end: 1162,
     },
     Alternative {
-        start: 438,
-        end: 438,
+        start: 465,
+        end: 465,
         first: 1162,
         first_end: 1162,
     },
     // type_or_dots
     Alternative {
-        start: 438,
-        end: 440,
+        start: 465,
+        end: 467,
         first: 1162,
         first_end: 1170,
     },
     Alternative {
-        start: 440,
-        end: 441,
+        start: 467,
+        end: 468,
         first: 1170,
         first_end: 1171,
     },
     // tconst
     Alternative {
-        start: 441,
-        end: 443,
+        start: 468,
+        end: 470,
         first: 1171,
         first_end: 1179,
     },
     // const
     Alternative {
-        start: 443,
-        end: 444,
+        start: 470,
+        end: 471,
         first: 1179,
         first_end: 1180,
     },
     Alternative {
-        start: 444,
-        end: 445,
+        start: 471,
+        end: 472,
         first: 1180,
         first_end: 1181,
     },
     Alternative {
-        start: 445,
-        end: 446,
+        start: 472,
+        end: 473,
         first: 1181,
         first_end: 1182,
     },
     Alternative {
-        start: 446,
-        end: 449,
+        start: 473,
+        end: 476,
         first: 1182,
         first_end: 1183,
     },
     Alternative {
-        start: 449,
-        end: 452,
+        start: 476,
+        end: 479,
         first: 1183,
         first_end: 1184,
     },
     Alternative {
-        start: 452,
-        end: 454,
+        start: 479,
+        end: 481,
         first: 1184,
         first_end: 1185,
     },
     Alternative {
-        start: 454,
-        end: 455,
+        start: 481,
+        end: 482,
         first: 1185,
         first_end: 1186,
     },
     Alternative {
-        start: 455,
-        end: 459,
+        start: 482,
+        end: 486,
         first: 1186,
         first_end: 1187,
     },
     Alternative {
-        start: 459,
-        end: 460,
+        start: 486,
+        end: 487,
         first: 1187,
         first_end: 1188,
     },
     Alternative {
-        start: 460,
-        end: 466,
+        start: 487,
+        end: 493,
         first: 1188,
         first_end: 1189,
     },
     Alternative {
-        start: 466,
-        end: 472,
+        start: 493,
+        end: 499,
         first: 1189,
         first_end: 1191,
     },
     Alternative {
-        start: 472,
-        end: 479,
+        start: 499,
+        end: 506,
         first: 1191,
         first_end: 1192,
     },
     Alternative {
-        start: 479,
-        end: 488,
+        start: 506,
+        end: 515,
         first: 1192,
         first_end: 1193,
     },
     // const_angle
     Alternative {
-        start: 488,
-        end: 490,
+        start: 515,
+        end: 517,
         first: 1193,
         first_end: 1194,
     },
     Alternative {
-        start: 490,
-        end: 494,
+        start: 517,
+        end: 521,
         first: 1194,
         first_end: 1200,
     },
     Alternative {
-        start: 494,
-        end: 498,
+        start: 521,
+        end: 525,
         first: 1200,
         first_end: 1201,
     },
     // const_brace
     Alternative {
-        start: 498,
-        end: 500,
+        start: 525,
+        end: 527,
         first: 1201,
         first_end: 1202,
     },
     Alternative {
-        start: 500,
-        end: 502,
+        start: 527,
+        end: 529,
         first: 1202,
         first_end: 1210,
     },
     // const_empty
     Alternative {
-        start: 502,
-        end: 503,
+        start: 529,
+        end: 530,
         first: 1210,
         first_end: 1211,
     },
     Alternative {
-        start: 503,
-        end: 506,
+        start: 530,
+        end: 533,
         first: 1211,
         first_end: 1225,
     },
     // const_braced
     Alternative {
-        start: 506,
-        end: 510,
+        start: 533,
+        end: 537,
         first: 1225,
         first_end: 1239,
     },
     Alternative {
-        start: 510,
-        end: 515,
+        start: 537,
+        end: 542,
         first: 1239,
         first_end: 1241,
     },
     // const_cast
     Alternative {
-        start: 515,
-        end: 516,
+        start: 542,
+        end: 543,
         first: 1241,
         first_end: 1242,
     },
     Alternative {
-        start: 516,
-        end: 517,
+        start: 543,
+        end: 544,
         first: 1242,
         first_end: 1243,
     },
     // const_sum
     Alternative {
-        start: 517,
-        end: 518,
+        start: 544,
+        end: 545,
         first: 1243,
         first_end: 1244,
     },
     // tconsts
     Alternative {
-        start: 518,
-        end: 520,
+        start: 545,
+        end: 547,
         first: 1244,
         first_end: 1252,
     },
     Alternative {
-        start: 520,
-        end: 520,
+        start: 547,
+        end: 547,
         first: 1252,
         first_end: 1252,
     },
     // more_tconsts
     Alternative {
-        start: 520,
-        end: 523,
+        start: 547,
+        end: 550,
         first: 1252,
         first_end: 1253,
     },
     Alternative {
-        start: 523,
-        end: 523,
+        start: 550,
+        end: 550,
         first: 1253,
         first_end: 1253,
     },
     // in_range
     Alternative {
-        start: 523,
-        end: 525,
+        start: 550,
+        end: 552,
         first: 1253,
         first_end: 1254,
     },
     Alternative {
-        start: 525,
-        end: 525,
+        start: 552,
+        end: 552,
         first: 1254,
         first_end: 1254,
     },
     // inst
     Alternative {
-        start: 525,
-        end: 527,
+        start: 552,
+        end: 554,
         first: 1254,
         first_end: 1278,
     },
     Alternative {
-        start: 527,
-        end: 530,
+        start: 554,
+        end: 557,
         first: 1278,
         first_end: 1279,
     },
     Alternative {
-        start: 530,
-        end: 532,
+        start: 557,
+        end: 559,
         first: 1279,
         first_end: 1280,
     },
     Alternative {
-        start: 532,
-        end: 534,
+        start: 559,
+        end: 561,
         first: 1280,
         first_end: 1281,
     },
     Alternative {
-        start: 534,
-        end: 539,
+        start: 561,
+        end: 566,
         first: 1281,
         first_end: 1282,
     },
     Alternative {
-        start: 539,
-        end: 542,
+        start: 566,
+        end: 569,
         first: 1282,
         first_end: 1283,
     },
     Alternative {
-        start: 542,
-        end: 548,
+        start: 569,
+        end: 575,
         first: 1283,
         first_end: 1284,
     },
     Alternative {
-        start: 548,
-        end: 553,
+        start: 575,
+        end: 580,
         first: 1284,
         first_end: 1285,
     },
     Alternative {
-        start: 553,
-        end: 560,
+        start: 580,
+        end: 587,
         first: 1285,
         first_end: 1286,
     },
     Alternative {
-        start: 560,
-        end: 564,
+        start: 587,
+        end: 591,
         first: 1286,
         first_end: 1287,
     },
     // simple
     Alternative {
-        start: 564,
-        end: 566,
+        start: 591,
+        end: 593,
         first: 1287,
         first_end: 1288,
     },
     Alternative {
-        start: 566,
-        end: 568,
+        start: 593,
+        end: 595,
         first: 1288,
         first_end: 1289,
     },
     Alternative {
-        start: 568,
-        end: 576,
+        start: 595,
+        end: 603,
         first: 1289,
         first_end: 1290,
     },
     Alternative {
-        start: 576,
-        end: 582,
+        start: 603,
+        end: 609,
         first: 1290,
         first_end: 1291,
     },
     Alternative {
-        start: 582,
-        end: 583,
+        start: 609,
+        end: 610,
         first: 1291,
         first_end: 1292,
     },
     Alternative {
-        start: 583,
-        end: 586,
+        start: 610,
+        end: 613,
         first: 1292,
         first_end: 1294,
     },
     Alternative {
-        start: 586,
-        end: 589,
+        start: 613,
+        end: 616,
         first: 1294,
         first_end: 1295,
     },
     Alternative {
-        start: 589,
-        end: 591,
+        start: 616,
+        end: 618,
         first: 1295,
         first_end: 1297,
     },
     Alternative {
-        start: 591,
-        end: 594,
+        start: 618,
+        end: 621,
         first: 1297,
         first_end: 1298,
     },
     Alternative {
-        start: 594,
-        end: 598,
+        start: 621,
+        end: 625,
         first: 1298,
         first_end: 1299,
     },
     Alternative {
-        start: 598,
-        end: 602,
+        start: 625,
+        end: 629,
         first: 1299,
         first_end: 1301,
     },
     Alternative {
-        start: 602,
-        end: 607,
+        start: 629,
+        end: 634,
         first: 1301,
         first_end: 1302,
     },
     Alternative {
-        start: 607,
-        end: 612,
+        start: 634,
+        end: 639,
         first: 1302,
         first_end: 1303,
     },
     Alternative {
-        start: 612,
-        end: 614,
+        start: 639,
+        end: 641,
         first: 1303,
         first_end: 1304,
     },
     Alternative {
-        start: 614,
-        end: 618,
+        start: 641,
+        end: 645,
         first: 1304,
         first_end: 1305,
     },
     Alternative {
-        start: 618,
-        end: 624,
+        start: 645,
+        end: 651,
         first: 1305,
         first_end: 1306,
     },
     Alternative {
-        start: 624,
-        end: 630,
+        start: 651,
+        end: 657,
         first: 1306,
         first_end: 1307,
     },
     Alternative {
-        start: 630,
-        end: 632,
+        start: 657,
+        end: 659,
         first: 1307,
         first_end: 1308,
     },
     Alternative {
-        start: 632,
-        end: 636,
+        start: 659,
+        end: 663,
         first: 1308,
         first_end: 1309,
     },
     Alternative {
-        start: 636,
-        end: 639,
+        start: 663,
+        end: 666,
         first: 1309,
         first_end: 1311,
     },
     // value
     Alternative {
-        start: 639,
-        end: 640,
+        start: 666,
+        end: 667,
         first: 1311,
         first_end: 1312,
     },
     Alternative {
-        start: 640,
-        end: 641,
+        start: 667,
+        end: 668,
         first: 1312,
+        first_end: 1313,
+    },
+    Alternative {
+        start: 668,
+        end: 669,
+        first: 1313,
+        first_end: 1314,
+    },
+    Alternative {
+        start: 669,
+        end: 670,
+        first: 1314,
+        first_end: 1315,
+    },
+    Alternative {
+        start: 670,
+        end: 673,
+        first: 1315,
+        first_end: 1316,
+    },
+    Alternative {
+        start: 673,
+        end: 676,
+        first: 1316,
+        first_end: 1317,
+    },
+    Alternative {
+        start: 676,
+        end: 678,
+        first: 1317,
+        first_end: 1318,
+    },
+    Alternative {
+        start: 678,
+        end: 679,
+        first: 1318,
+        first_end: 1319,
+    },
+    Alternative {
+        start: 679,
+        end: 683,
+        first: 1319,
+        first_end: 1320,
+    },
+    Alternative {
+        start: 683,
+        end: 684,
+        first: 1320,
+        first_end: 1321,
+    },
+    Alternative {
+        start: 684,
+        end: 690,
+        first: 1321,
+        first_end: 1322,
+    },
+    Alternative {
+        start: 690,
+        end: 696,
+        first: 1322,
+        first_end: 1324,
+    },
+    Alternative {
+        start: 696,
+        end: 703,
+        first: 1324,
+        first_end: 1325,
+    },
+    Alternative {
+        start: 703,
+        end: 712,
+        first: 1325,
         first_end: 1326,
     },
     // typed
     Alternative {
-        start: 641,
-        end: 643,
+        start: 712,
+        end: 714,
         first: 1326,
         first_end: 1334,
     },
     // pair
     Alternative {
-        start: 643,
-        end: 647,
+        start: 714,
+        end: 718,
         first: 1334,
         first_end: 1342,
     },
     // ret
     Alternative {
-        start: 647,
-        end: 648,
+        start: 718,
+        end: 719,
         first: 1342,
         first_end: 1343,
     },
     Alternative {
-        start: 648,
-        end: 650,
+        start: 719,
+        end: 721,
         first: 1343,
         first_end: 1350,
     },
     // br
     Alternative {
-        start: 650,
-        end: 652,
+        start: 721,
+        end: 723,
         first: 1350,
         first_end: 1351,
     },
     Alternative {
-        start: 652,
-        end: 659,
+        start: 723,
+        end: 730,
         first: 1351,
         first_end: 1359,
     },
     // cases
     Alternative {
-        start: 659,
-        end: 664,
+        start: 730,
+        end: 735,
         first: 1359,
         first_end: 1367,
     },
     Alternative {
-        start: 664,
-        end: 664,
+        start: 735,
+        end: 735,
         first: 1367,
         first_end: 1367,
     },
     // labels
     Alternative {
-        start: 664,
-        end: 667,
+        start: 735,
+        end: 738,
         first: 1367,
         first_end: 1368,
     },
     Alternative {
-        start: 667,
-        end: 667,
+        start: 738,
+        end: 738,
         first: 1368,
         first_end: 1368,
     },
     // more_labels
     Alternative {
-        start: 667,
-        end: 671,
+        start: 738,
+        end: 742,
         first: 1368,
         first_end: 1369,
     },
     Alternative {
-        start: 671,
-        end: 671,
+        start: 742,
+        end: 742,
         first: 1369,
         first_end: 1369,
     },
     // sum
     Alternative {
-        start: 671,
-        end: 672,
+        start: 742,
+        end: 743,
         first: 1369,
         first_end: 1370,
     },
     Alternative {
-        start: 672,
-        end: 673,
+        start: 743,
+        end: 744,
         first: 1370,
         first_end: 1371,
     },
     // wraps
     Alternative {
-        start: 673,
-        end: 675,
+        start: 744,
+        end: 746,
         first: 1371,
         first_end: 1372,
     },
     Alternative {
-        start: 675,
-        end: 676,
+        start: 746,
+        end: 747,
         first: 1372,
         first_end: 1373,
     },
     Alternative {
-        start: 676,
-        end: 676,
+        start: 747,
+        end: 747,
         first: 1373,
         first_end: 1373,
     },
     // nsw
     Alternative {
-        start: 676,
-        end: 677,
+        start: 747,
+        end: 748,
         first: 1373,
         first_end: 1374,
     },
     Alternative {
-        start: 677,
-        end: 677,
+        start: 748,
+        end: 748,
         first: 1374,
         first_end: 1374,
     },
     // lost_wraps
     Alternative {
-        start: 677,
-        end: 679,
+        start: 748,
+        end: 750,
         first: 1374,
         first_end: 1375,
     },
     Alternative {
-        start: 679,
-        end: 681,
+        start: 750,
+        end: 752,
         first: 1375,
         first_end: 1376,
     },
     Alternative {
-        start: 681,
-        end: 681,
+        start: 752,
+        end: 752,
         first: 1376,
         first_end: 1376,
     },
     // lost_nsw
     Alternative {
-        start: 681,
-        end: 682,
+        start: 752,
+        end: 753,
         first: 1376,
         first_end: 1377,
     },
     Alternative {
-        start: 682,
-        end: 682,
+        start: 753,
+        end: 753,
         first: 1377,
         first_end: 1377,
     },
     // lost_nuw
     Alternative {
-        start: 682,
-        end: 683,
+        start: 753,
+        end: 754,
         first: 1377,
         first_end: 1378,
     },
     Alternative {
-        start: 683,
-        end: 683,
+        start: 754,
+        end: 754,
         first: 1378,
         first_end: 1378,
     },
     // quotient
     Alternative {
-        start: 683,
-        end: 684,
+        start: 754,
+        end: 755,
         first: 1378,
         first_end: 1379,
     },
     // lost_exact
     Alternative {
-        start: 684,
-        end: 685,
+        start: 755,
+        end: 756,
         first: 1379,
         first_end: 1380,
     },
     Alternative {
-        start: 685,
-        end: 685,
+        start: 756,
+        end: 756,
         first: 1380,
         first_end: 1380,
     },
     // bits
     Alternative {
-        start: 685,
-        end: 686,
+        start: 756,
+        end: 757,
         first: 1380,
         first_end: 1381,
     },
     Alternative {
-        start: 686,
-        end: 687,
+        start: 757,
+        end: 758,
         first: 1381,
         first_end: 1382,
     },
     // lost_disjoint
     Alternative {
-        start: 687,
-        end: 688,
+        start: 758,
+        end: 759,
         first: 1382,
         first_end: 1383,
     },
     Alternative {
-        start: 688,
-        end: 688,
+        start: 759,
+        end: 759,
         first: 1383,
         first_end: 1383,
     },
     // lost_samesign
     Alternative {
-        start: 688,
-        end: 689,
+        start: 759,
+        end: 760,
         first: 1383,
         first_end: 1384,
     },
     Alternative {
-        start: 689,
-        end: 689,
+        start: 760,
+        end: 760,
         first: 1384,
         first_end: 1384,
     },
     // predicate
     Alternative {
-        start: 689,
-        end: 690,
+        start: 760,
+        end: 761,
         first: 1384,
         first_end: 1385,
     },
     // cast
     Alternative {
-        start: 690,
-        end: 691,
+        start: 761,
+        end: 762,
         first: 1385,
         first_end: 1386,
     },
     Alternative {
-        start: 691,
-        end: 692,
+        start: 762,
+        end: 763,
         first: 1386,
         first_end: 1387,
     },
     // nneg
     Alternative {
-        start: 692,
-        end: 693,
+        start: 763,
+        end: 764,
         first: 1387,
         first_end: 1388,
     },
     Alternative {
-        start: 693,
-        end: 693,
+        start: 764,
+        end: 764,
         first: 1388,
         first_end: 1388,
     },
     // alloca_tail
     Alternative {
-        start: 693,
-        end: 695,
+        start: 764,
+        end: 766,
         first: 1388,
         first_end: 1389,
     },
     Alternative {
-        start: 695,
-        end: 695,
+        start: 766,
+        end: 766,
         first: 1389,
         first_end: 1389,
     },
     // alloca_part
     Alternative {
-        start: 695,
-        end: 697,
+        start: 766,
+        end: 768,
         first: 1389,
         first_end: 1397,
     },
     Alternative {
-        start: 697,
-        end: 700,
+        start: 768,
+        end: 771,
         first: 1397,
         first_end: 1398,
     },
     Alternative {
-        start: 700,
-        end: 705,
+        start: 771,
+        end: 776,
         first: 1398,
         first_end: 1399,
     },
     Alternative {
-        start: 705,
-        end: 708,
+        start: 776,
+        end: 779,
         first: 1399,
         first_end: 1407,
     },
     // alloca_rest
     Alternative {
-        start: 708,
-        end: 710,
+        start: 779,
+        end: 781,
         first: 1407,
         first_end: 1408,
     },
     Alternative {
-        start: 710,
-        end: 710,
+        start: 781,
+        end: 781,
         first: 1408,
         first_end: 1408,
     },
     // alloca_rest_part
     Alternative {
-        start: 710,
-        end: 713,
+        start: 781,
+        end: 784,
         first: 1408,
         first_end: 1409,
     },
     Alternative {
-        start: 713,
-        end: 718,
+        start: 784,
+        end: 789,
         first: 1409,
         first_end: 1410,
     },
     Alternative {
-        start: 718,
-        end: 721,
+        start: 789,
+        end: 792,
         first: 1410,
         first_end: 1418,
     },
     // alloca_end
     Alternative {
-        start: 721,
-        end: 723,
+        start: 792,
+        end: 794,
         first: 1418,
         first_end: 1419,
     },
     Alternative {
-        start: 723,
-        end: 723,
+        start: 794,
+        end: 794,
         first: 1419,
         first_end: 1419,
     },
     // alloca_end_part
     Alternative {
-        start: 723,
-        end: 728,
+        start: 794,
+        end: 799,
         first: 1419,
         first_end: 1420,
     },
     Alternative {
-        start: 728,
-        end: 731,
+        start: 799,
+        end: 802,
         first: 1420,
         first_end: 1428,
     },
     // load
     Alternative {
-        start: 731,
-        end: 736,
+        start: 802,
+        end: 807,
         first: 1428,
         first_end: 1437,
     },
     Alternative {
-        start: 736,
-        end: 738,
+        start: 807,
+        end: 809,
         first: 1437,
         first_end: 1438,
     },
     // atomic_load
     Alternative {
-        start: 738,
-        end: 743,
+        start: 809,
+        end: 814,
         first: 1438,
         first_end: 1446,
     },
     // store
     Alternative {
-        start: 743,
-        end: 748,
+        start: 814,
+        end: 819,
         first: 1446,
         first_end: 1455,
     },
     Alternative {
-        start: 748,
-        end: 750,
+        start: 819,
+        end: 821,
         first: 1455,
         first_end: 1456,
     },
     // atomic_store
     Alternative {
-        start: 750,
-        end: 755,
+        start: 821,
+        end: 826,
         first: 1456,
         first_end: 1464,
     },
     // volatile
     Alternative {
-        start: 755,
-        end: 756,
+        start: 826,
+        end: 827,
         first: 1464,
         first_end: 1465,
     },
     Alternative {
-        start: 756,
-        end: 756,
+        start: 827,
+        end: 827,
         first: 1465,
         first_end: 1465,
     },
     // rmw_kind
     Alternative {
-        start: 756,
-        end: 757,
+        start: 827,
+        end: 828,
         first: 1465,
         first_end: 1466,
     },
     Alternative {
-        start: 757,
-        end: 758,
+        start: 828,
+        end: 829,
         first: 1466,
         first_end: 1467,
     },
     Alternative {
-        start: 758,
-        end: 759,
+        start: 829,
+        end: 830,
         first: 1467,
         first_end: 1468,
     },
     Alternative {
-        start: 759,
-        end: 760,
+        start: 830,
+        end: 831,
         first: 1468,
         first_end: 1469,
     },
     // address_and_value
     Alternative {
-        start: 760,
-        end: 763,
+        start: 831,
+        end: 834,
         first: 1469,
         first_end: 1477,
     },
     // lost_weak
     Alternative {
-        start: 763,
-        end: 764,
+        start: 834,
+        end: 835,
         first: 1477,
         first_end: 1478,
     },
     Alternative {
-        start: 764,
-        end: 764,
+        start: 835,
+        end: 835,
         first: 1478,
         first_end: 1478,
     },
     // exchange
     Alternative {
-        start: 764,
-        end: 769,
+        start: 835,
+        end: 840,
         first: 1478,
         first_end: 1486,
     },
     // exchange_order
     Alternative {
-        start: 769,
-        end: 772,
+        start: 840,
+        end: 843,
         first: 1486,
         first_end: 1488,
     },
     // order
     Alternative {
-        start: 772,
-        end: 774,
+        start: 843,
+        end: 845,
         first: 1488,
         first_end: 1490,
     },
     // scope
     Alternative {
-        start: 774,
-        end: 778,
+        start: 845,
+        end: 849,
         first: 1490,
         first_end: 1491,
     },
     Alternative {
-        start: 778,
-        end: 778,
+        start: 849,
+        end: 849,
         first: 1491,
         first_end: 1491,
     },
     // ordering
     Alternative {
-        start: 778,
-        end: 779,
+        start: 849,
+        end: 850,
         first: 1491,
         first_end: 1492,
     },
     // gep_flags
     Alternative {
-        start: 779,
-        end: 781,
+        start: 850,
+        end: 852,
         first: 1492,
         first_end: 1494,
     },
     Alternative {
-        start: 781,
-        end: 781,
+        start: 852,
+        end: 852,
         first: 1494,
         first_end: 1494,
     },
     // gep_flag
     Alternative {
-        start: 781,
-        end: 782,
+        start: 852,
+        end: 853,
         first: 1494,
         first_end: 1495,
     },
     Alternative {
-        start: 782,
-        end: 783,
+        start: 853,
+        end: 854,
         first: 1495,
         first_end: 1496,
     },
     // more_indices
     Alternative {
-        start: 783,
-        end: 785,
+        start: 854,
+        end: 856,
         first: 1496,
         first_end: 1497,
     },
     Alternative {
-        start: 785,
-        end: 785,
+        start: 856,
+        end: 856,
         first: 1497,
         first_end: 1497,
     },
     // index_or_node
     Alternative {
-        start: 785,
-        end: 787,
+        start: 856,
+        end: 858,
         first: 1497,
         first_end: 1505,
     },
     Alternative {
-        start: 787,
-        end: 790,
+        start: 858,
+        end: 861,
         first: 1505,
         first_end: 1513,
     },
     // more_places
     Alternative {
-        start: 790,
-        end: 792,
+        start: 861,
+        end: 863,
         first: 1513,
         first_end: 1514,
     },
     Alternative {
-        start: 792,
-        end: 792,
+        start: 863,
+        end: 863,
         first: 1514,
         first_end: 1514,
     },
     // place_or_node
     Alternative {
-        start: 792,
-        end: 794,
+        start: 863,
+        end: 865,
         first: 1514,
         first_end: 1515,
     },
     Alternative {
-        start: 794,
-        end: 797,
+        start: 865,
+        end: 868,
         first: 1515,
         first_end: 1523,
     },
     // entry
     Alternative {
-        start: 797,
-        end: 802,
+        start: 868,
+        end: 873,
         first: 1523,
         first_end: 1524,
     },
     // more_entries
     Alternative {
-        start: 802,
-        end: 804,
+        start: 873,
+        end: 875,
         first: 1524,
         first_end: 1525,
     },
     Alternative {
-        start: 804,
-        end: 804,
+        start: 875,
+        end: 875,
         first: 1525,
         first_end: 1525,
     },
     // entry_or_node
     Alternative {
-        start: 804,
-        end: 806,
+        start: 875,
+        end: 877,
         first: 1525,
         first_end: 1526,
     },
     Alternative {
-        start: 806,
-        end: 809,
+        start: 877,
+        end: 880,
         first: 1526,
         first_end: 1534,
     },
     // align_attached
     Alternative {
-        start: 809,
-        end: 811,
+        start: 880,
+        end: 882,
         first: 1534,
         first_end: 1535,
     },
     Alternative {
-        start: 811,
-        end: 811,
+        start: 882,
+        end: 882,
         first: 1535,
         first_end: 1535,
     },
     // align_or_attached
     Alternative {
-        start: 811,
-        end: 814,
+        start: 882,
+        end: 885,
         first: 1535,
         first_end: 1536,
     },
     Alternative {
-        start: 814,
-        end: 817,
+        start: 885,
+        end: 888,
         first: 1536,
         first_end: 1544,
     },
     // lost_align_attached
     Alternative {
-        start: 817,
-        end: 819,
+        start: 888,
+        end: 890,
         first: 1544,
         first_end: 1545,
     },
     Alternative {
-        start: 819,
-        end: 819,
+        start: 890,
+        end: 890,
         first: 1545,
         first_end: 1545,
     },
     // lost_align_or_attached
     Alternative {
-        start: 819,
-        end: 822,
+        start: 890,
+        end: 893,
         first: 1545,
         first_end: 1546,
     },
     Alternative {
-        start: 822,
-        end: 825,
+        start: 893,
+        end: 896,
         first: 1546,
         first_end: 1554,
     },
     // tail
     Alternative {
-        start: 825,
-        end: 826,
+        start: 896,
+        end: 897,
         first: 1554,
         first_end: 1555,
     },
     Alternative {
-        start: 826,
-        end: 826,
+        start: 897,
+        end: 897,
         first: 1555,
         first_end: 1555,
     },
     // call
     Alternative {
-        start: 826,
-        end: 831,
+        start: 897,
+        end: 902,
         first: 1555,
         first_end: 1572,
     },
     // callee
     Alternative {
-        start: 831,
-        end: 832,
+        start: 902,
+        end: 903,
         first: 1572,
         first_end: 1573,
     },
     Alternative {
-        start: 832,
-        end: 833,
+        start: 903,
+        end: 904,
         first: 1573,
         first_end: 1574,
     },
     Alternative {
-        start: 833,
-        end: 835,
+        start: 904,
+        end: 906,
         first: 1574,
         first_end: 1575,
     },
     // asm
     Alternative {
-        start: 835,
-        end: 837,
+        start: 906,
+        end: 908,
         first: 1575,
         first_end: 1576,
     },
     Alternative {
-        start: 837,
-        end: 838,
+        start: 908,
+        end: 909,
         first: 1576,
         first_end: 1577,
     },
     // asm_text
     Alternative {
-        start: 838,
-        end: 841,
+        start: 909,
+        end: 912,
         first: 1577,
         first_end: 1578,
     },
     // arguments
     Alternative {
-        start: 841,
-        end: 844,
+        start: 912,
+        end: 915,
         first: 1578,
         first_end: 1579,
     },
     // args
     Alternative {
-        start: 844,
-        end: 846,
+        start: 915,
+        end: 917,
         first: 1579,
         first_end: 1587,
     },
     Alternative {
-        start: 846,
-        end: 846,
+        start: 917,
+        end: 917,
         first: 1587,
         first_end: 1587,
     },
     // more_args
     Alternative {
-        start: 846,
-        end: 849,
+        start: 917,
+        end: 920,
         first: 1587,
         first_end: 1588,
     },
     Alternative {
-        start: 849,
-        end: 849,
+        start: 920,
+        end: 920,
         first: 1588,
         first_end: 1588,
     },
     // arg
     Alternative {
-        start: 849,
-        end: 852,
+        start: 920,
+        end: 923,
         first: 1588,
         first_end: 1596,
     },
     // attached
     Alternative {
-        start: 852,
-        end: 856,
+        start: 923,
+        end: 927,
         first: 1596,
         first_end: 1597,
     },
     Alternative {
-        start: 856,
-        end: 856,
+        start: 927,
+        end: 927,
         first: 1597,
         first_end: 1597,
     },
     // attachments
     Alternative {
-        start: 856,
-        end: 859,
+        start: 927,
+        end: 930,
         first: 1597,
         first_end: 1605,
     },
     Alternative {
-        start: 859,
-        end: 859,
+        start: 930,
+        end: 930,
         first: 1605,
         first_end: 1605,
     },
     // mdname
     Alternative {
-        start: 859,
-        end: 860,
+        start: 930,
+        end: 931,
         first: 1605,
         first_end: 1606,
     },
     Alternative {
-        start: 860,
-        end: 861,
+        start: 931,
+        end: 932,
         first: 1606,
         first_end: 1607,
     },
     Alternative {
-        start: 861,
-        end: 862,
+        start: 932,
+        end: 933,
         first: 1607,
         first_end: 1608,
     },
     Alternative {
-        start: 862,
-        end: 863,
+        start: 933,
+        end: 934,
         first: 1608,
         first_end: 1609,
     },
     Alternative {
-        start: 863,
-        end: 864,
+        start: 934,
+        end: 935,
         first: 1609,
         first_end: 1610,
     },
     Alternative {
-        start: 864,
-        end: 865,
+        start: 935,
+        end: 936,
         first: 1610,
         first_end: 1611,
     },
     Alternative {
-        start: 865,
-        end: 866,
+        start: 936,
+        end: 937,
         first: 1611,
         first_end: 1612,
     },
     Alternative {
-        start: 866,
-        end: 867,
+        start: 937,
+        end: 938,
         first: 1612,
         first_end: 1613,
     },
     // mdref
     Alternative {
-        start: 867,
-        end: 868,
+        start: 938,
+        end: 939,
         first: 1613,
         first_end: 1614,
     },
     Alternative {
-        start: 868,
-        end: 869,
+        start: 939,
+        end: 940,
         first: 1614,
         first_end: 1623,
     },
     // mdrefs
     Alternative {
-        start: 869,
-        end: 871,
+        start: 940,
+        end: 942,
         first: 1623,
         first_end: 1633,
     },
     Alternative {
-        start: 871,
-        end: 871,
+        start: 942,
+        end: 942,
         first: 1633,
         first_end: 1633,
     },
     // more_mdrefs
     Alternative {
-        start: 871,
-        end: 874,
+        start: 942,
+        end: 945,
         first: 1633,
         first_end: 1634,
     },
     Alternative {
-        start: 874,
-        end: 874,
+        start: 945,
+        end: 945,
         first: 1634,
         first_end: 1634,
     },
     // node
     Alternative {
-        start: 874,
-        end: 878,
+        start: 945,
+        end: 949,
         first: 1634,
         first_end: 1635,
     },
     Alternative {
-        start: 878,
-        end: 882,
+        start: 949,
+        end: 953,
         first: 1635,
         first_end: 1642,
     },
     Alternative {
-        start: 882,
-        end: 884,
+        start: 953,
+        end: 955,
         first: 1642,
         first_end: 1643,
     },
     // debug_node
     Alternative {
-        start: 884,
-        end: 885,
+        start: 955,
+        end: 956,
         first: 1643,
         first_end: 1644,
     },
     Alternative {
-        start: 885,
-        end: 886,
+        start: 956,
+        end: 957,
         first: 1644,
         first_end: 1645,
     },
     Alternative {
-        start: 886,
-        end: 887,
+        start: 957,
+        end: 958,
         first: 1645,
         first_end: 1646,
     },
     Alternative {
-        start: 887,
-        end: 888,
+        start: 958,
+        end: 959,
         first: 1646,
         first_end: 1647,
     },
     Alternative {
-        start: 888,
-        end: 889,
+        start: 959,
+        end: 960,
         first: 1647,
         first_end: 1648,
     },
     Alternative {
-        start: 889,
-        end: 890,
+        start: 960,
+        end: 961,
         first: 1648,
         first_end: 1649,
     },
     Alternative {
-        start: 890,
-        end: 891,
+        start: 961,
+        end: 962,
         first: 1649,
         first_end: 1650,
     },
     // mdops
     Alternative {
-        start: 891,
-        end: 893,
+        start: 962,
+        end: 964,
         first: 1650,
         first_end: 1670,
     },
     Alternative {
-        start: 893,
-        end: 893,
+        start: 964,
+        end: 964,
         first: 1670,
         first_end: 1670,
     },
     // more_mdops
     Alternative {
-        start: 893,
-        end: 896,
+        start: 964,
+        end: 967,
         first: 1670,
         first_end: 1671,
     },
     Alternative {
-        start: 896,
-        end: 896,
+        start: 967,
+        end: 967,
         first: 1671,
         first_end: 1671,
     },
     // mdop
     Alternative {
-        start: 896,
-        end: 897,
+        start: 967,
+        end: 968,
         first: 1671,
         first_end: 1672,
     },
     Alternative {
-        start: 897,
-        end: 898,
+        start: 968,
+        end: 969,
         first: 1672,
         first_end: 1673,
     },
     Alternative {
-        start: 898,
-        end: 899,
+        start: 969,
+        end: 970,
         first: 1673,
         first_end: 1683,
     },
     Alternative {
-        start: 899,
-        end: 900,
+        start: 970,
+        end: 971,
         first: 1683,
         first_end: 1691,
     },
     // fields
     Alternative {
-        start: 900,
-        end: 902,
+        start: 971,
+        end: 973,
         first: 1691,
         first_end: 1692,
     },
     Alternative {
-        start: 902,
-        end: 902,
+        start: 973,
+        end: 973,
         first: 1692,
         first_end: 1692,
     },
     // more_fields
     Alternative {
-        start: 902,
-        end: 905,
+        start: 973,
+        end: 976,
         first: 1692,
         first_end: 1693,
     },
     Alternative {
-        start: 905,
-        end: 905,
+        start: 976,
+        end: 976,
         first: 1693,
         first_end: 1693,
     },
     // field
     Alternative {
-        start: 905,
-        end: 907,
+        start: 976,
+        end: 978,
         first: 1693,
         first_end: 1694,
     },
     // field_value
     Alternative {
-        start: 907,
-        end: 908,
+        start: 978,
+        end: 979,
         first: 1694,
         first_end: 1695,
     },
     Alternative {
-        start: 908,
-        end: 909,
+        start: 979,
+        end: 980,
         first: 1695,
         first_end: 1696,
     },
     Alternative {
-        start: 909,
-        end: 911,
+        start: 980,
+        end: 982,
         first: 1696,
         first_end: 1793,
     },
     Alternative {
-        start: 911,
-        end: 912,
+        start: 982,
+        end: 983,
         first: 1793,
         first_end: 1803,
     },
     // more_words
     Alternative {
-        start: 912,
-        end: 915,
+        start: 983,
+        end: 986,
         first: 1803,
         first_end: 1804,
     },
     Alternative {
-        start: 915,
-        end: 915,
+        start: 986,
+        end: 986,
         first: 1804,
         first_end: 1804,
     },
@@ -4883,7 +5115,7 @@ pub static ROWS: [Row; 165] = [
         more: 76,
         more_end: 76,
         nothing: 0,
-        height: 5,
+        height: 3,
     },
     // 21: head
     Row {
@@ -4892,7 +5124,7 @@ pub static ROWS: [Row; 165] = [
         more: 76,
         more_end: 78,
         nothing: 0,
-        height: 7,
+        height: 5,
     },
     // 22: parameters
     Row {
@@ -4910,7 +5142,7 @@ pub static ROWS: [Row; 165] = [
         more: 80,
         more_end: 101,
         nothing: 54,
-        height: 5,
+        height: 3,
     },
     // 24: more_params
     Row {
@@ -4928,7 +5160,7 @@ pub static ROWS: [Row; 165] = [
         more: 114,
         more_end: 127,
         nothing: 0,
-        height: 5,
+        height: 3,
     },
     // 26: param
     Row {
@@ -4937,7 +5169,7 @@ pub static ROWS: [Row; 165] = [
         more: 127,
         more_end: 139,
         nothing: 0,
-        height: 4,
+        height: 2,
     },
     // 27: name
     Row {
@@ -4955,7 +5187,7 @@ pub static ROWS: [Row; 165] = [
         more: 140,
         more_end: 194,
         nothing: 0,
-        height: 8,
+        height: 7,
     },
     // 29: body_parts
     Row {
@@ -4964,7 +5196,7 @@ pub static ROWS: [Row; 165] = [
         more: 194,
         more_end: 248,
         nothing: 64,
-        height: 8,
+        height: 7,
     },
     // 30: body_part
     Row {
@@ -4973,7 +5205,7 @@ pub static ROWS: [Row; 165] = [
         more: 248,
         more_end: 266,
         nothing: 0,
-        height: 7,
+        height: 6,
     },
     // 31: line
     Row {
@@ -5257,25 +5489,25 @@ pub static ROWS: [Row; 165] = [
     // 62: type
     Row {
         start: 260,
-        end: 262,
+        end: 268,
         more: 352,
         more_end: 353,
         nothing: 0,
-        height: 3,
+        height: 1,
     },
     // 63: solid
     Row {
-        start: 262,
-        end: 264,
+        start: 268,
+        end: 275,
         more: 353,
         more_end: 354,
         nothing: 0,
-        height: 2,
+        height: 1,
     },
     // 64: flat
     Row {
-        start: 264,
-        end: 270,
+        start: 275,
+        end: 281,
         more: 354,
         more_end: 355,
         nothing: 0,
@@ -5283,8 +5515,8 @@ pub static ROWS: [Row; 165] = [
     },
     // 65: angle_type
     Row {
-        start: 270,
-        end: 273,
+        start: 281,
+        end: 284,
         more: 355,
         more_end: 355,
         nothing: 0,
@@ -5292,80 +5524,80 @@ pub static ROWS: [Row; 165] = [
     },
     // 66: types
     Row {
-        start: 273,
-        end: 275,
+        start: 284,
+        end: 286,
         more: 355,
         more_end: 365,
-        nothing: 275,
-        height: 4,
+        nothing: 286,
+        height: 2,
     },
     // 67: more_types
     Row {
-        start: 275,
-        end: 277,
+        start: 286,
+        end: 288,
         more: 365,
         more_end: 367,
-        nothing: 277,
+        nothing: 288,
         height: 1,
     },
     // 68: called_type
     Row {
-        start: 277,
-        end: 278,
+        start: 288,
+        end: 289,
         more: 367,
         more_end: 369,
         nothing: 0,
-        height: 4,
+        height: 2,
     },
     // 69: signature
     Row {
-        start: 278,
-        end: 280,
+        start: 289,
+        end: 291,
         more: 369,
         more_end: 370,
-        nothing: 280,
+        nothing: 291,
         height: 1,
     },
     // 70: argument_types
     Row {
-        start: 280,
-        end: 283,
+        start: 291,
+        end: 294,
         more: 370,
         more_end: 381,
-        nothing: 283,
-        height: 4,
+        nothing: 294,
+        height: 2,
     },
     // 71: more_argument_types
     Row {
-        start: 283,
-        end: 285,
+        start: 294,
+        end: 296,
         more: 381,
         more_end: 383,
-        nothing: 285,
+        nothing: 296,
         height: 1,
     },
     // 72: type_or_dots
     Row {
-        start: 285,
-        end: 287,
+        start: 296,
+        end: 298,
         more: 383,
         more_end: 385,
         nothing: 0,
-        height: 4,
+        height: 2,
     },
     // 73: tconst
     Row {
-        start: 287,
-        end: 288,
+        start: 298,
+        end: 299,
         more: 385,
         more_end: 385,
         nothing: 0,
-        height: 4,
+        height: 2,
     },
     // 74: const
     Row {
-        start: 288,
-        end: 301,
+        start: 299,
+        end: 312,
         more: 385,
         more_end: 385,
         nothing: 0,
@@ -5373,8 +5605,8 @@ pub static ROWS: [Row; 165] = [
     },
     // 75: const_angle
     Row {
-        start: 301,
-        end: 304,
+        start: 312,
+        end: 315,
         more: 385,
         more_end: 385,
         nothing: 0,
@@ -5382,17 +5614,17 @@ pub static ROWS: [Row; 165] = [
     },
     // 76: const_brace
     Row {
-        start: 304,
-        end: 306,
+        start: 315,
+        end: 317,
         more: 385,
         more_end: 385,
         nothing: 0,
-        height: 4,
+        height: 2,
     },
     // 77: const_empty
     Row {
-        start: 306,
-        end: 308,
+        start: 317,
+        end: 319,
         more: 385,
         more_end: 385,
         nothing: 0,
@@ -5400,8 +5632,8 @@ pub static ROWS: [Row; 165] = [
     },
     // 78: const_braced
     Row {
-        start: 308,
-        end: 310,
+        start: 319,
+        end: 321,
         more: 385,
         more_end: 385,
         nothing: 0,
@@ -5409,8 +5641,8 @@ pub static ROWS: [Row; 165] = [
     },
     // 79: const_cast
     Row {
-        start: 310,
-        end: 312,
+        start: 321,
+        end: 323,
         more: 385,
         more_end: 385,
         nothing: 0,
@@ -5418,8 +5650,8 @@ pub static ROWS: [Row; 165] = [
     },
     // 80: const_sum
     Row {
-        start: 312,
-        end: 313,
+        start: 323,
+        end: 324,
         more: 385,
         more_end: 385,
         nothing: 0,
@@ -5427,35 +5659,35 @@ pub static ROWS: [Row; 165] = [
     },
     // 81: tconsts
     Row {
-        start: 313,
-        end: 315,
+        start: 324,
+        end: 326,
         more: 385,
         more_end: 394,
-        nothing: 315,
-        height: 5,
+        nothing: 326,
+        height: 3,
     },
     // 82: more_tconsts
     Row {
-        start: 315,
-        end: 317,
+        start: 326,
+        end: 328,
         more: 394,
         more_end: 395,
-        nothing: 317,
+        nothing: 328,
         height: 1,
     },
     // 83: in_range
     Row {
-        start: 317,
-        end: 319,
+        start: 328,
+        end: 330,
         more: 395,
         more_end: 396,
-        nothing: 319,
+        nothing: 330,
         height: 1,
     },
     // 84: inst
     Row {
-        start: 319,
-        end: 329,
+        start: 330,
+        end: 340,
         more: 396,
         more_end: 414,
         nothing: 0,
@@ -5463,8 +5695,8 @@ pub static ROWS: [Row; 165] = [
     },
     // 85: simple
     Row {
-        start: 329,
-        end: 349,
+        start: 340,
+        end: 360,
         more: 414,
         more_end: 431,
         nothing: 0,
@@ -5472,80 +5704,80 @@ pub static ROWS: [Row; 165] = [
     },
     // 86: value
     Row {
-        start: 349,
-        end: 351,
+        start: 360,
+        end: 374,
         more: 431,
         more_end: 431,
         nothing: 0,
-        height: 3,
+        height: 2,
     },
     // 87: typed
     Row {
-        start: 351,
-        end: 352,
+        start: 374,
+        end: 375,
         more: 431,
         more_end: 431,
         nothing: 0,
-        height: 4,
+        height: 2,
     },
     // 88: pair
     Row {
-        start: 352,
-        end: 353,
+        start: 375,
+        end: 376,
         more: 431,
         more_end: 431,
         nothing: 0,
-        height: 4,
+        height: 2,
     },
     // 89: ret
     Row {
-        start: 353,
-        end: 355,
+        start: 376,
+        end: 378,
+        more: 431,
+        more_end: 431,
+        nothing: 0,
+        height: 2,
+    },
+    // 90: br
+    Row {
+        start: 378,
+        end: 380,
         more: 431,
         more_end: 431,
         nothing: 0,
         height: 3,
     },
-    // 90: br
-    Row {
-        start: 355,
-        end: 357,
-        more: 431,
-        more_end: 431,
-        nothing: 0,
-        height: 5,
-    },
     // 91: cases
     Row {
-        start: 357,
-        end: 359,
+        start: 380,
+        end: 382,
         more: 431,
         more_end: 439,
-        nothing: 359,
-        height: 5,
+        nothing: 382,
+        height: 3,
     },
     // 92: labels
     Row {
-        start: 359,
-        end: 361,
+        start: 382,
+        end: 384,
         more: 439,
         more_end: 441,
-        nothing: 361,
+        nothing: 384,
         height: 1,
     },
     // 93: more_labels
     Row {
-        start: 361,
-        end: 363,
+        start: 384,
+        end: 386,
         more: 441,
         more_end: 442,
-        nothing: 363,
+        nothing: 386,
         height: 1,
     },
     // 94: sum
     Row {
-        start: 363,
-        end: 365,
+        start: 386,
+        end: 388,
         more: 442,
         more_end: 442,
         nothing: 0,
@@ -5553,53 +5785,53 @@ pub static ROWS: [Row; 165] = [
     },
     // 95: wraps
     Row {
-        start: 365,
-        end: 368,
+        start: 388,
+        end: 391,
         more: 442,
         more_end: 444,
-        nothing: 368,
+        nothing: 391,
         height: 1,
     },
     // 96: nsw
     Row {
-        start: 368,
-        end: 370,
+        start: 391,
+        end: 393,
         more: 444,
         more_end: 445,
-        nothing: 370,
+        nothing: 393,
         height: 1,
     },
     // 97: lost_wraps
     Row {
-        start: 370,
-        end: 373,
+        start: 393,
+        end: 396,
         more: 445,
         more_end: 447,
-        nothing: 373,
+        nothing: 396,
         height: 1,
     },
     // 98: lost_nsw
     Row {
-        start: 373,
-        end: 375,
+        start: 396,
+        end: 398,
         more: 447,
         more_end: 448,
-        nothing: 375,
+        nothing: 398,
         height: 1,
     },
     // 99: lost_nuw
     Row {
-        start: 375,
-        end: 377,
+        start: 398,
+        end: 400,
         more: 448,
         more_end: 449,
-        nothing: 377,
+        nothing: 400,
         height: 1,
     },
     // 100: quotient
     Row {
-        start: 377,
-        end: 378,
+        start: 400,
+        end: 401,
         more: 449,
         more_end: 449,
         nothing: 0,
@@ -5607,17 +5839,17 @@ pub static ROWS: [Row; 165] = [
     },
     // 101: lost_exact
     Row {
-        start: 378,
-        end: 380,
+        start: 401,
+        end: 403,
         more: 449,
         more_end: 450,
-        nothing: 380,
+        nothing: 403,
         height: 1,
     },
     // 102: bits
     Row {
-        start: 380,
-        end: 382,
+        start: 403,
+        end: 405,
         more: 450,
         more_end: 450,
         nothing: 0,
@@ -5625,26 +5857,26 @@ pub static ROWS: [Row; 165] = [
     },
     // 103: lost_disjoint
     Row {
-        start: 382,
-        end: 384,
+        start: 405,
+        end: 407,
         more: 450,
         more_end: 451,
-        nothing: 384,
+        nothing: 407,
         height: 1,
     },
     // 104: lost_samesign
     Row {
-        start: 384,
-        end: 386,
+        start: 407,
+        end: 409,
         more: 451,
         more_end: 452,
-        nothing: 386,
+        nothing: 409,
         height: 1,
     },
     // 105: predicate
     Row {
-        start: 386,
-        end: 387,
+        start: 409,
+        end: 410,
         more: 452,
         more_end: 452,
         nothing: 0,
@@ -5652,8 +5884,8 @@ pub static ROWS: [Row; 165] = [
     },
     // 106: cast
     Row {
-        start: 387,
-        end: 389,
+        start: 410,
+        end: 412,
         more: 452,
         more_end: 452,
         nothing: 0,
@@ -5661,44 +5893,44 @@ pub static ROWS: [Row; 165] = [
     },
     // 107: nneg
     Row {
-        start: 389,
-        end: 391,
+        start: 412,
+        end: 414,
         more: 452,
         more_end: 453,
-        nothing: 391,
+        nothing: 414,
         height: 1,
     },
     // 108: alloca_tail
     Row {
-        start: 391,
-        end: 393,
+        start: 414,
+        end: 416,
         more: 453,
         more_end: 454,
-        nothing: 393,
+        nothing: 416,
         height: 1,
     },
     // 109: alloca_part
     Row {
-        start: 393,
-        end: 397,
+        start: 416,
+        end: 420,
         more: 454,
         more_end: 455,
         nothing: 0,
-        height: 5,
+        height: 3,
     },
     // 110: alloca_rest
     Row {
-        start: 397,
-        end: 399,
+        start: 420,
+        end: 422,
         more: 455,
         more_end: 456,
-        nothing: 399,
+        nothing: 422,
         height: 1,
     },
     // 111: alloca_rest_part
     Row {
-        start: 399,
-        end: 402,
+        start: 422,
+        end: 425,
         more: 456,
         more_end: 457,
         nothing: 0,
@@ -5706,17 +5938,17 @@ pub static ROWS: [Row; 165] = [
     },
     // 112: alloca_end
     Row {
-        start: 402,
-        end: 404,
+        start: 425,
+        end: 427,
         more: 457,
         more_end: 458,
-        nothing: 404,
+        nothing: 427,
         height: 1,
     },
     // 113: alloca_end_part
     Row {
-        start: 404,
-        end: 406,
+        start: 427,
+        end: 429,
         more: 458,
         more_end: 459,
         nothing: 0,
@@ -5724,53 +5956,53 @@ pub static ROWS: [Row; 165] = [
     },
     // 114: load
     Row {
-        start: 406,
-        end: 408,
+        start: 429,
+        end: 431,
         more: 459,
         more_end: 460,
         nothing: 0,
-        height: 5,
+        height: 3,
     },
     // 115: atomic_load
     Row {
-        start: 408,
-        end: 409,
+        start: 431,
+        end: 432,
         more: 460,
         more_end: 461,
         nothing: 0,
-        height: 4,
+        height: 2,
     },
     // 116: store
     Row {
-        start: 409,
-        end: 411,
+        start: 432,
+        end: 434,
         more: 461,
         more_end: 462,
         nothing: 0,
-        height: 6,
+        height: 4,
     },
     // 117: atomic_store
     Row {
-        start: 411,
-        end: 412,
+        start: 434,
+        end: 435,
         more: 462,
         more_end: 463,
         nothing: 0,
-        height: 5,
+        height: 3,
     },
     // 118: volatile
     Row {
-        start: 412,
-        end: 414,
+        start: 435,
+        end: 437,
         more: 463,
         more_end: 464,
-        nothing: 414,
+        nothing: 437,
         height: 1,
     },
     // 119: rmw_kind
     Row {
-        start: 414,
-        end: 418,
+        start: 437,
+        end: 441,
         more: 464,
         more_end: 464,
         nothing: 0,
@@ -5778,35 +6010,35 @@ pub static ROWS: [Row; 165] = [
     },
     // 120: address_and_value
     Row {
-        start: 418,
-        end: 419,
+        start: 441,
+        end: 442,
         more: 464,
         more_end: 464,
         nothing: 0,
-        height: 5,
+        height: 3,
     },
     // 121: lost_weak
     Row {
-        start: 419,
-        end: 421,
+        start: 442,
+        end: 444,
         more: 464,
         more_end: 465,
-        nothing: 421,
+        nothing: 444,
         height: 1,
     },
     // 122: exchange
     Row {
-        start: 421,
-        end: 422,
+        start: 444,
+        end: 445,
         more: 465,
         more_end: 466,
         nothing: 0,
-        height: 5,
+        height: 3,
     },
     // 123: exchange_order
     Row {
-        start: 422,
-        end: 423,
+        start: 445,
+        end: 446,
         more: 466,
         more_end: 466,
         nothing: 0,
@@ -5814,8 +6046,8 @@ pub static ROWS: [Row; 165] = [
     },
     // 124: order
     Row {
-        start: 423,
-        end: 424,
+        start: 446,
+        end: 447,
         more: 466,
         more_end: 466,
         nothing: 0,
@@ -5823,17 +6055,17 @@ pub static ROWS: [Row; 165] = [
     },
     // 125: scope
     Row {
-        start: 424,
-        end: 426,
+        start: 447,
+        end: 449,
         more: 466,
         more_end: 467,
-        nothing: 426,
+        nothing: 449,
         height: 1,
     },
     // 126: ordering
     Row {
-        start: 426,
-        end: 427,
+        start: 449,
+        end: 450,
         more: 467,
         more_end: 467,
         nothing: 0,
@@ -5841,17 +6073,17 @@ pub static ROWS: [Row; 165] = [
     },
     // 127: gep_flags
     Row {
-        start: 427,
-        end: 429,
+        start: 450,
+        end: 452,
         more: 467,
         more_end: 469,
-        nothing: 429,
+        nothing: 452,
         height: 2,
     },
     // 128: gep_flag
     Row {
-        start: 429,
-        end: 431,
+        start: 452,
+        end: 454,
         more: 469,
         more_end: 469,
         nothing: 0,
@@ -5859,35 +6091,35 @@ pub static ROWS: [Row; 165] = [
     },
     // 129: more_indices
     Row {
-        start: 431,
-        end: 433,
+        start: 454,
+        end: 456,
         more: 469,
         more_end: 470,
-        nothing: 433,
+        nothing: 456,
         height: 1,
     },
     // 130: index_or_node
     Row {
-        start: 433,
-        end: 435,
+        start: 456,
+        end: 458,
         more: 470,
         more_end: 471,
         nothing: 0,
-        height: 5,
+        height: 3,
     },
     // 131: more_places
     Row {
-        start: 435,
-        end: 437,
+        start: 458,
+        end: 460,
         more: 471,
         more_end: 472,
-        nothing: 437,
+        nothing: 460,
         height: 1,
     },
     // 132: place_or_node
     Row {
-        start: 437,
-        end: 439,
+        start: 460,
+        end: 462,
         more: 472,
         more_end: 473,
         nothing: 0,
@@ -5895,8 +6127,8 @@ pub static ROWS: [Row; 165] = [
     },
     // 133: entry
     Row {
-        start: 439,
-        end: 440,
+        start: 462,
+        end: 463,
         more: 473,
         more_end: 473,
         nothing: 0,
@@ -5904,17 +6136,17 @@ pub static ROWS: [Row; 165] = [
     },
     // 134: more_entries
     Row {
-        start: 440,
-        end: 442,
+        start: 463,
+        end: 465,
         more: 473,
         more_end: 474,
-        nothing: 442,
+        nothing: 465,
         height: 1,
     },
     // 135: entry_or_node
     Row {
-        start: 442,
-        end: 444,
+        start: 465,
+        end: 467,
         more: 474,
         more_end: 475,
         nothing: 0,
@@ -5922,17 +6154,17 @@ pub static ROWS: [Row; 165] = [
     },
     // 136: align_attached
     Row {
-        start: 444,
-        end: 446,
+        start: 467,
+        end: 469,
         more: 475,
         more_end: 476,
-        nothing: 446,
+        nothing: 469,
         height: 1,
     },
     // 137: align_or_attached
     Row {
-        start: 446,
-        end: 448,
+        start: 469,
+        end: 471,
         more: 476,
         more_end: 477,
         nothing: 0,
@@ -5940,17 +6172,17 @@ pub static ROWS: [Row; 165] = [
     },
     // 138: lost_align_attached
     Row {
-        start: 448,
-        end: 450,
+        start: 471,
+        end: 473,
         more: 477,
         more_end: 478,
-        nothing: 450,
+        nothing: 473,
         height: 1,
     },
     // 139: lost_align_or_attached
     Row {
-        start: 450,
-        end: 452,
+        start: 473,
+        end: 475,
         more: 478,
         more_end: 479,
         nothing: 0,
@@ -5958,26 +6190,26 @@ pub static ROWS: [Row; 165] = [
     },
     // 140: tail
     Row {
-        start: 452,
-        end: 454,
+        start: 475,
+        end: 477,
         more: 479,
         more_end: 480,
-        nothing: 454,
+        nothing: 477,
         height: 1,
     },
     // 141: call
     Row {
-        start: 454,
-        end: 455,
+        start: 477,
+        end: 478,
         more: 480,
         more_end: 496,
         nothing: 0,
-        height: 7,
+        height: 5,
     },
     // 142: callee
     Row {
-        start: 455,
-        end: 458,
+        start: 478,
+        end: 481,
         more: 496,
         more_end: 496,
         nothing: 0,
@@ -5985,8 +6217,8 @@ pub static ROWS: [Row; 165] = [
     },
     // 143: asm
     Row {
-        start: 458,
-        end: 460,
+        start: 481,
+        end: 483,
         more: 496,
         more_end: 496,
         nothing: 0,
@@ -5994,8 +6226,8 @@ pub static ROWS: [Row; 165] = [
     },
     // 144: asm_text
     Row {
-        start: 460,
-        end: 461,
+        start: 483,
+        end: 484,
         more: 496,
         more_end: 496,
         nothing: 0,
@@ -6003,8 +6235,8 @@ pub static ROWS: [Row; 165] = [
     },
     // 145: arguments
     Row {
-        start: 461,
-        end: 462,
+        start: 484,
+        end: 485,
         more: 496,
         more_end: 496,
         nothing: 0,
@@ -6012,53 +6244,53 @@ pub static ROWS: [Row; 165] = [
     },
     // 146: args
     Row {
-        start: 462,
-        end: 464,
+        start: 485,
+        end: 487,
         more: 496,
         more_end: 505,
-        nothing: 464,
-        height: 5,
+        nothing: 487,
+        height: 3,
     },
     // 147: more_args
     Row {
-        start: 464,
-        end: 466,
+        start: 487,
+        end: 489,
         more: 505,
         more_end: 506,
-        nothing: 466,
+        nothing: 489,
         height: 1,
     },
     // 148: arg
     Row {
-        start: 466,
-        end: 467,
+        start: 489,
+        end: 490,
         more: 506,
         more_end: 506,
         nothing: 0,
-        height: 4,
+        height: 2,
     },
     // 149: attached
     Row {
-        start: 467,
-        end: 469,
+        start: 490,
+        end: 492,
         more: 506,
         more_end: 507,
-        nothing: 469,
+        nothing: 492,
         height: 1,
     },
     // 150: attachments
     Row {
-        start: 469,
-        end: 471,
+        start: 492,
+        end: 494,
         more: 507,
         more_end: 515,
-        nothing: 471,
+        nothing: 494,
         height: 2,
     },
     // 151: mdname
     Row {
-        start: 471,
-        end: 479,
+        start: 494,
+        end: 502,
         more: 515,
         more_end: 515,
         nothing: 0,
@@ -6066,8 +6298,8 @@ pub static ROWS: [Row; 165] = [
     },
     // 152: mdref
     Row {
-        start: 479,
-        end: 481,
+        start: 502,
+        end: 504,
         more: 515,
         more_end: 515,
         nothing: 0,
@@ -6075,26 +6307,26 @@ pub static ROWS: [Row; 165] = [
     },
     // 153: mdrefs
     Row {
-        start: 481,
-        end: 483,
+        start: 504,
+        end: 506,
         more: 515,
         more_end: 526,
-        nothing: 483,
+        nothing: 506,
         height: 4,
     },
     // 154: more_mdrefs
     Row {
-        start: 483,
-        end: 485,
+        start: 506,
+        end: 508,
         more: 526,
         more_end: 527,
-        nothing: 485,
+        nothing: 508,
         height: 1,
     },
     // 155: node
     Row {
-        start: 485,
-        end: 488,
+        start: 508,
+        end: 511,
         more: 527,
         more_end: 527,
         nothing: 0,
@@ -6102,8 +6334,8 @@ pub static ROWS: [Row; 165] = [
     },
     // 156: debug_node
     Row {
-        start: 488,
-        end: 495,
+        start: 511,
+        end: 518,
         more: 527,
         more_end: 527,
         nothing: 0,
@@ -6111,53 +6343,53 @@ pub static ROWS: [Row; 165] = [
     },
     // 157: mdops
     Row {
-        start: 495,
-        end: 497,
+        start: 518,
+        end: 520,
         more: 527,
         more_end: 548,
-        nothing: 497,
-        height: 6,
+        nothing: 520,
+        height: 5,
     },
     // 158: more_mdops
     Row {
-        start: 497,
-        end: 499,
+        start: 520,
+        end: 522,
         more: 548,
         more_end: 549,
-        nothing: 499,
+        nothing: 522,
         height: 1,
     },
     // 159: mdop
     Row {
-        start: 499,
-        end: 503,
+        start: 522,
+        end: 526,
         more: 549,
         more_end: 549,
         nothing: 0,
-        height: 5,
+        height: 4,
     },
     // 160: fields
     Row {
-        start: 503,
-        end: 505,
+        start: 526,
+        end: 528,
         more: 549,
         more_end: 552,
-        nothing: 505,
+        nothing: 528,
         height: 2,
     },
     // 161: more_fields
     Row {
-        start: 505,
-        end: 507,
+        start: 528,
+        end: 530,
         more: 552,
         more_end: 554,
-        nothing: 507,
+        nothing: 530,
         height: 1,
     },
     // 162: field
     Row {
-        start: 507,
-        end: 508,
+        start: 530,
+        end: 531,
         more: 554,
         more_end: 555,
         nothing: 0,
@@ -6165,8 +6397,8 @@ pub static ROWS: [Row; 165] = [
     },
     // 163: field_value
     Row {
-        start: 508,
-        end: 512,
+        start: 531,
+        end: 535,
         more: 555,
         more_end: 556,
         nothing: 0,
@@ -6174,11 +6406,11 @@ pub static ROWS: [Row; 165] = [
     },
     // 164: more_words
     Row {
-        start: 512,
-        end: 514,
+        start: 535,
+        end: 537,
         more: 556,
         more_end: 557,
-        nothing: 514,
+        nothing: 537,
         height: 1,
     },
 ];
@@ -6342,9 +6574,9 @@ pub static FIRSTS: [u16; 1804] = [
     104, 105, 106, 107, 108, 109, 110, 111, 112, 113, 114, 115, 116, 117, 118, 119, 120, 121, 122,
     123, 124, 125, 126, 127, 128, 13,
     // type
-    123, 1, 12, 28, 47, 49, 51, 106,
+    123, 12, 106, 28, 47, 51, 1, 49,
     // solid
-    1, 12, 28, 47, 51, 106, 49,
+    12, 106, 28, 47, 51, 1, 49,
     // flat
     12, 106, 28, 47, 51, 1,
     // angle_type
@@ -6392,7 +6624,7 @@ pub static FIRSTS: [u16; 1804] = [
     107, 73, 114, 92, 120, 31, 33, 34, 35, 36, 104, 91, 30, 38, 118, 128, 88, 86, 32, 109, 89, 122,
     42, 74,
     // value
-    1, 0, 3, 5, 29, 30, 31, 47, 49, 51, 72, 90, 101, 112, 118,
+    1, 3, 29, 101, 47, 49, 51, 5, 112, 0, 72, 30, 118, 31, 90,
     // typed
     1, 12, 28, 47, 49, 51, 106, 123,
     // pair

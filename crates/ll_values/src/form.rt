@@ -11,8 +11,8 @@ pub enum DetailKind {
     Param,
     Label,
     Line,
-    Literal,
     Local,
+    Literal,
     Inst,
     Entry,
     Nuw,
@@ -91,8 +91,8 @@ impl DetailKind {
             DetailKind::Param => 3,
             DetailKind::Label => 1,
             DetailKind::Line => 3,
-            DetailKind::Literal => 1,
             DetailKind::Local => 1,
+            DetailKind::Literal => 1,
             DetailKind::Inst => 2,
             DetailKind::Entry => 2,
             DetailKind::Nuw => 1,
@@ -182,7 +182,7 @@ impl Kind {
 }
 
 /// The kinds of all alternatives, by their numbers; no alternative has the number 0.
-pub static KINDS: [Kind; 515] = [
+pub static KINDS: [Kind; 538] = [
     Kind::Outside,
     // 1: file = item file
     Kind::List(ListKind::FileMore),
@@ -272,10 +272,9 @@ pub static KINDS: [Kind; 515] = [
     Kind::List(ListKind::BodyEnd),
     // 65: body_part = LABEL
     Kind::Detail(DetailKind::Label),
-    // 66: body_part = line
-    Kind::Same,
-    // 67: line = records result inst
+    // 66: body_part = records result inst
     Kind::Detail(DetailKind::Line),
+    Kind::Outside,
     Kind::Outside,
     // 69: records = nothing
     Kind::Nothing,
@@ -476,12 +475,15 @@ pub static KINDS: [Kind; 515] = [
     Kind::Outside,
     // 261: type = 'void'
     Kind::Typed(TypedKind::Void),
-    // 262: type = solid
-    Kind::Same,
-    // 263: solid = flat
-    Kind::Same,
+    // 262: type = INTTYPE
+    Kind::Typed(TypedKind::Int),
     Kind::Outside,
-    // 265: flat = INTTYPE
+    Kind::Outside,
+    Kind::Outside,
+    Kind::Outside,
+    Kind::Outside,
+    Kind::Outside,
+    // 269: solid = INTTYPE
     Kind::Typed(TypedKind::Int),
     Kind::Outside,
     Kind::Outside,
@@ -506,10 +508,6 @@ pub static KINDS: [Kind; 515] = [
     Kind::Outside,
     Kind::Outside,
     Kind::Outside,
-    // 289: const = INT
-    Kind::Detail(DetailKind::Literal),
-    // 290: const = CONST
-    Kind::Detail(DetailKind::Literal),
     Kind::Outside,
     Kind::Outside,
     Kind::Outside,
@@ -539,7 +537,16 @@ pub static KINDS: [Kind; 515] = [
     Kind::Outside,
     Kind::Outside,
     Kind::Outside,
-    // 320: inst = simple attached
+    Kind::Outside,
+    Kind::Outside,
+    Kind::Outside,
+    Kind::Outside,
+    Kind::Outside,
+    Kind::Outside,
+    Kind::Outside,
+    Kind::Outside,
+    Kind::Outside,
+    // 331: inst = simple attached
     Kind::Detail(DetailKind::Inst),
     Kind::Outside,
     Kind::Outside,
@@ -549,56 +556,69 @@ pub static KINDS: [Kind; 515] = [
     Kind::Outside,
     Kind::Outside,
     Kind::Outside,
-    // 329: inst = 'phi' type entry more_entries
+    // 340: inst = 'phi' type entry more_entries
     Kind::Typed(TypedKind::Phi),
-    // 330: simple = 'ret' ret
+    // 341: simple = 'ret' ret
     Kind::Row(RowKind::Return),
-    // 331: simple = 'br' br
+    // 342: simple = 'br' br
     Kind::Same,
     Kind::Outside,
     Kind::Outside,
-    // 334: simple = 'unreachable'
+    // 345: simple = 'unreachable'
     Kind::Row(RowKind::Unreachable),
-    // 335: simple = sum wraps pair
+    // 346: simple = sum wraps pair
     Kind::Row(RowKind::Sum),
-    // 336: simple = quotient lost_exact pair
+    // 347: simple = quotient lost_exact pair
     Kind::Row(RowKind::Quotient),
-    // 337: simple = bits pair
+    // 348: simple = bits pair
     Kind::Row(RowKind::Bits),
-    // 338: simple = 'or' lost_disjoint pair
+    // 349: simple = 'or' lost_disjoint pair
     Kind::Row(RowKind::Or),
-    // 339: simple = 'icmp' lost_samesign predicate pair
+    // 350: simple = 'icmp' lost_samesign predicate pair
     Kind::Row(RowKind::ICmp),
-    // 340: simple = cast typed 'to' type
+    // 351: simple = cast typed 'to' type
     Kind::Row(RowKind::Cast),
-    // 341: simple = 'trunc' lost_wraps typed 'to' type
+    // 352: simple = 'trunc' lost_wraps typed 'to' type
     Kind::Row(RowKind::Trunc),
-    // 342: simple = 'zext' nneg typed 'to' type
+    // 353: simple = 'zext' nneg typed 'to' type
     Kind::Row(RowKind::ZExt),
     Kind::Outside,
     Kind::Outside,
-    // 345: simple = SIMPLE typed ',' typed ',' typed
+    // 356: simple = SIMPLE typed ',' typed ',' typed
     Kind::Row(RowKind::Three),
     Kind::Outside,
-    // 347: simple = 'freeze' typed
+    // 358: simple = 'freeze' typed
     Kind::Row(RowKind::Freeze),
     Kind::Outside,
     Kind::Outside,
-    // 350: value = LOCAL
+    // 361: value = LOCAL
     Kind::Detail(DetailKind::Local),
-    // 351: value = const
-    Kind::Same,
-    // 352: typed = type value
+    // 362: value = INT
+    Kind::Detail(DetailKind::Literal),
+    // 363: value = CONST
+    Kind::Detail(DetailKind::Literal),
+    Kind::Outside,
+    Kind::Outside,
+    Kind::Outside,
+    Kind::Outside,
+    Kind::Outside,
+    Kind::Outside,
+    Kind::Outside,
+    Kind::Outside,
+    Kind::Outside,
+    Kind::Outside,
+    Kind::Outside,
+    // 375: typed = type value
     Kind::Typed(TypedKind::Typed),
-    // 353: pair = type value ',' value
+    // 376: pair = type value ',' value
     Kind::Typed(TypedKind::Pair),
-    // 354: ret = 'void'
+    // 377: ret = 'void'
     Kind::Nothing,
-    // 355: ret = solid value
+    // 378: ret = solid value
     Kind::Typed(TypedKind::Typed),
-    // 356: br = 'label' LOCAL
+    // 379: br = 'label' LOCAL
     Kind::Row(RowKind::Jump),
-    // 357: br = typed ',' 'label' LOCAL ',' 'label' LOCAL
+    // 380: br = typed ',' 'label' LOCAL ',' 'label' LOCAL
     Kind::Row(RowKind::Branch),
     Kind::Outside,
     Kind::Outside,
@@ -606,51 +626,51 @@ pub static KINDS: [Kind; 515] = [
     Kind::Outside,
     Kind::Outside,
     Kind::Outside,
-    // 364: sum = CONST_SUM_RMW_KIND_SUM
+    // 387: sum = CONST_SUM_RMW_KIND_SUM
     Kind::Same,
-    // 365: sum = SUM
+    // 388: sum = SUM
     Kind::Same,
-    // 366: wraps = 'nuw' nsw
+    // 389: wraps = 'nuw' nsw
     Kind::Detail(DetailKind::Nuw),
-    // 367: wraps = 'nsw'
+    // 390: wraps = 'nsw'
     Kind::Detail(DetailKind::Nsw),
-    // 368: wraps = nothing
+    // 391: wraps = nothing
     Kind::Detail(DetailKind::NoWraps),
-    // 369: nsw = 'nsw'
+    // 392: nsw = 'nsw'
     Kind::Yes,
-    // 370: nsw = nothing
+    // 393: nsw = nothing
     Kind::No,
     Kind::Outside,
     Kind::Outside,
-    // 373: lost_wraps = nothing
+    // 396: lost_wraps = nothing
     Kind::Nothing,
     Kind::Outside,
     Kind::Outside,
     Kind::Outside,
     Kind::Outside,
-    // 378: quotient = QUOTIENT
+    // 401: quotient = QUOTIENT
     Kind::Same,
     Kind::Outside,
-    // 380: lost_exact = nothing
+    // 403: lost_exact = nothing
     Kind::Nothing,
-    // 381: bits = BITS
+    // 404: bits = BITS
     Kind::Same,
-    // 382: bits = BITS_RMW_KIND
+    // 405: bits = BITS_RMW_KIND
     Kind::Same,
     Kind::Outside,
-    // 384: lost_disjoint = nothing
+    // 407: lost_disjoint = nothing
     Kind::Nothing,
     Kind::Outside,
-    // 386: lost_samesign = nothing
+    // 409: lost_samesign = nothing
     Kind::Nothing,
-    // 387: predicate = PREDICATE
+    // 410: predicate = PREDICATE
     Kind::Same,
     Kind::Outside,
-    // 389: cast = CAST
+    // 412: cast = CAST
     Kind::Same,
-    // 390: nneg = 'nneg'
+    // 413: nneg = 'nneg'
     Kind::Yes,
-    // 391: nneg = nothing
+    // 414: nneg = nothing
     Kind::No,
     Kind::Outside,
     Kind::Outside,
@@ -700,13 +720,13 @@ pub static KINDS: [Kind; 515] = [
     Kind::Outside,
     Kind::Outside,
     Kind::Outside,
-    // 440: entry = '[' value ',' LOCAL ']'
+    // 463: entry = '[' value ',' LOCAL ']'
     Kind::Detail(DetailKind::Entry),
-    // 441: more_entries = ',' entry_or_node
+    // 464: more_entries = ',' entry_or_node
     Kind::Same,
-    // 442: more_entries = nothing
+    // 465: more_entries = nothing
     Kind::List(ListKind::EntriesEnd),
-    // 443: entry_or_node = entry more_entries
+    // 466: entry_or_node = entry more_entries
     Kind::List(ListKind::EntriesMore),
     Kind::Outside,
     Kind::Outside,
@@ -733,10 +753,10 @@ pub static KINDS: [Kind; 515] = [
     Kind::Outside,
     Kind::Outside,
     Kind::Outside,
-    // 469: attached = nothing
+    // 492: attached = nothing
     Kind::Nothing,
     Kind::Outside,
-    // 471: attachments = nothing
+    // 494: attachments = nothing
     Kind::Nothing,
     Kind::Outside,
     Kind::Outside,

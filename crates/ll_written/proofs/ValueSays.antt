@@ -27,41 +27,40 @@ literal_of (L.Const c) = ConstL (const_text c)
 
 -- ---- types
 
-flat_says : (b : Text) (n : ℕ) → 1 ≤ n → n ≤ 2 ^ 23 → Reads N.flat (TypeV (IntType n)) (token b T.Word (105 ∷ decimal n) ∷ [])
-flat_says b n some most = P.flat_int b (105 ∷ decimal n) (int_class n most) (ap (option_map TypeV) (int_width n some most))
-
 pub solid_says : (b : Text) (τ : TypeTree) → IsIntType τ → Reads N.solid (TypeV τ) (token b T.Word (type_text τ) ∷ [])
-solid_says b (IntType n) fits = P.solid_flat (flat_says b n fits.0 fits.1)
+solid_says b (IntType n) fits = P.solid_int b (105 ∷ decimal n) (int_class n fits.1) (ap (option_map TypeV) (int_width n fits.0 fits.1))
 solid_says b VoidType fits = absurd fits
 solid_says b (FunctionType r ts v) fits = absurd fits
 
+pub int_says : (b : Text) (τ : TypeTree) → IsIntType τ → Reads N.type (TypeV τ) (token b T.Word (type_text τ) ∷ [])
+int_says b (IntType n) fits = P.type_int b (105 ∷ decimal n) (int_class n fits.1) (ap (option_map TypeV) (int_width n fits.0 fits.1))
+int_says b VoidType fits = absurd fits
+int_says b (FunctionType r ts v) fits = absurd fits
+
 pub type_says : (b : Text) (τ : TypeTree) → IsResult τ → Reads N.type (TypeV τ) (token b T.Word (type_text τ) ∷ [])
 type_says b VoidType fits = P.type_void b refl
-type_says b (IntType n) fits = P.type_solid (solid_says b (IntType n) fits)
+type_says b (IntType n) fits = int_says b (IntType n) fits
 type_says b (FunctionType r ts v) fits = absurd fits
-
-pub int_says : (b : Text) (τ : TypeTree) → IsIntType τ → Reads N.type (TypeV τ) (token b T.Word (type_text τ) ∷ [])
-int_says b τ fits = P.type_solid (solid_says b τ fits)
 
 -- ---- values
 
-bit_says : (n : ℕ) → n < 2 → Reads N.const (LiteralV (ConstL (int_text 1 n))) (apart T.Word (int_text 1 n) ∷ [])
-bit_says zero h = P.const_literal_false (codes " ") refl
-bit_says (suc zero) h = P.const_literal_true (codes " ") refl
+bit_says : (n : ℕ) → n < 2 → Reads N.value (LiteralV (ConstL (int_text 1 n))) (apart T.Word (int_text 1 n) ∷ [])
+bit_says zero h = P.value_literal_false (codes " ") refl
+bit_says (suc zero) h = P.value_literal_true (codes " ") refl
 bit_says (suc (suc n)) h = absurd (omega arith)
 
-const_by : (v n : ℕ) (one : Bool) → n < 2 ^ v → (v == 1) ≡ one → Reads N.const (LiteralV (ConstL (int_text v n))) (written_said (L.Const (IntConst (IntType v) n)) ∷ [])
+const_by : (v n : ℕ) (one : Bool) → n < 2 ^ v → (v == 1) ≡ one → Reads N.value (LiteralV (ConstL (int_text v n))) (written_said (L.Const (IntConst (IntType v) n)) ∷ [])
 const_by v n true fits e =
     let same : 1 ≡ v = grind (arith, nat_tests) in
     let small : n < 2 = rw (← same) at fits in
-    subst (λ (m : ℕ). Reads N.const (LiteralV (ConstL (int_text m n))) (written_said (L.Const (IntConst (IntType m) n)) ∷ [])) same (bit_says n small)
+    subst (λ (m : ℕ). Reads N.value (LiteralV (ConstL (int_text m n))) (written_said (L.Const (IntConst (IntType m) n)) ∷ [])) same (bit_says n small)
 const_by v n false fits e =
     let kind : T.Int ≡ int_kind (IntType v) = rw e refl in
-    subst (λ (k : Kind). Reads N.const (LiteralV (ConstL (int_text v n))) (apart k (int_text v n) ∷ [])) kind (P.const_literal_int (codes " ") (int_text v n) refl)
+    subst (λ (k : Kind). Reads N.value (LiteralV (ConstL (int_text v n))) (apart k (int_text v n) ∷ [])) kind (P.value_literal_int (codes " ") (int_text v n) refl)
 
 pub said_says : (τ : TypeTree) (s : Said) → IsSaidOf τ s → Reads N.value (LiteralV (literal_of s)) (written_said s ∷ [])
 said_says τ (L.Local t) fits = P.value_local (codes " ") t refl
-said_says τ (L.Const c) (an_int v n most fits) = P.value_const (const_by v n (v == 1) fits refl)
+said_says τ (L.Const c) (an_int v n most fits) = const_by v n (v == 1) fits refl
 
 -- what a value is written as says the value at its type
 pub said_again : (τ : TypeTree) (s : Said) → IsIntType τ → IsSaidOf τ s → said τ (literal_of s) ≡ Some s

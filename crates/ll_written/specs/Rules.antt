@@ -49,9 +49,6 @@ body_parts = 29
 abbrev pub body_part : ℕ
 body_part = 30
 
-abbrev pub line : ℕ
-line = 31
-
 abbrev pub records : ℕ
 records = 32
 
@@ -69,12 +66,6 @@ type = 62
 
 abbrev pub solid : ℕ
 solid = 63
-
-abbrev pub flat : ℕ
-flat = 64
-
-abbrev pub const : ℕ
-const = 74
 
 abbrev pub inst : ℕ
 inst = 84
