@@ -10,6 +10,7 @@
     tables.py merged ..    the same of a grammar in which words that stand for each other have one class: the words that stand in
                            the same alternatives but for themselves, as the attributes that are one word. They are held then.
 """
+import itertools
 import os
 import re
 import sys
@@ -20,8 +21,10 @@ PIECE = re.compile(r"\s*(?:(?P<quoted>[@~]?'[^']+')|(?P<name>~?[A-Za-z_][A-Za-z0
 
 
 # Rules that most lines of a text go through. In the merged grammar their alternatives stand where the rule would be an
-# alternative, so that a reader goes there in one step. The rules stay, and may be used by no other.
+# alternative, and the tokens of rules that are tokens alone wherever the rule would stand, so that a reader goes there in
+# one step. The rules stay, and may be used by no other.
 IN_PLACE = ('line', 'solid', 'flat', 'const')
+TOKENS_IN_PLACE = ('sum', 'quotient', 'bits', 'predicate', 'cast')
 
 
 class GrammarError(Exception):
@@ -170,13 +173,16 @@ class Grammar:
             alternatives[:] = kept
 
     def put_in_place(self):
-        """Writes the alternatives of such rules where the rule is an alternative."""
+        """Writes the alternatives of such rules where the rule is an alternative, and tokens where it is tokens alone."""
         alternatives_of = dict(self.written)
 
+        def tokens_of(s):
+            return [inner[0] for inner, _ in alternatives_of[s]] if s in TOKENS_IN_PLACE else [s]
+
         def put(symbols, at):
-            if len(symbols) != 1 or symbols[0] not in IN_PLACE:
-                return [(symbols, at)]
-            return [found for inner, _ in alternatives_of[symbols[0]] for found in put(inner, at)]
+            if len(symbols) == 1 and symbols[0] in IN_PLACE:
+                return [found for inner, _ in alternatives_of[symbols[0]] for found in put(inner, at)]
+            return [(list(found), at) for found in itertools.product(*map(tokens_of, symbols))]
 
         for _, alternatives in self.written:
             alternatives[:] = [found for symbols, at in alternatives for found in put(symbols, at)]
@@ -217,7 +223,7 @@ class Grammar:
                     self.alternatives.append((rule, [self.symbol(s, name, at) for s in expanded], at))
             self.spans.append((start, len(self.alternatives)))
         used = {n for _, symbols, _ in self.alternatives for s, n in symbols if s == 'Rule'}
-        lost = [n for i, n in enumerate(self.rules) if i not in used and i != 0 and not (self.merged and n in IN_PLACE)]
+        lost = [n for i, n in enumerate(self.rules) if i not in used and i != 0 and not (self.merged and n in IN_PLACE + TOKENS_IN_PLACE)]
         if lost:
             raise GrammarError('rules that no rule uses: %s' % lost)
         self.check_lists()

@@ -10,7 +10,8 @@ pub enum DetailKind {
     External,
     Param,
     Label,
-    Line,
+    Named,
+    Bare,
     Local,
     Literal,
     Inst,
@@ -90,7 +91,8 @@ impl DetailKind {
             DetailKind::External => 1,
             DetailKind::Param => 3,
             DetailKind::Label => 1,
-            DetailKind::Line => 3,
+            DetailKind::Named => 2,
+            DetailKind::Bare => 1,
             DetailKind::Local => 1,
             DetailKind::Literal => 1,
             DetailKind::Inst => 2,
@@ -182,7 +184,7 @@ impl Kind {
 }
 
 /// The kinds of all alternatives, by their numbers; no alternative has the number 0.
-pub static KINDS: [Kind; 538] = [
+pub static KINDS: [Kind; 541] = [
     Kind::Outside,
     // 1: file = item file
     Kind::List(ListKind::FileMore),
@@ -272,16 +274,14 @@ pub static KINDS: [Kind; 538] = [
     Kind::List(ListKind::BodyEnd),
     // 65: body_part = LABEL
     Kind::Detail(DetailKind::Label),
-    // 66: body_part = records result inst
-    Kind::Detail(DetailKind::Line),
+    Kind::Outside,
+    // 67: body_part = LOCAL '=' inst
+    Kind::Detail(DetailKind::Named),
+    // 68: body_part = inst
+    Kind::Detail(DetailKind::Bare),
     Kind::Outside,
     Kind::Outside,
-    // 69: records = nothing
-    Kind::Nothing,
-    // 70: result = LOCAL '='
-    Kind::Same,
-    // 71: result = nothing
-    Kind::Nothing,
+    Kind::Outside,
     Kind::Outside,
     // 73: lost_attrs = nothing
     Kind::Nothing,
@@ -566,36 +566,41 @@ pub static KINDS: [Kind; 538] = [
     Kind::Outside,
     // 345: simple = 'unreachable'
     Kind::Row(RowKind::Unreachable),
-    // 346: simple = sum wraps pair
+    // 346: simple = CONST_SUM_RMW_KIND_SUM wraps pair
     Kind::Row(RowKind::Sum),
-    // 347: simple = quotient lost_exact pair
+    // 347: simple = SUM wraps pair
+    Kind::Row(RowKind::Sum),
+    // 348: simple = QUOTIENT lost_exact pair
     Kind::Row(RowKind::Quotient),
-    // 348: simple = bits pair
+    // 349: simple = BITS pair
     Kind::Row(RowKind::Bits),
-    // 349: simple = 'or' lost_disjoint pair
+    // 350: simple = BITS_RMW_KIND pair
+    Kind::Row(RowKind::Bits),
+    // 351: simple = 'or' lost_disjoint pair
     Kind::Row(RowKind::Or),
-    // 350: simple = 'icmp' lost_samesign predicate pair
+    // 352: simple = 'icmp' lost_samesign PREDICATE pair
     Kind::Row(RowKind::ICmp),
-    // 351: simple = cast typed 'to' type
+    Kind::Outside,
+    // 354: simple = CAST typed 'to' type
     Kind::Row(RowKind::Cast),
-    // 352: simple = 'trunc' lost_wraps typed 'to' type
+    // 355: simple = 'trunc' lost_wraps typed 'to' type
     Kind::Row(RowKind::Trunc),
-    // 353: simple = 'zext' nneg typed 'to' type
+    // 356: simple = 'zext' nneg typed 'to' type
     Kind::Row(RowKind::ZExt),
     Kind::Outside,
     Kind::Outside,
-    // 356: simple = SIMPLE typed ',' typed ',' typed
+    // 359: simple = SIMPLE typed ',' typed ',' typed
     Kind::Row(RowKind::Three),
     Kind::Outside,
-    // 358: simple = 'freeze' typed
+    // 361: simple = 'freeze' typed
     Kind::Row(RowKind::Freeze),
     Kind::Outside,
     Kind::Outside,
-    // 361: value = LOCAL
+    // 364: value = LOCAL
     Kind::Detail(DetailKind::Local),
-    // 362: value = INT
+    // 365: value = INT
     Kind::Detail(DetailKind::Literal),
-    // 363: value = CONST
+    // 366: value = CONST
     Kind::Detail(DetailKind::Literal),
     Kind::Outside,
     Kind::Outside,
@@ -608,17 +613,17 @@ pub static KINDS: [Kind; 538] = [
     Kind::Outside,
     Kind::Outside,
     Kind::Outside,
-    // 375: typed = type value
+    // 378: typed = type value
     Kind::Typed(TypedKind::Typed),
-    // 376: pair = type value ',' value
+    // 379: pair = type value ',' value
     Kind::Typed(TypedKind::Pair),
-    // 377: ret = 'void'
+    // 380: ret = 'void'
     Kind::Nothing,
-    // 378: ret = solid value
+    // 381: ret = solid value
     Kind::Typed(TypedKind::Typed),
-    // 379: br = 'label' LOCAL
+    // 382: br = 'label' LOCAL
     Kind::Row(RowKind::Jump),
-    // 380: br = typed ',' 'label' LOCAL ',' 'label' LOCAL
+    // 383: br = typed ',' 'label' LOCAL ',' 'label' LOCAL
     Kind::Row(RowKind::Branch),
     Kind::Outside,
     Kind::Outside,
@@ -626,51 +631,44 @@ pub static KINDS: [Kind; 538] = [
     Kind::Outside,
     Kind::Outside,
     Kind::Outside,
-    // 387: sum = CONST_SUM_RMW_KIND_SUM
-    Kind::Same,
-    // 388: sum = SUM
-    Kind::Same,
-    // 389: wraps = 'nuw' nsw
+    Kind::Outside,
+    Kind::Outside,
+    // 392: wraps = 'nuw' nsw
     Kind::Detail(DetailKind::Nuw),
-    // 390: wraps = 'nsw'
+    // 393: wraps = 'nsw'
     Kind::Detail(DetailKind::Nsw),
-    // 391: wraps = nothing
+    // 394: wraps = nothing
     Kind::Detail(DetailKind::NoWraps),
-    // 392: nsw = 'nsw'
+    // 395: nsw = 'nsw'
     Kind::Yes,
-    // 393: nsw = nothing
+    // 396: nsw = nothing
     Kind::No,
     Kind::Outside,
     Kind::Outside,
-    // 396: lost_wraps = nothing
+    // 399: lost_wraps = nothing
     Kind::Nothing,
     Kind::Outside,
     Kind::Outside,
     Kind::Outside,
     Kind::Outside,
-    // 401: quotient = QUOTIENT
-    Kind::Same,
     Kind::Outside,
-    // 403: lost_exact = nothing
-    Kind::Nothing,
-    // 404: bits = BITS
-    Kind::Same,
-    // 405: bits = BITS_RMW_KIND
-    Kind::Same,
     Kind::Outside,
-    // 407: lost_disjoint = nothing
+    // 406: lost_exact = nothing
     Kind::Nothing,
     Kind::Outside,
-    // 409: lost_samesign = nothing
-    Kind::Nothing,
-    // 410: predicate = PREDICATE
-    Kind::Same,
     Kind::Outside,
-    // 412: cast = CAST
-    Kind::Same,
-    // 413: nneg = 'nneg'
+    Kind::Outside,
+    // 410: lost_disjoint = nothing
+    Kind::Nothing,
+    Kind::Outside,
+    // 412: lost_samesign = nothing
+    Kind::Nothing,
+    Kind::Outside,
+    Kind::Outside,
+    Kind::Outside,
+    // 416: nneg = 'nneg'
     Kind::Yes,
-    // 414: nneg = nothing
+    // 417: nneg = nothing
     Kind::No,
     Kind::Outside,
     Kind::Outside,
@@ -720,13 +718,13 @@ pub static KINDS: [Kind; 538] = [
     Kind::Outside,
     Kind::Outside,
     Kind::Outside,
-    // 463: entry = '[' value ',' LOCAL ']'
+    // 466: entry = '[' value ',' LOCAL ']'
     Kind::Detail(DetailKind::Entry),
-    // 464: more_entries = ',' entry_or_node
+    // 467: more_entries = ',' entry_or_node
     Kind::Same,
-    // 465: more_entries = nothing
+    // 468: more_entries = nothing
     Kind::List(ListKind::EntriesEnd),
-    // 466: entry_or_node = entry more_entries
+    // 469: entry_or_node = entry more_entries
     Kind::List(ListKind::EntriesMore),
     Kind::Outside,
     Kind::Outside,
@@ -753,10 +751,10 @@ pub static KINDS: [Kind; 538] = [
     Kind::Outside,
     Kind::Outside,
     Kind::Outside,
-    // 492: attached = nothing
+    // 495: attached = nothing
     Kind::Nothing,
     Kind::Outside,
-    // 494: attachments = nothing
+    // 497: attachments = nothing
     Kind::Nothing,
     Kind::Outside,
     Kind::Outside,

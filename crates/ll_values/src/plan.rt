@@ -28,11 +28,8 @@ pub fn plan_detail(m: &LLVMModule, store: &Store, bytes: &[u8], kind: DetailKind
         DetailKind::NoWraps => match *parts { [] => Value::Wraps(OverflowFlags { nuw: false, nsw: false }), _ => return None },
         DetailKind::Entry => match *parts { [Value::Literal(literal), Value::Text(block)] => Value::Entry(Entry { literal, block }), _ => return None },
         DetailKind::Inst => match *parts { [Value::Inst(n), Value::Nothing] => Value::Inst(n), _ => return None },
-        DetailKind::Line => match *parts {
-            [Value::Nothing, Value::Nothing, Value::Inst(n)] => Value::Part(Piece::Does(None, n)),
-            [Value::Nothing, Value::Text(name), Value::Inst(n)] => Value::Part(Piece::Does(Some(name), n)),
-            _ => return None,
-        },
+        DetailKind::Named => match *parts { [Value::Text(name), Value::Inst(n)] => Value::Part(Piece::Does(Some(name), n)), _ => return None },
+        DetailKind::Bare => match *parts { [Value::Inst(n)] => Value::Part(Piece::Does(None, n)), _ => return None },
         DetailKind::Label => match *parts { [Value::Text(n)] => Value::Part(Piece::Label(n)), _ => return None },
         DetailKind::Param => match *parts {
             [Value::Type(ty), Value::Nothing, Value::Nothing] => Value::Param(Param { ty, name: None }),

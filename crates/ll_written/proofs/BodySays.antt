@@ -45,8 +45,8 @@ inst_says b (L.Phi τ es) h = phi_says b τ es h
 inst_says b (L.Row r) h = subst (λ (xs : List Spaced). Reads N.inst (InstV (L.Row r)) xs) (append-nil (written_row b r)) (P.inst (row_says b r h) (P.attached_none) refl)
 
 line_by : (result : Option Text) (i : Inst) → IsInst i → Reads N.body_part (PartV (L.Does (record { result = result; inst = i }))) (written_behind result i)
-line_by None i h = P.body_part_line (P.records_none) (P.result_none) (inst_says indent i h) refl
-line_by (Some t) i h = P.body_part_line (P.records_none) (P.result_local indent t (codes " ")) (inst_says (codes " ") i h) refl
+line_by None i h = P.body_part_bare (inst_says indent i h) refl
+line_by (Some t) i h = P.body_part_named indent t (codes " ") (inst_says (codes " ") i h) refl
 
 line_says : (l : Line) → IsLine l → Reads N.body_part (PartV (L.Does l)) (written_line l)
 line_says l h = line_by l.result l.inst h.inst

@@ -50,11 +50,11 @@ define_linkage_none = made llvm KINDS 8 26 K.Nothing {cs = []} refl refl refl re
 
 -- function_attrs = nothing
 pub function_attrs_none : Reads N.function_attrs NoneV []
-function_attrs_none = made llvm KINDS 37 86 K.Nothing {cs = []} refl refl refl refl (nothing llvm KINDS)
+function_attrs_none = made llvm KINDS 35 86 K.Nothing {cs = []} refl refl refl refl (nothing llvm KINDS)
 
 -- attachments = nothing
 pub attachments_none : Reads N.attachments NoneV []
-attachments_none = made llvm KINDS 150 494 K.Nothing {cs = []} refl refl refl refl (nothing llvm KINDS)
+attachments_none = made llvm KINDS 148 497 K.Nothing {cs = []} refl refl refl refl (nothing llvm KINDS)
 
 -- head = dso lost_attrs type GLOBAL parameters
 pub head : {v v0 v1 v2 v4 : Value} {x0 x1 x2 x4 : List Spaced} (b3 t3 : Text) → Reads N.dso v0 x0 → Reads N.lost_attrs v1 x1 → Reads N.type v2 x2 → Reads N.parameters v4 x4 → value_by (K.List L.Head) (v0 ∷ v1 ∷ v2 ∷ TextV t3 ∷ v4 ∷ []) ≡ Some v → Reads N.head v (x0 ++ (x1 ++ (x2 ++ (token b3 Global t3 ∷ x4))))
@@ -67,7 +67,7 @@ dso_none = made llvm KINDS 10 30 K.Nothing {cs = []} refl refl refl refl (nothin
 
 -- lost_attrs = nothing
 pub lost_attrs_none : Reads N.lost_attrs NoneV []
-lost_attrs_none = made llvm KINDS 34 73 K.Nothing {cs = []} refl refl refl refl (nothing llvm KINDS)
+lost_attrs_none = made llvm KINDS 32 73 K.Nothing {cs = []} refl refl refl refl (nothing llvm KINDS)
 
 -- unnamed = nothing
 pub unnamed_none : Reads N.unnamed NoneV []
@@ -130,326 +130,319 @@ body_parts_end made_by = made llvm KINDS 29 64 (K.List L.BodyEnd) {cs = []} refl
 pub body_part_label : {v : Value} (b0 t0 : Text) → value_by (K.Detail D.Label) (TextV t0 ∷ []) ≡ Some v → Reads N.body_part v (token b0 Label t0 ∷ [])
 body_part_label b0 t0 made_by = made llvm KINDS 30 65 (K.Detail D.Label) {cs = TextV t0 ∷ []} refl refl refl made_by (leaf llvm KINDS (token b0 Label t0) (C.kind_label t0) (nothing llvm KINDS))
 
--- body_part = records result inst
-pub body_part_line : {v v0 v1 v2 : Value} {x0 x1 x2 : List Spaced} → Reads N.records v0 x0 → Reads N.result v1 x1 → Reads N.inst v2 x2 → value_by (K.Detail D.Line) (v0 ∷ v1 ∷ v2 ∷ []) ≡ Some v → Reads N.body_part v (x0 ++ (x1 ++ x2))
-body_part_line {v0} {v1} {v2} h0 h1 h2 made_by = made llvm KINDS 30 66 (K.Detail D.Line) {cs = v0 ∷ v1 ∷ v2 ∷ []} refl refl refl made_by (rule llvm KINDS h0 (rule llvm KINDS h1 (last llvm KINDS h2)))
+-- body_part = LOCAL '=' inst
+pub body_part_named : {v v2 : Value} {x2 : List Spaced} (b0 t0 b1 : Text) → Reads N.inst v2 x2 → value_by (K.Detail D.Named) (TextV t0 ∷ v2 ∷ []) ≡ Some v → Reads N.body_part v (token b0 Local t0 ∷ token b1 Equals (codes "=") ∷ x2)
+body_part_named {v2} b0 t0 b1 h2 made_by =
+    made llvm KINDS 30 67 (K.Detail D.Named) {cs = TextV t0 ∷ v2 ∷ []} refl refl refl made_by (leaf llvm KINDS (token b0 Local t0) (C.kind_local t0) (word llvm KINDS (token b1 Equals (codes "=")) C.sign_equals (last llvm KINDS h2)))
 
--- records = nothing
-pub records_none : Reads N.records NoneV []
-records_none = made llvm KINDS 32 69 K.Nothing {cs = []} refl refl refl refl (nothing llvm KINDS)
-
--- result = LOCAL '='
-pub result_local : (b0 t0 b1 : Text) → Reads N.result (TextV t0) (token b0 Local t0 ∷ token b1 Equals (codes "=") ∷ [])
-result_local b0 t0 b1 =
-    made llvm KINDS 33 70 K.Same {cs = TextV t0 ∷ []} refl refl refl refl (leaf llvm KINDS (token b0 Local t0) (C.kind_local t0) (word llvm KINDS (token b1 Equals (codes "=")) C.sign_equals (nothing llvm KINDS)))
-
--- result = nothing
-pub result_none : Reads N.result NoneV []
-result_none = made llvm KINDS 33 71 K.Nothing {cs = []} refl refl refl refl (nothing llvm KINDS)
+-- body_part = inst
+pub body_part_bare : {v v0 : Value} {x0 : List Spaced} → Reads N.inst v0 x0 → value_by (K.Detail D.Bare) (v0 ∷ []) ≡ Some v → Reads N.body_part v x0
+body_part_bare {v0} h0 made_by = made llvm KINDS 30 68 (K.Detail D.Bare) {cs = v0 ∷ []} refl refl refl made_by (last llvm KINDS h0)
 
 -- type = 'void'
 pub type_void : {v : Value} (b0 : Text) → value_by (K.Typed T.Void) [] ≡ Some v → Reads N.type v (token b0 Word (codes "void") ∷ [])
-type_void b0 made_by = made llvm KINDS 62 261 (K.Typed T.Void) {cs = []} refl refl refl made_by (word llvm KINDS (token b0 Word (codes "void")) C.word_void (nothing llvm KINDS))
+type_void b0 made_by = made llvm KINDS 60 261 (K.Typed T.Void) {cs = []} refl refl refl made_by (word llvm KINDS (token b0 Word (codes "void")) C.word_void (nothing llvm KINDS))
 
 -- type = INTTYPE
 pub type_int : {v : Value} (b0 t0 : Text) → llvm_class Word t0 ≡ C.inttype → value_by (K.Typed T.Int) (TextV t0 ∷ []) ≡ Some v → Reads N.type v (token b0 Word t0 ∷ [])
-type_int b0 t0 h0 made_by = made llvm KINDS 62 262 (K.Typed T.Int) {cs = TextV t0 ∷ []} refl refl refl made_by (leaf llvm KINDS (token b0 Word t0) h0 (nothing llvm KINDS))
+type_int b0 t0 h0 made_by = made llvm KINDS 60 262 (K.Typed T.Int) {cs = TextV t0 ∷ []} refl refl refl made_by (leaf llvm KINDS (token b0 Word t0) h0 (nothing llvm KINDS))
 
 -- solid = INTTYPE
 pub solid_int : {v : Value} (b0 t0 : Text) → llvm_class Word t0 ≡ C.inttype → value_by (K.Typed T.Int) (TextV t0 ∷ []) ≡ Some v → Reads N.solid v (token b0 Word t0 ∷ [])
-solid_int b0 t0 h0 made_by = made llvm KINDS 63 269 (K.Typed T.Int) {cs = TextV t0 ∷ []} refl refl refl made_by (leaf llvm KINDS (token b0 Word t0) h0 (nothing llvm KINDS))
+solid_int b0 t0 h0 made_by = made llvm KINDS 61 269 (K.Typed T.Int) {cs = TextV t0 ∷ []} refl refl refl made_by (leaf llvm KINDS (token b0 Word t0) h0 (nothing llvm KINDS))
 
 -- value = LOCAL
 pub value_local : {v : Value} (b0 t0 : Text) → value_by (K.Detail D.Local) (TextV t0 ∷ []) ≡ Some v → Reads N.value v (token b0 Local t0 ∷ [])
-value_local b0 t0 made_by = made llvm KINDS 86 361 (K.Detail D.Local) {cs = TextV t0 ∷ []} refl refl refl made_by (leaf llvm KINDS (token b0 Local t0) (C.kind_local t0) (nothing llvm KINDS))
+value_local b0 t0 made_by = made llvm KINDS 84 364 (K.Detail D.Local) {cs = TextV t0 ∷ []} refl refl refl made_by (leaf llvm KINDS (token b0 Local t0) (C.kind_local t0) (nothing llvm KINDS))
 
 -- value = INT
 pub value_literal_int : {v : Value} (b0 t0 : Text) → value_by (K.Detail D.Literal) (TextV t0 ∷ []) ≡ Some v → Reads N.value v (token b0 Int t0 ∷ [])
-value_literal_int b0 t0 made_by = made llvm KINDS 86 362 (K.Detail D.Literal) {cs = TextV t0 ∷ []} refl refl refl made_by (leaf llvm KINDS (token b0 Int t0) (C.kind_int t0) (nothing llvm KINDS))
+value_literal_int b0 t0 made_by = made llvm KINDS 84 365 (K.Detail D.Literal) {cs = TextV t0 ∷ []} refl refl refl made_by (leaf llvm KINDS (token b0 Int t0) (C.kind_int t0) (nothing llvm KINDS))
 
 -- value = CONST
 pub value_literal_false : {v : Value} (b0 : Text) → value_by (K.Detail D.Literal) (TextV (codes "false") ∷ []) ≡ Some v → Reads N.value v (token b0 Word (codes "false") ∷ [])
 value_literal_false b0 made_by =
-    made llvm KINDS 86 363 (K.Detail D.Literal) {cs = TextV (codes "false") ∷ []} refl refl refl made_by (leaf llvm KINDS (token b0 Word (codes "false")) C.word_false (nothing llvm KINDS))
+    made llvm KINDS 84 366 (K.Detail D.Literal) {cs = TextV (codes "false") ∷ []} refl refl refl made_by (leaf llvm KINDS (token b0 Word (codes "false")) C.word_false (nothing llvm KINDS))
 
 -- value = CONST
 pub value_literal_poison : {v : Value} (b0 : Text) → value_by (K.Detail D.Literal) (TextV (codes "poison") ∷ []) ≡ Some v → Reads N.value v (token b0 Word (codes "poison") ∷ [])
 value_literal_poison b0 made_by =
-    made llvm KINDS 86 363 (K.Detail D.Literal) {cs = TextV (codes "poison") ∷ []} refl refl refl made_by (leaf llvm KINDS (token b0 Word (codes "poison")) C.word_poison (nothing llvm KINDS))
+    made llvm KINDS 84 366 (K.Detail D.Literal) {cs = TextV (codes "poison") ∷ []} refl refl refl made_by (leaf llvm KINDS (token b0 Word (codes "poison")) C.word_poison (nothing llvm KINDS))
 
 -- value = CONST
 pub value_literal_true : {v : Value} (b0 : Text) → value_by (K.Detail D.Literal) (TextV (codes "true") ∷ []) ≡ Some v → Reads N.value v (token b0 Word (codes "true") ∷ [])
 value_literal_true b0 made_by =
-    made llvm KINDS 86 363 (K.Detail D.Literal) {cs = TextV (codes "true") ∷ []} refl refl refl made_by (leaf llvm KINDS (token b0 Word (codes "true")) C.word_true (nothing llvm KINDS))
+    made llvm KINDS 84 366 (K.Detail D.Literal) {cs = TextV (codes "true") ∷ []} refl refl refl made_by (leaf llvm KINDS (token b0 Word (codes "true")) C.word_true (nothing llvm KINDS))
 
 -- value = CONST
 pub value_literal_undef : {v : Value} (b0 : Text) → value_by (K.Detail D.Literal) (TextV (codes "undef") ∷ []) ≡ Some v → Reads N.value v (token b0 Word (codes "undef") ∷ [])
 value_literal_undef b0 made_by =
-    made llvm KINDS 86 363 (K.Detail D.Literal) {cs = TextV (codes "undef") ∷ []} refl refl refl made_by (leaf llvm KINDS (token b0 Word (codes "undef")) C.word_undef (nothing llvm KINDS))
+    made llvm KINDS 84 366 (K.Detail D.Literal) {cs = TextV (codes "undef") ∷ []} refl refl refl made_by (leaf llvm KINDS (token b0 Word (codes "undef")) C.word_undef (nothing llvm KINDS))
 
 -- value = CONST
 pub value_literal_zeroinitializer : {v : Value} (b0 : Text) → value_by (K.Detail D.Literal) (TextV (codes "zeroinitializer") ∷ []) ≡ Some v → Reads N.value v (token b0 Word (codes "zeroinitializer") ∷ [])
 value_literal_zeroinitializer b0 made_by =
-    made llvm KINDS 86 363 (K.Detail D.Literal) {cs = TextV (codes "zeroinitializer") ∷ []} refl refl refl made_by (leaf llvm KINDS (token b0 Word (codes "zeroinitializer")) C.word_zeroinitializer (nothing llvm KINDS))
+    made llvm KINDS 84 366 (K.Detail D.Literal) {cs = TextV (codes "zeroinitializer") ∷ []} refl refl refl made_by (leaf llvm KINDS (token b0 Word (codes "zeroinitializer")) C.word_zeroinitializer (nothing llvm KINDS))
 
 -- typed = type value
 pub typed : {v v0 v1 : Value} {x0 x1 : List Spaced} → Reads N.type v0 x0 → Reads N.value v1 x1 → value_by (K.Typed T.Typed) (v0 ∷ v1 ∷ []) ≡ Some v → Reads N.typed v (x0 ++ x1)
-typed {v0} {v1} h0 h1 made_by = made llvm KINDS 87 375 (K.Typed T.Typed) {cs = v0 ∷ v1 ∷ []} refl refl refl made_by (rule llvm KINDS h0 (last llvm KINDS h1))
+typed {v0} {v1} h0 h1 made_by = made llvm KINDS 85 378 (K.Typed T.Typed) {cs = v0 ∷ v1 ∷ []} refl refl refl made_by (rule llvm KINDS h0 (last llvm KINDS h1))
 
 -- pair = type value ',' value
 pub pair : {v v0 v1 v3 : Value} {x0 x1 x3 : List Spaced} (b2 : Text) → Reads N.type v0 x0 → Reads N.value v1 x1 → Reads N.value v3 x3 → value_by (K.Typed T.Pair) (v0 ∷ v1 ∷ v3 ∷ []) ≡ Some v → Reads N.pair v (x0 ++ (x1 ++ (token b2 Comma (codes ",") ∷ x3)))
 pair {v0} {v1} {v3} b2 h0 h1 h3 made_by =
-    made llvm KINDS 88 376 (K.Typed T.Pair) {cs = v0 ∷ v1 ∷ v3 ∷ []} refl refl refl made_by (rule llvm KINDS h0 (rule llvm KINDS h1 (word llvm KINDS (token b2 Comma (codes ",")) C.sign_comma (last llvm KINDS h3))))
+    made llvm KINDS 86 379 (K.Typed T.Pair) {cs = v0 ∷ v1 ∷ v3 ∷ []} refl refl refl made_by (rule llvm KINDS h0 (rule llvm KINDS h1 (word llvm KINDS (token b2 Comma (codes ",")) C.sign_comma (last llvm KINDS h3))))
 
 -- inst = simple attached
 pub inst : {v v0 v1 : Value} {x0 x1 : List Spaced} → Reads N.simple v0 x0 → Reads N.attached v1 x1 → value_by (K.Detail D.Inst) (v0 ∷ v1 ∷ []) ≡ Some v → Reads N.inst v (x0 ++ x1)
-inst {v0} {v1} h0 h1 made_by = made llvm KINDS 84 331 (K.Detail D.Inst) {cs = v0 ∷ v1 ∷ []} refl refl refl made_by (rule llvm KINDS h0 (last llvm KINDS h1))
+inst {v0} {v1} h0 h1 made_by = made llvm KINDS 82 331 (K.Detail D.Inst) {cs = v0 ∷ v1 ∷ []} refl refl refl made_by (rule llvm KINDS h0 (last llvm KINDS h1))
 
 -- inst = 'phi' type entry more_entries
 pub inst_phi : {v v1 v2 v3 : Value} {x1 x2 x3 : List Spaced} (b0 : Text) → Reads N.type v1 x1 → Reads N.entry v2 x2 → Reads N.more_entries v3 x3 → value_by (K.Typed T.Phi) (v1 ∷ v2 ∷ v3 ∷ []) ≡ Some v → Reads N.inst v (token b0 Word (codes "phi") ∷ (x1 ++ (x2 ++ x3)))
 inst_phi {v1} {v2} {v3} b0 h1 h2 h3 made_by =
-    made llvm KINDS 84 340 (K.Typed T.Phi) {cs = v1 ∷ v2 ∷ v3 ∷ []} refl refl refl made_by (word llvm KINDS (token b0 Word (codes "phi")) C.word_phi (rule llvm KINDS h1 (rule llvm KINDS h2 (last llvm KINDS h3))))
+    made llvm KINDS 82 340 (K.Typed T.Phi) {cs = v1 ∷ v2 ∷ v3 ∷ []} refl refl refl made_by (word llvm KINDS (token b0 Word (codes "phi")) C.word_phi (rule llvm KINDS h1 (rule llvm KINDS h2 (last llvm KINDS h3))))
 
 -- attached = nothing
 pub attached_none : Reads N.attached NoneV []
-attached_none = made llvm KINDS 149 492 K.Nothing {cs = []} refl refl refl refl (nothing llvm KINDS)
+attached_none = made llvm KINDS 147 495 K.Nothing {cs = []} refl refl refl refl (nothing llvm KINDS)
 
 -- entry = '[' value ',' LOCAL ']'
 pub entry : {v v1 : Value} {x1 : List Spaced} (b0 b2 b3 t3 b4 : Text) → Reads N.value v1 x1 → value_by (K.Detail D.Entry) (v1 ∷ TextV t3 ∷ []) ≡ Some v → Reads N.entry v (token b0 OpenBracket (codes "[") ∷ (x1 ++ (token b2 Comma (codes ",") ∷ token b3 Local t3 ∷ token b4 CloseBracket (codes "]") ∷ [])))
 entry {v1} b0 b2 b3 t3 b4 h1 made_by =
-    made llvm KINDS 133 463 (K.Detail D.Entry) {cs = v1 ∷ TextV t3 ∷ []} refl refl refl made_by (word llvm KINDS (token b0 OpenBracket (codes "[")) C.sign_openbracket (rule llvm KINDS h1 (word llvm KINDS (token b2 Comma (codes ",")) C.sign_comma (leaf llvm KINDS (token b3 Local t3) (C.kind_local t3) (word llvm KINDS (token b4 CloseBracket (codes "]")) C.sign_closebracket (nothing llvm KINDS))))))
+    made llvm KINDS 131 466 (K.Detail D.Entry) {cs = v1 ∷ TextV t3 ∷ []} refl refl refl made_by (word llvm KINDS (token b0 OpenBracket (codes "[")) C.sign_openbracket (rule llvm KINDS h1 (word llvm KINDS (token b2 Comma (codes ",")) C.sign_comma (leaf llvm KINDS (token b3 Local t3) (C.kind_local t3) (word llvm KINDS (token b4 CloseBracket (codes "]")) C.sign_closebracket (nothing llvm KINDS))))))
 
 -- more_entries = ',' entry_or_node
 pub more_entries_entry_or_node : {v1 : Value} {x1 : List Spaced} (b0 : Text) → Reads N.entry_or_node v1 x1 → Reads N.more_entries v1 (token b0 Comma (codes ",") ∷ x1)
-more_entries_entry_or_node {v1} b0 h1 = made llvm KINDS 134 464 K.Same {cs = v1 ∷ []} refl refl refl refl (word llvm KINDS (token b0 Comma (codes ",")) C.sign_comma (last llvm KINDS h1))
+more_entries_entry_or_node {v1} b0 h1 = made llvm KINDS 132 467 K.Same {cs = v1 ∷ []} refl refl refl refl (word llvm KINDS (token b0 Comma (codes ",")) C.sign_comma (last llvm KINDS h1))
 
 -- more_entries = nothing
 pub more_entries_end : {v : Value} → value_by (K.List L.EntriesEnd) [] ≡ Some v → Reads N.more_entries v []
-more_entries_end made_by = made llvm KINDS 134 465 (K.List L.EntriesEnd) {cs = []} refl refl refl made_by (nothing llvm KINDS)
+more_entries_end made_by = made llvm KINDS 132 468 (K.List L.EntriesEnd) {cs = []} refl refl refl made_by (nothing llvm KINDS)
 
 -- entry_or_node = entry more_entries
 pub entry_or_node_more : {v v0 v1 : Value} {x0 x1 : List Spaced} → Reads N.entry v0 x0 → Reads N.more_entries v1 x1 → value_by (K.List L.EntriesMore) (v0 ∷ v1 ∷ []) ≡ Some v → Reads N.entry_or_node v (x0 ++ x1)
-entry_or_node_more {v0} {v1} h0 h1 made_by = made llvm KINDS 135 466 (K.List L.EntriesMore) {cs = v0 ∷ v1 ∷ []} refl refl refl made_by (rule llvm KINDS h0 (last llvm KINDS h1))
+entry_or_node_more {v0} {v1} h0 h1 made_by = made llvm KINDS 133 469 (K.List L.EntriesMore) {cs = v0 ∷ v1 ∷ []} refl refl refl made_by (rule llvm KINDS h0 (last llvm KINDS h1))
 
 -- simple = 'ret' ret
 pub simple_return : {v v1 : Value} {x1 : List Spaced} (b0 : Text) → Reads N.ret v1 x1 → value_by (K.Row R.Return) (v1 ∷ []) ≡ Some v → Reads N.simple v (token b0 Word (codes "ret") ∷ x1)
-simple_return {v1} b0 h1 made_by = made llvm KINDS 85 341 (K.Row R.Return) {cs = v1 ∷ []} refl refl refl made_by (word llvm KINDS (token b0 Word (codes "ret")) C.word_ret (last llvm KINDS h1))
+simple_return {v1} b0 h1 made_by = made llvm KINDS 83 341 (K.Row R.Return) {cs = v1 ∷ []} refl refl refl made_by (word llvm KINDS (token b0 Word (codes "ret")) C.word_ret (last llvm KINDS h1))
 
 -- simple = 'br' br
 pub simple_br : {v1 : Value} {x1 : List Spaced} (b0 : Text) → Reads N.br v1 x1 → Reads N.simple v1 (token b0 Word (codes "br") ∷ x1)
-simple_br {v1} b0 h1 = made llvm KINDS 85 342 K.Same {cs = v1 ∷ []} refl refl refl refl (word llvm KINDS (token b0 Word (codes "br")) C.word_br (last llvm KINDS h1))
+simple_br {v1} b0 h1 = made llvm KINDS 83 342 K.Same {cs = v1 ∷ []} refl refl refl refl (word llvm KINDS (token b0 Word (codes "br")) C.word_br (last llvm KINDS h1))
 
 -- simple = 'unreachable'
 pub simple_unreachable : {v : Value} (b0 : Text) → value_by (K.Row R.Unreachable) [] ≡ Some v → Reads N.simple v (token b0 Word (codes "unreachable") ∷ [])
 simple_unreachable b0 made_by =
-    made llvm KINDS 85 345 (K.Row R.Unreachable) {cs = []} refl refl refl made_by (word llvm KINDS (token b0 Word (codes "unreachable")) C.word_unreachable (nothing llvm KINDS))
+    made llvm KINDS 83 345 (K.Row R.Unreachable) {cs = []} refl refl refl made_by (word llvm KINDS (token b0 Word (codes "unreachable")) C.word_unreachable (nothing llvm KINDS))
 
--- simple = sum wraps pair
-pub simple_sum : {v v0 v1 v2 : Value} {x0 x1 x2 : List Spaced} → Reads N.sum v0 x0 → Reads N.wraps v1 x1 → Reads N.pair v2 x2 → value_by (K.Row R.Sum) (v0 ∷ v1 ∷ v2 ∷ []) ≡ Some v → Reads N.simple v (x0 ++ (x1 ++ x2))
-simple_sum {v0} {v1} {v2} h0 h1 h2 made_by = made llvm KINDS 85 346 (K.Row R.Sum) {cs = v0 ∷ v1 ∷ v2 ∷ []} refl refl refl made_by (rule llvm KINDS h0 (rule llvm KINDS h1 (last llvm KINDS h2)))
+-- simple = CONST_SUM_RMW_KIND_SUM wraps pair
+pub simple_sum_add : {v v1 v2 : Value} {x1 x2 : List Spaced} (b0 : Text) → Reads N.wraps v1 x1 → Reads N.pair v2 x2 → value_by (K.Row R.Sum) (TextV (codes "add") ∷ v1 ∷ v2 ∷ []) ≡ Some v → Reads N.simple v (token b0 Word (codes "add") ∷ (x1 ++ x2))
+simple_sum_add {v1} {v2} b0 h1 h2 made_by =
+    made llvm KINDS 83 346 (K.Row R.Sum) {cs = TextV (codes "add") ∷ v1 ∷ v2 ∷ []} refl refl refl made_by (leaf llvm KINDS (token b0 Word (codes "add")) C.word_add (rule llvm KINDS h1 (last llvm KINDS h2)))
 
--- simple = quotient lost_exact pair
-pub simple_quotient : {v v0 v1 v2 : Value} {x0 x1 x2 : List Spaced} → Reads N.quotient v0 x0 → Reads N.lost_exact v1 x1 → Reads N.pair v2 x2 → value_by (K.Row R.Quotient) (v0 ∷ v1 ∷ v2 ∷ []) ≡ Some v → Reads N.simple v (x0 ++ (x1 ++ x2))
-simple_quotient {v0} {v1} {v2} h0 h1 h2 made_by = made llvm KINDS 85 347 (K.Row R.Quotient) {cs = v0 ∷ v1 ∷ v2 ∷ []} refl refl refl made_by (rule llvm KINDS h0 (rule llvm KINDS h1 (last llvm KINDS h2)))
+-- simple = CONST_SUM_RMW_KIND_SUM wraps pair
+pub simple_sum_sub : {v v1 v2 : Value} {x1 x2 : List Spaced} (b0 : Text) → Reads N.wraps v1 x1 → Reads N.pair v2 x2 → value_by (K.Row R.Sum) (TextV (codes "sub") ∷ v1 ∷ v2 ∷ []) ≡ Some v → Reads N.simple v (token b0 Word (codes "sub") ∷ (x1 ++ x2))
+simple_sum_sub {v1} {v2} b0 h1 h2 made_by =
+    made llvm KINDS 83 346 (K.Row R.Sum) {cs = TextV (codes "sub") ∷ v1 ∷ v2 ∷ []} refl refl refl made_by (leaf llvm KINDS (token b0 Word (codes "sub")) C.word_sub (rule llvm KINDS h1 (last llvm KINDS h2)))
 
--- simple = bits pair
-pub simple_bits : {v v0 v1 : Value} {x0 x1 : List Spaced} → Reads N.bits v0 x0 → Reads N.pair v1 x1 → value_by (K.Row R.Bits) (v0 ∷ v1 ∷ []) ≡ Some v → Reads N.simple v (x0 ++ x1)
-simple_bits {v0} {v1} h0 h1 made_by = made llvm KINDS 85 348 (K.Row R.Bits) {cs = v0 ∷ v1 ∷ []} refl refl refl made_by (rule llvm KINDS h0 (last llvm KINDS h1))
+-- simple = SUM wraps pair
+pub simple_sum_mul : {v v1 v2 : Value} {x1 x2 : List Spaced} (b0 : Text) → Reads N.wraps v1 x1 → Reads N.pair v2 x2 → value_by (K.Row R.Sum) (TextV (codes "mul") ∷ v1 ∷ v2 ∷ []) ≡ Some v → Reads N.simple v (token b0 Word (codes "mul") ∷ (x1 ++ x2))
+simple_sum_mul {v1} {v2} b0 h1 h2 made_by =
+    made llvm KINDS 83 347 (K.Row R.Sum) {cs = TextV (codes "mul") ∷ v1 ∷ v2 ∷ []} refl refl refl made_by (leaf llvm KINDS (token b0 Word (codes "mul")) C.word_mul (rule llvm KINDS h1 (last llvm KINDS h2)))
+
+-- simple = SUM wraps pair
+pub simple_sum_shl : {v v1 v2 : Value} {x1 x2 : List Spaced} (b0 : Text) → Reads N.wraps v1 x1 → Reads N.pair v2 x2 → value_by (K.Row R.Sum) (TextV (codes "shl") ∷ v1 ∷ v2 ∷ []) ≡ Some v → Reads N.simple v (token b0 Word (codes "shl") ∷ (x1 ++ x2))
+simple_sum_shl {v1} {v2} b0 h1 h2 made_by =
+    made llvm KINDS 83 347 (K.Row R.Sum) {cs = TextV (codes "shl") ∷ v1 ∷ v2 ∷ []} refl refl refl made_by (leaf llvm KINDS (token b0 Word (codes "shl")) C.word_shl (rule llvm KINDS h1 (last llvm KINDS h2)))
+
+-- simple = QUOTIENT lost_exact pair
+pub simple_quotient_ashr : {v v1 v2 : Value} {x1 x2 : List Spaced} (b0 : Text) → Reads N.lost_exact v1 x1 → Reads N.pair v2 x2 → value_by (K.Row R.Quotient) (TextV (codes "ashr") ∷ v1 ∷ v2 ∷ []) ≡ Some v → Reads N.simple v (token b0 Word (codes "ashr") ∷ (x1 ++ x2))
+simple_quotient_ashr {v1} {v2} b0 h1 h2 made_by =
+    made llvm KINDS 83 348 (K.Row R.Quotient) {cs = TextV (codes "ashr") ∷ v1 ∷ v2 ∷ []} refl refl refl made_by (leaf llvm KINDS (token b0 Word (codes "ashr")) C.word_ashr (rule llvm KINDS h1 (last llvm KINDS h2)))
+
+-- simple = QUOTIENT lost_exact pair
+pub simple_quotient_lshr : {v v1 v2 : Value} {x1 x2 : List Spaced} (b0 : Text) → Reads N.lost_exact v1 x1 → Reads N.pair v2 x2 → value_by (K.Row R.Quotient) (TextV (codes "lshr") ∷ v1 ∷ v2 ∷ []) ≡ Some v → Reads N.simple v (token b0 Word (codes "lshr") ∷ (x1 ++ x2))
+simple_quotient_lshr {v1} {v2} b0 h1 h2 made_by =
+    made llvm KINDS 83 348 (K.Row R.Quotient) {cs = TextV (codes "lshr") ∷ v1 ∷ v2 ∷ []} refl refl refl made_by (leaf llvm KINDS (token b0 Word (codes "lshr")) C.word_lshr (rule llvm KINDS h1 (last llvm KINDS h2)))
+
+-- simple = QUOTIENT lost_exact pair
+pub simple_quotient_sdiv : {v v1 v2 : Value} {x1 x2 : List Spaced} (b0 : Text) → Reads N.lost_exact v1 x1 → Reads N.pair v2 x2 → value_by (K.Row R.Quotient) (TextV (codes "sdiv") ∷ v1 ∷ v2 ∷ []) ≡ Some v → Reads N.simple v (token b0 Word (codes "sdiv") ∷ (x1 ++ x2))
+simple_quotient_sdiv {v1} {v2} b0 h1 h2 made_by =
+    made llvm KINDS 83 348 (K.Row R.Quotient) {cs = TextV (codes "sdiv") ∷ v1 ∷ v2 ∷ []} refl refl refl made_by (leaf llvm KINDS (token b0 Word (codes "sdiv")) C.word_sdiv (rule llvm KINDS h1 (last llvm KINDS h2)))
+
+-- simple = QUOTIENT lost_exact pair
+pub simple_quotient_udiv : {v v1 v2 : Value} {x1 x2 : List Spaced} (b0 : Text) → Reads N.lost_exact v1 x1 → Reads N.pair v2 x2 → value_by (K.Row R.Quotient) (TextV (codes "udiv") ∷ v1 ∷ v2 ∷ []) ≡ Some v → Reads N.simple v (token b0 Word (codes "udiv") ∷ (x1 ++ x2))
+simple_quotient_udiv {v1} {v2} b0 h1 h2 made_by =
+    made llvm KINDS 83 348 (K.Row R.Quotient) {cs = TextV (codes "udiv") ∷ v1 ∷ v2 ∷ []} refl refl refl made_by (leaf llvm KINDS (token b0 Word (codes "udiv")) C.word_udiv (rule llvm KINDS h1 (last llvm KINDS h2)))
+
+-- simple = BITS pair
+pub simple_bits_srem : {v v1 : Value} {x1 : List Spaced} (b0 : Text) → Reads N.pair v1 x1 → value_by (K.Row R.Bits) (TextV (codes "srem") ∷ v1 ∷ []) ≡ Some v → Reads N.simple v (token b0 Word (codes "srem") ∷ x1)
+simple_bits_srem {v1} b0 h1 made_by =
+    made llvm KINDS 83 349 (K.Row R.Bits) {cs = TextV (codes "srem") ∷ v1 ∷ []} refl refl refl made_by (leaf llvm KINDS (token b0 Word (codes "srem")) C.word_srem (last llvm KINDS h1))
+
+-- simple = BITS pair
+pub simple_bits_urem : {v v1 : Value} {x1 : List Spaced} (b0 : Text) → Reads N.pair v1 x1 → value_by (K.Row R.Bits) (TextV (codes "urem") ∷ v1 ∷ []) ≡ Some v → Reads N.simple v (token b0 Word (codes "urem") ∷ x1)
+simple_bits_urem {v1} b0 h1 made_by =
+    made llvm KINDS 83 349 (K.Row R.Bits) {cs = TextV (codes "urem") ∷ v1 ∷ []} refl refl refl made_by (leaf llvm KINDS (token b0 Word (codes "urem")) C.word_urem (last llvm KINDS h1))
+
+-- simple = BITS_RMW_KIND pair
+pub simple_bits_and : {v v1 : Value} {x1 : List Spaced} (b0 : Text) → Reads N.pair v1 x1 → value_by (K.Row R.Bits) (TextV (codes "and") ∷ v1 ∷ []) ≡ Some v → Reads N.simple v (token b0 Word (codes "and") ∷ x1)
+simple_bits_and {v1} b0 h1 made_by =
+    made llvm KINDS 83 350 (K.Row R.Bits) {cs = TextV (codes "and") ∷ v1 ∷ []} refl refl refl made_by (leaf llvm KINDS (token b0 Word (codes "and")) C.word_and (last llvm KINDS h1))
+
+-- simple = BITS_RMW_KIND pair
+pub simple_bits_xor : {v v1 : Value} {x1 : List Spaced} (b0 : Text) → Reads N.pair v1 x1 → value_by (K.Row R.Bits) (TextV (codes "xor") ∷ v1 ∷ []) ≡ Some v → Reads N.simple v (token b0 Word (codes "xor") ∷ x1)
+simple_bits_xor {v1} b0 h1 made_by =
+    made llvm KINDS 83 350 (K.Row R.Bits) {cs = TextV (codes "xor") ∷ v1 ∷ []} refl refl refl made_by (leaf llvm KINDS (token b0 Word (codes "xor")) C.word_xor (last llvm KINDS h1))
 
 -- simple = 'or' lost_disjoint pair
 pub simple_or : {v v1 v2 : Value} {x1 x2 : List Spaced} (b0 : Text) → Reads N.lost_disjoint v1 x1 → Reads N.pair v2 x2 → value_by (K.Row R.Or) (v1 ∷ v2 ∷ []) ≡ Some v → Reads N.simple v (token b0 Word (codes "or") ∷ (x1 ++ x2))
 simple_or {v1} {v2} b0 h1 h2 made_by =
-    made llvm KINDS 85 349 (K.Row R.Or) {cs = v1 ∷ v2 ∷ []} refl refl refl made_by (word llvm KINDS (token b0 Word (codes "or")) C.word_or (rule llvm KINDS h1 (last llvm KINDS h2)))
+    made llvm KINDS 83 351 (K.Row R.Or) {cs = v1 ∷ v2 ∷ []} refl refl refl made_by (word llvm KINDS (token b0 Word (codes "or")) C.word_or (rule llvm KINDS h1 (last llvm KINDS h2)))
 
--- simple = 'icmp' lost_samesign predicate pair
-pub simple_icmp : {v v1 v2 v3 : Value} {x1 x2 x3 : List Spaced} (b0 : Text) → Reads N.lost_samesign v1 x1 → Reads N.predicate v2 x2 → Reads N.pair v3 x3 → value_by (K.Row R.ICmp) (v1 ∷ v2 ∷ v3 ∷ []) ≡ Some v → Reads N.simple v (token b0 Word (codes "icmp") ∷ (x1 ++ (x2 ++ x3)))
-simple_icmp {v1} {v2} {v3} b0 h1 h2 h3 made_by =
-    made llvm KINDS 85 350 (K.Row R.ICmp) {cs = v1 ∷ v2 ∷ v3 ∷ []} refl refl refl made_by (word llvm KINDS (token b0 Word (codes "icmp")) C.word_icmp (rule llvm KINDS h1 (rule llvm KINDS h2 (last llvm KINDS h3))))
+-- simple = 'icmp' lost_samesign PREDICATE pair
+pub simple_icmp_eq : {v v1 v3 : Value} {x1 x3 : List Spaced} (b0 b2 : Text) → Reads N.lost_samesign v1 x1 → Reads N.pair v3 x3 → value_by (K.Row R.ICmp) (v1 ∷ TextV (codes "eq") ∷ v3 ∷ []) ≡ Some v → Reads N.simple v (token b0 Word (codes "icmp") ∷ (x1 ++ (token b2 Word (codes "eq") ∷ x3)))
+simple_icmp_eq {v1} {v3} b0 b2 h1 h3 made_by =
+    made llvm KINDS 83 352 (K.Row R.ICmp) {cs = v1 ∷ TextV (codes "eq") ∷ v3 ∷ []} refl refl refl made_by (word llvm KINDS (token b0 Word (codes "icmp")) C.word_icmp (rule llvm KINDS h1 (leaf llvm KINDS (token b2 Word (codes "eq")) C.word_eq (last llvm KINDS h3))))
 
--- simple = cast typed 'to' type
-pub simple_cast : {v v0 v1 v3 : Value} {x0 x1 x3 : List Spaced} (b2 : Text) → Reads N.cast v0 x0 → Reads N.typed v1 x1 → Reads N.type v3 x3 → value_by (K.Row R.Cast) (v0 ∷ v1 ∷ v3 ∷ []) ≡ Some v → Reads N.simple v (x0 ++ (x1 ++ (token b2 Word (codes "to") ∷ x3)))
-simple_cast {v0} {v1} {v3} b2 h0 h1 h3 made_by =
-    made llvm KINDS 85 351 (K.Row R.Cast) {cs = v0 ∷ v1 ∷ v3 ∷ []} refl refl refl made_by (rule llvm KINDS h0 (rule llvm KINDS h1 (word llvm KINDS (token b2 Word (codes "to")) C.word_to (last llvm KINDS h3))))
+-- simple = 'icmp' lost_samesign PREDICATE pair
+pub simple_icmp_ne : {v v1 v3 : Value} {x1 x3 : List Spaced} (b0 b2 : Text) → Reads N.lost_samesign v1 x1 → Reads N.pair v3 x3 → value_by (K.Row R.ICmp) (v1 ∷ TextV (codes "ne") ∷ v3 ∷ []) ≡ Some v → Reads N.simple v (token b0 Word (codes "icmp") ∷ (x1 ++ (token b2 Word (codes "ne") ∷ x3)))
+simple_icmp_ne {v1} {v3} b0 b2 h1 h3 made_by =
+    made llvm KINDS 83 352 (K.Row R.ICmp) {cs = v1 ∷ TextV (codes "ne") ∷ v3 ∷ []} refl refl refl made_by (word llvm KINDS (token b0 Word (codes "icmp")) C.word_icmp (rule llvm KINDS h1 (leaf llvm KINDS (token b2 Word (codes "ne")) C.word_ne (last llvm KINDS h3))))
+
+-- simple = 'icmp' lost_samesign PREDICATE pair
+pub simple_icmp_sge : {v v1 v3 : Value} {x1 x3 : List Spaced} (b0 b2 : Text) → Reads N.lost_samesign v1 x1 → Reads N.pair v3 x3 → value_by (K.Row R.ICmp) (v1 ∷ TextV (codes "sge") ∷ v3 ∷ []) ≡ Some v → Reads N.simple v (token b0 Word (codes "icmp") ∷ (x1 ++ (token b2 Word (codes "sge") ∷ x3)))
+simple_icmp_sge {v1} {v3} b0 b2 h1 h3 made_by =
+    made llvm KINDS 83 352 (K.Row R.ICmp) {cs = v1 ∷ TextV (codes "sge") ∷ v3 ∷ []} refl refl refl made_by (word llvm KINDS (token b0 Word (codes "icmp")) C.word_icmp (rule llvm KINDS h1 (leaf llvm KINDS (token b2 Word (codes "sge")) C.word_sge (last llvm KINDS h3))))
+
+-- simple = 'icmp' lost_samesign PREDICATE pair
+pub simple_icmp_sgt : {v v1 v3 : Value} {x1 x3 : List Spaced} (b0 b2 : Text) → Reads N.lost_samesign v1 x1 → Reads N.pair v3 x3 → value_by (K.Row R.ICmp) (v1 ∷ TextV (codes "sgt") ∷ v3 ∷ []) ≡ Some v → Reads N.simple v (token b0 Word (codes "icmp") ∷ (x1 ++ (token b2 Word (codes "sgt") ∷ x3)))
+simple_icmp_sgt {v1} {v3} b0 b2 h1 h3 made_by =
+    made llvm KINDS 83 352 (K.Row R.ICmp) {cs = v1 ∷ TextV (codes "sgt") ∷ v3 ∷ []} refl refl refl made_by (word llvm KINDS (token b0 Word (codes "icmp")) C.word_icmp (rule llvm KINDS h1 (leaf llvm KINDS (token b2 Word (codes "sgt")) C.word_sgt (last llvm KINDS h3))))
+
+-- simple = 'icmp' lost_samesign PREDICATE pair
+pub simple_icmp_sle : {v v1 v3 : Value} {x1 x3 : List Spaced} (b0 b2 : Text) → Reads N.lost_samesign v1 x1 → Reads N.pair v3 x3 → value_by (K.Row R.ICmp) (v1 ∷ TextV (codes "sle") ∷ v3 ∷ []) ≡ Some v → Reads N.simple v (token b0 Word (codes "icmp") ∷ (x1 ++ (token b2 Word (codes "sle") ∷ x3)))
+simple_icmp_sle {v1} {v3} b0 b2 h1 h3 made_by =
+    made llvm KINDS 83 352 (K.Row R.ICmp) {cs = v1 ∷ TextV (codes "sle") ∷ v3 ∷ []} refl refl refl made_by (word llvm KINDS (token b0 Word (codes "icmp")) C.word_icmp (rule llvm KINDS h1 (leaf llvm KINDS (token b2 Word (codes "sle")) C.word_sle (last llvm KINDS h3))))
+
+-- simple = 'icmp' lost_samesign PREDICATE pair
+pub simple_icmp_slt : {v v1 v3 : Value} {x1 x3 : List Spaced} (b0 b2 : Text) → Reads N.lost_samesign v1 x1 → Reads N.pair v3 x3 → value_by (K.Row R.ICmp) (v1 ∷ TextV (codes "slt") ∷ v3 ∷ []) ≡ Some v → Reads N.simple v (token b0 Word (codes "icmp") ∷ (x1 ++ (token b2 Word (codes "slt") ∷ x3)))
+simple_icmp_slt {v1} {v3} b0 b2 h1 h3 made_by =
+    made llvm KINDS 83 352 (K.Row R.ICmp) {cs = v1 ∷ TextV (codes "slt") ∷ v3 ∷ []} refl refl refl made_by (word llvm KINDS (token b0 Word (codes "icmp")) C.word_icmp (rule llvm KINDS h1 (leaf llvm KINDS (token b2 Word (codes "slt")) C.word_slt (last llvm KINDS h3))))
+
+-- simple = 'icmp' lost_samesign PREDICATE pair
+pub simple_icmp_uge : {v v1 v3 : Value} {x1 x3 : List Spaced} (b0 b2 : Text) → Reads N.lost_samesign v1 x1 → Reads N.pair v3 x3 → value_by (K.Row R.ICmp) (v1 ∷ TextV (codes "uge") ∷ v3 ∷ []) ≡ Some v → Reads N.simple v (token b0 Word (codes "icmp") ∷ (x1 ++ (token b2 Word (codes "uge") ∷ x3)))
+simple_icmp_uge {v1} {v3} b0 b2 h1 h3 made_by =
+    made llvm KINDS 83 352 (K.Row R.ICmp) {cs = v1 ∷ TextV (codes "uge") ∷ v3 ∷ []} refl refl refl made_by (word llvm KINDS (token b0 Word (codes "icmp")) C.word_icmp (rule llvm KINDS h1 (leaf llvm KINDS (token b2 Word (codes "uge")) C.word_uge (last llvm KINDS h3))))
+
+-- simple = 'icmp' lost_samesign PREDICATE pair
+pub simple_icmp_ugt : {v v1 v3 : Value} {x1 x3 : List Spaced} (b0 b2 : Text) → Reads N.lost_samesign v1 x1 → Reads N.pair v3 x3 → value_by (K.Row R.ICmp) (v1 ∷ TextV (codes "ugt") ∷ v3 ∷ []) ≡ Some v → Reads N.simple v (token b0 Word (codes "icmp") ∷ (x1 ++ (token b2 Word (codes "ugt") ∷ x3)))
+simple_icmp_ugt {v1} {v3} b0 b2 h1 h3 made_by =
+    made llvm KINDS 83 352 (K.Row R.ICmp) {cs = v1 ∷ TextV (codes "ugt") ∷ v3 ∷ []} refl refl refl made_by (word llvm KINDS (token b0 Word (codes "icmp")) C.word_icmp (rule llvm KINDS h1 (leaf llvm KINDS (token b2 Word (codes "ugt")) C.word_ugt (last llvm KINDS h3))))
+
+-- simple = 'icmp' lost_samesign PREDICATE pair
+pub simple_icmp_ule : {v v1 v3 : Value} {x1 x3 : List Spaced} (b0 b2 : Text) → Reads N.lost_samesign v1 x1 → Reads N.pair v3 x3 → value_by (K.Row R.ICmp) (v1 ∷ TextV (codes "ule") ∷ v3 ∷ []) ≡ Some v → Reads N.simple v (token b0 Word (codes "icmp") ∷ (x1 ++ (token b2 Word (codes "ule") ∷ x3)))
+simple_icmp_ule {v1} {v3} b0 b2 h1 h3 made_by =
+    made llvm KINDS 83 352 (K.Row R.ICmp) {cs = v1 ∷ TextV (codes "ule") ∷ v3 ∷ []} refl refl refl made_by (word llvm KINDS (token b0 Word (codes "icmp")) C.word_icmp (rule llvm KINDS h1 (leaf llvm KINDS (token b2 Word (codes "ule")) C.word_ule (last llvm KINDS h3))))
+
+-- simple = 'icmp' lost_samesign PREDICATE pair
+pub simple_icmp_ult : {v v1 v3 : Value} {x1 x3 : List Spaced} (b0 b2 : Text) → Reads N.lost_samesign v1 x1 → Reads N.pair v3 x3 → value_by (K.Row R.ICmp) (v1 ∷ TextV (codes "ult") ∷ v3 ∷ []) ≡ Some v → Reads N.simple v (token b0 Word (codes "icmp") ∷ (x1 ++ (token b2 Word (codes "ult") ∷ x3)))
+simple_icmp_ult {v1} {v3} b0 b2 h1 h3 made_by =
+    made llvm KINDS 83 352 (K.Row R.ICmp) {cs = v1 ∷ TextV (codes "ult") ∷ v3 ∷ []} refl refl refl made_by (word llvm KINDS (token b0 Word (codes "icmp")) C.word_icmp (rule llvm KINDS h1 (leaf llvm KINDS (token b2 Word (codes "ult")) C.word_ult (last llvm KINDS h3))))
+
+-- simple = CAST typed 'to' type
+pub simple_cast_addrspacecast : {v v1 v3 : Value} {x1 x3 : List Spaced} (b0 b2 : Text) → Reads N.typed v1 x1 → Reads N.type v3 x3 → value_by (K.Row R.Cast) (TextV (codes "addrspacecast") ∷ v1 ∷ v3 ∷ []) ≡ Some v → Reads N.simple v (token b0 Word (codes "addrspacecast") ∷ (x1 ++ (token b2 Word (codes "to") ∷ x3)))
+simple_cast_addrspacecast {v1} {v3} b0 b2 h1 h3 made_by =
+    made llvm KINDS 83 354 (K.Row R.Cast) {cs = TextV (codes "addrspacecast") ∷ v1 ∷ v3 ∷ []} refl refl refl made_by (leaf llvm KINDS (token b0 Word (codes "addrspacecast")) C.word_addrspacecast (rule llvm KINDS h1 (word llvm KINDS (token b2 Word (codes "to")) C.word_to (last llvm KINDS h3))))
+
+-- simple = CAST typed 'to' type
+pub simple_cast_sext : {v v1 v3 : Value} {x1 x3 : List Spaced} (b0 b2 : Text) → Reads N.typed v1 x1 → Reads N.type v3 x3 → value_by (K.Row R.Cast) (TextV (codes "sext") ∷ v1 ∷ v3 ∷ []) ≡ Some v → Reads N.simple v (token b0 Word (codes "sext") ∷ (x1 ++ (token b2 Word (codes "to") ∷ x3)))
+simple_cast_sext {v1} {v3} b0 b2 h1 h3 made_by =
+    made llvm KINDS 83 354 (K.Row R.Cast) {cs = TextV (codes "sext") ∷ v1 ∷ v3 ∷ []} refl refl refl made_by (leaf llvm KINDS (token b0 Word (codes "sext")) C.word_sext (rule llvm KINDS h1 (word llvm KINDS (token b2 Word (codes "to")) C.word_to (last llvm KINDS h3))))
 
 -- simple = 'trunc' lost_wraps typed 'to' type
 pub simple_trunc : {v v1 v2 v4 : Value} {x1 x2 x4 : List Spaced} (b0 b3 : Text) → Reads N.lost_wraps v1 x1 → Reads N.typed v2 x2 → Reads N.type v4 x4 → value_by (K.Row R.Trunc) (v1 ∷ v2 ∷ v4 ∷ []) ≡ Some v → Reads N.simple v (token b0 Word (codes "trunc") ∷ (x1 ++ (x2 ++ (token b3 Word (codes "to") ∷ x4))))
 simple_trunc {v1} {v2} {v4} b0 b3 h1 h2 h4 made_by =
-    made llvm KINDS 85 352 (K.Row R.Trunc) {cs = v1 ∷ v2 ∷ v4 ∷ []} refl refl refl made_by (word llvm KINDS (token b0 Word (codes "trunc")) C.word_trunc (rule llvm KINDS h1 (rule llvm KINDS h2 (word llvm KINDS (token b3 Word (codes "to")) C.word_to (last llvm KINDS h4)))))
+    made llvm KINDS 83 355 (K.Row R.Trunc) {cs = v1 ∷ v2 ∷ v4 ∷ []} refl refl refl made_by (word llvm KINDS (token b0 Word (codes "trunc")) C.word_trunc (rule llvm KINDS h1 (rule llvm KINDS h2 (word llvm KINDS (token b3 Word (codes "to")) C.word_to (last llvm KINDS h4)))))
 
 -- simple = 'zext' nneg typed 'to' type
 pub simple_zext : {v v1 v2 v4 : Value} {x1 x2 x4 : List Spaced} (b0 b3 : Text) → Reads N.nneg v1 x1 → Reads N.typed v2 x2 → Reads N.type v4 x4 → value_by (K.Row R.ZExt) (v1 ∷ v2 ∷ v4 ∷ []) ≡ Some v → Reads N.simple v (token b0 Word (codes "zext") ∷ (x1 ++ (x2 ++ (token b3 Word (codes "to") ∷ x4))))
 simple_zext {v1} {v2} {v4} b0 b3 h1 h2 h4 made_by =
-    made llvm KINDS 85 353 (K.Row R.ZExt) {cs = v1 ∷ v2 ∷ v4 ∷ []} refl refl refl made_by (word llvm KINDS (token b0 Word (codes "zext")) C.word_zext (rule llvm KINDS h1 (rule llvm KINDS h2 (word llvm KINDS (token b3 Word (codes "to")) C.word_to (last llvm KINDS h4)))))
+    made llvm KINDS 83 356 (K.Row R.ZExt) {cs = v1 ∷ v2 ∷ v4 ∷ []} refl refl refl made_by (word llvm KINDS (token b0 Word (codes "zext")) C.word_zext (rule llvm KINDS h1 (rule llvm KINDS h2 (word llvm KINDS (token b3 Word (codes "to")) C.word_to (last llvm KINDS h4)))))
 
 -- simple = SIMPLE typed ',' typed ',' typed
 pub simple_three_insertelement : {v v1 v3 v5 : Value} {x1 x3 x5 : List Spaced} (b0 b2 b4 : Text) → Reads N.typed v1 x1 → Reads N.typed v3 x3 → Reads N.typed v5 x5 → value_by (K.Row R.Three) (TextV (codes "insertelement") ∷ v1 ∷ v3 ∷ v5 ∷ []) ≡ Some v → Reads N.simple v (token b0 Word (codes "insertelement") ∷ (x1 ++ (token b2 Comma (codes ",") ∷ (x3 ++ (token b4 Comma (codes ",") ∷ x5)))))
 simple_three_insertelement {v1} {v3} {v5} b0 b2 b4 h1 h3 h5 made_by =
-    made llvm KINDS 85 356 (K.Row R.Three) {cs = TextV (codes "insertelement") ∷ v1 ∷ v3 ∷ v5 ∷ []} refl refl refl made_by (leaf llvm KINDS (token b0 Word (codes "insertelement")) C.word_insertelement (rule llvm KINDS h1 (word llvm KINDS (token b2 Comma (codes ",")) C.sign_comma (rule llvm KINDS h3 (word llvm KINDS (token b4 Comma (codes ",")) C.sign_comma (last llvm KINDS h5))))))
+    made llvm KINDS 83 359 (K.Row R.Three) {cs = TextV (codes "insertelement") ∷ v1 ∷ v3 ∷ v5 ∷ []} refl refl refl made_by (leaf llvm KINDS (token b0 Word (codes "insertelement")) C.word_insertelement (rule llvm KINDS h1 (word llvm KINDS (token b2 Comma (codes ",")) C.sign_comma (rule llvm KINDS h3 (word llvm KINDS (token b4 Comma (codes ",")) C.sign_comma (last llvm KINDS h5))))))
 
 -- simple = SIMPLE typed ',' typed ',' typed
 pub simple_three_select : {v v1 v3 v5 : Value} {x1 x3 x5 : List Spaced} (b0 b2 b4 : Text) → Reads N.typed v1 x1 → Reads N.typed v3 x3 → Reads N.typed v5 x5 → value_by (K.Row R.Three) (TextV (codes "select") ∷ v1 ∷ v3 ∷ v5 ∷ []) ≡ Some v → Reads N.simple v (token b0 Word (codes "select") ∷ (x1 ++ (token b2 Comma (codes ",") ∷ (x3 ++ (token b4 Comma (codes ",") ∷ x5)))))
 simple_three_select {v1} {v3} {v5} b0 b2 b4 h1 h3 h5 made_by =
-    made llvm KINDS 85 356 (K.Row R.Three) {cs = TextV (codes "select") ∷ v1 ∷ v3 ∷ v5 ∷ []} refl refl refl made_by (leaf llvm KINDS (token b0 Word (codes "select")) C.word_select (rule llvm KINDS h1 (word llvm KINDS (token b2 Comma (codes ",")) C.sign_comma (rule llvm KINDS h3 (word llvm KINDS (token b4 Comma (codes ",")) C.sign_comma (last llvm KINDS h5))))))
+    made llvm KINDS 83 359 (K.Row R.Three) {cs = TextV (codes "select") ∷ v1 ∷ v3 ∷ v5 ∷ []} refl refl refl made_by (leaf llvm KINDS (token b0 Word (codes "select")) C.word_select (rule llvm KINDS h1 (word llvm KINDS (token b2 Comma (codes ",")) C.sign_comma (rule llvm KINDS h3 (word llvm KINDS (token b4 Comma (codes ",")) C.sign_comma (last llvm KINDS h5))))))
 
 -- simple = 'freeze' typed
 pub simple_freeze : {v v1 : Value} {x1 : List Spaced} (b0 : Text) → Reads N.typed v1 x1 → value_by (K.Row R.Freeze) (v1 ∷ []) ≡ Some v → Reads N.simple v (token b0 Word (codes "freeze") ∷ x1)
-simple_freeze {v1} b0 h1 made_by = made llvm KINDS 85 358 (K.Row R.Freeze) {cs = v1 ∷ []} refl refl refl made_by (word llvm KINDS (token b0 Word (codes "freeze")) C.word_freeze (last llvm KINDS h1))
+simple_freeze {v1} b0 h1 made_by = made llvm KINDS 83 361 (K.Row R.Freeze) {cs = v1 ∷ []} refl refl refl made_by (word llvm KINDS (token b0 Word (codes "freeze")) C.word_freeze (last llvm KINDS h1))
 
 -- ret = 'void'
 pub ret_none : (b0 : Text) → Reads N.ret NoneV (token b0 Word (codes "void") ∷ [])
-ret_none b0 = made llvm KINDS 89 377 K.Nothing {cs = []} refl refl refl refl (word llvm KINDS (token b0 Word (codes "void")) C.word_void (nothing llvm KINDS))
+ret_none b0 = made llvm KINDS 87 380 K.Nothing {cs = []} refl refl refl refl (word llvm KINDS (token b0 Word (codes "void")) C.word_void (nothing llvm KINDS))
 
 -- ret = solid value
 pub ret_typed : {v v0 v1 : Value} {x0 x1 : List Spaced} → Reads N.solid v0 x0 → Reads N.value v1 x1 → value_by (K.Typed T.Typed) (v0 ∷ v1 ∷ []) ≡ Some v → Reads N.ret v (x0 ++ x1)
-ret_typed {v0} {v1} h0 h1 made_by = made llvm KINDS 89 378 (K.Typed T.Typed) {cs = v0 ∷ v1 ∷ []} refl refl refl made_by (rule llvm KINDS h0 (last llvm KINDS h1))
+ret_typed {v0} {v1} h0 h1 made_by = made llvm KINDS 87 381 (K.Typed T.Typed) {cs = v0 ∷ v1 ∷ []} refl refl refl made_by (rule llvm KINDS h0 (last llvm KINDS h1))
 
 -- br = 'label' LOCAL
 pub br_jump : {v : Value} (b0 b1 t1 : Text) → value_by (K.Row R.Jump) (TextV t1 ∷ []) ≡ Some v → Reads N.br v (token b0 Word (codes "label") ∷ token b1 Local t1 ∷ [])
 br_jump b0 b1 t1 made_by =
-    made llvm KINDS 90 379 (K.Row R.Jump) {cs = TextV t1 ∷ []} refl refl refl made_by (word llvm KINDS (token b0 Word (codes "label")) C.word_label (leaf llvm KINDS (token b1 Local t1) (C.kind_local t1) (nothing llvm KINDS)))
+    made llvm KINDS 88 382 (K.Row R.Jump) {cs = TextV t1 ∷ []} refl refl refl made_by (word llvm KINDS (token b0 Word (codes "label")) C.word_label (leaf llvm KINDS (token b1 Local t1) (C.kind_local t1) (nothing llvm KINDS)))
 
 -- br = typed ',' 'label' LOCAL ',' 'label' LOCAL
 pub br_branch : {v v0 : Value} {x0 : List Spaced} (b1 b2 b3 t3 b4 b5 b6 t6 : Text) → Reads N.typed v0 x0 → value_by (K.Row R.Branch) (v0 ∷ TextV t3 ∷ TextV t6 ∷ []) ≡ Some v → Reads N.br v (x0 ++ (token b1 Comma (codes ",") ∷ token b2 Word (codes "label") ∷ token b3 Local t3 ∷ token b4 Comma (codes ",") ∷ token b5 Word (codes "label") ∷ token b6 Local t6 ∷ []))
 br_branch {v0} b1 b2 b3 t3 b4 b5 b6 t6 h0 made_by =
-    made llvm KINDS 90 380 (K.Row R.Branch) {cs = v0 ∷ TextV t3 ∷ TextV t6 ∷ []} refl refl refl made_by (rule llvm KINDS h0 (word llvm KINDS (token b1 Comma (codes ",")) C.sign_comma (word llvm KINDS (token b2 Word (codes "label")) C.word_label (leaf llvm KINDS (token b3 Local t3) (C.kind_local t3) (word llvm KINDS (token b4 Comma (codes ",")) C.sign_comma (word llvm KINDS (token b5 Word (codes "label")) C.word_label (leaf llvm KINDS (token b6 Local t6) (C.kind_local t6) (nothing llvm KINDS))))))))
-
--- sum = CONST_SUM_RMW_KIND_SUM
-pub sum_add : (b0 : Text) → Reads N.sum (TextV (codes "add")) (token b0 Word (codes "add") ∷ [])
-sum_add b0 = made llvm KINDS 94 387 K.Same {cs = TextV (codes "add") ∷ []} refl refl refl refl (leaf llvm KINDS (token b0 Word (codes "add")) C.word_add (nothing llvm KINDS))
-
--- sum = CONST_SUM_RMW_KIND_SUM
-pub sum_sub : (b0 : Text) → Reads N.sum (TextV (codes "sub")) (token b0 Word (codes "sub") ∷ [])
-sum_sub b0 = made llvm KINDS 94 387 K.Same {cs = TextV (codes "sub") ∷ []} refl refl refl refl (leaf llvm KINDS (token b0 Word (codes "sub")) C.word_sub (nothing llvm KINDS))
-
--- sum = SUM
-pub sum_mul : (b0 : Text) → Reads N.sum (TextV (codes "mul")) (token b0 Word (codes "mul") ∷ [])
-sum_mul b0 = made llvm KINDS 94 388 K.Same {cs = TextV (codes "mul") ∷ []} refl refl refl refl (leaf llvm KINDS (token b0 Word (codes "mul")) C.word_mul (nothing llvm KINDS))
-
--- sum = SUM
-pub sum_shl : (b0 : Text) → Reads N.sum (TextV (codes "shl")) (token b0 Word (codes "shl") ∷ [])
-sum_shl b0 = made llvm KINDS 94 388 K.Same {cs = TextV (codes "shl") ∷ []} refl refl refl refl (leaf llvm KINDS (token b0 Word (codes "shl")) C.word_shl (nothing llvm KINDS))
+    made llvm KINDS 88 383 (K.Row R.Branch) {cs = v0 ∷ TextV t3 ∷ TextV t6 ∷ []} refl refl refl made_by (rule llvm KINDS h0 (word llvm KINDS (token b1 Comma (codes ",")) C.sign_comma (word llvm KINDS (token b2 Word (codes "label")) C.word_label (leaf llvm KINDS (token b3 Local t3) (C.kind_local t3) (word llvm KINDS (token b4 Comma (codes ",")) C.sign_comma (word llvm KINDS (token b5 Word (codes "label")) C.word_label (leaf llvm KINDS (token b6 Local t6) (C.kind_local t6) (nothing llvm KINDS))))))))
 
 -- wraps = 'nuw' nsw
 pub wraps_nuw : {v v1 : Value} {x1 : List Spaced} (b0 : Text) → Reads N.nsw v1 x1 → value_by (K.Detail D.Nuw) (v1 ∷ []) ≡ Some v → Reads N.wraps v (token b0 Word (codes "nuw") ∷ x1)
-wraps_nuw {v1} b0 h1 made_by = made llvm KINDS 95 389 (K.Detail D.Nuw) {cs = v1 ∷ []} refl refl refl made_by (word llvm KINDS (token b0 Word (codes "nuw")) C.word_nuw (last llvm KINDS h1))
+wraps_nuw {v1} b0 h1 made_by = made llvm KINDS 93 392 (K.Detail D.Nuw) {cs = v1 ∷ []} refl refl refl made_by (word llvm KINDS (token b0 Word (codes "nuw")) C.word_nuw (last llvm KINDS h1))
 
 -- wraps = 'nsw'
 pub wraps_nsw : {v : Value} (b0 : Text) → value_by (K.Detail D.Nsw) [] ≡ Some v → Reads N.wraps v (token b0 Word (codes "nsw") ∷ [])
-wraps_nsw b0 made_by = made llvm KINDS 95 390 (K.Detail D.Nsw) {cs = []} refl refl refl made_by (word llvm KINDS (token b0 Word (codes "nsw")) C.word_nsw (nothing llvm KINDS))
+wraps_nsw b0 made_by = made llvm KINDS 93 393 (K.Detail D.Nsw) {cs = []} refl refl refl made_by (word llvm KINDS (token b0 Word (codes "nsw")) C.word_nsw (nothing llvm KINDS))
 
 -- wraps = nothing
 pub wraps_nowraps : {v : Value} → value_by (K.Detail D.NoWraps) [] ≡ Some v → Reads N.wraps v []
-wraps_nowraps made_by = made llvm KINDS 95 391 (K.Detail D.NoWraps) {cs = []} refl refl refl made_by (nothing llvm KINDS)
+wraps_nowraps made_by = made llvm KINDS 93 394 (K.Detail D.NoWraps) {cs = []} refl refl refl made_by (nothing llvm KINDS)
 
 -- nsw = 'nsw'
 pub nsw_yes : (b0 : Text) → Reads N.nsw (FlagV true) (token b0 Word (codes "nsw") ∷ [])
-nsw_yes b0 = made llvm KINDS 96 392 K.Yes {cs = []} refl refl refl refl (word llvm KINDS (token b0 Word (codes "nsw")) C.word_nsw (nothing llvm KINDS))
+nsw_yes b0 = made llvm KINDS 94 395 K.Yes {cs = []} refl refl refl refl (word llvm KINDS (token b0 Word (codes "nsw")) C.word_nsw (nothing llvm KINDS))
 
 -- nsw = nothing
 pub nsw_no : Reads N.nsw (FlagV false) []
-nsw_no = made llvm KINDS 96 393 K.No {cs = []} refl refl refl refl (nothing llvm KINDS)
+nsw_no = made llvm KINDS 94 396 K.No {cs = []} refl refl refl refl (nothing llvm KINDS)
 
 -- lost_wraps = nothing
 pub lost_wraps_none : Reads N.lost_wraps NoneV []
-lost_wraps_none = made llvm KINDS 97 396 K.Nothing {cs = []} refl refl refl refl (nothing llvm KINDS)
-
--- quotient = QUOTIENT
-pub quotient_ashr : (b0 : Text) → Reads N.quotient (TextV (codes "ashr")) (token b0 Word (codes "ashr") ∷ [])
-quotient_ashr b0 = made llvm KINDS 100 401 K.Same {cs = TextV (codes "ashr") ∷ []} refl refl refl refl (leaf llvm KINDS (token b0 Word (codes "ashr")) C.word_ashr (nothing llvm KINDS))
-
--- quotient = QUOTIENT
-pub quotient_lshr : (b0 : Text) → Reads N.quotient (TextV (codes "lshr")) (token b0 Word (codes "lshr") ∷ [])
-quotient_lshr b0 = made llvm KINDS 100 401 K.Same {cs = TextV (codes "lshr") ∷ []} refl refl refl refl (leaf llvm KINDS (token b0 Word (codes "lshr")) C.word_lshr (nothing llvm KINDS))
-
--- quotient = QUOTIENT
-pub quotient_sdiv : (b0 : Text) → Reads N.quotient (TextV (codes "sdiv")) (token b0 Word (codes "sdiv") ∷ [])
-quotient_sdiv b0 = made llvm KINDS 100 401 K.Same {cs = TextV (codes "sdiv") ∷ []} refl refl refl refl (leaf llvm KINDS (token b0 Word (codes "sdiv")) C.word_sdiv (nothing llvm KINDS))
-
--- quotient = QUOTIENT
-pub quotient_udiv : (b0 : Text) → Reads N.quotient (TextV (codes "udiv")) (token b0 Word (codes "udiv") ∷ [])
-quotient_udiv b0 = made llvm KINDS 100 401 K.Same {cs = TextV (codes "udiv") ∷ []} refl refl refl refl (leaf llvm KINDS (token b0 Word (codes "udiv")) C.word_udiv (nothing llvm KINDS))
+lost_wraps_none = made llvm KINDS 95 399 K.Nothing {cs = []} refl refl refl refl (nothing llvm KINDS)
 
 -- lost_exact = nothing
 pub lost_exact_none : Reads N.lost_exact NoneV []
-lost_exact_none = made llvm KINDS 101 403 K.Nothing {cs = []} refl refl refl refl (nothing llvm KINDS)
-
--- bits = BITS
-pub bits_srem : (b0 : Text) → Reads N.bits (TextV (codes "srem")) (token b0 Word (codes "srem") ∷ [])
-bits_srem b0 = made llvm KINDS 102 404 K.Same {cs = TextV (codes "srem") ∷ []} refl refl refl refl (leaf llvm KINDS (token b0 Word (codes "srem")) C.word_srem (nothing llvm KINDS))
-
--- bits = BITS
-pub bits_urem : (b0 : Text) → Reads N.bits (TextV (codes "urem")) (token b0 Word (codes "urem") ∷ [])
-bits_urem b0 = made llvm KINDS 102 404 K.Same {cs = TextV (codes "urem") ∷ []} refl refl refl refl (leaf llvm KINDS (token b0 Word (codes "urem")) C.word_urem (nothing llvm KINDS))
-
--- bits = BITS_RMW_KIND
-pub bits_and : (b0 : Text) → Reads N.bits (TextV (codes "and")) (token b0 Word (codes "and") ∷ [])
-bits_and b0 = made llvm KINDS 102 405 K.Same {cs = TextV (codes "and") ∷ []} refl refl refl refl (leaf llvm KINDS (token b0 Word (codes "and")) C.word_and (nothing llvm KINDS))
-
--- bits = BITS_RMW_KIND
-pub bits_xor : (b0 : Text) → Reads N.bits (TextV (codes "xor")) (token b0 Word (codes "xor") ∷ [])
-bits_xor b0 = made llvm KINDS 102 405 K.Same {cs = TextV (codes "xor") ∷ []} refl refl refl refl (leaf llvm KINDS (token b0 Word (codes "xor")) C.word_xor (nothing llvm KINDS))
+lost_exact_none = made llvm KINDS 99 406 K.Nothing {cs = []} refl refl refl refl (nothing llvm KINDS)
 
 -- lost_disjoint = nothing
 pub lost_disjoint_none : Reads N.lost_disjoint NoneV []
-lost_disjoint_none = made llvm KINDS 103 407 K.Nothing {cs = []} refl refl refl refl (nothing llvm KINDS)
+lost_disjoint_none = made llvm KINDS 101 410 K.Nothing {cs = []} refl refl refl refl (nothing llvm KINDS)
 
 -- lost_samesign = nothing
 pub lost_samesign_none : Reads N.lost_samesign NoneV []
-lost_samesign_none = made llvm KINDS 104 409 K.Nothing {cs = []} refl refl refl refl (nothing llvm KINDS)
-
--- predicate = PREDICATE
-pub predicate_eq : (b0 : Text) → Reads N.predicate (TextV (codes "eq")) (token b0 Word (codes "eq") ∷ [])
-predicate_eq b0 = made llvm KINDS 105 410 K.Same {cs = TextV (codes "eq") ∷ []} refl refl refl refl (leaf llvm KINDS (token b0 Word (codes "eq")) C.word_eq (nothing llvm KINDS))
-
--- predicate = PREDICATE
-pub predicate_ne : (b0 : Text) → Reads N.predicate (TextV (codes "ne")) (token b0 Word (codes "ne") ∷ [])
-predicate_ne b0 = made llvm KINDS 105 410 K.Same {cs = TextV (codes "ne") ∷ []} refl refl refl refl (leaf llvm KINDS (token b0 Word (codes "ne")) C.word_ne (nothing llvm KINDS))
-
--- predicate = PREDICATE
-pub predicate_sge : (b0 : Text) → Reads N.predicate (TextV (codes "sge")) (token b0 Word (codes "sge") ∷ [])
-predicate_sge b0 = made llvm KINDS 105 410 K.Same {cs = TextV (codes "sge") ∷ []} refl refl refl refl (leaf llvm KINDS (token b0 Word (codes "sge")) C.word_sge (nothing llvm KINDS))
-
--- predicate = PREDICATE
-pub predicate_sgt : (b0 : Text) → Reads N.predicate (TextV (codes "sgt")) (token b0 Word (codes "sgt") ∷ [])
-predicate_sgt b0 = made llvm KINDS 105 410 K.Same {cs = TextV (codes "sgt") ∷ []} refl refl refl refl (leaf llvm KINDS (token b0 Word (codes "sgt")) C.word_sgt (nothing llvm KINDS))
-
--- predicate = PREDICATE
-pub predicate_sle : (b0 : Text) → Reads N.predicate (TextV (codes "sle")) (token b0 Word (codes "sle") ∷ [])
-predicate_sle b0 = made llvm KINDS 105 410 K.Same {cs = TextV (codes "sle") ∷ []} refl refl refl refl (leaf llvm KINDS (token b0 Word (codes "sle")) C.word_sle (nothing llvm KINDS))
-
--- predicate = PREDICATE
-pub predicate_slt : (b0 : Text) → Reads N.predicate (TextV (codes "slt")) (token b0 Word (codes "slt") ∷ [])
-predicate_slt b0 = made llvm KINDS 105 410 K.Same {cs = TextV (codes "slt") ∷ []} refl refl refl refl (leaf llvm KINDS (token b0 Word (codes "slt")) C.word_slt (nothing llvm KINDS))
-
--- predicate = PREDICATE
-pub predicate_uge : (b0 : Text) → Reads N.predicate (TextV (codes "uge")) (token b0 Word (codes "uge") ∷ [])
-predicate_uge b0 = made llvm KINDS 105 410 K.Same {cs = TextV (codes "uge") ∷ []} refl refl refl refl (leaf llvm KINDS (token b0 Word (codes "uge")) C.word_uge (nothing llvm KINDS))
-
--- predicate = PREDICATE
-pub predicate_ugt : (b0 : Text) → Reads N.predicate (TextV (codes "ugt")) (token b0 Word (codes "ugt") ∷ [])
-predicate_ugt b0 = made llvm KINDS 105 410 K.Same {cs = TextV (codes "ugt") ∷ []} refl refl refl refl (leaf llvm KINDS (token b0 Word (codes "ugt")) C.word_ugt (nothing llvm KINDS))
-
--- predicate = PREDICATE
-pub predicate_ule : (b0 : Text) → Reads N.predicate (TextV (codes "ule")) (token b0 Word (codes "ule") ∷ [])
-predicate_ule b0 = made llvm KINDS 105 410 K.Same {cs = TextV (codes "ule") ∷ []} refl refl refl refl (leaf llvm KINDS (token b0 Word (codes "ule")) C.word_ule (nothing llvm KINDS))
-
--- predicate = PREDICATE
-pub predicate_ult : (b0 : Text) → Reads N.predicate (TextV (codes "ult")) (token b0 Word (codes "ult") ∷ [])
-predicate_ult b0 = made llvm KINDS 105 410 K.Same {cs = TextV (codes "ult") ∷ []} refl refl refl refl (leaf llvm KINDS (token b0 Word (codes "ult")) C.word_ult (nothing llvm KINDS))
-
--- cast = CAST
-pub cast_addrspacecast : (b0 : Text) → Reads N.cast (TextV (codes "addrspacecast")) (token b0 Word (codes "addrspacecast") ∷ [])
-cast_addrspacecast b0 =
-    made llvm KINDS 106 412 K.Same {cs = TextV (codes "addrspacecast") ∷ []} refl refl refl refl (leaf llvm KINDS (token b0 Word (codes "addrspacecast")) C.word_addrspacecast (nothing llvm KINDS))
-
--- cast = CAST
-pub cast_sext : (b0 : Text) → Reads N.cast (TextV (codes "sext")) (token b0 Word (codes "sext") ∷ [])
-cast_sext b0 = made llvm KINDS 106 412 K.Same {cs = TextV (codes "sext") ∷ []} refl refl refl refl (leaf llvm KINDS (token b0 Word (codes "sext")) C.word_sext (nothing llvm KINDS))
+lost_samesign_none = made llvm KINDS 102 412 K.Nothing {cs = []} refl refl refl refl (nothing llvm KINDS)
 
 -- nneg = 'nneg'
 pub nneg_yes : (b0 : Text) → Reads N.nneg (FlagV true) (token b0 Word (codes "nneg") ∷ [])
-nneg_yes b0 = made llvm KINDS 107 413 K.Yes {cs = []} refl refl refl refl (word llvm KINDS (token b0 Word (codes "nneg")) C.word_nneg (nothing llvm KINDS))
+nneg_yes b0 = made llvm KINDS 105 416 K.Yes {cs = []} refl refl refl refl (word llvm KINDS (token b0 Word (codes "nneg")) C.word_nneg (nothing llvm KINDS))
 
 -- nneg = nothing
 pub nneg_no : Reads N.nneg (FlagV false) []
-nneg_no = made llvm KINDS 107 414 K.No {cs = []} refl refl refl refl (nothing llvm KINDS)
+nneg_no = made llvm KINDS 105 417 K.No {cs = []} refl refl refl refl (nothing llvm KINDS)

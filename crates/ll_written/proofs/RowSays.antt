@@ -11,7 +11,10 @@ use Rattle.ll_lines.specs.Lines as L
 use Rattle.ll_lines.specs.Lines.{Text, Typed, RowLine, Inst}
 use Rattle.ll_tokens.specs.declared.kinds.Kind.TheVariants as T
 use Rattle.ll_literals.specs.Chain.{◌>>=◌}
-use Rattle.ll_values.specs.Values.{Value, TextV, FlagV, WrapsV, InstV, row}
+use Rattle.ll_spacing.specs.Spacing.{Spaced}
+use Rattle.ll_values.specs.declared.form.Kind.TheVariants as K
+use Rattle.ll_values.specs.declared.form.RowKind.TheVariants as R
+use Rattle.ll_values.specs.Values.{Value, NoneV, TextV, FlagV, WrapsV, InstV, row, value_by}
 use Rattle.ll_values.specs.Words.{binary_op, predicate_of, no_wraps}
 use Rattle.ll_written.specs.Printing.{predicate_text}
 use Rattle.ll_written.specs.Rules as N
@@ -59,43 +62,47 @@ nneg_says : (b : Bool) → Reads N.nneg (FlagV b) (written_flag (codes "nneg") b
 nneg_says true = P.nneg_yes (codes " ")
 nneg_says false = P.nneg_no
 
-predicate_says : (p : LLVMIntPredicate) → Reads N.predicate (TextV (predicate_text p)) (word (predicate_text p) ∷ [])
-predicate_says I.LLVMIntEQ = P.predicate_eq (codes " ")
-predicate_says I.LLVMIntNE = P.predicate_ne (codes " ")
-predicate_says I.LLVMIntUGT = P.predicate_ugt (codes " ")
-predicate_says I.LLVMIntUGE = P.predicate_uge (codes " ")
-predicate_says I.LLVMIntULT = P.predicate_ult (codes " ")
-predicate_says I.LLVMIntULE = P.predicate_ule (codes " ")
-predicate_says I.LLVMIntSGT = P.predicate_sgt (codes " ")
-predicate_says I.LLVMIntSGE = P.predicate_sge (codes " ")
-predicate_says I.LLVMIntSLT = P.predicate_slt (codes " ")
-predicate_says I.LLVMIntSLE = P.predicate_sle (codes " ")
-
 -- ---- rows by their form
 
-sum_row : (b t : Text) (op : Op) (flags : OverflowFlags) (wr : Option TypeTree) (os : List Typed) (ts : List Text) → Reads N.sum (TextV t) (token b T.Word t ∷ []) → binary_op t flags ≡ Some op → IsPair wr os ts
-    → Reads N.simple (says op wr os ts) (token b T.Word t ∷ (written_wraps flags ++ (written_operands os ++ written_to wr)))
-sum_row b t op flags _ _ _ first made (pair x y h k same) = P.simple_sum first (wraps_says flags) (pair_says x y h k same) (ap (λ (o : Option Op). o >>= λ op. Some (InstV (row op (x ∷ y ∷ []) []))) made)
+-- Each takes the law of the alternative that its word begins.
 
-quotient_row : (b t : Text) (op : Op) (wr : Option TypeTree) (os : List Typed) (ts : List Text) → Reads N.quotient (TextV t) (token b T.Word t ∷ []) → binary_op t no_wraps ≡ Some op → IsPair wr os ts
-    → Reads N.simple (says op wr os ts) (token b T.Word t ∷ (written_operands os ++ written_to wr))
-quotient_row b t op _ _ _ first made (pair x y h k same) =
-    P.simple_quotient first (P.lost_exact_none) (pair_says x y h k same) (ap (λ (o : Option Op). o >>= λ op. Some (InstV (row op (x ∷ y ∷ []) []))) made)
+sum_row : (b t : Text) (op : Op) (flags : OverflowFlags) (wr : Option TypeTree) (os : List Typed) (ts : List Text)
+    → ((v v2 : Value) (xs : List Spaced) → Reads N.wraps (WrapsV flags) (written_wraps flags) → Reads N.pair v2 xs → value_by (K.Row R.Sum) (TextV t ∷ WrapsV flags ∷ v2 ∷ []) ≡ Some v → Reads N.simple v (token b T.Word t ∷ (written_wraps flags ++ xs)))
+    → binary_op t flags ≡ Some op → IsPair wr os ts → Reads N.simple (says op wr os ts) (token b T.Word t ∷ (written_wraps flags ++ (written_operands os ++ written_to wr)))
+sum_row b t op flags _ _ _ law made (pair x y h k same) = law _ _ _ (wraps_says flags) (pair_says x y h k same) (ap (λ (o : Option Op). o >>= λ op. Some (InstV (row op (x ∷ y ∷ []) []))) made)
 
-bits_row : (b t : Text) (op : Op) (wr : Option TypeTree) (os : List Typed) (ts : List Text) → Reads N.bits (TextV t) (token b T.Word t ∷ []) → binary_op t no_wraps ≡ Some op → IsPair wr os ts
-    → Reads N.simple (says op wr os ts) (token b T.Word t ∷ (written_operands os ++ written_to wr))
-bits_row b t op _ _ _ first made (pair x y h k same) = P.simple_bits first (pair_says x y h k same) (ap (λ (o : Option Op). o >>= λ op. Some (InstV (row op (x ∷ y ∷ []) []))) made)
+quotient_row : (b t : Text) (op : Op) (wr : Option TypeTree) (os : List Typed) (ts : List Text)
+    → ((v v2 : Value) (xs : List Spaced) → Reads N.lost_exact NoneV [] → Reads N.pair v2 xs → value_by (K.Row R.Quotient) (TextV t ∷ NoneV ∷ v2 ∷ []) ≡ Some v → Reads N.simple v (token b T.Word t ∷ xs))
+    → binary_op t no_wraps ≡ Some op → IsPair wr os ts → Reads N.simple (says op wr os ts) (token b T.Word t ∷ (written_operands os ++ written_to wr))
+quotient_row b t op _ _ _ law made (pair x y h k same) = law _ _ _ (P.lost_exact_none) (pair_says x y h k same) (ap (λ (o : Option Op). o >>= λ op. Some (InstV (row op (x ∷ y ∷ []) []))) made)
+
+bits_row : (b t : Text) (op : Op) (wr : Option TypeTree) (os : List Typed) (ts : List Text)
+    → ((v v1 : Value) (xs : List Spaced) → Reads N.pair v1 xs → value_by (K.Row R.Bits) (TextV t ∷ v1 ∷ []) ≡ Some v → Reads N.simple v (token b T.Word t ∷ xs))
+    → binary_op t no_wraps ≡ Some op → IsPair wr os ts → Reads N.simple (says op wr os ts) (token b T.Word t ∷ (written_operands os ++ written_to wr))
+bits_row b t op _ _ _ law made (pair x y h k same) = law _ _ _ (pair_says x y h k same) (ap (λ (o : Option Op). o >>= λ op. Some (InstV (row op (x ∷ y ∷ []) []))) made)
 
 or_row : (b : Text) (wr : Option TypeTree) (os : List Typed) (ts : List Text) → IsPair wr os ts → Reads N.simple (says O.Or wr os ts) (token b T.Word (codes "or") ∷ (written_operands os ++ written_to wr))
 or_row b _ _ _ (pair x y h k same) = P.simple_or b (P.lost_disjoint_none) (pair_says x y h k same) refl
 
+icmp_by : (b : Text) (p : LLVMIntPredicate) (v w : Value) (xs : List Spaced) → Reads N.pair w xs → value_by (K.Row R.ICmp) (NoneV ∷ TextV (predicate_text p) ∷ w ∷ []) ≡ Some v
+    → Reads N.simple v (token b T.Word (codes "icmp") ∷ word (predicate_text p) ∷ xs)
+icmp_by b I.LLVMIntEQ v w xs h made = P.simple_icmp_eq b (codes " ") (P.lost_samesign_none) h made
+icmp_by b I.LLVMIntNE v w xs h made = P.simple_icmp_ne b (codes " ") (P.lost_samesign_none) h made
+icmp_by b I.LLVMIntUGT v w xs h made = P.simple_icmp_ugt b (codes " ") (P.lost_samesign_none) h made
+icmp_by b I.LLVMIntUGE v w xs h made = P.simple_icmp_uge b (codes " ") (P.lost_samesign_none) h made
+icmp_by b I.LLVMIntULT v w xs h made = P.simple_icmp_ult b (codes " ") (P.lost_samesign_none) h made
+icmp_by b I.LLVMIntULE v w xs h made = P.simple_icmp_ule b (codes " ") (P.lost_samesign_none) h made
+icmp_by b I.LLVMIntSGT v w xs h made = P.simple_icmp_sgt b (codes " ") (P.lost_samesign_none) h made
+icmp_by b I.LLVMIntSGE v w xs h made = P.simple_icmp_sge b (codes " ") (P.lost_samesign_none) h made
+icmp_by b I.LLVMIntSLT v w xs h made = P.simple_icmp_slt b (codes " ") (P.lost_samesign_none) h made
+icmp_by b I.LLVMIntSLE v w xs h made = P.simple_icmp_sle b (codes " ") (P.lost_samesign_none) h made
+
 icmp_row : (b : Text) (p : LLVMIntPredicate) (wr : Option TypeTree) (os : List Typed) (ts : List Text) → IsPair wr os ts
     → Reads N.simple (says (O.ICmp p) wr os ts) (token b T.Word (codes "icmp") ∷ word (predicate_text p) ∷ (written_operands os ++ written_to wr))
-icmp_row b p _ _ _ (pair x y h k same) =
-    P.simple_icmp b (P.lost_samesign_none) (predicate_says p) (pair_says x y h k same) (ap (λ (o : Option LLVMIntPredicate). o >>= λ q. Some (InstV (row (O.ICmp q) (x ∷ y ∷ []) []))) (predicate_again p))
+icmp_row b p _ _ _ (pair x y h k same) = icmp_by b p _ _ _ (pair_says x y h k same) (ap (λ (o : Option LLVMIntPredicate). o >>= λ q. Some (InstV (row (O.ICmp q) (x ∷ y ∷ []) []))) (predicate_again p))
 
 sext_row : (b : Text) (wr : Option TypeTree) (os : List Typed) (ts : List Text) → IsCast wr os ts → Reads N.simple (says O.SExt wr os ts) (token b T.Word (codes "sext") ∷ (written_operands os ++ written_to wr))
-sext_row b _ _ _ (cast x τ h type) = P.simple_cast (codes " ") (P.cast_sext b) (typed_says x h) (int_says (codes " ") τ type) refl
+sext_row b _ _ _ (cast x τ h type) = P.simple_cast_sext b (codes " ") (typed_says x h) (int_says (codes " ") τ type) refl
 
 trunc_row : (b : Text) (wr : Option TypeTree) (os : List Typed) (ts : List Text) → IsCast wr os ts → Reads N.simple (says O.Trunc wr os ts) (token b T.Word (codes "trunc") ∷ (written_operands os ++ written_to wr))
 trunc_row b _ _ _ (cast x τ h type) = P.simple_trunc b (codes " ") (P.lost_wraps_none) (typed_says x h) (int_says (codes " ") τ type) refl
@@ -126,19 +133,19 @@ bare_row b _ _ _ bare = P.simple_unreachable b refl
 -- ---- a line for each row of the table
 
 row_by : (b : Text) (op : Op) (wr : Option TypeTree) (os : List Typed) (ts : List Text) → IsRow (row_line op wr os ts) → Reads N.simple (says op wr os ts) (written_row b (row_line op wr os ts))
-row_by b (O.Add flags) wr os ts h = sum_row b (codes "add") (O.Add flags) flags wr os ts (P.sum_add b) refl (pair_form wr os ts h.fits h.count h.leads h.operands)
-row_by b (O.Sub flags) wr os ts h = sum_row b (codes "sub") (O.Sub flags) flags wr os ts (P.sum_sub b) refl (pair_form wr os ts h.fits h.count h.leads h.operands)
-row_by b (O.Mul flags) wr os ts h = sum_row b (codes "mul") (O.Mul flags) flags wr os ts (P.sum_mul b) refl (pair_form wr os ts h.fits h.count h.leads h.operands)
-row_by b (O.Shl flags) wr os ts h = sum_row b (codes "shl") (O.Shl flags) flags wr os ts (P.sum_shl b) refl (pair_form wr os ts h.fits h.count h.leads h.operands)
-row_by b O.UDiv wr os ts h = quotient_row b (codes "udiv") O.UDiv wr os ts (P.quotient_udiv b) refl (pair_form wr os ts h.fits h.count h.leads h.operands)
-row_by b O.SDiv wr os ts h = quotient_row b (codes "sdiv") O.SDiv wr os ts (P.quotient_sdiv b) refl (pair_form wr os ts h.fits h.count h.leads h.operands)
-row_by b O.URem wr os ts h = bits_row b (codes "urem") O.URem wr os ts (P.bits_urem b) refl (pair_form wr os ts h.fits h.count h.leads h.operands)
-row_by b O.SRem wr os ts h = bits_row b (codes "srem") O.SRem wr os ts (P.bits_srem b) refl (pair_form wr os ts h.fits h.count h.leads h.operands)
-row_by b O.LShr wr os ts h = quotient_row b (codes "lshr") O.LShr wr os ts (P.quotient_lshr b) refl (pair_form wr os ts h.fits h.count h.leads h.operands)
-row_by b O.AShr wr os ts h = quotient_row b (codes "ashr") O.AShr wr os ts (P.quotient_ashr b) refl (pair_form wr os ts h.fits h.count h.leads h.operands)
-row_by b O.And wr os ts h = bits_row b (codes "and") O.And wr os ts (P.bits_and b) refl (pair_form wr os ts h.fits h.count h.leads h.operands)
+row_by b (O.Add flags) wr os ts h = sum_row b (codes "add") (O.Add flags) flags wr os ts (λ v w xs. P.simple_sum_add b) refl (pair_form wr os ts h.fits h.count h.leads h.operands)
+row_by b (O.Sub flags) wr os ts h = sum_row b (codes "sub") (O.Sub flags) flags wr os ts (λ v w xs. P.simple_sum_sub b) refl (pair_form wr os ts h.fits h.count h.leads h.operands)
+row_by b (O.Mul flags) wr os ts h = sum_row b (codes "mul") (O.Mul flags) flags wr os ts (λ v w xs. P.simple_sum_mul b) refl (pair_form wr os ts h.fits h.count h.leads h.operands)
+row_by b (O.Shl flags) wr os ts h = sum_row b (codes "shl") (O.Shl flags) flags wr os ts (λ v w xs. P.simple_sum_shl b) refl (pair_form wr os ts h.fits h.count h.leads h.operands)
+row_by b O.UDiv wr os ts h = quotient_row b (codes "udiv") O.UDiv wr os ts (λ v w xs. P.simple_quotient_udiv b) refl (pair_form wr os ts h.fits h.count h.leads h.operands)
+row_by b O.SDiv wr os ts h = quotient_row b (codes "sdiv") O.SDiv wr os ts (λ v w xs. P.simple_quotient_sdiv b) refl (pair_form wr os ts h.fits h.count h.leads h.operands)
+row_by b O.URem wr os ts h = bits_row b (codes "urem") O.URem wr os ts (λ v w xs. P.simple_bits_urem b) refl (pair_form wr os ts h.fits h.count h.leads h.operands)
+row_by b O.SRem wr os ts h = bits_row b (codes "srem") O.SRem wr os ts (λ v w xs. P.simple_bits_srem b) refl (pair_form wr os ts h.fits h.count h.leads h.operands)
+row_by b O.LShr wr os ts h = quotient_row b (codes "lshr") O.LShr wr os ts (λ v w xs. P.simple_quotient_lshr b) refl (pair_form wr os ts h.fits h.count h.leads h.operands)
+row_by b O.AShr wr os ts h = quotient_row b (codes "ashr") O.AShr wr os ts (λ v w xs. P.simple_quotient_ashr b) refl (pair_form wr os ts h.fits h.count h.leads h.operands)
+row_by b O.And wr os ts h = bits_row b (codes "and") O.And wr os ts (λ v w xs. P.simple_bits_and b) refl (pair_form wr os ts h.fits h.count h.leads h.operands)
 row_by b O.Or wr os ts h = or_row b wr os ts (pair_form wr os ts h.fits h.count h.leads h.operands)
-row_by b O.Xor wr os ts h = bits_row b (codes "xor") O.Xor wr os ts (P.bits_xor b) refl (pair_form wr os ts h.fits h.count h.leads h.operands)
+row_by b O.Xor wr os ts h = bits_row b (codes "xor") O.Xor wr os ts (λ v w xs. P.simple_bits_xor b) refl (pair_form wr os ts h.fits h.count h.leads h.operands)
 row_by b (O.ICmp p) wr os ts h = icmp_row b p wr os ts (pair_form wr os ts h.fits h.count h.leads h.operands)
 row_by b O.Trunc wr os ts h = trunc_row b wr os ts (cast_form F.Wider wr os ts h.fits h.count h.leads h.written h.operands)
 row_by b O.SExt wr os ts h = sext_row b wr os ts (cast_form F.Narrower wr os ts h.fits h.count h.leads h.written h.operands)

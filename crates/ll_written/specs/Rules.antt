@@ -49,92 +49,71 @@ body_parts = 29
 abbrev pub body_part : ℕ
 body_part = 30
 
-abbrev pub records : ℕ
-records = 32
-
-abbrev pub result : ℕ
-result = 33
-
 abbrev pub lost_attrs : ℕ
-lost_attrs = 34
+lost_attrs = 32
 
 abbrev pub function_attrs : ℕ
-function_attrs = 37
+function_attrs = 35
 
 abbrev pub type : ℕ
-type = 62
+type = 60
 
 abbrev pub solid : ℕ
-solid = 63
+solid = 61
 
 abbrev pub inst : ℕ
-inst = 84
+inst = 82
 
 abbrev pub simple : ℕ
-simple = 85
+simple = 83
 
 abbrev pub value : ℕ
-value = 86
+value = 84
 
 abbrev pub typed : ℕ
-typed = 87
+typed = 85
 
 abbrev pub pair : ℕ
-pair = 88
+pair = 86
 
 abbrev pub ret : ℕ
-ret = 89
+ret = 87
 
 abbrev pub br : ℕ
-br = 90
-
-abbrev pub sum : ℕ
-sum = 94
+br = 88
 
 abbrev pub wraps : ℕ
-wraps = 95
+wraps = 93
 
 abbrev pub nsw : ℕ
-nsw = 96
+nsw = 94
 
 abbrev pub lost_wraps : ℕ
-lost_wraps = 97
-
-abbrev pub quotient : ℕ
-quotient = 100
+lost_wraps = 95
 
 abbrev pub lost_exact : ℕ
-lost_exact = 101
-
-abbrev pub bits : ℕ
-bits = 102
+lost_exact = 99
 
 abbrev pub lost_disjoint : ℕ
-lost_disjoint = 103
+lost_disjoint = 101
 
 abbrev pub lost_samesign : ℕ
-lost_samesign = 104
-
-abbrev pub predicate : ℕ
-predicate = 105
-
-abbrev pub cast : ℕ
-cast = 106
+lost_samesign = 102
 
 abbrev pub nneg : ℕ
-nneg = 107
+nneg = 105
 
 abbrev pub entry : ℕ
-entry = 133
+entry = 131
 
 abbrev pub more_entries : ℕ
-more_entries = 134
+more_entries = 132
 
 abbrev pub entry_or_node : ℕ
-entry_or_node = 135
+entry_or_node = 133
 
 abbrev pub attached : ℕ
-attached = 149
+attached = 147
 
 abbrev pub attachments : ℕ
-attachments = 150
+attachments = 148
