@@ -1,4 +1,5 @@
 -- The lemmas that proofs cite.
+pub mod DigitLemmas
 pub mod KeyLemmas
 pub mod PrintedParams
 pub mod TextLemmas

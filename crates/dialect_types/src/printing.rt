@@ -1,6 +1,6 @@
 //! The dialect text of types and constants.
 
-ghost use Rattle.std.specs.Prelude.{◌≡◌, ◌<◌, ◌++◌, codes, length, OnErr, OnOk};
+ghost use Rattle.std.specs.Prelude.{◌≡◌, ◌<◌, ◌≤◌, ◌+◌, ◌%◌, ◌++◌, codes, length, OnErr, OnOk};
 ghost use Rattle.std.specs.Fmt.{decimal};
 ghost use Rattle.dialect_types.specs.Trees.{type_at, type_trees, attr_tree, HasTypesBelow, IntegerAttr};
 ghost use Rattle.dialect_types.specs.Text.{Keeps, comma_before, inner_type_text, type_text, attr_text, truth_text};
@@ -12,11 +12,79 @@ use itoa::Buffer;
 use std::alloc::AllocError;
 use support::appending::undo_failed;
 
+/// The byte of the last digit of a number.
+#[inline(always)]
+fn digit(number: u64) -> u8
+    ensures { result ≡ 48 + number % 10 }
+{
+    b'0' + (number % 10) as u8
+}
+
+/// A number of one digit.
+#[inline(always)]
+#[tactic(auto, using(crate::proofs::DigitLemmas::one_digit))]
+fn one_digit(n: u64) -> [u8; 1]
+    requires { n < 10 }
+    ensures { result ≡ decimal n }
+{
+    [digit(n)]
+}
+
+/// A number of two digits.
+#[inline(always)]
+#[tactic(auto, using(crate::proofs::DigitLemmas::two_digits))]
+fn two_digits(n: u64) -> [u8; 2]
+    requires { (10 ≤ n) × (n < 100) }
+    ensures { result ≡ decimal n }
+{
+    [digit(n / 10), digit(n)]
+}
+
+/// A number of three digits.
+#[inline(always)]
+#[tactic(auto, using(crate::proofs::DigitLemmas::three_digits))]
+fn three_digits(n: u64) -> [u8; 3]
+    requires { (100 ≤ n) × (n < 1000) }
+    ensures { result ≡ decimal n }
+{
+    [digit(n / 100), digit(n / 10), digit(n)]
+}
+
+/// A number of four digits.
+#[inline(always)]
+#[tactic(auto, using(crate::proofs::DigitLemmas::four_digits))]
+fn four_digits(n: u64) -> [u8; 4]
+    requires { (1000 ≤ n) × (n < 10000) }
+    ensures { result ≡ decimal n }
+{
+    [digit(n / 1000), digit(n / 100), digit(n / 10), digit(n)]
+}
+
+/// Appends a number of up to four digits, as most numbers of a text are.
+fn print_short(n: u64, out: &mut Vec<u8>) -> Result<(), AllocError>
+    requires { n < 10000 }
+    ensures ok { OnOk result (out.new.items ≡ out.old.items ++ decimal n) }
+    ensures kept { Keeps out.old.items out.new.items }
+{
+    if n < 10 {
+        out.extend_from_slice(&one_digit(n))
+    } else if n < 100 {
+        out.extend_from_slice(&two_digits(n))
+    } else if n < 1000 {
+        out.extend_from_slice(&three_digits(n))
+    } else {
+        out.extend_from_slice(&four_digits(n))
+    }
+}
+
 /// Appends a number in decimal.
 pub fn print_number(number: u64, out: &mut Vec<u8>) -> Result<(), AllocError>
     ensures ok { OnOk result (out.new.items ≡ out.old.items ++ decimal number) }
     ensures kept { Keeps out.old.items out.new.items }
 {
+    if number < 10000 {
+        return print_short(number, out);
+    }
     let mut buffer = Buffer::new();
     out.extend_from_slice(buffer.format(number).as_bytes())
 }
