@@ -36,3 +36,4 @@ pub mod PrintLemmas
 pub mod ArgumentPrintLemmas
 pub mod ModulePrintLemmas
 pub mod CallerLemmas
+pub mod ArgumentMapLaws

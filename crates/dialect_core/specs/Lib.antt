@@ -1,4 +1,5 @@
 -- The definitions that contracts cite.
+pub mod ArgumentMaps
 pub mod ContextData
 pub mod Data
 pub mod Rules

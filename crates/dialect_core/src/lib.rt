@@ -1,6 +1,7 @@
 //! Operations of the dialect, their blocks and regions, and the text of a module.
 #![tactic(auto)]
 
+pub mod argument_map;
 pub mod context;
 mod counting;
 pub mod few;

@@ -5,17 +5,16 @@ ghost use Rattle.support.specs.Options.{or_else};
 ghost use Rattle.dialect_core.specs.Text.{same_value};
 ghost use Rattle.dialect_core.specs.ValueMaps.{mapped};
 
+use crate::argument_map::ArgumentMap;
 use crate::ops::Value;
 use std::alloc::{AllocError, Global};
-use std::collections::HashMap;
-use support::noting::note;
 use support::number_map::NumberMap;
 
 /// A map from values, quick for results of operations whose numbers lie near each other.
 #[derive(Drop)]
 pub struct ValueMap<V> {
     pub results: NumberMap<V>,
-    pub arguments: HashMap<Value, V>,
+    pub arguments: ArgumentMap<V>,
 }
 
 impl<V> ValueMap<V> {
@@ -25,7 +24,7 @@ impl<V> ValueMap<V> {
     {
         ValueMap {
             results: NumberMap::new(alloc),
-            arguments: HashMap::new(alloc),
+            arguments: ArgumentMap::new(alloc),
         }
     }
 }
@@ -37,7 +36,7 @@ impl<V: Copy + Drop> ValueMap<V> {
     {
         match value {
             Value::Result(op) => self.results.get(op.0),
-            Value::Argument(..) => self.arguments.get(&value).copied(),
+            Value::Argument(block, place) => self.arguments.get(block, place),
         }
     }
 
@@ -47,10 +46,7 @@ impl<V: Copy + Drop> ValueMap<V> {
     {
         match value {
             Value::Result(op) => self.results.set(op.0, to),
-            Value::Argument(..) => {
-                self.arguments.insert(value, to)?;
-                Ok(())
-            }
+            Value::Argument(block, place) => self.arguments.set(block, place, to),
         }
     }
 
@@ -60,7 +56,7 @@ impl<V: Copy + Drop> ValueMap<V> {
     {
         match value {
             Value::Result(op) => self.results.note(op.0, to),
-            Value::Argument(..) => note(&mut self.arguments, value, to),
+            Value::Argument(block, place) => self.arguments.note(block, place, to),
         }
     }
 }
