@@ -44,7 +44,6 @@ pub mod TurnLaws
 pub mod TypeLaws
 pub mod UseLaws
 pub mod ValueLaws
-pub mod ValueTableLaws
 pub mod FinishLaws
 pub mod StartedLaws
 pub mod CodeLaws

@@ -1,5 +1,4 @@
 -- The definitions that clauses cite.
-pub mod ValueTables
 pub mod Order
 pub mod Exported
 pub mod Made

@@ -23,5 +23,4 @@ pub mod predicates;
 pub mod readable;
 pub mod to_llvm_err;
 pub mod types;
-pub mod value_table;
 pub mod values;

@@ -15,17 +15,17 @@ use crate::graph::graph;
 use crate::listing::read_ops;
 use crate::numbers::place_of;
 use crate::operations::is_block_op;
-use crate::value_table::ValueTable;
 use block_order::ordering::rpo;
 use dialect_core::context::Context;
 use dialect_core::numbers::{BlockRef, OpRef};
 use dialect_core::ops::Value;
+use dialect_core::value_map::ValueMap;
 use std::alloc::{AllocError, Global};
 
 /// Values that stand before.
 #[derive(Drop)]
 pub struct Seen {
-    pub values: ValueTable<()>,
+    pub values: ValueMap<()>,
 }
 
 impl Seen {
@@ -34,7 +34,7 @@ impl Seen {
         ensures { (v : _) → is_seen result v ≡ false }
     {
         Seen {
-            values: ValueTable::new(alloc),
+            values: ValueMap::new(alloc),
         }
     }
 

@@ -4,8 +4,8 @@ ghost use Rattle.std.specs.Prelude.{◌≡◌, ◌<◌, ◌^◌, ◌+◌, IfOk, 
 ghost use Rattle.meaning.specs.Dialect.{same_value};
 ghost use Rattle.to_llvm_ir.specs.States.{found};
 
-use crate::value_table::ValueTable;
 use dialect_core::ops::Value;
+use dialect_core::value_map::ValueMap;
 use llvm_core::code::LLVMValue;
 use std::alloc::{AllocError, Global};
 
@@ -13,7 +13,7 @@ use std::alloc::{AllocError, Global};
 #[derive(Drop)]
 pub struct Values {
     /// What stands for a value.
-    pub stands: ValueTable<LLVMValue>,
+    pub stands: ValueMap<LLVMValue>,
     /// The number of the next value.
     pub next: u64,
 }
@@ -25,7 +25,7 @@ impl Values {
         ensures next { result.next ≡ 0 }
     {
         Values {
-            stands: ValueTable::new(alloc),
+            stands: ValueMap::new(alloc),
             next: 0,
         }
     }
