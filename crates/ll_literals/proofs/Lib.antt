@@ -1,3 +1,4 @@
 -- The lemmas of the crate.
+pub mod NameBytes
 pub mod NameLaws
 pub mod NumberLaws
