@@ -1,4 +1,5 @@
 -- The lemmas of the crate.
+pub mod ByteLaws
 pub mod AllLaws
 pub mod FewLaws
 pub mod TypeLaws

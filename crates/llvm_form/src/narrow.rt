@@ -1,6 +1,6 @@
 //! Whether names are plain, and types integers of 1 to 64 bits.
 
-ghost use Rattle.std.specs.Prelude.{◌≡◌};
+ghost use Rattle.std.specs.Prelude.{◌≡◌, slice_index_or};
 ghost use Rattle.std.specs.List.{list_all};
 ghost use Rattle.llvm_core.specs.Names.{is_letter, is_plain, is_plain_byte};
 ghost use Rattle.llvm_core.specs.Checked.{is_void};
@@ -14,10 +14,31 @@ fn is_letter(b: u8) -> bool
     b.is_ascii_uppercase() || b.is_ascii_lowercase()
 }
 
+/// `p` for each byte of a plain name, `.` for any other. A row has 32 bytes.
+static PLAIN_BYTES: [u8; 256] = *b"\
+................................\
+................pppppppppp......\
+.pppppppppppppppppppppppppp....p\
+.pppppppppppppppppppppppppp.....\
+................................\
+................................\
+................................\
+................................";
+
+/// What a byte is in a plain name, by a table.
+fn kind_at(kinds: &[u8], b: u8) -> u8
+    ensures { result ≡ slice_index_or kinds.now b 46 }
+{
+    match kinds.get(b as usize) {
+        Some(kind) => *kind,
+        None => b'.',
+    }
+}
+
 fn is_plain_byte(b: u8) -> bool
     ensures { result ≡ is_plain_byte b }
 {
-    is_letter(b) || b.is_ascii_digit() || b == b'_'
+    kind_at(&PLAIN_BYTES, b) == b'p'
 }
 
 fn are_plain_bytes(bytes: &[u8]) -> bool
