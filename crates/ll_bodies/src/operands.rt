@@ -101,8 +101,26 @@ pub fn block(source: &Source<'_>, scope: &Scope<'_>, name: Name) -> Option<LLVMB
     }
 }
 
-/// The operands of a row.
-pub fn operands(
+/// The operand that is said, which is refused where it means nothing.
+fn known_operand(
+    source: &Source<'_>,
+    scope: &Scope<'_>,
+    typed: &Typed,
+) -> Result<LLVMValue, BuildErr>
+    requires source { IsSource source.now }
+    requires scope { IsScopeIn source.now.module.now scope.now }
+    requires typed { IsTypedIn source.now.module.now typed.now }
+    ensures ok { IfOk result (λ v. (s : spec.Scope) → Knows (types_in source.now) scope.now s → meaning.operand s (typed_in source.now typed.now).type (typed_in source.now typed.now).said ≡ Some (operand_of (source_trees source.now) v)) }
+    ensures not_yet { result ≡ Err BuildErr.NotYet → Refuses (types_in source.now) scope.now (λ s. meaning.operand s (typed_in source.now typed.now).type (typed_in source.now typed.now).said) }
+{
+    match operand(source, scope, typed.ty, typed.said) {
+        Some(value) => Ok(value),
+        None => Err(BuildErr::NotYet),
+    }
+}
+
+/// The operands of a row, of any number.
+fn all_operands(
     alloc: Global,
     source: &Source<'_>,
     scope: &Scope<'_>,
@@ -124,8 +142,47 @@ pub fn operands(
     Ok(values)
 }
 
-/// The blocks that a row leads to.
-pub fn targets(
+/// The operands of a row. Most rows have one or two, which make their list at once.
+pub fn operands(
+    alloc: Global,
+    source: &Source<'_>,
+    scope: &Scope<'_>,
+    typed: &[Typed],
+) -> Result<ShortList<LLVMValue>, BuildErr>
+    requires source { IsSource source.now }
+    requires scope { IsScopeIn source.now.module.now scope.now }
+    requires typed { All (IsTypedIn source.now.module.now) typed.now }
+    ensures ok { IfOk result (λ vs. (s : spec.Scope) → Knows (types_in source.now) scope.now s → all_of (λ (x : said.Typed). meaning.operand s x.type x.said) (map (typed_in source.now) typed.now) ≡ Some (map (operand_of (source_trees source.now)) vs)) }
+    ensures not_yet { result ≡ Err BuildErr.NotYet → Refuses (types_in source.now) scope.now (λ s. all_of (λ (x : said.Typed). meaning.operand s x.type x.said) (map (typed_in source.now) typed.now)) }
+{
+    match typed {
+        [x] => Ok(ShortList::one(known_operand(source, scope, x)?)),
+        [x, y] => {
+            let first = known_operand(source, scope, x)?;
+            let second = known_operand(source, scope, y)?;
+            Ok(ShortList::two(first, second))
+        }
+        _ => all_operands(alloc, source, scope, typed),
+    }
+}
+
+/// The block that a name says, which is refused where it says none.
+fn known_block(
+    source: &Source<'_>,
+    scope: &Scope<'_>,
+    name: Name,
+) -> Result<LLVMBasicBlock, BuildErr>
+    ensures ok { IfOk result (λ b. (s : spec.Scope) → Knows (types_in source.now) scope.now s → block_of s (text_of source.now.bytes.now name) ≡ Some b.0) }
+    ensures not_yet { result ≡ Err BuildErr.NotYet → Refuses (types_in source.now) scope.now (λ s. block_of s (text_of source.now.bytes.now name)) }
+{
+    match block(source, scope, name) {
+        Some(found) => Ok(found),
+        None => Err(BuildErr::NotYet),
+    }
+}
+
+/// The blocks that a row leads to, of any number.
+fn all_targets(
     alloc: Global,
     source: &Source<'_>,
     scope: &Scope<'_>,
@@ -142,4 +199,25 @@ pub fn targets(
         }
     }
     Ok(blocks)
+}
+
+/// The blocks that a row leads to. Of one or two the list is made at once.
+pub fn targets(
+    alloc: Global,
+    source: &Source<'_>,
+    scope: &Scope<'_>,
+    names: &[Name],
+) -> Result<ShortList<LLVMBasicBlock>, BuildErr>
+    ensures ok { IfOk result (λ bs. (s : spec.Scope) → Knows (types_in source.now) scope.now s → all_of (block_of s) (map (text_of source.now.bytes.now) names.now) ≡ Some (map (λ (b : LLVMBasicBlock). b.0) bs)) }
+    ensures not_yet { result ≡ Err BuildErr.NotYet → Refuses (types_in source.now) scope.now (λ s. all_of (block_of s) (map (text_of source.now.bytes.now) names.now)) }
+{
+    match names {
+        [x] => Ok(ShortList::one(known_block(source, scope, *x)?)),
+        [x, y] => {
+            let first = known_block(source, scope, *x)?;
+            let second = known_block(source, scope, *y)?;
+            Ok(ShortList::two(first, second))
+        }
+        _ => all_targets(alloc, source, scope, names),
+    }
 }

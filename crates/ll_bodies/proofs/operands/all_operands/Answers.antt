@@ -1,4 +1,4 @@
--- What `operands::operands` owes besides what the check finds.
+-- What `operands::all_operands` owes besides what the check finds.
 use Rattle.std.proofs.Common.{◌≡◌, ◌+◌, suc, arith}
 use Rattle.std.proofs.lemmas.Option.{slice_get-get_or}
 use Rattle.llvm_core.specs.Data.{operand_of}
@@ -6,7 +6,7 @@ use Rattle.ll_lines.specs.Lines.{Typed}
 use Rattle.ll_bodies.specs.Meaning.{operand}
 use Rattle.ll_bodies.specs.SourceViews.{typed_in, source_trees}
 use Rattle.ll_bodies.proofs.ListLaws.{done_more, done_all, done_refused}
-use Rattle.ll_bodies.proofs.operands.operands.Goals as goal
+use Rattle.ll_bodies.proofs.operands.all_operands.Goals as goal
 
 pub loop-x-preserved : goal.loop-x-preserved
 loop-x-preserved c = λ s knows.

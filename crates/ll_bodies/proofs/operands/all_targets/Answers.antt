@@ -1,11 +1,11 @@
--- What `operands::targets` owes besides what the check finds.
+-- What `operands::all_targets` owes besides what the check finds.
 use Rattle.std.proofs.Common.{◌≡◌, ◌+◌, suc, arith}
 use Rattle.std.proofs.lemmas.Option.{slice_get-get_or}
 use Rattle.llvm_core.specs.declared.numbers.LLVMBasicBlock.{LLVMBasicBlock}
 use Rattle.ll_lines.specs.Views.{text_of}
 use Rattle.ll_bodies.specs.Scopes.{block_of}
 use Rattle.ll_bodies.proofs.ListLaws.{done_more}
-use Rattle.ll_bodies.proofs.operands.targets.Goals as goal
+use Rattle.ll_bodies.proofs.operands.all_targets.Goals as goal
 
 pub loop-name-preserved : goal.loop-name-preserved
 loop-name-preserved c = λ s knows.
