@@ -7,7 +7,7 @@ ghost use Rattle.llvm_core.specs.declared.check_err.Place.TheVariants as places;
 ghost use Rattle.llvm_core.specs.declared.check_err.CheckErr.TheVariants as errors;
 ghost use Rattle.kinds.specs.Table.{rule_of};
 ghost use Rattle.llvm_core.specs.Parts.{IsValue, IsBlock, IsEntry, HasParts, HasValues, operands, is_function};
-ghost use Rattle.llvm_core.specs.Checked.{is_void, MisfitsPhi, returns_void, return_type, home, is_outside, is_block_outside, is_entry_outside, reaches_outside, is_placeholder, HasOtherType, returns_other, misfits_return, misfits_row, is_counted, Fails, IsCheckedInst};
+ghost use Rattle.llvm_core.specs.Checked.{is_void, MisfitsPhi, returns_void, return_type, home, is_outside, is_block_outside, is_entry_outside, reaches_outside, is_placeholder, HasOtherType, returns_other, misfits_return, is_counted, Fails, IsCheckedInst};
 
 use crate::check_err::{CheckErr, Place};
 use crate::code::{LLVMInst, LLVMValue, PhiEntry, Row};
@@ -132,41 +132,25 @@ fn is_counted(m: &LLVMModule, f: LLVMFunction, row: &Row) -> bool
         && row.targets.as_slice().len() == rule.leads.target_count()
 }
 
-/// Whether a row of the right count has an operand, or a written type, of a type that does not fit it.
-fn misfits_row(m: &LLVMModule, f: LLVMFunction, row: &Row) -> bool
-    requires function { f.0 < length m.now.functions }
-    requires values { HasParts m.now row.now }
-    ensures { result ≡ misfits_row m.now f row.now }
-{
-    is_counted(m, f, row) && (!m.row_fits(row) || misfits_return(m, f, row))
-}
-
+/// An instruction has as many operands and targets as the table says, and they are of types that fit.
 fn check_operand_types(m: &LLVMModule, i: LLVMInstRef) -> Result<(), CheckErr>
     requires { i.0 < length m.now.insts }
-    ensures ok { OnOk result (¬ Fails m.now (errors.OperandType (places.Inst i.0))) }
+    ensures types { OnOk result (¬ Fails m.now (errors.OperandType (places.Inst i.0))) }
+    ensures counts { OnOk result (¬ Fails m.now (errors.OperandCount (places.Inst i.0))) }
     ensures err { IfErr result (λ e. Fails m.now e) }
 {
     let fits = match m.inst(i) {
         LLVMInst::Phi(ty, entries) => fits_phi(m, *ty, entries.as_slice()),
-        LLVMInst::Row(row) => !misfits_row(m, home(m, i), row),
+        LLVMInst::Row(row) => {
+            let f = home(m, i);
+            if !is_counted(m, f, row) {
+                return Err(CheckErr::OperandCount(Place::Inst(i.0)));
+            }
+            m.row_fits(row) && !misfits_return(m, f, row)
+        }
     };
     if !fits {
         return Err(CheckErr::OperandType(Place::Inst(i.0)));
-    }
-    Ok(())
-}
-
-fn check_operand_count(m: &LLVMModule, i: LLVMInstRef) -> Result<(), CheckErr>
-    requires { i.0 < length m.now.insts }
-    ensures ok { OnOk result (¬ Fails m.now (errors.OperandCount (places.Inst i.0))) }
-    ensures err { IfErr result (λ e. Fails m.now e) }
-{
-    let fits = match m.inst(i) {
-        LLVMInst::Phi(..) => true,
-        LLVMInst::Row(row) => is_counted(m, home(m, i), row),
-    };
-    if !fits {
-        return Err(CheckErr::OperandCount(Place::Inst(i.0)));
     }
     Ok(())
 }
@@ -287,7 +271,6 @@ pub fn check_inst(m: &LLVMModule, i: LLVMInstRef) -> Result<(), CheckErr>
     ensures err { IfErr result (λ e. Fails m.now e) }
 {
     check_operand_types(m, i)?;
-    check_operand_count(m, i)?;
     check_operands_inside(m, i)?;
     check_operand_list(m, i)
 }
