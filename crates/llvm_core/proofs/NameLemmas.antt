@@ -1,36 +1,39 @@
 -- Sets of names: what inserting one says of their list.
-use Rattle.std.proofs.Common.{◌≡◌, ◌<◌, ◌+◌, ℕ, zero, suc, Bool, true, false, not, List, [], ◌∷◌, ◌++◌, Some, length, slice_get, take, get_or, nat_eq, ap, sym, ◌∙◌, refl, arith, if◌then◌else◌, inl, inr, subst}
+use Rattle.std.proofs.Common.{◌≡◌, ◌<◌, ◌≤◌, ◌+◌, ℕ, zero, suc, Bool, true, false, not, List, [], ◌∷◌, ◌++◌, Some, length, slice_get, take, get_or, ap, sym, ◌∙◌, refl, arith, if◌then◌else◌, inl, inr, subst}
 use Rattle.std.specs.List.{list_any}
-use Rattle.std.specs.Cmp.Lexicographic.{pointwise}
-use Rattle.std.proofs.lemmas.List.{take_more}
+use mathlib.Core.List.{map-append}
+use Rattle.std.specs.Borrow.{Bor}
+use Rattle.std.specs.Str.{bytes_eq}
+use Rattle.std.proofs.lemmas.List.{take_more, take_all, get_or-map}
 use Rattle.std.proofs.lemmas.Option.{slice_get_within, slice_get-get_or}
 use Rattle.llvm_core.specs.Keys.{same_text}
-use Rattle.llvm_core.specs.Names.{Stands, HasTwice, IsInserted}
+use Rattle.llvm_core.specs.Names.{texts, Stands, HasTwice, IsInserted}
 use Rattle.support.proofs.ListLaws.{slice_get-push_cases, slice_get-take}
 
 -- ---- a name in a list
 
-stands : (xs : List (List ℕ)) (n : List ℕ) → list_any (pointwise nat_eq n) xs ≡ true → Stands xs n
+stands : (xs : List (Bor (List ℕ))) (n : List ℕ) → list_any (λ k. bytes_eq n k.now) xs ≡ true → Stands (texts xs) n
 stands [] n h = cc
-stands (x ∷ xs) n h = by (pointwise nat_eq n x) refl (stands xs n)
+stands (x ∷ xs) n h = by (bytes_eq n x.now) refl (stands xs n)
   where
-    by : (b : Bool) → pointwise nat_eq n x ≡ b → (list_any (pointwise nat_eq n) xs ≡ true → Stands xs n) → Stands (x ∷ xs) n
-    by true e rest = (0, ap Some (sym ((same_text n x).0 e)))
-    by false e rest = let later : list_any (pointwise nat_eq n) xs ≡ true = grind (arith, h, e) in let s = rest later in (suc s.0, s.1)
+    by : (b : Bool) → bytes_eq n x.now ≡ b → (list_any (λ k. bytes_eq n k.now) xs ≡ true → Stands (texts xs) n) → Stands (texts (x ∷ xs)) n
+    by true e rest = (0, ap Some (sym ((same_text n x.now).0 e)))
+    by false e rest = let later : list_any (λ k. bytes_eq n k.now) xs ≡ true = grind (arith, h, e) in let s = rest later in (suc s.0, s.1)
 
-stands_not : (xs : List (List ℕ)) (n : List ℕ) → list_any (pointwise nat_eq n) xs ≡ false → ¬ Stands xs n
+stands_not : (xs : List (Bor (List ℕ))) (n : List ℕ) → list_any (λ k. bytes_eq n k.now) xs ≡ false → ¬ Stands (texts xs) n
 stands_not [] n h s = cc
-stands_not (x ∷ xs) n h (zero, at) = let e = (same_text n x).1 (let same : x ≡ n = (cc) in sym same) in grind (arith, h, e)
+stands_not (x ∷ xs) n h (zero, at) = let e = (same_text n x.now).1 (let same : x.now ≡ n = (cc) in sym same) in grind (arith, h, e)
 stands_not (x ∷ xs) n h (suc i, at) = stands_not xs n (grind (arith, h)) (i, at)
 
 -- what a set of names answers
-pub inserted : (old new : List (List ℕ)) (n : List ℕ) (fresh : Bool) → fresh ≡ not (list_any (pointwise nat_eq n) old) → new ≡ (if list_any (pointwise nat_eq n) old then old else old ++ n ∷ []) → IsInserted old new n fresh
-inserted old new n fresh f g = by (list_any (pointwise nat_eq n) old) refl fresh f g
+pub inserted : (old new : List (Bor (List ℕ))) (n : Bor (List ℕ)) (fresh : Bool) → fresh ≡ not (list_any (λ k. bytes_eq n.now k.now) old) → new ≡ (if list_any (λ k. bytes_eq n.now k.now) old then old else old ++ n ∷ [])
+    → IsInserted (texts old) (texts new) n.now fresh
+inserted old new n fresh f g = by (list_any (λ k. bytes_eq n.now k.now) old) refl fresh f g
   where
-    by : (b : Bool) → list_any (pointwise nat_eq n) old ≡ b → (fresh : Bool) → fresh ≡ not b → new ≡ (if b then old else old ++ n ∷ []) → IsInserted old new n fresh
+    by : (b : Bool) → list_any (λ k. bytes_eq n.now k.now) old ≡ b → (fresh : Bool) → fresh ≡ not b → new ≡ (if b then old else old ++ n ∷ []) → IsInserted (texts old) (texts new) n.now fresh
     by true e true f g = cc
-    by true e false f g = stands old n e
-    by false e true f g = (g, stands_not old n e)
+    by true e false f g = stands old n.now e
+    by false e true f g = (ap texts g ∙ map-append (λ (k : Bor (List ℕ)). k.now) old (n ∷ []), stands_not old n.now e)
     by false e false f g = cc
 
 -- ---- the first names of a list
@@ -64,3 +67,27 @@ once_next names seen i d lt e once new =
 
 pub none_twice : ¬ HasTwice []
 none_twice (i, j, n, lt, at, is) = cc
+
+-- ---- lists of borrowed names
+
+text_at : (names : List (Bor (List ℕ))) (i : ℕ) (d : Bor (List ℕ)) → i < length names → get_or (texts names) i d.now ≡ (get_or names i d).now
+text_at names i d lt = get_or-map (λ (n : Bor (List ℕ)). n.now) names i d d.now lt
+
+length-texts : (names : List (Bor (List ℕ))) → length (texts names) ≡ length names
+length-texts [] = refl
+length-texts (n ∷ names) = ap suc (length-texts names)
+
+within : (names : List (Bor (List ℕ))) (i : ℕ) → i < length names → i < length (texts names)
+within names i lt = subst (λ k. i < k) (sym (length-texts names)) lt
+
+pub text_twice : (names : List (Bor (List ℕ))) (i : ℕ) (d : Bor (List ℕ)) → i < length names → Stands (take i (texts names)) (get_or names i d).now → HasTwice (texts names)
+text_twice names i d lt s = twice_here (texts names) i d.now (within names i lt) (subst (Stands (take i (texts names))) (sym (text_at names i d lt)) s)
+
+pub text_next : (names : List (Bor (List ℕ))) (seen : List (List ℕ)) (i : ℕ) (d : Bor (List ℕ)) → i < length names → seen ≡ take i (texts names) ++ (get_or names i d).now ∷ [] → ¬ HasTwice (take i (texts names)) → ¬ Stands (take i (texts names)) (get_or names i d).now
+    → (seen ≡ take (i + 1) (texts names)) × ¬ HasTwice (take (i + 1) (texts names))
+text_next names seen i d lt e once new =
+    let at = sym (text_at names i d lt) in
+    once_next (texts names) seen i d.now (within names i lt) (e ∙ ap (λ n. take i (texts names) ++ n ∷ []) at) once (subst (λ n. ¬ Stands (take i (texts names)) n) at new)
+
+pub all_texts : (names : List (Bor (List ℕ))) (i : ℕ) → length names ≤ i → take i (texts names) ≡ texts names
+all_texts names i past = take_all i (texts names) (subst (λ k. k ≤ i) (sym (length-texts names)) past)

@@ -1,6 +1,11 @@
 -- Names, lists of them, and what is inserted in them.
-use Rattle.std.specs.Prelude.{◌≡◌, ◌<◌, ℕ, Bool, true, false, ◌&&◌, ◌||◌, ◌==◌, nat_le, List, [], ◌∷◌, ◌++◌, slice_get, Some}
+use Rattle.std.specs.Prelude.{◌≡◌, ◌<◌, ℕ, Bool, true, false, map, ◌&&◌, ◌||◌, ◌==◌, nat_le, List, [], ◌∷◌, ◌++◌, slice_get, Some}
+use Rattle.std.specs.Borrow.{Bor}
 use Rattle.std.specs.List.{list_all}
+
+-- the texts that are borrowed as names
+abbrev pub texts : List (Bor (List ℕ)) → List (List ℕ)
+texts names = map (λ n. n.now) names
 
 -- the name is in the list
 abbrev pub Stands : List (List ℕ) → List ℕ → Type 0

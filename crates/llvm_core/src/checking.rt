@@ -38,7 +38,11 @@ fn is_bad_name(name: &str) -> bool
 }
 
 /// Notes the name of a function after those before it.
-fn check_function_name(m: &LLVMModule, f: LLVMFunction, seen: &mut NameSet) -> Result<(), CheckErr>
+fn check_function_name<'a>(
+    m: &'a LLVMModule,
+    f: LLVMFunction,
+    seen: &mut NameSet<'a>,
+) -> Result<(), CheckErr>
     requires within { f.0 < length m.now.functions }
     requires seen { seen.old ≡ names_before m.now f.0 }
     ensures seen { OnOk result (seen.new ≡ names_before m.now (f.0 + 1)) }
@@ -56,7 +60,7 @@ fn check_function_name(m: &LLVMModule, f: LLVMFunction, seen: &mut NameSet) -> R
 }
 
 /// Notes the names of all functions, where none was noted before.
-fn note_function_names(m: &LLVMModule, seen: &mut NameSet) -> Result<(), CheckErr>
+fn note_function_names<'a>(m: &'a LLVMModule, seen: &mut NameSet<'a>) -> Result<(), CheckErr>
     requires { seen.old ≡ [] }
     ensures ok { OnOk result ((f : ℕ) → f < length m.now.functions → IsFreshName m.now f) }
     ensures err { IfErr result (λ e. MayAnswer m.now e) }
@@ -72,7 +76,9 @@ fn check_function_names(m: &LLVMModule) -> Result<(), CheckErr>
     ensures ok { OnOk result ((f : ℕ) → f < length m.now.functions → IsFreshName m.now f) }
     ensures err { IfErr result (λ e. MayAnswer m.now e) }
 {
-    note_function_names(m, &mut NameSet::new(m.allocator()))
+    let mut seen = NameSet::new(m.allocator());
+    seen.reserve(m.functions() as usize)?;
+    note_function_names(m, &mut seen)
 }
 
 fn check_local_names(m: &LLVMModule, f: LLVMFunction) -> Result<(), CheckErr>

@@ -1,44 +1,48 @@
 //! Names that are each kept once.
 
-ghost use Rattle.std.specs.Prelude.{◌≡◌, [], IfOk};
+ghost use Rattle.std.specs.Prelude.{◌≡◌, [], IfOk, OnOk};
 ghost use Rattle.llvm_core.specs.Names.{IsInserted};
 
 use indexmap::IndexSet;
 use std::alloc::{AllocError, Global};
 use std::marker::Model;
-use support::text::Text;
 
-/// Names that are each kept once, seen as their list.
+/// Names of a module that are each kept once, seen as their list.
 #[derive(Drop)]
-pub struct NameSet {
-    alloc: Global,
-    names: IndexSet<Text>,
+pub struct NameSet<'a> {
+    names: IndexSet<&'a str>,
 }
 
-impl Model for NameSet {
+impl<'a> Model for NameSet<'a> {
     ghost use Rattle.std.specs.Prelude.{ℕ, List};
+    ghost use Rattle.llvm_core.specs.Names.{texts};
 
     ghost Value = { List (List ℕ) };
 
-    ghost view = { λ s. s.names.keys };
+    ghost view = { λ s. texts s.names.keys };
 }
 
 #[tactic(auto, using(crate::proofs::NameLemmas::inserted))]
-impl NameSet {
-    pub fn new(alloc: Global) -> NameSet
+impl<'a> NameSet<'a> {
+    pub fn new(alloc: Global) -> NameSet<'a>
         ensures { result ≡ [] }
     {
         NameSet {
-            alloc,
             names: IndexSet::new(alloc),
         }
     }
 
+    /// Makes room for so many names more.
+    pub fn reserve(&mut self, more: usize) -> Result<(), AllocError>
+        ensures { OnOk result (self.new ≡ self.old) }
+    {
+        self.names.reserve(more)
+    }
+
     /// Puts a name last, or answers that it is there.
-    pub fn insert(&mut self, name: &str) -> Result<bool, AllocError>
+    pub fn insert(&mut self, name: &'a str) -> Result<bool, AllocError>
         ensures { IfOk result (λ fresh. IsInserted self.old self.new name.now fresh) }
     {
-        let name = Text::copy(self.alloc, name)?;
         let (_, fresh) = self.names.insert_full(name)?;
         Ok(fresh)
     }

@@ -3,7 +3,7 @@
 ghost use Rattle.std.specs.Prelude.{◌≡◌, ◌<◌, ◌++◌, [], IfOk, IsTrue, OnOk, Some, false, length, slice_get};
 ghost use Rattle.std.specs.List.{flat_map};
 ghost use Rattle.std.specs.Option.{option_map, option_map_or};
-ghost use Rattle.llvm_core.specs.Names.{HasTwice};
+ghost use Rattle.llvm_core.specs.Names.{HasTwice, texts};
 ghost use Rattle.llvm_core.specs.Checked.{named, inst_names, block_names, local_names};
 
 use crate::module::LLVMModule;
@@ -11,38 +11,45 @@ use crate::name_set::NameSet;
 use crate::numbers::{LLVMBasicBlock, LLVMFunction, LLVMInstRef};
 use std::alloc::{AllocError, Global};
 use support::items::Items;
-use support::text::Text;
 
 /// Appends a name, where there is one.
-fn push_named(alloc: Global, names: &mut Items<Text>, name: &str) -> Result<(), AllocError>
-    ensures { OnOk result (names.new ≡ names.old ++ named name.now) }
+fn push_named<'a>(names: &mut Items<&'a str>, name: &'a str) -> Result<(), AllocError>
+    ensures { OnOk result (texts names.new ≡ texts names.old ++ named name.now) }
 {
     if !name.is_empty() {
-        names.push(Text::copy(alloc, name)?)?;
+        names.push(name)?;
     }
     Ok(())
 }
 
 /// Appends the names of a block and of its results.
-fn push_block(m: &LLVMModule, b: LLVMBasicBlock, names: &mut Items<Text>) -> Result<(), AllocError>
+fn push_block<'a>(
+    m: &'a LLVMModule,
+    b: LLVMBasicBlock,
+    names: &mut Items<&'a str>,
+) -> Result<(), AllocError>
     requires { b.0 < length m.now.blocks }
-    ensures { OnOk result (names.new ≡ names.old ++ block_names m.now b) }
+    ensures { OnOk result (texts names.new ≡ texts names.old ++ block_names m.now b) }
 {
-    push_named(m.allocator(), names, m.block_name(b))?;
+    push_named(names, m.block_name(b))?;
     for inst in m.instructions(b) {
-        push_named(m.allocator(), names, m.inst_name(*inst))?;
+        push_named(names, m.inst_name(*inst))?;
     }
     Ok(())
 }
 
 /// Appends the names of a function to no names.
-fn push_locals(m: &LLVMModule, f: LLVMFunction, names: &mut Items<Text>) -> Result<(), AllocError>
+fn push_locals<'a>(
+    m: &'a LLVMModule,
+    f: LLVMFunction,
+    names: &mut Items<&'a str>,
+) -> Result<(), AllocError>
     requires within { f.0 < length m.now.functions }
     requires none { names.old ≡ [] }
-    ensures { OnOk result (option_map (local_names m.now) (slice_get m.now.functions f.0) ≡ Some names.new) }
+    ensures { OnOk result (option_map (local_names m.now) (slice_get m.now.functions f.0) ≡ Some (texts names.new)) }
 {
     for name in m.params(f) {
-        push_named(m.allocator(), names, name.as_str())?;
+        push_named(names, name.as_str())?;
     }
     for block in m.blocks(f) {
         push_block(m, *block, names)?;
@@ -51,9 +58,12 @@ fn push_locals(m: &LLVMModule, f: LLVMFunction, names: &mut Items<Text>) -> Resu
 }
 
 /// The names of the parameters, blocks and results of a function.
-pub fn local_names(m: &LLVMModule, f: LLVMFunction) -> Result<Items<Text>, AllocError>
+pub(crate) fn local_names<'a>(
+    m: &'a LLVMModule,
+    f: LLVMFunction,
+) -> Result<Items<&'a str>, AllocError>
     requires { f.0 < length m.now.functions }
-    ensures { IfOk result (λ names. option_map (local_names m.now) (slice_get m.now.functions f.0) ≡ Some names) }
+    ensures { IfOk result (λ names. option_map (local_names m.now) (slice_get m.now.functions f.0) ≡ Some (texts names)) }
 {
     let mut names = Items::new(m.allocator());
     push_locals(m, f, &mut names)?;
@@ -61,13 +71,13 @@ pub fn local_names(m: &LLVMModule, f: LLVMFunction) -> Result<Items<Text>, Alloc
 }
 
 /// Whether a name stands twice in a list. Until then the names are noted, where none was noted before.
-fn finds_twice(names: &[Text], seen: &mut NameSet) -> Result<bool, AllocError>
+fn finds_twice<'a>(names: &[&'a str], seen: &mut NameSet<'a>) -> Result<bool, AllocError>
     requires { seen.old ≡ [] }
-    ensures yes { IfOk result (λ twice. IsTrue twice → HasTwice names.now) }
-    ensures no { IfOk result (λ twice. twice ≡ false → ¬ HasTwice names.now) }
+    ensures yes { IfOk result (λ twice. IsTrue twice → HasTwice (texts names.now)) }
+    ensures no { IfOk result (λ twice. twice ≡ false → ¬ HasTwice (texts names.now)) }
 {
     for name in names {
-        if !seen.insert(name.as_str())? {
+        if !seen.insert(*name)? {
             return Ok(true);
         }
     }
@@ -75,9 +85,11 @@ fn finds_twice(names: &[Text], seen: &mut NameSet) -> Result<bool, AllocError>
 }
 
 /// Whether a name stands twice in a list.
-pub fn has_twice(alloc: Global, names: &[Text]) -> Result<bool, AllocError>
-    ensures yes { IfOk result (λ twice. IsTrue twice → HasTwice names.now) }
-    ensures no { IfOk result (λ twice. twice ≡ false → ¬ HasTwice names.now) }
+pub(crate) fn has_twice(alloc: Global, names: &[&str]) -> Result<bool, AllocError>
+    ensures yes { IfOk result (λ twice. IsTrue twice → HasTwice (texts names.now)) }
+    ensures no { IfOk result (λ twice. twice ≡ false → ¬ HasTwice (texts names.now)) }
 {
-    finds_twice(names, &mut NameSet::new(alloc))
+    let mut seen = NameSet::new(alloc);
+    seen.reserve(names.len())?;
+    finds_twice(names, &mut seen)
 }
