@@ -103,6 +103,7 @@ fn fit(
 
 /// Whether so many operands fit, of which the first three have these types. What a return takes is for its function to
 /// say.
+#[inline(always)]
 fn takes_fit(
     takes: Takes,
     count: usize,
@@ -138,7 +139,9 @@ fn is_written(gives: Gives, written: Option<TypeView>) -> bool
     }
 }
 
-/// Whether a row may have so many operands, of which the first three have these types, and a written type or none.
+/// Whether a row may have so many operands, of which the first three have these types, and a written type or none. It stands in the
+/// bodies of its callers, so that no view of a type goes through memory.
+#[inline(always)]
 pub fn fits(
     rule: Rule,
     count: usize,
