@@ -18,3 +18,4 @@ pub mod ViewLaws
 pub mod JoinLaws
 pub mod FoldLaws
 pub mod FileLaws
+pub mod SettledLaws

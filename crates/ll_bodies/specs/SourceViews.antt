@@ -8,6 +8,7 @@ use Rattle.llvm_core.specs.Sound.{IsModule}
 use Rattle.ll_lines.specs.declared.lines.RowLine.{RowLine}
 use Rattle.ll_lines.specs.declared.lines.Line as code_line
 use Rattle.ll_lines.specs.declared.lines.Part.{Part}
+use Rattle.ll_lines.specs.declared.lines.Part.TheVariants as code_parts
 use Rattle.ll_lines.specs.declared.names.Name.{Name}
 use Rattle.ll_lines.specs.Lines.{Text, Line}
 use Rattle.ll_lines.specs.Views.{text_of, line_view, IsTypeIn, IsTypedIn, IsPartIn, param_view, said_view, typed_view, incoming_view, inst_view, row_view}
@@ -52,6 +53,17 @@ IsFittingRow t r = fits_trees r.op (option_map (type_at t.types) r.written) (map
 abbrev pub IsFitting : Trees → code_inst.Inst → Type 0
 IsFitting t (code_insts.Phi ty entries) = Unit {0}
 IsFitting t (code_insts.Row r) = IsFittingRow t r
+
+-- the operands of a line fit it where a name is written of its result
+abbrev pub FitsIfNamed : Trees → code_line.Line → Type 0
+FitsIfNamed t l = IfSome l.result (λ (n : Name). IsFitting t l.inst)
+
+abbrev pub IsSettled : Trees → Part → Type 0
+IsSettled t (code_parts.Label n) = Unit {0}
+IsSettled t (code_parts.Does l) = FitsIfNamed t l
+
+abbrev pub HasSettled : Trees → code_block.SaidBlock → Type 0
+HasSettled t x = All (IsSettled t) x.lines.now
 
 -- ---- what is said, as the source has it
 

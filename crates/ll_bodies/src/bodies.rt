@@ -11,7 +11,7 @@ ghost use Rattle.ll_bodies.specs.Meaning as meaning;
 ghost use Rattle.ll_bodies.specs.Meaning.{all_from, blocks_data};
 ghost use Rattle.ll_bodies.specs.BlockViews.{lines_of};
 ghost use Rattle.ll_bodies.specs.ScopeViews.{Knows, Refuses};
-ghost use Rattle.ll_bodies.specs.SourceViews.{IsSource, IsScopeIn, IsFitting, HasLinesIn, source_trees, types_in, line_in, lines_in, block_in};
+ghost use Rattle.ll_bodies.specs.SourceViews.{IsSource, IsScopeIn, IsFitting, FitsIfNamed, IsSettled, HasSettled, HasLinesIn, source_trees, types_in, line_in, lines_in, block_in};
 ghost use Rattle.ll_bodies.specs.BodyViews.{placed_one, Made, Extends, MadeBlocks};
 ghost use Rattle.ll_bodies.specs.TypedViews.{IsTypedBody, AreTypedInsts, AreTypedBlocks};
 
@@ -52,12 +52,14 @@ fn body_inst(
     requires source { IsSource source.now }
     requires scope { IsScopeIn source.now.module.now scope.now }
     requires line { IsInstIn source.now.module.now line.now.inst }
+    requires fits { FitsIfNamed (source_trees source.now) line.now }
     ensures ok { IfOk result (λ x. (s : spec.Scope) (n : ℕ) → Knows (types_in source.now) scope.now s → meaning.placed s n (line_in source.now line.now) ≡ Some (placed_one (source_trees source.now) n x)) }
     ensures typed { IfOk result (IsTypedBody source.now.module.now) }
     ensures not_yet { result ≡ Err BuildErr.NotYet → (n : ℕ) → Refuses (types_in source.now) scope.now (λ s. meaning.placed s n (line_in source.now line.now)) }
 {
     let name = Text::copy(alloc, local_name(source.bytes, line.result))?;
-    let inst = instruction(alloc, source, scope, &line.inst)?;
+    // the first pass has seen that a line which names its result has one
+    let inst = instruction(alloc, source, scope, &line.inst, line.result.is_some())?;
     let ty = type_or_void(source, &line.inst);
     Ok(BodyInst { name, ty, inst })
 }
@@ -73,6 +75,7 @@ fn add_part(
     requires source { IsSource source.now }
     requires scope { IsScopeIn source.now.module.now scope.now }
     requires part { IsPartIn source.now.module.now part.now }
+    requires fits { IsSettled (source_trees source.now) part.now }
     ensures ok { OnOk result (Extends source.now scope.now (lines_of (part.now ∷ [])) made.old made.new) }
     ensures typed { OnOk result (AreTypedInsts source.now.module.now made.old → AreTypedInsts source.now.module.now made.new) }
     ensures not_yet { result ≡ Err BuildErr.NotYet → (n : ℕ) → Refuses (types_in source.now) scope.now (λ s. all_from (meaning.placed s) n (lines_in source.now (part.now ∷ []))) }
@@ -88,7 +91,7 @@ fn add_part(
 }
 
 /// Lines as instructions of a body.
-pub fn body_insts(
+fn body_insts(
     alloc: Global,
     source: &Source<'_>,
     scope: &Scope<'_>,
@@ -97,6 +100,7 @@ pub fn body_insts(
     requires source { IsSource source.now }
     requires scope { IsScopeIn source.now.module.now scope.now }
     requires lines { All (IsPartIn source.now.module.now) lines.now }
+    requires fits { All (IsSettled (source_trees source.now)) lines.now }
     ensures ok { IfOk result (Made source.now scope.now (lines_of lines.now)) }
     ensures typed { IfOk result (AreTypedInsts source.now.module.now) }
     ensures not_yet { result ≡ Err BuildErr.NotYet → (n : ℕ) → Refuses (types_in source.now) scope.now (λ s. all_from (meaning.placed s) n (lines_in source.now lines.now)) }
@@ -118,6 +122,7 @@ fn body_block(
     requires source { IsSource source.now }
     requires scope { IsScopeIn source.now.module.now scope.now }
     requires lines { HasLinesIn source.now.module.now block.now }
+    requires fits { HasSettled (source_trees source.now) block.now }
     ensures name { IfOk result (λ x. x.name ≡ written_name label_key (block_in source.now block.now).label) }
     ensures insts { IfOk result (λ x. Made source.now scope.now (lines_of block.now.lines.now) x.insts) }
     ensures typed { IfOk result (λ x. AreTypedInsts source.now.module.now x.insts) }
@@ -129,7 +134,7 @@ fn body_block(
 }
 
 /// Blocks as a body.
-pub fn body_blocks(
+pub(crate) fn body_blocks(
     alloc: Global,
     source: &Source<'_>,
     scope: &Scope<'_>,
@@ -138,6 +143,7 @@ pub fn body_blocks(
     requires source { IsSource source.now }
     requires scope { IsScopeIn source.now.module.now scope.now }
     requires lines { All (HasLinesIn source.now.module.now) blocks.now }
+    requires fits { All (HasSettled (source_trees source.now)) blocks.now }
     ensures ok { IfOk result (MadeBlocks source.now scope.now blocks.now) }
     ensures typed { IfOk result (AreTypedBlocks source.now.module.now) }
     ensures not_yet { result ≡ Err BuildErr.NotYet → (b n : ℕ) → Refuses (types_in source.now) scope.now (λ s. blocks_data s b n (map (block_in source.now) blocks.now)) }

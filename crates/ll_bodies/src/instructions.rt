@@ -1,6 +1,6 @@
 //! Instructions of lines to instructions of a module.
 
-ghost use Rattle.std.specs.Prelude.{◌≡◌, None, Some, Err, IfOk, IfSome, OnOk, All, map};
+ghost use Rattle.std.specs.Prelude.{◌≡◌, None, Some, Err, IfOk, IfSome, IsTrue, OnOk, All, map};
 ghost use Rattle.std.specs.Option.{option_map};
 ghost use Rattle.llvm_core.specs.Data.{type_at, entry_of, instruction_of};
 ghost use Rattle.ll_lines.specs.Views.{IsTypeIn, IsSaidIn, IsInstIn};
@@ -11,13 +11,14 @@ ghost use Rattle.ll_bodies.specs.ScopeViews.{Knows, Refuses};
 ghost use Rattle.ll_bodies.specs.SourceViews.{IsSource, IsRowIn, IsFittingRow, IsFitting, source_trees, types_in, entry_in, inst_in, row_in, IsScopeIn};
 ghost use Rattle.ll_bodies.specs.TypedViews.{IsTypedInst};
 ghost use Rattle.kinds.specs.Types.{TypeTree, VoidType};
+ghost use Rattle.kinds.specs.Typing.{fits_trees};
 ghost use Rattle.std.specs.Option.{option_map_or};
 
 use crate::build_err::BuildErr;
 use crate::operands::{block, operand, operands, targets};
 use crate::results::{Source, row_fits};
 use crate::scope::Scope;
-use ll_lines::lines::{Incoming, Inst, RowLine};
+use ll_lines::lines::{Incoming, Inst, RowLine, Typed};
 use llvm_core::code::{LLVMInst, PhiEntry, Row};
 use llvm_core::numbers::LLVMType;
 use std::alloc::Global;
@@ -68,16 +69,28 @@ fn entries(
     Ok(made)
 }
 
+/// Whether the operands fit the row, which is asked where it is not known.
+fn fits_row(source: &Source<'_>, said: &RowLine, known: bool) -> bool
+    requires source { IsSource source.now }
+    requires said { IsRowIn source.now.module.now said.now }
+    requires known { IsTrue known → IsFittingRow (source_trees source.now) said.now }
+    ensures { result ≡ fits_trees said.now.op (option_map (type_at (types_in source.now)) said.now.written) (map (λ (x : Typed). type_at (types_in source.now) x.ty) said.now.operands) }
+{
+    known || row_fits(source.module, said)
+}
+
 /// A row whose operands fit it.
 fn row(
     alloc: Global,
     source: &Source<'_>,
     scope: &Scope<'_>,
     said: &RowLine,
+    fits: bool,
 ) -> Result<LLVMInst, BuildErr>
     requires source { IsSource source.now }
     requires scope { IsScopeIn source.now.module.now scope.now }
     requires said { IsRowIn source.now.module.now said.now }
+    requires known { IsTrue fits → IsFittingRow (source_trees source.now) said.now }
     ensures ok { IfOk result (λ i. (s : spec.Scope) → Knows (types_in source.now) scope.now s → meaning.instruction s (row_in source.now said.now) ≡ Some (instruction_of (source_trees source.now) i)) }
     ensures typed { IfOk result (λ i. (ty : LLVMType) → IsTypedInst source.now.module.now ty i) }
     ensures fits { OnOk result (IsFittingRow (source_trees source.now) said.now) }
@@ -85,7 +98,7 @@ fn row(
 {
     let named = operands(alloc, source, scope, said.operands.as_slice())?;
     let blocks = targets(alloc, source, scope, said.targets.as_slice())?;
-    if !row_fits(source.module, said) {
+    if !fits_row(source, said, fits) {
         return Err(BuildErr::NotYet);
     }
     Ok(LLVMInst::Row(Row {
@@ -96,16 +109,18 @@ fn row(
     }))
 }
 
-/// An instruction.
-pub fn instruction(
+/// An instruction, of which it may be known that its operands fit.
+pub(crate) fn instruction(
     alloc: Global,
     source: &Source<'_>,
     scope: &Scope<'_>,
     inst: &Inst,
+    fits: bool,
 ) -> Result<LLVMInst, BuildErr>
     requires source { IsSource source.now }
     requires scope { IsScopeIn source.now.module.now scope.now }
     requires inst { IsInstIn source.now.module.now inst.now }
+    requires known { IsTrue fits → IsFitting (source_trees source.now) inst.now }
     ensures ok { IfOk result (λ i. (s : spec.Scope) → Knows (types_in source.now) scope.now s → meaning.instruction s (inst_in source.now inst.now) ≡ Some (instruction_of (source_trees source.now) i)) }
     ensures typed { IfOk result (λ i. (ty : LLVMType) → type_at (types_in source.now) ty ≡ option_map_or (λ (τ : TypeTree). τ) (meaning.result_type (inst_in source.now inst.now)) VoidType → IsTypedInst source.now.module.now ty i) }
     ensures fits { OnOk result (IsFitting (source_trees source.now) inst.now) }
@@ -116,6 +131,6 @@ pub fn instruction(
             let made = entries(alloc, source, scope, *ty, said.as_slice())?;
             Ok(LLVMInst::Phi(*ty, made))
         }
-        Inst::Row(said) => row(alloc, source, scope, said),
+        Inst::Row(said) => row(alloc, source, scope, said, fits),
     }
 }

@@ -4,8 +4,9 @@ use Rattle.std.proofs.lemmas.Result.{IfOk-weaker}
 use Rattle.ll_lines.specs.declared.lines.Part.{Part}
 use Rattle.ll_lines.specs.Views.{IsPartIn}
 use Rattle.ll_bodies.specs.declared.blocks.SaidBlock.{SaidBlock}
-use Rattle.ll_bodies.specs.SourceViews.{HasLinesIn, source_trees}
+use Rattle.ll_bodies.specs.SourceViews.{HasLinesIn, HasSettled, source_trees}
 use Rattle.ll_bodies.proofs.FunctionLaws.{uncut, unscoped, body_made, body_unmade, data_made, data_unmade}
+use Rattle.ll_bodies.proofs.SettledLaws.{settled}
 use Rattle.ll_bodies.proofs.RightLaws.{made_right}
 use Rattle.ll_bodies.proofs.ErrLaws.{passed_on, ok_by_both}
 use Rattle.ll_bodies.proofs.functions.body_of.Goals as goal
@@ -62,3 +63,10 @@ returns-clause-right c =
     ok_by_both _ _ _ c.body_blocks.result (λ body made typed next.
     made_right s c.args.f c.args.first_block c.args.first c.args.said.now c.as_slice-2.result.now c.as_slice-3.result.now c.as_slice-4.result.now c.in_ok-scope.scope body
     c.as_slice-2.ensures.value (c.as_slice-4.ensures.value ∙ sym c.as_slice-3.ensures.value) c.requires.source.sound lines typed made c.in_ok-scope.ensures.knows c.in_ok-scope.ensures.named next) c.body_blocks.ensures.ok c.body_blocks.ensures.typed
+
+pub body_blocks-requires-clause-fits : goal.body_blocks-requires-clause-fits
+body_blocks-requires-clause-fits c =
+    let s = c.args.source.now in
+    let knows = c.in_ok-scope.ensures.knows in
+    let all = settled s c.args.f.0 c.args.first_block c.args.first c.as_slice-2.result.now c.as_slice-3.result.now knows.0 knows.1 in
+    subst (λ (bs : List SaidBlock). All (HasSettled (source_trees s)) bs) (c.as_slice-3.ensures.value ∙ sym c.as_slice-4.ensures.value) all

@@ -8,7 +8,7 @@ pub returns-clause-ok : goal.returns-clause-ok
 returns-clause-ok c = λ s knows.
     let a = rw c.as_slice.ensures at (c.in_ok-named.ensures.ok s knows) in
     let b = rw c.as_slice-2.ensures at (c.in_ok-blocks.ensures.ok s knows) in
-    row_made c.args.source.now s c.args.said.now c.in_ok-named.named c.in_ok-blocks.blocks a b (sym c.row_fits.ensures ∙ c.if-not-row_fits.false)
+    row_made c.args.source.now s c.args.said.now c.in_ok-named.named c.in_ok-blocks.blocks a b (sym c.fits_row.ensures ∙ c.if-not-fits_row.false)
 
 pub returns-in_err-named-clause-not_yet : goal.returns-in_err-named-clause-not_yet
 returns-in_err-named-clause-not_yet c = λ e s knows.
@@ -16,11 +16,11 @@ returns-in_err-named-clause-not_yet c = λ e s knows.
     let none = rw c.as_slice.ensures at (x.ensures.not_yet (passed_on c.from_residual.result x.field-0.0 c.from_residual.ensures.1 e) s knows) in
     row_unnamed c.args.source.now s c.args.said.now none
 
-pub returns-then-not-row_fits-clause-not_yet : goal.returns-then-not-row_fits-clause-not_yet
-returns-then-not-row_fits-clause-not_yet c = λ e s knows.
+pub returns-then-not-fits_row-clause-not_yet : goal.returns-then-not-fits_row-clause-not_yet
+returns-then-not-fits_row-clause-not_yet c = λ e s knows.
     let a = rw c.as_slice.ensures at (c.in_ok-named.ensures.ok s knows) in
     let b = rw c.as_slice-2.ensures at (c.in_ok-blocks.ensures.ok s knows) in
-    row_unfit c.args.source.now s c.args.said.now _ _ a b (sym c.row_fits.ensures ∙ c.if-not-row_fits.true)
+    row_unfit c.args.source.now s c.args.said.now _ _ a b (sym c.fits_row.ensures ∙ c.if-not-fits_row.true)
 
 pub returns-clause-fits : goal.returns-clause-fits
-returns-clause-fits c = sym c.row_fits.ensures ∙ c.if-not-row_fits.false
+returns-clause-fits c = sym c.fits_row.ensures ∙ c.if-not-fits_row.false
