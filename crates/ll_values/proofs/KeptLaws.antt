@@ -5,23 +5,20 @@ use Rattle.support.proofs.ListLaws.{slice_get-before, slice_get-push}
 use Rattle.llvm_core.specs.Module.{Module}
 use Rattle.ll_lines.specs.declared.lines.Inst.{Inst}
 use Rattle.ll_lines.specs.declared.lines.Param.{Param}
-use Rattle.ll_lines.specs.Views.{IsTypeIn, IsInstIn}
+use Rattle.llvm_core.specs.Data.{trees_of}
+use Rattle.ll_lines.specs.Views.{inst_view, IsTypeIn, IsInstIn}
 use Rattle.ll_values.specs.declared.store.Store.{Store}
 use Rattle.ll_values.specs.declared.value.Entry.{Entry}
 use Rattle.ll_values.specs.declared.value.Piece.{Piece}
 use Rattle.ll_values.specs.declared.value.Piece.TheVariants as P
 use Rattle.ll_values.specs.declared.value.Definition.{Definition}
-use Rattle.ll_values.specs.declared.value.Value.{Value}
 use Rattle.ll_values.specs.declared.value.Value.TheVariants as V
-use Rattle.ll_values.specs.declared.value.Made.TheVariants as M
 use Rattle.ll_values.specs.Lists.{list_at}
-use Rattle.ll_values.specs.Views.{IsPieceIn, IsDefinitionIn, IsValueIn, IsStoreIn}
+use Rattle.ll_values.specs.Values.{InstV}
+use Rattle.ll_values.specs.Views.{entries_from, body_from, params_from, file_from, IsPieceIn, IsDefinitionIn, IsStoreIn}
 use Rattle.ll_values.specs.Growing.{Kept}
 use Rattle.ll_values.proofs.ListLaws.{at_last}
-use Rattle.ll_values.proofs.KeepLaws.{all_at, all_lists, lists_kept, lists_pushed, store_kept}
-
-pub kept_value : (bytes : List ℕ) (m : Module) (s : Store) (v : Value) → IsStoreIn m s → IsValueIn m s v → Kept bytes m s s (M.Value v) v
-kept_value bytes m s v st h = record { store = st; keeps = store_kept s; there = h; value = refl }
+use Rattle.ll_values.proofs.KeepLaws.{all_at, all_lists, lists_kept, lists_pushed}
 
 -- lists with one list more, of an item that is right before a list that is there
 all_put : {T : Type 0} (Q : T → Type 0) (old new : List (List T)) (x : T) (n : ℕ) → new ≡ old ++ (x ∷ list_at old n) ∷ [] → n ≤ length old → Q x → All (All Q) old → All (All Q) new
@@ -31,7 +28,7 @@ last_of : {T : Type 0} (old new : List (List T)) (xs : List T) (v : ℕ) → new
 last_of old new xs v e h = rw e (at_last old xs v (h ∙ ap length e))
 
 module _ (bytes : List ℕ) (m : Module) (s : Store) (st : IsStoreIn m s) where
-  pub kept_entries : (e : Entry) (n : ℕ) (new : List (List Entry)) (v : ℕ) → n ≤ length s.entries → new ≡ s.entries ++ (e ∷ list_at s.entries n) ∷ [] → v ≡ length new → Kept bytes m s (record s { entries = new }) (M.Entries e n) (V.Entries v)
+  pub kept_entries : (e : Entry) (n : ℕ) (new : List (List Entry)) (v : ℕ) → n ≤ length s.entries → new ≡ s.entries ++ (e ∷ list_at s.entries n) ∷ [] → v ≡ length new → Kept bytes m s (record s { entries = new }) (entries_from bytes (trees_of m) s e n) (V.Entries v)
   kept_entries e n new v le put last = record {
     store = record { sound = st.sound; insts = st.insts; bodies = st.bodies; params = st.params; functions = st.functions };
     keeps = record { inst_count = omega arith; insts = λ n h. refl; entries = lists_pushed s.entries new (e ∷ list_at s.entries n) put; bodies = lists_kept s.bodies; params = lists_kept s.params; functions = lists_kept s.functions };
@@ -39,7 +36,7 @@ module _ (bytes : List ℕ) (m : Module) (s : Store) (st : IsStoreIn m s) where
     value = rw (last_of s.entries new (e ∷ list_at s.entries n) v put last) refl;
   }
 
-  pub kept_body : (p : Piece) (n : ℕ) (new : List (List Piece)) (v : ℕ) → IsPieceIn m s p → n ≤ length s.bodies → new ≡ s.bodies ++ (p ∷ list_at s.bodies n) ∷ [] → v ≡ length new → Kept bytes m s (record s { bodies = new }) (M.Body p n) (V.Body v)
+  pub kept_body : (p : Piece) (n : ℕ) (new : List (List Piece)) (v : ℕ) → IsPieceIn m s p → n ≤ length s.bodies → new ≡ s.bodies ++ (p ∷ list_at s.bodies n) ∷ [] → v ≡ length new → Kept bytes m s (record s { bodies = new }) (body_from bytes (trees_of m) s p n) (V.Body v)
   kept_body p n new v q le put last =
       let more = lists_pushed s.bodies new (p ∷ list_at s.bodies n) put in
       record {
@@ -55,7 +52,7 @@ module _ (bytes : List ℕ) (m : Module) (s : Store) (st : IsStoreIn m s) where
         value = rw (last_of s.bodies new (p ∷ list_at s.bodies n) v put last) refl;
       }
 
-  pub kept_params : (p : Param) (n : ℕ) (new : List (List Param)) (v : ℕ) → IsTypeIn m p.ty → n ≤ length s.params → new ≡ s.params ++ (p ∷ list_at s.params n) ∷ [] → v ≡ length new → Kept bytes m s (record s { params = new }) (M.Params p n) (V.Params v)
+  pub kept_params : (p : Param) (n : ℕ) (new : List (List Param)) (v : ℕ) → IsTypeIn m p.ty → n ≤ length s.params → new ≡ s.params ++ (p ∷ list_at s.params n) ∷ [] → v ≡ length new → Kept bytes m s (record s { params = new }) (params_from bytes (trees_of m) s p n) (V.Params v)
   kept_params p n new v q le put last =
       let more = lists_pushed s.params new (p ∷ list_at s.params n) put in
       record {
@@ -71,7 +68,7 @@ module _ (bytes : List ℕ) (m : Module) (s : Store) (st : IsStoreIn m s) where
         value = rw (last_of s.params new (p ∷ list_at s.params n) v put last) refl;
       }
 
-  pub kept_file : (d : Definition) (n : ℕ) (new : List (List Definition)) (v : ℕ) → IsDefinitionIn m s d → n ≤ length s.functions → new ≡ s.functions ++ (d ∷ list_at s.functions n) ∷ [] → v ≡ length new → Kept bytes m s (record s { functions = new }) (M.File d n) (V.File None v)
+  pub kept_file : (d : Definition) (n : ℕ) (new : List (List Definition)) (v : ℕ) → IsDefinitionIn m s d → n ≤ length s.functions → new ≡ s.functions ++ (d ∷ list_at s.functions n) ∷ [] → v ≡ length new → Kept bytes m s (record s { functions = new }) (file_from bytes (trees_of m) s d n) (V.File None v)
   kept_file d n new v q le put last = record {
     store = record { sound = st.sound; insts = st.insts; bodies = st.bodies; params = st.params; functions = all_put (IsDefinitionIn m s) s.functions new d n put le q st.functions };
     keeps = record { inst_count = omega arith; insts = λ n h. refl; entries = lists_kept s.entries; bodies = lists_kept s.bodies; params = lists_kept s.params; functions = lists_pushed s.functions new (d ∷ list_at s.functions n) put };
@@ -79,8 +76,8 @@ module _ (bytes : List ℕ) (m : Module) (s : Store) (st : IsStoreIn m s) where
     value = rw (last_of s.functions new (d ∷ list_at s.functions n) v put last) refl;
   }
 
-  pub kept_inst : (i : Inst) (new : Store) (v : ℕ) → IsInstIn m i → new ≡ record s { insts = new.insts } → new.insts.items ≡ s.insts.items ++ i ∷ [] → v ≡ length s.insts.items → Kept bytes m s new (M.Inst i) (V.Inst v)
-  kept_inst i new v q is put last = subst (λ (x : Store). Kept bytes m s x (M.Inst i) (V.Inst v)) (sym is) here
+  pub kept_inst : (i : Inst) (new : Store) (v : ℕ) → IsInstIn m i → new ≡ record s { insts = new.insts } → new.insts.items ≡ s.insts.items ++ i ∷ [] → v ≡ length s.insts.items → Kept bytes m s new (InstV (inst_view bytes (trees_of m) i)) (V.Inst v)
+  kept_inst i new v q is put last = subst (λ (x : Store). Kept bytes m s x (InstV (inst_view bytes (trees_of m) i)) (V.Inst v)) (sym is) here
     where
       longer : length s.insts.items < length new.insts.items
       longer = omega (arith, ap length put, length-append s.insts.items (i ∷ []))
@@ -92,7 +89,7 @@ module _ (bytes : List ℕ) (m : Module) (s : Store) (st : IsStoreIn m s) where
       at : slice_get new.insts.items v ≡ Some i
       at = rw put (slice_get-push s.insts.items i v last)
 
-      here : Kept bytes m s (record s { insts = new.insts }) (M.Inst i) (V.Inst v)
+      here : Kept bytes m s (record s { insts = new.insts }) (InstV (inst_view bytes (trees_of m) i)) (V.Inst v)
       here = record {
         store = record {
           sound = st.sound;

@@ -8,10 +8,10 @@ use Rattle.llvm_core.specs.Data.{trees_of, type_at, const_at, data_of}
 use Rattle.ll_values.specs.declared.form.Kind.{Kind}
 use Rattle.ll_values.specs.declared.store.Store.{Store}
 use Rattle.ll_values.specs.declared.value.Value.{Value}
-use Rattle.ll_values.specs.declared.value.Made.{Made}
 use Rattle.ll_values.specs.Lists.{list_at}
+use Rattle.ll_values.specs.Values as S
 use Rattle.ll_values.specs.Values.{value_by}
-use Rattle.ll_values.specs.Views.{value_view, made_view, IsValueIn, IsStoreIn}
+use Rattle.ll_values.specs.Views.{value_view, IsValueIn, IsStoreIn}
 
 -- only types and constants are added
 pub record Interns (old new : Module) : Type 0 where
@@ -34,12 +34,12 @@ pub record Keeps (old new : Store) : Type 0 where
   pub params : KeepsLists old.params new.params
   pub functions : KeepsLists old.functions new.functions
 
--- the value is what is made, which the store keeps now
-pub record Kept (bytes : List ℕ) (m : Module) (old new : Store) (made : Made) (v : Value) : Type 0 where
+-- the value says what is made, which the store keeps now
+pub record Kept (bytes : List ℕ) (m : Module) (old new : Store) (made : S.Value) (v : Value) : Type 0 where
   pub store : IsStoreIn m new
   pub keeps : Keeps old new
   pub there : IsValueIn m new v
-  pub value : value_view bytes (trees_of m) new v ≡ made_view bytes (trees_of m) old made
+  pub value : value_view bytes (trees_of m) new v ≡ made
 
 -- the value is what is made of parts
 pub record Makes (bytes : List ℕ) (m n : Module) (old new : Store) (kind : Kind) (parts : List Value) (v : Value) : Type 0 where

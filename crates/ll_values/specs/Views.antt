@@ -9,6 +9,7 @@ use Rattle.llvm_core.specs.Data.{Trees, type_at}
 use Rattle.kinds.specs.declared.op.Op.{Op}
 use Rattle.ll_lines.specs.declared.names.Name.{Name}
 use Rattle.ll_lines.specs.declared.lines.Typed as code_typed
+use Rattle.ll_lines.specs.declared.lines.Inst as code_inst
 use Rattle.ll_lines.specs.declared.lines.Inst.TheVariants as I
 use Rattle.ll_lines.specs.declared.lines.Param as code_param
 use Rattle.ll_lines.specs.Lines.{Inst, Phi, Part, Label, Does, Param, Function}
@@ -23,8 +24,6 @@ use Rattle.ll_values.specs.declared.value.Head as code_head
 use Rattle.ll_values.specs.declared.value.Definition.{Definition}
 use Rattle.ll_values.specs.declared.value.Value as code_value
 use Rattle.ll_values.specs.declared.value.Value.TheVariants as V
-use Rattle.ll_values.specs.declared.value.Made.{Made}
-use Rattle.ll_values.specs.declared.value.Made.TheVariants as M
 use Rattle.ll_values.specs.Lists.{list_at}
 use Rattle.ll_values.specs.Values.{Literal, LocalL, ConstL, Entry, Head, Value, NoneV, TextV, FlagV, WrapsV, TypeV, LiteralV, TypedV, PairV, EntryV, EntriesV, InstV, PartV, BodyV, ParamV, ParamsV, HeadV, SourceV, FunctionV, FileV}
 
@@ -85,21 +84,25 @@ module _ (bytes : List ℕ) (t : Trees) (s : Store) where
   value_view (V.Function d) = FunctionV (definition_view d)
   value_view (V.File name n) = FileV (record { source = option_map (text_of bytes) name; functions = functions_at n })
 
-  -- and what is still to be kept
-  abbrev pub made_view : Made → Value
-  made_view (M.Value v) = value_view v
-  made_view (M.Inst i) = InstV (inst_view bytes t i)
-  made_view (M.Entries e n) = EntriesV (entry_view bytes e ∷ entries_at n)
-  made_view (M.Body p n) = BodyV (part_view p ∷ body_at n)
-  made_view (M.Params p n) = ParamsV (param_view bytes t p ∷ params_at n)
-  made_view (M.File d n) = FileV (record { source = None; functions = definition_view d ∷ functions_at n })
+  -- an item before a list, where they are still to be kept
+  abbrev pub entries_from : code_entry.Entry → ℕ → Value
+  entries_from e n = EntriesV (entry_view bytes e ∷ entries_at n)
 
--- instructions that are still to be kept: of these operands, and one of one operand that is taken to a type
-abbrev pub made_row : Op → List code_typed.Typed → (targets : List Name) → Made
-made_row op operands targets = M.Inst (I.Row (record { op = op; written = None; operands = operands; targets = targets }))
+  abbrev pub body_from : Piece → ℕ → Value
+  body_from p n = BodyV (part_view p ∷ body_at n)
 
-abbrev pub made_cast : Op → code_typed.Typed → LLVMType → Made
-made_cast op x ty = M.Inst (I.Row (record { op = op; written = Some ty; operands = x ∷ []; targets = [] }))
+  abbrev pub params_from : code_param.Param → ℕ → Value
+  params_from p n = ParamsV (param_view bytes t p ∷ params_at n)
+
+  abbrev pub file_from : Definition → ℕ → Value
+  file_from d n = FileV (record { source = None; functions = definition_view d ∷ functions_at n })
+
+-- instructions of these operands, and one of one operand that is taken to a type
+abbrev pub row_of : Op → List code_typed.Typed → (targets : List Name) → code_inst.Inst
+row_of op operands targets = I.Row (record { op = op; written = None; operands = operands; targets = targets })
+
+abbrev pub cast_of : Op → code_typed.Typed → LLVMType → code_inst.Inst
+cast_of op x ty = I.Row (record { op = op; written = Some ty; operands = x ∷ []; targets = [] })
 
 -- ---- what it names is there
 
@@ -134,14 +137,6 @@ module _ (m : Module) (s : Store) where
   IsValueIn (V.Source n) = Unit {0}
   IsValueIn (V.Function d) = IsDefinitionIn d
   IsValueIn (V.File name n) = n ≤ length s.functions
-
-  abbrev pub IsMadeIn : Made → Type 0
-  IsMadeIn (M.Value v) = IsValueIn v
-  IsMadeIn (M.Inst i) = IsInstIn m i
-  IsMadeIn (M.Entries e n) = n ≤ length s.entries
-  IsMadeIn (M.Body p n) = IsPieceIn p × (n ≤ length s.bodies)
-  IsMadeIn (M.Params p n) = IsTypeIn m p.ty × (n ≤ length s.params)
-  IsMadeIn (M.File d n) = IsDefinitionIn d × (n ≤ length s.functions)
 
   -- what is kept names what is there
   pub record IsStoreIn : Type 0 where

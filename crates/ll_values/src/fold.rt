@@ -8,9 +8,12 @@ ghost use Rattle.ll_values.specs.Stack.{IsStanding, over, name_of, step_of, fold
 ghost use Rattle.ll_values.specs.Growing.{Interns};
 
 use crate::form::Kind;
-use crate::make::make;
+use crate::listed::put_list;
+use crate::plan::put_detail;
+use crate::row::put_row;
 use crate::stack::Stack;
 use crate::store::Store;
+use crate::typed::put_typed;
 use crate::value::Value;
 use crate::value_err::ValueErr;
 use grammars::symbols::Event;
@@ -50,29 +53,6 @@ fn kind_of(kinds: &[Kind], alternative: u16) -> Kind
     }
 }
 
-/// Makes a value of the parts on top, in their place.
-fn take(
-    alloc: Global,
-    m: &mut LLVMModule,
-    store: &mut Store,
-    source: &Source<'_>,
-    stack: &mut Stack,
-    kind: Kind,
-) -> Result<(), ValueErr>
-    requires standing { IsStanding m.old store.old stack.old }
-    ensures standing { OnOk result (IsStanding m.new store.new stack.new) }
-    ensures interns { OnOk result (Interns m.old m.new) }
-    ensures done { OnOk result (make kind (over source.now m.old store.old stack.old) ≡ Some (over source.now m.new store.new stack.new)) }
-    ensures not_yet { result ≡ Err ValueErr.NotYet → make kind (over source.now m.old store.old stack.old) ≡ None }
-{
-    let n = kind.part_count();
-    match make(alloc, m, store, source.bytes, kind, stack.first(n)) {
-        Ok(value) => stack.replace(alloc, n, value)?,
-        Err(e) => return Err(e),
-    }
-    Ok(())
-}
-
 /// Does an alternative of that kind to the values behind it. What says the same as its part leaves the stack as it is.
 fn apply(
     alloc: Global,
@@ -99,7 +79,19 @@ fn apply(
             stack.push(alloc, Value::Nothing)?;
             Ok(())
         }
-        _ => take(alloc, m, store, source, stack, kind),
+        Kind::Yes => {
+            stack.push(alloc, Value::Flag(true))?;
+            Ok(())
+        }
+        Kind::No => {
+            stack.push(alloc, Value::Flag(false))?;
+            Ok(())
+        }
+        Kind::Outside => Err(ValueErr::NotYet),
+        Kind::Detail(kind) => put_detail(alloc, m, store, source.bytes, kind, stack),
+        Kind::Row(kind) => put_row(alloc, m, store, source.bytes, kind, stack),
+        Kind::List(kind) => put_list(alloc, m, store, source.bytes, kind, stack),
+        Kind::Typed(kind) => put_typed(alloc, m, store, source.bytes, kind, stack),
     }
 }
 

@@ -1,22 +1,34 @@
 //! Keeps what is made.
 
-ghost use Rattle.std.specs.Prelude.{◌≡◌, [], ◌∷◌, ◌++◌, length, Err, IfOk, OnOk, OnErr};
-ghost use Rattle.ll_values.specs.Views.{IsStoreIn, IsMadeIn};
+ghost use Rattle.std.specs.Prelude.{◌≡◌, ◌≤◌, length, Err, None, IfOk, OnErr};
+ghost use Rattle.llvm_core.specs.Data.{trees_of};
+ghost use Rattle.ll_lines.specs.Views.{inst_view, IsTypeIn, IsInstIn};
+ghost use Rattle.ll_values.specs.declared.value.Value.TheVariants as V;
+ghost use Rattle.ll_values.specs.Values.{InstV};
+ghost use Rattle.ll_values.specs.Views.{entries_from, body_from, params_from, file_from, IsStoreIn, IsPieceIn, IsDefinitionIn};
 ghost use Rattle.ll_values.specs.Growing.{Kept};
 
 use crate::store::Store;
-use crate::value::{Made, Value};
+use crate::value::{Definition, Entry, Piece};
 use crate::value_err::ValueErr;
-use ll_lines::lines::Inst;
+use ll_lines::lines::{Inst, Param};
 use llvm_core::module::LLVMModule;
 
 /// The number of one more instruction.
-fn keep_inst(store: &mut Store, inst: Inst) -> Result<u32, ValueErr>
-    ensures kept { IfOk result (λ n. n ≡ length store.old.insts.items) }
-    ensures insts { OnOk result (store.new ≡ record store.old { insts = store.new.insts }) }
-    ensures items { OnOk result (store.new.insts.items ≡ store.old.insts.items ++ inst ∷ []) }
+#[inline(always)]
+pub fn keep_inst(
+    m: &LLVMModule,
+    store: &mut Store,
+    bytes: &[u8],
+    inst: Inst,
+) -> Result<u32, ValueErr>
+    requires store { IsStoreIn m.now store.old }
+    requires there { IsInstIn m.now inst }
+    ensures kept { IfOk result (λ n. Kept bytes.now m.now store.old store.new (InstV (inst_view bytes.now (trees_of m.now) inst)) (V.Inst n)) }
     ensures memory { OnErr result (result ≡ Err ValueErr.NoMemory) }
 {
+    let _ = m;
+    let _ = bytes;
     let n = store.insts.len();
     if n > u32::MAX as usize {
         return Err(ValueErr::NoMemory);
@@ -25,22 +37,77 @@ fn keep_inst(store: &mut Store, inst: Inst) -> Result<u32, ValueErr>
     Ok(n as u32)
 }
 
-/// Keeps what is made, and gives its value.
-#[inline(always)]
-pub fn keep(m: &LLVMModule, store: &mut Store, bytes: &[u8], made: Made) -> Result<Value, ValueErr>
+/// The number of entries, the first of them before others.
+pub fn keep_entries(
+    m: &LLVMModule,
+    store: &mut Store,
+    bytes: &[u8],
+    first: Entry,
+    rest: u32,
+) -> Result<u32, ValueErr>
     requires store { IsStoreIn m.now store.old }
-    requires made { IsMadeIn m.now store.old made }
-    ensures kept { IfOk result (Kept bytes.now m.now store.old store.new made) }
+    requires rest { rest ≤ length store.old.entries }
+    ensures kept { IfOk result (λ n. Kept bytes.now m.now store.old store.new (entries_from bytes.now (trees_of m.now) store.old first rest) (V.Entries n)) }
     ensures memory { OnErr result (result ≡ Err ValueErr.NoMemory) }
 {
-    match made {
-        Made::Value(value) => Ok(value),
-        Made::Inst(inst) => Ok(Value::Inst(keep_inst(store, inst)?)),
-        Made::Entries(entry, rest) => Ok(Value::Entries(store.entries.put(entry, rest)?)),
-        Made::Body(part, rest) => Ok(Value::Body(store.bodies.put(part, rest)?)),
-        Made::Params(param, rest) => Ok(Value::Params(store.params.put(param, rest)?)),
-        Made::File(function, rest) => {
-            Ok(Value::File(None, store.functions.put(function, rest)?))
-        }
-    }
+    let _ = m;
+    let _ = bytes;
+    Ok(store.entries.put(first, rest)?)
+}
+
+/// The number of a body, its first part before others.
+pub fn keep_body(
+    m: &LLVMModule,
+    store: &mut Store,
+    bytes: &[u8],
+    first: Piece,
+    rest: u32,
+) -> Result<u32, ValueErr>
+    requires store { IsStoreIn m.now store.old }
+    requires there { IsPieceIn m.now store.old first }
+    requires rest { rest ≤ length store.old.bodies }
+    ensures kept { IfOk result (λ n. Kept bytes.now m.now store.old store.new (body_from bytes.now (trees_of m.now) store.old first rest) (V.Body n)) }
+    ensures memory { OnErr result (result ≡ Err ValueErr.NoMemory) }
+{
+    let _ = m;
+    let _ = bytes;
+    Ok(store.bodies.put(first, rest)?)
+}
+
+/// The number of parameters, the first of them before others.
+pub fn keep_params(
+    m: &LLVMModule,
+    store: &mut Store,
+    bytes: &[u8],
+    first: Param,
+    rest: u32,
+) -> Result<u32, ValueErr>
+    requires store { IsStoreIn m.now store.old }
+    requires there { IsTypeIn m.now first.ty }
+    requires rest { rest ≤ length store.old.params }
+    ensures kept { IfOk result (λ n. Kept bytes.now m.now store.old store.new (params_from bytes.now (trees_of m.now) store.old first rest) (V.Params n)) }
+    ensures memory { OnErr result (result ≡ Err ValueErr.NoMemory) }
+{
+    let _ = m;
+    let _ = bytes;
+    Ok(store.params.put(first, rest)?)
+}
+
+/// The number of functions, the first of them before others.
+pub fn keep_functions(
+    m: &LLVMModule,
+    store: &mut Store,
+    bytes: &[u8],
+    first: Definition,
+    rest: u32,
+) -> Result<u32, ValueErr>
+    requires store { IsStoreIn m.now store.old }
+    requires there { IsDefinitionIn m.now store.old first }
+    requires rest { rest ≤ length store.old.functions }
+    ensures kept { IfOk result (λ n. Kept bytes.now m.now store.old store.new (file_from bytes.now (trees_of m.now) store.old first rest) (V.File None n)) }
+    ensures memory { OnErr result (result ≡ Err ValueErr.NoMemory) }
+{
+    let _ = m;
+    let _ = bytes;
+    Ok(store.functions.put(first, rest)?)
 }

@@ -1,47 +1,74 @@
 //! Lists, and what holds them: a line for each kind.
 
-ghost use Rattle.std.specs.Prelude.{◌≡◌, None, Err, map, All, IfOk};
-ghost use Rattle.llvm_core.specs.Data.{trees_of};
+ghost use Rattle.std.specs.Prelude.{◌≡◌, Err, OnOk};
 ghost use Rattle.ll_values.specs.declared.form.Kind.TheVariants as K;
-ghost use Rattle.ll_values.specs.Values.{list_by};
-ghost use Rattle.ll_values.specs.Views.{value_view, IsValueIn, IsStoreIn};
-ghost use Rattle.ll_values.specs.Growing.{Makes};
+ghost use Rattle.ll_values.specs.Stack.{IsStanding, Puts, MakesNothing};
 
-use crate::form::ListKind;
-use crate::keep::keep;
+use crate::form::{Kind, ListKind};
+use crate::keep::{keep_body, keep_entries, keep_functions, keep_params};
+use crate::put::put;
+use crate::stack::Stack;
 use crate::store::Store;
-use crate::value::{Definition, Head, Made, Value};
+use crate::value::{Definition, Head, Value};
 use crate::value_err::ValueErr;
 use llvm_core::module::LLVMModule;
+use std::alloc::Global;
 
-/// Lists, and what holds them.
+/// Lists, and what holds them, each put in place of the parts that it is made of.
 #[rattlefmt::skip]
-pub fn make_list(m: &LLVMModule, store: &mut Store, bytes: &[u8], kind: ListKind, parts: &[Value]) -> Result<Value, ValueErr>
-    requires store { IsStoreIn m.now store.old }
-    requires parts { All (IsValueIn m.now store.old) parts.now }
-    ensures made { IfOk result (Makes bytes.now m.now m.now store.old store.new (K.List kind) parts.now) }
-    ensures not_yet { result ≡ Err ValueErr.NotYet → list_by kind (map (value_view bytes.now (trees_of m.now) store.old) parts.now) ≡ None }
+pub fn put_list(alloc: Global, m: &LLVMModule, store: &mut Store, bytes: &[u8], kind: ListKind, stack: &mut Stack) -> Result<(), ValueErr>
+    requires standing { IsStanding m.now store.old stack.old }
+    ensures puts { OnOk result (Puts bytes.now m.now m.now store.old store.new (K.List kind) stack.old stack.new) }
+    ensures not_yet { result ≡ Err ValueErr.NotYet → MakesNothing bytes.now m.now store.old (K.List kind) stack.old }
 {
     match kind {
-        ListKind::EntriesEnd => match *parts { [] => Ok(Value::Entries(0)), _ => Err(ValueErr::NotYet) },
-        ListKind::EntriesMore => match *parts { [Value::Entry(e), Value::Entries(n)] => keep(m, store, bytes, Made::Entries(e, n)), _ => Err(ValueErr::NotYet) },
-        ListKind::BodyEnd => match *parts { [] => Ok(Value::Body(0)), _ => Err(ValueErr::NotYet) },
-        ListKind::BodyMore => match *parts { [Value::Part(p), Value::Body(n)] => keep(m, store, bytes, Made::Body(p, n)), _ => Err(ValueErr::NotYet) },
-        ListKind::ParamsEnd => match *parts { [] => Ok(Value::Params(0)), _ => Err(ValueErr::NotYet) },
-        ListKind::ParamsMore => match *parts { [Value::Param(p), Value::Params(n)] => keep(m, store, bytes, Made::Params(p, n)), _ => Err(ValueErr::NotYet) },
-        ListKind::Parameters => match *parts { [Value::Params(n), Value::Nothing, Value::Nothing] => Ok(Value::Params(n)), _ => Err(ValueErr::NotYet) },
-        ListKind::Head => match *parts {
-            [Value::Nothing, Value::Nothing, Value::Type(result), Value::Text(name), Value::Params(params)] => Ok(Value::Head(Head { result, name, params })),
+        ListKind::EntriesEnd => put(alloc, m, store, bytes, Kind::List(ListKind::EntriesEnd), stack, Value::Entries(0)),
+        ListKind::EntriesMore => match *stack.first(2) {
+            [Value::Entry(first), Value::Entries(rest)] => {
+                let number = keep_entries(m, store, bytes, first, rest)?;
+                stack.replace(alloc, 2, Value::Entries(number))?;
+                Ok(())
+            }
             _ => Err(ValueErr::NotYet),
         },
-        ListKind::Define => match *parts {
-            [Value::Nothing, Value::Head(head), Value::Nothing, Value::Nothing, Value::Body(body)] => Ok(Value::Function(Definition { head, body })),
+        ListKind::BodyEnd => put(alloc, m, store, bytes, Kind::List(ListKind::BodyEnd), stack, Value::Body(0)),
+        ListKind::BodyMore => match *stack.first(2) {
+            [Value::Part(first), Value::Body(rest)] => {
+                let number = keep_body(m, store, bytes, first, rest)?;
+                stack.replace(alloc, 2, Value::Body(number))?;
+                Ok(())
+            }
             _ => Err(ValueErr::NotYet),
         },
-        ListKind::FileEnd => match *parts { [] => Ok(Value::File(None, 0)), _ => Err(ValueErr::NotYet) },
-        ListKind::FileMore => match *parts {
-            [Value::Source(name), Value::File(None, n)] => Ok(Value::File(Some(name), n)),
-            [Value::Function(d), Value::File(None, n)] => keep(m, store, bytes, Made::File(d, n)),
+        ListKind::ParamsEnd => put(alloc, m, store, bytes, Kind::List(ListKind::ParamsEnd), stack, Value::Params(0)),
+        ListKind::ParamsMore => match *stack.first(2) {
+            [Value::Param(first), Value::Params(rest)] => {
+                let number = keep_params(m, store, bytes, first, rest)?;
+                stack.replace(alloc, 2, Value::Params(number))?;
+                Ok(())
+            }
+            _ => Err(ValueErr::NotYet),
+        },
+        ListKind::Parameters => match *stack.first(3) {
+            [Value::Params(n), Value::Nothing, Value::Nothing] => put(alloc, m, store, bytes, Kind::List(ListKind::Parameters), stack, Value::Params(n)),
+            _ => Err(ValueErr::NotYet),
+        },
+        ListKind::Head => match *stack.first(5) {
+            [Value::Nothing, Value::Nothing, Value::Type(result), Value::Text(name), Value::Params(params)] => put(alloc, m, store, bytes, Kind::List(ListKind::Head), stack, Value::Head(Head { result, name, params })),
+            _ => Err(ValueErr::NotYet),
+        },
+        ListKind::Define => match *stack.first(5) {
+            [Value::Nothing, Value::Head(head), Value::Nothing, Value::Nothing, Value::Body(body)] => put(alloc, m, store, bytes, Kind::List(ListKind::Define), stack, Value::Function(Definition { head, body })),
+            _ => Err(ValueErr::NotYet),
+        },
+        ListKind::FileEnd => put(alloc, m, store, bytes, Kind::List(ListKind::FileEnd), stack, Value::File(None, 0)),
+        ListKind::FileMore => match *stack.first(2) {
+            [Value::Source(name), Value::File(None, n)] => put(alloc, m, store, bytes, Kind::List(ListKind::FileMore), stack, Value::File(Some(name), n)),
+            [Value::Function(first), Value::File(None, rest)] => {
+                let number = keep_functions(m, store, bytes, first, rest)?;
+                stack.replace(alloc, 2, Value::File(None, number))?;
+                Ok(())
+            }
             _ => Err(ValueErr::NotYet),
         },
     }

@@ -1,43 +1,44 @@
 //! Parts of functions and of instructions, as values: a line for each kind.
 
-ghost use Rattle.std.specs.Prelude.{◌≡◌, [], map, All, IfSome};
-ghost use Rattle.std.specs.Option.{option_map};
-ghost use Rattle.llvm_core.specs.Data.{trees_of};
-ghost use Rattle.ll_values.specs.Values.{detail_by};
-ghost use Rattle.ll_values.specs.Views.{value_view, IsValueIn};
+ghost use Rattle.std.specs.Prelude.{◌≡◌, Err, OnOk};
+ghost use Rattle.ll_values.specs.declared.form.Kind.TheVariants as K;
+ghost use Rattle.ll_values.specs.Stack.{IsStanding, Puts, MakesNothing};
 
-use crate::form::DetailKind;
+use crate::form::{DetailKind, Kind};
+use crate::put::put;
+use crate::stack::Stack;
 use crate::store::Store;
 use crate::value::{Entry, Literal, Piece, Value};
+use crate::value_err::ValueErr;
 use kinds::op::OverflowFlags;
 use ll_lines::lines::Param;
 use llvm_core::module::LLVMModule;
+use std::alloc::Global;
 
 /// Parts of functions and of instructions.
 #[rattlefmt::skip]
-pub fn plan_detail(m: &LLVMModule, store: &Store, bytes: &[u8], kind: DetailKind, parts: &[Value]) -> Option<Value>
-    requires parts { All (IsValueIn m.now store.now) parts.now }
-    ensures made { option_map (value_view bytes.now (trees_of m.now) store.now) result ≡ detail_by kind (map (value_view bytes.now (trees_of m.now) store.now) parts.now) }
-    ensures there { IfSome result (IsValueIn m.now store.now) }
+pub fn put_detail(alloc: Global, m: &LLVMModule, store: &Store, bytes: &[u8], kind: DetailKind, stack: &mut Stack) -> Result<(), ValueErr>
+    requires standing { IsStanding m.now store.now stack.old }
+    ensures puts { OnOk result (Puts bytes.now m.now m.now store.now store.now (K.Detail kind) stack.old stack.new) }
+    ensures not_yet { result ≡ Err ValueErr.NotYet → MakesNothing bytes.now m.now store.now (K.Detail kind) stack.old }
 {
-    let value = match kind {
-        DetailKind::Local => match *parts { [Value::Text(n)] => Value::Literal(Literal::Local(n)), _ => return None },
-        DetailKind::Literal => match *parts { [Value::Text(n)] => Value::Literal(Literal::Const(n)), _ => return None },
-        DetailKind::Nuw => match *parts { [Value::Flag(nsw)] => Value::Wraps(OverflowFlags { nuw: true, nsw }), _ => return None },
-        DetailKind::Nsw => match *parts { [] => Value::Wraps(OverflowFlags { nuw: false, nsw: true }), _ => return None },
-        DetailKind::NoWraps => match *parts { [] => Value::Wraps(OverflowFlags { nuw: false, nsw: false }), _ => return None },
-        DetailKind::Entry => match *parts { [Value::Literal(literal), Value::Text(block)] => Value::Entry(Entry { literal, block }), _ => return None },
-        DetailKind::Inst => match *parts { [Value::Inst(n), Value::Nothing] => Value::Inst(n), _ => return None },
-        DetailKind::Named => match *parts { [Value::Text(name), Value::Inst(n)] => Value::Part(Piece::Does(Some(name), n)), _ => return None },
-        DetailKind::Bare => match *parts { [Value::Inst(n)] => Value::Part(Piece::Does(None, n)), _ => return None },
-        DetailKind::Label => match *parts { [Value::Text(n)] => Value::Part(Piece::Label(n)), _ => return None },
-        DetailKind::Param => match *parts {
-            [Value::Type(ty), Value::Nothing, Value::Nothing] => Value::Param(Param { ty, name: None }),
-            [Value::Type(ty), Value::Nothing, Value::Text(name)] => Value::Param(Param { ty, name: Some(name) }),
-            _ => return None,
+    match kind {
+        DetailKind::Local => match *stack.first(1) { [Value::Text(n)] => put(alloc, m, store, bytes, Kind::Detail(DetailKind::Local), stack, Value::Literal(Literal::Local(n))), _ => Err(ValueErr::NotYet) },
+        DetailKind::Literal => match *stack.first(1) { [Value::Text(n)] => put(alloc, m, store, bytes, Kind::Detail(DetailKind::Literal), stack, Value::Literal(Literal::Const(n))), _ => Err(ValueErr::NotYet) },
+        DetailKind::Nuw => match *stack.first(1) { [Value::Flag(nsw)] => put(alloc, m, store, bytes, Kind::Detail(DetailKind::Nuw), stack, Value::Wraps(OverflowFlags { nuw: true, nsw })), _ => Err(ValueErr::NotYet) },
+        DetailKind::Nsw => put(alloc, m, store, bytes, Kind::Detail(DetailKind::Nsw), stack, Value::Wraps(OverflowFlags { nuw: false, nsw: true })),
+        DetailKind::NoWraps => put(alloc, m, store, bytes, Kind::Detail(DetailKind::NoWraps), stack, Value::Wraps(OverflowFlags { nuw: false, nsw: false })),
+        DetailKind::Entry => match *stack.first(2) { [Value::Literal(literal), Value::Text(block)] => put(alloc, m, store, bytes, Kind::Detail(DetailKind::Entry), stack, Value::Entry(Entry { literal, block })), _ => Err(ValueErr::NotYet) },
+        DetailKind::Inst => match *stack.first(2) { [Value::Inst(n), Value::Nothing] => put(alloc, m, store, bytes, Kind::Detail(DetailKind::Inst), stack, Value::Inst(n)), _ => Err(ValueErr::NotYet) },
+        DetailKind::Named => match *stack.first(2) { [Value::Text(name), Value::Inst(n)] => put(alloc, m, store, bytes, Kind::Detail(DetailKind::Named), stack, Value::Part(Piece::Does(Some(name), n))), _ => Err(ValueErr::NotYet) },
+        DetailKind::Bare => match *stack.first(1) { [Value::Inst(n)] => put(alloc, m, store, bytes, Kind::Detail(DetailKind::Bare), stack, Value::Part(Piece::Does(None, n))), _ => Err(ValueErr::NotYet) },
+        DetailKind::Label => match *stack.first(1) { [Value::Text(n)] => put(alloc, m, store, bytes, Kind::Detail(DetailKind::Label), stack, Value::Part(Piece::Label(n))), _ => Err(ValueErr::NotYet) },
+        DetailKind::Param => match *stack.first(3) {
+            [Value::Type(ty), Value::Nothing, Value::Nothing] => put(alloc, m, store, bytes, Kind::Detail(DetailKind::Param), stack, Value::Param(Param { ty, name: None })),
+            [Value::Type(ty), Value::Nothing, Value::Text(name)] => put(alloc, m, store, bytes, Kind::Detail(DetailKind::Param), stack, Value::Param(Param { ty, name: Some(name) })),
+            _ => Err(ValueErr::NotYet),
         },
-        DetailKind::Source => match *parts { [Value::Text(n)] => Value::Source(n), _ => return None },
-        DetailKind::External => match *parts { [Value::Text(_)] => Value::Nothing, _ => return None },
-    };
-    Some(value)
+        DetailKind::Source => match *stack.first(1) { [Value::Text(n)] => put(alloc, m, store, bytes, Kind::Detail(DetailKind::Source), stack, Value::Source(n)), _ => Err(ValueErr::NotYet) },
+        DetailKind::External => match *stack.first(1) { [Value::Text(_)] => put(alloc, m, store, bytes, Kind::Detail(DetailKind::External), stack, Value::Nothing), _ => Err(ValueErr::NotYet) },
+    }
 }

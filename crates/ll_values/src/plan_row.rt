@@ -3,13 +3,14 @@
 ghost use Rattle.std.specs.Prelude.{◌≡◌, [], ◌∷◌, Some, map, All, IfSome};
 ghost use Rattle.std.specs.Option.{option_map};
 ghost use Rattle.llvm_core.specs.Data.{trees_of};
-ghost use Rattle.ll_values.specs.Values.{row_by};
+ghost use Rattle.ll_lines.specs.Views.{inst_view, IsInstIn};
+ghost use Rattle.ll_values.specs.Values.{row_by, InstV};
 ghost use Rattle.ll_values.specs.Words.{no_wraps};
-ghost use Rattle.ll_values.specs.Views.{value_view, made_view, made_row, made_cast, IsValueIn, IsMadeIn};
+ghost use Rattle.ll_values.specs.Views.{value_view, row_of, cast_of, IsValueIn};
 
 use crate::form::RowKind;
 use crate::store::Store;
-use crate::value::{Made, Value};
+use crate::value::Value;
 use crate::words::{binary_op, cast_op, predicate, three_op};
 use kinds::op::{Op, OverflowFlags};
 use ll_lines::lines::{Inst, RowLine, Said, Typed};
@@ -19,20 +20,20 @@ use llvm_core::numbers::LLVMType;
 use support::short_list::ShortList;
 
 /// An instruction of these operands, where no type is written beside them.
-pub fn row(op: Op, operands: ShortList<Typed>, targets: ShortList<Name>) -> Option<Made>
-    ensures { result ≡ Some (made_row op operands targets) }
+pub fn row(op: Op, operands: ShortList<Typed>, targets: ShortList<Name>) -> Option<Inst>
+    ensures { result ≡ Some (row_of op operands targets) }
 {
-    Some(Made::Inst(Inst::Row(RowLine {
+    Some(Inst::Row(RowLine {
         op,
         written: None,
         operands,
         targets,
-    })))
+    }))
 }
 
 /// One of two values of one type.
-fn pair(op: Op, ty: LLVMType, a: Said, b: Said) -> Option<Made>
-    ensures { result ≡ Some (made_row op (record { ty = ty; said = a } ∷ record { ty = ty; said = b } ∷ []) []) }
+fn pair(op: Op, ty: LLVMType, a: Said, b: Said) -> Option<Inst>
+    ensures { result ≡ Some (row_of op (record { ty = ty; said = a } ∷ record { ty = ty; said = b } ∷ []) []) }
 {
     row(
         op,
@@ -42,15 +43,15 @@ fn pair(op: Op, ty: LLVMType, a: Said, b: Said) -> Option<Made>
 }
 
 /// One that takes a value to a type.
-fn cast(op: Op, x: Typed, ty: LLVMType) -> Option<Made>
-    ensures { result ≡ Some (made_cast op x ty) }
+fn cast(op: Op, x: Typed, ty: LLVMType) -> Option<Inst>
+    ensures { result ≡ Some (cast_of op x ty) }
 {
-    Some(Made::Inst(Inst::Row(RowLine {
+    Some(Inst::Row(RowLine {
         op,
         written: Some(ty),
         operands: ShortList::one(x),
         targets: ShortList::zero(),
-    })))
+    }))
 }
 
 fn no_wraps() -> OverflowFlags
@@ -64,10 +65,10 @@ fn no_wraps() -> OverflowFlags
 
 /// Instructions that are no phi.
 #[rattlefmt::skip]
-pub fn plan_row(m: &LLVMModule, store: &Store, bytes: &[u8], kind: RowKind, parts: &[Value]) -> Option<Made>
+pub fn plan_row(m: &LLVMModule, store: &Store, bytes: &[u8], kind: RowKind, parts: &[Value]) -> Option<Inst>
     requires parts { All (IsValueIn m.now store.now) parts.now }
-    ensures made { option_map (made_view bytes.now (trees_of m.now) store.now) result ≡ row_by kind (map (value_view bytes.now (trees_of m.now) store.now) parts.now) }
-    ensures there { IfSome result (IsMadeIn m.now store.now) }
+    ensures made { option_map (λ i. InstV (inst_view bytes.now (trees_of m.now) i)) result ≡ row_by kind (map (value_view bytes.now (trees_of m.now) store.now) parts.now) }
+    ensures there { IfSome result (IsInstIn m.now) }
 {
     match kind {
         RowKind::Sum => match *parts { [Value::Text(n), Value::Wraps(flags), Value::Pair(ty, a, b)] => pair(binary_op(n.text(bytes), flags)?, ty, a, b), _ => None },

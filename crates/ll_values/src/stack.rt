@@ -81,6 +81,7 @@ impl Stack {
     }
 
     /// The values on top, so many where they are there.
+    #[inline(always)]
     pub fn first(&self, n: usize) -> &[Value]
         ensures { result.now ≡ take n self.now }
     {
@@ -90,6 +91,7 @@ impl Stack {
     }
 
     /// Puts a value in place of so many on top.
+    #[inline(always)]
     pub fn replace(&mut self, alloc: Global, n: usize, value: Value) -> Result<(), AllocError>
         ensures { OnOk result (self.new ≡ value ∷ drop n self.old) }
     {

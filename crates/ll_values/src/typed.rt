@@ -9,15 +9,17 @@ ghost use Rattle.ll_values.specs.declared.value.Value.TheVariants as V;
 ghost use Rattle.ll_values.specs.Values.{incoming, typed_by, TypeV, TextV, LiteralV};
 ghost use Rattle.ll_values.specs.Views.{literal_view, value_view, entries_at, IsValueIn, IsStoreIn};
 ghost use Rattle.ll_values.specs.Growing.{Interns, Makes};
+ghost use Rattle.ll_values.specs.Stack.{IsStanding, Puts, MakesNothing};
 
 use crate::form::TypedKind;
-use crate::keep::keep;
+use crate::keep::keep_inst;
 use crate::said::{int_type, said, void_type};
+use crate::stack::Stack;
 use crate::store::Store;
-use crate::value::{Entry, Literal, Made, Value};
+use crate::value::{Entry, Literal, Value};
 use crate::value_err::ValueErr;
 use crate::words::int_width;
-use ll_lines::lines::{Incoming, Inst, Typed};
+use ll_lines::lines::{Incoming, Inst, Said, Typed};
 use ll_lines::names::Name;
 use llvm_core::module::LLVMModule;
 use llvm_core::numbers::LLVMType;
@@ -25,22 +27,27 @@ use std::alloc::Global;
 use support::short_list::ShortList;
 
 /// The type `void`.
-fn make_void(m: &mut LLVMModule, store: &Store, bytes: &[u8]) -> Result<Value, ValueErr>
+fn make_void(m: &mut LLVMModule, store: &Store, bytes: &[u8]) -> Result<LLVMType, ValueErr>
     requires store { IsStoreIn m.old store.now }
-    ensures made { IfOk result (Makes bytes.now m.old m.new store.now store.now (K.Typed T.Void) []) }
+    ensures made { IfOk result (λ ty. Makes bytes.now m.old m.new store.now store.now (K.Typed T.Void) [] (V.Type ty)) }
     ensures memory { result ≡ Err ValueErr.NotYet → ⊥ }
 {
     let _ = bytes;
     match void_type(m) {
-        Ok(ty) => Ok(Value::Type(ty)),
+        Ok(ty) => Ok(ty),
         Err(_) => Err(ValueErr::NoMemory),
     }
 }
 
 /// An integer type.
-fn make_int(m: &mut LLVMModule, store: &Store, bytes: &[u8], name: Name) -> Result<Value, ValueErr>
+fn make_int(
+    m: &mut LLVMModule,
+    store: &Store,
+    bytes: &[u8],
+    name: Name,
+) -> Result<LLVMType, ValueErr>
     requires store { IsStoreIn m.old store.now }
-    ensures made { IfOk result (Makes bytes.now m.old m.new store.now store.now (K.Typed T.Int) (V.Text name ∷ [])) }
+    ensures made { IfOk result (λ ty. Makes bytes.now m.old m.new store.now store.now (K.Typed T.Int) (V.Text name ∷ []) (V.Type ty)) }
     ensures not_yet { result ≡ Err ValueErr.NotYet → typed_by T.Int (TextV (text_of bytes.now name) ∷ []) ≡ None }
 {
     let _ = store;
@@ -48,7 +55,7 @@ fn make_int(m: &mut LLVMModule, store: &Store, bytes: &[u8], name: Name) -> Resu
         return Err(ValueErr::NotYet);
     };
     match int_type(m, width) {
-        Ok(ty) => Ok(Value::Type(ty)),
+        Ok(ty) => Ok(ty),
         Err(_) => Err(ValueErr::NoMemory),
     }
 }
@@ -60,17 +67,14 @@ fn make_one(
     bytes: &[u8],
     ty: LLVMType,
     literal: Literal,
-) -> Result<Value, ValueErr>
+) -> Result<Said, ValueErr>
     requires store { IsStoreIn m.old store.now }
     requires there { IsTypeIn m.old ty }
-    ensures made { IfOk result (Makes bytes.now m.old m.new store.now store.now (K.Typed T.Typed) (V.Type ty ∷ V.Literal literal ∷ [])) }
+    ensures made { IfOk result (λ x. Makes bytes.now m.old m.new store.now store.now (K.Typed T.Typed) (V.Type ty ∷ V.Literal literal ∷ []) (V.Typed (record { ty = ty; said = x }))) }
     ensures not_yet { result ≡ Err ValueErr.NotYet → typed_by T.Typed (TypeV (type_at (trees_of m.old).types ty) ∷ LiteralV (literal_view bytes.now literal) ∷ []) ≡ None }
 {
     let _ = store;
-    match said(m, bytes, ty, literal) {
-        Ok(said) => Ok(Value::Typed(Typed { ty, said })),
-        Err(e) => Err(e),
-    }
+    said(m, bytes, ty, literal)
 }
 
 /// Two literals at a type.
@@ -81,10 +85,10 @@ fn make_pair(
     ty: LLVMType,
     a: Literal,
     b: Literal,
-) -> Result<Value, ValueErr>
+) -> Result<(Said, Said), ValueErr>
     requires store { IsStoreIn m.old store.now }
     requires there { IsTypeIn m.old ty }
-    ensures made { IfOk result (Makes bytes.now m.old m.new store.now store.now (K.Typed T.Pair) (V.Type ty ∷ V.Literal a ∷ V.Literal b ∷ [])) }
+    ensures made { IfOk result (λ p. Makes bytes.now m.old m.new store.now store.now (K.Typed T.Pair) (V.Type ty ∷ V.Literal a ∷ V.Literal b ∷ []) (V.Pair ty p.0 p.1)) }
     ensures not_yet { result ≡ Err ValueErr.NotYet → typed_by T.Pair (TypeV (type_at (trees_of m.old).types ty) ∷ LiteralV (literal_view bytes.now a) ∷ LiteralV (literal_view bytes.now b) ∷ []) ≡ None }
 {
     let _ = store;
@@ -93,7 +97,7 @@ fn make_pair(
         Err(e) => return Err(e),
     };
     match said(m, bytes, ty, b) {
-        Ok(y) => Ok(Value::Pair(ty, x, y)),
+        Ok(y) => Ok((x, y)),
         Err(e) => Err(e),
     }
 }
@@ -138,60 +142,68 @@ fn make_phi(
     ty: LLVMType,
     entry: Entry,
     rest: u32,
-) -> Result<Value, ValueErr>
+) -> Result<u32, ValueErr>
     requires store { IsStoreIn m.old store.old }
     requires there { IsTypeIn m.old ty }
     requires rest { rest ≤ length store.old.entries }
-    ensures made { IfOk result (Makes bytes.now m.old m.new store.old store.new (K.Typed T.Phi) (V.Type ty ∷ V.Entry entry ∷ V.Entries rest ∷ [])) }
+    ensures made { IfOk result (λ n. Makes bytes.now m.old m.new store.old store.new (K.Typed T.Phi) (V.Type ty ∷ V.Entry entry ∷ V.Entries rest ∷ []) (V.Inst n)) }
     ensures not_yet { result ≡ Err ValueErr.NotYet → typed_by T.Phi (map (value_view bytes.now (trees_of m.old) store.old) (V.Type ty ∷ V.Entry entry ∷ V.Entries rest ∷ [])) ≡ None }
 {
     let Ok(all) = store.entries.put(entry, rest) else {
         return Err(ValueErr::NoMemory);
     };
     match entries(alloc, m, store, bytes, ty, all) {
-        Ok(found) => keep(m, store, bytes, Made::Inst(Inst::Phi(ty, found))),
+        Ok(found) => keep_inst(m, store, bytes, Inst::Phi(ty, found)),
         Err(e) => Err(e),
     }
 }
 
-/// Types, and what a literal takes its type from.
-pub fn make_typed(
+/// Types, and what a literal takes its type from, each put in place of the parts that it is made of.
+pub fn put_typed(
     alloc: Global,
     m: &mut LLVMModule,
     store: &mut Store,
     bytes: &[u8],
     kind: TypedKind,
-    parts: &[Value],
-) -> Result<Value, ValueErr>
-    requires store { IsStoreIn m.old store.old }
-    requires parts { All (IsValueIn m.old store.old) parts.now }
-    ensures made { IfOk result (Makes bytes.now m.old m.new store.old store.new (K.Typed kind) parts.now) }
-    ensures not_yet { result ≡ Err ValueErr.NotYet → typed_by kind (map (value_view bytes.now (trees_of m.old) store.old) parts.now) ≡ None }
+    stack: &mut Stack,
+) -> Result<(), ValueErr>
+    requires standing { IsStanding m.old store.old stack.old }
+    ensures puts { OnOk result (Puts bytes.now m.old m.new store.old store.new (K.Typed kind) stack.old stack.new) }
+    ensures not_yet { result ≡ Err ValueErr.NotYet → MakesNothing bytes.now m.old store.old (K.Typed kind) stack.old }
 {
     match kind {
-        TypedKind::Void => match *parts {
-            [] => make_void(m, store, bytes),
-            _ => Err(ValueErr::NotYet),
+        TypedKind::Void => {
+            let ty = make_void(m, store, bytes)?;
+            stack.push(alloc, Value::Type(ty))?;
+        }
+        TypedKind::Int => match *stack.first(1) {
+            [Value::Text(name)] => {
+                let ty = make_int(m, store, bytes, name)?;
+                stack.replace(alloc, 1, Value::Type(ty))?;
+            }
+            _ => return Err(ValueErr::NotYet),
         },
-        TypedKind::Int => match *parts {
-            [Value::Text(name)] => make_int(m, store, bytes, name),
-            _ => Err(ValueErr::NotYet),
+        TypedKind::Typed => match *stack.first(2) {
+            [Value::Type(ty), Value::Literal(a)] => {
+                let said = make_one(m, store, bytes, ty, a)?;
+                stack.replace(alloc, 2, Value::Typed(Typed { ty, said }))?;
+            }
+            _ => return Err(ValueErr::NotYet),
         },
-        TypedKind::Typed => match *parts {
-            [Value::Type(ty), Value::Literal(a)] => make_one(m, store, bytes, ty, a),
-            _ => Err(ValueErr::NotYet),
-        },
-        TypedKind::Pair => match *parts {
+        TypedKind::Pair => match *stack.first(3) {
             [Value::Type(ty), Value::Literal(a), Value::Literal(b)] => {
-                make_pair(m, store, bytes, ty, a, b)
+                let (x, y) = make_pair(m, store, bytes, ty, a, b)?;
+                stack.replace(alloc, 3, Value::Pair(ty, x, y))?;
             }
-            _ => Err(ValueErr::NotYet),
+            _ => return Err(ValueErr::NotYet),
         },
-        TypedKind::Phi => match *parts {
+        TypedKind::Phi => match *stack.first(3) {
             [Value::Type(ty), Value::Entry(entry), Value::Entries(rest)] => {
-                make_phi(alloc, m, store, bytes, ty, entry, rest)
+                let n = make_phi(alloc, m, store, bytes, ty, entry, rest)?;
+                stack.replace(alloc, 3, Value::Inst(n))?;
             }
-            _ => Err(ValueErr::NotYet),
+            _ => return Err(ValueErr::NotYet),
         },
     }
+    Ok(())
 }

@@ -1,7 +1,7 @@
 //! The values of a text, as they stand on a stack: what is longer is a number of a store.
 
 use kinds::op::OverflowFlags;
-use ll_lines::lines::{Inst, Param, Said, Typed};
+use ll_lines::lines::{Param, Said, Typed};
 use ll_lines::names::Name;
 use llvm_core::numbers::LLVMType;
 
@@ -68,17 +68,4 @@ pub enum Value {
     Function(Definition),
     /// The name of the module and the functions.
     File(Option<Name>, u32),
-}
-
-/// What is made of parts: a value, or what is still to be kept for it.
-#[derive(Drop)]
-pub enum Made {
-    Value(Value),
-    Inst(Inst),
-    /// An item before a list, here and below.
-    Entries(Entry, u32),
-    Body(Piece, u32),
-    Params(Param, u32),
-    /// A function before those of a file without a name.
-    File(Definition, u32),
 }

@@ -1,0 +1,71 @@
+-- What is made stands in place of its parts, and names what is there.
+use Rattle.std.proofs.Common.{rules, arith, ◌≡◌, ◌∷◌, [], ◌∙◌, None, refl, sym}
+use Rattle.llvm_core.specs.Data.{trees_of}
+use Rattle.ll_values.specs.declared.form.Kind.TheVariants as K
+use Rattle.ll_values.specs.declared.form.ListKind.TheVariants as L
+use Rattle.ll_values.specs.declared.value.Value.TheVariants as V
+use Rattle.ll_values.specs.Views.{entries_from, body_from, params_from, file_from, IsValueIn}
+use Rattle.ll_values.proofs.StackLaws.{parts_there, puts_kept}
+use Rattle.ll_values.proofs.listed.put_list.Goals as goal
+
+pub keep_entries-requires-clause-rest : goal.keep_entries-requires-clause-rest
+keep_entries-requires-clause-rest c =
+    let parts : c.first.result.now ≡ V.Entry c.in-Entry.first ∷ V.Entries c.in-Entry.rest ∷ [] = search rules in
+    let all = parts_there (IsValueIn c.args.m.now c.args.store.now) 2 c.args.stack.now _ c.requires.standing.values (sym parts ∙ c.first.ensures) in
+    all 1 V.Nothing (omega arith)
+
+pub returns-in_ok-replace-in-Entry-clause-puts : goal.returns-in_ok-replace-in-Entry-clause-puts
+returns-in_ok-replace-in-Entry-clause-puts c =
+    let parts : c.first.result.now ≡ V.Entry c.in-Entry.first ∷ V.Entries c.in-Entry.rest ∷ [] = search rules in
+    rw c.in-EntriesMore.is (puts_kept c.args.bytes.now (K.List L.EntriesMore) c.args.m.now c.args.store.now c.args.stack.now _ _ _ (entries_from c.args.bytes.now (trees_of c.args.m.now) c.args.store.now c.in-Entry.first c.in-Entry.rest) _ c.requires.standing (sym parts ∙ c.first.ensures) refl c.in_ok-number-in-Entry.ensures.kept c.in_ok-replace-in-Entry.ensures)
+
+pub keep_body-requires-clause-rest : goal.keep_body-requires-clause-rest
+keep_body-requires-clause-rest c =
+    let parts : c.first-in-BodyMore.result.now ≡ V.Part c.in-Part.first ∷ V.Body c.in-Part.rest ∷ [] = search rules in
+    let all = parts_there (IsValueIn c.args.m.now c.args.store.now) 2 c.args.stack.now _ c.requires.standing.values (sym parts ∙ c.first-in-BodyMore.ensures) in
+    all 1 V.Nothing (omega arith)
+
+pub returns-in_ok-replace-in-Part-clause-puts : goal.returns-in_ok-replace-in-Part-clause-puts
+returns-in_ok-replace-in-Part-clause-puts c =
+    let parts : c.first-in-BodyMore.result.now ≡ V.Part c.in-Part.first ∷ V.Body c.in-Part.rest ∷ [] = search rules in
+    rw c.in-BodyMore.is (puts_kept c.args.bytes.now (K.List L.BodyMore) c.args.m.now c.args.store.now c.args.stack.now _ _ _ (body_from c.args.bytes.now (trees_of c.args.m.now) c.args.store.now c.in-Part.first c.in-Part.rest) _ c.requires.standing (sym parts ∙ c.first-in-BodyMore.ensures) refl c.in_ok-number-in-Part.ensures.kept c.in_ok-replace-in-Part.ensures)
+
+pub keep_params-requires-clause-rest : goal.keep_params-requires-clause-rest
+keep_params-requires-clause-rest c =
+    let parts : c.first-in-ParamsMore.result.now ≡ V.Param c.in-Param.first ∷ V.Params c.in-Param.rest ∷ [] = search rules in
+    let all = parts_there (IsValueIn c.args.m.now c.args.store.now) 2 c.args.stack.now _ c.requires.standing.values (sym parts ∙ c.first-in-ParamsMore.ensures) in
+    all 1 V.Nothing (omega arith)
+
+pub returns-in_ok-replace-in-Param-clause-puts : goal.returns-in_ok-replace-in-Param-clause-puts
+returns-in_ok-replace-in-Param-clause-puts c =
+    let parts : c.first-in-ParamsMore.result.now ≡ V.Param c.in-Param.first ∷ V.Params c.in-Param.rest ∷ [] = search rules in
+    rw c.in-ParamsMore.is (puts_kept c.args.bytes.now (K.List L.ParamsMore) c.args.m.now c.args.store.now c.args.stack.now _ _ _ (params_from c.args.bytes.now (trees_of c.args.m.now) c.args.store.now c.in-Param.first c.in-Param.rest) _ c.requires.standing (sym parts ∙ c.first-in-ParamsMore.ensures) refl c.in_ok-number-in-Param.ensures.kept c.in_ok-replace-in-Param.ensures)
+
+pub keep_functions-requires-clause-rest : goal.keep_functions-requires-clause-rest
+keep_functions-requires-clause-rest c =
+    let parts : c.first-in-FileMore.result.now ≡ V.Function c.in-Function.first ∷ V.File None c.in-Function.rest ∷ [] = search rules in
+    let all = parts_there (IsValueIn c.args.m.now c.args.store.now) 2 c.args.stack.now _ c.requires.standing.values (sym parts ∙ c.first-in-FileMore.ensures) in
+    all 1 V.Nothing (omega arith)
+
+pub returns-in_ok-replace-in-Function-clause-puts : goal.returns-in_ok-replace-in-Function-clause-puts
+returns-in_ok-replace-in-Function-clause-puts c =
+    let parts : c.first-in-FileMore.result.now ≡ V.Function c.in-Function.first ∷ V.File None c.in-Function.rest ∷ [] = search rules in
+    rw c.in-FileMore.is (puts_kept c.args.bytes.now (K.List L.FileMore) c.args.m.now c.args.store.now c.args.stack.now _ _ _ (file_from c.args.bytes.now (trees_of c.args.m.now) c.args.store.now c.in-Function.first c.in-Function.rest) _ c.requires.standing (sym parts ∙ c.first-in-FileMore.ensures) refl c.in_ok-number-in-Function.ensures.kept c.in_ok-replace-in-Function.ensures)
+
+pub put-requires-in-Nothing-clause-there : goal.put-requires-in-Nothing-clause-there
+put-requires-in-Nothing-clause-there c =
+    let parts : c.first-in-Head.result.now ≡ V.Nothing ∷ V.Nothing ∷ V.Type c.in-Nothing.result ∷ V.Text c.in-Nothing.name ∷ V.Params c.in-Nothing.params ∷ [] = search rules in
+    let all = parts_there (IsValueIn c.args.m.now c.args.store.now) 5 c.args.stack.now _ c.requires.standing.values (sym parts ∙ c.first-in-Head.ensures) in
+    (all 2 V.Nothing (omega arith), all 4 V.Nothing (omega arith))
+
+pub put-requires-in-Nothing-first-clause-there : goal.put-requires-in-Nothing-first-clause-there
+put-requires-in-Nothing-first-clause-there c =
+    let parts : c.first-in-Define.result.now ≡ V.Nothing ∷ V.Head c.in-Nothing-first.head ∷ V.Nothing ∷ V.Nothing ∷ V.Body c.in-Nothing-first.body ∷ [] = search rules in
+    let all = parts_there (IsValueIn c.args.m.now c.args.store.now) 5 c.args.stack.now _ c.requires.standing.values (sym parts ∙ c.first-in-Define.ensures) in
+    (all 1 V.Nothing (omega arith), all 4 V.Nothing (omega arith))
+
+pub put-requires-in-Source-clause-there : goal.put-requires-in-Source-clause-there
+put-requires-in-Source-clause-there c =
+    let parts : c.first-in-FileMore.result.now ≡ V.Source c.in-Source.name ∷ V.File None c.in-Source.n ∷ [] = search rules in
+    let all = parts_there (IsValueIn c.args.m.now c.args.store.now) 2 c.args.stack.now _ c.requires.standing.values (sym parts ∙ c.first-in-FileMore.ensures) in
+    all 1 V.Nothing (omega arith)

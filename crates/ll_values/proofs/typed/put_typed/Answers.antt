@@ -1,0 +1,37 @@
+-- What is made stands in place of its parts.
+use Rattle.std.proofs.Common.{rules, arith, ◌≡◌, ◌∷◌, [], ◌∙◌, refl, sym}
+use Rattle.ll_values.specs.declared.form.Kind.TheVariants as K
+use Rattle.ll_values.specs.declared.form.TypedKind.TheVariants as T
+use Rattle.ll_values.specs.declared.value.Value.TheVariants as V
+use Rattle.ll_values.specs.Views.{IsValueIn}
+use Rattle.ll_values.proofs.StackLaws.{puts, parts_there}
+use Rattle.ll_values.proofs.typed.put_typed.Goals as goal
+
+pub returns-in_ok-push-in-Void-clause-puts : goal.returns-in_ok-push-in-Void-clause-puts
+returns-in_ok-push-in-Void-clause-puts c =
+    rw c.in-Void.is (puts c.args.bytes.now (K.Typed T.Void) c.args.m.now c.args.store.now c.args.stack.now _ _ [] _ _ c.requires.standing refl c.in_ok-ty-in-Void.ensures.made c.in_ok-push-in-Void.ensures)
+
+pub returns-in_ok-replace-in-Text-clause-puts : goal.returns-in_ok-replace-in-Text-clause-puts
+returns-in_ok-replace-in-Text-clause-puts c =
+    let parts : c.first.result.now ≡ V.Text c.in-Text.name ∷ [] = search rules in
+    rw c.in-Int.is (puts c.args.bytes.now (K.Typed T.Int) c.args.m.now c.args.store.now c.args.stack.now _ _ _ _ _ c.requires.standing (sym parts ∙ c.first.ensures) c.in_ok-ty-in-Text.ensures.made c.in_ok-replace-in-Text.ensures)
+
+pub returns-in_ok-replace-in-Type-clause-puts : goal.returns-in_ok-replace-in-Type-clause-puts
+returns-in_ok-replace-in-Type-clause-puts c =
+    let parts : c.first-in-Typed.result.now ≡ V.Type c.in-Type.ty ∷ V.Literal c.in-Type.a ∷ [] = search rules in
+    rw c.in-Typed.is (puts c.args.bytes.now (K.Typed T.Typed) c.args.m.now c.args.store.now c.args.stack.now _ _ _ _ _ c.requires.standing (sym parts ∙ c.first-in-Typed.ensures) c.in_ok-said-in-Type.ensures.made c.in_ok-replace-in-Type.ensures)
+
+pub returns-in_ok-replace-in-Type-first-clause-puts : goal.returns-in_ok-replace-in-Type-first-clause-puts
+returns-in_ok-replace-in-Type-first-clause-puts c =
+    let parts : c.first-in-Pair.result.now ≡ V.Type c.in-Type-first.ty ∷ V.Literal c.in-Type-first.a ∷ V.Literal c.in-Type-first.b ∷ [] = search rules in
+    rw c.in-Pair.is (puts c.args.bytes.now (K.Typed T.Pair) c.args.m.now c.args.store.now c.args.stack.now _ _ _ _ _ c.requires.standing (sym parts ∙ c.first-in-Pair.ensures) c.in_ok-x-in-Type-first.ensures.made c.in_ok-replace-in-Type-first.ensures)
+
+pub make_phi-requires-clause-rest : goal.make_phi-requires-clause-rest
+make_phi-requires-clause-rest c =
+    let parts : c.first-in-Phi.result.now ≡ V.Type c.in-Type-first-2.ty ∷ V.Entry c.in-Type-first-2.entry ∷ V.Entries c.in-Type-first-2.rest ∷ [] = search rules in
+    (parts_there (IsValueIn c.args.m.now c.args.store.now) 3 c.args.stack.now _ c.requires.standing.values (sym parts ∙ c.first-in-Phi.ensures)) 2 V.Nothing (omega arith)
+
+pub returns-in_ok-replace-in-Type-first-2-clause-puts : goal.returns-in_ok-replace-in-Type-first-2-clause-puts
+returns-in_ok-replace-in-Type-first-2-clause-puts c =
+    let parts : c.first-in-Phi.result.now ≡ V.Type c.in-Type-first-2.ty ∷ V.Entry c.in-Type-first-2.entry ∷ V.Entries c.in-Type-first-2.rest ∷ [] = search rules in
+    rw c.in-Phi.is (puts c.args.bytes.now (K.Typed T.Phi) c.args.m.now c.args.store.now c.args.stack.now _ _ _ _ _ c.requires.standing (sym parts ∙ c.first-in-Phi.ensures) c.in_ok-n-in-Type-first-2.ensures.made c.in_ok-replace-in-Type-first-2.ensures)
