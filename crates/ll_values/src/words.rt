@@ -75,6 +75,10 @@ pub fn int_width(text: &[u8]) -> Option<u32>
     ensures least { IfSome result (λ w. 1 ≤ w) }
     ensures most { IfSome result (λ w. w ≤ 8388608) }
 {
+    // Most types are this one.
+    if text == b"i32".as_slice() {
+        return Some(32);
+    }
     let [b'i', digits @ ..] = text else {
         return None;
     };
