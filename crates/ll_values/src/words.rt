@@ -34,10 +34,10 @@ pub fn binary_op(word: &[u8], flags: OverflowFlags) -> Option<Op>
 pub fn cast_op(word: &[u8]) -> Option<Op>
     ensures { result ≡ cast_op word.now }
 {
-    if word == b"sext".as_slice() {
-        return Some(Op::SExt);
+    match word {
+        b"sext" => Some(Op::SExt),
+        _ => None,
     }
-    None
 }
 
 /// The row of a word of an operation on three values.
@@ -75,12 +75,11 @@ pub fn int_width(text: &[u8]) -> Option<u32>
     ensures least { IfSome result (λ w. 1 ≤ w) }
     ensures most { IfSome result (λ w. w ≤ 8388608) }
 {
-    // Most types are this one.
-    if text == b"i32".as_slice() {
-        return Some(32);
-    }
-    let [b'i', digits @ ..] = text else {
-        return None;
+    let digits = match text {
+        // Most types are this one.
+        b"i32" => return Some(32),
+        [b'i', digits @ ..] => digits,
+        _ => return None,
     };
     let width = number(digits, 1 << 23)? as u32;
     if width == 0 {
