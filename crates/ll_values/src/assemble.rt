@@ -14,13 +14,6 @@ use llvm_core::module::LLVMModule;
 use std::alloc::{AllocError, Global};
 use support::short_list::ShortList;
 
-/// The room that so many items are given at first: a long list grows as it is filled.
-fn room(count: usize) -> usize
-    ensures { result ≤ count }
-{
-    count.min(64)
-}
-
 /// The same instruction once more.
 fn copied(alloc: Global, inst: &Inst) -> Result<Inst, AllocError>
     ensures { IfOk result (λ i. i ≡ inst.now) }
@@ -76,7 +69,7 @@ fn body(
     ensures parts { IfOk result (λ v. map (lines.part_view bytes.now (trees_of m.now)) v.items ≡ body_at bytes.now (trees_of m.now) store.now list) }
     ensures there { IfOk result (λ v. All (IsPartIn m.now) v.items) }
 {
-    let mut found = Vec::with_capacity(alloc, room(store.bodies.count(list)))?;
+    let mut found = Vec::with_capacity(alloc, store.bodies.count(list))?;
     let mut next = list;
     while let Some((piece, rest)) = store.bodies.first(next) {
         let one = part(alloc, m, store, bytes, piece)?;
@@ -94,7 +87,7 @@ fn params(alloc: Global, m: &LLVMModule, store: &Store, list: u32) -> Result<Vec
     ensures there { IfOk result (λ v. All (λ p. IsTypeIn m.now p.ty) v.items) }
 {
     let _ = m;
-    let mut found = Vec::with_capacity(alloc, room(store.params.count(list)))?;
+    let mut found = Vec::with_capacity(alloc, store.params.count(list))?;
     let mut next = list;
     while let Some((param, rest)) = store.params.first(next) {
         found.push(param)?;
@@ -140,7 +133,7 @@ pub fn functions(
     ensures functions { IfOk result (λ v. map (function_view bytes.now (trees_of m.now)) v.items ≡ functions_at bytes.now (trees_of m.now) store.now list) }
     ensures there { IfOk result (λ v. All (IsFunctionIn m.now) v.items) }
 {
-    let mut found = Vec::with_capacity(alloc, room(store.functions.count(list)))?;
+    let mut found = Vec::with_capacity(alloc, store.functions.count(list))?;
     let mut next = list;
     while let Some((definition, rest)) = store.functions.first(next) {
         let one = function(alloc, m, store, bytes, definition)?;

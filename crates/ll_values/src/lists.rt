@@ -40,7 +40,17 @@ impl<T: Copy + Drop> Lists<T> {
         }
     }
 
+    /// No lists, with room for so many.
+    pub fn with_room(alloc: Global, room: usize) -> Result<Lists<T>, AllocError>
+        ensures { IfOk result (λ l. l ≡ []) }
+    {
+        Ok(Lists {
+            links: Vec::with_capacity(alloc, room)?,
+        })
+    }
+
     /// The number of the list that begins with an item and goes on as another one.
+    #[inline(always)]
     pub fn put(&mut self, item: T, rest: u32) -> Result<u32, AllocError>
         requires { rest ≤ length self.old }
         ensures number { IfOk result (λ n. n ≡ length self.new) }

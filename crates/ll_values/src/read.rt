@@ -76,7 +76,7 @@ pub fn read_file(
     ensures not_yet { result ≡ Err ValueErr.NotYet → (f : said.File) → fold KINDS bytes.now tokens.items events.items ≡ Some (FileV f ∷ []) → ⊥ }
 {
     let _count = m.types();
-    let mut store = Store::new(alloc);
+    let mut store = Store::for_events(alloc, events.len())?;
     let values = match values_of(alloc, m, &mut store, bytes, tokens, events) {
         Ok(values) => values,
         Err(e) => return Err(e),

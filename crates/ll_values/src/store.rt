@@ -1,11 +1,11 @@
 //! What values name: instructions, and lists.
 
-ghost use Rattle.std.specs.Prelude.{◌≡◌, []};
+ghost use Rattle.std.specs.Prelude.{◌≡◌, [], IfOk};
 
 use crate::lists::Lists;
 use crate::value::{Definition, Entry, Piece};
 use ll_lines::lines::{Inst, Param};
-use std::alloc::Global;
+use std::alloc::{AllocError, Global};
 
 /// Instructions and lists, by number.
 #[derive(Drop)]
@@ -18,19 +18,21 @@ pub struct Store {
 }
 
 impl Store {
-    pub fn new(alloc: Global) -> Store
-        ensures insts { result.insts.items ≡ [] }
-        ensures entries { result.entries ≡ [] }
-        ensures bodies { result.bodies ≡ [] }
-        ensures params { result.params ≡ [] }
-        ensures functions { result.functions ≡ [] }
+    /// An empty store with room for the instructions of so many events: most instructions have some sixteen.
+    pub fn for_events(alloc: Global, events: usize) -> Result<Store, AllocError>
+        ensures insts { IfOk result (λ s. s.insts.items ≡ []) }
+        ensures entries { IfOk result (λ s. s.entries ≡ []) }
+        ensures bodies { IfOk result (λ s. s.bodies ≡ []) }
+        ensures params { IfOk result (λ s. s.params ≡ []) }
+        ensures functions { IfOk result (λ s. s.functions ≡ []) }
     {
-        Store {
-            insts: Vec::new(alloc),
+        let room = events / 16;
+        Ok(Store {
+            insts: Vec::with_capacity(alloc, room)?,
             entries: Lists::new(alloc),
-            bodies: Lists::new(alloc),
+            bodies: Lists::with_room(alloc, room)?,
             params: Lists::new(alloc),
             functions: Lists::new(alloc),
-        }
+        })
     }
 }
