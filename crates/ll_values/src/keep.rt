@@ -56,6 +56,7 @@ pub fn keep_entries(
 }
 
 /// The number of a body, its first part before others.
+#[inline(always)]
 pub fn keep_body(
     m: &LLVMModule,
     store: &mut Store,

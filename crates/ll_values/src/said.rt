@@ -6,7 +6,7 @@ ghost use Rattle.llvm_core.specs.declared.types.LLVMTypeKind.TheVariants as T;
 ghost use Rattle.llvm_core.specs.Sound.{IsModule};
 ghost use Rattle.llvm_core.specs.Data.{trees_of, type_at};
 ghost use Rattle.ll_lines.specs.Lines.{Text};
-ghost use Rattle.ll_lines.specs.Views.{said_view, IsTypeIn, IsSaidIn};
+ghost use Rattle.ll_lines.specs.Views.{said_view, text_of, IsTypeIn, IsSaidIn};
 ghost use Rattle.ll_values.specs.Values.{said, ConstL};
 ghost use Rattle.ll_values.specs.Views.{literal_view};
 ghost use Rattle.ll_values.specs.Growing.{Interns};
@@ -14,6 +14,7 @@ ghost use Rattle.ll_values.specs.Growing.{Interns};
 use crate::value::Literal;
 use crate::value_err::ValueErr;
 use ll_lines::lines::Said;
+use ll_lines::names::Name;
 use ll_literals::literals::const_value;
 use llvm_core::consts::LLVMConstKind;
 use llvm_core::module::LLVMModule;
@@ -77,7 +78,28 @@ fn const_width(m: &LLVMModule, ty: LLVMType) -> Option<u32>
     }
 }
 
+/// What a constant says at a type.
+#[inline(never)]
+fn said_const(m: &mut LLVMModule, bytes: &[u8], ty: LLVMType, name: Name) -> Result<Said, ValueErr>
+    requires sound { IsModule m.old }
+    requires there { IsTypeIn m.old ty }
+    ensures interns { OnOk result (Interns m.old m.new) }
+    ensures there { IfOk result (IsSaidIn m.new) }
+    ensures said { IfOk result (λ x. said (type_at (trees_of m.old).types ty) (ConstL (text_of bytes.now name)) ≡ Some (said_view bytes.now (trees_of m.new) x)) }
+    ensures not_yet { result ≡ Err ValueErr.NotYet → said (type_at (trees_of m.old).types ty) (ConstL (text_of bytes.now name)) ≡ None }
+{
+    let Some(width) = const_width(m, ty) else {
+        return Err(ValueErr::NotYet);
+    };
+    let Some(value) = const_value(name.text(bytes), width) else {
+        return Err(ValueErr::NotYet);
+    };
+    let c = m.const_get(LLVMConstKind::Int(ty, value))?;
+    Ok(Said::Const(c))
+}
+
 /// What a literal says at a type.
+#[inline(always)]
 pub fn said(
     m: &mut LLVMModule,
     bytes: &[u8],
@@ -91,16 +113,8 @@ pub fn said(
     ensures said { IfOk result (λ x. said (type_at (trees_of m.old).types ty) (literal_view bytes.now literal) ≡ Some (said_view bytes.now (trees_of m.new) x)) }
     ensures not_yet { result ≡ Err ValueErr.NotYet → said (type_at (trees_of m.old).types ty) (literal_view bytes.now literal) ≡ None }
 {
-    let text = match literal {
-        Literal::Local(name) => return Ok(Said::Local(name)),
-        Literal::Const(name) => name.text(bytes),
-    };
-    let Some(width) = const_width(m, ty) else {
-        return Err(ValueErr::NotYet);
-    };
-    let Some(value) = const_value(text, width) else {
-        return Err(ValueErr::NotYet);
-    };
-    let c = m.const_get(LLVMConstKind::Int(ty, value))?;
-    Ok(Said::Const(c))
+    match literal {
+        Literal::Local(name) => Ok(Said::Local(name)),
+        Literal::Const(name) => said_const(m, bytes, ty, name),
+    }
 }

@@ -78,6 +78,7 @@ fn make_one(
 }
 
 /// Two literals at a type.
+#[inline(always)]
 fn make_pair(
     m: &mut LLVMModule,
     store: &Store,
