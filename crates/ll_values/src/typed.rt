@@ -7,7 +7,7 @@ ghost use Rattle.ll_values.specs.declared.form.Kind.TheVariants as K;
 ghost use Rattle.ll_values.specs.declared.form.TypedKind.TheVariants as T;
 ghost use Rattle.ll_values.specs.declared.value.Value.TheVariants as V;
 ghost use Rattle.ll_values.specs.Values.{incoming, typed_by, TypeV, TextV, LiteralV};
-ghost use Rattle.ll_values.specs.Views.{literal_view, value_view, entries_at, IsValueIn, IsStoreIn};
+ghost use Rattle.ll_values.specs.Views.{literal_view, value_view, entry_view, entries_at, IsValueIn, IsStoreIn};
 ghost use Rattle.ll_values.specs.Growing.{Interns, Makes};
 ghost use Rattle.ll_values.specs.Stack.{IsStanding, Puts, MakesNothing};
 
@@ -110,26 +110,34 @@ fn entries(
     store: &Store,
     bytes: &[u8],
     ty: LLVMType,
-    list: u32,
+    first: Entry,
+    rest: u32,
 ) -> Result<ShortList<Incoming>, ValueErr>
     requires store { IsStoreIn m.old store.now }
     requires there { IsTypeIn m.old ty }
-    requires list { list ≤ length store.now.entries }
+    requires rest { rest ≤ length store.now.entries }
     ensures interns { OnOk result (Interns m.old m.new) }
     ensures there { IfOk result (λ es. All (λ e. IsSaidIn m.new e.said) es) }
-    ensures entries { IfOk result (λ es. incoming (type_at (trees_of m.old).types ty) (entries_at bytes.now (trees_of m.old) store.now list) ≡ Some (map (incoming_view bytes.now (trees_of m.new)) es)) }
-    ensures not_yet { result ≡ Err ValueErr.NotYet → incoming (type_at (trees_of m.old).types ty) (entries_at bytes.now (trees_of m.old) store.now list) ≡ None }
+    ensures entries { IfOk result (λ es. incoming (type_at (trees_of m.old).types ty) (entry_view bytes.now first ∷ entries_at bytes.now (trees_of m.old) store.now rest) ≡ Some (map (incoming_view bytes.now (trees_of m.new)) es)) }
+    ensures not_yet { result ≡ Err ValueErr.NotYet → incoming (type_at (trees_of m.old).types ty) (entry_view bytes.now first ∷ entries_at bytes.now (trees_of m.old) store.now rest) ≡ None }
 {
-    let mut found = ShortList::zero();
-    let mut next = list;
-    while let Some((entry, rest)) = store.entries.first(next) {
+    let said_first = match said(m, bytes, ty, first.literal) {
+        Ok(said) => said,
+        Err(e) => return Err(e),
+    };
+    let mut found = ShortList::one(Incoming {
+        said: said_first,
+        block: first.block,
+    });
+    let mut next = rest;
+    while let Some((entry, behind)) = store.entries.first(next) {
         let said = match said(m, bytes, ty, entry.literal) {
             Ok(said) => said,
             Err(e) => return Err(e),
         };
         let block = entry.block;
         found.push(alloc, Incoming { said, block })?;
-        next = rest;
+        next = behind;
     }
     Ok(found)
 }
@@ -150,10 +158,7 @@ fn make_phi(
     ensures made { IfOk result (λ n. Makes bytes.now m.old m.new store.old store.new (K.Typed T.Phi) (V.Type ty ∷ V.Entry entry ∷ V.Entries rest ∷ []) (V.Inst n)) }
     ensures not_yet { result ≡ Err ValueErr.NotYet → typed_by T.Phi (map (value_view bytes.now (trees_of m.old) store.old) (V.Type ty ∷ V.Entry entry ∷ V.Entries rest ∷ [])) ≡ None }
 {
-    let Ok(all) = store.entries.put(entry, rest) else {
-        return Err(ValueErr::NoMemory);
-    };
-    match entries(alloc, m, store, bytes, ty, all) {
+    match entries(alloc, m, store, bytes, ty, entry, rest) {
         Ok(found) => keep_inst(m, store, bytes, Inst::Phi(ty, found)),
         Err(e) => Err(e),
     }
