@@ -128,6 +128,30 @@ impl Context {
         self.add(data)
     }
 
+    /// Makes room for so many more operations and blocks. It is a wish: where there is no memory for it, they find theirs
+    /// when they are added.
+    pub fn make_room(&mut self, ops: usize, blocks: usize)
+        ensures { self.new ≡ self.old }
+    {
+        let _ = self.ops.reserve(ops);
+        let _ = self.blocks.reserve(blocks);
+        self.lists.make_room(ops, blocks);
+    }
+
+    /// How many operations there are, in all modules together.
+    pub fn op_count(&self) -> usize
+        ensures { result ≡ length self.now.ops }
+    {
+        self.ops.len()
+    }
+
+    /// How many blocks there are, in all modules together.
+    pub fn block_count(&self) -> usize
+        ensures { result ≡ length self.now.blocks }
+    {
+        self.blocks.len()
+    }
+
     /// A new last block of the holder's region, without operations.
     pub fn add_block(
         &mut self,

@@ -55,6 +55,14 @@ impl OpLists {
         }
     }
 
+    /// Makes room for so many more operations and blocks, where there is memory for it.
+    pub fn make_room(&mut self, ops: usize, blocks: usize)
+        ensures { self.new ≡ self.old }
+    {
+        let _ = self.links.reserve(ops);
+        let _ = self.ends.reserve(blocks);
+    }
+
     /// A new last operation, in no block.
     pub fn add_op(&mut self) -> Result<OpRef, AllocError>
         ensures ok { OnOk result (self.new ≡ record self.old { parents = self.old.parents ++ None ∷ [] }) }

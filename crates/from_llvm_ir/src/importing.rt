@@ -115,6 +115,18 @@ fn know_kept(ctx: &Context, root: ModuleOp)
     let _blocks = ctx.region(root.0);
 }
 
+/// Makes room for what stands for a module. Few modules have more operations: a constant stands once in each function
+/// that uses it.
+fn make_room(ctx: &mut Context, source: &LLVMModule)
+    ensures { ctx.new ≡ ctx.old }
+{
+    let functions = source.functions() as usize;
+    let insts = source.inst_count() as usize;
+    let consts = insts.min(source.const_count() as usize);
+    let ops = insts.saturating_add(consts).saturating_add(functions);
+    ctx.make_room(ops, source.block_count() as usize);
+}
+
 /// The import, with its steps in a ledger.
 fn import_counted<L: Ledger>(
     alloc: Global,
@@ -136,6 +148,7 @@ fn import_counted<L: Ledger>(
     ensures typed { IsTyped ctx.old → IsTyped ctx.new }
 {
     let mut steps = Steps::<L>::new(blank);
+    make_room(ctx, source);
     let (module, body) = start_module(ctx, names, source)?;
     let blocks = import_functions(alloc, ctx, names, source, body, &mut steps)?;
     know_kept(ctx, module);

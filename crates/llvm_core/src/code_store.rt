@@ -55,6 +55,14 @@ impl CodeStore {
         }
     }
 
+    /// Makes room for so many more blocks and instructions, where there is memory for it.
+    pub fn make_room(&mut self, blocks: usize, insts: usize)
+        ensures { self.new ≡ self.old }
+    {
+        let _ = self.blocks.reserve(blocks);
+        let _ = self.insts.reserve(insts);
+    }
+
     /// Appends a function without blocks.
     pub fn add_function(
         &mut self,

@@ -360,6 +360,13 @@ impl LLVMModule {
         self.alloc
     }
 
+    /// How many constants there are.
+    pub fn const_count(&self) -> u32
+        ensures { result ≡ length self.now.consts }
+    {
+        self.consts.len()
+    }
+
     /// How many blocks there are, in all functions together.
     pub fn block_count(&self) -> u32
         ensures { result ≡ length self.now.blocks }

@@ -155,6 +155,7 @@ fn convert_held_functions(
     ensures ok { OnOk result (AddsFunctions (data_of ctx.now «module».0.0).functions (lists.data_of cctx.old.«module») (lists.data_of cctx.new.«module»)) }
     ensures cause { IfErr result (IsCause ctx.now (data_of ctx.now «module».0.0)) }
 {
+    cctx.module.make_room(ctx.block_count(), ctx.op_count());
     let ops = ctx.held_ops(module.0)?;
     convert_functions(alloc, ctx, ops.as_slice(), cctx)
 }

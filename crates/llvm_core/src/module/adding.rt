@@ -12,6 +12,14 @@ use std::alloc::AllocError;
 use support::items::Items;
 
 impl LLVMModule {
+    /// Makes room for so many more blocks and instructions. It is a wish: where there is no memory for it, they find theirs
+    /// when they are added.
+    pub fn make_room(&mut self, blocks: usize, insts: usize)
+        ensures { self.new ≡ self.old }
+    {
+        self.code.make_room(blocks, insts);
+    }
+
     /// Gives a function blocks and instructions behind those that it has: the blocks have the next free numbers in order, and so have the instructions, which may name what stands later.
     pub fn add_body(&mut self, f: LLVMFunction, body: Items<BodyBlock>) -> Result<(), AllocError>
         requires function { f.0 < length self.old.functions }
