@@ -115,16 +115,19 @@ fn know_kept(ctx: &Context, root: ModuleOp)
     let _blocks = ctx.region(root.0);
 }
 
-/// Makes room for what stands for a module. Few modules have more operations: a constant stands once in each function
-/// that uses it.
+/// Makes room for what stands for a module: an operation for itself, for each function and for each instruction, and
+/// for each constant in each function that uses it, of which few modules have more than these.
 fn make_room(ctx: &mut Context, source: &LLVMModule)
     ensures { ctx.new ≡ ctx.old }
 {
     let functions = source.functions() as usize;
     let insts = source.inst_count() as usize;
     let consts = insts.min(source.const_count() as usize);
-    let ops = insts.saturating_add(consts).saturating_add(functions);
-    ctx.make_room(ops, source.block_count() as usize);
+    let held = insts.saturating_add(consts).saturating_add(functions);
+    ctx.make_room(
+        held.saturating_add(1),
+        (source.block_count() as usize).saturating_add(1),
+    );
 }
 
 /// The import, with its steps in a ledger.
