@@ -29,6 +29,7 @@ use crate::numbers::check_few;
 use crate::opening::append_blocks;
 use crate::operations::name_of;
 use crate::own::own_order;
+use crate::room::make_room;
 use crate::to_llvm_err::ToLLVMErr;
 use crate::types::function_type;
 use dialect_core::context::Context;
@@ -155,7 +156,7 @@ fn convert_held_functions(
     ensures ok { OnOk result (AddsFunctions (data_of ctx.now «module».0.0).functions (lists.data_of cctx.old.«module») (lists.data_of cctx.new.«module»)) }
     ensures cause { IfErr result (IsCause ctx.now (data_of ctx.now «module».0.0)) }
 {
-    cctx.module.make_room(ctx.block_count(), ctx.op_count());
+    make_room(ctx, &mut cctx.module);
     let ops = ctx.held_ops(module.0)?;
     convert_functions(alloc, ctx, ops.as_slice(), cctx)
 }

@@ -21,6 +21,7 @@ pub mod order;
 pub mod own;
 pub mod predicates;
 pub mod readable;
+pub mod room;
 pub mod to_llvm_err;
 pub mod types;
 pub mod values;
