@@ -115,21 +115,6 @@ fn know_kept(ctx: &Context, root: ModuleOp)
     let _blocks = ctx.region(root.0);
 }
 
-/// Makes room for what stands for a module: an operation for itself, for each function and for each instruction, and
-/// for each constant in each function that uses it, of which few modules have more than these.
-fn make_room(ctx: &mut Context, source: &LLVMModule)
-    ensures { ctx.new ≡ ctx.old }
-{
-    let functions = source.functions() as usize;
-    let insts = source.inst_count() as usize;
-    let consts = insts.min(source.const_count() as usize);
-    let held = insts.saturating_add(consts).saturating_add(functions);
-    ctx.make_room(
-        held.saturating_add(1),
-        (source.block_count() as usize).saturating_add(1),
-    );
-}
-
 /// The import, with its steps in a ledger.
 fn import_counted<L: Ledger>(
     alloc: Global,
@@ -151,7 +136,6 @@ fn import_counted<L: Ledger>(
     ensures typed { IsTyped ctx.old → IsTyped ctx.new }
 {
     let mut steps = Steps::<L>::new(blank);
-    make_room(ctx, source);
     let (module, body) = start_module(ctx, names, source)?;
     let blocks = import_functions(alloc, ctx, names, source, body, &mut steps)?;
     know_kept(ctx, module);
@@ -164,6 +148,21 @@ fn import_counted<L: Ledger>(
         blocks,
         structs: Vec::new(alloc),
     })
+}
+
+/// Makes room for what stands for a module: an operation for itself, for each function and for each instruction, and
+/// for each constant in each function that uses it, of which few modules have more than these.
+fn make_room(ctx: &mut Context, source: &LLVMModule)
+    ensures { ctx.new ≡ ctx.old }
+{
+    let functions = source.functions() as usize;
+    let insts = source.inst_count() as usize;
+    let consts = insts.min(source.const_count() as usize);
+    let held = insts.saturating_add(consts).saturating_add(functions);
+    ctx.make_room(
+        held.saturating_add(1),
+        (source.block_count() as usize).saturating_add(1),
+    );
 }
 
 /// A new module of a context, whose functions stand for those of a module of the form, in order, and the match of blocks.
@@ -186,6 +185,7 @@ pub fn convert_module(
     ensures others { AreOthersKept ctx.old ctx.new }
     ensures typed { IsTyped ctx.old → IsTyped ctx.new }
 {
+    make_room(ctx, module);
     let mut names = Legaliser::new(alloc);
     import_counted::<Brand>(alloc, ctx, &mut names, module, Blank::new(1))
 }

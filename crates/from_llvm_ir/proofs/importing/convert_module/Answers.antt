@@ -20,7 +20,7 @@ pub returns-clause-imported : goal.returns-clause-imported
 returns-clause-imported c = c.import_counted.ensures.imported
 
 pub returns-clause-number : goal.returns-clause-number
-returns-clause-number c = c.import_counted.ensures.number
+returns-clause-number c = rw c.make_room.ensures at c.import_counted.ensures.number
 
 pub returns-clause-structs : goal.returns-clause-structs
 returns-clause-structs c = c.import_counted.ensures.structs
@@ -29,7 +29,7 @@ pub returns-clause-cause : goal.returns-clause-cause
 returns-clause-cause c = c.import_counted.ensures.cause
 
 pub returns-clause-others : goal.returns-clause-others
-returns-clause-others c = c.import_counted.ensures.others
+returns-clause-others c = rw c.make_room.ensures at c.import_counted.ensures.others
 
 pub returns-clause-typed : goal.returns-clause-typed
-returns-clause-typed c = c.import_counted.ensures.typed
+returns-clause-typed c = rw c.make_room.ensures at c.import_counted.ensures.typed
