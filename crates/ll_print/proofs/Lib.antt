@@ -1,5 +1,6 @@
 -- The lemmas of the crate.
 pub mod CountLaws
+pub mod DigitLaws
 pub mod EdgeLaws
 pub mod FormLaws
 pub mod KeptLaws

@@ -1,7 +1,7 @@
 -- The numbers that were noted of a function's unnamed parameters, blocks and results.
 use Rattle.std.specs.Prelude.{◌≡◌, ℕ, Bool, List, ◌++◌, length, nat_lt, Option, Some, None, if◌then◌else◌}
 use Rattle.std.specs.List.{position_or_len}
-use Rattle.std.specs.HashMap.{get}
+use Rattle.support.specs.NumberMaps.{value_at}
 use Rattle.ll_print.specs.declared.places.Place.{Place}
 use Rattle.ll_print.specs.declared.places.Place.TheVariants as P
 use Rattle.ll_print.specs.contracts.places.PlacePartialEq.TheImpl as keys
@@ -19,7 +19,9 @@ same_place p q = keys.eq-value.it p q
 
 -- the number that was noted of a thing
 abbrev pub noted_at : Numbers → Place → Option ℕ
-noted_at n p = get keys.eq-value.it n.places p
+noted_at n (P.Param i) = value_at n.params i
+noted_at n (P.Block b) = value_at n.blocks b.0
+noted_at n (P.Result i) = value_at n.results i.0
 
 -- a number, where there is one, else the other
 abbrev pub or_number : Option ℕ → ℕ → ℕ

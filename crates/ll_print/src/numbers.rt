@@ -9,14 +9,15 @@ ghost use Rattle.ll_print.specs.Numbering.{thing_of, same_place, noted_at, numbe
 use crate::places::Place;
 use llvm_core::numbers::LLVMFunction;
 use std::alloc::{AllocError, Global};
-use std::collections::HashMap;
-use support::noting::note;
+use support::number_map::NumberMap;
 
 /// The unnamed parameters, blocks and results of a function that were counted, from 0.
 #[derive(Drop)]
 pub struct Numbers {
     pub function: LLVMFunction,
-    pub places: HashMap<Place, u32>,
+    pub params: NumberMap<u32>,
+    pub blocks: NumberMap<u32>,
+    pub results: NumberMap<u32>,
     /// How many were counted.
     pub count: u32,
 }
@@ -29,7 +30,9 @@ impl Numbers {
     {
         Numbers {
             function,
-            places: HashMap::new(alloc),
+            params: NumberMap::new(alloc),
+            blocks: NumberMap::new(alloc),
+            results: NumberMap::new(alloc),
             count: 0,
         }
     }
@@ -38,8 +41,8 @@ impl Numbers {
     pub fn number(&self, place: Place) -> u32
         ensures { result ≡ number_at self.now place }
     {
-        match self.places.get(&place) {
-            Some(number) => *number,
+        match self.noted(place) {
+            Some(number) => number,
             None => self.count,
         }
     }
@@ -61,6 +64,32 @@ impl Numbers {
         Ok(())
     }
 
+    /// The number that was noted of a thing.
+    #[inline(always)]
+    fn noted(&self, place: Place) -> Option<u32>
+        ensures { result ≡ noted_at self.now place }
+    {
+        match place {
+            Place::Param(i) => self.params.get(i),
+            Place::Block(b) => self.blocks.get(b.0),
+            Place::Result(i) => self.results.get(i.0),
+        }
+    }
+
+    /// Notes the count as the number of a thing, where it has none.
+    fn note(&mut self, place: Place) -> Result<(), AllocError>
+        ensures function { OnOk result (self.new.function ≡ self.old.function) }
+        ensures count { OnOk result (self.new.count ≡ self.old.count) }
+        ensures places { OnOk result ((q : Place) → noted_at self.new q ≡ or_else (noted_at self.old q) (if same_place place q then Some self.old.count else None)) }
+    {
+        let number = self.count;
+        match place {
+            Place::Param(i) => self.params.note(i, number),
+            Place::Block(b) => self.blocks.note(b.0, number),
+            Place::Result(i) => self.results.note(i.0, number),
+        }
+    }
+
     /// Gives a thing the next number, where it has none.
     fn give_next(&mut self, place: Place) -> Result<(), AllocError>
         ensures function { OnOk result (self.new.function ≡ self.old.function) }
@@ -70,7 +99,7 @@ impl Numbers {
         let Some(next) = self.count.checked_add(1) else {
             return Err(AllocError);
         };
-        note(&mut self.places, place, self.count)?;
+        self.note(place)?;
         self.count = next;
         Ok(())
     }

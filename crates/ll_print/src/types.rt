@@ -1,6 +1,6 @@
 //! Prints numbers and types.
 
-ghost use Rattle.std.specs.Prelude.{◌≡◌, ◌<◌, ◌++◌, length, decimal, OnOk};
+ghost use Rattle.std.specs.Prelude.{◌≡◌, ◌<◌, ◌≤◌, ◌++◌, length, decimal, OnOk};
 ghost use Rattle.support.specs.Appended.{Keeps};
 ghost use Rattle.llvm_core.specs.Sound.{IsModule};
 ghost use Rattle.llvm_core.specs.Data.{trees_of, type_at};
@@ -12,11 +12,39 @@ use llvm_core::numbers::LLVMType;
 use llvm_core::types::LLVMTypeKind;
 use std::alloc::AllocError;
 
+/// A number of one digit.
+#[inline(always)]
+#[tactic(auto, using(crate::proofs::DigitLaws::one_digit))]
+fn one_digit(n: u128) -> [u8; 1]
+    requires { n < 10 }
+    ensures { result ≡ decimal n }
+{
+    [b'0' + n as u8]
+}
+
+/// A number of two digits.
+#[inline(always)]
+#[tactic(auto, using(crate::proofs::DigitLaws::two_digits))]
+fn two_digits(n: u128) -> [u8; 2]
+    requires { (10 ≤ n) × (n < 100) }
+    ensures { result ≡ decimal n }
+{
+    let short = n as u8;
+    [b'0' + short / 10, b'0' + short % 10]
+}
+
 /// A number in decimal digits.
 pub fn put_decimal(number: u128, out: &mut Vec<u8>) -> Result<(), AllocError>
     ensures text { OnOk result (out.new.items ≡ out.old.items ++ decimal number) }
     ensures kept { Keeps out.old.items out.new.items }
 {
+    // Most widths and constants have one digit or two, and need no buffer.
+    if number < 10 {
+        return out.extend_from_slice(&one_digit(number));
+    }
+    if number < 100 {
+        return out.extend_from_slice(&two_digits(number));
+    }
     let mut digits = Buffer::new();
     out.extend_from_slice(digits.format(number).as_bytes())
 }
