@@ -8,8 +8,8 @@ ghost use Rattle.llvm_core.specs.Parts.{IsBlock};
 ghost use Rattle.to_llvm_ir.specs.States.{Task, IsBlockAt, IsAtArgument};
 ghost use Rattle.to_llvm_ir.specs.Opening.{HasParams};
 
+use crate::building::build_result;
 use crate::guesses::Guesses;
-use crate::names::value_name;
 use crate::numbers::place_of;
 use crate::types::value_type;
 use crate::values::Values;
@@ -58,8 +58,8 @@ fn add_phi(
 {
     let place = place_of(i)?;
     let ty = value_type(ctx, ty, guesses, back)?;
-    let name = value_name(alloc, None, values.next)?;
-    let phi = back.build(target, LLVMInst::Phi(ty, ShortList::zero()), name.as_str())?;
+    let inst = LLVMInst::Phi(ty, ShortList::zero());
+    let phi = build_result(alloc, None, values.next, target, inst, back)?;
     values.set(Value::Argument(block, place), LLVMValue::Inst(phi))
 }
 

@@ -10,6 +10,7 @@ ghost use Rattle.to_llvm_ir.specs.Exported.{block_name, value_name};
 use dialect_types::identifier::Identifier;
 use itoa::Buffer;
 use std::alloc::{AllocError, Global};
+use support::short_text::ShortText;
 use support::text::Text;
 
 /// A name, a word behind it, and a number in decimal. A short one asks for no memory.
@@ -20,6 +21,24 @@ fn joined(alloc: Global, name: &str, word: &str, number: u64) -> Result<Text, Al
     text.push_str(alloc, word)?;
     text.push_str(alloc, Buffer::new().format(number))?;
     Ok(text)
+}
+
+/// A name, a word behind it, and a number in decimal, where they are short together.
+#[inline(always)]
+fn short_joined(name: &str, word: &str, number: u64) -> Option<ShortText>
+    ensures { IfSome result (λ text. text ≡ name.now ++ (word.now ++ decimal number)) }
+{
+    let mut text = ShortText::empty();
+    if !text.push_str(name) {
+        return None;
+    }
+    if !text.push_str(word) {
+        return None;
+    }
+    if !text.push_str(Buffer::new().format(number)) {
+        return None;
+    }
+    Some(text)
 }
 
 /// The name of the block at a place, by its label where it has one.
@@ -45,5 +64,17 @@ pub fn value_name(
     match given {
         Some(given) => joined(alloc, given.as_str(), "_v", number),
         None => joined(alloc, "", "v", number),
+    }
+}
+
+/// The name of the result of a number, by its given name where it has one, where it is short.
+#[inline(always)]
+pub fn short_value_name(given: Option<&Identifier>, number: u64) -> Option<ShortText>
+    ensures name { IfSome result (λ name. name ≡ value_name (option_copied given.entry) number) }
+    ensures plain { IfSome (option_copied given.entry) IsPlainName → (k : ℕ) → k < 2 ^ 64 → IsPlainOrNone (value_name (option_copied given.entry) k) }
+{
+    match given {
+        Some(given) => short_joined(given.as_str(), "_v", number),
+        None => short_joined("", "v", number),
     }
 }

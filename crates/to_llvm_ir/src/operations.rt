@@ -22,8 +22,8 @@ ghost use Rattle.to_llvm_ir.specs.Causes.{IsFuncCause};
 ghost use Rattle.to_llvm_ir.specs.States.{Task, Spot, IsSpot, IsNext, IsUsed, IsUse, AreUses, IsLead, IsWritten, IsMade, IsBegun, IsAtOp, IsBehindSpot, AreAllMapped, found};
 
 use crate::blocks::{Blocks, find_target};
+use crate::building::build_result;
 use crate::guesses::Guesses;
-use crate::names::value_name;
 use crate::to_llvm_err::ToLLVMErr;
 use crate::types::value_type;
 use crate::values::Values;
@@ -142,8 +142,8 @@ fn convert_constant(
     values.set(Value::Result(op), LLVMValue::Const(c))
 }
 
-/// What stands for the values that an operation takes, in order.
-fn known_all(
+/// What stands for the values that an operation takes, in order, however many.
+fn known_each(
     alloc: Global,
     ctx: &Context,
     operands: &[Value],
@@ -158,6 +158,28 @@ fn known_all(
         stand.push(alloc, known(alloc, ctx, *operand, values)?)?;
     }
     Ok(stand)
+}
+
+/// What stands for the values that an operation takes, in order. Most take one or two, which make their list at once.
+fn known_all(
+    alloc: Global,
+    ctx: &Context,
+    operands: &[Value],
+    values: &Values,
+) -> Result<ShortList<LLVMValue>, ToLLVMErr>
+    requires within { All (IsValueWithin (length ctx.now.ops) (length ctx.now.blocks)) operands.now }
+    ensures ok { (s : Spot) (op : OpRef) (m : Module) → IsNext ctx.now op s values.now m → s.op.operands ≡ operands.now → IfOk result (AreUses s m operands.now) }
+    ensures cause { (s : Spot) (op : OpRef) (m : Module) → IsNext ctx.now op s values.now m → s.op.operands ≡ operands.now → IfErr result (IsFuncCause ctx.now s.task.source) }
+{
+    match operands {
+        [value] => Ok(ShortList::one(known(alloc, ctx, *value, values)?)),
+        [left, right] => {
+            let first = known(alloc, ctx, *left, values)?;
+            let second = known(alloc, ctx, *right, values)?;
+            Ok(ShortList::two(first, second))
+        }
+        _ => known_each(alloc, ctx, operands, values),
+    }
 }
 
 /// The blocks that the edges of an operation lead to, in order.
@@ -255,8 +277,7 @@ fn place_inst(
         back.build(block, inst, "")?;
         return Ok(());
     }
-    let name = value_name(alloc, ctx.op_name(op), values.next)?;
-    let i = back.build(block, inst, name.as_str())?;
+    let i = build_result(alloc, ctx.op_name(op), values.next, block, inst, back)?;
     values.set(Value::Result(op), LLVMValue::Inst(i))
 }
 
