@@ -1,7 +1,9 @@
 -- Functions that go behind those of a module one after another.
-use Rattle.std.proofs.Common.{◌≡◌, ◌+◌, ℕ, suc, List, [], ◌∷◌, ◌++◌, Option, Some, None, length, length-append, slice_get, map, drop, ap, sym, ◌∙◌, arith}
-use Rattle.std.proofs.lemmas.List.{append_assoc}
+use Rattle.std.proofs.Common.{◌≡◌, ◌+◌, ℕ, suc, List, [], ◌∷◌, ◌++◌, Option, Some, None, length, length-append, slice_get, map, drop, ap, sym, ◌∙◌, refl, arith}
+use Rattle.std.proofs.lemmas.List.{append-nil, append_assoc}
+use Rattle.support.proofs.ListLaws.{slice_get-kept}
 use Rattle.llvm_core.specs.declared.types.LLVMTypeKind.{LLVMTypeKind}
+use Rattle.llvm_core.specs.declared.types.LLVMTypeKind.TheVariants as kinds
 use Rattle.llvm_core.specs.Module.{Module}
 use Rattle.llvm_core.specs.Sound.{IsModule}
 use Rattle.llvm_core.specs.Data as D
@@ -11,7 +13,7 @@ use Rattle.ll_lines.specs.Lines as L
 use Rattle.ll_lines.specs.Views.{function_view, IsFunctionIn}
 use Rattle.ll_literals.specs.Chain.{◌>>=◌}
 use Rattle.ll_bodies.specs.Meaning.{function_data, functions_data, count_insts}
-use Rattle.ll_bodies.specs.AddingViews.{Keeps, AddsFunction}
+use Rattle.ll_bodies.specs.AddingViews.{Keeps, AddsTypes, AddsFunction}
 use Rattle.ll_bodies.proofs.BlockLaws.{drop_at}
 use Rattle.ll_bodies.proofs.JoinLaws.{function_total}
 use Rattle.ll_bodies.proofs.ListLaws.{then_some}
@@ -23,6 +25,21 @@ keeps_twice a b c g h = record {
   types = h.types ∙ ap (λ (ts : List LLVMTypeKind). ts ++ h.more) g.types ∙ append_assoc a.types g.more h.more;
   consts = h.consts ∙ g.consts;
 }
+
+-- a module has the types that every function needs
+pub record HasNeeded (m : Module) (bit void : ℕ) : Type 0 where
+  pub is_bit : slice_get m.types bit ≡ Some (kinds.Int 1)
+  pub is_void : slice_get m.types void ≡ Some kinds.Void
+
+pub needed_kept : (a b : Module) (bit void : ℕ) → Keeps a b → HasNeeded a bit void → HasNeeded b bit void
+needed_kept a b bit void g h = record {
+  is_bit = ap (λ ts. slice_get ts bit) g.types ∙ slice_get-kept a.types g.more bit (kinds.Int 1) h.is_bit;
+  is_void = ap (λ ts. slice_get ts void) g.types ∙ slice_get-kept a.types g.more void kinds.Void h.is_void;
+}
+
+whole : {B : Type 0} (r : Option (List B)) → r ≡ (r >>= λ ys. Some ([] ++ ys))
+whole None = refl
+whole (Some ys) = refl
 
 module _ (bytes : List ℕ) (old : Module) (xs : List Function) where
   -- what is said from a place on, as the module before says it
@@ -40,6 +57,18 @@ module _ (bytes : List ℕ) (old : Module) (xs : List Function) where
     pub given : data_of now ≡ record (data_of old) { functions = (data_of old).functions ++ made }
     pub keeps : Keeps old now
     pub sound : IsModule now
+
+  -- types are added before the first
+  pub added_none : (now : Module) → AddsTypes old now → IsModule now → Added 0 now
+  added_none now g s = record {
+    made = [];
+    is =
+        ap (λ (m : Module). meant m (map (function_view bytes (trees_of old)) xs)) (sym (ap (λ (m : Module). record m { types = old.types }) g.rest))
+        ∙ whole (meant now (left 0));
+    given = g.same ∙ ap (λ (fs : List D.Function). record (data_of old) { functions = fs }) (sym (append-nil (data_of old).functions));
+    keeps = record { more = g.more; types = g.types; consts = ap (λ (m : Module). m.consts) g.rest };
+    sound = s;
+  }
 
   module _ (s : IsModule old) (at : ℕ) (now : Module) (x : Function) (here : slice_get xs at ≡ Some x) (there : IsFunctionIn old x) (a : Added at now) where
     -- the next function, as the module now says it

@@ -9,6 +9,10 @@ pub then_some : {B : Type 0} (r : Option (List B)) (y : B) (done : List B) → (
 then_some None y done = refl
 then_some (Some ys) y done = ap (λ zs. Some zs) (sym (append_assoc done (y ∷ []) ys))
 
+whole : {B : Type 0} (r : Option (List B)) → r ≡ (r >>= λ zs. Some ([] ++ zs))
+whole None = refl
+whole (Some zs) = refl
+
 module _ {X A B Y : Type 0} (view : X → A) (f : A → Option B) (out : Y → B) where
   -- so much of the list has been made
   pub record Done (xs : List X) (at : ℕ) (ys : List Y) : Type 0 where
@@ -32,3 +36,13 @@ module _ {X A B Y : Type 0} (view : X → A) (f : A → Option B) (out : Y → B
       d.is
       ∙ ap (λ zs. all_of f (map view zs) >>= λ ws. Some (map out ys ++ ws)) (drop_at xs at x h)
       ∙ ap (λ o. (o >>= λ z. all_of f (map view (drop (suc at) xs)) >>= λ zs. Some (z ∷ zs)) >>= λ ws. Some (map out ys ++ ws)) is
+
+  -- nothing has been made of the list yet
+  none_made : (xs : List X) → Done xs 0 []
+  none_made xs = record { is = whole (all_of f (map view xs)) }
+
+  pub one_made : (xs : List X) (x : X) (y : Y) → length xs ≤ 1 → slice_get xs 0 ≡ Some x → f (view x) ≡ Some (out y) → all_of f (map view xs) ≡ Some (map out (y ∷ []))
+  one_made xs x y few h e = done_all xs 1 (y ∷ []) few (done_more xs 0 1 [] x y h refl e (none_made xs))
+
+  pub two_made : (xs : List X) (x w : X) (y z : Y) → length xs ≤ 2 → slice_get xs 0 ≡ Some x → slice_get xs 1 ≡ Some w → f (view x) ≡ Some (out y) → f (view w) ≡ Some (out z) → all_of f (map view xs) ≡ Some (map out (y ∷ z ∷ []))
+  two_made xs x w y z few h i e g = done_all xs 2 (y ∷ z ∷ []) few (done_more xs 1 2 (y ∷ []) w z i refl g (done_more xs 0 1 [] x y h refl e (none_made xs)))

@@ -24,12 +24,11 @@ use llvm_core::types::LLVMTypeKind;
 use std::alloc::{AllocError, Global};
 use support::items::Items;
 
-/// The types that a function needs beside those that it says.
+/// The types that every function needs, whatever it says.
 #[derive(Clone, Copy, Drop)]
 struct Needed {
     bit: LLVMType,
     void: LLVMType,
-    function: LLVMType,
 }
 
 /// The types of parameters.
@@ -53,35 +52,38 @@ fn type_number(module: &mut LLVMModule, kind: LLVMTypeKind) -> Result<LLVMType, 
     module.type_get(kind)
 }
 
-/// The types that a function needs.
-fn needed_types(
-    alloc: Global,
-    module: &mut LLVMModule,
-    said: &Function,
-) -> Result<Needed, AllocError>
-    requires { IsFunctionIn module.old said.now }
+/// The types that every function needs.
+fn needed_types(module: &mut LLVMModule) -> Result<Needed, AllocError>
     ensures grows { OnOk result (AddsTypes module.old module.new) }
     ensures bit { IfOk result (λ t. slice_get module.new.types t.bit.0 ≡ Some (kinds.Int 1)) }
     ensures void { IfOk result (λ t. slice_get module.new.types t.void.0 ≡ Some kinds.Void) }
-    ensures function { IfOk result (λ t. slice_get module.new.types t.function.0 ≡ Some (kinds.Function said.now.result (map (λ (p : Param). p.ty) said.now.params.items) false)) }
+    ensures sound { OnOk result (IsModule module.new) }
+{
+    let bit = type_number(module, LLVMTypeKind::Int(1))?;
+    let void = type_number(module, LLVMTypeKind::Void)?;
+    Ok(Needed { bit, void })
+}
+
+/// The type of a function.
+fn function_type(
+    alloc: Global,
+    module: &mut LLVMModule,
+    said: &Function,
+) -> Result<LLVMType, AllocError>
+    requires { IsFunctionIn module.old said.now }
+    ensures grows { OnOk result (AddsTypes module.old module.new) }
+    ensures here { IfOk result (λ t. slice_get module.new.types t.0 ≡ Some (kinds.Function said.now.result (map (λ (p : Param). p.ty) said.now.params.items) false)) }
     ensures sound { OnOk result (IsModule module.new) }
 {
     let params = param_types(alloc, said.params.as_slice())?;
-    let function = type_number(
+    type_number(
         module,
         LLVMTypeKind::Function {
             result: said.result,
             params,
             variadic: false,
         },
-    )?;
-    let bit = type_number(module, LLVMTypeKind::Int(1))?;
-    let void = type_number(module, LLVMTypeKind::Void)?;
-    Ok(Needed {
-        bit,
-        void,
-        function,
-    })
+    )
 }
 
 /// Names the parameters of a function.
@@ -163,19 +165,22 @@ fn add_function(
     alloc: Global,
     module: &mut LLVMModule,
     bytes: &[u8],
+    types: &Needed,
     said: &Function,
 ) -> Result<(), BuildErr>
     requires sound { IsModule module.old }
     requires said { IsFunctionIn module.old said.now }
+    requires bit { slice_get module.old.types types.now.bit.0 ≡ Some (kinds.Int 1) }
+    requires void { slice_get module.old.types types.now.void.0 ≡ Some kinds.Void }
     ensures ok { OnOk result (AddsFunction bytes.now said.now module.old module.new) }
     ensures not_yet { result ≡ Err BuildErr.NotYet → function_data (length module.old.functions) (length module.old.blocks) (length module.old.insts) (function_view bytes.now (trees_of module.old) said.now) ≡ None }
 {
     let Some(name) = global_name(said.name.text(bytes)) else {
         return Err(BuildErr::NotYet);
     };
-    let types = needed_types(alloc, module, said)?;
-    let f = declare(module, bytes, name, types.function, said)?;
-    give_body(alloc, module, bytes, f, &types, said)
+    let ty = function_type(alloc, module, said)?;
+    let f = declare(module, bytes, name, ty, said)?;
+    give_body(alloc, module, bytes, f, types, said)
 }
 
 /// Adds functions behind those that are there, in their order.
@@ -190,8 +195,9 @@ fn add_functions(
     ensures ok { OnOk result (AddsFunctions bytes.now functions.now module.old module.new) }
     ensures not_yet { result ≡ Err BuildErr.NotYet → functions_data (length module.old.functions) (length module.old.blocks) (length module.old.insts) (map (function_view bytes.now (trees_of module.old)) functions.now) ≡ None }
 {
+    let types = needed_types(module)?;
     for function in functions {
-        add_function(alloc, module, bytes, function)?;
+        add_function(alloc, module, bytes, &types, function)?;
     }
     Ok(())
 }

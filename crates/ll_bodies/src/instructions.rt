@@ -44,8 +44,28 @@ fn entry(source: &Source<'_>, scope: &Scope<'_>, ty: LLVMType, said: &Incoming) 
     }
 }
 
-/// The entries of a phi of a type.
-fn entries(
+/// An entry of a phi of a type, which is refused where it means nothing.
+fn known_entry(
+    source: &Source<'_>,
+    scope: &Scope<'_>,
+    ty: LLVMType,
+    said: &Incoming,
+) -> Result<PhiEntry, BuildErr>
+    requires source { IsSource source.now }
+    requires scope { IsScopeIn source.now.module.now scope.now }
+    requires ty { IsTypeIn source.now.module.now ty }
+    requires said { IsSaidIn source.now.module.now said.now.said }
+    ensures ok { IfOk result (λ e. (s : spec.Scope) → Knows (types_in source.now) scope.now s → meaning.entry s (type_at (types_in source.now) ty) (entry_in source.now said.now) ≡ Some (entry_of (source_trees source.now) e)) }
+    ensures not_yet { result ≡ Err BuildErr.NotYet → Refuses (types_in source.now) scope.now (λ s. meaning.entry s (type_at (types_in source.now) ty) (entry_in source.now said.now)) }
+{
+    match entry(source, scope, ty, said) {
+        Some(found) => Ok(found),
+        None => Err(BuildErr::NotYet),
+    }
+}
+
+/// The entries of a phi of a type, of any number.
+fn all_entries(
     alloc: Global,
     source: &Source<'_>,
     scope: &Scope<'_>,
@@ -67,6 +87,32 @@ fn entries(
         }
     }
     Ok(made)
+}
+
+/// The entries of a phi of a type. Of one or two the list is made at once.
+fn entries(
+    alloc: Global,
+    source: &Source<'_>,
+    scope: &Scope<'_>,
+    ty: LLVMType,
+    said: &[Incoming],
+) -> Result<ShortList<PhiEntry>, BuildErr>
+    requires source { IsSource source.now }
+    requires scope { IsScopeIn source.now.module.now scope.now }
+    requires ty { IsTypeIn source.now.module.now ty }
+    requires said { All (λ e. IsSaidIn source.now.module.now e.said) said.now }
+    ensures ok { IfOk result (λ es. (s : spec.Scope) → Knows (types_in source.now) scope.now s → all_of (meaning.entry s (type_at (types_in source.now) ty)) (map (entry_in source.now) said.now) ≡ Some (map (entry_of (source_trees source.now)) es)) }
+    ensures not_yet { result ≡ Err BuildErr.NotYet → Refuses (types_in source.now) scope.now (λ s. all_of (meaning.entry s (type_at (types_in source.now) ty)) (map (entry_in source.now) said.now)) }
+{
+    match said {
+        [x] => Ok(ShortList::one(known_entry(source, scope, ty, x)?)),
+        [x, y] => {
+            let first = known_entry(source, scope, ty, x)?;
+            let second = known_entry(source, scope, ty, y)?;
+            Ok(ShortList::two(first, second))
+        }
+        _ => all_entries(alloc, source, scope, ty, said),
+    }
 }
 
 /// Whether the operands fit the row, which is asked where it is not known.

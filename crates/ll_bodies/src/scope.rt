@@ -54,6 +54,7 @@ impl<'a> Scope<'a> {
     }
 
     /// What a key stands for.
+    #[inline(always)]
     pub fn get(&self, key: Key<'a>) -> Option<Local>
         ensures { result ≡ local_at self.now key.entry }
     {
@@ -118,6 +119,7 @@ impl<'a> Scope<'a> {
 
     /// Defines the next thing of the function, under what is written of its name. What has neither a name nor a number takes
     /// the counter.
+    #[inline(always)]
     pub fn define(&mut self, local: Local, key: Option<Key<'a>>) -> Result<(), BuildErr>
         ensures ok { OnOk result ((types : List TypeTree) → Takes types self.old self.new (λ s. define s (local_view types local) (option_key key.entry))) }
         ensures adds { OnOk result (Adds (λ (y : Local). y ≡ local) self.old self.new) }

@@ -1,6 +1,9 @@
 -- What `adding::add_function` owes besides what the check finds.
-use Rattle.std.proofs.Common.{sym, ap, ◌∙◌}
+use Rattle.std.proofs.Common.{slice_get, sym, ap, ◌∙◌}
+use Rattle.llvm_core.specs.Module.{Module}
+use Rattle.llvm_core.specs.declared.types.LLVMTypeKind.TheVariants as kinds
 use Rattle.ll_bodies.specs.Scopes.{global_name}
+use Rattle.ll_bodies.proofs.AddingLaws.{adds_kept}
 use Rattle.ll_bodies.proofs.ErrLaws.{on_ok_both}
 use Rattle.ll_bodies.proofs.JoinLaws.{joined, unjoined}
 use Rattle.ll_bodies.proofs.adding.add_function.Goals as goal
@@ -10,11 +13,21 @@ returns-clause-ok c =
     let called = ap (λ t. global_name t) (sym c.text.ensures) ∙ c.in-Some.ensures.name in
     let o = c.in_ok-f.ensures in
     on_ok_both c.give_body.result (λ b sound.
-    joined c.args.bytes.now c.in_ok-f.f.0 c.in-Some.name.now c.args.said.now c.args.module.now c.needed_types.new.module c.declare.new.module c.give_body.new.module
-    c.requires.sound c.requires.said c.in_ok-types.ensures.grows o.number o.rest called o.data b sound) c.give_body.ensures.ok c.give_body.ensures.sound
+    joined c.args.bytes.now c.in_ok-f.f.0 c.in-Some.name.now c.args.said.now c.args.module.now c.function_type.new.module c.declare.new.module c.give_body.new.module
+    c.requires.sound c.requires.said c.in_ok-ty.ensures.grows o.number o.rest called o.data b sound) c.give_body.ensures.ok c.give_body.ensures.sound
 
 pub returns-clause-not_yet : goal.returns-clause-not_yet
 returns-clause-not_yet c = λ e.
     let o = c.in_ok-f.ensures in
-    unjoined c.args.bytes.now c.in_ok-f.f.0 c.args.said.now c.args.module.now c.needed_types.new.module c.declare.new.module
-    c.requires.sound c.requires.said c.in_ok-types.ensures.grows o.number o.rest (c.give_body.ensures.not_yet e)
+    unjoined c.args.bytes.now c.in_ok-f.f.0 c.args.said.now c.args.module.now c.function_type.new.module c.declare.new.module
+    c.requires.sound c.requires.said c.in_ok-ty.ensures.grows o.number o.rest (c.give_body.ensures.not_yet e)
+
+pub give_body-requires-clause-bit : goal.give_body-requires-clause-bit
+give_body-requires-clause-bit c =
+    ap (λ (m : Module). slice_get m.types c.args.types.now.bit.0) c.in_ok-f.ensures.rest
+    ∙ adds_kept c.args.module.now c.function_type.new.module c.in_ok-ty.ensures.grows c.args.types.now.bit.0 (kinds.Int 1) c.requires.bit
+
+pub give_body-requires-clause-void : goal.give_body-requires-clause-void
+give_body-requires-clause-void c =
+    ap (λ (m : Module). slice_get m.types c.args.types.now.void.0) c.in_ok-f.ensures.rest
+    ∙ adds_kept c.args.module.now c.function_type.new.module c.in_ok-ty.ensures.grows c.args.types.now.void.0 kinds.Void c.requires.void

@@ -1,28 +1,27 @@
 -- What `instructions::entries` owes besides what the check finds.
-use Rattle.std.proofs.Common.{◌≡◌, ◌+◌, suc, arith}
+use Rattle.std.proofs.Common.{arith}
 use Rattle.std.proofs.lemmas.Option.{slice_get-get_or}
 use Rattle.llvm_core.specs.Data.{type_at, entry_of}
 use Rattle.ll_bodies.specs.Meaning.{entry}
 use Rattle.ll_bodies.specs.SourceViews.{types_in, entry_in, source_trees}
-use Rattle.ll_bodies.proofs.ListLaws.{done_more, done_all, done_refused}
+use Rattle.ll_bodies.proofs.ListLaws.{one_made, two_made}
 use Rattle.ll_bodies.proofs.instructions.entries.Goals as goal
 
-pub loop-x-preserved : goal.loop-x-preserved
-loop-x-preserved c = λ s knows.
+pub returns-in_ok-known_entry-in-len1-clause-ok : goal.returns-in_ok-known_entry-in-len1-clause-ok
+returns-in_ok-known_entry-in-len1-clause-ok c = λ s knows.
     let source = c.args.source.now in
-    let at = c.loop-x.x-index in
-    let next : at + 1 ≡ suc at = omega arith in
-    let here = slice_get-get_or c.args.said.now at _ c.loop-x-test.true in
-    rw c.in_ok-push-in-Some.ensures.ok (done_more (entry_in source) (entry s (type_at (types_in source) c.args.ty)) (entry_of (source_trees source)) c.args.said.now at (at + 1) c.loop-x.made _ c.in-Some.found here next (c.in-Some.ensures s knows) (c.loop-x.invariant s knows))
+    let xs = c.args.said.now in
+    let some = c.in-len1.len_at_least in
+    let few = c.in-len1.len_below in
+    let x = c.in_ok-known_entry-in-len1 in
+    rw c.one.ensures (one_made (entry_in source) (entry s (type_at (types_in source) c.args.ty)) (entry_of (source_trees source)) xs _ x.field-0 (omega (arith, few)) (slice_get-get_or xs 0 _ (omega (arith, some))) (x.ensures.ok s knows))
 
-pub returns-in-None-clause-not_yet : goal.returns-in-None-clause-not_yet
-returns-in-None-clause-not_yet c = λ e s knows.
+pub returns-in_ok-second-in-len2-clause-ok : goal.returns-in_ok-second-in-len2-clause-ok
+returns-in_ok-second-in-len2-clause-ok c = λ s knows.
     let source = c.args.source.now in
-    let at = c.loop-x.x-index in
-    let here = slice_get-get_or c.args.said.now at _ c.loop-x-test.true in
-    done_refused (entry_in source) (entry s (type_at (types_in source) c.args.ty)) (entry_of (source_trees source)) c.args.said.now at c.loop-x.made _ here (c.in-None.ensures s knows) (c.loop-x.invariant s knows)
-
-pub returns-clause-ok : goal.returns-clause-ok
-returns-clause-ok c = λ s knows.
-    let source = c.args.source.now in
-    done_all (entry_in source) (entry s (type_at (types_in source) c.args.ty)) (entry_of (source_trees source)) c.args.said.now c.loop-x.x-index c.loop-x.made c.loop-x-test.false (c.loop-x.invariant s knows)
+    let xs = c.args.said.now in
+    let some = c.in-len2.len_at_least in
+    let few = c.in-len2.len_below in
+    let x = c.in_ok-first-in-len2 in
+    let y = c.in_ok-second-in-len2 in
+    rw c.two.ensures (two_made (entry_in source) (entry s (type_at (types_in source) c.args.ty)) (entry_of (source_trees source)) xs _ _ x.first y.second (omega (arith, few)) (slice_get-get_or xs 0 _ (omega (arith, some))) (slice_get-get_or xs 1 _ (omega (arith, some))) (x.ensures.ok s knows) (y.ensures.ok s knows))

@@ -5,7 +5,7 @@ use Rattle.ll_bodies.specs.Meaning.{entry}
 use Rattle.ll_bodies.specs.ScopeViews.{Knows}
 use Rattle.ll_bodies.specs.SourceViews.{types_in, entry_in, source_trees}
 use Rattle.ll_bodies.proofs.ListLaws.{Done}
-use Rattle.ll_bodies.proofs.instructions.entries.Given as goal
+use Rattle.ll_bodies.proofs.instructions.all_entries.Given as goal
 
 abbrev pub invariant-loop-x : goal.invariant-loop-x
 invariant-loop-x l = (s : Scope) → Knows (types_in l.source) l.scope s → Done (entry_in l.source) (entry s (type_at (types_in l.source) l.ty)) (entry_of (source_trees l.source)) l.said l.x-index l.made
