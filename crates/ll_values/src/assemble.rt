@@ -57,6 +57,7 @@ fn part(
 }
 
 /// The parts of a body.
+#[inline(never)]
 fn body(
     alloc: Global,
     m: &LLVMModule,
@@ -121,6 +122,7 @@ fn function(
 }
 
 /// The functions of a file.
+#[inline(never)]
 pub fn functions(
     alloc: Global,
     m: &LLVMModule,

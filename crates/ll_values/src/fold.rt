@@ -126,6 +126,7 @@ fn step(
 }
 
 /// The values of events; the first value is the last on the stack.
+#[inline(never)]
 pub fn fold(
     alloc: Global,
     m: &mut LLVMModule,
@@ -140,13 +141,22 @@ pub fn fold(
     ensures not_yet { result ≡ Err ValueErr.NotYet → fold_of source.now events.now ≡ None }
 {
     let mut stack = Stack::new(alloc);
-    let mut left = events.len();
-    while left > 0 {
-        left -= 1;
-        match step(alloc, m, store, source, &mut stack, events[left]) {
+    let count = events.len();
+    // The count is last in a round, so that what an event does goes on there, without a look back at its result.
+    let mut done = 0;
+    while done < count {
+        match step(
+            alloc,
+            m,
+            store,
+            source,
+            &mut stack,
+            events[count - done - 1],
+        ) {
             Ok(()) => (),
             Err(e) => return Err(e),
         }
+        done += 1;
     }
     Ok(stack.into_vec(alloc)?)
 }

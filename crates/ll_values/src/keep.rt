@@ -38,6 +38,7 @@ pub fn keep_inst(
 }
 
 /// The number of entries, the first of them before others.
+#[inline(always)]
 pub fn keep_entries(
     m: &LLVMModule,
     store: &mut Store,
@@ -76,6 +77,7 @@ pub fn keep_body(
 }
 
 /// The number of parameters, the first of them before others.
+#[inline(always)]
 pub fn keep_params(
     m: &LLVMModule,
     store: &mut Store,
@@ -95,6 +97,7 @@ pub fn keep_params(
 }
 
 /// The number of functions, the first of them before others.
+#[inline(always)]
 pub fn keep_functions(
     m: &LLVMModule,
     store: &mut Store,

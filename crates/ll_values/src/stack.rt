@@ -1,6 +1,6 @@
 //! Values on a stack, so that nesting costs no stack of the machine.
 
-ghost use Rattle.std.specs.Prelude.{◌≡◌, ◌+◌, ◌<◌, ◌∷◌, [], length, take, drop, reverse, IfOk, OnOk, IsTrue, IsFalse};
+ghost use Rattle.std.specs.Prelude.{◌≡◌, ◌+◌, ◌<◌, ◌≤◌, ◌∷◌, [], length, take, drop, reverse, IfOk, OnOk, IsTrue, IsFalse};
 
 use crate::value::Value;
 use std::alloc::{AllocError, Global};
@@ -36,6 +36,19 @@ fn lowered(alloc: Global, cells: &[Value], free: usize) -> Result<Vec<Value>, Al
     Ok(more)
 }
 
+/// Makes as many free cells below as there are cells, and gives their number.
+#[cold]
+#[inline(never)]
+fn make_room(alloc: Global, cells: &mut Vec<Value>) -> Result<usize, AllocError>
+    ensures cells { IfOk result (λ free. drop free cells.new.items ≡ cells.old.items) }
+    ensures some { IfOk result (λ free. 0 < free) }
+    ensures room { IfOk result (λ free. free ≤ length cells.new.items) }
+{
+    let free = cells.len().max(16);
+    *cells = lowered(alloc, cells.as_slice(), free)?;
+    Ok(free)
+}
+
 impl Stack {
     pub fn new(alloc: Global) -> Stack
         ensures { result ≡ [] }
@@ -58,25 +71,11 @@ impl Stack {
     pub fn push(&mut self, alloc: Global, value: Value) -> Result<(), AllocError>
         ensures { OnOk result (self.new ≡ value ∷ self.old) }
     {
-        if self.top > 0 {
-            self.top -= 1;
-            self.cells[self.top] = value;
-            return Ok(());
+        if self.top == 0 {
+            self.top = make_room(alloc, &mut self.cells)?;
         }
-        self.push_low(alloc, value)
-    }
-
-    /// Puts a value on top, where more cells are to be had first.
-    #[cold]
-    #[inline(never)]
-    fn push_low(&mut self, alloc: Global, value: Value) -> Result<(), AllocError>
-        ensures { OnOk result (self.new ≡ value ∷ self.old) }
-    {
-        let free = self.cells.len().max(16);
-        let mut cells = lowered(alloc, self.first(self.cells.len()), free)?;
-        cells[free - 1] = value;
-        self.cells = cells;
-        self.top = free - 1;
+        self.top -= 1;
+        self.cells[self.top] = value;
         Ok(())
     }
 
@@ -95,8 +94,13 @@ impl Stack {
     pub fn replace(&mut self, alloc: Global, n: usize, value: Value) -> Result<(), AllocError>
         ensures { OnOk result (self.new ≡ value ∷ drop n self.old) }
     {
-        self.top += n.min(self.cells.len() - self.top);
-        self.push(alloc, value)
+        let gone = n.min(self.cells.len() - self.top);
+        if gone == 0 {
+            return self.push(alloc, value);
+        }
+        self.top += gone - 1;
+        self.cells[self.top] = value;
+        Ok(())
     }
 
     /// The values, the top one last.

@@ -61,6 +61,7 @@ fn make_int(
 }
 
 /// A literal at a type.
+#[inline(always)]
 fn make_one(
     m: &mut LLVMModule,
     store: &Store,
@@ -143,6 +144,7 @@ fn entries(
 }
 
 /// A phi.
+#[inline(always)]
 fn make_phi(
     alloc: Global,
     m: &mut LLVMModule,
