@@ -4,6 +4,7 @@ pub mod Words
 pub mod Values
 pub mod Folding
 pub mod Lists
+pub mod Shapes
 pub mod Views
 pub mod Growing
 pub mod Stack

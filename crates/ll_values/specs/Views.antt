@@ -1,16 +1,10 @@
 -- What the values on a stack say, over the bytes of the text, the trees of the module and what is kept in a store.
-use Rattle.std.specs.Prelude.{◌<◌, ◌≤◌, ℕ, List, [], ◌∷◌, map, length, slice_get, None, Some, All}
+use Rattle.std.specs.Prelude.{◌<◌, ◌≤◌, ℕ, List, [], ◌∷◌, map, length, slice_get, None, All}
 use Rattle.std.specs.Option.{option_map, option_map_or}
 use Rattle.kinds.specs.Types.{VoidType}
-use Rattle.llvm_core.specs.declared.numbers.LLVMType.{LLVMType}
 use Rattle.llvm_core.specs.Module.{Module}
 use Rattle.llvm_core.specs.Sound.{IsModule}
 use Rattle.llvm_core.specs.Data.{Trees, type_at}
-use Rattle.kinds.specs.declared.op.Op.{Op}
-use Rattle.ll_lines.specs.declared.names.Name.{Name}
-use Rattle.ll_lines.specs.declared.lines.Typed as code_typed
-use Rattle.ll_lines.specs.declared.lines.Inst as code_inst
-use Rattle.ll_lines.specs.declared.lines.Inst.TheVariants as I
 use Rattle.ll_lines.specs.declared.lines.Param as code_param
 use Rattle.ll_lines.specs.Lines.{Inst, Phi, Part, Label, Does, Param, Function}
 use Rattle.ll_lines.specs.Views.{text_of, typed_view, inst_view, param_view, IsTypeIn, IsSaidIn, IsTypedIn, IsInstIn}
@@ -96,13 +90,6 @@ module _ (bytes : List ℕ) (t : Trees) (s : Store) where
 
   abbrev pub file_from : Definition → ℕ → Value
   file_from d n = FileV (record { source = None; functions = definition_view d ∷ functions_at n })
-
--- instructions of these operands, and one of one operand that is taken to a type
-abbrev pub row_of : Op → List code_typed.Typed → (targets : List Name) → code_inst.Inst
-row_of op operands targets = I.Row (record { op = op; written = None; operands = operands; targets = targets })
-
-abbrev pub cast_of : Op → code_typed.Typed → LLVMType → code_inst.Inst
-cast_of op x ty = I.Row (record { op = op; written = Some ty; operands = x ∷ []; targets = [] })
 
 -- ---- what it names is there
 

@@ -9,28 +9,9 @@ ghost use Rattle.ll_values.specs.Views.{part_view, body_at, definition_view, fun
 
 use crate::store::Store;
 use crate::value::{Definition, Piece};
-use ll_lines::lines::{Function, Inst, Line, Param, Part, RowLine};
+use ll_lines::lines::{Function, Line, Param, Part};
 use llvm_core::module::LLVMModule;
 use std::alloc::{AllocError, Global};
-use support::short_list::ShortList;
-
-/// The same instruction once more.
-fn copied(alloc: Global, inst: &Inst) -> Result<Inst, AllocError>
-    ensures { IfOk result (λ i. i ≡ inst.now) }
-{
-    match inst {
-        Inst::Phi(ty, entries) => Ok(Inst::Phi(
-            *ty,
-            ShortList::from_slice(alloc, entries.as_slice())?,
-        )),
-        Inst::Row(row) => Ok(Inst::Row(RowLine {
-            op: row.op,
-            written: row.written,
-            operands: ShortList::from_slice(alloc, row.operands.as_slice())?,
-            targets: ShortList::from_slice(alloc, row.targets.as_slice())?,
-        })),
-    }
-}
 
 /// A part of a body.
 fn part(
@@ -50,7 +31,7 @@ fn part(
     match piece {
         Piece::Label(name) => Ok(Part::Label(name)),
         Piece::Does(result, n) => {
-            let inst = copied(alloc, &store.insts[n as usize])?;
+            let inst = store.insts[n as usize].inst(alloc)?;
             Ok(Part::Does(Line { result, inst }))
         }
     }

@@ -8,10 +8,11 @@ ghost use Rattle.ll_values.specs.Values.{InstV};
 ghost use Rattle.ll_values.specs.Views.{entries_from, body_from, params_from, file_from, IsStoreIn, IsPieceIn, IsDefinitionIn};
 ghost use Rattle.ll_values.specs.Growing.{Kept};
 
+use crate::planned::Planned;
 use crate::store::Store;
 use crate::value::{Definition, Entry, Piece};
 use crate::value_err::ValueErr;
-use ll_lines::lines::{Inst, Param};
+use ll_lines::lines::Param;
 use llvm_core::module::LLVMModule;
 
 /// The number of one more instruction.
@@ -20,7 +21,7 @@ pub fn keep_inst(
     m: &LLVMModule,
     store: &mut Store,
     bytes: &[u8],
-    inst: Inst,
+    inst: Planned,
 ) -> Result<u32, ValueErr>
     requires store { IsStoreIn m.now store.old }
     requires there { IsInstIn m.now inst }

@@ -9,6 +9,7 @@ mod listed;
 pub mod lists;
 mod plan;
 mod plan_row;
+mod planned;
 mod put;
 pub mod read;
 mod row;

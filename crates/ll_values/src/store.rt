@@ -3,14 +3,15 @@
 ghost use Rattle.std.specs.Prelude.{◌≡◌, [], IfOk};
 
 use crate::lists::Lists;
+use crate::planned::Planned;
 use crate::value::{Definition, Entry, Piece};
-use ll_lines::lines::{Inst, Param};
+use ll_lines::lines::Param;
 use std::alloc::{AllocError, Global};
 
 /// Instructions and lists, by number.
 #[derive(Drop)]
 pub struct Store {
-    pub insts: Vec<Inst>,
+    pub insts: Vec<Planned>,
     pub entries: Lists<Entry>,
     pub bodies: Lists<Piece>,
     pub params: Lists<Param>,

@@ -13,13 +13,14 @@ ghost use Rattle.ll_values.specs.Stack.{IsStanding, Puts, MakesNothing};
 
 use crate::form::TypedKind;
 use crate::keep::keep_inst;
+use crate::planned::Planned;
 use crate::said::{int_type, said, void_type};
 use crate::stack::Stack;
 use crate::store::Store;
 use crate::value::{Entry, Literal, Value};
 use crate::value_err::ValueErr;
 use crate::words::int_width;
-use ll_lines::lines::{Incoming, Inst, Said, Typed};
+use ll_lines::lines::{Incoming, Said, Typed};
 use ll_lines::names::Name;
 use llvm_core::module::LLVMModule;
 use llvm_core::numbers::LLVMType;
@@ -161,7 +162,7 @@ fn make_phi(
     ensures not_yet { result ≡ Err ValueErr.NotYet → typed_by T.Phi (map (value_view bytes.now (trees_of m.old) store.old) (V.Type ty ∷ V.Entry entry ∷ V.Entries rest ∷ [])) ≡ None }
 {
     match entries(alloc, m, store, bytes, ty, entry, rest) {
-        Ok(found) => keep_inst(m, store, bytes, Inst::Phi(ty, found)),
+        Ok(found) => keep_inst(m, store, bytes, Planned::phi(ty, found)),
         Err(e) => Err(e),
     }
 }
