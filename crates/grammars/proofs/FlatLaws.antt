@@ -1,13 +1,13 @@
 -- What is looked up in flat tables is what the grammar of their rows says.
-use Rattle.std.proofs.Common.{◌≡◌, ◌<◌, ◌≤◌, ℕ, zero, suc, ◌+◌, ◌-◌, ◌*◌, Bool, true, false, if◌then◌else◌, nat_eq, List, [], ◌∷◌, length, map, take, drop, Option, Some, None, slice_get, slice_index_or, refl, sym, ap, ◌∙◌, subst, arith, inl, inr}
-use Rattle.std.proofs.lemmas.Bool.{cases_lt}
+use Rattle.std.proofs.Common.{◌≡◌, ◌<◌, ◌≤◌, ℕ, zero, suc, ◌+◌, ◌-◌, ◌*◌, ◌&&◌, Bool, true, false, if◌then◌else◌, nat_eq, List, [], ◌∷◌, length, map, take, drop, Option, Some, None, slice_get, slice_index_or, refl, sym, ap, ◌∙◌, subst, arith, inl, inr}
+use Rattle.std.proofs.lemmas.Bool.{cases_lt, ltb-true}
 use Rattle.grammars.specs.declared.symbols.Symbol.{Symbol}
 use Rattle.grammars.specs.declared.rows.Alternative.{Alternative}
 use Rattle.grammars.specs.declared.rows.Row.{Row}
 use Rattle.grammars.specs.Numbers.{some_number}
 use Rattle.grammars.specs.Rows.{has}
 use Rattle.grammars.specs.RowGrammar.{◌>>=◌, numbered, begun_by, chosen_of}
-use Rattle.grammars.specs.Flat.{part, symbols_of, numbered_from, row_of, rows_of}
+use Rattle.grammars.specs.Flat.{part, symbols_of, numbered_from, row_of, rows_of, is_within, all_within}
 use Rattle.grammars.specs.Lines.{begun, chosen_at, AreLines}
 use Rattle.std.proofs.lemmas.List.{get_or_past}
 use Rattle.std.proofs.lemmas.Option.{slice_get_read}
@@ -184,3 +184,21 @@ module _ (symbols : List Symbol) (alternatives : List Alternative) (firsts mores
     | inl l ↦ ap (λ n. some_number n) (lines.entries r c l h) ∙ chosen_is rows r c l
     | inr l ↦ ap (λ n. some_number n) (get_or_past table (r * classes + c) 0 (rw lines.length (behind (length rows) r classes c l))) ∙ sym (none_past rows r (Some c) l)
   ]
+
+-- ---- parts that lie within
+
+both : {a b : Bool} → (a && b) ≡ true → (a ≡ true) × (b ≡ true)
+both {a = true} h = (refl, h)
+both {a = false} h = absurd cc
+
+pub inside : (n : ℕ) (a : Alternative) → is_within n a ≡ true → (a.start ≤ a.end) × (a.end ≤ n)
+inside n a h =
+    let one : a.start < suc a.end = ltb-true a.start (suc a.end) (both h).0 in
+    let two : a.end < suc n = ltb-true a.end (suc n) (both h).1 in
+    (omega (arith, one), omega (arith, two))
+
+pub within_at : (symbols : List Symbol) (alternatives : List Alternative) (i : ℕ) (d : Alternative) → all_within symbols alternatives ≡ true → i < length alternatives
+    → ((slice_index_or alternatives i d).start ≤ (slice_index_or alternatives i d).end) × ((slice_index_or alternatives i d).end ≤ length symbols)
+within_at symbols [] i d h k = absurd (omega (arith, k))
+within_at symbols (a ∷ others) zero d h k = inside (length symbols) a (both h).0
+within_at symbols (a ∷ others) (suc i) d h k = within_at symbols others i d (both h).1 (omega (arith, k))

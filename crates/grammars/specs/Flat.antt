@@ -1,5 +1,6 @@
 -- Flat tables as rows, and their check.
-use Rattle.std.specs.Prelude.{ℕ, suc, ◌-◌, Bool, List, [], ◌∷◌, map, take, drop, reverse}
+use Rattle.std.specs.Prelude.{ℕ, suc, ◌-◌, ◌&&◌, Bool, List, [], ◌∷◌, length, map, nat_lt, take, drop, reverse}
+use Rattle.std.specs.List.{list_all}
 use Rattle.grammars.specs.declared.symbols.Symbol.{Symbol}
 use Rattle.grammars.specs.declared.rows.Alternative as flat
 use Rattle.grammars.specs.declared.rows.Row as flat_row
@@ -11,6 +12,13 @@ part xs start end = take (end - start) (drop start xs)
 
 abbrev pub symbols_of : List Symbol → flat.Alternative → List Symbol
 symbols_of symbols a = reverse (part symbols a.start a.end)
+
+-- a part that lies within so many
+abbrev pub is_within : ℕ → flat.Alternative → Bool
+is_within n a = nat_lt a.start (suc a.end) && nat_lt a.end (suc n)
+
+abbrev pub all_within : List Symbol → List flat.Alternative → Bool
+all_within symbols alternatives = list_all (is_within (length symbols)) alternatives
 
 -- alternatives, the first of that number
 abbrev pub numbered_from : List Symbol → (firsts : List ℕ) → ℕ → List flat.Alternative → List Alternative

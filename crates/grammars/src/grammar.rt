@@ -1,7 +1,7 @@
 //! A grammar in flat tables, which passes the check.
 
 ghost use Rattle.std.specs.Prelude.{IsTrue};
-ghost use Rattle.grammars.specs.Flat.{check_flat};
+ghost use Rattle.grammars.specs.Flat.{check_flat, all_within};
 
 use crate::rows::{Alternative, Row};
 use crate::symbols::Symbol;
@@ -17,5 +17,7 @@ pub struct Grammar<'g> {
     pub firsts: &'g [u16],
     /// The classes that might go on with rules.
     pub mores: &'g [u16],
+    /// The symbols of each alternative lie within the table.
+    pub ghost within: { IsTrue (all_within symbols.now alternatives.now) },
     pub ghost right: { IsTrue (check_flat symbols.now alternatives.now rows.now firsts.now mores.now) },
 }

@@ -5,7 +5,6 @@ ghost use Rattle.grammars.specs.Numbers.{some_number};
 ghost use Rattle.grammars.specs.FlatGrammar.{grammar_of};
 
 use crate::grammar::Grammar;
-use crate::parts::part_of;
 use crate::symbols::Symbol;
 
 impl<'g> Grammar<'g> {
@@ -17,7 +16,7 @@ impl<'g> Grammar<'g> {
         ensures { (r : ℕ) (n : Option ℕ) → some_number alternative ≡ (grammar_of self.now).choose r n → Some (reverse result.now) ≡ (grammar_of self.now).symbols r alternative }
     {
         let found = self.alternatives[alternative as usize - 1];
-        part_of(self.symbols, found.start, found.end)
+        &self.symbols[found.start as usize..found.end as usize]
     }
 
     /// The number of the alternative of a rule that may be nothing, or 0.
