@@ -1,5 +1,6 @@
 -- The definitions of the crate.
 pub mod Numbers
+pub mod Packing
 pub mod Grammar
 pub mod Right
 pub mod Moving

@@ -5,6 +5,7 @@ pub mod choices;
 pub mod grammar;
 pub mod laws;
 mod lookup;
+pub mod packed_event;
 pub mod parts;
 pub mod read_err;
 pub mod reader;

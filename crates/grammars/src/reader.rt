@@ -13,9 +13,10 @@ ghost use Rattle.grammars.specs.Numbers.{some_number};
 
 use crate::choices::Choices;
 use crate::grammar::Grammar;
+use crate::packed_event::PackedEvent;
 use crate::parts::number_at;
 use crate::read_err::ReadErr;
-use crate::symbols::{Event, Symbol, Token};
+use crate::symbols::{Symbol, Token};
 use std::alloc::{AllocError, Global};
 
 /// A reader between two tokens. Its events may be emptied there.
@@ -28,7 +29,7 @@ pub struct Reader<'g> {
     /// The rule that stands behind all of these.
     pub last: Option<u16>,
     /// What was read.
-    pub events: Vec<Event>,
+    pub events: Vec<PackedEvent>,
 }
 
 /// What is ahead of a reader: a token, or the end of the tokens; and the choices before it.
@@ -132,7 +133,8 @@ impl<'g> Reader<'g> {
     {
         match ahead {
             Some(token) if token.class == class => {
-                self.events.push(Event::Held(token.at))?;
+                let event = PackedEvent::held(token.at).ok_or(AllocError)?;
+                self.events.push(event)?;
                 Ok(true)
             }
             _ => Ok(false),
@@ -157,7 +159,7 @@ impl<'g> Reader<'g> {
                     if alternative == 0 {
                         return Ok(false);
                     }
-                    self.events.push(Event::Took(alternative))?;
+                    self.events.push(PackedEvent::took(alternative))?;
                     let symbols = grammar.symbols_of(alternative);
                     put(&mut next, &mut self.stack, symbols)?;
                 }
@@ -220,7 +222,7 @@ pub fn read(
     choices: &Choices,
     rule: u16,
     tokens: &[Token],
-) -> Result<Vec<Event>, ReadErr>
+) -> Result<Vec<PackedEvent>, ReadErr>
     requires choices { AreChoices grammar.now choices.now }
     ensures found { IfOk result (λ es. Writes (grammar_of grammar.now) (S.Rule rule ∷ []) es.items tokens.now) }
     ensures refused { (place : ℕ) → result ≡ Err (ReadErr.Refused place) → IsRefusedAt (grammar_of grammar.now) rule tokens.now place }

@@ -2,6 +2,7 @@
 
 use crate::choices::Choices;
 use crate::grammar::Grammar;
+use crate::packed_event::PackedEvent;
 use crate::read_err::ReadErr;
 use crate::reader::{Reader, read};
 use crate::rows::{Alternative, Row};
@@ -129,7 +130,7 @@ fn lists() -> Grammar<'static> {
 }
 
 /// What tokens of those classes are read as, as a list.
-fn events_of(alloc: Global, classes: &[u16]) -> Result<Vec<Event>, ReadErr> {
+fn events_of(alloc: Global, classes: &[u16]) -> Result<Vec<PackedEvent>, ReadErr> {
     let grammar = lists();
     let choices = Choices::new(alloc, &grammar)?;
     let mut tokens = Vec::new(alloc);
@@ -150,10 +151,10 @@ fn code(event: Event) -> u32 {
     }
 }
 
-fn codes(alloc: Global, events: &[Event]) -> Result<Vec<u32>, AllocError> {
+fn codes(alloc: Global, events: &[PackedEvent]) -> Result<Vec<u32>, AllocError> {
     let mut codes = Vec::new(alloc);
     for &event in events {
-        codes.push(code(event))?;
+        codes.push(code(event.event()))?;
     }
     Ok(codes)
 }

@@ -12,8 +12,9 @@ ghost use Rattle.ll_events.specs.declared.event_err.EventErr.TheVariants as E;
 use crate::event_err::EventErr;
 use grammars::choices::Choices;
 use grammars::grammar::Grammar;
+use grammars::packed_event::PackedEvent;
 use grammars::reader::Reader;
-use grammars::symbols::{Event, Token};
+use grammars::symbols::Token;
 use ll_classes::classes::class_of;
 use ll_classes::words::Words;
 use ll_tokens::token_err::TokenErr;
@@ -25,7 +26,7 @@ use std::alloc::Global;
 pub struct Reading {
     pub tokens: Vec<ll_tokens::tokens::Token>,
     /// The tokens in them are named by their numbers.
-    pub events: Vec<Event>,
+    pub events: Vec<PackedEvent>,
 }
 
 /// The tokens of a text.
@@ -72,7 +73,7 @@ fn events_of(
     rule: u16,
     bytes: &[u8],
     tokens: &[ll_tokens::tokens::Token],
-) -> Result<Vec<Event>, EventErr>
+) -> Result<Vec<PackedEvent>, EventErr>
     requires choices { AreChoices grammar.now choices.now }
     requires are { tokens_of bytes.now ≡ Some tokens.now }
     ensures found { IfOk result (λ es. Writes (grammar_of grammar.now) (S.Rule rule ∷ []) es.items (seen words.now bytes.now 0 tokens.now)) }

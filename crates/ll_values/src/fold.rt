@@ -16,6 +16,7 @@ use crate::store::Store;
 use crate::typed::put_typed;
 use crate::value::Value;
 use crate::value_err::ValueErr;
+use grammars::packed_event::PackedEvent;
 use grammars::symbols::Event;
 use ll_lines::names::Name;
 use ll_tokens::tokens::Token;
@@ -132,7 +133,7 @@ pub fn fold(
     m: &mut LLVMModule,
     store: &mut Store,
     source: &Source<'_>,
-    events: &[Event],
+    events: &[PackedEvent],
 ) -> Result<Vec<Value>, ValueErr>
     requires store { IsStoreIn m.old store.old }
     ensures standing { IfOk result (λ vs. IsStanding m.new store.new (reverse vs.items)) }
@@ -145,14 +146,8 @@ pub fn fold(
     // The count is last in a round, so that what an event does goes on there, without a look back at its result.
     let mut done = 0;
     while done < count {
-        match step(
-            alloc,
-            m,
-            store,
-            source,
-            &mut stack,
-            events[count - done - 1],
-        ) {
+        let left = count - done - 1;
+        match step(alloc, m, store, source, &mut stack, events[left].event()) {
             Ok(()) => (),
             Err(e) => return Err(e),
         }

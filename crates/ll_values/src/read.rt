@@ -20,7 +20,7 @@ use crate::form::KINDS;
 use crate::store::Store;
 use crate::value::Value;
 use crate::value_err::ValueErr;
-use grammars::symbols::Event;
+use grammars::packed_event::PackedEvent;
 use ll_lines::lines::File;
 use ll_lines::names::Name;
 use ll_tokens::tokens::Token;
@@ -45,7 +45,7 @@ fn values_of(
     store: &mut Store,
     bytes: &[u8],
     tokens: Vec<Token>,
-    events: Vec<Event>,
+    events: Vec<PackedEvent>,
 ) -> Result<Vec<Value>, ValueErr>
     requires store { IsStoreIn m.old store.old }
     ensures standing { IfOk result (λ vs. IsStanding m.new store.new (reverse vs.items)) }
@@ -67,7 +67,7 @@ pub fn read_file(
     m: &mut LLVMModule,
     bytes: &[u8],
     tokens: Vec<Token>,
-    events: Vec<Event>,
+    events: Vec<PackedEvent>,
 ) -> Result<File, ValueErr>
     ensures file { IfOk result (λ f. fold KINDS bytes.now tokens.items events.items ≡ Some (FileV (file_view bytes.now (trees_of m.new) f) ∷ [])) }
     ensures there { IfOk result (IsFileIn m.new) }

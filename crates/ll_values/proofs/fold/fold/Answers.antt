@@ -3,10 +3,9 @@ use Rattle.std.proofs.Common.{◌≡◌, ◌<◌, ◌-◌, ◌+◌, [], List, �
 use Rattle.std.proofs.lemmas.List.{drop_all, take-append-drop}
 use Rattle.std.proofs.lemmas.List.Elements.{All-nil}
 use Rattle.grammars.specs.declared.symbols.Event.{Event}
-use Rattle.grammars.specs.declared.symbols.Event.TheVariants.{Took}
 use Rattle.ll_values.specs.declared.value_err.ValueErr.{ValueErr}
 use Rattle.ll_values.specs.declared.value_err.ValueErr.TheVariants.{NotYet}
-use Rattle.ll_values.specs.Stack.{over, fold_of}
+use Rattle.ll_values.specs.Stack.{over, step_of, fold_of}
 use Rattle.ll_values.proofs.GrowLaws.{none_interned, interned_twice}
 use Rattle.ll_values.proofs.StackLaws.{no_events, none_behind, before}
 use Rattle.ll_values.proofs.fold.fold.Goals as goal
@@ -34,7 +33,7 @@ loop-done-preserved c =
       omega arith,
       c.in-Ok.ensures.standing,
       interned_twice c.args.m.now c.loop-done.m c.step.new.m c.loop-done.invariant.2 c.in-Ok.ensures.interns,
-      subst (λ (n : ℕ). fold_of c.args.source.now (drop n c.args.events.now) ≡ Some (over c.args.source.now c.step.new.m c.step.new.store c.step.new.stack)) here (before c.args.source.now c.args.events.now i (Took 0) _ inside behind ∙ c.in-Ok.ensures.done),
+      subst (λ (n : ℕ). fold_of c.args.source.now (drop n c.args.events.now) ≡ Some (over c.args.source.now c.step.new.m c.step.new.store c.step.new.stack)) here (before c.args.source.now c.args.events.now i c.index-events-left.result _ inside behind ∙ subst (λ (e : Event). step_of c.args.source.now e (over c.args.source.now c.loop-done.m c.loop-done.store c.loop-done.stack) ≡ Some (over c.args.source.now c.step.new.m c.step.new.store c.step.new.stack)) (c.event.ensures ∙ c.index-events-left.is) c.in-Ok.ensures.done),
     )
 
 pub returns-in-Err-clause-not_yet : goal.returns-in-Err-clause-not_yet
@@ -44,5 +43,5 @@ returns-in-Err-clause-not_yet c = λ e.
     let next : i + 1 ≡ length c.args.events.now - c.loop-done.done = omega arith in
     let behind = subst (λ (n : ℕ). fold_of c.args.source.now (drop n c.args.events.now) ≡ Some (over c.args.source.now c.loop-done.m c.loop-done.store c.loop-done.stack)) (sym next) c.loop-done.invariant.3 in
     let is : fails c.in-Err.e ≡ fails NotYet = cc in
-    let here = before c.args.source.now c.args.events.now i (Took 0) _ inside behind ∙ c.in-Err.ensures.not_yet is in
+    let here = before c.args.source.now c.args.events.now i c.index-events-left.result _ inside behind ∙ subst (λ (e : Event). step_of c.args.source.now e (over c.args.source.now c.loop-done.m c.loop-done.store c.loop-done.stack) ≡ None) (c.event.ensures ∙ c.index-events-left.is) (c.in-Err.ensures.not_yet is) in
     subst (λ (es : List Event). fold_of c.args.source.now es ≡ None) (take-append-drop i c.args.events.now) (none_behind c.args.source.now (take i c.args.events.now) (drop i c.args.events.now) here)

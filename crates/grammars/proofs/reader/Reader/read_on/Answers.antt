@@ -1,5 +1,6 @@
 -- Each round takes a symbol from the front.
-use Rattle.std.proofs.Common.{rules, ◌≡◌, ◌∷◌, ◌++◌, [], refl, reverse}
+use Rattle.std.proofs.Common.{rules, ◌≡◌, ◌∷◌, ◌++◌, [], refl, reverse, ap, ◌∙◌}
+use Rattle.grammars.specs.declared.symbols.Event.{Event}
 use Rattle.grammars.specs.declared.symbols.Event.TheVariants.{Took}
 use Rattle.grammars.specs.declared.reader.Reader.{Reader}
 use Rattle.grammars.specs.Reading.{stack_of, class_ahead, with_next}
@@ -46,7 +47,7 @@ loop-top-preserved c =
     let n = class_ahead c.args.ahead.token in
     let chosen = c.choose-alternative.ensures in
     let stacked : stack_of last ≡ reverse c.symbols_of-symbols.result.now ++ stack_of new = c.in_ok-put-in-Rule.ensures.stack c.pop.new.last in
-    let more : last.events.items ≡ now.events.items ++ Took c.choose-alternative.result ∷ [] = c.in_ok-push-in-Rule.ensures.items in
+    let more : last.events.items ≡ now.events.items ++ Took c.choose-alternative.result ∷ [] = c.in_ok-push-in-Rule.ensures.items ∙ ap (λ (e : Event). now.events.items ++ e ∷ []) c.took.ensures in
     goes_on c.args.grammar.now n c.args.self.now now new c.loop-top.invariant last c.in-Rule.rule c.choose-alternative.result c.symbols_of-symbols.result.now (rw (← c.in-Rule.is) c.in-Some.ensures.some) chosen (c.symbols_of-symbols.ensures c.in-Rule.rule n chosen) stacked more
 
 pub returns-clause-reads : goal.returns-clause-reads
