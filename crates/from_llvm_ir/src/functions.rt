@@ -1,6 +1,7 @@
 //! A function with its body.
 
-ghost use Rattle.std.specs.Prelude.{◌≡◌, ◌≤◌, ◌+◌, ℕ, List, [], IfErr, IfOk, OnOk, Some, length, slice_get};
+ghost use Rattle.std.specs.Prelude.{◌≡◌, ◌<◌, ◌≤◌, ◌+◌, ℕ, List, [], IfErr, IfOk, OnOk, Some, length, slice_get};
+ghost use Rattle.block_order.specs.Graph.{IsGraph};
 ghost use Rattle.dialect_core.specs.declared.ops.OpKind.TheVariants as kinds;
 ghost use Rattle.dialect_core.specs.ContextData.{kind_at};
 ghost use Rattle.from_llvm_ir.specs.declared.values.Values.{Values};
@@ -22,6 +23,7 @@ use crate::building::{add_func, add_func_block};
 use crate::constants::hoist_constants;
 use crate::conversion_err::ConversionErr;
 use crate::entries::entries_of;
+use crate::far::has_few_far_uses;
 use crate::matching::FunctionBlocks;
 use crate::operations::{given, import_blocks};
 use crate::order::{graph, place_of, places_of, text_places};
@@ -31,6 +33,7 @@ use crate::uses::check_uses;
 use crate::values::{Params, Values};
 use block_order::dominance::Dominance;
 use block_order::ordering::rpo;
+use block_order::succs::Succs;
 use dialect_core::context::Context;
 use dialect_core::numbers::{BlockRef, FuncOp};
 use dialect_core::steps::Steps;
@@ -198,6 +201,24 @@ fn declare<L: Ledger>(
     add_func(ctx, body, name, ty, steps)
 }
 
+/// The graph of a function, made ready for questions about dominance: by a tree where they are many.
+fn dominance_of(
+    alloc: Global,
+    source: &LLVMModule,
+    f: LLVMFunction,
+    succs: Succs,
+) -> Result<Dominance, AllocError>
+    requires within { f.0 < length source.now.functions }
+    requires graph { IsGraph succs }
+    ensures { IfOk result (λ d. d ≡ succs) }
+{
+    if has_few_far_uses(source, f) {
+        Dominance::walking(alloc, succs)
+    } else {
+        Dominance::new(alloc, succs)
+    }
+}
+
 /// The places of a function's blocks in depth-first order, which one block has without a walk. Refuses a function that
 /// uses the result of an instruction where it is not defined: `UndefinedValue`.
 fn walked_order(
@@ -218,7 +239,7 @@ fn walked_order(
     }
     let succs = graph(alloc, source, f, &places)?;
     let order = rpo(alloc, &succs)?;
-    let dominance = Dominance::new(alloc, succs)?;
+    let dominance = dominance_of(alloc, source, f, succs)?;
     check_uses(alloc, source, f, places, Some(dominance))?;
     Ok(order)
 }

@@ -6,6 +6,7 @@ mod building;
 mod constants;
 pub mod conversion_err;
 mod entries;
+mod far;
 mod functions;
 pub mod importing;
 pub mod laws;

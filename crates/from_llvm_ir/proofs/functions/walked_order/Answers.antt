@@ -33,11 +33,14 @@ returns-then-blocks-eq1-clause-dominated c = λ g source.
 pub graph-requires : goal.graph-requires
 graph-requires c = let s = c.requires in (s.0, s.1, c.in_ok-places.ensures s.0 s.1)
 
+pub dominance_of-requires-clause-within : goal.dominance_of-requires-clause-within
+dominance_of-requires-clause-within c = function_within c.args.source.now c.args.f c.requires.0 c.requires.1
+
 pub rpo-requires : goal.rpo-requires
 rpo-requires c = let s = c.requires in subst IsGraph (sym (c.in_ok-succs.ensures s.0 s.1 (c.in_ok-places.ensures s.0 s.1))) (is_graph s.0 s.1.form)
 
-pub new-requires : goal.new-requires
-new-requires c = let s = c.requires in subst IsGraph (sym (c.in_ok-succs.ensures s.0 s.1 (c.in_ok-places.ensures s.0 s.1))) (is_graph s.0 s.1.form)
+pub dominance_of-requires-clause-graph : goal.dominance_of-requires-clause-graph
+dominance_of-requires-clause-graph c = let s = c.requires in subst IsGraph (sym (c.in_ok-succs.ensures s.0 s.1 (c.in_ok-places.ensures s.0 s.1))) (is_graph s.0 s.1.form)
 
 pub check_uses-requires-2 : goal.check_uses-requires-2
 check_uses-requires-2 c = let s = c.requires in let places = c.in_ok-places.ensures s.0 s.1 in (s.0, s.1, places, c.in_ok-dominance.ensures ∙ c.in_ok-succs.ensures s.0 s.1 places)
