@@ -4,11 +4,12 @@ ghost use Rattle.std.specs.Prelude.{◌≡◌, ◌+◌, ◌<◌, ◌^◌, ◌↔
 
 use std::alloc::{AllocError, Global};
 use std::marker::Model;
+use support::short_list::ShortList;
 
-/// The nodes that a node leads to.
+/// The nodes that a node leads to: most lead to one or two.
 #[derive(Drop)]
 struct Row {
-    targets: Vec<u32>,
+    targets: ShortList<u32>,
 }
 
 impl Model for Row {
@@ -16,14 +17,14 @@ impl Model for Row {
 
     ghost Value = { List ℕ };
 
-    ghost view = { λ r. r.targets.items };
+    ghost view = { λ r. r.targets };
 }
 
 impl Row {
     fn new(alloc: Global, targets: &[u32]) -> Result<Row, AllocError>
         ensures { IfOk result (λ r. r ≡ targets.now) }
     {
-        let targets = Vec::from_slice(alloc, targets)?;
+        let targets = ShortList::from_slice(alloc, targets)?;
         Ok(Row { targets })
     }
 

@@ -1,5 +1,5 @@
 -- Lists item by item: matched lists, and first uses.
-use Rattle.std.proofs.Common.{ℕ, ◌≡◌, ◌+◌, inl, inr, refl, sym, subst, List, [], ◌∷◌, ◌++◌, Some, length, take, map, slice_get, arith}
+use Rattle.std.proofs.Common.{ℕ, ◌≡◌, ◌+◌, inl, inr, refl, sym, subst, List, [], ◌∷◌, ◌++◌, Some, length, take, map, slice_get, get_or, arith}
 use Rattle.std.proofs.lemmas.Option.{slice_get_within}
 use Rattle.dialect_types.proofs.TreeLemmas.{push_cases}
 use Rattle.meaning.proofs.MatchedLaws.{matched_push}
@@ -29,6 +29,18 @@ other_there xs [] i x n h = absurd (omega (arith, n, slice_get_within xs i x h))
 other_there [] (y ∷ ys) i x n h = absurd (omega (arith, n))
 other_there (u ∷ xs) (y ∷ ys) ℕ.zero x n h = (y, refl)
 other_there (u ∷ xs) (y ∷ ys) (ℕ.suc i) x n h = other_there xs ys i x (omega (arith, n)) h
+
+-- two lists of one item, or of two
+pub matched_one : {X Y : Type 0} (P : X → Y → Type 0) (xs : List X) (d : X) (ys : List Y) (y : Y) → length xs ≡ 1 → ys ≡ y ∷ [] → P (get_or xs 0 d) y → Matched P xs ys
+matched_one P [] d ys y one is p = absurd (omega (arith, one))
+matched_one P (x ∷ []) d ys y one is p = rw is (p, tt)
+matched_one P (x ∷ w ∷ xs) d ys y one is p = absurd (omega (arith, one))
+
+pub matched_two : {X Y : Type 0} (P : X → Y → Type 0) (xs : List X) (d e : X) (ys : List Y) (y z : Y) → length xs ≡ 2 → ys ≡ y ∷ z ∷ [] → P (get_or xs 0 d) y → P (get_or xs 1 e) z → Matched P xs ys
+matched_two P [] d e ys y z two is p q = absurd (omega (arith, two))
+matched_two P (x ∷ []) d e ys y z two is p q = absurd (omega (arith, two))
+matched_two P (x ∷ w ∷ []) d e ys y z two is p q = rw is (p, (q, tt))
+matched_two P (x ∷ w ∷ v ∷ xs) d e ys y z two is p q = absurd (omega (arith, two))
 
 -- ---- first uses
 

@@ -161,6 +161,7 @@ pub fn entries_of(
 }
 
 /// What the phis of a block take on an edge, in order. They stand at its front: the loop ends at the first instruction that is no phi.
+#[inline(always)]
 pub fn edge_values(
     alloc: Global,
     source: &LLVMModule,

@@ -110,6 +110,7 @@ pub fn undefined_value(alloc: Global, source: &LLVMModule, i: LLVMInstRef) -> Co
 }
 
 /// The value that stands for one of the source.
+#[inline(always)]
 fn known_value(
     alloc: Global,
     source: &LLVMModule,
@@ -129,8 +130,9 @@ fn known_value(
     }
 }
 
-/// The values that stand for those of the source.
-pub fn known_values(
+/// The values that stand for those of the source, found one by one.
+#[inline(never)]
+fn known_each(
     alloc: Global,
     source: &LLVMModule,
     values: &Values,
@@ -145,6 +147,30 @@ pub fn known_values(
         known.push(alloc, known_value(alloc, source, values, *value)?)?;
     }
     Ok(known)
+}
+
+/// The values that stand for those of the source: most instructions use one or two.
+#[inline(always)]
+pub fn known_values(
+    alloc: Global,
+    source: &LLVMModule,
+    values: &Values,
+    used: &[LLVMValue],
+) -> Result<ShortList<Value>, ConversionErr>
+    requires { All (IsSettled source.now values.now) used.now }
+    ensures ok { IfOk result (λ ws. AreNoted values.now used.now ws) }
+    ensures err { IfErr result (λ e. IsForward source.now values.now (map (operand_of (trees_of source.now)) used.now) e) }
+{
+    match used {
+        [] => Ok(ShortList::zero()),
+        [value] => Ok(ShortList::one(known_value(alloc, source, values, *value)?)),
+        [first, second] => {
+            let first = known_value(alloc, source, values, *first)?;
+            let second = known_value(alloc, source, values, *second)?;
+            Ok(ShortList::two(first, second))
+        }
+        _ => known_each(alloc, source, values, used),
+    }
 }
 
 /// The values that stand for the operands of an instruction that is no phi, in order.
