@@ -1,6 +1,6 @@
 //! The dialect text of types and constants.
 
-ghost use Rattle.std.specs.Prelude.{◌≡◌, ◌<◌, ◌≤◌, ◌+◌, ◌%◌, ◌++◌, codes, length, OnErr, OnOk};
+ghost use Rattle.std.specs.Prelude.{◌≡◌, ◌<◌, ◌≤◌, ◌+◌, ◌%◌, ◌++◌, codes, length, IfSome, OnErr, OnOk};
 ghost use Rattle.std.specs.Fmt.{decimal};
 ghost use Rattle.dialect_types.specs.Trees.{type_at, type_trees, attr_tree, HasTypesBelow, IntegerAttr};
 ghost use Rattle.dialect_types.specs.Text.{Keeps, comma_before, inner_type_text, type_text, attr_text, truth_text};
@@ -122,6 +122,35 @@ fn print_func_end(variadic: bool, out: &mut Vec<u8>) -> Result<(), AllocError>
     out.extend_from_slice(b">")
 }
 
+/// The text of an integer type of a width that most programs use.
+#[tactic(auto, using(crate::proofs::DigitLemmas::i1_text, crate::proofs::DigitLemmas::i8_text, crate::proofs::DigitLemmas::i32_text, crate::proofs::DigitLemmas::i64_text))]
+#[inline(always)]
+fn common_integer(width: u32) -> Option<&'static [u8]>
+    ensures { IfSome result (λ text. text.now ≡ codes "builtin.integer i" ++ decimal width) }
+{
+    match width {
+        1 => Some(b"builtin.integer i1"),
+        8 => Some(b"builtin.integer i8"),
+        32 => Some(b"builtin.integer i32"),
+        64 => Some(b"builtin.integer i64"),
+        _ => None,
+    }
+}
+
+/// Appends the text of an integer type.
+fn append_integer_type(width: u32, out: &mut Vec<u8>) -> Result<(), AllocError>
+    ensures ok { OnOk result (out.new.items ≡ out.old.items ++ (codes "builtin.integer i" ++ decimal width)) }
+    ensures kept { Keeps out.old.items out.new.items }
+{
+    match common_integer(width) {
+        Some(text) => out.extend_from_slice(text),
+        None => {
+            out.extend_from_slice(b"builtin.integer i")?;
+            print_number(u64::from(width), out)
+        }
+    }
+}
+
 impl TypeStore {
     /// Appends the text of a type. Want of memory leaves `out` as it was.
     pub fn print_type(&self, ty: TypeHandle, out: &mut Vec<u8>) -> Result<(), AllocError>
@@ -142,10 +171,7 @@ impl TypeStore {
     {
         match self.kind(ty) {
             TypeKind::Void => out.extend_from_slice(b"llvm.void"),
-            TypeKind::Integer(width) => {
-                out.extend_from_slice(b"builtin.integer i")?;
-                print_number(u64::from(*width), out)
-            }
+            TypeKind::Integer(width) => append_integer_type(*width, out),
             TypeKind::Func {
                 result,
                 params,
