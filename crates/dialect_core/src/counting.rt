@@ -15,6 +15,7 @@ use dialect_types::types::TypeHandle;
 use std::alloc::{AllocError, Global};
 
 /// Gives a value the next number, where it has none, and answers the number after that.
+#[inline(always)]
 fn number_value(numbers: &mut Numbering, value: Value, next: u64) -> Result<u64, AllocError>
     ensures numbered { OnOk result (Numbered numbers.old numbers.new ((value, next) ∷ []) []) }
     ensures next { IfOk result (λ n. n ≡ next + 1) }

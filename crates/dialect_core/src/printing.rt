@@ -21,6 +21,7 @@ use kinds::op::{Immediates, LLVMIntPredicate, OverflowFlags};
 use std::alloc::AllocError;
 
 /// Appends a number, or `?` where there is none.
+#[inline(always)]
 fn print_known(number: Option<u64>, out: &mut Vec<u8>) -> Result<(), AllocError>
     ensures ok { OnOk result (out.new.items ≡ out.old.items ++ number_text number) }
     ensures kept { Keeps out.old.items out.new.items }
@@ -32,6 +33,7 @@ fn print_known(number: Option<u64>, out: &mut Vec<u8>) -> Result<(), AllocError>
 }
 
 /// Appends the name of a value.
+#[inline(always)]
 pub fn print_value(numbers: &Numbering, value: Value, out: &mut Vec<u8>) -> Result<(), AllocError>
     ensures ok { OnOk result (out.new.items ≡ out.old.items ++ value_text (value_at numbers.now) (block_at numbers.now) value) }
     ensures kept { Keeps out.old.items out.new.items }
@@ -54,6 +56,7 @@ pub fn print_block_name(
 }
 
 /// Appends `:name`, where there is a name.
+#[inline(always)]
 pub fn print_colon_name(name: Option<&Identifier>, out: &mut Vec<u8>) -> Result<(), AllocError>
     ensures ok { OnOk result (out.new.items ≡ out.old.items ++ colon_text (option_copied name.entry)) }
     ensures kept { Keeps out.old.items out.new.items }
@@ -68,6 +71,7 @@ pub fn print_colon_name(name: Option<&Identifier>, out: &mut Vec<u8>) -> Result<
 }
 
 /// Appends values in parentheses.
+#[inline(always)]
 fn print_values(numbers: &Numbering, values: &[Value], out: &mut Vec<u8>) -> Result<(), AllocError>
     ensures ok { OnOk result (out.new.items ≡ out.old.items ++ values_text (value_at numbers.now) (block_at numbers.now) values.now) }
     ensures kept { Keeps out.old.items out.new.items }
