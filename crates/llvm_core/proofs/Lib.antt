@@ -21,6 +21,7 @@ pub mod PhiLemmas
 pub mod FirstLemmas
 pub mod CheckLemmas
 pub mod ApartLemmas
+pub mod RowLemmas
 pub mod RuleLaws
 pub mod GivenLemmas
 pub mod FormNames

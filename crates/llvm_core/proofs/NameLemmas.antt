@@ -1,11 +1,11 @@
 -- Sets of names: what inserting one says of their list.
-use Rattle.std.proofs.Common.{◌≡◌, ◌<◌, ◌≤◌, ◌+◌, ℕ, zero, suc, Bool, true, false, not, List, [], ◌∷◌, ◌++◌, Some, length, slice_get, take, get_or, ap, sym, ◌∙◌, refl, arith, if◌then◌else◌, inl, inr, subst}
+use Rattle.std.proofs.Common.{◌≡◌, ◌≢◌, ◌<◌, ◌≤◌, ◌+◌, ℕ, zero, suc, Bool, true, false, not, List, [], ◌∷◌, ◌++◌, Some, length, slice_get, take, get_or, ap, sym, ◌∙◌, refl, arith, if◌then◌else◌, inl, inr, subst}
 use Rattle.std.specs.List.{list_any}
 use mathlib.Core.List.{map-append}
 use Rattle.std.specs.Borrow.{Bor}
 use Rattle.std.specs.Str.{bytes_eq}
 use Rattle.std.proofs.lemmas.List.{take_more, take_all, get_or-map}
-use Rattle.std.proofs.lemmas.Option.{slice_get_within, slice_get-get_or}
+use Rattle.std.proofs.lemmas.Option.{slice_get_within, slice_get-get_or, same_Some}
 use Rattle.llvm_core.specs.Keys.{same_text}
 use Rattle.llvm_core.specs.Names.{texts, Stands, HasTwice, IsInserted}
 use Rattle.support.proofs.ListLaws.{slice_get-push_cases, slice_get-take}
@@ -73,7 +73,7 @@ none_twice (i, j, n, lt, at, is) = cc
 text_at : (names : List (Bor (List ℕ))) (i : ℕ) (d : Bor (List ℕ)) → i < length names → get_or (texts names) i d.now ≡ (get_or names i d).now
 text_at names i d lt = get_or-map (λ (n : Bor (List ℕ)). n.now) names i d d.now lt
 
-length-texts : (names : List (Bor (List ℕ))) → length (texts names) ≡ length names
+pub length-texts : (names : List (Bor (List ℕ))) → length (texts names) ≡ length names
 length-texts [] = refl
 length-texts (n ∷ names) = ap suc (length-texts names)
 
@@ -91,3 +91,25 @@ text_next names seen i d lt e once new =
 
 pub all_texts : (names : List (Bor (List ℕ))) (i : ℕ) → length names ≤ i → take i (texts names) ≡ texts names
 all_texts names i past = take_all i (texts names) (subst (λ k. k ≤ i) (sym (length-texts names)) past)
+
+pub taken_texts : (i : ℕ) (names : List (Bor (List ℕ))) → texts (take i names) ≡ take i (texts names)
+taken_texts zero names = refl
+taken_texts (suc i) [] = refl
+taken_texts (suc i) (n ∷ names) = ap (λ (ns : List (List ℕ)). n.now ∷ ns) (taken_texts i names)
+
+-- a name that was read by its place is the one that is looked for, or another
+module _ (names : List (Bor (List ℕ))) (i : ℕ) (d : Bor (List ℕ)) (n : List ℕ) (lt : i < length names) where
+  here : slice_get (texts names) i ≡ Some (get_or names i d).now
+  here = slice_get-get_or (texts names) i d.now (within names i lt) ∙ ap Some (text_at names i d lt)
+
+  pub stands_here : bytes_eq (get_or names i d).now n ≡ true → Stands (texts names) n
+  stands_here same = (i, here ∙ ap Some ((same_text (get_or names i d).now n).0 same))
+
+  read_here : slice_get (texts names) i ≡ Some n → (get_or names i d).now ≡ n
+  read_here at = same_Some (get_or names i d).now n (sym here ∙ at)
+
+  pub unlike_here : bytes_eq (get_or names i d).now n ≡ false → ¬ (slice_get (texts names) i ≡ Some n)
+  unlike_here other at = absurd (let e = (same_text (get_or names i d).now n).1 (read_here at) in grind (arith, e, other))
+
+  pub unlike_length : length (get_or names i d).now ≢ length n → ¬ (slice_get (texts names) i ≡ Some n)
+  unlike_length other at = other (ap length (read_here at))

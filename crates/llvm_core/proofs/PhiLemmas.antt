@@ -1,5 +1,5 @@
 -- The phis of a block, and the entries of a phi.
-use Rattle.std.proofs.Common.{◌≡◌, ◌≢◌, ◌<◌, ◌≤◌, ◌+◌, ℕ, Bool, true, false, nat_eq, List, [], ◌∷◌, Option, None, Some, length, slice_get, sym, ap, ◌∙◌, refl, arith, subst, get_or, inl, inr, ◌⊎◌}
+use Rattle.std.proofs.Common.{◌≡◌, ◌≢◌, ◌<◌, ◌≤◌, ◌+◌, ℕ, suc, Bool, true, false, nat_eq, List, [], ◌∷◌, Option, None, Some, length, slice_get, sym, ap, ◌∙◌, refl, arith, subst, get_or, inl, inr, ◌⊎◌}
 use Rattle.std.proofs.lemmas.Bool.{cases_eq, cases_order, eqb-true}
 use Rattle.std.proofs.lemmas.Option.{slice_get_within, get_or_from_slice_get, same_Some}
 use Rattle.std.specs.Option.{option_map, option_map_or}
@@ -146,6 +146,16 @@ phi_fits m b type entries from counts some once fits misfits = elim misfits [
 
 pub phi_misfits : (m : Module) (b : ℕ) (type : _) (entries : List PhiEntry) (from : List ℕ) → ((p : ℕ) → count_of p from ≡ edge_count m p b) → ¬ ((p : ℕ) → count_of p (sources entries) ≡ count_of p from) → MisfitsEdges m b (I.Phi type entries)
 phi_misfits m b type entries from counts wrong = inl (λ fits. wrong (λ p. fits p ∙ sym (counts p)))
+
+-- entries that are each for the block at their place
+pub sources_are : (es : List PhiEntry) (from : List ℕ) → length es ≡ length from → ((k : ℕ) (e : PhiEntry) → slice_get es k ≡ Some e → slice_get from k ≡ Some e.block.0) → sources es ≡ from
+sources_are [] [] n at = refl
+sources_are [] (p ∷ from) n at = absurd (omega (arith, n))
+sources_are (e ∷ es) [] n at = absurd (omega (arith, n))
+sources_are (e ∷ es) (p ∷ from) n at =
+    let here : p ≡ e.block.0 = same_Some p e.block.0 (at 0 e refl) in
+    let rest = sources_are es from (omega (arith, n)) (λ k x is. at (suc k) x is) in
+    ap (λ (q : ℕ). q ∷ sources es) (sym here) ∙ ap (λ (qs : List ℕ). p ∷ qs) rest
 
 -- the same, of the list that was read for the block
 pub counts_read : (m : Module) (lists : List (List ℕ)) (b : ℕ) (d from : List ℕ) → HasIncoming m lists → b < length m.blocks → from ≡ get_or lists b d → (p : ℕ) → count_of p from ≡ edge_count m p b

@@ -88,6 +88,10 @@ FitsEdges m b entries = (p : ℕ) → count_of p (sources entries) ≡ edge_coun
 abbrev pub HasTwoValues : List PhiEntry → Type 0
 HasTwoValues entries = (i : ℕ) × (j : ℕ) × (x : PhiEntry) × (y : PhiEntry) × (slice_get entries i ≡ Some x) × (slice_get entries j ≡ Some y) × (x.block ≡ y.block) × (x.value ≢ y.value)
 
+-- one of the entries is for the block of x, with another value
+abbrev pub HasRival : PhiEntry → List PhiEntry → Type 0
+HasRival x entries = (j : ℕ) × (y : PhiEntry) × (slice_get entries j ≡ Some y) × (x.block ≡ y.block) × (x.value ≢ y.value)
+
 -- no edge leads to b
 abbrev pub HasNoPreds : Module → ℕ → Type 0
 HasNoPreds m b = (p : ℕ) → edge_count m p b ≡ 0

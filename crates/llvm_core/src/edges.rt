@@ -12,32 +12,38 @@ use crate::module::LLVMModule;
 use crate::numbers::{LLVMBasicBlock, LLVMFunction, LLVMInstRef};
 use crate::phis::{fits_edges, has_two_values};
 use std::alloc::{AllocError, Global};
-use support::items::Items;
+use support::short_list::ShortList;
 
 /// An empty list for each block.
-fn no_edges(alloc: Global, blocks: u32) -> Result<Vec<Items<u32>>, AllocError>
+fn no_edges(alloc: Global, blocks: u32) -> Result<Vec<ShortList<u32>>, AllocError>
     ensures len { IfOk result (λ lists. length lists.items ≡ blocks) }
     ensures none { IfOk result (λ lists. (p b : ℕ) → tally lists.items p b ≡ 0) }
 {
-    let mut lists = Vec::new(alloc);
+    let mut lists = Vec::with_capacity(alloc, blocks as usize)?;
     for _block in 0..blocks {
-        lists.push(Items::new(alloc))?;
+        lists.push(ShortList::zero())?;
     }
     Ok(lists)
 }
 
 /// Notes an edge in the list of its target.
-fn push_edge(lists: &mut [Items<u32>], from: u32, to: LLVMBasicBlock) -> Result<(), AllocError>
+fn push_edge(
+    alloc: Global,
+    lists: &mut [ShortList<u32>],
+    from: u32,
+    to: LLVMBasicBlock,
+) -> Result<(), AllocError>
     requires { to.0 < length lists.old }
     ensures { OnOk result (Gains lists.old lists.new from (to.0 ∷ [])) }
 {
-    lists[to.0 as usize].push(from)?;
+    lists[to.0 as usize].push(alloc, from)?;
     Ok(())
 }
 
 /// Notes an edge to each of the targets.
 fn push_all(
-    lists: &mut [Items<u32>],
+    alloc: Global,
+    lists: &mut [ShortList<u32>],
     from: u32,
     targets: &[LLVMBasicBlock],
 ) -> Result<(), AllocError>
@@ -45,19 +51,24 @@ fn push_all(
     ensures { OnOk result (Gains lists.old lists.new from (map (λ b. b.0) targets.now)) }
 {
     for target in targets {
-        push_edge(lists, from, *target)?;
+        push_edge(alloc, lists, from, *target)?;
     }
     Ok(())
 }
 
 /// Notes the edges of an instruction of the block `from`.
-fn push_targets(lists: &mut [Items<u32>], from: u32, inst: &LLVMInst) -> Result<(), AllocError>
+fn push_targets(
+    alloc: Global,
+    lists: &mut [ShortList<u32>],
+    from: u32,
+    inst: &LLVMInst,
+) -> Result<(), AllocError>
     requires { All (λ b. b < length lists.old) (targets inst.now) }
     ensures { OnOk result (Gains lists.old lists.new from (targets inst.now)) }
 {
     match inst {
         LLVMInst::Phi(..) => Ok(()),
-        LLVMInst::Row(row) => push_all(lists, from, row.targets.as_slice()),
+        LLVMInst::Row(row) => push_all(alloc, lists, from, row.targets.as_slice()),
     }
 }
 
@@ -65,20 +76,20 @@ fn push_targets(lists: &mut [Items<u32>], from: u32, inst: &LLVMInst) -> Result<
 fn push_block_edges(
     m: &LLVMModule,
     b: LLVMBasicBlock,
-    lists: &mut [Items<u32>],
+    lists: &mut [ShortList<u32>],
 ) -> Result<(), AllocError>
     requires block { b.0 < length m.now.blocks }
     requires lists { length lists.old ≡ length m.now.blocks }
     ensures { OnOk result (Gains lists.old lists.new b.0 (targets_from m.now b.0)) }
 {
     for inst in m.instructions(b) {
-        push_targets(lists, b.0, m.inst(*inst))?;
+        push_targets(m.allocator(), lists, b.0, m.inst(*inst))?;
     }
     Ok(())
 }
 
 /// Notes the edges of all blocks.
-fn push_edges(m: &LLVMModule, lists: &mut [Items<u32>]) -> Result<(), AllocError>
+fn push_edges(m: &LLVMModule, lists: &mut [ShortList<u32>]) -> Result<(), AllocError>
     requires lists { length lists.old ≡ length m.now.blocks }
     requires none { (p b : ℕ) → tally lists.old p b ≡ 0 }
     ensures { OnOk result (HasIncoming m.now lists.new) }
@@ -90,7 +101,7 @@ fn push_edges(m: &LLVMModule, lists: &mut [Items<u32>]) -> Result<(), AllocError
 }
 
 /// For each block the numbers of the blocks that lead to it, once for each edge.
-fn incoming(m: &LLVMModule) -> Result<Vec<Items<u32>>, AllocError>
+fn incoming(m: &LLVMModule) -> Result<Vec<ShortList<u32>>, AllocError>
     ensures { IfOk result (λ lists. HasIncoming m.now lists.items) }
 {
     let mut lists = no_edges(m.allocator(), m.block_count())?;
@@ -99,7 +110,7 @@ fn incoming(m: &LLVMModule) -> Result<Vec<Items<u32>>, AllocError>
 }
 
 /// A phi has an entry for each edge, and one value for each block.
-fn check_phi(m: &LLVMModule, i: LLVMInstRef, lists: &[Items<u32>]) -> Result<(), CheckErr>
+fn check_phi(m: &LLVMModule, i: LLVMInstRef, lists: &[ShortList<u32>]) -> Result<(), CheckErr>
     requires inst { i.0 < length m.now.insts }
     requires edges { HasIncoming m.now lists.now }
     ensures ok { OnOk result (¬ Fails m.now (errors.PhiEntries (places.Inst i.0))) }
@@ -119,7 +130,7 @@ fn check_phi(m: &LLVMModule, i: LLVMInstRef, lists: &[Items<u32>]) -> Result<(),
     Ok(())
 }
 
-fn check_phis(m: &LLVMModule, lists: &[Items<u32>]) -> Result<(), CheckErr>
+fn check_phis(m: &LLVMModule, lists: &[ShortList<u32>]) -> Result<(), CheckErr>
     requires { HasIncoming m.now lists.now }
     ensures ok { OnOk result ((i : ℕ) → i < length m.now.insts → ¬ Fails m.now (errors.PhiEntries (places.Inst i))) }
     ensures err { IfErr result (λ e. MayAnswer m.now e) }
@@ -131,7 +142,7 @@ fn check_phis(m: &LLVMModule, lists: &[Items<u32>]) -> Result<(), CheckErr>
 }
 
 /// No edge goes to the first block of a function.
-fn check_first(m: &LLVMModule, f: LLVMFunction, lists: &[Items<u32>]) -> Result<(), CheckErr>
+fn check_first(m: &LLVMModule, f: LLVMFunction, lists: &[ShortList<u32>]) -> Result<(), CheckErr>
     requires function { f.0 < length m.now.functions }
     requires edges { HasIncoming m.now lists.now }
     ensures ok { OnOk result (¬ Fails m.now (errors.EntryHasPreds (places.Function f.0))) }
@@ -144,7 +155,7 @@ fn check_first(m: &LLVMModule, f: LLVMFunction, lists: &[Items<u32>]) -> Result<
     Ok(())
 }
 
-fn check_firsts(m: &LLVMModule, lists: &[Items<u32>]) -> Result<(), CheckErr>
+fn check_firsts(m: &LLVMModule, lists: &[ShortList<u32>]) -> Result<(), CheckErr>
     requires { HasIncoming m.now lists.now }
     ensures ok { OnOk result ((f : ℕ) → f < length m.now.functions → ¬ Fails m.now (errors.EntryHasPreds (places.Function f))) }
     ensures err { IfErr result (λ e. Fails m.now e) }
@@ -156,7 +167,7 @@ fn check_firsts(m: &LLVMModule, lists: &[Items<u32>]) -> Result<(), CheckErr>
 }
 
 /// The rules that rest on edges, given the lists of them.
-fn check_listed(m: &LLVMModule, lists: &[Items<u32>]) -> Result<(), CheckErr>
+fn check_listed(m: &LLVMModule, lists: &[ShortList<u32>]) -> Result<(), CheckErr>
     requires { HasIncoming m.now lists.now }
     ensures ok { OnOk result (IsCheckedEdges m.now) }
     ensures err { IfErr result (λ e. MayAnswer m.now e) }

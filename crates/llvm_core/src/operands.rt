@@ -3,10 +3,11 @@
 ghost use Rattle.std.specs.Prelude.{◌≡◌, ◌<◌, All, IfErr, IsTrue, OnOk, Some, false, length, slice_get};
 ghost use Rattle.std.specs.List.{list_any};
 ghost use Rattle.std.specs.Option.{option_map};
+ghost use Rattle.llvm_core.specs.declared.code.LLVMInst.TheVariants as insts;
 ghost use Rattle.llvm_core.specs.declared.check_err.Place.TheVariants as places;
 ghost use Rattle.llvm_core.specs.declared.check_err.CheckErr.TheVariants as errors;
 ghost use Rattle.kinds.specs.Table.{rule_of};
-ghost use Rattle.llvm_core.specs.Parts.{IsValue, IsBlock, IsEntry, HasParts, HasValues, operands, is_function};
+ghost use Rattle.llvm_core.specs.Parts.{IsValue, IsBlock, IsEntry, HasParts, HasValues, operands, is_function, row_fits};
 ghost use Rattle.llvm_core.specs.Checked.{is_void, MisfitsPhi, returns_void, return_type, home, is_outside, is_block_outside, is_entry_outside, reaches_outside, is_placeholder, HasOtherType, returns_other, misfits_return, is_counted, Fails, IsCheckedInst};
 
 use crate::check_err::{CheckErr, Place};
@@ -132,6 +133,17 @@ fn is_counted(m: &LLVMModule, f: LLVMFunction, row: &Row) -> bool
         && row.targets.as_slice().len() == rule.leads.target_count()
 }
 
+/// Whether the operands of the row of an instruction fit it. One with a result is known to fit: what does not fit has none.
+fn row_fits(m: &LLVMModule, i: LLVMInstRef, row: &Row) -> bool
+    requires inst { option_map (λ x. x.inst) (slice_get m.now.insts i.0) ≡ Some (insts.Row row.now) }
+    requires parts { HasParts m.now row.now }
+    ensures { result ≡ row_fits m.now row.now }
+{
+    // This tells the proof of the invariant.
+    let _ = m.functions();
+    !is_void(m.type_kind(m.type_of(LLVMValue::Inst(i)))) || m.row_fits(row)
+}
+
 /// An instruction has as many operands and targets as the table says, and they are of types that fit.
 fn check_operand_types(m: &LLVMModule, i: LLVMInstRef) -> Result<(), CheckErr>
     requires { i.0 < length m.now.insts }
@@ -146,7 +158,7 @@ fn check_operand_types(m: &LLVMModule, i: LLVMInstRef) -> Result<(), CheckErr>
             if !is_counted(m, f, row) {
                 return Err(CheckErr::OperandCount(Place::Inst(i.0)));
             }
-            m.row_fits(row) && !misfits_return(m, f, row)
+            row_fits(m, i, row) && !misfits_return(m, f, row)
         }
     };
     if !fits {

@@ -3,7 +3,7 @@
 ghost use Rattle.std.specs.Prelude.{◌≡◌, ◌<◌, ℕ, All, IfOk, IsTrue, None, false, length};
 ghost use Rattle.llvm_core.specs.Parts.{is_phi};
 ghost use Rattle.llvm_core.specs.Edges.{count_of};
-ghost use Rattle.llvm_core.specs.Checked.{HasLatePhi, HasTwoValues, sources};
+ghost use Rattle.llvm_core.specs.Checked.{HasLatePhi, HasRival, HasTwoValues, sources};
 ghost use Rattle.std.specs.List.Sorted.{IsPermutation, IsSorted};
 ghost use Rattle.std.specs.Ordering.{nat_cmp};
 ghost use Rattle.support.specs.NumberMaps.{value_at};
@@ -57,12 +57,45 @@ fn finds_two_values(
     Ok(false)
 }
 
+/// So many entries are compared each with each, without a map.
+const FEW: usize = 8;
+
+/// Whether one of the entries is for the block of `entry`, with another value.
+fn has_rival(entry: PhiEntry, entries: &[PhiEntry]) -> bool
+    ensures yes { IsTrue result → HasRival entry entries.now }
+    ensures no { result ≡ false → ¬ HasRival entry entries.now }
+{
+    for other in entries {
+        if other.block == entry.block && other.value != entry.value {
+            return true;
+        }
+    }
+    false
+}
+
+/// Whether two of a few entries for one block have two values.
+fn have_rivals(entries: &[PhiEntry]) -> bool
+    ensures yes { IsTrue result → HasTwoValues entries.now }
+    ensures no { result ≡ false → ¬ HasTwoValues entries.now }
+{
+    for entry in entries {
+        if has_rival(*entry, entries) {
+            return true;
+        }
+    }
+    false
+}
+
 /// Whether two entries for one block have two values.
 pub fn has_two_values(alloc: Global, entries: &[PhiEntry]) -> Result<bool, AllocError>
     ensures yes { IfOk result (λ two. IsTrue two → HasTwoValues entries.now) }
     ensures no { IfOk result (λ two. two ≡ false → ¬ HasTwoValues entries.now) }
 {
-    finds_two_values(entries, &mut NumberMap::new(alloc))
+    if entries.len() <= FEW {
+        Ok(have_rivals(entries))
+    } else {
+        finds_two_values(entries, &mut NumberMap::new(alloc))
+    }
 }
 
 /// The numbers of the blocks that entries are for, in ascending order.
@@ -78,12 +111,39 @@ fn sorted_sources(alloc: Global, entries: &[PhiEntry]) -> Result<Vec<u32>, Alloc
     Ok(from)
 }
 
-/// Whether each block stands among the entries as often as in `from`.
-pub fn fits_edges(alloc: Global, from: &[u32], entries: &[PhiEntry]) -> Result<bool, AllocError>
+/// Whether the entries are for just these blocks in this order, as they mostly are.
+fn are_for(entries: &[PhiEntry], from: &[u32]) -> bool
+    ensures { IsTrue result → sources entries.now ≡ from.now }
+{
+    if entries.len() != from.len() {
+        return false;
+    }
+    for place in 0..entries.len() {
+        if entries[place].block.0 != from[place] {
+            return false;
+        }
+    }
+    true
+}
+
+/// Whether each block stands among the entries as often as in `from`, by sorted lists.
+fn fits_sorted(alloc: Global, from: &[u32], entries: &[PhiEntry]) -> Result<bool, AllocError>
     ensures yes { IfOk result (λ fits. IsTrue fits → (p : ℕ) → count_of p (sources entries.now) ≡ count_of p from.now) }
     ensures no { IfOk result (λ fits. fits ≡ false → ¬ ((p : ℕ) → count_of p (sources entries.now) ≡ count_of p from.now)) }
 {
     let mut from = Vec::from_slice(alloc, from)?;
     from.sort()?;
     Ok(sorted_sources(alloc, entries)? == from)
+}
+
+/// Whether each block stands among the entries as often as in `from`.
+pub fn fits_edges(alloc: Global, from: &[u32], entries: &[PhiEntry]) -> Result<bool, AllocError>
+    ensures yes { IfOk result (λ fits. IsTrue fits → (p : ℕ) → count_of p (sources entries.now) ≡ count_of p from.now) }
+    ensures no { IfOk result (λ fits. fits ≡ false → ¬ ((p : ℕ) → count_of p (sources entries.now) ≡ count_of p from.now)) }
+{
+    if are_for(entries, from) {
+        Ok(true)
+    } else {
+        fits_sorted(alloc, from, entries)
+    }
 }

@@ -1,8 +1,8 @@
--- The goals of `phis::fits_edges` that the tactics leave.
+-- The goals of `phis::fits_sorted` that the tactics leave.
 use Rattle.llvm_core.specs.Keys.{same_text}
 use Rattle.llvm_core.specs.Checked.{sources}
 use Rattle.llvm_core.proofs.SortLemmas.{same_sorted, same_counts}
-use Rattle.llvm_core.proofs.phis.fits_edges.Goals as goal
+use Rattle.llvm_core.proofs.phis.fits_sorted.Goals as goal
 
 pub returns-clause-yes : goal.returns-clause-yes
 returns-clause-yes c = λ fits.
