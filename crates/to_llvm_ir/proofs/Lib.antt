@@ -15,6 +15,7 @@ pub mod GivenLaws
 pub mod GrowthLaws
 pub mod InstLaws
 pub mod RowLaws
+pub mod RunLaws
 pub mod KnownLaws
 pub mod LeadLaws
 pub mod LinkedLaws

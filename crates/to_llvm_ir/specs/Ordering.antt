@@ -11,7 +11,7 @@ use Rattle.dialect_core.specs.Data.{DialectOp, DialectBlock, Func, op_at, block_
 use Rattle.dialect_core.specs.Form.{uses_of}
 use Rattle.to_llvm_ir.specs.declared.order.Seen.{Seen}
 use Rattle.to_llvm_ir.specs.declared.graph.Places.{Places}
-use Rattle.dialect_core.specs.ValueMaps.{mapped}
+use Rattle.to_llvm_ir.specs.RunMaps.{looked_up}
 use Rattle.to_llvm_ir.specs.Order.{block_place}
 use Rattle.to_llvm_ir.specs.Exported.{result}
 use Rattle.to_llvm_ir.specs.States.{Has}
@@ -36,7 +36,7 @@ pub record AreBlocksOf (c : ContextData) (g : Func) (bs : List BlockRef) : Type 
 
 -- whether a value is noted
 abbrev pub is_seen : Seen → Value → Bool
-is_seen seen v = is_some (mapped seen.values v)
+is_seen seen v = is_some (looked_up seen.values v)
 
 -- the values of a list, and no others, are noted
 abbrev pub AreSeen : Seen → List Value → Type 0

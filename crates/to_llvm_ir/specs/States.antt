@@ -30,7 +30,7 @@ use Rattle.meaning.specs.Dialect.{type_of, option_type}
 use Rattle.to_llvm_ir.specs.declared.values.Values.{Values}
 use Rattle.to_llvm_ir.specs.declared.blocks.Blocks.{Blocks}
 use Rattle.to_llvm_ir.specs.declared.blocks.Target.{Target}
-use Rattle.dialect_core.specs.ValueMaps.{mapped}
+use Rattle.to_llvm_ir.specs.RunMaps.{looked_up}
 use Rattle.to_llvm_ir.specs.Order.{IsTaken, StandsBeforeIn, arranged, turn_of}
 use Rattle.to_llvm_ir.specs.Exported.{result, arguments_of, phi_values}
 use Rattle.to_llvm_ir.specs.Made.{Numbers, result_values, values_by, operand_for, block_for, instruction_for, insts, block_phis, block_made, blocks_made, blocks_with, function_with, no_entries, number_past, number_behind}
@@ -41,7 +41,7 @@ use Rattle.to_llvm_ir.specs.Growth.{HasType}
 
 -- what stands for a value, where it is known
 abbrev pub found : Values → Value → Option LLVMValue
-found values v = mapped values.stands v
+found values v = looked_up values.stands v
 
 -- the value is one of the list
 abbrev pub Has : List Value → Value → Type 0

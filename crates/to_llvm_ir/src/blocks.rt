@@ -44,6 +44,7 @@ impl Blocks {
     }
 
     /// What a block became, where it is known.
+    #[inline(always)]
     pub fn get(&self, block: BlockRef) -> Option<Target>
         ensures { result ≡ found_block self.now block }
     {
@@ -51,6 +52,7 @@ impl Blocks {
     }
 
     /// What a block became.
+    #[inline(always)]
     pub fn set(&mut self, block: BlockRef, target: Target) -> Result<(), AllocError>
         ensures { OnOk result ((q : _) → found_block self.new q ≡ (if same_block block q then Some target else found_block self.old q)) }
     {
@@ -70,6 +72,7 @@ fn label_of(ctx: &Context, block: BlockRef) -> &str
 }
 
 /// What the block became that an edge leads to. `UndefinedBlock` where it is none of the function.
+#[inline(always)]
 pub fn find_target(
     alloc: Global,
     ctx: &Context,

@@ -20,6 +20,7 @@ use std::alloc::{AllocError, Global};
 
 /// A new last instruction of a block, whose result is named by its number and its given name. A short name is joined where
 /// it stands, so that it is not moved.
+#[inline(always)]
 pub fn build_result(
     alloc: Global,
     given: Option<&Identifier>,

@@ -33,6 +33,7 @@ impl Places {
     }
 
     /// The place of a block, where it has one.
+    #[inline(always)]
     fn get(&self, block: BlockRef) -> Option<u32>
         ensures { result ≡ noted_place self.now block }
     {
@@ -40,6 +41,7 @@ impl Places {
     }
 
     /// Notes the place of a block.
+    #[inline(always)]
     fn set(&mut self, block: BlockRef, place: u32) -> Result<(), AllocError>
         ensures { OnOk result ((q : _) → noted_place self.new q ≡ (if nat_eq block.0 q.0 then Some place else noted_place self.old q)) }
     {

@@ -1,6 +1,6 @@
 //! Operations of a block, turned into constants and instructions.
 
-ghost use Rattle.std.specs.Prelude.{◌≡◌, ◌<◌, ◌≤◌, ◌^◌, ◌+◌, ℕ, suc, List, false, Some, None, All, length, slice_get, IfOk, IfErr, IsTrue, OnOk};
+ghost use Rattle.std.specs.Prelude.{◌≡◌, ◌<◌, ◌≤◌, ◌^◌, ◌+◌, ℕ, suc, List, false, Some, None, All, length, slice_get, IfOk, IfErr, IfSome, IsTrue, OnOk, map};
 ghost use Rattle.std.specs.List.{filter_map};
 ghost use Rattle.std.specs.Option.{option_map};
 ghost use Rattle.llvm_core.specs.Module.{Module};
@@ -160,7 +160,20 @@ fn known_each(
     Ok(stand)
 }
 
+/// What stands for one value or for two, where it is known.
+#[inline(always)]
+fn known_few(operands: &[Value], values: &Values) -> Option<ShortList<LLVMValue>>
+    ensures { IfSome result (λ xs. map (found values.now) operands.now ≡ map Some xs) }
+{
+    match operands {
+        [value] => Some(ShortList::one(values.get(*value)?)),
+        [left, right] => Some(ShortList::two(values.get(*left)?, values.get(*right)?)),
+        _ => None,
+    }
+}
+
 /// What stands for the values that an operation takes, in order. Most take one or two, which make their list at once.
+#[inline(always)]
 fn known_all(
     alloc: Global,
     ctx: &Context,
@@ -171,14 +184,9 @@ fn known_all(
     ensures ok { (s : Spot) (op : OpRef) (m : Module) → IsNext ctx.now op s values.now m → s.op.operands ≡ operands.now → IfOk result (AreUses s m operands.now) }
     ensures cause { (s : Spot) (op : OpRef) (m : Module) → IsNext ctx.now op s values.now m → s.op.operands ≡ operands.now → IfErr result (IsFuncCause ctx.now s.task.source) }
 {
-    match operands {
-        [value] => Ok(ShortList::one(known(alloc, ctx, *value, values)?)),
-        [left, right] => {
-            let first = known(alloc, ctx, *left, values)?;
-            let second = known(alloc, ctx, *right, values)?;
-            Ok(ShortList::two(first, second))
-        }
-        _ => known_each(alloc, ctx, operands, values),
+    match known_few(operands, values) {
+        Some(stand) => Ok(stand),
+        None => known_each(alloc, ctx, operands, values),
     }
 }
 

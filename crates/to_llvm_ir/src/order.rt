@@ -15,17 +15,17 @@ use crate::graph::graph;
 use crate::listing::read_ops;
 use crate::numbers::place_of;
 use crate::operations::is_block_op;
+use crate::run_map::RunMap;
 use block_order::ordering::rpo;
 use dialect_core::context::Context;
 use dialect_core::numbers::{BlockRef, OpRef};
 use dialect_core::ops::Value;
-use dialect_core::value_map::ValueMap;
 use std::alloc::{AllocError, Global};
 
 /// Values that stand before.
 #[derive(Drop)]
 pub struct Seen {
-    pub values: ValueMap<()>,
+    pub values: RunMap<()>,
 }
 
 impl Seen {
@@ -34,11 +34,12 @@ impl Seen {
         ensures { (v : _) → is_seen result v ≡ false }
     {
         Seen {
-            values: ValueMap::new(alloc),
+            values: RunMap::new(alloc),
         }
     }
 
     /// Whether a value is noted.
+    #[inline(always)]
     fn has(&self, value: Value) -> bool
         ensures { result ≡ is_seen self.now value }
     {
@@ -46,6 +47,7 @@ impl Seen {
     }
 
     /// Notes a value.
+    #[inline(always)]
     fn note(&mut self, value: Value) -> Result<(), AllocError>
         ensures { OnOk result ((q : _) → is_seen self.new q ≡ (if same_value value q then true else is_seen self.old q)) }
     {
@@ -54,6 +56,7 @@ impl Seen {
 }
 
 /// Whether all of some values are noted.
+#[inline(always)]
 fn are_seen(values: &[Value], seen: &Seen) -> bool
     ensures { MatchBool result (All (λ v. is_seen seen.now v ≡ true) values.now) (¬ All (λ v. is_seen seen.now v ≡ true) values.now) }
 {

@@ -4,8 +4,8 @@ ghost use Rattle.std.specs.Prelude.{◌≡◌, ◌<◌, ◌^◌, ◌+◌, IfOk, 
 ghost use Rattle.meaning.specs.Dialect.{same_value};
 ghost use Rattle.to_llvm_ir.specs.States.{found};
 
+use crate::run_map::RunMap;
 use dialect_core::ops::Value;
-use dialect_core::value_map::ValueMap;
 use llvm_core::code::LLVMValue;
 use std::alloc::{AllocError, Global};
 
@@ -13,7 +13,7 @@ use std::alloc::{AllocError, Global};
 #[derive(Drop)]
 pub struct Values {
     /// What stands for a value.
-    pub stands: ValueMap<LLVMValue>,
+    pub stands: RunMap<LLVMValue>,
     /// The number of the next value.
     pub next: u64,
 }
@@ -25,12 +25,13 @@ impl Values {
         ensures next { result.next ≡ 0 }
     {
         Values {
-            stands: ValueMap::new(alloc),
+            stands: RunMap::new(alloc),
             next: 0,
         }
     }
 
     /// What stands for a value, where it is known.
+    #[inline(always)]
     pub fn get(&self, value: Value) -> Option<LLVMValue>
         ensures { result ≡ found self.now value }
     {
@@ -38,6 +39,7 @@ impl Values {
     }
 
     /// The next value, and what stands for it.
+    #[inline(always)]
     pub fn set(&mut self, value: Value, stands: LLVMValue) -> Result<(), AllocError>
         ensures next { OnOk result (self.new.next ≡ self.old.next + 1) }
         ensures few { OnOk result (self.new.next < 2 ^ 64) }
