@@ -1,6 +1,6 @@
 //! Prints operands and the names of what they name.
 
-ghost use Rattle.std.specs.Prelude.{◌≡◌, ◌++◌, OnOk};
+ghost use Rattle.std.specs.Prelude.{◌≡◌, ◌++◌, decimal, OnOk};
 ghost use Rattle.support.specs.Appended.{Keeps};
 ghost use Rattle.llvm_core.specs.Data.{trees_of, operand_of};
 ghost use Rattle.ll_print.specs.Printing.{operand_text, value_text, block_ref};
@@ -16,7 +16,17 @@ use llvm_core::module::LLVMModule;
 use llvm_core::numbers::LLVMBasicBlock;
 use std::alloc::AllocError;
 
+/// The number of a thing. Most things have names, so this stands apart.
+#[inline(never)]
+fn put_number(numbers: &Numbers, place: Place, out: &mut Vec<u8>) -> Result<(), AllocError>
+    ensures text { OnOk result (out.new.items ≡ out.old.items ++ decimal (number_at numbers.now place)) }
+    ensures kept { Keeps out.old.items out.new.items }
+{
+    put_decimal(u128::from(numbers.number(place)), out)
+}
+
 /// The name of a thing, or its number, which is looked up only where it has no name.
+#[inline(always)]
 pub fn put_bare(
     numbers: &Numbers,
     name: &str,
@@ -27,13 +37,14 @@ pub fn put_bare(
     ensures kept { Keeps out.old.items out.new.items }
 {
     if name.is_empty() {
-        put_decimal(u128::from(numbers.number(place)), out)
+        put_number(numbers, place, out)
     } else {
         out.extend_from_slice(name.as_bytes())
     }
 }
 
 /// `%` and the name of a thing, or its number where it has none.
+#[inline(always)]
 pub fn put_local(
     numbers: &Numbers,
     name: &str,
@@ -48,6 +59,7 @@ pub fn put_local(
 }
 
 /// An operand without its type.
+#[inline(always)]
 pub fn put_operand(
     m: &LLVMModule,
     numbers: &Numbers,
@@ -69,6 +81,7 @@ pub fn put_operand(
 }
 
 /// An operand with its type.
+#[inline(always)]
 pub fn put_value(
     m: &LLVMModule,
     numbers: &Numbers,
@@ -86,6 +99,7 @@ pub fn put_value(
 }
 
 /// `%` and the name or the number of a block.
+#[inline(always)]
 pub fn put_block_ref(
     m: &LLVMModule,
     numbers: &Numbers,

@@ -1,6 +1,6 @@
 //! Prints numbers and types.
 
-ghost use Rattle.std.specs.Prelude.{◌≡◌, ◌<◌, ◌≤◌, ◌++◌, length, decimal, OnOk};
+ghost use Rattle.std.specs.Prelude.{◌≡◌, ◌<◌, ◌≤◌, ◌++◌, codes, length, decimal, OnOk};
 ghost use Rattle.support.specs.Appended.{Keeps};
 ghost use Rattle.llvm_core.specs.Sound.{IsModule};
 ghost use Rattle.llvm_core.specs.Data.{trees_of, type_at};
@@ -33,7 +33,18 @@ fn two_digits(n: u128) -> [u8; 2]
     [b'0' + short / 10, b'0' + short % 10]
 }
 
+/// A number of any number of digits.
+#[inline(never)]
+fn put_long(number: u128, out: &mut Vec<u8>) -> Result<(), AllocError>
+    ensures text { OnOk result (out.new.items ≡ out.old.items ++ decimal number) }
+    ensures kept { Keeps out.old.items out.new.items }
+{
+    let mut digits = Buffer::new();
+    out.extend_from_slice(digits.format(number).as_bytes())
+}
+
 /// A number in decimal digits.
+#[inline(always)]
 pub fn put_decimal(number: u128, out: &mut Vec<u8>) -> Result<(), AllocError>
     ensures text { OnOk result (out.new.items ≡ out.old.items ++ decimal number) }
     ensures kept { Keeps out.old.items out.new.items }
@@ -45,11 +56,48 @@ pub fn put_decimal(number: u128, out: &mut Vec<u8>) -> Result<(), AllocError>
     if number < 100 {
         return out.extend_from_slice(&two_digits(number));
     }
-    let mut digits = Buffer::new();
-    out.extend_from_slice(digits.format(number).as_bytes())
+    put_long(number, out)
+}
+
+/// The integer type of a width of one digit.
+#[inline(always)]
+#[tactic(auto, using(crate::proofs::DigitLaws::one_digit))]
+fn one_digit_type(width: u32) -> [u8; 2]
+    requires { width < 10 }
+    ensures { result ≡ codes "i" ++ decimal width }
+{
+    [b'i', b'0' + width as u8]
+}
+
+/// The integer type of a width of two digits.
+#[inline(always)]
+#[tactic(auto, using(crate::proofs::DigitLaws::two_digits))]
+fn two_digits_type(width: u32) -> [u8; 3]
+    requires { (10 ≤ width) × (width < 100) }
+    ensures { result ≡ codes "i" ++ decimal width }
+{
+    let short = width as u8;
+    [b'i', b'0' + short / 10, b'0' + short % 10]
+}
+
+/// The integer type of a width. Most widths have one digit or two, and are put at once.
+#[inline(always)]
+fn put_width(width: u32, out: &mut Vec<u8>) -> Result<(), AllocError>
+    ensures text { OnOk result (out.new.items ≡ out.old.items ++ (codes "i" ++ decimal width)) }
+    ensures kept { Keeps out.old.items out.new.items }
+{
+    if width < 10 {
+        return out.extend_from_slice(&one_digit_type(width));
+    }
+    if width < 100 {
+        return out.extend_from_slice(&two_digits_type(width));
+    }
+    out.push(b'i')?;
+    put_long(u128::from(width), out)
 }
 
 /// A type.
+#[inline(always)]
 pub fn put_type(m: &LLVMModule, ty: LLVMType, out: &mut Vec<u8>) -> Result<(), AllocError>
     requires sound { IsModule m.now }
     requires within { ty.0 < length m.now.types }
@@ -58,10 +106,7 @@ pub fn put_type(m: &LLVMModule, ty: LLVMType, out: &mut Vec<u8>) -> Result<(), A
 {
     match m.type_kind(ty) {
         LLVMTypeKind::Void => out.extend_from_slice(b"void"),
-        LLVMTypeKind::Int(width) => {
-            out.push(b'i')?;
-            put_decimal(u128::from(*width), out)
-        }
+        LLVMTypeKind::Int(width) => put_width(*width, out),
         LLVMTypeKind::Function { .. } => Ok(()),
     }
 }

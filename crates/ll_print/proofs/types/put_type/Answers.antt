@@ -1,16 +1,16 @@
 -- A type prints the text of its kind.
 use Rattle.std.proofs.Common.{codes, sym}
 use Rattle.std.proofs.lemmas.List.{append-nil}
-use Rattle.ll_print.proofs.TextLaws.{put_is, ok_is, ok_two, ok_extended, type_text-kind}
+use Rattle.ll_print.proofs.TextLaws.{put_is, ok_is, ok_extended, type_text-kind}
 use Rattle.ll_print.proofs.types.put_type.Goals as goal
 
 pub returns-in-Void-clause-text : goal.returns-in-Void-clause-text
 returns-in-Void-clause-text c =
     ok_is _ _ _ _ _ (ok_extended c.extend_from_slice.result _ _ (codes "void") c.extend_from_slice.ensures.items) (type_text-kind c.args.m.now c.args.ty _ c.requires.sound (rw c.in-Void.is at c.type_kind.ensures.kind))
 
-pub returns-in_ok-push-in-Int-clause-text : goal.returns-in_ok-push-in-Int-clause-text
-returns-in_ok-push-in-Int-clause-text c =
-    ok_is _ _ _ _ _ (ok_two _ _ _ _ _ _ c.in_ok-push-in-Int.ensures.items (rw c.from.ensures at c.put_decimal.ensures.text))
+pub returns-in-Int-clause-text : goal.returns-in-Int-clause-text
+returns-in-Int-clause-text c =
+    ok_is _ _ _ _ _ c.put_width.ensures.text
     (type_text-kind c.args.m.now c.args.ty _ c.requires.sound (rw c.in-Int.is at c.type_kind.ensures.kind))
 
 pub returns-in-Function-clause-text : goal.returns-in-Function-clause-text
