@@ -161,19 +161,15 @@ impl CodeStore {
         }
         let name = Text::copy(self.alloc, name)?;
         let number = LLVMInstRef(at as u32);
+        self.insts.reserve(1)?;
         let row = &mut self.blocks[block.0 as usize];
-        append_both(
-            self.alloc,
-            &mut self.insts,
-            &mut row.insts,
-            InstData {
-                name,
-                block,
-                ty,
-                inst,
-            },
-            number,
-        )?;
+        row.insts.push(self.alloc, number)?;
+        self.insts.push_reserved(InstData {
+            name,
+            block,
+            ty,
+            inst,
+        });
         Ok(number)
     }
 
