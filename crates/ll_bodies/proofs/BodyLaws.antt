@@ -8,7 +8,7 @@ use Rattle.ll_lines.specs.declared.lines.Line as code_line
 use Rattle.ll_lines.specs.Lines as L
 use Rattle.ll_literals.specs.Chain.{◌>>=◌}
 use Rattle.ll_bodies.specs.declared.blocks.SaidBlock as code_block
-use Rattle.llvm_core.specs.declared.bodies.BodyInst.{BodyInst}
+use Rattle.llvm_core.specs.declared.code.InstData.{InstData}
 use Rattle.llvm_core.specs.declared.bodies.BodyBlock.{BodyBlock}
 use Rattle.ll_bodies.specs.declared.results.Source.{Source}
 use Rattle.ll_bodies.specs.declared.scope.Scope as code
@@ -53,7 +53,7 @@ module _ {A B : Type 0} (f : ℕ → A → Option B) where
           ∙ ap (λ m. all_from f m ys >>= λ zs. Some (y ∷ (rest ++ zs))) e
           ∙ ap (λ ws. all_from f (n + suc (length xs)) ys >>= λ zs. Some (ws ++ zs)) same
 
-pub placed_joined : (t : Trees) (n : ℕ) (xs ys : List BodyInst) → placed_from t n xs ++ placed_from t (n + length xs) ys ≡ placed_from t n (xs ++ ys)
+pub placed_joined : (t : Trees) (n : ℕ) (xs ys : List InstData) → placed_from t n xs ++ placed_from t (n + length xs) ys ≡ placed_from t n (xs ++ ys)
 placed_joined t n [] ys = let e : n + 0 ≡ n = omega arith in ap (λ k. placed_from t k ys) e
 placed_joined t n (x ∷ xs) ys =
     let e : n + suc (length xs) ≡ n + 1 + length xs = omega arith in
@@ -70,7 +70,7 @@ module _ (source : Source) (scope : code.Scope) where
   pub made_none : Made source scope [] []
   made_none = record { count = refl; is = λ s n h. refl }
 
-  pub made_joined : (xs ys : List code_line.Line) (a b : List BodyInst) → Made source scope xs a → Made source scope ys b → Made source scope (xs ++ ys) (a ++ b)
+  pub made_joined : (xs ys : List code_line.Line) (a b : List InstData) → Made source scope xs a → Made source scope ys b → Made source scope (xs ++ ys) (a ++ b)
   made_joined xs ys a b h k =
       let sizes = length-append xs ys in
       let size = length-append a b in
@@ -87,7 +87,7 @@ module _ (source : Source) (scope : code.Scope) where
       }
 
   -- the instructions of the lines before a place
-  pub record MadeUpTo (parts : List Part) (at : ℕ) (insts : List BodyInst) : Type 0 where
+  pub record MadeUpTo (parts : List Part) (at : ℕ) (insts : List InstData) : Type 0 where
     pub done : List code_line.Line
     pub is : lines_of parts ≡ done ++ lines_of (drop at parts)
     pub made : Made source scope done insts
@@ -95,14 +95,14 @@ module _ (source : Source) (scope : code.Scope) where
   pub up_to_none : (parts : List Part) → MadeUpTo parts 0 []
   up_to_none parts = record { done = []; is = refl; made = made_none }
 
-  pub up_to_more : (parts : List Part) (at next : ℕ) (p : Part) (old new : List BodyInst) → slice_get parts at ≡ Some p → next ≡ suc at → MadeUpTo parts at old → Extends source scope (lines_of (p ∷ [])) old new → MadeUpTo parts next new
+  pub up_to_more : (parts : List Part) (at next : ℕ) (p : Part) (old new : List InstData) → slice_get parts at ≡ Some p → next ≡ suc at → MadeUpTo parts at old → Extends source scope (lines_of (p ∷ [])) old new → MadeUpTo parts next new
   up_to_more parts at next p old new h e m x = record {
     done = m.done ++ lines_of (p ∷ []);
     is = m.is ∙ ap (λ ls. m.done ++ ls) (lines_at parts at next p h e) ∙ sym (append_assoc m.done (lines_of (p ∷ [])) (lines_of (drop next parts)));
     made = subst (Made source scope (m.done ++ lines_of (p ∷ []))) (sym x.is) (made_joined m.done (lines_of (p ∷ [])) old x.more m.made x.made);
   }
 
-  pub up_to_all : (parts : List Part) (at : ℕ) (made : List BodyInst) → length parts ≤ at → MadeUpTo parts at made → Made source scope (lines_of parts) made
+  pub up_to_all : (parts : List Part) (at : ℕ) (made : List InstData) → length parts ≤ at → MadeUpTo parts at made → Made source scope (lines_of parts) made
   up_to_all parts at made past m =
       let e : lines_of parts ≡ m.done = m.is ∙ ap (λ ps. m.done ++ lines_of ps) (drop_all at parts past) ∙ append-nil m.done in
       subst (λ ls. Made source scope ls made) (sym e) m.made
@@ -117,7 +117,7 @@ module _ (source : Source) (scope : code.Scope) where
       by (Some y) None h k = ap (λ r. r >>= λ zs. Some (y ∷ zs)) (k refl)
       by (Some y) (Some zs) h k = absurd cc
 
-  pub up_to_refused : (parts : List Part) (at : ℕ) (p : Part) (made : List BodyInst) → slice_get parts at ≡ Some p → MadeUpTo parts at made
+  pub up_to_refused : (parts : List Part) (at : ℕ) (p : Part) (made : List InstData) → slice_get parts at ≡ Some p → MadeUpTo parts at made
       → ((n : ℕ) → Refuses (types_in source) scope (λ s. all_from (placed s) n (lines_in source (p ∷ [])))) → (n : ℕ) → Refuses (types_in source) scope (λ s. all_from (placed s) n (lines_in source parts))
   up_to_refused parts at p made h m r n = λ s knows.
       let behind = lines_of (p ∷ []) ++ lines_of (drop (suc at) parts) in

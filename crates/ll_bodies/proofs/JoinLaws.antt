@@ -2,7 +2,7 @@
 use Rattle.std.proofs.Common.{◌≡◌, ◌+◌, ℕ, suc, List, [], ◌∷◌, Some, None, length, length-append, map, refl, ap, sym, ◌∙◌, arith}
 use Rattle.std.specs.List.{enumerate_from}
 use Rattle.llvm_core.specs.declared.code.FunctionData.{FunctionData}
-use Rattle.llvm_core.specs.declared.bodies.BodyInst.{BodyInst}
+use Rattle.llvm_core.specs.declared.code.InstData.{InstData}
 use Rattle.llvm_core.specs.declared.bodies.BodyBlock.{BodyBlock}
 use Rattle.llvm_core.specs.Module.{Module}
 use Rattle.llvm_core.specs.Sound.{IsModule}
@@ -25,7 +25,7 @@ pub block_total : (t : Trees) (n i : ℕ) (body : List BodyBlock) → length (bl
 block_total t n i [] = refl
 block_total t n i (b ∷ bs) = ap suc (block_total t (n + 1) (i + length b.insts) bs)
 
-placed_total : (t : Trees) (n : ℕ) (xs : List BodyInst) → length (placed_from t n xs) ≡ length xs
+placed_total : (t : Trees) (n : ℕ) (xs : List InstData) → length (placed_from t n xs) ≡ length xs
 placed_total t n [] = refl
 placed_total t n (x ∷ xs) = ap suc (placed_total t (n + 1) xs)
 

@@ -16,7 +16,7 @@ use Rattle.llvm_core.specs.declared.code.LLVMInst.{LLVMInst}
 use Rattle.llvm_core.specs.declared.code.LLVMInst.TheVariants as I
 use Rattle.llvm_core.specs.declared.code.PhiEntry.{PhiEntry}
 use Rattle.llvm_core.specs.declared.code.Row.{Row}
-use Rattle.llvm_core.specs.declared.bodies.BodyInst.{BodyInst}
+use Rattle.llvm_core.specs.declared.code.InstData.{InstData}
 use Rattle.llvm_core.specs.declared.bodies.BodyBlock.{BodyBlock}
 use Rattle.llvm_core.specs.Module.{Module}
 use Rattle.llvm_core.specs.Sound.{IsModule}
@@ -78,12 +78,12 @@ cons_not_none (Some a) (Some zs) h = absurd cc
 
 module _ (source : Source) (s : spec.Scope) where
   -- what a line is as an instruction
-  pub record IsMadeOf (l : code_line.Line) (x : BodyInst) : Type 0 where
+  pub record IsMadeOf (l : code_line.Line) (x : InstData) : Type 0 where
     pub inst : instruction s (line_in source l).inst ≡ Some (instruction_of (source_trees source) x.inst)
     pub type : type_at (types_in source) x.ty ≡ type_or_void source l
     pub name : x.name ≡ written_name local_key (line_in source l).result
 
-  pub made_of : (n : ℕ) (l : code_line.Line) (x : BodyInst) → placed s n (line_in source l) ≡ Some (placed_one (source_trees source) n x) → IsMadeOf l x
+  pub made_of : (n : ℕ) (l : code_line.Line) (x : InstData) → placed s n (line_in source l) ≡ Some (placed_one (source_trees source) n x) → IsMadeOf l x
   made_of n l x h =
       let i = bind_found (instruction s (line_in source l).inst) _ (placed_one (source_trees source) n x) h in
       let e = same_Some _ (placed_one (source_trees source) n x) i.2 in
@@ -93,8 +93,8 @@ module _ (source : Source) (s : spec.Scope) where
         name = sym (ap (λ (p : Placed). p.name) e);
       }
 
-  insts_types : (n : ℕ) (ls : List code_line.Line) (xs : List BodyInst) → all_from (placed s) n (map (line_in source) ls) ≡ Some (placed_from (source_trees source) n xs)
-      → map (λ (z : BodyInst). type_at (types_in source) z.ty) xs ≡ map (type_or_void source) ls
+  insts_types : (n : ℕ) (ls : List code_line.Line) (xs : List InstData) → all_from (placed s) n (map (line_in source) ls) ≡ Some (placed_from (source_trees source) n xs)
+      → map (λ (z : InstData). type_at (types_in source) z.ty) xs ≡ map (type_or_void source) ls
   insts_types n [] [] h = refl
   insts_types n [] (x ∷ xs) h = absurd cc
   insts_types n (l ∷ ls) [] h = absurd (cons_not_none (placed s n (line_in source l)) (all_from (placed s) (suc n) (map (line_in source) ls)) h)
@@ -102,7 +102,7 @@ module _ (source : Source) (s : spec.Scope) where
       let p = cons_found (placed s n (line_in source l)) (all_from (placed s) (suc n) (map (line_in source) ls)) (placed_one (source_trees source) n x) (placed_from (source_trees source) (n + 1) xs) h in
       let e : n + 1 ≡ suc n = omega arith in
       let rest = insts_types (suc n) ls xs (p.1 ∙ ap (λ (k : ℕ). Some (placed_from (source_trees source) k xs)) e) in
-      ap (λ (t : TypeTree). t ∷ map (λ (z : BodyInst). type_at (types_in source) z.ty) xs) (made_of n l x p.0).type ∙ ap (λ (ts : List TypeTree). type_or_void source l ∷ ts) rest
+      ap (λ (t : TypeTree). t ∷ map (λ (z : InstData). type_at (types_in source) z.ty) xs) (made_of n l x p.0).type ∙ ap (λ (ts : List TypeTree). type_or_void source l ∷ ts) rest
 
   -- what a block of lines is
   pub block_made : (b n : ℕ) (x : code_block.SaidBlock) (xs : List code_block.SaidBlock) (y : BodyBlock) (ys : List BodyBlock) → blocks_data s b n (map (block_in source) (x ∷ xs)) ≡ Some (blocks_from (source_trees source) b n (y ∷ ys))
@@ -116,7 +116,7 @@ module _ (source : Source) (s : spec.Scope) where
       (is.1 ∙ ap (λ (z : Block). Some z.instructions) first, bs.1 ∙ ap Some rest)
 
   pub blocks_types : (b n : ℕ) (xs : List code_block.SaidBlock) (body : List BodyBlock) → blocks_data s b n (map (block_in source) xs) ≡ Some (blocks_from (source_trees source) b n body)
-      → (length body ≡ length xs) × (map (λ (z : BodyInst). type_at (types_in source) z.ty) (all_insts body) ≡ map (type_or_void source) (all_lines xs))
+      → (length body ≡ length xs) × (map (λ (z : InstData). type_at (types_in source) z.ty) (all_insts body) ≡ map (type_or_void source) (all_lines xs))
   blocks_types b n [] [] h = (refl, refl)
   blocks_types b n [] (y ∷ ys) h = absurd cc
   blocks_types b n (x ∷ xs) [] h =
@@ -127,7 +127,7 @@ module _ (source : Source) (s : spec.Scope) where
       let p = block_made b n x xs y ys h in
       let first = insts_types n (lines_of x.lines.now) y.insts p.0 in
       let size = ap (λ (ts : List TypeTree). length ts) first in
-      let many = length-map y.insts (λ (z : BodyInst). type_at (types_in source) z.ty) in
+      let many = length-map y.insts (λ (z : InstData). type_at (types_in source) z.ty) in
       let more = length-map (lines_of x.lines.now) (type_or_void source) in
       let lines = length-map (lines_of x.lines.now) (line_in source) in
       let e : b + 1 ≡ suc b = omega arith in
@@ -135,22 +135,22 @@ module _ (source : Source) (s : spec.Scope) where
       let rest = blocks_types (suc b) (n + length (map (line_in source) (lines_of x.lines.now))) xs ys
       (p.1 ∙ ap (λ (k : ℕ). Some (blocks_from (source_trees source) k (n + length y.insts) ys)) e ∙ ap (λ (k : ℕ). Some (blocks_from (source_trees source) (suc b) k ys)) d) in (
         ap (λ (k : ℕ). suc k) rest.0,
-        map-append (λ (z : BodyInst). type_at (types_in source) z.ty) y.insts (all_insts ys)
-            ∙ ap (λ (ts : List TypeTree). ts ++ map (λ (z : BodyInst). type_at (types_in source) z.ty) (all_insts ys)) first
+        map-append (λ (z : InstData). type_at (types_in source) z.ty) y.insts (all_insts ys)
+            ∙ ap (λ (ts : List TypeTree). ts ++ map (λ (z : InstData). type_at (types_in source) z.ty) (all_insts ys)) first
             ∙ ap (λ (ts : List TypeTree). map (type_or_void source) (lines_of x.lines.now) ++ ts) rest.1
             ∙ sym (map-append (type_or_void source) (lines_of x.lines.now) (all_lines xs)),
       )
 
 are_types : (m : Module) (body : List BodyBlock) → AreTypedBlocks m body → AreTypes m body
-are_types m body h = All-weaker (λ (b : BodyBlock). AreTypedInsts m b.insts) (λ (b : BodyBlock). All (λ (x : BodyInst). x.ty.0 < length m.types) b.insts)
-    (λ b all. All-weaker (IsTypedBody m) (λ (x : BodyInst). x.ty.0 < length m.types) (λ x t. t.0) b.insts all) body h
+are_types m body h = All-weaker (λ (b : BodyBlock). AreTypedInsts m b.insts) (λ (b : BodyBlock). All (λ (x : InstData). x.ty.0 < length m.types) b.insts)
+    (λ b all. All-weaker (IsTypedBody m) (λ (x : InstData). x.ty.0 < length m.types) (λ x t. t.0) b.insts all) body h
 
 -- ---- a body is right, line by line
 
 module _ (source : Source) (f : LLVMFunction) (ps : List code_param.Param) (xs : List code_block.SaidBlock) (body : List BodyBlock) (x : FunctionData) (sound : IsModule source.module.now)
     (at : slice_get source.module.now.functions f.0 ≡ Some x) (types : type_params source.module.now.types x.ty ≡ map (λ (p : code_param.Param). p.ty) ps) (names : length x.params ≡ length ps)
     (blocks : length body ≡ length xs)
-    (made : map (λ (z : BodyInst). type_at (types_in source) z.ty) (all_insts body) ≡ map (λ (l : code_line.Line). option_map_or (λ (τ : TypeTree). τ) (result_type (line_in source l).inst) VoidType) (all_lines xs))
+    (made : map (λ (z : InstData). type_at (types_in source) z.ty) (all_insts body) ≡ map (λ (l : code_line.Line). option_map_or (λ (τ : TypeTree). τ) (result_type (line_in source l).inst) VoidType) (all_lines xs))
     (s : spec.Scope) (known : OnlyNames source f (length source.module.now.blocks) (length source.module.now.insts) ps xs s) (there : AreTypes source.module.now body) where
   abbrev m : Module
   m = source.module.now
@@ -201,10 +201,10 @@ module _ (source : Source) (f : LLVMFunction) (ps : List code_param.Param) (xs :
       let block = block_right source f ps xs body x sound at types names blocks made s known e.block v.block (b.1 ∙ ap (λ (q : Operand × ℕ). Some q.1) same) in
       All-cons (IsEntry real) v vs (value.0, block) (entries_right τ es vs (All-tail (λ (e : code_incoming.Incoming). IsSaidIn m e.said) e es g) p.1)
 
-  row_body : (name : List ℕ) (ty : LLVMType) (said : code_row.RowLine) (r : Row) → IsInstIn m (code_inst.TheVariants.Row said) → IsTypeIn m ty → IfSome r.written (IsTypeIn m)
+  row_body : (name : List ℕ) (block : LLVMBasicBlock) (ty : LLVMType) (said : code_row.RowLine) (r : Row) → IsInstIn m (code_inst.TheVariants.Row said) → IsTypeIn m ty → IfSome r.written (IsTypeIn m)
       → instruction s (row_in source said) ≡ Some (D.Applied (row_of (source_trees source) r)) → tree ty ≡ option_map_or (λ (τ : TypeTree). τ) (result_type (row_in source said)) VoidType → (result_type (row_in source said) ≡ None → name ≡ [])
-      → IsBodyInst real (record { name = name; ty = ty; inst = I.Row r })
-  row_body name ty said r g lt w h type unnamed =
+      → IsBodyInst real (record { name = name; block = block; ty = ty; inst = I.Row r })
+  row_body name block ty said r g lt w h type unnamed =
       let goal_row : D.Instruction = D.Applied (row_of (source_trees source) r) in
       let os = bind_found (all_of (λ (x : L.Typed). operand s x.type x.said) (map (typed_in source) said.operands)) _ goal_row h in
       let bs = bind_found (all_of (block_of s) (map (text_of source.bytes.now) said.targets)) _ goal_row os.2 in
@@ -216,31 +216,31 @@ module _ (source : Source) (f : LLVMFunction) (ps : List code_param.Param) (xs :
       let is : typed r.op (option_map tree r.written) (map tree_of r.operands) ≡ result_type (row_in source said) =
       ap (λ (ts : List TypeTree). typed r.op (option_map tree r.written) ts) values.1
       ∙ sym (ap (λ (z : D.RowData). typed z.op z.written (map (λ (x : L.Typed). x.type) (map (typed_in source) said.operands))) same) in
-      row_right m f body sound (slice_get_within m.functions f.0 x at) there name ty r (values.0, leads, w) lt
+      row_right m f body sound (slice_get_within m.functions f.0 x at) there name block ty r (values.0, leads, w) lt
       (ap (λ (o : Option TypeTree). option_map_or (λ (τ : TypeTree). τ) o VoidType) is ∙ sym type) (λ none. unnamed (sym is ∙ none))
 
-  inst_body : (name : List ℕ) (ty : LLVMType) (i : code_inst.Inst) (j : LLVMInst) → IsInstIn m i → IsTypeIn m ty → IsTypedInst m ty j → instruction s (inst_in source i) ≡ Some (instruction_of (source_trees source) j)
-      → tree ty ≡ option_map_or (λ (τ : TypeTree). τ) (result_type (inst_in source i)) VoidType → (result_type (inst_in source i) ≡ None → name ≡ []) → IsBodyInst real (record { name = name; ty = ty; inst = j })
-  inst_body name ty (code_inst.TheVariants.Row said) (I.Row r) g lt t h type unnamed = row_body name ty said r g lt t h type unnamed
-  inst_body name ty (code_inst.TheVariants.Row said) (I.Phi u made) g lt t h type unnamed =
+  inst_body : (name : List ℕ) (block : LLVMBasicBlock) (ty : LLVMType) (i : code_inst.Inst) (j : LLVMInst) → IsInstIn m i → IsTypeIn m ty → IsTypedInst m ty j → instruction s (inst_in source i) ≡ Some (instruction_of (source_trees source) j)
+      → tree ty ≡ option_map_or (λ (τ : TypeTree). τ) (result_type (inst_in source i)) VoidType → (result_type (inst_in source i) ≡ None → name ≡ []) → IsBodyInst real (record { name = name; block = block; ty = ty; inst = j })
+  inst_body name block ty (code_inst.TheVariants.Row said) (I.Row r) g lt t h type unnamed = row_body name block ty said r g lt t h type unnamed
+  inst_body name block ty (code_inst.TheVariants.Row said) (I.Phi u made) g lt t h type unnamed =
       let end : D.Instruction = D.Phi (map (entry_of (source_trees source)) made) in
       let os = bind_found (all_of (λ (x : L.Typed). operand s x.type x.said) (map (typed_in source) said.operands)) _ end h in
       let bs = bind_found (all_of (block_of s) (map (text_of source.bytes.now) said.targets)) _ end os.2 in
       let fit = cond_found (fits_trees said.op (option_map tree said.written) (map (λ (x : L.Typed). x.type) (map (typed_in source) said.operands))) _ end bs.2 in
       absurd (cc (fit.1))
-  inst_body name ty (code_inst.TheVariants.Phi u es) (I.Row r) g lt t h type unnamed =
+  inst_body name block ty (code_inst.TheVariants.Phi u es) (I.Row r) g lt t h type unnamed =
       let p = bind_found (all_of (entry s (tree u)) (map (entry_in source) es)) _ (D.Applied (row_of (source_trees source) r)) h in
       absurd (cc (p.2))
-  inst_body name ty (code_inst.TheVariants.Phi u es) (I.Phi v made) g lt t h type unnamed =
+  inst_body name block ty (code_inst.TheVariants.Phi u es) (I.Phi v made) g lt t h type unnamed =
       let end : D.Instruction = D.Phi (map (entry_of (source_trees source)) made) in
       let p = bind_found (all_of (entry s (tree u)) (map (entry_in source) es)) _ end h in
       let same : p.0 ≡ map (entry_of (source_trees source)) made = cc (p.2) in
       let entries = entries_right (tree u) es made g.1 (p.1 ∙ ap Some same) in
       let is : ty ≡ v = (apart m sound).types ty v lt t.0 t.1 in
-      subst (λ (w : LLVMType). IsBodyInst real (record { name = name; ty = ty; inst = I.Phi w made })) is (phi_right m f body sound (slice_get_within m.functions f.0 x at) there name ty made lt entries)
+      subst (λ (w : LLVMType). IsBodyInst real (record { name = name; block = block; ty = ty; inst = I.Phi w made })) is (phi_right m f body sound (slice_get_within m.functions f.0 x at) there name block ty made lt entries)
 
-  inst_right : (l : code_line.Line) (z : BodyInst) → IsInstIn m l.inst → IsTypedBody m z → IsMadeOf source s l z → (result_type (line_in source l).inst ≡ None → z.name ≡ []) → IsBodyInst real z
-  inst_right l z g t made unnamed = inst_body z.name z.ty l.inst z.inst g t.0 t.1 made.inst made.type unnamed
+  inst_right : (l : code_line.Line) (z : InstData) → IsInstIn m l.inst → IsTypedBody m z → IsMadeOf source s l z → (result_type (line_in source l).inst ≡ None → z.name ≡ []) → IsBodyInst real z
+  inst_right l z g t made unnamed = inst_body z.name z.block z.ty l.inst z.inst g t.0 t.1 made.inst made.type unnamed
 
   -- a line without a result has no name
   unnamed_line : (u : spec.Scope) (k : ℕ) (l : code_line.Line) (w : spec.Scope) (name : List ℕ) → result_scope u k (result_type (line_in source l).inst) (line_in source l).result ≡ Some w → name ≡ written_name local_key (line_in source l).result
@@ -251,7 +251,7 @@ module _ (source : Source) (f : LLVMFunction) (ps : List code_param.Param) (xs :
       by None h e = e
       by (Some t) h e = absurd cc
 
-  insts_right : (n k : ℕ) (ls : List code_line.Line) (zs : List BodyInst) (u w : spec.Scope) → All (λ (l : code_line.Line). IsInstIn m l.inst) ls → AreTypedInsts m zs
+  insts_right : (n k : ℕ) (ls : List code_line.Line) (zs : List InstData) (u w : spec.Scope) → All (λ (l : code_line.Line). IsInstIn m l.inst) ls → AreTypedInsts m zs
       → all_from (placed s) n (map (line_in source) ls) ≡ Some (placed_from (source_trees source) n zs) → lines_scope u k (map (line_in source) ls) ≡ Some w → All (IsBodyInst real) zs
   insts_right n k ls [] u w g t h c = All-nil (IsBodyInst real)
   insts_right n k [] (z ∷ zs) u w g t h c = absurd cc
@@ -280,7 +280,7 @@ module _ (source : Source) (f : LLVMFunction) (ps : List code_param.Param) (xs :
       let e : b + 1 ≡ suc b = omega arith in
       let types = insts_types source s n (lines_of a.lines.now) y.insts p.0 in
       let size = ap (λ (ts : List TypeTree). length ts) types in
-      let many = length-map y.insts (λ (z : BodyInst). type_at (types_in source) z.ty) in
+      let many = length-map y.insts (λ (z : InstData). type_at (types_in source) z.ty) in
       let more = length-map (lines_of a.lines.now) (type_or_void source) in
       let count = length-map (lines_of a.lines.now) (line_in source) in
       let q : n + length y.insts ≡ n + length (map (line_in source) (lines_of a.lines.now)) = omega (arith, size, many, more, count) in

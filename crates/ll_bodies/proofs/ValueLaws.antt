@@ -14,7 +14,7 @@ use Rattle.llvm_core.specs.declared.numbers.LLVMType.{LLVMType}
 use Rattle.llvm_core.specs.declared.code.FunctionData.{FunctionData}
 use Rattle.llvm_core.specs.declared.code.LLVMValue.{LLVMValue}
 use Rattle.llvm_core.specs.declared.code.LLVMValue.TheVariants as V
-use Rattle.llvm_core.specs.declared.bodies.BodyInst.{BodyInst}
+use Rattle.llvm_core.specs.declared.code.InstData.{InstData}
 use Rattle.llvm_core.specs.declared.bodies.BodyBlock.{BodyBlock}
 use Rattle.llvm_core.specs.Module.{Module}
 use Rattle.llvm_core.specs.Sound.{IsModule}
@@ -159,7 +159,7 @@ only_names source f b n ps xs scope s knows at k z e = by (local_at scope (key_c
 module _ (source : Source) (f : LLVMFunction) (ps : List code_param.Param) (xs : List code_block.SaidBlock) (body : List BodyBlock) (x : FunctionData) (sound : IsModule source.module.now)
     (at : slice_get source.module.now.functions f.0 ≡ Some x) (types : type_params source.module.now.types x.ty ≡ map (λ (p : code_param.Param). p.ty) ps) (names : length x.params ≡ length ps)
     (blocks : length body ≡ length xs)
-    (made : map (λ (z : BodyInst). type_at (types_in source) z.ty) (all_insts body) ≡ map (λ (l : code_line.Line). option_map_or (λ (τ : TypeTree). τ) (result_type (line_in source l).inst) VoidType) (all_lines xs)) where
+    (made : map (λ (z : InstData). type_at (types_in source) z.ty) (all_insts body) ≡ map (λ (l : code_line.Line). option_map_or (λ (τ : TypeTree). τ) (result_type (line_in source l).inst) VoidType) (all_lines xs)) where
   abbrev m : Module
   m = source.module.now
 
@@ -190,15 +190,15 @@ module _ (source : Source) (f : LLVMFunction) (ps : List code_param.Param) (xs :
       (old_value m f body (V.Param g place) there, ap (λ (o : Option LLVMType). option_map_or tree o VoidType) (old_type m f body (V.Param g place) sound there ∙ type) ∙ is)
 
   -- the instruction of a line
-  inst_at : (k : ℕ) (l : code_line.Line) → slice_get (all_lines xs) k ≡ Some l → (z : BodyInst) × (slice_get (all_insts body) k ≡ Some z) × (tree z.ty ≡ option_map_or (λ (τ : TypeTree). τ) (result_type (line_in source l).inst) VoidType)
+  inst_at : (k : ℕ) (l : code_line.Line) → slice_get (all_lines xs) k ≡ Some l → (z : InstData) × (slice_get (all_insts body) k ≡ Some z) × (tree z.ty ≡ option_map_or (λ (τ : TypeTree). τ) (result_type (line_in source l).inst) VoidType)
   inst_at k l here =
       by (slice_get (all_insts body) k) refl
-      (sym (slice_get-map (λ (z : BodyInst). type_at (types_in source) z.ty) (all_insts body) k) ∙ ap (λ (ts : List TypeTree). slice_get ts k) made
+      (sym (slice_get-map (λ (z : InstData). type_at (types_in source) z.ty) (all_insts body) k) ∙ ap (λ (ts : List TypeTree). slice_get ts k) made
       ∙ slice_get-map (λ (l : code_line.Line). option_map_or (λ (τ : TypeTree). τ) (result_type (line_in source l).inst) VoidType) (all_lines xs) k
       ∙ ap (option_map (λ (l : code_line.Line). option_map_or (λ (τ : TypeTree). τ) (result_type (line_in source l).inst) VoidType)) here)
     where
-      by : (o : Option BodyInst) → slice_get (all_insts body) k ≡ o → option_map (λ (z : BodyInst). type_at (types_in source) z.ty) (slice_get (all_insts body) k) ≡ Some (option_map_or (λ (τ : TypeTree). τ) (result_type (line_in source l).inst) VoidType)
-          → (z : BodyInst) × (slice_get (all_insts body) k ≡ Some z) × (tree z.ty ≡ option_map_or (λ (τ : TypeTree). τ) (result_type (line_in source l).inst) VoidType)
+      by : (o : Option InstData) → slice_get (all_insts body) k ≡ o → option_map (λ (z : InstData). type_at (types_in source) z.ty) (slice_get (all_insts body) k) ≡ Some (option_map_or (λ (τ : TypeTree). τ) (result_type (line_in source l).inst) VoidType)
+          → (z : InstData) × (slice_get (all_insts body) k ≡ Some z) × (tree z.ty ≡ option_map_or (λ (τ : TypeTree). τ) (result_type (line_in source l).inst) VoidType)
       by None is h = absurd (cc (is, h))
       by (Some z) is h = (z, is, cc (is, h))
 

@@ -3,7 +3,7 @@ use Rattle.std.specs.Prelude.{◌≡◌, ◌+◌, ℕ, List, [], ◌∷◌, ◌+
 use Rattle.llvm_core.specs.Data.{Trees, Placed, type_at, instruction_of}
 use Rattle.ll_lines.specs.declared.lines.Line.{Line}
 use Rattle.ll_bodies.specs.declared.blocks.SaidBlock.{SaidBlock}
-use Rattle.llvm_core.specs.declared.bodies.BodyInst.{BodyInst}
+use Rattle.llvm_core.specs.declared.code.InstData.{InstData}
 use Rattle.llvm_core.specs.declared.bodies.BodyBlock.{BodyBlock}
 use Rattle.llvm_core.specs.Bodies.{placed_from, blocks_from}
 use Rattle.ll_bodies.specs.declared.results.Source.{Source}
@@ -16,7 +16,7 @@ use Rattle.ll_bodies.specs.SourceViews.{types_in, source_trees, line_in, block_i
 -- ---- as data
 
 -- an instruction under a number
-abbrev pub placed_one : Trees → (n : ℕ) → BodyInst → Placed
+abbrev pub placed_one : Trees → (n : ℕ) → InstData → Placed
 placed_one t n x = record { number = n; name = x.name; type = type_at t.types x.ty; instruction = instruction_of t x.inst }
 
 -- how many instructions blocks have
@@ -27,13 +27,13 @@ count_body (b ∷ bs) = length b.insts + count_body bs
 -- ---- what they are made of
 
 -- the instructions that lines mean, in the scope of their function
-pub record Made (source : Source) (scope : code.Scope) (lines : List Line) (made : List BodyInst) : Type 0 where
+pub record Made (source : Source) (scope : code.Scope) (lines : List Line) (made : List InstData) : Type 0 where
   pub count : length made ≡ length lines
   pub is : (s : Scope) (n : ℕ) → Knows (types_in source) scope s → all_from (placed s) n (map (line_in source) lines) ≡ Some (placed_from (source_trees source) n made)
 
 -- the instructions of lines are put behind others
-pub record Extends (source : Source) (scope : code.Scope) (lines : List Line) (old new : List BodyInst) : Type 0 where
-  pub more : List BodyInst
+pub record Extends (source : Source) (scope : code.Scope) (lines : List Line) (old new : List InstData) : Type 0 where
+  pub more : List InstData
   pub is : new ≡ old ++ more
   pub made : Made source scope lines more
 

@@ -22,7 +22,8 @@ use crate::names::{label_name, local_name};
 use crate::results::{Source, fitting_type};
 use crate::scope::Scope;
 use ll_lines::lines::{Inst, Line, Part};
-use llvm_core::bodies::{BodyBlock, BodyInst};
+use llvm_core::bodies::BodyBlock;
+use llvm_core::code::InstData;
 use llvm_core::numbers::LLVMType;
 use std::alloc::Global;
 use support::items::Items;
@@ -48,7 +49,7 @@ fn body_inst(
     source: &Source<'_>,
     scope: &Scope<'_>,
     line: &Line,
-) -> Result<BodyInst, BuildErr>
+) -> Result<InstData, BuildErr>
     requires source { IsSource source.now }
     requires scope { IsScopeIn source.now.module.now scope.now }
     requires line { IsInstIn source.now.module.now line.now.inst }
@@ -61,7 +62,7 @@ fn body_inst(
     // the first pass has seen that a line which names its result has one
     let inst = instruction(alloc, source, scope, &line.inst, line.result.is_some())?;
     let ty = type_or_void(source, &line.inst);
-    Ok(BodyInst { name, ty, inst })
+    Ok(InstData::unplaced(name, ty, inst))
 }
 
 /// Puts a part behind the instructions so far, where it is a line.
@@ -70,7 +71,7 @@ fn add_part(
     source: &Source<'_>,
     scope: &Scope<'_>,
     part: &Part,
-    made: &mut Items<BodyInst>,
+    made: &mut Items<InstData>,
 ) -> Result<(), BuildErr>
     requires source { IsSource source.now }
     requires scope { IsScopeIn source.now.module.now scope.now }
@@ -96,7 +97,7 @@ fn body_insts(
     source: &Source<'_>,
     scope: &Scope<'_>,
     lines: &[Part],
-) -> Result<Items<BodyInst>, BuildErr>
+) -> Result<Items<InstData>, BuildErr>
     requires source { IsSource source.now }
     requires scope { IsScopeIn source.now.module.now scope.now }
     requires lines { All (IsPartIn source.now.module.now) lines.now }

@@ -67,6 +67,7 @@ fn constant(source: &Source<'_>, ty: LLVMType, c: LLVMConst) -> Option<LLVMValue
 }
 
 /// What is said as an operand of a type.
+#[inline(always)]
 pub fn operand(
     source: &Source<'_>,
     scope: &Scope<'_>,

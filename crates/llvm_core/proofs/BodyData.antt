@@ -8,11 +8,10 @@ use Rattle.support.proofs.ListLaws.{slice_get-before, item_there}
 use Rattle.llvm_core.specs.declared.numbers.LLVMFunction.{LLVMFunction}
 use Rattle.llvm_core.specs.declared.numbers.LLVMBasicBlock.{LLVMBasicBlock}
 use Rattle.llvm_core.specs.declared.numbers.LLVMInstRef.{LLVMInstRef}
-use Rattle.llvm_core.specs.declared.bodies.BodyInst.{BodyInst}
+use Rattle.llvm_core.specs.declared.code.InstData.{InstData}
 use Rattle.llvm_core.specs.declared.bodies.BodyBlock.{BodyBlock}
 use Rattle.llvm_core.specs.declared.code.FunctionData.{FunctionData}
 use Rattle.llvm_core.specs.declared.code.BlockData.{BlockData}
-use Rattle.llvm_core.specs.declared.code.InstData.{InstData}
 use Rattle.llvm_core.specs.Module.{Module}
 use Rattle.llvm_core.specs.Sound.{IsModule}
 use Rattle.llvm_core.specs.Data as d
@@ -25,7 +24,7 @@ use Rattle.llvm_core.proofs.BodyLists.{item_behind}
 -- ---- what is new
 
 -- the instructions of one block, which stand behind `pre`
-insts_shown : (t : Trees) (k : ℕ) (all pre rest : List InstData) (i : ℕ) (xs : List BodyInst) → i ≡ length pre → all ≡ pre ++ (map (inst_in k) xs ++ rest) → filter_map (placed_at t all) (inst_numbers i xs) ≡ placed_from t i xs
+insts_shown : (t : Trees) (k : ℕ) (all pre rest : List InstData) (i : ℕ) (xs : List InstData) → i ≡ length pre → all ≡ pre ++ (map (inst_in k) xs ++ rest) → filter_map (placed_at t all) (inst_numbers i xs) ≡ placed_from t i xs
 insts_shown t k all pre rest i [] e is = refl
 insts_shown t k all pre rest i (x ∷ xs) e is =
     let n : LLVMInstRef = record { 0 = i } in

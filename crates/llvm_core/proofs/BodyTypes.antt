@@ -21,7 +21,7 @@ use Rattle.llvm_core.specs.declared.code.LLVMInst.TheVariants as I
 use Rattle.llvm_core.specs.declared.code.PhiEntry.{PhiEntry}
 use Rattle.llvm_core.specs.declared.code.Row.{Row}
 use Rattle.llvm_core.specs.declared.code.FunctionData.{FunctionData}
-use Rattle.llvm_core.specs.declared.bodies.BodyInst.{BodyInst}
+use Rattle.llvm_core.specs.declared.code.InstData.{InstData}
 use Rattle.llvm_core.specs.declared.bodies.BodyBlock.{BodyBlock}
 use Rattle.support.specs.Changes.{with_change}
 use Rattle.llvm_core.specs.Module.{Module}
@@ -40,21 +40,21 @@ use Rattle.llvm_core.proofs.BodySound.{body_sound}
 
 -- ---- values of the module and of the body
 
-abbrev pub insts_in : BodyBlock → List BodyInst
+abbrev pub insts_in : BodyBlock → List InstData
 insts_in b = b.insts
 
-abbrev body_type : BodyInst → LLVMType
+abbrev body_type : InstData → LLVMType
 body_type x = x.ty
 
 -- the instructions of a body, block after block
-abbrev pub all_insts : List BodyBlock → List BodyInst
+abbrev pub all_insts : List BodyBlock → List InstData
 all_insts body = flat_map insts_in body
 
 -- a value of before has the type that it had
 pub old_type : (m : Module) (f : LLVMFunction) (body : List BodyBlock) (v : LLVMValue) → IsModule m → IsValue m v → value_type (added m f body) v ≡ value_type m v
 old_type m f body v s h = value_type_kept m (added m f body) (added_grows m f body) s v h
 
-types_of_row : (n : ℕ) (xs : List BodyInst) → map inst_type (map (inst_in n) xs) ≡ map body_type xs
+types_of_row : (n : ℕ) (xs : List InstData) → map inst_type (map (inst_in n) xs) ≡ map body_type xs
 types_of_row n [] = refl
 types_of_row n (x ∷ xs) = ap (λ ts. x.ty ∷ ts) (types_of_row n xs)
 
@@ -67,7 +67,7 @@ types_of_body n (b ∷ bs) =
     ∙ sym (map-append body_type b.insts (all_insts bs))
 
 -- the k-th instruction of the body has its type
-pub new_type : (m : Module) (f : LLVMFunction) (body : List BodyBlock) (k : ℕ) (x : BodyInst) → slice_get (all_insts body) k ≡ Some x → value_type (added m f body) (V.Inst (record { 0 = length m.insts + k })) ≡ Some x.ty
+pub new_type : (m : Module) (f : LLVMFunction) (body : List BodyBlock) (k : ℕ) (x : InstData) → slice_get (all_insts body) k ≡ Some x → value_type (added m f body) (V.Inst (record { 0 = length m.insts + k })) ≡ Some x.ty
 new_type m f body k x at =
     ap (option_map inst_type) (slice_get-behind m.insts (body_insts (length m.blocks) body) k)
     ∙ sym (slice_get-map inst_type (body_insts (length m.blocks) body) k) ∙ ap (λ ts. slice_get ts k) (types_of_body (length m.blocks) body)
@@ -99,35 +99,35 @@ new_block m f body k lt = omega (arith, lt, blocks_after m f body)
 
 -- ---- the same module but for what its new instructions do, which is a module as soon as their types are there
 
-abbrev blank : BodyInst → BodyInst
-blank x = record { name = x.name; ty = x.ty; inst = I.Phi x.ty [] }
+abbrev blank : InstData → InstData
+blank x = record x { inst = I.Phi x.ty [] }
 
 abbrev blank_block : BodyBlock → BodyBlock
 blank_block b = record { name = b.name; insts = map blank b.insts }
 
 -- the types that a body says are there
 abbrev pub AreTypes : Module → List BodyBlock → Type 0
-AreTypes m body = All (λ (b : BodyBlock). All (λ (x : BodyInst). x.ty.0 < length m.types) b.insts) body
+AreTypes m body = All (λ (b : BodyBlock). All (λ (x : InstData). x.ty.0 < length m.types) b.insts) body
 
-blank_right : (m : Module) (xs : List BodyInst) → All (λ (x : BodyInst). x.ty.0 < length m.types) xs → All (IsBodyInst m) (map blank xs)
+blank_right : (m : Module) (xs : List InstData) → All (λ (x : InstData). x.ty.0 < length m.types) xs → All (IsBodyInst m) (map blank xs)
 blank_right m [] all = All-nil (IsBodyInst m)
 blank_right m (x ∷ xs) all =
-    let lt = All-head (λ (x : BodyInst). x.ty.0 < length m.types) x xs all in
+    let lt = All-head (λ (x : InstData). x.ty.0 < length m.types) x xs all in
     All-cons (IsBodyInst m) (blank x) (map blank xs) (record { typed = lt; result = refl; values = (lt, All-nil (IsEntry m)); unnamed = λ e. absurd (cc) })
-    (blank_right m xs (All-tail (λ (x : BodyInst). x.ty.0 < length m.types) x xs all))
+    (blank_right m xs (All-tail (λ (x : InstData). x.ty.0 < length m.types) x xs all))
 
 blanks_right : (m : Module) (body : List BodyBlock) → AreTypes m body → All (λ (b : BodyBlock). All (IsBodyInst m) b.insts) (map blank_block body)
 blanks_right m [] all = All-nil (λ (b : BodyBlock). All (IsBodyInst m) b.insts)
 blanks_right m (b ∷ bs) all =
     All-cons (λ (b : BodyBlock). All (IsBodyInst m) b.insts) (blank_block b) (map blank_block bs)
-    (blank_right m b.insts (All-head (λ (b : BodyBlock). All (λ (x : BodyInst). x.ty.0 < length m.types) b.insts) b bs all))
-    (blanks_right m bs (All-tail (λ (b : BodyBlock). All (λ (x : BodyInst). x.ty.0 < length m.types) b.insts) b bs all))
+    (blank_right m b.insts (All-head (λ (b : BodyBlock). All (λ (x : InstData). x.ty.0 < length m.types) b.insts) b bs all))
+    (blanks_right m bs (All-tail (λ (b : BodyBlock). All (λ (x : InstData). x.ty.0 < length m.types) b.insts) b bs all))
 
 blank_numbers : (n : ℕ) (body : List BodyBlock) → block_numbers n (map blank_block body) ≡ block_numbers n body
 blank_numbers n [] = refl
 blank_numbers n (b ∷ bs) = ap (λ (ns : List LLVMBasicBlock). record { 0 = n } ∷ ns) (blank_numbers (n + 1) bs)
 
-blank_row_types : (xs : List BodyInst) → map body_type (map blank xs) ≡ map body_type xs
+blank_row_types : (xs : List InstData) → map body_type (map blank xs) ≡ map body_type xs
 blank_row_types [] = refl
 blank_row_types (x ∷ xs) = ap (λ ts. x.ty ∷ ts) (blank_row_types xs)
 
@@ -258,10 +258,10 @@ module _ (m : Module) (f : LLVMFunction) (body : List BodyBlock) (s : IsModule m
 
   -- ---- instructions that a body may have
 
-  pub row_right : (name : List ℕ) (ty : LLVMType) (r : Row) → HasParts real r → ty.0 < length m.types
+  pub row_right : (name : List ℕ) (block : LLVMBasicBlock) (ty : LLVMType) (r : Row) → HasParts real r → ty.0 < length m.types
       → option_map_or (λ t. t) (typed r.op (option_map tree r.written) (map tree_of r.operands)) VoidType ≡ tree ty → (typed r.op (option_map tree r.written) (map tree_of r.operands) ≡ None → name ≡ [])
-      → IsBodyInst real (record { name = name; ty = ty; inst = I.Row r })
-  row_right name ty r h lt e unnamed = record { typed = lt; result = body_stands r ty h lt e; values = h; unnamed = λ none. unnamed (sym (body_result r h) ∙ ap (option_map (tree_of_result (trees_of m).types)) none) }
+      → IsBodyInst real (record { name = name; block = block; ty = ty; inst = I.Row r })
+  row_right name block ty r h lt e unnamed = record { typed = lt; result = body_stands r ty h lt e; values = h; unnamed = λ none. unnamed (sym (body_result r h) ∙ ap (option_map (tree_of_result (trees_of m).types)) none) }
 
-  pub phi_right : (name : List ℕ) (ty : LLVMType) (entries : List PhiEntry) → ty.0 < length m.types → All (IsEntry real) entries → IsBodyInst real (record { name = name; ty = ty; inst = I.Phi ty entries })
-  phi_right name ty entries lt h = record { typed = lt; result = refl; values = (lt, h); unnamed = λ e. absurd (cc) }
+  pub phi_right : (name : List ℕ) (block : LLVMBasicBlock) (ty : LLVMType) (entries : List PhiEntry) → ty.0 < length m.types → All (IsEntry real) entries → IsBodyInst real (record { name = name; block = block; ty = ty; inst = I.Phi ty entries })
+  phi_right name block ty entries lt h = record { typed = lt; result = refl; values = (lt, h); unnamed = λ e. absurd (cc) }

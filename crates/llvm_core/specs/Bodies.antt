@@ -4,11 +4,10 @@ use Rattle.support.specs.Changes.{with_change}
 use Rattle.llvm_core.specs.declared.numbers.LLVMFunction.{LLVMFunction}
 use Rattle.llvm_core.specs.declared.numbers.LLVMBasicBlock.{LLVMBasicBlock}
 use Rattle.llvm_core.specs.declared.numbers.LLVMInstRef.{LLVMInstRef}
-use Rattle.llvm_core.specs.declared.bodies.BodyInst.{BodyInst}
+use Rattle.llvm_core.specs.declared.code.InstData.{InstData}
 use Rattle.llvm_core.specs.declared.bodies.BodyBlock.{BodyBlock}
 use Rattle.llvm_core.specs.declared.code.FunctionData.{FunctionData}
 use Rattle.llvm_core.specs.declared.code.BlockData.{BlockData}
-use Rattle.llvm_core.specs.declared.code.InstData.{InstData}
 use Rattle.llvm_core.specs.Module.{Module}
 use Rattle.llvm_core.specs.Code.{Code, code_of, with_code}
 use Rattle.llvm_core.specs.Parts.{HasValues, result_type}
@@ -23,7 +22,7 @@ block_numbers n [] = []
 block_numbers n (b ∷ bs) = record { 0 = n } ∷ block_numbers (n + 1) bs
 
 -- a number for each instruction, from n on
-abbrev pub inst_numbers : ℕ → List BodyInst → List LLVMInstRef
+abbrev pub inst_numbers : ℕ → List InstData → List LLVMInstRef
 inst_numbers n [] = []
 inst_numbers n (x ∷ xs) = record { 0 = n } ∷ inst_numbers (n + 1) xs
 
@@ -32,9 +31,9 @@ abbrev pub body_blocks : LLVMFunction → (i : ℕ) → List BodyBlock → List 
 body_blocks f i [] = []
 body_blocks f i (b ∷ bs) = record { name = b.name; function = f; insts = inst_numbers i b.insts } ∷ body_blocks f (i + length b.insts) bs
 
--- an instruction of the block n
-abbrev pub inst_in : (n : ℕ) → BodyInst → InstData
-inst_in n x = record { name = x.name; block = record { 0 = n }; ty = x.ty; inst = x.inst }
+-- an instruction, put into the block n
+abbrev pub inst_in : (n : ℕ) → InstData → InstData
+inst_in n x = record x { block = record { 0 = n } }
 
 -- the instructions of a body, whose blocks have the numbers from n on
 abbrev pub body_insts : (n : ℕ) → List BodyBlock → List InstData
@@ -60,7 +59,7 @@ added m f body = with_code m (with_body (code_of m) f body)
 -- ---- what a body has to be
 
 -- an instruction whose type is there and is that of its operands, and whose operands are there; it has no name where it has no result
-pub record IsBodyInst (m : Module) (x : BodyInst) : Type 0 where
+pub record IsBodyInst (m : Module) (x : InstData) : Type 0 where
   pub typed : x.ty.0 < length m.types
   pub result : StandsFor m.types (result_type m x.inst) x.ty
   pub values : HasValues m x.inst
@@ -73,7 +72,7 @@ IsBodyOf m f body = All (λ (b : BodyBlock). All (IsBodyInst (added m f body)) b
 -- ---- as data
 
 -- the instructions, with the numbers from n on
-abbrev pub placed_from : Trees → (n : ℕ) → List BodyInst → List Placed
+abbrev pub placed_from : Trees → (n : ℕ) → List InstData → List Placed
 placed_from t n [] = []
 placed_from t n (x ∷ xs) = record { number = n; name = x.name; type = type_at t.types x.ty; instruction = instruction_of t x.inst } ∷ placed_from t (n + 1) xs
 

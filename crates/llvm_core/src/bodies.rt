@@ -4,26 +4,18 @@ ghost use Rattle.std.specs.Prelude.{◌≡◌, ◌+◌, ◌<◌, ◌≤◌, ◌^
 ghost use Rattle.std.specs.Vec.{vec_len, vec_capacity};
 ghost use Rattle.llvm_core.specs.Bodies.{block_numbers, body_blocks, body_insts, inst_in, inst_numbers};
 
-use crate::code::{BlockData, InstData, LLVMInst};
-use crate::numbers::{LLVMBasicBlock, LLVMFunction, LLVMInstRef, LLVMType};
+use crate::code::{BlockData, InstData};
+use crate::numbers::{LLVMBasicBlock, LLVMFunction, LLVMInstRef};
 use std::alloc::{AllocError, Global};
 use support::items::Items;
 use support::short_list::{ShortList, append_both};
 use support::text::Text;
 
-/// An instruction of a body: the name of its result, empty where it has none, the type of its result, and what it does.
-#[derive(Drop)]
-pub struct BodyInst {
-    pub name: Text,
-    pub ty: LLVMType,
-    pub inst: LLVMInst,
-}
-
 /// A block of a body; an empty name is none.
 #[derive(Drop)]
 pub struct BodyBlock {
     pub name: Text,
-    pub insts: Items<BodyInst>,
+    pub insts: Items<InstData>,
 }
 
 /// What a module gets of a body: blocks, their numbers, and instructions.
@@ -75,7 +67,7 @@ pub(crate) fn number_body(
 fn push_insts(
     alloc: Global,
     block: LLVMBasicBlock,
-    insts: Items<BodyInst>,
+    insts: Items<InstData>,
     first: u32,
     rows: &mut Vec<InstData>,
 ) -> Result<(ShortList<LLVMInstRef>, u32), AllocError>
@@ -84,26 +76,38 @@ fn push_insts(
     ensures few { IfOk result (λ r. r.1 < 2 ^ 32) }
     ensures rows { OnOk result (rows.new.items ≡ rows.old.items ++ map (inst_in block.0) insts) }
 {
-    let mut next = first;
-    let mut numbers = ShortList::zero();
-    for inst in insts.into_vec() {
-        let number = LLVMInstRef(take_number(&mut next)?);
-        append_both(alloc, rows, &mut numbers, inst_in(block, inst), number)?;
-    }
-    Ok((numbers, next))
+    let numbered = numbers_of(alloc, insts.as_slice(), first)?;
+    let mut placed = insts.into_vec();
+    place(block, placed.as_mut_slice());
+    rows.append(&mut placed)?;
+    Ok(numbered)
 }
 
-/// An instruction as a block has it.
-fn inst_in(block: LLVMBasicBlock, inst: BodyInst) -> InstData
-    ensures { result ≡ inst_in block.0 inst }
+/// Puts instructions into a block.
+fn place(block: LLVMBasicBlock, insts: &mut [InstData])
+    ensures { insts.new ≡ map (inst_in block.0) insts.old }
 {
-    let BodyInst { name, ty, inst } = inst;
-    InstData {
-        name,
-        block,
-        ty,
-        inst,
+    for inst in insts.iter_mut() {
+        inst.block = block;
     }
+}
+
+/// The numbers of instructions, from `first` on, and the next one.
+fn numbers_of(
+    alloc: Global,
+    insts: &[InstData],
+    first: u32,
+) -> Result<(ShortList<LLVMInstRef>, u32), AllocError>
+    ensures numbers { IfOk result (λ r. r.0 ≡ inst_numbers first insts.now) }
+    ensures next { IfOk result (λ r. r.1 ≡ first + length insts.now) }
+    ensures few { IfOk result (λ r. r.1 < 2 ^ 32) }
+{
+    let mut next = first;
+    let mut numbers = ShortList::zero();
+    for _inst in insts {
+        numbers.push(alloc, LLVMInstRef(take_number(&mut next)?))?;
+    }
+    Ok((numbers, next))
 }
 
 /// The next number, which is taken.

@@ -1,5 +1,7 @@
 //! Functions, blocks and instructions, as a module keeps them.
 
+ghost use Rattle.std.specs.Prelude.{◌≡◌};
+
 use crate::numbers::{LLVMBasicBlock, LLVMConst, LLVMFunction, LLVMInstRef, LLVMType};
 pub use kinds::op::{LLVMIntPredicate, Op, OverflowFlags};
 use support::items::Items;
@@ -68,4 +70,18 @@ pub struct InstData {
     pub block: LLVMBasicBlock,
     pub ty: LLVMType,
     pub inst: LLVMInst,
+}
+
+impl InstData {
+    /// An instruction of a body, which a module puts into its block once it gets the body.
+    pub fn unplaced(name: Text, ty: LLVMType, inst: LLVMInst) -> InstData
+        ensures { result ≡ record { name = name; block = record { 0 = 0 }; ty = ty; inst = inst } }
+    {
+        InstData {
+            name,
+            block: LLVMBasicBlock(0),
+            ty,
+            inst,
+        }
+    }
 }
