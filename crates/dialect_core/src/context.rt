@@ -128,6 +128,39 @@ impl Context {
         self.add(data)
     }
 
+    /// A new operation other than a module and a function, in no block, with its name: it keeps the lists that it is given.
+    #[inline(always)]
+    pub fn keep_op(
+        &mut self,
+        kind: OpKind,
+        name: Option<Identifier>,
+        operands: ShortList<Value>,
+        successors: Items<Successor>,
+        result_ty: Option<TypeHandle>,
+    ) -> Result<OpRef, AllocError>
+        requires kind { IsTrue (is_plain kind) }
+        requires kind_types { HasKindTypesBelow (length self.old.types) kind }
+        requires operands { All (IsValueWithin (length self.old.ops) (length self.old.blocks)) operands }
+        requires successors { All (IsSuccessorWithin (length self.old.ops) (length self.old.blocks)) successors }
+        requires result_ty { IfSome result_ty (λ t. t.0 < length self.old.types) }
+        ensures ok { OnOk result (self.new ≡ with_op self.old (record { kind = kind; name = name; operands = operands; successors = successors; result = result_ty; symbol = None; blocks = [] })) }
+        ensures number { IfOk result (λ o. o.0 ≡ length self.old.ops) }
+        ensures free { IfOk result (λ o. slice_get self.new.parents o.0 ≡ Some None) }
+        ensures data { OnOk result ((m : ℕ) → m < length self.old.ops → data_of self.new m ≡ data_of self.old m) }
+        ensures typed { OnOk result (IsTyped self.old → IsTyped self.new) }
+        ensures err { OnErr result (self.new ≡ self.old) }
+    {
+        self.add(OpData {
+            kind,
+            name,
+            operands,
+            successors,
+            result: result_ty,
+            symbol: None,
+            blocks: ShortList::zero(),
+        })
+    }
+
     /// Makes room for so many more operations and blocks. It is a wish: where there is no memory for it, they find theirs
     /// when they are added.
     pub fn make_room(&mut self, ops: usize, blocks: usize)
@@ -226,6 +259,7 @@ impl Context {
     }
 
     /// Keeps a new operation, and answers its number.
+    #[inline(always)]
     fn add(&mut self, op_data: OpData) -> Result<OpRef, AllocError>
         requires within { IsOpWithin (length self.old.ops) (length self.old.blocks) op_data }
         requires no_region { op_data.blocks ≡ [] }

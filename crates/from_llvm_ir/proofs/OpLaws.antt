@@ -1,8 +1,7 @@
 -- An operation more in a dialect module that the import builds.
-use Rattle.std.proofs.Common.{ℕ, ◌≡◌, ◌<◌, refl, sym, ap, subst, ◌∙◌, List, [], ◌∷◌, ◌++◌, Option, Some, None, IsTrue, All, length, map, slice_get, slice_set, nat_eq, Bool, true, false, if◌then◌else◌, arith}
-use Rattle.std.specs.Option.{option_map, option_map_or, option_and_then}
+use Rattle.std.proofs.Common.{ℕ, ◌≡◌, ◌<◌, refl, sym, ap, subst, ◌∙◌, List, [], ◌∷◌, ◌++◌, Option, Some, IsTrue, All, length, map, slice_get, nat_eq, Bool, true, false, if◌then◌else◌, arith}
+use Rattle.std.specs.Option.{option_map, option_and_then}
 use Rattle.std.proofs.lemmas.List.Elements.{All-map, All-weaker}
-use Rattle.support.specs.Changes.{with_change}
 use Rattle.dialect_types.specs.declared.types.TypeHandle.{TypeHandle}
 use Rattle.dialect_types.specs.Trees.{TypeTree, type_at, type_trees}
 use Rattle.dialect_core.specs.declared.numbers.OpRef.{OpRef}
@@ -13,9 +12,8 @@ use Rattle.dialect_core.specs.declared.ops.OpKind.{OpKind}
 use Rattle.dialect_core.specs.declared.ops.OpKind.TheVariants as K
 use Rattle.dialect_core.specs.declared.ops.OpData.{OpData}
 use Rattle.dialect_core.specs.declared.ops.BlockData.{BlockData}
-use Rattle.dialect_core.specs.ContextData.{ContextData, with_op, with_appended, with_name, kind_at, is_plain, StandsIn}
+use Rattle.dialect_core.specs.ContextData.{ContextData, with_op, with_appended, kind_at, is_plain, StandsIn}
 use Rattle.dialect_core.specs.Data.{DialectModule, Func, DialectBlock, DialectOp, IsTypedOp, data_of, Kind, kind_of, op_of, op_at, with_block_op}
-use Rattle.dialect_core.proofs.ListLemmas.{slice_get-last}
 use Rattle.from_llvm_ir.specs.Imported.{HasFuncsApart, IsOwn, IsBuilding, IsBelow}
 use Rattle.from_llvm_ir.specs.Building.{op_data, new_op}
 use Rattle.from_llvm_ir.proofs.ApartLaws.{op_apart, plain_apart}
@@ -91,18 +89,3 @@ added_op c0 c1 c2 m body d b o kind name operands successors result k h away pla
       below = rw (ops, blocks)
           (below_op (length (c0.ops ++ x ∷ [])) (length c0.blocks) b.0 y d.functions (below_more (length c0.ops) (length c0.blocks) _ _ (omega (arith, length-push c0.ops x)) (omega arith) d.functions h.below));
     }
-
--- ---- an operation that is named once it is there
-
-set_last : {X : Type 0} (xs : List X) (x y : X) → slice_set (xs ++ x ∷ []) (length xs) y ≡ xs ++ y ∷ []
-set_last [] x y = refl
-set_last (z ∷ xs) x y = ap (λ (ys : List _). z ∷ ys) (set_last xs x y)
-
-change_last : {X : Type 0} (f : X → X) (xs : List X) (x : X) (i : ℕ) → i ≡ length xs → with_change f i (xs ++ x ∷ []) ≡ xs ++ f x ∷ []
-change_last f xs x i e = rw e (ap (λ (o : Option _). option_map_or (λ y. slice_set (xs ++ x ∷ []) (length xs) (f y)) o (xs ++ x ∷ [])) (slice_get-last xs x) ∙ set_last xs x (f x))
-
-pub named_op : (c0 c1 c2 : ContextData) (o : OpRef) (kind : OpKind) (name : List ℕ) (operands : List Value) (successors : List Successor) (result : Option TypeHandle)
-    → c1 ≡ with_op c0 (op_data kind None operands successors result) → o.0 ≡ length c0.ops → c2 ≡ with_name c1 o name → c2 ≡ with_op c0 (op_data kind (Some name) operands successors result)
-named_op c0 c1 c2 o kind name operands successors result e1 number e2 =
-    e2 ∙ ap (λ (c : ContextData). with_name c o name) e1
-    ∙ ap (λ (ops : List OpData). record c0 { ops = ops; parents = c0.parents ++ None ∷ [] }) (change_last (λ (x : OpData). record x { name = Some name }) c0.ops (op_data kind None operands successors result) o.0 number)

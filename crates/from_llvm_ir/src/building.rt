@@ -20,6 +20,8 @@ use dialect_types::identifier::Identifier;
 use dialect_types::types::TypeHandle;
 use std::alloc::AllocError;
 use std::sync::ledger::Ledger;
+use support::items::Items;
+use support::short_list::ShortList;
 
 /// A new function without blocks, as the last of the module whose block `body` is.
 pub fn add_func<L: Ledger>(
@@ -82,21 +84,23 @@ pub fn add_func_block(
     add_bare_block(ctx, func.0, label, args)
 }
 
-/// A new operation, in no block.
+/// A new operation, in no block: `keep_op` of the context, with a clause that says that it leaves all that the context
+/// held.
+#[inline(always)]
 fn create_named(
     ctx: &mut Context,
     kind: OpKind,
-    operands: &[Value],
-    successors: &[Successor],
+    operands: ShortList<Value>,
+    successors: Items<Successor>,
     result_ty: Option<TypeHandle>,
     name: Option<Identifier>,
 ) -> Result<OpRef, AllocError>
     requires plain { IsTrue (is_plain kind) }
     requires types { HasKindTypesBelow (length ctx.old.types) kind }
-    requires operands { All (IsValueWithin (length ctx.old.ops) (length ctx.old.blocks)) operands.now }
-    requires successors { All (IsSuccessorWithin (length ctx.old.ops) (length ctx.old.blocks)) successors.now }
+    requires operands { All (IsValueWithin (length ctx.old.ops) (length ctx.old.blocks)) operands }
+    requires successors { All (IsSuccessorWithin (length ctx.old.ops) (length ctx.old.blocks)) successors }
     requires result_ty { IfSome result_ty (λ t. t.0 < length ctx.old.types) }
-    ensures ok { OnOk result (ctx.new ≡ with_op ctx.old (op_data kind name operands.now successors.now result_ty)) }
+    ensures ok { OnOk result (ctx.new ≡ with_op ctx.old (op_data kind name operands successors result_ty)) }
     ensures number { IfOk result (λ o. o.0 ≡ length ctx.old.ops) }
     ensures free { IfOk result (λ o. slice_get ctx.new.parents o.0 ≡ Some None) }
     ensures data { OnOk result ((m : ℕ) → m < length ctx.old.ops → data_of ctx.new m ≡ data_of ctx.old m) }
@@ -104,32 +108,30 @@ fn create_named(
     ensures types { ctx.new.types ≡ ctx.old.types }
     ensures kept { (n b : ℕ) → Keeps n b ctx.old ctx.new }
 {
-    let op = ctx.create_op(kind, operands, successors, result_ty)?;
-    if let Some(name) = name {
-        ctx.set_name(op, name)?;
-    }
+    let op = ctx.keep_op(kind, name, operands, successors, result_ty)?;
     Ok(op)
 }
 
 /// A new operation, as the last of a block of the last function, behind which nothing stands yet.
+#[inline(always)]
 pub fn add_op<L: Ledger>(
     ctx: &mut Context,
     block: BlockRef,
     kind: OpKind,
-    operands: &[Value],
-    successors: &[Successor],
+    operands: ShortList<Value>,
+    successors: Items<Successor>,
     result_ty: Option<TypeHandle>,
     name: Option<Identifier>,
     steps: &mut Steps<L>,
 ) -> Result<OpRef, AllocError>
     requires plain { IsTrue (is_plain kind) }
     requires types { HasKindTypesBelow (length ctx.old.types) kind }
-    requires operands { All (IsValueWithin (length ctx.old.ops) (length ctx.old.blocks)) operands.now }
-    requires successors { All (IsSuccessorWithin (length ctx.old.ops) (length ctx.old.blocks)) successors.now }
+    requires operands { All (IsValueWithin (length ctx.old.ops) (length ctx.old.blocks)) operands }
+    requires successors { All (IsSuccessorWithin (length ctx.old.ops) (length ctx.old.blocks)) successors }
     requires result_ty { IfSome result_ty (λ t. t.0 < length ctx.old.types) }
     requires open { (h : Home) × (base : ℕ) × (left : List DialectBlock) × (now : DialectBlock) × (right : List DialectBlock) × IsOpen h base ctx.old block left now right }
     ensures added { IfOk result (λ o. (h : Home) → (base : ℕ) → (left : List DialectBlock) → (now : DialectBlock) → (right : List DialectBlock) → (k : Kind) → kind_of (type_trees ctx.old.types) kind ≡ Some k → IsOpen h base ctx.old block left now right
-        → IsOpen h base ctx.new block left (with_ops now (now.ops ++ new_op o.0 name k operands.now successors.now (option_map (type_at (type_trees ctx.old.types)) result_ty) ∷ [])) right) }
+        → IsOpen h base ctx.new block left (with_ops now (now.ops ++ new_op o.0 name k operands successors (option_map (type_at (type_trees ctx.old.types)) result_ty) ∷ [])) right) }
     ensures number { IfOk result (λ o. o.0 ≡ length ctx.old.ops) }
     ensures count { OnOk result (length ctx.new.ops ≡ length ctx.old.ops + 1) }
     ensures kept { (n b : ℕ) → b ≤ block.0 → Keeps n b ctx.old ctx.new }

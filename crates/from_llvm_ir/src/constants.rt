@@ -28,9 +28,12 @@ use llvm_core::module::LLVMModule;
 use llvm_core::numbers::{LLVMBasicBlock, LLVMConst, LLVMFunction, LLVMInstRef};
 use std::alloc::{AllocError, Global};
 use std::sync::ledger::Ledger;
+use support::items::Items;
+use support::short_list::ShortList;
 
 /// A new last operation of the block that makes a constant.
 fn add_constant<L: Ledger>(
+    alloc: Global,
     ctx: &mut Context,
     source: &LLVMModule,
     block: BlockRef,
@@ -52,11 +55,23 @@ fn add_constant<L: Ledger>(
     };
     let int = import_plain(ctx, source, *ty)?;
     let constant = OpKind::Constant(ConstAttr::Integer(int, *value as u64));
-    add_op(ctx, block, constant, &[], &[], Some(int), None, steps)
+    let operands = ShortList::zero();
+    let successors = Items::new(alloc);
+    add_op(
+        ctx,
+        block,
+        constant,
+        operands,
+        successors,
+        Some(int),
+        None,
+        steps,
+    )
 }
 
 /// Hoists a constant, unless it was met before.
 fn hoist_constant<L: Ledger>(
+    alloc: Global,
     ctx: &mut Context,
     source: &LLVMModule,
     values: &mut Values,
@@ -77,12 +92,13 @@ fn hoist_constant<L: Ledger>(
     if values.has(value) {
         return Ok(());
     }
-    let op = add_constant(ctx, source, block, c, steps)?;
+    let op = add_constant(alloc, ctx, source, block, c, steps)?;
     values.set(value, Value::Result(op))
 }
 
 /// Hoists an operand, where it is a constant.
 fn hoist<L: Ledger>(
+    alloc: Global,
     ctx: &mut Context,
     source: &LLVMModule,
     values: &mut Values,
@@ -99,13 +115,14 @@ fn hoist<L: Ledger>(
     ensures kept { (n b : ℕ) → b ≤ block.0 → Keeps n b ctx.old ctx.new }
 {
     match operand {
-        LLVMValue::Const(c) => hoist_constant(ctx, source, values, block, c, steps),
+        LLVMValue::Const(c) => hoist_constant(alloc, ctx, source, values, block, c, steps),
         LLVMValue::Param(..) | LLVMValue::Inst(_) => Ok(()),
     }
 }
 
 /// Hoists the constants among operands.
 fn hoist_values<L: Ledger>(
+    alloc: Global,
     ctx: &mut Context,
     source: &LLVMModule,
     values: &mut Values,
@@ -122,7 +139,7 @@ fn hoist_values<L: Ledger>(
     ensures kept { (n b : ℕ) → b ≤ block.0 → Keeps n b ctx.old ctx.new }
 {
     for operand in operands {
-        hoist(ctx, source, values, block, *operand, steps)?;
+        hoist(alloc, ctx, source, values, block, *operand, steps)?;
     }
     Ok(())
 }
@@ -149,7 +166,7 @@ fn hoist_inst<L: Ledger>(
         return Ok(());
     }
     let used = used_values(alloc, source, entries, from, i)?;
-    hoist_values(ctx, source, values, block, used.as_slice(), steps)
+    hoist_values(alloc, ctx, source, values, block, used.as_slice(), steps)
 }
 
 /// Hoists the constants that the instructions of a block use.

@@ -33,6 +33,7 @@ use llvm_core::module::LLVMModule;
 use llvm_core::numbers::{LLVMBasicBlock, LLVMFunction, LLVMInstRef};
 use std::alloc::{AllocError, Global};
 use std::sync::ledger::Ledger;
+use support::items::Items;
 
 /// The identifier of a name, none where the name is empty.
 pub fn given(names: &mut Legaliser, name: &str) -> Result<Option<Identifier>, AllocError>
@@ -81,15 +82,16 @@ fn import_op<L: Ledger>(
 {
     let inst = source.inst(i);
     let operands = known_operands(alloc, source, values, inst)?;
-    let successors = known_successors(alloc, source, values, targets, entries, from, inst)?;
+    let edges = known_successors(alloc, source, values, targets, entries, from, inst)?;
+    let successors = Items::from_vec(edges);
     let ty = import_result_type(ctx, source, i)?;
     let name = given(names, source.inst_name(i))?;
     let op = add_op(
         ctx,
         block,
         kind_of(inst),
-        operands.as_slice(),
-        successors.as_slice(),
+        operands,
+        successors,
         ty,
         name,
         steps,

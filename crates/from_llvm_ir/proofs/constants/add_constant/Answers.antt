@@ -1,11 +1,13 @@
 -- What `constants::add_constant` owes besides what the check finds.
-use Rattle.std.proofs.Common.{◌∙◌, ◌+◌, ap, Some, None, [], length, refl}
+use Rattle.std.proofs.Common.{◌∙◌, ◌+◌, ◌++◌, ◌∷◌, All, List, ap, sym, subst, Some, None, [], length, refl}
 use Rattle.std.proofs.lemmas.List.Elements.{All-nil}
 use Rattle.std.proofs.lemmas.Result.{IfOk-weaker, on_ok_weaker}
+use Rattle.dialect_core.specs.declared.ops.Value.{Value}
+use Rattle.dialect_core.specs.declared.ops.Successor.{Successor}
 use Rattle.dialect_core.specs.ContextData.{ContextData, IsValueWithin, IsSuccessorWithin}
 use Rattle.dialect_types.specs.Trees.{IntegerAttr, type_at, type_trees}
 use Rattle.dialect_core.specs.Data.{ConstantOp}
-use Rattle.from_llvm_ir.specs.Building.{new_op}
+use Rattle.from_llvm_ir.specs.Building.{IsOpen, new_op, with_ops}
 use Rattle.from_llvm_ir.proofs.ConstLaws.{const_short, const_fits, const_made, short_kind}
 use Rattle.from_llvm_ir.proofs.UnderLaws.{typed_open}
 use Rattle.from_llvm_ir.proofs.KeepLaws.{keeps_then, keeps_types}
@@ -39,7 +41,9 @@ returns-clause-made g c =
       new_op o.0 None kind [] [] (Some ty),
       refl,
       const_made c.args.source.now c.args.c c.in-Int.ty c.in-Int.value o.0 ty (c.const_kind.ensures.kind ∙ ap Some c.in-Int.is) c.requires.short c.in_ok-int.ensures.ty,
-      added h base left now right kind refl (typed_open h base c.args.ctx.now c.import_plain.new.ctx c.args.block left now right u c.import_plain.ensures.grown),
+      subst (λ (ss : List Successor). IsOpen h base c.add_op.new.ctx c.args.block left (with_ops now (now.ops ++ new_op o.0 None kind [] ss (Some ty) ∷ [])) right) c.new-successors.ensures
+          (subst (λ (os : List Value). IsOpen h base c.add_op.new.ctx c.args.block left (with_ops now (now.ops ++ new_op o.0 None kind os c.new-successors.result (Some ty) ∷ [])) right) c.zero-operands.ensures
+          (added h base left now right kind refl (typed_open h base c.args.ctx.now c.import_plain.new.ctx c.args.block left now right u c.import_plain.ensures.grown))),
     ))
     c.add_op.ensures.added
 
@@ -53,10 +57,14 @@ pub add_op-requires-clause-result_ty : goal.add_op-requires-clause-result_ty
 add_op-requires-clause-result_ty g c = c.in_ok-int.ensures.within
 
 pub add_op-requires-clause-operands : goal.add_op-requires-clause-operands
-add_op-requires-clause-operands g c = All-nil (IsValueWithin (length c.import_plain.new.ctx.ops) (length c.import_plain.new.ctx.blocks))
+add_op-requires-clause-operands g c =
+    let P = IsValueWithin (length c.import_plain.new.ctx.ops) (length c.import_plain.new.ctx.blocks) in
+    subst (All P) (sym c.zero-operands.ensures) (All-nil P)
 
 pub add_op-requires-clause-successors : goal.add_op-requires-clause-successors
-add_op-requires-clause-successors g c = All-nil (IsSuccessorWithin (length c.import_plain.new.ctx.ops) (length c.import_plain.new.ctx.blocks))
+add_op-requires-clause-successors g c =
+    let P = IsSuccessorWithin (length c.import_plain.new.ctx.ops) (length c.import_plain.new.ctx.blocks) in
+    subst (All P) (sym c.new-successors.ensures) (All-nil P)
 
 pub returns-clause-number : goal.returns-clause-number
 returns-clause-number g c = IfOk-weaker c.add_op.result _ _ (λ o number. number ∙ ap (λ (x : ContextData). length x.ops) c.import_plain.ensures.grown.rest) c.add_op.ensures.number

@@ -40,13 +40,13 @@ returns-in_err-operands-clause-err g c =
 pub known_successors-requires : goal.known_successors-requires
 known_successors-requires g c = let r = c.requires in (r.1, r.0.source, targets_ready r.0 c.args.source.now r.1 c.args.targets.now c.args.entries.now c.args.ctx.now c.args.values.now c.args.from c.args.block c.args.i r.2 r.3 r.4 r.5 r.6 c.inst-inst.result.now c.inst-inst.ensures.inst r.7)
 
-pub returns-in_err-successors-clause-err : goal.returns-in_err-successors-clause-err
-returns-in_err-successors-clause-err g c =
-    passed_on c.from_residual-in_err-successors.result c.in_err-successors.field-0.0 _ c.from_residual-in_err-successors.ensures.1
+pub returns-in_err-edges-clause-err : goal.returns-in_err-edges-clause-err
+returns-in_err-edges-clause-err g c =
+    passed_on c.from_residual-in_err-edges.result c.in_err-edges.field-0.0 _ c.from_residual-in_err-edges.ensures.1
     (λ fr f j x b p h other places inverse.
-    late fr c.args.source.now f c.args.targets.now c.args.entries.now c.args.ctx.now c.args.values.now c.args.from c.args.block c.args.i j x b p h other places inverse _ c.in_err-successors.field-0.0
+    late fr c.args.source.now f c.args.targets.now c.args.entries.now c.args.ctx.now c.args.values.now c.args.from c.args.block c.args.i j x b p h other places inverse _ c.in_err-edges.field-0.0
     (λ o is_in. in_targets fr c.args.source.now f c.args.targets.now c.args.entries.now c.args.ctx.now c.args.values.now c.args.from c.args.block c.args.i j x b p h c.inst-inst.result.now c.inst-inst.ensures.inst (target_blocks c.inst-inst.result.now) o refl is_in)
-    (c.in_err-successors.ensures.err f fr.source (targets_ready fr c.args.source.now f c.args.targets.now c.args.entries.now c.args.ctx.now c.args.values.now c.args.from c.args.block c.args.i j x b p h c.inst-inst.result.now c.inst-inst.ensures.inst other)))
+    (c.in_err-edges.ensures.err f fr.source (targets_ready fr c.args.source.now f c.args.targets.now c.args.entries.now c.args.ctx.now c.args.values.now c.args.from c.args.block c.args.i j x b p h c.inst-inst.result.now c.inst-inst.ensures.inst other)))
 
 pub import_result_type-requires : goal.import_result_type-requires
 import_result_type-requires g c = let r = c.requires in (r.5.type, type_of_inst c.args.source.now r.1 r.0.source c.args.from r.6.place r.4 c.args.i r.3 r.5 r.6.framed.source r.6.of_block r.6.inst)
@@ -65,16 +65,16 @@ add_op-requires-clause-operands g c =
     let r = c.requires in
     let m = c.args.source.now in
     let noted = c.in_ok-operands.ensures.ok in
-    subst (λ (x : ContextData). All (IsValueWithin (length x.ops) (length x.blocks)) c.as_slice.result.now) (sym c.import_result_type.ensures.grown.rest)
-    (subst (All (IsValueWithin (length c.args.ctx.now.ops) (length c.args.ctx.now.blocks))) (sym c.as_slice.ensures) (values_within r.0 m c.args.ctx.now c.args.values.now r.2 r.3 r.4 r.6.body _ c.in_ok-operands.operands (operands_stand r.0 m r.1 c.args.targets.now c.args.entries.now c.args.ctx.now c.args.values.now c.args.from c.args.block c.args.i r.2 r.3 r.4 r.5 r.6 c.inst-inst.result.now c.inst-inst.ensures.inst r.7 c.in_ok-operands.operands noted)))
+    subst (λ (x : ContextData). All (IsValueWithin (length x.ops) (length x.blocks)) c.in_ok-operands.operands) (sym c.import_result_type.ensures.grown.rest)
+    (values_within r.0 m c.args.ctx.now c.args.values.now r.2 r.3 r.4 r.6.body _ c.in_ok-operands.operands (operands_stand r.0 m r.1 c.args.targets.now c.args.entries.now c.args.ctx.now c.args.values.now c.args.from c.args.block c.args.i r.2 r.3 r.4 r.5 r.6 c.inst-inst.result.now c.inst-inst.ensures.inst r.7 c.in_ok-operands.operands noted))
 
 pub add_op-requires-clause-successors : goal.add_op-requires-clause-successors
 add_op-requires-clause-successors g c =
     let r = c.requires in
     let m = c.args.source.now in
-    let edges = c.in_ok-successors.ensures.ok r.1 r.0.source (targets_ready r.0 m r.1 c.args.targets.now c.args.entries.now c.args.ctx.now c.args.values.now c.args.from c.args.block c.args.i r.2 r.3 r.4 r.5 r.6 c.inst-inst.result.now c.inst-inst.ensures.inst r.7) in
-    subst (λ (x : ContextData). All (IsSuccessorWithin (length x.ops) (length x.blocks)) c.as_slice-2.result.now) (sym c.import_result_type.ensures.grown.rest)
-    (subst (All (IsSuccessorWithin (length c.args.ctx.now.ops) (length c.args.ctx.now.blocks))) (sym c.as_slice-2.ensures.value) (edges_within r.0 m c.args.ctx.now c.args.values.now r.2 r.3 r.4 r.6.body r.4.number _ c.in_ok-successors.successors.items (edges_stand r.0 m r.1 c.args.targets.now c.args.entries.now c.args.ctx.now c.args.values.now c.args.from c.args.block c.args.i r.2 r.3 r.4 r.5 r.6 c.inst-inst.result.now c.inst-inst.ensures.inst c.in_ok-successors.successors.items edges)))
+    let edges = c.in_ok-edges.ensures.ok r.1 r.0.source (targets_ready r.0 m r.1 c.args.targets.now c.args.entries.now c.args.ctx.now c.args.values.now c.args.from c.args.block c.args.i r.2 r.3 r.4 r.5 r.6 c.inst-inst.result.now c.inst-inst.ensures.inst r.7) in
+    subst (λ (x : ContextData). All (IsSuccessorWithin (length x.ops) (length x.blocks)) c.from_vec-successors.result) (sym c.import_result_type.ensures.grown.rest)
+    (subst (All (IsSuccessorWithin (length c.args.ctx.now.ops) (length c.args.ctx.now.blocks))) (sym c.from_vec-successors.ensures) (edges_within r.0 m c.args.ctx.now c.args.values.now r.2 r.3 r.4 r.6.body r.4.number _ c.in_ok-edges.edges.items (edges_stand r.0 m r.1 c.args.targets.now c.args.entries.now c.args.ctx.now c.args.values.now c.args.from c.args.block c.args.i r.2 r.3 r.4 r.5 r.6 c.inst-inst.result.now c.inst-inst.ensures.inst c.in_ok-edges.edges.items edges)))
 
 pub add_op-requires-clause-open : goal.add_op-requires-clause-open
 add_op-requires-clause-open g c =
@@ -87,16 +87,16 @@ returns-clause-ok g c = λ fr f j x b p h other.
     let grown = c.import_result_type.ensures.grown in
     let c1 = c.import_result_type.new.ctx in
     let noted = c.in_ok-operands.ensures.ok in
-    let edges = c.in_ok-successors.ensures.ok f fr.source (targets_ready fr m f c.args.targets.now c.args.entries.now c.args.ctx.now c.args.values.now c.args.from c.args.block c.args.i j x b p h c.inst-inst.result.now c.inst-inst.ensures.inst other) in
+    let edges = c.in_ok-edges.ensures.ok f fr.source (targets_ready fr m f c.args.targets.now c.args.entries.now c.args.ctx.now c.args.values.now c.args.from c.args.block c.args.i j x b p h c.inst-inst.result.now c.inst-inst.ensures.inst other) in
     let kind = kind_found (trees_of m) (type_trees c1.types) c.inst-inst.result.now c.kind_of.result c.kind_of.ensures in
-    let o = new_op c.in_ok-op.op.0 c.in_ok-name.name kind.0 c.as_slice.result.now c.as_slice-2.result.now (option_map (type_at (type_trees c1.types)) c.in_ok-ty.ty) in
+    let o = new_op c.in_ok-op.op.0 c.in_ok-name.name kind.0 c.in_ok-operands.operands c.from_vec-successors.result (option_map (type_at (type_trees c1.types)) c.in_ok-ty.ty) in
     let under = typed_open fr.home fr.base c.args.ctx.now c1 c.args.block _ _ _ (body_open fr m c.args.ctx.now c.args.values.now j x b h.body c.args.block h.number) grown in
     operation_more fr m f c.args.ctx.now c.args.values.now j x b h.body h.framed c.add_op.new.ctx c.set.new.self c.args.i p o c.args.block h.inst.at other (inst_number m b c.args.i x p h.inst)
     (record {
       kind = subst (λ (i : Instruction). IsKind i kind.0) (sym (instruction_is m b c.args.i x p c.inst-inst.result.now h.inst c.inst-inst.ensures.inst)) kind.2;
       name = c.in_ok-name.ensures ∙ ap given_name (inst_name m b c.args.i x p c.inst_name.result.now h.inst c.inst_name.ensures);
-      operands = operands_stand fr m f c.args.targets.now c.args.entries.now c.args.ctx.now c.args.values.now c.args.from c.args.block c.args.i j x b p h c.inst-inst.result.now c.inst-inst.ensures.inst other c.as_slice.result.now (subst (AreNoted c.args.values.now (operands c.inst-inst.result.now)) (sym c.as_slice.ensures) noted);
-      successors = edges_stand fr m f c.args.targets.now c.args.entries.now c.args.ctx.now c.args.values.now c.args.from c.args.block c.args.i j x b p h c.inst-inst.result.now c.inst-inst.ensures.inst c.as_slice-2.result.now (subst (λ (ss : List Successor). Matched (IsKnownEdge m fr.source c.args.values.now c.args.targets.now c.args.from) (target_blocks c.inst-inst.result.now) ss) (sym c.as_slice-2.ensures.value) edges);
+      operands = operands_stand fr m f c.args.targets.now c.args.entries.now c.args.ctx.now c.args.values.now c.args.from c.args.block c.args.i j x b p h c.inst-inst.result.now c.inst-inst.ensures.inst other c.in_ok-operands.operands noted;
+      successors = edges_stand fr m f c.args.targets.now c.args.entries.now c.args.ctx.now c.args.values.now c.args.from c.args.block c.args.i j x b p h c.inst-inst.result.now c.inst-inst.ensures.inst c.from_vec-successors.result (subst (λ (ss : List Successor). Matched (IsKnownEdge m fr.source c.args.values.now c.args.targets.now c.args.from) (target_blocks c.inst-inst.result.now) ss) (sym c.from_vec-successors.ensures) edges);
       result = c.in_ok-ty.ensures.ty p.type (type_of_inst m f fr.source c.args.from h.place b c.args.i x p h.framed.source h.of_block h.inst);
     })
     (c.in_ok-op.ensures.number ∙ ap (λ (y : ContextData). length y.ops) grown.rest)
@@ -140,8 +140,8 @@ returns-in_err-set-clause-err g c = passed_on c.from_residual-in_err-set.result 
 pub returns-in_err-operands-clause-kept : goal.returns-in_err-operands-clause-kept
 returns-in_err-operands-clause-kept g c = λ n b behind. keeps_none n b c.args.ctx.now
 
-pub returns-in_err-successors-clause-kept : goal.returns-in_err-successors-clause-kept
-returns-in_err-successors-clause-kept g c = λ n b behind. keeps_none n b c.args.ctx.now
+pub returns-in_err-edges-clause-kept : goal.returns-in_err-edges-clause-kept
+returns-in_err-edges-clause-kept g c = λ n b behind. keeps_none n b c.args.ctx.now
 
 pub add_op-requires-clause-result_ty : goal.add_op-requires-clause-result_ty
 add_op-requires-clause-result_ty g c = c.in_ok-ty.ensures.within
