@@ -177,15 +177,3 @@ pub matched_more : {X Y : Type 0} (P : X → Y → Type 0) (xs : List X) (i : �
 matched_more P xs i x ys zs y at is h p =
     let more : take (i + 1) xs ≡ take i xs ++ x ∷ [] = ap (λ (j : ℕ). take j xs) (let e : i + 1 ≡ suc i = omega arith in e) ∙ take_suc xs i x at in
     rw (more, is) (matched_push P (take i xs) ys x y h p)
-
--- and two lists of one item, or of two
-pub matched_one : {X Y : Type 0} (P : X → Y → Type 0) (xs : List X) (d : X) (ys : List Y) (y : Y) → length xs ≡ 1 → ys ≡ y ∷ [] → P (get_or xs 0 d) y → Matched P xs ys
-matched_one P [] d ys y one is p = absurd (omega (arith, one))
-matched_one P (x ∷ []) d ys y one is p = rw is (p, tt)
-matched_one P (x ∷ w ∷ xs) d ys y one is p = absurd (omega (arith, one))
-
-pub matched_two : {X Y : Type 0} (P : X → Y → Type 0) (xs : List X) (d e : X) (ys : List Y) (y z : Y) → length xs ≡ 2 → ys ≡ y ∷ z ∷ [] → P (get_or xs 0 d) y → P (get_or xs 1 e) z → Matched P xs ys
-matched_two P [] d e ys y z two is p q = absurd (omega (arith, two))
-matched_two P (x ∷ []) d e ys y z two is p q = absurd (omega (arith, two))
-matched_two P (x ∷ w ∷ []) d e ys y z two is p q = rw is (p, (q, tt))
-matched_two P (x ∷ w ∷ v ∷ xs) d e ys y z two is p q = absurd (omega (arith, two))
