@@ -64,6 +64,7 @@ fn type_nth(operands: &[Typed], place: usize) -> Option<LLVMType>
 }
 
 /// Whether the operands fit the row.
+#[inline(always)]
 pub fn row_fits(module: &LLVMModule, row: &RowLine) -> bool
     requires sound { IsModule module.now }
     requires row { IsRowIn module.now row.now }

@@ -98,6 +98,7 @@ impl<'a> Scope<'a> {
     }
 
     /// Defines a thing under a name, or under a number that is at least the counter.
+    #[inline(always)]
     fn define_under(&mut self, local: Local, key: Key<'a>) -> Result<(), BuildErr>
         ensures ok { OnOk result ((types : List TypeTree) → Takes types self.old self.new (λ s. define s (local_view types local) (option_key (Some key.entry)))) }
         ensures adds { OnOk result (Adds (λ (y : Local). y ≡ local) self.old self.new) }
