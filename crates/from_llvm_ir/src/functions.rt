@@ -113,12 +113,30 @@ fn add_blocks(
     Ok(targets)
 }
 
-/// Each parameter of a function by the argument of its first block at the same place.
+/// How many constants of a module get a slot while a function is imported: all of them, where the function is long enough to use
+/// many of them. A text that is read has the last constant first, so that their numbers count down.
+fn const_slots(source: &LLVMModule, f: LLVMFunction) -> usize
+    requires { f.0 < length source.now.functions }
+{
+    let mut insts = 0usize;
+    for block in source.blocks(f) {
+        insts = insts.saturating_add(source.instructions(*block).len());
+    }
+    let consts = source.const_count() as usize;
+    if consts <= insts.saturating_mul(4) {
+        consts
+    } else {
+        0
+    }
+}
+
+/// Each parameter of a function by the argument of its first block at the same place. So many constants have slots.
 fn parameters(
     alloc: Global,
     f: LLVMFunction,
     block: BlockRef,
     count: usize,
+    consts: usize,
 ) -> Result<Values, AllocError>
     ensures { IfOk result (λ values. (m : Module) → (fr : Frame) → fr.source.number ≡ f.0 → length fr.source.params ≡ count → block.0 ≡ fr.base → Notes m values (knows fr [] [] [] [])) }
 {
@@ -127,7 +145,8 @@ fn parameters(
         block,
         count: place_of(count)?,
     };
-    Ok(Values::new(alloc, params))
+    let values = Values::new(alloc, params, consts)?;
+    Ok(values)
 }
 
 /// The body of a function, in a function of the dialect that has no block yet.
@@ -151,7 +170,8 @@ fn import_body<L: Ledger>(
     let entries = entries_of(alloc, source, f)?;
     let targets = add_blocks(alloc, ctx, names, source, f, func, order)?;
     let block = target_of(&targets, source.blocks(f)[0]);
-    let mut values = parameters(alloc, f, block, param_count(source, f))?;
+    let consts = const_slots(source, f);
+    let mut values = parameters(alloc, f, block, param_count(source, f), consts)?;
     hoist_constants(
         alloc,
         ctx,

@@ -50,17 +50,17 @@ pub struct Values {
 }
 
 impl Values {
-    /// The values of these parameters alone.
-    pub fn new(alloc: Global, params: Params) -> Values
-        ensures params { result.params ≡ params }
-        ensures insts { (i : LLVMInstRef) → value_at result (sources.Inst i) ≡ None }
-        ensures consts { (c : LLVMConst) → value_at result (sources.Const c) ≡ None }
+    /// The values of these parameters alone. The constants of numbers below a count have slots from the first.
+    pub fn new(alloc: Global, params: Params, consts: usize) -> Result<Values, AllocError>
+        ensures params { IfOk result (λ v. v.params ≡ params) }
+        ensures insts { IfOk result (λ v. (i : LLVMInstRef) → value_at v (sources.Inst i) ≡ None) }
+        ensures consts { IfOk result (λ v. (c : LLVMConst) → value_at v (sources.Const c) ≡ None) }
     {
-        Values {
+        Ok(Values {
             insts: NumberMap::new(alloc),
-            consts: NumberMap::new(alloc),
+            consts: NumberMap::with_slots(alloc, consts)?,
             params,
-        }
+        })
     }
 
     /// The value that stands for one of the source, where one was noted.

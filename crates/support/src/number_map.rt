@@ -1,6 +1,6 @@
 //! A map from numbers, quick where they lie near each other.
 
-ghost use Rattle.std.specs.Prelude.{◌≡◌, ◌+◌, ◌≤◌, ◌<◌, ◌⊎◌, ◌-◌, ◌++◌, ◌∷◌, [], ℕ, nat_eq, None, true, Some, IfSome, IfNone, OnOk, length, if◌then◌else◌};
+ghost use Rattle.std.specs.Prelude.{◌≡◌, ◌+◌, ◌≤◌, ◌<◌, ◌⊎◌, ◌-◌, ◌++◌, ◌∷◌, [], ℕ, nat_eq, None, true, Some, IfSome, IfNone, IfOk, OnOk, length, if◌then◌else◌};
 ghost use Rattle.support.specs.Options.{or_else};
 ghost use Rattle.support.specs.NumberMaps.{far_at, slot_at, slot_or, value_at};
 
@@ -38,6 +38,22 @@ impl<V> NumberMap<V> {
 }
 
 impl<V: Copy + Drop> NumberMap<V> {
+    /// No number has a value, and those below a count have a slot each, so that they get their values in any order without
+    /// a hash.
+    pub fn with_slots(alloc: Global, count: usize) -> Result<NumberMap<V>, AllocError>
+        ensures { IfOk result (λ m. (q : ℕ) → value_at m q ≡ None) }
+    {
+        let mut near = Vec::with_capacity(alloc, count)?;
+        pad(&mut near, count)?;
+        Ok(NumberMap {
+            alloc,
+            base: 0,
+            near,
+            filled: 0,
+            far: None,
+        })
+    }
+
     /// The value of a number, where it has one.
     pub fn get(&self, number: u32) -> Option<V>
         ensures { result ≡ value_at self.now number }
