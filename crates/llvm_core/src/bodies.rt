@@ -1,6 +1,6 @@
 //! Bodies that are handed over whole: their blocks and instructions name each other by the numbers that they get.
 
-ghost use Rattle.std.specs.Prelude.{◌≡◌, ◌+◌, ◌<◌, ◌≤◌, ◌^◌, ◌++◌, IfOk, OnOk, length, map};
+ghost use Rattle.std.specs.Prelude.{◌≡◌, ◌⊎◌, ◌+◌, ◌<◌, ◌≤◌, ◌^◌, ◌++◌, [], IfOk, OnOk, length, map};
 ghost use Rattle.std.specs.Vec.{vec_len, vec_capacity};
 ghost use Rattle.llvm_core.specs.Bodies.{block_numbers, body_blocks, body_insts, inst_in, inst_numbers};
 
@@ -79,8 +79,20 @@ fn push_insts(
     let numbered = numbers_of(alloc, insts.as_slice(), first)?;
     let mut placed = insts.into_vec();
     place(block, placed.as_mut_slice());
-    rows.append(&mut placed)?;
+    append_all(rows, placed)?;
     Ok(numbered)
+}
+
+/// Appends one list to another. The first one is not copied.
+fn append_all(rows: &mut Vec<InstData>, more: Vec<InstData>) -> Result<(), AllocError>
+    ensures { OnOk result (rows.new.items ≡ rows.old.items ++ more.items) }
+{
+    if rows.is_empty() {
+        *rows = more;
+        return Ok(());
+    }
+    let mut rest = more;
+    rows.append(&mut rest)
 }
 
 /// Puts instructions into a block.
@@ -124,11 +136,26 @@ fn take_number(next: &mut u32) -> Result<u32, AllocError>
     Ok(number)
 }
 
-/// Appends one list to another that has the room for it.
+/// Makes room behind a list for so many more. An empty list needs none: it is replaced.
+pub(crate) fn reserve_behind<T: Drop>(list: &mut Vec<T>, more: usize) -> Result<(), AllocError>
+    ensures same { list.new.items ≡ list.old.items }
+    ensures room { OnOk result ((list.new.items ≡ []) ⊎ (vec_len list.new + more ≤ vec_capacity list.new)) }
+{
+    if list.is_empty() {
+        return Ok(());
+    }
+    list.reserve(more)
+}
+
+/// Appends one list to another that has the room for it, or is empty: then it becomes the other.
 pub(crate) fn append_reserved<T: Drop>(list: &mut Vec<T>, more: Vec<T>)
-    requires { vec_len list.old + vec_len more ≤ vec_capacity list.old }
+    requires { (list.old.items ≡ []) ⊎ (vec_len list.old + vec_len more ≤ vec_capacity list.old) }
     ensures { list.new.items ≡ list.old.items ++ more.items }
 {
+    if list.is_empty() {
+        *list = more;
+        return;
+    }
     let mut rest = more;
     match list.append(&mut rest) {
         Ok(()) => (),

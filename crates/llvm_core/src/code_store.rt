@@ -7,7 +7,7 @@ ghost use Rattle.llvm_core.specs.Code.{with_function, with_param_name, with_bloc
 ghost use Rattle.llvm_core.specs.Bodies.{with_body, with_lists};
 ghost use Rattle.llvm_core.specs.Parts.{IsPhi, is_phi, operands};
 
-use crate::bodies::{BodyBlock, Numbered, append_reserved, number_body};
+use crate::bodies::{BodyBlock, Numbered, append_reserved, number_body, reserve_behind};
 use crate::code::{BlockData, FunctionData, InstData, LLVMInst, LLVMValue, PhiEntry};
 use crate::numbers::{LLVMBasicBlock, LLVMFunction, LLVMInstRef, LLVMType};
 use std::alloc::{AllocError, Global};
@@ -196,8 +196,8 @@ impl CodeStore {
             blocks,
             insts,
         } = body;
-        self.blocks.reserve(blocks.len())?;
-        self.insts.reserve(insts.len())?;
+        reserve_behind(&mut self.blocks, blocks.len())?;
+        reserve_behind(&mut self.insts, insts.len())?;
         let function = &mut self.functions[f.0 as usize];
         function.blocks.append(self.alloc, numbers.as_slice())?;
         append_reserved(&mut self.blocks, blocks);

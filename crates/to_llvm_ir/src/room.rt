@@ -8,7 +8,7 @@ use dialect_core::ops::OpKind;
 use llvm_core::module::LLVMModule;
 
 /// Makes room for what stands for the operations of a context: an instruction for each row, and a phi for each argument of
-/// a block.
+/// a block but the first of its function.
 pub fn make_room(ctx: &Context, back: &mut LLVMModule)
     ensures { back.new ≡ back.old }
 {
@@ -23,7 +23,10 @@ pub fn make_room(ctx: &Context, back: &mut LLVMModule)
         }
     }
     for block in 0..blocks as u32 {
-        insts = insts.saturating_add(ctx.block_args(BlockRef(block)).len());
+        let args = ctx.block_args(BlockRef(block)).len();
+        if args > 0 && !ctx.is_first_block(BlockRef(block)) {
+            insts = insts.saturating_add(args);
+        }
     }
     back.make_room(blocks, insts);
 }
