@@ -17,10 +17,11 @@ use Rattle.dialect_core.specs.declared.ops.BlockData.{BlockData}
 use Rattle.dialect_core.specs.Lists.{list_at}
 use Rattle.dialect_core.specs.ContextData.{ContextData, kind_at, region_at, symbol_at}
 use Rattle.dialect_core.specs.Data.{Kind, DialectOp, DialectBlock, Func, kind_of, op_at, block_in, name_at, held, type_in}
-use Rattle.dialect_core.specs.Form.{IsFitting, IsShortInt}
+use Rattle.dialect_core.specs.Rules.{IsIntegerOf}
+use Rattle.kinds.specs.Held.{IsSignature}
 use Rattle.kinds.specs.Rules.{ends}
 use Rattle.kinds.specs.Table.{rule_of}
-use Rattle.dialect_core.specs.WellFormed.{IsSignature, suits, IsOfKind, IsWellFormedOp, IsWellFormedBlock, IsWellFormedFunc, IsPlainAt, IsPastFirsts, IsTypedBy, Typing}
+use Rattle.dialect_core.specs.WellFormed.{suits, IsOfKind, IsWellFormedOp, IsWellFormedBlock, IsWellFormedFunc, IsPlainAt, IsPastFirsts, IsTypedBy, Typing}
 
 -- the tree of a type of the context
 abbrev pub tree_at : ContextData → TypeHandle → TypeTree
@@ -58,9 +59,9 @@ pub record Passes (types : Typing) (wanted : Option TypeTree) (v : Value) : Type
 abbrev pub PassesEach : Typing → List TypeTree → List Value → Type 0
 PassesEach types wanted vs = (place : ℕ) (v : Value) → slice_get vs place ≡ Some v → Passes types (slice_get wanted place) v
 
--- a constant of that type, which fits it, of 1 to 64 bits
+-- a constant of that type, an integer
 abbrev pub IsConstantOf : Option TypeTree → AttrTree → Type 0
-IsConstantOf own (IntegerAttr type value) = IsShortInt type × IsFitting type value × (own ≡ Some type)
+IsConstantOf own (IntegerAttr type value) = IsIntegerOf type value × (own ≡ Some type)
 
 -- the kind is one of a function's block, and the operation is as its kind is
 abbrev pub IsKindAt : ContextData → Func → OpKind → List Value → Option TypeHandle → List Successor → Type 0

@@ -1,9 +1,9 @@
--- Functions of the form that is translated today: a body of constants and rows of the table over integers of 1 to 64 bits.
+-- Functions of the form that is translated today: a body of constants and rows of the table, over the types that are held.
 -- Where its constants stand is a question of its own.
 use Rattle.std.specs.Prelude.{◌≡◌, ◌<◌, ◌≤◌, ℕ, suc, Bool, true, false, not, List, [], ◌∷◌, ◌++◌, length, take, filter, slice_get, Some, All, IfSome}
 use Rattle.std.specs.List.{flat_map}
 use Rattle.std.specs.Option.{option_map_or}
-use Rattle.dialect_types.specs.Trees.{TypeTree, VoidType, FunctionType, TypeTrees}
+use Rattle.dialect_types.specs.Trees.{TypeTree, FunctionType, TypeTrees}
 use Rattle.dialect_types.specs.Names.{IsPlainName}
 use Rattle.dialect_core.specs.declared.linkage.LinkageAttr.TheVariants.{ExternalLinkage}
 use Rattle.dialect_core.specs.declared.ops.Value.{Value}
@@ -11,32 +11,29 @@ use Rattle.dialect_core.specs.declared.ops.Value.TheVariants.{Result, Argument}
 use Rattle.dialect_core.specs.declared.ops.Successor.{Successor}
 use Rattle.kinds.specs.Rules.{ends}
 use Rattle.kinds.specs.Table.{rule_of}
-pub use Rattle.dialect_core.specs.Rules.{IsShortInt, IsFitting, types_list, result_of}
+use Rattle.kinds.specs.Types.{types_list}
+use Rattle.kinds.specs.Held.{IsHeld, IsHeldResult}
 use Rattle.dialect_core.specs.Rules.{IsOfKind}
 use Rattle.dialect_core.specs.Data.{Kind, ConstantOp, RowOp, DialectOp, DialectBlock, Func, ops_in, value_type}
 
 -- ---- operations
 
-abbrev pub IsShortResult : TypeTree → Type 0
-IsShortResult VoidType = Unit {0}
-IsShortResult t = IsShortInt t
-
--- an operand of that type, an integer of 1 to 64 bits, wherever it is defined in the function
+-- an operand of that type, which is translated, wherever it is defined in the function
 pub record IsOperand (g : Func) (type : TypeTree) (v : Value) : Type 0 where
   pub typed : value_type g v ≡ Some type
-  pub short : IsShortInt type
+  pub held : IsHeld type
 
 -- an operand of some such type
-abbrev pub IsShortValue : Func → Value → Type 0
-IsShortValue g v = (type : TypeTree) × IsOperand g type v
+abbrev pub IsHeldValue : Func → Value → Type 0
+IsHeldValue g v = (type : TypeTree) × IsOperand g type v
 
 -- an operation of the function g: it keeps the rules of the dialect by the types that g gives its values, and those types
--- are of 1 to 64 bits
+-- are translated
 pub record IsFormOp (g : Func) (o : DialectOp) : Type 0 where
   pub kind : IsOfKind (value_type g) g o.operands o.result o.successors o.kind
-  pub operands : All (IsShortValue g) o.operands
-  pub passed : All (λ (s : Successor). All (IsShortValue g) s.args) o.successors
-  pub result : IfSome o.result IsShortInt
+  pub operands : All (IsHeldValue g) o.operands
+  pub passed : All (λ (s : Successor). All (IsHeldValue g) s.args) o.successors
+  pub result : IfSome o.result IsHeld
   pub name : IfSome o.name IsPlainName
 
 -- ---- functions
@@ -74,7 +71,7 @@ body_ops g = others_of (ops_in g)
 -- a block of the function g
 pub record IsFormBlock (g : Func) (b : DialectBlock) : Type 0 where
   pub label : IfSome b.label IsPlainName
-  pub args : All IsShortInt b.args
+  pub args : All IsHeld b.args
   pub ops : All (IsFormOp g) b.ops
   pub ends : EndsInOnly b.ops
 
@@ -85,8 +82,8 @@ pub record IsFormFunc (g : Func) : Type 0 where
   pub result : TypeTree
   pub types : TypeTrees
   pub type : g.type ≡ FunctionType result types false
-  pub returns : IsShortResult result
-  pub takes : All IsShortInt (types_list types)
+  pub returns : IsHeldResult result
+  pub takes : All IsHeld (types_list types)
   pub linkage : g.linkage ≡ ExternalLinkage
   pub entry : DialectBlock
   pub more : List DialectBlock

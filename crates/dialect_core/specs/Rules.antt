@@ -4,7 +4,8 @@ use Rattle.std.specs.Option.{option_and_then}
 use Rattle.kinds.specs.declared.op.Op.{Op}
 use Rattle.kinds.specs.declared.rules.Takes.{Takes}
 use Rattle.kinds.specs.declared.rules.Takes.TheVariants as O
-use Rattle.kinds.specs.Types.{TypeTree, VoidType, IntType, FunctionType, TypeTrees, NoTypes, ThenType, shape, same_tree}
+use Rattle.kinds.specs.Types.{TypeTree, IntType, shape, same_tree, result_of}
+use Rattle.kinds.specs.Held.{is_void, IsFirstClass, IsShortWidth}
 use Rattle.kinds.specs.Rules.{operand_count, target_count}
 use Rattle.kinds.specs.Table.{rule_of}
 use Rattle.kinds.specs.Fitting.{fits}
@@ -15,40 +16,11 @@ use Rattle.dialect_core.specs.declared.ops.Value.TheVariants.{Argument}
 use Rattle.dialect_core.specs.declared.ops.Successor.{Successor}
 use Rattle.dialect_core.specs.Data.{Kind, ConstantOp, RowOp, DialectBlock, Func}
 
--- ---- types
+-- ---- constants
 
--- an integer type: of 1 to 2^23 bits
-abbrev pub IsInteger : TypeTree → Type 0
-IsInteger VoidType = ⊥
-IsInteger (IntType w) = (1 ≤ w) × (w ≤ 2 ^ 23)
-IsInteger (FunctionType result params variadic) = ⊥
-
--- an integer type of 1 to 64 bits
-abbrev pub IsShortInt : TypeTree → Type 0
-IsShortInt VoidType = ⊥
-IsShortInt (IntType w) = (1 ≤ w) × (w ≤ 64)
-IsShortInt (FunctionType result params variadic) = ⊥
-
--- the value fits the type
-abbrev pub IsFitting : TypeTree → ℕ → Type 0
-IsFitting VoidType v = ⊥
-IsFitting (IntType w) v = v < 2 ^ w
-IsFitting (FunctionType result params variadic) v = ⊥
-
-abbrev pub types_list : TypeTrees → List TypeTree
-types_list NoTypes = []
-types_list (ThenType t ts) = t ∷ types_list ts
-
--- what a function of that type returns
-abbrev pub result_of : TypeTree → TypeTree
-result_of VoidType = VoidType
-result_of (IntType w) = VoidType
-result_of (FunctionType result params variadic) = result
-
-abbrev pub is_void : TypeTree → Bool
-is_void VoidType = true
-is_void (IntType w) = false
-is_void (FunctionType result params variadic) = false
+-- an integer type of 1 to 64 bits, since an integer attribute holds no more, which the value fits
+abbrev pub IsIntegerOf : TypeTree → ℕ → Type 0
+IsIntegerOf type value = (w : ℕ) × (type ≡ IntType w) × IsShortWidth w × (value < 2 ^ w)
 
 -- ---- values
 
@@ -63,9 +35,9 @@ Typing = Value → Option TypeTree
 abbrev pub IsTypedBy : Typing → Value → Type 0
 IsTypedBy types v = (type : TypeTree) × (types v ≡ Some type)
 
--- a value of an integer type
-abbrev pub IsIntegerBy : Typing → Value → Type 0
-IsIntegerBy types v = (type : TypeTree) × (types v ≡ Some type) × IsInteger type
+-- a value of a first class type
+abbrev pub IsFirstClassBy : Typing → Value → Type 0
+IsFirstClassBy types v = (type : TypeTree) × (types v ≡ Some type) × IsFirstClass type
 
 -- the type of the value at a place
 abbrev pub type_nth : Typing → List Value → ℕ → Option TypeTree
@@ -108,18 +80,17 @@ row_result types op own vs = given (rule_of op).gives (written_for (rule_of op).
 
 -- the operands, the result and the edges keep the rule of the row
 pub record IsRow (types : Typing) (g : Func) (op : Op) (operands : List Value) (own : Option TypeTree) (edges : List Successor) : Type 0 where
-  pub integers : All (IsIntegerBy types) operands
+  pub values : All (IsFirstClassBy types) operands
   pub count : length operands ≡ operand_count (rule_of op).takes (returns_void g)
   pub fits : row_fits types op own operands ≡ true
   pub returns : IsReturning (rule_of op).takes types (result_of g.type) operands
   pub result : own ≡ row_result types op own operands
-  pub integer : IfSome own IsInteger
+  pub value : IfSome own IsFirstClass
   pub leads : AreEdges types g (target_count (rule_of op).leads) edges
 
--- an integer of 1 to 64 bits, since an integer attribute holds no more, which fits its type
+-- an integer of its type
 pub record IsConstant (type : TypeTree) (value : ℕ) (operands : List Value) (own : Option TypeTree) (edges : List Successor) : Type 0 where
-  pub short : IsShortInt type
-  pub fitting : IsFitting type value
+  pub integer : IsIntegerOf type value
   pub result : own ≡ Some type
   pub bare : operands ≡ []
   pub ends_here : edges ≡ []

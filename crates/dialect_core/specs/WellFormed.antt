@@ -1,7 +1,7 @@
 -- Well-formed modules: the rules of the dialect for the kinds of operations that there are, and what the open form
 -- (`IsOpenForm`) asks besides.
 use Rattle.std.specs.Prelude.{◌≡◌, ◌<◌, ◌≤◌, ◌^◌, ℕ, Bool, true, false, List, [], ◌∷◌, length, slice_get, Some, All, IfSome}
-use Rattle.dialect_types.specs.Trees.{TypeTree, VoidType, IntType, FunctionType, type_at, type_trees}
+use Rattle.dialect_types.specs.Trees.{TypeTree, type_at, type_trees}
 use Rattle.dialect_types.specs.declared.types.TypeHandle.{TypeHandle}
 use Rattle.dialect_types.specs.Names.{IsPlainName}
 use Rattle.dialect_core.specs.declared.numbers.OpRef.{OpRef}
@@ -15,29 +15,11 @@ use Rattle.dialect_core.specs.declared.ops.BlockData.{BlockData}
 use Rattle.dialect_core.specs.declared.ops.Symbol.{Symbol}
 use Rattle.dialect_core.specs.Lists.{list_at}
 use Rattle.dialect_core.specs.ContextData.{ContextData, kind_at, region_at, symbol_at, is_plain}
-pub use Rattle.dialect_core.specs.Rules.{IsInteger, Typing, IsTypedBy, IsEdge, AreEdges, IsOfKind}
-use Rattle.dialect_core.specs.Rules.{IsShortInt, types_list}
+pub use Rattle.dialect_core.specs.Rules.{Typing, IsTypedBy, IsEdge, AreEdges, IsOfKind}
+use Rattle.kinds.specs.Types.{params_of}
+use Rattle.kinds.specs.Held.{IsFirstClass, IsHeld, IsSignature, IsHeldSignature}
 use Rattle.dialect_core.specs.Data.{DialectOp, DialectBlock, Func, held, data_of, ops_in, type_in}
-use Rattle.dialect_core.specs.Form.{IsShortResult, EndsInOnly}
-
--- ---- types
-
--- what a function returns: nothing, or an integer
-abbrev pub IsReturned : TypeTree → Type 0
-IsReturned VoidType = Unit {0}
-IsReturned t = IsInteger t
-
--- the type of a function: void stands only as its result, and it stands in no other type
-abbrev pub IsSignature : TypeTree → Type 0
-IsSignature (FunctionType result params variadic) = IsReturned result × All IsInteger (types_list params)
-IsSignature VoidType = ⊥
-IsSignature (IntType w) = ⊥
-
--- what a function of that type takes
-abbrev pub params_of : TypeTree → List TypeTree
-params_of (FunctionType result params variadic) = types_list params
-params_of VoidType = []
-params_of (IntType w) = []
+use Rattle.dialect_core.specs.Form.{EndsInOnly}
 
 -- ---- operations
 
@@ -47,9 +29,9 @@ IsWellFormedOp types g o = IsOfKind types g o.operands o.result o.successors o.k
 
 -- ---- blocks and functions
 
--- a block of the function: its arguments are integers, and one terminator stands in it, last
+-- a block of the function: its arguments are of first class types, and one terminator stands in it, last
 pub record IsWellFormedBlock (types : Typing) (g : Func) (b : DialectBlock) : Type 0 where
-  pub args : All IsInteger b.args
+  pub args : All IsFirstClass b.args
   pub ops : All (IsWellFormedOp types g) b.ops
   pub ends : EndsInOnly b.ops
 
@@ -143,9 +125,9 @@ HasFewEntries c b = IsFew (list_at c.lists b) × All (IsFewFunc c) (list_at c.li
 
 -- ---- modules
 
--- the arguments of a block are integers, and few
-abbrev pub HasIntegerArgs : ContextData → BlockRef → Type 0
-HasIntegerArgs c b = (x : BlockData) → slice_get c.blocks b.0 ≡ Some x → IsFew x.args × All (λ (t : TypeHandle). IsInteger (type_at (type_trees c.types) t)) x.args
+-- the arguments of a block are of first class types, and few
+abbrev pub HasFirstClassArgs : ContextData → BlockRef → Type 0
+HasFirstClassArgs c b = (x : BlockData) → slice_get c.blocks b.0 ≡ Some x → IsFew x.args × All (λ (t : TypeHandle). IsFirstClass (type_at (type_trees c.types) t)) x.args
 
 -- no two functions have one name
 abbrev pub HasNamesApart : List Func → Type 0
@@ -163,7 +145,7 @@ IsFirst c b = (holder : ℕ) × (slice_get (region_at c.ops holder) 0 ≡ Some b
 abbrev pub IsPastFirsts : ContextData → OpRef → Type 0
 IsPastFirsts c o = (x : OpData) → slice_get c.ops o.0 ≡ Some x → All (λ (s : Successor). ¬ IsFirst c s.block) x.successors
 
--- The operation of the number m is a module of at most one block. That block takes integers, and holds functions alone,
+-- The operation of the number m is a module of at most one block. That block takes values, and holds functions alone,
 -- whose blocks hold neither functions nor modules: the data leave such out, so these rules speak of the context. So does
 -- the rule that no edge goes to the first block of a region, be it of this function, of another or of a module. An
 -- operand, and a value that an edge passes, has its type in the context, whichever function it belongs to: that each is
@@ -171,7 +153,7 @@ IsPastFirsts c o = (x : OpData) → slice_get c.ops o.0 ≡ Some x → All (λ (
 pub record IsWellFormed (c : ContextData) (m : ℕ) : Type 0 where
   pub kind : kind_at c.ops (record { 0 = m }) ≡ Some K.Module
   pub region : length (region_at c.ops m) ≤ 1
-  pub args : All (HasIntegerArgs c) (region_at c.ops m)
+  pub args : All (HasFirstClassArgs c) (region_at c.ops m)
   pub funcs_alone : All (λ (o : OpRef). kind_at c.ops o ≡ Some K.Func) (held c m)
   pub plain : All (λ (o : OpRef). All (IsPlainAt c) (held c o.0)) (held c m)
   pub past_firsts : All (λ (o : OpRef). All (IsPastFirsts c) (held c o.0)) (held c m)
@@ -182,28 +164,22 @@ pub record IsWellFormed (c : ContextData) (m : ℕ) : Type 0 where
 
 -- ---- what the open form asks besides
 
--- an operation of the form: its result, where it has one, is of 1 to 64 bits, and its name is plain
+-- an operation of the form: the type of its result, where it has one, is translated, and its name is plain
 pub record IsNarrowOp (o : DialectOp) : Type 0 where
-  pub result : IfSome o.result IsShortInt
+  pub result : IfSome o.result IsHeld
   pub name : IfSome o.name IsPlainName
 
--- a block of the form: its arguments are of 1 to 64 bits, and its label is plain
+-- a block of the form: the types of its arguments are translated, and its label is plain
 pub record IsNarrowBlock (b : DialectBlock) : Type 0 where
-  pub args : All IsShortInt b.args
+  pub args : All IsHeld b.args
   pub ops : All IsNarrowOp b.ops
   pub label : IfSome b.label IsPlainName
-
--- the types that a function takes and returns are of 1 to 64 bits, and it is not variadic
-abbrev pub IsNarrowSignature : TypeTree → Type 0
-IsNarrowSignature (FunctionType result params variadic) = IsShortResult result × All IsShortInt (types_list params) × (variadic ≡ false)
-IsNarrowSignature VoidType = ⊥
-IsNarrowSignature (IntType w) = ⊥
 
 -- a function of the form, as far as that is narrower: it has a body and external linkage
 pub record IsNarrowFunc (g : Func) : Type 0 where
   pub name : IsPlainName g.name
   pub linkage : g.linkage ≡ L.ExternalLinkage
-  pub signature : IsNarrowSignature g.type
+  pub signature : IsHeldSignature g.type
   pub blocks : All IsNarrowBlock g.blocks
   pub body : ¬ (g.blocks ≡ [])
 

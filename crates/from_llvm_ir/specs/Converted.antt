@@ -10,7 +10,8 @@ use Rattle.dialect_core.specs.declared.ops.Successor.{Successor}
 use Rattle.dialect_core.specs.Data.{DialectBlock, DialectOp, Kind, RowOp}
 use Rattle.dialect_core.specs.Form.{uses_of}
 use Rattle.meaning.specs.Pairs.{Matched}
-use Rattle.from_llvm_ir.specs.Types.{result_from, args_from}
+use Rattle.kinds.specs.Types.{params_of}
+use Rattle.kinds.specs.Held.{own_type}
 use Rattle.from_llvm_ir.specs.Imported.{passed, given_name, rest_of, phis_of, label_for, front_for}
 use Rattle.from_llvm_ir.specs.Building.{ops_of}
 use Rattle.from_llvm_ir.specs.Known.{Frame, Known, blocks_of, value_of, result_in, Stands}
@@ -37,7 +38,7 @@ pub record Converted (k : Known) (b : L.Block) (p : Placed) (o : DialectOp) : Ty
   pub name : o.name ≡ given_name p.name
   pub operands : Matched (Stands k) (operands_of p.instruction) o.operands
   pub successors : Matched (IsEdge k b.number) (L.targets p.instruction) o.successors
-  pub result : o.result ≡ result_from p.type
+  pub result : o.result ≡ own_type p.type
 
 -- and its result for the instruction's
 pub record IsRow (k : Known) (b : L.Block) (p : Placed) (o : DialectOp) : Type 0 where
@@ -48,7 +49,7 @@ pub record IsRow (k : Known) (b : L.Block) (p : Placed) (o : DialectOp) : Type 0
 
 -- the types of the arguments of the block at a place: those of the parameters, or of its phis
 abbrev pub args_for : L.Function → (place : ℕ) → L.Block → List TypeTree
-args_for g zero b = args_from g.type
+args_for g zero b = params_of g.type
 args_for g (suc n) b = map (λ (p : Placed). p.type) (phis_of b)
 
 -- the number, label and arguments of the block at a place
@@ -91,7 +92,7 @@ AreConverted k cs = (place : ℕ) (b : L.Block) (c : DialectBlock) → slice_get
 -- the value is an argument of the type of p of a block, or the result of an operation of it of that type
 pub data IsFrom (cs : List DialectBlock) (p : Placed) (w : Value) : Type 0 where
   FromArgument : (j i : ℕ) (c : DialectBlock) → slice_get cs j ≡ Some c → w ≡ V.Argument (record { 0 = c.number }) i → slice_get c.args i ≡ Some p.type → IsFrom cs p w
-  FromResult : (j y : ℕ) (c : DialectBlock) (o : DialectOp) → slice_get cs j ≡ Some c → slice_get c.ops y ≡ Some o → w ≡ value_of o → o.result ≡ result_from p.type → IsFrom cs p w
+  FromResult : (j y : ℕ) (c : DialectBlock) (o : DialectOp) → slice_get cs j ≡ Some c → slice_get c.ops y ≡ Some o → w ≡ value_of o → o.result ≡ own_type p.type → IsFrom cs p w
 
 -- each value that stands for an instruction does
 abbrev pub AreFrom : Known → List DialectBlock → Type 0

@@ -68,8 +68,8 @@ pub data FirstUses {A : Type 0} : (uses firsts : List A) → Type 0 where
 
 -- the operation makes the constant, and has no name
 abbrev pub Makes : ConstTree → DialectOp → Type 0
-Makes (IntConst (IntType w) v) o = (o.kind ≡ ConstantOp (IntegerAttr (IntType w) v)) × (o.name ≡ None)
-Makes _ o = ⊥
+Makes (IntConst w v) o = (o.kind ≡ ConstantOp (IntegerAttr (IntType w) v)) × (o.name ≡ None)
+Makes (PlaceholderConst n type) o = ⊥
 
 -- ---- functions
 

@@ -74,9 +74,7 @@ pub record Notes (m : Module) (values : Values) (k : Known) : Type 0 where
 
 -- the operation makes the constant, and nothing else
 abbrev pub IsConstantOp : ConstTree → DialectOp → Type 0
-IsConstantOp (IntConst (IntType w) v) o = o ≡ new_op o.number None (ConstantOp (IntegerAttr (IntType w) v)) [] [] (Some (IntType w))
-IsConstantOp (IntConst VoidType v) o = ⊥
-IsConstantOp (IntConst (FunctionType result params variadic) v) o = ⊥
+IsConstantOp (IntConst w v) o = o ≡ new_op o.number None (ConstantOp (IntegerAttr (IntType w) v)) [] [] (Some (IntType w))
 IsConstantOp (PlaceholderConst n type) o = ⊥
 
 -- the value is of an operation from `split` up to n, or one of the first arguments of the block `at`, or one of a

@@ -1,5 +1,5 @@
 -- What the numbers of a source function stand for in its data, and what its phis take.
-use Rattle.std.specs.Prelude.{ℕ, ◌≡◌, ◌<◌, ◌≤◌, ◌^◌, ◌++◌, ◌⊎◌, nat_eq, List, Option, Some, None, length, slice_get}
+use Rattle.std.specs.Prelude.{ℕ, ◌≡◌, ◌<◌, ◌≤◌, ◌++◌, ◌⊎◌, nat_eq, List, Option, Some, None, length, slice_get}
 use Rattle.std.specs.Option.{option_map, option_map_or}
 use Rattle.std.specs.List.{find, flat_map}
 use Rattle.std.specs.HashMap.{get}
@@ -16,8 +16,9 @@ use Rattle.llvm_core.specs.Module.{Module}
 use Rattle.llvm_core.specs.Sound.{IsModule}
 use Rattle.llvm_core.specs.Parts.{IsValue}
 use Rattle.llvm_core.specs.Data as L
-use Rattle.llvm_core.specs.Data.{Placed, ConstTree, IntConst, PlaceholderConst, VoidType, IntType, FunctionType, trees_of, type_at, operand_of, placed_of, block_of, AreApart, data_of}
-use Rattle.llvm_core.specs.Form.{IsFormFunction, IsShortResult, IsOperand, edges_between}
+use Rattle.llvm_core.specs.Data.{Placed, trees_of, type_at, operand_of, placed_of, block_of, AreApart, data_of}
+use Rattle.llvm_core.specs.Form.{IsFormFunction, IsOperand, edges_between}
+use Rattle.kinds.specs.Held.{IsHeldResult}
 use Rattle.meaning.specs.Llvm.{used}
 use Rattle.from_llvm_ir.specs.declared.entries.Entries.{Entries}
 use Rattle.from_llvm_ir.specs.contracts.entries.EntryPartialEq.TheImpl as keys
@@ -44,13 +45,13 @@ pub record IsInstOf (m : Module) (b : L.Block) (i : LLVMInstRef) (place : ℕ) (
   pub here : slice_get m.insts i.0 ≡ Some row
   pub is : p ≡ placed_of (trees_of m) i row
 
--- t is the type of the instruction of that number, short or void
+-- t is the type of the instruction of that number, one that is translated or void
 pub record IsTypeOf (m : Module) (i : LLVMInstRef) (t : L.TypeTree) : Type 0 where
   pub sound : IsModule m
   pub row : InstData
   pub here : slice_get m.insts i.0 ≡ Some row
   pub is : t ≡ type_at (trees_of m).types row.ty
-  pub short : IsShortResult t
+  pub held : IsHeldResult t
 
 -- the numbers name the blocks of g, in order
 pub record AreBlocksOf (m : Module) (g : L.Function) (ns : List LLVMBasicBlock) : Type 0 where
@@ -129,10 +130,3 @@ IsUsable g o = (type : L.TypeTree) × IsOperand g type o
 pub record IsUsed (m : Module) (g : L.Function) (v : LLVMValue) : Type 0 where
   pub valid : IsValue m v
   pub usable : IsUsable g (operand_of (trees_of m) v)
-
--- an integer constant of 1 to 64 bits
-abbrev pub IsShortConst : ConstTree → Type 0
-IsShortConst (IntConst (IntType w) v) = (1 ≤ w) × (w ≤ 64) × (v < 2 ^ w)
-IsShortConst (IntConst VoidType v) = ⊥
-IsShortConst (IntConst (FunctionType result params variadic) v) = ⊥
-IsShortConst (PlaceholderConst n type) = ⊥

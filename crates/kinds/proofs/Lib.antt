@@ -3,3 +3,4 @@ pub mod TypeLaws
 pub mod FittingLaws
 pub mod TableLaws
 pub mod OpLaws
+pub mod HeldLaws

@@ -1,5 +1,5 @@
 -- Whether operands fit a row, given how many there are and the types of the first three, whatever a type is.
-use Rattle.std.specs.Prelude.{ℕ, Bool, true, false, ◌&&◌, nat_eq, nat_lt, Option, Some, None}
+use Rattle.std.specs.Prelude.{ℕ, Bool, true, false, ◌&&◌, ◌^◌, nat_eq, nat_le, nat_lt, Option, Some, None}
 use Rattle.kinds.specs.declared.rules.Fit.{Fit}
 use Rattle.kinds.specs.declared.rules.Fit.TheVariants as F
 use Rattle.kinds.specs.declared.rules.Takes.{Takes}
@@ -29,6 +29,35 @@ abbrev pub is_bit : Shape → Bool
 is_bit S.Void = false
 is_bit (S.Int w) = nat_eq w 1
 is_bit S.Function = false
+
+-- void
+abbrev pub is_nothing : Shape → Bool
+is_nothing S.Void = true
+is_nothing (S.Int w) = false
+is_nothing S.Function = false
+
+abbrev pub is_function : Shape → Bool
+is_function S.Void = false
+is_function (S.Int w) = false
+is_function S.Function = true
+
+-- the width of an integer
+abbrev pub width_of : Shape → ℕ
+width_of S.Void = 0
+width_of (S.Int w) = w
+width_of S.Function = 0
+
+-- a type of a value, whose width is one that there is
+abbrev pub is_first_class : Shape → Bool
+is_first_class S.Void = false
+is_first_class (S.Int w) = nat_le 1 w && nat_le w (2 ^ 23)
+is_first_class S.Function = false
+
+-- one that is translated today
+abbrev pub is_held : Shape → Bool
+is_held S.Void = false
+is_held (S.Int w) = nat_le 1 w && nat_le w 64
+is_held S.Function = false
 
 -- two integers, of which the first is wider
 abbrev pub is_wider : Shape → Shape → Bool

@@ -4,3 +4,4 @@ pub mod Rules
 pub mod Table
 pub mod Fitting
 pub mod Typing
+pub mod Held

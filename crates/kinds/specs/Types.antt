@@ -1,5 +1,5 @@
 -- Types as trees, the same for both sides.
-use Rattle.std.specs.Prelude.{ℕ, Bool, true, false, ◌&&◌, nat_eq}
+use Rattle.std.specs.Prelude.{ℕ, ◌+◌, Bool, true, false, ◌&&◌, nat_eq, List, [], ◌∷◌}
 use Rattle.kinds.specs.declared.fitting.Shape.{Shape}
 use Rattle.kinds.specs.declared.fitting.Shape.TheVariants as S
 
@@ -37,3 +37,28 @@ abbrev mutual
   same_trees NoTypes NoTypes = true
   same_trees (ThenType t ts) (ThenType u us) = same_tree t u && same_trees ts us
   same_trees _ _ = false
+
+-- ---- parts of a type
+
+abbrev pub types_list : TypeTrees → List TypeTree
+types_list NoTypes = []
+types_list (ThenType t ts) = t ∷ types_list ts
+
+abbrev pub count_types : TypeTrees → ℕ
+count_types NoTypes = 0
+count_types (ThenType t ts) = 1 + count_types ts
+
+-- what a function of that type returns; void where it is the type of no function
+abbrev pub result_of : TypeTree → TypeTree
+result_of VoidType = VoidType
+result_of (IntType w) = VoidType
+result_of (FunctionType result params variadic) = result
+
+-- what a function of that type takes
+abbrev pub takes_of : TypeTree → TypeTrees
+takes_of VoidType = NoTypes
+takes_of (IntType w) = NoTypes
+takes_of (FunctionType result params variadic) = params
+
+abbrev pub params_of : TypeTree → List TypeTree
+params_of t = types_list (takes_of t)

@@ -1,9 +1,15 @@
 //! Whether operands fit a row: one evaluator of the table's words, for either side.
 
 ghost use Rattle.std.specs.Prelude.{◌≡◌};
-ghost use Rattle.kinds.specs.Fitting.{fit, is_same, is_wider, is_written, takes_fit, fits, view_same, view_shape, is_value, is_number, is_bit};
+ghost use Rattle.kinds.specs.Fitting.{fit, is_same, is_wider, is_written, takes_fit, fits, view_same, view_shape, is_value, is_number, is_bit, is_nothing, is_function, is_first_class, is_held};
 
 use crate::rules::{Fit, Gives, Rule, Takes};
+
+/// The greatest width of an integer type in bits, 2^23.
+const MAX_WIDTH: u32 = 8_388_608;
+
+/// The greatest width of an integer that is translated.
+const MAX_SHORT: u32 = 64;
 
 /// What rules look at in a type.
 #[derive(Clone, Copy, PartialEq, Eq, Debug, Drop)]
@@ -22,7 +28,8 @@ pub struct TypeView {
     pub shape: Shape,
 }
 
-fn is_value(shape: Shape) -> bool
+/// Whether it is that of a type of a value.
+pub fn is_value(shape: Shape) -> bool
     ensures { result ≡ is_value shape }
 {
     match shape {
@@ -48,6 +55,50 @@ fn is_bit(shape: Shape) -> bool
     match shape {
         Shape::Void => false,
         Shape::Int(width) => width == 1,
+        Shape::Function => false,
+    }
+}
+
+/// Whether it is void.
+pub fn is_nothing(shape: Shape) -> bool
+    ensures { result ≡ is_nothing shape }
+{
+    match shape {
+        Shape::Void => true,
+        Shape::Int(_) => false,
+        Shape::Function => false,
+    }
+}
+
+/// Whether it is that of a function type.
+pub fn is_function(shape: Shape) -> bool
+    ensures { result ≡ is_function shape }
+{
+    match shape {
+        Shape::Void => false,
+        Shape::Int(_) => false,
+        Shape::Function => true,
+    }
+}
+
+/// Whether it is that of a type of a value, of a width that there is: 1 to 2^23 bits.
+pub fn is_first_class(shape: Shape) -> bool
+    ensures { result ≡ is_first_class shape }
+{
+    match shape {
+        Shape::Void => false,
+        Shape::Int(width) => 1 <= width && width <= MAX_WIDTH,
+        Shape::Function => false,
+    }
+}
+
+/// Whether it is that of a type that is translated: an integer of 1 to 64 bits.
+pub fn is_held(shape: Shape) -> bool
+    ensures { result ≡ is_held shape }
+{
+    match shape {
+        Shape::Void => false,
+        Shape::Int(width) => 1 <= width && width <= MAX_SHORT,
         Shape::Function => false,
     }
 }

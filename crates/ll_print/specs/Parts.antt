@@ -17,7 +17,8 @@ use Rattle.llvm_core.specs.declared.code.InstData.{InstData}
 use Rattle.llvm_core.specs.Module.{Module}
 use Rattle.llvm_core.specs.Sound.{IsModule}
 use Rattle.llvm_core.specs.Data.{Placed, Block, Function, ModuleData, trees_of, type_at, param_type, placed_at, block_at, function_of, placed_in}
-use Rattle.llvm_core.specs.Form.{HasNumber, result_of}
+use Rattle.llvm_core.specs.Form.{HasNumber}
+use Rattle.kinds.specs.Types.{result_of}
 use Rattle.ll_literals.specs.Numbers.{number_limit}
 use Rattle.ll_print.specs.declared.numbers.Numbers.{Numbers}
 use Rattle.ll_print.specs.Printing.{Unnamed, unnamed_result, unnamed_block, unnamed_in, gives_text, placed_text, entry_label_text, block_text}

@@ -1,8 +1,9 @@
 -- The names and numbers by which a text speaks of the parameters, blocks and results of a function.
-use Rattle.std.specs.Prelude.{ℕ, suc, Bool, false, List, [], ◌∷◌, ◌++◌, nat_eq, decimal}
+use Rattle.std.specs.Prelude.{ℕ, suc, Bool, false, List, [], ◌∷◌, ◌++◌, if◌then◌else◌, nat_eq, decimal}
 use Rattle.std.specs.List.{flat_map, find, position_or_len}
 use Rattle.std.specs.Option.{option_map_or}
-use Rattle.llvm_core.specs.Data.{TypeTree, VoidType, Placed, Block, Function, placed_in}
+use Rattle.llvm_core.specs.Data.{TypeTree, Placed, Block, Function, placed_in}
+use Rattle.kinds.specs.Held.{is_void}
 use Rattle.ll_literals.specs.Text.{Text}
 
 -- ---- what has no name
@@ -31,8 +32,7 @@ unnamed_params i (n ∷ ns) = if_unnamed n (ParamAt i) ++ unnamed_params (suc i)
 
 -- of an instruction: its result, where it has one
 abbrev pub unnamed_result : TypeTree → Placed → List Unnamed
-unnamed_result VoidType p = []
-unnamed_result type p = if_unnamed p.name (ResultOf p.number)
+unnamed_result type p = if is_void type then [] else if_unnamed p.name (ResultOf p.number)
 
 abbrev pub unnamed_block : Block → List Unnamed
 unnamed_block b = if_unnamed b.name (BlockOf b.number) ++ flat_map (λ (p : Placed). unnamed_result p.type p) b.instructions

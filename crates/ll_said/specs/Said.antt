@@ -1,8 +1,9 @@
 -- What the text of module data says, a definition for each part.
-use Rattle.std.specs.Prelude.{ℕ, suc, List, [], ◌∷◌, ◌++◌, Option, Some, None, map, drop, slice_index_or}
+use Rattle.std.specs.Prelude.{ℕ, suc, List, [], ◌∷◌, ◌++◌, Option, Some, None, if◌then◌else◌, map, drop, slice_index_or}
 use Rattle.std.specs.List.{flat_map}
-use Rattle.llvm_core.specs.Data.{TypeTree, VoidType, Operand, Constant, Parameter, Result, RowData, Instruction, Phi, Applied, Placed, Block, Function, ModuleData, operand_type, param_type}
-use Rattle.llvm_core.specs.Form.{result_of}
+use Rattle.llvm_core.specs.Data.{TypeTree, Operand, Constant, Parameter, Result, RowData, Instruction, Phi, Applied, Placed, Block, Function, ModuleData, operand_type, param_type}
+use Rattle.kinds.specs.Types.{result_of}
+use Rattle.kinds.specs.Held.{is_void}
 use Rattle.ll_literals.specs.Names.{global, label, quoted}
 use Rattle.ll_lines.specs.Lines as L
 use Rattle.ll_lines.specs.Lines.{Text, Said, Typed, RowLine, Incoming, Inst, Line, Part, Param, File}
@@ -37,8 +38,7 @@ inst_of f type (Applied r) = L.Row (row_of f r)
 
 -- the name or number of a result, where there is one
 abbrev pub gives_of : Function → TypeTree → Placed → Option Text
-gives_of f VoidType p = None
-gives_of f type p = Some (local_text f p.name (ResultOf p.number))
+gives_of f type p = if is_void type then None else Some (local_text f p.name (ResultOf p.number))
 
 abbrev pub line_of : Function → Placed → Line
 line_of f p = record { result = gives_of f p.type p; inst = inst_of f p.type p.instruction }

@@ -70,7 +70,7 @@ int_type t = width_of t >>= λ w. if nat_le 1 w && nat_le w (2 ^ 23) then Some (
 -- what a literal says at a type: a local is a name still, and constants are integers of at most 64 bits
 abbrev pub said : TypeTree → Literal → Option Said
 said τ (LocalL t) = Some (Local t)
-said (IntType w) (ConstL t) = if nat_le w 64 then option_map (λ n. Const (IntConst (IntType w) n)) (const_value w t) else None
+said (IntType w) (ConstL t) = if nat_le w 64 then option_map (λ n. Const (IntConst w n)) (const_value w t) else None
 said _ (ConstL t) = None
 
 abbrev pub typed : TypeTree → Literal → Option Typed

@@ -7,7 +7,8 @@ use Rattle.kinds.specs.declared.op.OverflowFlags.{OverflowFlags}
 use Rattle.kinds.specs.declared.op.Op.{Op}
 use Rattle.kinds.specs.declared.op.Op.TheVariants as O
 use Rattle.llvm_core.specs.Data.{TypeTree, VoidType, IntType, FunctionType, ConstTree, IntConst, PlaceholderConst, Operand, Constant, Parameter, Result, Instruction, Phi, RowData, Applied, Placed, Block, Function, ModuleData, operand_type, param_type}
-use Rattle.llvm_core.specs.Form.{result_of}
+use Rattle.kinds.specs.Types.{result_of}
+use Rattle.kinds.specs.Held.{is_void}
 use Rattle.ll_literals.specs.Text.{Text}
 use Rattle.ll_literals.specs.Names.{global, quoted}
 use Rattle.ll_said.specs.Naming.{ParamAt, ResultOf, local_text, result_name, block_ref}
@@ -30,14 +31,9 @@ int_text w v =
     if w == 1 then (if v == 0 then codes "false" else codes "true")
     else (if nat_le w 128 then signed_text w v else decimal v)
 
-abbrev pub int_of_type : TypeTree → ℕ → Text
-int_of_type (IntType w) v = int_text w v
-int_of_type VoidType v = []
-int_of_type (FunctionType result params variadic) v = []
-
 -- a constant without its type, a line for each kind; a checked module has no placeholder
 abbrev pub const_text : ConstTree → Text
-const_text (IntConst type v) = int_of_type type v
+const_text (IntConst w v) = int_text w v
 const_text (PlaceholderConst number type) = []
 
 -- ---- instructions
@@ -176,8 +172,7 @@ instruction_text f type (Applied r) = row_text f r
 
 -- the result, where there is one
 abbrev pub gives_text : Function → TypeTree → Placed → Text
-gives_text f VoidType p = []
-gives_text f type p = local_text f p.name (ResultOf p.number) ++ codes " = "
+gives_text f type p = if is_void type then [] else local_text f p.name (ResultOf p.number) ++ codes " = "
 
 abbrev pub placed_text : Function → Placed → Text
 placed_text f p = codes "  " ++ gives_text f p.type p ++ instruction_text f p.type p.instruction ++ codes "\n"

@@ -3,7 +3,8 @@ use Rattle.std.specs.Prelude.{◌≡◌, ◌<◌, ◌≤◌, ◌^◌, ℕ, Bool,
 use Rattle.std.specs.List.{AllByRecursion}
 use Rattle.kinds.specs.Rules.{target_count, operand_count}
 use Rattle.kinds.specs.Table.{rule_of}
-use Rattle.kinds.specs.Types.{TypeTree, VoidType, IntType, FunctionType}
+use Rattle.kinds.specs.Types.{TypeTree, IntType}
+use Rattle.kinds.specs.Held.{IsFirstClass, IsReturned}
 use Rattle.kinds.specs.Typing.{fits_trees}
 use Rattle.llvm_core.specs.Data.{ConstTree, IntConst}
 use Rattle.ll_tokens.specs.declared.kinds.Kind.TheVariants as K
@@ -11,22 +12,11 @@ use Rattle.ll_lines.specs.Lines as L
 use Rattle.ll_lines.specs.Lines.{Text, Said, Typed, RowLine, Incoming, Inst, Line, Part, Param, Function, File}
 use Rattle.ll_spacing.specs.Forms.{IsText}
 
--- ---- types and values
-
--- an integer type that is read: of 1 to 2^23 bits
-abbrev pub IsIntType : TypeTree → Type 0
-IsIntType (IntType w) = (1 ≤ w) × (w ≤ 2 ^ 23)
-IsIntType VoidType = ⊥
-IsIntType (FunctionType result params variadic) = ⊥
-
--- what a function returns
-abbrev pub IsResult : TypeTree → Type 0
-IsResult VoidType = Unit {0}
-IsResult τ = IsIntType τ
+-- ---- values
 
 -- an integer of a type, of at most 64 bits
 pub data IsConstOf : TypeTree → ConstTree → Type 0 where
-  an_int : (w n : ℕ) → w ≤ 64 → n < 2 ^ w → IsConstOf (IntType w) (IntConst (IntType w) n)
+  an_int : (w n : ℕ) → w ≤ 64 → n < 2 ^ w → IsConstOf (IntType w) (IntConst w n)
 
 abbrev pub IsLocal : Text → Type 0
 IsLocal t = IsText K.Local t
@@ -36,7 +26,7 @@ IsSaidOf τ (L.Local t) = IsLocal t
 IsSaidOf τ (L.Const c) = IsConstOf τ c
 
 pub record IsTyped (x : Typed) : Type 0 where
-  pub type : IsIntType x.type
+  pub type : IsFirstClass x.type
   pub said : IsSaidOf x.type x.said
 
 -- ---- instructions
@@ -44,7 +34,7 @@ pub record IsTyped (x : Typed) : Type 0 where
 -- a row of the table whose rule holds
 pub record IsRow (r : RowLine) : Type 0 where
   pub operands : AllByRecursion IsTyped r.operands
-  pub written : IfSome r.written IsIntType
+  pub written : IfSome r.written IsFirstClass
   pub targets : AllByRecursion IsLocal r.targets
   pub fits : fits_trees r.op r.written (map (λ (x : Typed). x.type) r.operands) ≡ true
   -- whether its function returns void, as a return wants to know
@@ -58,7 +48,7 @@ pub record IsIncoming (τ : TypeTree) (e : Incoming) : Type 0 where
 
 -- a phi has an entry
 abbrev pub IsInst : Inst → Type 0
-IsInst (L.Phi τ es) = IsIntType τ × AllByRecursion (IsIncoming τ) es × ¬ (es ≡ [])
+IsInst (L.Phi τ es) = IsFirstClass τ × AllByRecursion (IsIncoming τ) es × ¬ (es ≡ [])
 IsInst (L.Row r) = IsRow r
 
 -- ---- functions and files
@@ -72,12 +62,12 @@ IsPart (L.Label t) = IsText K.Label t
 IsPart (L.Does l) = IsLine l
 
 pub record IsParam (p : Param) : Type 0 where
-  pub type : IsIntType p.type
+  pub type : IsFirstClass p.type
   pub name : IfSome p.name IsLocal
 
 -- a function has a body
 pub record IsFunction (f : Function) : Type 0 where
-  pub result : IsResult f.result
+  pub result : IsReturned f.result
   pub name : IsText K.Global f.name
   pub params : AllByRecursion IsParam f.params
   pub body : AllByRecursion IsPart f.body

@@ -1,10 +1,10 @@
 -- The tokens of what a text says, with what stands before each: a definition for each part.
-use Rattle.std.specs.Prelude.{Bool, true, false, List, [], ◌∷◌, ◌++◌, Option, None, Some, ◌==◌, if◌then◌else◌, codes}
+use Rattle.std.specs.Prelude.{ℕ, Bool, true, false, List, [], ◌∷◌, ◌++◌, Option, None, Some, ◌==◌, if◌then◌else◌, codes}
 use Rattle.std.specs.List.{flat_map}
 use Rattle.kinds.specs.declared.op.OverflowFlags.{OverflowFlags}
 use Rattle.kinds.specs.declared.op.Op.{Op}
 use Rattle.kinds.specs.declared.op.Op.TheVariants as O
-use Rattle.kinds.specs.Types.{TypeTree, IntType}
+use Rattle.kinds.specs.Types.{TypeTree}
 use Rattle.llvm_core.specs.Data.{ConstTree, IntConst, PlaceholderConst}
 use Rattle.ll_tokens.specs.declared.kinds.Kind.{Kind}
 use Rattle.ll_tokens.specs.declared.kinds.Kind.TheVariants as K
@@ -41,12 +41,11 @@ abbrev pub written_type : TypeTree → Spaced
 written_type τ = word (type_text τ)
 
 -- one bit is a word, other integers are numbers
-abbrev pub int_kind : TypeTree → Kind
-int_kind (IntType w) = if w == 1 then K.Word else K.Int
-int_kind τ = K.Int
+abbrev pub int_kind : (width : ℕ) → Kind
+int_kind w = if w == 1 then K.Word else K.Int
 
 abbrev pub const_kind : ConstTree → Kind
-const_kind (IntConst τ n) = int_kind τ
+const_kind (IntConst w n) = int_kind w
 const_kind (PlaceholderConst n τ) = K.Int
 
 abbrev pub written_said : Said → Spaced

@@ -30,7 +30,8 @@ use Rattle.llvm_core.specs.declared.check_err.CheckErr.TheVariants.{NameTwice, N
 use Rattle.llvm_core.specs.Module.{Module}
 use Rattle.llvm_core.specs.Names.{HasTwice}
 use Rattle.llvm_core.specs.Edges.{count_of, edge_count}
-use Rattle.llvm_core.specs.Parts.{value_type, row_fits, is_function, is_kind, operands, is_phi}
+use Rattle.llvm_core.specs.Parts.{value_type, row_fits, is_function, is_kind, kind_params, shape_of, operands, is_phi}
+use Rattle.kinds.specs.Fitting.{is_nothing, is_value}
 
 -- ---- names
 
@@ -123,9 +124,7 @@ abbrev pub return_type : Module → LLVMFunction → Option LLVMType
 return_type m f = option_map_or (λ (x : FunctionData). option_map_or kind_result (slice_get m.types x.ty.0) None) (slice_get m.functions f.0) None
 
 abbrev pub is_void : LLVMTypeKind → Bool
-is_void T.Void = true
-is_void (T.Int width) = false
-is_void (T.Function result params variadic) = false
+is_void k = is_nothing (shape_of k)
 
 abbrev pub returns_void : Module → LLVMFunction → Bool
 returns_void m f = option_map_or (is_kind is_void m.types) (return_type m f) false
@@ -134,13 +133,11 @@ returns_void m f = option_map_or (is_kind is_void m.types) (return_type m f) fal
 
 -- a type of no value
 abbrev pub is_valueless : LLVMTypeKind → Bool
-is_valueless k = is_void k || is_function k
+is_valueless k = not (is_value (shape_of k))
 
 -- a function type with a parameter of no value, or that returns a function
 abbrev pub misfits_signature : List LLVMTypeKind → LLVMTypeKind → Bool
-misfits_signature types (T.Function result params variadic) = list_any (is_kind is_valueless types) params || is_kind is_function types result
-misfits_signature types T.Void = false
-misfits_signature types (T.Int width) = false
+misfits_signature types k = list_any (is_kind is_valueless types) (kind_params k) || option_map_or (is_kind is_function types) (kind_result k) false
 
 -- the value of an entry has another type
 abbrev pub HasOtherType : Module → LLVMType → List PhiEntry → Type 0

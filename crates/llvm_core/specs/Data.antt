@@ -21,6 +21,8 @@ use Rattle.llvm_core.specs.declared.code.PhiEntry.{PhiEntry}
 use Rattle.llvm_core.specs.declared.code.Row.{Row}
 use Rattle.kinds.specs.declared.op.Op.{Op}
 pub use Rattle.kinds.specs.Types.{TypeTree, VoidType, IntType, FunctionType, TypeTrees, NoTypes, ThenType}
+use Rattle.kinds.specs.Types.{takes_of}
+use Rattle.kinds.specs.Held.{width_in}
 use Rattle.llvm_core.specs.declared.code.FunctionData.{FunctionData}
 use Rattle.llvm_core.specs.declared.code.BlockData.{BlockData}
 use Rattle.llvm_core.specs.declared.code.InstData.{InstData}
@@ -31,7 +33,7 @@ use Rattle.llvm_core.specs.Parts.{result_type}
 
 -- a constant, a line for each kind
 pub data ConstTree : Type 0 where
-  IntConst : (type : TypeTree) (value : ℕ) → ConstTree
+  IntConst : (width value : ℕ) → ConstTree
   PlaceholderConst : (number : ℕ) (type : TypeTree) → ConstTree
 
 -- what an operand names
@@ -102,10 +104,10 @@ abbrev pub type_trees : List LLVMTypeKind → List TypeTree
 type_trees ks = trees_after type_tree [] ks
 
 abbrev pub const_at : List ConstTree → LLVMConst → ConstTree
-const_at cs c = slice_index_or cs c.0 (IntConst VoidType 0)
+const_at cs c = slice_index_or cs c.0 (IntConst 0 0)
 
 abbrev pub const_tree : List TypeTree → List ConstTree → LLVMConstKind → ConstTree
-const_tree ts cs (C.Int t v) = IntConst (type_at ts t) v
+const_tree ts cs (C.Int t v) = IntConst (width_in (type_at ts t)) v
 const_tree ts cs (C.Placeholder number t) = PlaceholderConst number (type_at ts t)
 
 abbrev pub const_trees : List TypeTree → List LLVMConstKind → List ConstTree
@@ -191,13 +193,11 @@ nth_type (ThenType t ts) (suc i) = nth_type ts i
 
 -- the type of a parameter of a function of that type
 abbrev pub param_type : TypeTree → ℕ → TypeTree
-param_type (FunctionType result params variadic) i = nth_type params i
-param_type VoidType i = VoidType
-param_type (IntType w) i = VoidType
+param_type t i = nth_type (takes_of t) i
 
 -- a line for each kind of constant
 abbrev pub const_type : ConstTree → TypeTree
-const_type (IntConst type value) = type
+const_type (IntConst width value) = IntType width
 const_type (PlaceholderConst number type) = type
 
 -- the instructions of a function, block after block

@@ -1,5 +1,5 @@
--- Modules of the form that is translated today: functions with a body of phis and rows of the table over integers of 1 to
--- 64 bits.
+-- Modules of the form that is translated today: functions with a body of phis and rows of the table, over the types that
+-- are held.
 use Rattle.std.specs.Prelude.{◌≡◌, ◌<◌, ◌≤◌, ◌^◌, ◌+◌, ℕ, suc, Bool, true, false, is_some, nat_eq, List, [], ◌++◌, length, map, filter, slice_get, unwrap_or, Some, All}
 use Rattle.std.specs.List.{flat_map}
 use Rattle.llvm_core.specs.Data.{TypeTree, VoidType, IntType, FunctionType, TypeTrees, NoTypes, ThenType, ConstTree, IntConst, PlaceholderConst, Operand, Constant, Parameter, Result, RowData, Instruction, Phi, Applied, Placed, Block, Function, ModuleData, operand_type, placed_in, targets, phi_entries}
@@ -8,6 +8,8 @@ use Rattle.kinds.specs.declared.rules.Takes.TheVariants as O
 use Rattle.kinds.specs.Rules.{ends, target_count, operand_count}
 use Rattle.kinds.specs.Table.{rule_of}
 use Rattle.kinds.specs.Typing.{fits_trees, typed}
+use Rattle.kinds.specs.Types.{types_list, count_types, result_of}
+use Rattle.kinds.specs.Held.{is_void, IsHeld, IsHeldResult, IsShortWidth}
 use Rattle.llvm_core.specs.Edges.{count_of}
 use Rattle.support.specs.Interned.{IsDistinctList}
 use Rattle.llvm_core.specs.Names.{is_plain, IsPlainOrNone}
@@ -15,47 +17,26 @@ use Rattle.llvm_core.specs.Checked.{ends_in_only, named}
 
 -- ---- types and operands
 
--- an integer type of 1 to 64 bits
-abbrev pub IsShortInt : TypeTree → Type 0
-IsShortInt (IntType w) = (1 ≤ w) × (w ≤ 64)
-IsShortInt VoidType = ⊥
-IsShortInt (FunctionType result params variadic) = ⊥
-
--- what a function of the form returns
-abbrev pub IsShortResult : TypeTree → Type 0
-IsShortResult VoidType = Unit {0}
-IsShortResult t = IsShortInt t
-
-abbrev pub AreShortInts : TypeTrees → Type 0
-AreShortInts NoTypes = Unit {0}
-AreShortInts (ThenType t ts) = IsShortInt t × AreShortInts ts
-
-abbrev pub count_types : TypeTrees → ℕ
-count_types NoTypes = 0
-count_types (ThenType t ts) = 1 + count_types ts
-
--- an integer that fits its type
-abbrev pub IsFitting : ConstTree → Type 0
-IsFitting (IntConst (IntType w) v) = v < 2 ^ w
-IsFitting (IntConst VoidType v) = ⊥
-IsFitting (IntConst (FunctionType result params variadic) v) = ⊥
-IsFitting (PlaceholderConst n type) = ⊥
+-- an integer of 1 to 64 bits
+abbrev pub IsShortConst : ConstTree → Type 0
+IsShortConst (IntConst w v) = IsShortWidth w × (v < 2 ^ w)
+IsShortConst (PlaceholderConst n type) = ⊥
 
 -- one of the instructions has that number
 abbrev pub HasNumber : ℕ → List Placed → Type 0
 HasNumber n ps = (i : ℕ) × (p : Placed) × (slice_get ps i ≡ Some p) × (p.number ≡ n)
 
--- an integer that fits, a parameter of the function f, or the result of an instruction of it
+-- an integer of 1 to 64 bits, a parameter of the function f, or the result of an instruction of it
 abbrev pub IsOperandOf : Function → Operand → Type 0
-IsOperandOf f (Constant c) = IsFitting c
+IsOperandOf f (Constant c) = IsShortConst c
 IsOperandOf f (Parameter g i) = (g ≡ f.number) × (i < length f.params)
 IsOperandOf f (Result n) = HasNumber n (placed_in f)
 
--- an operand of that type, an integer, wherever it is defined in the function
+-- an operand of that type, which is translated, wherever it is defined in the function
 pub record IsOperand (f : Function) (type : TypeTree) (o : Operand) : Type 0 where
   pub stands : IsOperandOf f o
   pub typed : operand_type f o ≡ type
-  pub short : IsShortInt type
+  pub held : IsHeld type
 
 -- ---- edges
 
@@ -80,16 +61,6 @@ pub record FitsEdges (f : Function) (b : ℕ) (entries : List (Operand × ℕ)) 
 
 -- ---- instructions
 
-abbrev pub result_of : TypeTree → TypeTree
-result_of VoidType = VoidType
-result_of (IntType w) = VoidType
-result_of (FunctionType result params variadic) = result
-
-abbrev pub is_void : TypeTree → Bool
-is_void VoidType = true
-is_void (IntType w) = false
-is_void (FunctionType result params variadic) = false
-
 -- what a return has is of the type that the function returns; of what takes other operands it is not asked
 abbrev pub IsReturning : Takes → Function → List Operand → Type 0
 IsReturning O.Nothing f os = Unit {0}
@@ -108,7 +79,7 @@ types_of f os = map (operand_type f) os
 -- a row of the function f, with a result of the type: what it names is there, and the table's rule holds
 pub record IsFormRow (f : Function) (type : TypeTree) (r : RowData) : Type 0 where
   pub operands : All (IsOperandOf f) r.operands
-  pub short : All IsShortInt (types_of f r.operands)
+  pub held : All IsHeld (types_of f r.operands)
   pub count : length r.operands ≡ operand_count (rule_of r.op).takes (returns_void f)
   pub fits : fits_trees r.op r.written (types_of f r.operands) ≡ true
   pub returns : IsReturning (rule_of r.op).takes f r.operands
@@ -118,14 +89,14 @@ pub record IsFormRow (f : Function) (type : TypeTree) (r : RowData) : Type 0 whe
 
 -- an instruction of the block of the number b in the function f, with a result of the type
 abbrev pub IsFormInstruction : Function → (b : ℕ) → (type : TypeTree) → Instruction → Type 0
-IsFormInstruction f b type (Phi entries) = All (λ (e : Operand × ℕ). IsOperand f type e.0) entries × FitsEdges f b entries × IsShortInt type
+IsFormInstruction f b type (Phi entries) = All (λ (e : Operand × ℕ). IsOperand f type e.0) entries × FitsEdges f b entries × IsHeld type
 IsFormInstruction f b type (Applied r) = IsFormRow f type r
 
--- an instruction of the block of the number b: a result, where it has one, is an integer of 1 to 64 bits and has a plain
--- name or none, and what has no result has no name
+-- an instruction of the block of the number b: the type of its result, where it has one, is translated, and its name is
+-- plain or none; what has no result has no name
 pub record IsFormPlaced (f : Function) (b : ℕ) (p : Placed) : Type 0 where
   pub instruction : IsFormInstruction f b p.type p.instruction
-  pub short : IsShortResult p.type
+  pub held : IsHeldResult p.type
   pub name : IsPlainOrNone p.name
   pub unnamed : p.type ≡ VoidType → p.name ≡ []
 
@@ -158,8 +129,8 @@ pub record IsFormFunction (f : Function) : Type 0 where
   pub result : TypeTree
   pub types : TypeTrees
   pub type : f.type ≡ FunctionType result types false
-  pub returns : IsShortResult result
-  pub takes : AreShortInts types
+  pub returns : IsHeldResult result
+  pub takes : All IsHeld (types_list types)
   pub space : f.space ≡ 0
   pub params : length f.params ≡ count_types types
   pub param_names : All IsPlainOrNone f.params
@@ -179,25 +150,25 @@ abbrev pub operands_of : Instruction → List Operand
 operands_of (Phi entries) = map (λ (e : Operand × ℕ). e.0) entries
 operands_of (Applied r) = r.operands
 
--- operands are integers of 1 to 64 bits, and so is a result where there is one; what has no result has no name
+-- the types of operands, and of a result where there is one, are translated; what has no result has no name
 pub record IsNarrowPlaced (f : Function) (p : Placed) : Type 0 where
   pub name : IsPlainOrNone p.name
   pub unnamed : p.type ≡ VoidType → p.name ≡ []
-  pub result : IsShortResult p.type
-  pub operands : All (λ (o : Operand). IsShortInt (operand_type f o)) (operands_of p.instruction)
+  pub result : IsHeldResult p.type
+  pub operands : All (λ (o : Operand). IsHeld (operand_type f o)) (operands_of p.instruction)
 
 pub record IsNarrowBlock (f : Function) (b : Block) : Type 0 where
   pub label : IsPlainOrNone b.name
   pub instructions : All (IsNarrowPlaced f) b.instructions
 
--- plain names, a body, narrow types, and no block or instruction listed twice
+-- plain names, a body, types that are translated, and no block or instruction listed twice
 pub record IsNarrowFunction (f : Function) : Type 0 where
   pub name : is_plain f.name ≡ true
   pub result : TypeTree
   pub types : TypeTrees
   pub type : f.type ≡ FunctionType result types false
-  pub returns : IsShortResult result
-  pub takes : AreShortInts types
+  pub returns : IsHeldResult result
+  pub takes : All IsHeld (types_list types)
   pub param_names : All IsPlainOrNone f.params
   pub body : ¬ (f.blocks ≡ [])
   pub blocks : All (IsNarrowBlock f) f.blocks

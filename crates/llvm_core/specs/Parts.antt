@@ -22,6 +22,7 @@ use Rattle.kinds.specs.declared.fitting.Shape.{Shape}
 use Rattle.kinds.specs.declared.fitting.Shape.TheVariants as S
 use Rattle.kinds.specs.declared.fitting.TypeView.{TypeView}
 use Rattle.kinds.specs.Table.{rule_of}
+use Rattle.kinds.specs.Fitting as F
 use Rattle.kinds.specs.Fitting.{fits, view_shape, view_same}
 use Rattle.llvm_core.specs.declared.code.FunctionData.{FunctionData}
 use Rattle.llvm_core.specs.declared.code.InstData.{InstData}
@@ -42,10 +43,14 @@ abbrev pub IsConstOver : List LLVMTypeKind → LLVMConstKind → Type 0
 IsConstOver types (C.Int t value) = (width : ℕ) × (slice_get types t.0 ≡ Some (T.Int width)) × (value < 2 ^ width)
 IsConstOver types (C.Placeholder number t) = t.0 < length types
 
+-- what rules look at, a line for each kind
+abbrev pub shape_of : LLVMTypeKind → Shape
+shape_of T.Void = S.Void
+shape_of (T.Int width) = S.Int width
+shape_of (T.Function result params variadic) = S.Function
+
 abbrev pub is_function : LLVMTypeKind → Bool
-is_function (T.Function result params variadic) = true
-is_function T.Void = false
-is_function (T.Int width) = false
+is_function k = F.is_function (shape_of k)
 
 -- the type is there, and the test passes on its kind
 abbrev pub is_kind : (LLVMTypeKind → Bool) → List LLVMTypeKind → LLVMType → Bool
@@ -103,12 +108,6 @@ HasValues m (I.Phi type entries) = (type.0 < length m.types) × All (IsEntry m) 
 HasValues m (I.Row r) = HasParts m r
 
 -- ---- the type of a result
-
--- what rules look at, a line for each kind
-abbrev pub shape_of : LLVMTypeKind → Shape
-shape_of T.Void = S.Void
-shape_of (T.Int width) = S.Int width
-shape_of (T.Function result params variadic) = S.Function
 
 abbrev pub view : List LLVMTypeKind → LLVMType → TypeView
 view types t = record { number = t.0; shape = option_map_or shape_of (slice_get types t.0) S.Void }

@@ -14,7 +14,8 @@ use Rattle.llvm_core.specs.declared.code.BlockData.{BlockData}
 use Rattle.llvm_core.specs.declared.code.InstData.{InstData}
 use Rattle.llvm_core.specs.Module.{Module}
 use Rattle.llvm_core.specs.Names.{is_plain}
-use Rattle.llvm_core.specs.Parts.{is_kind, value_type, operands}
+use Rattle.llvm_core.specs.Parts.{is_kind, shape_of, value_type, operands}
+use Rattle.kinds.specs.Fitting.{is_held}
 use Rattle.llvm_core.specs.Checked.{is_void}
 
 -- ---- names and types
@@ -26,21 +27,19 @@ is_none (b ∷ bs) = false
 abbrev pub is_plain_or_none : List ℕ → Bool
 is_plain_or_none n = is_none n || is_plain n
 
--- an integer of 1 to 64 bits
-abbrev pub is_short_kind : LLVMTypeKind → Bool
-is_short_kind (T.Int width) = nat_le width 64
-is_short_kind T.Void = false
-is_short_kind (T.Function result params variadic) = false
+-- a type of a value that is translated
+abbrev pub is_held_kind : LLVMTypeKind → Bool
+is_held_kind k = is_held (shape_of k)
 
-abbrev pub is_short_result_kind : LLVMTypeKind → Bool
-is_short_result_kind k = is_void k || is_short_kind k
+abbrev pub is_held_result_kind : LLVMTypeKind → Bool
+is_held_result_kind k = is_void k || is_held_kind k
 
 module _ (m : Module) where
-  abbrev pub is_short : LLVMType → Bool
-  is_short t = is_kind is_short_kind m.types t
+  abbrev pub is_held_type : LLVMType → Bool
+  is_held_type t = is_kind is_held_kind m.types t
 
-  abbrev pub is_short_value : LLVMValue → Bool
-  is_short_value v = option_map_or is_short (value_type m v) false
+  abbrev pub is_held_value : LLVMValue → Bool
+  is_held_value v = option_map_or is_held_type (value_type m v) false
 
   -- ---- code
 
@@ -49,7 +48,7 @@ module _ (m : Module) where
   is_named_right x = is_none x.name || (is_plain x.name && not (is_kind is_void m.types x.ty))
 
   abbrev pub is_narrow_inst_data : InstData → Bool
-  is_narrow_inst_data x = is_named_right x && is_kind is_short_result_kind m.types x.ty && list_all is_short_value (operands x.inst)
+  is_narrow_inst_data x = is_named_right x && is_kind is_held_result_kind m.types x.ty && list_all is_held_value (operands x.inst)
 
   abbrev pub is_narrow_inst : LLVMInstRef → Bool
   is_narrow_inst i = option_map_or is_narrow_inst_data (slice_get m.insts i.0) false
@@ -61,7 +60,7 @@ module _ (m : Module) where
   is_narrow_block b = option_map_or is_narrow_block_data (slice_get m.blocks b.0) false
 
   abbrev pub is_narrow_signature : LLVMTypeKind → Bool
-  is_narrow_signature (T.Function result params variadic) = not variadic && is_kind is_short_result_kind m.types result && list_all is_short params
+  is_narrow_signature (T.Function result params variadic) = not variadic && is_kind is_held_result_kind m.types result && list_all is_held_type params
   is_narrow_signature T.Void = false
   is_narrow_signature (T.Int width) = false
 

@@ -17,25 +17,21 @@ use Rattle.kinds.specs.declared.op.LLVMIntPredicate.{LLVMIntPredicate}
 use Rattle.kinds.specs.declared.op.LLVMIntPredicate.TheVariants as I
 use Rattle.meaning.specs.Terms.{Term, Param, Unset}
 use Rattle.meaning.specs.Machine.{Operand, At, Action, Holds, Applies, Row, Edge, Block, Item, trace}
-use Rattle.meaning.specs.Llvm.{int_of}
+use Rattle.kinds.specs.Held.{width_in}
 use Rattle.meaning.specs.Setting.{Setting, TellsNothing}
 use Rattle.meaning.specs.Code.{Code, Entry, Body, Symbol, FunctionSymbol, Linkage, External, AvailableExternally, LinkOnceAny, LinkOnceODR, WeakAny, WeakODR, Appending, Internal, Private, ExternalWeak, Common, Other}
 pub use Rattle.dialect_core.specs.Text.{same_value}
 
--- the type of LLVM that a type of the dialect stands for: both sides have one tree of types
-abbrev pub type_of : TypeTree → TypeTree
-type_of t = t
-
 -- the term of a constant, a line for each kind
 abbrev pub attr_term : Setting → AttrTree → Term
-attr_term setting (IntegerAttr ty n) = int_of (type_of ty) n
+attr_term setting (IntegerAttr ty n) = Int (width_in ty) n
 
 -- ---- types of operands
 
--- the type of LLVM of a result or operand, void where there is none
+-- the type of a result or operand, void where there is none
 abbrev pub option_type : Option TypeTree → TypeTree
 option_type None = VoidType
-option_type (Some t) = type_of t
+option_type (Some t) = t
 
 -- ---- rows and edges
 

@@ -2,22 +2,18 @@
 use Rattle.std.specs.Prelude.{ℕ, Bool, false, not, ◌&&◌, if◌then◌else◌, List, [], Option, Some, None, map, option_map, length, filter, nat_eq, nat_lt, codes}
 use Rattle.std.specs.Option.{option_map_or}
 use Rattle.std.specs.List.{flat_map, filter_map, position_from, find, starts_with}
+use Rattle.kinds.specs.Types.{TypeTree, takes_of, count_types}
 use Rattle.llvm_core.specs.Data as L
-use Rattle.llvm_core.specs.Data.{TypeTree, VoidType, IntType, FunctionType, TypeTrees, NoTypes, ThenType, ConstTree, IntConst, PlaceholderConst, RowData, Instruction, Phi, Applied as AppliedRow, Constant, Parameter, Result, Placed, ModuleData, operand_type, targets, phi_entries}
+use Rattle.llvm_core.specs.Data.{ConstTree, IntConst, PlaceholderConst, RowData, Instruction, Phi, Applied as AppliedRow, Constant, Parameter, Result, Placed, ModuleData, operand_type, targets, phi_entries}
 use Rattle.llvm_core.specs.Form.{operands_of}
 use Rattle.meaning.specs.Terms.{Term, Param, Unset, Int}
 use Rattle.meaning.specs.Machine.{Operand, At, Fixed, Action, Applies, Row, Edge, Block, Item, trace}
 use Rattle.meaning.specs.Setting.{Setting, TellsNothing}
 use Rattle.meaning.specs.Code.{Code, Entry, Body, Symbol, FunctionSymbol, External}
 
-abbrev pub int_of : TypeTree → ℕ → Term
-int_of (IntType w) n = Int w n
-int_of VoidType n = Unset
-int_of (FunctionType r ps v) n = Unset
-
 -- the term of a constant of the module, a line for each kind
 abbrev pub const_term : Setting → ConstTree → Term
-const_term setting (IntConst ty n) = int_of ty n
+const_term setting (IntConst w n) = Int w n
 const_term setting (PlaceholderConst n ty) = Unset
 
 -- what sets a term in a run: a parameter of a function, or the result of an instruction
@@ -81,14 +77,8 @@ block setting f b = record {
 
 -- ---- the code of a module
 
-abbrev pub count_types : TypeTrees → ℕ
-count_types NoTypes = 0
-count_types (ThenType t ts) = ℕ.suc (count_types ts)
-
 abbrev pub arity : TypeTree → ℕ
-arity (FunctionType r ps v) = count_types ps
-arity VoidType = 0
-arity (IntType w) = 0
+arity t = count_types (takes_of t)
 
 -- each parameter of the function is set, and nothing else
 abbrev pub start : L.Function → Key → Term

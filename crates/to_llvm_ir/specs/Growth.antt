@@ -11,7 +11,6 @@ use Rattle.llvm_core.specs.Parts.{value_type, is_phi}
 use Rattle.llvm_core.specs.Data as L
 use Rattle.llvm_core.specs.Data.{trees_of}
 use Rattle.dialect_types.specs.Trees.{TypeTree, TypeTrees, FunctionType}
-use Rattle.dialect_core.specs.Form.{IsShortInt, IsShortResult, types_list}
 
 -- the instruction keeps its type, and a phi stays one
 pub record KeepsInst (x y : InstData) : Type 0 where
@@ -38,7 +37,3 @@ AreTypesOf m ts trees = All (λ (t : LLVMType). t.0 < length m.types) ts × (map
 -- a value of a type with that tree
 abbrev pub HasType : Module → LLVMValue → L.TypeTree → Type 0
 HasType m v tree = (t : LLVMType) × (value_type m v ≡ Some t) × (L.type_at (trees_of m).types t ≡ tree)
-
--- the type of a function of the form
-abbrev pub IsFormType : TypeTree → Type 0
-IsFormType tree = (result : TypeTree) × (params : TypeTrees) × (tree ≡ FunctionType result params false) × IsShortResult result × All IsShortInt (types_list params)

@@ -14,7 +14,8 @@ use Rattle.kinds.specs.Table.{rule_of}
 use Rattle.kinds.specs.Typing.{written_for}
 use Rattle.dialect_core.specs.Data.{DialectOp, DialectBlock, Func, Kind, ConstantOp, RowOp, ops_in}
 use Rattle.dialect_core.specs.Form.{is_constant, others_of, edges_of}
-use Rattle.meaning.specs.Dialect.{type_of, option_type, place_of}
+use Rattle.kinds.specs.Held.{width_in}
+use Rattle.meaning.specs.Dialect.{option_type, place_of}
 use Rattle.to_llvm_ir.specs.Exported.{block_name, value_name, result_name, result, phi_values, place_in}
 
 -- the number of the function, of its first block and of its first instruction: further blocks count on, and further
@@ -61,7 +62,7 @@ values_by order g = flat_map (block_values g) order
 -- ---- operands
 
 abbrev pub const_of : AttrTree → ConstTree
-const_of (IntegerAttr type value) = IntConst (type_of type) value
+const_of (IntegerAttr type value) = IntConst (width_in type) value
 
 -- the constant where there is one, else the other operand
 abbrev pub constant_or : Operand → Kind → Operand
@@ -144,7 +145,7 @@ module _ (g : Func) (n : Numbers) where
     abbrev pub phis : (block place k : ℕ) → List TypeTree → List Placed
     phis b i k [] = []
     phis b i k (t ∷ ts) =
-        (record { number = number_of (Argument (record { 0 = b }) i); name = value_name None k; type = type_of t; instruction = L.Phi (given (Argument (record { 0 = b }) i)) }) ∷ phis b (suc i) (k + 1) ts
+        (record { number = number_of (Argument (record { 0 = b }) i); name = value_name None k; type = t; instruction = L.Phi (given (Argument (record { 0 = b }) i)) }) ∷ phis b (suc i) (k + 1) ts
 
     abbrev pub block_phis : (place k : ℕ) → DialectBlock → List Placed
     block_phis zero k c = []
@@ -187,7 +188,7 @@ module _ (g : Func) (n : Numbers) where
   function_with blocks = record {
     number = n.function;
     name = g.name;
-    type = type_of g.type;
+    type = g.type;
     space = 0;
     params = map (λ (t : TypeTree). []) entry_args;
     blocks = blocks;

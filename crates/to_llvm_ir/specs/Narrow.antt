@@ -10,23 +10,22 @@ use Rattle.dialect_core.specs.declared.ops.OpData.{OpData}
 use Rattle.dialect_core.specs.declared.ops.BlockData.{BlockData}
 use Rattle.dialect_core.specs.Lists.{list_at}
 use Rattle.dialect_core.specs.ContextData.{ContextData}
-use Rattle.dialect_core.specs.Form.{IsShortInt}
-use Rattle.dialect_core.specs.WellFormed.{IsNarrowSignature}
+use Rattle.kinds.specs.Held.{IsHeld, IsHeldSignature}
 use Rattle.dialect_core.specs.Checking.{func_at, tree_at}
 
 -- ---- operations
 
--- its result, where it has one, is of 1 to 64 bits, and its name is plain
+-- its result, where it has one, is of a type that is translated, and its name is plain
 pub record IsNarrowAt (c : ContextData) (o : OpRef) : Type 0 where
-  pub result : IfSome (option_and_then (λ (x : OpData). x.result) (slice_get c.ops o.0)) (λ (t : TypeHandle). IsShortInt (tree_at c t))
+  pub result : IfSome (option_and_then (λ (x : OpData). x.result) (slice_get c.ops o.0)) (λ (t : TypeHandle). IsHeld (tree_at c t))
   pub name : IfSome (option_and_then (λ (x : OpData). x.name) (slice_get c.ops o.0)) IsPlainName
 
 -- ---- blocks
 
--- its arguments are of 1 to 64 bits, its label is plain, and its operations are narrow
+-- its arguments are of types that are translated, its label is plain, and its operations are narrow
 pub record IsNarrowBlockAt (c : ContextData) (b : BlockRef) : Type 0 where
   pub label : IfSome (option_and_then (λ (x : BlockData). x.label) (slice_get c.blocks b.0)) IsPlainName
-  pub args : All (λ (t : TypeHandle). IsShortInt (tree_at c t)) (option_map_or (λ (x : BlockData). x.args) (slice_get c.blocks b.0) [])
+  pub args : All (λ (t : TypeHandle). IsHeld (tree_at c t)) (option_map_or (λ (x : BlockData). x.args) (slice_get c.blocks b.0) [])
   pub ops : All (IsNarrowAt c) (list_at c.lists b)
 
 -- each is such a block, and there is one
@@ -40,4 +39,4 @@ AreNarrowBlocks c (entry ∷ more) = All (IsNarrowBlockAt c) (entry ∷ more)
 pub record IsNarrowHead (c : ContextData) (f : OpRef) : Type 0 where
   pub name : IfSome (option_and_then (λ (x : OpData). x.name) (slice_get c.ops f.0)) IsPlainName
   pub linkage : (func_at c f).linkage ≡ ExternalLinkage
-  pub signature : IsNarrowSignature (func_at c f).type
+  pub signature : IsHeldSignature (func_at c f).type

@@ -6,7 +6,7 @@ use Rattle.dialect_core.specs.declared.ops.Value.{Value}
 use Rattle.dialect_core.specs.declared.ops.Value.TheVariants as V
 use Rattle.dialect_core.specs.ContextData.{ContextData}
 use Rattle.dialect_core.specs.Data.{DialectOp, Func, IsTyped, data_of, func_in, op_at, type_in}
-use Rattle.dialect_core.specs.WellFormed.{IsInteger, IsWellFormedFunc, IsWellFormedOp}
+use Rattle.dialect_core.specs.WellFormed.{IsFirstClass, IsWellFormedFunc, IsWellFormedOp}
 use Rattle.meaning.specs.Machine as M
 use Rattle.meaning.specs.Setting.{Setting}
 use Rattle.meaning.specs.Dialect as Dialect
@@ -45,11 +45,11 @@ pub record IsOpIn (c : ContextData) (h : InContext c) (r : OpRef) (o : DialectOp
 abbrev pub AreOpsIn : (c : ContextData) → InContext c → List OpRef → List DialectOp → Type 0
 AreOpsIn c h refs os = Matched (IsOpIn c h) refs os
 
--- the value is one of the context, of an integer type, whichever function it belongs to
+-- the value is one of the context, of a first class type, whichever function it belongs to
 pub record IsUsed (c : ContextData) (v : Value) : Type 0 where
   pub type : TypeTree
   pub typed : type_in c v ≡ Some type
-  pub integer : IsInteger type
+  pub first_class : IsFirstClass type
 
 -- the rows of operations, in what a module tells
 abbrev pub rows_of : Setting → ContextData → List DialectOp → List (M.Row Slot)

@@ -55,9 +55,7 @@ operand_in m v = renamed slot_of (operand (setting_in m) (operand_of (trees_of m
 
 -- no type of a function
 abbrev pub IsNoFunction : L.TypeTree → Type 0
-IsNoFunction (L.FunctionType result params variadic) = ⊥
-IsNoFunction L.VoidType = Unit {0}
-IsNoFunction (L.IntType w) = Unit {0}
+IsNoFunction t = is_function (shape t) ≡ false
 
 -- the value is one of the function, and no function
 pub record IsUsed (m : Module) (h : InChecked m) (v : LLVMValue) : Type 0 where
