@@ -5,6 +5,7 @@ use Rattle.std.specs.Option.{option_map, option_map_or}
 use Rattle.std.proofs.lemmas.Bool.{cases_eq, cases_Bool, eqb-true, not-false, or_parts, false_from_ne_true, true_from_ne_false}
 use Rattle.std.proofs.lemmas.Option.{slice_get-map, same_Some}
 use Rattle.support.proofs.ListLaws.{all_from, item_there, in_joined, from_joined}
+use Rattle.kinds.specs.Types.{count_types}
 use Rattle.llvm_core.specs.declared.numbers.LLVMFunction.{LLVMFunction}
 use Rattle.llvm_core.specs.declared.numbers.LLVMBasicBlock.{LLVMBasicBlock}
 use Rattle.llvm_core.specs.declared.numbers.LLVMInstRef.{LLVMInstRef}
@@ -22,7 +23,7 @@ use Rattle.llvm_core.specs.Parts.{HasValues, IsBlock}
 use Rattle.llvm_core.specs.Sound.{IsModule}
 use Rattle.llvm_core.specs.Data.{Placed, Block, trees_of, data_of}
 use Rattle.llvm_core.specs.Checked.{IsChecked, MisfitsType, misfits_count, home, ends_in_only, is_block_outside, is_outside, reaches_outside}
-use Rattle.llvm_core.specs.Form.{IsForm, IsFormFunction, IsFormBlock, IsFormPlaced, IsNarrow, IsNarrowFunction, IsNarrowBlock, IsNarrowPlaced, HasPhisFirst, count_types, is_last, is_phi}
+use Rattle.llvm_core.specs.Form.{IsForm, IsFormFunction, IsFormBlock, IsFormPlaced, IsNarrow, IsNarrowFunction, IsNarrowBlock, IsNarrowPlaced, HasPhisFirst, is_last, is_phi}
 use Rattle.llvm_core.proofs.DataLemmas.{within_at, function_at}
 use Rattle.llvm_core.proofs.GivenLemmas.{none_any_at}
 use Rattle.llvm_core.proofs.FormTypes.{numbered, signature_of, param_types_are, count_is}
@@ -106,19 +107,19 @@ module _ (m : Module) (sound : IsModule m) (checked : IsChecked m) where
   module _ (f : ℕ) (x : FunctionData) (at : slice_get m.functions f ≡ Some x) (narrow : IsNarrowFunction (shown m f x)) where
     inst_form : (i : ℕ) (z : InstData) → slice_get m.insts i ≡ Some z → (y : BlockData) → slice_get m.blocks z.block.0 ≡ Some y → y.function.0 ≡ f → IsNarrowPlaced (shown m f x) (shown_inst m i z)
         → IsFormPlaced (shown m f x) z.block.0 (shown_inst m i z)
-    inst_form i z is y block_is own short =
+    inst_form i z is y block_is own narrow_inst =
         let home_is : home m z ≡ numbered f = ap (λ o. option_map_or (λ (b : BlockData). b.function) o (record { 0 = 0 })) block_is ∙ ap numbered own in
         record {
-          instruction = form_of m f x sound at z.block.0 (shown_inst m i z).type z.ty refl z.inst (meets f i z is home_is) short.operands
+          instruction = form_of m f x sound at z.block.0 (shown_inst m i z).type z.ty refl z.inst (meets f i z is home_is) narrow_inst.operands
               (λ p. same_edges m f x sound at narrow.block_numbers stays_inside p z.block.0 y block_is own) (λ k t leads. leads_behind f x i z k t at is leads);
-          short = short.result;
-          name = short.name;
-          unnamed = short.unnamed;
+          held = narrow_inst.result;
+          name = narrow_inst.name;
+          unnamed = narrow_inst.unnamed;
         }
 
     -- ---- blocks
 
-    module _ (place : ℕ) (c : Block) (l : IsFromBlock m f x place c) (short : IsNarrowBlock (shown m f x) c) where
+    module _ (place : ℕ) (c : Block) (l : IsFromBlock m f x place c) (narrow_block : IsNarrowBlock (shown m f x) c) where
       listed_inst : (j : ℕ) (p : Placed) → slice_get c.instructions j ≡ Some p → IsFromInst m l.number l.block j p
       listed_inst j p is = inst_from m l.number l.block j p sound l.here (ap (λ (d : Block). slice_get d.instructions j) (sym l.shown_as) ∙ is)
 
@@ -127,7 +128,7 @@ module _ (m : Module) (sound : IsModule m) (checked : IsChecked m) where
           let i = listed_inst j p is in
           let block : slice_get m.blocks i.inst.block.0 ≡ Some l.block = ap (slice_get m.blocks) i.owned ∙ l.here in
           let number : i.inst.block.0 ≡ c.number = i.owned ∙ ap (λ (d : Block). d.number) (sym l.shown_as) in
-          let narrow_inst = subst (IsNarrowPlaced (shown m f x)) i.shown_as (within_at c.instructions (IsNarrowPlaced (shown m f x)) short.instructions j p is) in
+          let narrow_inst = subst (IsNarrowPlaced (shown m f x)) i.shown_as (within_at c.instructions (IsNarrowPlaced (shown m f x)) narrow_block.instructions j p is) in
           let form = inst_form i.number i.inst i.here l.block block l.owned narrow_inst in
           subst (IsFormPlaced (shown m f x) c.number) (sym i.shown_as) (subst (λ (n : ℕ). IsFormPlaced (shown m f x) n (shown_inst m i.number i.inst)) number form)
 
@@ -143,7 +144,7 @@ module _ (m : Module) (sound : IsModule m) (checked : IsChecked m) where
 
       block_form : IsFormBlock (shown m f x) c
       block_form = record {
-        label = short.label;
+        label = narrow_block.label;
         instructions = all_from (IsFormPlaced (shown m f x) c.number) c.instructions each_inst;
         phis = phis_first;
         ends = true_from_ne_false (ends_in_only is_last c.instructions) (λ open_end.

@@ -10,6 +10,7 @@ use Rattle.support.proofs.ListLaws.{all_from, item_there}
 use Rattle.kinds.specs.Rules.{operand_count, target_count}
 use Rattle.kinds.specs.Table.{rule_of}
 use Rattle.kinds.specs.Typing.{fits_trees, typed}
+use Rattle.kinds.specs.Held.{IsHeld}
 use Rattle.llvm_core.specs.declared.numbers.LLVMType.{LLVMType}
 use Rattle.llvm_core.specs.declared.numbers.LLVMBasicBlock.{LLVMBasicBlock}
 use Rattle.llvm_core.specs.declared.types.ResultType.{ResultType}
@@ -27,7 +28,7 @@ use Rattle.llvm_core.specs.Edges.{targets as leads_to}
 use Rattle.llvm_core.specs.Sound.{IsModule, StandsFor}
 use Rattle.llvm_core.specs.Data.{TypeTree, VoidType, Operand, Block, type_at, trees_of, tree_of_result, entry_of, operand_of, row_of, instruction_of, operand_type}
 use Rattle.llvm_core.specs.Checked.{returns_void, MisfitsType, misfits_row, misfits_return, is_counted, misfits_count, is_outside, is_block_outside, is_entry_outside, reaches_outside, MisfitsEdges, sources}
-use Rattle.llvm_core.specs.Form.{IsShortInt, IsOperand, IsTarget, FitsEdges, edges_between, IsFormRow, IsFormInstruction, operands_of}
+use Rattle.llvm_core.specs.Form.{IsOperand, IsTarget, FitsEdges, edges_between, IsFormRow, IsFormInstruction, operands_of}
 use Rattle.llvm_core.proofs.DataLemmas.{within_at, void_tree_of, int_tree_of}
 use Rattle.llvm_core.proofs.PhiLemmas.{same_block}
 use Rattle.llvm_core.proofs.DecideLemmas.{type_decided, value_decided}
@@ -36,7 +37,7 @@ use Rattle.llvm_core.proofs.RuleLaws.{tree, fits_by_tree, result_by_tree}
 use Rattle.llvm_core.proofs.FormTypes.{numbered}
 use Rattle.llvm_core.proofs.FormPlaces.{shown, shown_block, block_place}
 use Rattle.llvm_core.proofs.FormEdges.{same_sources}
-use Rattle.llvm_core.proofs.FormValues.{value_typed, value_stands, values_stand, types_same, same_void, return_form}
+use Rattle.llvm_core.proofs.FormValues.{IsHeldHere, value_typed, value_stands, values_stand, types_same, same_void, return_form}
 
 -- the entry of a phi whose data stand at a place
 entry_from : (m : Module) (entries : List PhiEntry) (k : ℕ) (o : Operand × ℕ) → slice_get (map (entry_of (trees_of m)) entries) k ≡ Some o → (e : PhiEntry) × (slice_get entries k ≡ Some e) × (entry_of (trees_of m) e ≡ o)
@@ -65,17 +66,16 @@ row_kept m f b ty r h =
 module _ (m : Module) (f : ℕ) (x : FunctionData) (sound : IsModule m) (at : slice_get m.functions f ≡ Some x) where
   -- ---- operands and targets
 
-  abbrev IsShortHere : Operand → Type 0
-  IsShortHere o = IsShortInt (operand_type (shown m f x) o)
+  abbrev IsHere : Operand → Type 0
+  IsHere = IsHeldHere m f x sound at
 
-  is_operand : (v : LLVMValue) (t : LLVMType) → IsValue m v → is_outside m (numbered f) v ≡ false → IsShortInt (operand_type (shown m f x) (operand_of (trees_of m) v)) → value_type m v ≡ Some t
+  is_operand : (v : LLVMValue) (t : LLVMType) → IsValue m v → is_outside m (numbered f) v ≡ false → IsHere (operand_of (trees_of m) v) → value_type m v ≡ Some t
       → IsOperand (shown m f x) (type_at (trees_of m).types t) (operand_of (trees_of m) v)
-  is_operand v t here inside short is =
-      let stands = value_stands m f x sound at v here inside in
-      let h = value_typed m f x sound at v here stands in
+  is_operand v t here inside held is =
+      let h = value_typed m f x sound at v here inside in
       let same : h.type ≡ t = same_Some h.type t (sym h.type_is ∙ is) in
       let typed : operand_type (shown m f x) (operand_of (trees_of m) v) ≡ type_at (trees_of m).types t = sym h.tree_is ∙ ap (type_at (trees_of m).types) same in
-      record { stands = stands; typed = typed; short = subst IsShortInt typed short }
+      record { stands = value_stands m f x sound at v here inside held; typed = typed; held = subst IsHeld typed held }
 
   -- a block of the function that is not the first
   is_target : (b : LLVMBasicBlock) → IsBlock m b → is_block_outside m (numbered f) b ≡ false → slice_get x.blocks 0 ≢ Some b → IsTarget (shown m f x) b.0
@@ -106,15 +106,15 @@ module _ (m : Module) (f : ℕ) (x : FunctionData) (sound : IsModule m) (at : sl
   module _ (b : ℕ) (own : TypeTree) (ty : LLVMType) (own_is : own ≡ type_at (trees_of m).types ty) where
     -- ---- phis
 
-    entry_operand : (type : LLVMType) (entries : List PhiEntry) → MeetsRules m f b ty (I.Phi type entries) → All IsShortHere (operands_of (instruction_of (trees_of m) (I.Phi type entries))) → (k : ℕ) (e : PhiEntry) → slice_get entries k ≡ Some e
+    entry_operand : (type : LLVMType) (entries : List PhiEntry) → MeetsRules m f b ty (I.Phi type entries) → All IsHere (operands_of (instruction_of (trees_of m) (I.Phi type entries))) → (k : ℕ) (e : PhiEntry) → slice_get entries k ≡ Some e
         → IsOperand (shown m f x) own (operand_of (trees_of m) e.value)
-    entry_operand type entries h short k e is =
+    entry_operand type entries h held k e is =
         let parts = or_parts (is_outside m (numbered f) e.value) (is_block_outside m (numbered f) e.block) (none_any_at (is_entry_outside m (numbered f)) entries k e h.outside is) in
         let value = type_decided (value_type m e.value) type (λ other. h.types (inr (k, e, is, other))) in
         let entry = within_at entries (IsEntry m) h.values.1 k e is in
         let listed : slice_get (map (λ (o : Operand × ℕ). o.0) (map (entry_of (trees_of m)) entries)) k ≡ Some (operand_of (trees_of m) e.value) =
         (slice_get-map (λ (o : Operand × ℕ). o.0) (map (entry_of (trees_of m)) entries) k ∙ ap (option_map (λ (o : Operand × ℕ). o.0)) (slice_get-map (entry_of (trees_of m)) entries k ∙ ap (option_map (entry_of (trees_of m))) is)) in
-        let narrow = within_at (map (λ (o : Operand × ℕ). o.0) (map (entry_of (trees_of m)) entries)) IsShortHere short k (operand_of (trees_of m) e.value) listed in
+        let narrow = within_at (map (λ (o : Operand × ℕ). o.0) (map (entry_of (trees_of m)) entries)) IsHere held k (operand_of (trees_of m) e.value) listed in
         let same : type_at (trees_of m).types type ≡ own = sym (own_is ∙ ap (type_at (trees_of m).types) h.result) in
         subst (λ t. IsOperand (shown m f x) t (operand_of (trees_of m) e.value)) same (is_operand e.value type entry.0 parts.0 narrow value)
 
@@ -143,22 +143,21 @@ module _ (m : Module) (f : ℕ) (x : FunctionData) (sound : IsModule m) (at : sl
 
     -- ---- rows
 
-    row_form : (r : Row) → MeetsRules m f b ty (I.Row r) → All IsShortHere (map (operand_of (trees_of m)) r.operands) → ((k : ℕ) (t : LLVMBasicBlock) → slice_get (leads_to (I.Row r)) k ≡ Some t.0 → slice_get x.blocks 0 ≢ Some t)
+    row_form : (r : Row) → MeetsRules m f b ty (I.Row r) → All IsHere (map (operand_of (trees_of m)) r.operands) → ((k : ℕ) (t : LLVMBasicBlock) → slice_get (leads_to (I.Row r)) k ≡ Some t.0 → slice_get x.blocks 0 ≢ Some t)
         → IsFormRow (shown m f x) own (row_of (trees_of m) r)
-    row_form r h short behind =
+    row_form r h held behind =
         let takes = (rule_of r.op).takes in
         let os = map (operand_of (trees_of m)) r.operands in
         let inside = or_parts (list_any (is_outside m (numbered f)) r.operands) (list_any (is_block_outside m (numbered f)) r.targets) h.outside in
         let fits = row_kept m f b ty r h in
         let counts = and_parts (nat_eq (length r.operands) (operand_count takes (returns_void m (numbered f)))) (nat_eq (length r.targets) (target_count (rule_of r.op).leads)) (not-false (is_counted m (numbered f) r) h.counts) in
-        let stand = values_stand m f x sound at r.operands h.values.0 inside.0 in
-        let types = types_same m f x sound at r.operands h.values.0 stand in
+        let types = types_same m f x sound at r.operands h.values.0 inside.0 in
         record {
-          operands = stand;
-          short = All-map IsShortInt (operand_type (shown m f x)) os short;
+          operands = values_stand m f x sound at r.operands h.values.0 inside.0 held;
+          held = All-map IsHeld (operand_type (shown m f x)) os held;
           count = length-map r.operands (operand_of (trees_of m)) ∙ eqb-true (length r.operands) (operand_count takes (returns_void m (numbered f))) counts.0 ∙ ap (operand_count takes) (same_void m f x sound at);
           fits = ap (fits_trees r.op (option_map (tree m sound) r.written)) types ∙ fits_by_tree m sound r h.values ∙ not-false (row_fits m r) fits.0;
-          returns = return_form m f x sound at takes r.operands h.values.0 stand fits.1;
+          returns = return_form m f x sound at takes r.operands h.values.0 inside.0 fits.1;
           result = own_is ∙ result_stood (row_result m r) ty h.result ∙ ap (λ o. unwrap_or o VoidType) (result_by_tree m sound r h.values ∙ ap (typed r.op (option_map (tree m sound) r.written)) (sym types));
           targets = targets_stand r.targets h.values.1 inside.1 behind;
           leads = length-map r.targets (λ (b : LLVMBasicBlock). b.0) ∙ eqb-true (length r.targets) (target_count (rule_of r.op).leads) counts.1;
@@ -167,12 +166,12 @@ module _ (m : Module) (f : ℕ) (x : FunctionData) (sound : IsModule m) (at : sl
     -- ---- instructions
 
     -- an instruction that meets the rules is of the form, where the edges in the data are those of the module and none leads to the first block
-    pub form_of : (i : LLVMInst) → MeetsRules m f b ty i → All IsShortHere (operands_of (instruction_of (trees_of m) i)) → ((p : ℕ) → edges_between (shown m f x) p b ≡ edge_count m p b)
+    pub form_of : (i : LLVMInst) → MeetsRules m f b ty i → All IsHere (operands_of (instruction_of (trees_of m) i)) → ((p : ℕ) → edges_between (shown m f x) p b ≡ edge_count m p b)
         → ((k : ℕ) (t : LLVMBasicBlock) → slice_get (leads_to i) k ≡ Some t.0 → slice_get x.blocks 0 ≢ Some t) → IsFormInstruction (shown m f x) b own (instruction_of (trees_of m) i)
-    form_of (I.Phi type entries) h short edges behind =
+    form_of (I.Phi type entries) h held edges behind =
         let first = some_entry type entries h in
         let each : All (λ (o : Operand × ℕ). IsOperand (shown m f x) own o.0) (map (entry_of (trees_of m)) entries) = all_from (λ (o : Operand × ℕ). IsOperand (shown m f x) own o.0) (map (entry_of (trees_of m)) entries) (λ k o is.
         let e = entry_from m entries k o is in
-        subst (λ (o : Operand × ℕ). IsOperand (shown m f x) own o.0) e.2 (entry_operand type entries h short k e.0 e.1)) in
-        (each, phi_fits type entries h edges, (entry_operand type entries h short 0 first.0 first.1).short)
-    form_of (I.Row r) h short edges behind = row_form r h short behind
+        subst (λ (o : Operand × ℕ). IsOperand (shown m f x) own o.0) e.2 (entry_operand type entries h held k e.0 e.1)) in
+        (each, phi_fits type entries h edges, (entry_operand type entries h held 0 first.0 first.1).held)
+    form_of (I.Row r) h held edges behind = row_form r h held behind

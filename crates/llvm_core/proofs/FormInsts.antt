@@ -10,6 +10,7 @@ use Rattle.std.proofs.lemmas.Option.{slice_get-map}
 use Rattle.kinds.specs.Rules.{operand_count, target_count}
 use Rattle.kinds.specs.Table.{rule_of}
 use Rattle.kinds.specs.Typing.{fits_trees}
+use Rattle.kinds.specs.Held.{IsHeld}
 use Rattle.llvm_core.specs.declared.numbers.LLVMType.{LLVMType}
 use Rattle.llvm_core.specs.declared.numbers.LLVMBasicBlock.{LLVMBasicBlock}
 use Rattle.llvm_core.specs.declared.code.LLVMValue.{LLVMValue}
@@ -26,11 +27,11 @@ use Rattle.llvm_core.specs.Sound.{IsModule, StandsFor}
 use Rattle.llvm_core.specs.Data.{TypeTree, Operand, Instruction, type_at, const_at, trees_of, entry_of, operand_of, row_of, instruction_of, targets, AreApart}
 use Rattle.llvm_core.specs.Data as D
 use Rattle.llvm_core.specs.Checked.{returns_void, MisfitsType, misfits_row, misfits_return, is_counted, HasOtherType, HasTwoValues, misfits_count, HasNoPreds, is_outside, is_block_outside, is_entry_outside, reaches_outside, MisfitsEdges, sources}
-use Rattle.llvm_core.specs.Form.{IsShortInt, IsOperand, IsTarget, FitsEdges, edges_between, IsFormRow, IsFormInstruction, operands_of}
+use Rattle.llvm_core.specs.Form.{IsOperand, IsTarget, FitsEdges, edges_between, IsFormRow, IsFormInstruction, operands_of}
 use Rattle.llvm_core.proofs.DataLemmas.{within_at}
 use Rattle.llvm_core.proofs.GivenLemmas.{none_any}
 use Rattle.llvm_core.proofs.RuleLaws.{tree, fits_by_tree}
-use Rattle.llvm_core.proofs.FormTypes.{numbered, short_has_value}
+use Rattle.llvm_core.proofs.FormTypes.{numbered, held_has_value}
 use Rattle.llvm_core.proofs.FormPlaces.{shown, block_from}
 use Rattle.llvm_core.proofs.FormEdges.{count_present, same_sources, edge_source}
 use Rattle.llvm_core.proofs.FormValues.{HasType, value_typed, value_inside, types_same, values_inside, same_void, return_fits}
@@ -93,7 +94,7 @@ module _ (m : Module) (f : ℕ) (x : FunctionData) (sound : IsModule m) (apart :
 
   -- an operand has the type that the data ask
   operand_typed : (v : LLVMValue) (type : TypeTree) → IsValue m v → IsOperand (shown m f x) type (operand_of (trees_of m) v) → HasType m v type
-  operand_typed v type here o = subst (HasType m v) o.typed (value_typed m f x sound at v here o.stands)
+  operand_typed v type here o = subst (HasType m v) o.typed (value_typed m f x sound at v here (value_inside m f x sound at v o.stands))
 
   entry_operand : (entries : List PhiEntry) (k : ℕ) (e : PhiEntry) (type : TypeTree) → All (λ (e : Operand × ℕ). IsOperand (shown m f x) type e.0) (map (entry_of (trees_of m)) entries) → slice_get entries k ≡ Some e
       → IsOperand (shown m f x) type (operand_of (trees_of m) e.value)
@@ -108,9 +109,10 @@ module _ (m : Module) (f : ℕ) (x : FunctionData) (sound : IsModule m) (apart :
 
   row_fits_form : (r : Row) (type : TypeTree) → HasParts m r → IsFormRow (shown m f x) type (row_of (trees_of m) r) → misfits_row m (numbered f) r ≡ false
   row_fits_form r type here form =
-      let types = types_same m f x sound at r.operands here.0 form.operands in
+      let none = values_inside m f x sound at r.operands form.operands in
+      let types = types_same m f x sound at r.operands here.0 none in
       let fits : row_fits m r ≡ true = sym (fits_by_tree m sound r here) ∙ ap (fits_trees r.op (option_map (tree m sound) r.written)) (sym types) ∙ form.fits in
-      let types_fit = or_from (not (row_fits m r)) (misfits_return (rule_of r.op).takes m (numbered f) r.operands) (ap not fits) (return_fits m f x sound at (rule_of r.op).takes r.operands here.0 form.operands form.returns) in
+      let types_fit = or_from (not (row_fits m r)) (misfits_return (rule_of r.op).takes m (numbered f) r.operands) (ap not fits) (return_fits m f x sound at (rule_of r.op).takes r.operands here.0 none form.returns) in
       ap (λ c. is_counted m (numbered f) r && c) types_fit ∙ and-false (is_counted m (numbered f) r)
 
   module _ (b : ℕ) (type : TypeTree) where
@@ -118,7 +120,7 @@ module _ (m : Module) (f : ℕ) (x : FunctionData) (sound : IsModule m) (apart :
     type_fits (I.Phi own entries) ty here stands typed form h =
         let same : type ≡ type_at (trees_of m).types own = typed ∙ ap (type_at (trees_of m).types) stands in
         elim h [
-          | inl valueless ↦ (let value = short_has_value m own sound here.0 (subst IsShortInt same form.2) in absurd cc)
+          | inl valueless ↦ (let value = held_has_value m own sound here.0 (subst IsHeld same form.2) in absurd cc)
           | inr other ↦ entries_fit own entries here.0 here.1 (subst (λ (t : TypeTree). All (λ (e : Operand × ℕ). IsOperand (shown m f x) t e.0) (map (entry_of (trees_of m)) entries)) same form.0) other
         ]
     type_fits (I.Row r) ty here stands typed form h = let fits = row_fits_form r type here form in cc

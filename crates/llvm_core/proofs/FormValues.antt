@@ -1,13 +1,16 @@
 -- The types of the operands of a function, and which of them lie in it.
-use Rattle.std.proofs.Common.{◌≡◌, ◌<◌, ℕ, zero, suc, Bool, true, false, nat_eq, List, [], ◌∷◌, Option, None, Some, not, length, map, slice_get, refl, sym, ap, ◌∙◌, arith, All}
+use Rattle.std.proofs.Common.{◌≡◌, ◌<◌, ℕ, zero, suc, Bool, true, false, nat_eq, List, [], ◌∷◌, Option, None, Some, not, length, map, slice_get, refl, sym, ap, subst, ◌∙◌, arith, All}
 use Rattle.std.specs.List.{find, list_any}
-use Rattle.std.specs.Option.{option_map_or}
+use Rattle.std.specs.Option.{option_map, option_map_or}
 use Rattle.std.proofs.lemmas.Bool.{eqb-true, eqb-false, eq-eqb, not-false, or_from, or_parts}
 use Rattle.std.proofs.lemmas.List.Elements.{All-nil, All-cons, All-head, All-tail}
-use Rattle.std.proofs.lemmas.Option.{slice_get_within}
 use Rattle.support.proofs.ListLaws.{item_there}
 use Rattle.kinds.specs.declared.rules.Takes.{Takes}
 use Rattle.kinds.specs.declared.rules.Takes.TheVariants as O
+use Rattle.kinds.specs.Types.{result_of}
+use Rattle.kinds.specs.Held.{width_in, IsHeld}
+use Rattle.kinds.specs.Held.{is_void as void_tree}
+use Rattle.kinds.proofs.HeldLaws.{held_int}
 use Rattle.llvm_core.specs.declared.numbers.LLVMType.{LLVMType}
 use Rattle.llvm_core.specs.declared.numbers.LLVMConst.{LLVMConst}
 use Rattle.llvm_core.specs.declared.numbers.LLVMFunction.{LLVMFunction}
@@ -20,14 +23,16 @@ use Rattle.llvm_core.specs.declared.code.FunctionData.{FunctionData}
 use Rattle.llvm_core.specs.Module.{Module}
 use Rattle.llvm_core.specs.Code.{param_names}
 use Rattle.llvm_core.specs.Parts.{IsValue, value_type, param_types}
+use Rattle.llvm_core.specs.Parts.{const_type as type_of_const}
 use Rattle.llvm_core.specs.Sound.{IsModule}
-use Rattle.llvm_core.specs.Data.{TypeTree, VoidType, Operand, Placed, const_at, type_at, trees_of, const_type, operand_of, param_type, nth_type, placed_in, operand_type}
+use Rattle.llvm_core.specs.Data.{TypeTree, VoidType, IntConst, Operand, Placed, const_at, type_at, trees_of, const_type, operand_of, param_type, nth_type, placed_in, operand_type}
 use Rattle.llvm_core.specs.Checked.{home, is_placeholder, is_outside, return_type, returns_void, returns_other, misfits_return}
-use Rattle.llvm_core.specs.Form.{IsFitting, HasNumber, IsOperandOf, IsReturning, result_of, types_of}
-use Rattle.llvm_core.specs.Form.{is_void as void_tree, returns_void as void_returned}
+use Rattle.llvm_core.specs.Form.{IsShortConst, HasNumber, IsOperandOf, IsReturning, types_of}
+use Rattle.llvm_core.specs.Form.{returns_void as void_returned}
 use Rattle.llvm_core.proofs.ApartLemmas.{apart, same_type}
 use Rattle.llvm_core.proofs.RuleLaws.{tree_of}
-use Rattle.llvm_core.proofs.DataLemmas.{within_at, int_tree_of, int_const_of, placeholder_const_of}
+use Rattle.llvm_core.proofs.DataLemmas.{within_at, int_tree_of, const_tree_of, const_type_of, placeholder_const_of}
+use Rattle.llvm_core.proofs.WithinLemmas.{const_type_within}
 use Rattle.llvm_core.proofs.FormTypes.{numbered, signature_of, function_typed, param_types_are, nth_is, return_type_is, void_kept}
 use Rattle.llvm_core.proofs.FormPlaces.{shown, own_inst, in_home}
 
@@ -61,22 +66,13 @@ pub record HasType (m : Module) (v : LLVMValue) (tree : TypeTree) : Type 0 where
 
 module _ (m : Module) (f : ℕ) (x : FunctionData) (sound : IsModule m) (at : slice_get m.functions f ≡ Some x) where
   const_typed : (c : LLVMConst) → IsValue m (V.Const c) → HasType m (V.Const c) (operand_type (shown m f x) (operand_of (trees_of m) (V.Const c)))
-  const_typed c here = let k = item_there m.consts c.0 here in by k.0 k.1
-    where
-      by : (k : LLVMConstKind) → slice_get m.consts c.0 ≡ Some k → HasType m (V.Const c) (operand_type (shown m f x) (operand_of (trees_of m) (V.Const c)))
-      by (C.Int t v) at =
-          let typed = sound.consts c.0 (C.Int t v) at in
-          record {
-            type = t;
-            type_is = rw at refl;
-            within = slice_get_within m.types t.0 _ typed.1;
-            tree_is = sym (ap const_type (int_const_of m c t v at));
-          }
-      by (C.Placeholder number t) at = record {
-        type = t;
-        type_is = rw at refl;
-        within = sound.consts c.0 (C.Placeholder number t) at;
-        tree_is = sym (ap const_type (placeholder_const_of m c number t at));
+  const_typed c here =
+      let k = item_there m.consts c.0 here in
+      record {
+        type = type_of_const k.0;
+        type_is = ap (option_map type_of_const) k.1;
+        within = const_type_within m.types k.0 (sound.consts c.0 k.0 k.1);
+        tree_is = sym (const_type_of m c k.0 sound k.1);
       }
 
   names_of_params : (g : LLVMFunction) → g.0 ≡ f → length (param_names m.functions g) ≡ length x.params
@@ -111,37 +107,46 @@ module _ (m : Module) (f : ℕ) (x : FunctionData) (sound : IsModule m) (at : sl
         tree_is = sym (ap (λ o. option_map_or (λ (q : Placed). q.type) o VoidType) found.found ∙ ap (λ (q : Placed). q.type) own.shown_as);
       }
 
-  -- a value of the function has the type that the data give it
-  pub value_typed : (v : LLVMValue) → IsValue m v → IsOperandOf (shown m f x) (operand_of (trees_of m) v) → HasType m v (operand_type (shown m f x) (operand_of (trees_of m) v))
-  value_typed (V.Const c) here stands = const_typed c here
-  value_typed (V.Param g i) here stands = param_typed g i stands.0 here
-  value_typed (V.Inst i) here stands = result_typed i stands
-
-  -- ---- values of the function
-
-  const_fits : (c : LLVMConst) → IsValue m (V.Const c) → is_outside m (numbered f) (V.Const c) ≡ false → IsFitting (const_at (trees_of m).consts c)
-  const_fits c here inside = let k = item_there m.consts c.0 here in by k.0 k.1 (ap (λ o. option_map_or is_placeholder o false) (sym k.1) ∙ inside)
-    where
-      by : (k : LLVMConstKind) → slice_get m.consts c.0 ≡ Some k → is_placeholder k ≡ false → IsFitting (const_at (trees_of m).consts c)
-      by (C.Int t v) is none =
-          let typed = sound.consts c.0 (C.Int t v) is in
-          rw (int_const_of m c t v is, int_tree_of m t typed.0 sound typed.1) typed.2
-      by (C.Placeholder number t) is none = absurd cc
-
-  -- a value that is there and is not outside is an operand of the function
-  pub value_stands : (v : LLVMValue) → IsValue m v → is_outside m (numbered f) v ≡ false → IsOperandOf (shown m f x) (operand_of (trees_of m) v)
-  value_stands (V.Const c) here inside = const_fits c here inside
-  value_stands (V.Param g place) here inside =
-      let same = eqb-true g.0 f (not-false (nat_eq g.0 f) inside) in
-      let named = names_of_params g same in
-      (same, omega (arith, here, named))
-  value_stands (V.Inst i) here inside =
+  -- an instruction of the function has its number in the data
+  inst_stands : (i : LLVMInstRef) → IsValue m (V.Inst i) → is_outside m (numbered f) (V.Inst i) ≡ false → HasNumber i.0 (placed_in (shown m f x))
+  inst_stands i here inside =
       let z = item_there m.insts i.0 here in
       let home_is : (home m z.0).0 ≡ f = eqb-true (home m z.0).0 f (not-false (nat_eq (home m z.0).0 f) (rw z.1 at inside)) in
       let k = in_home m f x i.0 z.0 sound at z.1 home_is in
       (k.0, _, k.1, refl)
 
-  const_inside : (c : LLVMConst) → IsFitting (const_at (trees_of m).consts c) → (o : Option LLVMConstKind) → slice_get m.consts c.0 ≡ o → option_map_or is_placeholder o false ≡ false
+  -- a value that is not outside has the type that the data give it
+  pub value_typed : (v : LLVMValue) → IsValue m v → is_outside m (numbered f) v ≡ false → HasType m v (operand_type (shown m f x) (operand_of (trees_of m) v))
+  value_typed (V.Const c) here inside = const_typed c here
+  value_typed (V.Param g i) here inside = param_typed g i (eqb-true g.0 f (not-false (nat_eq g.0 f) inside)) here
+  value_typed (V.Inst i) here inside = result_typed i (inst_stands i here inside)
+
+  -- ---- values of the function
+
+  abbrev pub IsHeldHere : Operand → Type 0
+  IsHeldHere o = IsHeld (operand_type (shown m f x) o)
+
+  const_short : (c : LLVMConst) → IsValue m (V.Const c) → is_outside m (numbered f) (V.Const c) ≡ false → IsHeldHere (operand_of (trees_of m) (V.Const c)) → IsShortConst (const_at (trees_of m).consts c)
+  const_short c here inside held = let k = item_there m.consts c.0 here in by k.0 k.1 (ap (λ o. option_map_or is_placeholder o false) (sym k.1) ∙ inside)
+    where
+      by : (k : LLVMConstKind) → slice_get m.consts c.0 ≡ Some k → is_placeholder k ≡ false → IsShortConst (const_at (trees_of m).consts c)
+      by (C.Int t v) is none =
+          let typed = sound.consts c.0 (C.Int t v) is in
+          let const : const_at (trees_of m).consts c ≡ IntConst typed.0 v =
+          const_tree_of m c (C.Int t v) is ∙ ap (λ (u : TypeTree). IntConst (width_in u) v) (int_tree_of m t typed.0 sound typed.1) in
+          rw const (held_int typed.0 (subst (λ k. IsHeld (const_type k)) const held), typed.2)
+      by (C.Placeholder number t) is none = absurd cc
+
+  -- a value that is there and is not outside is an operand of the function, where its type is held
+  pub value_stands : (v : LLVMValue) → IsValue m v → is_outside m (numbered f) v ≡ false → IsHeldHere (operand_of (trees_of m) v) → IsOperandOf (shown m f x) (operand_of (trees_of m) v)
+  value_stands (V.Const c) here inside held = const_short c here inside held
+  value_stands (V.Param g place) here inside held =
+      let same = eqb-true g.0 f (not-false (nat_eq g.0 f) inside) in
+      let named = names_of_params g same in
+      (same, omega (arith, here, named))
+  value_stands (V.Inst i) here inside held = inst_stands i here inside
+
+  const_inside : (c : LLVMConst) → IsShortConst (const_at (trees_of m).consts c) → (o : Option LLVMConstKind) → slice_get m.consts c.0 ≡ o → option_map_or is_placeholder o false ≡ false
   const_inside c h None e = refl
   const_inside c h (Some (C.Int t value)) e = refl
   const_inside c h (Some (C.Placeholder number t)) e = absurd (rw (placeholder_const_of m c number t e) at h)
@@ -159,22 +164,24 @@ module _ (m : Module) (f : ℕ) (x : FunctionData) (sound : IsModule m) (at : sl
   -- ---- lists of values
 
   -- the tree of a value's type is that of its operand
-  tree_same : (v : LLVMValue) → IsValue m v → IsOperandOf (shown m f x) (operand_of (trees_of m) v) → operand_type (shown m f x) (operand_of (trees_of m) v) ≡ tree_of m sound v
-  tree_same v here stands = let t = value_typed v here stands in rw t.type_is (sym t.tree_is)
+  tree_same : (v : LLVMValue) → IsValue m v → is_outside m (numbered f) v ≡ false → operand_type (shown m f x) (operand_of (trees_of m) v) ≡ tree_of m sound v
+  tree_same v here inside = let t = value_typed v here inside in rw t.type_is (sym t.tree_is)
 
-  pub types_same : (vs : List LLVMValue) → All (IsValue m) vs → All (IsOperandOf (shown m f x)) (map (operand_of (trees_of m)) vs) → types_of (shown m f x) (map (operand_of (trees_of m)) vs) ≡ map (tree_of m sound) vs
-  types_same [] here stand = refl
-  types_same (v ∷ vs) here stand =
-      let os = map (operand_of (trees_of m)) vs in
-      let first = tree_same v (All-head (IsValue m) v vs here) (All-head (IsOperandOf (shown m f x)) (operand_of (trees_of m) v) os stand) in
-      let rest = types_same vs (All-tail (IsValue m) v vs here) (All-tail (IsOperandOf (shown m f x)) (operand_of (trees_of m) v) os stand) in
+  pub types_same : (vs : List LLVMValue) → All (IsValue m) vs → list_any (is_outside m (numbered f)) vs ≡ false → types_of (shown m f x) (map (operand_of (trees_of m)) vs) ≡ map (tree_of m sound) vs
+  types_same [] here none = refl
+  types_same (v ∷ vs) here none =
+      let inside = or_parts (is_outside m (numbered f) v) (list_any (is_outside m (numbered f)) vs) none in
+      let first = tree_same v (All-head (IsValue m) v vs here) inside.0 in
+      let rest = types_same vs (All-tail (IsValue m) v vs here) inside.1 in
       cc
 
-  pub values_stand : (vs : List LLVMValue) → All (IsValue m) vs → list_any (is_outside m (numbered f)) vs ≡ false → All (IsOperandOf (shown m f x)) (map (operand_of (trees_of m)) vs)
-  values_stand [] here none = All-nil (IsOperandOf (shown m f x))
-  values_stand (v ∷ vs) here none =
+  pub values_stand : (vs : List LLVMValue) → All (IsValue m) vs → list_any (is_outside m (numbered f)) vs ≡ false → All IsHeldHere (map (operand_of (trees_of m)) vs) → All (IsOperandOf (shown m f x)) (map (operand_of (trees_of m)) vs)
+  values_stand [] here none held = All-nil (IsOperandOf (shown m f x))
+  values_stand (v ∷ vs) here none held =
+      let o = operand_of (trees_of m) v in
+      let os = map (operand_of (trees_of m)) vs in
       let inside = or_parts (is_outside m (numbered f) v) (list_any (is_outside m (numbered f)) vs) none in
-      All-cons (IsOperandOf (shown m f x)) (operand_of (trees_of m) v) (map (operand_of (trees_of m)) vs) (value_stands v (All-head (IsValue m) v vs here) inside.0) (values_stand vs (All-tail (IsValue m) v vs here) inside.1)
+      All-cons (IsOperandOf (shown m f x)) o os (value_stands v (All-head (IsValue m) v vs here) inside.0 (All-head IsHeldHere o os held)) (values_stand vs (All-tail (IsValue m) v vs here) inside.1 (All-tail IsHeldHere o os held))
 
   pub values_inside : (vs : List LLVMValue) → All (IsOperandOf (shown m f x)) (map (operand_of (trees_of m)) vs) → list_any (is_outside m (numbered f)) vs ≡ false
   values_inside [] stand = refl
@@ -202,52 +209,52 @@ module _ (m : Module) (f : ℕ) (x : FunctionData) (sound : IsModule m) (at : sl
   same_void = let r = returned_here in rw r.type_is (void_kept m r.returned sound r.within ∙ ap void_tree r.tree_is)
 
   -- a value is of the type that the function returns where its operand is
-  value_returned : (v : LLVMValue) → IsValue m v → IsOperandOf (shown m f x) (operand_of (trees_of m) v) → operand_type (shown m f x) (operand_of (trees_of m) v) ≡ result_of (shown m f x).type → returns_other m (numbered f) v ≡ false
-  value_returned v here stands e =
-      let t = value_typed v here stands in
+  value_returned : (v : LLVMValue) → IsValue m v → is_outside m (numbered f) v ≡ false → operand_type (shown m f x) (operand_of (trees_of m) v) ≡ result_of (shown m f x).type → returns_other m (numbered f) v ≡ false
+  value_returned v here inside e =
+      let t = value_typed v here inside in
       let r = returned_here in
       let same = (apart m sound).types t.type r.returned t.within r.within (t.tree_is ∙ e ∙ sym r.tree_is) in
       rw (t.type_is, r.type_is) (ap not (eq-eqb t.type.0 r.returned.0 (ap (λ (t : LLVMType). t.0) same)))
 
-  operand_returned : (v : LLVMValue) → IsValue m v → IsOperandOf (shown m f x) (operand_of (trees_of m) v) → returns_other m (numbered f) v ≡ false → operand_type (shown m f x) (operand_of (trees_of m) v) ≡ result_of (shown m f x).type
-  operand_returned v here stands fits =
-      let t = value_typed v here stands in
+  operand_returned : (v : LLVMValue) → IsValue m v → is_outside m (numbered f) v ≡ false → returns_other m (numbered f) v ≡ false → operand_type (shown m f x) (operand_of (trees_of m) v) ≡ result_of (shown m f x).type
+  operand_returned v here inside fits =
+      let t = value_typed v here inside in
       let r = returned_here in
       let same = eqb-true t.type.0 r.returned.0 (not-false (nat_eq t.type.0 r.returned.0) (rw (t.type_is, r.type_is) at fits)) in
       sym t.tree_is ∙ ap (type_at (trees_of m).types) (same_type t.type r.returned same) ∙ r.tree_is
 
-  abbrev IsReturned : Operand → Type 0
-  IsReturned o = operand_type (shown m f x) o ≡ result_of (shown m f x).type
+  abbrev IsReturnedHere : Operand → Type 0
+  IsReturnedHere o = operand_type (shown m f x) o ≡ result_of (shown m f x).type
 
-  values_returned : (vs : List LLVMValue) → All (IsValue m) vs → All (IsOperandOf (shown m f x)) (map (operand_of (trees_of m)) vs) → All IsReturned (map (operand_of (trees_of m)) vs) → list_any (returns_other m (numbered f)) vs ≡ false
-  values_returned [] here stand all = refl
-  values_returned (v ∷ vs) here stand all =
+  values_returned : (vs : List LLVMValue) → All (IsValue m) vs → list_any (is_outside m (numbered f)) vs ≡ false → All IsReturnedHere (map (operand_of (trees_of m)) vs) → list_any (returns_other m (numbered f)) vs ≡ false
+  values_returned [] here none all = refl
+  values_returned (v ∷ vs) here none all =
       let o = operand_of (trees_of m) v in
       let os = map (operand_of (trees_of m)) vs in
+      let inside = or_parts (is_outside m (numbered f) v) (list_any (is_outside m (numbered f)) vs) none in
       or_from (returns_other m (numbered f) v) (list_any (returns_other m (numbered f)) vs)
-      (value_returned v (All-head (IsValue m) v vs here) (All-head (IsOperandOf (shown m f x)) o os stand) (All-head IsReturned o os all))
-      (values_returned vs (All-tail (IsValue m) v vs here) (All-tail (IsOperandOf (shown m f x)) o os stand) (All-tail IsReturned o os all))
+      (value_returned v (All-head (IsValue m) v vs here) inside.0 (All-head IsReturnedHere o os all))
+      (values_returned vs (All-tail (IsValue m) v vs here) inside.1 (All-tail IsReturnedHere o os all))
 
-  operands_returned : (vs : List LLVMValue) → All (IsValue m) vs → All (IsOperandOf (shown m f x)) (map (operand_of (trees_of m)) vs) → list_any (returns_other m (numbered f)) vs ≡ false → All IsReturned (map (operand_of (trees_of m)) vs)
-  operands_returned [] here stand none = All-nil IsReturned
-  operands_returned (v ∷ vs) here stand none =
-      let o = operand_of (trees_of m) v in
-      let os = map (operand_of (trees_of m)) vs in
-      let parts = or_parts (returns_other m (numbered f) v) (list_any (returns_other m (numbered f)) vs) none in
-      All-cons IsReturned o os (operand_returned v (All-head (IsValue m) v vs here) (All-head (IsOperandOf (shown m f x)) o os stand) parts.0)
-      (operands_returned vs (All-tail (IsValue m) v vs here) (All-tail (IsOperandOf (shown m f x)) o os stand) parts.1)
+  operands_returned : (vs : List LLVMValue) → All (IsValue m) vs → list_any (is_outside m (numbered f)) vs ≡ false → list_any (returns_other m (numbered f)) vs ≡ false → All IsReturnedHere (map (operand_of (trees_of m)) vs)
+  operands_returned [] here none fits = All-nil IsReturnedHere
+  operands_returned (v ∷ vs) here none fits =
+      let inside = or_parts (is_outside m (numbered f) v) (list_any (is_outside m (numbered f)) vs) none in
+      let parts = or_parts (returns_other m (numbered f) v) (list_any (returns_other m (numbered f)) vs) fits in
+      All-cons IsReturnedHere (operand_of (trees_of m) v) (map (operand_of (trees_of m)) vs) (operand_returned v (All-head (IsValue m) v vs here) inside.0 parts.0)
+      (operands_returned vs (All-tail (IsValue m) v vs here) inside.1 parts.1)
 
   -- a line for each word
-  pub return_fits : (k : Takes) (vs : List LLVMValue) → All (IsValue m) vs → All (IsOperandOf (shown m f x)) (map (operand_of (trees_of m)) vs) → IsReturning k (shown m f x) (map (operand_of (trees_of m)) vs) → misfits_return k m (numbered f) vs ≡ false
-  return_fits O.Nothing vs here stand all = refl
-  return_fits (O.One a) vs here stand all = refl
-  return_fits (O.Two a b) vs here stand all = refl
-  return_fits (O.Three a b c) vs here stand all = refl
-  return_fits O.Return vs here stand all = values_returned vs here stand all
+  pub return_fits : (k : Takes) (vs : List LLVMValue) → All (IsValue m) vs → list_any (is_outside m (numbered f)) vs ≡ false → IsReturning k (shown m f x) (map (operand_of (trees_of m)) vs) → misfits_return k m (numbered f) vs ≡ false
+  return_fits O.Nothing vs here none all = refl
+  return_fits (O.One a) vs here none all = refl
+  return_fits (O.Two a b) vs here none all = refl
+  return_fits (O.Three a b c) vs here none all = refl
+  return_fits O.Return vs here none all = values_returned vs here none all
 
-  pub return_form : (k : Takes) (vs : List LLVMValue) → All (IsValue m) vs → All (IsOperandOf (shown m f x)) (map (operand_of (trees_of m)) vs) → misfits_return k m (numbered f) vs ≡ false → IsReturning k (shown m f x) (map (operand_of (trees_of m)) vs)
-  return_form O.Nothing vs here stand none = tt
-  return_form (O.One a) vs here stand none = tt
-  return_form (O.Two a b) vs here stand none = tt
-  return_form (O.Three a b c) vs here stand none = tt
-  return_form O.Return vs here stand none = operands_returned vs here stand none
+  pub return_form : (k : Takes) (vs : List LLVMValue) → All (IsValue m) vs → list_any (is_outside m (numbered f)) vs ≡ false → misfits_return k m (numbered f) vs ≡ false → IsReturning k (shown m f x) (map (operand_of (trees_of m)) vs)
+  return_form O.Nothing vs here none fits = tt
+  return_form (O.One a) vs here none fits = tt
+  return_form (O.Two a b) vs here none fits = tt
+  return_form (O.Three a b c) vs here none fits = tt
+  return_form O.Return vs here none fits = operands_returned vs here none fits

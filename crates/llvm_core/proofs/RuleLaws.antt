@@ -37,7 +37,7 @@ use Rattle.llvm_core.proofs.DataLemmas.{type_tree_of}
 use Rattle.llvm_core.proofs.WithinLemmas.{type_nth_within, HasParam, param_there}
 
 -- what rules look at is that of the tree, a line for each kind
-shape_kept : (ts : List TypeTree) (k : LLVMTypeKind) → shape_of k ≡ shape (type_tree ts k)
+pub shape_kept : (ts : List TypeTree) (k : LLVMTypeKind) → shape_of k ≡ shape (type_tree ts k)
 shape_kept ts T.Void = refl
 shape_kept ts (T.Int w) = refl
 shape_kept ts (T.Function result params variadic) = refl

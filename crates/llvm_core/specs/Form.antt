@@ -1,8 +1,8 @@
 -- Modules of the form that is translated today: functions with a body of phis and rows of the table, over the types that
 -- are held.
-use Rattle.std.specs.Prelude.{◌≡◌, ◌<◌, ◌≤◌, ◌^◌, ◌+◌, ℕ, suc, Bool, true, false, is_some, nat_eq, List, [], ◌++◌, length, map, filter, slice_get, unwrap_or, Some, All}
+use Rattle.std.specs.Prelude.{◌≡◌, ◌<◌, ◌^◌, ℕ, suc, Bool, true, false, is_some, nat_eq, List, [], ◌++◌, length, map, filter, slice_get, unwrap_or, Some, All}
 use Rattle.std.specs.List.{flat_map}
-use Rattle.llvm_core.specs.Data.{TypeTree, VoidType, IntType, FunctionType, TypeTrees, NoTypes, ThenType, ConstTree, IntConst, PlaceholderConst, Operand, Constant, Parameter, Result, RowData, Instruction, Phi, Applied, Placed, Block, Function, ModuleData, operand_type, placed_in, targets, phi_entries}
+use Rattle.llvm_core.specs.Data.{TypeTree, VoidType, FunctionType, TypeTrees, ConstTree, IntConst, PlaceholderConst, Operand, Constant, Parameter, Result, RowData, Instruction, Phi, Applied, Placed, Block, Function, ModuleData, operand_type, placed_in, targets, phi_entries}
 use Rattle.kinds.specs.declared.rules.Takes.{Takes}
 use Rattle.kinds.specs.declared.rules.Takes.TheVariants as O
 use Rattle.kinds.specs.Rules.{ends, target_count, operand_count}
