@@ -1,7 +1,6 @@
 -- Equal trees have equal numbers, where types and constants stand once each.
 use Rattle.std.proofs.Common.{◌≡◌, ◌<◌, ◌+◌, ℕ, zero, suc, List, [], ◌∷◌, Some, length, get_or, ap, sym, ◌∙◌, arith, All}
 use Rattle.std.proofs.lemmas.List.Elements.{All-head, All-tail}
-use Rattle.std.proofs.lemmas.Option.{slice_get_within}
 use Rattle.support.proofs.ListLaws.{item_there}
 use Rattle.llvm_core.specs.declared.numbers.LLVMType.{LLVMType}
 use Rattle.llvm_core.specs.declared.numbers.LLVMConst.{LLVMConst}
@@ -10,10 +9,13 @@ use Rattle.llvm_core.specs.declared.types.LLVMTypeKind.TheVariants as T
 use Rattle.llvm_core.specs.declared.consts.LLVMConstKind.{LLVMConstKind}
 use Rattle.llvm_core.specs.declared.consts.LLVMConstKind.TheVariants as C
 use Rattle.llvm_core.specs.Module.{Module}
-use Rattle.llvm_core.specs.Parts.{IsTypeOver, IsConstOver}
+use Rattle.llvm_core.specs.Parts.{IsTypeOver, IsConstOver, const_type}
 use Rattle.llvm_core.specs.Sound.{IsModule}
+use Rattle.llvm_core.specs.Data as d
 use Rattle.llvm_core.specs.Data.{TypeTree, VoidType, ConstTree, IntConst, type_at, types_at, type_tree, type_trees, const_tree, const_trees, AreApart}
 use Rattle.llvm_core.proofs.TreeLemmas.{type_at-kind, const_at-kind}
+use Rattle.llvm_core.proofs.DataLemmas.{const_tree_typed}
+use Rattle.llvm_core.proofs.WithinLemmas.{const_type_within}
 
 pub same_type : (x y : LLVMType) → x.0 ≡ y.0 → x ≡ y
 same_type x y e = ap (λ (n : ℕ). let t : LLVMType = record { 0 = n } in t) e
@@ -60,17 +62,17 @@ types_apart m s a b within_a within_b h = by_size m s (a.0 + b.0 + 1) a b (omega
 
 -- a constant is known by its tree
 same_const_kinds : (m : Module) → IsModule m → (cs : List ConstTree) (k l : LLVMConstKind) → IsConstOver m.types k → IsConstOver m.types l → const_tree (type_trees m.types) cs k ≡ const_tree (type_trees m.types) cs l → k ≡ l
-same_const_kinds m s cs (C.Int t v) (C.Int u w) p q h =
-    let e = types_apart m s t u (slice_get_within m.types t.0 _ p.1) (slice_get_within m.types u.0 _ q.1) (cc) in
-    cc
-same_const_kinds m s cs (C.Int t v) (C.Placeholder n u) p q h = cc
-same_const_kinds m s cs (C.Placeholder n t) (C.Int u w) p q h = cc
-same_const_kinds m s cs (C.Placeholder n t) (C.Placeholder k u) p q h =
-    let e = types_apart m s t u p q (cc) in
-    cc
+same_const_kinds m s cs k l p q h =
+    by k l h (types_apart m s (const_type k) (const_type l) (const_type_within m.types k p) (const_type_within m.types l q) (sym (const_tree_typed m cs k s p) ∙ ap d.const_type h ∙ const_tree_typed m cs l s q))
+  where
+    by : (k l : LLVMConstKind) → const_tree (type_trees m.types) cs k ≡ const_tree (type_trees m.types) cs l → const_type k ≡ const_type l → k ≡ l
+    by (C.Int t v) (C.Int u w) h e = cc
+    by (C.Int t v) (C.Placeholder n u) h e = cc
+    by (C.Placeholder n t) (C.Int u w) h e = cc
+    by (C.Placeholder n t) (C.Placeholder k u) h e = cc
 
 consts_apart : (m : Module) → IsModule m → (a b : LLVMConst) → a.0 < length m.consts → b.0 < length m.consts
-    → get_or (const_trees (type_trees m.types) m.consts) a.0 (IntConst VoidType 0) ≡ get_or (const_trees (type_trees m.types) m.consts) b.0 (IntConst VoidType 0) → a ≡ b
+    → get_or (const_trees (type_trees m.types) m.consts) a.0 (IntConst 0 0) ≡ get_or (const_trees (type_trees m.types) m.consts) b.0 (IntConst 0 0) → a ≡ b
 consts_apart m s a b within_a within_b h =
     let ts = type_trees m.types in
     let k = item_there m.consts a.0 within_a in

@@ -30,7 +30,7 @@ use Rattle.llvm_core.specs.Code.{code_of, with_code, with_param_name, with_block
 use Rattle.llvm_core.specs.Parts.{IsValue, HasValues, IsEntry, IsResultOver, IsResultType, made_kind, result_type}
 use Rattle.llvm_core.specs.Sound.{IsModule, IsInstIn}
 use Rattle.llvm_core.specs.Data as d
-use Rattle.llvm_core.specs.Data.{Trees, type_at, const_at, trees_of, operand_of, entry_of, instruction_of, tree_of_result, result_tree, placed_of, placed_at, block_of, block_at, function_of, data_of, with_instruction_in, VoidType, IntConst, type_trees, const_trees}
+use Rattle.llvm_core.specs.Data.{Trees, type_at, const_at, trees_of, operand_of, entry_of, instruction_of, tree_of_result, result_tree, placed_of, placed_at, block_of, block_at, function_of, data_of, with_instruction_in, VoidType, type_trees, const_trees}
 use Rattle.llvm_core.proofs.ChangeLemmas.{mapped_same, mapped_push, mapped_then, mapped_change, filter_map-same, filter_map-mapped, slice_get-changed, slice_get-unchanged}
 use Rattle.support.proofs.ListLaws.{slice_get-push, item_there, slice_get-before}
 use Rattle.llvm_core.proofs.TreeLemmas.{type_at-kept, type_at-kind, const_trees-retyped, const_at-kept}

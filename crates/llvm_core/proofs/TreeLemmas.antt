@@ -8,6 +8,7 @@ use Rattle.llvm_core.specs.declared.types.LLVMTypeKind.{LLVMTypeKind}
 use Rattle.llvm_core.specs.declared.types.LLVMTypeKind.TheVariants as T
 use Rattle.llvm_core.specs.declared.consts.LLVMConstKind.{LLVMConstKind}
 use Rattle.llvm_core.specs.declared.consts.LLVMConstKind.TheVariants as C
+use Rattle.kinds.specs.Held.{width_in}
 use Rattle.llvm_core.specs.Parts.{IsTypeOver, IsConstOver}
 use Rattle.llvm_core.specs.Data.{TypeTree, VoidType, ConstTree, IntConst, PlaceholderConst, trees_after, type_at, types_at, type_tree, type_trees, const_tree, const_trees}
 
@@ -82,7 +83,7 @@ type_at-kept ks ls t lt =
 -- ---- constants
 
 same_const_tree : (types : List LLVMTypeKind) (ts us : List TypeTree) → ((t : LLVMType) → t.0 < length types → type_at ts t ≡ type_at us t) → (cs : List ConstTree) (k : LLVMConstKind) → IsConstOver types k → const_tree ts cs k ≡ const_tree us cs k
-same_const_tree types ts us same cs (C.Int t v) h = ap (λ x. IntConst x v) (same t (slice_get_within types t.0 _ h.1))
+same_const_tree types ts us same cs (C.Int t v) h = ap (λ (x : TypeTree). IntConst (width_in x) v) (same t (slice_get_within types t.0 _ h.1))
 same_const_tree types ts us same cs (C.Placeholder number t) h = ap (PlaceholderConst number) (same t h)
 
 consts_after : (types : List LLVMTypeKind) (ts us : List TypeTree) → ((t : LLVMType) → t.0 < length types → type_at ts t ≡ type_at us t) → (done : List ConstTree) (ks : List LLVMConstKind) → ((i : ℕ) (k : LLVMConstKind) → slice_get ks i ≡ Some k → IsConstOver types k) → trees_after (const_tree ts) done ks ≡ trees_after (const_tree us) done ks
@@ -95,14 +96,14 @@ consts_after types ts us same done (k ∷ ks) ok =
 pub const_trees-retyped : (types more : List LLVMTypeKind) (ks : List LLVMConstKind) → ((i : ℕ) (k : LLVMConstKind) → slice_get ks i ≡ Some k → IsConstOver types k) → const_trees (type_trees (types ++ more)) ks ≡ const_trees (type_trees types) ks
 const_trees-retyped types more ks ok = consts_after types (type_trees (types ++ more)) (type_trees types) (type_at-kept types more) [] ks ok
 
-pub const_at-kept : (ts : List TypeTree) (ks ls : List LLVMConstKind) (c : ℕ) → c < length ks → get_or (const_trees ts (ks ++ ls)) c (IntConst VoidType 0) ≡ get_or (const_trees ts ks) c (IntConst VoidType 0)
+pub const_at-kept : (ts : List TypeTree) (ks ls : List LLVMConstKind) (c : ℕ) → c < length ks → get_or (const_trees ts (ks ++ ls)) c (IntConst 0 0) ≡ get_or (const_trees ts ks) c (IntConst 0 0)
 const_at-kept ts ks ls c lt =
-    ap (λ cs. get_or cs c (IntConst VoidType 0)) (after-append (const_tree ts) (IntConst VoidType 0) [] ks ls)
-    ∙ kept (const_tree ts) (IntConst VoidType 0) (const_trees ts ks) ls c (omega (arith, length-after (const_tree ts) (IntConst VoidType 0) [] ks))
+    ap (λ cs. get_or cs c (IntConst 0 0)) (after-append (const_tree ts) (IntConst 0 0) [] ks ls)
+    ∙ kept (const_tree ts) (IntConst 0 0) (const_trees ts ks) ls c (omega (arith, length-after (const_tree ts) (IntConst 0 0) [] ks))
 
-same_parts : (ts : List TypeTree) (cs ds : List ConstTree) (n : ℕ) → ((j : ℕ) → j < n → get_or cs j (IntConst VoidType 0) ≡ get_or ds j (IntConst VoidType 0)) → (k : LLVMConstKind) → Unit {0} → const_tree ts cs k ≡ const_tree ts ds k
+same_parts : (ts : List TypeTree) (cs ds : List ConstTree) (n : ℕ) → ((j : ℕ) → j < n → get_or cs j (IntConst 0 0) ≡ get_or ds j (IntConst 0 0)) → (k : LLVMConstKind) → Unit {0} → const_tree ts cs k ≡ const_tree ts ds k
 same_parts ts cs ds n same (C.Int t v) h = refl
 same_parts ts cs ds n same (C.Placeholder number t) h = refl
 
-pub const_at-kind : (ts : List TypeTree) (ks : List LLVMConstKind) (c : ℕ) (k : LLVMConstKind) → slice_get ks c ≡ Some k → get_or (const_trees ts ks) c (IntConst VoidType 0) ≡ const_tree ts (const_trees ts ks) k
-const_at-kind ts ks c k at = at_number (const_tree ts) (IntConst VoidType 0) (λ n k. Unit {0}) (same_parts ts) [] ks c c k (omega arith) at tt
+pub const_at-kind : (ts : List TypeTree) (ks : List LLVMConstKind) (c : ℕ) (k : LLVMConstKind) → slice_get ks c ≡ Some k → get_or (const_trees ts ks) c (IntConst 0 0) ≡ const_tree ts (const_trees ts ks) k
+const_at-kind ts ks c k at = at_number (const_tree ts) (IntConst 0 0) (λ n k. Unit {0}) (same_parts ts) [] ks c c k (omega arith) at tt

@@ -16,7 +16,7 @@ use crate::module::LLVMModule;
 use crate::name_set::NameSet;
 use crate::names::{has_twice, local_names};
 use crate::numbers::{LLVMBasicBlock, LLVMFunction, LLVMInstRef, LLVMType};
-use crate::operands::{TOO_LONG, check_inst, is_function, is_void};
+use crate::operands::{TOO_LONG, check_inst, is_function, is_valueless};
 use crate::phis::has_late_phi;
 use crate::types::LLVMTypeKind;
 
@@ -99,8 +99,7 @@ fn has_valueless(m: &LLVMModule, params: &[LLVMType]) -> bool
     ensures { result ≡ list_any (is_kind is_valueless m.now.types) params.now }
 {
     for param in params {
-        let kind = m.type_kind(*param);
-        if is_void(kind) || is_function(kind) {
+        if is_valueless(m.type_kind(*param)) {
             return true;
         }
     }

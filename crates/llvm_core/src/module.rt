@@ -502,8 +502,8 @@ fn const_type(kind: &LLVMConstKind) -> LLVMType
     }
 }
 
-/// What rules look at: a line for each kind.
-fn shape_of(kind: &LLVMTypeKind) -> Shape
+/// What rules look at in a kind of type: a line for each.
+pub fn shape_of(kind: &LLVMTypeKind) -> Shape
     ensures { result ≡ shape_of kind.now }
 {
     match kind {

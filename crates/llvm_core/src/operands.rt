@@ -8,29 +8,40 @@ ghost use Rattle.llvm_core.specs.declared.check_err.Place.TheVariants as places;
 ghost use Rattle.llvm_core.specs.declared.check_err.CheckErr.TheVariants as errors;
 ghost use Rattle.kinds.specs.Table.{rule_of};
 ghost use Rattle.llvm_core.specs.Parts.{IsValue, IsBlock, IsEntry, HasParts, HasValues, operands, is_function, row_fits};
-ghost use Rattle.llvm_core.specs.Checked.{is_void, MisfitsPhi, returns_void, return_type, home, is_outside, is_block_outside, is_entry_outside, reaches_outside, is_placeholder, HasOtherType, returns_other, misfits_return, is_counted, Fails, IsCheckedInst};
+ghost use Rattle.llvm_core.specs.Checked.{is_void, is_valueless, MisfitsPhi, returns_void, return_type, home, is_outside, is_block_outside, is_entry_outside, reaches_outside, is_placeholder, HasOtherType, returns_other, misfits_return, is_counted, Fails, IsCheckedInst};
 
 use crate::check_err::{CheckErr, Place};
 use crate::code::{LLVMInst, LLVMValue, PhiEntry, Row};
 use crate::consts::LLVMConstKind;
-use crate::module::LLVMModule;
+use crate::module::{LLVMModule, shape_of};
 use crate::numbers::{LLVMBasicBlock, LLVMFunction, LLVMInstRef, LLVMType};
 use crate::types::LLVMTypeKind;
+use kinds::fitting;
+use kinds::fitting::{is_nothing, is_value};
 use kinds::rules::Takes;
 
 /// The number of entries from which on a list is too long.
 pub const TOO_LONG: usize = 1 << 31;
 
-pub fn is_void(kind: &LLVMTypeKind) -> bool
+/// Whether it is the kind of void.
+fn is_void(kind: &LLVMTypeKind) -> bool
     ensures { result ≡ is_void kind.now }
 {
-    matches!(kind, LLVMTypeKind::Void)
+    is_nothing(shape_of(kind))
 }
 
+/// Whether it is the kind of a function type.
 pub fn is_function(kind: &LLVMTypeKind) -> bool
     ensures { result ≡ is_function kind.now }
 {
-    matches!(kind, LLVMTypeKind::Function { .. })
+    fitting::is_function(shape_of(kind))
+}
+
+/// Whether it is the kind of a type of no value.
+pub fn is_valueless(kind: &LLVMTypeKind) -> bool
+    ensures { result ≡ is_valueless kind.now }
+{
+    !is_value(shape_of(kind))
 }
 
 /// The function that holds an instruction.
@@ -81,8 +92,7 @@ fn fits_phi(m: &LLVMModule, ty: LLVMType, entries: &[PhiEntry]) -> bool
     ensures yes { IsTrue result → ¬ MisfitsPhi m.now ty entries.now }
     ensures no { result ≡ false → MisfitsPhi m.now ty entries.now }
 {
-    let kind = m.type_kind(ty);
-    !is_void(kind) && !is_function(kind) && !has_other_type(m, ty, entries)
+    !is_valueless(m.type_kind(ty)) && !has_other_type(m, ty, entries)
 }
 
 /// Whether a value is of another type than `f` returns.
