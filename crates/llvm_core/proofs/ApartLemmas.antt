@@ -1,5 +1,5 @@
 -- Equal trees have equal numbers, where types and constants stand once each.
-use Rattle.std.proofs.Common.{◌≡◌, ◌<◌, ◌+◌, ℕ, zero, suc, List, [], ◌∷◌, Some, length, get_or, ap, sym, ◌∙◌, arith, All}
+use Rattle.std.proofs.Common.{◌≡◌, ◌<◌, ◌+◌, ℕ, zero, suc, List, [], ◌∷◌, Some, length, slice_get, get_or, ap, sym, ◌∙◌, arith, All}
 use Rattle.std.proofs.lemmas.List.Elements.{All-head, All-tail}
 use Rattle.support.proofs.ListLaws.{item_there}
 use Rattle.llvm_core.specs.declared.numbers.LLVMType.{LLVMType}
@@ -12,7 +12,7 @@ use Rattle.llvm_core.specs.Module.{Module}
 use Rattle.llvm_core.specs.Parts.{IsTypeOver, IsConstOver, const_type}
 use Rattle.llvm_core.specs.Sound.{IsModule}
 use Rattle.llvm_core.specs.Data as d
-use Rattle.llvm_core.specs.Data.{TypeTree, VoidType, ConstTree, IntConst, type_at, types_at, type_tree, type_trees, const_tree, const_trees, AreApart}
+use Rattle.llvm_core.specs.Data.{TypeTree, ConstTree, IntConst, type_at, types_at, type_tree, type_trees, const_tree, const_trees, AreApart}
 use Rattle.llvm_core.proofs.TreeLemmas.{type_at-kind, const_at-kind}
 use Rattle.llvm_core.proofs.DataLemmas.{const_tree_typed}
 use Rattle.llvm_core.proofs.WithinLemmas.{const_type_within}
@@ -59,6 +59,13 @@ by_size m s (suc size) a b p q within_a within_b h =
 
 types_apart : (m : Module) → IsModule m → (a b : LLVMType) → a.0 < length m.types → b.0 < length m.types → type_at (type_trees m.types) a ≡ type_at (type_trees m.types) b → a ≡ b
 types_apart m s a b within_a within_b h = by_size m s (a.0 + b.0 + 1) a b (omega arith) (omega arith) within_a within_b h
+
+-- the kind at a number is known by its tree
+pub kind_apart : (m : Module) (t : LLVMType) (l : LLVMTypeKind) → IsModule m → t.0 < length m.types → IsTypeOver (length m.types) l → type_at (type_trees m.types) t ≡ type_tree (type_trees m.types) l → slice_get m.types t.0 ≡ Some l
+kind_apart m t l s within over h =
+    let k = item_there m.types t.0 within in
+    let k_over = s.types t.0 k.0 k.1 in
+    k.1 ∙ ap Some (same_kinds (type_trees m.types) t.0 (length m.types) (λ a b below p e. types_apart m s a b (omega (arith, below, within)) p e) k.0 l k_over over (sym (type_at-kind m.types t k.0 k.1 k_over) ∙ h))
 
 -- a constant is known by its tree
 same_const_kinds : (m : Module) → IsModule m → (cs : List ConstTree) (k l : LLVMConstKind) → IsConstOver m.types k → IsConstOver m.types l → const_tree (type_trees m.types) cs k ≡ const_tree (type_trees m.types) cs l → k ≡ l

@@ -5,13 +5,12 @@ use Rattle.std.specs.Option.{option_map, option_map_or}
 use Rattle.std.proofs.lemmas.List.{length-map, map-append}
 use Rattle.std.proofs.lemmas.List.Elements.{All-nil, All-cons, All-head, All-tail, All-weaker}
 use Rattle.std.proofs.lemmas.Option.{slice_get-map}
-use Rattle.support.proofs.ListLaws.{slice_get-behind, item_there}
+use Rattle.support.proofs.ListLaws.{slice_get-behind}
 use Rattle.kinds.specs.Types.{TypeTree, VoidType}
 use Rattle.kinds.specs.Typing.{fits_trees, typed}
 use Rattle.llvm_core.specs.declared.numbers.LLVMType.{LLVMType}
 use Rattle.llvm_core.specs.declared.numbers.LLVMFunction.{LLVMFunction}
 use Rattle.llvm_core.specs.declared.numbers.LLVMBasicBlock.{LLVMBasicBlock}
-use Rattle.llvm_core.specs.declared.types.LLVMTypeKind.{LLVMTypeKind}
 use Rattle.llvm_core.specs.declared.types.LLVMTypeKind.TheVariants as T
 use Rattle.llvm_core.specs.declared.types.ResultType.{ResultType}
 use Rattle.llvm_core.specs.declared.types.ResultType.TheVariants as R
@@ -30,8 +29,7 @@ use Rattle.llvm_core.specs.Parts.{IsValue, IsBlock, IsEntry, HasParts, IsResultO
 use Rattle.llvm_core.specs.Sound.{StandsFor, IsModule}
 use Rattle.llvm_core.specs.Data.{type_at, trees_of, tree_of_result}
 use Rattle.llvm_core.specs.Bodies.{IsBodyInst, added, block_numbers, body_blocks, body_insts, inst_in}
-use Rattle.llvm_core.proofs.ApartLemmas.{apart}
-use Rattle.llvm_core.proofs.DataLemmas.{type_tree_of}
+use Rattle.llvm_core.proofs.ApartLemmas.{apart, kind_apart}
 use Rattle.llvm_core.proofs.WithinLemmas.{result_within}
 use Rattle.llvm_core.proofs.GrowLemmas.{inst_type, value_kept, value_type_kept}
 use Rattle.llvm_core.proofs.RuleLaws.{fits_by_tree, result_by_tree}
@@ -231,19 +229,9 @@ module _ (m : Module) (f : LLVMFunction) (body : List BodyBlock) (s : IsModule m
   -- a type stands for a result where its tree is that of the result
   stands : (o : Option ResultType) (ty : LLVMType) → ((r : ResultType) → o ≡ Some r → IsResultOver m.types r) → ty.0 < length m.types
       → option_map_or (tree_of_result (trees_of m).types) o VoidType ≡ tree ty → StandsFor m.types o ty
-  stands None ty over lt e = by (item_there m.types ty.0 lt).0 (item_there m.types ty.0 lt).1
-    where
-      by : (k : LLVMTypeKind) → slice_get m.types ty.0 ≡ Some k → slice_get m.types ty.0 ≡ Some T.Void
-      by T.Void at = at
-      by (T.Int w) at = let t = type_tree_of m ty (T.Int w) s at in absurd (cc)
-      by (T.Function result params variadic) at = let t = type_tree_of m ty (T.Function result params variadic) s at in absurd (cc)
+  stands None ty over lt e = kind_apart m ty T.Void s lt tt (sym e)
   stands (Some (R.There t)) ty over lt e = (apart m s).types ty t lt (over (R.There t) refl) (sym e)
-  stands (Some R.Bit) ty over lt e = by (item_there m.types ty.0 lt).0 (item_there m.types ty.0 lt).1
-    where
-      by : (k : LLVMTypeKind) → slice_get m.types ty.0 ≡ Some k → slice_get m.types ty.0 ≡ Some (T.Int 1)
-      by T.Void at = let t = type_tree_of m ty T.Void s at in absurd (cc)
-      by (T.Int w) at = let t = type_tree_of m ty (T.Int w) s at in let same : w ≡ 1 = (cc) in at ∙ ap (λ (n : ℕ). Some (T.Int n)) same
-      by (T.Function result params variadic) at = let t = type_tree_of m ty (T.Function result params variadic) s at in absurd (cc)
+  stands (Some R.Bit) ty over lt e = kind_apart m ty (T.Int 1) s lt (omega arith, omega arith) (sym e)
 
   -- a type stands for a row's result where its tree is what the table says of the trees of what the row names, which is void where it says none
   pub body_stands : (r : Row) (ty : LLVMType) → HasParts real r → ty.0 < length m.types
