@@ -1,14 +1,13 @@
 -- Tests of instructions and blocks decide what the form asks of their data.
-use Rattle.std.proofs.Common.{◌≡◌, ◌<◌, ℕ, Bool, false, not, ◌&&◌, ◌||◌, List, [], ◌∷◌, Some, length, map, slice_get, refl, sym, ap, subst, ◌∙◌, All}
+use Rattle.std.proofs.Common.{◌≡◌, ◌<◌, ℕ, false, ◌&&◌, List, [], ◌∷◌, Some, length, map, slice_get, refl, sym, ap, subst, ◌∙◌, All}
 use Rattle.std.specs.Bool.{Decides}
 use Rattle.std.specs.List.{list_all, list_any}
 use Rattle.std.specs.Option.{option_map_or}
 use Rattle.std.proofs.lemmas.Bool.{or_from, or_parts, false_from_ne_true}
 use Rattle.std.proofs.lemmas.Bool.Decides.{Decides-at, Decides-and, Decides-like}
 use Rattle.std.proofs.lemmas.List.Elements.{All-nil, All-cons, All-head, All-tail}
-use Rattle.std.proofs.lemmas.Option.{slice_get_within}
 use Rattle.support.proofs.ListLaws.{all_from, item_there}
-use Rattle.llvm_core.specs.declared.numbers.LLVMBasicBlock.{LLVMBasicBlock}
+use Rattle.kinds.specs.Held.{IsHeld}
 use Rattle.llvm_core.specs.declared.numbers.LLVMInstRef.{LLVMInstRef}
 use Rattle.llvm_core.specs.declared.code.LLVMValue.{LLVMValue}
 use Rattle.llvm_core.specs.declared.code.LLVMInst.{LLVMInst}
@@ -20,19 +19,18 @@ use Rattle.llvm_core.specs.declared.code.InstData.{InstData}
 use Rattle.llvm_core.specs.declared.check_err.Place.TheVariants as P
 use Rattle.llvm_core.specs.declared.check_err.CheckErr.TheVariants.{BlockOutside}
 use Rattle.llvm_core.specs.Module.{Module}
-use Rattle.llvm_core.specs.Names.{is_plain, IsPlainOrNone}
 use Rattle.llvm_core.specs.Parts.{IsValue, IsEntry, HasValues, is_kind, operands}
 use Rattle.llvm_core.specs.Sound.{IsModule}
-use Rattle.llvm_core.specs.Data.{Operand, Placed, Block, Function, Instruction, Phi, Applied, trees_of, operand_of, entry_of, instruction_of, operand_type}
+use Rattle.llvm_core.specs.Data.{Operand, Block, trees_of, operand_of, entry_of, instruction_of, operand_type}
 use Rattle.llvm_core.specs.Checked.{IsChecked, home, is_void, is_outside, is_block_outside, is_entry_outside, reaches_outside}
-use Rattle.llvm_core.specs.Form.{IsShortInt, IsShortResult, IsOperandOf, IsNarrowPlaced, IsNarrowBlock, operands_of}
+use Rattle.llvm_core.specs.Form.{IsNarrowPlaced, IsNarrowBlock, operands_of}
 use Rattle.llvm_core.proofs.DataLemmas.{within_at, inst_of_number}
 use Rattle.llvm_core.proofs.FormTypes.{numbered, void_kept}
-use Rattle.llvm_core.proofs.FormValues.{value_typed, value_stands}
+use Rattle.llvm_core.proofs.FormValues.{value_typed}
 use Rattle.llvm_core.proofs.FormPlaces.{shown, shown_block, shown_inst, IsFromBlock, inst_from}
-use Rattle.llvm_form.specs.Narrow.{is_none, is_plain_or_none, is_short_result_kind, is_short, is_short_value, is_named_right, is_narrow_inst, is_narrow_inst_data, is_narrow_block_data}
+use Rattle.llvm_form.specs.Narrow.{is_plain_or_none, is_held_result_kind, is_held_type, is_held_value, is_named_right, is_narrow_inst, is_narrow_inst_data, is_narrow_block_data}
 use Rattle.llvm_form.proofs.AllLaws.{each_passes, all_pass}
-use Rattle.llvm_form.proofs.TypeLaws.{plain_or_none, named_right, short_decided, short_result_decided}
+use Rattle.llvm_form.proofs.TypeLaws.{plain_or_none, named_right, held_decided, held_result_decided}
 
 -- the operands of an instruction, as data
 operands_shown : (m : Module) (i : LLVMInst) → operands_of (instruction_of (trees_of m) i) ≡ map (operand_of (trees_of m)) (operands i)
@@ -44,27 +42,26 @@ operands_shown m (I.Phi type entries) = by entries
 operands_shown m (I.Row r) = refl
 
 module _ (m : Module) (sound : IsModule m) (f : ℕ) (x : FunctionData) (at : slice_get m.functions f ≡ Some x) where
-  abbrev IsShortOperand : Operand → Type 0
-  IsShortOperand o = IsShortInt (operand_type (shown m f x) o)
+  abbrev IsHeldOperand : Operand → Type 0
+  IsHeldOperand o = IsHeld (operand_type (shown m f x) o)
 
   -- ---- values
 
-  value_decided : (v : LLVMValue) → IsValue m v → IsOperandOf (shown m f x) (operand_of (trees_of m) v) → Decides (is_short_value m v) (IsShortOperand (operand_of (trees_of m) v))
-  value_decided v here stands =
-      let t = value_typed m f x sound at v here stands in
-      Decides-at (is_short_value m v) (is_short m t.type) (ap (λ o. option_map_or (is_short m) o false) t.type_is) (subst (λ τ. Decides (is_short m t.type) (IsShortInt τ)) t.tree_is (short_decided m sound t.type t.within))
+  value_decided : (v : LLVMValue) → IsValue m v → is_outside m (numbered f) v ≡ false → Decides (is_held_value m v) (IsHeldOperand (operand_of (trees_of m) v))
+  value_decided v here inside =
+      let t = value_typed m f x sound at v here inside in
+      Decides-at (is_held_value m v) (is_held_type m t.type) (ap (λ o. option_map_or (is_held_type m) o false) t.type_is) (subst (λ τ. Decides (is_held_type m t.type) (IsHeld τ)) t.tree_is (held_decided m sound t.type t.within))
 
-  values_decided : (vs : List LLVMValue) → All (IsValue m) vs → list_any (is_outside m (numbered f)) vs ≡ false → Decides (list_all (is_short_value m) vs) (All IsShortOperand (map (operand_of (trees_of m)) vs))
-  values_decided [] here inside = (λ e. All-nil IsShortOperand, λ h. refl)
+  values_decided : (vs : List LLVMValue) → All (IsValue m) vs → list_any (is_outside m (numbered f)) vs ≡ false → Decides (list_all (is_held_value m) vs) (All IsHeldOperand (map (operand_of (trees_of m)) vs))
+  values_decided [] here inside = (λ e. All-nil IsHeldOperand, λ h. refl)
   values_decided (v ∷ vs) here inside =
       let o = operand_of (trees_of m) v in
       let os = map (operand_of (trees_of m)) vs in
       let parts = or_parts (is_outside m (numbered f) v) (list_any (is_outside m (numbered f)) vs) inside in
-      let first = All-head (IsValue m) v vs here in
-      let head = value_decided v first (value_stands m f x sound at v first parts.0) in
+      let head = value_decided v (All-head (IsValue m) v vs here) parts.0 in
       let tail = values_decided vs (All-tail (IsValue m) v vs here) parts.1 in
-      Decides-like (is_short_value m v && list_all (is_short_value m) vs) (λ h. All-cons IsShortOperand o os h.0 h.1) (λ all. (All-head IsShortOperand o os all, All-tail IsShortOperand o os all))
-      (Decides-and (is_short_value m v) (list_all (is_short_value m) vs) head tail)
+      Decides-like (is_held_value m v && list_all (is_held_value m) vs) (λ h. All-cons IsHeldOperand o os h.0 h.1) (λ all. (All-head IsHeldOperand o os all, All-tail IsHeldOperand o os all))
+      (Decides-and (is_held_value m v) (list_all (is_held_value m) vs) head tail)
 
   -- the operands of an instruction are there, and none is outside
   operands_there : (i : LLVMInst) → HasValues m i → All (IsValue m) (operands i)
@@ -97,13 +94,13 @@ module _ (m : Module) (sound : IsModule m) (f : ℕ) (x : FunctionData) (at : sl
         let none = false_from_ne_true (reaches_outside m (home m z) z.inst) (λ reaches. checked (BlockOutside (P.Inst i)) (z, is, reaches)) in
         let inside = operands_inside z.inst (subst (λ g. reaches_outside m g z.inst ≡ false) own none) in
         let named = named_right z.name τ (is_kind is_void m.types z.ty) (void_kept m z.ty sound there.typed) in
-        let result = short_result_decided m sound z.ty there.typed in
+        let result = held_result_decided m sound z.ty there.typed in
         let here = values_decided (operands z.inst) (operands_there z.inst there.values) inside in
-        let all = subst (λ os. Decides (list_all (is_short_value m) (operands z.inst)) (All IsShortOperand os)) (sym (operands_shown m z.inst)) here in
-        let head = Decides-and (is_named_right m z) (is_kind is_short_result_kind m.types z.ty) named result in
+        let all = subst (λ os. Decides (list_all (is_held_value m) (operands z.inst)) (All IsHeldOperand os)) (sym (operands_shown m z.inst)) here in
+        let head = Decides-and (is_named_right m z) (is_kind is_held_result_kind m.types z.ty) named result in
         Decides-like (is_narrow_inst_data m z) (λ h. record { name = h.0.0.0; unnamed = h.0.0.1; result = h.0.1; operands = h.1 })
         (λ (p : IsNarrowPlaced (shown m f x) (shown_inst m i z)). (((p.name, p.unnamed), p.result), p.operands))
-        (Decides-and (is_named_right m z && is_kind is_short_result_kind m.types z.ty) (list_all (is_short_value m) (operands z.inst)) head all)
+        (Decides-and (is_named_right m z && is_kind is_held_result_kind m.types z.ty) (list_all (is_held_value m) (operands z.inst)) head all)
 
     -- ---- blocks
 

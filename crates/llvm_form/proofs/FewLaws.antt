@@ -1,5 +1,5 @@
 -- A checked module has few parameters a function.
-use Rattle.std.proofs.Common.{◌≡◌, ◌<◌, ◌^◌, inl, ℕ, List, [], Some, length, slice_get, ap, ◌∙◌, subst, sym}
+use Rattle.std.proofs.Common.{◌≡◌, ◌<◌, ◌^◌, inl, ℕ, List, [], length, ap, subst, sym}
 use Rattle.std.specs.Option.{option_map_or}
 use Rattle.std.proofs.Math.Nat.{lt_of_not-le}
 use Rattle.support.proofs.ListLaws.{item_there}

@@ -1,63 +1,59 @@
 -- The test of a module decides whether it is of the form.
-use Rattle.std.proofs.Common.{◌≡◌, ◌<◌, ℕ, Bool, true, false, not, nat_lt, ◌&&◌, List, [], ◌∷◌, Some, length, map, slice_get, refl, sym, ap, subst, ◌∙◌, arith, All}
+use Rattle.std.proofs.Common.{◌≡◌, ◌<◌, ℕ, Bool, true, false, not, ◌&&◌, List, [], ◌∷◌, Some, length, map, slice_get, refl, sym, ap, subst, ◌∙◌, arith, All}
 use Rattle.std.specs.Bool.{Decides}
 use Rattle.std.specs.List.{list_all}
 use Rattle.std.specs.Option.{option_map_or}
-use Rattle.std.proofs.lemmas.Bool.{ltb-true, lt-ltb, and_from, and_parts}
+use Rattle.std.proofs.lemmas.Bool.{ltb-true, lt-ltb}
 use Rattle.std.proofs.lemmas.Option.{same_Some}
 use Rattle.std.proofs.lemmas.Bool.Decides.{Decides-at, Decides-and, Decides-like, Decides-by_and}
 use Rattle.std.proofs.lemmas.List.Elements.{All-nil, All-cons, All-head, All-tail, All-weaker}
 use Rattle.support.proofs.ListLaws.{all_from, item_there}
-use Rattle.support.specs.Interned.{IsDistinctList}
+use Rattle.kinds.specs.Types.{types_list}
+use Rattle.kinds.specs.Held.{IsHeld, IsHeldResult, IsHeldSignature}
 use Rattle.llvm_core.specs.declared.numbers.LLVMBasicBlock.{LLVMBasicBlock}
 use Rattle.llvm_core.specs.declared.code.FunctionData.{FunctionData}
-use Rattle.llvm_core.specs.declared.code.BlockData.{BlockData}
 use Rattle.llvm_core.specs.Module.{Module}
 use Rattle.llvm_core.specs.Names.{is_plain, IsPlainOrNone}
 use Rattle.llvm_core.specs.Parts.{is_kind}
 use Rattle.llvm_core.specs.Sound.{IsModule}
-use Rattle.llvm_core.specs.Data.{TypeTree, TypeTrees, FunctionType, Operand, Placed, Block, Function, ModuleData, Instruction, Phi, Applied, type_at, types_at, trees_of, data_of, operand_type, placed_in}
+use Rattle.llvm_core.specs.Data.{TypeTree, TypeTrees, FunctionType, Operand, Placed, Block, Function, ModuleData, Instruction, Phi, Applied, type_at, types_at, trees_of, data_of, operand_type}
 use Rattle.llvm_core.specs.Checked.{IsChecked}
-use Rattle.llvm_core.specs.Form.{IsShortInt, IsShortResult, AreShortInts, IsOperand, IsForm, IsFormFunction, IsFormBlock, IsFormPlaced, IsFormInstruction, IsNarrow, IsNarrowFunction, IsNarrowBlock, IsNarrowPlaced, operands_of}
+use Rattle.llvm_core.specs.Form.{IsOperand, IsForm, IsFormFunction, IsFormBlock, IsFormPlaced, IsFormInstruction, IsNarrow, IsNarrowFunction, IsNarrowBlock, IsNarrowPlaced, operands_of}
 use Rattle.llvm_core.proofs.DataLemmas.{within_at, function_at, function_tree_of, block_count_of, block_of_number}
 use Rattle.llvm_core.proofs.FormTypes.{signature_of, function_typed}
-use Rattle.llvm_core.proofs.FormPlaces.{shown, shown_block, block_from}
+use Rattle.llvm_core.proofs.FormPlaces.{shown, block_from}
 use Rattle.llvm_core.proofs.DistinctLaws.{each_function, blocks_once}
 use Rattle.llvm_core.proofs.CheckedForm.{form_of_checked}
-use Rattle.llvm_form.specs.Narrow.{is_plain_or_none, is_short, is_short_result_kind, is_narrow_block, is_narrow_block_data, is_narrow_signature, has_body, is_narrow_function_data, is_narrow}
+use Rattle.llvm_form.specs.Narrow.{is_plain_or_none, is_held_type, is_held_result_kind, is_narrow_block, is_narrow_block_data, is_narrow_signature, has_body, is_narrow_function_data, is_narrow}
 use Rattle.llvm_form.specs.Once.{HasInstsOnce, AreInstsOnce}
 use Rattle.llvm_form.proofs.AllLaws.{each_passes, all_pass}
-use Rattle.llvm_form.proofs.TypeLaws.{plain_or_none, short_types, short_result_decided}
+use Rattle.llvm_form.proofs.TypeLaws.{plain_or_none, held_types, held_result_decided}
 use Rattle.llvm_form.proofs.CodeLaws.{block_decided}
 
 -- ---- functions
 
--- what the form asks of a function's type
-abbrev IsNarrowType : TypeTree → Type 0
-IsNarrowType τ = (result : TypeTree) × (types : TypeTrees) × (τ ≡ FunctionType result types false) × IsShortResult result × AreShortInts types
-
-type_by : (result : TypeTree) (types : TypeTrees) (variadic returned params : Bool) → Decides returned (IsShortResult result) → Decides params (AreShortInts types)
-    → Decides (not variadic && returned && params) (IsNarrowType (FunctionType result types variadic))
-type_by result types true returned params d e = (λ h. absurd (let p = and_parts false returned (and_parts (false && returned) params h).0 in let no : false ≡ true = p.0 in cc), λ h. absurd (let same : FunctionType result types true ≡ FunctionType h.0 h.1 false = h.2 in cc))
-type_by result types false returned params d e = (
-  λ h. let p = and_parts (true && returned) params h in (result, types, refl, d.0 (and_parts true returned p.0).1, e.0 p.1),
-  λ h. let same : FunctionType result types false ≡ FunctionType h.0 h.1 false = h.2 in
-      let first : h.0 ≡ result = (cc) in
-      let others : h.1 ≡ types = (cc) in
-      and_from (true && returned) params (and_from true returned refl (d.1 (subst IsShortResult first h.3))) (e.1 (subst AreShortInts others h.4)),
-)
+type_by : (result : TypeTree) (types : TypeTrees) (variadic returned params : Bool) → Decides returned (IsHeldResult result) → Decides params (All IsHeld (types_list types))
+    → Decides (not variadic && returned && params) (IsHeldSignature (FunctionType result types variadic))
+type_by result types true returned params d e = (λ h. absurd (cc), λ h. let same = h.is in absurd (cc))
+type_by result types false returned params d e = Decides-like (returned && params) (λ h. record { result = result; params = types; is = refl; returns = h.0; takes = h.1 })
+    (λ (h : IsHeldSignature (FunctionType result types false)).
+    let same = h.is in
+    let first : h.result ≡ result = (cc) in
+    let others : h.params ≡ types = (cc) in
+    (subst IsHeldResult first h.returns, subst (λ ts. All IsHeld (types_list ts)) others h.takes))
+    (Decides-and returned params d e)
 
 module _ (m : Module) (sound : IsModule m) (checked : IsChecked m) (f : ℕ) (x : FunctionData) (at : slice_get m.functions f ≡ Some x) where
-  type_decided : Decides (is_kind (is_narrow_signature m) m.types x.ty) (IsNarrowType (shown m f x).type)
+  type_decided : Decides (is_kind (is_narrow_signature m) m.types x.ty) (IsHeldSignature (shown m f x).type)
   type_decided =
       let typed = function_typed m f x sound at in
       let s = signature_of m f x typed.0 typed.1 typed.2 sound at typed.3 in
       let here = ap (λ o. option_map_or (is_narrow_signature m) o false) s.kind_is in
       let tree = function_tree_of m x.ty s.returned s.params s.variadic sound s.kind_is in
-      Decides-at (is_kind (is_narrow_signature m) m.types x.ty) (not s.variadic && is_kind is_short_result_kind m.types s.returned && list_all (is_short m) s.params) here
-      (subst (λ τ. Decides (not s.variadic && is_kind is_short_result_kind m.types s.returned && list_all (is_short m) s.params) (IsNarrowType τ)) (sym tree)
-      (type_by (type_at (trees_of m).types s.returned) (types_at (trees_of m).types s.params) s.variadic (is_kind is_short_result_kind m.types s.returned) (list_all (is_short m) s.params)
-      (short_result_decided m sound s.returned s.within) (short_types m sound s.params s.params_within)))
+      Decides-at (is_kind (is_narrow_signature m) m.types x.ty) (not s.variadic && is_kind is_held_result_kind m.types s.returned && list_all (is_held_type m) s.params) here
+      (subst (λ τ. Decides (not s.variadic && is_kind is_held_result_kind m.types s.returned && list_all (is_held_type m) s.params) (IsHeldSignature τ)) (sym tree)
+      (type_by (type_at (trees_of m).types s.returned) (types_at (trees_of m).types s.params) s.variadic (is_kind is_held_result_kind m.types s.returned) (list_all (is_held_type m) s.params)
+      (held_result_decided m sound s.returned s.within) (held_types m sound s.params s.params_within)))
 
   body_decided : Decides (has_body m x) (¬ ((shown m f x).blocks ≡ []))
   body_decided =
@@ -89,7 +85,7 @@ module _ (m : Module) (sound : IsModule m) (checked : IsChecked m) (f : ℕ) (x 
   -- the parts of a narrow function
   record NarrowParts : Type 0 where
     name : is_plain x.name ≡ true
-    type : IsNarrowType (shown m f x).type
+    type : IsHeldSignature (shown m f x).type
     params : All IsPlainOrNone x.params
     body : ¬ ((shown m f x).blocks ≡ [])
     blocks : All (IsNarrowBlock (shown m f x)) (shown m f x).blocks
@@ -114,11 +110,11 @@ module _ (m : Module) (sound : IsModule m) (checked : IsChecked m) (f : ℕ) (x 
       to : NarrowParts → IsNarrowFunction (shown m f x)
       to p = record {
         name = p.name;
-        result = p.type.0;
-        types = p.type.1;
-        type = p.type.2;
-        returns = p.type.3;
-        takes = p.type.4;
+        result = p.type.result;
+        types = p.type.params;
+        type = p.type.is;
+        returns = p.type.returns;
+        takes = p.type.takes;
         param_names = p.params;
         body = p.body;
         blocks = p.blocks;
@@ -127,29 +123,29 @@ module _ (m : Module) (sound : IsModule m) (checked : IsChecked m) (f : ℕ) (x 
       }
 
       back : IsNarrowFunction (shown m f x) → NarrowParts
-      back n = record { name = n.name; type = (n.result, n.types, n.type, n.returns, n.takes); params = n.param_names; body = n.body; blocks = n.blocks }
+      back n = record { name = n.name; type = record { result = n.result; params = n.types; is = n.type; returns = n.returns; takes = n.takes }; params = n.param_names; body = n.body; blocks = n.blocks }
 
 -- ---- a function of the form is narrow
 
 module _ (f : Function) where
-  operands_short : (b : ℕ) (type : TypeTree) (i : Instruction) → IsFormInstruction f b type i → All (λ (o : Operand). IsShortInt (operand_type f o)) (operands_of i)
-  operands_short b type (Phi entries) form = by entries form.0
+  operands_held : (b : ℕ) (type : TypeTree) (i : Instruction) → IsFormInstruction f b type i → All (λ (o : Operand). IsHeld (operand_type f o)) (operands_of i)
+  operands_held b type (Phi entries) form = by entries form.0
     where
-      by : (es : List (Operand × ℕ)) → All (λ (e : Operand × ℕ). IsOperand f type e.0) es → All (λ (o : Operand). IsShortInt (operand_type f o)) (map (λ (e : Operand × ℕ). e.0) es)
-      by [] all = All-nil (λ (o : Operand). IsShortInt (operand_type f o))
+      by : (es : List (Operand × ℕ)) → All (λ (e : Operand × ℕ). IsOperand f type e.0) es → All (λ (o : Operand). IsHeld (operand_type f o)) (map (λ (e : Operand × ℕ). e.0) es)
+      by [] all = All-nil (λ (o : Operand). IsHeld (operand_type f o))
       by (e ∷ es) all =
-          let P : Operand → Type 0 = λ o. IsShortInt (operand_type f o) in
+          let P : Operand → Type 0 = λ o. IsHeld (operand_type f o) in
           let Q : Operand × ℕ → Type 0 = λ e. IsOperand f type e.0 in
           let here = All-head Q e es all in
-          All-cons P e.0 (map (λ (e : Operand × ℕ). e.0) es) (subst IsShortInt (sym here.typed) here.short) (by es (All-tail Q e es all))
-  operands_short b type (Applied r) form = of_types r.operands form.short
+          All-cons P e.0 (map (λ (e : Operand × ℕ). e.0) es) (subst IsHeld (sym here.typed) here.held) (by es (All-tail Q e es all))
+  operands_held b type (Applied r) form = of_types r.operands form.held
     where
-      of_types : (os : List Operand) → All IsShortInt (map (operand_type f) os) → All (λ (o : Operand). IsShortInt (operand_type f o)) os
-      of_types [] all = All-nil (λ (o : Operand). IsShortInt (operand_type f o))
-      of_types (o ∷ os) all = All-cons (λ (o : Operand). IsShortInt (operand_type f o)) o os (All-head IsShortInt (operand_type f o) (map (operand_type f) os) all) (of_types os (All-tail IsShortInt (operand_type f o) (map (operand_type f) os) all))
+      of_types : (os : List Operand) → All IsHeld (map (operand_type f) os) → All (λ (o : Operand). IsHeld (operand_type f o)) os
+      of_types [] all = All-nil (λ (o : Operand). IsHeld (operand_type f o))
+      of_types (o ∷ os) all = All-cons (λ (o : Operand). IsHeld (operand_type f o)) o os (All-head IsHeld (operand_type f o) (map (operand_type f) os) all) (of_types os (All-tail IsHeld (operand_type f o) (map (operand_type f) os) all))
 
   narrow_placed : (b : ℕ) (p : Placed) → IsFormPlaced f b p → IsNarrowPlaced f p
-  narrow_placed b p form = record { name = form.name; unnamed = form.unnamed; result = form.short; operands = operands_short b p.type p.instruction form.instruction }
+  narrow_placed b p form = record { name = form.name; unnamed = form.unnamed; result = form.held; operands = operands_held b p.type p.instruction form.instruction }
 
   narrow_block : (b : Block) → IsFormBlock f b → IsNarrowBlock f b
   narrow_block b form = record { label = form.label; instructions = All-weaker (IsFormPlaced f b.number) (IsNarrowPlaced f) (narrow_placed b.number) b.instructions form.instructions }

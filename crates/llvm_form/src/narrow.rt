@@ -1,11 +1,13 @@
-//! Whether names are plain, and types integers of 1 to 64 bits.
+//! Whether names are plain, and types ones that are translated.
 
 ghost use Rattle.std.specs.Prelude.{◌≡◌, slice_index_or};
 ghost use Rattle.std.specs.List.{list_all};
 ghost use Rattle.llvm_core.specs.Names.{is_letter, is_plain, is_plain_byte};
 ghost use Rattle.llvm_core.specs.Checked.{is_void};
-ghost use Rattle.llvm_form.specs.Narrow.{is_short_kind, is_plain_or_none, is_short_result_kind};
+ghost use Rattle.llvm_form.specs.Narrow.{is_held_kind, is_plain_or_none, is_held_result_kind};
 
+use kinds::fitting::{is_held, is_nothing};
+use llvm_core::module::shape_of;
 use llvm_core::types::LLVMTypeKind;
 
 fn is_letter(b: u8) -> bool
@@ -64,29 +66,23 @@ pub fn is_plain_or_none(name: &str) -> bool
     name.is_empty() || is_plain(name)
 }
 
-/// Whether a type is an integer of 1 to 64 bits.
-pub fn is_short_kind(kind: &LLVMTypeKind) -> bool
-    ensures { result ≡ is_short_kind kind.now }
+/// Whether a type is one of a value that is translated.
+pub fn is_held_kind(kind: &LLVMTypeKind) -> bool
+    ensures { result ≡ is_held_kind kind.now }
 {
-    match kind {
-        LLVMTypeKind::Int(width) => *width <= 64,
-        _ => false,
-    }
+    is_held(shape_of(kind))
 }
 
 /// Whether a type is that of no value.
 pub fn is_void(kind: &LLVMTypeKind) -> bool
     ensures { result ≡ is_void kind.now }
 {
-    match kind {
-        LLVMTypeKind::Void => true,
-        _ => false,
-    }
+    is_nothing(shape_of(kind))
 }
 
 /// Whether a type is what a function of the form returns.
-pub fn is_short_result_kind(kind: &LLVMTypeKind) -> bool
-    ensures { result ≡ is_short_result_kind kind.now }
+pub fn is_held_result_kind(kind: &LLVMTypeKind) -> bool
+    ensures { result ≡ is_held_result_kind kind.now }
 {
-    is_void(kind) || is_short_kind(kind)
+    is_void(kind) || is_held_kind(kind)
 }

@@ -1,5 +1,5 @@
 -- The goals of `functions::is_narrow` that the tactics leave.
-use Rattle.std.proofs.Common.{◌≡◌, Bool, false, true, Some, sym, ◌∙◌, ap, arith}
+use Rattle.std.proofs.Common.{false, sym, ◌∙◌, ap, arith}
 use Rattle.std.specs.Option.{option_map_or}
 use Rattle.support.proofs.ListLaws.{item_there}
 use Rattle.llvm_form.specs.Narrow.{is_narrow_function_data}
