@@ -1,4 +1,6 @@
 -- The lemmas of the crate.
+pub mod EscapeLaws
 pub mod NameBytes
 pub mod NameLaws
 pub mod NumberLaws
+pub mod QuoteLaws

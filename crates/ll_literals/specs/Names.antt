@@ -1,8 +1,12 @@
 -- Names in LLVM text.
-use Rattle.std.specs.Prelude.{ℕ, Bool, false, ◌||◌, ◌&&◌, not, ◌==◌, [], ◌∷◌, ◌++◌}
+use Rattle.std.specs.Prelude.{ℕ, ◌-◌, Bool, false, ◌||◌, ◌&&◌, not, ◌==◌, if◌then◌else◌, [], ◌∷◌, ◌++◌, length, take, slice_index_or, Option, Some, None}
 use Rattle.std.specs.List.{list_all}
+use Rattle.std.specs.Option.{option_and_then}
+use Rattle.std.specs.Str.{is_utf8}
 use Rattle.llvm_core.specs.Names.{is_digit, is_letter}
+use Rattle.llvm_core.specs.Checked.{is_bad_name}
 use Rattle.ll_literals.specs.Text.{Text}
+use Rattle.ll_literals.specs.Escapes.{unescaped, escaped}
 
 -- letters, digits and $ . _ -
 abbrev pub is_name_byte : ℕ → Bool
@@ -13,6 +17,27 @@ abbrev pub is_bare : Text → Bool
 is_bare [] = false
 is_bare (b ∷ bs) = is_name_byte b && not (is_digit b) && list_all is_name_byte bs
 
+-- what a symbol, a local, a block and a struct may be named: not empty, without a zero byte, UTF-8
+abbrev pub is_name : Text → Bool
+is_name n = not (is_bad_name n) && is_utf8 n
+
+-- what stands between quotes, None of a text that does not begin and end with one
+abbrev pub inside : Text → Option Text
+inside [] = None
+inside (b ∷ bs) = if b == 34 && slice_index_or bs (length bs - 1) 0 == 34 then Some (take (length bs - 1) bs) else None
+
+-- the name that quotes say, None where they say no name
+abbrev pub quoted_name : Text → Option Text
+quoted_name t = option_and_then (λ (u : Text). if is_name (unescaped u) then Some (unescaped u) else None) (inside t)
+
+-- the name that a written name says: a bare one says itself
+abbrev pub name_said : Text → Option Text
+name_said t = if is_bare t then Some t else quoted_name t
+
+-- the text that quotes say, which may be any that is UTF-8
+abbrev pub text_said : Text → Option Text
+text_said t = option_and_then (λ (u : Text). if is_utf8 (unescaped u) then Some (unescaped u) else None) (inside t)
+
 -- @name, name: and "name"
 abbrev pub global : Text → Text
 global name = 64 ∷ name
@@ -22,3 +47,11 @@ label name = name ++ 58 ∷ []
 
 abbrev pub quoted : Text → Text
 quoted name = 34 ∷ name ++ 34 ∷ []
+
+-- how a text is written between quotes
+abbrev pub printed_text : Text → Text
+printed_text t = quoted (escaped t)
+
+-- how a name is written: as it is where it is bare, else between quotes
+abbrev pub printed_name : Text → Text
+printed_name n = if is_bare n then n else printed_text n

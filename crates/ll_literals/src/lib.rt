@@ -1,6 +1,7 @@
 //! Names, numbers and integer literals, as LLVM text writes them.
 #![tactic(auto)]
 
+pub mod escapes;
 pub mod literals;
 pub mod names;
 pub mod numbers;
