@@ -4,6 +4,7 @@ use Rattle.std.specs.Prelude.{IfSome, IsTrue, ◌↔◌}
 use Rattle.std.specs.Option.{option_map, option_and_then}
 use Rattle.std.proofs.lemmas.Option.{none-some, same_Some}
 use Rattle.support.proofs.ListLaws.{all_from}
+use Rattle.kinds.specs.Types.{params_of}
 use Rattle.dialect_types.specs.declared.types.TypeHandle.{TypeHandle}
 use Rattle.dialect_types.specs.Trees.{type_at, type_trees}
 use Rattle.dialect_core.specs.declared.numbers.OpRef.{OpRef}
@@ -14,7 +15,7 @@ use Rattle.dialect_core.specs.declared.ops.BlockData.{BlockData}
 use Rattle.dialect_core.specs.Lists.{from_op, list_at}
 use Rattle.dialect_core.specs.ContextData.{ContextData, symbol_at}
 use Rattle.dialect_core.specs.Data.{IsTyped}
-use Rattle.dialect_core.specs.WellFormed.{IsFew, IsFewBlock, IsFewOp, params_of}
+use Rattle.dialect_core.specs.WellFormed.{IsFew, IsFewBlock, IsFewOp}
 use Rattle.dialect_core.specs.Checking.{Each, HasTypeWithin}
 use Rattle.dialect_core.proofs.FromLemmas.{Going, going_ends, going_fails}
 use Rattle.dialect_core.proofs.TestLemmas.{iff_trans}

@@ -8,6 +8,8 @@ use Rattle.std.proofs.lemmas.List.{append-nil}
 use Rattle.std.proofs.lemmas.List.Elements.{All-cons, All-head, All-nil}
 use Rattle.support.proofs.ListLaws.{all_from}
 use Rattle.support.proofs.OptionLaws.{none_from}
+use Rattle.kinds.specs.Types.{params_of}
+use Rattle.kinds.specs.Held.{IsFirstClass, IsSignature}
 use Rattle.dialect_types.specs.declared.types.TypeHandle.{TypeHandle}
 use Rattle.dialect_types.specs.Trees.{TypeTree, VoidType, type_at, type_trees}
 use Rattle.dialect_core.specs.declared.numbers.OpRef.{OpRef}
@@ -21,7 +23,7 @@ use Rattle.dialect_core.specs.declared.ops.BlockData.{BlockData}
 use Rattle.dialect_core.specs.Lists.{Once, list_at}
 use Rattle.dialect_core.specs.ContextData.{ContextData, IsSymbol, kind_at, symbol_at, region_at}
 use Rattle.dialect_core.specs.Data.{DialectOp, DialectBlock, Func, op_at, block_in, block_of, func_of, func_in, held, data_of, name_at, type_in}
-use Rattle.dialect_core.specs.WellFormed.{HasFewEntries, HasIntegerArgs, IsFew, IsFewFunc, IsInteger, IsSignature, IsPlainAt, IsPastFirsts, IsWellFormedBlock, IsWellFormedFunc, IsWellFormed, params_of, suits, suits_body, suits_declaration}
+use Rattle.dialect_core.specs.WellFormed.{HasFewEntries, HasFirstClassArgs, IsFew, IsFewFunc, IsPlainAt, IsPastFirsts, IsWellFormedBlock, IsWellFormedFunc, IsWellFormed, suits, suits_body, suits_declaration}
 use Rattle.dialect_core.specs.Checking.{AreApartFrom, AreFuncLines, AreLines, IsBlockAt, IsFuncAt, IsHead, block_at, func_at, tree_at}
 use Rattle.dialect_core.proofs.ChainLemmas.{same_op}
 use Rattle.dialect_core.proofs.HoldLemmas.{flat_stands, stands_flat}
@@ -55,18 +57,18 @@ module _ (c : ContextData) (g : Func) (b : BlockRef) where
   block_none first head gone h = none_end c g (list_at c.lists b) (sym head ∙ none_from first gone) h.block.ends
 
   module _ (args : List TypeHandle) (are : option_map (λ (x : BlockData). x.args) (slice_get c.blocks b.0) ≡ Some args) where
-    pub block_wide : (All (λ (t : TypeHandle). IsInteger (tree_at c t)) args → ⊥) → IsBlockAt c g b → ⊥
-    block_wide wide h = let P : List TypeTree → Type 0 = All IsInteger in wide (λ k d l. map_all IsInteger (tree_at c) args (subst P (block_args args are) h.block.args) k d l)
+    pub block_wide : (All (λ (t : TypeHandle). IsFirstClass (tree_at c t)) args → ⊥) → IsBlockAt c g b → ⊥
+    block_wide wide h = let P : List TypeTree → Type 0 = All IsFirstClass in wide (λ k d l. map_all IsFirstClass (tree_at c) args (subst P (block_args args are) h.block.args) k d l)
 
-    pub block_is : (first : Option OpRef) (t : Bool) → first ≡ slice_get (list_at c.lists b) 0 → is_some first ≡ true → All (λ (t : TypeHandle). IsInteger (tree_at c t)) args → (IsTrue t ↔ AreLines c g (list_at c.lists b)) → IsTrue t ↔ IsBlockAt c g b
+    pub block_is : (first : Option OpRef) (t : Bool) → first ≡ slice_get (list_at c.lists b) 0 → is_some first ≡ true → All (λ (t : TypeHandle). IsFirstClass (tree_at c t)) args → (IsTrue t ↔ AreLines c g (list_at c.lists b)) → IsTrue t ↔ IsBlockAt c g b
     unfolding block_at
-    block_is first t head some integers h =
+    block_is first t head some valued h =
         let lines = lines_are c g (list_at c.lists b) (λ e. is_some_of first some (head ∙ e)) in
-        let P : List TypeTree → Type 0 = All IsInteger in (
+        let P : List TypeTree → Type 0 = All IsFirstClass in (
           λ w. let l = lines.0 (h.0 w) in record {
             plain = l.0;
             past_firsts = l.1;
-            block = record { args = subst P (sym (block_args args are)) (λ k d e. all_map IsInteger (tree_at c) args integers k d e); ops = l.2; ends = l.3 };
+            block = record { args = subst P (sym (block_args args are)) (λ k d e. all_map IsFirstClass (tree_at c) args valued k d e); ops = l.2; ends = l.3 };
           },
           λ w. h.1 (lines.1 (w.plain, w.past_firsts, w.block.ops, w.block.ends)),
         )
@@ -265,7 +267,7 @@ module _ (c : ContextData) where
           by None is e = absurd (none-some g e)
           by (Some o) is e = (o, is, same_Some (func_at c o) g (sym (func_data c o (symbols o (kinds k o is))) ∙ e))
 
-    to_module : kind_at c.ops (record { 0 = m }) ≡ Some K.Module → length (region_at c.ops m) ≤ 1 → All (HasIntegerArgs c) (region_at c.ops m) → AreFuncLines c (held c m) → IsFew (held c m) → All (IsFewFunc c) (held c m) → IsWellFormed c m
+    to_module : kind_at c.ops (record { 0 = m }) ≡ Some K.Module → length (region_at c.ops m) ≤ 1 → All (HasFirstClassArgs c) (region_at c.ops m) → AreFuncLines c (held c m) → IsFew (held c m) → All (IsFewFunc c) (held c m) → IsWellFormed c m
     to_module kind one args h few few_each =
         let kinds = λ (k : ℕ) (o : OpRef) (at : slice_get (held c m) k ≡ Some o). (funcs_at (held c m) h k o at).kind in
         record {
@@ -303,20 +305,20 @@ module _ (c : ContextData) where
       held_is : held c m ≡ list_at c.lists body
       held_is = ap (flat_map (list_at c.lists)) region ∙ append-nil (list_at c.lists body)
 
-      all_args : HasIntegerArgs c body ↔ All (HasIntegerArgs c) (region_at c.ops m)
+      all_args : HasFirstClassArgs c body ↔ All (HasFirstClassArgs c) (region_at c.ops m)
       all_args =
-          let P : List BlockRef → Type 0 = λ bs. HasIntegerArgs c body ↔ All (HasIntegerArgs c) bs in
-          subst P (sym region) (λ h. All-cons (HasIntegerArgs c) body [] h (All-nil (HasIntegerArgs c)), λ h. All-head (HasIntegerArgs c) body [] h)
+          let P : List BlockRef → Type 0 = λ bs. HasFirstClassArgs c body ↔ All (HasFirstClassArgs c) bs in
+          subst P (sym region) (λ h. All-cons (HasFirstClassArgs c) body [] h (All-nil (HasFirstClassArgs c)), λ h. All-head (HasFirstClassArgs c) body [] h)
 
       -- the arguments are as they should be: the module is where the rest is
-      pub module_is : (t : Bool) → kind_at c.ops (record { 0 = m }) ≡ Some K.Module → HasIntegerArgs c body → (IsTrue t ↔ (AreFuncLines c (list_at c.lists body) × HasFewEntries c body)) → IsTrue t ↔ IsWellFormed c m
+      pub module_is : (t : Bool) → kind_at c.ops (record { 0 = m }) ≡ Some K.Module → HasFirstClassArgs c body → (IsTrue t ↔ (AreFuncLines c (list_at c.lists body) × HasFewEntries c body)) → IsTrue t ↔ IsWellFormed c m
       module_is t kind args h =
           let P : List OpRef → Type 0 = λ xs. IsTrue t ↔ (AreFuncLines c xs × HasFew xs) in
           let rest = subst P (sym held_is) h in
           (λ w. let r = rest.0 w in to_module kind (omega (arith, ap length region)) (all_args.0 args) r.0 r.1.0 r.1.1, λ w. rest.1 (from_module w, (w.few, w.few_each)))
 
       -- and they are not
-      pub module_fails : (t : Bool) → t ≡ false → (IsTrue t ↔ HasIntegerArgs c body) → IsTrue t ↔ IsWellFormed c m
+      pub module_fails : (t : Bool) → t ≡ false → (IsTrue t ↔ HasFirstClassArgs c body) → IsTrue t ↔ IsWellFormed c m
       module_fails t is h = (λ yes. no_true (sym is ∙ yes), λ w. h.1 (all_args.1 w.args))
 
     -- a module without a block has no functions
@@ -326,7 +328,7 @@ module _ (c : ContextData) where
         let none : AreFuncLines c (held c m) = subst P (sym (ap (flat_map (list_at c.lists)) region)) tt in
         let P : List OpRef → Type 0 = HasFew in
         let few : HasFew (held c m) = subst P (sym (ap (flat_map (list_at c.lists)) region)) (omega arith, λ k d l. absurd (omega (arith, l))) in
-        let args : All (HasIntegerArgs c) (region_at c.ops m) = let P : List BlockRef → Type 0 = All (HasIntegerArgs c) in subst P (sym region) (All-nil (HasIntegerArgs c)) in
+        let args : All (HasFirstClassArgs c) (region_at c.ops m) = let P : List BlockRef → Type 0 = All (HasFirstClassArgs c) in subst P (sym region) (All-nil (HasFirstClassArgs c)) in
         always (to_module kind (omega (arith, ap length region)) args none few.0 few.1)
 
     pub module_crowded : (region : List BlockRef) → region ≡ region_at c.ops m → 1 < length region → IsTrue false ↔ IsWellFormed c m

@@ -3,6 +3,7 @@ use Rattle.std.proofs.Common.{◌≡◌, ◌<◌, ℕ, Bool, List, Option, Some,
 use Rattle.std.specs.Prelude.{IsTrue, ◌↔◌}
 use Rattle.std.specs.Option.{option_map, option_map_or, option_and_then}
 use Rattle.std.proofs.lemmas.Option.{none-some, same_Some}
+use Rattle.kinds.specs.Types.{result_of}
 use Rattle.dialect_types.specs.declared.types.TypeHandle.{TypeHandle}
 use Rattle.dialect_types.specs.declared.types.TypeKind.{TypeKind}
 use Rattle.dialect_types.specs.declared.types.TypeKind.TheVariants as T
@@ -15,7 +16,6 @@ use Rattle.dialect_core.specs.declared.ops.OpKind.{OpKind}
 use Rattle.dialect_core.specs.declared.ops.OpData.{OpData}
 use Rattle.dialect_core.specs.ContextData.{ContextData, symbol_at}
 use Rattle.dialect_core.specs.Data.{Kind, DialectOp, Func, kind_of, op_of, op_at, IsTyped, HasKindTypesBelow, type_in}
-use Rattle.dialect_core.specs.Form.{result_of}
 use Rattle.dialect_core.specs.WellFormed.{IsOfKind, IsWellFormedOp}
 use Rattle.dialect_core.specs.Checking.{IsKindAt, IsOpAt, func_at, tree_at}
 
@@ -93,6 +93,5 @@ pub func_void : (c : ContextData) (f : OpRef) (t : TypeHandle) (k : TypeKind) �
 func_void c f t k symbol other tree = sym (ap result_of (type_is c f t symbol ∙ tree) ∙ by k other)
   where
     by : (k : TypeKind) → ((r : TypeHandle) (ps : List TypeHandle) (v : Bool) → k ≡ T.Func r ps v → ⊥) → result_of (type_tree (type_trees c.types) k) ≡ VoidType
-    by (T.Integer w) other = refl
     by (T.Func r ps v) other = absurd (other r ps v refl)
-    by T.Void other = refl
+    by k other = refl

@@ -2,12 +2,12 @@
 use Rattle.std.proofs.Common.{◌≡◌, ◌<◌, ◌≤◌, ◌^◌, ◌*◌, ◌/◌, ℕ, zero, suc, Bool, true, false, nat_eq, List, [], ◌∷◌, All, length, map, get_or, ap, sym, subst, ◌∙◌, refl, arith}
 use Rattle.std.specs.Prelude.{IsTrue, ◌↔◌}
 use Rattle.std.proofs.Math.Nat.{pow-le-pow_right}
+use Rattle.kinds.specs.Types.{TypeTrees, FunctionType, types_list, params_of, result_of}
+use Rattle.kinds.specs.Held.{IsFirstClass, IsReturned, IsHeld, IsHeldResult, IsSignature, IsHeldSignature}
 use Rattle.dialect_types.specs.declared.types.TypeHandle.{TypeHandle}
 use Rattle.dialect_types.specs.declared.types.TypeKind.{TypeKind}
 use Rattle.dialect_types.specs.declared.types.TypeKind.TheVariants.{Func}
 use Rattle.dialect_types.specs.Trees.{TypeTree, type_at, types_at, type_tree, AllBelow, HasPartsBelow}
-use Rattle.dialect_core.specs.Form.{IsShortInt, IsShortResult, types_list}
-use Rattle.dialect_core.specs.WellFormed.{IsInteger, IsReturned, IsSignature, IsNarrowSignature, params_of}
 use Rattle.dialect_core.proofs.TestLemmas.{true_same, same_true}
 
 -- ---- all items
@@ -71,20 +71,38 @@ module _ (ts : List TypeTree) (t : TypeTree) (k : TypeKind) (r : TypeHandle) (ps
   all_params : (P : TypeTree → Type 0) → All (λ (x : TypeHandle). P (type_at ts x)) xs ↔ All P (types_list (types_at ts ps))
   all_params P = rw (are, listed_types) ((λ h k d l. all_map P (type_at ts) ps h k d l), (λ h k d l. map_all P (type_at ts) ps h k d l))
 
-  pub signature_is : IsReturned (type_at ts r) → All (λ (x : TypeHandle). IsInteger (type_at ts x)) xs ↔ IsSignature t
-  signature_is returned = rw tree_is ((λ h. (returned, (all_params IsInteger).0 h)), (λ h. (all_params IsInteger).1 h.1))
+  -- the parts of a type are those of its tree
+  of_parts : (P Q : TypeTree → Type 0) (u : TypeTree) (us : TypeTrees) (w : Bool) → t ≡ FunctionType u us w → P u → All Q (types_list us) → P (type_at ts r) × All (λ (x : TypeHandle). Q (type_at ts x)) xs
+  of_parts P Q u us w same returns takes =
+      let e = sym same ∙ tree_is in
+      let R : List TypeTree → Type 0 = All Q in
+      (subst P (ap result_of e) returns, (all_params Q).1 (subst R (ap params_of e) takes))
 
-  pub narrow_is : v ≡ false → (IsShortResult (type_at ts r) × All (λ (x : TypeHandle). IsShortInt (type_at ts x)) xs) ↔ IsNarrowSignature t
-  narrow_is fixed = rw tree_is ((λ h. (h.0, (all_params IsShortInt).0 h.1, fixed)), (λ h. (h.0, (all_params IsShortInt).1 h.1)))
+  pub signature_is : (IsReturned (type_at ts r) × All (λ (x : TypeHandle). IsFirstClass (type_at ts x)) xs) ↔ IsSignature t
+  signature_is = (
+    λ h. record { result = type_at ts r; params = types_at ts ps; variadic = v; is = tree_is; returns = h.0; takes = (all_params IsFirstClass).0 h.1 },
+    λ w. of_parts IsReturned IsFirstClass w.result w.params w.variadic w.is w.returns w.takes,
+  )
 
-  pub not_narrow : v ≡ true → IsNarrowSignature t → IsTrue false
-  not_narrow more h = let n : IsNarrowSignature (type_tree ts (Func r ps v)) = subst IsNarrowSignature tree_is h in sym n.2 ∙ more
+  pub held_is : v ≡ false → (IsHeldResult (type_at ts r) × All (λ (x : TypeHandle). IsHeld (type_at ts x)) xs) ↔ IsHeldSignature t
+  held_is fixed = (
+    λ h. record { result = type_at ts r; params = types_at ts ps; is = tree_is ∙ ap (λ (v : Bool). FunctionType (type_at ts r) (types_at ts ps) v) fixed; returns = h.0; takes = (all_params IsHeld).0 h.1 },
+    λ w. of_parts IsHeldResult IsHeld w.result w.params false w.is w.returns w.takes,
+  )
+
+  pub not_held : v ≡ true → IsHeldSignature t → ⊥
+  not_held more w = let e : FunctionType (type_at ts r) (types_at ts ps) v ≡ FunctionType w.result w.params false = sym tree_is ∙ w.is in cc
 
   pub count_is : length xs ≡ length (params_of t)
   count_is = rw (tree_is, listed_types, are) (let same = map_length (type_at ts) ps in omega (arith, same))
 
   pub takes_are : (taken : List TypeHandle) → map (type_at ts) taken ≡ map (type_at ts) xs ↔ map (type_at ts) taken ≡ params_of t
   takes_are taken = rw (tree_is, listed_types, are) ((λ h. h), (λ h. h))
+
+-- a kind that is no function type has the tree of none
+pub no_function : (ts : List TypeTree) (k : TypeKind) (u : TypeTree) (us : TypeTrees) (w : Bool) → ((r : TypeHandle) (ps : List TypeHandle) (v : Bool) → k ≡ Func r ps v → ⊥) → type_tree ts k ≡ FunctionType u us w → ⊥
+no_function ts (Func r ps v) u us w other e = other r ps v refl
+no_function ts k u us w other e = cc
 
 -- ---- values
 

@@ -9,6 +9,7 @@ use Rattle.support.proofs.ListLaws.{all_from}
 use Rattle.kinds.specs.declared.op.Op.{Op}
 use Rattle.kinds.specs.declared.rules.Takes.{Takes}
 use Rattle.kinds.specs.declared.rules.Takes.TheVariants as O
+use Rattle.kinds.specs.Types.{result_of}
 use Rattle.kinds.specs.Rules.{target_count}
 use Rattle.kinds.specs.Table.{rule_of}
 use Rattle.dialect_types.specs.Trees.{TypeTree, IntegerAttr, type_at, type_trees}
@@ -25,7 +26,7 @@ use Rattle.dialect_core.specs.ContextData.{ContextData}
 use Rattle.dialect_core.specs.Data.{Kind, ConstantOp, RowOp, DialectOp, DialectBlock, Func, op_at, block_of, block_in, func_of, func_in, data_of, held, ops_in, value_type, type_in}
 use Rattle.dialect_core.specs.Form.{FitsTarget, HasOwnValues, IsFormFunc, IsValueOf, LeadsToOwn, edges_of, uses_of}
 use Rattle.dialect_core.specs.WellFormed.{IsOpenForm, IsWellFormedBlock, IsWellFormedFunc, IsWellFormedOp}
-use Rattle.dialect_core.specs.Rules.{AreEdges, IsEdge, IsIntegerBy, IsOfKind, IsReturning, IsRow, IsTypedBy, Typing, result_of, type_nth}
+use Rattle.dialect_core.specs.Rules.{AreEdges, IsEdge, IsFirstClassBy, IsOfKind, IsReturning, IsRow, IsTypedBy, Typing, type_nth}
 use Rattle.dialect_core.proofs.ChainLemmas.{same_op}
 use Rattle.dialect_core.proofs.HoldLemmas.{flat_stands, stands_flat, stands_left, stands_right}
 use Rattle.dialect_core.proofs.TestLemmas.{same_block}
@@ -110,16 +111,16 @@ module _ (c : ContextData) (f : OpRef) (g : Func) (is : func_in (type_trees c.ty
 module _ (T U : Typing) (g : Func) (operands : List Value) (edges : List Successor) (operand : (v : Value) (t : TypeTree) → Stands v operands → T v ≡ Some t → U v ≡ Some t)
     (passed : (i : ℕ) (s : Successor) (v : Value) (t : TypeTree) → slice_get edges i ≡ Some s → Stands v s.args → T v ≡ Some t → U v ≡ Some t)
     (target : (i : ℕ) (s : Successor) (place : ℕ) (t : TypeTree) → slice_get edges i ≡ Some s → U (Argument s.block place) ≡ Some t → T (Argument s.block place) ≡ Some t) where
-  integers : All (IsIntegerBy T) operands → All (IsIntegerBy U) operands
-  integers h = all_from (IsIntegerBy U) operands (λ k v at. let w = all_at (IsIntegerBy T) operands h k v at in (w.0, operand v w.0 (k, at) w.1, w.2))
+  values : All (IsFirstClassBy T) operands → All (IsFirstClassBy U) operands
+  values h = all_from (IsFirstClassBy U) operands (λ k v at. let w = all_at (IsFirstClassBy T) operands h k v at in (w.0, operand v w.0 (k, at) w.1, w.2))
 
   -- the operand at a place has the type that it had
-  nth : All (IsIntegerBy T) operands → (i : ℕ) → type_nth U operands i ≡ type_nth T operands i
+  nth : All (IsFirstClassBy T) operands → (i : ℕ) → type_nth U operands i ≡ type_nth T operands i
   nth h i = by (slice_get operands i) refl
     where
       by : (v : Option Value) → slice_get operands i ≡ v → option_and_then U v ≡ option_and_then T v
       by None at = refl
-      by (Some v) at = let w = all_at (IsIntegerBy T) operands h i v at in operand v w.0 (i, at) w.1 ∙ sym w.1
+      by (Some v) at = let w = all_at (IsFirstClassBy T) operands h i v at in operand v w.0 (i, at) w.1 ∙ sym w.1
 
   -- a line for each word
   returning : (takes : Takes) (t : TypeTree) → IsReturning takes T t operands → IsReturning takes U t operands
@@ -141,16 +142,16 @@ module _ (T U : Typing) (g : Func) (operands : List Value) (edges : List Success
 
   row : (op : Op) (own : Option TypeTree) → IsRow T g op operands own edges → IsRow U g op operands own edges
   row op own h =
-      let a = nth h.integers 0 in
-      let b = nth h.integers 1 in
-      let d = nth h.integers 2 in
+      let a = nth h.values 0 in
+      let b = nth h.values 1 in
+      let d = nth h.values 2 in
       record {
-        integers = integers h.integers;
+        values = values h.values;
         count = h.count;
         fits = rw (a, b, d) h.fits;
         returns = returning (rule_of op).takes (result_of g.type) h.returns;
         result = rw (a, b) h.result;
-        integer = h.integer;
+        value = h.value;
         leads = edges_are (target_count (rule_of op).leads) h.leads;
       }
 

@@ -1,33 +1,25 @@
 -- A function of the form is well-formed and narrow.
-use Rattle.std.proofs.Common.{List, All, length, slice_get, ap, sym, subst, ◌∙◌, refl, arith}
+use Rattle.std.proofs.Common.{false, List, All, length, slice_get, ap, sym, ◌∙◌, arith}
 use Rattle.std.proofs.lemmas.Option.{same_Some}
 use Rattle.support.proofs.ListLaws.{all_from}
-use Rattle.dialect_types.specs.Trees.{TypeTree, VoidType, IntType, FunctionType}
+use Rattle.kinds.specs.Types.{TypeTree, types_list, params_of}
+use Rattle.kinds.specs.Held.{IsFirstClass, IsHeld}
+use Rattle.kinds.proofs.HeldLaws.{held_first_class, held_result_returned}
 use Rattle.dialect_core.specs.Data.{DialectBlock, Func, value_type}
-use Rattle.dialect_core.specs.Form.{IsShortInt, IsShortResult, IsFormOp, IsFormBlock, IsFormFunc, types_list}
-use Rattle.dialect_core.specs.WellFormed.{IsInteger, IsReturned, IsSignature, IsWellFormedOp, IsWellFormedBlock, IsWellFormedFunc, IsNarrowOp, IsNarrowBlock, IsNarrowFunc, IsNarrowSignature, params_of, suits, suits_body}
+use Rattle.dialect_core.specs.Form.{IsFormOp, IsFormBlock, IsFormFunc}
+use Rattle.dialect_core.specs.WellFormed.{IsWellFormedOp, IsWellFormedBlock, IsWellFormedFunc, IsNarrowOp, IsNarrowBlock, IsNarrowFunc, suits, suits_body}
 use Rattle.dialect_core.proofs.LineLemmas.{all_at}
 
 -- ---- types
 
-pub short_integer : (t : TypeTree) → IsShortInt t → IsInteger t
-short_integer VoidType h = absurd h
-short_integer (IntType w) h = (h.0, omega (arith, h.1))
-short_integer (FunctionType r ps v) h = absurd h
-
-short_returned : (t : TypeTree) → IsShortResult t → IsReturned t
-short_returned VoidType h = tt
-short_returned (IntType w) h = short_integer (IntType w) h
-short_returned (FunctionType r ps v) h = absurd h
-
-all_integers : (ts : List TypeTree) → All IsShortInt ts → All IsInteger ts
-all_integers ts h = all_from IsInteger ts (λ k t at. short_integer t (all_at IsShortInt ts h k t at))
+all_first_class : (ts : List TypeTree) → All IsHeld ts → All IsFirstClass ts
+all_first_class ts h = all_from IsFirstClass ts (λ k t at. held_first_class t (all_at IsHeld ts h k t at))
 
 -- ---- operations
 
 well_block : (g : Func) (b : DialectBlock) → IsFormBlock g b → IsWellFormedBlock (value_type g) g b
 well_block g b f = record {
-  args = all_integers b.args f.args;
+  args = all_first_class b.args f.args;
   ops = all_from (IsWellFormedOp (value_type g) g) b.ops (λ k o at. (all_at (IsFormOp g) b.ops f.ops k o at).kind);
   ends = f.ends;
 }
@@ -39,7 +31,7 @@ pub form_is_well_formed : (g : Func) → IsFormFunc g → IsWellFormedFunc (valu
 form_is_well_formed g f = record {
   named = f.named;
   linkage = ap (λ (bs : List DialectBlock). suits bs g.linkage) f.body ∙ ap suits_body f.linkage;
-  signature = subst IsSignature (sym f.type) (short_returned f.result f.returns, all_integers (types_list f.types) f.takes);
+  signature = record { result = f.result; params = f.types; variadic = false; is = f.type; returns = held_result_returned f.result f.returns; takes = all_first_class (types_list f.types) f.takes };
   params = λ b at. ap (λ (d : DialectBlock). d.args) (sym (same_Some f.entry b (ap (λ (bs : List DialectBlock). slice_get bs 0) (sym f.body) ∙ at))) ∙ f.params ∙ ap params_of (sym f.type);
   blocks = all_from (IsWellFormedBlock (value_type g) g) g.blocks (λ k b at. well_block g b (all_at (IsFormBlock g) g.blocks f.blocks k b at));
   block_numbers = f.block_numbers;
@@ -60,7 +52,7 @@ pub form_is_narrow : (g : Func) → IsFormFunc g → IsNarrowFunc g
 form_is_narrow g f = record {
   name = f.name;
   linkage = f.linkage;
-  signature = subst IsNarrowSignature (sym f.type) (f.returns, f.takes, refl);
+  signature = record { result = f.result; params = f.types; is = f.type; returns = f.returns; takes = f.takes };
   blocks = all_from IsNarrowBlock g.blocks (λ k b at. narrow_block g b (all_at (IsFormBlock g) g.blocks f.blocks k b at));
   body = λ none. let few = ap length (sym f.body ∙ none) in absurd (omega (arith, few));
 }

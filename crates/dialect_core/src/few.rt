@@ -1,11 +1,12 @@
 //! Tests of lists: whether each has fewer than 2^31 entries.
 
 ghost use Rattle.std.specs.Prelude.{◌≡◌, ◌<◌, ◌↔◌, IsTrue, All, Some, length};
+ghost use Rattle.kinds.specs.Types.{params_of};
 ghost use Rattle.dialect_types.specs.Trees.{type_at, type_trees};
 ghost use Rattle.dialect_core.specs.declared.ops.Symbol.{Symbol};
 ghost use Rattle.dialect_core.specs.Lists.{list_at};
 ghost use Rattle.dialect_core.specs.ContextData.{symbol_at};
-ghost use Rattle.dialect_core.specs.WellFormed.{HasFewEntries, IsFew, IsFewBlock, IsFewFunc, IsFewOp, params_of};
+ghost use Rattle.dialect_core.specs.WellFormed.{HasFewEntries, IsFew, IsFewBlock, IsFewFunc, IsFewOp};
 ghost use Rattle.dialect_core.specs.Checking.{HasTypeWithin};
 
 use crate::context::Context;

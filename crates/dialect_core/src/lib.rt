@@ -16,7 +16,7 @@ pub mod ops;
 pub mod predicates;
 mod printing;
 pub mod steps;
-mod type_tests;
+pub mod type_tests;
 pub mod value_map;
 mod value_tests;
 pub mod walking;

@@ -3,23 +3,24 @@
 ghost use Rattle.std.specs.Prelude.{◌≡◌, ◌<◌, ◌↔◌, IsTrue, true, All, IfSome, Some, length};
 ghost use Rattle.std.specs.Option.{option_map, option_map_or};
 ghost use Rattle.kinds.specs.Rules.{operand_count};
-ghost use Rattle.kinds.specs.Types.{IntType, VoidType, shape};
+ghost use Rattle.kinds.specs.Types.{IntType, VoidType, shape, result_of as returned_by};
+ghost use Rattle.kinds.specs.Held.{IsFirstClass};
 ghost use Rattle.kinds.specs.Typing.{written_for};
-ghost use Rattle.dialect_types.specs.Trees.{attr_tree, type_at, type_tree, type_trees, HasTypesBelow};
+ghost use Rattle.dialect_types.specs.Trees.{attr_tree, type_at, type_trees, HasTypesBelow};
 ghost use Rattle.dialect_core.specs.ContextData.{IsValueWithin, IsSuccessorWithin, IsSymbol};
 ghost use Rattle.dialect_core.specs.Data.{Func, IsTyped, HasKindTypesBelow, ConstantOp, type_in};
-ghost use Rattle.dialect_core.specs.Rules.{IsInteger, IsIntegerBy, IsOfKind, IsReturning, IsRow, result_of as returned_by, returns_void, row_fits, row_result, type_nth};
+ghost use Rattle.dialect_core.specs.Rules.{IsFirstClassBy, IsOfKind, IsReturning, IsRow, returns_void, row_fits, row_result, type_nth};
 ghost use Rattle.dialect_core.specs.Checking.{IsConstantOf, IsKindAt, IsOpAt, ends_kind, func_at, tree_at};
 
 use crate::context::Context;
 use crate::numbers::OpRef;
 use crate::ops::{OpKind, Successor, Value};
-use crate::type_tests::{is_bit, is_fitting, is_integer, same_type};
+use crate::type_tests::{is_bit, is_first_class, is_fitting, same_type, shape_at};
 use crate::value_tests::{edges_fit, has_type, type_of};
 use dialect_types::attrs::ConstAttr;
 use dialect_types::type_store::TypeStore;
 use dialect_types::types::{TypeHandle, TypeKind};
-use kinds::fitting::{Shape, TypeView, fits};
+use kinds::fitting::{TypeView, fits, is_nothing};
 use kinds::op::Op;
 use kinds::rules::{Gives, Takes};
 
@@ -50,17 +51,6 @@ fn type_nth(ctx: &Context, values: &[Value], place: usize) -> Option<TypeHandle>
     }
 }
 
-/// What rules look at in a type.
-fn shape_of(kind: &TypeKind) -> Shape
-    ensures { (ts : _) → result ≡ shape (type_tree ts kind.now) }
-{
-    match kind {
-        TypeKind::Void => Shape::Void,
-        TypeKind::Integer(width) => Shape::Int(*width),
-        TypeKind::Func { .. } => Shape::Function,
-    }
-}
-
 /// A type as rules see it.
 fn view_some(ctx: &Context, ty: Option<TypeHandle>) -> Option<TypeView>
     requires { IfSome ty (λ t. t.0 < length ctx.now.types) }
@@ -69,7 +59,7 @@ fn view_some(ctx: &Context, ty: Option<TypeHandle>) -> Option<TypeView>
     match ty {
         Some(ty) => Some(TypeView {
             number: ty.0,
-            shape: shape_of(ctx.types().kind(ty)),
+            shape: shape_at(ctx.types(), ty),
         }),
         None => None,
     }
@@ -144,37 +134,37 @@ fn gives_bit(types: &TypeStore, own: Option<TypeHandle>) -> bool
     }
 }
 
-/// Whether a result, where there is one, is an integer.
-fn is_integer_or_none(types: &TypeStore, own: Option<TypeHandle>) -> bool
+/// Whether a result, where there is one, has the type of a value.
+fn is_first_class_or_none(types: &TypeStore, own: Option<TypeHandle>) -> bool
     requires { IfSome own (λ t. t.0 < length types.now) }
-    ensures { IsTrue result ↔ IfSome (option_map (type_at (type_trees types.now)) own) IsInteger }
+    ensures { IsTrue result ↔ IfSome (option_map (type_at (type_trees types.now)) own) IsFirstClass }
 {
     match own {
-        Some(ty) => is_integer(types, ty),
+        Some(ty) => is_first_class(types, ty),
         None => true,
     }
 }
 
-/// Whether a value has an integer type.
-fn is_integer_value(ctx: &Context, value: Value) -> bool
+/// Whether a value has a first class type.
+fn is_first_class_value(ctx: &Context, value: Value) -> bool
     requires value { IsValueWithin (length ctx.now.ops) (length ctx.now.blocks) value }
     requires typed { IsTyped ctx.now }
-    ensures { IsTrue result ↔ IsIntegerBy (type_in ctx.now) value }
+    ensures { IsTrue result ↔ IsFirstClassBy (type_in ctx.now) value }
 {
     match type_of(ctx, value) {
-        Some(ty) => is_integer(ctx.types(), ty),
+        Some(ty) => is_first_class(ctx.types(), ty),
         None => false,
     }
 }
 
-/// Whether each value has an integer type.
-fn are_integers(ctx: &Context, values: &[Value]) -> bool
+/// Whether each value has a first class type.
+fn are_first_class(ctx: &Context, values: &[Value]) -> bool
     requires values { All (IsValueWithin (length ctx.now.ops) (length ctx.now.blocks)) values.now }
     requires typed { IsTyped ctx.now }
-    ensures { IsTrue result ↔ All (IsIntegerBy (type_in ctx.now)) values.now }
+    ensures { IsTrue result ↔ All (IsFirstClassBy (type_in ctx.now)) values.now }
 {
     for value in values {
-        if !is_integer_value(ctx, *value) {
+        if !is_first_class_value(ctx, *value) {
             return false;
         }
     }
@@ -206,7 +196,7 @@ fn returns_void(ctx: &Context, func: OpRef) -> bool
     ensures { result ≡ returns_void (func_at ctx.now func) }
 {
     match returned(ctx, func) {
-        Some(ty) => matches!(ctx.types().kind(ty), TypeKind::Void),
+        Some(ty) => is_nothing(shape_at(ctx.types(), ty)),
         None => true,
     }
 }
@@ -218,7 +208,7 @@ fn is_void_value(ctx: &Context, value: Value) -> bool
     ensures { IsTrue result ↔ (type_in ctx.now value ≡ Some VoidType) }
 {
     match type_of(ctx, value) {
-        Some(ty) => matches!(ctx.types().kind(ty), TypeKind::Void),
+        Some(ty) => is_nothing(shape_at(ctx.types(), ty)),
         None => false,
     }
 }
@@ -270,16 +260,16 @@ fn is_returning(ctx: &Context, func: OpRef, takes: Takes, operands: &[Value]) ->
     }
 }
 
-/// Whether there are as many operands as a row takes, all of them integers, and a return has what its function returns.
+/// Whether there are as many operands as a row takes, all of first class types, and a return has what its function returns.
 fn operands_taken(ctx: &Context, func: OpRef, takes: Takes, operands: &[Value]) -> bool
     requires func { IsSymbol ctx.now.ops func }
     requires within { func.0 < length ctx.now.ops }
     requires operands { All (IsValueWithin (length ctx.now.ops) (length ctx.now.blocks)) operands.now }
     requires typed { IsTyped ctx.now }
-    ensures { IsTrue result ↔ All (IsIntegerBy (type_in ctx.now)) operands.now × (length operands.now ≡ operand_count takes (returns_void (func_at ctx.now func))) × IsReturning takes (type_in ctx.now) (returned_by (func_at ctx.now func).type) operands.now }
+    ensures { IsTrue result ↔ All (IsFirstClassBy (type_in ctx.now)) operands.now × (length operands.now ≡ operand_count takes (returns_void (func_at ctx.now func))) × IsReturning takes (type_in ctx.now) (returned_by (func_at ctx.now func).type) operands.now }
 {
     operands.len() == takes.operand_count(returns_void(ctx, func))
-        && are_integers(ctx, operands)
+        && are_first_class(ctx, operands)
         && is_returning(ctx, func, takes, operands)
 }
 
@@ -288,11 +278,11 @@ fn types_fit(ctx: &Context, op: Op, operands: &[Value], own: Option<TypeHandle>)
     requires operands { All (IsValueWithin (length ctx.now.ops) (length ctx.now.blocks)) operands.now }
     requires own { IfSome own (λ t. t.0 < length ctx.now.types) }
     requires typed { IsTyped ctx.now }
-    ensures { IsTrue result ↔ (row_fits (type_in ctx.now) op (option_map (tree_at ctx.now) own) operands.now ≡ true) × (option_map (tree_at ctx.now) own ≡ row_result (type_in ctx.now) op (option_map (tree_at ctx.now) own) operands.now) × IfSome (option_map (tree_at ctx.now) own) IsInteger }
+    ensures { IsTrue result ↔ (row_fits (type_in ctx.now) op (option_map (tree_at ctx.now) own) operands.now ≡ true) × (option_map (tree_at ctx.now) own ≡ row_result (type_in ctx.now) op (option_map (tree_at ctx.now) own) operands.now) × IfSome (option_map (tree_at ctx.now) own) IsFirstClass }
 {
     operands_fit(ctx, op, operands, own)
         && is_given(ctx, op, operands, own)
-        && is_integer_or_none(ctx.types(), own)
+        && is_first_class_or_none(ctx.types(), own)
 }
 
 /// Whether an operation keeps the rule of its row.

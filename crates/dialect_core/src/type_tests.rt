@@ -1,18 +1,37 @@
-//! Tests of types: whether they are integers, signatures, and the same.
+//! Tests of types: what they may stand for, and whether they are the same.
 
 ghost use Rattle.std.specs.Prelude.{◌≡◌, ◌<◌, ◌^◌, ◌↔◌, IsTrue, All, length, map};
-ghost use Rattle.dialect_types.specs.Trees.{IntType, type_at, type_trees};
-ghost use Rattle.dialect_core.specs.Form.{IsFitting, IsShortInt, IsShortResult};
-ghost use Rattle.dialect_core.specs.WellFormed.{IsInteger, IsReturned, IsSignature, IsNarrowSignature, params_of};
+ghost use Rattle.kinds.specs.Types.{shape, params_of};
+ghost use Rattle.kinds.specs.Held.{IsFirstClass, IsReturned, IsHeld, IsHeldResult, IsSignature, IsHeldSignature};
+ghost use Rattle.dialect_types.specs.Trees.{IntType, type_at, type_tree, type_trees};
+ghost use Rattle.dialect_core.specs.Rules.{IsIntegerOf};
 
 use dialect_types::type_store::TypeStore;
 use dialect_types::types::{TypeHandle, TypeKind};
+use kinds::fitting;
+use kinds::fitting::Shape;
 
-/// The greatest width of an integer type in bits, 2^23.
-const MAX_WIDTH: u32 = 8_388_608;
-
-/// The greatest width of an integer constant, and of the integers of the form.
+/// The greatest width of an integer constant.
 const MAX_SHORT: u32 = 64;
+
+/// What rules look at in a type, by its kind.
+pub fn shape_of(kind: &TypeKind) -> Shape
+    ensures { (ts : _) → result ≡ shape (type_tree ts kind.now) }
+{
+    match kind {
+        TypeKind::Void => Shape::Void,
+        TypeKind::Integer(width) => Shape::Int(*width),
+        TypeKind::Func { .. } => Shape::Function,
+    }
+}
+
+/// What rules look at in a type.
+pub fn shape_at(types: &TypeStore, ty: TypeHandle) -> Shape
+    requires { ty.0 < length types.now }
+    ensures { result ≡ shape (type_at (type_trees types.now) ty) }
+{
+    shape_of(types.kind(ty))
+}
 
 /// Whether two types are the same.
 pub fn same_type(types: &TypeStore, a: TypeHandle, b: TypeHandle) -> bool
@@ -41,26 +60,22 @@ pub fn same_types(types: &TypeStore, xs: &[TypeHandle], ys: &[TypeHandle]) -> bo
     true
 }
 
-/// Whether a type is an integer type of a width that there is.
-pub fn is_integer(types: &TypeStore, ty: TypeHandle) -> bool
+/// Whether a type is one of values, of a width that there is.
+#[tactic(auto, unfolding(kinds::specs::Held::IsFirstClass))]
+pub fn is_first_class(types: &TypeStore, ty: TypeHandle) -> bool
     requires { ty.0 < length types.now }
-    ensures { IsTrue result ↔ IsInteger (type_at (type_trees types.now) ty) }
+    ensures { IsTrue result ↔ IsFirstClass (type_at (type_trees types.now) ty) }
 {
-    match types.kind(ty) {
-        TypeKind::Integer(width) => 1 <= *width && *width <= MAX_WIDTH,
-        _ => false,
-    }
+    fitting::is_first_class(shape_at(types, ty))
 }
 
-/// Whether a type is an integer type of 1 to 64 bits.
-pub fn is_short(types: &TypeStore, ty: TypeHandle) -> bool
+/// Whether a type is one of values that is translated.
+#[tactic(auto, unfolding(kinds::specs::Held::IsHeld))]
+pub fn is_held(types: &TypeStore, ty: TypeHandle) -> bool
     requires { ty.0 < length types.now }
-    ensures { IsTrue result ↔ IsShortInt (type_at (type_trees types.now) ty) }
+    ensures { IsTrue result ↔ IsHeld (type_at (type_trees types.now) ty) }
 {
-    match types.kind(ty) {
-        TypeKind::Integer(width) => 1 <= *width && *width <= MAX_SHORT,
-        _ => false,
-    }
+    fitting::is_held(shape_at(types, ty))
 }
 
 /// Whether a type is the integer type of one bit.
@@ -74,26 +89,26 @@ pub fn is_bit(types: &TypeStore, ty: TypeHandle) -> bool
     }
 }
 
-/// Whether types are integers.
-pub fn all_integers(types: &TypeStore, tys: &[TypeHandle]) -> bool
+/// Whether types are those of values.
+pub fn all_first_class(types: &TypeStore, tys: &[TypeHandle]) -> bool
     requires { All (λ t. t.0 < length types.now) tys.now }
-    ensures { IsTrue result ↔ All (λ t. IsInteger (type_at (type_trees types.now) t)) tys.now }
+    ensures { IsTrue result ↔ All (λ t. IsFirstClass (type_at (type_trees types.now) t)) tys.now }
 {
     for ty in tys {
-        if !is_integer(types, *ty) {
+        if !is_first_class(types, *ty) {
             return false;
         }
     }
     true
 }
 
-/// Whether types are integers of 1 to 64 bits.
-pub fn all_short(types: &TypeStore, tys: &[TypeHandle]) -> bool
+/// Whether types are those of values that are translated.
+pub fn all_held(types: &TypeStore, tys: &[TypeHandle]) -> bool
     requires { All (λ t. t.0 < length types.now) tys.now }
-    ensures { IsTrue result ↔ All (λ t. IsShortInt (type_at (type_trees types.now) t)) tys.now }
+    ensures { IsTrue result ↔ All (λ t. IsHeld (type_at (type_trees types.now) t)) tys.now }
 {
     for ty in tys {
-        if !is_short(types, *ty) {
+        if !is_held(types, *ty) {
             return false;
         }
     }
@@ -101,25 +116,32 @@ pub fn all_short(types: &TypeStore, tys: &[TypeHandle]) -> bool
 }
 
 /// Whether a function may return the type.
+#[tactic(auto, unfolding(kinds::specs::Held::IsReturned))]
 pub fn is_returned(types: &TypeStore, ty: TypeHandle) -> bool
     requires { ty.0 < length types.now }
     ensures { IsTrue result ↔ IsReturned (type_at (type_trees types.now) ty) }
 {
-    match types.kind(ty) {
-        TypeKind::Void => true,
-        _ => is_integer(types, ty),
-    }
+    let shape = shape_at(types, ty);
+    fitting::is_nothing(shape) || fitting::is_first_class(shape)
 }
 
-/// Whether a function of the form may return the type.
-pub fn is_short_result(types: &TypeStore, ty: TypeHandle) -> bool
+/// Whether a function that is translated may return the type.
+#[tactic(auto, unfolding(kinds::specs::Held::IsHeldResult))]
+pub fn is_held_result(types: &TypeStore, ty: TypeHandle) -> bool
     requires { ty.0 < length types.now }
-    ensures { IsTrue result ↔ IsShortResult (type_at (type_trees types.now) ty) }
+    ensures { IsTrue result ↔ IsHeldResult (type_at (type_trees types.now) ty) }
 {
-    match types.kind(ty) {
-        TypeKind::Void => true,
-        _ => is_short(types, ty),
-    }
+    let shape = shape_at(types, ty);
+    fitting::is_nothing(shape) || fitting::is_held(shape)
+}
+
+/// Whether a function may return and take these types.
+fn are_first_class(types: &TypeStore, returned: TypeHandle, params: &[TypeHandle]) -> bool
+    requires returned { returned.0 < length types.now }
+    requires params { All (λ t. t.0 < length types.now) params.now }
+    ensures { IsTrue result ↔ IsReturned (type_at (type_trees types.now) returned) × All (λ t. IsFirstClass (type_at (type_trees types.now) t)) params.now }
+{
+    is_returned(types, returned) && all_first_class(types, params)
 }
 
 /// Whether a type is that of a function.
@@ -132,31 +154,31 @@ pub fn is_signature(types: &TypeStore, ty: TypeHandle) -> bool
             result: returned,
             params,
             ..
-        } => is_returned(types, *returned) && all_integers(types, params.as_slice()),
+        } => are_first_class(types, *returned, params.as_slice()),
         _ => false,
     }
 }
 
-/// Whether a function of the form may return and take these types.
-fn are_narrow(types: &TypeStore, returned: TypeHandle, params: &[TypeHandle]) -> bool
+/// Whether a function that is translated may return and take these types.
+fn are_held(types: &TypeStore, returned: TypeHandle, params: &[TypeHandle]) -> bool
     requires returned { returned.0 < length types.now }
     requires params { All (λ t. t.0 < length types.now) params.now }
-    ensures { IsTrue result ↔ IsShortResult (type_at (type_trees types.now) returned) × All (λ t. IsShortInt (type_at (type_trees types.now) t)) params.now }
+    ensures { IsTrue result ↔ IsHeldResult (type_at (type_trees types.now) returned) × All (λ t. IsHeld (type_at (type_trees types.now) t)) params.now }
 {
-    is_short_result(types, returned) && all_short(types, params)
+    is_held_result(types, returned) && all_held(types, params)
 }
 
-/// Whether a type is that of a function of the form.
-pub fn is_narrow_signature(types: &TypeStore, ty: TypeHandle) -> bool
+/// Whether a type is that of a function that is translated.
+pub fn is_held_signature(types: &TypeStore, ty: TypeHandle) -> bool
     requires { ty.0 < length types.now }
-    ensures { IsTrue result ↔ IsNarrowSignature (type_at (type_trees types.now) ty) }
+    ensures { IsTrue result ↔ IsHeldSignature (type_at (type_trees types.now) ty) }
 {
     match types.kind(ty) {
         TypeKind::Func {
             result: returned,
             params,
             variadic,
-        } => !*variadic && are_narrow(types, *returned, params.as_slice()),
+        } => !*variadic && are_held(types, *returned, params.as_slice()),
         _ => false,
     }
 }
@@ -187,7 +209,7 @@ fn fits_width(value: u64, width: u32) -> bool
 /// Whether a type is an integer type of 1 to 64 bits that a value fits.
 pub fn is_fitting(types: &TypeStore, ty: TypeHandle, value: u64) -> bool
     requires { ty.0 < length types.now }
-    ensures { IsTrue result ↔ IsShortInt (type_at (type_trees types.now) ty) × IsFitting (type_at (type_trees types.now) ty) value }
+    ensures { IsTrue result ↔ IsIntegerOf (type_at (type_trees types.now) ty) value }
 {
     match types.kind(ty) {
         TypeKind::Integer(width) => {

@@ -1,11 +1,12 @@
 //! Tests of blocks, functions and modules: whether they keep the rules of the dialect.
 
 ghost use Rattle.std.specs.Prelude.{◌≡◌, ◌<◌, ◌↔◌, ◌∷◌, [], IsTrue, IfSome, All, Some, length, slice_get};
+ghost use Rattle.kinds.specs.Types.{params_of};
 ghost use Rattle.dialect_core.specs.declared.ops.OpKind.TheVariants as kinds;
 ghost use Rattle.dialect_core.specs.Lists.{list_at, from_op};
 ghost use Rattle.dialect_core.specs.ContextData.{IsSymbol, kind_at};
 ghost use Rattle.dialect_core.specs.Data.{DialectBlock, IsTyped, name_at};
-ghost use Rattle.dialect_core.specs.WellFormed.{HasFewEntries, HasIntegerArgs, IsWellFormed, params_of, suits, suits_body, suits_declaration};
+ghost use Rattle.dialect_core.specs.WellFormed.{HasFewEntries, HasFirstClassArgs, IsWellFormed, suits, suits_body, suits_declaration};
 ghost use Rattle.dialect_core.specs.Checking.{AreApartFrom, AreFuncLines, AreLines, IsBlockAt, IsFuncAt, IsHead, IsLine, func_at};
 
 use crate::context::Context;
@@ -15,7 +16,7 @@ use crate::module_printing::name_of;
 use crate::numbers::{BlockRef, ModuleOp, OpRef};
 use crate::op_tests::{is_ending, op_fits};
 use crate::ops::OpKind;
-use crate::type_tests::{all_integers, is_signature, takes};
+use crate::type_tests::{all_first_class, is_signature, takes};
 use crate::value_tests::is_past_firsts;
 use crate::walking::{first_in_block, next_in_block};
 
@@ -54,7 +55,7 @@ fn lines_fit(ctx: &Context, func: OpRef, block: BlockRef) -> bool
     true
 }
 
-/// Whether a block of the function is well-formed: its arguments are integers, and one terminator stands in it, last,
+/// Whether a block of the function is well-formed: its arguments are of first class types, and one terminator stands in it, last,
 /// which leads to no first block.
 fn block_fits(ctx: &Context, func: OpRef, block: BlockRef) -> bool
     requires func { IsSymbol ctx.now.ops func }
@@ -66,7 +67,7 @@ fn block_fits(ctx: &Context, func: OpRef, block: BlockRef) -> bool
     if first_in_block(ctx, block).is_none() {
         return false;
     }
-    if !all_integers(ctx.types(), ctx.block_args(block)) {
+    if !all_first_class(ctx.types(), ctx.block_args(block)) {
         return false;
     }
     lines_fit(ctx, func, block)
@@ -249,14 +250,14 @@ fn funcs_fit(ctx: &Context, block: BlockRef) -> bool
     true
 }
 
-/// Whether the arguments of a block are integers, and few.
+/// Whether the arguments of a block are of first class types, and few.
 fn args_fit(ctx: &Context, block: BlockRef) -> bool
     requires block { block.0 < length ctx.now.blocks }
     requires typed { IsTyped ctx.now }
-    ensures { IsTrue result ↔ HasIntegerArgs ctx.now block }
+    ensures { IsTrue result ↔ HasFirstClassArgs ctx.now block }
 {
     let args = ctx.block_args(block);
-    args.len() < TOO_LONG && all_integers(ctx.types(), args)
+    args.len() < TOO_LONG && all_first_class(ctx.types(), args)
 }
 
 /// Whether the operations of a module's block are well-formed functions of different names, and all lists are short.

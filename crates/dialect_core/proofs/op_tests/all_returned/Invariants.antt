@@ -2,7 +2,7 @@
 use Rattle.std.proofs.Common.{ℕ, ◌<◌, ◌≡◌, Some, get_or}
 use Rattle.dialect_core.specs.declared.ops.Value.{Value}
 use Rattle.dialect_core.specs.Data.{type_in}
-use Rattle.dialect_core.specs.Rules.{result_of}
+use Rattle.kinds.specs.Types.{result_of}
 use Rattle.dialect_core.specs.Checking.{func_at}
 use Rattle.dialect_core.proofs.op_tests.all_returned.Given as goal
 
