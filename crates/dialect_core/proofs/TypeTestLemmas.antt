@@ -1,5 +1,5 @@
 -- What tests of types find.
-use Rattle.std.proofs.Common.{◌≡◌, ◌<◌, ◌≤◌, ◌^◌, ◌*◌, ◌/◌, ℕ, zero, suc, Bool, true, false, nat_eq, List, [], ◌∷◌, All, length, map, get_or, ap, sym, subst, ◌∙◌, refl, arith}
+use Rattle.std.proofs.Common.{◌≡◌, ◌<◌, ◌≤◌, ◌^◌, ◌*◌, ◌/◌, ℕ, zero, suc, Bool, false, nat_eq, List, [], ◌∷◌, All, length, map, get_or, ap, sym, subst, ◌∙◌, refl, arith}
 use Rattle.std.specs.Prelude.{IsTrue, ◌↔◌}
 use Rattle.std.proofs.Math.Nat.{pow-le-pow_right}
 use Rattle.kinds.specs.Types.{TypeTrees, FunctionType, types_list, params_of, result_of}
@@ -90,19 +90,8 @@ module _ (ts : List TypeTree) (t : TypeTree) (k : TypeKind) (r : TypeHandle) (ps
     λ w. of_parts IsHeldResult IsHeld w.result w.params false w.is w.returns w.takes,
   )
 
-  pub not_held : v ≡ true → IsHeldSignature t → ⊥
-  not_held more w = let e : FunctionType (type_at ts r) (types_at ts ps) v ≡ FunctionType w.result w.params false = sym tree_is ∙ w.is in cc
-
-  pub count_is : length xs ≡ length (params_of t)
-  count_is = rw (tree_is, listed_types, are) (let same = map_length (type_at ts) ps in omega (arith, same))
-
-  pub takes_are : (taken : List TypeHandle) → map (type_at ts) taken ≡ map (type_at ts) xs ↔ map (type_at ts) taken ≡ params_of t
-  takes_are taken = rw (tree_is, listed_types, are) ((λ h. h), (λ h. h))
-
--- a kind that is no function type has the tree of none
-pub no_function : (ts : List TypeTree) (k : TypeKind) (u : TypeTree) (us : TypeTrees) (w : Bool) → ((r : TypeHandle) (ps : List TypeHandle) (v : Bool) → k ≡ Func r ps v → ⊥) → type_tree ts k ≡ FunctionType u us w → ⊥
-no_function ts (Func r ps v) u us w other e = other r ps v refl
-no_function ts k u us w other e = cc
+  pub params_are : map (type_at ts) xs ≡ params_of t
+  params_are = rw (tree_is, listed_types, are) refl
 
 -- ---- values
 

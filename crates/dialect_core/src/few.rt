@@ -12,9 +12,10 @@ ghost use Rattle.dialect_core.specs.Checking.{HasTypeWithin};
 use crate::context::Context;
 use crate::numbers::{BlockRef, OpRef};
 use crate::ops::{OpKind, Successor};
+use crate::type_tests::params_of;
 use crate::walking::{first_in_block, next_in_block};
 use dialect_types::type_store::TypeStore;
-use dialect_types::types::{TypeHandle, TypeKind};
+use dialect_types::types::TypeHandle;
 
 /// A list of this many entries is too long, and so is a longer one.
 pub const TOO_LONG: usize = 1 << 31;
@@ -103,10 +104,7 @@ fn takes_few(types: &TypeStore, ty: TypeHandle) -> bool
     requires { ty.0 < length types.now }
     ensures { IsTrue result ↔ IsFew (params_of (type_at (type_trees types.now) ty)) }
 {
-    match types.kind(ty) {
-        TypeKind::Func { params, .. } => params.as_slice().len() < TOO_LONG,
-        _ => true,
-    }
+    params_of(types, ty).len() < TOO_LONG
 }
 
 /// Whether an operation takes few arguments, where it is a function.

@@ -183,16 +183,25 @@ pub fn is_held_signature(types: &TypeStore, ty: TypeHandle) -> bool
     }
 }
 
+/// What a function of a type takes; nothing where it is the type of no function.
+pub fn params_of(types: &TypeStore, ty: TypeHandle) -> &[TypeHandle]
+    requires { ty.0 < length types.now }
+    ensures params { map (type_at (type_trees types.now)) result.now ≡ params_of (type_at (type_trees types.now) ty) }
+    ensures within { All (λ t. t.0 < length types.now) result.now }
+{
+    match types.kind(ty) {
+        TypeKind::Func { params, .. } => params.as_slice(),
+        _ => &[],
+    }
+}
+
 /// Whether these are the types that a function of a type takes.
 pub fn takes(types: &TypeStore, ty: TypeHandle, args: &[TypeHandle]) -> bool
     requires ty { ty.0 < length types.now }
     requires args { All (λ t. t.0 < length types.now) args.now }
     ensures { IsTrue result ↔ map (type_at (type_trees types.now)) args.now ≡ params_of (type_at (type_trees types.now) ty) }
 {
-    match types.kind(ty) {
-        TypeKind::Func { params, .. } => same_types(types, args, params.as_slice()),
-        _ => args.is_empty(),
-    }
+    same_types(types, args, params_of(types, ty))
 }
 
 /// Whether a value fits a width.
