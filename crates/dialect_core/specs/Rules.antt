@@ -1,5 +1,5 @@
 -- The rules of the dialect for one operation: what it asks of the types of its operands, of its result and of its edges.
-use Rattle.std.specs.Prelude.{◌≡◌, ◌≤◌, ◌<◌, ◌^◌, ℕ, Bool, true, false, List, [], ◌∷◌, length, slice_get, Option, Some, All, IfSome}
+use Rattle.std.specs.Prelude.{◌≡◌, ◌<◌, ◌^◌, ℕ, Bool, true, List, [], length, slice_get, Option, Some, All, IfSome}
 use Rattle.std.specs.Option.{option_and_then}
 use Rattle.kinds.specs.declared.op.Op.{Op}
 use Rattle.kinds.specs.declared.rules.Takes.{Takes}

@@ -1,7 +1,7 @@
 -- Well-formed modules: the rules of the dialect for the kinds of operations that there are, and what the open form
 -- (`IsOpenForm`) asks besides.
 use Rattle.std.specs.Prelude.{◌≡◌, ◌<◌, ◌≤◌, ◌^◌, ℕ, Bool, true, false, List, [], ◌∷◌, length, slice_get, Some, All, IfSome}
-use Rattle.dialect_types.specs.Trees.{TypeTree, type_at, type_trees}
+use Rattle.dialect_types.specs.Trees.{type_at, type_trees}
 use Rattle.dialect_types.specs.declared.types.TypeHandle.{TypeHandle}
 use Rattle.dialect_types.specs.Names.{IsPlainName}
 use Rattle.dialect_core.specs.declared.numbers.OpRef.{OpRef}

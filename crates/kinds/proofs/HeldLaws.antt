@@ -1,9 +1,9 @@
--- What follows for a type from where it stands. Only these laws look into the words of `Held`.
-use Rattle.std.proofs.Common.{arith, ◌≡◌, ◌≤◌, ◌^◌, ℕ, Bool, true, false, ◌||◌, nat_le, refl, ap, Option, Some, None}
+-- What follows for a type from where it stands. Beside the tests that answer them, only these laws look into the words of `Held`.
+use Rattle.std.proofs.Common.{arith, ◌≡◌, ◌≤◌, ◌^◌, ℕ, Bool, true, false, ◌||◌, refl, Some, None}
 use Rattle.kinds.specs.declared.fitting.Shape.{Shape}
 use Rattle.kinds.specs.declared.fitting.Shape.TheVariants as S
-use Rattle.kinds.specs.Types.{TypeTree, VoidType, IntType, FunctionType, TypeTrees, shape}
-use Rattle.kinds.specs.Fitting.{is_value, is_nothing, is_first_class, is_held}
+use Rattle.kinds.specs.Types.{TypeTree, VoidType, IntType, FunctionType, shape}
+use Rattle.kinds.specs.Fitting.{is_value, is_first_class, is_held}
 use Rattle.kinds.specs.Held.{is_void, own_type, IsFirstClass, IsReturned, IsHeld, IsHeldResult, IsShortWidth}
 
 -- ---- void
