@@ -1,5 +1,5 @@
 -- What the data of a dialect module mean.
-use Rattle.std.specs.Prelude.{ℕ, zero, suc, Bool, false, ◌&&◌, if◌then◌else◌, List, [], ◌∷◌, Option, Some, None, map, option_map, length, nat_eq, nat_lt}
+use Rattle.std.specs.Prelude.{ℕ, zero, suc, Bool, ◌&&◌, if◌then◌else◌, List, [], ◌∷◌, Option, Some, None, map, option_map, length, nat_eq, nat_lt}
 use Rattle.std.specs.Option.{option_map_or}
 use Rattle.std.specs.List.{flat_map, filter_map, position_from, find}
 use Rattle.dialect_types.specs.Trees.{TypeTree, VoidType, AttrTree, IntegerAttr}
@@ -15,9 +15,9 @@ use Rattle.dialect_core.specs.Data.{DialectModule, Func, DialectBlock, DialectOp
 use Rattle.dialect_core.specs.WellFormed.{Typing}
 use Rattle.kinds.specs.declared.op.LLVMIntPredicate.{LLVMIntPredicate}
 use Rattle.kinds.specs.declared.op.LLVMIntPredicate.TheVariants as I
-use Rattle.meaning.specs.Terms.{Term, Param, Unset}
-use Rattle.meaning.specs.Machine.{Operand, At, Action, Holds, Applies, Row, Edge, Block, Item, trace}
 use Rattle.kinds.specs.Held.{width_in}
+use Rattle.meaning.specs.Terms.{Term, Param, Unset, Int}
+use Rattle.meaning.specs.Machine.{Operand, At, Action, Holds, Applies, Row, Edge, Block, Item, trace}
 use Rattle.meaning.specs.Setting.{Setting, TellsNothing}
 use Rattle.meaning.specs.Code.{Code, Entry, Body, Symbol, FunctionSymbol, Linkage, External, AvailableExternally, LinkOnceAny, LinkOnceODR, WeakAny, WeakODR, Appending, Internal, Private, ExternalWeak, Common, Other}
 pub use Rattle.dialect_core.specs.Text.{same_value}
@@ -138,7 +138,7 @@ has_blocks f = nat_lt 0 (length f.blocks)
 abbrev pub entry : Setting → Func → Entry
 entry setting f = record {
   name = f.name;
-  symbol = FunctionSymbol (type_of f.type) (linkage f.linkage) 0 (has_blocks f);
+  symbol = FunctionSymbol f.type (linkage f.linkage) 0 (has_blocks f);
   body = if has_blocks f then Some (body setting f) else None;
 }
 

@@ -61,7 +61,7 @@ answer_function = record {
   blocks = (record {
     number = 0;
     name = [];
-    instructions = (record { number = 0; name = []; type = VoidType; instruction = ret (Constant (IntConst (IntType 32) 7)) }) ∷ [];
+    instructions = (record { number = 0; name = []; type = VoidType; instruction = ret (Constant (IntConst 32 7)) }) ∷ [];
   }) ∷ [];
 }
 
@@ -128,7 +128,7 @@ sums = record {
     name = [];
     instructions =
         (record { number = 0; name = codes "s"; type = IntType 32; instruction = add no_signed (Parameter 0 0) (Parameter 0 1) })
-        ∷ (record { number = 1; name = codes "t"; type = IntType 32; instruction = add wraps (Result 0) (Constant (IntConst (IntType 32) 5)) })
+        ∷ (record { number = 1; name = codes "t"; type = IntType 32; instruction = add wraps (Result 0) (Constant (IntConst 32 5)) })
         ∷ (record { number = 2; name = []; type = VoidType; instruction = ret (Result 1) })
         ∷ [];
   }) ∷ [];

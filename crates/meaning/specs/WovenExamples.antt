@@ -29,7 +29,7 @@ late = record {
         name = codes "loop";
         instructions =
             (record { number = 1; name = codes "x"; type = IntType 32; instruction = Phi ((Parameter 0 0, 0) ∷ (Result 2, 1) ∷ []) })
-            ∷ (record { number = 2; name = codes "y"; type = IntType 32; instruction = add wraps (Result 1) (Constant (IntConst (IntType 32) 1)) })
+            ∷ (record { number = 2; name = codes "y"; type = IntType 32; instruction = add wraps (Result 1) (Constant (IntConst 32 1)) })
             ∷ (record { number = 3; name = []; type = VoidType; instruction = cond_br (Parameter 0 1) 1 2 })
             ∷ [];
       })
@@ -38,7 +38,7 @@ late = record {
         name = codes "exit";
         instructions =
             (record { number = 4; name = codes "z"; type = IntType 32; instruction = Phi ((Parameter 0 0, 0) ∷ (Result 2, 1) ∷ []) })
-            ∷ (record { number = 5; name = codes "s"; type = IntType 32; instruction = add wraps (Result 4) (Constant (IntConst (IntType 32) 1)) })
+            ∷ (record { number = 5; name = codes "s"; type = IntType 32; instruction = add wraps (Result 4) (Constant (IntConst 32 1)) })
             ∷ (record { number = 6; name = []; type = VoidType; instruction = ret (Result 5) })
             ∷ [];
       })
