@@ -7,16 +7,14 @@ use Rattle.kinds.specs.Types.{TypeTree, same_tree}
 use Rattle.support.proofs.ListLaws.{item_there}
 use Rattle.llvm_core.specs.declared.numbers.LLVMType.{LLVMType}
 use Rattle.llvm_core.specs.declared.numbers.LLVMConst.{LLVMConst}
-use Rattle.llvm_core.specs.declared.consts.LLVMConstKind.{LLVMConstKind}
-use Rattle.llvm_core.specs.declared.consts.LLVMConstKind.TheVariants as C
 use Rattle.llvm_core.specs.declared.code.LLVMValue.{LLVMValue}
 use Rattle.llvm_core.specs.declared.code.LLVMValue.TheVariants as V
 use Rattle.llvm_core.specs.Module.{Module}
 use Rattle.llvm_core.specs.Sound.{IsModule}
 use Rattle.llvm_core.specs.Parts.{value_type}
 use Rattle.llvm_core.specs.Parts as P
-use Rattle.llvm_core.specs.Data.{ConstTree, type_at, const_at, const_tree, const_type, trees_of, operand_of}
-use Rattle.llvm_core.proofs.DataLemmas.{const_tree_of}
+use Rattle.llvm_core.specs.Data.{const_at, const_type, trees_of, operand_of}
+use Rattle.llvm_core.proofs.DataLemmas.{const_type_of}
 use Rattle.ll_lines.specs.Views.{IsTypeIn}
 use Rattle.ll_literals.specs.Chain.{◌>>=◌}
 use Rattle.ll_bodies.specs.Scopes as spec
@@ -51,16 +49,12 @@ module _ (m : Module) (s : IsModule m) where
       ap (λ t. if t then Some (operand_of (trees_of m) v) else None) (same_number m s own ty a b)
       ∙ by_test (nat_eq own.0 ty.0) v ∙ ap (option_map (operand_of (trees_of m))) (sym e)
 
-  kind_type : (ts : List TypeTree) (cs : List ConstTree) (k : LLVMConstKind) → const_type (const_tree ts cs k) ≡ type_at ts (P.const_type k)
-  kind_type ts cs (C.Int t v) = refl
-  kind_type ts cs (C.Placeholder n t) = refl
-
   -- the type of a constant
   pub const_told : (c : LLVMConst) (own : LLVMType) → c.0 < length m.consts → value_type m (V.Const c) ≡ Some own → const_type (const_at (trees_of m).consts c) ≡ tree m s own
   const_told c own lt e =
       let k = item_there m.consts c.0 lt in
       let same : P.const_type k.0 ≡ own = same_Some (P.const_type k.0) own (sym (ap (option_map P.const_type) k.1) ∙ e) in
-      ap const_type (const_tree_of m c k.0 k.1) ∙ kind_type (trees_of m).types (trees_of m).consts k.0 ∙ ap (tree m s) same
+      const_type_of m c k.0 s k.1 ∙ ap (tree m s) same
 
 -- what holds of each thing that is known
 pub some_in : {X : Type 0} (P : X → Type 0) (o : Option X) → ((y : X) → o ≡ Some y → P y) → IfSome o P

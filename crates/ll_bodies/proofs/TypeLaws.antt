@@ -15,26 +15,19 @@ use Rattle.kinds.proofs.TypeLaws.{tree_self, tree_told}
 use Rattle.kinds.proofs.FittingLaws.{fits_kept}
 use Rattle.support.proofs.ListLaws.{item_there}
 use Rattle.llvm_core.specs.declared.numbers.LLVMType.{LLVMType}
-use Rattle.llvm_core.specs.declared.types.LLVMTypeKind.{LLVMTypeKind}
-use Rattle.llvm_core.specs.declared.types.LLVMTypeKind.TheVariants as T
 use Rattle.llvm_core.specs.Module.{Module}
 use Rattle.llvm_core.specs.Sound.{IsModule}
 use Rattle.llvm_core.specs.Parts.{shape_of, view}
-use Rattle.llvm_core.specs.Data.{Trees, type_tree, type_at, trees_of}
+use Rattle.llvm_core.specs.Data.{Trees, type_at, trees_of}
 use Rattle.llvm_core.proofs.ApartLemmas.{apart}
 use Rattle.llvm_core.proofs.DataLemmas.{type_tree_of}
+use Rattle.llvm_core.proofs.RuleLaws.{shape_kept}
 use Rattle.ll_lines.specs.declared.lines.Typed.{Typed}
 use Rattle.ll_lines.specs.declared.lines.RowLine.{RowLine}
 use Rattle.ll_lines.specs.Lines as L
 use Rattle.ll_lines.specs.Views.{typed_view, row_view, IsTypeIn, IsTypedIn}
 use Rattle.ll_bodies.specs.Meaning.{result_type}
 use Rattle.ll_bodies.specs.SourceViews.{IsRowIn}
-
--- what rules look at is that of the tree, a line for each kind
-shape_kept : (ts : List TypeTree) (k : LLVMTypeKind) → shape_of k ≡ shape (type_tree ts k)
-shape_kept ts T.Void = refl
-shape_kept ts (T.Int w) = refl
-shape_kept ts (T.Function result params variadic) = refl
 
 bool_by : (a b : Bool) → (a ≡ true → b ≡ true) → (b ≡ true → a ≡ true) → a ≡ b
 bool_by true b f g = sym (f refl)

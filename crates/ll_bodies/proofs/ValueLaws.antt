@@ -7,10 +7,12 @@ use Rattle.std.proofs.lemmas.List.{get_or_past}
 use Rattle.std.proofs.Common.{◌≤◌, get_or}
 use Rattle.support.proofs.ListLaws.{slice_get-behind, slice_get-kept, item_there}
 use Rattle.kinds.specs.Types.{TypeTree, VoidType, same_tree}
+use Rattle.kinds.specs.Held.{width_in}
 use Rattle.kinds.proofs.TypeLaws.{tree_told}
 use Rattle.llvm_core.specs.declared.numbers.LLVMFunction.{LLVMFunction}
 use Rattle.llvm_core.specs.declared.numbers.LLVMBasicBlock.{LLVMBasicBlock}
 use Rattle.llvm_core.specs.declared.numbers.LLVMType.{LLVMType}
+use Rattle.llvm_core.specs.declared.types.LLVMTypeKind.TheVariants as T
 use Rattle.llvm_core.specs.declared.code.FunctionData.{FunctionData}
 use Rattle.llvm_core.specs.declared.code.LLVMValue.{LLVMValue}
 use Rattle.llvm_core.specs.declared.code.LLVMValue.TheVariants as V
@@ -102,7 +104,7 @@ line_at (y ∷ xs) (suc k) j x l h g =
 -- ---- constants that are there
 
 abbrev no_const : ConstTree
-no_const = IntConst VoidType 0
+no_const = IntConst 0 0
 
 length-const_trees : (m : Module) → length (trees_of m).consts ≡ length m.consts
 length-const_trees m = let e = length-after (const_tree (type_trees m.types)) no_const [] m.consts in omega (arith, e)
@@ -121,8 +123,10 @@ real_const m s c lt e = by (item_there m.consts c lt).0 (item_there m.consts c l
     by (C.Int t v) at =
         let told = const_tree_of m (record { 0 = c }) (C.Int t v) at in
         let w = s.consts c (C.Int t v) at in
-        let int = int_tree_of m t w.0 s w.1 in
-        absurd (cc (told, int, e))
+        let int = ap (λ (τ : TypeTree). IntConst (width_in τ) v) (int_tree_of m t w.0 s w.1) in
+        let none : IntConst w.0 v ≡ no_const = sym int ∙ sym told ∙ e in
+        let zero : w.0 ≡ 0 = cc (none) in
+        absurd (omega (arith, zero, (s.types t.0 (T.Int w.0) w.1).0))
     by (C.Placeholder number t) at = let told = const_tree_of m (record { 0 = c }) (C.Placeholder number t) at in absurd (cc (told, e))
 
 -- a constant that reads as one that is there is there

@@ -6,18 +6,17 @@ ghost use Rattle.kinds.specs.Types.{TypeTree, IntType};
 ghost use Rattle.kinds.specs.Typing.{fits_trees};
 ghost use Rattle.kinds.specs.Typing as typing;
 ghost use Rattle.llvm_core.specs.Data.{type_at, trees_of};
-ghost use Rattle.llvm_core.specs.Parts.{view, shape_of};
+ghost use Rattle.llvm_core.specs.Parts.{view};
 ghost use Rattle.llvm_core.specs.Sound.{IsModule};
 ghost use Rattle.ll_lines.specs.Views.{inst_view, IsTypeIn, IsTypedIn, IsInstIn};
 ghost use Rattle.ll_bodies.specs.Meaning as meaning;
 ghost use Rattle.ll_bodies.specs.SourceViews.{IsSource, IsRowIn, IsFittingRow, IsFitting};
 
-use kinds::fitting::{Shape, TypeView, fits};
+use kinds::fitting::{TypeView, fits};
 use kinds::rules::Gives;
 use ll_lines::lines::{Inst, RowLine, Typed};
-use llvm_core::module::LLVMModule;
+use llvm_core::module::{LLVMModule, shape_of};
 use llvm_core::numbers::LLVMType;
-use llvm_core::types::LLVMTypeKind;
 
 /// What the passes over the lines of a function read: the text, the module, and the numbers of `i1` and of void in it.
 #[derive(Drop)]
@@ -26,17 +25,6 @@ pub struct Source<'a> {
     pub module: &'a LLVMModule,
     pub bit: LLVMType,
     pub void: LLVMType,
-}
-
-/// What rules look at: a line for each kind.
-fn shape_of(kind: &LLVMTypeKind) -> Shape
-    ensures { result ≡ shape_of kind.now }
-{
-    match kind {
-        LLVMTypeKind::Void => Shape::Void,
-        LLVMTypeKind::Int(width) => Shape::Int(*width),
-        LLVMTypeKind::Function { .. } => Shape::Function,
-    }
 }
 
 /// A type as rules see it.
