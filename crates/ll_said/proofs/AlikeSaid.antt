@@ -1,13 +1,14 @@
 -- Functions that differ in numbers alone have one text.
-use Rattle.std.proofs.Common.{◌≡◌, ℕ, suc, ◌+◌, Bool, true, false, List, [], ◌∷◌, ◌++◌, length, map, drop, slice_index_or, Option, Some, refl, ap, sym, ◌∙◌, subst}
+use Rattle.std.proofs.Common.{◌≡◌, ℕ, suc, ◌+◌, Bool, true, false, if◌then◌else◌, List, [], ◌∷◌, ◌++◌, length, map, drop, slice_index_or, Option, Some, None, refl, ap, sym, ◌∙◌, subst}
 use Rattle.std.specs.List.{AllZip, flat_map}
 use Rattle.std.specs.Prelude.{decimal}
 use Rattle.std.specs.Option.{option_map_or}
 use Rattle.std.proofs.lemmas.Option.{same_Some}
 use Rattle.support.specs.Interned.{IsDistinctList}
 use Rattle.llvm_core.specs.Data as D
-use Rattle.llvm_core.specs.Data.{TypeTree, VoidType, IntType, FunctionType, Operand, Constant, Parameter, Result, RowData, Instruction, Phi, Applied, Placed, Block, operand_type, param_type, placed_in}
-use Rattle.llvm_core.specs.Form.{result_of}
+use Rattle.llvm_core.specs.Data.{TypeTree, Operand, Constant, Parameter, Result, RowData, Instruction, Phi, Applied, Placed, Block, operand_type, param_type, placed_in}
+use Rattle.kinds.specs.Types.{result_of}
+use Rattle.kinds.specs.Held.{is_void}
 use Rattle.ll_literals.specs.Text.{Text}
 use Rattle.ll_literals.specs.Names.{global, label}
 use Rattle.ll_lines.specs.Lines as L
@@ -77,15 +78,14 @@ module _ (g h : D.Function) (alike : FunctionsAlike g h) (here : IsDistinctList 
   params_pair i (n ∷ ns) = zip_both UnnamedPair (if_unnamed n (ParamAt i)) (unnamed_params (suc i) ns) (if_unnamed n (ParamAt i)) (unnamed_params (suc i) ns) (if_pair n (ParamAt i) (ParamAt i) refl) (params_pair (suc i) ns)
 
   result_pair : (p q : Placed) → PlacedAlike g h p q → AllZip UnnamedPair (unnamed_result p.type p) (unnamed_result q.type q)
-  result_pair p q pair = subst (λ (t : TypeTree). AllZip UnnamedPair (unnamed_result p.type p) (unnamed_result t q)) pair.type (by p.type)
+  result_pair p q pair = subst (λ (t : TypeTree). AllZip UnnamedPair (unnamed_result p.type p) (unnamed_result t q)) pair.type (by (is_void p.type))
     where
       some : AllZip UnnamedPair (if_unnamed p.name (ResultOf p.number)) (if_unnamed q.name (ResultOf q.number))
       some = subst (λ (n : Text). AllZip UnnamedPair (if_unnamed p.name (ResultOf p.number)) (if_unnamed n (ResultOf q.number))) pair.name (if_pair p.name (ResultOf p.number) (ResultOf q.number) (q.number, refl, pair.number))
 
-      by : (t : TypeTree) → AllZip UnnamedPair (unnamed_result t p) (unnamed_result t q)
-      by VoidType = tt
-      by (IntType w) = some
-      by (FunctionType r ts v) = some
+      by : (v : Bool) → AllZip UnnamedPair (if v then [] else if_unnamed p.name (ResultOf p.number)) (if v then [] else if_unnamed q.name (ResultOf q.number))
+      by true = tt
+      by false = some
 
   block_pair : (c d : Block) → BlocksAlike g h c d → AllZip UnnamedPair (unnamed_block c) (unnamed_block d)
   block_pair c d pair =
@@ -164,15 +164,14 @@ module _ (g h : D.Function) (alike : FunctionsAlike g h) (here : IsDistinctList 
   inst_same t (Applied r) (Phi ds) c = elim c [ ]
 
   gives_same : (t : TypeTree) (p q : Placed) → PlacedAlike g h p q → gives_of g t p ≡ gives_of h t q
-  gives_same t p q pair = by t
+  gives_same t p q pair = by (is_void t)
     where
       some : Some (local_text g p.name (ResultOf p.number)) ≡ Some (local_text h q.name (ResultOf q.number))
       some = ap (λ (n : Text). Some n) (local_same p.name (ResultOf p.number) (ResultOf q.number) (q.number, refl, pair.number) ∙ ap (λ (n : Text). local_text h n (ResultOf q.number)) pair.name)
 
-      by : (t : TypeTree) → gives_of g t p ≡ gives_of h t q
-      by VoidType = refl
-      by (IntType w) = some
-      by (FunctionType r ts v) = some
+      by : (v : Bool) → (if v then None else Some (local_text g p.name (ResultOf p.number))) ≡ (if v then None else Some (local_text h q.name (ResultOf q.number)))
+      by true = refl
+      by false = some
 
   line_same : (p q : Placed) → PlacedAlike g h p q → line_of g p ≡ line_of h q
   line_same p q pair =

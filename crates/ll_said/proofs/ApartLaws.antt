@@ -1,18 +1,19 @@
 -- No two things of a function have one place: each is new where it is defined.
-use Rattle.std.proofs.Common.{◌≡◌, ◌≢◌, ℕ, suc, ◌+◌, ◌≤◌, ◌⊎◌, inl, inr, Bool, true, false, List, [], ◌∷◌, ◌++◌, length, length-append, map, slice_get, Some, refl, ap, sym, ◌∙◌, subst, ne_eqb, arith}
+use Rattle.std.proofs.Common.{◌≡◌, ◌≢◌, ℕ, suc, ◌+◌, ◌≤◌, ◌⊎◌, inl, inr, Bool, true, false, if◌then◌else◌, List, [], ◌∷◌, ◌++◌, length, length-append, map, slice_get, Some, refl, ap, sym, ◌∙◌, subst, ne_eqb, arith}
 use Rattle.std.specs.List.{flat_map}
 use Rattle.std.specs.Option.{option_map}
 use Rattle.std.proofs.lemmas.List.{map-append}
 use Rattle.std.proofs.lemmas.Option.{slice_get-map, slice_get_within}
 use Rattle.support.specs.Interned.{IsDistinctList}
-use Rattle.llvm_core.specs.Data.{TypeTree, VoidType, IntType, FunctionType, Placed, Block, Function, placed_in}
+use Rattle.kinds.specs.Held.{is_void}
+use Rattle.llvm_core.specs.Data.{Placed, Block, Function, placed_in}
 use Rattle.llvm_core.specs.Form.{HasNumber}
 use Rattle.support.proofs.ListLaws.{slice_get-kept, slice_get-behind}
 use Rattle.ll_literals.specs.Text.{Text}
 use Rattle.ll_said.specs.Naming.{Unnamed, ParamAt, BlockOf, ResultOf, same_unnamed, if_unnamed}
 use Rattle.ll_said.proofs.PositionLaws.{position, position_cons, position_behind, same_self, same_is}
 use Rattle.ll_said.proofs.ScopeLaws.{Thing, Has, unnamed}
-use Rattle.ll_said.proofs.ThingLaws.{HasBlockNumber, param_things, result_thing, result_things, block_things, things, has_behind, has_either}
+use Rattle.ll_said.proofs.ThingLaws.{HasBlockNumber, param_things, thing_of, result_thing, result_things, block_things, things, has_behind, has_either}
 
 -- no thing of the list has that place
 abbrev pub IsNew : Unnamed → List Thing → Type 0
@@ -74,20 +75,21 @@ number_behind n ps qs h = (length ps + h.0, h.1, slice_get-behind ps qs h.0 ∙ 
 
 -- ---- what places there are
 
-is_result_here : (t : TypeTree) (p : Placed) (u : Thing) → Has u (result_thing t p) → u.place ≡ ResultOf p.number
-is_result_here VoidType p u h = absurd h
-is_result_here (IntType w) p u (inl same) = sym (ap (λ (v : Thing). v.place) same)
-is_result_here (IntType w) p u (inr h) = absurd h
-is_result_here (FunctionType r ts v) p u (inl same) = sym (ap (λ (v : Thing). v.place) same)
-is_result_here (FunctionType r ts v) p u (inr h) = absurd h
+is_result_here : (p : Placed) (u : Thing) → Has u (result_thing p) → u.place ≡ ResultOf p.number
+is_result_here p u h = by (is_void p.type) h
+  where
+    by : (v : Bool) → Has u (if v then [] else thing_of p ∷ []) → u.place ≡ ResultOf p.number
+    by true h = absurd h
+    by false (inl same) = sym (ap (λ (t : Thing). t.place) same)
+    by false (inr h) = absurd h
 
 -- that of an instruction
 is_result : (ps : List Placed) (u : Thing) → Has u (result_things ps) → (n : ℕ) × HasNumber n ps × (u.place ≡ ResultOf n)
 is_result [] u h = absurd h
-is_result (p ∷ ps) u h = by (is_result ps u) (has_either u (result_thing p.type p) (result_things ps) h)
+is_result (p ∷ ps) u h = by (is_result ps u) (has_either u (result_thing p) (result_things ps) h)
   where
-    by : (Has u (result_things ps) → (n : ℕ) × HasNumber n ps × (u.place ≡ ResultOf n)) → Has u (result_thing p.type p) ⊎ Has u (result_things ps) → (n : ℕ) × HasNumber n (p ∷ ps) × (u.place ≡ ResultOf n)
-    by further (inl here) = (p.number, (0, p, refl, refl), is_result_here p.type p u here)
+    by : (Has u (result_things ps) → (n : ℕ) × HasNumber n ps × (u.place ≡ ResultOf n)) → Has u (result_thing p) ⊎ Has u (result_things ps) → (n : ℕ) × HasNumber n (p ∷ ps) × (u.place ≡ ResultOf n)
+    by further (inl here) = (p.number, (0, p, refl, refl), is_result_here p u here)
     by further (inr later) = let o = further later in (o.0, (suc o.1.0, o.1.1, o.1.2, o.1.3), o.2)
 
 -- that of a parameter behind others
@@ -122,10 +124,12 @@ apart_params : (k : ℕ) (ns : List Text) → Apart (param_things k ns)
 apart_params k [] = tt
 apart_params k (n ∷ ns) = (λ t has. let o = is_param (suc k) ns t has in ap (same_unnamed (ParamAt k)) o.2 ∙ ne_eqb k o.0 (λ e. omega (arith, e, o.1)), apart_params (suc k) ns)
 
-apart_one : (t : TypeTree) (p : Placed) → Apart (result_thing t p)
-apart_one VoidType p = tt
-apart_one (IntType w) p = (λ u has. absurd has, tt)
-apart_one (FunctionType r ts v) p = (λ u has. absurd has, tt)
+apart_one : (p : Placed) → Apart (result_thing p)
+apart_one p = by (is_void p.type)
+  where
+    by : (v : Bool) → Apart (if v then [] else thing_of p ∷ [])
+    by true = tt
+    by false = (λ u has. absurd has, tt)
 
 -- two results of lists whose numbers differ
 results_differ : (ps qs : List Placed) (t u : Thing) (m : ℕ) → Differ (numbers ps) (numbers qs) → Has t (result_things ps) → HasNumber m qs → u.place ≡ ResultOf m → same_unnamed t.place u.place ≡ false
@@ -139,10 +143,10 @@ results_differ ps qs t u m differ has there at =
 apart_results : (ps : List Placed) → IsDistinctList (numbers ps) → Apart (result_things ps)
 apart_results [] h = tt
 apart_results (p ∷ ps) h =
-    apart_both (result_thing p.type p) (result_things ps) (apart_one p.type p) (apart_results ps (distinct_behind (p.number ∷ []) (numbers ps) h)) (λ t here u has.
+    apart_both (result_thing p) (result_things ps) (apart_one p) (apart_results ps (distinct_behind (p.number ∷ []) (numbers ps) h)) (λ t here u has.
     let o = is_result ps u has in
     let b = numbers_have ps o.0 o.1 in
-    ap (λ (x : Unnamed). same_unnamed x u.place) (is_result_here p.type p t here) ∙ ap (same_unnamed (ResultOf p.number)) o.2
+    ap (λ (x : Unnamed). same_unnamed x u.place) (is_result_here p t here) ∙ ap (same_unnamed (ResultOf p.number)) o.2
     ∙ ne_eqb p.number o.0 (λ e. distinct_differ (p.number ∷ []) (numbers ps) h 0 b.0 o.0 (ap (λ (k : ℕ). Some k) e) b.1))
 
 apart_blocks : (bs : List Block) → IsDistinctList (block_numbers bs) → IsDistinctList (numbers (flat_map (λ (b : Block). b.instructions) bs)) → Apart (flat_map block_things bs)

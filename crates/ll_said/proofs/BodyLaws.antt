@@ -1,8 +1,9 @@
 -- The definitions and the blocks of a body, in order.
-use Rattle.std.proofs.Common.{◌≡◌, ℕ, suc, ◌+◌, List, [], ◌∷◌, ◌++◌, length, map, drop, Option, Some, refl, ap, sym, ◌∙◌, subst, append_assoc}
+use Rattle.std.proofs.Common.{◌≡◌, ℕ, suc, ◌+◌, Bool, true, false, if◌then◌else◌, List, [], ◌∷◌, ◌++◌, length, map, drop, Option, Some, None, refl, ap, sym, ◌∙◌, subst, append_assoc}
 use Rattle.std.specs.List.{flat_map, AllByRecursion}
 use Rattle.std.proofs.lemmas.List.{append-nil, length-map}
-use Rattle.kinds.specs.Types.{TypeTree, VoidType, IntType, FunctionType}
+use Rattle.kinds.specs.Types.{TypeTree}
+use Rattle.kinds.specs.Held.{is_void, own_type}
 use Rattle.llvm_core.specs.Names.{IsPlainOrNone}
 use Rattle.llvm_core.specs.Data.{Result, Placed, Block, Function, operand_type}
 use Rattle.ll_literals.specs.Text.{Text}
@@ -20,8 +21,8 @@ use Rattle.ll_said.proofs.KnownLaws.{scope_after, scope_of, type_of_result}
 use Rattle.ll_said.proofs.LineLaws.{IsLine, name_said, line_said}
 use Rattle.ll_said.proofs.NameLaws.{key_in, local_says, label_says}
 use Rattle.ll_said.proofs.ScopeLaws.{Thing}
-use Rattle.ll_said.proofs.ThingLaws.{param_things, result_thing, result_things, block_thing, block_things, things}
-use Rattle.ll_said.proofs.TypeLaws.{type_option, type_said}
+use Rattle.ll_said.proofs.ThingLaws.{param_things, thing_of, result_thing, result_things, block_thing, block_things, things}
+use Rattle.ll_said.proofs.TypeLaws.{type_said}
 
 -- ---- parameters
 
@@ -38,33 +39,35 @@ params_define f h done rest i (n ∷ ns) whole plain =
 
 -- ---- results
 
-valued_defines : (f : Function) → IsSayable f → (done rest : List Thing) (type : TypeTree) (p : Placed) → things f ≡ done ++ (record { name = p.name; place = ResultOf p.number } ∷ rest) → IsPlainOrNone p.name → operand_type f (Result p.number) ≡ type
-    → define_written (scope_after f done) (ValueLocal (Result p.number) type) local_key (Some (local_text f p.name (ResultOf p.number))) ≡ Some (scope_after f (done ++ record { name = p.name; place = ResultOf p.number } ∷ []))
+valued_defines : (f : Function) → IsSayable f → (done rest : List Thing) (type : TypeTree) (p : Placed) → things f ≡ done ++ (thing_of p ∷ rest) → IsPlainOrNone p.name → operand_type f (Result p.number) ≡ type
+    → define_written (scope_after f done) (ValueLocal (Result p.number) type) local_key (Some (local_text f p.name (ResultOf p.number))) ≡ Some (scope_after f (done ++ thing_of p ∷ []))
 valued_defines f h done rest type p whole plain typed =
-    let t : Thing = record { name = p.name; place = ResultOf p.number } in
     let text = local_text f p.name (ResultOf p.number) in
     ap (λ (τ : TypeTree). define_written (scope_after f done) (ValueLocal (Result p.number) τ) local_key (Some text)) (sym typed)
-    ∙ defines f h done rest t local_key text whole (local_says f p.name (ResultOf p.number) h.few plain)
+    ∙ defines f h done rest (thing_of p) local_key text whole (local_says f p.name (ResultOf p.number) h.few plain)
 
 -- a result, where there is one
-result_defines : (f : Function) → IsSayable f → (done rest : List Thing) (type : TypeTree) (p : Placed) → things f ≡ done ++ (result_thing type p ++ rest) → IsPlainOrNone p.name → operand_type f (Result p.number) ≡ type
-    → result_scope (scope_after f done) p.number (type_option type) (gives_of f type p) ≡ Some (scope_after f (done ++ result_thing type p))
-result_defines f h done rest VoidType p whole plain typed = ap (λ (ts : List Thing). Some (scope_after f ts)) (sym (append-nil done))
-result_defines f h done rest (IntType w) p whole plain typed = valued_defines f h done rest (IntType w) p whole plain typed
-result_defines f h done rest (FunctionType r ts v) p whole plain typed = valued_defines f h done rest (FunctionType r ts v) p whole plain typed
+result_defines : (f : Function) → IsSayable f → (done rest : List Thing) (p : Placed) → things f ≡ done ++ (result_thing p ++ rest) → IsPlainOrNone p.name → operand_type f (Result p.number) ≡ p.type
+    → result_scope (scope_after f done) p.number (own_type p.type) (gives_of f p.type p) ≡ Some (scope_after f (done ++ result_thing p))
+result_defines f h done rest p whole plain typed = by (is_void p.type) whole
+  where
+    by : (v : Bool) → things f ≡ done ++ ((if v then [] else thing_of p ∷ []) ++ rest)
+        → result_scope (scope_after f done) p.number (if v then None else Some p.type) (if v then None else Some (local_text f p.name (ResultOf p.number))) ≡ Some (scope_after f (done ++ (if v then [] else thing_of p ∷ [])))
+    by true whole = ap (λ (ts : List Thing). Some (scope_after f ts)) (sym (append-nil done))
+    by false whole = valued_defines f h done rest p.type p whole plain typed
 
-line_defines : (f : Function) → IsSayable f → (done rest : List Thing) (n : ℕ) (p : Placed) → things f ≡ done ++ (result_thing p.type p ++ rest) → IsLine f p → p.number ≡ n
-    → result_scope (scope_after f done) n (result_type (inst_of f p.type p.instruction)) (gives_of f p.type p) ≡ Some (scope_after f (done ++ result_thing p.type p))
+line_defines : (f : Function) → IsSayable f → (done rest : List Thing) (n : ℕ) (p : Placed) → things f ≡ done ++ (result_thing p ++ rest) → IsLine f p → p.number ≡ n
+    → result_scope (scope_after f done) n (result_type (inst_of f p.type p.instruction)) (gives_of f p.type p) ≡ Some (scope_after f (done ++ result_thing p))
 line_defines f h done rest n p whole line numbered =
     ap (λ (k : ℕ). result_scope (scope_after f done) k (result_type (inst_of f p.type p.instruction)) (gives_of f p.type p)) (sym numbered)
     ∙ ap (λ (o : Option TypeTree). result_scope (scope_after f done) p.number o (gives_of f p.type p)) (type_said f line.block p.type p.instruction line.form.instruction)
-    ∙ result_defines f h done rest p.type p whole line.form.name (type_of_result f h.form line.place p line.at)
+    ∙ result_defines f h done rest p whole line.form.name (type_of_result f h.form line.place p line.at)
 
 lines_define : (f : Function) → IsSayable f → (done rest : List Thing) (n : ℕ) (ps : List Placed) → things f ≡ done ++ (result_things ps ++ rest) → AllByRecursion (IsLine f) ps → IsCounted placed_number n ps
     → lines_scope (scope_after f done) n (map (line_of f) ps) ≡ Some (scope_after f (done ++ result_things ps))
 lines_define f h done rest n [] whole lines numbered = ap (λ (ts : List Thing). Some (scope_after f ts)) (sym (append-nil done))
 lines_define f h done rest n (p ∷ ps) whole lines numbered =
-    let one = result_thing p.type p in
+    let one = result_thing p in
     let more = result_things ps in
     let split : things f ≡ done ++ (one ++ (more ++ rest)) = whole ∙ ap (λ (ts : List Thing). done ++ ts) (append_assoc one more rest) in
     let later : things f ≡ (done ++ one) ++ (more ++ rest) = split ∙ sym (append_assoc done one (more ++ rest)) in

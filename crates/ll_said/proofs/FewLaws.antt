@@ -4,7 +4,8 @@ use Rattle.std.specs.List.{flat_map, AllByRecursion}
 use Rattle.std.specs.Option.{option_map, option_map_or}
 use Rattle.std.proofs.lemmas.List.Elements.{All-from_recursion}
 use Rattle.std.proofs.lemmas.Option.{same_Some}
-use Rattle.kinds.specs.Types.{TypeTree, VoidType, IntType, FunctionType}
+use Rattle.kinds.specs.Types.{TypeTree, VoidType}
+use Rattle.kinds.specs.Held.{is_void}
 use Rattle.llvm_core.specs.Data.{Result, Parameter, Placed, Block, Function, ModuleData}
 use Rattle.llvm_core.specs.Form.{IsForm, HasDistinctNames}
 use Rattle.ll_literals.specs.Text.{Text}
@@ -102,9 +103,11 @@ result_rises s t n l p of e = by (result_type l.inst) of.type e
     named τ e = subst (λ (m : Text). Rises (if_unnamed m (ResultOf p.number)) s t) (sym of.name) (written_rises s (ValueLocal (Result n) τ) local_key local_proper l.result t (ResultOf p.number) e)
 
     typed : (τ : TypeTree) → define_written s (ValueLocal (Result n) τ) local_key l.result ≡ Some t → Rises (unnamed_result τ p) s t
-    typed VoidType e = weaker (if_unnamed p.name (ResultOf p.number)) s t (named VoidType e)
-    typed (IntType w) e = named (IntType w) e
-    typed (FunctionType r ts v) e = named (FunctionType r ts v) e
+    typed τ e = by (is_void τ)
+      where
+        by : (v : Bool) → Rises (if v then [] else if_unnamed p.name (ResultOf p.number)) s t
+        by true = weaker (if_unnamed p.name (ResultOf p.number)) s t (named τ e)
+        by false = named τ e
 
     untyped : (w : Option Text) → result_scope s n None w ≡ Some t → Rises [] s t
     untyped None e = subst (Rises [] s) (same_Some s t e) (still s)

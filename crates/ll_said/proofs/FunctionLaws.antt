@@ -1,11 +1,11 @@
 -- What the text of a function says means the function.
 use Rattle.std.proofs.Common.{◌≡◌, ℕ, suc, ◌+◌, false, List, [], ◌∷◌, ◌++◌, length, map, slice_get, Some, refl, ap, sym, ◌∙◌, subst, arith}
 use Rattle.std.specs.List.{flat_map, AllByRecursion}
-use Rattle.kinds.specs.Types.{TypeTree, FunctionType, TypeTrees, NoTypes, ThenType}
+use Rattle.kinds.specs.Types.{TypeTree, FunctionType, TypeTrees, NoTypes, ThenType, count_types, result_of}
 use Rattle.support.proofs.ListLaws.{in_joined}
 use Rattle.llvm_core.specs.Names.{IsPlainOrNone}
 use Rattle.llvm_core.specs.Data.{Placed, Block, Function, nth_type, param_type}
-use Rattle.llvm_core.specs.Form.{IsFormPlaced, IsFormBlock, count_types, result_of}
+use Rattle.llvm_core.specs.Form.{IsFormPlaced, IsFormBlock}
 use Rattle.llvm_core.proofs.DataLemmas.{within_at}
 use Rattle.ll_literals.specs.Text.{Text}
 use Rattle.ll_lines.specs.Lines as L

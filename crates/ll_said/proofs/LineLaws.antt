@@ -1,9 +1,11 @@
 -- A line means the instruction that it says.
-use Rattle.std.proofs.Common.{◌≡◌, ℕ, List, [], ◌∷◌, map, slice_get, Option, Some, refl, ap, sym, ◌∙◌}
+use Rattle.std.proofs.Common.{◌≡◌, ℕ, Bool, true, false, if◌then◌else◌, List, [], ◌∷◌, map, slice_get, Option, Some, None, refl, ap, sym, ◌∙◌}
 use Rattle.std.specs.Option.{option_map_or}
-use Rattle.kinds.specs.Types.{TypeTree, VoidType, IntType, FunctionType}
+use Rattle.kinds.specs.Types.{TypeTree, VoidType}
+use Rattle.kinds.specs.Held.{is_void, IsHeld}
+use Rattle.kinds.proofs.HeldLaws.{void_is, held_own}
 use Rattle.llvm_core.specs.Data.{Operand, RowData, Instruction, Phi, Applied, Placed, Function, operand_type, placed_in}
-use Rattle.llvm_core.specs.Form.{IsOperand, IsOperandOf, IsShortInt, IsTarget, types_of, IsFormRow, IsFormInstruction, IsFormPlaced}
+use Rattle.llvm_core.specs.Form.{IsOperand, IsOperandOf, IsTarget, types_of, IsFormRow, IsFormInstruction, IsFormPlaced}
 use Rattle.llvm_core.specs.Names.{IsPlainOrNone}
 use Rattle.llvm_core.proofs.DataLemmas.{within_at}
 use Rattle.std.proofs.lemmas.Option.{slice_get-map}
@@ -20,8 +22,8 @@ use Rattle.ll_said.proofs.AllLaws.{all_of-map}
 use Rattle.ll_said.proofs.EdgeLaws.{entry_block, target_block}
 use Rattle.ll_said.proofs.KnownLaws.{scope_of}
 use Rattle.ll_said.proofs.NameLaws.{key_in, local_says}
-use Rattle.ll_said.proofs.OperandLaws.{operand_said, block_said, entry_said, short_valued}
-use Rattle.ll_said.proofs.TypeLaws.{option_type, types_said, type_said}
+use Rattle.ll_said.proofs.OperandLaws.{operand_said, block_said, entry_said}
+use Rattle.ll_said.proofs.TypeLaws.{own_or_void, types_said, type_said}
 
 -- ---- instructions
 
@@ -33,11 +35,11 @@ phi_said f h b type es form =
 row_said : (f : Function) → IsSayable f → (type : TypeTree) (r : RowData) → IsFormRow f type r → instruction (scope_of f) (inst_of f type (Applied r)) ≡ Some (Applied r)
 row_said f h type r form = rw (operands, targets, types_said f r.operands, form.fits) refl
   where
-    short_at : (i : ℕ) (o : Operand) → slice_get r.operands i ≡ Some o → IsShortInt (operand_type f o)
-    short_at i o at = within_at (types_of f r.operands) IsShortInt form.short i (operand_type f o) (slice_get-map (operand_type f) r.operands i ∙ ap (option_map (operand_type f)) at)
+    held_at : (i : ℕ) (o : Operand) → slice_get r.operands i ≡ Some o → IsHeld (operand_type f o)
+    held_at i o at = within_at (types_of f r.operands) IsHeld form.held i (operand_type f o) (slice_get-map (operand_type f) r.operands i ∙ ap (option_map (operand_type f)) at)
 
     operands : all_of (λ (x : Typed). operand (scope_of f) x.type x.said) (map (typed_of f) r.operands) ≡ Some r.operands
-    operands = all_of-map (λ (x : Typed). operand (scope_of f) x.type x.said) (typed_of f) r.operands (λ i o at. operand_said f h o (within_at r.operands (IsOperandOf f) form.operands i o at) (short_valued (operand_type f o) (short_at i o at)))
+    operands = all_of-map (λ (x : Typed). operand (scope_of f) x.type x.said) (typed_of f) r.operands (λ i o at. operand_said f h o (within_at r.operands (IsOperandOf f) form.operands i o at) (held_own (operand_type f o) (held_at i o at)))
 
     targets : all_of (block_of (scope_of f)) (map (block_ref f) r.targets) ≡ Some r.targets
     targets = all_of-map (block_of (scope_of f)) (block_ref f) r.targets (λ i n at. block_said f h n (target_block f n (within_at r.targets (IsTarget f) form.targets i n at)))
@@ -55,9 +57,11 @@ name_said f h [] x key t says = ap key_name says
 name_said f h (c ∷ cs) x key t says = ap key_name says
 
 gives_said : (f : Function) → IsSayable f → (type : TypeTree) (p : Placed) → IsPlainOrNone p.name → (type ≡ VoidType → p.name ≡ []) → written_name local_key (gives_of f type p) ≡ p.name
-gives_said f h VoidType p plain none = sym (none refl)
-gives_said f h (IntType w) p plain none = name_said f h p.name (ResultOf p.number) local_key (local_text f p.name (ResultOf p.number)) (local_says f p.name (ResultOf p.number) h.few plain)
-gives_said f h (FunctionType r ts v) p plain none = name_said f h p.name (ResultOf p.number) local_key (local_text f p.name (ResultOf p.number)) (local_says f p.name (ResultOf p.number) h.few plain)
+gives_said f h type p plain none = by (is_void type) refl
+  where
+    by : (v : Bool) → is_void type ≡ v → written_name local_key (if v then None else Some (local_text f p.name (ResultOf p.number))) ≡ p.name
+    by true e = sym (none (void_is type e))
+    by false e = name_said f h p.name (ResultOf p.number) local_key (local_text f p.name (ResultOf p.number)) (local_says f p.name (ResultOf p.number) h.few plain)
 
 -- ---- lines
 
@@ -76,7 +80,7 @@ same_placed p n name type e g k = rw (← e, g, k) refl
 pub line_said : (f : Function) → IsSayable f → (n : ℕ) (p : Placed) → IsLine f p → p.number ≡ n → placed (scope_of f) n (line_of f p) ≡ Some p
 line_said f h n p line numbered =
     let typed : option_map_or (λ (τ : TypeTree). τ) (result_type (inst_of f p.type p.instruction)) VoidType ≡ p.type =
-    ap (λ (o : Option TypeTree). option_map_or (λ (τ : TypeTree). τ) o VoidType) (type_said f line.block p.type p.instruction line.form.instruction) ∙ option_type p.type in
+    ap (λ (o : Option TypeTree). option_map_or (λ (τ : TypeTree). τ) o VoidType) (type_said f line.block p.type p.instruction line.form.instruction) ∙ own_or_void p.type in
     let named = gives_said f h p.type p line.form.name line.form.unnamed in
     ap (λ (o : Option Instruction). o >>= λ (i : Instruction). Some (let x : Placed = record {
       number = n;

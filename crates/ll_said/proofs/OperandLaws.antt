@@ -1,12 +1,14 @@
 -- What is said of operands and blocks stands for them in the scope of the whole function.
-use Rattle.std.proofs.Common.{◌≡◌, ◌≢◌, ℕ, ◌+◌, ◌<◌, Bool, cond, [], get_or, length, slice_get, Some, refl, ap, sym, ◌∙◌, subst, eq-eqb, arith}
+use Rattle.std.proofs.Common.{◌≡◌, ℕ, ◌+◌, ◌<◌, Bool, false, cond, [], get_or, length, slice_get, Some, refl, ap, sym, ◌∙◌, subst, eq-eqb, arith}
 use Rattle.std.specs.List.{flat_map}
 use Rattle.std.proofs.lemmas.Option.{slice_get-get_or}
 use Rattle.kinds.specs.Types.{TypeTree, VoidType}
+use Rattle.kinds.specs.Held.{is_void}
 use Rattle.kinds.proofs.TypeLaws.{tree_self}
+use Rattle.kinds.proofs.HeldLaws.{held_own}
 use Rattle.llvm_core.specs.Names.{IsPlainOrNone}
 use Rattle.llvm_core.specs.Data.{Operand, Constant, Parameter, Result, Placed, Block, Function, operand_type, placed_in, param_type, const_type}
-use Rattle.llvm_core.specs.Form.{IsOperandOf, IsOperand, IsFormBlock, IsShortInt}
+use Rattle.llvm_core.specs.Form.{IsOperandOf, IsOperand, IsFormBlock}
 use Rattle.llvm_core.proofs.DataLemmas.{within_at}
 use Rattle.ll_literals.specs.Text.{Text}
 use Rattle.ll_lines.specs.Lines.{Local}
@@ -17,7 +19,7 @@ use Rattle.ll_said.specs.Said.{said_of, entry_of}
 use Rattle.ll_said.specs.Sayable.{IsSayable}
 use Rattle.ll_said.proofs.NameLaws.{key_in, local_says}
 use Rattle.ll_said.proofs.ScopeLaws.{Thing, Has}
-use Rattle.ll_said.proofs.ThingLaws.{HasBlockNumber, param_things, block_thing, block_things, has_front, has_behind, has_param, has_block, has_placed}
+use Rattle.ll_said.proofs.ThingLaws.{HasBlockNumber, param_things, thing_of, block_thing, block_things, has_front, has_behind, has_param, has_block, has_placed}
 use Rattle.ll_said.proofs.KnownLaws.{scope_of, placed_name, type_of_result, name_of_result, block_ref_is, known_key}
 
 -- ---- values
@@ -26,13 +28,12 @@ local_value : (f : Function) → IsSayable f → (n : Text) (x : Unnamed) (o : O
     → operand (scope_of f) τ (Local (local_text f n x)) ≡ Some o
 local_value f h n x o τ plain known = rw (local_says f n x h.few plain, known, tree_self τ) refl
 
-result_said : (f : Function) → IsSayable f → (i : ℕ) (p : Placed) → slice_get (placed_in f) i ≡ Some p → p.type ≢ VoidType
+result_said : (f : Function) → IsSayable f → (i : ℕ) (p : Placed) → slice_get (placed_in f) i ≡ Some p → is_void p.type ≡ false
     → operand (scope_of f) (operand_type f (Result p.number)) (said_of f (Result p.number)) ≡ Some (Result p.number)
 result_said f h i p at some =
-    let t : Thing = record { name = p.name; place = ResultOf p.number } in
-    let has = has_behind t (param_things 0 f.params) (flat_map block_things f.blocks) (has_placed f.blocks i p at some) in
+    let has = has_behind (thing_of p) (param_things 0 f.params) (flat_map block_things f.blocks) (has_placed f.blocks i p at some) in
     ap (λ (n : Text). operand (scope_of f) (operand_type f (Result p.number)) (Local (local_text f n (ResultOf p.number)))) (name_of_result f h.form i p at)
-    ∙ local_value f h p.name (ResultOf p.number) (Result p.number) (operand_type f (Result p.number)) (placed_name f h.form i p at) (known_key f h t has)
+    ∙ local_value f h p.name (ResultOf p.number) (Result p.number) (operand_type f (Result p.number)) (placed_name f h.form i p at) (known_key f h (thing_of p) has)
 
 param_said : (f : Function) → IsSayable f → (i : ℕ) → i < length f.params → operand (scope_of f) (param_type f.type i) (said_of f (Parameter f.number i)) ≡ Some (Parameter f.number i)
 param_said f h i within =
@@ -44,7 +45,7 @@ param_said f h i within =
     local_value f h n (ParamAt i) (Parameter f.number i) (param_type f.type i) (h.form.param_names i [] within) (known_key f h t has)
 
 -- an operand of the function
-pub operand_said : (f : Function) → IsSayable f → (o : Operand) → IsOperandOf f o → operand_type f o ≢ VoidType → operand (scope_of f) (operand_type f o) (said_of f o) ≡ Some o
+pub operand_said : (f : Function) → IsSayable f → (o : Operand) → IsOperandOf f o → is_void (operand_type f o) ≡ false → operand (scope_of f) (operand_type f o) (said_of f o) ≡ Some o
 operand_said f h (Constant c) stands some = rw (tree_self (const_type c)) refl
 operand_said f h (Parameter g i) stands some =
     let own : operand_type f (Parameter f.number i) ≡ param_type f.type i = ap (λ (b : Bool). cond b (param_type f.type i) VoidType) (eq-eqb f.number f.number refl) in
@@ -52,12 +53,9 @@ operand_said f h (Parameter g i) stands some =
     subst (λ (k : ℕ). operand (scope_of f) (operand_type f (Parameter k i)) (said_of f (Parameter k i)) ≡ Some (Parameter k i)) (sym stands.0) said
 operand_said f h (Result n) stands some =
     let p = stands.1 in
-    let valued : p.type ≢ VoidType = λ e. some (ap (λ (k : ℕ). operand_type f (Result k)) (sym stands.3) ∙ type_of_result f h.form stands.0 p stands.2 ∙ e) in
+    let own = ap (λ (k : ℕ). operand_type f (Result k)) (sym stands.3) ∙ type_of_result f h.form stands.0 p stands.2 in
+    let valued : is_void p.type ≡ false = ap is_void (sym own) ∙ some in
     subst (λ (k : ℕ). operand (scope_of f) (operand_type f (Result k)) (said_of f (Result k)) ≡ Some (Result k)) stands.3 (result_said f h stands.0 p stands.2 valued)
-
--- an integer type is not void
-pub short_valued : (τ : TypeTree) → IsShortInt τ → τ ≢ VoidType
-short_valued τ short e = rw e at short
 
 -- ---- blocks
 
@@ -77,6 +75,6 @@ block_said f h n has = subst (λ (k : ℕ). block_of (scope_of f) (block_ref f k
 -- an entry of a phi
 pub entry_said : (f : Function) → IsSayable f → (τ : TypeTree) (e : Operand × ℕ) → IsOperand f τ e.0 → HasBlockNumber e.1 f.blocks → entry (scope_of f) τ (entry_of f e) ≡ Some e
 entry_said f h τ e op has =
-    let valued : operand_type f e.0 ≢ VoidType = λ v. short_valued τ op.short (sym op.typed ∙ v) in
+    let valued : is_void (operand_type f e.0) ≡ false = ap is_void op.typed ∙ held_own τ op.held in
     let value : operand (scope_of f) τ (said_of f e.0) ≡ Some e.0 = subst (λ (υ : TypeTree). operand (scope_of f) υ (said_of f e.0) ≡ Some e.0) op.typed (operand_said f h e.0 op.stands valued) in
     rw (value, block_said f h e.1 has) refl

@@ -1,10 +1,12 @@
 -- The parameters, the blocks and the results of a function, in the order of its text.
-use Rattle.std.proofs.Common.{◌≡◌, ◌≢◌, ℕ, zero, suc, ◌+◌, ◌⊎◌, inl, inr, List, [], ◌∷◌, ◌++◌, slice_get, Some, refl, ap, ◌∙◌, subst, arith}
+use Rattle.std.proofs.Common.{◌≡◌, ℕ, zero, suc, ◌+◌, ◌⊎◌, inl, inr, Bool, true, false, if◌then◌else◌, List, [], ◌∷◌, ◌++◌, slice_get, Some, refl, ap, sym, ◌∙◌, subst, arith}
 use Rattle.std.specs.List.{flat_map}
 use Rattle.std.proofs.lemmas.List.{append-nil}
 use Rattle.std.proofs.lemmas.Grind.{flat_map-append}
+use Rattle.kinds.specs.Held.{is_void}
+use Rattle.kinds.proofs.HeldLaws.{void_is}
 use Rattle.llvm_core.specs.Checked.{named}
-use Rattle.llvm_core.specs.Data.{TypeTree, VoidType, IntType, FunctionType, Placed, Block, Function}
+use Rattle.llvm_core.specs.Data.{VoidType, Placed, Block, Function}
 use Rattle.llvm_core.specs.Form.{names_in, local_names}
 use Rattle.ll_literals.specs.Text.{Text}
 use Rattle.ll_said.specs.Naming.{Unnamed, ParamAt, BlockOf, ResultOf, if_unnamed, unnamed_params, unnamed_result, unnamed_block, unnamed_in}
@@ -17,12 +19,15 @@ param_things i (n ∷ ns) = (record { name = n; place = ParamAt i }) ∷ param_t
 abbrev pub block_thing : Block → Thing
 block_thing b = record { name = b.name; place = BlockOf b.number }
 
-abbrev pub result_thing : TypeTree → Placed → List Thing
-result_thing VoidType p = []
-result_thing type p = (record { name = p.name; place = ResultOf p.number }) ∷ []
+abbrev pub thing_of : Placed → Thing
+thing_of p = record { name = p.name; place = ResultOf p.number }
+
+-- of an instruction: its result, where it has one
+abbrev pub result_thing : Placed → List Thing
+result_thing p = if is_void p.type then [] else thing_of p ∷ []
 
 abbrev pub result_things : List Placed → List Thing
-result_things ps = flat_map (λ (p : Placed). result_thing p.type p) ps
+result_things ps = flat_map result_thing ps
 
 -- a block, and then its results
 abbrev pub block_things : Block → List Thing
@@ -42,16 +47,18 @@ names_of_params : (i : ℕ) (ns : List Text) → names (param_things i ns) ≡ f
 names_of_params i [] = refl
 names_of_params i (n ∷ ns) = ap (λ (xs : List Text). named n ++ xs) (names_of_params (suc i) ns)
 
-unnamed_of_result : (t : TypeTree) (p : Placed) → unnamed (result_thing t p) ≡ unnamed_result t p
-unnamed_of_result VoidType p = refl
-unnamed_of_result (IntType w) p = append-nil (if_unnamed p.name (ResultOf p.number))
-unnamed_of_result (FunctionType r ts v) p = append-nil (if_unnamed p.name (ResultOf p.number))
+unnamed_of_result : (p : Placed) → unnamed (result_thing p) ≡ unnamed_result p.type p
+unnamed_of_result p = by (is_void p.type)
+  where
+    by : (v : Bool) → unnamed (if v then [] else thing_of p ∷ []) ≡ (if v then [] else if_unnamed p.name (ResultOf p.number))
+    by true = refl
+    by false = append-nil (if_unnamed p.name (ResultOf p.number))
 
 unnamed_of_results : (ps : List Placed) → unnamed (result_things ps) ≡ flat_map (λ (p : Placed). unnamed_result p.type p) ps
 unnamed_of_results [] = refl
 unnamed_of_results (p ∷ ps) =
-    flat_map-append (λ (t : Thing). if_unnamed t.name t.place) (result_thing p.type p) (result_things ps)
-    ∙ ap (λ (xs : List Unnamed). xs ++ unnamed (result_things ps)) (unnamed_of_result p.type p)
+    flat_map-append (λ (t : Thing). if_unnamed t.name t.place) (result_thing p) (result_things ps)
+    ∙ ap (λ (xs : List Unnamed). xs ++ unnamed (result_things ps)) (unnamed_of_result p)
     ∙ ap (λ (xs : List Unnamed). unnamed_result p.type p ++ xs) (unnamed_of_results ps)
 
 unnamed_of_blocks : (bs : List Block) → unnamed (flat_map block_things bs) ≡ flat_map unnamed_block bs
@@ -71,16 +78,18 @@ unnamed_of_things f =
 abbrev pub NamesResults : List Placed → Type 0
 NamesResults ps = (i : ℕ) (p : Placed) → slice_get ps i ≡ Some p → p.type ≡ VoidType → p.name ≡ []
 
-names_of_result : (t : TypeTree) (p : Placed) → (t ≡ VoidType → p.name ≡ []) → names (result_thing t p) ≡ named p.name
-names_of_result VoidType p h = rw (h refl) refl
-names_of_result (IntType w) p h = append-nil (named p.name)
-names_of_result (FunctionType r ts v) p h = append-nil (named p.name)
+names_of_result : (p : Placed) → (p.type ≡ VoidType → p.name ≡ []) → names (result_thing p) ≡ named p.name
+names_of_result p h = by (is_void p.type) refl
+  where
+    by : (v : Bool) → is_void p.type ≡ v → names (if v then [] else thing_of p ∷ []) ≡ named p.name
+    by true e = ap named (sym (h (void_is p.type e)))
+    by false e = append-nil (named p.name)
 
 names_of_results : (ps : List Placed) → NamesResults ps → names (result_things ps) ≡ flat_map (λ (p : Placed). named p.name) ps
 names_of_results [] h = refl
 names_of_results (p ∷ ps) h =
-    flat_map-append (λ (t : Thing). named t.name) (result_thing p.type p) (result_things ps)
-    ∙ ap (λ (xs : List Text). xs ++ names (result_things ps)) (names_of_result p.type p (h 0 p refl))
+    flat_map-append (λ (t : Thing). named t.name) (result_thing p) (result_things ps)
+    ∙ ap (λ (xs : List Text). xs ++ names (result_things ps)) (names_of_result p (h 0 p refl))
     ∙ ap (λ (xs : List Text). named p.name ++ xs) (names_of_results ps (λ i q at. h (suc i) q at))
 
 -- and so in each block
@@ -128,17 +137,13 @@ has_param k zero (m ∷ ns) n at =
     inl (rw same (ap (λ (j : ℕ). let t : Thing = record { name = n; place = ParamAt j } in t) e))
 has_param k (suc i) (m ∷ ns) n at = inr (let e : suc k + i ≡ k + suc i = omega arith in subst (λ (j : ℕ). Has (record { name = n; place = ParamAt j }) (param_things (suc k) ns)) e (has_param (suc k) i ns n at))
 
-pub has_result_here : (t : TypeTree) (p : Placed) → t ≢ VoidType → Has (record { name = p.name; place = ResultOf p.number }) (result_thing t p)
-has_result_here VoidType p h = absurd (h refl)
-has_result_here (IntType w) p h = inl refl
-has_result_here (FunctionType r ts v) p h = inl refl
-
-pub has_result : (ps : List Placed) (i : ℕ) (p : Placed) → slice_get ps i ≡ Some p → p.type ≢ VoidType → Has (record { name = p.name; place = ResultOf p.number }) (result_things ps)
+has_result : (ps : List Placed) (i : ℕ) (p : Placed) → slice_get ps i ≡ Some p → is_void p.type ≡ false → Has (thing_of p) (result_things ps)
 has_result [] i p at h = absurd cc
 has_result (q ∷ ps) zero p at h =
     let same : q ≡ p = cc in
-    has_front _ (result_thing q.type q) (result_things ps) (rw same (has_result_here p.type p h))
-has_result (q ∷ ps) (suc i) p at h = has_behind _ (result_thing q.type q) (result_things ps) (has_result ps i p at h)
+    let here : Has (thing_of p) (result_thing p) = rw h (inl refl) in
+    has_front (thing_of p) (result_thing q) (result_things ps) (rw same here)
+has_result (q ∷ ps) (suc i) p at h = has_behind (thing_of p) (result_thing q) (result_things ps) (has_result ps i p at h)
 
 pub has_block : (bs : List Block) (i : ℕ) (b : Block) → slice_get bs i ≡ Some b → Has (block_thing b) (flat_map block_things bs)
 has_block [] i b at = absurd cc
@@ -149,7 +154,7 @@ has_block (c ∷ bs) (suc i) b at = has_behind (block_thing b) (block_things c) 
 results_in : (bs : List Block) (t : Thing) → Has t (result_things (flat_map (λ (b : Block). b.instructions) bs)) → Has t (flat_map block_things bs)
 results_in [] t h = h
 results_in (b ∷ bs) t h =
-    by (results_in bs t) (has_either t (result_things b.instructions) (result_things rest) (subst (Has t) (flat_map-append (λ (p : Placed). result_thing p.type p) b.instructions rest) h))
+    by (results_in bs t) (has_either t (result_things b.instructions) (result_things rest) (subst (Has t) (flat_map-append result_thing b.instructions rest) h))
   where
     rest : List Placed
     rest = flat_map (λ (b : Block). b.instructions) bs
@@ -158,5 +163,5 @@ results_in (b ∷ bs) t h =
     by further (inl here) = has_front t (block_things b) (flat_map block_things bs) (inr here)
     by further (inr later) = has_behind t (block_things b) (flat_map block_things bs) (further later)
 
-pub has_placed : (bs : List Block) (i : ℕ) (p : Placed) → slice_get (flat_map (λ (b : Block). b.instructions) bs) i ≡ Some p → p.type ≢ VoidType → Has (record { name = p.name; place = ResultOf p.number }) (flat_map block_things bs)
-has_placed bs i p at h = results_in bs (record { name = p.name; place = ResultOf p.number }) (has_result (flat_map (λ (b : Block). b.instructions) bs) i p at h)
+pub has_placed : (bs : List Block) (i : ℕ) (p : Placed) → slice_get (flat_map (λ (b : Block). b.instructions) bs) i ≡ Some p → is_void p.type ≡ false → Has (thing_of p) (flat_map block_things bs)
+has_placed bs i p at h = results_in bs (thing_of p) (has_result (flat_map (λ (b : Block). b.instructions) bs) i p at h)

@@ -1,5 +1,5 @@
 -- The type of what a line gives, from the types of its operands.
-use Rattle.std.proofs.Common.{◌≡◌, ◌≢◌, ℕ, true, List, [], ◌∷◌, ◌++◌, length, map, slice_get, Option, Some, None, refl, ap, sym, ◌∙◌}
+use Rattle.std.proofs.Common.{◌≡◌, ℕ, Bool, true, false, List, [], ◌∷◌, ◌++◌, length, map, slice_get, Option, Some, None, refl, ap, sym, ◌∙◌}
 use Rattle.std.specs.Prelude.{unwrap_or}
 use Rattle.std.specs.Option.{option_map_or}
 use Rattle.std.proofs.lemmas.Bool.{and_parts}
@@ -7,48 +7,45 @@ use Rattle.std.proofs.lemmas.Option.{same_Some}
 use Rattle.kinds.specs.declared.op.Op.{Op}
 use Rattle.kinds.specs.declared.rules.Gives.{Gives}
 use Rattle.kinds.specs.declared.rules.Gives.TheVariants as G
-use Rattle.kinds.specs.Types.{TypeTree, VoidType, IntType, FunctionType, shape, same_tree}
+use Rattle.kinds.specs.Types.{TypeTree, VoidType, IntType, shape, same_tree}
+use Rattle.kinds.specs.Held.{is_void, own_type, IsHeld}
+use Rattle.kinds.proofs.HeldLaws.{void_is, own_of, value_own, held_own}
 use Rattle.kinds.specs.Table.{rule_of}
 use Rattle.kinds.specs.Fitting.{is_written, takes_fit}
 use Rattle.kinds.specs.Typing.{fits_trees, given, typed}
 use Rattle.llvm_core.specs.Data.{Operand, RowData, Instruction, Phi, Applied, Function}
-use Rattle.llvm_core.specs.Form.{IsShortInt, types_of, IsFormRow, IsFormInstruction}
+use Rattle.llvm_core.specs.Form.{types_of, IsFormRow, IsFormInstruction}
 use Rattle.llvm_core.proofs.DataLemmas.{within_at}
 use Rattle.ll_lines.specs.Lines.{Typed}
 use Rattle.ll_bodies.specs.Meaning.{result_type}
 use Rattle.ll_said.specs.Said.{typed_of, inst_of}
-use Rattle.ll_said.proofs.OperandLaws.{short_valued}
 
--- the type of a result, where there is one
-abbrev pub type_option : TypeTree → Option TypeTree
-type_option VoidType = None
-type_option type = Some type
-
-pub option_type : (τ : TypeTree) → option_map_or (λ (τ : TypeTree). τ) (type_option τ) VoidType ≡ τ
-option_type VoidType = refl
-option_type (IntType w) = refl
-option_type (FunctionType r ts v) = refl
+-- what has no type of its own is void
+pub own_or_void : (τ : TypeTree) → option_map_or (λ (τ : TypeTree). τ) (own_type τ) VoidType ≡ τ
+own_or_void τ = by (is_void τ) refl
+  where
+    by : (v : Bool) → is_void τ ≡ v → option_map_or (λ (τ : TypeTree). τ) (own_type τ) VoidType ≡ τ
+    by true e = rw e (sym (void_is τ e))
+    by false e = rw e refl
 
 -- each type of the list is that of a value
 abbrev AreValued : List TypeTree → Type 0
-AreValued ts = (i : ℕ) (τ : TypeTree) → slice_get ts i ≡ Some τ → τ ≢ VoidType
+AreValued ts = (i : ℕ) (τ : TypeTree) → slice_get ts i ≡ Some τ → is_void τ ≡ false
 
 -- a row gives no void
-given_valued : (g : Gives) (w : Option TypeTree) (ts : List TypeTree) (τ : TypeTree) → is_written shape same_tree g w ≡ true → AreValued ts → given g w (slice_get ts 0) (slice_get ts 1) ≡ Some τ → τ ≢ VoidType
+given_valued : (g : Gives) (w : Option TypeTree) (ts : List TypeTree) (τ : TypeTree) → is_written shape same_tree g w ≡ true → AreValued ts → given g w (slice_get ts 0) (slice_get ts 1) ≡ Some τ → is_void τ ≡ false
 given_valued G.Nothing w ts τ written valued e = absurd cc
 given_valued G.First w ts τ written valued e = valued 0 τ e
 given_valued G.Second w ts τ written valued e = valued 1 τ e
 given_valued G.Written None ts τ written valued e = absurd cc
-given_valued G.Written (Some υ) ts τ written valued e = λ v. let same : υ ≡ VoidType = same_Some υ τ e ∙ v in let k = rw same at written in absurd cc
-given_valued G.Bit w ts τ written valued e = λ v. let same : IntType 1 ≡ VoidType = same_Some (IntType 1) τ e ∙ v in absurd cc
+given_valued G.Written (Some υ) ts τ written valued e = ap is_void (sym (same_Some υ τ e)) ∙ value_own υ written
+given_valued G.Bit w ts τ written valued e = ap is_void (sym (same_Some (IntType 1) τ e))
 
-option_back : (o : Option TypeTree) → ((τ : TypeTree) → o ≡ Some τ → τ ≢ VoidType) → o ≡ type_option (unwrap_or o VoidType)
+option_back : (o : Option TypeTree) → ((τ : TypeTree) → o ≡ Some τ → is_void τ ≡ false) → o ≡ own_type (unwrap_or o VoidType)
 option_back None h = refl
-option_back (Some VoidType) h = absurd (h VoidType refl refl)
-option_back (Some (IntType w)) h = refl
-option_back (Some (FunctionType r ts v)) h = refl
+option_back (Some τ) h = sym (own_of τ (h τ refl))
 
-typed_back : (op : Op) (w : Option TypeTree) (ts : List TypeTree) → fits_trees op w ts ≡ true → AreValued ts → typed op w ts ≡ type_option (unwrap_or (typed op w ts) VoidType)
+typed_back : (op : Op) (w : Option TypeTree) (ts : List TypeTree) → fits_trees op w ts ≡ true → AreValued ts → typed op w ts ≡ own_type (unwrap_or (typed op w ts) VoidType)
 typed_back op w ts fits valued =
     let written = (and_parts (is_written shape same_tree (rule_of op).gives w) (takes_fit shape same_tree (rule_of op).takes (length ts) w (slice_get ts 0) (slice_get ts 1) (slice_get ts 2)) fits).0 in
     let plain : typed op w ts ≡ given (rule_of op).gives w (slice_get ts 0) (slice_get ts 1) = rw fits refl in
@@ -59,18 +56,13 @@ pub types_said : (f : Function) (os : List Operand) → map (λ (x : Typed). x.t
 types_said f [] = refl
 types_said f (o ∷ os) = ap (λ (ts : List TypeTree). types_of f (o ∷ []) ++ ts) (types_said f os)
 
-row_type : (f : Function) (type : TypeTree) (r : RowData) → IsFormRow f type r → result_type (inst_of f type (Applied r)) ≡ type_option type
+row_type : (f : Function) (type : TypeTree) (r : RowData) → IsFormRow f type r → result_type (inst_of f type (Applied r)) ≡ own_type type
 row_type f type r form =
     let ts = types_of f r.operands in
-    let valued : AreValued ts = λ i τ at. short_valued τ (within_at ts IsShortInt form.short i τ at) in
-    ap (typed r.op r.written) (types_said f r.operands) ∙ typed_back r.op r.written ts form.fits valued ∙ ap type_option (sym form.result)
-
-short_option : (τ : TypeTree) → IsShortInt τ → Some τ ≡ type_option τ
-short_option VoidType short = absurd short
-short_option (IntType w) short = refl
-short_option (FunctionType r ts v) short = absurd short
+    let valued : AreValued ts = λ i τ at. held_own τ (within_at ts IsHeld form.held i τ at) in
+    ap (typed r.op r.written) (types_said f r.operands) ∙ typed_back r.op r.written ts form.fits valued ∙ ap own_type (sym form.result)
 
 -- a line gives what the instruction does
-pub type_said : (f : Function) (b : ℕ) (type : TypeTree) (i : Instruction) → IsFormInstruction f b type i → result_type (inst_of f type i) ≡ type_option type
-type_said f b type (Phi entries) form = short_option type form.2
+pub type_said : (f : Function) (b : ℕ) (type : TypeTree) (i : Instruction) → IsFormInstruction f b type i → result_type (inst_of f type i) ≡ own_type type
+type_said f b type (Phi entries) form = sym (own_of type (held_own type form.2))
 type_said f b type (Applied r) form = row_type f type r form

@@ -49,7 +49,7 @@ functions f g a b c d i j k l m n = record {
         number = d;
         name = [];
         instructions =
-            placed m [] (IntType 8) (D.Phi ((D.Constant (D.IntConst (IntType 8) 255), c) ∷ (D.Result m, d) ∷ [])) ∷ placed n [] VoidType (row O.Br [] (d ∷ [])) ∷ [];
+            placed m [] (IntType 8) (D.Phi ((D.Constant (D.IntConst 8 255), c) ∷ (D.Result m, d) ∷ [])) ∷ placed n [] VoidType (row O.Br [] (d ∷ [])) ∷ [];
       } ∷ [];
 } ∷ []
 
@@ -94,7 +94,7 @@ lines = record {
             L.Label (codes "start:")
             ∷ line None (row_line O.Br [] (codes "%0" ∷ []))
             ∷ L.Label (codes "0:")
-            ∷ line (Some (codes "%1")) (L.Phi (IntType 8) (record { said = L.Const (D.IntConst (IntType 8) 255); block = codes "%start" } ∷ record { said = L.Local (codes "%1"); block = codes "%0" } ∷ []))
+            ∷ line (Some (codes "%1")) (L.Phi (IntType 8) (record { said = L.Const (D.IntConst 8 255); block = codes "%start" } ∷ record { said = L.Local (codes "%1"); block = codes "%0" } ∷ []))
             ∷ line None (row_line O.Br [] (codes "%0" ∷ []))
             ∷ [];
       } ∷ [];
