@@ -12,7 +12,7 @@ use Rattle.kinds.specs.Held.{is_void}
 use Rattle.ll_literals.specs.Text.{Text}
 use Rattle.ll_literals.specs.Names.{global, label}
 use Rattle.ll_lines.specs.Lines as L
-use Rattle.ll_lines.specs.Lines.{Typed, RowLine, Part, Param}
+use Rattle.ll_lines.specs.Lines.{Typed}
 use Rattle.ll_said.specs.Naming.{Unnamed, ParamAt, BlockOf, ResultOf, same_unnamed, if_unnamed, unnamed_params, unnamed_result, unnamed_block, unnamed_in, local_text, result_name, block_name, block_ref}
 use Rattle.ll_said.specs.Said.{said_of, typed_of, entry_of, row_of, inst_of, gives_of, line_of, lines_of, label_of, entry_label, block_parts, parts_of, params_of, function_of}
 use Rattle.ll_said.proofs.AlikeEdges.{unmapped_at, mapped_at, one_right, one_left, same_test}

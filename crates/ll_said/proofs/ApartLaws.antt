@@ -1,7 +1,8 @@
 -- No two things of a function have one place: each is new where it is defined.
-use Rattle.std.proofs.Common.{◌≡◌, ◌≢◌, ℕ, suc, ◌+◌, ◌≤◌, ◌⊎◌, inl, inr, Bool, true, false, if◌then◌else◌, List, [], ◌∷◌, ◌++◌, length, length-append, map, slice_get, Some, refl, ap, sym, ◌∙◌, subst, ne_eqb, arith}
+use Rattle.std.proofs.Common.{◌≡◌, ◌≢◌, ℕ, suc, ◌+◌, ◌≤◌, ◌⊎◌, inl, inr, Bool, true, false, List, [], ◌∷◌, ◌++◌, length, length-append, map, slice_get, Some, refl, ap, sym, ◌∙◌, subst, ne_eqb, arith}
 use Rattle.std.specs.List.{flat_map}
 use Rattle.std.specs.Option.{option_map}
+use Rattle.std.proofs.lemmas.Bool.{cond_both}
 use Rattle.std.proofs.lemmas.List.{map-append}
 use Rattle.std.proofs.lemmas.Option.{slice_get-map, slice_get_within}
 use Rattle.support.specs.Interned.{IsDistinctList}
@@ -76,12 +77,9 @@ number_behind n ps qs h = (length ps + h.0, h.1, slice_get-behind ps qs h.0 ∙ 
 -- ---- what places there are
 
 is_result_here : (p : Placed) (u : Thing) → Has u (result_thing p) → u.place ≡ ResultOf p.number
-is_result_here p u h = by (is_void p.type) h
-  where
-    by : (v : Bool) → Has u (if v then [] else thing_of p ∷ []) → u.place ≡ ResultOf p.number
-    by true h = absurd h
-    by false (inl same) = sym (ap (λ (t : Thing). t.place) same)
-    by false (inr h) = absurd h
+is_result_here p u =
+    cond_both (is_void p.type) [] (thing_of p ∷ []) (λ (ts : List Thing). Has u ts → u.place ≡ ResultOf p.number) (λ e h. absurd h)
+    (λ e h. elim h [ inl same ↦ sym (ap (λ (t : Thing). t.place) same) | inr h ↦ absurd h ])
 
 -- that of an instruction
 is_result : (ps : List Placed) (u : Thing) → Has u (result_things ps) → (n : ℕ) × HasNumber n ps × (u.place ≡ ResultOf n)
@@ -125,11 +123,7 @@ apart_params k [] = tt
 apart_params k (n ∷ ns) = (λ t has. let o = is_param (suc k) ns t has in ap (same_unnamed (ParamAt k)) o.2 ∙ ne_eqb k o.0 (λ e. omega (arith, e, o.1)), apart_params (suc k) ns)
 
 apart_one : (p : Placed) → Apart (result_thing p)
-apart_one p = by (is_void p.type)
-  where
-    by : (v : Bool) → Apart (if v then [] else thing_of p ∷ [])
-    by true = tt
-    by false = (λ u has. absurd has, tt)
+apart_one p = cond_both (is_void p.type) [] (thing_of p ∷ []) Apart (λ e. tt) (λ e. (λ u has. absurd has, tt))
 
 -- two results of lists whose numbers differ
 results_differ : (ps qs : List Placed) (t u : Thing) (m : ℕ) → Differ (numbers ps) (numbers qs) → Has t (result_things ps) → HasNumber m qs → u.place ≡ ResultOf m → same_unnamed t.place u.place ≡ false

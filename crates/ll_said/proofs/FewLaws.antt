@@ -2,6 +2,7 @@
 use Rattle.std.proofs.Common.{◌≡◌, ℕ, suc, ◌+◌, ◌-◌, ◌≤◌, ◌<◌, Bool, true, false, nat_le, nat_lt, List, [], ◌∷◌, ◌++◌, length, length-append, map, take, drop, Option, Some, None, if◌then◌else◌, All, refl, ap, sym, subst, arith}
 use Rattle.std.specs.List.{flat_map, AllByRecursion}
 use Rattle.std.specs.Option.{option_map, option_map_or}
+use Rattle.std.proofs.lemmas.Bool.{cond_both}
 use Rattle.std.proofs.lemmas.List.Elements.{All-from_recursion}
 use Rattle.std.proofs.lemmas.Option.{same_Some}
 use Rattle.kinds.specs.Types.{TypeTree, VoidType}
@@ -103,11 +104,7 @@ result_rises s t n l p of e = by (result_type l.inst) of.type e
     named τ e = subst (λ (m : Text). Rises (if_unnamed m (ResultOf p.number)) s t) (sym of.name) (written_rises s (ValueLocal (Result n) τ) local_key local_proper l.result t (ResultOf p.number) e)
 
     typed : (τ : TypeTree) → define_written s (ValueLocal (Result n) τ) local_key l.result ≡ Some t → Rises (unnamed_result τ p) s t
-    typed τ e = by (is_void τ)
-      where
-        by : (v : Bool) → Rises (if v then [] else if_unnamed p.name (ResultOf p.number)) s t
-        by true = weaker (if_unnamed p.name (ResultOf p.number)) s t (named τ e)
-        by false = named τ e
+    typed τ e = cond_both (is_void τ) [] (if_unnamed p.name (ResultOf p.number)) (λ (xs : List Unnamed). Rises xs s t) (λ void. weaker (if_unnamed p.name (ResultOf p.number)) s t (named τ e)) (λ some. named τ e)
 
     untyped : (w : Option Text) → result_scope s n None w ≡ Some t → Rises [] s t
     untyped None e = subst (Rises [] s) (same_Some s t e) (still s)

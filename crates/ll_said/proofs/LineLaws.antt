@@ -1,6 +1,7 @@
 -- A line means the instruction that it says.
-use Rattle.std.proofs.Common.{◌≡◌, ℕ, Bool, true, false, if◌then◌else◌, List, [], ◌∷◌, map, slice_get, Option, Some, None, refl, ap, sym, ◌∙◌}
+use Rattle.std.proofs.Common.{◌≡◌, ℕ, List, [], ◌∷◌, map, slice_get, Option, Some, None, refl, ap, sym, ◌∙◌}
 use Rattle.std.specs.Option.{option_map_or}
+use Rattle.std.proofs.lemmas.Bool.{cond_both}
 use Rattle.kinds.specs.Types.{TypeTree, VoidType}
 use Rattle.kinds.specs.Held.{is_void, IsHeld}
 use Rattle.kinds.proofs.HeldLaws.{void_is, held_own}
@@ -57,11 +58,10 @@ name_said f h [] x key t says = ap key_name says
 name_said f h (c ∷ cs) x key t says = ap key_name says
 
 gives_said : (f : Function) → IsSayable f → (type : TypeTree) (p : Placed) → IsPlainOrNone p.name → (type ≡ VoidType → p.name ≡ []) → written_name local_key (gives_of f type p) ≡ p.name
-gives_said f h type p plain none = by (is_void type) refl
-  where
-    by : (v : Bool) → is_void type ≡ v → written_name local_key (if v then None else Some (local_text f p.name (ResultOf p.number))) ≡ p.name
-    by true e = sym (none (void_is type e))
-    by false e = name_said f h p.name (ResultOf p.number) local_key (local_text f p.name (ResultOf p.number)) (local_says f p.name (ResultOf p.number) h.few plain)
+gives_said f h type p plain none =
+    let text = local_text f p.name (ResultOf p.number) in
+    cond_both (is_void type) None (Some text) (λ (w : Option Text). written_name local_key w ≡ p.name) (λ e. sym (none (void_is type e)))
+    (λ e. name_said f h p.name (ResultOf p.number) local_key text (local_says f p.name (ResultOf p.number) h.few plain))
 
 -- ---- lines
 

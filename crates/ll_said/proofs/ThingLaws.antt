@@ -1,6 +1,7 @@
 -- The parameters, the blocks and the results of a function, in the order of its text.
 use Rattle.std.proofs.Common.{◌≡◌, ℕ, zero, suc, ◌+◌, ◌⊎◌, inl, inr, Bool, true, false, if◌then◌else◌, List, [], ◌∷◌, ◌++◌, slice_get, Some, refl, ap, sym, ◌∙◌, subst, arith}
 use Rattle.std.specs.List.{flat_map}
+use Rattle.std.proofs.lemmas.Bool.{cond_both}
 use Rattle.std.proofs.lemmas.List.{append-nil}
 use Rattle.std.proofs.lemmas.Grind.{flat_map-append}
 use Rattle.kinds.specs.Held.{is_void}
@@ -79,11 +80,7 @@ abbrev pub NamesResults : List Placed → Type 0
 NamesResults ps = (i : ℕ) (p : Placed) → slice_get ps i ≡ Some p → p.type ≡ VoidType → p.name ≡ []
 
 names_of_result : (p : Placed) → (p.type ≡ VoidType → p.name ≡ []) → names (result_thing p) ≡ named p.name
-names_of_result p h = by (is_void p.type) refl
-  where
-    by : (v : Bool) → is_void p.type ≡ v → names (if v then [] else thing_of p ∷ []) ≡ named p.name
-    by true e = ap named (sym (h (void_is p.type e)))
-    by false e = append-nil (named p.name)
+names_of_result p h = cond_both (is_void p.type) [] (thing_of p ∷ []) (λ (ts : List Thing). names ts ≡ named p.name) (λ e. ap named (sym (h (void_is p.type e)))) (λ e. append-nil (named p.name))
 
 names_of_results : (ps : List Placed) → NamesResults ps → names (result_things ps) ≡ flat_map (λ (p : Placed). named p.name) ps
 names_of_results [] h = refl

@@ -1,8 +1,8 @@
 -- The type of what a line gives, from the types of its operands.
-use Rattle.std.proofs.Common.{◌≡◌, ℕ, Bool, true, false, List, [], ◌∷◌, ◌++◌, length, map, slice_get, Option, Some, None, refl, ap, sym, ◌∙◌}
+use Rattle.std.proofs.Common.{◌≡◌, ℕ, true, false, List, [], ◌∷◌, ◌++◌, length, map, slice_get, Option, Some, None, refl, ap, sym, ◌∙◌}
 use Rattle.std.specs.Prelude.{unwrap_or}
 use Rattle.std.specs.Option.{option_map_or}
-use Rattle.std.proofs.lemmas.Bool.{and_parts}
+use Rattle.std.proofs.lemmas.Bool.{and_parts, cond_both}
 use Rattle.std.proofs.lemmas.Option.{same_Some}
 use Rattle.kinds.specs.declared.op.Op.{Op}
 use Rattle.kinds.specs.declared.rules.Gives.{Gives}
@@ -22,11 +22,7 @@ use Rattle.ll_said.specs.Said.{typed_of, inst_of}
 
 -- what has no type of its own is void
 pub own_or_void : (τ : TypeTree) → option_map_or (λ (τ : TypeTree). τ) (own_type τ) VoidType ≡ τ
-own_or_void τ = by (is_void τ) refl
-  where
-    by : (v : Bool) → is_void τ ≡ v → option_map_or (λ (τ : TypeTree). τ) (own_type τ) VoidType ≡ τ
-    by true e = rw e (sym (void_is τ e))
-    by false e = rw e refl
+own_or_void τ = cond_both (is_void τ) None (Some τ) (λ (o : Option TypeTree). option_map_or (λ (τ : TypeTree). τ) o VoidType ≡ τ) (λ e. sym (void_is τ e)) (λ e. refl)
 
 -- each type of the list is that of a value
 abbrev AreValued : List TypeTree → Type 0
