@@ -73,8 +73,7 @@ fn const_width(m: &LLVMModule, ty: LLVMType) -> Option<u32>
 {
     match m.type_kind(ty) {
         LLVMTypeKind::Int(width) => (*width <= 64).then_some(*width),
-        LLVMTypeKind::Void => None,
-        LLVMTypeKind::Function { .. } => None,
+        _ => None,
     }
 }
 
