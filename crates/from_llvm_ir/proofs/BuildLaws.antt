@@ -20,7 +20,7 @@ use Rattle.dialect_core.specs.Data.{DialectModule, Func, DialectBlock, data_of, 
 use Rattle.dialect_core.specs.Lists.{list_at}
 use Rattle.dialect_core.proofs.ListLemmas.{slice_get-last}
 use Rattle.dialect_core.proofs.FilterLemmas.{change_get}
-use Rattle.from_llvm_ir.specs.Imported.{HasFuncsApart, IsHeld, IsOwn, IsBuilding, IsBelow}
+use Rattle.from_llvm_ir.specs.Imported.{HasFuncsApart, IsModuleAt, IsOwn, IsBuilding, IsBelow}
 use Rattle.from_llvm_ir.specs.Building.{bare_func}
 use Rattle.from_llvm_ir.proofs.ApartLaws.{op_apart, func_apart, block_apart}
 use Rattle.from_llvm_ir.proofs.OwnLaws.{own_op, own_appended, own_block}
@@ -43,7 +43,7 @@ pub below_more : (n k n' k' : ℕ) → n ≤ n' → k ≤ k' → (fs : List Func
 below_more n k n' k' le lk fs h = All-weaker (IsBelow n k) (IsBelow n' k') (λ f b. (omega (arith, b.0, le), All-weaker (λ (x : DialectBlock). x.number < k) (λ (x : DialectBlock). x.number < k') (λ x small. omega (arith, small, lk)) f.blocks b.1)) fs h
 
 -- what is there stays where it is when an operation is added
-pub held_op : (c0 c : ContextData) (x : OpData) (m : ℕ) (body : BlockRef) → IsHeld c0 m body → c.ops ≡ c0.ops ++ x ∷ [] → c.blocks ≡ c0.blocks → IsHeld c m body
+pub held_op : (c0 c : ContextData) (x : OpData) (m : ℕ) (body : BlockRef) → IsModuleAt c0 m body → c.ops ≡ c0.ops ++ x ∷ [] → c.blocks ≡ c0.blocks → IsModuleAt c m body
 held_op c0 c x m body h ops blocks =
     let small = kind_there c0.ops (record { 0 = m }) K.Module h.kind in
     record {

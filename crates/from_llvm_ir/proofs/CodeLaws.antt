@@ -3,7 +3,7 @@ use Rattle.std.proofs.Common.{ℕ, zero, suc, ◌≡◌, ◌<◌, ◌≤◌, ref
 use Rattle.std.proofs.lemmas.Option.{slice_get_within}
 use Rattle.support.proofs.ListLaws.{item_there}
 use Rattle.llvm_core.specs.Data as L
-use Rattle.llvm_core.specs.Data.{ModuleData, TypeTree, VoidType, IntType, FunctionType, TypeTrees, NoTypes, ThenType}
+use Rattle.llvm_core.specs.Data.{ModuleData}
 use Rattle.llvm_core.specs.Form.{IsFormFunction}
 use Rattle.llvm_core.proofs.DataLemmas.{within_at}
 use Rattle.dialect_core.specs.Data as D

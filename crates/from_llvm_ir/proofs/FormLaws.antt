@@ -10,27 +10,27 @@ use Rattle.support.proofs.ListLaws.{all_from, filter_from}
 use Rattle.llvm_core.specs.Names.{is_plain, IsPlainOrNone}
 use Rattle.llvm_core.specs.Form as LF
 use Rattle.llvm_core.specs.Data as L
-use Rattle.llvm_core.specs.Data.{ConstTree, IntConst, PlaceholderConst, IntType, VoidType, FunctionType, Placed, targets}
+use Rattle.llvm_core.specs.Data.{ConstTree, IntConst, PlaceholderConst, Placed, targets}
 use Rattle.dialect_types.specs.Names.{IsPlainName}
 use Rattle.dialect_types.specs.Trees.{TypeTree}
 use Rattle.dialect_core.specs.declared.ops.Value.{Value}
 use Rattle.dialect_core.specs.declared.ops.Successor.{Successor}
 use Rattle.kinds.specs.declared.rules.Takes.{Takes}
 use Rattle.kinds.specs.declared.rules.Takes.TheVariants as O
-use Rattle.kinds.specs.Rules.{operand_count}
+use Rattle.kinds.specs.Types.{result_of, params_of}
+use Rattle.kinds.specs.Held.{IsFirstClass, IsHeld, IsHeldResult, own_type}
 use Rattle.kinds.specs.Table.{rule_of}
+use Rattle.kinds.proofs.HeldLaws.{held_first_class, held_result_own, int_held}
 use Rattle.dialect_core.specs.Rules as R
 use Rattle.dialect_core.specs.Form as DF
-use Rattle.dialect_core.specs.Form.{types_list}
 use Rattle.dialect_core.specs.Data.{DialectOp, DialectBlock, Func, Kind, value_type}
 use Rattle.meaning.specs.Pairs.{Matched}
-use Rattle.from_llvm_ir.specs.Types.{args_from, result_from}
 use Rattle.from_llvm_ir.specs.Imported.{given_name, rest_of, phis_of, front_for}
-use Rattle.from_llvm_ir.specs.Source.{IsShortConst, IsUsable}
+use Rattle.from_llvm_ir.specs.Source.{IsUsable}
 use Rattle.from_llvm_ir.specs.Known.{Known, Stands, IsConstantOp, blocks_of}
 use Rattle.from_llvm_ir.specs.Converted.{IsKind, IsEdge, IsRow, IsConverted}
 use Rattle.from_llvm_ir.proofs.ListLaws.{other_there}
-use Rattle.from_llvm_ir.proofs.RowLaws.{HaveTypes, short_type, short_own, integer_own, integers, all_typed, values_fit, values_give}
+use Rattle.from_llvm_ir.proofs.RowLaws.{HaveTypes, if_own, first_class, all_typed, values_fit, values_give}
 use Rattle.from_llvm_ir.proofs.NameLaws.{plain_legal}
 use Rattle.from_llvm_ir.proofs.OrderLaws.{ordered_at}
 use Rattle.from_llvm_ir.proofs.EndLaws.{ends_from, ends_filter, ends_as}
@@ -38,16 +38,7 @@ use Rattle.from_llvm_ir.proofs.PassLaws.{inst_form, block_form, phi_is, phi_form
 use Rattle.from_llvm_ir.proofs.Whole.{IsWhole, the_func, first_source, target_apart, source_at, entry, arg_typed, operand_typed}
 use Rattle.from_llvm_ir.proofs.EdgeLaws.{EdgeAt, arg_at, RowAt, op_cases, op_edge}
 
--- ---- types and names
-
-short_types : (ts : L.TypeTrees) → LF.AreShortInts ts → All DF.IsShortInt (types_list ts)
-short_types L.NoTypes h = All-nil _
-short_types (L.ThenType t ts) h = All-cons DF.IsShortInt t (types_list ts) (short_type t h.0) (short_types ts h.1)
-
-short_returned : (t : L.TypeTree) → LF.IsShortResult t → DF.IsShortResult t
-short_returned VoidType h = tt
-short_returned (IntType w) h = h
-short_returned (FunctionType r ps v) h = elim h [ ]
+-- ---- names
 
 named : (n : List ℕ) → is_plain n ≡ true → ¬ (n ≡ [])
 named [] h e = false≢true h
@@ -64,9 +55,7 @@ kind_tests (L.Phi es) κ h = elim h [ ]
 kind_tests (L.Applied r) κ h = (ap DF.is_constant_kind h, ap DF.is_terminator_kind h)
 
 pub constant_tests : (c : ConstTree) (o : DialectOp) → IsConstantOp c o → (DF.is_constant o ≡ true) × (DF.is_terminator o ≡ false) × (o.successors ≡ []) × (o.operands ≡ [])
-constant_tests (IntConst VoidType v) o h = elim h [ ]
-constant_tests (IntConst (IntType w) v) o h = (ap DF.is_constant h, ap DF.is_terminator h, ap (λ (x : DialectOp). x.successors) h, ap (λ (x : DialectOp). x.operands) h)
-constant_tests (IntConst (FunctionType r ps x) v) o h = elim h [ ]
+constant_tests (IntConst w v) o h = (ap DF.is_constant h, ap DF.is_terminator h, ap (λ (x : DialectOp). x.successors) h, ap (λ (x : DialectOp). x.operands) h)
 constant_tests (PlaceholderConst n t) o h = elim h [ ]
 
 -- a terminator is no phi
@@ -76,18 +65,6 @@ ends_kept p h = by p.instruction h
     by : (i : L.Instruction) → LF.is_terminator i ≡ true → not (LF.is_phi (record p { instruction = i })) ≡ true
     by (L.Phi es) e = let no : ⊥ = cc in absurd no
     by (L.Applied r) e = refl
-
--- ---- what a function returns
-
-result_same : (t : TypeTree) → R.result_of t ≡ LF.result_of t
-result_same VoidType = refl
-result_same (IntType w) = refl
-result_same (FunctionType r ps v) = refl
-
-void_same : (t : TypeTree) → R.is_void t ≡ LF.is_void t
-void_same VoidType = refl
-void_same (IntType w) = refl
-void_same (FunctionType r ps v) = refl
 
 module _ (n : ℕ) (k : Known) (cs : List DialectBlock) (h : IsWhole k cs) where
   abbrev g : L.Function
@@ -101,26 +78,24 @@ module _ (n : ℕ) (k : Known) (cs : List DialectBlock) (h : IsWhole k cs) where
 
   -- ---- operations
 
-  constant_form : (c : ConstTree) (o : DialectOp) → IsShortConst c → IsConstantOp c o → DF.IsFormOp G o
-  constant_form (IntConst VoidType v) o s m = elim m [ ]
-  constant_form (IntConst (IntType w) v) o s m = subst (DF.IsFormOp G) (sym m) (record {
-    kind = record { short = (s.0, s.1); fitting = s.2; result = refl; bare = refl; ends_here = refl };
+  constant_form : (c : ConstTree) (o : DialectOp) → LF.IsShortConst c → IsConstantOp c o → DF.IsFormOp G o
+  constant_form (IntConst w v) o s m = subst (DF.IsFormOp G) (sym m) (record {
+    kind = record { integer = (w, refl, s.0, s.1); result = refl; bare = refl; ends_here = refl };
     operands = All-nil _;
     passed = All-nil _;
-    result = (s.0, s.1);
+    result = int_held w s.0;
     name = tt;
   })
-  constant_form (IntConst (FunctionType r ps x) v) o s m = elim m [ ]
   constant_form (PlaceholderConst q t) o s m = elim m [ ]
 
-  value_form : (o : L.Operand) (w : Value) → Stands k o w → IsUsable g o → DF.IsShortValue G w
-  value_form o w st f = (f.0, record { typed = operand_typed n k cs h f.0 o w st f.1; short = short_type f.0 f.1.short })
+  value_form : (o : L.Operand) (w : Value) → Stands k o w → IsUsable g o → DF.IsHeldValue G w
+  value_form o w st f = (f.0, record { typed = operand_typed n k cs h f.0 o w st f.1; held = f.1.held })
 
-  values_form : (os : List L.Operand) (ws : List Value) → ((j : ℕ) (o : L.Operand) → slice_get os j ≡ Some o → IsUsable g o) → Matched (Stands k) os ws → All (DF.IsShortValue G) ws
+  values_form : (os : List L.Operand) (ws : List Value) → ((j : ℕ) (o : L.Operand) → slice_get os j ≡ Some o → IsUsable g o) → Matched (Stands k) os ws → All (DF.IsHeldValue G) ws
   values_form [] [] f m = All-nil _
   values_form [] (w ∷ ws) f m = elim m [ ]
   values_form (o ∷ os) [] f m = elim m [ ]
-  values_form (o ∷ os) (w ∷ ws) f m = All-cons (DF.IsShortValue G) w ws (value_form o w m.0 (f 0 o refl)) (values_form os ws (λ j x at. f (suc j) x at) m.1)
+  values_form (o ∷ os) (w ∷ ws) f m = All-cons (DF.IsHeldValue G) w ws (value_form o w m.0 (f 0 o refl)) (values_form os ws (λ j x at. f (suc j) x at) m.1)
 
   -- and they have the operands' types
   values_typed : (os : List L.Operand) (ws : List Value) → ((j : ℕ) (o : L.Operand) → slice_get os j ≡ Some o → IsUsable g o) → Matched (Stands k) os ws → HaveTypes (value_type G) (LF.types_of g os) ws
@@ -141,41 +116,36 @@ module _ (n : ℕ) (k : Known) (cs : List DialectBlock) (h : IsWhole k cs) where
         operand_typed n k cs h a.phi.type a.operand v a.stands a.usable ∙ sym takes ∙ wanted;
   }
 
-  passed_form : (m t : ℕ) (s : Successor) → EdgeAt k cs h m t s → All (DF.IsShortValue G) s.args
-  passed_form m t s e = all_from (DF.IsShortValue G) s.args (λ y v at. let a = arg_at k cs h m t s e y v at in value_form a.operand v a.stands (a.phi.type, a.usable))
-
-  result_is : R.result_of G.type ≡ LF.result_of g.type
-  result_is = result_same g.type
+  passed_form : (m t : ℕ) (s : Successor) → EdgeAt k cs h m t s → All (DF.IsHeldValue G) s.args
+  passed_form m t s e = all_from (DF.IsHeldValue G) s.args (λ y v at. let a = arg_at k cs h m t s e y v at in value_form a.operand v a.stands (a.phi.type, a.usable))
 
   -- what is returned
-  returning : (x : Takes) (os : List L.Operand) (ws : List Value) → LF.IsReturning x g os → HaveTypes (value_type G) (LF.types_of g os) ws → R.IsReturning x (value_type G) (R.result_of G.type) ws
+  returning : (x : Takes) (os : List L.Operand) (ws : List Value) → LF.IsReturning x g os → HaveTypes (value_type G) (LF.types_of g os) ws → R.IsReturning x (value_type G) (result_of G.type) ws
   returning O.Nothing os ws f m = tt
   returning (O.One a) os ws f m = tt
   returning (O.Two a b) os ws f m = tt
   returning (O.Three a b c) os ws f m = tt
-  returning O.Return os ws f m =
-      subst (λ (t : TypeTree). All (λ (v : Value). value_type G v ≡ Some t) ws) (sym result_is)
-      (all_typed (value_type G) (LF.result_of g.type) (LF.types_of g os) ws m (All-map (λ (t : TypeTree). t ≡ LF.result_of g.type) (L.operand_type g) os f))
+  returning O.Return os ws f m = all_typed (value_type G) (result_of g.type) (LF.types_of g os) ws m (All-map (λ (t : TypeTree). t ≡ result_of g.type) (L.operand_type g) os f)
 
   row_kind : (m : ℕ) (p : Placed) (r : L.RowData) (ws : List Value) (ss : List Successor) (own : Option TypeTree) → LF.IsFormRow g p.type r → Matched (Stands k) r.operands ws → length ss ≡ length r.targets
-      → ((y : ℕ) (s : Successor) → slice_get ss y ≡ Some s → (t : ℕ) × EdgeAt k cs h m t s) → own ≡ result_from p.type → LF.IsShortResult p.type → R.IsRow (value_type G) G r.op ws own ss
-  row_kind m p r ws ss own f ops count each result short =
+      → ((y : ℕ) (s : Successor) → slice_get ss y ≡ Some s → (t : ℕ) × EdgeAt k cs h m t s) → own ≡ own_type p.type → IsHeldResult p.type → R.IsRow (value_type G) G r.op ws own ss
+  row_kind m p r ws ss own f ops count each result held =
       let ts = LF.types_of g r.operands in
       let have = values_typed r.operands ws (row_usable g h.form p.type r f) ops in
       record {
-        integers = integers (value_type G) ts ws have f.short;
-        count = matched_length (Stands k) r.operands ws ops ∙ f.count ∙ ap (operand_count (rule_of r.op).takes) (sym (ap R.is_void result_is ∙ void_same (LF.result_of g.type)));
-        fits = values_fit (value_type G) r.op r.written ts ws have f.fits p.type own f.short f.result result;
+        values = first_class (value_type G) ts ws have f.held;
+        count = matched_length (Stands k) r.operands ws ops ∙ f.count;
+        fits = values_fit (value_type G) r.op r.written ts ws have f.fits p.type own f.held f.result result;
         returns = returning (rule_of r.op).takes r.operands ws f.returns have;
-        result = values_give (value_type G) r.op r.written ts ws have f.fits p.type own f.short f.result result;
-        integer = subst (λ (x : Option TypeTree). IfSome x R.IsInteger) (sym result) (integer_own p.type short);
+        result = values_give (value_type G) r.op r.written ts ws have f.fits p.type own f.held f.result result;
+        value = subst (λ (x : Option TypeTree). IfSome x IsFirstClass) (sym result) (if_own IsFirstClass p.type (λ e. held_first_class p.type (held_result_own p.type held e)));
         leads = (count ∙ f.leads, all_from (R.IsEdge (value_type G) G) ss (λ y s at. let e = each y s at in edge_form m e.0 s e.1));
       }
 
   kind_form : (m : ℕ) (p : Placed) (i : L.Instruction) (κ : Kind) (ws : List Value) (ss : List Successor) (own : Option TypeTree) → LF.IsFormInstruction g m p.type i → IsKind i κ → Matched (Stands k) (LF.operands_of i) ws → length ss ≡ length (targets i)
-      → ((y : ℕ) (s : Successor) → slice_get ss y ≡ Some s → (t : ℕ) × EdgeAt k cs h m t s) → own ≡ result_from p.type → LF.IsShortResult p.type → R.IsOfKind (value_type G) G ws own ss κ
-  kind_form m p (L.Phi es) κ ws ss own f is ops count each result short = elim is [ ]
-  kind_form m p (L.Applied r) κ ws ss own f is ops count each result short = subst (R.IsOfKind (value_type G) G ws own ss) (sym is) (row_kind m p r ws ss own f ops count each result short)
+      → ((y : ℕ) (s : Successor) → slice_get ss y ≡ Some s → (t : ℕ) × EdgeAt k cs h m t s) → own ≡ own_type p.type → IsHeldResult p.type → R.IsOfKind (value_type G) G ws own ss κ
+  kind_form m p (L.Phi es) κ ws ss own f is ops count each result held = elim is [ ]
+  kind_form m p (L.Applied r) κ ws ss own f is ops count each result held = subst (R.IsOfKind (value_type G) G ws own ss) (sym is) (row_kind m p r ws ss own f ops count each result held)
 
   row_form : (j : ℕ) (c : DialectBlock) (o : DialectOp) → RowAt k cs h j c o → DF.IsFormOp G o
   row_form j c o r =
@@ -183,10 +153,10 @@ module _ (n : ℕ) (k : Known) (cs : List DialectBlock) (h : IsWhole k cs) where
       let v = r.row.converted in
       let edge : (y : ℕ) (s : Successor) → slice_get o.successors y ≡ Some s → (t : ℕ) × EdgeAt k cs h r.block.number t s = λ y s at. (let e = op_edge k cs h j y c o r s at in (e.0, e.2)) in
       record {
-        kind = kind_form r.block.number r.inst r.inst.instruction o.kind o.operands o.successors o.result f.instruction v.kind v.operands (matched_length (IsEdge k r.block.number) (targets r.inst.instruction) o.successors v.successors) edge v.result f.short;
+        kind = kind_form r.block.number r.inst r.inst.instruction o.kind o.operands o.successors o.result f.instruction v.kind v.operands (matched_length (IsEdge k r.block.number) (targets r.inst.instruction) o.successors v.successors) edge v.result f.held;
         operands = values_form (LF.operands_of r.inst.instruction) o.operands (operands_usable g h.form r.block.number r.inst f r.other) v.operands;
-        passed = all_from (λ (s : Successor). All (DF.IsShortValue G) s.args) o.successors (λ y s at. let e = edge y s at in passed_form r.block.number e.0 s e.1);
-        result = subst (λ (x : Option TypeTree). IfSome x R.IsShortInt) (sym v.result) (short_own r.inst.type f.short);
+        passed = all_from (λ (s : Successor). All (DF.IsHeldValue G) s.args) o.successors (λ y s at. let e = edge y s at in passed_form r.block.number e.0 s e.1);
+        result = subst (λ (x : Option TypeTree). IfSome x IsHeld) (sym v.result) (if_own IsHeld r.inst.type (held_result_own r.inst.type f.held));
         name = subst (λ (x : Option (List ℕ)). IfSome x IsPlainName) (sym v.name) (given_plain r.inst.name f.name);
       }
 
@@ -205,16 +175,15 @@ module _ (n : ℕ) (k : Known) (cs : List DialectBlock) (h : IsWhole k cs) where
   label_form zero b c v f = subst (λ (x : Option (List ℕ)). IfSome x IsPlainName) (sym v.head.label) entry_label
   label_form (suc j) b c v f = subst (λ (x : Option (List ℕ)). IfSome x IsPlainName) (sym v.head.label) (given_plain b.name f.label)
 
-  phi_short : (i : ℕ) (b : L.Block) (y : ℕ) (p : Placed) → slice_get g.blocks i ≡ Some b → slice_get (phis_of b) y ≡ Some p → LF.IsShortInt p.type
-  phi_short i b y p at here =
+  phi_held : (i : ℕ) (b : L.Block) (y : ℕ) (p : Placed) → slice_get g.blocks i ≡ Some b → slice_get (phis_of b) y ≡ Some p → IsHeld p.type
+  phi_held i b y p at here =
       let r = filter_from LF.is_phi b.instructions y p here in
       let es = phi_is p r.2 in
       (phi_form g h.form i r.0 b p es.0 at r.1 es.1).2
 
-  args_form : (j i : ℕ) (b : L.Block) (c : DialectBlock) → slice_get g.blocks i ≡ Some b → IsConverted k (take j cs) j b c → All DF.IsShortInt c.args
-  args_form zero i b c at v = subst (All DF.IsShortInt) (sym (v.head.args ∙ ap args_from h.form.type)) (short_types h.form.types h.form.takes)
-  args_form (suc j) i b c at v =
-      subst (All DF.IsShortInt) (sym v.head.args) (All-map DF.IsShortInt (λ (p : Placed). p.type) (phis_of b) (all_from (λ (p : Placed). DF.IsShortInt p.type) (phis_of b) (λ y p here. short_type p.type (phi_short i b y p at here))))
+  args_form : (j i : ℕ) (b : L.Block) (c : DialectBlock) → slice_get g.blocks i ≡ Some b → IsConverted k (take j cs) j b c → All IsHeld c.args
+  args_form zero i b c at v = subst (All IsHeld) (sym (v.head.args ∙ ap params_of h.form.type)) h.form.takes
+  args_form (suc j) i b c at v = subst (All IsHeld) (sym v.head.args) (All-map IsHeld (λ (p : Placed). p.type) (phis_of b) (all_from (λ (p : Placed). IsHeld p.type) (phis_of b) (λ y p here. phi_held i b y p at here)))
 
   pub constant_here : (i : ℕ) (o : DialectOp) → slice_get k.hoisted i ≡ Some o → (DF.is_constant o ≡ true) × (DF.is_terminator o ≡ false) × (o.successors ≡ []) × (o.operands ≡ [])
   constant_here i o at =
@@ -293,13 +262,13 @@ module _ (n : ℕ) (k : Known) (cs : List DialectBlock) (h : IsWhole k cs) where
         result = h.form.result;
         types = h.form.types;
         type = h.form.type;
-        returns = short_returned h.form.result h.form.returns;
-        takes = short_types h.form.types h.form.takes;
+        returns = h.form.returns;
+        takes = h.form.takes;
         linkage = refl;
         entry = e.0;
         more = body.0;
         body = body.1;
-        params = e.2.head.args ∙ ap args_from h.form.type;
+        params = e.2.head.args ∙ ap params_of h.form.type;
         blocks = all_from (DF.IsFormBlock G) cs block_is;
         block_numbers = λ i j a b at_a at_b same. target_apart n k cs h i j a b at_a at_b same;
         numbers = h.fresh;

@@ -12,7 +12,7 @@ use Rattle.support.proofs.ListLaws.{all_from, slice_get-kept, take_next}
 use Rattle.llvm_core.specs.declared.numbers.LLVMConst.{LLVMConst}
 use Rattle.llvm_core.specs.declared.code.LLVMValue.TheVariants as K
 use Rattle.llvm_core.specs.Module.{Module}
-use Rattle.llvm_core.specs.Form.{is_phi}
+use Rattle.llvm_core.specs.Form.{IsShortConst, is_phi}
 use Rattle.llvm_core.specs.Data as L
 use Rattle.llvm_core.specs.Data.{ConstTree, trees_of, operand_of, const_at, AreApart}
 use Rattle.dialect_core.specs.declared.numbers.BlockRef.{BlockRef}
@@ -23,7 +23,7 @@ use Rattle.from_llvm_ir.specs.declared.values.Values.{Values}
 use Rattle.from_llvm_ir.specs.Values.{value_at, IsNoted}
 use Rattle.from_llvm_ir.specs.Imported.{IsIn, UsedAgain, UsedFirst, constant_in, constants_in}
 use Rattle.from_llvm_ir.specs.Building.{IsOpen, with_ops, ops_of}
-use Rattle.from_llvm_ir.specs.Source.{IsShortConst, used_by}
+use Rattle.from_llvm_ir.specs.Source.{used_by}
 use Rattle.from_llvm_ir.specs.Known.{Frame, IsConstantOp, StandsAt, value_of}
 use Rattle.from_llvm_ir.specs.Body.{IsHoisting, uses_of_inst}
 use Rattle.from_llvm_ir.proofs.ListLaws.{other_there}

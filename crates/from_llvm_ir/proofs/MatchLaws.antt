@@ -1,8 +1,7 @@
--- Under a match types and the terms of constants stay as they are: no struct and no block is named yet.
-use Rattle.std.proofs.Common.{ℕ, ◌≡◌, refl}
+-- Under a match types stay as they are: no struct is named yet.
+use Rattle.std.proofs.Common.{◌≡◌, refl}
 use Rattle.llvm_core.specs.Data.{TypeTree, VoidType, IntType, FunctionType, TypeTrees, NoTypes, ThenType}
-use Rattle.meaning.specs.Terms.{Match, rename, rename_type, rename_types}
-use Rattle.meaning.specs.Llvm.{int_of}
+use Rattle.meaning.specs.Terms.{Match, rename_type, rename_types}
 
 mutual
   pub type_stays : (match : Match) (t : TypeTree) → rename_type match t ≡ t
@@ -13,8 +12,3 @@ mutual
   types_stay : (match : Match) (ts : TypeTrees) → rename_types match ts ≡ ts
   types_stay match NoTypes = refl
   types_stay match (ThenType t ts) = cc (type_stays match t, types_stay match ts)
-
-pub int_stays : (match : Match) (t : TypeTree) (n : ℕ) → rename match (int_of t n) ≡ int_of t n
-int_stays match VoidType n = refl
-int_stays match (IntType w) n = refl
-int_stays match (FunctionType r ps v) n = refl

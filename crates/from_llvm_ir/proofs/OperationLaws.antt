@@ -31,7 +31,8 @@ use Rattle.dialect_core.specs.Form.{uses_of}
 use Rattle.dialect_core.proofs.ListLemmas.{slice_get-last}
 use Rattle.meaning.specs.Pairs.{Matched}
 use Rattle.from_llvm_ir.specs.declared.values.Values.{Values}
-use Rattle.from_llvm_ir.specs.Types.{args_from, result_from}
+use Rattle.kinds.specs.Types.{params_of}
+use Rattle.kinds.specs.Held.{own_type}
 use Rattle.from_llvm_ir.specs.Imported.{front_for, passed, phis_of, rest_of}
 use Rattle.from_llvm_ir.specs.Parts.{IsOpKind}
 use Rattle.from_llvm_ir.specs.Values.{IsNoted}
@@ -217,14 +218,14 @@ module _ (left : List DialectBlock) (now : DialectBlock) (os : List DialectOp) (
           FromResult (length left + 0) y new_block a last_here (slice_get-kept os (o ∷ []) y a (ap (λ (d : DialectBlock). slice_get d.ops y) same ∙ here)) is type
       by (suc q) e = absurd (let no : ⊥ = cc in no)
 
-  pub all_from_more : (fr : Frame) (cs : List ConstTree) (hs : List DialectOp) (ps : List Placed) (ws : List Value) (p : Placed) → length ws ≡ length ps → o.result ≡ result_from p.type → AreFrom (knows fr cs hs ps ws) (left ++ old_block ∷ []) → AreFrom (knows fr cs hs (ps ++ p ∷ []) (ws ++ value_of o ∷ [])) (left ++ new_block ∷ [])
+  pub all_from_more : (fr : Frame) (cs : List ConstTree) (hs : List DialectOp) (ps : List Placed) (ws : List Value) (p : Placed) → length ws ≡ length ps → o.result ≡ own_type p.type → AreFrom (knows fr cs hs ps ws) (left ++ old_block ∷ []) → AreFrom (knows fr cs hs (ps ++ p ∷ []) (ws ++ value_of o ∷ [])) (left ++ new_block ∷ [])
   all_from_more fr cs hs ps ws p long result h q a w at_a at_w = by (push_cases ps p a q at_a) (push_cases ws (value_of o) w q at_w)
     where
       by : (slice_get ps q ≡ Some a) ⊎ ((a ≡ p) × (q ≡ length ps)) → (slice_get ws q ≡ Some w) ⊎ ((w ≡ value_of o) × (q ≡ length ws)) → IsFrom (left ++ new_block ∷ []) a w
       by (inl s) (inl d) = from_more a w (h q a w s d)
       by (inl s) (inr d) = absurd (let lt = slice_get_within ps q a s in omega (arith, lt, d.1, long))
       by (inr s) (inl d) = absurd (let lt = slice_get_within ws q w d in omega (arith, lt, s.1, long))
-      by (inr s) (inr d) = FromResult (length left + 0) (length os) new_block o last_here (slice_get-last os o) d.0 (result ∙ ap (λ (z : Placed). result_from z.type) (sym s.0))
+      by (inr s) (inr d) = FromResult (length left + 0) (length os) new_block o last_here (slice_get-last os o) d.0 (result ∙ ap (λ (z : Placed). own_type z.type) (sym s.0))
 
   -- values stand before their uses as they stood
   take_front : (n : ℕ) (xs : List DialectOp) → n ≤ length xs → take n (xs ++ o ∷ []) ≡ take n xs
@@ -294,7 +295,7 @@ module _ (fr : Frame) (m : Module) (f : LLVMFunction) (c : ContextData) (old : V
       let s = item_there (blocks_of fr) 0 (let small = slice_get_within (blocks_of fr) j b h.source in omega (arith, small)) in
       let head = h.heads 0 s.0 d.old s.1 d.at_old in
       let form = framed.source.form in
-      let args = ap (λ (ts : List TypeTree). length ts) (d.args ∙ head.args ∙ ap (λ (t : L.TypeTree). args_from t) form.type) ∙ listed_length form.types ∙ sym form.params in
+      let args = ap (λ (ts : List TypeTree). length ts) (d.args ∙ head.args ∙ ap (λ (t : L.TypeTree). params_of t) form.type) ∙ listed_length form.types ∙ sym form.params in
       argument_still h.left h.now os o (record { 0 = fr.base }) i 0 d.new d.at_new (let a = d.number in let e = head.number in omega (arith, a, e)) (omega (arith, lt, args))
 
   -- each operand stands before

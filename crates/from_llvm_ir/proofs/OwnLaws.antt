@@ -29,7 +29,7 @@ use Rattle.dialect_core.proofs.LineLemmas.{all_at}
 use Rattle.dialect_core.proofs.ListLemmas.{map_same}
 use Rattle.dialect_core.proofs.NewBlockLemmas.{func}
 use Rattle.dialect_core.proofs.TypedLemmas.{changed_cases, more_types_typed}
-use Rattle.from_llvm_ir.specs.Imported.{IsHeld, IsOwn}
+use Rattle.from_llvm_ir.specs.Imported.{IsModuleAt, IsOwn}
 use Rattle.from_llvm_ir.proofs.ApartLaws.{block_lists, pushed_all}
 
 -- ---- what the building calls add
@@ -148,15 +148,15 @@ module _ (ts us : List TypeTree) (c : ContextData) (types : List TypeKind) (m : 
           ∙ symbol_same x (filter_map (block_in ts c) x.blocks) x.symbol (own.ops o.0 x from at).0.symbol
 
 -- the operations that the module holds are those of its block for functions
-pub held_list : (c : ContextData) (m : ℕ) (body : BlockRef) → IsHeld c m body → held c m ≡ list_at c.lists body
+pub held_list : (c : ContextData) (m : ℕ) (body : BlockRef) → IsModuleAt c m body → held c m ≡ list_at c.lists body
 held_list c m body h = ap (λ (bs : List BlockRef). flat_map (list_at c.lists) bs) h.region ∙ append-nil (list_at c.lists body)
 
 -- and are its own
-pub held_own : (c : ContextData) (m : ℕ) (body : BlockRef) → IsHeld c m body → IsOwn c m body → (i : ℕ) (o : OpRef) → slice_get (held c m) i ≡ Some o → m ≤ o.0
+pub held_own : (c : ContextData) (m : ℕ) (body : BlockRef) → IsModuleAt c m body → IsOwn c m body → (i : ℕ) (o : OpRef) → slice_get (held c m) i ≡ Some o → m ≤ o.0
 held_own c m body h own i o at = all_at (λ (q : OpRef). m ≤ q.0) (list_at c.lists body) (own.lists body (omega arith) h.block) i o (ap (λ (os : List OpRef). slice_get os i) (sym (held_list c m body h)) ∙ at)
 
 -- and the types of its functions are there
-pub held_types : (c : ContextData) (m : ℕ) (body : BlockRef) → IsHeld c m body → IsOwn c m body → All (HasTypeWithin c) (list_at c.lists body)
+pub held_types : (c : ContextData) (m : ℕ) (body : BlockRef) → IsModuleAt c m body → IsOwn c m body → All (HasTypeWithin c) (list_at c.lists body)
 held_types c m body h own = all_from (HasTypeWithin c) (list_at c.lists body) (λ i o at. by o (all_at (λ (q : OpRef). m ≤ q.0) (list_at c.lists body) (own.lists body (omega arith) h.block) i o at) (slice_get c.ops o.0) refl)
   where
     by : (o : OpRef) → m ≤ o.0 → (x : Option OpData) → slice_get c.ops o.0 ≡ x → IfSome (option_and_then (λ (x : OpData). x.symbol) x) (λ (s : Symbol). s.ty.0 < length c.types)
@@ -164,7 +164,7 @@ held_types c m body h own = all_from (HasTypeWithin c) (list_at c.lists body) (�
     by o from (Some x) at = (own.ops o.0 x from at).0.symbol
 
 -- the module's numbers of types mean what they meant
-pub own_data : (c : ContextData) (types : List TypeKind) (m : ℕ) (body : BlockRef) → IsHeld c m body → IsOwn c m body → ((t : TypeHandle) → t.0 < length c.types → type_at (type_trees types) t ≡ type_at (type_trees c.types) t)
+pub own_data : (c : ContextData) (types : List TypeKind) (m : ℕ) (body : BlockRef) → IsModuleAt c m body → IsOwn c m body → ((t : TypeHandle) → t.0 < length c.types → type_at (type_trees types) t ≡ type_at (type_trees c.types) t)
     → data_of (with_types c types) m ≡ data_of c m
 own_data c types m body h own same =
     same_module _ _ _ _ refl

@@ -18,7 +18,7 @@ use Rattle.meaning.specs.Llvm.{Key, ParamKey, ResultKey}
 use Rattle.meaning.specs.Dialect as Dialect
 use Rattle.meaning.specs.Dialect.{same_value}
 use Rattle.meaning.specs.Shape.{Plan, IsPlan}
-use Rattle.from_llvm_ir.specs.Types.{args_from}
+use Rattle.kinds.specs.Types.{params_of}
 use Rattle.from_llvm_ir.specs.Imported.{rest_of}
 use Rattle.from_llvm_ir.specs.Known.{Known, Stands, blocks_of, result_in, value_of}
 use Rattle.from_llvm_ir.specs.Converted.{IsRow}
@@ -153,15 +153,11 @@ module _ (n : ℕ) (k : Known) (cs : List DialectBlock) (h : IsWhole k cs) where
 
   -- ---- the start
 
-  counted : (ts : L.TypeTrees) → Llvm.count_types ts ≡ LF.count_types ts
-  counted L.NoTypes = refl
-  counted (L.ThenType t ts) = (let e = counted ts in omega (arith, e))
-
   arity_is : Llvm.arity g.type ≡ length g.params
-  arity_is = ap Llvm.arity h.form.type ∙ counted h.form.types ∙ sym h.form.params
+  arity_is = ap Llvm.arity h.form.type ∙ sym h.form.params
 
   args_count : length (entry n k cs h).0.args ≡ length g.params
-  args_count = ap (λ (ts : List _). length ts) ((entry n k cs h).2.head.args ∙ ap args_from h.form.type) ∙ listed_length h.form.types ∙ sym h.form.params
+  args_count = ap (λ (ts : List _). length ts) ((entry n k cs h).2.head.args ∙ ap params_of h.form.type) ∙ listed_length h.form.types ∙ sym h.form.params
 
   started_at : (xs : List DialectBlock) (c : DialectBlock) (v : Value) → slice_get xs 0 ≡ Some c → Dialect.start xs v ≡ Dialect.start (c ∷ []) v
   started_at [] c v e = absurd (none-some c e)

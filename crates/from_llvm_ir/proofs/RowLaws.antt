@@ -1,75 +1,57 @@
 -- What the table says of the types of operands it says of the values that have those types: whether a row fits, and the
 -- type of its result.
-use Rattle.std.proofs.Common.{ℕ, zero, suc, ◌≡◌, refl, ap, ◌∙◌, Bool, true, List, [], ◌∷◌, Option, Some, None, All, length, slice_get, if◌then◌else◌, arith}
+use Rattle.std.proofs.Common.{ℕ, zero, suc, ◌≡◌, refl, ap, ◌∙◌, Bool, true, false, List, [], ◌∷◌, Option, Some, None, All, length, slice_get, if◌then◌else◌}
 use Rattle.std.specs.Prelude.{IfSome, unwrap_or}
 use Rattle.std.proofs.lemmas.List.Elements.{All-nil, All-cons, All-head, All-tail}
 use Rattle.kinds.specs.declared.op.Op.{Op}
 use Rattle.kinds.specs.declared.rules.Gives.{Gives}
 use Rattle.kinds.specs.declared.rules.Gives.TheVariants as G
-use Rattle.kinds.specs.Types.{TypeTree, VoidType, IntType, FunctionType, shape, same_tree}
+use Rattle.kinds.specs.Types.{TypeTree, VoidType, shape, same_tree}
+use Rattle.kinds.specs.Held.{is_void, own_type, IsHeld}
 use Rattle.kinds.specs.Table.{rule_of}
-use Rattle.kinds.specs.Fitting.{is_value, is_no_type, is_value_type, is_written, takes_fit}
+use Rattle.kinds.specs.Fitting.{is_no_type, is_value_type, is_written, takes_fit}
 use Rattle.kinds.specs.Typing.{fits_trees, typed, given, written_for}
 use Rattle.kinds.proofs.TypeLaws.{and_left}
-use Rattle.llvm_core.specs.Form.{IsShortInt, IsShortResult}
+use Rattle.kinds.proofs.HeldLaws.{own_of, value_own, held_own, held_first_class}
 use Rattle.dialect_core.specs.Rules as R
 use Rattle.dialect_core.specs.Rules.{Typing, type_nth, row_fits, row_result}
 use Rattle.dialect_core.specs.declared.ops.Value.{Value}
 use Rattle.meaning.specs.Pairs.{Matched}
 use Rattle.meaning.proofs.MatchedLaws.{matched_length}
-use Rattle.from_llvm_ir.specs.Types.{result_from}
 
--- ---- short types
+-- ---- the type of a result
 
-pub short_from : (t : TypeTree) → IsShortInt t → result_from t ≡ Some t
-short_from VoidType h = elim h [ ]
-short_from (IntType w) h = refl
-short_from (FunctionType r ps v) h = elim h [ ]
+-- it is there for a type that is translated
+pub held_is_own : (t : TypeTree) → IsHeld t → own_type t ≡ Some t
+held_is_own t h = own_of t (held_own t h)
 
-short_integer : (t : TypeTree) → IsShortInt t → R.IsInteger t
-short_integer VoidType h = elim h [ ]
-short_integer (IntType w) h = (h.0, omega (arith, h.1))
-short_integer (FunctionType r ps v) h = elim h [ ]
-
-pub short_type : (t : TypeTree) → IsShortInt t → R.IsShortInt t
-short_type VoidType h = elim h [ ]
-short_type (IntType w) h = h
-short_type (FunctionType r ps v) h = elim h [ ]
-
-pub short_own : (t : TypeTree) → IsShortResult t → IfSome (result_from t) R.IsShortInt
-short_own VoidType h = tt
-short_own (IntType w) h = h
-short_own (FunctionType r ps v) h = elim h [ ]
-
-pub integer_own : (t : TypeTree) → IsShortResult t → IfSome (result_from t) R.IsInteger
-integer_own VoidType h = tt
-integer_own (IntType w) h = short_integer (IntType w) h
-integer_own (FunctionType r ps v) h = elim h [ ]
+-- what holds of each type but void holds of it
+pub if_own : (P : TypeTree → Type 0) (t : TypeTree) → (is_void t ≡ false → P t) → IfSome (own_type t) P
+if_own P t h = by (is_void t) refl
+  where
+    by : (v : Bool) → is_void t ≡ v → IfSome (if v then None else Some t) P
+    by true is = tt
+    by false is = h is
 
 -- ---- the words of what a row gives
-
-value_from : (t : TypeTree) → is_value (shape t) ≡ true → result_from t ≡ Some t
-value_from VoidType h = cc
-value_from (IntType w) h = refl
-value_from (FunctionType r ps v) h = cc
 
 none_from : (w : Option TypeTree) → is_no_type shape same_tree w ≡ true → None ≡ w
 none_from None h = refl
 none_from (Some t) h = cc
 
-short_or_none : (a : Option TypeTree) → IfSome a IsShortInt → result_from (unwrap_or a VoidType) ≡ a
-short_or_none None h = refl
-short_or_none (Some t) h = short_from t h
+held_or_none : (a : Option TypeTree) → IfSome a IsHeld → own_type (unwrap_or a VoidType) ≡ a
+held_or_none None h = refl
+held_or_none (Some t) h = held_is_own t h
 
-value_or_none : (w : Option TypeTree) → is_value_type shape same_tree w ≡ true → result_from (unwrap_or w VoidType) ≡ w
+value_or_none : (w : Option TypeTree) → is_value_type shape same_tree w ≡ true → own_type (unwrap_or w VoidType) ≡ w
 value_or_none None h = refl
-value_or_none (Some t) h = value_from t h
+value_or_none (Some t) h = own_of t (value_own t h)
 
 -- a result has the type that is given, and none where that is none
-given_from : (k : Gives) (w a b : Option TypeTree) → is_written shape same_tree k w ≡ true → IfSome a IsShortInt → IfSome b IsShortInt → result_from (unwrap_or (given k w a b) VoidType) ≡ given k w a b
+given_from : (k : Gives) (w a b : Option TypeTree) → is_written shape same_tree k w ≡ true → IfSome a IsHeld → IfSome b IsHeld → own_type (unwrap_or (given k w a b) VoidType) ≡ given k w a b
 given_from G.Nothing w a b h f s = refl
-given_from G.First w a b h f s = short_or_none a f
-given_from G.Second w a b h f s = short_or_none b s
+given_from G.First w a b h f s = held_or_none a f
+given_from G.Second w a b h f s = held_or_none b s
 given_from G.Written w a b h f s = value_or_none w h
 given_from G.Bit w a b h f s = refl
 
@@ -81,10 +63,10 @@ written_from G.Second w a b h = none_from w h
 written_from G.Written w a b h = refl
 written_from G.Bit w a b h = none_from w h
 
-short_nth : (ts : List TypeTree) (i : ℕ) → All IsShortInt ts → IfSome (slice_get ts i) IsShortInt
-short_nth [] i h = tt
-short_nth (t ∷ ts) zero h = All-head IsShortInt t ts h
-short_nth (t ∷ ts) (suc i) h = short_nth ts i (All-tail IsShortInt t ts h)
+held_nth : (ts : List TypeTree) (i : ℕ) → All IsHeld ts → IfSome (slice_get ts i) IsHeld
+held_nth [] i h = tt
+held_nth (t ∷ ts) zero h = All-head IsHeld t ts h
+held_nth (t ∷ ts) (suc i) h = held_nth ts i (All-tail IsHeld t ts h)
 
 -- ---- values that have types
 
@@ -100,11 +82,11 @@ module _ (types : Typing) where
   nth_same (t ∷ ts) (v ∷ vs) h zero = h.0
   nth_same (t ∷ ts) (v ∷ vs) h (suc i) = nth_same ts vs h.1 i
 
-  pub integers : (ts : List TypeTree) (vs : List Value) → HaveTypes ts vs → All IsShortInt ts → All (R.IsIntegerBy types) vs
-  integers [] [] h short = All-nil _
-  integers [] (v ∷ vs) h short = elim h [ ]
-  integers (t ∷ ts) [] h short = elim h [ ]
-  integers (t ∷ ts) (v ∷ vs) h short = All-cons (R.IsIntegerBy types) v vs (t, h.0, short_integer t (All-head IsShortInt t ts short)) (integers ts vs h.1 (All-tail IsShortInt t ts short))
+  pub first_class : (ts : List TypeTree) (vs : List Value) → HaveTypes ts vs → All IsHeld ts → All (R.IsFirstClassBy types) vs
+  first_class [] [] h held = All-nil _
+  first_class [] (v ∷ vs) h held = elim h [ ]
+  first_class (t ∷ ts) [] h held = elim h [ ]
+  first_class (t ∷ ts) (v ∷ vs) h held = All-cons (R.IsFirstClassBy types) v vs (t, h.0, held_first_class t (All-head IsHeld t ts held)) (first_class ts vs h.1 (All-tail IsHeld t ts held))
 
   pub all_typed : (type : TypeTree) (ts : List TypeTree) (vs : List Value) → HaveTypes ts vs → All (λ (t : TypeTree). t ≡ type) ts → All (λ (v : Value). types v ≡ Some type) vs
   all_typed type [] [] h are = All-nil _
@@ -124,11 +106,11 @@ module _ (types : Typing) where
     gives : typed op w ts ≡ given k w (slice_get ts 0) (slice_get ts 1)
     gives = ap (λ (t : Bool). if t then given k w (slice_get ts 0) (slice_get ts 1) else None) fits
 
-    module _ (type : TypeTree) (own : Option TypeTree) (short : All IsShortInt ts) (is : type ≡ unwrap_or (typed op w ts) VoidType) (from : own ≡ result_from type) where
+    module _ (type : TypeTree) (own : Option TypeTree) (held : All IsHeld ts) (is : type ≡ unwrap_or (typed op w ts) VoidType) (from : own ≡ own_type type) where
       own_is : own ≡ given k w (slice_get ts 0) (slice_get ts 1)
       own_is =
-          from ∙ ap result_from (is ∙ ap (λ (o : Option TypeTree). unwrap_or o VoidType) gives)
-          ∙ given_from k w (slice_get ts 0) (slice_get ts 1) written (short_nth ts 0 short) (short_nth ts 1 short)
+          from ∙ ap own_type (is ∙ ap (λ (o : Option TypeTree). unwrap_or o VoidType) gives)
+          ∙ given_from k w (slice_get ts 0) (slice_get ts 1) written (held_nth ts 0 held) (held_nth ts 1 held)
 
       written_is : written_for k own ≡ w
       written_is = ap (written_for k) own_is ∙ written_from k w (slice_get ts 0) (slice_get ts 1) written

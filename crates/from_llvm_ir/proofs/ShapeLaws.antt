@@ -1,5 +1,5 @@
 -- A whole function has the shape of its source.
-use Rattle.std.proofs.Common.{ℕ, zero, suc, ◌≡◌, ◌<◌, ◌+◌, refl, sym, ap, subst, ◌∙◌, Bool, true, false, not, cond, nat_eq, List, [], ◌∷◌, ◌++◌, Option, Some, None, filter, map, length, take, slice_get, arith, eq-eqb, ne_eqb}
+use Rattle.std.proofs.Common.{ℕ, zero, suc, ◌≡◌, ◌<◌, ◌+◌, refl, sym, ap, subst, ◌∙◌, Bool, true, false, not, cond, if◌then◌else◌, nat_eq, List, [], ◌∷◌, ◌++◌, Option, Some, None, filter, map, length, take, slice_get, arith, eq-eqb, ne_eqb}
 use Rattle.std.specs.Prelude.{is_some, slice_index_or}
 use Rattle.std.proofs.Common.{◌≤◌, inl, inr}
 use Rattle.std.specs.List.{filter_map, flat_map, find, cons_option, position_from}
@@ -32,7 +32,8 @@ use Rattle.meaning.specs.Dialect.{option_type}
 use Rattle.meaning.specs.Shape.{Plan, SameRow, SameMove, SameEdge, SameBlock, SameBlocks, SameShape, IsFront}
 use Rattle.meaning.specs.Shape as Shape
 use Rattle.from_llvm_ir.specs.Order.{IsInverse}
-use Rattle.from_llvm_ir.specs.Types.{result_from}
+use Rattle.kinds.specs.Held.{is_void, own_type}
+use Rattle.kinds.proofs.HeldLaws.{void_is}
 use Rattle.from_llvm_ir.specs.Imported.{phis_of, rest_of, front_for, first_entry}
 use Rattle.from_llvm_ir.specs.Source.{IsUsable}
 use Rattle.from_llvm_ir.specs.Known.{Known, Stands, blocks_of, value_of}
@@ -41,7 +42,7 @@ use Rattle.from_llvm_ir.proofs.ListLaws.{matched_from, matched_map}
 use Rattle.from_llvm_ir.proofs.PlaceLaws.{flat_same, flat_none}
 use Rattle.from_llvm_ir.proofs.OrderLaws.{ordered_at, ordered_first, placed, not_first}
 use Rattle.from_llvm_ir.proofs.PassLaws.{takes, phi_is, inst_form, operands_usable}
-use Rattle.from_llvm_ir.proofs.MatchLaws.{type_stays, int_stays}
+use Rattle.from_llvm_ir.proofs.MatchLaws.{type_stays}
 use Rattle.from_llvm_ir.proofs.HoistedLaws.{rows_of, is_among, term_of}
 use Rattle.from_llvm_ir.proofs.Whole.{IsWhole, the_func, bs_length, first_source, operand_typed, target_at, find_target, find_source, source_block_apart, target_apart, entry}
 use Rattle.from_llvm_ir.proofs.EdgeLaws.{EdgeAt, edge_at, args_length, arg_at}
@@ -139,7 +140,7 @@ module _ (source made : Setting) (n : ℕ) (k : Known) (cs : List DialectBlock) 
   -- ---- operands
 
   constant_stays : (c : ConstTree) → rename match (Llvm.const_term source c) ≡ Llvm.const_term source c
-  constant_stays (L.IntConst t v) = int_stays match t v
+  constant_stays (L.IntConst w v) = refl
   constant_stays (L.PlaceholderConst q t) = refl
 
   hoisted_apart : (i j : ℕ) (x y : DialectOp) → slice_get k.hoisted i ≡ Some x → slice_get k.hoisted j ≡ Some y → x.number ≡ y.number → i ≡ j
@@ -162,13 +163,12 @@ module _ (source made : Setting) (n : ℕ) (k : Known) (cs : List DialectBlock) 
 
   -- ---- rows
 
-  result_type : (p : Placed) (o : DialectOp) → o.result ≡ result_from p.type → rename_type match p.type ≡ option_type o.result
-  result_type p o e = type_stays match p.type ∙ by p.type ∙ sym (ap option_type e)
+  result_type : (p : Placed) (o : DialectOp) → o.result ≡ own_type p.type → rename_type match p.type ≡ option_type o.result
+  result_type p o e = type_stays match p.type ∙ by (is_void p.type) refl ∙ sym (ap option_type e)
     where
-      by : (t : L.TypeTree) → t ≡ option_type (result_from t)
-      by L.VoidType = refl
-      by (L.IntType w) = refl
-      by (L.FunctionType r ps v) = refl
+      by : (v : Bool) → is_void p.type ≡ v → p.type ≡ option_type (if v then None else Some p.type)
+      by true is = void_is p.type is
+      by false is = refl
 
   types_same : (os : List L.Operand) (ws : List Value) → ((j : ℕ) (o : L.Operand) → slice_get os j ≡ Some o → IsUsable g o) → Matched (Stands k) os ws → map (rename_type match) (map (operand_type g) os) ≡ map (λ (v : Value). option_type (value_type G v)) ws
   types_same [] [] f m = refl

@@ -1,8 +1,8 @@
 -- What the numbers of a source module stand for in its data.
-use Rattle.std.proofs.Common.{ℕ, ◌≡◌, ◌<◌, refl, sym, ap, subst, ◌∙◌, List, [], ◌∷◌, Some, None, All, length, map, slice_get, get_or, false, arith}
+use Rattle.std.proofs.Common.{ℕ, ◌≡◌, ◌<◌, refl, sym, ap, subst, ◌∙◌, List, [], ◌∷◌, Some, None, All, length, map, slice_get, get_or, Bool, false, if◌then◌else◌, arith}
 use Rattle.std.specs.Prelude.{is_some}
 use Rattle.std.specs.Option.{option_map}
-use Rattle.std.proofs.lemmas.List.Elements.{All-get_or}
+use Rattle.std.proofs.lemmas.List.Elements.{All-get_or, All-nil, All-cons, All-head, All-tail}
 use Rattle.std.proofs.lemmas.Option.{slice_get_within, same_Some, get_or_from_slice_get, slice_get-get_or}
 use Rattle.support.proofs.ListLaws.{item_there}
 use Rattle.support.proofs.OptionLaws.{part_of}
@@ -21,14 +21,17 @@ use Rattle.llvm_core.specs.declared.code.BlockData.{BlockData}
 use Rattle.llvm_core.specs.Module.{Module}
 use Rattle.llvm_core.specs.Sound.{IsModule}
 use Rattle.llvm_core.specs.declared.code.LLVMValue.TheVariants as V
-use Rattle.llvm_core.specs.Parts.{is_phi, value_type}
+use Rattle.llvm_core.specs.Parts.{is_phi, value_type, shape_of}
 use Rattle.llvm_core.specs.Form as LF
-use Rattle.llvm_core.specs.Form.{IsForm, IsFormFunction, IsShortInt, IsShortResult, AreShortInts}
-use Rattle.llvm_core.specs.Data.{TypeTree, IntType, FunctionType, TypeTrees, type_at, types_at, type_tree, trees_of, Function, function_of, Block, block_of, Placed, placed_of, Instruction, instruction_of, phi_entries, Trees, data_of}
+use Rattle.llvm_core.specs.Form.{IsForm, IsFormFunction}
+use Rattle.llvm_core.specs.Data.{TypeTree, FunctionType, TypeTrees, type_at, types_at, type_tree, trees_of, Function, function_of, Block, block_of, Placed, placed_of, Instruction, instruction_of, phi_entries, Trees, data_of}
 use Rattle.llvm_core.proofs.ApartLemmas.{apart}
-use Rattle.llvm_core.proofs.DataLemmas.{within_at, type_tree_of, void_tree_of, int_tree_of, function_tree_of, function_at, function_count, block_count_of, block_of_number, inst_count_of, inst_of_number}
-use Rattle.dialect_core.specs.Form.{types_list}
-use Rattle.from_llvm_ir.specs.Types.{result_from, args_from}
+use Rattle.llvm_core.proofs.DataLemmas.{within_at, type_tree_of, function_at, function_count, block_count_of, block_of_number, inst_count_of, inst_of_number}
+use Rattle.llvm_core.proofs.RuleLaws.{shape_kept}
+use Rattle.llvm_core.proofs.FormTypes.{signature_of}
+use Rattle.kinds.specs.Types.{types_list, count_types, params_of}
+use Rattle.kinds.specs.Held.{is_void, own_type, IsHeld, IsHeldResult}
+use Rattle.kinds.specs.Fitting.{is_nothing}
 use Rattle.from_llvm_ir.specs.Source.{IsSource, IsTypeOf, IsBlockOf, IsInstOf, AreBlocksOf, AreInstsOf}
 use Rattle.from_llvm_ir.proofs.TypeLaws.{listed}
 
@@ -48,10 +51,11 @@ number_is m f g h = ap (λ (x : Function). x.number) (function_row m f g h).1.1
 
 -- ---- types
 
-pub short_at : (ts : List TypeTree) (xs : List LLVMType) (i : ℕ) (d : LLVMType) → i < length xs → AreShortInts (types_at ts xs) → IsShortInt (type_at ts (get_or xs i d))
-short_at ts [] i d lt h = absurd (omega arith)
-short_at ts (x ∷ xs) ℕ.zero d lt h = h.0
-short_at ts (x ∷ xs) (ℕ.suc i) d lt h = short_at ts xs i d (omega arith) h.1
+all_held : (ts : List TypeTree) (xs : List LLVMType) → All IsHeld (types_list (types_at ts xs)) → All (λ (t : LLVMType). IsHeld (type_at ts t)) xs
+all_held ts [] h = All-nil _
+all_held ts (x ∷ xs) h =
+    let H : LLVMType → Type 0 = λ t. IsHeld (type_at ts t) in
+    All-cons H x xs (All-head IsHeld (type_at ts x) (types_list (types_at ts xs)) h) (all_held ts xs (All-tail IsHeld (type_at ts x) (types_list (types_at ts xs)) h))
 
 -- the kind of a function's type has the trees of the function's type
 pub signature : (m : Module) (f : LLVMFunction) (g : Function) (h : IsSource m f g) (ty : LLVMType) (k : LLVMTypeKind) → option_map (λ (x : FunctionData). x.ty) (slice_get m.functions f.0) ≡ Some ty → slice_get m.types ty.0 ≡ Some k
@@ -66,24 +70,25 @@ signature m f g h ty k has at =
 -- so it is a function type
 pub function_kind : (m : Module) (f : LLVMFunction) (g : Function) (h : IsSource m f g) (ty : LLVMType) (k : LLVMTypeKind) → option_map (λ (x : FunctionData). x.ty) (slice_get m.functions f.0) ≡ Some ty → slice_get m.types ty.0 ≡ Some k
     → (r : LLVMType) × (ps : List LLVMType) × (v : _) × (k ≡ T.Function r ps v)
-function_kind m f g h ty T.Void has at = absurd (let e = signature m f g h ty T.Void has at in let no : ⊥ = cc in no)
-function_kind m f g h ty (T.Int w) has at = absurd (let e = signature m f g h ty (T.Int w) has at in let no : ⊥ = cc in no)
-function_kind m f g h ty (T.Function r ps v) has at = (r, ps, v, refl)
+function_kind m f g h ty k has at =
+    let x = part_of (λ (y : FunctionData). y.ty) (slice_get m.functions f.0) ty has in
+    let s = signature_of m f.0 x.0 h.form.result h.form.types false h.sound x.1.0 (ap (type_at (trees_of m).types) x.1.1 ∙ type_tree_of m ty k h.sound at ∙ signature m f g h ty k has at) in
+    (s.returned, s.params, s.variadic, same_Some k (T.Function s.returned s.params s.variadic) (sym at ∙ ap (λ (t : LLVMType). slice_get m.types t.0) (sym x.1.1) ∙ s.kind_is))
 
--- whose parameters and result are short
-pub params_short : (m : Module) (f : LLVMFunction) (g : Function) (h : IsSource m f g) (ty : LLVMType) (k : LLVMTypeKind) (r : LLVMType) (ps : List LLVMType) (v : _) → option_map (λ (x : FunctionData). x.ty) (slice_get m.functions f.0) ≡ Some ty → slice_get m.types ty.0 ≡ Some k
-    → k ≡ T.Function r ps v → AreShortInts (types_at (trees_of m).types ps)
-params_short m f g h ty k r ps v has at is =
+-- whose parameters and result are translated
+pub params_held : (m : Module) (f : LLVMFunction) (g : Function) (h : IsSource m f g) (ty : LLVMType) (k : LLVMTypeKind) (r : LLVMType) (ps : List LLVMType) (v : _) → option_map (λ (x : FunctionData). x.ty) (slice_get m.functions f.0) ≡ Some ty → slice_get m.types ty.0 ≡ Some k
+    → k ≡ T.Function r ps v → All (λ (t : LLVMType). IsHeld (type_at (trees_of m).types t)) ps
+params_held m f g h ty k r ps v has at is =
     let e = signature m f g h ty k has at in
     let same : types_at (trees_of m).types ps ≡ h.form.types = cc (e, ap (type_tree (trees_of m).types) is) in
-    subst AreShortInts (sym same) h.form.takes
+    all_held (trees_of m).types ps (subst (λ (ts : TypeTrees). All IsHeld (types_list ts)) (sym same) h.form.takes)
 
-pub result_short : (m : Module) (f : LLVMFunction) (g : Function) (h : IsSource m f g) (ty : LLVMType) (k : LLVMTypeKind) (r : LLVMType) (ps : List LLVMType) (v : _) → option_map (λ (x : FunctionData). x.ty) (slice_get m.functions f.0) ≡ Some ty → slice_get m.types ty.0 ≡ Some k
-    → k ≡ T.Function r ps v → (type_at (trees_of m).types r ≡ h.form.result) × IsShortResult (type_at (trees_of m).types r)
-result_short m f g h ty k r ps v has at is =
+pub result_held : (m : Module) (f : LLVMFunction) (g : Function) (h : IsSource m f g) (ty : LLVMType) (k : LLVMTypeKind) (r : LLVMType) (ps : List LLVMType) (v : _) → option_map (λ (x : FunctionData). x.ty) (slice_get m.functions f.0) ≡ Some ty → slice_get m.types ty.0 ≡ Some k
+    → k ≡ T.Function r ps v → (type_at (trees_of m).types r ≡ h.form.result) × IsHeldResult (type_at (trees_of m).types r)
+result_held m f g h ty k r ps v has at is =
     let e = signature m f g h ty k has at in
     let same : type_at (trees_of m).types r ≡ h.form.result = cc (e, ap (type_tree (trees_of m).types) is) in
-    (same, subst IsShortResult (sym same) h.form.returns)
+    (same, subst IsHeldResult (sym same) h.form.returns)
 
 -- and stand before it
 pub parts_within : (m : Module) (ty : LLVMType) (r : LLVMType) (ps : List LLVMType) (v : _) → IsModule m → slice_get m.types ty.0 ≡ Some (T.Function r ps v) → (r.0 < length m.types) × All (λ (t : LLVMType). t.0 < length m.types) ps
@@ -94,11 +99,11 @@ parts_within m ty r ps v sound at =
 
 -- the types of its parameters, as the dialect has them
 pub params_listed : (m : Module) (f : LLVMFunction) (g : Function) (h : IsSource m f g) (ty : LLVMType) (k : LLVMTypeKind) (r : LLVMType) (ps : List LLVMType) (v : _) → option_map (λ (x : FunctionData). x.ty) (slice_get m.functions f.0) ≡ Some ty → slice_get m.types ty.0 ≡ Some k
-    → k ≡ T.Function r ps v → map (λ (t : LLVMType). type_at (trees_of m).types t) ps ≡ args_from g.type
+    → k ≡ T.Function r ps v → map (λ (t : LLVMType). type_at (trees_of m).types t) ps ≡ params_of g.type
 params_listed m f g h ty k r ps v has at is =
     let e = signature m f g h ty k has at in
     let same : types_at (trees_of m).types ps ≡ h.form.types = cc (e, ap (type_tree (trees_of m).types) is) in
-    listed (trees_of m).types ps ∙ ap (λ (ts : TypeTrees). types_list ts) same ∙ sym (ap args_from h.form.type)
+    listed (trees_of m).types ps ∙ ap (λ (ts : TypeTrees). types_list ts) same ∙ sym (ap params_of h.form.type)
 
 -- ---- blocks and instructions
 
@@ -229,14 +234,14 @@ block_named m f g place b to h at number =
         let is : n.0 ≡ to.0 = sym (block_number m g n place x.0 x.1) ∙ ap (λ (y : Block). y.number) same ∙ number in
         subst (λ (y : ℕ). IsBlockOf m g (record { 0 = y }) place b) is (subst (IsBlockOf m g n place) same x.1)
 
--- the type of an instruction is short or void
+-- the type of an instruction is translated, or void
 pub type_of_inst : (m : Module) (f : LLVMFunction) (g : Function) (n : LLVMBasicBlock) (place : ℕ) (b : Block) (i : LLVMInstRef) (at : ℕ) (p : Placed) → IsSource m f g → IsBlockOf m g n place b → IsInstOf m b i at p → IsTypeOf m i p.type
 type_of_inst m f g n place b i at p h of_block inst = record {
   sound = h.sound;
   row = inst.row;
   here = inst.here;
   is = ap (λ (q : Placed). q.type) inst.is;
-  short = (within_at b.instructions (LF.IsFormPlaced g b.number) (within_at g.blocks (LF.IsFormBlock g) h.form.blocks place b of_block.at).instructions at p inst.at).short;
+  held = (within_at b.instructions (LF.IsFormPlaced g b.number) (within_at g.blocks (LF.IsFormBlock g) h.form.blocks place b of_block.at).instructions at p inst.at).held;
 }
 
 -- the type that is read of an instruction
@@ -251,19 +256,13 @@ pub params_counted : (m : Module) (f : LLVMFunction) (g : Function) (h : IsSourc
 params_counted m f g h ty k r ps v has at is =
     let e = signature m f g h ty k has at in
     let same : types_at (trees_of m).types ps ≡ h.form.types = cc (e, ap (type_tree (trees_of m).types) is) in
-    counted (trees_of m).types ps ∙ ap LF.count_types same ∙ sym h.form.params
+    counted (trees_of m).types ps ∙ ap count_types same ∙ sym h.form.params
   where
-    counted : (ts : List TypeTree) (xs : List LLVMType) → length xs ≡ LF.count_types (types_at ts xs)
+    counted : (ts : List TypeTree) (xs : List LLVMType) → length xs ≡ count_types (types_at ts xs)
     counted ts [] = refl
     counted ts (x ∷ xs) = (let c = counted ts xs in omega (arith, c))
 
--- the type of a result by its kind
-pub void_read : (m : Module) (i : LLVMInstRef) (t : TypeTree) (ty : LLVMType) → IsTypeOf m i t → value_type m (V.Inst i) ≡ Some ty → slice_get m.types ty.0 ≡ Some T.Void → None ≡ result_from t
-void_read m i t ty h has at = sym (ap result_from (sym (type_read m i t ty h has) ∙ void_tree_of m ty h.sound at))
-
-pub other_read : (m : Module) (i : LLVMInstRef) (t : TypeTree) (ty : LLVMType) (k : LLVMTypeKind) → IsTypeOf m i t → value_type m (V.Inst i) ≡ Some ty → slice_get m.types ty.0 ≡ Some k → ¬ (k ≡ T.Void) → Some t ≡ result_from t
-other_read m i t ty T.Void h has at differs = absurd (differs refl)
-other_read m i t ty (T.Int w) h has at differs = let is : t ≡ IntType w = sym (type_read m i t ty h has) ∙ int_tree_of m ty w h.sound at in ap (λ (x : TypeTree). Some x) is ∙ sym (ap result_from is)
-other_read m i t ty (T.Function r ps v) h has at differs =
-    let is : t ≡ FunctionType (type_at (trees_of m).types r) (types_at (trees_of m).types ps) v = sym (type_read m i t ty h has) ∙ function_tree_of m ty r ps v h.sound at in
-    ap (λ (x : TypeTree). Some x) is ∙ sym (ap result_from is)
+-- the type of a result, by the shape of its kind
+pub own_read : (m : Module) (i : LLVMInstRef) (t : TypeTree) (ty : LLVMType) (k : LLVMTypeKind) (none : Bool) → IsTypeOf m i t → value_type m (V.Inst i) ≡ Some ty → slice_get m.types ty.0 ≡ Some k → none ≡ is_nothing (shape_of k) → (if none then None else Some t) ≡ own_type t
+own_read m i t ty k none h has at is =
+    ap (λ (v : Bool). if v then None else Some t) (is ∙ ap is_nothing (shape_kept (trees_of m).types k) ∙ ap is_void (sym (type_tree_of m ty k h.sound at) ∙ type_read m i t ty h has))

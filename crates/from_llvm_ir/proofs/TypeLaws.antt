@@ -1,16 +1,18 @@
 -- Types of the source and of the dialect.
-use Rattle.std.proofs.Common.{ℕ, ◌≡◌, ◌<◌, ◌≤◌, ◌+◌, List, [], ◌∷◌, ◌++◌, All, Some, true, false, filter, slice_get, length, map, take, get_or, refl, sym, ap, subst, ◌∙◌, arith}
+use Rattle.std.proofs.Common.{ℕ, ◌≡◌, ◌<◌, ◌≤◌, ◌+◌, List, [], ◌∷◌, ◌++◌, All, Some, Bool, true, false, filter, slice_get, length, map, take, get_or, refl, sym, ap, subst, ◌∙◌, arith}
 use Rattle.std.proofs.lemmas.List.{map_push, take_all, map_more}
 use Rattle.std.proofs.lemmas.List.Elements.{All-weaker, All-push, All-nil, All-head, All-tail}
 use Rattle.llvm_core.specs.declared.numbers.LLVMType.{LLVMType}
 use Rattle.llvm_core.specs.Data as L
-use Rattle.llvm_core.specs.Form.{IsShortResult, AreShortInts, is_phi}
+use Rattle.llvm_core.specs.Form.{is_phi}
 use Rattle.dialect_types.specs.declared.types.TypeHandle.{TypeHandle}
 use Rattle.dialect_types.specs.Trees.{TypeTree, FunctionType, TypeTrees, NoTypes, ThenType, depth, depths, type_at, types_at, type_trees, AllBelow}
 use Rattle.dialect_core.specs.ContextData.{ContextData}
-use Rattle.dialect_core.specs.Form.{types_list}
+use Rattle.kinds.specs.Types.{VoidType, IntType, types_list, params_of}
+use Rattle.kinds.specs.Held.{is_void, IsHeld, IsHeldResult}
+use Rattle.kinds.proofs.HeldLaws.{void_is, held_result_own}
 use Rattle.from_llvm_ir.proofs.PlaceLaws.{filter_next, filter_skip}
-use Rattle.from_llvm_ir.specs.Types.{GrowsTypes, args_from}
+use Rattle.from_llvm_ir.specs.Types.{GrowsTypes}
 
 -- ---- types of the context that grow
 
@@ -117,29 +119,36 @@ pub all_below : (n : ℕ) (ts : List TypeHandle) → All (λ (t : TypeHandle). t
 all_below n [] h = tt
 all_below n (t ∷ ts) h = (All-head (λ (x : TypeHandle). x.0 < n) t ts h, all_below n ts (All-tail (λ (x : TypeHandle). x.0 < n) t ts h))
 
--- ---- short types nest little
+-- ---- types that are translated nest little
 
-short_depth : (t : L.TypeTree) → IsShortResult t → depth t ≤ 1
-short_depth L.VoidType h = omega arith
-short_depth (L.IntType w) h = omega arith
-short_depth (L.FunctionType r ps v) h = elim h [ ]
+-- a fact of the structure of types: a line for each kind
+held_depth : (t : TypeTree) → IsHeld t → depth t ≤ 1
+unfolding IsHeld
+held_depth VoidType h = omega arith
+held_depth (IntType w) h = omega arith
+held_depth (FunctionType r ps v) h = absurd (let no : ⊥ = cc in no)
 
-short_ints_depth : (ts : L.TypeTrees) → AreShortInts ts → depths ts ≤ 1
-short_ints_depth L.NoTypes h = omega arith
-short_ints_depth (L.ThenType L.VoidType ts) h = elim h.0 [ ]
-short_ints_depth (L.ThenType (L.IntType w) ts) h = omega (arith, short_ints_depth ts h.1)
-short_ints_depth (L.ThenType (L.FunctionType r ps v) ts) h = elim h.0 [ ]
+held_depths : (ts : TypeTrees) → All IsHeld (types_list ts) → depths ts ≤ 1
+held_depths NoTypes h = omega arith
+held_depths (ThenType t ts) h = omega (arith, held_depth t (All-head IsHeld t (types_list ts) h), held_depths ts (All-tail IsHeld t (types_list ts) h))
 
-pub signature_depth : (r : TypeTree) (ps : TypeTrees) (s : L.TypeTree) (qs : L.TypeTrees) → r ≡ s → ps ≡ qs → IsShortResult s → AreShortInts qs → depth (FunctionType r ps false) ≤ 1000
-signature_depth r ps s qs e f h k = rw (e, f) (omega (arith, short_depth s h, short_ints_depth qs k))
+result_depth : (t : TypeTree) → IsHeldResult t → depth t ≤ 1
+result_depth t h = by (is_void t) refl
+  where
+    by : (v : Bool) → is_void t ≡ v → depth t ≤ 1
+    by true is = rw (void_is t is) (omega arith)
+    by false is = held_depth t (held_result_own t h is)
+
+pub signature_depth : (r : TypeTree) (ps : TypeTrees) (s : TypeTree) (qs : TypeTrees) → r ≡ s → ps ≡ qs → IsHeldResult s → All IsHeld (types_list qs) → depth (FunctionType r ps false) ≤ 1000
+signature_depth r ps s qs e f h k = rw (e, f) (omega (arith, result_depth s h, held_depths qs k))
 
 -- ---- parts of a signature
 
 -- the types of parameters, once the context has more types
-pub params_still : (a b : ContextData) (ts us : List TypeHandle) (t : L.TypeTree) (r : L.TypeTree) (ps : L.TypeTrees) → GrowsTypes a b → All (λ (t : TypeHandle). t.0 < length a.types) ts → map (type_at (type_trees a.types)) ts ≡ args_from t → t ≡ L.FunctionType r ps false → us ≡ ts
+pub params_still : (a b : ContextData) (ts us : List TypeHandle) (t : L.TypeTree) (r : L.TypeTree) (ps : L.TypeTrees) → GrowsTypes a b → All (λ (t : TypeHandle). t.0 < length a.types) ts → map (type_at (type_trees a.types)) ts ≡ params_of t → t ≡ L.FunctionType r ps false → us ≡ ts
     → types_at (type_trees b.types) us ≡ ps
 params_still a b ts us t r ps g within are is same =
-    ap (types_at (type_trees b.types)) same ∙ params_are (type_trees b.types) ts ps (trees_kept a b g ts within ∙ are ∙ ap args_from is)
+    ap (types_at (type_trees b.types)) same ∙ params_are (type_trees b.types) ts ps (trees_kept a b g ts within ∙ are ∙ ap params_of is)
 
 pub below_still : (a b : ContextData) (ts us : List TypeHandle) → GrowsTypes a b → All (λ (t : TypeHandle). t.0 < length a.types) ts → us ≡ ts → AllBelow (length b.types) us
 below_still a b ts us g within same = subst (AllBelow (length b.types)) (sym same) (all_below (length b.types) ts (within_kept a b g ts within))

@@ -16,7 +16,8 @@ use Rattle.dialect_core.specs.Lists.{list_at}
 use Rattle.dialect_core.specs.ContextData.{ContextData, AreRegions, IsSymbol, holder_at, is_func, kind_at, region_at}
 use Rattle.dialect_core.specs.Data.{Func, data_of, held, type_in}
 use Rattle.dialect_core.specs.Form.{IsFormFunc, IsExportable, LeadsToOwn}
-use Rattle.dialect_core.specs.WellFormed.{HasIntegerArgs, IsFew, IsFewFunc, IsInteger, IsOpenForm, IsPlainAt, IsWellFormedFunc, HasNamesApart, IsWellFormed}
+use Rattle.kinds.specs.Held.{IsFirstClass}
+use Rattle.dialect_core.specs.WellFormed.{HasFirstClassArgs, IsFew, IsFewFunc, IsOpenForm, IsPlainAt, IsWellFormedFunc, HasNamesApart, IsWellFormed}
 use Rattle.dialect_core.proofs.HoldLemmas.{flat_stands}
 use Rattle.dialect_core.proofs.LineLemmas.{all_at}
 use Rattle.dialect_core.proofs.OwnEdgeLaws.{own_module}
@@ -89,14 +90,14 @@ module _ (d : L.ModuleData) (c : ContextData) (m : ℕ) (body : BlockRef) (xs : 
   lists = let P : List OpRef → Type 0 = λ os. IsFew os × All (IsFewFunc c) os in subst P (sym (held_list c m body h.held)) few
 
   -- the block for functions takes nothing
-  args : All (HasIntegerArgs c) (region_at c.ops m)
+  args : All (HasFirstClassArgs c) (region_at c.ops m)
   args =
-      let P : List BlockRef → Type 0 = All (HasIntegerArgs c) in
-      subst P (sym h.held.region) (All-cons (HasIntegerArgs c) body [] none (All-nil (HasIntegerArgs c)))
+      let P : List BlockRef → Type 0 = All (HasFirstClassArgs c) in
+      subst P (sym h.held.region) (All-cons (HasFirstClassArgs c) body [] none (All-nil (HasFirstClassArgs c)))
     where
-      none : HasIntegerArgs c body
+      none : HasFirstClassArgs c body
       none x at =
-          let Q : List TypeHandle → Type 0 = λ ts. IsFew ts × All (λ (t : TypeHandle). IsInteger (type_at (type_trees c.types) t)) ts in
+          let Q : List TypeHandle → Type 0 = λ ts. IsFew ts × All (λ (t : TypeHandle). IsFirstClass (type_at (type_trees c.types) t)) ts in
           subst Q (sym (h.held.bare x at)) (omega arith, λ k d l. absurd (omega (arith, l)))
 
   pub well_formed : IsDistinctNames (function_names d.functions) → IsWellFormed c m

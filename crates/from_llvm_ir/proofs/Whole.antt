@@ -6,23 +6,22 @@ use Rattle.std.proofs.lemmas.Option.{slice_get_within, same_Some, none-some}
 use Rattle.meaning.proofs.MatchedLaws.{matched_at}
 use Rattle.support.proofs.ListLaws.{item_there, slice_get-kept}
 use Rattle.support.specs.Interned.{IsDistinctList}
+use Rattle.kinds.specs.Types.{types_list, count_types, params_of}
+use Rattle.kinds.specs.Held.{IsHeld}
 use Rattle.llvm_core.specs.Form as LF
 use Rattle.llvm_core.specs.Data as L
-use Rattle.llvm_core.specs.Data.{ConstTree, IntConst, PlaceholderConst, IntType, VoidType, FunctionType, Placed, operand_type, placed_in}
+use Rattle.llvm_core.specs.Data.{ConstTree, IntConst, PlaceholderConst, VoidType, Placed, operand_type, placed_in}
 use Rattle.dialect_types.specs.Trees.{TypeTree}
 use Rattle.dialect_core.specs.declared.numbers.BlockRef.{BlockRef}
 use Rattle.dialect_core.specs.declared.ops.Value.{Value}
 use Rattle.dialect_core.specs.declared.ops.Value.TheVariants as V
-use Rattle.dialect_core.specs.Form.{types_list}
 use Rattle.dialect_core.specs.Data.{DialectOp, DialectBlock, Func, value_type}
 use Rattle.meaning.specs.Pairs.{Matched}
 use Rattle.from_llvm_ir.specs.Match.{IsPlaces}
-use Rattle.from_llvm_ir.specs.Types.{args_from}
 use Rattle.from_llvm_ir.specs.Building.{AreNumbered, bare_func, ops_of}
-use Rattle.from_llvm_ir.specs.Source.{IsShortConst}
 use Rattle.from_llvm_ir.specs.Known.{Known, Stands, IsConstantOp, beside, blocks_of, value_of}
 use Rattle.from_llvm_ir.specs.Converted.{IsConverted, AreConverted, IsFrom, FromArgument, FromResult, AreFrom}
-use Rattle.from_llvm_ir.proofs.RowLaws.{short_from}
+use Rattle.from_llvm_ir.proofs.RowLaws.{held_is_own}
 use Rattle.from_llvm_ir.proofs.PlaceLaws.{flat_at, flat_from, flat_same, found, number_apart}
 use Rattle.from_llvm_ir.proofs.OrderLaws.{ordered_length, ordered_at, ordered_apart}
 
@@ -34,7 +33,7 @@ pub record IsWhole (k : Known) (cs : List DialectBlock) : Type 0 where
   pub numbered : AreNumbered k.frame.base cs
   pub fresh : (i j : ℕ) (a b : DialectOp) → slice_get (ops_of cs) i ≡ Some a → slice_get (ops_of cs) j ≡ Some b → a.number ≡ b.number → i ≡ j
   pub made : Matched IsConstantOp k.constants k.hoisted
-  pub short : (i : ℕ) (c : ConstTree) → slice_get k.constants i ≡ Some c → IsShortConst c
+  pub short : (i : ℕ) (c : ConstTree) → slice_get k.constants i ≡ Some c → LF.IsShortConst c
   pub once : IsDistinctList k.constants
   pub sources : k.sources ≡ flat_map (λ (b : L.Block). b.instructions) (blocks_of k.frame)
   pub long : length k.done ≡ length k.sources
@@ -86,19 +85,17 @@ beside_more {X = X} {Y = Y} test (x ∷ xs) xs' (z ∷ ys) ys' y h = by (test x)
 
 -- ---- types of parameters
 
-nth_listed : (ts : L.TypeTrees) (i : ℕ) → i < LF.count_types ts → slice_get (types_list ts) i ≡ Some (L.nth_type ts i)
+nth_listed : (ts : L.TypeTrees) (i : ℕ) → i < count_types ts → slice_get (types_list ts) i ≡ Some (L.nth_type ts i)
 nth_listed L.NoTypes i lt = absurd (omega arith)
 nth_listed (L.ThenType t ts) ℕ.zero lt = refl
 nth_listed (L.ThenType t ts) (ℕ.suc i) lt = nth_listed ts i (omega arith)
 
-pub listed_length : (ts : L.TypeTrees) → length (types_list ts) ≡ LF.count_types ts
+pub listed_length : (ts : L.TypeTrees) → length (types_list ts) ≡ count_types ts
 listed_length L.NoTypes = refl
 listed_length (L.ThenType t ts) = let e = listed_length ts in omega (arith, e)
 
 constant_result : (c : ConstTree) (o : DialectOp) → IsConstantOp c o → o.result ≡ Some (L.const_type c)
-constant_result (IntConst VoidType v) o h = elim h [ ]
-constant_result (IntConst (IntType w) v) o h = ap (λ (x : DialectOp). x.result) h
-constant_result (IntConst (FunctionType r ps x) v) o h = elim h [ ]
+constant_result (IntConst w v) o h = ap (λ (x : DialectOp). x.result) h
 constant_result (PlaceholderConst n t) o h = elim h [ ]
 
 abbrev pub the_func : ℕ → Known → List DialectBlock → Func
@@ -165,9 +162,9 @@ module _ (n : ℕ) (k : Known) (cs : List DialectBlock) (h : IsWhole k cs) where
       let i = op_at j y c o at here in
       ap (option_and_then (λ (x : DialectOp). x.result)) (found (λ (x : DialectOp). x.number) (ops_of cs) i.0 o o.number refl i.1 (λ a z at_z same. h.fresh a i.0 z o at_z i.1 same))
 
-  from_typed : (p : Placed) (w : Value) → IsFrom cs p w → LF.IsShortInt p.type → value_type G w ≡ Some p.type
-  from_typed p w (FromArgument j i c at is type) short = ap (value_type G) is ∙ arg_typed j i c (record { 0 = c.number }) p.type at refl type
-  from_typed p w (FromResult j y c o at here is type) short = ap (value_type G) is ∙ result_typed j y c o at here ∙ type ∙ short_from p.type short
+  from_typed : (p : Placed) (w : Value) → IsFrom cs p w → IsHeld p.type → value_type G w ≡ Some p.type
+  from_typed p w (FromArgument j i c at is type) held = ap (value_type G) is ∙ arg_typed j i c (record { 0 = c.number }) p.type at refl type
+  from_typed p w (FromResult j y c o at here is type) held = ap (value_type G) is ∙ result_typed j y c o at here ∙ type ∙ held_is_own p.type held
 
   -- ---- instructions by their numbers
 
@@ -193,9 +190,9 @@ module _ (n : ℕ) (k : Known) (cs : List DialectBlock) (h : IsWhole k cs) where
       ap (value_type G) st.is ∙ result_typed 0 st.place entry.0 st.op entry.1 at ∙ constant_result c st.op makes ∙ ap (λ (x : L.TypeTree). Some x) f.typed
   operand_typed t (L.Parameter e i) w st f =
       let is : L.param_type g.type i ≡ t = sym (ap (λ (x : Bool). if x then L.param_type g.type i else VoidType) (eq-eqb e g.number st.0)) ∙ f.typed in
-      let small : i < LF.count_types h.form.types = omega (arith, st.1, h.form.params) in
+      let small : i < count_types h.form.types = omega (arith, st.1, h.form.params) in
       let type : slice_get entry.0.args i ≡ Some (L.param_type g.type i) =
-      ap (λ (ts : List TypeTree). slice_get ts i) (entry.2.head.args ∙ ap args_from h.form.type) ∙ nth_listed h.form.types i small ∙ ap (λ (x : L.TypeTree). Some (L.param_type x i)) (sym h.form.type) in
+      ap (λ (ts : List TypeTree). slice_get ts i) (entry.2.head.args ∙ ap params_of h.form.type) ∙ nth_listed h.form.types i small ∙ ap (λ (x : L.TypeTree). Some (L.param_type x i)) (sym h.form.type) in
       let number : k.frame.base ≡ entry.0.number = (let e = entry.2.head.number in omega (arith, e)) in
       ap (value_type G) st.2 ∙ arg_typed 0 i entry.0 (record { 0 = k.frame.base }) _ entry.1 number type ∙ ap (λ (x : L.TypeTree). Some x) is
   operand_typed t (L.Result m) w st f =
@@ -203,7 +200,7 @@ module _ (n : ℕ) (k : Known) (cs : List DialectBlock) (h : IsWhole k cs) where
       let number : b.item.number ≡ m = eqb-true b.item.number m b.passes in
       let here = source_placed b.place b.item b.here in
       let type : b.item.type ≡ t = sym (source_typed here.0 b.item here.1) ∙ ap (λ (x : ℕ). operand_type g (L.Result x)) number ∙ f.typed in
-      from_typed b.item w (h.from b.place b.item w b.here b.there) (subst LF.IsShortInt (sym type) f.short) ∙ ap (λ (x : L.TypeTree). Some x) type
+      from_typed b.item w (h.from b.place b.item w b.here b.there) (subst IsHeld (sym type) f.held) ∙ ap (λ (x : L.TypeTree). Some x) type
 
   -- ---- results
 

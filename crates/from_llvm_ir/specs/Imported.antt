@@ -6,7 +6,7 @@ use Rattle.llvm_core.specs.Data as L
 use Rattle.llvm_core.specs.declared.numbers.LLVMInstRef.{LLVMInstRef}
 use Rattle.llvm_core.specs.declared.code.LLVMValue.{LLVMValue}
 use Rattle.llvm_core.specs.declared.code.LLVMValue.TheVariants as V
-use Rattle.llvm_core.specs.Data.{ConstTree, IntConst, Placed, targets, phi_entries, placed_in}
+use Rattle.llvm_core.specs.Data.{ConstTree, IntConst, PlaceholderConst, Placed, targets, phi_entries, placed_in}
 use Rattle.llvm_core.specs.Form.{is_phi}
 use Rattle.dialect_types.specs.Names.{legal_name}
 use Rattle.dialect_types.specs.Trees.{IntegerAttr, IntType}
@@ -158,7 +158,7 @@ abbrev pub holder_kind : ContextData → BlockRef → Option OpKind
 holder_kind c b = option_and_then (λ (x : BlockData). kind_at c.ops x.holder) (slice_get c.blocks b.0)
 
 -- the operation of the number m is a module, and has the block for its functions, which takes nothing
-pub record IsHeld (c : ContextData) (m : ℕ) (body : BlockRef) : Type 0 where
+pub record IsModuleAt (c : ContextData) (m : ℕ) (body : BlockRef) : Type 0 where
   pub kind : kind_at c.ops (record { 0 = m }) ≡ Some Module
   pub region : region_at c.ops m ≡ body ∷ []
   pub block : body.0 < length c.blocks
@@ -179,7 +179,7 @@ pub record HasFuncsApart (c : ContextData) (body : BlockRef) : Type 0 where
 
 -- the context holds a module, with one block for its functions, and its data are d
 pub record IsBuilding (c : ContextData) (m : ℕ) (body : BlockRef) (d : DialectModule) : Type 0 where
-  pub held : IsHeld c m body
+  pub held : IsModuleAt c m body
   pub apart : HasFuncsApart c body
   pub is : data_of c m ≡ d
   pub there : m < length c.ops

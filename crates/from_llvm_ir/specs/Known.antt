@@ -6,7 +6,8 @@ use Rattle.llvm_core.specs.Module.{Module}
 use Rattle.llvm_core.specs.Parts.{IsValue}
 use Rattle.llvm_core.specs.Data as L
 use Rattle.llvm_core.specs.Data.{ConstTree, IntConst, PlaceholderConst, Placed, trees_of, operand_of}
-use Rattle.dialect_types.specs.Trees.{IntegerAttr, VoidType, IntType, FunctionType}
+use Rattle.llvm_core.specs.Form.{IsShortConst}
+use Rattle.dialect_types.specs.Trees.{IntegerAttr, IntType}
 use Rattle.dialect_core.specs.declared.ops.Value.{Value}
 use Rattle.dialect_core.specs.declared.ops.Value.TheVariants as V
 use Rattle.dialect_core.specs.Data.{DialectOp, ConstantOp}
@@ -16,7 +17,6 @@ use Rattle.from_llvm_ir.specs.Values.{value_at}
 use Rattle.from_llvm_ir.specs.Imported.{FirstUses}
 use Rattle.from_llvm_ir.specs.Order.{ordered}
 use Rattle.from_llvm_ir.specs.Building.{Home, new_op}
-use Rattle.from_llvm_ir.specs.Source.{IsShortConst}
 
 -- what stays while a function is imported: where it goes, the source, the order of its blocks, and the number of
 -- the first block

@@ -5,17 +5,19 @@ ghost use Rattle.std.specs.Option.{option_map};
 ghost use Rattle.llvm_core.specs.Sound.{IsModule};
 ghost use Rattle.llvm_core.specs.Data as L;
 ghost use Rattle.llvm_core.specs.Data.{trees_of};
-ghost use Rattle.llvm_core.specs.Form.{IsShortResult, AreShortInts};
+ghost use Rattle.kinds.specs.Types.{params_of};
+ghost use Rattle.kinds.specs.Held.{own_type, IsHeld, IsHeldResult};
 ghost use Rattle.dialect_types.specs.Trees.{type_at, type_tree, type_trees, depth, HasPartsBelow};
 ghost use Rattle.from_llvm_ir.specs.Imported.{phis_of};
-ghost use Rattle.from_llvm_ir.specs.Types.{GrowsTypes, args_from, result_from};
+ghost use Rattle.from_llvm_ir.specs.Types.{GrowsTypes};
 ghost use Rattle.from_llvm_ir.specs.Source.{IsSource, IsBlockOf, IsTypeOf};
 
 use crate::parts::is_phi;
 use dialect_core::context::Context;
 use dialect_types::types::{TypeHandle, TypeKind};
+use kinds::fitting::is_nothing;
 use llvm_core::code::LLVMValue;
-use llvm_core::module::LLVMModule;
+use llvm_core::module::{LLVMModule, shape_of};
 use llvm_core::numbers::{LLVMBasicBlock, LLVMFunction, LLVMInstRef, LLVMType};
 use llvm_core::types::LLVMTypeKind;
 use std::alloc::{AllocError, Global};
@@ -53,7 +55,7 @@ fn intern(ctx: &mut Context, kind: TypeKind) -> Result<TypeHandle, AllocError>
     ctx.types_mut().get(kind)
 }
 
-/// The type that stands for an integer type or for void.
+/// The type that stands for one that is translated, or for void.
 pub fn import_plain(
     ctx: &mut Context,
     source: &LLVMModule,
@@ -61,7 +63,7 @@ pub fn import_plain(
 ) -> Result<TypeHandle, AllocError>
     requires sound { IsModule source.now }
     requires within { ty.0 < length source.now.types }
-    requires short { IsShortResult (L.type_at (trees_of source.now).types ty) }
+    requires held { IsHeldResult (L.type_at (trees_of source.now).types ty) }
     ensures grown { GrowsTypes ctx.old ctx.new }
     ensures ty { IfOk result (λ t. type_at (type_trees ctx.new.types) t ≡ L.type_at (trees_of source.now).types ty) }
     ensures within { IfOk result (λ t. t.0 < length ctx.new.types) }
@@ -73,7 +75,7 @@ pub fn import_plain(
     }
 }
 
-/// The types that stand for integer types.
+/// The types that stand for types that are translated.
 fn import_all(
     alloc: Global,
     ctx: &mut Context,
@@ -82,7 +84,7 @@ fn import_all(
 ) -> Result<Vec<TypeHandle>, AllocError>
     requires sound { IsModule source.now }
     requires within { All (λ t. t.0 < length source.now.types) types.now }
-    requires short { AreShortInts (L.types_at (trees_of source.now).types types.now) }
+    requires held { All (λ t. IsHeld (L.type_at (trees_of source.now).types t)) types.now }
     ensures grown { GrowsTypes ctx.old ctx.new }
     ensures types { IfOk result (λ ts. map (type_at (type_trees ctx.new.types)) ts.items ≡ map (λ t. L.type_at (trees_of source.now).types t) types.now) }
     ensures within { IfOk result (λ ts. All (λ t. t.0 < length ctx.new.types) ts.items) }
@@ -103,7 +105,7 @@ pub fn import_params(
 ) -> Result<Vec<TypeHandle>, AllocError>
     requires { (g : L.Function) × IsSource source.now f g }
     ensures grown { GrowsTypes ctx.old ctx.new }
-    ensures types { IfOk result (λ ts. (g : L.Function) → IsSource source.now f g → map (type_at (type_trees ctx.new.types)) ts.items ≡ args_from g.type) }
+    ensures types { IfOk result (λ ts. (g : L.Function) → IsSource source.now f g → map (type_at (type_trees ctx.new.types)) ts.items ≡ params_of g.type) }
     ensures within { IfOk result (λ ts. All (λ t. t.0 < length ctx.new.types) ts.items) }
 {
     match source.type_kind(source.function_type(f)) {
@@ -159,14 +161,14 @@ pub fn import_result_type(
 ) -> Result<Option<TypeHandle>, AllocError>
     requires { (t : L.TypeTree) × IsTypeOf source.now i t }
     ensures grown { GrowsTypes ctx.old ctx.new }
-    ensures ty { IfOk result (λ r. (t : L.TypeTree) → IsTypeOf source.now i t → option_map (type_at (type_trees ctx.new.types)) r ≡ result_from t) }
+    ensures ty { IfOk result (λ r. (t : L.TypeTree) → IsTypeOf source.now i t → option_map (type_at (type_trees ctx.new.types)) r ≡ own_type t) }
     ensures within { IfOk result (λ r. IfSome r (λ t. t.0 < length ctx.new.types)) }
 {
     let ty = source.type_of(LLVMValue::Inst(i));
-    match source.type_kind(ty) {
-        LLVMTypeKind::Void => Ok(None),
-        _ => Ok(Some(import_plain(ctx, source, ty)?)),
+    if is_nothing(shape_of(source.type_kind(ty))) {
+        return Ok(None);
     }
+    Ok(Some(import_plain(ctx, source, ty)?))
 }
 
 /// The types of the phis of a block, in order.

@@ -8,7 +8,7 @@ use Rattle.dialect_core.specs.ContextData.{ContextData, IsValueWithin, IsSuccess
 use Rattle.dialect_types.specs.Trees.{IntegerAttr, type_at, type_trees}
 use Rattle.dialect_core.specs.Data.{ConstantOp}
 use Rattle.from_llvm_ir.specs.Building.{IsOpen, new_op, with_ops}
-use Rattle.from_llvm_ir.proofs.ConstLaws.{const_short, const_fits, const_made, short_kind}
+use Rattle.from_llvm_ir.proofs.ConstLaws.{const_held, const_fits, const_made, short_kind}
 use Rattle.from_llvm_ir.proofs.UnderLaws.{typed_open}
 use Rattle.from_llvm_ir.proofs.KeepLaws.{keeps_then, keeps_types}
 use Rattle.from_llvm_ir.proofs.constants.add_constant.Goals as goal
@@ -18,9 +18,9 @@ unreachable-requires g c =
     let k = short_kind c.args.source.now c.args.c c.const_kind.result.now c.const_kind.ensures.kind c.requires.short in
     c.in_default.not-Int k.0 k.1 k.2
 
-pub import_plain-requires-clause-short : goal.import_plain-requires-clause-short
-import_plain-requires-clause-short g c =
-    const_short c.args.source.now c.args.c c.in-Int.ty c.in-Int.value (c.const_kind.ensures.kind ∙ ap Some c.in-Int.is) c.requires.short
+pub import_plain-requires-clause-held : goal.import_plain-requires-clause-held
+import_plain-requires-clause-held g c =
+    const_held c.args.source.now c.args.c c.in-Int.ty c.in-Int.value c.requires.sound (c.const_kind.ensures.kind ∙ ap Some c.in-Int.is) c.requires.short
 
 pub overflow_cast-constant : goal.overflow_cast-constant
 overflow_cast-constant g c = record {
@@ -40,7 +40,7 @@ returns-clause-made g c =
     let kind = ConstantOp (IntegerAttr ty c.in-Int.value) in (
       new_op o.0 None kind [] [] (Some ty),
       refl,
-      const_made c.args.source.now c.args.c c.in-Int.ty c.in-Int.value o.0 ty (c.const_kind.ensures.kind ∙ ap Some c.in-Int.is) c.requires.short c.in_ok-int.ensures.ty,
+      const_made c.args.source.now c.args.c c.in-Int.ty c.in-Int.value o.0 ty c.requires.sound (c.const_kind.ensures.kind ∙ ap Some c.in-Int.is) c.in_ok-int.ensures.ty,
       subst (λ (ss : List Successor). IsOpen h base c.add_op.new.ctx c.args.block left (with_ops now (now.ops ++ new_op o.0 None kind [] ss (Some ty) ∷ [])) right) c.new-successors.ensures
           (subst (λ (os : List Value). IsOpen h base c.add_op.new.ctx c.args.block left (with_ops now (now.ops ++ new_op o.0 None kind os c.new-successors.result (Some ty) ∷ [])) right) c.zero-operands.ensures
           (added h base left now right kind refl (typed_open h base c.args.ctx.now c.import_plain.new.ctx c.args.block left now right u c.import_plain.ensures.grown))),

@@ -7,7 +7,6 @@ use Rattle.llvm_core.specs.Data.{trees_of, operand_of}
 use Rattle.from_llvm_ir.specs.Imported.{constant_in}
 use Rattle.from_llvm_ir.specs.Body.{IsHoisting}
 use Rattle.from_llvm_ir.specs.Source.{IsUsed}
-use Rattle.from_llvm_ir.proofs.ConstLaws.{used_short}
 use Rattle.from_llvm_ir.proofs.constants.hoist.Goals as goal
 
 pub hoist_constant-requires-clause-sound : goal.hoist_constant-requires-clause-sound
@@ -33,4 +32,4 @@ pub hoist_constant-requires-clause-within : goal.hoist_constant-requires-clause-
 hoist_constant-requires-clause-within g c = let u = c.requires.used in (subst (IsUsed c.args.source.now u.0) c.in-Const.is u.1).valid
 
 pub hoist_constant-requires-clause-short : goal.hoist_constant-requires-clause-short
-hoist_constant-requires-clause-short g c = let u = c.requires.used in used_short c.args.source.now u.0 c.in-Const.c (subst (IsUsed c.args.source.now u.0) c.in-Const.is u.1)
+hoist_constant-requires-clause-short g c = let u = c.requires.used in (subst (IsUsed c.args.source.now u.0) c.in-Const.is u.1).usable.1.stands

@@ -11,7 +11,6 @@ use Rattle.dialect_core.specs.ContextData.{ContextData, IsValueWithin, IsSuccess
 use Rattle.from_llvm_ir.specs.declared.conversion_err.ConversionErr.TheVariants as E
 use Rattle.from_llvm_ir.specs.Imported.{given_name}
 use Rattle.from_llvm_ir.specs.Parts.{target_blocks}
-use Rattle.from_llvm_ir.specs.Values.{AreNoted}
 use Rattle.from_llvm_ir.specs.Edges.{IsKnownEdge}
 use Rattle.from_llvm_ir.specs.Building.{new_op}
 use Rattle.from_llvm_ir.specs.Converted.{IsKind}

@@ -1,16 +1,15 @@
 -- What `types::import_all` owes besides what the check finds.
 use Rattle.std.proofs.Common.{[], ◌+◌, take, sym, subst, arith}
-use Rattle.llvm_core.proofs.FormTypes.{short_result}
+use Rattle.kinds.proofs.HeldLaws.{held_result_if}
 use Rattle.llvm_core.specs.Data.{trees_of}
-use Rattle.from_llvm_ir.proofs.SourceLaws.{short_at}
 use Rattle.from_llvm_ir.proofs.TypeLaws.{Imports, imports_none, imports_more, imports_all, grows_then}
 use Rattle.from_llvm_ir.proofs.types.import_all.Goals as goal
 
 pub loop-ty-init : goal.loop-ty-init
 loop-ty-init c = subst (λ ts. Imports c.args.ctx.now c.args.ctx.now (trees_of c.args.source.now).types [] ts) (sym c.new-imported.ensures.items) (imports_none c.args.ctx.now (trees_of c.args.source.now).types)
 
-pub import_plain-requires-clause-short : goal.import_plain-requires-clause-short
-import_plain-requires-clause-short c = short_result _ (short_at (trees_of c.args.source.now).types c.args.types.now c.loop-ty.ty-index _ c.loop-ty-test.true c.requires.short)
+pub import_plain-requires-clause-held : goal.import_plain-requires-clause-held
+import_plain-requires-clause-held c = held_result_if _ (c.requires.held c.loop-ty.ty-index _ c.loop-ty-test.true)
 
 pub returns-in_err-import_plain-clause-grown : goal.returns-in_err-import_plain-clause-grown
 returns-in_err-import_plain-clause-grown c = grows_then _ _ _ c.loop-ty.invariant.grown c.import_plain.ensures.grown

@@ -2,9 +2,9 @@
 use Rattle.std.proofs.Common.{◌<◌, ◌∙◌, sym, ap, subst, Some, All, length, map}
 use Rattle.std.proofs.lemmas.Option.{slice_get_within}
 use Rattle.std.proofs.lemmas.Result.{IfOk-weaker}
-use Rattle.llvm_core.specs.Form.{AreShortInts}
-use Rattle.llvm_core.specs.Data.{trees_of, type_at, types_at}
-use Rattle.from_llvm_ir.proofs.SourceLaws.{function_within, function_kind, params_short, params_listed, parts_within}
+use Rattle.llvm_core.specs.Data.{trees_of, type_at}
+use Rattle.kinds.specs.Held.{IsHeld}
+use Rattle.from_llvm_ir.proofs.SourceLaws.{function_within, function_kind, params_held, params_listed, parts_within}
 use Rattle.from_llvm_ir.proofs.types.import_params.Goals as goal
 
 pub function_type-requires : goal.function_type-requires
@@ -22,9 +22,9 @@ pub import_all-requires-clause-within : goal.import_all-requires-clause-within
 import_all-requires-clause-within c =
     subst (All (λ t. t.0 < length c.args.source.now.types)) (sym c.as_slice.ensures) (parts_within c.args.source.now c.function_type.result c.in-Function.result c.in-Function.params c.in-Function.variadic c.requires.1.sound (c.type_kind.ensures.kind ∙ ap Some c.in-Function.is)).1
 
-pub import_all-requires-clause-short : goal.import_all-requires-clause-short
-import_all-requires-clause-short c =
-    subst (λ ps. AreShortInts (types_at (trees_of c.args.source.now).types ps)) (sym c.as_slice.ensures) (params_short c.args.source.now c.args.f c.requires.0 c.requires.1 c.function_type.result c.type_kind.result.now c.in-Function.result c.in-Function.params c.in-Function.variadic c.function_type.ensures.ty c.type_kind.ensures.kind c.in-Function.is)
+pub import_all-requires-clause-held : goal.import_all-requires-clause-held
+import_all-requires-clause-held c =
+    subst (All (λ t. IsHeld (type_at (trees_of c.args.source.now).types t))) (sym c.as_slice.ensures) (params_held c.args.source.now c.args.f c.requires.0 c.requires.1 c.function_type.result c.type_kind.result.now c.in-Function.result c.in-Function.params c.in-Function.variadic c.function_type.ensures.ty c.type_kind.ensures.kind c.in-Function.is)
 
 pub returns-clause-types : goal.returns-clause-types
 returns-clause-types c =

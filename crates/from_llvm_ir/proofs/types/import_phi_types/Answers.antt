@@ -1,8 +1,8 @@
 -- What `types::import_phi_types` owes besides what the check finds.
 use Rattle.std.proofs.Common.{◌∙◌, ◌+◌, sym, ap, subst, List, take, arith}
 use Rattle.std.proofs.lemmas.List.{take_all}
-use Rattle.llvm_core.specs.Form.{IsShortResult}
 use Rattle.llvm_core.specs.Data as L
+use Rattle.kinds.specs.Held.{IsHeldResult}
 use Rattle.dialect_types.specs.declared.types.TypeHandle.{TypeHandle}
 use Rattle.dialect_core.specs.ContextData.{ContextData}
 use Rattle.from_llvm_ir.proofs.SourceLaws.{listed_at, listed_within, insts_listed, phi_read, type_of_inst, type_read, block_within}
@@ -10,13 +10,13 @@ use Rattle.from_llvm_ir.proofs.TypeLaws.{ImportsPhis, phis_skip, phis_more, grow
 use Rattle.from_llvm_ir.proofs.types.import_phi_types.Goals as goal
 use Rattle.from_llvm_ir.proofs.types.import_phi_types.Goals.{then-is_phi+in_ok-import_plain+in_ok-push, else-is_phi}
 
-pub import_plain-requires-clause-short : goal.import_plain-requires-clause-short
-import_plain-requires-clause-short c =
+pub import_plain-requires-clause-held : goal.import_plain-requires-clause-held
+import_plain-requires-clause-held c =
     let r = c.requires in
     let m = c.args.source.now in
     let x = listed_at m r.1 c.args.block r.2 r.3 c.instructions-i-items.result.now c.loop-i.i-index (record { 0 = 0 }) r.4.sound r.5 c.instructions-i-items.ensures.insts c.loop-i-test.true in
     let t = type_of_inst m r.0 r.1 c.args.block r.2 r.3 _ c.loop-i.i-index x.0 r.4 r.5 x.1 in
-    subst IsShortResult (sym (type_read m _ x.0.type c.type_of.result t c.type_of.ensures.ty)) t.short
+    subst IsHeldResult (sym (type_read m _ x.0.type c.type_of.result t c.type_of.ensures.ty)) t.held
 
 pub returns-in_err-import_plain-clause-grown : goal.returns-in_err-import_plain-clause-grown
 returns-in_err-import_plain-clause-grown c = let r = c.requires in grows_then _ _ _ (c.loop-i.invariant r.0 r.1 r.2 r.3 r.4 r.5).grown c.import_plain.ensures.grown

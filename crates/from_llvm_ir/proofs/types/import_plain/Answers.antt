@@ -1,13 +1,16 @@
 -- What `types::import_plain` owes besides what the check finds.
-use Rattle.std.proofs.Common.{◌∙◌, sym, ap, subst, Some}
+use Rattle.std.proofs.Common.{◌∙◌, refl, sym, ap, subst, Some}
 use Rattle.std.proofs.lemmas.Result.{IfOk-weaker}
-use Rattle.llvm_core.specs.Form.{IsShortResult}
+use Rattle.kinds.specs.Held.{IsHeldResult}
+use Rattle.kinds.proofs.HeldLaws.{held_value, held_result_own}
 use Rattle.llvm_core.proofs.DataLemmas.{void_tree_of, int_tree_of, function_tree_of}
 use Rattle.from_llvm_ir.proofs.types.import_plain.Goals as goal
 
 pub unreachable-requires : goal.unreachable-requires
 unreachable-requires c =
-    subst IsShortResult (function_tree_of c.args.source.now c.args.ty c.in-Function.result c.in-Function.params c.in-Function.variadic c.requires.sound (c.type_kind.ensures.kind ∙ ap Some c.in-Function.is)) c.requires.short
+    let held = subst IsHeldResult (function_tree_of c.args.source.now c.args.ty c.in-Function.result c.in-Function.params c.in-Function.variadic c.requires.sound (c.type_kind.ensures.kind ∙ ap Some c.in-Function.is)) c.requires.held in
+    let value = held_value _ (held_result_own _ held refl) in
+    cc
 
 pub returns-in-Void-clause-ty : goal.returns-in-Void-clause-ty
 returns-in-Void-clause-ty c =
