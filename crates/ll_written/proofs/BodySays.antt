@@ -3,6 +3,7 @@ use Rattle.std.proofs.Common.{◌≡◌, List, [], ◌∷◌, map, Option, Some,
 use Rattle.std.specs.List.{flat_map, AllByRecursion}
 use Rattle.std.proofs.lemmas.List.{append-nil}
 use Rattle.kinds.specs.Types.{TypeTree}
+use Rattle.kinds.specs.Held.{IsFirstClass}
 use Rattle.ll_lines.specs.Lines as L
 use Rattle.ll_lines.specs.Lines.{Text, Incoming, Inst, Line, Part}
 use Rattle.ll_spacing.specs.Spacing.{Spaced}
@@ -13,16 +14,15 @@ use Rattle.ll_written.specs.Written.{indent, written_entry, next_entry, written_
 use Rattle.ll_written.specs.Writable.{IsIncoming, IsInst, IsLine, IsPart}
 use Rattle.ll_written.proofs.Productions as P
 use Rattle.ll_written.proofs.Productions.{Reads}
-use Rattle.ll_written.proofs.ValueSays.{literal_of, int_says, said_says, said_again}
+use Rattle.ll_written.proofs.ValueSays.{literal_of, type_says, said_says, said_again}
 use Rattle.ll_written.proofs.RowSays.{row_says}
-use Rattle.ll_written.specs.Writable.{IsIntType}
 
 -- an entry as it is written
 abbrev entry_of : Incoming → Entry
 entry_of e = record { literal = literal_of e.said; block = e.block }
 
 -- entries say themselves at the type of their phi
-entries_again : (τ : TypeTree) (es : List Incoming) → IsIntType τ → AllByRecursion (IsIncoming τ) es → incoming τ (map entry_of es) ≡ Some es
+entries_again : (τ : TypeTree) (es : List Incoming) → IsFirstClass τ → AllByRecursion (IsIncoming τ) es → incoming τ (map entry_of es) ≡ Some es
 entries_again τ [] type all = refl
 entries_again τ (e ∷ es) type all = rw (said_again τ e.said type all.0.said, entries_again τ es type all.1) refl
 
@@ -38,7 +38,7 @@ entries_say τ (e ∷ es) all = P.more_entries_entry_or_node [] (P.entry_or_node
 phi_says : (b : Text) (τ : TypeTree) (es : List Incoming) → IsInst (L.Phi τ es) → Reads N.inst (InstV (L.Phi τ es)) (written_inst b (L.Phi τ es))
 phi_says b τ [] h = absurd (h.2 refl)
 phi_says b τ (e ∷ es) h =
-    P.inst_phi b (int_says (codes " ") τ h.0) (entry_says τ e h.1.0) (entries_say τ es h.1.1) (ap (λ (o : Option (List Incoming)). o >>= λ xs. Some (InstV (L.Phi τ xs))) (entries_again τ (e ∷ es) h.0 h.1))
+    P.inst_phi b (type_says (codes " ") τ h.0) (entry_says τ e h.1.0) (entries_say τ es h.1.1) (ap (λ (o : Option (List Incoming)). o >>= λ xs. Some (InstV (L.Phi τ xs))) (entries_again τ (e ∷ es) h.0 h.1))
 
 pub inst_says : (b : Text) (i : Inst) → IsInst i → Reads N.inst (InstV i) (written_inst b i)
 inst_says b (L.Phi τ es) h = phi_says b τ es h

@@ -5,10 +5,12 @@ use Rattle.std.specs.List.{flat_map, list_all, AllByRecursion}
 use Rattle.std.proofs.lemmas.Bool.{and_parts}
 use Rattle.std.proofs.lemmas.Bool.Decides.{nat_tests}
 use Rattle.std.proofs.lemmas.List.Elements.{recursion_from_All}
-use Rattle.kinds.specs.Types.{TypeTree, TypeTrees, NoTypes, ThenType}
+use Rattle.kinds.specs.Types.{TypeTree, TypeTrees, NoTypes, ThenType, types_list, count_types, result_of}
+use Rattle.kinds.specs.Held.{IsFirstClass, IsReturned, IsHeld}
+use Rattle.kinds.proofs.HeldLaws.{held_first_class, held_result_returned}
 use Rattle.llvm_core.specs.Checked.{ends_in_only}
 use Rattle.llvm_core.specs.Data.{Placed, Block, Function, ModuleData, nth_type, param_type}
-use Rattle.llvm_core.specs.Form.{IsShortInt, AreShortInts, count_types, result_of, is_last, IsFormPlaced, IsFormBlock}
+use Rattle.llvm_core.specs.Form.{is_last, IsFormPlaced, IsFormBlock}
 use Rattle.llvm_core.specs.Names.{IsPlainOrNone}
 use Rattle.ll_lines.specs.Lines as L
 use Rattle.ll_lines.specs.Lines.{Text, Part, Param}
@@ -21,26 +23,27 @@ use Rattle.ll_tokens.specs.Bytes.{in_string}
 use Rattle.ll_tokens.specs.declared.kinds.Kind.TheVariants as K
 use Rattle.llvm_core.specs.Names.{is_digit}
 use Rattle.ll_literals.specs.Names.{is_name_byte, quoted}
-use Rattle.ll_written.specs.Writable.{IsIntType, IsResult, IsPart, IsParam, IsFunction, IsWritable}
+use Rattle.ll_written.specs.Writable.{IsPart, IsParam, IsFunction, IsWritable}
 use Rattle.ll_written.proofs.NameForms.{global_form, local_form, label_form}
-use Rattle.ll_written.proofs.LineForms.{short_int, short_result, line_form}
+use Rattle.ll_written.proofs.LineForms.{line_form}
 
 -- ---- parameters
 
-nth_short : (ts : TypeTrees) (i : ℕ) → AreShortInts ts → i < count_types ts → IsShortInt (nth_type ts i)
-nth_short NoTypes i all within = absurd (omega arith)
-nth_short (ThenType t ts) zero all within = all.0
-nth_short (ThenType t ts) (suc i) all within = nth_short ts i all.1 (omega (arith, within))
+nth_held : (ts : TypeTrees) (i : ℕ) → AllByRecursion IsHeld (types_list ts) → i < count_types ts → IsHeld (nth_type ts i)
+nth_held NoTypes i all within = absurd (omega arith)
+nth_held (ThenType t ts) zero all within = all.0
+nth_held (ThenType t ts) (suc i) all within = nth_held ts i all.1 (omega (arith, within))
 
 all_then : {A : Type 0} (Q : A → Type 0) (xs ys : List A) → AllByRecursion Q xs → AllByRecursion Q ys → AllByRecursion Q (xs ++ ys)
 all_then Q [] ys h k = k
 all_then Q (x ∷ xs) ys h k = (h.0, all_then Q xs ys h.1 k)
 
 module _ (f : Function) (sayable : IsSayable f) where
-  type_form : (i : ℕ) → i < length f.params → IsIntType (param_type f.type i)
+  type_form : (i : ℕ) → i < length f.params → IsFirstClass (param_type f.type i)
   type_form i within =
       let form = sayable.form in
-      subst (λ (τ : TypeTree). IsIntType (param_type τ i)) (sym form.type) (short_int (nth_type form.types i) (nth_short form.types i form.takes (omega (arith, within, form.params))))
+      let held = nth_held form.types i (recursion_from_All IsHeld (types_list form.types) form.takes) (omega (arith, within, form.params)) in
+      subst (λ (τ : TypeTree). IsFirstClass (param_type τ i)) (sym form.type) (held_first_class (nth_type form.types i) held)
 
   params_form : (i : ℕ) (ns : List Text) → i + length ns ≤ length f.params → AllByRecursion IsPlainOrNone ns → AllByRecursion IsParam (params_of f i ns)
   params_form i [] within all = tt
@@ -82,7 +85,7 @@ module _ (f : Function) (sayable : IsSayable f) where
       let form = sayable.form in
       let blocks = recursion_from_All (IsFormBlock f) f.blocks form.blocks in
       record {
-        result = subst (λ (τ : TypeTree). IsResult (result_of τ)) (sym form.type) (short_result form.result form.returns);
+        result = subst (λ (τ : TypeTree). IsReturned (result_of τ)) (sym form.type) (held_result_returned form.result form.returns);
         name = global_form f.name form.name;
         params = params_form 0 f.params (omega arith) (recursion_from_All IsPlainOrNone f.params form.param_names);
         body = body_form f.blocks blocks;

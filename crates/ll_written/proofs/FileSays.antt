@@ -3,6 +3,7 @@ use Rattle.std.proofs.Common.{List, [], ◌∷◌, ◌++◌, Option, Some, None,
 use Rattle.std.specs.List.{flat_map, AllByRecursion}
 use Rattle.grammars.specs.declared.symbols.Symbol.TheVariants.{Rule}
 use Rattle.kinds.specs.Types.{TypeTree}
+use Rattle.kinds.specs.Held.{IsFirstClass}
 use Rattle.ll_lines.specs.Lines.{Text, Param, Function, File}
 use Rattle.ll_rules.specs.Llvm.{llvm}
 use Rattle.ll_spacing.specs.Spacing.{Spaced}
@@ -13,18 +14,18 @@ use Rattle.ll_written.specs.Saying.{Says}
 use Rattle.ll_written.specs.Classed.{all_classed}
 use Rattle.ll_written.specs.Rules as N
 use Rattle.ll_written.specs.Written.{token, apart, close, written_param, next_param, written_params, written_type, written_body, written_function, next_function, written_file, written}
-use Rattle.ll_written.specs.Writable.{IsIntType, IsParam, IsFunction, IsWritable}
+use Rattle.ll_written.specs.Writable.{IsParam, IsFunction, IsWritable}
 use Rattle.ll_written.proofs.TellLaws.{last}
 use Rattle.ll_written.proofs.Productions as P
 use Rattle.ll_written.proofs.Productions.{Reads}
-use Rattle.ll_written.proofs.ValueSays.{type_says, int_says}
+use Rattle.ll_written.proofs.ValueSays.{result_says, type_says}
 use Rattle.ll_written.proofs.BodySays.{body_says}
 
 -- ---- parameters
 
-param_by : (b : Text) (τ : TypeTree) (name : Option Text) → IsIntType τ → Reads N.param (ParamV (record { type = τ; name = name })) (written_param b (record { type = τ; name = name }))
-param_by b τ None type = P.param (int_says b τ type) (P.lost_attrs_none) (P.name_none) refl
-param_by b τ (Some t) type = P.param (int_says b τ type) (P.lost_attrs_none) (P.name_local (codes " ") t) refl
+param_by : (b : Text) (τ : TypeTree) (name : Option Text) → IsFirstClass τ → Reads N.param (ParamV (record { type = τ; name = name })) (written_param b (record { type = τ; name = name }))
+param_by b τ None type = P.param (type_says b τ type) (P.lost_attrs_none) (P.name_none) refl
+param_by b τ (Some t) type = P.param (type_says b τ type) (P.lost_attrs_none) (P.name_local (codes " ") t) refl
 
 param_says : (b : Text) (p : Param) → IsParam p → Reads N.param (ParamV p) (written_param b p)
 param_says b p h = param_by b p.type p.name h.type
@@ -42,7 +43,7 @@ params_say (p ∷ ps) all = P.params_more (param_says [] p all.0) (more_say ps a
 pub function_says : (b : Text) (f : Function) → IsFunction f → Reads N.item (FunctionV f) (written_function b f)
 function_says b f h =
     let params = P.parameters [] [] (params_say f.params h.params) (P.unnamed_none) (P.space_none) refl in
-    let head = P.head (codes " ") f.name (P.dso_none) (P.lost_attrs_none) (type_says (codes " ") f.result h.result) params refl in
+    let head = P.head (codes " ") f.name (P.dso_none) (P.lost_attrs_none) (result_says (codes " ") f.result h.result) params refl in
     let whole = P.item_define b (codes " ") (codes "\n") (P.define_linkage_none) head (P.function_attrs_none) (P.attachments_none) (body_says f.body h.body h.some) refl in
     let front = token b T.Word (codes "define") ∷ written_type f.result ∷ apart T.Global f.name ∷ close T.OpenParen (codes "(") ∷ [] in
     let rest = apart T.OpenBrace (codes "{") ∷ (written_body f.body ++ (token (codes "\n") T.CloseBrace (codes "}") ∷ [])) in

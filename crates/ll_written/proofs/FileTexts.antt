@@ -3,9 +3,10 @@ use Rattle.std.proofs.Common.{◌≡◌, ◌≢◌, ℕ, suc, true, List, [], �
 use Rattle.std.specs.List.{flat_map, AllByRecursion}
 use Rattle.std.proofs.lemmas.List.{append-nil}
 use Rattle.std.proofs.lemmas.List.Elements.{recursion_from_All}
+use Rattle.kinds.specs.Types.{result_of}
 use Rattle.llvm_core.specs.Data.{Placed, Block, Function, ModuleData, param_type}
 use Rattle.llvm_core.specs.Checked.{ends_in_only}
-use Rattle.llvm_core.specs.Form.{result_of, is_last, IsFormPlaced, IsFormBlock, IsFormFunction}
+use Rattle.llvm_core.specs.Form.{is_last, IsFormPlaced, IsFormBlock, IsFormFunction}
 use Rattle.ll_lines.specs.Lines as L
 use Rattle.ll_lines.specs.Lines.{Text, Part, Param}
 use Rattle.ll_said.specs.Naming.{ParamAt, local_text}

@@ -1,24 +1,25 @@
 -- The lines of a function of the form are writable.
-use Rattle.std.proofs.Common.{◌≡◌, ◌≤◌, ◌^◌, ℕ, suc, Bool, true, cond, List, [], ◌∷◌, length, map, slice_get, Option, Some, None, refl, sym, ap, subst, ◌∙◌, arith}
+use Rattle.std.proofs.Common.{◌≡◌, ℕ, suc, Bool, true, false, cond, List, [], ◌∷◌, length, map, slice_get, Option, Some, None, refl, ap, subst, ◌∙◌}
 use Rattle.std.specs.Prelude.{IfSome, unwrap_or, slice_index_or}
 use Rattle.std.specs.List.{AllByRecursion}
 use Rattle.std.proofs.lemmas.Bool.{and_parts}
 use Rattle.std.proofs.lemmas.List.Elements.{recursion_from_All}
-use Rattle.std.proofs.Math.Nat.{pow-le-pow_right}
 use Rattle.kinds.specs.declared.rules.Gives.{Gives}
 use Rattle.kinds.specs.declared.rules.Gives.TheVariants as G
 use Rattle.kinds.specs.Fitting.{is_written, takes_fit}
 use Rattle.kinds.specs.Table.{rule_of}
-use Rattle.kinds.specs.Types.{TypeTree, VoidType, IntType, FunctionType, shape, same_tree}
+use Rattle.kinds.specs.Types.{TypeTree, VoidType, shape, same_tree}
+use Rattle.kinds.specs.Held.{is_void, IsFirstClass, IsHeld, IsHeldResult}
 use Rattle.kinds.specs.Typing.{fits_trees, given, typed}
+use Rattle.kinds.proofs.HeldLaws.{value_own, held_first_class, held_result_own}
 use Rattle.llvm_core.specs.Data.{IntConst, PlaceholderConst, Operand, Constant, Parameter, Result, RowData, Instruction, Phi, Applied, Placed, Function, operand_type}
-use Rattle.llvm_core.specs.Form.{IsShortInt, IsShortResult, IsFitting, IsOperandOf, IsOperand, IsFormRow, IsFormInstruction, IsFormPlaced, types_of, returns_void}
+use Rattle.llvm_core.specs.Form.{IsOperandOf, IsOperand, IsFormRow, IsFormInstruction, IsFormPlaced, types_of, returns_void}
 use Rattle.llvm_core.specs.Names.{IsPlainOrNone}
-use Rattle.ll_said.specs.Naming.{ParamAt, ResultOf, result_name, block_ref}
-use Rattle.ll_said.specs.Said.{said_of, typed_of, entry_of, row_of, inst_of, gives_of, line_of}
+use Rattle.ll_said.specs.Naming.{ParamAt, ResultOf, local_text, result_name, block_ref}
+use Rattle.ll_said.specs.Said.{said_of, typed_of, entry_of, row_of, inst_of, line_of}
 use Rattle.ll_said.specs.Sayable.{IsSayable}
 use Rattle.ll_said.proofs.TypeLaws.{types_said}
-use Rattle.ll_written.specs.Writable.{IsIntType, IsResult, IsConstOf, an_int, IsLocal, IsSaidOf, IsTyped, IsRow, IsIncoming, IsInst, IsLine}
+use Rattle.ll_written.specs.Writable.{IsConstOf, an_int, IsLocal, IsSaidOf, IsTyped, IsRow, IsIncoming, IsInst, IsLine}
 use Rattle.ll_written.proofs.NameForms.{local_form, result_name_form, block_form}
 
 length_map : {A B : Type 0} (f : A → B) (xs : List A) → length (map f xs) ≡ length xs
@@ -29,40 +30,18 @@ some_mapped : {A B : Type 0} (f : A → B) (xs : List A) → ¬ (xs ≡ []) → 
 some_mapped f [] some = λ e. some refl
 some_mapped f (x ∷ xs) some = λ e. absurd cc
 
--- ---- types
-
-wide : 64 ≤ 2 ^ 23
-wide = omega (arith, pow-le-pow_right {n = 2} (omega arith) {i = 6} {j = 23} (omega arith))
-
-pub short_int : (τ : TypeTree) → IsShortInt τ → IsIntType τ
-short_int (IntType w) h = (h.0, omega (arith, wide, h.1))
-short_int VoidType h = absurd h
-short_int (FunctionType r ts v) h = absurd h
-
-pub short_result : (τ : TypeTree) → IsShortResult τ → IsResult τ
-short_result VoidType h = tt
-short_result (IntType w) h = short_int (IntType w) h
-short_result (FunctionType r ts v) h = absurd h
-
 -- ---- values
 
-const_form : (τ σ : TypeTree) (n : ℕ) → σ ≡ τ → IsShortInt τ → IsFitting (IntConst σ n) → IsConstOf τ (IntConst σ n)
-const_form τ (IntType w) n same short fits =
-    let here : IsShortInt (IntType w) = subst IsShortInt (sym same) short in
-    subst (λ (υ : TypeTree). IsConstOf υ (IntConst (IntType w) n)) same (an_int w n here.1 fits)
-const_form τ VoidType n same short fits = absurd fits
-const_form τ (FunctionType r ts v) n same short fits = absurd fits
-
 module _ (f : Function) (sayable : IsSayable f) where
-  said_form : (o : Operand) (τ : TypeTree) → IsOperandOf f o → operand_type f o ≡ τ → IsShortInt τ → IsSaidOf τ (said_of f o)
-  said_form (Constant (IntConst σ n)) τ stands type short = const_form τ σ n type short stands
-  said_form (Constant (PlaceholderConst n σ)) τ stands type short = absurd stands
-  said_form (Parameter g i) τ stands type short = local_form f sayable (slice_index_or f.params i []) (ParamAt i) (sayable.form.param_names i [] stands.1)
-  said_form (Result n) τ stands type short = local_form f sayable (result_name f n) (ResultOf n) (result_name_form f sayable n)
+  said_form : (o : Operand) (τ : TypeTree) → IsOperandOf f o → operand_type f o ≡ τ → IsSaidOf τ (said_of f o)
+  said_form (Constant (IntConst w n)) τ stands type = subst (λ (υ : TypeTree). IsConstOf υ (IntConst w n)) type (an_int w n stands.0.1 stands.1)
+  said_form (Constant (PlaceholderConst n σ)) τ stands type = absurd stands
+  said_form (Parameter g i) τ stands type = local_form f sayable (slice_index_or f.params i []) (ParamAt i) (sayable.form.param_names i [] stands.1)
+  said_form (Result n) τ stands type = local_form f sayable (result_name f n) (ResultOf n) (result_name_form f sayable n)
 
-  operands_form : (os : List Operand) → AllByRecursion (IsOperandOf f) os → AllByRecursion IsShortInt (types_of f os) → AllByRecursion IsTyped (map (typed_of f) os)
-  operands_form [] all short = tt
-  operands_form (o ∷ os) all short = (record { type = short_int (operand_type f o) short.0; said = said_form o (operand_type f o) all.0 refl short.0 }, operands_form os all.1 short.1)
+  operands_form : (os : List Operand) → AllByRecursion (IsOperandOf f) os → AllByRecursion IsHeld (types_of f os) → AllByRecursion IsTyped (map (typed_of f) os)
+  operands_form [] all held = tt
+  operands_form (o ∷ os) all held = (record { type = held_first_class (operand_type f o) held.0; said = said_form o (operand_type f o) all.0 refl }, operands_form os all.1 held.1)
 
   targets_form : (ts : List ℕ) → AllByRecursion IsLocal (map (block_ref f) ts)
   targets_form [] = tt
@@ -70,31 +49,29 @@ module _ (f : Function) (sayable : IsSayable f) where
 
   entries_form : (τ : TypeTree) (es : List (Operand × ℕ)) → AllByRecursion (λ (e : Operand × ℕ). IsOperand f τ e.0) es → AllByRecursion (IsIncoming τ) (map (entry_of f) es)
   entries_form τ [] all = tt
-  entries_form τ (e ∷ es) all = (record { said = said_form e.0 τ all.0.stands all.0.typed all.0.short; block = block_form f sayable e.1 }, entries_form τ es all.1)
+  entries_form τ (e ∷ es) all = (record { said = said_form e.0 τ all.0.stands all.0.typed; block = block_form f sayable e.1 }, entries_form τ es all.1)
 
 -- ---- rows
 
 -- a type that is written beside operands is that of the result
-written_form : (g : Gives) (w : Option TypeTree) (a b : Option TypeTree) → is_written shape same_tree g w ≡ true → IsShortResult (unwrap_or (given g w a b) VoidType) → IfSome w IsIntType
-written_form g None a b is short = tt
-written_form G.Written (Some (IntType n)) a b is short = short_int (IntType n) short
-written_form G.Written (Some VoidType) a b is short = absurd cc
-written_form G.Written (Some (FunctionType r ts v)) a b is short = absurd short
-written_form G.Nothing (Some τ) a b is short = absurd cc
-written_form G.First (Some τ) a b is short = absurd cc
-written_form G.Second (Some τ) a b is short = absurd cc
-written_form G.Bit (Some τ) a b is short = absurd cc
+written_form : (g : Gives) (w : Option TypeTree) (a b : Option TypeTree) → is_written shape same_tree g w ≡ true → IsHeldResult (unwrap_or (given g w a b) VoidType) → IfSome w IsFirstClass
+written_form g None a b is held = tt
+written_form G.Written (Some τ) a b is held = held_first_class τ (held_result_own τ held (value_own τ is))
+written_form G.Nothing (Some τ) a b is held = absurd cc
+written_form G.First (Some τ) a b is held = absurd cc
+written_form G.Second (Some τ) a b is held = absurd cc
+written_form G.Bit (Some τ) a b is held = absurd cc
 
 module _ (f : Function) (sayable : IsSayable f) where
-  row_form : (type : TypeTree) (r : RowData) → IsFormRow f type r → IsShortResult type → IsRow (row_of f r)
-  row_form type r h short =
+  row_form : (type : TypeTree) (r : RowData) → IsFormRow f type r → IsHeldResult type → IsRow (row_of f r)
+  row_form type r h held =
       let ts = types_of f r.operands in
       let rule = rule_of r.op in
       let is = (and_parts (is_written shape same_tree rule.gives r.written) (takes_fit shape same_tree rule.takes (length ts) r.written (slice_get ts 0) (slice_get ts 1) (slice_get ts 2)) h.fits).0 in
       let plain : typed r.op r.written ts ≡ given rule.gives r.written (slice_get ts 0) (slice_get ts 1) = ap (λ (b : Bool). cond b (given rule.gives r.written (slice_get ts 0) (slice_get ts 1)) None) h.fits in
-      let result : IsShortResult (unwrap_or (given rule.gives r.written (slice_get ts 0) (slice_get ts 1)) VoidType) = subst IsShortResult (h.result ∙ ap (λ (o : Option TypeTree). unwrap_or o VoidType) plain) short in
+      let result : IsHeldResult (unwrap_or (given rule.gives r.written (slice_get ts 0) (slice_get ts 1)) VoidType) = subst IsHeldResult (h.result ∙ ap (λ (o : Option TypeTree). unwrap_or o VoidType) plain) held in
       record {
-        operands = operands_form f sayable r.operands (recursion_from_All (IsOperandOf f) r.operands h.operands) (recursion_from_All IsShortInt ts h.short);
+        operands = operands_form f sayable r.operands (recursion_from_All (IsOperandOf f) r.operands h.operands) (recursion_from_All IsHeld ts h.held);
         written = written_form rule.gives r.written (slice_get ts 0) (slice_get ts 1) is result;
         targets = targets_form f sayable r.targets;
         fits = ap (fits_trees r.op r.written) (types_said f r.operands) ∙ h.fits;
@@ -103,14 +80,13 @@ module _ (f : Function) (sayable : IsSayable f) where
         leads = length_map (block_ref f) r.targets ∙ h.leads;
       }
 
-  inst_form : (n : ℕ) (type : TypeTree) (i : Instruction) → IsFormInstruction f n type i → IsShortResult type → IsInst (inst_of f type i)
-  inst_form n type (Phi es) h short = (short_int type h.2, entries_form f sayable type es (recursion_from_All (λ (e : Operand × ℕ). IsOperand f type e.0) es h.0), some_mapped (entry_of f) es h.1.some)
-  inst_form n type (Applied r) h short = row_form type r h short
+  inst_form : (n : ℕ) (type : TypeTree) (i : Instruction) → IsFormInstruction f n type i → IsHeldResult type → IsInst (inst_of f type i)
+  inst_form n type (Phi es) h held = (held_first_class type h.2, entries_form f sayable type es (recursion_from_All (λ (e : Operand × ℕ). IsOperand f type e.0) es h.0), some_mapped (entry_of f) es h.1.some)
+  inst_form n type (Applied r) h held = row_form type r h held
 
-  gives_form : (τ : TypeTree) (p : Placed) → IsPlainOrNone p.name → IfSome (gives_of f τ p) IsLocal
-  gives_form VoidType p plain = tt
-  gives_form (IntType w) p plain = local_form f sayable p.name (ResultOf p.number) plain
-  gives_form (FunctionType r ts v) p plain = local_form f sayable p.name (ResultOf p.number) plain
+  gives_by : (v : Bool) (p : Placed) → IsPlainOrNone p.name → IfSome (cond v None (Some (local_text f p.name (ResultOf p.number)))) IsLocal
+  gives_by true p plain = tt
+  gives_by false p plain = local_form f sayable p.name (ResultOf p.number) plain
 
   pub line_form : (n : ℕ) (p : Placed) → IsFormPlaced f n p → IsLine (line_of f p)
-  line_form n p h = record { result = gives_form p.type p h.name; inst = inst_form n p.type p.instruction h.instruction h.short }
+  line_form n p h = record { result = gives_by (is_void p.type) p h.name; inst = inst_form n p.type p.instruction h.instruction h.held }

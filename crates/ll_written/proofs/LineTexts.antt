@@ -1,16 +1,17 @@
 -- The text of the tokens of an instruction is what is printed of it.
-use Rattle.std.proofs.Common.{◌≡◌, ℕ, Bool, true, false, List, [], ◌∷◌, ◌++◌, length, map, Option, codes, append_assoc, refl, sym, ap, ◌∙◌}
+use Rattle.std.proofs.Common.{◌≡◌, ℕ, Bool, true, false, cond, List, [], ◌∷◌, ◌++◌, length, map, Option, Some, None, codes, append_assoc, refl, sym, ap, ◌∙◌}
 use Rattle.std.specs.List.{flat_map}
 use Rattle.std.proofs.lemmas.List.{append-nil}
 use Rattle.kinds.specs.declared.op.Op.{Op}
 use Rattle.kinds.specs.declared.op.Op.TheVariants as O
 use Rattle.kinds.specs.Rules.{operand_count, target_count}
 use Rattle.kinds.specs.Table.{rule_of}
-use Rattle.llvm_core.specs.Data.{TypeTree, VoidType, IntType, FunctionType, Operand, RowData, Instruction, Phi, Applied, Placed, Function}
+use Rattle.kinds.specs.Held.{is_void}
+use Rattle.llvm_core.specs.Data.{TypeTree, Operand, RowData, Instruction, Phi, Applied, Placed, Function}
 use Rattle.llvm_core.specs.Form.{returns_void, IsFormRow, IsFormInstruction}
 use Rattle.ll_lines.specs.Lines.{Text}
 use Rattle.ll_said.specs.Naming.{ResultOf, local_text, block_ref}
-use Rattle.ll_said.specs.Said.{row_of, entry_of, inst_of, gives_of, line_of}
+use Rattle.ll_said.specs.Said.{row_of, entry_of, inst_of, line_of}
 use Rattle.ll_spacing.specs.Spacing.{Spaced, text_of}
 use Rattle.ll_tokens.specs.declared.kinds.Kind.TheVariants.{Word, Local, CloseBracket}
 use Rattle.ll_written.specs.Printing as P
@@ -93,11 +94,11 @@ module _ (f : Function) where
 
   -- ---- lines, whose end stands before the next
 
-  line_by : (n : ℕ) (τ : TypeTree) (p : Placed) → IsFormInstruction f n p.type p.instruction
-      → text_of (written_behind (gives_of f τ p) (inst_of f p.type p.instruction)) ++ codes "\n" ≡ codes "\n" ++ (codes "  " ++ P.gives_text f τ p ++ P.instruction_text f p.type p.instruction ++ codes "\n")
-  line_by n VoidType p h = ap (λ (t : Text). t ++ codes "\n") (inst_text n indent p.type p.instruction h) ∙ simp append_assoc
-  line_by n (IntType w) p h = ap (λ (t : Text). indent ++ local_text f p.name (ResultOf p.number) ++ (codes " =" ++ t) ++ codes "\n") (inst_text n (codes " ") p.type p.instruction h) ∙ simp append_assoc
-  line_by n (FunctionType r ts v) p h = ap (λ (t : Text). indent ++ local_text f p.name (ResultOf p.number) ++ (codes " =" ++ t) ++ codes "\n") (inst_text n (codes " ") p.type p.instruction h) ∙ simp append_assoc
+  line_by : (n : ℕ) (v : Bool) (p : Placed) → IsFormInstruction f n p.type p.instruction
+      → text_of (written_behind (cond v None (Some (local_text f p.name (ResultOf p.number)))) (inst_of f p.type p.instruction)) ++ codes "\n"
+      ≡ codes "\n" ++ (codes "  " ++ cond v [] (local_text f p.name (ResultOf p.number) ++ codes " = ") ++ P.instruction_text f p.type p.instruction ++ codes "\n")
+  line_by n true p h = ap (λ (t : Text). t ++ codes "\n") (inst_text n indent p.type p.instruction h) ∙ simp append_assoc
+  line_by n false p h = ap (λ (t : Text). indent ++ local_text f p.name (ResultOf p.number) ++ (codes " =" ++ t) ++ codes "\n") (inst_text n (codes " ") p.type p.instruction h) ∙ simp append_assoc
 
   pub line_text : (n : ℕ) (p : Placed) → IsFormInstruction f n p.type p.instruction → text_of (written_line (line_of f p)) ++ codes "\n" ≡ codes "\n" ++ P.placed_text f p
-  line_text n p h = line_by n p.type p h
+  line_text n p h = line_by n (is_void p.type) p h

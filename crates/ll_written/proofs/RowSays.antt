@@ -22,7 +22,7 @@ use Rattle.ll_written.specs.Written.{token, word, written_operands, written_valu
 use Rattle.ll_written.specs.Writable.{IsRow}
 use Rattle.ll_written.proofs.Productions as P
 use Rattle.ll_written.proofs.Productions.{Reads}
-use Rattle.ll_written.proofs.ValueSays.{int_says, typed_says, returned_says, pair_says}
+use Rattle.ll_written.proofs.ValueSays.{type_says, typed_says, returned_says, pair_says}
 use Rattle.ll_written.proofs.RowForms.{IsPair, pair, pair_form, IsCast, cast, cast_form, IsThree, three, three_form, IsOne, one, one_form, IsJump, jump, jump_form, IsBranch, branch, branch_form, IsReturn, no_value, value, return_form, IsBare, bare, bare_form}
 
 abbrev row_line : Op → Option TypeTree → List Typed → List Text → RowLine
@@ -102,14 +102,14 @@ icmp_row : (b : Text) (p : LLVMIntPredicate) (wr : Option TypeTree) (os : List T
 icmp_row b p _ _ _ (pair x y h k same) = icmp_by b p _ _ _ (pair_says x y h k same) (ap (λ (o : Option LLVMIntPredicate). o >>= λ q. Some (InstV (row (O.ICmp q) (x ∷ y ∷ []) []))) (predicate_again p))
 
 sext_row : (b : Text) (wr : Option TypeTree) (os : List Typed) (ts : List Text) → IsCast wr os ts → Reads N.simple (says O.SExt wr os ts) (token b T.Word (codes "sext") ∷ (written_operands os ++ written_to wr))
-sext_row b _ _ _ (cast x τ h type) = P.simple_cast_sext b (codes " ") (typed_says x h) (int_says (codes " ") τ type) refl
+sext_row b _ _ _ (cast x τ h type) = P.simple_cast_sext b (codes " ") (typed_says x h) (type_says (codes " ") τ type) refl
 
 trunc_row : (b : Text) (wr : Option TypeTree) (os : List Typed) (ts : List Text) → IsCast wr os ts → Reads N.simple (says O.Trunc wr os ts) (token b T.Word (codes "trunc") ∷ (written_operands os ++ written_to wr))
-trunc_row b _ _ _ (cast x τ h type) = P.simple_trunc b (codes " ") (P.lost_wraps_none) (typed_says x h) (int_says (codes " ") τ type) refl
+trunc_row b _ _ _ (cast x τ h type) = P.simple_trunc b (codes " ") (P.lost_wraps_none) (typed_says x h) (type_says (codes " ") τ type) refl
 
 zext_row : (b : Text) (nneg : Bool) (wr : Option TypeTree) (os : List Typed) (ts : List Text) → IsCast wr os ts
     → Reads N.simple (says (O.ZExt nneg) wr os ts) (token b T.Word (codes "zext") ∷ (written_flag (codes "nneg") nneg ++ (written_operands os ++ written_to wr)))
-zext_row b nneg _ _ _ (cast x τ h type) = P.simple_zext b (codes " ") (nneg_says nneg) (typed_says x h) (int_says (codes " ") τ type) refl
+zext_row b nneg _ _ _ (cast x τ h type) = P.simple_zext b (codes " ") (nneg_says nneg) (typed_says x h) (type_says (codes " ") τ type) refl
 
 select_row : (b : Text) (wr : Option TypeTree) (os : List Typed) (ts : List Text) → IsThree wr os ts → Reads N.simple (says O.Select wr os ts) (token b T.Word (codes "select") ∷ written_values os)
 select_row b _ _ _ (three x y z h k l) = P.simple_three_select b [] [] (typed_says x h) (typed_says y k) (typed_says z l) refl

@@ -21,7 +21,7 @@ use Rattle.ll_written.specs.Written as W
 use Rattle.ll_written.specs.Written.{token, apart, close, word, comma, indent}
 use Rattle.ll_written.specs.Writable.{IsLocal, IsRow, IsIncoming, IsInst, IsPart, IsParam, IsFunction, IsWritable}
 use Rattle.ll_written.proofs.FreeLaws.{AreFree, IsFree, both_free, each_free, free_spaced, spaced_then, gap_free, apart_free, word_whole, sign_free, comma_free}
-use Rattle.ll_written.proofs.SpacedParts.{type_whole, int_whole, said_free, operands_free, values_free, returned_free, targets_free, to_free, head_free, first_free}
+use Rattle.ll_written.proofs.SpacedParts.{result_whole, type_whole, said_free, operands_free, values_free, returned_free, targets_free, to_free, head_free, first_free}
 
 -- ---- instructions
 
@@ -62,7 +62,7 @@ entries_free τ [] all = tt
 entries_free τ (e ∷ es) all = both_free (W.written_entry e) (flat_map W.next_entry es) (entry_free τ e all.0) (each_free (IsIncoming τ) W.next_entry (λ x h. (comma_free, entry_free τ x h)) es all.1)
 
 inst_free : (b : ℕ) (bs : Text) → AreBlanks (b ∷ bs) → (i : Inst) → IsInst i → AreFree (W.written_inst (b ∷ bs) i)
-inst_free b bs blanks (L.Phi τ es) h = (first_free b bs blanks (codes "phi") refl, (apart_free T.Word (type_text τ) (int_whole τ h.0), entries_free τ es h.1))
+inst_free b bs blanks (L.Phi τ es) h = (first_free b bs blanks (codes "phi") refl, (apart_free T.Word (type_text τ) (type_whole τ h.0), entries_free τ es h.1))
 inst_free b bs blanks (L.Row r) h = both_free (W.written_head (b ∷ bs) r.op) (W.written_names r.op r) (head_free b bs blanks r.op) (names_free r.op r h)
 
 line_by : (result : Option Text) (i : Inst) → IfSome result IsLocal → IsInst i → AreFree (W.written_behind result i)
@@ -87,7 +87,7 @@ name_free None h = tt
 name_free (Some t) h = (apart_free T.Local t h, tt)
 
 next_param_free : (p : Param) → IsParam p → AreFree (W.next_param p)
-next_param_free p h = (comma_free, (apart_free T.Word (type_text p.type) (int_whole p.type h.type), name_free p.name h.name))
+next_param_free p h = (comma_free, (apart_free T.Word (type_text p.type) (type_whole p.type h.type), name_free p.name h.name))
 
 open_apart : (t : Text) → IsApart (Some T.OpenParen) t
 open_apart [] = tt
@@ -97,7 +97,7 @@ open_apart (b ∷ bs) = refl
 params_spaced : (ps : List Param) (rest : List Spaced) → AllByRecursion IsParam ps → AreFree rest → AreSpacedBehind (Some T.OpenParen) (W.written_params ps ++ rest)
 params_spaced [] rest all free = free_spaced (Some T.OpenParen) rest free
 params_spaced (p ∷ ps) rest all free =
-    let type : Follows (Some T.OpenParen) (close T.Word (type_text p.type)) = record { blanks = refl; whole = text_whole T.Word (type_text p.type) (int_whole p.type all.0.type); apart = open_apart (type_text p.type) } in
+    let type : Follows (Some T.OpenParen) (close T.Word (type_text p.type)) = record { blanks = refl; whole = text_whole T.Word (type_text p.type) (type_whole p.type all.0.type); apart = open_apart (type_text p.type) } in
     let others = both_free (W.written_name p.name ++ flat_map W.next_param ps) rest (both_free (W.written_name p.name) (flat_map W.next_param ps) (name_free p.name all.0.name) (each_free IsParam W.next_param next_param_free ps all.1)) free in
     (type, free_spaced (Some T.Word) (W.written_name p.name ++ flat_map W.next_param ps ++ rest) others)
 
@@ -115,7 +115,7 @@ function_spaced b bs blanks last f rest h free =
     spaced_then (Some T.OpenParen) (W.written_params f.params ++ (close T.CloseParen (codes ")") ∷ body)) rest (params_spaced f.params (close T.CloseParen (codes ")") ∷ body) h.params end) free in (
       first_free b bs blanks (codes "define") refl last,
       (
-        apart_free T.Word (type_text f.result) (type_whole f.result h.result) (Some T.Word),
+        apart_free T.Word (type_text f.result) (result_whole f.result h.result) (Some T.Word),
         (
           apart_free T.Global f.name h.name (Some T.Word),
           (sign_close T.OpenParen 40 refl (λ j. plain_follows j 40 refl) (Some T.Global), params),

@@ -9,7 +9,9 @@ use Rattle.kinds.specs.declared.op.LLVMIntPredicate.TheVariants as I
 use Rattle.kinds.specs.declared.op.OverflowFlags.{OverflowFlags}
 use Rattle.kinds.specs.declared.op.Op.{Op}
 use Rattle.kinds.specs.declared.op.Op.TheVariants as O
-use Rattle.kinds.specs.Types.{TypeTree, VoidType, IntType, FunctionType}
+use Rattle.kinds.specs.Types.{TypeTree, VoidType, IntType}
+use Rattle.kinds.specs.Held.{IsFirstClass, IsReturned}
+use Rattle.kinds.proofs.HeldLaws.{first_class_value, first_class_int, returned_own, returned_if}
 use Rattle.ll_lines.specs.Lines as L
 use Rattle.ll_lines.specs.Lines.{Text, Said, Typed, RowLine, Incoming, Inst, Line, Part, Param, Function, File}
 use Rattle.ll_spacing.specs.Forms.{IsText, IsInt, is_word}
@@ -22,7 +24,7 @@ use Rattle.ll_tokens.specs.declared.kinds.Kind.TheVariants as T
 use Rattle.ll_written.specs.Printing.{type_text, int_text, signed_text, predicate_text}
 use Rattle.ll_written.specs.Written as W
 use Rattle.ll_written.specs.Written.{token, apart, close, word, comma, indent}
-use Rattle.ll_written.specs.Writable.{IsIntType, IsResult, an_int, IsLocal, IsSaidOf, IsTyped}
+use Rattle.ll_written.specs.Writable.{an_int, IsLocal, IsSaidOf, IsTyped}
 use Rattle.ll_said.proofs.DecimalLaws.{IsDecimal-decimal}
 use Rattle.ll_written.proofs.FreeLaws.{AreFree, IsFree, both_free, each_free, gap_free, apart_free, word_whole, word_free, comma_free}
 
@@ -40,15 +42,14 @@ int_type_text n h =
     let digits : list_all is_digit (d.first ∷ d.others) ≡ true = rw (d.digit, d.digits) refl in
     rw d.text (IsText.word (105 ∷ d.first ∷ d.others) (digits_word (d.first ∷ d.others) digits))
 
-pub type_whole : (τ : TypeTree) → IsResult τ → IsText T.Word (type_text τ)
-type_whole VoidType h = IsText.word (codes "void") refl
-type_whole (IntType n) h = int_type_text n (below 23 23 n (omega arith) (omega arith) h.1)
-type_whole (FunctionType r ts v) h = absurd h
+-- a line for each kind
+pub result_whole : (τ : TypeTree) → IsReturned τ → IsText T.Word (type_text τ)
+result_whole VoidType h = IsText.word (codes "void") refl
+result_whole (IntType n) h = int_type_text n (below 23 23 n (omega arith) (omega arith) (first_class_int n (returned_own (IntType n) h refl)).1)
+result_whole τ h = absurd (let k = first_class_value τ (returned_own τ h refl) in cc)
 
-pub int_whole : (τ : TypeTree) → IsIntType τ → IsText T.Word (type_text τ)
-int_whole (IntType n) h = type_whole (IntType n) h
-int_whole VoidType h = absurd h
-int_whole (FunctionType r ts v) h = absurd h
+pub type_whole : (τ : TypeTree) → IsFirstClass τ → IsText T.Word (type_text τ)
+type_whole τ h = result_whole τ (returned_if τ h)
 
 decimal_text : (n : ℕ) → n < 2 ^ 64 → IsText T.Int (decimal n)
 decimal_text n h =
@@ -78,23 +79,23 @@ bit_text zero h = IsText.word (codes "false") refl
 bit_text (suc zero) h = IsText.word (codes "true") refl
 bit_text (suc (suc n)) h = absurd (omega arith)
 
-int_by : (w n : ℕ) (b : Bool) → w ≤ 64 → n < 2 ^ w → (w == 1) ≡ b → IsText (W.int_kind (IntType w)) (int_text w n)
+int_by : (w n : ℕ) (b : Bool) → w ≤ 64 → n < 2 ^ w → (w == 1) ≡ b → IsText (W.int_kind w) (int_text w n)
 int_by w n true most fits e =
     let one : 1 ≡ w = grind (arith, nat_tests) in
     let small : n < 2 = rw (← one) at fits in
-    subst (λ (v : ℕ). IsText (W.int_kind (IntType v)) (int_text v n)) one (bit_text n small)
+    subst (λ (v : ℕ). IsText (W.int_kind v) (int_text v n)) one (bit_text n small)
 int_by w n false most fits e =
     let narrow : nat_le w 128 ≡ true = grind (arith, nat_tests) in
-    let kind : T.Int ≡ W.int_kind (IntType w) = rw e refl in
+    let kind : T.Int ≡ W.int_kind w = rw e refl in
     let same : signed_text w n ≡ int_text w n = rw (e, narrow) refl in
     subst (λ (k : Kind). IsText k (int_text w n)) kind (subst (λ (t : Text). IsText T.Int t) same (signed_by w n (nat_lt n (2 ^ (w - 1))) most fits refl))
 
 pub said_free : (τ : TypeTree) (s : Said) → IsSaidOf τ s → IsFree (W.written_said s)
 said_free τ (L.Local t) h = apart_free T.Local t h
-said_free τ (L.Const c) (an_int w n most fits) = apart_free (W.int_kind (IntType w)) (int_text w n) (int_by w n (w == 1) most fits refl)
+said_free τ (L.Const c) (an_int w n most fits) = apart_free (W.int_kind w) (int_text w n) (int_by w n (w == 1) most fits refl)
 
 pub typed_free : (x : Typed) → IsTyped x → AreFree (W.written_typed x)
-typed_free x h = (apart_free T.Word (type_text x.type) (int_whole x.type h.type), (said_free x.type x.said h.said, tt))
+typed_free x h = (apart_free T.Word (type_text x.type) (type_whole x.type h.type), (said_free x.type x.said h.said, tt))
 
 -- ---- rows
 
@@ -119,9 +120,9 @@ pub targets_free : (ts : List Text) → AllByRecursion IsLocal ts → AreFree (W
 targets_free [] all = tt
 targets_free (t ∷ ts) all = both_free (W.written_target t) (flat_map W.next_target ts) (target_free t all.0) (each_free IsLocal W.next_target (λ u h. (comma_free, target_free u h)) ts all.1)
 
-pub to_free : (w : Option TypeTree) → IfSome w IsIntType → AreFree (W.written_to w)
+pub to_free : (w : Option TypeTree) → IfSome w IsFirstClass → AreFree (W.written_to w)
 to_free None h = tt
-to_free (Some τ) h = (word_free (codes "to") refl, (apart_free T.Word (type_text τ) (int_whole τ h), tt))
+to_free (Some τ) h = (word_free (codes "to") refl, (apart_free T.Word (type_text τ) (type_whole τ h), tt))
 
 flag_free : (t : Text) (b : Bool) → is_word t ≡ true → AreFree (W.written_flag t b)
 flag_free t false e = tt
