@@ -1,28 +1,26 @@
 -- Counting the unnamed things of a function, one part after another.
-use Rattle.std.proofs.Common.{◌≡◌, ◌≢◌, ℕ, zero, suc, ◌+◌, ◌<◌, ◌≤◌, List, [], ◌∷◌, ◌++◌, length, take, get_or, slice_get, Some, refl, ap, sym, ◌∙◌, subst, append_assoc, arith}
+use Rattle.std.proofs.Common.{◌≡◌, ℕ, zero, suc, ◌+◌, ◌<◌, ◌≤◌, true, false, List, [], ◌∷◌, ◌++◌, length, take, get_or, slice_get, Some, refl, ap, sym, ◌∙◌, subst, append_assoc, arith}
 use Rattle.std.specs.List.{flat_map}
 use Rattle.std.specs.Option.{option_map}
 use Rattle.std.proofs.lemmas.List.{append-nil, take_all}
+use Rattle.std.proofs.lemmas.Option.{same_Some}
 use Rattle.support.proofs.ListLaws.{flat_map-take_more}
 use Rattle.llvm_core.specs.declared.numbers.LLVMType.{LLVMType}
 use Rattle.llvm_core.specs.declared.numbers.LLVMFunction.{LLVMFunction}
 use Rattle.llvm_core.specs.declared.numbers.LLVMBasicBlock.{LLVMBasicBlock}
 use Rattle.llvm_core.specs.declared.numbers.LLVMInstRef.{LLVMInstRef}
-use Rattle.llvm_core.specs.declared.types.LLVMTypeKind.{LLVMTypeKind}
-use Rattle.llvm_core.specs.declared.types.LLVMTypeKind.TheVariants as T
 use Rattle.llvm_core.specs.declared.code.FunctionData.{FunctionData}
 use Rattle.llvm_core.specs.declared.code.InstData.{InstData}
 use Rattle.llvm_core.specs.Module.{Module}
 use Rattle.llvm_core.specs.Code.{param_names}
-use Rattle.llvm_core.specs.Sound.{IsModule}
-use Rattle.llvm_core.specs.Data.{TypeTree, Placed, type_tree, trees_of, block_at}
-use Rattle.llvm_core.proofs.DataLemmas.{type_tree_of}
+use Rattle.kinds.specs.Held.{is_void}
+use Rattle.llvm_core.specs.Data.{type_at, trees_of, block_at}
 use Rattle.ll_print.specs.declared.numbers.Numbers.{Numbers}
-use Rattle.ll_print.specs.Printing.{Unnamed, ParamAt, ResultOf, if_unnamed, unnamed_params, unnamed_result, unnamed_block, unnamed_in}
+use Rattle.ll_print.specs.Printing.{Unnamed, ParamAt, ResultOf, if_unnamed, unnamed_params, unnamed_block, unnamed_in}
 use Rattle.ll_print.specs.Numbering.{IsNumbering, Counts}
 use Rattle.ll_print.specs.Parts.{no_function, function_in, unnamed_at, unnamed_of}
 use Rattle.ll_print.proofs.NumberLaws.{counts_none, counts_then}
-use Rattle.ll_print.proofs.PartLaws.{read, read_item, flat_map-filter_map, params_of, gives_of-inst}
+use Rattle.ll_print.proofs.PartLaws.{read, flat_map-filter_map, params_of, gives_of-inst}
 
 -- ---- parameters
 
@@ -69,27 +67,17 @@ pub counts_all : {X : Type 0} (g : X → List Unnamed) (old new : Numbers) (xs :
 counts_all {X} g old new xs i all h = subst (λ (ys : List X). Counts old new (flat_map g ys)) (take_all i xs all) h
 
 -- an instruction without a result
-pub counts_void : (m : Module) (old : Numbers) (i : LLVMInstRef) (ty : LLVMType) → IsModule m
-    → option_map (λ (x : InstData). x.ty) (slice_get m.insts i.0) ≡ Some ty → slice_get m.types ty.0 ≡ Some T.Void → Counts old old (unnamed_at m i)
-counts_void m old i ty s typed at =
-    let x = read_item (λ (x : InstData). x.ty) m.insts i.0 ty typed in
-    let p = gives_of-inst m (function_in m (record { 0 = 0 })) i ty x.0.name typed (ap (option_map (λ (x : InstData). x.name)) x.1) in
-    subst (Counts old old) (sym (p.4 ∙ ap (λ (t : TypeTree). unnamed_result t p.0) (type_tree_of m ty T.Void s at))) (counts_none old)
-
-result_of_kind : (m : Module) (ts : List TypeTree) (k : LLVMTypeKind) (p : Placed) → k ≢ T.Void → unnamed_result (type_tree ts k) p ≡ if_unnamed p.name (ResultOf p.number)
-result_of_kind m ts T.Void p h = absurd (h refl)
-result_of_kind m ts (T.Int w) p h = refl
-result_of_kind m ts (T.Function r ps v) p h = refl
+pub counts_void : (m : Module) (old : Numbers) (i : LLVMInstRef) (ty : LLVMType) → option_map (λ (x : InstData). x.ty) (slice_get m.insts i.0) ≡ Some ty → is_void (type_at (trees_of m).types ty) ≡ true → Counts old old (unnamed_at m i)
+counts_void m old i ty typed is = let g = gives_of-inst m (function_in m (record { 0 = 0 })) i ty true typed is in subst (Counts old old) (sym g.3) (counts_none old)
 
 -- and one with a result
-pub counts_inst : (m : Module) (old new : Numbers) (i : LLVMInstRef) (ty : LLVMType) (k : LLVMTypeKind) (name : List ℕ) → IsModule m
-    → option_map (λ (x : InstData). x.ty) (slice_get m.insts i.0) ≡ Some ty → option_map (λ (x : InstData). x.name) (slice_get m.insts i.0) ≡ Some name → slice_get m.types ty.0 ≡ Some k → k ≢ T.Void
+pub counts_inst : (m : Module) (old new : Numbers) (i : LLVMInstRef) (ty : LLVMType) (name : List ℕ)
+    → option_map (λ (x : InstData). x.ty) (slice_get m.insts i.0) ≡ Some ty → option_map (λ (x : InstData). x.name) (slice_get m.insts i.0) ≡ Some name → is_void (type_at (trees_of m).types ty) ≡ false
     → Counts old new (if_unnamed name (ResultOf i.0)) → Counts old new (unnamed_at m i)
-counts_inst m old new i ty k name s typed named at some h =
-    let p = gives_of-inst m (function_in m (record { 0 = 0 })) i ty name typed named in
-    let same : unnamed_at m i ≡ if_unnamed name (ResultOf i.0) =
-    p.4 ∙ ap (λ (t : TypeTree). unnamed_result t p.0) (type_tree_of m ty k s at) ∙ result_of_kind m (trees_of m).types k p.0 some ∙ rw (p.1, p.2) refl in
-    subst (Counts old new) (sym same) h
+counts_inst m old new i ty name typed named is h =
+    let g = gives_of-inst m (function_in m (record { 0 = 0 })) i ty false typed is in
+    let same : g.0 ≡ name = same_Some g.0 name (sym g.1 ∙ named) in
+    subst (Counts old new) (sym (g.3 ∙ ap (λ (n : List ℕ). if_unnamed n (ResultOf i.0)) same)) h
 
 -- ---- a function
 

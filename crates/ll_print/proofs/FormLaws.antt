@@ -24,7 +24,8 @@ use Rattle.llvm_core.specs.Code.{param_names}
 use Rattle.llvm_core.specs.Parts.{IsValue, IsBlock, IsEntry, HasValues}
 use Rattle.llvm_core.specs.Sound.{IsModule}
 use Rattle.llvm_core.specs.Data.{TypeTree, Operand, Function, type_at, trees_of, operand_of, entry_of, instruction_of, placed_of, block_of, block_at, function_of, param_type, data_of}
-use Rattle.llvm_core.specs.Form.{IsOperandOf, IsOperand, IsTarget, FitsEdges, IsFormInstruction, IsFormPlaced, IsFormBlock, IsFormFunction, result_of}
+use Rattle.kinds.specs.Types.{result_of}
+use Rattle.llvm_core.specs.Form.{IsOperandOf, IsOperand, IsTarget, FitsEdges, IsFormInstruction, IsFormPlaced, IsFormBlock, IsFormFunction}
 use Rattle.llvm_core.proofs.DataLemmas.{within_at, block_of_number, inst_of_number, function_count}
 use Rattle.ll_print.specs.declared.numbers.Numbers.{Numbers}
 use Rattle.ll_print.specs.declared.places.Place.TheVariants as P

@@ -1,5 +1,5 @@
 -- Values that belong to a function: their names, numbers and types as its data have them.
-use Rattle.std.proofs.Common.{◌≡◌, ◌≢◌, ℕ, zero, suc, ◌<◌, Bool, cond, List, [], ◌∷◌, ◌++◌, length, drop, get_or, slice_get, Option, Some, None, refl, ap, sym, ◌∙◌, subst, eq-eqb, append_assoc}
+use Rattle.std.proofs.Common.{◌≡◌, ℕ, zero, suc, ◌<◌, Bool, true, false, cond, List, [], ◌∷◌, ◌++◌, length, drop, get_or, slice_get, Option, Some, None, refl, ap, sym, ◌∙◌, subst, eq-eqb, append_assoc}
 use Rattle.std.specs.Prelude.{codes}
 use Rattle.std.specs.List.{flat_map}
 use Rattle.std.specs.Option.{option_map, option_map_or}
@@ -20,13 +20,13 @@ use Rattle.llvm_core.specs.Module.{Module}
 use Rattle.llvm_core.specs.Code.{param_names}
 use Rattle.llvm_core.specs.Sound.{IsModule}
 use Rattle.llvm_core.specs.Parts.{value_type, kind_params}
-use Rattle.llvm_core.specs.Data.{TypeTree, VoidType, Parameter, Result, Placed, Block, Function, type_at, type_tree, trees_of, operand_of, operand_type, param_type, placed_in}
+use Rattle.llvm_core.specs.Data.{VoidType, Parameter, Result, Placed, Block, Function, type_at, trees_of, operand_of, operand_type, param_type, placed_in}
 use Rattle.llvm_core.specs.Form.{HasNumber}
-use Rattle.llvm_core.proofs.DataLemmas.{type_tree_of}
+use Rattle.kinds.specs.Held.{is_void}
 use Rattle.ll_print.specs.declared.numbers.Numbers.{Numbers}
 use Rattle.ll_print.specs.declared.places.Place.{Place}
 use Rattle.ll_print.specs.declared.places.Place.TheVariants as P
-use Rattle.ll_print.specs.Printing.{Unnamed, ParamAt, BlockOf, ResultOf, unnamed_in, unnamed_number, local_text, operand_text, type_text, value_text, block_ref, gives_text}
+use Rattle.ll_print.specs.Printing.{Unnamed, ParamAt, BlockOf, ResultOf, unnamed_in, unnamed_number, local_text, operand_text, type_text, value_text, block_ref}
 use Rattle.ll_print.specs.Numbering.{thing_of, noted_at, or_number, number_at, place_in}
 use Rattle.ll_print.specs.Parts.{no_function, function_in, named_text, label_line, entry_label_line, gives_of, line_of, entry_lines_of, lines_of, HasBlockNumber, IsOwn, IsOwnBlock, IsPrinting}
 use Rattle.ll_print.proofs.NumberLaws.{place_number}
@@ -110,9 +110,8 @@ entry_block_put m n b name insts old head new h own named held e1 e2 =
 
 param_by : (m : Module) (f : LLVMFunction) (place : ℕ) (t ty : LLVMType) (k : LLVMTypeKind) → IsModule m → option_map (λ (x : FunctionData). x.ty) (slice_get m.functions f.0) ≡ Some ty → slice_get m.types ty.0 ≡ Some k
     → slice_get (kind_params k) place ≡ Some t → param_type (function_in m f).type place ≡ type_at (trees_of m).types t
-param_by m f place t ty T.Void s typed at here = absurd cc
-param_by m f place t ty (T.Int w) s typed at here = absurd cc
 param_by m f place t ty (T.Function r ps v) s typed at here = (type_of_function m f ty r ps v s typed at).typed place t here
+param_by m f place t ty k s typed at here = absurd cc
 
 param_typed : (m : Module) (f : LLVMFunction) (place : ℕ) (t : LLVMType) → IsModule m → f.0 < length m.functions → value_type m (V.Param f place) ≡ Some t → param_type (function_in m f).type place ≡ type_at (trees_of m).types t
 param_typed m f place t s within typed = by (slice_get m.types x.ty.0) refl (ap (λ (o : Option FunctionData). slice_get (option_map_or (λ (y : FunctionData). option_map_or kind_params (slice_get m.types y.ty.0) []) o []) place) (sym there) ∙ typed)
@@ -130,7 +129,7 @@ param_typed m f place t s within typed = by (slice_get m.types x.ty.0) refl (ap 
 -- the type of a value of the function is that of its operand
 pub type_is : (m : Module) (n : Numbers) (v : LLVMValue) (t : LLVMType) → IsPrinting m n → IsOwn m n.function v → value_type m v ≡ Some t
     → operand_type (function_in m n.function) (operand_of (trees_of m) v) ≡ type_at (trees_of m).types t
-type_is m n (V.Const c) t h own typed = const_type-at m c t typed
+type_is m n (V.Const c) t h own typed = const_type-at m c t h.sound typed
 type_is m n (V.Param f place) t h own typed =
     let f' = function_in m n.function in
     let within : f.0 < length m.functions = subst (λ (g : LLVMFunction). g.0 < length m.functions) (sym own.0) h.within in
@@ -153,25 +152,15 @@ value_put m n v t old typed spaced new h own is e1 e2 e3 =
 -- ---- results
 
 -- an instruction without a result
-pub void_gives : (m : Module) (f : Function) (i : LLVMInstRef) (ty : LLVMType) → IsModule m → option_map (λ (x : InstData). x.ty) (slice_get m.insts i.0) ≡ Some ty → slice_get m.types ty.0 ≡ Some T.Void → gives_of m f i ≡ []
-void_gives m f i ty s typed at =
-    let x = read_item (λ (x : InstData). x.ty) m.insts i.0 ty typed in
-    let p = gives_of-inst m f i ty x.0.name typed (ap (option_map (λ (x : InstData). x.name)) x.1) in
-    p.3 ∙ ap (λ (t : TypeTree). gives_text f t p.0) (type_tree_of m ty T.Void s at)
-
-kind_gives : (f : Function) (ts : List TypeTree) (k : LLVMTypeKind) (p : Placed) → k ≢ T.Void → gives_text f (type_tree ts k) p ≡ local_text f p.name (ResultOf p.number) ++ codes " = "
-kind_gives f ts T.Void p h = absurd (h refl)
-kind_gives f ts (T.Int w) p h = refl
-kind_gives f ts (T.Function r ps v) p h = refl
+pub void_gives : (m : Module) (f : Function) (i : LLVMInstRef) (ty : LLVMType) → option_map (λ (x : InstData). x.ty) (slice_get m.insts i.0) ≡ Some ty → is_void (type_at (trees_of m).types ty) ≡ true → gives_of m f i ≡ []
+void_gives m f i ty typed is = let g = gives_of-inst m f i ty true typed is in g.2
 
 -- and one with a result
-pub result_gives : (m : Module) (n : Numbers) (i : LLVMInstRef) (ty : LLVMType) (k : LLVMTypeKind) (name : List ℕ) → IsPrinting m n
-    → option_map (λ (x : InstData). x.ty) (slice_get m.insts i.0) ≡ Some ty → option_map (λ (x : InstData). x.name) (slice_get m.insts i.0) ≡ Some name → slice_get m.types ty.0 ≡ Some k → k ≢ T.Void
+pub result_gives : (m : Module) (n : Numbers) (i : LLVMInstRef) (ty : LLVMType) (name : List ℕ) → IsPrinting m n
+    → option_map (λ (x : InstData). x.ty) (slice_get m.insts i.0) ≡ Some ty → option_map (λ (x : InstData). x.name) (slice_get m.insts i.0) ≡ Some name → is_void (type_at (trees_of m).types ty) ≡ false
     → gives_of m (function_in m n.function) i ≡ named_text name (number_at n (P.Result i)) ++ codes " = "
-result_gives m n i ty k name h typed named at some =
+result_gives m n i ty name h typed named is =
     let f = function_in m n.function in
-    let p = gives_of-inst m f i ty name typed named in
-    p.3 ∙ ap (λ (t : TypeTree). gives_text f t p.0) (type_tree_of m ty k h.sound at) ∙ kind_gives f (trees_of m).types k p.0 some
-    ∙ ap (λ (t : List ℕ). local_text f t (ResultOf p.0.number) ++ codes " = ") p.2
-    ∙ ap (λ (j : ℕ). local_text f name (ResultOf j) ++ codes " = ") p.1
-    ∙ ap (λ (t : List ℕ). t ++ codes " = ") (thing_local m n (P.Result i) name h)
+    let g = gives_of-inst m f i ty false typed is in
+    let same : g.0 ≡ name = same_Some g.0 name (sym g.1 ∙ named) in
+    g.2 ∙ ap (λ (t : List ℕ). local_text f t (ResultOf i.0) ++ codes " = ") same ∙ ap (λ (t : List ℕ). t ++ codes " = ") (thing_local m n (P.Result i) name h)

@@ -1,5 +1,5 @@
 -- From what readers of a module answer to its data.
-use Rattle.std.proofs.Common.{◌≡◌, ℕ, zero, suc, ◌<◌, Bool, codes, List, [], ◌∷◌, ◌++◌, length, drop, get_or, slice_get, Option, Some, None, All, refl, ap, sym, ◌∙◌, arith}
+use Rattle.std.proofs.Common.{◌≡◌, ℕ, zero, suc, ◌<◌, Bool, cond, codes, List, [], ◌∷◌, ◌++◌, length, drop, get_or, slice_get, Option, Some, None, All, refl, ap, sym, ◌∙◌, arith}
 use Rattle.std.specs.List.{flat_map, filter_map, cons_option}
 use Rattle.std.specs.Option.{option_map, option_map_or}
 use Rattle.std.proofs.lemmas.Option.{slice_get-get_or, slice_get_within, same_Some}
@@ -18,11 +18,14 @@ use Rattle.llvm_core.specs.declared.code.InstData.{InstData}
 use Rattle.llvm_core.specs.Module.{Module}
 use Rattle.llvm_core.specs.Code.{param_names}
 use Rattle.llvm_core.specs.Sound.{IsModule}
-use Rattle.llvm_core.specs.Parts.{IsTypeOver, type_params}
+use Rattle.llvm_core.specs.Parts.{IsTypeOver, type_params, shape_of}
+use Rattle.kinds.specs.Types.{shape, result_of}
+use Rattle.kinds.specs.Fitting.{is_nothing}
+use Rattle.kinds.specs.Held.{is_void}
 use Rattle.llvm_core.specs.Data.{TypeTree, FunctionType, Placed, Block, Function, type_at, types_at, trees_of, placed_of, placed_at, block_of, block_at, data_of, param_type}
-use Rattle.llvm_core.specs.Form.{result_of}
-use Rattle.llvm_core.proofs.DataLemmas.{function_tree_of, function_at}
-use Rattle.ll_print.specs.Printing.{Unnamed, BlockOf, if_unnamed, unnamed_result, unnamed_block, block_ref, entry_label_text, placed_text, block_text, blocks_text, gives_text}
+use Rattle.llvm_core.proofs.DataLemmas.{type_tree_of, function_tree_of, function_at}
+use Rattle.llvm_core.proofs.RuleLaws.{shape_kept}
+use Rattle.ll_print.specs.Printing.{Unnamed, BlockOf, ResultOf, local_text, if_unnamed, unnamed_result, unnamed_block, block_ref, entry_label_text, placed_text, block_text, blocks_text, gives_text}
 use Rattle.ll_print.specs.Parts.{no_function, function_in, gives_of, line_of, entry_lines, entry_lines_of, lines_of, all_lines_of, unnamed_at, unnamed_of}
 
 -- ---- lists
@@ -148,20 +151,22 @@ unnamed_of-block m b name insts named held =
     ∙ ap (λ (t : List Unnamed). if_unnamed x.0.name (BlockOf b.0) ++ t) (flat_map-filter_map (placed_at (trees_of m) m.insts) (λ (p : Placed). unnamed_result p.type p) x.0.insts)
     ∙ rw (x.2, same) refl
 
--- what an instruction gives, by its type and its name
-pub gives_of-inst : (m : Module) (f : Function) (i : LLVMInstRef) (ty : LLVMType) (name : List ℕ)
-    → option_map (λ (x : InstData). x.ty) (slice_get m.insts i.0) ≡ Some ty → option_map (λ (x : InstData). x.name) (slice_get m.insts i.0) ≡ Some name
-    → (p : Placed) × (p.number ≡ i.0) × (p.name ≡ name) × (gives_of m f i ≡ gives_text f (type_at (trees_of m).types ty) p) × (unnamed_at m i ≡ unnamed_result (type_at (trees_of m).types ty) p)
-gives_of-inst m f i ty name typed named =
+-- whether a type is void is told by the shape of its kind
+pub void_by_kind : (m : Module) (t : LLVMType) (k : LLVMTypeKind) → IsModule m → slice_get m.types t.0 ≡ Some k → is_nothing (shape_of k) ≡ is_void (type_at (trees_of m).types t)
+void_by_kind m t k s at = ap is_nothing (shape_kept (trees_of m).types k ∙ ap shape (sym (type_tree_of m t k s at)))
+
+-- what an instruction gives, by whether its type is void, and its name where it is not
+pub gives_of-inst : (m : Module) (f : Function) (i : LLVMInstRef) (ty : LLVMType) (void : Bool)
+    → option_map (λ (x : InstData). x.ty) (slice_get m.insts i.0) ≡ Some ty → is_void (type_at (trees_of m).types ty) ≡ void
+    → (name : List ℕ) × (option_map (λ (x : InstData). x.name) (slice_get m.insts i.0) ≡ Some name) × (gives_of m f i ≡ cond void [] (local_text f name (ResultOf i.0) ++ codes " = ")) × (unnamed_at m i ≡ cond void [] (if_unnamed name (ResultOf i.0)))
+gives_of-inst m f i ty void typed is =
     let x = read_item (λ (x : InstData). x.ty) m.insts i.0 ty typed in
-    let p = placed_of (trees_of m) i x.0 in
-    let same : x.0.name ≡ name = same_Some x.0.name name (ap (option_map (λ (x : InstData). x.name)) (sym x.1) ∙ named) in
-    let type : p.type ≡ type_at (trees_of m).types ty = ap (type_at (trees_of m).types) x.2 in (
-      p,
-      refl,
-      same,
-      ap (λ (o : Option Placed). option_map_or (λ (p : Placed). gives_text f p.type p) o []) (inst_there m i x.0 x.1) ∙ ap (λ (t : TypeTree). gives_text f t p) type,
-      ap (λ (o : Option Placed). option_map_or (λ (p : Placed). unnamed_result p.type p) o []) (inst_there m i x.0 x.1) ∙ ap (λ (t : TypeTree). unnamed_result t p) type,
+    let name = x.0.name in
+    let same : is_void (type_at (trees_of m).types x.0.ty) ≡ void = ap (λ (t : LLVMType). is_void (type_at (trees_of m).types t)) x.2 ∙ is in (
+      name,
+      ap (option_map (λ (x : InstData). x.name)) x.1,
+      ap (λ (o : Option Placed). option_map_or (λ (p : Placed). gives_text f p.type p) o []) (inst_there m i x.0 x.1) ∙ ap (λ (b : Bool). cond b [] (local_text f name (ResultOf i.0) ++ codes " = ")) same,
+      ap (λ (o : Option Placed). option_map_or (λ (p : Placed). unnamed_result p.type p) o []) (inst_there m i x.0 x.1) ∙ ap (λ (b : Bool). cond b [] (if_unnamed name (ResultOf i.0))) same,
     )
 
 -- the parts of a type stand among the types

@@ -4,7 +4,8 @@ use Rattle.std.specs.Prelude.{OnOk}
 use Rattle.std.specs.List.{flat_map}
 use Rattle.std.proofs.lemmas.List.{append-nil}
 use Rattle.llvm_core.specs.Data.{Function, ModuleData}
-use Rattle.llvm_core.specs.Form.{IsForm, HasDistinctNames, result_of}
+use Rattle.kinds.specs.Types.{result_of}
+use Rattle.llvm_core.specs.Form.{IsForm, HasDistinctNames}
 use Rattle.ll_literals.specs.Text.{Text}
 use Rattle.ll_literals.specs.Names.{global, quoted}
 use Rattle.ll_said.specs.Said.{file_of}

@@ -12,14 +12,14 @@ use Rattle.llvm_core.specs.declared.numbers.LLVMType.{LLVMType}
 use Rattle.llvm_core.specs.declared.numbers.LLVMConst.{LLVMConst}
 use Rattle.llvm_core.specs.declared.types.LLVMTypeKind.{LLVMTypeKind}
 use Rattle.llvm_core.specs.declared.types.LLVMTypeKind.TheVariants as T
-use Rattle.llvm_core.specs.declared.consts.LLVMConstKind.{LLVMConstKind}
 use Rattle.llvm_core.specs.declared.consts.LLVMConstKind.TheVariants as C
 use Rattle.llvm_core.specs.Module.{Module}
 use Rattle.llvm_core.specs.Sound.{IsModule}
 use Rattle.llvm_core.specs.Parts.{const_type as kind_type}
 use Rattle.llvm_core.specs.Data.{TypeTree, type_at, type_tree, const_at, trees_of, const_type}
-use Rattle.llvm_core.proofs.DataLemmas.{type_tree_of, int_tree_of, int_const_of, placeholder_const_of}
-use Rattle.ll_print.specs.Printing.{type_text, int_text, int_of_type, const_text}
+use Rattle.kinds.specs.Held.{width_in}
+use Rattle.llvm_core.proofs.DataLemmas.{type_tree_of, int_tree_of, int_const_of, placeholder_const_of, const_type_of}
+use Rattle.ll_print.specs.Printing.{type_text, int_text, const_text}
 use Rattle.ll_print.proofs.PartLaws.{read_item}
 
 -- the same text under another name
@@ -52,20 +52,16 @@ pub type_text-kind : (m : Module) (t : LLVMType) (k : LLVMTypeKind) → IsModule
 type_text-kind m t k s at = ap type_text (type_tree_of m t k s at)
 
 -- the text of an integer is that of its value at its width
-pub int_text-width : (m : Module) (t : LLVMType) (width value : ℕ) → IsModule m → slice_get m.types t.0 ≡ Some (T.Int width) → int_of_type (type_at (trees_of m).types t) value ≡ int_text width value
-int_text-width m t width value s typed = ap (λ (ty : TypeTree). int_of_type ty value) (int_tree_of m t width s typed)
+pub int_text-width : (m : Module) (t : LLVMType) (width value : ℕ) → IsModule m → slice_get m.types t.0 ≡ Some (T.Int width) → int_text (width_in (type_at (trees_of m).types t)) value ≡ int_text width value
+int_text-width m t width value s typed = ap (λ (ty : TypeTree). int_text (width_in ty) value) (int_tree_of m t width s typed)
 
 -- the text of a constant is that of its kind
-pub const_text-int : (m : Module) (c : LLVMConst) (t : LLVMType) (value : ℕ) → slice_get m.consts c.0 ≡ Some (C.Int t value) → const_text (const_at (trees_of m).consts c) ≡ int_of_type (type_at (trees_of m).types t) value
+pub const_text-int : (m : Module) (c : LLVMConst) (t : LLVMType) (value : ℕ) → slice_get m.consts c.0 ≡ Some (C.Int t value) → const_text (const_at (trees_of m).consts c) ≡ int_text (width_in (type_at (trees_of m).types t)) value
 const_text-int m c t value at = ap const_text (int_const_of m c t value at)
 
 pub const_text-placeholder : (m : Module) (c : LLVMConst) (number : ℕ) (t : LLVMType) → slice_get m.consts c.0 ≡ Some (C.Placeholder number t) → const_text (const_at (trees_of m).consts c) ≡ []
 const_text-placeholder m c number t at = ap const_text (placeholder_const_of m c number t at)
 
-const_type-by : (m : Module) (c : LLVMConst) (t : LLVMType) (k : LLVMConstKind) → slice_get m.consts c.0 ≡ Some k → kind_type k ≡ t → const_type (const_at (trees_of m).consts c) ≡ type_at (trees_of m).types t
-const_type-by m c t (C.Int ty value) at e = ap const_type (int_const_of m c ty value at) ∙ ap (type_at (trees_of m).types) e
-const_type-by m c t (C.Placeholder number ty) at e = ap const_type (placeholder_const_of m c number ty at) ∙ ap (type_at (trees_of m).types) e
-
 -- the type of a constant that is read
-pub const_type-at : (m : Module) (c : LLVMConst) (t : LLVMType) → option_map kind_type (slice_get m.consts c.0) ≡ Some t → const_type (const_at (trees_of m).consts c) ≡ type_at (trees_of m).types t
-const_type-at m c t e = let k = read_item kind_type m.consts c.0 t e in const_type-by m c t k.0 k.1 k.2
+pub const_type-at : (m : Module) (c : LLVMConst) (t : LLVMType) → IsModule m → option_map kind_type (slice_get m.consts c.0) ≡ Some t → const_type (const_at (trees_of m).consts c) ≡ type_at (trees_of m).types t
+const_type-at m c t s e = let k = read_item kind_type m.consts c.0 t e in const_type_of m c k.0 s k.1 ∙ ap (type_at (trees_of m).types) k.2

@@ -1,12 +1,13 @@
 //! Prints constants.
 
 ghost use Rattle.std.specs.Prelude.{◌≡◌, ◌<◌, ◌≤◌, ◌^◌, ◌++◌, length, OnOk};
+ghost use Rattle.kinds.specs.Held.{width_in};
 ghost use Rattle.support.specs.Appended.{Keeps};
 ghost use Rattle.llvm_core.specs.declared.consts.LLVMConstKind.TheVariants as kinds;
 ghost use Rattle.llvm_core.specs.Parts.{IsConstOver};
 ghost use Rattle.llvm_core.specs.Sound.{IsModule};
 ghost use Rattle.llvm_core.specs.Data.{trees_of, type_at, const_at};
-ghost use Rattle.ll_print.specs.Printing.{int_text, int_of_type, const_text};
+ghost use Rattle.ll_print.specs.Printing.{int_text, const_text};
 
 use crate::types::put_decimal;
 use llvm_core::consts::LLVMConstKind;
@@ -41,7 +42,7 @@ fn put_int(width: u32, value: u128, out: &mut Vec<u8>) -> Result<(), AllocError>
 fn put_typed(m: &LLVMModule, ty: LLVMType, value: u128, out: &mut Vec<u8>) -> Result<(), AllocError>
     requires sound { IsModule m.now }
     requires typed { IsConstOver m.now.types (kinds.Int ty value) }
-    ensures text { OnOk result (out.new.items ≡ out.old.items ++ int_of_type (type_at (trees_of m.now).types ty) value) }
+    ensures text { OnOk result (out.new.items ≡ out.old.items ++ int_text (width_in (type_at (trees_of m.now).types ty)) value) }
     ensures kept { Keeps out.old.items out.new.items }
 {
     let LLVMTypeKind::Int(width) = m.type_kind(ty) else {

@@ -14,12 +14,11 @@ ghost use Rattle.ll_print.specs.Parts.{function_in, gives_of, line_of, IsOwn, Is
 use crate::numbers::Numbers;
 use crate::operands::{put_block_ref, put_local, put_operand, put_value};
 use crate::places::Place;
-use crate::types::put_type;
+use crate::types::{is_void, put_type};
 use kinds::op::{LLVMIntPredicate, Op, OverflowFlags};
 use llvm_core::code::{LLVMInst, LLVMValue, PhiEntry, Row};
 use llvm_core::module::LLVMModule;
 use llvm_core::numbers::{LLVMBasicBlock, LLVMInstRef, LLVMType};
-use llvm_core::types::LLVMTypeKind;
 use std::alloc::AllocError;
 
 /// The flags that are set, each before a blank.
@@ -372,13 +371,11 @@ fn put_result(
     ensures text { OnOk result (out.new.items ≡ out.old.items ++ gives_of m.now (function_in m.now numbers.now.function) i) }
     ensures kept { Keeps out.old.items out.new.items }
 {
-    match m.type_kind(ty) {
-        LLVMTypeKind::Void => Ok(()),
-        _ => {
-            put_local(numbers, m.inst_name(i), Place::Result(i), out)?;
-            out.extend_from_slice(b" = ")
-        }
+    if is_void(m, ty) {
+        return Ok(());
     }
+    put_local(numbers, m.inst_name(i), Place::Result(i), out)?;
+    out.extend_from_slice(b" = ")
 }
 
 /// The line of an instruction.

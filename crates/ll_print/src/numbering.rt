@@ -9,10 +9,10 @@ ghost use Rattle.llvm_core.specs.Sound.{IsModule};
 
 use crate::numbers::Numbers;
 use crate::places::Place;
+use crate::types::is_void;
 use llvm_core::code::LLVMValue;
 use llvm_core::module::LLVMModule;
 use llvm_core::numbers::{LLVMBasicBlock, LLVMFunction, LLVMInstRef};
-use llvm_core::types::LLVMTypeKind;
 use std::alloc::{AllocError, Global};
 
 /// Counts the parameters of a function, which has that many.
@@ -34,10 +34,10 @@ fn count_inst(m: &LLVMModule, i: LLVMInstRef, numbers: &mut Numbers) -> Result<(
     requires within { i.0 < length m.now.insts }
     ensures { OnOk result (Counts numbers.old numbers.new (unnamed_at m.now i)) }
 {
-    match m.type_kind(m.type_of(LLVMValue::Inst(i))) {
-        LLVMTypeKind::Void => Ok(()),
-        _ => numbers.count_unnamed(Place::Result(i), m.inst_name(i)),
+    if is_void(m, m.type_of(LLVMValue::Inst(i))) {
+        return Ok(());
     }
+    numbers.count_unnamed(Place::Result(i), m.inst_name(i))
 }
 
 /// Counts the results of instructions.

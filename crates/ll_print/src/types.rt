@@ -1,13 +1,15 @@
 //! Prints numbers and types.
 
 ghost use Rattle.std.specs.Prelude.{◌≡◌, ◌<◌, ◌≤◌, ◌++◌, codes, length, decimal, OnOk};
+ghost use Rattle.kinds.specs.Held.{is_void};
 ghost use Rattle.support.specs.Appended.{Keeps};
 ghost use Rattle.llvm_core.specs.Sound.{IsModule};
 ghost use Rattle.llvm_core.specs.Data.{trees_of, type_at};
 ghost use Rattle.ll_print.specs.Printing.{type_text};
 
 use itoa::Buffer;
-use llvm_core::module::LLVMModule;
+use kinds::fitting::is_nothing;
+use llvm_core::module::{LLVMModule, shape_of};
 use llvm_core::numbers::LLVMType;
 use llvm_core::types::LLVMTypeKind;
 use std::alloc::AllocError;
@@ -94,6 +96,16 @@ fn put_width(width: u32, out: &mut Vec<u8>) -> Result<(), AllocError>
     }
     out.push(b'i')?;
     put_long(u128::from(width), out)
+}
+
+/// Whether a type is void.
+#[inline(always)]
+pub fn is_void(m: &LLVMModule, ty: LLVMType) -> bool
+    requires sound { IsModule m.now }
+    requires within { ty.0 < length m.now.types }
+    ensures { result ≡ is_void (type_at (trees_of m.now).types ty) }
+{
+    is_nothing(shape_of(m.type_kind(ty)))
 }
 
 /// A type.
