@@ -14,7 +14,8 @@ use Rattle.ll_written.specs.Written.{indent, written_entry, next_entry, written_
 use Rattle.ll_written.specs.Writable.{IsIncoming, IsInst, IsLine, IsPart}
 use Rattle.ll_written.proofs.Productions as P
 use Rattle.ll_written.proofs.Productions.{Reads}
-use Rattle.ll_written.proofs.ValueSays.{literal_of, type_says, said_says, said_again}
+use Rattle.ll_written.proofs.TypeTokens.{type_says}
+use Rattle.ll_written.proofs.ValueSays.{literal_of, said_says, said_again}
 use Rattle.ll_written.proofs.RowSays.{row_says}
 
 -- an entry as it is written

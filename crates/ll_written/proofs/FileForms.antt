@@ -13,7 +13,7 @@ use Rattle.llvm_core.specs.Data.{Placed, Block, Function, ModuleData, nth_type, 
 use Rattle.llvm_core.specs.Form.{is_last, IsFormPlaced, IsFormBlock}
 use Rattle.llvm_core.specs.Names.{IsPlainOrNone}
 use Rattle.ll_lines.specs.Lines as L
-use Rattle.ll_lines.specs.Lines.{Text, Part, Param}
+use Rattle.ll_lines.specs.Lines.{Text, Part}
 use Rattle.ll_said.specs.Naming.{ParamAt}
 use Rattle.ll_said.specs.Said.{line_of, lines_of, entry_label, block_parts, parts_of, params_of, function_of, source_of, file_of}
 use Rattle.ll_said.specs.Sayable.{IsSayable, IsBareOrNone, IsSayableModule}

@@ -1,5 +1,5 @@
 -- What the tokens of functions and files say.
-use Rattle.std.proofs.Common.{List, [], ◌∷◌, ◌++◌, Option, Some, None, codes, append_assoc, refl, subst}
+use Rattle.std.proofs.Common.{◌≡◌, List, [], ◌∷◌, ◌++◌, Option, Some, None, codes, append_assoc, refl, ap, subst, ◌∙◌}
 use Rattle.std.specs.List.{flat_map, AllByRecursion}
 use Rattle.grammars.specs.declared.symbols.Symbol.TheVariants.{Rule}
 use Rattle.kinds.specs.Types.{TypeTree}
@@ -18,7 +18,7 @@ use Rattle.ll_written.specs.Writable.{IsParam, IsFunction, IsWritable}
 use Rattle.ll_written.proofs.TellLaws.{last}
 use Rattle.ll_written.proofs.Productions as P
 use Rattle.ll_written.proofs.Productions.{Reads}
-use Rattle.ll_written.proofs.ValueSays.{result_says, type_says}
+use Rattle.ll_written.proofs.TypeTokens.{result_says, type_says}
 use Rattle.ll_written.proofs.BodySays.{body_says}
 
 -- ---- parameters
@@ -45,9 +45,13 @@ function_says b f h =
     let params = P.parameters [] [] (params_say f.params h.params) (P.unnamed_none) (P.space_none) refl in
     let head = P.head (codes " ") f.name (P.dso_none) (P.lost_attrs_none) (result_says (codes " ") f.result h.result) params refl in
     let whole = P.item_define b (codes " ") (codes "\n") (P.define_linkage_none) head (P.function_attrs_none) (P.attachments_none) (body_says f.body h.body h.some) refl in
-    let front = token b T.Word (codes "define") ∷ written_type f.result ∷ apart T.Global f.name ∷ close T.OpenParen (codes "(") ∷ [] in
+    let type = written_type (codes " ") f.result in
+    let name = apart T.Global f.name ∷ close T.OpenParen (codes "(") ∷ [] in
+    let end = close T.CloseParen (codes ")") ∷ [] in
     let rest = apart T.OpenBrace (codes "{") ∷ (written_body f.body ++ (token (codes "\n") T.CloseBrace (codes "}") ∷ [])) in
-    subst (λ (xs : List Spaced). Reads N.item (FunctionV f) (front ++ xs)) (append_assoc (written_params f.params) (close T.CloseParen (codes ")") ∷ []) rest) whole
+    let flat : type ++ (name ++ (written_params f.params ++ end)) ++ rest ≡ type ++ (name ++ (written_params f.params ++ (end ++ rest))) =
+    append_assoc type (name ++ (written_params f.params ++ end)) rest ∙ ap (λ (xs : List Spaced). type ++ (name ++ xs)) (append_assoc (written_params f.params) end rest) in
+    subst (λ (xs : List Spaced). Reads N.item (FunctionV f) (token b T.Word (codes "define") ∷ xs)) flat whole
 
 functions_say : (fs : List Function) → AllByRecursion IsFunction fs → Reads N.file (FileV (record { source = None; functions = fs })) (flat_map next_function fs)
 functions_say [] all = P.file_end refl

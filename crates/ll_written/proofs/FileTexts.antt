@@ -1,14 +1,14 @@
 -- The text of the tokens of what module data say is the printed text.
-use Rattle.std.proofs.Common.{◌≡◌, ◌≢◌, ℕ, suc, true, List, [], ◌∷◌, ◌++◌, map, codes, append_assoc, refl, sym, ap, ◌∙◌}
+use Rattle.std.proofs.Common.{◌≡◌, ◌≢◌, ℕ, suc, true, List, [], ◌∷◌, ◌++◌, map, Some, codes, append_assoc, refl, sym, ap, ◌∙◌}
 use Rattle.std.specs.List.{flat_map, AllByRecursion}
 use Rattle.std.proofs.lemmas.List.{append-nil}
 use Rattle.std.proofs.lemmas.List.Elements.{recursion_from_All}
-use Rattle.kinds.specs.Types.{result_of}
+use Rattle.kinds.specs.Types.{TypeTree, result_of}
 use Rattle.llvm_core.specs.Data.{Placed, Block, Function, ModuleData, param_type}
 use Rattle.llvm_core.specs.Checked.{ends_in_only}
 use Rattle.llvm_core.specs.Form.{is_last, IsFormPlaced, IsFormBlock, IsFormFunction}
 use Rattle.ll_lines.specs.Lines as L
-use Rattle.ll_lines.specs.Lines.{Text, Part, Param}
+use Rattle.ll_lines.specs.Lines.{Text, Part}
 use Rattle.ll_said.specs.Naming.{ParamAt, local_text}
 use Rattle.ll_said.specs.Said.{line_of, lines_of, label_of, entry_label, block_parts, parts_of, params_of, function_of, source_of, file_of}
 use Rattle.ll_said.specs.Sayable.{IsSayable, IsSayableModule}
@@ -16,8 +16,8 @@ use Rattle.ll_spacing.specs.Spacing.{Spaced, text_of}
 use Rattle.ll_tokens.specs.declared.kinds.Kind.TheVariants as T
 use Rattle.ll_literals.specs.Names.{global, quoted}
 use Rattle.ll_written.specs.Printing as P
-use Rattle.ll_written.specs.Written.{token, close, apart, next_part, written_body, next_param, written_params, written_function, next_function, written_source, written_file, written, end_of}
-use Rattle.ll_written.proofs.RowTexts.{joined, text_both}
+use Rattle.ll_written.specs.Written.{token, close, apart, written_type, next_part, written_body, written_param, next_param, written_params, written_function, next_function, written_source, written_file, written, end_of}
+use Rattle.ll_written.proofs.RowTexts.{joined, text_both, type_then}
 use Rattle.ll_written.proofs.LineTexts.{line_text}
 
 -- ---- what ends its lines in place of beginning them
@@ -97,14 +97,20 @@ module _ (f : Function) where
 
   -- ---- functions
 
+  param_text : (b t : Text) (τ : TypeTree) (xs : List Spaced) → text_of (written_param b (record { type = τ; name = Some t }) ++ xs) ≡ b ++ P.type_text τ ++ (codes " " ++ t ++ text_of xs)
+  param_text b t τ xs = ap text_of (append_assoc (written_type b τ) (apart T.Local t ∷ []) xs) ∙ type_then b τ (apart T.Local t ∷ xs)
+
   next_params_text : (i : ℕ) (ns : List Text) → text_of (flat_map next_param (params_of f (suc i) ns)) ≡ P.params_text f (suc i) ns
   next_params_text i [] = refl
   next_params_text i (n ∷ ns) =
-      ap (λ (t : Text). codes ", " ++ P.type_text (param_type f.type (suc i)) ++ (codes " " ++ local_text f n (ParamAt (suc i)) ++ t)) (next_params_text (suc i) ns) ∙ simp append_assoc
+      ap (λ (t : Text). codes "," ++ t) (param_text (codes " ") (local_text f n (ParamAt (suc i))) (param_type f.type (suc i)) (flat_map next_param (params_of f (suc (suc i)) ns)))
+      ∙ ap (λ (t : Text). codes ", " ++ P.type_text (param_type f.type (suc i)) ++ (codes " " ++ local_text f n (ParamAt (suc i)) ++ t)) (next_params_text (suc i) ns) ∙ simp append_assoc
 
   params_text : (ns : List Text) → text_of (written_params (params_of f 0 ns)) ≡ P.params_text f 0 ns
   params_text [] = refl
-  params_text (n ∷ ns) = ap (λ (t : Text). P.type_text (param_type f.type 0) ++ (codes " " ++ local_text f n (ParamAt 0) ++ t)) (next_params_text 0 ns) ∙ simp append_assoc
+  params_text (n ∷ ns) =
+      param_text [] (local_text f n (ParamAt 0)) (param_type f.type 0) (flat_map next_param (params_of f 1 ns))
+      ∙ ap (λ (t : Text). P.type_text (param_type f.type 0) ++ (codes " " ++ local_text f n (ParamAt 0) ++ t)) (next_params_text 0 ns) ∙ simp append_assoc
 
   -- a function, behind the line end before it
   abbrev define_text : Text
@@ -120,7 +126,8 @@ module _ (f : Function) where
       let one : text_of (written_params (params_of f 0 f.params) ++ inner) ≡ P.params_text f 0 f.params ++ (codes ") {" ++ text_of body) = joined (written_params (params_of f 0 f.params)) inner (P.params_text f 0 f.params) (codes ") {" ++ text_of body) (params_text f.params) refl in
       let two : text_of body ++ codes "\n" ≡ codes "\n" ++ (P.blocks_text f f.blocks ++ codes "}\n") = body_text (written_body (parts_of f f.blocks)) (P.blocks_text f f.blocks) (body_turns f.blocks all) in
       let front = b ++ codes "define" ++ (codes " " ++ P.type_text (result_of f.type)) ++ (codes " " ++ global f.name) ++ codes "(" in
-      let start : text_of (written_function b (function_of f)) ≡ front ++ text_of (written_params (params_of f 0 f.params) ++ inner) = simp append_assoc in
+      let start : text_of (written_function b (function_of f)) ≡ front ++ text_of (written_params (params_of f 0 f.params) ++ inner) =
+      ap (λ (t : Text). b ++ codes "define" ++ t) (type_then (codes " ") (result_of f.type) (apart T.Global (global f.name) ∷ close T.OpenParen (codes "(") ∷ (written_params (params_of f 0 f.params) ++ inner))) ∙ simp append_assoc in
       ap (λ (t : Text). t ++ codes "\n") start ∙ ap (λ (t : Text). front ++ t ++ codes "\n") one ∙ regroup front (P.params_text f 0 f.params) (text_of body) ∙ ap (λ (t : Text). front ++ (P.params_text f 0 f.params ++ (codes ") {" ++ t))) two ∙ simp append_assoc
     where
       regroup : (x y z : Text) → x ++ (y ++ (codes ") {" ++ z)) ++ codes "\n" ≡ x ++ (y ++ (codes ") {" ++ (z ++ codes "\n")))

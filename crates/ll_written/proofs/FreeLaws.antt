@@ -1,4 +1,4 @@
--- Tokens that may be written behind any token.
+-- Tokens that may be written behind any token, and lists of tokens that may.
 use Rattle.std.proofs.Common.{◌≡◌, ℕ, true, List, [], ◌∷◌, ◌++◌, Option, Some, None, refl}
 use Rattle.std.specs.List.{flat_map, AllByRecursion}
 use Rattle.ll_lines.specs.Lines.{Text}
@@ -15,26 +15,31 @@ use Rattle.ll_written.specs.Written.{token, apart, word, comma}
 abbrev pub IsFree : Spaced → Type 0
 IsFree x = (last : Option Kind) → Follows last x
 
-abbrev pub AreFree : List Spaced → Type 0
-AreFree xs = AllByRecursion IsFree xs
+-- the first may stand behind any token, and each other behind the one before it
+pub record AreFree (xs : List Spaced) : Type 0 where
+  pub behind : (last : Option Kind) → AreSpacedBehind last xs
 
 -- ---- lists
 
+pub spaced_then : (last : Option Kind) (xs ys : List Spaced) → AreSpacedBehind last xs → AreFree ys → AreSpacedBehind last (xs ++ ys)
+spaced_then last [] ys h k = k.behind last
+spaced_then last (x ∷ xs) ys h k = (h.0, spaced_then (Some x.kind) xs ys h.1 k)
+
+pub none_free : AreFree []
+none_free = record { behind = λ last. tt }
+
+pub then_free : {x : Spaced} {xs : List Spaced} → IsFree x → AreFree xs → AreFree (x ∷ xs)
+then_free {x} h k = record { behind = λ last. (h last, k.behind (Some x.kind)) }
+
+pub one_free : {x : Spaced} → IsFree x → AreFree (x ∷ [])
+one_free h = then_free h none_free
+
 pub both_free : (xs ys : List Spaced) → AreFree xs → AreFree ys → AreFree (xs ++ ys)
-both_free [] ys h k = k
-both_free (x ∷ xs) ys h k = (h.0, both_free xs ys h.1 k)
+both_free xs ys h k = record { behind = λ last. spaced_then last xs ys (h.behind last) k }
 
 pub each_free : {A : Type 0} (P : A → Type 0) (f : A → List Spaced) → ((x : A) → P x → AreFree (f x)) → (xs : List A) → AllByRecursion P xs → AreFree (flat_map f xs)
-each_free P f free [] all = tt
+each_free P f free [] all = none_free
 each_free P f free (x ∷ xs) all = both_free (f x) (flat_map f xs) (free x all.0) (each_free P f free xs all.1)
-
-pub free_spaced : (last : Option Kind) (xs : List Spaced) → AreFree xs → AreSpacedBehind last xs
-free_spaced last [] h = tt
-free_spaced last (x ∷ xs) h = (h.0 last, free_spaced (Some x.kind) xs h.1)
-
-pub spaced_then : (last : Option Kind) (xs ys : List Spaced) → AreSpacedBehind last xs → ((l : Option Kind) → AreSpacedBehind l ys) → AreSpacedBehind last (xs ++ ys)
-spaced_then last [] ys h k = k last
-spaced_then last (x ∷ xs) ys h k = (h.0, spaced_then (Some x.kind) xs ys h.1 k)
 
 -- ---- tokens
 

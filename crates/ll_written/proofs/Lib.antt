@@ -5,12 +5,13 @@ pub mod WordClasses
 pub mod Productions
 pub mod DecimalLaws
 pub mod TypeLaws
+pub mod FreeLaws
+pub mod TypeTokens
 pub mod ValueSays
 pub mod RowForms
 pub mod RowSays
 pub mod BodySays
 pub mod FileSays
-pub mod FreeLaws
 pub mod SpacedParts
 pub mod SpacedLaws
 pub mod RowTexts

@@ -16,7 +16,7 @@ use Rattle.ll_spacing.specs.Spacing.{Spaced, text_of}
 use Rattle.ll_tokens.specs.declared.kinds.Kind.TheVariants.{Word, Local, CloseBracket}
 use Rattle.ll_written.specs.Printing as P
 use Rattle.ll_written.specs.Written.{token, apart, comma, indent, written_flag, written_head, written_names, written_row, written_entry, next_entry, written_entries, written_inst, written_behind, written_line}
-use Rattle.ll_written.proofs.RowTexts.{joined, text_both, texts_each, said_text, names_text, has_names, flag_text, flagged_text}
+use Rattle.ll_written.proofs.RowTexts.{joined, text_both, type_then, texts_each, said_text, names_text, has_names, flag_text, flagged_text}
 
 -- ---- rows
 
@@ -89,7 +89,8 @@ module _ (f : Function) where
       joined (written_entry (entry_of f e)) (flat_map next_entry (map (entry_of f) es)) (codes " " ++ P.entry_text f e) (flat_map (P.next_entry_text f) es) (entry_text e) (texts_each next_entry (entry_of f) (P.next_entry_text f) next_entry_text es)
 
   pub inst_text : (n : ℕ) (b : Text) (type : TypeTree) (i : Instruction) → IsFormInstruction f n type i → text_of (written_inst b (inst_of f type i)) ≡ b ++ P.instruction_text f type i
-  inst_text n b type (Phi es) h = ap (λ (t : Text). b ++ codes "phi" ++ (codes " " ++ P.type_text type ++ t)) (entries_text es h.1.some) ∙ simp append_assoc
+  inst_text n b type (Phi es) h =
+      ap (λ (t : Text). b ++ codes "phi" ++ t) (type_then (codes " ") type (written_entries (map (entry_of f) es)) ∙ ap (λ (t : Text). codes " " ++ P.type_text type ++ t) (entries_text es h.1.some)) ∙ simp append_assoc
   inst_text n b type (Applied r) h = row_text b type r h
 
   -- ---- lines, whose end stands before the next

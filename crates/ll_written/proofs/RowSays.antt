@@ -8,7 +8,7 @@ use Rattle.kinds.specs.declared.op.Op.TheVariants as O
 use Rattle.kinds.specs.declared.rules.Fit.TheVariants as F
 use Rattle.kinds.specs.Types.{TypeTree}
 use Rattle.ll_lines.specs.Lines as L
-use Rattle.ll_lines.specs.Lines.{Text, Typed, RowLine, Inst}
+use Rattle.ll_lines.specs.Lines.{Text, Typed, RowLine}
 use Rattle.ll_tokens.specs.declared.kinds.Kind.TheVariants as T
 use Rattle.ll_literals.specs.Chain.{◌>>=◌}
 use Rattle.ll_spacing.specs.Spacing.{Spaced}
@@ -22,7 +22,8 @@ use Rattle.ll_written.specs.Written.{token, word, written_operands, written_valu
 use Rattle.ll_written.specs.Writable.{IsRow}
 use Rattle.ll_written.proofs.Productions as P
 use Rattle.ll_written.proofs.Productions.{Reads}
-use Rattle.ll_written.proofs.ValueSays.{type_says, typed_says, returned_says, pair_says}
+use Rattle.ll_written.proofs.TypeTokens.{type_says}
+use Rattle.ll_written.proofs.ValueSays.{alone, typed_says, operand_says, returned_says, pair_says}
 use Rattle.ll_written.proofs.RowForms.{IsPair, pair, pair_form, IsCast, cast, cast_form, IsThree, three, three_form, IsOne, one, one_form, IsJump, jump, jump_form, IsBranch, branch, branch_form, IsReturn, no_value, value, return_form, IsBare, bare, bare_form}
 
 abbrev row_line : Op → Option TypeTree → List Typed → List Text → RowLine
@@ -102,26 +103,26 @@ icmp_row : (b : Text) (p : LLVMIntPredicate) (wr : Option TypeTree) (os : List T
 icmp_row b p _ _ _ (pair x y h k same) = icmp_by b p _ _ _ (pair_says x y h k same) (ap (λ (o : Option LLVMIntPredicate). o >>= λ q. Some (InstV (row (O.ICmp q) (x ∷ y ∷ []) []))) (predicate_again p))
 
 sext_row : (b : Text) (wr : Option TypeTree) (os : List Typed) (ts : List Text) → IsCast wr os ts → Reads N.simple (says O.SExt wr os ts) (token b T.Word (codes "sext") ∷ (written_operands os ++ written_to wr))
-sext_row b _ _ _ (cast x τ h type) = P.simple_cast_sext b (codes " ") (typed_says x h) (type_says (codes " ") τ type) refl
+sext_row b _ _ _ (cast x τ h type) = P.simple_cast_sext b (codes " ") (operand_says x h) (type_says (codes " ") τ type) refl
 
 trunc_row : (b : Text) (wr : Option TypeTree) (os : List Typed) (ts : List Text) → IsCast wr os ts → Reads N.simple (says O.Trunc wr os ts) (token b T.Word (codes "trunc") ∷ (written_operands os ++ written_to wr))
-trunc_row b _ _ _ (cast x τ h type) = P.simple_trunc b (codes " ") (P.lost_wraps_none) (typed_says x h) (type_says (codes " ") τ type) refl
+trunc_row b _ _ _ (cast x τ h type) = P.simple_trunc b (codes " ") (P.lost_wraps_none) (operand_says x h) (type_says (codes " ") τ type) refl
 
 zext_row : (b : Text) (nneg : Bool) (wr : Option TypeTree) (os : List Typed) (ts : List Text) → IsCast wr os ts
     → Reads N.simple (says (O.ZExt nneg) wr os ts) (token b T.Word (codes "zext") ∷ (written_flag (codes "nneg") nneg ++ (written_operands os ++ written_to wr)))
-zext_row b nneg _ _ _ (cast x τ h type) = P.simple_zext b (codes " ") (nneg_says nneg) (typed_says x h) (type_says (codes " ") τ type) refl
+zext_row b nneg _ _ _ (cast x τ h type) = P.simple_zext b (codes " ") (nneg_says nneg) (operand_says x h) (type_says (codes " ") τ type) refl
 
 select_row : (b : Text) (wr : Option TypeTree) (os : List Typed) (ts : List Text) → IsThree wr os ts → Reads N.simple (says O.Select wr os ts) (token b T.Word (codes "select") ∷ written_values os)
-select_row b _ _ _ (three x y z h k l) = P.simple_three_select b [] [] (typed_says x h) (typed_says y k) (typed_says z l) refl
+select_row b _ _ _ (three x y z h k l) = P.simple_three_select b [] [] (typed_says x h) (typed_says y k) (operand_says z l) refl
 
 freeze_row : (b : Text) (wr : Option TypeTree) (os : List Typed) (ts : List Text) → IsOne wr os ts → Reads N.simple (says O.Freeze wr os ts) (token b T.Word (codes "freeze") ∷ (written_operands os ++ written_to wr))
-freeze_row b _ _ _ (one x h) = P.simple_freeze b (typed_says x h) refl
+freeze_row b _ _ _ (one x h) = P.simple_freeze b (alone (operand_says x h)) refl
 
 jump_row : (b : Text) (wr : Option TypeTree) (os : List Typed) (ts : List Text) → IsJump wr os ts → Reads N.simple (says O.Br wr os ts) (token b T.Word (codes "br") ∷ written_targets ts)
 jump_row b _ _ _ (jump t) = P.simple_br b (P.br_jump (codes " ") (codes " ") t refl)
 
 branch_row : (b : Text) (wr : Option TypeTree) (os : List Typed) (ts : List Text) → IsBranch wr os ts → Reads N.simple (says O.CondBr wr os ts) (token b T.Word (codes "br") ∷ (written_operands os ++ (comma ∷ written_targets ts)))
-branch_row b _ _ _ (branch x t u h) = P.simple_br b (P.br_branch [] (codes " ") (codes " ") t [] (codes " ") (codes " ") u (typed_says x h) refl)
+branch_row b _ _ _ (branch x t u h) = P.simple_br b (P.br_branch [] (codes " ") (codes " ") t [] (codes " ") (codes " ") u (operand_says x h) refl)
 
 return_row : (b : Text) (wr : Option TypeTree) (os : List Typed) (ts : List Text) → IsReturn wr os ts → Reads N.simple (says O.Ret wr os ts) (token b T.Word (codes "ret") ∷ written_returned os)
 return_row b _ _ _ no_value = P.simple_return b (P.ret_none (codes " ")) refl

@@ -8,14 +8,15 @@ use Rattle.kinds.specs.declared.op.Op.TheVariants as O
 use Rattle.kinds.specs.Rules.{operand_count, target_count}
 use Rattle.kinds.specs.Table.{rule_of}
 use Rattle.kinds.specs.Types.{TypeTree}
-use Rattle.llvm_core.specs.Data.{Operand, Constant, Parameter, Result, Function}
+use Rattle.llvm_core.specs.Data.{Operand, Constant, Parameter, Result, Function, operand_type}
 use Rattle.ll_lines.specs.Lines.{Text}
 use Rattle.ll_said.specs.Naming.{block_ref}
 use Rattle.ll_said.specs.Said.{said_of, typed_of, row_of}
 use Rattle.ll_spacing.specs.Spacing.{Spaced, text_of}
 use Rattle.ll_tokens.specs.declared.kinds.Kind.TheVariants.{Word}
 use Rattle.ll_written.specs.Printing as P
-use Rattle.ll_written.specs.Written.{token, comma, written_said, written_typed, next_said, written_operands, next_typed, written_values, written_returned, written_target, next_target, written_targets, written_to, written_flag, written_wraps, written_names}
+use Rattle.ll_written.specs.Written.{token, comma, written_type, written_said, written_typed, next_said, written_operands, next_typed, written_values, written_returned, written_target, next_target, written_targets, written_to, written_flag, written_wraps, written_names}
+use Rattle.ll_written.proofs.TypeTokens.{type_written}
 
 -- a row that names operands or blocks, or may
 abbrev pub has_names : Op → Bool
@@ -31,6 +32,10 @@ text_both (x ∷ xs) ys = rw (text_both xs ys) (sym (append_assoc (x.before ++ x
 pub joined : (xs ys : List Spaced) (t u : Text) → text_of xs ≡ t → text_of ys ≡ u → text_of (xs ++ ys) ≡ t ++ u
 joined xs ys t u e f = text_both xs ys ∙ ap (λ (s : Text). s ++ text_of ys) e ∙ ap (λ (s : Text). t ++ s) f
 
+-- a type before other tokens
+pub type_then : (b : Text) (τ : TypeTree) (xs : List Spaced) → text_of (written_type b τ ++ xs) ≡ b ++ P.type_text τ ++ text_of xs
+type_then b τ xs = text_both (written_type b τ) xs ∙ ap (λ (t : Text). t ++ text_of xs) (type_written b τ)
+
 -- one thing behind another
 pub texts_each : {A B : Type 0} (f : A → List Spaced) (of : B → A) (g : B → Text) → ((x : B) → text_of (f (of x)) ≡ g x) → (xs : List B) → text_of (flat_map f (map of xs)) ≡ flat_map g xs
 texts_each f of g same [] = refl
@@ -45,7 +50,7 @@ module _ (f : Function) where
   said_text (Result n) xs = refl
 
   typed_text : (o : Operand) → text_of (written_typed (typed_of f o)) ≡ codes " " ++ P.value_text f o
-  typed_text o = rw (said_text o []) (simp (append_assoc, append-nil))
+  typed_text o = type_then (codes " ") (operand_type f o) (written_said (said_of f o) ∷ []) ∙ rw (said_text o []) (simp (append_assoc, append-nil))
 
   next_said_text : (o : Operand) → text_of (next_said (typed_of f o)) ≡ codes ", " ++ P.operand_text f o
   next_said_text o = rw (said_text o []) (simp append-nil)
@@ -91,7 +96,7 @@ module _ (f : Function) where
 
   to_text : (w : Option TypeTree) → text_of (written_to w) ≡ P.to_text w
   to_text None = refl
-  to_text (Some τ) = simp append-nil
+  to_text (Some τ) = ap (λ (t : Text). codes " to" ++ t) (type_written (codes " ") τ)
 
   most_text : (w : Option TypeTree) (os : List Operand) → 1 ≤ length os → text_of (written_operands (map (typed_of f) os) ++ written_to w) ≡ codes " " ++ (P.operands_text f os ++ P.to_text w)
   most_text w os some = joined (written_operands (map (typed_of f) os)) (written_to w) (codes " " ++ P.operands_text f os) (P.to_text w) (operands_text os some) (to_text w)

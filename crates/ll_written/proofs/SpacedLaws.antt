@@ -6,9 +6,9 @@ use Rattle.kinds.specs.declared.op.Op.{Op}
 use Rattle.kinds.specs.declared.op.Op.TheVariants as O
 use Rattle.kinds.specs.Types.{TypeTree}
 use Rattle.ll_lines.specs.Lines as L
-use Rattle.ll_lines.specs.Lines.{Text, RowLine, Incoming, Inst, Line, Part, Param, Function, File}
+use Rattle.ll_lines.specs.Lines.{Text, RowLine, Incoming, Inst, Part, Param, Function, File}
 use Rattle.ll_spacing.specs.Forms.{IsText}
-use Rattle.ll_spacing.specs.Spacing.{Spaced, AreSpaced, AreSpacedBehind, AreBlanks, IsApart, Follows}
+use Rattle.ll_spacing.specs.Spacing.{Spaced, AreSpaced, AreSpacedBehind, AreBlanks, Follows}
 use Rattle.ll_spacing.specs.Following.{goes_on}
 use Rattle.ll_spacing.proofs.FollowLaws.{plain_follows}
 use Rattle.ll_spacing.proofs.SignLaws.{sign_whole}
@@ -16,12 +16,12 @@ use Rattle.ll_spacing.proofs.TextLaws.{text_whole}
 use Rattle.ll_tokens.specs.Pieces.{token as piece, sign_at}
 use Rattle.ll_tokens.specs.declared.kinds.Kind.{Kind}
 use Rattle.ll_tokens.specs.declared.kinds.Kind.TheVariants as T
-use Rattle.ll_written.specs.Printing.{type_text}
 use Rattle.ll_written.specs.Written as W
-use Rattle.ll_written.specs.Written.{token, apart, close, word, comma, indent}
+use Rattle.ll_written.specs.Written.{token, apart, close, comma}
 use Rattle.ll_written.specs.Writable.{IsLocal, IsRow, IsIncoming, IsInst, IsPart, IsParam, IsFunction, IsWritable}
-use Rattle.ll_written.proofs.FreeLaws.{AreFree, IsFree, both_free, each_free, free_spaced, spaced_then, gap_free, apart_free, word_whole, sign_free, comma_free}
-use Rattle.ll_written.proofs.SpacedParts.{result_whole, type_whole, said_free, operands_free, values_free, returned_free, targets_free, to_free, head_free, first_free}
+use Rattle.ll_written.proofs.FreeLaws.{AreFree, IsFree, none_free, then_free, one_free, both_free, each_free, spaced_then, gap_free, apart_free, word_whole, sign_free, comma_free}
+use Rattle.ll_written.proofs.TypeTokens.{result_free, type_free, type_opened}
+use Rattle.ll_written.proofs.SpacedParts.{said_free, operands_free, values_free, returned_free, targets_free, to_free, head_free, first_free}
 
 -- ---- instructions
 
@@ -31,9 +31,9 @@ most_free r h = both_free (W.written_operands r.operands) (W.written_to r.writte
 names_free : (op : Op) (r : RowLine) → IsRow r → AreFree (W.written_names op r)
 names_free O.Select r h = values_free r.operands h.operands
 names_free O.Br r h = targets_free r.targets h.targets
-names_free O.CondBr r h = both_free (W.written_operands r.operands) (comma ∷ W.written_targets r.targets) (operands_free r.operands h.operands) (comma_free, targets_free r.targets h.targets)
+names_free O.CondBr r h = both_free (W.written_operands r.operands) (comma ∷ W.written_targets r.targets) (operands_free r.operands h.operands) (then_free comma_free (targets_free r.targets h.targets))
 names_free O.Ret r h = returned_free r.operands h.operands
-names_free O.Unreachable r h = tt
+names_free O.Unreachable r h = none_free
 names_free (O.Add flags) r h = most_free r h
 names_free (O.Sub flags) r h = most_free r h
 names_free (O.Mul flags) r h = most_free r h
@@ -55,77 +55,70 @@ names_free O.Freeze r h = most_free r h
 
 entry_free : (τ : TypeTree) (e : Incoming) → IsIncoming τ e → AreFree (W.written_entry e)
 unfolding sign_at
-entry_free τ e h = (sign_free T.OpenBracket 91 refl, (said_free τ e.said h.said, (comma_free, (apart_free T.Local e.block h.block, (sign_free T.CloseBracket 93 refl, tt)))))
+entry_free τ e h = then_free (sign_free T.OpenBracket 91 refl) (then_free (said_free τ e.said h.said) (then_free comma_free (then_free (apart_free T.Local e.block h.block) (one_free (sign_free T.CloseBracket 93 refl)))))
 
 entries_free : (τ : TypeTree) (es : List Incoming) → AllByRecursion (IsIncoming τ) es → AreFree (W.written_entries es)
-entries_free τ [] all = tt
-entries_free τ (e ∷ es) all = both_free (W.written_entry e) (flat_map W.next_entry es) (entry_free τ e all.0) (each_free (IsIncoming τ) W.next_entry (λ x h. (comma_free, entry_free τ x h)) es all.1)
+entries_free τ [] all = none_free
+entries_free τ (e ∷ es) all = both_free (W.written_entry e) (flat_map W.next_entry es) (entry_free τ e all.0) (each_free (IsIncoming τ) W.next_entry (λ x h. then_free comma_free (entry_free τ x h)) es all.1)
 
 inst_free : (b : ℕ) (bs : Text) → AreBlanks (b ∷ bs) → (i : Inst) → IsInst i → AreFree (W.written_inst (b ∷ bs) i)
-inst_free b bs blanks (L.Phi τ es) h = (first_free b bs blanks (codes "phi") refl, (apart_free T.Word (type_text τ) (type_whole τ h.0), entries_free τ es h.1))
+inst_free b bs blanks (L.Phi τ es) h = then_free (first_free b bs blanks (codes "phi") refl) (both_free (W.written_type (codes " ") τ) (W.written_entries es) (type_free τ h.0) (entries_free τ es h.1))
 inst_free b bs blanks (L.Row r) h = both_free (W.written_head (b ∷ bs) r.op) (W.written_names r.op r) (head_free b bs blanks r.op) (names_free r.op r h)
 
 line_by : (result : Option Text) (i : Inst) → IfSome result IsLocal → IsInst i → AreFree (W.written_behind result i)
 unfolding sign_at
 line_by None i h k = inst_free 10 (codes "  ") refl i k
-line_by (Some t) i h k = (gap_free 10 (codes "  ") T.Local t refl (text_whole T.Local t h), (sign_free T.Equals 61 refl, inst_free 32 [] refl i k))
+line_by (Some t) i h k = then_free (gap_free 10 (codes "  ") T.Local t refl (text_whole T.Local t h)) (then_free (sign_free T.Equals 61 refl) (inst_free 32 [] refl i k))
 
 -- ---- bodies
 
 part_free : (b : ℕ) (bs : Text) → AreBlanks (b ∷ bs) → (p : Part) → IsPart p → AreFree (W.written_part (b ∷ bs) p)
-part_free b bs blanks (L.Label t) h = (gap_free b bs T.Label t blanks (text_whole T.Label t h), tt)
+part_free b bs blanks (L.Label t) h = one_free (gap_free b bs T.Label t blanks (text_whole T.Label t h))
 part_free b bs blanks (L.Does l) h = line_by l.result l.inst h.result h.inst
 
 body_free : (ps : List Part) → AllByRecursion IsPart ps → AreFree (W.written_body ps)
-body_free [] all = tt
+body_free [] all = none_free
 body_free (p ∷ ps) all = both_free (W.written_part (codes "\n") p) (flat_map W.next_part ps) (part_free 10 [] refl p all.0) (each_free IsPart W.next_part (λ q h. part_free 10 (codes "\n") refl q h) ps all.1)
 
 -- ---- functions
 
 name_free : (name : Option Text) → IfSome name IsLocal → AreFree (W.written_name name)
-name_free None h = tt
-name_free (Some t) h = (apart_free T.Local t h, tt)
+name_free None h = none_free
+name_free (Some t) h = one_free (apart_free T.Local t h)
 
 next_param_free : (p : Param) → IsParam p → AreFree (W.next_param p)
-next_param_free p h = (comma_free, (apart_free T.Word (type_text p.type) (type_whole p.type h.type), name_free p.name h.name))
+next_param_free p h = then_free comma_free (both_free (W.written_type (codes " ") p.type) (W.written_name p.name) (type_free p.type h.type) (name_free p.name h.name))
 
-open_apart : (t : Text) → IsApart (Some T.OpenParen) t
-open_apart [] = tt
-open_apart (b ∷ bs) = refl
+-- what stands behind the name of a function
+abbrev opened : Function → List Spaced
+opened f = close T.OpenParen (codes "(") ∷ (W.written_params f.params ++ (close T.CloseParen (codes ")") ∷ apart T.OpenBrace (codes "{") ∷ (W.written_body f.body ++ (token (codes "\n") T.CloseBrace (codes "}") ∷ []))))
 
--- parameters stand directly behind the sign that opens them
+-- the type of the first stands directly behind the sign that opens parameters
 params_spaced : (ps : List Param) (rest : List Spaced) → AllByRecursion IsParam ps → AreFree rest → AreSpacedBehind (Some T.OpenParen) (W.written_params ps ++ rest)
-params_spaced [] rest all free = free_spaced (Some T.OpenParen) rest free
+params_spaced [] rest all free = free.behind (Some T.OpenParen)
 params_spaced (p ∷ ps) rest all free =
-    let type : Follows (Some T.OpenParen) (close T.Word (type_text p.type)) = record { blanks = refl; whole = text_whole T.Word (type_text p.type) (type_whole p.type all.0.type); apart = open_apart (type_text p.type) } in
-    let others = both_free (W.written_name p.name ++ flat_map W.next_param ps) rest (both_free (W.written_name p.name) (flat_map W.next_param ps) (name_free p.name all.0.name) (each_free IsParam W.next_param next_param_free ps all.1)) free in
-    (type, free_spaced (Some T.Word) (W.written_name p.name ++ flat_map W.next_param ps ++ rest) others)
+    let paren = Some T.OpenParen in
+    let first = spaced_then paren (W.written_type [] p.type) (W.written_name p.name) (type_opened p.type all.0.type) (name_free p.name all.0.name) in
+    spaced_then paren (W.written_params (p ∷ ps)) rest (spaced_then paren (W.written_param [] p) (flat_map W.next_param ps) first (each_free IsParam W.next_param next_param_free ps all.1)) free
 
 sign_close : (k : Kind) (b : ℕ) → sign_at b ≡ piece k 1 → ((j : Kind) → goes_on j b ≡ false) → IsFree (close k (b ∷ []))
 sign_close k b e next None = record { blanks = refl; whole = sign_whole k b e; apart = tt }
 sign_close k b e next (Some j) = record { blanks = refl; whole = sign_whole k b e; apart = next j }
 
-function_spaced : (b : ℕ) (bs : Text) → AreBlanks (b ∷ bs) → (last : Option Kind) (f : Function) (rest : List Spaced) → IsFunction f → ((l : Option Kind) → AreSpacedBehind l rest) → AreSpacedBehind last (W.written_function (b ∷ bs) f ++ rest)
+-- what stands behind the name of a function
+opened_free : (f : Function) → IsFunction f → AreFree (opened f)
 unfolding sign_at
-function_spaced b bs blanks last f rest h free =
-    let body = apart T.OpenBrace (codes "{") ∷ (W.written_body f.body ++ (token (codes "\n") T.CloseBrace (codes "}") ∷ [])) in
-    let inside : AreFree body = (sign_free T.OpenBrace 123 refl, both_free (W.written_body f.body) (token (codes "\n") T.CloseBrace (codes "}") ∷ []) (body_free f.body h.body) (gap_free 10 [] T.CloseBrace (codes "}") refl (sign_whole T.CloseBrace 125 refl), tt)) in
-    let end : AreFree (close T.CloseParen (codes ")") ∷ body) = (sign_close T.CloseParen 41 refl (λ j. plain_follows j 41 refl), inside) in
-    let params : AreSpacedBehind (Some T.OpenParen) (W.written_params f.params ++ (close T.CloseParen (codes ")") ∷ body) ++ rest) =
-    spaced_then (Some T.OpenParen) (W.written_params f.params ++ (close T.CloseParen (codes ")") ∷ body)) rest (params_spaced f.params (close T.CloseParen (codes ")") ∷ body) h.params end) free in (
-      first_free b bs blanks (codes "define") refl last,
-      (
-        apart_free T.Word (type_text f.result) (result_whole f.result h.result) (Some T.Word),
-        (
-          apart_free T.Global f.name h.name (Some T.Word),
-          (sign_close T.OpenParen 40 refl (λ j. plain_follows j 40 refl) (Some T.Global), params),
-        ),
-      ),
-    )
+opened_free f h =
+    let end = then_free (sign_free T.OpenBrace 123 refl) (both_free (W.written_body f.body) (token (codes "\n") T.CloseBrace (codes "}") ∷ []) (body_free f.body h.body) (one_free (gap_free 10 [] T.CloseBrace (codes "}") refl (sign_whole T.CloseBrace 125 refl)))) in
+    let params = params_spaced f.params _ h.params (then_free (sign_close T.CloseParen 41 refl (λ j. plain_follows j 41 refl)) end) in
+    record { behind = λ last. (sign_close T.OpenParen 40 refl (λ j. plain_follows j 40 refl) last, params) }
 
-functions_spaced : (fs : List Function) → AllByRecursion IsFunction fs → (last : Option Kind) → AreSpacedBehind last (flat_map W.next_function fs)
-functions_spaced [] all last = tt
-functions_spaced (f ∷ fs) all last = function_spaced 10 (codes "\n") refl last f (flat_map W.next_function fs) all.0 (functions_spaced fs all.1)
+function_free : (b : ℕ) (bs : Text) → AreBlanks (b ∷ bs) → (f : Function) → IsFunction f → AreFree (W.written_function (b ∷ bs) f)
+function_free b bs blanks f h =
+    then_free (first_free b bs blanks (codes "define") refl) (both_free (W.written_type (codes " ") f.result) (apart T.Global f.name ∷ opened f) (result_free f.result h.result) (then_free (apart_free T.Global f.name h.name) (opened_free f h)))
+
+functions_free : (fs : List Function) → AllByRecursion IsFunction fs → AreFree (flat_map W.next_function fs)
+functions_free fs all = each_free IsFunction W.next_function (function_free 10 (codes "\n") refl) fs all
 
 -- ---- files
 
@@ -133,9 +126,9 @@ file_by : (source : Option Text) (fs : List Function) → IfSome source (IsText 
 unfolding sign_at
 file_by (Some t) fs h all =
     let first : Follows None (close T.Word (codes "source_filename")) = record { blanks = refl; whole = word_whole (codes "source_filename") refl; apart = tt } in
-    (first, (sign_free T.Equals 61 refl (Some T.Word), (apart_free T.Str t h (Some T.Equals), functions_spaced fs all (Some T.Str))))
+    (first, (sign_free T.Equals 61 refl (Some T.Word), (apart_free T.Str t h (Some T.Equals), (functions_free fs all).behind (Some T.Str))))
 file_by None [] h all = tt
-file_by None (f ∷ fs) h all = function_spaced 10 [] refl None f (flat_map W.next_function fs) all.0 (functions_spaced fs all.1)
+file_by None (f ∷ fs) h all = (both_free (W.written_function (codes "\n") f) (flat_map W.next_function fs) (function_free 10 [] refl f all.0) (functions_free fs all.1)).behind None
 
 pub file_spaced : (f : File) → IsWritable f → AreSpaced (W.written f)
 file_spaced f h = file_by f.source f.functions h.source h.functions

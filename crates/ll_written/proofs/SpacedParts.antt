@@ -9,47 +9,25 @@ use Rattle.kinds.specs.declared.op.LLVMIntPredicate.TheVariants as I
 use Rattle.kinds.specs.declared.op.OverflowFlags.{OverflowFlags}
 use Rattle.kinds.specs.declared.op.Op.{Op}
 use Rattle.kinds.specs.declared.op.Op.TheVariants as O
-use Rattle.kinds.specs.Types.{TypeTree, VoidType, IntType}
-use Rattle.kinds.specs.Held.{IsFirstClass, IsReturned}
-use Rattle.kinds.proofs.HeldLaws.{first_class_value, first_class_int, returned_own, returned_if}
+use Rattle.kinds.specs.Types.{TypeTree}
+use Rattle.kinds.specs.Held.{IsFirstClass}
 use Rattle.ll_lines.specs.Lines as L
-use Rattle.ll_lines.specs.Lines.{Text, Said, Typed, RowLine, Incoming, Inst, Line, Part, Param, Function, File}
+use Rattle.ll_lines.specs.Lines.{Text, Said, Typed}
 use Rattle.ll_spacing.specs.Forms.{IsText, IsInt, is_word}
 use Rattle.ll_spacing.specs.Spacing.{AreBlanks}
-use Rattle.ll_spacing.proofs.WholeLaws.{all_weaker}
 use Rattle.std.proofs.lemmas.Nat.{pow_pos}
-use Rattle.ll_tokens.specs.Bytes.{is_digit, is_word_byte}
+use Rattle.ll_tokens.specs.Bytes.{is_digit}
 use Rattle.ll_tokens.specs.declared.kinds.Kind.{Kind}
 use Rattle.ll_tokens.specs.declared.kinds.Kind.TheVariants as T
-use Rattle.ll_written.specs.Printing.{type_text, int_text, signed_text, predicate_text}
+use Rattle.ll_written.specs.Printing.{int_text, signed_text, predicate_text}
 use Rattle.ll_written.specs.Written as W
-use Rattle.ll_written.specs.Written.{token, apart, close, word, comma, indent}
+use Rattle.ll_written.specs.Written.{token, word}
 use Rattle.ll_written.specs.Writable.{an_int, IsLocal, IsSaidOf, IsTyped}
 use Rattle.ll_said.proofs.DecimalLaws.{IsDecimal-decimal}
-use Rattle.ll_written.proofs.FreeLaws.{AreFree, IsFree, both_free, each_free, gap_free, apart_free, word_whole, word_free, comma_free}
+use Rattle.ll_written.proofs.FreeLaws.{AreFree, IsFree, none_free, then_free, one_free, both_free, each_free, gap_free, apart_free, word_whole, word_free, comma_free}
+use Rattle.ll_written.proofs.TypeTokens.{type_free}
 
--- ---- types and values
-
-digits_word : (bs : Text) → list_all is_digit bs ≡ true → list_all is_word_byte bs ≡ true
-digits_word bs e = all_weaker is_digit is_word_byte bs (λ b d. grind (arith, nat_tests)) e
-
-below : (w m : ℕ) (n : ℕ) → w ≤ m → m ≤ 63 → n ≤ 2 ^ w → n < 2 ^ 64
-below w m n h k fits = omega (arith, pow-le-pow_right {n = 2} (omega arith) {i = w} {j = 63} (omega arith))
-
-int_type_text : (n : ℕ) → n < 2 ^ 64 → IsText T.Word (105 ∷ decimal n)
-int_type_text n h =
-    let d = IsDecimal-decimal n h in
-    let digits : list_all is_digit (d.first ∷ d.others) ≡ true = rw (d.digit, d.digits) refl in
-    rw d.text (IsText.word (105 ∷ d.first ∷ d.others) (digits_word (d.first ∷ d.others) digits))
-
--- a line for each kind
-pub result_whole : (τ : TypeTree) → IsReturned τ → IsText T.Word (type_text τ)
-result_whole VoidType h = IsText.word (codes "void") refl
-result_whole (IntType n) h = int_type_text n (below 23 23 n (omega arith) (omega arith) (first_class_int n (returned_own (IntType n) h refl)).1)
-result_whole τ h = absurd (let k = first_class_value τ (returned_own τ h refl) in cc)
-
-pub type_whole : (τ : TypeTree) → IsFirstClass τ → IsText T.Word (type_text τ)
-type_whole τ h = result_whole τ (returned_if τ h)
+-- ---- values
 
 decimal_text : (n : ℕ) → n < 2 ^ 64 → IsText T.Int (decimal n)
 decimal_text n h =
@@ -95,38 +73,38 @@ said_free τ (L.Local t) h = apart_free T.Local t h
 said_free τ (L.Const c) (an_int w n most fits) = apart_free (W.int_kind w) (int_text w n) (int_by w n (w == 1) most fits refl)
 
 pub typed_free : (x : Typed) → IsTyped x → AreFree (W.written_typed x)
-typed_free x h = (apart_free T.Word (type_text x.type) (type_whole x.type h.type), (said_free x.type x.said h.said, tt))
+typed_free x h = both_free (W.written_type (codes " ") x.type) (W.written_said x.said ∷ []) (type_free x.type h.type) (one_free (said_free x.type x.said h.said))
 
 -- ---- rows
 
 pub operands_free : (xs : List Typed) → AllByRecursion IsTyped xs → AreFree (W.written_operands xs)
-operands_free [] all = tt
+operands_free [] all = none_free
 operands_free (x ∷ xs) all =
-    both_free (W.written_typed x) (flat_map W.next_said xs) (typed_free x all.0) (each_free IsTyped W.next_said (λ y h. (comma_free, (said_free y.type y.said h.said, tt))) xs all.1)
+    both_free (W.written_typed x) (flat_map W.next_said xs) (typed_free x all.0) (each_free IsTyped W.next_said (λ y h. then_free comma_free (one_free (said_free y.type y.said h.said))) xs all.1)
 
 pub values_free : (xs : List Typed) → AllByRecursion IsTyped xs → AreFree (W.written_values xs)
-values_free [] all = tt
+values_free [] all = none_free
 values_free (x ∷ xs) all =
-    both_free (W.written_typed x) (flat_map W.next_typed xs) (typed_free x all.0) (each_free IsTyped W.next_typed (λ y h. (comma_free, typed_free y h)) xs all.1)
+    both_free (W.written_typed x) (flat_map W.next_typed xs) (typed_free x all.0) (each_free IsTyped W.next_typed (λ y h. then_free comma_free (typed_free y h)) xs all.1)
 
 pub returned_free : (xs : List Typed) → AllByRecursion IsTyped xs → AreFree (W.written_returned xs)
-returned_free [] all = (word_free (codes "void") refl, tt)
+returned_free [] all = one_free (word_free (codes "void") refl)
 returned_free (x ∷ xs) all = operands_free (x ∷ xs) all
 
 target_free : (t : Text) → IsLocal t → AreFree (W.written_target t)
-target_free t h = (word_free (codes "label") refl, (apart_free T.Local t h, tt))
+target_free t h = then_free (word_free (codes "label") refl) (one_free (apart_free T.Local t h))
 
 pub targets_free : (ts : List Text) → AllByRecursion IsLocal ts → AreFree (W.written_targets ts)
-targets_free [] all = tt
-targets_free (t ∷ ts) all = both_free (W.written_target t) (flat_map W.next_target ts) (target_free t all.0) (each_free IsLocal W.next_target (λ u h. (comma_free, target_free u h)) ts all.1)
+targets_free [] all = none_free
+targets_free (t ∷ ts) all = both_free (W.written_target t) (flat_map W.next_target ts) (target_free t all.0) (each_free IsLocal W.next_target (λ u h. then_free comma_free (target_free u h)) ts all.1)
 
 pub to_free : (w : Option TypeTree) → IfSome w IsFirstClass → AreFree (W.written_to w)
-to_free None h = tt
-to_free (Some τ) h = (word_free (codes "to") refl, (apart_free T.Word (type_text τ) (type_whole τ h), tt))
+to_free None h = none_free
+to_free (Some τ) h = then_free (word_free (codes "to") refl) (type_free τ h)
 
 flag_free : (t : Text) (b : Bool) → is_word t ≡ true → AreFree (W.written_flag t b)
-flag_free t false e = tt
-flag_free t true e = (word_free t e, tt)
+flag_free t false e = none_free
+flag_free t true e = one_free (word_free t e)
 
 wraps_free : (flags : OverflowFlags) → AreFree (W.written_wraps flags)
 wraps_free flags = both_free (W.written_flag (codes "nuw") flags.nuw) (W.written_flag (codes "nsw") flags.nsw) (flag_free (codes "nuw") flags.nuw refl) (flag_free (codes "nsw") flags.nsw refl)
@@ -149,26 +127,26 @@ module _ (b : ℕ) (bs : Text) (blanks : AreBlanks (b ∷ bs)) where
   first_free t e = gap_free b bs T.Word t blanks (word_whole t e)
 
   pub head_free : (op : Op) → AreFree (W.written_head (b ∷ bs) op)
-  head_free (O.Add flags) = (first_free (codes "add") refl, wraps_free flags)
-  head_free (O.Sub flags) = (first_free (codes "sub") refl, wraps_free flags)
-  head_free (O.Mul flags) = (first_free (codes "mul") refl, wraps_free flags)
-  head_free (O.Shl flags) = (first_free (codes "shl") refl, wraps_free flags)
-  head_free O.UDiv = (first_free (codes "udiv") refl, tt)
-  head_free O.SDiv = (first_free (codes "sdiv") refl, tt)
-  head_free O.URem = (first_free (codes "urem") refl, tt)
-  head_free O.SRem = (first_free (codes "srem") refl, tt)
-  head_free O.LShr = (first_free (codes "lshr") refl, tt)
-  head_free O.AShr = (first_free (codes "ashr") refl, tt)
-  head_free O.And = (first_free (codes "and") refl, tt)
-  head_free O.Or = (first_free (codes "or") refl, tt)
-  head_free O.Xor = (first_free (codes "xor") refl, tt)
-  head_free (O.ICmp p) = (first_free (codes "icmp") refl, (predicate_free p, tt))
-  head_free O.Trunc = (first_free (codes "trunc") refl, tt)
-  head_free O.SExt = (first_free (codes "sext") refl, tt)
-  head_free (O.ZExt nneg) = (first_free (codes "zext") refl, flag_free (codes "nneg") nneg refl)
-  head_free O.Select = (first_free (codes "select") refl, tt)
-  head_free O.Freeze = (first_free (codes "freeze") refl, tt)
-  head_free O.Br = (first_free (codes "br") refl, tt)
-  head_free O.CondBr = (first_free (codes "br") refl, tt)
-  head_free O.Ret = (first_free (codes "ret") refl, tt)
-  head_free O.Unreachable = (first_free (codes "unreachable") refl, tt)
+  head_free (O.Add flags) = then_free (first_free (codes "add") refl) (wraps_free flags)
+  head_free (O.Sub flags) = then_free (first_free (codes "sub") refl) (wraps_free flags)
+  head_free (O.Mul flags) = then_free (first_free (codes "mul") refl) (wraps_free flags)
+  head_free (O.Shl flags) = then_free (first_free (codes "shl") refl) (wraps_free flags)
+  head_free O.UDiv = one_free (first_free (codes "udiv") refl)
+  head_free O.SDiv = one_free (first_free (codes "sdiv") refl)
+  head_free O.URem = one_free (first_free (codes "urem") refl)
+  head_free O.SRem = one_free (first_free (codes "srem") refl)
+  head_free O.LShr = one_free (first_free (codes "lshr") refl)
+  head_free O.AShr = one_free (first_free (codes "ashr") refl)
+  head_free O.And = one_free (first_free (codes "and") refl)
+  head_free O.Or = one_free (first_free (codes "or") refl)
+  head_free O.Xor = one_free (first_free (codes "xor") refl)
+  head_free (O.ICmp p) = then_free (first_free (codes "icmp") refl) (one_free (predicate_free p))
+  head_free O.Trunc = one_free (first_free (codes "trunc") refl)
+  head_free O.SExt = one_free (first_free (codes "sext") refl)
+  head_free (O.ZExt nneg) = then_free (first_free (codes "zext") refl) (flag_free (codes "nneg") nneg refl)
+  head_free O.Select = one_free (first_free (codes "select") refl)
+  head_free O.Freeze = one_free (first_free (codes "freeze") refl)
+  head_free O.Br = one_free (first_free (codes "br") refl)
+  head_free O.CondBr = one_free (first_free (codes "br") refl)
+  head_free O.Ret = one_free (first_free (codes "ret") refl)
+  head_free O.Unreachable = one_free (first_free (codes "unreachable") refl)

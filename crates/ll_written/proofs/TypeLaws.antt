@@ -34,7 +34,7 @@ no_class p t (r ∷ rs) is others =
 no_others : list_all (λ (r : Row). not (is_int_type r.0)) llvm_rows ≡ true
 no_others = refl
 
-small : (n : ℕ) → n ≤ 2 ^ 23 → n < 2 ^ 64
+pub small : (n : ℕ) → n ≤ 2 ^ 23 → n < 2 ^ 64
 small n most = omega (arith, pow-le-pow_right {n = 2} (omega arith) {i = 23} {j = 63} (omega arith))
 
 -- ---- the class

@@ -1,47 +1,32 @@
--- What the tokens of types and values say.
-use Rattle.std.proofs.Common.{◌≡◌, ◌<◌, ◌^◌, ℕ, zero, suc, Bool, true, false, nat_le, ◌==◌, [], ◌∷◌, ◌++◌, Option, Some, codes, refl, ap, subst, arith}
-use Rattle.std.specs.Prelude.{decimal}
+-- What the tokens of values say.
+use Rattle.std.proofs.Common.{◌≡◌, ◌<◌, ◌^◌, ℕ, zero, suc, Bool, true, false, nat_le, ◌==◌, List, [], ◌∷◌, ◌++◌, Option, Some, None, codes, append_assoc, refl, sym, ap, subst, arith}
 use Rattle.std.specs.Option.{option_map}
 use Rattle.std.proofs.lemmas.Bool.Decides.{nat_tests}
-use Rattle.kinds.specs.Types.{TypeTree, VoidType, IntType}
-use Rattle.kinds.specs.Held.{IsFirstClass, IsReturned}
-use Rattle.kinds.proofs.HeldLaws.{first_class_value, first_class_int, returned_own, returned_if}
+use Rattle.std.proofs.lemmas.List.{append-nil}
+use Rattle.kinds.specs.Types.{TypeTree}
+use Rattle.kinds.specs.Held.{IsFirstClass}
+use Rattle.kinds.proofs.HeldLaws.{first_class_int}
 use Rattle.llvm_core.specs.Data.{IntConst}
 use Rattle.ll_lines.specs.Lines as L
-use Rattle.ll_lines.specs.Lines.{Text, Said, Typed}
+use Rattle.ll_lines.specs.Lines.{Said, Typed}
 use Rattle.ll_tokens.specs.declared.kinds.Kind.{Kind}
 use Rattle.ll_tokens.specs.declared.kinds.Kind.TheVariants as T
 use Rattle.ll_literals.specs.Chain.{◌>>=◌}
-use Rattle.ll_values.specs.Values.{TypeV, LiteralV, TypedV, PairV, Literal, LocalL, ConstL, said, typed}
-use Rattle.ll_written.specs.Printing.{type_text, const_text, int_text}
+use Rattle.ll_spacing.specs.Spacing.{Spaced}
+use Rattle.ll_values.specs.Values.{Value, LiteralV, TypedV, PairV, Literal, LocalL, ConstL, said, typed}
+use Rattle.ll_written.specs.Printing.{const_text, int_text}
 use Rattle.ll_written.specs.Rules as N
-use Rattle.ll_written.specs.Written.{token, apart, int_kind, written_said, written_typed, next_said}
+use Rattle.ll_written.specs.Written.{apart, int_kind, written_type, written_said, written_typed, next_said, written_operands, written_returned, written_to}
 use Rattle.ll_written.specs.Writable.{an_int, IsSaidOf, IsTyped}
 use Rattle.ll_written.proofs.Productions as P
 use Rattle.ll_written.proofs.Productions.{Reads}
 use Rattle.ll_written.proofs.DecimalLaws.{const_value-int}
-use Rattle.ll_written.proofs.TypeLaws.{int_class, int_width}
+use Rattle.ll_written.proofs.TypeTokens.{type_says, solid_says}
 
 -- a value as it is written
 abbrev pub literal_of : Said → Literal
 literal_of (L.Local t) = LocalL t
 literal_of (L.Const c) = ConstL (const_text c)
-
--- ---- types
-
--- a line for each kind
-pub result_says : (b : Text) (τ : TypeTree) → IsReturned τ → Reads N.type (TypeV τ) (token b T.Word (type_text τ) ∷ [])
-result_says b VoidType h = P.type_void b refl
-result_says b (IntType n) h = let k = first_class_int n (returned_own (IntType n) h refl) in P.type_int b (105 ∷ decimal n) (int_class n k.1) (ap (option_map TypeV) (int_width n k.0 k.1))
-result_says b τ h = absurd (let k = first_class_value τ (returned_own τ h refl) in cc)
-
-pub type_says : (b : Text) (τ : TypeTree) → IsFirstClass τ → Reads N.type (TypeV τ) (token b T.Word (type_text τ) ∷ [])
-type_says b τ h = result_says b τ (returned_if τ h)
-
--- a line for each kind
-pub solid_says : (b : Text) (τ : TypeTree) → IsFirstClass τ → Reads N.solid (TypeV τ) (token b T.Word (type_text τ) ∷ [])
-solid_says b (IntType n) h = let k = first_class_int n h in P.solid_int b (105 ∷ decimal n) (int_class n k.1) (ap (option_map TypeV) (int_width n k.0 k.1))
-solid_says b τ h = absurd (let k = first_class_value τ h in cc)
 
 -- ---- values
 
@@ -76,11 +61,21 @@ typed_again x h = ap (λ (o : Option Said). o >>= λ s. Some (record { type = x.
 pub typed_says : (x : Typed) → IsTyped x → Reads N.typed (TypedV x) (written_typed x)
 typed_says x h = P.typed (type_says (codes " ") x.type h.type) (said_says x.type x.said h.said) (ap (option_map TypedV) (typed_again x h))
 
-pub returned_says : (x : Typed) → IsTyped x → Reads N.ret (TypedV x) (written_typed x)
-returned_says x h = P.ret_typed (solid_says (codes " ") x.type h.type) (said_says x.type x.said h.said) (ap (option_map TypedV) (typed_again x h))
+-- ---- operands
 
-pub pair_says : (x y : Typed) → IsTyped x → IsTyped y → y.type ≡ x.type → Reads N.pair (PairV x y) (written_typed x ++ next_said y)
+-- with nothing behind
+pub alone : {r : ℕ} {v : Value} {xs : List Spaced} → Reads r v xs → Reads r v (xs ++ [])
+alone {r} {v} {xs} h = subst (λ (ys : List Spaced). Reads r v ys) (sym (append-nil xs)) h
+
+pub operand_says : (x : Typed) → IsTyped x → Reads N.typed (TypedV x) (written_operands (x ∷ []))
+operand_says x h = alone (typed_says x h)
+
+pub returned_says : (x : Typed) → IsTyped x → Reads N.ret (TypedV x) (written_returned (x ∷ []))
+returned_says x h = alone (P.ret_typed (solid_says (codes " ") x.type h.type) (said_says x.type x.said h.said) (ap (option_map TypedV) (typed_again x h)))
+
+pub pair_says : (x y : Typed) → IsTyped x → IsTyped y → y.type ≡ x.type → Reads N.pair (PairV x y) (written_operands (x ∷ y ∷ []) ++ written_to None)
 pair_says x y h k same =
     let two : typed x.type (literal_of y.said) ≡ Some y = rw (← same) (typed_again y k) in
     let both : (typed x.type (literal_of x.said) >>= λ a. typed x.type (literal_of y.said) >>= λ b. Some (PairV a b)) ≡ Some (PairV x y) = rw (typed_again x h, two) refl in
-    P.pair [] (type_says (codes " ") x.type h.type) (said_says x.type x.said h.said) (said_says y.type y.said k.said) both
+    let says = P.pair [] (type_says (codes " ") x.type h.type) (said_says x.type x.said h.said) (said_says y.type y.said k.said) both in
+    alone (subst (λ (xs : List Spaced). Reads N.pair (PairV x y) xs) (sym (append_assoc (written_type (codes " ") x.type) (written_said x.said ∷ []) (next_said y))) says)

@@ -37,8 +37,10 @@ indent = codes "\n  "
 
 -- ---- types and values
 
-abbrev pub written_type : TypeTree → Spaced
-written_type τ = word (type_text τ)
+-- a type, whose first token stands behind that. The word is closed, so that what is said of its tokens by laws holds of
+-- types of several tokens.
+unfoldable pub written_type : (before : Text) → TypeTree → List Spaced
+written_type before τ = token before K.Word (type_text τ) ∷ []
 
 -- one bit is a word, other integers are numbers
 abbrev pub int_kind : (width : ℕ) → Kind
@@ -54,7 +56,7 @@ written_said (L.Const c) = apart (const_kind c) (const_text c)
 
 -- a type and a value of it
 abbrev pub written_typed : Typed → List Spaced
-written_typed x = written_type x.type ∷ written_said x.said ∷ []
+written_typed x = written_type (codes " ") x.type ++ (written_said x.said ∷ [])
 
 -- ---- instructions
 
@@ -93,7 +95,7 @@ written_targets (t ∷ ts) = written_target t ++ flat_map next_target ts
 -- the type that is written behind operands
 abbrev pub written_to : Option TypeTree → List Spaced
 written_to None = []
-written_to (Some τ) = word (codes "to") ∷ written_type τ ∷ []
+written_to (Some τ) = word (codes "to") ∷ written_type (codes " ") τ
 
 -- a word where it is set
 abbrev pub written_flag : Text → Bool → List Spaced
@@ -152,7 +154,7 @@ written_entries [] = []
 written_entries (e ∷ es) = written_entry e ++ flat_map next_entry es
 
 abbrev pub written_inst : (before : Text) → Inst → List Spaced
-written_inst before (L.Phi τ es) = token before K.Word (codes "phi") ∷ written_type τ ∷ written_entries es
+written_inst before (L.Phi τ es) = token before K.Word (codes "phi") ∷ (written_type (codes " ") τ ++ written_entries es)
 written_inst before (L.Row r) = written_row before r
 
 -- an instruction behind its result, where there is one
@@ -183,7 +185,7 @@ written_name (Some t) = apart K.Local t ∷ []
 
 -- a parameter, whose type stands behind that
 abbrev pub written_param : (before : Text) → Param → List Spaced
-written_param before p = token before K.Word (type_text p.type) ∷ written_name p.name
+written_param before p = written_type before p.type ++ written_name p.name
 
 abbrev pub next_param : Param → List Spaced
 next_param p = comma ∷ written_param (codes " ") p
@@ -194,8 +196,8 @@ written_params (p ∷ ps) = written_param [] p ++ flat_map next_param ps
 
 abbrev pub written_function : (before : Text) → Function → List Spaced
 written_function before f =
-    token before K.Word (codes "define") ∷ written_type f.result ∷ apart K.Global f.name ∷ close K.OpenParen (codes "(")
-    ∷ (written_params f.params ++ (close K.CloseParen (codes ")") ∷ apart K.OpenBrace (codes "{") ∷ (written_body f.body ++ (token (codes "\n") K.CloseBrace (codes "}") ∷ []))))
+    token before K.Word (codes "define") ∷ (written_type (codes " ") f.result ++ (apart K.Global f.name ∷ close K.OpenParen (codes "(")
+    ∷ (written_params f.params ++ (close K.CloseParen (codes ")") ∷ apart K.OpenBrace (codes "{") ∷ (written_body f.body ++ (token (codes "\n") K.CloseBrace (codes "}") ∷ []))))))
 
 -- a function behind other things stands after a blank line
 abbrev pub next_function : Function → List Spaced
