@@ -17,6 +17,7 @@ use Rattle.llvm_core.specs.Sound.{IsModule}
 use Rattle.llvm_core.specs.Parts.{IsPhi, is_phi, result_type}
 use Rattle.llvm_core.specs.Data as L
 use Rattle.llvm_core.specs.Data.{Placed, ModuleData, data_of, trees_of, with_function, with_instruction}
+use Rattle.kinds.specs.Held.{IsHeld}
 use Rattle.dialect_types.specs.Trees.{TypeTree, type_at, type_trees}
 use Rattle.block_order.specs.Order.{IsOrder}
 use Rattle.dialect_core.specs.declared.numbers.BlockRef.{BlockRef}
@@ -24,10 +25,9 @@ use Rattle.dialect_core.specs.declared.ops.Value.{Value}
 use Rattle.dialect_core.specs.declared.ops.Value.TheVariants.{Argument}
 use Rattle.dialect_types.specs.declared.types.TypeHandle.{TypeHandle}
 use Rattle.dialect_core.specs.declared.ops.BlockData.{BlockData}
-use Rattle.dialect_core.specs.Form.{IsFormFunc, IsShortInt}
+use Rattle.dialect_core.specs.Form.{IsFormFunc}
 use Rattle.dialect_core.specs.ContextData.{ContextData}
 use Rattle.dialect_core.specs.Data.{DialectBlock, Func}
-use Rattle.meaning.specs.Dialect.{type_of}
 use Rattle.to_llvm_ir.specs.declared.values.Values.{Values}
 use Rattle.to_llvm_ir.specs.Order.{turn_of}
 use Rattle.to_llvm_ir.specs.Exported.{value_name, arguments_from, arguments_of, phi_values}
@@ -59,7 +59,7 @@ phis_append g n b i k (t ∷ ts) us =
     let rest = phis_append g n b (suc i) (k + 1) ts us in
     let e : suc i + length ts ≡ i + suc (length ts) = omega arith in
     let f : k + 1 + length ts ≡ k + suc (length ts) = omega arith in
-    let head : Placed = record { number = number_of g n (Argument (record { 0 = b }) i); name = value_name None k; type = type_of t; instruction = L.Phi [] } in
+    let head : Placed = record { number = number_of g n (Argument (record { 0 = b }) i); name = value_name None k; type = t; instruction = L.Phi [] } in
     ap (λ (ps : List Placed). head ∷ ps) (rest ∙ ap (λ (q : ℕ). phis g n no_entries b (suc i) (k + 1) ts ++ phis g n no_entries b q (k + 1 + length ts) us) e ∙ ap (λ (q : ℕ). phis g n no_entries b (suc i) (k + 1) ts ++ phis g n no_entries b (i + suc (length ts)) q us) f)
 
 take_length : (ts : List TypeTree) (i : ℕ) (t : TypeTree) → slice_get ts i ≡ Some t → length (take i ts) ≡ i
@@ -128,7 +128,7 @@ param_more x t c b f m i old new h params lt s counted set =
 -- ---- a phi
 
 module _ (x : ContextData) (t : Task) (p : ℕ) (c : DialectBlock) (b : BlockRef) (i : ℕ) (type : TypeTree) (h : IsBlockAt x t (suc p) c b) (at : slice_get c.args i ≡ Some type) (old new : Values) (m m1 m2 : Module) (s : IsAtArgument t (suc p) c i old m)
-    (ty : LLVMType) (typed : IsTypeOf m1 ty (type_of type)) (grows1 : Grows m m1) (rest1 : m1 ≡ record m { types = m1.types }) (data1 : data_of m1 ≡ data_of m)
+    (ty : LLVMType) (typed : IsTypeOf m1 ty type) (grows1 : Grows m m1) (rest1 : m1 ≡ record m { types = m1.types }) (data1 : data_of m1 ≡ data_of m)
     (inst : LLVMInst) (inst_is : inst ≡ I.Phi ty []) (phi : LLVMInstRef) (name : List ℕ) (target : LLVMBasicBlock) (built : IsBuilt m1 m2 target phi name inst) (last : phi.0 ≡ length m1.insts) (made : data_of m2 ≡ with_instruction (data_of m1) target.0 (placed phi name m1 inst)) (sound : IsModule m2)
     (here : target.0 ≡ t.numbers.block + suc p) (name_is : name ≡ value_name None old.next) (counted : new.next ≡ old.next + 1) (set : IsSet (found old) (found new) (Argument b i) (V.Inst phi)) where
   abbrev g : Func
@@ -144,7 +144,7 @@ module _ (x : ContextData) (t : Task) (p : ℕ) (c : DialectBlock) (b : BlockRef
   first = first_at g (suc p)
 
   abbrev made_phi : Placed
-  made_phi = record { number = number_of g n v; name = value_name None (first + i); type = type_of type; instruction = L.Phi [] }
+  made_phi = record { number = number_of g n v; name = value_name None (first + i); type = type; instruction = L.Phi [] }
 
   insts_same : length m1.insts ≡ length m.insts
   insts_same = ap (λ (y : Module). length y.insts) rest1
@@ -152,7 +152,7 @@ module _ (x : ContextData) (t : Task) (p : ℕ) (c : DialectBlock) (b : BlockRef
   number_is : phi.0 ≡ number_of g n v
   number_is = last ∙ insts_same ∙ s.inst_count ∙ sym (number_at g h.task.form n h.task.order.once no_entries _ v (argument_here g h.task.form n.order h.task.order.once p i c type h.here at))
 
-  result_is : L.result_tree m1 inst ≡ type_of type
+  result_is : L.result_tree m1 inst ≡ type
   result_is = ap (L.result_tree m1) inst_is ∙ typed.1
 
   placed_is : placed phi name m1 inst ≡ made_phi
@@ -238,9 +238,9 @@ pub arg_at : (x : ContextData) (t : Task) (j : ℕ) (c : DialectBlock) (b : Bloc
 arg_at x t j c b ts i d h at lt =
     ap (λ (us : List TypeTree). slice_get us i) (args_are x t j c b ts h at) ∙ slice_get-map (type_at (type_trees x.types)) ts i ∙ ap (option_map (type_at (type_trees x.types))) (slice_get-get_or ts i d lt)
 
-pub arg_short : (x : ContextData) (t : Task) (j : ℕ) (c : DialectBlock) (b : BlockRef) (ts : List TypeHandle) (i : ℕ) (d : TypeHandle) → IsBlockAt x t j c b → option_map (λ (y : BlockData). y.args) (slice_get x.blocks b.0) ≡ Some ts → i < length ts
-    → IsShortInt (type_at (type_trees x.types) (get_or ts i d))
-arg_short x t j c b ts i d h at lt = all_at IsShortInt c.args i (type_at (type_trees x.types) (get_or ts i d)) (block_form t.source h.task.form j c h.here).args (arg_at x t j c b ts i d h at lt)
+pub arg_held : (x : ContextData) (t : Task) (j : ℕ) (c : DialectBlock) (b : BlockRef) (ts : List TypeHandle) (i : ℕ) (d : TypeHandle) → IsBlockAt x t j c b → option_map (λ (y : BlockData). y.args) (slice_get x.blocks b.0) ≡ Some ts → i < length ts
+    → IsHeld (type_at (type_trees x.types) (get_or ts i d))
+arg_held x t j c b ts i d h at lt = all_at IsHeld c.args i (type_at (type_trees x.types) (get_or ts i d)) (block_form t.source h.task.form j c h.here).args (arg_at x t j c b ts i d h at lt)
 
 pub args_count : (x : ContextData) (t : Task) (j : ℕ) (c : DialectBlock) (b : BlockRef) (ts : List TypeHandle) → IsBlockAt x t j c b → option_map (λ (y : BlockData). y.args) (slice_get x.blocks b.0) ≡ Some ts → length ts ≡ length c.args
 args_count x t j c b ts h at = sym (ap (λ (us : List TypeTree). length us) (args_are x t j c b ts h at) ∙ length-map ts (type_at (type_trees x.types)))

@@ -14,7 +14,6 @@ use Rattle.meaning.specs.Code.{External, FunctionSymbol, IsDistinctNames, IsOneT
 use Rattle.meaning.specs.Examples.{same_places}
 use Rattle.meaning.specs.Llvm as Llvm
 use Rattle.meaning.specs.Dialect as Dialect
-use Rattle.meaning.specs.Dialect.{type_of}
 use Rattle.meaning.proofs.WovenLaws.{woven, woven_first}
 use Rattle.meaning.proofs.CodeLaws.{same_code}
 use Rattle.meaning.proofs.EntryLaws.{HasPlainName, some_blocks, not_empty, same_symbol, both, all_kept, distinct_code}
@@ -59,11 +58,11 @@ module _ (c : ContextData) (g : D.Func) (f : L.Function) (form : IsOpenForm c g)
     traces = woven_first same_places a f b g (h.shape a b) (h.sets only a b);
   }
 
-  linked : FunctionSymbol (type_of g.type) (Dialect.linkage g.linkage) 0 (Dialect.has_blocks g) ≡ FunctionSymbol (type_of g.type) External 0 (Dialect.has_blocks g)
+  linked : FunctionSymbol g.type (Dialect.linkage g.linkage) 0 (Dialect.has_blocks g) ≡ FunctionSymbol g.type External 0 (Dialect.has_blocks g)
   linked = rw form.1.linkage refl
 
   exported_symbol : (a b : Setting) → rename_symbol same_places (Llvm.entry a f).symbol ≡ (Dialect.entry b g).symbol
-  exported_symbol a b = same_symbol same_places f.type (type_of g.type) f.space (Llvm.has_blocks f) (Dialect.has_blocks g) h.type h.space (has ∙ sym has_dialect) ∙ sym linked
+  exported_symbol a b = same_symbol same_places f.type g.type f.space (Llvm.has_blocks f) (Dialect.has_blocks g) h.type h.space (has ∙ sym has_dialect) ∙ sym linked
 
   exported_entry : (a b : Setting) → HasOnlyEntryConstants g → SameNamed same_places (Llvm.entry a f) (Dialect.entry b g)
   exported_entry a b only = record {

@@ -16,7 +16,7 @@ use Rattle.dialect_core.specs.declared.ops.Value.TheVariants.{Result, Argument}
 use Rattle.dialect_core.specs.declared.ops.Successor.{Successor}
 use Rattle.dialect_core.specs.Data.{DialectOp, DialectBlock, Func, Kind, ConstantOp, RowOp, value_type}
 use Rattle.dialect_core.specs.Rules.{IsEdge, IsOfKind}
-use Rattle.dialect_core.specs.Form.{IsFormFunc, IsShortValue, FitsTarget, edges_of, is_constant, is_constant_kind}
+use Rattle.dialect_core.specs.Form.{IsFormFunc, IsHeldValue, FitsTarget, edges_of, is_constant, is_constant_kind}
 use Rattle.to_llvm_ir.specs.Made.{Numbers, block_for, operand_for, instruction_for, inst, insts, phis, block_phis, block_made, blocks_made, passed_to, passed, entry_with, block_passes, entries_from, number_past, number_after, number_behind}
 use Rattle.to_llvm_ir.specs.Links.{HasTarget}
 use Rattle.to_llvm_ir.proofs.ListLaws.{AreNumbered, all_at}
@@ -119,9 +119,9 @@ edge_among (x ∷ os) (suc i) l o s at at' = let r = edge_among os i l o s at at
 pub edge_form : (g : Func) (form : IsFormFunc g) (n : Numbers) (j i : ℕ) (c : DialectBlock) (s : Successor) → slice_get g.blocks j ≡ Some c → slice_get (edges_of c) i ≡ Some s → IsEdge (value_type g) g s
 edge_form g form n j i c s at at' = let r = edge_from c.ops i s at' in all_at (IsEdge (value_type g) g) r.1.successors r.2 s (op_edges g n r.1.kind r.1.operands r.1.result r.1.successors (op_form g form j r.0 c r.1 at r.3).kind) r.4
 
--- the values that an edge of an operation passes are of 1 to 64 bits
-pub edge_short : (g : Func) (form : IsFormFunc g) (j i : ℕ) (c : DialectBlock) (s : Successor) → slice_get g.blocks j ≡ Some c → slice_get (edges_of c) i ≡ Some s → All (IsShortValue g) s.args
-edge_short g form j i c s at at' = let r = edge_from c.ops i s at' in all_at (λ (s : Successor). All (IsShortValue g) s.args) r.1.successors r.2 s (op_form g form j r.0 c r.1 at r.3).passed r.4
+-- the types of the values that an edge of an operation passes are translated
+pub edge_held : (g : Func) (form : IsFormFunc g) (j i : ℕ) (c : DialectBlock) (s : Successor) → slice_get g.blocks j ≡ Some c → slice_get (edges_of c) i ≡ Some s → All (IsHeldValue g) s.args
+edge_held g form j i c s at at' = let r = edge_from c.ops i s at' in all_at (λ (s : Successor). All (IsHeldValue g) s.args) r.1.successors r.2 s (op_form g form j r.0 c r.1 at r.3).passed r.4
 
 pub edge_target : (g : Func) (s : Successor) → IsEdge (value_type g) g s → FitsTarget g s → HasTarget g s
 edge_target g s form fits = by fits.0 fits.2

@@ -24,7 +24,7 @@ use Rattle.dialect_core.specs.declared.ops.Value.{Value}
 use Rattle.dialect_core.specs.declared.ops.Value.TheVariants.{Result, Argument}
 use Rattle.dialect_core.specs.Data.{DialectOp, DialectBlock, Func}
 use Rattle.dialect_core.specs.Form.{IsFormFunc, is_constant}
-use Rattle.meaning.specs.Dialect.{type_of, same_value}
+use Rattle.meaning.specs.Dialect.{same_value}
 use Rattle.meaning.proofs.SameValues.{same_value-Decides}
 use Rattle.to_llvm_ir.specs.declared.values.Values.{Values}
 use Rattle.to_llvm_ir.specs.Exported.{value_name, result, arguments_of}
@@ -92,10 +92,10 @@ module _ (g : Func) (form : IsFormFunc g) (n : Numbers) (order : IsOrder (length
   phis_changed b i k (t ∷ ts) h =
       let x = h 0 t refl in
       let here : slice_get (values_by n.order g) x.0 ≡ Some (Argument (record { 0 = b }) i) = x.1 ∙ ap (λ (q : ℕ). Some (Argument (record { 0 = b }) q)) (let e : i + 0 ≡ i = omega arith in e) in
-      let one = phi_changed (Argument (record { 0 = b }) i) (value_name None k) (type_of t) x.0 here in
+      let one = phi_changed (Argument (record { 0 = b }) i) (value_name None k) t x.0 here in
       let rest = phis_changed b (suc i) (k + 1) ts (λ j u at'. let y = h (suc j) u at' in (y.0, y.1 ∙ ap (λ (q : ℕ). Some (Argument (record { 0 = b }) q)) (let e : i + suc j ≡ suc i + j = omega arith in e))) in
       ap (λ (q : Placed). q ∷ map (adding m o p) (phis g n given b (suc i) (k + 1) ts)) one
-      ∙ ap (λ (qs : List Placed). (record { number = number_of g n (Argument (record { 0 = b }) i); name = value_name None k; type = type_of t; instruction = L.Phi (new (Argument (record { 0 = b }) i)) }) ∷ qs) rest
+      ∙ ap (λ (qs : List Placed). (record { number = number_of g n (Argument (record { 0 = b }) i); name = value_name None k; type = t; instruction = L.Phi (new (Argument (record { 0 = b }) i)) }) ∷ qs) rest
 
   no_result : (x : DialectOp) → v ≡ result x → ⊥
   no_result x e = subst IsArgument e is_argument

@@ -1,5 +1,5 @@
 -- The function that is made is of the form.
-use Rattle.std.proofs.Common.{◌≡◌, ◌<◌, ◌≤◌, ◌+◌, ◌-◌, ◌^◌, ◌&&◌, ◌||◌, ℕ, zero, suc, Bool, true, false, not, if◌then◌else◌, List, [], ◌∷◌, ◌++◌, Option, Some, None, All, length, map, take, slice_get, refl, sym, ap, subst, ◌∙◌, arith}
+use Rattle.std.proofs.Common.{◌≡◌, ◌<◌, ◌≤◌, ◌+◌, ◌-◌, ◌^◌, ◌&&◌, ◌||◌, ℕ, zero, suc, Bool, true, false, true≢false, not, if◌then◌else◌, List, [], ◌∷◌, ◌++◌, Option, Some, None, All, length, map, take, slice_get, refl, sym, ap, subst, ◌∙◌, arith}
 use Rattle.std.specs.Prelude.{IfSome, unwrap_or}
 use Rattle.std.specs.List.{find, flat_map, list_any}
 use Rattle.std.specs.Option.{option_map, option_map_or}
@@ -10,8 +10,10 @@ use Rattle.std.proofs.lemmas.List.Elements.{All-nil, All-cons, All-head, All-tai
 use Rattle.kinds.specs.declared.op.Op.{Op}
 use Rattle.kinds.specs.declared.rules.Takes.{Takes}
 use Rattle.kinds.specs.declared.rules.Takes.TheVariants as T
-use Rattle.kinds.specs.Rules.{operand_count}
 use Rattle.kinds.specs.Table.{rule_of}
+use Rattle.kinds.specs.Types.{result_of}
+use Rattle.kinds.specs.Held.{IsHeld, IsHeldResult}
+use Rattle.kinds.proofs.HeldLaws.{void_if, held_own, held_result_if, held_result_void}
 use Rattle.llvm_core.specs.Checked.{ends_in_only}
 use Rattle.llvm_core.specs.Edges.{count_of}
 use Rattle.support.specs.Interned.{IsDistinctList}
@@ -20,16 +22,16 @@ use Rattle.llvm_core.specs.Data.{Operand, Placed, Block, Function, placed_in, op
 use Rattle.llvm_core.specs.Form as F
 use Rattle.llvm_core.specs.Form.{IsFormFunction, IsFormInstruction, IsFormRow, IsFormPlaced, IsFormBlock, IsTarget, is_last}
 use Rattle.support.proofs.ListLaws.{slice_get-push, all_from, item_there}
-use Rattle.dialect_types.specs.Trees.{TypeTree, TypeTrees, VoidType, IntType, FunctionType, NoTypes, ThenType}
+use Rattle.dialect_types.specs.Trees.{TypeTree, VoidType}
 use Rattle.block_order.specs.Order.{IsOrder}
 use Rattle.dialect_core.specs.declared.numbers.BlockRef.{BlockRef}
 use Rattle.dialect_core.specs.declared.ops.Value.{Value}
 use Rattle.dialect_core.specs.declared.ops.Value.TheVariants.{Argument}
 use Rattle.dialect_core.specs.declared.ops.Successor.{Successor}
 use Rattle.dialect_core.specs.Data.{DialectOp, DialectBlock, Func, Kind, ConstantOp, RowOp, value_type}
-use Rattle.dialect_core.specs.Rules.{IsOfKind, IsReturning, IsRow, is_void, type_nth}
-use Rattle.dialect_core.specs.Form.{IsFormFunc, IsFormOp, IsShortValue, IsShortInt, IsShortResult, HasTargets, result_of, types_list, is_constant, is_constant_kind, is_terminator, is_terminator_kind}
-use Rattle.meaning.specs.Dialect.{type_of, option_type}
+use Rattle.dialect_core.specs.Rules.{IsOfKind, IsReturning, IsRow, type_nth}
+use Rattle.dialect_core.specs.Form.{IsFormFunc, IsFormOp, IsHeldValue, HasTargets, is_constant, is_constant_kind, is_terminator, is_terminator_kind}
+use Rattle.meaning.specs.Dialect.{option_type}
 use Rattle.to_llvm_ir.specs.Order.{turn_of}
 use Rattle.to_llvm_ir.specs.Exported.{blocks_by, block_name, value_name, result_name}
 use Rattle.to_llvm_ir.specs.Made.{Numbers, operand_for, row_for, instruction_for, inst, insts, phis, block_phis, block_made, function_made, entries, number_past, entry_args, number_after, number_behind}
@@ -39,7 +41,7 @@ use Rattle.to_llvm_ir.proofs.ListLaws.{AreNumbered, all_at}
 use Rattle.to_llvm_ir.proofs.NameLaws.{plain_is, bare_plain}
 use Rattle.to_llvm_ir.proofs.TurnLaws.{turn_at, filter_taken}
 use Rattle.to_llvm_ir.proofs.LookupLaws.{argument_type, block_form, op_form, entry_at, place_is}
-use Rattle.to_llvm_ir.proofs.PlacedLaws.{placed_numbered, params_count, operand_form, operand_typed, short_int}
+use Rattle.to_llvm_ir.proofs.PlacedLaws.{placed_numbered, params_count, operand_form, operand_typed, types_count}
 use Rattle.to_llvm_ir.proofs.EdgeLaws.{made_at, made_from, made_numbered, target_for, edge_among, edge_form, is_from, first_entry}
 use Rattle.to_llvm_ir.proofs.CountLaws.{sources_count, comes_by}
 use Rattle.to_llvm_ir.proofs.PhiLaws.{insts_no_phi, block_phis_phi, phis_first, has_target, phi_sources, phi_alike}
@@ -72,19 +74,6 @@ block_past (d ∷ cs) (suc j) k c at = block_past cs j (number_behind (k + lengt
 
 -- ---- types
 
-short_result : (t : TypeTree) → IsShortResult t → F.IsShortResult (type_of t)
-short_result VoidType h = h
-short_result (IntType w) h = h
-short_result (FunctionType r ps v) h = absurd h
-
-short_ints : (ts : TypeTrees) → All IsShortInt (types_list ts) → F.AreShortInts ts
-short_ints NoTypes h = tt
-short_ints (ThenType t ts) h = (short_int t (All-head IsShortInt t (types_list ts) h), short_ints ts (All-tail IsShortInt t (types_list ts) h))
-
-type_count : (ts : TypeTrees) → F.count_types ts ≡ length (types_list ts)
-type_count NoTypes = refl
-type_count (ThenType t ts) = let e = type_count ts in omega (arith, e)
-
 unnamed_plain : (ts : List TypeTree) → All IsPlainOrNone (map (λ (t : TypeTree). let none : List ℕ = [] in none) ts)
 unnamed_plain [] = All-nil IsPlainOrNone
 unnamed_plain (t ∷ ts) = All-cons IsPlainOrNone [] (map (λ (t : TypeTree). let none : List ℕ = [] in none) ts) tt (unnamed_plain ts)
@@ -99,22 +88,18 @@ numbers_distinct number xs h i j m at at' = by (slice_get xs i) refl (slice_get 
 
 -- ---- results
 
-own_type : (own : Option TypeTree) → option_type own ≡ unwrap_or own VoidType
-own_type None = refl
-own_type (Some t) = refl
+type_or_void : (own : Option TypeTree) → option_type own ≡ unwrap_or own VoidType
+type_or_void None = refl
+type_or_void (Some t) = refl
 
-own_short : (own : Option TypeTree) → IfSome own IsShortInt → F.IsShortResult (option_type own)
-own_short None h = tt
-own_short (Some VoidType) h = absurd h
-own_short (Some (IntType w)) h = h
-own_short (Some (FunctionType r ps v)) h = absurd h
+own_held : (own : Option TypeTree) → IfSome own IsHeld → IsHeldResult (option_type own)
+own_held None h = held_result_void VoidType refl
+own_held (Some t) h = held_result_if t h
 
-no_void : (t : TypeTree) → IsShortInt t → t ≡ VoidType → ⊥
-no_void VoidType h e = h
-no_void (IntType w) h e = cc
-no_void (FunctionType r ps v) h e = h
+no_void : (t : TypeTree) → IsHeld t → t ≡ VoidType → ⊥
+no_void t h e = true≢false (sym (void_if t e) ∙ held_own t h)
 
-own_unnamed : (name : Option (List ℕ)) (own : Option TypeTree) (k : ℕ) → IfSome own IsShortInt → option_type own ≡ VoidType → result_name name own k ≡ []
+own_unnamed : (name : Option (List ℕ)) (own : Option TypeTree) (k : ℕ) → IfSome own IsHeld → option_type own ≡ VoidType → result_name name own k ≡ []
 own_unnamed name None k h e = refl
 own_unnamed name (Some t) k h e = absurd (no_void t h e)
 
@@ -202,23 +187,23 @@ module _ (g : Func) (form : IsFormFunc g) (n : Numbers) (order : IsOrder (length
 
   -- ---- instructions
 
-  operands_own : (vs : List Value) → All (IsShortValue g) vs → All (F.IsOperandOf made) (map (operand_for g n) vs)
+  operands_own : (vs : List Value) → All (IsHeldValue g) vs → All (F.IsOperandOf made) (map (operand_for g n) vs)
   operands_own [] h = All-nil (F.IsOperandOf made)
   operands_own (v ∷ vs) h =
-      let one = All-head (IsShortValue g) v vs h in
-      All-cons (F.IsOperandOf made) (operand_for g n v) (map (operand_for g n) vs) (operand_form g form n order (entries g n) v one.0 one.1).stands (operands_own vs (All-tail (IsShortValue g) v vs h))
+      let one = All-head (IsHeldValue g) v vs h in
+      All-cons (F.IsOperandOf made) (operand_for g n v) (map (operand_for g n) vs) (operand_form g form n order (entries g n) v one.0 one.1).stands (operands_own vs (All-tail (IsHeldValue g) v vs h))
 
-  operands_short : (vs : List Value) → All (IsShortValue g) vs → All F.IsShortInt (F.types_of made (map (operand_for g n) vs))
-  operands_short [] h = All-nil F.IsShortInt
-  operands_short (v ∷ vs) h =
-      let one = All-head (IsShortValue g) v vs h in
+  operands_held : (vs : List Value) → All (IsHeldValue g) vs → All IsHeld (F.types_of made (map (operand_for g n) vs))
+  operands_held [] h = All-nil IsHeld
+  operands_held (v ∷ vs) h =
+      let one = All-head (IsHeldValue g) v vs h in
       let is = operand_form g form n order (entries g n) v one.0 one.1 in
-      All-cons F.IsShortInt (operand_type made (operand_for g n v)) (F.types_of made (map (operand_for g n) vs)) (subst F.IsShortInt (sym is.typed) is.short) (operands_short vs (All-tail (IsShortValue g) v vs h))
+      All-cons IsHeld (operand_type made (operand_for g n v)) (F.types_of made (map (operand_for g n) vs)) (subst IsHeld (sym is.typed) is.held) (operands_held vs (All-tail (IsHeldValue g) v vs h))
 
-  operands_typed : (vs : List Value) → All (IsShortValue g) vs → (i : ℕ) → slice_get (F.types_of made (map (operand_for g n) vs)) i ≡ type_nth (value_type g) vs i
+  operands_typed : (vs : List Value) → All (IsHeldValue g) vs → (i : ℕ) → slice_get (F.types_of made (map (operand_for g n) vs)) i ≡ type_nth (value_type g) vs i
   operands_typed [] h i = refl
-  operands_typed (v ∷ vs) h zero = let one = All-head (IsShortValue g) v vs h in ap Some (operand_typed g form n order (entries g n) v one.0 one.1.typed) ∙ sym one.1.typed
-  operands_typed (v ∷ vs) h (suc i) = operands_typed vs (All-tail (IsShortValue g) v vs h) i
+  operands_typed (v ∷ vs) h zero = let one = All-head (IsHeldValue g) v vs h in ap Some (operand_typed g form n order (entries g n) v one.0 one.1.typed) ∙ sym one.1.typed
+  operands_typed (v ∷ vs) h (suc i) = operands_typed vs (All-tail (IsHeldValue g) v vs h) i
 
   operands_counted : (vs : List Value) → length (F.types_of made (map (operand_for g n) vs)) ≡ length vs
   operands_counted vs = length-map (map (operand_for g n) vs) (operand_type made) ∙ length-map vs (operand_for g n)
@@ -228,14 +213,6 @@ module _ (g : Func) (form : IsFormFunc g) (n : Numbers) (order : IsOrder (length
   targets_form (s ∷ ss) h =
       All-cons (IsTarget made) (target_for g n s) (map (target_for g n) ss) (All-head (λ (s : Successor). IsTarget made (target_for g n s)) s ss h) (targets_form ss (All-tail (λ (s : Successor). IsTarget made (target_for g n s)) s ss h))
 
-  result_type : F.result_of made.type ≡ result_of g.type
-  result_type = ap F.result_of form.type ∙ ap result_of (sym form.type)
-
-  void_same : (t : TypeTree) → F.is_void t ≡ is_void t
-  void_same VoidType = refl
-  void_same (IntType w) = refl
-  void_same (FunctionType r ps v) = refl
-
   returning : (t : Takes) (vs : List Value) → IsReturning t (value_type g) (result_of g.type) vs → F.IsReturning t made (map (operand_for g n) vs)
   returning T.Nothing vs h = tt
   returning (T.One x) vs h = tt
@@ -243,37 +220,37 @@ module _ (g : Func) (form : IsFormFunc g) (n : Numbers) (order : IsOrder (length
   returning (T.Three x y z) vs h = tt
   returning T.Return vs h = all vs h
     where
-      all : (us : List Value) → All (λ (v : Value). value_type g v ≡ Some (result_of g.type)) us → All (λ (o : Operand). operand_type made o ≡ F.result_of made.type) (map (operand_for g n) us)
-      all [] k = All-nil (λ (o : Operand). operand_type made o ≡ F.result_of made.type)
+      all : (us : List Value) → All (λ (v : Value). value_type g v ≡ Some (result_of g.type)) us → All (λ (o : Operand). operand_type made o ≡ result_of g.type) (map (operand_for g n) us)
+      all [] k = All-nil (λ (o : Operand). operand_type made o ≡ result_of g.type)
       all (v ∷ us) k =
-          All-cons (λ (o : Operand). operand_type made o ≡ F.result_of made.type) (operand_for g n v) (map (operand_for g n) us)
-          (operand_typed g form n order (entries g n) v (result_of g.type) (All-head (λ (v : Value). value_type g v ≡ Some (result_of g.type)) v us k) ∙ sym result_type)
+          All-cons (λ (o : Operand). operand_type made o ≡ result_of g.type) (operand_for g n v) (map (operand_for g n) us)
+          (operand_typed g form n order (entries g n) v (result_of g.type) (All-head (λ (v : Value). value_type g v ≡ Some (result_of g.type)) v us k))
           (all us (All-tail (λ (v : Value). value_type g v ≡ Some (result_of g.type)) v us k))
 
-  row_form : (op : Op) (vs : List Value) (own : Option TypeTree) (ss : List Successor) → IsRow (value_type g) g op vs own ss → All (IsShortValue g) vs → All (λ (s : Successor). IsTarget made (target_for g n s)) ss
+  row_form : (op : Op) (vs : List Value) (own : Option TypeTree) (ss : List Successor) → IsRow (value_type g) g op vs own ss → All (IsHeldValue g) vs → All (λ (s : Successor). IsTarget made (target_for g n s)) ss
       → IsFormRow made (option_type own) (row_for g n op own vs ss)
-  row_form op vs own ss row short targets =
+  row_form op vs own ss row held targets =
       let ts = F.types_of made (map (operand_for g n) vs) in
       record {
-        operands = operands_own vs short;
-        short = operands_short vs short;
-        count = length-map vs (operand_for g n) ∙ row.count ∙ ap (operand_count (rule_of op).takes) (sym (void_same (result_of g.type)) ∙ sym (ap F.is_void result_type));
-        fits = fits_row (value_type g) g op vs own ss row ts (operands_counted vs) (operands_typed vs short);
+        operands = operands_own vs held;
+        held = operands_held vs held;
+        count = length-map vs (operand_for g n) ∙ row.count;
+        fits = fits_row (value_type g) g op vs own ss row ts (operands_counted vs) (operands_typed vs held);
         returns = returning (rule_of op).takes vs row.returns;
-        result = own_type own ∙ ap (λ (o : Option TypeTree). unwrap_or o VoidType) (sym (typed_row (value_type g) g op vs own ss row ts (operands_counted vs) (operands_typed vs short)));
+        result = type_or_void own ∙ ap (λ (o : Option TypeTree). unwrap_or o VoidType) (sym (typed_row (value_type g) g op vs own ss row ts (operands_counted vs) (operands_typed vs held)));
         targets = targets_form ss targets;
         leads = length-map ss (target_for g n) ∙ row.leads.0;
       }
 
-  instruction_form : (b : ℕ) (kind : Kind) (vs : List Value) (own : Option TypeTree) (ss : List Successor) → IsOfKind (value_type g) g vs own ss kind → is_constant_kind kind ≡ false → All (IsShortValue g) vs → All (λ (s : Successor). IsTarget made (target_for g n s)) ss
+  instruction_form : (b : ℕ) (kind : Kind) (vs : List Value) (own : Option TypeTree) (ss : List Successor) → IsOfKind (value_type g) g vs own ss kind → is_constant_kind kind ≡ false → All (IsHeldValue g) vs → All (λ (s : Successor). IsTarget made (target_for g n s)) ss
       → IsFormInstruction made b (option_type own) (instruction_for g n kind own vs ss)
-  instruction_form b (ConstantOp value) vs own ss h other short targets = absurd (let e : true ≡ false = other in cc)
-  instruction_form b (RowOp op) vs own ss h other short targets = row_form op vs own ss h short targets
+  instruction_form b (ConstantOp value) vs own ss h other held targets = absurd (let e : true ≡ false = other in cc)
+  instruction_form b (RowOp op) vs own ss h other held targets = row_form op vs own ss h held targets
 
   placed_form : (b k : ℕ) (o : DialectOp) → IsFormOp g o → is_constant o ≡ false → IsPlainOrNone (result_name o.name o.result k) → All (λ (s : Successor). IsTarget made (target_for g n s)) o.successors → IsFormPlaced made b (inst g n k o)
   placed_form b k o h other name targets = record {
     instruction = instruction_form b o.kind o.operands o.result o.successors h.kind other h.operands targets;
-    short = own_short o.result h.result;
+    held = own_held o.result h.result;
     name = name;
     unnamed = own_unnamed o.name o.result k h.result;
   }
@@ -302,13 +279,13 @@ module _ (g : Func) (form : IsFormFunc g) (n : Numbers) (order : IsOrder (length
         (filter_taken (λ (b : Block). b.number) p made.blocks n.order (subst (λ (k : ℕ). IsOrder k n.order) (sym (blocks_count g n (entries g n) 0 0 g.blocks)) order) (made_numbered g n (entries g n) 0 0 g.blocks))
 
     -- an entry is an operand of the argument's type
-    phi_operand : (t : ℕ) (c : DialectBlock) (i : ℕ) (ty : TypeTree) → slice_get g.blocks (suc t) ≡ Some c → slice_get c.args i ≡ Some ty → (l : ℕ) (x : Operand × ℕ) → slice_get (entries g n (Argument (record { 0 = c.number }) i)) l ≡ Some x → F.IsOperand made (type_of ty) x.0
+    phi_operand : (t : ℕ) (c : DialectBlock) (i : ℕ) (ty : TypeTree) → slice_get g.blocks (suc t) ≡ Some c → slice_get c.args i ≡ Some ty → (l : ℕ) (x : Operand × ℕ) → slice_get (entries g n (Argument (record { 0 = c.number }) i)) l ≡ Some x → F.IsOperand made ty x.0
     phi_operand t c i ty at type l x at' =
         let p = comes_by g n n.order (record { 0 = c.number }) i l x at' in
         let good = edge_form g form n p.at p.edge_at p.block p.edge p.here p.there in
         let typed : value_type g p.value ≡ Some ty = good.typed i p.value ty p.passes (argument_type g form (suc t) i p.edge.block c at (sym p.to) ∙ type) in
-        let short = all_at IsShortInt c.args i ty (block_form g form (suc t) c at).args type in
-        subst (F.IsOperand made (type_of ty)) (sym p.is) (operand_form g form n order (entries g n) p.value ty (record { typed = typed; short = short }))
+        let held = all_at IsHeld c.args i ty (block_form g form (suc t) c at).args type in
+        subst (F.IsOperand made ty) (sym p.is) (operand_form g form n order (entries g n) p.value ty (record { typed = typed; held = held }))
 
     phi_some : (t : ℕ) (c : DialectBlock) (i : ℕ) (ty : TypeTree) → slice_get g.blocks (suc t) ≡ Some c → slice_get c.args i ≡ Some ty → entries g n (Argument (record { 0 = c.number }) i) ≡ [] → ⊥
     phi_some t c i ty at type none =
@@ -332,16 +309,16 @@ module _ (g : Func) (form : IsFormFunc g) (n : Numbers) (order : IsOrder (length
     phis_form t c at i k (ty ∷ ts) lt are =
         let v = Argument (record { 0 = c.number }) i in
         let type : slice_get c.args i ≡ Some ty = ap (slice_get c.args) (let e : i ≡ i + 0 = omega arith in e) ∙ are 0 ty refl in
-        let short = all_at IsShortInt c.args i ty (block_form g form (suc t) c at).args type in
+        let held = all_at IsHeld c.args i ty (block_form g form (suc t) c at).args type in
         All-cons (IsFormPlaced made (n.block + (0 + suc t))) _ (phis g n (entries g n) c.number (suc i) (k + 1) ts) (record {
           instruction = (
-            all_from (λ (e : Operand × ℕ). F.IsOperand made (type_of ty) e.0) (entries g n v) (λ l x at'. phi_operand t c i ty at type l x at'),
+            all_from (λ (e : Operand × ℕ). F.IsOperand made ty e.0) (entries g n v) (λ l x at'. phi_operand t c i ty at type l x at'),
             record { counts = phi_counts t c i ty at type; alike = phi_alike g form n order accepted (record { 0 = c.number }) i; some = phi_some t c i ty at type },
-            short_int ty short,
+            held,
           );
-          short = own_short (Some ty) short;
+          held = own_held (Some ty) held;
           name = value_plain k (omega (arith, lt));
-          unnamed = λ e. absurd (no_void ty short e);
+          unnamed = λ e. absurd (no_void ty held e);
         }) (phis_form t c at (suc i) (k + 1) ts (omega (arith, lt)) (λ m u at'. ap (slice_get c.args) (let e : suc i + m ≡ i + suc m = omega arith in e) ∙ are (suc m) u at'))
 
     -- ---- blocks
@@ -372,13 +349,13 @@ module _ (g : Func) (form : IsFormFunc g) (n : Numbers) (order : IsOrder (length
     pub made_form : IsFormFunction made
     made_form = record {
       name = plain_is g.name form.name form.named;
-      result = type_of form.result;
+      result = form.result;
       types = form.types;
-      type = ap type_of form.type;
-      returns = short_result form.result form.returns;
-      takes = short_ints form.types form.takes;
+      type = form.type;
+      returns = form.returns;
+      takes = form.takes;
       space = refl;
-      params = params_count g form n order (entries g n) ∙ ap (λ (ts : List TypeTree). length ts) form.params ∙ sym (type_count form.types);
+      params = params_count g form n order (entries g n) ∙ ap (λ (ts : List TypeTree). length ts) form.params ∙ sym (types_count form.types);
       param_names = unnamed_plain (entry_args g n);
       body = λ e. none-some form.entry (sym (ap (λ (bs : List Block). option_map (λ (b : Block). form.entry) (slice_get bs 0)) e) ∙ ap (option_map (λ (b : Block). form.entry)) (made_at g n (entries g n) 0 0 g.blocks 0 form.entry (entry_at g form)));
       blocks = all_from (IsFormBlock made) made.blocks (λ j b at. let r = made_from g n (entries g n) 0 0 g.blocks j b at in subst (IsFormBlock made) (sym r.2) (made_block_form j r.0 r.1));

@@ -5,6 +5,7 @@ use Rattle.std.specs.List.{filter_map, flat_map, cons_option}
 use Rattle.std.specs.Option.{option_map_or, option_and_then}
 use Rattle.std.proofs.lemmas.List.{append-nil}
 use Rattle.support.proofs.ListLaws.{all_from}
+use Rattle.kinds.specs.Held.{IsHeld}
 use Rattle.dialect_types.specs.Names.{IsPlainName}
 use Rattle.dialect_types.specs.Trees.{type_trees}
 use Rattle.dialect_core.specs.declared.numbers.OpRef.{OpRef}
@@ -15,7 +16,6 @@ use Rattle.dialect_core.specs.declared.ops.BlockData.{BlockData}
 use Rattle.dialect_core.specs.Lists.{list_at}
 use Rattle.dialect_core.specs.ContextData.{ContextData, IsSymbol, kind_at, region_at}
 use Rattle.dialect_core.specs.Data.{DialectBlock, Func, block_in, func_in, held}
-use Rattle.dialect_core.specs.Form.{IsShortInt}
 use Rattle.dialect_core.specs.WellFormed.{IsPlainAt, IsNarrowBlock, IsNarrowFunc, IsNarrow}
 use Rattle.dialect_core.specs.Checking.{block_at, func_at, tree_at}
 use Rattle.dialect_core.proofs.HoldLemmas.{stands_flat}
@@ -37,7 +37,7 @@ module _ (c : ContextData) where
   narrow_block : (b : BlockRef) → ArePlain c (list_at c.lists b) → IsNarrowBlockAt c b → IsNarrowBlock (block_at c b)
   unfolding block_at
   narrow_block b plain h = record {
-    args = all_map IsShortInt (tree_at c) (option_map_or (λ (x : BlockData). x.args) (slice_get c.blocks b.0) []) h.args;
+    args = all_map IsHeld (tree_at c) (option_map_or (λ (x : BlockData). x.args) (slice_get c.blocks b.0) []) h.args;
     ops = ops_narrow c (list_at c.lists b) plain h.ops;
     label = h.label;
   }
@@ -46,7 +46,7 @@ module _ (c : ContextData) where
   unfolding block_at
   block_narrow b plain h = record {
     label = h.label;
-    args = map_all IsShortInt (tree_at c) (option_map_or (λ (x : BlockData). x.args) (slice_get c.blocks b.0) []) h.args;
+    args = map_all IsHeld (tree_at c) (option_map_or (λ (x : BlockData). x.args) (slice_get c.blocks b.0) []) h.args;
     ops = narrow_ops c (list_at c.lists b) plain h.ops;
   }
 

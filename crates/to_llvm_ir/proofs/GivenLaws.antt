@@ -7,7 +7,6 @@ use Rattle.dialect_types.specs.Trees.{TypeTree}
 use Rattle.dialect_core.specs.declared.ops.Value.{Value}
 use Rattle.dialect_core.specs.declared.ops.Value.TheVariants.{Argument}
 use Rattle.dialect_core.specs.Data.{DialectBlock, Func}
-use Rattle.meaning.specs.Dialect.{type_of}
 use Rattle.to_llvm_ir.specs.declared.values.Values.{Values}
 use Rattle.to_llvm_ir.specs.Exported.{value_name}
 use Rattle.to_llvm_ir.specs.Made.{Numbers, number_of, phis, block_phis, block_made, blocks_made, insts, function_with, number_behind}
@@ -20,8 +19,8 @@ module _ (g : Func) (n : Numbers) (given given' : Given) (same : (v : Value) →
   phis_same b i k [] = refl
   phis_same b i k (t ∷ ts) =
       let v = Argument (record { 0 = b }) i in
-      ap (λ (es : List (Operand × ℕ)). (let p : Placed = record { number = number_of g n v; name = value_name None k; type = type_of t; instruction = L.Phi es } in p) ∷ phis g n given b (suc i) (k + 1) ts) (same v)
-      ∙ ap (λ (ps : List Placed). (let p : Placed = record { number = number_of g n v; name = value_name None k; type = type_of t; instruction = L.Phi (given' v) } in p) ∷ ps) (phis_same b (suc i) (k + 1) ts)
+      ap (λ (es : List (Operand × ℕ)). (let p : Placed = record { number = number_of g n v; name = value_name None k; type = t; instruction = L.Phi es } in p) ∷ phis g n given b (suc i) (k + 1) ts) (same v)
+      ∙ ap (λ (ps : List Placed). (let p : Placed = record { number = number_of g n v; name = value_name None k; type = t; instruction = L.Phi (given' v) } in p) ∷ ps) (phis_same b (suc i) (k + 1) ts)
 
   block_phis_same : (p k : ℕ) (c : DialectBlock) → block_phis g n given p k c ≡ block_phis g n given' p k c
   block_phis_same zero k c = refl

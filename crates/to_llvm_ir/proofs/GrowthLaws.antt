@@ -1,9 +1,9 @@
 -- What a module of LLVM keeps as it grows.
-use Rattle.std.proofs.Common.{◌≡◌, ◌<◌, ℕ, zero, suc, Bool, true, false, nat_eq, eqb-true, eq-eqb, List, [], ◌∷◌, ◌++◌, Option, Some, None, All, length, map, slice_get, refl, sym, ap, subst, ◌∙◌, arith, append_assoc, length-append}
+use Rattle.std.proofs.Common.{◌≡◌, ◌<◌, ℕ, Bool, true, false, nat_eq, eqb-true, eq-eqb, List, [], ◌∷◌, ◌++◌, Option, Some, None, All, length, map, slice_get, refl, sym, ap, ◌∙◌, arith, append_assoc, length-append}
 use Rattle.std.specs.Option.{option_map, option_map_or}
 use Rattle.std.proofs.lemmas.List.{append-nil}
 use Rattle.std.proofs.lemmas.List.Elements.{All-weaker, All-head, All-tail}
-use Rattle.std.proofs.lemmas.Option.{same_Some, slice_get_within}
+use Rattle.std.proofs.lemmas.Option.{slice_get_within}
 use Rattle.llvm_core.proofs.GrowLemmas.{param_at_kept}
 use Rattle.support.proofs.InternedLaws.{interned_more}
 use Rattle.support.specs.Changes.{with_change}
@@ -26,12 +26,13 @@ use Rattle.llvm_core.specs.declared.code.InstData.{InstData}
 use Rattle.support.specs.Interned.{Interned}
 use Rattle.llvm_core.specs.Module.{Module}
 use Rattle.llvm_core.specs.Sound.{IsModule}
-use Rattle.llvm_core.specs.Parts.{IsTypeOver, IsValue, IsPhi, is_phi, const_type, param_types, type_params, kind_params, value_type}
+use Rattle.llvm_core.specs.Parts.{IsValue, IsPhi, is_phi, const_type, param_types, type_params, value_type}
 use Rattle.llvm_core.specs.Data as L
-use Rattle.llvm_core.specs.Data.{TypeTree, TypeTrees, NoTypes, ThenType, VoidType, IntType, FunctionType, type_at, types_at, const_at, trees_of, operand_of, type_trees, const_trees, IntConst}
+use Rattle.llvm_core.specs.Data.{TypeTree, VoidType, IntType, type_at, type_tree, const_at, trees_of, operand_of, type_trees, const_trees}
 use Rattle.support.proofs.ListLaws.{slice_get-kept, item_there}
 use Rattle.llvm_core.proofs.TreeLemmas.{type_at-kept, const_trees-retyped, const_at-kept}
-use Rattle.llvm_core.proofs.DataLemmas.{int_tree_of, void_tree_of, function_tree_of}
+use Rattle.llvm_core.proofs.DataLemmas.{int_tree_of, void_tree_of, type_tree_of}
+use Rattle.llvm_core.proofs.WithinLemmas.{value_type_within}
 use Rattle.to_llvm_ir.specs.Growth.{Grows, KeepsInst, IsTypeOf, AreTypesOf, HasType}
 
 -- ---- growth
@@ -91,14 +92,14 @@ is_int_type m t w s at = (slice_get_within m.types t.0 (T.Int w) at, int_tree_of
 pub is_void_type : (m : Module) (t : LLVMType) → IsModule m → slice_get m.types t.0 ≡ Some T.Void → IsTypeOf m t VoidType
 is_void_type m t s at = (slice_get_within m.types t.0 T.Void at, void_tree_of m t s at)
 
--- the kind at a number whose tree is known
-kind_of_int : (m : Module) (t : LLVMType) (w : ℕ) (k : LLVMTypeKind) → IsModule m → slice_get m.types t.0 ≡ Some k → type_at (trees_of m).types t ≡ IntType w → k ≡ T.Int w
-kind_of_int m t w T.Void s at h = let e = void_tree_of m t s at in absurd (let none : ⊥ = cc in none)
-kind_of_int m t w (T.Int v) s at h = let e = int_tree_of m t v s at in let same : v ≡ w = cc in ap T.Int same
-kind_of_int m t w (T.Function r ps v) s at h = let e = function_tree_of m t r ps v s at in absurd (let none : ⊥ = cc in none)
+-- the kind with a tree that is known
+kind_of_int : (us : List TypeTree) (w : ℕ) (k : LLVMTypeKind) → type_tree us k ≡ IntType w → k ≡ T.Int w
+kind_of_int us w T.Void h = cc
+kind_of_int us w (T.Int v) h = let same : v ≡ w = cc in ap T.Int same
+kind_of_int us w (T.Function r ps v) h = cc
 
 pub int_at : (m : Module) (t : LLVMType) (w : ℕ) → IsModule m → IsTypeOf m t (IntType w) → slice_get m.types t.0 ≡ Some (T.Int w)
-int_at m t w s h = let k = item_there m.types t.0 h.0 in k.1 ∙ ap Some (kind_of_int m t w k.0 s k.1 h.1)
+int_at m t w s h = let k = item_there m.types t.0 h.0 in k.1 ∙ ap Some (kind_of_int (trees_of m).types w k.0 (sym (type_tree_of m t k.0 s k.1) ∙ h.1))
 
 -- ---- lists of types by number
 
@@ -161,45 +162,9 @@ value_there m (V.Param f place) t s h = by (slice_get m.functions f.0) refl h
         let count : length x.params ≡ length (type_params m.types x.ty) = (s.functions f.0 x e).params in
         rw e (omega (arith, within, count))
 
--- the type of a value that is there is one of the module's
-pub type_there : (m : Module) (v : LLVMValue) (t : LLVMType) → IsModule m → value_type m v ≡ Some t → t.0 < length m.types
-type_there m (V.Const c) t s h = by (slice_get m.consts c.0) refl h
-  where
-    kind : (k : LLVMConstKind) → slice_get m.consts c.0 ≡ Some k → (const_type k).0 < length m.types
-    kind (C.Int u v) e = let p = s.consts c.0 (C.Int u v) e in slice_get_within m.types u.0 _ p.1
-    kind (C.Placeholder number u) e = s.consts c.0 (C.Placeholder number u) e
-
-    by : (o : Option LLVMConstKind) → slice_get m.consts c.0 ≡ o → option_map const_type o ≡ Some t → t.0 < length m.types
-    by None e k = cc
-    by (Some x) e k = subst (λ (u : LLVMType). u.0 < length m.types) (same_Some (const_type x) t k) (kind x e)
-type_there m (V.Inst i) t s h = by (slice_get m.insts i.0) refl h
-  where
-    by : (o : Option InstData) → slice_get m.insts i.0 ≡ o → option_map (λ (x : InstData). x.ty) o ≡ Some t → t.0 < length m.types
-    by None e k = cc
-    by (Some x) e k = subst (λ (u : LLVMType). u.0 < length m.types) (same_Some x.ty t k) (s.insts i.0 x e).typed
-type_there m (V.Param f place) t s h = by (slice_get m.functions f.0) h
-  where
-    kind : (n : ℕ) (k : LLVMTypeKind) → n < length m.types → IsTypeOver n k → slice_get (kind_params k) place ≡ Some t → t.0 < length m.types
-    kind n T.Void small over e = cc
-    kind n (T.Int w) small over e = cc
-    kind n (T.Function r ps v) small over e = let below = at ps place over.1 e in omega (arith, small, below)
-      where
-        at : (ps : List LLVMType) (i : ℕ) → All (λ (t : LLVMType). t.0 < n) ps → slice_get ps i ≡ Some t → t.0 < n
-        at [] i all e = cc
-        at (p ∷ ps) zero all e = subst (λ (u : LLVMType). u.0 < n) (same_Some p t e) (All-head (λ (t : LLVMType). t.0 < n) p ps all)
-        at (p ∷ ps) (suc i) all e = at ps i (All-tail (λ (t : LLVMType). t.0 < n) p ps all) e
-
-    of_type : (ty : LLVMType) (o : Option LLVMTypeKind) → slice_get m.types ty.0 ≡ o → slice_get (option_map_or kind_params o []) place ≡ Some t → t.0 < length m.types
-    of_type ty None e k = cc
-    of_type ty (Some x) e k = kind ty.0 x (slice_get_within m.types ty.0 x e) (s.types ty.0 x e) k
-
-    by : (o : Option FunctionData) → slice_get (option_map_or (param_types m) o []) place ≡ Some t → t.0 < length m.types
-    by None k = cc
-    by (Some x) k = of_type x.ty (slice_get m.types x.ty.0) refl k
-
 pub has_type_kept : (old new : Module) (v : LLVMValue) (tree : TypeTree) → IsModule old → Grows old new → HasType old v tree → HasType new v tree
 has_type_kept old new v tree s g h =
-    (h.0, value_type_kept old new v h.0 g h.1, (type_kept old new h.0 tree g (type_there old v h.0 s h.1, h.2)).1)
+    (h.0, value_type_kept old new v h.0 g h.1, (type_kept old new h.0 tree g (value_type_within old v h.0 s (value_there old v h.0 s h.1) h.1, h.2)).1)
 
 -- what a value names stays
 pub operand_kept : (old new : Module) (v : LLVMValue) (t : LLVMType) → IsModule old → Grows old new → value_type old v ≡ Some t → operand_of (trees_of new) v ≡ operand_of (trees_of old) v

@@ -21,7 +21,7 @@ use Rattle.dialect_core.specs.declared.ops.Value.TheVariants.{Result, Argument}
 use Rattle.dialect_core.specs.ContextData.{ContextData}
 use Rattle.dialect_core.specs.Data.{DialectOp, DialectBlock, Func, value_type}
 use Rattle.dialect_core.specs.Form.{StandsBefore, ops_before}
-use Rattle.meaning.specs.Dialect.{type_of, same_value}
+use Rattle.meaning.specs.Dialect.{same_value}
 use Rattle.meaning.proofs.SameValues.{same_value-Decides}
 use Rattle.to_llvm_ir.specs.declared.values.Values.{Values}
 use Rattle.to_llvm_ir.specs.Exported.{result, arguments_of}
@@ -129,7 +129,7 @@ pub one_known : (g : Func) (n : Numbers) (values values' : Values) (m m' : Modul
 one_known g n values values' m m' v type s grows same h = record {
   value = h.value;
   found = same ∙ h.found;
-  typed = has_type_kept m m' h.value (type_of type) s grows h.typed;
+  typed = has_type_kept m m' h.value type s grows h.typed;
   stands = operand_kept m m' h.value h.typed.0 s grows h.typed.1 ∙ h.stands;
   phi = λ i e a. phi_kept m m' i grows (h.phi i e a);
 }
@@ -160,7 +160,7 @@ known_void g n seen values m m' v s grows none h = record {
 
 -- what is new of a value
 pub record IsNew (g : Func) (n : Numbers) (m : Module) (v : Value) (x : LLVMValue) (type : TypeTree) : Type 0 where
-  pub typed : HasType m x (type_of type)
+  pub typed : HasType m x type
   pub stands : operand_of (trees_of m) x ≡ operand_for g n v
   pub phi : (i : LLVMInstRef) → x ≡ V.Inst i → IsArgument v → IsPhi m.insts i
 
@@ -190,7 +190,7 @@ known_set g n seen values values' m m' v x type s grows typed set new h = record
         record {
           value = x;
           found = set_same (found values) (found values') v w x set same;
-          typed = subst (λ (u : TypeTree). HasType m' x (type_of u)) type_is new.typed;
+          typed = subst (λ (u : TypeTree). HasType m' x u) type_is new.typed;
           stands = new.stands ∙ ap (operand_for g n) e;
           phi = λ i f a. new.phi i f (subst IsArgument (sym e) a);
         }

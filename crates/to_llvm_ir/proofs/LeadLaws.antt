@@ -10,7 +10,7 @@ use Rattle.dialect_core.specs.declared.ops.Successor.{Successor}
 use Rattle.dialect_core.specs.ContextData.{ContextData}
 use Rattle.dialect_core.specs.Rules.{IsEdge}
 use Rattle.dialect_core.specs.Data.{value_type}
-use Rattle.dialect_core.specs.Form.{IsShortValue}
+use Rattle.dialect_core.specs.Form.{IsHeldValue}
 use Rattle.to_llvm_ir.specs.Order.{StandsBeforeIn}
 use Rattle.to_llvm_ir.specs.declared.values.Values.{Values}
 use Rattle.to_llvm_ir.specs.declared.blocks.Blocks.{Blocks}
@@ -29,13 +29,13 @@ spot_edge c op s l e h at = all_at (IsEdge (value_type s.task.source) s.task.sou
 pub operand_as : (c : ContextData) (op : OpRef) (s : Spot) (i : ℕ) (xs : List Value) (d : Value) → IsSpot c op s → s.op.operands ≡ xs → i < length xs → (type : TypeTree) × IsUsed s (get_or xs i d) type
 operand_as c op s i xs d h are lt =
     let there : slice_get s.op.operands i ≡ Some (get_or xs i d) = ap (λ (ys : List Value). slice_get ys i) are ∙ slice_get-get_or xs i d lt in
-    let typed = all_at (IsShortValue s.task.source) s.op.operands i (get_or xs i d) (spot_form c op s h).operands there in
+    let typed = all_at (IsHeldValue s.task.source) s.op.operands i (get_or xs i d) (spot_form c op s h).operands there in
     (typed.0, operand_used s i (get_or xs i d) typed.0 there typed.1.typed)
 
 used_at : (c : ContextData) (op : OpRef) (s : Spot) (vs : List Value) → IsSpot c op s → s.op.operands ≡ vs → (i : ℕ) (v : Value) → slice_get vs i ≡ Some v → (type : TypeTree) × IsUsed s v type
 used_at c op s vs h are i v at =
     let there : slice_get s.op.operands i ≡ Some v = ap (λ (ys : List Value). slice_get ys i) are ∙ at in
-    let typed = all_at (IsShortValue s.task.source) s.op.operands i v (spot_form c op s h).operands there in
+    let typed = all_at (IsHeldValue s.task.source) s.op.operands i v (spot_form c op s h).operands there in
     (typed.0, operand_used s i v typed.0 there typed.1.typed)
 
 -- what is found for each of some values that the operation uses
@@ -64,8 +64,8 @@ edge_at s xs i e are lt is = ap (λ (ys : List Successor). slice_get ys i) are �
 pub passed_as : (c : ContextData) (op : OpRef) (s : Spot) (l i : ℕ) (e : Successor) (xs : List Value) (d : Value) → IsSpot c op s → slice_get s.op.successors l ≡ Some e → xs ≡ e.args → i < length xs → (type : TypeTree) × IsUsed s (get_or xs i d) type
 passed_as c op s l i e xs d h at are lt =
     let there : slice_get e.args i ≡ Some (get_or xs i d) = ap (λ (ys : List Value). slice_get ys i) (sym are) ∙ slice_get-get_or xs i d lt in
-    let passed = all_at (λ (e : Successor). All (IsShortValue s.task.source) e.args) s.op.successors l e (spot_form c op s h).passed at in
-    let typed = all_at (IsShortValue s.task.source) e.args i (get_or xs i d) passed there in
+    let passed = all_at (λ (e : Successor). All (IsHeldValue s.task.source) e.args) s.op.successors l e (spot_form c op s h).passed at in
+    let typed = all_at (IsHeldValue s.task.source) e.args i (get_or xs i d) passed there in
     (typed.0, passed_used s l i e (get_or xs i d) typed.0 at there typed.1.typed)
 
 pub lead_is : (c : ContextData) (op : OpRef) (s : Spot) (values : Values) (m : Module) (blocks : Blocks) (e : Successor) (x : Target) → IsNext c op s values m → AreAllMapped s.task blocks → found_block blocks e.block ≡ Some x → All (StandsBeforeIn s.task.numbers.order s.task.source s.place s.at) e.args → IsLead s m e x.block

@@ -3,6 +3,7 @@ use Rattle.std.proofs.Common.{◌≡◌, ◌<◌, ℕ, suc, Bool, true, false, n
 use Rattle.std.specs.Prelude.{IsTrue, IfSome, ◌↔◌}
 use Rattle.std.specs.Option.{option_map, option_and_then}
 use Rattle.std.proofs.lemmas.Option.{none-some, same_Some}
+use Rattle.kinds.specs.Held.{IsHeld, IsHeldSignature}
 use Rattle.dialect_types.specs.declared.types.TypeHandle.{TypeHandle}
 use Rattle.dialect_types.specs.Names.{IsPlainName}
 use Rattle.dialect_core.specs.declared.numbers.OpRef.{OpRef}
@@ -15,8 +16,6 @@ use Rattle.dialect_core.specs.declared.ops.BlockData.{BlockData}
 use Rattle.dialect_core.specs.Lists.{from_op}
 use Rattle.dialect_core.specs.ContextData.{ContextData, symbol_at}
 use Rattle.dialect_core.specs.Data.{IsTyped}
-use Rattle.dialect_core.specs.Form.{IsShortInt}
-use Rattle.dialect_core.specs.WellFormed.{IsNarrowSignature}
 use Rattle.dialect_core.specs.Checking.{tree_at}
 use Rattle.dialect_core.proofs.TestLemmas.{never}
 use Rattle.dialect_core.proofs.OpTestLemmas.{func_type}
@@ -38,9 +37,9 @@ result_typed c o r t typed h is = by (slice_get c.ops o.0) refl h
     by (Some x) at e = subst (λ (r : Option TypeHandle). IfSome r (λ (t : TypeHandle). t.0 < length c.types)) (same_Some x.result r e ∙ is) (typed.ops o.0 x at).result
 
 -- a block with an argument that is not of 1 to 64 bits
-pub block_wide : (c : ContextData) (b : BlockRef) (args : List TypeHandle) → option_map (λ (x : BlockData). x.args) (slice_get c.blocks b.0) ≡ Some args → (All (λ (t : TypeHandle). IsShortInt (tree_at c t)) args → ⊥) → IsNarrowBlockAt c b → ⊥
+pub block_wide : (c : ContextData) (b : BlockRef) (args : List TypeHandle) → option_map (λ (x : BlockData). x.args) (slice_get c.blocks b.0) ≡ Some args → (All (λ (t : TypeHandle). IsHeld (tree_at c t)) args → ⊥) → IsNarrowBlockAt c b → ⊥
 block_wide c b args are wide h =
-    let P : List TypeHandle → Type 0 = All (λ (t : TypeHandle). IsShortInt (tree_at c t)) in
+    let P : List TypeHandle → Type 0 = All (λ (t : TypeHandle). IsHeld (tree_at c t)) in
     wide (subst P (known (λ (x : BlockData). x.args) (slice_get c.blocks b.0) args are) h.args)
 
 -- no blocks are those of a narrow function
@@ -54,14 +53,14 @@ blocks_narrow c (entry ∷ more) t some h = h
 
 -- a function by its name, its linkage and its type
 pub head_is : (c : ContextData) (f : OpRef) (name : Option (List ℕ)) (l : LinkageAttr) (ty : TypeHandle) (t : Bool) → option_map (λ (x : OpData). x.name) (slice_get c.ops f.0) ≡ Some name → IfSome name IsPlainName → option_map (λ (s : Symbol). s.linkage) (symbol_at c.ops f) ≡ Some l → l ≡ ExternalLinkage
-    → option_map (λ (s : Symbol). s.ty) (symbol_at c.ops f) ≡ Some ty → (IsTrue t ↔ IsNarrowSignature (tree_at c ty)) → IsTrue t ↔ IsNarrowHead c f
+    → option_map (λ (s : Symbol). s.ty) (symbol_at c.ops f) ≡ Some ty → (IsTrue t ↔ IsHeldSignature (tree_at c ty)) → IsTrue t ↔ IsNarrowHead c f
 head_is c f name l ty t given plain linkage external type h = (
   λ w. record {
     name = subst (λ (n : Option (List ℕ)). IfSome n IsPlainName) (sym (has_known (λ (x : OpData). x.name) (slice_get c.ops f.0) name given)) plain;
     linkage = func_linkage c f l linkage ∙ external;
-    signature = subst IsNarrowSignature (sym (func_type c f ty type)) (h.0 w);
+    signature = subst IsHeldSignature (sym (func_type c f ty type)) (h.0 w);
   },
-  λ w. h.1 (subst IsNarrowSignature (func_type c f ty type) w.signature),
+  λ w. h.1 (subst IsHeldSignature (func_type c f ty type) w.signature),
 )
 
 -- an operation that something begins with stands there

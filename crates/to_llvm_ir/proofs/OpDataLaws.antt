@@ -5,13 +5,13 @@ use Rattle.std.specs.List.{filter_map, cons_option}
 use Rattle.std.specs.Option.{option_map, option_and_then}
 use Rattle.std.proofs.lemmas.Option.{none-some, same_Some}
 use Rattle.std.proofs.lemmas.List.Elements.{All-head, All-tail, All-nil, All-cons}
+use Rattle.kinds.specs.Held.{IsHeld}
 use Rattle.dialect_types.specs.Names.{IsPlainName}
 use Rattle.dialect_types.specs.Trees.{TypeTree, type_at, type_trees}
 use Rattle.dialect_core.specs.declared.numbers.OpRef.{OpRef}
 use Rattle.dialect_core.specs.declared.ops.OpData.{OpData}
 use Rattle.dialect_core.specs.ContextData.{ContextData}
 use Rattle.dialect_core.specs.Data.{Kind, DialectOp, kind_of, op_of, op_at}
-use Rattle.dialect_core.specs.Form.{IsShortInt}
 use Rattle.dialect_core.specs.WellFormed.{IsPlainAt, IsNarrowOp}
 use Rattle.dialect_core.specs.Checking.{tree_at}
 use Rattle.dialect_core.proofs.LineLemmas.{plain_op}
@@ -48,9 +48,9 @@ if_made f P (Some x) = (λ h. h, λ h. h)
 
 narrow_op : (c : ContextData) (o : OpRef) (d : DialectOp) → Parts c o d → IsNarrowAt c o ↔ IsNarrowOp d
 narrow_op c o d p =
-    let made = if_made (tree_at c) IsShortInt (option_and_then (λ (x : OpData). x.result) (slice_get c.ops o.0)) in (
-      λ h. record { result = subst (λ (r : Option TypeTree). IfSome r IsShortInt) (sym p.result) (made.0 h.result); name = subst (λ (n : Option (List ℕ)). IfSome n IsPlainName) (sym p.name) h.name },
-      λ h. record { result = made.1 (subst (λ (r : Option TypeTree). IfSome r IsShortInt) p.result h.result); name = subst (λ (n : Option (List ℕ)). IfSome n IsPlainName) p.name h.name },
+    let made = if_made (tree_at c) IsHeld (option_and_then (λ (x : OpData). x.result) (slice_get c.ops o.0)) in (
+      λ h. record { result = subst (λ (r : Option TypeTree). IfSome r IsHeld) (sym p.result) (made.0 h.result); name = subst (λ (n : Option (List ℕ)). IfSome n IsPlainName) (sym p.name) h.name },
+      λ h. record { result = made.1 (subst (λ (r : Option TypeTree). IfSome r IsHeld) p.result h.result); name = subst (λ (n : Option (List ℕ)). IfSome n IsPlainName) p.name h.name },
     )
 
 -- ---- the operations of a block

@@ -14,10 +14,12 @@ use Rattle.llvm_core.specs.Sound.{IsModule}
 use Rattle.llvm_core.specs.Parts.{IsValue}
 use Rattle.llvm_core.specs.Data as L
 use Rattle.llvm_core.specs.Data.{trees_of, operand_of}
+use Rattle.kinds.specs.Held.{IsHeld}
+use Rattle.kinds.proofs.HeldLaws.{int_held}
 use Rattle.dialect_types.specs.declared.types.TypeHandle.{TypeHandle}
 use Rattle.dialect_types.specs.declared.attrs.ConstAttr.{ConstAttr}
 use Rattle.dialect_types.specs.declared.attrs.ConstAttr.TheVariants as A
-use Rattle.dialect_types.specs.Trees.{TypeTree, VoidType, IntType, FunctionType, IntegerAttr, type_at, type_trees, attr_tree}
+use Rattle.dialect_types.specs.Trees.{TypeTree, IntegerAttr, type_at, type_trees, attr_tree}
 use Rattle.dialect_core.specs.declared.numbers.OpRef.{OpRef}
 use Rattle.dialect_core.specs.declared.ops.Value.{Value}
 use Rattle.dialect_core.specs.declared.ops.Successor.{Successor}
@@ -26,9 +28,8 @@ use Rattle.dialect_core.specs.declared.ops.OpKind.TheVariants as K
 use Rattle.dialect_core.specs.declared.ops.OpData.{OpData}
 use Rattle.dialect_core.specs.ContextData.{ContextData, kind_at}
 use Rattle.dialect_core.specs.Data.{HasKindTypesBelow, IsTyped, Kind, ConstantOp, RowOp, DialectOp, kind_of, op_of, op_at, value_type}
-use Rattle.dialect_core.specs.Rules.{IsOfKind}
-use Rattle.dialect_core.specs.Form.{IsShortInt, IsFitting, IsFormOp, is_constant, is_constant_kind}
-use Rattle.meaning.specs.Dialect.{type_of}
+use Rattle.dialect_core.specs.Rules.{IsOfKind, IsIntegerOf}
+use Rattle.dialect_core.specs.Form.{IsFormOp, is_constant, is_constant_kind}
 use Rattle.to_llvm_ir.specs.Growth.{HasType, IsTypeOf}
 use Rattle.to_llvm_ir.specs.Exported.{result}
 use Rattle.to_llvm_ir.specs.States.{Spot, IsSpot, IsUsed}
@@ -133,10 +134,7 @@ typed_there m x tree s h = value_there m x h.0 s h.1
 pub record ConstantParts (o : DialectOp) (type : TypeTree) (value : ℕ) : Type 0 where
   pub kind : o.kind ≡ ConstantOp (IntegerAttr type value)
   pub constant : is_constant o ≡ true
-  pub width : ℕ
-  pub type_is : type ≡ IntType width
-  pub short : IsShortInt type
-  pub fits : value < 2 ^ width
+  pub integer : IsIntegerOf type value
   pub result : o.result ≡ Some type
   pub operands : o.operands ≡ []
   pub successors : o.successors ≡ []
@@ -145,13 +143,11 @@ pub constant_parts : (c : ContextData) (op : OpRef) (s : Spot) (value : ConstAtt
 constant_parts c op s value ty n h at value_is =
     let ts = type_trees c.types in
     let k = spot_kind c op s (K.Constant value) (ConstantOp (IntegerAttr (type_at ts ty) n)) h at (ap (λ (v : ConstAttr). Some (ConstantOp (attr_tree ts v))) value_is) in
-    let width = wide (type_at ts ty) k.1.short k.1.fitting in
-    record { kind = k.0; constant = ap is_constant_kind k.0; width = width.0; type_is = width.1; short = k.1.short; fits = width.2; result = k.1.result; operands = k.1.bare; successors = k.1.ends_here }
-  where
-    wide : (type : TypeTree) → IsShortInt type → IsFitting type n → (w : ℕ) × (type ≡ IntType w) × (n < 2 ^ w)
-    wide VoidType short fits = absurd short
-    wide (IntType w) short fits = (w, refl, fits)
-    wide (FunctionType r ps v) short fits = absurd short
+    record { kind = k.0; constant = ap is_constant_kind k.0; integer = k.1.integer; result = k.1.result; operands = k.1.bare; successors = k.1.ends_here }
+
+-- and its type is translated
+pub constant_held : (o : DialectOp) (type : TypeTree) (value : ℕ) → ConstantParts o type value → IsHeld type
+constant_held o type value parts = let h = parts.integer in subst IsHeld (sym h.1) (int_held h.0 h.2)
 
 -- the number of its type is there
 pub constant_type_there : (c : ContextData) (op : OpRef) (value : ConstAttr) (ty : TypeHandle) (n : ℕ) → IsTyped c → kind_at c.ops op ≡ Some (K.Constant value) → value ≡ A.Integer ty n → ty.0 < length c.types
@@ -164,9 +160,10 @@ constant_type_there c op value ty n typed at value_is = by (slice_get c.ops op.0
         subst (HasKindTypesBelow (length c.types)) kind (typed.ops op.0 x e).kind
 
 -- the constant of LLVM fits its type
-pub constant_fits : (m : Module) (o : DialectOp) (type : TypeTree) (value from : ℕ) (ty : LLVMType) → IsModule m → ConstantParts o type value → IsTypeOf m ty (type_of type) → from ≡ value → (w : ℕ) × (slice_get m.types ty.0 ≡ Some (T.Int w)) × (from < 2 ^ w)
+pub constant_fits : (m : Module) (o : DialectOp) (type : TypeTree) (value from : ℕ) (ty : LLVMType) → IsModule m → ConstantParts o type value → IsTypeOf m ty type → from ≡ value → (w : ℕ) × (slice_get m.types ty.0 ≡ Some (T.Int w)) × (from < 2 ^ w)
 constant_fits m o type value from ty s parts ty_is from_is =
-    (parts.width, int_at m ty parts.width s (subst (λ (x : TypeTree). IsTypeOf m ty (type_of x)) parts.type_is ty_is), subst (λ (n : ℕ). n < 2 ^ parts.width) (sym from_is) parts.fits)
+    let h = parts.integer in
+    (h.0, int_at m ty h.0 s (subst (IsTypeOf m ty) h.1 ty_is), subst (λ (n : ℕ). n < 2 ^ h.0) (sym from_is) h.3)
 
 -- ---- results
 
@@ -178,11 +175,11 @@ result_there c op r t typed at is = by (slice_get c.ops op.0) refl at
     by None e f = absurd (none-some r f)
     by (Some x) e f = subst (λ (o : Option TypeHandle). IfSome o (λ (t : TypeHandle). t.0 < length c.types)) (same_Some x.result r f ∙ is) (typed.ops op.0 x e).result
 
--- and the type is of 1 to 64 bits
-pub result_short : (c : ContextData) (op : OpRef) (s : Spot) (r : Option TypeHandle) (t : TypeHandle) → IsSpot c op s → option_map (λ (x : OpData). x.result) (slice_get c.ops op.0) ≡ Some r → r ≡ Some t → (s.op.result ≡ Some (type_at (type_trees c.types) t)) × IsShortInt (type_at (type_trees c.types) t)
-result_short c op s r t h at is =
+-- and the type is translated
+pub result_held : (c : ContextData) (op : OpRef) (s : Spot) (r : Option TypeHandle) (t : TypeHandle) → IsSpot c op s → option_map (λ (x : OpData). x.result) (slice_get c.ops op.0) ≡ Some r → r ≡ Some t → (s.op.result ≡ Some (type_at (type_trees c.types) t)) × IsHeld (type_at (type_trees c.types) t)
+result_held c op s r t h at is =
     let e = result_is (type_trees c.types) c.ops op s.op r (spot_parts c op s h) at ∙ ap (option_map (type_at (type_trees c.types))) is in
-    (e, subst (λ (o : Option TypeTree). IfSome o IsShortInt) e (spot_form c op s h).result)
+    (e, subst (λ (o : Option TypeTree). IfSome o IsHeld) e (spot_form c op s h).result)
 
 -- ---- which kinds are operations of a block
 

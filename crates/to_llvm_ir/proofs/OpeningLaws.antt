@@ -21,13 +21,13 @@ use Rattle.llvm_core.specs.Parts.{type_params, param_types, kind_params}
 use Rattle.llvm_core.specs.Data as L
 use Rattle.llvm_core.specs.Data.{Function, Block, ModuleData, trees_of, function_of, data_of, with_function, with_block}
 use Rattle.llvm_core.proofs.ChangeLemmas.{slice_get-changed}
-use Rattle.llvm_core.proofs.DataLemmas.{function_tree_of, void_tree_of, int_tree_of}
+use Rattle.llvm_core.proofs.DataLemmas.{type_tree_of}
+use Rattle.kinds.specs.Types.{types_list, takes_of}
 use Rattle.dialect_types.specs.Trees.{TypeTree, TypeTrees, NoTypes, ThenType}
 use Rattle.dialect_core.specs.declared.numbers.BlockRef.{BlockRef}
 use Rattle.dialect_core.specs.ContextData.{ContextData}
 use Rattle.dialect_core.specs.Data.{DialectBlock, Func}
-use Rattle.dialect_core.specs.Form.{IsFormFunc, types_list}
-use Rattle.meaning.specs.Dialect.{type_of}
+use Rattle.dialect_core.specs.Form.{IsFormFunc}
 use Rattle.to_llvm_ir.specs.declared.blocks.Blocks.{Blocks}
 use Rattle.to_llvm_ir.specs.declared.blocks.Target.{Target}
 use Rattle.to_llvm_ir.specs.Exported.{block_name}
@@ -148,7 +148,7 @@ opening_more x t i c b f ty old new m m' target place name h s place_is name_is 
           ∙ ap (λ (q : ℕ). front ++ empty_block t.source t.numbers q c ∷ []) (let e : 0 + length (take i t.source.blocks) ≡ i = omega (arith, len) in e)));
       sound = sound;
       number = s.number;
-      function = function_kept m m' f target name ty (type_of t.source.type) is s.function;
+      function = function_kept m m' f target name ty t.source.type is s.function;
       block_count = let e = ap (λ (y : Module). length y.blocks) is in let k = length_push m.blocks (record { name = name; function = f; insts = [] }) in let l = s.block_count in omega (arith, e, k, l);
       inst_count = ap (λ (y : Module). length y.insts) is ∙ s.inst_count;
       mapped = mapped_more x t i c b old new (record { block = target; place = place }) h s.mapped set place_is number;
@@ -156,25 +156,25 @@ opening_more x t i c b f ty old new m m' target place name h s place_is name_is 
 
 -- ---- the parameters of the function
 
-kind_of_function : (m : Module) (t : LLVMType) (k : LLVMTypeKind) (r : L.TypeTree) (ps : L.TypeTrees) (v : Bool) → IsModule m → slice_get m.types t.0 ≡ Some k → L.type_at (trees_of m).types t ≡ L.FunctionType r ps v → L.types_at (trees_of m).types (kind_params k) ≡ ps
-kind_of_function m t T.Void r ps v s at h = let e = void_tree_of m t s at in absurd (let none : ⊥ = cc in none)
-kind_of_function m t (T.Int w) r ps v s at h = let e = int_tree_of m t w s at in absurd (let none : ⊥ = cc in none)
-kind_of_function m t (T.Function result params variadic) r ps v s at h = let e = function_tree_of m t result params variadic s at in let same : L.types_at (trees_of m).types params ≡ ps = cc in same
+kind_takes : (us : List L.TypeTree) (k : LLVMTypeKind) → L.types_at us (kind_params k) ≡ takes_of (L.type_tree us k)
+kind_takes us T.Void = refl
+kind_takes us (T.Int w) = refl
+kind_takes us (T.Function result params variadic) = refl
 
 pub params_are : (m : Module) (t : LLVMType) (r : L.TypeTree) (ps : L.TypeTrees) (v : Bool) → IsModule m → t.0 < length m.types → L.type_at (trees_of m).types t ≡ L.FunctionType r ps v → L.types_at (trees_of m).types (type_params m.types t) ≡ ps
 params_are m t r ps v s within h =
     let k = item_there m.types t.0 within in
-    ap (λ (o : Option LLVMTypeKind). L.types_at (trees_of m).types (option_map_or kind_params o [])) k.1 ∙ kind_of_function m t k.0 r ps v s k.1 h
+    ap (λ (o : Option LLVMTypeKind). L.types_at (trees_of m).types (option_map_or kind_params o [])) k.1 ∙ kind_takes (trees_of m).types k.0 ∙ ap takes_of (sym (type_tree_of m t k.0 s k.1) ∙ h)
 
 -- the parameter at the place of an argument
-param_at : (us : List L.TypeTree) (ps : List LLVMType) (ts : TypeTrees) (i : ℕ) (type : TypeTree) → L.types_at us ps ≡ ts → slice_get (types_list ts) i ≡ Some type → (t : LLVMType) × (slice_get ps i ≡ Some t) × (L.type_at us t ≡ type_of type)
+param_at : (us : List L.TypeTree) (ps : List LLVMType) (ts : TypeTrees) (i : ℕ) (type : TypeTree) → L.types_at us ps ≡ ts → slice_get (types_list ts) i ≡ Some type → (t : LLVMType) × (slice_get ps i ≡ Some t) × (L.type_at us t ≡ type)
 param_at us [] NoTypes i type e at = absurd (none-some type at)
 param_at us [] (ThenType t ts) i type e at = cc
 param_at us (p ∷ ps) NoTypes i type e at = cc
 param_at us (p ∷ ps) (ThenType t ts) zero type e at =
     let same : t ≡ type = same_Some t type at in
-    let here : L.type_at us p ≡ type_of t = cc in
-    (p, refl, here ∙ ap type_of same)
+    let here : L.type_at us p ≡ t = cc in
+    (p, refl, here ∙ same)
 param_at us (p ∷ ps) (ThenType t ts) (suc i) type e at =
     let rest : L.types_at us ps ≡ ts = cc in
     param_at us ps ts i type rest at
@@ -187,13 +187,13 @@ names_are us (p ∷ ps) NoTypes e = cc
 names_are us (p ∷ ps) (ThenType t ts) e = let rest : L.types_at us ps ≡ ts = cc in ap (λ (ns : List (List ℕ)). [] ∷ ns) (names_are us ps ts rest)
 
 -- the parameters have the types of the entry's arguments
-pub has_params : (t : Task) (form : IsFormFunc t.source) (c : DialectBlock) (f : LLVMFunction) (ty : LLVMType) (m : Module) → slice_get t.source.blocks 0 ≡ Some c → IsModule m → f.0 ≡ t.numbers.function → HasFunction f ty (type_of t.source.type) m → HasParams t c f m
+pub has_params : (t : Task) (form : IsFormFunc t.source) (c : DialectBlock) (f : LLVMFunction) (ty : LLVMType) (m : Module) → slice_get t.source.blocks 0 ≡ Some c → IsModule m → f.0 ≡ t.numbers.function → HasFunction f ty t.source.type m → HasParams t c f m
 has_params t form c f ty m at s number h = record {
   number = number;
   typed = λ i type has.
       let entry : c ≡ form.entry = same_Some c form.entry (sym at ∙ entry_at t.source form) in
-      let tree : L.type_at (trees_of m).types ty ≡ L.FunctionType (type_of form.result) form.types false = h.typed.1 ∙ ap type_of form.type in
-      let params = params_are m ty (type_of form.result) form.types false s h.typed.0 tree in
+      let tree : L.type_at (trees_of m).types ty ≡ L.FunctionType form.result form.types false = h.typed.1 ∙ form.type in
+      let params = params_are m ty form.result form.types false s h.typed.0 tree in
       let there : slice_get (types_list form.types) i ≡ Some type = ap (λ (ts : List TypeTree). slice_get ts i) (sym form.params) ∙ ap (λ (d : DialectBlock). slice_get d.args i) (sym entry) ∙ has in
       let p = param_at (trees_of m).types (type_params m.types ty) form.types i type params there in (
         p.0,

@@ -19,7 +19,6 @@ use Rattle.dialect_core.specs.declared.ops.Successor.{Successor}
 use Rattle.dialect_core.specs.Data.{DialectOp, DialectBlock, Func, Kind, ConstantOp, RowOp}
 use Rattle.dialect_core.specs.Form.{IsFormFunc, FitsTarget, edges_of, is_constant, is_constant_kind}
 use Rattle.meaning.specs.Pairs.{BothOrNone}
-use Rattle.meaning.specs.Dialect.{type_of}
 use Rattle.to_llvm_ir.specs.Exported.{phi_types, edge_sources, blocks_by, HasEdges, HasPhis}
 use Rattle.to_llvm_ir.specs.Made.{Numbers, operand_for, instruction_for, inst, insts, phis, block_phis, block_made, function_made, entries, number_past, number_after}
 use Rattle.to_llvm_ir.specs.Accepted.{IsAccepted}
@@ -76,9 +75,9 @@ module _ (g : Func) (n : Numbers) where
     block_phis_phi zero k c = All-nil (λ (p : Placed). is_phi p ≡ true)
     block_phis_phi (suc p) k c = phis_phi c.number 0 k c.args
 
-    phis_types : (b i k : ℕ) (ts : List TypeTree) → map (λ (p : Placed). p.type) (phis g n given b i k ts) ≡ map type_of ts
+    phis_types : (b i k : ℕ) (ts : List TypeTree) → map (λ (p : Placed). p.type) (phis g n given b i k ts) ≡ ts
     phis_types b i k [] = refl
-    phis_types b i k (t ∷ ts) = ap (λ (us : List L.TypeTree). type_of t ∷ us) (phis_types b (suc i) (k + 1) ts)
+    phis_types b i k (t ∷ ts) = ap (λ (us : List L.TypeTree). t ∷ us) (phis_types b (suc i) (k + 1) ts)
 
     block_phis_types : (p k : ℕ) (c : DialectBlock) → map (λ (p : Placed). p.type) (block_phis g n given p k c) ≡ phi_types p c.args
     block_phis_types zero k c = refl

@@ -1,15 +1,17 @@
 -- The instructions of the function that is made: one for each value, in order.
-use Rattle.std.proofs.Common.{◌≡◌, ◌+◌, ℕ, zero, suc, Bool, true, false, not, nat_eq, if◌then◌else◌, List, [], ◌∷◌, ◌++◌, Option, Some, length, map, slice_get, refl, sym, ap, subst, ◌∙◌, arith, eq-eqb}
+use Rattle.std.proofs.Common.{◌≡◌, ◌<◌, ◌+◌, ◌^◌, ℕ, zero, suc, Bool, true, false, not, nat_eq, if◌then◌else◌, List, [], ◌∷◌, ◌++◌, Option, Some, length, map, slice_get, refl, sym, ap, subst, ◌∙◌, arith, eq-eqb}
 use Rattle.std.specs.List.{flat_map}
 use Rattle.std.specs.Option.{option_map_or}
 use Rattle.std.proofs.lemmas.Option.{same_Some, none-some, slice_get_within}
 use Rattle.std.proofs.lemmas.Bool.{cond-true, cond-false}
 use Rattle.std.proofs.lemmas.List.{length-map}
+use Rattle.kinds.specs.Types.{types_list, count_types}
+use Rattle.kinds.specs.Held.{width_in, IsShortWidth}
 use Rattle.meaning.proofs.MatchedLaws.{matched_append}
 use Rattle.llvm_core.specs.Data as L
 use Rattle.llvm_core.specs.Data.{Operand, Placed, Block, Function, placed_in, operand_type}
 use Rattle.llvm_core.specs.Form as F
-use Rattle.dialect_types.specs.Trees.{TypeTree, TypeTrees, VoidType, IntType, FunctionType, NoTypes, ThenType, AttrTree, IntegerAttr}
+use Rattle.dialect_types.specs.Trees.{TypeTree, TypeTrees, IntType, NoTypes, ThenType, AttrTree, IntegerAttr}
 use Rattle.block_order.specs.Order.{IsOrder}
 use Rattle.dialect_core.specs.declared.numbers.BlockRef.{BlockRef}
 use Rattle.dialect_core.specs.declared.numbers.OpRef.{OpRef}
@@ -17,9 +19,9 @@ use Rattle.dialect_core.specs.declared.ops.Value.{Value}
 use Rattle.dialect_core.specs.declared.ops.Value.TheVariants.{Result, Argument}
 use Rattle.dialect_core.specs.Data.{DialectOp, DialectBlock, Func, Kind, ConstantOp, RowOp, value_type}
 use Rattle.dialect_core.specs.Rules.{IsOfKind}
-use Rattle.dialect_core.specs.Form.{IsFormFunc, IsShortInt, IsFitting, IsOperand, is_constant, is_constant_kind, others_of, types_list}
+use Rattle.dialect_core.specs.Form.{IsFormFunc, IsOperand, is_constant, is_constant_kind, others_of}
 use Rattle.meaning.specs.Pairs.{Matched}
-use Rattle.meaning.specs.Dialect.{type_of, option_type}
+use Rattle.meaning.specs.Dialect.{option_type}
 use Rattle.to_llvm_ir.specs.Exported.{result, arguments_from, phi_values}
 use Rattle.to_llvm_ir.specs.Made.{Numbers, result_values, values_from, values, values_by, const_of, constant_or, is_entry, number_of, operand_for, inst, insts, phis, block_phis, block_made, blocks_made, function_made, entry_args, number_after, number_behind}
 use Rattle.to_llvm_ir.proofs.ListLaws.{AreNumbered, find_numbered}
@@ -43,10 +45,9 @@ matched_back P (x ∷ xs) (z ∷ ys) (suc i) y m at = matched_back P xs ys i y m
 
 -- ---- types
 
-pub short_int : (t : TypeTree) → IsShortInt t → F.IsShortInt t
-short_int VoidType h = absurd h
-short_int (IntType w) h = h
-short_int (FunctionType r ps v) h = absurd h
+pub types_count : (ts : TypeTrees) → count_types ts ≡ length (types_list ts)
+types_count NoTypes = refl
+types_count (ThenType t ts) = let e = types_count ts in omega (arith, e)
 
 -- ---- the instruction of a value
 
@@ -130,15 +131,15 @@ module _ (g : Func) (form : IsFormFunc g) (n : Numbers) (order : IsOrder (length
   pub params_count : length made.params ≡ length form.entry.args
   params_count = length-map (entry_args g n) (λ (t : TypeTree). let none : List ℕ = [] in none) ∙ ap (λ (o : Option DialectBlock). length (option_map_or (λ (c : DialectBlock). c.args) o [])) (entry_at g form)
 
-  nth_is : (ts : TypeTrees) (i : ℕ) (t : TypeTree) → slice_get (types_list ts) i ≡ Some t → L.nth_type ts i ≡ type_of t
+  nth_is : (ts : TypeTrees) (i : ℕ) (t : TypeTree) → slice_get (types_list ts) i ≡ Some t → L.nth_type ts i ≡ t
   nth_is NoTypes i t at = absurd (none-some t at)
-  nth_is (ThenType u ts) zero t at = ap type_of (same_Some u t at)
+  nth_is (ThenType u ts) zero t at = same_Some u t at
   nth_is (ThenType u ts) (suc i) t at = nth_is ts i t at
 
-  param_typed : (i : ℕ) (t : TypeTree) → slice_get form.entry.args i ≡ Some t → operand_type made (L.Parameter n.function i) ≡ type_of t
+  param_typed : (i : ℕ) (t : TypeTree) → slice_get form.entry.args i ≡ Some t → operand_type made (L.Parameter n.function i) ≡ t
   param_typed i t at =
       cond-true (nat_eq n.function n.function) (L.param_type made.type i) L.VoidType (eq-eqb n.function n.function refl)
-      ∙ ap (λ (x : TypeTree). L.param_type (type_of x) i) form.type
+      ∙ ap (λ (x : TypeTree). L.param_type x i) form.type
       ∙ nth_is form.types i t (ap (λ (ts : List TypeTree). slice_get ts i) (sym form.params) ∙ at)
 
   -- ---- operands by where they come from
@@ -195,24 +196,23 @@ module _ (g : Func) (form : IsFormFunc g) (n : Numbers) (order : IsOrder (length
 
   -- ---- operands of the form
 
-  const_fits : (value : AttrTree) (k : Kind) (o : DialectOp) (t : TypeTree) → k ≡ ConstantOp value → o.result ≡ Some t → IsOfKind (value_type g) g o.operands o.result o.successors k → F.IsFitting (const_of value) × (L.const_type (const_of value) ≡ type_of t)
-  const_fits (IntegerAttr u m) k o t kind type h = let p = subst (IsOfKind (value_type g) g o.operands o.result o.successors) kind h in (fits u m p.short p.fitting, same_Some u t (sym p.result ∙ type))
-    where
-      fits : (u : TypeTree) (m : ℕ) → IsShortInt u → IsFitting u m → F.IsFitting (const_of (IntegerAttr u m))
-      fits VoidType m short fit = absurd short
-      fits (IntType w) m short fit = fit
-      fits (FunctionType r ps v) m short fit = absurd short
+  const_short : (value : AttrTree) (k : Kind) (o : DialectOp) (t : TypeTree) → k ≡ ConstantOp value → o.result ≡ Some t → IsOfKind (value_type g) g o.operands o.result o.successors k → F.IsShortConst (const_of value) × (L.const_type (const_of value) ≡ t)
+  const_short (IntegerAttr u m) k o t kind type h =
+      let p = subst (IsOfKind (value_type g) g o.operands o.result o.successors) kind h in
+      let i = p.integer in
+      let width : width_in u ≡ i.0 = ap width_in i.1 in
+      (subst (λ (w : ℕ). IsShortWidth w × (m < 2 ^ w)) (sym width) (i.2, i.3), ap IntType width ∙ sym i.1 ∙ same_Some u t (sym p.result ∙ type))
 
-  operand_typed_as : (v : Value) (t : TypeTree) → value_type g v ≡ Some t → OperandIs v t → F.IsOperandOf made (operand_for g n v) × (operand_type made (operand_for g n v) ≡ type_of t)
+  operand_typed_as : (v : Value) (t : TypeTree) → value_type g v ≡ Some t → OperandIs v t → F.IsOperandOf made (operand_for g n v) × (operand_type made (operand_for g n v) ≡ t)
   operand_typed_as v t e (IsParam i b is entry type operand) = (
     subst (F.IsOperandOf made) (sym operand) (refl, (let c = params_count in let lt = slice_get_within form.entry.args i t type in omega (arith, c, lt))),
     ap (operand_type made) operand ∙ param_typed i t type,
   )
-  operand_typed_as v t e (IsConst j k c o value here at is kind type h operand) = let fits = const_fits value o.kind o t kind type h in (subst (F.IsOperandOf made) (sym operand) fits.0, ap (operand_type made) operand ∙ fits.1)
+  operand_typed_as v t e (IsConst j k c o value here at is kind type h operand) = let short = const_short value o.kind o t kind type h in (subst (F.IsOperandOf made) (sym operand) short.0, ap (operand_type made) operand ∙ short.1)
   operand_typed_as v t e (IsInst i at operand) = (subst (F.IsOperandOf made) (sym operand) (result_there i v at), ap (operand_type made) operand ∙ result_typed i v at ∙ ap option_type e)
 
-  pub operand_typed : (v : Value) (t : TypeTree) → value_type g v ≡ Some t → operand_type made (operand_for g n v) ≡ type_of t
+  pub operand_typed : (v : Value) (t : TypeTree) → value_type g v ≡ Some t → operand_type made (operand_for g n v) ≡ t
   operand_typed v t e = (operand_typed_as v t e (operand_is v t e)).1
 
-  pub operand_form : (v : Value) (t : TypeTree) → IsOperand g t v → F.IsOperand made (type_of t) (operand_for g n v)
-  operand_form v t h = let p = operand_typed_as v t h.typed (operand_is v t h.typed) in record { stands = p.0; typed = p.1; short = short_int t h.short }
+  pub operand_form : (v : Value) (t : TypeTree) → IsOperand g t v → F.IsOperand made t (operand_for g n v)
+  operand_form v t h = let p = operand_typed_as v t h.typed (operand_is v t h.typed) in record { stands = p.0; typed = p.1; held = h.held }

@@ -7,13 +7,13 @@ use Rattle.std.proofs.lemmas.Option.{same_Some, none-some, slice_get_within, con
 use Rattle.support.proofs.ListLaws.{all_from, filter_from, filter_at}
 use Rattle.llvm_core.specs.Data as L
 use Rattle.llvm_core.specs.Data.{Operand, Placed, Function, Block}
-use Rattle.dialect_types.specs.Trees.{TypeTree, TypeTrees, VoidType, IntType, FunctionType, NoTypes, ThenType, AttrTree, IntegerAttr}
+use Rattle.dialect_types.specs.Trees.{TypeTree, AttrTree, IntegerAttr}
 use Rattle.block_order.specs.Order.{IsOrder}
 use Rattle.dialect_core.specs.declared.numbers.BlockRef.{BlockRef}
 use Rattle.dialect_core.specs.declared.ops.Value.{Value}
 use Rattle.dialect_core.specs.declared.ops.Value.TheVariants.{Result, Argument}
 use Rattle.dialect_core.specs.Data.{DialectOp, DialectBlock, Func, Kind, ConstantOp, RowOp, ops_in, value_type}
-use Rattle.dialect_core.specs.Form.{IsFormFunc, is_constant, is_constant_kind, types_list}
+use Rattle.dialect_core.specs.Form.{IsFormFunc, is_constant, is_constant_kind}
 use Rattle.meaning.specs.Terms.{Term, Param, Unset, rename}
 use Rattle.meaning.specs.Machine.{Row, At, begin}
 use Rattle.meaning.specs.Setting.{Setting}
@@ -21,7 +21,7 @@ use Rattle.meaning.specs.Examples.{same_places}
 use Rattle.meaning.specs.Llvm as llvm
 use Rattle.meaning.specs.Llvm.{Key, ParamKey, ResultKey}
 use Rattle.meaning.specs.Dialect as dialect
-use Rattle.meaning.specs.Dialect.{same_value, attr_term, type_of}
+use Rattle.meaning.specs.Dialect.{same_value, attr_term}
 use Rattle.meaning.specs.Shape as S
 use Rattle.meaning.specs.Shape.{Plan, IsPlan, IsSilent, among, AreAmong, operands_of, IsClosed, term_among}
 use Rattle.meaning.proofs.SameValues.{same_value-Decides}
@@ -33,7 +33,7 @@ use Rattle.to_llvm_ir.proofs.ListLaws.{AreNumbered, numbered_rest, filter_number
 use Rattle.to_llvm_ir.proofs.PlaceLaws.{comes_from}
 use Rattle.to_llvm_ir.proofs.TurnLaws.{values_by_distinct, values_by_from}
 use Rattle.to_llvm_ir.proofs.LookupLaws.{op_among, entry_at}
-use Rattle.to_llvm_ir.proofs.PlacedLaws.{number_at, OperandIs, IsParam, IsConst, IsInst, operand_is}
+use Rattle.to_llvm_ir.proofs.PlacedLaws.{number_at, types_count, OperandIs, IsParam, IsConst, IsInst, operand_is}
 
 abbrev pub of_number : ℕ → Value
 of_number n = Result (record { 0 = n })
@@ -189,12 +189,8 @@ module _ (setting : Setting) (g : Func) (form : IsFormFunc g) (n : Numbers) (ord
 
   -- ---- the start
 
-  arity_count : (ts : TypeTrees) → llvm.count_types ts ≡ length (types_list ts)
-  arity_count NoTypes = refl
-  arity_count (ThenType t ts) = ap suc (arity_count ts)
-
   arity_is : (given : Value → List (Operand × ℕ)) → llvm.arity (function_made g n given).type ≡ length form.entry.args
-  arity_is given = ap (λ (t : TypeTree). llvm.arity (type_of t)) form.type ∙ arity_count form.types ∙ sym (ap (λ (ts : List TypeTree). length ts) form.params)
+  arity_is given = ap llvm.arity form.type ∙ types_count form.types ∙ sym (ap (λ (ts : List TypeTree). length ts) form.params)
 
   start_none : (w : Value) → ((i : ℕ) → w ≡ Argument (record { 0 = form.entry.number }) i → ⊥) → dialect.start (form.entry ∷ form.more) w ≡ Unset
   start_none (Result r) h = refl
@@ -221,13 +217,8 @@ module _ (setting : Setting) (g : Func) (form : IsFormFunc g) (n : Numbers) (ord
 
   -- ---- operands
 
-  integer_same : (t : TypeTree) (m : ℕ) → rename same_places (llvm.int_of t m) ≡ llvm.int_of t m
-  integer_same VoidType m = refl
-  integer_same (IntType w) m = refl
-  integer_same (FunctionType r ps v) m = refl
-
   constant_same : (back : Setting) (value : AttrTree) → rename same_places (llvm.const_term back (const_of value)) ≡ attr_term setting value
-  constant_same back (IntegerAttr t m) = integer_same t m
+  constant_same back (IntegerAttr t m) = refl
 
   stands_as : (back : Setting) (given : Value → List (Operand × ℕ)) (v : Value) (t : TypeTree) → OperandIs g form n order given v t → S.StandsFor same_places plan (llvm.operand back (operand_for g n v)) (At v)
   stands_as back given v t (IsParam i b is entry type operand) =

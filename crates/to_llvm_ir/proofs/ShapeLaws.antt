@@ -14,8 +14,8 @@ use Rattle.dialect_core.specs.declared.ops.Value.{Value}
 use Rattle.dialect_core.specs.declared.ops.Value.TheVariants.{Argument}
 use Rattle.dialect_core.specs.declared.ops.Successor.{Successor}
 use Rattle.dialect_core.specs.Data.{DialectOp, DialectBlock, Func, Kind, ConstantOp, RowOp, value_type}
-use Rattle.dialect_core.specs.Form.{IsFormFunc, IsShortValue, FitsTarget, is_constant, is_constant_kind, others_of, edges_of}
-use Rattle.meaning.specs.Terms.{rename_type, rename_types}
+use Rattle.dialect_core.specs.Form.{IsFormFunc, IsHeldValue, FitsTarget, is_constant, is_constant_kind, others_of, edges_of}
+use Rattle.meaning.specs.Terms.{rename_type}
 use Rattle.meaning.specs.Machine.{Row, Action, At, Operand as MachineOperand, Block as MachineBlock}
 use Rattle.meaning.specs.Pairs.{Matched, BothOrNone}
 use Rattle.meaning.specs.Setting.{Setting}
@@ -27,6 +27,7 @@ use Rattle.meaning.specs.Dialect.{option_type, argument_moves}
 use Rattle.meaning.specs.Shape as S
 use Rattle.meaning.specs.Shape.{SameAction, SameRow, SameEdge, SameMove}
 use Rattle.meaning.specs.Woven.{WovenBlock, WovenShape}
+use Rattle.meaning.proofs.EntryLaws.{type_stays}
 use Rattle.meaning.proofs.ConstantRows.{kept_rows, paired_rows}
 use Rattle.to_llvm_ir.specs.Order.{turn_of}
 use Rattle.to_llvm_ir.specs.Accepted.{IsAccepted}
@@ -38,20 +39,8 @@ use Rattle.to_llvm_ir.proofs.TurnLaws.{argument_among, result_among, turn_at}
 use Rattle.to_llvm_ir.proofs.LookupLaws.{op_form, place_is, block_found}
 use Rattle.to_llvm_ir.proofs.PlacedLaws.{operand_typed}
 use Rattle.to_llvm_ir.proofs.PlanLaws.{plan, is_plan, starts, unset, has_constant, value_at, stands}
-use Rattle.to_llvm_ir.proofs.EdgeLaws.{made_at, made_none, made_numbered, target_for, block_leads, edge_form, edge_short, edge_target, first_entry}
+use Rattle.to_llvm_ir.proofs.EdgeLaws.{made_at, made_none, made_numbered, target_for, block_leads, edge_form, edge_held, edge_target, first_entry}
 use Rattle.to_llvm_ir.proofs.PhiLaws.{no_phi}
-
--- ---- the match that leaves all where it is
-
-mutual
-  type_same : (ty : L.TypeTree) → rename_type same_places ty ≡ ty
-  type_same L.VoidType = refl
-  type_same (L.IntType w) = refl
-  type_same (L.FunctionType r ps v) = let e = type_same r in let f = types_same ps in cc
-
-  types_same : (tys : L.TypeTrees) → rename_types same_places tys ≡ tys
-  types_same L.NoTypes = refl
-  types_same (L.ThenType t ts) = let e = type_same t in let f = types_same ts in cc
 
 -- edges that are made one by one
 edges_match : {A B X : Type 0} (P : A → B → Type 0) (f : ℕ → A) (t : X → ℕ) (h : X → B) (xs : List X) → ((i : ℕ) (x : X) → slice_get xs i ≡ Some x → P (f (t x)) (h x)) → Matched P (map f (map t xs)) (map h xs)
@@ -69,21 +58,21 @@ module _ (back setting : Setting) (g : Func) (form : IsFormFunc g) (n : Numbers)
   Alike = S.StandsFor same_places (plan setting g form n order)
 
   typed_alike : (v : Value) (t : TypeTree) → value_type g v ≡ Some t → rename_type same_places (operand_type made (operand_for g n v)) ≡ option_type (value_type g v)
-  typed_alike v t e = type_same (operand_type made (operand_for g n v)) ∙ operand_typed g form n order (entries g n) v t e ∙ ap option_type (sym e)
+  typed_alike v t e = type_stays same_places (operand_type made (operand_for g n v)) ∙ operand_typed g form n order (entries g n) v t e ∙ ap option_type (sym e)
 
   -- ---- rows
 
-  types_alike : (vs : List Value) → All (IsShortValue g) vs → map (rename_type same_places) (map (operand_type made) (map (operand_for g n) vs)) ≡ map (λ (v : Value). option_type (value_type g v)) vs
+  types_alike : (vs : List Value) → All (IsHeldValue g) vs → map (rename_type same_places) (map (operand_type made) (map (operand_for g n) vs)) ≡ map (λ (v : Value). option_type (value_type g v)) vs
   types_alike [] h = refl
   types_alike (v ∷ vs) h =
-      let one = All-head (IsShortValue g) v vs h in
+      let one = All-head (IsHeldValue g) v vs h in
       let e = typed_alike v one.0 one.1.typed in
-      let f = types_alike vs (All-tail (IsShortValue g) v vs h) in
+      let f = types_alike vs (All-tail (IsHeldValue g) v vs h) in
       cc
 
-  values_stand : (vs : List Value) → All (IsShortValue g) vs → Matched Alike (map (llvm.operand back) (map (operand_for g n) vs)) (map At vs)
+  values_stand : (vs : List Value) → All (IsHeldValue g) vs → Matched Alike (map (llvm.operand back) (map (operand_for g n) vs)) (map At vs)
   values_stand [] h = tt
-  values_stand (v ∷ vs) h = let one = All-head (IsShortValue g) v vs h in (stands setting g form n order back v one.0 one.1.typed, values_stand vs (All-tail (IsShortValue g) v vs h))
+  values_stand (v ∷ vs) h = let one = All-head (IsHeldValue g) v vs h in (stands setting g form n order back v one.0 one.1.typed, values_stand vs (All-tail (IsHeldValue g) v vs h))
 
   -- the row of what an operation becomes, where the next value has the number k
   pub record IsPaired (k : ℕ) (o : DialectOp) : Type 0 where
@@ -91,10 +80,10 @@ module _ (back setting : Setting) (g : Func) (form : IsFormFunc g) (n : Numbers)
     pub made_row : llvm.row back made (inst g n k o) (inst g n k o).instruction ≡ Some row
     pub same : SameRow same_places (plan setting g form n order) row (dialect.row setting g o)
 
-  actions : (k : ℕ) (o : DialectOp) (kind : Kind) → is_constant_kind kind ≡ false → All (IsShortValue g) o.operands
+  actions : (k : ℕ) (o : DialectOp) (kind : Kind) → is_constant_kind kind ≡ false → All (IsHeldValue g) o.operands
       → (a : Action Key) × (llvm.row back made (inst g n k o) (instruction_for g n kind o.result o.operands o.successors) ≡ Some (record { action = a; result = ResultKey (inst g n k o).number })) × SameAction same_places (plan setting g form n order) a (dialect.action setting g o kind)
   actions k o (ConstantOp value) other h = absurd (let e : true ≡ false = other in cc)
-  actions k o (RowOp op) other h = (_, refl, (refl, type_same (option_type o.result), types_alike o.operands h, values_stand o.operands h))
+  actions k o (RowOp op) other h = (_, refl, (refl, type_stays same_places (option_type o.result), types_alike o.operands h, values_stand o.operands h))
 
   row_pair : (j i k : ℕ) (c : DialectBlock) (o : DialectOp) → slice_get g.blocks j ≡ Some c → slice_get c.ops i ≡ Some o → is_constant o ≡ false → IsPaired k o
   row_pair j i k c o at at' other =
@@ -180,7 +169,7 @@ module _ (back setting : Setting) (g : Func) (form : IsFormFunc g) (n : Numbers)
     passed_alike : (j l i : ℕ) (c : DialectBlock) (s : Successor) (v : Value) → slice_get g.blocks j ≡ Some c → slice_get (edges_of c) l ≡ Some s → slice_get s.args i ≡ Some v
         → BothOrNone Alike (llvm.entry_for back (n.block + (0 + j)) (entries g n (Argument s.block i))) (Some (At v))
     passed_alike j l i c s v at at' at'' =
-        let typed = all_at (IsShortValue g) s.args i v (edge_short g form j l c s at at') at'' in
+        let typed = all_at (IsHeldValue g) s.args i v (edge_held g form j l c s at at') at'' in
         entry_alike j l i c s v typed.0 at at' at'' typed.1.typed
 
     target_moves : (j l : ℕ) (c : DialectBlock) (s : Successor) → slice_get g.blocks j ≡ Some c → slice_get (edges_of c) l ≡ Some s → (h : HasTarget g s)

@@ -15,12 +15,12 @@ use Rattle.llvm_core.specs.Data as L
 use Rattle.llvm_core.specs.Data.{Function, Block, Placed, ModuleData, trees_of, data_of, with_function, AllBlocks, AllPlaced}
 use Rattle.support.proofs.ListLaws.{slice_get-push}
 use Rattle.llvm_core.proofs.FreshLemmas.{blocks_below, insts_below}
+use Rattle.kinds.specs.Types.{types_list}
 use Rattle.dialect_types.specs.Trees.{TypeTree, type_trees}
 use Rattle.dialect_core.specs.declared.numbers.OpRef.{OpRef}
 use Rattle.dialect_core.specs.ContextData.{ContextData}
 use Rattle.dialect_core.specs.Data.{DialectBlock, Func, func_in}
-use Rattle.dialect_core.specs.Form.{IsFormFunc, types_list}
-use Rattle.meaning.specs.Dialect.{type_of}
+use Rattle.dialect_core.specs.Form.{IsFormFunc}
 use Rattle.to_llvm_ir.specs.Order.{IsTaken}
 use Rattle.to_llvm_ir.specs.Growth.{IsTypeOf}
 use Rattle.to_llvm_ir.specs.Made.{Numbers, function_with}
@@ -47,10 +47,10 @@ pub record IsAdded (m0 m1 m2 : Module) (ty : LLVMType) (f : LLVMFunction) (name 
 abbrev pub numbers_of : Module → LLVMFunction → List ℕ → Numbers
 numbers_of m f order = record { function = f.0; block = length m.blocks; inst = length m.insts; order = order }
 
-declared_is : (g : Func) (form : IsFormFunc g) (order : List ℕ) (m0 m1 m2 : Module) (ty : LLVMType) (f : LLVMFunction) (name : List ℕ) → IsAdded m0 m1 m2 ty f name (type_of g.type) → name ≡ g.name → data_of m2 ≡ with_function (data_of m0) (function_with g (numbers_of m1 f order) [])
+declared_is : (g : Func) (form : IsFormFunc g) (order : List ℕ) (m0 m1 m2 : Module) (ty : LLVMType) (f : LLVMFunction) (name : List ℕ) → IsAdded m0 m1 m2 ty f name g.type → name ≡ g.name → data_of m2 ≡ with_function (data_of m0) (function_with g (numbers_of m1 f order) [])
 declared_is g form order m0 m1 m2 ty f name h named =
-    let tree : L.type_at (trees_of m1).types ty ≡ L.FunctionType (type_of form.result) form.types false = h.typed.1 ∙ ap type_of form.type in
-    let params = params_are m1 ty (type_of form.result) form.types false h.sound h.typed.0 tree in
+    let tree : L.type_at (trees_of m1).types ty ≡ L.FunctionType form.result form.types false = h.typed.1 ∙ form.type in
+    let params = params_are m1 ty form.result form.types false h.sound h.typed.0 tree in
     let args : option_map_or (λ (c : DialectBlock). c.args) (slice_get g.blocks 0) [] ≡ types_list form.types = ap (λ (o : Option DialectBlock). option_map_or (λ (c : DialectBlock). c.args) o []) (entry_at g form) ∙ form.params in
     let names : unnamed m1 ty ≡ map (λ (t : TypeTree). let none : List ℕ = [] in none) (option_map_or (λ (c : DialectBlock). c.args) (slice_get g.blocks 0) []) =
     names_are (trees_of m1).types (type_params m1.types ty) form.types params ∙ ap (λ (ts : List TypeTree). map (λ (x : TypeTree). let none : List ℕ = [] in none) ts) (sym args) in
@@ -58,9 +58,9 @@ declared_is g form order m0 m1 m2 ty f name h named =
     ∙ ap (λ (d : ModuleData). with_function d (record { number = f.0; name = name; type = L.type_at (trees_of m1).types ty; space = 0; params = unnamed m1 ty; blocks = [] })) h.same
     ∙ ap (λ (s : List ℕ). with_function (data_of m0) (record { number = f.0; name = s; type = L.type_at (trees_of m1).types ty; space = 0; params = unnamed m1 ty; blocks = [] })) named
     ∙ ap (λ (t : L.TypeTree). with_function (data_of m0) (record { number = f.0; name = g.name; type = t; space = 0; params = unnamed m1 ty; blocks = [] })) h.typed.1
-    ∙ ap (λ (ns : List (List ℕ)). with_function (data_of m0) (record { number = f.0; name = g.name; type = type_of g.type; space = 0; params = ns; blocks = [] })) names
+    ∙ ap (λ (ns : List (List ℕ)). with_function (data_of m0) (record { number = f.0; name = g.name; type = g.type; space = 0; params = ns; blocks = [] })) names
 
-pub started : (c : ContextData) (op : OpRef) (g : Func) (form : IsFormFunc g) (order : List ℕ) (taken : IsTaken g order) (m0 m1 m2 : Module) (ty : LLVMType) (f : LLVMFunction) (name : List ℕ) → func_in (type_trees c.types) c op ≡ Some g → IsAdded m0 m1 m2 ty f name (type_of g.type) → name ≡ g.name → IsStarted c g order f m0 m2
+pub started : (c : ContextData) (op : OpRef) (g : Func) (form : IsFormFunc g) (order : List ℕ) (taken : IsTaken g order) (m0 m1 m2 : Module) (ty : LLVMType) (f : LLVMFunction) (name : List ℕ) → func_in (type_trees c.types) c op ≡ Some g → IsAdded m0 m1 m2 ty f name g.type → name ≡ g.name → IsStarted c g order f m0 m2
 started c op g form order taken m0 m1 m2 ty f name is h named =
     let kept : FunctionData = record { name = name; ty = ty; space = 0; params = unnamed m1 ty; blocks = [] } in
     let t : Task = record { source = g; numbers = numbers_of m1 f order; before = data_of m0 } in (
@@ -85,7 +85,7 @@ started c op g form order taken m0 m1 m2 ty f name is h named =
           function = kept;
           there = ap (λ (m : Module). slice_get m.functions f.0) h.added ∙ slice_get-push m1.functions kept f.0 h.number;
           type = refl;
-          typed = subst (λ (ks : List LLVMTypeKind). (ty.0 < length ks) × (L.type_at (L.type_trees ks) ty ≡ type_of g.type)) (sym (ap (λ (m : Module). m.types) h.added)) h.typed;
+          typed = subst (λ (ks : List LLVMTypeKind). (ty.0 < length ks) × (L.type_at (L.type_trees ks) ty ≡ g.type)) (sym (ap (λ (m : Module). m.types) h.added)) h.typed;
         };
         block_count = ap (λ (m : Module). length m.blocks) h.added;
         inst_count = ap (λ (m : Module). length m.insts) h.added;

@@ -27,7 +27,8 @@ use Rattle.dialect_core.specs.declared.ops.Value.TheVariants.{Result}
 use Rattle.dialect_core.specs.ContextData.{ContextData}
 use Rattle.dialect_core.specs.Data.{DialectOp, DialectBlock, Func}
 use Rattle.dialect_core.specs.Form.{IsFormFunc, is_constant, others_of}
-use Rattle.meaning.specs.Dialect.{type_of, option_type}
+use Rattle.kinds.specs.Held.{width_in}
+use Rattle.meaning.specs.Dialect.{option_type}
 use Rattle.to_llvm_ir.specs.declared.values.Values.{Values}
 use Rattle.to_llvm_ir.specs.Order.{turn_of}
 use Rattle.to_llvm_ir.specs.Exported.{result_name, result, arguments_of, phi_values}
@@ -190,14 +191,14 @@ module _ (c : ContextData) (op : OpRef) (s : Spot) (values' : Values) (m : Modul
 
   -- ---- constants
 
-  pub constant_done : (type : TypeTree) (value from : ℕ) (ty : LLVMType) (k : LLVMConst) (m1 m2 : Module) (values'' : Values) → ConstantParts s.op type value → IsTypeOf m1 ty (type_of type) → Grows m m1 → m1 ≡ record m { types = m1.types } → data_of m1 ≡ data_of m → from ≡ value
+  pub constant_done : (type : TypeTree) (value from : ℕ) (ty : LLVMType) (k : LLVMConst) (m1 m2 : Module) (values'' : Values) → ConstantParts s.op type value → IsTypeOf m1 ty type → Grows m m1 → m1 ≡ record m { types = m1.types } → data_of m1 ≡ data_of m → from ≡ value
       → Interned m1.consts m2.consts (C.Int ty from) k.0 → m2 ≡ record m1 { consts = m2.consts } → data_of m2 ≡ data_of m1 → IsModule m2
       → values''.next ≡ values'.next + 1 → IsSet (found values') (found values'') (Result op) (V.Const k) → IsBehindSpot s values'' m2
   constant_done type value from ty k m1 m2 values'' parts ty_is g1 rest1 data1 from_is interned rest2 data2 sound counted set =
       let g2 = grows_const m1 m2 (C.Int ty from) k.0 interned rest2 in
       let grows = grows_then m m1 m2 g1 g2 in
-      let ty2 = type_kept m1 m2 ty (type_of type) g2 ty_is in
-      let tree : const_at (trees_of m2).consts k ≡ IntConst (type_of type) value = int_const_of m2 k ty from interned.here ∙ (let e = ty2.1 in cc) in
+      let ty2 = type_kept m1 m2 ty type g2 ty_is in
+      let tree : const_at (trees_of m2).consts k ≡ IntConst (width_in type) value = int_const_of m2 k ty from interned.here ∙ (let e = ty2.1 in cc) in
       let key : Result op ≡ result s.op = ap (λ (i : ℕ). Result (record { 0 = i })) (sym (spot_parts c op s next.spot).number) in
       let operand = constant_operand g next.spot.task.form n next.spot.task.order.once no_entries s.place s.at (record { 0 = s.op.number }) s.block s.op (IntegerAttr type value) next.spot.here next.spot.there refl parts.kind in
       record {

@@ -13,7 +13,6 @@ use Rattle.dialect_core.specs.declared.ops.Successor.{Successor}
 use Rattle.dialect_core.specs.ContextData.{ContextData}
 use Rattle.dialect_core.specs.Data.{DialectBlock}
 use Rattle.dialect_core.proofs.FuncLemmas.{made_of}
-use Rattle.meaning.specs.Dialect.{type_of}
 use Rattle.to_llvm_ir.specs.declared.to_llvm_err.ToLLVMErr.TheVariants as E
 use Rattle.to_llvm_ir.specs.declared.values.Values.{Values}
 use Rattle.to_llvm_ir.specs.declared.blocks.Blocks.{Blocks}
@@ -40,7 +39,7 @@ use_is c s op values m v type x next used at =
     let k = next.state.known.known v type has used.typed in
     let is : k.value ≡ x = same_Some k.value x (sym k.found ∙ at) in
     record {
-      typed = subst (λ (y : LLVMValue). HasType m y (type_of type)) is k.typed;
+      typed = subst (λ (y : LLVMValue). HasType m y type) is k.typed;
       stands = ap (operand_of (trees_of m)) (sym is) ∙ k.stands;
       before = seen_stands (arranged s.task.numbers.order s.task.source) (turn_of s.task.numbers.order s.place) s.at s.block v (taken_here s.task.source.blocks s.task.numbers.order next.spot.task.order.once s.place s.block next.spot.here) has;
     }

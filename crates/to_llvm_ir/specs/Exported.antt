@@ -22,7 +22,7 @@ use Rattle.meaning.specs.Pairs.{Matched, BothOrNone}
 use Rattle.meaning.specs.Code.{rename_symbol}
 use Rattle.meaning.specs.Llvm as Llvm
 use Rattle.meaning.specs.Dialect as Dialect
-use Rattle.meaning.specs.Dialect.{type_of, same_value}
+use Rattle.meaning.specs.Dialect.{same_value}
 use Rattle.meaning.specs.Llvm.{ResultKey}
 use Rattle.meaning.specs.Shape.{Plan}
 use Rattle.meaning.specs.Woven.{WovenShape, SetsConstantsFirst, SameTrace, func_reads_unset}
@@ -103,7 +103,7 @@ pub record HasNames (g : Func) (place : ℕ) (c : DialectBlock) (b : L.Block) : 
 -- the types of the phis that a block's arguments become; the entry has none, since its arguments are the parameters
 abbrev pub phi_types : (place : ℕ) → List TypeTree → List L.TypeTree
 phi_types zero types = []
-phi_types (suc n) types = map type_of types
+phi_types (suc n) types = types
 
 -- the blocks that edges to the block of the number n come from, edge by edge: the blocks in order, of each its
 -- targets in order
@@ -144,7 +144,7 @@ pub record HasNoCause (order : List ℕ) (g : Func) : Type 0 where
 -- the function f stands for the function g of the dialect, whose constants stand at any places, whatever their modules tell
 pub record ExportedFunction (g : Func) (f : L.Function) : Type 0 where
   pub name : f.name ≡ g.name
-  pub type : f.type ≡ type_of g.type
+  pub type : f.type ≡ g.type
   pub space : f.space ≡ 0
   pub shape : (a b : Setting) → WovenShape same_places a f b g
   -- where all constants stand in the first block, it sets them before what reads them

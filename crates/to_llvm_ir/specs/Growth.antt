@@ -1,5 +1,5 @@
 -- A module of LLVM that grows: what was there keeps its type.
-use Rattle.std.specs.Prelude.{◌≡◌, ◌<◌, ℕ, true, false, List, ◌++◌, length, map, slice_get, All, Some}
+use Rattle.std.specs.Prelude.{◌≡◌, ◌<◌, ℕ, true, List, ◌++◌, length, map, slice_get, All, Some}
 use Rattle.llvm_core.specs.declared.numbers.LLVMType.{LLVMType}
 use Rattle.llvm_core.specs.declared.types.LLVMTypeKind.{LLVMTypeKind}
 use Rattle.llvm_core.specs.declared.consts.LLVMConstKind.{LLVMConstKind}
@@ -10,7 +10,6 @@ use Rattle.llvm_core.specs.Module.{Module}
 use Rattle.llvm_core.specs.Parts.{value_type, is_phi}
 use Rattle.llvm_core.specs.Data as L
 use Rattle.llvm_core.specs.Data.{trees_of}
-use Rattle.dialect_types.specs.Trees.{TypeTree, TypeTrees, FunctionType}
 
 -- the instruction keeps its type, and a phi stays one
 pub record KeepsInst (x y : InstData) : Type 0 where

@@ -12,7 +12,6 @@ use Rattle.dialect_types.specs.Trees.{TypeTree}
 use Rattle.dialect_core.specs.declared.numbers.BlockRef.{BlockRef}
 use Rattle.dialect_core.specs.ContextData.{ContextData}
 use Rattle.dialect_core.specs.Data.{DialectBlock}
-use Rattle.meaning.specs.Dialect.{type_of}
 use Rattle.to_llvm_ir.specs.declared.blocks.Blocks.{Blocks}
 use Rattle.to_llvm_ir.specs.Made.{empty_blocks, function_with}
 use Rattle.to_llvm_ir.specs.Growth.{IsTypeOf, HasType}
@@ -21,7 +20,7 @@ use Rattle.to_llvm_ir.specs.States.{Task, IsTask, IsBlockAt, AreMapped}
 -- the parameters of the function have the types of the block's arguments
 pub record HasParams (t : Task) (c : DialectBlock) (f : LLVMFunction) (m : Module) : Type 0 where
   pub number : f.0 ≡ t.numbers.function
-  pub typed : (i : ℕ) (type : TypeTree) → slice_get c.args i ≡ Some type → HasType m (V.Param f i) (type_of type)
+  pub typed : (i : ℕ) (type : TypeTree) → slice_get c.args i ≡ Some type → HasType m (V.Param f i) type
 
 -- the function is there, of that type
 pub record HasFunction (f : LLVMFunction) (ty : LLVMType) (tree : L.TypeTree) (m : Module) : Type 0 where
@@ -35,7 +34,7 @@ pub record IsOpening (t : Task) (i : ℕ) (f : LLVMFunction) (ty : LLVMType) (bl
   pub is : data_of m ≡ with_function t.before (function_with t.source t.numbers (empty_blocks t.source t.numbers 0 (take i t.source.blocks)))
   pub sound : IsModule m
   pub number : f.0 ≡ t.numbers.function
-  pub function : HasFunction f ty (type_of t.source.type) m
+  pub function : HasFunction f ty t.source.type m
   pub block_count : length m.blocks ≡ t.numbers.block + i
   pub inst_count : length m.insts ≡ t.numbers.inst
   pub mapped : AreMapped t.source t.numbers i blocks
@@ -45,7 +44,7 @@ pub record IsDeclared (t : Task) (f : LLVMFunction) (ty : LLVMType) (m : Module)
   pub is : data_of m ≡ with_function t.before (function_with t.source t.numbers [])
   pub sound : IsModule m
   pub number : f.0 ≡ t.numbers.function
-  pub function : HasFunction f ty (type_of t.source.type) m
+  pub function : HasFunction f ty t.source.type m
   pub block_count : length m.blocks ≡ t.numbers.block
   pub inst_count : length m.insts ≡ t.numbers.inst
 

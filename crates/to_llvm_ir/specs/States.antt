@@ -26,7 +26,7 @@ use Rattle.dialect_core.specs.ContextData.{ContextData}
 use Rattle.dialect_core.specs.Data.{DialectOp, DialectBlock, Func, op_at, block_in, func_in, value_type}
 use Rattle.dialect_core.specs.Form.{IsFormFunc, uses_of, is_constant}
 use Rattle.meaning.specs.Pairs.{Matched}
-use Rattle.meaning.specs.Dialect.{type_of, option_type}
+use Rattle.meaning.specs.Dialect.{option_type}
 use Rattle.to_llvm_ir.specs.declared.values.Values.{Values}
 use Rattle.to_llvm_ir.specs.declared.blocks.Blocks.{Blocks}
 use Rattle.to_llvm_ir.specs.declared.blocks.Target.{Target}
@@ -55,7 +55,7 @@ IsArgument (Result r) = ⊥
 pub record IsKnown (g : Func) (n : Numbers) (values : Values) (m : Module) (v : Value) (type : TypeTree) : Type 0 where
   pub value : LLVMValue
   pub found : found values v ≡ Some value
-  pub typed : HasType m value (type_of type)
+  pub typed : HasType m value type
   pub stands : operand_of (trees_of m) value ≡ operand_for g n v
   pub phi : (i : LLVMInstRef) → value ≡ V.Inst i → IsArgument v → IsPhi m.insts i
 
@@ -228,7 +228,7 @@ pub record IsUsed (s : Spot) (v : Value) (type : TypeTree) : Type 0 where
 
 -- what was found for it
 pub record IsUse (s : Spot) (m : Module) (v : Value) (type : TypeTree) (x : LLVMValue) : Type 0 where
-  pub typed : HasType m x (type_of type)
+  pub typed : HasType m x type
   pub stands : operand_of (trees_of m) x ≡ operand_for s.task.source s.task.numbers v
   pub before : StandsBeforeIn s.task.numbers.order s.task.source s.place s.at v
 

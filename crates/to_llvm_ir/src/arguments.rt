@@ -1,9 +1,9 @@
 //! Arguments of blocks: the entry's are the parameters, those of any other block become phis.
 
 ghost use Rattle.std.specs.Prelude.{◌≡◌, ◌<◌, ◌+◌, ℕ, suc, Some, All, length, slice_get, OnOk};
+ghost use Rattle.kinds.specs.Held.{IsHeld};
 ghost use Rattle.dialect_types.specs.Trees.{type_at, type_trees};
 ghost use Rattle.dialect_core.specs.Data.{DialectBlock, IsTyped};
-ghost use Rattle.dialect_core.specs.Form.{IsShortInt};
 ghost use Rattle.llvm_core.specs.Parts.{IsBlock};
 ghost use Rattle.to_llvm_ir.specs.States.{Task, IsBlockAt, IsAtArgument};
 ghost use Rattle.to_llvm_ir.specs.Opening.{HasParams};
@@ -52,7 +52,7 @@ fn add_phi(
     back: &mut LLVMModule,
 ) -> Result<(), AllocError>
     requires ty { ty.0 < length ctx.now.types }
-    requires short { IsShortInt (type_at (type_trees ctx.now.types) ty) }
+    requires held { IsHeld (type_at (type_trees ctx.now.types) ty) }
     requires target { IsBlock back.old target }
     ensures { (t : Task) (p : ℕ) (c : DialectBlock) → IsBlockAt ctx.now t (suc p) c block → target.0 ≡ t.numbers.block + suc p → slice_get c.args i ≡ Some (type_at (type_trees ctx.now.types) ty) → IsAtArgument t (suc p) c i values.old back.old → OnOk result (IsAtArgument t (suc p) c (suc i) values.new back.new) }
 {

@@ -13,7 +13,6 @@ pub mod guesses;
 pub mod listing;
 pub mod names;
 pub mod narrow;
-pub mod narrow_types;
 pub mod numbering;
 pub mod numbers;
 pub mod opening;

@@ -1,6 +1,8 @@
-//! Tests of operations, blocks and functions: whether they are as narrow as the form that is exported.
+//! Tests of names, operations, blocks and functions: whether they are as narrow as the form that is exported.
 
-ghost use Rattle.std.specs.Prelude.{◌≡◌, ◌<◌, ◌↔◌, IsTrue, All, Some, length};
+ghost use Rattle.std.specs.Prelude.{◌≡◌, ◌<◌, ◌↔◌, IsTrue, IfSome, All, Some, length};
+ghost use Rattle.std.specs.Option.{option_copied};
+ghost use Rattle.dialect_types.specs.Names.{IsPlainName};
 ghost use Rattle.dialect_core.specs.declared.linkage.LinkageAttr.TheVariants.{ExternalLinkage};
 ghost use Rattle.dialect_core.specs.declared.ops.OpKind.TheVariants as kinds;
 ghost use Rattle.dialect_core.specs.Lists.{list_at};
@@ -10,20 +12,41 @@ ghost use Rattle.dialect_core.specs.WellFormed.{IsPlainAt, IsNarrowFunc};
 ghost use Rattle.dialect_core.specs.Checking.{func_at};
 ghost use Rattle.to_llvm_ir.specs.Narrow.{IsNarrowAt, IsNarrowBlockAt, AreNarrowBlocks, IsNarrowHead};
 
-use crate::narrow_types::{all_short, is_narrow_signature, is_plain, is_short};
 use dialect_core::context::Context;
 use dialect_core::linkage::LinkageAttr;
 use dialect_core::numbers::{BlockRef, OpRef};
+use dialect_core::type_tests::{all_held, is_held, is_held_signature};
 use dialect_core::walking::{first_in_block, next_in_block};
+use dialect_types::identifier::Identifier;
 
-/// Whether the result of an operation, where it has one, is of 1 to 64 bits, and its name is plain.
+/// Whether an identifier begins with a letter, as a plain name does.
+fn begins_plain(name: &Identifier) -> bool
+    ensures { IsTrue result ↔ IsPlainName name.now }
+{
+    match name.as_str().as_bytes().first() {
+        Some(byte) => *byte != b'_',
+        None => true,
+    }
+}
+
+/// Whether a name, where there is one, is plain.
+fn is_plain(name: Option<&Identifier>) -> bool
+    ensures { IsTrue result ↔ IfSome (option_copied name.entry) IsPlainName }
+{
+    match name {
+        Some(name) => begins_plain(name),
+        None => true,
+    }
+}
+
+/// Whether the type of the result of an operation, where it has one, is translated, and its name is plain.
 fn is_narrow_op(ctx: &Context, op: OpRef) -> bool
     requires op { op.0 < length ctx.now.ops }
     requires typed { IsTyped ctx.now }
     ensures { IsTrue result ↔ IsNarrowAt ctx.now op }
 {
     match ctx.result_type(op) {
-        Some(ty) => is_short(ctx.types(), ty) && is_plain(ctx.op_name(op)),
+        Some(ty) => is_held(ctx.types(), ty) && is_plain(ctx.op_name(op)),
         None => is_plain(ctx.op_name(op)),
     }
 }
@@ -54,7 +77,7 @@ fn is_narrow_block(ctx: &Context, block: BlockRef) -> bool
     if !is_plain(ctx.block_label(block)) {
         return false;
     }
-    if !all_short(ctx.types(), ctx.block_args(block)) {
+    if !all_held(ctx.types(), ctx.block_args(block)) {
         return false;
     }
     are_narrow_ops(ctx, block)
@@ -109,7 +132,7 @@ fn is_narrow_head(ctx: &Context, func: OpRef) -> bool
     if !is_external(ctx.symbol_linkage(func)) {
         return false;
     }
-    is_narrow_signature(ctx.types(), ctx.symbol_type(func))
+    is_held_signature(ctx.types(), ctx.symbol_type(func))
 }
 
 /// Whether a function is narrow.

@@ -1,13 +1,12 @@
 //! Types of the dialect, turned into types of LLVM by number.
 
-ghost use Rattle.std.specs.Prelude.{◌≡◌, ◌<◌, ℕ, List, false, All, length, map, IfOk, OnOk};
+ghost use Rattle.std.specs.Prelude.{◌≡◌, ◌<◌, All, length, map, IfOk, OnOk};
 ghost use Rattle.llvm_core.specs.Parts.{IsFunctionType};
 ghost use Rattle.llvm_core.specs.Data as lists;
 ghost use Rattle.llvm_core.specs.Sound.{IsModule};
-ghost use Rattle.dialect_types.specs.Trees.{TypeTree, TypeTrees, FunctionType, type_at, type_trees};
-ghost use Rattle.dialect_core.specs.Form.{IsShortInt, IsShortResult, types_list};
-ghost use Rattle.meaning.specs.Dialect.{type_of};
-ghost use Rattle.to_llvm_ir.specs.Growth.{Grows, IsTypeOf, AreTypesOf, IsFormType};
+ghost use Rattle.kinds.specs.Held.{IsHeld, IsHeldResult, IsHeldSignature};
+ghost use Rattle.dialect_types.specs.Trees.{type_at, type_trees};
+ghost use Rattle.to_llvm_ir.specs.Growth.{Grows, IsTypeOf, AreTypesOf};
 
 use crate::guesses::Guesses;
 use dialect_core::context::Context;
@@ -26,16 +25,17 @@ pub fn value_type(
     back: &mut LLVMModule,
 ) -> Result<LLVMType, AllocError>
     requires within { ty.0 < length ctx.now.types }
-    requires short { IsShortResult (type_at (type_trees ctx.now.types) ty) }
-    ensures tree { IfOk result (λ t. IsTypeOf back.new t (type_of (type_at (type_trees ctx.now.types) ty))) }
+    requires held { IsHeldResult (type_at (type_trees ctx.now.types) ty) }
+    ensures tree { IfOk result (λ t. IsTypeOf back.new t (type_at (type_trees ctx.now.types) ty)) }
     ensures grows { OnOk result (Grows back.old back.new) }
     ensures rest { OnOk result (back.new ≡ record back.old { types = back.new.types }) }
     ensures data { OnOk result (lists.data_of back.new ≡ lists.data_of back.old) }
     ensures sound { OnOk result (IsModule back.new) }
 {
     let kind = match ctx.types().kind(ty) {
+        TypeKind::Void => LLVMTypeKind::Void,
         TypeKind::Integer(width) => LLVMTypeKind::Int(*width),
-        _ => LLVMTypeKind::Void,
+        TypeKind::Func { .. } => unreachable!(),
     };
     guesses.type_get(ty, kind, back)
 }
@@ -49,9 +49,9 @@ fn param_types(
     back: &mut LLVMModule,
 ) -> Result<Items<LLVMType>, AllocError>
     requires within { All (λ t. t.0 < length ctx.now.types) params.now }
-    requires short { All (λ t. IsShortInt (type_at (type_trees ctx.now.types) t)) params.now }
+    requires held { All (λ t. IsHeld (type_at (type_trees ctx.now.types) t)) params.now }
     requires sound { IsModule back.old }
-    ensures types { IfOk result (λ ts. AreTypesOf back.new ts (map (λ t. type_of (type_at (type_trees ctx.now.types) t)) params.now)) }
+    ensures types { IfOk result (λ ts. AreTypesOf back.new ts (map (type_at (type_trees ctx.now.types)) params.now)) }
     ensures grows { OnOk result (Grows back.old back.new) }
     ensures rest { OnOk result (back.new ≡ record back.old { types = back.new.types }) }
     ensures data { OnOk result (lists.data_of back.new ≡ lists.data_of back.old) }
@@ -74,9 +74,9 @@ pub fn function_type(
     back: &mut LLVMModule,
 ) -> Result<LLVMType, AllocError>
     requires within { ty.0 < length ctx.now.types }
-    requires form { IsFormType (type_at (type_trees ctx.now.types) ty) }
+    requires form { IsHeldSignature (type_at (type_trees ctx.now.types) ty) }
     ensures function { IfOk result (λ t. IsFunctionType back.new.types t) }
-    ensures tree { IfOk result (λ t. IsTypeOf back.new t (type_of (type_at (type_trees ctx.now.types) ty))) }
+    ensures tree { IfOk result (λ t. IsTypeOf back.new t (type_at (type_trees ctx.now.types) ty)) }
     ensures grows { OnOk result (Grows back.old back.new) }
     ensures rest { OnOk result (back.new ≡ record back.old { types = back.new.types }) }
     ensures data { OnOk result (lists.data_of back.new ≡ lists.data_of back.old) }

@@ -1,6 +1,7 @@
 -- The phi stands for the argument.
 use Rattle.std.proofs.Common.{ℕ, None, refl, sym, subst, ap}
 use Rattle.support.proofs.ResultLaws.{both}
+use Rattle.kinds.proofs.HeldLaws.{held_result_if}
 use Rattle.llvm_core.specs.Module.{Module}
 use Rattle.llvm_core.specs.Parts.{IsBlock}
 use Rattle.llvm_core.specs.declared.code.LLVMValue.TheVariants as V
@@ -12,6 +13,9 @@ use Rattle.to_llvm_ir.specs.States.{found}
 use Rattle.to_llvm_ir.proofs.ValueLaws.{IsSet}
 use Rattle.to_llvm_ir.proofs.ArgumentLaws.{phi_more}
 use Rattle.to_llvm_ir.proofs.arguments.add_phi.Goals as goal
+
+pub value_type-requires-clause-held : goal.value_type-requires-clause-held
+value_type-requires-clause-held c = held_result_if _ c.requires.held
 
 pub build_result-requires-clause-block : goal.build_result-requires-clause-block
 build_result-requires-clause-block c = subst (λ (m : Module). IsBlock m c.args.target) (sym c.in_ok-ty.ensures.rest) c.requires.target

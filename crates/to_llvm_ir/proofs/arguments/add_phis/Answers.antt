@@ -2,13 +2,13 @@
 use Rattle.std.proofs.Common.{◌≡◌, ◌<◌, ◌+◌, ℕ, suc, length, sym, subst, arith}
 use Rattle.std.proofs.lemmas.Option.{slice_get_within}
 use Rattle.to_llvm_ir.specs.States.{IsAtArgument}
-use Rattle.to_llvm_ir.proofs.ArgumentLaws.{arg_at, arg_short, args_count}
+use Rattle.to_llvm_ir.proofs.ArgumentLaws.{arg_at, arg_held, args_count}
 use Rattle.to_llvm_ir.proofs.arguments.add_phis.Goals as goal
 
-pub add_phi-requires-clause-short : goal.add_phi-requires-clause-short
-add_phi-requires-clause-short c =
+pub add_phi-requires-clause-held : goal.add_phi-requires-clause-held
+add_phi-requires-clause-held c =
     let b = c.requires.begun in
-    arg_short c.args.ctx.now b.0 (suc b.1) b.2 c.args.block c.block_args-ty-items.result.now c.loop-i.i _ b.3 c.block_args-ty-items.ensures c.loop-i-test.true
+    arg_held c.args.ctx.now b.0 (suc b.1) b.2 c.args.block c.block_args-ty-items.result.now c.loop-i.i _ b.3 c.block_args-ty-items.ensures c.loop-i-test.true
 
 pub add_phi-requires-clause-target : goal.add_phi-requires-clause-target
 add_phi-requires-clause-target c =

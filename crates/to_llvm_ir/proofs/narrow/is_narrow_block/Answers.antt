@@ -4,7 +4,7 @@ use Rattle.dialect_core.proofs.TestLemmas.{never, no_true}
 use Rattle.to_llvm_ir.proofs.NarrowLaws.{block_wide}
 use Rattle.to_llvm_ir.proofs.narrow.is_narrow_block.Goals as goal
 
-pub returns-then-not-all_short : goal.returns-then-not-all_short
-returns-then-not-all_short c =
-    let short = rw c.types.ensures at c.all_short.ensures in
-    never (block_wide c.args.ctx.now c.args.block c.block_args.result.now c.block_args.ensures (λ all. no_true (sym c.if-not-all_short.true ∙ short.1 all)))
+pub returns-then-not-all_held : goal.returns-then-not-all_held
+returns-then-not-all_held c =
+    let held = rw c.types.ensures at c.all_held.ensures in
+    never (block_wide c.args.ctx.now c.args.block c.block_args.result.now c.block_args.ensures (λ all. no_true (sym c.if-not-all_held.true ∙ held.1 all)))

@@ -10,10 +10,10 @@ pub returns-then-not-is_external : goal.returns-then-not-is_external
 returns-then-not-is_external c =
     never (λ h. no_true (sym c.if-not-is_external.true ∙ c.is_external.ensures.1 (sym (func_linkage c.args.ctx.now c.args.func c.symbol_linkage.result c.symbol_linkage.ensures) ∙ h.linkage)))
 
-pub is_narrow_signature-requires : goal.is_narrow_signature-requires
-is_narrow_signature-requires c = rw c.types.ensures (symbol_typed c.args.ctx.now c.args.func c.symbol_type.result c.requires.typed c.symbol_type.ensures)
+pub is_held_signature-requires : goal.is_held_signature-requires
+is_held_signature-requires c = rw c.types.ensures (symbol_typed c.args.ctx.now c.args.func c.symbol_type.result c.requires.typed c.symbol_type.ensures)
 
 pub returns : goal.returns
 returns c =
-    head_is c.args.ctx.now c.args.func _ c.symbol_linkage.result c.symbol_type.result c.is_narrow_signature.result c.op_name.ensures (c.is_plain.ensures.0 c.if-not-is_plain.false) c.symbol_linkage.ensures (c.is_external.ensures.0 c.if-not-is_external.false) c.symbol_type.ensures
-    (rw c.types.ensures at c.is_narrow_signature.ensures)
+    head_is c.args.ctx.now c.args.func _ c.symbol_linkage.result c.symbol_type.result c.is_held_signature.result c.op_name.ensures (c.is_plain.ensures.0 c.if-not-is_plain.false) c.symbol_linkage.ensures (c.is_external.ensures.0 c.if-not-is_external.false) c.symbol_type.ensures
+    (rw c.types.ensures at c.is_held_signature.ensures)

@@ -2,5 +2,5 @@
 use Rattle.to_llvm_ir.proofs.NarrowLaws.{result_typed}
 use Rattle.to_llvm_ir.proofs.narrow.is_narrow_op.Goals as goal
 
-pub is_short-requires : goal.is_short-requires
-is_short-requires c = rw c.types.ensures (result_typed c.args.ctx.now c.args.op c.result_type.result c.in-Some.ty c.requires.typed c.result_type.ensures c.in-Some.is)
+pub is_held-requires : goal.is_held-requires
+is_held-requires c = rw c.types.ensures (result_typed c.args.ctx.now c.args.op c.result_type.result c.in-Some.ty c.requires.typed c.result_type.ensures c.in-Some.is)

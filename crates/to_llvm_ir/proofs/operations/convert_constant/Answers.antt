@@ -1,18 +1,18 @@
 -- The constant has the value and the type of the operation's.
 use Rattle.support.proofs.ResultLaws.{both}
+use Rattle.kinds.proofs.HeldLaws.{held_result_if}
 use Rattle.dialect_types.specs.Trees.{type_at, type_trees}
-use Rattle.to_llvm_ir.proofs.TypeLaws.{short_result}
-use Rattle.to_llvm_ir.proofs.OpLaws.{constant_parts, constant_type_there, constant_fits}
+use Rattle.to_llvm_ir.proofs.OpLaws.{constant_parts, constant_held, constant_type_there, constant_fits}
 use Rattle.to_llvm_ir.proofs.StepLaws.{constant_done}
 use Rattle.to_llvm_ir.proofs.operations.convert_constant.Goals as goal
 
 pub value_type-requires-clause-within : goal.value_type-requires-clause-within
 value_type-requires-clause-within c = constant_type_there c.args.ctx.now c.args.op c.args.value.now _ _ c.requires.typed c.requires.kind c.parts_of-number.ensures
 
-pub value_type-requires-clause-short : goal.value_type-requires-clause-short
-value_type-requires-clause-short c =
+pub value_type-requires-clause-held : goal.value_type-requires-clause-held
+value_type-requires-clause-held c =
     let parts = constant_parts c.args.ctx.now c.args.op c.requires.spot.0 c.args.value.now _ _ c.requires.spot.1.spot c.requires.kind c.parts_of-number.ensures in
-    short_result _ parts.short
+    held_result_if _ (constant_held _ _ _ parts)
 
 pub const_get-requires : goal.const_get-requires
 const_get-requires c =

@@ -3,10 +3,10 @@ use Rattle.std.proofs.Common.{◌≡◌, Option, None, refl, sym}
 use Rattle.kinds.specs.declared.rules.Gives.{Gives}
 use Rattle.kinds.specs.declared.rules.Gives.TheVariants as G
 use Rattle.kinds.specs.Typing.{written_for}
+use Rattle.kinds.proofs.HeldLaws.{held_result_if}
 use Rattle.dialect_types.specs.Trees.{TypeTree}
 use Rattle.to_llvm_ir.proofs.GrowthLaws.{grows_refl}
-use Rattle.to_llvm_ir.proofs.TypeLaws.{short_result}
-use Rattle.to_llvm_ir.proofs.OpLaws.{result_there, result_short}
+use Rattle.to_llvm_ir.proofs.OpLaws.{result_there, result_held}
 use Rattle.to_llvm_ir.proofs.operations.written_type.Goals as goal
 
 none_written : (g : Gives) (own : Option TypeTree) → (g ≡ G.Written → ⊥) → written_for g own ≡ None
@@ -19,8 +19,8 @@ none_written G.Bit own h = refl
 pub value_type-requires-clause-within : goal.value_type-requires-clause-within
 value_type-requires-clause-within c = result_there c.args.ctx.now c.args.op c.result_type.result c.in-Some.ty c.requires.typed c.result_type.ensures c.in-Some.is
 
-pub value_type-requires-clause-short : goal.value_type-requires-clause-short
-value_type-requires-clause-short c = short_result _ (result_short c.args.ctx.now c.args.op c.requires.spot.0 c.result_type.result c.in-Some.ty c.requires.spot.1 c.result_type.ensures c.in-Some.is).1
+pub value_type-requires-clause-held : goal.value_type-requires-clause-held
+value_type-requires-clause-held c = held_result_if _ (result_held c.args.ctx.now c.args.op c.requires.spot.0 c.result_type.result c.in-Some.ty c.requires.spot.1 c.result_type.ensures c.in-Some.is).1
 
 pub returns-in-None-clause-grows : goal.returns-in-None-clause-grows
 returns-in-None-clause-grows c = grows_refl c.args.back.now

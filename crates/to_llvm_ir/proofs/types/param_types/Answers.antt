@@ -3,20 +3,21 @@ use Rattle.std.proofs.Common.{◌∙◌, ap, List, map, subst, refl}
 use Rattle.std.proofs.lemmas.List.{take_all}
 use Rattle.std.proofs.lemmas.List.Elements.{All-get_or}
 use Rattle.llvm_core.specs.Module.{Module}
+use Rattle.kinds.specs.Held.{IsHeld}
+use Rattle.kinds.proofs.HeldLaws.{held_result_if}
 use Rattle.dialect_types.specs.declared.types.TypeHandle.{TypeHandle}
 use Rattle.dialect_types.specs.Trees.{type_at, type_trees}
-use Rattle.dialect_core.specs.Form.{IsShortInt}
 use Rattle.to_llvm_ir.specs.Growth.{AreTypesOf}
 use Rattle.to_llvm_ir.proofs.GrowthLaws.{grows_refl, grows_then}
-use Rattle.to_llvm_ir.proofs.TypeLaws.{tree_of, no_types, types_more, short_result}
+use Rattle.to_llvm_ir.proofs.TypeLaws.{no_types, types_more}
 use Rattle.to_llvm_ir.proofs.types.param_types.Goals as goal
 
 pub loop-param-init : goal.loop-param-init
 loop-param-init c = record { grows = grows_refl c.args.back.now; rest = refl; same = refl; sound = c.requires.sound; types = no_types c.args.back.now _ c.new-types.ensures }
 
-pub value_type-requires-clause-short : goal.value_type-requires-clause-short
-value_type-requires-clause-short c =
-    short_result _ (All-get_or (λ (t : TypeHandle). IsShortInt (type_at (type_trees c.args.ctx.now.types) t)) c.args.params.now c.loop-param.param-index _ c.loop-param-test.true c.requires.short)
+pub value_type-requires-clause-held : goal.value_type-requires-clause-held
+value_type-requires-clause-held c =
+    held_result_if _ (All-get_or (λ (t : TypeHandle). IsHeld (type_at (type_trees c.args.ctx.now.types) t)) c.args.params.now c.loop-param.param-index _ c.loop-param-test.true c.requires.held)
 
 pub loop-param-preserved : goal.loop-param-preserved
 loop-param-preserved c =
@@ -35,7 +36,7 @@ returns c =
     let h = c.loop-param.invariant in
     let ts = type_trees c.args.ctx.now.types in
     record {
-      types = subst (λ (xs : List TypeHandle). AreTypesOf c.loop-param.back c.loop-param.types (map (tree_of ts) xs)) (take_all c.loop-param.param-index c.args.params.now c.loop-param-test.false) h.types;
+      types = subst (λ (xs : List TypeHandle). AreTypesOf c.loop-param.back c.loop-param.types (map (type_at ts) xs)) (take_all c.loop-param.param-index c.args.params.now c.loop-param-test.false) h.types;
       grows = h.grows;
       rest = h.rest;
       «data» = h.same;

@@ -2,9 +2,8 @@
 use Rattle.std.proofs.Common.{◌≡◌, map, take}
 use Rattle.llvm_core.specs.Data as L
 use Rattle.llvm_core.specs.Sound.{IsModule}
-use Rattle.dialect_types.specs.Trees.{type_trees}
+use Rattle.dialect_types.specs.Trees.{type_at, type_trees}
 use Rattle.to_llvm_ir.specs.Growth.{Grows, AreTypesOf}
-use Rattle.to_llvm_ir.proofs.TypeLaws.{tree_of}
 use Rattle.to_llvm_ir.proofs.types.param_types.Given as goal
 
 abbrev pub invariant-loop-param : goal.invariant-loop-param
@@ -13,5 +12,5 @@ invariant-loop-param l = record {
   rest : l.back ≡ record l.fn.back { types = l.back.types };
   same : L.data_of l.back ≡ L.data_of l.fn.back;
   sound : IsModule l.back;
-  types : AreTypesOf l.back l.types (map (tree_of (type_trees l.ctx.types)) (take l.param-index l.params));
+  types : AreTypesOf l.back l.types (map (type_at (type_trees l.ctx.types)) (take l.param-index l.params));
 }
