@@ -5,7 +5,7 @@ use Rattle.dialect_core.specs.declared.ops.Value.{Value}
 use Rattle.dialect_core.specs.declared.ops.Value.TheVariants.{Result, Argument}
 use Rattle.dialect_core.specs.ValueMaps.{mapped}
 use Rattle.to_llvm_ir.specs.declared.run_map.RunMap.{RunMap}
-use Rattle.to_llvm_ir.specs.RunMaps.{looked_up, run_at, argument_at}
+use Rattle.to_llvm_ir.specs.RunMaps.{looked_up}
 
 -- a list of no values says nothing
 empty_list : {V : Type 0} (t : Bool) (xs : List V) (i : ℕ) → xs ≡ [] → (if t then slice_get xs i else None) ≡ None

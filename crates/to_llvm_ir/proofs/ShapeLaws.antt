@@ -5,7 +5,6 @@ use Rattle.std.specs.Option.{option_map, option_map_or}
 use Rattle.std.proofs.lemmas.List.{append-nil}
 use Rattle.std.proofs.lemmas.List.Elements.{All-head, All-tail, filter_map-append}
 use Rattle.std.proofs.lemmas.Option.{slice_get-map, slice_get_within}
-use Rattle.llvm_core.specs.Data as L
 use Rattle.llvm_core.specs.Data.{Placed, Operand, Function, Block, operand_type}
 use Rattle.dialect_types.specs.Trees.{TypeTree}
 use Rattle.block_order.specs.Order.{IsOrder}
