@@ -29,7 +29,7 @@ use Rattle.to_llvm_ir.specs.declared.to_llvm_err.ToLLVMErr.TheVariants as E
 use Rattle.to_llvm_ir.specs.Order.{IsTaken, arranged, turn_of}
 use Rattle.to_llvm_ir.specs.Exported.{given_name}
 use Rattle.to_llvm_ir.specs.Causes.{IsFuncCause}
-use Rattle.to_llvm_ir.specs.Own.{IsForeignAmong, IsHeld, UsesForeign, UsesHeld}
+use Rattle.to_llvm_ir.specs.Own.{IsForeignAmong, IsHeldBy, UsesForeign, UsesHeld}
 use Rattle.to_llvm_ir.proofs.ListLaws.{all_at, at_contains, take_suc}
 use Rattle.to_llvm_ir.proofs.ContextLaws.{block_parts, func_parts}
 
@@ -68,7 +68,7 @@ some_of (x ∷ xs) some = omega arith
 -- ---- the search in an operation
 
 module _ (c : ContextData) (f : OpRef) where
-  pub none_among : (vs : List Value) (r : Option Value) → r ≡ None → IsForeignAmong c f vs r → All (IsHeld c f) vs
+  pub none_among : (vs : List Value) (r : Option Value) → r ≡ None → IsForeignAmong c f vs r → All (IsHeldBy c f) vs
   none_among vs r e h = subst (IsForeignAmong c f vs) e h
 
   -- a value that is found among some of a list is found in the list
@@ -137,7 +137,7 @@ module _ (c : ContextData) (f : OpRef) (g : Func) (is : func_in (type_trees c.ty
 
   -- ---- what stands before a use is held
 
-  before_held : (j k : ℕ) (v : Value) → StandsBefore g j k v → IsHeld c f v
+  before_held : (j k : ℕ) (v : Value) → StandsBefore g j k v → IsHeldBy c f v
   before_held j k (Argument b i) s = held_block s.0 s.1 b s.3 s.4
   before_held j k (Result r) s =
       ⊎_elim before here (stands_cases s.1 (flat_map (λ (b : DialectBlock). b.ops) (take j g.blocks)) (option_map_or (λ (b : DialectBlock). take k b.ops) (slice_get g.blocks j) []) s.0 s.2)
@@ -160,7 +160,7 @@ module _ (c : ContextData) (f : OpRef) (g : Func) (is : func_in (type_trees c.ty
     in_blocks : (x : ℕ) (d : DialectBlock) → slice_get (arranged order g).blocks x ≡ Some d → (p : ℕ) × (slice_get g.blocks p ≡ Some d)
     in_blocks x d at = let m = made_of (slice_get g.blocks) order x d at in (m.0, m.2)
 
-    never : (j k : ℕ) (v : Value) → ¬ IsHeld c f v → ¬ StandsBefore (arranged order g) j k v
+    never : (j k : ℕ) (v : Value) → ¬ IsHeldBy c f v → ¬ StandsBefore (arranged order g) j k v
     never j k (Argument b i) foreign s = let p = in_blocks s.0 s.1 s.3 in foreign (held_block p.0 s.1 b p.1 s.4)
     never j k (Result r) foreign s =
         ⊎_elim before here (stands_cases s.1 (flat_map (λ (b : DialectBlock). b.ops) (take j (arranged order g).blocks)) (option_map_or (λ (b : DialectBlock). take k b.ops) (slice_get (arranged order g).blocks j) []) s.0 s.2)
@@ -224,7 +224,7 @@ module _ (c : ContextData) (f : OpRef) (g : Func) (is : func_in (type_trees c.ty
     same = same_Some (func_at c f) g (sym (func_data c f ((func_parts c f g is).symbol, (func_parts c f g is).symbol_is)) ∙ is)
 
     -- what is held, and has a type, is a value of the function
-    own_value : (v : Value) → IsHeld c f v → IsTypedBy (type_in c) v → IsValueOf g v
+    own_value : (v : Value) → IsHeldBy c f v → IsTypedBy (type_in c) v → IsValueOf g v
     own_value (Result r) h t = subst (λ (x : Func). IsValueOf x (Result r)) same (t.0, sym (result_value c f there r h) ∙ t.1)
     own_value (Argument b i) h t = subst (λ (x : Func). IsValueOf x (Argument b i)) same (t.0, sym (argument_value c f there b i h) ∙ t.1)
 
@@ -236,7 +236,7 @@ module _ (c : ContextData) (f : OpRef) (g : Func) (is : func_in (type_trees c.ty
         let uses = all_at (UsesHeld c f) (held c f.0) stands.0 r all stands.1 o (own_op c f g is j k b o r at here refl) in
         let block = all_at (IsWellFormedBlock (type_in c) g) g.blocks j b well.blocks at in
         let typed = uses_typed (type_in c) g o (all_at (IsWellFormedOp (type_in c) g) b.ops k o block.ops here) in
-        all_from (IsValueOf g) (uses_of o) (λ i v at'. own_value v (all_at (IsHeld c f) (uses_of o) i v uses at') (all_at (IsTypedBy (type_in c)) (uses_of o) i v typed at'))
+        all_from (IsValueOf g) (uses_of o) (λ i v at'. own_value v (all_at (IsHeldBy c f) (uses_of o) i v uses at') (all_at (IsTypedBy (type_in c)) (uses_of o) i v typed at'))
 
     -- where each value stands before its uses
     pub own_in_order : IsInOrder g → IsWellFormedFunc (type_in c) g → HasOwnValues g

@@ -8,7 +8,7 @@ ghost use Rattle.dialect_core.specs.Form.{HasOwnValues};
 ghost use Rattle.dialect_core.specs.WellFormed.{IsOpenForm};
 ghost use Rattle.to_llvm_ir.specs.Causes.{IsFuncCause};
 ghost use Rattle.to_llvm_ir.specs.Order.{IsTaken};
-ghost use Rattle.to_llvm_ir.specs.Own.{IsForeignAmong, IsForeignAt, IsForeignIn, IsHeld};
+ghost use Rattle.to_llvm_ir.specs.Own.{IsForeignAmong, IsForeignAt, IsForeignIn, IsHeldBy};
 
 use crate::operations::{given_name, is_block_op};
 use crate::order::{counted, export_order, is_in_order};
@@ -21,7 +21,7 @@ use std::alloc::Global;
 /// Whether what defines a value stands in a function. One look-up, of the block that it stands in.
 fn is_held(ctx: &Context, func: OpRef, value: Value) -> bool
     requires value { IsValueWithin (length ctx.now.ops) (length ctx.now.blocks) value }
-    ensures { IsTrue result ↔ IsHeld ctx.now func value }
+    ensures { IsTrue result ↔ IsHeldBy ctx.now func value }
 {
     match value {
         Value::Result(op) => ctx.holds_op(func, op),

@@ -6,7 +6,7 @@ use Rattle.std.proofs.lemmas.Option.{slice_get-get_or}
 use Rattle.dialect_types.specs.Trees.{type_trees}
 use Rattle.dialect_core.specs.declared.ops.Value.{Value}
 use Rattle.dialect_core.specs.declared.ops.Successor.{Successor}
-use Rattle.to_llvm_ir.specs.Own.{IsHeld}
+use Rattle.to_llvm_ir.specs.Own.{IsHeldBy}
 use Rattle.to_llvm_ir.proofs.OpLaws.{op_parts, operands_are, successors_are}
 use Rattle.to_llvm_ir.proofs.OrderingLaws.{passes, passes_more}
 use Rattle.to_llvm_ir.proofs.OwnLaws.{none_among, operand_found, passed_found}
@@ -23,7 +23,7 @@ returns-in-Some-clause-found c =
 pub loop-edge-init : goal.loop-edge-init
 loop-edge-init c = λ o is.
     let x = c.args.ctx.now in
-    let P : Value → Type 0 = IsHeld x c.args.func in
+    let P : Value → Type 0 = IsHeldBy x c.args.func in
     let are = operands_are (type_trees x.types) x.ops c.args.op o c.op_operands.result.now (op_parts (type_trees x.types) x.ops c.args.op o is) c.op_operands.ensures.operands in
     subst (All P) (sym (append-nil o.operands)) (subst (All P) (sym are) (none_among x c.args.func c.op_operands.result.now c.foreign_among.result c.in_default.is c.foreign_among.ensures.found))
 
@@ -41,7 +41,7 @@ returns-in-Some-foreign_among-clause-found c =
 pub loop-edge-preserved : goal.loop-edge-preserved
 loop-edge-preserved c = λ o is.
     let x = c.args.ctx.now in
-    let P : Value → Type 0 = IsHeld x c.args.func in
+    let P : Value → Type 0 = IsHeldBy x c.args.func in
     let ss = c.op_successors-edge-items.result.now in
     let i = c.loop-edge.edge-index in
     let are = successors_are (type_trees x.types) x.ops c.args.op o ss (op_parts (type_trees x.types) x.ops c.args.op o is) c.op_successors-edge-items.ensures.successors in
@@ -53,7 +53,7 @@ loop-edge-preserved c = λ o is.
 pub returns-clause-found : goal.returns-clause-found
 returns-clause-found c = λ o is.
     let x = c.args.ctx.now in
-    let P : Value → Type 0 = IsHeld x c.args.func in
+    let P : Value → Type 0 = IsHeldBy x c.args.func in
     let ss = c.op_successors-edge-items.result.now in
     let are = successors_are (type_trees x.types) x.ops c.args.op o ss (op_parts (type_trees x.types) x.ops c.args.op o is) c.op_successors-edge-items.ensures.successors in
     subst (λ (es : List Successor). All P (o.operands ++ flat_map passes es)) (ap (take c.loop-edge.edge-index) are ∙ take_all c.loop-edge.edge-index ss c.loop-edge-test.false ∙ sym are) (c.loop-edge.invariant o is)
