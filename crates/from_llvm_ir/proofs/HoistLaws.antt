@@ -14,7 +14,7 @@ use Rattle.llvm_core.specs.declared.code.LLVMValue.TheVariants as K
 use Rattle.llvm_core.specs.Module.{Module}
 use Rattle.llvm_core.specs.Form.{IsShortConst, is_phi}
 use Rattle.llvm_core.specs.Data as L
-use Rattle.llvm_core.specs.Data.{ConstTree, trees_of, operand_of, const_at, AreApart}
+use Rattle.llvm_core.specs.Data.{ConstTree, trees_of, const_at, AreApart}
 use Rattle.dialect_core.specs.declared.numbers.BlockRef.{BlockRef}
 use Rattle.dialect_core.specs.declared.ops.Value.{Value}
 use Rattle.dialect_core.specs.ContextData.{ContextData}

@@ -10,7 +10,7 @@ use Rattle.llvm_core.specs.Edges.{count_of}
 use Rattle.kinds.specs.Held.{IsHeld}
 use Rattle.llvm_core.specs.Form as LF
 use Rattle.llvm_core.specs.Data as L
-use Rattle.llvm_core.specs.Data.{Placed, phi_entries, targets, placed_in}
+use Rattle.llvm_core.specs.Data.{Placed, phi_entries, targets}
 use Rattle.llvm_core.proofs.DataLemmas.{within_at, length-filter_map_all, slice_get-filter_map_all}
 use Rattle.from_llvm_ir.specs.Imported.{first_entry, passed, phis_of}
 use Rattle.from_llvm_ir.specs.Source.{IsUsable}

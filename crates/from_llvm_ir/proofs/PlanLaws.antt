@@ -6,7 +6,7 @@ use Rattle.meaning.proofs.MatchedLaws.{matched_length, matched_at}
 use Rattle.support.proofs.ListLaws.{filter_at}
 use Rattle.llvm_core.specs.Form as LF
 use Rattle.llvm_core.specs.Data as L
-use Rattle.llvm_core.specs.Data.{Placed, targets}
+use Rattle.llvm_core.specs.Data.{Placed}
 use Rattle.dialect_core.specs.declared.numbers.BlockRef.{BlockRef}
 use Rattle.dialect_core.specs.declared.ops.Value.{Value}
 use Rattle.dialect_core.specs.declared.ops.Value.TheVariants as V

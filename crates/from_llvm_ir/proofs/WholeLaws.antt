@@ -6,7 +6,7 @@ use Rattle.std.proofs.lemmas.List.{get_or_past}
 use Rattle.std.proofs.lemmas.Option.{slice_get_within, slice_get_past, get_or_from_slice_get}
 use Rattle.support.proofs.ListLaws.{item_there}
 use Rattle.llvm_core.specs.Data as L
-use Rattle.llvm_core.specs.Data.{ConstTree, IntConst, PlaceholderConst, Placed}
+use Rattle.llvm_core.specs.Data.{ConstTree, IntConst, PlaceholderConst}
 use Rattle.dialect_core.specs.Data.{DialectOp, DialectBlock}
 use Rattle.meaning.specs.Pairs.{BothOrNone}
 use Rattle.block_order.specs.DepthFirst.{IsDepthFirst}

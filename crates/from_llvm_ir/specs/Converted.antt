@@ -1,7 +1,7 @@
 -- Operations that stand for instructions, blocks that stand for blocks, and what makes a function whole.
 use Rattle.std.specs.Prelude.{ℕ, zero, suc, ◌≡◌, ◌<◌, ◌+◌, ◌++◌, List, [], ◌∷◌, Some, All, map, take, length, slice_get}
 use Rattle.llvm_core.specs.Data as L
-use Rattle.llvm_core.specs.Data.{ConstTree, Placed}
+use Rattle.llvm_core.specs.Data.{Placed}
 use Rattle.llvm_core.specs.Form.{operands_of}
 use Rattle.dialect_types.specs.Trees.{TypeTree}
 use Rattle.dialect_core.specs.declared.ops.Value.{Value}

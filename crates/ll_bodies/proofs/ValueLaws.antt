@@ -23,13 +23,13 @@ use Rattle.llvm_core.specs.Sound.{IsModule}
 use Rattle.llvm_core.specs.Parts.{IsValue, IsBlock, value_type, type_params, param_types}
 use Rattle.llvm_core.specs.Parts as P
 use Rattle.llvm_core.specs.Data as D
-use Rattle.llvm_core.specs.Data.{Operand, ConstTree, IntConst, PlaceholderConst, type_at, const_at, const_type, trees_of, operand_of}
+use Rattle.llvm_core.specs.Data.{Operand, ConstTree, IntConst, type_at, const_at, const_type, trees_of, operand_of}
 use Rattle.llvm_core.specs.declared.numbers.LLVMConst.{LLVMConst}
 use Rattle.llvm_core.specs.declared.consts.LLVMConstKind.{LLVMConstKind}
 use Rattle.llvm_core.specs.declared.consts.LLVMConstKind.TheVariants as C
 use Rattle.llvm_core.proofs.DataLemmas.{const_tree_of, int_tree_of}
 use Rattle.llvm_core.proofs.TreeLemmas.{length-after}
-use Rattle.llvm_core.specs.Data.{const_tree, const_trees, type_trees}
+use Rattle.llvm_core.specs.Data.{const_tree, type_trees}
 use Rattle.llvm_core.specs.Bodies.{added}
 use Rattle.llvm_core.proofs.BodyTypes.{all_insts, old_type, old_value, new_type, new_value, new_block}
 use Rattle.llvm_core.specs.declared.numbers.LLVMInstRef.{LLVMInstRef}

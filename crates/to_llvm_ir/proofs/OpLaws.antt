@@ -13,7 +13,6 @@ use Rattle.llvm_core.specs.Module.{Module}
 use Rattle.llvm_core.specs.Sound.{IsModule}
 use Rattle.llvm_core.specs.Parts.{IsValue}
 use Rattle.llvm_core.specs.Data as L
-use Rattle.llvm_core.specs.Data.{trees_of, operand_of}
 use Rattle.kinds.specs.Held.{IsHeld}
 use Rattle.kinds.proofs.HeldLaws.{int_held}
 use Rattle.dialect_types.specs.declared.types.TypeHandle.{TypeHandle}

@@ -6,7 +6,7 @@ use Rattle.std.proofs.lemmas.List.Elements.{All-head, All-tail}
 use Rattle.std.proofs.lemmas.Option.{same_Some, none-some, slice_get_within, cond_some}
 use Rattle.support.proofs.ListLaws.{all_from, filter_from, filter_at}
 use Rattle.llvm_core.specs.Data as L
-use Rattle.llvm_core.specs.Data.{Operand, Placed, Function, Block}
+use Rattle.llvm_core.specs.Data.{Operand}
 use Rattle.dialect_types.specs.Trees.{TypeTree, AttrTree, IntegerAttr}
 use Rattle.block_order.specs.Order.{IsOrder}
 use Rattle.dialect_core.specs.declared.numbers.BlockRef.{BlockRef}

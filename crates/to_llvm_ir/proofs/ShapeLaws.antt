@@ -20,7 +20,7 @@ use Rattle.meaning.specs.Pairs.{Matched, BothOrNone}
 use Rattle.meaning.specs.Setting.{Setting}
 use Rattle.meaning.specs.Examples.{same_places}
 use Rattle.meaning.specs.Llvm as llvm
-use Rattle.meaning.specs.Llvm.{Key, ParamKey, ResultKey}
+use Rattle.meaning.specs.Llvm.{Key, ResultKey}
 use Rattle.meaning.specs.Dialect as dialect
 use Rattle.meaning.specs.Dialect.{option_type, argument_moves}
 use Rattle.meaning.specs.Shape as S

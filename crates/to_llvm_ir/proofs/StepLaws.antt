@@ -17,7 +17,7 @@ use Rattle.llvm_core.specs.Module.{Module}
 use Rattle.llvm_core.specs.Sound.{IsModule}
 use Rattle.llvm_core.specs.Parts.{result_type}
 use Rattle.llvm_core.specs.Data as L
-use Rattle.llvm_core.specs.Data.{Placed, Block, ModuleData, IntConst, const_at, trees_of, operand_of, instruction_of, result_tree, data_of, with_function, with_instruction}
+use Rattle.llvm_core.specs.Data.{Placed, ModuleData, IntConst, const_at, trees_of, instruction_of, result_tree, data_of, with_function, with_instruction}
 use Rattle.llvm_core.proofs.DataLemmas.{int_const_of}
 use Rattle.dialect_types.specs.Trees.{TypeTree, IntegerAttr}
 use Rattle.block_order.specs.Order.{IsOrder}
