@@ -5,14 +5,13 @@ use Rattle.std.specs.List.{list_any}
 use Rattle.std.specs.Option.{option_map, option_map_or}
 use Rattle.std.proofs.lemmas.Bool.{or_parts, false_from_ne_true, not-false}
 use Rattle.std.proofs.lemmas.List.Elements.{All-nil, All-cons, All-head, All-tail, All-map, All-weaker}
-use Rattle.support.proofs.ListLaws.{item_there}
 use Rattle.kinds.specs.declared.rules.Takes.{Takes}
 use Rattle.kinds.specs.declared.rules.Takes.TheVariants.{Return}
-use Rattle.kinds.specs.Types.{TypeTree, VoidType}
+use Rattle.kinds.specs.Types.{TypeTree, VoidType, result_of}
+use Rattle.kinds.specs.Fitting as fitting
 use Rattle.kinds.specs.Table.{rule_of}
 use Rattle.kinds.specs.Typing.{fits_trees, typed}
 use Rattle.llvm_core.specs.declared.numbers.LLVMType.{LLVMType}
-use Rattle.llvm_core.specs.declared.types.LLVMTypeKind.{LLVMTypeKind}
 use Rattle.llvm_core.specs.declared.types.LLVMTypeKind.TheVariants as T
 use Rattle.llvm_core.specs.declared.types.ResultType.{ResultType}
 use Rattle.llvm_core.specs.declared.types.ResultType.TheVariants as R
@@ -24,12 +23,12 @@ use Rattle.llvm_core.specs.declared.check_err.CheckErr.TheVariants.{OperandType}
 use Rattle.llvm_core.specs.Module.{Module}
 use Rattle.llvm_core.specs.Parts.{IsValue, is_function, is_kind, row_fits, row_result}
 use Rattle.llvm_core.specs.Sound.{IsModule, StandsFor}
-use Rattle.llvm_core.specs.Data.{Operand, type_at, type_tree, trees_of, tree_of_result, operand_of, operand_type}
+use Rattle.llvm_core.specs.Data.{Operand, type_at, trees_of, tree_of_result, operand_of, operand_type}
 use Rattle.llvm_core.specs.Checked.{is_valueless, is_outside, is_block_outside, misfits_signature, misfits_return}
-use Rattle.llvm_core.specs.Form.{IsOperandOf, IsReturning, result_of, types_of}
-use Rattle.llvm_core.proofs.DataLemmas.{type_tree_of, void_tree_of, int_tree_of}
-use Rattle.llvm_core.proofs.FormTypes.{numbered, signature_of, function_typed}
-use Rattle.llvm_core.proofs.FormValues.{values_stand, types_same, return_form}
+use Rattle.llvm_core.specs.Form.{IsReturning, types_of}
+use Rattle.llvm_core.proofs.DataLemmas.{void_tree_of, int_tree_of}
+use Rattle.llvm_core.proofs.FormTypes.{kind_kept, numbered, signature_of, function_typed}
+use Rattle.llvm_core.proofs.FormValues.{types_same, return_form}
 use Rattle.llvm_core.proofs.RuleLaws.{tree, tree_of, fits_by_tree, result_by_tree}
 use Rattle.llvm_core.proofs.CheckedInsts.{MeetsRules, row_kept}
 use Rattle.tracing.specs.LlvmBodies.{InChecked, IsNoFunction, data_in, IsUsed}
@@ -37,14 +36,7 @@ use Rattle.tracing.proofs.WordLaws.{operands_plain, result_plain}
 
 -- a type of no function, as a tree
 plain_tree : (m : Module) (t : LLVMType) → IsModule m → t.0 < length m.types → is_kind is_function m.types t ≡ false → IsNoFunction (type_at (trees_of m).types t)
-plain_tree m t sound within plain =
-    let k = item_there m.types t.0 within in
-    by k.0 (type_tree_of m t k.0 sound k.1) (sym (ap (λ o. option_map_or is_function o false) k.1) ∙ plain)
-  where
-    by : (k : LLVMTypeKind) → type_at (trees_of m).types t ≡ type_tree (trees_of m).types k → is_function k ≡ false → IsNoFunction (type_at (trees_of m).types t)
-    by T.Void e h = rw e tt
-    by (T.Int w) e h = rw e tt
-    by (T.Function r ps v) e h = cc
+plain_tree m t sound within plain = sym (kind_kept m fitting.is_function t sound within) ∙ plain
 
 -- the tree of what stands for a result's type, void where there is none
 result_stood : (m : Module) (o : Option ResultType) (ty : LLVMType) → IsModule m → StandsFor m.types o ty → type_at (trees_of m).types ty ≡ unwrap_or (option_map (tree_of_result (trees_of m).types) o) VoidType
@@ -65,16 +57,15 @@ module _ (m : Module) (h : InChecked m) where
   abbrev operands_in : List LLVMValue → List Operand
   operands_in vs = map (operand_of (trees_of m)) vs
 
-  used_each : (vs : List LLVMValue) → All (IsValue m) vs → All (IsOperandOf (data_in m h)) (operands_in vs) → All IsNoFunction (types_of (data_in m h) (operands_in vs)) → All (IsUsed m h) vs
-  used_each [] here stand plain = All-nil (IsUsed m h)
-  used_each (v ∷ vs) here stand plain =
-      let o = operand_of (trees_of m) v in
-      let os = operands_in vs in
-      let t = operand_type (data_in m h) o in
-      let ts = types_of (data_in m h) os in
+  used_each : (vs : List LLVMValue) → All (IsValue m) vs → list_any (is_outside m (numbered h.number)) vs ≡ false → All IsNoFunction (types_of (data_in m h) (operands_in vs)) → All (IsUsed m h) vs
+  used_each [] here none plain = All-nil (IsUsed m h)
+  used_each (v ∷ vs) here none plain =
+      let inside = or_parts (is_outside m (numbered h.number) v) (list_any (is_outside m (numbered h.number)) vs) none in
+      let t = operand_type (data_in m h) (operand_of (trees_of m) v) in
+      let ts = types_of (data_in m h) (operands_in vs) in
       All-cons (IsUsed m h) v vs
-      (record { here = All-head (IsValue m) v vs here; stands = All-head (IsOperandOf (data_in m h)) o os stand; plain = All-head IsNoFunction t ts plain })
-      (used_each vs (All-tail (IsValue m) v vs here) (All-tail (IsOperandOf (data_in m h)) o os stand) (All-tail IsNoFunction t ts plain))
+      (record { here = All-head (IsValue m) v vs here; inside = inside.0; plain = All-head IsNoFunction t ts plain })
+      (used_each vs (All-tail (IsValue m) v vs here) inside.1 (All-tail IsNoFunction t ts plain))
 
   -- what a return has is no function
   returning_plain : (k : Takes) (os : List Operand) → IsReturning k (data_in m h) os → k ≡ Return → All IsNoFunction (types_of (data_in m h) os)
@@ -89,13 +80,11 @@ module _ (m : Module) (h : InChecked m) where
     abbrev written : Option TypeTree
     written = option_map (tree m h.sound) r.written
 
-    stand : All (IsOperandOf (data_in m h)) (operands_in r.operands)
-    stand =
-        let inside = or_parts (list_any (is_outside m (numbered h.number)) r.operands) (list_any (is_block_outside m (numbered h.number)) r.targets) rules.outside in
-        values_stand m h.number h.function h.sound h.at r.operands rules.values.0 inside.0
+    inside : list_any (is_outside m (numbered h.number)) r.operands ≡ false
+    inside = (or_parts (list_any (is_outside m (numbered h.number)) r.operands) (list_any (is_block_outside m (numbered h.number)) r.targets) rules.outside).0
 
     types_are : types_of (data_in m h) (operands_in r.operands) ≡ map (tree_of m h.sound) r.operands
-    types_are = types_same m h.number h.function h.sound h.at r.operands rules.values.0 stand
+    types_are = types_same m h.number h.function h.sound h.at r.operands rules.values.0 inside
 
     kept : (not (row_fits m r) ≡ false) × (misfits_return takes m (numbered h.number) r.operands ≡ false)
     kept = row_kept m h.number b ty r rules
@@ -104,11 +93,11 @@ module _ (m : Module) (h : InChecked m) where
     fits = ap (fits_trees r.op written) types_are ∙ fits_by_tree m h.sound r rules.values ∙ not-false (row_fits m r) kept.0
 
     plain : All IsNoFunction (types_of (data_in m h) (operands_in r.operands))
-    plain = operands_plain r.op written (types_of (data_in m h) (operands_in r.operands)) fits (returning_plain takes (operands_in r.operands) (return_form m h.number h.function h.sound h.at takes r.operands rules.values.0 stand kept.1))
+    plain = operands_plain r.op written (types_of (data_in m h) (operands_in r.operands)) fits (returning_plain takes (operands_in r.operands) (return_form m h.number h.function h.sound h.at takes r.operands rules.values.0 inside kept.1))
 
     -- the operands are values of the function, and no functions
     pub row_used : All (IsUsed m h) r.operands
-    row_used = used_each r.operands rules.values.0 stand plain
+    row_used = used_each r.operands rules.values.0 inside plain
 
     -- and its result is none
     pub row_plain : IsNoFunction (type_at (trees_of m).types ty)

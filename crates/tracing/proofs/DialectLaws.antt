@@ -7,6 +7,8 @@ use Rattle.std.proofs.Common.{eqb-true}
 use Rattle.std.proofs.lemmas.Option.{same_Some, none-some, slice_get_within}
 use Rattle.std.proofs.lemmas.List.Elements.{All-nil, All-head, All-tail, All-weaker}
 use Rattle.kinds.specs.declared.op.Op.{Op}
+use Rattle.kinds.specs.Held.{IsFirstClass, IsHeld}
+use Rattle.kinds.proofs.HeldLaws.{held_first_class, int_held}
 use Rattle.dialect_types.specs.declared.types.TypeHandle.{TypeHandle}
 use Rattle.dialect_types.specs.declared.attrs.ConstAttr.{ConstAttr}
 use Rattle.dialect_types.specs.Trees.{TypeTree, IntegerAttr, HasTypesBelow, type_at, type_trees}
@@ -23,8 +25,7 @@ use Rattle.dialect_core.specs.declared.ops.Symbol.{Symbol}
 use Rattle.dialect_core.specs.Lists.{list_at}
 use Rattle.dialect_core.specs.ContextData.{ContextData}
 use Rattle.dialect_core.specs.Data.{DialectOp, DialectBlock, Func, Kind, ConstantOp, RowOp, IsTyped, HasKindTypesBelow, kind_of, op_of, op_at, block_of, block_in, func_with, func_of, func_in, type_in}
-use Rattle.dialect_core.specs.Rules.{Typing, IsInteger, IsIntegerBy, IsOfKind}
-use Rattle.dialect_core.proofs.WellLaws.{short_integer}
+use Rattle.dialect_core.specs.Rules.{Typing, IsIntegerOf, IsFirstClassBy, IsOfKind}
 use Rattle.meaning.specs.Machine as Machine
 use Rattle.meaning.specs.Setting.{Setting}
 use Rattle.meaning.specs.Dialect as Dialect
@@ -185,27 +186,31 @@ pub record UsedResult (c : ContextData) (r : OpRef) (v : Value) : Type 0 where
   pub op : DialectOp
   pub here : op_at (type_trees c.types) c.ops r ≡ Some op
   pub typed : op.result ≡ type_in c v
-  pub integer : IfSome op.result IsInteger
+  pub first_class : IfSome op.result IsFirstClass
 
 pub used_result : (c : ContextData) (r : OpRef) (v : Value) → v ≡ V.Result r → IsUsed c v → UsedResult c r v
 used_result c r v is used =
     let k = result_read c r used.type (ap (type_in c) (sym is) ∙ used.typed) in
-    record { op = k.op; here = k.here; typed = k.typed ∙ sym used.typed; integer = subst (λ (t : Option TypeTree). IfSome t IsInteger) (sym k.typed) used.integer }
+    record { op = k.op; here = k.here; typed = k.typed ∙ sym used.typed; first_class = subst (λ (t : Option TypeTree). IfSome t IsFirstClass) (sym k.typed) used.first_class }
 
 -- the block whose argument an operand is
 pub used_argument : (c : ContextData) (b : BlockRef) (i : ℕ) (v : Value) → v ≡ V.Argument b i → (used : IsUsed c v) → ArgumentRead c b i used.type
 used_argument c b i v is used = argument_read c b i used.type (ap (type_in c) (sym is) ∙ used.typed)
 
+-- an integer is of a first class type
+integer_first_class : (t : TypeTree) (n : ℕ) → IsIntegerOf t n → IsFirstClass t
+integer_first_class t n h = held_first_class t (subst IsHeld (sym h.1) (int_held h.0 h.2))
+
 module _ (c : ContextData) (g : Func) where
-  -- the operands of a well-formed operation are integers of the context
+  -- the operands of a well-formed operation are values of the context, of first class types
   pub used_all : (vs : List Value) (own : Option TypeTree) (edges : List Successor) (k : Kind) → IsOfKind (type_in c) g vs own edges k → All (IsUsed c) vs
   used_all vs own edges (ConstantOp (IntegerAttr type value)) is = subst (All (IsUsed c)) (sym is.bare) (All-nil (IsUsed c))
-  used_all vs own edges (RowOp op) is = All-weaker (IsIntegerBy (type_in c)) (IsUsed c) (λ v h. record { type = h.0; typed = h.1; integer = h.2 }) vs is.integers
+  used_all vs own edges (RowOp op) is = All-weaker (IsFirstClassBy (type_in c)) (IsUsed c) (λ v h. record { type = h.0; typed = h.1; first_class = h.2 }) vs is.values
 
-  -- and it has no result but an integer
-  pub integer_result : (vs : List Value) (own : Option TypeTree) (edges : List Successor) (k : Kind) → IsOfKind (type_in c) g vs own edges k → IfSome own IsInteger
-  integer_result vs own edges (ConstantOp (IntegerAttr type value)) is = rw is.result (short_integer type is.short)
-  integer_result vs own edges (RowOp op) is = is.integer
+  -- and so is its result, where it has one
+  pub first_class_result : (vs : List Value) (own : Option TypeTree) (edges : List Successor) (k : Kind) → IsOfKind (type_in c) g vs own edges k → IfSome own IsFirstClass
+  first_class_result vs own edges (ConstantOp (IntegerAttr type value)) is = rw is.result (integer_first_class type value is.integer)
+  first_class_result vs own edges (RowOp op) is = is.value
 
 pub operands_kept : (c : ContextData) (r : OpRef) (o : DialectOp) (vs : List Value) → op_at (type_trees c.types) c.ops r ≡ Some o → option_map (λ (x : OpData). x.operands) (slice_get c.ops r.0) ≡ Some vs → o.operands ≡ vs
 operands_kept c r o vs at is = let k = kept_op c r o at in k.operands ∙ same_Some k.kept.operands vs (sym (ap (option_map (λ (x : OpData). x.operands)) k.there) ∙ is)

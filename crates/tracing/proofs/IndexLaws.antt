@@ -25,7 +25,7 @@ use Rattle.llvm_core.specs.Checked.{home}
 use Rattle.llvm_core.specs.Form.{is_phi}
 use Rattle.llvm_core.proofs.DataLemmas.{blocks_there, insts_there, slice_get-filter_map_all, length-filter_map_all}
 use Rattle.llvm_core.proofs.FormPlaces.{block_from}
-use Rattle.llvm_core.proofs.FormTypes.{numbered}
+use Rattle.llvm_core.proofs.FormTypes.{count_is, numbered}
 use Rattle.meaning.specs.Machine as M
 use Rattle.meaning.specs.Pairs.{Matched}
 use Rattle.llvm_core.specs.declared.types.LLVMTypeKind.{LLVMTypeKind}
@@ -35,7 +35,7 @@ use Rattle.std.specs.Prelude.{IsTrue}
 use Rattle.meaning.proofs.MatchedLaws.{matched_push}
 use Rattle.llvm_core.proofs.DataLemmas.{function_tree_of}
 use Rattle.tracing.specs.Bodies.{start_of}
-use Rattle.meaning.specs.Llvm.{entry_for, operand, arity, count_types, start, Key, ParamKey, ResultKey}
+use Rattle.meaning.specs.Llvm.{entry_for, operand, arity, start, Key, ParamKey, ResultKey}
 use Rattle.tracing.specs.Renamed.{renamed}
 use Rattle.tracing.specs.declared.body.Slot.{Slot}
 use Rattle.tracing.specs.LlvmBodies.{setting_in, slot_of, first_of, operand_in, InChecked, data_in, IsPlacedIn, ArePlacedIn, IsBlockIn, IsPhiOf}
@@ -183,10 +183,6 @@ numbers_are m h f bs is listed =
         subst (λ (o : Option Block). b.0 ∷ map (λ (b : LLVMBasicBlock). b.0) bs ≡ map (λ (y : Block). y.number) (cons_option o (filter_map (block_at (trees_of m) m.blocks m.insts) bs))) (sym here.1) (cc)
 
 -- ---- parameters
-
-count_is : (ts : List D.TypeTree) (xs : List LLVMType) → count_types (D.types_at ts xs) ≡ length xs
-count_is ts [] = refl
-count_is ts (x ∷ xs) = ap suc (count_is ts xs)
 
 pub arity_is : (m : Module) (h : InChecked m) (f : ℕ) (t r : LLVMType) (ps : List LLVMType) (v : Bool) → h.number ≡ f → option_map (λ (x : FunctionData). x.ty) (slice_get m.functions f) ≡ Some t → slice_get m.types t.0 ≡ Some (T.Function r ps v) → arity (data_in m h).type ≡ length ps
 arity_is m h f t r ps v is at kind =

@@ -43,7 +43,7 @@ use Rattle.tracing.specs.LlvmBodies.{setting_in, slot_of, InChecked, IsNoFunctio
 -- the number of the type of a value of the function stands for what the data say
 pub used_tree : (m : Module) (h : InChecked m) (v : LLVMValue) (t : LLVMType) → IsUsed m h v → value_type m v ≡ Some t → type_at (trees_of m).types t ≡ operand_type (data_in m h) (operand_of (trees_of m) v)
 used_tree m h v t used is =
-    let typed = value_typed m h.number h.function h.sound h.at v used.here used.stands in
+    let typed = value_typed m h.number h.function h.sound h.at v used.here used.inside in
     let same = same_Some t typed.type (sym is ∙ typed.type_is) in
     ap (type_at (trees_of m).types) same ∙ typed.tree_is
 

@@ -11,9 +11,11 @@ use Rattle.kinds.specs.declared.rules.Takes.{Takes}
 use Rattle.kinds.specs.declared.rules.Takes.TheVariants as T
 use Rattle.kinds.specs.declared.rules.Gives.{Gives}
 use Rattle.kinds.specs.declared.rules.Gives.TheVariants as G
-use Rattle.kinds.specs.Types.{TypeTree, VoidType, IntType, FunctionType, shape, same_tree}
+use Rattle.kinds.specs.declared.fitting.Shape.{Shape}
+use Rattle.kinds.specs.declared.fitting.Shape.TheVariants as S
+use Rattle.kinds.specs.Types.{TypeTree, VoidType, IntType, shape, same_tree}
 use Rattle.kinds.specs.Table.{rule_of}
-use Rattle.kinds.specs.Fitting.{is_value, is_number, is_bit, is_wider, is_same, is_above, is_below, fit_one, fit, takes_fit, is_written}
+use Rattle.kinds.specs.Fitting.{is_value, is_number, is_bit, is_function, is_wider, is_same, is_above, is_below, fit_one, fit, takes_fit, is_written}
 use Rattle.kinds.specs.Typing.{fits_trees, given, typed}
 use Rattle.kinds.proofs.TypeLaws.{tree_told}
 use Rattle.kinds.proofs.TableLaws.{names_earlier, is_ordered, table_ordered}
@@ -22,33 +24,16 @@ use Rattle.tracing.specs.LlvmBodies.{IsNoFunction}
 
 -- ---- one operand
 
--- a line for each kind of type
-value_plain : (t : TypeTree) → is_value (shape t) ≡ true → IsNoFunction t
-value_plain VoidType h = tt
-value_plain (IntType w) h = tt
-value_plain (FunctionType r ps v) h = cc
+-- a shape for which a test holds that fails for a function: a line for each shape
+plain_shape : (p : Shape → Bool) → p S.Function ≡ false → (s : Shape) → p s ≡ true → is_function s ≡ false
+plain_shape p none S.Void h = refl
+plain_shape p none (S.Int w) h = refl
+plain_shape p none S.Function h = cc
 
-number_plain : (t : TypeTree) → is_number (shape t) ≡ true → IsNoFunction t
-number_plain VoidType h = tt
-number_plain (IntType w) h = tt
-number_plain (FunctionType r ps v) h = cc
-
-bit_plain : (t : TypeTree) → is_bit (shape t) ≡ true → IsNoFunction t
-bit_plain VoidType h = tt
-bit_plain (IntType w) h = tt
-bit_plain (FunctionType r ps v) h = cc
-
-wider_plain : (t u : TypeTree) → is_wider (shape t) (shape u) ≡ true → IsNoFunction t
-wider_plain VoidType u h = tt
-wider_plain (IntType w) u h = tt
-wider_plain (FunctionType r ps v) u h = cc
-
-narrower_plain : (t u : TypeTree) → is_wider (shape t) (shape u) ≡ true → IsNoFunction u
-narrower_plain t VoidType h = tt
-narrower_plain t (IntType w) h = tt
-narrower_plain VoidType (FunctionType r ps v) h = cc
-narrower_plain (IntType w) (FunctionType r ps v) h = cc
-narrower_plain (FunctionType s qs w) (FunctionType r ps v) h = cc
+never_wider : (s : Shape) → is_wider s S.Function ≡ false
+never_wider S.Void = refl
+never_wider (S.Int w) = refl
+never_wider S.Function = refl
 
 -- if it is a type, it is no function
 abbrev IsPlain : Option TypeTree → Type 0
@@ -60,17 +45,17 @@ same_plain (Some a) t p h = subst IsNoFunction (tree_told a t h) (p a refl)
 
 above_plain : (w : Option TypeTree) (t : TypeTree) → is_above shape same_tree w t ≡ true → IsNoFunction t
 above_plain None t h = cc
-above_plain (Some w) t h = wider_plain t w h
+above_plain (Some w) t h = plain_shape (λ (s : Shape). is_wider s (shape w)) refl (shape t) h
 
 below_plain : (w : Option TypeTree) (t : TypeTree) → is_below shape same_tree w t ≡ true → IsNoFunction t
 below_plain None t h = cc
-below_plain (Some w) t h = narrower_plain w t h
+below_plain (Some w) t h = plain_shape (is_wider (shape w)) (never_wider (shape w)) (shape t) h
 
 -- a line for each word
 one_plain : (first second : Bool) (f : Fit) (w a b : Option TypeTree) (t : TypeTree) → names_earlier first second f ≡ true → (first ≡ true → IsPlain a) → (second ≡ true → IsPlain b) → fit_one shape same_tree f w a b t ≡ true → IsNoFunction t
-one_plain first second F.Any w a b t e p q h = value_plain t h
-one_plain first second F.Number w a b t e p q h = number_plain t h
-one_plain first second F.Bit w a b t e p q h = bit_plain t h
+one_plain first second F.Any w a b t e p q h = plain_shape is_value refl (shape t) h
+one_plain first second F.Number w a b t e p q h = plain_shape is_number refl (shape t) h
+one_plain first second F.Bit w a b t e p q h = plain_shape is_bit refl (shape t) h
 one_plain first second F.First w a b t e p q h = same_plain a t (p e) h
 one_plain first second F.Second w a b t e p q h = same_plain b t (q e) h
 one_plain first second F.Wider w a b t e p q h = above_plain w t h
@@ -145,8 +130,8 @@ given_plain G.Nothing w a b h p q t is = absurd (none-some t is)
 given_plain G.First w a b h p q t is = p t is
 given_plain G.Second w a b h p q t is = q t is
 given_plain G.Written None a b h p q t is = absurd (none-some t is)
-given_plain G.Written (Some w) a b h p q t is = subst IsNoFunction (same_Some w t is) (value_plain w h)
-given_plain G.Bit w a b h p q t is = subst IsNoFunction (same_Some (IntType 1) t is) tt
+given_plain G.Written (Some w) a b h p q t is = subst IsNoFunction (same_Some w t is) (plain_shape is_value refl (shape w) h)
+given_plain G.Bit w a b h p q t is = subst IsNoFunction (same_Some (IntType 1) t is) refl
 
 typed_plain : (op : Op) (w : Option TypeTree) (ts : List TypeTree) → fits_trees op w ts ≡ true → All IsNoFunction ts → IsPlain (typed op w ts)
 typed_plain op w ts h all t is =
@@ -158,5 +143,5 @@ pub result_plain : (op : Op) (w : Option TypeTree) (ts : List TypeTree) → fits
 result_plain op w ts h all = by (typed op w ts) (typed_plain op w ts h all)
   where
     by : (o : Option TypeTree) → IsPlain o → IsNoFunction (unwrap_or o VoidType)
-    by None p = tt
+    by None p = refl
     by (Some t) p = p t refl

@@ -1,12 +1,13 @@
 -- What the body of a function of the dialect is made of.
 use Rattle.std.specs.Prelude.{◌≡◌, ℕ, List, [], Some, map, slice_get}
+use Rattle.kinds.specs.Held.{IsFirstClass}
 use Rattle.dialect_types.specs.Trees.{TypeTree, type_trees}
 use Rattle.dialect_core.specs.declared.numbers.OpRef.{OpRef}
 use Rattle.dialect_core.specs.declared.ops.Value.{Value}
 use Rattle.dialect_core.specs.declared.ops.Value.TheVariants as V
 use Rattle.dialect_core.specs.ContextData.{ContextData}
 use Rattle.dialect_core.specs.Data.{DialectOp, Func, IsTyped, data_of, func_in, op_at, type_in}
-use Rattle.dialect_core.specs.WellFormed.{IsFirstClass, IsWellFormedFunc, IsWellFormedOp}
+use Rattle.dialect_core.specs.WellFormed.{IsWellFormedFunc, IsWellFormedOp}
 use Rattle.meaning.specs.Machine as M
 use Rattle.meaning.specs.Setting.{Setting}
 use Rattle.meaning.specs.Dialect as Dialect

@@ -1,8 +1,10 @@
 -- What the body of a function of LLVM is made of.
-use Rattle.std.specs.Prelude.{◌≡◌, ℕ, List, [], Option, Some, None, map, filter, slice_get, nat_eq}
+use Rattle.std.specs.Prelude.{◌≡◌, ℕ, false, List, [], Option, Some, None, map, filter, slice_get, nat_eq}
 use Rattle.indexmap.specs.IndexMap.{get}
 use Rattle.std.specs.List.{filter_map, position_or_len}
 use Rattle.std.specs.Option.{option_map, option_map_or}
+use Rattle.kinds.specs.Types.{shape}
+use Rattle.kinds.specs.Fitting.{is_function}
 use Rattle.llvm_core.specs.declared.numbers.LLVMInstRef.{LLVMInstRef}
 use Rattle.llvm_core.specs.declared.numbers.LLVMBasicBlock.{LLVMBasicBlock}
 use Rattle.llvm_core.specs.declared.code.LLVMValue.{LLVMValue}
@@ -15,8 +17,8 @@ use Rattle.llvm_core.specs.Sound.{IsModule}
 use Rattle.llvm_core.specs.Parts.{IsValue}
 use Rattle.llvm_core.specs.Data as L
 use Rattle.llvm_core.specs.Data.{Placed, Function, trees_of, function_of, block_at, placed_at, operand_of, operand_type, phi_entries, data_of}
-use Rattle.llvm_core.specs.Checked.{IsChecked, home}
-use Rattle.llvm_core.specs.Form.{IsOperandOf, is_phi}
+use Rattle.llvm_core.specs.Checked.{IsChecked, home, is_outside}
+use Rattle.llvm_core.specs.Form.{is_phi}
 use Rattle.meaning.specs.Machine as M
 use Rattle.meaning.specs.Llvm.{Key, ParamKey, ResultKey, setting_of, operand, row, entry_for}
 use Rattle.meaning.specs.Setting.{Setting}
@@ -60,7 +62,7 @@ IsNoFunction t = is_function (shape t) ≡ false
 -- the value is one of the function, and no function
 pub record IsUsed (m : Module) (h : InChecked m) (v : LLVMValue) : Type 0 where
   pub here : IsValue m v
-  pub stands : IsOperandOf (data_in m h) (operand_of (trees_of m) v)
+  pub inside : is_outside m (record { 0 = h.number }) v ≡ false
   pub plain : IsNoFunction (operand_type (data_in m h) (operand_of (trees_of m) v))
 
 -- the instruction i is p, of the block of the number b and of the function

@@ -1,15 +1,15 @@
 //! The operations of a function of the dialect, as rows of a body.
 
 ghost use Rattle.std.specs.Prelude.{◌≡◌, ◌<◌, ℕ, List, All, IfOk, IfSome, Some, length, map, slice_get};
+ghost use Rattle.kinds.specs.Held.{IsFirstClass};
 ghost use Rattle.dialect_types.specs.declared.attrs.ConstAttr.TheVariants as attrs;
 ghost use Rattle.dialect_types.specs.Trees.{TypeTree, IntType, IntegerAttr, HasTypesBelow, type_at, type_trees, attr_tree};
 ghost use Rattle.dialect_core.specs.Data.{DialectBlock, DialectOp, RowOp, IsTyped, block_in, op_at, type_in};
-ghost use Rattle.dialect_core.specs.Form.{IsShortInt};
-ghost use Rattle.dialect_core.specs.WellFormed.{IsInteger};
+ghost use Rattle.dialect_core.specs.Rules.{IsIntegerOf};
 ghost use Rattle.meaning.specs.Machine as machine;
 ghost use Rattle.meaning.specs.Setting.{Setting};
 ghost use Rattle.meaning.specs.Dialect as dialect;
-ghost use Rattle.meaning.specs.Dialect.{option_type, type_of};
+ghost use Rattle.meaning.specs.Dialect.{option_type};
 ghost use Rattle.tracing.specs.Table.{tree_of};
 ghost use Rattle.tracing.specs.Bodies.{source_of, action_of, row_of};
 ghost use Rattle.tracing.specs.Renamed.{renamed_action, renamed_row};
@@ -30,15 +30,19 @@ use support::items::Items;
 /// The type of a value.
 fn value_type(ctx: &Context, ty: TypeHandle) -> ValueType
     requires within { ty.0 < length ctx.now.types }
-    requires integer { IsInteger (type_at (type_trees ctx.now.types) ty) }
-    ensures { tree_of result ≡ type_of (type_at (type_trees ctx.now.types) ty) }
+    requires first_class { IsFirstClass (type_at (type_trees ctx.now.types) ty) }
+    ensures { tree_of result ≡ type_at (type_trees ctx.now.types) ty }
 {
-    ValueType::Int(int_width(ctx, ty))
+    match ctx.types().kind(ty) {
+        TypeKind::Integer(width) => ValueType::Int(*width),
+        TypeKind::Void => unreachable!(),
+        TypeKind::Func { .. } => unreachable!(),
+    }
 }
 
 fn int_width(ctx: &Context, ty: TypeHandle) -> u32
     requires within { ty.0 < length ctx.now.types }
-    requires integer { IsInteger (type_at (type_trees ctx.now.types) ty) }
+    requires int { (width : ℕ) × (type_at (type_trees ctx.now.types) ty ≡ IntType width) }
     ensures { type_at (type_trees ctx.now.types) ty ≡ IntType result }
 {
     match ctx.types().kind(ty) {
@@ -50,7 +54,7 @@ fn int_width(ctx: &Context, ty: TypeHandle) -> u32
 /// The type of the result of an operation, void where it has none.
 fn result_type(ctx: &Context, op: OpRef) -> ValueType
     requires typed { IsTyped ctx.now }
-    requires here { (o : DialectOp) × (op_at (type_trees ctx.now.types) ctx.now.ops op ≡ Some o) × IfSome o.result IsInteger }
+    requires here { (o : DialectOp) × (op_at (type_trees ctx.now.types) ctx.now.ops op ≡ Some o) × IfSome o.result IsFirstClass }
     ensures { (o : DialectOp) → op_at (type_trees ctx.now.types) ctx.now.ops op ≡ Some o → tree_of result ≡ option_type o.result }
 {
     match ctx.result_type(op) {
@@ -61,8 +65,8 @@ fn result_type(ctx: &Context, op: OpRef) -> ValueType
 
 fn argument_type(ctx: &Context, block: BlockRef, place: u32) -> ValueType
     requires typed { IsTyped ctx.now }
-    requires here { (b : DialectBlock) × (type : TypeTree) × (block_in (type_trees ctx.now.types) ctx.now block ≡ Some b) × (slice_get b.args place ≡ Some type) × IsInteger type }
-    ensures { (b : DialectBlock) → (type : TypeTree) → block_in (type_trees ctx.now.types) ctx.now block ≡ Some b → slice_get b.args place ≡ Some type → tree_of result ≡ type_of type }
+    requires here { (b : DialectBlock) × (type : TypeTree) × (block_in (type_trees ctx.now.types) ctx.now block ≡ Some b) × (slice_get b.args place ≡ Some type) × IsFirstClass type }
+    ensures { (b : DialectBlock) → (type : TypeTree) → block_in (type_trees ctx.now.types) ctx.now block ≡ Some b → slice_get b.args place ≡ Some type → tree_of result ≡ type }
 {
     value_type(ctx, ctx.block_args(block)[place as usize])
 }
@@ -127,7 +131,7 @@ fn parts_of(value: &ConstAttr) -> (TypeHandle, u64)
 /// What a constant operation does: it holds its constant.
 fn constant(ctx: &Context, value: &ConstAttr) -> Action
     requires within { HasTypesBelow (length ctx.now.types) value.now }
-    requires short { (type : TypeTree) → (number : ℕ) → attr_tree (type_trees ctx.now.types) value.now ≡ IntegerAttr type number → IsShortInt type }
+    requires integer { (type : TypeTree) → (number : ℕ) → attr_tree (type_trees ctx.now.types) value.now ≡ IntegerAttr type number → IsIntegerOf type number }
     ensures { (setting : Setting) → action_of result ≡ machine.Holds (dialect.attr_term setting (attr_tree (type_trees ctx.now.types) value.now)) }
 {
     let (ty, number) = parts_of(value);

@@ -2,7 +2,7 @@
 use Rattle.std.proofs.Common.{subst, All}
 use Rattle.dialect_core.specs.Data.{type_in}
 use Rattle.tracing.specs.DialectBodies.{IsUsed}
-use Rattle.tracing.proofs.DialectLaws.{op_within, operands_kept, used_all, integer_result, applied_is}
+use Rattle.tracing.proofs.DialectLaws.{op_within, operands_kept, used_all, first_class_result, applied_is}
 use Rattle.tracing.proofs.dialect_rows.applied.Goals as goal
 
 pub op_operands-values-requires : goal.op_operands-values-requires
@@ -27,7 +27,7 @@ result_type-requires-clause-here c =
     let h = c.requires.0 in
     let o = c.requires.1 in
     let at = c.requires.2 in
-    (o, at.here, integer_result c.args.ctx.now h.function o.operands o.result o.successors o.kind at.form)
+    (o, at.here, first_class_result c.args.ctx.now h.function o.operands o.result o.successors o.kind at.form)
 
 pub returns : goal.returns
 returns c = λ setting h o at.

@@ -5,12 +5,12 @@ use Rattle.tracing.proofs.DialectLaws.{used_result, used_argument}
 use Rattle.tracing.proofs.dialect_rows.operand_type.Goals as goal
 
 pub result_type-requires-clause-here : goal.result_type-requires-clause-here
-result_type-requires-clause-here c = let k = used_result c.args.ctx.now c.in-Result.op c.args.v c.in-Result.is c.requires.used in (k.op, k.here, k.integer)
+result_type-requires-clause-here c = let k = used_result c.args.ctx.now c.in-Result.op c.args.v c.in-Result.is c.requires.used in (k.op, k.here, k.first_class)
 
 pub argument_type-requires-clause-here : goal.argument_type-requires-clause-here
 argument_type-requires-clause-here c =
     let k = used_argument c.args.ctx.now c.in-Argument.block c.in-Argument.place c.args.v c.in-Argument.is c.requires.used in
-    (k.block, c.requires.used.type, k.here, k.typed, c.requires.used.integer)
+    (k.block, c.requires.used.type, k.here, k.typed, c.requires.used.first_class)
 
 pub returns-in-Result : goal.returns-in-Result
 returns-in-Result c =

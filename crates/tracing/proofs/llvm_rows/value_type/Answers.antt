@@ -12,4 +12,4 @@ returns-in-Int c = sym (int_tree_of c.args.m.now c.args.ty c.in-Int.width c.requ
 pub unreachable-requires : goal.unreachable-requires
 unreachable-requires c =
     let tree = function_tree_of c.args.m.now c.args.ty c.in-Function.result c.in-Function.params c.in-Function.variadic c.requires.sound (c.type_kind.ensures.kind ∙ ap Some c.in-Function.is) in
-    rw tree at c.requires.plain
+    let plain = rw tree at c.requires.plain in cc
