@@ -1,5 +1,5 @@
 -- What an import that is done gives the export.
-use Rattle.std.proofs.Common.{◌≡◌, List, ℕ, map, All, refl}
+use Rattle.std.proofs.Common.{◌≡◌, map, All}
 use Rattle.llvm_core.specs.Module.{Module}
 use Rattle.llvm_core.specs.Checked.{IsChecked}
 use Rattle.llvm_core.specs.Form.{IsForm}
@@ -13,7 +13,6 @@ use Rattle.to_llvm_ir.specs.declared.to_llvm_err.ToLLVMErr.{ToLLVMErr}
 use Rattle.to_llvm_ir.specs.Exported.{IsExported, IsCause as IsExportCause}
 use Rattle.to_llvm_ir.specs.Held.{IsReadable}
 use Rattle.transfer.specs.declared.transferring.Begun.{Begun}
-use Rattle.transfer.specs.declared.transfer_err.TransferErr.{TransferErr}
 use Rattle.transfer.specs.declared.transfer_err.TransferErr.TheVariants as T
 use Rattle.transfer.specs.Begun.{IsBegun}
 use Rattle.transfer.specs.Same.{SameThroughout, of_export, transferred_of}

@@ -1,5 +1,4 @@
 -- Both halves have what the whole promises; the second is refused for want of memory alone.
-use Rattle.std.proofs.Common.{rules}
 use Rattle.transfer.proofs.transferring.transfer.Goals as goal
 
 pub returns-clause-same : goal.returns-clause-same
