@@ -1,6 +1,7 @@
 -- The lemmas that proofs cite.
 pub mod DigitLemmas
 pub mod KeyLemmas
+pub mod LegalLaws
 pub mod PrintedParams
 pub mod TextLemmas
 pub mod TreeLemmas

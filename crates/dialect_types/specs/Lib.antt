@@ -1,4 +1,5 @@
 -- The definitions that contracts cite.
+pub mod Legalised
 pub mod Names
 pub mod Text
 pub mod Trees

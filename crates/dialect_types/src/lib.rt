@@ -1,9 +1,13 @@
 //! Types and constants of the dialect, and the legaliser of names.
 #![tactic(auto)]
 
+pub mod asking;
 pub mod attrs;
 pub mod identifier;
 pub mod legaliser;
+pub mod naming;
 pub mod printing;
+pub mod taken;
+pub mod texts;
 pub mod type_store;
 pub mod types;
