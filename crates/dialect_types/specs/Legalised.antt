@@ -54,6 +54,8 @@ pub record IsGiven (old new : List Named) (n i : List ℕ) : Type 0 where
   pub met : IsIn (map (λ (g : Named). g.name) old) n → new ≡ old
   pub fresh : ¬ (IsIn (map (λ (g : Named). g.name) old) n) → new ≡ old ++ (record { name = n; identifier = i }) ∷ []
 
+-- ---- how the legaliser keeps them; no clause of another crate cites what follows
+
 -- each name with the identifier at its place
 abbrev pub paired : List (List ℕ) → List (List ℕ) → List Named
 paired [] is = []
