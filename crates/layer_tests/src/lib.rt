@@ -1,6 +1,6 @@
 //! Tests of crates below, in a crate of their own, since a crate with tests is proved twice: what `check`, `well_formed`
 //! and the export answer to modules made by hand, the traces of a loop, the depth-first order and the dominance of small
-//! graphs, sources and sinks, and `run` over faults and long texts.
+//! graphs, the identifiers of names, sources and sinks, and `run` over faults and long texts.
 #![tactic(auto)]
 
 #[cfg(test)]
@@ -19,6 +19,8 @@ mod hand;
 mod imports;
 #[cfg(test)]
 mod modules;
+#[cfg(test)]
+mod naming;
 #[cfg(test)]
 mod orders;
 #[cfg(test)]
