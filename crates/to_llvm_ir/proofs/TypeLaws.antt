@@ -44,6 +44,11 @@ int_over n w kind k ts tree kind_is k_is tree_is held =
     let short = held_int w (held_result_own (IntType w) (subst IsHeldResult (tree_is ∙ ap (type_tree ts) k_is) held) refl) in
     rw kind_is (short.0, omega (arith, short.1))
 
+-- only a function type has the tree of one
+pub no_function : (ts : List TypeTree) (k : TypeKind) (u : TypeTree) (us : L.TypeTrees) (w : Bool) → ((r : TypeHandle) (ps : List TypeHandle) (v : Bool) → k ≡ K.Func r ps v → ⊥) → type_tree ts k ≡ FunctionType u us w → ⊥
+no_function ts (K.Func r ps v) u us w other e = other r ps v refl
+no_function ts k u us w other e = cc
+
 -- what is returned is no function
 pub held_kind : (k : TypeKind) (ts : List TypeTree) (r : TypeHandle) (ps : List TypeHandle) (v : Bool) (tree : TypeTree) → IsHeldResult tree → k ≡ K.Func r ps v → tree ≡ type_tree ts k → ⊥
 held_kind k ts r ps v tree held k_is tree_is =

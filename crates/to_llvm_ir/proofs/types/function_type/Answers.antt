@@ -4,10 +4,9 @@ use Rattle.llvm_core.specs.Module.{Module}
 use Rattle.kinds.specs.Held.{IsHeld}
 use Rattle.dialect_types.specs.declared.types.TypeHandle.{TypeHandle}
 use Rattle.dialect_types.specs.Trees.{type_at, type_trees}
-use Rattle.dialect_core.proofs.TypeTestLemmas.{no_function}
 use Rattle.to_llvm_ir.specs.Growth.{AreTypesOf}
 use Rattle.to_llvm_ir.proofs.GrowthLaws.{grows_then, grows_type, type_kept, types_kept}
-use Rattle.to_llvm_ir.proofs.TypeLaws.{form_parts, function_type}
+use Rattle.to_llvm_ir.proofs.TypeLaws.{form_parts, function_type, no_function}
 use Rattle.to_llvm_ir.proofs.types.function_type.Goals as goal
 
 pub value_type-requires : goal.value_type-requires
