@@ -7,6 +7,8 @@ MARKS = {
 }
 # classes of kinds of tokens, whatever their text
 KINDS = {'GLOBAL': 'Global', 'LOCAL': 'Local', 'LABEL': 'Label', 'INT': 'Int', 'STR': 'Str'}
+# merged classes whose laws hold of any word of the class: a proof knows the class of a word from a table, not from a law for each word
+WHOLE = {'FLAT'}
 
 CLASSES_HEAD = '''-- The classes of the words, signs and kinds of tokens of the form. `grammar/form.py write` makes this of the grammar.
 use Rattle.std.proofs.Common.{◌≡◌, ℕ, Some, Option, codes, refl, ap}
@@ -79,13 +81,18 @@ def is_word(g, n):
     return g.classes[n] in g.words
 
 
+def words_of(g, n):
+    """The words of a merged class that have laws of their own."""
+    return [] if g.classes[n] in WHOLE else g.words_of(g.classes[n])
+
+
 def laws(g, number, kind, name):
-    """The laws of an alternative: one for each word, where words stand for each other in it."""
-    merged = [n for sort, n in g.alternatives[number - 1][1] if sort == 'Leaf' and g.words_of(g.classes[n])]
+    """The laws of an alternative: one for each word, where words that have laws of their own stand for each other in it."""
+    merged = [n for sort, n in g.alternatives[number - 1][1] if sort == 'Leaf' and words_of(g, n)]
     if not merged:
         return [law(g, number, kind, name, None)]
     base = g.rules[g.alternatives[number - 1][0]] if kind == 'Same' else name_of(g, number, kind)
-    return [law(g, number, kind, '%s_%s' % (base, word), word) for word in g.words_of(g.classes[merged[0]])]
+    return [law(g, number, kind, '%s_%s' % (base, word), word) for word in words_of(g, merged[0])]
 
 
 class Part:
@@ -122,7 +129,7 @@ class Part:
         if name in KINDS:
             self.texts.append(text)
             kind, is_class = KINDS[name], '(C.kind_%s %s)' % (name.lower(), text)
-        elif sort == 'Leaf' and not is_word(g, n) and not g.words_of(name):
+        elif sort == 'Leaf' and not is_word(g, n) and not words_of(g, n):
             self.texts.append(text)
             self.premise = 'llvm_class Word %s ≡ C.%s' % (text, name.lower())
             is_class = 'h%d' % self.at
@@ -244,7 +251,7 @@ def classes_antt(g, kinds):
     _, words, marks, by_kind, others = used(g, kinds)
     out = [CLASSES_HEAD % mark_imports(g, marks)]
     for n in others:
-        if not g.words_of(g.classes[n]):
+        if not words_of(g, n):
             name = g.classes[n].lower()
             out.append('abbrev pub %s : ℕ\n%s = %d\n' % (name, name, n))
     for n in by_kind:
@@ -259,7 +266,7 @@ unfolding llvm_class
 word_class t c found = ap (λ (o : Option ℕ). unwrap_or o (other_word t)) found
 ''')
     for n in words + others:
-        for word in [g.classes[n]] if n in words else g.words_of(g.classes[n]):
+        for word in [g.classes[n]] if n in words else words_of(g, n):
             out.append('pub word_%s : llvm_class Word (codes "%s") ≡ %d\nword_%s = word_class (codes "%s") %d refl\n' % (word, word, n, word, word, n))
     return '\n'.join(out).rstrip() + '\n'
 

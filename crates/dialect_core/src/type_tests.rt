@@ -21,6 +21,8 @@ pub fn shape_of(kind: &TypeKind) -> Shape
     match kind {
         TypeKind::Void => Shape::Void,
         TypeKind::Integer(width) => Shape::Int(*width),
+        TypeKind::Pointer(space) => Shape::Pointer(*space),
+        TypeKind::Floating(_) => Shape::Other,
         TypeKind::Func { .. } => Shape::Function,
     }
 }

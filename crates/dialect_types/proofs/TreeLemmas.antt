@@ -43,9 +43,8 @@ same_parts ts us n same [] h = refl
 same_parts ts us n same (x ∷ xs) h = let e = same_parts ts us n same xs h.1 in let f = same x.0 h.0 in cc
 
 same_tree : (ts us : List TypeTree) (n : ℕ) → ((j : ℕ) → j < n → get_or ts j VoidType ≡ get_or us j VoidType) → (k : TypeKind) → HasPartsBelow n k → type_tree ts k ≡ type_tree us k
-same_tree ts us n same (Integer w) h = refl
 same_tree ts us n same (Func result params variadic) h = let e = same_parts ts us n same params h.1 in let f = same result.0 h.0 in cc
-same_tree ts us n same Void h = refl
+same_tree ts us n same k h = refl
 
 last_or : {X : Type 0} (xs : List X) (x d : X) (i : ℕ) → i ≡ length xs → get_or (xs ++ x ∷ []) i d ≡ x
 last_or [] x d zero e = refl

@@ -1,8 +1,10 @@
 -- The dialect text of types and constants.
-use Rattle.std.specs.Prelude.{◌≡◌, ℕ, zero, suc, Bool, true, false, List, [], ◌∷◌, ◌++◌, codes}
+use Rattle.std.specs.Prelude.{ℕ, zero, suc, Bool, true, false, List, [], ◌∷◌, ◌++◌, codes}
 use Rattle.std.specs.Fmt.{decimal}
+use Rattle.kinds.specs.declared.types.Floating.{Floating}
+use Rattle.kinds.specs.declared.types.Floating.TheVariants as F
 pub use Rattle.support.specs.Appended.{Keeps}
-use Rattle.dialect_types.specs.Trees.{TypeTree, VoidType, IntType, FunctionType, TypeTrees, NoTypes, ThenType, AttrTree, IntegerAttr}
+use Rattle.dialect_types.specs.Trees.{TypeTree, VoidType, IntType, PointerType, FloatingType, FunctionType, TypeTrees, NoTypes, ThenType, AttrTree, IntegerAttr}
 
 -- the word of a truth value
 abbrev pub truth_text : Bool → List ℕ
@@ -24,11 +26,20 @@ abbrev pub joined : List (List ℕ) → List ℕ
 joined [] = []
 joined (x ∷ xs) = x ++ each_after xs
 
+-- the word of a floating-point type, a line for each
+abbrev pub floating_text : Floating → List ℕ
+floating_text F.Half = codes "builtin.fp16"
+floating_text F.BFloat = codes "builtin.bf16"
+floating_text F.Float = codes "builtin.fp32"
+floating_text F.Double = codes "builtin.fp64"
+
 abbrev mutual
   -- the text of a type
   pub type_text : TypeTree → List ℕ
   type_text VoidType = codes "llvm.void"
   type_text (IntType w) = codes "builtin.integer i" ++ decimal w
+  type_text (PointerType space) = codes "llvm.ptr (" ++ decimal space ++ codes ")"
+  type_text (FloatingType of) = floating_text of
   type_text (FunctionType result params variadic) =
       codes "llvm.func <" ++ type_text result ++ codes " (" ++ joined (type_texts params) ++ codes ") variadic = " ++ truth_text variadic ++ codes ">"
 

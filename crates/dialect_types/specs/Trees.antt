@@ -1,9 +1,9 @@
 -- Types and constants as trees, and the tree that a number of a store stands for.
 use Rattle.std.specs.Prelude.{◌≡◌, ◌<◌, ◌+◌, ℕ, List, [], ◌∷◌, ◌++◌, max, length, slice_get, slice_index_or, Some}
-pub use Rattle.kinds.specs.Types.{TypeTree, VoidType, IntType, FunctionType, TypeTrees, NoTypes, ThenType}
+pub use Rattle.kinds.specs.Types.{TypeTree, VoidType, IntType, PointerType, FloatingType, FunctionType, TypeTrees, NoTypes, ThenType}
 use Rattle.dialect_types.specs.declared.types.TypeHandle.{TypeHandle}
 use Rattle.dialect_types.specs.declared.types.TypeKind.{TypeKind}
-use Rattle.dialect_types.specs.declared.types.TypeKind.TheVariants.{Integer, Func, Void}
+use Rattle.dialect_types.specs.declared.types.TypeKind.TheVariants.{Integer, Pointer, Floating, Func, Void}
 use Rattle.dialect_types.specs.declared.attrs.ConstAttr.{ConstAttr}
 use Rattle.dialect_types.specs.declared.attrs.ConstAttr.TheVariants as A
 
@@ -16,6 +16,8 @@ abbrev mutual
   pub depth : TypeTree → ℕ
   depth VoidType = 1
   depth (IntType w) = 1
+  depth (PointerType space) = 1
+  depth (FloatingType of) = 1
   depth (FunctionType result params variadic) = 1 + max (depth result) (depths params)
 
   -- the depth of the deepest
@@ -40,6 +42,8 @@ types_at ts (t ∷ xs) = ThenType (type_at ts t) (types_at ts xs)
 -- the tree of a kind, where the trees of its parts are ts
 abbrev pub type_tree : List TypeTree → TypeKind → TypeTree
 type_tree ts (Integer w) = IntType w
+type_tree ts (Pointer space) = PointerType space
+type_tree ts (Floating of) = FloatingType of
 type_tree ts (Func result params variadic) = FunctionType (type_at ts result) (types_at ts params) variadic
 type_tree ts Void = VoidType
 
@@ -63,6 +67,8 @@ AllBelow n (t ∷ xs) = (t.0 < n) × AllBelow n xs
 -- the parts of a kind are numbers below n
 abbrev pub HasPartsBelow : ℕ → TypeKind → Type 0
 HasPartsBelow n (Integer w) = Unit {0}
+HasPartsBelow n (Pointer space) = Unit {0}
+HasPartsBelow n (Floating of) = Unit {0}
 HasPartsBelow n (Func result params variadic) = (result.0 < n) × AllBelow n params
 HasPartsBelow n Void = Unit {0}
 

@@ -3,12 +3,13 @@
 ghost use Rattle.std.specs.Prelude.{◌≡◌, ◌<◌, ◌≤◌, ◌+◌, ◌%◌, ◌++◌, codes, length, IfSome, OnErr, OnOk};
 ghost use Rattle.std.specs.Fmt.{decimal};
 ghost use Rattle.dialect_types.specs.Trees.{type_at, type_trees, attr_tree, HasTypesBelow, IntegerAttr};
-ghost use Rattle.dialect_types.specs.Text.{Keeps, comma_before, inner_type_text, type_text, attr_text, truth_text};
+ghost use Rattle.dialect_types.specs.Text.{Keeps, comma_before, floating_text, inner_type_text, type_text, attr_text, truth_text};
 
 use crate::attrs::ConstAttr;
 use crate::type_store::TypeStore;
 use crate::types::{TypeHandle, TypeKind};
 use itoa::Buffer;
+use kinds::types::Floating;
 use std::alloc::AllocError;
 use support::appending::undo_failed;
 
@@ -151,6 +152,28 @@ fn append_integer_type(width: u32, out: &mut Vec<u8>) -> Result<(), AllocError>
     }
 }
 
+/// Appends the text of a pointer type.
+fn append_pointer_type(space: u32, out: &mut Vec<u8>) -> Result<(), AllocError>
+    ensures ok { OnOk result (out.new.items ≡ out.old.items ++ (codes "llvm.ptr (" ++ decimal space ++ codes ")")) }
+    ensures kept { Keeps out.old.items out.new.items }
+{
+    out.extend_from_slice(b"llvm.ptr (")?;
+    print_number(u64::from(space), out)?;
+    out.extend_from_slice(b")")
+}
+
+/// The word of a floating-point type.
+fn floating_text(of: Floating) -> &'static [u8]
+    ensures { result.now ≡ floating_text of }
+{
+    match of {
+        Floating::Half => b"builtin.fp16",
+        Floating::BFloat => b"builtin.bf16",
+        Floating::Float => b"builtin.fp32",
+        Floating::Double => b"builtin.fp64",
+    }
+}
+
 impl TypeStore {
     /// Appends the text of a type. Want of memory leaves `out` as it was.
     pub fn print_type(&self, ty: TypeHandle, out: &mut Vec<u8>) -> Result<(), AllocError>
@@ -172,6 +195,8 @@ impl TypeStore {
         match self.kind(ty) {
             TypeKind::Void => out.extend_from_slice(b"llvm.void"),
             TypeKind::Integer(width) => append_integer_type(*width, out),
+            TypeKind::Pointer(space) => append_pointer_type(*space, out),
+            TypeKind::Floating(of) => out.extend_from_slice(floating_text(*of)),
             TypeKind::Func {
                 result,
                 params,

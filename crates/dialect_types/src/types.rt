@@ -1,5 +1,6 @@
 //! Types, as a store keeps them.
 
+use kinds::types::Floating;
 use support::items::Items;
 
 /// The number of a type in its store.
@@ -11,6 +12,9 @@ pub struct TypeHandle(pub u32);
 pub enum TypeKind {
     /// An integer type of a width in bits.
     Integer(u32),
+    /// A pointer type of an address space.
+    Pointer(u32),
+    Floating(Floating),
     Func {
         result: TypeHandle,
         params: Items<TypeHandle>,

@@ -29,7 +29,7 @@ pub const_held : (m : Module) (c : LLVMConst) (t : LLVMType) (v : ℕ) → IsMod
 const_held m c t v sound at h =
     let p = int_typed m c t v sound at in
     let short = subst IsShortConst p.2 h in
-    subst IsHeldResult (sym p.1) (held_result_if (IntType p.0) (int_held p.0 short.0))
+    subst IsHeldResult (sym p.1) (held_result_if (IntType p.0) (int_held p.0 short.0.0 (omega (arith, short.0.1))))
 
 pub const_fits : (m : Module) (c : LLVMConst) (t : LLVMType) (v : ℕ) → slice_get m.consts c.0 ≡ Some (C.Int t v) → IsShortConst (const_at (trees_of m).consts c) → v < 2 ^ 64
 const_fits m c t v at h =

@@ -83,7 +83,7 @@ module _ (n : ℕ) (k : Known) (cs : List DialectBlock) (h : IsWhole k cs) where
     kind = record { integer = (w, refl, s.0, s.1); result = refl; bare = refl; ends_here = refl };
     operands = All-nil _;
     passed = All-nil _;
-    result = int_held w s.0;
+    result = int_held w s.0.0 (omega (arith, s.0.1));
     name = tt;
   })
   constant_form (PlaceholderConst q t) o s m = elim m [ ]

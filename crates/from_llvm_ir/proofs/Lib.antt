@@ -1,7 +1,6 @@
 -- The lemmas of the crate.
 pub mod TypeLaws
 pub mod ListLaws
-pub mod MatchLaws
 pub mod NameLaws
 pub mod PlaceLaws
 pub mod OrderLaws

@@ -10,6 +10,7 @@ use mathlib.Core.Path.{fun_ext}
 use Rattle.std.proofs.lemmas.List.Concat.{flat_map-append}
 use Rattle.std.proofs.lemmas.Option.{same_Some, none-some, slice_get_within, slice_get-map, slice_get_past, get_or_from_slice_get}
 use Rattle.meaning.proofs.MatchedLaws.{matched_length, matched_at, matched_append}
+use Rattle.meaning.proofs.EntryLaws.{type_stays}
 use Rattle.support.proofs.ListLaws.{item_there, slice_get-kept, filter_from}
 use Rattle.llvm_core.specs.Form as LF
 use Rattle.llvm_core.specs.Data as L
@@ -42,7 +43,6 @@ use Rattle.from_llvm_ir.proofs.ListLaws.{matched_from, matched_map}
 use Rattle.from_llvm_ir.proofs.PlaceLaws.{flat_same, flat_none}
 use Rattle.from_llvm_ir.proofs.OrderLaws.{ordered_at, ordered_first, placed, not_first}
 use Rattle.from_llvm_ir.proofs.PassLaws.{takes, phi_is, inst_form, operands_usable}
-use Rattle.from_llvm_ir.proofs.MatchLaws.{type_stays}
 use Rattle.from_llvm_ir.proofs.HoistedLaws.{rows_of, is_among, term_of}
 use Rattle.from_llvm_ir.proofs.Whole.{IsWhole, the_func, bs_length, first_source, operand_typed, target_at, find_target, find_source, source_block_apart, target_apart, entry}
 use Rattle.from_llvm_ir.proofs.EdgeLaws.{EdgeAt, edge_at, args_length, arg_at}

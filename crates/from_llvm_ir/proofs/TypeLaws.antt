@@ -8,7 +8,7 @@ use Rattle.llvm_core.specs.Form.{is_phi}
 use Rattle.dialect_types.specs.declared.types.TypeHandle.{TypeHandle}
 use Rattle.dialect_types.specs.Trees.{TypeTree, FunctionType, TypeTrees, NoTypes, ThenType, depth, depths, type_at, types_at, type_trees, AllBelow}
 use Rattle.dialect_core.specs.ContextData.{ContextData}
-use Rattle.kinds.specs.Types.{VoidType, IntType, types_list, params_of}
+use Rattle.kinds.specs.Types.{types_list, params_of}
 use Rattle.kinds.specs.Held.{is_void, IsHeld, IsHeldResult}
 use Rattle.kinds.proofs.HeldLaws.{void_is, held_result_own}
 use Rattle.from_llvm_ir.proofs.PlaceLaws.{filter_next, filter_skip}
@@ -121,18 +121,17 @@ all_below n (t ∷ ts) h = (All-head (λ (x : TypeHandle). x.0 < n) t ts h, all_
 
 -- ---- types that are translated nest little
 
--- a fact of the structure of types: a line for each kind
+-- a fact of the structure of types: those that have none for a part are of depth 1
 held_depth : (t : TypeTree) → IsHeld t → depth t ≤ 1
 unfolding IsHeld
-held_depth VoidType h = omega arith
-held_depth (IntType w) h = omega arith
 held_depth (FunctionType r ps v) h = absurd (let no : ⊥ = cc in no)
+held_depth t h = omega arith
 
 held_depths : (ts : TypeTrees) → All IsHeld (types_list ts) → depths ts ≤ 1
 held_depths NoTypes h = omega arith
 held_depths (ThenType t ts) h = omega (arith, held_depth t (All-head IsHeld t (types_list ts) h), held_depths ts (All-tail IsHeld t (types_list ts) h))
 
-result_depth : (t : TypeTree) → IsHeldResult t → depth t ≤ 1
+pub result_depth : (t : TypeTree) → IsHeldResult t → depth t ≤ 1
 result_depth t h = by (is_void t) refl
   where
     by : (v : Bool) → is_void t ≡ v → depth t ≤ 1

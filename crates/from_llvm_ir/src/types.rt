@@ -1,8 +1,9 @@
 //! Types of the source to types of the dialect.
 
-ghost use Rattle.std.specs.Prelude.{◌≡◌, ◌<◌, ◌≤◌, IfOk, IfSome, All, length, map, ℕ};
+ghost use Rattle.std.specs.Prelude.{◌≡◌, ◌<◌, ◌≤◌, IfOk, IfSome, All, List, false, length, map, ℕ};
 ghost use Rattle.std.specs.Option.{option_map};
 ghost use Rattle.llvm_core.specs.Sound.{IsModule};
+ghost use Rattle.llvm_core.specs.Parts.{is_function};
 ghost use Rattle.llvm_core.specs.Data as L;
 ghost use Rattle.llvm_core.specs.Data.{trees_of};
 ghost use Rattle.kinds.specs.Types.{params_of};
@@ -55,6 +56,21 @@ fn intern(ctx: &mut Context, kind: TypeKind) -> Result<TypeHandle, AllocError>
     ctx.types_mut().get(kind)
 }
 
+/// The kind that stands for one of a type that is no function's, a line for each.
+fn plain_kind(kind: &LLVMTypeKind) -> TypeKind
+    requires { is_function kind.now ≡ false }
+    ensures parts { (n : ℕ) → HasPartsBelow n result }
+    ensures tree { (us : List L.TypeTree) → (ts : List L.TypeTree) → type_tree ts result ≡ L.type_tree us kind.now }
+{
+    match kind {
+        LLVMTypeKind::Void => TypeKind::Void,
+        LLVMTypeKind::Int(width) => TypeKind::Integer(*width),
+        LLVMTypeKind::Ptr(space) => TypeKind::Pointer(*space),
+        LLVMTypeKind::Floating(of) => TypeKind::Floating(*of),
+        LLVMTypeKind::Function { .. } => unreachable!(),
+    }
+}
+
 /// The type that stands for one that is translated, or for void.
 pub fn import_plain(
     ctx: &mut Context,
@@ -68,11 +84,7 @@ pub fn import_plain(
     ensures ty { IfOk result (λ t. type_at (type_trees ctx.new.types) t ≡ L.type_at (trees_of source.now).types ty) }
     ensures within { IfOk result (λ t. t.0 < length ctx.new.types) }
 {
-    match source.type_kind(ty) {
-        LLVMTypeKind::Void => intern(ctx, TypeKind::Void),
-        LLVMTypeKind::Int(width) => intern(ctx, TypeKind::Integer(*width)),
-        LLVMTypeKind::Function { .. } => unreachable!(),
-    }
+    intern(ctx, plain_kind(source.type_kind(ty)))
 }
 
 /// The types that stand for types that are translated.

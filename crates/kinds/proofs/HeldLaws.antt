@@ -1,8 +1,8 @@
 -- What follows for a type from where it stands. Beside the tests that answer them, only these laws look into the words of `Held`.
-use Rattle.std.proofs.Common.{arith, ◌≡◌, ◌≤◌, ◌^◌, ℕ, Bool, true, false, ◌||◌, refl, Some, None}
+use Rattle.std.proofs.Common.{arith, ◌≡◌, ◌≤◌, ◌<◌, ◌^◌, ℕ, Bool, true, false, ◌||◌, refl, Some, None}
 use Rattle.kinds.specs.declared.fitting.Shape.{Shape}
 use Rattle.kinds.specs.declared.fitting.Shape.TheVariants as S
-use Rattle.kinds.specs.Types.{TypeTree, VoidType, IntType, FunctionType, shape}
+use Rattle.kinds.specs.Types.{TypeTree, VoidType, IntType, PointerType, FloatingType, FunctionType, shape}
 use Rattle.kinds.specs.Fitting.{is_value, is_first_class, is_held}
 use Rattle.kinds.specs.Held.{is_void, own_type, IsFirstClass, IsReturned, IsHeld, IsHeldResult, IsShortWidth}
 
@@ -12,6 +12,8 @@ use Rattle.kinds.specs.Held.{is_void, own_type, IsFirstClass, IsReturned, IsHeld
 pub void_is : (t : TypeTree) → is_void t ≡ true → t ≡ VoidType
 void_is VoidType e = refl
 void_is (IntType w) e = cc
+void_is (PointerType s) e = cc
+void_is (FloatingType a) e = cc
 void_is (FunctionType r ps v) e = cc
 
 pub void_if : (t : TypeTree) → t ≡ VoidType → is_void t ≡ true
@@ -49,6 +51,8 @@ value_own t e = by (shape t) refl e
     by : (s : Shape) → shape t ≡ s → is_value s ≡ true → is_void t ≡ false
     by S.Void is e = cc
     by (S.Int w) is e = cc
+    by (S.Pointer s) is e = cc
+    by S.Other is e = cc
     by S.Function is e = cc
 
 -- ---- first class
@@ -56,6 +60,8 @@ value_own t e = by (shape t) refl e
 shape_value : (s : Shape) → is_first_class s ≡ true → is_value s ≡ true
 shape_value S.Void e = cc
 shape_value (S.Int w) e = refl
+shape_value (S.Pointer s) e = refl
+shape_value S.Other e = refl
 shape_value S.Function e = cc
 
 pub first_class_value : (t : TypeTree) → IsFirstClass t → is_value (shape t) ≡ true
@@ -87,6 +93,8 @@ returned_void t e = cc
 shape_first_class : (s : Shape) → is_held s ≡ true → is_first_class s ≡ true
 shape_first_class S.Void e = cc
 shape_first_class (S.Int w) e = grind arith
+shape_first_class (S.Pointer s) e = e
+shape_first_class S.Other e = refl
 shape_first_class S.Function e = cc
 
 pub held_first_class : (t : TypeTree) → IsHeld t → IsFirstClass t
@@ -124,13 +132,13 @@ held_result_returned t h = by (is_void t) refl
 
 -- ---- integers
 
-pub held_int : (w : ℕ) → IsHeld (IntType w) → IsShortWidth w
+pub held_int : (w : ℕ) → IsHeld (IntType w) → (1 ≤ w) × (w ≤ 2 ^ 23)
 unfolding IsHeld
 held_int w h = grind arith
 
-pub int_held : (w : ℕ) → IsShortWidth w → IsHeld (IntType w)
+pub int_held : (w : ℕ) → 1 ≤ w → w ≤ 2 ^ 23 → IsHeld (IntType w)
 unfolding IsHeld
-int_held w h = grind arith
+int_held w a b = grind arith
 
 pub int_first_class : (w : ℕ) → 1 ≤ w → w ≤ 2 ^ 23 → IsFirstClass (IntType w)
 unfolding IsFirstClass
@@ -139,3 +147,7 @@ int_first_class w a b = grind arith
 pub first_class_int : (w : ℕ) → IsFirstClass (IntType w) → (1 ≤ w) × (w ≤ 2 ^ 23)
 unfolding IsFirstClass
 first_class_int w h = grind arith
+
+pub first_class_pointer : (s : ℕ) → IsFirstClass (PointerType s) → s < 2 ^ 32
+unfolding IsFirstClass
+first_class_pointer s h = grind arith

@@ -1,7 +1,8 @@
 -- Equal types, tested and proved: a line for each kind of type.
-use Rattle.std.proofs.Common.{◌≡◌, Bool, true, false, ◌&&◌, refl, ap, eq-eqb}
+use Rattle.std.proofs.Common.{◌≡◌, Bool, true, false, ◌&&◌, refl, ap, eq-eqb, arith}
 use Rattle.std.proofs.lemmas.Bool.{eqb-true}
-use Rattle.kinds.specs.Types.{TypeTree, VoidType, IntType, FunctionType, TypeTrees, NoTypes, ThenType, same_bool, same_tree, same_trees}
+use Rattle.kinds.specs.declared.types.Floating.{Floating}
+use Rattle.kinds.specs.Types.{TypeTree, VoidType, IntType, PointerType, FloatingType, FunctionType, same_floating, TypeTrees, NoTypes, ThenType, same_bool, same_tree, same_trees}
 
 same_self : (b : Bool) → same_bool b b ≡ true
 same_self true = refl
@@ -13,11 +14,19 @@ same_bools true false e = cc
 same_bools false true e = cc
 same_bools false false e = refl
 
+floating_self : (a : Floating) → same_floating a a ≡ true
+floating_self a = grind arith
+
+floating_told : (a b : Floating) → same_floating a b ≡ true → a ≡ b
+floating_told a b e = grind arith
+
 mutual
   -- a type is the same as itself
   pub tree_self : (t : TypeTree) → same_tree t t ≡ true
   tree_self VoidType = refl
   tree_self (IntType w) = eq-eqb w w refl
+  tree_self (PointerType s) = eq-eqb s s refl
+  tree_self (FloatingType a) = floating_self a
   tree_self (FunctionType r ps v) = let a = tree_self r in let b = trees_self ps in let c = same_self v in cc
 
   trees_self : (ts : TypeTrees) → same_trees ts ts ≡ true
@@ -36,19 +45,16 @@ mutual
   -- types that are tested to be the same are equal
   pub tree_told : (t u : TypeTree) → same_tree t u ≡ true → t ≡ u
   tree_told VoidType VoidType e = refl
-  tree_told VoidType (IntType v) e = cc
-  tree_told VoidType (FunctionType s qs w) e = cc
-  tree_told (IntType w) VoidType e = cc
   tree_told (IntType w) (IntType v) e = ap IntType (eqb-true w v e)
-  tree_told (IntType w) (FunctionType s qs v) e = cc
-  tree_told (FunctionType r ps v) VoidType e = cc
-  tree_told (FunctionType r ps v) (IntType w) e = cc
+  tree_told (PointerType s) (PointerType t) e = ap PointerType (eqb-true s t e)
+  tree_told (FloatingType a) (FloatingType b) e = ap FloatingType (floating_told a b e)
   tree_told (FunctionType r ps v) (FunctionType s qs w) e =
       let front = and_left (same_tree r s && same_trees ps qs) (same_bool v w) e in
       let a = tree_told r s (and_left (same_tree r s) (same_trees ps qs) front) in
       let b = trees_told ps qs (and_right (same_tree r s) (same_trees ps qs) front) in
       let c = same_bools v w (and_right (same_tree r s && same_trees ps qs) (same_bool v w) e) in
       cc
+  tree_told t u e = grind arith
 
   trees_told : (ts us : TypeTrees) → same_trees ts us ≡ true → ts ≡ us
   trees_told NoTypes NoTypes e = refl

@@ -27,7 +27,7 @@ IsFirstClass t = is_first_class (shape t) ≡ true
 unfoldable pub IsReturned : TypeTree → Type 0
 IsReturned t = (is_void t || is_first_class (shape t)) ≡ true
 
--- a type of a value that is translated today: an integer of 1 to 64 bits
+-- a type of a value that is translated today: each that there is so far
 unfoldable pub IsHeld : TypeTree → Type 0
 IsHeld t = is_held (shape t) ≡ true
 

@@ -2,12 +2,17 @@
 use Rattle.std.specs.Prelude.{ℕ, ◌+◌, Bool, true, false, ◌&&◌, nat_eq, List, [], ◌∷◌}
 use Rattle.kinds.specs.declared.fitting.Shape.{Shape}
 use Rattle.kinds.specs.declared.fitting.Shape.TheVariants as S
+use Rattle.kinds.specs.declared.types.Floating.{Floating}
+use Rattle.kinds.specs.declared.types.Floating.TheVariants as F
 
 mutual
   -- a type, a line for each kind
   pub data TypeTree : Type 0 where
     VoidType : TypeTree
     IntType : (width : ℕ) → TypeTree
+    -- of an address space
+    PointerType : (space : ℕ) → TypeTree
+    FloatingType : (of : Floating) → TypeTree
     FunctionType : (result : TypeTree) (params : TypeTrees) (variadic : Bool) → TypeTree
 
   pub data TypeTrees : Type 0 where
@@ -18,6 +23,8 @@ mutual
 abbrev pub shape : TypeTree → Shape
 shape VoidType = S.Void
 shape (IntType w) = S.Int w
+shape (PointerType space) = S.Pointer space
+shape (FloatingType of) = S.Other
 shape (FunctionType result params variadic) = S.Function
 
 abbrev pub same_bool : Bool → Bool → Bool
@@ -25,11 +32,20 @@ same_bool true b = b
 same_bool false true = false
 same_bool false false = true
 
+abbrev pub same_floating : Floating → Floating → Bool
+same_floating F.Half F.Half = true
+same_floating F.BFloat F.BFloat = true
+same_floating F.Float F.Float = true
+same_floating F.Double F.Double = true
+same_floating _ _ = false
+
 -- whether two types are one, a line for each kind
 abbrev mutual
   pub same_tree : TypeTree → TypeTree → Bool
   same_tree VoidType VoidType = true
   same_tree (IntType w) (IntType v) = nat_eq w v
+  same_tree (PointerType s) (PointerType t) = nat_eq s t
+  same_tree (FloatingType a) (FloatingType b) = same_floating a b
   same_tree (FunctionType r ps v) (FunctionType s qs w) = same_tree r s && same_trees ps qs && same_bool v w
   same_tree _ _ = false
 
@@ -52,12 +68,16 @@ count_types (ThenType t ts) = 1 + count_types ts
 abbrev pub result_of : TypeTree → TypeTree
 result_of VoidType = VoidType
 result_of (IntType w) = VoidType
+result_of (PointerType space) = VoidType
+result_of (FloatingType of) = VoidType
 result_of (FunctionType result params variadic) = result
 
 -- what a function of that type takes
 abbrev pub takes_of : TypeTree → TypeTrees
 takes_of VoidType = NoTypes
 takes_of (IntType w) = NoTypes
+takes_of (PointerType space) = NoTypes
+takes_of (FloatingType of) = NoTypes
 takes_of (FunctionType result params variadic) = params
 
 abbrev pub params_of : TypeTree → List TypeTree

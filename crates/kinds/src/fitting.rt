@@ -8,15 +8,16 @@ use crate::rules::{Fit, Gives, Rule, Takes};
 /// The greatest width of an integer type in bits, 2^23.
 const MAX_WIDTH: u32 = 8_388_608;
 
-/// The greatest width of an integer that is translated.
-const MAX_SHORT: u32 = 64;
-
 /// What rules look at in a type.
 #[derive(Clone, Copy, PartialEq, Eq, Debug, Drop)]
 pub enum Shape {
     Void,
     /// An integer type of this width.
     Int(u32),
+    /// A pointer type of this address space.
+    Pointer(u32),
+    /// A type of values that no rule looks into.
+    Other,
     /// A type of no value.
     Function,
 }
@@ -35,6 +36,8 @@ pub fn is_value(shape: Shape) -> bool
     match shape {
         Shape::Void => false,
         Shape::Int(_) => true,
+        Shape::Pointer(_) => true,
+        Shape::Other => true,
         Shape::Function => false,
     }
 }
@@ -45,6 +48,8 @@ fn is_number(shape: Shape) -> bool
     match shape {
         Shape::Void => false,
         Shape::Int(_) => true,
+        Shape::Pointer(_) => false,
+        Shape::Other => false,
         Shape::Function => false,
     }
 }
@@ -55,6 +60,8 @@ fn is_bit(shape: Shape) -> bool
     match shape {
         Shape::Void => false,
         Shape::Int(width) => width == 1,
+        Shape::Pointer(_) => false,
+        Shape::Other => false,
         Shape::Function => false,
     }
 }
@@ -66,6 +73,8 @@ pub fn is_nothing(shape: Shape) -> bool
     match shape {
         Shape::Void => true,
         Shape::Int(_) => false,
+        Shape::Pointer(_) => false,
+        Shape::Other => false,
         Shape::Function => false,
     }
 }
@@ -77,6 +86,8 @@ pub fn is_function(shape: Shape) -> bool
     match shape {
         Shape::Void => false,
         Shape::Int(_) => false,
+        Shape::Pointer(_) => false,
+        Shape::Other => false,
         Shape::Function => true,
     }
 }
@@ -88,17 +99,21 @@ pub fn is_first_class(shape: Shape) -> bool
     match shape {
         Shape::Void => false,
         Shape::Int(width) => 1 <= width && width <= MAX_WIDTH,
+        Shape::Pointer(_) => true,
+        Shape::Other => true,
         Shape::Function => false,
     }
 }
 
-/// Whether it is that of a type that is translated: an integer of 1 to 64 bits.
+/// Whether it is that of a type that is translated: each type of a value that there is so far.
 pub fn is_held(shape: Shape) -> bool
     ensures { result ≡ is_held shape }
 {
     match shape {
         Shape::Void => false,
-        Shape::Int(width) => 1 <= width && width <= MAX_SHORT,
+        Shape::Int(width) => 1 <= width && width <= MAX_WIDTH,
+        Shape::Pointer(_) => true,
+        Shape::Other => true,
         Shape::Function => false,
     }
 }

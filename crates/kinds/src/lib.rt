@@ -5,3 +5,4 @@
 pub mod fitting;
 pub mod op;
 pub mod rules;
+pub mod types;

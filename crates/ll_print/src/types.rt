@@ -5,10 +5,11 @@ ghost use Rattle.kinds.specs.Held.{is_void};
 ghost use Rattle.support.specs.Appended.{Keeps};
 ghost use Rattle.llvm_core.specs.Sound.{IsModule};
 ghost use Rattle.llvm_core.specs.Data.{trees_of, type_at};
-ghost use Rattle.ll_print.specs.Printing.{type_text};
+ghost use Rattle.ll_print.specs.Printing.{floating_text, space_text, type_text};
 
 use itoa::Buffer;
 use kinds::fitting::is_nothing;
+use kinds::types::Floating;
 use llvm_core::module::{LLVMModule, shape_of};
 use llvm_core::numbers::LLVMType;
 use llvm_core::types::LLVMTypeKind;
@@ -98,6 +99,50 @@ fn put_width(width: u32, out: &mut Vec<u8>) -> Result<(), AllocError>
     put_long(u128::from(width), out)
 }
 
+/// A pointer type of an address space that is written. Most are of the first, so this stands apart.
+#[inline(never)]
+fn put_spaced(space: u32, out: &mut Vec<u8>) -> Result<(), AllocError>
+    ensures text { OnOk result (out.new.items ≡ out.old.items ++ (codes "ptr addrspace(" ++ decimal space ++ codes ")")) }
+    ensures kept { Keeps out.old.items out.new.items }
+{
+    out.extend_from_slice(b"ptr addrspace(")?;
+    put_decimal(u128::from(space), out)?;
+    out.push(b')')?;
+    Ok(())
+}
+
+/// The pointer type of an address space.
+#[inline(always)]
+fn put_pointer(space: u32, out: &mut Vec<u8>) -> Result<(), AllocError>
+    ensures text { OnOk result (out.new.items ≡ out.old.items ++ (codes "ptr" ++ space_text space)) }
+    ensures kept { Keeps out.old.items out.new.items }
+{
+    if space == 0 {
+        return out.extend_from_slice(b"ptr");
+    }
+    put_spaced(space, out)
+}
+
+/// The word of a floating-point type, a line for each.
+fn floating_word(of: Floating) -> &'static [u8]
+    ensures { result.now ≡ floating_text of }
+{
+    match of {
+        Floating::Half => b"half",
+        Floating::BFloat => b"bfloat",
+        Floating::Float => b"float",
+        Floating::Double => b"double",
+    }
+}
+
+/// A floating-point type.
+fn put_floating(of: Floating, out: &mut Vec<u8>) -> Result<(), AllocError>
+    ensures text { OnOk result (out.new.items ≡ out.old.items ++ floating_text of) }
+    ensures kept { Keeps out.old.items out.new.items }
+{
+    out.extend_from_slice(floating_word(of))
+}
+
 /// Whether a type is void.
 #[inline(always)]
 pub fn is_void(m: &LLVMModule, ty: LLVMType) -> bool
@@ -119,6 +164,8 @@ pub fn put_type(m: &LLVMModule, ty: LLVMType, out: &mut Vec<u8>) -> Result<(), A
     match m.type_kind(ty) {
         LLVMTypeKind::Void => out.extend_from_slice(b"void"),
         LLVMTypeKind::Int(width) => put_width(*width, out),
+        LLVMTypeKind::Ptr(space) => put_pointer(*space, out),
+        LLVMTypeKind::Floating(of) => put_floating(*of, out),
         LLVMTypeKind::Function { .. } => Ok(()),
     }
 }

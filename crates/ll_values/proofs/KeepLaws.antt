@@ -97,6 +97,7 @@ module _ (bytes : List ℕ) (m n : Module) (s t : Store) (g : Interns m n) (k : 
   value_same (V.Type ty) h = rw (g.types ty h) refl
   value_same (V.Literal l) h = refl
   value_same (V.Typed x) h = ap S.TypedV (typed_same bytes m n g x h)
+  value_same (V.Space i) h = refl
   value_same (V.Pair ty a b) h = rw (g.types ty h.0, said_same bytes m n g a h.1, said_same bytes m n g b h.2) refl
   value_same (V.Entry e) h = refl
   value_same (V.Entries i) h = rw (k.entries.at i h) refl
@@ -125,6 +126,7 @@ module _ (bytes : List ℕ) (m n : Module) (s t : Store) (g : Interns m n) (k : 
   value_there (V.Type ty) h = omega (arith, g.type_count, h)
   value_there (V.Literal l) h = tt
   value_there (V.Typed x) h = typed_there bytes m n g x h
+  value_there (V.Space i) h = tt
   value_there (V.Pair ty a b) h = (omega (arith, g.type_count, h.0), said_there bytes m n g a h.1, said_there bytes m n g b h.2)
   value_there (V.Entry e) h = tt
   value_there (V.Entries i) h = omega (arith, k.entries.count, h)

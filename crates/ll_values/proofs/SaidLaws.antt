@@ -31,9 +31,8 @@ said_bounded m ty w r s at is none t = by (nat_le w 64) refl
 
 -- at a type that is no integer
 pub said_at_other : (m : Module) (ty : LLVMType) (k : LLVMTypeKind) → IsModule m → slice_get m.types ty.0 ≡ Some k → ((w : ℕ) → k ≢ T.Int w) → (t : Text) → said (type_at (trees_of m).types ty) (ConstL t) ≡ None
-said_at_other m ty T.Void s at other t = rw (type_tree_of m ty T.Void s at) refl
 said_at_other m ty (T.Int w) s at other t = absurd (other w refl)
-said_at_other m ty (T.Function r ps v) s at other t = rw (type_tree_of m ty (T.Function r ps v) s at) refl
+said_at_other m ty k s at other t = rw (type_tree_of m ty k s at) refl
 
 pub said_const : (m n : Module) (ty : LLVMType) (c : LLVMConst) (w value : ℕ) (t : Text) → IsModule m → IsModule n → slice_get m.types ty.0 ≡ Some (T.Int w) → w ≤ 64 → const_value w t ≡ Some value → n.types ≡ m.types
     → slice_get n.consts c.0 ≡ Some (C.Int ty value) → said (type_at (trees_of m).types ty) (ConstL t) ≡ Some (Const (const_at (trees_of n).consts c))

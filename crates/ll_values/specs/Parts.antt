@@ -14,6 +14,7 @@ use Rattle.ll_values.specs.declared.form.TypedKind.TheVariants as T
 abbrev pub detail_count : DetailKind → ℕ
 detail_count D.Source = 1
 detail_count D.External = 1
+detail_count D.Space = 1
 detail_count D.Param = 3
 detail_count D.Label = 1
 detail_count D.Named = 2
@@ -58,6 +59,8 @@ row_count R.Branch = 3
 abbrev pub typed_count : TypedKind → ℕ
 typed_count T.Void = 0
 typed_count T.Int = 1
+typed_count T.Pointer = 1
+typed_count T.Flat = 1
 typed_count T.Typed = 2
 typed_count T.Pair = 3
 typed_count T.Phi = 3

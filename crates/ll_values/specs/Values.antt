@@ -1,13 +1,14 @@
 -- What the alternatives of the form say: the values of a text, and how each is made of the values in it.
-use Rattle.std.specs.Prelude.{◌^◌, Bool, true, false, ◌&&◌, nat_le, if◌then◌else◌, List, [], ◌∷◌, Option, Some, None}
+use Rattle.std.specs.Prelude.{ℕ, ◌-◌, ◌^◌, Bool, true, false, ◌&&◌, nat_le, if◌then◌else◌, List, [], ◌∷◌, Option, Some, None}
 use Rattle.std.specs.Option.{option_map}
 use Rattle.kinds.specs.declared.op.OverflowFlags.{OverflowFlags}
 use Rattle.kinds.specs.declared.op.Op.{Op}
 use Rattle.kinds.specs.declared.op.Op.TheVariants as O
-use Rattle.kinds.specs.Types.{TypeTree, VoidType, IntType}
+use Rattle.kinds.specs.declared.types.Floating.{Floating}
+use Rattle.kinds.specs.Types.{TypeTree, VoidType, IntType, PointerType, FloatingType}
 use Rattle.llvm_core.specs.Data.{IntConst}
 use Rattle.ll_literals.specs.Chain.{◌>>=◌}
-use Rattle.ll_literals.specs.Numbers.{width_of}
+use Rattle.ll_literals.specs.Numbers.{number_of, up_to, width_of}
 use Rattle.ll_literals.specs.Literals.{const_value}
 use Rattle.ll_lines.specs.Lines.{Text, Said, Local, Const, Typed, Incoming, Inst, Phi, Row, Part, Label, Does, Param, Function, File}
 use Rattle.ll_values.specs.declared.form.Kind.{Kind}
@@ -20,7 +21,7 @@ use Rattle.ll_values.specs.declared.form.RowKind.{RowKind}
 use Rattle.ll_values.specs.declared.form.RowKind.TheVariants as R
 use Rattle.ll_values.specs.declared.form.TypedKind.{TypedKind}
 use Rattle.ll_values.specs.declared.form.TypedKind.TheVariants as T
-use Rattle.ll_values.specs.Words.{binary_op, cast_op, three_op, predicate_of, no_wraps}
+use Rattle.ll_values.specs.Words.{binary_op, cast_op, three_op, predicate_of, floating_of, no_wraps}
 
 -- a literal as it is written: its type is known from what it stands in
 pub data Literal : Type 0 where
@@ -48,6 +49,8 @@ pub data Value : Type 0 where
   TypeV : TypeTree → Value
   LiteralV : Literal → Value
   TypedV : Typed → Value
+  -- an address space
+  SpaceV : ℕ → Value
   PairV : Typed → Typed → Value
   EntryV : Entry → Value
   EntriesV : List Entry → Value
@@ -111,6 +114,7 @@ detail_by D.Literal (TextV t ∷ []) = Some (LiteralV (ConstL t))
 detail_by D.Nuw (FlagV nsw ∷ []) = Some (WrapsV (record { nuw = true; nsw = nsw }))
 detail_by D.Nsw [] = Some (WrapsV (record { nuw = false; nsw = true }))
 detail_by D.NoWraps [] = Some (WrapsV no_wraps)
+detail_by D.Space (TextV t ∷ []) = option_map SpaceV (up_to (2 ^ 32 - 1) (number_of t))
 detail_by D.Entry (LiteralV ℓ ∷ TextV t ∷ []) = Some (EntryV (record { literal = ℓ; block = t }))
 detail_by D.Inst (InstV i ∷ NoneV ∷ []) = Some (InstV i)
 detail_by D.Named (TextV t ∷ InstV i ∷ []) = Some (PartV (Does (record { result = Some t; inst = i })))
@@ -157,10 +161,20 @@ row_by R.Branch (TypedV x ∷ TextV t ∷ TextV u ∷ []) = Some (InstV (row O.C
 row_by R.Unreachable [] = Some (InstV (row O.Unreachable [] []))
 row_by _ _ = None
 
+-- the kinds of types
+abbrev pub is_type : TypedKind → Bool
+is_type T.Typed = false
+is_type T.Pair = false
+is_type T.Phi = false
+is_type _ = true
+
 -- types, and what a literal takes its type from
 abbrev pub typed_by : TypedKind → List Value → Option Value
 typed_by T.Void [] = Some (TypeV VoidType)
 typed_by T.Int (TextV t ∷ []) = option_map TypeV (int_type t)
+typed_by T.Pointer (NoneV ∷ []) = Some (TypeV (PointerType 0))
+typed_by T.Pointer (SpaceV n ∷ []) = Some (TypeV (PointerType n))
+typed_by T.Flat (TextV t ∷ []) = option_map (λ (f : Floating). TypeV (FloatingType f)) (floating_of t)
 typed_by T.Typed (TypeV τ ∷ LiteralV ℓ ∷ []) = option_map TypedV (typed τ ℓ)
 typed_by T.Pair (TypeV τ ∷ LiteralV ℓ ∷ LiteralV r ∷ []) = typed τ ℓ >>= λ x. typed τ r >>= λ y. Some (PairV x y)
 typed_by T.Phi (TypeV τ ∷ EntryV e ∷ EntriesV es ∷ []) = incoming τ (e ∷ es) >>= λ xs. Some (InstV (Phi τ xs))

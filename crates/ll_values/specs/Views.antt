@@ -19,7 +19,7 @@ use Rattle.ll_values.specs.declared.value.Definition.{Definition}
 use Rattle.ll_values.specs.declared.value.Value as code_value
 use Rattle.ll_values.specs.declared.value.Value.TheVariants as V
 use Rattle.ll_values.specs.Lists.{list_at}
-use Rattle.ll_values.specs.Values.{Literal, LocalL, ConstL, Entry, Head, Value, NoneV, TextV, FlagV, WrapsV, TypeV, LiteralV, TypedV, PairV, EntryV, EntriesV, InstV, PartV, BodyV, ParamV, ParamsV, HeadV, SourceV, FunctionV, FileV}
+use Rattle.ll_values.specs.Values.{Literal, LocalL, ConstL, Entry, Head, Value, NoneV, TextV, FlagV, WrapsV, TypeV, LiteralV, TypedV, SpaceV, PairV, EntryV, EntriesV, InstV, PartV, BodyV, ParamV, ParamsV, HeadV, SourceV, FunctionV, FileV}
 
 -- ---- what is said
 
@@ -65,6 +65,7 @@ module _ (bytes : List ℕ) (t : Trees) (s : Store) where
   value_view (V.Type ty) = TypeV (type_at t.types ty)
   value_view (V.Literal l) = LiteralV (literal_view bytes l)
   value_view (V.Typed x) = TypedV (typed_view bytes t x)
+  value_view (V.Space n) = SpaceV n
   value_view (V.Pair ty a b) = PairV (typed_view bytes t (record { ty = ty; said = a })) (typed_view bytes t (record { ty = ty; said = b }))
   value_view (V.Entry e) = EntryV (entry_view bytes e)
   value_view (V.Entries n) = EntriesV (entries_at n)
@@ -112,6 +113,7 @@ module _ (m : Module) (s : Store) where
   IsValueIn (V.Type ty) = IsTypeIn m ty
   IsValueIn (V.Literal l) = Unit {0}
   IsValueIn (V.Typed x) = IsTypedIn m x
+  IsValueIn (V.Space n) = Unit {0}
   IsValueIn (V.Pair ty a b) = IsTypeIn m ty × IsSaidIn m a × IsSaidIn m b
   IsValueIn (V.Entry e) = Unit {0}
   IsValueIn (V.Entries n) = n ≤ length s.entries

@@ -1,4 +1,4 @@
--- Words of instructions, each with its row of the table.
+-- Words of instructions, each with its row of the table, and words of types.
 use Rattle.std.specs.Prelude.{false, List, [], ◌∷◌, Option, codes}
 use Rattle.std.specs.Option.{option_map}
 use Rattle.std.specs.Map.{lookup}
@@ -8,6 +8,8 @@ use Rattle.kinds.specs.declared.op.LLVMIntPredicate.TheVariants as P
 use Rattle.kinds.specs.declared.op.OverflowFlags.{OverflowFlags}
 use Rattle.kinds.specs.declared.op.Op.{Op}
 use Rattle.kinds.specs.declared.op.Op.TheVariants as O
+use Rattle.kinds.specs.declared.types.Floating.{Floating}
+use Rattle.kinds.specs.declared.types.Floating.TheVariants as F
 use Rattle.ll_lines.specs.Lines.{Text}
 
 abbrev pub no_wraps : OverflowFlags
@@ -45,3 +47,10 @@ predicate_rows =
 
 abbrev pub predicate_of : Text → Option LLVMIntPredicate
 predicate_of word = lookup (bytes_eq word) predicate_rows
+
+-- floating-point types
+abbrev pub floating_rows : List (Text × Floating)
+floating_rows = (codes "half", F.Half) ∷ (codes "bfloat", F.BFloat) ∷ (codes "float", F.Float) ∷ (codes "double", F.Double) ∷ []
+
+abbrev pub floating_of : Text → Option Floating
+floating_of word = lookup (bytes_eq word) floating_rows

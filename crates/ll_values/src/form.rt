@@ -8,6 +8,7 @@ ghost use Rattle.ll_values.specs.Parts.{detail_count, list_count, row_count, typ
 pub enum DetailKind {
     Source,
     External,
+    Space,
     Param,
     Label,
     Named,
@@ -61,6 +62,8 @@ pub enum RowKind {
 pub enum TypedKind {
     Void,
     Int,
+    Pointer,
+    Flat,
     Typed,
     Pair,
     Phi,
@@ -89,6 +92,7 @@ impl DetailKind {
         match self {
             DetailKind::Source => 1,
             DetailKind::External => 1,
+            DetailKind::Space => 1,
             DetailKind::Param => 3,
             DetailKind::Label => 1,
             DetailKind::Named => 2,
@@ -157,6 +161,8 @@ impl TypedKind {
         match self {
             TypedKind::Void => 0,
             TypedKind::Int => 1,
+            TypedKind::Pointer => 1,
+            TypedKind::Flat => 1,
             TypedKind::Typed => 2,
             TypedKind::Pair => 3,
             TypedKind::Phi => 3,
@@ -234,7 +240,8 @@ pub static KINDS: [Kind; 541] = [
     Kind::Outside,
     Kind::Outside,
     Kind::Outside,
-    Kind::Outside,
+    // 41: space = 'addrspace' '(' INT ')'
+    Kind::Detail(DetailKind::Space),
     // 42: space = nothing
     Kind::Nothing,
     Kind::Outside,
@@ -477,16 +484,20 @@ pub static KINDS: [Kind; 541] = [
     Kind::Typed(TypedKind::Void),
     // 262: type = INTTYPE
     Kind::Typed(TypedKind::Int),
-    Kind::Outside,
-    Kind::Outside,
+    // 263: type = 'ptr' space
+    Kind::Typed(TypedKind::Pointer),
+    // 264: type = FLAT
+    Kind::Typed(TypedKind::Flat),
     Kind::Outside,
     Kind::Outside,
     Kind::Outside,
     Kind::Outside,
     // 269: solid = INTTYPE
     Kind::Typed(TypedKind::Int),
-    Kind::Outside,
-    Kind::Outside,
+    // 270: solid = 'ptr' space
+    Kind::Typed(TypedKind::Pointer),
+    // 271: solid = FLAT
+    Kind::Typed(TypedKind::Flat),
     Kind::Outside,
     Kind::Outside,
     Kind::Outside,

@@ -10,6 +10,7 @@ use crate::stack::Stack;
 use crate::store::Store;
 use crate::value::{Entry, Literal, Piece, Value};
 use crate::value_err::ValueErr;
+use crate::words::space_of;
 use kinds::op::OverflowFlags;
 use ll_lines::lines::Param;
 use llvm_core::module::LLVMModule;
@@ -28,6 +29,10 @@ pub fn put_detail(alloc: Global, m: &LLVMModule, store: &Store, bytes: &[u8], ki
         DetailKind::Nuw => match *stack.first(1) { [Value::Flag(nsw)] => put(alloc, m, store, bytes, Kind::Detail(DetailKind::Nuw), stack, Value::Wraps(OverflowFlags { nuw: true, nsw })), _ => Err(ValueErr::NotYet) },
         DetailKind::Nsw => put(alloc, m, store, bytes, Kind::Detail(DetailKind::Nsw), stack, Value::Wraps(OverflowFlags { nuw: false, nsw: true })),
         DetailKind::NoWraps => put(alloc, m, store, bytes, Kind::Detail(DetailKind::NoWraps), stack, Value::Wraps(OverflowFlags { nuw: false, nsw: false })),
+        DetailKind::Space => match *stack.first(1) {
+            [Value::Text(n)] => match space_of(n.text(bytes)) { Some(space) => put(alloc, m, store, bytes, Kind::Detail(DetailKind::Space), stack, Value::Space(space)), None => Err(ValueErr::NotYet) },
+            _ => Err(ValueErr::NotYet),
+        },
         DetailKind::Entry => match *stack.first(2) { [Value::Literal(literal), Value::Text(block)] => put(alloc, m, store, bytes, Kind::Detail(DetailKind::Entry), stack, Value::Entry(Entry { literal, block })), _ => Err(ValueErr::NotYet) },
         DetailKind::Inst => match *stack.first(2) { [Value::Inst(n), Value::Nothing] => put(alloc, m, store, bytes, Kind::Detail(DetailKind::Inst), stack, Value::Inst(n)), _ => Err(ValueErr::NotYet) },
         DetailKind::Named => match *stack.first(2) { [Value::Text(name), Value::Inst(n)] => put(alloc, m, store, bytes, Kind::Detail(DetailKind::Named), stack, Value::Part(Piece::Does(Some(name), n))), _ => Err(ValueErr::NotYet) },

@@ -1,10 +1,10 @@
 //! Types and constants of the module, as a text says them.
 
-ghost use Rattle.std.specs.Prelude.{◌≡◌, ◌≤◌, Some, None, Err, IfOk, IfSome, OnOk, slice_get};
-ghost use Rattle.kinds.specs.Types.{VoidType, IntType};
+ghost use Rattle.std.specs.Prelude.{◌≡◌, ◌≤◌, Some, None, Err, IfOk, IfSome, OnOk, length, slice_get};
 ghost use Rattle.llvm_core.specs.declared.types.LLVMTypeKind.TheVariants as T;
+ghost use Rattle.llvm_core.specs.Parts.{IsTypeOver};
 ghost use Rattle.llvm_core.specs.Sound.{IsModule};
-ghost use Rattle.llvm_core.specs.Data.{trees_of, type_at};
+ghost use Rattle.llvm_core.specs.Data.{trees_of, type_at, type_tree};
 ghost use Rattle.ll_lines.specs.Lines.{Text};
 ghost use Rattle.ll_lines.specs.Views.{said_view, text_of, IsTypeIn, IsSaidIn};
 ghost use Rattle.ll_values.specs.Values.{said, ConstL};
@@ -20,16 +20,17 @@ use llvm_core::consts::LLVMConstKind;
 use llvm_core::module::LLVMModule;
 use llvm_core::numbers::LLVMType;
 use llvm_core::types::LLVMTypeKind;
-use std::alloc::AllocError;
 
-/// The type `void`.
-pub fn void_type(m: &mut LLVMModule) -> Result<LLVMType, AllocError>
+/// The number of a type, new or old.
+fn type_number(m: &mut LLVMModule, kind: LLVMTypeKind) -> Result<LLVMType, ValueErr>
     requires sound { IsModule m.old }
+    requires parts { IsTypeOver (length m.old.types) kind }
     ensures interns { OnOk result (Interns m.old m.new) }
     ensures there { IfOk result (IsTypeIn m.new) }
-    ensures tree { IfOk result (λ t. type_at (trees_of m.new).types t ≡ VoidType) }
+    ensures tree { IfOk result (λ t. type_at (trees_of m.new).types t ≡ type_tree (trees_of m.new).types kind) }
+    ensures memory { result ≡ Err ValueErr.NotYet → ⊥ }
 {
-    let ty = m.type_get(LLVMTypeKind::Void)?;
+    let ty = m.type_get(kind)?;
     Ok(ty)
 }
 
@@ -47,20 +48,21 @@ fn early_int(m: &LLVMModule, width: u32) -> Option<LLVMType>
     None
 }
 
-/// An integer type of 1 to 2^23 bits.
-pub fn int_type(m: &mut LLVMModule, width: u32) -> Result<LLVMType, AllocError>
+/// The type of a kind.
+pub fn type_of(m: &mut LLVMModule, kind: LLVMTypeKind) -> Result<LLVMType, ValueErr>
     requires sound { IsModule m.old }
-    requires least { 1 ≤ width }
-    requires most { width ≤ 8388608 }
+    requires parts { IsTypeOver (length m.old.types) kind }
     ensures interns { OnOk result (Interns m.old m.new) }
     ensures there { IfOk result (IsTypeIn m.new) }
-    ensures tree { IfOk result (λ t. type_at (trees_of m.new).types t ≡ IntType width) }
+    ensures tree { IfOk result (λ t. type_at (trees_of m.new).types t ≡ type_tree (trees_of m.new).types kind) }
+    ensures memory { result ≡ Err ValueErr.NotYet → ⊥ }
 {
-    if let Some(ty) = early_int(m, width) {
+    if let LLVMTypeKind::Int(width) = kind
+        && let Some(ty) = early_int(m, width)
+    {
         return Ok(ty);
     }
-    let ty = m.type_get(LLVMTypeKind::Int(width))?;
-    Ok(ty)
+    type_number(m, kind)
 }
 
 /// The width of an integer type whose constants are read: of at most 64 bits.

@@ -1,12 +1,14 @@
 //! What adds types or constants.
 
-ghost use Rattle.std.specs.Prelude.{◌≡◌, ◌≤◌, [], ◌∷◌, Some, None, Err, map, All, IfOk, OnOk, length};
-ghost use Rattle.llvm_core.specs.Data.{trees_of, type_at};
-ghost use Rattle.ll_lines.specs.Views.{incoming_view, text_of, IsTypeIn, IsSaidIn};
+ghost use Rattle.std.specs.Prelude.{◌≡◌, ◌≤◌, true, List, [], ◌∷◌, Some, None, Err, map, All, IfOk, IfSome, OnOk, length};
+ghost use Rattle.kinds.specs.Types.{TypeTree};
+ghost use Rattle.llvm_core.specs.Parts.{IsTypeOver};
+ghost use Rattle.llvm_core.specs.Data.{trees_of, type_at, type_tree};
+ghost use Rattle.ll_lines.specs.Views.{incoming_view, IsTypeIn, IsSaidIn};
 ghost use Rattle.ll_values.specs.declared.form.Kind.TheVariants as K;
 ghost use Rattle.ll_values.specs.declared.form.TypedKind.TheVariants as T;
 ghost use Rattle.ll_values.specs.declared.value.Value.TheVariants as V;
-ghost use Rattle.ll_values.specs.Values.{incoming, typed_by, TypeV, TextV, LiteralV};
+ghost use Rattle.ll_values.specs.Values.{incoming, is_type, typed_by, TypeV, LiteralV};
 ghost use Rattle.ll_values.specs.Views.{literal_view, value_view, entry_view, entries_at, IsValueIn, IsStoreIn};
 ghost use Rattle.ll_values.specs.Growing.{Interns, Makes};
 ghost use Rattle.ll_values.specs.Stack.{IsStanding, Puts, MakesNothing};
@@ -14,50 +16,61 @@ ghost use Rattle.ll_values.specs.Stack.{IsStanding, Puts, MakesNothing};
 use crate::form::TypedKind;
 use crate::keep::keep_inst;
 use crate::planned::Planned;
-use crate::said::{int_type, said, void_type};
+use crate::said::{said, type_of};
 use crate::stack::Stack;
 use crate::store::Store;
 use crate::value::{Entry, Literal, Value};
 use crate::value_err::ValueErr;
-use crate::words::int_width;
+use crate::words::{floating_of, int_width};
 use ll_lines::lines::{Incoming, Said, Typed};
-use ll_lines::names::Name;
 use llvm_core::module::LLVMModule;
 use llvm_core::numbers::LLVMType;
+use llvm_core::types::LLVMTypeKind;
 use std::alloc::Global;
 use support::short_list::ShortList;
 
-/// The type `void`.
-fn make_void(m: &mut LLVMModule, store: &Store, bytes: &[u8]) -> Result<LLVMType, ValueErr>
-    requires store { IsStoreIn m.old store.now }
-    ensures made { IfOk result (λ ty. Makes bytes.now m.old m.new store.now store.now (K.Typed T.Void) [] (V.Type ty)) }
-    ensures memory { result ≡ Err ValueErr.NotYet → ⊥ }
+/// The kind of the type that parts make: a line for each.
+#[rattlefmt::skip]
+fn plan_type(m: &LLVMModule, store: &Store, bytes: &[u8], kind: TypedKind, parts: &[Value]) -> Option<LLVMTypeKind>
+    ensures made { IfSome result (λ k. (ts : List TypeTree) → typed_by kind (map (value_view bytes.now (trees_of m.now) store.now) parts.now) ≡ Some (TypeV (type_tree ts k))) }
+    ensures over { IfSome result (IsTypeOver (length m.now.types)) }
+    ensures none { result ≡ None → is_type kind ≡ true → typed_by kind (map (value_view bytes.now (trees_of m.now) store.now) parts.now) ≡ None }
 {
-    let _ = bytes;
-    match void_type(m) {
-        Ok(ty) => Ok(ty),
-        Err(_) => Err(ValueErr::NoMemory),
+    let _ = m;
+    let _ = store;
+    match kind {
+        TypedKind::Void => match *parts { [] => Some(LLVMTypeKind::Void), _ => None },
+        TypedKind::Int => match *parts { [Value::Text(n)] => Some(LLVMTypeKind::Int(int_width(n.text(bytes))?)), _ => None },
+        TypedKind::Pointer => match *parts {
+            [Value::Nothing] => Some(LLVMTypeKind::Ptr(0)),
+            [Value::Space(space)] => Some(LLVMTypeKind::Ptr(space)),
+            _ => None,
+        },
+        TypedKind::Flat => match *parts { [Value::Text(n)] => Some(LLVMTypeKind::Floating(floating_of(n.text(bytes))?)), _ => None },
+        TypedKind::Typed => None,
+        TypedKind::Pair => None,
+        TypedKind::Phi => None,
     }
 }
 
-/// An integer type.
-fn make_int(
+/// The type that parts make.
+fn make_type(
     m: &mut LLVMModule,
     store: &Store,
     bytes: &[u8],
-    name: Name,
+    kind: TypedKind,
+    parts: &[Value],
 ) -> Result<LLVMType, ValueErr>
     requires store { IsStoreIn m.old store.now }
-    ensures made { IfOk result (λ ty. Makes bytes.now m.old m.new store.now store.now (K.Typed T.Int) (V.Text name ∷ []) (V.Type ty)) }
-    ensures not_yet { result ≡ Err ValueErr.NotYet → typed_by T.Int (TextV (text_of bytes.now name) ∷ []) ≡ None }
+    ensures made { IfOk result (λ ty. Makes bytes.now m.old m.new store.now store.now (K.Typed kind) parts.now (V.Type ty)) }
+    ensures not_yet { result ≡ Err ValueErr.NotYet → is_type kind ≡ true → typed_by kind (map (value_view bytes.now (trees_of m.old) store.now) parts.now) ≡ None }
 {
-    let _ = store;
-    let Some(width) = int_width(name.text(bytes)) else {
+    let Some(planned) = plan_type(m, store, bytes, kind, parts) else {
         return Err(ValueErr::NotYet);
     };
-    match int_type(m, width) {
+    match type_of(m, planned) {
         Ok(ty) => Ok(ty),
-        Err(_) => Err(ValueErr::NoMemory),
+        Err(e) => Err(e),
     }
 }
 
@@ -181,17 +194,11 @@ pub fn put_typed(
     ensures not_yet { result ≡ Err ValueErr.NotYet → MakesNothing bytes.now m.old store.old (K.Typed kind) stack.old }
 {
     match kind {
-        TypedKind::Void => {
-            let ty = make_void(m, store, bytes)?;
-            stack.push(alloc, Value::Type(ty))?;
+        TypedKind::Void | TypedKind::Int | TypedKind::Pointer | TypedKind::Flat => {
+            let count = kind.part_count();
+            let ty = make_type(m, store, bytes, kind, stack.first(count))?;
+            stack.replace(alloc, count, Value::Type(ty))?;
         }
-        TypedKind::Int => match *stack.first(1) {
-            [Value::Text(name)] => {
-                let ty = make_int(m, store, bytes, name)?;
-                stack.replace(alloc, 1, Value::Type(ty))?;
-            }
-            _ => return Err(ValueErr::NotYet),
-        },
         TypedKind::Typed => match *stack.first(2) {
             [Value::Type(ty), Value::Literal(a)] => {
                 let said = make_one(m, store, bytes, ty, a)?;

@@ -54,6 +54,8 @@ pub enum Value {
     Type(LLVMType),
     Literal(Literal),
     Typed(Typed),
+    /// An address space.
+    Space(u32),
     /// Two values of one type.
     Pair(LLVMType, Said, Said),
     Entry(Entry),

@@ -1,12 +1,14 @@
 //! Words of instructions, and types and literals as tokens write them.
 
-ghost use Rattle.std.specs.Prelude.{◌≡◌, ◌≤◌, IfSome};
+ghost use Rattle.std.specs.Prelude.{◌≡◌, ◌≤◌, ◌-◌, ◌^◌, IfSome};
 ghost use Rattle.std.specs.Option.{option_map};
 ghost use Rattle.kinds.specs.Types.{IntType};
-ghost use Rattle.ll_values.specs.Words.{binary_op, cast_op, three_op, predicate_of};
+ghost use Rattle.ll_literals.specs.Numbers.{number_of, up_to};
+ghost use Rattle.ll_values.specs.Words.{binary_op, cast_op, three_op, predicate_of, floating_of};
 ghost use Rattle.ll_values.specs.Values.{int_type};
 
 use kinds::op::{LLVMIntPredicate, Op, OverflowFlags};
+use kinds::types::Floating;
 use ll_literals::numbers::number;
 
 /// The row of a word of an operation on two values of one type.
@@ -67,6 +69,33 @@ pub fn predicate(word: &[u8]) -> Option<LLVMIntPredicate>
         b"sle" => Some(LLVMIntPredicate::LLVMIntSLE),
         _ => None,
     }
+}
+
+/// The floating-point type of a word.
+pub fn floating_of(word: &[u8]) -> Option<Floating>
+    ensures { result ≡ floating_of word.now }
+{
+    if word == b"half".as_slice() {
+        return Some(Floating::Half);
+    }
+    if word == b"bfloat".as_slice() {
+        return Some(Floating::BFloat);
+    }
+    if word == b"float".as_slice() {
+        return Some(Floating::Float);
+    }
+    if word == b"double".as_slice() {
+        return Some(Floating::Double);
+    }
+    None
+}
+
+/// The number of an address space, below 2^32.
+pub fn space_of(text: &[u8]) -> Option<u32>
+    ensures { result ≡ up_to (2 ^ 32 - 1) (number_of text.now) }
+{
+    let space = number(text, u128::from(u32::MAX))?;
+    Some(space as u32)
 }
 
 /// The width of an integer type, of 1 to 2^23 bits.

@@ -1,7 +1,8 @@
 -- Tokens that may be written behind any token, and lists of tokens that may.
-use Rattle.std.proofs.Common.{◌≡◌, ℕ, true, List, [], ◌∷◌, ◌++◌, Option, Some, None, refl}
+use Rattle.std.proofs.Common.{◌≡◌, ℕ, true, false, List, [], ◌∷◌, ◌++◌, Option, Some, None, refl}
 use Rattle.std.specs.List.{flat_map, AllByRecursion}
 use Rattle.ll_lines.specs.Lines.{Text}
+use Rattle.ll_spacing.specs.Following.{goes_on}
 use Rattle.ll_spacing.specs.Forms.{IsText, is_word}
 use Rattle.ll_spacing.specs.Spacing.{Spaced, Follows, AreSpacedBehind, AreBlanks, IsWhole}
 use Rattle.ll_spacing.proofs.FollowLaws.{blanks_follow, plain_follows}
@@ -10,7 +11,7 @@ use Rattle.ll_spacing.proofs.TextLaws.{text_whole}
 use Rattle.ll_tokens.specs.Pieces.{token as piece, sign_at}
 use Rattle.ll_tokens.specs.declared.kinds.Kind.{Kind}
 use Rattle.ll_tokens.specs.declared.kinds.Kind.TheVariants.{Word, Comma}
-use Rattle.ll_written.specs.Written.{token, apart, word, comma}
+use Rattle.ll_written.specs.Written.{token, apart, close, word, comma}
 
 abbrev pub IsFree : Spaced → Type 0
 IsFree x = (last : Option Kind) → Follows last x
@@ -60,7 +61,11 @@ word_free t e = apart_free Word t (IsText.word t e)
 pub sign_free : (k : Kind) (b : ℕ) → sign_at b ≡ piece k 1 → IsFree (apart k (b ∷ []))
 sign_free k b e = apart_free k (b ∷ []) (IsText.sign k b e)
 
+-- directly behind any token
+pub sign_close : (k : Kind) (b : ℕ) → sign_at b ≡ piece k 1 → ((j : Kind) → goes_on j b ≡ false) → IsFree (close k (b ∷ []))
+sign_close k b e next None = record { blanks = refl; whole = sign_whole k b e; apart = tt }
+sign_close k b e next (Some j) = record { blanks = refl; whole = sign_whole k b e; apart = next j }
+
 pub comma_free : IsFree comma
 unfolding sign_at
-comma_free None = record { blanks = refl; whole = sign_whole Comma 44 refl; apart = tt }
-comma_free (Some j) = record { blanks = refl; whole = sign_whole Comma 44 refl; apart = plain_follows j 44 refl }
+comma_free = sign_close Comma 44 refl (λ j. plain_follows j 44 refl)

@@ -5,6 +5,8 @@ pub mod WordClasses
 pub mod Productions
 pub mod DecimalLaws
 pub mod TypeLaws
+pub mod FlatLaws
+pub mod NumberForms
 pub mod FreeLaws
 pub mod TypeTokens
 pub mod ValueSays

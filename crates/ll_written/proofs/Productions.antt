@@ -73,6 +73,11 @@ lost_attrs_none = made llvm KINDS 32 73 K.Nothing {cs = []} refl refl refl refl 
 pub unnamed_none : Reads N.unnamed NoneV []
 unnamed_none = made llvm KINDS 11 32 K.Nothing {cs = []} refl refl refl refl (nothing llvm KINDS)
 
+-- space = 'addrspace' '(' INT ')'
+pub space : {v : Value} (b0 b1 b2 t2 b3 : Text) → value_by (K.Detail D.Space) (TextV t2 ∷ []) ≡ Some v → Reads N.space v (token b0 Word (codes "addrspace") ∷ token b1 OpenParen (codes "(") ∷ token b2 Int t2 ∷ token b3 CloseParen (codes ")") ∷ [])
+space b0 b1 b2 t2 b3 made_by =
+    made llvm KINDS 16 41 (K.Detail D.Space) {cs = TextV t2 ∷ []} refl refl refl made_by (word llvm KINDS (token b0 Word (codes "addrspace")) C.word_addrspace (word llvm KINDS (token b1 OpenParen (codes "(")) C.sign_openparen (leaf llvm KINDS (token b2 Int t2) (C.kind_int t2) (word llvm KINDS (token b3 CloseParen (codes ")")) C.sign_closeparen (nothing llvm KINDS)))))
+
 -- space = nothing
 pub space_none : Reads N.space NoneV []
 space_none = made llvm KINDS 16 42 K.Nothing {cs = []} refl refl refl refl (nothing llvm KINDS)
@@ -147,9 +152,25 @@ type_void b0 made_by = made llvm KINDS 60 261 (K.Typed T.Void) {cs = []} refl re
 pub type_int : {v : Value} (b0 t0 : Text) → llvm_class Word t0 ≡ C.inttype → value_by (K.Typed T.Int) (TextV t0 ∷ []) ≡ Some v → Reads N.type v (token b0 Word t0 ∷ [])
 type_int b0 t0 h0 made_by = made llvm KINDS 60 262 (K.Typed T.Int) {cs = TextV t0 ∷ []} refl refl refl made_by (leaf llvm KINDS (token b0 Word t0) h0 (nothing llvm KINDS))
 
+-- type = 'ptr' space
+pub type_pointer : {v v1 : Value} {x1 : List Spaced} (b0 : Text) → Reads N.space v1 x1 → value_by (K.Typed T.Pointer) (v1 ∷ []) ≡ Some v → Reads N.type v (token b0 Word (codes "ptr") ∷ x1)
+type_pointer {v1} b0 h1 made_by = made llvm KINDS 60 263 (K.Typed T.Pointer) {cs = v1 ∷ []} refl refl refl made_by (word llvm KINDS (token b0 Word (codes "ptr")) C.word_ptr (last llvm KINDS h1))
+
+-- type = FLAT
+pub type_flat : {v : Value} (b0 t0 : Text) → llvm_class Word t0 ≡ C.flat → value_by (K.Typed T.Flat) (TextV t0 ∷ []) ≡ Some v → Reads N.type v (token b0 Word t0 ∷ [])
+type_flat b0 t0 h0 made_by = made llvm KINDS 60 264 (K.Typed T.Flat) {cs = TextV t0 ∷ []} refl refl refl made_by (leaf llvm KINDS (token b0 Word t0) h0 (nothing llvm KINDS))
+
 -- solid = INTTYPE
 pub solid_int : {v : Value} (b0 t0 : Text) → llvm_class Word t0 ≡ C.inttype → value_by (K.Typed T.Int) (TextV t0 ∷ []) ≡ Some v → Reads N.solid v (token b0 Word t0 ∷ [])
 solid_int b0 t0 h0 made_by = made llvm KINDS 61 269 (K.Typed T.Int) {cs = TextV t0 ∷ []} refl refl refl made_by (leaf llvm KINDS (token b0 Word t0) h0 (nothing llvm KINDS))
+
+-- solid = 'ptr' space
+pub solid_pointer : {v v1 : Value} {x1 : List Spaced} (b0 : Text) → Reads N.space v1 x1 → value_by (K.Typed T.Pointer) (v1 ∷ []) ≡ Some v → Reads N.solid v (token b0 Word (codes "ptr") ∷ x1)
+solid_pointer {v1} b0 h1 made_by = made llvm KINDS 61 270 (K.Typed T.Pointer) {cs = v1 ∷ []} refl refl refl made_by (word llvm KINDS (token b0 Word (codes "ptr")) C.word_ptr (last llvm KINDS h1))
+
+-- solid = FLAT
+pub solid_flat : {v : Value} (b0 t0 : Text) → llvm_class Word t0 ≡ C.flat → value_by (K.Typed T.Flat) (TextV t0 ∷ []) ≡ Some v → Reads N.solid v (token b0 Word t0 ∷ [])
+solid_flat b0 t0 h0 made_by = made llvm KINDS 61 271 (K.Typed T.Flat) {cs = TextV t0 ∷ []} refl refl refl made_by (leaf llvm KINDS (token b0 Word t0) h0 (nothing llvm KINDS))
 
 -- value = LOCAL
 pub value_local : {v : Value} (b0 t0 : Text) → value_by (K.Detail D.Local) (TextV t0 ∷ []) ≡ Some v → Reads N.value v (token b0 Local t0 ∷ [])

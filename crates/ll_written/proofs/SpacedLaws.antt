@@ -1,5 +1,5 @@
 -- The tokens of what a text says are well spaced.
-use Rattle.std.proofs.Common.{◌≡◌, ℕ, false, List, [], ◌∷◌, ◌++◌, Option, Some, None, codes, refl}
+use Rattle.std.proofs.Common.{ℕ, List, [], ◌∷◌, ◌++◌, Option, Some, None, codes, refl}
 use Rattle.std.specs.Prelude.{IfSome}
 use Rattle.std.specs.List.{flat_map, AllByRecursion}
 use Rattle.kinds.specs.declared.op.Op.{Op}
@@ -9,17 +9,15 @@ use Rattle.ll_lines.specs.Lines as L
 use Rattle.ll_lines.specs.Lines.{Text, RowLine, Incoming, Inst, Part, Param, Function, File}
 use Rattle.ll_spacing.specs.Forms.{IsText}
 use Rattle.ll_spacing.specs.Spacing.{Spaced, AreSpaced, AreSpacedBehind, AreBlanks, Follows}
-use Rattle.ll_spacing.specs.Following.{goes_on}
 use Rattle.ll_spacing.proofs.FollowLaws.{plain_follows}
 use Rattle.ll_spacing.proofs.SignLaws.{sign_whole}
 use Rattle.ll_spacing.proofs.TextLaws.{text_whole}
-use Rattle.ll_tokens.specs.Pieces.{token as piece, sign_at}
-use Rattle.ll_tokens.specs.declared.kinds.Kind.{Kind}
+use Rattle.ll_tokens.specs.Pieces.{sign_at}
 use Rattle.ll_tokens.specs.declared.kinds.Kind.TheVariants as T
 use Rattle.ll_written.specs.Written as W
 use Rattle.ll_written.specs.Written.{token, apart, close, comma}
 use Rattle.ll_written.specs.Writable.{IsLocal, IsRow, IsIncoming, IsInst, IsPart, IsParam, IsFunction, IsWritable}
-use Rattle.ll_written.proofs.FreeLaws.{AreFree, IsFree, none_free, then_free, one_free, both_free, each_free, spaced_then, gap_free, apart_free, word_whole, sign_free, comma_free}
+use Rattle.ll_written.proofs.FreeLaws.{AreFree, none_free, then_free, one_free, both_free, each_free, spaced_then, gap_free, apart_free, word_whole, sign_free, sign_close, comma_free}
 use Rattle.ll_written.proofs.TypeTokens.{result_free, type_free, type_opened}
 use Rattle.ll_written.proofs.SpacedParts.{said_free, operands_free, values_free, returned_free, targets_free, to_free, head_free, first_free}
 
@@ -100,10 +98,6 @@ params_spaced (p ∷ ps) rest all free =
     let paren = Some T.OpenParen in
     let first = spaced_then paren (W.written_type [] p.type) (W.written_name p.name) (type_opened p.type all.0.type) (name_free p.name all.0.name) in
     spaced_then paren (W.written_params (p ∷ ps)) rest (spaced_then paren (W.written_param [] p) (flat_map W.next_param ps) first (each_free IsParam W.next_param next_param_free ps all.1)) free
-
-sign_close : (k : Kind) (b : ℕ) → sign_at b ≡ piece k 1 → ((j : Kind) → goes_on j b ≡ false) → IsFree (close k (b ∷ []))
-sign_close k b e next None = record { blanks = refl; whole = sign_whole k b e; apart = tt }
-sign_close k b e next (Some j) = record { blanks = refl; whole = sign_whole k b e; apart = next j }
 
 -- what stands behind the name of a function
 opened_free : (f : Function) → IsFunction f → AreFree (opened f)

@@ -1,7 +1,7 @@
 -- The tokens of what a text says are well spaced.
 use Rattle.std.proofs.Common.{◌≡◌, ◌≤◌, ◌<◌, ◌^◌, ℕ, zero, suc, Bool, true, false, cond, ◌==◌, ◌-◌, nat_le, nat_lt, List, [], ◌∷◌, Option, Some, None, codes, refl, subst, arith}
 use Rattle.std.specs.Prelude.{decimal, IfSome}
-use Rattle.std.specs.List.{flat_map, list_all, AllByRecursion}
+use Rattle.std.specs.List.{flat_map, AllByRecursion}
 use Rattle.std.proofs.lemmas.Bool.Decides.{nat_tests}
 use Rattle.std.proofs.Math.Nat.{pow-le-pow_right}
 use Rattle.kinds.specs.declared.op.LLVMIntPredicate.{LLVMIntPredicate}
@@ -13,33 +13,20 @@ use Rattle.kinds.specs.Types.{TypeTree}
 use Rattle.kinds.specs.Held.{IsFirstClass}
 use Rattle.ll_lines.specs.Lines as L
 use Rattle.ll_lines.specs.Lines.{Text, Said, Typed}
-use Rattle.ll_spacing.specs.Forms.{IsText, IsInt, is_word}
+use Rattle.ll_spacing.specs.Forms.{IsText, is_word}
 use Rattle.ll_spacing.specs.Spacing.{AreBlanks}
 use Rattle.std.proofs.lemmas.Nat.{pow_pos}
-use Rattle.ll_tokens.specs.Bytes.{is_digit}
 use Rattle.ll_tokens.specs.declared.kinds.Kind.{Kind}
 use Rattle.ll_tokens.specs.declared.kinds.Kind.TheVariants as T
 use Rattle.ll_written.specs.Printing.{int_text, signed_text, predicate_text}
 use Rattle.ll_written.specs.Written as W
 use Rattle.ll_written.specs.Written.{token, word}
 use Rattle.ll_written.specs.Writable.{an_int, IsLocal, IsSaidOf, IsTyped}
-use Rattle.ll_said.proofs.DecimalLaws.{IsDecimal-decimal}
 use Rattle.ll_written.proofs.FreeLaws.{AreFree, IsFree, none_free, then_free, one_free, both_free, each_free, gap_free, apart_free, word_whole, word_free, comma_free}
+use Rattle.ll_written.proofs.NumberForms.{decimal_text, minus_text}
 use Rattle.ll_written.proofs.TypeTokens.{type_free}
 
 -- ---- values
-
-decimal_text : (n : ℕ) → n < 2 ^ 64 → IsText T.Int (decimal n)
-decimal_text n h =
-    let d = IsDecimal-decimal n h in
-    let digits : list_all is_digit (d.first ∷ d.others) ≡ true = rw (d.digit, d.digits) refl in
-    rw d.text (IsText.int (d.first ∷ d.others) (IsInt.plain d.first d.others digits))
-
-minus_text : (n : ℕ) → n < 2 ^ 64 → IsText T.Int (45 ∷ decimal n)
-minus_text n h =
-    let d = IsDecimal-decimal n h in
-    let digits : list_all is_digit (d.first ∷ d.others) ≡ true = rw (d.digit, d.digits) refl in
-    rw d.text (IsText.int (45 ∷ d.first ∷ d.others) (IsInt.minus d.first d.others digits))
 
 power_most : (w n : ℕ) → w ≤ 64 → n < 2 ^ w → n < 2 ^ 64
 power_most w n h fits = omega (arith, pow-le-pow_right {n = 2} (omega arith) {i = w} {j = 64} h)

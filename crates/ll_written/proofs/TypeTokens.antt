@@ -1,37 +1,63 @@
 -- The tokens of a type: what they say, that they are spaced, and their text. Only these laws look into them.
-use Rattle.std.proofs.Common.{◌≡◌, ◌<◌, ◌^◌, ℕ, true, [], ◌∷◌, ◌++◌, Some, codes, refl, ap, arith}
+use Rattle.std.proofs.Common.{◌≡◌, ◌<◌, ◌^◌, ◌-◌, ℕ, zero, suc, true, nat_le, [], ◌∷◌, ◌++◌, Option, Some, None, codes, append_assoc, refl, ap, ◌∙◌, arith}
 use Rattle.std.specs.Prelude.{decimal}
-use Rattle.std.specs.List.{list_all}
 use Rattle.std.specs.Option.{option_map}
 use Rattle.std.proofs.lemmas.Bool.Decides.{nat_tests}
 use Rattle.std.proofs.lemmas.List.{append-nil}
-use Rattle.kinds.specs.Types.{TypeTree, VoidType, IntType}
+use Rattle.kinds.specs.Types.{TypeTree, VoidType, IntType, PointerType, FloatingType}
 use Rattle.kinds.specs.Held.{IsFirstClass, IsReturned}
-use Rattle.kinds.proofs.HeldLaws.{first_class_value, first_class_int, returned_own, returned_if}
+use Rattle.kinds.proofs.HeldLaws.{first_class_value, first_class_int, first_class_pointer, returned_own, returned_if}
 use Rattle.ll_lines.specs.Lines.{Text}
+use Rattle.ll_literals.specs.Numbers.{number_of, up_to}
 use Rattle.ll_spacing.specs.Forms.{IsText}
-use Rattle.ll_spacing.specs.Spacing.{AreSpacedBehind, IsApart, text_of}
+use Rattle.ll_spacing.specs.Spacing.{Follows, AreSpacedBehind, AreBlanks, IsApart, text_of}
+use Rattle.ll_spacing.proofs.FollowLaws.{blank_follows, plain_follows}
 use Rattle.ll_spacing.proofs.TextLaws.{text_whole}
-use Rattle.ll_spacing.proofs.WholeLaws.{all_weaker}
-use Rattle.ll_tokens.specs.Bytes.{is_digit, is_word_byte}
+use Rattle.ll_tokens.specs.Pieces.{sign_at}
+use Rattle.ll_tokens.specs.declared.kinds.Kind.{Kind}
 use Rattle.ll_tokens.specs.declared.kinds.Kind.TheVariants as T
-use Rattle.ll_values.specs.Values.{TypeV}
+use Rattle.ll_values.specs.declared.form.Kind.TheVariants as K
+use Rattle.ll_values.specs.declared.form.TypedKind.TheVariants.{Pointer}
+use Rattle.ll_values.specs.Values.{Value, NoneV, SpaceV, TypeV, value_by}
 use Rattle.ll_said.proofs.DecimalLaws.{IsDecimal-decimal}
-use Rattle.ll_written.specs.Printing.{type_text}
+use Rattle.ll_written.specs.Printing.{floating_text, space_text, type_text}
 use Rattle.ll_written.specs.Rules as N
-use Rattle.ll_written.specs.Written.{written_type}
+use Rattle.ll_written.specs.Written.{token, written_space, written_type}
 use Rattle.ll_written.proofs.Productions as P
 use Rattle.ll_written.proofs.Productions.{Reads}
-use Rattle.ll_written.proofs.FreeLaws.{AreFree, one_free, apart_free}
-use Rattle.ll_written.proofs.TypeLaws.{small, int_class, int_width}
+use Rattle.ll_written.proofs.FlatLaws.{flat_word, flat_class, flat_again}
+use Rattle.ll_written.proofs.FreeLaws.{AreFree, word_free, sign_close}
+use Rattle.ll_written.proofs.NumberForms.{decimal_text, int_type_text}
+use Rattle.ll_written.proofs.TypeLaws.{small, small_space, int_class, int_width}
 
 -- ---- what they say
+
+-- what an address space says, of which the first is not written
+abbrev space_value : ℕ → Value
+space_value zero = NoneV
+space_value (suc n) = SpaceV (suc n)
+
+space_number : (n : ℕ) → n < 2 ^ 32 → option_map SpaceV (up_to (2 ^ 32 - 1) (number_of (decimal n))) ≡ Some (SpaceV n)
+space_number n h =
+    let d = IsDecimal-decimal n (small_space n h) in
+    let within : nat_le n (2 ^ 32 - 1) ≡ true = grind (arith, nat_tests) in
+    rw (d.number, within) refl
+
+space_says : (n : ℕ) → n < 2 ^ 32 → Reads N.space (space_value n) (written_space n)
+space_says zero h = P.space_none
+space_says (suc n) h = P.space (codes " ") [] [] (decimal (suc n)) [] (space_number (suc n) h)
+
+pointer_again : (n : ℕ) → value_by (K.Typed Pointer) (space_value n ∷ []) ≡ Some (TypeV (PointerType n))
+pointer_again zero = refl
+pointer_again (suc n) = refl
 
 -- a line for each kind
 pub result_says : (b : Text) (τ : TypeTree) → IsReturned τ → Reads N.type (TypeV τ) (written_type b τ)
 unfolding written_type
 result_says b VoidType h = P.type_void b refl
 result_says b (IntType n) h = let k = first_class_int n (returned_own (IntType n) h refl) in P.type_int b (105 ∷ decimal n) (int_class n k.1) (ap (option_map TypeV) (int_width n k.0 k.1))
+result_says b (PointerType n) h = P.type_pointer b (space_says n (first_class_pointer n (returned_own (PointerType n) h refl))) (pointer_again n)
+result_says b (FloatingType f) h = P.type_flat b (floating_text f) (flat_class f) (flat_again f)
 result_says b τ h = absurd (let k = first_class_value τ (returned_own τ h refl) in cc)
 
 pub type_says : (b : Text) (τ : TypeTree) → IsFirstClass τ → Reads N.type (TypeV τ) (written_type b τ)
@@ -41,44 +67,66 @@ type_says b τ h = result_says b τ (returned_if τ h)
 pub solid_says : (b : Text) (τ : TypeTree) → IsFirstClass τ → Reads N.solid (TypeV τ) (written_type b τ)
 unfolding written_type
 solid_says b (IntType n) h = let k = first_class_int n h in P.solid_int b (105 ∷ decimal n) (int_class n k.1) (ap (option_map TypeV) (int_width n k.0 k.1))
+solid_says b (PointerType n) h = P.solid_pointer b (space_says n (first_class_pointer n h)) (pointer_again n)
+solid_says b (FloatingType f) h = P.solid_flat b (floating_text f) (flat_class f) (flat_again f)
 solid_says b τ h = absurd (let k = first_class_value τ h in cc)
 
 -- ---- their spacing
 
-digits_word : (bs : Text) → list_all is_digit bs ≡ true → list_all is_word_byte bs ≡ true
-digits_word bs e = all_weaker is_digit is_word_byte bs (λ b d. grind (arith, nat_tests)) e
+-- a token may stand there, whatever its text: with that before it, and behind a token of that kind, or at the front
+record Stands (last : Option Kind) (b : Text) : Type 0 where
+  pub blanks : AreBlanks b
+  pub apart : (t : Text) → IsApart last (b ++ t)
 
-int_type_text : (n : ℕ) → n < 2 ^ 64 → IsText T.Word (105 ∷ decimal n)
-int_type_text n h =
-    let d = IsDecimal-decimal n h in
-    let digits : list_all is_digit (d.first ∷ d.others) ≡ true = rw (d.digit, d.digits) refl in
-    rw d.text (IsText.word (105 ∷ d.first ∷ d.others) (digits_word (d.first ∷ d.others) digits))
-
--- a line for each kind
-result_whole : (τ : TypeTree) → IsReturned τ → IsText T.Word (type_text τ)
-result_whole VoidType h = IsText.word (codes "void") refl
-result_whole (IntType n) h = int_type_text n (small n (first_class_int n (returned_own (IntType n) h refl)).1)
-result_whole τ h = absurd (let k = first_class_value τ (returned_own τ h refl) in cc)
-
--- behind a blank they may stand behind any token
-pub result_free : (τ : TypeTree) → IsReturned τ → AreFree (written_type (codes " ") τ)
-unfolding written_type
-result_free τ h = one_free (apart_free T.Word (type_text τ) (result_whole τ h))
-
-pub type_free : (τ : TypeTree) → IsFirstClass τ → AreFree (written_type (codes " ") τ)
-type_free τ h = result_free τ (returned_if τ h)
+behind_blank : (last : Option Kind) → Stands last (codes " ")
+behind_blank None = record { blanks = refl; apart = λ t. tt }
+behind_blank (Some k) = record { blanks = refl; apart = λ t. blank_follows k 32 refl }
 
 open_apart : (t : Text) → IsApart (Some T.OpenParen) t
 open_apart [] = tt
 open_apart (b ∷ bs) = refl
 
+behind_open : Stands (Some T.OpenParen) []
+behind_open = record { blanks = refl; apart = open_apart }
+
+stands : (last : Option Kind) (b : Text) (k : Kind) (t : Text) → Stands last b → IsText k t → Follows last (token b k t)
+stands last b k t h is = record { blanks = h.blanks; whole = text_whole k t is; apart = h.apart t }
+
+space_spaced : (last : Option Kind) (n : ℕ) → n < 2 ^ 32 → AreSpacedBehind last (written_space n)
+unfolding sign_at
+space_spaced last zero h = tt
+space_spaced last (suc n) h =
+    let number = stands (Some T.OpenParen) [] T.Int (decimal (suc n)) behind_open (decimal_text (suc n) (small_space (suc n) h)) in
+    (word_free (codes "addrspace") refl last, (sign_close T.OpenParen 40 refl (λ j. plain_follows j 40 refl) (Some T.Word), (number, (sign_close T.CloseParen 41 refl (λ j. plain_follows j 41 refl) (Some T.Int), tt))))
+
+-- a line for each kind
+result_spaced : (last : Option Kind) (b : Text) (τ : TypeTree) → Stands last b → IsReturned τ → AreSpacedBehind last (written_type b τ)
+unfolding written_type
+result_spaced last b VoidType s h = (stands last b T.Word (codes "void") s (IsText.word (codes "void") refl), tt)
+result_spaced last b (IntType n) s h = (stands last b T.Word (105 ∷ decimal n) s (int_type_text n (small n (first_class_int n (returned_own (IntType n) h refl)).1)), tt)
+result_spaced last b (PointerType n) s h = (stands last b T.Word (codes "ptr") s (IsText.word (codes "ptr") refl), space_spaced (Some T.Word) n (first_class_pointer n (returned_own (PointerType n) h refl)))
+result_spaced last b (FloatingType f) s h = (stands last b T.Word (floating_text f) s (flat_word f), tt)
+result_spaced last b τ s h = absurd (let k = first_class_value τ (returned_own τ h refl) in cc)
+
+-- behind a blank they may stand behind any token
+pub result_free : (τ : TypeTree) → IsReturned τ → AreFree (written_type (codes " ") τ)
+result_free τ h = record { behind = λ last. result_spaced last (codes " ") τ (behind_blank last) h }
+
+pub type_free : (τ : TypeTree) → IsFirstClass τ → AreFree (written_type (codes " ") τ)
+type_free τ h = result_free τ (returned_if τ h)
+
 -- and they may stand directly behind the sign that opens parameters
 pub type_opened : (τ : TypeTree) → IsFirstClass τ → AreSpacedBehind (Some T.OpenParen) (written_type [] τ)
-unfolding written_type
-type_opened τ h = (record { blanks = refl; whole = text_whole T.Word (type_text τ) (result_whole τ (returned_if τ h)); apart = open_apart (type_text τ) }, tt)
+type_opened τ h = result_spaced (Some T.OpenParen) [] τ behind_open (returned_if τ h)
 
 -- ---- their text
 
+space_written : (n : ℕ) → text_of (written_space n) ≡ space_text n
+space_written zero = refl
+space_written (suc n) = refl
+
+-- a line for each kind of several tokens
 pub type_written : (b : Text) (τ : TypeTree) → text_of (written_type b τ) ≡ b ++ type_text τ
 unfolding written_type
+type_written b (PointerType n) = ap (λ (t : Text). b ++ codes "ptr" ++ t) (space_written n) ∙ append_assoc b (codes "ptr") (space_text n)
 type_written b τ = append-nil (b ++ type_text τ)

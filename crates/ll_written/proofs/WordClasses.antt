@@ -10,6 +10,9 @@ use Rattle.ll_lines.specs.Lines.{Text}
 abbrev pub inttype : ℕ
 inttype = 12
 
+abbrev pub flat : ℕ
+flat = 28
+
 pub kind_global : (t : Text) → llvm_class Global t ≡ 0
 unfolding llvm_class
 kind_global t = refl
@@ -67,6 +70,9 @@ pub word_class : (t : Text) (c : ℕ) → class_among llvm_rows t ≡ Some c →
 unfolding llvm_class
 word_class t c found = ap (λ (o : Option ℕ). unwrap_or o (other_word t)) found
 
+pub word_addrspace : llvm_class Word (codes "addrspace") ≡ 63
+word_addrspace = word_class (codes "addrspace") 63 refl
+
 pub word_br : llvm_class Word (codes "br") ≡ 73
 word_br = word_class (codes "br") 73 refl
 
@@ -99,6 +105,9 @@ word_or = word_class (codes "or") 104 refl
 
 pub word_phi : llvm_class Word (codes "phi") ≡ 105
 word_phi = word_class (codes "phi") 105 refl
+
+pub word_ptr : llvm_class Word (codes "ptr") ≡ 106
+word_ptr = word_class (codes "ptr") 106 refl
 
 pub word_ret : llvm_class Word (codes "ret") ≡ 107
 word_ret = word_class (codes "ret") 107 refl

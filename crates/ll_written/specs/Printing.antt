@@ -6,7 +6,9 @@ use Rattle.kinds.specs.declared.op.LLVMIntPredicate.TheVariants as P
 use Rattle.kinds.specs.declared.op.OverflowFlags.{OverflowFlags}
 use Rattle.kinds.specs.declared.op.Op.{Op}
 use Rattle.kinds.specs.declared.op.Op.TheVariants as O
-use Rattle.llvm_core.specs.Data.{TypeTree, VoidType, IntType, FunctionType, ConstTree, IntConst, PlaceholderConst, Operand, Constant, Parameter, Result, Instruction, Phi, RowData, Applied, Placed, Block, Function, ModuleData, operand_type, param_type}
+use Rattle.kinds.specs.declared.types.Floating.{Floating}
+use Rattle.kinds.specs.declared.types.Floating.TheVariants as F
+use Rattle.llvm_core.specs.Data.{TypeTree, VoidType, IntType, PointerType, FloatingType, FunctionType, ConstTree, IntConst, PlaceholderConst, Operand, Constant, Parameter, Result, Instruction, Phi, RowData, Applied, Placed, Block, Function, ModuleData, operand_type, param_type}
 use Rattle.kinds.specs.Types.{result_of}
 use Rattle.kinds.specs.Held.{is_void}
 use Rattle.ll_literals.specs.Text.{Text}
@@ -15,10 +17,24 @@ use Rattle.ll_said.specs.Naming.{ParamAt, ResultOf, local_text, result_name, blo
 
 -- ---- types and constants
 
+-- the word of a floating-point type, a line for each
+abbrev pub floating_text : Floating → Text
+floating_text F.Half = codes "half"
+floating_text F.BFloat = codes "bfloat"
+floating_text F.Float = codes "float"
+floating_text F.Double = codes "double"
+
+-- an address space behind `ptr`, of which the first is not written
+abbrev pub space_text : ℕ → Text
+space_text zero = []
+space_text (suc n) = codes " addrspace(" ++ decimal (suc n) ++ codes ")"
+
 -- a type, a line for each kind; a function type stands nowhere by itself
 abbrev pub type_text : TypeTree → Text
 type_text VoidType = codes "void"
 type_text (IntType w) = 105 ∷ decimal w
+type_text (PointerType space) = codes "ptr" ++ space_text space
+type_text (FloatingType of) = floating_text of
 type_text (FunctionType result params variadic) = []
 
 -- a number of a width in two's complement, printed signed

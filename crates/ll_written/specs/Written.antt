@@ -1,10 +1,10 @@
 -- The tokens of what a text says, with what stands before each: a definition for each part.
-use Rattle.std.specs.Prelude.{ℕ, Bool, true, false, List, [], ◌∷◌, ◌++◌, Option, None, Some, ◌==◌, if◌then◌else◌, codes}
+use Rattle.std.specs.Prelude.{ℕ, zero, suc, decimal, Bool, true, false, List, [], ◌∷◌, ◌++◌, Option, None, Some, ◌==◌, if◌then◌else◌, codes}
 use Rattle.std.specs.List.{flat_map}
 use Rattle.kinds.specs.declared.op.OverflowFlags.{OverflowFlags}
 use Rattle.kinds.specs.declared.op.Op.{Op}
 use Rattle.kinds.specs.declared.op.Op.TheVariants as O
-use Rattle.kinds.specs.Types.{TypeTree}
+use Rattle.kinds.specs.Types.{TypeTree, PointerType}
 use Rattle.llvm_core.specs.Data.{ConstTree, IntConst, PlaceholderConst}
 use Rattle.ll_tokens.specs.declared.kinds.Kind.{Kind}
 use Rattle.ll_tokens.specs.declared.kinds.Kind.TheVariants as K
@@ -37,9 +37,15 @@ indent = codes "\n  "
 
 -- ---- types and values
 
+-- an address space behind `ptr`, of which the first is not written
+abbrev pub written_space : ℕ → List Spaced
+written_space zero = []
+written_space (suc n) = word (codes "addrspace") ∷ close K.OpenParen (codes "(") ∷ close K.Int (decimal (suc n)) ∷ close K.CloseParen (codes ")") ∷ []
+
 -- a type, whose first token stands behind that. The word is closed, so that what is said of its tokens by laws holds of
 -- types of several tokens.
 unfoldable pub written_type : (before : Text) → TypeTree → List Spaced
+written_type before (PointerType space) = token before K.Word (codes "ptr") ∷ written_space space
 written_type before τ = token before K.Word (type_text τ) ∷ []
 
 -- one bit is a word, other integers are numbers

@@ -6,6 +6,7 @@ use Rattle.std.proofs.lemmas.Bool.{cases_eq, cases_Bool, eqb-true, not-false, or
 use Rattle.std.proofs.lemmas.Option.{slice_get-map, same_Some}
 use Rattle.support.proofs.ListLaws.{all_from, item_there, in_joined, from_joined}
 use Rattle.kinds.specs.Types.{count_types}
+use Rattle.kinds.specs.Held.{IsHeld}
 use Rattle.llvm_core.specs.declared.numbers.LLVMFunction.{LLVMFunction}
 use Rattle.llvm_core.specs.declared.numbers.LLVMBasicBlock.{LLVMBasicBlock}
 use Rattle.llvm_core.specs.declared.numbers.LLVMInstRef.{LLVMInstRef}
@@ -21,13 +22,14 @@ use Rattle.llvm_core.specs.Edges.{targets_at, targets_from}
 use Rattle.llvm_core.specs.Edges.{targets as leads_to}
 use Rattle.llvm_core.specs.Parts.{HasValues, IsBlock}
 use Rattle.llvm_core.specs.Sound.{IsModule}
-use Rattle.llvm_core.specs.Data.{Placed, Block, trees_of, data_of}
+use Rattle.llvm_core.specs.Data.{Operand, Placed, Block, trees_of, data_of, operand_type}
 use Rattle.llvm_core.specs.Checked.{IsChecked, MisfitsType, misfits_count, home, ends_in_only, is_block_outside, is_outside, reaches_outside}
-use Rattle.llvm_core.specs.Form.{IsForm, IsFormFunction, IsFormBlock, IsFormPlaced, IsNarrow, IsNarrowFunction, IsNarrowBlock, IsNarrowPlaced, HasPhisFirst, is_last, is_phi}
+use Rattle.llvm_core.specs.Form.{IsForm, IsFormFunction, IsFormBlock, IsFormPlaced, IsNarrow, IsNarrowFunction, IsNarrowBlock, IsNarrowPlaced, IsNarrowConst, operands_of, HasPhisFirst, is_last, is_phi}
 use Rattle.llvm_core.proofs.DataLemmas.{within_at, function_at}
 use Rattle.llvm_core.proofs.GivenLemmas.{none_any_at}
 use Rattle.llvm_core.proofs.FormTypes.{numbered, signature_of, param_types_are, count_is}
 use Rattle.llvm_core.proofs.FormPlaces.{shown, shown_inst, same_block_ends, same_phi_at, inst_place, IsFromBlock, block_from, IsFromInst, inst_from}
+use Rattle.llvm_core.proofs.FormValues.{IsNarrowHere}
 use Rattle.llvm_core.proofs.FormEdges.{StaysInside, count_present, same_edges}
 use Rattle.llvm_core.proofs.DistinctLaws.{each_function}
 use Rattle.llvm_core.proofs.CheckedInsts.{MeetsRules, form_of}
@@ -109,8 +111,11 @@ module _ (m : Module) (sound : IsModule m) (checked : IsChecked m) where
         → IsFormPlaced (shown m f x) z.block.0 (shown_inst m i z)
     inst_form i z is y block_is own narrow_inst =
         let home_is : home m z ≡ numbered f = ap (λ o. option_map_or (λ (b : BlockData). b.function) o (record { 0 = 0 })) block_is ∙ ap numbered own in
+        let os = operands_of (shown_inst m i z).instruction in
+        let held = within_at os (λ (o : Operand). IsHeld (operand_type (shown m f x) o)) narrow_inst.operands in
+        let short = within_at os IsNarrowConst narrow_inst.constants in
         record {
-          instruction = form_of m f x sound at z.block.0 (shown_inst m i z).type z.ty refl z.inst (meets f i z is home_is) narrow_inst.operands
+          instruction = form_of m f x sound at z.block.0 (shown_inst m i z).type z.ty refl z.inst (meets f i z is home_is) (all_from (IsNarrowHere m f x sound at) os (λ k o here. (held k o here, short k o here)))
               (λ p. same_edges m f x sound at narrow.block_numbers stays_inside p z.block.0 y block_is own) (λ k t leads. leads_behind f x i z k t at is leads);
           held = narrow_inst.result;
           name = narrow_inst.name;

@@ -4,7 +4,7 @@ use Rattle.std.specs.List.{list_any}
 use Rattle.std.specs.Option.{option_map}
 use Rattle.std.proofs.lemmas.Bool.{and_parts, cases_eq, eqb-true, false_from_ne_true, not-false, or_parts}
 use Rattle.std.proofs.lemmas.List.{length-map}
-use Rattle.std.proofs.lemmas.List.Elements.{All-nil, All-cons, All-head, All-tail, All-map}
+use Rattle.std.proofs.lemmas.List.Elements.{All-nil, All-cons, All-head, All-tail, All-map, All-weaker}
 use Rattle.std.proofs.lemmas.Option.{slice_get-map, same_Some}
 use Rattle.support.proofs.ListLaws.{all_from, item_there}
 use Rattle.kinds.specs.Rules.{operand_count, target_count}
@@ -37,7 +37,7 @@ use Rattle.llvm_core.proofs.RuleLaws.{tree, fits_by_tree, result_by_tree}
 use Rattle.llvm_core.proofs.FormTypes.{numbered}
 use Rattle.llvm_core.proofs.FormPlaces.{shown, shown_block, block_place}
 use Rattle.llvm_core.proofs.FormEdges.{same_sources}
-use Rattle.llvm_core.proofs.FormValues.{IsHeldHere, value_typed, value_stands, values_stand, types_same, same_void, return_form}
+use Rattle.llvm_core.proofs.FormValues.{IsNarrowHere, value_typed, value_stands, values_stand, types_same, same_void, return_form}
 
 -- the entry of a phi whose data stand at a place
 entry_from : (m : Module) (entries : List PhiEntry) (k : ℕ) (o : Operand × ℕ) → slice_get (map (entry_of (trees_of m)) entries) k ≡ Some o → (e : PhiEntry) × (slice_get entries k ≡ Some e) × (entry_of (trees_of m) e ≡ o)
@@ -67,15 +67,15 @@ module _ (m : Module) (f : ℕ) (x : FunctionData) (sound : IsModule m) (at : sl
   -- ---- operands and targets
 
   abbrev IsHere : Operand → Type 0
-  IsHere = IsHeldHere m f x sound at
+  IsHere = IsNarrowHere m f x sound at
 
   is_operand : (v : LLVMValue) (t : LLVMType) → IsValue m v → is_outside m (numbered f) v ≡ false → IsHere (operand_of (trees_of m) v) → value_type m v ≡ Some t
       → IsOperand (shown m f x) (type_at (trees_of m).types t) (operand_of (trees_of m) v)
-  is_operand v t here inside held is =
+  is_operand v t here inside narrow is =
       let h = value_typed m f x sound at v here inside in
       let same : h.type ≡ t = same_Some h.type t (sym h.type_is ∙ is) in
       let typed : operand_type (shown m f x) (operand_of (trees_of m) v) ≡ type_at (trees_of m).types t = sym h.tree_is ∙ ap (type_at (trees_of m).types) same in
-      record { stands = value_stands m f x sound at v here inside held; typed = typed; held = subst IsHeld typed held }
+      record { stands = value_stands m f x sound at v here inside narrow; typed = typed; held = subst IsHeld typed narrow.0 }
 
   -- a block of the function that is not the first
   is_target : (b : LLVMBasicBlock) → IsBlock m b → is_block_outside m (numbered f) b ≡ false → slice_get x.blocks 0 ≢ Some b → IsTarget (shown m f x) b.0
@@ -108,15 +108,15 @@ module _ (m : Module) (f : ℕ) (x : FunctionData) (sound : IsModule m) (at : sl
 
     entry_operand : (type : LLVMType) (entries : List PhiEntry) → MeetsRules m f b ty (I.Phi type entries) → All IsHere (operands_of (instruction_of (trees_of m) (I.Phi type entries))) → (k : ℕ) (e : PhiEntry) → slice_get entries k ≡ Some e
         → IsOperand (shown m f x) own (operand_of (trees_of m) e.value)
-    entry_operand type entries h held k e is =
+    entry_operand type entries h narrow k e is =
         let parts = or_parts (is_outside m (numbered f) e.value) (is_block_outside m (numbered f) e.block) (none_any_at (is_entry_outside m (numbered f)) entries k e h.outside is) in
         let value = type_decided (value_type m e.value) type (λ other. h.types (inr (k, e, is, other))) in
         let entry = within_at entries (IsEntry m) h.values.1 k e is in
         let listed : slice_get (map (λ (o : Operand × ℕ). o.0) (map (entry_of (trees_of m)) entries)) k ≡ Some (operand_of (trees_of m) e.value) =
         (slice_get-map (λ (o : Operand × ℕ). o.0) (map (entry_of (trees_of m)) entries) k ∙ ap (option_map (λ (o : Operand × ℕ). o.0)) (slice_get-map (entry_of (trees_of m)) entries k ∙ ap (option_map (entry_of (trees_of m))) is)) in
-        let narrow = within_at (map (λ (o : Operand × ℕ). o.0) (map (entry_of (trees_of m)) entries)) IsHere held k (operand_of (trees_of m) e.value) listed in
+        let here = within_at (map (λ (o : Operand × ℕ). o.0) (map (entry_of (trees_of m)) entries)) IsHere narrow k (operand_of (trees_of m) e.value) listed in
         let same : type_at (trees_of m).types type ≡ own = sym (own_is ∙ ap (type_at (trees_of m).types) h.result) in
-        subst (λ t. IsOperand (shown m f x) t (operand_of (trees_of m) e.value)) same (is_operand e.value type entry.0 parts.0 narrow value)
+        subst (λ t. IsOperand (shown m f x) t (operand_of (trees_of m) e.value)) same (is_operand e.value type entry.0 parts.0 here value)
 
     counted : (type : LLVMType) (entries : List PhiEntry) → MeetsRules m f b ty (I.Phi type entries) → (p : ℕ) → count_of p (sources entries) ≡ edge_count m p b
     counted type entries h p = elim (cases_eq (count_of p (sources entries)) (edge_count m p b)) [ inl same ↦ same | inr other ↦ absurd (h.edges (inl (λ fits. other (fits p)))) ]
@@ -145,7 +145,7 @@ module _ (m : Module) (f : ℕ) (x : FunctionData) (sound : IsModule m) (at : sl
 
     row_form : (r : Row) → MeetsRules m f b ty (I.Row r) → All IsHere (map (operand_of (trees_of m)) r.operands) → ((k : ℕ) (t : LLVMBasicBlock) → slice_get (leads_to (I.Row r)) k ≡ Some t.0 → slice_get x.blocks 0 ≢ Some t)
         → IsFormRow (shown m f x) own (row_of (trees_of m) r)
-    row_form r h held behind =
+    row_form r h narrow behind =
         let takes = (rule_of r.op).takes in
         let os = map (operand_of (trees_of m)) r.operands in
         let inside = or_parts (list_any (is_outside m (numbered f)) r.operands) (list_any (is_block_outside m (numbered f)) r.targets) h.outside in
@@ -153,8 +153,8 @@ module _ (m : Module) (f : ℕ) (x : FunctionData) (sound : IsModule m) (at : sl
         let counts = and_parts (nat_eq (length r.operands) (operand_count takes (returns_void m (numbered f)))) (nat_eq (length r.targets) (target_count (rule_of r.op).leads)) (not-false (is_counted m (numbered f) r) h.counts) in
         let types = types_same m f x sound at r.operands h.values.0 inside.0 in
         record {
-          operands = values_stand m f x sound at r.operands h.values.0 inside.0 held;
-          held = All-map IsHeld (operand_type (shown m f x)) os held;
+          operands = values_stand m f x sound at r.operands h.values.0 inside.0 narrow;
+          held = All-map IsHeld (operand_type (shown m f x)) os (All-weaker IsHere (λ (o : Operand). IsHeld (operand_type (shown m f x) o)) (λ o h. h.0) os narrow);
           count = length-map r.operands (operand_of (trees_of m)) ∙ eqb-true (length r.operands) (operand_count takes (returns_void m (numbered f))) counts.0 ∙ ap (operand_count takes) (same_void m f x sound at);
           fits = ap (fits_trees r.op (option_map (tree m sound) r.written)) types ∙ fits_by_tree m sound r h.values ∙ not-false (row_fits m r) fits.0;
           returns = return_form m f x sound at takes r.operands h.values.0 inside.0 fits.1;
@@ -168,10 +168,10 @@ module _ (m : Module) (f : ℕ) (x : FunctionData) (sound : IsModule m) (at : sl
     -- an instruction that meets the rules is of the form, where the edges in the data are those of the module and none leads to the first block
     pub form_of : (i : LLVMInst) → MeetsRules m f b ty i → All IsHere (operands_of (instruction_of (trees_of m) i)) → ((p : ℕ) → edges_between (shown m f x) p b ≡ edge_count m p b)
         → ((k : ℕ) (t : LLVMBasicBlock) → slice_get (leads_to i) k ≡ Some t.0 → slice_get x.blocks 0 ≢ Some t) → IsFormInstruction (shown m f x) b own (instruction_of (trees_of m) i)
-    form_of (I.Phi type entries) h held edges behind =
+    form_of (I.Phi type entries) h narrow edges behind =
         let first = some_entry type entries h in
         let each : All (λ (o : Operand × ℕ). IsOperand (shown m f x) own o.0) (map (entry_of (trees_of m)) entries) = all_from (λ (o : Operand × ℕ). IsOperand (shown m f x) own o.0) (map (entry_of (trees_of m)) entries) (λ k o is.
         let e = entry_from m entries k o is in
-        subst (λ (o : Operand × ℕ). IsOperand (shown m f x) own o.0) e.2 (entry_operand type entries h held k e.0 e.1)) in
-        (each, phi_fits type entries h edges, (entry_operand type entries h held 0 first.0 first.1).held)
-    form_of (I.Row r) h held edges behind = row_form r h held behind
+        subst (λ (o : Operand × ℕ). IsOperand (shown m f x) own o.0) e.2 (entry_operand type entries h narrow k e.0 e.1)) in
+        (each, phi_fits type entries h edges, (entry_operand type entries h narrow 0 first.0 first.1).held)
+    form_of (I.Row r) h narrow edges behind = row_form r h narrow behind

@@ -6,7 +6,6 @@ use Rattle.std.proofs.lemmas.Option.{slice_get_within}
 use Rattle.std.proofs.lemmas.List.Elements.{All-head, All-tail, All-weaker}
 use Rattle.support.proofs.ListLaws.{item_there}
 use Rattle.kinds.specs.declared.fitting.Shape.{Shape}
-use Rattle.kinds.specs.declared.fitting.Shape.TheVariants as S
 use Rattle.kinds.specs.Types.{shape, types_list, count_types}
 use Rattle.kinds.specs.Fitting.{is_nothing, is_value}
 use Rattle.kinds.specs.Fitting.{is_function as function_shape}
@@ -41,9 +40,7 @@ pub held_has_value : (m : Module) (t : LLVMType) → IsModule m → t.0 < length
 held_has_value m t sound within h = kind_kept m (λ s. not (is_value s)) t sound within ∙ ap not (held_value (type_at (trees_of m).types t) h)
 
 value_no_function : (s : Shape) → is_value s ≡ true → function_shape s ≡ false
-value_no_function S.Void h = refl
-value_no_function (S.Int w) h = refl
-value_no_function S.Function h = cc
+value_no_function s h = grind arith
 
 -- what is returned is no function
 pub returned_no_function : (t : TypeTree) → IsReturned t → function_shape (shape t) ≡ false
@@ -87,9 +84,8 @@ pub record HasSignature (m : Module) (x : FunctionData) (result : TypeTree) (typ
 
 -- the kind of a function type
 function_kind : (k : LLVMTypeKind) → IsTrue (is_function k) → (result : LLVMType) × (params : List LLVMType) × (variadic : Bool) × (k ≡ T.Function result params variadic)
-function_kind T.Void h = absurd cc
-function_kind (T.Int w) h = absurd cc
 function_kind (T.Function r ps v) h = (r, ps, v, refl)
+function_kind k h = absurd cc
 
 -- a function has a function type
 pub function_typed : (m : Module) (f : ℕ) (x : FunctionData) → IsModule m → slice_get m.functions f ≡ Some x → (result : TypeTree) × (types : TypeTrees) × (variadic : Bool) × (type_at (trees_of m).types x.ty ≡ FunctionType result types variadic)

@@ -25,9 +25,9 @@ use Rattle.llvm_core.specs.Code.{param_names}
 use Rattle.llvm_core.specs.Parts.{IsValue, value_type, param_types}
 use Rattle.llvm_core.specs.Parts.{const_type as type_of_const}
 use Rattle.llvm_core.specs.Sound.{IsModule}
-use Rattle.llvm_core.specs.Data.{TypeTree, VoidType, IntConst, Operand, Placed, const_at, type_at, trees_of, const_type, operand_of, param_type, nth_type, placed_in, operand_type}
+use Rattle.llvm_core.specs.Data.{TypeTree, VoidType, IntConst, Operand, Constant, Placed, const_at, type_at, trees_of, const_type, operand_of, param_type, nth_type, placed_in, operand_type}
 use Rattle.llvm_core.specs.Checked.{home, is_placeholder, is_outside, return_type, returns_void, returns_other, misfits_return}
-use Rattle.llvm_core.specs.Form.{IsShortConst, HasNumber, IsOperandOf, IsReturning, types_of}
+use Rattle.llvm_core.specs.Form.{IsShortConst, IsNarrowConst, HasNumber, IsOperandOf, IsReturning, types_of}
 use Rattle.llvm_core.specs.Form.{returns_void as void_returned}
 use Rattle.llvm_core.proofs.ApartLemmas.{apart, same_type}
 use Rattle.llvm_core.proofs.RuleLaws.{tree_of}
@@ -123,28 +123,29 @@ module _ (m : Module) (f : ℕ) (x : FunctionData) (sound : IsModule m) (at : sl
 
   -- ---- values of the function
 
-  abbrev pub IsHeldHere : Operand → Type 0
-  IsHeldHere o = IsHeld (operand_type (shown m f x) o)
+  -- of a type that is translated, and of at most 64 bits where it is a constant
+  abbrev pub IsNarrowHere : Operand → Type 0
+  IsNarrowHere o = IsHeld (operand_type (shown m f x) o) × IsNarrowConst o
 
-  const_short : (c : LLVMConst) → IsValue m (V.Const c) → is_outside m (numbered f) (V.Const c) ≡ false → IsHeldHere (operand_of (trees_of m) (V.Const c)) → IsShortConst (const_at (trees_of m).consts c)
-  const_short c here inside held = let k = item_there m.consts c.0 here in by k.0 k.1 (ap (λ o. option_map_or is_placeholder o false) (sym k.1) ∙ inside)
+  const_short : (c : LLVMConst) → IsValue m (V.Const c) → is_outside m (numbered f) (V.Const c) ≡ false → IsNarrowHere (operand_of (trees_of m) (V.Const c)) → IsShortConst (const_at (trees_of m).consts c)
+  const_short c here inside narrow = let k = item_there m.consts c.0 here in by k.0 k.1 (ap (λ o. option_map_or is_placeholder o false) (sym k.1) ∙ inside)
     where
       by : (k : LLVMConstKind) → slice_get m.consts c.0 ≡ Some k → is_placeholder k ≡ false → IsShortConst (const_at (trees_of m).consts c)
       by (C.Int t v) is none =
           let typed = sound.consts c.0 (C.Int t v) is in
           let const : const_at (trees_of m).consts c ≡ IntConst typed.0 v =
           const_tree_of m c (C.Int t v) is ∙ ap (λ (u : TypeTree). IntConst (width_in u) v) (int_tree_of m t typed.0 sound typed.1) in
-          rw const (held_int typed.0 (subst (λ k. IsHeld (const_type k)) const held), typed.2)
+          rw const (((held_int typed.0 (subst (λ k. IsHeld (const_type k)) const narrow.0)).0, subst (λ k. IsNarrowConst (Constant k)) const narrow.1), typed.2)
       by (C.Placeholder number t) is none = absurd cc
 
-  -- a value that is there and is not outside is an operand of the function, where its type is held
-  pub value_stands : (v : LLVMValue) → IsValue m v → is_outside m (numbered f) v ≡ false → IsHeldHere (operand_of (trees_of m) v) → IsOperandOf (shown m f x) (operand_of (trees_of m) v)
-  value_stands (V.Const c) here inside held = const_short c here inside held
-  value_stands (V.Param g place) here inside held =
+  -- a value that is there and is not outside is an operand of the function, where it is narrow
+  pub value_stands : (v : LLVMValue) → IsValue m v → is_outside m (numbered f) v ≡ false → IsNarrowHere (operand_of (trees_of m) v) → IsOperandOf (shown m f x) (operand_of (trees_of m) v)
+  value_stands (V.Const c) here inside narrow = const_short c here inside narrow
+  value_stands (V.Param g place) here inside narrow =
       let same = eqb-true g.0 f (not-false (nat_eq g.0 f) inside) in
       let named = names_of_params g same in
       (same, omega (arith, here, named))
-  value_stands (V.Inst i) here inside held = inst_stands i here inside
+  value_stands (V.Inst i) here inside narrow = inst_stands i here inside
 
   const_inside : (c : LLVMConst) → IsShortConst (const_at (trees_of m).consts c) → (o : Option LLVMConstKind) → slice_get m.consts c.0 ≡ o → option_map_or is_placeholder o false ≡ false
   const_inside c h None e = refl
@@ -175,13 +176,13 @@ module _ (m : Module) (f : ℕ) (x : FunctionData) (sound : IsModule m) (at : sl
       let rest = types_same vs (All-tail (IsValue m) v vs here) inside.1 in
       cc
 
-  pub values_stand : (vs : List LLVMValue) → All (IsValue m) vs → list_any (is_outside m (numbered f)) vs ≡ false → All IsHeldHere (map (operand_of (trees_of m)) vs) → All (IsOperandOf (shown m f x)) (map (operand_of (trees_of m)) vs)
-  values_stand [] here none held = All-nil (IsOperandOf (shown m f x))
-  values_stand (v ∷ vs) here none held =
+  pub values_stand : (vs : List LLVMValue) → All (IsValue m) vs → list_any (is_outside m (numbered f)) vs ≡ false → All IsNarrowHere (map (operand_of (trees_of m)) vs) → All (IsOperandOf (shown m f x)) (map (operand_of (trees_of m)) vs)
+  values_stand [] here none narrow = All-nil (IsOperandOf (shown m f x))
+  values_stand (v ∷ vs) here none narrow =
       let o = operand_of (trees_of m) v in
       let os = map (operand_of (trees_of m)) vs in
       let inside = or_parts (is_outside m (numbered f) v) (list_any (is_outside m (numbered f)) vs) none in
-      All-cons (IsOperandOf (shown m f x)) o os (value_stands v (All-head (IsValue m) v vs here) inside.0 (All-head IsHeldHere o os held)) (values_stand vs (All-tail (IsValue m) v vs here) inside.1 (All-tail IsHeldHere o os held))
+      All-cons (IsOperandOf (shown m f x)) o os (value_stands v (All-head (IsValue m) v vs here) inside.0 (All-head IsNarrowHere o os narrow)) (values_stand vs (All-tail (IsValue m) v vs here) inside.1 (All-tail IsNarrowHere o os narrow))
 
   pub values_inside : (vs : List LLVMValue) → All (IsOperandOf (shown m f x)) (map (operand_of (trees_of m)) vs) → list_any (is_outside m (numbered f)) vs ≡ false
   values_inside [] stand = refl

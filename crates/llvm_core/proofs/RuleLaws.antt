@@ -20,7 +20,6 @@ use Rattle.support.proofs.ListLaws.{item_there}
 use Rattle.llvm_core.specs.declared.numbers.LLVMType.{LLVMType}
 use Rattle.llvm_core.specs.declared.numbers.LLVMFunction.{LLVMFunction}
 use Rattle.llvm_core.specs.declared.types.LLVMTypeKind.{LLVMTypeKind}
-use Rattle.llvm_core.specs.declared.types.LLVMTypeKind.TheVariants as T
 use Rattle.llvm_core.specs.declared.types.ResultType.TheVariants as R
 use Rattle.llvm_core.specs.declared.code.LLVMValue.{LLVMValue}
 use Rattle.llvm_core.specs.declared.code.LLVMValue.TheVariants as V
@@ -36,11 +35,9 @@ use Rattle.llvm_core.proofs.ApartLemmas.{apart}
 use Rattle.llvm_core.proofs.DataLemmas.{type_tree_of}
 use Rattle.llvm_core.proofs.WithinLemmas.{type_nth_within, HasParam, param_there}
 
--- what rules look at is that of the tree, a line for each kind
+-- what rules look at is that of the tree
 pub shape_kept : (ts : List TypeTree) (k : LLVMTypeKind) → shape_of k ≡ shape (type_tree ts k)
-shape_kept ts T.Void = refl
-shape_kept ts (T.Int w) = refl
-shape_kept ts (T.Function result params variadic) = refl
+shape_kept ts k = grind arith
 
 bool_by : (a b : Bool) → (a ≡ true → b ≡ true) → (b ≡ true → a ≡ true) → a ≡ b
 bool_by true b f g = sym (f refl)

@@ -63,9 +63,8 @@ same_types_at ts us n same (x ∷ xs) h =
 
 -- trees that agree below n agree on a type over n
 pub same_tree : (ts us : List TypeTree) (n : ℕ) → ((j : ℕ) → j < n → get_or ts j VoidType ≡ get_or us j VoidType) → (k : LLVMTypeKind) → IsTypeOver n k → type_tree ts k ≡ type_tree us k
-same_tree ts us n same T.Void h = refl
-same_tree ts us n same (T.Int w) h = refl
 same_tree ts us n same (T.Function result params variadic) h = let e = same_types_at ts us n same params h.1 in let f = same result.0 h.0 in cc
+same_tree ts us n same k h = refl
 
 -- the tree of a number is that of the kind that stands there
 pub type_at-kind : (ks : List LLVMTypeKind) (t : LLVMType) (k : LLVMTypeKind) → slice_get ks t.0 ≡ Some k → IsTypeOver t.0 k → type_at (type_trees ks) t ≡ type_tree (type_trees ks) k

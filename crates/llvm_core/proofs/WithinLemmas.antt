@@ -44,9 +44,8 @@ param_within m f place x k d s at is there =
     earlier = slice_get_within m.types x.ty.0 k is
 
     by : (k : LLVMTypeKind) → IsTypeOver x.ty.0 k → place < length (kind_params k) → (get_or (kind_params k) place d).0 < length m.types
-    by T.Void ok lt = absurd (omega arith)
-    by (T.Int w) ok lt = absurd (omega arith)
     by (T.Function result params variadic) ok lt = omega (arith, ok.1 place d lt, earlier)
+    by k ok lt = grind arith
 
 -- the function that has a parameter at a place
 pub record HasParam (m : Module) (f : LLVMFunction) (place : ℕ) : Type 0 where

@@ -118,6 +118,8 @@ abbrev pub kind_result : LLVMTypeKind → Option LLVMType
 kind_result (T.Function result params variadic) = Some result
 kind_result T.Void = None
 kind_result (T.Int width) = None
+kind_result (T.Ptr space) = None
+kind_result (T.Floating of) = None
 
 -- the type of what a function returns
 abbrev pub return_type : Module → LLVMFunction → Option LLVMType

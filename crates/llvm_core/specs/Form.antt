@@ -1,6 +1,6 @@
 -- Modules of the form that is translated today: functions with a body of phis and rows of the table, over the types that
 -- are held.
-use Rattle.std.specs.Prelude.{◌≡◌, ◌<◌, ◌^◌, ℕ, suc, Bool, true, false, is_some, nat_eq, List, [], ◌++◌, length, map, filter, slice_get, unwrap_or, Some, All}
+use Rattle.std.specs.Prelude.{◌≡◌, ◌<◌, ◌≤◌, ◌^◌, ℕ, suc, Bool, true, false, is_some, nat_eq, List, [], ◌++◌, length, map, filter, slice_get, unwrap_or, Some, All}
 use Rattle.std.specs.List.{flat_map}
 use Rattle.llvm_core.specs.Data.{TypeTree, VoidType, FunctionType, TypeTrees, ConstTree, IntConst, PlaceholderConst, Operand, Constant, Parameter, Result, RowData, Instruction, Phi, Applied, Placed, Block, Function, ModuleData, operand_type, placed_in, targets, phi_entries}
 use Rattle.kinds.specs.declared.rules.Takes.{Takes}
@@ -150,12 +150,20 @@ abbrev pub operands_of : Instruction → List Operand
 operands_of (Phi entries) = map (λ (e : Operand × ℕ). e.0) entries
 operands_of (Applied r) = r.operands
 
+-- a constant that is translated has at most 64 bits; of another operand it is not asked
+abbrev pub IsNarrowConst : Operand → Type 0
+IsNarrowConst (Constant (IntConst w v)) = w ≤ 64
+IsNarrowConst (Constant (PlaceholderConst n type)) = Unit {0}
+IsNarrowConst (Parameter g i) = Unit {0}
+IsNarrowConst (Result n) = Unit {0}
+
 -- the types of operands, and of a result where there is one, are translated; what has no result has no name
 pub record IsNarrowPlaced (f : Function) (p : Placed) : Type 0 where
   pub name : IsPlainOrNone p.name
   pub unnamed : p.type ≡ VoidType → p.name ≡ []
   pub result : IsHeldResult p.type
   pub operands : All (λ (o : Operand). IsHeld (operand_type f o)) (operands_of p.instruction)
+  pub constants : All IsNarrowConst (operands_of p.instruction)
 
 pub record IsNarrowBlock (f : Function) (b : Block) : Type 0 where
   pub label : IsPlainOrNone b.name

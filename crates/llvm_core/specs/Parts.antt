@@ -36,6 +36,8 @@ use Rattle.llvm_core.specs.Code.{param_names}
 abbrev pub IsTypeOver : ℕ → LLVMTypeKind → Type 0
 IsTypeOver n T.Void = Unit {0}
 IsTypeOver n (T.Int width) = (1 ≤ width) × (width ≤ 2 ^ 23)
+IsTypeOver n (T.Ptr space) = space < 2 ^ 32
+IsTypeOver n (T.Floating of) = Unit {0}
 IsTypeOver n (T.Function result params variadic) = (result.0 < n) × All (λ (t : LLVMType). t.0 < n) params
 
 -- a constant over a list of types: an integer of an integer type, which it fits, or a placeholder of a type that is there
@@ -47,6 +49,8 @@ IsConstOver types (C.Placeholder number t) = t.0 < length types
 abbrev pub shape_of : LLVMTypeKind → Shape
 shape_of T.Void = S.Void
 shape_of (T.Int width) = S.Int width
+shape_of (T.Ptr space) = S.Pointer space
+shape_of (T.Floating of) = S.Other
 shape_of (T.Function result params variadic) = S.Function
 
 abbrev pub is_function : LLVMTypeKind → Bool
@@ -64,6 +68,8 @@ abbrev pub kind_params : LLVMTypeKind → List LLVMType
 kind_params (T.Function result params variadic) = params
 kind_params T.Void = []
 kind_params (T.Int width) = []
+kind_params (T.Ptr space) = []
+kind_params (T.Floating of) = []
 
 -- the parameters of a function type
 abbrev pub type_params : List LLVMTypeKind → LLVMType → List LLVMType

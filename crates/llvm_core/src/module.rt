@@ -509,6 +509,8 @@ pub fn shape_of(kind: &LLVMTypeKind) -> Shape
     match kind {
         LLVMTypeKind::Void => Shape::Void,
         LLVMTypeKind::Int(width) => Shape::Int(*width),
+        LLVMTypeKind::Ptr(space) => Shape::Pointer(*space),
+        LLVMTypeKind::Floating(_) => Shape::Other,
         LLVMTypeKind::Function { .. } => Shape::Function,
     }
 }

@@ -1,6 +1,7 @@
 //! Types, as a module keeps them.
 
 use crate::numbers::LLVMType;
+use kinds::types::Floating;
 use support::items::Items;
 
 /// The type of an instruction's result.
@@ -18,6 +19,9 @@ pub enum LLVMTypeKind {
     Void,
     /// An integer type of a width of 1 to 2^23 bits.
     Int(u32),
+    /// A pointer type of an address space (Language Reference, Pointer Type).
+    Ptr(u32),
+    Floating(Floating),
     Function {
         result: LLVMType,
         params: Items<LLVMType>,

@@ -1,15 +1,19 @@
 -- Tests of instructions and blocks decide what the form asks of their data.
-use Rattle.std.proofs.Common.{◌≡◌, ◌<◌, ℕ, false, ◌&&◌, List, [], ◌∷◌, Some, length, map, slice_get, refl, sym, ap, subst, ◌∙◌, All}
+use Rattle.std.proofs.Common.{◌≡◌, ◌<◌, ◌≤◌, ℕ, true, false, nat_le, ◌&&◌, List, [], ◌∷◌, Some, length, map, slice_get, refl, sym, ap, subst, ◌∙◌, All}
 use Rattle.std.specs.Bool.{Decides}
 use Rattle.std.specs.List.{list_all, list_any}
 use Rattle.std.specs.Option.{option_map_or}
-use Rattle.std.proofs.lemmas.Bool.{or_from, or_parts, false_from_ne_true}
+use Rattle.std.proofs.lemmas.Bool.{leb-true, le-leb, or_from, or_parts, false_from_ne_true}
 use Rattle.std.proofs.lemmas.Bool.Decides.{Decides-at, Decides-and, Decides-like}
 use Rattle.std.proofs.lemmas.List.Elements.{All-nil, All-cons, All-head, All-tail}
 use Rattle.support.proofs.ListLaws.{all_from, item_there}
-use Rattle.kinds.specs.Held.{IsHeld}
+use Rattle.kinds.specs.Fitting.{width_of}
+use Rattle.kinds.specs.Held.{width_in, IsHeld}
 use Rattle.llvm_core.specs.declared.numbers.LLVMInstRef.{LLVMInstRef}
+use Rattle.llvm_core.specs.declared.consts.LLVMConstKind.{LLVMConstKind}
+use Rattle.llvm_core.specs.declared.consts.LLVMConstKind.TheVariants as C
 use Rattle.llvm_core.specs.declared.code.LLVMValue.{LLVMValue}
+use Rattle.llvm_core.specs.declared.code.LLVMValue.TheVariants as V
 use Rattle.llvm_core.specs.declared.code.LLVMInst.{LLVMInst}
 use Rattle.llvm_core.specs.declared.code.LLVMInst.TheVariants as I
 use Rattle.llvm_core.specs.declared.code.PhiEntry.{PhiEntry}
@@ -21,15 +25,17 @@ use Rattle.llvm_core.specs.declared.check_err.CheckErr.TheVariants.{BlockOutside
 use Rattle.llvm_core.specs.Module.{Module}
 use Rattle.llvm_core.specs.Parts.{IsValue, IsEntry, HasValues, is_kind, operands}
 use Rattle.llvm_core.specs.Sound.{IsModule}
-use Rattle.llvm_core.specs.Data.{Operand, Block, trees_of, operand_of, entry_of, instruction_of, operand_type}
+use Rattle.llvm_core.specs.Data.{Operand, Constant, Block, type_at, trees_of, operand_of, entry_of, instruction_of, operand_type}
 use Rattle.llvm_core.specs.Checked.{IsChecked, home, is_void, is_outside, is_block_outside, is_entry_outside, reaches_outside}
-use Rattle.llvm_core.specs.Form.{IsNarrowPlaced, IsNarrowBlock, operands_of}
-use Rattle.llvm_core.proofs.DataLemmas.{within_at, inst_of_number}
-use Rattle.llvm_core.proofs.FormTypes.{numbered, void_kept}
+use Rattle.llvm_core.specs.Form.{IsNarrowConst, IsNarrowPlaced, IsNarrowBlock, operands_of}
+use Rattle.llvm_core.proofs.DataLemmas.{within_at, inst_of_number, int_const_of, placeholder_const_of}
+use Rattle.llvm_core.proofs.WithinLemmas.{const_type_within}
+use Rattle.llvm_core.proofs.GivenLemmas.{none_any_at}
+use Rattle.llvm_core.proofs.FormTypes.{numbered, kind_kept, void_kept}
 use Rattle.llvm_core.proofs.FormValues.{value_typed}
 use Rattle.llvm_core.proofs.FormPlaces.{shown, shown_block, shown_inst, IsFromBlock, inst_from}
-use Rattle.llvm_form.specs.Narrow.{is_plain_or_none, is_held_result_kind, is_held_type, is_held_value, is_named_right, is_narrow_inst, is_narrow_inst_data, is_narrow_block_data}
-use Rattle.llvm_form.proofs.AllLaws.{each_passes, all_pass}
+use Rattle.llvm_form.specs.Narrow.{is_plain_or_none, is_held_result_kind, is_held_type, is_held_value, is_short_const, is_narrow_const, is_named_right, is_narrow_inst, is_narrow_inst_data, is_narrow_block_data}
+use Rattle.llvm_form.proofs.AllLaws.{each_passes, all_pass, mapped_decided}
 use Rattle.llvm_form.proofs.TypeLaws.{plain_or_none, named_right, held_decided, held_result_decided}
 
 -- the operands of an instruction, as data
@@ -52,16 +58,21 @@ module _ (m : Module) (sound : IsModule m) (f : ℕ) (x : FunctionData) (at : sl
       let t = value_typed m f x sound at v here inside in
       Decides-at (is_held_value m v) (is_held_type m t.type) (ap (λ o. option_map_or (is_held_type m) o false) t.type_is) (subst (λ τ. Decides (is_held_type m t.type) (IsHeld τ)) t.tree_is (held_decided m sound t.type t.within))
 
-  values_decided : (vs : List LLVMValue) → All (IsValue m) vs → list_any (is_outside m (numbered f)) vs ≡ false → Decides (list_all (is_held_value m) vs) (All IsHeldOperand (map (operand_of (trees_of m)) vs))
-  values_decided [] here inside = (λ e. All-nil IsHeldOperand, λ h. refl)
-  values_decided (v ∷ vs) here inside =
-      let o = operand_of (trees_of m) v in
-      let os = map (operand_of (trees_of m)) vs in
-      let parts = or_parts (is_outside m (numbered f) v) (list_any (is_outside m (numbered f)) vs) inside in
-      let head = value_decided v (All-head (IsValue m) v vs here) parts.0 in
-      let tail = values_decided vs (All-tail (IsValue m) v vs here) parts.1 in
-      Decides-like (is_held_value m v && list_all (is_held_value m) vs) (λ h. All-cons IsHeldOperand o os h.0 h.1) (λ all. (All-head IsHeldOperand o os all, All-tail IsHeldOperand o os all))
-      (Decides-and (is_held_value m v) (list_all (is_held_value m) vs) head tail)
+  -- an integer has the width of its tree; of what is no constant nothing is asked
+  const_decided : (v : LLVMValue) → IsValue m v → Decides (is_narrow_const m v) (IsNarrowConst (operand_of (trees_of m) v))
+  const_decided (V.Const c) here = let k = item_there m.consts c.0 here in by k.0 k.1
+    where
+      by : (k : LLVMConstKind) → slice_get m.consts c.0 ≡ Some k → Decides (is_narrow_const m (V.Const c)) (IsNarrowConst (operand_of (trees_of m) (V.Const c)))
+      by (C.Int t value) is =
+          let width = width_in (type_at (trees_of m).types t) in
+          let within = const_type_within m.types (C.Int t value) (sound.consts c.0 (C.Int t value) is) in
+          let short : Decides (nat_le width 64) (width ≤ 64) = (λ e. leb-true width 64 e, λ h. le-leb width 64 h) in
+          Decides-at (is_narrow_const m (V.Const c)) (nat_le width 64) (ap (λ o. option_map_or (is_short_const m.types) o true) is ∙ kind_kept m (λ s. nat_le (width_of s) 64) t sound within)
+          (subst (λ k. Decides (nat_le width 64) (IsNarrowConst (Constant k))) (sym (int_const_of m c t value is)) short)
+      by (C.Placeholder number t) is =
+          (λ e. subst (λ k. IsNarrowConst (Constant k)) (sym (placeholder_const_of m c number t is)) tt, λ h. ap (λ o. option_map_or (is_short_const m.types) o true) is)
+  const_decided (V.Param g place) here = (λ e. tt, λ h. refl)
+  const_decided (V.Inst i) here = (λ e. tt, λ h. refl)
 
   -- the operands of an instruction are there, and none is outside
   operands_there : (i : LLVMInst) → HasValues m i → All (IsValue m) (operands i)
@@ -95,12 +106,17 @@ module _ (m : Module) (sound : IsModule m) (f : ℕ) (x : FunctionData) (at : sl
         let inside = operands_inside z.inst (subst (λ g. reaches_outside m g z.inst ≡ false) own none) in
         let named = named_right z.name τ (is_kind is_void m.types z.ty) (void_kept m z.ty sound there.typed) in
         let result = held_result_decided m sound z.ty there.typed in
-        let here = values_decided (operands z.inst) (operands_there z.inst there.values) inside in
-        let all = subst (λ os. Decides (list_all (is_held_value m) (operands z.inst)) (All IsHeldOperand os)) (sym (operands_shown m z.inst)) here in
-        let head = Decides-and (is_named_right m z) (is_kind is_held_result_kind m.types z.ty) named result in
-        Decides-like (is_narrow_inst_data m z) (λ h. record { name = h.0.0.0; unnamed = h.0.0.1; result = h.0.1; operands = h.1 })
-        (λ (p : IsNarrowPlaced (shown m f x) (shown_inst m i z)). (((p.name, p.unnamed), p.result), p.operands))
-        (Decides-and (is_named_right m z && is_kind is_held_result_kind m.types z.ty) (list_all (is_held_value m) (operands z.inst)) head all)
+        let vs = operands z.inst in
+        let value = within_at vs (IsValue m) (operands_there z.inst there.values) in
+        let held = mapped_decided (is_held_value m) IsHeldOperand (operand_of (trees_of m)) vs (λ k v listed. value_decided v (value k v listed) (none_any_at (is_outside m (numbered f)) vs k v inside listed)) in
+        let short = mapped_decided (is_narrow_const m) IsNarrowConst (operand_of (trees_of m)) vs (λ k v listed. const_decided v (value k v listed)) in
+        let all_held = subst (λ os. Decides (list_all (is_held_value m) vs) (All IsHeldOperand os)) (sym (operands_shown m z.inst)) held in
+        let all_short = subst (λ os. Decides (list_all (is_narrow_const m) vs) (All IsNarrowConst os)) (sym (operands_shown m z.inst)) short in
+        let first = is_named_right m z && is_kind is_held_result_kind m.types z.ty in
+        let head = Decides-and first (list_all (is_held_value m) vs) (Decides-and (is_named_right m z) (is_kind is_held_result_kind m.types z.ty) named result) all_held in
+        Decides-like (is_narrow_inst_data m z) (λ h. record { name = h.0.0.0.0; unnamed = h.0.0.0.1; result = h.0.0.1; operands = h.0.1; constants = h.1 })
+        (λ (p : IsNarrowPlaced (shown m f x) (shown_inst m i z)). ((((p.name, p.unnamed), p.result), p.operands), p.constants))
+        (Decides-and (first && list_all (is_held_value m) vs) (list_all (is_narrow_const m) vs) head all_short)
 
     -- ---- blocks
 

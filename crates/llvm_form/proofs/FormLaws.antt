@@ -6,7 +6,7 @@ use Rattle.std.specs.Option.{option_map_or}
 use Rattle.std.proofs.lemmas.Bool.{ltb-true, lt-ltb}
 use Rattle.std.proofs.lemmas.Option.{same_Some}
 use Rattle.std.proofs.lemmas.Bool.Decides.{Decides-at, Decides-and, Decides-like, Decides-by_and}
-use Rattle.std.proofs.lemmas.List.Elements.{All-nil, All-cons, All-head, All-tail, All-weaker}
+use Rattle.std.proofs.lemmas.List.Elements.{All-nil, All-cons, All-head, All-tail, All-weaker, All-map}
 use Rattle.support.proofs.ListLaws.{all_from, item_there}
 use Rattle.kinds.specs.Types.{types_list}
 use Rattle.kinds.specs.Held.{IsHeld, IsHeldResult, IsHeldSignature}
@@ -16,9 +16,9 @@ use Rattle.llvm_core.specs.Module.{Module}
 use Rattle.llvm_core.specs.Names.{is_plain, IsPlainOrNone}
 use Rattle.llvm_core.specs.Parts.{is_kind}
 use Rattle.llvm_core.specs.Sound.{IsModule}
-use Rattle.llvm_core.specs.Data.{TypeTree, TypeTrees, FunctionType, Operand, Placed, Block, Function, ModuleData, Instruction, Phi, Applied, type_at, types_at, trees_of, data_of, operand_type}
+use Rattle.llvm_core.specs.Data.{TypeTree, TypeTrees, FunctionType, IntConst, PlaceholderConst, Operand, Constant, Parameter, Result, Placed, Block, Function, ModuleData, Instruction, Phi, Applied, type_at, types_at, trees_of, data_of, operand_type}
 use Rattle.llvm_core.specs.Checked.{IsChecked}
-use Rattle.llvm_core.specs.Form.{IsOperand, IsForm, IsFormFunction, IsFormBlock, IsFormPlaced, IsFormInstruction, IsNarrow, IsNarrowFunction, IsNarrowBlock, IsNarrowPlaced, operands_of}
+use Rattle.llvm_core.specs.Form.{IsOperandOf, IsOperand, IsForm, IsFormFunction, IsFormBlock, IsFormPlaced, IsFormInstruction, IsNarrow, IsNarrowFunction, IsNarrowBlock, IsNarrowPlaced, IsNarrowConst, operands_of}
 use Rattle.llvm_core.proofs.DataLemmas.{within_at, function_at, function_tree_of, block_count_of, block_of_number}
 use Rattle.llvm_core.proofs.FormTypes.{signature_of, function_typed}
 use Rattle.llvm_core.proofs.FormPlaces.{shown, block_from}
@@ -144,8 +144,21 @@ module _ (f : Function) where
       of_types [] all = All-nil (λ (o : Operand). IsHeld (operand_type f o))
       of_types (o ∷ os) all = All-cons (λ (o : Operand). IsHeld (operand_type f o)) o os (All-head IsHeld (operand_type f o) (map (operand_type f) os) all) (of_types os (All-tail IsHeld (operand_type f o) (map (operand_type f) os) all))
 
+  const_short : (o : Operand) → IsOperandOf f o → IsNarrowConst o
+  const_short (Constant (IntConst w v)) h = h.0.1
+  const_short (Constant (PlaceholderConst n type)) h = tt
+  const_short (Parameter g i) h = tt
+  const_short (Result n) h = tt
+
+  consts_short : (b : ℕ) (type : TypeTree) (i : Instruction) → IsFormInstruction f b type i → All IsNarrowConst (operands_of i)
+  consts_short b type (Phi entries) form =
+      let P : Operand × ℕ → Type 0 = λ e. IsNarrowConst e.0 in
+      let Q : Operand × ℕ → Type 0 = λ e. IsOperand f type e.0 in
+      All-map IsNarrowConst (λ (e : Operand × ℕ). e.0) entries (All-weaker Q P (λ e h. const_short e.0 h.stands) entries form.0)
+  consts_short b type (Applied r) form = All-weaker (IsOperandOf f) IsNarrowConst const_short r.operands form.operands
+
   narrow_placed : (b : ℕ) (p : Placed) → IsFormPlaced f b p → IsNarrowPlaced f p
-  narrow_placed b p form = record { name = form.name; unnamed = form.unnamed; result = form.held; operands = operands_held b p.type p.instruction form.instruction }
+  narrow_placed b p form = record { name = form.name; unnamed = form.unnamed; result = form.held; operands = operands_held b p.type p.instruction form.instruction; constants = consts_short b p.type p.instruction form.instruction }
 
   narrow_block : (b : Block) → IsFormBlock f b → IsNarrowBlock f b
   narrow_block b form = record { label = form.label; instructions = All-weaker (IsFormPlaced f b.number) (IsNarrowPlaced f) (narrow_placed b.number) b.instructions form.instructions }

@@ -1,5 +1,5 @@
 -- What the form asks beside the rules of a checked module, as a test over the lists of a module.
-use Rattle.std.specs.Prelude.{ℕ, Bool, true, false, not, ◌&&◌, ◌||◌, nat_lt, List, [], ◌∷◌, slice_get, length}
+use Rattle.std.specs.Prelude.{ℕ, Bool, true, false, not, ◌&&◌, ◌||◌, nat_le, nat_lt, List, [], ◌∷◌, slice_get, length}
 use Rattle.std.specs.List.{list_all}
 use Rattle.std.specs.Option.{option_map_or}
 use Rattle.llvm_core.specs.declared.types.LLVMTypeKind.{LLVMTypeKind}
@@ -8,14 +8,17 @@ use Rattle.llvm_core.specs.declared.numbers.LLVMType.{LLVMType}
 use Rattle.llvm_core.specs.declared.numbers.LLVMFunction.{LLVMFunction}
 use Rattle.llvm_core.specs.declared.numbers.LLVMBasicBlock.{LLVMBasicBlock}
 use Rattle.llvm_core.specs.declared.numbers.LLVMInstRef.{LLVMInstRef}
+use Rattle.llvm_core.specs.declared.consts.LLVMConstKind.{LLVMConstKind}
+use Rattle.llvm_core.specs.declared.consts.LLVMConstKind.TheVariants as C
 use Rattle.llvm_core.specs.declared.code.LLVMValue.{LLVMValue}
+use Rattle.llvm_core.specs.declared.code.LLVMValue.TheVariants as V
 use Rattle.llvm_core.specs.declared.code.FunctionData.{FunctionData}
 use Rattle.llvm_core.specs.declared.code.BlockData.{BlockData}
 use Rattle.llvm_core.specs.declared.code.InstData.{InstData}
 use Rattle.llvm_core.specs.Module.{Module}
 use Rattle.llvm_core.specs.Names.{is_plain}
 use Rattle.llvm_core.specs.Parts.{is_kind, shape_of, value_type, operands}
-use Rattle.kinds.specs.Fitting.{is_held}
+use Rattle.kinds.specs.Fitting.{is_held, width_of}
 use Rattle.llvm_core.specs.Checked.{is_void}
 
 -- ---- names and types
@@ -34,12 +37,23 @@ is_held_kind k = is_held (shape_of k)
 abbrev pub is_held_result_kind : LLVMTypeKind → Bool
 is_held_result_kind k = is_void k || is_held_kind k
 
+-- an integer of at most 64 bits
+abbrev pub is_short_const : List LLVMTypeKind → LLVMConstKind → Bool
+is_short_const types (C.Int t value) = is_kind (λ (k : LLVMTypeKind). nat_le (width_of (shape_of k)) 64) types t
+is_short_const types (C.Placeholder number t) = true
+
 module _ (m : Module) where
   abbrev pub is_held_type : LLVMType → Bool
   is_held_type t = is_kind is_held_kind m.types t
 
   abbrev pub is_held_value : LLVMValue → Bool
   is_held_value v = option_map_or is_held_type (value_type m v) false
+
+  -- a constant has at most 64 bits; of another operand it is not asked
+  abbrev pub is_narrow_const : LLVMValue → Bool
+  is_narrow_const (V.Const c) = option_map_or (is_short_const m.types) (slice_get m.consts c.0) true
+  is_narrow_const (V.Param f place) = true
+  is_narrow_const (V.Inst i) = true
 
   -- ---- code
 
@@ -48,7 +62,7 @@ module _ (m : Module) where
   is_named_right x = is_none x.name || (is_plain x.name && not (is_kind is_void m.types x.ty))
 
   abbrev pub is_narrow_inst_data : InstData → Bool
-  is_narrow_inst_data x = is_named_right x && is_kind is_held_result_kind m.types x.ty && list_all is_held_value (operands x.inst)
+  is_narrow_inst_data x = is_named_right x && is_kind is_held_result_kind m.types x.ty && list_all is_held_value (operands x.inst) && list_all is_narrow_const (operands x.inst)
 
   abbrev pub is_narrow_inst : LLVMInstRef → Bool
   is_narrow_inst i = option_map_or is_narrow_inst_data (slice_get m.insts i.0) false
@@ -63,6 +77,8 @@ module _ (m : Module) where
   is_narrow_signature (T.Function result params variadic) = not variadic && is_kind is_held_result_kind m.types result && list_all is_held_type params
   is_narrow_signature T.Void = false
   is_narrow_signature (T.Int width) = false
+  is_narrow_signature (T.Ptr space) = false
+  is_narrow_signature (T.Floating of) = false
 
   -- a function has a body
   abbrev pub has_body : FunctionData → Bool

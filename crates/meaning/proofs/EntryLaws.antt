@@ -4,7 +4,7 @@ use Rattle.std.proofs.lemmas.Bool.{lt-ltb, false_from_ne_true}
 use Rattle.std.proofs.lemmas.List.Elements.{All-head, All-tail}
 use Rattle.llvm_core.specs.Names.{is_plain}
 use Rattle.llvm_core.specs.Data as L
-use Rattle.llvm_core.specs.Data.{ModuleData, TypeTree, VoidType, IntType, FunctionType, TypeTrees, NoTypes, ThenType}
+use Rattle.llvm_core.specs.Data.{ModuleData, TypeTree, FunctionType, TypeTrees, NoTypes, ThenType}
 use Rattle.llvm_core.proofs.FormNames.{own_of_plain}
 use Rattle.meaning.specs.Terms.{Match, rename_type, rename_types}
 use Rattle.meaning.specs.Code.{Body, Entry, FunctionSymbol, External, SameBody, SameBodies, IsDistinctNames, names_of, rename_symbol}
@@ -14,9 +14,8 @@ use Rattle.meaning.specs.Llvm as Llvm
 -- ---- types under a match: no struct is held yet
 mutual
   pub type_stays : (match : Match) (t : TypeTree) → rename_type match t ≡ t
-  type_stays match VoidType = refl
-  type_stays match (IntType w) = refl
   type_stays match (FunctionType r ps v) = cc (type_stays match r, types_stay match ps)
+  type_stays match t = refl
 
   types_stay : (match : Match) (ts : TypeTrees) → rename_types match ts ≡ ts
   types_stay match NoTypes = refl

@@ -27,10 +27,10 @@ use Rattle.llvm_core.specs.Module.{Module}
 use Rattle.llvm_core.specs.Sound.{IsModule}
 use Rattle.llvm_core.specs.Parts.{IsValue, IsPhi, is_phi, const_type, param_types, type_params, value_type}
 use Rattle.llvm_core.specs.Data as L
-use Rattle.llvm_core.specs.Data.{TypeTree, VoidType, IntType, type_at, type_tree, const_at, trees_of, operand_of, type_trees, const_trees}
+use Rattle.llvm_core.specs.Data.{TypeTree, IntType, type_at, type_tree, const_at, trees_of, operand_of, type_trees, const_trees}
 use Rattle.support.proofs.ListLaws.{slice_get-kept, item_there}
 use Rattle.llvm_core.proofs.TreeLemmas.{type_at-kept, const_trees-retyped, const_at-kept}
-use Rattle.llvm_core.proofs.DataLemmas.{int_tree_of, void_tree_of, type_tree_of}
+use Rattle.llvm_core.proofs.DataLemmas.{type_tree_of}
 use Rattle.llvm_core.proofs.WithinLemmas.{value_type_within}
 use Rattle.to_llvm_ir.specs.Growth.{Grows, KeepsInst, IsTypeOf, AreTypesOf, HasType}
 
@@ -85,17 +85,13 @@ type_kept old new t tree g h = (
   ap (λ (ks : List LLVMTypeKind). type_at (type_trees ks) t) g.types ∙ type_at-kept old.types g.more_types t h.0 ∙ h.1,
 )
 
-pub is_int_type : (m : Module) (t : LLVMType) (w : ℕ) → IsModule m → slice_get m.types t.0 ≡ Some (T.Int w) → IsTypeOf m t (IntType w)
-is_int_type m t w s at = (slice_get_within m.types t.0 (T.Int w) at, int_tree_of m t w s at)
-
-pub is_void_type : (m : Module) (t : LLVMType) → IsModule m → slice_get m.types t.0 ≡ Some T.Void → IsTypeOf m t VoidType
-is_void_type m t s at = (slice_get_within m.types t.0 T.Void at, void_tree_of m t s at)
+pub is_of_kind : (m : Module) (t : LLVMType) (k : LLVMTypeKind) → IsModule m → slice_get m.types t.0 ≡ Some k → IsTypeOf m t (type_tree (trees_of m).types k)
+is_of_kind m t k s at = (slice_get_within m.types t.0 k at, type_tree_of m t k s at)
 
 -- the kind with a tree that is known
 kind_of_int : (us : List TypeTree) (w : ℕ) (k : LLVMTypeKind) → type_tree us k ≡ IntType w → k ≡ T.Int w
-kind_of_int us w T.Void h = cc
 kind_of_int us w (T.Int v) h = let same : v ≡ w = cc in ap T.Int same
-kind_of_int us w (T.Function r ps v) h = cc
+kind_of_int us w k h = cc
 
 pub int_at : (m : Module) (t : LLVMType) (w : ℕ) → IsModule m → IsTypeOf m t (IntType w) → slice_get m.types t.0 ≡ Some (T.Int w)
 int_at m t w s h = let k = item_there m.types t.0 h.0 in k.1 ∙ ap Some (kind_of_int (trees_of m).types w k.0 (sym (type_tree_of m t k.0 s k.1) ∙ h.1))

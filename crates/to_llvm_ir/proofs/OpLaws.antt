@@ -1,5 +1,5 @@
 -- What the context tells of an operation, and what its form says then.
-use Rattle.std.proofs.Common.{◌≡◌, ◌<◌, ◌^◌, ℕ, zero, suc, true, List, [], ◌∷◌, Option, Some, None, length, slice_get, refl, sym, ap, subst, ◌∙◌}
+use Rattle.std.proofs.Common.{◌≡◌, ◌<◌, ◌^◌, ℕ, zero, suc, true, List, [], ◌∷◌, Option, Some, None, length, slice_get, refl, sym, ap, subst, ◌∙◌, arith}
 use Rattle.std.specs.Prelude.{IfSome}
 use Rattle.std.specs.List.{Contains, flat_map}
 use Rattle.std.specs.Option.{option_map, option_and_then}
@@ -146,7 +146,7 @@ constant_parts c op s value ty n h at value_is =
 
 -- and its type is translated
 pub constant_held : (o : DialectOp) (type : TypeTree) (value : ℕ) → ConstantParts o type value → IsHeld type
-constant_held o type value parts = let h = parts.integer in subst IsHeld (sym h.1) (int_held h.0 h.2)
+constant_held o type value parts = let h = parts.integer in subst IsHeld (sym h.1) (int_held h.0 h.2.0 (omega (arith, h.2.1)))
 
 -- the number of its type is there
 pub constant_type_there : (c : ContextData) (op : OpRef) (value : ConstAttr) (ty : TypeHandle) (n : ℕ) → IsTyped c → kind_at c.ops op ≡ Some (K.Constant value) → value ≡ A.Integer ty n → ty.0 < length c.types

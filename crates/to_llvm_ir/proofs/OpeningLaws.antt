@@ -157,9 +157,8 @@ opening_more x t i c b f ty old new m m' target place name h s place_is name_is 
 -- ---- the parameters of the function
 
 kind_takes : (us : List L.TypeTree) (k : LLVMTypeKind) → L.types_at us (kind_params k) ≡ takes_of (L.type_tree us k)
-kind_takes us T.Void = refl
-kind_takes us (T.Int w) = refl
 kind_takes us (T.Function result params variadic) = refl
+kind_takes us k = refl
 
 pub params_are : (m : Module) (t : LLVMType) (r : L.TypeTree) (ps : L.TypeTrees) (v : Bool) → IsModule m → t.0 < length m.types → L.type_at (trees_of m).types t ≡ L.FunctionType r ps v → L.types_at (trees_of m).types (type_params m.types t) ≡ ps
 params_are m t r ps v s within h =

@@ -1,5 +1,5 @@
 -- Kinds of the dialect and of LLVM with the same trees.
-use Rattle.std.proofs.Common.{◌≡◌, ◌<◌, ℕ, Bool, true, false, ◌+◌, List, [], ◌∷◌, ◌++◌, Some, All, length, map, take, get_or, refl, sym, ap, subst, ◌∙◌, arith}
+use Rattle.std.proofs.Common.{◌≡◌, ◌<◌, ℕ, Bool, true, false, ◌+◌, List, [], ◌∷◌, ◌++◌, All, length, map, take, get_or, refl, sym, ap, subst, ◌∙◌, arith}
 use Rattle.std.proofs.lemmas.List.{map_push, map_more}
 use Rattle.std.proofs.lemmas.Option.{slice_get_within}
 use Rattle.std.proofs.lemmas.List.Elements.{All-nil, All-push}
@@ -15,45 +15,34 @@ use Rattle.llvm_core.specs.Data.{trees_of}
 use Rattle.llvm_core.proofs.DataLemmas.{function_tree_of}
 use Rattle.kinds.specs.Types.{types_list}
 use Rattle.kinds.specs.Held.{IsHeld, IsHeldResult, IsHeldSignature}
-use Rattle.kinds.proofs.HeldLaws.{held_value, held_result_own, held_int}
+use Rattle.kinds.proofs.HeldLaws.{held_value, held_first_class, held_result_own, first_class_int, first_class_pointer}
 use Rattle.dialect_types.specs.declared.types.TypeHandle.{TypeHandle}
 use Rattle.dialect_types.specs.declared.types.TypeKind.{TypeKind}
 use Rattle.dialect_types.specs.declared.types.TypeKind.TheVariants as K
-use Rattle.dialect_types.specs.Trees.{TypeTree, VoidType, IntType, FunctionType, type_at, types_at, type_tree, HasPartsBelow}
+use Rattle.dialect_types.specs.Trees.{TypeTree, TypeTrees, IntType, PointerType, FunctionType, type_at, types_at, type_tree, HasPartsBelow}
 use Rattle.dialect_core.proofs.TypeTestLemmas.{listed_types, map_all, params_below}
 use Rattle.to_llvm_ir.specs.Growth.{Grows, IsTypeOf, AreTypesOf}
-use Rattle.to_llvm_ir.proofs.GrowthLaws.{is_int_type, is_void_type, types_kept}
+use Rattle.to_llvm_ir.proofs.GrowthLaws.{types_kept}
 
--- ---- types of values
-
-pub int_type : (m : Module) (old : List LLVMTypeKind) (t : LLVMType) (w : ℕ) (kind : LLVMTypeKind) (k : TypeKind) (ts : List TypeTree) (tree : TypeTree) → IsModule m → Interned old m.types kind t.0 → kind ≡ T.Int w → k ≡ K.Integer w → tree ≡ type_tree ts k
-    → IsTypeOf m t tree
-int_type m old t w kind k ts tree s at kind_is k_is tree_is =
-    let e : tree ≡ IntType w = tree_is ∙ ap (type_tree ts) k_is in
-    rw e (is_int_type m t w s (at.here ∙ ap Some kind_is))
-
-pub void_type : (m : Module) (old : List LLVMTypeKind) (t : LLVMType) (kind : LLVMTypeKind) (k : TypeKind) (ts : List TypeTree) (tree : TypeTree) → IsModule m → Interned old m.types kind t.0 → kind ≡ T.Void → k ≡ K.Void → tree ≡ type_tree ts k
-    → IsTypeOf m t tree
-void_type m old t kind k ts tree s at kind_is k_is tree_is =
-    let e : tree ≡ VoidType = tree_is ∙ ap (type_tree ts) k_is in
-    rw e (is_void_type m t s (at.here ∙ ap Some kind_is))
-
--- an integer that is returned is of a width that LLVM has
-pub int_over : (n w : ℕ) (kind : LLVMTypeKind) (k : TypeKind) (ts : List TypeTree) (tree : TypeTree) → kind ≡ T.Int w → k ≡ K.Integer w → tree ≡ type_tree ts k → IsHeldResult tree → IsTypeOver n kind
-int_over n w kind k ts tree kind_is k_is tree_is held =
-    let short = held_int w (held_result_own (IntType w) (subst IsHeldResult (tree_is ∙ ap (type_tree ts) k_is) held) refl) in
-    rw kind_is (short.0, omega (arith, short.1))
+-- ---- types of values, and of what a function returns
 
 -- only a function type has the tree of one
-pub no_function : (ts : List TypeTree) (k : TypeKind) (u : TypeTree) (us : L.TypeTrees) (w : Bool) → ((r : TypeHandle) (ps : List TypeHandle) (v : Bool) → k ≡ K.Func r ps v → ⊥) → type_tree ts k ≡ FunctionType u us w → ⊥
-no_function ts (K.Func r ps v) u us w other e = other r ps v refl
-no_function ts k u us w other e = cc
+pub function_tree_alone : (ts : List TypeTree) (k : TypeKind) (u : TypeTree) (us : L.TypeTrees) (w : Bool) → ((r : TypeHandle) (ps : List TypeHandle) (v : Bool) → k ≡ K.Func r ps v → ⊥) → type_tree ts k ≡ FunctionType u us w → ⊥
+function_tree_alone ts (K.Func r ps v) u us w other e = other r ps v refl
+function_tree_alone ts k u us w other e = cc
 
 -- what is returned is no function
-pub held_kind : (k : TypeKind) (ts : List TypeTree) (r : TypeHandle) (ps : List TypeHandle) (v : Bool) (tree : TypeTree) → IsHeldResult tree → k ≡ K.Func r ps v → tree ≡ type_tree ts k → ⊥
-held_kind k ts r ps v tree held k_is tree_is =
-    let none : false ≡ true = held_value _ (held_result_own _ (subst IsHeldResult (tree_is ∙ ap (type_tree ts) k_is) held) refl) in
+pub no_function : (r : TypeTree) (ps : TypeTrees) (v : Bool) → IsHeldResult (FunctionType r ps v) → ⊥
+no_function r ps v h =
+    let none : false ≡ true = held_value _ (held_result_own _ h refl) in
     cc
+
+-- and is of a kind that LLVM has: a line for each kind with a number
+pub held_over : (us : List TypeTree) (n : ℕ) (k : LLVMTypeKind) → IsHeldResult (L.type_tree us k) → IsTypeOver n k
+held_over us n (T.Int w) h = first_class_int w (held_first_class (IntType w) (held_result_own (IntType w) h refl))
+held_over us n (T.Ptr s) h = first_class_pointer s (held_first_class (PointerType s) (held_result_own (PointerType s) h refl))
+held_over us n (T.Function r ps v) h = absurd (no_function (L.type_at us r) (L.types_at us ps) v h)
+held_over us n k h = tt
 
 -- ---- types of parameters
 

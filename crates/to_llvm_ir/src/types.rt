@@ -1,11 +1,11 @@
 //! Types of the dialect, turned into types of LLVM by number.
 
-ghost use Rattle.std.specs.Prelude.{◌≡◌, ◌<◌, All, length, map, IfOk, OnOk};
+ghost use Rattle.std.specs.Prelude.{◌≡◌, ◌<◌, All, List, length, map, IfOk, OnOk};
 ghost use Rattle.llvm_core.specs.Parts.{IsFunctionType};
 ghost use Rattle.llvm_core.specs.Data as lists;
 ghost use Rattle.llvm_core.specs.Sound.{IsModule};
 ghost use Rattle.kinds.specs.Held.{IsHeld, IsHeldResult, IsHeldSignature};
-ghost use Rattle.dialect_types.specs.Trees.{type_at, type_trees};
+ghost use Rattle.dialect_types.specs.Trees.{TypeTree, type_at, type_tree, type_trees};
 ghost use Rattle.to_llvm_ir.specs.Growth.{Grows, IsTypeOf, AreTypesOf};
 
 use crate::guesses::Guesses;
@@ -16,6 +16,20 @@ use llvm_core::numbers::LLVMType;
 use llvm_core::types::LLVMTypeKind;
 use std::alloc::{AllocError, Global};
 use support::items::Items;
+
+/// The kind that stands for one of the type of a value or of void, a line for each.
+fn plain_kind(kind: &TypeKind) -> LLVMTypeKind
+    requires { (ts : List TypeTree) × IsHeldResult (type_tree ts kind.now) }
+    ensures { (us : List TypeTree) → (ts : List TypeTree) → lists.type_tree us result ≡ type_tree ts kind.now }
+{
+    match kind {
+        TypeKind::Void => LLVMTypeKind::Void,
+        TypeKind::Integer(width) => LLVMTypeKind::Int(*width),
+        TypeKind::Pointer(space) => LLVMTypeKind::Ptr(*space),
+        TypeKind::Floating(of) => LLVMTypeKind::Floating(*of),
+        TypeKind::Func { .. } => unreachable!(),
+    }
+}
 
 /// The type of a value, or of what a function returns.
 pub fn value_type(
@@ -32,12 +46,7 @@ pub fn value_type(
     ensures data { OnOk result (lists.data_of back.new ≡ lists.data_of back.old) }
     ensures sound { OnOk result (IsModule back.new) }
 {
-    let kind = match ctx.types().kind(ty) {
-        TypeKind::Void => LLVMTypeKind::Void,
-        TypeKind::Integer(width) => LLVMTypeKind::Int(*width),
-        TypeKind::Func { .. } => unreachable!(),
-    };
-    guesses.type_get(ty, kind, back)
+    guesses.type_get(ty, plain_kind(ctx.types().kind(ty)), back)
 }
 
 /// The types of parameters.

@@ -1,5 +1,5 @@
 -- The operations and values of a function of the dialect, in the names of the program.
-use Rattle.std.proofs.Common.{◌≡◌, ◌<◌, ℕ, Bool, true, false, List, [], ◌∷◌, Option, Some, None, All, length, map, slice_get, get_or, refl, sym, ap, subst, ◌∙◌}
+use Rattle.std.proofs.Common.{◌≡◌, ◌<◌, ℕ, Bool, true, false, List, [], ◌∷◌, Option, Some, None, All, length, map, slice_get, get_or, refl, sym, ap, subst, ◌∙◌, arith}
 use Rattle.std.specs.Prelude.{IfSome, nat_eq, if◌then◌else◌}
 use Rattle.std.specs.List.{filter_map, find}
 use Rattle.std.specs.Option.{option_map, option_and_then}
@@ -7,8 +7,8 @@ use Rattle.std.proofs.Common.{eqb-true}
 use Rattle.std.proofs.lemmas.Option.{same_Some, none-some, slice_get_within}
 use Rattle.std.proofs.lemmas.List.Elements.{All-nil, All-head, All-tail, All-weaker}
 use Rattle.kinds.specs.declared.op.Op.{Op}
-use Rattle.kinds.specs.Held.{IsFirstClass, IsHeld}
-use Rattle.kinds.proofs.HeldLaws.{held_first_class, int_held}
+use Rattle.kinds.specs.Held.{IsFirstClass}
+use Rattle.kinds.proofs.HeldLaws.{int_first_class}
 use Rattle.dialect_types.specs.declared.types.TypeHandle.{TypeHandle}
 use Rattle.dialect_types.specs.declared.attrs.ConstAttr.{ConstAttr}
 use Rattle.dialect_types.specs.Trees.{TypeTree, IntegerAttr, HasTypesBelow, type_at, type_trees}
@@ -199,7 +199,7 @@ used_argument c b i v is used = argument_read c b i used.type (ap (type_in c) (s
 
 -- an integer is of a first class type
 integer_first_class : (t : TypeTree) (n : ℕ) → IsIntegerOf t n → IsFirstClass t
-integer_first_class t n h = held_first_class t (subst IsHeld (sym h.1) (int_held h.0 h.2))
+integer_first_class t n h = subst IsFirstClass (sym h.1) (int_first_class h.0 h.2.0 (omega (arith, h.2.1)))
 
 module _ (c : ContextData) (g : Func) where
   -- the operands of a well-formed operation are values of the context, of first class types

@@ -192,9 +192,8 @@ arity_is m h f t r ps v is at kind =
 
 -- a function of the module has a function type
 pub typed_function : (m : Module) (k : LLVMTypeKind) → IsTrue (is_function k) → ((r : LLVMType) (ps : List LLVMType) (v : Bool) → k ≡ T.Function r ps v → ⊥) → ⊥
-typed_function m T.Void t h = cc
-typed_function m (T.Int w) t h = cc
 typed_function m (T.Function r ps v) t h = h r ps v refl
+typed_function m k t h = cc
 
 pub start_is : (g : D.Function) (holder inputs : ℕ) → g.number ≡ holder → inputs ≡ arity g.type → (k : Key) → start_of holder inputs (slot_of k) ≡ start g k
 start_is g holder inputs is count (ParamKey f i) = rw (sym is, count) refl

@@ -24,16 +24,14 @@ use Rattle.tracing.specs.LlvmBodies.{IsNoFunction}
 
 -- ---- one operand
 
--- a shape for which a test holds that fails for a function: a line for each shape
+-- a shape for which a test holds that fails for a function
 plain_shape : (p : Shape → Bool) → p S.Function ≡ false → (s : Shape) → p s ≡ true → is_function s ≡ false
-plain_shape p none S.Void h = refl
-plain_shape p none (S.Int w) h = refl
 plain_shape p none S.Function h = cc
+plain_shape p none s h = refl
 
 never_wider : (s : Shape) → is_wider s S.Function ≡ false
-never_wider S.Void = refl
 never_wider (S.Int w) = refl
-never_wider S.Function = refl
+never_wider s = refl
 
 -- if it is a type, it is no function
 abbrev IsPlain : Option TypeTree → Type 0

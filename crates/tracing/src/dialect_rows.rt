@@ -35,6 +35,8 @@ fn value_type(ctx: &Context, ty: TypeHandle) -> ValueType
 {
     match ctx.types().kind(ty) {
         TypeKind::Integer(width) => ValueType::Int(*width),
+        TypeKind::Pointer(space) => ValueType::Pointer(*space),
+        TypeKind::Floating(of) => ValueType::Floating(*of),
         TypeKind::Void => unreachable!(),
         TypeKind::Func { .. } => unreachable!(),
     }

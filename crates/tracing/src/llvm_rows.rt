@@ -6,7 +6,7 @@ ghost use Rattle.llvm_core.specs.declared.code.LLVMValue.TheVariants as values;
 ghost use Rattle.llvm_core.specs.Sound.{IsModule};
 ghost use Rattle.llvm_core.specs.declared.types.LLVMTypeKind.TheVariants as types;
 ghost use Rattle.llvm_core.specs.Parts.{IsValue};
-ghost use Rattle.llvm_core.specs.Data.{IntType, Placed, type_at, const_at, operand_of, operand_type, row_of, trees_of};
+ghost use Rattle.llvm_core.specs.Data.{IntType, Placed, type_at, type_tree, const_at, operand_of, operand_type, row_of, trees_of};
 ghost use Rattle.meaning.specs.Machine as machine;
 ghost use Rattle.meaning.specs.Llvm as llvm;
 ghost use Rattle.tracing.specs.Table.{tree_of};
@@ -26,6 +26,15 @@ use llvm_core::types::LLVMTypeKind;
 use std::alloc::{AllocError, Global};
 use support::items::Items;
 
+/// The kind of a type, of which its tree is made.
+fn kind_of(m: &LLVMModule, ty: LLVMType) -> &LLVMTypeKind
+    requires sound { IsModule m.now }
+    requires within { ty.0 < length m.now.types }
+    ensures { type_at (trees_of m.now).types ty ≡ type_tree (trees_of m.now).types result.now }
+{
+    m.type_kind(ty)
+}
+
 /// The type of a value, or void.
 fn value_type(m: &LLVMModule, ty: LLVMType) -> ValueType
     requires sound { IsModule m.now }
@@ -33,9 +42,11 @@ fn value_type(m: &LLVMModule, ty: LLVMType) -> ValueType
     requires plain { IsNoFunction (type_at (trees_of m.now).types ty) }
     ensures { tree_of result ≡ type_at (trees_of m.now).types ty }
 {
-    match m.type_kind(ty) {
+    match kind_of(m, ty) {
         LLVMTypeKind::Void => ValueType::Void,
         LLVMTypeKind::Int(width) => ValueType::Int(*width),
+        LLVMTypeKind::Ptr(space) => ValueType::Pointer(*space),
+        LLVMTypeKind::Floating(of) => ValueType::Floating(*of),
         LLVMTypeKind::Function { .. } => unreachable!(),
     }
 }

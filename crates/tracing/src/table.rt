@@ -5,6 +5,7 @@ ghost use Rattle.support.specs.Interned.{IsDistinctList};
 ghost use Rattle.tracing.specs.Table.{terms, node_term, HasPartsBelow, IsGrounded, Gives};
 
 use kinds::op::Op;
+use kinds::types::Floating;
 use std::alloc::{AllocError, Global};
 use std::marker::Model;
 use support::interner::Interner;
@@ -16,6 +17,9 @@ pub enum ValueType {
     Void,
     /// An integer type of a width in bits.
     Int(u32),
+    /// A pointer type of an address space.
+    Pointer(u32),
+    Floating(Floating),
 }
 
 /// A term, whose parts are places of earlier ones: a line for each sort that a run makes today.

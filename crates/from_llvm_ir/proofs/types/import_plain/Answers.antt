@@ -1,21 +1,34 @@
 -- What `types::import_plain` owes besides what the check finds.
-use Rattle.std.proofs.Common.{◌∙◌, refl, sym, ap, subst, Some}
+use Rattle.std.proofs.Common.{◌∙◌, sym, ap, arith}
 use Rattle.std.proofs.lemmas.Result.{IfOk-weaker}
-use Rattle.kinds.specs.Held.{IsHeldResult}
-use Rattle.kinds.proofs.HeldLaws.{held_value, held_result_own}
-use Rattle.llvm_core.proofs.DataLemmas.{void_tree_of, int_tree_of, function_tree_of}
+use Rattle.kinds.specs.Types.{shape}
+use Rattle.kinds.specs.Fitting.{is_function}
+use Rattle.kinds.proofs.HeldLaws.{held_result_returned}
+use Rattle.llvm_core.specs.Data.{trees_of}
+use Rattle.llvm_core.proofs.DataLemmas.{type_tree_of}
+use Rattle.llvm_core.proofs.FormTypes.{returned_no_function}
+use Rattle.llvm_core.proofs.RuleLaws.{shape_kept}
+use Rattle.dialect_types.specs.Trees.{type_trees}
+use Rattle.from_llvm_ir.proofs.TypeLaws.{result_depth}
 use Rattle.from_llvm_ir.proofs.types.import_plain.Goals as goal
 
-pub unreachable-requires : goal.unreachable-requires
-unreachable-requires c =
-    let held = subst IsHeldResult (function_tree_of c.args.source.now c.args.ty c.in-Function.result c.in-Function.params c.in-Function.variadic c.requires.sound (c.type_kind.ensures.kind ∙ ap Some c.in-Function.is)) c.requires.held in
-    let value = held_value _ (held_result_own _ held refl) in
-    cc
+pub plain_kind-requires : goal.plain_kind-requires
+plain_kind-requires c =
+    let m = c.args.source.now in
+    let is = type_tree_of m c.args.ty c.type_kind.result.now c.requires.sound c.type_kind.ensures.kind in
+    ap is_function (shape_kept (trees_of m).types c.type_kind.result.now ∙ ap shape (sym is)) ∙ returned_no_function _ (held_result_returned _ c.requires.held)
 
-pub returns-in-Void-clause-ty : goal.returns-in-Void-clause-ty
-returns-in-Void-clause-ty c =
-    IfOk-weaker c.intern.result _ _ (λ t h. h ∙ sym (void_tree_of c.args.source.now c.args.ty c.requires.sound (c.type_kind.ensures.kind ∙ ap Some c.in-Void.is))) c.intern.ensures.ty
+pub intern-requires-clause-parts : goal.intern-requires-clause-parts
+intern-requires-clause-parts c = c.plain_kind.ensures.parts _
 
-pub returns-in-Int-clause-ty : goal.returns-in-Int-clause-ty
-returns-in-Int-clause-ty c =
-    IfOk-weaker c.intern-in-Int.result _ _ (λ t h. h ∙ sym (int_tree_of c.args.source.now c.args.ty c.in-Int.width c.requires.sound (c.type_kind.ensures.kind ∙ ap Some c.in-Int.is))) c.intern-in-Int.ensures.ty
+pub intern-requires-clause-nesting : goal.intern-requires-clause-nesting
+intern-requires-clause-nesting c =
+    let m = c.args.source.now in
+    let is = type_tree_of m c.args.ty c.type_kind.result.now c.requires.sound c.type_kind.ensures.kind in
+    rw (c.plain_kind.ensures.tree (trees_of m).types (type_trees c.args.ctx.now.types) ∙ sym is) (omega (arith, result_depth _ c.requires.held))
+
+pub returns-clause-ty : goal.returns-clause-ty
+returns-clause-ty c =
+    let m = c.args.source.now in
+    let is = type_tree_of m c.args.ty c.type_kind.result.now c.requires.sound c.type_kind.ensures.kind in
+    IfOk-weaker c.intern.result _ _ (λ t h. h ∙ c.plain_kind.ensures.tree (trees_of m).types (type_trees c.args.ctx.now.types) ∙ sym is) c.intern.ensures.ty

@@ -13,6 +13,16 @@ returns-in-Int-clause-text c =
     ok_is _ _ _ _ _ c.put_width.ensures.text
     (type_text-kind c.args.m.now c.args.ty _ c.requires.sound (rw c.in-Int.is at c.type_kind.ensures.kind))
 
+pub returns-in-Ptr-clause-text : goal.returns-in-Ptr-clause-text
+returns-in-Ptr-clause-text c =
+    ok_is _ _ _ _ _ c.put_pointer.ensures.text
+    (type_text-kind c.args.m.now c.args.ty _ c.requires.sound (rw c.in-Ptr.is at c.type_kind.ensures.kind))
+
+pub returns-in-Floating-clause-text : goal.returns-in-Floating-clause-text
+returns-in-Floating-clause-text c =
+    ok_is _ _ _ _ _ c.put_floating.ensures.text
+    (type_text-kind c.args.m.now c.args.ty _ c.requires.sound (rw c.in-Floating.is at c.type_kind.ensures.kind))
+
 pub returns-in-Function-clause-text : goal.returns-in-Function-clause-text
 returns-in-Function-clause-text c =
     put_is _ _ _ _ (sym (append-nil c.args.out.now.items)) (type_text-kind c.args.m.now c.args.ty _ c.requires.sound (rw c.in-Function.is at c.type_kind.ensures.kind))

@@ -1,20 +1,20 @@
 -- What is made stands in place of its parts.
-use Rattle.std.proofs.Common.{rules, arith, ◌≡◌, ◌∷◌, [], ◌∙◌, refl, sym}
+use Rattle.std.proofs.Common.{rules, arith, ◌≡◌, ◌∷◌, [], take, drop, ap, ◌∙◌, sym}
 use Rattle.ll_values.specs.declared.form.Kind.TheVariants as K
 use Rattle.ll_values.specs.declared.form.TypedKind.TheVariants as T
 use Rattle.ll_values.specs.declared.value.Value.TheVariants as V
+use Rattle.ll_values.specs.Parts.{typed_count}
 use Rattle.ll_values.specs.Views.{IsValueIn}
 use Rattle.ll_values.proofs.StackLaws.{puts, parts_there}
 use Rattle.ll_values.proofs.typed.put_typed.Goals as goal
 
-pub returns-in_ok-push-in-Void-clause-puts : goal.returns-in_ok-push-in-Void-clause-puts
-returns-in_ok-push-in-Void-clause-puts c =
-    rw c.in-Void.is (puts c.args.bytes.now (K.Typed T.Void) c.args.m.now c.args.store.now c.args.stack.now _ _ [] _ _ c.requires.standing refl c.in_ok-ty-in-Void.ensures.made c.in_ok-push-in-Void.ensures)
-
-pub returns-in_ok-replace-in-Text-clause-puts : goal.returns-in_ok-replace-in-Text-clause-puts
-returns-in_ok-replace-in-Text-clause-puts c =
-    let parts : c.first.result.now ≡ V.Text c.in-Text.name ∷ [] = search rules in
-    rw c.in-Int.is (puts c.args.bytes.now (K.Typed T.Int) c.args.m.now c.args.store.now c.args.stack.now _ _ _ _ _ c.requires.standing (sym parts ∙ c.first.ensures) c.in_ok-ty-in-Text.ensures.made c.in_ok-replace-in-Text.ensures)
+pub returns-in_ok-replace-in-Void-clause-puts : goal.returns-in_ok-replace-in-Void-clause-puts
+returns-in_ok-replace-in-Void-clause-puts c =
+    let vs = c.args.stack.now in
+    let ty = c.in_ok-ty-in-Void.ty in
+    let parts : c.first.result.now ≡ take (typed_count c.args.kind) vs = c.first.ensures ∙ ap (λ n. take n vs) c.part_count-count.ensures in
+    let new : c.replace.new.self ≡ V.Type ty ∷ drop (typed_count c.args.kind) vs = c.in_ok-replace-in-Void.ensures ∙ ap (λ n. V.Type ty ∷ drop n vs) c.part_count-count.ensures in
+    puts c.args.bytes.now (K.Typed c.args.kind) c.args.m.now c.args.store.now vs _ _ _ _ _ c.requires.standing parts c.in_ok-ty-in-Void.ensures.made new
 
 pub returns-in_ok-replace-in-Type-clause-puts : goal.returns-in_ok-replace-in-Type-clause-puts
 returns-in_ok-replace-in-Type-clause-puts c =

@@ -6,7 +6,7 @@ use Rattle.dialect_types.specs.declared.types.TypeHandle.{TypeHandle}
 use Rattle.dialect_types.specs.Trees.{type_at, type_trees}
 use Rattle.to_llvm_ir.specs.Growth.{AreTypesOf}
 use Rattle.to_llvm_ir.proofs.GrowthLaws.{grows_then, grows_type, type_kept, types_kept}
-use Rattle.to_llvm_ir.proofs.TypeLaws.{form_parts, function_type, no_function}
+use Rattle.to_llvm_ir.proofs.TypeLaws.{form_parts, function_type, function_tree_alone}
 use Rattle.to_llvm_ir.proofs.types.function_type.Goals as goal
 
 pub value_type-requires : goal.value_type-requires
@@ -32,7 +32,7 @@ unreachable-requires c =
     let types = c.types.ensures in
     let tree = rw types at c.kind.ensures.tree in
     let form = c.requires.form in
-    no_function (type_trees c.args.ctx.now.types) _ form.result form.params false c.in_default.not-Func (sym tree ∙ form.is)
+    function_tree_alone (type_trees c.args.ctx.now.types) _ form.result form.params false c.in_default.not-Func (sym tree ∙ form.is)
 
 -- what the type is made of is there
 pub type_get-requires : goal.type_get-requires
