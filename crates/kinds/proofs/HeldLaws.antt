@@ -148,6 +148,6 @@ pub first_class_int : (w : ℕ) → IsFirstClass (IntType w) → (1 ≤ w) × (w
 unfolding IsFirstClass
 first_class_int w h = grind arith
 
-pub first_class_pointer : (s : ℕ) → IsFirstClass (PointerType s) → s < 2 ^ 32
+pub first_class_pointer : (s : ℕ) → IsFirstClass (PointerType s) → s < 2 ^ 24
 unfolding IsFirstClass
 first_class_pointer s h = grind arith

@@ -63,7 +63,7 @@ width_of S.Function = 0
 abbrev pub is_first_class : Shape → Bool
 is_first_class S.Void = false
 is_first_class (S.Int w) = nat_le 1 w && nat_le w (2 ^ 23)
-is_first_class (S.Pointer space) = nat_lt space (2 ^ 32)
+is_first_class (S.Pointer space) = nat_lt space (2 ^ 24)
 is_first_class S.Other = true
 is_first_class S.Function = false
 
@@ -71,7 +71,7 @@ is_first_class S.Function = false
 abbrev pub is_held : Shape → Bool
 is_held S.Void = false
 is_held (S.Int w) = nat_le 1 w && nat_le w (2 ^ 23)
-is_held (S.Pointer space) = nat_lt space (2 ^ 32)
+is_held (S.Pointer space) = nat_lt space (2 ^ 24)
 is_held S.Other = true
 is_held S.Function = false
 

@@ -8,6 +8,9 @@ use crate::rules::{Fit, Gives, Rule, Takes};
 /// The greatest width of an integer type in bits, 2^23.
 const MAX_WIDTH: u32 = 8_388_608;
 
+/// The greatest number of an address space, 2^24 - 1: LLVM keeps it in 24 bits.
+const MAX_SPACE: u32 = 16_777_215;
+
 /// What rules look at in a type.
 #[derive(Clone, Copy, PartialEq, Eq, Debug, Drop)]
 pub enum Shape {
@@ -92,14 +95,15 @@ pub fn is_function(shape: Shape) -> bool
     }
 }
 
-/// Whether it is that of a type of a value, of a width that there is: 1 to 2^23 bits.
+/// Whether it is that of a type of a value, of a width that there is, 1 to 2^23 bits, and of an address
+/// space that there is, below 2^24.
 pub fn is_first_class(shape: Shape) -> bool
     ensures { result ≡ is_first_class shape }
 {
     match shape {
         Shape::Void => false,
         Shape::Int(width) => 1 <= width && width <= MAX_WIDTH,
-        Shape::Pointer(_) => true,
+        Shape::Pointer(space) => space <= MAX_SPACE,
         Shape::Other => true,
         Shape::Function => false,
     }
@@ -112,7 +116,7 @@ pub fn is_held(shape: Shape) -> bool
     match shape {
         Shape::Void => false,
         Shape::Int(width) => 1 <= width && width <= MAX_WIDTH,
-        Shape::Pointer(_) => true,
+        Shape::Pointer(space) => space <= MAX_SPACE,
         Shape::Other => true,
         Shape::Function => false,
     }

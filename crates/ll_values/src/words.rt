@@ -90,11 +90,14 @@ pub fn floating_of(word: &[u8]) -> Option<Floating>
     None
 }
 
-/// The number of an address space, below 2^32.
+/// The greatest number of an address space, 2^24 - 1.
+const MAX_SPACE: u128 = 16_777_215;
+
+/// The number of an address space, below 2^24.
 pub fn space_of(text: &[u8]) -> Option<u32>
-    ensures { result ≡ up_to (2 ^ 32 - 1) (number_of text.now) }
+    ensures { result ≡ up_to (2 ^ 24 - 1) (number_of text.now) }
 {
-    let space = number(text, u128::from(u32::MAX))?;
+    let space = number(text, MAX_SPACE)?;
     Some(space as u32)
 }
 

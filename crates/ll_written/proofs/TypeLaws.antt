@@ -37,8 +37,8 @@ no_others = refl
 pub small : (n : ℕ) → n ≤ 2 ^ 23 → n < 2 ^ 64
 small n most = omega (arith, pow-le-pow_right {n = 2} (omega arith) {i = 23} {j = 63} (omega arith))
 
-pub small_space : (n : ℕ) → n < 2 ^ 32 → n < 2 ^ 64
-small_space n within = omega (arith, pow-le-pow_right {n = 2} (omega arith) {i = 32} {j = 64} (omega arith))
+pub small_space : (n : ℕ) → n < 2 ^ 24 → n < 2 ^ 64
+small_space n within = omega (arith, pow-le-pow_right {n = 2} (omega arith) {i = 24} {j = 64} (omega arith))
 
 -- ---- the class
 

@@ -37,13 +37,13 @@ abbrev space_value : ℕ → Value
 space_value zero = NoneV
 space_value (suc n) = SpaceV (suc n)
 
-space_number : (n : ℕ) → n < 2 ^ 32 → option_map SpaceV (up_to (2 ^ 32 - 1) (number_of (decimal n))) ≡ Some (SpaceV n)
+space_number : (n : ℕ) → n < 2 ^ 24 → option_map SpaceV (up_to (2 ^ 24 - 1) (number_of (decimal n))) ≡ Some (SpaceV n)
 space_number n h =
     let d = IsDecimal-decimal n (small_space n h) in
-    let within : nat_le n (2 ^ 32 - 1) ≡ true = grind (arith, nat_tests) in
+    let within : nat_le n (2 ^ 24 - 1) ≡ true = grind (arith, nat_tests) in
     rw (d.number, within) refl
 
-space_says : (n : ℕ) → n < 2 ^ 32 → Reads N.space (space_value n) (written_space n)
+space_says : (n : ℕ) → n < 2 ^ 24 → Reads N.space (space_value n) (written_space n)
 space_says zero h = P.space_none
 space_says (suc n) h = P.space (codes " ") [] [] (decimal (suc n)) [] (space_number (suc n) h)
 
@@ -92,7 +92,7 @@ behind_open = record { blanks = refl; apart = open_apart }
 stands : (last : Option Kind) (b : Text) (k : Kind) (t : Text) → Stands last b → IsText k t → Follows last (token b k t)
 stands last b k t h is = record { blanks = h.blanks; whole = text_whole k t is; apart = h.apart t }
 
-space_spaced : (last : Option Kind) (n : ℕ) → n < 2 ^ 32 → AreSpacedBehind last (written_space n)
+space_spaced : (last : Option Kind) (n : ℕ) → n < 2 ^ 24 → AreSpacedBehind last (written_space n)
 unfolding sign_at
 space_spaced last zero h = tt
 space_spaced last (suc n) h =

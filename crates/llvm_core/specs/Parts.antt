@@ -36,7 +36,7 @@ use Rattle.llvm_core.specs.Code.{param_names}
 abbrev pub IsTypeOver : ℕ → LLVMTypeKind → Type 0
 IsTypeOver n T.Void = Unit {0}
 IsTypeOver n (T.Int width) = (1 ≤ width) × (width ≤ 2 ^ 23)
-IsTypeOver n (T.Ptr space) = space < 2 ^ 32
+IsTypeOver n (T.Ptr space) = Unit {0}
 IsTypeOver n (T.Floating of) = Unit {0}
 IsTypeOver n (T.Function result params variadic) = (result.0 < n) × All (λ (t : LLVMType). t.0 < n) params
 

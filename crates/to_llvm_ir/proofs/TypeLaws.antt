@@ -15,7 +15,7 @@ use Rattle.llvm_core.specs.Data.{trees_of}
 use Rattle.llvm_core.proofs.DataLemmas.{function_tree_of}
 use Rattle.kinds.specs.Types.{types_list}
 use Rattle.kinds.specs.Held.{IsHeld, IsHeldResult, IsHeldSignature}
-use Rattle.kinds.proofs.HeldLaws.{held_value, held_first_class, held_result_own, first_class_int, first_class_pointer}
+use Rattle.kinds.proofs.HeldLaws.{held_value, held_first_class, held_result_own, first_class_int}
 use Rattle.dialect_types.specs.declared.types.TypeHandle.{TypeHandle}
 use Rattle.dialect_types.specs.declared.types.TypeKind.{TypeKind}
 use Rattle.dialect_types.specs.declared.types.TypeKind.TheVariants as K
@@ -40,7 +40,6 @@ no_function r ps v h =
 -- and is of a kind that LLVM has: a line for each kind with a number
 pub held_over : (us : List TypeTree) (n : ℕ) (k : LLVMTypeKind) → IsHeldResult (L.type_tree us k) → IsTypeOver n k
 held_over us n (T.Int w) h = first_class_int w (held_first_class (IntType w) (held_result_own (IntType w) h refl))
-held_over us n (T.Ptr s) h = first_class_pointer s (held_first_class (PointerType s) (held_result_own (PointerType s) h refl))
 held_over us n (T.Function r ps v) h = absurd (no_function (L.type_at us r) (L.types_at us ps) v h)
 held_over us n k h = tt
 
