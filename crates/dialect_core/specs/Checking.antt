@@ -15,10 +15,11 @@ use Rattle.dialect_core.specs.declared.ops.OpKind.TheVariants as K
 use Rattle.dialect_core.specs.declared.ops.OpData.{OpData}
 use Rattle.dialect_core.specs.declared.ops.BlockData.{BlockData}
 use Rattle.dialect_core.specs.Lists.{list_at}
-use Rattle.dialect_core.specs.ContextData.{ContextData, kind_at, region_at, symbol_at}
-use Rattle.dialect_core.specs.Data.{Kind, DialectOp, DialectBlock, Func, kind_of, op_at, block_in, name_at, held, type_in}
+use Rattle.dialect_core.specs.ContextData.{ContextData, kind_at, region_at, symbol_at, llvm_name_at}
+use Rattle.dialect_core.specs.Data.{Kind, DialectOp, DialectBlock, Func, llvm_name_of, kind_of, op_at, block_in, name_at, held, type_in}
 use Rattle.dialect_core.specs.Rules.{IsIntegerOf}
 use Rattle.kinds.specs.Held.{IsSignature}
+use Rattle.kinds.specs.Names.{is_own_name}
 use Rattle.kinds.specs.Rules.{ends}
 use Rattle.kinds.specs.Table.{rule_of}
 use Rattle.dialect_core.specs.WellFormed.{suits, IsOfKind, IsWellFormedOp, IsWellFormedBlock, IsWellFormedFunc, IsPlainAt, IsPastFirsts, IsTypedBy, Typing}
@@ -32,6 +33,7 @@ unfoldable pub func_at : ContextData → OpRef → Func
 func_at c o = record {
   number = o.0;
   name = name_at c.ops o.0;
+  llvm_name = llvm_name_at c.ops o;
   type = option_map_or (λ (s : Symbol). tree_at c s.ty) (symbol_at c.ops o) VoidType;
   linkage = option_map_or (λ (s : Symbol). s.linkage) (symbol_at c.ops o) L.GhostLinkage;
   blocks = filter_map (block_in (type_trees c.types) c) (region_at c.ops o.0);
@@ -103,9 +105,10 @@ pub record IsBlockAt (c : ContextData) (g : Func) (b : BlockRef) : Type 0 where
   pub past_firsts : All (IsPastFirsts c) (list_at c.lists b)
   pub block : IsWellFormedBlock (type_in c) g (block_at c b)
 
--- the name, the linkage and the type of a function are well-formed
+-- the names, the linkage and the type of a function are well-formed
 pub record IsHead (g : Func) : Type 0 where
   pub named : ¬ (g.name ≡ [])
+  pub llvm_named : is_own_name (llvm_name_of g) ≡ true
   pub linkage : suits g.blocks g.linkage ≡ true
   pub signature : IsSignature g.type
 
@@ -117,10 +120,15 @@ pub record IsFuncAt (c : ContextData) (o : OpRef) : Type 0 where
   pub past_firsts : All (IsPastFirsts c) (held c o.0)
   pub func : IsWellFormedFunc (type_in c) (func_at c o)
 
--- none of the operations has the name
-abbrev pub AreApartFrom : ContextData → List ℕ → List OpRef → Type 0
-AreApartFrom c name os = Each (λ (p : OpRef) (rest : List OpRef). ¬ (name_at c.ops p.0 ≡ name)) os
+-- the function has neither of the names, its own and that of LLVM
+pub record IsApartFrom (c : ContextData) (name llvm_name : List ℕ) (o : OpRef) : Type 0 where
+  pub name : ¬ (name_at c.ops o.0 ≡ name)
+  pub llvm_name : ¬ (llvm_name_of (func_at c o) ≡ llvm_name)
 
--- each is such a function, and none of those after it has its name
+-- none of the operations has one of the names
+abbrev pub AreApartFrom : ContextData → (name llvm_name : List ℕ) → List OpRef → Type 0
+AreApartFrom c name llvm_name os = Each (λ (o : OpRef) (rest : List OpRef). IsApartFrom c name llvm_name o) os
+
+-- each is such a function, and none of those after it has one of its names
 abbrev pub AreFuncLines : ContextData → List OpRef → Type 0
-AreFuncLines c os = Each (λ (o : OpRef) (rest : List OpRef). IsFuncAt c o × AreApartFrom c (name_at c.ops o.0) rest) os
+AreFuncLines c os = Each (λ (o : OpRef) (rest : List OpRef). IsFuncAt c o × AreApartFrom c (name_at c.ops o.0) (llvm_name_of (func_at c o)) rest) os

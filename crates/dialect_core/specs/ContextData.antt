@@ -48,6 +48,10 @@ with_argument c b ty = record c { blocks = with_change (λ (x : BlockData). reco
 abbrev pub with_name : ContextData → OpRef → List ℕ → ContextData
 with_name c o name = record c { ops = with_change (λ (x : OpData). record x { name = Some name }) o.0 c.ops }
 
+-- the function has that LLVM name
+abbrev pub with_llvm_name : ContextData → OpRef → List ℕ → ContextData
+with_llvm_name c o name = record c { ops = with_change (λ (x : OpData). record x { symbol = option_map (λ (s : Symbol). record s { llvm_name = Some name }) x.symbol }) o.0 c.ops }
+
 -- the operation stands last in the block
 abbrev pub with_appended : ContextData → OpRef → BlockRef → ContextData
 with_appended c o b = record c {
@@ -83,6 +87,10 @@ kind_at ops o = option_map (λ (x : OpData). x.kind) (slice_get ops o.0)
 -- the type and linkage of a function
 abbrev pub symbol_at : List OpData → OpRef → Option Symbol
 symbol_at ops o = option_and_then (λ (x : OpData). x.symbol) (slice_get ops o.0)
+
+-- the LLVM name that is set of an operation, which only a function has
+abbrev pub llvm_name_at : List OpData → OpRef → Option (List ℕ)
+llvm_name_at ops o = option_and_then (λ (s : Symbol). s.llvm_name) (symbol_at ops o)
 
 -- the operation has a type and a linkage, as a function has
 abbrev pub IsSymbol : List OpData → OpRef → Type 0

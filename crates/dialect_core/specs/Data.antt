@@ -44,9 +44,14 @@ pub record DialectBlock : Type 0 where
 pub record Func : Type 0 where
   pub number : ℕ
   pub name : List ℕ
+  pub llvm_name : Option (List ℕ)  -- where it is set
   pub type : TypeTree
   pub linkage : LinkageAttr
   pub blocks : List DialectBlock
+
+-- the name of a function in LLVM: its own where no other is set
+abbrev pub llvm_name_of : Func → List ℕ
+llvm_name_of f = unwrap_or f.llvm_name f.name
 
 pub record DialectModule : Type 0 where
   pub name : List ℕ
@@ -89,6 +94,7 @@ abbrev pub func_with : List TypeTree → OpRef → OpData → List DialectBlock 
 func_with ts o x blocks = option_map (λ (s : Symbol). record {
   number = o.0;
   name = unwrap_or x.name [];
+  llvm_name = s.llvm_name;
   type = type_at ts s.ty;
   linkage = s.linkage;
   blocks = blocks;
@@ -136,6 +142,10 @@ type_in c (Argument b i) = option_and_then (λ (x : DialectBlock). slice_get x.a
 -- the module has the function last
 abbrev pub with_func : DialectModule → Func → DialectModule
 with_func d f = record d { functions = d.functions ++ f ∷ [] }
+
+-- the function of the number f has that LLVM name
+abbrev pub with_func_llvm_name : DialectModule → ℕ → List ℕ → DialectModule
+with_func_llvm_name d f name = record d { functions = map (λ (x : Func). if nat_eq x.number f then record x { llvm_name = Some name } else x) d.functions }
 
 -- the function of the number f has the block last
 abbrev pub more_block : ℕ → DialectBlock → Func → Func

@@ -4,7 +4,6 @@ use Rattle.std.specs.Prelude.{◌≡◌, ◌<◌, ◌≤◌, ℕ, suc, Bool, tru
 use Rattle.std.specs.List.{flat_map}
 use Rattle.std.specs.Option.{option_map_or}
 use Rattle.dialect_types.specs.Trees.{TypeTree, FunctionType, TypeTrees}
-use Rattle.dialect_types.specs.Names.{IsPlainName}
 use Rattle.dialect_core.specs.declared.linkage.LinkageAttr.TheVariants.{ExternalLinkage}
 use Rattle.dialect_core.specs.declared.ops.Value.{Value}
 use Rattle.dialect_core.specs.declared.ops.Value.TheVariants.{Result, Argument}
@@ -13,8 +12,9 @@ use Rattle.kinds.specs.Rules.{ends}
 use Rattle.kinds.specs.Table.{rule_of}
 use Rattle.kinds.specs.Types.{types_list}
 use Rattle.kinds.specs.Held.{IsHeld, IsHeldResult}
+use Rattle.kinds.specs.Names.{is_good_name, is_own_name}
 use Rattle.dialect_core.specs.Rules.{IsOfKind}
-use Rattle.dialect_core.specs.Data.{Kind, ConstantOp, RowOp, DialectOp, DialectBlock, Func, ops_in, value_type}
+use Rattle.dialect_core.specs.Data.{Kind, ConstantOp, RowOp, DialectOp, DialectBlock, Func, llvm_name_of, ops_in, value_type}
 
 -- ---- operations
 
@@ -34,7 +34,6 @@ pub record IsFormOp (g : Func) (o : DialectOp) : Type 0 where
   pub operands : All (IsHeldValue g) o.operands
   pub passed : All (λ (s : Successor). All (IsHeldValue g) s.args) o.successors
   pub result : IfSome o.result IsHeld
-  pub name : IfSome o.name IsPlainName
 
 -- ---- functions
 
@@ -70,15 +69,15 @@ body_ops g = others_of (ops_in g)
 
 -- a block of the function g
 pub record IsFormBlock (g : Func) (b : DialectBlock) : Type 0 where
-  pub label : IfSome b.label IsPlainName
   pub args : All IsHeld b.args
   pub ops : All (IsFormOp g) b.ops
   pub ends : EndsInOnly b.ops
 
 -- a function of the form: it has a body, with constants at any places of it
 pub record IsFormFunc (g : Func) : Type 0 where
-  pub name : IsPlainName g.name
   pub named : ¬ (g.name ≡ [])
+  pub llvm_named : is_own_name (llvm_name_of g) ≡ true
+  pub good : is_good_name (llvm_name_of g) ≡ true
   pub result : TypeTree
   pub types : TypeTrees
   pub type : g.type ≡ FunctionType result types false

@@ -1,5 +1,5 @@
 -- The dialect text of a module: a function of its data.
-use Rattle.std.specs.Prelude.{ℕ, ◌+◌, Bool, true, false, ◌&&◌, nat_eq, List, [], ◌∷◌, ◌++◌, Option, Some, None, map, codes}
+use Rattle.std.specs.Prelude.{ℕ, ◌+◌, Bool, true, false, ◌&&◌, ◌||◌, ◌==◌, if◌then◌else◌, nat_eq, List, [], ◌∷◌, ◌++◌, Option, Some, None, map, codes}
 use Rattle.std.specs.List.{filter_map, flat_map}
 use Rattle.std.specs.Map.{lookup}
 use Rattle.std.specs.Option.{option_map}
@@ -150,9 +150,21 @@ result_type_text type = option_text (λ (t : TypeTree). codes " : " ++ type_text
 abbrev pub tail_text : Option TypeTree → List ℕ
 tail_text result = result_type_text result ++ codes "\n"
 
+-- a character of a quoted text: a quote and a backslash have a backslash before them
+abbrev pub quoted_char : ℕ → List ℕ
+quoted_char c = if c == 34 || c == 92 then 92 ∷ c ∷ [] else c ∷ []
+
+-- a text between quotes
+abbrev pub quoted_text : List ℕ → List ℕ
+quoted_text t = 34 ∷ flat_map quoted_char t ++ 34 ∷ []
+
+-- the LLVM name among the immediates, where it is set
+abbrev pub llvm_name_text : Option (List ℕ) → List ℕ
+llvm_name_text name = option_text (λ (n : List ℕ). codes ", llvm_name = " ++ quoted_text n) name
+
 -- the line of a function up to its body
-abbrev pub func_head_text : List ℕ → TypeTree → LinkageAttr → List ℕ
-func_head_text name type linkage = codes "  llvm.func @" ++ name ++ codes " : " ++ type_text type ++ codes " {linkage = " ++ linkage_text linkage ++ codes "}"
+abbrev pub func_head_text : (name : List ℕ) → TypeTree → LinkageAttr → (llvm_name : Option (List ℕ)) → List ℕ
+func_head_text name type linkage llvm_name = codes "  llvm.func @" ++ name ++ codes " : " ++ type_text type ++ codes " {linkage = " ++ linkage_text linkage ++ llvm_name_text llvm_name ++ codes "}"
 
 -- by the numbers of values and of blocks
 module _ (values : Value → Option ℕ) (blocks : BlockRef → Option ℕ) where
@@ -206,7 +218,7 @@ module _ (values : Value → Option ℕ) (blocks : BlockRef → Option ℕ) wher
   body_text (b ∷ bs) = codes " {\n" ++ flat_map block_text (b ∷ bs) ++ codes "  }\n"
 
   abbrev pub func_text : Func → List ℕ
-  func_text f = func_head_text f.name f.type f.linkage ++ body_text f.blocks
+  func_text f = func_head_text f.name f.type f.linkage f.llvm_name ++ body_text f.blocks
 
   abbrev pub module_text_by : DialectModule → List ℕ
   module_text_by d = codes "builtin.module @" ++ d.name ++ codes " {\n" ++ flat_map func_text d.functions ++ codes "}\n"

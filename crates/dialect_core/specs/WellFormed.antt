@@ -3,7 +3,6 @@
 use Rattle.std.specs.Prelude.{◌≡◌, ◌<◌, ◌≤◌, ◌^◌, ℕ, Bool, true, false, List, [], ◌∷◌, length, slice_get, Some, All, IfSome}
 use Rattle.dialect_types.specs.Trees.{type_at, type_trees}
 use Rattle.dialect_types.specs.declared.types.TypeHandle.{TypeHandle}
-use Rattle.dialect_types.specs.Names.{IsPlainName}
 use Rattle.dialect_core.specs.declared.numbers.OpRef.{OpRef}
 use Rattle.dialect_core.specs.declared.numbers.BlockRef.{BlockRef}
 use Rattle.dialect_core.specs.declared.linkage.LinkageAttr.{LinkageAttr}
@@ -18,7 +17,8 @@ use Rattle.dialect_core.specs.ContextData.{ContextData, kind_at, region_at, symb
 pub use Rattle.dialect_core.specs.Rules.{Typing, IsTypedBy, IsEdge, AreEdges, IsOfKind}
 use Rattle.kinds.specs.Types.{params_of}
 use Rattle.kinds.specs.Held.{IsFirstClass, IsHeld, IsSignature, IsHeldSignature}
-use Rattle.dialect_core.specs.Data.{DialectOp, DialectBlock, Func, held, data_of, ops_in, type_in}
+use Rattle.kinds.specs.Names.{is_good_name, is_own_name}
+use Rattle.dialect_core.specs.Data.{DialectOp, DialectBlock, Func, llvm_name_of, held, data_of, ops_in, type_in}
 use Rattle.dialect_core.specs.Form.{EndsInOnly}
 
 -- ---- operations
@@ -81,10 +81,11 @@ abbrev pub suits : List DialectBlock → LinkageAttr → Bool
 suits [] linkage = suits_declaration linkage
 suits (entry ∷ more) linkage = suits_body linkage
 
--- a function, with a body or without: its linkage is one for the body that it has or lacks, the first block takes what
+-- a function, with a body or without: its LLVM name is that of a symbol and of no intrinsic, its linkage is one for the body that it has or lacks, the first block takes what
 -- the function takes, and no number of a block or of an operation stands twice
 pub record IsWellFormedFunc (types : Typing) (g : Func) : Type 0 where
   pub named : ¬ (g.name ≡ [])
+  pub llvm_named : is_own_name (llvm_name_of g) ≡ true
   pub linkage : suits g.blocks g.linkage ≡ true
   pub signature : IsSignature g.type
   pub params : (b : DialectBlock) → slice_get g.blocks 0 ≡ Some b → b.args ≡ params_of g.type
@@ -129,9 +130,9 @@ HasFewEntries c b = IsFew (list_at c.lists b) × All (IsFewFunc c) (list_at c.li
 abbrev pub HasFirstClassArgs : ContextData → BlockRef → Type 0
 HasFirstClassArgs c b = (x : BlockData) → slice_get c.blocks b.0 ≡ Some x → IsFew x.args × All (λ (t : TypeHandle). IsFirstClass (type_at (type_trees c.types) t)) x.args
 
--- no two functions have one name
-abbrev pub HasNamesApart : List Func → Type 0
-HasNamesApart fs = (i j : ℕ) (f g : Func) → slice_get fs i ≡ Some f → slice_get fs j ≡ Some g → f.name ≡ g.name → i ≡ j
+-- no two functions have one name, be it their own or that of LLVM
+abbrev pub HasNamesApart : (Func → List ℕ) → List Func → Type 0
+HasNamesApart name fs = (i j : ℕ) (f g : Func) → slice_get fs i ≡ Some f → slice_get fs j ≡ Some g → name f ≡ name g → i ≡ j
 
 -- an operation that is neither a module nor a function
 abbrev pub IsPlainAt : ContextData → OpRef → Type 0
@@ -158,26 +159,25 @@ pub record IsWellFormed (c : ContextData) (m : ℕ) : Type 0 where
   pub plain : All (λ (o : OpRef). All (IsPlainAt c) (held c o.0)) (held c m)
   pub past_firsts : All (λ (o : OpRef). All (IsPastFirsts c) (held c o.0)) (held c m)
   pub functions : All (IsWellFormedFunc (type_in c)) (data_of c m).functions
-  pub names : HasNamesApart (data_of c m).functions
+  pub names : HasNamesApart (λ (f : Func). f.name) (data_of c m).functions
+  pub llvm_names : HasNamesApart llvm_name_of (data_of c m).functions
   pub few : IsFew (held c m)
   pub few_each : All (IsFewFunc c) (held c m)
 
 -- ---- what the open form asks besides
 
--- an operation of the form: the type of its result, where it has one, is translated, and its name is plain
-pub record IsNarrowOp (o : DialectOp) : Type 0 where
-  pub result : IfSome o.result IsHeld
-  pub name : IfSome o.name IsPlainName
+-- an operation of the form: the type of its result, where it has one, is translated
+abbrev pub IsNarrowOp : DialectOp → Type 0
+IsNarrowOp o = IfSome o.result IsHeld
 
--- a block of the form: the types of its arguments are translated, and its label is plain
+-- a block of the form: the types of its arguments are translated
 pub record IsNarrowBlock (b : DialectBlock) : Type 0 where
   pub args : All IsHeld b.args
   pub ops : All IsNarrowOp b.ops
-  pub label : IfSome b.label IsPlainName
 
--- a function of the form, as far as that is narrower: it has a body and external linkage
+-- a function of the form, as far as that is narrower: it has a body, external linkage, and a name that the form takes
 pub record IsNarrowFunc (g : Func) : Type 0 where
-  pub name : IsPlainName g.name
+  pub good : is_good_name (llvm_name_of g) ≡ true
   pub linkage : g.linkage ≡ L.ExternalLinkage
   pub signature : IsHeldSignature g.type
   pub blocks : All IsNarrowBlock g.blocks

@@ -5,8 +5,8 @@ ghost use Rattle.std.specs.Option.{option_map};
 ghost use Rattle.dialect_core.specs.declared.ops.OpKind.TheVariants as kinds;
 ghost use Rattle.dialect_types.specs.Trees.{type_at, type_trees};
 ghost use Rattle.dialect_core.specs.Lists.{list_at};
-ghost use Rattle.dialect_core.specs.Data.{DialectOp, Func, op_at, func_in, data_of, with_func, with_func_block, with_block_op, with_block_arg, HasKindTypesBelow, IsTypedOp, IsTyped};
-ghost use Rattle.dialect_core.specs.ContextData.{empty_context, with_op, with_block, with_argument, with_name, with_appended, is_plain, HoldsMore, StandsIn, IsValueWithin, IsSuccessorWithin, IsOpWithin, region_at};
+ghost use Rattle.dialect_core.specs.Data.{DialectOp, Func, op_at, func_in, data_of, with_func, with_func_block, with_block_op, with_block_arg, with_func_llvm_name, HasKindTypesBelow, IsTypedOp, IsTyped};
+ghost use Rattle.dialect_core.specs.ContextData.{empty_context, with_op, with_block, with_argument, with_name, with_llvm_name, with_appended, is_plain, HoldsMore, IsSymbol, StandsIn, IsValueWithin, IsSuccessorWithin, IsOpWithin, region_at};
 
 mod holding;
 mod lending;
@@ -27,6 +27,7 @@ use std::marker::Model;
 use std::sync::ledger::Ledger;
 use support::items::Items;
 use support::short_list::ShortList;
+use support::text::Text;
 
 /// Operations, blocks and their types. Operations that stand in no block are kept too.
 #[derive(Drop)]
@@ -91,14 +92,19 @@ impl Context {
         linkage: LinkageAttr,
     ) -> Result<FuncOp, AllocError>
         requires { ty.0 < length self.old.types }
-        ensures ok { OnOk result (self.new ≡ with_op self.old (record { kind = kinds.Func; name = Some name; operands = []; successors = []; result = None; symbol = Some (record { ty = ty; linkage = linkage }); blocks = [] })) }
+        ensures ok { OnOk result (self.new ≡ with_op self.old (record { kind = kinds.Func; name = Some name; operands = []; successors = []; result = None; symbol = Some (record { ty = ty; linkage = linkage; llvm_name = None }); blocks = [] })) }
         ensures number { IfOk result (λ f. f.0.0 ≡ length self.old.ops) }
         ensures free { IfOk result (λ f. slice_get self.new.parents f.0.0 ≡ Some None) }
         ensures data { OnOk result ((m : ℕ) → m < length self.old.ops → data_of self.new m ≡ data_of self.old m) }
         ensures typed { OnOk result (IsTyped self.old → IsTyped self.new) }
         ensures err { OnErr result (self.new ≡ self.old) }
     {
-        let symbol = Symbol { ty, linkage };
+        let symbol = Symbol {
+            ty,
+            linkage,
+            llvm_name: None,
+        };
+        let symbol = Box::new(self.alloc, symbol)?;
         let data = bare(self.alloc, OpKind::Func, Some(name), Some(symbol));
         let op = self.add(data)?;
         Ok(FuncOp(op))
@@ -242,6 +248,22 @@ impl Context {
         Ok(())
     }
 
+    /// Sets the LLVM name of a function: what `llvm_symbol_name` answers.
+    pub fn set_llvm_symbol_name(&mut self, op: OpRef, name: &str) -> Result<(), AllocError>
+        requires { IsSymbol self.old.ops op }
+        ensures ok { OnOk result (self.new ≡ with_llvm_name self.old op name.now) }
+        ensures data { OnOk result ((m : ℕ) → data_of self.new m ≡ with_func_llvm_name (data_of self.old m) op.0 name.now) }
+        ensures typed { OnOk result (IsTyped self.old → IsTyped self.new) }
+        ensures err { OnErr result (self.new ≡ self.old) }
+    {
+        let name = Text::copy(self.alloc, name)?;
+        match &mut self.ops[op.0 as usize].symbol {
+            Some(symbol) => symbol.llvm_name = Some(name),
+            None => unreachable!(),
+        }
+        Ok(())
+    }
+
     /// Puts an operation that stands in no block last into one.
     pub fn insert_at_back<L: Ledger>(&mut self, op: OpRef, block: BlockRef, _steps: &mut Steps<L>)
         requires free { slice_get self.old.parents op.0 ≡ Some None }
@@ -280,7 +302,12 @@ impl Context {
 }
 
 /// The data of an operation without operands, successors, result and blocks.
-fn bare(alloc: Global, kind: OpKind, name: Option<Identifier>, symbol: Option<Symbol>) -> OpData
+fn bare(
+    alloc: Global,
+    kind: OpKind,
+    name: Option<Identifier>,
+    symbol: Option<Box<Symbol>>,
+) -> OpData
     ensures { result ≡ record { kind = kind; name = name; operands = []; successors = []; result = None; symbol = symbol; blocks = [] } }
 {
     OpData {

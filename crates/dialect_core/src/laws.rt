@@ -5,7 +5,7 @@ ghost use Rattle.dialect_types.specs.Trees.{type_trees};
 ghost use Rattle.dialect_core.specs.declared.numbers.OpRef.{OpRef};
 ghost use Rattle.dialect_core.specs.declared.ops.OpKind.TheVariants as kinds;
 ghost use Rattle.dialect_core.specs.ContextData.{ContextData, AreRegions, IsSymbol, holder_at, kind_at, region_at};
-ghost use Rattle.dialect_core.specs.Data.{Func, data_of, func_in, held, type_in, value_type};
+ghost use Rattle.dialect_core.specs.Data.{Func, llvm_name_of, data_of, func_in, held, type_in, value_type};
 ghost use Rattle.dialect_core.specs.Form.{HasOwnValues, IsFormFunc, LeadsToOwn};
 ghost use Rattle.dialect_core.specs.WellFormed.{HasFirstClassArgs, HasNamesApart, IsFew, IsFewFunc, IsNarrowFunc, IsOpenForm, IsPlainAt, IsWellFormed, IsWellFormedFunc};
 
@@ -33,5 +33,5 @@ pub fn open_law()
 /// Where the functions of a module are well-formed and their edges lead to blocks of their own, no edge goes to the first
 /// block of any region: so with the other rules of a module, it is well-formed.
 pub fn own_edges_law()
-    ensures { (c : ContextData) (m : ℕ) → AreRegions (region_at c.ops) (holder_at c.blocks) → ((o : OpRef) → kind_at c.ops o ≡ Some kinds.Func → IsSymbol c.ops o) → kind_at c.ops (record { 0 = m }) ≡ Some kinds.Module → length (region_at c.ops m) ≤ 1 → All (HasFirstClassArgs c) (region_at c.ops m) → All (λ o. kind_at c.ops o ≡ Some kinds.Func) (held c m) → All (λ o. All (IsPlainAt c) (held c o.0)) (held c m) → All (IsWellFormedFunc (type_in c)) (data_of c m).functions → All LeadsToOwn (data_of c m).functions → HasNamesApart (data_of c m).functions → IsFew (held c m) → All (IsFewFunc c) (held c m) → IsWellFormed c m }
+    ensures { (c : ContextData) (m : ℕ) → AreRegions (region_at c.ops) (holder_at c.blocks) → ((o : OpRef) → kind_at c.ops o ≡ Some kinds.Func → IsSymbol c.ops o) → kind_at c.ops (record { 0 = m }) ≡ Some kinds.Module → length (region_at c.ops m) ≤ 1 → All (HasFirstClassArgs c) (region_at c.ops m) → All (λ o. kind_at c.ops o ≡ Some kinds.Func) (held c m) → All (λ o. All (IsPlainAt c) (held c o.0)) (held c m) → All (IsWellFormedFunc (type_in c)) (data_of c m).functions → All LeadsToOwn (data_of c m).functions → HasNamesApart (λ g. g.name) (data_of c m).functions → HasNamesApart llvm_name_of (data_of c m).functions → IsFew (held c m) → All (IsFewFunc c) (held c m) → IsWellFormed c m }
 {}

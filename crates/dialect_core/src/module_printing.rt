@@ -1,13 +1,14 @@
 //! The dialect text of blocks, functions and modules.
 
-ghost use Rattle.std.specs.Prelude.{◌≡◌, ◌<◌, ◌++◌, All, OnOk, length, map};
+ghost use Rattle.std.specs.Prelude.{◌≡◌, ◌<◌, ◌++◌, All, OnOk, length, map, unwrap_or};
 ghost use Rattle.std.specs.Option.{option_copied};
 ghost use Rattle.std.specs.List.{flat_map, filter_map};
 ghost use Rattle.dialect_types.specs.Trees.{type_at, type_trees};
 ghost use Rattle.dialect_types.specs.Text.{Keeps, joined};
+ghost use Rattle.dialect_core.specs.ContextData.{llvm_name_at};
 ghost use Rattle.dialect_core.specs.Data.{op_at, block_in, func_in, name_at, data_of, IsTyped};
 ghost use Rattle.dialect_core.specs.Numbering.{value_at, block_at};
-ghost use Rattle.dialect_core.specs.Text.{option_text, argument_text, argument_texts, label_text, block_text, body_text, linkage_text, func_head_text, func_text, op_text, module_text_by, module_text};
+ghost use Rattle.dialect_core.specs.Text.{option_text, argument_text, argument_texts, label_text, block_text, body_text, linkage_text, func_head_text, quoted_char, quoted_text, llvm_name_text, func_text, op_text, module_text_by, module_text};
 
 use crate::context::Context;
 use crate::counting::{number_module, place_of};
@@ -186,16 +187,54 @@ fn linkage_word(linkage: LinkageAttr) -> &'static str
     }
 }
 
+/// Appends a character of a quoted text.
+fn print_quoted_char(char: u8, out: &mut Vec<u8>) -> Result<(), AllocError>
+    ensures ok { OnOk result (out.new.items ≡ out.old.items ++ quoted_char char) }
+    ensures kept { Keeps out.old.items out.new.items }
+{
+    if char == b'"' || char == b'\\' {
+        out.push(b'\\')?;
+    }
+    out.push(char)
+}
+
+/// Appends a text between quotes.
+fn print_quoted(text: &str, out: &mut Vec<u8>) -> Result<(), AllocError>
+    ensures ok { OnOk result (out.new.items ≡ out.old.items ++ quoted_text text.now) }
+    ensures kept { Keeps out.old.items out.new.items }
+{
+    out.extend_from_slice(b"\"")?;
+    for byte in text.as_bytes() {
+        print_quoted_char(*byte, out)?;
+    }
+    out.extend_from_slice(b"\"")
+}
+
+/// Appends the LLVM name among the immediates, where it is set.
+fn print_llvm_name(name: Option<&str>, out: &mut Vec<u8>) -> Result<(), AllocError>
+    ensures ok { OnOk result (out.new.items ≡ out.old.items ++ llvm_name_text (option_copied name)) }
+    ensures kept { Keeps out.old.items out.new.items }
+{
+    match name {
+        Some(name) => {
+            out.extend_from_slice(b", llvm_name = ")?;
+            print_quoted(name, out)
+        }
+        None => Ok(()),
+    }
+}
+
 /// Appends the line of a function up to its body.
 fn print_func_head(
     types: &TypeStore,
     name: &str,
     ty: TypeHandle,
     linkage: LinkageAttr,
+    llvm_name: Option<&str>,
     out: &mut Vec<u8>,
 ) -> Result<(), AllocError>
     requires { ty.0 < length types.now }
-    ensures ok { OnOk result (out.new.items ≡ out.old.items ++ func_head_text name.now (type_at (type_trees types.now) ty) linkage) }
+    ensures ok { OnOk result (out.new.items ≡ out.old.items ++ func_head_text name.now (type_at (type_trees types.now) ty) linkage (option_copied llvm_name)) }
     ensures kept { Keeps out.old.items out.new.items }
 {
     out.extend_from_slice(b"  llvm.func @")?;
@@ -204,6 +243,7 @@ fn print_func_head(
     types.append_type(ty, out)?;
     out.extend_from_slice(b" {linkage = ")?;
     out.extend_from_slice(linkage_word(linkage).as_bytes())?;
+    print_llvm_name(llvm_name, out)?;
     out.extend_from_slice(b"}")
 }
 
@@ -215,6 +255,17 @@ pub fn name_of(ctx: &Context, op: OpRef) -> &str
     match ctx.op_name(op) {
         Some(name) => name.as_str(),
         None => "",
+    }
+}
+
+/// The LLVM name of a function: its own where no other is set.
+pub fn llvm_name_of(ctx: &Context, op: OpRef) -> &str
+    requires { op.0 < length ctx.now.ops }
+    ensures { result.now ≡ unwrap_or (llvm_name_at ctx.now.ops op) (name_at ctx.now.ops op.0) }
+{
+    match ctx.llvm_symbol_name(op) {
+        Some(name) => name,
+        None => name_of(ctx, op),
     }
 }
 
@@ -234,7 +285,8 @@ fn print_func(
         OpKind::Func => {
             let ty = ctx.symbol_type(op);
             let linkage = ctx.symbol_linkage(op);
-            print_func_head(ctx.types(), name_of(ctx, op), ty, linkage, out)?;
+            let llvm_name = ctx.llvm_symbol_name(op);
+            print_func_head(ctx.types(), name_of(ctx, op), ty, linkage, llvm_name, out)?;
             print_body(ctx, numbers, ctx.op_blocks(op), out)
         }
         _ => Ok(()),

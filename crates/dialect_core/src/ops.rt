@@ -8,6 +8,7 @@ use dialect_types::types::TypeHandle;
 use kinds::op::Op;
 use support::items::Items;
 use support::short_list::ShortList;
+use support::text::Text;
 
 /// What an operand names.
 #[derive(Clone, Copy, PartialEq, Eq, Hash, Debug, Drop)]
@@ -38,11 +39,12 @@ pub enum OpKind {
     Row(Op),
 }
 
-/// The type and the linkage of a function.
-#[derive(Clone, Copy, Drop)]
+/// The type and the linkage of a function, and its LLVM name where that is set: where it differs from the function's name.
+#[derive(Drop)]
 pub struct Symbol {
     pub ty: TypeHandle,
     pub linkage: LinkageAttr,
+    pub llvm_name: Option<Text>,
 }
 
 /// An operation of a context. The name is a symbol's, or the given name of a result.
@@ -53,7 +55,8 @@ pub struct OpData {
     pub operands: ShortList<Value>,
     pub successors: Items<Successor>,
     pub result: Option<TypeHandle>,
-    pub symbol: Option<Symbol>,
+    /// Of a function; it lies apart, since most operations have none.
+    pub symbol: Option<Box<Symbol>>,
     /// The blocks of its region.
     pub blocks: ShortList<BlockRef>,
 }

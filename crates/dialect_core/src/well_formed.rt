@@ -7,18 +7,19 @@ ghost use Rattle.dialect_core.specs.Lists.{list_at, from_op};
 ghost use Rattle.dialect_core.specs.ContextData.{IsSymbol, kind_at};
 ghost use Rattle.dialect_core.specs.Data.{DialectBlock, IsTyped, name_at};
 ghost use Rattle.dialect_core.specs.WellFormed.{HasFewEntries, HasFirstClassArgs, IsWellFormed, suits, suits_body, suits_declaration};
-ghost use Rattle.dialect_core.specs.Checking.{AreApartFrom, AreFuncLines, AreLines, IsBlockAt, IsFuncAt, IsHead, IsLine, func_at};
+ghost use Rattle.dialect_core.specs.Checking.{AreApartFrom, AreFuncLines, AreLines, IsApartFrom, IsBlockAt, IsFuncAt, IsHead, IsLine, func_at};
 
 use crate::context::Context;
 use crate::few::{TOO_LONG, has_few};
 use crate::linkage::LinkageAttr;
-use crate::module_printing::name_of;
+use crate::module_printing::{llvm_name_of, name_of};
 use crate::numbers::{BlockRef, ModuleOp, OpRef};
 use crate::op_tests::{is_ending, op_fits};
 use crate::ops::OpKind;
 use crate::type_tests::{all_first_class, is_signature, takes};
 use crate::value_tests::is_past_firsts;
 use crate::walking::{first_in_block, next_in_block};
+use kinds::names::is_own_name;
 
 /// Whether an operation of the function is as its kind is, is a terminator just where none comes after it, and leads to
 /// no first block.
@@ -164,7 +165,7 @@ fn entry_fits(ctx: &Context, func: OpRef) -> bool
     }
 }
 
-/// Whether the head of a function is well-formed: its name, its linkage and its type.
+/// Whether the head of a function is well-formed: its names, its linkage and its type.
 fn head_fits(ctx: &Context, func: OpRef) -> bool
     requires func { IsSymbol ctx.now.ops func }
     requires within { func.0 < length ctx.now.ops }
@@ -172,6 +173,9 @@ fn head_fits(ctx: &Context, func: OpRef) -> bool
     ensures { IsTrue result ↔ IsHead (func_at ctx.now func) }
 {
     if name_of(ctx, func).is_empty() {
+        return false;
+    }
+    if !is_own_name(llvm_name_of(ctx, func)) {
         return false;
     }
     if !linkage_fits(ctx, func) {
@@ -211,17 +215,31 @@ fn func_fits(ctx: &Context, op: OpRef) -> bool
     }
 }
 
-/// Whether no operation of a block from one on has the name.
-fn is_name_free(ctx: &Context, block: BlockRef, from: Option<OpRef>, name: &str) -> bool
+/// Whether an operation has neither of the names, its own and that of LLVM.
+fn is_apart(ctx: &Context, op: OpRef, name: &str, llvm_name: &str) -> bool
+    requires { op.0 < length ctx.now.ops }
+    ensures { IsTrue result ↔ IsApartFrom ctx.now name.now llvm_name.now op }
+{
+    name_of(ctx, op) != name && llvm_name_of(ctx, op) != llvm_name
+}
+
+/// Whether no operation of a block from one on has one of the names.
+fn are_names_free(
+    ctx: &Context,
+    block: BlockRef,
+    from: Option<OpRef>,
+    name: &str,
+    llvm_name: &str,
+) -> bool
     requires block { block.0 < length ctx.now.blocks }
     requires from { IfSome from (λ o. o.0 < length ctx.now.ops) }
     requires here { from ≡ slice_get (from_op from (list_at ctx.now.lists block)) 0 }
-    ensures { IsTrue result ↔ AreApartFrom ctx.now name.now (from_op from (list_at ctx.now.lists block)) }
+    ensures { IsTrue result ↔ AreApartFrom ctx.now name.now llvm_name.now (from_op from (list_at ctx.now.lists block)) }
 {
     let mut next = from;
     while let Some(op) = next {
         let after = next_in_block(ctx, block, op);
-        if name_of(ctx, op) == name {
+        if !is_apart(ctx, op, name, llvm_name) {
             return false;
         }
         next = after;
@@ -229,7 +247,7 @@ fn is_name_free(ctx: &Context, block: BlockRef, from: Option<OpRef>, name: &str)
     true
 }
 
-/// Whether the operations of a block are well-formed functions of different names. Each name is compared with those of
+/// Whether the operations of a block are well-formed functions of different names. Each is compared with those of
 /// all later functions, since there is no memory to note it in: so this takes a square of the functions' number.
 fn funcs_fit(ctx: &Context, block: BlockRef) -> bool
     requires block { block.0 < length ctx.now.blocks }
@@ -242,7 +260,7 @@ fn funcs_fit(ctx: &Context, block: BlockRef) -> bool
         if !func_fits(ctx, op) {
             return false;
         }
-        if !is_name_free(ctx, block, after, name_of(ctx, op)) {
+        if !are_names_free(ctx, block, after, name_of(ctx, op), llvm_name_of(ctx, op)) {
             return false;
         }
         next = after;

@@ -6,14 +6,14 @@ use Rattle.std.specs.Cmp.Lexicographic.{pointwise, pointwise_decides}
 use Rattle.std.specs.Fmt.{decimal, digits, digits_onto, digit_glyph}
 use Rattle.std.specs.List.{list_any, list_all}
 use Rattle.std.proofs.lemmas.Bool.{cases_order}
-use Rattle.std.proofs.lemmas.List.{append_assoc, map-append, take-append-le, take_all, take_more}
+use Rattle.std.proofs.lemmas.List.{append-nil, append_assoc, map-append, take-append-le, take_all, take_more}
 use Rattle.std.proofs.lemmas.List.Folds.{list_all-append, list_any_at}
 use Rattle.std.proofs.lemmas.Option.{get_or_from_slice_get, slice_get_within, same_Some}
 use Rattle.support.specs.Interned.{IsDistinctList}
 use Rattle.support.proofs.ListLaws.{slice_get-kept, slice_get-push, slice_get-push_cases, slice_get-behind_cases, slice_get-set_cases, distinct_push, item_there}
 use Rattle.indexmap.specs.IndexSet.{insert_key}
 use Rattle.dialect_types.specs.Names.{IsIdentifier, is_letter, is_digit, is_name_byte}
-use Rattle.dialect_types.specs.Legalised.{as_name_byte, is_headless, headed, asked, wish, IsIn, IsFirstFree, Named, IsLegalised, Gave, IsGiven, paired, IsPut, AreTaken, IsTried, IsWished, IsTaken, IsFirstTaken}
+use Rattle.dialect_types.specs.Legalised.{as_name_byte, is_headless, headed, asked, wish, IsIn, IsFirstFree, Named, IsLegalised, Gave, GoesOn, IsGiven, paired, IsPut, AreTaken, IsTried, IsWished, IsTaken, IsFirstTaken}
 
 -- ---- texts that are each kept once
 
@@ -156,7 +156,7 @@ taken_first old mid new i j k same before wished = record {
   grown = wished.1 ∙ ap (λ (xs : List (List ℕ)). xs ++ j ∷ []) same;
 }
 
-in_kept : (xs ys : List (List ℕ)) (x : List ℕ) → IsIn xs x → IsIn (xs ++ ys) x
+in_kept : {X : Type 0} (xs ys : List X) (x : X) → IsIn xs x → IsIn (xs ++ ys) x
 in_kept xs ys x h = (h.0, slice_get-kept xs ys h.0 x h.1)
 
 zero_cases : (m j n : ℕ) → slice_get (replicate m 0) j ≡ Some n → (j < m) × (n ≡ 0)
@@ -324,8 +324,7 @@ names_grown ns is ns' is' n i h put taken =
       rw grown (legalised_push (paired ns is) n i h.1 fresh first),
       record {
         here = rw grown (length (paired ns is), slice_get-push (paired ns is) (named n i) (length (paired ns is)) refl);
-        met = λ there. absurd (fresh there);
-        fresh = λ none. grown;
+        either = inr (fresh, grown);
       },
     )
 
@@ -336,9 +335,16 @@ names_same ns is ns' n i at h put there =
     let same : paired ns' is ≡ paired ns is = ap (λ (xs : List (List ℕ)). paired xs is) put.0 in
     record {
       here = rw same (at, pair_at ns is n i at put.1 there);
-      met = λ met. same;
-      fresh = λ none. absurd (none (rw (names_paired ns is h.0) (at, put.1)));
+      either = inl (rw (names_paired ns is h.0) (at, put.1), same);
     }
+
+-- the list goes on where a name is given
+pub grown_of : (old new : List Named) (n i : List ℕ) → IsGiven old new n i → GoesOn old new
+grown_of old new n i h = elim h.either [ inl met ↦ ([], met.1 ∙ sym (append-nil old)) | inr fresh ↦ (named n i ∷ [], fresh.1) ]
+
+-- what a name has it keeps
+pub gave_kept : (given later : List Named) (n i : List ℕ) → GoesOn given later → Gave given n i → Gave later n i
+gave_kept given later n i more gave = rw more.1 (in_kept given more.0 (named n i) gave)
 
 -- what a name has that was met is an identifier
 pub met_legal : (ns is ns' : List (List ℕ)) (n i : List ℕ) (at : ℕ) → (length ns ≡ length is) × IsLegalised (paired ns is) → IsPut ns ns' n (Some at) → slice_get is at ≡ Some i → IsIdentifier i

@@ -1,5 +1,5 @@
 -- Names with the identifiers that they were given.
-use Rattle.std.specs.Prelude.{◌≡◌, ◌<◌, ◌≤◌, ℕ, zero, suc, List, [], ◌∷◌, ◌++◌, Bool, true, Option, Some, None, map, take, slice_get, if◌then◌else◌}
+use Rattle.std.specs.Prelude.{◌≡◌, ◌<◌, ◌≤◌, ◌⊎◌, ℕ, zero, suc, List, [], ◌∷◌, ◌++◌, Bool, true, Option, Some, None, map, take, slice_get, if◌then◌else◌}
 use Rattle.std.specs.Fmt.{decimal}
 use Rattle.support.specs.Interned.{IsDistinctList}
 use Rattle.dialect_types.specs.Names.{is_digit, is_name_byte}
@@ -48,11 +48,18 @@ pub record IsLegalised (given : List Named) : Type 0 where
 abbrev pub Gave : List Named → List ℕ → List ℕ → Type 0
 Gave given n i = IsIn given (record { name = n; identifier = i })
 
--- a name has its identifier: nothing changes where it was met, else it comes last
+-- more names may have been met since
+abbrev pub GoesOn : List Named → List Named → Type 0
+GoesOn now later = (more : List Named) × (later ≡ now ++ more)
+
+-- the name was met
+abbrev pub IsMet : List Named → List ℕ → Type 0
+IsMet given n = IsIn (map (λ (g : Named). g.name) given) n
+
+-- a name has its identifier: it was met and nothing changes, or it was not and comes last
 pub record IsGiven (old new : List Named) (n i : List ℕ) : Type 0 where
   pub here : Gave new n i
-  pub met : IsIn (map (λ (g : Named). g.name) old) n → new ≡ old
-  pub fresh : ¬ (IsIn (map (λ (g : Named). g.name) old) n) → new ≡ old ++ (record { name = n; identifier = i }) ∷ []
+  pub either : (IsMet old n × (new ≡ old)) ⊎ ((¬ IsMet old n) × (new ≡ old ++ (record { name = n; identifier = i }) ∷ []))
 
 -- ---- how the legaliser keeps them; no clause of another crate cites what follows
 

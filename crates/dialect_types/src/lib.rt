@@ -5,7 +5,6 @@ pub mod asking;
 pub mod attrs;
 pub mod identifier;
 pub mod legaliser;
-pub mod naming;
 pub mod printing;
 pub mod taken;
 pub mod texts;

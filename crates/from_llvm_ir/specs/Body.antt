@@ -8,6 +8,7 @@ use Rattle.llvm_core.specs.Module.{Module}
 use Rattle.llvm_core.specs.Data as L
 use Rattle.llvm_core.specs.Data.{ConstTree, Placed, data_of}
 use Rattle.llvm_core.specs.Form.{is_phi}
+use Rattle.dialect_types.specs.Legalised.{Gave}
 use Rattle.dialect_core.specs.declared.numbers.BlockRef.{BlockRef}
 use Rattle.dialect_core.specs.declared.ops.Value.{Value}
 use Rattle.dialect_core.specs.declared.numbers.FuncOp.{FuncOp}
@@ -21,7 +22,7 @@ use Rattle.from_llvm_ir.specs.declared.values.Values.{Values}
 use Rattle.from_llvm_ir.specs.declared.entries.Entries.{Entries}
 use Rattle.from_llvm_ir.specs.Match.{IsPlaces}
 use Rattle.from_llvm_ir.specs.Values.{Targets, target_at}
-use Rattle.from_llvm_ir.specs.Imported.{constants_in, rest_of, front_for, IsBuilding, IsBelow, IsRefused}
+use Rattle.from_llvm_ir.specs.Imported.{constants_in, rest_of, front_for, kept_name, IsBuilding, IsBelow, IsRefused}
 use Rattle.from_llvm_ir.specs.Building.{IsUnder, AreBare, bare_func, with_blocks, with_ops}
 use Rattle.from_llvm_ir.specs.Source.{IsSource, IsBlockOf, IsInstOf, AreEntries}
 use Rattle.from_llvm_ir.specs.Known.{Frame, blocks_of, knows, IsKnown}
@@ -38,7 +39,7 @@ pub record IsFramed (m : Module) (f : LLVMFunction) (fr : Frame) : Type 0 where
   pub source : IsSource m f fr.source
   pub number : fr.source.number ≡ f.0
   pub order : IsPlaces (length fr.source.blocks) fr.order
-  pub func : (n : ℕ) × (fr.home.func ≡ bare_func n fr.source.name fr.source.type)
+  pub func : (n : ℕ) × (name : List ℕ) × (fr.home.func ≡ bare_func n name (kept_name fr.source.name name) fr.source.type) × Gave fr.given fr.source.name name
 
 -- the constants that an instruction uses, if it is no phi
 abbrev pub uses_of_inst : L.ModuleData → L.Function → L.Block → Placed → List ConstTree

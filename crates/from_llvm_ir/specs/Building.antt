@@ -8,6 +8,7 @@ use Rattle.dialect_core.specs.declared.linkage.LinkageAttr.TheVariants.{External
 use Rattle.dialect_core.specs.declared.ops.Value.{Value}
 use Rattle.dialect_core.specs.declared.ops.Successor.{Successor}
 use Rattle.dialect_core.specs.declared.ops.OpKind.{OpKind}
+use Rattle.dialect_core.specs.declared.ops.OpKind.TheVariants.{Func as FuncKind}
 use Rattle.dialect_core.specs.declared.ops.OpData.{OpData}
 use Rattle.dialect_core.specs.ContextData.{ContextData}
 use Rattle.dialect_core.specs.Data.{DialectModule, DialectBlock, DialectOp, Func, Kind, with_func}
@@ -18,8 +19,12 @@ abbrev pub module_named : List ℕ → DialectModule
 module_named name = record { name = name; functions = [] }
 
 -- a function without blocks
-abbrev pub bare_func : ℕ → List ℕ → TypeTree → Func
-bare_func n name type = record { number = n; name = name; type = type; linkage = ExternalLinkage; blocks = [] }
+abbrev pub bare_func : ℕ → (name : List ℕ) → (llvm_name : Option (List ℕ)) → TypeTree → Func
+bare_func n name llvm_name type = record { number = n; name = name; llvm_name = llvm_name; type = type; linkage = ExternalLinkage; blocks = [] }
+
+-- a new function as a context keeps it
+abbrev pub func_data : (name : List ℕ) → (llvm_name : Option (List ℕ)) → TypeHandle → OpData
+func_data name llvm_name ty = record { kind = FuncKind; name = Some name; operands = []; successors = []; result = None; symbol = Some (record { ty = ty; linkage = ExternalLinkage; llvm_name = llvm_name }); blocks = [] }
 
 -- an operation as a context keeps it
 abbrev pub op_data : OpKind → Option (List ℕ) → List Value → List Successor → Option TypeHandle → OpData

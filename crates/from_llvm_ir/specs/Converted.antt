@@ -12,7 +12,7 @@ use Rattle.dialect_core.specs.Form.{uses_of}
 use Rattle.meaning.specs.Pairs.{Matched}
 use Rattle.kinds.specs.Types.{params_of}
 use Rattle.kinds.specs.Held.{own_type}
-use Rattle.from_llvm_ir.specs.Imported.{passed, given_name, rest_of, phis_of, label_for, front_for}
+use Rattle.from_llvm_ir.specs.Imported.{passed, IsGivenName, rest_of, phis_of, IsLabel, front_for}
 use Rattle.from_llvm_ir.specs.Building.{ops_of}
 use Rattle.from_llvm_ir.specs.Known.{Frame, Known, blocks_of, value_of, result_in, Stands}
 
@@ -35,7 +35,7 @@ pub record IsEdge (k : Known) (from to : ℕ) (s : Successor) : Type 0 where
 -- the operation stands for the instruction p of the block b
 pub record Converted (k : Known) (b : L.Block) (p : Placed) (o : DialectOp) : Type 0 where
   pub kind : IsKind p.instruction o.kind
-  pub name : o.name ≡ given_name p.name
+  pub name : IsGivenName k.frame.given p.name o.name
   pub operands : Matched (Stands k) (operands_of p.instruction) o.operands
   pub successors : Matched (IsEdge k b.number) (L.targets p.instruction) o.successors
   pub result : o.result ≡ own_type p.type
@@ -55,7 +55,7 @@ args_for g (suc n) b = map (λ (p : Placed). p.type) (phis_of b)
 -- the number, label and arguments of the block at a place
 pub record IsHead (fr : Frame) (place : ℕ) (b : L.Block) (c : DialectBlock) : Type 0 where
   pub number : c.number ≡ fr.base + place
-  pub label : c.label ≡ label_for place b
+  pub label : IsLabel fr.given place b c.label
   pub args : c.args ≡ args_for fr.source place b
 
 -- the blocks have the numbers, labels and arguments of those at their places

@@ -1,14 +1,15 @@
 -- What an import has made: a dialect module whose functions stand for those of the source.
-use Rattle.std.specs.Prelude.{ℕ, zero, suc, ◌≡◌, ◌<◌, ◌≤◌, ◌⊎◌, true, false, not, nat_eq, List, [], ◌∷◌, ◌++◌, Option, Some, None, All, map, filter, length, slice_get, slice_index_or, codes}
+use Rattle.std.specs.Prelude.{ℕ, zero, suc, ◌≡◌, ◌<◌, ◌≤◌, ◌⊎◌, true, false, not, nat_eq, if◌then◌else◌, List, [], ◌∷◌, ◌++◌, Option, Some, None, All, map, filter, length, slice_get, slice_index_or, codes}
 use Rattle.std.specs.Option.{option_map, option_map_or, option_and_then}
 use Rattle.std.specs.List.{filter_map, flat_map, find, position_from}
+use Rattle.std.specs.Str.{bytes_eq}
 use Rattle.llvm_core.specs.Data as L
 use Rattle.llvm_core.specs.declared.numbers.LLVMInstRef.{LLVMInstRef}
 use Rattle.llvm_core.specs.declared.code.LLVMValue.{LLVMValue}
 use Rattle.llvm_core.specs.declared.code.LLVMValue.TheVariants as V
 use Rattle.llvm_core.specs.Data.{ConstTree, IntConst, PlaceholderConst, Placed, targets, phi_entries, placed_in}
 use Rattle.llvm_core.specs.Form.{is_phi}
-use Rattle.dialect_types.specs.Names.{legal_name}
+use Rattle.dialect_types.specs.Legalised.{Named, Gave, IsLegalised}
 use Rattle.dialect_types.specs.Trees.{IntegerAttr, IntType}
 use Rattle.dialect_types.specs.declared.types.TypeHandle.{TypeHandle}
 use Rattle.dialect_core.specs.declared.numbers.OpRef.{OpRef}
@@ -73,13 +74,21 @@ Makes (PlaceholderConst n type) o = ⊥
 
 -- ---- functions
 
--- the name of an instruction's result or of a block, none where it is empty
-abbrev pub given_name : List ℕ → Option (List ℕ)
-given_name [] = None
-given_name (b ∷ bs) = Some (b ∷ bs)
+-- Names go by the list of those that an import met, each with its identifier. What is said of a name once is said of
+-- every list that goes on from the one that there was, and so of that of the whole import.
 
-pub record HasGivenName (p : Placed) (o : DialectOp) : Type 0 where
-  pub name : o.name ≡ given_name p.name
+-- the identifier of an instruction's result or of a block: that which its name was given, none where it has no name
+abbrev pub IsGivenName : List Named → (name : List ℕ) → Option (List ℕ) → Type 0
+IsGivenName given [] i = i ≡ None
+IsGivenName given (b ∷ bs) None = ⊥
+IsGivenName given (b ∷ bs) (Some i) = Gave given (b ∷ bs) i
+
+pub record HasGivenName (given : List Named) (p : Placed) (o : DialectOp) : Type 0 where
+  pub name : IsGivenName given p.name o.name
+
+-- the LLVM name that is kept beside an identifier: none where they are the same
+abbrev pub kept_name : (name identifier : List ℕ) → Option (List ℕ)
+kept_name n i = if bytes_eq n i then None else Some n
 
 -- the instructions of a block but its phis, and its phis
 abbrev pub rest_of : L.Block → List Placed
@@ -88,10 +97,10 @@ rest_of b = filter (λ (p : Placed). not (is_phi p)) b.instructions
 abbrev pub phis_of : L.Block → List Placed
 phis_of b = filter is_phi b.instructions
 
--- the label: of the entry `entry`, of another block its name
-abbrev pub label_for : (place : ℕ) → L.Block → Option (List ℕ)
-label_for zero b = Some (codes "entry")
-label_for (suc n) b = given_name b.name
+-- the label: of the entry `entry`, of another block the identifier of its name
+abbrev pub IsLabel : List Named → (place : ℕ) → L.Block → Option (List ℕ) → Type 0
+IsLabel given zero b label = label ≡ Some (codes "entry")
+IsLabel given (suc n) b label = IsGivenName given b.name label
 
 -- the types of the arguments behind the entry: those of the phis in order
 abbrev pub HasArguments : (place : ℕ) → L.Block → DialectBlock → Type 0
@@ -104,13 +113,13 @@ front_for zero hoisted = hoisted
 front_for (suc n) hoisted = []
 
 -- the block of the dialect at a place of the source: an operation for each instruction that is no phi, in order,
--- with its given name, behind the constants in the entry
-pub record IsImportedBlock (hoisted : List DialectOp) (place : ℕ) (b : L.Block) (c : DialectBlock) : Type 0 where
-  pub label : c.label ≡ label_for place b
+-- with the identifier of its name, behind the constants in the entry
+pub record IsImportedBlock (given : List Named) (hoisted : List DialectOp) (place : ℕ) (b : L.Block) (c : DialectBlock) : Type 0 where
+  pub label : IsLabel given place b c.label
   pub args : HasArguments place b c
   pub rest : List DialectOp
   pub ops : c.ops ≡ front_for place hoisted ++ rest
-  pub names : Matched HasGivenName (rest_of b) rest
+  pub names : Matched (HasGivenName given) (rest_of b) rest
 
 -- n, n + 1, .. , as many as the list has items
 abbrev pub counting : {A : Type 0} → ℕ → List A → List ℕ
@@ -128,13 +137,15 @@ constants_used d f places = flat_map (λ (b : L.Block). flat_map (constants_in d
 -- The function g stands for the function f of the module d: its blocks in the depth-first order of their graph, where
 -- each definition dominates its uses; the constants that it uses once each in order of first use, block by block an
 -- operation for each instruction, and under every match that puts its blocks at these places the same shape, whatever the
--- module of the one and that of the other tell their bodies.
-pub record ImportedFunction (d : L.ModuleData) (f : L.Function) (x : FunctionBlocks) (g : Func) : Type 0 where
+-- module of the one and that of the other tell their bodies. Names are those that the list gives; the function keeps that
+-- of LLVM where its own is another.
+pub record ImportedFunction (d : L.ModuleData) (given : List Named) (f : L.Function) (x : FunctionBlocks) (g : Func) : Type 0 where
   pub function : x.function.0 ≡ f.number
   pub places : IsPlaces (length f.blocks) x.places
   pub order : (o : List ℕ) × IsDepthFirst (graph_of f) o × IsInverse o x.places
   pub uses : HasDominatedUses f
-  pub name : g.name ≡ f.name
+  pub name : Gave given f.name g.name
+  pub llvm_name : g.llvm_name ≡ kept_name f.name g.name
   pub type : g.type ≡ f.type
   pub form : IsFormFunc g
   pub first : HasConstantsInEntry g
@@ -144,7 +155,7 @@ pub record ImportedFunction (d : L.ModuleData) (f : L.Function) (x : FunctionBlo
   pub first_uses : FirstUses (constants_used d f x.places) constants
   pub hoisted : List DialectOp
   pub made : Matched Makes constants hoisted
-  pub blocks : (i : ℕ) → BothOrNone (IsImportedBlock hoisted i) (slice_get f.blocks i) (slice_get g.blocks (place_at i x))
+  pub blocks : (i : ℕ) → BothOrNone (IsImportedBlock given hoisted i) (slice_get f.blocks i) (slice_get g.blocks (place_at i x))
   pub shape : (match : Match) (source made : Setting) → ((b : ℕ) → match.block f.name b ≡ place_at b x) → SameShape match source f made g
 
 -- ---- modules
@@ -191,18 +202,30 @@ abbrev pub imported_data : ContextData → Imported → DialectModule
 imported_data c i = data_of c i.module.0.0
 
 -- a function of the dialect for each of the source, in order, with its entry of the match
-pub data AreImported (d : L.ModuleData) : List L.Function → List FunctionBlocks → List Func → Type 0 where
-  NoneImported : AreImported d [] [] []
+pub data AreImported (d : L.ModuleData) (given : List Named) : List L.Function → List FunctionBlocks → List Func → Type 0 where
+  NoneImported : AreImported d given [] [] []
   ThenImported : (f : L.Function) (x : FunctionBlocks) (g : Func) (fs : List L.Function) (xs : List FunctionBlocks) (gs : List Func)
-      → ImportedFunction d f x g → AreImported d fs xs gs → AreImported d (f ∷ fs) (x ∷ xs) (g ∷ gs)
+      → ImportedFunction d given f x g → AreImported d given fs xs gs → AreImported d given (f ∷ fs) (x ∷ xs) (g ∷ gs)
+
+-- the names met are that of the module and then those of its functions in order, each where it stands first, and behind
+-- them all others
+pub record BeginsWith (d : L.ModuleData) (given : List Named) : Type 0 where
+  pub firsts : List (List ℕ)
+  pub first_uses : FirstUses (d.name ∷ map (λ (f : L.Function). f.name) d.functions) firsts
+  pub others : List (List ℕ)
+  pub are : map (λ (g : Named). g.name) given ≡ firsts ++ others
 
 -- The context c holds the dialect module, which has the functions of the source in order, and the match covers the source.
--- Where no two functions of the source have one name, it keeps every rule of the dialect.
+-- Its names are those that one list of names gives. Where no two functions of the source have one name, it keeps every rule
+-- of the dialect.
 pub record IsImported (d : L.ModuleData) (c : ContextData) (i : Imported) : Type 0 where
+  pub given : List Named
+  pub legalised : IsLegalised given
+  pub begins : BeginsWith d given
   pub body : BlockRef
   pub building : IsBuilding c i.module.0.0 body (imported_data c i)
-  pub name : (imported_data c i).name ≡ legal_name d.name
-  pub functions : AreImported d d.functions i.blocks (imported_data c i).functions
+  pub name : Gave given d.name (imported_data c i).name
+  pub functions : AreImported d given d.functions i.blocks (imported_data c i).functions
   pub well_formed : IsDistinctNames (map (λ (f : L.Function). f.name) d.functions) → IsWellFormed c i.module.0.0
 
 -- ---- uses before a definition, of which inner contracts speak

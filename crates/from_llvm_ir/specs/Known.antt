@@ -8,6 +8,7 @@ use Rattle.llvm_core.specs.Data as L
 use Rattle.llvm_core.specs.Data.{ConstTree, IntConst, PlaceholderConst, Placed, trees_of, operand_of}
 use Rattle.llvm_core.specs.Form.{IsShortConst}
 use Rattle.dialect_types.specs.Trees.{IntegerAttr, IntType}
+use Rattle.dialect_types.specs.Legalised.{Named}
 use Rattle.dialect_core.specs.declared.ops.Value.{Value}
 use Rattle.dialect_core.specs.declared.ops.Value.TheVariants as V
 use Rattle.dialect_core.specs.Data.{DialectOp, ConstantOp}
@@ -18,9 +19,10 @@ use Rattle.from_llvm_ir.specs.Imported.{FirstUses}
 use Rattle.from_llvm_ir.specs.Order.{ordered}
 use Rattle.from_llvm_ir.specs.Building.{Home, new_op}
 
--- what stays while a function is imported: where it goes, the source, the order of its blocks, and the number of
--- the first block
+-- what stays while a function is imported: the names of the whole import, where it goes, the source, the order of its
+-- blocks, and the number of the first block
 pub record Frame : Type 0 where
+  pub given : List Named
   pub home : Home
   pub source : L.Function
   pub order : List ℕ

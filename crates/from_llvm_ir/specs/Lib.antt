@@ -14,6 +14,7 @@ pub mod Known
 pub mod Converted
 pub mod Body
 pub mod Importing
+pub mod Naming
 pub mod Walks
 pub mod Refusals
 pub mod Graph

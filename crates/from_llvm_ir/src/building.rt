@@ -7,9 +7,9 @@ ghost use Rattle.dialect_core.specs.declared.ops.OpKind.TheVariants as kinds;
 ghost use Rattle.dialect_core.specs.ContextData.{HoldsMore, kind_at, is_plain, with_op, with_block, IsValueWithin, IsSuccessorWithin};
 ghost use Rattle.dialect_core.specs.Data.{DialectBlock, DialectModule, DialectOp, Kind, IsTyped, HasKindTypesBelow, kind_of, data_of, with_func, with_func_block};
 ghost use Rattle.dialect_core.specs.Lists.{list_at};
-ghost use Rattle.from_llvm_ir.specs.Imported.{IsBuilding};
+ghost use Rattle.from_llvm_ir.specs.Imported.{IsBuilding, kept_name};
 ghost use Rattle.from_llvm_ir.specs.Keeping.{Keeps};
-ghost use Rattle.from_llvm_ir.specs.Building.{Home, IsOpen, bare_func, op_data, new_op, with_ops};
+ghost use Rattle.from_llvm_ir.specs.Building.{Home, IsOpen, bare_func, func_data, op_data, new_op, with_ops};
 
 use dialect_core::context::Context;
 use dialect_core::linkage::LinkageAttr;
@@ -23,17 +23,41 @@ use std::sync::ledger::Ledger;
 use support::items::Items;
 use support::short_list::ShortList;
 
+/// A new function without blocks, in no block, which keeps its LLVM name where its own is another.
+fn create_func(
+    ctx: &mut Context,
+    name: Identifier,
+    llvm_name: &str,
+    ty: TypeHandle,
+) -> Result<FuncOp, AllocError>
+    requires { ty.0 < length ctx.old.types }
+    ensures ok { OnOk result (ctx.new ≡ with_op ctx.old (func_data name (kept_name llvm_name.now name) ty)) }
+    ensures number { IfOk result (λ f. f.0.0 ≡ length ctx.old.ops) }
+    ensures free { IfOk result (λ f. slice_get ctx.new.parents f.0.0 ≡ Some None) }
+    ensures data { OnOk result ((m : ℕ) → m < length ctx.old.ops → data_of ctx.new m ≡ data_of ctx.old m) }
+    ensures typed { OnOk result (IsTyped ctx.old → IsTyped ctx.new) }
+    ensures kept { (n b : ℕ) → n ≤ length ctx.old.ops → Keeps n b ctx.old ctx.new }
+{
+    let same = name.as_str() == llvm_name;
+    let func = ctx.create_func(name, ty, LinkageAttr::ExternalLinkage)?;
+    if !same {
+        ctx.set_llvm_symbol_name(func.0, llvm_name)?;
+    }
+    Ok(func)
+}
+
 /// A new function without blocks, as the last of the module whose block `body` is.
 pub fn add_func<L: Ledger>(
     ctx: &mut Context,
     body: BlockRef,
     name: Identifier,
+    llvm_name: &str,
     ty: TypeHandle,
     steps: &mut Steps<L>,
 ) -> Result<FuncOp, AllocError>
     requires ty { ty.0 < length ctx.old.types }
     requires module { (m : ℕ) × (d : DialectModule) × IsBuilding ctx.old m body d }
-    ensures building { IfOk result (λ f. (m : ℕ) → (d : DialectModule) → IsBuilding ctx.old m body d → IsBuilding ctx.new m body (with_func d (bare_func f.0.0 name (type_at (type_trees ctx.old.types) ty)))) }
+    ensures building { IfOk result (λ f. (m : ℕ) → (d : DialectModule) → IsBuilding ctx.old m body d → IsBuilding ctx.new m body (with_func d (bare_func f.0.0 name (kept_name llvm_name.now name) (type_at (type_trees ctx.old.types) ty)))) }
     ensures func { IfOk result (λ f. kind_at ctx.new.ops f.0 ≡ Some kinds.Func) }
     ensures number { IfOk result (λ f. f.0.0 ≡ length ctx.old.ops) }
     ensures blocks { OnOk result (ctx.new.blocks ≡ ctx.old.blocks) }
@@ -41,7 +65,7 @@ pub fn add_func<L: Ledger>(
     ensures kept { (m : ℕ) → (d : DialectModule) → IsBuilding ctx.old m body d → (n b : ℕ) → n ≤ m → b ≤ body.0 → Keeps n b ctx.old ctx.new }
 {
     ctx.keeps_regions();
-    let func = ctx.create_func(name, ty, LinkageAttr::ExternalLinkage)?;
+    let func = create_func(ctx, name, llvm_name, ty)?;
     ctx.insert_at_back(func.0, body, steps);
     Ok(func)
 }

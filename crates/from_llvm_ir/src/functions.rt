@@ -45,11 +45,10 @@ use std::alloc::{AllocError, Global};
 use std::sync::ledger::Ledger;
 use support::number_map::NumberMap;
 
-/// The first block: its label, and an argument for each parameter.
+/// The first block: its label, which is no name that is met, and an argument for each parameter.
 fn add_entry(
     alloc: Global,
     ctx: &mut Context,
-    names: &mut Legaliser,
     source: &LLVMModule,
     f: LLVMFunction,
     func: FuncOp,
@@ -59,7 +58,7 @@ fn add_entry(
     ensures number { IfOk result (λ b. (fr : Frame) → HasHeads fr func ctx.old 0 → b.0 ≡ fr.base) }
     ensures kept { (n b : ℕ) → n ≤ func.0.0 → Keeps n b ctx.old ctx.new }
 {
-    let label = names.legalise("entry")?;
+    let label = Identifier::copy(alloc, "entry")?;
     let args = import_params(alloc, ctx, source, f)?;
     add_func_block(ctx, func, Some(label), args.as_slice())
 }
@@ -73,9 +72,10 @@ fn add_later_block(
     func: FuncOp,
     from: LLVMBasicBlock,
 ) -> Result<BlockRef, AllocError>
-    requires { (fr : Frame) × (f : LLVMFunction) × (j : ℕ) × (place : ℕ) × (b : Block) × IsFramed source.now f fr × IsBlockOf source.now fr.source from place b × (slice_get (blocks_of fr) (j + 1) ≡ Some b) × HasHeads fr func ctx.old (j + 1) }
-    ensures heads { OnOk result ((fr : Frame) → (f : LLVMFunction) → (j place : ℕ) → (b : Block) → IsFramed source.now f fr → IsBlockOf source.now fr.source from place b → slice_get (blocks_of fr) (j + 1) ≡ Some b → HasHeads fr func ctx.old (j + 1)
+    requires { ForLater names.old (λ given. (fr : Frame) × (f : LLVMFunction) × (j : ℕ) × (place : ℕ) × (b : Block) × IsFramed source.now f fr × IsBlockOf source.now fr.source from place b × (slice_get (blocks_of fr) (j + 1) ≡ Some b) × HasHeads fr func ctx.old (j + 1) × (fr.given ≡ given)) }
+    ensures heads { OnOk result ((fr : Frame) → (f : LLVMFunction) → (j place : ℕ) → (b : Block) → IsFramed source.now f fr → IsBlockOf source.now fr.source from place b → slice_get (blocks_of fr) (j + 1) ≡ Some b → HasHeads fr func ctx.old (j + 1) → GoesOn names.new fr.given
         → HasHeads fr func ctx.new (j + 2)) }
+    ensures grows { GoesOn names.old names.new }
     ensures number { IfOk result (λ n. (fr : Frame) → (j : ℕ) → HasHeads fr func ctx.old j → n.0 ≡ fr.base + j) }
     ensures kept { (n b : ℕ) → n ≤ func.0.0 → Keeps n b ctx.old ctx.new }
 {
@@ -94,13 +94,14 @@ fn add_blocks(
     func: FuncOp,
     order: &[u32],
 ) -> Result<Targets, AllocError>
-    requires { (fr : Frame) × IsFramed source.now f fr × (fr.order ≡ order.now) × HasHeads fr func ctx.old 0 }
-    ensures targets { IfOk result (λ t. (fr : Frame) → IsFramed source.now f fr → fr.order ≡ order.now → HasHeads fr func ctx.old 0 → AreTargets fr t) }
-    ensures heads { OnOk result ((fr : Frame) → IsFramed source.now f fr → fr.order ≡ order.now → HasHeads fr func ctx.old 0 → HasHeads fr func ctx.new (length order.now)) }
+    requires { ForLater names.old (λ given. (fr : Frame) × IsFramed source.now f fr × (fr.order ≡ order.now) × HasHeads fr func ctx.old 0 × (fr.given ≡ given)) }
+    ensures targets { IfOk result (λ t. (fr : Frame) → IsFramed source.now f fr → fr.order ≡ order.now → HasHeads fr func ctx.old 0 → GoesOn names.new fr.given → AreTargets fr t) }
+    ensures heads { OnOk result ((fr : Frame) → IsFramed source.now f fr → fr.order ≡ order.now → HasHeads fr func ctx.old 0 → GoesOn names.new fr.given → HasHeads fr func ctx.new (length order.now)) }
+    ensures grows { GoesOn names.old names.new }
     ensures kept { (n b : ℕ) → n ≤ func.0.0 → Keeps n b ctx.old ctx.new }
 {
     let blocks = source.blocks(f);
-    let first = add_entry(alloc, ctx, names, source, f, func)?;
+    let first = add_entry(alloc, ctx, source, f, func)?;
     let mut targets = NumberMap::new(alloc);
     targets.set(blocks[0].0, first)?;
     for j in 1..order.len() {
@@ -160,9 +161,10 @@ fn import_body<L: Ledger>(
     order: &[u32],
     steps: &mut Steps<L>,
 ) -> Result<(), ConversionErr>
-    requires { (fr : Frame) × IsFramed source.now f fr × (fr.order ≡ order.now) × HasHeads fr func ctx.old 0 }
-    ensures ok { OnOk result ((fr : Frame) → IsFramed source.now f fr → fr.order ≡ order.now → HasHeads fr func ctx.old 0
+    requires { ForLater names.old (λ given. (fr : Frame) × IsFramed source.now f fr × (fr.order ≡ order.now) × HasHeads fr func ctx.old 0 × (fr.given ≡ given)) }
+    ensures ok { OnOk result ((fr : Frame) → IsFramed source.now f fr → fr.order ≡ order.now → HasHeads fr func ctx.old 0 → GoesOn names.new fr.given
         → (values : Values) × IsFilled fr source.now ctx.new values (length order.now)) }
+    ensures grows { GoesOn names.old names.new }
     ensures err { IfErr result (λ e. (fr : Frame) → IsFramed source.now f fr → fr.order ≡ order.now → HasHeads fr func ctx.old 0
         → (places : List ℕ) → IsInverse fr.order places → IsLate fr.source places e) }
     ensures kept { (n b : ℕ) → n ≤ func.0.0 → b ≤ length ctx.old.blocks → Keeps n b ctx.old ctx.new }
@@ -208,9 +210,8 @@ fn declare<L: Ledger>(
     steps: &mut Steps<L>,
 ) -> Result<FuncOp, AllocError>
     requires source { (g : Function) × IsSource source.now f g }
-    requires name { (g : Function) → IsSource source.now f g → name.now ≡ g.name }
     requires module { (m : ℕ) × (d : DialectModule) × IsBuilding ctx.old m body d }
-    ensures declared { IfOk result (λ n. (g : Function) → IsSource source.now f g → (m : ℕ) → (d : DialectModule) → IsBuilding ctx.old m body d → IsDeclared g ctx.new m body d n.0.0) }
+    ensures declared { IfOk result (λ n. (g : Function) → IsSource source.now f g → (m : ℕ) → (d : DialectModule) → IsBuilding ctx.old m body d → IsDeclared g name.now ctx.new m body d n.0.0) }
     ensures func { IfOk result (λ n. kind_at ctx.new.ops n.0 ≡ Some kinds.Func) }
     ensures number { IfOk result (λ n. n.0.0 ≡ length ctx.old.ops) }
     ensures blocks { OnOk result (ctx.new.blocks ≡ ctx.old.blocks) }
@@ -218,7 +219,7 @@ fn declare<L: Ledger>(
 {
     let ty = import_function_type(alloc, ctx, source, f)?;
     let name = name.clone(alloc)?;
-    add_func(ctx, body, name, ty, steps)
+    add_func(ctx, body, name, source.function_name(f), ty, steps)
 }
 
 /// The graph of a function, made ready for questions about dominance: by a tree where they are many.
@@ -296,10 +297,11 @@ pub fn import_function<L: Ledger>(
     steps: &mut Steps<L>,
 ) -> Result<FunctionBlocks, ConversionErr>
     requires source { (g : Function) × IsSource source.now f g }
-    requires name { (g : Function) → IsSource source.now f g → name.now ≡ g.name }
+    requires name { (g : Function) → IsSource source.now f g → Gave names.old g.name name.now }
     requires module { (m : ℕ) × (d : DialectModule) × IsBuilding ctx.old m body d }
     ensures ok { IfOk result (λ x. (g : Function) → IsSource source.now f g → (m : ℕ) → (d : DialectModule) → IsBuilding ctx.old m body d
-        → (y : Func) × ImportedFunction (data_of source.now) g x y × IsBuilding ctx.new m body (with_func d y)) }
+        → ForLater names.new (λ given. (y : Func) × ImportedFunction (data_of source.now) given g x y × IsBuilding ctx.new m body (with_func d y))) }
+    ensures grows { GoesOn names.old names.new }
     ensures err { IfErr result (λ e. (g : Function) → IsSource source.now f g → IsRefusalOfFunction g e) }
     ensures kept { (m : ℕ) → (d : DialectModule) → IsBuilding ctx.old m body d → (n b : ℕ) → n ≤ m → b ≤ body.0 → Keeps n b ctx.old ctx.new }
 {

@@ -2,12 +2,11 @@
 
 ghost use Rattle.std.specs.Prelude.{◌≡◌, ◌<◌, ◌≤◌, List, [], ℕ, IfErr, IfOk, Some, length, map};
 ghost use Rattle.llvm_core.specs.Data.{data_of};
-ghost use Rattle.llvm_core.specs.Names.{IsPlainOrNone};
 ghost use Rattle.llvm_core.specs.Form.{IsForm};
 ghost use Rattle.meaning.specs.Code.{SameCode, IsDistinctNames};
 ghost use Rattle.meaning.specs.Llvm as llvm;
 ghost use Rattle.meaning.specs.Dialect as dialect;
-ghost use Rattle.dialect_types.specs.Names.{legal_name};
+ghost use Rattle.dialect_types.specs.Legalised.{Gave, GoesOn};
 ghost use Rattle.dialect_core.specs.declared.numbers.OpRef.{OpRef};
 ghost use Rattle.dialect_core.specs.declared.ops.OpKind.TheVariants as kinds;
 ghost use Rattle.dialect_core.specs.ContextData.{AreRegions, IsSymbol, holder_at, kind_at, region_at};
@@ -51,8 +50,9 @@ fn function_names(
     names: &mut Legaliser,
     source: &LLVMModule,
 ) -> Result<Vec<Identifier>, AllocError>
-    requires { IsForm (data_of source.now) }
-    ensures { IfOk result (λ ns. ns.items ≡ map (λ g. g.name) (data_of source.now).functions) }
+    ensures given { IfOk result (λ ns. Matched (λ g n. Gave names.new g.name n) (data_of source.now).functions ns.items) }
+    ensures met { OnOk result (HasMet names.old names.new (map (λ g. g.name) (data_of source.now).functions)) }
+    ensures grows { GoesOn names.old names.new }
 {
     let mut all = Vec::new(alloc);
     for f in 0..source.functions() {
@@ -73,7 +73,9 @@ fn import_functions<L: Ledger>(
     requires form { IsForm (data_of source.now) }
     requires building { (m : ℕ) × (name : List ℕ) × IsBuilding ctx.old m body (module_named name) }
     ensures err { IfErr result (λ e. IsCause (data_of source.now) e) }
-    ensures ok { IfOk result (λ bs. (m : ℕ) → (name : List ℕ) → IsBuilding ctx.old m body (module_named name) → IsImportedTo (data_of source.now) (length source.now.functions) ctx.new m body name bs) }
+    ensures ok { IfOk result (λ bs. (m : ℕ) → (name : List ℕ) → IsBuilding ctx.old m body (module_named name) → ForLater names.new (λ given. IsImportedTo (data_of source.now) given (length source.now.functions) ctx.new m body name bs)) }
+    ensures met { OnOk result (HasMetFirst names.old names.new (map (λ g. g.name) (data_of source.now).functions)) }
+    ensures grows { GoesOn names.old names.new }
     ensures kept { (m : ℕ) → (name : List ℕ) → IsBuilding ctx.old m body (module_named name) → (n b : ℕ) → n ≤ m → b ≤ body.0 → Keeps n b ctx.old ctx.new }
 {
     let given = function_names(alloc, names, source)?;
@@ -92,8 +94,9 @@ fn start_module(
     names: &mut Legaliser,
     source: &LLVMModule,
 ) -> Result<(ModuleOp, BlockRef), AllocError>
-    requires name { IsPlainOrNone source.now.name }
-    ensures building { IfOk result (λ s. IsBuilding ctx.new s.0.0.0 s.1 (module_named (legal_name source.now.name))) }
+    ensures building { IfOk result (λ s. (name : List ℕ) × Gave names.new source.now.name name × IsBuilding ctx.new s.0.0.0 s.1 (module_named name)) }
+    ensures met { OnOk result (HasMet names.old names.new (source.now.name ∷ [])) }
+    ensures grows { GoesOn names.old names.new }
     ensures number { IfOk result (λ s. s.0.0.0 ≡ length ctx.old.ops) }
     ensures block { IfOk result (λ s. s.1.0 ≡ length ctx.old.blocks) }
     ensures kept { (n b : ℕ) → n ≤ length ctx.old.ops → Keeps n b ctx.old ctx.new }
@@ -126,8 +129,8 @@ fn import_counted<L: Ledger>(
     requires blank_name { blank.name ≡ L.name }
     requires parts { blank.parts ≡ L.parts }
     requires some { 0 < L.parts }
+    requires names { names.old ≡ [] }
     requires form { IsForm (data_of source.now) }
-    requires name { IsPlainOrNone source.now.name }
     ensures imported { IfOk result (λ i. IsImported (data_of source.now) ctx.new i) }
     ensures number { IfOk result (λ i. i.«module».0.0 ≡ length ctx.old.ops) }
     ensures structs { IfOk result (λ i. i.structs.items ≡ []) }
@@ -139,6 +142,7 @@ fn import_counted<L: Ledger>(
     let (module, body) = start_module(ctx, names, source)?;
     let blocks = import_functions(alloc, ctx, names, source, body, &mut steps)?;
     know_kept(ctx, module);
+    names.keeps_legal();
     // Each list of a dialect module has fewer than 2^31 entries: a longer one is want of memory.
     if !has_few(ctx, body) {
         return Err(ConversionErr::NoMemory);
@@ -176,7 +180,6 @@ pub fn convert_module(
     module: &LLVMModule,
 ) -> Result<Imported, ConversionErr>
     requires form { IsForm (data_of «module».now) }
-    requires name { IsPlainOrNone «module».now.name }
     ensures imported { IfOk result (λ i. IsImported (data_of «module».now) ctx.new i) }
     ensures same { IsDistinctNames (map (λ g. g.name) (data_of «module».now).functions) → IfOk result (λ i. SameCode (match_of (data_of «module».now) i.blocks) (llvm.code_of (data_of «module».now)) (dialect.code_of (imported_data ctx.new i))) }
     ensures number { IfOk result (λ i. i.«module».0.0 ≡ length ctx.old.ops) }

@@ -37,8 +37,8 @@ use support::items::Items;
 
 /// The identifier of a name, none where the name is empty.
 pub fn given(names: &mut Legaliser, name: &str) -> Result<Option<Identifier>, AllocError>
-    requires { IsPlainOrNone name.now }
-    ensures { IfOk result (λ n. n ≡ given_name name.now) }
+    ensures given { IfOk result (IsGivenName names.new name.now) }
+    ensures grows { GoesOn names.old names.new }
 {
     if name.is_empty() {
         return Ok(None);
@@ -73,9 +73,10 @@ fn import_op<L: Ledger>(
     i: LLVMInstRef,
     steps: &mut Steps<L>,
 ) -> Result<(), ConversionErr>
-    requires { (fr : Frame) × (f : LLVMFunction) × (j : ℕ) × (x : ℕ) × (b : Block) × (p : Placed) × IsAt fr source.now f targets.now entries.now ctx.old values.old from block i j x b p × (is_phi p ≡ false) }
-    ensures ok { OnOk result ((fr : Frame) → (f : LLVMFunction) → (j x : ℕ) → (b : Block) → (p : Placed) → IsAt fr source.now f targets.now entries.now ctx.old values.old from block i j x b p → is_phi p ≡ false
+    requires { ForLater names.old (λ given. (fr : Frame) × (f : LLVMFunction) × (j : ℕ) × (x : ℕ) × (b : Block) × (p : Placed) × IsAt fr source.now f targets.now entries.now ctx.old values.old from block i j x b p × (is_phi p ≡ false) × (fr.given ≡ given)) }
+    ensures ok { OnOk result ((fr : Frame) → (f : LLVMFunction) → (j x : ℕ) → (b : Block) → (p : Placed) → IsAt fr source.now f targets.now entries.now ctx.old values.old from block i j x b p → is_phi p ≡ false → GoesOn names.new fr.given
         → IsBody fr source.now ctx.new values.new j (x + 1) b) }
+    ensures grows { GoesOn names.old names.new }
     ensures err { IfErr result (λ e. (fr : Frame) → (f : LLVMFunction) → (j x : ℕ) → (b : Block) → (p : Placed) → IsAt fr source.now f targets.now entries.now ctx.old values.old from block i j x b p → is_phi p ≡ false
         → (places : List ℕ) → IsInverse fr.order places → IsLate fr.source places e) }
     ensures kept { (n b : ℕ) → b ≤ block.0 → Keeps n b ctx.old ctx.new }
@@ -115,9 +116,10 @@ fn import_inst<L: Ledger>(
     place: usize,
     steps: &mut Steps<L>,
 ) -> Result<(), ConversionErr>
-    requires { (fr : Frame) × (f : LLVMFunction) × (j : ℕ) × (b : Block) × (p : Placed) × IsAt fr source.now f targets.now entries.now ctx.old values.old from block i j place b p }
-    ensures ok { OnOk result ((fr : Frame) → (f : LLVMFunction) → (j : ℕ) → (b : Block) → (p : Placed) → IsAt fr source.now f targets.now entries.now ctx.old values.old from block i j place b p
+    requires { ForLater names.old (λ given. (fr : Frame) × (f : LLVMFunction) × (j : ℕ) × (b : Block) × (p : Placed) × IsAt fr source.now f targets.now entries.now ctx.old values.old from block i j place b p × (fr.given ≡ given)) }
+    ensures ok { OnOk result ((fr : Frame) → (f : LLVMFunction) → (j : ℕ) → (b : Block) → (p : Placed) → IsAt fr source.now f targets.now entries.now ctx.old values.old from block i j place b p → GoesOn names.new fr.given
         → IsBody fr source.now ctx.new values.new j (place + 1) b) }
+    ensures grows { GoesOn names.old names.new }
     ensures err { IfErr result (λ e. (fr : Frame) → (f : LLVMFunction) → (j : ℕ) → (b : Block) → (p : Placed) → IsAt fr source.now f targets.now entries.now ctx.old values.old from block i j place b p
         → (places : List ℕ) → IsInverse fr.order places → IsLate fr.source places e) }
     ensures kept { (n b : ℕ) → b ≤ block.0 → Keeps n b ctx.old ctx.new }
@@ -144,9 +146,10 @@ pub fn import_insts<L: Ledger>(
     block: BlockRef,
     steps: &mut Steps<L>,
 ) -> Result<(), ConversionErr>
-    requires { (fr : Frame) × (f : LLVMFunction) × (j : ℕ) × (b : Block) × IsBegun fr source.now f targets.now entries.now ctx.old values.old from block j b }
-    ensures ok { OnOk result ((fr : Frame) → (f : LLVMFunction) → (j : ℕ) → (b : Block) → IsBegun fr source.now f targets.now entries.now ctx.old values.old from block j b
+    requires { ForLater names.old (λ given. (fr : Frame) × (f : LLVMFunction) × (j : ℕ) × (b : Block) × IsBegun fr source.now f targets.now entries.now ctx.old values.old from block j b × (fr.given ≡ given)) }
+    ensures ok { OnOk result ((fr : Frame) → (f : LLVMFunction) → (j : ℕ) → (b : Block) → IsBegun fr source.now f targets.now entries.now ctx.old values.old from block j b → GoesOn names.new fr.given
         → IsFilled fr source.now ctx.new values.new (j + 1)) }
+    ensures grows { GoesOn names.old names.new }
     ensures err { IfErr result (λ e. (fr : Frame) → (f : LLVMFunction) → (j : ℕ) → (b : Block) → IsBegun fr source.now f targets.now entries.now ctx.old values.old from block j b
         → (places : List ℕ) → IsInverse fr.order places → IsLate fr.source places e) }
     ensures kept { (n b : ℕ) → b ≤ block.0 → Keeps n b ctx.old ctx.new }
@@ -184,9 +187,10 @@ pub fn import_blocks<L: Ledger>(
     order: &[u32],
     steps: &mut Steps<L>,
 ) -> Result<(), ConversionErr>
-    requires { (fr : Frame) × IsFramed source.now f fr × (fr.order ≡ order.now) × AreTargets fr targets.now × AreEntries source.now fr.source entries.now × IsFilled fr source.now ctx.old values.old 0 }
-    ensures ok { OnOk result ((fr : Frame) → IsFramed source.now f fr → fr.order ≡ order.now → AreTargets fr targets.now → AreEntries source.now fr.source entries.now → IsFilled fr source.now ctx.old values.old 0
+    requires { ForLater names.old (λ given. (fr : Frame) × IsFramed source.now f fr × (fr.order ≡ order.now) × AreTargets fr targets.now × AreEntries source.now fr.source entries.now × IsFilled fr source.now ctx.old values.old 0 × (fr.given ≡ given)) }
+    ensures ok { OnOk result ((fr : Frame) → IsFramed source.now f fr → fr.order ≡ order.now → AreTargets fr targets.now → AreEntries source.now fr.source entries.now → IsFilled fr source.now ctx.old values.old 0 → GoesOn names.new fr.given
         → IsFilled fr source.now ctx.new values.new (length order.now)) }
+    ensures grows { GoesOn names.old names.new }
     ensures err { IfErr result (λ e. (fr : Frame) → IsFramed source.now f fr → fr.order ≡ order.now → AreTargets fr targets.now → AreEntries source.now fr.source entries.now → IsFilled fr source.now ctx.old values.old 0
         → (places : List ℕ) → IsInverse fr.order places → IsLate fr.source places e) }
     ensures kept { (fr : Frame) → IsFramed source.now f fr → fr.order ≡ order.now → AreTargets fr targets.now → (n b : ℕ) → b ≤ fr.base → Keeps n b ctx.old ctx.new }

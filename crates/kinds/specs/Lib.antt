@@ -5,3 +5,4 @@ pub mod Table
 pub mod Fitting
 pub mod Typing
 pub mod Held
+pub mod Names

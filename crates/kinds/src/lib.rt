@@ -3,6 +3,7 @@
 #![tactic(auto)]
 
 pub mod fitting;
+pub mod names;
 pub mod op;
 pub mod rules;
 pub mod types;

@@ -1,6 +1,6 @@
 -- The rules that a checked module meets.
 use Rattle.std.specs.Prelude.{◌≡◌, ◌≢◌, ◌<◌, ◌≤◌, ◌⊎◌, ◌^◌, ◌-◌, ℕ, Bool, true, false, not, ◌&&◌, ◌||◌, nat_eq, List, [], ◌∷◌, ◌++◌, length, map, take, slice_get, Option, Some, None}
-use Rattle.std.specs.List.{list_any, flat_map, starts_with}
+use Rattle.std.specs.List.{list_any, flat_map}
 use Rattle.std.specs.Option.{option_map_or}
 use Rattle.llvm_core.specs.declared.numbers.LLVMType.{LLVMType}
 use Rattle.llvm_core.specs.declared.numbers.LLVMFunction.{LLVMFunction}
@@ -20,6 +20,7 @@ use Rattle.kinds.specs.declared.rules.Takes.{Takes}
 use Rattle.kinds.specs.declared.rules.Takes.TheVariants as O
 use Rattle.kinds.specs.Rules.{ends, target_count, operand_count}
 use Rattle.kinds.specs.Table.{rule_of}
+pub use Rattle.kinds.specs.Names.{is_bad_name, is_intrinsic_name}
 use Rattle.llvm_core.specs.declared.code.FunctionData.{FunctionData}
 use Rattle.llvm_core.specs.declared.code.BlockData.{BlockData}
 use Rattle.llvm_core.specs.declared.code.InstData.{InstData}
@@ -49,10 +50,6 @@ block_names m b = option_map_or (λ (x : BlockData). named x.name ++ flat_map (i
 -- the names of the parameters, blocks and results of a function
 abbrev pub local_names : Module → FunctionData → List (List ℕ)
 local_names m x = flat_map named x.params ++ flat_map (block_names m) x.blocks
-
--- a name that no symbol may have: empty, or with a zero byte
-abbrev pub is_bad_name : List ℕ → Bool
-is_bad_name n = nat_eq (length n) 0 || list_any (λ c. nat_eq c 0) n
 
 -- the names of the functions before f
 abbrev pub names_before : Module → ℕ → List (List ℕ)
@@ -209,10 +206,6 @@ reaches_outside m f (I.Row r) = list_any (is_outside m f) r.operands || list_any
 
 -- ---- the rules
 
--- "llvm."
-abbrev pub intrinsic_prefix : List ℕ
-intrinsic_prefix = 108 ∷ 108 ∷ 118 ∷ 109 ∷ 46 ∷ []
-
 abbrev pub IsLong : {X : Type 0} → List X → Type 0
 IsLong xs = 2 ^ 31 ≤ length xs
 
@@ -268,7 +261,7 @@ Fails m (EntryHasPreds p) = AtFunction p (λ f. OfFunction m f (λ x. (b : LLVMB
 Fails m (OperandType p) = HasOtherTypeAt m p
 Fails m (OperandCount p) = AtInst p (λ i. OfInst m i (λ x. misfits_count m (home m x) x.inst ≡ true))
 Fails m (BlockOutside p) = AtInst p (λ i. OfInst m i (λ x. reaches_outside m (home m x) x.inst ≡ true))
-Fails m (IntrinsicBody p) = AtFunction p (λ f. OfFunction m f (λ x. (starts_with nat_eq x.name intrinsic_prefix ≡ true) × (x.blocks ≢ [])))
+Fails m (IntrinsicBody p) = AtFunction p (λ f. OfFunction m f (λ x. (is_intrinsic_name x.name ≡ true) × (x.blocks ≢ [])))
 Fails m (FunctionSpace p) = AtFunction p (λ f. OfFunction m f (λ x. x.space ≢ 0))
 Fails m (ListTooLong p) = HasLongList m p
 Fails m NoMemory = ⊥

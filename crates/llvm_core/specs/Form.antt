@@ -12,7 +12,7 @@ use Rattle.kinds.specs.Types.{types_list, count_types, result_of}
 use Rattle.kinds.specs.Held.{is_void, IsHeld, IsHeldResult, IsShortWidth}
 use Rattle.llvm_core.specs.Edges.{count_of}
 use Rattle.support.specs.Interned.{IsDistinctList}
-use Rattle.llvm_core.specs.Names.{is_plain, IsPlainOrNone}
+use Rattle.kinds.specs.Names.{is_good_name, is_intrinsic_name, IsGoodOrNone}
 use Rattle.llvm_core.specs.Checked.{ends_in_only, named}
 
 -- ---- types and operands
@@ -93,11 +93,11 @@ IsFormInstruction f b type (Phi entries) = All (λ (e : Operand × ℕ). IsOpera
 IsFormInstruction f b type (Applied r) = IsFormRow f type r
 
 -- an instruction of the block of the number b: the type of its result, where it has one, is translated, and its name is
--- plain or none; what has no result has no name
+-- one that the form takes, or none; what has no result has no name
 pub record IsFormPlaced (f : Function) (b : ℕ) (p : Placed) : Type 0 where
   pub instruction : IsFormInstruction f b p.type p.instruction
   pub held : IsHeldResult p.type
-  pub name : IsPlainOrNone p.name
+  pub name : IsGoodOrNone p.name
   pub unnamed : p.type ≡ VoidType → p.name ≡ []
 
 abbrev pub is_terminator : Instruction → Bool
@@ -118,14 +118,15 @@ HasPhisFirst ps = (i j : ℕ) (x y : Placed) → i < j → slice_get ps i ≡ So
 
 -- a block of the function f
 pub record IsFormBlock (f : Function) (b : Block) : Type 0 where
-  pub label : IsPlainOrNone b.name
+  pub label : IsGoodOrNone b.name
   pub instructions : All (IsFormPlaced f b.number) b.instructions
   pub phis : HasPhisFirst b.instructions
   pub ends : ends_in_only is_last b.instructions ≡ true
 
--- a function of the form: it has a body
+-- a function of the form: it has a body, and so it is no intrinsic
 pub record IsFormFunction (f : Function) : Type 0 where
-  pub name : is_plain f.name ≡ true
+  pub name : is_good_name f.name ≡ true
+  pub own : is_intrinsic_name f.name ≡ false
   pub result : TypeTree
   pub types : TypeTrees
   pub type : f.type ≡ FunctionType result types false
@@ -133,7 +134,7 @@ pub record IsFormFunction (f : Function) : Type 0 where
   pub takes : All IsHeld (types_list types)
   pub space : f.space ≡ 0
   pub params : length f.params ≡ count_types types
-  pub param_names : All IsPlainOrNone f.params
+  pub param_names : All IsGoodOrNone f.params
   pub body : ¬ (f.blocks ≡ [])
   pub blocks : All (IsFormBlock f) f.blocks
   pub block_numbers : IsDistinctList (map (λ (b : Block). b.number) f.blocks)
@@ -159,25 +160,25 @@ IsNarrowConst (Result n) = Unit {0}
 
 -- the types of operands, and of a result where there is one, are translated; what has no result has no name
 pub record IsNarrowPlaced (f : Function) (p : Placed) : Type 0 where
-  pub name : IsPlainOrNone p.name
+  pub name : IsGoodOrNone p.name
   pub unnamed : p.type ≡ VoidType → p.name ≡ []
   pub result : IsHeldResult p.type
   pub operands : All (λ (o : Operand). IsHeld (operand_type f o)) (operands_of p.instruction)
   pub constants : All IsNarrowConst (operands_of p.instruction)
 
 pub record IsNarrowBlock (f : Function) (b : Block) : Type 0 where
-  pub label : IsPlainOrNone b.name
+  pub label : IsGoodOrNone b.name
   pub instructions : All (IsNarrowPlaced f) b.instructions
 
--- plain names, a body, types that are translated, and no block or instruction listed twice
+-- names that the form takes, a body, types that are translated, and no block or instruction listed twice
 pub record IsNarrowFunction (f : Function) : Type 0 where
-  pub name : is_plain f.name ≡ true
+  pub name : is_good_name f.name ≡ true
   pub result : TypeTree
   pub types : TypeTrees
   pub type : f.type ≡ FunctionType result types false
   pub returns : IsHeldResult result
   pub takes : All IsHeld (types_list types)
-  pub param_names : All IsPlainOrNone f.params
+  pub param_names : All IsGoodOrNone f.params
   pub body : ¬ (f.blocks ≡ [])
   pub blocks : All (IsNarrowBlock f) f.blocks
   pub block_numbers : IsDistinctList (map (λ (b : Block). b.number) f.blocks)

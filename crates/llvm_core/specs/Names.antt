@@ -1,7 +1,7 @@
 -- Names, lists of them, and what is inserted in them.
-use Rattle.std.specs.Prelude.{◌≡◌, ◌<◌, ℕ, Bool, true, false, map, ◌&&◌, ◌||◌, ◌==◌, nat_le, List, [], ◌∷◌, ◌++◌, slice_get, Some}
+use Rattle.std.specs.Prelude.{◌≡◌, ◌<◌, ℕ, Bool, true, false, map, List, [], ◌∷◌, ◌++◌, slice_get, Some}
 use Rattle.std.specs.Borrow.{Bor}
-use Rattle.std.specs.List.{list_all}
+pub use Rattle.kinds.specs.Names.{is_digit, is_letter, is_plain_byte, is_good_name, IsGoodOrNone}
 
 -- the texts that are borrowed as names
 abbrev pub texts : List (Bor (List ℕ)) → List (List ℕ)
@@ -20,23 +20,11 @@ abbrev pub IsInserted : List (List ℕ) → List (List ℕ) → List ℕ → Boo
 IsInserted old new n true = (new ≡ old ++ n ∷ []) × ¬ Stands old n
 IsInserted old new n false = Stands old n
 
--- ---- plain names
+-- ---- names that the form takes
 
-abbrev pub is_digit : ℕ → Bool
-is_digit b = nat_le 48 b && nat_le b 57
-
-abbrev pub is_letter : ℕ → Bool
-is_letter b = (nat_le 65 b && nat_le b 90) || (nat_le 97 b && nat_le b 122)
-
-abbrev pub is_plain_byte : ℕ → Bool
-is_plain_byte b = is_letter b || is_digit b || b == 95
-
--- a plain name, as the form takes it: a letter, then letters, digits and _
+-- as the text asks them
 abbrev pub is_plain : List ℕ → Bool
-is_plain [] = false
-is_plain (b ∷ bs) = is_letter b && list_all is_plain_byte bs
+is_plain n = is_good_name n
 
--- a plain name, or none
 abbrev pub IsPlainOrNone : List ℕ → Type 0
-IsPlainOrNone [] = Unit {0}
-IsPlainOrNone (b ∷ bs) = is_plain (b ∷ bs) ≡ true
+IsPlainOrNone n = IsGoodOrNone n

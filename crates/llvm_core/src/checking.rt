@@ -7,7 +7,7 @@ ghost use Rattle.llvm_core.specs.declared.check_err.Place.TheVariants as places;
 ghost use Rattle.llvm_core.specs.declared.check_err.CheckErr.TheVariants as errors;
 ghost use Rattle.llvm_core.specs.Parts.{is_kind};
 ghost use Rattle.llvm_core.specs.Names.{HasTwice};
-ghost use Rattle.llvm_core.specs.Checked.{is_terminator, is_terminator_at, ends_in_only, is_valueless, misfits_signature, Fails, local_names, is_bad_name, names_before, IsFreshName, IsCheckedFunction, IsCheckedBlock, IsCheckedInst, IsChecked, MayAnswer};
+ghost use Rattle.llvm_core.specs.Checked.{is_terminator, is_terminator_at, ends_in_only, is_valueless, misfits_signature, Fails, local_names, names_before, IsFreshName, IsCheckedFunction, IsCheckedBlock, IsCheckedInst, IsChecked, MayAnswer};
 
 use crate::check_err::{CheckErr, Place};
 use crate::code::LLVMInst;
@@ -19,6 +19,7 @@ use crate::numbers::{LLVMBasicBlock, LLVMFunction, LLVMInstRef, LLVMType};
 use crate::operands::{TOO_LONG, check_inst, is_function, is_valueless};
 use crate::phis::has_late_phi;
 use crate::types::LLVMTypeKind;
+use kinds::names::{is_bad_name, is_intrinsic_name};
 
 fn check_count(m: &LLVMModule) -> Result<(), CheckErr>
     ensures ok { OnOk result (¬ Fails m.now (errors.ListTooLong places.Module)) }
@@ -28,13 +29,6 @@ fn check_count(m: &LLVMModule) -> Result<(), CheckErr>
         return Err(CheckErr::ListTooLong(Place::Module));
     }
     Ok(())
-}
-
-/// Whether a name is none for a symbol.
-fn is_bad_name(name: &str) -> bool
-    ensures { result ≡ is_bad_name name.now }
-{
-    name.is_empty() || name.as_bytes().contains(&0)
 }
 
 /// Notes the name of a function after those before it.
@@ -133,7 +127,7 @@ fn check_intrinsic(m: &LLVMModule, f: LLVMFunction) -> Result<(), CheckErr>
     ensures ok { OnOk result (¬ Fails m.now (errors.IntrinsicBody (places.Function f.0))) }
     ensures err { IfErr result (λ e. Fails m.now e) }
 {
-    if m.function_name(f).as_bytes().starts_with(b"llvm.") && !m.blocks(f).is_empty() {
+    if is_intrinsic_name(m.function_name(f)) && !m.blocks(f).is_empty() {
         return Err(CheckErr::IntrinsicBody(Place::Function(f.0)));
     }
     Ok(())

@@ -11,7 +11,7 @@ use Rattle.dialect_core.specs.declared.linkage.LinkageAttr.{LinkageAttr}
 use Rattle.dialect_core.specs.declared.linkage.LinkageAttr.TheVariants as K
 use Rattle.dialect_core.specs.declared.predicates.ICmpPredicateAttr.{ICmpPredicateAttr}
 use Rattle.dialect_core.specs.declared.predicates.ICmpPredicateAttr.TheVariants as P
-use Rattle.dialect_core.specs.Data.{DialectModule, Func, DialectBlock, DialectOp, Kind, ConstantOp, RowOp, value_type}
+use Rattle.dialect_core.specs.Data.{DialectModule, Func, DialectBlock, DialectOp, Kind, ConstantOp, RowOp, llvm_name_of, value_type}
 use Rattle.dialect_core.specs.WellFormed.{Typing}
 use Rattle.kinds.specs.declared.op.LLVMIntPredicate.{LLVMIntPredicate}
 use Rattle.kinds.specs.declared.op.LLVMIntPredicate.TheVariants as I
@@ -134,10 +134,10 @@ linkage K.GhostLinkage = Other
 abbrev pub has_blocks : Func → Bool
 has_blocks f = nat_lt 0 (length f.blocks)
 
--- a function is in space 0
+-- a function is in space 0, under its name in LLVM
 abbrev pub entry : Setting → Func → Entry
 entry setting f = record {
-  name = f.name;
+  name = llvm_name_of f;
   symbol = FunctionSymbol f.type (linkage f.linkage) 0 (has_blocks f);
   body = if has_blocks f then Some (body setting f) else None;
 }

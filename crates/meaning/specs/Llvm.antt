@@ -1,8 +1,9 @@
 -- What LLVM module data mean.
-use Rattle.std.specs.Prelude.{ℕ, Bool, false, not, ◌&&◌, if◌then◌else◌, List, [], Option, Some, None, map, option_map, length, filter, nat_eq, nat_lt, codes}
+use Rattle.std.specs.Prelude.{ℕ, Bool, false, not, ◌&&◌, if◌then◌else◌, List, [], Option, Some, None, map, option_map, length, filter, nat_eq, nat_lt}
 use Rattle.std.specs.Option.{option_map_or}
-use Rattle.std.specs.List.{flat_map, filter_map, position_from, find, starts_with}
+use Rattle.std.specs.List.{flat_map, filter_map, position_from, find}
 use Rattle.kinds.specs.Types.{TypeTree, takes_of, count_types}
+use Rattle.kinds.specs.Names.{is_intrinsic_name}
 use Rattle.llvm_core.specs.Data as L
 use Rattle.llvm_core.specs.Data.{ConstTree, IntConst, PlaceholderConst, RowData, Instruction, Phi, Applied as AppliedRow, Constant, Parameter, Result, Placed, ModuleData, operand_type, targets, phi_entries}
 use Rattle.llvm_core.specs.Form.{operands_of}
@@ -104,7 +105,7 @@ entry setting f = record {
 
 -- a function whose name begins with `llvm.`
 abbrev pub is_intrinsic : L.Function → Bool
-is_intrinsic f = starts_with nat_eq f.name (codes "llvm.")
+is_intrinsic f = is_intrinsic_name f.name
 
 -- what a module tells its bodies
 abbrev pub setting_of : ModuleData → Setting

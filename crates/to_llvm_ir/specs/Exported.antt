@@ -15,7 +15,7 @@ use Rattle.dialect_core.specs.declared.ops.Value.TheVariants.{Result, Argument}
 use Rattle.dialect_core.specs.declared.ops.Successor.{Successor}
 use Rattle.dialect_core.specs.declared.ops.BlockData.{BlockData}
 use Rattle.dialect_core.specs.ContextData.{ContextData}
-use Rattle.dialect_core.specs.Data.{DialectModule, DialectBlock, DialectOp, Func, name_at}
+use Rattle.dialect_core.specs.Data.{DialectModule, DialectBlock, DialectOp, Func, llvm_name_of, name_at}
 use Rattle.dialect_core.specs.Form.{others_of, uses_of, edges_of, FitsTarget, HasEqualEdges, HasTargets, HasOnlyEntryConstants}
 use Rattle.meaning.specs.Setting.{Setting}
 use Rattle.meaning.specs.Pairs.{Matched, BothOrNone}
@@ -143,7 +143,7 @@ pub record HasNoCause (order : List ℕ) (g : Func) : Type 0 where
 
 -- the function f stands for the function g of the dialect, whose constants stand at any places, whatever their modules tell
 pub record ExportedFunction (g : Func) (f : L.Function) : Type 0 where
-  pub name : f.name ≡ g.name
+  pub name : f.name ≡ llvm_name_of g
   pub type : f.type ≡ g.type
   pub space : f.space ≡ 0
   pub shape : (a b : Setting) → WovenShape same_places a f b g

@@ -7,7 +7,7 @@ ghost use Rattle.llvm_core.specs.Data.{AreApart};
 ghost use Rattle.llvm_core.specs.Sound.{IsModule};
 ghost use Rattle.llvm_core.specs.Form.{IsForm};
 ghost use Rattle.dialect_types.specs.Trees.{type_trees};
-ghost use Rattle.dialect_core.specs.Data.{Func, DialectModule, IsTyped, func_in, data_of};
+ghost use Rattle.dialect_core.specs.Data.{Func, DialectModule, IsTyped, llvm_name_of, func_in, data_of};
 ghost use Rattle.dialect_core.specs.Form.{IsFormFunc, HasOnlyEntryConstants, HasTargets};
 ghost use Rattle.dialect_core.specs.WellFormed.{IsOpenForm};
 ghost use Rattle.meaning.specs.Pairs.{Matched};
@@ -33,6 +33,7 @@ use crate::room::make_room;
 use crate::to_llvm_err::ToLLVMErr;
 use crate::types::function_type;
 use dialect_core::context::Context;
+use dialect_core::module_printing::llvm_name_of;
 use dialect_core::numbers::{ModuleOp, OpRef};
 use llvm_core::module::LLVMModule;
 use llvm_core::numbers::LLVMFunction;
@@ -44,7 +45,7 @@ pub struct Exported {
     pub module: LLVMModule,
 }
 
-/// A function of the type and the name of that which an operation is, without blocks.
+/// A function of the type and the LLVM name of that which an operation is, without blocks.
 fn start_func(
     alloc: Global,
     ctx: &Context,
@@ -58,7 +59,7 @@ fn start_func(
     ensures { (g : Func) → func_in (type_trees ctx.now.types) ctx.now op ≡ Some g → IsFormFunc g → (order : List ℕ) → IsTaken g order → IfOk result (λ f. IsStarted ctx.now g order f back.old back.new) }
 {
     let ty = function_type(alloc, ctx, ctx.symbol_type(op), guesses, back)?;
-    back.add_function(name_of(ctx, op), ty, 0)
+    back.add_function(llvm_name_of(ctx, op), ty, 0)
 }
 
 /// The function that an operation is, as the last of the module, its blocks taken in the order.
@@ -170,7 +171,7 @@ fn know_sound(m: &LLVMModule)
     let _ = m.types();
 }
 
-/// An LLVM module with a function for each function of a dialect module, in order, under its names. Each has the traces
+/// An LLVM module with a function for each function of a dialect module, in order, under its LLVM name. Each has the traces
 /// of its dialect function where that reads no unset value, and for every list of choices where the constants all stand
 /// in the first block.
 ///
@@ -183,9 +184,9 @@ pub fn convert_module(alloc: Global, ctx: &Context, module: ModuleOp) -> Result<
     requires { IsReadable ctx.now «module».0.0 }
     ensures exported { IfOk result (λ x. IsExported (data_of ctx.now «module».0.0) x.«module») }
     ensures traces { IfOk result (λ x. Matched (HasTraces (llvm.setting_of (lists.data_of x.«module»)) (dialect.setting_of (data_of ctx.now «module».0.0))) (data_of ctx.now «module».0.0).functions (lists.data_of x.«module»).functions) }
-    ensures same { IsDistinctNames (map (λ g. g.name) (data_of ctx.now «module».0.0).functions) → All HasOnlyEntryConstants (data_of ctx.now «module».0.0).functions → IfOk result (λ x. SameCode same_places (llvm.code_of (lists.data_of x.«module»)) (dialect.code_of (data_of ctx.now «module».0.0))) }
+    ensures same { IsDistinctNames (map llvm_name_of (data_of ctx.now «module».0.0).functions) → All HasOnlyEntryConstants (data_of ctx.now «module».0.0).functions → IfOk result (λ x. SameCode same_places (llvm.code_of (lists.data_of x.«module»)) (dialect.code_of (data_of ctx.now «module».0.0))) }
     ensures form { All HasTargets (data_of ctx.now «module».0.0).functions → IfOk result (λ x. IsForm (lists.data_of x.«module»)) }
-    ensures checked { IsDistinctNames (map (λ g. g.name) (data_of ctx.now «module».0.0).functions) → All HasTargets (data_of ctx.now «module».0.0).functions → IfOk result (λ x. IsChecked x.«module») }
+    ensures checked { IsDistinctNames (map llvm_name_of (data_of ctx.now «module».0.0).functions) → All HasTargets (data_of ctx.now «module».0.0).functions → IfOk result (λ x. IsChecked x.«module») }
     ensures cause { IfErr result (λ e. IsCause ctx.now (data_of ctx.now «module».0.0) e) }
 {
     let mut cctx = ConversionContext::new(alloc, name_of(ctx, module.0))?;

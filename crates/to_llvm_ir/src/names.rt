@@ -3,8 +3,7 @@
 ghost use Rattle.std.specs.Prelude.{◌≡◌, ◌<◌, ◌^◌, ◌++◌, ℕ, IfOk, IfSome};
 ghost use Rattle.std.specs.Fmt.{decimal};
 ghost use Rattle.std.specs.Option.{option_copied};
-ghost use Rattle.llvm_core.specs.Names.{IsPlainOrNone};
-ghost use Rattle.dialect_types.specs.Names.{IsPlainName};
+ghost use Rattle.kinds.specs.Names.{IsGoodOrNone};
 ghost use Rattle.to_llvm_ir.specs.Exported.{block_name, value_name};
 
 use dialect_types::identifier::Identifier;
@@ -44,7 +43,7 @@ fn short_joined(name: &str, word: &str, number: u64) -> Option<ShortText>
 /// The name of the block at a place, by its label where it has one.
 pub fn block_name(alloc: Global, label: Option<&Identifier>, place: u32) -> Result<Text, AllocError>
     ensures name { IfOk result (λ name. name ≡ block_name (option_copied label.entry) place) }
-    ensures plain { IfSome (option_copied label.entry) IsPlainName → (k : ℕ) → k < 2 ^ 64 → IsPlainOrNone (block_name (option_copied label.entry) k) }
+    ensures good { (k : ℕ) → k < 2 ^ 64 → IsGoodOrNone (block_name (option_copied label.entry) k) }
 {
     match label {
         Some(label) => joined(alloc, label.as_str(), "_block", u64::from(place)),
@@ -59,7 +58,7 @@ pub fn value_name(
     number: u64,
 ) -> Result<Text, AllocError>
     ensures name { IfOk result (λ name. name ≡ value_name (option_copied given.entry) number) }
-    ensures plain { IfSome (option_copied given.entry) IsPlainName → (k : ℕ) → k < 2 ^ 64 → IsPlainOrNone (value_name (option_copied given.entry) k) }
+    ensures good { (k : ℕ) → k < 2 ^ 64 → IsGoodOrNone (value_name (option_copied given.entry) k) }
 {
     match given {
         Some(given) => joined(alloc, given.as_str(), "_v", number),
@@ -71,7 +70,7 @@ pub fn value_name(
 #[inline(always)]
 pub fn short_value_name(given: Option<&Identifier>, number: u64) -> Option<ShortText>
     ensures name { IfSome result (λ name. name ≡ value_name (option_copied given.entry) number) }
-    ensures plain { IfSome (option_copied given.entry) IsPlainName → (k : ℕ) → k < 2 ^ 64 → IsPlainOrNone (value_name (option_copied given.entry) k) }
+    ensures good { (k : ℕ) → k < 2 ^ 64 → IsGoodOrNone (value_name (option_copied given.entry) k) }
 {
     match given {
         Some(given) => short_joined(given.as_str(), "_v", number),

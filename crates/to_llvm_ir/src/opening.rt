@@ -1,7 +1,7 @@
 //! The blocks of a function of LLVM, without instructions yet.
 
 ghost use Rattle.std.specs.Prelude.{◌≡◌, ◌<◌, ℕ, suc, Some, All, length, slice_get, IfOk, OnOk};
-ghost use Rattle.llvm_core.specs.Names.{IsPlainOrNone};
+ghost use Rattle.kinds.specs.Names.{IsGoodOrNone};
 ghost use Rattle.dialect_core.specs.Data.{DialectBlock};
 ghost use Rattle.to_llvm_ir.specs.Exported.{block_name};
 ghost use Rattle.to_llvm_ir.specs.Opening.{IsOpening, IsDeclared, AreBlocks};
@@ -29,7 +29,7 @@ fn append_block(
     requires within { block.0 < length ctx.now.blocks }
     requires there { f.0 < length back.old.functions }
     ensures ok { (t : Task) (ty : _) (c : DialectBlock) → IsBlockAt ctx.now t i c block → IsOpening t i f ty blocks.old back.old → OnOk result (IsOpening t (suc i) f ty blocks.new back.new) }
-    ensures labelled { (t : Task) (c : DialectBlock) → IsBlockAt ctx.now t i c block → OnOk result (IsPlainOrNone (block_name c.label i)) }
+    ensures labelled { (t : Task) (c : DialectBlock) → IsBlockAt ctx.now t i c block → OnOk result (IsGoodOrNone (block_name c.label i)) }
 {
     let place = place_of(i)?;
     let name = block_name(alloc, ctx.block_label(block), place)?;
@@ -54,7 +54,7 @@ pub fn append_blocks(
     requires within { All (λ b. b.0 < length ctx.now.blocks) list.now }
     requires there { (t : Task) × (ty : _) × AreBlocks ctx.now t list.now × IsDeclared t f ty back.old }
     ensures ok { (t : Task) (ty : _) → AreBlocks ctx.now t list.now → IsDeclared t f ty back.old → IfOk result (λ blocks. IsOpening t (length t.source.blocks) f ty blocks back.new) }
-    ensures labelled { (t : Task) → AreBlocks ctx.now t list.now → OnOk result ((j : ℕ) (c : DialectBlock) → slice_get t.source.blocks j ≡ Some c → IsPlainOrNone (block_name c.label j)) }
+    ensures labelled { (t : Task) → AreBlocks ctx.now t list.now → OnOk result ((j : ℕ) (c : DialectBlock) → slice_get t.source.blocks j ≡ Some c → IsGoodOrNone (block_name c.label j)) }
 {
     let mut blocks = Blocks::new(alloc);
     for (i, block) in list.iter().enumerate() {

@@ -1,9 +1,9 @@
 -- What a module, its dialect module and its module back have in common, and why a module is refused.
-use Rattle.std.specs.Prelude.{◌≡◌, map}
+use Rattle.std.specs.Prelude.{◌≡◌, List, map}
 use Rattle.llvm_core.specs.Module.{Module}
 use Rattle.llvm_core.specs.Data as L
 use Rattle.llvm_core.specs.Data.{ModuleData}
-use Rattle.dialect_types.specs.Names.{legal_name}
+use Rattle.dialect_types.specs.Legalised.{Named, Gave, IsLegalised}
 use Rattle.dialect_core.specs.ContextData.{ContextData}
 use Rattle.dialect_core.specs.Data as D
 use Rattle.dialect_core.specs.WellFormed.{IsWellFormed}
@@ -13,7 +13,7 @@ use Rattle.meaning.specs.Llvm as Llvm
 use Rattle.meaning.specs.Dialect as Dialect
 use Rattle.from_llvm_ir.specs.declared.importing.Imported.{Imported}
 use Rattle.from_llvm_ir.specs.Match.{match_of}
-use Rattle.from_llvm_ir.specs.Imported.{AreImported}
+use Rattle.from_llvm_ir.specs.Imported.{AreImported, BeginsWith}
 use Rattle.from_llvm_ir.specs.Refusals as Import
 use Rattle.to_llvm_ir.specs.Exported.{ExportedFunction}
 use Rattle.from_llvm_ir.specs.declared.conversion_err.ConversionErr.{ConversionErr}
@@ -35,17 +35,21 @@ dialect_of t = D.data_of t.ctx t.dialect.0.0
 abbrev pub back_of : Transferred → ModuleData
 back_of t = L.data_of t.back
 
--- The three modules have the same code under the match, and the same names in the same order; function by
+-- The three modules have the same code under the match, and the same names of LLVM in the same order; function by
 -- function the dialect module is made by the rules of the import, and the module back by those of the export. The
 -- dialect module keeps every rule of the dialect.
 pub record SameThroughout (m : ModuleData) (t : Transferred) : Type 0 where
+  -- the names that were met, each with its identifier
+  pub given : List Named
+  pub legalised : IsLegalised given
+  pub begins : BeginsWith m given
   pub dialect : SameCode (match_of m t.blocks) (Llvm.code_of m) (Dialect.code_of (dialect_of t))
   pub back : SameCode (match_of m t.blocks) (Llvm.code_of m) (Llvm.code_of (back_of t))
-  pub name : (dialect_of t).name ≡ legal_name m.name
+  pub name : Gave given m.name (dialect_of t).name
   pub back_name : (back_of t).name ≡ (dialect_of t).name
-  pub functions : map (λ (f : D.Func). f.name) (dialect_of t).functions ≡ map (λ (f : L.Function). f.name) m.functions
+  pub functions : map D.llvm_name_of (dialect_of t).functions ≡ map (λ (f : L.Function). f.name) m.functions
   pub back_functions : map (λ (f : L.Function). f.name) (back_of t).functions ≡ map (λ (f : L.Function). f.name) m.functions
-  pub imported : AreImported m m.functions t.blocks (dialect_of t).functions
+  pub imported : AreImported m given m.functions t.blocks (dialect_of t).functions
   pub exported : Matched ExportedFunction (dialect_of t).functions (back_of t).functions
   pub well_formed : IsWellFormed t.ctx t.dialect.0.0
 

@@ -4,7 +4,6 @@ ghost use Rattle.std.specs.Prelude.{◌≡◌, [], IfOk, IfErr};
 ghost use Rattle.llvm_core.specs.Module.{Module};
 ghost use Rattle.llvm_core.specs.Checked.{IsChecked};
 ghost use Rattle.llvm_core.specs.Data.{data_of};
-ghost use Rattle.llvm_core.specs.Names.{IsPlainOrNone};
 ghost use Rattle.llvm_core.specs.Form.{IsForm};
 ghost use Rattle.from_llvm_ir.specs.Refusals.{IsValid};
 ghost use Rattle.to_llvm_ir.specs.Held.{IsReadable};
@@ -31,7 +30,6 @@ pub struct Begun {
 /// module whose uses are valid is answered `Ok` or `NoMemory`.
 pub fn begin(alloc: Global, module: &LLVMModule) -> Result<Begun, TransferErr>
     requires form { IsForm (data_of «module».now) }
-    requires name { IsPlainOrNone «module».now.name }
     requires checked { IsChecked «module».now }
     ensures begun { IfOk result (λ b. IsBegun «module».now b) }
     ensures readable { IfOk result (λ b. IsReadable b.ctx b.imported.«module».0.0) }
@@ -72,7 +70,6 @@ pub fn finish(alloc: Global, begun: Begun) -> Result<Transferred, TransferErr>
 /// `NoMemory`.
 pub fn transfer(alloc: Global, module: &LLVMModule) -> Result<Transferred, TransferErr>
     requires form { IsForm (data_of «module».now) }
-    requires name { IsPlainOrNone «module».now.name }
     requires checked { IsChecked «module».now }
     ensures same { IfOk result (λ t. SameThroughout (data_of «module».now) t) }
     ensures back { IfOk result (λ t. IsChecked t.back) }

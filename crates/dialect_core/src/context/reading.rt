@@ -4,7 +4,7 @@ ghost use Rattle.std.specs.Prelude.{◌≡◌, is_some, ◌<◌, IfOk, IfSome, S
 ghost use Rattle.std.specs.Option.{option_map, option_copied};
 ghost use Rattle.dialect_core.specs.Lists.{AllApart, next_in, list_at};
 ghost use Rattle.dialect_core.specs.Data.{held};
-ghost use Rattle.dialect_core.specs.ContextData.{is_func, IsValueWithin, IsSuccessorWithin, IsSymbol, symbol_at, parent_of};
+ghost use Rattle.dialect_core.specs.ContextData.{is_func, IsValueWithin, IsSuccessorWithin, IsSymbol, llvm_name_at, symbol_at, parent_of};
 
 use super::Context;
 use crate::linkage::LinkageAttr;
@@ -196,13 +196,27 @@ impl Context {
         self.symbol(op).linkage
     }
 
-    /// The type and the linkage of a function.
-    fn symbol(&self, op: OpRef) -> Symbol
-        requires { IsSymbol self.now.ops op }
-        ensures { symbol_at self.now.ops op ≡ Some result }
+    /// The LLVM name that was set of a function, None until it is set and for any other operation.
+    pub fn llvm_symbol_name(&self, op: OpRef) -> Option<&str>
+        requires { op.0 < length self.now.ops }
+        ensures { option_copied result ≡ llvm_name_at self.now.ops op }
     {
         match &self.ops[op.0 as usize].symbol {
-            Some(symbol) => *symbol,
+            Some(symbol) => match &symbol.llvm_name {
+                Some(name) => Some(name.as_str()),
+                None => None,
+            },
+            None => None,
+        }
+    }
+
+    /// What a function has that no other operation has.
+    fn symbol(&self, op: OpRef) -> &Symbol
+        requires { IsSymbol self.now.ops op }
+        ensures { symbol_at self.now.ops op ≡ Some result.now }
+    {
+        match &self.ops[op.0 as usize].symbol {
+            Some(symbol) => symbol,
             None => unreachable!(),
         }
     }

@@ -1,8 +1,8 @@
--- What `naming::give` owes besides what the check finds.
+-- What `legaliser::give` owes besides what the check finds.
 use Rattle.std.proofs.Common.{subst}
 use Rattle.dialect_types.specs.Names.{IsIdentifier}
 use Rattle.dialect_types.proofs.LegalLaws.{asked_legal}
-use Rattle.dialect_types.proofs.naming.give.Goals as goal
+use Rattle.dialect_types.proofs.legaliser.give.Goals as goal
 
 pub give-requires : goal.give-requires
 give-requires c = subst IsIdentifier (c.asks_itself.ensures c.if-asks_itself.true) (asked_legal c.args.name.now)

@@ -1,9 +1,9 @@
--- What `naming::Names::legalise` owes besides what the check finds.
+-- What `legaliser::Legaliser::legalise` owes besides what the check finds.
 use Rattle.std.proofs.Common.{◌≡◌, Some, None, sym, ap, ◌∙◌, refl}
 use Rattle.std.proofs.lemmas.Result.{IfOk-weaker}
 use Rattle.dialect_types.specs.Legalised.{IsGiven, paired}
-use Rattle.dialect_types.proofs.LegalLaws.{met_legal, names_grown, names_same, put_as}
-use Rattle.dialect_types.proofs.naming.Names.legalise.Goals as goal
+use Rattle.dialect_types.proofs.LegalLaws.{grown_of, met_legal, names_grown, names_same, put_as}
+use Rattle.dialect_types.proofs.legaliser.Legaliser.legalise.Goals as goal
 
 pub copy-requires-in-Some : goal.copy-requires-in-Some
 copy-requires-in-Some c =
@@ -36,3 +36,9 @@ returns-in-Ok-clause-legalised c =
     let put = put_as c.self.inside.names c.put.new.self c.in_ok-text.text c.args.name.now c.in_ok-at.field-0 None c.in_default.is c.in_ok-text.ensures c.in_ok-at.ensures.put in
     let grown = names_grown c.self.inside.names c.self.inside.taken c.put.new.self c.give.new.taken c.args.name.now c.in-Ok.identifier c.self.invariant put c.in-Ok.ensures.given in
     grown.1
+
+pub returns-in-Ok-clause-grows : goal.returns-in-Ok-clause-grows
+returns-in-Ok-clause-grows c =
+    let put = put_as c.self.inside.names c.put.new.self c.in_ok-text.text c.args.name.now c.in_ok-at.field-0 None c.in_default.is c.in_ok-text.ensures c.in_ok-at.ensures.put in
+    let grown = names_grown c.self.inside.names c.self.inside.taken c.put.new.self c.give.new.taken c.args.name.now c.in-Ok.identifier c.self.invariant put c.in-Ok.ensures.given in
+    rw (← c.self.view_is) (grown_of (paired c.self.inside.names c.self.inside.taken) (paired c.put.new.self c.give.new.taken) c.args.name.now c.in-Ok.identifier grown.2)
