@@ -8,9 +8,9 @@ use Rattle.kinds.specs.Typing.{fits_trees, typed}
 use Rattle.llvm_core.specs.Data as L
 use Rattle.llvm_core.specs.Data.{Operand, Placed, Block, ModuleData, const_type}
 use Rattle.ll_literals.specs.Chain.{◌>>=◌}
-use Rattle.ll_literals.specs.Names.{is_bare}
+use Rattle.ll_literals.specs.Names.{text_said}
 use Rattle.ll_lines.specs.Lines.{Text, Said, Local, Const, Typed, Incoming, Inst, Phi, Row, Line, Part, Label, Does, Param, Function, File}
-use Rattle.ll_bodies.specs.Scopes.{Scope, ValueLocal, BlockLocal, empty_scope, local_key, label_key, global_name, define_written, written_name, value_of_type, block_of}
+use Rattle.ll_bodies.specs.Scopes.{Scope, ValueLocal, BlockLocal, empty_scope, local_key, label_key, global_name, define_written, written_name, local_of, value_of_type, block_of}
 
 -- ---- a list of things, each of which may mean nothing
 
@@ -97,7 +97,7 @@ params_scope s f i (p ∷ ps) = define_written s (ValueLocal (L.Parameter f i) p
 -- an operand of that type
 abbrev pub operand : Scope → TypeTree → Said → Option Operand
 operand s τ (Const c) = if same_tree (const_type c) τ then Some (L.Constant c) else None
-operand s τ (Local t) = local_key t >>= λ k. value_of_type τ (s.known k)
+operand s τ (Local t) = value_of_type τ (local_of s t)
 
 abbrev pub entry : Scope → TypeTree → Incoming → Option (Operand × ℕ)
 entry s τ e = operand s τ e.said >>= λ o. block_of s e.block >>= λ b. Some (o, b)
@@ -160,14 +160,10 @@ functions_data f b n (x ∷ xs) = do
 
 -- ---- a file
 
--- the name between quotes
-abbrev pub string_name : Text → Option Text
-string_name t = if is_bare (take (length t - 2) (drop 1 t)) then Some (take (length t - 2) (drop 1 t)) else None
-
--- the name of the module, empty where none is written
+-- the name of the module, which may be any text; empty where none is written
 abbrev pub source_name : Option Text → Option Text
 source_name None = Some []
-source_name (Some t) = string_name t
+source_name (Some t) = text_said t
 
 -- the data that a text says: its functions, blocks and instructions are each numbered from 0 in order
 abbrev pub file_data : File → Option ModuleData

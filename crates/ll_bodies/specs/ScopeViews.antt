@@ -1,9 +1,10 @@
 -- What clauses see of a scope of the program.
-use Rattle.std.specs.Prelude.{◌≡◌, ◌≤◌, ◌⊎◌, ℕ, List, Option, Some, None, cond}
+use Rattle.std.specs.Prelude.{◌≡◌, ◌≤◌, ◌⊎◌, ℕ, List, Option, Some, None, if◌then◌else◌}
 use Rattle.std.specs.Option.{option_map}
-use Rattle.std.specs.HashMap.{get}
+use Rattle.std.specs.HashMap.{get_by, get_by_text}
 use Rattle.std.specs.Str.{bytes_eq}
 use Rattle.support.specs.NumberMaps.{value_at}
+use Rattle.support.specs.Options.{or_else}
 use Rattle.llvm_core.specs.Data as L
 use Rattle.llvm_core.specs.Data.{TypeTree, type_at}
 use Rattle.ll_literals.specs.Numbers.{number_limit}
@@ -13,15 +14,10 @@ use Rattle.ll_bodies.specs.declared.scope.Key.TheVariants.{Named, Numbered}
 use Rattle.ll_bodies.specs.declared.scope.Local.{Local}
 use Rattle.ll_bodies.specs.declared.scope.Local.TheVariants.{Param, Result, Block}
 use Rattle.ll_bodies.specs.declared.scope.Scope.{Scope}
-use Rattle.ll_bodies.specs.contracts.scope.KeyPartialEq.TheImpl as keys
 
 abbrev pub key_view : Key → spec.Key
 key_view (Named name) = spec.Named name.now
 key_view (Numbered n) = spec.Numbered n
-
-abbrev pub option_key : Option Key → Option spec.Key
-option_key None = None
-option_key (Some k) = Some (key_view k)
 
 -- over the trees of the types
 abbrev pub local_view : List TypeTree → Local → spec.Local
@@ -30,20 +26,20 @@ local_view types (Result i ty) = spec.ValueLocal (L.Result i.0) (type_at types t
 local_view types (Block b) = spec.BlockLocal b.0
 
 -- what a key stands for
-abbrev pub local_at : Scope → Key → Option Local
-local_at s (Named name) = get (λ a b. bytes_eq a.now b.now) s.named name
-local_at s (Numbered n) = value_at s.numbered n
+abbrev pub local_at : Scope → spec.Key → Option Local
+local_at s (spec.Named name) = or_else (get_by (λ k. bytes_eq name k.now) s.named) (get_by_text s.escaped name)
+local_at s (spec.Numbered n) = value_at s.numbered n
 
 -- the thing was put under a key
-abbrev pub IsPut : Scope → Scope → Key → Local → Type 0
-IsPut old new k x = (q : Key) → local_at new q ≡ cond (keys.eq-value.it k q) (Some x) (local_at old q)
+abbrev pub IsPut : Scope → Scope → spec.Key → Local → Type 0
+IsPut old new k x = (q : spec.Key) → local_at new q ≡ (if spec.same_key k q then Some x else local_at old q)
 
 -- the scope of the program is that of the definitions: the counters are equal, and each key stands for the same;
 -- under a number that nothing can have stands nothing
 pub record Knows (types : List TypeTree) (code : Scope) (s : spec.Scope) : Type 0 where
   pub next : s.next ≡ code.next
-  pub known : (k : Key) → s.known (key_view k) ≡ option_map (local_view types) (local_at code k)
-  pub limited : (n : ℕ) → number_limit ≤ n → local_at code (Numbered n) ≡ None
+  pub known : (k : spec.Key) → s.known k ≡ option_map (local_view types) (local_at code k)
+  pub limited : (n : ℕ) → number_limit ≤ n → local_at code (spec.Numbered n) ≡ None
 
 -- what the scope of the program becomes is what the step makes of that of the definitions
 abbrev pub Takes : List TypeTree → Scope → Scope → (spec.Scope → Option spec.Scope) → Type 0
@@ -55,7 +51,7 @@ Refuses types old step = (s : spec.Scope) → Knows types old s → step s ≡ N
 
 -- each key that stands for something now stood for it before, or Q holds of that
 pub record Adds (Q : Local → Type 0) (old new : Scope) : Type 0 where
-  pub at : (k : Key) (y : Local) → local_at new k ≡ Some y → Q y ⊎ (local_at old k ≡ Some y)
+  pub at : (k : spec.Key) (y : Local) → local_at new k ≡ Some y → Q y ⊎ (local_at old k ≡ Some y)
 
 -- no key, or a number that nothing can have
 abbrev pub IsNoKey : Option spec.Key → Type 0

@@ -6,7 +6,7 @@ use Rattle.kinds.specs.Types.{TypeTree, same_tree}
 use Rattle.llvm_core.specs.Data.{Operand}
 use Rattle.ll_literals.specs.Chain.{◌>>=◌}
 use Rattle.ll_literals.specs.Numbers.{number_of, number_limit, is_digits}
-use Rattle.ll_literals.specs.Names.{is_bare}
+use Rattle.ll_literals.specs.Names.{name_said}
 use Rattle.ll_lines.specs.Lines.{Text}
 
 -- ---- keys
@@ -22,9 +22,9 @@ same_key (Named a) (Numbered n) = false
 same_key (Numbered m) (Named b) = false
 same_key (Numbered m) (Numbered n) = nat_eq m n
 
--- the key that a bare name or digits say
+-- the key that a name or digits say: what is written in several ways and says one name is one key
 abbrev pub key_of : Text → Option Key
-key_of t = if is_digits t then option_map Numbered (number_of t) else (if is_bare t then Some (Named t) else None)
+key_of t = if is_digits t then option_map Numbered (number_of t) else option_map Named (name_said t)
 
 -- of a token % and a name or digits
 abbrev pub local_key : Text → Option Key
@@ -36,7 +36,7 @@ label_key t = key_of (take (length t - 1) t)
 
 -- of a function, by its token @ and a name
 abbrev pub global_name : Text → Option Text
-global_name t = if is_bare (drop 1 t) then Some (drop 1 t) else None
+global_name t = name_said (drop 1 t)
 
 -- what is written, where it is, as a key
 abbrev pub optional_key : (Text → Option Key) → Option Text → Option (Option Key)
@@ -90,13 +90,17 @@ written_name key (Some t) = key_name (key t)
 
 -- ---- what is looked up
 
--- a value of that type that a key stands for
+-- what a local stands for, by its token
+abbrev pub local_of : Scope → Text → Option Local
+local_of s t = local_key t >>= s.known
+
+-- a value of that type
 abbrev pub value_of_type : TypeTree → Option Local → Option Operand
 value_of_type τ None = None
 value_of_type τ (Some (BlockLocal b)) = None
 value_of_type τ (Some (ValueLocal o υ)) = if same_tree υ τ then Some o else None
 
--- the block that a key stands for
+-- a block
 abbrev pub option_block : Option Local → Option ℕ
 option_block None = None
 option_block (Some (BlockLocal b)) = Some b
@@ -104,4 +108,4 @@ option_block (Some (ValueLocal o υ)) = None
 
 -- a block of the function
 abbrev pub block_of : Scope → Text → Option ℕ
-block_of s t = local_key t >>= λ k. option_block (s.known k)
+block_of s t = option_block (local_of s t)

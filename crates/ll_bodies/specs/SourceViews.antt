@@ -18,7 +18,6 @@ use Rattle.ll_lines.specs.declared.lines.Inst.TheVariants as code_insts
 use Rattle.kinds.specs.Typing.{fits_trees}
 use Rattle.ll_lines.specs.declared.lines.Said as code_said
 use Rattle.ll_lines.specs.declared.lines.Typed as code_typed
-use Rattle.ll_bodies.specs.declared.scope.Key.{Key}
 use Rattle.ll_bodies.specs.declared.scope.Scope as code_scope
 use Rattle.ll_bodies.specs.ScopeViews.{local_at}
 use Rattle.ll_lines.specs.Lines as Lines
@@ -27,7 +26,7 @@ use Rattle.llvm_core.specs.declared.numbers.LLVMFunction.{LLVMFunction}
 use Rattle.ll_bodies.specs.declared.blocks.SaidBlock as code_block
 use Rattle.ll_bodies.specs.declared.scope.Local.{Local}
 use Rattle.ll_bodies.specs.declared.scope.Local.TheVariants.{Param, Result, Block}
-use Rattle.ll_bodies.specs.Scopes.{Scope, BlockLocal, ValueLocal, local_key, label_key, define_written}
+use Rattle.ll_bodies.specs.Scopes.{Key, Scope, BlockLocal, ValueLocal, local_key, label_key, define_written}
 use Rattle.ll_bodies.specs.Meaning.{SaidBlock, result_type, result_scope, lines_scope}
 use Rattle.ll_literals.specs.Chain.{◌>>=◌}
 use Rattle.ll_bodies.specs.BlockViews.{lines_of, lines_view, block_view}

@@ -88,6 +88,7 @@ fn function_type(
 
 /// Names the parameters of a function.
 fn name_params(
+    alloc: Global,
     module: &mut LLVMModule,
     bytes: &[u8],
     f: LLVMFunction,
@@ -101,7 +102,8 @@ fn name_params(
 {
     let mut place = 0;
     for param in params {
-        module.set_param_name(f, place, local_name(bytes, param.name))?;
+        let name = local_name(alloc, bytes, param.name)?;
+        module.set_param_name(f, place, name.as_str())?;
         place = next_number(place)?;
     }
     Ok(())
@@ -109,6 +111,7 @@ fn name_params(
 
 /// Adds a function without blocks, whose parameters have their names.
 fn declare(
+    alloc: Global,
     module: &mut LLVMModule,
     bytes: &[u8],
     name: &str,
@@ -125,7 +128,7 @@ fn declare(
     ensures not_yet { ¬ (result ≡ Err BuildErr.NotYet) }
 {
     let f = module.add_function(name, ty, 0)?;
-    name_params(module, bytes, f, said.params.as_slice())?;
+    name_params(alloc, module, bytes, f, said.params.as_slice())?;
     Ok(f)
 }
 
@@ -175,11 +178,11 @@ fn add_function(
     ensures ok { OnOk result (AddsFunction bytes.now said.now module.old module.new) }
     ensures not_yet { result ≡ Err BuildErr.NotYet → function_data (length module.old.functions) (length module.old.blocks) (length module.old.insts) (function_view bytes.now (trees_of module.old) said.now) ≡ None }
 {
-    let Some(name) = global_name(said.name.text(bytes)) else {
+    let Some(name) = global_name(alloc, said.name.text(bytes))? else {
         return Err(BuildErr::NotYet);
     };
     let ty = function_type(alloc, module, said)?;
-    let f = declare(module, bytes, name, ty, said)?;
+    let f = declare(alloc, module, bytes, name.as_str(), ty, said)?;
     give_body(alloc, module, bytes, f, types, said)
 }
 
@@ -215,9 +218,9 @@ pub fn add_file(
     ensures not_yet { result ≡ Err BuildErr.NotYet → file_data (file_view bytes.now (trees_of module.old) said.now) ≡ None }
     ensures sound { OnOk result (IsModule module.new) }
 {
-    let Some(name) = source_name(bytes, said.source) else {
+    let Some(name) = source_name(alloc, bytes, said.source)? else {
         return Err(BuildErr::NotYet);
     };
-    module.set_name(name)?;
+    module.set_name(name.as_str())?;
     add_functions(alloc, module, bytes, said.functions.as_slice())
 }

@@ -58,7 +58,8 @@ fn body_inst(
     ensures typed { IfOk result (IsTypedBody source.now.module.now) }
     ensures not_yet { result ≡ Err BuildErr.NotYet → (n : ℕ) → Refuses (types_in source.now) scope.now (λ s. meaning.placed s n (line_in source.now line.now)) }
 {
-    let name = Text::copy(alloc, local_name(source.bytes, line.result))?;
+    let written = local_name(alloc, source.bytes, line.result)?;
+    let name = Text::copy(alloc, written.as_str())?;
     // the first pass has seen that a line which names its result has one
     let inst = instruction(alloc, source, scope, &line.inst, line.result.is_some())?;
     let ty = type_or_void(source, &line.inst);
@@ -129,7 +130,8 @@ fn body_block(
     ensures typed { IfOk result (λ x. AreTypedInsts source.now.module.now x.insts) }
     ensures not_yet { result ≡ Err BuildErr.NotYet → (n : ℕ) → Refuses (types_in source.now) scope.now (λ s. all_from (meaning.placed s) n (block_in source.now block.now).lines) }
 {
-    let name = Text::copy(alloc, label_name(source.bytes, block.label))?;
+    let written = label_name(alloc, source.bytes, block.label)?;
+    let name = Text::copy(alloc, written.as_str())?;
     let insts = body_insts(alloc, source, scope, block.lines)?;
     Ok(BodyBlock { name, insts })
 }

@@ -10,11 +10,12 @@ ghost use Rattle.ll_bodies.specs.declared.scope.Local.TheVariants as code_local;
 
 use crate::blocks::SaidBlock;
 use crate::build_err::BuildErr;
-use crate::names::{written_label, written_local};
 use crate::results::{Source, result_type};
 use crate::scope::{Local, Scope};
+use crate::written::{define_label, define_local};
 use ll_lines::lines::{Line, Param, Part};
 use llvm_core::numbers::{LLVMBasicBlock, LLVMFunction, LLVMInstRef};
+use std::alloc::Global;
 
 /// The number behind a number.
 pub fn next_number(number: u32) -> Result<u32, BuildErr>
@@ -30,6 +31,7 @@ pub fn next_number(number: u32) -> Result<u32, BuildErr>
 
 /// Defines the result of a line, where it has one. A line without a result has no name.
 fn define_result<'a>(
+    alloc: Global,
     source: &Source<'a>,
     scope: &mut Scope<'a>,
     number: u32,
@@ -43,8 +45,8 @@ fn define_result<'a>(
 {
     match result_type(source, &line.inst) {
         Some(ty) => {
-            let key = written_local(source.bytes, line.result)?;
-            scope.define(Local::Result(LLVMInstRef(number), ty), key)
+            let local = Local::Result(LLVMInstRef(number), ty);
+            define_local(alloc, source.bytes, scope, local, line.result)
         }
         None => match line.result {
             Some(_) => Err(BuildErr::NotYet),
@@ -55,6 +57,7 @@ fn define_result<'a>(
 
 /// Defines the result of a part, where it is a line that has one, and answers the number behind it.
 fn define_part<'a>(
+    alloc: Global,
     source: &Source<'a>,
     scope: &mut Scope<'a>,
     number: u32,
@@ -70,7 +73,7 @@ fn define_part<'a>(
     match part {
         Part::Label(_) => Ok(number),
         Part::Does(line) => {
-            define_result(source, scope, number, line)?;
+            define_result(alloc, source, scope, number, line)?;
             next_number(number)
         }
     }
@@ -78,6 +81,7 @@ fn define_part<'a>(
 
 /// Defines the results of lines, which have the numbers from `first` on, and answers the number behind them.
 pub fn define_lines<'a>(
+    alloc: Global,
     source: &Source<'a>,
     scope: &mut Scope<'a>,
     first: u32,
@@ -92,7 +96,7 @@ pub fn define_lines<'a>(
 {
     let mut number = first;
     for part in lines {
-        number = define_part(source, scope, number, part)?;
+        number = define_part(alloc, source, scope, number, part)?;
     }
     Ok(number)
 }
@@ -100,6 +104,7 @@ pub fn define_lines<'a>(
 /// Defines a block, which has a number, and the results of its lines, which have the numbers from `first` on; answers the number
 /// behind them.
 fn define_block<'a>(
+    alloc: Global,
     source: &Source<'a>,
     scope: &mut Scope<'a>,
     number: u32,
@@ -113,13 +118,14 @@ fn define_block<'a>(
     ensures adds { OnOk result (Adds (IsOfBlock source.now number first block.now) scope.old scope.new) }
     ensures not_yet { result ≡ Err BuildErr.NotYet → Refuses (types_in source.now) scope.old (block_scope source.now number first block.now) }
 {
-    let key = written_label(source.bytes, block.label)?;
-    scope.define(Local::Block(LLVMBasicBlock(number)), key)?;
-    define_lines(source, scope, first, block.lines)
+    let local = Local::Block(LLVMBasicBlock(number));
+    define_label(alloc, source.bytes, scope, local, block.label)?;
+    define_lines(alloc, source, scope, first, block.lines)
 }
 
 /// Defines blocks, which have the numbers from `first_block` on, and the results of their lines, which have those from `first` on.
 pub fn define_blocks<'a>(
+    alloc: Global,
     source: &Source<'a>,
     scope: &mut Scope<'a>,
     first_block: u32,
@@ -135,7 +141,7 @@ pub fn define_blocks<'a>(
     let mut number = first_block;
     let mut next = first;
     for block in blocks {
-        next = define_block(source, scope, number, next, block)?;
+        next = define_block(alloc, source, scope, number, next, block)?;
         number = next_number(number)?;
     }
     Ok(())
@@ -143,6 +149,7 @@ pub fn define_blocks<'a>(
 
 /// Defines a parameter of a function, at its place.
 fn define_param<'a>(
+    alloc: Global,
     source: &Source<'a>,
     scope: &mut Scope<'a>,
     f: LLVMFunction,
@@ -153,12 +160,13 @@ fn define_param<'a>(
     ensures adds { OnOk result (Adds (λ (y : Local). y ≡ code_local.Param f place param.now.ty) scope.old scope.new) }
     ensures not_yet { result ≡ Err BuildErr.NotYet → Refuses (types_in source.now) scope.old (param_scope source.now f.0 place param.now) }
 {
-    let key = written_local(source.bytes, param.name)?;
-    scope.define(Local::Param(f, place, param.ty), key)
+    let local = Local::Param(f, place, param.ty);
+    define_local(alloc, source.bytes, scope, local, param.name)
 }
 
 /// Defines the parameters of a function.
 pub fn define_params<'a>(
+    alloc: Global,
     source: &Source<'a>,
     scope: &mut Scope<'a>,
     f: LLVMFunction,
@@ -170,7 +178,7 @@ pub fn define_params<'a>(
 {
     let mut place = 0;
     for param in params {
-        define_param(source, scope, f, place, param)?;
+        define_param(alloc, source, scope, f, place, param)?;
         place = next_number(place)?;
     }
     Ok(())

@@ -7,7 +7,7 @@ ghost use Rattle.ll_bodies.specs.ScopeViews.{Knows, local_at};
 ghost use Rattle.ll_bodies.specs.SourceViews.{IsSource, IsScopeIn, HasLinesIn, types_in, source_trees};
 ghost use Rattle.llvm_core.specs.Bodies.{blocks_from, IsBodyOf};
 ghost use Rattle.ll_bodies.specs.FunctionViews.{function_in, function_scope, function_made, IsNamed, IsNext};
-ghost use Rattle.ll_bodies.specs.Scopes.{global_name};
+ghost use Rattle.ll_bodies.specs.Scopes.{Key, global_name};
 ghost use Rattle.ll_bodies.specs.Meaning.{function_data};
 ghost use Rattle.std.specs.Option.{option_map};
 
@@ -16,7 +16,7 @@ use crate::bodies::body_blocks;
 use crate::build_err::BuildErr;
 use crate::definitions::{define_blocks, define_params};
 use crate::results::Source;
-use crate::scope::{Key, Local, Scope};
+use crate::scope::{Local, Scope};
 use ll_lines::lines::{Function, Param};
 use llvm_core::bodies::BodyBlock;
 use llvm_core::numbers::LLVMFunction;
@@ -50,8 +50,8 @@ fn scope_of<'a>(
     ensures not_yet { result ≡ Err BuildErr.NotYet → function_scope source.now f.0 first_block first params.now blocks.now ≡ None }
 {
     let mut scope = Scope::new(alloc, room);
-    define_params(source, &mut scope, f, params)?;
-    define_blocks(source, &mut scope, first_block, first, blocks)?;
+    define_params(alloc, source, &mut scope, f, params)?;
+    define_blocks(alloc, source, &mut scope, first_block, first, blocks)?;
     Ok(scope)
 }
 

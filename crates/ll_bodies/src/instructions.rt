@@ -24,28 +24,9 @@ use llvm_core::numbers::LLVMType;
 use std::alloc::Global;
 use support::short_list::ShortList;
 
-/// An entry of a phi of a type.
-fn entry(source: &Source<'_>, scope: &Scope<'_>, ty: LLVMType, said: &Incoming) -> Option<PhiEntry>
-    requires source { IsSource source.now }
-    requires scope { IsScopeIn source.now.module.now scope.now }
-    requires ty { IsTypeIn source.now.module.now ty }
-    requires said { IsSaidIn source.now.module.now said.now.said }
-    ensures { (s : spec.Scope) → Knows (types_in source.now) scope.now s → meaning.entry s (type_at (types_in source.now) ty) (entry_in source.now said.now) ≡ option_map (entry_of (source_trees source.now)) result }
-{
-    match operand(source, scope, ty, said.said) {
-        Some(value) => match block(source, scope, said.block) {
-            Some(found) => Some(PhiEntry {
-                value,
-                block: found,
-            }),
-            None => None,
-        },
-        None => None,
-    }
-}
-
 /// An entry of a phi of a type, which is refused where it means nothing.
-fn known_entry(
+fn entry(
+    alloc: Global,
     source: &Source<'_>,
     scope: &Scope<'_>,
     ty: LLVMType,
@@ -58,10 +39,12 @@ fn known_entry(
     ensures ok { IfOk result (λ e. (s : spec.Scope) → Knows (types_in source.now) scope.now s → meaning.entry s (type_at (types_in source.now) ty) (entry_in source.now said.now) ≡ Some (entry_of (source_trees source.now) e)) }
     ensures not_yet { result ≡ Err BuildErr.NotYet → Refuses (types_in source.now) scope.now (λ s. meaning.entry s (type_at (types_in source.now) ty) (entry_in source.now said.now)) }
 {
-    match entry(source, scope, ty, said) {
-        Some(found) => Ok(found),
-        None => Err(BuildErr::NotYet),
-    }
+    let value = operand(alloc, source, scope, ty, said.said)?;
+    let found = block(alloc, source, scope, said.block)?;
+    Ok(PhiEntry {
+        value,
+        block: found,
+    })
 }
 
 /// The entries of a phi of a type, of any number.
@@ -81,10 +64,8 @@ fn all_entries(
 {
     let mut made = ShortList::zero();
     for x in said {
-        match entry(source, scope, ty, x) {
-            Some(found) => made.push(alloc, found)?,
-            None => return Err(BuildErr::NotYet),
-        }
+        let found = entry(alloc, source, scope, ty, x)?;
+        made.push(alloc, found)?;
     }
     Ok(made)
 }
@@ -105,10 +86,10 @@ fn entries(
     ensures not_yet { result ≡ Err BuildErr.NotYet → Refuses (types_in source.now) scope.now (λ s. all_of (meaning.entry s (type_at (types_in source.now) ty)) (map (entry_in source.now) said.now)) }
 {
     match said {
-        [x] => Ok(ShortList::one(known_entry(source, scope, ty, x)?)),
+        [x] => Ok(ShortList::one(entry(alloc, source, scope, ty, x)?)),
         [x, y] => {
-            let first = known_entry(source, scope, ty, x)?;
-            let second = known_entry(source, scope, ty, y)?;
+            let first = entry(alloc, source, scope, ty, x)?;
+            let second = entry(alloc, source, scope, ty, y)?;
             Ok(ShortList::two(first, second))
         }
         _ => all_entries(alloc, source, scope, ty, said),

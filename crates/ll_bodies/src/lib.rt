@@ -12,3 +12,4 @@ pub mod names;
 pub mod operands;
 pub mod results;
 pub mod scope;
+pub mod written;

@@ -10,21 +10,22 @@ ghost use Rattle.llvm_core.specs.Data as trees;
 ghost use Rattle.ll_lines.specs.Lines as said;
 ghost use Rattle.ll_lines.specs.Views.{text_of, IsTypeIn, IsSaidIn, IsTypedIn};
 ghost use Rattle.ll_bodies.specs.Scopes as spec;
-ghost use Rattle.ll_bodies.specs.Scopes.{value_of_type, block_of};
+ghost use Rattle.ll_bodies.specs.Scopes.{local_of, value_of_type, block_of};
 ghost use Rattle.ll_bodies.specs.Meaning as meaning;
 ghost use Rattle.ll_bodies.specs.Meaning.{all_of};
 ghost use Rattle.ll_bodies.specs.ScopeViews.{local_view, Knows, Refuses};
 ghost use Rattle.ll_bodies.specs.SourceViews.{IsSource, source_trees, types_in, said_in, typed_in, IsLocalIn, IsScopeIn};
 
 use crate::build_err::BuildErr;
-use crate::names::local_key;
+use crate::names::of_local;
 use crate::results::Source;
 use crate::scope::{Local, Scope};
+use crate::written::known;
 use ll_lines::lines::{Said, Typed};
 use ll_lines::names::Name;
 use llvm_core::code::LLVMValue;
 use llvm_core::numbers::{LLVMBasicBlock, LLVMConst, LLVMType};
-use std::alloc::Global;
+use std::alloc::{AllocError, Global};
 use support::short_list::ShortList;
 
 /// The value, where the type is its own.
@@ -66,57 +67,66 @@ fn constant(source: &Source<'_>, ty: LLVMType, c: LLVMConst) -> Option<LLVMValue
     of_type(value, source.module.type_of(value), ty)
 }
 
-/// What is said as an operand of a type.
+/// The value that a local's token says, where it is of a type.
+#[inline(always)]
+fn named_value(
+    alloc: Global,
+    source: &Source<'_>,
+    scope: &Scope<'_>,
+    ty: LLVMType,
+    name: Name,
+) -> Result<Option<LLVMValue>, AllocError>
+    requires source { IsSource source.now }
+    requires scope { IsScopeIn source.now.module.now scope.now }
+    requires ty { IsTypeIn source.now.module.now ty }
+    ensures { IfOk result (λ v. (s : spec.Scope) → Knows (types_in source.now) scope.now s → value_of_type (type_at (types_in source.now) ty) (local_of s (text_of source.now.bytes.now name)) ≡ option_map (operand_of (source_trees source.now)) v) }
+{
+    match known(alloc, scope, of_local(name.text(source.bytes))) {
+        Ok(local) => Ok(local_value(local, ty)),
+        Err(e) => Err(e),
+    }
+}
+
+/// What is said as an operand of a type, which is refused where it means nothing.
 #[inline(always)]
 pub fn operand(
+    alloc: Global,
     source: &Source<'_>,
     scope: &Scope<'_>,
     ty: LLVMType,
     said: Said,
-) -> Option<LLVMValue>
+) -> Result<LLVMValue, BuildErr>
     requires source { IsSource source.now }
     requires scope { IsScopeIn source.now.module.now scope.now }
     requires ty { IsTypeIn source.now.module.now ty }
     requires said { IsSaidIn source.now.module.now said }
-    ensures { (s : spec.Scope) → Knows (types_in source.now) scope.now s → meaning.operand s (type_at (types_in source.now) ty) (said_in source.now said) ≡ option_map (operand_of (source_trees source.now)) result }
+    ensures ok { IfOk result (λ v. (s : spec.Scope) → Knows (types_in source.now) scope.now s → meaning.operand s (type_at (types_in source.now) ty) (said_in source.now said) ≡ Some (operand_of (source_trees source.now) v)) }
+    ensures not_yet { result ≡ Err BuildErr.NotYet → Refuses (types_in source.now) scope.now (λ s. meaning.operand s (type_at (types_in source.now) ty) (said_in source.now said)) }
 {
-    match said {
+    let value = match said {
         Said::Const(c) => constant(source, ty, c),
-        Said::Local(name) => match local_key(name.text(source.bytes)) {
-            Some(key) => local_value(scope.get(key), ty),
-            None => None,
-        },
-    }
-}
-
-/// The block that a name says.
-pub fn block(source: &Source<'_>, scope: &Scope<'_>, name: Name) -> Option<LLVMBasicBlock>
-    ensures { (s : spec.Scope) → Knows (types_in source.now) scope.now s → block_of s (text_of source.now.bytes.now name) ≡ option_map (λ (b : LLVMBasicBlock). b.0) result }
-{
-    match local_key(name.text(source.bytes)) {
-        Some(key) => match scope.get(key) {
-            Some(Local::Block(b)) => Some(b),
-            _ => None,
-        },
-        None => None,
-    }
-}
-
-/// The operand that is said, which is refused where it means nothing.
-fn known_operand(
-    source: &Source<'_>,
-    scope: &Scope<'_>,
-    typed: &Typed,
-) -> Result<LLVMValue, BuildErr>
-    requires source { IsSource source.now }
-    requires scope { IsScopeIn source.now.module.now scope.now }
-    requires typed { IsTypedIn source.now.module.now typed.now }
-    ensures ok { IfOk result (λ v. (s : spec.Scope) → Knows (types_in source.now) scope.now s → meaning.operand s (typed_in source.now typed.now).type (typed_in source.now typed.now).said ≡ Some (operand_of (source_trees source.now) v)) }
-    ensures not_yet { result ≡ Err BuildErr.NotYet → Refuses (types_in source.now) scope.now (λ s. meaning.operand s (typed_in source.now typed.now).type (typed_in source.now typed.now).said) }
-{
-    match operand(source, scope, typed.ty, typed.said) {
+        Said::Local(name) => named_value(alloc, source, scope, ty, name)?,
+    };
+    match value {
         Some(value) => Ok(value),
         None => Err(BuildErr::NotYet),
+    }
+}
+
+/// The block that a name says, which is refused where it says none.
+pub fn block(
+    alloc: Global,
+    source: &Source<'_>,
+    scope: &Scope<'_>,
+    name: Name,
+) -> Result<LLVMBasicBlock, BuildErr>
+    ensures ok { IfOk result (λ b. (s : spec.Scope) → Knows (types_in source.now) scope.now s → block_of s (text_of source.now.bytes.now name) ≡ Some b.0) }
+    ensures not_yet { result ≡ Err BuildErr.NotYet → Refuses (types_in source.now) scope.now (λ s. block_of s (text_of source.now.bytes.now name)) }
+{
+    match known(alloc, scope, of_local(name.text(source.bytes))) {
+        Ok(Some(Local::Block(b))) => Ok(b),
+        Ok(_) => Err(BuildErr::NotYet),
+        Err(_) => Err(BuildErr::NoMemory),
     }
 }
 
@@ -135,10 +145,8 @@ fn all_operands(
 {
     let mut values = ShortList::zero();
     for x in typed {
-        match operand(source, scope, x.ty, x.said) {
-            Some(value) => values.push(alloc, value)?,
-            None => return Err(BuildErr::NotYet),
-        }
+        let value = operand(alloc, source, scope, x.ty, x.said)?;
+        values.push(alloc, value)?;
     }
     Ok(values)
 }
@@ -157,28 +165,13 @@ pub fn operands(
     ensures not_yet { result ≡ Err BuildErr.NotYet → Refuses (types_in source.now) scope.now (λ s. all_of (λ (x : said.Typed). meaning.operand s x.type x.said) (map (typed_in source.now) typed.now)) }
 {
     match typed {
-        [x] => Ok(ShortList::one(known_operand(source, scope, x)?)),
+        [x] => Ok(ShortList::one(operand(alloc, source, scope, x.ty, x.said)?)),
         [x, y] => {
-            let first = known_operand(source, scope, x)?;
-            let second = known_operand(source, scope, y)?;
+            let first = operand(alloc, source, scope, x.ty, x.said)?;
+            let second = operand(alloc, source, scope, y.ty, y.said)?;
             Ok(ShortList::two(first, second))
         }
         _ => all_operands(alloc, source, scope, typed),
-    }
-}
-
-/// The block that a name says, which is refused where it says none.
-fn known_block(
-    source: &Source<'_>,
-    scope: &Scope<'_>,
-    name: Name,
-) -> Result<LLVMBasicBlock, BuildErr>
-    ensures ok { IfOk result (λ b. (s : spec.Scope) → Knows (types_in source.now) scope.now s → block_of s (text_of source.now.bytes.now name) ≡ Some b.0) }
-    ensures not_yet { result ≡ Err BuildErr.NotYet → Refuses (types_in source.now) scope.now (λ s. block_of s (text_of source.now.bytes.now name)) }
-{
-    match block(source, scope, name) {
-        Some(found) => Ok(found),
-        None => Err(BuildErr::NotYet),
     }
 }
 
@@ -194,10 +187,8 @@ fn all_targets(
 {
     let mut blocks = ShortList::zero();
     for name in names {
-        match block(source, scope, *name) {
-            Some(found) => blocks.push(alloc, found)?,
-            None => return Err(BuildErr::NotYet),
-        }
+        let found = block(alloc, source, scope, *name)?;
+        blocks.push(alloc, found)?;
     }
     Ok(blocks)
 }
@@ -213,10 +204,10 @@ pub fn targets(
     ensures not_yet { result ≡ Err BuildErr.NotYet → Refuses (types_in source.now) scope.now (λ s. all_of (block_of s) (map (text_of source.now.bytes.now) names.now)) }
 {
     match names {
-        [x] => Ok(ShortList::one(known_block(source, scope, *x)?)),
+        [x] => Ok(ShortList::one(block(alloc, source, scope, *x)?)),
         [x, y] => {
-            let first = known_block(source, scope, *x)?;
-            let second = known_block(source, scope, *y)?;
+            let first = block(alloc, source, scope, *x)?;
+            let second = block(alloc, source, scope, *y)?;
             Ok(ShortList::two(first, second))
         }
         _ => all_targets(alloc, source, scope, names),

@@ -1,11 +1,11 @@
 //! What the names and numbers of a function stand for.
 
-ghost use Rattle.std.specs.Prelude.{◌≡◌, List, None, Some, Err, OnOk};
+ghost use Rattle.std.specs.Prelude.{◌≡◌, List, None, Some, Err, OnOk, string_bytes};
+ghost use Rattle.std.specs.HashMap.{get_by_text};
 ghost use Rattle.llvm_core.specs.Data.{TypeTree};
 ghost use Rattle.ll_bodies.specs.Scopes as spec;
 ghost use Rattle.ll_bodies.specs.Scopes.{empty_scope, counted, define};
-ghost use Rattle.ll_bodies.specs.ScopeViews.{option_key, local_view, local_at, IsPut, Knows, Takes, Refuses, Adds};
-ghost use Rattle.ll_bodies.specs.declared.scope.Key.TheVariants as keys;
+ghost use Rattle.ll_bodies.specs.ScopeViews.{key_view, local_view, local_at, IsPut, Knows, Takes, Refuses, Adds};
 
 use crate::build_err::BuildErr;
 use llvm_core::numbers::{LLVMBasicBlock, LLVMFunction, LLVMInstRef, LLVMType};
@@ -35,6 +35,8 @@ pub struct Scope<'a> {
     next: u32,
     numbered: NumberMap<Local>,
     named: HashMap<&'a str, Local>,
+    /// Under names that stand nowhere in the text, since they were written with escapes.
+    escaped: HashMap<String, Local>,
     /// The room that is made for names with the first one.
     room: usize,
 }
@@ -49,24 +51,36 @@ impl<'a> Scope<'a> {
             next: 0,
             numbered: NumberMap::new(alloc),
             named: HashMap::new(alloc),
+            escaped: HashMap::new(alloc),
             room,
         }
     }
 
+    /// What a name stands for that was written with escapes.
+    #[inline(never)]
+    fn get_escaped(&self, name: &str) -> Option<Local>
+        ensures { result ≡ get_by_text self.now.escaped name.now }
+    {
+        self.escaped.get(name).copied()
+    }
+
     /// What a key stands for.
     #[inline(always)]
-    pub fn get(&self, key: Key<'a>) -> Option<Local>
-        ensures { result ≡ local_at self.now key.entry }
+    pub fn get(&self, key: Key<'_>) -> Option<Local>
+        ensures { result ≡ local_at self.now (key_view key) }
     {
         match key {
-            Key::Named(name) => self.named.get(&name).copied(),
+            Key::Named(name) => match self.named.get(name) {
+                Some(local) => Some(*local),
+                None => self.get_escaped(name),
+            },
             Key::Numbered(number) => self.numbered.get(number),
         }
     }
 
-    /// Lets a name stand for a thing.
+    /// Lets a name that stands in the text stand for a thing.
     fn set_name(&mut self, name: &'a str, local: Local) -> Result<(), AllocError>
-        ensures put { OnOk result (IsPut self.old self.new (keys.Named name.entry) local) }
+        ensures put { OnOk result (IsPut self.old self.new (spec.Named name.now) local) }
         ensures next { self.new.next ≡ self.old.next }
     {
         if self.named.is_empty() {
@@ -76,9 +90,22 @@ impl<'a> Scope<'a> {
         Ok(())
     }
 
+    /// Lets a name that was written with escapes stand for a thing.
+    fn set_escaped(&mut self, name: String, local: Local) -> Result<(), AllocError>
+        ensures put { OnOk result (IsPut self.old self.new (spec.Named (string_bytes name)) local) }
+        ensures next { self.new.next ≡ self.old.next }
+    {
+        if let Some(held) = self.named.get_mut(name.as_str()) {
+            *held = local;
+            return Ok(());
+        }
+        self.escaped.insert(name, local)?;
+        Ok(())
+    }
+
     /// Lets a number stand for a thing.
     fn set_number(&mut self, number: u32, local: Local) -> Result<(), AllocError>
-        ensures put { OnOk result (IsPut self.old self.new (keys.Numbered number) local) }
+        ensures put { OnOk result (IsPut self.old self.new (spec.Numbered number) local) }
     {
         self.numbered.set(number, local)
     }
@@ -97,12 +124,21 @@ impl<'a> Scope<'a> {
         Ok(())
     }
 
+    /// Defines the next thing of the function, of whose name nothing is written: it takes the counter.
+    pub fn define_next(&mut self, local: Local) -> Result<(), BuildErr>
+        ensures ok { OnOk result ((types : List TypeTree) → Takes types self.old self.new (λ s. define s (local_view types local) None)) }
+        ensures adds { OnOk result (Adds (λ (y : Local). y ≡ local) self.old self.new) }
+        ensures not_yet { result ≡ Err BuildErr.NotYet → (types : List TypeTree) → Refuses types self.old (λ s. define s (local_view types local) None) }
+    {
+        self.count(local, self.next)
+    }
+
     /// Defines a thing under a name, or under a number that is at least the counter.
     #[inline(always)]
-    fn define_under(&mut self, local: Local, key: Key<'a>) -> Result<(), BuildErr>
-        ensures ok { OnOk result ((types : List TypeTree) → Takes types self.old self.new (λ s. define s (local_view types local) (option_key (Some key.entry)))) }
+    pub fn define_under(&mut self, local: Local, key: Key<'a>) -> Result<(), BuildErr>
+        ensures ok { OnOk result ((types : List TypeTree) → Takes types self.old self.new (λ s. define s (local_view types local) (Some (key_view key.entry)))) }
         ensures adds { OnOk result (Adds (λ (y : Local). y ≡ local) self.old self.new) }
-        ensures not_yet { result ≡ Err BuildErr.NotYet → (types : List TypeTree) → Refuses types self.old (λ s. define s (local_view types local) (option_key (Some key.entry))) }
+        ensures not_yet { result ≡ Err BuildErr.NotYet → (types : List TypeTree) → Refuses types self.old (λ s. define s (local_view types local) (Some (key_view key.entry))) }
     {
         match key {
             Key::Numbered(number) => {
@@ -118,17 +154,11 @@ impl<'a> Scope<'a> {
         }
     }
 
-    /// Defines the next thing of the function, under what is written of its name. What has neither a name nor a number takes
-    /// the counter.
-    #[inline(always)]
-    pub fn define(&mut self, local: Local, key: Option<Key<'a>>) -> Result<(), BuildErr>
-        ensures ok { OnOk result ((types : List TypeTree) → Takes types self.old self.new (λ s. define s (local_view types local) (option_key key.entry))) }
+    /// Defines a thing under a name that was written with escapes.
+    pub fn define_escaped(&mut self, local: Local, name: String) -> Result<(), AllocError>
+        ensures ok { OnOk result ((types : List TypeTree) → Takes types self.old self.new (λ s. define s (local_view types local) (Some (spec.Named (string_bytes name))))) }
         ensures adds { OnOk result (Adds (λ (y : Local). y ≡ local) self.old self.new) }
-        ensures not_yet { result ≡ Err BuildErr.NotYet → (types : List TypeTree) → Refuses types self.old (λ s. define s (local_view types local) (option_key key.entry)) }
     {
-        match key {
-            None => self.count(local, self.next),
-            Some(key) => self.define_under(local, key),
-        }
+        self.set_escaped(name, local)
     }
 }

@@ -21,22 +21,29 @@ is_bare (b ∷ bs) = is_name_byte b && not (is_digit b) && list_all is_name_byte
 abbrev pub is_name : Text → Bool
 is_name n = not (is_bad_name n) && is_utf8 n
 
--- what stands between quotes, None of a text that does not begin and end with one
+-- what stands between the quotes of a text that begins and ends with one
 abbrev pub inside : Text → Option Text
 inside [] = None
 inside (b ∷ bs) = if b == 34 && slice_index_or bs (length bs - 1) 0 == 34 then Some (take (length bs - 1) bs) else None
 
--- the name that quotes say, None where they say no name
+-- bytes, where they are a text, and where they are a name
+abbrev pub if_text : Text → Option Text
+if_text t = if is_utf8 t then Some t else None
+
+abbrev pub if_name : Text → Option Text
+if_name t = if is_name t then Some t else None
+
+-- the text that quotes say
+abbrev pub text_said : Text → Option Text
+text_said t = option_and_then (λ (u : Text). if_text (unescaped u)) (inside t)
+
+-- the name that quotes say
 abbrev pub quoted_name : Text → Option Text
-quoted_name t = option_and_then (λ (u : Text). if is_name (unescaped u) then Some (unescaped u) else None) (inside t)
+quoted_name t = option_and_then if_name (text_said t)
 
 -- the name that a written name says: a bare one says itself
 abbrev pub name_said : Text → Option Text
 name_said t = if is_bare t then Some t else quoted_name t
-
--- the text that quotes say, which may be any that is UTF-8
-abbrev pub text_said : Text → Option Text
-text_said t = option_and_then (λ (u : Text). if is_utf8 (unescaped u) then Some (unescaped u) else None) (inside t)
 
 -- @name, name: and "name"
 abbrev pub global : Text → Text

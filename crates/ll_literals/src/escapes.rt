@@ -1,6 +1,7 @@
 //! Bytes between quotes: what they say, and how bytes are written there.
 
 ghost use Rattle.std.specs.Prelude.{◌≡◌, ◌<◌, [], ◌∷◌, ◌++◌, true, length, IfNone, IfSome, OnOk};
+ghost use Rattle.support.specs.Appended.{Keeps};
 ghost use Rattle.ll_literals.specs.Escapes.{is_hex, hex_value, hex_digit, unescaped, escape, escaped};
 
 use std::alloc::AllocError;
@@ -75,7 +76,8 @@ pub fn unescape(inside: &[u8], out: &mut Vec<u8>) -> Result<(), AllocError>
 
 /// Appends bytes as they are written between quotes.
 pub fn escape(bytes: &[u8], out: &mut Vec<u8>) -> Result<(), AllocError>
-    ensures { OnOk result (out.new.items ≡ out.old.items ++ escaped bytes.now) }
+    ensures text { OnOk result (out.new.items ≡ out.old.items ++ escaped bytes.now) }
+    ensures kept { Keeps out.old.items out.new.items }
 {
     for b in bytes {
         put_escaped(*b, out)?;
@@ -85,7 +87,8 @@ pub fn escape(bytes: &[u8], out: &mut Vec<u8>) -> Result<(), AllocError>
 
 /// Appends a byte as it is written between quotes.
 fn put_escaped(b: u8, out: &mut Vec<u8>) -> Result<(), AllocError>
-    ensures { OnOk result (out.new.items ≡ out.old.items ++ escape b) }
+    ensures text { OnOk result (out.new.items ≡ out.old.items ++ escape b) }
+    ensures kept { Keeps out.old.items out.new.items }
 {
     if b == 92 {
         out.extend_from_slice(b"\\\\")

@@ -5,3 +5,5 @@ pub mod escapes;
 pub mod literals;
 pub mod names;
 pub mod numbers;
+pub mod printed;
+pub mod quotes;

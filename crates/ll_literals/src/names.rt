@@ -1,4 +1,4 @@
-//! Names in LLVM text.
+//! Bare names.
 
 ghost use Rattle.std.specs.Prelude.{◌≡◌, true, false, IfSome, IfNone, slice_index_or, if◌then◌else◌};
 ghost use Rattle.std.specs.List.{list_all};
@@ -48,7 +48,7 @@ fn all_name_bytes(bytes: &[u8]) -> bool
 }
 
 /// Bytes of a bare name, and no digit first.
-fn is_bare(text: &[u8]) -> bool
+pub(crate) fn is_bare(text: &[u8]) -> bool
     ensures { result ≡ is_bare text.now }
 {
     let [b, ..] = text else {

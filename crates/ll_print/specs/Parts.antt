@@ -19,6 +19,7 @@ use Rattle.llvm_core.specs.Sound.{IsModule}
 use Rattle.llvm_core.specs.Data.{Placed, Block, Function, ModuleData, trees_of, type_at, param_type, placed_at, block_at, function_of, placed_in}
 use Rattle.llvm_core.specs.Form.{HasNumber}
 use Rattle.kinds.specs.Types.{result_of}
+use Rattle.ll_literals.specs.Names.{printed_name}
 use Rattle.ll_literals.specs.Numbers.{number_limit}
 use Rattle.ll_print.specs.declared.numbers.Numbers.{Numbers}
 use Rattle.ll_print.specs.Printing.{Unnamed, unnamed_result, unnamed_block, unnamed_in, gives_text, placed_text, entry_label_text, block_text}
@@ -58,7 +59,7 @@ all_lines_of m f (b ∷ bs) = entry_lines_of m f b ++ flat_map (lines_of m f) bs
 -- a name, or the number of what has none
 abbrev pub bare_text : List ℕ → ℕ → List ℕ
 bare_text [] number = decimal number
-bare_text (b ∷ bs) number = b ∷ bs
+bare_text (b ∷ bs) number = printed_name (b ∷ bs)
 
 -- behind %
 abbrev pub named_text : List ℕ → ℕ → List ℕ

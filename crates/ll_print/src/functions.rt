@@ -17,6 +17,7 @@ use crate::numbers::Numbers;
 use crate::operands::{put_bare, put_local};
 use crate::places::Place;
 use crate::types::put_type;
+use ll_literals::printed::put_name;
 use llvm_core::module::LLVMModule;
 use llvm_core::numbers::{LLVMBasicBlock, LLVMFunction, LLVMType};
 use llvm_core::types::LLVMTypeKind;
@@ -182,7 +183,7 @@ fn put_head(
     out.extend_from_slice(b"\ndefine ")?;
     put_type(m, returned, out)?;
     out.extend_from_slice(b" @")?;
-    out.extend_from_slice(m.function_name(f).as_bytes())?;
+    put_name(m.function_name(f).as_bytes(), out)?;
     out.extend_from_slice(b"(")
 }
 

@@ -11,6 +11,7 @@ use crate::constants::put_const;
 use crate::numbers::Numbers;
 use crate::places::Place;
 use crate::types::{put_decimal, put_type};
+use ll_literals::printed::put_name;
 use llvm_core::code::LLVMValue;
 use llvm_core::module::LLVMModule;
 use llvm_core::numbers::LLVMBasicBlock;
@@ -39,7 +40,7 @@ pub fn put_bare(
     if name.is_empty() {
         put_number(numbers, place, out)
     } else {
-        out.extend_from_slice(name.as_bytes())
+        put_name(name.as_bytes(), out)
     }
 }
 

@@ -5,10 +5,11 @@ ghost use Rattle.support.specs.Appended.{Keeps};
 ghost use Rattle.llvm_core.specs.Data.{data_of};
 ghost use Rattle.llvm_core.specs.Form.{IsForm, HasDistinctNames, HasFew};
 ghost use Rattle.ll_text.specs.Spelling.{Spells};
-ghost use Rattle.ll_print.specs.Printing.{source_text, module_text, IsBareOrNone, EndsLine};
+ghost use Rattle.ll_print.specs.Printing.{source_text, module_text, EndsLine};
 ghost use Rattle.ll_print.specs.Parts.{AreNumberable};
 
 use crate::functions::put_function;
+use ll_literals::printed::put_text;
 use llvm_core::module::LLVMModule;
 use llvm_core::numbers::LLVMFunction;
 use std::alloc::{AllocError, Global};
@@ -20,9 +21,9 @@ fn put_source(name: &str, out: &mut Vec<u8>) -> Result<(), AllocError>
     ensures kept { Keeps out.old.items out.new.items }
 {
     if !name.is_empty() {
-        out.extend_from_slice(b"source_filename = \"")?;
-        out.extend_from_slice(name.as_bytes())?;
-        out.extend_from_slice(b"\"\n")?;
+        out.extend_from_slice(b"source_filename = ")?;
+        put_text(name.as_bytes(), out)?;
+        out.push(b'\n')?;
     }
     Ok(())
 }
@@ -46,7 +47,6 @@ fn put_module(alloc: Global, m: &LLVMModule, out: &mut Vec<u8>) -> Result<(), Al
 /// Appends the text of a module of the form.
 pub fn print_ll(alloc: Global, module: &LLVMModule, out: &mut Vec<u8>) -> Result<(), AllocError>
     requires form { IsForm (data_of «module».now) }
-    requires name { IsBareOrNone «module».now.name }
     requires names { HasDistinctNames (data_of «module».now) }
     requires few { HasFew (data_of «module».now) }
     ensures text { OnOk result (out.new.items ≡ out.old.items ++ module_text (data_of «module».now)) }

@@ -5,6 +5,7 @@ use Rattle.std.specs.Option.{option_map_or}
 use Rattle.llvm_core.specs.Data.{TypeTree, Placed, Block, Function, placed_in}
 use Rattle.kinds.specs.Held.{is_void}
 use Rattle.ll_literals.specs.Text.{Text}
+use Rattle.ll_literals.specs.Names.{printed_name}
 
 -- ---- what has no name
 
@@ -50,7 +51,7 @@ unnamed_number f x = position_or_len (same_unnamed x) (unnamed_in f)
 -- % and the name, or the number of what has none
 abbrev pub local_text : Function → Text → Unnamed → Text
 local_text f [] x = 37 ∷ decimal (unnamed_number f x)
-local_text f (b ∷ bs) x = 37 ∷ b ∷ bs
+local_text f (b ∷ bs) x = 37 ∷ printed_name (b ∷ bs)
 
 -- the name of the result of the instruction of that number
 abbrev pub result_name : Function → ℕ → Text

@@ -4,7 +4,7 @@ use Rattle.std.specs.List.{flat_map}
 use Rattle.llvm_core.specs.Data.{TypeTree, Operand, Constant, Parameter, Result, RowData, Instruction, Phi, Applied, Placed, Block, Function, ModuleData, operand_type, param_type}
 use Rattle.kinds.specs.Types.{result_of}
 use Rattle.kinds.specs.Held.{is_void}
-use Rattle.ll_literals.specs.Names.{global, label, quoted}
+use Rattle.ll_literals.specs.Names.{global, label, printed_name, printed_text}
 use Rattle.ll_lines.specs.Lines as L
 use Rattle.ll_lines.specs.Lines.{Text, Said, Typed, RowLine, Incoming, Inst, Line, Part, Param, File}
 use Rattle.ll_said.specs.Naming.{ParamAt, ResultOf, local_text, result_name, block_ref}
@@ -75,7 +75,7 @@ params_of f i (n ∷ ns) = record { type = param_type f.type i; name = Some (loc
 abbrev pub function_of : Function → L.Function
 function_of f = record {
   result = result_of f.type;
-  name = global f.name;
+  name = global (printed_name f.name);
   params = params_of f 0 f.params;
   body = parts_of f f.blocks;
 }
@@ -83,7 +83,7 @@ function_of f = record {
 -- the name of the module between quotes, none for an empty name
 abbrev pub source_of : Text → Option Text
 source_of [] = None
-source_of (b ∷ bs) = Some (quoted (b ∷ bs))
+source_of (b ∷ bs) = Some (printed_text (b ∷ bs))
 
 abbrev pub file_of : ModuleData → File
 file_of d = record { source = source_of d.name; functions = map function_of d.functions }

@@ -1,12 +1,12 @@
 -- Module data that a text says whole.
 use Rattle.std.specs.Prelude.{◌≡◌, ◌≤◌, ℕ, suc, true, List, [], ◌∷◌, length, map, All}
 use Rattle.std.specs.List.{flat_map}
+use Rattle.std.specs.Str.{is_utf8}
 use Rattle.support.specs.Interned.{IsDistinctList}
 use Rattle.llvm_core.specs.Data.{Placed, Block, Function, ModuleData}
 use Rattle.llvm_core.specs.Data as L
 use Rattle.llvm_core.specs.Form.{IsFormFunction, local_names}
 use Rattle.ll_literals.specs.Text.{Text}
-use Rattle.ll_literals.specs.Names.{is_bare}
 use Rattle.ll_literals.specs.Numbers.{number_limit}
 use Rattle.ll_said.specs.Naming.{unnamed_in}
 
@@ -47,12 +47,7 @@ pub record IsNumbered (d : ModuleData) : Type 0 where
 
 -- ---- modules
 
--- a bare name, or none
-abbrev pub IsBareOrNone : Text → Type 0
-IsBareOrNone [] = Unit {0}
-IsBareOrNone (b ∷ bs) = is_bare (b ∷ bs) ≡ true
-
--- a module whose functions a text says whole, under a bare name or none, however it is numbered
+-- a module whose functions a text says whole, however it is numbered; its name may be any text
 pub record IsSayableModule (d : ModuleData) : Type 0 where
   pub functions : All IsSayable d.functions
-  pub name : IsBareOrNone d.name
+  pub name : is_utf8 d.name ≡ true

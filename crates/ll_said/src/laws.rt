@@ -1,18 +1,19 @@
 //! What the text of module data says means the data, under numbers from 0 on in its order.
 
-ghost use Rattle.std.specs.Prelude.{◌≡◌, ℕ, Option, Some, All};
+ghost use Rattle.std.specs.Prelude.{◌≡◌, ℕ, true, Option, Some, All};
+ghost use Rattle.std.specs.Str.{is_utf8};
 ghost use Rattle.llvm_core.specs.Data.{Function, ModuleData};
 ghost use Rattle.llvm_core.specs.Form.{IsForm, HasDistinctNames, HasFew};
 ghost use Rattle.ll_lines.specs.Lines.{File};
 ghost use Rattle.ll_bodies.specs.Meaning.{function_data, file_data};
 ghost use Rattle.ll_said.specs.Said.{function_of, file_of};
-ghost use Rattle.ll_said.specs.Sayable.{HasFewUnnamed, IsSayable, IsNumberedFrom, IsBareOrNone, IsSayableModule, IsNumbered};
+ghost use Rattle.ll_said.specs.Sayable.{HasFewUnnamed, IsSayable, IsNumberedFrom, IsSayableModule, IsNumbered};
 ghost use Rattle.ll_said.specs.Numbered.{numbered};
 ghost use Rattle.ll_said.specs.Examples.{loose, tidy, lines};
 
 /// What is asked of data, by its parts.
 pub fn is_said_whole()
-    ensures { (d : ModuleData) → IsForm d → HasDistinctNames d → All HasFewUnnamed d.functions → IsBareOrNone d.name → IsSayableModule d }
+    ensures { (d : ModuleData) → IsForm d → HasDistinctNames d → All HasFewUnnamed d.functions → is_utf8 d.name ≡ true → IsSayableModule d }
 {}
 
 /// What the text of a function says means the function, where it is numbered from there.

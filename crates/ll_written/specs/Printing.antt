@@ -12,7 +12,7 @@ use Rattle.llvm_core.specs.Data.{TypeTree, VoidType, IntType, PointerType, Float
 use Rattle.kinds.specs.Types.{result_of}
 use Rattle.kinds.specs.Held.{is_void}
 use Rattle.ll_literals.specs.Text.{Text}
-use Rattle.ll_literals.specs.Names.{global, quoted}
+use Rattle.ll_literals.specs.Names.{global, printed_name, printed_text}
 use Rattle.ll_said.specs.Naming.{ParamAt, ResultOf, local_text, result_name, block_ref}
 
 -- ---- types and constants
@@ -225,7 +225,7 @@ params_text f i (n ∷ ns) = comma_text i ++ type_text (param_type f.type i) ++ 
 
 -- what stands before the parameters of a function, after a blank line
 abbrev pub head_text : Function → Text
-head_text f = codes "\ndefine " ++ type_text (result_of f.type) ++ codes " " ++ global f.name ++ codes "("
+head_text f = codes "\ndefine " ++ type_text (result_of f.type) ++ codes " " ++ global (printed_name f.name) ++ codes "("
 
 -- a function, after a blank line
 abbrev pub function_text : Function → Text
@@ -235,7 +235,7 @@ function_text f =
 -- the line of a module's name, none for an empty name
 abbrev pub source_text : Text → Text
 source_text [] = []
-source_text (b ∷ bs) = codes "source_filename = " ++ quoted (b ∷ bs) ++ codes "\n"
+source_text (b ∷ bs) = codes "source_filename = " ++ printed_text (b ∷ bs) ++ codes "\n"
 
 abbrev pub module_text : ModuleData → Text
 module_text d = source_text d.name ++ flat_map function_text d.functions
