@@ -1,7 +1,7 @@
 -- Bytes that are written between quotes say themselves.
 use Rattle.std.proofs.Common.{arith, ◌≡◌, ◌<◌, ◌≤◌, ℕ, ◌+◌, ◌-◌, ◌*◌, ◌/◌, ◌%◌, Bool, true, false, ◌&&◌, not, ◌==◌, nat_le, if◌then◌else◌, [], ◌∷◌, ◌++◌, suc, length, take, drop, slice_index_or, All, refl, ap, sym, ◌∙◌}
-use Rattle.std.specs.List.{list_all}
-use Rattle.std.proofs.lemmas.Bool.{and_from}
+use Rattle.std.specs.List.{list_all, list_any}
+use Rattle.std.proofs.lemmas.Bool.{and_from, or_parts}
 use Rattle.std.proofs.lemmas.List.{take_all}
 use Rattle.std.proofs.lemmas.List.Folds.{list_all-append}
 use Rattle.std.proofs.lemmas.List.Elements.{All-head, All-tail}
@@ -79,6 +79,13 @@ unfolding unescaped
 escaped_says [] h = refl
 escaped_says (b ∷ bs) h =
     escape_first b (escaped bs) (All-head (λ (x : ℕ). x < 256) b bs h) ∙ ap (λ (x : Text). b ∷ x) (escaped_says bs (All-tail (λ (x : ℕ). x < 256) b bs h))
+
+-- bytes without a backslash say themselves
+pub no_slash : (bs : Text) → list_any (λ (b : ℕ). b == 92) bs ≡ false → unescaped bs ≡ bs
+no_slash [] none = says_nothing
+no_slash (b ∷ bs) none =
+    let both = or_parts (b == 92) (list_any (λ (x : ℕ). x == 92) bs) none in
+    plain_first b bs both.0 ∙ ap (λ (x : Text). b ∷ x) (no_slash bs both.1)
 
 -- ---- where it ends
 

@@ -4,3 +4,4 @@ pub mod NameBytes
 pub mod NameLaws
 pub mod NumberLaws
 pub mod QuoteLaws
+pub mod TextBytes
