@@ -18,9 +18,11 @@ import sys
 import runs
 
 TOKEN = re.compile(rb"\s+|;[^\n]*|[@%]?[A-Za-z0-9$._-]+:?|\"[^\"]*\"|.", re.S)
-EXTRA = [b"%", b"@", b"0", b"1", b"-1", b"i1", b"i32", b"i64", b"i65", b"void", b"add", b"ret", b"nuw",
-         b"nsw", b",", b"(", b")", b"{", b"}", b"=", b":", b"define", b"%0", b"%a", b"7:", b"\n", b"true", b"\xff", b"br", b"label", b"phi", b"icmp", b"eq", b"udiv", b"select", b"freeze", b"zext", b"nneg", b"trunc", b"to",
-         b"slt", b"unreachable", b"[", b"]", b"%loop", b"%x", b"%y"]
+EXTRA = [b"\n", b"\xff"] + (
+    b"% @ 0 1 -1 i1 i32 i64 i65 void add ret nuw nsw , ( ) { } = : define %0 %a 7: true br label phi icmp eq udiv "
+    b"select freeze zext nneg trunc to slt unreachable [ ] %loop %x %y ptr addrspace addrspace(1) "
+    b"addrspace(16777215) addrspace(16777216) half bfloat float double fp128 i8388608 i8388609 1.0 null"
+).split()
 
 
 def mutate_bytes(rng, text):
