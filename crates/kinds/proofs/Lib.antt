@@ -4,4 +4,3 @@ pub mod FittingLaws
 pub mod TableLaws
 pub mod OpLaws
 pub mod HeldLaws
-pub mod ByteLaws

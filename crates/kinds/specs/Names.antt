@@ -1,6 +1,7 @@
 -- Names of symbols, blocks and results, on both sides.
-use Rattle.std.specs.Prelude.{◌≡◌, ℕ, Bool, true, false, not, ◌&&◌, ◌||◌, ◌==◌, nat_eq, nat_le, List, [], ◌∷◌, length}
-use Rattle.std.specs.List.{list_all, list_any, starts_with}
+use Rattle.std.specs.Prelude.{◌≡◌, ℕ, Bool, true, not, ◌&&◌, ◌||◌, nat_eq, nat_le, List, [], ◌∷◌, length}
+use Rattle.std.specs.List.{list_any, starts_with}
+use Rattle.std.specs.Str.{is_utf8}
 
 -- ---- names of symbols
 
@@ -20,7 +21,7 @@ is_intrinsic_name n = starts_with nat_eq n intrinsic_prefix
 abbrev pub is_own_name : List ℕ → Bool
 is_own_name n = not (is_bad_name n) && not (is_intrinsic_name n)
 
--- ---- names that are translated today
+-- ---- names that a text can say
 
 abbrev pub is_digit : ℕ → Bool
 is_digit b = nat_le 48 b && nat_le b 57
@@ -28,14 +29,9 @@ is_digit b = nat_le 48 b && nat_le b 57
 abbrev pub is_letter : ℕ → Bool
 is_letter b = (nat_le 65 b && nat_le b 90) || (nat_le 97 b && nat_le b 122)
 
-abbrev pub is_plain_byte : ℕ → Bool
-is_plain_byte b = is_letter b || is_digit b || b == 95
-
--- a name that the form takes: letters, digits and `_`, no digit first. An import needs no more of a name than that it is
--- none of an intrinsic: what a text can say and print stands here alone.
+-- what a symbol, a local, a block and a struct may be named: not empty, without a zero byte, UTF-8
 abbrev pub is_good_name : List ℕ → Bool
-is_good_name [] = false
-is_good_name (b ∷ bs) = (is_letter b || b == 95) && list_all is_plain_byte bs
+is_good_name n = not (is_bad_name n) && is_utf8 n
 
 -- such a name, or none
 abbrev pub IsGoodOrNone : List ℕ → Type 0
