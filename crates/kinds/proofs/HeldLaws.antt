@@ -4,7 +4,7 @@ use Rattle.kinds.specs.declared.fitting.Shape.{Shape}
 use Rattle.kinds.specs.declared.fitting.Shape.TheVariants as S
 use Rattle.kinds.specs.Types.{TypeTree, VoidType, IntType, PointerType, FloatingType, FunctionType, shape}
 use Rattle.kinds.specs.Fitting.{is_value, is_first_class, is_held}
-use Rattle.kinds.specs.Held.{is_void, own_type, IsFirstClass, IsReturned, IsHeld, IsHeldResult, IsShortWidth}
+use Rattle.kinds.specs.Held.{is_void, own_type, IsFirstClass, IsReturned, IsHeld, IsHeldResult}
 
 -- ---- void
 

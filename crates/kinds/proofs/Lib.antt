@@ -4,3 +4,4 @@ pub mod FittingLaws
 pub mod TableLaws
 pub mod OpLaws
 pub mod HeldLaws
+pub mod NameLaws

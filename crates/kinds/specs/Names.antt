@@ -1,5 +1,5 @@
 -- Names of symbols, blocks and results, on both sides.
-use Rattle.std.specs.Prelude.{◌≡◌, ℕ, Bool, true, not, ◌&&◌, ◌||◌, nat_eq, nat_le, List, [], ◌∷◌, length}
+use Rattle.std.specs.Prelude.{◌≡◌, ℕ, Bool, true, not, ◌&&◌, ◌||◌, ◌==◌, nat_eq, nat_le, List, [], ◌∷◌, length}
 use Rattle.std.specs.List.{list_any, starts_with}
 use Rattle.std.specs.Str.{is_utf8}
 
@@ -28,6 +28,10 @@ is_digit b = nat_le 48 b && nat_le b 57
 
 abbrev pub is_letter : ℕ → Bool
 is_letter b = (nat_le 65 b && nat_le b 90) || (nat_le 97 b && nat_le b 122)
+
+-- a letter, a digit or `_`
+abbrev pub is_plain_byte : ℕ → Bool
+is_plain_byte b = is_letter b || is_digit b || b == 95
 
 -- what a symbol, a local, a block and a struct may be named: not empty, without a zero byte, UTF-8
 abbrev pub is_good_name : List ℕ → Bool
