@@ -1,6 +1,6 @@
--- A checked module with plain names and narrow types is of the form.
+-- A checked module with good names and narrow types is of the form.
 use Rattle.std.proofs.Common.{◌≡◌, ◌≢◌, ◌<◌, inl, inr, ℕ, true, false, nat_eq, [], Option, None, Some, length, slice_get, refl, sym, ap, subst, ◌∙◌}
-use Rattle.std.specs.List.{flat_map, list_any}
+use Rattle.std.specs.List.{filter_map, flat_map, list_any}
 use Rattle.std.specs.Option.{option_map, option_map_or}
 use Rattle.std.proofs.lemmas.Bool.{cases_eq, cases_Bool, eqb-true, not-false, or_parts, false_from_ne_true, true_from_ne_false}
 use Rattle.std.proofs.lemmas.Option.{slice_get-map, same_Some}
@@ -16,14 +16,14 @@ use Rattle.llvm_core.specs.declared.code.InstData.{InstData}
 use Rattle.llvm_core.specs.declared.code.LLVMInst.{LLVMInst}
 use Rattle.llvm_core.specs.declared.code.LLVMInst.TheVariants as I
 use Rattle.llvm_core.specs.declared.check_err.Place.TheVariants as P
-use Rattle.llvm_core.specs.declared.check_err.CheckErr.TheVariants.{NoTerminator, PhiPlace, PhiEntries, EntryHasPreds, OperandType, OperandCount, BlockOutside, FunctionSpace}
+use Rattle.llvm_core.specs.declared.check_err.CheckErr.TheVariants.{NoTerminator, PhiPlace, PhiEntries, EntryHasPreds, OperandType, OperandCount, BlockOutside, IntrinsicBody, FunctionSpace}
 use Rattle.llvm_core.specs.Module.{Module}
 use Rattle.llvm_core.specs.Edges.{targets_at, targets_from}
 use Rattle.llvm_core.specs.Edges.{targets as leads_to}
 use Rattle.llvm_core.specs.Parts.{HasValues, IsBlock}
 use Rattle.llvm_core.specs.Sound.{IsModule}
-use Rattle.llvm_core.specs.Data.{Operand, Placed, Block, trees_of, data_of, operand_type}
-use Rattle.llvm_core.specs.Checked.{IsChecked, MisfitsType, misfits_count, home, ends_in_only, is_block_outside, is_outside, reaches_outside}
+use Rattle.llvm_core.specs.Data.{Operand, Placed, Block, trees_of, block_at, data_of, operand_type}
+use Rattle.llvm_core.specs.Checked.{IsChecked, MisfitsType, is_intrinsic_name, misfits_count, home, ends_in_only, is_block_outside, is_outside, reaches_outside}
 use Rattle.llvm_core.specs.Form.{IsForm, IsFormFunction, IsFormBlock, IsFormPlaced, IsNarrow, IsNarrowFunction, IsNarrowBlock, IsNarrowPlaced, IsNarrowConst, operands_of, HasPhisFirst, is_last, is_phi}
 use Rattle.llvm_core.proofs.DataLemmas.{within_at, function_at}
 use Rattle.llvm_core.proofs.GivenLemmas.{none_any_at}
@@ -164,6 +164,7 @@ module _ (m : Module) (sound : IsModule m) (checked : IsChecked m) where
         let s = signature_of m f x narrow.result narrow.types false sound at narrow.type in
         record {
           name = narrow.name;
+          own = false_from_ne_true (is_intrinsic_name x.name) (λ own. checked (IntrinsicBody (P.Function f)) (x, at, (own, λ none. narrow.body (ap (filter_map (block_at (trees_of m) m.blocks m.insts)) none))));
           result = narrow.result;
           types = narrow.types;
           type = narrow.type;
@@ -179,6 +180,6 @@ module _ (m : Module) (sound : IsModule m) (checked : IsChecked m) where
           numbers = narrow.numbers;
         }
 
-  -- a checked module with plain names and narrow types is of the form
+  -- a checked module with good names and narrow types is of the form
   pub form_of_checked : IsNarrow (data_of m) → IsForm (data_of m)
   form_of_checked narrow = each_function m IsFormFunction (λ f x at. function_form f x at (within_at (data_of m).functions IsNarrowFunction narrow f (shown m f x) (function_at m f x at)))

@@ -22,7 +22,8 @@ use Rattle.llvm_core.specs.Form.{IsForm, IsFormFunction, IsFormBlock, IsFormPlac
 use Rattle.llvm_core.specs.Form.{local_names as names_of}
 use Rattle.llvm_core.proofs.DataLemmas.{within_at, function_at, function_count, block_count_of, inst_count_of, block_of_number, inst_of_number}
 use Rattle.llvm_core.proofs.CheckLemmas.{all_checked}
-use Rattle.llvm_core.proofs.FormNames.{good_of_plain, own_of_plain, same_local_names, once_of_distinct}
+use Rattle.kinds.proofs.NameLaws.{good_not_bad}
+use Rattle.llvm_core.proofs.FormNames.{same_local_names, once_of_distinct}
 use Rattle.llvm_core.proofs.FormTypes.{numbered, signature_of, signature_fits}
 use Rattle.llvm_core.proofs.FormPlaces.{shown, shown_block, shown_inst, same_block_ends, same_phi_at, function_there, HasBlockPlace, block_place, inst_place, block_from, in_home}
 use Rattle.llvm_core.proofs.FormEdges.{StaysInside, count_absent, same_targets_from, one_place, same_edges}
@@ -64,7 +65,7 @@ module _ (m : Module) (sound : IsModule m) (apart : AreApart m) (form : IsForm (
       absurd (omega (arith, h, short, count))
 
   fresh : (f : ℕ) → IsFreshName m f
-  fresh f x at = (good_of_plain x.name (form_at m form f x at).name, untaken f x at)
+  fresh f x at = (good_not_bad x.name (form_at m form f x at).name, untaken f x at)
 
   function_checked : (f : ℕ) → IsCheckedFunction m f
   function_checked f = record {
@@ -73,7 +74,7 @@ module _ (m : Module) (sound : IsModule m) (apart : AreApart m) (form : IsForm (
         let g = form_at m form f x at in
         let s = signature_of m f x g.result g.types false sound at g.type in
         cc (signature_fits m f x g.result g.types sound at s g.returns g.takes, misfits);
-    bodies = λ (x, at, own). own_of_plain x.name (form_at m form f x at).name own.0;
+    bodies = λ (x, at, own). let no : ⊥ = cc ((form_at m form f x at).own, own.0) in no;
     spaces = λ (x, at, space). space (form_at m form f x at).space;
     lists = λ (x, at, long). elim long [ inl params ↦ params_few f x at params | inr blocks ↦ blocks_few f x at blocks ];
   }

@@ -1,7 +1,7 @@
 -- Names, lists of them, and what is inserted in them.
 use Rattle.std.specs.Prelude.{◌≡◌, ◌<◌, ℕ, Bool, true, false, map, List, [], ◌∷◌, ◌++◌, slice_get, Some}
 use Rattle.std.specs.Borrow.{Bor}
-pub use Rattle.kinds.specs.Names.{is_digit, is_letter, is_plain_byte, is_good_name, IsGoodOrNone}
+pub use Rattle.kinds.specs.Names.{is_digit, is_letter, is_plain_byte, is_good_name, IsGoodOrNone, is_bad_name}
 
 -- the texts that are borrowed as names
 abbrev pub texts : List (Bor (List ℕ)) → List (List ℕ)

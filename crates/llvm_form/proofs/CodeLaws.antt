@@ -34,9 +34,9 @@ use Rattle.llvm_core.proofs.GivenLemmas.{none_any_at}
 use Rattle.llvm_core.proofs.FormTypes.{numbered, kind_kept, void_kept}
 use Rattle.llvm_core.proofs.FormValues.{value_typed}
 use Rattle.llvm_core.proofs.FormPlaces.{shown, shown_block, shown_inst, IsFromBlock, inst_from}
-use Rattle.llvm_form.specs.Narrow.{is_plain_or_none, is_held_result_kind, is_held_type, is_held_value, is_short_const, is_narrow_const, is_named_right, is_narrow_inst, is_narrow_inst_data, is_narrow_block_data}
+use Rattle.llvm_form.specs.Narrow.{is_good_or_none, is_held_result_kind, is_held_type, is_held_value, is_short_const, is_narrow_const, is_named_right, is_narrow_inst, is_narrow_inst_data, is_narrow_block_data}
 use Rattle.llvm_form.proofs.AllLaws.{each_passes, all_pass, mapped_decided}
-use Rattle.llvm_form.proofs.TypeLaws.{plain_or_none, named_right, held_decided, held_result_decided}
+use Rattle.llvm_form.proofs.TypeLaws.{good_or_none, named_right, held_decided, held_result_decided}
 
 -- the operands of an instruction, as data
 operands_shown : (m : Module) (i : LLVMInst) → operands_of (instruction_of (trees_of m) i) ≡ map (operand_of (trees_of m)) (operands i)
@@ -142,7 +142,7 @@ module _ (m : Module) (sound : IsModule m) (f : ℕ) (x : FunctionData) (at : sl
 
       pub block_decided : Decides (is_narrow_block_data m l.block) (IsNarrowBlock (shown m f x) c)
       block_decided =
-          let label = plain_or_none l.block.name in
-          let both = Decides-and (is_plain_or_none l.block.name) (list_all (is_narrow_inst m) l.block.insts) label insts_decided in
+          let label = good_or_none l.block.name in
+          let both = Decides-and (is_good_or_none l.block.name) (list_all (is_narrow_inst m) l.block.insts) label insts_decided in
           let whole = Decides-like (is_narrow_block_data m l.block) (λ h. record { label = h.0; instructions = h.1 }) (λ (b : IsNarrowBlock (shown m f x) (shown_block m l.number l.block)). (b.label, b.instructions)) both in
           subst (λ (d : Block). Decides (is_narrow_block_data m l.block) (IsNarrowBlock (shown m f x) d)) (sym l.shown_as) whole

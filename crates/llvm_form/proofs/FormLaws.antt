@@ -13,7 +13,7 @@ use Rattle.kinds.specs.Held.{IsHeld, IsHeldResult, IsHeldSignature}
 use Rattle.llvm_core.specs.declared.numbers.LLVMBasicBlock.{LLVMBasicBlock}
 use Rattle.llvm_core.specs.declared.code.FunctionData.{FunctionData}
 use Rattle.llvm_core.specs.Module.{Module}
-use Rattle.llvm_core.specs.Names.{is_plain, IsPlainOrNone}
+use Rattle.llvm_core.specs.Names.{is_good_name, IsGoodOrNone}
 use Rattle.llvm_core.specs.Parts.{is_kind}
 use Rattle.llvm_core.specs.Sound.{IsModule}
 use Rattle.llvm_core.specs.Data.{TypeTree, TypeTrees, FunctionType, IntConst, PlaceholderConst, Operand, Constant, Parameter, Result, Placed, Block, Function, ModuleData, Instruction, Phi, Applied, type_at, types_at, trees_of, data_of, operand_type}
@@ -24,10 +24,10 @@ use Rattle.llvm_core.proofs.FormTypes.{signature_of, function_typed}
 use Rattle.llvm_core.proofs.FormPlaces.{shown, block_from}
 use Rattle.llvm_core.proofs.DistinctLaws.{each_function, blocks_once}
 use Rattle.llvm_core.proofs.CheckedForm.{form_of_checked}
-use Rattle.llvm_form.specs.Narrow.{is_plain_or_none, is_held_type, is_held_result_kind, is_narrow_block, is_narrow_block_data, is_narrow_signature, has_body, is_narrow_function_data, is_narrow}
+use Rattle.llvm_form.specs.Narrow.{is_good_or_none, is_held_type, is_held_result_kind, is_narrow_block, is_narrow_block_data, is_narrow_signature, has_body, is_narrow_function_data, is_narrow}
 use Rattle.llvm_form.specs.Once.{HasInstsOnce, AreInstsOnce}
 use Rattle.llvm_form.proofs.AllLaws.{each_passes, all_pass}
-use Rattle.llvm_form.proofs.TypeLaws.{plain_or_none, held_types, held_result_decided}
+use Rattle.llvm_form.proofs.TypeLaws.{good_or_none, held_types, held_result_decided}
 use Rattle.llvm_form.proofs.CodeLaws.{block_decided}
 
 -- ---- functions
@@ -84,19 +84,19 @@ module _ (m : Module) (sound : IsModule m) (checked : IsChecked m) (f : ℕ) (x 
 
   -- the parts of a narrow function
   record NarrowParts : Type 0 where
-    name : is_plain x.name ≡ true
+    name : is_good_name x.name ≡ true
     type : IsHeldSignature (shown m f x).type
-    params : All IsPlainOrNone x.params
+    params : All IsGoodOrNone x.params
     body : ¬ ((shown m f x).blocks ≡ [])
     blocks : All (IsNarrowBlock (shown m f x)) (shown m f x).blocks
 
   parts_decided : Decides (is_narrow_function_data m x) NarrowParts
   parts_decided =
-      let named = is_plain x.name in
+      let named = is_good_name x.name in
       let typed = is_kind (is_narrow_signature m) m.types x.ty in
-      let params = list_all is_plain_or_none x.params in
-      let name_decided : Decides named (is_plain x.name ≡ true) = (λ e. e, λ h. h) in
-      let params_decided : Decides params (All IsPlainOrNone x.params) = Decides-by_and is_plain_or_none IsPlainOrNone (list_all is_plain_or_none) plain_or_none refl (λ n ns. refl) x.params in
+      let params = list_all is_good_or_none x.params in
+      let name_decided : Decides named (is_good_name x.name ≡ true) = (λ e. e, λ h. h) in
+      let params_decided : Decides params (All IsGoodOrNone x.params) = Decides-by_and is_good_or_none IsGoodOrNone (list_all is_good_or_none) good_or_none refl (λ n ns. refl) x.params in
       let first = Decides-and named typed name_decided type_decided in
       let second = Decides-and (named && typed) params first params_decided in
       let third = Decides-and (named && typed && params) (has_body m x) second body_decided in

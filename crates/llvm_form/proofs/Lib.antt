@@ -1,5 +1,4 @@
 -- The lemmas of the crate.
-pub mod ByteLaws
 pub mod AllLaws
 pub mod FewLaws
 pub mod TypeLaws

@@ -12,24 +12,24 @@ use Rattle.kinds.specs.Held.{is_void as void_tree}
 use Rattle.kinds.proofs.HeldLaws.{void_is, void_if}
 use Rattle.llvm_core.specs.declared.numbers.LLVMType.{LLVMType}
 use Rattle.llvm_core.specs.Module.{Module}
-use Rattle.llvm_core.specs.Names.{is_plain, IsPlainOrNone}
+use Rattle.llvm_core.specs.Names.{is_good_name, IsGoodOrNone}
 use Rattle.llvm_core.specs.Parts.{is_kind}
 use Rattle.llvm_core.specs.Sound.{IsModule}
 use Rattle.llvm_core.specs.Data.{TypeTree, VoidType, type_at, types_at, trees_of}
 use Rattle.llvm_core.proofs.FormTypes.{kind_kept}
-use Rattle.llvm_form.specs.Narrow.{is_none, is_plain_or_none, is_held_result_kind, is_held_type}
+use Rattle.llvm_form.specs.Narrow.{is_none, is_good_or_none, is_held_result_kind, is_held_type}
 
 -- ---- names
 
-pub plain_or_none : (n : List ℕ) → Decides (is_plain_or_none n) (IsPlainOrNone n)
-plain_or_none [] = (λ e. tt, λ h. refl)
-plain_or_none (b ∷ bs) = (λ e. e, λ h. h)
+pub good_or_none : (n : List ℕ) → Decides (is_good_or_none n) (IsGoodOrNone n)
+good_or_none [] = (λ e. tt, λ h. refl)
+good_or_none (b ∷ bs) = (λ e. e, λ h. h)
 
--- a name is plain, and what has no value has none
-pub named_right : (n : List ℕ) (τ : TypeTree) (void : Bool) → void ≡ void_tree τ → Decides (is_none n || (is_plain n && not void)) (IsPlainOrNone n × (τ ≡ VoidType → n ≡ []))
+-- a name is good, and what has no value has none
+pub named_right : (n : List ℕ) (τ : TypeTree) (void : Bool) → void ≡ void_tree τ → Decides (is_none n || (is_good_name n && not void)) (IsGoodOrNone n × (τ ≡ VoidType → n ≡ []))
 named_right [] τ void is = (λ e. (tt, λ same. refl), λ h. refl)
-named_right (b ∷ bs) τ true is = (λ e. let p = and_parts (is_plain (b ∷ bs)) false e in absurd (cc), λ h. let none : b ∷ bs ≡ [] = h.1 (void_is τ (sym is)) in absurd (cc))
-named_right (b ∷ bs) τ false is = (λ e. ((and_parts (is_plain (b ∷ bs)) true e).0, λ same. let void = void_if τ same in absurd (cc)), λ h. and_from (is_plain (b ∷ bs)) true h.0 refl)
+named_right (b ∷ bs) τ true is = (λ e. let p = and_parts (is_good_name (b ∷ bs)) false e in absurd (cc), λ h. let none : b ∷ bs ≡ [] = h.1 (void_is τ (sym is)) in absurd (cc))
+named_right (b ∷ bs) τ false is = (λ e. ((and_parts (is_good_name (b ∷ bs)) true e).0, λ same. let void = void_if τ same in absurd (cc)), λ h. and_from (is_good_name (b ∷ bs)) true h.0 refl)
 
 -- ---- types
 

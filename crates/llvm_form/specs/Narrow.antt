@@ -16,7 +16,7 @@ use Rattle.llvm_core.specs.declared.code.FunctionData.{FunctionData}
 use Rattle.llvm_core.specs.declared.code.BlockData.{BlockData}
 use Rattle.llvm_core.specs.declared.code.InstData.{InstData}
 use Rattle.llvm_core.specs.Module.{Module}
-use Rattle.llvm_core.specs.Names.{is_plain}
+use Rattle.llvm_core.specs.Names.{is_good_name}
 use Rattle.llvm_core.specs.Parts.{is_kind, shape_of, value_type, operands}
 use Rattle.kinds.specs.Fitting.{is_held, width_of}
 use Rattle.llvm_core.specs.Checked.{is_void}
@@ -27,8 +27,8 @@ abbrev pub is_none : List ℕ → Bool
 is_none [] = true
 is_none (b ∷ bs) = false
 
-abbrev pub is_plain_or_none : List ℕ → Bool
-is_plain_or_none n = is_none n || is_plain n
+abbrev pub is_good_or_none : List ℕ → Bool
+is_good_or_none n = is_none n || is_good_name n
 
 -- a type of a value that is translated
 abbrev pub is_held_kind : LLVMTypeKind → Bool
@@ -59,7 +59,7 @@ module _ (m : Module) where
 
   -- a result of no type has no name
   abbrev pub is_named_right : InstData → Bool
-  is_named_right x = is_none x.name || (is_plain x.name && not (is_kind is_void m.types x.ty))
+  is_named_right x = is_none x.name || (is_good_name x.name && not (is_kind is_void m.types x.ty))
 
   abbrev pub is_narrow_inst_data : InstData → Bool
   is_narrow_inst_data x = is_named_right x && is_kind is_held_result_kind m.types x.ty && list_all is_held_value (operands x.inst) && list_all is_narrow_const (operands x.inst)
@@ -68,7 +68,7 @@ module _ (m : Module) where
   is_narrow_inst i = option_map_or is_narrow_inst_data (slice_get m.insts i.0) false
 
   abbrev pub is_narrow_block_data : BlockData → Bool
-  is_narrow_block_data x = is_plain_or_none x.name && list_all is_narrow_inst x.insts
+  is_narrow_block_data x = is_good_or_none x.name && list_all is_narrow_inst x.insts
 
   abbrev pub is_narrow_block : LLVMBasicBlock → Bool
   is_narrow_block b = option_map_or is_narrow_block_data (slice_get m.blocks b.0) false
@@ -85,7 +85,7 @@ module _ (m : Module) where
   has_body x = nat_lt 0 (length x.blocks)
 
   abbrev pub is_narrow_function_data : FunctionData → Bool
-  is_narrow_function_data x = is_plain x.name && is_kind is_narrow_signature m.types x.ty && list_all is_plain_or_none x.params && has_body x && list_all is_narrow_block x.blocks
+  is_narrow_function_data x = is_good_name x.name && is_kind is_narrow_signature m.types x.ty && list_all is_good_or_none x.params && has_body x && list_all is_narrow_block x.blocks
 
   abbrev pub is_narrow_function : LLVMFunction → Bool
   is_narrow_function f = option_map_or is_narrow_function_data (slice_get m.functions f.0) false

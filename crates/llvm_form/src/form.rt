@@ -10,7 +10,7 @@ use crate::functions::is_narrow;
 use llvm_core::module::LLVMModule;
 
 #[tactic(auto, using(crate::proofs::FormLaws::form_decided))]
-/// Whether a checked module is of the form: each function has a body, names are plain, types of values are translated.
+/// Whether a checked module is of the form: each function has a body, names can be said by a text, types of values are translated.
 pub fn is_form(m: &LLVMModule) -> bool
     requires checked { IsChecked m.now }
     requires once { AreInstsOnce (data_of m.now) }

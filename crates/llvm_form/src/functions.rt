@@ -6,9 +6,10 @@ ghost use Rattle.std.specs.Option.{option_map};
 ghost use Rattle.llvm_core.specs.Checked.{IsChecked};
 ghost use Rattle.llvm_core.specs.Code.{param_names};
 ghost use Rattle.llvm_core.specs.Parts.{IsConstOver, IsValue, HasValues, is_kind, operands};
-ghost use Rattle.llvm_form.specs.Narrow.{is_plain_or_none, is_held_type, is_held_result_kind, is_held_value, is_short_const, is_narrow_const, is_named_right, is_narrow_inst, is_narrow_block, is_narrow_signature, is_narrow_function, is_narrow};
+ghost use Rattle.llvm_form.specs.Narrow.{is_good_or_none, is_held_type, is_held_result_kind, is_held_value, is_short_const, is_narrow_const, is_named_right, is_narrow_inst, is_narrow_block, is_narrow_signature, is_narrow_function, is_narrow};
 
-use crate::narrow::{is_held_kind, is_held_result_kind, is_plain, is_plain_or_none, is_void};
+use crate::narrow::{is_good_or_none, is_held_kind, is_held_result_kind, is_void};
+use kinds::names::is_good_name;
 use llvm_core::code::{LLVMInst, LLVMValue, PhiEntry};
 use llvm_core::consts::LLVMConstKind;
 use llvm_core::module::LLVMModule;
@@ -134,7 +135,7 @@ fn is_narrow_inst(m: &LLVMModule, i: LLVMInstRef) -> bool
 {
     let kind = m.type_kind(m.type_of(LLVMValue::Inst(i)));
     let name = m.inst_name(i);
-    let named = name.is_empty() || (is_plain(name) && !is_void(kind));
+    let named = name.is_empty() || (is_good_name(name) && !is_void(kind));
     let inst = m.inst(i);
     named && is_held_result_kind(kind) && has_held_operands(m, inst) && has_narrow_consts(m, inst)
 }
@@ -157,7 +158,7 @@ fn is_narrow_block(m: &LLVMModule, b: LLVMBasicBlock) -> bool
     requires { b.0 < length m.now.blocks }
     ensures { result ≡ is_narrow_block m.now b }
 {
-    is_plain_or_none(m.block_name(b)) && are_narrow_insts(m, m.instructions(b))
+    is_good_or_none(m.block_name(b)) && are_narrow_insts(m, m.instructions(b))
 }
 
 fn are_narrow_blocks(m: &LLVMModule, blocks: &[LLVMBasicBlock]) -> bool
@@ -214,14 +215,14 @@ fn param_count(m: &LLVMModule, f: LLVMFunction) -> usize
     }
 }
 
-/// Whether the names of parameters are plain, where they have one.
-fn are_plain_params(m: &LLVMModule, f: LLVMFunction) -> bool
+/// Whether the names of parameters are good, where they have one.
+fn are_good_params(m: &LLVMModule, f: LLVMFunction) -> bool
     requires within { f.0 < length m.now.functions }
     requires few { length (param_names m.now.functions f) < 2 ^ 31 }
-    ensures { result ≡ list_all is_plain_or_none (param_names m.now.functions f) }
+    ensures { result ≡ list_all is_good_or_none (param_names m.now.functions f) }
 {
     for place in 0..param_count(m, f) {
-        if !is_plain_or_none(m.param_name(f, place as u32)) {
+        if !is_good_or_none(m.param_name(f, place as u32)) {
             return false;
         }
     }
@@ -234,9 +235,9 @@ fn is_narrow_function(m: &LLVMModule, f: LLVMFunction) -> bool
     requires few { length (param_names m.now.functions f) < 2 ^ 31 }
     ensures { result ≡ is_narrow_function m.now f }
 {
-    is_plain(m.function_name(f))
+    is_good_name(m.function_name(f))
         && is_narrow_signature(m, m.function_type(f))
-        && are_plain_params(m, f)
+        && are_good_params(m, f)
         && !m.blocks(f).is_empty()
         && are_narrow_blocks(m, m.blocks(f))
 }
