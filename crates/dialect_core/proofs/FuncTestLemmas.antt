@@ -10,6 +10,7 @@ use Rattle.support.proofs.ListLaws.{all_from}
 use Rattle.support.proofs.OptionLaws.{none_from}
 use Rattle.kinds.specs.Types.{params_of}
 use Rattle.kinds.specs.Held.{IsFirstClass, IsSignature}
+use Rattle.kinds.specs.Names.{is_own_name}
 use Rattle.dialect_types.specs.declared.types.TypeHandle.{TypeHandle}
 use Rattle.dialect_types.specs.Trees.{TypeTree, VoidType, type_at, type_trees}
 use Rattle.dialect_core.specs.declared.numbers.OpRef.{OpRef}
@@ -22,9 +23,9 @@ use Rattle.dialect_core.specs.declared.ops.OpData.{OpData}
 use Rattle.dialect_core.specs.declared.ops.BlockData.{BlockData}
 use Rattle.dialect_core.specs.Lists.{Once, list_at}
 use Rattle.dialect_core.specs.ContextData.{ContextData, IsSymbol, kind_at, symbol_at, region_at}
-use Rattle.dialect_core.specs.Data.{DialectOp, DialectBlock, Func, op_at, block_in, block_of, func_of, func_in, held, data_of, name_at, type_in}
+use Rattle.dialect_core.specs.Data.{DialectOp, DialectBlock, Func, llvm_name_of, op_at, block_in, block_of, func_of, func_in, held, data_of, name_at, symbol_name_at, type_in}
 use Rattle.dialect_core.specs.WellFormed.{HasFewEntries, HasFirstClassArgs, IsFew, IsFewFunc, IsPlainAt, IsPastFirsts, IsWellFormedBlock, IsWellFormedFunc, IsWellFormed, suits, suits_body, suits_declaration}
-use Rattle.dialect_core.specs.Checking.{AreApartFrom, AreFuncLines, AreLines, IsBlockAt, IsFuncAt, IsHead, block_at, func_at, tree_at}
+use Rattle.dialect_core.specs.Checking.{AreApartFrom, AreFuncLines, AreLines, IsApartFrom, IsBlockAt, IsFuncAt, IsHead, block_at, func_at, tree_at}
 use Rattle.dialect_core.proofs.ChainLemmas.{same_op}
 use Rattle.dialect_core.proofs.HoldLemmas.{flat_stands, stands_flat}
 use Rattle.dialect_core.proofs.TestLemmas.{always, never, no_true, same_block}
@@ -97,6 +98,10 @@ module _ (c : ContextData) (f : OpRef) where
   unfolding func_at
   func_name = refl
 
+  pub func_llvm_name : llvm_name_of (func_at c f) ≡ symbol_name_at c.ops f
+  unfolding func_at
+  func_llvm_name = refl
+
   pub func_linkage : (l : LinkageAttr) → option_map (λ (s : Symbol). s.linkage) (symbol_at c.ops f) ≡ Some l → (func_at c f).linkage ≡ l
   unfolding func_at
   func_linkage l h = by (symbol_at c.ops f) h
@@ -110,20 +115,20 @@ module _ (c : ContextData) (f : OpRef) where
   func_data h = by (slice_get c.ops f.0) h.0 h.1
     where
       with_symbol : (x : OpData) (s : Option Symbol) (t : Symbol) → s ≡ Some t
-          → option_map {U = Func} (λ (s : Symbol). record { number = f.0; name = unwrap_or x.name []; type = type_at (type_trees c.types) s.ty; linkage = s.linkage; blocks = filter_map (block_in (type_trees c.types) c) x.blocks }) s
-          ≡ Some (record { number = f.0; name = unwrap_or x.name []; type = option_map_or (λ (s : Symbol). tree_at c s.ty) s VoidType; linkage = option_map_or (λ (s : Symbol). s.linkage) s GhostLinkage; blocks = filter_map (block_in (type_trees c.types) c) x.blocks })
+          → option_map {U = Func} (λ (s : Symbol). record { number = f.0; name = unwrap_or x.name []; llvm_name = s.llvm_name; type = type_at (type_trees c.types) s.ty; linkage = s.linkage; blocks = filter_map (block_in (type_trees c.types) c) x.blocks }) s
+          ≡ Some (record { number = f.0; name = unwrap_or x.name []; llvm_name = option_and_then (λ (s : Symbol). s.llvm_name) s; type = option_map_or (λ (s : Symbol). tree_at c s.ty) s VoidType; linkage = option_map_or (λ (s : Symbol). s.linkage) s GhostLinkage; blocks = filter_map (block_in (type_trees c.types) c) x.blocks })
       with_symbol x None t e = absurd (none-some t e)
       with_symbol x (Some s) t e = refl
 
       by : (x : Option OpData) (s : Symbol) → option_and_then (λ (x : OpData). x.symbol) x ≡ Some s
           → option_and_then (func_of (type_trees c.types) c f) x
-          ≡ Some (record { number = f.0; name = option_map_or (λ (x : OpData). unwrap_or x.name []) x []; type = option_map_or (λ (s : Symbol). tree_at c s.ty) (option_and_then (λ (x : OpData). x.symbol) x) VoidType; linkage = option_map_or (λ (s : Symbol). s.linkage) (option_and_then (λ (x : OpData). x.symbol) x) GhostLinkage; blocks = filter_map (block_in (type_trees c.types) c) (option_map_or (λ (x : OpData). x.blocks) x []) })
+          ≡ Some (record { number = f.0; name = option_map_or (λ (x : OpData). unwrap_or x.name []) x []; llvm_name = option_and_then (λ (s : Symbol). s.llvm_name) (option_and_then (λ (x : OpData). x.symbol) x); type = option_map_or (λ (s : Symbol). tree_at c s.ty) (option_and_then (λ (x : OpData). x.symbol) x) VoidType; linkage = option_map_or (λ (s : Symbol). s.linkage) (option_and_then (λ (x : OpData). x.symbol) x) GhostLinkage; blocks = filter_map (block_in (type_trees c.types) c) (option_map_or (λ (x : OpData). x.blocks) x []) })
       by None s e = absurd (none-some s e)
       by (Some x) s e = with_symbol x x.symbol s e
 
-  pub head_is : (ty : TypeHandle) (t : Bool) → option_map (λ (s : Symbol). s.ty) (symbol_at c.ops f) ≡ Some ty → ¬ (name_at c.ops f.0 ≡ []) → suits (func_at c f).blocks (func_at c f).linkage ≡ true → (IsTrue t ↔ IsSignature (tree_at c ty)) → IsTrue t ↔ IsHead (func_at c f)
-  head_is ty t type named linkage h = (
-    λ w. record { named = λ e. named (sym func_name ∙ e); linkage = linkage; signature = subst IsSignature (sym (func_type c f ty type)) (h.0 w) },
+  pub head_is : (ty : TypeHandle) (t : Bool) → option_map (λ (s : Symbol). s.ty) (symbol_at c.ops f) ≡ Some ty → ¬ (name_at c.ops f.0 ≡ []) → is_own_name (llvm_name_of (func_at c f)) ≡ true → suits (func_at c f).blocks (func_at c f).linkage ≡ true → (IsTrue t ↔ IsSignature (tree_at c ty)) → IsTrue t ↔ IsHead (func_at c f)
+  head_is ty t type named llvm_named linkage h = (
+    λ w. record { named = λ e. named (sym func_name ∙ e); llvm_named = llvm_named; linkage = linkage; signature = subst IsSignature (sym (func_type c f ty type)) (h.0 w) },
     λ w. h.1 (subst IsSignature (func_type c f ty type) w.signature),
   )
 
@@ -192,6 +197,7 @@ module _ (c : ContextData) (f : OpRef) where
             past_firsts = each.1;
             func = record {
               named = head.named;
+              llvm_named = head.llvm_named;
               linkage = head.linkage;
               signature = head.signature;
               params = entry;
@@ -215,38 +221,52 @@ one_item (x ∷ []) d h = refl
 one_item (x ∷ (y ∷ xs)) d h = absurd (omega arith)
 
 module _ (c : ContextData) where
-  apart_at : (name : List ℕ) (xs : List OpRef) → AreApartFrom c name xs → (k : ℕ) (o : OpRef) → slice_get xs k ≡ Some o → name_at c.ops o.0 ≡ name → ⊥
-  apart_at name [] h k o at same = none-some o at
-  apart_at name (x ∷ xs) h zero o at same = h.0 (ap (λ (o : OpRef). name_at c.ops o.0) (same_Some x o at) ∙ same)
-  apart_at name (x ∷ xs) h (suc k) o at same = apart_at name xs h.1 k o at same
+  apart_at : (name llvm_name : List ℕ) (xs : List OpRef) → AreApartFrom c name llvm_name xs → (k : ℕ) (o : OpRef) → slice_get xs k ≡ Some o → IsApartFrom c name llvm_name o
+  apart_at name llvm_name [] h k o at = absurd (none-some o at)
+  apart_at name llvm_name (x ∷ xs) h zero o at = subst (IsApartFrom c name llvm_name) (same_Some x o at) h.0
+  apart_at name llvm_name (x ∷ xs) h (suc k) o at = apart_at name llvm_name xs h.1 k o at
 
-  at_apart : (name : List ℕ) (xs : List OpRef) → ((k : ℕ) (o : OpRef) → slice_get xs k ≡ Some o → name_at c.ops o.0 ≡ name → ⊥) → AreApartFrom c name xs
-  at_apart name [] h = tt
-  at_apart name (x ∷ xs) h = (h 0 x refl, at_apart name xs (λ k o at. h (suc k) o at))
+  at_apart : (name llvm_name : List ℕ) (xs : List OpRef) → ((k : ℕ) (o : OpRef) → slice_get xs k ≡ Some o → IsApartFrom c name llvm_name o) → AreApartFrom c name llvm_name xs
+  at_apart name llvm_name [] h = tt
+  at_apart name llvm_name (x ∷ xs) h = (h 0 x refl, at_apart name llvm_name xs (λ k o at. h (suc k) o at))
 
-  abbrev NamesOnce : List OpRef → Type 0
-  NamesOnce xs = (i j : ℕ) (p q : OpRef) → slice_get xs i ≡ Some p → slice_get xs j ≡ Some q → name_at c.ops p.0 ≡ name_at c.ops q.0 → i ≡ j
+  abbrev llvm_name_in : OpRef → List ℕ
+  llvm_name_in o = symbol_name_at c.ops o
+
+  abbrev own_name_in : OpRef → List ℕ
+  own_name_in o = name_at c.ops o.0
+
+  abbrev NamesOnce : (OpRef → List ℕ) → List OpRef → Type 0
+  NamesOnce name xs = (i j : ℕ) (p q : OpRef) → slice_get xs i ≡ Some p → slice_get xs j ≡ Some q → name p ≡ name q → i ≡ j
 
   funcs_at : (xs : List OpRef) → AreFuncLines c xs → (k : ℕ) (o : OpRef) → slice_get xs k ≡ Some o → IsFuncAt c o
   funcs_at [] h k o at = absurd (none-some o at)
   funcs_at (x ∷ xs) h zero o at = subst (IsFuncAt c) (same_Some x o at) h.0.0
   funcs_at (x ∷ xs) h (suc k) o at = funcs_at xs h.1 k o at
 
-  names_at : (xs : List OpRef) → AreFuncLines c xs → (i j : ℕ) (p q : OpRef) → slice_get xs i ≡ Some p → slice_get xs j ≡ Some q → name_at c.ops p.0 ≡ name_at c.ops q.0 → i ≡ j
-  names_at [] h i j p q a b same = absurd (none-some p a)
-  names_at (x ∷ xs) h zero zero p q a b same = refl
-  names_at (x ∷ xs) h zero (suc j) p q a b same = absurd (apart_at (name_at c.ops x.0) xs h.0.1 j q b (sym same ∙ ap (λ (o : OpRef). name_at c.ops o.0) (sym (same_Some x p a))))
-  names_at (x ∷ xs) h (suc i) zero p q a b same = absurd (apart_at (name_at c.ops x.0) xs h.0.1 i p a (same ∙ ap (λ (o : OpRef). name_at c.ops o.0) (sym (same_Some x q b))))
-  names_at (x ∷ xs) h (suc i) (suc j) p q a b same = ap suc (names_at xs h.1 i j p q a b same)
+  -- what differs of functions that stand apart
+  module _ (name : OpRef → List ℕ) (differs : (x o : OpRef) → IsApartFrom c (own_name_in x) (llvm_name_in x) o → name o ≡ name x → ⊥) where
+    names_at : (xs : List OpRef) → AreFuncLines c xs → NamesOnce name xs
+    names_at [] h i j p q a b same = absurd (none-some p a)
+    names_at (x ∷ xs) h zero zero p q a b same = refl
+    names_at (x ∷ xs) h zero (suc j) p q a b same = absurd (differs x q (apart_at (own_name_in x) (llvm_name_in x) xs h.0.1 j q b) (sym same ∙ ap name (sym (same_Some x p a))))
+    names_at (x ∷ xs) h (suc i) zero p q a b same = absurd (differs x p (apart_at (own_name_in x) (llvm_name_in x) xs h.0.1 i p a) (same ∙ ap name (sym (same_Some x q b))))
+    names_at (x ∷ xs) h (suc i) (suc j) p q a b same = ap suc (names_at xs h.1 i j p q a b same)
 
   suc_is : (a b : ℕ) → suc a ≡ suc b → a ≡ b
   suc_is a b e = omega arith
 
-  lines_of : (xs : List OpRef) → ((k : ℕ) (o : OpRef) → slice_get xs k ≡ Some o → IsFuncAt c o) → NamesOnce xs → AreFuncLines c xs
-  lines_of [] funcs names = tt
-  lines_of (x ∷ xs) funcs names = (
-    (funcs 0 x refl, at_apart (name_at c.ops x.0) xs (λ k o at same. let e : suc k ≡ 0 = names (suc k) 0 o x at refl same in omega arith)),
-    lines_of xs (λ k o at. funcs (suc k) o at) (λ i j p q a b same. suc_is i j (names (suc i) (suc j) p q a b same)),
+  not_first : (name : OpRef → List ℕ) (x : OpRef) (xs : List OpRef) → NamesOnce name (x ∷ xs) → (k : ℕ) (o : OpRef) → slice_get xs k ≡ Some o → ¬ (name o ≡ name x)
+  not_first name x xs once k o at same = let e : suc k ≡ 0 = once (suc k) 0 o x at refl same in omega (arith, e)
+
+  lines_of : (xs : List OpRef) → ((k : ℕ) (o : OpRef) → slice_get xs k ≡ Some o → IsFuncAt c o) → NamesOnce own_name_in xs → NamesOnce llvm_name_in xs → AreFuncLines c xs
+  lines_of [] funcs names llvm_names = tt
+  lines_of (x ∷ xs) funcs names llvm_names = (
+    (
+      funcs 0 x refl,
+      at_apart (own_name_in x) (llvm_name_in x) xs (λ k o at. record { name = not_first own_name_in x xs names k o at; llvm_name = not_first llvm_name_in x xs llvm_names k o at }),
+    ),
+    lines_of xs (λ k o at. funcs (suc k) o at) (λ i j p q a b same. suc_is i j (names (suc i) (suc j) p q a b same)) (λ i j p q a b same. suc_is i j (llvm_names (suc i) (suc j) p q a b same)),
   )
 
   module _ (symbols : (o : OpRef) → kind_at c.ops o ≡ Some K.Func → IsSymbol c.ops o) (m : ℕ) where
@@ -281,7 +301,11 @@ module _ (c : ContextData) where
           names = λ i j f g a b same.
               let p = there_func kinds i f a in
               let q = there_func kinds j g b in
-              names_at (held c m) h i j p.0 q.0 p.1 q.1 (sym (func_name c p.0) ∙ ap (λ (g : Func). g.name) p.2 ∙ same ∙ ap (λ (g : Func). g.name) (sym q.2) ∙ func_name c q.0);
+              names_at own_name_in (λ x o apart. apart.name) (held c m) h i j p.0 q.0 p.1 q.1 (sym (func_name c p.0) ∙ ap (λ (g : Func). g.name) p.2 ∙ same ∙ ap (λ (g : Func). g.name) (sym q.2) ∙ func_name c q.0);
+          llvm_names = λ i j f g a b same.
+              let p = there_func kinds i f a in
+              let q = there_func kinds j g b in
+              names_at llvm_name_in (λ x o apart. apart.llvm_name) (held c m) h i j p.0 q.0 p.1 q.1 (sym (func_llvm_name c p.0) ∙ ap llvm_name_of p.2 ∙ same ∙ ap llvm_name_of (sym q.2) ∙ func_llvm_name c q.0);
           few = few;
           few_each = few_each;
         }
@@ -297,6 +321,7 @@ module _ (c : ContextData) where
           func = all_at (IsWellFormedFunc (type_in c)) fs w.functions k (func_at c o) (func_there kinds k o at);
         })
         (λ i j p q a b same. w.names i j (func_at c p) (func_at c q) (func_there kinds i p a) (func_there kinds j q b) (func_name c p ∙ same ∙ sym (func_name c q)))
+        (λ i j p q a b same. w.llvm_names i j (func_at c p) (func_at c q) (func_there kinds i p a) (func_there kinds j q b) (func_llvm_name c p ∙ same ∙ sym (func_llvm_name c q)))
 
     abbrev HasFew : List OpRef → Type 0
     HasFew xs = IsFew xs × All (IsFewFunc c) xs

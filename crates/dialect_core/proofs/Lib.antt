@@ -37,3 +37,4 @@ pub mod ArgumentPrintLemmas
 pub mod ModulePrintLemmas
 pub mod CallerLemmas
 pub mod ArgumentMapLaws
+pub mod LlvmNameLemmas

@@ -16,10 +16,10 @@ use Rattle.dialect_core.specs.declared.ops.Value.{Value}
 use Rattle.dialect_core.specs.declared.ops.Symbol.{Symbol}
 use Rattle.dialect_core.specs.declared.ops.OpData.{OpData}
 use Rattle.dialect_core.specs.declared.ops.BlockData.{BlockData}
-use Rattle.dialect_core.specs.ContextData.{ContextData, symbol_at}
+use Rattle.dialect_core.specs.ContextData.{ContextData, llvm_name_at, symbol_at}
 use Rattle.dialect_core.specs.Lists.{list_at}
 use Rattle.dialect_core.specs.Data.{DialectModule, DialectBlock, op_at, block_of, block_in, func_of, func_in, name_at, held, data_of, IsTyped}
-use Rattle.dialect_core.specs.Text.{option_text, op_text, label_text, block_text, body_text, linkage_text, func_head_text, func_text, module_text_by, module_text, value_number, block_number}
+use Rattle.dialect_core.specs.Text.{option_text, op_text, label_text, block_text, body_text, linkage_text, llvm_name_text, func_head_text, func_text, module_text_by, module_text, value_number, block_number}
 use Rattle.dialect_core.proofs.CountLemmas.{flat_filter}
 use Rattle.dialect_core.proofs.NewBlockLemmas.{func}
 use Rattle.dialect_core.proofs.KeepLemmas.{five_texts, six_texts}
@@ -69,25 +69,26 @@ module _ (values : Value → Option ℕ) (blocks : BlockRef → Option ℕ) (c :
 
   -- ---- functions
 
-  pub func_printed : (op : OpRef) (name : List ℕ) (ty : TypeHandle) (linkage : LinkageAttr) (bs : List BlockRef) (start head end : List ℕ) → name ≡ name_at c.ops op.0 → option_map (λ (s : Symbol). s.ty) (symbol_at c.ops op) ≡ Some ty → option_map (λ (s : Symbol). s.linkage) (symbol_at c.ops op) ≡ Some linkage
+  pub func_printed : (op : OpRef) (name : List ℕ) (ty : TypeHandle) (linkage : LinkageAttr) (llvm_name : Option (List ℕ)) (bs : List BlockRef) (start head end : List ℕ) → name ≡ name_at c.ops op.0 → llvm_name ≡ llvm_name_at c.ops op → option_map (λ (s : Symbol). s.ty) (symbol_at c.ops op) ≡ Some ty → option_map (λ (s : Symbol). s.linkage) (symbol_at c.ops op) ≡ Some linkage
       → option_map (λ (x : OpData). x.blocks) (slice_get c.ops op.0) ≡ Some bs
-      → head ≡ start ++ func_head_text name (type_at (type_trees c.types) ty) linkage → end ≡ head ++ body_text values blocks (filter_map (block_in (type_trees c.types) c) bs)
+      → head ≡ start ++ func_head_text name (type_at (type_trees c.types) ty) linkage llvm_name → end ≡ head ++ body_text values blocks (filter_map (block_in (type_trees c.types) c) bs)
       → end ≡ start ++ option_text (func_text values blocks) (func_in (type_trees c.types) c op)
-  func_printed op name ty linkage bs start head end is_name is_ty is_linkage is_bs is_head is_end = appended_twice start head end (func_head_text name (type_at (type_trees c.types) ty) linkage) (body_text values blocks (filter_map (block_in (type_trees c.types) c) bs)) is_head is_end ∙ by (slice_get c.ops op.0) refl is_ty is_linkage is_bs
+  func_printed op name ty linkage llvm_name bs start head end is_name is_llvm_name is_ty is_linkage is_bs is_head is_end = appended_twice start head end (func_head_text name (type_at (type_trees c.types) ty) linkage llvm_name) (body_text values blocks (filter_map (block_in (type_trees c.types) c) bs)) is_head is_end ∙ by (slice_get c.ops op.0) refl is_llvm_name is_ty is_linkage is_bs
     where
-      with_symbol : (x : OpData) (s : Option Symbol) → name ≡ unwrap_or x.name [] → option_map (λ (s : Symbol). s.ty) s ≡ Some ty → option_map (λ (s : Symbol). s.linkage) s ≡ Some linkage → x.blocks ≡ bs
-          → start ++ (func_head_text name (type_at (type_trees c.types) ty) linkage ++ body_text values blocks (filter_map (block_in (type_trees c.types) c) bs)) ≡ start ++ option_text (func_text values blocks) (option_map (λ (s : Symbol). func (type_trees c.types) op x s (filter_map (block_in (type_trees c.types) c) x.blocks)) s)
-      with_symbol x None n t l b = absurd (none-some ty t)
-      with_symbol x (Some s) n t l b =
-          ap (λ (name : List ℕ). start ++ (func_head_text name (type_at (type_trees c.types) ty) linkage ++ body_text values blocks (filter_map (block_in (type_trees c.types) c) bs))) n
-          ∙ ap (λ (ty : TypeHandle). start ++ (func_head_text (unwrap_or x.name []) (type_at (type_trees c.types) ty) linkage ++ body_text values blocks (filter_map (block_in (type_trees c.types) c) bs))) (sym (same_Some s.ty ty t))
-          ∙ ap (λ (linkage : LinkageAttr). start ++ (func_head_text (unwrap_or x.name []) (type_at (type_trees c.types) s.ty) linkage ++ body_text values blocks (filter_map (block_in (type_trees c.types) c) bs))) (sym (same_Some s.linkage linkage l))
-          ∙ ap (λ (bs : List BlockRef). start ++ (func_head_text (unwrap_or x.name []) (type_at (type_trees c.types) s.ty) s.linkage ++ body_text values blocks (filter_map (block_in (type_trees c.types) c) bs))) (sym b)
+      with_symbol : (x : OpData) (s : Option Symbol) → name ≡ unwrap_or x.name [] → llvm_name ≡ option_and_then (λ (s : Symbol). s.llvm_name) s → option_map (λ (s : Symbol). s.ty) s ≡ Some ty → option_map (λ (s : Symbol). s.linkage) s ≡ Some linkage → x.blocks ≡ bs
+          → start ++ (func_head_text name (type_at (type_trees c.types) ty) linkage llvm_name ++ body_text values blocks (filter_map (block_in (type_trees c.types) c) bs)) ≡ start ++ option_text (func_text values blocks) (option_map (λ (s : Symbol). func (type_trees c.types) op x s (filter_map (block_in (type_trees c.types) c) x.blocks)) s)
+      with_symbol x None n m t l b = absurd (none-some ty t)
+      with_symbol x (Some s) n m t l b =
+          ap (λ (name : List ℕ). start ++ (func_head_text name (type_at (type_trees c.types) ty) linkage llvm_name ++ body_text values blocks (filter_map (block_in (type_trees c.types) c) bs))) n
+          ∙ ap (λ (ty : TypeHandle). start ++ (func_head_text (unwrap_or x.name []) (type_at (type_trees c.types) ty) linkage llvm_name ++ body_text values blocks (filter_map (block_in (type_trees c.types) c) bs))) (sym (same_Some s.ty ty t))
+          ∙ ap (λ (linkage : LinkageAttr). start ++ (func_head_text (unwrap_or x.name []) (type_at (type_trees c.types) s.ty) linkage llvm_name ++ body_text values blocks (filter_map (block_in (type_trees c.types) c) bs))) (sym (same_Some s.linkage linkage l))
+          ∙ ap (λ (n : Option (List ℕ)). start ++ (func_head_text (unwrap_or x.name []) (type_at (type_trees c.types) s.ty) s.linkage n ++ body_text values blocks (filter_map (block_in (type_trees c.types) c) bs))) m
+          ∙ ap (λ (bs : List BlockRef). start ++ (func_head_text (unwrap_or x.name []) (type_at (type_trees c.types) s.ty) s.linkage s.llvm_name ++ body_text values blocks (filter_map (block_in (type_trees c.types) c) bs))) (sym b)
 
-      by : (x : Option OpData) → slice_get c.ops op.0 ≡ x → option_map (λ (s : Symbol). s.ty) (option_and_then (λ (x : OpData). x.symbol) x) ≡ Some ty → option_map (λ (s : Symbol). s.linkage) (option_and_then (λ (x : OpData). x.symbol) x) ≡ Some linkage → option_map (λ (x : OpData). x.blocks) x ≡ Some bs
-          → start ++ (func_head_text name (type_at (type_trees c.types) ty) linkage ++ body_text values blocks (filter_map (block_in (type_trees c.types) c) bs)) ≡ start ++ option_text (func_text values blocks) (option_and_then (func_of (type_trees c.types) c op) x)
-      by None at t l b = absurd (none-some ty t)
-      by (Some x) at t l b = with_symbol x x.symbol (is_name ∙ ap (λ (o : Option OpData). option_map_or (λ (x : OpData). unwrap_or x.name []) o []) at) t l (same_Some x.blocks bs b)
+      by : (x : Option OpData) → slice_get c.ops op.0 ≡ x → llvm_name ≡ option_and_then (λ (s : Symbol). s.llvm_name) (option_and_then (λ (x : OpData). x.symbol) x) → option_map (λ (s : Symbol). s.ty) (option_and_then (λ (x : OpData). x.symbol) x) ≡ Some ty → option_map (λ (s : Symbol). s.linkage) (option_and_then (λ (x : OpData). x.symbol) x) ≡ Some linkage → option_map (λ (x : OpData). x.blocks) x ≡ Some bs
+          → start ++ (func_head_text name (type_at (type_trees c.types) ty) linkage llvm_name ++ body_text values blocks (filter_map (block_in (type_trees c.types) c) bs)) ≡ start ++ option_text (func_text values blocks) (option_and_then (func_of (type_trees c.types) c op) x)
+      by None at m t l b = absurd (none-some ty t)
+      by (Some x) at m t l b = with_symbol x x.symbol (is_name ∙ ap (λ (o : Option OpData). option_map_or (λ (x : OpData). unwrap_or x.name []) o []) at) m t l (same_Some x.blocks bs b)
 
   -- ---- modules
 
@@ -118,11 +119,11 @@ symbol_typed c op ty typed h = by (slice_get c.ops op.0) refl h
     by (Some x) at is = with_symbol x.symbol (typed.ops op.0 x at).symbol is
 
 -- the head of a function
-pub head_printed : (name n word : List ℕ) (type : TypeTree) (linkage : LinkageAttr) (start o1 o2 o3 o4 o5 o6 end : List ℕ) → n ≡ name → word ≡ linkage_text linkage
-    → o1 ≡ start ++ codes "  llvm.func @" → o2 ≡ o1 ++ n → o3 ≡ o2 ++ codes " : " → o4 ≡ o3 ++ type_text type → o5 ≡ o4 ++ codes " {linkage = " → o6 ≡ o5 ++ word → end ≡ o6 ++ codes "}"
-    → end ≡ start ++ func_head_text name type linkage
-head_printed name n word type linkage start o1 o2 o3 o4 o5 o6 end is_name is_word e1 e2 e3 e4 e5 e6 e7 =
+pub head_printed : (name n word : List ℕ) (type : TypeTree) (linkage : LinkageAttr) (llvm_name : Option (List ℕ)) (start o1 o2 o3 o4 o5 o6 o7 end : List ℕ) → n ≡ name → word ≡ linkage_text linkage
+    → o1 ≡ start ++ codes "  llvm.func @" → o2 ≡ o1 ++ n → o3 ≡ o2 ++ codes " : " → o4 ≡ o3 ++ type_text type → o5 ≡ o4 ++ codes " {linkage = " → o6 ≡ o5 ++ word → o7 ≡ o6 ++ llvm_name_text llvm_name → end ≡ o7 ++ codes "}"
+    → end ≡ start ++ func_head_text name type linkage llvm_name
+head_printed name n word type linkage llvm_name start o1 o2 o3 o4 o5 o6 o7 end is_name is_word e1 e2 e3 e4 e5 e6 e7 e8 =
     let named = e2 ∙ ap (λ (x : List ℕ). o1 ++ x) is_name in
     let linked = e6 ∙ ap (λ (x : List ℕ). o5 ++ x) is_word in
     let six = six_texts start o1 o2 o3 o4 o5 o6 (codes "  llvm.func @") name (codes " : ") (type_text type) (codes " {linkage = ") (linkage_text linkage) e1 named e3 e4 e5 linked in
-    appended_twice start o6 end _ (codes "}") six e7
+    appended_twice start o7 end _ (codes "}") (appended_twice start o6 o7 _ (llvm_name_text llvm_name) six e7) e8

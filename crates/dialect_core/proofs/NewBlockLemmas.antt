@@ -20,7 +20,7 @@ use Rattle.dialect_core.proofs.DataLemmas.{same_module}
 
 -- a function by its parts
 abbrev pub func : List TypeTree → OpRef → OpData → Symbol → List DialectBlock → Func
-func ts o x s blocks = record { number = o.0; name = unwrap_or x.name []; type = type_at ts s.ty; linkage = s.linkage; blocks = blocks }
+func ts o x s blocks = record { number = o.0; name = unwrap_or x.name []; llvm_name = s.llvm_name; type = type_at ts s.ty; linkage = s.linkage; blocks = blocks }
 
 -- the last list, which is new, has nothing
 pub last_list : (lists : List (List OpRef)) (b : BlockRef) → b.0 ≡ length lists → list_at (lists ++ [] ∷ []) b ≡ []

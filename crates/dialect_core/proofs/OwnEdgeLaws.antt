@@ -12,7 +12,7 @@ use Rattle.dialect_core.specs.declared.ops.OpKind.TheVariants as K
 use Rattle.dialect_core.specs.declared.ops.OpData.{OpData}
 use Rattle.dialect_core.specs.declared.ops.BlockData.{BlockData}
 use Rattle.dialect_core.specs.ContextData.{ContextData, AreRegions, IsSymbol, holder_at, kind_at, region_at}
-use Rattle.dialect_core.specs.Data.{Kind, DialectOp, DialectBlock, Func, kind_of, op_of, op_at, block_in, held, data_of, ops_in, type_in}
+use Rattle.dialect_core.specs.Data.{Kind, DialectOp, DialectBlock, Func, llvm_name_of, kind_of, op_of, op_at, block_in, held, data_of, ops_in, type_in}
 use Rattle.dialect_core.specs.Form.{FitsTarget, LeadsToOwn, edges_of}
 use Rattle.dialect_core.specs.WellFormed.{HasFirstClassArgs, IsEdge, IsFew, IsFewFunc, IsFirst, IsPastFirsts, IsPlainAt, IsWellFormed, IsWellFormedBlock, IsWellFormedFunc, IsWellFormedOp, HasNamesApart}
 use Rattle.dialect_core.specs.Checking.{block_at, func_at}
@@ -88,8 +88,8 @@ module _ (c : ContextData) (regions : AreRegions (region_at c.ops) (holder_at c.
   -- a module by its functions
   module _ (symbols : (o : OpRef) → kind_at c.ops o ≡ Some K.Func → IsSymbol c.ops o) (m : ℕ) where
     pub own_module : kind_at c.ops (record { 0 = m }) ≡ Some K.Module → length (region_at c.ops m) ≤ 1 → All (HasFirstClassArgs c) (region_at c.ops m) → All (λ (o : OpRef). kind_at c.ops o ≡ Some K.Func) (held c m) → All (λ (o : OpRef). All (IsPlainAt c) (held c o.0)) (held c m)
-        → All (IsWellFormedFunc (type_in c)) (data_of c m).functions → All LeadsToOwn (data_of c m).functions → HasNamesApart (data_of c m).functions → IsFew (held c m) → All (IsFewFunc c) (held c m) → IsWellFormed c m
-    own_module kind one args alone plain functions own names few few_each = record {
+        → All (IsWellFormedFunc (type_in c)) (data_of c m).functions → All LeadsToOwn (data_of c m).functions → HasNamesApart (λ (g : Func). g.name) (data_of c m).functions → HasNamesApart llvm_name_of (data_of c m).functions → IsFew (held c m) → All (IsFewFunc c) (held c m) → IsWellFormed c m
+    own_module kind one args alone plain functions own names llvm_names few few_each = record {
       kind = kind;
       region = one;
       args = args;
@@ -102,6 +102,7 @@ module _ (c : ContextData) (regions : AreRegions (region_at c.ops) (holder_at c.
           (all_at LeadsToOwn (data_of c m).functions own k (func_at c o) here));
       functions = functions;
       names = names;
+      llvm_names = llvm_names;
       few = few;
       few_each = few_each;
     }

@@ -41,7 +41,7 @@ use Rattle.dialect_core.proofs.WellLaws.{form_is_well_formed, form_is_narrow}
 func_blocks : (c : ContextData) (f : OpRef) (g : Func) → func_in (type_trees c.types) c f ≡ Some g → (bs : List BlockRef) × (g.blocks ≡ filter_map (block_in (type_trees c.types) c) bs)
 func_blocks c f g h = by (slice_get c.ops f.0) h
   where
-    with_symbol : (x : OpData) (s : Option Symbol) → option_map {U = Func} (λ (s : Symbol). record { number = f.0; name = unwrap_or x.name []; type = type_at (type_trees c.types) s.ty; linkage = s.linkage; blocks = filter_map (block_in (type_trees c.types) c) x.blocks }) s ≡ Some g → g.blocks ≡ filter_map (block_in (type_trees c.types) c) x.blocks
+    with_symbol : (x : OpData) (s : Option Symbol) → option_map {U = Func} (λ (s : Symbol). record { number = f.0; name = unwrap_or x.name []; llvm_name = s.llvm_name; type = type_at (type_trees c.types) s.ty; linkage = s.linkage; blocks = filter_map (block_in (type_trees c.types) c) x.blocks }) s ≡ Some g → g.blocks ≡ filter_map (block_in (type_trees c.types) c) x.blocks
     with_symbol x None e = absurd (none-some g e)
     with_symbol x (Some s) e = ap (λ (g : Func). g.blocks) (sym (same_Some _ g e))
 
@@ -179,6 +179,7 @@ module _ (T U : Typing) (g : Func) (used : (j k : ℕ) (b : DialectBlock) (o : D
   func_typed : IsWellFormedFunc T g → IsWellFormedFunc U g
   func_typed w = record {
     named = w.named;
+    llvm_named = w.llvm_named;
     linkage = w.linkage;
     signature = w.signature;
     params = w.params;

@@ -30,6 +30,7 @@ well_block g b f = record {
 pub form_is_well_formed : (g : Func) → IsFormFunc g → IsWellFormedFunc (value_type g) g
 form_is_well_formed g f = record {
   named = f.named;
+  llvm_named = f.llvm_named;
   linkage = ap (λ (bs : List DialectBlock). suits bs g.linkage) f.body ∙ ap suits_body f.linkage;
   signature = record { result = f.result; params = f.types; variadic = false; is = f.type; returns = held_result_returned f.result f.returns; takes = all_first_class (types_list f.types) f.takes };
   params = λ b at. ap (λ (d : DialectBlock). d.args) (sym (same_Some f.entry b (ap (λ (bs : List DialectBlock). slice_get bs 0) (sym f.body) ∙ at))) ∙ f.params ∙ ap params_of (sym f.type);
@@ -43,14 +44,13 @@ form_is_well_formed g f = record {
 narrow_block : (g : Func) (b : DialectBlock) → IsFormBlock g b → IsNarrowBlock b
 narrow_block g b f = record {
   args = f.args;
-  ops = all_from IsNarrowOp b.ops (λ k o at. let h = all_at (IsFormOp g) b.ops f.ops k o at in record { result = h.result; name = h.name });
-  label = f.label;
+  ops = all_from IsNarrowOp b.ops (λ k o at. let h = all_at (IsFormOp g) b.ops f.ops k o at in h.result);
 }
 
 -- a function of the form is narrow
 pub form_is_narrow : (g : Func) → IsFormFunc g → IsNarrowFunc g
 form_is_narrow g f = record {
-  name = f.name;
+  good = f.good;
   linkage = f.linkage;
   signature = record { result = f.result; params = f.types; is = f.type; returns = f.returns; takes = f.takes };
   blocks = all_from IsNarrowBlock g.blocks (λ k b at. narrow_block g b (all_at (IsFormBlock g) g.blocks f.blocks k b at));

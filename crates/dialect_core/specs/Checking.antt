@@ -16,7 +16,7 @@ use Rattle.dialect_core.specs.declared.ops.OpData.{OpData}
 use Rattle.dialect_core.specs.declared.ops.BlockData.{BlockData}
 use Rattle.dialect_core.specs.Lists.{list_at}
 use Rattle.dialect_core.specs.ContextData.{ContextData, kind_at, region_at, symbol_at, llvm_name_at}
-use Rattle.dialect_core.specs.Data.{Kind, DialectOp, DialectBlock, Func, llvm_name_of, kind_of, op_at, block_in, name_at, held, type_in}
+use Rattle.dialect_core.specs.Data.{Kind, DialectOp, DialectBlock, Func, llvm_name_of, kind_of, op_at, block_in, name_at, symbol_name_at, held, type_in}
 use Rattle.dialect_core.specs.Rules.{IsIntegerOf}
 use Rattle.kinds.specs.Held.{IsSignature}
 use Rattle.kinds.specs.Names.{is_own_name}
@@ -121,9 +121,9 @@ pub record IsFuncAt (c : ContextData) (o : OpRef) : Type 0 where
   pub func : IsWellFormedFunc (type_in c) (func_at c o)
 
 -- the function has neither of the names, its own and that of LLVM
-pub record IsApartFrom (c : ContextData) (name llvm_name : List ℕ) (o : OpRef) : Type 0 where
-  pub name : ¬ (name_at c.ops o.0 ≡ name)
-  pub llvm_name : ¬ (llvm_name_of (func_at c o) ≡ llvm_name)
+pub record IsApartFrom (c : ContextData) (own llvm : List ℕ) (o : OpRef) : Type 0 where
+  pub name : ¬ (name_at c.ops o.0 ≡ own)
+  pub llvm_name : ¬ (symbol_name_at c.ops o ≡ llvm)
 
 -- none of the operations has one of the names
 abbrev pub AreApartFrom : ContextData → (name llvm_name : List ℕ) → List OpRef → Type 0
@@ -131,4 +131,4 @@ AreApartFrom c name llvm_name os = Each (λ (o : OpRef) (rest : List OpRef). IsA
 
 -- each is such a function, and none of those after it has one of its names
 abbrev pub AreFuncLines : ContextData → List OpRef → Type 0
-AreFuncLines c os = Each (λ (o : OpRef) (rest : List OpRef). IsFuncAt c o × AreApartFrom c (name_at c.ops o.0) (llvm_name_of (func_at c o)) rest) os
+AreFuncLines c os = Each (λ (o : OpRef) (rest : List OpRef). IsFuncAt c o × AreApartFrom c (name_at c.ops o.0) (symbol_name_at c.ops o) rest) os

@@ -17,7 +17,7 @@ use Rattle.dialect_core.specs.declared.ops.OpData.{OpData}
 use Rattle.kinds.specs.declared.op.Op.{Op}
 use Rattle.dialect_core.specs.declared.ops.BlockData.{BlockData}
 use Rattle.dialect_core.specs.Lists.{list_at}
-use Rattle.dialect_core.specs.ContextData.{ContextData, region_at}
+use Rattle.dialect_core.specs.ContextData.{ContextData, llvm_name_at, region_at}
 
 -- ---- the data
 
@@ -113,6 +113,10 @@ held c m = flat_map (list_at c.lists) (region_at c.ops m)
 -- the name of the operation of the number m, empty where it has none
 abbrev pub name_at : List OpData → ℕ → List ℕ
 name_at ops m = option_map_or (λ (x : OpData). unwrap_or x.name []) (slice_get ops m) []
+
+-- the LLVM name of an operation: its own name where no other is set
+abbrev pub symbol_name_at : List OpData → OpRef → List ℕ
+symbol_name_at ops o = unwrap_or (llvm_name_at ops o) (name_at ops o.0)
 
 -- the data of the module that the operation of the number m is
 abbrev pub data_of : ContextData → ℕ → DialectModule

@@ -17,7 +17,7 @@ mod well_formed;
 use crate::linkage::LinkageAttr;
 use crate::lists::OpLists;
 use crate::numbers::{BlockRef, FuncOp, ModuleOp, OpRef};
-use crate::ops::{BlockData, OpData, OpKind, Successor, Symbol, Value};
+use crate::ops::{BlockData, OpData, OpKind, Successor, Symbol, SymbolBox, Value};
 use crate::steps::Steps;
 use dialect_types::identifier::Identifier;
 use dialect_types::type_store::TypeStore;
@@ -104,7 +104,7 @@ impl Context {
             linkage,
             llvm_name: None,
         };
-        let symbol = Box::new(self.alloc, symbol)?;
+        let symbol = SymbolBox::new(self.alloc, symbol)?;
         let data = bare(self.alloc, OpKind::Func, Some(name), Some(symbol));
         let op = self.add(data)?;
         Ok(FuncOp(op))
@@ -256,11 +256,13 @@ impl Context {
         ensures typed { OnOk result (IsTyped self.old → IsTyped self.new) }
         ensures err { OnErr result (self.new ≡ self.old) }
     {
-        let name = Text::copy(self.alloc, name)?;
-        match &mut self.ops[op.0 as usize].symbol {
-            Some(symbol) => symbol.llvm_name = Some(name),
-            None => unreachable!(),
-        }
+        let symbol = Symbol {
+            ty: self.symbol_type(op),
+            linkage: self.symbol_linkage(op),
+            llvm_name: Some(Text::copy(self.alloc, name)?),
+        };
+        let symbol = SymbolBox::new(self.alloc, symbol)?;
+        self.ops[op.0 as usize].symbol = Some(symbol);
         Ok(())
     }
 
@@ -302,12 +304,7 @@ impl Context {
 }
 
 /// The data of an operation without operands, successors, result and blocks.
-fn bare(
-    alloc: Global,
-    kind: OpKind,
-    name: Option<Identifier>,
-    symbol: Option<Box<Symbol>>,
-) -> OpData
+fn bare(alloc: Global, kind: OpKind, name: Option<Identifier>, symbol: Option<SymbolBox>) -> OpData
     ensures { result ≡ record { kind = kind; name = name; operands = []; successors = []; result = None; symbol = symbol; blocks = [] } }
 {
     OpData {

@@ -1,12 +1,11 @@
 //! The dialect text of blocks, functions and modules.
 
-ghost use Rattle.std.specs.Prelude.{◌≡◌, ◌<◌, ◌++◌, All, OnOk, length, map, unwrap_or};
+ghost use Rattle.std.specs.Prelude.{◌≡◌, ◌<◌, ◌++◌, All, OnOk, length, map};
 ghost use Rattle.std.specs.Option.{option_copied};
 ghost use Rattle.std.specs.List.{flat_map, filter_map};
 ghost use Rattle.dialect_types.specs.Trees.{type_at, type_trees};
 ghost use Rattle.dialect_types.specs.Text.{Keeps, joined};
-ghost use Rattle.dialect_core.specs.ContextData.{llvm_name_at};
-ghost use Rattle.dialect_core.specs.Data.{op_at, block_in, func_in, name_at, data_of, IsTyped};
+ghost use Rattle.dialect_core.specs.Data.{op_at, block_in, func_in, name_at, symbol_name_at, data_of, IsTyped};
 ghost use Rattle.dialect_core.specs.Numbering.{value_at, block_at};
 ghost use Rattle.dialect_core.specs.Text.{option_text, argument_text, argument_texts, label_text, block_text, body_text, linkage_text, func_head_text, quoted_char, quoted_text, llvm_name_text, func_text, op_text, module_text_by, module_text};
 
@@ -195,7 +194,19 @@ fn print_quoted_char(char: u8, out: &mut Vec<u8>) -> Result<(), AllocError>
     if char == b'"' || char == b'\\' {
         out.push(b'\\')?;
     }
-    out.push(char)
+    out.push(char)?;
+    Ok(())
+}
+
+/// Appends the characters of a quoted text.
+fn print_quoted_chars(chars: &[u8], out: &mut Vec<u8>) -> Result<(), AllocError>
+    ensures ok { OnOk result (out.new.items ≡ out.old.items ++ flat_map quoted_char chars.now) }
+    ensures kept { Keeps out.old.items out.new.items }
+{
+    for char in chars {
+        print_quoted_char(*char, out)?;
+    }
+    Ok(())
 }
 
 /// Appends a text between quotes.
@@ -204,15 +215,13 @@ fn print_quoted(text: &str, out: &mut Vec<u8>) -> Result<(), AllocError>
     ensures kept { Keeps out.old.items out.new.items }
 {
     out.extend_from_slice(b"\"")?;
-    for byte in text.as_bytes() {
-        print_quoted_char(*byte, out)?;
-    }
+    print_quoted_chars(text.as_bytes(), out)?;
     out.extend_from_slice(b"\"")
 }
 
 /// Appends the LLVM name among the immediates, where it is set.
 fn print_llvm_name(name: Option<&str>, out: &mut Vec<u8>) -> Result<(), AllocError>
-    ensures ok { OnOk result (out.new.items ≡ out.old.items ++ llvm_name_text (option_copied name)) }
+    ensures ok { OnOk result (out.new.items ≡ out.old.items ++ llvm_name_text (option_copied name.entry)) }
     ensures kept { Keeps out.old.items out.new.items }
 {
     match name {
@@ -234,7 +243,7 @@ fn print_func_head(
     out: &mut Vec<u8>,
 ) -> Result<(), AllocError>
     requires { ty.0 < length types.now }
-    ensures ok { OnOk result (out.new.items ≡ out.old.items ++ func_head_text name.now (type_at (type_trees types.now) ty) linkage (option_copied llvm_name)) }
+    ensures ok { OnOk result (out.new.items ≡ out.old.items ++ func_head_text name.now (type_at (type_trees types.now) ty) linkage (option_copied llvm_name.entry)) }
     ensures kept { Keeps out.old.items out.new.items }
 {
     out.extend_from_slice(b"  llvm.func @")?;
@@ -261,7 +270,7 @@ pub fn name_of(ctx: &Context, op: OpRef) -> &str
 /// The LLVM name of a function: its own where no other is set.
 pub fn llvm_name_of(ctx: &Context, op: OpRef) -> &str
     requires { op.0 < length ctx.now.ops }
-    ensures { result.now ≡ unwrap_or (llvm_name_at ctx.now.ops op) (name_at ctx.now.ops op.0) }
+    ensures { result.now ≡ symbol_name_at ctx.now.ops op }
 {
     match ctx.llvm_symbol_name(op) {
         Some(name) => name,

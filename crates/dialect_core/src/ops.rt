@@ -1,11 +1,15 @@
 //! Operations and blocks, as a context keeps them.
 
+ghost use Rattle.std.specs.Prelude.{◌≡◌, IfOk};
+
 use crate::linkage::LinkageAttr;
 use crate::numbers::{BlockRef, OpRef};
 use dialect_types::attrs::ConstAttr;
 use dialect_types::identifier::Identifier;
 use dialect_types::types::TypeHandle;
 use kinds::op::Op;
+use std::alloc::{AllocError, Global};
+use std::marker::Model;
 use support::items::Items;
 use support::short_list::ShortList;
 use support::text::Text;
@@ -47,6 +51,36 @@ pub struct Symbol {
     pub llvm_name: Option<Text>,
 }
 
+/// A symbol that lies apart: most operations have none, and are no larger for it.
+#[derive(Drop)]
+pub struct SymbolBox {
+    apart: Box<Symbol>,
+}
+
+impl Model for SymbolBox {
+    ghost use Rattle.dialect_core.specs.declared.ops.Symbol.{Symbol};
+
+    ghost Value = { Symbol };
+
+    ghost view = { λ b. b.apart.value };
+}
+
+impl SymbolBox {
+    pub fn new(alloc: Global, symbol: Symbol) -> Result<SymbolBox, AllocError>
+        ensures { IfOk result (λ b. b ≡ symbol) }
+    {
+        Ok(SymbolBox {
+            apart: Box::new(alloc, symbol)?,
+        })
+    }
+
+    pub fn symbol(&self) -> &Symbol
+        ensures { result.now ≡ self.now }
+    {
+        &self.apart
+    }
+}
+
 /// An operation of a context. The name is a symbol's, or the given name of a result.
 #[derive(Drop)]
 pub struct OpData {
@@ -55,8 +89,7 @@ pub struct OpData {
     pub operands: ShortList<Value>,
     pub successors: Items<Successor>,
     pub result: Option<TypeHandle>,
-    /// Of a function; it lies apart, since most operations have none.
-    pub symbol: Option<Box<Symbol>>,
+    pub symbol: Option<SymbolBox>,
     /// The blocks of its region.
     pub blocks: ShortList<BlockRef>,
 }

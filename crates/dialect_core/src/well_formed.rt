@@ -220,7 +220,10 @@ fn is_apart(ctx: &Context, op: OpRef, name: &str, llvm_name: &str) -> bool
     requires { op.0 < length ctx.now.ops }
     ensures { IsTrue result ↔ IsApartFrom ctx.now name.now llvm_name.now op }
 {
-    name_of(ctx, op) != name && llvm_name_of(ctx, op) != llvm_name
+    if name_of(ctx, op) == name {
+        return false;
+    }
+    llvm_name_of(ctx, op) != llvm_name
 }
 
 /// Whether no operation of a block from one on has one of the names.

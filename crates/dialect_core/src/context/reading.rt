@@ -202,7 +202,7 @@ impl Context {
         ensures { option_copied result ≡ llvm_name_at self.now.ops op }
     {
         match &self.ops[op.0 as usize].symbol {
-            Some(symbol) => match &symbol.llvm_name {
+            Some(symbol) => match &symbol.symbol().llvm_name {
                 Some(name) => Some(name.as_str()),
                 None => None,
             },
@@ -216,7 +216,7 @@ impl Context {
         ensures { symbol_at self.now.ops op ≡ Some result.now }
     {
         match &self.ops[op.0 as usize].symbol {
-            Some(symbol) => symbol,
+            Some(symbol) => symbol.symbol(),
             None => unreachable!(),
         }
     }
