@@ -3,7 +3,6 @@
 ghost use Rattle.std.specs.Prelude.{◌<◌, ◌≤◌, IfSome, length};
 ghost use Rattle.llvm_core.specs.Data.{data_of};
 ghost use Rattle.llvm_core.specs.Form.{IsForm};
-ghost use Rattle.llvm_core.specs.Names.{IsPlainOrNone};
 ghost use Rattle.dialect_core.specs.Data.{IsTyped};
 
 use dialect_core::context::Context;
@@ -59,7 +58,6 @@ const TWO_TEXT: &str = "builtin.module @_ {
 /// Imports a module into a context that may hold others. None says that there is no memory.
 fn import_into(alloc: Global, ctx: &mut Context, module: &LLVMModule) -> Option<ModuleOp>
     requires form { IsForm (data_of «module».now) }
-    requires name { IsPlainOrNone «module».now.name }
     requires typed { IsTyped ctx.old }
     ensures typed { IsTyped ctx.new }
     ensures more { length ctx.old.ops ≤ length ctx.new.ops }

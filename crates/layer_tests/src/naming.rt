@@ -1,6 +1,6 @@
 //! The identifiers of names, in the order in which they are met.
 
-use dialect_types::naming::Names;
+use dialect_types::legaliser::Legaliser;
 use std::alloc::Global;
 
 /// Names in the order in which they are met, each with the identifier that it is to get.
@@ -22,9 +22,9 @@ const MET: &[(&str, &str)] = &[
 
 /// Whether each name gets the identifier beside it.
 fn are_given(alloc: Global, met: &[(&str, &str)]) -> bool {
-    let mut names = Names::new(alloc);
+    let mut legaliser = Legaliser::new(alloc);
     for (name, want) in met {
-        match names.legalise(name) {
+        match legaliser.legalise(name) {
             Ok(identifier) => {
                 if identifier.as_str() != *want {
                     return false;

@@ -5,7 +5,6 @@ ghost use Rattle.std.specs.Prelude.{◌≡◌, ◌<◌, All, IfOk, IfSome, lengt
 ghost use Rattle.llvm_core.specs.Checked.{IsChecked};
 ghost use Rattle.llvm_core.specs.Data.{data_of};
 ghost use Rattle.llvm_core.specs.Form.{IsForm};
-ghost use Rattle.llvm_core.specs.Names.{IsPlainOrNone};
 ghost use Rattle.dialect_core.specs.Data.{IsTyped};
 ghost use Rattle.tracing.specs.Runs.{HasPlacesBelow};
 ghost use Rattle.tracing.specs.DialectBodies.{HasBody};
@@ -244,7 +243,6 @@ pub fn dialect_shows(alloc: Global, ctx: &Context, root: ModuleOp, want: &str) -
 /// Whether the trace of what the import makes of a module shows these words.
 fn imported_shows(alloc: Global, module: &LLVMModule, want: &str) -> bool
     requires form { IsForm (data_of «module».now) }
-    requires name { IsPlainOrNone «module».now.name }
     requires checked { IsChecked «module».now }
 {
     match transfer(alloc, module) {

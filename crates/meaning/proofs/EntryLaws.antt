@@ -1,11 +1,10 @@
--- Entries of functions with a body: their symbols, their bodies, and that a module of plain names leaves none out.
-use Rattle.std.proofs.Common.{ℕ, suc, ◌≡◌, refl, sym, ◌∙◌, ap, subst, Bool, true, not, if◌then◌else◌, List, [], ◌∷◌, Some, None, map, filter, length, nat_lt, All, arith}
-use Rattle.std.proofs.lemmas.Bool.{lt-ltb, false_from_ne_true}
+-- Entries of functions with a body: their symbols, their bodies, and that a module without intrinsics leaves none out.
+use Rattle.std.proofs.Common.{ℕ, suc, ◌≡◌, refl, sym, ◌∙◌, ap, subst, Bool, true, false, not, if◌then◌else◌, List, [], ◌∷◌, Some, None, map, filter, length, nat_lt, All, arith}
+use Rattle.std.proofs.lemmas.Bool.{lt-ltb}
 use Rattle.std.proofs.lemmas.List.Elements.{All-head, All-tail}
-use Rattle.llvm_core.specs.Names.{is_plain}
+use Rattle.kinds.specs.Names.{is_intrinsic_name}
 use Rattle.llvm_core.specs.Data as L
 use Rattle.llvm_core.specs.Data.{ModuleData, TypeTree, FunctionType, TypeTrees, NoTypes, ThenType}
-use Rattle.llvm_core.proofs.FormNames.{own_of_plain}
 use Rattle.meaning.specs.Terms.{Match, rename_type, rename_types}
 use Rattle.meaning.specs.Code.{Body, Entry, FunctionSymbol, External, SameBody, SameBodies, IsDistinctNames, names_of, rename_symbol}
 use Rattle.meaning.specs.Setting.{Setting}
@@ -39,21 +38,18 @@ same_symbol match t u s b c type space body = cc (type_stays match t, type, spac
 pub both : (match : Match) (n : List ℕ) (b c : Bool) (x y : Body) → b ≡ true → c ≡ true → SameBody match n x y → SameBodies match n (if b then Some x else None) (if c then Some y else None)
 both match n b c x y hb hc same = rw (hb, hc) same
 
--- ---- plain names are no names of intrinsics
+-- ---- functions that are no intrinsics
 
-abbrev pub HasPlainName : L.Function → Type 0
-HasPlainName f = is_plain f.name ≡ true
+abbrev pub HasOwnName : L.Function → Type 0
+HasOwnName f = is_intrinsic_name f.name ≡ false
 
-own : (f : L.Function) → HasPlainName f → not (Llvm.is_intrinsic f) ≡ true
-own f plain = ap not (false_from_ne_true (Llvm.is_intrinsic f) (own_of_plain f.name plain))
-
-pub all_kept : (fs : List L.Function) → All HasPlainName fs → filter (λ (f : L.Function). not (Llvm.is_intrinsic f)) fs ≡ fs
+pub all_kept : (fs : List L.Function) → All HasOwnName fs → filter (λ (f : L.Function). not (Llvm.is_intrinsic f)) fs ≡ fs
 all_kept [] h = refl
-all_kept (f ∷ fs) h = rw (own f (All-head HasPlainName f fs h), all_kept fs (All-tail HasPlainName f fs h)) refl
+all_kept (f ∷ fs) h = rw (All-head HasOwnName f fs h, all_kept fs (All-tail HasOwnName f fs h)) refl
 
 entries_names : (setting : Setting) (fs : List L.Function) → map (λ (e : Entry). e.name) (map (Llvm.entry setting) fs) ≡ map (λ (f : L.Function). f.name) fs
 entries_names setting [] = refl
 entries_names setting (f ∷ fs) = rw (entries_names setting fs) refl
 
-pub distinct_code : (d : ModuleData) → All HasPlainName d.functions → IsDistinctNames (map (λ (f : L.Function). f.name) d.functions) → IsDistinctNames (names_of (Llvm.code_of d))
-distinct_code d plain h = subst IsDistinctNames (sym (ap (λ (fs : List L.Function). map (λ (e : Entry). e.name) (map (Llvm.entry (Llvm.setting_of d)) fs)) (all_kept d.functions plain) ∙ entries_names (Llvm.setting_of d) d.functions)) h
+pub distinct_code : (d : ModuleData) → All HasOwnName d.functions → IsDistinctNames (map (λ (f : L.Function). f.name) d.functions) → IsDistinctNames (names_of (Llvm.code_of d))
+distinct_code d own h = subst IsDistinctNames (sym (ap (λ (fs : List L.Function). map (λ (e : Entry). e.name) (map (Llvm.entry (Llvm.setting_of d)) fs)) (all_kept d.functions own) ∙ entries_names (Llvm.setting_of d) d.functions)) h

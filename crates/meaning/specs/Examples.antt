@@ -73,6 +73,7 @@ abbrev pub answer_func : D.Func
 answer_func = record {
   number = 1;
   name = codes "f";
+  llvm_name = None;
   type = T.FunctionType (T.IntType 32) T.NoTypes false;
   linkage = ExternalLinkage;
   blocks = (record {
@@ -142,6 +143,7 @@ abbrev pub sums_func : D.Func
 sums_func = record {
   number = 1;
   name = codes "g";
+  llvm_name = None;
   type = T.FunctionType (T.IntType 32) (T.ThenType (T.IntType 32) (T.ThenType (T.IntType 32) T.NoTypes)) false;
   linkage = ExternalLinkage;
   blocks = (record {
@@ -199,6 +201,7 @@ abbrev pub swap_func : D.Func
 swap_func = record {
   number = 1;
   name = codes "swap";
+  llvm_name = None;
   type = T.FunctionType (T.IntType 32) (T.ThenType (T.IntType 32) (T.ThenType (T.IntType 32) (T.ThenType (T.IntType 1) T.NoTypes))) false;
   linkage = ExternalLinkage;
   blocks =
@@ -273,6 +276,7 @@ abbrev pub lacking_func : D.Func
 lacking_func = record {
   number = 1;
   name = codes "h";
+  llvm_name = None;
   type = T.FunctionType (T.IntType 8) T.NoTypes false;
   linkage = ExternalLinkage;
   blocks =

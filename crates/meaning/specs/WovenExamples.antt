@@ -53,6 +53,7 @@ abbrev pub late_func : D.Func
 late_func = record {
   number = 1;
   name = codes "late";
+  llvm_name = None;
   type = T.FunctionType (T.IntType 32) (T.ThenType (T.IntType 32) (T.ThenType (T.IntType 1) T.NoTypes)) false;
   linkage = ExternalLinkage;
   blocks =
@@ -115,6 +116,7 @@ abbrev pub mixed_func : D.Func
 mixed_func = record {
   number = 1;
   name = codes "g";
+  llvm_name = None;
   type = T.FunctionType (T.IntType 32) (T.ThenType (T.IntType 32) (T.ThenType (T.IntType 32) T.NoTypes)) false;
   linkage = ExternalLinkage;
   blocks = (record {

@@ -32,7 +32,7 @@ module _ (source : D.DialectModule) (back : Module) (exported : IsExported sourc
   pub form_exported : All HasTargets source.functions → IsForm (data_of back)
   form_exported targets = forms source.functions (data_of back).functions targets exported.functions
 
-  pub distinct_exported : IsDistinctNames (map (λ (g : D.Func). g.name) source.functions) → HasDistinctNames (data_of back)
+  pub distinct_exported : IsDistinctNames (map D.llvm_name_of source.functions) → HasDistinctNames (data_of back)
   distinct_exported distinct = record {
     functions = subst (λ (ns : List (List ℕ)). IsDistinctList ns) (sym (names_exported source.functions (data_of back).functions exported.functions)) distinct;
     locals = each HasOwnLocals (λ g f h. h.locals) source.functions (data_of back).functions exported.functions;

@@ -1,7 +1,7 @@
 -- A module that an export made has the traces of its dialect module, and its code where constants stand in first blocks.
 use Rattle.std.proofs.Common.{ℕ, suc, ◌≡◌, refl, sym, ◌∙◌, ap, subst, true, List, [], ◌∷◌, map, length, slice_get, All, arith}
 use Rattle.std.proofs.lemmas.List.Elements.{All-nil, All-cons, All-head, All-tail}
-use Rattle.llvm_core.specs.Names.{is_plain}
+use Rattle.kinds.specs.Names.{is_intrinsic_name}
 use Rattle.llvm_core.specs.Data as L
 use Rattle.llvm_core.specs.Data.{ModuleData}
 use Rattle.dialect_core.specs.ContextData.{ContextData}
@@ -16,9 +16,9 @@ use Rattle.meaning.specs.Llvm as Llvm
 use Rattle.meaning.specs.Dialect as Dialect
 use Rattle.meaning.proofs.WovenLaws.{woven, woven_first}
 use Rattle.meaning.proofs.CodeLaws.{same_code}
-use Rattle.meaning.proofs.EntryLaws.{HasPlainName, some_blocks, not_empty, same_symbol, both, all_kept, distinct_code}
+use Rattle.meaning.proofs.EntryLaws.{HasOwnName, some_blocks, not_empty, same_symbol, both, all_kept, distinct_code}
 use Rattle.to_llvm_ir.specs.Exported.{ExportedFunction, HasTraces, HasNames}
-use Rattle.to_llvm_ir.proofs.NameLaws.{plain_is}
+use Rattle.to_llvm_ir.proofs.NameLaws.{no_intrinsic}
 
 both_count : {A B : Type 0} (P : ℕ → A → B → Type 0) (xs : List A) (ys : List B) → ((i : ℕ) → BothOrNone (P i) (slice_get xs i) (slice_get ys i)) → length ys ≡ length xs
 both_count P [] [] h = refl
@@ -73,22 +73,22 @@ module _ (c : ContextData) (g : D.Func) (f : L.Function) (form : IsOpenForm c g)
     };
   }
 
-  plain_name : HasPlainName f
-  plain_name = ap is_plain h.name ∙ plain_is g.name form.1.name form.0.named
+  own_name : HasOwnName f
+  own_name = ap is_intrinsic_name h.name ∙ no_intrinsic (D.llvm_name_of g) form.0.llvm_named
 
 -- ---- modules
 
-pub names_exported : (gs : List D.Func) (fs : List L.Function) → Matched ExportedFunction gs fs → map (λ (f : L.Function). f.name) fs ≡ map (λ (g : D.Func). g.name) gs
+pub names_exported : (gs : List D.Func) (fs : List L.Function) → Matched ExportedFunction gs fs → map (λ (f : L.Function). f.name) fs ≡ map D.llvm_name_of gs
 names_exported [] [] h = refl
 names_exported (g ∷ gs) (f ∷ fs) h = rw (h.0.name, names_exported gs fs h.1) refl
 names_exported [] (f ∷ fs) h = absurd h
 names_exported (g ∷ gs) [] h = absurd h
 
-plain_names : (c : ContextData) (gs : List D.Func) (fs : List L.Function) → All (IsOpenForm c) gs → Matched ExportedFunction gs fs → All HasPlainName fs
-plain_names c [] [] forms h = All-nil HasPlainName
-plain_names c (g ∷ gs) (f ∷ fs) forms h = All-cons HasPlainName f fs (plain_name c g f (All-head (IsOpenForm c) g gs forms) h.0) (plain_names c gs fs (All-tail (IsOpenForm c) g gs forms) h.1)
-plain_names c [] (f ∷ fs) forms h = absurd h
-plain_names c (g ∷ gs) [] forms h = absurd h
+own_names : (c : ContextData) (gs : List D.Func) (fs : List L.Function) → All (IsOpenForm c) gs → Matched ExportedFunction gs fs → All HasOwnName fs
+own_names c [] [] forms h = All-nil HasOwnName
+own_names c (g ∷ gs) (f ∷ fs) forms h = All-cons HasOwnName f fs (own_name c g f (All-head (IsOpenForm c) g gs forms) h.0) (own_names c gs fs (All-tail (IsOpenForm c) g gs forms) h.1)
+own_names c [] (f ∷ fs) forms h = absurd h
+own_names c (g ∷ gs) [] forms h = absurd h
 
 entries : (c : ContextData) (a b : Setting) (gs : List D.Func) (fs : List L.Function) → All (IsOpenForm c) gs → All HasOnlyEntryConstants gs → Matched ExportedFunction gs fs → Matched (SameNamed same_places) (map (Llvm.entry a) fs) (map (Dialect.entry b) gs)
 entries c a b [] [] forms only h = tt
@@ -110,8 +110,8 @@ traces_exported c a b [] (f ∷ fs) forms h = absurd h
 traces_exported c a b (g ∷ gs) [] forms h = absurd h
 
 pub same_exported : (c : ContextData) (source : D.DialectModule) (d : ModuleData) → All (IsOpenForm c) source.functions → All HasOnlyEntryConstants source.functions → Matched ExportedFunction source.functions d.functions
-    → IsDistinctNames (map (λ (g : D.Func). g.name) source.functions) → SameCode same_places (Llvm.code_of d) (Dialect.code_of source)
+    → IsDistinctNames (map D.llvm_name_of source.functions) → SameCode same_places (Llvm.code_of d) (Dialect.code_of source)
 same_exported c source d forms only h distinct =
-    let plain = plain_names c source.functions d.functions forms h in
+    let own = own_names c source.functions d.functions forms h in
     let names = subst IsDistinctNames (sym (names_exported source.functions d.functions h)) distinct in
-    same_code same_places (Llvm.code_of d) (Dialect.code_of source) (distinct_code d plain names) (rw (all_kept d.functions plain) (entries c (Llvm.setting_of d) (Dialect.setting_of source) source.functions d.functions forms only h))
+    same_code same_places (Llvm.code_of d) (Dialect.code_of source) (distinct_code d own names) (rw (all_kept d.functions own) (entries c (Llvm.setting_of d) (Dialect.setting_of source) source.functions d.functions forms only h))

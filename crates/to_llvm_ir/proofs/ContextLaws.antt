@@ -15,8 +15,8 @@ use Rattle.dialect_core.specs.declared.ops.Symbol.{Symbol}
 use Rattle.dialect_core.specs.declared.ops.OpData.{OpData}
 use Rattle.dialect_core.specs.declared.ops.BlockData.{BlockData}
 use Rattle.dialect_core.specs.Lists.{list_at}
-use Rattle.dialect_core.specs.ContextData.{ContextData, symbol_at}
-use Rattle.dialect_core.specs.Data.{IsTyped, Func, DialectBlock, op_at, block_of, block_in, func_with, func_of, func_in, name_at}
+use Rattle.dialect_core.specs.ContextData.{ContextData, llvm_name_at, symbol_at}
+use Rattle.dialect_core.specs.Data.{IsTyped, Func, DialectBlock, llvm_name_of, op_at, block_of, block_in, func_with, func_of, func_in, name_at}
 use Rattle.to_llvm_ir.specs.Functions.{blocks_of}
 
 -- ---- lists
@@ -86,7 +86,7 @@ args_count c b d ts h at =
 pub record FuncParts (c : ContextData) (o : OpRef) (g : Func) : Type 0 where
   pub symbol : Symbol
   pub symbol_is : symbol_at c.ops o ≡ Some symbol
-  pub name : g.name ≡ name_at c.ops o.0
+  pub name : llvm_name_of g ≡ unwrap_or (llvm_name_at c.ops o) (name_at c.ops o.0)
   pub type : g.type ≡ type_at (type_trees c.types) symbol.ty
   pub blocks : g.blocks ≡ blocks_of c o
   pub type_there : IsTyped c → symbol.ty.0 < length c.types
@@ -98,10 +98,13 @@ func_parts c o g is = by (slice_get c.ops o.0) refl is
     made x None at symbol e = absurd (none-some g e)
     made x (Some s) at symbol e =
         let same = sym (same_Some _ g e) in
+        let is_symbol : symbol_at c.ops o ≡ Some s = ap (option_and_then (λ (y : OpData). y.symbol)) at ∙ symbol in
         record {
           symbol = s;
-          symbol_is = ap (option_and_then (λ (y : OpData). y.symbol)) at ∙ symbol;
-          name = ap (λ (y : Func). y.name) same ∙ ap (λ (v : Option OpData). option_map_or (λ (y : OpData). unwrap_or y.name []) v []) (sym at);
+          symbol_is = is_symbol;
+          name =
+              ap llvm_name_of same ∙ ap (λ (v : Option OpData). unwrap_or s.llvm_name (option_map_or (λ (y : OpData). unwrap_or y.name []) v [])) (sym at)
+              ∙ ap (λ (t : Option Symbol). unwrap_or (option_and_then (λ (s : Symbol). s.llvm_name) t) (name_at c.ops o.0)) (sym is_symbol);
           type = ap (λ (y : Func). y.type) same;
           blocks = ap (λ (y : Func). y.blocks) same ∙ ap (λ (v : Option OpData). filter_map (block_in (type_trees c.types) c) (option_map_or (λ (y : OpData). y.blocks) v [])) (sym at);
           type_there = λ typed. subst (λ (v : Option Symbol). IfSome v (λ (s : Symbol). s.ty.0 < length c.types)) symbol (typed.ops o.0 x at).symbol;

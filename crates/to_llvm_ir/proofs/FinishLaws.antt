@@ -8,7 +8,7 @@ use Rattle.std.proofs.lemmas.List.FromFn.{length-enumerate_from}
 use Rattle.meaning.proofs.MatchedLaws.{matched_append}
 use Rattle.support.proofs.ListLaws.{item_there}
 use Rattle.llvm_core.specs.Module.{Module}
-use Rattle.llvm_core.specs.Names.{IsPlainOrNone}
+use Rattle.kinds.specs.Names.{IsGoodOrNone}
 use Rattle.llvm_core.specs.Data as L
 use Rattle.llvm_core.specs.Data.{ModuleData, Function, trees_of, function_of, with_function}
 use Rattle.llvm_core.proofs.DataLemmas.{length-filter_map_all, slice_get-filter_map_all}
@@ -87,7 +87,7 @@ blocks_of_func c op g bs form = blocks_apart c op g bs (let e = ap (λ (ds : Lis
 -- ---- one function
 
 pub accepted : (order : List ℕ) (g : Func) → length g.blocks < 2 ^ 30
-    → ((j : ℕ) (c : DialectBlock) → slice_get g.blocks j ≡ Some c → IsPlainOrNone (block_name c.label j))
+    → ((j : ℕ) (c : DialectBlock) → slice_get g.blocks j ≡ Some c → IsGoodOrNone (block_name c.label j))
     → ((j : ℕ) (c : DialectBlock) → slice_get g.blocks j ≡ Some c → IsBodyAccepted order g j c)
     → ((j : ℕ) (c : DialectBlock) → slice_get g.blocks j ≡ Some c → AreAcceptedEdges g c) → IsAccepted order g
 accepted order g few labelled bodies edges = record {

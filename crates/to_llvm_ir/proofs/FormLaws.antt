@@ -17,7 +17,7 @@ use Rattle.kinds.proofs.HeldLaws.{void_if, held_own, held_result_if, held_result
 use Rattle.llvm_core.specs.Checked.{ends_in_only}
 use Rattle.llvm_core.specs.Edges.{count_of}
 use Rattle.support.specs.Interned.{IsDistinctList}
-use Rattle.llvm_core.specs.Names.{IsPlainOrNone}
+use Rattle.kinds.specs.Names.{IsGoodOrNone}
 use Rattle.llvm_core.specs.Data.{Operand, Placed, Block, Function, placed_in, operand_type}
 use Rattle.llvm_core.specs.Form as F
 use Rattle.llvm_core.specs.Form.{IsFormFunction, IsFormInstruction, IsFormRow, IsFormPlaced, IsFormBlock, IsTarget, is_last}
@@ -28,7 +28,7 @@ use Rattle.dialect_core.specs.declared.numbers.BlockRef.{BlockRef}
 use Rattle.dialect_core.specs.declared.ops.Value.{Value}
 use Rattle.dialect_core.specs.declared.ops.Value.TheVariants.{Argument}
 use Rattle.dialect_core.specs.declared.ops.Successor.{Successor}
-use Rattle.dialect_core.specs.Data.{DialectOp, DialectBlock, Func, Kind, ConstantOp, RowOp, value_type}
+use Rattle.dialect_core.specs.Data.{DialectOp, DialectBlock, Func, llvm_name_of, Kind, ConstantOp, RowOp, value_type}
 use Rattle.dialect_core.specs.Rules.{IsOfKind, IsReturning, IsRow, type_nth}
 use Rattle.dialect_core.specs.Form.{IsFormFunc, IsFormOp, IsHeldValue, HasTargets, is_constant, is_constant_kind, is_terminator, is_terminator_kind}
 use Rattle.meaning.specs.Dialect.{option_type}
@@ -38,7 +38,7 @@ use Rattle.to_llvm_ir.specs.Made.{Numbers, operand_for, row_for, instruction_for
 use Rattle.to_llvm_ir.specs.Accepted.{IsAccepted}
 use Rattle.to_llvm_ir.specs.Links.{HasTarget}
 use Rattle.to_llvm_ir.proofs.ListLaws.{AreNumbered, all_at}
-use Rattle.to_llvm_ir.proofs.NameLaws.{plain_is, bare_plain}
+use Rattle.to_llvm_ir.proofs.NameLaws.{no_intrinsic, bare_good}
 use Rattle.to_llvm_ir.proofs.TurnLaws.{turn_at, filter_taken}
 use Rattle.to_llvm_ir.proofs.LookupLaws.{argument_type, block_form, op_form, entry_at, place_is}
 use Rattle.to_llvm_ir.proofs.PlacedLaws.{placed_numbered, params_count, operand_form, operand_typed, types_count}
@@ -74,9 +74,9 @@ block_past (d ∷ cs) (suc j) k c at = block_past cs j (number_behind (k + lengt
 
 -- ---- types
 
-unnamed_plain : (ts : List TypeTree) → All IsPlainOrNone (map (λ (t : TypeTree). let none : List ℕ = [] in none) ts)
-unnamed_plain [] = All-nil IsPlainOrNone
-unnamed_plain (t ∷ ts) = All-cons IsPlainOrNone [] (map (λ (t : TypeTree). let none : List ℕ = [] in none) ts) tt (unnamed_plain ts)
+unnamed_good : (ts : List TypeTree) → All IsGoodOrNone (map (λ (t : TypeTree). let none : List ℕ = [] in none) ts)
+unnamed_good [] = All-nil IsGoodOrNone
+unnamed_good (t ∷ ts) = All-cons IsGoodOrNone [] (map (λ (t : TypeTree). let none : List ℕ = [] in none) ts) tt (unnamed_good ts)
 
 numbers_distinct : {X : Type 0} (number : X → ℕ) (xs : List X) → AreNumbered number xs → IsDistinctList (map number xs)
 numbers_distinct number xs h i j m at at' = by (slice_get xs i) refl (slice_get xs j) refl (sym (slice_get-map number xs i) ∙ at) (sym (slice_get-map number xs j) ∙ at')
@@ -247,7 +247,7 @@ module _ (g : Func) (form : IsFormFunc g) (n : Numbers) (order : IsOrder (length
   instruction_form b (ConstantOp value) vs own ss h other held targets = absurd (let e : true ≡ false = other in cc)
   instruction_form b (RowOp op) vs own ss h other held targets = row_form op vs own ss h held targets
 
-  placed_form : (b k : ℕ) (o : DialectOp) → IsFormOp g o → is_constant o ≡ false → IsPlainOrNone (result_name o.name o.result k) → All (λ (s : Successor). IsTarget made (target_for g n s)) o.successors → IsFormPlaced made b (inst g n k o)
+  placed_form : (b k : ℕ) (o : DialectOp) → IsFormOp g o → is_constant o ≡ false → IsGoodOrNone (result_name o.name o.result k) → All (λ (s : Successor). IsTarget made (target_for g n s)) o.successors → IsFormPlaced made b (inst g n k o)
   placed_form b k o h other name targets = record {
     instruction = instruction_form b o.kind o.operands o.result o.successors h.kind other h.operands targets;
     held = own_held o.result h.result;
@@ -300,8 +300,8 @@ module _ (g : Func) (form : IsFormFunc g) (n : Numbers) (order : IsOrder (length
         let found = first_entry g n n.order (turn_of n.order r.0) r.0 r.2 (n.block + r.0) i (record { 0 = c.number }) v.0 r.3.args r.1 r.3 (turn_at (length g.blocks) n.order order r.0 (slice_get_within g.blocks r.0 r.2 r.4)) r.4 refl r.5 r.6 (λ k u there to. equal k r.1 u r.3 there r.5 (ap (λ (m : ℕ). let b : BlockRef = record { 0 = m } in b) (to ∙ sym r.6))) v.1 in
         none-some (operand_for g n v.0, n.block + r.0) (sym (ap (find (is_from g n (n.block + r.0))) none) ∙ found)
 
-    value_plain : (k : ℕ) → k < 2 ^ 64 → IsPlainOrNone (value_name None k)
-    value_plain k lt = bare_plain 118 [] k lt refl refl
+    value_good : (k : ℕ) → k < 2 ^ 64 → IsGoodOrNone (value_name None k)
+    value_good k lt = bare_good 118 [] k lt refl refl
 
     phis_form : (t : ℕ) (c : DialectBlock) → slice_get g.blocks (suc t) ≡ Some c → (i k : ℕ) (ts : List TypeTree) → k + length ts < 2 ^ 64 → ((m : ℕ) (ty : TypeTree) → slice_get ts m ≡ Some ty → slice_get c.args (i + m) ≡ Some ty)
         → All (IsFormPlaced made (n.block + (0 + suc t))) (phis g n (entries g n) c.number i k ts)
@@ -317,7 +317,7 @@ module _ (g : Func) (form : IsFormFunc g) (n : Numbers) (order : IsOrder (length
             held,
           );
           held = own_held (Some ty) held;
-          name = value_plain k (omega (arith, lt));
+          name = value_good k (omega (arith, lt));
           unnamed = λ e. absurd (no_void ty held e);
         }) (phis_form t c at (suc i) (k + 1) ts (omega (arith, lt)) (λ m u at'. ap (slice_get c.args) (let e : suc i + m ≡ i + suc m = omega arith in e) ∙ are (suc m) u at'))
 
@@ -340,7 +340,7 @@ module _ (g : Func) (form : IsFormFunc g) (n : Numbers) (order : IsOrder (length
         let k = number_past 0 (take j g.blocks) in
         let past = block_past g.blocks j 0 c at in
         record {
-          label = subst (λ (q : ℕ). IsPlainOrNone (block_name c.label q)) (let e : j ≡ 0 + j = omega arith in e) (accepted.blocks j c at).label;
+          label = subst (λ (q : ℕ). IsGoodOrNone (block_name c.label q)) (let e : j ≡ 0 + j = omega arith in e) (accepted.blocks j c at).label;
           instructions = instructions_form j k c at (omega (arith, past, small));
           phis = phis_first (block_phis g n (entries g n) (0 + j) k c) (insts g n (k + length c.args) c.ops) (block_phis_phi g n (entries g n) (0 + j) k c) (insts_no_phi g n (k + length c.args) c.ops);
           ends = block_ends (0 + j) k j c at;
@@ -348,7 +348,8 @@ module _ (g : Func) (form : IsFormFunc g) (n : Numbers) (order : IsOrder (length
 
     pub made_form : IsFormFunction made
     made_form = record {
-      name = plain_is g.name form.name form.named;
+      name = form.good;
+      own = no_intrinsic (llvm_name_of g) form.llvm_named;
       result = form.result;
       types = form.types;
       type = form.type;
@@ -356,7 +357,7 @@ module _ (g : Func) (form : IsFormFunc g) (n : Numbers) (order : IsOrder (length
       takes = form.takes;
       space = refl;
       params = params_count g form n order (entries g n) ∙ ap (λ (ts : List TypeTree). length ts) form.params ∙ sym (types_count form.types);
-      param_names = unnamed_plain (entry_args g n);
+      param_names = unnamed_good (entry_args g n);
       body = λ e. none-some form.entry (sym (ap (λ (bs : List Block). option_map (λ (b : Block). form.entry) (slice_get bs 0)) e) ∙ ap (option_map (λ (b : Block). form.entry)) (made_at g n (entries g n) 0 0 g.blocks 0 form.entry (entry_at g form)));
       blocks = all_from (IsFormBlock made) made.blocks (λ j b at. let r = made_from g n (entries g n) 0 0 g.blocks j b at in subst (IsFormBlock made) (sym r.2) (made_block_form j r.0 r.1));
       block_numbers = numbers_distinct (λ (b : Block). b.number) made.blocks (made_numbered g n (entries g n) 0 0 g.blocks);

@@ -1,12 +1,11 @@
 -- What narrow blocks and functions of a context tell of their data, and what a module's do.
 use Rattle.std.proofs.Common.{◌≡◌, ◌<◌, ℕ, suc, Bool, List, [], ◌∷◌, Option, Some, None, All, length, map, slice_get, ap, sym, subst, ◌∙◌, refl, arith}
-use Rattle.std.specs.Prelude.{IsTrue, IfSome, ◌↔◌, unwrap_or}
+use Rattle.std.specs.Prelude.{IsTrue, ◌↔◌}
 use Rattle.std.specs.List.{filter_map, flat_map, cons_option}
-use Rattle.std.specs.Option.{option_map_or, option_and_then}
+use Rattle.std.specs.Option.{option_map_or}
 use Rattle.std.proofs.lemmas.List.{append-nil}
 use Rattle.support.proofs.ListLaws.{all_from}
 use Rattle.kinds.specs.Held.{IsHeld}
-use Rattle.dialect_types.specs.Names.{IsPlainName}
 use Rattle.dialect_types.specs.Trees.{type_trees}
 use Rattle.dialect_core.specs.declared.numbers.OpRef.{OpRef}
 use Rattle.dialect_core.specs.declared.numbers.BlockRef.{BlockRef}
@@ -22,7 +21,7 @@ use Rattle.dialect_core.proofs.HoldLemmas.{stands_flat}
 use Rattle.dialect_core.proofs.LineLemmas.{all_at}
 use Rattle.dialect_core.proofs.TypeTestLemmas.{all_map, map_all}
 use Rattle.dialect_core.proofs.FuncLemmas.{blocks_are}
-use Rattle.dialect_core.proofs.FuncTestLemmas.{block_data, func_name, func_data}
+use Rattle.dialect_core.proofs.FuncTestLemmas.{block_data, func_data}
 use Rattle.to_llvm_ir.specs.Narrow.{IsNarrowBlockAt, AreNarrowBlocks, IsNarrowHead}
 use Rattle.to_llvm_ir.proofs.OpDataLaws.{ArePlain, ops_narrow, narrow_ops}
 
@@ -39,13 +38,11 @@ module _ (c : ContextData) where
   narrow_block b plain h = record {
     args = all_map IsHeld (tree_at c) (option_map_or (λ (x : BlockData). x.args) (slice_get c.blocks b.0) []) h.args;
     ops = ops_narrow c (list_at c.lists b) plain h.ops;
-    label = h.label;
   }
 
   block_narrow : (b : BlockRef) → ArePlain c (list_at c.lists b) → IsNarrowBlock (block_at c b) → IsNarrowBlockAt c b
   unfolding block_at
   block_narrow b plain h = record {
-    label = h.label;
     args = map_all IsHeld (tree_at c) (option_map_or (λ (x : BlockData). x.args) (slice_get c.blocks b.0) []) h.args;
     ops = narrow_ops c (list_at c.lists b) plain h.ops;
   }
@@ -68,17 +65,8 @@ module _ (c : ContextData) where
 
 -- ---- functions
 
--- a name that is missing is plain, as the empty one is
-named : (x : Option OpData) → IfSome (option_and_then (λ (x : OpData). x.name) x) IsPlainName ↔ IsPlainName (option_map_or (λ (x : OpData). unwrap_or x.name []) x [])
-named None = (λ h. tt, λ h. tt)
-named (Some x) = by x.name
-  where
-    by : (n : Option (List ℕ)) → IfSome n IsPlainName ↔ IsPlainName (unwrap_or n [])
-    by None = (λ h. tt, λ h. tt)
-    by (Some n) = (λ h. h, λ h. h)
-
 pub func_head : (c : ContextData) (f : OpRef) → IsNarrowFunc (func_at c f) → IsNarrowHead c f
-func_head c f h = record { name = (named (slice_get c.ops f.0)).1 (subst IsPlainName (func_name c f) h.name); linkage = h.linkage; signature = h.signature }
+func_head c f h = record { good = h.good; linkage = h.linkage; signature = h.signature }
 
 module _ (c : ContextData) (f : OpRef) (there : (k : ℕ) (b : BlockRef) → slice_get (region_at c.ops f.0) k ≡ Some b → b.0 < length c.blocks) (plain : All (IsPlainAt c) (held c f.0)) where
   func_blocks : (func_at c f).blocks ≡ map (block_at c) (region_at c.ops f.0)
@@ -95,7 +83,7 @@ module _ (c : ContextData) (f : OpRef) (there : (k : ℕ) (b : BlockRef) → sli
       let Q : List DialectBlock → Type 0 = λ ds. All IsNarrowBlock ds × ¬ (ds ≡ []) in
       let blocks = subst P is h in (
         λ w. let d : Q (func_at c f).blocks = subst Q (sym func_blocks) (narrow_blocks c (region_at c.ops f.0) region_plain (blocks.0 w)) in record {
-          name = subst IsPlainName (sym (func_name c f)) ((named (slice_get c.ops f.0)).0 head.name);
+          good = head.good;
           linkage = head.linkage;
           signature = head.signature;
           blocks = d.0;

@@ -1,15 +1,14 @@
--- Names that the export gives: they are plain, and no two of one function are equal.
-use Rattle.std.proofs.Common.{◌≡◌, ◌<◌, ◌^◌, ◌+◌, ◌%◌, ℕ, Bool, true, false, ◌&&◌, ◌||◌, ◌==◌, nat_le, List, [], ◌∷◌, ◌++◌, Option, Some, None, refl, sym, ap, ◌∙◌, arith, append_assoc}
+-- Names that the export gives: the form takes them, and no two of one function are equal.
+use Rattle.std.proofs.Common.{◌≡◌, ◌<◌, ◌^◌, ◌+◌, ◌%◌, ℕ, Bool, true, false, not, ◌&&◌, ◌||◌, ◌==◌, nat_le, List, [], ◌∷◌, ◌++◌, Option, Some, None, refl, sym, ap, ◌∙◌, arith, append_assoc}
 use Rattle.std.specs.Prelude.{codes, reverse}
 use Rattle.std.specs.Fmt.{decimal}
 use Rattle.std.specs.List.{list_all}
-use Rattle.std.proofs.lemmas.Bool.{and_from, and_parts, true≢false, le-leb}
+use Rattle.std.proofs.lemmas.Bool.{and_from, and_parts, not-true, true≢false, le-leb}
 use Rattle.std.proofs.lemmas.Fmt.{decimal_by_steps, decimal_injective}
 use Rattle.std.proofs.lemmas.List.{reverse-append, reverse-reverse}
 use Rattle.std.proofs.lemmas.List.Folds.{list_all-append}
-use Rattle.llvm_core.specs.Names.{is_digit, is_letter, is_plain_byte, is_plain, IsPlainOrNone}
-use Rattle.dialect_types.specs.Names as dialect
-use Rattle.dialect_types.specs.Names.{IsIdentifier, IsPlainName}
+use Rattle.kinds.specs.Names.{is_bad_name, is_intrinsic_name, is_own_name, is_digit, is_letter, is_plain_byte, IsGoodOrNone}
+use Rattle.dialect_types.specs.Names.{IsIdentifier}
 use Rattle.to_llvm_ir.specs.Exported.{block_name, value_name}
 
 -- ---- plain bytes
@@ -37,51 +36,28 @@ digits_are_plain : (ds : List ℕ) → list_all is_digit ds ≡ true → list_al
 digits_are_plain [] h = refl
 digits_are_plain (d ∷ ds) h = let p = and_parts (is_digit d) (list_all is_digit ds) h in and_from (is_plain_byte d) (list_all is_plain_byte ds) (digit_is_plain d p.0) (digits_are_plain ds p.1)
 
--- the letters and bytes of both sides are the same
-letter_is : (b : ℕ) → dialect.is_letter b ≡ true → is_letter b ≡ true
-letter_is b h = by (nat_le 97 b && nat_le b 122) (nat_le 65 b && nat_le b 90) h
-  where
-    by : (x y : Bool) → (x || y) ≡ true → (y || x) ≡ true
-    by true true h = refl
-    by true false h = refl
-    by false true h = refl
-    by false false h = h
+-- ---- names that the form takes
 
-byte_is : (b : ℕ) → dialect.is_name_byte b ≡ true → is_plain_byte b ≡ true
-byte_is b h = by (nat_le 97 b && nat_le b 122) (nat_le 65 b && nat_le b 90) (is_digit b) (b == 95) h
-  where
-    by : (x y d u : Bool) → (((x || y) || d) || u) ≡ true → (((y || x) || d) || u) ≡ true
-    by true true d u h = refl
-    by true false d u h = refl
-    by false true d u h = refl
-    by false false d u h = h
-
-bytes_are : (bs : List ℕ) → list_all dialect.is_name_byte bs ≡ true → list_all is_plain_byte bs ≡ true
-bytes_are [] h = refl
-bytes_are (b ∷ bs) h = let p = and_parts (dialect.is_name_byte b) (list_all dialect.is_name_byte bs) h in and_from (is_plain_byte b) (list_all is_plain_byte bs) (byte_is b p.0) (bytes_are bs p.1)
-
--- ---- plain names
-
-longer : (name rest : List ℕ) → IsIdentifier name → IsPlainName name → list_all is_plain_byte rest ≡ true → IsPlainOrNone (name ++ rest)
-longer [] rest legal plain h = absurd legal
-longer (c ∷ cs) rest legal plain h =
-    and_from (is_letter c) (list_all is_plain_byte (cs ++ rest)) (letter_is c plain.0)
-    (list_all-append is_plain_byte cs rest ∙ and_from (list_all is_plain_byte cs) (list_all is_plain_byte rest) (bytes_are cs plain.1) h)
+-- an identifier with more behind it
+longer : (name rest : List ℕ) → IsIdentifier name → list_all is_plain_byte rest ≡ true → IsGoodOrNone (name ++ rest)
+longer [] rest legal h = absurd legal
+longer (c ∷ cs) rest legal h =
+    and_from (is_letter c || c == 95) (list_all is_plain_byte (cs ++ rest)) legal.0
+    (list_all-append is_plain_byte cs rest ∙ and_from (list_all is_plain_byte cs) (list_all is_plain_byte rest) legal.1 h)
 
 -- a word of plain bytes before a number
 numbered : (word : List ℕ) (n : ℕ) → n < 2 ^ 64 → list_all is_plain_byte word ≡ true → list_all is_plain_byte (word ++ decimal n) ≡ true
 numbered word n lt h = list_all-append is_plain_byte word (decimal n) ∙ and_from (list_all is_plain_byte word) (list_all is_plain_byte (decimal n)) h (digits_are_plain (decimal n) (decimal_digits n lt))
 
-pub given_plain : (name word : List ℕ) (n : ℕ) → n < 2 ^ 64 → IsIdentifier name → IsPlainName name → list_all is_plain_byte word ≡ true → IsPlainOrNone (name ++ (word ++ decimal n))
-given_plain name word n lt legal plain h = longer name (word ++ decimal n) legal plain (numbered word n lt h)
+pub given_good : (name word : List ℕ) (n : ℕ) → n < 2 ^ 64 → IsIdentifier name → list_all is_plain_byte word ≡ true → IsGoodOrNone (name ++ (word ++ decimal n))
+given_good name word n lt legal h = longer name (word ++ decimal n) legal (numbered word n lt h)
 
-pub bare_plain : (c : ℕ) (cs : List ℕ) (n : ℕ) → n < 2 ^ 64 → is_letter c ≡ true → list_all is_plain_byte cs ≡ true → IsPlainOrNone ((c ∷ cs) ++ decimal n)
-bare_plain c cs n lt h k = and_from (is_letter c) (list_all is_plain_byte (cs ++ decimal n)) h (numbered cs n lt k)
+pub bare_good : (c : ℕ) (cs : List ℕ) (n : ℕ) → n < 2 ^ 64 → (is_letter c || c == 95) ≡ true → list_all is_plain_byte cs ≡ true → IsGoodOrNone ((c ∷ cs) ++ decimal n)
+bare_good c cs n lt h k = and_from (is_letter c || c == 95) (list_all is_plain_byte (cs ++ decimal n)) h (numbered cs n lt k)
 
--- a name that the legaliser takes is a plain one
-pub plain_is : (name : List ℕ) → IsPlainName name → ¬ (name ≡ []) → is_plain name ≡ true
-plain_is [] plain some = absurd (some refl)
-plain_is (c ∷ cs) plain some = and_from (is_letter c) (list_all is_plain_byte cs) (letter_is c plain.0) (bytes_are cs plain.1)
+-- the name of a symbol that is no intrinsic
+pub no_intrinsic : (name : List ℕ) → is_own_name name ≡ true → is_intrinsic_name name ≡ false
+no_intrinsic name h = not-true (is_intrinsic_name name) (and_parts (not (is_bad_name name)) (not (is_intrinsic_name name)) h).1
 
 -- ---- names are told apart by what stands behind their last byte that is no digit
 

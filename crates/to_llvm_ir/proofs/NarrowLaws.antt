@@ -4,8 +4,8 @@ use Rattle.std.specs.Prelude.{IsTrue, IfSome, ◌↔◌}
 use Rattle.std.specs.Option.{option_map, option_and_then}
 use Rattle.std.proofs.lemmas.Option.{none-some, same_Some}
 use Rattle.kinds.specs.Held.{IsHeld, IsHeldSignature}
+use Rattle.kinds.specs.Names.{is_good_name}
 use Rattle.dialect_types.specs.declared.types.TypeHandle.{TypeHandle}
-use Rattle.dialect_types.specs.Names.{IsPlainName}
 use Rattle.dialect_core.specs.declared.numbers.OpRef.{OpRef}
 use Rattle.dialect_core.specs.declared.numbers.BlockRef.{BlockRef}
 use Rattle.dialect_core.specs.declared.linkage.LinkageAttr.{LinkageAttr}
@@ -15,18 +15,13 @@ use Rattle.dialect_core.specs.declared.ops.OpData.{OpData}
 use Rattle.dialect_core.specs.declared.ops.BlockData.{BlockData}
 use Rattle.dialect_core.specs.Lists.{from_op}
 use Rattle.dialect_core.specs.ContextData.{ContextData, symbol_at}
-use Rattle.dialect_core.specs.Data.{IsTyped}
-use Rattle.dialect_core.specs.Checking.{tree_at}
+use Rattle.dialect_core.specs.Data.{IsTyped, llvm_name_of}
+use Rattle.dialect_core.specs.Checking.{func_at, tree_at}
 use Rattle.dialect_core.proofs.TestLemmas.{never}
 use Rattle.dialect_core.proofs.OpTestLemmas.{func_type}
 use Rattle.dialect_core.proofs.FuncTestLemmas.{func_linkage}
 use Rattle.to_llvm_ir.specs.Narrow.{IsNarrowBlockAt, AreNarrowBlocks, IsNarrowHead}
 use Rattle.to_llvm_ir.proofs.ContextLaws.{known}
-
--- what an item has, where it is known
-pub has_known : {X Y : Type 0} (f : X → Option Y) (o : Option X) (y : Option Y) → option_map f o ≡ Some y → option_and_then f o ≡ y
-has_known f None y e = absurd (none-some y e)
-has_known f (Some x) y e = same_Some (f x) y e
 
 -- the type of a result is there
 pub result_typed : (c : ContextData) (o : OpRef) (r : Option TypeHandle) (t : TypeHandle) → IsTyped c → option_map (λ (x : OpData). x.result) (slice_get c.ops o.0) ≡ Some r → r ≡ Some t → t.0 < length c.types
@@ -51,12 +46,12 @@ pub blocks_narrow : (c : ContextData) (bs : List BlockRef) (t : Bool) → ¬ (bs
 blocks_narrow c [] t some h = absurd (some refl)
 blocks_narrow c (entry ∷ more) t some h = h
 
--- a function by its name, its linkage and its type
-pub head_is : (c : ContextData) (f : OpRef) (name : Option (List ℕ)) (l : LinkageAttr) (ty : TypeHandle) (t : Bool) → option_map (λ (x : OpData). x.name) (slice_get c.ops f.0) ≡ Some name → IfSome name IsPlainName → option_map (λ (s : Symbol). s.linkage) (symbol_at c.ops f) ≡ Some l → l ≡ ExternalLinkage
+-- a function by its LLVM name, its linkage and its type
+pub head_is : (c : ContextData) (f : OpRef) (l : LinkageAttr) (ty : TypeHandle) (t : Bool) → is_good_name (llvm_name_of (func_at c f)) ≡ true → option_map (λ (s : Symbol). s.linkage) (symbol_at c.ops f) ≡ Some l → l ≡ ExternalLinkage
     → option_map (λ (s : Symbol). s.ty) (symbol_at c.ops f) ≡ Some ty → (IsTrue t ↔ IsHeldSignature (tree_at c ty)) → IsTrue t ↔ IsNarrowHead c f
-head_is c f name l ty t given plain linkage external type h = (
+head_is c f l ty t good linkage external type h = (
   λ w. record {
-    name = subst (λ (n : Option (List ℕ)). IfSome n IsPlainName) (sym (has_known (λ (x : OpData). x.name) (slice_get c.ops f.0) name given)) plain;
+    good = good;
     linkage = func_linkage c f l linkage ∙ external;
     signature = subst IsHeldSignature (sym (func_type c f ty type)) (h.0 w);
   },

@@ -19,7 +19,7 @@ use Rattle.kinds.specs.Types.{types_list}
 use Rattle.dialect_types.specs.Trees.{TypeTree, type_trees}
 use Rattle.dialect_core.specs.declared.numbers.OpRef.{OpRef}
 use Rattle.dialect_core.specs.ContextData.{ContextData}
-use Rattle.dialect_core.specs.Data.{DialectBlock, Func, func_in}
+use Rattle.dialect_core.specs.Data.{DialectBlock, Func, llvm_name_of, func_in}
 use Rattle.dialect_core.specs.Form.{IsFormFunc}
 use Rattle.to_llvm_ir.specs.Order.{IsTaken}
 use Rattle.to_llvm_ir.specs.Growth.{IsTypeOf}
@@ -47,7 +47,7 @@ pub record IsAdded (m0 m1 m2 : Module) (ty : LLVMType) (f : LLVMFunction) (name 
 abbrev pub numbers_of : Module → LLVMFunction → List ℕ → Numbers
 numbers_of m f order = record { function = f.0; block = length m.blocks; inst = length m.insts; order = order }
 
-declared_is : (g : Func) (form : IsFormFunc g) (order : List ℕ) (m0 m1 m2 : Module) (ty : LLVMType) (f : LLVMFunction) (name : List ℕ) → IsAdded m0 m1 m2 ty f name g.type → name ≡ g.name → data_of m2 ≡ with_function (data_of m0) (function_with g (numbers_of m1 f order) [])
+declared_is : (g : Func) (form : IsFormFunc g) (order : List ℕ) (m0 m1 m2 : Module) (ty : LLVMType) (f : LLVMFunction) (name : List ℕ) → IsAdded m0 m1 m2 ty f name g.type → name ≡ llvm_name_of g → data_of m2 ≡ with_function (data_of m0) (function_with g (numbers_of m1 f order) [])
 declared_is g form order m0 m1 m2 ty f name h named =
     let tree : L.type_at (trees_of m1).types ty ≡ L.FunctionType form.result form.types false = h.typed.1 ∙ form.type in
     let params = params_are m1 ty form.result form.types false h.sound h.typed.0 tree in
@@ -57,10 +57,10 @@ declared_is g form order m0 m1 m2 ty f name h named =
     h.made
     ∙ ap (λ (d : ModuleData). with_function d (record { number = f.0; name = name; type = L.type_at (trees_of m1).types ty; space = 0; params = unnamed m1 ty; blocks = [] })) h.same
     ∙ ap (λ (s : List ℕ). with_function (data_of m0) (record { number = f.0; name = s; type = L.type_at (trees_of m1).types ty; space = 0; params = unnamed m1 ty; blocks = [] })) named
-    ∙ ap (λ (t : L.TypeTree). with_function (data_of m0) (record { number = f.0; name = g.name; type = t; space = 0; params = unnamed m1 ty; blocks = [] })) h.typed.1
-    ∙ ap (λ (ns : List (List ℕ)). with_function (data_of m0) (record { number = f.0; name = g.name; type = g.type; space = 0; params = ns; blocks = [] })) names
+    ∙ ap (λ (t : L.TypeTree). with_function (data_of m0) (record { number = f.0; name = llvm_name_of g; type = t; space = 0; params = unnamed m1 ty; blocks = [] })) h.typed.1
+    ∙ ap (λ (ns : List (List ℕ)). with_function (data_of m0) (record { number = f.0; name = llvm_name_of g; type = g.type; space = 0; params = ns; blocks = [] })) names
 
-pub started : (c : ContextData) (op : OpRef) (g : Func) (form : IsFormFunc g) (order : List ℕ) (taken : IsTaken g order) (m0 m1 m2 : Module) (ty : LLVMType) (f : LLVMFunction) (name : List ℕ) → func_in (type_trees c.types) c op ≡ Some g → IsAdded m0 m1 m2 ty f name g.type → name ≡ g.name → IsStarted c g order f m0 m2
+pub started : (c : ContextData) (op : OpRef) (g : Func) (form : IsFormFunc g) (order : List ℕ) (taken : IsTaken g order) (m0 m1 m2 : Module) (ty : LLVMType) (f : LLVMFunction) (name : List ℕ) → func_in (type_trees c.types) c op ≡ Some g → IsAdded m0 m1 m2 ty f name g.type → name ≡ llvm_name_of g → IsStarted c g order f m0 m2
 started c op g form order taken m0 m1 m2 ty f name is h named =
     let kept : FunctionData = record { name = name; ty = ty; space = 0; params = unnamed m1 ty; blocks = [] } in
     let t : Task = record { source = g; numbers = numbers_of m1 f order; before = data_of m0 } in (

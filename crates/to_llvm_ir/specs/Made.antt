@@ -12,7 +12,7 @@ use Rattle.dialect_core.specs.declared.ops.Successor.{Successor}
 use Rattle.kinds.specs.declared.op.Op.{Op}
 use Rattle.kinds.specs.Table.{rule_of}
 use Rattle.kinds.specs.Typing.{written_for}
-use Rattle.dialect_core.specs.Data.{DialectOp, DialectBlock, Func, Kind, ConstantOp, RowOp, ops_in}
+use Rattle.dialect_core.specs.Data.{DialectOp, DialectBlock, Func, llvm_name_of, Kind, ConstantOp, RowOp, ops_in}
 use Rattle.dialect_core.specs.Form.{is_constant, others_of, edges_of}
 use Rattle.kinds.specs.Held.{width_in}
 use Rattle.meaning.specs.Dialect.{option_type, place_of}
@@ -187,7 +187,7 @@ module _ (g : Func) (n : Numbers) where
   abbrev pub function_with : List L.Block → L.Function
   function_with blocks = record {
     number = n.function;
-    name = g.name;
+    name = llvm_name_of g;
     type = g.type;
     space = 0;
     params = map (λ (t : TypeTree). []) entry_args;

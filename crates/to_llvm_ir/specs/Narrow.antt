@@ -1,8 +1,7 @@
 -- What the tests of the form speak of: operations, blocks and functions as a context has them.
-use Rattle.std.specs.Prelude.{◌≡◌, List, [], ◌∷◌, All, IfSome, slice_get}
+use Rattle.std.specs.Prelude.{◌≡◌, true, List, [], ◌∷◌, All, IfSome, slice_get}
 use Rattle.std.specs.Option.{option_map_or, option_and_then}
 use Rattle.dialect_types.specs.declared.types.TypeHandle.{TypeHandle}
-use Rattle.dialect_types.specs.Names.{IsPlainName}
 use Rattle.dialect_core.specs.declared.numbers.OpRef.{OpRef}
 use Rattle.dialect_core.specs.declared.numbers.BlockRef.{BlockRef}
 use Rattle.dialect_core.specs.declared.linkage.LinkageAttr.TheVariants.{ExternalLinkage}
@@ -10,21 +9,21 @@ use Rattle.dialect_core.specs.declared.ops.OpData.{OpData}
 use Rattle.dialect_core.specs.declared.ops.BlockData.{BlockData}
 use Rattle.dialect_core.specs.Lists.{list_at}
 use Rattle.dialect_core.specs.ContextData.{ContextData}
+use Rattle.dialect_core.specs.Data.{llvm_name_of}
 use Rattle.kinds.specs.Held.{IsHeld, IsHeldSignature}
+use Rattle.kinds.specs.Names.{is_good_name}
 use Rattle.dialect_core.specs.Checking.{func_at, tree_at}
 
 -- ---- operations
 
--- its result, where it has one, is of a type that is translated, and its name is plain
-pub record IsNarrowAt (c : ContextData) (o : OpRef) : Type 0 where
-  pub result : IfSome (option_and_then (λ (x : OpData). x.result) (slice_get c.ops o.0)) (λ (t : TypeHandle). IsHeld (tree_at c t))
-  pub name : IfSome (option_and_then (λ (x : OpData). x.name) (slice_get c.ops o.0)) IsPlainName
+-- its result, where it has one, is of a type that is translated
+abbrev pub IsNarrowAt : ContextData → OpRef → Type 0
+IsNarrowAt c o = IfSome (option_and_then (λ (x : OpData). x.result) (slice_get c.ops o.0)) (λ (t : TypeHandle). IsHeld (tree_at c t))
 
 -- ---- blocks
 
--- its arguments are of types that are translated, its label is plain, and its operations are narrow
+-- its arguments are of types that are translated, and its operations are narrow
 pub record IsNarrowBlockAt (c : ContextData) (b : BlockRef) : Type 0 where
-  pub label : IfSome (option_and_then (λ (x : BlockData). x.label) (slice_get c.blocks b.0)) IsPlainName
   pub args : All (λ (t : TypeHandle). IsHeld (tree_at c t)) (option_map_or (λ (x : BlockData). x.args) (slice_get c.blocks b.0) [])
   pub ops : All (IsNarrowAt c) (list_at c.lists b)
 
@@ -35,8 +34,8 @@ AreNarrowBlocks c (entry ∷ more) = All (IsNarrowBlockAt c) (entry ∷ more)
 
 -- ---- functions
 
--- its name, its linkage and its type
+-- its LLVM name, its linkage and its type
 pub record IsNarrowHead (c : ContextData) (f : OpRef) : Type 0 where
-  pub name : IfSome (option_and_then (λ (x : OpData). x.name) (slice_get c.ops f.0)) IsPlainName
+  pub good : is_good_name (llvm_name_of (func_at c f)) ≡ true
   pub linkage : (func_at c f).linkage ≡ ExternalLinkage
   pub signature : IsHeldSignature (func_at c f).type

@@ -1,8 +1,6 @@
-//! Tests of names, operations, blocks and functions: whether they are as narrow as the form that is exported.
+//! Tests of operations, blocks and functions: whether they are as narrow as the form that is exported.
 
-ghost use Rattle.std.specs.Prelude.{◌≡◌, ◌<◌, ◌↔◌, IsTrue, IfSome, All, Some, length};
-ghost use Rattle.std.specs.Option.{option_copied};
-ghost use Rattle.dialect_types.specs.Names.{IsPlainName};
+ghost use Rattle.std.specs.Prelude.{◌≡◌, ◌<◌, ◌↔◌, IsTrue, All, Some, length};
 ghost use Rattle.dialect_core.specs.declared.linkage.LinkageAttr.TheVariants.{ExternalLinkage};
 ghost use Rattle.dialect_core.specs.declared.ops.OpKind.TheVariants as kinds;
 ghost use Rattle.dialect_core.specs.Lists.{list_at};
@@ -14,40 +12,21 @@ ghost use Rattle.to_llvm_ir.specs.Narrow.{IsNarrowAt, IsNarrowBlockAt, AreNarrow
 
 use dialect_core::context::Context;
 use dialect_core::linkage::LinkageAttr;
+use dialect_core::module_printing::llvm_name_of;
 use dialect_core::numbers::{BlockRef, OpRef};
 use dialect_core::type_tests::{all_held, is_held, is_held_signature};
 use dialect_core::walking::{first_in_block, next_in_block};
-use dialect_types::identifier::Identifier;
+use kinds::names::is_good_name;
 
-/// Whether an identifier begins with a letter, as a plain name does.
-fn begins_plain(name: &Identifier) -> bool
-    ensures { IsTrue result ↔ IsPlainName name.now }
-{
-    match name.as_str().as_bytes().first() {
-        Some(byte) => *byte != b'_',
-        None => true,
-    }
-}
-
-/// Whether a name, where there is one, is plain.
-fn is_plain(name: Option<&Identifier>) -> bool
-    ensures { IsTrue result ↔ IfSome (option_copied name.entry) IsPlainName }
-{
-    match name {
-        Some(name) => begins_plain(name),
-        None => true,
-    }
-}
-
-/// Whether the type of the result of an operation, where it has one, is translated, and its name is plain.
+/// Whether the type of the result of an operation, where it has one, is translated.
 fn is_narrow_op(ctx: &Context, op: OpRef) -> bool
     requires op { op.0 < length ctx.now.ops }
     requires typed { IsTyped ctx.now }
     ensures { IsTrue result ↔ IsNarrowAt ctx.now op }
 {
     match ctx.result_type(op) {
-        Some(ty) => is_held(ctx.types(), ty) && is_plain(ctx.op_name(op)),
-        None => is_plain(ctx.op_name(op)),
+        Some(ty) => is_held(ctx.types(), ty),
+        None => true,
     }
 }
 
@@ -74,9 +53,6 @@ fn is_narrow_block(ctx: &Context, block: BlockRef) -> bool
     requires typed { IsTyped ctx.now }
     ensures { IsTrue result ↔ IsNarrowBlockAt ctx.now block }
 {
-    if !is_plain(ctx.block_label(block)) {
-        return false;
-    }
     if !all_held(ctx.types(), ctx.block_args(block)) {
         return false;
     }
@@ -119,14 +95,14 @@ fn is_external(linkage: LinkageAttr) -> bool
     }
 }
 
-/// Whether a function is narrow but for its blocks: its name, its linkage and its type.
+/// Whether a function is narrow but for its blocks: its LLVM name, its linkage and its type.
 fn is_narrow_head(ctx: &Context, func: OpRef) -> bool
     requires func { IsSymbol ctx.now.ops func }
     requires within { func.0 < length ctx.now.ops }
     requires typed { IsTyped ctx.now }
     ensures { IsTrue result ↔ IsNarrowHead ctx.now func }
 {
-    if !is_plain(ctx.op_name(func)) {
+    if !is_good_name(llvm_name_of(ctx, func)) {
         return false;
     }
     if !is_external(ctx.symbol_linkage(func)) {

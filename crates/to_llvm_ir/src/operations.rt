@@ -6,7 +6,7 @@ ghost use Rattle.std.specs.Option.{option_map};
 ghost use Rattle.llvm_core.specs.Module.{Module};
 ghost use Rattle.llvm_core.specs.Sound.{IsModule};
 ghost use Rattle.llvm_core.specs.Data.{data_of};
-ghost use Rattle.llvm_core.specs.Names.{IsPlainOrNone};
+ghost use Rattle.kinds.specs.Names.{IsGoodOrNone};
 ghost use Rattle.llvm_core.specs.Parts.{HasValues, result_type};
 ghost use Rattle.dialect_types.specs.declared.attrs.ConstAttr.TheVariants as attrs;
 ghost use Rattle.dialect_types.specs.Trees.{TypeTree, type_trees};
@@ -279,7 +279,7 @@ fn place_inst(
     requires within { op.0 < length ctx.now.ops }
     requires spot { (s : Spot) × IsNext ctx.now op s values.old back.old × IsMade s back.old inst × (block.0 ≡ s.task.numbers.block + s.place) }
     ensures ok { (s : Spot) → IsNext ctx.now op s values.old back.old → IsMade s back.old inst → block.0 ≡ s.task.numbers.block + s.place → OnOk result (IsBehindSpot s values.new back.new) }
-    ensures named { (s : Spot) → IsSpot ctx.now op s → OnOk result ((k : ℕ) → k < 2 ^ 64 → IsPlainOrNone (result_name s.op.name s.op.result k)) }
+    ensures named { (s : Spot) → IsSpot ctx.now op s → OnOk result ((k : ℕ) → k < 2 ^ 64 → IsGoodOrNone (result_name s.op.name s.op.result k)) }
 {
     if ctx.result_type(op).is_none() {
         back.build(block, inst, "")?;

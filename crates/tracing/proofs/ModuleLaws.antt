@@ -19,7 +19,7 @@ func_number : (ts : List TypeTree) (c : ContextData) (op : OpRef) (g : Func) →
 func_number ts c op g is = by (slice_get c.ops op.0) is
   where
     with_symbol : (x : OpData) (bs : List DialectBlock) (s : Option Symbol)
-        → option_map (λ (s : Symbol). let f : Func = record { number = op.0; name = unwrap_or x.name []; type = type_at ts s.ty; linkage = s.linkage; blocks = bs } in f) s ≡ Some g → g.number ≡ op.0
+        → option_map (λ (s : Symbol). let f : Func = record { number = op.0; name = unwrap_or x.name []; llvm_name = s.llvm_name; type = type_at ts s.ty; linkage = s.linkage; blocks = bs } in f) s ≡ Some g → g.number ≡ op.0
     with_symbol x bs None is = absurd (none-some g is)
     with_symbol x bs (Some s) is = ap (λ (f : Func). f.number) (sym (same_Some _ g is))
 

@@ -1,4 +1,4 @@
--- The function has the type and the name of the dialect's.
+-- The function has the type and the LLVM name of the dialect's.
 use Rattle.std.proofs.Common.{◌≡◌, ◌∙◌, ◌<◌, length, sym, ap, subst}
 use Rattle.std.specs.Option.{option_map}
 use Rattle.std.proofs.lemmas.Option.{same_Some}
@@ -37,7 +37,7 @@ returns c = λ g func_is form order taken.
     let typed = subst (IsTypeOf c.function_type.new.back c.in_ok-ty.ty) (ap (type_at (type_trees c.args.ctx.now.types)) (sym same) ∙ sym p.type) type.tree in
     all_three c.add_function.result function.number function.ok function.data
     (λ f number added made.
-    started c.args.ctx.now c.args.op g form order taken c.args.back.now c.function_type.new.back c.add_function.new.self c.in_ok-ty.ty f c.name_of.result.now func_is
+    started c.args.ctx.now c.args.op g form order taken c.args.back.now c.function_type.new.back c.add_function.new.self c.in_ok-ty.ty f c.llvm_name_of.result.now func_is
     (record {
       rest = type.rest;
       same = type.data;
@@ -48,4 +48,4 @@ returns c = λ g func_is form order taken.
       made = made;
       sound_end = function.sound;
     })
-    (c.name_of.ensures ∙ sym p.name))
+    (c.llvm_name_of.ensures ∙ sym p.name))

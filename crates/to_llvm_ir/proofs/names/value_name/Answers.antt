@@ -1,12 +1,12 @@
--- The texts of the two literals, and that they are plain.
+-- The texts of the two literals, and that they are names that the form takes.
 use Rattle.std.proofs.Common.{◌≡◌, ◌++◌, [], ℕ, Some, None, Option, List, ap, sym, subst, ◌∙◌, append_assoc, refl}
 use Rattle.std.specs.Prelude.{codes}
 use Rattle.std.specs.Fmt.{decimal}
 use Rattle.std.specs.Option.{option_copied}
 use Rattle.std.proofs.lemmas.Result.{IfOk-weaker}
-use Rattle.llvm_core.specs.Names.{IsPlainOrNone}
+use Rattle.kinds.specs.Names.{IsGoodOrNone}
 use Rattle.to_llvm_ir.specs.Exported.{value_name}
-use Rattle.to_llvm_ir.proofs.NameLaws.{given_plain, bare_plain}
+use Rattle.to_llvm_ir.proofs.NameLaws.{given_good, bare_good}
 use Rattle.to_llvm_ir.proofs.names.value_name.Goals as goal
 
 pub returns-in-Some-clause-name : goal.returns-in-Some-clause-name
@@ -17,14 +17,14 @@ returns-in-Some-clause-name c =
     IfOk-weaker c.joined.result (λ s. s ≡ given ++ (codes "_v" ++ decimal number)) (λ s. s ≡ value_name (option_copied c.args.given) number)
     (λ s wrote. wrote ∙ sym (append_assoc given (codes "_v") (decimal number)) ∙ ap (λ l. value_name l number) same) c.joined.ensures
 
-pub returns-in-Some-clause-plain : goal.returns-in-Some-clause-plain
-returns-in-Some-clause-plain c = λ plain k lt.
+pub returns-in-Some-clause-good : goal.returns-in-Some-clause-good
+returns-in-Some-clause-good c = λ k lt.
     let given = c.as_str.result.now in
     let same : option_copied c.args.given ≡ Some given = ap option_copied c.in-Some.is ∙ ap Some (sym c.as_str.ensures.text) in
-    subst (λ (l : Option (List ℕ)). IsPlainOrNone (value_name l k)) (sym same)
-    (subst IsPlainOrNone (sym (append_assoc given (codes "_v") (decimal k))) (given_plain given (codes "_v") k lt (rw c.as_str.ensures.text c.as_str.ensures.legal) (rw same at plain) refl))
+    subst (λ (l : Option (List ℕ)). IsGoodOrNone (value_name l k)) (sym same)
+    (subst IsGoodOrNone (sym (append_assoc given (codes "_v") (decimal k))) (given_good given (codes "_v") k lt (rw c.as_str.ensures.text c.as_str.ensures.legal) refl))
 
-pub returns-in-None-clause-plain : goal.returns-in-None-clause-plain
-returns-in-None-clause-plain c = λ plain k lt.
+pub returns-in-None-clause-good : goal.returns-in-None-clause-good
+returns-in-None-clause-good c = λ k lt.
     let same : option_copied c.args.given ≡ None = ap option_copied c.in-None.is in
-    subst (λ (l : Option (List ℕ)). IsPlainOrNone (value_name l k)) (sym same) (bare_plain 118 [] k lt refl refl)
+    subst (λ (l : Option (List ℕ)). IsGoodOrNone (value_name l k)) (sym same) (bare_good 118 [] k lt refl refl)

@@ -1,12 +1,9 @@
 -- The block is the last of the function, under its name.
 use Rattle.std.proofs.Common.{◌≡◌, ◌∙◌, ℕ, List, Option, sym, ap, subst}
-use Rattle.std.specs.Prelude.{IfSome}
 use Rattle.std.proofs.lemmas.Result.{on_ok_weaker}
-use Rattle.llvm_core.specs.Names.{IsPlainOrNone}
-use Rattle.dialect_types.specs.Names.{IsPlainName}
+use Rattle.kinds.specs.Names.{IsGoodOrNone}
 use Rattle.to_llvm_ir.specs.Exported.{block_name}
 use Rattle.to_llvm_ir.proofs.ContextLaws.{block_parts, label_is}
-use Rattle.to_llvm_ir.proofs.LookupLaws.{block_form}
 use Rattle.to_llvm_ir.proofs.OpeningLaws.{opening_more}
 use Rattle.to_llvm_ir.proofs.opening.append_block.Goals as goal
 
@@ -24,5 +21,4 @@ pub returns-clause-labelled : goal.returns-clause-labelled
 returns-clause-labelled c = λ t b at.
     let parts = block_parts c.args.ctx.now c.args.block b at.is in
     let label = label_is c.args.ctx.now c.args.block b _ parts c.block_label.ensures in
-    let form = block_form t.source at.task.form c.args.i b at.here in
-    on_ok_weaker c.set.result (λ set. subst (λ (l : Option (List ℕ)). IsPlainOrNone (block_name l c.args.i)) (sym label) (c.block_name.ensures.plain (subst (λ (l : Option (List ℕ)). IfSome l IsPlainName) label form.label) c.args.i c.ranges.i.fits)) c.set.ensures
+    on_ok_weaker c.set.result (λ set. subst (λ (l : Option (List ℕ)). IsGoodOrNone (block_name l c.args.i)) (sym label) (c.block_name.ensures.good c.args.i c.ranges.i.fits)) c.set.ensures

@@ -2,7 +2,7 @@
 use Rattle.std.proofs.Common.{◌≡◌, ◌+◌, ℕ, suc, length, sym, subst, arith, ⊎_elim}
 use Rattle.std.proofs.lemmas.Bool.{cases_eq}
 use Rattle.std.proofs.lemmas.Option.{same_Some, slice_get_within}
-use Rattle.llvm_core.specs.Names.{IsPlainOrNone}
+use Rattle.kinds.specs.Names.{IsGoodOrNone}
 use Rattle.dialect_core.specs.Data.{DialectBlock}
 use Rattle.std.proofs.Common.{slice_get, ap, ◌∙◌}
 use Rattle.to_llvm_ir.specs.Exported.{block_name}
@@ -26,7 +26,7 @@ loop-i-preserved c = record {
       (λ same.
       let b = block_there c.args.ctx.now t c.args.list.now c.loop-i.i _ are c.loop-i-test.true in
       let e : b.0 ≡ d = same_Some b.0 d (sym b.1.here ∙ ap (slice_get t.source.blocks) (sym same) ∙ at) in
-      subst (λ (x : DialectBlock). IsPlainOrNone (block_name x.label j)) e (subst (λ (i : ℕ). IsPlainOrNone (block_name b.0.label i)) (sym same) (c.in_ok-append_block.ensures.labelled t b.0 b.1)))
+      subst (λ (x : DialectBlock). IsGoodOrNone (block_name x.label j)) e (subst (λ (i : ℕ). IsGoodOrNone (block_name b.0.label i)) (sym same) (c.in_ok-append_block.ensures.labelled t b.0 b.1)))
       (λ differs. c.loop-i.invariant.labelled t are j d (omega (arith, lt, differs)) at)
       (cases_eq j c.loop-i.i);
 }

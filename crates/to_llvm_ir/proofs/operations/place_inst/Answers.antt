@@ -5,17 +5,15 @@ use Rattle.std.specs.Prelude.{is_some}
 use Rattle.std.proofs.lemmas.Option.{none-some, slice_get_within}
 use Rattle.llvm_core.specs.declared.types.ResultType.{ResultType}
 use Rattle.llvm_core.specs.Parts.{result_type}
-use Rattle.llvm_core.specs.Names.{IsPlainOrNone}
-use Rattle.dialect_types.specs.Names.{IsPlainName}
+use Rattle.kinds.specs.Names.{IsGoodOrNone}
 use Rattle.dialect_types.specs.declared.types.TypeHandle.{TypeHandle}
 use Rattle.dialect_types.specs.Trees.{TypeTree, type_at, type_trees}
-use Rattle.std.specs.Prelude.{IfSome}
 use Rattle.to_llvm_ir.specs.Exported.{value_name, result_name}
 use Rattle.to_llvm_ir.specs.Made.{number_behind}
 use Rattle.to_llvm_ir.specs.States.{first_at}
 use Rattle.std.proofs.lemmas.Result.{on_ok_weaker}
 use Rattle.support.proofs.ResultLaws.{both}
-use Rattle.to_llvm_ir.proofs.OpLaws.{spot_form, spot_parts, result_is, name_is}
+use Rattle.to_llvm_ir.proofs.OpLaws.{spot_parts, result_is, name_is}
 use Rattle.to_llvm_ir.proofs.StepLaws.{void_placed, typed_placed}
 use Rattle.to_llvm_ir.proofs.operations.place_inst.Goals as goal
 
@@ -63,9 +61,8 @@ returns-clause-named c = λ s spot. on_ok_weaker c.set.result (λ next k lt.
     let parts = spot_parts c.args.ctx.now c.args.op s spot in
     let type = some_is c.result_type.result s.op.result (type_trees c.args.ctx.now.types) (result_is (type_trees c.args.ctx.now.types) c.args.ctx.now.ops c.args.op s.op _ parts c.result_type.ensures) _ c.is_none.ensures c.if-is_none.false in
     let given = name_is (type_trees c.args.ctx.now.types) c.args.ctx.now.ops c.args.op s.op _ parts c.op_name.ensures in
-    let form = spot_form c.args.ctx.now c.args.op s spot in
-    let plain = c.build_result.ensures.plain (subst (λ (n : Option (List ℕ)). IfSome n IsPlainName) given form.name) k lt in
-    subst (λ (t : Option TypeTree). IsPlainOrNone (result_name s.op.name t k)) (sym type.1) (subst (λ (n : Option (List ℕ)). IsPlainOrNone (value_name n k)) (sym given) plain)) c.set.ensures.next
+    let good = c.build_result.ensures.good k lt in
+    subst (λ (t : Option TypeTree). IsGoodOrNone (result_name s.op.name t k)) (sym type.1) (subst (λ (n : Option (List ℕ)). IsGoodOrNone (value_name n k)) (sym given) good)) c.set.ensures.next
 
 pub build-requires-clause-block : goal.build-requires-clause-block
 build-requires-clause-block c =
