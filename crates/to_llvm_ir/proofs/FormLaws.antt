@@ -301,7 +301,7 @@ module _ (g : Func) (form : IsFormFunc g) (n : Numbers) (order : IsOrder (length
         none-some (operand_for g n v.0, n.block + r.0) (sym (ap (find (is_from g n (n.block + r.0))) none) ∙ found)
 
     value_good : (k : ℕ) → k < 2 ^ 64 → IsGoodOrNone (value_name None k)
-    value_good k lt = bare_good 118 [] k lt refl refl
+    value_good k lt = bare_good 118 [] k lt refl
 
     phis_form : (t : ℕ) (c : DialectBlock) → slice_get g.blocks (suc t) ≡ Some c → (i k : ℕ) (ts : List TypeTree) → k + length ts < 2 ^ 64 → ((m : ℕ) (ty : TypeTree) → slice_get ts m ≡ Some ty → slice_get c.args (i + m) ≡ Some ty)
         → All (IsFormPlaced made (n.block + (0 + suc t))) (phis g n (entries g n) c.number i k ts)

@@ -8,6 +8,7 @@ use Rattle.std.proofs.lemmas.Fmt.{decimal_by_steps, decimal_injective}
 use Rattle.std.proofs.lemmas.List.{reverse-append, reverse-reverse}
 use Rattle.std.proofs.lemmas.List.Folds.{list_all-append}
 use Rattle.kinds.specs.Names.{is_bad_name, is_intrinsic_name, is_own_name, is_digit, is_letter, is_plain_byte, IsGoodOrNone}
+use Rattle.kinds.proofs.NameLaws.{plain_good}
 use Rattle.dialect_types.specs.Names.{IsIdentifier}
 use Rattle.to_llvm_ir.specs.Exported.{block_name, value_name}
 
@@ -38,12 +39,20 @@ digits_are_plain (d ∷ ds) h = let p = and_parts (is_digit d) (list_all is_digi
 
 -- ---- names that the form takes
 
+first_is_plain : (b : ℕ) → (is_letter b || b == 95) ≡ true → is_plain_byte b ≡ true
+first_is_plain b h = by (is_letter b) (is_digit b) h
+  where
+    by : (l d : Bool) → (l || b == 95) ≡ true → ((l || d) || b == 95) ≡ true
+    by true d h = refl
+    by false true h = refl
+    by false false h = h
+
 -- an identifier with more behind it
 longer : (name rest : List ℕ) → IsIdentifier name → list_all is_plain_byte rest ≡ true → IsGoodOrNone (name ++ rest)
 longer [] rest legal h = absurd legal
 longer (c ∷ cs) rest legal h =
-    and_from (is_letter c || c == 95) (list_all is_plain_byte (cs ++ rest)) legal.0
-    (list_all-append is_plain_byte cs rest ∙ and_from (list_all is_plain_byte cs) (list_all is_plain_byte rest) legal.1 h)
+    plain_good c (cs ++ rest) (and_from (is_plain_byte c) (list_all is_plain_byte (cs ++ rest)) (first_is_plain c legal.0)
+    (list_all-append is_plain_byte cs rest ∙ and_from (list_all is_plain_byte cs) (list_all is_plain_byte rest) legal.1 h))
 
 -- a word of plain bytes before a number
 numbered : (word : List ℕ) (n : ℕ) → n < 2 ^ 64 → list_all is_plain_byte word ≡ true → list_all is_plain_byte (word ++ decimal n) ≡ true
@@ -52,8 +61,8 @@ numbered word n lt h = list_all-append is_plain_byte word (decimal n) ∙ and_fr
 pub given_good : (name word : List ℕ) (n : ℕ) → n < 2 ^ 64 → IsIdentifier name → list_all is_plain_byte word ≡ true → IsGoodOrNone (name ++ (word ++ decimal n))
 given_good name word n lt legal h = longer name (word ++ decimal n) legal (numbered word n lt h)
 
-pub bare_good : (c : ℕ) (cs : List ℕ) (n : ℕ) → n < 2 ^ 64 → (is_letter c || c == 95) ≡ true → list_all is_plain_byte cs ≡ true → IsGoodOrNone ((c ∷ cs) ++ decimal n)
-bare_good c cs n lt h k = and_from (is_letter c || c == 95) (list_all is_plain_byte (cs ++ decimal n)) h (numbered cs n lt k)
+pub bare_good : (c : ℕ) (cs : List ℕ) (n : ℕ) → n < 2 ^ 64 → list_all is_plain_byte (c ∷ cs) ≡ true → IsGoodOrNone ((c ∷ cs) ++ decimal n)
+bare_good c cs n lt h = plain_good c (cs ++ decimal n) (numbered (c ∷ cs) n lt h)
 
 -- the name of a symbol that is no intrinsic
 pub no_intrinsic : (name : List ℕ) → is_own_name name ≡ true → is_intrinsic_name name ≡ false

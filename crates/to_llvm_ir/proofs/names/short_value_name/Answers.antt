@@ -30,4 +30,4 @@ returns-in-Some-clause-good c = λ k lt.
 pub returns-in-None-clause-good : goal.returns-in-None-clause-good
 returns-in-None-clause-good c = λ k lt.
     let same : option_copied c.args.given ≡ None = ap option_copied c.in-None.is in
-    subst (λ (l : Option (List ℕ)). IsGoodOrNone (value_name l k)) (sym same) (bare_good 118 [] k lt refl refl)
+    subst (λ (l : Option (List ℕ)). IsGoodOrNone (value_name l k)) (sym same) (bare_good 118 [] k lt refl)
