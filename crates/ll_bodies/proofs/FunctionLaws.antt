@@ -8,11 +8,11 @@ use Rattle.ll_lines.specs.Views.{IsTypeIn, part_view}
 use Rattle.ll_literals.specs.Chain.{◌>>=◌}
 use Rattle.ll_bodies.specs.declared.blocks.SaidBlock as code_block
 use Rattle.ll_bodies.specs.declared.results.Source.{Source}
-use Rattle.ll_bodies.specs.declared.scope.Key.{Key}
 use Rattle.ll_bodies.specs.declared.scope.Local.{Local}
 use Rattle.ll_bodies.specs.declared.scope.Local.TheVariants as K
 use Rattle.ll_bodies.specs.declared.scope.Scope.{Scope}
 use Rattle.ll_bodies.specs.Scopes as spec
+use Rattle.ll_bodies.specs.Scopes.{Key}
 use Rattle.ll_bodies.specs.Meaning.{function_data, params_scope, blocks_of, blocks_scope, blocks_data}
 use Rattle.llvm_core.specs.declared.bodies.BodyBlock.{BodyBlock}
 use Rattle.llvm_core.specs.Bodies.{blocks_from}

@@ -7,11 +7,13 @@ pub mod FunctionLaws
 pub mod InstructionLaws
 pub mod KeptLaws
 pub mod ListLaws
+pub mod MapLaws
 pub mod NameLaws
 pub mod OperandLaws
 pub mod ScopeLaws
 pub mod TypeLaws
 pub mod ValueLaws
+pub mod WrittenLaws
 pub mod RightLaws
 pub mod AddingLaws
 pub mod ViewLaws

@@ -16,24 +16,7 @@ use Rattle.llvm_core.specs.Parts as P
 use Rattle.llvm_core.specs.Data.{const_at, const_type, trees_of, operand_of}
 use Rattle.llvm_core.proofs.DataLemmas.{const_type_of}
 use Rattle.ll_lines.specs.Views.{IsTypeIn}
-use Rattle.ll_literals.specs.Chain.{◌>>=◌}
-use Rattle.ll_bodies.specs.Scopes as spec
-use Rattle.ll_bodies.specs.declared.scope.Key.{Key}
-use Rattle.ll_bodies.specs.declared.scope.Key.TheVariants.{Numbered}
-use Rattle.ll_bodies.specs.declared.scope.Scope.{Scope}
-use Rattle.ll_bodies.specs.ScopeViews.{key_view, local_view, local_at, Knows, IsNoKey}
 use Rattle.ll_bodies.proofs.TypeLaws.{tree, same_number}
-
--- ---- keys that are looked up
-
-module _ {A : Type 0} (types : List TypeTree) (code : Scope) (s : spec.Scope) (f : Option spec.Local → Option A) where
-  pub key_found : (o : Option spec.Key) (k : Key) → o ≡ Some (key_view k) → Knows types code s → (o >>= λ j. f (s.known j)) ≡ f (option_map (local_view types) (local_at code k))
-  key_found o k e h = ap (λ p. p >>= λ j. f (s.known j)) e ∙ ap f (h.known k)
-
-  pub no_key : (o : Option spec.Key) → IsNoKey o → f None ≡ None → Knows types code s → (o >>= λ j. f (s.known j)) ≡ None
-  no_key None n e h = refl
-  no_key (Some (spec.Named t)) n e h = absurd n
-  no_key (Some (spec.Numbered n)) past e h = ap f (h.known (Numbered n) ∙ ap (option_map (local_view types)) (h.limited n past)) ∙ e
 
 -- ---- types
 

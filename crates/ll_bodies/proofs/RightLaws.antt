@@ -50,7 +50,7 @@ use Rattle.ll_bodies.specs.SourceViews.{types_in, source_trees, line_in, inst_in
 use Rattle.ll_bodies.specs.TypedViews.{IsTypedInst, IsTypedBody, AreTypedInsts, AreTypedBlocks}
 use Rattle.ll_lines.specs.declared.lines.Function as code_function
 use Rattle.ll_bodies.specs.declared.scope.Scope as code_scope
-use Rattle.ll_bodies.specs.declared.scope.Key.{Key}
+use Rattle.ll_bodies.specs.Scopes.{Key}
 use Rattle.ll_bodies.specs.declared.scope.Local.{Local}
 use Rattle.ll_bodies.specs.ScopeViews.{Knows, local_at}
 use Rattle.ll_bodies.specs.BodyViews.{MadeBlocks}

@@ -1,5 +1,5 @@
 -- The scope of the program stays the same as that of the definitions, as things are put in it.
-use Rattle.std.proofs.Common.{◌≡◌, ℕ, ◌+◌, ◌<◌, ◌≤◌, ◌⊎◌, inl, inr, Bool, true, false, nat_eq, List, Option, Some, None, refl, ap, sym, ◌∙◌, cond, if◌then◌else◌, subst, lt-ltb, le-leb, arith}
+use Rattle.std.proofs.Common.{◌≡◌, ℕ, ◌+◌, ◌<◌, ◌≤◌, ◌⊎◌, inl, inr, Bool, true, false, nat_eq, List, Option, Some, None, refl, ap, sym, ◌∙◌, if◌then◌else◌, subst, lt-ltb, le-leb, arith}
 use Rattle.std.specs.Option.{option_map}
 use Rattle.std.proofs.lemmas.Bool.Decides.{nat_tests}
 use Rattle.llvm_core.specs.Data.{TypeTree}
@@ -7,27 +7,18 @@ use Rattle.ll_literals.specs.Numbers.{number_limit}
 use Rattle.ll_literals.specs.Chain.{◌>>=◌}
 use Rattle.ll_lines.specs.Lines.{Text}
 use Rattle.ll_bodies.specs.Scopes as spec
-use Rattle.ll_bodies.specs.Scopes.{same_key}
-use Rattle.ll_bodies.specs.declared.scope.Key.{Key}
-use Rattle.ll_bodies.specs.declared.scope.Key.TheVariants.{Named, Numbered}
+use Rattle.ll_bodies.specs.Scopes.{Key, Named, Numbered, same_key}
 use Rattle.ll_bodies.specs.declared.scope.Local.{Local}
 use Rattle.ll_bodies.specs.declared.scope.Scope.{Scope}
-use Rattle.ll_bodies.specs.contracts.scope.KeyPartialEq.TheImpl as keys
-use Rattle.ll_bodies.specs.ScopeViews.{key_view, local_view, local_at, IsPut, Knows, Takes, Refuses, Adds}
+use Rattle.ll_bodies.specs.ScopeViews.{local_view, local_at, IsPut, Knows, Takes, Refuses, Adds}
 
-pub same_key_is : (a b : Key) → keys.eq-value.it a b ≡ same_key (key_view a) (key_view b)
-same_key_is (Named a) (Named b) = refl
-same_key_is (Named a) (Numbered n) = refl
-same_key_is (Numbered m) (Named b) = refl
-same_key_is (Numbered m) (Numbered n) = refl
-
-mapped : (types : List TypeTree) (b : Bool) (x : Local) (o : Option Local) → option_map (local_view types) (cond b (Some x) o) ≡ (if b then Some (local_view types x) else option_map (local_view types) o)
+mapped : (types : List TypeTree) (b : Bool) (x : Local) (o : Option Local) → option_map (local_view types) (if b then Some x else o) ≡ (if b then Some (local_view types x) else option_map (local_view types) o)
 mapped types true x o = refl
 mapped types false x o = refl
 
 -- the key is no number that nothing can have
 abbrev IsLimited : Key → Type 0
-IsLimited k = (n : ℕ) → number_limit ≤ n → keys.eq-value.it k (Numbered n) ≡ false
+IsLimited k = (n : ℕ) → number_limit ≤ n → same_key k (Numbered n) ≡ false
 
 limited_number : (n : ℕ) → n < number_limit → IsLimited (Numbered n)
 limited_number n small m past = let e : nat_eq n m ≡ false = grind (arith, nat_tests) in e
@@ -35,42 +26,41 @@ limited_number n small m past = let e : nat_eq n m ≡ false = grind (arith, nat
 -- what is put under a key is what the key stands for
 put : (types : List TypeTree) (old new : Scope) (s : spec.Scope) (k : Key) (x : Local) (n : ℕ) → IsLimited k → Knows types old s → n ≡ new.next
     → IsPut old new k x
-    → Knows types new (spec.with_key s (key_view k) (local_view types x) n)
+    → Knows types new (spec.with_key s k (local_view types x) n)
 put types old new s k x n limited h next puts = record {
   next = next;
-  known = λ q. ap (λ (b : Bool). if b then Some (local_view types x) else s.known (key_view q)) (sym (same_key_is k q))
-      ∙ ap (λ (o : Option spec.Local). if keys.eq-value.it k q then Some (local_view types x) else o) (h.known q)
-      ∙ sym (mapped types (keys.eq-value.it k q) x (local_at old q))
+  known = λ q. ap (λ (o : Option spec.Local). if same_key k q then Some (local_view types x) else o) (h.known q)
+      ∙ sym (mapped types (same_key k q) x (local_at old q))
       ∙ sym (ap (option_map (local_view types)) (puts q));
-  limited = λ m past. puts (Numbered m) ∙ ap (λ (b : Bool). cond b (Some x) (local_at old (Numbered m))) (limited m past) ∙ h.limited m past;
+  limited = λ m past. puts (Numbered m) ∙ ap (λ (b : Bool). if b then Some x else local_at old (Numbered m)) (limited m past) ∙ h.limited m past;
 }
 
 pub counted_put : (types : List TypeTree) (old new : Scope) (x : Local) (n : ℕ) → n < 4294967295 → n + 1 ≡ new.next
     → IsPut old new (Numbered n) x
     → Takes types old new (λ s. spec.counted s (local_view types x) n)
-counted_put types old new x n small next puts = λ s h. (spec.with_key s (spec.Numbered n) (local_view types x) (n + 1), rw (lt-ltb n 4294967295 small) refl, put types old new s (Numbered n) x (n + 1) (limited_number n small) h next puts)
+counted_put types old new x n small next puts = λ s h. (spec.with_key s (Numbered n) (local_view types x) (n + 1), rw (lt-ltb n 4294967295 small) refl, put types old new s (Numbered n) x (n + 1) (limited_number n small) h next puts)
 
 pub none_defines : (types : List TypeTree) (old new : Scope) (x : Local) → Takes types old new (λ s. spec.counted s (local_view types x) old.next) → Takes types old new (λ s. spec.define s (local_view types x) None)
 none_defines types old new x h = λ s k. let c = h s k in (c.0, ap (spec.counted s (local_view types x)) k.next ∙ c.1, c.2)
 
 pub number_defines : (types : List TypeTree) (old new : Scope) (x : Local) (n : ℕ) → old.next ≤ n → Takes types old new (λ s. spec.counted s (local_view types x) n)
-    → Takes types old new (λ s. spec.define s (local_view types x) (Some (spec.Numbered n)))
+    → Takes types old new (λ s. spec.define s (local_view types x) (Some (Numbered n)))
 number_defines types old new x n le h = λ s k. let c = h s k in
     let above : s.next ≤ n = omega (arith, k.next) in
     (c.0, ap (λ (b : Bool). if b then spec.counted s (local_view types x) n else None) (le-leb s.next n above) ∙ c.1, c.2)
 
-pub name_defines : (types : List TypeTree) (old new : Scope) (x : Local) (key : Key) (name : _) → key ≡ Named name → new.next ≡ old.next
-    → IsPut old new key x → Takes types old new (λ s. spec.define s (local_view types x) (Some (spec.Named name.now)))
-name_defines types old new x key name is next puts = λ s h.
-    (spec.with_key s (spec.Named name.now) (local_view types x) s.next, refl, put types old new s (Named name) x s.next (λ m past. refl) h (h.next ∙ sym next) (subst (λ (k : Key). IsPut old new k x) is puts))
+pub name_defines : (types : List TypeTree) (old new : Scope) (x : Local) (name : Text) → new.next ≡ old.next
+    → IsPut old new (Named name) x → Takes types old new (λ s. spec.define s (local_view types x) (Some (Named name)))
+name_defines types old new x name next puts = λ s h.
+    (spec.with_key s (Named name) (local_view types x) s.next, refl, put types old new s (Named name) x s.next (λ m past. refl) h (h.next ∙ sym next) puts)
 
-put_adds : (b : Bool) (x y : Local) (o r : Option Local) → r ≡ cond b (Some x) o → r ≡ Some y → (y ≡ x) ⊎ (o ≡ Some y)
+put_adds : (b : Bool) (x y : Local) (o r : Option Local) → r ≡ (if b then Some x else o) → r ≡ Some y → (y ≡ x) ⊎ (o ≡ Some y)
 put_adds true x y o r e h = let same : y ≡ x = cc in inl same
 put_adds false x y o r e h = let same : o ≡ Some y = cc in inr same
 
 -- what was put is all that is new
 pub adds : (old new : Scope) (k : Key) (x : Local) → IsPut old new k x → Adds (λ (y : Local). y ≡ x) old new
-adds old new k x puts = record { at = λ q y h. put_adds (keys.eq-value.it k q) x y (local_at old q) (local_at new q) (puts q) h }
+adds old new k x puts = record { at = λ q y h. put_adds (same_key k q) x y (local_at old q) (local_at new q) (puts q) h }
 
 -- ---- steps one after another
 
@@ -103,6 +93,9 @@ module _ (types : List TypeTree) where
   pub takes_same : (old new : Scope) (f g : spec.Scope → Option spec.Scope) → Takes types old new f → ((s : spec.Scope) → f s ≡ g s) → Takes types old new g
   takes_same old new f g h is = λ s in_old. let a = h s in_old in (a.0, sym (is s) ∙ a.1, a.2)
 
+  pub refuses_same : {A : Type 0} (old : Scope) (f g : spec.Scope → Option A) → Refuses types old f → ((s : spec.Scope) → f s ≡ g s) → Refuses types old g
+  refuses_same old f g h is = λ s in_old. sym (is s) ∙ h s in_old
+
   pub takes_then : (old now new : Scope) (f g : spec.Scope → Option spec.Scope) → Takes types old now f → Takes types now new g → Takes types old new (λ s. f s >>= g)
   takes_then old now new f g h k = λ s in_old.
       let a = h s in_old in
@@ -111,17 +104,6 @@ module _ (types : List TypeTree) where
 
   pub then_refuses : {A : Type 0} (old now : Scope) (f : spec.Scope → Option spec.Scope) (g : spec.Scope → Option A) → Takes types old now f → Refuses types now g → Refuses types old (λ s. f s >>= g)
   then_refuses old now f g h k = λ s in_old. let a = h s in_old in ap (λ o. o >>= g) a.1 ∙ k a.0 a.2
-
--- ---- what is written
-
--- a key that is written is the one that something is defined under
-pub written_takes : (types : List TypeTree) (old new : Scope) (x : spec.Local) (key : Text → Option spec.Key) (w : Option Text) (k : Option spec.Key) → spec.optional_key key w ≡ Some k
-    → Takes types old new (λ s. spec.define s x k) → Takes types old new (λ s. spec.define_written s x key w)
-written_takes types old new x key w k is h = λ s in_old. let a = h s in_old in (a.0, ap (λ o. o >>= spec.define s x) is ∙ a.1, a.2)
-
-pub written_refuses : (types : List TypeTree) (old : Scope) (x : spec.Local) (key : Text → Option spec.Key) (w : Option Text) (k : Option spec.Key) → spec.optional_key key w ≡ Some k
-    → Refuses types old (λ s. spec.define s x k) → Refuses types old (λ s. spec.define_written s x key w)
-written_refuses types old x key w k is h = λ s in_old. ap (λ o. o >>= spec.define s x) is ∙ h s in_old
 
 -- ---- what is added
 

@@ -39,7 +39,7 @@ use Rattle.ll_lines.specs.declared.names.Name.{Name}
 use Rattle.ll_lines.specs.Views.{IsSaidIn, text_of}
 use Rattle.ll_bodies.specs.FunctionViews.{IsNamed}
 use Rattle.ll_bodies.specs.Meaning.{operand}
-use Rattle.ll_bodies.specs.Scopes.{local_key, block_of}
+use Rattle.ll_bodies.specs.Scopes.{local_key, local_of, block_of}
 use Rattle.ll_bodies.specs.SourceViews.{said_in}
 use Rattle.ll_lines.specs.declared.lines.Param as code_param
 use Rattle.ll_lines.specs.declared.lines.Line as code_line
@@ -49,13 +49,12 @@ use Rattle.ll_bodies.specs.declared.results.Source.{Source}
 use Rattle.ll_bodies.specs.declared.scope.Local.{Local}
 use Rattle.ll_bodies.specs.declared.scope.Local.TheVariants as K
 use Rattle.ll_bodies.specs.Scopes as spec
+use Rattle.ll_bodies.specs.Scopes.{Key}
 use Rattle.ll_bodies.specs.Scopes.{ValueLocal, BlockLocal, value_of_type, option_block}
 use Rattle.ll_bodies.specs.Meaning.{result_type}
 use Rattle.ll_bodies.specs.BlockViews.{lines_of}
-use Rattle.ll_bodies.specs.declared.scope.Key.{Key}
-use Rattle.ll_bodies.specs.declared.scope.Key.TheVariants.{Named, Numbered}
 use Rattle.ll_bodies.specs.declared.scope.Scope as code_scope
-use Rattle.ll_bodies.specs.ScopeViews.{key_view, local_view, local_at, Knows}
+use Rattle.ll_bodies.specs.ScopeViews.{local_view, local_at, Knows}
 use Rattle.ll_bodies.specs.SourceViews.{types_in, source_trees, line_in, count_lines}
 
 -- ---- what is found
@@ -139,26 +138,17 @@ const_there m s a b lt e = elim (lt_or_ge b.0 (length m.consts)) [
 
 -- ---- what the scope of a function knows
 
--- a key of the program for each of the definitions
-abbrev key_code : spec.Key → Key
-key_code (spec.Named t) = Named (record { ref_ptr = (0, 0); now = t })
-key_code (spec.Numbered n) = Numbered n
-
-key_back : (k : spec.Key) → key_view (key_code k) ≡ k
-key_back (spec.Named t) = refl
-key_back (spec.Numbered n) = refl
-
 -- all that is known is of the function
 abbrev pub OnlyNames : Source → LLVMFunction → (b n : ℕ) → List code_param.Param → List code_block.SaidBlock → spec.Scope → Type 0
-OnlyNames source f b n ps xs s = (k : spec.Key) (z : spec.Local) → s.known k ≡ Some z → (y : Local) × (local_view (types_in source) y ≡ z) × IsNamed source f b n ps xs y
+OnlyNames source f b n ps xs s = (k : Key) (z : spec.Local) → s.known k ≡ Some z → (y : Local) × (local_view (types_in source) y ≡ z) × IsNamed source f b n ps xs y
 
 pub only_names : (source : Source) (f : LLVMFunction) (b n : ℕ) (ps : List code_param.Param) (xs : List code_block.SaidBlock) (scope : code_scope.Scope) (s : spec.Scope) → Knows (types_in source) scope s
     → ((k : Key) (y : Local) → local_at scope k ≡ Some y → IsNamed source f b n ps xs y) → OnlyNames source f b n ps xs s
-only_names source f b n ps xs scope s knows at k z e = by (local_at scope (key_code k)) refl (sym (knows.known (key_code k)) ∙ ap s.known (key_back k) ∙ e)
+only_names source f b n ps xs scope s knows at k z e = by (local_at scope k) refl (sym (knows.known k) ∙ e)
   where
-    by : (o : Option Local) → local_at scope (key_code k) ≡ o → option_map (local_view (types_in source)) (local_at scope (key_code k)) ≡ Some z → (y : Local) × (local_view (types_in source) y ≡ z) × IsNamed source f b n ps xs y
+    by : (o : Option Local) → local_at scope k ≡ o → option_map (local_view (types_in source)) (local_at scope k) ≡ Some z → (y : Local) × (local_view (types_in source) y ≡ z) × IsNamed source f b n ps xs y
     by None is h = absurd cc
-    by (Some y) is h = (y, cc (is, h), at (key_code k) y is)
+    by (Some y) is h = (y, cc (is, h), at k y is)
 
 module _ (source : Source) (f : LLVMFunction) (ps : List code_param.Param) (xs : List code_block.SaidBlock) (body : List BodyBlock) (x : FunctionData) (sound : IsModule source.module.now)
     (at : slice_get source.module.now.functions f.0 ≡ Some x) (types : type_params source.module.now.types x.ty ≡ map (λ (p : code_param.Param). p.ty) ps) (names : length x.params ≡ length ps)
@@ -254,8 +244,9 @@ module _ (source : Source) (f : LLVMFunction) (ps : List code_param.Param) (xs :
             let same : const_at (source_trees source).consts c ≡ const_at (source_trees source).consts d = cc in
             const_stands d τ (const_there m sound c d there same) (ap const_type (sym same) ∙ t)
     value_right τ (code_said.TheVariants.Local name) v there h =
-        let k = bind_found (local_key (text_of source.bytes.now name)) (λ k. value_of_type τ (s.known k)) (operand_of (source_trees source) v) h in
-        let z = known k.0 (ValueLocal (operand_of (source_trees source) v) τ) (value_found τ (s.known k.0) (operand_of (source_trees source) v) k.2) in
+        let found = value_found τ (local_of s (text_of source.bytes.now name)) (operand_of (source_trees source) v) h in
+        let k = bind_found (local_key (text_of source.bytes.now name)) s.known (ValueLocal (operand_of (source_trees source) v) τ) found in
+        let z = known k.0 (ValueLocal (operand_of (source_trees source) v) τ) k.2 in
         of_local v τ z.0 z.1 z.2
 
     of_block : (b : LLVMBasicBlock) (y : Local) → local_view (types_in source) y ≡ BlockLocal b.0 → IsNamed source f (length m.blocks) (length m.insts) ps xs y → IsBlock real b
@@ -272,6 +263,7 @@ module _ (source : Source) (f : LLVMFunction) (ps : List code_param.Param) (xs :
 
     pub block_right : (name : Name) (b : LLVMBasicBlock) → block_of s (text_of source.bytes.now name) ≡ Some b.0 → IsBlock real b
     block_right name b h =
-        let k = bind_found (local_key (text_of source.bytes.now name)) (λ k. option_block (s.known k)) b.0 h in
-        let z = known k.0 (BlockLocal b.0) (block_found (s.known k.0) b.0 k.2) in
+        let found = block_found (local_of s (text_of source.bytes.now name)) b.0 h in
+        let k = bind_found (local_key (text_of source.bytes.now name)) s.known (BlockLocal b.0) found in
+        let z = known k.0 (BlockLocal b.0) k.2 in
         of_block b z.0 z.1 z.2

@@ -7,6 +7,8 @@ use Rattle.support.specs.NumberMaps.{value_at}
 use Rattle.support.specs.Options.{or_else}
 use Rattle.llvm_core.specs.Data as L
 use Rattle.llvm_core.specs.Data.{TypeTree, type_at}
+use Rattle.ll_literals.specs.Text.{Text}
+use Rattle.ll_literals.specs.Names.{quoted_name}
 use Rattle.ll_literals.specs.Numbers.{number_limit}
 use Rattle.ll_bodies.specs.Scopes as spec
 use Rattle.ll_bodies.specs.declared.scope.Key.{Key}
@@ -53,8 +55,7 @@ Refuses types old step = (s : spec.Scope) → Knows types old s → step s ≡ N
 pub record Adds (Q : Local → Type 0) (old new : Scope) : Type 0 where
   pub at : (k : spec.Key) (y : Local) → local_at new k ≡ Some y → Q y ⊎ (local_at old k ≡ Some y)
 
--- no key, or a number that nothing can have
-abbrev pub IsNoKey : Option spec.Key → Type 0
-IsNoKey None = Unit {0}
-IsNoKey (Some (spec.Named name)) = ⊥
-IsNoKey (Some (spec.Numbered n)) = number_limit ≤ n
+-- what is written says the key of a name between quotes, if any, or a number that nothing can have
+pub data IsNotPlain (written : Text) : Type 0 where
+  quoted : spec.key_of written ≡ option_map spec.Named (quoted_name written) → IsNotPlain written
+  past : (n : ℕ) → number_limit ≤ n → spec.key_of written ≡ Some (spec.Numbered n) → quoted_name written ≡ None → IsNotPlain written

@@ -1,7 +1,7 @@
 -- What names and numbers stand for in a function: keys, and scopes in the order of the text.
 use Rattle.std.specs.Prelude.{ℕ, ◌+◌, ◌-◌, Bool, false, nat_le, nat_lt, nat_eq, [], length, take, drop, Option, Some, None, if◌then◌else◌}
 use Rattle.std.specs.Str.{bytes_eq}
-use Rattle.std.specs.Option.{option_map}
+use Rattle.std.specs.Option.{option_map, option_and_then}
 use Rattle.kinds.specs.Types.{TypeTree, same_tree}
 use Rattle.llvm_core.specs.Data.{Operand}
 use Rattle.ll_literals.specs.Chain.{◌>>=◌}
@@ -92,7 +92,7 @@ written_name key (Some t) = key_name (key t)
 
 -- what a local stands for, by its token
 abbrev pub local_of : Scope → Text → Option Local
-local_of s t = local_key t >>= s.known
+local_of s t = option_and_then s.known (local_key t)
 
 -- a value of that type
 abbrev pub value_of_type : TypeTree → Option Local → Option Operand

@@ -1,6 +1,6 @@
 //! Names and numbers, as tokens write them.
 
-ghost use Rattle.std.specs.Prelude.{◌≡◌, ◌-◌, ◌⊎◌, None, Some, IfOk, IfSome, IfNone, length, take, drop};
+ghost use Rattle.std.specs.Prelude.{◌≡◌, ◌-◌, Some, IfOk, IfSome, IfNone, length, take, drop};
 ghost use Rattle.std.specs.Option.{option_map};
 ghost use Rattle.std.specs.Cow.{cow_str_bytes};
 ghost use Rattle.ll_lines.specs.Views.{text_of};
@@ -8,7 +8,7 @@ ghost use Rattle.ll_literals.specs.Names.{quoted_name};
 ghost use Rattle.ll_bodies.specs.Scopes as spec;
 ghost use Rattle.ll_bodies.specs.Scopes.{key_of, local_key, label_key, global_name, key_name, written_name};
 ghost use Rattle.ll_bodies.specs.Meaning.{source_name};
-ghost use Rattle.ll_bodies.specs.ScopeViews.{key_view, IsNoKey};
+ghost use Rattle.ll_bodies.specs.ScopeViews.{key_view, IsNotPlain};
 
 use crate::scope::Key;
 use ll_lines::names::Name;
@@ -41,7 +41,7 @@ pub fn of_label(text: &[u8]) -> &[u8]
 /// The key that a bare name or digits say. Where there is none, a name between quotes may say one.
 pub fn plain_key(written: &[u8]) -> Option<Key<'_>>
     ensures key { IfSome result (λ k. key_of written.now ≡ Some (key_view k)) }
-    ensures none { IfNone result (IsNoKey (key_of written.now) ⊎ (key_of written.now ≡ option_map spec.Named (quoted_name written.now))) }
+    ensures none { IfNone result (IsNotPlain written.now) }
 {
     if let Some(name) = bare_name(written) {
         return Some(Key::Named(name));

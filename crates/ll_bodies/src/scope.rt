@@ -67,7 +67,7 @@ impl<'a> Scope<'a> {
     /// What a key stands for.
     #[inline(always)]
     pub fn get(&self, key: Key<'_>) -> Option<Local>
-        ensures { result ≡ local_at self.now (key_view key) }
+        ensures { result ≡ local_at self.now (key_view key.entry) }
     {
         match key {
             Key::Named(name) => match self.named.get(name) {
@@ -78,14 +78,23 @@ impl<'a> Scope<'a> {
         }
     }
 
+    /// Makes room for the names of the function before the first one.
+    fn make_room(&mut self) -> Result<(), AllocError>
+        ensures same { (k : spec.Key) → local_at self.new k ≡ local_at self.old k }
+        ensures next { self.new.next ≡ self.old.next }
+    {
+        if !self.named.is_empty() {
+            return Ok(());
+        }
+        self.named.reserve(self.room)
+    }
+
     /// Lets a name that stands in the text stand for a thing.
     fn set_name(&mut self, name: &'a str, local: Local) -> Result<(), AllocError>
         ensures put { OnOk result (IsPut self.old self.new (spec.Named name.now) local) }
         ensures next { self.new.next ≡ self.old.next }
     {
-        if self.named.is_empty() {
-            self.named.reserve(self.room)?;
-        }
+        self.make_room()?;
         self.named.insert(name, local)?;
         Ok(())
     }

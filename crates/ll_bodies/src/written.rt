@@ -4,7 +4,6 @@ ghost use Rattle.std.specs.Prelude.{◌≡◌, List, Some, Err, IfOk, OnOk};
 ghost use Rattle.std.specs.Option.{option_map, option_and_then};
 ghost use Rattle.llvm_core.specs.Data.{TypeTree};
 ghost use Rattle.ll_lines.specs.Views.{text_of};
-ghost use Rattle.ll_literals.specs.Chain.{◌>>=◌};
 ghost use Rattle.ll_literals.specs.Names.{quoted_name};
 ghost use Rattle.ll_bodies.specs.Scopes as spec;
 ghost use Rattle.ll_bodies.specs.Scopes.{key_of, local_key, label_key, define, define_written};
@@ -37,7 +36,7 @@ fn known_quoted(
 /// What a name or a number stands for, as it is written.
 #[inline(always)]
 pub fn known(alloc: Global, scope: &Scope<'_>, written: &[u8]) -> Result<Option<Local>, AllocError>
-    ensures { IfOk result (λ x. (types : List TypeTree) (s : spec.Scope) → Knows types scope.now s → (key_of written.now >>= s.known) ≡ option_map (local_view types) x) }
+    ensures { IfOk result (λ x. (types : List TypeTree) (s : spec.Scope) → Knows types scope.now s → option_and_then s.known (key_of written.now) ≡ option_map (local_view types) x) }
 {
     match plain_key(written) {
         Some(key) => Ok(scope.get(key)),
@@ -53,9 +52,9 @@ fn define_quoted<'a>(
     local: Local,
     written: &'a [u8],
 ) -> Result<(), BuildErr>
-    ensures ok { OnOk result ((types : List TypeTree) → Takes types scope.old scope.new (λ s. quoted_name written.now >>= λ n. define s (local_view types local) (Some (spec.Named n)))) }
+    ensures ok { OnOk result ((types : List TypeTree) → Takes types scope.old scope.new (λ s. option_and_then (λ k. define s (local_view types local) (Some k)) (option_map spec.Named (quoted_name written.now)))) }
     ensures adds { OnOk result (Adds (λ (y : Local). y ≡ local) scope.old scope.new) }
-    ensures not_yet { result ≡ Err BuildErr.NotYet → (types : List TypeTree) → Refuses types scope.old (λ s. quoted_name written.now >>= λ n. define s (local_view types local) (Some (spec.Named n))) }
+    ensures not_yet { result ≡ Err BuildErr.NotYet → (types : List TypeTree) → Refuses types scope.old (λ s. option_and_then (λ k. define s (local_view types local) (Some k)) (option_map spec.Named (quoted_name written.now))) }
 {
     match quoted_name(alloc, written) {
         Ok(Some(CowStr::Borrowed(name))) => scope.define_under(local, Key::Named(name)),
@@ -76,9 +75,9 @@ fn define_said<'a>(
     local: Local,
     written: &'a [u8],
 ) -> Result<(), BuildErr>
-    ensures ok { OnOk result ((types : List TypeTree) → Takes types scope.old scope.new (λ s. key_of written.now >>= λ k. define s (local_view types local) (Some k))) }
+    ensures ok { OnOk result ((types : List TypeTree) → Takes types scope.old scope.new (λ s. option_and_then (λ k. define s (local_view types local) (Some k)) (key_of written.now))) }
     ensures adds { OnOk result (Adds (λ (y : Local). y ≡ local) scope.old scope.new) }
-    ensures not_yet { result ≡ Err BuildErr.NotYet → (types : List TypeTree) → Refuses types scope.old (λ s. key_of written.now >>= λ k. define s (local_view types local) (Some k)) }
+    ensures not_yet { result ≡ Err BuildErr.NotYet → (types : List TypeTree) → Refuses types scope.old (λ s. option_and_then (λ k. define s (local_view types local) (Some k)) (key_of written.now)) }
 {
     match plain_key(written) {
         Some(key) => scope.define_under(local, key),

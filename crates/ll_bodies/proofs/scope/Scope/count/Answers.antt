@@ -1,7 +1,7 @@
 -- What `scope::Scope::count` owes besides what the check finds.
 use Rattle.std.proofs.Common.{refl, arith}
+use Rattle.ll_bodies.specs.Scopes.{Numbered}
 use Rattle.ll_bodies.proofs.ScopeLaws.{counted_put, adds}
-use Rattle.ll_bodies.specs.declared.scope.Key.TheVariants.{Numbered}
 use Rattle.ll_bodies.proofs.scope.Scope.count.Goals as goal
 
 pub returns-clause-ok : goal.returns-clause-ok
