@@ -1,15 +1,15 @@
 -- What is printed of a module of the form spells it, and its last line has an end.
-use Rattle.std.proofs.Common.{◌≢◌, codes, List, [], ◌∷◌, ◌++◌, Result, Ok, Err, append_assoc, refl, ap, sym, ◌∙◌, subst}
+use Rattle.std.proofs.Common.{◌≡◌, ◌≢◌, true, codes, List, [], ◌∷◌, ◌++◌, Result, Ok, Err, append_assoc, refl, ap, sym, ◌∙◌, subst}
 use Rattle.std.specs.Prelude.{OnOk}
 use Rattle.std.specs.List.{flat_map}
+use Rattle.std.specs.Str.{is_utf8}
 use Rattle.std.proofs.lemmas.List.{append-nil}
 use Rattle.llvm_core.specs.Data.{Function, ModuleData}
 use Rattle.kinds.specs.Types.{result_of}
 use Rattle.llvm_core.specs.Form.{IsForm, HasDistinctNames}
 use Rattle.ll_literals.specs.Text.{Text}
-use Rattle.ll_literals.specs.Names.{global, quoted}
+use Rattle.ll_literals.specs.Names.{global, printed_name, printed_text}
 use Rattle.ll_said.specs.Said.{file_of}
-use Rattle.ll_said.specs.Sayable.{IsBareOrNone}
 use Rattle.ll_said.proofs.FileLaws.{sayable_from}
 use Rattle.ll_said.proofs.TwinLaws.{text_says}
 use Rattle.ll_written.proofs.PrintLaws.{printed_is_read}
@@ -18,7 +18,7 @@ use Rattle.ll_print.specs.Printing.{type_text, params_text, blocks_text, functio
 use Rattle.ll_print.specs.Parts.{AreNumberable}
 
 -- what is printed is read as what the data say, which means their twin
-pub module_spelled : (d : ModuleData) → IsForm d → IsBareOrNone d.name → HasDistinctNames d → AreNumberable d → Spells (module_text d) d
+pub module_spelled : (d : ModuleData) → IsForm d → is_utf8 d.name ≡ true → HasDistinctNames d → AreNumberable d → Spells (module_text d) d
 module_spelled d form name distinct few = let h = sayable_from d form distinct few name in (file_of d, printed_is_read d h, text_says d h)
 
 -- ---- the end of the last line
@@ -31,12 +31,12 @@ brace_ends front = (front ++ codes "}", sym (append_assoc front (codes "}") (cod
 
 functions_end : (f : Function) (fs : List Function) → EndsLine (flat_map function_text (f ∷ fs))
 functions_end f [] = subst EndsLine (sym (append-nil (function_text f)))
-    (brace_ends (codes "\ndefine " ++ type_text (result_of f.type) ++ codes " " ++ global f.name ++ codes "(" ++ params_text f 0 f.params ++ codes ") {\n" ++ blocks_text f f.blocks))
+    (brace_ends (codes "\ndefine " ++ type_text (result_of f.type) ++ codes " " ++ global (printed_name f.name) ++ codes "(" ++ params_text f 0 f.params ++ codes ") {\n" ++ blocks_text f f.blocks))
 functions_end f (g ∷ fs) = more_ends (function_text f) (flat_map function_text (g ∷ fs)) (functions_end g fs)
 
 source_ends : (n : Text) → n ≢ [] → EndsLine (source_text n)
 source_ends [] h = absurd (h refl)
-source_ends (b ∷ bs) h = (codes "source_filename = " ++ quoted (b ∷ bs), refl)
+source_ends (b ∷ bs) h = (codes "source_filename = " ++ printed_text (b ∷ bs), refl)
 
 module_ends : (n : Text) (fs : List Function) → n ≢ [] → EndsLine (source_text n ++ flat_map function_text fs)
 module_ends n [] h = subst EndsLine (sym (append-nil (source_text n))) (source_ends n h)

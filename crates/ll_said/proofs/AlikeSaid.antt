@@ -10,7 +10,7 @@ use Rattle.llvm_core.specs.Data.{TypeTree, Operand, Constant, Parameter, Result,
 use Rattle.kinds.specs.Types.{result_of}
 use Rattle.kinds.specs.Held.{is_void}
 use Rattle.ll_literals.specs.Text.{Text}
-use Rattle.ll_literals.specs.Names.{global, label}
+use Rattle.ll_literals.specs.Names.{global, label, printed_name}
 use Rattle.ll_lines.specs.Lines as L
 use Rattle.ll_lines.specs.Lines.{Typed}
 use Rattle.ll_said.specs.Naming.{Unnamed, ParamAt, BlockOf, ResultOf, same_unnamed, if_unnamed, unnamed_params, unnamed_result, unnamed_block, unnamed_in, local_text, result_name, block_name, block_ref}
@@ -216,7 +216,7 @@ module _ (g h : D.Function) (alike : FunctionsAlike g h) (here : IsDistinctList 
   pub function_same : function_of g ≡ function_of h
   function_same =
       let result : result_of g.type ≡ result_of h.type = ap result_of alike.type in
-      let name : global g.name ≡ global h.name = ap global alike.name in
+      let name : global (printed_name g.name) ≡ global (printed_name h.name) = ap (λ (n : Text). global (printed_name n)) alike.name in
       let params : params_of g 0 g.params ≡ params_of h 0 h.params = params_same 0 g.params ∙ ap (params_of h 0) alike.params in
       let body = parts_same g.blocks h.blocks alike.blocks in
       λ i. record { result = result i; name = name i; params = params i; body = body i }

@@ -1,17 +1,17 @@
 -- Of functions that lines mean, the unnamed things have numbers: they are few.
-use Rattle.std.proofs.Common.{◌≡◌, ℕ, suc, ◌+◌, ◌-◌, ◌≤◌, ◌<◌, Bool, true, false, nat_le, nat_lt, List, [], ◌∷◌, ◌++◌, length, length-append, map, take, drop, Option, Some, None, if◌then◌else◌, All, refl, ap, sym, subst, arith}
+use Rattle.std.proofs.Common.{◌≡◌, ℕ, suc, ◌+◌, ◌-◌, ◌≤◌, ◌<◌, Bool, true, false, cond, nat_le, nat_lt, List, [], ◌∷◌, ◌++◌, length, length-append, map, take, drop, Option, Some, None, if◌then◌else◌, All, refl, ap, sym, subst, arith}
 use Rattle.std.specs.List.{flat_map, AllByRecursion}
 use Rattle.std.specs.Option.{option_map, option_map_or}
 use Rattle.std.proofs.lemmas.Bool.{cond_both}
 use Rattle.std.proofs.lemmas.List.Elements.{All-from_recursion}
-use Rattle.std.proofs.lemmas.Option.{same_Some}
+use Rattle.std.proofs.lemmas.Option.{same_Some, cond_some, option_and_then_some}
 use Rattle.kinds.specs.Types.{TypeTree, VoidType}
 use Rattle.kinds.specs.Held.{is_void}
 use Rattle.llvm_core.specs.Data.{Result, Parameter, Placed, Block, Function, ModuleData}
 use Rattle.llvm_core.specs.Form.{IsForm, HasDistinctNames}
 use Rattle.ll_literals.specs.Text.{Text}
 use Rattle.ll_literals.specs.Numbers.{number_limit, number_of, is_digits}
-use Rattle.ll_literals.specs.Names.{is_bare}
+use Rattle.ll_literals.specs.Names.{is_bare, is_name, if_name, quoted_name, text_said, name_said}
 use Rattle.ll_literals.specs.Chain.{◌>>=◌}
 use Rattle.ll_lines.specs.Lines as L
 use Rattle.ll_lines.specs.Lines.{Line, Param, File}
@@ -20,7 +20,7 @@ use Rattle.ll_bodies.specs.Meaning.{SaidBlock, all_from, result_type, result_sco
 use Rattle.ll_said.specs.Naming.{Unnamed, ParamAt, BlockOf, ResultOf, if_unnamed, unnamed_params, unnamed_result, unnamed_block}
 use Rattle.ll_said.specs.Sayable.{HasFewUnnamed, IsSayableModule}
 use Rattle.ll_said.proofs.FileLaws.{sayable_from}
-use Rattle.ll_said.proofs.MeantLaws.{bind_some, IsOfLine, of_line, first_line, first_block, IsOfFunction, of_function, of_file, bare_name}
+use Rattle.ll_said.proofs.MeantLaws.{bind_some, IsOfLine, of_line, first_line, first_block, IsOfFunction, of_function, of_file, utf8_name}
 
 -- ---- the counter
 
@@ -61,15 +61,30 @@ IsProper (Some (Named [])) = ⊥
 IsProper (Some (Named (b ∷ bs))) = Unit {0}
 IsProper (Some (Numbered n)) = Unit {0}
 
-key_proper : (t : Text) (k : Key) → key_of t ≡ Some k → IsProper (Some k)
-key_proper [] k e = absurd cc
-key_proper (b ∷ bs) k e = by (is_digits (b ∷ bs)) (number_of (b ∷ bs)) (is_bare (b ∷ bs)) e
+-- nor is one that is said
+name_proper : (t n : Text) → if_name t ≡ Some n → IsProper (Some (Named n))
+name_proper t [] e = let both = cond_some (is_name t) t [] e in let empty : is_name [] ≡ true = subst (λ (u : Text). is_name u ≡ true) both.1 both.0 in absurd cc
+name_proper t (b ∷ bs) e = tt
+
+said_proper : (t n : Text) → name_said t ≡ Some n → IsProper (Some (Named n))
+said_proper t n e = by (is_bare t) refl e
   where
-    by : (d : Bool) (n : Option ℕ) (r : Bool) → (if d then option_map Numbered n else (if r then Some (Named (b ∷ bs)) else None)) ≡ Some k → IsProper (Some k)
-    by true (Some n) r e = subst (λ (k : Key). IsProper (Some k)) (same_Some (Numbered n) k e) tt
-    by true None r e = absurd cc
-    by false n true e = subst (λ (k : Key). IsProper (Some k)) (same_Some (Named (b ∷ bs)) k e) tt
-    by false n false e = absurd cc
+    of_bare : (n : Text) → is_bare n ≡ true → IsProper (Some (Named n))
+    of_bare [] bare = absurd cc
+    of_bare (b ∷ bs) bare = tt
+
+    by : (v : Bool) → is_bare t ≡ v → cond v (Some t) (quoted_name t) ≡ Some n → IsProper (Some (Named n))
+    by true bare e = subst (λ (u : Text). IsProper (Some (Named u))) (same_Some t n e) (of_bare t bare)
+    by false bare e = option_and_then_some if_name (text_said t) n e (λ u is says. name_proper u n says)
+
+key_proper : (t : Text) (k : Key) → key_of t ≡ Some k → IsProper (Some k)
+key_proper t k e = by (is_digits t) (number_of t) (name_said t) refl e
+  where
+    by : (d : Bool) (n : Option ℕ) (name : Option Text) → name_said t ≡ name → cond d (option_map Numbered n) (option_map Named name) ≡ Some k → IsProper (Some k)
+    by true (Some n) name is e = subst (λ (k : Key). IsProper (Some k)) (same_Some (Numbered n) k e) tt
+    by true None name is e = absurd cc
+    by false n (Some name) is e = subst (λ (k : Key). IsProper (Some k)) (same_Some (Named name) k e) (said_proper t name is)
+    by false n None is e = absurd cc
 
 define_rises : (s : Scope) (x : Local) (k : Option Key) (t : Scope) (y : Unnamed) → IsProper k → define s x k ≡ Some t → Rises (if_unnamed (key_name k) y) s t
 define_rises s x None t y proper e = counted_rises s x s.next t y (omega arith) e
@@ -174,4 +189,4 @@ few_unnamed m d e = All-from_recursion HasFewUnnamed d.functions (of_file (AllBy
 
 -- so that a text says whole what lines mean, where it is of the form and names are distinct
 pub meant_sayable : (m : File) (d : ModuleData) → file_data m ≡ Some d → IsForm d → HasDistinctNames d → IsSayableModule d
-meant_sayable m d e form names = sayable_from d form names (few_unnamed m d e) (bare_name m d e)
+meant_sayable m d e form names = sayable_from d form names (few_unnamed m d e) (utf8_name m d e)

@@ -1,23 +1,19 @@
 -- What the text of numbered data says means the data.
-use Rattle.std.proofs.Common.{◌≡◌, ℕ, suc, ◌+◌, List, [], ◌∷◌, length, map, Some, All, refl}
+use Rattle.std.proofs.Common.{◌≡◌, ℕ, suc, ◌+◌, List, [], ◌∷◌, length, map, true, Some, All, refl}
 use Rattle.std.specs.List.{AllByRecursion}
+use Rattle.std.specs.Str.{is_utf8}
 use Rattle.support.specs.Interned.{IsDistinctList}
 use Rattle.support.proofs.ListLaws.{all_from}
 use Rattle.llvm_core.specs.Data.{Function, ModuleData}
 use Rattle.llvm_core.specs.Form.{IsFormFunction, IsForm, local_names, HasDistinctNames}
 use Rattle.llvm_core.proofs.DataLemmas.{within_at}
-use Rattle.ll_literals.specs.Text.{Text}
-use Rattle.ll_bodies.specs.Meaning.{count_insts, functions_data, source_name, file_data}
-use Rattle.ll_said.specs.Said.{function_of, source_of, file_of}
-use Rattle.ll_said.specs.Sayable.{HasFewUnnamed, IsSayable, IsBareOrNone, IsSayableModule, IsNumbered, blocks_in, placed_in}
+use Rattle.ll_bodies.specs.Meaning.{count_insts, functions_data, file_data}
+use Rattle.ll_said.specs.Said.{function_of, file_of}
+use Rattle.ll_said.specs.Sayable.{HasFewUnnamed, IsSayable, IsSayableModule, IsNumbered, blocks_in, placed_in}
 use Rattle.ll_said.proofs.AllLaws.{all_at}
 use Rattle.ll_said.proofs.CountingLaws.{AreCounted, counted, counted_functions, function_number, block_number, placed_number}
 use Rattle.ll_said.proofs.FunctionLaws.{function_says}
-use Rattle.ll_said.proofs.NameLaws.{string_says}
-
-source_says : (n : Text) → IsBareOrNone n → source_name (source_of n) ≡ Some n
-source_says [] h = refl
-source_says (b ∷ bs) h = string_says (b ∷ bs) h
+use Rattle.ll_said.proofs.NameLaws.{source_says}
 
 functions_say : (f b n : ℕ) (xs : List Function) → AllByRecursion IsSayable xs → AreCounted f b n xs → functions_data f b n (map function_of xs) ≡ Some xs
 functions_say f b n [] h g = refl
@@ -33,7 +29,7 @@ file_says d h g = rw (source_says d.name h.name, functions_say 0 0 0 d.functions
     each : AllByRecursion IsSayable d.functions
     each = all_at IsSayable d.functions (λ i x at. within_at d.functions IsSayable h.functions i x at)
 
-pub sayable_from : (d : ModuleData) → IsForm d → HasDistinctNames d → All HasFewUnnamed d.functions → IsBareOrNone d.name → IsSayableModule d
+pub sayable_from : (d : ModuleData) → IsForm d → HasDistinctNames d → All HasFewUnnamed d.functions → is_utf8 d.name ≡ true → IsSayableModule d
 sayable_from d form names few name = record {
   functions = all_from IsSayable d.functions (λ i x at. record {
     form = within_at d.functions IsFormFunction form i x at;

@@ -1,16 +1,19 @@
--- Data that lines mean are numbered from 0 in order, under a bare name or none.
-use Rattle.std.proofs.Common.{◌≡◌, ℕ, suc, ◌+◌, ◌-◌, Bool, true, false, List, [], ◌∷◌, length, map, take, drop, if◌then◌else◌, Option, Some, None, refl, ap, sym, ◌∙◌, subst}
+-- Data that lines mean are numbered from 0 in order, and their name is a text.
+use Rattle.std.proofs.Common.{◌≡◌, ℕ, suc, ◌+◌, true, List, [], ◌∷◌, length, map, Option, Some, None, refl, ap, sym, ◌∙◌, subst}
 use Rattle.std.specs.Option.{option_map_or}
-use Rattle.std.proofs.lemmas.Option.{same_Some}
+use Rattle.std.specs.Str.{is_utf8}
+use Rattle.std.proofs.lemmas.Option.{same_Some, cond_some, option_and_then_some}
+use Rattle.std.proofs.lemmas.Str.{is_utf8-from_IsUtf8, IsUtf8-nil}
 use Rattle.llvm_core.specs.Data.{TypeTree, VoidType, Placed, Block, Function, ModuleData}
 use Rattle.ll_literals.specs.Text.{Text}
-use Rattle.ll_literals.specs.Names.{is_bare}
+use Rattle.ll_literals.specs.Escapes.{unescaped}
+use Rattle.ll_literals.specs.Names.{inside, if_text, text_said}
 use Rattle.ll_literals.specs.Chain.{◌>>=◌}
 use Rattle.ll_lines.specs.Lines as L
 use Rattle.ll_lines.specs.Lines.{Line, Param, File}
 use Rattle.ll_bodies.specs.Scopes.{Scope, empty_scope, global_name, local_key, label_key, written_name}
 use Rattle.ll_bodies.specs.Meaning.{SaidBlock, blocks_of, all_from, result_type, params_scope, blocks_scope, instruction, placed, blocks_data, function_data, count_insts, functions_data, source_name, file_data}
-use Rattle.ll_said.specs.Sayable.{IsBareOrNone, IsNumbered}
+use Rattle.ll_said.specs.Sayable.{IsNumbered}
 use Rattle.ll_said.proofs.CountingLaws.{IsCounted, AreCountedBlocks, AreCounted, placed_number, counted_through, uncounted}
 use Rattle.ll_said.proofs.FunctionLaws.{made}
 
@@ -139,20 +142,18 @@ numbers_count m d e =
 
 -- ---- the name of the module
 
-bare_or_none : (t : Text) → is_bare t ≡ true → IsBareOrNone t
-bare_or_none [] h = tt
-bare_or_none (b ∷ bs) h = h
+text_utf8 : (t n : Text) → if_text t ≡ Some n → is_utf8 n ≡ true
+text_utf8 t n e = let both = cond_some (is_utf8 t) t n e in subst (λ (u : Text). is_utf8 u ≡ true) both.1 both.0
 
-source_bare : (source : Option Text) (n : Text) → source_name source ≡ Some n → IsBareOrNone n
-source_bare None n e = subst IsBareOrNone (same_Some [] n e) tt
-source_bare (Some t) n e = let inner = take (length t - 2) (drop 1 t) in by inner (is_bare inner) refl e
-  where
-    by : (inner : Text) (b : Bool) → is_bare inner ≡ b → (if b then Some inner else None) ≡ Some n → IsBareOrNone n
-    by inner true bare e = subst IsBareOrNone (same_Some inner n e) (bare_or_none inner bare)
-    by inner false bare e = absurd cc
+said_utf8 : (t n : Text) → text_said t ≡ Some n → is_utf8 n ≡ true
+said_utf8 t n e = option_and_then_some (λ (u : Text). if_text (unescaped u)) (inside t) n e (λ u is says. text_utf8 (unescaped u) n says)
 
-pub bare_name : (m : File) (d : ModuleData) → file_data m ≡ Some d → IsBareOrNone d.name
-bare_name m d e =
+source_utf8 : (source : Option Text) (n : Text) → source_name source ≡ Some n → is_utf8 n ≡ true
+source_utf8 None n e = subst (λ (u : Text). is_utf8 u ≡ true) (same_Some [] n e) (is_utf8-from_IsUtf8 [] IsUtf8-nil)
+source_utf8 (Some t) n e = said_utf8 t n e
+
+pub utf8_name : (m : File) (d : ModuleData) → file_data m ≡ Some d → is_utf8 d.name ≡ true
+utf8_name m d e =
     let name = bind_some (source_name m.source) _ d e in
     let fs = bind_some (functions_data 0 0 0 m.functions) _ d name.2 in
-    subst (λ (x : ModuleData). IsBareOrNone x.name) (same_Some _ d fs.2) (source_bare m.source name.0 name.1)
+    subst (λ (x : ModuleData). is_utf8 x.name ≡ true) (same_Some _ d fs.2) (source_utf8 m.source name.0 name.1)

@@ -2,21 +2,26 @@
 use Rattle.std.proofs.Common.{◌≡◌, ℕ, ◌-◌, ◌≤◌, Bool, true, false, ◌||◌, ◌==◌, nat_eq, [], ◌∷◌, ◌++◌, length, length-append, take, drop, Some, refl, ap, sym, ◌∙◌, subst, ne_eqb, arith}
 use Rattle.std.specs.Prelude.{decimal}
 use Rattle.std.specs.List.{list_all}
+use Rattle.std.specs.Str.{is_utf8}
 use Rattle.std.proofs.lemmas.Bool.{and_parts, and_from}
 use Rattle.std.proofs.lemmas.List.{take_at}
 use Rattle.llvm_core.proofs.FormNames.{letter_digit}
 use Rattle.llvm_core.specs.Names.{is_digit, is_letter, is_plain_byte, is_plain, IsPlainOrNone}
 use Rattle.llvm_core.specs.Data.{Function}
 use Rattle.ll_literals.specs.Text.{Text}
-use Rattle.ll_literals.specs.Names.{is_name_byte, is_bare, global, label, quoted}
+use Rattle.ll_literals.specs.Escapes.{escaped}
+use Rattle.ll_literals.specs.Names.{is_name_byte, is_bare, is_name, global, label, printed_name}
 use Rattle.ll_literals.specs.Numbers.{number_of, number_limit, is_digits}
+use Rattle.ll_literals.proofs.NameLaws.{bare_is_name}
+use Rattle.ll_literals.proofs.QuoteLaws.{name_says, text_says}
 use Rattle.ll_bodies.specs.Scopes.{Key, Named, Numbered, key_of, local_key, label_key, global_name}
-use Rattle.ll_bodies.specs.Meaning.{string_name}
+use Rattle.ll_bodies.specs.Meaning.{source_name}
 use Rattle.ll_said.specs.Naming.{Unnamed, unnamed_number, unnamed_in, local_text}
+use Rattle.ll_said.specs.Said.{source_of}
 use Rattle.ll_said.proofs.DecimalLaws.{IsDecimal, IsDecimal-decimal}
 use Rattle.ll_said.proofs.PositionLaws.{position_le}
 
--- ---- plain names
+-- ---- names of the form
 
 letter_name : (b : ℕ) → is_letter b ≡ true → is_name_byte b ≡ true
 letter_name b h = rw h refl
@@ -35,12 +40,17 @@ all_names (b ∷ bs) h =
     let parts = and_parts (is_plain_byte b) (list_all is_plain_byte bs) h in
     and_from (is_name_byte b) (list_all is_name_byte bs) (plain_byte b parts.0) (all_names bs parts.1)
 
--- plain names are bare
-pub plain_bare : (t : Text) → is_plain t ≡ true → is_bare t ≡ true
+plain_bare : (t : Text) → is_plain t ≡ true → is_bare t ≡ true
 plain_bare [] h = cc
 plain_bare (b ∷ bs) h =
     let parts = and_parts (is_letter b) (list_all is_plain_byte bs) h in
     rw (letter_name b parts.0, letter_digit b parts.0, all_names bs parts.1) refl
+
+-- What the form takes for a name is one. No other law asks what the form asks of names.
+pub form_name : (n : Text) → is_plain n ≡ true → is_name n ≡ true
+form_name n h = bare_is_name n (plain_bare n h)
+
+-- ---- keys
 
 not_empty : (b : ℕ) (bs : Text) → (length (b ∷ bs) == 0) ≡ false
 not_empty b bs = ne_eqb (length (b ∷ bs)) 0 (λ e. omega (arith, e))
@@ -51,12 +61,25 @@ digits_are b bs d h = rw (not_empty b bs, d, h) refl
 digits_not : (b : ℕ) (bs : Text) → is_digit b ≡ false → is_digits (b ∷ bs) ≡ false
 digits_not b bs d = rw (not_empty b bs, d) refl
 
--- a plain name is a key by itself
-key_of_plain : (b : ℕ) (bs : Text) → is_plain (b ∷ bs) ≡ true → key_of (b ∷ bs) ≡ Some (Named (b ∷ bs))
-key_of_plain b bs h =
-    let parts = and_parts (is_letter b) (list_all is_plain_byte bs) h in
-    let digits = digits_not b bs (letter_digit b parts.0) in
-    rw (digits, plain_bare (b ∷ bs) h) refl
+bare_not : (n : Text) → is_bare n ≡ true → is_digits n ≡ false
+bare_not [] h = cc
+bare_not (b ∷ bs) h = by (is_digit b) refl
+  where
+    by : (d : Bool) → is_digit b ≡ d → is_digits (b ∷ bs) ≡ false
+    by true e = absurd cc
+    by false e = digits_not b bs e
+
+-- a name is written as no digits: a bare one begins with none, and others with a quote
+printed_not : (n : Text) → is_digits (printed_name n) ≡ false
+printed_not n = by (is_bare n) refl
+  where
+    by : (v : Bool) → is_bare n ≡ v → is_digits (printed_name n) ≡ false
+    by true e = rw e (bare_not n e)
+    by false e = rw e (digits_not 34 (escaped n ++ 34 ∷ []) refl)
+
+-- a name that is printed is its key
+key_of_name : (n : Text) → is_name n ≡ true → key_of (printed_name n) ≡ Some (Named n)
+key_of_name n h = rw (printed_not n, name_says n h) refl
 
 -- digits are the key of their number
 key_of_digits : (t : Text) (n : ℕ) → IsDecimal t n → key_of t ≡ Some (Numbered n)
@@ -78,7 +101,7 @@ key_in f (b ∷ bs) x = Named (b ∷ bs)
 
 pub local_says : (f : Function) (n : Text) (x : Unnamed) → length (unnamed_in f) ≤ number_limit → IsPlainOrNone n → local_key (local_text f n x) ≡ Some (key_in f n x)
 local_says f [] x few h = key_of_digits (decimal (unnamed_number f x)) (unnamed_number f x) (number_text f x few)
-local_says f (b ∷ bs) x few h = key_of_plain b bs h
+local_says f (b ∷ bs) x few h = key_of_name (b ∷ bs) (form_name (b ∷ bs) h)
 
 -- ---- labels and global names
 
@@ -88,13 +111,11 @@ label_front n = let e : length (label n) - 1 ≡ length n = omega (arith, length
 pub label_says : (f : Function) (n : Text) (x : Unnamed) → length (unnamed_in f) ≤ number_limit → IsPlainOrNone n → label_key (label (drop 1 (local_text f n x))) ≡ Some (key_in f n x)
 label_says f n x few plain = ap key_of (label_front (drop 1 (local_text f n x))) ∙ local_says f n x few plain
 
-pub global_says : (n : Text) → is_plain n ≡ true → global_name (global n) ≡ Some n
-global_says n h = rw (plain_bare n h) refl
+pub global_says : (n : Text) → is_plain n ≡ true → global_name (global (printed_name n)) ≡ Some n
+global_says n h = let digits = printed_not n in let says = name_says n (form_name n h) in cc
 
 -- ---- the name of a module
 
-pub string_says : (n : Text) → is_bare n ≡ true → string_name (quoted n) ≡ Some n
-string_says n h =
-    let e : length (quoted n) - 2 ≡ length n = omega (arith, length-append n (34 ∷ [])) in
-    let front : take (length (quoted n) - 2) (n ++ 34 ∷ []) ≡ n = rw e (take_at n (34 ∷ []) (length n) refl) in
-    rw (front, h) refl
+pub source_says : (n : Text) → is_utf8 n ≡ true → source_name (source_of n) ≡ Some n
+source_says [] h = refl
+source_says (b ∷ bs) h = text_says (b ∷ bs) h

@@ -1,9 +1,8 @@
 -- What module data say is writable, where they are of the form.
-use Rattle.std.proofs.Common.{◌≡◌, ◌≤◌, ◌<◌, ℕ, zero, suc, ◌+◌, true, ◌&&◌, not, List, [], ◌∷◌, ◌++◌, length, map, refl, sym, subst, arith}
+use Rattle.std.proofs.Common.{◌≡◌, ◌≤◌, ◌<◌, ℕ, zero, suc, ◌+◌, true, List, [], ◌∷◌, ◌++◌, length, map, refl, sym, subst, arith}
 use Rattle.std.specs.Prelude.{IfSome}
-use Rattle.std.specs.List.{flat_map, list_all, AllByRecursion}
-use Rattle.std.proofs.lemmas.Bool.{and_parts}
-use Rattle.std.proofs.lemmas.Bool.Decides.{nat_tests}
+use Rattle.std.specs.List.{flat_map, AllByRecursion}
+use Rattle.std.specs.Str.{is_utf8}
 use Rattle.std.proofs.lemmas.List.Elements.{recursion_from_All}
 use Rattle.kinds.specs.Types.{TypeTree, TypeTrees, NoTypes, ThenType, types_list, count_types, result_of}
 use Rattle.kinds.specs.Held.{IsFirstClass, IsReturned, IsHeld}
@@ -16,15 +15,12 @@ use Rattle.ll_lines.specs.Lines as L
 use Rattle.ll_lines.specs.Lines.{Text, Part}
 use Rattle.ll_said.specs.Naming.{ParamAt}
 use Rattle.ll_said.specs.Said.{line_of, lines_of, entry_label, block_parts, parts_of, params_of, function_of, source_of, file_of}
-use Rattle.ll_said.specs.Sayable.{IsSayable, IsBareOrNone, IsSayableModule}
-use Rattle.ll_spacing.specs.Forms.{IsText, quoted as string}
-use Rattle.ll_spacing.proofs.WholeLaws.{all_weaker}
-use Rattle.ll_tokens.specs.Bytes.{in_string}
+use Rattle.ll_said.specs.Sayable.{IsSayable, IsSayableModule}
+use Rattle.ll_spacing.specs.Forms.{IsText}
 use Rattle.ll_tokens.specs.declared.kinds.Kind.TheVariants as K
-use Rattle.llvm_core.specs.Names.{is_digit}
-use Rattle.ll_literals.specs.Names.{is_name_byte, quoted}
+use Rattle.ll_literals.specs.Names.{printed_text}
 use Rattle.ll_written.specs.Writable.{IsPart, IsParam, IsFunction, IsWritable}
-use Rattle.ll_written.proofs.NameForms.{global_form, local_form, label_form}
+use Rattle.ll_written.proofs.NameForms.{string_form, global_form, local_form, label_form}
 use Rattle.ll_written.proofs.LineForms.{line_form}
 
 -- ---- parameters
@@ -98,16 +94,9 @@ functions_form (f ∷ fs) all = (function_form f all.0, functions_form fs all.1)
 
 -- ---- files
 
-name_in_string : (b : ℕ) → is_name_byte b ≡ true → in_string b ≡ true
-name_in_string b e = grind (arith, nat_tests)
-
-source_form : (name : Text) → IsBareOrNone name → IfSome (source_of name) (IsText K.Str)
+source_form : (name : Text) → is_utf8 name ≡ true → IfSome (source_of name) (IsText K.Str)
 source_form [] h = tt
-source_form (b ∷ bs) h =
-    let k = and_parts (is_name_byte b && not (is_digit b)) (list_all is_name_byte bs) h in
-    let first = name_in_string b (and_parts (is_name_byte b) (not (is_digit b)) k.0).0 in
-    let inside : list_all in_string (b ∷ bs) ≡ true = rw (first, all_weaker is_name_byte in_string bs name_in_string k.1) refl in
-    IsText.string (quoted (b ∷ bs)) (string (b ∷ bs) inside)
+source_form (b ∷ bs) h = IsText.string (printed_text (b ∷ bs)) (string_form (b ∷ bs) h)
 
 -- what module data say may be written
 pub file_form : (d : ModuleData) → IsSayableModule d → IsWritable (file_of d)

@@ -14,7 +14,7 @@ use Rattle.ll_said.specs.Said.{line_of, lines_of, label_of, entry_label, block_p
 use Rattle.ll_said.specs.Sayable.{IsSayable, IsSayableModule}
 use Rattle.ll_spacing.specs.Spacing.{Spaced, text_of}
 use Rattle.ll_tokens.specs.declared.kinds.Kind.TheVariants as T
-use Rattle.ll_literals.specs.Names.{global, quoted}
+use Rattle.ll_literals.specs.Names.{global, printed_name, printed_text}
 use Rattle.ll_written.specs.Printing as P
 use Rattle.ll_written.specs.Written.{token, close, apart, written_type, next_part, written_body, written_param, next_param, written_params, written_function, next_function, written_source, written_file, written, end_of}
 use Rattle.ll_written.proofs.RowTexts.{joined, text_both, type_then}
@@ -114,7 +114,7 @@ module _ (f : Function) where
 
   -- a function, behind the line end before it
   abbrev define_text : Text
-  define_text = codes "define " ++ P.type_text (result_of f.type) ++ codes " " ++ global f.name ++ codes "(" ++ P.params_text f 0 f.params ++ codes ") {\n" ++ P.blocks_text f f.blocks ++ codes "}\n"
+  define_text = codes "define " ++ P.type_text (result_of f.type) ++ codes " " ++ global (printed_name f.name) ++ codes "(" ++ P.params_text f 0 f.params ++ codes ") {\n" ++ P.blocks_text f f.blocks ++ codes "}\n"
 
   body_text : (xs : List Spaced) (t : Text) → Turns xs t → text_of (xs ++ (token (codes "\n") T.CloseBrace (codes "}") ∷ [])) ++ codes "\n" ≡ codes "\n" ++ (t ++ codes "}\n")
   body_text xs t e = turns_both xs (token (codes "\n") T.CloseBrace (codes "}") ∷ []) t (codes "}\n") e refl
@@ -125,9 +125,9 @@ module _ (f : Function) where
       let inner = close T.CloseParen (codes ")") ∷ apart T.OpenBrace (codes "{") ∷ body in
       let one : text_of (written_params (params_of f 0 f.params) ++ inner) ≡ P.params_text f 0 f.params ++ (codes ") {" ++ text_of body) = joined (written_params (params_of f 0 f.params)) inner (P.params_text f 0 f.params) (codes ") {" ++ text_of body) (params_text f.params) refl in
       let two : text_of body ++ codes "\n" ≡ codes "\n" ++ (P.blocks_text f f.blocks ++ codes "}\n") = body_text (written_body (parts_of f f.blocks)) (P.blocks_text f f.blocks) (body_turns f.blocks all) in
-      let front = b ++ codes "define" ++ (codes " " ++ P.type_text (result_of f.type)) ++ (codes " " ++ global f.name) ++ codes "(" in
+      let front = b ++ codes "define" ++ (codes " " ++ P.type_text (result_of f.type)) ++ (codes " " ++ global (printed_name f.name)) ++ codes "(" in
       let start : text_of (written_function b (function_of f)) ≡ front ++ text_of (written_params (params_of f 0 f.params) ++ inner) =
-      ap (λ (t : Text). b ++ codes "define" ++ t) (type_then (codes " ") (result_of f.type) (apart T.Global (global f.name) ∷ close T.OpenParen (codes "(") ∷ (written_params (params_of f 0 f.params) ++ inner))) ∙ simp append_assoc in
+      ap (λ (t : Text). b ++ codes "define" ++ t) (type_then (codes " ") (result_of f.type) (apart T.Global (global (printed_name f.name)) ∷ close T.OpenParen (codes "(") ∷ (written_params (params_of f 0 f.params) ++ inner))) ∙ simp append_assoc in
       ap (λ (t : Text). t ++ codes "\n") start ∙ ap (λ (t : Text). front ++ t ++ codes "\n") one ∙ regroup front (P.params_text f 0 f.params) (text_of body) ∙ ap (λ (t : Text). front ++ (P.params_text f 0 f.params ++ (codes ") {" ++ t))) two ∙ simp append_assoc
     where
       regroup : (x y z : Text) → x ++ (y ++ (codes ") {" ++ z)) ++ codes "\n" ≡ x ++ (y ++ (codes ") {" ++ (z ++ codes "\n")))
@@ -159,7 +159,7 @@ file_by [] (f ∷ fs) all =
     ∙ ap (λ (t : Text). t ++ flat_map P.function_text fs) (function_at f (codes "\n") (all_lined f all.0.form))
 file_by (b ∷ bs) fs all =
     let rest = flat_map next_function (map function_of fs) in
-    let t = quoted (b ∷ bs) in
+    let t = printed_text (b ∷ bs) in
     let one : text_of (written_source t ++ rest) ++ codes "\n" ≡ codes "source_filename = " ++ (t ++ (text_of rest ++ codes "\n")) = simp append_assoc in
     one ∙ ap (λ (u : Text). codes "source_filename = " ++ (t ++ u)) (functions_turn fs all) ∙ simp append_assoc
 

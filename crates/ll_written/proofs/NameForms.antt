@@ -1,44 +1,55 @@
 -- The names and numbers of a function have the forms of their tokens.
-use Rattle.std.proofs.Common.{◌≡◌, ◌<◌, ◌^◌, ℕ, Bool, true, false, cond, not, nat_eq, List, [], ◌∷◌, ◌++◌, drop, Some, refl, arith}
+use Rattle.std.proofs.Common.{◌≡◌, ◌<◌, ◌^◌, ℕ, Bool, true, false, cond, ◌&&◌, not, nat_eq, List, [], ◌∷◌, ◌++◌, drop, Some, refl, arith}
 use Rattle.std.specs.Prelude.{decimal}
 use Rattle.std.specs.List.{flat_map, find, list_all, AllByRecursion}
 use Rattle.std.specs.Option.{option_map_or}
+use Rattle.std.specs.Str.{is_utf8}
 use Rattle.std.proofs.lemmas.Bool.{and_parts}
-use Rattle.std.proofs.lemmas.Bool.Decides.{nat_tests}
 use Rattle.std.proofs.lemmas.List.Elements.{recursion_from_All}
 use Rattle.std.proofs.lemmas.List.Sums.{prefix_len-le-length}
 use Rattle.llvm_core.specs.Data.{Placed, Block, Function, placed_in}
 use Rattle.llvm_core.specs.Form.{IsFormPlaced, IsFormBlock}
-use Rattle.llvm_core.specs.Names.{is_letter, is_plain, is_plain_byte, IsPlainOrNone}
+use Rattle.llvm_core.specs.Checked.{is_bad_name}
+use Rattle.llvm_core.specs.Names.{is_plain, IsPlainOrNone}
 use Rattle.ll_lines.specs.Lines.{Text}
 use Rattle.ll_said.specs.Naming.{Unnamed, BlockOf, same_unnamed, unnamed_in, unnamed_number, local_text, result_name, block_name, block_ref}
 use Rattle.ll_said.specs.Sayable.{IsSayable}
-use Rattle.ll_spacing.specs.Forms.{IsText, IsName, AreDigits, AreNameBytes}
-use Rattle.ll_spacing.proofs.WholeLaws.{all_weaker}
+use Rattle.ll_spacing.specs.Forms.{IsText, IsName, IsString, quoted, AreDigits, AreNameBytes}
 use Rattle.ll_tokens.specs.Bytes.{is_digit, is_name_byte}
 use Rattle.ll_tokens.specs.declared.kinds.Kind.TheVariants as K
-use Rattle.ll_literals.specs.Names.{global, label}
+use Rattle.ll_literals.specs.Escapes.{escaped}
+use Rattle.ll_literals.specs.Names.{is_bare, is_name, global, label, printed_name, printed_text}
+use Rattle.ll_literals.proofs.EscapeLaws.{escaped_open}
+use Rattle.ll_literals.proofs.TextBytes.{utf8_bytes}
 use Rattle.ll_written.specs.Writable.{IsLocal}
 use Rattle.ll_said.proofs.DecimalLaws.{IsDecimal-decimal}
+use Rattle.ll_said.proofs.NameLaws.{form_name}
 
 -- ---- names
 
-plain_in_name : (b : ℕ) → is_plain_byte b ≡ true → is_name_byte b ≡ true
-plain_in_name b e = grind (arith, nat_tests)
+-- a text between quotes has no quote in it
+pub string_form : (t : Text) → is_utf8 t ≡ true → IsString (printed_text t)
+string_form t h = quoted (escaped t) (escaped_open t (utf8_bytes t h))
 
-plain_name : (n : Text) → is_plain n ≡ true → IsName n
-plain_name [] e = absurd cc
-plain_name (b ∷ bs) e =
-    let k = and_parts (is_letter b) (list_all is_plain_byte bs) e in
-    let letter : is_letter b ≡ true = k.0 in
-    let digit : is_digit b ≡ false = grind (arith, nat_tests) in
-    let name : is_name_byte b ≡ true = grind (arith, nat_tests) in
-    let others = all_weaker is_plain_byte is_name_byte bs plain_in_name k.1 in
-    let all : AreNameBytes (b ∷ bs) = rw (name, others) refl in
+bare_form : (n : Text) → is_bare n ≡ true → IsName n
+bare_form [] e = absurd cc
+bare_form (b ∷ bs) e =
+    let both = and_parts (is_name_byte b && not (is_digit b)) (list_all is_name_byte bs) e in
+    let first = and_parts (is_name_byte b) (not (is_digit b)) both.0 in
+    let digit : is_digit b ≡ false = grind first.1 in
+    let all : AreNameBytes (b ∷ bs) = rw (first.0, both.1) refl in
     IsName.bare b bs digit all
 
-pub global_form : (n : Text) → is_plain n ≡ true → IsText K.Global (global n)
-global_form n e = IsText.global n (plain_name n e)
+-- a name is written bare or between quotes
+printed_form : (n : Text) → is_name n ≡ true → IsName (printed_name n)
+printed_form n h = by (is_bare n) refl
+  where
+    by : (v : Bool) → is_bare n ≡ v → IsName (printed_name n)
+    by true e = rw e (bare_form n e)
+    by false e = rw e (IsName.string (printed_text n) (string_form n (and_parts (not (is_bad_name n)) (is_utf8 n) h).1))
+
+pub global_form : (n : Text) → is_plain n ≡ true → IsText K.Global (global (printed_name n))
+global_form n e = IsText.global (printed_name n) (printed_form n (form_name n e))
 
 -- ---- numbers
 
@@ -54,11 +65,11 @@ module _ (f : Function) (sayable : IsSayable f) where
 
   local_name : (n : Text) (x : Unnamed) → IsPlainOrNone n → IsName (drop 1 (local_text f n x))
   local_name [] x plain = number_name (unnamed_number f x) (small x)
-  local_name (b ∷ bs) x plain = plain_name (b ∷ bs) plain
+  local_name (b ∷ bs) x plain = printed_form (b ∷ bs) (form_name (b ∷ bs) plain)
 
   pub local_form : (n : Text) (x : Unnamed) → IsPlainOrNone n → IsLocal (local_text f n x)
   local_form [] x plain = IsText.local (decimal (unnamed_number f x)) (number_name (unnamed_number f x) (small x))
-  local_form (b ∷ bs) x plain = IsText.local (b ∷ bs) (plain_name (b ∷ bs) plain)
+  local_form (b ∷ bs) x plain = IsText.local (printed_name (b ∷ bs)) (local_name (b ∷ bs) x plain)
 
   -- ---- of what has that number
 
