@@ -1,5 +1,5 @@
 -- Names and numbers as they are written, and the keys that they say.
-use Rattle.std.proofs.Common.{◌≡◌, ℕ, ◌-◌, ◌≤◌, Bool, true, false, ◌||◌, ◌==◌, nat_eq, [], ◌∷◌, ◌++◌, length, length-append, take, drop, Some, refl, ap, sym, ◌∙◌, subst, ne_eqb, arith}
+use Rattle.std.proofs.Common.{◌≡◌, ℕ, ◌-◌, ◌≤◌, Bool, true, false, not, ◌&&◌, ◌||◌, ◌==◌, nat_eq, [], ◌∷◌, ◌++◌, length, length-append, take, drop, Some, refl, ap, sym, ◌∙◌, subst, ne_eqb, arith}
 use Rattle.std.specs.Prelude.{decimal}
 use Rattle.std.specs.List.{list_all}
 use Rattle.std.specs.Str.{is_utf8}
@@ -61,13 +61,20 @@ digits_are b bs d h = rw (not_empty b bs, d, h) refl
 digits_not : (b : ℕ) (bs : Text) → is_digit b ≡ false → is_digits (b ∷ bs) ≡ false
 digits_not b bs d = rw (not_empty b bs, d) refl
 
+not_true : (d : Bool) → not d ≡ true → d ≡ false
+not_true true e = sym e
+not_true false e = refl
+
+-- a bare name is made of name bytes, of which the first is no digit
+pub bare_parts : (b : ℕ) (bs : Text) → is_bare (b ∷ bs) ≡ true → (is_digit b ≡ false) × (list_all is_name_byte (b ∷ bs) ≡ true)
+bare_parts b bs h =
+    let both = and_parts (is_name_byte b && not (is_digit b)) (list_all is_name_byte bs) h in
+    let first = and_parts (is_name_byte b) (not (is_digit b)) both.0 in
+    (not_true (is_digit b) first.1, and_from (is_name_byte b) (list_all is_name_byte bs) first.0 both.1)
+
 bare_not : (n : Text) → is_bare n ≡ true → is_digits n ≡ false
 bare_not [] h = cc
-bare_not (b ∷ bs) h = by (is_digit b) refl
-  where
-    by : (d : Bool) → is_digit b ≡ d → is_digits (b ∷ bs) ≡ false
-    by true e = absurd cc
-    by false e = digits_not b bs e
+bare_not (b ∷ bs) h = digits_not b bs (bare_parts b bs h).0
 
 -- a name is written as no digits: a bare one begins with none, and others with a quote
 printed_not : (n : Text) → is_digits (printed_name n) ≡ false

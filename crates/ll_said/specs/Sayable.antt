@@ -6,7 +6,6 @@ use Rattle.support.specs.Interned.{IsDistinctList}
 use Rattle.llvm_core.specs.Data.{Placed, Block, Function, ModuleData}
 use Rattle.llvm_core.specs.Data as L
 use Rattle.llvm_core.specs.Form.{IsFormFunction, local_names}
-use Rattle.ll_literals.specs.Text.{Text}
 use Rattle.ll_literals.specs.Numbers.{number_limit}
 use Rattle.ll_said.specs.Naming.{unnamed_in}
 

@@ -1,7 +1,7 @@
 -- The names and numbers of a function have the forms of their tokens.
-use Rattle.std.proofs.Common.{◌≡◌, ◌<◌, ◌^◌, ℕ, Bool, true, false, cond, ◌&&◌, not, nat_eq, List, [], ◌∷◌, ◌++◌, drop, Some, refl, arith}
+use Rattle.std.proofs.Common.{◌≡◌, ◌<◌, ◌^◌, ℕ, Bool, true, false, cond, not, nat_eq, List, [], ◌∷◌, ◌++◌, drop, Some, refl, arith}
 use Rattle.std.specs.Prelude.{decimal}
-use Rattle.std.specs.List.{flat_map, find, list_all, AllByRecursion}
+use Rattle.std.specs.List.{flat_map, find, AllByRecursion}
 use Rattle.std.specs.Option.{option_map_or}
 use Rattle.std.specs.Str.{is_utf8}
 use Rattle.std.proofs.lemmas.Bool.{and_parts}
@@ -14,8 +14,7 @@ use Rattle.llvm_core.specs.Names.{is_plain, IsPlainOrNone}
 use Rattle.ll_lines.specs.Lines.{Text}
 use Rattle.ll_said.specs.Naming.{Unnamed, BlockOf, same_unnamed, unnamed_in, unnamed_number, local_text, result_name, block_name, block_ref}
 use Rattle.ll_said.specs.Sayable.{IsSayable}
-use Rattle.ll_spacing.specs.Forms.{IsText, IsName, IsString, quoted, AreDigits, AreNameBytes}
-use Rattle.ll_tokens.specs.Bytes.{is_digit, is_name_byte}
+use Rattle.ll_spacing.specs.Forms.{IsText, IsName, IsString, quoted, AreDigits}
 use Rattle.ll_tokens.specs.declared.kinds.Kind.TheVariants as K
 use Rattle.ll_literals.specs.Escapes.{escaped}
 use Rattle.ll_literals.specs.Names.{is_bare, is_name, global, label, printed_name, printed_text}
@@ -23,7 +22,7 @@ use Rattle.ll_literals.proofs.EscapeLaws.{escaped_open}
 use Rattle.ll_literals.proofs.TextBytes.{utf8_bytes}
 use Rattle.ll_written.specs.Writable.{IsLocal}
 use Rattle.ll_said.proofs.DecimalLaws.{IsDecimal-decimal}
-use Rattle.ll_said.proofs.NameLaws.{form_name}
+use Rattle.ll_said.proofs.NameLaws.{form_name, bare_parts}
 
 -- ---- names
 
@@ -33,12 +32,7 @@ string_form t h = quoted (escaped t) (escaped_open t (utf8_bytes t h))
 
 bare_form : (n : Text) → is_bare n ≡ true → IsName n
 bare_form [] e = absurd cc
-bare_form (b ∷ bs) e =
-    let both = and_parts (is_name_byte b && not (is_digit b)) (list_all is_name_byte bs) e in
-    let first = and_parts (is_name_byte b) (not (is_digit b)) both.0 in
-    let digit : is_digit b ≡ false = grind first.1 in
-    let all : AreNameBytes (b ∷ bs) = rw (first.0, both.1) refl in
-    IsName.bare b bs digit all
+bare_form (b ∷ bs) e = let parts = bare_parts b bs e in IsName.bare b bs parts.0 parts.1
 
 -- a name is written bare or between quotes
 printed_form : (n : Text) → is_name n ≡ true → IsName (printed_name n)
