@@ -27,6 +27,7 @@ use Rattle.llvm_core.specs.Data.{TypeTree, Operand, Function, type_at, trees_of,
 use Rattle.kinds.specs.Types.{result_of}
 use Rattle.llvm_core.specs.Form.{IsOperandOf, IsOperand, IsTarget, FitsEdges, IsFormInstruction, IsFormPlaced, IsFormBlock, IsFormFunction}
 use Rattle.llvm_core.proofs.DataLemmas.{within_at, block_of_number, inst_of_number, function_count}
+use Rattle.ll_literals.specs.Names.{printed_name}
 use Rattle.ll_print.specs.declared.numbers.Numbers.{Numbers}
 use Rattle.ll_print.specs.declared.places.Place.TheVariants as P
 use Rattle.ll_print.specs.Printing.{ParamAt, comma_text, type_text, local_text, head_text, params_text, blocks_text, function_text}
@@ -158,13 +159,13 @@ head_pieces o0 o1 o2 o3 o4 o5 define result space sigil name start e1 e2 e3 e4 e
 -- the pieces of what stands before the parameters one after the other
 pub head_put : (m : Module) (f : LLVMFunction) (returned : LLVMType) (name : List ℕ) (r : Result (Unit {0}) AllocError) (o0 o1 o2 o3 o4 o5 : List ℕ) → result_of (function_in m f).type ≡ type_at (trees_of m).types returned
     → option_map (λ (x : FunctionData). x.name) (slice_get m.functions f.0) ≡ Some name
-    → o1 ≡ o0 ++ codes "\ndefine " → o2 ≡ o1 ++ type_text (type_at (trees_of m).types returned) → o3 ≡ o2 ++ codes " @" → o4 ≡ o3 ++ name → OnOk r (o5 ≡ o4 ++ codes "(")
+    → o1 ≡ o0 ++ codes "\ndefine " → o2 ≡ o1 ++ type_text (type_at (trees_of m).types returned) → o3 ≡ o2 ++ codes " @" → o4 ≡ o3 ++ printed_name name → OnOk r (o5 ≡ o4 ++ codes "(")
     → OnOk r (o5 ≡ o0 ++ head_text (function_in m f))
 head_put m f returned name r o0 o1 o2 o3 o4 o5 result named e1 e2 e3 e4 e5 =
     let d = function_in m f in
     let name_is : name ≡ d.name = sym (read (λ (x : FunctionData). x.name) m.functions f.0 no_function name named) in
-    on_ok_weaker r (head_pieces o0 o1 o2 o3 o4 o5 (codes "\ndefine ") (type_text (result_of d.type)) (codes " ") (codes "@") d.name (codes "(")
-    e1 (e2 ∙ ap (λ (t : TypeTree). o1 ++ type_text t) (sym result)) e3 (e4 ∙ ap (λ (t : List ℕ). o3 ++ t) name_is)) e5
+    on_ok_weaker r (head_pieces o0 o1 o2 o3 o4 o5 (codes "\ndefine ") (type_text (result_of d.type)) (codes " ") (codes "@") (printed_name d.name) (codes "(")
+    e1 (e2 ∙ ap (λ (t : TypeTree). o1 ++ type_text t) (sym result)) e3 (e4 ∙ ap (λ (t : List ℕ). o3 ++ printed_name t) name_is)) e5
 
 -- the pieces of a function one after the other
 pub function_put : (m : Module) (f : LLVMFunction) (blocks : List LLVMBasicBlock) (r : Result (Unit {0}) AllocError) (o0 o1 o2 o3 o4 o5 : List ℕ)

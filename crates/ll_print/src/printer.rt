@@ -1,6 +1,7 @@
 //! Prints a module as LLVM text.
 
-ghost use Rattle.std.specs.Prelude.{◌≡◌, ◌≢◌, ◌++◌, [], OnOk, OnErr};
+ghost use Rattle.std.specs.Prelude.{◌≡◌, ◌≢◌, ◌++◌, true, [], OnOk, OnErr};
+ghost use Rattle.std.specs.Str.{is_utf8};
 ghost use Rattle.support.specs.Appended.{Keeps};
 ghost use Rattle.llvm_core.specs.Data.{data_of};
 ghost use Rattle.llvm_core.specs.Form.{IsForm, HasDistinctNames, HasFew};
@@ -34,6 +35,8 @@ fn put_module(alloc: Global, m: &LLVMModule, out: &mut Vec<u8>) -> Result<(), Al
     requires few { HasFew (data_of m.now) }
     ensures text { OnOk result (out.new.items ≡ out.old.items ++ module_text (data_of m.now)) }
     ensures kept { Keeps out.old.items out.new.items }
+    // The name is a &str.
+    ensures utf8 { is_utf8 m.now.name ≡ true }
     // A function with more unnamed things than there are numbers wants memory.
     ensures numbers { OnOk result (AreNumberable (data_of m.now)) }
 {
