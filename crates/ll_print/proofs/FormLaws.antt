@@ -1,12 +1,14 @@
 -- Blocks and instructions of a function of the form belong to it; its parameters are printed one after another.
-use Rattle.std.proofs.Common.{◌≡◌, ℕ, zero, suc, ◌+◌, ◌<◌, ◌≤◌, codes, List, [], ◌∷◌, ◌++◌, length, map, take, get_or, slice_get, Some, All, refl, ap, sym, ◌∙◌, subst, append_assoc, arith}
+use Rattle.std.proofs.Common.{◌≡◌, ℕ, zero, suc, ◌+◌, ◌<◌, ◌≤◌, codes, true, List, [], ◌∷◌, ◌++◌, length, map, take, get_or, slice_get, Some, All, refl, ap, sym, ◌∙◌, subst, append_assoc, arith}
 use Rattle.std.specs.Prelude.{OnOk, Result}
 use Rattle.std.specs.List.{flat_map, filter_map}
 use Rattle.std.specs.Option.{option_map}
+use Rattle.std.specs.Str.{IsUtf8, is_utf8}
 use Rattle.std.specs.declared.alloc.AllocError.{AllocError}
 use Rattle.std.proofs.lemmas.List.{append-nil, take_all}
 use Rattle.std.proofs.lemmas.Option.{slice_get-get_or, slice_get-map, same_Some}
 use Rattle.std.proofs.lemmas.Result.{on_ok_weaker}
+use Rattle.std.proofs.lemmas.Str.{is_utf8-from_IsUtf8}
 use Rattle.support.proofs.ListLaws.{item_there, flat_map-take_more, appended_twice}
 use Rattle.llvm_core.specs.declared.numbers.LLVMType.{LLVMType}
 use Rattle.llvm_core.specs.declared.numbers.LLVMFunction.{LLVMFunction}
@@ -184,6 +186,10 @@ function_put m f blocks r o0 o1 o2 o3 o4 o5 held within e1 e2 e3 e4 e5 =
     ok_two r o0 o4 o5 (head_text d ++ more ++ codes ") {\n" ++ lines) (codes "}\n") four e5
 
 -- ---- modules
+
+-- what is UTF-8 passes the test
+pub text_utf8 : {name n : List ℕ} → name ≡ n → IsUtf8 name → is_utf8 n ≡ true
+text_utf8 {name} same h = subst (λ (t : List ℕ). is_utf8 t ≡ true) same (is_utf8-from_IsUtf8 name h)
 
 -- what holds of each function of the data holds of that of a number
 pub function_has : (m : Module) (f : ℕ) (P : Function → Type 0) → All P (data_of m).functions → f < length m.functions → P (function_in m (record { 0 = f }))

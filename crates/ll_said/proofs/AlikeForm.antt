@@ -11,7 +11,7 @@ use Rattle.kinds.specs.Held.{is_void, IsHeld, IsHeldResult}
 use Rattle.kinds.specs.Rules.{ends, target_count, operand_count}
 use Rattle.kinds.specs.Table.{rule_of}
 use Rattle.kinds.specs.Typing.{fits_trees, typed}
-use Rattle.llvm_core.specs.Names.{is_plain, IsPlainOrNone}
+use Rattle.kinds.specs.Names.{is_good_name, is_intrinsic_name, IsGoodOrNone}
 use Rattle.llvm_core.specs.Data as L
 use Rattle.llvm_core.specs.Data.{TypeTree, VoidType, Operand, Constant, Parameter, Result, RowData, Instruction, Phi, Applied, Placed, Block, operand_type, param_type, placed_in}
 use Rattle.llvm_core.specs.Checked.{ends_in_only}
@@ -157,7 +157,7 @@ module _ (g h : L.Function) (alike : FunctionsAlike g h) (here : IsDistinctList 
   placed_form a b p q at pair form = record {
     instruction = subst (λ (t : TypeTree). IsFormInstruction h b t q.instruction) pair.type (form_alike a b p.type p.instruction q.instruction at pair.code form.instruction);
     held = subst IsHeldResult pair.type form.held;
-    name = subst IsPlainOrNone pair.name form.name;
+    name = subst IsGoodOrNone pair.name form.name;
     unnamed = λ void. sym pair.name ∙ form.unnamed (pair.type ∙ void);
   }
 
@@ -187,7 +187,7 @@ module _ (g h : L.Function) (alike : FunctionsAlike g h) (here : IsDistinctList 
 
   block_alike : (c d : Block) → BlocksAlike g h c d → IsFormBlock g c → IsFormBlock h d
   block_alike c d pair form = record {
-    label = subst IsPlainOrNone pair.name form.label;
+    label = subst IsGoodOrNone pair.name form.label;
     instructions = each_alike (PlacedAlike g h) (IsFormPlaced g c.number) (IsFormPlaced h d.number) (λ p q x s. placed_form c.number d.number p q pair.number x s) c.instructions d.instructions pair.instructions form.instructions;
     phis = phis_alike c.instructions d.instructions pair.instructions form.phis;
     ends = sym (ends_same (PlacedAlike g h) is_last (λ p q x. last_same p.instruction q.instruction x.code) c.instructions d.instructions pair.instructions) ∙ form.ends;
@@ -204,7 +204,8 @@ module _ (g h : L.Function) (alike : FunctionsAlike g h) (here : IsDistinctList 
   function_alike form =
       let count = ap (λ (ns : List (List ℕ)). length ns) alike.params in
       record {
-        name = ap is_plain (sym alike.name) ∙ form.name;
+        name = ap is_good_name (sym alike.name) ∙ form.name;
+        own = ap is_intrinsic_name (sym alike.name) ∙ form.own;
         result = form.result;
         types = form.types;
         type = sym alike.type ∙ form.type;
@@ -212,7 +213,7 @@ module _ (g h : L.Function) (alike : FunctionsAlike g h) (here : IsDistinctList 
         takes = form.takes;
         space = sym alike.space ∙ form.space;
         params = sym count ∙ form.params;
-        param_names = subst (λ (ns : List (List ℕ)). All IsPlainOrNone ns) alike.params form.param_names;
+        param_names = subst (λ (ns : List (List ℕ)). All IsGoodOrNone ns) alike.params form.param_names;
         body = λ none. form.body (no_blocks g.blocks h.blocks alike.blocks none);
         blocks = each_alike (BlocksAlike g h) (IsFormBlock g) (IsFormBlock h) block_alike g.blocks h.blocks alike.blocks form.blocks;
         block_numbers = there;

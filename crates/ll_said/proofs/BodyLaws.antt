@@ -4,7 +4,7 @@ use Rattle.std.specs.List.{flat_map, AllByRecursion}
 use Rattle.std.proofs.lemmas.List.{append-nil, length-map}
 use Rattle.kinds.specs.Types.{TypeTree}
 use Rattle.kinds.specs.Held.{is_void, own_type}
-use Rattle.llvm_core.specs.Names.{IsPlainOrNone}
+use Rattle.kinds.specs.Names.{IsGoodOrNone}
 use Rattle.llvm_core.specs.Data.{Result, Placed, Block, Function, operand_type}
 use Rattle.ll_literals.specs.Text.{Text}
 use Rattle.ll_literals.specs.Names.{label}
@@ -26,35 +26,35 @@ use Rattle.ll_said.proofs.TypeLaws.{type_said}
 
 -- ---- parameters
 
-pub params_define : (f : Function) → IsSayable f → (done rest : List Thing) (i : ℕ) (ns : List Text) → things f ≡ done ++ (param_things i ns ++ rest) → AllByRecursion IsPlainOrNone ns
+pub params_define : (f : Function) → IsSayable f → (done rest : List Thing) (i : ℕ) (ns : List Text) → things f ≡ done ++ (param_things i ns ++ rest) → AllByRecursion IsGoodOrNone ns
     → params_scope (scope_after f done) f.number i (params_of f i ns) ≡ Some (scope_after f (done ++ param_things i ns))
-params_define f h done rest i [] whole plain = ap (λ (ts : List Thing). Some (scope_after f ts)) (sym (append-nil done))
-params_define f h done rest i (n ∷ ns) whole plain =
+params_define f h done rest i [] whole good = ap (λ (ts : List Thing). Some (scope_after f ts)) (sym (append-nil done))
+params_define f h done rest i (n ∷ ns) whole good =
     let t : Thing = record { name = n; place = ParamAt i } in
-    let def = defines f h done (param_things (suc i) ns ++ rest) t local_key (local_text f n (ParamAt i)) whole (local_says f n (ParamAt i) h.few plain.0) in
+    let def = defines f h done (param_things (suc i) ns ++ rest) t local_key (local_text f n (ParamAt i)) whole (local_says f n (ParamAt i) h.few good.0) in
     let later : things f ≡ (done ++ t ∷ []) ++ (param_things (suc i) ns ++ rest) = whole ∙ sym (append_assoc done (t ∷ []) (param_things (suc i) ns ++ rest)) in
     ap (λ (o : Option Scope). o >>= λ (u : Scope). params_scope u f.number (suc i) (params_of f (suc i) ns)) def
-    ∙ params_define f h (done ++ t ∷ []) rest (suc i) ns later plain.1
+    ∙ params_define f h (done ++ t ∷ []) rest (suc i) ns later good.1
     ∙ ap (λ (ts : List Thing). Some (scope_after f ts)) (append_assoc done (t ∷ []) (param_things (suc i) ns))
 
 -- ---- results
 
-valued_defines : (f : Function) → IsSayable f → (done rest : List Thing) (type : TypeTree) (p : Placed) → things f ≡ done ++ (thing_of p ∷ rest) → IsPlainOrNone p.name → operand_type f (Result p.number) ≡ type
+valued_defines : (f : Function) → IsSayable f → (done rest : List Thing) (type : TypeTree) (p : Placed) → things f ≡ done ++ (thing_of p ∷ rest) → IsGoodOrNone p.name → operand_type f (Result p.number) ≡ type
     → define_written (scope_after f done) (ValueLocal (Result p.number) type) local_key (Some (local_text f p.name (ResultOf p.number))) ≡ Some (scope_after f (done ++ thing_of p ∷ []))
-valued_defines f h done rest type p whole plain typed =
+valued_defines f h done rest type p whole good typed =
     let text = local_text f p.name (ResultOf p.number) in
     ap (λ (τ : TypeTree). define_written (scope_after f done) (ValueLocal (Result p.number) τ) local_key (Some text)) (sym typed)
-    ∙ defines f h done rest (thing_of p) local_key text whole (local_says f p.name (ResultOf p.number) h.few plain)
+    ∙ defines f h done rest (thing_of p) local_key text whole (local_says f p.name (ResultOf p.number) h.few good)
 
 -- a result, where there is one
-result_defines : (f : Function) → IsSayable f → (done rest : List Thing) (p : Placed) → things f ≡ done ++ (result_thing p ++ rest) → IsPlainOrNone p.name → operand_type f (Result p.number) ≡ p.type
+result_defines : (f : Function) → IsSayable f → (done rest : List Thing) (p : Placed) → things f ≡ done ++ (result_thing p ++ rest) → IsGoodOrNone p.name → operand_type f (Result p.number) ≡ p.type
     → result_scope (scope_after f done) p.number (own_type p.type) (gives_of f p.type p) ≡ Some (scope_after f (done ++ result_thing p))
-result_defines f h done rest p whole plain typed = by (is_void p.type) whole
+result_defines f h done rest p whole good typed = by (is_void p.type) whole
   where
     by : (v : Bool) → things f ≡ done ++ ((if v then [] else thing_of p ∷ []) ++ rest)
         → result_scope (scope_after f done) p.number (if v then None else Some p.type) (if v then None else Some (local_text f p.name (ResultOf p.number))) ≡ Some (scope_after f (done ++ (if v then [] else thing_of p ∷ [])))
     by true whole = ap (λ (ts : List Thing). Some (scope_after f ts)) (sym (append-nil done))
-    by false whole = valued_defines f h done rest p.type p whole plain typed
+    by false whole = valued_defines f h done rest p.type p whole good typed
 
 line_defines : (f : Function) → IsSayable f → (done rest : List Thing) (n : ℕ) (p : Placed) → things f ≡ done ++ (result_thing p ++ rest) → IsLine f p → p.number ≡ n
     → result_scope (scope_after f done) n (result_type (inst_of f p.type p.instruction)) (gives_of f p.type p) ≡ Some (scope_after f (done ++ result_thing p))
@@ -80,7 +80,7 @@ lines_define f h done rest n (p ∷ ps) whole lines numbered =
 -- a block of the function
 pub record IsBody (f : Function) (b : Block) : Type 0 where
   pub ref : block_ref f b.number ≡ local_text f b.name (BlockOf b.number)
-  pub label : IsPlainOrNone b.name
+  pub label : IsGoodOrNone b.name
   pub lines : AllByRecursion (IsLine f) b.instructions
 
 -- what is written of the name of a block says its key

@@ -3,7 +3,7 @@ use Rattle.std.proofs.Common.{◌≡◌, ℕ, suc, ◌+◌, false, List, [], ◌
 use Rattle.std.specs.List.{flat_map, AllByRecursion}
 use Rattle.kinds.specs.Types.{TypeTree, FunctionType, TypeTrees, NoTypes, ThenType, count_types, result_of}
 use Rattle.support.proofs.ListLaws.{in_joined}
-use Rattle.llvm_core.specs.Names.{IsPlainOrNone}
+use Rattle.kinds.specs.Names.{IsGoodOrNone}
 use Rattle.llvm_core.specs.Data.{Placed, Block, Function, nth_type, param_type}
 use Rattle.llvm_core.specs.Form.{IsFormPlaced, IsFormBlock}
 use Rattle.llvm_core.proofs.DataLemmas.{within_at}
@@ -47,15 +47,15 @@ ends_all f h = all_at EndsBlock f.blocks (λ i c at. ends_in c.instructions (wit
 
 -- ---- parameters
 
-params_plain : (f : Function) → IsSayable f → AllByRecursion IsPlainOrNone f.params
-params_plain f h = all_at IsPlainOrNone f.params (λ i n at. within_at f.params IsPlainOrNone h.form.param_names i n at)
+params_good : (f : Function) → IsSayable f → AllByRecursion IsGoodOrNone f.params
+params_good f h = all_at IsGoodOrNone f.params (λ i n at. within_at f.params IsGoodOrNone h.form.param_names i n at)
 
 -- the names that are said of parameters
-names_said : (f : Function) → IsSayable f → (i : ℕ) (ns : List Text) → AllByRecursion IsPlainOrNone ns → map (λ (p : Param). written_name local_key p.name) (params_of f i ns) ≡ ns
-names_said f h i [] plain = refl
-names_said f h i (n ∷ ns) plain =
-    let here = name_said f h n (ParamAt i) local_key (local_text f n (ParamAt i)) (local_says f n (ParamAt i) h.few plain.0) in
-    let later = names_said f h (suc i) ns plain.1 in
+names_said : (f : Function) → IsSayable f → (i : ℕ) (ns : List Text) → AllByRecursion IsGoodOrNone ns → map (λ (p : Param). written_name local_key p.name) (params_of f i ns) ≡ ns
+names_said f h i [] good = refl
+names_said f h i (n ∷ ns) good =
+    let here = name_said f h n (ParamAt i) local_key (local_text f n (ParamAt i)) (local_says f n (ParamAt i) h.few good.0) in
+    let later = names_said f h (suc i) ns good.1 in
     ap (λ (m : Text). m ∷ map (λ (p : Param). written_name local_key p.name) (params_of f (suc i) ns)) here ∙ ap (λ (ms : List Text). n ∷ ms) later
 
 -- and their types
@@ -95,7 +95,7 @@ function_by : (f b n : ℕ) (x : L.Function) (name : Text) (said : List SaidBloc
 function_by f b n x name said s t blocks named cut params defined read = rw (named, cut, params, defined, read) refl
 
 same_function : (f : ℕ) (x : Function) → IsSayable x → x.number ≡ f → made f (function_of x) x.name x.blocks ≡ x
-same_function f x h numbered = parts f (FunctionType (result_of x.type) (types_of (params_of x 0 x.params)) false) 0 (map (λ (p : Param). written_name local_key p.name) (params_of x 0 x.params)) numbered (type_said x h) h.form.space (names_said x h 0 x.params (params_plain x h))
+same_function f x h numbered = parts f (FunctionType (result_of x.type) (types_of (params_of x 0 x.params)) false) 0 (map (λ (p : Param). written_name local_key p.name) (params_of x 0 x.params)) numbered (type_said x h) h.form.space (names_said x h 0 x.params (params_good x h))
   where
     parts : (number : ℕ) (type : TypeTree) (space : ℕ) (params : List Text) → x.number ≡ number → type ≡ x.type → x.space ≡ space → params ≡ x.params
         → ◌≡◌ {A = Function} (record { number = number; name = x.name; type = type; space = space; params = params; blocks = x.blocks }) x
@@ -111,7 +111,7 @@ blocks_said f b n x h numbered c cs only are =
     let all : AreCountedBlocks b n (c ∷ cs) = subst (AreCountedBlocks b n) only are in
     let said = said_entry x c ∷ map (said_block x) cs in
     let cut : blocks_of (parts_of x x.blocks) ≡ Some said = ap (λ (bs : List Block). blocks_of (parts_of x bs)) only ∙ parts_cut x c cs ends.0 ends.1 in
-    let defined = params_define x h [] (flat_map block_things x.blocks) 0 x.params refl (params_plain x h) in
+    let defined = params_define x h [] (flat_map block_things x.blocks) 0 x.params refl (params_good x h) in
     let from : params_scope empty_scope f 0 (params_of x 0 x.params) ≡ Some (scope_after x params) = subst (λ (k : ℕ). params_scope empty_scope k 0 (params_of x 0 x.params) ≡ Some (scope_after x params)) numbered defined in
     let read : blocks_data (scope_of x) b n said ≡ Some x.blocks = body_says x h b n c cs body.0 body.1 all ∙ ap (λ (bs : List Block). Some bs) (sym only) in
     function_by f b n (function_of x) x.name said (scope_after x params) (scope_of x) x.blocks (global_says x.name h.form.name) cut from (body_defines x h params b n c cs whole body.0 body.1 all) read

@@ -5,7 +5,7 @@ use Rattle.std.specs.Option.{option_map, option_map_or}
 use Rattle.std.proofs.lemmas.Option.{slice_get-map, same_Some}
 use Rattle.support.specs.Interned.{IsDistinctList}
 use Rattle.support.proofs.ListLaws.{from_joined}
-use Rattle.llvm_core.specs.Names.{IsPlainOrNone}
+use Rattle.kinds.specs.Names.{IsGoodOrNone}
 use Rattle.llvm_core.specs.Data.{VoidType, Parameter, Result, Placed, Block, Function, operand_type, placed_in, param_type}
 use Rattle.llvm_core.specs.Form.{IsFormPlaced, IsFormBlock, IsFormFunction}
 use Rattle.llvm_core.proofs.DataLemmas.{within_at}
@@ -40,7 +40,7 @@ form_at f h i p at =
     let block = within_at f.blocks (IsFormBlock f) h.blocks s.0 s.2 s.3 in
     (s.2.number, within_at s.2.instructions (IsFormPlaced f s.2.number) block.instructions s.1 p s.4)
 
-pub placed_name : (f : Function) → IsFormFunction f → (i : ℕ) (p : Placed) → slice_get (placed_in f) i ≡ Some p → IsPlainOrNone p.name
+pub placed_name : (f : Function) → IsFormFunction f → (i : ℕ) (p : Placed) → slice_get (placed_in f) i ≡ Some p → IsGoodOrNone p.name
 placed_name f h i p at = (form_at f h i p at).1.name
 
 names_results : (f : Function) → IsFormFunction f → AllNameResults f.blocks

@@ -7,7 +7,7 @@ use Rattle.kinds.specs.Held.{is_void, IsHeld}
 use Rattle.kinds.proofs.HeldLaws.{void_is, held_own}
 use Rattle.llvm_core.specs.Data.{Operand, RowData, Instruction, Phi, Applied, Placed, Function, operand_type, placed_in}
 use Rattle.llvm_core.specs.Form.{IsOperand, IsOperandOf, IsTarget, types_of, IsFormRow, IsFormInstruction, IsFormPlaced}
-use Rattle.llvm_core.specs.Names.{IsPlainOrNone}
+use Rattle.kinds.specs.Names.{IsGoodOrNone}
 use Rattle.llvm_core.proofs.DataLemmas.{within_at}
 use Rattle.std.proofs.lemmas.Option.{slice_get-map}
 use Rattle.std.specs.Option.{option_map}
@@ -57,11 +57,11 @@ pub name_said : (f : Function) → IsSayable f → (n : Text) (x : Unnamed) (key
 name_said f h [] x key t says = ap key_name says
 name_said f h (c ∷ cs) x key t says = ap key_name says
 
-gives_said : (f : Function) → IsSayable f → (type : TypeTree) (p : Placed) → IsPlainOrNone p.name → (type ≡ VoidType → p.name ≡ []) → written_name local_key (gives_of f type p) ≡ p.name
-gives_said f h type p plain none =
+gives_said : (f : Function) → IsSayable f → (type : TypeTree) (p : Placed) → IsGoodOrNone p.name → (type ≡ VoidType → p.name ≡ []) → written_name local_key (gives_of f type p) ≡ p.name
+gives_said f h type p good none =
     let text = local_text f p.name (ResultOf p.number) in
     cond_both (is_void type) None (Some text) (λ (w : Option Text). written_name local_key w ≡ p.name) (λ e. sym (none (void_is type e)))
-    (λ e. name_said f h p.name (ResultOf p.number) local_key text (local_says f p.name (ResultOf p.number) h.few plain))
+    (λ e. name_said f h p.name (ResultOf p.number) local_key text (local_says f p.name (ResultOf p.number) h.few good))
 
 -- ---- lines
 

@@ -1,18 +1,16 @@
 -- Names and numbers as they are written, and the keys that they say.
-use Rattle.std.proofs.Common.{◌≡◌, ℕ, ◌-◌, ◌≤◌, Bool, true, false, not, ◌&&◌, ◌||◌, ◌==◌, nat_eq, [], ◌∷◌, ◌++◌, length, length-append, take, drop, Some, refl, ap, sym, ◌∙◌, subst, ne_eqb, arith}
+use Rattle.std.proofs.Common.{◌≡◌, ℕ, ◌-◌, ◌≤◌, Bool, true, false, not, ◌&&◌, ◌==◌, [], ◌∷◌, ◌++◌, length, length-append, take, drop, Some, refl, ap, sym, ◌∙◌, subst, ne_eqb, arith}
 use Rattle.std.specs.Prelude.{decimal}
 use Rattle.std.specs.List.{list_all}
 use Rattle.std.specs.Str.{is_utf8}
 use Rattle.std.proofs.lemmas.Bool.{and_parts, and_from}
 use Rattle.std.proofs.lemmas.List.{take_at}
-use Rattle.llvm_core.proofs.FormNames.{letter_digit}
-use Rattle.llvm_core.specs.Names.{is_digit, is_letter, is_plain_byte, is_plain, IsPlainOrNone}
+use Rattle.kinds.specs.Names.{is_digit, is_good_name, IsGoodOrNone}
 use Rattle.llvm_core.specs.Data.{Function}
 use Rattle.ll_literals.specs.Text.{Text}
 use Rattle.ll_literals.specs.Escapes.{escaped}
 use Rattle.ll_literals.specs.Names.{is_name_byte, is_bare, is_name, global, label, printed_name}
 use Rattle.ll_literals.specs.Numbers.{number_of, number_limit, is_digits}
-use Rattle.ll_literals.proofs.NameLaws.{bare_is_name}
 use Rattle.ll_literals.proofs.QuoteLaws.{name_says, text_says}
 use Rattle.ll_bodies.specs.Scopes.{Key, Named, Numbered, key_of, local_key, label_key, global_name}
 use Rattle.ll_bodies.specs.Meaning.{source_name}
@@ -20,35 +18,6 @@ use Rattle.ll_said.specs.Naming.{Unnamed, unnamed_number, unnamed_in, local_text
 use Rattle.ll_said.specs.Said.{source_of}
 use Rattle.ll_said.proofs.DecimalLaws.{IsDecimal, IsDecimal-decimal}
 use Rattle.ll_said.proofs.PositionLaws.{position_le}
-
--- ---- names of the form
-
-letter_name : (b : ℕ) → is_letter b ≡ true → is_name_byte b ≡ true
-letter_name b h = rw h refl
-
-plain_byte : (b : ℕ) → is_plain_byte b ≡ true → is_name_byte b ≡ true
-plain_byte b h = by (is_letter b) (is_digit b) refl refl h
-  where
-    by : (l d : Bool) → is_letter b ≡ l → is_digit b ≡ d → (l || d || nat_eq b 95) ≡ true → is_name_byte b ≡ true
-    by true d el ed h = rw el refl
-    by false true el ed h = rw (el, ed) refl
-    by false false el ed h = rw (el, ed, h) (grind arith)
-
-all_names : (bs : Text) → list_all is_plain_byte bs ≡ true → list_all is_name_byte bs ≡ true
-all_names [] h = refl
-all_names (b ∷ bs) h =
-    let parts = and_parts (is_plain_byte b) (list_all is_plain_byte bs) h in
-    and_from (is_name_byte b) (list_all is_name_byte bs) (plain_byte b parts.0) (all_names bs parts.1)
-
-plain_bare : (t : Text) → is_plain t ≡ true → is_bare t ≡ true
-plain_bare [] h = cc
-plain_bare (b ∷ bs) h =
-    let parts = and_parts (is_letter b) (list_all is_plain_byte bs) h in
-    rw (letter_name b parts.0, letter_digit b parts.0, all_names bs parts.1) refl
-
--- What the form takes for a name is one. No other law asks what the form asks of names.
-pub form_name : (n : Text) → is_plain n ≡ true → is_name n ≡ true
-form_name n h = bare_is_name n (plain_bare n h)
 
 -- ---- keys
 
@@ -106,20 +75,20 @@ abbrev pub key_in : Function → Text → Unnamed → Key
 key_in f [] x = Numbered (unnamed_number f x)
 key_in f (b ∷ bs) x = Named (b ∷ bs)
 
-pub local_says : (f : Function) (n : Text) (x : Unnamed) → length (unnamed_in f) ≤ number_limit → IsPlainOrNone n → local_key (local_text f n x) ≡ Some (key_in f n x)
+pub local_says : (f : Function) (n : Text) (x : Unnamed) → length (unnamed_in f) ≤ number_limit → IsGoodOrNone n → local_key (local_text f n x) ≡ Some (key_in f n x)
 local_says f [] x few h = key_of_digits (decimal (unnamed_number f x)) (unnamed_number f x) (number_text f x few)
-local_says f (b ∷ bs) x few h = key_of_name (b ∷ bs) (form_name (b ∷ bs) h)
+local_says f (b ∷ bs) x few h = key_of_name (b ∷ bs) h
 
 -- ---- labels and global names
 
 label_front : (n : Text) → take (length (label n) - 1) (label n) ≡ n
 label_front n = let e : length (label n) - 1 ≡ length n = omega (arith, length-append n (58 ∷ [])) in rw e (take_at n (58 ∷ []) (length n) refl)
 
-pub label_says : (f : Function) (n : Text) (x : Unnamed) → length (unnamed_in f) ≤ number_limit → IsPlainOrNone n → label_key (label (drop 1 (local_text f n x))) ≡ Some (key_in f n x)
-label_says f n x few plain = ap key_of (label_front (drop 1 (local_text f n x))) ∙ local_says f n x few plain
+pub label_says : (f : Function) (n : Text) (x : Unnamed) → length (unnamed_in f) ≤ number_limit → IsGoodOrNone n → label_key (label (drop 1 (local_text f n x))) ≡ Some (key_in f n x)
+label_says f n x few good = ap key_of (label_front (drop 1 (local_text f n x))) ∙ local_says f n x few good
 
-pub global_says : (n : Text) → is_plain n ≡ true → global_name (global (printed_name n)) ≡ Some n
-global_says n h = let digits = printed_not n in let says = name_says n (form_name n h) in cc
+pub global_says : (n : Text) → is_good_name n ≡ true → global_name (global (printed_name n)) ≡ Some n
+global_says n h = let digits = printed_not n in let says = name_says n h in cc
 
 -- ---- the name of a module
 

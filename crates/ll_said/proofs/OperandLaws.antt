@@ -6,7 +6,7 @@ use Rattle.kinds.specs.Types.{TypeTree, VoidType}
 use Rattle.kinds.specs.Held.{is_void}
 use Rattle.kinds.proofs.TypeLaws.{tree_self}
 use Rattle.kinds.proofs.HeldLaws.{held_own}
-use Rattle.llvm_core.specs.Names.{IsPlainOrNone}
+use Rattle.kinds.specs.Names.{IsGoodOrNone}
 use Rattle.llvm_core.specs.Data.{Operand, Constant, Parameter, Result, Placed, Block, Function, operand_type, placed_in, param_type, const_type}
 use Rattle.llvm_core.specs.Form.{IsOperandOf, IsOperand, IsFormBlock}
 use Rattle.llvm_core.proofs.DataLemmas.{within_at}
@@ -24,9 +24,9 @@ use Rattle.ll_said.proofs.KnownLaws.{scope_of, placed_name, type_of_result, name
 
 -- ---- values
 
-local_value : (f : Function) → IsSayable f → (n : Text) (x : Unnamed) (o : Operand) (τ : TypeTree) → IsPlainOrNone n → (scope_of f).known (key_in f n x) ≡ Some (ValueLocal o τ)
+local_value : (f : Function) → IsSayable f → (n : Text) (x : Unnamed) (o : Operand) (τ : TypeTree) → IsGoodOrNone n → (scope_of f).known (key_in f n x) ≡ Some (ValueLocal o τ)
     → operand (scope_of f) τ (Local (local_text f n x)) ≡ Some o
-local_value f h n x o τ plain known = rw (local_says f n x h.few plain, known, tree_self τ) refl
+local_value f h n x o τ good known = rw (local_says f n x h.few good, known, tree_self τ) refl
 
 result_said : (f : Function) → IsSayable f → (i : ℕ) (p : Placed) → slice_get (placed_in f) i ≡ Some p → is_void p.type ≡ false
     → operand (scope_of f) (operand_type f (Result p.number)) (said_of f (Result p.number)) ≡ Some (Result p.number)
@@ -61,12 +61,12 @@ operand_said f h (Result n) stands some =
 
 block_here : (f : Function) → IsSayable f → (i : ℕ) (b : Block) → slice_get f.blocks i ≡ Some b → block_of (scope_of f) (block_ref f b.number) ≡ Some b.number
 block_here f h i b at =
-    let plain = (within_at f.blocks (IsFormBlock f) h.form.blocks i b at).label in
+    let good = (within_at f.blocks (IsFormBlock f) h.form.blocks i b at).label in
     let has = has_behind (block_thing b) (param_things 0 f.params) (flat_map block_things f.blocks) (has_block f.blocks i b at) in
-    ap (block_of (scope_of f)) (block_ref_is f h.form i b at) ∙ local_block b.name b.number plain (known_key f h (block_thing b) has)
+    ap (block_of (scope_of f)) (block_ref_is f h.form i b at) ∙ local_block b.name b.number good (known_key f h (block_thing b) has)
   where
-    local_block : (n : Text) (k : ℕ) → IsPlainOrNone n → (scope_of f).known (key_in f n (BlockOf k)) ≡ Some (BlockLocal k) → block_of (scope_of f) (local_text f n (BlockOf k)) ≡ Some k
-    local_block n k plain known = rw (local_says f n (BlockOf k) h.few plain, known) refl
+    local_block : (n : Text) (k : ℕ) → IsGoodOrNone n → (scope_of f).known (key_in f n (BlockOf k)) ≡ Some (BlockLocal k) → block_of (scope_of f) (local_text f n (BlockOf k)) ≡ Some k
+    local_block n k good known = rw (local_says f n (BlockOf k) h.few good, known) refl
 
 -- a block of the function
 pub block_said : (f : Function) → IsSayable f → (n : ℕ) → HasBlockNumber n f.blocks → block_of (scope_of f) (block_ref f n) ≡ Some n

@@ -10,7 +10,7 @@ use Rattle.kinds.proofs.HeldLaws.{held_first_class, held_result_returned}
 use Rattle.llvm_core.specs.Checked.{ends_in_only}
 use Rattle.llvm_core.specs.Data.{Placed, Block, Function, ModuleData, nth_type, param_type}
 use Rattle.llvm_core.specs.Form.{is_last, IsFormPlaced, IsFormBlock}
-use Rattle.llvm_core.specs.Names.{IsPlainOrNone}
+use Rattle.kinds.specs.Names.{IsGoodOrNone}
 use Rattle.ll_lines.specs.Lines as L
 use Rattle.ll_lines.specs.Lines.{Text, Part}
 use Rattle.ll_said.specs.Naming.{ParamAt}
@@ -41,7 +41,7 @@ module _ (f : Function) (sayable : IsSayable f) where
       let held = nth_held form.types i (recursion_from_All IsHeld (types_list form.types) form.takes) (omega (arith, within, form.params)) in
       subst (λ (τ : TypeTree). IsFirstClass (param_type τ i)) (sym form.type) (held_first_class (nth_type form.types i) held)
 
-  params_form : (i : ℕ) (ns : List Text) → i + length ns ≤ length f.params → AllByRecursion IsPlainOrNone ns → AllByRecursion IsParam (params_of f i ns)
+  params_form : (i : ℕ) (ns : List Text) → i + length ns ≤ length f.params → AllByRecursion IsGoodOrNone ns → AllByRecursion IsParam (params_of f i ns)
   params_form i [] within all = tt
   params_form i (n ∷ ns) within all = (record { type = type_form i (omega (arith, within)); name = local_form f sayable n (ParamAt i) all.0 }, params_form (suc i) ns (omega (arith, within)) all.1)
 
@@ -83,7 +83,7 @@ module _ (f : Function) (sayable : IsSayable f) where
       record {
         result = subst (λ (τ : TypeTree). IsReturned (result_of τ)) (sym form.type) (held_result_returned form.result form.returns);
         name = global_form f.name form.name;
-        params = params_form 0 f.params (omega arith) (recursion_from_All IsPlainOrNone f.params form.param_names);
+        params = params_form 0 f.params (omega arith) (recursion_from_All IsGoodOrNone f.params form.param_names);
         body = body_form f.blocks blocks;
         some = some_form f.blocks blocks form.body;
       }

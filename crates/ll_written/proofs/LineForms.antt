@@ -14,7 +14,7 @@ use Rattle.kinds.specs.Typing.{fits_trees, given, typed}
 use Rattle.kinds.proofs.HeldLaws.{value_own, held_first_class, held_result_own}
 use Rattle.llvm_core.specs.Data.{IntConst, PlaceholderConst, Operand, Constant, Parameter, Result, RowData, Instruction, Phi, Applied, Placed, Function, operand_type}
 use Rattle.llvm_core.specs.Form.{IsOperandOf, IsOperand, IsFormRow, IsFormInstruction, IsFormPlaced, types_of, returns_void}
-use Rattle.llvm_core.specs.Names.{IsPlainOrNone}
+use Rattle.kinds.specs.Names.{IsGoodOrNone}
 use Rattle.ll_said.specs.Naming.{ParamAt, ResultOf, local_text, result_name, block_ref}
 use Rattle.ll_said.specs.Said.{said_of, typed_of, entry_of, row_of, inst_of, line_of}
 use Rattle.ll_said.specs.Sayable.{IsSayable}
@@ -84,9 +84,9 @@ module _ (f : Function) (sayable : IsSayable f) where
   inst_form n type (Phi es) h held = (held_first_class type h.2, entries_form f sayable type es (recursion_from_All (λ (e : Operand × ℕ). IsOperand f type e.0) es h.0), some_mapped (entry_of f) es h.1.some)
   inst_form n type (Applied r) h held = row_form type r h held
 
-  gives_by : (v : Bool) (p : Placed) → IsPlainOrNone p.name → IfSome (cond v None (Some (local_text f p.name (ResultOf p.number)))) IsLocal
-  gives_by true p plain = tt
-  gives_by false p plain = local_form f sayable p.name (ResultOf p.number) plain
+  gives_by : (v : Bool) (p : Placed) → IsGoodOrNone p.name → IfSome (cond v None (Some (local_text f p.name (ResultOf p.number)))) IsLocal
+  gives_by true p good = tt
+  gives_by false p good = local_form f sayable p.name (ResultOf p.number) good
 
   pub line_form : (n : ℕ) (p : Placed) → IsFormPlaced f n p → IsLine (line_of f p)
   line_form n p h = record { result = gives_by (is_void p.type) p h.name; inst = inst_form n p.type p.instruction h.instruction h.held }

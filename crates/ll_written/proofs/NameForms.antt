@@ -10,7 +10,7 @@ use Rattle.std.proofs.lemmas.List.Sums.{prefix_len-le-length}
 use Rattle.llvm_core.specs.Data.{Placed, Block, Function, placed_in}
 use Rattle.llvm_core.specs.Form.{IsFormPlaced, IsFormBlock}
 use Rattle.llvm_core.specs.Checked.{is_bad_name}
-use Rattle.llvm_core.specs.Names.{is_plain, IsPlainOrNone}
+use Rattle.kinds.specs.Names.{is_good_name, IsGoodOrNone}
 use Rattle.ll_lines.specs.Lines.{Text}
 use Rattle.ll_said.specs.Naming.{Unnamed, BlockOf, same_unnamed, unnamed_in, unnamed_number, local_text, result_name, block_name, block_ref}
 use Rattle.ll_said.specs.Sayable.{IsSayable}
@@ -22,7 +22,7 @@ use Rattle.ll_literals.proofs.EscapeLaws.{escaped_open}
 use Rattle.ll_literals.proofs.TextBytes.{utf8_bytes}
 use Rattle.ll_written.specs.Writable.{IsLocal}
 use Rattle.ll_said.proofs.DecimalLaws.{IsDecimal-decimal}
-use Rattle.ll_said.proofs.NameLaws.{form_name, bare_parts}
+use Rattle.ll_said.proofs.NameLaws.{bare_parts}
 
 -- ---- names
 
@@ -42,8 +42,8 @@ printed_form n h = by (is_bare n) refl
     by true e = rw e (bare_form n e)
     by false e = rw e (IsName.string (printed_text n) (string_form n (and_parts (not (is_bad_name n)) (is_utf8 n) h).1))
 
-pub global_form : (n : Text) → is_plain n ≡ true → IsText K.Global (global (printed_name n))
-global_form n e = IsText.global (printed_name n) (printed_form n (form_name n e))
+pub global_form : (n : Text) → is_good_name n ≡ true → IsText K.Global (global (printed_name n))
+global_form n e = IsText.global (printed_name n) (printed_form n e)
 
 -- ---- numbers
 
@@ -57,48 +57,48 @@ module _ (f : Function) (sayable : IsSayable f) where
   small : (x : Unnamed) → unnamed_number f x < 2 ^ 64
   small x = omega (arith, prefix_len-le-length (λ (y : Unnamed). not (same_unnamed x y)) (unnamed_in f), sayable.few)
 
-  local_name : (n : Text) (x : Unnamed) → IsPlainOrNone n → IsName (drop 1 (local_text f n x))
-  local_name [] x plain = number_name (unnamed_number f x) (small x)
-  local_name (b ∷ bs) x plain = printed_form (b ∷ bs) (form_name (b ∷ bs) plain)
+  local_name : (n : Text) (x : Unnamed) → IsGoodOrNone n → IsName (drop 1 (local_text f n x))
+  local_name [] x good = number_name (unnamed_number f x) (small x)
+  local_name (b ∷ bs) x good = printed_form (b ∷ bs) good
 
-  pub local_form : (n : Text) (x : Unnamed) → IsPlainOrNone n → IsLocal (local_text f n x)
-  local_form [] x plain = IsText.local (decimal (unnamed_number f x)) (number_name (unnamed_number f x) (small x))
-  local_form (b ∷ bs) x plain = IsText.local (printed_name (b ∷ bs)) (local_name (b ∷ bs) x plain)
+  pub local_form : (n : Text) (x : Unnamed) → IsGoodOrNone n → IsLocal (local_text f n x)
+  local_form [] x good = IsText.local (decimal (unnamed_number f x)) (number_name (unnamed_number f x) (small x))
+  local_form (b ∷ bs) x good = IsText.local (printed_name (b ∷ bs)) (local_name (b ∷ bs) x good)
 
   -- ---- of what has that number
 
-  named_found : {A : Type 0} (name : A → Text) (p : A → Bool) (xs : List A) → AllByRecursion (λ x. IsPlainOrNone (name x)) xs → IsPlainOrNone (option_map_or name (find p xs) [])
+  named_found : {A : Type 0} (name : A → Text) (p : A → Bool) (xs : List A) → AllByRecursion (λ x. IsGoodOrNone (name x)) xs → IsGoodOrNone (option_map_or name (find p xs) [])
   named_found name p [] all = tt
   named_found name p (x ∷ xs) all = by (p x) all.0 (named_found name p xs all.1)
     where
-      by : (b : Bool) → IsPlainOrNone (name x) → IsPlainOrNone (option_map_or name (find p xs) []) → IsPlainOrNone (option_map_or name (cond b (Some x) (find p xs)) [])
+      by : (b : Bool) → IsGoodOrNone (name x) → IsGoodOrNone (option_map_or name (find p xs) []) → IsGoodOrNone (option_map_or name (cond b (Some x) (find p xs)) [])
       by true here others = here
       by false here others = others
 
   abbrev blocks : AllByRecursion (IsFormBlock f) f.blocks
   blocks = recursion_from_All (IsFormBlock f) f.blocks sayable.form.blocks
 
-  block_names : (bs : List Block) → AllByRecursion (IsFormBlock f) bs → AllByRecursion (λ (b : Block). IsPlainOrNone b.name) bs
+  block_names : (bs : List Block) → AllByRecursion (IsFormBlock f) bs → AllByRecursion (λ (b : Block). IsGoodOrNone b.name) bs
   block_names [] all = tt
   block_names (b ∷ bs) all = (all.0.label, block_names bs all.1)
 
-  names_then : (xs ys : List Placed) → AllByRecursion (λ (p : Placed). IsPlainOrNone p.name) xs → AllByRecursion (λ (p : Placed). IsPlainOrNone p.name) ys → AllByRecursion (λ (p : Placed). IsPlainOrNone p.name) (xs ++ ys)
+  names_then : (xs ys : List Placed) → AllByRecursion (λ (p : Placed). IsGoodOrNone p.name) xs → AllByRecursion (λ (p : Placed). IsGoodOrNone p.name) ys → AllByRecursion (λ (p : Placed). IsGoodOrNone p.name) (xs ++ ys)
   names_then [] ys h k = k
   names_then (x ∷ xs) ys h k = (h.0, names_then xs ys h.1 k)
 
-  placed_names : (n : ℕ) (ps : List Placed) → AllByRecursion (IsFormPlaced f n) ps → AllByRecursion (λ (p : Placed). IsPlainOrNone p.name) ps
+  placed_names : (n : ℕ) (ps : List Placed) → AllByRecursion (IsFormPlaced f n) ps → AllByRecursion (λ (p : Placed). IsGoodOrNone p.name) ps
   placed_names n [] all = tt
   placed_names n (p ∷ ps) all = (all.0.name, placed_names n ps all.1)
 
-  result_names : (bs : List Block) → AllByRecursion (IsFormBlock f) bs → AllByRecursion (λ (p : Placed). IsPlainOrNone p.name) (flat_map (λ (b : Block). b.instructions) bs)
+  result_names : (bs : List Block) → AllByRecursion (IsFormBlock f) bs → AllByRecursion (λ (p : Placed). IsGoodOrNone p.name) (flat_map (λ (b : Block). b.instructions) bs)
   result_names [] all = tt
   result_names (b ∷ bs) all =
       names_then b.instructions (flat_map (λ (b : Block). b.instructions) bs) (placed_names b.number b.instructions (recursion_from_All (IsFormPlaced f b.number) b.instructions all.0.instructions)) (result_names bs all.1)
 
-  pub result_name_form : (n : ℕ) → IsPlainOrNone (result_name f n)
+  pub result_name_form : (n : ℕ) → IsGoodOrNone (result_name f n)
   result_name_form n = named_found (λ (p : Placed). p.name) (λ (p : Placed). nat_eq p.number n) (placed_in f) (result_names f.blocks blocks)
 
-  block_name_form : (n : ℕ) → IsPlainOrNone (block_name f n)
+  block_name_form : (n : ℕ) → IsGoodOrNone (block_name f n)
   block_name_form n = named_found (λ (b : Block). b.name) (λ (b : Block). nat_eq b.number n) f.blocks (block_names f.blocks blocks)
 
   pub block_form : (n : ℕ) → IsLocal (block_ref f n)

@@ -5,8 +5,18 @@ use Rattle.llvm_core.specs.Data.{data_of}
 use Rattle.llvm_core.specs.Form.{IsFormFunction, IsFewIn}
 use Rattle.ll_print.specs.Printing.{source_text, function_text}
 use Rattle.ll_print.specs.Parts.{function_in, IsNumberable}
-use Rattle.ll_print.proofs.FormLaws.{function_has, functions_have, module_more, module_all}
+use Rattle.ll_print.proofs.FormLaws.{function_has, functions_have, module_more, module_all, text_utf8}
 use Rattle.ll_print.proofs.printer.put_module.Goals as goal
+
+-- a name is a &str
+pub returns-in_err-put_source-clause-utf8 : goal.returns-in_err-put_source-clause-utf8
+returns-in_err-put_source-clause-utf8 c = text_utf8 c.name.ensures c.name.utf8
+
+pub returns-in_err-put_function-clause-utf8 : goal.returns-in_err-put_function-clause-utf8
+returns-in_err-put_function-clause-utf8 c = text_utf8 c.name.ensures c.name.utf8
+
+pub returns-clause-utf8 : goal.returns-clause-utf8
+returns-clause-utf8 c = text_utf8 c.name.ensures c.name.utf8
 
 pub put_function-requires-clause-form : goal.put_function-requires-clause-form
 put_function-requires-clause-form c = function_has c.args.m.now c.loop-f.f IsFormFunction c.requires.form (omega (arith, c.functions-f-end.ensures.len, c.loop-f-test.true))
