@@ -14,14 +14,13 @@ use Rattle.dialect_core.specs.declared.ops.OpKind.{OpKind}
 use Rattle.dialect_core.specs.declared.ops.OpKind.TheVariants as K
 use Rattle.dialect_core.specs.declared.ops.OpData.{OpData}
 use Rattle.dialect_core.specs.declared.ops.BlockData.{BlockData}
-use Rattle.dialect_core.specs.declared.linkage.LinkageAttr.TheVariants.{ExternalLinkage}
 use Rattle.dialect_core.specs.ContextData.{ContextData, with_op, with_appended, with_block, kind_at, region_at, HoldsMore}
 use Rattle.dialect_core.specs.Data.{DialectModule, Func, DialectBlock, data_of, func_of, func_in, more_block, with_func, with_func_block}
 use Rattle.dialect_core.specs.Lists.{list_at}
 use Rattle.dialect_core.proofs.ListLemmas.{slice_get-last}
 use Rattle.dialect_core.proofs.FilterLemmas.{change_get}
 use Rattle.from_llvm_ir.specs.Imported.{HasFuncsApart, IsModuleAt, IsOwn, IsBuilding, IsBelow}
-use Rattle.from_llvm_ir.specs.Building.{bare_func}
+use Rattle.from_llvm_ir.specs.Building.{bare_func, func_data}
 use Rattle.from_llvm_ir.proofs.ApartLaws.{op_apart, func_apart, block_apart}
 use Rattle.from_llvm_ir.proofs.OwnLaws.{own_op, own_appended, own_block}
 
@@ -54,57 +53,53 @@ held_op c0 c x m body h ops blocks =
       bare = λ y at. h.bare y (ap (λ (xs : List BlockData). slice_get xs body.0) (sym blocks) ∙ at);
     }
 
--- the data of a new function
-abbrev pub func_data : List ℕ → TypeHandle → OpData
-func_data name ty = record { kind = K.Func; name = Some name; operands = []; successors = []; result = None; symbol = Some (record { ty = ty; linkage = ExternalLinkage }); blocks = [] }
-
-pub stands_func : (c0 c1 : ContextData) (body : BlockRef) (o : OpRef) (name : List ℕ) (ty : TypeHandle) (m : ℕ) (d : DialectModule) → IsBuilding c0 m body d → c1 ≡ with_op c0 (func_data name ty) → o.0 ≡ length c0.ops
+pub stands_func : (c0 c1 : ContextData) (body : BlockRef) (o : OpRef) (name : List ℕ) (llvm_name : Option (List ℕ)) (ty : TypeHandle) (m : ℕ) (d : DialectModule) → IsBuilding c0 m body d → c1 ≡ with_op c0 (func_data name llvm_name ty) → o.0 ≡ length c0.ops
     → (kind_at c1.ops o ≡ Some K.Func) × (option_and_then (λ (x : BlockData). kind_at c1.ops x.holder) (slice_get c1.blocks body.0) ≡ Some K.Module)
-stands_func c0 c1 body o name ty m d h e number = (
-  rw (e, number) (ap (option_map (λ (y : OpData). y.kind)) (slice_get-last c0.ops (func_data name ty))),
-  rw e (holder_kept c0.ops (func_data name ty) (slice_get c0.blocks body.0) K.Module h.held.holder),
+stands_func c0 c1 body o name llvm_name ty m d h e number = (
+  rw (e, number) (ap (option_map (λ (y : OpData). y.kind)) (slice_get-last c0.ops (func_data name llvm_name ty))),
+  rw e (holder_kept c0.ops (func_data name llvm_name ty) (slice_get c0.blocks body.0) K.Module h.held.holder),
 )
 
 pub at_end : (ops : List OpData) (x : OpData) (o : OpRef) → o.0 ≡ length ops → slice_get (ops ++ x ∷ []) o.0 ≡ Some x
 at_end ops x o number = rw number (slice_get-last ops x)
 
-pub func_here : (c0 c1 : ContextData) (o : OpRef) (name : List ℕ) (ty : TypeHandle) → c1 ≡ with_op c0 (func_data name ty) → o.0 ≡ length c0.ops → func_in (type_trees c1.types) c1 o ≡ Some (bare_func o.0 name (type_at (type_trees c0.types) ty))
-func_here c0 c1 o name ty e number =
-    rw e (ap (option_and_then (func_of (type_trees c0.types) (with_op c0 (func_data name ty)) o)) (at_end c0.ops (func_data name ty) o number))
+pub func_here : (c0 c1 : ContextData) (o : OpRef) (name : List ℕ) (llvm_name : Option (List ℕ)) (ty : TypeHandle) → c1 ≡ with_op c0 (func_data name llvm_name ty) → o.0 ≡ length c0.ops → func_in (type_trees c1.types) c1 o ≡ Some (bare_func o.0 name llvm_name (type_at (type_trees c0.types) ty))
+func_here c0 c1 o name llvm_name ty e number =
+    rw e (ap (option_and_then (func_of (type_trees c0.types) (with_op c0 (func_data name llvm_name ty)) o)) (at_end c0.ops (func_data name llvm_name ty) o number))
 
-pub added_func : (c0 c1 c2 : ContextData) (m : ℕ) (body : BlockRef) (d : DialectModule) (o : OpRef) (name : List ℕ) (ty : TypeHandle)
+pub added_func : (c0 c1 c2 : ContextData) (m : ℕ) (body : BlockRef) (d : DialectModule) (o : OpRef) (name : List ℕ) (llvm_name : Option (List ℕ)) (ty : TypeHandle)
     → IsBuilding c0 m body d
-    → c1 ≡ with_op c0 (func_data name ty)
+    → c1 ≡ with_op c0 (func_data name llvm_name ty)
     → o.0 ≡ length c0.ops
     → data_of c1 m ≡ data_of c0 m
     → ty.0 < length c0.types
     → c2 ≡ with_appended c1 o body
     → ((f : Func) → func_in (type_trees c1.types) c1 o ≡ Some f → (m : ℕ) → region_at c1.ops m ≡ body ∷ [] → data_of c2 m ≡ with_func (data_of c1 m) f)
-    → IsBuilding c2 m body (with_func d (bare_func o.0 name (type_at (type_trees c0.types) ty)))
-added_func c0 c1 c2 m body d o name ty h e1 number data1 there e2 data2 =
-    let ops : c2.ops ≡ c0.ops ++ func_data name ty ∷ [] = ap (λ (c : ContextData). c.ops) e2 ∙ ap (λ (c : ContextData). c.ops) e1 in
+    → IsBuilding c2 m body (with_func d (bare_func o.0 name llvm_name (type_at (type_trees c0.types) ty)))
+added_func c0 c1 c2 m body d o name llvm_name ty h e1 number data1 there e2 data2 =
+    let ops : c2.ops ≡ c0.ops ++ func_data name llvm_name ty ∷ [] = ap (λ (c : ContextData). c.ops) e2 ∙ ap (λ (c : ContextData). c.ops) e1 in
     let blocks : c2.blocks ≡ c0.blocks = ap (λ (c : ContextData). c.blocks) e2 ∙ ap (λ (c : ContextData). c.blocks) e1 in
-    let f = bare_func o.0 name (type_at (type_trees c0.types) ty) in
-    let region1 : region_at c1.ops m ≡ body ∷ [] = rw e1 (region_kept c0.ops (func_data name ty) m h.there ∙ h.held.region) in
-    let here : func_in (type_trees c1.types) c1 o ≡ Some f = func_here c0 c1 o name ty e1 number in
-    let kind1 : kind_at c1.ops o ≡ Some K.Func = (stands_func c0 c1 body o name ty m d h e1 number).0 in
-    let apart1 : HasFuncsApart c1 body = subst (λ (c : ContextData). HasFuncsApart c body) (sym e1) (op_apart c0 (func_data name ty) body h.apart) in
-    let own1 : IsOwn c1 m body = subst (λ (c : ContextData). IsOwn c m body) (sym e1) (own_op c0 (func_data name ty) m body h.own (record { kind = tt; result = tt; symbol = there }) refl) in
+    let f = bare_func o.0 name llvm_name (type_at (type_trees c0.types) ty) in
+    let region1 : region_at c1.ops m ≡ body ∷ [] = rw e1 (region_kept c0.ops (func_data name llvm_name ty) m h.there ∙ h.held.region) in
+    let here : func_in (type_trees c1.types) c1 o ≡ Some f = func_here c0 c1 o name llvm_name ty e1 number in
+    let kind1 : kind_at c1.ops o ≡ Some K.Func = (stands_func c0 c1 body o name llvm_name ty m d h e1 number).0 in
+    let apart1 : HasFuncsApart c1 body = subst (λ (c : ContextData). HasFuncsApart c body) (sym e1) (op_apart c0 (func_data name llvm_name ty) body h.apart) in
+    let own1 : IsOwn c1 m body = subst (λ (c : ContextData). IsOwn c m body) (sym e1) (own_op c0 (func_data name llvm_name ty) m body h.own (record { kind = tt; result = tt; symbol = there }) refl) in
     record {
-      held = held_op c0 c2 (func_data name ty) m body h.held ops blocks;
+      held = held_op c0 c2 (func_data name llvm_name ty) m body h.held ops blocks;
       apart = subst (λ (c : ContextData). HasFuncsApart c body) (sym e2) (func_apart c1 o body apart1 kind1);
       is = data2 f here m region1 ∙ ap (λ (x : DialectModule). with_func x f) (data1 ∙ h.is);
-      there = rw ops (omega (arith, h.there, length-push c0.ops (func_data name ty)));
+      there = rw ops (omega (arith, h.there, length-push c0.ops (func_data name llvm_name ty)));
       own = subst (λ (c : ContextData). IsOwn c m body) (sym e2) (own_appended c1 o body m body own1 (omega (arith, h.there, number)));
       below = rw (ops, blocks)
-          (All-push (IsBelow (length (c0.ops ++ func_data name ty ∷ [])) (length c0.blocks)) d.functions f
-          (below_more (length c0.ops) (length c0.blocks) _ _ (omega (arith, length-push c0.ops (func_data name ty))) (omega arith) d.functions h.below)
-          (omega (arith, number, length-push c0.ops (func_data name ty)), All-nil _));
+          (All-push (IsBelow (length (c0.ops ++ func_data name llvm_name ty ∷ [])) (length c0.blocks)) d.functions f
+          (below_more (length c0.ops) (length c0.blocks) _ _ (omega (arith, length-push c0.ops (func_data name llvm_name ty))) (omega arith) d.functions h.below)
+          (omega (arith, number, length-push c0.ops (func_data name llvm_name ty)), All-nil _));
     }
 
-pub is_func : (c0 c1 c2 : ContextData) (body : BlockRef) (o : OpRef) (name : List ℕ) (ty : TypeHandle) → c1 ≡ with_op c0 (func_data name ty) → o.0 ≡ length c0.ops → c2 ≡ with_appended c1 o body → kind_at c2.ops o ≡ Some K.Func
-is_func c0 c1 c2 body o name ty e1 number e2 =
-    ap (λ (c : ContextData). kind_at c.ops o) e2 ∙ ap (λ (c : ContextData). kind_at c.ops o) e1 ∙ ap (option_map (λ (y : OpData). y.kind)) (at_end c0.ops (func_data name ty) o number)
+pub is_func : (c0 c1 c2 : ContextData) (body : BlockRef) (o : OpRef) (name : List ℕ) (llvm_name : Option (List ℕ)) (ty : TypeHandle) → c1 ≡ with_op c0 (func_data name llvm_name ty) → o.0 ≡ length c0.ops → c2 ≡ with_appended c1 o body → kind_at c2.ops o ≡ Some K.Func
+is_func c0 c1 c2 body o name llvm_name ty e1 number e2 =
+    ap (λ (c : ContextData). kind_at c.ops o) e2 ∙ ap (λ (c : ContextData). kind_at c.ops o) e1 ∙ ap (option_map (λ (y : OpData). y.kind)) (at_end c0.ops (func_data name llvm_name ty) o number)
 
 -- ---- a block more
 

@@ -1,11 +1,12 @@
 -- A function that an import made has the code of the one that it stands for.
-use Rattle.std.proofs.Common.{ℕ, zero, suc, ◌≡◌, ◌<◌, ◌≤◌, refl, sym, ◌∙◌, ap, true, List, [], ◌∷◌, Some, length, slice_get, slice_index_or, arith}
+use Rattle.std.proofs.Common.{ℕ, zero, suc, ◌≡◌, ◌<◌, ◌≤◌, refl, sym, ◌∙◌, ap, true, List, [], ◌∷◌, Option, Some, unwrap_or, length, slice_get, slice_index_or, arith}
 use Rattle.std.proofs.lemmas.Option.{slice_get_within}
 use Rattle.support.proofs.ListLaws.{item_there}
 use Rattle.llvm_core.specs.Data as L
 use Rattle.llvm_core.specs.Data.{ModuleData}
 use Rattle.llvm_core.specs.Form.{IsFormFunction}
 use Rattle.llvm_core.proofs.DataLemmas.{within_at}
+use Rattle.dialect_types.specs.Legalised.{Named}
 use Rattle.dialect_core.specs.Data as D
 use Rattle.meaning.specs.Terms.{Match}
 use Rattle.meaning.specs.Code.{FunctionSymbol, External, SameNamed, SameBody, IsOneToOne}
@@ -17,6 +18,7 @@ use Rattle.meaning.proofs.EntryLaws.{some_blocks, not_empty, same_symbol, both}
 use Rattle.from_llvm_ir.specs.declared.matching.FunctionBlocks.{FunctionBlocks}
 use Rattle.from_llvm_ir.specs.Match.{IsPlaces, place_at}
 use Rattle.from_llvm_ir.specs.Imported.{ImportedFunction, IsImportedBlock}
+use Rattle.from_llvm_ir.proofs.NameLaws.{kept_back}
 use Rattle.from_llvm_ir.proofs.PairLaws.{same_length}
 
 -- ---- blocks
@@ -32,9 +34,9 @@ index_past (q ∷ qs) zero d h = absurd (omega (arith, h))
 index_past (q ∷ qs) (suc i) d h = index_past qs i d (omega (arith, h))
 
 -- the dialect has as many blocks as the source
-pub same_blocks : (d : ModuleData) (f : L.Function) (x : FunctionBlocks) (g : D.Func) → ImportedFunction d f x g → length g.blocks ≡ length f.blocks
-same_blocks d f x g h =
-    same_length (IsImportedBlock h.hoisted) f.blocks g.blocks (λ (b : ℕ). place_at b x)
+pub same_blocks : (d : ModuleData) (given : List Named) (f : L.Function) (x : FunctionBlocks) (g : D.Func) → ImportedFunction d given f x g → length g.blocks ≡ length f.blocks
+same_blocks d given f x g h =
+    same_length (IsImportedBlock given h.hoisted) f.blocks g.blocks (λ (b : ℕ). place_at b x)
     (λ p small. let (i, at) = h.places.onto p small in (i, (let s = slice_get_within x.places i p at in let c = h.places.count in omega (arith, s, c)), index_inside x.places i p i at))
     (index_past x.places (length f.blocks) (length f.blocks) (let c = h.places.count in omega (arith, c)))
     h.blocks
@@ -60,17 +62,21 @@ one_to_one x n m here h is same = record {
 
 -- ---- a function and what an import made of it
 
-module _ (match : Match) (d : ModuleData) (f : L.Function) (x : FunctionBlocks) (g : D.Func) (here : (b : ℕ) → match.block f.name b ≡ place_at b x)
-    (form : IsFormFunction f) (h : ImportedFunction d f x g) where
+-- the function keeps the name of its source
+pub kept_as : (given : List Named) (d : ModuleData) (f : L.Function) (x : FunctionBlocks) (g : D.Func) → ImportedFunction d given f x g → D.llvm_name_of g ≡ f.name
+kept_as given d f x g h = ap (λ (n : Option (List ℕ)). unwrap_or n g.name) h.llvm_name ∙ kept_back f.name g.name
+
+module _ (match : Match) (d : ModuleData) (given : List Named) (f : L.Function) (x : FunctionBlocks) (g : D.Func) (here : (b : ℕ) → match.block f.name b ≡ place_at b x)
+    (form : IsFormFunction f) (h : ImportedFunction d given f x g) where
   pub has : Llvm.has_blocks f ≡ true
   has = some_blocks f.blocks form.body
 
   has_dialect : Dialect.has_blocks g ≡ true
-  has_dialect = some_blocks g.blocks (not_empty f.blocks g.blocks (same_blocks d f x g h) form.body)
+  has_dialect = some_blocks g.blocks (not_empty f.blocks g.blocks (same_blocks d given f x g h) form.body)
 
   pub imported_body : (source made : Setting) → SameBody match f.name (Llvm.body source f) (Dialect.body made g)
   imported_body source made = record {
-    blocks = one_to_one x (length f.blocks) (length g.blocks) (match.block f.name) h.places here (same_blocks d f x g h);
+    blocks = one_to_one x (length f.blocks) (length g.blocks) (match.block f.name) h.places here (same_blocks d given f x g h);
     traces = same_shape match source f made g (h.shape match source made here);
   }
 
@@ -79,7 +85,7 @@ module _ (match : Match) (d : ModuleData) (f : L.Function) (x : FunctionBlocks) 
 
   pub imported_entry : (source made : Setting) → SameNamed match (Llvm.entry source f) (Dialect.entry made g)
   imported_entry source made = record {
-    name = sym h.name;
+    name = sym (kept_as given d f x g h);
     entry = record {
       symbol = same_symbol match f.type g.type f.space (Llvm.has_blocks f) (Dialect.has_blocks g) (sym h.type) form.space (has ∙ sym has_dialect) ∙ sym linked;
       body = both match f.name (Llvm.has_blocks f) (Dialect.has_blocks g) (Llvm.body source f) (Dialect.body made g) has has_dialect (imported_body source made);

@@ -1,5 +1,5 @@
 -- The edges and operations of a whole function, and what they stand for.
-use Rattle.std.proofs.Common.{ℕ, zero, suc, ◌≡◌, ◌<◌, ◌+◌, ◌⊎◌, inl, inr, refl, sym, ap, subst, ◌∙◌, not, false, List, ◌++◌, Some, map, length, take, slice_get}
+use Rattle.std.proofs.Common.{ℕ, zero, suc, ◌≡◌, ◌<◌, ◌+◌, ◌⊎◌, inl, inr, refl, sym, ap, subst, ◌∙◌, not, false, List, [], ◌++◌, Some, map, length, take, slice_get}
 use Rattle.std.specs.Option.{option_map}
 use Rattle.std.proofs.lemmas.List.{length-map}
 use Rattle.std.proofs.lemmas.Bool.{not-true}
@@ -20,7 +20,7 @@ use Rattle.from_llvm_ir.specs.Converted.{IsEdge, IsRow, IsConverted}
 use Rattle.from_llvm_ir.proofs.ListLaws.{other_there}
 use Rattle.from_llvm_ir.proofs.OrderLaws.{ordered_at, not_first}
 use Rattle.from_llvm_ir.proofs.PassLaws.{takes, at_passed, passed_length, edge_there, target_there}
-use Rattle.from_llvm_ir.proofs.Whole.{IsWhole, target_at, source_at, source_block_apart}
+use Rattle.from_llvm_ir.proofs.Whole.{IsWhole, Head, target_at, source_at, source_block_apart}
 
 module _ (k : Known) (cs : List DialectBlock) (h : IsWhole k cs) where
   abbrev g : L.Function
@@ -28,6 +28,10 @@ module _ (k : Known) (cs : List DialectBlock) (h : IsWhole k cs) where
 
   abbrev bs : List L.Block
   bs = blocks_of k.frame
+
+  -- edges are those of a function of any number and name
+  abbrev any : Head
+  any = record { number = 0; name = [] }
 
   -- ---- edges
 
@@ -49,10 +53,10 @@ module _ (k : Known) (cs : List DialectBlock) (h : IsWhole k cs) where
   edge_at i x j b p t s at here leads e =
       let o = ordered_at k.frame.order g.blocks h.order e.place e.target e.here in
       let behind = target_there g h.form i x j b p t at here leads in
-      let same : o.place ≡ suc behind.0 = source_block_apart 0 k cs h o.place (suc behind.0) e.target behind.1 o.at behind.2 (e.number ∙ sym behind.3) in
+      let same : o.place ≡ suc behind.0 = source_block_apart any k cs h o.place (suc behind.0) e.target behind.1 o.at behind.2 (e.number ∙ sym behind.3) in
       let q = not_first k.frame.order g.blocks h.order e.place behind.0 (o.here ∙ ap Some same) in
       let here' : slice_get bs (suc q.0) ≡ Some e.target = ap (slice_get bs) (sym q.1) ∙ e.here in
-      let c = target_at 0 k cs h (suc q.0) e.target here' in
+      let c = target_at any k cs h (suc q.0) e.target here' in
       record {
         place = q.0;
         target = e.target;
@@ -131,7 +135,7 @@ module _ (k : Known) (cs : List DialectBlock) (h : IsWhole k cs) where
       record { block = b; here = here; source = s.place; at = s.at; place = r.0; inst = p.0; there = r.1; other = not-true (LF.is_phi p.0) r.2; row = matched_at (IsRow k b) (rest_of b) v.rest v.rows z p.0 o p.1 at }
 
   pub op_cases : (j y : ℕ) (c : DialectBlock) (o : DialectOp) → slice_get cs j ≡ Some c → slice_get c.ops y ≡ Some o → ConstantAt j y o ⊎ RowAt j c o
-  op_cases j y c o at here = let b = source_at 0 k cs h j c at in by j b.0 b.2 b.1 (ap (λ (os : List DialectOp). slice_get os y) (sym b.2.ops) ∙ here)
+  op_cases j y c o at here = let b = source_at any k cs h j c at in by j b.0 b.2 b.1 (ap (λ (os : List DialectOp). slice_get os y) (sym b.2.ops) ∙ here)
     where
       by : (j : ℕ) (b : L.Block) (v : IsConverted k (take j cs) j b c) → slice_get bs j ≡ Some b → slice_get (front_for j k.hoisted ++ v.rest) y ≡ Some o → ConstantAt j y o ⊎ RowAt j c o
       by zero b v at e = elim (slice_get-behind_cases k.hoisted v.rest y o e) [

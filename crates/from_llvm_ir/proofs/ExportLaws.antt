@@ -25,7 +25,7 @@ use Rattle.from_llvm_ir.proofs.ListLaws.{other_there}
 use Rattle.from_llvm_ir.proofs.PlaceLaws.{untake, flat_at, flat_from}
 use Rattle.from_llvm_ir.proofs.OrderLaws.{ordered_at, placed}
 use Rattle.from_llvm_ir.proofs.PassLaws.{count_there, there_edge, phi_is, phi_form}
-use Rattle.from_llvm_ir.proofs.Whole.{IsWhole, the_func, target_apart, block_apart, source_at, target_at}
+use Rattle.from_llvm_ir.proofs.Whole.{IsWhole, Head, the_func, target_apart, block_apart, source_at, target_at}
 use Rattle.from_llvm_ir.proofs.EdgeLaws.{EdgeAt, edge_at, args_length, op_cases, op_edge}
 use Rattle.from_llvm_ir.proofs.FormLaws.{constant_tests}
 
@@ -38,7 +38,7 @@ pub first_item : {X : Type 0} (xs : List X) → ¬ (xs ≡ []) → (x : X) × (s
 first_item [] not_none = absurd (not_none refl)
 first_item (x ∷ xs) not_none = (x, refl)
 
-module _ (n : ℕ) (k : Known) (cs : List DialectBlock) (h : IsWhole k cs) where
+module _ (n : Head) (k : Known) (cs : List DialectBlock) (h : IsWhole k cs) where
   abbrev g : L.Function
   g = k.frame.source
 

@@ -1,17 +1,14 @@
 -- A whole function is of the dialect's form, and nothing of it is refused by an export.
-use Rattle.std.proofs.Common.{ℕ, zero, suc, ◌≡◌, inl, inr, refl, sym, ap, subst, ◌∙◌, true, false, not, List, [], ◌∷◌, ◌++◌, Option, Some, All, length, take, slice_get, codes, arith, rules}
+use Rattle.std.proofs.Common.{ℕ, zero, suc, ◌≡◌, inl, inr, refl, sym, ap, subst, ◌∙◌, true, false, not, List, [], ◌∷◌, ◌++◌, Option, Some, All, length, take, slice_get, arith}
 use Rattle.std.specs.Prelude.{IfSome}
-use Rattle.std.proofs.lemmas.Bool.{false≢true}
 use Rattle.std.proofs.lemmas.List.{append_assoc}
 use Rattle.std.proofs.lemmas.Option.{same_Some}
 use Rattle.std.proofs.lemmas.List.Elements.{All-nil, All-cons, All-append, All-map}
 use Rattle.meaning.proofs.MatchedLaws.{matched_length, matched_at}
 use Rattle.support.proofs.ListLaws.{all_from, filter_from}
-use Rattle.llvm_core.specs.Names.{is_plain, IsPlainOrNone}
 use Rattle.llvm_core.specs.Form as LF
 use Rattle.llvm_core.specs.Data as L
 use Rattle.llvm_core.specs.Data.{ConstTree, IntConst, PlaceholderConst, Placed, targets}
-use Rattle.dialect_types.specs.Names.{IsPlainName}
 use Rattle.dialect_types.specs.Trees.{TypeTree}
 use Rattle.dialect_core.specs.declared.ops.Value.{Value}
 use Rattle.dialect_core.specs.declared.ops.Successor.{Successor}
@@ -23,30 +20,21 @@ use Rattle.kinds.specs.Table.{rule_of}
 use Rattle.kinds.proofs.HeldLaws.{held_first_class, held_result_own, int_held}
 use Rattle.dialect_core.specs.Rules as R
 use Rattle.dialect_core.specs.Form as DF
-use Rattle.dialect_core.specs.Data.{DialectOp, DialectBlock, Func, Kind, value_type}
+use Rattle.dialect_core.specs.Data.{DialectOp, DialectBlock, Func, Kind, llvm_name_of, value_type}
 use Rattle.meaning.specs.Pairs.{Matched}
-use Rattle.from_llvm_ir.specs.Imported.{given_name, rest_of, phis_of, front_for}
+use Rattle.kinds.specs.Names.{is_good_name, is_own_name}
+use Rattle.from_llvm_ir.specs.Imported.{rest_of, phis_of, front_for}
 use Rattle.from_llvm_ir.specs.Source.{IsUsable}
 use Rattle.from_llvm_ir.specs.Known.{Known, Stands, IsConstantOp, blocks_of}
 use Rattle.from_llvm_ir.specs.Converted.{IsKind, IsEdge, IsRow, IsConverted}
 use Rattle.from_llvm_ir.proofs.ListLaws.{other_there}
 use Rattle.from_llvm_ir.proofs.RowLaws.{HaveTypes, if_own, first_class, all_typed, values_fit, values_give}
-use Rattle.from_llvm_ir.proofs.NameLaws.{plain_legal}
+use Rattle.from_llvm_ir.proofs.NameLaws.{good_own, kept_back}
 use Rattle.from_llvm_ir.proofs.OrderLaws.{ordered_at}
 use Rattle.from_llvm_ir.proofs.EndLaws.{ends_from, ends_filter, ends_as}
 use Rattle.from_llvm_ir.proofs.PassLaws.{inst_form, block_form, phi_is, phi_form, row_usable, operands_usable}
-use Rattle.from_llvm_ir.proofs.Whole.{IsWhole, the_func, first_source, target_apart, source_at, entry, arg_typed, operand_typed}
+use Rattle.from_llvm_ir.proofs.Whole.{IsWhole, Head, the_func, first_source, target_apart, source_at, entry, arg_typed, operand_typed}
 use Rattle.from_llvm_ir.proofs.EdgeLaws.{EdgeAt, arg_at, RowAt, op_cases, op_edge}
-
--- ---- names
-
-named : (n : List ℕ) → is_plain n ≡ true → ¬ (n ≡ [])
-named [] h e = false≢true h
-named (b ∷ bs) h e = cc
-
-pub given_plain : (n : List ℕ) → IsPlainOrNone n → IfSome (given_name n) IsPlainName
-given_plain [] h = tt
-given_plain (b ∷ bs) h = plain_legal (b ∷ bs) h
 
 -- ---- kinds
 
@@ -66,7 +54,7 @@ ends_kept p h = by p.instruction h
     by (L.Phi es) e = let no : ⊥ = cc in absurd no
     by (L.Applied r) e = refl
 
-module _ (n : ℕ) (k : Known) (cs : List DialectBlock) (h : IsWhole k cs) where
+module _ (n : Head) (k : Known) (cs : List DialectBlock) (h : IsWhole k cs) where
   abbrev g : L.Function
   g = k.frame.source
 
@@ -84,7 +72,6 @@ module _ (n : ℕ) (k : Known) (cs : List DialectBlock) (h : IsWhole k cs) where
     operands = All-nil _;
     passed = All-nil _;
     result = int_held w s.0.0 (omega (arith, s.0.1));
-    name = tt;
   })
   constant_form (PlaceholderConst q t) o s m = elim m [ ]
 
@@ -157,7 +144,6 @@ module _ (n : ℕ) (k : Known) (cs : List DialectBlock) (h : IsWhole k cs) where
         operands = values_form (LF.operands_of r.inst.instruction) o.operands (operands_usable g h.form r.block.number r.inst f r.other) v.operands;
         passed = all_from (λ (s : Successor). All (DF.IsHeldValue G) s.args) o.successors (λ y s at. let e = edge y s at in passed_form r.block.number e.0 s e.1);
         result = subst (λ (x : Option TypeTree). IfSome x IsHeld) (sym v.result) (if_own IsHeld r.inst.type (held_result_own r.inst.type f.held));
-        name = subst (λ (x : Option (List ℕ)). IfSome x IsPlainName) (sym v.name) (given_plain r.inst.name f.name);
       }
 
   op_form : (j y : ℕ) (c : DialectBlock) (o : DialectOp) → slice_get cs j ≡ Some c → slice_get c.ops y ≡ Some o → DF.IsFormOp G o
@@ -167,13 +153,6 @@ module _ (n : ℕ) (k : Known) (cs : List DialectBlock) (h : IsWhole k cs) where
   ]
 
   -- ---- blocks
-
-  entry_label : IsPlainName (codes "entry")
-  entry_label = search rules
-
-  label_form : (j : ℕ) (b : L.Block) (c : DialectBlock) → IsConverted k (take j cs) j b c → LF.IsFormBlock g b → IfSome c.label IsPlainName
-  label_form zero b c v f = subst (λ (x : Option (List ℕ)). IfSome x IsPlainName) (sym v.head.label) entry_label
-  label_form (suc j) b c v f = subst (λ (x : Option (List ℕ)). IfSome x IsPlainName) (sym v.head.label) (given_plain b.name f.label)
 
   phi_held : (i : ℕ) (b : L.Block) (y : ℕ) (p : Placed) → slice_get g.blocks i ≡ Some b → slice_get (phis_of b) y ≡ Some p → IsHeld p.type
   phi_held i b y p at here =
@@ -217,7 +196,6 @@ module _ (n : ℕ) (k : Known) (cs : List DialectBlock) (h : IsWhole k cs) where
       let s = ordered_at k.frame.order g.blocks h.order j b.0 b.1 in
       let f = block_form g h.form s.place b.0 s.at in
       record {
-        label = label_form j b.0 c b.2 f;
         args = args_form j s.place b.0 c s.at b.2;
         ops = all_from (DF.IsFormOp G) c.ops (λ y o here. op_form j y c o at here);
         ends = ends_form j b.0 c b.2 f;
@@ -252,13 +230,17 @@ module _ (n : ℕ) (k : Known) (cs : List DialectBlock) (h : IsWhole k cs) where
   pub constants_in_entry : DF.HasConstantsInEntry G
   constants_in_entry = let e = entry n k cs h in record { entry = e.0; here = e.1; first = constants_first; others = others_of }
 
-  pub form_of : DF.IsFormFunc G
-  form_of =
+  llvm_name : llvm_name_of G ≡ g.name
+  llvm_name = kept_back g.name n.name
+
+  pub form_of : ¬ (n.name ≡ []) → DF.IsFormFunc G
+  form_of some =
       let e = entry n k cs h in
       let body = first_of cs e.0 e.1 in
       record {
-        name = plain_legal g.name h.form.name;
-        named = named g.name h.form.name;
+        named = some;
+        llvm_named = ap is_own_name llvm_name ∙ good_own g.name h.form.name h.form.own;
+        good = ap is_good_name llvm_name ∙ h.form.name;
         result = h.form.result;
         types = h.form.types;
         type = h.form.type;

@@ -190,7 +190,7 @@ module _ (c : ContextData) where
       by (Some x) e at = of x x.symbol (slice_get_within c.ops o.0 x e) (blocks x) at
 
   -- the data of a module name functions and blocks that are there
-  all_below : (k : ℕ) → All (IsBelow (length c.ops) (length c.blocks)) (data_of c k).functions
+  pub all_below : (k : ℕ) → All (IsBelow (length c.ops) (length c.blocks)) (data_of c k).functions
   all_below k = filtered (func_in (type_trees c.types) c) (IsBelow (length c.ops) (length c.blocks)) (held c k) func_below
 
 -- so all that a context held stays what it was

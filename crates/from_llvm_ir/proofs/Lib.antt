@@ -8,6 +8,7 @@ pub mod ApartLaws
 pub mod OwnLaws
 pub mod BuildLaws
 pub mod KeepLaws
+pub mod FuncLaws
 pub mod OpLaws
 pub mod UnderLaws
 pub mod SourceLaws

@@ -5,16 +5,18 @@ use Rattle.std.specs.List.{find}
 use Rattle.std.specs.Option.{option_map}
 use Rattle.std.proofs.lemmas.Bool.{eq-eqb, eqb-true}
 use Rattle.std.proofs.lemmas.List.Elements.{All-nil, All-cons}
-use Rattle.std.proofs.lemmas.Option.{slice_get-map, slice_get_within}
+use Rattle.std.proofs.lemmas.Option.{same_Some, slice_get-map, slice_get_within}
 use Rattle.std.proofs.lemmas.Slice.Eq.{bytes_eq-Decides}
 use Rattle.support.proofs.ListLaws.{item_there}
 use Rattle.llvm_core.specs.Data.{ModuleData, Function}
+use Rattle.dialect_types.specs.Legalised.{Named, Gave}
 use Rattle.dialect_core.specs.Data as D
 use Rattle.dialect_core.specs.Form.{IsFormFunc, IsExportable}
 use Rattle.meaning.specs.Code.{IsDistinctNames}
 use Rattle.from_llvm_ir.specs.declared.matching.FunctionBlocks.{FunctionBlocks}
 use Rattle.from_llvm_ir.specs.Match.{place_at, match_of}
 use Rattle.from_llvm_ir.proofs.PairLaws.{find_only}
+use Rattle.from_llvm_ir.proofs.CodeLaws.{kept_as}
 use Rattle.from_llvm_ir.specs.Imported.{ImportedFunction, AreImported, NoneImported, ThenImported}
 
 abbrev pub function_names : List Function → List (List ℕ)
@@ -23,63 +25,77 @@ function_names fs = map (λ (f : Function). f.name) fs
 -- ---- what was imported, function by function
 
 -- the entry of the match and the function of the dialect for the function at a place
-pub record Partner (d : ModuleData) (xs : List FunctionBlocks) (gs : List D.Func) (i : ℕ) (f : Function) : Type 0 where
+pub record Partner (d : ModuleData) (given : List Named) (xs : List FunctionBlocks) (gs : List D.Func) (i : ℕ) (f : Function) : Type 0 where
   pub entry : FunctionBlocks
   pub func : D.Func
   pub entry_at : slice_get xs i ≡ Some entry
   pub func_at : slice_get gs i ≡ Some func
-  pub imported : ImportedFunction d f entry func
+  pub imported : ImportedFunction d given f entry func
 
-pub partner : (d : ModuleData) (fs : List Function) (xs : List FunctionBlocks) (gs : List D.Func) → AreImported d fs xs gs → (i : ℕ) (f : Function) → slice_get fs i ≡ Some f → Partner d xs gs i f
-partner d [] [] [] NoneImported i f at = absurd (let no : ⊥ = cc in no)
-partner d (f ∷ fs) (x ∷ xs) (g ∷ gs) (ThenImported _ _ _ _ _ _ one more) zero h at =
-    subst (Partner d (x ∷ xs) (g ∷ gs) 0) (let e : f ≡ h = cc in e) (record { entry = x; func = g; entry_at = refl; func_at = refl; imported = one })
-partner d (f ∷ fs) (x ∷ xs) (g ∷ gs) (ThenImported _ _ _ _ _ _ one more) (suc i) h at =
-    let p = partner d fs xs gs more i h at in
+pub partner : (d : ModuleData) (given : List Named) (fs : List Function) (xs : List FunctionBlocks) (gs : List D.Func) → AreImported d given fs xs gs → (i : ℕ) (f : Function) → slice_get fs i ≡ Some f → Partner d given xs gs i f
+partner d given [] [] [] NoneImported i f at = absurd (let no : ⊥ = cc in no)
+partner d given (f ∷ fs) (x ∷ xs) (g ∷ gs) (ThenImported _ _ _ _ _ _ one more) zero h at =
+    subst (Partner d given (x ∷ xs) (g ∷ gs) 0) (let e : f ≡ h = cc in e) (record { entry = x; func = g; entry_at = refl; func_at = refl; imported = one })
+partner d given (f ∷ fs) (x ∷ xs) (g ∷ gs) (ThenImported _ _ _ _ _ _ one more) (suc i) h at =
+    let p = partner d given fs xs gs more i h at in
     record { entry = p.entry; func = p.func; entry_at = p.entry_at; func_at = p.func_at; imported = p.imported }
-partner d [] [] (g ∷ gs) h i f at = elim h [ ]
-partner d [] (x ∷ xs) gs h i f at = elim h [ ]
-partner d (f ∷ fs) [] gs h i k at = elim h [ ]
-partner d (f ∷ fs) (x ∷ xs) [] h i k at = elim h [ ]
+partner d given [] [] (g ∷ gs) h i f at = elim h [ ]
+partner d given [] (x ∷ xs) gs h i f at = elim h [ ]
+partner d given (f ∷ fs) [] gs h i k at = elim h [ ]
+partner d given (f ∷ fs) (x ∷ xs) [] h i k at = elim h [ ]
 
-pub count_imported : (d : ModuleData) (fs : List Function) (xs : List FunctionBlocks) (gs : List D.Func) → AreImported d fs xs gs → (length xs ≡ length fs) × (length gs ≡ length fs)
-count_imported d [] [] [] NoneImported = (refl, refl)
-count_imported d (f ∷ fs) (x ∷ xs) (g ∷ gs) (ThenImported _ _ _ _ _ _ one more) =
-    let c = count_imported d fs xs gs more in
+pub count_imported : (d : ModuleData) (given : List Named) (fs : List Function) (xs : List FunctionBlocks) (gs : List D.Func) → AreImported d given fs xs gs → (length xs ≡ length fs) × (length gs ≡ length fs)
+count_imported d given [] [] [] NoneImported = (refl, refl)
+count_imported d given (f ∷ fs) (x ∷ xs) (g ∷ gs) (ThenImported _ _ _ _ _ _ one more) =
+    let c = count_imported d given fs xs gs more in
     (ap suc c.0, ap suc c.1)
-count_imported d [] [] (g ∷ gs) h = elim h [ ]
-count_imported d [] (x ∷ xs) gs h = elim h [ ]
-count_imported d (f ∷ fs) [] gs h = elim h [ ]
-count_imported d (f ∷ fs) (x ∷ xs) [] h = elim h [ ]
+count_imported d given [] [] (g ∷ gs) h = elim h [ ]
+count_imported d given [] (x ∷ xs) gs h = elim h [ ]
+count_imported d given (f ∷ fs) [] gs h = elim h [ ]
+count_imported d given (f ∷ fs) (x ∷ xs) [] h = elim h [ ]
 
 -- what each function of the dialect is, and its name
-pub forms_imported : (d : ModuleData) (fs : List Function) (xs : List FunctionBlocks) (gs : List D.Func) → AreImported d fs xs gs → All IsFormFunc gs
-forms_imported d [] [] [] NoneImported = All-nil IsFormFunc
-forms_imported d (f ∷ fs) (x ∷ xs) (g ∷ gs) (ThenImported _ _ _ _ _ _ one more) = All-cons IsFormFunc g gs one.form (forms_imported d fs xs gs more)
-forms_imported d [] [] (g ∷ gs) h = elim h [ ]
-forms_imported d [] (x ∷ xs) gs h = elim h [ ]
-forms_imported d (f ∷ fs) [] gs h = elim h [ ]
-forms_imported d (f ∷ fs) (x ∷ xs) [] h = elim h [ ]
+pub forms_imported : (d : ModuleData) (given : List Named) (fs : List Function) (xs : List FunctionBlocks) (gs : List D.Func) → AreImported d given fs xs gs → All IsFormFunc gs
+forms_imported d given [] [] [] NoneImported = All-nil IsFormFunc
+forms_imported d given (f ∷ fs) (x ∷ xs) (g ∷ gs) (ThenImported _ _ _ _ _ _ one more) = All-cons IsFormFunc g gs one.form (forms_imported d given fs xs gs more)
+forms_imported d given [] [] (g ∷ gs) h = elim h [ ]
+forms_imported d given [] (x ∷ xs) gs h = elim h [ ]
+forms_imported d given (f ∷ fs) [] gs h = elim h [ ]
+forms_imported d given (f ∷ fs) (x ∷ xs) [] h = elim h [ ]
 
-pub exportable_imported : (d : ModuleData) (fs : List Function) (xs : List FunctionBlocks) (gs : List D.Func) → AreImported d fs xs gs → All IsExportable gs
-exportable_imported d [] [] [] NoneImported = All-nil IsExportable
-exportable_imported d (f ∷ fs) (x ∷ xs) (g ∷ gs) (ThenImported _ _ _ _ _ _ one more) = All-cons IsExportable g gs one.exportable (exportable_imported d fs xs gs more)
-exportable_imported d [] [] (g ∷ gs) h = elim h [ ]
-exportable_imported d [] (x ∷ xs) gs h = elim h [ ]
-exportable_imported d (f ∷ fs) [] gs h = elim h [ ]
-exportable_imported d (f ∷ fs) (x ∷ xs) [] h = elim h [ ]
+pub exportable_imported : (d : ModuleData) (given : List Named) (fs : List Function) (xs : List FunctionBlocks) (gs : List D.Func) → AreImported d given fs xs gs → All IsExportable gs
+exportable_imported d given [] [] [] NoneImported = All-nil IsExportable
+exportable_imported d given (f ∷ fs) (x ∷ xs) (g ∷ gs) (ThenImported _ _ _ _ _ _ one more) = All-cons IsExportable g gs one.exportable (exportable_imported d given fs xs gs more)
+exportable_imported d given [] [] (g ∷ gs) h = elim h [ ]
+exportable_imported d given [] (x ∷ xs) gs h = elim h [ ]
+exportable_imported d given (f ∷ fs) [] gs h = elim h [ ]
+exportable_imported d given (f ∷ fs) (x ∷ xs) [] h = elim h [ ]
 
-pub names_imported : (d : ModuleData) (fs : List Function) (xs : List FunctionBlocks) (gs : List D.Func) → AreImported d fs xs gs → map (λ (g : D.Func). g.name) gs ≡ function_names fs
-names_imported d [] [] [] NoneImported = refl
-names_imported d (f ∷ fs) (x ∷ xs) (g ∷ gs) (ThenImported _ _ _ _ _ _ one more) = rw (one.name, names_imported d fs xs gs more) refl
-names_imported d [] [] (g ∷ gs) h = elim h [ ]
-names_imported d [] (x ∷ xs) gs h = elim h [ ]
-names_imported d (f ∷ fs) [] gs h = elim h [ ]
-names_imported d (f ∷ fs) (x ∷ xs) [] h = elim h [ ]
+pub names_imported : (d : ModuleData) (given : List Named) (fs : List Function) (xs : List FunctionBlocks) (gs : List D.Func) → AreImported d given fs xs gs → map D.llvm_name_of gs ≡ function_names fs
+names_imported d given [] [] [] NoneImported = refl
+names_imported d given (f ∷ fs) (x ∷ xs) (g ∷ gs) (ThenImported _ _ _ _ _ _ one more) = rw (kept_as given d f x g one, names_imported d given fs xs gs more) refl
+names_imported d given [] [] (g ∷ gs) h = elim h [ ]
+names_imported d given [] (x ∷ xs) gs h = elim h [ ]
+names_imported d given (f ∷ fs) [] gs h = elim h [ ]
+names_imported d given (f ∷ fs) (x ∷ xs) [] h = elim h [ ]
+
+-- the function that one of the dialect stands for
+pub record Original (given : List Named) (fs : List Function) (i : ℕ) (g : D.Func) : Type 0 where
+  pub source : Function
+  pub at : slice_get fs i ≡ Some source
+  pub name : Gave given source.name g.name
+
+pub original : (d : ModuleData) (given : List Named) (fs : List Function) (xs : List FunctionBlocks) (gs : List D.Func) → AreImported d given fs xs gs → (i : ℕ) (g : D.Func) → slice_get gs i ≡ Some g → Original given fs i g
+original d given fs xs gs h i g at =
+    let small = slice_get_within gs i g at in
+    let (f, here) = item_there fs i (let c = (count_imported d given fs xs gs h).1 in omega (arith, small, c)) in
+    let p = partner d given fs xs gs h i f here in
+    let same : p.func ≡ g = same_Some p.func g (sym p.func_at ∙ at) in
+    record { source = f; at = here; name = subst (λ (y : D.Func). Gave given f.name y.name) same p.imported.name }
 
 -- ---- look-ups
 
-name_at : (fs : List Function) (i : ℕ) (f : Function) → slice_get fs i ≡ Some f → slice_get (function_names fs) i ≡ Some f.name
+pub name_at : (fs : List Function) (i : ℕ) (f : Function) → slice_get fs i ≡ Some f → slice_get (function_names fs) i ≡ Some f.name
 name_at fs i f at = slice_get-map (λ (g : Function). g.name) fs i ∙ ap (option_map (λ (g : Function). g.name)) at
 
 bytes_same : (a b : List ℕ) → bytes_eq a b ≡ true → a ≡ b
@@ -98,13 +114,13 @@ pub found_by_number : (xs : List FunctionBlocks) (i : ℕ) (x : FunctionBlocks) 
 found_by_number xs i x numbered at =
     find_only (λ (y : FunctionBlocks). nat_eq y.function.0 i) xs i x at (eq-eqb x.function.0 i (numbered i x at)) (λ j y here same. sym (numbered j y here) ∙ eqb-true y.function.0 i same)
 
-module _ (d : ModuleData) (xs : List FunctionBlocks) (gs : List D.Func) (distinct : IsDistinctNames (function_names d.functions))
-    (numbered : (i : ℕ) (f : Function) → slice_get d.functions i ≡ Some f → f.number ≡ i) (h : AreImported d d.functions xs gs) where
+module _ (d : ModuleData) (given : List Named) (xs : List FunctionBlocks) (gs : List D.Func) (distinct : IsDistinctNames (function_names d.functions))
+    (numbered : (i : ℕ) (f : Function) → slice_get d.functions i ≡ Some f → f.number ≡ i) (h : AreImported d given d.functions xs gs) where
   entry_numbered : (j : ℕ) (y : FunctionBlocks) → slice_get xs j ≡ Some y → y.function.0 ≡ j
   entry_numbered j y at =
-      let small : j < length d.functions = let s = slice_get_within xs j y at in let c = (count_imported d d.functions xs gs h).0 in omega (arith, s, c) in
+      let small : j < length d.functions = let s = slice_get_within xs j y at in let c = (count_imported d given d.functions xs gs h).0 in omega (arith, s, c) in
       let (f, here) = item_there d.functions j small in
-      let p = partner d d.functions xs gs h j f here in
+      let p = partner d given d.functions xs gs h j f here in
       let same : p.entry ≡ y = let e = sym p.entry_at ∙ at in cc in
       subst (λ (z : FunctionBlocks). z.function.0 ≡ j) same (p.imported.function ∙ numbered j f here)
 

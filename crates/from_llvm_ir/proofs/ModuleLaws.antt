@@ -1,7 +1,7 @@
 -- The start of a dialect module, and one function after another.
-use Rattle.std.proofs.Common.{ℕ, ◌≡◌, ◌+◌, inr, refl, sym, ap, subst, ◌∙◌, List, [], ◌∷◌, ◌++◌, Option, Some, None, All, map, length, take, slice_get, get_or, arith, eq-eqb}
+use Rattle.std.proofs.Common.{ℕ, ◌≡◌, ◌<◌, ◌+◌, inr, refl, sym, ap, subst, ◌∙◌, List, [], ◌∷◌, ◌++◌, Option, Some, None, All, map, length, take, slice_get, get_or, arith, eq-eqb}
 use Rattle.std.specs.Option.{option_map, option_map_or, option_and_then}
-use Rattle.std.proofs.lemmas.Option.{get_or_from_slice_get, same_Some, slice_get-map, slice_get_within}
+use Rattle.std.proofs.lemmas.Option.{same_Some, slice_get-get_or, slice_get_within}
 use Rattle.std.proofs.lemmas.List.{take_all, map_push}
 use Rattle.std.proofs.lemmas.List.Elements.{All-nil}
 use Rattle.support.proofs.ListLaws.{take_next, slice_get-push}
@@ -11,7 +11,8 @@ use Rattle.llvm_core.specs.Module.{Module}
 use Rattle.llvm_core.specs.Data as L
 use Rattle.llvm_core.specs.Data.{data_of as source_of}
 use Rattle.llvm_core.proofs.DataLemmas.{function_count}
-use Rattle.dialect_types.specs.Names.{legal_name}
+use Rattle.dialect_types.specs.Legalised.{Named, Gave, GoesOn, IsGiven, IsLegalised}
+use Rattle.dialect_types.proofs.LegalLaws.{gave_kept}
 use Rattle.dialect_core.specs.declared.numbers.BlockRef.{BlockRef}
 use Rattle.dialect_core.specs.declared.numbers.OpRef.{OpRef}
 use Rattle.dialect_core.specs.declared.ops.OpData.{OpData}
@@ -26,11 +27,16 @@ use Rattle.from_llvm_ir.specs.declared.importing.Imported.{Imported}
 use Rattle.from_llvm_ir.specs.declared.matching.FunctionBlocks.{FunctionBlocks}
 use Rattle.from_llvm_ir.specs.declared.conversion_err.ConversionErr.{ConversionErr}
 use Rattle.from_llvm_ir.specs.declared.conversion_err.ConversionErr.TheVariants as E
-use Rattle.from_llvm_ir.specs.Imported.{IsOwn, AreImported, NoneImported, ThenImported, ImportedFunction, IsBuilding, IsImported, imported_data}
+use Rattle.meaning.specs.Pairs.{Matched}
+use Rattle.meaning.proofs.MatchedLaws.{matched_at, matched_length}
+use Rattle.from_llvm_ir.specs.Imported.{FirstUses, NoUses, BeginsWith, IsOwn, AreImported, NoneImported, ThenImported, ImportedFunction, IsBuilding, IsImported, imported_data}
 use Rattle.from_llvm_ir.specs.Refusals.{IsCause, IsRefusalOfFunction}
 use Rattle.from_llvm_ir.specs.Source.{IsSource}
 use Rattle.from_llvm_ir.specs.Importing.{IsImportedTo}
+use Rattle.from_llvm_ir.specs.Naming.{names_in, HasMet, HasMetFirst}
 use Rattle.from_llvm_ir.specs.Building.{module_named}
+use Rattle.from_llvm_ir.proofs.ListLaws.{matched_next, matched_weaker}
+use Rattle.from_llvm_ir.proofs.NameLaws.{first_names, met_one, met_then}
 use Rattle.from_llvm_ir.proofs.BuildLaws.{at_end, length-push, region_more}
 use Rattle.from_llvm_ir.proofs.OwnLaws.{own_start, own_op, own_block}
 use Rattle.from_llvm_ir.proofs.WellLaws.{well_formed}
@@ -87,55 +93,78 @@ started c0 c1 c2 o b name e1 number e2 place is empty =
 
 -- ---- one function more
 
-imported_push : (d : L.ModuleData) (fs : List L.Function) (xs : List FunctionBlocks) (gs : List Func) (f : L.Function) (x : FunctionBlocks) (g : Func)
-    → AreImported d fs xs gs → ImportedFunction d f x g → AreImported d (fs ++ f ∷ []) (xs ++ x ∷ []) (gs ++ g ∷ [])
-imported_push d fs xs gs f x g NoneImported one = ThenImported f x g [] [] [] one NoneImported
-imported_push d fs xs gs f x g (ThenImported a y b before ys bs first more) one = ThenImported a y b _ _ _ first (imported_push d before ys bs f x g more one)
+imported_push : (d : L.ModuleData) (given : List Named) (fs : List L.Function) (xs : List FunctionBlocks) (gs : List Func) (f : L.Function) (x : FunctionBlocks) (g : Func)
+    → AreImported d given fs xs gs → ImportedFunction d given f x g → AreImported d given (fs ++ f ∷ []) (xs ++ x ∷ []) (gs ++ g ∷ [])
+imported_push d given fs xs gs f x g NoneImported one = ThenImported f x g [] [] [] one NoneImported
+imported_push d given fs xs gs f x g (ThenImported a y b before ys bs first more) one = ThenImported a y b _ _ _ first (imported_push d given before ys bs f x g more one)
 
-pub imported_none : (d : L.ModuleData) (c : ContextData) (o : ℕ) (body : BlockRef) (name : List ℕ) → IsBuilding c o body (module_named name) → IsImportedTo d 0 c o body name []
-imported_none d c o body name h = record { so_far = module_named name; building = h; name_is = refl; functions = NoneImported }
+pub imported_none : (d : L.ModuleData) (given : List Named) (c : ContextData) (o : ℕ) (body : BlockRef) (name : List ℕ) → IsBuilding c o body (module_named name) → IsImportedTo d given 0 c o body name []
+imported_none d given c o body name h = record { so_far = module_named name; building = h; name_is = refl; functions = NoneImported }
 
-pub imported_more : (d : L.ModuleData) (k : ℕ) (g : L.Function) (c c' : ContextData) (o : ℕ) (body : BlockRef) (name : List ℕ) (xs : List FunctionBlocks) (x : FunctionBlocks) (h : IsImportedTo d k c o body name xs)
-    → slice_get d.functions k ≡ Some g → (y : Func) × ImportedFunction d g x y × IsBuilding c' o body (with_func h.so_far y)
-    → IsImportedTo d (k + 1) c' o body name (xs ++ x ∷ [])
-imported_more d k g c c' o body name xs x h at one = record {
+pub imported_more : (d : L.ModuleData) (given : List Named) (k : ℕ) (g : L.Function) (c c' : ContextData) (o : ℕ) (body : BlockRef) (name : List ℕ) (xs : List FunctionBlocks) (x : FunctionBlocks) (h : IsImportedTo d given k c o body name xs)
+    → slice_get d.functions k ≡ Some g → (y : Func) × ImportedFunction d given g x y × IsBuilding c' o body (with_func h.so_far y)
+    → IsImportedTo d given (k + 1) c' o body name (xs ++ x ∷ [])
+imported_more d given k g c c' o body name xs x h at one = record {
   so_far = with_func h.so_far one.0;
   building = one.2;
   name_is = h.name_is;
-  functions = subst (λ (fs : List L.Function). AreImported d fs (xs ++ x ∷ []) (h.so_far.functions ++ one.0 ∷ [])) (sym (take_next d.functions k g at))
-      (imported_push d (take k d.functions) xs h.so_far.functions g x one.0 h.functions one.1);
+  functions = subst (λ (fs : List L.Function). AreImported d given fs (xs ++ x ∷ []) (h.so_far.functions ++ one.0 ∷ [])) (sym (take_next d.functions k g at))
+      (imported_push d given (take k d.functions) xs h.so_far.functions g x one.0 h.functions one.1);
 }
 
 -- the module is imported when all functions are, and its lists are short
-pub imported_whole : (m : Module) (c : ContextData) (i : Imported) (body : BlockRef) → AreRegions (region_at c.ops) (holder_at c.blocks) → ((o : OpRef) → kind_at c.ops o ≡ Some K.Func → IsSymbol c.ops o)
-    → IsFew (list_at c.lists body) × All (IsFewFunc c) (list_at c.lists body) → IsImportedTo (source_of m) (length m.functions) c i.«module».0.0 body (legal_name m.name) i.blocks → IsImported (source_of m) c i
-imported_whole m c i body regions symbols few h =
+pub imported_whole : (m : Module) (given : List Named) (c : ContextData) (i : Imported) (body : BlockRef) (name : List ℕ) → IsLegalised given → BeginsWith (source_of m) given → Gave given m.name name → AreRegions (region_at c.ops) (holder_at c.blocks) → ((o : OpRef) → kind_at c.ops o ≡ Some K.Func → IsSymbol c.ops o)
+    → IsFew (list_at c.lists body) × All (IsFewFunc c) (list_at c.lists body) → IsImportedTo (source_of m) given (length m.functions) c i.«module».0.0 body name i.blocks → IsImported (source_of m) c i
+imported_whole m given c i body name legal begins gave regions symbols few h =
     let same : imported_data c i ≡ h.so_far = h.building.is in
     let all = take_all (length m.functions) (source_of m).functions (omega (arith, function_count m)) in
     let building = subst (λ (d : DialectModule). IsBuilding c i.«module».0.0 body d) (sym same) h.building in
-    let functions = subst (λ (d : DialectModule). AreImported (source_of m) (source_of m).functions i.blocks d.functions) (sym same)
-    (subst (λ (fs : List L.Function). AreImported (source_of m) fs i.blocks h.so_far.functions) all h.functions) in
+    let functions = subst (λ (d : DialectModule). AreImported (source_of m) given (source_of m).functions i.blocks d.functions) (sym same)
+    (subst (λ (fs : List L.Function). AreImported (source_of m) given fs i.blocks h.so_far.functions) all h.functions) in
     record {
+      given = given;
+      legalised = legal;
+      begins = begins;
       body = body;
       building = building;
-      name = ap (λ (d : DialectModule). d.name) same ∙ h.name_is;
+      name = subst (Gave given m.name) (sym (ap (λ (d : DialectModule). d.name) same ∙ h.name_is)) gave;
       functions = functions;
-      well_formed = well_formed (source_of m) c i.«module».0.0 body i.blocks building functions regions symbols few;
+      well_formed = well_formed (source_of m) given legal c i.«module».0.0 body i.blocks building functions regions symbols few;
     }
+
+-- an import that begins with no names meets first that of the module and then those of its functions
+pub begun_with : (m : Module) (old between new : List Named) → old ≡ [] → HasMet old between (m.name ∷ []) → HasMetFirst between new (map (λ (f : L.Function). f.name) (source_of m).functions) → BeginsWith (source_of m) new
+begun_with m old between new none root functions =
+    let empty : names_in old ≡ [] = ap names_in none in
+    let first = root [] (subst (FirstUses []) (sym empty) NoUses) in
+    let names = first_names between new (map (λ (f : L.Function). f.name) (source_of m).functions) functions (m.name ∷ []) first in
+    record { firsts = names.0; first_uses = names.1; others = names.2; are = names.3 }
 
 -- what refuses a function refuses the module
 pub function_cause : (m : Module) (f : LLVMFunction) (g : L.Function) (e : ConversionErr) → IsSource m f g → IsRefusalOfFunction g e → IsCause (source_of m) e
 function_cause m f g (E.UndefinedValue name v) h refused = record { place = f.0; f = g; at = h.at; refused = refused }
 function_cause m f g E.NoMemory h refused = tt
 
--- the name that was given to a function
-pub name_given : (fs : List L.Function) (names : List (List ℕ)) (k : ℕ) (g : L.Function) (x : List ℕ) → names ≡ map (λ (f : L.Function). f.name) fs → slice_get fs k ≡ Some g → x ≡ get_or names k x → x ≡ g.name
-name_given fs names k g x are at is =
-    is ∙ get_or_from_slice_get names k g.name x (ap (λ (ns : List (List ℕ)). slice_get ns k) are ∙ slice_get-map (λ (f : L.Function). f.name) fs k ∙ ap (option_map (λ (f : L.Function). f.name)) at)
+-- as many identifiers as functions
+pub names_long : (fs : List L.Function) (given : List Named) (names : List (List ℕ)) → Matched (λ (f : L.Function) (n : List ℕ). Gave given f.name n) fs names → (k : ℕ) → k < length fs → k < length names
+names_long fs given names are k lt = let long = matched_length (λ (f : L.Function) (n : List ℕ). Gave given f.name n) fs names are in omega (arith, long, lt)
 
--- the names of one function more
-pub names_more : (fs : List L.Function) (k : ℕ) (g : L.Function) (old new : List (List ℕ)) (name : List ℕ) → old ≡ map (λ (f : L.Function). f.name) (take k fs) → new ≡ old ++ name ∷ [] → name ≡ g.name → slice_get fs k ≡ Some g
-    → new ≡ map (λ (f : L.Function). f.name) (take (k + 1) fs)
-names_more fs k g old new name before is same at =
-    is ∙ ap (λ (ns : List (List ℕ)). ns ++ name ∷ []) before ∙ ap (λ (n : List ℕ). map (λ (f : L.Function). f.name) (take k fs) ++ n ∷ []) same
-    ∙ sym (map_push (λ (f : L.Function). f.name) (take k fs) g) ∙ sym (ap (map (λ (f : L.Function). f.name)) (take_next fs k g at))
+-- the identifier that was given to a function
+pub name_given : (given : List Named) (fs : List L.Function) (names : List (List ℕ)) (k : ℕ) (g : L.Function) (x : List ℕ) → Matched (λ (f : L.Function) (n : List ℕ). Gave given f.name n) fs names → slice_get fs k ≡ Some g → x ≡ get_or names k x → Gave given g.name x
+name_given given fs names k g x are at is =
+    let within = names_long fs given names are k (slice_get_within fs k g at) in
+    subst (Gave given g.name) (sym is) (matched_at (λ (f : L.Function) (n : List ℕ). Gave given f.name n) fs names are k g (get_or names k x) at (slice_get-get_or names k x within))
+
+-- one function more was given its identifier
+pub given_more : (old new : List Named) (fs : List L.Function) (k : ℕ) (g : L.Function) (ns ms : List (List ℕ)) (i : List ℕ) → GoesOn old new → Matched (λ (f : L.Function) (n : List ℕ). Gave old f.name n) (take k fs) ns → slice_get fs k ≡ Some g → Gave new g.name i → ms ≡ ns ++ i ∷ []
+    → Matched (λ (f : L.Function) (n : List ℕ). Gave new f.name n) (take (k + 1) fs) ms
+given_more old new fs k g ns ms i on before at gave is =
+    matched_next (λ (f : L.Function) (n : List ℕ). Gave new f.name n) fs k g ns ms i at
+    (matched_weaker (λ (f : L.Function) (n : List ℕ). Gave old f.name n) (λ (f : L.Function) (n : List ℕ). Gave new f.name n) (λ f n h. gave_kept old new f.name n on h) (take k fs) ns before) gave is
+
+-- and met
+pub met_more : (first old new : List Named) (fs : List L.Function) (k : ℕ) (g : L.Function) (i : List ℕ) → HasMet first old (map (λ (f : L.Function). f.name) (take k fs)) → IsGiven old new g.name i → slice_get fs k ≡ Some g
+    → HasMet first new (map (λ (f : L.Function). f.name) (take (k + 1) fs))
+met_more first old new fs k g i before given at =
+    subst (HasMet first new) (sym (map_push (λ (f : L.Function). f.name) (take k fs) g) ∙ sym (ap (map (λ (f : L.Function). f.name)) (take_next fs k g at)))
+    (met_then first old new (map (λ (f : L.Function). f.name) (take k fs)) (g.name ∷ []) before (met_one old new g.name i given))

@@ -26,7 +26,7 @@ use Rattle.from_llvm_ir.proofs.ListLaws.{other_there}
 use Rattle.from_llvm_ir.proofs.PlaceLaws.{flat_from}
 use Rattle.from_llvm_ir.proofs.OrderLaws.{ordered_first}
 use Rattle.from_llvm_ir.proofs.PassLaws.{count_there, there_edge, target_there, phi_is, phi_form}
-use Rattle.from_llvm_ir.proofs.Whole.{IsWhole, the_func, beside_from, target_at, source_block_apart, entry, listed_length}
+use Rattle.from_llvm_ir.proofs.Whole.{IsWhole, Head, the_func, beside_from, target_at, source_block_apart, entry, listed_length}
 use Rattle.from_llvm_ir.proofs.ExportLaws.{first_item}
 use Rattle.from_llvm_ir.proofs.HoistedLaws.{rows_of, closed, not_among}
 
@@ -35,7 +35,7 @@ abbrev pub operand_of_key : Key → L.Operand
 operand_of_key (ParamKey f i) = L.Parameter f i
 operand_of_key (ResultKey n) = L.Result n
 
-module _ (n : ℕ) (k : Known) (cs : List DialectBlock) (h : IsWhole k cs) where
+module _ (n : Head) (k : Known) (cs : List DialectBlock) (h : IsWhole k cs) where
   abbrev g : L.Function
   g = k.frame.source
 

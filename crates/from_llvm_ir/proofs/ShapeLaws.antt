@@ -44,7 +44,7 @@ use Rattle.from_llvm_ir.proofs.PlaceLaws.{flat_same, flat_none}
 use Rattle.from_llvm_ir.proofs.OrderLaws.{ordered_at, ordered_first, placed, not_first}
 use Rattle.from_llvm_ir.proofs.PassLaws.{takes, phi_is, inst_form, operands_usable}
 use Rattle.from_llvm_ir.proofs.HoistedLaws.{rows_of, is_among, term_of}
-use Rattle.from_llvm_ir.proofs.Whole.{IsWhole, the_func, bs_length, first_source, operand_typed, target_at, find_target, find_source, source_block_apart, target_apart, entry}
+use Rattle.from_llvm_ir.proofs.Whole.{IsWhole, Head, the_func, bs_length, first_source, operand_typed, target_at, find_target, find_source, source_block_apart, target_apart, entry}
 use Rattle.from_llvm_ir.proofs.EdgeLaws.{EdgeAt, edge_at, args_length, arg_at}
 use Rattle.from_llvm_ir.proofs.FormLaws.{constant_here}
 use Rattle.from_llvm_ir.proofs.PlanLaws.{plan, is_plan, starts, stands_value}
@@ -124,7 +124,7 @@ place_found {X = X} number from (y ∷ xs) (suc i) x m at is one =
     ∙ place_found number (from + 1) xs i x m at is (λ j z here same. let s = one (suc j) z here same in omega (arith, s))
     ∙ ap Some (let e : from + 1 + i ≡ from + suc i = omega arith in e)
 
-module _ (source made : Setting) (n : ℕ) (k : Known) (cs : List DialectBlock) (h : IsWhole k cs) (match : Match) where
+module _ (source made : Setting) (n : Head) (k : Known) (cs : List DialectBlock) (h : IsWhole k cs) (match : Match) where
   abbrev g : L.Function
   g = k.frame.source
 

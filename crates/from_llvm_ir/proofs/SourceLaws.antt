@@ -200,6 +200,12 @@ name_of m f g h name has =
     let same : row.0 ≡ x.0 = same_Some row.0 x.0 (sym row.1.0 ∙ x.1.0) in
     sym x.1.1 ∙ sym (ap (λ (y : FunctionData). y.name) same) ∙ sym (ap (λ (y : Function). y.name) row.1.1)
 
+-- the function of that number, by its name
+pub function_named : (m : Module) (k : ℕ) (name : List ℕ) → k < length m.functions → option_map (λ (x : FunctionData). x.name) (slice_get m.functions k) ≡ Some name → (g : Function) × (slice_get (data_of m).functions k ≡ Some g) × (name ≡ g.name)
+function_named m k name lt has =
+    let x = part_of (λ (y : FunctionData). y.name) (slice_get m.functions k) name has in
+    (function_of (trees_of m) m.blocks m.insts (k, x.0), function_at m k x.0 x.1.0, sym x.1.1)
+
 -- each function of a module of the form is a source
 pub source_at : (m : Module) (k : ℕ) → IsModule m → IsForm (data_of m) → k < length m.functions → (g : Function) × IsSource m (record { 0 = k }) g
 source_at m k sound form lt =

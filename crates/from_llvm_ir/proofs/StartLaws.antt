@@ -22,6 +22,8 @@ use Rattle.llvm_core.specs.Data as L
 use Rattle.llvm_core.specs.Data.{trees_of, operand_of, data_of}
 use Rattle.llvm_core.proofs.DataLemmas.{within_at}
 use Rattle.support.proofs.ListLaws.{distinct_nil, distinct_push, item_there}
+use Rattle.dialect_types.specs.Names.{IsIdentifier}
+use Rattle.dialect_types.specs.Legalised.{Named, Gave}
 use Rattle.dialect_core.specs.declared.numbers.BlockRef.{BlockRef}
 use Rattle.dialect_core.specs.declared.numbers.FuncOp.{FuncOp}
 use Rattle.dialect_core.specs.declared.ops.Value.{Value}
@@ -38,7 +40,7 @@ use Rattle.from_llvm_ir.specs.Order.{IsInverse}
 use Rattle.from_llvm_ir.specs.Walks.{graph_of, HasDominatedUses}
 use Rattle.from_llvm_ir.specs.Types.{GrowsTypes}
 use Rattle.from_llvm_ir.specs.Values.{Targets, target_at, param_at, value_at}
-use Rattle.from_llvm_ir.specs.Imported.{FirstUses, NoUses, UsedAgain, UsedFirst, ImportedFunction, IsBuilding, IsBelow, front_for, given_name, label_for, phis_of}
+use Rattle.from_llvm_ir.specs.Imported.{FirstUses, NoUses, UsedAgain, UsedFirst, ImportedFunction, IsBuilding, IsBelow, IsGivenName, IsLabel, front_for, kept_name, phis_of}
 use Rattle.from_llvm_ir.specs.Building.{AreBare, AreFresh, AreNumbered, IsUnder, bare_func, with_blocks, with_ops, ops_of}
 use Rattle.from_llvm_ir.specs.Source.{IsSource, IsBlockOf}
 use Rattle.from_llvm_ir.specs.Known.{Frame, Known, Stands, Notes, IsOlder, IsKnown, blocks_of, knows, value_of}
@@ -51,13 +53,13 @@ use Rattle.from_llvm_ir.proofs.PlaceLaws.{flat_none, number_apart}
 use Rattle.from_llvm_ir.proofs.OrderLaws.{ordered_length, ordered_here, ordered_apart}
 use Rattle.from_llvm_ir.proofs.SourceLaws.{block_listed_at, block_number, blocks_listed, number_is}
 use Rattle.from_llvm_ir.proofs.FrameLaws.{frame_length}
-use Rattle.from_llvm_ir.proofs.Whole.{IsWhole, the_func}
+use Rattle.from_llvm_ir.proofs.Whole.{IsWhole, Head, the_func}
 use Rattle.from_llvm_ir.proofs.WholeLaws.{imported}
 
 -- ---- a block more
 
 pub more_heads : (fr : Frame) (func : FuncOp) (c c' c1 : ContextData) (j : ℕ) (b : L.Block) (x : DialectBlock) → HasHeads fr func c j → GrowsTypes c c'
-    → slice_get (blocks_of fr) j ≡ Some b → x.number ≡ length c'.blocks → x.label ≡ label_for j b → x.args ≡ args_for fr.source j b → x.ops ≡ []
+    → slice_get (blocks_of fr) j ≡ Some b → x.number ≡ length c'.blocks → IsLabel fr.given j b x.label → x.args ≡ args_for fr.source j b → x.ops ≡ []
     → ((m : ℕ) (body : BlockRef) (d : DialectModule) → IsBuilding c' m body d → IsBuilding c1 m body (with_func_block d func.0.0 x))
     → kind_at c1.ops func.0 ≡ Some O.Func → length c1.blocks ≡ length c'.blocks + 1
     → HasHeads fr func c1 (j + 1)
@@ -88,14 +90,14 @@ more_heads fr func c c' c1 j b x h grown here number label args ops added kind l
 
 -- a block behind the first
 pub later_heads : (fr : Frame) (func : FuncOp) (c c' c1 : ContextData) (j : ℕ) (b : L.Block) (x : DialectBlock) → HasHeads fr func c (j + 1) → GrowsTypes c c'
-    → slice_get (blocks_of fr) (j + 1) ≡ Some b → x.number ≡ length c'.blocks → x.label ≡ given_name b.name → x.args ≡ map (λ (p : L.Placed). p.type) (phis_of b) → x.ops ≡ []
+    → slice_get (blocks_of fr) (j + 1) ≡ Some b → x.number ≡ length c'.blocks → IsGivenName fr.given b.name x.label → x.args ≡ map (λ (p : L.Placed). p.type) (phis_of b) → x.ops ≡ []
     → ((m : ℕ) (body : BlockRef) (d : DialectModule) → IsBuilding c' m body d → IsBuilding c1 m body (with_func_block d func.0.0 x))
     → kind_at c1.ops func.0 ≡ Some O.Func → length c1.blocks ≡ length c'.blocks + 1
     → HasHeads fr func c1 (j + 2)
 later_heads fr func c c' c1 j b x h grown here number label args ops added kind longer =
     let next : ℕ.suc j ≡ j + 1 = omega arith in
     subst (HasHeads fr func c1) (let e : j + 1 + 1 ≡ j + 2 = omega arith in e)
-    (more_heads fr func c c' c1 (j + 1) b x h grown here number (label ∙ ap (λ (n : ℕ). label_for n b) next) (args ∙ ap (λ (n : ℕ). args_for fr.source n b) next) ops added kind longer)
+    (more_heads fr func c c' c1 (j + 1) b x h grown here number (subst (λ (n : ℕ). IsLabel fr.given n b x.label) next label) (args ∙ ap (λ (n : ℕ). args_for fr.source n b) next) ops added kind longer)
 
 -- the number of the next block
 pub next_head : (fr : Frame) (func : FuncOp) (c c' : ContextData) (j n : ℕ) → HasHeads fr func c j → GrowsTypes c c' → n ≡ length c'.blocks → n ≡ fr.base + j
@@ -219,16 +221,17 @@ params_noted m fr f block n values number count first h = record {
 -- ---- the start
 
 -- a function that was declared has no blocks yet
-abbrev pub framed : ℕ → BlockRef → DialectModule → ℕ → L.Function → List ℕ → ℕ → Frame
-framed m body d n g order base = record {
-  home = record { m = m; body = body; before = d; func = bare_func n g.name g.type };
+abbrev pub framed : List Named → ℕ → BlockRef → DialectModule → ℕ → List ℕ → L.Function → List ℕ → ℕ → Frame
+framed given m body d n name g order base = record {
+  given = given;
+  home = record { m = m; body = body; before = d; func = bare_func n name (kept_name g.name name) g.type };
   source = g;
   order = order;
   base = base;
 }
 
-pub no_heads : (g : L.Function) (c : ContextData) (m : ℕ) (body : BlockRef) (d : DialectModule) (func : FuncOp) (order : List ℕ) → IsDeclared g c m body d func.0.0 → kind_at c.ops func.0 ≡ Some O.Func → HasHeads (framed m body d func.0.0 g order (length c.blocks)) func c 0
-no_heads g c m body d func order h kind = record {
+pub no_heads : (given : List Named) (name : List ℕ) (g : L.Function) (c : ContextData) (m : ℕ) (body : BlockRef) (d : DialectModule) (func : FuncOp) (order : List ℕ) → IsDeclared g name c m body d func.0.0 → kind_at c.ops func.0 ≡ Some O.Func → HasHeads (framed given m body d func.0.0 name g order (length c.blocks)) func c 0
+no_heads given name g c m body d func order h kind = record {
   heads = [];
   above = h.building.held.block;
   building = h.building;
@@ -241,8 +244,8 @@ no_heads g c m body d func order h kind = record {
   bare = λ i x at. absurd (none-some x at);
 }
 
-pub is_framed : (s : Module) (f : LLVMFunction) (g : L.Function) (m : ℕ) (body : BlockRef) (d : DialectModule) (n : ℕ) (order : List ℕ) (base : ℕ) → IsSource s f g → IsPlaces (length g.blocks) order → IsFramed s f (framed m body d n g order base)
-is_framed s f g m body d n order base h places = record { source = h; number = number_is s f g h; order = places; func = (n, refl) }
+pub is_framed : (s : Module) (f : LLVMFunction) (given : List Named) (g : L.Function) (m : ℕ) (body : BlockRef) (d : DialectModule) (n : ℕ) (name : List ℕ) (order : List ℕ) (base : ℕ) → IsSource s f g → IsPlaces (length g.blocks) order → IsIdentifier name → Gave given g.name name → IsFramed s f (framed given m body d n name g order base)
+is_framed s f given g m body d n name order base h places legal gave = record { source = h; number = number_is s f g h; order = places; func = (n, name, refl, legal, gave) }
 
 -- ---- nothing is hoisted yet
 
@@ -380,12 +383,15 @@ module _ (m : Module) (f : LLVMFunction) (fr : Frame) (c : ContextData) (values 
     behind = λ i j o w at_o at_w. result_apart h.known.split _ _ _ o w (within_at h.hoisted (λ (x : DialectOp). x.number < h.known.split) h.known.hoisted i o at_o) (h.known.older j w at_w);
   }
 
-  func_is : the_func framed.func.0 k h.left ≡ with_blocks fr.home h.left
-  func_is = ap (λ (g : Func). record g { blocks = h.left }) (sym framed.func.1)
+  abbrev head : Head
+  head = record { number = framed.func.0; name = framed.func.1 }
 
-  pub function_whole : (x : FunctionBlocks) → x.function ≡ f → IsInverse fr.order x.places → IsPlaces (length fr.source.blocks) x.places → IsDepthFirst (graph_of fr.source) fr.order → HasDominatedUses fr.source → (y : Func) × ImportedFunction (data_of m) fr.source x y × IsBuilding c fr.home.m fr.home.body (with_func fr.home.before y)
+  func_is : the_func head k h.left ≡ with_blocks fr.home h.left
+  func_is = ap (λ (g : Func). record g { blocks = h.left }) (sym framed.func.2)
+
+  pub function_whole : (x : FunctionBlocks) → x.function ≡ f → IsInverse fr.order x.places → IsPlaces (length fr.source.blocks) x.places → IsDepthFirst (graph_of fr.source) fr.order → HasDominatedUses fr.source → (y : Func) × ImportedFunction (data_of m) fr.given fr.source x y × IsBuilding c fr.home.m fr.home.body (with_func fr.home.before y)
   function_whole x is inverse places depth_first dominated = (
-    the_func framed.func.0 k h.left,
-    imported (data_of m) framed.func.0 k h.left whole x inverse places (ap (λ (g : LLVMFunction). g.0) is ∙ sym framed.number) depth_first dominated h.known.first_uses,
+    the_func head k h.left,
+    imported (data_of m) head k h.left whole x inverse places (ap (λ (g : LLVMFunction). g.0) is ∙ sym framed.number) depth_first dominated h.known.first_uses framed.func.3 framed.func.4,
     subst (λ (y : Func). IsBuilding c fr.home.m fr.home.body (with_func fr.home.before y)) (sym func_is) under_left.building,
   )

@@ -7,6 +7,8 @@ use Rattle.support.proofs.ListLaws.{all_from}
 use Rattle.llvm_core.specs.Data as L
 use Rattle.dialect_types.specs.declared.types.TypeHandle.{TypeHandle}
 use Rattle.dialect_types.specs.Trees.{type_at, type_trees}
+use Rattle.dialect_types.specs.Legalised.{Named, Gave, IsLegalised}
+use Rattle.dialect_types.proofs.LegalLaws.{one_name}
 use Rattle.dialect_core.specs.declared.numbers.OpRef.{OpRef}
 use Rattle.dialect_core.specs.declared.numbers.BlockRef.{BlockRef}
 use Rattle.dialect_core.specs.declared.ops.OpKind.TheVariants as K
@@ -14,7 +16,7 @@ use Rattle.dialect_core.specs.declared.ops.OpData.{OpData}
 use Rattle.dialect_core.specs.declared.ops.BlockData.{BlockData}
 use Rattle.dialect_core.specs.Lists.{list_at}
 use Rattle.dialect_core.specs.ContextData.{ContextData, AreRegions, IsSymbol, holder_at, is_func, kind_at, region_at}
-use Rattle.dialect_core.specs.Data.{Func, data_of, held, type_in}
+use Rattle.dialect_core.specs.Data.{Func, llvm_name_of, data_of, held, type_in}
 use Rattle.dialect_core.specs.Form.{IsFormFunc, IsExportable, LeadsToOwn}
 use Rattle.kinds.specs.Held.{IsFirstClass}
 use Rattle.dialect_core.specs.WellFormed.{HasFirstClassArgs, IsFew, IsFewFunc, IsOpenForm, IsPlainAt, IsWellFormedFunc, HasNamesApart, IsWellFormed}
@@ -26,20 +28,28 @@ use Rattle.meaning.specs.Code.{IsDistinctNames}
 use Rattle.from_llvm_ir.specs.declared.matching.FunctionBlocks.{FunctionBlocks}
 use Rattle.from_llvm_ir.specs.Imported.{AreImported, IsBuilding}
 use Rattle.from_llvm_ir.proofs.OwnLaws.{held_list, held_own}
-use Rattle.from_llvm_ir.proofs.MatchedLaws.{function_names, forms_imported, exportable_imported, names_imported}
+use Rattle.from_llvm_ir.proofs.MatchedLaws.{function_names, forms_imported, exportable_imported, name_at, names_imported, original}
 
 -- ---- names
 
--- functions whose names are distinct have names apart
-names_apart : (ns : List (List ℕ)) (gs : List Func) → map (λ (g : Func). g.name) gs ≡ ns → IsDistinctNames ns → HasNamesApart gs
-names_apart ns gs are distinct i j f g at_f at_g same = distinct i j f.name (named i f at_f) (named j g at_g ∙ ap Some (sym same))
+-- functions whose LLVM names are distinct have these apart
+names_apart : (ns : List (List ℕ)) (gs : List Func) → map llvm_name_of gs ≡ ns → IsDistinctNames ns → HasNamesApart llvm_name_of gs
+names_apart ns gs are distinct i j f g at_f at_g same = distinct i j (llvm_name_of f) (named i f at_f) (named j g at_g ∙ ap Some (sym same))
   where
-    named : (i : ℕ) (f : Func) → slice_get gs i ≡ Some f → slice_get ns i ≡ Some f.name
-    named i f at = ap (λ (xs : List (List ℕ)). slice_get xs i) (sym are) ∙ slice_get-map (λ (g : Func). g.name) gs i ∙ ap (option_map (λ (g : Func). g.name)) at
+    named : (i : ℕ) (f : Func) → slice_get gs i ≡ Some f → slice_get ns i ≡ Some (llvm_name_of f)
+    named i f at = ap (λ (xs : List (List ℕ)). slice_get xs i) (sym are) ∙ slice_get-map llvm_name_of gs i ∙ ap (option_map llvm_name_of) at
+
+-- and their identifiers too, since those of two names are two
+identifiers_apart : (d : L.ModuleData) (given : List Named) (xs : List FunctionBlocks) (gs : List Func) → IsLegalised given → AreImported d given d.functions xs gs → IsDistinctNames (function_names d.functions) → HasNamesApart (λ (g : Func). g.name) gs
+identifiers_apart d given xs gs legal h distinct i j f g at_f at_g same =
+    let a = original d given d.functions xs gs h i f at_f in
+    let b = original d given d.functions xs gs h j g at_g in
+    let one : a.source.name ≡ b.source.name = one_name given a.source.name b.source.name g.name legal (subst (Gave given a.source.name) same a.name) b.name in
+    distinct i j a.source.name (name_at d.functions i a.source a.at) (name_at d.functions j b.source b.at ∙ ap Some (sym one))
 
 -- ---- the rules
 
-module _ (d : L.ModuleData) (c : ContextData) (m : ℕ) (body : BlockRef) (xs : List FunctionBlocks) (h : IsBuilding c m body (data_of c m)) (functions : AreImported d d.functions xs (data_of c m).functions)
+module _ (d : L.ModuleData) (given : List Named) (legal : IsLegalised given) (c : ContextData) (m : ℕ) (body : BlockRef) (xs : List FunctionBlocks) (h : IsBuilding c m body (data_of c m)) (functions : AreImported d given d.functions xs (data_of c m).functions)
     (regions : AreRegions (region_at c.ops) (holder_at c.blocks)) (symbols : (o : OpRef) → kind_at c.ops o ≡ Some K.Func → IsSymbol c.ops o) (few : IsFew (list_at c.lists body) × All (IsFewFunc c) (list_at c.lists body)) where
   abbrev gs : List Func
   gs = (data_of c m).functions
@@ -81,10 +91,10 @@ module _ (d : L.ModuleData) (c : ContextData) (m : ℕ) (body : BlockRef) (xs : 
       all_at (IsPlainAt c) (list_at c.lists w.0) (h.apart.plain w.0 (omega (arith, ne, le)) (within f.0 w.1.0 w.0 w.1.1)) w.2.0 o w.2.1)
 
   forms : All IsFormFunc gs
-  forms = forms_imported d d.functions xs gs functions
+  forms = forms_imported d given d.functions xs gs functions
 
   own_targets : All LeadsToOwn gs
-  own_targets = All-weaker IsExportable LeadsToOwn (λ g fit. fit.targets) gs (exportable_imported d d.functions xs gs functions)
+  own_targets = All-weaker IsExportable LeadsToOwn (λ g fit. fit.targets) gs (exportable_imported d given d.functions xs gs functions)
 
   lists : IsFew (held c m) × All (IsFewFunc c) (held c m)
   lists = let P : List OpRef → Type 0 = λ os. IsFew os × All (IsFewFunc c) os in subst P (sym (held_list c m body h.held)) few
@@ -105,4 +115,4 @@ module _ (d : L.ModuleData) (c : ContextData) (m : ℕ) (body : BlockRef) (xs : 
       own_module c regions symbols m h.held.kind (rw h.held.region (omega arith)) args funcs_alone
       (all_from (λ (o : OpRef). All (IsPlainAt c) (held c o.0)) (held c m) (λ k o at. plain_held o (held_own c m body h.held h.own k o at) (all_at (λ (o : OpRef). kind_at c.ops o ≡ Some K.Func) (held c m) funcs_alone k o at)))
       (All-weaker (IsOpenForm c) (IsWellFormedFunc (type_in c)) (λ g form. form.0) gs (module_open c m own_targets forms)) own_targets
-      (names_apart (function_names d.functions) gs (names_imported d d.functions xs gs functions) distinct) lists.0 lists.1
+      (identifiers_apart d given xs gs legal functions distinct) (names_apart (function_names d.functions) gs (names_imported d given d.functions xs gs functions) distinct) lists.0 lists.1

@@ -18,6 +18,7 @@ use Rattle.dialect_core.specs.declared.ops.Value.TheVariants as V
 use Rattle.dialect_core.specs.Data.{DialectOp, DialectBlock, Func, value_type}
 use Rattle.meaning.specs.Pairs.{Matched}
 use Rattle.from_llvm_ir.specs.Match.{IsPlaces}
+use Rattle.from_llvm_ir.specs.Imported.{kept_name}
 use Rattle.from_llvm_ir.specs.Building.{AreNumbered, bare_func, ops_of}
 use Rattle.from_llvm_ir.specs.Known.{Known, Stands, IsConstantOp, beside, blocks_of, value_of}
 use Rattle.from_llvm_ir.specs.Converted.{IsConverted, AreConverted, IsFrom, FromArgument, FromResult, AreFrom}
@@ -98,10 +99,15 @@ constant_result : (c : ConstTree) (o : DialectOp) → IsConstantOp c o → o.res
 constant_result (IntConst w v) o h = ap (λ (x : DialectOp). x.result) h
 constant_result (PlaceholderConst n t) o h = elim h [ ]
 
-abbrev pub the_func : ℕ → Known → List DialectBlock → Func
-the_func n k cs = record (bare_func n k.frame.source.name k.frame.source.type) { blocks = cs }
+-- the number and the name of a function of the dialect
+pub record Head : Type 0 where
+  pub number : ℕ
+  pub name : List ℕ
 
-module _ (n : ℕ) (k : Known) (cs : List DialectBlock) (h : IsWhole k cs) where
+abbrev pub the_func : Head → Known → List DialectBlock → Func
+the_func n k cs = record (bare_func n.number n.name (kept_name k.frame.source.name n.name) k.frame.source.type) { blocks = cs }
+
+module _ (n : Head) (k : Known) (cs : List DialectBlock) (h : IsWhole k cs) where
   abbrev g : L.Function
   g = k.frame.source
 

@@ -8,6 +8,7 @@ use Rattle.llvm_core.specs.Module.{Module}
 use Rattle.llvm_core.specs.Data as L
 use Rattle.llvm_core.specs.Data.{ConstTree, Placed, data_of}
 use Rattle.llvm_core.specs.Form.{is_phi}
+use Rattle.dialect_types.specs.Names.{IsIdentifier}
 use Rattle.dialect_types.specs.Legalised.{Gave}
 use Rattle.dialect_core.specs.declared.numbers.BlockRef.{BlockRef}
 use Rattle.dialect_core.specs.declared.ops.Value.{Value}
@@ -39,7 +40,7 @@ pub record IsFramed (m : Module) (f : LLVMFunction) (fr : Frame) : Type 0 where
   pub source : IsSource m f fr.source
   pub number : fr.source.number ≡ f.0
   pub order : IsPlaces (length fr.source.blocks) fr.order
-  pub func : (n : ℕ) × (name : List ℕ) × (fr.home.func ≡ bare_func n name (kept_name fr.source.name name) fr.source.type) × Gave fr.given fr.source.name name
+  pub func : (n : ℕ) × (name : List ℕ) × (fr.home.func ≡ bare_func n name (kept_name fr.source.name name) fr.source.type) × IsIdentifier name × Gave fr.given fr.source.name name
 
 -- the constants that an instruction uses, if it is no phi
 abbrev pub uses_of_inst : L.ModuleData → L.Function → L.Block → Placed → List ConstTree

@@ -2,6 +2,7 @@
 
 ghost use Rattle.std.specs.Prelude.{◌≡◌, ◌<◌, ◌≤◌, ◌+◌, ◌∷◌, ◌++◌, [], List, ℕ, None, Some, IsTrue, IfOk, IfSome, OnOk, All, length, map, slice_get};
 ghost use Rattle.std.specs.Option.{option_map};
+ghost use Rattle.dialect_types.specs.Names.{IsIdentifier};
 ghost use Rattle.dialect_types.specs.Trees.{type_at, type_trees};
 ghost use Rattle.dialect_core.specs.declared.ops.OpKind.TheVariants as kinds;
 ghost use Rattle.dialect_core.specs.ContextData.{HoldsMore, kind_at, is_plain, with_op, with_block, IsValueWithin, IsSuccessorWithin};
@@ -24,7 +25,7 @@ use support::items::Items;
 use support::short_list::ShortList;
 
 /// A new function without blocks, in no block, which keeps its LLVM name where its own is another.
-fn create_func(
+fn new_func(
     ctx: &mut Context,
     name: Identifier,
     llvm_name: &str,
@@ -34,9 +35,11 @@ fn create_func(
     ensures ok { OnOk result (ctx.new ≡ with_op ctx.old (func_data name (kept_name llvm_name.now name) ty)) }
     ensures number { IfOk result (λ f. f.0.0 ≡ length ctx.old.ops) }
     ensures free { IfOk result (λ f. slice_get ctx.new.parents f.0.0 ≡ Some None) }
+    ensures legal { IsIdentifier name }
     ensures data { OnOk result ((m : ℕ) → m < length ctx.old.ops → data_of ctx.new m ≡ data_of ctx.old m) }
     ensures typed { OnOk result (IsTyped ctx.old → IsTyped ctx.new) }
-    ensures kept { (n b : ℕ) → n ≤ length ctx.old.ops → Keeps n b ctx.old ctx.new }
+    ensures types { ctx.new.types ≡ ctx.old.types }
+    ensures kept { (n b : ℕ) → Keeps n b ctx.old ctx.new }
 {
     let same = name.as_str() == llvm_name;
     let func = ctx.create_func(name, ty, LinkageAttr::ExternalLinkage)?;
@@ -60,12 +63,13 @@ pub fn add_func<L: Ledger>(
     ensures building { IfOk result (λ f. (m : ℕ) → (d : DialectModule) → IsBuilding ctx.old m body d → IsBuilding ctx.new m body (with_func d (bare_func f.0.0 name (kept_name llvm_name.now name) (type_at (type_trees ctx.old.types) ty)))) }
     ensures func { IfOk result (λ f. kind_at ctx.new.ops f.0 ≡ Some kinds.Func) }
     ensures number { IfOk result (λ f. f.0.0 ≡ length ctx.old.ops) }
+    ensures legal { IsIdentifier name }
     ensures blocks { OnOk result (ctx.new.blocks ≡ ctx.old.blocks) }
     ensures types { ctx.new.types ≡ ctx.old.types }
     ensures kept { (m : ℕ) → (d : DialectModule) → IsBuilding ctx.old m body d → (n b : ℕ) → n ≤ m → b ≤ body.0 → Keeps n b ctx.old ctx.new }
 {
     ctx.keeps_regions();
-    let func = create_func(ctx, name, llvm_name, ty)?;
+    let func = new_func(ctx, name, llvm_name, ty)?;
     ctx.insert_at_back(func.0, body, steps);
     Ok(func)
 }

@@ -6,10 +6,12 @@ ghost use Rattle.dialect_core.specs.declared.ops.OpKind.TheVariants as kinds;
 ghost use Rattle.dialect_core.specs.ContextData.{kind_at};
 ghost use Rattle.from_llvm_ir.specs.declared.values.Values.{Values};
 ghost use Rattle.llvm_core.specs.Module.{Module};
+ghost use Rattle.dialect_types.specs.Legalised.{Gave, GoesOn};
 ghost use Rattle.llvm_core.specs.Data.{Block, Function, data_of};
 ghost use Rattle.dialect_core.specs.Data.{DialectModule, Func, with_func};
 ghost use Rattle.from_llvm_ir.specs.Imported.{ImportedFunction, IsBuilding};
 ghost use Rattle.from_llvm_ir.specs.Keeping.{Keeps};
+ghost use Rattle.from_llvm_ir.specs.Naming.{ForLater};
 ghost use Rattle.from_llvm_ir.specs.Order.{IsInverse, IsRpo};
 ghost use Rattle.from_llvm_ir.specs.Source.{IsSource, IsBlockOf};
 ghost use Rattle.from_llvm_ir.specs.Known.{Frame, Notes, knows, blocks_of};
@@ -165,7 +167,7 @@ fn import_body<L: Ledger>(
     ensures ok { OnOk result ((fr : Frame) → IsFramed source.now f fr → fr.order ≡ order.now → HasHeads fr func ctx.old 0 → GoesOn names.new fr.given
         → (values : Values) × IsFilled fr source.now ctx.new values (length order.now)) }
     ensures grows { GoesOn names.old names.new }
-    ensures err { IfErr result (λ e. (fr : Frame) → IsFramed source.now f fr → fr.order ≡ order.now → HasHeads fr func ctx.old 0
+    ensures err { IfErr result (λ e. (fr : Frame) → IsFramed source.now f fr → fr.order ≡ order.now → HasHeads fr func ctx.old 0 → GoesOn names.new fr.given
         → (places : List ℕ) → IsInverse fr.order places → IsLate fr.source places e) }
     ensures kept { (n b : ℕ) → n ≤ func.0.0 → b ≤ length ctx.old.blocks → Keeps n b ctx.old ctx.new }
 {

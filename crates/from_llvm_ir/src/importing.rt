@@ -1,9 +1,10 @@
 //! LLVM module to dialect module.
 
-ghost use Rattle.std.specs.Prelude.{◌≡◌, ◌<◌, ◌≤◌, List, [], ℕ, IfErr, IfOk, Some, length, map};
+ghost use Rattle.std.specs.Prelude.{◌≡◌, ◌<◌, ◌≤◌, List, [], ◌∷◌, ℕ, IfErr, IfOk, OnOk, Some, length, map};
 ghost use Rattle.llvm_core.specs.Data.{data_of};
 ghost use Rattle.llvm_core.specs.Form.{IsForm};
 ghost use Rattle.meaning.specs.Code.{SameCode, IsDistinctNames};
+ghost use Rattle.meaning.specs.Pairs.{Matched};
 ghost use Rattle.meaning.specs.Llvm as llvm;
 ghost use Rattle.meaning.specs.Dialect as dialect;
 ghost use Rattle.dialect_types.specs.Legalised.{Gave, GoesOn};
@@ -15,6 +16,7 @@ ghost use Rattle.from_llvm_ir.specs.Match.{match_of};
 ghost use Rattle.from_llvm_ir.specs.Imported.{IsBuilding, IsImported, imported_data};
 ghost use Rattle.from_llvm_ir.specs.Importing.{IsImportedTo};
 ghost use Rattle.from_llvm_ir.specs.Keeping.{Keeps, AreOthersKept};
+ghost use Rattle.from_llvm_ir.specs.Naming.{ForLater, HasMet, HasMetFirst};
 ghost use Rattle.from_llvm_ir.specs.Refusals.{IsCause};
 ghost use Rattle.from_llvm_ir.specs.Building.{module_named};
 

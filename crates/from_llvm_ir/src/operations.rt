@@ -3,10 +3,11 @@
 ghost use Rattle.std.specs.Prelude.{◌≡◌, ◌≤◌, ◌+◌, ℕ, List, IfErr, IfOk, OnOk, false, length};
 ghost use Rattle.llvm_core.specs.declared.code.LLVMValue.TheVariants as sources;
 ghost use Rattle.dialect_core.specs.declared.ops.Value.TheVariants as results;
-ghost use Rattle.llvm_core.specs.Names.{IsPlainOrNone};
 ghost use Rattle.llvm_core.specs.Data.{Block, Placed};
 ghost use Rattle.llvm_core.specs.Form.{is_phi};
-ghost use Rattle.from_llvm_ir.specs.Imported.{given_name};
+ghost use Rattle.dialect_types.specs.Legalised.{GoesOn};
+ghost use Rattle.from_llvm_ir.specs.Imported.{IsGivenName};
+ghost use Rattle.from_llvm_ir.specs.Naming.{ForLater};
 ghost use Rattle.from_llvm_ir.specs.Order.{IsInverse};
 ghost use Rattle.from_llvm_ir.specs.Source.{AreEntries};
 ghost use Rattle.from_llvm_ir.specs.Values.{IsNoted};
@@ -77,7 +78,7 @@ fn import_op<L: Ledger>(
     ensures ok { OnOk result ((fr : Frame) → (f : LLVMFunction) → (j x : ℕ) → (b : Block) → (p : Placed) → IsAt fr source.now f targets.now entries.now ctx.old values.old from block i j x b p → is_phi p ≡ false → GoesOn names.new fr.given
         → IsBody fr source.now ctx.new values.new j (x + 1) b) }
     ensures grows { GoesOn names.old names.new }
-    ensures err { IfErr result (λ e. (fr : Frame) → (f : LLVMFunction) → (j x : ℕ) → (b : Block) → (p : Placed) → IsAt fr source.now f targets.now entries.now ctx.old values.old from block i j x b p → is_phi p ≡ false
+    ensures err { IfErr result (λ e. (fr : Frame) → (f : LLVMFunction) → (j x : ℕ) → (b : Block) → (p : Placed) → IsAt fr source.now f targets.now entries.now ctx.old values.old from block i j x b p → is_phi p ≡ false → GoesOn names.new fr.given
         → (places : List ℕ) → IsInverse fr.order places → IsLate fr.source places e) }
     ensures kept { (n b : ℕ) → b ≤ block.0 → Keeps n b ctx.old ctx.new }
 {
@@ -120,7 +121,7 @@ fn import_inst<L: Ledger>(
     ensures ok { OnOk result ((fr : Frame) → (f : LLVMFunction) → (j : ℕ) → (b : Block) → (p : Placed) → IsAt fr source.now f targets.now entries.now ctx.old values.old from block i j place b p → GoesOn names.new fr.given
         → IsBody fr source.now ctx.new values.new j (place + 1) b) }
     ensures grows { GoesOn names.old names.new }
-    ensures err { IfErr result (λ e. (fr : Frame) → (f : LLVMFunction) → (j : ℕ) → (b : Block) → (p : Placed) → IsAt fr source.now f targets.now entries.now ctx.old values.old from block i j place b p
+    ensures err { IfErr result (λ e. (fr : Frame) → (f : LLVMFunction) → (j : ℕ) → (b : Block) → (p : Placed) → IsAt fr source.now f targets.now entries.now ctx.old values.old from block i j place b p → GoesOn names.new fr.given
         → (places : List ℕ) → IsInverse fr.order places → IsLate fr.source places e) }
     ensures kept { (n b : ℕ) → b ≤ block.0 → Keeps n b ctx.old ctx.new }
 {
@@ -150,7 +151,7 @@ pub fn import_insts<L: Ledger>(
     ensures ok { OnOk result ((fr : Frame) → (f : LLVMFunction) → (j : ℕ) → (b : Block) → IsBegun fr source.now f targets.now entries.now ctx.old values.old from block j b → GoesOn names.new fr.given
         → IsFilled fr source.now ctx.new values.new (j + 1)) }
     ensures grows { GoesOn names.old names.new }
-    ensures err { IfErr result (λ e. (fr : Frame) → (f : LLVMFunction) → (j : ℕ) → (b : Block) → IsBegun fr source.now f targets.now entries.now ctx.old values.old from block j b
+    ensures err { IfErr result (λ e. (fr : Frame) → (f : LLVMFunction) → (j : ℕ) → (b : Block) → IsBegun fr source.now f targets.now entries.now ctx.old values.old from block j b → GoesOn names.new fr.given
         → (places : List ℕ) → IsInverse fr.order places → IsLate fr.source places e) }
     ensures kept { (n b : ℕ) → b ≤ block.0 → Keeps n b ctx.old ctx.new }
 {
@@ -191,7 +192,7 @@ pub fn import_blocks<L: Ledger>(
     ensures ok { OnOk result ((fr : Frame) → IsFramed source.now f fr → fr.order ≡ order.now → AreTargets fr targets.now → AreEntries source.now fr.source entries.now → IsFilled fr source.now ctx.old values.old 0 → GoesOn names.new fr.given
         → IsFilled fr source.now ctx.new values.new (length order.now)) }
     ensures grows { GoesOn names.old names.new }
-    ensures err { IfErr result (λ e. (fr : Frame) → IsFramed source.now f fr → fr.order ≡ order.now → AreTargets fr targets.now → AreEntries source.now fr.source entries.now → IsFilled fr source.now ctx.old values.old 0
+    ensures err { IfErr result (λ e. (fr : Frame) → IsFramed source.now f fr → fr.order ≡ order.now → AreTargets fr targets.now → AreEntries source.now fr.source entries.now → IsFilled fr source.now ctx.old values.old 0 → GoesOn names.new fr.given
         → (places : List ℕ) → IsInverse fr.order places → IsLate fr.source places e) }
     ensures kept { (fr : Frame) → IsFramed source.now f fr → fr.order ≡ order.now → AreTargets fr targets.now → (n b : ℕ) → b ≤ fr.base → Keeps n b ctx.old ctx.new }
 {

@@ -1,11 +1,10 @@
 -- What `functions::add_entry` owes besides what the check finds.
-use Rattle.std.proofs.Common.{◌∙◌, [], Some, ap, refl, map, codes, ◌<◌, All, length, subst, sym, arith}
+use Rattle.std.proofs.Common.{◌∙◌, [], Some, ap, refl, map, ◌<◌, All, length, subst, sym, arith}
 use Rattle.std.proofs.lemmas.Result.{IfOk-weaker}
 use Rattle.support.proofs.ResultLaws.{ok_both}
 use Rattle.dialect_types.specs.Trees.{type_at, type_trees}
 use Rattle.dialect_core.specs.ContextData.{ContextData, kind_at}
 use Rattle.dialect_types.specs.declared.types.TypeHandle.{TypeHandle}
-use Rattle.from_llvm_ir.proofs.NameLaws.{plain_stays}
 use Rattle.from_llvm_ir.proofs.StartLaws.{more_heads, first_source, next_head}
 use Rattle.from_llvm_ir.proofs.KeepLaws.{keeps_then, keeps_types, keeps_none}
 use Rattle.from_llvm_ir.proofs.functions.add_entry.Goals as goal
@@ -21,7 +20,7 @@ returns-clause-heads c =
     more_heads fr c.args.func c.args.ctx.now ctx c.add_func_block.new.ctx 0 b.0
     (record { number = block.0; label = Some c.in_ok-label.label; args = map (type_at (type_trees ctx.types)) c.as_slice.result.now; ops = [] })
     h c.import_params.ensures.grown b.1 is.0.0
-    (ap Some (c.in_ok-label.ensures ∙ plain_stays (codes "entry") refl))
+    (ap Some c.in_ok-label.ensures)
     (ap (map (type_at (type_trees ctx.types))) c.as_slice.ensures.value ∙ c.in_ok-args.ensures.types fr.source framed.source)
     refl is.0.1 is.1.0 is.1.1)
     (ok_both r _ _ (ok_both r _ _ e.number e.building) (ok_both r _ _ e.func e.count))

@@ -2,12 +2,14 @@
 use Rattle.std.proofs.Common.{ℕ, List, sym, ap, subst, ◌∙◌, All, length}
 use Rattle.std.proofs.lemmas.Result.{IfOk-weaker, on_ok_weaker}
 use Rattle.support.proofs.ResultLaws.{ok_both}
+use Rattle.dialect_types.specs.Names.{IsIdentifier}
 use Rattle.dialect_types.specs.Trees.{TypeTree, type_at, type_trees}
 use Rattle.dialect_core.specs.declared.ops.BlockData.{BlockData}
 use Rattle.dialect_core.specs.ContextData.{ContextData}
 use Rattle.dialect_core.specs.Data.{with_func}
-use Rattle.from_llvm_ir.specs.Imported.{IsBuilding, IsBelow}
+use Rattle.from_llvm_ir.specs.Imported.{IsBuilding, IsBelow, kept_name}
 use Rattle.from_llvm_ir.specs.Building.{bare_func}
+use Rattle.from_llvm_ir.proofs.SourceLaws.{function_within, name_of}
 use Rattle.from_llvm_ir.proofs.UnderLaws.{typed_building}
 use Rattle.from_llvm_ir.proofs.KeepLaws.{keeps_then, keeps_types}
 use Rattle.from_llvm_ir.proofs.functions.declare.Goals as goal
@@ -24,8 +26,10 @@ returns-clause-declared g c =
     let typed = typed_building c.args.ctx.now c.import_function_type.new.ctx m c.args.body d b c.import_function_type.ensures.grown in
     let n = func.0.0 in
     record {
-      building = subst (λ (t : TypeTree). IsBuilding c.add_func.new.ctx m c.args.body (with_func d (bare_func n f.name t))) (c.in_ok-ty.ensures.ty f h)
-          (subst (λ (name : List ℕ). IsBuilding c.add_func.new.ctx m c.args.body (with_func d (bare_func n name (type_at (type_trees c.import_function_type.new.ctx.types) c.in_ok-ty.ty)))) (c.in_ok-name.ensures ∙ c.requires.name f h) (is.0.0 m d typed));
+      building = subst (λ (t : TypeTree). IsBuilding c.add_func.new.ctx m c.args.body (with_func d (bare_func n c.args.name.now (kept_name f.name c.args.name.now) t))) (c.in_ok-ty.ensures.ty f h)
+          (subst (λ (name : List ℕ). IsBuilding c.add_func.new.ctx m c.args.body (with_func d (bare_func n name (kept_name f.name name) (type_at (type_trees c.import_function_type.new.ctx.types) c.in_ok-ty.ty)))) c.in_ok-name.ensures
+          (subst (λ (llvm_name : List ℕ). IsBuilding c.add_func.new.ctx m c.args.body (with_func d (bare_func n c.in_ok-name.name (kept_name llvm_name c.in_ok-name.name) (type_at (type_trees c.import_function_type.new.ctx.types) c.in_ok-ty.ty)))) (name_of c.args.source.now c.args.f f h c.function_name.result.now c.function_name.ensures) (is.0.0 m d typed)));
+      legal = subst IsIdentifier c.in_ok-name.ensures e.legal;
       before = subst (λ (k : ℕ). All (IsBelow k (length c.add_func.new.ctx.blocks)) d.functions) (sym is.0.1)
           (subst (λ (bs : List BlockData). All (IsBelow (length c.import_function_type.new.ctx.ops) (length bs)) d.functions) (sym is.1) typed.below);
     })
@@ -54,3 +58,6 @@ add_func-requires-clause-ty g c = c.in_ok-ty.ensures.within
 
 pub returns-clause-func : goal.returns-clause-func
 returns-clause-func g c = c.add_func.ensures.func
+
+pub function_name-requires : goal.function_name-requires
+function_name-requires g c = function_within c.args.source.now c.args.f c.requires.source.0 c.requires.source.1

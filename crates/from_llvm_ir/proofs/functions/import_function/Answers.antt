@@ -2,7 +2,9 @@
 use Rattle.std.proofs.Common.{◌≡◌, ◌∙◌, refl, length, sym, ap, subst, List, ℕ, arith}
 use Rattle.dialect_core.specs.declared.ops.BlockData.{BlockData}
 use Rattle.from_llvm_ir.specs.declared.conversion_err.ConversionErr.TheVariants as E
+use Rattle.dialect_types.proofs.LegalLaws.{gave_kept}
 use Rattle.from_llvm_ir.proofs.ForwardLaws.{passed_on}
+use Rattle.from_llvm_ir.proofs.NameLaws.{goes_same, goes_then}
 use Rattle.from_llvm_ir.specs.Order.{IsInverse, IsRpo}
 use Rattle.from_llvm_ir.specs.Walks.{graph_of}
 use Rattle.from_llvm_ir.specs.Match.{IsPlaces}
@@ -21,17 +23,21 @@ places_of-requires g c =
     places_counted (length s.0.blocks) order (rpo_places s.0 order s.1.form r)
 
 pub import_body-requires : goal.import_body-requires
-import_body-requires g c =
+import_body-requires g c = λ given on.
     let s = c.requires.source in
     let d = c.requires.«module» in
     let m = c.args.source.now in
     let order = c.as_slice-2.result.now in
     let func = c.in_ok-func.func in
+    let name = c.args.name.now in
+    let declared = c.in_ok-func.ensures.declared s.0 s.1 d.0 d.1 d.2 in
+    let gave = gave_kept c.args.names.now given s.0.name name on (c.requires.name s.0 s.1) in
     let r = subst (IsRpo (graph_of s.0)) (sym c.as_slice-2.ensures.value) (c.in_ok-order.ensures.rpo s.0 s.1) in (
-      framed d.0 c.args.body d.1 func.0.0 s.0 order (length c.declare.new.ctx.blocks),
-      is_framed m c.args.f s.0 d.0 c.args.body d.1 func.0.0 order (length c.declare.new.ctx.blocks) s.1 (rpo_places s.0 order s.1.form r),
+      framed given d.0 c.args.body d.1 func.0.0 name s.0 order (length c.declare.new.ctx.blocks),
+      is_framed m c.args.f given s.0 d.0 c.args.body d.1 func.0.0 name order (length c.declare.new.ctx.blocks) s.1 (rpo_places s.0 order s.1.form r) declared.legal gave,
       refl,
-      no_heads s.0 c.declare.new.ctx d.0 c.args.body d.1 func order (c.in_ok-func.ensures.declared s.0 s.1 d.0 d.1 d.2) c.in_ok-func.ensures.func,
+      no_heads given name s.0 c.declare.new.ctx d.0 c.args.body d.1 func order declared c.in_ok-func.ensures.func,
+      refl,
     )
 
 pub returns-in_err-order-clause-err : goal.returns-in_err-order-clause-err
@@ -47,22 +53,29 @@ returns-in_err-import_body-clause-err g c =
     let func = c.in_ok-func.func in
     let r = subst (IsRpo (graph_of h)) (sym c.as_slice-2.ensures.value) (c.in_ok-order.ensures.rpo h source) in
     let inverse = subst (λ (os : List ℕ). IsInverse os c.in_ok-places.places) (c.as_slice.ensures.value ∙ sym c.as_slice-2.ensures.value) c.in_ok-places.ensures.inverse in
+    let given = c.import_body.new.names in
+    let name = c.args.name.now in
+    let declared = c.in_ok-func.ensures.declared h source d.0 d.1 d.2 in
+    let gave = gave_kept c.args.names.now given h.name name c.import_body.ensures.grows (c.requires.name h source) in
     refused h source.form order c.in_ok-places.places (c.in_ok-order.ensures.dominated h source) r.once r.reached r.passed inverse c.in_err-import_body.field-0.0
-    (c.in_err-import_body.ensures.err (framed d.0 c.args.body d.1 func.0.0 h order (length c.declare.new.ctx.blocks))
-    (is_framed m c.args.f h d.0 c.args.body d.1 func.0.0 order (length c.declare.new.ctx.blocks) source (rpo_places h order source.form r)) refl
-    (no_heads h c.declare.new.ctx d.0 c.args.body d.1 func order (c.in_ok-func.ensures.declared h source d.0 d.1 d.2) c.in_ok-func.ensures.func)
+    (c.in_err-import_body.ensures.err (framed given d.0 c.args.body d.1 func.0.0 name h order (length c.declare.new.ctx.blocks))
+    (is_framed m c.args.f given h d.0 c.args.body d.1 func.0.0 name order (length c.declare.new.ctx.blocks) source (rpo_places h order source.form r) declared.legal gave) refl
+    (no_heads given name h c.declare.new.ctx d.0 c.args.body d.1 func order declared c.in_ok-func.ensures.func) (goes_same given)
     c.in_ok-places.places inverse))
 
 pub returns-clause-ok : goal.returns-clause-ok
-returns-clause-ok g c = λ h source n d building.
+returns-clause-ok g c = λ h source n d building given on.
     let m = c.args.source.now in
     let order = c.as_slice-2.result.now in
     let func = c.in_ok-func.func in
     let r = subst (IsRpo (graph_of h)) (sym c.as_slice-2.ensures.value) (c.in_ok-order.ensures.rpo h source) in
     let places = rpo_places h order source.form r in
-    let fr = framed n c.args.body d func.0.0 h order (length c.declare.new.ctx.blocks) in
-    let is = is_framed m c.args.f h n c.args.body d func.0.0 order (length c.declare.new.ctx.blocks) source places in
-    let filled = c.in_ok-import_body.ensures.ok fr is refl (no_heads h c.declare.new.ctx n c.args.body d func order (c.in_ok-func.ensures.declared h source n d building) c.in_ok-func.ensures.func) in
+    let name = c.args.name.now in
+    let declared = c.in_ok-func.ensures.declared h source n d building in
+    let gave = gave_kept c.args.names.now given h.name name (goes_then c.args.names.now c.import_body.new.names given c.import_body.ensures.grows on) (c.requires.name h source) in
+    let fr = framed given n c.args.body d func.0.0 name h order (length c.declare.new.ctx.blocks) in
+    let is = is_framed m c.args.f given h n c.args.body d func.0.0 name order (length c.declare.new.ctx.blocks) source places declared.legal gave in
+    let filled = c.in_ok-import_body.ensures.ok fr is refl (no_heads given name h c.declare.new.ctx n c.args.body d func order declared c.in_ok-func.ensures.func) on in
     let same = c.as_slice.ensures.value ∙ sym c.as_slice-2.ensures.value in
     function_whole m c.args.f fr c.import_body.new.ctx filled.0 (length order) is (sym (frame_length m c.args.f fr order is refl)) filled.1
     (record { function = c.args.f; places = c.in_ok-places.places }) refl
@@ -91,9 +104,6 @@ checked_order-requires g c = c.requires.source
 pub declare-requires-clause-source : goal.declare-requires-clause-source
 declare-requires-clause-source g c = c.requires.source
 
-pub declare-requires-clause-name : goal.declare-requires-clause-name
-declare-requires-clause-name g c = c.requires.name
-
 pub declare-requires-clause-module : goal.declare-requires-clause-module
 declare-requires-clause-module g c = c.requires.«module»
 
@@ -108,3 +118,18 @@ returns-in_err-places-clause-err g c = passed_on c.from_residual-in_err-places.r
 
 pub returns-in_err-func-clause-err : goal.returns-in_err-func-clause-err
 returns-in_err-func-clause-err g c = passed_on c.from_residual-in_err-func.result E.NoMemory _ c.from_residual-in_err-func.ensures.1 (λ h source. tt)
+
+pub returns-in_err-order-clause-grows : goal.returns-in_err-order-clause-grows
+returns-in_err-order-clause-grows g c = goes_same c.args.names.now
+
+pub returns-in_err-places-clause-grows : goal.returns-in_err-places-clause-grows
+returns-in_err-places-clause-grows g c = goes_same c.args.names.now
+
+pub returns-in_err-func-clause-grows : goal.returns-in_err-func-clause-grows
+returns-in_err-func-clause-grows g c = goes_same c.args.names.now
+
+pub returns-in_err-import_body-clause-grows : goal.returns-in_err-import_body-clause-grows
+returns-in_err-import_body-clause-grows g c = c.import_body.ensures.grows
+
+pub returns-clause-grows : goal.returns-clause-grows
+returns-clause-grows g c = c.import_body.ensures.grows

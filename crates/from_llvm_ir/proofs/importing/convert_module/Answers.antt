@@ -33,3 +33,6 @@ returns-clause-others c = rw c.make_room.ensures at c.import_counted.ensures.oth
 
 pub returns-clause-typed : goal.returns-clause-typed
 returns-clause-typed c = rw c.make_room.ensures at c.import_counted.ensures.typed
+
+pub import_counted-requires-clause-names : goal.import_counted-requires-clause-names
+import_counted-requires-clause-names c = c.new-names.ensures

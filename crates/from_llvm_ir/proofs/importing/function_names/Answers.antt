@@ -1,29 +1,54 @@
 -- What `importing::function_names` owes besides what the check finds.
-use Rattle.std.proofs.Common.{sym, ap, subst, ◌∙◌, map, arith}
+use Rattle.std.proofs.Common.{ℕ, List, [], sym, subst, map, arith}
 use Rattle.std.proofs.lemmas.List.{take_all}
 use Rattle.llvm_core.specs.Data.{Function, data_of}
 use Rattle.llvm_core.proofs.DataLemmas.{function_count}
-use Rattle.dialect_types.specs.Names.{IsPlainName, legal_name}
-use Rattle.from_llvm_ir.proofs.NameLaws.{plain_legal, plain_stays}
-use Rattle.from_llvm_ir.proofs.SourceLaws.{source_at, name_of}
-use Rattle.from_llvm_ir.proofs.ModuleLaws.{names_more}
+use Rattle.dialect_types.specs.Legalised.{Gave, IsGiven}
+use Rattle.meaning.specs.Pairs.{Matched}
+use Rattle.from_llvm_ir.specs.Naming.{HasMet}
+use Rattle.from_llvm_ir.proofs.NameLaws.{goes_same, goes_then, met_none}
+use Rattle.from_llvm_ir.proofs.SourceLaws.{function_named}
+use Rattle.from_llvm_ir.proofs.ModuleLaws.{given_more, met_more}
 use Rattle.from_llvm_ir.proofs.importing.function_names.Goals as goal
 
-pub legalise-requires : goal.legalise-requires
-legalise-requires c =
-    let s = source_at c.args.source.now c.loop-f.f c.functions-f-end.ensures.sound c.requires (omega (arith, c.functions-f-end.ensures.len, c.loop-f-test.true)) in
-    subst IsPlainName (sym (name_of c.args.source.now (record { 0 = c.loop-f.f }) s.0 s.1 c.function_name.result.now c.function_name.ensures)) (plain_legal s.0.name s.1.form.name)
+pub loop-f-init : goal.loop-f-init
+loop-f-init c = record {
+  within = omega arith;
+  given = subst (λ (ns : List (List ℕ)). Matched (λ (g : Function) (n : List ℕ). Gave c.args.names.now g.name n) [] ns) (sym c.new-all.ensures.items) tt;
+  met = met_none c.args.names.now;
+  grown = goes_same c.args.names.now;
+}
 
 pub loop-f-preserved : goal.loop-f-preserved
 loop-f-preserved c =
-    let s = source_at c.args.source.now c.loop-f.f c.functions-f-end.ensures.sound c.requires (omega (arith, c.functions-f-end.ensures.len, c.loop-f-test.true)) in
-    let name = c.in_ok-legalise.ensures ∙ ap legal_name (name_of c.args.source.now (record { 0 = c.loop-f.f }) s.0 s.1 c.function_name.result.now c.function_name.ensures) ∙ plain_stays s.0.name s.1.form.name in
+    let m = c.args.source.now in
+    let (g, at, name) = function_named m c.loop-f.f c.function_name.result.now (omega (arith, c.functions-f-end.ensures.len, c.loop-f-test.true)) c.function_name.ensures in
+    let old = c.loop-f.names in
+    let new = c.legalise.new.self in
+    let i = c.in_ok-legalise.field-0 in
+    let given : IsGiven old new g.name i = subst (λ (n : List ℕ). IsGiven old new n i) name c.in_ok-legalise.ensures.given in
     record {
       within = omega (arith, c.functions-f-end.ensures.len, c.loop-f-test.true);
-      named = names_more (data_of c.args.source.now).functions c.loop-f.f s.0 c.loop-f.all.items c.push.new.self.items c.in_ok-legalise.field-0 c.loop-f.invariant.named c.in_ok-push.ensures.items name s.1.at;
+      given = given_more old new (data_of m).functions c.loop-f.f g c.loop-f.all.items c.push.new.self.items i c.legalise.ensures.grows c.loop-f.invariant.given at given.here c.in_ok-push.ensures.items;
+      met = met_more c.args.names.now old new (data_of m).functions c.loop-f.f g i c.loop-f.invariant.met given at;
+      grown = goes_then c.args.names.now old new c.loop-f.invariant.grown c.legalise.ensures.grows;
     }
 
-pub returns : goal.returns
-returns c =
-    c.loop-f.invariant.named
-    ∙ ap (map (λ (g : Function). g.name)) (take_all c.loop-f.f (data_of c.args.source.now).functions (omega (arith, function_count c.args.source.now, c.functions-f-end.ensures.len, c.loop-f-test.false)))
+pub returns-clause-given : goal.returns-clause-given
+returns-clause-given c =
+    let fs = (data_of c.args.source.now).functions in
+    subst (λ (gs : List Function). Matched (λ (g : Function) (n : List ℕ). Gave c.loop-f.names g.name n) gs c.loop-f.all.items) (take_all c.loop-f.f fs (omega (arith, function_count c.args.source.now, c.functions-f-end.ensures.len, c.loop-f-test.false))) c.loop-f.invariant.given
+
+pub returns-clause-met : goal.returns-clause-met
+returns-clause-met c =
+    let fs = (data_of c.args.source.now).functions in
+    subst (λ (gs : List Function). HasMet c.args.names.now c.loop-f.names (map (λ (g : Function). g.name) gs)) (take_all c.loop-f.f fs (omega (arith, function_count c.args.source.now, c.functions-f-end.ensures.len, c.loop-f-test.false))) c.loop-f.invariant.met
+
+pub returns-clause-grows : goal.returns-clause-grows
+returns-clause-grows c = c.loop-f.invariant.grown
+
+pub returns-in_err-legalise-clause-grows : goal.returns-in_err-legalise-clause-grows
+returns-in_err-legalise-clause-grows c = goes_then c.args.names.now c.loop-f.names c.legalise.new.self c.loop-f.invariant.grown c.legalise.ensures.grows
+
+pub returns-in_err-push-clause-grows : goal.returns-in_err-push-clause-grows
+returns-in_err-push-clause-grows c = goes_then c.args.names.now c.loop-f.names c.legalise.new.self c.loop-f.invariant.grown c.legalise.ensures.grows

@@ -1,7 +1,6 @@
 -- What `operations::import_op` owes besides what the check finds.
-use Rattle.std.proofs.Common.{◌∙◌, ◌+◌, refl, sym, ap, subst, List, All, length}
+use Rattle.std.proofs.Common.{◌∙◌, ◌+◌, ℕ, refl, sym, ap, subst, List, All, length}
 use Rattle.std.specs.Option.{option_map}
-use Rattle.llvm_core.specs.Names.{IsPlainOrNone}
 use Rattle.llvm_core.specs.Parts.{operands}
 use Rattle.llvm_core.specs.Data.{Instruction, trees_of}
 use Rattle.meaning.specs.Pairs.{Matched}
@@ -9,13 +8,13 @@ use Rattle.dialect_types.specs.Trees.{type_at, type_trees}
 use Rattle.dialect_core.specs.declared.ops.Successor.{Successor}
 use Rattle.dialect_core.specs.ContextData.{ContextData, IsValueWithin, IsSuccessorWithin}
 use Rattle.from_llvm_ir.specs.declared.conversion_err.ConversionErr.TheVariants as E
-use Rattle.from_llvm_ir.specs.Imported.{given_name}
+use Rattle.from_llvm_ir.specs.Imported.{IsGivenName}
 use Rattle.from_llvm_ir.specs.Parts.{target_blocks}
 use Rattle.from_llvm_ir.specs.Edges.{IsKnownEdge}
 use Rattle.from_llvm_ir.specs.Building.{new_op}
 use Rattle.from_llvm_ir.specs.Converted.{IsKind}
 use Rattle.from_llvm_ir.proofs.SourceLaws.{inst_within, inst_name, inst_number, instruction_is, phi_read, type_of_inst}
-use Rattle.from_llvm_ir.proofs.PassLaws.{inst_form}
+use Rattle.from_llvm_ir.proofs.NameLaws.{given_kept, goes_same}
 use Rattle.from_llvm_ir.proofs.UnderLaws.{typed_open}
 use Rattle.from_llvm_ir.proofs.ForwardLaws.{passed_on}
 use Rattle.from_llvm_ir.proofs.ReadyLaws.{body_open, edges_stand, edges_within, in_operands, in_targets, operands_settled, operands_stand, targets_ready, values_within}
@@ -26,42 +25,36 @@ use Rattle.from_llvm_ir.proofs.operations.import_op.Goals as goal
 
 pub known_operands-requires-clause-settled : goal.known_operands-requires-clause-settled
 known_operands-requires-clause-settled g c =
-    let r = c.requires in
+    let r = c.requires c.args.names.now (goes_same c.args.names.now) in
     operands_settled r.0 c.args.source.now r.1 c.args.targets.now c.args.entries.now c.args.ctx.now c.args.values.now c.args.from c.args.block c.args.i r.2 r.3 r.4 r.5 r.6 c.inst-inst.result.now c.inst-inst.ensures.inst r.7 c.inst-inst.ensures.values
 
 pub returns-in_err-operands-clause-err : goal.returns-in_err-operands-clause-err
 returns-in_err-operands-clause-err g c =
     passed_on c.from_residual.result c.in_err-operands.field-0.0 _ c.from_residual.ensures.1
-    (λ fr f j x b p h other places inverse.
+    (λ fr f j x b p h other later places inverse.
     late fr c.args.source.now f c.args.targets.now c.args.entries.now c.args.ctx.now c.args.values.now c.args.from c.args.block c.args.i j x b p h other places inverse _ c.in_err-operands.field-0.0
     (λ o is_in. in_operands fr c.args.source.now f c.args.targets.now c.args.entries.now c.args.ctx.now c.args.values.now c.args.from c.args.block c.args.i j x b p h c.inst-inst.result.now c.inst-inst.ensures.inst other (operands c.inst-inst.result.now) o refl is_in) c.in_err-operands.ensures.err)
 
 pub known_successors-requires : goal.known_successors-requires
-known_successors-requires g c = let r = c.requires in (r.1, r.0.source, targets_ready r.0 c.args.source.now r.1 c.args.targets.now c.args.entries.now c.args.ctx.now c.args.values.now c.args.from c.args.block c.args.i r.2 r.3 r.4 r.5 r.6 c.inst-inst.result.now c.inst-inst.ensures.inst r.7)
+known_successors-requires g c = let r = c.requires c.args.names.now (goes_same c.args.names.now) in (r.1, r.0.source, targets_ready r.0 c.args.source.now r.1 c.args.targets.now c.args.entries.now c.args.ctx.now c.args.values.now c.args.from c.args.block c.args.i r.2 r.3 r.4 r.5 r.6 c.inst-inst.result.now c.inst-inst.ensures.inst r.7)
 
 pub returns-in_err-edges-clause-err : goal.returns-in_err-edges-clause-err
 returns-in_err-edges-clause-err g c =
     passed_on c.from_residual-in_err-edges.result c.in_err-edges.field-0.0 _ c.from_residual-in_err-edges.ensures.1
-    (λ fr f j x b p h other places inverse.
+    (λ fr f j x b p h other later places inverse.
     late fr c.args.source.now f c.args.targets.now c.args.entries.now c.args.ctx.now c.args.values.now c.args.from c.args.block c.args.i j x b p h other places inverse _ c.in_err-edges.field-0.0
     (λ o is_in. in_targets fr c.args.source.now f c.args.targets.now c.args.entries.now c.args.ctx.now c.args.values.now c.args.from c.args.block c.args.i j x b p h c.inst-inst.result.now c.inst-inst.ensures.inst (target_blocks c.inst-inst.result.now) o refl is_in)
     (c.in_err-edges.ensures.err f fr.source (targets_ready fr c.args.source.now f c.args.targets.now c.args.entries.now c.args.ctx.now c.args.values.now c.args.from c.args.block c.args.i j x b p h c.inst-inst.result.now c.inst-inst.ensures.inst other)))
 
 pub import_result_type-requires : goal.import_result_type-requires
-import_result_type-requires g c = let r = c.requires in (r.5.type, type_of_inst c.args.source.now r.1 r.0.source c.args.from r.6.place r.4 c.args.i r.3 r.5 r.6.framed.source r.6.of_block r.6.inst)
+import_result_type-requires g c = let r = c.requires c.args.names.now (goes_same c.args.names.now) in (r.5.type, type_of_inst c.args.source.now r.1 r.0.source c.args.from r.6.place r.4 c.args.i r.3 r.5 r.6.framed.source r.6.of_block r.6.inst)
 
 pub inst_name-requires : goal.inst_name-requires
-inst_name-requires g c = let r = c.requires in inst_within c.args.source.now r.4 c.args.i r.3 r.5 r.6.inst
-
-pub given-requires : goal.given-requires
-given-requires g c =
-    let r = c.requires in
-    subst IsPlainOrNone (sym (inst_name c.args.source.now r.4 c.args.i r.3 r.5 c.inst_name.result.now r.6.inst c.inst_name.ensures))
-    (inst_form r.0.source r.6.framed.source.form r.6.place r.3 r.4 r.5 r.6.of_block.at r.6.inst.at).name
+inst_name-requires g c = let r = c.requires c.args.names.now (goes_same c.args.names.now) in inst_within c.args.source.now r.4 c.args.i r.3 r.5 r.6.inst
 
 pub add_op-requires-clause-operands : goal.add_op-requires-clause-operands
 add_op-requires-clause-operands g c =
-    let r = c.requires in
+    let r = c.requires c.args.names.now (goes_same c.args.names.now) in
     let m = c.args.source.now in
     let noted = c.in_ok-operands.ensures.ok in
     subst (λ (x : ContextData). All (IsValueWithin (length x.ops) (length x.blocks)) c.in_ok-operands.operands) (sym c.import_result_type.ensures.grown.rest)
@@ -69,7 +62,7 @@ add_op-requires-clause-operands g c =
 
 pub add_op-requires-clause-successors : goal.add_op-requires-clause-successors
 add_op-requires-clause-successors g c =
-    let r = c.requires in
+    let r = c.requires c.args.names.now (goes_same c.args.names.now) in
     let m = c.args.source.now in
     let edges = c.in_ok-edges.ensures.ok r.1 r.0.source (targets_ready r.0 m r.1 c.args.targets.now c.args.entries.now c.args.ctx.now c.args.values.now c.args.from c.args.block c.args.i r.2 r.3 r.4 r.5 r.6 c.inst-inst.result.now c.inst-inst.ensures.inst r.7) in
     subst (λ (x : ContextData). All (IsSuccessorWithin (length x.ops) (length x.blocks)) c.from_vec-successors.result) (sym c.import_result_type.ensures.grown.rest)
@@ -77,11 +70,11 @@ add_op-requires-clause-successors g c =
 
 pub add_op-requires-clause-open : goal.add_op-requires-clause-open
 add_op-requires-clause-open g c =
-    let r = c.requires in
+    let r = c.requires c.args.names.now (goes_same c.args.names.now) in
     (r.0.home, r.0.base, _, _, _, typed_open r.0.home r.0.base c.args.ctx.now c.import_result_type.new.ctx c.args.block _ _ _ (body_open r.0 c.args.source.now c.args.ctx.now c.args.values.now r.2 r.3 r.4 r.6.body c.args.block r.6.number) c.import_result_type.ensures.grown)
 
 pub returns-clause-ok : goal.returns-clause-ok
-returns-clause-ok g c = λ fr f j x b p h other.
+returns-clause-ok g c = λ fr f j x b p h other later.
     let m = c.args.source.now in
     let grown = c.import_result_type.ensures.grown in
     let c1 = c.import_result_type.new.ctx in
@@ -93,7 +86,7 @@ returns-clause-ok g c = λ fr f j x b p h other.
     operation_more fr m f c.args.ctx.now c.args.values.now j x b h.body h.framed c.add_op.new.ctx c.set.new.self c.args.i p o c.args.block h.inst.at other (inst_number m b c.args.i x p h.inst)
     (record {
       kind = subst (λ (i : Instruction). IsKind i kind.0) (sym (instruction_is m b c.args.i x p c.inst-inst.result.now h.inst c.inst-inst.ensures.inst)) kind.2;
-      name = c.in_ok-name.ensures ∙ ap given_name (inst_name m b c.args.i x p c.inst_name.result.now h.inst c.inst_name.ensures);
+      name = subst (λ (n : List ℕ). IsGivenName fr.given n c.in_ok-name.name) (inst_name m b c.args.i x p c.inst_name.result.now h.inst c.inst_name.ensures) (given_kept c.given.new.names fr.given c.inst_name.result.now c.in_ok-name.name later c.in_ok-name.ensures.given);
       operands = operands_stand fr m f c.args.targets.now c.args.entries.now c.args.ctx.now c.args.values.now c.args.from c.args.block c.args.i j x b p h c.inst-inst.result.now c.inst-inst.ensures.inst other c.in_ok-operands.operands noted;
       successors = edges_stand fr m f c.args.targets.now c.args.entries.now c.args.ctx.now c.args.values.now c.args.from c.args.block c.args.i j x b p h c.inst-inst.result.now c.inst-inst.ensures.inst c.from_vec-successors.result (subst (λ (ss : List Successor). Matched (IsKnownEdge m fr.source c.args.values.now c.args.targets.now c.args.from) (target_blocks c.inst-inst.result.now) ss) (sym c.from_vec-successors.ensures) edges);
       result = c.in_ok-ty.ensures.ty p.type (type_of_inst m f fr.source c.args.from h.place b c.args.i x p h.framed.source h.of_block h.inst);
@@ -119,22 +112,22 @@ pub returns-clause-kept : goal.returns-clause-kept
 returns-clause-kept g c = λ n b behind. keeps_then n b c.args.ctx.now c.import_result_type.new.ctx c.add_op.new.ctx (keeps_types n b c.args.ctx.now c.import_result_type.new.ctx c.import_result_type.ensures.grown) (c.add_op.ensures.kept n b behind)
 
 pub known_operands-requires-clause-other : goal.known_operands-requires-clause-other
-known_operands-requires-clause-other g c = let r = c.requires in sym (phi_read c.args.source.now r.4 c.args.i r.3 r.5 c.inst-inst.result.now r.6.inst c.inst-inst.ensures.inst) ∙ r.7
+known_operands-requires-clause-other g c = let r = c.requires c.args.names.now (goes_same c.args.names.now) in sym (phi_read c.args.source.now r.4 c.args.i r.3 r.5 c.inst-inst.result.now r.6.inst c.inst-inst.ensures.inst) ∙ r.7
 
 pub kind_of-requires : goal.kind_of-requires
-kind_of-requires g c = let r = c.requires in sym (phi_read c.args.source.now r.4 c.args.i r.3 r.5 c.inst-inst.result.now r.6.inst c.inst-inst.ensures.inst) ∙ r.7
+kind_of-requires g c = let r = c.requires c.args.names.now (goes_same c.args.names.now) in sym (phi_read c.args.source.now r.4 c.args.i r.3 r.5 c.inst-inst.result.now r.6.inst c.inst-inst.ensures.inst) ∙ r.7
 
 pub returns-in_err-ty-clause-err : goal.returns-in_err-ty-clause-err
-returns-in_err-ty-clause-err g c = passed_on c.from_residual-in_err-ty.result E.NoMemory _ c.from_residual-in_err-ty.ensures.1 (λ fr f j x b p h other places inverse. tt)
+returns-in_err-ty-clause-err g c = passed_on c.from_residual-in_err-ty.result E.NoMemory _ c.from_residual-in_err-ty.ensures.1 (λ fr f j x b p h other later places inverse. tt)
 
 pub returns-in_err-name-clause-err : goal.returns-in_err-name-clause-err
-returns-in_err-name-clause-err g c = passed_on c.from_residual-in_err-name.result E.NoMemory _ c.from_residual-in_err-name.ensures.1 (λ fr f j x b p h other places inverse. tt)
+returns-in_err-name-clause-err g c = passed_on c.from_residual-in_err-name.result E.NoMemory _ c.from_residual-in_err-name.ensures.1 (λ fr f j x b p h other later places inverse. tt)
 
 pub returns-in_err-op-clause-err : goal.returns-in_err-op-clause-err
-returns-in_err-op-clause-err g c = passed_on c.from_residual-in_err-op.result E.NoMemory _ c.from_residual-in_err-op.ensures.1 (λ fr f j x b p h other places inverse. tt)
+returns-in_err-op-clause-err g c = passed_on c.from_residual-in_err-op.result E.NoMemory _ c.from_residual-in_err-op.ensures.1 (λ fr f j x b p h other later places inverse. tt)
 
 pub returns-in_err-set-clause-err : goal.returns-in_err-set-clause-err
-returns-in_err-set-clause-err g c = passed_on c.from_residual-in_err-set.result E.NoMemory _ c.from_residual-in_err-set.ensures.1 (λ fr f j x b p h other places inverse. tt)
+returns-in_err-set-clause-err g c = passed_on c.from_residual-in_err-set.result E.NoMemory _ c.from_residual-in_err-set.ensures.1 (λ fr f j x b p h other later places inverse. tt)
 
 pub returns-in_err-operands-clause-kept : goal.returns-in_err-operands-clause-kept
 returns-in_err-operands-clause-kept g c = λ n b behind. keeps_none n b c.args.ctx.now
@@ -146,10 +139,19 @@ pub add_op-requires-clause-result_ty : goal.add_op-requires-clause-result_ty
 add_op-requires-clause-result_ty g c = c.in_ok-ty.ensures.within
 
 pub inst-inst-requires : goal.inst-inst-requires
-inst-inst-requires g c = let r = c.requires in inst_within c.args.source.now r.4 c.args.i r.3 r.5 r.6.inst
+inst-inst-requires g c = let r = c.requires c.args.names.now (goes_same c.args.names.now) in inst_within c.args.source.now r.4 c.args.i r.3 r.5 r.6.inst
 
 pub add_op-requires-clause-plain : goal.add_op-requires-clause-plain
 add_op-requires-clause-plain g c = plain_kind c.inst-inst.result.now c.kind_of.result c.kind_of.ensures
 
 pub add_op-requires-clause-types : goal.add_op-requires-clause-types
 add_op-requires-clause-types g c = kind_types (length c.import_result_type.new.ctx.types) c.inst-inst.result.now c.kind_of.result c.kind_of.ensures
+
+pub returns-in_err-operands-clause-grows : goal.returns-in_err-operands-clause-grows
+returns-in_err-operands-clause-grows g c = goes_same c.args.names.now
+
+pub returns-in_err-edges-clause-grows : goal.returns-in_err-edges-clause-grows
+returns-in_err-edges-clause-grows g c = goes_same c.args.names.now
+
+pub returns-in_err-ty-clause-grows : goal.returns-in_err-ty-clause-grows
+returns-in_err-ty-clause-grows g c = goes_same c.args.names.now
