@@ -27,9 +27,6 @@ change_last f xs x i e = rw (e, slice_get-last xs x) (set_last xs x (f x))
 
 -- ---- the name that is kept
 
-pub kept_none : (n i : List ℕ) → bytes_eq n i ≡ true → kept_name n i ≡ None
-kept_none n i e = rw e refl
-
 pub kept_some : (n i : List ℕ) → bytes_eq n i ≡ false → kept_name n i ≡ Some n
 kept_some n i e = rw e refl
 

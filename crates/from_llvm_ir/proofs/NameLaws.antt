@@ -19,10 +19,6 @@ goes_same names = ([], sym (append-nil names))
 pub goes_then : (a b c : List Named) → GoesOn a b → GoesOn b c → GoesOn a c
 goes_then a b c h k = (h.0 ++ k.0, k.1 ∙ ap (λ (xs : List Named). xs ++ k.0) h.1 ∙ append_assoc a h.0 k.0)
 
--- the names of a frame go on from those that were met before it
-pub goes_to : (a b c d : List Named) → GoesOn a b → d ≡ c → GoesOn b c → GoesOn a d
-goes_to a b c d h same k = subst (GoesOn a) (sym same) (goes_then a b c h k)
-
 -- ---- identifiers
 
 pub given_kept : (now later : List Named) (n : List ℕ) (i : Option (List ℕ)) → GoesOn now later → IsGivenName now n i → IsGivenName later n i
