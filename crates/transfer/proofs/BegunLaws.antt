@@ -27,7 +27,7 @@ module _ (m : Module) (b : Begun) where
     pub begun_same : IsBegun m b → IsExported (imported_data b.ctx b.imported) back → SameThroughout (data_of m) (transferred_of b.ctx b.imported back)
     begun_same h exported = same_throughout m back b.ctx b.imported h.form h.distinct h.imported exported
 
-    pub begun_checked : IsBegun m b → (IsDistinctNames (map (λ (g : D.Func). g.name) (imported_data b.ctx b.imported).functions) → All HasTargets (imported_data b.ctx b.imported).functions → IsChecked back) → IsChecked back
+    pub begun_checked : IsBegun m b → (IsDistinctNames (map D.llvm_name_of (imported_data b.ctx b.imported).functions) → All HasTargets (imported_data b.ctx b.imported).functions → IsChecked back) → IsChecked back
     begun_checked h checked = checked (distinct_dialect (data_of m) b.ctx b.imported h.imported h.distinct) (targets_of (data_of m) b.ctx b.imported h.imported)
 
     pub begun_form : IsBegun m b → (All HasTargets (imported_data b.ctx b.imported).functions → IsForm (data_of back)) → IsForm (data_of back)
@@ -37,6 +37,6 @@ module _ (m : Module) (b : Begun) where
   pub begun_memory : (e : ToLLVMErr) → IsBegun m b → IsExportCause b.ctx (imported_data b.ctx b.imported) e → of_export e ≡ T.NoMemory
   begun_memory e h cause =
       let d = imported_data b.ctx b.imported in
-      let forms = forms_imported (data_of m) (data_of m).functions b.imported.blocks d.functions h.imported.functions in
-      let fit = exportable_imported (data_of m) (data_of m).functions b.imported.blocks d.functions h.imported.functions in
+      let forms = forms_imported (data_of m) h.imported.given (data_of m).functions b.imported.blocks d.functions h.imported.functions in
+      let fit = exportable_imported (data_of m) h.imported.given (data_of m).functions b.imported.blocks d.functions h.imported.functions in
       only_memory_exported d forms fit b.ctx e cause

@@ -3,6 +3,7 @@ use Rattle.std.proofs.Common.{ℕ, ◌≡◌, sym, ◌∙◌, ap, true, List, le
 use Rattle.llvm_core.specs.Data as L
 use Rattle.llvm_core.specs.Data.{ModuleData}
 use Rattle.llvm_core.specs.Form.{IsFormFunction}
+use Rattle.dialect_types.specs.Legalised.{Named}
 use Rattle.dialect_core.specs.Data as D
 use Rattle.meaning.specs.Terms.{Match}
 use Rattle.meaning.specs.Setting.{Setting}
@@ -16,16 +17,16 @@ use Rattle.meaning.proofs.EntryLaws.{some_blocks, same_symbol, both}
 use Rattle.from_llvm_ir.specs.declared.matching.FunctionBlocks.{FunctionBlocks}
 use Rattle.from_llvm_ir.specs.Match.{place_at}
 use Rattle.from_llvm_ir.specs.Imported.{ImportedFunction}
-use Rattle.from_llvm_ir.proofs.CodeLaws.{same_blocks, one_to_one, has, imported_body}
+use Rattle.from_llvm_ir.proofs.CodeLaws.{same_blocks, one_to_one, kept_as, has, imported_body}
 use Rattle.to_llvm_ir.specs.Exported.{ExportedFunction}
 use Rattle.to_llvm_ir.proofs.CodeLaws.{named_count}
 
-module _ (match : Match) (d : ModuleData) (f : L.Function) (x : FunctionBlocks) (g : D.Func) (here : (b : ℕ) → match.block f.name b ≡ place_at b x)
-    (form : IsFormFunction f) (h : ImportedFunction d f x g) where
+module _ (match : Match) (d : ModuleData) (given : List Named) (f : L.Function) (x : FunctionBlocks) (g : D.Func) (here : (b : ℕ) → match.block f.name b ≡ place_at b x)
+    (form : IsFormFunction f) (h : ImportedFunction d given f x g) where
   -- whatever the source, the dialect module and the module back tell
   module _ (f' : L.Function) (k : ExportedFunction g f') (source made back : Setting) where
     back_blocks : length f'.blocks ≡ length f.blocks
-    back_blocks = named_count g f' k ∙ same_blocks d f x g h
+    back_blocks = named_count g f' k ∙ same_blocks d given f x g h
 
     pub form_back : IsFormFunction f'
     form_back = k.form h.targets
@@ -40,16 +41,16 @@ module _ (match : Match) (d : ModuleData) (f : L.Function) (x : FunctionBlocks) 
     body_back : SameBody match f.name (Llvm.body source f) (Llvm.body back f')
     body_back = record {
       blocks = one_to_one x (length f.blocks) (length f'.blocks) (match.block f.name) h.places here back_blocks;
-      traces = λ cs. (imported_body match d f x g here form h source made).traces cs ∙ sym (trace_back cs);
+      traces = λ cs. (imported_body match d given f x g here form h source made).traces cs ∙ sym (trace_back cs);
     }
 
     pub entry_back : SameNamed match (Llvm.entry source f) (Llvm.entry back f')
     entry_back = record {
-      name = sym h.name ∙ sym k.name;
+      name = sym (kept_as given d f x g h) ∙ sym k.name;
       entry = record {
         symbol =
-            same_symbol match f.type f'.type f.space (Llvm.has_blocks f) (Llvm.has_blocks f') (sym h.type ∙ sym k.type) form.space (has match d f x g here form h ∙ sym has_back)
+            same_symbol match f.type f'.type f.space (Llvm.has_blocks f) (Llvm.has_blocks f') (sym h.type ∙ sym k.type) form.space (has match d given f x g here form h ∙ sym has_back)
             ∙ ap (λ (s : ℕ). FunctionSymbol f'.type External s (Llvm.has_blocks f')) (sym form_back.space);
-        body = both match f.name (Llvm.has_blocks f) (Llvm.has_blocks f') (Llvm.body source f) (Llvm.body back f') (has match d f x g here form h) has_back body_back;
+        body = both match f.name (Llvm.has_blocks f) (Llvm.has_blocks f') (Llvm.body source f) (Llvm.body back f') (has match d given f x g here form h) has_back body_back;
       };
     }

@@ -7,6 +7,7 @@ use Rattle.llvm_core.specs.Form.{IsForm, IsFormFunction, HasDistinctNames}
 use Rattle.llvm_core.specs.Data as L
 use Rattle.llvm_core.specs.Data.{ModuleData, data_of}
 use Rattle.llvm_core.proofs.DataLemmas.{within_at}
+use Rattle.dialect_types.specs.Legalised.{Named}
 use Rattle.dialect_core.specs.ContextData.{ContextData}
 use Rattle.dialect_core.specs.Data as D
 use Rattle.dialect_core.specs.Form.{HasTargets, IsExportable, LeadsToOwn}
@@ -27,7 +28,7 @@ use Rattle.to_llvm_ir.specs.Held.{IsReadable}
 use Rattle.transfer.specs.Same.{SameThroughout, transferred_of}
 use Rattle.from_llvm_ir.proofs.PairLaws.{matched_of, matched_map}
 use Rattle.from_llvm_ir.proofs.MatchedLaws.{function_names, partner, count_imported, matched_place, forms_imported, exportable_imported, names_imported}
-use Rattle.from_llvm_ir.proofs.SameLaws.{function_numbered, plain_names, same_imported}
+use Rattle.from_llvm_ir.proofs.SameLaws.{function_numbered, own_names, same_imported}
 use Rattle.to_llvm_ir.proofs.CodeLaws.{names_exported}
 use Rattle.to_llvm_ir.proofs.CheckedLaws.{form_exported}
 use Rattle.transfer.proofs.SameFunctions.{entry_back}
@@ -43,29 +44,29 @@ readable d c i h typed = record {
   typed = typed;
   functions =
       let gs = (imported_data c i).functions in
-      module_open c i.«module».0.0 (All-weaker IsExportable LeadsToOwn (λ g fit. fit.targets) gs (exportable_imported d d.functions i.blocks gs h.functions)) (forms_imported d d.functions i.blocks gs h.functions);
+      module_open c i.«module».0.0 (All-weaker IsExportable LeadsToOwn (λ g fit. fit.targets) gs (exportable_imported d h.given d.functions i.blocks gs h.functions)) (forms_imported d h.given d.functions i.blocks gs h.functions);
 }
 
 -- each block with arguments is an edge's target
-targets : (d : ModuleData) (fs : List L.Function) (xs : List FunctionBlocks) (gs : List D.Func) → AreImported d fs xs gs → All HasTargets gs
-targets d [] [] [] NoneImported = All-nil HasTargets
-targets d (f ∷ fs) (x ∷ xs) (g ∷ gs) (ThenImported _ _ _ _ _ _ one more) = All-cons HasTargets g gs one.targets (targets d fs xs gs more)
-targets d [] [] (g ∷ gs) h = elim h [ ]
-targets d [] (x ∷ xs) gs h = elim h [ ]
-targets d (f ∷ fs) [] gs h = elim h [ ]
-targets d (f ∷ fs) (x ∷ xs) [] h = elim h [ ]
+targets : (d : ModuleData) (given : List Named) (fs : List L.Function) (xs : List FunctionBlocks) (gs : List D.Func) → AreImported d given fs xs gs → All HasTargets gs
+targets d given [] [] [] NoneImported = All-nil HasTargets
+targets d given (f ∷ fs) (x ∷ xs) (g ∷ gs) (ThenImported _ _ _ _ _ _ one more) = All-cons HasTargets g gs one.targets (targets d given fs xs gs more)
+targets d given [] [] (g ∷ gs) h = elim h [ ]
+targets d given [] (x ∷ xs) gs h = elim h [ ]
+targets d given (f ∷ fs) [] gs h = elim h [ ]
+targets d given (f ∷ fs) (x ∷ xs) [] h = elim h [ ]
 
 pub targets_of : (d : ModuleData) (c : ContextData) (i : Imported) → IsImported d c i → All HasTargets (imported_data c i).functions
-targets_of d c i h = targets d d.functions i.blocks (imported_data c i).functions h.functions
+targets_of d c i h = targets d h.given d.functions i.blocks (imported_data c i).functions h.functions
 
--- no two of its functions share a name
-pub distinct_dialect : (d : ModuleData) (c : ContextData) (i : Imported) → IsImported d c i → HasDistinctNames d → IsDistinctNames (map (λ (g : D.Func). g.name) (imported_data c i).functions)
-distinct_dialect d c i h distinct = subst IsDistinctNames (sym (names_imported d d.functions i.blocks (imported_data c i).functions h.functions)) distinct.functions
+-- no two of its functions share an LLVM name
+pub distinct_dialect : (d : ModuleData) (c : ContextData) (i : Imported) → IsImported d c i → HasDistinctNames d → IsDistinctNames (map D.llvm_name_of (imported_data c i).functions)
+distinct_dialect d c i h distinct = subst IsDistinctNames (sym (names_imported d h.given d.functions i.blocks (imported_data c i).functions h.functions)) distinct.functions
 
 -- ---- entries, place by place
 
-module _ (d : ModuleData) (xs : List FunctionBlocks) (gs : List D.Func) (form : All IsFormFunction d.functions) (distinct : IsDistinctNames (function_names d.functions))
-    (numbered : (i : ℕ) (f : L.Function) → slice_get d.functions i ≡ Some f → f.number ≡ i) (h : AreImported d d.functions xs gs) where
+module _ (d : ModuleData) (given : List Named) (xs : List FunctionBlocks) (gs : List D.Func) (form : All IsFormFunction d.functions) (distinct : IsDistinctNames (function_names d.functions))
+    (numbered : (i : ℕ) (f : L.Function) → slice_get d.functions i ≡ Some f → f.number ≡ i) (h : AreImported d given d.functions xs gs) where
   form_at : (i : ℕ) (f : L.Function) → slice_get d.functions i ≡ Some f → IsFormFunction f
   form_at i f at = within_at d.functions IsFormFunction form i f at
 
@@ -75,9 +76,9 @@ module _ (d : ModuleData) (xs : List FunctionBlocks) (gs : List D.Func) (form : 
 
     entries_back : (source made back : Setting) → Matched (λ (f f' : L.Function). SameNamed (match_of d xs) (Llvm.entry source f) (Llvm.entry back f')) d.functions d'.functions
     entries_back source made back = matched_of (λ (f f' : L.Function). SameNamed (match_of d xs) (Llvm.entry source f) (Llvm.entry back f')) d.functions d'.functions
-        (sym (matched_length ExportedFunction gs d'.functions k ∙ (count_imported d d.functions xs gs h).1)) (λ i f f' at bt.
-        let p = partner d d.functions xs gs h i f at in
-        entry_back (match_of d xs) d f p.entry p.func (matched_place d xs gs distinct numbered h i f p.entry at p.entry_at) (form_at i f at) p.imported f'
+        (sym (matched_length ExportedFunction gs d'.functions k ∙ (count_imported d given d.functions xs gs h).1)) (λ i f f' at bt.
+        let p = partner d given d.functions xs gs h i f at in
+        entry_back (match_of d xs) d given f p.entry p.func (matched_place d given xs gs distinct numbered h i f p.entry at p.entry_at) (form_at i f at) p.imported f'
         (exported_at i p.func f' p.func_at bt) source made back)
 
 -- ---- modules
@@ -90,7 +91,7 @@ module _ (m back : Module) (c : ContextData) (i : Imported) (form : IsForm (data
   names_back : function_names (data_of back).functions ≡ function_names (data_of m).functions
   names_back =
       names_exported (imported_data c i).functions (data_of back).functions exported.functions
-      ∙ names_imported (data_of m) (data_of m).functions i.blocks (imported_data c i).functions imported.functions
+      ∙ names_imported (data_of m) imported.given (data_of m).functions i.blocks (imported_data c i).functions imported.functions
 
   same_back : SameCode (match_of (data_of m) i.blocks) (Llvm.code_of (data_of m)) (Llvm.code_of (data_of back))
   same_back =
@@ -98,17 +99,20 @@ module _ (m back : Module) (c : ContextData) (i : Imported) (form : IsForm (data
       let source = Llvm.setting_of (data_of m) in
       let returned = Llvm.setting_of (data_of back) in
       let pairs = matched_map (SameNamed match) (Llvm.entry source) (Llvm.entry returned) (data_of m).functions (data_of back).functions
-      (entries_back (data_of m) i.blocks (imported_data c i).functions form distinct.functions (function_numbered m) imported.functions (data_of back) exported.functions source (Dialect.setting_of (imported_data c i)) returned) in
-      same_code match (Llvm.code_of (data_of m)) (Llvm.code_of (data_of back)) (distinct_code (data_of m) (plain_names (data_of m).functions form) distinct.functions)
-      (rw (all_kept (data_of m).functions (plain_names (data_of m).functions form), all_kept (data_of back).functions (plain_names (data_of back).functions form_of_back)) pairs)
+      (entries_back (data_of m) imported.given i.blocks (imported_data c i).functions form distinct.functions (function_numbered m) imported.functions (data_of back) exported.functions source (Dialect.setting_of (imported_data c i)) returned) in
+      same_code match (Llvm.code_of (data_of m)) (Llvm.code_of (data_of back)) (distinct_code (data_of m) (own_names (data_of m).functions form) distinct.functions)
+      (rw (all_kept (data_of m).functions (own_names (data_of m).functions form), all_kept (data_of back).functions (own_names (data_of back).functions form_of_back)) pairs)
 
   pub same_throughout : SameThroughout (data_of m) (transferred_of c i back)
   same_throughout = record {
+    given = imported.given;
+    legalised = imported.legalised;
+    begins = imported.begins;
     dialect = same_imported m c i form imported distinct.functions;
     back = same_back;
     name = imported.name;
     back_name = exported.name;
-    functions = names_imported (data_of m) (data_of m).functions i.blocks (imported_data c i).functions imported.functions;
+    functions = names_imported (data_of m) imported.given (data_of m).functions i.blocks (imported_data c i).functions imported.functions;
     back_functions = names_back;
     imported = imported.functions;
     exported = exported.functions;
