@@ -3,20 +3,20 @@ use Rattle.std.proofs.Common.{ℕ, suc, ◌≡◌, ◌≢◌, ◌<◌, sym, ap, 
 use Rattle.std.proofs.lemmas.List.Elements.{All-nil, All-cons}
 use Rattle.llvm_core.specs.Module.{Module}
 use Rattle.llvm_core.specs.Sound.{IsModule}
-use Rattle.llvm_core.specs.Names.{IsPlainOrNone}
 use Rattle.llvm_core.specs.Checked.{IsChecked}
 use Rattle.llvm_core.specs.Form.{IsForm}
 use Rattle.llvm_core.specs.Data as L
 use Rattle.llvm_core.specs.Data.{ModuleData, data_of}
 use Rattle.llvm_core.proofs.DistinctLaws.{distinct_of_checked, few_of_checked}
-use Rattle.dialect_types.specs.Names.{legal_name}
+use Rattle.dialect_types.specs.Names.{IsIdentifier}
+use Rattle.dialect_types.specs.Legalised.{Named}
+use Rattle.dialect_types.proofs.LegalLaws.{gave_legal}
 use Rattle.dialect_core.specs.Data as D
 use Rattle.dialect_core.specs.Text.{module_text as dialect_text}
 use Rattle.ll_text.specs.Spelling.{Spells, IsNumbered, IsReadable}
-use Rattle.ll_said.proofs.NameLaws.{plain_bare}
-use Rattle.ll_print.specs.Printing.{IsBareOrNone}
 use Rattle.from_llvm_ir.specs.declared.matching.FunctionBlocks.{FunctionBlocks}
 use Rattle.from_llvm_ir.specs.Imported.{AreImported, NoneImported, ThenImported}
+use Rattle.from_llvm_ir.proofs.NameLaws.{identifier_some}
 use Rattle.to_llvm_ir.specs.Held.{IsReadable as IsExportable}
 use Rattle.transfer.specs.declared.transferred.Transferred.{Transferred}
 use Rattle.transfer.specs.declared.transferring.Begun.{Begun}
@@ -30,40 +30,29 @@ use Rattle.round_ll.specs.Rounding.{IsEnded, IsPrintable, IsStarted, TextCause}
 use Rattle.round_ll.specs.Stopping.{stop_of_transfer}
 use Rattle.round_ll.proofs.ReportLaws.{number_within}
 
--- ---- names
-
-bare_legal : (n : List ℕ) → IsPlainOrNone n → IsBareOrNone (legal_name n)
-bare_legal [] h = refl
-bare_legal (b ∷ bs) h = plain_bare (b ∷ bs) h
-
-legal_named : (n : List ℕ) → legal_name n ≢ []
-legal_named [] h = absurd cc
-legal_named (b ∷ bs) h = absurd cc
-
 -- ---- the match names functions
 
-all_named : (m : ℕ) (d : ModuleData) (fs : List L.Function) (xs : List FunctionBlocks) (gs : List D.Func) → ((i : ℕ) (f : L.Function) → slice_get fs i ≡ Some f → f.number < m) → AreImported d fs xs gs → AllNamed m xs
-all_named m d [] [] [] small NoneImported = All-nil (λ (b : FunctionBlocks). b.function.0 < m)
-all_named m d (f ∷ fs) (x ∷ xs) (g ∷ gs) small (ThenImported _ _ _ _ _ _ one more) =
-    All-cons (λ (c : FunctionBlocks). c.function.0 < m) x xs (subst (λ (n : ℕ). n < m) (sym one.function) (small 0 f refl)) (all_named m d fs xs gs (λ i y at. small (suc i) y at) more)
-all_named m d [] [] (g ∷ gs) small h = elim h [ ]
-all_named m d [] (x ∷ xs) gs small h = elim h [ ]
-all_named m d (f ∷ fs) [] gs small h = elim h [ ]
-all_named m d (f ∷ fs) (x ∷ xs) [] small h = elim h [ ]
+all_named : (m : ℕ) (d : ModuleData) (given : List Named) (fs : List L.Function) (xs : List FunctionBlocks) (gs : List D.Func) → ((i : ℕ) (f : L.Function) → slice_get fs i ≡ Some f → f.number < m) → AreImported d given fs xs gs → AllNamed m xs
+all_named m d given [] [] [] small NoneImported = All-nil (λ (b : FunctionBlocks). b.function.0 < m)
+all_named m d given (f ∷ fs) (x ∷ xs) (g ∷ gs) small (ThenImported _ _ _ _ _ _ one more) =
+    All-cons (λ (c : FunctionBlocks). c.function.0 < m) x xs (subst (λ (n : ℕ). n < m) (sym one.function) (small 0 f refl)) (all_named m d given fs xs gs (λ i y at. small (suc i) y at) more)
+all_named m d given [] [] (g ∷ gs) small h = elim h [ ]
+all_named m d given [] (x ∷ xs) gs small h = elim h [ ]
+all_named m d given (f ∷ fs) [] gs small h = elim h [ ]
+all_named m d given (f ∷ fs) (x ∷ xs) [] small h = elim h [ ]
 
-pub printable : (m : Module) (t : Transferred) → IsPlainOrNone m.name → SameThroughout (data_of m) t → IsChecked t.back → IsModule t.back → IsForm (data_of t.back) → IsPrintable t.back
-printable m t plain same checked sound form =
-    let name : (back_of t).name ≡ legal_name m.name = same.back_name ∙ same.name in
+pub printable : (m : Module) (t : Transferred) → SameThroughout (data_of m) t → IsChecked t.back → IsModule t.back → IsForm (data_of t.back) → IsPrintable t.back
+printable m t same checked sound form =
+    let legal : IsIdentifier (back_of t).name = subst IsIdentifier (sym same.back_name) (gave_legal same.given m.name (dialect_of t).name same.legalised same.name) in
     record {
       form = form;
-      name = subst IsBareOrNone (sym name) (bare_legal m.name plain);
-      named = subst (λ (n : List ℕ). n ≢ []) (sym name) (legal_named m.name);
+      named = identifier_some (back_of t).name legal;
       names = distinct_of_checked t.back checked;
       few = few_of_checked t.back checked sound;
     }
 
 pub begun_named : (m : Module) (b : Begun) → IsBegun m b → AllNamed (length m.functions) b.imported.blocks
-begun_named m b h = all_named (length m.functions) (data_of m) (data_of m).functions b.imported.blocks (D.data_of b.ctx b.imported.«module».0.0).functions (number_within m) h.imported.functions
+begun_named m b h = all_named (length m.functions) (data_of m) h.imported.given (data_of m).functions b.imported.blocks (D.data_of b.ctx b.imported.«module».0.0).functions (number_within m) h.imported.functions
 
 -- ---- the output
 
@@ -87,7 +76,7 @@ pub rounds_of : (input : List ℕ) (m : Module) (t boxed : Transferred) (text : 
     → SameThroughout (data_of m) t → IsChecked t.back → IsExportable t.ctx t.dialect.0.0 → t.structs.items ≡ [] → IsOutput (data_of m) t text → Rounds input boxed text
 rounds_of input m t boxed text is read numbered spelled same back readable structs output =
     subst (λ (u : Transferred). Rounds input u text) (sym is)
-    (record { source = m; sound = read.sound; checked = read.checked; numbered = numbered; form = read.form; name = read.name; spelled = spelled; same = same; back_checked = back; readable = readable; structs = structs; output = output })
+    (record { source = m; sound = read.sound; checked = read.checked; numbered = numbered; form = read.form; spelled = spelled; same = same; back_checked = back; readable = readable; structs = structs; output = output })
 
 -- ---- refusals
 

@@ -2,7 +2,6 @@
 use Rattle.std.specs.Prelude.{ℕ, ◌≡◌, List, [], ◌++◌, codes}
 use Rattle.llvm_core.specs.Module.{Module}
 use Rattle.llvm_core.specs.Sound.{IsModule}
-use Rattle.llvm_core.specs.Names.{IsPlainOrNone}
 use Rattle.llvm_core.specs.Checked.{IsChecked}
 use Rattle.llvm_core.specs.Form.{IsForm}
 use Rattle.llvm_core.specs.Data as L
@@ -33,7 +32,6 @@ pub record Rounds (input : List ℕ) (t : Transferred) (text : List ℕ) : Type 
   pub checked : IsChecked source
   pub numbered : IsNumbered (L.data_of source)
   pub form : IsForm (L.data_of source)
-  pub name : IsPlainOrNone source.name
   pub spelled : Spells input (L.data_of source)
   pub same : SameThroughout (L.data_of source) t
   pub back_checked : IsChecked t.back

@@ -4,6 +4,7 @@ use Rattle.std.specs.List.{flat_map}
 use Rattle.std.specs.Option.{option_map_or}
 use Rattle.std.specs.Fmt.{decimal}
 use Rattle.llvm_core.specs.Data.{Function, ModuleData}
+use Rattle.ll_literals.specs.Names.{printed_name}
 use Rattle.from_llvm_ir.specs.declared.matching.FunctionBlocks.{FunctionBlocks}
 
 -- the name of the function of that number
@@ -14,9 +15,9 @@ name_of d k = option_map_or (λ (f : Function). f.name) (slice_get d.functions k
 abbrev pub places_text : List ℕ → List ℕ
 places_text ps = flat_map (λ (p : ℕ). codes " " ++ decimal p) ps
 
--- blocks @f and the dialect place of each source block
+-- blocks @f, the name as a text has it, and the dialect place of each source block
 abbrev pub blocks_line : ModuleData → FunctionBlocks → List ℕ
-blocks_line d x = codes "blocks @" ++ name_of d x.function.0 ++ places_text x.places ++ 10 ∷ []
+blocks_line d x = codes "blocks @" ++ printed_name (name_of d x.function.0) ++ places_text x.places ++ 10 ∷ []
 
 -- each entry names one of n functions
 abbrev pub AllNamed : ℕ → List FunctionBlocks → Type 0

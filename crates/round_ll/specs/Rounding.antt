@@ -5,7 +5,7 @@ use Rattle.llvm_core.specs.Form.{IsForm, HasDistinctNames, HasFew}
 use Rattle.llvm_core.specs.Data.{ModuleData, data_of}
 use Rattle.dialect_core.specs.Data as D
 use Rattle.dialect_core.specs.Text.{module_text as dialect_text}
-use Rattle.ll_print.specs.Printing.{EndsLine, IsBareOrNone, module_text as llvm_text}
+use Rattle.ll_print.specs.Printing.{EndsLine, module_text as llvm_text}
 use Rattle.transfer.specs.declared.transferring.Begun.{Begun}
 use Rattle.transfer.specs.Begun.{IsBegun}
 use Rattle.transfer.specs.declared.transfer_err.TransferErr.{TransferErr}
@@ -21,7 +21,6 @@ use Rattle.round_ll.specs.Report.{report_text}
 -- the module back is of the form with a name
 pub record IsPrintable (back : Module) : Type 0 where
   pub form : IsForm (data_of back)
-  pub name : IsBareOrNone (data_of back).name
   pub named : (data_of back).name ≢ []
   pub names : HasDistinctNames (data_of back)
   pub few : HasFew (data_of back)

@@ -3,12 +3,14 @@
 ghost use Rattle.std.specs.Prelude.{◌≡◌, ◌<◌, ◌++◌, OnErr, OnOk, codes, length};
 ghost use Rattle.std.specs.Fmt.{decimal};
 ghost use Rattle.llvm_core.specs.Data.{data_of};
+ghost use Rattle.ll_literals.specs.Names.{printed_name};
 ghost use Rattle.round_ll.specs.Report.{places_text, blocks_line, report_text, AllNamed, HoldsFront};
 
 use from_llvm_ir::matching::FunctionBlocks;
 use itoa::Buffer;
+use ll_literals::printed::put_name;
 use llvm_core::module::LLVMModule;
-use std::alloc::AllocError;
+use std::alloc::{AllocError, Global};
 
 /// Appends a place behind a blank.
 fn print_place(place: u32, out: &mut Vec<u8>) -> Result<(), AllocError>
@@ -31,8 +33,19 @@ fn print_places(places: &[u32], out: &mut Vec<u8>) -> Result<(), AllocError>
     Ok(())
 }
 
+/// Appends a name as a text has it, all of it or nothing.
+fn print_symbol(alloc: Global, name: &str, out: &mut Vec<u8>) -> Result<(), AllocError>
+    ensures ok { OnOk result (out.new.items ≡ out.old.items ++ printed_name name.now) }
+    ensures err { OnErr result (out.new.items ≡ out.old.items) }
+{
+    let mut text = Vec::new(alloc);
+    put_name(name.as_bytes(), &mut text)?;
+    out.extend_from_slice(text.as_slice())
+}
+
 /// Appends the line of a function: its symbol, and the dialect place of each of its blocks.
 fn print_blocks(
+    alloc: Global,
     module: &LLVMModule,
     blocks: &FunctionBlocks,
     out: &mut Vec<u8>,
@@ -42,7 +55,7 @@ fn print_blocks(
     ensures err { OnErr result (HoldsFront out.old.items out.new.items (blocks_line (data_of «module».now) blocks.now)) }
 {
     out.extend_from_slice(b"blocks @")?;
-    out.extend_from_slice(module.function_name(blocks.function).as_bytes())?;
+    print_symbol(alloc, module.function_name(blocks.function), out)?;
     print_places(blocks.places.as_slice(), out)?;
     out.push(b'\n')?;
     Ok(())
@@ -51,6 +64,7 @@ fn print_blocks(
 /// Appends the report: a line for each function with a body. Where memory is wanting, a front of it
 /// may stand behind what was there.
 pub fn print_report(
+    alloc: Global,
     module: &LLVMModule,
     blocks: &[FunctionBlocks],
     out: &mut Vec<u8>,
@@ -60,7 +74,7 @@ pub fn print_report(
     ensures err { OnErr result (HoldsFront out.old.items out.new.items (report_text (data_of «module».now) blocks.now)) }
 {
     for x in blocks {
-        print_blocks(module, x, out)?;
+        print_blocks(alloc, module, x, out)?;
     }
     Ok(())
 }

@@ -52,7 +52,7 @@ fn report_of(alloc: Global, source: &LLVMModule, begun: &Begun) -> Result<Vec<u8
     ensures { IfOk result (λ text. text.items ≡ report_text (data_of source.now) begun.now.imported.blocks) }
 {
     let mut text = Vec::new(alloc);
-    print_report(source, begun.imported.blocks.as_slice(), &mut text)?;
+    print_report(alloc, source, begun.imported.blocks.as_slice(), &mut text)?;
     Ok(text)
 }
 

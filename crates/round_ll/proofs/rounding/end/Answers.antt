@@ -9,7 +9,7 @@ pub completed-requires : goal.completed-requires
 completed-requires c =
     let m = c.requires.0 in
     let made = c.in_ok-transferred.ensures in
-    printable m c.in_ok-transferred.transferred c.requires.1.name (made.same m c.requires.3.begun) made.back c.know_sound.ensures.sound made.form
+    printable m c.in_ok-transferred.transferred (made.same m c.requires.3.begun) made.back c.know_sound.ensures.sound made.form
 
 pub returns-clause-rounds : goal.returns-clause-rounds
 returns-clause-rounds c = λ m read numbered started text spelled.
