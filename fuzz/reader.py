@@ -1,0 +1,274 @@
+"""A text of the form as a tree: its tokens, and functions of blocks of instructions, whose names are those that it says.
+
+What is no such text is `NotYet`.
+"""
+import re
+
+from names import name_said, text_said
+from value_types import BIT, FLOATING, MAX_WIDTH, SPACES, Floating, Integer, Pointer, has_constants, is_integer
+
+PREDICATES = "eq ne ugt uge ult ule sgt sge slt sle".split()
+FLAGGED = "add sub mul shl".split()  # of two operands of one type, with flags
+BINARY = FLAGGED + "udiv sdiv urem srem lshr ashr and or xor".split()
+CASTS = {"trunc": lambda of, to: to < of, "sext": lambda of, to: of < to, "zext": lambda of, to: of < to}  # of widths
+ENDS = ("ret", "br", "cond_br", "unreachable")
+
+
+class NotYet(Exception):
+    """No checked module of the form is spelled by the text."""
+
+
+def need(condition, why=""):
+    if not condition:
+        raise NotYet(why)
+
+
+def said(of, written):
+    """What something written says by the rule `of`, where it says anything."""
+    text = of(written)
+    need(text is not None, f"nothing said by {written!r}")
+    return text
+
+
+# --- tokens ---------------------------------------------------------------------------------------------------
+
+TOKEN = re.compile(r"""
+    (?P<blank>[\ \t\r\n]+|;[^\n\r]*)
+  | (?P<label>[A-Za-z0-9$._-]+:|"[^"]*":)
+  | (?P<local>%[-A-Za-z$._][-A-Za-z$._0-9]*|%[0-9]+|%"[^"]*")
+  | (?P<global>@[-A-Za-z$._][-A-Za-z$._0-9]*|@[0-9]+|@"[^"]*")
+  | (?P<string>"[^"]*")
+  | (?P<int>i[0-9]+(?![A-Za-z0-9_.]))
+  | (?P<word>[A-Za-z_][A-Za-z0-9_.]*)
+  | (?P<number>-?[0-9]+)
+  | (?P<sign>[,=(){}\[\]*])
+""", re.X)
+
+
+def tokens_of(text):
+    at, found = 0, []
+    while at < len(text):
+        it = TOKEN.match(text, at)
+        need(it, f"no token at {at}: {text[at:at + 12]!r}")
+        if it.lastgroup == "number":  # a number with a dot or an exponent is none of the form
+            need(not re.compile(r"\.").match(text, it.end()), "a number with a point")
+        if it.lastgroup != "blank":
+            found.append((it.lastgroup, it.group()))
+        at = it.end()
+    found.append(("end", ""))
+    return found
+
+
+# --- the tree -------------------------------------------------------------------------------------------------
+
+class Node:
+    """A thing of the tree, with whatever fields it is given."""
+
+    def __init__(self, **fields):
+        self.__dict__.update(fields)
+
+
+class Reader:
+    def __init__(self, text):
+        self.tokens, self.at = tokens_of(text), 0
+
+    def peek(self):
+        return self.tokens[self.at]
+
+    def take(self, kind):
+        found, text = self.tokens[self.at]
+        need(found == kind, f"{kind} wanted, {text!r} found")
+        self.at += 1
+        return text
+
+    def skip(self, text):
+        """Takes a sign or word where it is the next one."""
+        kind, found = self.peek()
+        if kind in ("sign", "word") and found == text:
+            self.at += 1
+            return True
+        return False
+
+    def want(self, text):
+        need(self.skip(text), f"{text!r} wanted, {self.peek()[1]!r} found")
+
+    def type(self):
+        """A type of a value."""
+        if self.peek()[0] == "int":
+            return self.integer()
+        if self.skip("ptr"):
+            return Pointer(self.space() if self.skip("addrspace") else 0)
+        word = self.take("word")
+        need(word in FLOATING, f"type {word!r}")
+        return Floating(word)
+
+    def integer(self):
+        width = int(self.take("int")[1:])
+        need(1 <= width <= MAX_WIDTH, "width")
+        return Integer(width)
+
+    def space(self):
+        self.want("(")
+        number = self.take("number")
+        need(number.isdigit() and int(number) < SPACES, "address space")
+        self.want(")")
+        return int(number)
+
+    def result(self):
+        """The type that a function returns, none where that is void."""
+        return None if self.skip("void") else self.type()
+
+    def name(self, kind):
+        """A name, or a number: what a local or a label says beside its sign."""
+        text = self.take(kind)
+        text = text[:-1] if kind == "label" else text[1:]
+        return int(text) if text.isdigit() else said(name_said, text)
+
+    def global_name(self):
+        """The name of a symbol, which digits are too."""
+        text = self.take("global")[1:]
+        return text if text.isdigit() else said(name_said, text)
+
+    def value(self, type):
+        """A constant as (type, value), or the name or number of a local."""
+        kind, text = self.peek()
+        if kind == "local":
+            return self.name("local")
+        self.at += 1
+        if kind == "word":
+            need(text in ("true", "false") and type == BIT, f"value {text!r}")
+            return (BIT, int(text == "true"))
+        need(kind == "number", f"value {text!r}")
+        need(has_constants(type), f"a constant of {type}")
+        number, width = int(text), type.width
+        need(-(1 << (width - 1)) <= number < (1 << width), f"range of {text}")
+        return (type, number % (1 << width))
+
+    def file(self):
+        module = Node(name="", functions=[])
+        if self.skip("source_filename"):
+            self.want("=")
+            module.name = said(text_said, self.take("string"))
+        while self.peek()[0] != "end":
+            module.functions.append(self.function())
+        return module
+
+    def function(self):
+        self.want("define")
+        self.skip("external")
+        result = self.result()
+        name = self.global_name()
+        self.want("(")
+        params = []
+        if not self.skip(")"):
+            while True:
+                type = self.type()
+                params.append(Node(type=type, name=self.name("local") if self.peek()[0] == "local" else None))
+                if self.skip(")"):
+                    break
+                self.want(",")
+        self.want("{")
+        blocks = [self.block()]
+        while not self.skip("}"):
+            blocks.append(self.block())
+        return Node(name=name, result=result, params=params, blocks=blocks)
+
+    def block(self):
+        block = Node(name=self.name("label") if self.peek()[0] == "label" else None, insts=[])
+        while True:
+            inst = self.inst()
+            block.insts.append(inst)
+            if inst.kind in ENDS:
+                return block
+
+    def target(self):
+        self.want("label")
+        return self.name("local")
+
+    def typed(self):
+        """A value behind its type, with it."""
+        type = self.type()
+        return self.value(type), type
+
+    def pair(self):
+        """Two integers of one type, each with it."""
+        type = self.type()
+        need(is_integer(type), f"an operation on {type}")
+        left = self.value(type)
+        self.want(",")
+        return [(left, type), (self.value(type), type)]
+
+    def condition(self):
+        value, type = self.typed()
+        need(type == BIT, "a condition's type")
+        return value, type
+
+    def row(self, kind, given, type, values, flags=(), predicate=None, to=None):
+        """An instruction with a result of that type; its operands come with the type of each."""
+        return Node(kind=kind, name=given, type=type, operands=[v for v, _ in values], of=[t for _, t in values],
+                    flags=list(flags), predicate=predicate, to=to)
+
+    def inst(self):
+        given = None
+        if self.peek()[0] == "local":
+            given = self.name("local")
+            self.want("=")
+        word = self.take("word")
+        if word in BINARY:
+            flags = [flag for flag in ("nuw", "nsw") if word in FLAGGED and self.skip(flag)]
+            values = self.pair()
+            return self.row(word, given, values[0][1], values, flags=flags)
+        if word == "icmp":
+            predicate = self.take("word")
+            need(predicate in PREDICATES, "predicate")
+            return self.row(word, given, BIT, self.pair(), predicate=predicate)
+        if word in CASTS:
+            return self.cast(word, given)
+        if word == "select":
+            values = [self.condition()]
+            for _ in range(2):
+                self.want(",")
+                values.append(self.typed())
+            need(values[1][1] == values[2][1], "the types of a select")
+            return self.row(word, given, values[1][1], values)
+        if word == "freeze":
+            value, type = self.typed()
+            return self.row(word, given, type, [(value, type)])
+        if word == "phi":
+            return self.phi(given)
+        need(given is None, "a result of a terminator")
+        return self.terminator(word)
+
+    def cast(self, word, given):
+        flags = ["nneg"] if word == "zext" and self.skip("nneg") else []
+        value, of = self.typed()
+        self.want("to")
+        to = self.type()
+        need(is_integer(of) and is_integer(to) and CASTS[word](of.width, to.width), "the types of a cast")
+        return self.row(word, given, to, [(value, of)], flags=flags, to=to)
+
+    def phi(self, given):
+        type, entries = self.type(), []
+        while True:
+            self.want("[")
+            value = self.value(type)
+            self.want(",")
+            entries.append((value, self.name("local")))
+            self.want("]")
+            if not self.skip(","):
+                return Node(kind="phi", name=given, type=type, entries=entries, operands=[])
+
+    def terminator(self, word):
+        if word == "unreachable":
+            return Node(kind="unreachable", operands=[], of=[], targets=[])
+        if word == "ret":
+            values = [] if self.skip("void") else [self.typed()]
+            return Node(kind="ret", operands=[v for v, _ in values], of=[t for _, t in values], targets=[])
+        need(word == "br", f"word {word!r}")
+        if self.peek() == ("word", "label"):
+            return Node(kind="br", operands=[], of=[], targets=[self.target()])
+        condition, _ = self.condition()
+        self.want(",")
+        first = self.target()
+        self.want(",")
+        return Node(kind="cond_br", operands=[condition], of=[BIT], targets=[first, self.target()])
