@@ -1,9 +1,12 @@
 #!/usr/bin/env python3
-"""Instructions, peak memory and allocations of `round_ll round` on seven kinds of text.
+"""Instructions, peak memory and allocations of `round_ll round` on kinds of text.
 
 Instructions are counted by callgrind, so a busy machine changes nothing; memory is the most that a run without
 callgrind held; allocations are counted by memcheck, for each line. Each kind is a text of about a mebibyte, or of so
 many bytes as the first word says.
+
+Names of all kinds may take 1.5 times as many instructions a byte as plain ones in a text of the same shape: those that
+all come to one identifier beside "plain names", and those between quotes beside "long names".
 usage: bench/counts.py [BYTES [PROGRAM]]
 """
 import os
@@ -13,6 +16,8 @@ import resource
 import subprocess
 import sys
 import tempfile
+
+from name_texts import alike, escaped, function, long, plain, quoted
 
 ROOT = pathlib.Path(__file__).resolve().parent.parent
 PROGRAM = ROOT / "crates/program/out/program"
@@ -57,6 +62,11 @@ def chain(other, size, name=lambda k: f"x{k}", add="add"):
     return inside(head, part, lambda n: f"  ret i32 %{name(n)}\n", size)
 
 
+def named(name, size):
+    """One function of adds, of results of these names."""
+    return chain(lambda k: "%a", size, name=name)
+
+
 def blocks(size):
     """One function of many blocks, each of which leads to the next or to the exit."""
     part = lambda k: f"  br i1 %c, label %b{k + 1}, label %exit\n\nb{k + 1}:\n"
@@ -76,7 +86,13 @@ KINDS = {
     "functions of one line": lambda size: repeated(line, size),
     "one function of adds": lambda size: chain(lambda k: "%a", size, add="add nsw"),
     "one of many blocks": blocks,
-    "long names": lambda size: chain(lambda k: "%a", size, name=lambda k: "a" * 190 + f"{k:010}"),
+    "long names": lambda size: named(long, size),
+    "long names, quoted": lambda size: named(quoted, size),
+    "long names, escaped": lambda size: named(escaped, size),
+    "functions, plain names": lambda size: repeated(lambda k: function(k, plain), size),
+    "functions, one identifier": lambda size: repeated(lambda k: function(k, alike), size),
+    "results, plain names": lambda size: named(plain, size),
+    "results, one identifier": lambda size: named(alike, size),
     "many constants": lambda size: chain(lambda k: k + 10, size),
     "many phis": phis,
 }
@@ -122,7 +138,7 @@ def allocations(program, path):
 def main():
     size = int(sys.argv[1]) if len(sys.argv) > 1 else 1 << 20
     program = pathlib.Path(sys.argv[2]) if len(sys.argv) > 2 else PROGRAM
-    print(f"{'':24}{'bytes':>10}{'instructions a byte':>22}{'memory a byte':>16}{'allocations a line':>20}")
+    print(f"{'':28}{'bytes':>10}{'instructions a byte':>22}{'memory a byte':>16}{'allocations a line':>20}")
     with tempfile.TemporaryDirectory() as scratch:
         path = f"{scratch}/text.ll"
         for name, made in KINDS.items():
@@ -131,7 +147,7 @@ def main():
             count = instructions(program, path, scratch)
             held = memory(program, path)
             asked = allocations(program, path) / text.count("\n")
-            print(f"{name:24}{len(text):10}{count / len(text):22.1f}{held / len(text):16.1f}{asked:20.1f}", flush=True)
+            print(f"{name:28}{len(text):10}{count / len(text):22.1f}{held / len(text):16.1f}{asked:20.1f}", flush=True)
 
 
 if __name__ == "__main__":

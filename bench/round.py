@@ -4,10 +4,11 @@
 First texts of 1, 4 and 16 MiB of two kinds: functions that each return an integer, and functions of a hundred adds
 each. Then control flow, a tenth of each text and the whole: many blocks that all branch to one block with three
 phis, a ladder of conditional branches, functions of a hundred blocks, a chain of blocks that stands in the text from
-its end, and a web of blocks that branch anywhere.
+its end, and a web of blocks that branch anywhere. Then names: functions and results whose names all come to one
+identifier beside those of plain names, and long names between quotes, without escapes and with them, beside bare ones.
 Beside each stands `opt -S -passes=verify` of an installed LLVM, where there is one.
-A last line for each kind says how the time per byte of the largest stands to that of the smallest; more than 1.5
-is more than wanted.
+A last line for each kind says how the time per byte of the largest stands to that of the smallest, or that of other
+names to that of plain ones; more than 1.5 is more than wanted.
 """
 import os
 import pathlib
@@ -18,6 +19,9 @@ import subprocess
 import sys
 import tempfile
 import time
+
+import name_texts
+from counts import named
 
 ROOT = pathlib.Path(__file__).resolve().parent.parent
 MIB = 1 << 20
@@ -116,6 +120,11 @@ def text_of(item_of, size, count=None):
     return "".join(lines)
 
 
+def symbols(name):
+    """A hundred thousand functions of these names."""
+    return text_of(lambda number: name_texts.function(number, name), LIMIT, 100000)
+
+
 def measure(command, path):
     """The seconds and the peak memory, in MiB, of a command over a file as standard input."""
     with open(path, "rb") as source, open(os.devnull, "wb") as sink:
@@ -139,6 +148,12 @@ def main():
     for whole_of, count in ((fan, 20000), (ladder, 50000), (hundreds, 10000), (chain, 100000), (web, 150000)):
         print(whole_of.__doc__)
         compare(built, opt, [("tenth", whole_of, count // 10), ("whole", whole_of, count)])
+    print(symbols.__doc__)
+    compare(built, opt, [("plain", symbols, name_texts.plain), ("alike", symbols, name_texts.alike)])
+    print(named.__doc__)
+    compare(built, opt, [("plain", named, name_texts.plain, 4 * MIB), ("alike", named, name_texts.alike, 4 * MIB)])
+    for kind in (name_texts.quoted, name_texts.escaped):
+        compare(built, opt, [("long", named, name_texts.long, 4 * MIB), (kind.__name__, named, kind, 4 * MIB)])
 
 
 def write(path, make, *args):
@@ -162,7 +177,7 @@ def compare(built, opt, texts):
             length = write(path, make, *args)
             seconds, peak = min(measure(built, path) for _ in range(3))
             per_byte.append(seconds / length)
-            line = f"{name:>6} {length / MIB:6.2f} MiB  round_ll {seconds:7.3f} s {1e9 * seconds / length:8.1f} ns/byte"
+            line = f"{name:>7} {length / MIB:6.2f} MiB  round_ll {seconds:7.3f} s {1e9 * seconds / length:8.1f} ns/byte"
             line += f" {length / MIB / seconds:8.1f} MB/s {peak:8.1f} MiB"
             if opt:
                 seconds, peak = min(measure([opt, "-S", "-passes=verify"], path) for _ in range(3))
