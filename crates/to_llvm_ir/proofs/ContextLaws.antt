@@ -15,8 +15,8 @@ use Rattle.dialect_core.specs.declared.ops.Symbol.{Symbol}
 use Rattle.dialect_core.specs.declared.ops.OpData.{OpData}
 use Rattle.dialect_core.specs.declared.ops.BlockData.{BlockData}
 use Rattle.dialect_core.specs.Lists.{list_at}
-use Rattle.dialect_core.specs.ContextData.{ContextData, llvm_name_at, symbol_at}
-use Rattle.dialect_core.specs.Data.{IsTyped, Func, DialectBlock, llvm_name_of, op_at, block_of, block_in, func_with, func_of, func_in, name_at}
+use Rattle.dialect_core.specs.ContextData.{ContextData, symbol_at}
+use Rattle.dialect_core.specs.Data.{IsTyped, Func, DialectBlock, llvm_name_of, op_at, block_of, block_in, func_with, func_of, func_in, name_at, symbol_name_at}
 use Rattle.to_llvm_ir.specs.Functions.{blocks_of}
 
 -- ---- lists
@@ -86,7 +86,7 @@ args_count c b d ts h at =
 pub record FuncParts (c : ContextData) (o : OpRef) (g : Func) : Type 0 where
   pub symbol : Symbol
   pub symbol_is : symbol_at c.ops o ≡ Some symbol
-  pub name : llvm_name_of g ≡ unwrap_or (llvm_name_at c.ops o) (name_at c.ops o.0)
+  pub name : llvm_name_of g ≡ symbol_name_at c.ops o
   pub type : g.type ≡ type_at (type_trees c.types) symbol.ty
   pub blocks : g.blocks ≡ blocks_of c o
   pub type_there : IsTyped c → symbol.ty.0 < length c.types

@@ -10,9 +10,9 @@ ghost use Rattle.dialect_core.specs.WellFormed.{IsPlainAt, IsNarrowFunc};
 ghost use Rattle.dialect_core.specs.Checking.{func_at};
 ghost use Rattle.to_llvm_ir.specs.Narrow.{IsNarrowAt, IsNarrowBlockAt, AreNarrowBlocks, IsNarrowHead};
 
+use crate::operations::llvm_name_of;
 use dialect_core::context::Context;
 use dialect_core::linkage::LinkageAttr;
-use dialect_core::module_printing::llvm_name_of;
 use dialect_core::numbers::{BlockRef, OpRef};
 use dialect_core::type_tests::{all_held, is_held, is_held_signature};
 use dialect_core::walking::{first_in_block, next_in_block};

@@ -12,7 +12,7 @@ ghost use Rattle.dialect_types.specs.declared.attrs.ConstAttr.TheVariants as att
 ghost use Rattle.dialect_types.specs.Trees.{TypeTree, type_trees};
 ghost use Rattle.dialect_core.specs.declared.ops.OpKind.TheVariants as kinds;
 ghost use Rattle.dialect_core.specs.ContextData.{kind_at, IsValueWithin, IsSuccessorWithin};
-ghost use Rattle.dialect_core.specs.Data.{DialectBlock, DialectOp, IsTyped, op_at, name_at};
+ghost use Rattle.dialect_core.specs.Data.{DialectBlock, DialectOp, IsTyped, op_at, name_at, symbol_name_at};
 ghost use Rattle.dialect_core.specs.Form.{is_constant};
 ghost use Rattle.meaning.specs.Pairs.{Matched};
 ghost use Rattle.to_llvm_ir.specs.Growth.{Grows};
@@ -50,6 +50,17 @@ pub fn name_of(ctx: &Context, op: OpRef) -> &str
     match ctx.op_name(op) {
         Some(name) => name.as_str(),
         None => "",
+    }
+}
+
+/// The LLVM name of a function: its own where no other is set.
+pub fn llvm_name_of(ctx: &Context, op: OpRef) -> &str
+    requires { op.0 < length ctx.now.ops }
+    ensures { result.now ≡ symbol_name_at ctx.now.ops op }
+{
+    match ctx.llvm_symbol_name(op) {
+        Some(name) => name,
+        None => name_of(ctx, op),
     }
 }
 
