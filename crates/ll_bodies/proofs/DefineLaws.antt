@@ -25,7 +25,7 @@ use Rattle.ll_lines.specs.declared.lines.Param as code_param
 use Rattle.llvm_core.specs.declared.numbers.LLVMFunction.{LLVMFunction}
 use Rattle.support.proofs.ListLaws.{take_next}
 use Rattle.ll_bodies.proofs.BlockLaws.{Reached, drop_at, lines_at, line_reached}
-use Rattle.ll_bodies.proofs.ScopeLaws.{Steps, steps_on, steps_refused, steps_end, takes_then, then_refuses, written_takes, written_refuses, adds_both, adds_weaker}
+use Rattle.ll_bodies.proofs.ScopeLaws.{Steps, steps_on, steps_refused, steps_end, takes_then, then_refuses, adds_both, adds_weaker}
 
 pub bind_assoc : {A B C : Type 0} (r : Option A) (f : A → Option B) (g : B → Option C) → ((r >>= f) >>= g) ≡ (r >>= λ x. f x >>= g)
 bind_assoc None f g = refl
@@ -110,20 +110,20 @@ module _ (source : Source) where
 
   -- ---- a block
 
-  pub block_takes : (old now new : Scope) (b n : ℕ) (x : code_block.SaidBlock) (k : Option spec.Key) → spec.optional_key spec.label_key (block_in source x).label ≡ Some k
-      → Takes (types_in source) old now (λ s. spec.define s (spec.BlockLocal b) k) → Takes (types_in source) now new (λ s. lines_scope s n (block_in source x).lines) → Takes (types_in source) old new (block_scope source b n x)
-  block_takes old now new b n x k is h g = takes_then (types_in source) old now new _ (λ s. lines_scope s n (block_in source x).lines) (written_takes (types_in source) old now (spec.BlockLocal b) spec.label_key (block_in source x).label k is h) g
+  -- the block defines its label
+  abbrev pub label_scope : (b : ℕ) → code_block.SaidBlock → spec.Scope → Option spec.Scope
+  label_scope b x = λ s. spec.define_written s (spec.BlockLocal b) spec.label_key (block_in source x).label
 
-  pub label_unkeyed : (old : Scope) (b n : ℕ) (x : code_block.SaidBlock) → ((s : spec.Scope) → spec.define_written s (spec.BlockLocal b) spec.label_key (block_in source x).label ≡ None) → Refuses (types_in source) old (block_scope source b n x)
-  label_unkeyed old b n x h = λ s in_old. ap (λ o. o >>= λ t. lines_scope t n (block_in source x).lines) (h s)
+  pub block_takes : (old now new : Scope) (b n : ℕ) (x : code_block.SaidBlock) → Takes (types_in source) old now (label_scope b x)
+      → Takes (types_in source) now new (λ s. lines_scope s n (block_in source x).lines) → Takes (types_in source) old new (block_scope source b n x)
+  block_takes old now new b n x h g = takes_then (types_in source) old now new (label_scope b x) (λ s. lines_scope s n (block_in source x).lines) h g
 
-  pub label_refused : (old : Scope) (b n : ℕ) (x : code_block.SaidBlock) (k : Option spec.Key) → spec.optional_key spec.label_key (block_in source x).label ≡ Some k
-      → Refuses (types_in source) old (λ s. spec.define s (spec.BlockLocal b) k) → Refuses (types_in source) old (block_scope source b n x)
-  label_refused old b n x k is h = λ s in_old. ap (λ o. o >>= λ t. lines_scope t n (block_in source x).lines) (written_refuses (types_in source) old (spec.BlockLocal b) spec.label_key (block_in source x).label k is h s in_old)
+  pub label_refused : (old : Scope) (b n : ℕ) (x : code_block.SaidBlock) → Refuses (types_in source) old (label_scope b x) → Refuses (types_in source) old (block_scope source b n x)
+  label_refused old b n x h = λ s in_old. ap (λ o. o >>= λ t. lines_scope t n (block_in source x).lines) (h s in_old)
 
-  pub block_lines_refused : (old now : Scope) (b n : ℕ) (x : code_block.SaidBlock) (k : Option spec.Key) → spec.optional_key spec.label_key (block_in source x).label ≡ Some k
-      → Takes (types_in source) old now (λ s. spec.define s (spec.BlockLocal b) k) → Refuses (types_in source) now (λ s. lines_scope s n (block_in source x).lines) → Refuses (types_in source) old (block_scope source b n x)
-  block_lines_refused old now b n x k is h g = then_refuses (types_in source) old now _ (λ s. lines_scope s n (block_in source x).lines) (written_takes (types_in source) old now (spec.BlockLocal b) spec.label_key (block_in source x).label k is h) g
+  pub block_lines_refused : (old now : Scope) (b n : ℕ) (x : code_block.SaidBlock) → Takes (types_in source) old now (label_scope b x)
+      → Refuses (types_in source) now (λ s. lines_scope s n (block_in source x).lines) → Refuses (types_in source) old (block_scope source b n x)
+  block_lines_refused old now b n x h g = then_refuses (types_in source) old now (label_scope b x) (λ s. lines_scope s n (block_in source x).lines) h g
 
   pub block_adds : (old now new : Scope) (b n : ℕ) (x : code_block.SaidBlock) (r : LLVMBasicBlock) → r.0 ≡ b → Adds (λ (y : Local). y ≡ Block r) old now → Adds (IsResultAmong source n (lines_of x.lines.now)) now new → Adds (IsOfBlock source b n x) old new
   block_adds old now new b n x r e h g = adds_both (IsOfBlock source b n x) old now new

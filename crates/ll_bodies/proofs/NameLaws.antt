@@ -22,7 +22,7 @@ and_false true = refl
 and_false false = refl
 
 -- a bare name begins with no digit
-bare_no_digits : (t : Text) → is_bare t ≡ true → is_digits t ≡ false
+pub bare_no_digits : (t : Text) → is_bare t ≡ true → is_digits t ≡ false
 bare_no_digits [] h = refl
 bare_no_digits (b ∷ bs) h =
     let both = and_parts (is_name_byte b && not (is_digit b)) (list_all is_name_byte bs) h in

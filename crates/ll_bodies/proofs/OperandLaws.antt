@@ -1,7 +1,7 @@
 -- What operands name.
-use Rattle.std.proofs.Common.{◌≡◌, ◌<◌, Bool, true, false, nat_eq, if◌then◌else◌, List, Option, Some, None, length, refl, ap, sym, ◌∙◌}
-use Rattle.std.specs.Option.{option_map}
-use Rattle.std.specs.Prelude.{IfSome}
+use Rattle.std.proofs.Common.{◌≡◌, ◌<◌, Bool, true, false, nat_eq, if◌then◌else◌, List, Option, Some, None, Result, Ok, Err, length, refl, ap, sym, ◌∙◌, subst}
+use Rattle.std.specs.Option.{option_map, ok_or}
+use Rattle.std.specs.Prelude.{IfSome, IfOk}
 use Rattle.std.proofs.lemmas.Option.{same_Some}
 use Rattle.kinds.specs.Types.{TypeTree, same_tree}
 use Rattle.support.proofs.ListLaws.{item_there}
@@ -16,6 +16,13 @@ use Rattle.llvm_core.specs.Parts as P
 use Rattle.llvm_core.specs.Data.{const_at, const_type, trees_of, operand_of}
 use Rattle.llvm_core.proofs.DataLemmas.{const_type_of}
 use Rattle.ll_lines.specs.Views.{IsTypeIn}
+use Rattle.ll_bodies.specs.Scopes as spec
+use Rattle.ll_bodies.specs.declared.build_err.BuildErr.{BuildErr}
+use Rattle.ll_bodies.specs.declared.build_err.BuildErr.TheVariants.{NotYet}
+use Rattle.ll_bodies.specs.declared.scope.Local.{Local}
+use Rattle.ll_bodies.specs.declared.scope.Scope.{Scope}
+use Rattle.ll_bodies.specs.ScopeViews.{IsKnown, Knows}
+use Rattle.ll_bodies.specs.SourceViews.{IsLocalIn, IsScopeIn}
 use Rattle.ll_bodies.proofs.TypeLaws.{tree, same_number}
 
 -- ---- types
@@ -39,7 +46,19 @@ module _ (m : Module) (s : IsModule m) where
       let same : P.const_type k.0 ≡ own = same_Some (P.const_type k.0) own (sym (ap (option_map P.const_type) k.1) ∙ e) in
       const_type_of m c k.0 s k.1 ∙ ap (tree m s) same
 
--- what holds of each thing that is known
-pub some_in : {X : Type 0} (P : X → Type 0) (o : Option X) → ((y : X) → o ≡ Some y → P y) → IfSome o P
-some_in P None h = tt
-some_in P (Some y) h = h y refl
+-- ---- what is looked up
+
+-- what stands in a scope has a type that is there
+pub known_in : (m : Module) (scope : Scope) (o : Option Local) → IsScopeIn m scope → IfSome o (IsKnown scope) → IfSome o (IsLocalIn m)
+known_in m scope None there known = tt
+known_in m scope (Some x) there known = there.at known.0 x known.1
+
+-- what is found is answered, and else the text is refused
+module _ {A B : Type 0} (types : List TypeTree) (scope : Scope) (meant : spec.Scope → Option B) (made : A → B) (r : Result A BuildErr) where
+  pub found_ok : (o : Option A) → r ≡ ok_or o NotYet → ((s : spec.Scope) → Knows types scope s → meant s ≡ option_map made o) → IfOk r (λ x. (s : spec.Scope) → Knows types scope s → meant s ≡ Some (made x))
+  found_ok None is h = subst (λ (q : Result A BuildErr). IfOk q (λ x. (s : spec.Scope) → Knows types scope s → meant s ≡ Some (made x))) (sym is) tt
+  found_ok (Some x) is h = subst (λ (q : Result A BuildErr). IfOk q (λ x. (s : spec.Scope) → Knows types scope s → meant s ≡ Some (made x))) (sym is) h
+
+  pub found_not : (o : Option A) → r ≡ ok_or o NotYet → ((s : spec.Scope) → Knows types scope s → meant s ≡ option_map made o) → r ≡ Err NotYet → (s : spec.Scope) → Knows types scope s → meant s ≡ None
+  found_not None is h e = h
+  found_not (Some x) is h e = absurd (let no_error : Ok x ≡ Err NotYet = sym is ∙ e in cc (no_error))

@@ -1,7 +1,7 @@
 -- What the lines of a function name is there in the module that has its body, with the type that is asked for.
 use Rattle.std.proofs.Common.{◌≡◌, ◌<◌, ◌+◌, ◌⊎◌, inl, inr, ℕ, zero, suc, Bool, true, false, if◌then◌else◌, List, [], ◌∷◌, ◌++◌, Option, Some, None, map, take, length, slice_get, refl, ap, sym, ◌∙◌, subst, arith}
 use Rattle.std.specs.List.{flat_map}
-use Rattle.std.specs.Option.{option_map, option_map_or}
+use Rattle.std.specs.Option.{option_map, option_and_then, option_map_or}
 use Rattle.std.proofs.lemmas.Option.{slice_get_within, slice_get-map, same_Some}
 use Rattle.std.proofs.lemmas.List.{get_or_past}
 use Rattle.std.proofs.Common.{◌≤◌, get_or}
@@ -66,6 +66,11 @@ bind_found (Some x) f y h = (x, refl, h)
 pub cond_found : {A : Type 0} (t : Bool) (a b : A) → (if t then Some a else None) ≡ Some b → (t ≡ true) × (a ≡ b)
 cond_found true a b h = (refl, same_Some a b h)
 cond_found false a b h = absurd cc
+
+-- what is found under a key, if there is one
+found_under : {A B : Type 0} (o : Option A) (f : A → Option B) (y : B) → option_and_then f o ≡ Some y → (x : A) × (o ≡ Some x) × (f x ≡ Some y)
+found_under None f y e = absurd cc
+found_under (Some x) f y e = (x, refl, e)
 
 pub value_found : (τ : TypeTree) (o : Option spec.Local) (w : Operand) → value_of_type τ o ≡ Some w → o ≡ Some (ValueLocal w τ)
 value_found τ None w h = absurd cc
@@ -245,7 +250,7 @@ module _ (source : Source) (f : LLVMFunction) (ps : List code_param.Param) (xs :
             const_stands d τ (const_there m sound c d there same) (ap const_type (sym same) ∙ t)
     value_right τ (code_said.TheVariants.Local name) v there h =
         let found = value_found τ (local_of s (text_of source.bytes.now name)) (operand_of (source_trees source) v) h in
-        let k = bind_found (local_key (text_of source.bytes.now name)) s.known (ValueLocal (operand_of (source_trees source) v) τ) found in
+        let k = found_under (local_key (text_of source.bytes.now name)) s.known (ValueLocal (operand_of (source_trees source) v) τ) found in
         let z = known k.0 (ValueLocal (operand_of (source_trees source) v) τ) k.2 in
         of_local v τ z.0 z.1 z.2
 
@@ -264,6 +269,6 @@ module _ (source : Source) (f : LLVMFunction) (ps : List code_param.Param) (xs :
     pub block_right : (name : Name) (b : LLVMBasicBlock) → block_of s (text_of source.bytes.now name) ≡ Some b.0 → IsBlock real b
     block_right name b h =
         let found = block_found (local_of s (text_of source.bytes.now name)) b.0 h in
-        let k = bind_found (local_key (text_of source.bytes.now name)) s.known (BlockLocal b.0) found in
+        let k = found_under (local_key (text_of source.bytes.now name)) s.known (BlockLocal b.0) found in
         let z = known k.0 (BlockLocal b.0) k.2 in
         of_block b z.0 z.1 z.2

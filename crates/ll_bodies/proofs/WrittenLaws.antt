@@ -1,5 +1,6 @@
 -- What is written is looked up, and defined, as the key that it says.
-use Rattle.std.proofs.Common.{arith, ◌≡◌, ◌≤◌, ℕ, Bool, true, false, nat_le, nat_lt, if◌then◌else◌, List, Option, Some, None, refl, ap, sym, ◌∙◌}
+use Rattle.std.proofs.Common.{arith, ◌≡◌, ◌≤◌, ℕ, Bool, true, false, nat_le, nat_lt, if◌then◌else◌, List, Option, Some, None, refl, ap, sym, ◌∙◌, subst}
+use Rattle.std.specs.Prelude.{IfSome}
 use Rattle.std.specs.Option.{option_map, option_and_then}
 use Rattle.std.proofs.lemmas.Bool.Decides.{nat_tests}
 use Rattle.llvm_core.specs.Data.{TypeTree}
@@ -9,7 +10,7 @@ use Rattle.ll_literals.specs.Names.{quoted_name}
 use Rattle.ll_literals.specs.Numbers.{number_limit}
 use Rattle.ll_bodies.specs.Scopes as spec
 use Rattle.ll_bodies.specs.Scopes.{Key, Named, Numbered, key_of, define}
-use Rattle.ll_bodies.specs.ScopeViews.{local_view, local_at, Knows, IsNotPlain}
+use Rattle.ll_bodies.specs.ScopeViews.{local_view, local_at, IsKnown, Knows, IsNotPlain}
 use Rattle.ll_bodies.specs.ScopeViews.IsNotPlain.{quoted, past}
 use Rattle.ll_bodies.specs.declared.scope.Local.{Local}
 use Rattle.ll_bodies.specs.declared.scope.Scope.{Scope}
@@ -27,6 +28,18 @@ module _ (types : List TypeTree) (code : Scope) (s : spec.Scope) (knows : Knows 
   quoted_known w (past n large e none) =
       key_known (key_of w) (Numbered n) e ∙ ap (option_map (local_view types)) (knows.limited n large)
       ∙ sym (ap (λ (q : Option Text). option_map (local_view types) (option_and_then (λ (m : Text). local_at code (Named m)) q)) none)
+
+-- what is found stands under the key that was looked up
+held : (code : Scope) (k : Key) (o : Option Local) → local_at code k ≡ o → IfSome o (IsKnown code)
+held code k None is = tt
+held code k (Some x) is = (k, is)
+
+name_held : (code : Scope) (q : Option Text) → IfSome (option_and_then (λ (n : Text). local_at code (Named n)) q) (IsKnown code)
+name_held code None = tt
+name_held code (Some n) = held code (Named n) (local_at code (Named n)) refl
+
+pub quoted_held : (code : Scope) (q : Option Text) (x : Option Local) → x ≡ option_and_then (λ (n : Text). local_at code (Named n)) q → IfSome x (IsKnown code)
+quoted_held code q x is = subst (λ (o : Option Local). IfSome o (IsKnown code)) (sym is) (name_held code q)
 
 -- what a number says that nothing can have is not defined
 past_undefined : (s : spec.Scope) (x : spec.Local) (n : ℕ) → number_limit ≤ n → define s x (Some (Numbered n)) ≡ None

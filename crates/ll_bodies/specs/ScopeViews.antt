@@ -32,6 +32,10 @@ abbrev pub local_at : Scope → spec.Key → Option Local
 local_at s (spec.Named name) = or_else (get_by (λ k. bytes_eq name k.now) s.named) (get_by_text s.escaped name)
 local_at s (spec.Numbered n) = value_at s.numbered n
 
+-- something that a key stands for
+abbrev pub IsKnown : Scope → Local → Type 0
+IsKnown s x = (k : spec.Key) × (local_at s k ≡ Some x)
+
 -- the thing was put under a key
 abbrev pub IsPut : Scope → Scope → spec.Key → Local → Type 0
 IsPut old new k x = (q : spec.Key) → local_at new q ≡ (if spec.same_key k q then Some x else local_at old q)

@@ -178,7 +178,8 @@ fn add_function(
     ensures ok { OnOk result (AddsFunction bytes.now said.now module.old module.new) }
     ensures not_yet { result ≡ Err BuildErr.NotYet → function_data (length module.old.functions) (length module.old.blocks) (length module.old.insts) (function_view bytes.now (trees_of module.old) said.now) ≡ None }
 {
-    let Some(name) = global_name(alloc, said.name.text(bytes))? else {
+    let written = global_name(alloc, said.name.text(bytes))?;
+    let Some(name) = written else {
         return Err(BuildErr::NotYet);
     };
     let ty = function_type(alloc, module, said)?;
@@ -218,7 +219,8 @@ pub fn add_file(
     ensures not_yet { result ≡ Err BuildErr.NotYet → file_data (file_view bytes.now (trees_of module.old) said.now) ≡ None }
     ensures sound { OnOk result (IsModule module.new) }
 {
-    let Some(name) = source_name(alloc, bytes, said.source)? else {
+    let written = source_name(alloc, bytes, said.source)?;
+    let Some(name) = written else {
         return Err(BuildErr::NotYet);
     };
     module.set_name(name.as_str())?;

@@ -1,8 +1,8 @@
 //! The second pass: what lines name, in the scope of their whole function.
 
-ghost use Rattle.std.specs.Prelude.{◌≡◌, ◌<◌, nat_eq, if◌then◌else◌, None, Some, Err, IfOk, IfSome, All, map, length};
+ghost use Rattle.std.specs.Prelude.{◌≡◌, ◌<◌, nat_eq, if◌then◌else◌, List, None, Some, Err, IfOk, IfSome, All, map, length};
 ghost use Rattle.std.specs.Option.{option_map};
-ghost use Rattle.kinds.specs.Types.{same_tree};
+ghost use Rattle.kinds.specs.Types.{TypeTree, same_tree};
 ghost use Rattle.llvm_core.specs.Module.{Module};
 ghost use Rattle.llvm_core.specs.Sound.{IsModule};
 ghost use Rattle.llvm_core.specs.Data.{type_at, const_at, const_type, trees_of, operand_of};
@@ -10,7 +10,7 @@ ghost use Rattle.llvm_core.specs.Data as trees;
 ghost use Rattle.ll_lines.specs.Lines as said;
 ghost use Rattle.ll_lines.specs.Views.{text_of, IsTypeIn, IsSaidIn, IsTypedIn};
 ghost use Rattle.ll_bodies.specs.Scopes as spec;
-ghost use Rattle.ll_bodies.specs.Scopes.{local_of, value_of_type, block_of};
+ghost use Rattle.ll_bodies.specs.Scopes.{local_of, value_of_type, option_block, block_of};
 ghost use Rattle.ll_bodies.specs.Meaning as meaning;
 ghost use Rattle.ll_bodies.specs.Meaning.{all_of};
 ghost use Rattle.ll_bodies.specs.ScopeViews.{local_view, Knows, Refuses};
@@ -25,7 +25,7 @@ use ll_lines::lines::{Said, Typed};
 use ll_lines::names::Name;
 use llvm_core::code::LLVMValue;
 use llvm_core::numbers::{LLVMBasicBlock, LLVMConst, LLVMType};
-use std::alloc::{AllocError, Global};
+use std::alloc::Global;
 use support::short_list::ShortList;
 
 /// The value, where the type is its own.
@@ -67,7 +67,7 @@ fn constant(source: &Source<'_>, ty: LLVMType, c: LLVMConst) -> Option<LLVMValue
     of_type(value, source.module.type_of(value), ty)
 }
 
-/// The value that a local's token says, where it is of a type.
+/// The value that a local's token says, which is refused where it is not of the type.
 #[inline(always)]
 fn named_value(
     alloc: Global,
@@ -75,15 +75,16 @@ fn named_value(
     scope: &Scope<'_>,
     ty: LLVMType,
     name: Name,
-) -> Result<Option<LLVMValue>, AllocError>
+) -> Result<LLVMValue, BuildErr>
     requires source { IsSource source.now }
     requires scope { IsScopeIn source.now.module.now scope.now }
     requires ty { IsTypeIn source.now.module.now ty }
-    ensures { IfOk result (λ v. (s : spec.Scope) → Knows (types_in source.now) scope.now s → value_of_type (type_at (types_in source.now) ty) (local_of s (text_of source.now.bytes.now name)) ≡ option_map (operand_of (source_trees source.now)) v) }
+    ensures ok { IfOk result (λ v. (s : spec.Scope) → Knows (types_in source.now) scope.now s → value_of_type (type_at (types_in source.now) ty) (local_of s (text_of source.now.bytes.now name)) ≡ Some (operand_of (source_trees source.now) v)) }
+    ensures not_yet { result ≡ Err BuildErr.NotYet → Refuses (types_in source.now) scope.now (λ s. value_of_type (type_at (types_in source.now) ty) (local_of s (text_of source.now.bytes.now name))) }
 {
     match known(alloc, scope, of_local(name.text(source.bytes))) {
-        Ok(local) => Ok(local_value(local, ty)),
-        Err(e) => Err(e),
+        Ok(local) => local_value(local, ty).ok_or(BuildErr::NotYet),
+        Err(_) => Err(BuildErr::NoMemory),
     }
 }
 
@@ -103,13 +104,19 @@ pub fn operand(
     ensures ok { IfOk result (λ v. (s : spec.Scope) → Knows (types_in source.now) scope.now s → meaning.operand s (type_at (types_in source.now) ty) (said_in source.now said) ≡ Some (operand_of (source_trees source.now) v)) }
     ensures not_yet { result ≡ Err BuildErr.NotYet → Refuses (types_in source.now) scope.now (λ s. meaning.operand s (type_at (types_in source.now) ty) (said_in source.now said)) }
 {
-    let value = match said {
-        Said::Const(c) => constant(source, ty, c),
-        Said::Local(name) => named_value(alloc, source, scope, ty, name)?,
-    };
-    match value {
-        Some(value) => Ok(value),
-        None => Err(BuildErr::NotYet),
+    match said {
+        Said::Const(c) => constant(source, ty, c).ok_or(BuildErr::NotYet),
+        Said::Local(name) => named_value(alloc, source, scope, ty, name),
+    }
+}
+
+/// What is defined, where it is a block.
+fn local_block(local: Option<Local>) -> Option<LLVMBasicBlock>
+    ensures { (types : List TypeTree) → option_block (option_map (local_view types) local) ≡ option_map (λ (b : LLVMBasicBlock). b.0) result }
+{
+    match local {
+        Some(Local::Block(b)) => Some(b),
+        _ => None,
     }
 }
 
@@ -124,8 +131,7 @@ pub fn block(
     ensures not_yet { result ≡ Err BuildErr.NotYet → Refuses (types_in source.now) scope.now (λ s. block_of s (text_of source.now.bytes.now name)) }
 {
     match known(alloc, scope, of_local(name.text(source.bytes))) {
-        Ok(Some(Local::Block(b))) => Ok(b),
-        Ok(_) => Err(BuildErr::NotYet),
+        Ok(local) => local_block(local).ok_or(BuildErr::NotYet),
         Err(_) => Err(BuildErr::NoMemory),
     }
 }

@@ -1,13 +1,13 @@
 //! What is written of the names of things, in the scope of a function.
 
-ghost use Rattle.std.specs.Prelude.{◌≡◌, List, Some, Err, IfOk, OnOk};
+ghost use Rattle.std.specs.Prelude.{◌≡◌, List, Some, Err, IfOk, IfSome, OnOk};
 ghost use Rattle.std.specs.Option.{option_map, option_and_then};
 ghost use Rattle.llvm_core.specs.Data.{TypeTree};
 ghost use Rattle.ll_lines.specs.Views.{text_of};
 ghost use Rattle.ll_literals.specs.Names.{quoted_name};
 ghost use Rattle.ll_bodies.specs.Scopes as spec;
 ghost use Rattle.ll_bodies.specs.Scopes.{key_of, local_key, label_key, define, define_written};
-ghost use Rattle.ll_bodies.specs.ScopeViews.{local_view, local_at, Knows, Takes, Refuses, Adds};
+ghost use Rattle.ll_bodies.specs.ScopeViews.{local_view, local_at, IsKnown, Knows, Takes, Refuses, Adds};
 
 use crate::build_err::BuildErr;
 use crate::names::{of_label, of_local, plain_key};
@@ -36,7 +36,8 @@ fn known_quoted(
 /// What a name or a number stands for, as it is written.
 #[inline(always)]
 pub fn known(alloc: Global, scope: &Scope<'_>, written: &[u8]) -> Result<Option<Local>, AllocError>
-    ensures { IfOk result (λ x. (types : List TypeTree) (s : spec.Scope) → Knows types scope.now s → option_and_then s.known (key_of written.now) ≡ option_map (local_view types) x) }
+    ensures there { IfOk result (λ x. IfSome x (IsKnown scope.now)) }
+    ensures is { IfOk result (λ x. (types : List TypeTree) (s : spec.Scope) → Knows types scope.now s → option_and_then s.known (key_of written.now) ≡ option_map (local_view types) x) }
 {
     match plain_key(written) {
         Some(key) => Ok(scope.get(key)),

@@ -13,10 +13,10 @@ loop-param-preserved c =
     let ps = c.args.params.now in
     let here = slice_get-get_or ps at _ c.loop-param-test.true in
     let d = data_of c.loop-param.module in
-    let is = c.in_ok-set_param_name.ensures.data ∙ ap (λ (k : ℕ). with_param d c.args.f.0 k c.local_name.result.now) i.place ∙ ap (λ (t : List ℕ). with_param d c.args.f.0 at t) c.local_name.ensures in
+    let is = c.in_ok-set_param_name.ensures.data ∙ ap (λ (k : ℕ). with_param d c.args.f.0 k c.as_str.result.now) i.place ∙ ap (λ (t : List ℕ). with_param d c.args.f.0 at t) (c.as_str.ensures.value ∙ c.in_ok-name.ensures) in
     record {
       place = c.in_ok-place.ensures.next ∙ ap (λ (k : ℕ). k + 1) i.place;
-      renames = renames_one c.args.f c.args.module.now c.loop-param.module c.set_param_name.new.self c.loop-param.place c.local_name.result.now i.renames c.in_ok-set_param_name.ensures.ok;
+      renames = renames_one c.args.f c.args.module.now c.loop-param.module c.set_param_name.new.self c.loop-param.place c.as_str.result.now i.renames c.in_ok-set_param_name.ensures.ok;
       left = ap (λ (z : ModuleData). with_params z c.args.f.0 (at + 1) (names_in c.args.bytes.now (drop (at + 1) ps))) is ∙ sym (names_at c.args.bytes.now d c.args.f.0 ps at _ here) ∙ i.left;
       sound = λ s. c.set_param_name.ensures.sound;
     }

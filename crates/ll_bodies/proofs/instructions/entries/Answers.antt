@@ -7,13 +7,13 @@ use Rattle.ll_bodies.specs.SourceViews.{types_in, entry_in, source_trees}
 use Rattle.ll_bodies.proofs.ListLaws.{one_made, two_made}
 use Rattle.ll_bodies.proofs.instructions.entries.Goals as goal
 
-pub returns-in_ok-known_entry-in-len1-clause-ok : goal.returns-in_ok-known_entry-in-len1-clause-ok
-returns-in_ok-known_entry-in-len1-clause-ok c = λ s knows.
+pub returns-in_ok-entry-in-len1-clause-ok : goal.returns-in_ok-entry-in-len1-clause-ok
+returns-in_ok-entry-in-len1-clause-ok c = λ s knows.
     let source = c.args.source.now in
     let xs = c.args.said.now in
     let some = c.in-len1.len_at_least in
     let few = c.in-len1.len_below in
-    let x = c.in_ok-known_entry-in-len1 in
+    let x = c.in_ok-entry-in-len1 in
     rw c.one.ensures (one_made (entry_in source) (entry s (type_at (types_in source) c.args.ty)) (entry_of (source_trees source)) xs _ x.field-0 (omega (arith, few)) (slice_get-get_or xs 0 _ (omega (arith, some))) (x.ensures.ok s knows))
 
 pub returns-in_ok-second-in-len2-clause-ok : goal.returns-in_ok-second-in-len2-clause-ok

@@ -12,4 +12,4 @@ loop-name-preserved c = λ s knows.
     let at = c.loop-name.name-index in
     let next : at + 1 ≡ suc at = omega arith in
     let here = slice_get-get_or c.args.names.now at _ c.loop-name-test.true in
-    rw c.in_ok-push-in-Some.ensures.ok (done_more (text_of c.args.source.now.bytes.now) (block_of s) (λ (b : LLVMBasicBlock). b.0) c.args.names.now at (at + 1) c.loop-name.blocks _ c.in-Some.found here next (c.in-Some.ensures s knows) (c.loop-name.invariant s knows))
+    rw c.in_ok-push.ensures.ok (done_more (text_of c.args.source.now.bytes.now) (block_of s) (λ (b : LLVMBasicBlock). b.0) c.args.names.now at (at + 1) c.loop-name.blocks _ c.in_ok-found.found here next (c.in_ok-found.ensures.ok s knows) (c.loop-name.invariant s knows))
