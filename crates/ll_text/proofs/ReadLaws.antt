@@ -12,7 +12,6 @@ use Rattle.grammars.specs.Grammar.{Grammar, Writes}
 use Rattle.llvm_core.specs.declared.check_err.CheckErr.{CheckErr}
 use Rattle.llvm_core.specs.declared.check_err.CheckErr.TheVariants.{NoMemory}
 use Rattle.llvm_core.specs.Module.{Module}
-use Rattle.llvm_core.specs.Names.{IsPlainOrNone}
 use Rattle.llvm_core.specs.Sound.{IsModule}
 use Rattle.llvm_core.specs.Checked.{IsChecked, MayAnswer}
 use Rattle.llvm_core.specs.Data.{ModuleData, data_of}
@@ -115,12 +114,11 @@ meant_readable bytes m n sound means readable spelled =
       sound = sound;
       checked = checked_of_form m sound (apart m sound) form names_kept few;
       form = form;
-      name = subst IsPlainOrNone (sym (ap (λ (e : ModuleData). e.name) same)) readable.name;
     }
 
 -- so what is not readable is spelled by no text
-pub unspelled : (bytes : List ℕ) (m : Module) → IsModule m → Means bytes (data_of m) → (IsChecked m → IsForm (data_of m) → ¬ IsPlainOrNone m.name) → ¬ IsSpelled bytes
-unspelled bytes m sound means refuses (n, readable, spelled) = let r = meant_readable bytes m n sound means readable spelled in refuses r.checked r.form r.name
+pub unspelled : (bytes : List ℕ) (m : Module) → IsModule m → Means bytes (data_of m) → (IsChecked m → ¬ IsForm (data_of m)) → ¬ IsSpelled bytes
+unspelled bytes m sound means refuses (n, readable, spelled) = let r = meant_readable bytes m n sound means readable spelled in refuses r.checked r.form
 
 -- ---- what is read
 

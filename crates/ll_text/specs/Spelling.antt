@@ -4,7 +4,6 @@ use Rattle.llvm_core.specs.Module.{Module}
 use Rattle.llvm_core.specs.Sound.{IsModule}
 use Rattle.llvm_core.specs.Checked.{IsChecked}
 use Rattle.llvm_core.specs.Form.{IsForm}
-use Rattle.llvm_core.specs.Names.{IsPlainOrNone}
 use Rattle.llvm_core.specs.Data.{ModuleData, data_of}
 use Rattle.ll_lines.specs.Lines.{File}
 use Rattle.ll_bodies.specs.Meaning.{file_data}
@@ -21,12 +20,11 @@ Means bytes d = (f : File) × IsReadAs bytes f × (file_data f ≡ Some d)
 abbrev pub Spells : List ℕ → ModuleData → Type 0
 Spells bytes d = Means bytes (numbered d)
 
--- a checked module of the form, with a plain name or none
+-- a checked module of the form
 pub record IsReadable (m : Module) : Type 0 where
   pub sound : IsModule m
   pub checked : IsChecked m
   pub form : IsForm (data_of m)
-  pub name : IsPlainOrNone m.name
 
 -- the bytes spell a checked module of the form, however its parts are numbered
 abbrev pub IsSpelled : List ℕ → Type 0

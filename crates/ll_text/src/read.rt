@@ -5,7 +5,6 @@ ghost use Rattle.grammars.specs.declared.symbols.Event.{Event};
 ghost use Rattle.llvm_core.specs.Checked.{IsChecked};
 ghost use Rattle.llvm_core.specs.Data.{ModuleData, data_of, trees_of};
 ghost use Rattle.llvm_core.specs.Form.{IsForm};
-ghost use Rattle.llvm_core.specs.Names.{IsPlainOrNone};
 ghost use Rattle.llvm_core.specs.Sound.{IsModule};
 ghost use Rattle.ll_tokens.specs.declared.tokens.Token.{Token};
 ghost use Rattle.ll_lines.specs.Lines.{File};
@@ -30,7 +29,6 @@ use llvm_core::check_err::CheckErr;
 use llvm_core::checking::check;
 use llvm_core::module::LLVMModule;
 use llvm_form::form::is_form;
-use llvm_form::narrow::is_plain_or_none;
 use std::alloc::Global;
 
 /// The tokens and the events of a text.
@@ -116,17 +114,16 @@ fn check_built(m: &LLVMModule) -> Result<(), ReadErr>
     }
 }
 
-/// A module that the lines of a text mean has to be checked, of the form, and of a plain name or none.
+/// A module that the lines of a text mean has to be checked, and of the form.
 fn check_form(m: &LLVMModule) -> Result<(), ReadErr>
     requires once { AreInstsOnce (data_of m.now) }
     ensures checked { OnOk result (IsChecked m.now) }
     ensures form { OnOk result (IsForm (data_of m.now)) }
-    ensures name { OnOk result (IsPlainOrNone m.now.name) }
-    ensures not_yet { result ≡ Err errors.NotYet → IsChecked m.now → IsForm (data_of m.now) → ¬ IsPlainOrNone m.now.name }
+    ensures not_yet { result ≡ Err errors.NotYet → IsChecked m.now → ¬ IsForm (data_of m.now) }
 {
     match check_built(m) {
         Err(e) => Err(e),
-        Ok(()) if is_form(m) && is_plain_or_none(m.name()) => Ok(()),
+        Ok(()) if is_form(m) => Ok(()),
         Ok(()) => Err(ReadErr::NotYet),
     }
 }
@@ -137,7 +134,6 @@ pub fn read_ll(alloc: Global, bytes: &[u8]) -> Result<LLVMModule, ReadErr>
     ensures spelled { IfOk result (λ m. Spells bytes.now (data_of m)) }
     ensures numbered { IfOk result (λ m. IsNumbered (data_of m)) }
     ensures form { IfOk result (λ m. IsForm (data_of m)) }
-    ensures name { IfOk result (λ m. IsPlainOrNone m.name) }
     ensures checked { IfOk result IsChecked }
     ensures sound { IfOk result IsModule }
     ensures not_yet { result ≡ Err errors.NotYet → ¬ IsSpelled bytes.now }
