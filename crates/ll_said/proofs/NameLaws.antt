@@ -1,6 +1,6 @@
 -- Names and numbers as they are written, and the keys that they say.
 use Rattle.std.proofs.Common.{◌≡◌, ℕ, ◌-◌, ◌≤◌, Bool, true, false, not, ◌&&◌, ◌==◌, [], ◌∷◌, ◌++◌, length, length-append, take, drop, Some, refl, ap, sym, ◌∙◌, subst, ne_eqb, arith}
-use Rattle.std.specs.Prelude.{decimal}
+use Rattle.std.specs.Prelude.{decimal, if◌then◌else◌}
 use Rattle.std.specs.List.{list_all}
 use Rattle.std.specs.Str.{is_utf8}
 use Rattle.std.proofs.lemmas.Bool.{and_parts, and_from}
@@ -9,7 +9,7 @@ use Rattle.kinds.specs.Names.{is_digit, is_good_name, IsGoodOrNone}
 use Rattle.llvm_core.specs.Data.{Function}
 use Rattle.ll_literals.specs.Text.{Text}
 use Rattle.ll_literals.specs.Escapes.{escaped}
-use Rattle.ll_literals.specs.Names.{is_name_byte, is_bare, is_name, global, label, printed_name}
+use Rattle.ll_literals.specs.Names.{is_name_byte, is_bare, is_name, if_text, name_said, global, label, printed_name}
 use Rattle.ll_literals.specs.Numbers.{number_of, number_limit, is_digits}
 use Rattle.ll_literals.proofs.QuoteLaws.{name_says, text_says}
 use Rattle.ll_bodies.specs.Scopes.{Key, Named, Numbered, key_of, local_key, label_key, global_name}
@@ -87,8 +87,12 @@ label_front n = let e : length (label n) - 1 ≡ length n = omega (arith, length
 pub label_says : (f : Function) (n : Text) (x : Unnamed) → length (unnamed_in f) ≤ number_limit → IsGoodOrNone n → label_key (label (drop 1 (local_text f n x))) ≡ Some (key_in f n x)
 label_says f n x few good = ap key_of (label_front (drop 1 (local_text f n x))) ∙ local_says f n x few good
 
+-- what is written in no digits says its name
+by_name : (t n : Text) → is_digits t ≡ false → name_said t ≡ Some n → (if is_digits t then if_text t else name_said t) ≡ Some n
+by_name t n e says = rw e says
+
 pub global_says : (n : Text) → is_good_name n ≡ true → global_name (global (printed_name n)) ≡ Some n
-global_says n h = let digits = printed_not n in let says = name_says n h in cc
+global_says n h = by_name (printed_name n) n (printed_not n) (name_says n h)
 
 -- ---- the name of a module
 
