@@ -7,7 +7,7 @@ use Rattle.round_ll.proofs.rounding.round_text.Goals as goal
 pub returns-clause-rounds : goal.returns-clause-rounds
 returns-clause-rounds c =
     let r = c.in_ok-source.ensures in
-    let read : IsReadable c.in_ok-source.source = record { sound = r.sound; checked = r.checked; form = r.form; name = r.name } in
+    let read : IsReadable c.in_ok-source.source = record { sound = r.sound; checked = r.checked; form = r.form } in
     let spelled = subst (λ (text : List ℕ). Spells text (data_of c.in_ok-source.source)) c.as_slice.ensures.value r.spelled in
     c.end.ensures.rounds c.in_ok-source.source read r.numbered c.in_ok-started.ensures.started c.args.bytes.items spelled
 
