@@ -118,8 +118,8 @@ fn type_word(ty: &ValueType) -> &'static str {
         ValueType::Int(1) => "i1",
         ValueType::Int(8) => "i8",
         ValueType::Int(32) => "i32",
-        ValueType::Int(_) => "other",
         ValueType::Void => "void",
+        _ => "other",
     }
 }
 
