@@ -6,7 +6,7 @@ from names import BARE, bytes_of
 PLAIN = ("a b c x y z i j n v1 v2 x_v3 block1 b_block2 entry entry_block0 loop exit add ret br phi label i1 true void "
          "icmp eq unreachable define nuw E9 L0_ q_ r2d2 ptr float half addrspace llvm llvm.f").split()
 JOINTS = ["_", ".", "-", "$", " ", "\n", '"', "\\", "%", ";", "é"]  # between words: what no identifier has, and `_`
-SIGNS = [*"abcEF019$._-\t\n\r ;:%@,()[]{}*\"\"\\\\\x01\x1f\x7f\x80", "é", "ß", "漢", "\ufeff", "\uffff", "😀", "\U0010ffff"]
+SIGNS = [*'abcEF019$._-\t\n\r ;:%@,()[]{}*""\\\\', *"\x01\x1f\x7f\x80éß漢\ufeff\uffff😀\U0010ffff"]
 LONGEST = 900  # of a name, in bytes: LLVM takes locals of 1024, and their names in the module back are longer
 
 
@@ -41,8 +41,8 @@ def distinct(rng, count):
     """So many names, no two of them the same."""
     kinds, found = rng.choice(KINDS), {}
     while len(found) < count:
-        stale = rng.random() < 0.2  # few kinds have as many names as that
-        found[any_name(rng) if stale else rng.choice(kinds)(rng)] = None
+        kind = any_name if rng.random() < 0.2 else rng.choice(kinds)  # of plain ones there are few
+        found[kind(rng)] = None
     return list(found)
 
 
