@@ -5,8 +5,9 @@ Instructions are counted by callgrind, so a busy machine changes nothing; memory
 callgrind held; allocations are counted by memcheck, for each line. Each kind is a text of about a mebibyte, or of so
 many bytes as the first word says.
 
-Names of all kinds may take 1.5 times as many instructions a byte as plain ones in a text of the same shape: those that
-all come to one identifier beside "plain names", and those between quotes beside "long names".
+Each text of names of other kinds has one of the same shape with plain names: "plain names" for those that all ask for
+one identifier, which are to take at most 1.5 times as many instructions a byte, and "long names" for those between
+quotes. Names with escapes take more than that (1.65 times when this was written): each escape is undone by itself.
 usage: bench/counts.py [BYTES [PROGRAM]]
 """
 import os
