@@ -2,9 +2,10 @@
 use Rattle.std.proofs.Common.{arith, ◌≡◌, ◌≤◌, ◌<◌, ◌^◌, ℕ, Bool, true, false, ◌||◌, refl, Some, None}
 use Rattle.kinds.specs.declared.fitting.Shape.{Shape}
 use Rattle.kinds.specs.declared.fitting.Shape.TheVariants as S
-use Rattle.kinds.specs.Types.{TypeTree, VoidType, IntType, PointerType, FloatingType, FunctionType, shape}
+use Rattle.kinds.specs.declared.types.OtherType.{OtherType}
+use Rattle.kinds.specs.Types.{TypeTree, VoidType, IntType, PointerType, FloatingType, RefusedType, FunctionType, shape}
 use Rattle.kinds.specs.Fitting.{is_value, is_first_class, is_held}
-use Rattle.kinds.specs.Held.{is_void, own_type, IsFirstClass, IsReturned, IsHeld, IsHeldResult}
+use Rattle.kinds.specs.Held.{is_void, own_type, IsFirstClass, IsReturned, IsHeld, IsHeldResult, refused_of}
 
 -- ---- void
 
@@ -14,6 +15,7 @@ void_is VoidType e = refl
 void_is (IntType w) e = cc
 void_is (PointerType s) e = cc
 void_is (FloatingType a) e = cc
+void_is (RefusedType a) e = cc
 void_is (FunctionType r ps v) e = cc
 
 pub void_if : (t : TypeTree) → t ≡ VoidType → is_void t ≡ true
@@ -53,6 +55,7 @@ value_own t e = by (shape t) refl e
     by (S.Int w) is e = cc
     by (S.Pointer s) is e = cc
     by S.Other is e = cc
+    by S.Refused is e = cc
     by S.Function is e = cc
 
 -- ---- first class
@@ -62,6 +65,7 @@ shape_value S.Void e = cc
 shape_value (S.Int w) e = refl
 shape_value (S.Pointer s) e = refl
 shape_value S.Other e = refl
+shape_value S.Refused e = refl
 shape_value S.Function e = cc
 
 pub first_class_value : (t : TypeTree) → IsFirstClass t → is_value (shape t) ≡ true
@@ -95,6 +99,7 @@ shape_first_class S.Void e = cc
 shape_first_class (S.Int w) e = grind arith
 shape_first_class (S.Pointer s) e = e
 shape_first_class S.Other e = refl
+shape_first_class S.Refused e = cc
 shape_first_class S.Function e = cc
 
 pub held_first_class : (t : TypeTree) → IsHeld t → IsFirstClass t
@@ -129,6 +134,20 @@ held_result_returned t h = by (is_void t) refl
     by : (v : Bool) → is_void t ≡ v → IsReturned t
     by true is = returned_void t is
     by false is = returned_if t (held_first_class t (held_result_own t h is))
+
+-- what is returned is translated, unless it is a type for which the dialect has none
+pub returned_held : (t : TypeTree) → IsReturned t → refused_of t ≡ None → IsHeldResult t
+unfolding IsReturned IsHeldResult
+returned_held (RefusedType of) h e = cc
+returned_held t h e = h
+
+pub refused_is : (t : TypeTree) (of : OtherType) → refused_of t ≡ Some of → t ≡ RefusedType of
+refused_is (RefusedType a) of e = cc
+refused_is t of e = cc
+
+pub refused_not_held : (of : OtherType) → IsHeldResult (RefusedType of) → ⊥
+unfolding IsHeldResult
+refused_not_held of h = cc
 
 -- ---- integers
 

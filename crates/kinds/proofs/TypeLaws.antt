@@ -2,7 +2,8 @@
 use Rattle.std.proofs.Common.{◌≡◌, Bool, true, false, ◌&&◌, refl, ap, eq-eqb, arith}
 use Rattle.std.proofs.lemmas.Bool.{eqb-true}
 use Rattle.kinds.specs.declared.types.Floating.{Floating}
-use Rattle.kinds.specs.Types.{TypeTree, VoidType, IntType, PointerType, FloatingType, FunctionType, same_floating, TypeTrees, NoTypes, ThenType, same_bool, same_tree, same_trees}
+use Rattle.kinds.specs.declared.types.OtherType.{OtherType}
+use Rattle.kinds.specs.Types.{TypeTree, VoidType, IntType, PointerType, FloatingType, RefusedType, FunctionType, same_floating, same_other, TypeTrees, NoTypes, ThenType, same_bool, same_tree, same_trees}
 
 same_self : (b : Bool) → same_bool b b ≡ true
 same_self true = refl
@@ -20,6 +21,12 @@ floating_self a = grind arith
 floating_told : (a b : Floating) → same_floating a b ≡ true → a ≡ b
 floating_told a b e = grind arith
 
+other_self : (a : OtherType) → same_other a a ≡ true
+other_self a = grind arith
+
+other_told : (a b : OtherType) → same_other a b ≡ true → a ≡ b
+other_told a b e = grind arith
+
 mutual
   -- a type is the same as itself
   pub tree_self : (t : TypeTree) → same_tree t t ≡ true
@@ -27,7 +34,8 @@ mutual
   tree_self (IntType w) = eq-eqb w w refl
   tree_self (PointerType s) = eq-eqb s s refl
   tree_self (FloatingType a) = floating_self a
-  tree_self (FunctionType r ps v) = let a = tree_self r in let b = trees_self ps in let c = same_self v in cc
+  tree_self (RefusedType a) = other_self a
+  tree_self (FunctionType r ps v) = rw (tree_self r, trees_self ps, same_self v) refl
 
   trees_self : (ts : TypeTrees) → same_trees ts ts ≡ true
   trees_self NoTypes = refl
@@ -48,6 +56,7 @@ mutual
   tree_told (IntType w) (IntType v) e = ap IntType (eqb-true w v e)
   tree_told (PointerType s) (PointerType t) e = ap PointerType (eqb-true s t e)
   tree_told (FloatingType a) (FloatingType b) e = ap FloatingType (floating_told a b e)
+  tree_told (RefusedType a) (RefusedType b) e = ap RefusedType (other_told a b e)
   tree_told (FunctionType r ps v) (FunctionType s qs w) e =
       let front = and_left (same_tree r s && same_trees ps qs) (same_bool v w) e in
       let a = tree_told r s (and_left (same_tree r s) (same_trees ps qs) front) in

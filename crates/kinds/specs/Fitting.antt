@@ -19,6 +19,7 @@ is_value S.Void = false
 is_value (S.Int w) = true
 is_value (S.Pointer space) = true
 is_value S.Other = true
+is_value S.Refused = true
 is_value S.Function = false
 
 abbrev pub is_number : Shape → Bool
@@ -26,6 +27,7 @@ is_number S.Void = false
 is_number (S.Int w) = true
 is_number (S.Pointer space) = false
 is_number S.Other = false
+is_number S.Refused = false
 is_number S.Function = false
 
 -- i1
@@ -34,6 +36,7 @@ is_bit S.Void = false
 is_bit (S.Int w) = nat_eq w 1
 is_bit (S.Pointer space) = false
 is_bit S.Other = false
+is_bit S.Refused = false
 is_bit S.Function = false
 
 -- void
@@ -42,6 +45,7 @@ is_nothing S.Void = true
 is_nothing (S.Int w) = false
 is_nothing (S.Pointer space) = false
 is_nothing S.Other = false
+is_nothing S.Refused = false
 is_nothing S.Function = false
 
 abbrev pub is_function : Shape → Bool
@@ -49,6 +53,7 @@ is_function S.Void = false
 is_function (S.Int w) = false
 is_function (S.Pointer space) = false
 is_function S.Other = false
+is_function S.Refused = false
 is_function S.Function = true
 
 -- the width of an integer
@@ -57,6 +62,7 @@ width_of S.Void = 0
 width_of (S.Int w) = w
 width_of (S.Pointer space) = 0
 width_of S.Other = 0
+width_of S.Refused = 0
 width_of S.Function = 0
 
 -- a type of a value, whose width is one that there is
@@ -65,14 +71,16 @@ is_first_class S.Void = false
 is_first_class (S.Int w) = nat_le 1 w && nat_le w (2 ^ 23)
 is_first_class (S.Pointer space) = nat_lt space (2 ^ 24)
 is_first_class S.Other = true
+is_first_class S.Refused = true
 is_first_class S.Function = false
 
--- one that is translated today
+-- one that is translated: not so a type of values for which the dialect has no type
 abbrev pub is_held : Shape → Bool
 is_held S.Void = false
 is_held (S.Int w) = nat_le 1 w && nat_le w (2 ^ 23)
 is_held (S.Pointer space) = nat_lt space (2 ^ 24)
 is_held S.Other = true
+is_held S.Refused = false
 is_held S.Function = false
 
 -- two integers, of which the first is wider

@@ -1,6 +1,7 @@
--- What types stand where: those of values, those that are translated today, those of functions.
+-- What types stand where: those of values, those that are translated, those of functions.
 use Rattle.std.specs.Prelude.{◌≡◌, ◌≤◌, ℕ, Bool, true, false, ◌||◌, if◌then◌else◌, Option, Some, None, All}
-use Rattle.kinds.specs.Types.{TypeTree, TypeTrees, FunctionType, shape, types_list}
+use Rattle.kinds.specs.declared.types.OtherType.{OtherType}
+use Rattle.kinds.specs.Types.{TypeTree, TypeTrees, RefusedType, FunctionType, shape, types_list}
 use Rattle.kinds.specs.Fitting.{is_nothing, is_first_class, is_held, width_of}
 
 -- ---- no value
@@ -27,13 +28,18 @@ IsFirstClass t = is_first_class (shape t) ≡ true
 unfoldable pub IsReturned : TypeTree → Type 0
 IsReturned t = (is_void t || is_first_class (shape t)) ≡ true
 
--- a type of a value that is translated today: each that there is so far
+-- a type of a value that is translated: each for which the dialect has one
 unfoldable pub IsHeld : TypeTree → Type 0
 IsHeld t = is_held (shape t) ≡ true
 
 -- what a function may return that is translated
 unfoldable pub IsHeldResult : TypeTree → Type 0
 IsHeldResult t = (is_void t || is_held (shape t)) ≡ true
+
+-- which of the types it is for which the dialect has none, where it is one
+abbrev pub refused_of : TypeTree → Option OtherType
+refused_of (RefusedType of) = Some of
+refused_of _ = None
 
 -- the width of an integer constant that is translated
 abbrev pub IsShortWidth : ℕ → Type 0

@@ -4,6 +4,8 @@ use Rattle.kinds.specs.declared.fitting.Shape.{Shape}
 use Rattle.kinds.specs.declared.fitting.Shape.TheVariants as S
 use Rattle.kinds.specs.declared.types.Floating.{Floating}
 use Rattle.kinds.specs.declared.types.Floating.TheVariants as F
+use Rattle.kinds.specs.declared.types.OtherType.{OtherType}
+use Rattle.kinds.specs.declared.types.OtherType.TheVariants as O
 
 mutual
   -- a type, a line for each kind
@@ -13,6 +15,8 @@ mutual
     -- of an address space
     PointerType : (space : ℕ) → TypeTree
     FloatingType : (of : Floating) → TypeTree
+    -- for which the dialect has none
+    RefusedType : (of : OtherType) → TypeTree
     FunctionType : (result : TypeTree) (params : TypeTrees) (variadic : Bool) → TypeTree
 
   pub data TypeTrees : Type 0 where
@@ -25,6 +29,7 @@ shape VoidType = S.Void
 shape (IntType w) = S.Int w
 shape (PointerType space) = S.Pointer space
 shape (FloatingType of) = S.Other
+shape (RefusedType of) = S.Refused
 shape (FunctionType result params variadic) = S.Function
 
 abbrev pub same_bool : Bool → Bool → Bool
@@ -39,6 +44,14 @@ same_floating F.Float F.Float = true
 same_floating F.Double F.Double = true
 same_floating _ _ = false
 
+abbrev pub same_other : OtherType → OtherType → Bool
+same_other O.X86Fp80 O.X86Fp80 = true
+same_other O.Fp128 O.Fp128 = true
+same_other O.PpcFp128 O.PpcFp128 = true
+same_other O.X86Amx O.X86Amx = true
+same_other O.Token O.Token = true
+same_other _ _ = false
+
 -- whether two types are one, a line for each kind
 abbrev mutual
   pub same_tree : TypeTree → TypeTree → Bool
@@ -46,6 +59,7 @@ abbrev mutual
   same_tree (IntType w) (IntType v) = nat_eq w v
   same_tree (PointerType s) (PointerType t) = nat_eq s t
   same_tree (FloatingType a) (FloatingType b) = same_floating a b
+  same_tree (RefusedType a) (RefusedType b) = same_other a b
   same_tree (FunctionType r ps v) (FunctionType s qs w) = same_tree r s && same_trees ps qs && same_bool v w
   same_tree _ _ = false
 
@@ -70,6 +84,7 @@ result_of VoidType = VoidType
 result_of (IntType w) = VoidType
 result_of (PointerType space) = VoidType
 result_of (FloatingType of) = VoidType
+result_of (RefusedType of) = VoidType
 result_of (FunctionType result params variadic) = result
 
 -- what a function of that type takes
@@ -78,6 +93,7 @@ takes_of VoidType = NoTypes
 takes_of (IntType w) = NoTypes
 takes_of (PointerType space) = NoTypes
 takes_of (FloatingType of) = NoTypes
+takes_of (RefusedType of) = NoTypes
 takes_of (FunctionType result params variadic) = params
 
 abbrev pub params_of : TypeTree → List TypeTree

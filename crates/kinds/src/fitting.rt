@@ -21,6 +21,8 @@ pub enum Shape {
     Pointer(u32),
     /// A type of values that no rule looks into.
     Other,
+    /// A type of values for which the dialect has no type.
+    Refused,
     /// A type of no value.
     Function,
 }
@@ -41,6 +43,7 @@ pub fn is_value(shape: Shape) -> bool
         Shape::Int(_) => true,
         Shape::Pointer(_) => true,
         Shape::Other => true,
+        Shape::Refused => true,
         Shape::Function => false,
     }
 }
@@ -53,6 +56,7 @@ fn is_number(shape: Shape) -> bool
         Shape::Int(_) => true,
         Shape::Pointer(_) => false,
         Shape::Other => false,
+        Shape::Refused => false,
         Shape::Function => false,
     }
 }
@@ -65,6 +69,7 @@ fn is_bit(shape: Shape) -> bool
         Shape::Int(width) => width == 1,
         Shape::Pointer(_) => false,
         Shape::Other => false,
+        Shape::Refused => false,
         Shape::Function => false,
     }
 }
@@ -78,6 +83,7 @@ pub fn is_nothing(shape: Shape) -> bool
         Shape::Int(_) => false,
         Shape::Pointer(_) => false,
         Shape::Other => false,
+        Shape::Refused => false,
         Shape::Function => false,
     }
 }
@@ -91,6 +97,7 @@ pub fn is_function(shape: Shape) -> bool
         Shape::Int(_) => false,
         Shape::Pointer(_) => false,
         Shape::Other => false,
+        Shape::Refused => false,
         Shape::Function => true,
     }
 }
@@ -105,11 +112,12 @@ pub fn is_first_class(shape: Shape) -> bool
         Shape::Int(width) => 1 <= width && width <= MAX_WIDTH,
         Shape::Pointer(space) => space <= MAX_SPACE,
         Shape::Other => true,
+        Shape::Refused => true,
         Shape::Function => false,
     }
 }
 
-/// Whether it is that of a type that is translated: each type of a value that there is so far.
+/// Whether it is that of a type that is translated: each type of a value for which the dialect has one.
 pub fn is_held(shape: Shape) -> bool
     ensures { result ≡ is_held shape }
 {
@@ -118,6 +126,7 @@ pub fn is_held(shape: Shape) -> bool
         Shape::Int(width) => 1 <= width && width <= MAX_WIDTH,
         Shape::Pointer(space) => space <= MAX_SPACE,
         Shape::Other => true,
+        Shape::Refused => false,
         Shape::Function => false,
     }
 }
