@@ -6,7 +6,7 @@ use Rattle.std.proofs.lemmas.Bool.{cases_eq, cases_Bool, eqb-true, not-false, or
 use Rattle.std.proofs.lemmas.Option.{slice_get-map, same_Some}
 use Rattle.support.proofs.ListLaws.{all_from, item_there, in_joined, from_joined}
 use Rattle.kinds.specs.Types.{count_types}
-use Rattle.kinds.specs.Held.{IsHeld}
+use Rattle.kinds.specs.Held.{IsFirstClass}
 use Rattle.llvm_core.specs.declared.numbers.LLVMFunction.{LLVMFunction}
 use Rattle.llvm_core.specs.declared.numbers.LLVMBasicBlock.{LLVMBasicBlock}
 use Rattle.llvm_core.specs.declared.numbers.LLVMInstRef.{LLVMInstRef}
@@ -112,12 +112,12 @@ module _ (m : Module) (sound : IsModule m) (checked : IsChecked m) where
     inst_form i z is y block_is own narrow_inst =
         let home_is : home m z ≡ numbered f = ap (λ o. option_map_or (λ (b : BlockData). b.function) o (record { 0 = 0 })) block_is ∙ ap numbered own in
         let os = operands_of (shown_inst m i z).instruction in
-        let held = within_at os (λ (o : Operand). IsHeld (operand_type (shown m f x) o)) narrow_inst.operands in
+        let first_class = within_at os (λ (o : Operand). IsFirstClass (operand_type (shown m f x) o)) narrow_inst.operands in
         let short = within_at os IsNarrowConst narrow_inst.constants in
         record {
-          instruction = form_of m f x sound at z.block.0 (shown_inst m i z).type z.ty refl z.inst (meets f i z is home_is) (all_from (IsNarrowHere m f x sound at) os (λ k o here. (held k o here, short k o here)))
+          instruction = form_of m f x sound at z.block.0 (shown_inst m i z).type z.ty refl z.inst (meets f i z is home_is) (all_from (IsNarrowHere m f x sound at) os (λ k o here. (first_class k o here, short k o here)))
               (λ p. same_edges m f x sound at narrow.block_numbers stays_inside p z.block.0 y block_is own) (λ k t leads. leads_behind f x i z k t at is leads);
-          held = narrow_inst.result;
+          returned = narrow_inst.result;
           name = narrow_inst.name;
           unnamed = narrow_inst.unnamed;
         }

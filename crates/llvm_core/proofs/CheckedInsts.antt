@@ -10,7 +10,7 @@ use Rattle.support.proofs.ListLaws.{all_from, item_there}
 use Rattle.kinds.specs.Rules.{operand_count, target_count}
 use Rattle.kinds.specs.Table.{rule_of}
 use Rattle.kinds.specs.Typing.{fits_trees, typed}
-use Rattle.kinds.specs.Held.{IsHeld}
+use Rattle.kinds.specs.Held.{IsFirstClass}
 use Rattle.llvm_core.specs.declared.numbers.LLVMType.{LLVMType}
 use Rattle.llvm_core.specs.declared.numbers.LLVMBasicBlock.{LLVMBasicBlock}
 use Rattle.llvm_core.specs.declared.types.ResultType.{ResultType}
@@ -75,7 +75,7 @@ module _ (m : Module) (f : ℕ) (x : FunctionData) (sound : IsModule m) (at : sl
       let h = value_typed m f x sound at v here inside in
       let same : h.type ≡ t = same_Some h.type t (sym h.type_is ∙ is) in
       let typed : operand_type (shown m f x) (operand_of (trees_of m) v) ≡ type_at (trees_of m).types t = sym h.tree_is ∙ ap (type_at (trees_of m).types) same in
-      record { stands = value_stands m f x sound at v here inside narrow; typed = typed; held = subst IsHeld typed narrow.0 }
+      record { stands = value_stands m f x sound at v here inside narrow; typed = typed; first_class = subst IsFirstClass typed narrow.0 }
 
   -- a block of the function that is not the first
   is_target : (b : LLVMBasicBlock) → IsBlock m b → is_block_outside m (numbered f) b ≡ false → slice_get x.blocks 0 ≢ Some b → IsTarget (shown m f x) b.0
@@ -154,7 +154,7 @@ module _ (m : Module) (f : ℕ) (x : FunctionData) (sound : IsModule m) (at : sl
         let types = types_same m f x sound at r.operands h.values.0 inside.0 in
         record {
           operands = values_stand m f x sound at r.operands h.values.0 inside.0 narrow;
-          held = All-map IsHeld (operand_type (shown m f x)) os (All-weaker IsHere (λ (o : Operand). IsHeld (operand_type (shown m f x) o)) (λ o h. h.0) os narrow);
+          first_class = All-map IsFirstClass (operand_type (shown m f x)) os (All-weaker IsHere (λ (o : Operand). IsFirstClass (operand_type (shown m f x) o)) (λ o h. h.0) os narrow);
           count = length-map r.operands (operand_of (trees_of m)) ∙ eqb-true (length r.operands) (operand_count takes (returns_void m (numbered f))) counts.0 ∙ ap (operand_count takes) (same_void m f x sound at);
           fits = ap (fits_trees r.op (option_map (tree m sound) r.written)) types ∙ fits_by_tree m sound r h.values ∙ not-false (row_fits m r) fits.0;
           returns = return_form m f x sound at takes r.operands h.values.0 inside.0 fits.1;
@@ -173,5 +173,5 @@ module _ (m : Module) (f : ℕ) (x : FunctionData) (sound : IsModule m) (at : sl
         let each : All (λ (o : Operand × ℕ). IsOperand (shown m f x) own o.0) (map (entry_of (trees_of m)) entries) = all_from (λ (o : Operand × ℕ). IsOperand (shown m f x) own o.0) (map (entry_of (trees_of m)) entries) (λ k o is.
         let e = entry_from m entries k o is in
         subst (λ (o : Operand × ℕ). IsOperand (shown m f x) own o.0) e.2 (entry_operand type entries h narrow k e.0 e.1)) in
-        (each, phi_fits type entries h edges, (entry_operand type entries h narrow 0 first.0 first.1).held)
+        (each, phi_fits type entries h edges, (entry_operand type entries h narrow 0 first.0 first.1).first_class)
     form_of (I.Row r) h narrow edges behind = row_form r h narrow behind

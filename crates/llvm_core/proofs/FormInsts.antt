@@ -10,7 +10,7 @@ use Rattle.std.proofs.lemmas.Option.{slice_get-map}
 use Rattle.kinds.specs.Rules.{operand_count, target_count}
 use Rattle.kinds.specs.Table.{rule_of}
 use Rattle.kinds.specs.Typing.{fits_trees}
-use Rattle.kinds.specs.Held.{IsHeld}
+use Rattle.kinds.specs.Held.{IsFirstClass}
 use Rattle.llvm_core.specs.declared.numbers.LLVMType.{LLVMType}
 use Rattle.llvm_core.specs.declared.numbers.LLVMBasicBlock.{LLVMBasicBlock}
 use Rattle.llvm_core.specs.declared.code.LLVMValue.{LLVMValue}
@@ -31,7 +31,7 @@ use Rattle.llvm_core.specs.Form.{IsOperand, IsTarget, FitsEdges, edges_between, 
 use Rattle.llvm_core.proofs.DataLemmas.{within_at}
 use Rattle.llvm_core.proofs.GivenLemmas.{none_any}
 use Rattle.llvm_core.proofs.RuleLaws.{tree, fits_by_tree}
-use Rattle.llvm_core.proofs.FormTypes.{numbered, held_has_value}
+use Rattle.llvm_core.proofs.FormTypes.{numbered, first_class_has_value}
 use Rattle.llvm_core.proofs.FormPlaces.{shown, block_from}
 use Rattle.llvm_core.proofs.FormEdges.{count_present, same_sources, edge_source}
 use Rattle.llvm_core.proofs.FormValues.{HasType, value_typed, value_inside, types_same, values_inside, same_void, return_fits}
@@ -120,7 +120,7 @@ module _ (m : Module) (f : ℕ) (x : FunctionData) (sound : IsModule m) (apart :
     type_fits (I.Phi own entries) ty here stands typed form h =
         let same : type ≡ type_at (trees_of m).types own = typed ∙ ap (type_at (trees_of m).types) stands in
         elim h [
-          | inl valueless ↦ (let value = held_has_value m own sound here.0 (subst IsHeld same form.2) in absurd cc)
+          | inl valueless ↦ (let value = first_class_has_value m own sound here.0 (subst IsFirstClass same form.2) in absurd cc)
           | inr other ↦ entries_fit own entries here.0 here.1 (subst (λ (t : TypeTree). All (λ (e : Operand × ℕ). IsOperand (shown m f x) t e.0) (map (entry_of (trees_of m)) entries)) same form.0) other
         ]
     type_fits (I.Row r) ty here stands typed form h = let fits = row_fits_form r type here form in cc

@@ -9,9 +9,9 @@ use Rattle.kinds.specs.declared.fitting.Shape.{Shape}
 use Rattle.kinds.specs.Types.{shape, types_list, count_types}
 use Rattle.kinds.specs.Fitting.{is_nothing, is_value}
 use Rattle.kinds.specs.Fitting.{is_function as function_shape}
-use Rattle.kinds.specs.Held.{IsReturned, IsHeld, IsHeldResult}
+use Rattle.kinds.specs.Held.{IsFirstClass, IsReturned}
 use Rattle.kinds.specs.Held.{is_void as void_tree}
-use Rattle.kinds.proofs.HeldLaws.{void_is, first_class_value, returned_own, held_value, held_result_returned}
+use Rattle.kinds.proofs.HeldLaws.{void_is, first_class_value, returned_own}
 use Rattle.llvm_core.specs.declared.numbers.LLVMType.{LLVMType}
 use Rattle.llvm_core.specs.declared.numbers.LLVMFunction.{LLVMFunction}
 use Rattle.llvm_core.specs.declared.types.LLVMTypeKind.{LLVMTypeKind}
@@ -36,8 +36,8 @@ kind_kept m p t sound within =
 pub void_kept : (m : Module) (t : LLVMType) → IsModule m → t.0 < length m.types → is_kind is_void m.types t ≡ void_tree (type_at (trees_of m).types t)
 void_kept m = kind_kept m is_nothing
 
-pub held_has_value : (m : Module) (t : LLVMType) → IsModule m → t.0 < length m.types → IsHeld (type_at (trees_of m).types t) → is_kind is_valueless m.types t ≡ false
-held_has_value m t sound within h = kind_kept m (λ s. not (is_value s)) t sound within ∙ ap not (held_value (type_at (trees_of m).types t) h)
+pub first_class_has_value : (m : Module) (t : LLVMType) → IsModule m → t.0 < length m.types → IsFirstClass (type_at (trees_of m).types t) → is_kind is_valueless m.types t ≡ false
+first_class_has_value m t sound within h = kind_kept m (λ s. not (is_value s)) t sound within ∙ ap not (first_class_value (type_at (trees_of m).types t) h)
 
 value_no_function : (s : Shape) → is_value s ≡ true → function_shape s ≡ false
 value_no_function s h = grind arith
@@ -52,13 +52,13 @@ returned_no_function t h = by (void_tree t) refl
 
 -- ---- lists of types
 
-none_valueless : (m : Module) (ts : List LLVMType) → IsModule m → All (λ (t : LLVMType). t.0 < length m.types) ts → All IsHeld (types_list (types_at (trees_of m).types ts)) → list_any (is_kind is_valueless m.types) ts ≡ false
+none_valueless : (m : Module) (ts : List LLVMType) → IsModule m → All (λ (t : LLVMType). t.0 < length m.types) ts → All IsFirstClass (types_list (types_at (trees_of m).types ts)) → list_any (is_kind is_valueless m.types) ts ≡ false
 none_valueless m [] sound within h = refl
 none_valueless m (t ∷ ts) sound within h =
     let W : LLVMType → Type 0 = λ t. t.0 < length m.types in
     let τ = type_at (trees_of m).types t in
     let τs = types_list (types_at (trees_of m).types ts) in
-    rw (held_has_value m t sound (All-head W t ts within) (All-head IsHeld τ τs h), none_valueless m ts sound (All-tail W t ts within) (All-tail IsHeld τ τs h)) refl
+    rw (first_class_has_value m t sound (All-head W t ts within) (All-head IsFirstClass τ τs h), none_valueless m ts sound (All-tail W t ts within) (All-tail IsFirstClass τ τs h)) refl
 
 pub count_is : (trees : List TypeTree) (ts : List LLVMType) → count_types (types_at trees ts) ≡ length ts
 count_is trees [] = refl
@@ -119,11 +119,11 @@ abbrev pub numbered : ℕ → LLVMFunction
 numbered n = record { 0 = n }
 
 module _ (m : Module) (f : ℕ) (x : FunctionData) (result : TypeTree) (types : TypeTrees) (sound : IsModule m) (at : slice_get m.functions f ≡ Some x) (s : HasSignature m x result types) where
-  pub signature_fits : IsHeldResult result → All IsHeld (types_list types) → option_map_or (misfits_signature m.types) (slice_get m.types x.ty.0) false ≡ false
+  pub signature_fits : IsReturned result → All IsFirstClass (types_list types) → option_map_or (misfits_signature m.types) (slice_get m.types x.ty.0) false ≡ false
   signature_fits returns takes =
-      let returned = held_result_returned (type_at (trees_of m).types s.returned) (subst IsHeldResult (sym s.returned_is) returns) in
+      let returned = subst IsReturned (sym s.returned_is) returns in
       let no_function : is_kind is_function m.types s.returned ≡ false = kind_kept m function_shape s.returned sound s.within ∙ returned_no_function (type_at (trees_of m).types s.returned) returned in
-      let params : All IsHeld (types_list (types_at (trees_of m).types s.params)) = subst (λ ts. All IsHeld (types_list ts)) (sym s.params_are) takes in
+      let params : All IsFirstClass (types_list (types_at (trees_of m).types s.params)) = subst (λ ts. All IsFirstClass (types_list ts)) (sym s.params_are) takes in
       rw (s.kind_is, none_valueless m s.params sound s.params_within params, no_function) refl
 
   pub return_type_is : return_type m (numbered f) ≡ Some s.returned

@@ -8,9 +8,9 @@ use Rattle.support.proofs.ListLaws.{item_there}
 use Rattle.kinds.specs.declared.rules.Takes.{Takes}
 use Rattle.kinds.specs.declared.rules.Takes.TheVariants as O
 use Rattle.kinds.specs.Types.{result_of}
-use Rattle.kinds.specs.Held.{width_in, IsHeld}
+use Rattle.kinds.specs.Held.{width_in, IsFirstClass}
 use Rattle.kinds.specs.Held.{is_void as void_tree}
-use Rattle.kinds.proofs.HeldLaws.{held_int}
+use Rattle.kinds.proofs.HeldLaws.{first_class_int}
 use Rattle.llvm_core.specs.declared.numbers.LLVMType.{LLVMType}
 use Rattle.llvm_core.specs.declared.numbers.LLVMConst.{LLVMConst}
 use Rattle.llvm_core.specs.declared.numbers.LLVMFunction.{LLVMFunction}
@@ -123,9 +123,9 @@ module _ (m : Module) (f : ℕ) (x : FunctionData) (sound : IsModule m) (at : sl
 
   -- ---- values of the function
 
-  -- of a type that is translated, and of at most 64 bits where it is a constant
+  -- of a first class type, and of at most 64 bits where it is a constant
   abbrev pub IsNarrowHere : Operand → Type 0
-  IsNarrowHere o = IsHeld (operand_type (shown m f x) o) × IsNarrowConst o
+  IsNarrowHere o = IsFirstClass (operand_type (shown m f x) o) × IsNarrowConst o
 
   const_short : (c : LLVMConst) → IsValue m (V.Const c) → is_outside m (numbered f) (V.Const c) ≡ false → IsNarrowHere (operand_of (trees_of m) (V.Const c)) → IsShortConst (const_at (trees_of m).consts c)
   const_short c here inside narrow = let k = item_there m.consts c.0 here in by k.0 k.1 (ap (λ o. option_map_or is_placeholder o false) (sym k.1) ∙ inside)
@@ -135,7 +135,7 @@ module _ (m : Module) (f : ℕ) (x : FunctionData) (sound : IsModule m) (at : sl
           let typed = sound.consts c.0 (C.Int t v) is in
           let const : const_at (trees_of m).consts c ≡ IntConst typed.0 v =
           const_tree_of m c (C.Int t v) is ∙ ap (λ (u : TypeTree). IntConst (width_in u) v) (int_tree_of m t typed.0 sound typed.1) in
-          rw const (((held_int typed.0 (subst (λ k. IsHeld (const_type k)) const narrow.0)).0, subst (λ k. IsNarrowConst (Constant k)) const narrow.1), typed.2)
+          rw const (((first_class_int typed.0 (subst (λ k. IsFirstClass (const_type k)) const narrow.0)).0, subst (λ k. IsNarrowConst (Constant k)) const narrow.1), typed.2)
       by (C.Placeholder number t) is none = absurd cc
 
   -- a value that is there and is not outside is an operand of the function, where it is narrow

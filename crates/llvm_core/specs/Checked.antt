@@ -117,6 +117,7 @@ kind_result T.Void = None
 kind_result (T.Int width) = None
 kind_result (T.Ptr space) = None
 kind_result (T.Floating of) = None
+kind_result (T.Other of) = None
 
 -- the type of what a function returns
 abbrev pub return_type : Module → LLVMFunction → Option LLVMType

@@ -1,6 +1,6 @@
--- Modules of the form that is translated today: functions with a body of phis and rows of the table, over the types that
--- are held.
-use Rattle.std.specs.Prelude.{◌≡◌, ◌<◌, ◌≤◌, ◌^◌, ℕ, suc, Bool, true, false, is_some, nat_eq, List, [], ◌++◌, length, map, filter, slice_get, unwrap_or, Some, All}
+-- Modules of the form that is read today: functions with a body of phis and rows of the table, over first class types. It
+-- is translated where these types are held.
+use Rattle.std.specs.Prelude.{◌≡◌, ◌<◌, ◌≤◌, ◌^◌, ℕ, suc, Bool, true, false, is_some, nat_eq, List, [], ◌∷◌, ◌++◌, length, map, filter, slice_get, unwrap_or, Some, All}
 use Rattle.std.specs.List.{flat_map}
 use Rattle.llvm_core.specs.Data.{TypeTree, VoidType, FunctionType, TypeTrees, ConstTree, IntConst, PlaceholderConst, Operand, Constant, Parameter, Result, RowData, Instruction, Phi, Applied, Placed, Block, Function, ModuleData, operand_type, placed_in, targets, phi_entries}
 use Rattle.kinds.specs.declared.rules.Takes.{Takes}
@@ -8,8 +8,8 @@ use Rattle.kinds.specs.declared.rules.Takes.TheVariants as O
 use Rattle.kinds.specs.Rules.{ends, target_count, operand_count}
 use Rattle.kinds.specs.Table.{rule_of}
 use Rattle.kinds.specs.Typing.{fits_trees, typed}
-use Rattle.kinds.specs.Types.{types_list, count_types, result_of}
-use Rattle.kinds.specs.Held.{is_void, IsHeld, IsHeldResult, IsShortWidth}
+use Rattle.kinds.specs.Types.{types_list, count_types, result_of, params_of}
+use Rattle.kinds.specs.Held.{is_void, IsFirstClass, IsReturned, IsHeldResult, IsShortWidth}
 use Rattle.llvm_core.specs.Edges.{count_of}
 use Rattle.support.specs.Interned.{IsDistinctList}
 use Rattle.kinds.specs.Names.{is_good_name, is_intrinsic_name, IsGoodOrNone}
@@ -32,11 +32,11 @@ IsOperandOf f (Constant c) = IsShortConst c
 IsOperandOf f (Parameter g i) = (g ≡ f.number) × (i < length f.params)
 IsOperandOf f (Result n) = HasNumber n (placed_in f)
 
--- an operand of that type, which is translated, wherever it is defined in the function
+-- an operand of that type, which is first class, wherever it is defined in the function
 pub record IsOperand (f : Function) (type : TypeTree) (o : Operand) : Type 0 where
   pub stands : IsOperandOf f o
   pub typed : operand_type f o ≡ type
-  pub held : IsHeld type
+  pub first_class : IsFirstClass type
 
 -- ---- edges
 
@@ -79,7 +79,7 @@ types_of f os = map (operand_type f) os
 -- a row of the function f, with a result of the type: what it names is there, and the table's rule holds
 pub record IsFormRow (f : Function) (type : TypeTree) (r : RowData) : Type 0 where
   pub operands : All (IsOperandOf f) r.operands
-  pub held : All IsHeld (types_of f r.operands)
+  pub first_class : All IsFirstClass (types_of f r.operands)
   pub count : length r.operands ≡ operand_count (rule_of r.op).takes (returns_void f)
   pub fits : fits_trees r.op r.written (types_of f r.operands) ≡ true
   pub returns : IsReturning (rule_of r.op).takes f r.operands
@@ -89,14 +89,14 @@ pub record IsFormRow (f : Function) (type : TypeTree) (r : RowData) : Type 0 whe
 
 -- an instruction of the block of the number b in the function f, with a result of the type
 abbrev pub IsFormInstruction : Function → (b : ℕ) → (type : TypeTree) → Instruction → Type 0
-IsFormInstruction f b type (Phi entries) = All (λ (e : Operand × ℕ). IsOperand f type e.0) entries × FitsEdges f b entries × IsHeld type
+IsFormInstruction f b type (Phi entries) = All (λ (e : Operand × ℕ). IsOperand f type e.0) entries × FitsEdges f b entries × IsFirstClass type
 IsFormInstruction f b type (Applied r) = IsFormRow f type r
 
--- an instruction of the block of the number b: the type of its result, where it has one, is translated, and its name is
+-- an instruction of the block of the number b: the type of its result, where it has one, is first class, and its name is
 -- one that the form takes, or none; what has no result has no name
 pub record IsFormPlaced (f : Function) (b : ℕ) (p : Placed) : Type 0 where
   pub instruction : IsFormInstruction f b p.type p.instruction
-  pub held : IsHeldResult p.type
+  pub returned : IsReturned p.type
   pub name : IsGoodOrNone p.name
   pub unnamed : p.type ≡ VoidType → p.name ≡ []
 
@@ -130,8 +130,8 @@ pub record IsFormFunction (f : Function) : Type 0 where
   pub result : TypeTree
   pub types : TypeTrees
   pub type : f.type ≡ FunctionType result types false
-  pub returns : IsHeldResult result
-  pub takes : All IsHeld (types_list types)
+  pub returns : IsReturned result
+  pub takes : All IsFirstClass (types_list types)
   pub space : f.space ≡ 0
   pub params : length f.params ≡ count_types types
   pub param_names : All IsGoodOrNone f.params
@@ -143,6 +143,20 @@ pub record IsFormFunction (f : Function) : Type 0 where
 -- a module of the form, whatever its own name is
 abbrev pub IsForm : ModuleData → Type 0
 IsForm d = All IsFormFunction d.functions
+
+-- ---- what is translated
+
+-- the types of a function's values: of what it returns and takes, and of each instruction's result, void where it has
+-- none. A constant is an integer.
+abbrev pub value_types : Function → List TypeTree
+value_types f = result_of f.type ∷ params_of f.type ++ map (λ (p : Placed). p.type) (placed_in f)
+
+abbrev pub IsHeldFunction : Function → Type 0
+IsHeldFunction f = All IsHeldResult (value_types f)
+
+-- each value of a function of the module is of a type that is translated
+abbrev pub AreHeld : ModuleData → Type 0
+AreHeld d = All IsHeldFunction d.functions
 
 -- ---- what the form asks beside the rules of a checked module
 
@@ -158,26 +172,26 @@ IsNarrowConst (Constant (PlaceholderConst n type)) = Unit {0}
 IsNarrowConst (Parameter g i) = Unit {0}
 IsNarrowConst (Result n) = Unit {0}
 
--- the types of operands, and of a result where there is one, are translated; what has no result has no name
+-- the types of operands, and of a result where there is one, are first class; what has no result has no name
 pub record IsNarrowPlaced (f : Function) (p : Placed) : Type 0 where
   pub name : IsGoodOrNone p.name
   pub unnamed : p.type ≡ VoidType → p.name ≡ []
-  pub result : IsHeldResult p.type
-  pub operands : All (λ (o : Operand). IsHeld (operand_type f o)) (operands_of p.instruction)
+  pub result : IsReturned p.type
+  pub operands : All (λ (o : Operand). IsFirstClass (operand_type f o)) (operands_of p.instruction)
   pub constants : All IsNarrowConst (operands_of p.instruction)
 
 pub record IsNarrowBlock (f : Function) (b : Block) : Type 0 where
   pub label : IsGoodOrNone b.name
   pub instructions : All (IsNarrowPlaced f) b.instructions
 
--- names that the form takes, a body, types that are translated, and no block or instruction listed twice
+-- names that the form takes, a body, first class types, and no block or instruction listed twice
 pub record IsNarrowFunction (f : Function) : Type 0 where
   pub name : is_good_name f.name ≡ true
   pub result : TypeTree
   pub types : TypeTrees
   pub type : f.type ≡ FunctionType result types false
-  pub returns : IsHeldResult result
-  pub takes : All IsHeld (types_list types)
+  pub returns : IsReturned result
+  pub takes : All IsFirstClass (types_list types)
   pub param_names : All IsGoodOrNone f.params
   pub body : ¬ (f.blocks ≡ [])
   pub blocks : All (IsNarrowBlock f) f.blocks

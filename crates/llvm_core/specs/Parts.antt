@@ -38,6 +38,7 @@ IsTypeOver n T.Void = Unit {0}
 IsTypeOver n (T.Int width) = (1 ≤ width) × (width ≤ 2 ^ 23)
 IsTypeOver n (T.Ptr space) = Unit {0}
 IsTypeOver n (T.Floating of) = Unit {0}
+IsTypeOver n (T.Other of) = Unit {0}
 IsTypeOver n (T.Function result params variadic) = (result.0 < n) × All (λ (t : LLVMType). t.0 < n) params
 
 -- a constant over a list of types: an integer of an integer type, which it fits, or a placeholder of a type that is there
@@ -51,6 +52,7 @@ shape_of T.Void = S.Void
 shape_of (T.Int width) = S.Int width
 shape_of (T.Ptr space) = S.Pointer space
 shape_of (T.Floating of) = S.Other
+shape_of (T.Other of) = S.Refused
 shape_of (T.Function result params variadic) = S.Function
 
 abbrev pub is_function : LLVMTypeKind → Bool
@@ -70,6 +72,7 @@ kind_params T.Void = []
 kind_params (T.Int width) = []
 kind_params (T.Ptr space) = []
 kind_params (T.Floating of) = []
+kind_params (T.Other of) = []
 
 -- the parameters of a function type
 abbrev pub type_params : List LLVMTypeKind → LLVMType → List LLVMType

@@ -511,6 +511,7 @@ pub fn shape_of(kind: &LLVMTypeKind) -> Shape
         LLVMTypeKind::Int(width) => Shape::Int(*width),
         LLVMTypeKind::Ptr(space) => Shape::Pointer(*space),
         LLVMTypeKind::Floating(_) => Shape::Other,
+        LLVMTypeKind::Other(_) => Shape::Refused,
         LLVMTypeKind::Function { .. } => Shape::Function,
     }
 }

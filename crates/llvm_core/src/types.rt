@@ -1,7 +1,7 @@
 //! Types, as a module keeps them.
 
 use crate::numbers::LLVMType;
-use kinds::types::Floating;
+use kinds::types::{Floating, OtherType};
 use support::items::Items;
 
 /// The type of an instruction's result.
@@ -22,6 +22,8 @@ pub enum LLVMTypeKind {
     /// A pointer type of an address space (Language Reference, Pointer Type).
     Ptr(u32),
     Floating(Floating),
+    /// A type for which the dialect has none.
+    Other(OtherType),
     Function {
         result: LLVMType,
         params: Items<LLVMType>,

@@ -8,7 +8,7 @@ use Rattle.std.proofs.lemmas.Bool.Decides.{Decides-at, Decides-and, Decides-like
 use Rattle.std.proofs.lemmas.List.Elements.{All-nil, All-cons, All-head, All-tail}
 use Rattle.support.proofs.ListLaws.{all_from, item_there}
 use Rattle.kinds.specs.Fitting.{width_of}
-use Rattle.kinds.specs.Held.{width_in, IsHeld}
+use Rattle.kinds.specs.Held.{width_in, IsFirstClass}
 use Rattle.llvm_core.specs.declared.numbers.LLVMInstRef.{LLVMInstRef}
 use Rattle.llvm_core.specs.declared.consts.LLVMConstKind.{LLVMConstKind}
 use Rattle.llvm_core.specs.declared.consts.LLVMConstKind.TheVariants as C
@@ -34,9 +34,9 @@ use Rattle.llvm_core.proofs.GivenLemmas.{none_any_at}
 use Rattle.llvm_core.proofs.FormTypes.{numbered, kind_kept, void_kept}
 use Rattle.llvm_core.proofs.FormValues.{value_typed}
 use Rattle.llvm_core.proofs.FormPlaces.{shown, shown_block, shown_inst, IsFromBlock, inst_from}
-use Rattle.llvm_form.specs.Narrow.{is_good_or_none, is_held_result_kind, is_held_type, is_held_value, is_short_const, is_narrow_const, is_named_right, is_narrow_inst, is_narrow_inst_data, is_narrow_block_data}
+use Rattle.llvm_form.specs.Narrow.{is_good_or_none, is_returned_kind, is_first_class_type, is_first_class_value, is_short_const, is_narrow_const, is_named_right, is_narrow_inst, is_narrow_inst_data, is_narrow_block_data}
 use Rattle.llvm_form.proofs.AllLaws.{each_passes, all_pass, mapped_decided}
-use Rattle.llvm_form.proofs.TypeLaws.{good_or_none, named_right, held_decided, held_result_decided}
+use Rattle.llvm_form.proofs.TypeLaws.{good_or_none, named_right, first_class_decided, returned_decided}
 
 -- the operands of an instruction, as data
 operands_shown : (m : Module) (i : LLVMInst) → operands_of (instruction_of (trees_of m) i) ≡ map (operand_of (trees_of m)) (operands i)
@@ -48,15 +48,15 @@ operands_shown m (I.Phi type entries) = by entries
 operands_shown m (I.Row r) = refl
 
 module _ (m : Module) (sound : IsModule m) (f : ℕ) (x : FunctionData) (at : slice_get m.functions f ≡ Some x) where
-  abbrev IsHeldOperand : Operand → Type 0
-  IsHeldOperand o = IsHeld (operand_type (shown m f x) o)
+  abbrev IsFirstClassOperand : Operand → Type 0
+  IsFirstClassOperand o = IsFirstClass (operand_type (shown m f x) o)
 
   -- ---- values
 
-  value_decided : (v : LLVMValue) → IsValue m v → is_outside m (numbered f) v ≡ false → Decides (is_held_value m v) (IsHeldOperand (operand_of (trees_of m) v))
+  value_decided : (v : LLVMValue) → IsValue m v → is_outside m (numbered f) v ≡ false → Decides (is_first_class_value m v) (IsFirstClassOperand (operand_of (trees_of m) v))
   value_decided v here inside =
       let t = value_typed m f x sound at v here inside in
-      Decides-at (is_held_value m v) (is_held_type m t.type) (ap (λ o. option_map_or (is_held_type m) o false) t.type_is) (subst (λ τ. Decides (is_held_type m t.type) (IsHeld τ)) t.tree_is (held_decided m sound t.type t.within))
+      Decides-at (is_first_class_value m v) (is_first_class_type m t.type) (ap (λ o. option_map_or (is_first_class_type m) o false) t.type_is) (subst (λ τ. Decides (is_first_class_type m t.type) (IsFirstClass τ)) t.tree_is (first_class_decided m sound t.type t.within))
 
   -- an integer has the width of its tree; of what is no constant nothing is asked
   const_decided : (v : LLVMValue) → IsValue m v → Decides (is_narrow_const m v) (IsNarrowConst (operand_of (trees_of m) v))
@@ -105,18 +105,18 @@ module _ (m : Module) (sound : IsModule m) (f : ℕ) (x : FunctionData) (at : sl
         let none = false_from_ne_true (reaches_outside m (home m z) z.inst) (λ reaches. checked (BlockOutside (P.Inst i)) (z, is, reaches)) in
         let inside = operands_inside z.inst (subst (λ g. reaches_outside m g z.inst ≡ false) own none) in
         let named = named_right z.name τ (is_kind is_void m.types z.ty) (void_kept m z.ty sound there.typed) in
-        let result = held_result_decided m sound z.ty there.typed in
+        let result = returned_decided m sound z.ty there.typed in
         let vs = operands z.inst in
         let value = within_at vs (IsValue m) (operands_there z.inst there.values) in
-        let held = mapped_decided (is_held_value m) IsHeldOperand (operand_of (trees_of m)) vs (λ k v listed. value_decided v (value k v listed) (none_any_at (is_outside m (numbered f)) vs k v inside listed)) in
+        let valued = mapped_decided (is_first_class_value m) IsFirstClassOperand (operand_of (trees_of m)) vs (λ k v listed. value_decided v (value k v listed) (none_any_at (is_outside m (numbered f)) vs k v inside listed)) in
         let short = mapped_decided (is_narrow_const m) IsNarrowConst (operand_of (trees_of m)) vs (λ k v listed. const_decided v (value k v listed)) in
-        let all_held = subst (λ os. Decides (list_all (is_held_value m) vs) (All IsHeldOperand os)) (sym (operands_shown m z.inst)) held in
+        let all_valued = subst (λ os. Decides (list_all (is_first_class_value m) vs) (All IsFirstClassOperand os)) (sym (operands_shown m z.inst)) valued in
         let all_short = subst (λ os. Decides (list_all (is_narrow_const m) vs) (All IsNarrowConst os)) (sym (operands_shown m z.inst)) short in
-        let first = is_named_right m z && is_kind is_held_result_kind m.types z.ty in
-        let head = Decides-and first (list_all (is_held_value m) vs) (Decides-and (is_named_right m z) (is_kind is_held_result_kind m.types z.ty) named result) all_held in
+        let first = is_named_right m z && is_kind is_returned_kind m.types z.ty in
+        let head = Decides-and first (list_all (is_first_class_value m) vs) (Decides-and (is_named_right m z) (is_kind is_returned_kind m.types z.ty) named result) all_valued in
         Decides-like (is_narrow_inst_data m z) (λ h. record { name = h.0.0.0.0; unnamed = h.0.0.0.1; result = h.0.0.1; operands = h.0.1; constants = h.1 })
         (λ (p : IsNarrowPlaced (shown m f x) (shown_inst m i z)). ((((p.name, p.unnamed), p.result), p.operands), p.constants))
-        (Decides-and (first && list_all (is_held_value m) vs) (list_all (is_narrow_const m) vs) head all_short)
+        (Decides-and (first && list_all (is_first_class_value m) vs) (list_all (is_narrow_const m) vs) head all_short)
 
     -- ---- blocks
 

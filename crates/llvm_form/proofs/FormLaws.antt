@@ -9,7 +9,7 @@ use Rattle.std.proofs.lemmas.Bool.Decides.{Decides-at, Decides-and, Decides-like
 use Rattle.std.proofs.lemmas.List.Elements.{All-nil, All-cons, All-head, All-tail, All-weaker, All-map}
 use Rattle.support.proofs.ListLaws.{all_from, item_there}
 use Rattle.kinds.specs.Types.{types_list}
-use Rattle.kinds.specs.Held.{IsHeld, IsHeldResult, IsHeldSignature}
+use Rattle.kinds.specs.Held.{IsFirstClass, IsReturned}
 use Rattle.llvm_core.specs.declared.numbers.LLVMBasicBlock.{LLVMBasicBlock}
 use Rattle.llvm_core.specs.declared.code.FunctionData.{FunctionData}
 use Rattle.llvm_core.specs.Module.{Module}
@@ -24,36 +24,44 @@ use Rattle.llvm_core.proofs.FormTypes.{signature_of, function_typed}
 use Rattle.llvm_core.proofs.FormPlaces.{shown, block_from}
 use Rattle.llvm_core.proofs.DistinctLaws.{each_function, blocks_once}
 use Rattle.llvm_core.proofs.CheckedForm.{form_of_checked}
-use Rattle.llvm_form.specs.Narrow.{is_good_or_none, is_held_type, is_held_result_kind, is_narrow_block, is_narrow_block_data, is_narrow_signature, has_body, is_narrow_function_data, is_narrow}
+use Rattle.llvm_form.specs.Narrow.{is_good_or_none, is_first_class_type, is_returned_kind, is_narrow_block, is_narrow_block_data, is_narrow_signature, has_body, is_narrow_function_data, is_narrow}
 use Rattle.llvm_form.specs.Once.{HasInstsOnce, AreInstsOnce}
 use Rattle.llvm_form.proofs.AllLaws.{each_passes, all_pass}
-use Rattle.llvm_form.proofs.TypeLaws.{good_or_none, held_types, held_result_decided}
+use Rattle.llvm_form.proofs.TypeLaws.{good_or_none, first_class_types, returned_decided}
 use Rattle.llvm_form.proofs.CodeLaws.{block_decided}
 
 -- ---- functions
 
-type_by : (result : TypeTree) (types : TypeTrees) (variadic returned params : Bool) → Decides returned (IsHeldResult result) → Decides params (All IsHeld (types_list types))
-    → Decides (not variadic && returned && params) (IsHeldSignature (FunctionType result types variadic))
+-- the type of a function of the form: it is not variadic
+record IsNarrowSignature (t : TypeTree) : Type 0 where
+  result : TypeTree
+  params : TypeTrees
+  is : t ≡ FunctionType result params false
+  returns : IsReturned result
+  takes : All IsFirstClass (types_list params)
+
+type_by : (result : TypeTree) (types : TypeTrees) (variadic returned params : Bool) → Decides returned (IsReturned result) → Decides params (All IsFirstClass (types_list types))
+    → Decides (not variadic && returned && params) (IsNarrowSignature (FunctionType result types variadic))
 type_by result types true returned params d e = (λ h. absurd (cc), λ h. let same = h.is in absurd (cc))
 type_by result types false returned params d e = Decides-like (returned && params) (λ h. record { result = result; params = types; is = refl; returns = h.0; takes = h.1 })
-    (λ (h : IsHeldSignature (FunctionType result types false)).
+    (λ (h : IsNarrowSignature (FunctionType result types false)).
     let same = h.is in
     let first : h.result ≡ result = (cc) in
     let others : h.params ≡ types = (cc) in
-    (subst IsHeldResult first h.returns, subst (λ ts. All IsHeld (types_list ts)) others h.takes))
+    (subst IsReturned first h.returns, subst (λ ts. All IsFirstClass (types_list ts)) others h.takes))
     (Decides-and returned params d e)
 
 module _ (m : Module) (sound : IsModule m) (checked : IsChecked m) (f : ℕ) (x : FunctionData) (at : slice_get m.functions f ≡ Some x) where
-  type_decided : Decides (is_kind (is_narrow_signature m) m.types x.ty) (IsHeldSignature (shown m f x).type)
+  type_decided : Decides (is_kind (is_narrow_signature m) m.types x.ty) (IsNarrowSignature (shown m f x).type)
   type_decided =
       let typed = function_typed m f x sound at in
       let s = signature_of m f x typed.0 typed.1 typed.2 sound at typed.3 in
       let here = ap (λ o. option_map_or (is_narrow_signature m) o false) s.kind_is in
       let tree = function_tree_of m x.ty s.returned s.params s.variadic sound s.kind_is in
-      Decides-at (is_kind (is_narrow_signature m) m.types x.ty) (not s.variadic && is_kind is_held_result_kind m.types s.returned && list_all (is_held_type m) s.params) here
-      (subst (λ τ. Decides (not s.variadic && is_kind is_held_result_kind m.types s.returned && list_all (is_held_type m) s.params) (IsHeldSignature τ)) (sym tree)
-      (type_by (type_at (trees_of m).types s.returned) (types_at (trees_of m).types s.params) s.variadic (is_kind is_held_result_kind m.types s.returned) (list_all (is_held_type m) s.params)
-      (held_result_decided m sound s.returned s.within) (held_types m sound s.params s.params_within)))
+      Decides-at (is_kind (is_narrow_signature m) m.types x.ty) (not s.variadic && is_kind is_returned_kind m.types s.returned && list_all (is_first_class_type m) s.params) here
+      (subst (λ τ. Decides (not s.variadic && is_kind is_returned_kind m.types s.returned && list_all (is_first_class_type m) s.params) (IsNarrowSignature τ)) (sym tree)
+      (type_by (type_at (trees_of m).types s.returned) (types_at (trees_of m).types s.params) s.variadic (is_kind is_returned_kind m.types s.returned) (list_all (is_first_class_type m) s.params)
+      (returned_decided m sound s.returned s.within) (first_class_types m sound s.params s.params_within)))
 
   body_decided : Decides (has_body m x) (¬ ((shown m f x).blocks ≡ []))
   body_decided =
@@ -85,7 +93,7 @@ module _ (m : Module) (sound : IsModule m) (checked : IsChecked m) (f : ℕ) (x 
   -- the parts of a narrow function
   record NarrowParts : Type 0 where
     name : is_good_name x.name ≡ true
-    type : IsHeldSignature (shown m f x).type
+    type : IsNarrowSignature (shown m f x).type
     params : All IsGoodOrNone x.params
     body : ¬ ((shown m f x).blocks ≡ [])
     blocks : All (IsNarrowBlock (shown m f x)) (shown m f x).blocks
@@ -128,21 +136,21 @@ module _ (m : Module) (sound : IsModule m) (checked : IsChecked m) (f : ℕ) (x 
 -- ---- a function of the form is narrow
 
 module _ (f : Function) where
-  operands_held : (b : ℕ) (type : TypeTree) (i : Instruction) → IsFormInstruction f b type i → All (λ (o : Operand). IsHeld (operand_type f o)) (operands_of i)
-  operands_held b type (Phi entries) form = by entries form.0
+  operands_first_class : (b : ℕ) (type : TypeTree) (i : Instruction) → IsFormInstruction f b type i → All (λ (o : Operand). IsFirstClass (operand_type f o)) (operands_of i)
+  operands_first_class b type (Phi entries) form = by entries form.0
     where
-      by : (es : List (Operand × ℕ)) → All (λ (e : Operand × ℕ). IsOperand f type e.0) es → All (λ (o : Operand). IsHeld (operand_type f o)) (map (λ (e : Operand × ℕ). e.0) es)
-      by [] all = All-nil (λ (o : Operand). IsHeld (operand_type f o))
+      by : (es : List (Operand × ℕ)) → All (λ (e : Operand × ℕ). IsOperand f type e.0) es → All (λ (o : Operand). IsFirstClass (operand_type f o)) (map (λ (e : Operand × ℕ). e.0) es)
+      by [] all = All-nil (λ (o : Operand). IsFirstClass (operand_type f o))
       by (e ∷ es) all =
-          let P : Operand → Type 0 = λ o. IsHeld (operand_type f o) in
+          let P : Operand → Type 0 = λ o. IsFirstClass (operand_type f o) in
           let Q : Operand × ℕ → Type 0 = λ e. IsOperand f type e.0 in
           let here = All-head Q e es all in
-          All-cons P e.0 (map (λ (e : Operand × ℕ). e.0) es) (subst IsHeld (sym here.typed) here.held) (by es (All-tail Q e es all))
-  operands_held b type (Applied r) form = of_types r.operands form.held
+          All-cons P e.0 (map (λ (e : Operand × ℕ). e.0) es) (subst IsFirstClass (sym here.typed) here.first_class) (by es (All-tail Q e es all))
+  operands_first_class b type (Applied r) form = of_types r.operands form.first_class
     where
-      of_types : (os : List Operand) → All IsHeld (map (operand_type f) os) → All (λ (o : Operand). IsHeld (operand_type f o)) os
-      of_types [] all = All-nil (λ (o : Operand). IsHeld (operand_type f o))
-      of_types (o ∷ os) all = All-cons (λ (o : Operand). IsHeld (operand_type f o)) o os (All-head IsHeld (operand_type f o) (map (operand_type f) os) all) (of_types os (All-tail IsHeld (operand_type f o) (map (operand_type f) os) all))
+      of_types : (os : List Operand) → All IsFirstClass (map (operand_type f) os) → All (λ (o : Operand). IsFirstClass (operand_type f o)) os
+      of_types [] all = All-nil (λ (o : Operand). IsFirstClass (operand_type f o))
+      of_types (o ∷ os) all = All-cons (λ (o : Operand). IsFirstClass (operand_type f o)) o os (All-head IsFirstClass (operand_type f o) (map (operand_type f) os) all) (of_types os (All-tail IsFirstClass (operand_type f o) (map (operand_type f) os) all))
 
   const_short : (o : Operand) → IsOperandOf f o → IsNarrowConst o
   const_short (Constant (IntConst w v)) h = h.0.1
@@ -158,7 +166,7 @@ module _ (f : Function) where
   consts_short b type (Applied r) form = All-weaker (IsOperandOf f) IsNarrowConst const_short r.operands form.operands
 
   narrow_placed : (b : ℕ) (p : Placed) → IsFormPlaced f b p → IsNarrowPlaced f p
-  narrow_placed b p form = record { name = form.name; unnamed = form.unnamed; result = form.held; operands = operands_held b p.type p.instruction form.instruction; constants = consts_short b p.type p.instruction form.instruction }
+  narrow_placed b p form = record { name = form.name; unnamed = form.unnamed; result = form.returned; operands = operands_first_class b p.type p.instruction form.instruction; constants = consts_short b p.type p.instruction form.instruction }
 
   narrow_block : (b : Block) → IsFormBlock f b → IsNarrowBlock f b
   narrow_block b form = record { label = form.label; instructions = All-weaker (IsFormPlaced f b.number) (IsNarrowPlaced f) (narrow_placed b.number) b.instructions form.instructions }

@@ -6,8 +6,8 @@ use Rattle.std.proofs.lemmas.Bool.{and_from, and_parts}
 use Rattle.std.proofs.lemmas.Bool.Decides.{Decides-at, Decides-and, Decides-like}
 use Rattle.std.proofs.lemmas.List.Elements.{All-nil, All-cons, All-head, All-tail}
 use Rattle.kinds.specs.Types.{shape, types_list}
-use Rattle.kinds.specs.Fitting.{is_nothing, is_held}
-use Rattle.kinds.specs.Held.{IsHeld, IsHeldResult}
+use Rattle.kinds.specs.Fitting.{is_nothing, is_first_class}
+use Rattle.kinds.specs.Held.{IsFirstClass, IsReturned}
 use Rattle.kinds.specs.Held.{is_void as void_tree}
 use Rattle.kinds.proofs.HeldLaws.{void_is, void_if}
 use Rattle.llvm_core.specs.declared.numbers.LLVMType.{LLVMType}
@@ -17,7 +17,7 @@ use Rattle.llvm_core.specs.Parts.{is_kind}
 use Rattle.llvm_core.specs.Sound.{IsModule}
 use Rattle.llvm_core.specs.Data.{TypeTree, VoidType, type_at, types_at, trees_of}
 use Rattle.llvm_core.proofs.FormTypes.{kind_kept}
-use Rattle.llvm_form.specs.Narrow.{is_none, is_good_or_none, is_held_result_kind, is_held_type}
+use Rattle.llvm_form.specs.Narrow.{is_none, is_good_or_none, is_returned_kind, is_first_class_type}
 
 -- ---- names
 
@@ -34,21 +34,21 @@ named_right (b ∷ bs) τ false is = (λ e. ((and_parts (is_good_name (b ∷ bs)
 -- ---- types
 
 module _ (m : Module) (sound : IsModule m) where
-  pub held_decided : (t : LLVMType) → t.0 < length m.types → Decides (is_held_type m t) (IsHeld (type_at (trees_of m).types t))
-  unfolding IsHeld
-  held_decided t within = Decides-at (is_held_type m t) (is_held (shape (type_at (trees_of m).types t))) (kind_kept m is_held t sound within) (λ e. e, λ h. h)
+  pub first_class_decided : (t : LLVMType) → t.0 < length m.types → Decides (is_first_class_type m t) (IsFirstClass (type_at (trees_of m).types t))
+  unfolding IsFirstClass
+  first_class_decided t within = Decides-at (is_first_class_type m t) (is_first_class (shape (type_at (trees_of m).types t))) (kind_kept m is_first_class t sound within) (λ e. e, λ h. h)
 
-  pub held_result_decided : (t : LLVMType) → t.0 < length m.types → Decides (is_kind is_held_result_kind m.types t) (IsHeldResult (type_at (trees_of m).types t))
-  unfolding IsHeldResult
-  held_result_decided t within =
+  pub returned_decided : (t : LLVMType) → t.0 < length m.types → Decides (is_kind is_returned_kind m.types t) (IsReturned (type_at (trees_of m).types t))
+  unfolding IsReturned
+  returned_decided t within =
       let s = shape (type_at (trees_of m).types t) in
-      Decides-at (is_kind is_held_result_kind m.types t) (is_nothing s || is_held s) (kind_kept m (λ s. is_nothing s || is_held s) t sound within) (λ e. e, λ h. h)
+      Decides-at (is_kind is_returned_kind m.types t) (is_nothing s || is_first_class s) (kind_kept m (λ s. is_nothing s || is_first_class s) t sound within) (λ e. e, λ h. h)
 
-  pub held_types : (ts : List LLVMType) → All (λ (t : LLVMType). t.0 < length m.types) ts → Decides (list_all (is_held_type m) ts) (All IsHeld (types_list (types_at (trees_of m).types ts)))
-  held_types [] within = (λ e. All-nil IsHeld, λ h. refl)
-  held_types (t ∷ ts) within =
+  pub first_class_types : (ts : List LLVMType) → All (λ (t : LLVMType). t.0 < length m.types) ts → Decides (list_all (is_first_class_type m) ts) (All IsFirstClass (types_list (types_at (trees_of m).types ts)))
+  first_class_types [] within = (λ e. All-nil IsFirstClass, λ h. refl)
+  first_class_types (t ∷ ts) within =
       let W : LLVMType → Type 0 = λ t. t.0 < length m.types in
       let τ = type_at (trees_of m).types t in
       let τs = types_list (types_at (trees_of m).types ts) in
-      Decides-like (is_held_type m t && list_all (is_held_type m) ts) (λ h. All-cons IsHeld τ τs h.0 h.1) (λ all. (All-head IsHeld τ τs all, All-tail IsHeld τ τs all))
-      (Decides-and (is_held_type m t) (list_all (is_held_type m) ts) (held_decided t (All-head W t ts within)) (held_types ts (All-tail W t ts within)))
+      Decides-like (is_first_class_type m t && list_all (is_first_class_type m) ts) (λ h. All-cons IsFirstClass τ τs h.0 h.1) (λ all. (All-head IsFirstClass τ τs all, All-tail IsFirstClass τ τs all))
+      (Decides-and (is_first_class_type m t) (list_all (is_first_class_type m) ts) (first_class_decided t (All-head W t ts within)) (first_class_types ts (All-tail W t ts within)))

@@ -18,7 +18,7 @@ use Rattle.llvm_core.specs.declared.code.InstData.{InstData}
 use Rattle.llvm_core.specs.Module.{Module}
 use Rattle.llvm_core.specs.Names.{is_good_name}
 use Rattle.llvm_core.specs.Parts.{is_kind, shape_of, value_type, operands}
-use Rattle.kinds.specs.Fitting.{is_held, width_of}
+use Rattle.kinds.specs.Fitting.{is_first_class, width_of}
 use Rattle.llvm_core.specs.Checked.{is_void}
 
 -- ---- names and types
@@ -30,12 +30,12 @@ is_none (b ∷ bs) = false
 abbrev pub is_good_or_none : List ℕ → Bool
 is_good_or_none n = is_none n || is_good_name n
 
--- a type of a value that is translated
-abbrev pub is_held_kind : LLVMTypeKind → Bool
-is_held_kind k = is_held (shape_of k)
+-- a type of a value
+abbrev pub is_first_class_kind : LLVMTypeKind → Bool
+is_first_class_kind k = is_first_class (shape_of k)
 
-abbrev pub is_held_result_kind : LLVMTypeKind → Bool
-is_held_result_kind k = is_void k || is_held_kind k
+abbrev pub is_returned_kind : LLVMTypeKind → Bool
+is_returned_kind k = is_void k || is_first_class_kind k
 
 -- an integer of at most 64 bits
 abbrev pub is_short_const : List LLVMTypeKind → LLVMConstKind → Bool
@@ -43,11 +43,11 @@ is_short_const types (C.Int t value) = is_kind (λ (k : LLVMTypeKind). nat_le (w
 is_short_const types (C.Placeholder number t) = true
 
 module _ (m : Module) where
-  abbrev pub is_held_type : LLVMType → Bool
-  is_held_type t = is_kind is_held_kind m.types t
+  abbrev pub is_first_class_type : LLVMType → Bool
+  is_first_class_type t = is_kind is_first_class_kind m.types t
 
-  abbrev pub is_held_value : LLVMValue → Bool
-  is_held_value v = option_map_or is_held_type (value_type m v) false
+  abbrev pub is_first_class_value : LLVMValue → Bool
+  is_first_class_value v = option_map_or is_first_class_type (value_type m v) false
 
   -- a constant has at most 64 bits; of another operand it is not asked
   abbrev pub is_narrow_const : LLVMValue → Bool
@@ -62,7 +62,7 @@ module _ (m : Module) where
   is_named_right x = is_none x.name || (is_good_name x.name && not (is_kind is_void m.types x.ty))
 
   abbrev pub is_narrow_inst_data : InstData → Bool
-  is_narrow_inst_data x = is_named_right x && is_kind is_held_result_kind m.types x.ty && list_all is_held_value (operands x.inst) && list_all is_narrow_const (operands x.inst)
+  is_narrow_inst_data x = is_named_right x && is_kind is_returned_kind m.types x.ty && list_all is_first_class_value (operands x.inst) && list_all is_narrow_const (operands x.inst)
 
   abbrev pub is_narrow_inst : LLVMInstRef → Bool
   is_narrow_inst i = option_map_or is_narrow_inst_data (slice_get m.insts i.0) false
@@ -74,11 +74,12 @@ module _ (m : Module) where
   is_narrow_block b = option_map_or is_narrow_block_data (slice_get m.blocks b.0) false
 
   abbrev pub is_narrow_signature : LLVMTypeKind → Bool
-  is_narrow_signature (T.Function result params variadic) = not variadic && is_kind is_held_result_kind m.types result && list_all is_held_type params
+  is_narrow_signature (T.Function result params variadic) = not variadic && is_kind is_returned_kind m.types result && list_all is_first_class_type params
   is_narrow_signature T.Void = false
   is_narrow_signature (T.Int width) = false
   is_narrow_signature (T.Ptr space) = false
   is_narrow_signature (T.Floating of) = false
+  is_narrow_signature (T.Other of) = false
 
   -- a function has a body
   abbrev pub has_body : FunctionData → Bool

@@ -1,4 +1,4 @@
-//! Whether a checked module is of the form that is translated today.
+//! Whether a checked module is of the form that is read today.
 
 ghost use Rattle.std.specs.Bool.{Decides};
 ghost use Rattle.llvm_core.specs.Data.{data_of};
@@ -10,7 +10,7 @@ use crate::functions::is_narrow;
 use llvm_core::module::LLVMModule;
 
 #[tactic(auto, using(crate::proofs::FormLaws::form_decided))]
-/// Whether a checked module is of the form: each function has a body, names can be said by a text, types of values are translated.
+/// Whether a checked module is of the form: each function has a body, names can be said by a text, types of values are first class.
 pub fn is_form(m: &LLVMModule) -> bool
     requires checked { IsChecked m.now }
     requires once { AreInstsOnce (data_of m.now) }

@@ -6,9 +6,9 @@ ghost use Rattle.std.specs.Option.{option_map};
 ghost use Rattle.llvm_core.specs.Checked.{IsChecked};
 ghost use Rattle.llvm_core.specs.Code.{param_names};
 ghost use Rattle.llvm_core.specs.Parts.{IsConstOver, IsValue, HasValues, is_kind, operands};
-ghost use Rattle.llvm_form.specs.Narrow.{is_good_or_none, is_held_type, is_held_result_kind, is_held_value, is_short_const, is_narrow_const, is_named_right, is_narrow_inst, is_narrow_block, is_narrow_signature, is_narrow_function, is_narrow};
+ghost use Rattle.llvm_form.specs.Narrow.{is_good_or_none, is_first_class_type, is_returned_kind, is_first_class_value, is_short_const, is_narrow_const, is_named_right, is_narrow_inst, is_narrow_block, is_narrow_signature, is_narrow_function, is_narrow};
 
-use crate::narrow::{is_good_or_none, is_held_kind, is_held_result_kind, is_void};
+use crate::narrow::{is_first_class_kind, is_good_or_none, is_returned_kind, is_void};
 use kinds::names::is_good_name;
 use llvm_core::code::{LLVMInst, LLVMValue, PhiEntry};
 use llvm_core::consts::LLVMConstKind;
@@ -21,31 +21,31 @@ const MAX_SHORT: u32 = 64;
 
 // ---- values
 
-fn is_held_value(m: &LLVMModule, value: LLVMValue) -> bool
+fn is_first_class_value(m: &LLVMModule, value: LLVMValue) -> bool
     requires { IsValue m.now value }
-    ensures { result ≡ is_held_value m.now value }
+    ensures { result ≡ is_first_class_value m.now value }
 {
-    is_held_kind(m.type_kind(m.type_of(value)))
+    is_first_class_kind(m.type_kind(m.type_of(value)))
 }
 
-fn are_held_values(m: &LLVMModule, values: &[LLVMValue]) -> bool
+fn are_first_class_values(m: &LLVMModule, values: &[LLVMValue]) -> bool
     requires { All (IsValue m.now) values.now }
-    ensures { result ≡ list_all (is_held_value m.now) values.now }
+    ensures { result ≡ list_all (is_first_class_value m.now) values.now }
 {
     for value in values {
-        if !is_held_value(m, *value) {
+        if !is_first_class_value(m, *value) {
             return false;
         }
     }
     true
 }
 
-fn are_held_entries(m: &LLVMModule, entries: &[PhiEntry]) -> bool
+fn are_first_class_entries(m: &LLVMModule, entries: &[PhiEntry]) -> bool
     requires { All (λ e. IsValue m.now e.value) entries.now }
-    ensures { result ≡ list_all (λ e. is_held_value m.now e.value) entries.now }
+    ensures { result ≡ list_all (λ e. is_first_class_value m.now e.value) entries.now }
 {
     for entry in entries {
-        if !is_held_value(m, entry.value) {
+        if !is_first_class_value(m, entry.value) {
             return false;
         }
     }
@@ -105,14 +105,14 @@ fn are_narrow_entries(m: &LLVMModule, entries: &[PhiEntry]) -> bool
 // ---- instructions
 
 #[tactic(auto, using(crate::proofs::AllLaws::all_mapped))]
-/// Whether the operands of an instruction are of types that are translated.
-fn has_held_operands(m: &LLVMModule, inst: &LLVMInst) -> bool
+/// Whether the operands of an instruction are of first class types.
+fn has_first_class_operands(m: &LLVMModule, inst: &LLVMInst) -> bool
     requires { HasValues m.now inst.now }
-    ensures { result ≡ list_all (is_held_value m.now) (operands inst.now) }
+    ensures { result ≡ list_all (is_first_class_value m.now) (operands inst.now) }
 {
     match inst {
-        LLVMInst::Phi(_, entries) => are_held_entries(m, entries.as_slice()),
-        LLVMInst::Row(row) => are_held_values(m, row.operands.as_slice()),
+        LLVMInst::Phi(_, entries) => are_first_class_entries(m, entries.as_slice()),
+        LLVMInst::Row(row) => are_first_class_values(m, row.operands.as_slice()),
     }
 }
 
@@ -137,7 +137,10 @@ fn is_narrow_inst(m: &LLVMModule, i: LLVMInstRef) -> bool
     let name = m.inst_name(i);
     let named = name.is_empty() || (is_good_name(name) && !is_void(kind));
     let inst = m.inst(i);
-    named && is_held_result_kind(kind) && has_held_operands(m, inst) && has_narrow_consts(m, inst)
+    named
+        && is_returned_kind(kind)
+        && has_first_class_operands(m, inst)
+        && has_narrow_consts(m, inst)
 }
 
 fn are_narrow_insts(m: &LLVMModule, insts: &[LLVMInstRef]) -> bool
@@ -175,12 +178,12 @@ fn are_narrow_blocks(m: &LLVMModule, blocks: &[LLVMBasicBlock]) -> bool
 
 // ---- functions
 
-fn are_held_types(m: &LLVMModule, types: &[LLVMType]) -> bool
+fn are_first_class_types(m: &LLVMModule, types: &[LLVMType]) -> bool
     requires { All (λ t. t.0 < length m.now.types) types.now }
-    ensures { result ≡ list_all (is_held_type m.now) types.now }
+    ensures { result ≡ list_all (is_first_class_type m.now) types.now }
 {
     for ty in types {
-        if !is_held_kind(m.type_kind(*ty)) {
+        if !is_first_class_kind(m.type_kind(*ty)) {
             return false;
         }
     }
@@ -198,8 +201,8 @@ fn is_narrow_signature(m: &LLVMModule, ty: LLVMType) -> bool
             params,
             variadic,
         } => !*variadic
-            && is_held_result_kind(m.type_kind(*result))
-            && are_held_types(m, params.as_slice()),
+            && is_returned_kind(m.type_kind(*result))
+            && are_first_class_types(m, params.as_slice()),
         _ => false,
     }
 }

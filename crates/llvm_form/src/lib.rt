@@ -1,4 +1,4 @@
-//! The form of modules that is translated today, asked of a module.
+//! The form of modules that is read today, asked of a module.
 #![tactic(auto)]
 
 pub mod form;

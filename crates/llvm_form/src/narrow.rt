@@ -1,10 +1,10 @@
-//! Whether names are good, and types ones that are translated.
+//! Whether names are good, and types those of values.
 
 ghost use Rattle.std.specs.Prelude.{◌≡◌};
 ghost use Rattle.llvm_core.specs.Checked.{is_void};
-ghost use Rattle.llvm_form.specs.Narrow.{is_held_kind, is_good_or_none, is_held_result_kind};
+ghost use Rattle.llvm_form.specs.Narrow.{is_first_class_kind, is_good_or_none, is_returned_kind};
 
-use kinds::fitting::{is_held, is_nothing};
+use kinds::fitting::{is_first_class, is_nothing};
 use kinds::names::is_good_name;
 use llvm_core::module::shape_of;
 use llvm_core::types::LLVMTypeKind;
@@ -16,11 +16,11 @@ pub fn is_good_or_none(name: &str) -> bool
     name.is_empty() || is_good_name(name)
 }
 
-/// Whether a type is one of a value that is translated.
-pub fn is_held_kind(kind: &LLVMTypeKind) -> bool
-    ensures { result ≡ is_held_kind kind.now }
+/// Whether a type is one of a value, of a width or an address space that there is.
+pub fn is_first_class_kind(kind: &LLVMTypeKind) -> bool
+    ensures { result ≡ is_first_class_kind kind.now }
 {
-    is_held(shape_of(kind))
+    is_first_class(shape_of(kind))
 }
 
 /// Whether a type is that of no value.
@@ -31,8 +31,8 @@ pub fn is_void(kind: &LLVMTypeKind) -> bool
 }
 
 /// Whether a type is what a function of the form returns.
-pub fn is_held_result_kind(kind: &LLVMTypeKind) -> bool
-    ensures { result ≡ is_held_result_kind kind.now }
+pub fn is_returned_kind(kind: &LLVMTypeKind) -> bool
+    ensures { result ≡ is_returned_kind kind.now }
 {
-    is_void(kind) || is_held_kind(kind)
+    is_void(kind) || is_first_class_kind(kind)
 }
