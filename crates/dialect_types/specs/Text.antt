@@ -4,7 +4,7 @@ use Rattle.std.specs.Fmt.{decimal}
 use Rattle.kinds.specs.declared.types.Floating.{Floating}
 use Rattle.kinds.specs.declared.types.Floating.TheVariants as F
 pub use Rattle.support.specs.Appended.{Keeps}
-use Rattle.dialect_types.specs.Trees.{TypeTree, VoidType, IntType, PointerType, FloatingType, FunctionType, TypeTrees, NoTypes, ThenType, AttrTree, IntegerAttr}
+use Rattle.dialect_types.specs.Trees.{TypeTree, VoidType, IntType, PointerType, FloatingType, RefusedType, FunctionType, TypeTrees, NoTypes, ThenType, AttrTree, IntegerAttr}
 
 -- the word of a truth value
 abbrev pub truth_text : Bool → List ℕ
@@ -40,6 +40,8 @@ abbrev mutual
   type_text (IntType w) = codes "builtin.integer i" ++ decimal w
   type_text (PointerType space) = codes "llvm.ptr (" ++ decimal space ++ codes ")"
   type_text (FloatingType of) = floating_text of
+  -- no type of the dialect
+  type_text (RefusedType of) = []
   type_text (FunctionType result params variadic) =
       codes "llvm.func <" ++ type_text result ++ codes " (" ++ joined (type_texts params) ++ codes ") variadic = " ++ truth_text variadic ++ codes ">"
 

@@ -1,6 +1,6 @@
 -- Types and constants as trees, and the tree that a number of a store stands for.
 use Rattle.std.specs.Prelude.{◌≡◌, ◌<◌, ◌+◌, ℕ, List, [], ◌∷◌, ◌++◌, max, length, slice_get, slice_index_or, Some}
-pub use Rattle.kinds.specs.Types.{TypeTree, VoidType, IntType, PointerType, FloatingType, FunctionType, TypeTrees, NoTypes, ThenType}
+pub use Rattle.kinds.specs.Types.{TypeTree, VoidType, IntType, PointerType, FloatingType, RefusedType, FunctionType, TypeTrees, NoTypes, ThenType}
 use Rattle.dialect_types.specs.declared.types.TypeHandle.{TypeHandle}
 use Rattle.dialect_types.specs.declared.types.TypeKind.{TypeKind}
 use Rattle.dialect_types.specs.declared.types.TypeKind.TheVariants.{Integer, Pointer, Floating, Func, Void}
@@ -18,6 +18,7 @@ abbrev mutual
   depth (IntType w) = 1
   depth (PointerType space) = 1
   depth (FloatingType of) = 1
+  depth (RefusedType of) = 1
   depth (FunctionType result params variadic) = 1 + max (depth result) (depths params)
 
   -- the depth of the deepest

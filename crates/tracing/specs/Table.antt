@@ -1,6 +1,6 @@
 -- Terms in a table, each with its parts by the places of earlier ones.
 use Rattle.std.specs.Prelude.{◌≡◌, ◌<◌, ℕ, List, [], ◌++◌, Some, All, map, slice_get, slice_index_or}
-use Rattle.kinds.specs.Types.{TypeTree, VoidType, IntType, PointerType, FloatingType}
+use Rattle.kinds.specs.Types.{TypeTree, VoidType, IntType, PointerType, FloatingType, RefusedType}
 use Rattle.llvm_core.specs.Data.{trees_after}
 use Rattle.meaning.specs.Terms as M
 use Rattle.meaning.specs.Terms.{Term, Unset, terms_of}
@@ -16,6 +16,7 @@ tree_of T.Void = VoidType
 tree_of (T.Int w) = IntType w
 tree_of (T.Pointer space) = PointerType space
 tree_of (T.Floating of) = FloatingType of
+tree_of (T.Other of) = RefusedType of
 
 -- ---- terms
 

@@ -47,6 +47,7 @@ fn value_type(m: &LLVMModule, ty: LLVMType) -> ValueType
         LLVMTypeKind::Int(width) => ValueType::Int(*width),
         LLVMTypeKind::Ptr(space) => ValueType::Pointer(*space),
         LLVMTypeKind::Floating(of) => ValueType::Floating(*of),
+        LLVMTypeKind::Other(of) => ValueType::Other(*of),
         LLVMTypeKind::Function { .. } => unreachable!(),
     }
 }

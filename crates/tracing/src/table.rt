@@ -5,7 +5,7 @@ ghost use Rattle.support.specs.Interned.{IsDistinctList};
 ghost use Rattle.tracing.specs.Table.{terms, node_term, HasPartsBelow, IsGrounded, Gives};
 
 use kinds::op::Op;
-use kinds::types::Floating;
+use kinds::types::{Floating, OtherType};
 use std::alloc::{AllocError, Global};
 use std::marker::Model;
 use support::interner::Interner;
@@ -20,6 +20,8 @@ pub enum ValueType {
     /// A pointer type of an address space.
     Pointer(u32),
     Floating(Floating),
+    /// A type of LLVM's side for which the dialect has none.
+    Other(OtherType),
 }
 
 /// A term, whose parts are places of earlier ones: a line for each sort that a run makes today.
