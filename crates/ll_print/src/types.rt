@@ -5,11 +5,11 @@ ghost use Rattle.kinds.specs.Held.{is_void};
 ghost use Rattle.support.specs.Appended.{Keeps};
 ghost use Rattle.llvm_core.specs.Sound.{IsModule};
 ghost use Rattle.llvm_core.specs.Data.{trees_of, type_at};
-ghost use Rattle.ll_print.specs.Printing.{floating_text, space_text, type_text};
+ghost use Rattle.ll_print.specs.Printing.{floating_text, other_text, space_text, type_text};
 
 use itoa::Buffer;
 use kinds::fitting::is_nothing;
-use kinds::types::Floating;
+use kinds::types::{Floating, OtherType};
 use llvm_core::module::{LLVMModule, shape_of};
 use llvm_core::numbers::LLVMType;
 use llvm_core::types::LLVMTypeKind;
@@ -143,6 +143,28 @@ fn put_floating(of: Floating, out: &mut Vec<u8>) -> Result<(), AllocError>
     out.extend_from_slice(floating_word(of))
 }
 
+/// The word of a type for which the dialect has none, a line for each.
+fn other_word(of: OtherType) -> &'static [u8]
+    ensures { result.now ≡ other_text of }
+{
+    match of {
+        OtherType::X86Fp80 => b"x86_fp80",
+        OtherType::Fp128 => b"fp128",
+        OtherType::PpcFp128 => b"ppc_fp128",
+        OtherType::X86Amx => b"x86_amx",
+        OtherType::Token => b"token",
+    }
+}
+
+/// A type for which the dialect has none: no module back has one, so this stands apart.
+#[inline(never)]
+fn put_other(of: OtherType, out: &mut Vec<u8>) -> Result<(), AllocError>
+    ensures text { OnOk result (out.new.items ≡ out.old.items ++ other_text of) }
+    ensures kept { Keeps out.old.items out.new.items }
+{
+    out.extend_from_slice(other_word(of))
+}
+
 /// Whether a type is void.
 #[inline(always)]
 pub fn is_void(m: &LLVMModule, ty: LLVMType) -> bool
@@ -166,6 +188,7 @@ pub fn put_type(m: &LLVMModule, ty: LLVMType, out: &mut Vec<u8>) -> Result<(), A
         LLVMTypeKind::Int(width) => put_width(*width, out),
         LLVMTypeKind::Ptr(space) => put_pointer(*space, out),
         LLVMTypeKind::Floating(of) => put_floating(*of, out),
+        LLVMTypeKind::Other(of) => put_other(*of, out),
         LLVMTypeKind::Function { .. } => Ok(()),
     }
 }

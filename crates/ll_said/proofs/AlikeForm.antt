@@ -7,7 +7,7 @@ use Rattle.kinds.specs.declared.op.Op.{Op}
 use Rattle.kinds.specs.declared.rules.Takes.{Takes}
 use Rattle.kinds.specs.declared.rules.Takes.TheVariants as O
 use Rattle.kinds.specs.Types.{result_of}
-use Rattle.kinds.specs.Held.{is_void, IsHeld, IsHeldResult}
+use Rattle.kinds.specs.Held.{is_void, IsFirstClass, IsReturned}
 use Rattle.kinds.specs.Rules.{ends, target_count, operand_count}
 use Rattle.kinds.specs.Table.{rule_of}
 use Rattle.kinds.specs.Typing.{fits_trees, typed}
@@ -104,7 +104,7 @@ module _ (g h : L.Function) (alike : FunctionsAlike g h) (here : IsDistinctList 
       result_typed g left r.place r.one a r.one_there r.one_number ∙ r.pair.type ∙ sym (result_typed h right r.place r.other x.0 r.other_there r.other_number) ∙ sym (ap (operand_type h) x.1)
 
   operand_alike : (t : TypeTree) (o p : Operand) → OperandsAlike g h o p → IsOperand g t o → IsOperand h t p
-  operand_alike t o p x s = record { stands = stands_alike o p x s.stands; typed = sym (types_alike o p x) ∙ s.typed; held = s.held }
+  operand_alike t o p x s = record { stands = stands_alike o p x s.stands; typed = sym (types_alike o p x) ∙ s.typed; first_class = s.first_class }
 
   -- ---- instructions
 
@@ -136,7 +136,7 @@ module _ (g h : L.Function) (alike : FunctionsAlike g h) (here : IsDistinctList 
       let count : operand_count (rule_of r.op).takes (returns_void g) ≡ operand_count (rule_of s.op).takes (returns_void h) = λ i. operand_count (rule_of (op i)).takes (is_void (returned i)) in
       record {
         operands = each_alike (OperandsAlike g h) (IsOperandOf g) (IsOperandOf h) stands_alike r.operands s.operands pair.operands form.operands;
-        held = subst (All IsHeld) types form.held;
+        first_class = subst (All IsFirstClass) types form.first_class;
         count = sym (zip_length (OperandsAlike g h) r.operands s.operands pair.operands) ∙ form.count ∙ count;
         fits = sym fits ∙ form.fits;
         returns = subst (λ (x : Op). IsReturning (rule_of x).takes h s.operands) op (returning_alike (rule_of r.op).takes r.operands s.operands pair.operands form.returns);
@@ -156,7 +156,7 @@ module _ (g h : L.Function) (alike : FunctionsAlike g h) (here : IsDistinctList 
   placed_form : (a b : ℕ) (p q : Placed) → SameBlock g h a b → PlacedAlike g h p q → IsFormPlaced g a p → IsFormPlaced h b q
   placed_form a b p q at pair form = record {
     instruction = subst (λ (t : TypeTree). IsFormInstruction h b t q.instruction) pair.type (form_alike a b p.type p.instruction q.instruction at pair.code form.instruction);
-    held = subst IsHeldResult pair.type form.held;
+    returned = subst IsReturned pair.type form.returned;
     name = subst IsGoodOrNone pair.name form.name;
     unnamed = λ void. sym pair.name ∙ form.unnamed (pair.type ∙ void);
   }

@@ -3,8 +3,8 @@ use Rattle.std.proofs.Common.{◌≡◌, ℕ, List, [], ◌∷◌, map, slice_ge
 use Rattle.std.specs.Option.{option_map_or}
 use Rattle.std.proofs.lemmas.Bool.{cond_both}
 use Rattle.kinds.specs.Types.{TypeTree, VoidType}
-use Rattle.kinds.specs.Held.{is_void, IsHeld}
-use Rattle.kinds.proofs.HeldLaws.{void_is, held_own}
+use Rattle.kinds.specs.Held.{is_void, IsFirstClass}
+use Rattle.kinds.proofs.HeldLaws.{void_is, first_class_own}
 use Rattle.llvm_core.specs.Data.{Operand, RowData, Instruction, Phi, Applied, Placed, Function, operand_type, placed_in}
 use Rattle.llvm_core.specs.Form.{IsOperand, IsOperandOf, IsTarget, types_of, IsFormRow, IsFormInstruction, IsFormPlaced}
 use Rattle.kinds.specs.Names.{IsGoodOrNone}
@@ -36,11 +36,11 @@ phi_said f h b type es form =
 row_said : (f : Function) → IsSayable f → (type : TypeTree) (r : RowData) → IsFormRow f type r → instruction (scope_of f) (inst_of f type (Applied r)) ≡ Some (Applied r)
 row_said f h type r form = rw (operands, targets, types_said f r.operands, form.fits) refl
   where
-    held_at : (i : ℕ) (o : Operand) → slice_get r.operands i ≡ Some o → IsHeld (operand_type f o)
-    held_at i o at = within_at (types_of f r.operands) IsHeld form.held i (operand_type f o) (slice_get-map (operand_type f) r.operands i ∙ ap (option_map (operand_type f)) at)
+    first_class_at : (i : ℕ) (o : Operand) → slice_get r.operands i ≡ Some o → IsFirstClass (operand_type f o)
+    first_class_at i o at = within_at (types_of f r.operands) IsFirstClass form.first_class i (operand_type f o) (slice_get-map (operand_type f) r.operands i ∙ ap (option_map (operand_type f)) at)
 
     operands : all_of (λ (x : Typed). operand (scope_of f) x.type x.said) (map (typed_of f) r.operands) ≡ Some r.operands
-    operands = all_of-map (λ (x : Typed). operand (scope_of f) x.type x.said) (typed_of f) r.operands (λ i o at. operand_said f h o (within_at r.operands (IsOperandOf f) form.operands i o at) (held_own (operand_type f o) (held_at i o at)))
+    operands = all_of-map (λ (x : Typed). operand (scope_of f) x.type x.said) (typed_of f) r.operands (λ i o at. operand_said f h o (within_at r.operands (IsOperandOf f) form.operands i o at) (first_class_own (operand_type f o) (first_class_at i o at)))
 
     targets : all_of (block_of (scope_of f)) (map (block_ref f) r.targets) ≡ Some r.targets
     targets = all_of-map (block_of (scope_of f)) (block_ref f) r.targets (λ i n at. block_said f h n (target_block f n (within_at r.targets (IsTarget f) form.targets i n at)))

@@ -5,7 +5,7 @@ use Rattle.std.proofs.lemmas.Option.{slice_get-get_or}
 use Rattle.kinds.specs.Types.{TypeTree, VoidType}
 use Rattle.kinds.specs.Held.{is_void}
 use Rattle.kinds.proofs.TypeLaws.{tree_self}
-use Rattle.kinds.proofs.HeldLaws.{held_own}
+use Rattle.kinds.proofs.HeldLaws.{first_class_own}
 use Rattle.kinds.specs.Names.{IsGoodOrNone}
 use Rattle.llvm_core.specs.Data.{Operand, Constant, Parameter, Result, Placed, Block, Function, operand_type, placed_in, param_type, const_type}
 use Rattle.llvm_core.specs.Form.{IsOperandOf, IsOperand, IsFormBlock}
@@ -75,6 +75,6 @@ block_said f h n has = subst (λ (k : ℕ). block_of (scope_of f) (block_ref f k
 -- an entry of a phi
 pub entry_said : (f : Function) → IsSayable f → (τ : TypeTree) (e : Operand × ℕ) → IsOperand f τ e.0 → HasBlockNumber e.1 f.blocks → entry (scope_of f) τ (entry_of f e) ≡ Some e
 entry_said f h τ e op has =
-    let valued : is_void (operand_type f e.0) ≡ false = ap is_void op.typed ∙ held_own τ op.held in
+    let valued : is_void (operand_type f e.0) ≡ false = ap is_void op.typed ∙ first_class_own τ op.first_class in
     let value : operand (scope_of f) τ (said_of f e.0) ≡ Some e.0 = subst (λ (υ : TypeTree). operand (scope_of f) υ (said_of f e.0) ≡ Some e.0) op.typed (operand_said f h e.0 op.stands valued) in
     rw (value, block_said f h e.1 has) refl

@@ -8,8 +8,8 @@ use Rattle.kinds.specs.declared.op.Op.{Op}
 use Rattle.kinds.specs.declared.rules.Gives.{Gives}
 use Rattle.kinds.specs.declared.rules.Gives.TheVariants as G
 use Rattle.kinds.specs.Types.{TypeTree, VoidType, IntType, shape, same_tree}
-use Rattle.kinds.specs.Held.{is_void, own_type, IsHeld}
-use Rattle.kinds.proofs.HeldLaws.{void_is, own_of, value_own, held_own}
+use Rattle.kinds.specs.Held.{is_void, own_type, IsFirstClass}
+use Rattle.kinds.proofs.HeldLaws.{void_is, own_of, value_own, first_class_own}
 use Rattle.kinds.specs.Table.{rule_of}
 use Rattle.kinds.specs.Fitting.{is_written, takes_fit}
 use Rattle.kinds.specs.Typing.{fits_trees, given, typed}
@@ -55,10 +55,10 @@ types_said f (o ∷ os) = ap (λ (ts : List TypeTree). types_of f (o ∷ []) ++ 
 row_type : (f : Function) (type : TypeTree) (r : RowData) → IsFormRow f type r → result_type (inst_of f type (Applied r)) ≡ own_type type
 row_type f type r form =
     let ts = types_of f r.operands in
-    let valued : AreValued ts = λ i τ at. held_own τ (within_at ts IsHeld form.held i τ at) in
+    let valued : AreValued ts = λ i τ at. first_class_own τ (within_at ts IsFirstClass form.first_class i τ at) in
     ap (typed r.op r.written) (types_said f r.operands) ∙ typed_back r.op r.written ts form.fits valued ∙ ap own_type (sym form.result)
 
 -- a line gives what the instruction does
 pub type_said : (f : Function) (b : ℕ) (type : TypeTree) (i : Instruction) → IsFormInstruction f b type i → result_type (inst_of f type i) ≡ own_type type
-type_said f b type (Phi entries) form = sym (own_of type (held_own type form.2))
+type_said f b type (Phi entries) form = sym (own_of type (first_class_own type form.2))
 type_said f b type (Applied r) form = row_type f type r form

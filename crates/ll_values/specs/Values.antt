@@ -4,8 +4,7 @@ use Rattle.std.specs.Option.{option_map}
 use Rattle.kinds.specs.declared.op.OverflowFlags.{OverflowFlags}
 use Rattle.kinds.specs.declared.op.Op.{Op}
 use Rattle.kinds.specs.declared.op.Op.TheVariants as O
-use Rattle.kinds.specs.declared.types.Floating.{Floating}
-use Rattle.kinds.specs.Types.{TypeTree, VoidType, IntType, PointerType, FloatingType}
+use Rattle.kinds.specs.Types.{TypeTree, VoidType, IntType, PointerType}
 use Rattle.llvm_core.specs.Data.{IntConst}
 use Rattle.ll_literals.specs.Chain.{◌>>=◌}
 use Rattle.ll_literals.specs.Numbers.{number_of, up_to, width_of}
@@ -21,7 +20,7 @@ use Rattle.ll_values.specs.declared.form.RowKind.{RowKind}
 use Rattle.ll_values.specs.declared.form.RowKind.TheVariants as R
 use Rattle.ll_values.specs.declared.form.TypedKind.{TypedKind}
 use Rattle.ll_values.specs.declared.form.TypedKind.TheVariants as T
-use Rattle.ll_values.specs.Words.{binary_op, cast_op, three_op, predicate_of, floating_of, no_wraps}
+use Rattle.ll_values.specs.Words.{binary_op, cast_op, three_op, predicate_of, flat_type, no_wraps}
 
 -- a literal as it is written: its type is known from what it stands in
 pub data Literal : Type 0 where
@@ -174,7 +173,7 @@ typed_by T.Void [] = Some (TypeV VoidType)
 typed_by T.Int (TextV t ∷ []) = option_map TypeV (int_type t)
 typed_by T.Pointer (NoneV ∷ []) = Some (TypeV (PointerType 0))
 typed_by T.Pointer (SpaceV n ∷ []) = Some (TypeV (PointerType n))
-typed_by T.Flat (TextV t ∷ []) = option_map (λ (f : Floating). TypeV (FloatingType f)) (floating_of t)
+typed_by T.Flat (TextV t ∷ []) = option_map TypeV (flat_type t)
 typed_by T.Typed (TypeV τ ∷ LiteralV ℓ ∷ []) = option_map TypedV (typed τ ℓ)
 typed_by T.Pair (TypeV τ ∷ LiteralV ℓ ∷ LiteralV r ∷ []) = typed τ ℓ >>= λ x. typed τ r >>= λ y. Some (PairV x y)
 typed_by T.Phi (TypeV τ ∷ EntryV e ∷ EntriesV es ∷ []) = incoming τ (e ∷ es) >>= λ xs. Some (InstV (Phi τ xs))

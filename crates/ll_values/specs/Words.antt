@@ -8,8 +8,11 @@ use Rattle.kinds.specs.declared.op.LLVMIntPredicate.TheVariants as P
 use Rattle.kinds.specs.declared.op.OverflowFlags.{OverflowFlags}
 use Rattle.kinds.specs.declared.op.Op.{Op}
 use Rattle.kinds.specs.declared.op.Op.TheVariants as O
-use Rattle.kinds.specs.declared.types.Floating.{Floating}
 use Rattle.kinds.specs.declared.types.Floating.TheVariants as F
+use Rattle.kinds.specs.declared.types.OtherType.TheVariants as X
+use Rattle.kinds.specs.Types.{TypeTree, FloatingType, RefusedType}
+use Rattle.ll_values.specs.declared.words.Flat.{Flat as FlatWord}
+use Rattle.ll_values.specs.declared.words.Flat.TheVariants as W
 use Rattle.ll_lines.specs.Lines.{Text}
 
 abbrev pub no_wraps : OverflowFlags
@@ -48,9 +51,16 @@ predicate_rows =
 abbrev pub predicate_of : Text → Option LLVMIntPredicate
 predicate_of word = lookup (bytes_eq word) predicate_rows
 
--- floating-point types
-abbrev pub floating_rows : List (Text × Floating)
-floating_rows = (codes "half", F.Half) ∷ (codes "bfloat", F.BFloat) ∷ (codes "float", F.Float) ∷ (codes "double", F.Double) ∷ []
+-- types that are a word alone
+abbrev pub flat_rows : List (Text × TypeTree)
+flat_rows =
+    (codes "half", FloatingType F.Half) ∷ (codes "bfloat", FloatingType F.BFloat) ∷ (codes "float", FloatingType F.Float) ∷ (codes "double", FloatingType F.Double)
+    ∷ (codes "x86_fp80", RefusedType X.X86Fp80) ∷ (codes "fp128", RefusedType X.Fp128) ∷ (codes "ppc_fp128", RefusedType X.PpcFp128)
+    ∷ (codes "x86_amx", RefusedType X.X86Amx) ∷ (codes "token", RefusedType X.Token) ∷ []
 
-abbrev pub floating_of : Text → Option Floating
-floating_of word = lookup (bytes_eq word) floating_rows
+abbrev pub flat_tree : FlatWord → TypeTree
+flat_tree (W.Floating of) = FloatingType of
+flat_tree (W.Other of) = RefusedType of
+
+abbrev pub flat_type : Text → Option TypeTree
+flat_type word = lookup (bytes_eq word) flat_rows

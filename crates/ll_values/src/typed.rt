@@ -21,7 +21,7 @@ use crate::stack::Stack;
 use crate::store::Store;
 use crate::value::{Entry, Literal, Value};
 use crate::value_err::ValueErr;
-use crate::words::{floating_of, int_width};
+use crate::words::{flat_kind, flat_of, int_width};
 use ll_lines::lines::{Incoming, Said, Typed};
 use llvm_core::module::LLVMModule;
 use llvm_core::numbers::LLVMType;
@@ -46,7 +46,7 @@ fn plan_type(m: &LLVMModule, store: &Store, bytes: &[u8], kind: TypedKind, parts
             [Value::Space(space)] => Some(LLVMTypeKind::Ptr(space)),
             _ => None,
         },
-        TypedKind::Flat => match *parts { [Value::Text(n)] => Some(LLVMTypeKind::Floating(floating_of(n.text(bytes))?)), _ => None },
+        TypedKind::Flat => match *parts { [Value::Text(n)] => Some(flat_kind(flat_of(n.text(bytes))?)), _ => None },
         TypedKind::Typed => None,
         TypedKind::Pair => None,
         TypedKind::Phi => None,

@@ -1,15 +1,18 @@
 //! Words of instructions, and types and literals as tokens write them.
 
-ghost use Rattle.std.specs.Prelude.{◌≡◌, ◌≤◌, ◌-◌, ◌^◌, IfSome};
+ghost use Rattle.std.specs.Prelude.{◌≡◌, ◌≤◌, ◌-◌, ◌^◌, IfSome, ℕ, List};
 ghost use Rattle.std.specs.Option.{option_map};
-ghost use Rattle.kinds.specs.Types.{IntType};
+ghost use Rattle.kinds.specs.Types.{IntType, TypeTree};
+ghost use Rattle.llvm_core.specs.Data.{type_tree};
+ghost use Rattle.llvm_core.specs.Parts.{IsTypeOver};
 ghost use Rattle.ll_literals.specs.Numbers.{number_of, up_to};
-ghost use Rattle.ll_values.specs.Words.{binary_op, cast_op, three_op, predicate_of, floating_of};
+ghost use Rattle.ll_values.specs.Words.{binary_op, cast_op, three_op, predicate_of, flat_tree, flat_type};
 ghost use Rattle.ll_values.specs.Values.{int_type};
 
 use kinds::op::{LLVMIntPredicate, Op, OverflowFlags};
-use kinds::types::Floating;
+use kinds::types::{Floating, OtherType};
 use ll_literals::numbers::number;
+use llvm_core::types::LLVMTypeKind;
 
 /// The row of a word of an operation on two values of one type.
 pub fn binary_op(word: &[u8], flags: OverflowFlags) -> Option<Op>
@@ -71,23 +74,56 @@ pub fn predicate(word: &[u8]) -> Option<LLVMIntPredicate>
     }
 }
 
-/// The floating-point type of a word.
-pub fn floating_of(word: &[u8]) -> Option<Floating>
-    ensures { result ≡ floating_of word.now }
+/// A type that is a word alone.
+#[derive(Clone, Copy, PartialEq, Eq, Debug, Drop)]
+pub enum Flat {
+    Floating(Floating),
+    Other(OtherType),
+}
+
+/// The type that a word is alone.
+pub fn flat_of(word: &[u8]) -> Option<Flat>
+    ensures { option_map flat_tree result ≡ flat_type word.now }
 {
     if word == b"half".as_slice() {
-        return Some(Floating::Half);
+        return Some(Flat::Floating(Floating::Half));
     }
     if word == b"bfloat".as_slice() {
-        return Some(Floating::BFloat);
+        return Some(Flat::Floating(Floating::BFloat));
     }
     if word == b"float".as_slice() {
-        return Some(Floating::Float);
+        return Some(Flat::Floating(Floating::Float));
     }
     if word == b"double".as_slice() {
-        return Some(Floating::Double);
+        return Some(Flat::Floating(Floating::Double));
+    }
+    if word == b"x86_fp80".as_slice() {
+        return Some(Flat::Other(OtherType::X86Fp80));
+    }
+    if word == b"fp128".as_slice() {
+        return Some(Flat::Other(OtherType::Fp128));
+    }
+    if word == b"ppc_fp128".as_slice() {
+        return Some(Flat::Other(OtherType::PpcFp128));
+    }
+    if word == b"x86_amx".as_slice() {
+        return Some(Flat::Other(OtherType::X86Amx));
+    }
+    if word == b"token".as_slice() {
+        return Some(Flat::Other(OtherType::Token));
     }
     None
+}
+
+/// The kind of such a type.
+pub fn flat_kind(flat: Flat) -> LLVMTypeKind
+    ensures tree { (ts : List TypeTree) → type_tree ts result ≡ flat_tree flat }
+    ensures over { (n : ℕ) → IsTypeOver n result }
+{
+    match flat {
+        Flat::Floating(of) => LLVMTypeKind::Floating(of),
+        Flat::Other(of) => LLVMTypeKind::Other(of),
+    }
 }
 
 /// The greatest number of an address space, 2^24 - 1.

@@ -5,8 +5,7 @@ use Rattle.std.specs.List.{flat_map, AllByRecursion}
 use Rattle.std.specs.Str.{is_utf8}
 use Rattle.std.proofs.lemmas.List.Elements.{recursion_from_All}
 use Rattle.kinds.specs.Types.{TypeTree, TypeTrees, NoTypes, ThenType, types_list, count_types, result_of}
-use Rattle.kinds.specs.Held.{IsFirstClass, IsReturned, IsHeld}
-use Rattle.kinds.proofs.HeldLaws.{held_first_class, held_result_returned}
+use Rattle.kinds.specs.Held.{IsFirstClass, IsReturned}
 use Rattle.llvm_core.specs.Checked.{ends_in_only}
 use Rattle.llvm_core.specs.Data.{Placed, Block, Function, ModuleData, nth_type, param_type}
 use Rattle.llvm_core.specs.Form.{is_last, IsFormPlaced, IsFormBlock}
@@ -25,10 +24,10 @@ use Rattle.ll_written.proofs.LineForms.{line_form}
 
 -- ---- parameters
 
-nth_held : (ts : TypeTrees) (i : ℕ) → AllByRecursion IsHeld (types_list ts) → i < count_types ts → IsHeld (nth_type ts i)
-nth_held NoTypes i all within = absurd (omega arith)
-nth_held (ThenType t ts) zero all within = all.0
-nth_held (ThenType t ts) (suc i) all within = nth_held ts i all.1 (omega (arith, within))
+nth_first_class : (ts : TypeTrees) (i : ℕ) → AllByRecursion IsFirstClass (types_list ts) → i < count_types ts → IsFirstClass (nth_type ts i)
+nth_first_class NoTypes i all within = absurd (omega arith)
+nth_first_class (ThenType t ts) zero all within = all.0
+nth_first_class (ThenType t ts) (suc i) all within = nth_first_class ts i all.1 (omega (arith, within))
 
 all_then : {A : Type 0} (Q : A → Type 0) (xs ys : List A) → AllByRecursion Q xs → AllByRecursion Q ys → AllByRecursion Q (xs ++ ys)
 all_then Q [] ys h k = k
@@ -38,8 +37,8 @@ module _ (f : Function) (sayable : IsSayable f) where
   type_form : (i : ℕ) → i < length f.params → IsFirstClass (param_type f.type i)
   type_form i within =
       let form = sayable.form in
-      let held = nth_held form.types i (recursion_from_All IsHeld (types_list form.types) form.takes) (omega (arith, within, form.params)) in
-      subst (λ (τ : TypeTree). IsFirstClass (param_type τ i)) (sym form.type) (held_first_class (nth_type form.types i) held)
+      let first_class = nth_first_class form.types i (recursion_from_All IsFirstClass (types_list form.types) form.takes) (omega (arith, within, form.params)) in
+      subst (λ (τ : TypeTree). IsFirstClass (param_type τ i)) (sym form.type) first_class
 
   params_form : (i : ℕ) (ns : List Text) → i + length ns ≤ length f.params → AllByRecursion IsGoodOrNone ns → AllByRecursion IsParam (params_of f i ns)
   params_form i [] within all = tt
@@ -81,7 +80,7 @@ module _ (f : Function) (sayable : IsSayable f) where
       let form = sayable.form in
       let blocks = recursion_from_All (IsFormBlock f) f.blocks form.blocks in
       record {
-        result = subst (λ (τ : TypeTree). IsReturned (result_of τ)) (sym form.type) (held_result_returned form.result form.returns);
+        result = subst (λ (τ : TypeTree). IsReturned (result_of τ)) (sym form.type) form.returns;
         name = global_form f.name form.name;
         params = params_form 0 f.params (omega arith) (recursion_from_All IsGoodOrNone f.params form.param_names);
         body = body_form f.blocks blocks;

@@ -7,7 +7,8 @@ use Rattle.std.specs.Str.{bytes_eq}
 use Rattle.std.proofs.lemmas.Bool.{and_parts, eqb-true}
 use Rattle.std.proofs.lemmas.Slice.Eq.{bytes_eq-Decides}
 use Rattle.kinds.specs.declared.types.Floating.{Floating}
-use Rattle.kinds.specs.Types.{FloatingType}
+use Rattle.kinds.specs.declared.types.OtherType.{OtherType}
+use Rattle.kinds.specs.Types.{TypeTree, FloatingType, RefusedType}
 use Rattle.ll_classes.specs.Llvm.{llvm_class}
 use Rattle.ll_lines.specs.Lines.{Text}
 use Rattle.ll_spacing.specs.Forms.{IsText, is_word}
@@ -15,8 +16,12 @@ use Rattle.ll_tokens.specs.declared.kinds.Kind.TheVariants.{Word}
 use Rattle.ll_values.specs.declared.form.Kind.TheVariants as K
 use Rattle.ll_values.specs.declared.form.TypedKind.TheVariants.{Flat}
 use Rattle.ll_values.specs.Values.{TextV, TypeV, value_by}
-use Rattle.ll_values.specs.Words.{floating_rows, floating_of}
-use Rattle.ll_written.specs.Printing.{floating_text}
+use Rattle.ll_values.specs.Words.{flat_rows, flat_type}
+use Rattle.ll_written.specs.Printing.{type_text}
+use Rattle.ll_written.specs.Rules as N
+use Rattle.ll_written.specs.Written.{token}
+use Rattle.ll_written.proofs.Productions as P
+use Rattle.ll_written.proofs.Productions.{Reads}
 use Rattle.ll_written.proofs.WordClasses.{flat}
 
 -- ---- what holds of each text of a table holds of a text that stands in it
@@ -36,24 +41,37 @@ found_passes {A} p t (r ∷ rs) x all found =
 abbrev is_flat : Text → Bool
 is_flat t = is_word t && nat_eq (llvm_class Word t) flat
 
-rows_flat : list_all (λ (r : Text × Floating). is_flat r.0) floating_rows ≡ true
+rows_flat : list_all (λ (r : Text × TypeTree). is_flat r.0) flat_rows ≡ true
 unfolding llvm_class
 rows_flat = refl
 
--- each type has its word in it
-word_again : (f : Floating) → floating_of (floating_text f) ≡ Some f
-word_again f = grind arith
+-- the type has its word in it
+abbrev pub IsFlat : TypeTree → Type 0
+IsFlat τ = flat_type (type_text τ) ≡ Some τ
 
-text_flat : (f : Floating) → (is_word (floating_text f) ≡ true) × (nat_eq (llvm_class Word (floating_text f)) flat ≡ true)
-text_flat f = and_parts (is_word (floating_text f)) (nat_eq (llvm_class Word (floating_text f)) flat) (found_passes is_flat (floating_text f) floating_rows f rows_flat (word_again f))
+pub floating_flat : (f : Floating) → IsFlat (FloatingType f)
+floating_flat f = grind arith
+
+pub other_flat : (o : OtherType) → IsFlat (RefusedType o)
+other_flat o = grind arith
+
+text_flat : (τ : TypeTree) → IsFlat τ → (is_word (type_text τ) ≡ true) × (nat_eq (llvm_class Word (type_text τ)) flat ≡ true)
+text_flat τ h = and_parts (is_word (type_text τ)) (nat_eq (llvm_class Word (type_text τ)) flat) (found_passes is_flat (type_text τ) flat_rows τ rows_flat h)
 
 -- ---- a type's word
 
-pub flat_word : (f : Floating) → IsText Word (floating_text f)
-flat_word f = IsText.word (floating_text f) (text_flat f).0
+pub flat_word : (τ : TypeTree) → IsFlat τ → IsText Word (type_text τ)
+flat_word τ h = IsText.word (type_text τ) (text_flat τ h).0
 
-pub flat_class : (f : Floating) → llvm_class Word (floating_text f) ≡ flat
-flat_class f = eqb-true (llvm_class Word (floating_text f)) flat (text_flat f).1
+flat_class : (τ : TypeTree) → IsFlat τ → llvm_class Word (type_text τ) ≡ flat
+flat_class τ h = eqb-true (llvm_class Word (type_text τ)) flat (text_flat τ h).1
 
-pub flat_again : (f : Floating) → value_by (K.Typed Flat) (TextV (floating_text f) ∷ []) ≡ Some (TypeV (FloatingType f))
-flat_again f = ap (option_map (λ (a : Floating). TypeV (FloatingType a))) (word_again f)
+flat_again : (τ : TypeTree) → IsFlat τ → value_by (K.Typed Flat) (TextV (type_text τ) ∷ []) ≡ Some (TypeV τ)
+flat_again τ h = ap (option_map TypeV) h
+
+-- and it says the type
+pub flat_says : (b : Text) (τ : TypeTree) → IsFlat τ → Reads N.type (TypeV τ) (token b Word (type_text τ) ∷ [])
+flat_says b τ h = P.type_flat b (type_text τ) (flat_class τ h) (flat_again τ h)
+
+pub flat_solid : (b : Text) (τ : TypeTree) → IsFlat τ → Reads N.solid (TypeV τ) (token b Word (type_text τ) ∷ [])
+flat_solid b τ h = P.solid_flat b (type_text τ) (flat_class τ h) (flat_again τ h)

@@ -4,7 +4,7 @@ use Rattle.std.specs.Prelude.{decimal}
 use Rattle.std.specs.Option.{option_map}
 use Rattle.std.proofs.lemmas.Bool.Decides.{nat_tests}
 use Rattle.std.proofs.lemmas.List.{append-nil}
-use Rattle.kinds.specs.Types.{TypeTree, VoidType, IntType, PointerType, FloatingType}
+use Rattle.kinds.specs.Types.{TypeTree, VoidType, IntType, PointerType, FloatingType, RefusedType}
 use Rattle.kinds.specs.Held.{IsFirstClass, IsReturned}
 use Rattle.kinds.proofs.HeldLaws.{first_class_value, first_class_int, first_class_pointer, returned_own, returned_if}
 use Rattle.ll_lines.specs.Lines.{Text}
@@ -20,12 +20,12 @@ use Rattle.ll_values.specs.declared.form.Kind.TheVariants as K
 use Rattle.ll_values.specs.declared.form.TypedKind.TheVariants.{Pointer}
 use Rattle.ll_values.specs.Values.{Value, NoneV, SpaceV, TypeV, value_by}
 use Rattle.ll_said.proofs.DecimalLaws.{IsDecimal-decimal}
-use Rattle.ll_written.specs.Printing.{floating_text, space_text, type_text}
+use Rattle.ll_written.specs.Printing.{space_text, type_text}
 use Rattle.ll_written.specs.Rules as N
 use Rattle.ll_written.specs.Written.{token, written_space, written_type}
 use Rattle.ll_written.proofs.Productions as P
 use Rattle.ll_written.proofs.Productions.{Reads}
-use Rattle.ll_written.proofs.FlatLaws.{flat_word, flat_class, flat_again}
+use Rattle.ll_written.proofs.FlatLaws.{floating_flat, other_flat, flat_word, flat_says, flat_solid}
 use Rattle.ll_written.proofs.FreeLaws.{AreFree, word_free, sign_close}
 use Rattle.ll_written.proofs.NumberForms.{decimal_text, int_type_text}
 use Rattle.ll_written.proofs.TypeLaws.{small, small_space, int_class, int_width}
@@ -57,7 +57,8 @@ unfolding written_type
 result_says b VoidType h = P.type_void b refl
 result_says b (IntType n) h = let k = first_class_int n (returned_own (IntType n) h refl) in P.type_int b (105 ∷ decimal n) (int_class n k.1) (ap (option_map TypeV) (int_width n k.0 k.1))
 result_says b (PointerType n) h = P.type_pointer b (space_says n (first_class_pointer n (returned_own (PointerType n) h refl))) (pointer_again n)
-result_says b (FloatingType f) h = P.type_flat b (floating_text f) (flat_class f) (flat_again f)
+result_says b (FloatingType f) h = flat_says b (FloatingType f) (floating_flat f)
+result_says b (RefusedType o) h = flat_says b (RefusedType o) (other_flat o)
 result_says b τ h = absurd (let k = first_class_value τ (returned_own τ h refl) in cc)
 
 pub type_says : (b : Text) (τ : TypeTree) → IsFirstClass τ → Reads N.type (TypeV τ) (written_type b τ)
@@ -68,7 +69,8 @@ pub solid_says : (b : Text) (τ : TypeTree) → IsFirstClass τ → Reads N.soli
 unfolding written_type
 solid_says b (IntType n) h = let k = first_class_int n h in P.solid_int b (105 ∷ decimal n) (int_class n k.1) (ap (option_map TypeV) (int_width n k.0 k.1))
 solid_says b (PointerType n) h = P.solid_pointer b (space_says n (first_class_pointer n h)) (pointer_again n)
-solid_says b (FloatingType f) h = P.solid_flat b (floating_text f) (flat_class f) (flat_again f)
+solid_says b (FloatingType f) h = flat_solid b (FloatingType f) (floating_flat f)
+solid_says b (RefusedType o) h = flat_solid b (RefusedType o) (other_flat o)
 solid_says b τ h = absurd (let k = first_class_value τ h in cc)
 
 -- ---- their spacing
@@ -105,7 +107,8 @@ unfolding written_type
 result_spaced last b VoidType s h = (stands last b T.Word (codes "void") s (IsText.word (codes "void") refl), tt)
 result_spaced last b (IntType n) s h = (stands last b T.Word (105 ∷ decimal n) s (int_type_text n (small n (first_class_int n (returned_own (IntType n) h refl)).1)), tt)
 result_spaced last b (PointerType n) s h = (stands last b T.Word (codes "ptr") s (IsText.word (codes "ptr") refl), space_spaced (Some T.Word) n (first_class_pointer n (returned_own (PointerType n) h refl)))
-result_spaced last b (FloatingType f) s h = (stands last b T.Word (floating_text f) s (flat_word f), tt)
+result_spaced last b (FloatingType f) s h = (stands last b T.Word (type_text (FloatingType f)) s (flat_word (FloatingType f) (floating_flat f)), tt)
+result_spaced last b (RefusedType o) s h = (stands last b T.Word (type_text (RefusedType o)) s (flat_word (RefusedType o) (other_flat o)), tt)
 result_spaced last b τ s h = absurd (let k = first_class_value τ (returned_own τ h refl) in cc)
 
 -- behind a blank they may stand behind any token

@@ -8,7 +8,9 @@ use Rattle.kinds.specs.declared.op.Op.{Op}
 use Rattle.kinds.specs.declared.op.Op.TheVariants as O
 use Rattle.kinds.specs.declared.types.Floating.{Floating}
 use Rattle.kinds.specs.declared.types.Floating.TheVariants as F
-use Rattle.llvm_core.specs.Data.{TypeTree, VoidType, IntType, PointerType, FloatingType, FunctionType, ConstTree, IntConst, PlaceholderConst, Operand, Constant, Parameter, Result, Instruction, Phi, RowData, Applied, Placed, Block, Function, ModuleData, operand_type, param_type}
+use Rattle.kinds.specs.declared.types.OtherType.{OtherType}
+use Rattle.kinds.specs.declared.types.OtherType.TheVariants as X
+use Rattle.llvm_core.specs.Data.{TypeTree, VoidType, IntType, PointerType, FloatingType, RefusedType, FunctionType, ConstTree, IntConst, PlaceholderConst, Operand, Constant, Parameter, Result, Instruction, Phi, RowData, Applied, Placed, Block, Function, ModuleData, operand_type, param_type}
 use Rattle.kinds.specs.Types.{result_of}
 use Rattle.kinds.specs.Held.{is_void}
 use Rattle.ll_literals.specs.Text.{Text}
@@ -24,6 +26,14 @@ floating_text F.BFloat = codes "bfloat"
 floating_text F.Float = codes "float"
 floating_text F.Double = codes "double"
 
+-- the word of a type for which the dialect has none, a line for each
+abbrev pub other_text : OtherType → Text
+other_text X.X86Fp80 = codes "x86_fp80"
+other_text X.Fp128 = codes "fp128"
+other_text X.PpcFp128 = codes "ppc_fp128"
+other_text X.X86Amx = codes "x86_amx"
+other_text X.Token = codes "token"
+
 -- an address space behind `ptr`, of which the first is not written
 abbrev pub space_text : ℕ → Text
 space_text zero = []
@@ -35,6 +45,7 @@ type_text VoidType = codes "void"
 type_text (IntType w) = 105 ∷ decimal w
 type_text (PointerType space) = codes "ptr" ++ space_text space
 type_text (FloatingType of) = floating_text of
+type_text (RefusedType of) = other_text of
 type_text (FunctionType result params variadic) = []
 
 -- a number of a width in two's complement, printed signed

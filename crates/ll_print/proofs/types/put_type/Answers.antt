@@ -23,6 +23,11 @@ returns-in-Floating-clause-text c =
     ok_is _ _ _ _ _ c.put_floating.ensures.text
     (type_text-kind c.args.m.now c.args.ty _ c.requires.sound (rw c.in-Floating.is at c.type_kind.ensures.kind))
 
+pub returns-in-Other-clause-text : goal.returns-in-Other-clause-text
+returns-in-Other-clause-text c =
+    ok_is _ _ _ _ _ c.put_other.ensures.text
+    (type_text-kind c.args.m.now c.args.ty _ c.requires.sound (rw c.in-Other.is at c.type_kind.ensures.kind))
+
 pub returns-in-Function-clause-text : goal.returns-in-Function-clause-text
 returns-in-Function-clause-text c =
     put_is _ _ _ _ (sym (append-nil c.args.out.now.items)) (type_text-kind c.args.m.now c.args.ty _ c.requires.sound (rw c.in-Function.is at c.type_kind.ensures.kind))
