@@ -15,9 +15,9 @@ use Rattle.dialect_core.specs.declared.ops.Successor.{Successor}
 use Rattle.kinds.specs.declared.rules.Takes.{Takes}
 use Rattle.kinds.specs.declared.rules.Takes.TheVariants as O
 use Rattle.kinds.specs.Types.{result_of, params_of}
-use Rattle.kinds.specs.Held.{IsFirstClass, IsHeld, IsHeldResult, own_type}
+use Rattle.kinds.specs.Held.{IsFirstClass, IsReturned, IsHeld, own_type}
 use Rattle.kinds.specs.Table.{rule_of}
-use Rattle.kinds.proofs.HeldLaws.{held_first_class, held_result_own, int_held}
+use Rattle.kinds.proofs.HeldLaws.{first_class_own, returned_own, held_result_own, int_held}
 use Rattle.dialect_core.specs.Rules as R
 use Rattle.dialect_core.specs.Form as DF
 use Rattle.dialect_core.specs.Data.{DialectOp, DialectBlock, Func, Kind, llvm_name_of, value_type}
@@ -31,6 +31,7 @@ use Rattle.from_llvm_ir.proofs.ListLaws.{other_there}
 use Rattle.from_llvm_ir.proofs.RowLaws.{HaveTypes, if_own, first_class, all_typed, values_fit, values_give}
 use Rattle.from_llvm_ir.proofs.NameLaws.{good_own, kept_back}
 use Rattle.from_llvm_ir.proofs.OrderLaws.{ordered_at}
+use Rattle.from_llvm_ir.proofs.HeldLaws.{returns_held, takes_held, operand_held, result_held_at}
 use Rattle.from_llvm_ir.proofs.EndLaws.{ends_from, ends_filter, ends_as}
 use Rattle.from_llvm_ir.proofs.PassLaws.{inst_form, block_form, phi_is, phi_form, row_usable, operands_usable}
 use Rattle.from_llvm_ir.proofs.Whole.{IsWhole, Head, the_func, first_source, target_apart, source_at, entry, arg_typed, operand_typed}
@@ -76,7 +77,7 @@ module _ (n : Head) (k : Known) (cs : List DialectBlock) (h : IsWhole k cs) wher
   constant_form (PlaceholderConst q t) o s m = elim m [ ]
 
   value_form : (o : L.Operand) (w : Value) → Stands k o w → IsUsable g o → DF.IsHeldValue G w
-  value_form o w st f = (f.0, record { typed = operand_typed n k cs h f.0 o w st f.1; held = f.1.held })
+  value_form o w st f = (f.0, record { typed = operand_typed n k cs h f.0 o w st f.1; held = operand_held g h.form h.held f.0 o f.1 })
 
   values_form : (os : List L.Operand) (ws : List Value) → ((j : ℕ) (o : L.Operand) → slice_get os j ≡ Some o → IsUsable g o) → Matched (Stands k) os ws → All (DF.IsHeldValue G) ws
   values_form [] [] f m = All-nil _
@@ -115,24 +116,24 @@ module _ (n : Head) (k : Known) (cs : List DialectBlock) (h : IsWhole k cs) wher
   returning O.Return os ws f m = all_typed (value_type G) (result_of g.type) (LF.types_of g os) ws m (All-map (λ (t : TypeTree). t ≡ result_of g.type) (L.operand_type g) os f)
 
   row_kind : (m : ℕ) (p : Placed) (r : L.RowData) (ws : List Value) (ss : List Successor) (own : Option TypeTree) → LF.IsFormRow g p.type r → Matched (Stands k) r.operands ws → length ss ≡ length r.targets
-      → ((y : ℕ) (s : Successor) → slice_get ss y ≡ Some s → (t : ℕ) × EdgeAt k cs h m t s) → own ≡ own_type p.type → IsHeldResult p.type → R.IsRow (value_type G) G r.op ws own ss
-  row_kind m p r ws ss own f ops count each result held =
+      → ((y : ℕ) (s : Successor) → slice_get ss y ≡ Some s → (t : ℕ) × EdgeAt k cs h m t s) → own ≡ own_type p.type → IsReturned p.type → R.IsRow (value_type G) G r.op ws own ss
+  row_kind m p r ws ss own f ops count each result returned =
       let ts = LF.types_of g r.operands in
       let have = values_typed r.operands ws (row_usable g h.form p.type r f) ops in
       record {
-        values = first_class (value_type G) ts ws have f.held;
+        values = first_class (value_type G) ts ws have f.first_class;
         count = matched_length (Stands k) r.operands ws ops ∙ f.count;
-        fits = values_fit (value_type G) r.op r.written ts ws have f.fits p.type own f.held f.result result;
+        fits = values_fit (value_type G) r.op r.written ts ws have f.fits p.type own f.first_class f.result result;
         returns = returning (rule_of r.op).takes r.operands ws f.returns have;
-        result = values_give (value_type G) r.op r.written ts ws have f.fits p.type own f.held f.result result;
-        value = subst (λ (x : Option TypeTree). IfSome x IsFirstClass) (sym result) (if_own IsFirstClass p.type (λ e. held_first_class p.type (held_result_own p.type held e)));
+        result = values_give (value_type G) r.op r.written ts ws have f.fits p.type own f.first_class f.result result;
+        value = subst (λ (x : Option TypeTree). IfSome x IsFirstClass) (sym result) (if_own IsFirstClass p.type (returned_own p.type returned));
         leads = (count ∙ f.leads, all_from (R.IsEdge (value_type G) G) ss (λ y s at. let e = each y s at in edge_form m e.0 s e.1));
       }
 
   kind_form : (m : ℕ) (p : Placed) (i : L.Instruction) (κ : Kind) (ws : List Value) (ss : List Successor) (own : Option TypeTree) → LF.IsFormInstruction g m p.type i → IsKind i κ → Matched (Stands k) (LF.operands_of i) ws → length ss ≡ length (targets i)
-      → ((y : ℕ) (s : Successor) → slice_get ss y ≡ Some s → (t : ℕ) × EdgeAt k cs h m t s) → own ≡ own_type p.type → IsHeldResult p.type → R.IsOfKind (value_type G) G ws own ss κ
-  kind_form m p (L.Phi es) κ ws ss own f is ops count each result held = elim is [ ]
-  kind_form m p (L.Applied r) κ ws ss own f is ops count each result held = subst (R.IsOfKind (value_type G) G ws own ss) (sym is) (row_kind m p r ws ss own f ops count each result held)
+      → ((y : ℕ) (s : Successor) → slice_get ss y ≡ Some s → (t : ℕ) × EdgeAt k cs h m t s) → own ≡ own_type p.type → IsReturned p.type → R.IsOfKind (value_type G) G ws own ss κ
+  kind_form m p (L.Phi es) κ ws ss own f is ops count each result returned = elim is [ ]
+  kind_form m p (L.Applied r) κ ws ss own f is ops count each result returned = subst (R.IsOfKind (value_type G) G ws own ss) (sym is) (row_kind m p r ws ss own f ops count each result returned)
 
   row_form : (j : ℕ) (c : DialectBlock) (o : DialectOp) → RowAt k cs h j c o → DF.IsFormOp G o
   row_form j c o r =
@@ -140,10 +141,10 @@ module _ (n : Head) (k : Known) (cs : List DialectBlock) (h : IsWhole k cs) wher
       let v = r.row.converted in
       let edge : (y : ℕ) (s : Successor) → slice_get o.successors y ≡ Some s → (t : ℕ) × EdgeAt k cs h r.block.number t s = λ y s at. (let e = op_edge k cs h j y c o r s at in (e.0, e.2)) in
       record {
-        kind = kind_form r.block.number r.inst r.inst.instruction o.kind o.operands o.successors o.result f.instruction v.kind v.operands (matched_length (IsEdge k r.block.number) (targets r.inst.instruction) o.successors v.successors) edge v.result f.held;
+        kind = kind_form r.block.number r.inst r.inst.instruction o.kind o.operands o.successors o.result f.instruction v.kind v.operands (matched_length (IsEdge k r.block.number) (targets r.inst.instruction) o.successors v.successors) edge v.result f.returned;
         operands = values_form (LF.operands_of r.inst.instruction) o.operands (operands_usable g h.form r.block.number r.inst f r.other) v.operands;
         passed = all_from (λ (s : Successor). All (DF.IsHeldValue G) s.args) o.successors (λ y s at. let e = edge y s at in passed_form r.block.number e.0 s e.1);
-        result = subst (λ (x : Option TypeTree). IfSome x IsHeld) (sym v.result) (if_own IsHeld r.inst.type (held_result_own r.inst.type f.held));
+        result = subst (λ (x : Option TypeTree). IfSome x IsHeld) (sym v.result) (if_own IsHeld r.inst.type (held_result_own r.inst.type (result_held_at g h.held r.source r.block r.place r.inst r.at r.there)));
       }
 
   op_form : (j y : ℕ) (c : DialectBlock) (o : DialectOp) → slice_get cs j ≡ Some c → slice_get c.ops y ≡ Some o → DF.IsFormOp G o
@@ -158,10 +159,10 @@ module _ (n : Head) (k : Known) (cs : List DialectBlock) (h : IsWhole k cs) wher
   phi_held i b y p at here =
       let r = filter_from LF.is_phi b.instructions y p here in
       let es = phi_is p r.2 in
-      (phi_form g h.form i r.0 b p es.0 at r.1 es.1).2
+      held_result_own p.type (result_held_at g h.held i b r.0 p at r.1) (first_class_own p.type (phi_form g h.form i r.0 b p es.0 at r.1 es.1).2)
 
   args_form : (j i : ℕ) (b : L.Block) (c : DialectBlock) → slice_get g.blocks i ≡ Some b → IsConverted k (take j cs) j b c → All IsHeld c.args
-  args_form zero i b c at v = subst (All IsHeld) (sym (v.head.args ∙ ap params_of h.form.type)) h.form.takes
+  args_form zero i b c at v = subst (All IsHeld) (sym (v.head.args ∙ ap params_of h.form.type)) (takes_held g h.form h.held)
   args_form (suc j) i b c at v = subst (All IsHeld) (sym v.head.args) (All-map IsHeld (λ (p : Placed). p.type) (phis_of b) (all_from (λ (p : Placed). IsHeld p.type) (phis_of b) (λ y p here. phi_held i b y p at here)))
 
   pub constant_here : (i : ℕ) (o : DialectOp) → slice_get k.hoisted i ≡ Some o → (DF.is_constant o ≡ true) × (DF.is_terminator o ≡ false) × (o.successors ≡ []) × (o.operands ≡ [])
@@ -244,8 +245,8 @@ module _ (n : Head) (k : Known) (cs : List DialectBlock) (h : IsWhole k cs) wher
         result = h.form.result;
         types = h.form.types;
         type = h.form.type;
-        returns = h.form.returns;
-        takes = h.form.takes;
+        returns = returns_held g h.form h.held;
+        takes = takes_held g h.form h.held;
         linkage = refl;
         entry = e.0;
         more = body.0;

@@ -1,5 +1,5 @@
 -- A new function that keeps its LLVM name where its own is another.
-use Rattle.std.proofs.Common.{ℕ, ◌≡◌, ◌≤◌, ◌≢◌, refl, ap, ◌∙◌, true, false, if◌then◌else◌, nat_eq, List, [], ◌∷◌, ◌++◌, Some, None, All, length, map, arith, ne_eqb}
+use Rattle.std.proofs.Common.{ℕ, ◌≡◌, ◌≤◌, ◌≢◌, refl, ap, ◌∙◌, false, if◌then◌else◌, nat_eq, List, [], ◌∷◌, ◌++◌, Some, None, All, length, map, arith, ne_eqb}
 use Rattle.std.specs.Prelude.{slice_set}
 use Rattle.std.specs.Option.{option_and_then}
 use Rattle.std.specs.Str.{bytes_eq}

@@ -3,6 +3,7 @@ pub mod TypeLaws
 pub mod ListLaws
 pub mod NameLaws
 pub mod PlaceLaws
+pub mod HeldLaws
 pub mod OrderLaws
 pub mod ApartLaws
 pub mod OwnLaws
@@ -12,6 +13,7 @@ pub mod FuncLaws
 pub mod OpLaws
 pub mod UnderLaws
 pub mod SourceLaws
+pub mod RefusedLaws
 pub mod EntryLaws
 pub mod PassLaws
 pub mod TakenLaws

@@ -143,6 +143,7 @@ begun_with m old between new none root functions =
 -- what refuses a function refuses the module
 pub function_cause : (m : Module) (f : LLVMFunction) (g : L.Function) (e : ConversionErr) → IsSource m f g → IsRefusalOfFunction g e → IsCause (source_of m) e
 function_cause m f g (E.UndefinedValue name v) h refused = record { place = f.0; f = g; at = h.at; refused = refused }
+function_cause m f g (E.Unsupported u) h refused = absurd refused
 function_cause m f g E.NoMemory h refused = tt
 
 -- as many identifiers as functions

@@ -7,7 +7,7 @@ use Rattle.std.proofs.lemmas.List.{append-nil}
 use Rattle.std.proofs.lemmas.Option.{slice_get_within, same_Some, none-some, slice_get-map}
 use Rattle.support.proofs.ListLaws.{item_there, filter_from, filter_at}
 use Rattle.llvm_core.specs.Edges.{count_of}
-use Rattle.kinds.specs.Held.{IsHeld}
+use Rattle.kinds.specs.Held.{IsFirstClass}
 use Rattle.llvm_core.specs.Form as LF
 use Rattle.llvm_core.specs.Data as L
 use Rattle.llvm_core.specs.Data.{Placed, phi_entries, targets}
@@ -148,8 +148,8 @@ module _ (g : L.Function) (form : LF.IsFormFunction g) where
   -- each operand of what is no phi has a type
   pub row_usable : (type : L.TypeTree) (r : L.RowData) → LF.IsFormRow g type r → (j : ℕ) (o : L.Operand) → slice_get r.operands j ≡ Some o → IsUsable g o
   row_usable type r h j o at =
-      let held = within_at (LF.types_of g r.operands) IsHeld h.held j (L.operand_type g o) (slice_get-map (L.operand_type g) r.operands j ∙ ap (option_map (L.operand_type g)) at) in
-      (L.operand_type g o, record { stands = within_at r.operands (LF.IsOperandOf g) h.operands j o at; typed = refl; held = held })
+      let first_class = within_at (LF.types_of g r.operands) IsFirstClass h.first_class j (L.operand_type g o) (slice_get-map (L.operand_type g) r.operands j ∙ ap (option_map (L.operand_type g)) at) in
+      (L.operand_type g o, record { stands = within_at r.operands (LF.IsOperandOf g) h.operands j o at; typed = refl; first_class = first_class })
 
   pub operands_usable : (m : ℕ) (p : Placed) → LF.IsFormPlaced g m p → LF.is_phi p ≡ false → (j : ℕ) (o : L.Operand) → slice_get (LF.operands_of p.instruction) j ≡ Some o → IsUsable g o
   operands_usable m p h other j o at = by p.instruction h.instruction (no_phi_is p other) at

@@ -7,12 +7,12 @@ use Rattle.kinds.specs.declared.op.Op.{Op}
 use Rattle.kinds.specs.declared.rules.Gives.{Gives}
 use Rattle.kinds.specs.declared.rules.Gives.TheVariants as G
 use Rattle.kinds.specs.Types.{TypeTree, VoidType, shape, same_tree}
-use Rattle.kinds.specs.Held.{is_void, own_type, IsHeld}
+use Rattle.kinds.specs.Held.{is_void, own_type, IsFirstClass}
 use Rattle.kinds.specs.Table.{rule_of}
 use Rattle.kinds.specs.Fitting.{is_no_type, is_value_type, is_written, takes_fit}
 use Rattle.kinds.specs.Typing.{fits_trees, typed, given, written_for}
 use Rattle.kinds.proofs.TypeLaws.{and_left}
-use Rattle.kinds.proofs.HeldLaws.{own_of, value_own, held_own, held_first_class}
+use Rattle.kinds.proofs.HeldLaws.{own_of, value_own, first_class_own}
 use Rattle.dialect_core.specs.Rules as R
 use Rattle.dialect_core.specs.Rules.{Typing, type_nth, row_fits, row_result}
 use Rattle.dialect_core.specs.declared.ops.Value.{Value}
@@ -21,9 +21,9 @@ use Rattle.meaning.proofs.MatchedLaws.{matched_length}
 
 -- ---- the type of a result
 
--- it is there for a type that is translated
-pub held_is_own : (t : TypeTree) → IsHeld t → own_type t ≡ Some t
-held_is_own t h = own_of t (held_own t h)
+-- it is there for a type of a value
+pub first_class_is_own : (t : TypeTree) → IsFirstClass t → own_type t ≡ Some t
+first_class_is_own t h = own_of t (first_class_own t h)
 
 -- what holds of each type but void holds of it
 pub if_own : (P : TypeTree → Type 0) (t : TypeTree) → (is_void t ≡ false → P t) → IfSome (own_type t) P
@@ -39,19 +39,19 @@ none_from : (w : Option TypeTree) → is_no_type shape same_tree w ≡ true → 
 none_from None h = refl
 none_from (Some t) h = cc
 
-held_or_none : (a : Option TypeTree) → IfSome a IsHeld → own_type (unwrap_or a VoidType) ≡ a
-held_or_none None h = refl
-held_or_none (Some t) h = held_is_own t h
+first_class_or_none : (a : Option TypeTree) → IfSome a IsFirstClass → own_type (unwrap_or a VoidType) ≡ a
+first_class_or_none None h = refl
+first_class_or_none (Some t) h = first_class_is_own t h
 
 value_or_none : (w : Option TypeTree) → is_value_type shape same_tree w ≡ true → own_type (unwrap_or w VoidType) ≡ w
 value_or_none None h = refl
 value_or_none (Some t) h = own_of t (value_own t h)
 
 -- a result has the type that is given, and none where that is none
-given_from : (k : Gives) (w a b : Option TypeTree) → is_written shape same_tree k w ≡ true → IfSome a IsHeld → IfSome b IsHeld → own_type (unwrap_or (given k w a b) VoidType) ≡ given k w a b
+given_from : (k : Gives) (w a b : Option TypeTree) → is_written shape same_tree k w ≡ true → IfSome a IsFirstClass → IfSome b IsFirstClass → own_type (unwrap_or (given k w a b) VoidType) ≡ given k w a b
 given_from G.Nothing w a b h f s = refl
-given_from G.First w a b h f s = held_or_none a f
-given_from G.Second w a b h f s = held_or_none b s
+given_from G.First w a b h f s = first_class_or_none a f
+given_from G.Second w a b h f s = first_class_or_none b s
 given_from G.Written w a b h f s = value_or_none w h
 given_from G.Bit w a b h f s = refl
 
@@ -63,10 +63,10 @@ written_from G.Second w a b h = none_from w h
 written_from G.Written w a b h = refl
 written_from G.Bit w a b h = none_from w h
 
-held_nth : (ts : List TypeTree) (i : ℕ) → All IsHeld ts → IfSome (slice_get ts i) IsHeld
-held_nth [] i h = tt
-held_nth (t ∷ ts) zero h = All-head IsHeld t ts h
-held_nth (t ∷ ts) (suc i) h = held_nth ts i (All-tail IsHeld t ts h)
+first_class_nth : (ts : List TypeTree) (i : ℕ) → All IsFirstClass ts → IfSome (slice_get ts i) IsFirstClass
+first_class_nth [] i h = tt
+first_class_nth (t ∷ ts) zero h = All-head IsFirstClass t ts h
+first_class_nth (t ∷ ts) (suc i) h = first_class_nth ts i (All-tail IsFirstClass t ts h)
 
 -- ---- values that have types
 
@@ -82,11 +82,11 @@ module _ (types : Typing) where
   nth_same (t ∷ ts) (v ∷ vs) h zero = h.0
   nth_same (t ∷ ts) (v ∷ vs) h (suc i) = nth_same ts vs h.1 i
 
-  pub first_class : (ts : List TypeTree) (vs : List Value) → HaveTypes ts vs → All IsHeld ts → All (R.IsFirstClassBy types) vs
-  first_class [] [] h held = All-nil _
-  first_class [] (v ∷ vs) h held = elim h [ ]
-  first_class (t ∷ ts) [] h held = elim h [ ]
-  first_class (t ∷ ts) (v ∷ vs) h held = All-cons (R.IsFirstClassBy types) v vs (t, h.0, held_first_class t (All-head IsHeld t ts held)) (first_class ts vs h.1 (All-tail IsHeld t ts held))
+  pub first_class : (ts : List TypeTree) (vs : List Value) → HaveTypes ts vs → All IsFirstClass ts → All (R.IsFirstClassBy types) vs
+  first_class [] [] h all = All-nil _
+  first_class [] (v ∷ vs) h all = elim h [ ]
+  first_class (t ∷ ts) [] h all = elim h [ ]
+  first_class (t ∷ ts) (v ∷ vs) h all = All-cons (R.IsFirstClassBy types) v vs (t, h.0, All-head IsFirstClass t ts all) (first_class ts vs h.1 (All-tail IsFirstClass t ts all))
 
   pub all_typed : (type : TypeTree) (ts : List TypeTree) (vs : List Value) → HaveTypes ts vs → All (λ (t : TypeTree). t ≡ type) ts → All (λ (v : Value). types v ≡ Some type) vs
   all_typed type [] [] h are = All-nil _
@@ -106,11 +106,11 @@ module _ (types : Typing) where
     gives : typed op w ts ≡ given k w (slice_get ts 0) (slice_get ts 1)
     gives = ap (λ (t : Bool). if t then given k w (slice_get ts 0) (slice_get ts 1) else None) fits
 
-    module _ (type : TypeTree) (own : Option TypeTree) (held : All IsHeld ts) (is : type ≡ unwrap_or (typed op w ts) VoidType) (from : own ≡ own_type type) where
+    module _ (type : TypeTree) (own : Option TypeTree) (values : All IsFirstClass ts) (is : type ≡ unwrap_or (typed op w ts) VoidType) (from : own ≡ own_type type) where
       own_is : own ≡ given k w (slice_get ts 0) (slice_get ts 1)
       own_is =
           from ∙ ap own_type (is ∙ ap (λ (o : Option TypeTree). unwrap_or o VoidType) gives)
-          ∙ given_from k w (slice_get ts 0) (slice_get ts 1) written (held_nth ts 0 held) (held_nth ts 1 held)
+          ∙ given_from k w (slice_get ts 0) (slice_get ts 1) written (first_class_nth ts 0 values) (first_class_nth ts 1 values)
 
       written_is : written_for k own ≡ w
       written_is = ap (written_for k) own_is ∙ written_from k w (slice_get ts 0) (slice_get ts 1) written

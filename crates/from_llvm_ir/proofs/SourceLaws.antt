@@ -2,8 +2,8 @@
 use Rattle.std.proofs.Common.{ℕ, ◌≡◌, ◌<◌, refl, sym, ap, subst, ◌∙◌, List, [], ◌∷◌, Some, None, All, length, map, slice_get, get_or, Bool, false, if◌then◌else◌, arith}
 use Rattle.std.specs.Prelude.{is_some}
 use Rattle.std.specs.Option.{option_map}
-use Rattle.std.proofs.lemmas.List.Elements.{All-get_or, All-nil, All-cons, All-head, All-tail}
-use Rattle.std.proofs.lemmas.Option.{slice_get_within, same_Some, get_or_from_slice_get, slice_get-get_or}
+use Rattle.std.proofs.lemmas.List.Elements.{All-nil, All-cons, All-head, All-tail}
+use Rattle.std.proofs.lemmas.Option.{slice_get_within, same_Some, slice_get-get_or}
 use Rattle.support.proofs.ListLaws.{item_there}
 use Rattle.support.proofs.OptionLaws.{part_of}
 use Rattle.llvm_core.specs.declared.numbers.LLVMType.{LLVMType}
@@ -23,7 +23,7 @@ use Rattle.llvm_core.specs.Sound.{IsModule}
 use Rattle.llvm_core.specs.declared.code.LLVMValue.TheVariants as V
 use Rattle.llvm_core.specs.Parts.{is_phi, value_type, shape_of}
 use Rattle.llvm_core.specs.Form as LF
-use Rattle.llvm_core.specs.Form.{IsForm, IsFormFunction}
+use Rattle.llvm_core.specs.Form.{IsForm, IsFormFunction, IsHeldFunction, AreHeld}
 use Rattle.llvm_core.specs.Data.{TypeTree, FunctionType, TypeTrees, type_at, types_at, type_tree, trees_of, Function, function_of, Block, block_of, Placed, placed_of, Instruction, instruction_of, phi_entries, Trees, data_of}
 use Rattle.llvm_core.proofs.ApartLemmas.{apart}
 use Rattle.llvm_core.proofs.DataLemmas.{within_at, type_tree_of, function_at, function_count, block_count_of, block_of_number, inst_count_of, inst_of_number}
@@ -34,6 +34,7 @@ use Rattle.kinds.specs.Held.{is_void, own_type, IsHeld, IsHeldResult}
 use Rattle.kinds.specs.Fitting.{is_nothing}
 use Rattle.from_llvm_ir.specs.Source.{IsSource, IsTypeOf, IsBlockOf, IsInstOf, AreBlocksOf, AreInstsOf}
 use Rattle.from_llvm_ir.proofs.TypeLaws.{listed}
+use Rattle.from_llvm_ir.proofs.HeldLaws.{takes_held, returns_held, result_held_at}
 
 -- ---- functions
 
@@ -81,14 +82,14 @@ pub params_held : (m : Module) (f : LLVMFunction) (g : Function) (h : IsSource m
 params_held m f g h ty k r ps v has at is =
     let e = signature m f g h ty k has at in
     let same : types_at (trees_of m).types ps ≡ h.form.types = cc (e, ap (type_tree (trees_of m).types) is) in
-    all_held (trees_of m).types ps (subst (λ (ts : TypeTrees). All IsHeld (types_list ts)) (sym same) h.form.takes)
+    all_held (trees_of m).types ps (subst (λ (ts : TypeTrees). All IsHeld (types_list ts)) (sym same) (takes_held g h.form h.held))
 
 pub result_held : (m : Module) (f : LLVMFunction) (g : Function) (h : IsSource m f g) (ty : LLVMType) (k : LLVMTypeKind) (r : LLVMType) (ps : List LLVMType) (v : _) → option_map (λ (x : FunctionData). x.ty) (slice_get m.functions f.0) ≡ Some ty → slice_get m.types ty.0 ≡ Some k
     → k ≡ T.Function r ps v → (type_at (trees_of m).types r ≡ h.form.result) × IsHeldResult (type_at (trees_of m).types r)
 result_held m f g h ty k r ps v has at is =
     let e = signature m f g h ty k has at in
     let same : type_at (trees_of m).types r ≡ h.form.result = cc (e, ap (type_tree (trees_of m).types) is) in
-    (same, subst IsHeldResult (sym same) h.form.returns)
+    (same, subst IsHeldResult (sym same) (returns_held g h.form h.held))
 
 -- and stand before it
 pub parts_within : (m : Module) (ty : LLVMType) (r : LLVMType) (ps : List LLVMType) (v : _) → IsModule m → slice_get m.types ty.0 ≡ Some (T.Function r ps v) → (r.0 < length m.types) × All (λ (t : LLVMType). t.0 < length m.types) ps
@@ -206,13 +207,13 @@ function_named m k name lt has =
     let x = part_of (λ (y : FunctionData). y.name) (slice_get m.functions k) name has in
     (function_of (trees_of m) m.blocks m.insts (k, x.0), function_at m k x.0 x.1.0, sym x.1.1)
 
--- each function of a module of the form is a source
-pub source_at : (m : Module) (k : ℕ) → IsModule m → IsForm (data_of m) → k < length m.functions → (g : Function) × IsSource m (record { 0 = k }) g
-source_at m k sound form lt =
+-- each function of a module of the form is a source, where its types are held
+pub source_at : (m : Module) (k : ℕ) → IsModule m → IsForm (data_of m) → AreHeld (data_of m) → k < length m.functions → (g : Function) × IsSource m (record { 0 = k }) g
+source_at m k sound form held lt =
     let x = item_there m.functions k lt in
     let at = function_at m k x.0 x.1 in
     let g = function_of (trees_of m) m.blocks m.insts (k, x.0) in
-    (g, record { sound = sound; apart = apart m sound; at = at; form = subst IsFormFunction (get_or_from_slice_get (data_of m).functions k g g at) (All-get_or IsFormFunction (data_of m).functions k g (slice_get_within (data_of m).functions k g at) form) })
+    (g, record { sound = sound; apart = apart m sound; at = at; form = within_at (data_of m).functions IsFormFunction form k g at; held = within_at (data_of m).functions IsHeldFunction held k g at })
 
 -- the instruction at an index of the list of a block
 pub listed_at : (m : Module) (g : Function) (n : LLVMBasicBlock) (place : ℕ) (b : Block) (is : List LLVMInstRef) (k : ℕ) (d : LLVMInstRef) → IsModule m → IsBlockOf m g n place b → option_map (λ (x : BlockData). x.insts) (slice_get m.blocks n.0) ≡ Some is → k < length is → (p : Placed) × IsInstOf m b (get_or is k d) k p
@@ -247,7 +248,7 @@ type_of_inst m f g n place b i at p h of_block inst = record {
   row = inst.row;
   here = inst.here;
   is = ap (λ (q : Placed). q.type) inst.is;
-  held = (within_at b.instructions (LF.IsFormPlaced g b.number) (within_at g.blocks (LF.IsFormBlock g) h.form.blocks place b of_block.at).instructions at p inst.at).held;
+  held = result_held_at g h.held place b at p of_block.at inst.at;
 }
 
 -- the type that is read of an instruction

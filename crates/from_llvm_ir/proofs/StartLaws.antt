@@ -368,6 +368,7 @@ module _ (m : Module) (f : LLVMFunction) (fr : Frame) (c : ContextData) (values 
   pub whole : IsWhole k h.left
   whole = record {
     form = framed.source.form;
+    held = framed.source.held;
     order = framed.order;
     count = h.at ∙ all;
     numbered = under_left.numbered;

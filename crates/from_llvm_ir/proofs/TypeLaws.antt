@@ -1,5 +1,5 @@
 -- Types of the source and of the dialect.
-use Rattle.std.proofs.Common.{ℕ, ◌≡◌, ◌<◌, ◌≤◌, ◌+◌, List, [], ◌∷◌, ◌++◌, All, Some, Bool, true, false, filter, slice_get, length, map, take, get_or, refl, sym, ap, subst, ◌∙◌, arith}
+use Rattle.std.proofs.Common.{ℕ, ◌≡◌, ◌<◌, ◌≤◌, ◌+◌, List, [], ◌∷◌, ◌++◌, All, Some, Bool, true, false, ◌||◌, filter, slice_get, length, map, take, get_or, refl, sym, ap, subst, ◌∙◌, arith}
 use Rattle.std.proofs.lemmas.List.{map_push, take_all, map_more}
 use Rattle.std.proofs.lemmas.List.Elements.{All-weaker, All-push, All-nil, All-head, All-tail}
 use Rattle.llvm_core.specs.declared.numbers.LLVMType.{LLVMType}
@@ -8,7 +8,8 @@ use Rattle.llvm_core.specs.Form.{is_phi}
 use Rattle.dialect_types.specs.declared.types.TypeHandle.{TypeHandle}
 use Rattle.dialect_types.specs.Trees.{TypeTree, FunctionType, TypeTrees, NoTypes, ThenType, depth, depths, type_at, types_at, type_trees, AllBelow}
 use Rattle.dialect_core.specs.ContextData.{ContextData}
-use Rattle.kinds.specs.Types.{types_list, params_of}
+use Rattle.kinds.specs.Types.{types_list, params_of, shape}
+use Rattle.kinds.specs.Fitting.{is_held, is_nothing}
 use Rattle.kinds.specs.Held.{is_void, IsHeld, IsHeldResult}
 use Rattle.kinds.proofs.HeldLaws.{void_is, held_result_own}
 use Rattle.from_llvm_ir.proofs.PlaceLaws.{filter_next, filter_skip}
@@ -118,6 +119,13 @@ params_are trees ts ps h = list_one (types_at trees ts) ps (sym (listed_at trees
 pub all_below : (n : ℕ) (ts : List TypeHandle) → All (λ (t : TypeHandle). t.0 < n) ts → AllBelow n ts
 all_below n [] h = tt
 all_below n (t ∷ ts) h = (All-head (λ (x : TypeHandle). x.0 < n) t ts h, all_below n ts (All-tail (λ (x : TypeHandle). x.0 < n) t ts h))
+
+-- ---- types that are translated
+
+-- a test of their shapes tells them
+pub held_shape : (t : TypeTree) → IsHeldResult t → (is_nothing (shape t) || is_held (shape t)) ≡ true
+unfolding IsHeldResult
+held_shape t h = h
 
 -- ---- types that are translated nest little
 

@@ -7,7 +7,7 @@ use Rattle.meaning.proofs.MatchedLaws.{matched_at}
 use Rattle.support.proofs.ListLaws.{item_there, slice_get-kept}
 use Rattle.support.specs.Interned.{IsDistinctList}
 use Rattle.kinds.specs.Types.{types_list, count_types, params_of}
-use Rattle.kinds.specs.Held.{IsHeld}
+use Rattle.kinds.specs.Held.{IsFirstClass}
 use Rattle.llvm_core.specs.Form as LF
 use Rattle.llvm_core.specs.Data as L
 use Rattle.llvm_core.specs.Data.{ConstTree, IntConst, PlaceholderConst, VoidType, Placed, operand_type, placed_in}
@@ -22,13 +22,14 @@ use Rattle.from_llvm_ir.specs.Imported.{kept_name}
 use Rattle.from_llvm_ir.specs.Building.{AreNumbered, bare_func, ops_of}
 use Rattle.from_llvm_ir.specs.Known.{Known, Stands, IsConstantOp, beside, blocks_of, value_of}
 use Rattle.from_llvm_ir.specs.Converted.{IsConverted, AreConverted, IsFrom, FromArgument, FromResult, AreFrom}
-use Rattle.from_llvm_ir.proofs.RowLaws.{held_is_own}
+use Rattle.from_llvm_ir.proofs.RowLaws.{first_class_is_own}
 use Rattle.from_llvm_ir.proofs.PlaceLaws.{flat_at, flat_from, flat_same, found, number_apart}
 use Rattle.from_llvm_ir.proofs.OrderLaws.{ordered_length, ordered_at, ordered_apart}
 
 -- a function whose blocks are all filled
 pub record IsWhole (k : Known) (cs : List DialectBlock) : Type 0 where
   pub form : LF.IsFormFunction k.frame.source
+  pub held : LF.IsHeldFunction k.frame.source
   pub order : IsPlaces (length k.frame.source.blocks) k.frame.order
   pub count : length cs ≡ length (blocks_of k.frame)
   pub numbered : AreNumbered k.frame.base cs
@@ -168,9 +169,9 @@ module _ (n : Head) (k : Known) (cs : List DialectBlock) (h : IsWhole k cs) wher
       let i = op_at j y c o at here in
       ap (option_and_then (λ (x : DialectOp). x.result)) (found (λ (x : DialectOp). x.number) (ops_of cs) i.0 o o.number refl i.1 (λ a z at_z same. h.fresh a i.0 z o at_z i.1 same))
 
-  from_typed : (p : Placed) (w : Value) → IsFrom cs p w → IsHeld p.type → value_type G w ≡ Some p.type
-  from_typed p w (FromArgument j i c at is type) held = ap (value_type G) is ∙ arg_typed j i c (record { 0 = c.number }) p.type at refl type
-  from_typed p w (FromResult j y c o at here is type) held = ap (value_type G) is ∙ result_typed j y c o at here ∙ type ∙ held_is_own p.type held
+  from_typed : (p : Placed) (w : Value) → IsFrom cs p w → IsFirstClass p.type → value_type G w ≡ Some p.type
+  from_typed p w (FromArgument j i c at is type) h = ap (value_type G) is ∙ arg_typed j i c (record { 0 = c.number }) p.type at refl type
+  from_typed p w (FromResult j y c o at here is type) h = ap (value_type G) is ∙ result_typed j y c o at here ∙ type ∙ first_class_is_own p.type h
 
   -- ---- instructions by their numbers
 
@@ -206,7 +207,7 @@ module _ (n : Head) (k : Known) (cs : List DialectBlock) (h : IsWhole k cs) wher
       let number : b.item.number ≡ m = eqb-true b.item.number m b.passes in
       let here = source_placed b.place b.item b.here in
       let type : b.item.type ≡ t = sym (source_typed here.0 b.item here.1) ∙ ap (λ (x : ℕ). operand_type g (L.Result x)) number ∙ f.typed in
-      from_typed b.item w (h.from b.place b.item w b.here b.there) (subst IsHeld (sym type) f.held) ∙ ap (λ (x : L.TypeTree). Some x) type
+      from_typed b.item w (h.from b.place b.item w b.here b.there) (subst IsFirstClass (sym type) f.first_class) ∙ ap (λ (x : L.TypeTree). Some x) type
 
   -- ---- results
 

@@ -17,6 +17,7 @@ pub mod Importing
 pub mod Naming
 pub mod Walks
 pub mod Refusals
+pub mod Held
 pub mod Graph
 pub mod Uses
 pub mod Alone

@@ -1,11 +1,15 @@
 -- Why an import refuses a function, and a module.
 use Rattle.std.specs.Prelude.{ℕ, ◌≡◌, List, Some, All, slice_get}
+use Rattle.kinds.specs.Types.{TypeTree, RefusedType}
 use Rattle.llvm_core.specs.Data as L
+use Rattle.llvm_core.specs.Form.{value_types}
 use Rattle.llvm_core.specs.declared.numbers.LLVMInstRef.{LLVMInstRef}
 use Rattle.llvm_core.specs.declared.code.LLVMValue.{LLVMValue}
 use Rattle.llvm_core.specs.declared.code.LLVMValue.TheVariants as V
 use Rattle.from_llvm_ir.specs.declared.conversion_err.ConversionErr.{ConversionErr}
 use Rattle.from_llvm_ir.specs.declared.conversion_err.ConversionErr.TheVariants as E
+use Rattle.from_llvm_ir.specs.declared.conversion_err.Unsupported.{Unsupported}
+use Rattle.from_llvm_ir.specs.declared.conversion_err.Unsupported.TheVariants as U
 use Rattle.from_llvm_ir.specs.Imported.{name_in}
 use Rattle.from_llvm_ir.specs.Walks.{HasValidUses, IsUndefined}
 
@@ -16,9 +20,10 @@ pub record IsRefusedUse (f : L.Function) (name : List ℕ) (v : LLVMValue) : Typ
   pub undefined : IsUndefined f inst.0
   pub named : name ≡ name_in f inst.0
 
--- why a function is refused; want of memory needs no reason
+-- why a function is refused whose types are held; want of memory needs no reason
 abbrev pub IsRefusalOfFunction : L.Function → ConversionErr → Type 0
 IsRefusalOfFunction f (E.UndefinedValue name v) = IsRefusedUse f name v
+IsRefusalOfFunction f (E.Unsupported u) = ⊥
 IsRefusalOfFunction f E.NoMemory = Unit {0}
 
 -- a function of the module is refused for such a use
@@ -28,9 +33,22 @@ pub record HasUndefinedUse (d : L.ModuleData) (name : List ℕ) (v : LLVMValue) 
   pub at : slice_get d.functions place ≡ Some f
   pub refused : IsRefusedUse f name v
 
+-- a value of a function of the module has that type
+pub record HasType (d : L.ModuleData) (t : TypeTree) : Type 0 where
+  pub place : ℕ
+  pub f : L.Function
+  pub at : slice_get d.functions place ≡ Some f
+  pub index : ℕ
+  pub here : slice_get (value_types f) index ≡ Some t
+
+-- the module has what the dialect has nothing for
+abbrev pub IsUnsupported : L.ModuleData → Unsupported → Type 0
+IsUnsupported d (U.Ty of) = HasType d (RefusedType of)
+
 -- why an import refuses a module whose data are d; want of memory needs no reason
 abbrev pub IsCause : L.ModuleData → ConversionErr → Type 0
 IsCause d (E.UndefinedValue name v) = HasUndefinedUse d name v
+IsCause d (E.Unsupported u) = IsUnsupported d u
 IsCause d E.NoMemory = Unit {0}
 
 -- in each function each use is valid

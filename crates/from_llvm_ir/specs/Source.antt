@@ -17,19 +17,20 @@ use Rattle.llvm_core.specs.Sound.{IsModule}
 use Rattle.llvm_core.specs.Parts.{IsValue}
 use Rattle.llvm_core.specs.Data as L
 use Rattle.llvm_core.specs.Data.{Placed, trees_of, type_at, operand_of, placed_of, block_of, AreApart, data_of}
-use Rattle.llvm_core.specs.Form.{IsFormFunction, IsOperand, edges_between}
+use Rattle.llvm_core.specs.Form.{IsFormFunction, IsHeldFunction, IsOperand, edges_between}
 use Rattle.kinds.specs.Held.{IsHeldResult}
 use Rattle.meaning.specs.Llvm.{used}
 use Rattle.from_llvm_ir.specs.declared.entries.Entries.{Entries}
 use Rattle.from_llvm_ir.specs.contracts.entries.EntryPartialEq.TheImpl as keys
 use Rattle.from_llvm_ir.specs.Imported.{passed}
 
--- the function of that number is g, of the form
+-- the function of that number is g, of the form, and its types are held
 pub record IsSource (m : Module) (f : LLVMFunction) (g : L.Function) : Type 0 where
   pub sound : IsModule m
   pub apart : AreApart m
   pub at : slice_get (data_of m).functions f.0 ≡ Some g
   pub form : IsFormFunction g
+  pub held : IsHeldFunction g
 
 -- the block of that number stands at a place of g, and is b
 pub record IsBlockOf (m : Module) (g : L.Function) (n : LLVMBasicBlock) (place : ℕ) (b : L.Block) : Type 0 where

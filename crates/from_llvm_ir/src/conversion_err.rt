@@ -3,11 +3,19 @@
 ghost use Rattle.std.specs.Prelude.{◌≡◌};
 ghost use Rattle.from_llvm_ir.specs.declared.conversion_err.ConversionErr.TheVariants.{NoMemory};
 
+use kinds::types::OtherType;
 use llvm_core::code::LLVMValue;
 use std::alloc::{AllocError, AllocFailed};
 use std::fmt;
 use support::text::Text;
 use thiserror::Error;
+
+/// What the dialect has nothing for.
+#[derive(Clone, Copy, PartialEq, Eq, Debug, Drop)]
+pub enum Unsupported {
+    /// A type of a value of a function.
+    Ty(OtherType),
+}
 
 /// Why an import refuses a module.
 #[derive(Drop, Error)]
@@ -17,6 +25,9 @@ pub enum ConversionErr {
     /// in another block; or they share a block, and the definition is not ahead of the use.
     #[error("UndefinedValue")]
     UndefinedValue(Text, LLVMValue),
+    /// A part of the module for which the dialect has nothing.
+    #[error("Unsupported")]
+    Unsupported(Unsupported),
     /// Memory is wanting.
     #[error("NoMemory")]
     NoMemory,

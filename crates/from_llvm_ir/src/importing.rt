@@ -1,8 +1,8 @@
 //! LLVM module to dialect module.
 
-ghost use Rattle.std.specs.Prelude.{◌≡◌, ◌<◌, ◌≤◌, List, [], ◌∷◌, ℕ, IfErr, IfOk, OnOk, Some, length, map};
+ghost use Rattle.std.specs.Prelude.{◌≡◌, ◌<◌, ◌≤◌, List, [], ◌∷◌, ℕ, Err, IfErr, IfOk, OnOk, Some, length, map};
 ghost use Rattle.llvm_core.specs.Data.{data_of};
-ghost use Rattle.llvm_core.specs.Form.{IsForm};
+ghost use Rattle.llvm_core.specs.Form.{AreHeld, IsForm};
 ghost use Rattle.meaning.specs.Code.{SameCode, IsDistinctNames};
 ghost use Rattle.meaning.specs.Pairs.{Matched};
 ghost use Rattle.meaning.specs.Llvm as llvm;
@@ -18,11 +18,14 @@ ghost use Rattle.from_llvm_ir.specs.Importing.{IsImportedTo};
 ghost use Rattle.from_llvm_ir.specs.Keeping.{Keeps, AreOthersKept};
 ghost use Rattle.from_llvm_ir.specs.Naming.{ForLater, HasMet, HasMetFirst};
 ghost use Rattle.from_llvm_ir.specs.Refusals.{IsCause};
+ghost use Rattle.from_llvm_ir.specs.declared.conversion_err.ConversionErr.TheVariants as refusals;
+ghost use Rattle.from_llvm_ir.specs.declared.conversion_err.Unsupported.{Unsupported};
 ghost use Rattle.from_llvm_ir.specs.Building.{module_named};
 
 use crate::building::add_bare_block;
 use crate::conversion_err::ConversionErr;
 use crate::functions::import_function;
+use crate::held::check_held;
 use crate::matching::FunctionBlocks;
 use dialect_core::context::Context;
 use dialect_core::few::has_few;
@@ -73,6 +76,7 @@ fn import_functions<L: Ledger>(
     steps: &mut Steps<L>,
 ) -> Result<Items<FunctionBlocks>, ConversionErr>
     requires form { IsForm (data_of source.now) }
+    requires held { AreHeld (data_of source.now) }
     requires building { (m : ℕ) × (name : List ℕ) × IsBuilding ctx.old m body (module_named name) }
     ensures err { IfErr result (λ e. IsCause (data_of source.now) e) }
     ensures ok { IfOk result (λ bs. (m : ℕ) → (name : List ℕ) → IsBuilding ctx.old m body (module_named name) → ForLater names.new (λ given. IsImportedTo (data_of source.now) given (length source.now.functions) ctx.new m body name bs)) }
@@ -133,6 +137,7 @@ fn import_counted<L: Ledger>(
     requires some { 0 < L.parts }
     requires names { names.old ≡ [] }
     requires form { IsForm (data_of source.now) }
+    requires held { AreHeld (data_of source.now) }
     ensures imported { IfOk result (λ i. IsImported (data_of source.now) ctx.new i) }
     ensures number { IfOk result (λ i. i.«module».0.0 ≡ length ctx.old.ops) }
     ensures structs { IfOk result (λ i. i.structs.items ≡ []) }
@@ -175,7 +180,8 @@ fn make_room(ctx: &mut Context, source: &LLVMModule)
 /// The context may be any. All that it held stays, whatever is answered: its types, its operations and where they stand,
 /// its blocks and what they list. Where its numbers of types are there, they stay there, and each of its modules has the
 /// data that it had. After a refusal the context may hold more operations, blocks and types.
-/// Refuses a function that uses the result of an instruction where it is not defined: `UndefinedValue`.
+/// Refuses a module that has values of a type for which the dialect has none, `Unsupported`, and leaves the context as it
+/// was; and a function that uses the result of an instruction where it is not defined: `UndefinedValue`.
 pub fn convert_module(
     alloc: Global,
     ctx: &mut Context,
@@ -186,10 +192,13 @@ pub fn convert_module(
     ensures same { IsDistinctNames (map (λ g. g.name) (data_of «module».now).functions) → IfOk result (λ i. SameCode (match_of (data_of «module».now) i.blocks) (llvm.code_of (data_of «module».now)) (dialect.code_of (imported_data ctx.new i))) }
     ensures number { IfOk result (λ i. i.«module».0.0 ≡ length ctx.old.ops) }
     ensures structs { IfOk result (λ i. i.structs.items ≡ []) }
+    ensures held { IfOk result (λ i. AreHeld (data_of «module».now)) }
     ensures cause { IfErr result (λ e. IsCause (data_of «module».now) e) }
+    ensures still { (u : Unsupported) → result ≡ Err (refusals.Unsupported u) → ctx.new ≡ ctx.old }
     ensures others { AreOthersKept ctx.old ctx.new }
     ensures typed { IsTyped ctx.old → IsTyped ctx.new }
 {
+    check_held(module)?;
     make_room(ctx, module);
     let mut names = Legaliser::new(alloc);
     import_counted::<Brand>(alloc, ctx, &mut names, module, Blank::new(1))

@@ -3,9 +3,16 @@
 ghost use Rattle.std.specs.Prelude.{ℕ, List};
 ghost use Rattle.llvm_core.specs.declared.code.LLVMValue.{LLVMValue};
 ghost use Rattle.llvm_core.specs.Data.{ModuleData};
-ghost use Rattle.from_llvm_ir.specs.Refusals.{HasUndefinedUse, IsValid};
+ghost use Rattle.llvm_core.specs.Form.{AreHeld};
+ghost use Rattle.from_llvm_ir.specs.declared.conversion_err.Unsupported.{Unsupported};
+ghost use Rattle.from_llvm_ir.specs.Refusals.{HasUndefinedUse, IsUnsupported, IsValid};
 
 /// A module whose uses are valid has none that is refused.
 pub fn valid_law()
     ensures { (d : ModuleData) → IsValid d → (name : List ℕ) → (v : LLVMValue) → ¬ HasUndefinedUse d name v }
+{}
+
+/// A module whose types are held has nothing for which the dialect has nothing.
+pub fn held_law()
+    ensures { (d : ModuleData) → AreHeld d → (u : Unsupported) → ¬ IsUnsupported d u }
 {}

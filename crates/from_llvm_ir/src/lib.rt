@@ -8,6 +8,7 @@ pub mod conversion_err;
 mod entries;
 mod far;
 mod functions;
+mod held;
 pub mod importing;
 pub mod laws;
 pub mod matching;

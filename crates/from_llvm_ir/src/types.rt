@@ -1,12 +1,13 @@
 //! Types of the source to types of the dialect.
 
-ghost use Rattle.std.specs.Prelude.{◌≡◌, ◌<◌, ◌≤◌, IfOk, IfSome, All, List, false, length, map, ℕ};
+ghost use Rattle.std.specs.Prelude.{◌≡◌, ◌<◌, ◌≤◌, ◌||◌, IfOk, IfSome, All, List, true, length, map, ℕ};
 ghost use Rattle.std.specs.Option.{option_map};
 ghost use Rattle.llvm_core.specs.Sound.{IsModule};
-ghost use Rattle.llvm_core.specs.Parts.{is_function};
+ghost use Rattle.llvm_core.specs.Parts.{shape_of};
 ghost use Rattle.llvm_core.specs.Data as L;
 ghost use Rattle.llvm_core.specs.Data.{trees_of};
 ghost use Rattle.kinds.specs.Types.{params_of};
+ghost use Rattle.kinds.specs.Fitting.{is_held, is_nothing};
 ghost use Rattle.kinds.specs.Held.{own_type, IsHeld, IsHeldResult};
 ghost use Rattle.dialect_types.specs.Trees.{type_at, type_tree, type_trees, depth, HasPartsBelow};
 ghost use Rattle.from_llvm_ir.specs.Imported.{phis_of};
@@ -56,9 +57,9 @@ fn intern(ctx: &mut Context, kind: TypeKind) -> Result<TypeHandle, AllocError>
     ctx.types_mut().get(kind)
 }
 
-/// The kind that stands for one of a type that is no function's, a line for each.
+/// The kind that stands for one of a type that is translated, or of void, a line for each.
 fn plain_kind(kind: &LLVMTypeKind) -> TypeKind
-    requires { is_function kind.now ≡ false }
+    requires { (is_nothing (shape_of kind.now) || is_held (shape_of kind.now)) ≡ true }
     ensures parts { (n : ℕ) → HasPartsBelow n result }
     ensures tree { (us : List L.TypeTree) → (ts : List L.TypeTree) → type_tree ts result ≡ L.type_tree us kind.now }
 {
@@ -67,6 +68,7 @@ fn plain_kind(kind: &LLVMTypeKind) -> TypeKind
         LLVMTypeKind::Int(width) => TypeKind::Integer(*width),
         LLVMTypeKind::Ptr(space) => TypeKind::Pointer(*space),
         LLVMTypeKind::Floating(of) => TypeKind::Floating(*of),
+        LLVMTypeKind::Other(_) => unreachable!(),
         LLVMTypeKind::Function { .. } => unreachable!(),
     }
 }

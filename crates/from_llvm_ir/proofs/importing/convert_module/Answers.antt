@@ -1,4 +1,6 @@
 -- What `importing::convert_module` owes besides what the check finds.
+use Rattle.std.proofs.Common.{subst}
+use Rattle.std.specs.Prelude.{IfErr}
 use Rattle.std.proofs.lemmas.Result.{IfOk-weaker}
 use Rattle.llvm_core.specs.Data.{data_of}
 use Rattle.meaning.specs.Code.{SameCode}
@@ -7,8 +9,20 @@ use Rattle.meaning.specs.Dialect as Dialect
 use Rattle.from_llvm_ir.specs.declared.importing.Imported.{Imported}
 use Rattle.from_llvm_ir.specs.Match.{match_of}
 use Rattle.from_llvm_ir.specs.Imported.{IsImported, imported_data}
+use Rattle.from_llvm_ir.specs.Refusals.{IsCause}
+use Rattle.llvm_core.specs.Form.{AreHeld}
+use Rattle.from_llvm_ir.proofs.ForwardLaws.{passed_on}
+use Rattle.from_llvm_ir.proofs.KeepLaws.{keeps_none, others_kept}
+use Rattle.from_llvm_ir.proofs.RefusedLaws.{held_unsupported}
 use Rattle.from_llvm_ir.proofs.SameLaws.{same_imported}
 use Rattle.from_llvm_ir.proofs.importing.convert_module.Goals as goal
+
+pub returns-in_err-check_held-clause-cause : goal.returns-in_err-check_held-clause-cause
+returns-in_err-check_held-clause-cause c =
+    passed_on c.from_residual.result c.in_err-check_held.field-0.0 _ c.from_residual.ensures.1 c.in_err-check_held.ensures.cause
+
+pub returns-in_err-check_held-clause-others : goal.returns-in_err-check_held-clause-others
+returns-in_err-check_held-clause-others c = others_kept c.args.ctx.now c.args.ctx.now (keeps_none _ _ c.args.ctx.now)
 
 pub returns-clause-same : goal.returns-clause-same
 returns-clause-same c = λ distinct.
@@ -36,3 +50,13 @@ returns-clause-typed c = rw c.make_room.ensures at c.import_counted.ensures.type
 
 pub import_counted-requires-clause-names : goal.import_counted-requires-clause-names
 import_counted-requires-clause-names c = c.new-names.ensures
+
+pub returns-clause-held : goal.returns-clause-held
+returns-clause-held c =
+    let d = data_of c.args.«module».now in
+    IfOk-weaker c.import_counted.result (IsImported d c.import_counted.new.ctx) (λ (i : Imported). AreHeld d) (λ i made. c.in_ok-check_held.ensures.held) c.import_counted.ensures.imported
+
+pub returns-clause-still : goal.returns-clause-still
+returns-clause-still c = λ u is.
+    let d = data_of c.args.«module».now in
+    absurd (held_unsupported d c.in_ok-check_held.ensures.held u (subst (λ r. IfErr r (IsCause d)) is c.import_counted.ensures.cause))

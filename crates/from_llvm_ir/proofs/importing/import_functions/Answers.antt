@@ -19,7 +19,7 @@ index-name-requires g c =
     omega (arith, c.in_ok-given.given.ok.0, long)
 
 pub import_function-requires-clause-source : goal.import_function-requires-clause-source
-import_function-requires-clause-source g c = source_at c.args.source.now c.loop-f.f c.functions-f-end.ensures.sound c.requires.form (omega (arith, c.functions-f-end.ensures.len, c.loop-f-test.true))
+import_function-requires-clause-source g c = source_at c.args.source.now c.loop-f.f c.functions-f-end.ensures.sound c.requires.form c.requires.held (omega (arith, c.functions-f-end.ensures.len, c.loop-f-test.true))
 
 pub import_function-requires-clause-name : goal.import_function-requires-clause-name
 import_function-requires-clause-name g c = λ f h.
@@ -31,7 +31,7 @@ import_function-requires-clause-module g c = let b = c.requires.building in let 
 
 pub returns-in_err-import_function-clause-err : goal.returns-in_err-import_function-clause-err
 returns-in_err-import_function-clause-err g c =
-    let s = source_at c.args.source.now c.loop-f.f c.functions-f-end.ensures.sound c.requires.form (omega (arith, c.functions-f-end.ensures.len, c.loop-f-test.true)) in
+    let s = source_at c.args.source.now c.loop-f.f c.functions-f-end.ensures.sound c.requires.form c.requires.held (omega (arith, c.functions-f-end.ensures.len, c.loop-f-test.true)) in
     passed_on c.from_residual-in_err-import_function.result c.in_err-import_function.field-0.0 _ c.from_residual-in_err-import_function.ensures.1
     (function_cause c.args.source.now (record { 0 = c.loop-f.f }) s.0 c.in_err-import_function.field-0.0 s.1 (c.in_err-import_function.ensures.err s.0 s.1))
 
@@ -45,7 +45,7 @@ loop-f-init g c = record {
 
 pub loop-f-preserved : goal.loop-f-preserved
 loop-f-preserved g c =
-    let s = source_at c.args.source.now c.loop-f.f c.functions-f-end.ensures.sound c.requires.form (omega (arith, c.functions-f-end.ensures.len, c.loop-f-test.true)) in
+    let s = source_at c.args.source.now c.loop-f.f c.functions-f-end.ensures.sound c.requires.form c.requires.held (omega (arith, c.functions-f-end.ensures.len, c.loop-f-test.true)) in
     let x = c.in_ok-import_function.field-0 in
     record {
       within = omega (arith, c.functions-f-end.ensures.len, c.loop-f-test.true);

@@ -1,0 +1,141 @@
+-- Types for which the dialect has none: a value that has one is of the module, and where no value has one, all are held.
+use Rattle.std.proofs.Common.{ℕ, suc, ◌≡◌, ◌<◌, ◌+◌, ◌∙◌, sym, ap, subst, Bool, false, List, ◌++◌, Some, None, All, length, map, slice_get, arith}
+use Rattle.std.specs.Prelude.{Option, IfSome}
+use Rattle.std.specs.Option.{option_map}
+use Rattle.std.proofs.lemmas.Option.{same_Some, slice_get-map, slice_get_within}
+use Rattle.std.proofs.lemmas.List.Elements.{All-cons, All-append, All-map}
+use Rattle.support.proofs.ListLaws.{all_from, item_there, slice_get-behind, slice_get-kept}
+use Rattle.kinds.specs.declared.types.OtherType.{OtherType}
+use Rattle.kinds.specs.Types.{TypeTree, TypeTrees, RefusedType, FunctionType, result_of, params_of}
+use Rattle.kinds.specs.Held.{IsFirstClass, IsHeldResult, refused_of}
+use Rattle.kinds.proofs.HeldLaws.{returned_if, returned_held, refused_is, refused_not_held}
+use Rattle.llvm_core.specs.declared.numbers.LLVMType.{LLVMType}
+use Rattle.llvm_core.specs.declared.numbers.LLVMFunction.{LLVMFunction}
+use Rattle.llvm_core.specs.declared.types.LLVMTypeKind.{LLVMTypeKind}
+use Rattle.llvm_core.specs.declared.types.LLVMTypeKind.TheVariants as T
+use Rattle.llvm_core.specs.declared.code.FunctionData.{FunctionData}
+use Rattle.llvm_core.specs.declared.code.InstData.{InstData}
+use Rattle.llvm_core.specs.Module.{Module}
+use Rattle.llvm_core.specs.Sound.{IsModule}
+use Rattle.llvm_core.specs.Data as L
+use Rattle.llvm_core.specs.Data.{Placed, Function, data_of, trees_of, type_at, types_at, placed_in}
+use Rattle.llvm_core.specs.Form as LF
+use Rattle.llvm_core.specs.Form.{IsForm, IsFormFunction, IsHeldFunction, AreHeld, value_types}
+use Rattle.llvm_core.proofs.DataLemmas.{within_at, function_at, function_count, function_tree_of}
+use Rattle.llvm_core.proofs.FormTypes.{signature_of}
+use Rattle.llvm_core.proofs.FormPlaces.{shown, own_inst, inst_place, function_there, in_home}
+use Rattle.from_llvm_ir.specs.declared.conversion_err.Unsupported.{Unsupported}
+use Rattle.from_llvm_ir.specs.declared.conversion_err.Unsupported.TheVariants as U
+use Rattle.from_llvm_ir.specs.Held.{IsTaken, AreTaken}
+use Rattle.from_llvm_ir.specs.Refusals.{HasType, IsUnsupported}
+use Rattle.from_llvm_ir.proofs.PlaceLaws.{flat_from}
+use Rattle.from_llvm_ir.proofs.TypeLaws.{listed}
+use Rattle.from_llvm_ir.proofs.SourceLaws.{parts_within}
+
+-- ---- a module whose types are held is not refused for one
+
+pub held_unsupported : (d : L.ModuleData) → AreHeld d → (u : Unsupported) → IsUnsupported d u → ⊥
+held_unsupported d held (U.Ty of) h =
+    let function = within_at d.functions IsHeldFunction held h.place h.f h.at in
+    refused_not_held of (within_at (value_types h.f) IsHeldResult function h.index (RefusedType of) h.here)
+
+-- ---- a value of such a type
+
+module _ (m : Module) (sound : IsModule m) (of : OtherType) where
+  pub has_type : (f : ℕ) (x : FunctionData) (index : ℕ) (t : TypeTree) → slice_get m.functions f ≡ Some x → slice_get (value_types (shown m f x)) index ≡ Some t → refused_of t ≡ Some of → HasType (data_of m) (RefusedType of)
+  has_type f x index t at here is = record { place = f; f = shown m f x; at = function_at m f x at; index = index; here = here ∙ ap Some (refused_is t of is) }
+
+  module _ (f : ℕ) (x : FunctionData) (r : LLVMType) (ps : List LLVMType) (v : Bool) (at : slice_get m.functions f ≡ Some x) (kind : slice_get m.types x.ty.0 ≡ Some (T.Function r ps v)) where
+    type_is : (shown m f x).type ≡ FunctionType (type_at (trees_of m).types r) (types_at (trees_of m).types ps) v
+    type_is = function_tree_of m x.ty r ps v sound kind
+
+    pub result_refused : refused_of (type_at (trees_of m).types r) ≡ Some of → HasType (data_of m) (RefusedType of)
+    result_refused is = has_type f x 0 (type_at (trees_of m).types r) at (ap (λ (t : TypeTree). Some (result_of t)) type_is) is
+
+    pub param_refused : (k : ℕ) (t : LLVMType) → slice_get ps k ≡ Some t → refused_of (type_at (trees_of m).types t) ≡ Some of → HasType (data_of m) (RefusedType of)
+    param_refused k t there is =
+        let results = map (λ (p : Placed). p.type) (placed_in (shown m f x)) in
+        let listed_at : slice_get (params_of (shown m f x).type) k ≡ Some (type_at (trees_of m).types t) =
+        ap (λ (u : TypeTree). slice_get (params_of u) k) type_is ∙ ap (λ (ts : List TypeTree). slice_get ts k) (sym (listed (trees_of m).types ps))
+        ∙ slice_get-map (λ (u : LLVMType). type_at (trees_of m).types u) ps k ∙ ap (option_map (λ (u : LLVMType). type_at (trees_of m).types u)) there in
+        has_type f x (suc k) (type_at (trees_of m).types t) at (slice_get-kept (params_of (shown m f x).type) results k (type_at (trees_of m).types t) listed_at) is
+
+  -- an instruction stands in its function
+  pub inst_refused : (i : ℕ) (z : InstData) → slice_get m.insts i ≡ Some z → refused_of (type_at (trees_of m).types z.ty) ≡ Some of → HasType (data_of m) (RefusedType of)
+  inst_refused i z at is =
+      let place = inst_place m i z sound at in
+      let x = function_there m z.block.0 place.block sound place.block_is in
+      let f = place.block.function.0 in
+      let k = in_home m f x.0 i z sound x.1 at (ap (λ (g : LLVMFunction). g.0) place.home_is) in
+      let g = shown m f x.0 in
+      let there : slice_get (map (λ (p : Placed). p.type) (placed_in g)) k.0 ≡ Some (type_at (trees_of m).types z.ty) =
+      slice_get-map (λ (p : Placed). p.type) (placed_in g) k.0 ∙ ap (option_map (λ (p : Placed). p.type)) k.1 in
+      has_type f x.0 (suc (length (params_of g.type) + k.0)) (type_at (trees_of m).types z.ty) x.1
+      (slice_get-behind (params_of g.type) (map (λ (p : Placed). p.type) (placed_in g)) k.0 ∙ there) is
+
+-- what is answered of the type of an instruction's result is of the module
+pub result_cause : (m : Module) (sound : IsModule m) (i : ℕ) (t : LLVMType) (r : Option OtherType) → i < length m.insts → option_map (λ (z : InstData). z.ty) (slice_get m.insts i) ≡ Some t
+    → r ≡ refused_of (type_at (trees_of m).types t) → IfSome r (λ of. HasType (data_of m) (RefusedType of))
+result_cause m sound i t None within typed is = tt
+result_cause m sound i t (Some of) within typed is =
+    let z = item_there m.insts i within in
+    let same = same_Some z.0.ty t (sym (ap (option_map (λ (y : InstData). y.ty)) z.1) ∙ typed) in
+    inst_refused m sound of i z.0 z.1 (ap (λ (u : LLVMType). refused_of (type_at (trees_of m).types u)) same ∙ sym is)
+
+-- a function is of the type that is answered
+pub signature_at : (m : Module) (f : ℕ) (ty : LLVMType) (k : LLVMTypeKind) (r : LLVMType) (ps : List LLVMType) (v : Bool) → f < length m.functions → option_map (λ (x : FunctionData). x.ty) (slice_get m.functions f) ≡ Some ty
+    → slice_get m.types ty.0 ≡ Some k → k ≡ T.Function r ps v → (x : FunctionData) × (slice_get m.functions f ≡ Some x) × (slice_get m.types x.ty.0 ≡ Some (T.Function r ps v))
+signature_at m f ty k r ps v within typed kind is =
+    let x = item_there m.functions f within in
+    let same = same_Some x.0.ty ty (sym (ap (option_map (λ (y : FunctionData). y.ty)) x.1) ∙ typed) in
+    (x.0, x.1, ap (λ (u : LLVMType). slice_get m.types u.0) same ∙ kind ∙ ap Some is)
+
+-- ---- no value of such a type
+
+-- where no type of the module is one
+pub all_taken : (m : Module) → IsModule m → ((t : ℕ) → t < length m.types → IsTaken m (record { 0 = t })) → AreTaken m
+all_taken m sound taken = record {
+  signatures = λ f x r ps v at kind.
+      let within = parts_within m x.ty r ps v sound kind in
+      (taken r.0 within.0, all_from (IsTaken m) ps (λ k t here. taken t.0 (within_at ps (λ (u : LLVMType). u.0 < length m.types) within.1 k t here)));
+  results = λ i x at. taken x.ty.0 (sound.insts i x at).typed;
+}
+
+module _ (m : Module) (sound : IsModule m) (taken : AreTaken m) (f : ℕ) (x : FunctionData) (at : slice_get m.functions f ≡ Some x) (form : IsFormFunction (shown m f x)) where
+  abbrev g : Function
+  g = shown m f x
+
+  result_held : IsHeldResult (result_of g.type)
+  result_held =
+      let s = signature_of m f x form.result form.types false sound at form.type in
+      let returned = taken.signatures f x s.returned s.params s.variadic at s.kind_is in
+      subst (λ (t : TypeTree). IsHeldResult (result_of t)) (sym form.type) (returned_held form.result form.returns (ap refused_of (sym s.returned_is) ∙ returned.0))
+
+  params_held : All IsHeldResult (params_of g.type)
+  params_held =
+      let s = signature_of m f x form.result form.types false sound at form.type in
+      let each = (taken.signatures f x s.returned s.params s.variadic at s.kind_is).1 in
+      let params : map (λ (t : LLVMType). type_at (trees_of m).types t) s.params ≡ params_of g.type = listed (trees_of m).types s.params ∙ ap (λ (ts : TypeTrees). params_of (FunctionType form.result ts false)) s.params_are ∙ ap params_of (sym form.type) in
+      all_from IsHeldResult (params_of g.type) (λ k t here.
+      let first_class = within_at (params_of g.type) IsFirstClass (subst (λ (u : TypeTree). All IsFirstClass (params_of u)) (sym form.type) form.takes) k t here in
+      returned_held t (returned_if t first_class) (within_at (params_of g.type) (λ (u : TypeTree). refused_of u ≡ None) (subst (All (λ (u : TypeTree). refused_of u ≡ None)) params (All-map (λ (u : TypeTree). refused_of u ≡ None) (λ (u : LLVMType). type_at (trees_of m).types u) s.params each)) k t here))
+
+  placed_held : (k : ℕ) (p : Placed) → slice_get (placed_in g) k ≡ Some p → IsHeldResult p.type
+  placed_held k p here =
+      let own = own_inst m f x k p sound at here in
+      let b = flat_from (λ (c : L.Block). c.instructions) g.blocks k p here in
+      let placed = within_at b.item.instructions (LF.IsFormPlaced g b.item.number) (within_at g.blocks (LF.IsFormBlock g) form.blocks b.place b.item b.here).instructions b.inner p b.at in
+      returned_held p.type placed.returned (ap (λ (q : Placed). refused_of q.type) own.shown_as ∙ taken.results own.number own.inst own.here)
+
+  function_held : IsHeldFunction g
+  function_held =
+      let results = map (λ (p : Placed). p.type) (placed_in g) in
+      All-cons IsHeldResult (result_of g.type) (params_of g.type ++ results) result_held
+      (All-append IsHeldResult (params_of g.type) results params_held (All-map IsHeldResult (λ (p : Placed). p.type) (placed_in g) (all_from (λ (p : Placed). IsHeldResult p.type) (placed_in g) placed_held)))
+
+-- all types of a module of the form are held
+pub are_held : (m : Module) → IsModule m → IsForm (data_of m) → AreTaken m → AreHeld (data_of m)
+are_held m sound form taken = all_from IsHeldFunction (data_of m).functions (λ f g at.
+    let x = item_there m.functions f (omega (arith, slice_get_within (data_of m).functions f g at, function_count m)) in
+    let is : shown m f x.0 ≡ g = same_Some (shown m f x.0) g (sym (function_at m f x.0 x.1) ∙ at) in
+    subst IsHeldFunction is (function_held m sound taken f x.0 x.1 (subst IsFormFunction (sym is) (within_at (data_of m).functions IsFormFunction form f g at))))
