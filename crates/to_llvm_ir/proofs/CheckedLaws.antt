@@ -5,7 +5,7 @@ use Rattle.llvm_core.specs.Module.{Module}
 use Rattle.support.specs.Interned.{IsDistinctList}
 use Rattle.llvm_core.specs.Data as L
 use Rattle.llvm_core.specs.Data.{data_of}
-use Rattle.llvm_core.specs.Form.{IsForm, IsFormFunction, IsFewIn, HasDistinctNames, HasFew, local_names}
+use Rattle.llvm_core.specs.Form.{IsForm, IsFormFunction, IsHeldFunction, AreHeld, IsFewIn, HasDistinctNames, HasFew, local_names}
 use Rattle.dialect_core.specs.Data as D
 use Rattle.dialect_core.specs.Form.{HasTargets}
 use Rattle.meaning.specs.Pairs.{Matched}
@@ -31,6 +31,9 @@ HasOwnLocals f = IsDistinctList (local_names f)
 module _ (source : D.DialectModule) (back : Module) (exported : IsExported source back) where
   pub form_exported : All HasTargets source.functions → IsForm (data_of back)
   form_exported targets = forms source.functions (data_of back).functions targets exported.functions
+
+  pub held_exported : AreHeld (data_of back)
+  held_exported = each IsHeldFunction (λ g f h. h.held) source.functions (data_of back).functions exported.functions
 
   pub distinct_exported : IsDistinctNames (map D.llvm_name_of source.functions) → HasDistinctNames (data_of back)
   distinct_exported distinct = record {

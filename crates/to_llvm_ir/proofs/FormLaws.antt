@@ -11,9 +11,9 @@ use Rattle.kinds.specs.declared.op.Op.{Op}
 use Rattle.kinds.specs.declared.rules.Takes.{Takes}
 use Rattle.kinds.specs.declared.rules.Takes.TheVariants as T
 use Rattle.kinds.specs.Table.{rule_of}
-use Rattle.kinds.specs.Types.{result_of}
-use Rattle.kinds.specs.Held.{IsHeld, IsHeldResult}
-use Rattle.kinds.proofs.HeldLaws.{void_if, held_own, held_result_if, held_result_void}
+use Rattle.kinds.specs.Types.{types_list, result_of}
+use Rattle.kinds.specs.Held.{IsFirstClass, IsReturned, IsHeld}
+use Rattle.kinds.proofs.HeldLaws.{void_if, held_own, held_first_class, held_result_returned, returned_if, returned_void}
 use Rattle.llvm_core.specs.Checked.{ends_in_only}
 use Rattle.llvm_core.specs.Edges.{count_of}
 use Rattle.support.specs.Interned.{IsDistinctList}
@@ -92,9 +92,9 @@ type_or_void : (own : Option TypeTree) → option_type own ≡ unwrap_or own Voi
 type_or_void None = refl
 type_or_void (Some t) = refl
 
-own_held : (own : Option TypeTree) → IfSome own IsHeld → IsHeldResult (option_type own)
-own_held None h = held_result_void VoidType refl
-own_held (Some t) h = held_result_if t h
+own_returned : (own : Option TypeTree) → IfSome own IsHeld → IsReturned (option_type own)
+own_returned None h = returned_void VoidType refl
+own_returned (Some t) h = returned_if t (held_first_class t h)
 
 no_void : (t : TypeTree) → IsHeld t → t ≡ VoidType → ⊥
 no_void t h e = true≢false (sym (void_if t e) ∙ held_own t h)
@@ -193,12 +193,12 @@ module _ (g : Func) (form : IsFormFunc g) (n : Numbers) (order : IsOrder (length
       let one = All-head (IsHeldValue g) v vs h in
       All-cons (F.IsOperandOf made) (operand_for g n v) (map (operand_for g n) vs) (operand_form g form n order (entries g n) v one.0 one.1).stands (operands_own vs (All-tail (IsHeldValue g) v vs h))
 
-  operands_held : (vs : List Value) → All (IsHeldValue g) vs → All IsHeld (F.types_of made (map (operand_for g n) vs))
-  operands_held [] h = All-nil IsHeld
-  operands_held (v ∷ vs) h =
+  operands_first_class : (vs : List Value) → All (IsHeldValue g) vs → All IsFirstClass (F.types_of made (map (operand_for g n) vs))
+  operands_first_class [] h = All-nil IsFirstClass
+  operands_first_class (v ∷ vs) h =
       let one = All-head (IsHeldValue g) v vs h in
       let is = operand_form g form n order (entries g n) v one.0 one.1 in
-      All-cons IsHeld (operand_type made (operand_for g n v)) (F.types_of made (map (operand_for g n) vs)) (subst IsHeld (sym is.typed) is.held) (operands_held vs (All-tail (IsHeldValue g) v vs h))
+      All-cons IsFirstClass (operand_type made (operand_for g n v)) (F.types_of made (map (operand_for g n) vs)) (subst IsFirstClass (sym is.typed) is.first_class) (operands_first_class vs (All-tail (IsHeldValue g) v vs h))
 
   operands_typed : (vs : List Value) → All (IsHeldValue g) vs → (i : ℕ) → slice_get (F.types_of made (map (operand_for g n) vs)) i ≡ type_nth (value_type g) vs i
   operands_typed [] h i = refl
@@ -233,7 +233,7 @@ module _ (g : Func) (form : IsFormFunc g) (n : Numbers) (order : IsOrder (length
       let ts = F.types_of made (map (operand_for g n) vs) in
       record {
         operands = operands_own vs held;
-        held = operands_held vs held;
+        first_class = operands_first_class vs held;
         count = length-map vs (operand_for g n) ∙ row.count;
         fits = fits_row (value_type g) g op vs own ss row ts (operands_counted vs) (operands_typed vs held);
         returns = returning (rule_of op).takes vs row.returns;
@@ -250,7 +250,7 @@ module _ (g : Func) (form : IsFormFunc g) (n : Numbers) (order : IsOrder (length
   placed_form : (b k : ℕ) (o : DialectOp) → IsFormOp g o → is_constant o ≡ false → IsGoodOrNone (result_name o.name o.result k) → All (λ (s : Successor). IsTarget made (target_for g n s)) o.successors → IsFormPlaced made b (inst g n k o)
   placed_form b k o h other name targets = record {
     instruction = instruction_form b o.kind o.operands o.result o.successors h.kind other h.operands targets;
-    held = own_held o.result h.result;
+    returned = own_returned o.result h.result;
     name = name;
     unnamed = own_unnamed o.name o.result k h.result;
   }
@@ -314,9 +314,9 @@ module _ (g : Func) (form : IsFormFunc g) (n : Numbers) (order : IsOrder (length
           instruction = (
             all_from (λ (e : Operand × ℕ). F.IsOperand made ty e.0) (entries g n v) (λ l x at'. phi_operand t c i ty at type l x at'),
             record { counts = phi_counts t c i ty at type; alike = phi_alike g form n order accepted (record { 0 = c.number }) i; some = phi_some t c i ty at type },
-            held,
+            held_first_class ty held,
           );
-          held = own_held (Some ty) held;
+          returned = own_returned (Some ty) held;
           name = value_good k (omega (arith, lt));
           unnamed = λ e. absurd (no_void ty held e);
         }) (phis_form t c at (suc i) (k + 1) ts (omega (arith, lt)) (λ m u at'. ap (slice_get c.args) (let e : suc i + m ≡ i + suc m = omega arith in e) ∙ are (suc m) u at'))
@@ -353,8 +353,8 @@ module _ (g : Func) (form : IsFormFunc g) (n : Numbers) (order : IsOrder (length
       result = form.result;
       types = form.types;
       type = form.type;
-      returns = form.returns;
-      takes = form.takes;
+      returns = held_result_returned form.result form.returns;
+      takes = all_from IsFirstClass (types_list form.types) (λ k t at. held_first_class t (all_at IsHeld (types_list form.types) k t form.takes at));
       space = refl;
       params = params_count g form n order (entries g n) ∙ ap (λ (ts : List TypeTree). length ts) form.params ∙ sym (types_count form.types);
       param_names = unnamed_good (entry_args g n);

@@ -11,6 +11,7 @@ pub mod EntryLaws
 pub mod FewLaws
 pub mod FilledLaws
 pub mod FormLaws
+pub mod HeldLaws
 pub mod GivenLaws
 pub mod GrowthLaws
 pub mod InstLaws

@@ -16,6 +16,7 @@ use Rattle.to_llvm_ir.proofs.SetLaws.{sets_first}
 use Rattle.to_llvm_ir.proofs.PhiLaws.{made_phis}
 use Rattle.to_llvm_ir.proofs.PhiValueLaws.{made_arguments}
 use Rattle.to_llvm_ir.proofs.FormLaws.{made_form}
+use Rattle.to_llvm_ir.proofs.HeldLaws.{made_held}
 use Rattle.to_llvm_ir.proofs.FewLaws.{made_few}
 use Rattle.to_llvm_ir.proofs.DistinctLaws.{distinct_locals}
 use Rattle.to_llvm_ir.proofs.NamedLaws.{made_named}
@@ -73,6 +74,7 @@ exported g form n taken h small = record {
   locals = distinct_locals g n (entries g n) (let few = h.few in omega (arith, few)) (omega (arith, small));
   few = made_few g n form taken.once h;
   form = λ targets. made_form g form n taken.once h targets small;
+  held = made_held g n form;
 }
 
 -- ---- all functions, when their module stands

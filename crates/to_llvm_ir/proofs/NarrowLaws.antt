@@ -1,7 +1,7 @@
 -- What tests of narrow operations, blocks and functions find.
 use Rattle.std.proofs.Common.{◌≡◌, ◌<◌, ℕ, suc, Bool, true, false, nat_eq, if◌then◌else◌, List, [], ◌∷◌, Option, Some, None, All, length, slice_get, sym, subst, ◌∙◌, refl}
 use Rattle.std.specs.Prelude.{IsTrue, IfSome, ◌↔◌}
-use Rattle.std.specs.Option.{option_map, option_and_then}
+use Rattle.std.specs.Option.{option_map}
 use Rattle.std.proofs.lemmas.Option.{none-some, same_Some}
 use Rattle.kinds.specs.Held.{IsHeld, IsHeldSignature}
 use Rattle.kinds.specs.Names.{is_good_name}

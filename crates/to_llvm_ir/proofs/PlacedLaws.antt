@@ -7,6 +7,7 @@ use Rattle.std.proofs.lemmas.Bool.{cond-true, cond-false}
 use Rattle.std.proofs.lemmas.List.{length-map}
 use Rattle.kinds.specs.Types.{types_list, count_types}
 use Rattle.kinds.specs.Held.{width_in, IsShortWidth}
+use Rattle.kinds.proofs.HeldLaws.{held_first_class}
 use Rattle.meaning.proofs.MatchedLaws.{matched_append}
 use Rattle.llvm_core.specs.Data as L
 use Rattle.llvm_core.specs.Data.{Operand, Placed, Block, Function, placed_in, operand_type}
@@ -215,4 +216,4 @@ module _ (g : Func) (form : IsFormFunc g) (n : Numbers) (order : IsOrder (length
   operand_typed v t e = (operand_typed_as v t e (operand_is v t e)).1
 
   pub operand_form : (v : Value) (t : TypeTree) → IsOperand g t v → F.IsOperand made t (operand_for g n v)
-  operand_form v t h = let p = operand_typed_as v t h.typed (operand_is v t h.typed) in record { stands = p.0; typed = p.1; held = h.held }
+  operand_form v t h = let p = operand_typed_as v t h.typed (operand_is v t h.typed) in record { stands = p.0; typed = p.1; first_class = held_first_class t h.held }

@@ -19,7 +19,7 @@ use Rattle.kinds.proofs.HeldLaws.{held_value, held_first_class, held_result_own,
 use Rattle.dialect_types.specs.declared.types.TypeHandle.{TypeHandle}
 use Rattle.dialect_types.specs.declared.types.TypeKind.{TypeKind}
 use Rattle.dialect_types.specs.declared.types.TypeKind.TheVariants as K
-use Rattle.dialect_types.specs.Trees.{TypeTree, TypeTrees, IntType, PointerType, FunctionType, type_at, types_at, type_tree, HasPartsBelow}
+use Rattle.dialect_types.specs.Trees.{TypeTree, TypeTrees, IntType, FunctionType, type_at, types_at, type_tree, HasPartsBelow}
 use Rattle.dialect_core.proofs.TypeTestLemmas.{listed_types, map_all, params_below}
 use Rattle.to_llvm_ir.specs.Growth.{Grows, IsTypeOf, AreTypesOf}
 use Rattle.to_llvm_ir.proofs.GrowthLaws.{types_kept}

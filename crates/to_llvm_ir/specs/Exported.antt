@@ -7,7 +7,7 @@ use Rattle.llvm_core.specs.Module.{Module}
 use Rattle.support.specs.Interned.{IsDistinctList}
 use Rattle.llvm_core.specs.Data as L
 use Rattle.llvm_core.specs.Data.{Operand, Placed, data_of, phi_entries}
-use Rattle.llvm_core.specs.Form.{IsFormFunction, IsFewIn, HasPhisFirst, is_phi, targets_of, local_names}
+use Rattle.llvm_core.specs.Form.{IsFormFunction, IsHeldFunction, IsFewIn, HasPhisFirst, is_phi, targets_of, local_names}
 use Rattle.dialect_types.specs.Trees.{TypeTree}
 use Rattle.dialect_core.specs.declared.numbers.BlockRef.{BlockRef}
 use Rattle.dialect_core.specs.declared.ops.Value.{Value}
@@ -163,6 +163,7 @@ pub record ExportedFunction (g : Func) (f : L.Function) : Type 0 where
   pub few : IsFewIn f
   -- where each block with arguments is an edge's target, each phi has an edge
   pub form : HasTargets g → IsFormFunction f
+  pub held : IsHeldFunction f
 
 -- The function f, whose module tells a, has the traces of the function g of the dialect, whose module tells b: for every
 -- list of choices where all constants of g stand in its first block, and else for every list whose run of g reads no

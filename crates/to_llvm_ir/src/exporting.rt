@@ -5,7 +5,7 @@ ghost use Rattle.llvm_core.specs.Checked.{IsChecked};
 ghost use Rattle.llvm_core.specs.Data as lists;
 ghost use Rattle.llvm_core.specs.Data.{AreApart};
 ghost use Rattle.llvm_core.specs.Sound.{IsModule};
-ghost use Rattle.llvm_core.specs.Form.{IsForm};
+ghost use Rattle.llvm_core.specs.Form.{AreHeld, IsForm};
 ghost use Rattle.dialect_types.specs.Trees.{type_trees};
 ghost use Rattle.dialect_core.specs.Data.{Func, DialectModule, IsTyped, llvm_name_of, func_in, data_of};
 ghost use Rattle.dialect_core.specs.Form.{IsFormFunc, HasOnlyEntryConstants, HasTargets};
@@ -185,6 +185,7 @@ pub fn convert_module(alloc: Global, ctx: &Context, module: ModuleOp) -> Result<
     ensures traces { IfOk result (λ x. Matched (HasTraces (llvm.setting_of (lists.data_of x.«module»)) (dialect.setting_of (data_of ctx.now «module».0.0))) (data_of ctx.now «module».0.0).functions (lists.data_of x.«module»).functions) }
     ensures same { IsDistinctNames (map llvm_name_of (data_of ctx.now «module».0.0).functions) → All HasOnlyEntryConstants (data_of ctx.now «module».0.0).functions → IfOk result (λ x. SameCode same_places (llvm.code_of (lists.data_of x.«module»)) (dialect.code_of (data_of ctx.now «module».0.0))) }
     ensures form { All HasTargets (data_of ctx.now «module».0.0).functions → IfOk result (λ x. IsForm (lists.data_of x.«module»)) }
+    ensures held { IfOk result (λ x. AreHeld (lists.data_of x.«module»)) }
     ensures checked { IsDistinctNames (map llvm_name_of (data_of ctx.now «module».0.0).functions) → All HasTargets (data_of ctx.now «module».0.0).functions → IfOk result (λ x. IsChecked x.«module») }
     ensures cause { IfErr result (λ e. IsCause ctx.now (data_of ctx.now «module».0.0) e) }
 {

@@ -9,7 +9,7 @@ use Rattle.to_llvm_ir.specs.Exported.{IsCause}
 use Rattle.to_llvm_ir.proofs.ResultLaws.{passed}
 use Rattle.to_llvm_ir.proofs.FinishLaws.{all_exported}
 use Rattle.to_llvm_ir.proofs.CodeLaws.{same_exported, traces_exported}
-use Rattle.to_llvm_ir.proofs.CheckedLaws.{form_exported, distinct_exported, few_exported}
+use Rattle.to_llvm_ir.proofs.CheckedLaws.{form_exported, held_exported, distinct_exported, few_exported}
 use Rattle.to_llvm_ir.proofs.exporting.convert_module.Goals as goal
 
 pub returns-in_err-convert_held_functions-clause-cause : goal.returns-in_err-convert_held_functions-clause-cause
@@ -29,6 +29,7 @@ returns c =
       traces = traces_exported context (Llvm.setting_of (L.data_of back)) (Dialect.setting_of source) source.functions (L.data_of back).functions c.requires.functions made.functions;
       same = λ distinct only. same_exported context source (L.data_of back) c.requires.functions only made.functions distinct;
       form = λ targets. form_exported source back made targets;
+      held = held_exported source back made;
       checked = λ distinct targets.
           checked_of_form back c.know_sound.ensures.sound c.know_sound.ensures.apart (form_exported source back made targets) (distinct_exported source back made distinct) (few_exported source back made);
       cause = tt;
