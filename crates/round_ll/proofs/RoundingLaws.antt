@@ -4,7 +4,7 @@ use Rattle.std.proofs.lemmas.List.Elements.{All-nil, All-cons}
 use Rattle.llvm_core.specs.Module.{Module}
 use Rattle.llvm_core.specs.Sound.{IsModule}
 use Rattle.llvm_core.specs.Checked.{IsChecked}
-use Rattle.llvm_core.specs.Form.{IsForm}
+use Rattle.llvm_core.specs.Form.{AreHeld, IsForm}
 use Rattle.llvm_core.specs.Data as L
 use Rattle.llvm_core.specs.Data.{ModuleData, data_of}
 use Rattle.llvm_core.proofs.DistinctLaws.{distinct_of_checked, few_of_checked}
@@ -72,11 +72,11 @@ output_of m b t text report all kept started ended = record {
 
 -- ---- all that is promised
 
-pub rounds_of : (input : List ℕ) (m : Module) (t boxed : Transferred) (text : List ℕ) → boxed ≡ t → IsReadable m → IsNumbered (data_of m) → Spells input (data_of m)
+pub rounds_of : (input : List ℕ) (m : Module) (t boxed : Transferred) (text : List ℕ) → boxed ≡ t → IsReadable m → AreHeld (data_of m) → IsNumbered (data_of m) → Spells input (data_of m)
     → SameThroughout (data_of m) t → IsChecked t.back → IsExportable t.ctx t.dialect.0.0 → t.structs.items ≡ [] → IsOutput (data_of m) t text → Rounds input boxed text
-rounds_of input m t boxed text is read numbered spelled same back readable structs output =
+rounds_of input m t boxed text is read held numbered spelled same back readable structs output =
     subst (λ (u : Transferred). Rounds input u text) (sym is)
-    (record { source = m; sound = read.sound; checked = read.checked; numbered = numbered; form = read.form; spelled = spelled; same = same; back_checked = back; readable = readable; structs = structs; output = output })
+    (record { source = m; sound = read.sound; checked = read.checked; numbered = numbered; form = read.form; held = held; spelled = spelled; same = same; back_checked = back; readable = readable; structs = structs; output = output })
 
 -- ---- refusals
 

@@ -6,10 +6,11 @@ use Rattle.ll_said.proofs.OwnLaws.{own_twin}
 use Rattle.ll_text.specs.Spelling.{IsSpelled, IsNumbered, Spells}
 use Rattle.ll_text.proofs.ReadLaws.{one_meant}
 use Rattle.llvm_core.specs.Data.{ModuleData, data_of}
-use Rattle.llvm_core.specs.Form.{IsForm}
+use Rattle.llvm_core.specs.Form.{AreHeld, IsForm}
 use Rattle.from_llvm_ir.specs.declared.conversion_err.ConversionErr.TheVariants as C
 use Rattle.from_llvm_ir.specs.Refusals.{IsValid}
 use Rattle.from_llvm_ir.proofs.UndefinedLaws.{no_undefined_use}
+use Rattle.from_llvm_ir.proofs.RefusedLaws.{held_unsupported}
 use Rattle.transfer.specs.Same as Same
 use Rattle.round_ll.specs.Rounding.{IsRefusal}
 use Rattle.transfer.specs.declared.transfer_err.TransferErr.{TransferErr}
@@ -59,12 +60,13 @@ not_too_many : (most : ℕ) (o o' : Option (List ℕ)) (input : List ℕ) → o 
 not_too_many most None o' input told short many = absurd (cc)
 not_too_many most (Some xs) o' input told short many = let same : xs ≡ input = cc in omega (arith, many.0, ap length same)
 
--- a translation has no cause to refuse where each use is valid
-no_cause : (d : ModuleData) (e : TransferErr) → IsValid d → IsRefusal e → ¬ Same.IsCause d e
-no_cause d (T.Import (C.UndefinedValue name v)) valid refusal h = no_undefined_use d valid name v h
-no_cause d (T.Import C.NoMemory) valid refusal h = h
-no_cause d (T.Export e) valid refusal h = h
-no_cause d T.NoMemory valid refusal h = refusal
+-- a translation has no cause to refuse where each use is valid and each type held
+no_cause : (d : ModuleData) (e : TransferErr) → IsValid d → AreHeld d → IsRefusal e → ¬ Same.IsCause d e
+no_cause d (T.Import (C.UndefinedValue name v)) valid held refusal h = no_undefined_use d valid name v h
+no_cause d (T.Import (C.Unsupported u)) valid held refusal h = held_unsupported d held u h
+no_cause d (T.Import C.NoMemory) valid held refusal h = h
+no_cause d (T.Export e) valid held refusal h = h
+no_cause d T.NoMemory valid held refusal h = refusal
 
 -- what bytes spell is one module, once its parts are numbered
 one_spelled : (bytes : List ℕ) (d e : ModuleData) → IsForm d → IsForm e → Spells bytes d → Spells bytes e → IsNumbered d → IsNumbered e → d ≡ e
@@ -72,17 +74,17 @@ one_spelled bytes d e form other h k n o = sym (own_twin d form n) ∙ one_meant
 
 pub takes_spelled : (command : Option Command) (s s' o o' : Told) (ended : Ended) → RunEnded command s s' o o' ended → TakesSpelled command s s' o o' ended
 takes_spelled None s s' o o' ended h = tt
-takes_spelled (Some Round) s s' o o' (Done t) h = λ input m told short readable numbered spelled valid reads writes. tt
-takes_spelled (Some Round) s s' o o' NoMemory h = λ input m told short readable numbered spelled valid reads writes. tt
+takes_spelled (Some Round) s s' o o' (Done t) h = λ input m told short readable numbered spelled valid held reads writes. tt
+takes_spelled (Some Round) s s' o o' NoMemory h = λ input m told short readable numbered spelled valid held reads writes. tt
 takes_spelled (Some Round) s s' o o' (Refused Usage) h = elim h [ ]
-takes_spelled (Some Round) s s' o o' (Refused ReadFault) h = λ input m told short readable numbered spelled valid reads writes. reads h
-takes_spelled (Some Round) s s' o o' (Refused WriteFault) h = λ input m told short readable numbered spelled valid reads writes. writes h.fault
-takes_spelled (Some Round) s s' o o' (Refused TooLong) h = λ input m told short readable numbered spelled valid reads writes. not_too_many (2 ^ 24) s.bytes s'.bytes input told short h
+takes_spelled (Some Round) s s' o o' (Refused ReadFault) h = λ input m told short readable numbered spelled valid held reads writes. reads h
+takes_spelled (Some Round) s s' o o' (Refused WriteFault) h = λ input m told short readable numbered spelled valid held reads writes. writes h.fault
+takes_spelled (Some Round) s s' o o' (Refused TooLong) h = λ input m told short readable numbered spelled valid held reads writes. not_too_many (2 ^ 24) s.bytes s'.bytes input told short h
 takes_spelled (Some Round) s s' o o' (Refused (Text read.NotYet)) h =
-    λ input m told short readable numbered spelled valid reads writes. h.unspelled (subst IsSpelled (sym (gave s.bytes s'.bytes input h.input told h.read.all)) (m, readable, spelled))
+    λ input m told short readable numbered spelled valid held reads writes. h.unspelled (subst IsSpelled (sym (gave s.bytes s'.bytes input h.input told h.read.all)) (m, readable, spelled))
 takes_spelled (Some Round) s s' o o' (Refused (Text read.NoMemory)) h = elim h [ ]
-takes_spelled (Some Round) s s' o o' (Refused (Transfer e)) h = λ input m told short readable numbered spelled valid reads writes.
+takes_spelled (Some Round) s s' o o' (Refused (Transfer e)) h = λ input m told short readable numbered spelled valid held reads writes.
     let same = gave s.bytes s'.bytes input h.input told h.read.all in
     let r = h.refused in
     let one = one_spelled input (data_of m) (data_of r.source) readable.form r.readable.form spelled (subst (λ (bs : List ℕ). Spells bs (data_of r.source)) same r.spelled) numbered r.numbered in
-    no_cause (data_of r.source) e (subst IsValid one valid) r.refusal r.cause
+    no_cause (data_of r.source) e (subst IsValid one valid) (subst AreHeld one held) r.refusal r.cause

@@ -1,6 +1,9 @@
 -- The status and the line of each answer of the program.
 use Rattle.std.specs.Prelude.{ℕ, List, [], ◌++◌, codes}
+use Rattle.kinds.specs.declared.types.OtherType.{OtherType}
+use Rattle.kinds.specs.declared.types.OtherType.TheVariants as O
 use Rattle.from_llvm_ir.specs.declared.conversion_err.ConversionErr.TheVariants as C
+use Rattle.from_llvm_ir.specs.declared.conversion_err.Unsupported.TheVariants as U
 use Rattle.to_llvm_ir.specs.declared.to_llvm_err.ToLLVMErr.TheVariants as X
 use Rattle.transfer.specs.declared.transfer_err.TransferErr.{TransferErr}
 use Rattle.transfer.specs.declared.transfer_err.TransferErr.TheVariants as T
@@ -24,9 +27,18 @@ status_of NoMemory = 8
 
 -- ---- lines
 
+-- of an import that meets a type for which the dialect has none
+abbrev pub other_head : OtherType → List ℕ
+other_head O.X86Fp80 = codes "import X86Fp80"
+other_head O.Fp128 = codes "import Fp128"
+other_head O.PpcFp128 = codes "import PpcFp128"
+other_head O.X86Amx = codes "import X86Amx"
+other_head O.Token = codes "import Token"
+
 -- of a refusal of the translation: the half, the kind, and the name where it carries one
 abbrev pub refusal_head : TransferErr → List ℕ
 refusal_head (T.Import (C.UndefinedValue name v)) = codes "import UndefinedValue: "
+refusal_head (T.Import (C.Unsupported (U.Ty of))) = other_head of
 refusal_head (T.Import C.NoMemory) = codes "import NoMemory"
 refusal_head (T.Export (X.UndefinedValue name)) = codes "export UndefinedValue: "
 refusal_head (T.Export (X.UndefinedBlock label)) = codes "export UndefinedBlock: "

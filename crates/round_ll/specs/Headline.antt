@@ -3,7 +3,7 @@ use Rattle.std.specs.Prelude.{ℕ, ◌≡◌, List, [], ◌++◌, codes}
 use Rattle.llvm_core.specs.Module.{Module}
 use Rattle.llvm_core.specs.Sound.{IsModule}
 use Rattle.llvm_core.specs.Checked.{IsChecked}
-use Rattle.llvm_core.specs.Form.{IsForm}
+use Rattle.llvm_core.specs.Form.{AreHeld, IsForm}
 use Rattle.llvm_core.specs.Data as L
 use Rattle.llvm_core.specs.Data.{ModuleData}
 use Rattle.dialect_core.specs.Text.{module_text}
@@ -32,6 +32,8 @@ pub record Rounds (input : List ℕ) (t : Transferred) (text : List ℕ) : Type 
   pub checked : IsChecked source
   pub numbered : IsNumbered (L.data_of source)
   pub form : IsForm (L.data_of source)
+  -- the dialect has a type for each value
+  pub held : AreHeld (L.data_of source)
   pub spelled : Spells input (L.data_of source)
   pub same : SameThroughout (L.data_of source) t
   pub back_checked : IsChecked t.back

@@ -14,6 +14,7 @@ use Rattle.round_ll.specs.declared.stopped.Stopped.{Stopped}
 use Rattle.round_ll.specs.declared.stopped.Stopped.TheVariants as stop
 use Rattle.llvm_core.specs.Module.{Module}
 use Rattle.llvm_core.specs.Data.{data_of}
+use Rattle.llvm_core.specs.Form.{AreHeld}
 use Rattle.from_llvm_ir.specs.Refusals.{IsValid}
 use Rattle.transfer.specs.declared.transferred.Transferred.{Transferred}
 use Rattle.transfer.specs.declared.transfer_err.TransferErr.{TransferErr}
@@ -104,12 +105,12 @@ IsDoneOrNoMemory (Done t) = Unit {0}
 IsDoneOrNoMemory NoMemory = Unit {0}
 IsDoneOrNoMemory (Refused f) = ⊥
 
--- Bytes that spell a checked module of the form whose uses are valid are taken: where the source held them, at most
+-- Bytes that spell a checked module of the form whose uses are valid and whose types are held are taken: where the source held them, at most
 -- 2^24, and neither count of faults rose or stands at its last value, all was done, or memory was wanting. This follows from the causes above, since each of them rules one of these premises out.
 abbrev pub TakesSpelled : Option Command → Told → Told → Told → Told → Ended → Type 0
 TakesSpelled None s s' o o' ended = Unit {0}
 TakesSpelled (Some Round) s s' o o' ended =
-    (input : List ℕ) (m : Module) → s.bytes ≡ Some input → length input ≤ 2 ^ 24 → IsReadable m → IsNumbered (data_of m) → Spells input (data_of m) → IsValid (data_of m)
+    (input : List ℕ) (m : Module) → s.bytes ≡ Some input → length input ≤ 2 ^ 24 → IsReadable m → IsNumbered (data_of m) → Spells input (data_of m) → IsValid (data_of m) → AreHeld (data_of m)
     → ¬ Rose s.faults s'.faults → ¬ Rose o.faults o'.faults → IsDoneOrNoMemory ended
 
 -- the line was written to the standard error, or a front of it where its count of faults rose

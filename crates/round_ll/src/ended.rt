@@ -1,9 +1,10 @@
 //! How the program ends: its answers, their statuses and their lines.
 
 ghost use Rattle.std.specs.Prelude.{◌≡◌};
-ghost use Rattle.round_ll.specs.Ending.{head_of, name_of, refusal_head, refusal_name, status_of};
+ghost use Rattle.round_ll.specs.Ending.{head_of, name_of, other_head, refusal_head, refusal_name, status_of};
 
-use from_llvm_ir::conversion_err::ConversionErr;
+use from_llvm_ir::conversion_err::{ConversionErr, Unsupported};
+use kinds::types::OtherType;
 use ll_text::read_err::ReadErr;
 use thiserror::Error;
 use to_llvm_ir::to_llvm_err::ToLLVMErr;
@@ -89,12 +90,26 @@ impl Ended {
     }
 }
 
+/// The line of an import that meets a type for which the dialect has none.
+fn other_head(of: OtherType) -> &'static str
+    ensures { result.now ≡ other_head of }
+{
+    match of {
+        OtherType::X86Fp80 => "import X86Fp80",
+        OtherType::Fp128 => "import Fp128",
+        OtherType::PpcFp128 => "import PpcFp128",
+        OtherType::X86Amx => "import X86Amx",
+        OtherType::Token => "import Token",
+    }
+}
+
 /// The line of a refusal up to the name in it.
 fn refusal_head(e: &TransferErr) -> &'static str
     ensures { result.now ≡ refusal_head e.now }
 {
     match e {
         TransferErr::Import(ConversionErr::UndefinedValue(..)) => "import UndefinedValue: ",
+        TransferErr::Import(ConversionErr::Unsupported(Unsupported::Ty(of))) => other_head(*of),
         TransferErr::Import(ConversionErr::NoMemory) => "import NoMemory",
         TransferErr::Export(ToLLVMErr::UndefinedValue(_)) => "export UndefinedValue: ",
         TransferErr::Export(ToLLVMErr::UndefinedBlock(_)) => "export UndefinedBlock: ",

@@ -7,6 +7,7 @@ use Rattle.dialect_core.specs.Data.{DialectModule, DialectBlock}
 use Rattle.dialect_core.specs.ContextData.{ContextData}
 use Rattle.dialect_core.specs.Form.{IsFormFunc, IsExportable, FitsTarget, HasEqualEdges, StandsBefore, edges_of, uses_of}
 use Rattle.llvm_core.specs.Data.{ModuleData}
+use Rattle.llvm_core.specs.Form.{AreHeld}
 use Rattle.from_llvm_ir.specs.Refusals as Import
 use Rattle.from_llvm_ir.specs.declared.conversion_err.ConversionErr.{ConversionErr}
 use Rattle.from_llvm_ir.specs.declared.conversion_err.ConversionErr.TheVariants as C
@@ -16,6 +17,7 @@ use Rattle.to_llvm_ir.specs.declared.to_llvm_err.ToLLVMErr.{ToLLVMErr}
 use Rattle.to_llvm_ir.specs.declared.to_llvm_err.ToLLVMErr.TheVariants as E
 use Rattle.from_llvm_ir.specs.Refusals.{IsValid}
 use Rattle.from_llvm_ir.proofs.UndefinedLaws.{no_undefined_use}
+use Rattle.from_llvm_ir.proofs.RefusedLaws.{held_unsupported}
 use Rattle.to_llvm_ir.proofs.GraphLaws.{stands_in_order}
 use Rattle.transfer.specs.declared.transfer_err.TransferErr.{TransferErr}
 use Rattle.transfer.specs.declared.transfer_err.TransferErr.TheVariants as T
@@ -66,11 +68,13 @@ module _ (d : DialectModule) (forms : All IsFormFunc d.functions) (fit : All IsE
 
 pub of_import_cause : (m : ModuleData) (e : ConversionErr) → Import.IsCause m e → IsCause m (of_import e)
 of_import_cause m (C.UndefinedValue name v) h = h
+of_import_cause m (C.Unsupported u) h = h
 of_import_cause m C.NoMemory h = tt
 
--- a module whose uses are valid is refused for want of memory alone
-pub only_memory : (m : ModuleData) (e : TransferErr) → IsCause m e → IsValid m → e ≡ T.NoMemory
-only_memory m (T.Import (C.UndefinedValue name v)) h valid = absurd (no_undefined_use m valid name v h)
-only_memory m (T.Import C.NoMemory) h valid = absurd h
-only_memory m (T.Export e) h valid = absurd h
-only_memory m T.NoMemory h valid = refl
+-- a module whose uses are valid and whose types are held is refused for want of memory alone
+pub only_memory : (m : ModuleData) (e : TransferErr) → IsCause m e → IsValid m → AreHeld m → e ≡ T.NoMemory
+only_memory m (T.Import (C.UndefinedValue name v)) h valid held = absurd (no_undefined_use m valid name v h)
+only_memory m (T.Import (C.Unsupported u)) h valid held = absurd (held_unsupported m held u h)
+only_memory m (T.Import C.NoMemory) h valid held = absurd h
+only_memory m (T.Export e) h valid held = absurd h
+only_memory m T.NoMemory h valid held = refl

@@ -58,6 +58,7 @@ pub record SameThroughout (m : ModuleData) (t : Transferred) : Type 0 where
 -- a refusal of the import, whose want of memory has an answer of its own
 abbrev pub of_import : ConversionErr → TransferErr
 of_import (C.UndefinedValue name v) = E.Import (C.UndefinedValue name v)
+of_import (C.Unsupported u) = E.Import (C.Unsupported u)
 of_import C.NoMemory = E.NoMemory
 
 abbrev pub of_export : ToLLVMErr → TransferErr
@@ -72,5 +73,6 @@ of_export X.NoMemory = E.NoMemory
 abbrev pub IsCause : ModuleData → TransferErr → Type 0
 IsCause d (E.Import C.NoMemory) = ⊥
 IsCause d (E.Import (C.UndefinedValue name v)) = Import.IsCause d (C.UndefinedValue name v)
+IsCause d (E.Import (C.Unsupported u)) = Import.IsCause d (C.Unsupported u)
 IsCause d (E.Export e) = ⊥
 IsCause d E.NoMemory = Unit {0}

@@ -4,7 +4,7 @@ ghost use Rattle.std.specs.Prelude.{◌≡◌, [], IfOk, IfErr};
 ghost use Rattle.llvm_core.specs.Module.{Module};
 ghost use Rattle.llvm_core.specs.Checked.{IsChecked};
 ghost use Rattle.llvm_core.specs.Data.{data_of};
-ghost use Rattle.llvm_core.specs.Form.{IsForm};
+ghost use Rattle.llvm_core.specs.Form.{AreHeld, IsForm};
 ghost use Rattle.from_llvm_ir.specs.Refusals.{IsValid};
 ghost use Rattle.to_llvm_ir.specs.Held.{IsReadable};
 ghost use Rattle.transfer.specs.declared.transfer_err.TransferErr.TheVariants as refusals;
@@ -27,14 +27,14 @@ pub struct Begun {
 }
 
 /// Imports a checked module of the form into a context of its own. It is refused only where the import refuses it. So a
-/// module whose uses are valid is answered `Ok` or `NoMemory`.
+/// module whose uses are valid and whose types are held is answered `Ok` or `NoMemory`.
 pub fn begin(alloc: Global, module: &LLVMModule) -> Result<Begun, TransferErr>
     requires form { IsForm (data_of «module».now) }
     requires checked { IsChecked «module».now }
     ensures begun { IfOk result (λ b. IsBegun «module».now b) }
     ensures readable { IfOk result (λ b. IsReadable b.ctx b.imported.«module».0.0) }
     ensures cause { IfErr result (λ e. IsCause (data_of «module».now) e) }
-    ensures complete { IsValid (data_of «module».now) → IfErr result (λ e. e ≡ refusals.NoMemory) }
+    ensures complete { IsValid (data_of «module».now) → AreHeld (data_of «module».now) → IfErr result (λ e. e ≡ refusals.NoMemory) }
 {
     let mut ctx = Context::new(alloc);
     let imported = import(alloc, &mut ctx, module)?;
@@ -48,6 +48,7 @@ pub fn finish(alloc: Global, begun: Begun) -> Result<Transferred, TransferErr>
     ensures kept { IfOk result (λ t. t ≡ transferred_of begun.ctx begun.imported t.back) }
     ensures back { IfOk result (λ t. IsChecked t.back) }
     ensures form { IfOk result (λ t. IsForm (data_of t.back)) }
+    ensures held { IfOk result (λ t. AreHeld (data_of t.back)) }
     ensures readable { IfOk result (λ t. IsReadable t.ctx t.dialect.0.0) }
     ensures structs { IfOk result (λ t. t.structs.items ≡ []) }
     ensures memory { IfErr result (λ e. e ≡ refusals.NoMemory) }
@@ -66,18 +67,19 @@ pub fn finish(alloc: Global, begun: Begun) -> Result<Transferred, TransferErr>
 /// The dialect module of a checked module of the form, in a context of its own, the module back, the match of blocks, and
 /// the identified structs, of which there are none yet. The module back is checked, and the dialect module stands in its
 /// context as an export reads it. It is refused only where the import
-/// refuses it: the export takes all that an import makes. So a module whose uses are valid is answered `Ok` or
-/// `NoMemory`.
+/// refuses it: the export takes all that an import makes. So a module whose uses are valid and whose types are held is
+/// answered `Ok` or `NoMemory`.
 pub fn transfer(alloc: Global, module: &LLVMModule) -> Result<Transferred, TransferErr>
     requires form { IsForm (data_of «module».now) }
     requires checked { IsChecked «module».now }
     ensures same { IfOk result (λ t. SameThroughout (data_of «module».now) t) }
     ensures back { IfOk result (λ t. IsChecked t.back) }
     ensures form { IfOk result (λ t. IsForm (data_of t.back)) }
+    ensures held { IfOk result (λ t. AreHeld (data_of t.back)) }
     ensures readable { IfOk result (λ t. IsReadable t.ctx t.dialect.0.0) }
     ensures structs { IfOk result (λ t. t.structs.items ≡ []) }
     ensures cause { IfErr result (λ e. IsCause (data_of «module».now) e) }
-    ensures complete { IsValid (data_of «module».now) → IfErr result (λ e. e ≡ refusals.NoMemory) }
+    ensures complete { IsValid (data_of «module».now) → AreHeld (data_of «module».now) → IfErr result (λ e. e ≡ refusals.NoMemory) }
 {
     let begun = begin(alloc, module)?;
     finish(alloc, begun)

@@ -17,4 +17,4 @@ returns-clause-rounds c = λ m read numbered started text spelled.
     let made = c.in_ok-transferred.ensures in
     let done = c.in_ok-output.ensures in
     let all = output_of m _ t _ _ _ made.kept started (rw c.as_slice.ensures.value at done.ended) in
-    rounds_of text m t _ _ done.modules read numbered spelled (made.same m started.begun) made.back made.readable made.structs all
+    rounds_of text m t _ _ done.modules read started.begun.held numbered spelled (made.same m started.begun) made.back made.readable made.structs all

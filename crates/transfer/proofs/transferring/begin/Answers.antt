@@ -1,5 +1,5 @@
--- A new context is typed, what an import promises is what an export needs, and a module whose uses are valid is
--- refused for want of memory alone.
+-- A new context is typed, what an import promises is what an export needs, and a module whose uses are valid and whose
+-- types are held is refused for want of memory alone.
 use Rattle.std.proofs.Common.{◌≡◌, IfErr, rules}
 use Rattle.std.proofs.lemmas.Result.{IfErr-weaker}
 use Rattle.llvm_core.specs.Data.{data_of}
@@ -15,6 +15,7 @@ use Rattle.transfer.proofs.transferring.begin.Goals as goal
 pub returns-clause-begun : goal.returns-clause-begun
 returns-clause-begun c = record {
   form = c.requires.form;
+  held = c.in_ok-imported.ensures.held;
   distinct = distinct_of_checked c.args.«module».now c.requires.checked;
   imported = c.in_ok-imported.ensures.imported;
   typed = c.convert_module.ensures.typed (empty_typed c.new-ctx.result c.new-ctx.ensures);
@@ -32,8 +33,8 @@ returns-in_err-imported-clause-cause c =
     search rules
 
 pub returns-in_err-imported-clause-complete : goal.returns-in_err-imported-clause-complete
-returns-in_err-imported-clause-complete c = λ valid.
+returns-in_err-imported-clause-complete c = λ valid held.
     let m = data_of c.args.«module».now in
     let cause = of_import_cause m c.in_err-imported.field-0.0 c.in_err-imported.ensures.cause in
     let all : IfErr c.from_residual.result (IsCause m) = search rules in
-    IfErr-weaker c.from_residual.result (IsCause m) (λ (e : TransferErr). e ≡ T.NoMemory) (λ e h. only_memory m e h valid) all
+    IfErr-weaker c.from_residual.result (IsCause m) (λ (e : TransferErr). e ≡ T.NoMemory) (λ e h. only_memory m e h valid held) all
