@@ -5,7 +5,7 @@ What is no such text is `NotYet`.
 import re
 
 from names import name_said, text_said
-from value_types import BIT, FLOATING, MAX_WIDTH, SPACES, Floating, Integer, Pointer, has_constants, is_integer
+from value_types import BIT, FLOATING, LACKED, MAX_WIDTH, SPACES, Floating, Integer, Lacked, Pointer, has_constants, is_integer
 
 PREDICATES = "eq ne ugt uge ult ule sgt sge slt sle".split()
 FLAGGED = "add sub mul shl".split()  # of two operands of one type, with flags
@@ -99,8 +99,8 @@ class Reader:
         if self.skip("ptr"):
             return Pointer(self.space() if self.skip("addrspace") else 0)
         word = self.take("word")
-        need(word in FLOATING, f"type {word!r}")
-        return Floating(word)
+        need(word in FLOATING or word in LACKED, f"type {word!r}")
+        return Floating(word) if word in FLOATING else Lacked(word)
 
     def integer(self):
         width = int(self.take("int")[1:])
