@@ -1,11 +1,13 @@
 -- What follows for a type from where it stands. Beside the tests that answer them, only these laws look into the words of `Held`.
-use Rattle.std.proofs.Common.{arith, ◌≡◌, ◌≤◌, ◌<◌, ◌^◌, ℕ, Bool, true, false, ◌||◌, refl, Some, None}
+use Rattle.std.proofs.Common.{arith, ◌≡◌, ◌≤◌, ◌<◌, ◌^◌, ℕ, Bool, true, false, ◌||◌, refl, ap, ◌∙◌, Some, None, All}
 use Rattle.kinds.specs.declared.fitting.Shape.{Shape}
 use Rattle.kinds.specs.declared.fitting.Shape.TheVariants as S
 use Rattle.kinds.specs.declared.types.OtherType.{OtherType}
-use Rattle.kinds.specs.Types.{TypeTree, VoidType, IntType, PointerType, FloatingType, RefusedType, FunctionType, shape}
+use Rattle.kinds.specs.Types.{TypeTree, VoidType, IntType, PointerType, FloatingType, RefusedType, ArrayType, VectorType, StructType, FunctionType, shape, depth, parts_of}
 use Rattle.kinds.specs.Fitting.{is_value, is_first_class, is_held}
-use Rattle.kinds.specs.Held.{is_void, own_type, IsFirstClass, IsReturned, IsHeld, IsHeldResult, refused_of}
+use Rattle.kinds.specs.Held.{is_void, own_type, too_deep, throughout, IsShallow, IsFirstClass, IsReturned, IsHeld, IsHeldResult, Holds, refused_of}
+use Rattle.kinds.proofs.DepthLaws.{flat_shallow, parts_shallow}
+use Rattle.kinds.proofs.PartLaws.{throughout_shape, parts_throughout, throughout_weaker, first_held, held_holds_none, void_holds_none, All-both}
 
 -- ---- void
 
@@ -16,6 +18,9 @@ void_is (IntType w) e = cc
 void_is (PointerType s) e = cc
 void_is (FloatingType a) e = cc
 void_is (RefusedType a) e = cc
+void_is (ArrayType n t) e = cc
+void_is (VectorType k n t) e = cc
+void_is (StructType l ts) e = cc
 void_is (FunctionType r ps v) e = cc
 
 pub void_if : (t : TypeTree) → t ≡ VoidType → is_void t ≡ true
@@ -55,7 +60,8 @@ value_own t e = by (shape t) refl e
     by (S.Int w) is e = cc
     by (S.Pointer s) is e = cc
     by S.Other is e = cc
-    by S.Refused is e = cc
+    by (S.Refused of) is e = cc
+    by S.Made is e = cc
     by S.Function is e = cc
 
 -- ---- first class
@@ -65,12 +71,13 @@ shape_value S.Void e = cc
 shape_value (S.Int w) e = refl
 shape_value (S.Pointer s) e = refl
 shape_value S.Other e = refl
-shape_value S.Refused e = refl
+shape_value (S.Refused of) e = refl
+shape_value S.Made e = refl
 shape_value S.Function e = cc
 
 pub first_class_value : (t : TypeTree) → IsFirstClass t → is_value (shape t) ≡ true
 unfolding IsFirstClass
-first_class_value t h = shape_value (shape t) h
+first_class_value t h = shape_value (shape t) (throughout_shape is_first_class refl t h.0)
 
 pub first_class_own : (t : TypeTree) → IsFirstClass t → is_void t ≡ false
 first_class_own t h = value_own t (first_class_value t h)
@@ -78,19 +85,53 @@ first_class_own t h = value_own t (first_class_value t h)
 -- what is returned is of a value, unless it is void
 pub returned_own : (t : TypeTree) → IsReturned t → is_void t ≡ false → IsFirstClass t
 unfolding IsReturned IsFirstClass
-returned_own t h e = cc
+returned_own t h e = (let k = h.0 in cc, h.1)
 
 pub returned_if : (t : TypeTree) → IsFirstClass t → IsReturned t
 unfolding IsReturned IsFirstClass
-returned_if t h = by (is_void t) refl
+returned_if t h = (by (is_void t) refl, h.1)
   where
-    by : (v : Bool) → is_void t ≡ v → (is_void t || is_first_class (shape t)) ≡ true
+    by : (v : Bool) → is_void t ≡ v → (is_void t || throughout is_first_class t) ≡ true
     by true is = cc
-    by false is = cc
+    by false is = let k = h.0 in cc
+
+-- void nests no deeper than is allowed
+void_shallow : (t : TypeTree) → is_void t ≡ true → IsShallow t
+void_shallow t e = ap (λ (u : TypeTree). too_deep (depth u)) (void_is t e) ∙ flat_shallow VoidType (omega arith)
 
 pub returned_void : (t : TypeTree) → is_void t ≡ true → IsReturned t
 unfolding IsReturned
-returned_void t e = cc
+returned_void t e = (cc, void_shallow t e)
+
+-- told by its parts and its depth, and what that tells
+pub first_class_by : (t : TypeTree) → throughout is_first_class t ≡ true → IsShallow t → IsFirstClass t
+unfolding IsFirstClass
+first_class_by t e h = (e, h)
+
+pub first_class_throughout : (t : TypeTree) → IsFirstClass t → throughout is_first_class t ≡ true
+unfolding IsFirstClass
+first_class_throughout t h = h.0
+
+pub first_class_shallow : (t : TypeTree) → IsFirstClass t → IsShallow t
+unfolding IsFirstClass
+first_class_shallow t h = h.1
+
+pub returned_by : (t : TypeTree) → (is_void t || throughout is_first_class t) ≡ true → IsShallow t → IsReturned t
+unfolding IsReturned
+returned_by t e h = (e, h)
+
+pub returned_throughout : (t : TypeTree) → IsReturned t → (is_void t || throughout is_first_class t) ≡ true
+unfolding IsReturned
+returned_throughout t h = h.0
+
+pub returned_shallow : (t : TypeTree) → IsReturned t → IsShallow t
+unfolding IsReturned
+returned_shallow t h = h.1
+
+-- what a type of a value is made of are types of values
+pub parts_first_class : (t : TypeTree) → IsFirstClass t → All IsFirstClass (parts_of t)
+unfolding IsFirstClass
+parts_first_class t h = All-both (λ (u : TypeTree). throughout is_first_class u ≡ true) IsShallow (parts_of t) (parts_throughout is_first_class refl t h.0) (parts_shallow t h.1)
 
 -- ---- translated
 
@@ -99,12 +140,13 @@ shape_first_class S.Void e = cc
 shape_first_class (S.Int w) e = grind arith
 shape_first_class (S.Pointer s) e = e
 shape_first_class S.Other e = refl
-shape_first_class S.Refused e = cc
+shape_first_class (S.Refused of) e = cc
+shape_first_class S.Made e = refl
 shape_first_class S.Function e = cc
 
 pub held_first_class : (t : TypeTree) → IsHeld t → IsFirstClass t
 unfolding IsHeld IsFirstClass
-held_first_class t h = shape_first_class (shape t) h
+held_first_class t h = (throughout_weaker is_held is_first_class shape_first_class t h.0, h.1)
 
 pub held_value : (t : TypeTree) → IsHeld t → is_value (shape t) ≡ true
 held_value t h = first_class_value t (held_first_class t h)
@@ -114,19 +156,44 @@ held_own t h = value_own t (held_value t h)
 
 pub held_result_own : (t : TypeTree) → IsHeldResult t → is_void t ≡ false → IsHeld t
 unfolding IsHeldResult IsHeld
-held_result_own t h e = cc
+held_result_own t h e = (let k = h.0 in cc, h.1)
 
 pub held_result_if : (t : TypeTree) → IsHeld t → IsHeldResult t
 unfolding IsHeldResult IsHeld
-held_result_if t h = by (is_void t) refl
+held_result_if t h = (by (is_void t) refl, h.1)
   where
-    by : (v : Bool) → is_void t ≡ v → (is_void t || is_held (shape t)) ≡ true
+    by : (v : Bool) → is_void t ≡ v → (is_void t || throughout is_held t) ≡ true
     by true is = cc
-    by false is = cc
+    by false is = let k = h.0 in cc
 
 pub held_result_void : (t : TypeTree) → is_void t ≡ true → IsHeldResult t
 unfolding IsHeldResult
-held_result_void t e = cc
+held_result_void t e = (cc, void_shallow t e)
+
+pub held_by : (t : TypeTree) → throughout is_held t ≡ true → IsShallow t → IsHeld t
+unfolding IsHeld
+held_by t e h = (e, h)
+
+pub held_shape : (t : TypeTree) → IsHeld t → is_held (shape t) ≡ true
+unfolding IsHeld
+held_shape t h = throughout_shape is_held refl t h.0
+
+pub held_throughout : (t : TypeTree) → IsHeld t → throughout is_held t ≡ true
+unfolding IsHeld
+held_throughout t h = h.0
+
+pub held_shallow : (t : TypeTree) → IsHeld t → IsShallow t
+unfolding IsHeld
+held_shallow t h = h.1
+
+pub held_result_shallow : (t : TypeTree) → IsHeldResult t → IsShallow t
+unfolding IsHeldResult
+held_result_shallow t h = h.1
+
+-- what a translated type is made of is translated
+pub parts_held : (t : TypeTree) → IsHeld t → All IsHeld (parts_of t)
+unfolding IsHeld
+parts_held t h = All-both (λ (u : TypeTree). throughout is_held u ≡ true) IsShallow (parts_of t) (parts_throughout is_held refl t h.0) (parts_shallow t h.1)
 
 pub held_result_returned : (t : TypeTree) → IsHeldResult t → IsReturned t
 held_result_returned t h = by (is_void t) refl
@@ -135,38 +202,39 @@ held_result_returned t h = by (is_void t) refl
     by true is = returned_void t is
     by false is = returned_if t (held_first_class t (held_result_own t h is))
 
--- what is returned is translated, unless it is a type for which the dialect has none
+-- what is returned is translated, unless it holds a type for which the dialect has none
 pub returned_held : (t : TypeTree) → IsReturned t → refused_of t ≡ None → IsHeldResult t
-unfolding IsReturned IsHeldResult
-returned_held (RefusedType of) h e = cc
-returned_held t h e = h
+returned_held t h none = by (is_void t) refl
+  where
+    by : (v : Bool) → is_void t ≡ v → IsHeldResult t
+    by true is = held_result_void t is
+    by false is = let own = returned_own t h is in held_result_if t (held_by t (first_held t none (first_class_throughout t own)) (first_class_shallow t own))
 
-pub refused_is : (t : TypeTree) (of : OtherType) → refused_of t ≡ Some of → t ≡ RefusedType of
-refused_is (RefusedType a) of e = cc
-refused_is t of e = cc
-
-pub refused_not_held : (of : OtherType) → IsHeldResult (RefusedType of) → ⊥
-unfolding IsHeldResult
-refused_not_held of h = cc
+pub held_result_holds_none : (of : OtherType) (t : TypeTree) → Holds (RefusedType of) t → IsHeldResult t → ⊥
+held_result_holds_none of t inside h = by (is_void t) refl
+  where
+    by : (v : Bool) → is_void t ≡ v → ⊥
+    by true is = void_holds_none of t inside (void_is t is)
+    by false is = held_holds_none of t inside (held_throughout t (held_result_own t h is))
 
 -- ---- integers
 
 pub held_int : (w : ℕ) → IsHeld (IntType w) → (1 ≤ w) × (w ≤ 2 ^ 23)
 unfolding IsHeld
-held_int w h = grind arith
+held_int w h = let k = h.0 in grind arith
 
 pub int_held : (w : ℕ) → 1 ≤ w → w ≤ 2 ^ 23 → IsHeld (IntType w)
 unfolding IsHeld
-int_held w a b = grind arith
+int_held w a b = (grind arith, flat_shallow (IntType w) (omega arith))
 
 pub int_first_class : (w : ℕ) → 1 ≤ w → w ≤ 2 ^ 23 → IsFirstClass (IntType w)
 unfolding IsFirstClass
-int_first_class w a b = grind arith
+int_first_class w a b = (grind arith, flat_shallow (IntType w) (omega arith))
 
 pub first_class_int : (w : ℕ) → IsFirstClass (IntType w) → (1 ≤ w) × (w ≤ 2 ^ 23)
 unfolding IsFirstClass
-first_class_int w h = grind arith
+first_class_int w h = let k = h.0 in grind arith
 
 pub first_class_pointer : (s : ℕ) → IsFirstClass (PointerType s) → s < 2 ^ 24
 unfolding IsFirstClass
-first_class_pointer s h = grind arith
+first_class_pointer s h = let k = h.0 in grind arith

@@ -1,5 +1,5 @@
 -- Whether operands fit a row, given how many there are and the types of the first three, whatever a type is.
-use Rattle.std.specs.Prelude.{ℕ, Bool, true, false, ◌&&◌, ◌^◌, nat_eq, nat_le, nat_lt, Option, Some, None}
+use Rattle.std.specs.Prelude.{ℕ, Bool, true, false, not, ◌&&◌, ◌^◌, nat_eq, nat_le, nat_lt, Option, Some, None}
 use Rattle.kinds.specs.declared.rules.Fit.{Fit}
 use Rattle.kinds.specs.declared.rules.Fit.TheVariants as F
 use Rattle.kinds.specs.declared.rules.Takes.{Takes}
@@ -10,6 +10,7 @@ use Rattle.kinds.specs.declared.rules.Rule.{Rule}
 use Rattle.kinds.specs.declared.fitting.Shape.{Shape}
 use Rattle.kinds.specs.declared.fitting.Shape.TheVariants as S
 use Rattle.kinds.specs.declared.fitting.TypeView.{TypeView}
+use Rattle.kinds.specs.declared.types.OtherType.TheVariants as O
 
 -- ---- shapes
 
@@ -19,7 +20,8 @@ is_value S.Void = false
 is_value (S.Int w) = true
 is_value (S.Pointer space) = true
 is_value S.Other = true
-is_value S.Refused = true
+is_value (S.Refused of) = true
+is_value S.Made = true
 is_value S.Function = false
 
 abbrev pub is_number : Shape → Bool
@@ -27,7 +29,8 @@ is_number S.Void = false
 is_number (S.Int w) = true
 is_number (S.Pointer space) = false
 is_number S.Other = false
-is_number S.Refused = false
+is_number (S.Refused of) = false
+is_number S.Made = false
 is_number S.Function = false
 
 -- i1
@@ -36,7 +39,8 @@ is_bit S.Void = false
 is_bit (S.Int w) = nat_eq w 1
 is_bit (S.Pointer space) = false
 is_bit S.Other = false
-is_bit S.Refused = false
+is_bit (S.Refused of) = false
+is_bit S.Made = false
 is_bit S.Function = false
 
 -- void
@@ -45,7 +49,8 @@ is_nothing S.Void = true
 is_nothing (S.Int w) = false
 is_nothing (S.Pointer space) = false
 is_nothing S.Other = false
-is_nothing S.Refused = false
+is_nothing (S.Refused of) = false
+is_nothing S.Made = false
 is_nothing S.Function = false
 
 abbrev pub is_function : Shape → Bool
@@ -53,7 +58,8 @@ is_function S.Void = false
 is_function (S.Int w) = false
 is_function (S.Pointer space) = false
 is_function S.Other = false
-is_function S.Refused = false
+is_function (S.Refused of) = false
+is_function S.Made = false
 is_function S.Function = true
 
 -- the width of an integer
@@ -62,7 +68,8 @@ width_of S.Void = 0
 width_of (S.Int w) = w
 width_of (S.Pointer space) = 0
 width_of S.Other = 0
-width_of S.Refused = 0
+width_of (S.Refused of) = 0
+width_of S.Made = 0
 width_of S.Function = 0
 
 -- a type of a value, whose width is one that there is
@@ -71,7 +78,8 @@ is_first_class S.Void = false
 is_first_class (S.Int w) = nat_le 1 w && nat_le w (2 ^ 23)
 is_first_class (S.Pointer space) = nat_lt space (2 ^ 24)
 is_first_class S.Other = true
-is_first_class S.Refused = true
+is_first_class (S.Refused of) = true
+is_first_class S.Made = true
 is_first_class S.Function = false
 
 -- one that is translated: not so a type of values for which the dialect has no type
@@ -80,8 +88,35 @@ is_held S.Void = false
 is_held (S.Int w) = nat_le 1 w && nat_le w (2 ^ 23)
 is_held (S.Pointer space) = nat_lt space (2 ^ 24)
 is_held S.Other = true
-is_held S.Refused = false
+is_held (S.Refused of) = false
+is_held S.Made = true
 is_held S.Function = false
+
+-- ---- what a type is made of
+
+abbrev pub is_token : Shape → Bool
+is_token (S.Refused O.Token) = true
+is_token _ = false
+
+abbrev pub is_amx : Shape → Bool
+is_amx (S.Refused O.X86Amx) = true
+is_amx _ = false
+
+abbrev pub is_made : Shape → Bool
+is_made S.Made = true
+is_made _ = false
+
+-- a field of a struct: any type of a value but `token` (Language Reference, Structure Type)
+abbrev pub is_field : Shape → Bool
+is_field s = is_first_class s && not (is_token s)
+
+-- so many of them make an array: any type of a value but `token` and `x86_amx` (Language Reference, Array Type)
+abbrev pub is_array_of : ℕ → Shape → Bool
+is_array_of count s = nat_lt count (2 ^ 64) && is_field s && not (is_amx s)
+
+-- so many of them make a vector: integers, pointers or floating-point types (Language Reference, Vector Type)
+abbrev pub is_vector_of : ℕ → Shape → Bool
+is_vector_of count s = nat_le 1 count && nat_lt count (2 ^ 32) && is_array_of count s && not (is_made s)
 
 -- two integers, of which the first is wider
 abbrev pub is_wider : Shape → Shape → Bool

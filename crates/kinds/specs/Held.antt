@@ -1,8 +1,10 @@
 -- What types stand where: those of values, those that are translated, those of functions.
-use Rattle.std.specs.Prelude.{◌≡◌, ◌≤◌, ℕ, Bool, true, false, ◌||◌, if◌then◌else◌, Option, Some, None, All}
+use Rattle.std.specs.Prelude.{◌≡◌, ◌≤◌, ℕ, Bool, true, false, ◌&&◌, ◌||◌, nat_lt, if◌then◌else◌, Option, Some, None, All, slice_get}
+use Rattle.std.specs.Option.{option_or}
 use Rattle.kinds.specs.declared.types.OtherType.{OtherType}
-use Rattle.kinds.specs.Types.{TypeTree, TypeTrees, RefusedType, FunctionType, shape, types_list}
-use Rattle.kinds.specs.Fitting.{is_nothing, is_first_class, is_held, width_of}
+use Rattle.kinds.specs.declared.fitting.Shape.{Shape}
+use Rattle.kinds.specs.Types.{TypeTree, TypeTrees, NoTypes, ThenType, RefusedType, ArrayType, VectorType, StructType, FunctionType, shape, types_list, parts_of, depth}
+use Rattle.kinds.specs.Fitting.{is_nothing, is_first_class, is_held, is_field, is_array_of, is_vector_of, width_of}
 
 -- ---- no value
 
@@ -17,29 +19,67 @@ own_type t = if is_void t then None else Some t
 abbrev pub width_in : TypeTree → ℕ
 width_in t = width_of (shape t)
 
+-- ---- depth
+
+-- No type may nest so deep. The word is closed, so that no proof meets the number.
+unfoldable pub too_deep : (depth : ℕ) → Bool
+too_deep n = nat_lt 1000 n
+
+-- a type nests no deeper than is allowed
+abbrev pub IsShallow : TypeTree → Type 0
+IsShallow t = too_deep (depth t) ≡ false
+
 -- ---- values
 
--- A type of a value (Language Reference, First Class Types), of a width that there is. These words are closed, so that
--- what is said of them by laws holds of each type that comes later.
+abbrev mutual
+  -- the type is made of what may stand there, all the way in, and the innermost parts pass the test: a line for each kind with parts
+  pub throughout : (Shape → Bool) → TypeTree → Bool
+  throughout p (ArrayType count t) = is_array_of count (shape t) && throughout p t
+  throughout p (VectorType kind count t) = is_vector_of count (shape t) && throughout p t
+  throughout p (StructType layout ts) = each_throughout p ts
+  throughout p t = p (shape t)
+
+  -- of each field
+  pub each_throughout : (Shape → Bool) → TypeTrees → Bool
+  each_throughout p NoTypes = true
+  each_throughout p (ThenType t ts) = (is_field (shape t) && throughout p t) && each_throughout p ts
+
+-- A type of a value (Language Reference, First Class Types), of a width that there is, that nests no deeper than is allowed.
+-- These words are closed, so that what is said of them by laws holds of each type that comes later.
 unfoldable pub IsFirstClass : TypeTree → Type 0
-IsFirstClass t = is_first_class (shape t) ≡ true
+IsFirstClass t = (throughout is_first_class t ≡ true) × IsShallow t
 
 -- what a function may return: nothing, or a value
 unfoldable pub IsReturned : TypeTree → Type 0
-IsReturned t = (is_void t || is_first_class (shape t)) ≡ true
+IsReturned t = ((is_void t || throughout is_first_class t) ≡ true) × IsShallow t
 
 -- a type of a value that is translated: each for which the dialect has one
 unfoldable pub IsHeld : TypeTree → Type 0
-IsHeld t = is_held (shape t) ≡ true
+IsHeld t = (throughout is_held t ≡ true) × IsShallow t
 
 -- what a function may return that is translated
 unfoldable pub IsHeldResult : TypeTree → Type 0
-IsHeldResult t = (is_void t || is_held (shape t)) ≡ true
+IsHeldResult t = ((is_void t || throughout is_held t) ≡ true) × IsShallow t
 
--- which of the types it is for which the dialect has none, where it is one
-abbrev pub refused_of : TypeTree → Option OtherType
-refused_of (RefusedType of) = Some of
-refused_of _ = None
+-- ---- types for which the dialect has none
+
+-- a type, and what it is made of, all the way in
+pub data Holds (u : TypeTree) : TypeTree → Type 0 where
+  Itself : Holds u u
+  InPart : (t v : TypeTree) → (i : ℕ) → slice_get (parts_of t) i ≡ Some v → Holds u v → Holds u t
+
+abbrev mutual
+  -- the first of these types that a type holds: a line for each kind with parts
+  pub refused_of : TypeTree → Option OtherType
+  refused_of (RefusedType of) = Some of
+  refused_of (ArrayType count t) = refused_of t
+  refused_of (VectorType kind count t) = refused_of t
+  refused_of (StructType layout ts) = refused_in ts
+  refused_of _ = None
+
+  pub refused_in : TypeTrees → Option OtherType
+  refused_in NoTypes = None
+  refused_in (ThenType t ts) = option_or (refused_of t) (refused_in ts)
 
 -- the width of an integer constant that is translated
 abbrev pub IsShortWidth : ℕ → Type 0
@@ -55,6 +95,7 @@ pub record IsSignature (t : TypeTree) : Type 0 where
   pub is : t ≡ FunctionType result params variadic
   pub returns : IsReturned result
   pub takes : All IsFirstClass (types_list params)
+  pub shallow : IsShallow t
 
 -- the type of a function that is translated: it is not variadic
 pub record IsHeldSignature (t : TypeTree) : Type 0 where
@@ -63,3 +104,4 @@ pub record IsHeldSignature (t : TypeTree) : Type 0 where
   pub is : t ≡ FunctionType result params false
   pub returns : IsHeldResult result
   pub takes : All IsHeld (types_list params)
+  pub shallow : IsShallow t

@@ -1,11 +1,15 @@
 -- Types as trees, the same for both sides.
-use Rattle.std.specs.Prelude.{ℕ, ◌+◌, Bool, true, false, ◌&&◌, nat_eq, List, [], ◌∷◌}
+use Rattle.std.specs.Prelude.{ℕ, ◌+◌, max, Bool, true, false, ◌&&◌, nat_eq, List, [], ◌∷◌}
 use Rattle.kinds.specs.declared.fitting.Shape.{Shape}
 use Rattle.kinds.specs.declared.fitting.Shape.TheVariants as S
 use Rattle.kinds.specs.declared.types.Floating.{Floating}
 use Rattle.kinds.specs.declared.types.Floating.TheVariants as F
 use Rattle.kinds.specs.declared.types.OtherType.{OtherType}
 use Rattle.kinds.specs.declared.types.OtherType.TheVariants as O
+use Rattle.kinds.specs.declared.types.VectorTypeKind.{VectorTypeKind}
+use Rattle.kinds.specs.declared.types.VectorTypeKind.TheVariants as V
+use Rattle.kinds.specs.declared.types.StructLayout.{StructLayout}
+use Rattle.kinds.specs.declared.types.StructLayout.TheVariants as L
 
 mutual
   -- a type, a line for each kind
@@ -17,6 +21,9 @@ mutual
     FloatingType : (of : Floating) → TypeTree
     -- for which the dialect has none
     RefusedType : (of : OtherType) → TypeTree
+    ArrayType : (count : ℕ) (element : TypeTree) → TypeTree
+    VectorType : (kind : VectorTypeKind) (count : ℕ) (element : TypeTree) → TypeTree
+    StructType : (layout : StructLayout) (fields : TypeTrees) → TypeTree
     FunctionType : (result : TypeTree) (params : TypeTrees) (variadic : Bool) → TypeTree
 
   pub data TypeTrees : Type 0 where
@@ -29,7 +36,10 @@ shape VoidType = S.Void
 shape (IntType w) = S.Int w
 shape (PointerType space) = S.Pointer space
 shape (FloatingType of) = S.Other
-shape (RefusedType of) = S.Refused
+shape (RefusedType of) = S.Refused of
+shape (ArrayType count t) = S.Made
+shape (VectorType kind count t) = S.Made
+shape (StructType layout ts) = S.Made
 shape (FunctionType result params variadic) = S.Function
 
 abbrev pub same_bool : Bool → Bool → Bool
@@ -52,6 +62,16 @@ same_other O.X86Amx O.X86Amx = true
 same_other O.Token O.Token = true
 same_other _ _ = false
 
+abbrev pub same_kind : VectorTypeKind → VectorTypeKind → Bool
+same_kind V.Fixed V.Fixed = true
+same_kind V.Scalable V.Scalable = true
+same_kind _ _ = false
+
+abbrev pub same_layout : StructLayout → StructLayout → Bool
+same_layout L.Unpacked L.Unpacked = true
+same_layout L.Packed L.Packed = true
+same_layout _ _ = false
+
 -- whether two types are one, a line for each kind
 abbrev mutual
   pub same_tree : TypeTree → TypeTree → Bool
@@ -60,6 +80,9 @@ abbrev mutual
   same_tree (PointerType s) (PointerType t) = nat_eq s t
   same_tree (FloatingType a) (FloatingType b) = same_floating a b
   same_tree (RefusedType a) (RefusedType b) = same_other a b
+  same_tree (ArrayType n t) (ArrayType m u) = nat_eq n m && same_tree t u
+  same_tree (VectorType k n t) (VectorType l m u) = same_kind k l && nat_eq n m && same_tree t u
+  same_tree (StructType l ts) (StructType k us) = same_layout l k && same_trees ts us
   same_tree (FunctionType r ps v) (FunctionType s qs w) = same_tree r s && same_trees ps qs && same_bool v w
   same_tree _ _ = false
 
@@ -85,6 +108,9 @@ result_of (IntType w) = VoidType
 result_of (PointerType space) = VoidType
 result_of (FloatingType of) = VoidType
 result_of (RefusedType of) = VoidType
+result_of (ArrayType count t) = VoidType
+result_of (VectorType kind count t) = VoidType
+result_of (StructType layout ts) = VoidType
 result_of (FunctionType result params variadic) = result
 
 -- what a function of that type takes
@@ -94,7 +120,34 @@ takes_of (IntType w) = NoTypes
 takes_of (PointerType space) = NoTypes
 takes_of (FloatingType of) = NoTypes
 takes_of (RefusedType of) = NoTypes
+takes_of (ArrayType count t) = NoTypes
+takes_of (VectorType kind count t) = NoTypes
+takes_of (StructType layout ts) = NoTypes
 takes_of (FunctionType result params variadic) = params
 
 abbrev pub params_of : TypeTree → List TypeTree
 params_of t = types_list (takes_of t)
+
+-- ---- parts
+
+-- the types that a type is made of
+abbrev pub parts_of : TypeTree → List TypeTree
+parts_of (ArrayType count t) = t ∷ []
+parts_of (VectorType kind count t) = t ∷ []
+parts_of (StructType layout ts) = types_list ts
+parts_of (FunctionType result params variadic) = result ∷ types_list params
+parts_of _ = []
+
+abbrev mutual
+  -- how deep a type nests, its innermost part counted
+  pub depth : TypeTree → ℕ
+  depth (ArrayType count t) = 1 + depth t
+  depth (VectorType kind count t) = 1 + depth t
+  depth (StructType layout ts) = 1 + depths ts
+  depth (FunctionType result params variadic) = 1 + max (depth result) (depths params)
+  depth _ = 1
+
+  -- the depth of the deepest
+  pub depths : TypeTrees → ℕ
+  depths NoTypes = 0
+  depths (ThenType t ts) = max (depth t) (depths ts)

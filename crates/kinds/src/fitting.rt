@@ -1,9 +1,10 @@
 //! Whether operands fit a row: one evaluator of the table's words, for either side.
 
 ghost use Rattle.std.specs.Prelude.{◌≡◌};
-ghost use Rattle.kinds.specs.Fitting.{fit, is_same, is_wider, is_written, takes_fit, fits, view_same, view_shape, is_value, is_number, is_bit, is_nothing, is_function, is_first_class, is_held};
+ghost use Rattle.kinds.specs.Fitting.{fit, is_same, is_wider, is_written, takes_fit, fits, view_same, view_shape, is_value, is_number, is_bit, is_nothing, is_function, is_first_class, is_held, is_token, is_amx, is_field, is_array_of, is_vector_of};
 
 use crate::rules::{Fit, Gives, Rule, Takes};
+use crate::types::OtherType;
 
 /// The greatest width of an integer type in bits, 2^23.
 const MAX_WIDTH: u32 = 8_388_608;
@@ -19,10 +20,12 @@ pub enum Shape {
     Int(u32),
     /// A pointer type of this address space.
     Pointer(u32),
-    /// A type of values that no rule looks into.
+    /// A type of values without parts, that no rule looks into.
     Other,
     /// A type of values for which the dialect has no type.
-    Refused,
+    Refused(OtherType),
+    /// A type of values that is made of others: what holds of these is asked of them.
+    Made,
     /// A type of no value.
     Function,
 }
@@ -43,7 +46,8 @@ pub fn is_value(shape: Shape) -> bool
         Shape::Int(_) => true,
         Shape::Pointer(_) => true,
         Shape::Other => true,
-        Shape::Refused => true,
+        Shape::Refused(_) => true,
+        Shape::Made => true,
         Shape::Function => false,
     }
 }
@@ -56,7 +60,8 @@ fn is_number(shape: Shape) -> bool
         Shape::Int(_) => true,
         Shape::Pointer(_) => false,
         Shape::Other => false,
-        Shape::Refused => false,
+        Shape::Refused(_) => false,
+        Shape::Made => false,
         Shape::Function => false,
     }
 }
@@ -69,7 +74,8 @@ fn is_bit(shape: Shape) -> bool
         Shape::Int(width) => width == 1,
         Shape::Pointer(_) => false,
         Shape::Other => false,
-        Shape::Refused => false,
+        Shape::Refused(_) => false,
+        Shape::Made => false,
         Shape::Function => false,
     }
 }
@@ -83,7 +89,8 @@ pub fn is_nothing(shape: Shape) -> bool
         Shape::Int(_) => false,
         Shape::Pointer(_) => false,
         Shape::Other => false,
-        Shape::Refused => false,
+        Shape::Refused(_) => false,
+        Shape::Made => false,
         Shape::Function => false,
     }
 }
@@ -97,7 +104,8 @@ pub fn is_function(shape: Shape) -> bool
         Shape::Int(_) => false,
         Shape::Pointer(_) => false,
         Shape::Other => false,
-        Shape::Refused => false,
+        Shape::Refused(_) => false,
+        Shape::Made => false,
         Shape::Function => true,
     }
 }
@@ -112,7 +120,8 @@ pub fn is_first_class(shape: Shape) -> bool
         Shape::Int(width) => 1 <= width && width <= MAX_WIDTH,
         Shape::Pointer(space) => space <= MAX_SPACE,
         Shape::Other => true,
-        Shape::Refused => true,
+        Shape::Refused(_) => true,
+        Shape::Made => true,
         Shape::Function => false,
     }
 }
@@ -126,9 +135,44 @@ pub fn is_held(shape: Shape) -> bool
         Shape::Int(width) => 1 <= width && width <= MAX_WIDTH,
         Shape::Pointer(space) => space <= MAX_SPACE,
         Shape::Other => true,
-        Shape::Refused => false,
+        Shape::Refused(_) => false,
+        Shape::Made => true,
         Shape::Function => false,
     }
+}
+
+fn is_token(shape: Shape) -> bool
+    ensures { result ≡ is_token shape }
+{
+    matches!(shape, Shape::Refused(OtherType::Token))
+}
+
+fn is_amx(shape: Shape) -> bool
+    ensures { result ≡ is_amx shape }
+{
+    matches!(shape, Shape::Refused(OtherType::X86Amx))
+}
+
+/// Whether a struct may have a field of a type of this shape (Language Reference, Structure Type).
+pub fn is_field(shape: Shape) -> bool
+    ensures { result ≡ is_field shape }
+{
+    is_first_class(shape) && !is_token(shape)
+}
+
+/// Whether so many of a type of this shape make an array (Language Reference, Array Type).
+pub fn is_array_of(count: u64, shape: Shape) -> bool
+    ensures { result ≡ is_array_of count shape }
+{
+    let _range = count;
+    is_field(shape) && !is_amx(shape)
+}
+
+/// Whether so many of a type of this shape make a vector (Language Reference, Vector Type).
+pub fn is_vector_of(count: u32, shape: Shape) -> bool
+    ensures { result ≡ is_vector_of count shape }
+{
+    1 <= count && is_array_of(u64::from(count), shape) && shape != Shape::Made
 }
 
 /// Whether both are integers, and the first is wider.

@@ -1,4 +1,8 @@
-//! Types that have no parts, one enum for both sides.
+//! What both sides say of types with the same words: those without parts, how vectors and structs are laid out, and how
+//! deep a type may nest.
+
+ghost use Rattle.std.specs.Prelude.{◌≡◌};
+ghost use Rattle.kinds.specs.Held.{too_deep};
 
 /// A floating-point type (Language Reference, Floating-Point Types): a line for each.
 #[derive(Clone, Copy, PartialEq, Eq, Hash, Debug, Drop)]
@@ -26,4 +30,33 @@ pub enum OtherType {
     X86Amx,
     /// What ties an instruction to its uses (Language Reference, Token Type).
     Token,
+}
+
+/// How many elements a vector has (Language Reference, Vector Type).
+#[derive(Clone, Copy, PartialEq, Eq, Hash, Debug, Drop)]
+pub enum VectorTypeKind {
+    /// As many as it says.
+    Fixed,
+    /// A multiple of that, which the machine tells.
+    Scalable,
+}
+
+/// How the fields of a struct lie (Language Reference, Structure Type).
+#[derive(Clone, Copy, PartialEq, Eq, Hash, Debug, Drop)]
+pub enum StructLayout {
+    /// Each at its own alignment.
+    Unpacked,
+    /// One directly behind the other.
+    Packed,
+}
+
+/// So deep a type may nest.
+const DEEPEST: u32 = 1000;
+
+/// Whether no type may nest so deep.
+#[tactic(auto, unfolding(crate::specs::Held::too_deep))]
+pub fn too_deep(depth: u32) -> bool
+    ensures { result ≡ too_deep depth }
+{
+    depth > DEEPEST
 }
