@@ -41,6 +41,9 @@ same_kinds ts n m known (T.Function r xs c) (T.Function s ys d) p q h =
     let e = known r s p.0 q.0 (cc) in
     let f = same_lists ts n m known xs ys p.1 q.1 (cc) in
     cc
+same_kinds ts n m known (T.Array c t) (T.Array d u) p q h = let e = known t u p q (cc) in cc
+same_kinds ts n m known (T.Vector j c t) (T.Vector k d u) p q h = let e = known t u p q (cc) in cc
+same_kinds ts n m known (T.Literal xs c) (T.Literal ys d) p q h = let f = same_lists ts n m known xs ys p q (cc) in cc
 same_kinds ts n m known k l p q h = grind arith
 
 -- by the larger of the numbers

@@ -18,7 +18,7 @@ use Rattle.llvm_core.specs.declared.code.BlockData.{BlockData}
 use Rattle.llvm_core.specs.declared.code.InstData.{InstData}
 use Rattle.llvm_core.specs.Module.{Module}
 use Rattle.llvm_core.specs.Code.{code_of, with_code}
-use Rattle.llvm_core.specs.Parts.{IsTypeOver, IsConstOver}
+use Rattle.llvm_core.specs.Parts.{IsTypeOver, HasFitParts, IsConstOver}
 use Rattle.llvm_core.specs.Sound.{IsFunctionIn, IsBlockIn, IsInstIn, IsListedBlock, IsListedInst, OwnsBlocks, OwnsInsts, IsModule}
 use Rattle.llvm_core.specs.Bodies.{with_lists, added, block_numbers, inst_numbers, body_blocks, body_insts, inst_in}
 use Rattle.llvm_core.proofs.DataLemmas.{within_at}
@@ -29,6 +29,7 @@ use Rattle.llvm_core.proofs.BodyLists.{mapped_from, listed_twice, listed_none, n
 
 pub record IsFrame (m : Module) : Type 0 where
   pub types : (i : ℕ) (k : LLVMTypeKind) → slice_get m.types i ≡ Some k → IsTypeOver i k
+  pub types_fit : (i : ℕ) (k : LLVMTypeKind) → slice_get m.types i ≡ Some k → HasFitParts m.types k
   pub types_once : IsDistinctList m.types
   pub consts : (i : ℕ) (k : LLVMConstKind) → slice_get m.consts i ≡ Some k → IsConstOver m.types k
   pub consts_once : IsDistinctList m.consts
@@ -42,6 +43,7 @@ pub record IsFrame (m : Module) : Type 0 where
 pub frame_of : (m : Module) → IsModule m → IsFrame m
 frame_of m s = record {
   types = s.types;
+  types_fit = s.types_fit;
   types_once = s.types_once;
   consts = s.consts;
   consts_once = s.consts_once;
@@ -56,6 +58,7 @@ frame_of m s = record {
 pub module_of : (m : Module) → IsFrame m → ((i : ℕ) (x : InstData) → slice_get m.insts i ≡ Some x → IsInstIn m x) → IsModule m
 module_of m s insts = record {
   types = s.types;
+  types_fit = s.types_fit;
   types_once = s.types_once;
   consts = s.consts;
   consts_once = s.consts_once;
@@ -232,6 +235,7 @@ module _ (m : Module) (f : LLVMFunction) (b : BodyBlock) (s : IsFrame m) (there 
   pub put_frame : IsFrame more
   put_frame = record {
     types = s.types;
+    types_fit = s.types_fit;
     types_once = s.types_once;
     consts = s.consts;
     consts_once = s.consts_once;

@@ -13,10 +13,10 @@ use Rattle.llvm_core.specs.declared.code.InstData.{InstData}
 use Rattle.llvm_core.specs.declared.check_err.Place.{Place}
 use Rattle.llvm_core.specs.declared.check_err.Place.TheVariants as P
 use Rattle.llvm_core.specs.declared.check_err.CheckErr.{CheckErr}
-use Rattle.llvm_core.specs.declared.check_err.CheckErr.TheVariants.{NoMemory, NameTwice, NoTerminator, PhiPlace, PhiEntries, EntryHasPreds, OperandType, OperandCount, BlockOutside, IntrinsicBody, FunctionSpace, ListTooLong}
+use Rattle.llvm_core.specs.declared.check_err.CheckErr.TheVariants.{NoMemory, NameTwice, NoTerminator, PhiPlace, PhiEntries, EntryHasPreds, OperandType, OperandCount, BlockOutside, IntrinsicBody, FunctionSpace, TooDeep, ListTooLong}
 use Rattle.llvm_core.specs.Module.{Module}
 use Rattle.llvm_core.specs.Names.{Stands}
-use Rattle.llvm_core.specs.Checked.{AtFunction, AtBlock, AtInst, HasLongList, HasOtherTypeAt, Fails, MayAnswer, IsTaken, IsFreshName, IsCheckedFunction, IsCheckedBlock, IsCheckedInst, IsCheckedEdges, IsChecked, IsLong, is_bad_name, is_terminator, is_terminator_at, ends_in_only, names_before}
+use Rattle.llvm_core.specs.Checked.{AtFunction, AtBlock, AtInst, HasLongList, HasOtherTypeAt, HasDeepTypeAt, Fails, MayAnswer, IsTaken, IsFreshName, IsCheckedFunction, IsCheckedBlock, IsCheckedInst, IsCheckedDepths, IsCheckedEdges, IsChecked, IsLong, is_bad_name, is_terminator, is_terminator_at, ends_in_only, names_before}
 use Rattle.llvm_core.proofs.NameLemmas.{slice_get-taken}
 
 -- ---- names of functions
@@ -109,12 +109,18 @@ no_inst (P.Block b) none h = h
 no_inst (P.Inst i) none h = none i h
 
 module _ (m : Module) (few : ¬ IsLong m.functions) (fresh : (f : ℕ) → f < length m.functions → IsFreshName m f) (functions : (f : ℕ) → f < length m.functions → IsCheckedFunction m f)
-    (blocks : (b : ℕ) → b < length m.blocks → IsCheckedBlock m b) (insts : (i : ℕ) → i < length m.insts → IsCheckedInst m i) (edges : IsCheckedEdges m) where
+    (blocks : (b : ℕ) → b < length m.blocks → IsCheckedBlock m b) (insts : (i : ℕ) → i < length m.insts → IsCheckedInst m i) (depths : IsCheckedDepths m) (edges : IsCheckedEdges m) where
   types_fit : (p : Place) → ¬ HasOtherTypeAt m p
   types_fit P.Module h = h
   types_fit (P.Function f) h = (functions f (slice_get_within m.functions f h.0 h.1)).types h
   types_fit (P.Block b) h = h
   types_fit (P.Inst i) h = (insts i (slice_get_within m.insts i h.0 h.1)).types h
+
+  none_deep : (p : Place) → ¬ HasDeepTypeAt m p
+  none_deep P.Module h = h
+  none_deep (P.Function f) h = depths.functions f (slice_get_within m.functions f h.0 h.1) h
+  none_deep (P.Block b) h = h
+  none_deep (P.Inst i) h = depths.insts i (slice_get_within m.insts i h.0 h.1) h
 
   none_long : (p : Place) → ¬ HasLongList m p
   none_long P.Module h = few h
@@ -136,5 +142,6 @@ module _ (m : Module) (few : ¬ IsLong m.functions) (fresh : (f : ℕ) → f < l
   all_checked (BlockOutside p) = no_inst p (λ i h. (insts i (slice_get_within m.insts i h.0 h.1)).outside h)
   all_checked (IntrinsicBody p) = no_function p (λ f h. (functions f (slice_get_within m.functions f h.0 h.1)).bodies h)
   all_checked (FunctionSpace p) = no_function p (λ f h. (functions f (slice_get_within m.functions f h.0 h.1)).spaces h)
+  all_checked (TooDeep p) = none_deep p
   all_checked (ListTooLong p) = none_long p
   all_checked NoMemory = λ h. h

@@ -16,14 +16,14 @@ use Rattle.llvm_core.specs.declared.code.InstData.{InstData}
 use Rattle.llvm_core.specs.declared.code.LLVMInst.{LLVMInst}
 use Rattle.llvm_core.specs.declared.code.LLVMInst.TheVariants as I
 use Rattle.llvm_core.specs.declared.check_err.Place.TheVariants as P
-use Rattle.llvm_core.specs.declared.check_err.CheckErr.TheVariants.{NoTerminator, PhiPlace, PhiEntries, EntryHasPreds, OperandType, OperandCount, BlockOutside, IntrinsicBody, FunctionSpace}
+use Rattle.llvm_core.specs.declared.check_err.CheckErr.TheVariants.{NoTerminator, PhiPlace, PhiEntries, EntryHasPreds, OperandType, OperandCount, BlockOutside, IntrinsicBody, FunctionSpace, TooDeep}
 use Rattle.llvm_core.specs.Module.{Module}
 use Rattle.llvm_core.specs.Edges.{targets_at, targets_from}
 use Rattle.llvm_core.specs.Edges.{targets as leads_to}
 use Rattle.llvm_core.specs.Parts.{HasValues, IsBlock}
 use Rattle.llvm_core.specs.Sound.{IsModule}
 use Rattle.llvm_core.specs.Data.{Operand, Placed, Block, trees_of, block_at, data_of, operand_type}
-use Rattle.llvm_core.specs.Checked.{IsChecked, MisfitsType, is_intrinsic_name, misfits_count, home, ends_in_only, is_block_outside, is_outside, reaches_outside}
+use Rattle.llvm_core.specs.Checked.{IsChecked, MisfitsType, is_intrinsic_name, misfits_count, home, ends_in_only, is_block_outside, is_outside, reaches_outside, is_deep}
 use Rattle.llvm_core.specs.Form.{IsForm, IsFormFunction, IsFormBlock, IsFormPlaced, IsNarrow, IsNarrowFunction, IsNarrowBlock, IsNarrowPlaced, IsNarrowConst, operands_of, HasPhisFirst, is_last, is_phi}
 use Rattle.llvm_core.proofs.DataLemmas.{within_at, function_at}
 use Rattle.llvm_core.proofs.GivenLemmas.{none_any_at}
@@ -170,6 +170,7 @@ module _ (m : Module) (sound : IsModule m) (checked : IsChecked m) where
           type = narrow.type;
           returns = narrow.returns;
           takes = narrow.takes;
+          shallow = false_from_ne_true (is_deep m x.ty) (λ deep. checked (TooDeep (P.Function f)) (x, at, deep));
           space = elim (cases_eq x.space 0) [ inl none ↦ none | inr other ↦ absurd (checked (FunctionSpace (P.Function f)) (x, at, other)) ];
           params = (sound.functions f x at).params ∙ ap length (param_types_are m f x narrow.result narrow.types sound at s) ∙ sym (count_is (trees_of m).types s.params) ∙ ap count_types s.params_are;
           param_names = narrow.param_names;

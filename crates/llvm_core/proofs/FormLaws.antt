@@ -1,8 +1,11 @@
 -- A module of the form, with distinct names and short lists, meets every rule.
 use Rattle.std.proofs.Common.{◌≡◌, ◌≢◌, ◌<◌, ◌^◌, inl, inr, ℕ, suc, true, false, [], Option, None, Some, length, slice_get, map, refl, sym, ap, subst, ◌∙◌, arith}
-use Rattle.std.specs.List.{flat_map}
+use Rattle.std.specs.List.{flat_map, list_any}
 use Rattle.std.specs.Option.{option_map, option_map_or}
+use Rattle.std.proofs.lemmas.Bool.{or_from}
 use Rattle.std.proofs.lemmas.Option.{slice_get-map, same_Some}
+use Rattle.kinds.specs.Held.{IsReturned}
+use Rattle.kinds.proofs.HeldLaws.{returned_shallow}
 use Rattle.support.proofs.ListLaws.{item_there, from_joined}
 use Rattle.llvm_core.specs.declared.numbers.LLVMFunction.{LLVMFunction}
 use Rattle.llvm_core.specs.declared.numbers.LLVMBasicBlock.{LLVMBasicBlock}
@@ -17,7 +20,7 @@ use Rattle.llvm_core.specs.Parts.{operands}
 use Rattle.llvm_core.specs.Names.{HasTwice}
 use Rattle.llvm_core.specs.Sound.{IsModule}
 use Rattle.llvm_core.specs.Data.{Placed, Block, Function, AreApart, trees_of, instruction_of, data_of, placed_in, targets}
-use Rattle.llvm_core.specs.Checked.{IsTaken, IsFreshName, IsCheckedFunction, IsCheckedBlock, IsCheckedInst, IsCheckedEdges, IsChecked, IsLong, HasNoPreds, HasLatePhi, MisfitsEdges, home, local_names, ends_in_only, is_terminator_at}
+use Rattle.llvm_core.specs.Checked.{IsTaken, IsFreshName, IsCheckedFunction, IsCheckedBlock, IsCheckedInst, IsCheckedDepths, IsCheckedEdges, IsChecked, IsLong, is_deep, is_deep_value, is_deep_inst, HasNoPreds, HasLatePhi, MisfitsEdges, home, local_names, ends_in_only, is_terminator_at}
 use Rattle.llvm_core.specs.Form.{IsForm, IsFormFunction, IsFormBlock, IsFormPlaced, IsFormInstruction, IsTarget, IsFewIn, HasFew, HasDistinctNames, edges_between, operands_of}
 use Rattle.llvm_core.specs.Form.{local_names as names_of}
 use Rattle.llvm_core.proofs.DataLemmas.{within_at, function_at, function_count, block_count_of, inst_count_of, block_of_number, inst_of_number}
@@ -27,7 +30,7 @@ use Rattle.llvm_core.proofs.FormNames.{same_local_names, once_of_distinct}
 use Rattle.llvm_core.proofs.FormTypes.{numbered, signature_of, signature_fits}
 use Rattle.llvm_core.proofs.FormPlaces.{shown, shown_block, shown_inst, same_block_ends, same_phi_at, function_there, HasBlockPlace, block_place, inst_place, block_from, in_home}
 use Rattle.llvm_core.proofs.FormEdges.{StaysInside, count_absent, same_targets_from, one_place, same_edges}
-use Rattle.llvm_core.proofs.FormInsts.{leads_behind, type_fits, count_fits, inside, fits_edges, same_operand_count}
+use Rattle.llvm_core.proofs.FormInsts.{leads_behind, type_fits, count_fits, inside, operands_shallow, fits_edges, same_operand_count}
 
 -- the function at a number is of the form
 pub form_at : (m : Module) → IsForm (data_of m) → (f : ℕ) (x : FunctionData) → slice_get m.functions f ≡ Some x → IsFormFunction (shown m f x)
@@ -140,12 +143,14 @@ module _ (m : Module) (sound : IsModule m) (apart : AreApart m) (form : IsForm (
     block_is : slice_get m.blocks z.block.0 ≡ Some block
     own : block.function.0 ≡ f
     form_is : IsFormInstruction (shown m f function) z.block.0 (shown_inst m i z).type (instruction_of (trees_of m) z.inst)
+    returned : IsReturned (shown_inst m i z).type
 
   inst_form : (i : ℕ) (z : InstData) → slice_get m.insts i ≡ Some z → HasInstForm i z
   inst_form i z at =
       let p = inst_place m i z sound at in
       let b = block_form z.block.0 p.block p.block_is in
       let g = shown m p.block.function.0 b.function in
+      let placed = within_at (shown_block m z.block.0 p.block).instructions (IsFormPlaced g z.block.0) b.block.instructions p.place (shown_inst m i z) p.here in
       record {
         f = p.block.function.0;
         function = b.function;
@@ -154,7 +159,8 @@ module _ (m : Module) (sound : IsModule m) (apart : AreApart m) (form : IsForm (
         block = p.block;
         block_is = p.block_is;
         own = refl;
-        form_is = (within_at (shown_block m z.block.0 p.block).instructions (IsFormPlaced g z.block.0) b.block.instructions p.place (shown_inst m i z) p.here).instruction;
+        form_is = placed.instruction;
+        returned = placed.returned;
       }
 
   operands_few : (i : ℕ) (z : InstData) → slice_get m.insts i ≡ Some z → ¬ IsLong (operands z.inst)
@@ -179,6 +185,20 @@ module _ (m : Module) (sound : IsModule m) (apart : AreApart m) (form : IsForm (
         let p = inst_form i z at in
         cc (inside m p.f p.function sound apart p.function_is z.block.0 (shown_inst m i z).type z.inst p.form_is, p.home_is, reaches);
     lists = λ (z, at, long). operands_few i z at long;
+  }
+
+  -- ---- depth
+
+  inst_shallow : (i : ℕ) (z : InstData) → slice_get m.insts i ≡ Some z → is_deep_inst m z ≡ false
+  inst_shallow i z at =
+      let p = inst_form i z at in
+      or_from (is_deep m z.ty) (list_any (is_deep_value m) (operands z.inst)) (returned_shallow (shown_inst m i z).type p.returned)
+      (operands_shallow m p.f p.function sound apart p.function_is z.block.0 (shown_inst m i z).type z.inst (sound.insts i z at).values p.form_is)
+
+  depths_checked : IsCheckedDepths m
+  depths_checked = record {
+    functions = λ f lt (x, at, deep). let h = (form_at m form f x at).shallow in absurd cc;
+    insts = λ i lt (z, at, deep). let h = inst_shallow i z at in absurd cc;
   }
 
   -- ---- edges
@@ -248,4 +268,4 @@ module _ (m : Module) (sound : IsModule m) (apart : AreApart m) (form : IsForm (
 
   -- a module of the form meets every rule
   pub checked_of_form : IsChecked m
-  checked_of_form = all_checked m functions_few (λ f lt. fresh f) (λ f lt. function_checked f) (λ b lt. block_checked b) (λ i lt. inst_checked i) edges_checked
+  checked_of_form = all_checked m functions_few (λ f lt. fresh f) (λ f lt. function_checked f) (λ b lt. block_checked b) (λ i lt. inst_checked i) depths_checked edges_checked

@@ -1,9 +1,8 @@
 -- The local names of a function are those of its data.
-use Rattle.std.proofs.Common.{◌≡◌, ◌≢◌, inl, inr, ℕ, zero, suc, true, false, ◌||◌, nat_eq, List, [], ◌∷◌, ◌++◌, Option, None, Some, length, slice_get, refl, sym, ap, arith}
-use Rattle.std.specs.List.{list_all, list_any, flat_map}
+use Rattle.std.proofs.Common.{◌≡◌, inl, inr, ℕ, List, [], ◌++◌, Option, None, Some, slice_get, refl, ap, arith}
+use Rattle.std.specs.List.{flat_map}
 use Rattle.std.specs.Option.{option_map, option_map_or}
-use Rattle.std.proofs.lemmas.Bool.{and_parts, cases_order}
-use Rattle.std.proofs.lemmas.Bool.Decides.{nat_tests}
+use Rattle.std.proofs.lemmas.Bool.{cases_order}
 use Rattle.llvm_core.specs.declared.numbers.LLVMBasicBlock.{LLVMBasicBlock}
 use Rattle.llvm_core.specs.declared.numbers.LLVMInstRef.{LLVMInstRef}
 use Rattle.llvm_core.specs.declared.code.FunctionData.{FunctionData}
@@ -13,7 +12,7 @@ use Rattle.llvm_core.specs.Module.{Module}
 use Rattle.support.specs.Interned.{IsDistinctList}
 use Rattle.llvm_core.specs.Names.{HasTwice}
 use Rattle.llvm_core.specs.Data.{Placed, trees_of, placed_of, placed_at, block_of, block_at, function_of}
-use Rattle.llvm_core.specs.Checked.{is_bad_name, named, inst_names, block_names, local_names}
+use Rattle.llvm_core.specs.Checked.{named, inst_names, block_names, local_names}
 use Rattle.llvm_core.specs.Form.{names_in}
 use Rattle.llvm_core.specs.Form.{local_names as names_of}
 use Rattle.llvm_core.proofs.GivenLemmas.{flat_map-filter_map}

@@ -17,6 +17,7 @@ use Rattle.support.specs.Interned.{InternedBy, Interned, IsDistinctList}
 
 pub same_kind : (a b : LLVMTypeKind) → types.eq-value.it a b ≡ true → a ≡ b
 same_kind (T.Function r xs p) (T.Function s ys q) h = grind (arith, same_types xs ys)
+same_kind (T.Literal xs p) (T.Literal ys q) h = grind (arith, same_types xs ys)
 same_kind a b h = grind arith
 
 kind_decides : (a b : LLVMTypeKind) → Decides (types.eq-value.it a b) (a ≡ b)

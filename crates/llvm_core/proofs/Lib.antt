@@ -24,6 +24,8 @@ pub mod ApartLemmas
 pub mod RowLemmas
 pub mod RuleLaws
 pub mod GivenLemmas
+pub mod DepthLemmas
+pub mod WholeTypes
 pub mod FormNames
 pub mod FormTypes
 pub mod FormPlaces

@@ -27,6 +27,7 @@ named m name s =
     let g = same_but_named m name in
     record {
       types = s.types;
+      types_fit = s.types_fit;
       types_once = s.types_once;
       consts = s.consts;
       consts_once = s.consts_once;

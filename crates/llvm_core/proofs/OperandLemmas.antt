@@ -47,6 +47,7 @@ inst_changed m i change s ok =
     } in
     record {
       types = s.types;
+      types_fit = s.types_fit;
       types_once = s.types_once;
       consts = s.consts;
       consts_once = s.consts_once;

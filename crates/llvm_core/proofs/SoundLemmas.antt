@@ -1,7 +1,7 @@
 -- What building calls keep: `IsModule` before a call gives it after the call.
-use Rattle.std.proofs.Common.{◌≡◌, ◌<◌, ◌≤◌, ◌⊎◌, inl, inr, ℕ, zero, suc, List, [], ◌∷◌, ◌++◌, Option, Some, None, length, length-append, slice_get, slice_set, sym, ap, ◌∙◌, refl, arith, subst, map}
+use Rattle.std.proofs.Common.{Bool, true, false, ◌≡◌, ◌<◌, ◌≤◌, ◌⊎◌, inl, inr, ℕ, zero, suc, List, [], ◌∷◌, ◌++◌, Option, Some, None, length, length-append, slice_get, slice_set, sym, ap, ◌∙◌, refl, arith, subst, map}
 use Rattle.std.specs.Option.{option_map_or}
-use Rattle.std.proofs.lemmas.List.Elements.{All-push, All-nil}
+use Rattle.std.proofs.lemmas.List.Elements.{All-push, All-nil, All-weaker}
 use Rattle.std.proofs.lemmas.Option.{slice_get_within, same_Some}
 use Rattle.std.proofs.lemmas.List.{length-map}
 use Rattle.support.proofs.InternedLaws.{interned_kept, interned_longer, interned_cases}
@@ -10,7 +10,11 @@ use Rattle.llvm_core.specs.declared.numbers.LLVMType.{LLVMType}
 use Rattle.llvm_core.specs.declared.numbers.LLVMFunction.{LLVMFunction}
 use Rattle.llvm_core.specs.declared.numbers.LLVMBasicBlock.{LLVMBasicBlock}
 use Rattle.llvm_core.specs.declared.numbers.LLVMInstRef.{LLVMInstRef}
+use Rattle.kinds.specs.declared.fitting.Shape.{Shape}
+use Rattle.kinds.specs.declared.fitting.Shape.TheVariants as S
+use Rattle.kinds.specs.Fitting.{is_field, is_array_of, is_vector_of}
 use Rattle.llvm_core.specs.declared.types.LLVMTypeKind.{LLVMTypeKind}
+use Rattle.llvm_core.specs.declared.types.LLVMTypeKind.TheVariants as T
 use Rattle.llvm_core.specs.declared.types.ResultType.{ResultType}
 use Rattle.llvm_core.specs.declared.types.ResultType.TheVariants as R
 use Rattle.llvm_core.specs.declared.consts.LLVMConstKind.{LLVMConstKind}
@@ -21,7 +25,7 @@ use Rattle.llvm_core.specs.declared.code.InstData.{InstData}
 use Rattle.support.specs.Interned.{Interned, IsDistinctList}
 use Rattle.llvm_core.specs.Module.{Module}
 use Rattle.llvm_core.specs.Code.{code_of, with_code, with_param_name, with_block, with_inst, param_names}
-use Rattle.llvm_core.specs.Parts.{IsTypeOver, IsConstOver, IsFunctionType, HasValues, IsResultType, kind_params, made_kind, result_type}
+use Rattle.llvm_core.specs.Parts.{IsTypeOver, HasFitParts, shape_of, shape_at, IsConstOver, IsFunctionType, HasValues, IsResultType, kind_params, made_kind, result_type}
 use Rattle.llvm_core.specs.Sound.{IsFunctionIn, OwnsBlocks, OwnsInsts, StandsFor, IsModule}
 use Rattle.support.proofs.ListLaws.{slice_get-kept, slice_get-push, slice_get-push_cases, change_cases, distinct_nil, distinct_push, length-with_change, length-slice_set}
 use Rattle.llvm_core.proofs.DataLemmas.{within_at}
@@ -57,14 +61,43 @@ types_grow m types k n h = record {
   inst_lists = same_keeps insts_of m.blocks;
 }
 
-pub type_added : (m : Module) (types : List LLVMTypeKind) (k : LLVMTypeKind) (n : ℕ) → IsModule m → IsTypeOver (length m.types) k → Interned m.types types k n → IsDistinctList types → IsModule (record m { types = types })
-type_added m types k n s ok h once =
+-- what a type is made of stays where the list of types grows
+shape_stays : (xs ys : List LLVMTypeKind) → ((i : ℕ) (k : LLVMTypeKind) → slice_get xs i ≡ Some k → slice_get ys i ≡ Some k) → (p : Shape → Bool) → p S.Void ≡ false → (t : LLVMType) → p (shape_at xs t) ≡ true → p (shape_at ys t) ≡ true
+shape_stays xs ys kept p void t h = by (slice_get xs t.0) refl h
+  where
+    by : (o : Option LLVMTypeKind) → slice_get xs t.0 ≡ o → p (option_map_or shape_of o S.Void) ≡ true → p (shape_at ys t) ≡ true
+    by None is h = cc
+    by (Some k) is h = ap (λ o. p (option_map_or shape_of o S.Void)) (kept t.0 k is) ∙ h
+
+array_void : (n : ℕ) → is_array_of n S.Void ≡ false
+array_void n = grind arith
+
+vector_void : (n : ℕ) → is_vector_of n S.Void ≡ false
+vector_void n = grind arith
+
+fit_kept : (xs ys : List LLVMTypeKind) → ((i : ℕ) (k : LLVMTypeKind) → slice_get xs i ≡ Some k → slice_get ys i ≡ Some k) → (k : LLVMTypeKind) → HasFitParts xs k → HasFitParts ys k
+fit_kept xs ys kept (T.Array count t) h = shape_stays xs ys kept (is_array_of count) (array_void count) t h
+fit_kept xs ys kept (T.Vector kind count t) h = shape_stays xs ys kept (is_vector_of count) (vector_void count) t h
+fit_kept xs ys kept (T.Literal fields layout) h = All-weaker (λ (t : LLVMType). is_field (shape_at xs t) ≡ true) (λ (t : LLVMType). is_field (shape_at ys t) ≡ true) (λ t. shape_stays xs ys kept is_field refl t) fields h
+fit_kept xs ys kept T.Void h = h
+fit_kept xs ys kept (T.Int width) h = h
+fit_kept xs ys kept (T.Ptr space) h = h
+fit_kept xs ys kept (T.Floating of) h = h
+fit_kept xs ys kept (T.Other of) h = h
+fit_kept xs ys kept (T.Function r ps v) h = h
+
+pub type_added : (m : Module) (types : List LLVMTypeKind) (k : LLVMTypeKind) (n : ℕ) → IsModule m → IsTypeOver (length m.types) k → HasFitParts m.types k → Interned m.types types k n → IsDistinctList types → IsModule (record m { types = types })
+type_added m types k n s ok fit h once =
     let g = types_grow m types k n h in
     record {
       types = λ i x e. elim (interned_cases m.types types k n h i x e) [
         | inl old ↦ s.types i x old
         | inr new ↦ subst (λ j. IsTypeOver j x) (sym new.0) (subst (IsTypeOver (length m.types)) (sym new.1) ok)
       ];
+      types_fit = λ i x e. fit_kept m.types types g.types x (elim (interned_cases m.types types k n h i x e) [
+        | inl old ↦ s.types_fit i x old
+        | inr new ↦ subst (HasFitParts m.types) (sym new.1) fit
+      ]);
       types_once = once;
       consts = λ i x e. const_kept m _ g x (s.consts i x e);
       consts_once = s.consts_once;
@@ -96,6 +129,7 @@ const_added m consts k n s ok h once =
     } in
     record {
       types = s.types;
+      types_fit = s.types_fit;
       types_once = s.types_once;
       consts = λ i x e. elim (interned_cases m.consts consts k n h i x e) [
         | inl old ↦ s.consts i x old
@@ -201,6 +235,7 @@ function_added m x s ok none =
     } in
     record {
       types = s.types;
+      types_fit = s.types_fit;
       types_once = s.types_once;
       consts = s.consts;
       consts_once = s.consts_once;
@@ -263,6 +298,7 @@ param_named m f place name s =
     } in
     record {
       types = s.types;
+      types_fit = s.types_fit;
       types_once = s.types_once;
       consts = s.consts;
       consts_once = s.consts_once;
@@ -303,6 +339,7 @@ block_added m f b name s there last =
     } in
     record {
       types = s.types;
+      types_fit = s.types_fit;
       types_once = s.types_once;
       consts = s.consts;
       consts_once = s.consts_once;
@@ -356,6 +393,7 @@ inst_added m b i name ty inst s there last typed result values =
     } in
     record {
       types = s.types;
+      types_fit = s.types_fit;
       types_once = s.types_once;
       consts = s.consts;
       consts_once = s.consts_once;

@@ -10,7 +10,7 @@ use Rattle.llvm_core.specs.declared.consts.LLVMConstKind.{LLVMConstKind}
 use Rattle.llvm_core.specs.declared.consts.LLVMConstKind.TheVariants as C
 use Rattle.kinds.specs.Held.{width_in}
 use Rattle.llvm_core.specs.Parts.{IsTypeOver, IsConstOver}
-use Rattle.llvm_core.specs.Data.{TypeTree, VoidType, ConstTree, IntConst, PlaceholderConst, trees_after, type_at, types_at, type_tree, type_trees, const_tree, const_trees}
+use Rattle.llvm_core.specs.Data.{TypeTree, VoidType, ArrayType, VectorType, StructType, ConstTree, IntConst, PlaceholderConst, trees_after, type_at, types_at, type_tree, type_trees, const_tree, const_trees}
 
 -- ---- of any kind, whose tree is told by the trees of its parts
 
@@ -64,6 +64,9 @@ same_types_at ts us n same (x ∷ xs) h =
 -- trees that agree below n agree on a type over n
 pub same_tree : (ts us : List TypeTree) (n : ℕ) → ((j : ℕ) → j < n → get_or ts j VoidType ≡ get_or us j VoidType) → (k : LLVMTypeKind) → IsTypeOver n k → type_tree ts k ≡ type_tree us k
 same_tree ts us n same (T.Function result params variadic) h = let e = same_types_at ts us n same params h.1 in let f = same result.0 h.0 in cc
+same_tree ts us n same (T.Array count t) h = ap (ArrayType count) (same t.0 h)
+same_tree ts us n same (T.Vector kind count t) h = ap (VectorType kind count) (same t.0 h)
+same_tree ts us n same (T.Literal fields layout) h = ap (StructType layout) (same_types_at ts us n same fields h)
 same_tree ts us n same k h = refl
 
 -- the tree of a number is that of the kind that stands there

@@ -27,12 +27,15 @@ use Rattle.llvm_core.specs.declared.code.InstData.{InstData}
 use Rattle.llvm_core.specs.declared.check_err.Place.{Place}
 use Rattle.llvm_core.specs.declared.check_err.Place.TheVariants as P
 use Rattle.llvm_core.specs.declared.check_err.CheckErr.{CheckErr}
-use Rattle.llvm_core.specs.declared.check_err.CheckErr.TheVariants.{NameTwice, NoTerminator, PhiPlace, PhiEntries, EntryHasPreds, OperandType, OperandCount, BlockOutside, IntrinsicBody, FunctionSpace, ListTooLong, NoMemory}
+use Rattle.llvm_core.specs.declared.check_err.CheckErr.TheVariants.{NameTwice, NoTerminator, PhiPlace, PhiEntries, EntryHasPreds, OperandType, OperandCount, BlockOutside, IntrinsicBody, FunctionSpace, TooDeep, ListTooLong, NoMemory}
 use Rattle.llvm_core.specs.Module.{Module}
 use Rattle.llvm_core.specs.Names.{HasTwice}
 use Rattle.llvm_core.specs.Edges.{count_of, edge_count}
 use Rattle.llvm_core.specs.Parts.{value_type, row_fits, is_function, is_kind, kind_params, shape_of, operands, is_phi}
 use Rattle.kinds.specs.Fitting.{is_nothing, is_value}
+use Rattle.kinds.specs.Types.{depth}
+use Rattle.kinds.specs.Held.{too_deep}
+use Rattle.llvm_core.specs.Data.{trees_of, type_at}
 
 -- ---- names
 
@@ -118,6 +121,9 @@ kind_result (T.Int width) = None
 kind_result (T.Ptr space) = None
 kind_result (T.Floating of) = None
 kind_result (T.Other of) = None
+kind_result (T.Array count t) = None
+kind_result (T.Vector kind count t) = None
+kind_result (T.Literal fields layout) = None
 
 -- the type of what a function returns
 abbrev pub return_type : Module → LLVMFunction → Option LLVMType
@@ -205,6 +211,20 @@ abbrev pub reaches_outside : Module → LLVMFunction → LLVMInst → Bool
 reaches_outside m f (I.Phi type entries) = list_any (is_entry_outside m f) entries
 reaches_outside m f (I.Row r) = list_any (is_outside m f) r.operands || list_any (is_block_outside m f) r.targets
 
+-- ---- depth
+
+-- the type of that number nests deeper than is allowed
+abbrev pub is_deep : Module → LLVMType → Bool
+is_deep m t = too_deep (depth (type_at (trees_of m).types t))
+
+-- that of the value does
+abbrev pub is_deep_value : Module → LLVMValue → Bool
+is_deep_value m v = option_map_or (is_deep m) (value_type m v) false
+
+-- that of the result or of an operand does
+abbrev pub is_deep_inst : Module → InstData → Bool
+is_deep_inst m x = is_deep m x.ty || list_any (is_deep_value m) (operands x.inst)
+
 -- ---- the rules
 
 abbrev pub IsLong : {X : Type 0} → List X → Type 0
@@ -252,6 +272,13 @@ HasOtherTypeAt m (P.Function f) = OfFunction m f (λ x. option_map_or (misfits_s
 HasOtherTypeAt m (P.Block b) = ⊥
 HasOtherTypeAt m (P.Inst i) = OfInst m i (λ x. MisfitsType m (home m x) x.inst)
 
+-- a type that nests too deep, in a signature or of an operand
+abbrev pub HasDeepTypeAt : Module → Place → Type 0
+HasDeepTypeAt m P.Module = ⊥
+HasDeepTypeAt m (P.Function f) = OfFunction m f (λ x. is_deep m x.ty ≡ true)
+HasDeepTypeAt m (P.Block b) = ⊥
+HasDeepTypeAt m (P.Inst i) = OfInst m i (λ x. is_deep_inst m x ≡ true)
+
 -- the rule fails there, a line for each rule
 abbrev pub Fails : Module → CheckErr → Type 0
 Fails m (NameTwice p) = AtFunction p (λ f. OfFunction m f (λ x. (is_bad_name x.name ≡ true) ⊎ IsTaken m f x.name ⊎ HasTwice (local_names m x)))
@@ -264,6 +291,7 @@ Fails m (OperandCount p) = AtInst p (λ i. OfInst m i (λ x. misfits_count m (ho
 Fails m (BlockOutside p) = AtInst p (λ i. OfInst m i (λ x. reaches_outside m (home m x) x.inst ≡ true))
 Fails m (IntrinsicBody p) = AtFunction p (λ f. OfFunction m f (λ x. (is_intrinsic_name x.name ≡ true) × (x.blocks ≢ [])))
 Fails m (FunctionSpace p) = AtFunction p (λ f. OfFunction m f (λ x. x.space ≢ 0))
+Fails m (TooDeep p) = HasDeepTypeAt m p
 Fails m (ListTooLong p) = HasLongList m p
 Fails m NoMemory = ⊥
 
@@ -295,6 +323,11 @@ pub record IsCheckedInst (m : Module) (i : ℕ) : Type 0 where
   pub counts : ¬ Fails m (OperandCount (P.Inst i))
   pub outside : ¬ Fails m (BlockOutside (P.Inst i))
   pub lists : ¬ Fails m (ListTooLong (P.Inst i))
+
+-- what is checked where the types of the whole module are gone over
+pub record IsCheckedDepths (m : Module) : Type 0 where
+  pub functions : (f : ℕ) → f < length m.functions → ¬ Fails m (TooDeep (P.Function f))
+  pub insts : (i : ℕ) → i < length m.insts → ¬ Fails m (TooDeep (P.Inst i))
 
 -- what is checked where the edges of the whole module are counted
 pub record IsCheckedEdges (m : Module) : Type 0 where

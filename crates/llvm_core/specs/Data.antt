@@ -20,7 +20,7 @@ use Rattle.llvm_core.specs.declared.code.LLVMInst.TheVariants as I
 use Rattle.llvm_core.specs.declared.code.PhiEntry.{PhiEntry}
 use Rattle.llvm_core.specs.declared.code.Row.{Row}
 use Rattle.kinds.specs.declared.op.Op.{Op}
-pub use Rattle.kinds.specs.Types.{TypeTree, VoidType, IntType, PointerType, FloatingType, RefusedType, FunctionType, TypeTrees, NoTypes, ThenType}
+pub use Rattle.kinds.specs.Types.{TypeTree, VoidType, IntType, PointerType, FloatingType, RefusedType, ArrayType, VectorType, StructType, FunctionType, TypeTrees, NoTypes, ThenType}
 use Rattle.kinds.specs.Types.{takes_of}
 use Rattle.kinds.specs.Held.{width_in}
 use Rattle.llvm_core.specs.declared.code.FunctionData.{FunctionData}
@@ -101,6 +101,9 @@ type_tree ts (T.Int w) = IntType w
 type_tree ts (T.Ptr space) = PointerType space
 type_tree ts (T.Floating of) = FloatingType of
 type_tree ts (T.Other of) = RefusedType of
+type_tree ts (T.Array count t) = ArrayType count (type_at ts t)
+type_tree ts (T.Vector kind count t) = VectorType kind count (type_at ts t)
+type_tree ts (T.Literal fields layout) = StructType layout (types_at ts fields)
 type_tree ts (T.Function result params variadic) = FunctionType (type_at ts result) (types_at ts params) variadic
 
 abbrev pub type_trees : List LLVMTypeKind → List TypeTree

@@ -9,7 +9,7 @@ use Rattle.kinds.specs.Rules.{ends, target_count, operand_count}
 use Rattle.kinds.specs.Table.{rule_of}
 use Rattle.kinds.specs.Typing.{fits_trees, typed}
 use Rattle.kinds.specs.Types.{types_list, count_types, result_of, params_of}
-use Rattle.kinds.specs.Held.{is_void, IsFirstClass, IsReturned, IsHeldResult, IsShortWidth}
+use Rattle.kinds.specs.Held.{is_void, IsShallow, IsFirstClass, IsReturned, IsHeldResult, IsShortWidth}
 use Rattle.llvm_core.specs.Edges.{count_of}
 use Rattle.support.specs.Interned.{IsDistinctList}
 use Rattle.kinds.specs.Names.{is_good_name, is_intrinsic_name, IsGoodOrNone}
@@ -132,6 +132,7 @@ pub record IsFormFunction (f : Function) : Type 0 where
   pub type : f.type ≡ FunctionType result types false
   pub returns : IsReturned result
   pub takes : All IsFirstClass (types_list types)
+  pub shallow : IsShallow f.type
   pub space : f.space ≡ 0
   pub params : length f.params ≡ count_types types
   pub param_names : All IsGoodOrNone f.params

@@ -9,4 +9,5 @@ pub mod Bodies
 pub mod Names
 pub mod Edges
 pub mod Checked
+pub mod Depths
 pub mod Form

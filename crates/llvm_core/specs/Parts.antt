@@ -39,6 +39,9 @@ IsTypeOver n (T.Int width) = (1 ≤ width) × (width ≤ 2 ^ 23)
 IsTypeOver n (T.Ptr space) = Unit {0}
 IsTypeOver n (T.Floating of) = Unit {0}
 IsTypeOver n (T.Other of) = Unit {0}
+IsTypeOver n (T.Array count t) = t.0 < n
+IsTypeOver n (T.Vector kind count t) = t.0 < n
+IsTypeOver n (T.Literal fields layout) = All (λ (t : LLVMType). t.0 < n) fields
 IsTypeOver n (T.Function result params variadic) = (result.0 < n) × All (λ (t : LLVMType). t.0 < n) params
 
 -- a constant over a list of types: an integer of an integer type, which it fits, or a placeholder of a type that is there
@@ -52,8 +55,27 @@ shape_of T.Void = S.Void
 shape_of (T.Int width) = S.Int width
 shape_of (T.Ptr space) = S.Pointer space
 shape_of (T.Floating of) = S.Other
-shape_of (T.Other of) = S.Refused
+shape_of (T.Other of) = S.Refused of
+shape_of (T.Array count t) = S.Made
+shape_of (T.Vector kind count t) = S.Made
+shape_of (T.Literal fields layout) = S.Made
 shape_of (T.Function result params variadic) = S.Function
+
+-- that of a type that is there
+abbrev pub shape_at : List LLVMTypeKind → LLVMType → Shape
+shape_at types t = option_map_or shape_of (slice_get types t.0) S.Void
+
+-- a type is made of what may stand in it, a line for each kind
+abbrev pub HasFitParts : List LLVMTypeKind → LLVMTypeKind → Type 0
+HasFitParts types T.Void = Unit {0}
+HasFitParts types (T.Int width) = Unit {0}
+HasFitParts types (T.Ptr space) = Unit {0}
+HasFitParts types (T.Floating of) = Unit {0}
+HasFitParts types (T.Other of) = Unit {0}
+HasFitParts types (T.Array count t) = F.is_array_of count (shape_at types t) ≡ true
+HasFitParts types (T.Vector kind count t) = F.is_vector_of count (shape_at types t) ≡ true
+HasFitParts types (T.Literal fields layout) = All (λ (t : LLVMType). F.is_field (shape_at types t) ≡ true) fields
+HasFitParts types (T.Function result params variadic) = Unit {0}
 
 abbrev pub is_function : LLVMTypeKind → Bool
 is_function k = F.is_function (shape_of k)
@@ -73,6 +95,9 @@ kind_params (T.Int width) = []
 kind_params (T.Ptr space) = []
 kind_params (T.Floating of) = []
 kind_params (T.Other of) = []
+kind_params (T.Array count t) = []
+kind_params (T.Vector kind count t) = []
+kind_params (T.Literal fields layout) = []
 
 -- the parameters of a function type
 abbrev pub type_params : List LLVMTypeKind → LLVMType → List LLVMType
@@ -119,7 +144,7 @@ HasValues m (I.Row r) = HasParts m r
 -- ---- the type of a result
 
 abbrev pub view : List LLVMTypeKind → LLVMType → TypeView
-view types t = record { number = t.0; shape = option_map_or shape_of (slice_get types t.0) S.Void }
+view types t = record { number = t.0; shape = shape_at types t }
 
 -- the type of the value at a place
 abbrev pub type_nth : Module → List LLVMValue → ℕ → Option LLVMType

@@ -13,7 +13,7 @@ use Rattle.llvm_core.specs.declared.code.BlockData.{BlockData}
 use Rattle.llvm_core.specs.declared.code.InstData.{InstData}
 use Rattle.support.specs.Interned.{IsDistinctList}
 use Rattle.llvm_core.specs.Module.{Module}
-use Rattle.llvm_core.specs.Parts.{IsTypeOver, IsConstOver, IsFunctionType, HasValues, type_params, result_type}
+use Rattle.llvm_core.specs.Parts.{IsTypeOver, HasFitParts, IsConstOver, IsFunctionType, HasValues, type_params, result_type}
 
 -- a function of a function type, with a name for each parameter, and blocks that are there, each listed once
 pub record IsFunctionIn (m : Module) (x : FunctionData) : Type 0 where
@@ -59,6 +59,7 @@ OwnsBlocks m f x = (place : ℕ) (b : LLVMBasicBlock) (y : BlockData) → slice_
 -- types and constants are made of earlier ones and stand once each; code names only what is there, and stands in the list of its owner; a function lists only its own blocks, and a block only its own instructions
 pub record IsModule (m : Module) : Type 0 where
   pub types : (i : ℕ) (k : LLVMTypeKind) → slice_get m.types i ≡ Some k → IsTypeOver i k
+  pub types_fit : (i : ℕ) (k : LLVMTypeKind) → slice_get m.types i ≡ Some k → HasFitParts m.types k
   pub types_once : IsDistinctList m.types
   pub consts : (i : ℕ) (k : LLVMConstKind) → slice_get m.consts i ≡ Some k → IsConstOver m.types k
   pub consts_once : IsDistinctList m.consts

@@ -39,6 +39,8 @@ pub enum CheckErr {
     IntrinsicBody(Place),
     /// A function is in another space than 0.
     FunctionSpace(Place),
+    /// A type nests deeper than 1,000.
+    TooDeep(Place),
     /// A list has 2^31 or more entries.
     ListTooLong(Place),
     /// Memory is not enough to check the names.
@@ -59,6 +61,7 @@ impl CheckErr {
             CheckErr::BlockOutside(_) => "BlockOutside",
             CheckErr::IntrinsicBody(_) => "IntrinsicBody",
             CheckErr::FunctionSpace(_) => "FunctionSpace",
+            CheckErr::TooDeep(_) => "TooDeep",
             CheckErr::ListTooLong(_) => "ListTooLong",
             CheckErr::NoMemory => "NoMemory",
         }

@@ -11,6 +11,7 @@ ghost use Rattle.llvm_core.specs.Checked.{is_terminator, is_terminator_at, ends_
 
 use crate::check_err::{CheckErr, Place};
 use crate::code::LLVMInst;
+use crate::depths::check_depths;
 use crate::edges::check_edges;
 use crate::module::LLVMModule;
 use crate::name_set::NameSet;
@@ -283,6 +284,7 @@ pub fn check(m: &LLVMModule) -> Result<(), CheckErr>
     check_count(m)?;
     check_function_names(m)?;
     check_functions(m)?;
+    check_depths(m)?;
     check_blocks(m)?;
     check_insts(m)?;
     check_edges(m)?;

@@ -7,6 +7,7 @@ pub mod checking;
 pub mod code;
 pub mod code_store;
 pub mod consts;
+pub mod depths;
 pub mod edges;
 pub mod laws;
 pub mod make;

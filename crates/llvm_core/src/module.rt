@@ -7,7 +7,7 @@ ghost use Rattle.llvm_core.specs.declared.types.ResultType.TheVariants as result
 ghost use Rattle.support.specs.Interned.{Interned};
 ghost use Rattle.llvm_core.specs.Module.{Module};
 ghost use Rattle.llvm_core.specs.Code.{code_of, with_code, with_function, with_param_name, with_block, with_inst, with_operand, with_entry, with_changed_inst, param_names};
-ghost use Rattle.llvm_core.specs.Parts.{IsTypeOver, IsConstOver, IsFunctionType, IsValue, IsBlock, HasParts, HasValues, IsResultType, IsResultOver, TakesOperand, IsPhi, made_kind, const_type, is_function, given, kind_params, type_params, value_type, result_type, row_fits, row_result, shape_of, type_nth, view, view_nth};
+ghost use Rattle.llvm_core.specs.Parts.{IsTypeOver, HasFitParts, IsConstOver, IsFunctionType, IsValue, IsBlock, HasParts, HasValues, IsResultType, IsResultOver, TakesOperand, IsPhi, made_kind, const_type, is_function, given, kind_params, type_params, value_type, result_type, row_fits, row_result, shape_of, type_nth, view, view_nth};
 ghost use Rattle.llvm_core.specs.Sound.{IsModule};
 ghost use Rattle.llvm_core.specs.Data as lists;
 ghost use Rattle.llvm_core.specs.Data.{trees_of, type_at, result_tree, operand_of, instruction_of, data_of, AreApart, AllBlocks, AllPlaced};
@@ -86,7 +86,8 @@ impl LLVMModule {
 
     /// The number of the type equal to `kind`, new or old.
     pub fn type_get(&mut self, kind: LLVMTypeKind) -> Result<LLVMType, AllocError>
-        requires { IsTypeOver (length self.old.types) kind }
+        requires parts { IsTypeOver (length self.old.types) kind }
+        requires fit { HasFitParts self.old.types kind }
         ensures interned { IfOk result (λ t. Interned self.old.types self.new.types kind t.0) }
         ensures rest { self.new ≡ record self.old { types = self.new.types } }
         ensures err { OnErr result (self.new ≡ self.old) }
@@ -239,6 +240,7 @@ impl LLVMModule {
         requires { ty.0 < length self.now.types }
         ensures kind { slice_get self.now.types ty.0 ≡ Some result.now }
         ensures parts { IsTypeOver ty.0 result.now }
+        ensures fit { HasFitParts self.now.types result.now }
     {
         self.types.value(ty.0)
     }
@@ -511,7 +513,10 @@ pub fn shape_of(kind: &LLVMTypeKind) -> Shape
         LLVMTypeKind::Int(width) => Shape::Int(*width),
         LLVMTypeKind::Ptr(space) => Shape::Pointer(*space),
         LLVMTypeKind::Floating(_) => Shape::Other,
-        LLVMTypeKind::Other(_) => Shape::Refused,
+        LLVMTypeKind::Other(of) => Shape::Refused(*of),
+        LLVMTypeKind::Array(_, _) => Shape::Made,
+        LLVMTypeKind::Vector(_, _, _) => Shape::Made,
+        LLVMTypeKind::Literal { .. } => Shape::Made,
         LLVMTypeKind::Function { .. } => Shape::Function,
     }
 }

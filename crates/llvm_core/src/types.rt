@@ -1,7 +1,7 @@
 //! Types, as a module keeps them.
 
 use crate::numbers::LLVMType;
-use kinds::types::{Floating, OtherType};
+use kinds::types::{Floating, OtherType, StructLayout, VectorTypeKind};
 use support::items::Items;
 
 /// The type of an instruction's result.
@@ -24,6 +24,15 @@ pub enum LLVMTypeKind {
     Floating(Floating),
     /// A type for which the dialect has none.
     Other(OtherType),
+    /// So many elements of a type (Language Reference, Array Type).
+    Array(u64, LLVMType),
+    /// So many elements of a type, or a multiple of that (Language Reference, Vector Type).
+    Vector(VectorTypeKind, u32, LLVMType),
+    /// A struct without a name (Language Reference, Structure Type).
+    Literal {
+        fields: Items<LLVMType>,
+        layout: StructLayout,
+    },
     Function {
         result: LLVMType,
         params: Items<LLVMType>,

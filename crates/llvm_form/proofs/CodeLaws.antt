@@ -21,12 +21,12 @@ use Rattle.llvm_core.specs.declared.code.FunctionData.{FunctionData}
 use Rattle.llvm_core.specs.declared.code.BlockData.{BlockData}
 use Rattle.llvm_core.specs.declared.code.InstData.{InstData}
 use Rattle.llvm_core.specs.declared.check_err.Place.TheVariants as P
-use Rattle.llvm_core.specs.declared.check_err.CheckErr.TheVariants.{BlockOutside}
+use Rattle.llvm_core.specs.declared.check_err.CheckErr.TheVariants.{BlockOutside, TooDeep}
 use Rattle.llvm_core.specs.Module.{Module}
 use Rattle.llvm_core.specs.Parts.{IsValue, IsEntry, HasValues, is_kind, operands}
 use Rattle.llvm_core.specs.Sound.{IsModule}
 use Rattle.llvm_core.specs.Data.{Operand, Constant, Block, type_at, trees_of, operand_of, entry_of, instruction_of, operand_type}
-use Rattle.llvm_core.specs.Checked.{IsChecked, home, is_void, is_outside, is_block_outside, is_entry_outside, reaches_outside}
+use Rattle.llvm_core.specs.Checked.{IsChecked, home, is_void, is_outside, is_block_outside, is_entry_outside, reaches_outside, is_deep, is_deep_value, is_deep_inst}
 use Rattle.llvm_core.specs.Form.{IsNarrowConst, IsNarrowPlaced, IsNarrowBlock, operands_of}
 use Rattle.llvm_core.proofs.DataLemmas.{within_at, inst_of_number, int_const_of, placeholder_const_of}
 use Rattle.llvm_core.proofs.WithinLemmas.{const_type_within}
@@ -53,10 +53,11 @@ module _ (m : Module) (sound : IsModule m) (f : ℕ) (x : FunctionData) (at : sl
 
   -- ---- values
 
-  value_decided : (v : LLVMValue) → IsValue m v → is_outside m (numbered f) v ≡ false → Decides (is_first_class_value m v) (IsFirstClassOperand (operand_of (trees_of m) v))
-  value_decided v here inside =
+  value_decided : (v : LLVMValue) → IsValue m v → is_outside m (numbered f) v ≡ false → is_deep_value m v ≡ false → Decides (is_first_class_value m v) (IsFirstClassOperand (operand_of (trees_of m) v))
+  value_decided v here inside shallow =
       let t = value_typed m f x sound at v here inside in
-      Decides-at (is_first_class_value m v) (is_first_class_type m t.type) (ap (λ o. option_map_or (is_first_class_type m) o false) t.type_is) (subst (λ τ. Decides (is_first_class_type m t.type) (IsFirstClass τ)) t.tree_is (first_class_decided m sound t.type t.within))
+      let not_deep = ap (λ o. option_map_or (is_deep m) o false) (sym t.type_is) ∙ shallow in
+      Decides-at (is_first_class_value m v) (is_first_class_type m t.type) (ap (λ o. option_map_or (is_first_class_type m) o false) t.type_is) (subst (λ τ. Decides (is_first_class_type m t.type) (IsFirstClass τ)) t.tree_is (first_class_decided m sound t.type t.within not_deep))
 
   -- an integer has the width of its tree; of what is no constant nothing is asked
   const_decided : (v : LLVMValue) → IsValue m v → Decides (is_narrow_const m v) (IsNarrowConst (operand_of (trees_of m) v))
@@ -105,10 +106,11 @@ module _ (m : Module) (sound : IsModule m) (f : ℕ) (x : FunctionData) (at : sl
         let none = false_from_ne_true (reaches_outside m (home m z) z.inst) (λ reaches. checked (BlockOutside (P.Inst i)) (z, is, reaches)) in
         let inside = operands_inside z.inst (subst (λ g. reaches_outside m g z.inst ≡ false) own none) in
         let named = named_right z.name τ (is_kind is_void m.types z.ty) (void_kept m z.ty sound there.typed) in
-        let result = returned_decided m sound z.ty there.typed in
+        let shallow = or_parts (is_deep m z.ty) (list_any (is_deep_value m) (operands z.inst)) (false_from_ne_true (is_deep_inst m z) (λ deep. checked (TooDeep (P.Inst i)) (z, is, deep))) in
+        let result = returned_decided m sound z.ty there.typed shallow.0 in
         let vs = operands z.inst in
         let value = within_at vs (IsValue m) (operands_there z.inst there.values) in
-        let valued = mapped_decided (is_first_class_value m) IsFirstClassOperand (operand_of (trees_of m)) vs (λ k v listed. value_decided v (value k v listed) (none_any_at (is_outside m (numbered f)) vs k v inside listed)) in
+        let valued = mapped_decided (is_first_class_value m) IsFirstClassOperand (operand_of (trees_of m)) vs (λ k v listed. value_decided v (value k v listed) (none_any_at (is_outside m (numbered f)) vs k v inside listed) (none_any_at (is_deep_value m) vs k v shallow.1 listed)) in
         let short = mapped_decided (is_narrow_const m) IsNarrowConst (operand_of (trees_of m)) vs (λ k v listed. const_decided v (value k v listed)) in
         let all_valued = subst (λ os. Decides (list_all (is_first_class_value m) vs) (All IsFirstClassOperand os)) (sym (operands_shown m z.inst)) valued in
         let all_short = subst (λ os. Decides (list_all (is_narrow_const m) vs) (All IsNarrowConst os)) (sym (operands_shown m z.inst)) short in

@@ -3,13 +3,14 @@ use Rattle.std.proofs.Common.{◌≡◌, ◌<◌, ℕ, Bool, true, false, not, �
 use Rattle.std.specs.Bool.{Decides}
 use Rattle.std.specs.List.{list_all}
 use Rattle.std.specs.Option.{option_map_or}
-use Rattle.std.proofs.lemmas.Bool.{ltb-true, lt-ltb}
+use Rattle.std.proofs.lemmas.Bool.{ltb-true, lt-ltb, false_from_ne_true}
 use Rattle.std.proofs.lemmas.Option.{same_Some}
 use Rattle.std.proofs.lemmas.Bool.Decides.{Decides-at, Decides-and, Decides-like, Decides-by_and}
 use Rattle.std.proofs.lemmas.List.Elements.{All-nil, All-cons, All-head, All-tail, All-weaker, All-map}
 use Rattle.support.proofs.ListLaws.{all_from, item_there}
-use Rattle.kinds.specs.Types.{types_list}
-use Rattle.kinds.specs.Held.{IsFirstClass, IsReturned}
+use Rattle.kinds.specs.Types.{types_list, depth}
+use Rattle.kinds.specs.Held.{too_deep, IsShallow, IsFirstClass, IsReturned}
+use Rattle.kinds.proofs.DepthLaws.{result_shallow, params_shallow}
 use Rattle.llvm_core.specs.declared.numbers.LLVMBasicBlock.{LLVMBasicBlock}
 use Rattle.llvm_core.specs.declared.code.FunctionData.{FunctionData}
 use Rattle.llvm_core.specs.Module.{Module}
@@ -17,7 +18,9 @@ use Rattle.llvm_core.specs.Names.{is_good_name, IsGoodOrNone}
 use Rattle.llvm_core.specs.Parts.{is_kind}
 use Rattle.llvm_core.specs.Sound.{IsModule}
 use Rattle.llvm_core.specs.Data.{TypeTree, TypeTrees, FunctionType, IntConst, PlaceholderConst, Operand, Constant, Parameter, Result, Placed, Block, Function, ModuleData, Instruction, Phi, Applied, type_at, types_at, trees_of, data_of, operand_type}
-use Rattle.llvm_core.specs.Checked.{IsChecked}
+use Rattle.llvm_core.specs.declared.check_err.Place.TheVariants as P
+use Rattle.llvm_core.specs.declared.check_err.CheckErr.TheVariants.{TooDeep}
+use Rattle.llvm_core.specs.Checked.{IsChecked, is_deep}
 use Rattle.llvm_core.specs.Form.{IsOperandOf, IsOperand, IsForm, IsFormFunction, IsFormBlock, IsFormPlaced, IsFormInstruction, IsNarrow, IsNarrowFunction, IsNarrowBlock, IsNarrowPlaced, IsNarrowConst, operands_of}
 use Rattle.llvm_core.proofs.DataLemmas.{within_at, function_at, function_tree_of, block_count_of, block_of_number}
 use Rattle.llvm_core.proofs.FormTypes.{signature_of, function_typed}
@@ -39,11 +42,12 @@ record IsNarrowSignature (t : TypeTree) : Type 0 where
   is : t ≡ FunctionType result params false
   returns : IsReturned result
   takes : All IsFirstClass (types_list params)
+  shallow : IsShallow t
 
-type_by : (result : TypeTree) (types : TypeTrees) (variadic returned params : Bool) → Decides returned (IsReturned result) → Decides params (All IsFirstClass (types_list types))
+type_by : (result : TypeTree) (types : TypeTrees) (variadic returned params : Bool) → IsShallow (FunctionType result types variadic) → Decides returned (IsReturned result) → Decides params (All IsFirstClass (types_list types))
     → Decides (not variadic && returned && params) (IsNarrowSignature (FunctionType result types variadic))
-type_by result types true returned params d e = (λ h. absurd (cc), λ h. let same = h.is in absurd (cc))
-type_by result types false returned params d e = Decides-like (returned && params) (λ h. record { result = result; params = types; is = refl; returns = h.0; takes = h.1 })
+type_by result types true returned params shallow d e = (λ h. absurd (cc), λ h. let same = h.is in absurd (cc))
+type_by result types false returned params shallow d e = Decides-like (returned && params) (λ h. record { result = result; params = types; is = refl; returns = h.0; takes = h.1; shallow = shallow })
     (λ (h : IsNarrowSignature (FunctionType result types false)).
     let same = h.is in
     let first : h.result ≡ result = (cc) in
@@ -52,16 +56,22 @@ type_by result types false returned params d e = Decides-like (returned && param
     (Decides-and returned params d e)
 
 module _ (m : Module) (sound : IsModule m) (checked : IsChecked m) (f : ℕ) (x : FunctionData) (at : slice_get m.functions f ≡ Some x) where
+  type_shallow : IsShallow (shown m f x).type
+  type_shallow = false_from_ne_true (is_deep m x.ty) (λ deep. checked (TooDeep (P.Function f)) (x, at, deep))
+
   type_decided : Decides (is_kind (is_narrow_signature m) m.types x.ty) (IsNarrowSignature (shown m f x).type)
   type_decided =
       let typed = function_typed m f x sound at in
       let s = signature_of m f x typed.0 typed.1 typed.2 sound at typed.3 in
       let here = ap (λ o. option_map_or (is_narrow_signature m) o false) s.kind_is in
       let tree = function_tree_of m x.ty s.returned s.params s.variadic sound s.kind_is in
+      let result = type_at (trees_of m).types s.returned in
+      let types = types_at (trees_of m).types s.params in
+      let shallow = ap (λ τ. too_deep (depth τ)) (sym tree) ∙ type_shallow in
       Decides-at (is_kind (is_narrow_signature m) m.types x.ty) (not s.variadic && is_kind is_returned_kind m.types s.returned && list_all (is_first_class_type m) s.params) here
       (subst (λ τ. Decides (not s.variadic && is_kind is_returned_kind m.types s.returned && list_all (is_first_class_type m) s.params) (IsNarrowSignature τ)) (sym tree)
-      (type_by (type_at (trees_of m).types s.returned) (types_at (trees_of m).types s.params) s.variadic (is_kind is_returned_kind m.types s.returned) (list_all (is_first_class_type m) s.params)
-      (returned_decided m sound s.returned s.within) (first_class_types m sound s.params s.params_within)))
+      (type_by result types s.variadic (is_kind is_returned_kind m.types s.returned) (list_all (is_first_class_type m) s.params) shallow
+      (returned_decided m sound s.returned s.within (result_shallow result types s.variadic shallow)) (first_class_types m sound s.params s.params_within (params_shallow result types s.variadic shallow))))
 
   body_decided : Decides (has_body m x) (¬ ((shown m f x).blocks ≡ []))
   body_decided =
@@ -131,7 +141,7 @@ module _ (m : Module) (sound : IsModule m) (checked : IsChecked m) (f : ℕ) (x 
       }
 
       back : IsNarrowFunction (shown m f x) → NarrowParts
-      back n = record { name = n.name; type = record { result = n.result; params = n.types; is = n.type; returns = n.returns; takes = n.takes }; params = n.param_names; body = n.body; blocks = n.blocks }
+      back n = record { name = n.name; type = record { result = n.result; params = n.types; is = n.type; returns = n.returns; takes = n.takes; shallow = type_shallow }; params = n.param_names; body = n.body; blocks = n.blocks }
 
 -- ---- a function of the form is narrow
 

@@ -80,6 +80,9 @@ module _ (m : Module) where
   is_narrow_signature (T.Ptr space) = false
   is_narrow_signature (T.Floating of) = false
   is_narrow_signature (T.Other of) = false
+  is_narrow_signature (T.Array count t) = false
+  is_narrow_signature (T.Vector kind count t) = false
+  is_narrow_signature (T.Literal fields layout) = false
 
   -- a function has a body
   abbrev pub has_body : FunctionData → Bool

@@ -6,7 +6,7 @@ use Rattle.llvm_core.proofs.module.LLVMModule.type_get.Goals as goal
 
 pub invariant_of-self-2 : goal.invariant_of-self-2
 invariant_of-self-2 c =
-    type_added _ _ c.args.kind c.in_ok-at.at c.self.invariant (rw (← c.self.view_is) at c.requires) (interned_type _ _ _ _ c.in_ok-at.ensures.interned) (distinct_types _ c.in_ok-at.ensures.distinct)
+    type_added _ _ c.args.kind c.in_ok-at.at c.self.invariant (rw (← c.self.view_is) at c.requires.parts) (rw (← c.self.view_is) at c.requires.fit) (interned_type _ _ _ _ c.in_ok-at.ensures.interned) (distinct_types _ c.in_ok-at.ensures.distinct)
 
 pub returns-clause-interned : goal.returns-clause-interned
 returns-clause-interned c = rw (← c.self.view_is) (interned_type _ _ _ _ c.in_ok-at.ensures.interned)
