@@ -85,6 +85,7 @@ form_of g w n =
       type = p.is;
       returns = p.returns;
       takes = p.takes;
+      shallow = p.shallow;
       linkage = n.linkage;
       entry = b.entry;
       more = b.more;

@@ -1,14 +1,17 @@
 -- What tests of types find.
-use Rattle.std.proofs.Common.{◌≡◌, ◌<◌, ◌≤◌, ◌^◌, ◌*◌, ◌/◌, ℕ, zero, suc, Bool, false, nat_eq, List, [], ◌∷◌, All, length, map, get_or, ap, sym, subst, ◌∙◌, refl, arith}
+use Rattle.std.proofs.Common.{◌≡◌, ◌<◌, ◌≤◌, ◌^◌, ◌*◌, ◌/◌, ℕ, zero, suc, Bool, true, false, nat_eq, List, [], ◌∷◌, All, length, map, get_or, ap, sym, subst, ◌∙◌, refl, arith}
 use Rattle.std.specs.Prelude.{IsTrue, ◌↔◌}
 use Rattle.std.proofs.Math.Nat.{pow-le-pow_right}
-use Rattle.kinds.specs.Types.{TypeTrees, FunctionType, types_list, params_of, result_of}
-use Rattle.kinds.specs.Held.{IsFirstClass, IsReturned, IsHeld, IsHeldResult, IsSignature, IsHeldSignature}
+use Rattle.kinds.specs.Types.{TypeTrees, FunctionType, shape, types_list, params_of, result_of}
+use Rattle.kinds.specs.Fitting.{is_first_class, is_held}
+use Rattle.kinds.specs.Held.{is_void, IsShallow, IsFirstClass, IsReturned, IsHeld, IsHeldResult, IsSignature, IsHeldSignature}
+use Rattle.kinds.proofs.PartLaws.{throughout_shape}
+use Rattle.kinds.proofs.HeldLaws.{first_class_throughout, returned_own, returned_if, returned_void, held_shape, held_result_own, held_result_if, held_result_void}
 use Rattle.dialect_types.specs.declared.types.TypeHandle.{TypeHandle}
 use Rattle.dialect_types.specs.declared.types.TypeKind.{TypeKind}
 use Rattle.dialect_types.specs.declared.types.TypeKind.TheVariants.{Func}
 use Rattle.dialect_types.specs.Trees.{TypeTree, type_at, types_at, type_tree, AllBelow, HasPartsBelow}
-use Rattle.dialect_core.proofs.TestLemmas.{true_same, same_true}
+use Rattle.dialect_core.proofs.TestLemmas.{true_same, same_true, iff_trans}
 
 -- ---- all items
 
@@ -46,6 +49,28 @@ map_same_at f xs ys k d same l =
     let few : length ys ≡ length xs = omega (arith, map_length f xs, map_length f ys, ap length same) in
     sym (map_at f xs k d (f d) l) ∙ ap (λ zs. get_or zs k (f d)) same ∙ map_at f ys k d (f d) (omega arith)
 
+-- ---- types of values
+
+-- a type of a store is one of values, and one that is translated, where its shape is that of one
+pub first_class_told : (t : TypeTree) (b : Bool) → b ≡ is_first_class (shape t) → (is_first_class (shape t) ≡ true → IsFirstClass t) → IsTrue b ↔ IsFirstClass t
+first_class_told t b is whole = (λ h. whole (sym is ∙ h), λ h. is ∙ throughout_shape is_first_class refl t (first_class_throughout t h))
+
+pub held_told : (t : TypeTree) (b : Bool) → b ≡ is_held (shape t) → (is_held (shape t) ≡ true → IsHeld t) → IsTrue b ↔ IsHeld t
+held_told t b is whole = (λ h. whole (sym is ∙ h), λ h. is ∙ held_shape t h)
+
+-- what is not void is returned where it is of a value
+pub returned_told : (t : TypeTree) (b : Bool) → is_void t ≡ false → (IsTrue b ↔ IsFirstClass t) → IsTrue b ↔ IsReturned t
+returned_told t b own is = iff_trans is (λ h. returned_if t h, λ h. returned_own t h own)
+
+pub void_returned : (t : TypeTree) (b : Bool) → b ≡ true → b ≡ is_void t → IsTrue b ↔ IsReturned t
+void_returned t b is own = (λ h. returned_void t (sym own ∙ is), λ h. is)
+
+pub held_result_told : (t : TypeTree) (b : Bool) → is_void t ≡ false → (IsTrue b ↔ IsHeld t) → IsTrue b ↔ IsHeldResult t
+held_result_told t b own is = iff_trans is (λ h. held_result_if t h, λ h. held_result_own t h own)
+
+pub void_held : (t : TypeTree) (b : Bool) → b ≡ true → b ≡ is_void t → IsTrue b ↔ IsHeldResult t
+void_held t b is own = (λ h. held_result_void t (sym own ∙ is), λ h. is)
+
 -- ---- function types
 
 pub listed_types : (ts : List TypeTree) (xs : List TypeHandle) → types_list (types_at ts xs) ≡ map (type_at ts) xs
@@ -78,15 +103,15 @@ module _ (ts : List TypeTree) (t : TypeTree) (k : TypeKind) (r : TypeHandle) (ps
       let R : List TypeTree → Type 0 = All Q in
       (subst P (ap result_of e) returns, (all_params Q).1 (subst R (ap params_of e) takes))
 
-  pub signature_is : (IsReturned (type_at ts r) × All (λ (x : TypeHandle). IsFirstClass (type_at ts x)) xs) ↔ IsSignature t
-  signature_is = (
-    λ h. record { result = type_at ts r; params = types_at ts ps; variadic = v; is = tree_is; returns = h.0; takes = (all_params IsFirstClass).0 h.1 },
+  pub signature_is : IsShallow t → (IsReturned (type_at ts r) × All (λ (x : TypeHandle). IsFirstClass (type_at ts x)) xs) ↔ IsSignature t
+  signature_is shallow = (
+    λ h. record { result = type_at ts r; params = types_at ts ps; variadic = v; is = tree_is; returns = h.0; takes = (all_params IsFirstClass).0 h.1; shallow = shallow },
     λ w. of_parts IsReturned IsFirstClass w.result w.params w.variadic w.is w.returns w.takes,
   )
 
-  pub held_is : v ≡ false → (IsHeldResult (type_at ts r) × All (λ (x : TypeHandle). IsHeld (type_at ts x)) xs) ↔ IsHeldSignature t
-  held_is fixed = (
-    λ h. record { result = type_at ts r; params = types_at ts ps; is = tree_is ∙ ap (λ (v : Bool). FunctionType (type_at ts r) (types_at ts ps) v) fixed; returns = h.0; takes = (all_params IsHeld).0 h.1 },
+  pub held_is : v ≡ false → IsShallow t → (IsHeldResult (type_at ts r) × All (λ (x : TypeHandle). IsHeld (type_at ts x)) xs) ↔ IsHeldSignature t
+  held_is fixed shallow = (
+    λ h. record { result = type_at ts r; params = types_at ts ps; is = tree_is ∙ ap (λ (v : Bool). FunctionType (type_at ts r) (types_at ts ps) v) fixed; returns = h.0; takes = (all_params IsHeld).0 h.1; shallow = shallow },
     λ w. of_parts IsHeldResult IsHeld w.result w.params false w.is w.returns w.takes,
   )
 

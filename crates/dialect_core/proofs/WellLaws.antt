@@ -32,7 +32,7 @@ form_is_well_formed g f = record {
   named = f.named;
   llvm_named = f.llvm_named;
   linkage = ap (λ (bs : List DialectBlock). suits bs g.linkage) f.body ∙ ap suits_body f.linkage;
-  signature = record { result = f.result; params = f.types; variadic = false; is = f.type; returns = held_result_returned f.result f.returns; takes = all_first_class (types_list f.types) f.takes };
+  signature = record { result = f.result; params = f.types; variadic = false; is = f.type; returns = held_result_returned f.result f.returns; takes = all_first_class (types_list f.types) f.takes; shallow = f.shallow };
   params = λ b at. ap (λ (d : DialectBlock). d.args) (sym (same_Some f.entry b (ap (λ (bs : List DialectBlock). slice_get bs 0) (sym f.body) ∙ at))) ∙ f.params ∙ ap params_of (sym f.type);
   blocks = all_from (IsWellFormedBlock (value_type g) g) g.blocks (λ k b at. well_block g b (all_at (IsFormBlock g) g.blocks f.blocks k b at));
   block_numbers = f.block_numbers;
@@ -52,7 +52,7 @@ pub form_is_narrow : (g : Func) → IsFormFunc g → IsNarrowFunc g
 form_is_narrow g f = record {
   good = f.good;
   linkage = f.linkage;
-  signature = record { result = f.result; params = f.types; is = f.type; returns = f.returns; takes = f.takes };
+  signature = record { result = f.result; params = f.types; is = f.type; returns = f.returns; takes = f.takes; shallow = f.shallow };
   blocks = all_from IsNarrowBlock g.blocks (λ k b at. narrow_block g b (all_at (IsFormBlock g) g.blocks f.blocks k b at));
   body = λ none. let few = ap length (sym f.body ∙ none) in absurd (omega (arith, few));
 }

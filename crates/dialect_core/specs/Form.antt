@@ -11,7 +11,7 @@ use Rattle.dialect_core.specs.declared.ops.Successor.{Successor}
 use Rattle.kinds.specs.Rules.{ends}
 use Rattle.kinds.specs.Table.{rule_of}
 use Rattle.kinds.specs.Types.{types_list}
-use Rattle.kinds.specs.Held.{IsHeld, IsHeldResult}
+use Rattle.kinds.specs.Held.{IsShallow, IsHeld, IsHeldResult}
 use Rattle.kinds.specs.Names.{is_good_name, is_own_name}
 use Rattle.dialect_core.specs.Rules.{IsOfKind}
 use Rattle.dialect_core.specs.Data.{Kind, ConstantOp, RowOp, DialectOp, DialectBlock, Func, llvm_name_of, ops_in, value_type}
@@ -83,6 +83,7 @@ pub record IsFormFunc (g : Func) : Type 0 where
   pub type : g.type ≡ FunctionType result types false
   pub returns : IsHeldResult result
   pub takes : All IsHeld (types_list types)
+  pub shallow : IsShallow g.type
   pub linkage : g.linkage ≡ ExternalLinkage
   pub entry : DialectBlock
   pub more : List DialectBlock

@@ -23,6 +23,9 @@ pub fn shape_of(kind: &TypeKind) -> Shape
         TypeKind::Integer(width) => Shape::Int(*width),
         TypeKind::Pointer(space) => Shape::Pointer(*space),
         TypeKind::Floating(_) => Shape::Other,
+        TypeKind::Array(..) => Shape::Made,
+        TypeKind::Vector(..) => Shape::Made,
+        TypeKind::Struct { .. } => Shape::Made,
         TypeKind::Func { .. } => Shape::Function,
     }
 }
@@ -63,21 +66,19 @@ pub fn same_types(types: &TypeStore, xs: &[TypeHandle], ys: &[TypeHandle]) -> bo
 }
 
 /// Whether a type is one of values, of a width that there is.
-#[tactic(auto, unfolding(kinds::specs::Held::IsFirstClass))]
 pub fn is_first_class(types: &TypeStore, ty: TypeHandle) -> bool
     requires { ty.0 < length types.now }
     ensures { IsTrue result ↔ IsFirstClass (type_at (type_trees types.now) ty) }
 {
-    fitting::is_first_class(shape_at(types, ty))
+    fitting::is_first_class(shape_of(types.kind(ty)))
 }
 
 /// Whether a type is one of values that is translated.
-#[tactic(auto, unfolding(kinds::specs::Held::IsHeld))]
 pub fn is_held(types: &TypeStore, ty: TypeHandle) -> bool
     requires { ty.0 < length types.now }
     ensures { IsTrue result ↔ IsHeld (type_at (type_trees types.now) ty) }
 {
-    fitting::is_held(shape_at(types, ty))
+    fitting::is_held(shape_of(types.kind(ty)))
 }
 
 /// Whether a type is the integer type of one bit.
@@ -118,23 +119,19 @@ pub fn all_held(types: &TypeStore, tys: &[TypeHandle]) -> bool
 }
 
 /// Whether a function may return the type.
-#[tactic(auto, unfolding(kinds::specs::Held::IsReturned))]
 pub fn is_returned(types: &TypeStore, ty: TypeHandle) -> bool
     requires { ty.0 < length types.now }
     ensures { IsTrue result ↔ IsReturned (type_at (type_trees types.now) ty) }
 {
-    let shape = shape_at(types, ty);
-    fitting::is_nothing(shape) || fitting::is_first_class(shape)
+    fitting::is_nothing(shape_at(types, ty)) || is_first_class(types, ty)
 }
 
 /// Whether a function that is translated may return the type.
-#[tactic(auto, unfolding(kinds::specs::Held::IsHeldResult))]
 pub fn is_held_result(types: &TypeStore, ty: TypeHandle) -> bool
     requires { ty.0 < length types.now }
     ensures { IsTrue result ↔ IsHeldResult (type_at (type_trees types.now) ty) }
 {
-    let shape = shape_at(types, ty);
-    fitting::is_nothing(shape) || fitting::is_held(shape)
+    fitting::is_nothing(shape_at(types, ty)) || is_held(types, ty)
 }
 
 /// Whether a function may return and take these types.

@@ -7,7 +7,7 @@ use Rattle.std.specs.List.{IsDistinct}
 use Rattle.support.proofs.InternedLaws.{interned_by, distinct_list}
 use Rattle.dialect_types.specs.declared.types.TypeHandle.{TypeHandle}
 use Rattle.dialect_types.specs.declared.types.TypeKind.{TypeKind}
-use Rattle.dialect_types.specs.declared.types.TypeKind.TheVariants.{Func}
+use Rattle.dialect_types.specs.declared.types.TypeKind.TheVariants.{Struct, Func}
 use Rattle.dialect_types.specs.contracts.types.TypeHandlePartialEq.TheImpl as handles
 use Rattle.dialect_types.specs.contracts.types.TypeKindPartialEq.TheImpl as kinds
 use Rattle.dialect_types.specs.contracts.types.TypeKindEq.TheImpl.Laws as kind_eq
@@ -25,6 +25,7 @@ same_handles = pointwise_decides handle_decides
 
 pub same_kind : (a b : TypeKind) → kinds.eq-value.it a b ≡ true → a ≡ b
 same_kind (Func r xs v) (Func s ys w) h = grind (arith, same_handles xs ys)
+same_kind (Struct xs l) (Struct ys k) h = grind (arith, same_handles xs ys)
 same_kind a b h = grind arith
 
 kind_decides : (a b : TypeKind) → Decides (kinds.eq-value.it a b) (a ≡ b)

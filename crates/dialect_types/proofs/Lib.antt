@@ -2,6 +2,7 @@
 pub mod DigitLemmas
 pub mod KeyLemmas
 pub mod LegalLaws
-pub mod PrintedParams
+pub mod PrintedTypes
+pub mod StoredLaws
 pub mod TextLemmas
 pub mod TreeLemmas

@@ -4,7 +4,7 @@ use Rattle.std.proofs.lemmas.Option.{slice_get-get_or, same_Some}
 use Rattle.std.proofs.Math.ListN.{get_or-append}
 use Rattle.dialect_types.specs.declared.types.TypeHandle.{TypeHandle}
 use Rattle.dialect_types.specs.declared.types.TypeKind.{TypeKind}
-use Rattle.dialect_types.specs.declared.types.TypeKind.TheVariants.{Integer, Func, Void}
+use Rattle.dialect_types.specs.declared.types.TypeKind.TheVariants.{Integer, Array, Vector, Struct, Func, Void}
 use Rattle.support.specs.Interned.{Interned, IsDistinctList}
 use Rattle.dialect_types.specs.Trees.{TypeTree, VoidType, IntType, FunctionType, trees_after, type_at, types_at, type_tree, type_trees, AllBelow, HasPartsBelow, IsGrounded, IsDistinctAsTrees}
 use Rattle.dialect_types.proofs.KeyLemmas.{same_handle}
@@ -37,13 +37,20 @@ pub kept_trees : (ks ls : List TypeKind) (xs : List TypeHandle) → AllBelow (le
 kept_trees ks ls [] h = refl
 kept_trees ks ls (x ∷ xs) h = let e = kept_tree ks ls x h.0 in let f = kept_trees ks ls xs h.1 in cc
 
--- trees that agree below n agree on the parts of a kind below n
-same_parts : (ts us : List TypeTree) (n : ℕ) → ((j : ℕ) → j < n → get_or ts j VoidType ≡ get_or us j VoidType) → (xs : List TypeHandle) → AllBelow n xs → types_at ts xs ≡ types_at us xs
+-- trees are the same below n
+abbrev pub AgreeBelow : (ts us : List TypeTree) → ℕ → Type 0
+AgreeBelow ts us n = (j : ℕ) → j < n → get_or ts j VoidType ≡ get_or us j VoidType
+
+-- and so are those of the parts of a kind below n
+same_parts : (ts us : List TypeTree) (n : ℕ) → AgreeBelow ts us n → (xs : List TypeHandle) → AllBelow n xs → types_at ts xs ≡ types_at us xs
 same_parts ts us n same [] h = refl
 same_parts ts us n same (x ∷ xs) h = let e = same_parts ts us n same xs h.1 in let f = same x.0 h.0 in cc
 
-same_tree : (ts us : List TypeTree) (n : ℕ) → ((j : ℕ) → j < n → get_or ts j VoidType ≡ get_or us j VoidType) → (k : TypeKind) → HasPartsBelow n k → type_tree ts k ≡ type_tree us k
+same_tree : (ts us : List TypeTree) (n : ℕ) → AgreeBelow ts us n → (k : TypeKind) → HasPartsBelow n k → type_tree ts k ≡ type_tree us k
 same_tree ts us n same (Func result params variadic) h = let e = same_parts ts us n same params h.1 in let f = same result.0 h.0 in cc
+same_tree ts us n same (Array t count) h = let e = same t.0 h in cc
+same_tree ts us n same (Vector t count kind) h = let e = same t.0 h in cc
+same_tree ts us n same (Struct fields layout) h = let e = same_parts ts us n same fields h in cc
 same_tree ts us n same k h = refl
 
 last_or : {X : Type 0} (xs : List X) (x d : X) (i : ℕ) → i ≡ length xs → get_or (xs ++ x ∷ []) i d ≡ x
@@ -52,7 +59,7 @@ last_or [] x d (suc i) e = absurd (omega arith)
 last_or (y ∷ xs) x d zero e = absurd (omega arith)
 last_or (y ∷ xs) x d (suc i) e = last_or xs x d i (omega arith)
 
-at_number : (done : List TypeTree) (ks : List TypeKind) (j i : ℕ) (k : TypeKind) → i ≡ length done + j → slice_get ks j ≡ Some k → HasPartsBelow i k → get_or (trees_after type_tree done ks) i VoidType ≡ type_tree (trees_after type_tree done ks) k
+pub at_number : (done : List TypeTree) (ks : List TypeKind) (j i : ℕ) (k : TypeKind) → i ≡ length done + j → slice_get ks j ≡ Some k → HasPartsBelow i k → get_or (trees_after type_tree done ks) i VoidType ≡ type_tree (trees_after type_tree done ks) k
 at_number done [] j i k e h p = cc
 at_number done (l ∷ ks) zero i k e h p =
     let one = done ++ type_tree done l ∷ [] in
@@ -93,6 +100,9 @@ same_kinds ts n m known (Func r xs c) (Func s ys d) p q h =
     let e = same_handle r s (known r.0 s.0 p.0 q.0 (cc)) in
     let f = same_lists ts n m known xs ys p.1 q.1 (cc) in
     cc
+same_kinds ts n m known (Array t c) (Array u d) p q h = let e = same_handle t u (known t.0 u.0 p q (cc)) in cc
+same_kinds ts n m known (Vector t c k) (Vector u d l) p q h = let e = same_handle t u (known t.0 u.0 p q (cc)) in cc
+same_kinds ts n m known (Struct xs k) (Struct ys l) p q h = let e = same_lists ts n m known xs ys p q (cc) in cc
 same_kinds ts n m known k l p q h = grind arith
 
 -- equal trees have equal numbers, by the larger of the numbers

@@ -3,8 +3,12 @@ use Rattle.std.specs.Prelude.{ℕ, zero, suc, Bool, true, false, List, [], ◌�
 use Rattle.std.specs.Fmt.{decimal}
 use Rattle.kinds.specs.declared.types.Floating.{Floating}
 use Rattle.kinds.specs.declared.types.Floating.TheVariants as F
+use Rattle.kinds.specs.declared.types.VectorTypeKind.{VectorTypeKind}
+use Rattle.kinds.specs.declared.types.VectorTypeKind.TheVariants as V
+use Rattle.kinds.specs.declared.types.StructLayout.{StructLayout}
+use Rattle.kinds.specs.declared.types.StructLayout.TheVariants as L
 pub use Rattle.support.specs.Appended.{Keeps}
-use Rattle.dialect_types.specs.Trees.{TypeTree, VoidType, IntType, PointerType, FloatingType, RefusedType, FunctionType, TypeTrees, NoTypes, ThenType, AttrTree, IntegerAttr}
+use Rattle.dialect_types.specs.Trees.{TypeTree, VoidType, IntType, PointerType, FloatingType, RefusedType, ArrayType, VectorType, StructType, FunctionType, TypeTrees, NoTypes, ThenType, AttrTree, IntegerAttr}
 
 -- the word of a truth value
 abbrev pub truth_text : Bool → List ℕ
@@ -33,6 +37,20 @@ floating_text F.BFloat = codes "builtin.bf16"
 floating_text F.Float = codes "builtin.fp32"
 floating_text F.Double = codes "builtin.fp64"
 
+-- what a vector begins with
+abbrev pub vector_head : VectorTypeKind → List ℕ
+vector_head V.Fixed = codes "llvm.vector ["
+vector_head V.Scalable = codes "llvm.vector [vscale "
+
+-- what a struct begins with
+abbrev pub struct_head : StructLayout → List ℕ
+struct_head L.Unpacked = codes "llvm.struct <{"
+struct_head L.Packed = codes "llvm.struct <packed {"
+
+-- behind its beginning, what is so many of one type
+abbrev pub counted_text : (head : List ℕ) (count : ℕ) (element : List ℕ) → List ℕ
+counted_text head count element = head ++ decimal count ++ codes " x " ++ element ++ codes "]"
+
 abbrev mutual
   -- the text of a type
   pub type_text : TypeTree → List ℕ
@@ -42,6 +60,9 @@ abbrev mutual
   type_text (FloatingType of) = floating_text of
   -- no type of the dialect
   type_text (RefusedType of) = []
+  type_text (ArrayType count t) = counted_text (codes "llvm.array [") count (type_text t)
+  type_text (VectorType kind count t) = counted_text (vector_head kind) count (type_text t)
+  type_text (StructType layout ts) = struct_head layout ++ joined (type_texts ts) ++ codes "}>"
   type_text (FunctionType result params variadic) =
       codes "llvm.func <" ++ type_text result ++ codes " (" ++ joined (type_texts params) ++ codes ") variadic = " ++ truth_text variadic ++ codes ">"
 

@@ -2,14 +2,14 @@
 
 ghost use Rattle.std.specs.Prelude.{◌≡◌, ◌<◌, ◌≤◌, ◌+◌, ◌%◌, ◌++◌, codes, length, IfSome, OnErr, OnOk};
 ghost use Rattle.std.specs.Fmt.{decimal};
-ghost use Rattle.dialect_types.specs.Trees.{type_at, type_trees, attr_tree, HasTypesBelow, IntegerAttr};
-ghost use Rattle.dialect_types.specs.Text.{Keeps, comma_before, floating_text, inner_type_text, type_text, attr_text, truth_text};
+ghost use Rattle.dialect_types.specs.Trees.{type_at, types_at, type_trees, attr_tree, AllBelow, HasTypesBelow, IntegerAttr, StructType, FunctionType};
+ghost use Rattle.dialect_types.specs.Text.{Keeps, comma_before, counted_text, floating_text, inner_type_text, joined, struct_head, type_text, type_texts, attr_text, truth_text, vector_head};
 
 use crate::attrs::ConstAttr;
 use crate::type_store::TypeStore;
 use crate::types::{TypeHandle, TypeKind};
 use itoa::Buffer;
-use kinds::types::Floating;
+use kinds::types::{Floating, StructLayout, VectorTypeKind};
 use std::alloc::AllocError;
 use support::appending::undo_failed;
 
@@ -174,6 +174,26 @@ fn floating_text(of: Floating) -> &'static [u8]
     }
 }
 
+/// What a vector type begins with.
+fn vector_head(kind: VectorTypeKind) -> &'static [u8]
+    ensures { result.now ≡ vector_head kind }
+{
+    match kind {
+        VectorTypeKind::Fixed => b"llvm.vector [",
+        VectorTypeKind::Scalable => b"llvm.vector [vscale ",
+    }
+}
+
+/// What a struct type begins with.
+fn struct_head(layout: StructLayout) -> &'static [u8]
+    ensures { result.now ≡ struct_head layout }
+{
+    match layout {
+        StructLayout::Unpacked => b"llvm.struct <{",
+        StructLayout::Packed => b"llvm.struct <packed {",
+    }
+}
+
 impl TypeStore {
     /// Appends the text of a type. Want of memory leaves `out` as it was.
     pub fn print_type(&self, ty: TypeHandle, out: &mut Vec<u8>) -> Result<(), AllocError>
@@ -187,6 +207,7 @@ impl TypeStore {
     }
 
     /// Appends the text of a type, or a front of it where memory is wanting.
+    #[cycle(append_type)]
     pub fn append_type(&self, ty: TypeHandle, out: &mut Vec<u8>) -> Result<(), AllocError>
         requires { ty.0 < length self.now }
         ensures ok { OnOk result (out.new.items ≡ out.old.items ++ type_text (type_at (type_trees self.now) ty)) }
@@ -197,21 +218,92 @@ impl TypeStore {
             TypeKind::Integer(width) => append_integer_type(*width, out),
             TypeKind::Pointer(space) => append_pointer_type(*space, out),
             TypeKind::Floating(of) => out.extend_from_slice(floating_text(*of)),
+            TypeKind::Array(element, count) => {
+                self.append_counted(b"llvm.array [", *count, *element, out)
+            }
+            TypeKind::Vector(element, count, kind) => {
+                self.append_counted(vector_head(*kind), u64::from(*count), *element, out)
+            }
+            TypeKind::Struct { fields, layout } => {
+                self.append_struct(*layout, fields.as_slice(), out)
+            }
             TypeKind::Func {
                 result,
                 params,
                 variadic,
-            } => {
-                out.extend_from_slice(b"llvm.func <")?;
-                self.append_type(*result, out)?;
-                out.extend_from_slice(b" (")?;
-                for (i, param) in params.as_slice().iter().enumerate() {
-                    print_comma_before(i, out)?;
-                    self.append_type(*param, out)?;
-                }
-                print_func_end(*variadic, out)
-            }
+            } => self.append_func(*result, params.as_slice(), *variadic, out),
         }
+    }
+
+    /// Appends the text of so many of a type, which begins as an array or a vector does.
+    #[cycle(append_type)]
+    fn append_counted(
+        &self,
+        head: &[u8],
+        count: u64,
+        element: TypeHandle,
+        out: &mut Vec<u8>,
+    ) -> Result<(), AllocError>
+        requires { element.0 < length self.now }
+        ensures ok { OnOk result (out.new.items ≡ out.old.items ++ counted_text head.now count (type_text (type_at (type_trees self.now) element))) }
+        ensures kept { Keeps out.old.items out.new.items }
+    {
+        out.extend_from_slice(head)?;
+        print_number(count, out)?;
+        out.extend_from_slice(b" x ")?;
+        self.append_type(element, out)?;
+        out.extend_from_slice(b"]")
+    }
+
+    /// Appends the text of a struct type.
+    #[cycle(append_type)]
+    fn append_struct(
+        &self,
+        layout: StructLayout,
+        fields: &[TypeHandle],
+        out: &mut Vec<u8>,
+    ) -> Result<(), AllocError>
+        requires { AllBelow (length self.now) fields.now }
+        ensures ok { OnOk result (out.new.items ≡ out.old.items ++ type_text (StructType layout (types_at (type_trees self.now) fields.now))) }
+        ensures kept { Keeps out.old.items out.new.items }
+    {
+        out.extend_from_slice(struct_head(layout))?;
+        self.append_types(fields, out)?;
+        out.extend_from_slice(b"}>")
+    }
+
+    /// Appends the text of a function type.
+    #[cycle(append_type)]
+    fn append_func(
+        &self,
+        returned: TypeHandle,
+        params: &[TypeHandle],
+        variadic: bool,
+        out: &mut Vec<u8>,
+    ) -> Result<(), AllocError>
+        requires { (returned.0 < length self.now) × AllBelow (length self.now) params.now }
+        ensures ok { OnOk result (out.new.items ≡ out.old.items ++ type_text (FunctionType (type_at (type_trees self.now) returned) (types_at (type_trees self.now) params.now) variadic)) }
+        ensures kept { Keeps out.old.items out.new.items }
+    {
+        out.extend_from_slice(b"llvm.func <")?;
+        self.append_type(returned, out)?;
+        out.extend_from_slice(b" (")?;
+        self.append_types(params, out)?;
+        print_func_end(variadic, out)
+    }
+
+    /// Appends the texts of types, with commas between them.
+    #[cycle(append_type)]
+    fn append_types(&self, types: &[TypeHandle], out: &mut Vec<u8>) -> Result<(), AllocError>
+        requires { AllBelow (length self.now) types.now }
+        ensures ok { OnOk result (out.new.items ≡ out.old.items ++ joined (type_texts (types_at (type_trees self.now) types.now))) }
+        ensures kept { Keeps out.old.items out.new.items }
+    {
+        for (i, ty) in types.iter().enumerate() {
+            print_comma_before(i, out)?;
+            self.append_type(*ty, out)?;
+        }
+        Ok(())
     }
 
     /// Appends the type of an integer constant as it stands inside the constant's text.

@@ -1,6 +1,6 @@
 //! Types, as a store keeps them.
 
-use kinds::types::Floating;
+use kinds::types::{Floating, StructLayout, VectorTypeKind};
 use support::items::Items;
 
 /// The number of a type in its store.
@@ -15,6 +15,14 @@ pub enum TypeKind {
     /// A pointer type of an address space.
     Pointer(u32),
     Floating(Floating),
+    /// So many of a type.
+    Array(TypeHandle, u64),
+    /// So many of a type, or a multiple of that.
+    Vector(TypeHandle, u32, VectorTypeKind),
+    Struct {
+        fields: Items<TypeHandle>,
+        layout: StructLayout,
+    },
     Func {
         result: TypeHandle,
         params: Items<TypeHandle>,

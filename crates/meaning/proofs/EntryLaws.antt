@@ -4,7 +4,7 @@ use Rattle.std.proofs.lemmas.Bool.{lt-ltb}
 use Rattle.std.proofs.lemmas.List.Elements.{All-head, All-tail}
 use Rattle.kinds.specs.Names.{is_intrinsic_name}
 use Rattle.llvm_core.specs.Data as L
-use Rattle.llvm_core.specs.Data.{ModuleData, TypeTree, FunctionType, TypeTrees, NoTypes, ThenType}
+use Rattle.llvm_core.specs.Data.{ModuleData, TypeTree, ArrayType, VectorType, StructType, FunctionType, TypeTrees, NoTypes, ThenType}
 use Rattle.meaning.specs.Terms.{Match, rename_type, rename_types}
 use Rattle.meaning.specs.Code.{Body, Entry, FunctionSymbol, External, SameBody, SameBodies, IsDistinctNames, names_of, rename_symbol}
 use Rattle.meaning.specs.Setting.{Setting}
@@ -14,6 +14,9 @@ use Rattle.meaning.specs.Llvm as Llvm
 mutual
   pub type_stays : (match : Match) (t : TypeTree) → rename_type match t ≡ t
   type_stays match (FunctionType r ps v) = cc (type_stays match r, types_stay match ps)
+  type_stays match (ArrayType n t) = cc (type_stays match t)
+  type_stays match (VectorType k n t) = cc (type_stays match t)
+  type_stays match (StructType l ts) = cc (types_stay match ts)
   type_stays match t = refl
 
   types_stay : (match : Match) (ts : TypeTrees) → rename_types match ts ≡ ts

@@ -11,4 +11,4 @@ are_held-requires-clause-params c = params_below c.args.ty.0 _ c.kind.result.now
 pub returns-then-not-variadic : goal.returns-then-not-variadic
 returns-then-not-variadic c =
     iff_trans c.are_held.ensures
-    (held_is (type_trees c.args.types.now) (type_at (type_trees c.args.types.now) c.args.ty) c.kind.result.now c.in-Func.returned c.in-Func.params c.as_slice.result.now c.in-Func.variadic c.in-Func.is c.kind.ensures.tree c.as_slice.ensures (grind arith))
+    (held_is (type_trees c.args.types.now) (type_at (type_trees c.args.types.now) c.args.ty) c.kind.result.now c.in-Func.returned c.in-Func.params c.as_slice.result.now c.in-Func.variadic c.in-Func.is c.kind.ensures.tree c.as_slice.ensures (grind arith) c.kind.ensures.nesting)

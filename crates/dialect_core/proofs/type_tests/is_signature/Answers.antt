@@ -10,4 +10,4 @@ are_first_class-requires-clause-params c = params_below c.args.ty.0 _ c.kind.res
 pub returns-in-Func : goal.returns-in-Func
 returns-in-Func c =
     iff_trans c.are_first_class.ensures
-    (signature_is (type_trees c.args.types.now) (type_at (type_trees c.args.types.now) c.args.ty) c.kind.result.now c.in-Func.returned c.in-Func.params c.as_slice.result.now c.in-Func.variadic c.in-Func.is c.kind.ensures.tree c.as_slice.ensures)
+    (signature_is (type_trees c.args.types.now) (type_at (type_trees c.args.types.now) c.args.ty) c.kind.result.now c.in-Func.returned c.in-Func.params c.as_slice.result.now c.in-Func.variadic c.in-Func.is c.kind.ensures.tree c.as_slice.ensures c.kind.ensures.nesting)
