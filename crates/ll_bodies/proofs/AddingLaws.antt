@@ -8,7 +8,7 @@ use Rattle.llvm_core.specs.declared.numbers.LLVMFunction.{LLVMFunction}
 use Rattle.llvm_core.specs.declared.types.LLVMTypeKind.{LLVMTypeKind}
 use Rattle.llvm_core.specs.declared.code.FunctionData.{FunctionData}
 use Rattle.llvm_core.specs.Module.{Module}
-use Rattle.llvm_core.specs.Code.{code_of, with_code, with_param_name}
+use Rattle.llvm_core.specs.Code.{code_of, with_code, with_param_name, param_names}
 use Rattle.llvm_core.specs.Data.{ModuleData, data_of, with_param}
 use Rattle.std.specs.List.{enumerate_from}
 use Rattle.std.proofs.Common.{if◌then◌else◌, nat_eq, zero}
@@ -18,7 +18,7 @@ use Rattle.llvm_core.specs.declared.code.BlockData.{BlockData}
 use Rattle.llvm_core.specs.declared.code.InstData.{InstData}
 use Rattle.llvm_core.specs.Data as D
 use Rattle.llvm_core.specs.Data.{Trees, ThenType, type_at, types_at, trees_of, function_of}
-use Rattle.std.proofs.Common.{Option, false}
+use Rattle.std.proofs.Common.{Option, None, false}
 use Rattle.std.proofs.lemmas.List.{length-map}
 use Rattle.support.proofs.ListLaws.{slice_get-push}
 use Rattle.kinds.specs.Types.{TypeTree, FunctionType}
@@ -58,6 +58,14 @@ renames_one f a b c place name r e = record {
       let change : FunctionData → FunctionData = λ z. record z { params = slice_set z.params place name } in
       (change y.0, ap (λ (m : Module). slice_get m.functions f.0) e ∙ slice_get-changed change f.0 b.functions ∙ ap (option_map change) y.1, y.2, length-slice_set y.0.params place name ∙ y.3);
 }
+
+-- there are as many parameters as before
+pub renamed_within : (f : LLVMFunction) (a b : Module) (n : ℕ) → Renames f a b → n < length (param_names a.functions f) → n < length (param_names b.functions f)
+renamed_within f a b n r lt = by (slice_get a.functions f.0) refl lt
+  where
+    by : (o : Option FunctionData) → slice_get a.functions f.0 ≡ o → n < length (option_map_or (λ (x : FunctionData). x.params) o []) → n < length (param_names b.functions f)
+    by None e lt = absurd (omega arith)
+    by (Some x) e lt = let y = r.function x e in rw y.1 (omega (arith, y.3, lt))
 
 -- the names from a place on
 pub names_at : (bytes : List ℕ) (d : ModuleData) (f : ℕ) (ps : List code_param.Param) (at : ℕ) (p : code_param.Param) → slice_get ps at ≡ Some p

@@ -1,5 +1,5 @@
 -- What the maps of a scope hold is what its keys stand for.
-use Rattle.std.proofs.Common.{◌≡◌, ℕ, Bool, true, false, true≢false, List, Option, Some, None, cond, if◌then◌else◌, String, string_bytes, refl, ap, sym, ◌∙◌, Bor}
+use Rattle.std.proofs.Common.{◌≡◌, ℕ, Bool, true, false, true≢false, List, Option, Some, None, cond, if◌then◌else◌, refl, ap, sym, ◌∙◌, Bor}
 use Rattle.std.specs.HashMap.{HashMap, get_by, get_by_text, Updates}
 use Rattle.std.specs.Map.{KeepsOthers}
 use Rattle.std.specs.Str.{bytes_eq}

@@ -1,14 +1,14 @@
 -- What is written of a name, and the key that it says.
-use Rattle.std.proofs.Common.{arith, ◌≡◌, ◌≤◌, ◌<◌, ℕ, Bool, true, false, not, ◌&&◌, ◌==◌, nat_le, if◌then◌else◌, [], ◌∷◌, length, Option, Some, None, refl, ap, sym, ◌∙◌, ne_eqb}
+use Rattle.std.proofs.Common.{arith, ◌≡◌, ◌<◌, ℕ, Bool, true, false, not, ◌&&◌, ◌==◌, nat_le, [], ◌∷◌, length, Option, Some, None, refl, ap, sym, ◌∙◌}
 use Rattle.std.specs.List.{list_all}
 use Rattle.std.specs.Option.{option_map}
 use Rattle.std.proofs.lemmas.Bool.{and_parts}
 use Rattle.std.proofs.lemmas.Bool.Decides.{nat_tests}
 use Rattle.llvm_core.specs.Names.{is_digit}
 use Rattle.ll_literals.specs.Text.{Text}
-use Rattle.ll_literals.specs.Names.{is_bare, is_name_byte, quoted_name, name_said}
+use Rattle.ll_literals.specs.Names.{is_bare, is_name_byte, quoted_name}
 use Rattle.ll_literals.specs.Numbers.{number_of, value_after, up_to, is_digits}
-use Rattle.ll_bodies.specs.Scopes.{Key, Named, Numbered, key_of, key_name}
+use Rattle.ll_bodies.specs.Scopes.{Named, Numbered, key_of, key_name}
 use Rattle.ll_bodies.specs.ScopeViews.{IsNotPlain}
 
 -- ---- bare names

@@ -1,5 +1,5 @@
 -- The scope of the program stays the same as that of the definitions, as things are put in it.
-use Rattle.std.proofs.Common.{◌≡◌, ℕ, ◌+◌, ◌<◌, ◌≤◌, ◌⊎◌, inl, inr, Bool, true, false, nat_eq, List, Option, Some, None, refl, ap, sym, ◌∙◌, if◌then◌else◌, subst, lt-ltb, le-leb, arith}
+use Rattle.std.proofs.Common.{◌≡◌, ℕ, ◌+◌, ◌<◌, ◌≤◌, ◌⊎◌, inl, inr, Bool, true, false, nat_eq, List, Option, Some, None, refl, ap, sym, ◌∙◌, if◌then◌else◌, lt-ltb, le-leb, arith}
 use Rattle.std.specs.Option.{option_map}
 use Rattle.std.proofs.lemmas.Bool.Decides.{nat_tests}
 use Rattle.llvm_core.specs.Data.{TypeTree}

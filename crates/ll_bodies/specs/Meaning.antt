@@ -1,5 +1,5 @@
 -- What functions of lines mean: the data of a module, by the numbers of the first function, block and instruction that are free.
-use Rattle.std.specs.Prelude.{ℕ, suc, ◌+◌, ◌-◌, Bool, false, List, [], ◌∷◌, map, length, take, drop, Option, Some, None, if◌then◌else◌}
+use Rattle.std.specs.Prelude.{ℕ, suc, ◌+◌, Bool, false, List, [], ◌∷◌, map, length, Option, Some, None, if◌then◌else◌}
 use Rattle.std.specs.Option.{option_map_or}
 use Rattle.kinds.specs.Rules.{ends}
 use Rattle.kinds.specs.Table.{rule_of}

@@ -2,7 +2,7 @@
 
 ghost use Rattle.std.specs.Prelude.{◌≡◌, false, None, Some, Err, IfOk, OnOk, [], map, length, slice_get, All};
 ghost use Rattle.std.specs.Prelude.{◌≤◌};
-ghost use Rattle.llvm_core.specs.Parts.{IsTypeOver};
+ghost use Rattle.llvm_core.specs.Parts.{IsTypeOver, HasFitParts};
 ghost use Rattle.llvm_core.specs.Code.{param_names};
 ghost use Rattle.llvm_core.specs.Data.{data_of, trees_of, with_function};
 ghost use Rattle.llvm_core.specs.Sound.{IsModule};
@@ -44,7 +44,8 @@ fn param_types(alloc: Global, params: &[Param]) -> Result<Items<LLVMType>, Alloc
 
 /// The number of a type, new or old.
 fn type_number(module: &mut LLVMModule, kind: LLVMTypeKind) -> Result<LLVMType, AllocError>
-    requires { IsTypeOver (length module.old.types) kind }
+    requires parts { IsTypeOver (length module.old.types) kind }
+    requires fit { HasFitParts module.old.types kind }
     ensures grows { OnOk result (AddsTypes module.old module.new) }
     ensures here { IfOk result (λ t. slice_get module.new.types t.0 ≡ Some kind) }
     ensures sound { IsModule module.new }

@@ -1,6 +1,6 @@
 -- What the program keeps of lines, as what a text says: numbers of types and constants stand for their trees, and a place of the
 -- text for the bytes there.
-use Rattle.std.specs.Prelude.{◌≡◌, ◌<◌, ◌-◌, ℕ, List, [], ◌∷◌, map, take, drop, length, Option, All, IfSome}
+use Rattle.std.specs.Prelude.{◌<◌, ◌-◌, ℕ, List, map, take, drop, length, All, IfSome}
 use Rattle.std.specs.Option.{option_map}
 use Rattle.llvm_core.specs.declared.numbers.LLVMType.{LLVMType}
 use Rattle.llvm_core.specs.Module.{Module}

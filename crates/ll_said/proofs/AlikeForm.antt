@@ -7,7 +7,7 @@ use Rattle.kinds.specs.declared.op.Op.{Op}
 use Rattle.kinds.specs.declared.rules.Takes.{Takes}
 use Rattle.kinds.specs.declared.rules.Takes.TheVariants as O
 use Rattle.kinds.specs.Types.{result_of}
-use Rattle.kinds.specs.Held.{is_void, IsFirstClass, IsReturned}
+use Rattle.kinds.specs.Held.{is_void, IsFirstClass, IsReturned, IsShallow}
 use Rattle.kinds.specs.Rules.{ends, target_count, operand_count}
 use Rattle.kinds.specs.Table.{rule_of}
 use Rattle.kinds.specs.Typing.{fits_trees, typed}
@@ -211,6 +211,7 @@ module _ (g h : L.Function) (alike : FunctionsAlike g h) (here : IsDistinctList 
         type = sym alike.type ∙ form.type;
         returns = form.returns;
         takes = form.takes;
+        shallow = subst IsShallow alike.type form.shallow;
         space = sym alike.space ∙ form.space;
         params = sym count ∙ form.params;
         param_names = subst (λ (ns : List (List ℕ)). All IsGoodOrNone ns) alike.params form.param_names;

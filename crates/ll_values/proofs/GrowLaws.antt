@@ -10,9 +10,10 @@ use Rattle.llvm_core.specs.declared.numbers.LLVMType.{LLVMType}
 use Rattle.llvm_core.specs.declared.types.LLVMTypeKind.{LLVMTypeKind}
 use Rattle.llvm_core.specs.declared.consts.LLVMConstKind.{LLVMConstKind}
 use Rattle.llvm_core.specs.Module.{Module}
+use Rattle.llvm_core.specs.Parts.{IsTypeOver}
 use Rattle.llvm_core.specs.Sound.{IsModule}
-use Rattle.llvm_core.specs.Data.{ConstTree, trees_of, type_trees, const_trees, type_at, const_at, data_of}
-use Rattle.llvm_core.proofs.TreeLemmas.{type_at-kept, const_at-kept, const_trees-retyped}
+use Rattle.llvm_core.specs.Data.{ConstTree, trees_of, type_trees, const_trees, type_at, const_at, type_tree, data_of}
+use Rattle.llvm_core.proofs.TreeLemmas.{same_tree, type_at-kept, const_at-kept, const_trees-retyped}
 use Rattle.ll_lines.specs.declared.lines.Said.{Said}
 use Rattle.ll_lines.specs.declared.lines.Said.TheVariants as S
 use Rattle.ll_lines.specs.declared.lines.Typed.{Typed}
@@ -68,6 +69,10 @@ const_interned old new k n h rest is sound =
       same_data = is;
       sound = sound;
     }
+
+-- a kind over earlier types keeps its tree
+pub kind_same : (m n : Module) → Interns m n → (k : LLVMTypeKind) → IsTypeOver (length m.types) k → type_tree (trees_of n).types k ≡ type_tree (trees_of m).types k
+kind_same m n g k h = same_tree (trees_of n).types (trees_of m).types (length m.types) (λ j lt. g.types (record { 0 = j }) lt) k h
 
 -- ---- lists
 

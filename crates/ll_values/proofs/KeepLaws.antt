@@ -1,9 +1,10 @@
 -- What values say stays as the module and the store grow.
 use Rattle.std.proofs.Common.{◌≡◌, ◌<◌, ◌≤◌, ℕ, zero, suc, List, [], ◌∷◌, ◌++◌, Some, length, length-append, map, slice_get, refl, ap, ◌∙◌, arith, All}
-use Rattle.std.proofs.lemmas.List.Elements.{All-weaker, All-nil}
+use Rattle.std.proofs.lemmas.List.Elements.{All-weaker, All-nil, All-head, All-tail}
 use Rattle.support.proofs.ListLaws.{item_there}
 use Rattle.llvm_core.specs.Module.{Module}
-use Rattle.llvm_core.specs.Data.{trees_of}
+use Rattle.llvm_core.specs.declared.numbers.LLVMType.{LLVMType}
+use Rattle.llvm_core.specs.Data.{trees_of, types_at}
 use Rattle.ll_lines.specs.declared.lines.Param.{Param}
 use Rattle.ll_lines.specs.Views.{param_view, IsTypeIn, IsInstIn}
 use Rattle.ll_values.specs.declared.store.Store.{Store}
@@ -14,7 +15,7 @@ use Rattle.ll_values.specs.declared.value.Value.{Value}
 use Rattle.ll_values.specs.declared.value.Value.TheVariants as V
 use Rattle.ll_values.specs.Lists.{list_at}
 use Rattle.ll_values.specs.Values as S
-use Rattle.ll_values.specs.Views.{inst_at, part_view, body_at, params_at, definition_view, functions_at, value_view, IsPieceIn, IsDefinitionIn, IsValueIn, IsStoreIn}
+use Rattle.ll_values.specs.Views.{inst_at, part_view, body_at, types_in, params_at, definition_view, functions_at, value_view, IsPieceIn, IsDefinitionIn, IsValueIn, IsStoreIn}
 use Rattle.ll_values.specs.Growing.{Interns, KeepsLists, Keeps}
 use Rattle.ll_values.proofs.ListLaws.{at_front}
 use Rattle.ll_values.proofs.GrowLaws.{map_same, all_item, inst_same, param_same, typed_same, said_same, inst_there, typed_there, said_there}
@@ -37,7 +38,7 @@ lists_twice : {T : Type 0} (a b c : List (List T)) → KeepsLists a b → KeepsL
 lists_twice a b c g h = record { count = omega (arith, g.count, h.count); at = λ n le. h.at n (omega (arith, g.count, le)) ∙ g.at n le }
 
 pub store_kept : (s : Store) → Keeps s s
-store_kept s = record { inst_count = omega arith; insts = λ n h. refl; entries = lists_kept s.entries; bodies = lists_kept s.bodies; params = lists_kept s.params; functions = lists_kept s.functions }
+store_kept s = record { inst_count = omega arith; insts = λ n h. refl; entries = lists_kept s.entries; bodies = lists_kept s.bodies; types = lists_kept s.types; params = lists_kept s.params; functions = lists_kept s.functions }
 
 pub kept_twice : (a b c : Store) → Keeps a b → Keeps b c → Keeps a c
 kept_twice a b c g h = record {
@@ -45,6 +46,7 @@ kept_twice a b c g h = record {
   insts = λ n lt. h.insts n (omega (arith, g.inst_count, lt)) ∙ g.insts n lt;
   entries = lists_twice a.entries b.entries c.entries g.entries h.entries;
   bodies = lists_twice a.bodies b.bodies c.bodies g.bodies h.bodies;
+  types = lists_twice a.types b.types c.types g.types h.types;
   params = lists_twice a.params b.params c.params g.params h.params;
   functions = lists_twice a.functions b.functions c.functions g.functions h.functions;
 }
@@ -55,6 +57,7 @@ store_there m n s g st = record {
   sound = g.sound;
   insts = All-weaker (IsInstIn m) (IsInstIn n) (inst_there [] m n g) s.insts.items st.insts;
   bodies = all_lists (IsPieceIn m s) (IsPieceIn n s) piece s.bodies st.bodies;
+  types = all_lists (IsTypeIn m) (IsTypeIn n) (λ t h. omega (arith, g.type_count, h)) s.types st.types;
   params = all_lists (λ (p : Param). IsTypeIn m p.ty) (λ (p : Param). IsTypeIn n p.ty) (λ p h. omega (arith, g.type_count, h)) s.params st.params;
   functions = all_lists (IsDefinitionIn m s) (IsDefinitionIn n s) (λ d h. ((omega (arith, g.type_count, h.0.0), h.0.1), h.1)) s.functions st.functions;
 }
@@ -77,6 +80,16 @@ module _ (bytes : List ℕ) (m n : Module) (s t : Store) (g : Interns m n) (k : 
   pub body_same : (i : ℕ) → i ≤ length s.bodies → body_at bytes (trees_of n) t i ≡ body_at bytes (trees_of m) s i
   body_same i h = rw (k.bodies.at i h) (map_same (IsPieceIn m s) (part_view bytes (trees_of n) t) (part_view bytes (trees_of m) s) piece_same (list_at s.bodies i) (all_at (IsPieceIn m s) s.bodies i st.bodies h))
 
+  trees_same : (ts : List LLVMType) → All (IsTypeIn m) ts → types_at (trees_of n).types ts ≡ types_at (trees_of m).types ts
+  trees_same [] h = refl
+  trees_same (t ∷ ts) h =
+      let first = g.types t (All-head (IsTypeIn m) t ts h) in
+      let rest = trees_same ts (All-tail (IsTypeIn m) t ts h) in
+      cc
+
+  pub types_same : (i : ℕ) → i ≤ length s.types → types_in bytes (trees_of n) t i ≡ types_in bytes (trees_of m) s i
+  types_same i h = rw (k.types.at i h) (trees_same (list_at s.types i) (all_at (IsTypeIn m) s.types i st.types h))
+
   pub params_same : (i : ℕ) → i ≤ length s.params → params_at bytes (trees_of n) t i ≡ params_at bytes (trees_of m) s i
   params_same i h =
       let Q : Param → Type 0 = λ (p : Param). IsTypeIn m p.ty in
@@ -95,6 +108,7 @@ module _ (bytes : List ℕ) (m n : Module) (s t : Store) (g : Interns m n) (k : 
   value_same (V.Flag b) h = refl
   value_same (V.Wraps flags) h = refl
   value_same (V.Type ty) h = rw (g.types ty h) refl
+  value_same (V.Types i) h = ap S.TypesV (types_same i h)
   value_same (V.Literal l) h = refl
   value_same (V.Typed x) h = ap S.TypedV (typed_same bytes m n g x h)
   value_same (V.Space i) h = refl
@@ -124,6 +138,7 @@ module _ (bytes : List ℕ) (m n : Module) (s t : Store) (g : Interns m n) (k : 
   value_there (V.Flag b) h = tt
   value_there (V.Wraps flags) h = tt
   value_there (V.Type ty) h = omega (arith, g.type_count, h)
+  value_there (V.Types i) h = omega (arith, k.types.count, h)
   value_there (V.Literal l) h = tt
   value_there (V.Typed x) h = typed_there bytes m n g x h
   value_there (V.Space i) h = tt

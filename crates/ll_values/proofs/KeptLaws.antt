@@ -5,6 +5,7 @@ use Rattle.support.proofs.ListLaws.{slice_get-before, slice_get-push}
 use Rattle.llvm_core.specs.Module.{Module}
 use Rattle.ll_lines.specs.declared.lines.Inst.{Inst}
 use Rattle.ll_lines.specs.declared.lines.Param.{Param}
+use Rattle.llvm_core.specs.declared.numbers.LLVMType.{LLVMType}
 use Rattle.llvm_core.specs.Data.{trees_of}
 use Rattle.ll_lines.specs.Views.{inst_view, IsTypeIn, IsInstIn}
 use Rattle.ll_values.specs.declared.store.Store.{Store}
@@ -15,7 +16,7 @@ use Rattle.ll_values.specs.declared.value.Definition.{Definition}
 use Rattle.ll_values.specs.declared.value.Value.TheVariants as V
 use Rattle.ll_values.specs.Lists.{list_at}
 use Rattle.ll_values.specs.Values.{InstV}
-use Rattle.ll_values.specs.Views.{entries_from, body_from, params_from, file_from, IsPieceIn, IsDefinitionIn, IsStoreIn}
+use Rattle.ll_values.specs.Views.{entries_from, body_from, types_from, params_from, file_from, IsPieceIn, IsDefinitionIn, IsStoreIn}
 use Rattle.ll_values.specs.Growing.{Kept}
 use Rattle.ll_values.proofs.ListLaws.{at_last}
 use Rattle.ll_values.proofs.KeepLaws.{all_at, all_lists, lists_kept, lists_pushed}
@@ -30,8 +31,8 @@ last_of old new xs v e h = rw e (at_last old xs v (h ∙ ap length e))
 module _ (bytes : List ℕ) (m : Module) (s : Store) (st : IsStoreIn m s) where
   pub kept_entries : (e : Entry) (n : ℕ) (new : List (List Entry)) (v : ℕ) → n ≤ length s.entries → new ≡ s.entries ++ (e ∷ list_at s.entries n) ∷ [] → v ≡ length new → Kept bytes m s (record s { entries = new }) (entries_from bytes (trees_of m) s e n) (V.Entries v)
   kept_entries e n new v le put last = record {
-    store = record { sound = st.sound; insts = st.insts; bodies = st.bodies; params = st.params; functions = st.functions };
-    keeps = record { inst_count = omega arith; insts = λ n h. refl; entries = lists_pushed s.entries new (e ∷ list_at s.entries n) put; bodies = lists_kept s.bodies; params = lists_kept s.params; functions = lists_kept s.functions };
+    store = record { sound = st.sound; insts = st.insts; bodies = st.bodies; types = st.types; params = st.params; functions = st.functions };
+    keeps = record { inst_count = omega arith; insts = λ n h. refl; entries = lists_pushed s.entries new (e ∷ list_at s.entries n) put; bodies = lists_kept s.bodies; types = lists_kept s.types; params = lists_kept s.params; functions = lists_kept s.functions };
     there = omega (arith, last);
     value = rw (last_of s.entries new (e ∷ list_at s.entries n) v put last) refl;
   }
@@ -44,13 +45,22 @@ module _ (bytes : List ℕ) (m : Module) (s : Store) (st : IsStoreIn m s) where
           sound = st.sound;
           insts = st.insts;
           bodies = all_put (IsPieceIn m s) s.bodies new p n put le q st.bodies;
+          types = st.types;
           params = st.params;
           functions = all_lists (IsDefinitionIn m s) (IsDefinitionIn m (record s { bodies = new })) (λ d h. (h.0, omega (arith, more.count, h.1))) s.functions st.functions;
         };
-        keeps = record { inst_count = omega arith; insts = λ n h. refl; entries = lists_kept s.entries; bodies = more; params = lists_kept s.params; functions = lists_kept s.functions };
+        keeps = record { inst_count = omega arith; insts = λ n h. refl; entries = lists_kept s.entries; bodies = more; types = lists_kept s.types; params = lists_kept s.params; functions = lists_kept s.functions };
         there = omega (arith, last);
         value = rw (last_of s.bodies new (p ∷ list_at s.bodies n) v put last) refl;
       }
+
+  pub kept_types : (ty : LLVMType) (n : ℕ) (new : List (List LLVMType)) (v : ℕ) → IsTypeIn m ty → n ≤ length s.types → new ≡ s.types ++ (ty ∷ list_at s.types n) ∷ [] → v ≡ length new → Kept bytes m s (record s { types = new }) (types_from bytes (trees_of m) s ty n) (V.Types v)
+  kept_types ty n new v q le put last = record {
+    store = record { sound = st.sound; insts = st.insts; bodies = st.bodies; types = all_put (IsTypeIn m) s.types new ty n put le q st.types; params = st.params; functions = st.functions };
+    keeps = record { inst_count = omega arith; insts = λ n h. refl; entries = lists_kept s.entries; bodies = lists_kept s.bodies; types = lists_pushed s.types new (ty ∷ list_at s.types n) put; params = lists_kept s.params; functions = lists_kept s.functions };
+    there = omega (arith, last);
+    value = rw (last_of s.types new (ty ∷ list_at s.types n) v put last) refl;
+  }
 
   pub kept_params : (p : Param) (n : ℕ) (new : List (List Param)) (v : ℕ) → IsTypeIn m p.ty → n ≤ length s.params → new ≡ s.params ++ (p ∷ list_at s.params n) ∷ [] → v ≡ length new → Kept bytes m s (record s { params = new }) (params_from bytes (trees_of m) s p n) (V.Params v)
   kept_params p n new v q le put last =
@@ -60,18 +70,19 @@ module _ (bytes : List ℕ) (m : Module) (s : Store) (st : IsStoreIn m s) where
           sound = st.sound;
           insts = st.insts;
           bodies = st.bodies;
+          types = st.types;
           params = all_put (λ (x : Param). IsTypeIn m x.ty) s.params new p n put le q st.params;
           functions = all_lists (IsDefinitionIn m s) (IsDefinitionIn m (record s { params = new })) (λ d h. ((h.0.0, omega (arith, more.count, h.0.1)), h.1)) s.functions st.functions;
         };
-        keeps = record { inst_count = omega arith; insts = λ n h. refl; entries = lists_kept s.entries; bodies = lists_kept s.bodies; params = more; functions = lists_kept s.functions };
+        keeps = record { inst_count = omega arith; insts = λ n h. refl; entries = lists_kept s.entries; bodies = lists_kept s.bodies; types = lists_kept s.types; params = more; functions = lists_kept s.functions };
         there = omega (arith, last);
         value = rw (last_of s.params new (p ∷ list_at s.params n) v put last) refl;
       }
 
   pub kept_file : (d : Definition) (n : ℕ) (new : List (List Definition)) (v : ℕ) → IsDefinitionIn m s d → n ≤ length s.functions → new ≡ s.functions ++ (d ∷ list_at s.functions n) ∷ [] → v ≡ length new → Kept bytes m s (record s { functions = new }) (file_from bytes (trees_of m) s d n) (V.File None v)
   kept_file d n new v q le put last = record {
-    store = record { sound = st.sound; insts = st.insts; bodies = st.bodies; params = st.params; functions = all_put (IsDefinitionIn m s) s.functions new d n put le q st.functions };
-    keeps = record { inst_count = omega arith; insts = λ n h. refl; entries = lists_kept s.entries; bodies = lists_kept s.bodies; params = lists_kept s.params; functions = lists_pushed s.functions new (d ∷ list_at s.functions n) put };
+    store = record { sound = st.sound; insts = st.insts; bodies = st.bodies; types = st.types; params = st.params; functions = all_put (IsDefinitionIn m s) s.functions new d n put le q st.functions };
+    keeps = record { inst_count = omega arith; insts = λ n h. refl; entries = lists_kept s.entries; bodies = lists_kept s.bodies; types = lists_kept s.types; params = lists_kept s.params; functions = lists_pushed s.functions new (d ∷ list_at s.functions n) put };
     there = omega (arith, last);
     value = rw (last_of s.functions new (d ∷ list_at s.functions n) v put last) refl;
   }
@@ -95,10 +106,11 @@ module _ (bytes : List ℕ) (m : Module) (s : Store) (st : IsStoreIn m s) where
           sound = st.sound;
           insts = rw put (All-push (IsInstIn m) s.insts.items i st.insts q);
           bodies = all_lists (IsPieceIn m s) (IsPieceIn m (record s { insts = new.insts })) piece s.bodies st.bodies;
+          types = st.types;
           params = st.params;
           functions = st.functions;
         };
-        keeps = record { inst_count = omega (arith, longer); insts = λ j h. rw put (slice_get-before s.insts.items (i ∷ []) j h); entries = lists_kept s.entries; bodies = lists_kept s.bodies; params = lists_kept s.params; functions = lists_kept s.functions };
+        keeps = record { inst_count = omega (arith, longer); insts = λ j h. rw put (slice_get-before s.insts.items (i ∷ []) j h); entries = lists_kept s.entries; bodies = lists_kept s.bodies; types = lists_kept s.types; params = lists_kept s.params; functions = lists_kept s.functions };
         there = omega (arith, longer, last);
         value = rw at refl;
       }

@@ -4,6 +4,8 @@ pub mod GrowLaws
 pub mod KeepLaws
 pub mod KeptLaws
 pub mod SaidLaws
+pub mod CountLaws
+pub mod FieldLaws
 pub mod PhiLaws
 pub mod StackLaws
 pub mod WalkLaws

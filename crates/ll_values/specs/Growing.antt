@@ -31,6 +31,7 @@ pub record Keeps (old new : Store) : Type 0 where
   pub insts : (n : ℕ) → n < length old.insts.items → slice_get new.insts.items n ≡ slice_get old.insts.items n
   pub entries : KeepsLists old.entries new.entries
   pub bodies : KeepsLists old.bodies new.bodies
+  pub types : KeepsLists old.types new.types
   pub params : KeepsLists old.params new.params
   pub functions : KeepsLists old.functions new.functions
 

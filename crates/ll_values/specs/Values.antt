@@ -4,7 +4,12 @@ use Rattle.std.specs.Option.{option_map}
 use Rattle.kinds.specs.declared.op.OverflowFlags.{OverflowFlags}
 use Rattle.kinds.specs.declared.op.Op.{Op}
 use Rattle.kinds.specs.declared.op.Op.TheVariants as O
-use Rattle.kinds.specs.Types.{TypeTree, VoidType, IntType, PointerType}
+use Rattle.kinds.specs.declared.types.VectorTypeKind.{VectorTypeKind}
+use Rattle.kinds.specs.declared.types.VectorTypeKind.TheVariants.{Fixed, Scalable}
+use Rattle.kinds.specs.declared.types.StructLayout.{StructLayout}
+use Rattle.kinds.specs.declared.types.StructLayout.TheVariants.{Packed, Unpacked}
+use Rattle.kinds.specs.Types.{TypeTree, VoidType, IntType, PointerType, ArrayType, VectorType, StructType, TypeTrees, NoTypes, ThenType, shape}
+use Rattle.kinds.specs.Fitting.{is_array_of, is_vector_of, is_field}
 use Rattle.llvm_core.specs.Data.{IntConst}
 use Rattle.ll_literals.specs.Chain.{◌>>=◌}
 use Rattle.ll_literals.specs.Numbers.{number_of, up_to, width_of}
@@ -46,6 +51,7 @@ pub data Value : Type 0 where
   FlagV : Bool → Value
   WrapsV : OverflowFlags → Value
   TypeV : TypeTree → Value
+  TypesV : TypeTrees → Value
   LiteralV : Literal → Value
   TypedV : Typed → Value
   -- an address space
@@ -68,6 +74,29 @@ pub data Value : Type 0 where
 -- i and the digits of 1 to 2^23
 abbrev pub int_type : Text → Option TypeTree
 int_type t = width_of t >>= λ w. if nat_le 1 w && nat_le w (2 ^ 23) then Some (IntType w) else None
+
+-- so many of a type, where they make an array
+abbrev pub array_of : (element : TypeTree) → (count : ℕ) → Option TypeTree
+array_of τ n = if is_array_of n (shape τ) then Some (ArrayType n τ) else None
+
+-- so many of a type, where they make a vector
+abbrev pub vector_of : VectorTypeKind → (element : TypeTree) → (count : ℕ) → Option TypeTree
+vector_of kind τ n = if is_vector_of n (shape τ) then Some (VectorType kind n τ) else None
+
+-- by the digits of the count
+abbrev pub array_type : Text → TypeTree → Option TypeTree
+array_type t τ = number_of t >>= array_of τ
+
+abbrev pub vector_type : VectorTypeKind → Text → TypeTree → Option TypeTree
+vector_type kind t τ = number_of t >>= vector_of kind τ
+
+abbrev pub are_fields : TypeTrees → Bool
+are_fields NoTypes = true
+are_fields (ThenType τ τs) = is_field (shape τ) && are_fields τs
+
+-- types, where they make a struct
+abbrev pub struct_of : StructLayout → TypeTrees → Option TypeTree
+struct_of layout τs = if are_fields τs then Some (StructType layout τs) else None
 
 -- what a literal says at a type: a local is a name still, and constants are integers of at most 64 bits
 abbrev pub said : TypeTree → Literal → Option Said
@@ -131,6 +160,8 @@ list_by L.EntriesEnd [] = Some (EntriesV [])
 list_by L.EntriesMore (EntryV e ∷ EntriesV es ∷ []) = Some (EntriesV (e ∷ es))
 list_by L.BodyEnd [] = Some (BodyV [])
 list_by L.BodyMore (PartV p ∷ BodyV ps ∷ []) = Some (BodyV (p ∷ ps))
+list_by L.TypesEnd [] = Some (TypesV NoTypes)
+list_by L.TypesMore (TypeV τ ∷ TypesV τs ∷ []) = Some (TypesV (ThenType τ τs))
 list_by L.ParamsEnd [] = Some (ParamsV [])
 list_by L.ParamsMore (ParamV p ∷ ParamsV ps ∷ []) = Some (ParamsV (p ∷ ps))
 list_by L.Parameters (ParamsV ps ∷ NoneV ∷ NoneV ∷ []) = Some (ParamsV ps)
@@ -174,6 +205,11 @@ typed_by T.Int (TextV t ∷ []) = option_map TypeV (int_type t)
 typed_by T.Pointer (NoneV ∷ []) = Some (TypeV (PointerType 0))
 typed_by T.Pointer (SpaceV n ∷ []) = Some (TypeV (PointerType n))
 typed_by T.Flat (TextV t ∷ []) = option_map TypeV (flat_type t)
+typed_by T.Array (TextV t ∷ TypeV τ ∷ []) = option_map TypeV (array_type t τ)
+typed_by T.Vector (TextV t ∷ TypeV τ ∷ []) = option_map TypeV (vector_type Fixed t τ)
+typed_by T.Scalable (TextV t ∷ TypeV τ ∷ []) = option_map TypeV (vector_type Scalable t τ)
+typed_by T.Struct (TypesV τs ∷ []) = option_map TypeV (struct_of Unpacked τs)
+typed_by T.Packed (TypesV τs ∷ []) = option_map TypeV (struct_of Packed τs)
 typed_by T.Typed (TypeV τ ∷ LiteralV ℓ ∷ []) = option_map TypedV (typed τ ℓ)
 typed_by T.Pair (TypeV τ ∷ LiteralV ℓ ∷ LiteralV r ∷ []) = typed τ ℓ >>= λ x. typed τ r >>= λ y. Some (PairV x y)
 typed_by T.Phi (TypeV τ ∷ EntryV e ∷ EntriesV es ∷ []) = incoming τ (e ∷ es) >>= λ xs. Some (InstV (Phi τ xs))

@@ -1,10 +1,11 @@
 -- What the values on a stack say, over the bytes of the text, the trees of the module and what is kept in a store.
 use Rattle.std.specs.Prelude.{◌<◌, ◌≤◌, ℕ, List, [], ◌∷◌, map, length, slice_get, None, All}
 use Rattle.std.specs.Option.{option_map, option_map_or}
-use Rattle.kinds.specs.Types.{VoidType}
+use Rattle.kinds.specs.Types.{VoidType, TypeTrees, ThenType}
 use Rattle.llvm_core.specs.Module.{Module}
 use Rattle.llvm_core.specs.Sound.{IsModule}
-use Rattle.llvm_core.specs.Data.{Trees, type_at}
+use Rattle.llvm_core.specs.Data.{Trees, type_at, types_at}
+use Rattle.llvm_core.specs.declared.numbers.LLVMType.{LLVMType}
 use Rattle.ll_lines.specs.declared.lines.Param as code_param
 use Rattle.ll_lines.specs.Lines.{Inst, Phi, Part, Label, Does, Param, Function}
 use Rattle.ll_lines.specs.Views.{text_of, typed_view, inst_view, param_view, IsTypeIn, IsSaidIn, IsTypedIn, IsInstIn}
@@ -19,7 +20,7 @@ use Rattle.ll_values.specs.declared.value.Definition.{Definition}
 use Rattle.ll_values.specs.declared.value.Value as code_value
 use Rattle.ll_values.specs.declared.value.Value.TheVariants as V
 use Rattle.ll_values.specs.Lists.{list_at}
-use Rattle.ll_values.specs.Values.{Literal, LocalL, ConstL, Entry, Head, Value, NoneV, TextV, FlagV, WrapsV, TypeV, LiteralV, TypedV, SpaceV, PairV, EntryV, EntriesV, InstV, PartV, BodyV, ParamV, ParamsV, HeadV, SourceV, FunctionV, FileV}
+use Rattle.ll_values.specs.Values.{Literal, LocalL, ConstL, Entry, Head, Value, NoneV, TextV, FlagV, WrapsV, TypeV, TypesV, LiteralV, TypedV, SpaceV, PairV, EntryV, EntriesV, InstV, PartV, BodyV, ParamV, ParamsV, HeadV, SourceV, FunctionV, FileV}
 
 -- ---- what is said
 
@@ -45,6 +46,9 @@ module _ (bytes : List ℕ) (t : Trees) (s : Store) where
   abbrev pub body_at : ℕ → List Part
   body_at n = map part_view (list_at s.bodies n)
 
+  abbrev pub types_in : ℕ → TypeTrees
+  types_in n = types_at t.types (list_at s.types n)
+
   abbrev pub params_at : ℕ → List Param
   params_at n = map (param_view bytes t) (list_at s.params n)
 
@@ -63,6 +67,7 @@ module _ (bytes : List ℕ) (t : Trees) (s : Store) where
   value_view (V.Flag b) = FlagV b
   value_view (V.Wraps flags) = WrapsV flags
   value_view (V.Type ty) = TypeV (type_at t.types ty)
+  value_view (V.Types n) = TypesV (types_in n)
   value_view (V.Literal l) = LiteralV (literal_view bytes l)
   value_view (V.Typed x) = TypedV (typed_view bytes t x)
   value_view (V.Space n) = SpaceV n
@@ -85,6 +90,9 @@ module _ (bytes : List ℕ) (t : Trees) (s : Store) where
 
   abbrev pub body_from : Piece → ℕ → Value
   body_from p n = BodyV (part_view p ∷ body_at n)
+
+  abbrev pub types_from : LLVMType → ℕ → Value
+  types_from ty n = TypesV (ThenType (type_at t.types ty) (types_in n))
 
   abbrev pub params_from : code_param.Param → ℕ → Value
   params_from p n = ParamsV (param_view bytes t p ∷ params_at n)
@@ -111,6 +119,7 @@ module _ (m : Module) (s : Store) where
   IsValueIn (V.Flag b) = Unit {0}
   IsValueIn (V.Wraps flags) = Unit {0}
   IsValueIn (V.Type ty) = IsTypeIn m ty
+  IsValueIn (V.Types n) = n ≤ length s.types
   IsValueIn (V.Literal l) = Unit {0}
   IsValueIn (V.Typed x) = IsTypedIn m x
   IsValueIn (V.Space n) = Unit {0}
@@ -132,5 +141,6 @@ module _ (m : Module) (s : Store) where
     pub sound : IsModule m
     pub insts : All (IsInstIn m) s.insts.items
     pub bodies : All (All IsPieceIn) s.bodies
+    pub types : All (All (IsTypeIn m)) s.types
     pub params : All (All (λ (p : code_param.Param). IsTypeIn m p.ty)) s.params
     pub functions : All (All IsDefinitionIn) s.functions

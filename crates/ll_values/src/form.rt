@@ -34,6 +34,8 @@ pub enum ListKind {
     ParamsEnd,
     BodyMore,
     BodyEnd,
+    TypesMore,
+    TypesEnd,
     EntriesEnd,
     EntriesMore,
 }
@@ -64,6 +66,11 @@ pub enum TypedKind {
     Int,
     Pointer,
     Flat,
+    Array,
+    Struct,
+    Vector,
+    Scalable,
+    Packed,
     Typed,
     Pair,
     Phi,
@@ -123,6 +130,8 @@ impl ListKind {
             ListKind::ParamsEnd => 0,
             ListKind::BodyMore => 2,
             ListKind::BodyEnd => 0,
+            ListKind::TypesMore => 2,
+            ListKind::TypesEnd => 0,
             ListKind::EntriesEnd => 0,
             ListKind::EntriesMore => 2,
         }
@@ -163,6 +172,11 @@ impl TypedKind {
             TypedKind::Int => 1,
             TypedKind::Pointer => 1,
             TypedKind::Flat => 1,
+            TypedKind::Array => 2,
+            TypedKind::Struct => 1,
+            TypedKind::Vector => 2,
+            TypedKind::Scalable => 2,
+            TypedKind::Packed => 1,
             TypedKind::Typed => 2,
             TypedKind::Pair => 3,
             TypedKind::Phi => 3,
@@ -488,33 +502,46 @@ pub static KINDS: [Kind; 541] = [
     Kind::Typed(TypedKind::Pointer),
     // 264: type = FLAT
     Kind::Typed(TypedKind::Flat),
+    // 265: type = '[' INT 'x' type ']'
+    Kind::Typed(TypedKind::Array),
+    // 266: type = '<' angle_type
+    Kind::Same,
     Kind::Outside,
-    Kind::Outside,
-    Kind::Outside,
-    Kind::Outside,
+    // 268: type = '{' types '}'
+    Kind::Typed(TypedKind::Struct),
     // 269: solid = INTTYPE
     Kind::Typed(TypedKind::Int),
     // 270: solid = 'ptr' space
     Kind::Typed(TypedKind::Pointer),
     // 271: solid = FLAT
     Kind::Typed(TypedKind::Flat),
+    // 272: solid = '[' INT 'x' type ']'
+    Kind::Typed(TypedKind::Array),
+    // 273: solid = '<' angle_type
+    Kind::Same,
+    Kind::Outside,
+    // 275: solid = '{' types '}'
+    Kind::Typed(TypedKind::Struct),
     Kind::Outside,
     Kind::Outside,
     Kind::Outside,
     Kind::Outside,
     Kind::Outside,
     Kind::Outside,
-    Kind::Outside,
-    Kind::Outside,
-    Kind::Outside,
-    Kind::Outside,
-    Kind::Outside,
-    Kind::Outside,
-    Kind::Outside,
-    Kind::Outside,
-    Kind::Outside,
-    Kind::Outside,
-    Kind::Outside,
+    // 282: angle_type = INT 'x' type '>'
+    Kind::Typed(TypedKind::Vector),
+    // 283: angle_type = 'vscale' 'x' INT 'x' type '>'
+    Kind::Typed(TypedKind::Scalable),
+    // 284: angle_type = '{' types '}' '>'
+    Kind::Typed(TypedKind::Packed),
+    // 285: types = type more_types
+    Kind::List(ListKind::TypesMore),
+    // 286: types = nothing
+    Kind::List(ListKind::TypesEnd),
+    // 287: more_types = ',' type more_types
+    Kind::List(ListKind::TypesMore),
+    // 288: more_types = nothing
+    Kind::List(ListKind::TypesEnd),
     Kind::Outside,
     Kind::Outside,
     Kind::Outside,

@@ -5,7 +5,7 @@ ghost use Rattle.llvm_core.specs.Data.{trees_of};
 ghost use Rattle.ll_lines.specs.Views.{inst_view, IsTypeIn, IsInstIn};
 ghost use Rattle.ll_values.specs.declared.value.Value.TheVariants as V;
 ghost use Rattle.ll_values.specs.Values.{InstV};
-ghost use Rattle.ll_values.specs.Views.{entries_from, body_from, params_from, file_from, IsStoreIn, IsPieceIn, IsDefinitionIn};
+ghost use Rattle.ll_values.specs.Views.{entries_from, body_from, types_from, params_from, file_from, IsStoreIn, IsPieceIn, IsDefinitionIn};
 ghost use Rattle.ll_values.specs.Growing.{Kept};
 
 use crate::planned::Planned;
@@ -14,6 +14,7 @@ use crate::value::{Definition, Entry, Piece};
 use crate::value_err::ValueErr;
 use ll_lines::lines::Param;
 use llvm_core::module::LLVMModule;
+use llvm_core::numbers::LLVMType;
 
 /// The number of one more instruction.
 #[inline(always)]
@@ -75,6 +76,26 @@ pub fn keep_body(
     let _ = m;
     let _ = bytes;
     Ok(store.bodies.put(first, rest)?)
+}
+
+/// The number of types, the first of them before others.
+#[inline(always)]
+pub fn keep_types(
+    m: &LLVMModule,
+    store: &mut Store,
+    bytes: &[u8],
+    first: LLVMType,
+    rest: u32,
+) -> Result<u32, ValueErr>
+    requires store { IsStoreIn m.now store.old }
+    requires there { IsTypeIn m.now first }
+    requires rest { rest ≤ length store.old.types }
+    ensures kept { IfOk result (λ n. Kept bytes.now m.now store.old store.new (types_from bytes.now (trees_of m.now) store.old first rest) (V.Types n)) }
+    ensures memory { OnErr result (result ≡ Err ValueErr.NoMemory) }
+{
+    let _ = m;
+    let _ = bytes;
+    Ok(store.types.put(first, rest)?)
 }
 
 /// The number of parameters, the first of them before others.

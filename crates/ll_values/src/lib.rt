@@ -17,6 +17,7 @@ mod said;
 mod stack;
 pub mod store;
 mod typed;
+mod types;
 pub mod value;
 pub mod value_err;
 mod words;

@@ -1,11 +1,17 @@
 //! Lists, and what holds them: a line for each kind.
 
-ghost use Rattle.std.specs.Prelude.{◌≡◌, Err, OnOk};
+ghost use Rattle.std.specs.Prelude.{◌≡◌, ℕ, List, [], ◌∷◌, map, None, Err, IfSome, OnOk};
+ghost use Rattle.llvm_core.specs.Data.{Trees};
 ghost use Rattle.ll_values.specs.declared.form.Kind.TheVariants as K;
+ghost use Rattle.ll_values.specs.declared.form.ListKind.TheVariants as L;
+ghost use Rattle.ll_values.specs.declared.value.Value.TheVariants as V;
+ghost use Rattle.ll_values.specs.declared.store.Store.{Store};
+ghost use Rattle.ll_values.specs.Values.{list_by};
+ghost use Rattle.ll_values.specs.Views.{value_view};
 ghost use Rattle.ll_values.specs.Stack.{IsStanding, Puts, MakesNothing};
 
 use crate::form::{Kind, ListKind};
-use crate::keep::{keep_body, keep_entries, keep_functions, keep_params};
+use crate::keep::{keep_body, keep_entries, keep_functions, keep_params, keep_types};
 use crate::put::put;
 use crate::stack::Stack;
 use crate::store::Store;
@@ -13,6 +19,46 @@ use crate::value::{Definition, Head, Value};
 use crate::value_err::ValueErr;
 use llvm_core::module::LLVMModule;
 use std::alloc::Global;
+
+/// What stands before the body of a function, where these are its parts.
+fn head_of(parts: &[Value]) -> Option<Head>
+    ensures parts { IfSome result (λ h. parts.now ≡ V.Nothing ∷ V.Nothing ∷ V.Type h.result ∷ V.Text h.name ∷ V.Params h.params ∷ []) }
+    ensures none { result ≡ None → (bytes : List ℕ) (t : Trees) (s : Store) → list_by L.Head (map (value_view bytes t s) parts.now) ≡ None }
+{
+    match *parts {
+        [
+            Value::Nothing,
+            Value::Nothing,
+            Value::Type(result),
+            Value::Text(name),
+            Value::Params(params),
+        ] => {
+            Some(Head {
+                result,
+                name,
+                params,
+            })
+        }
+        _ => None,
+    }
+}
+
+/// A function, where these are its parts.
+fn definition_of(parts: &[Value]) -> Option<Definition>
+    ensures parts { IfSome result (λ d. parts.now ≡ V.Nothing ∷ V.Head d.head ∷ V.Nothing ∷ V.Nothing ∷ V.Body d.body ∷ []) }
+    ensures none { result ≡ None → (bytes : List ℕ) (t : Trees) (s : Store) → list_by L.Define (map (value_view bytes t s) parts.now) ≡ None }
+{
+    match *parts {
+        [
+            Value::Nothing,
+            Value::Head(head),
+            Value::Nothing,
+            Value::Nothing,
+            Value::Body(body),
+        ] => { Some(Definition { head, body }) }
+        _ => None,
+    }
+}
 
 /// Lists, and what holds them, each put in place of the parts that it is made of.
 #[rattlefmt::skip]
@@ -40,6 +86,15 @@ pub fn put_list(alloc: Global, m: &LLVMModule, store: &mut Store, bytes: &[u8], 
             }
             _ => Err(ValueErr::NotYet),
         },
+        ListKind::TypesEnd => put(alloc, m, store, bytes, Kind::List(ListKind::TypesEnd), stack, Value::Types(0)),
+        ListKind::TypesMore => match *stack.first(2) {
+            [Value::Type(first), Value::Types(rest)] => {
+                let number = keep_types(m, store, bytes, first, rest)?;
+                stack.replace(alloc, 2, Value::Types(number))?;
+                Ok(())
+            }
+            _ => Err(ValueErr::NotYet),
+        },
         ListKind::ParamsEnd => put(alloc, m, store, bytes, Kind::List(ListKind::ParamsEnd), stack, Value::Params(0)),
         ListKind::ParamsMore => match *stack.first(2) {
             [Value::Param(first), Value::Params(rest)] => {
@@ -53,13 +108,13 @@ pub fn put_list(alloc: Global, m: &LLVMModule, store: &mut Store, bytes: &[u8], 
             [Value::Params(n), Value::Nothing, Value::Nothing] => put(alloc, m, store, bytes, Kind::List(ListKind::Parameters), stack, Value::Params(n)),
             _ => Err(ValueErr::NotYet),
         },
-        ListKind::Head => match *stack.first(5) {
-            [Value::Nothing, Value::Nothing, Value::Type(result), Value::Text(name), Value::Params(params)] => put(alloc, m, store, bytes, Kind::List(ListKind::Head), stack, Value::Head(Head { result, name, params })),
-            _ => Err(ValueErr::NotYet),
+        ListKind::Head => match head_of(stack.first(5)) {
+            Some(head) => put(alloc, m, store, bytes, Kind::List(ListKind::Head), stack, Value::Head(head)),
+            None => Err(ValueErr::NotYet),
         },
-        ListKind::Define => match *stack.first(5) {
-            [Value::Nothing, Value::Head(head), Value::Nothing, Value::Nothing, Value::Body(body)] => put(alloc, m, store, bytes, Kind::List(ListKind::Define), stack, Value::Function(Definition { head, body })),
-            _ => Err(ValueErr::NotYet),
+        ListKind::Define => match definition_of(stack.first(5)) {
+            Some(definition) => put(alloc, m, store, bytes, Kind::List(ListKind::Define), stack, Value::Function(definition)),
+            None => Err(ValueErr::NotYet),
         },
         ListKind::FileEnd => put(alloc, m, store, bytes, Kind::List(ListKind::FileEnd), stack, Value::File(None, 0)),
         ListKind::FileMore => match *stack.first(2) {

@@ -2,7 +2,7 @@
 
 ghost use Rattle.std.specs.Prelude.{◌≡◌, ◌≤◌, Some, None, Err, IfOk, IfSome, OnOk, length, slice_get};
 ghost use Rattle.llvm_core.specs.declared.types.LLVMTypeKind.TheVariants as T;
-ghost use Rattle.llvm_core.specs.Parts.{IsTypeOver};
+ghost use Rattle.llvm_core.specs.Parts.{IsTypeOver, HasFitParts};
 ghost use Rattle.llvm_core.specs.Sound.{IsModule};
 ghost use Rattle.llvm_core.specs.Data.{trees_of, type_at, type_tree};
 ghost use Rattle.ll_lines.specs.Lines.{Text};
@@ -25,9 +25,10 @@ use llvm_core::types::LLVMTypeKind;
 fn type_number(m: &mut LLVMModule, kind: LLVMTypeKind) -> Result<LLVMType, ValueErr>
     requires sound { IsModule m.old }
     requires parts { IsTypeOver (length m.old.types) kind }
+    requires fit { HasFitParts m.old.types kind }
     ensures interns { OnOk result (Interns m.old m.new) }
     ensures there { IfOk result (IsTypeIn m.new) }
-    ensures tree { IfOk result (λ t. type_at (trees_of m.new).types t ≡ type_tree (trees_of m.new).types kind) }
+    ensures tree { IfOk result (λ t. type_at (trees_of m.new).types t ≡ type_tree (trees_of m.old).types kind) }
     ensures memory { result ≡ Err ValueErr.NotYet → ⊥ }
 {
     let ty = m.type_get(kind)?;
@@ -52,9 +53,10 @@ fn early_int(m: &LLVMModule, width: u32) -> Option<LLVMType>
 pub fn type_of(m: &mut LLVMModule, kind: LLVMTypeKind) -> Result<LLVMType, ValueErr>
     requires sound { IsModule m.old }
     requires parts { IsTypeOver (length m.old.types) kind }
+    requires fit { HasFitParts m.old.types kind }
     ensures interns { OnOk result (Interns m.old m.new) }
     ensures there { IfOk result (IsTypeIn m.new) }
-    ensures tree { IfOk result (λ t. type_at (trees_of m.new).types t ≡ type_tree (trees_of m.new).types kind) }
+    ensures tree { IfOk result (λ t. type_at (trees_of m.new).types t ≡ type_tree (trees_of m.old).types kind) }
     ensures memory { result ≡ Err ValueErr.NotYet → ⊥ }
 {
     if let LLVMTypeKind::Int(width) = kind

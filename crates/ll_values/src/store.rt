@@ -6,6 +6,7 @@ use crate::lists::Lists;
 use crate::planned::Planned;
 use crate::value::{Definition, Entry, Piece};
 use ll_lines::lines::Param;
+use llvm_core::numbers::LLVMType;
 use std::alloc::{AllocError, Global};
 
 /// Instructions and lists, by number.
@@ -14,6 +15,7 @@ pub struct Store {
     pub insts: Vec<Planned>,
     pub entries: Lists<Entry>,
     pub bodies: Lists<Piece>,
+    pub types: Lists<LLVMType>,
     pub params: Lists<Param>,
     pub functions: Lists<Definition>,
 }
@@ -24,6 +26,7 @@ impl Store {
         ensures insts { IfOk result (λ s. s.insts.items ≡ []) }
         ensures entries { IfOk result (λ s. s.entries ≡ []) }
         ensures bodies { IfOk result (λ s. s.bodies ≡ []) }
+        ensures types { IfOk result (λ s. s.types ≡ []) }
         ensures params { IfOk result (λ s. s.params ≡ []) }
         ensures functions { IfOk result (λ s. s.functions ≡ []) }
     {
@@ -32,6 +35,7 @@ impl Store {
             insts: Vec::with_capacity(alloc, room)?,
             entries: Lists::new(alloc),
             bodies: Lists::with_room(alloc, room)?,
+            types: Lists::new(alloc),
             params: Lists::new(alloc),
             functions: Lists::new(alloc),
         })

@@ -1,8 +1,7 @@
 //! What adds types or constants.
 
 ghost use Rattle.std.specs.Prelude.{◌≡◌, ◌≤◌, true, List, [], ◌∷◌, Some, None, Err, map, All, IfOk, IfSome, OnOk, length};
-ghost use Rattle.kinds.specs.Types.{TypeTree};
-ghost use Rattle.llvm_core.specs.Parts.{IsTypeOver};
+ghost use Rattle.llvm_core.specs.Parts.{IsTypeOver, HasFitParts};
 ghost use Rattle.llvm_core.specs.Data.{trees_of, type_at, type_tree};
 ghost use Rattle.ll_lines.specs.Views.{incoming_view, IsTypeIn, IsSaidIn};
 ghost use Rattle.ll_values.specs.declared.form.Kind.TheVariants as K;
@@ -19,9 +18,10 @@ use crate::planned::Planned;
 use crate::said::{said, type_of};
 use crate::stack::Stack;
 use crate::store::Store;
+use crate::types::{array_kind, flat_kind, int_kind, struct_kind, vector_kind};
 use crate::value::{Entry, Literal, Value};
 use crate::value_err::ValueErr;
-use crate::words::{flat_kind, flat_of, int_width};
+use kinds::types::{StructLayout, VectorTypeKind};
 use ll_lines::lines::{Incoming, Said, Typed};
 use llvm_core::module::LLVMModule;
 use llvm_core::numbers::LLVMType;
@@ -31,30 +31,35 @@ use support::short_list::ShortList;
 
 /// The kind of the type that parts make: a line for each.
 #[rattlefmt::skip]
-fn plan_type(m: &LLVMModule, store: &Store, bytes: &[u8], kind: TypedKind, parts: &[Value]) -> Option<LLVMTypeKind>
-    ensures made { IfSome result (λ k. (ts : List TypeTree) → typed_by kind (map (value_view bytes.now (trees_of m.now) store.now) parts.now) ≡ Some (TypeV (type_tree ts k))) }
-    ensures over { IfSome result (IsTypeOver (length m.now.types)) }
-    ensures none { result ≡ None → is_type kind ≡ true → typed_by kind (map (value_view bytes.now (trees_of m.now) store.now) parts.now) ≡ None }
+fn plan_type(alloc: Global, m: &LLVMModule, store: &Store, bytes: &[u8], kind: TypedKind, parts: &[Value]) -> Result<LLVMTypeKind, ValueErr>
+    requires store { IsStoreIn m.now store.now }
+    requires parts { All (IsValueIn m.now store.now) parts.now }
+    ensures made { IfOk result (λ k. typed_by kind (map (value_view bytes.now (trees_of m.now) store.now) parts.now) ≡ Some (TypeV (type_tree (trees_of m.now).types k))) }
+    ensures over { IfOk result (IsTypeOver (length m.now.types)) }
+    ensures fit { IfOk result (HasFitParts m.now.types) }
+    ensures not_yet { result ≡ Err ValueErr.NotYet → is_type kind ≡ true → typed_by kind (map (value_view bytes.now (trees_of m.now) store.now) parts.now) ≡ None }
 {
-    let _ = m;
-    let _ = store;
     match kind {
-        TypedKind::Void => match *parts { [] => Some(LLVMTypeKind::Void), _ => None },
-        TypedKind::Int => match *parts { [Value::Text(n)] => Some(LLVMTypeKind::Int(int_width(n.text(bytes))?)), _ => None },
+        TypedKind::Void => match *parts { [] => Ok(LLVMTypeKind::Void), _ => Err(ValueErr::NotYet) },
+        TypedKind::Int => match *parts { [Value::Text(n)] => int_kind(m, n.text(bytes)).ok_or(ValueErr::NotYet), _ => Err(ValueErr::NotYet) },
         TypedKind::Pointer => match *parts {
-            [Value::Nothing] => Some(LLVMTypeKind::Ptr(0)),
-            [Value::Space(space)] => Some(LLVMTypeKind::Ptr(space)),
-            _ => None,
+            [Value::Nothing] => Ok(LLVMTypeKind::Ptr(0)),
+            [Value::Space(space)] => Ok(LLVMTypeKind::Ptr(space)),
+            _ => Err(ValueErr::NotYet),
         },
-        TypedKind::Flat => match *parts { [Value::Text(n)] => Some(flat_kind(flat_of(n.text(bytes))?)), _ => None },
-        TypedKind::Typed => None,
-        TypedKind::Pair => None,
-        TypedKind::Phi => None,
+        TypedKind::Flat => match *parts { [Value::Text(n)] => flat_kind(m, n.text(bytes)).ok_or(ValueErr::NotYet), _ => Err(ValueErr::NotYet) },
+        TypedKind::Array => match *parts { [Value::Text(n), Value::Type(ty)] => array_kind(m, n.text(bytes), ty).ok_or(ValueErr::NotYet), _ => Err(ValueErr::NotYet) },
+        TypedKind::Vector => match *parts { [Value::Text(n), Value::Type(ty)] => vector_kind(m, VectorTypeKind::Fixed, n.text(bytes), ty).ok_or(ValueErr::NotYet), _ => Err(ValueErr::NotYet) },
+        TypedKind::Scalable => match *parts { [Value::Text(n), Value::Type(ty)] => vector_kind(m, VectorTypeKind::Scalable, n.text(bytes), ty).ok_or(ValueErr::NotYet), _ => Err(ValueErr::NotYet) },
+        TypedKind::Struct => match *parts { [Value::Types(n)] => struct_kind(alloc, m, store, StructLayout::Unpacked, n), _ => Err(ValueErr::NotYet) },
+        TypedKind::Packed => match *parts { [Value::Types(n)] => struct_kind(alloc, m, store, StructLayout::Packed, n), _ => Err(ValueErr::NotYet) },
+        TypedKind::Typed | TypedKind::Pair | TypedKind::Phi => Err(ValueErr::NotYet),
     }
 }
 
 /// The type that parts make.
 fn make_type(
+    alloc: Global,
     m: &mut LLVMModule,
     store: &Store,
     bytes: &[u8],
@@ -62,12 +67,11 @@ fn make_type(
     parts: &[Value],
 ) -> Result<LLVMType, ValueErr>
     requires store { IsStoreIn m.old store.now }
+    requires parts { All (IsValueIn m.old store.now) parts.now }
     ensures made { IfOk result (λ ty. Makes bytes.now m.old m.new store.now store.now (K.Typed kind) parts.now (V.Type ty)) }
     ensures not_yet { result ≡ Err ValueErr.NotYet → is_type kind ≡ true → typed_by kind (map (value_view bytes.now (trees_of m.old) store.now) parts.now) ≡ None }
 {
-    let Some(planned) = plan_type(m, store, bytes, kind, parts) else {
-        return Err(ValueErr::NotYet);
-    };
+    let planned = plan_type(alloc, m, store, bytes, kind, parts)?;
     match type_of(m, planned) {
         Ok(ty) => Ok(ty),
         Err(e) => Err(e),
@@ -194,9 +198,17 @@ pub fn put_typed(
     ensures not_yet { result ≡ Err ValueErr.NotYet → MakesNothing bytes.now m.old store.old (K.Typed kind) stack.old }
 {
     match kind {
-        TypedKind::Void | TypedKind::Int | TypedKind::Pointer | TypedKind::Flat => {
+        TypedKind::Void
+        | TypedKind::Int
+        | TypedKind::Pointer
+        | TypedKind::Flat
+        | TypedKind::Array
+        | TypedKind::Vector
+        | TypedKind::Scalable
+        | TypedKind::Struct
+        | TypedKind::Packed => {
             let count = kind.part_count();
-            let ty = make_type(m, store, bytes, kind, stack.first(count))?;
+            let ty = make_type(alloc, m, store, bytes, kind, stack.first(count))?;
             stack.replace(alloc, count, Value::Type(ty))?;
         }
         TypedKind::Typed => match *stack.first(2) {

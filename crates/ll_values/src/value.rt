@@ -52,6 +52,7 @@ pub enum Value {
     Flag(bool),
     Wraps(OverflowFlags),
     Type(LLVMType),
+    Types(u32),
     Literal(Literal),
     Typed(Typed),
     /// An address space.

@@ -1,10 +1,8 @@
 //! Words of instructions, and types and literals as tokens write them.
 
-ghost use Rattle.std.specs.Prelude.{◌≡◌, ◌≤◌, ◌-◌, ◌^◌, IfSome, ℕ, List};
+ghost use Rattle.std.specs.Prelude.{◌≡◌, ◌≤◌, ◌-◌, ◌^◌, IfSome};
 ghost use Rattle.std.specs.Option.{option_map};
-ghost use Rattle.kinds.specs.Types.{IntType, TypeTree};
-ghost use Rattle.llvm_core.specs.Data.{type_tree};
-ghost use Rattle.llvm_core.specs.Parts.{IsTypeOver};
+ghost use Rattle.kinds.specs.Types.{IntType};
 ghost use Rattle.ll_literals.specs.Numbers.{number_of, up_to};
 ghost use Rattle.ll_values.specs.Words.{binary_op, cast_op, three_op, predicate_of, flat_tree, flat_type};
 ghost use Rattle.ll_values.specs.Values.{int_type};
@@ -12,7 +10,6 @@ ghost use Rattle.ll_values.specs.Values.{int_type};
 use kinds::op::{LLVMIntPredicate, Op, OverflowFlags};
 use kinds::types::{Floating, OtherType};
 use ll_literals::numbers::number;
-use llvm_core::types::LLVMTypeKind;
 
 /// The row of a word of an operation on two values of one type.
 pub fn binary_op(word: &[u8], flags: OverflowFlags) -> Option<Op>
@@ -113,17 +110,6 @@ pub fn flat_of(word: &[u8]) -> Option<Flat>
         return Some(Flat::Other(OtherType::Token));
     }
     None
-}
-
-/// The kind of such a type.
-pub fn flat_kind(flat: Flat) -> LLVMTypeKind
-    ensures tree { (ts : List TypeTree) → type_tree ts result ≡ flat_tree flat }
-    ensures over { (n : ℕ) → IsTypeOver n result }
-{
-    match flat {
-        Flat::Floating(of) => LLVMTypeKind::Floating(of),
-        Flat::Other(of) => LLVMTypeKind::Other(of),
-    }
 }
 
 /// The greatest number of an address space, 2^24 - 1.

@@ -7,8 +7,8 @@ use Rattle.ll_lines.specs.declared.lines.Param.{Param}
 use Rattle.ll_bodies.proofs.AddingLaws.{types_there}
 use Rattle.ll_bodies.proofs.adding.function_type.Goals as goal
 
-pub type_number-requires : goal.type_number-requires
-type_number-requires c =
+pub type_number-requires-clause-parts : goal.type_number-requires-clause-parts
+type_number-requires-clause-parts c =
     let n = length c.args.module.now.types in
     let is : c.in_ok-params.params ≡ map (λ (p : Param). p.ty) c.args.said.now.params.items = c.in_ok-params.ensures ∙ ap (λ (ps : List Param). map (λ (p : Param). p.ty) ps) c.as_slice.ensures.value in
     (c.requires.result, subst (λ (ts : List LLVMType). All (λ (t : LLVMType). t.0 < n) ts) (sym is) (types_there n c.args.said.now.params.items c.requires.params))

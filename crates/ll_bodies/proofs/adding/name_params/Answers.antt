@@ -1,9 +1,9 @@
 -- What `adding::name_params` owes besides what the check finds.
-use Rattle.std.proofs.Common.{ℕ, List, ◌+◌, ap, sym, ◌∙◌, drop}
+use Rattle.std.proofs.Common.{ℕ, List, ◌+◌, ap, sym, ◌∙◌, drop, arith}
 use Rattle.std.proofs.lemmas.Option.{slice_get-get_or}
 use Rattle.llvm_core.specs.Data.{ModuleData, data_of, with_param}
 use Rattle.ll_bodies.specs.AddingViews.{names_in, with_params}
-use Rattle.ll_bodies.proofs.AddingLaws.{renames_one, names_at}
+use Rattle.ll_bodies.proofs.AddingLaws.{renamed_within, renames_one, names_at}
 use Rattle.ll_bodies.proofs.adding.name_params.Goals as goal
 
 pub loop-param-preserved : goal.loop-param-preserved
@@ -20,3 +20,7 @@ loop-param-preserved c =
       left = ap (λ (z : ModuleData). with_params z c.args.f.0 (at + 1) (names_in c.args.bytes.now (drop (at + 1) ps))) is ∙ sym (names_at c.args.bytes.now d c.args.f.0 ps at _ here) ∙ i.left;
       sound = λ s. c.set_param_name.ensures.sound;
     }
+
+pub set_param_name-requires : goal.set_param_name-requires
+set_param_name-requires c =
+    renamed_within c.args.f c.args.module.now c.loop-param.module c.loop-param.place c.loop-param.invariant.renames (omega (arith, c.loop-param.invariant.place, c.loop-param-test.true, c.requires))

@@ -1,5 +1,5 @@
 -- What `definitions::define_result` owes besides what the check finds.
-use Rattle.std.proofs.Common.{refl, sym, ◌∙◌}
+use Rattle.std.proofs.Common.{refl}
 use Rattle.std.proofs.lemmas.Result.{on_ok_weaker}
 use Rattle.ll_bodies.specs.SourceViews.{types_in}
 use Rattle.ll_bodies.proofs.ScopeLaws.{takes_same, refuses_same}

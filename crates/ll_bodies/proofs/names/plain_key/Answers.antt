@@ -1,5 +1,5 @@
 -- What `names::plain_key` owes besides what the check finds.
-use Rattle.std.proofs.Common.{ap, sym, ◌∙◌}
+use Rattle.std.proofs.Common.{ap, ◌∙◌}
 use Rattle.ll_literals.specs.Numbers.{number_of, up_to}
 use Rattle.ll_bodies.proofs.NameLaws.{not_plain}
 use Rattle.ll_bodies.proofs.names.plain_key.Goals as goal

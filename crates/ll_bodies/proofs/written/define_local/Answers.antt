@@ -1,7 +1,6 @@
 -- What `written::define_local` owes besides what the check finds.
 use Rattle.std.proofs.Common.{◌≡◌, drop, ap, ◌∙◌}
 use Rattle.std.proofs.lemmas.Result.{on_ok_weaker}
-use Rattle.ll_lines.specs.Lines.{Text}
 use Rattle.ll_lines.specs.Views.{text_of}
 use Rattle.ll_bodies.specs.Scopes.{key_of, local_key}
 use Rattle.ll_bodies.specs.ScopeViews.{local_view}

@@ -4,8 +4,8 @@ use Rattle.llvm_core.specs.Data.{trees_of}
 use Rattle.ll_values.specs.declared.form.Kind.TheVariants as K
 use Rattle.ll_values.specs.declared.form.ListKind.TheVariants as L
 use Rattle.ll_values.specs.declared.value.Value.TheVariants as V
-use Rattle.ll_values.specs.Views.{entries_from, body_from, params_from, file_from, IsValueIn}
-use Rattle.ll_values.proofs.StackLaws.{parts_there, puts_kept}
+use Rattle.ll_values.specs.Views.{entries_from, body_from, types_from, params_from, file_from, IsValueIn}
+use Rattle.ll_values.proofs.StackLaws.{parts_there, puts_kept, puts_none}
 use Rattle.ll_values.proofs.listed.put_list.Goals as goal
 
 pub keep_entries-requires-clause-rest : goal.keep_entries-requires-clause-rest
@@ -30,6 +30,17 @@ returns-in_ok-replace-in-Part-clause-puts c =
     let parts : c.first-in-BodyMore.result.now ≡ V.Part c.in-Part.first ∷ V.Body c.in-Part.rest ∷ [] = search rules in
     rw c.in-BodyMore.is (puts_kept c.args.bytes.now (K.List L.BodyMore) c.args.m.now c.args.store.now c.args.stack.now _ _ _ (body_from c.args.bytes.now (trees_of c.args.m.now) c.args.store.now c.in-Part.first c.in-Part.rest) _ c.requires.standing (sym parts ∙ c.first-in-BodyMore.ensures) refl c.in_ok-number-in-Part.ensures.kept c.in_ok-replace-in-Part.ensures)
 
+pub keep_types-requires-clause-rest : goal.keep_types-requires-clause-rest
+keep_types-requires-clause-rest c =
+    let parts : c.first-in-TypesMore.result.now ≡ V.Type c.in-Type.first ∷ V.Types c.in-Type.rest ∷ [] = search rules in
+    let all = parts_there (IsValueIn c.args.m.now c.args.store.now) 2 c.args.stack.now _ c.requires.standing.values (sym parts ∙ c.first-in-TypesMore.ensures) in
+    all 1 V.Nothing (omega arith)
+
+pub returns-in_ok-replace-in-Type-clause-puts : goal.returns-in_ok-replace-in-Type-clause-puts
+returns-in_ok-replace-in-Type-clause-puts c =
+    let parts : c.first-in-TypesMore.result.now ≡ V.Type c.in-Type.first ∷ V.Types c.in-Type.rest ∷ [] = search rules in
+    rw c.in-TypesMore.is (puts_kept c.args.bytes.now (K.List L.TypesMore) c.args.m.now c.args.store.now c.args.stack.now _ _ _ (types_from c.args.bytes.now (trees_of c.args.m.now) c.args.store.now c.in-Type.first c.in-Type.rest) _ c.requires.standing (sym parts ∙ c.first-in-TypesMore.ensures) refl c.in_ok-number-in-Type.ensures.kept c.in_ok-replace-in-Type.ensures)
+
 pub keep_params-requires-clause-rest : goal.keep_params-requires-clause-rest
 keep_params-requires-clause-rest c =
     let parts : c.first-in-ParamsMore.result.now ≡ V.Param c.in-Param.first ∷ V.Params c.in-Param.rest ∷ [] = search rules in
@@ -52,17 +63,21 @@ returns-in_ok-replace-in-Function-clause-puts c =
     let parts : c.first-in-FileMore.result.now ≡ V.Function c.in-Function.first ∷ V.File None c.in-Function.rest ∷ [] = search rules in
     rw c.in-FileMore.is (puts_kept c.args.bytes.now (K.List L.FileMore) c.args.m.now c.args.store.now c.args.stack.now _ _ _ (file_from c.args.bytes.now (trees_of c.args.m.now) c.args.store.now c.in-Function.first c.in-Function.rest) _ c.requires.standing (sym parts ∙ c.first-in-FileMore.ensures) refl c.in_ok-number-in-Function.ensures.kept c.in_ok-replace-in-Function.ensures)
 
-pub put-requires-in-Nothing-clause-there : goal.put-requires-in-Nothing-clause-there
-put-requires-in-Nothing-clause-there c =
-    let parts : c.first-in-Head.result.now ≡ V.Nothing ∷ V.Nothing ∷ V.Type c.in-Nothing.result ∷ V.Text c.in-Nothing.name ∷ V.Params c.in-Nothing.params ∷ [] = search rules in
-    let all = parts_there (IsValueIn c.args.m.now c.args.store.now) 5 c.args.stack.now _ c.requires.standing.values (sym parts ∙ c.first-in-Head.ensures) in
+pub put-requires-in-Some-clause-there : goal.put-requires-in-Some-clause-there
+put-requires-in-Some-clause-there c =
+    let all = parts_there (IsValueIn c.args.m.now c.args.store.now) 5 c.args.stack.now _ c.requires.standing.values (sym c.in-Some.ensures.parts ∙ c.first-in-Head.ensures) in
     (all 2 V.Nothing (omega arith), all 4 V.Nothing (omega arith))
 
-pub put-requires-in-Nothing-first-clause-there : goal.put-requires-in-Nothing-first-clause-there
-put-requires-in-Nothing-first-clause-there c =
-    let parts : c.first-in-Define.result.now ≡ V.Nothing ∷ V.Head c.in-Nothing-first.head ∷ V.Nothing ∷ V.Nothing ∷ V.Body c.in-Nothing-first.body ∷ [] = search rules in
-    let all = parts_there (IsValueIn c.args.m.now c.args.store.now) 5 c.args.stack.now _ c.requires.standing.values (sym parts ∙ c.first-in-Define.ensures) in
+pub returns-in-None-clause-not_yet : goal.returns-in-None-clause-not_yet
+returns-in-None-clause-not_yet c = λ e. rw c.in-Head.is (puts_none c.args.bytes.now (K.List L.Head) c.args.m.now c.args.store.now c.args.stack.now _ c.first-in-Head.ensures (c.in-None.ensures.none refl c.args.bytes.now (trees_of c.args.m.now) c.args.store.now))
+
+pub put-requires-in-Some-definition_of-clause-there : goal.put-requires-in-Some-definition_of-clause-there
+put-requires-in-Some-definition_of-clause-there c =
+    let all = parts_there (IsValueIn c.args.m.now c.args.store.now) 5 c.args.stack.now _ c.requires.standing.values (sym c.in-Some-definition_of.ensures.parts ∙ c.first-in-Define.ensures) in
     (all 1 V.Nothing (omega arith), all 4 V.Nothing (omega arith))
+
+pub returns-in-None-definition_of-clause-not_yet : goal.returns-in-None-definition_of-clause-not_yet
+returns-in-None-definition_of-clause-not_yet c = λ e. rw c.in-Define.is (puts_none c.args.bytes.now (K.List L.Define) c.args.m.now c.args.store.now c.args.stack.now _ c.first-in-Define.ensures (c.in-None-definition_of.ensures.none refl c.args.bytes.now (trees_of c.args.m.now) c.args.store.now))
 
 pub put-requires-in-Source-clause-there : goal.put-requires-in-Source-clause-there
 put-requires-in-Source-clause-there c =

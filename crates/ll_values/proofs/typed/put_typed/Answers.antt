@@ -8,6 +8,9 @@ use Rattle.ll_values.specs.Views.{IsValueIn}
 use Rattle.ll_values.proofs.StackLaws.{puts, parts_there}
 use Rattle.ll_values.proofs.typed.put_typed.Goals as goal
 
+pub make_type-requires-clause-parts : goal.make_type-requires-clause-parts
+make_type-requires-clause-parts c = parts_there (IsValueIn c.args.m.now c.args.store.now) _ c.args.stack.now _ c.requires.standing.values c.first.ensures
+
 pub returns-in_ok-replace-in-Void-clause-puts : goal.returns-in_ok-replace-in-Void-clause-puts
 returns-in_ok-replace-in-Void-clause-puts c =
     let vs = c.args.stack.now in

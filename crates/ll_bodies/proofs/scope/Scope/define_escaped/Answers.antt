@@ -1,8 +1,7 @@
 -- What `scope::Scope::define_escaped` owes besides what the check finds.
 use Rattle.std.proofs.Common.{string_bytes}
 use Rattle.std.proofs.lemmas.Result.{on_ok_weaker}
-use Rattle.ll_bodies.specs.Scopes.{Named}
-use Rattle.ll_bodies.proofs.ScopeLaws.{name_defines, adds}
+use Rattle.ll_bodies.proofs.ScopeLaws.{name_defines}
 use Rattle.ll_bodies.proofs.scope.Scope.define_escaped.Goals as goal
 
 pub returns-clause-ok : goal.returns-clause-ok
