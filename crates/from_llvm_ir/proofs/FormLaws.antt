@@ -247,6 +247,7 @@ module _ (n : Head) (k : Known) (cs : List DialectBlock) (h : IsWhole k cs) wher
         type = h.form.type;
         returns = returns_held g h.form h.held;
         takes = takes_held g h.form h.held;
+        shallow = h.form.shallow;
         linkage = refl;
         entry = e.0;
         more = body.0;

@@ -13,6 +13,7 @@ pub mod FuncLaws
 pub mod OpLaws
 pub mod UnderLaws
 pub mod SourceLaws
+pub mod KindLaws
 pub mod RefusedLaws
 pub mod EntryLaws
 pub mod PassLaws

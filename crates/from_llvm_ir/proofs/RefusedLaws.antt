@@ -1,14 +1,17 @@
--- Types for which the dialect has none: a value that has one is of the module, and where no value has one, all are held.
-use Rattle.std.proofs.Common.{ℕ, suc, ◌≡◌, ◌<◌, ◌+◌, ◌∙◌, sym, ap, subst, Bool, false, List, ◌++◌, Some, None, All, length, map, slice_get, arith}
+-- Types for which the dialect has none: a value whose type is or holds one is of the module, and where there is no such value, all types are held.
+use Rattle.std.proofs.Common.{ℕ, zero, suc, ◌≡◌, ◌<◌, ◌+◌, ◌∙◌, refl, sym, ap, subst, Bool, false, List, [], ◌∷◌, ◌++◌, Some, None, All, length, map, slice_get, get_or, take, arith}
 use Rattle.std.specs.Prelude.{Option, IfSome}
-use Rattle.std.specs.Option.{option_map}
+use Rattle.std.specs.Option.{option_map, option_or}
 use Rattle.std.proofs.lemmas.Option.{same_Some, slice_get-map, slice_get_within}
-use Rattle.std.proofs.lemmas.List.Elements.{All-cons, All-append, All-map}
+use Rattle.std.proofs.lemmas.List.Elements.{All-nil, All-cons, All-head, All-tail, All-append, All-map}
 use Rattle.support.proofs.ListLaws.{all_from, item_there, slice_get-behind, slice_get-kept}
 use Rattle.kinds.specs.declared.types.OtherType.{OtherType}
-use Rattle.kinds.specs.Types.{TypeTree, TypeTrees, RefusedType, FunctionType, result_of, params_of}
-use Rattle.kinds.specs.Held.{IsFirstClass, IsHeldResult, refused_of}
-use Rattle.kinds.proofs.HeldLaws.{returned_if, returned_held, refused_is, refused_not_held}
+use Rattle.kinds.specs.declared.types.VectorTypeKind.{VectorTypeKind}
+use Rattle.kinds.specs.declared.types.StructLayout.{StructLayout}
+use Rattle.kinds.specs.Types.{TypeTree, TypeTrees, NoTypes, ThenType, RefusedType, FunctionType, result_of, params_of, types_list}
+use Rattle.kinds.specs.Held.{IsFirstClass, IsHeldResult, refused_in, refused_of}
+use Rattle.kinds.proofs.HeldLaws.{returned_if, returned_held, held_result_holds_none}
+use Rattle.kinds.proofs.PartLaws.{refused_held}
 use Rattle.llvm_core.specs.declared.numbers.LLVMType.{LLVMType}
 use Rattle.llvm_core.specs.declared.numbers.LLVMFunction.{LLVMFunction}
 use Rattle.llvm_core.specs.declared.types.LLVMTypeKind.{LLVMTypeKind}
@@ -16,52 +19,129 @@ use Rattle.llvm_core.specs.declared.types.LLVMTypeKind.TheVariants as T
 use Rattle.llvm_core.specs.declared.code.FunctionData.{FunctionData}
 use Rattle.llvm_core.specs.declared.code.InstData.{InstData}
 use Rattle.llvm_core.specs.Module.{Module}
+use Rattle.llvm_core.specs.Parts.{IsTypeOver}
 use Rattle.llvm_core.specs.Sound.{IsModule}
 use Rattle.llvm_core.specs.Data as L
-use Rattle.llvm_core.specs.Data.{Placed, Function, data_of, trees_of, type_at, types_at, placed_in}
+use Rattle.llvm_core.specs.Data.{Placed, Function, data_of, trees_of, type_at, types_at, type_tree, placed_in}
 use Rattle.llvm_core.specs.Form as LF
 use Rattle.llvm_core.specs.Form.{IsForm, IsFormFunction, IsHeldFunction, AreHeld, value_types}
-use Rattle.llvm_core.proofs.DataLemmas.{within_at, function_at, function_count, function_tree_of}
+use Rattle.llvm_core.proofs.DataLemmas.{within_at, function_at, function_count, function_tree_of, type_tree_of}
 use Rattle.llvm_core.proofs.FormTypes.{signature_of}
 use Rattle.llvm_core.proofs.FormPlaces.{shown, own_inst, inst_place, function_there, in_home}
 use Rattle.from_llvm_ir.specs.declared.conversion_err.Unsupported.{Unsupported}
 use Rattle.from_llvm_ir.specs.declared.conversion_err.Unsupported.TheVariants as U
-use Rattle.from_llvm_ir.specs.Held.{IsTaken, AreTaken}
-use Rattle.from_llvm_ir.specs.Refusals.{HasType, IsUnsupported}
+use Rattle.from_llvm_ir.specs.Held.{IsTaken, IsTakenSignature, AreTaken}
+use Rattle.from_llvm_ir.specs.Refusals.{HasTypeWith, IsUnsupported}
 use Rattle.from_llvm_ir.proofs.PlaceLaws.{flat_from}
 use Rattle.from_llvm_ir.proofs.TypeLaws.{listed}
 use Rattle.from_llvm_ir.proofs.SourceLaws.{parts_within}
+
+-- ---- the first of these types
+
+-- that of types stands in one of them
+first_refused : (of : OtherType) (ts : TypeTrees) → refused_in ts ≡ Some of → (i : ℕ) × (t : TypeTree) × (slice_get (types_list ts) i ≡ Some t) × (refused_of t ≡ Some of)
+first_refused of NoTypes e = cc
+first_refused of (ThenType t ts) e = by (refused_of t) refl e (first_refused of ts)
+  where
+    by : (o : Option OtherType) → refused_of t ≡ o → option_or o (refused_in ts) ≡ Some of
+        → (refused_in ts ≡ Some of → (i : ℕ) × (u : TypeTree) × (slice_get (types_list ts) i ≡ Some u) × (refused_of u ≡ Some of))
+        → (i : ℕ) × (u : TypeTree) × (slice_get (types_list (ThenType t ts)) i ≡ Some u) × (refused_of u ≡ Some of)
+    by None is e later = let x = later e in (suc x.0, x.1, x.2, x.3)
+    by (Some a) is e later = (0, t, refl, is ∙ e)
+
+module _ (m : Module) where
+  abbrev trees : List TypeTree
+  trees = (trees_of m).types
+
+  -- where no type of a list holds one, and where one does that stands behind such
+  pub none_among : (ts : List LLVMType) → All (IsTaken m) ts → refused_in (types_at trees ts) ≡ None
+  none_among [] h = refl
+  none_among (t ∷ ts) h = ap (λ o. option_or o (refused_in (types_at trees ts))) (All-head (IsTaken m) t ts h) ∙ none_among ts (All-tail (IsTaken m) t ts h)
+
+  pub first_among : (of : OtherType) (ts : List LLVMType) (i : ℕ) (d : LLVMType) → i < length ts → All (IsTaken m) (take i ts) → refused_of (type_at trees (get_or ts i d)) ≡ Some of → refused_in (types_at trees ts) ≡ Some of
+  first_among of [] i d lt before is = absurd (omega arith)
+  first_among of (t ∷ ts) zero d lt before is = ap (λ o. option_or o (refused_in (types_at trees ts))) is
+  first_among of (t ∷ ts) (suc i) d lt before is =
+      ap (λ o. option_or o (refused_in (types_at trees ts))) (All-head (IsTaken m) t (take i ts) before)
+      ∙ first_among of ts i d (omega (arith, lt)) (All-tail (IsTaken m) t (take i ts) before) is
+
+  pub taken_among : (ts : List LLVMType) → refused_in (types_at trees ts) ≡ None → All (IsTaken m) ts
+  taken_among [] e = All-nil (IsTaken m)
+  taken_among (t ∷ ts) e = by (refused_of (type_at trees t)) refl e (taken_among ts)
+    where
+      by : (o : Option OtherType) → refused_of (type_at trees t) ≡ o → option_or o (refused_in (types_at trees ts)) ≡ None → (refused_in (types_at trees ts) ≡ None → All (IsTaken m) ts) → All (IsTaken m) (t ∷ ts)
+      by None is e later = All-cons (IsTaken m) t ts is (later e)
+      by (Some a) is e later = cc
+
+-- what its kind tells of a type
+pub by_kind : (m : Module) → IsModule m → (ty : LLVMType) (k l : LLVMTypeKind) → slice_get m.types ty.0 ≡ Some k → k ≡ l → refused_of (type_tree (trees_of m).types l) ≡ refused_of (type_at (trees_of m).types ty)
+by_kind m sound ty k l at is = ap refused_of (ap (type_tree (trees_of m).types) (sym is) ∙ sym (type_tree_of m ty k sound at))
+
+-- one of another kind is none and holds none: a line for each kind that has parts, but for functions
+pub other_taken : (us : List TypeTree) (k : LLVMTypeKind) → ((of : OtherType) → k ≡ T.Other of → ⊥) → ((n : ℕ) (u : LLVMType) → k ≡ T.Array n u → ⊥) → ((v : VectorTypeKind) (n : ℕ) (u : LLVMType) → k ≡ T.Vector v n u → ⊥)
+    → ((xs : List LLVMType) (l : StructLayout) → k ≡ T.Literal xs l → ⊥) → refused_of (type_tree us k) ≡ None
+other_taken us (T.Other of) o a v s = absurd (o of refl)
+other_taken us (T.Array n u) o a v s = absurd (a n u refl)
+other_taken us (T.Vector w n u) o a v s = absurd (v w n u refl)
+other_taken us (T.Literal xs l) o a v s = absurd (s xs l refl)
+other_taken us k o a v s = refl
+
+-- where no type of the module is one itself, none holds one
+module _ (m : Module) (sound : IsModule m) (none : (t : ℕ) (of : OtherType) → slice_get m.types t ≡ Some (T.Other of) → ⊥) where
+  kind_taken : (n : ℕ) → ((u : LLVMType) → u.0 < n → IsTaken m u) → (k : LLVMTypeKind) → IsTypeOver n k → ((of : OtherType) → k ≡ T.Other of → ⊥) → refused_of (type_tree (trees_of m).types k) ≡ None
+  kind_taken n known (T.Other of) over own = absurd (own of refl)
+  kind_taken n known (T.Array c u) over own = known u over
+  kind_taken n known (T.Vector v c u) over own = known u over
+  kind_taken n known (T.Literal us l) over own = none_among m us (λ k d lt. known (get_or us k d) (over k d lt))
+  kind_taken n known k over own = refl
+
+  taken_below : (size : ℕ) (t : LLVMType) → t.0 < size → t.0 < length m.types → IsTaken m t
+  taken_below zero t below within = absurd (omega arith)
+  taken_below (suc size) t below within =
+      let k = item_there m.types t.0 within in
+      ap refused_of (type_tree_of m t k.0 sound k.1)
+      ∙ kind_taken t.0 (λ u lt. taken_below size u (omega (arith, lt, below)) (omega (arith, lt, within))) k.0 (sound.types t.0 k.0 k.1) (λ of is. none t.0 of (k.1 ∙ ap Some is))
+
+  pub none_itself : (t : ℕ) → t < length m.types → IsTaken m (record { 0 = t })
+  none_itself t within = taken_below (suc t) (record { 0 = t }) (omega arith) within
 
 -- ---- a module whose types are held is not refused for one
 
 pub held_unsupported : (d : L.ModuleData) → AreHeld d → (u : Unsupported) → IsUnsupported d u → ⊥
 held_unsupported d held (U.Ty of) h =
     let function = within_at d.functions IsHeldFunction held h.place h.f h.at in
-    refused_not_held of (within_at (value_types h.f) IsHeldResult function h.index (RefusedType of) h.here)
+    held_result_holds_none of h.type h.holds (within_at (value_types h.f) IsHeldResult function h.index h.type h.here)
 
 -- ---- a value of such a type
 
 module _ (m : Module) (sound : IsModule m) (of : OtherType) where
-  pub has_type : (f : ℕ) (x : FunctionData) (index : ℕ) (t : TypeTree) → slice_get m.functions f ≡ Some x → slice_get (value_types (shown m f x)) index ≡ Some t → refused_of t ≡ Some of → HasType (data_of m) (RefusedType of)
-  has_type f x index t at here is = record { place = f; f = shown m f x; at = function_at m f x at; index = index; here = here ∙ ap Some (refused_is t of is) }
+  pub has_type : (f : ℕ) (x : FunctionData) (index : ℕ) (t : TypeTree) → slice_get m.functions f ≡ Some x → slice_get (value_types (shown m f x)) index ≡ Some t → refused_of t ≡ Some of → HasTypeWith (data_of m) (RefusedType of)
+  has_type f x index t at here is = record {
+    place = f;
+    f = shown m f x;
+    at = function_at m f x at;
+    index = index;
+    type = t;
+    here = here;
+    holds = refused_held t of is;
+  }
 
   module _ (f : ℕ) (x : FunctionData) (r : LLVMType) (ps : List LLVMType) (v : Bool) (at : slice_get m.functions f ≡ Some x) (kind : slice_get m.types x.ty.0 ≡ Some (T.Function r ps v)) where
     type_is : (shown m f x).type ≡ FunctionType (type_at (trees_of m).types r) (types_at (trees_of m).types ps) v
     type_is = function_tree_of m x.ty r ps v sound kind
 
-    pub result_refused : refused_of (type_at (trees_of m).types r) ≡ Some of → HasType (data_of m) (RefusedType of)
+    pub result_refused : refused_of (type_at (trees_of m).types r) ≡ Some of → HasTypeWith (data_of m) (RefusedType of)
     result_refused is = has_type f x 0 (type_at (trees_of m).types r) at (ap (λ (t : TypeTree). Some (result_of t)) type_is) is
 
-    pub param_refused : (k : ℕ) (t : LLVMType) → slice_get ps k ≡ Some t → refused_of (type_at (trees_of m).types t) ≡ Some of → HasType (data_of m) (RefusedType of)
-    param_refused k t there is =
+    pub params_refused : refused_in (types_at (trees_of m).types ps) ≡ Some of → HasTypeWith (data_of m) (RefusedType of)
+    params_refused is =
         let results = map (λ (p : Placed). p.type) (placed_in (shown m f x)) in
-        let listed_at : slice_get (params_of (shown m f x).type) k ≡ Some (type_at (trees_of m).types t) =
-        ap (λ (u : TypeTree). slice_get (params_of u) k) type_is ∙ ap (λ (ts : List TypeTree). slice_get ts k) (sym (listed (trees_of m).types ps))
-        ∙ slice_get-map (λ (u : LLVMType). type_at (trees_of m).types u) ps k ∙ ap (option_map (λ (u : LLVMType). type_at (trees_of m).types u)) there in
-        has_type f x (suc k) (type_at (trees_of m).types t) at (slice_get-kept (params_of (shown m f x).type) results k (type_at (trees_of m).types t) listed_at) is
+        let y = first_refused of (types_at (trees_of m).types ps) is in
+        let listed_at : slice_get (params_of (shown m f x).type) y.0 ≡ Some y.1 = ap (λ (u : TypeTree). slice_get (params_of u) y.0) type_is ∙ y.2 in
+        has_type f x (suc y.0) y.1 at (slice_get-kept (params_of (shown m f x).type) results y.0 y.1 listed_at) y.3
 
   -- an instruction stands in its function
-  pub inst_refused : (i : ℕ) (z : InstData) → slice_get m.insts i ≡ Some z → refused_of (type_at (trees_of m).types z.ty) ≡ Some of → HasType (data_of m) (RefusedType of)
+  pub inst_refused : (i : ℕ) (z : InstData) → slice_get m.insts i ≡ Some z → refused_of (type_at (trees_of m).types z.ty) ≡ Some of → HasTypeWith (data_of m) (RefusedType of)
   inst_refused i z at is =
       let place = inst_place m i z sound at in
       let x = function_there m z.block.0 place.block sound place.block_is in
@@ -75,7 +155,7 @@ module _ (m : Module) (sound : IsModule m) (of : OtherType) where
 
 -- what is answered of the type of an instruction's result is of the module
 pub result_cause : (m : Module) (sound : IsModule m) (i : ℕ) (t : LLVMType) (r : Option OtherType) → i < length m.insts → option_map (λ (z : InstData). z.ty) (slice_get m.insts i) ≡ Some t
-    → r ≡ refused_of (type_at (trees_of m).types t) → IfSome r (λ of. HasType (data_of m) (RefusedType of))
+    → r ≡ refused_of (type_at (trees_of m).types t) → IfSome r (λ of. HasTypeWith (data_of m) (RefusedType of))
 result_cause m sound i t None within typed is = tt
 result_cause m sound i t (Some of) within typed is =
     let z = item_there m.insts i within in
@@ -89,6 +169,22 @@ signature_at m f ty k r ps v within typed kind is =
     let x = item_there m.functions f within in
     let same = same_Some x.0.ty ty (sym (ap (option_map (λ (y : FunctionData). y.ty)) x.1) ∙ typed) in
     (x.0, x.1, ap (λ (u : LLVMType). slice_get m.types u.0) same ∙ kind ∙ ap Some is)
+
+-- what is answered of what it takes is of the module
+pub params_cause : (m : Module) (sound : IsModule m) (f : ℕ) (x : FunctionData) (r : LLVMType) (ps : List LLVMType) (v : Bool) → slice_get m.functions f ≡ Some x → slice_get m.types x.ty.0 ≡ Some (T.Function r ps v)
+    → (o : Option OtherType) → o ≡ refused_in (types_at (trees_of m).types ps) → IfSome o (λ of. HasTypeWith (data_of m) (RefusedType of))
+params_cause m sound f x r ps v at kind None is = tt
+params_cause m sound f x r ps v at kind (Some of) is = params_refused m sound of f x r ps v at kind (sym is)
+
+-- and where there is none, it takes none
+pub signature_taken : (m : Module) (f : ℕ) (ty : LLVMType) (k : LLVMTypeKind) (r : LLVMType) (ps : List LLVMType) (v : Bool) → option_map (λ (x : FunctionData). x.ty) (slice_get m.functions f) ≡ Some ty → slice_get m.types ty.0 ≡ Some k → k ≡ T.Function r ps v
+    → IsTaken m r → refused_in (types_at (trees_of m).types ps) ≡ None → IsTakenSignature m f
+signature_taken m f ty k r ps v typed kind is returned none = λ x s qs w at own.
+    let same = same_Some x.ty ty (sym (ap (option_map (λ (y : FunctionData). y.ty)) at) ∙ typed) in
+    let one = same_Some (T.Function s qs w) (T.Function r ps v) (sym own ∙ ap (λ (u : LLVMType). slice_get m.types u.0) same ∙ kind ∙ ap Some is) in
+    let first : r ≡ s = cc in
+    let rest : ps ≡ qs = cc in
+    (subst (IsTaken m) first returned, subst (All (IsTaken m)) rest (taken_among m ps none))
 
 -- ---- no value of such a type
 

@@ -52,7 +52,7 @@ number_is m f g h = ap (λ (x : Function). x.number) (function_row m f g h).1.1
 
 -- ---- types
 
-all_held : (ts : List TypeTree) (xs : List LLVMType) → All IsHeld (types_list (types_at ts xs)) → All (λ (t : LLVMType). IsHeld (type_at ts t)) xs
+pub all_held : (ts : List TypeTree) (xs : List LLVMType) → All IsHeld (types_list (types_at ts xs)) → All (λ (t : LLVMType). IsHeld (type_at ts t)) xs
 all_held ts [] h = All-nil _
 all_held ts (x ∷ xs) h =
     let H : LLVMType → Type 0 = λ t. IsHeld (type_at ts t) in

@@ -1,17 +1,15 @@
 -- Types of the source and of the dialect.
-use Rattle.std.proofs.Common.{ℕ, ◌≡◌, ◌<◌, ◌≤◌, ◌+◌, List, [], ◌∷◌, ◌++◌, All, Some, Bool, true, false, ◌||◌, filter, slice_get, length, map, take, get_or, refl, sym, ap, subst, ◌∙◌, arith}
+use Rattle.std.proofs.Common.{ℕ, ◌≡◌, ◌<◌, ◌≤◌, ◌+◌, List, [], ◌∷◌, ◌++◌, All, Some, true, false, filter, slice_get, length, map, take, get_or, refl, sym, ap, subst, ◌∙◌, arith}
 use Rattle.std.proofs.lemmas.List.{map_push, take_all, map_more}
 use Rattle.std.proofs.lemmas.List.Elements.{All-weaker, All-push, All-nil, All-head, All-tail}
 use Rattle.llvm_core.specs.declared.numbers.LLVMType.{LLVMType}
 use Rattle.llvm_core.specs.Data as L
 use Rattle.llvm_core.specs.Form.{is_phi}
 use Rattle.dialect_types.specs.declared.types.TypeHandle.{TypeHandle}
-use Rattle.dialect_types.specs.Trees.{TypeTree, FunctionType, TypeTrees, NoTypes, ThenType, depth, depths, type_at, types_at, type_trees, AllBelow}
+use Rattle.dialect_types.specs.Trees.{TypeTree, FunctionType, TypeTrees, NoTypes, ThenType, type_at, types_at, type_trees, AllBelow}
 use Rattle.dialect_core.specs.ContextData.{ContextData}
-use Rattle.kinds.specs.Types.{types_list, params_of, shape}
-use Rattle.kinds.specs.Fitting.{is_held, is_nothing}
-use Rattle.kinds.specs.Held.{is_void, IsHeld, IsHeldResult}
-use Rattle.kinds.proofs.HeldLaws.{void_is, held_result_own}
+use Rattle.kinds.specs.Types.{types_list, params_of}
+use Rattle.kinds.specs.Held.{IsShallow}
 use Rattle.from_llvm_ir.proofs.PlaceLaws.{filter_next, filter_skip}
 use Rattle.from_llvm_ir.specs.Types.{GrowsTypes}
 
@@ -120,35 +118,6 @@ pub all_below : (n : ℕ) (ts : List TypeHandle) → All (λ (t : TypeHandle). t
 all_below n [] h = tt
 all_below n (t ∷ ts) h = (All-head (λ (x : TypeHandle). x.0 < n) t ts h, all_below n ts (All-tail (λ (x : TypeHandle). x.0 < n) t ts h))
 
--- ---- types that are translated
-
--- a test of their shapes tells them
-pub held_shape : (t : TypeTree) → IsHeldResult t → (is_nothing (shape t) || is_held (shape t)) ≡ true
-unfolding IsHeldResult
-held_shape t h = h
-
--- ---- types that are translated nest little
-
--- a fact of the structure of types: those that have none for a part are of depth 1
-held_depth : (t : TypeTree) → IsHeld t → depth t ≤ 1
-unfolding IsHeld
-held_depth (FunctionType r ps v) h = absurd (let no : ⊥ = cc in no)
-held_depth t h = omega arith
-
-held_depths : (ts : TypeTrees) → All IsHeld (types_list ts) → depths ts ≤ 1
-held_depths NoTypes h = omega arith
-held_depths (ThenType t ts) h = omega (arith, held_depth t (All-head IsHeld t (types_list ts) h), held_depths ts (All-tail IsHeld t (types_list ts) h))
-
-pub result_depth : (t : TypeTree) → IsHeldResult t → depth t ≤ 1
-result_depth t h = by (is_void t) refl
-  where
-    by : (v : Bool) → is_void t ≡ v → depth t ≤ 1
-    by true is = rw (void_is t is) (omega arith)
-    by false is = held_depth t (held_result_own t h is)
-
-pub signature_depth : (r : TypeTree) (ps : TypeTrees) (s : TypeTree) (qs : TypeTrees) → r ≡ s → ps ≡ qs → IsHeldResult s → All IsHeld (types_list qs) → depth (FunctionType r ps false) ≤ 1000
-signature_depth r ps s qs e f h k = rw (e, f) (omega (arith, result_depth s h, held_depths qs k))
-
 -- ---- parts of a signature
 
 -- the types of parameters, once the context has more types
@@ -162,3 +131,7 @@ below_still a b ts us g within same = subst (AllBelow (length b.types)) (sym sam
 
 pub both_parts : (r : TypeTree) (ps : TypeTrees) (s : L.TypeTree) (qs : L.TypeTrees) → r ≡ s → ps ≡ qs → FunctionType r ps false ≡ L.FunctionType s qs false
 both_parts r ps s qs e f = rw (e, f) refl
+
+-- and it nests as deep
+pub signature_shallow : (r : TypeTree) (ps : TypeTrees) (s : L.TypeTree) (qs : L.TypeTrees) (t : L.TypeTree) → r ≡ s → ps ≡ qs → t ≡ L.FunctionType s qs false → IsShallow t → IsShallow (FunctionType r ps false)
+signature_shallow r ps s qs t e f is h = subst IsShallow (is ∙ sym (both_parts r ps s qs e f)) h

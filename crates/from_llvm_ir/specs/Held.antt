@@ -1,4 +1,4 @@
--- Types of a module for which the dialect has one, by their numbers.
+-- Types of a module for which the dialect has one, all the way in, by their numbers.
 use Rattle.std.specs.Prelude.{ℕ, ◌≡◌, Bool, List, Some, None, All, slice_get}
 use Rattle.kinds.specs.Held.{refused_of}
 use Rattle.llvm_core.specs.declared.numbers.LLVMType.{LLVMType}
@@ -8,7 +8,7 @@ use Rattle.llvm_core.specs.declared.code.InstData.{InstData}
 use Rattle.llvm_core.specs.Module.{Module}
 use Rattle.llvm_core.specs.Data.{type_at, trees_of}
 
--- the dialect does not lack the type
+-- the dialect lacks neither the type nor one that it holds
 abbrev pub IsTaken : Module → LLVMType → Type 0
 IsTaken m t = refused_of (type_at (trees_of m).types t) ≡ None
 

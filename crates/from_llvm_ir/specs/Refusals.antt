@@ -1,6 +1,7 @@
 -- Why an import refuses a function, and a module.
 use Rattle.std.specs.Prelude.{ℕ, ◌≡◌, List, Some, All, slice_get}
 use Rattle.kinds.specs.Types.{TypeTree, RefusedType}
+use Rattle.kinds.specs.Held.{Holds}
 use Rattle.llvm_core.specs.Data as L
 use Rattle.llvm_core.specs.Form.{value_types}
 use Rattle.llvm_core.specs.declared.numbers.LLVMInstRef.{LLVMInstRef}
@@ -33,17 +34,19 @@ pub record HasUndefinedUse (d : L.ModuleData) (name : List ℕ) (v : LLVMValue) 
   pub at : slice_get d.functions place ≡ Some f
   pub refused : IsRefusedUse f name v
 
--- a value of a function of the module has that type
-pub record HasType (d : L.ModuleData) (t : TypeTree) : Type 0 where
+-- a value of a function of the module has a type that is that one, or holds it
+pub record HasTypeWith (d : L.ModuleData) (u : TypeTree) : Type 0 where
   pub place : ℕ
   pub f : L.Function
   pub at : slice_get d.functions place ≡ Some f
   pub index : ℕ
-  pub here : slice_get (value_types f) index ≡ Some t
+  pub type : TypeTree
+  pub here : slice_get (value_types f) index ≡ Some type
+  pub holds : Holds u type
 
 -- the module has what the dialect has nothing for
 abbrev pub IsUnsupported : L.ModuleData → Unsupported → Type 0
-IsUnsupported d (U.Ty of) = HasType d (RefusedType of)
+IsUnsupported d (U.Ty of) = HasTypeWith d (RefusedType of)
 
 -- why an import refuses a module whose data are d; want of memory needs no reason
 abbrev pub IsCause : L.ModuleData → ConversionErr → Type 0

@@ -54,7 +54,7 @@ fn add_constant<L: Ledger>(
     let LLVMConstKind::Int(ty, value) = source.const_kind(c) else {
         unreachable!();
     };
-    let int = import_plain(ctx, source, *ty)?;
+    let int = import_plain(alloc, ctx, source, *ty)?;
     let constant = OpKind::Constant(ConstAttr::Integer(int, *value as u64));
     let operands = ShortList::zero();
     let successors = Items::new(alloc);

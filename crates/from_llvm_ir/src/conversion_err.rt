@@ -13,7 +13,7 @@ use thiserror::Error;
 /// What the dialect has nothing for.
 #[derive(Clone, Copy, PartialEq, Eq, Debug, Drop)]
 pub enum Unsupported {
-    /// A type of a value of a function.
+    /// A type that the type of a value of a function is, or holds.
     Ty(OtherType),
 }
 

@@ -1,13 +1,13 @@
-//! The refusal of a module that has values of a type for which the dialect has none.
+//! The refusal of a module that has values whose types are, or hold, one for which the dialect has none.
 
-ghost use Rattle.std.specs.Prelude.{◌≡◌, ◌<◌, ℕ, false, List, None, Some, All, IfErr, IfSome, OnOk, length, slice_get};
-ghost use Rattle.kinds.specs.Types.{TypeTree, RefusedType};
-ghost use Rattle.kinds.specs.Held.{refused_of};
+ghost use Rattle.std.specs.Prelude.{◌≡◌, ◌<◌, ℕ, false, None, All, IfErr, IfSome, OnOk, length};
+ghost use Rattle.kinds.specs.Types.{RefusedType};
+ghost use Rattle.kinds.specs.Held.{refused_in, refused_of};
 ghost use Rattle.llvm_core.specs.Sound.{IsModule};
-ghost use Rattle.llvm_core.specs.Data.{data_of, trees_of, type_at, type_tree};
+ghost use Rattle.llvm_core.specs.Data.{data_of, trees_of, type_at, types_at};
 ghost use Rattle.llvm_core.specs.Form.{AreHeld, IsForm};
 ghost use Rattle.from_llvm_ir.specs.Held.{AreTaken, IsTaken, IsTakenResult, IsTakenSignature};
-ghost use Rattle.from_llvm_ir.specs.Refusals.{HasType, IsCause};
+ghost use Rattle.from_llvm_ir.specs.Refusals.{HasTypeWith, IsCause};
 
 use crate::conversion_err::{ConversionErr, Unsupported};
 use kinds::types::OtherType;
@@ -16,47 +16,28 @@ use llvm_core::module::LLVMModule;
 use llvm_core::numbers::{LLVMFunction, LLVMInstRef, LLVMType};
 use llvm_core::types::LLVMTypeKind;
 
-/// Which of the types for which the dialect has none a kind is, where it is one: a line for each kind.
-fn refused_kind(kind: &LLVMTypeKind) -> Option<OtherType>
-    ensures { (ts : List TypeTree) → result ≡ refused_of (type_tree ts kind.now) }
-{
-    match kind {
-        LLVMTypeKind::Void => None,
-        LLVMTypeKind::Int(_) => None,
-        LLVMTypeKind::Ptr(_) => None,
-        LLVMTypeKind::Floating(_) => None,
-        LLVMTypeKind::Other(of) => Some(*of),
-        LLVMTypeKind::Function { .. } => None,
-    }
-}
-
-/// Which of these types a type is, where it is one.
+/// The first of the types for which the dialect has none that a type is or holds: a line for each kind with parts.
+#[cycle(refused_type)]
 fn refused_type(source: &LLVMModule, ty: LLVMType) -> Option<OtherType>
     requires sound { IsModule source.now }
     requires within { ty.0 < length source.now.types }
     ensures { result ≡ refused_of (type_at (trees_of source.now).types ty) }
 {
-    refused_kind(source.type_kind(ty))
-}
-
-/// Whether one of a module's types is one of these. Few modules have any.
-fn has_refused_type(source: &LLVMModule) -> bool
-    ensures { result ≡ false → (t : ℕ) → t < length source.now.types → IsTaken source.now (record { 0 = t }) }
-{
-    for t in 0..source.types() {
-        if let Some(_) = refused_type(source, LLVMType(t)) {
-            return true;
-        }
+    match source.type_kind(ty) {
+        LLVMTypeKind::Other(of) => Some(*of),
+        LLVMTypeKind::Array(_, element) => refused_type(source, *element),
+        LLVMTypeKind::Vector(_, _, element) => refused_type(source, *element),
+        LLVMTypeKind::Literal { fields, .. } => refused_among(source, fields.as_slice()),
+        _ => None,
     }
-    false
 }
 
-/// The first of these types among types.
+/// The first of these types that one of the types is or holds.
+#[cycle(refused_type)]
 fn refused_among(source: &LLVMModule, types: &[LLVMType]) -> Option<OtherType>
     requires sound { IsModule source.now }
     requires within { All (λ t. t.0 < length source.now.types) types.now }
-    ensures none { result ≡ None → All (IsTaken source.now) types.now }
-    ensures some { IfSome result (λ of. (k : ℕ) × (t : _) × (slice_get types.now k ≡ Some t) × (refused_of (type_at (trees_of source.now).types t) ≡ Some of)) }
+    ensures { result ≡ refused_in (types_at (trees_of source.now).types types.now) }
 {
     for ty in types {
         if let Some(of) = refused_type(source, *ty) {
@@ -66,12 +47,24 @@ fn refused_among(source: &LLVMModule, types: &[LLVMType]) -> Option<OtherType>
     None
 }
 
-/// The first of these types that a function returns or takes.
+/// Whether one of a module's types is itself one of these: else none holds one. Few modules have any.
+fn has_refused_type(source: &LLVMModule) -> bool
+    ensures { result ≡ false → (t : ℕ) → t < length source.now.types → IsTaken source.now (record { 0 = t }) }
+{
+    for t in 0..source.types() {
+        if let LLVMTypeKind::Other(_) = source.type_kind(LLVMType(t)) {
+            return true;
+        }
+    }
+    false
+}
+
+/// The first of these types in what a function returns and takes.
 fn refused_signature(source: &LLVMModule, f: LLVMFunction) -> Option<OtherType>
     requires sound { IsModule source.now }
     requires within { f.0 < length source.now.functions }
     ensures none { result ≡ None → IsTakenSignature source.now f.0 }
-    ensures some { IfSome result (λ of. HasType (data_of source.now) (RefusedType of)) }
+    ensures some { IfSome result (λ of. HasTypeWith (data_of source.now) (RefusedType of)) }
 {
     match source.type_kind(source.function_type(f)) {
         LLVMTypeKind::Function { result, params, .. } => match refused_type(source, *result) {
@@ -82,10 +75,10 @@ fn refused_signature(source: &LLVMModule, f: LLVMFunction) -> Option<OtherType>
     }
 }
 
-/// The first of these types that a function of a module returns or takes.
+/// The first of these types in what the functions of a module return and take.
 fn refused_signatures(source: &LLVMModule) -> Option<OtherType>
     ensures none { result ≡ None → (f : ℕ) → f < length source.now.functions → IsTakenSignature source.now f }
-    ensures some { IfSome result (λ of. HasType (data_of source.now) (RefusedType of)) }
+    ensures some { IfSome result (λ of. HasTypeWith (data_of source.now) (RefusedType of)) }
 {
     for f in 0..source.functions() {
         if let Some(of) = refused_signature(source, LLVMFunction(f)) {
@@ -95,21 +88,21 @@ fn refused_signatures(source: &LLVMModule) -> Option<OtherType>
     None
 }
 
-/// Which of these types the result of an instruction has, where it has one.
+/// The first of these types in the type of an instruction's result.
 fn refused_result(source: &LLVMModule, i: LLVMInstRef) -> Option<OtherType>
     requires sound { IsModule source.now }
     requires within { i.0 < length source.now.insts }
     ensures none { result ≡ None → IsTakenResult source.now i.0 }
-    ensures some { IfSome result (λ of. HasType (data_of source.now) (RefusedType of)) }
+    ensures some { IfSome result (λ of. HasTypeWith (data_of source.now) (RefusedType of)) }
 {
     refused_type(source, source.type_of(LLVMValue::Inst(i)))
 }
 
-/// The first of these types that the result of an instruction of a module has.
+/// The first of these types in the types of the results of a module's instructions.
 fn refused_results(source: &LLVMModule) -> Option<OtherType>
     requires sound { IsModule source.now }
     ensures none { result ≡ None → (i : ℕ) → i < length source.now.insts → IsTakenResult source.now i }
-    ensures some { IfSome result (λ of. HasType (data_of source.now) (RefusedType of)) }
+    ensures some { IfSome result (λ of. HasTypeWith (data_of source.now) (RefusedType of)) }
 {
     for i in 0..source.inst_count() {
         if let Some(of) = refused_result(source, LLVMInstRef(i)) {
@@ -119,11 +112,11 @@ fn refused_results(source: &LLVMModule) -> Option<OtherType>
     None
 }
 
-/// The first of these types that a value of a module has.
+/// The first of these types in the types of the values of a module.
 fn refused_value(source: &LLVMModule) -> Option<OtherType>
     requires sound { IsModule source.now }
     ensures none { result ≡ None → AreTaken source.now }
-    ensures some { IfSome result (λ of. HasType (data_of source.now) (RefusedType of)) }
+    ensures some { IfSome result (λ of. HasTypeWith (data_of source.now) (RefusedType of)) }
 {
     if !has_refused_type(source) {
         return None;
@@ -134,7 +127,7 @@ fn refused_value(source: &LLVMModule) -> Option<OtherType>
     }
 }
 
-/// Refuses a module of the form that has a value of a type for which the dialect has none.
+/// Refuses a module of the form that has a value whose type is or holds one for which the dialect has none.
 pub fn check_held(source: &LLVMModule) -> Result<(), ConversionErr>
     requires form { IsForm (data_of source.now) }
     ensures held { OnOk result (AreHeld (data_of source.now)) }

@@ -180,8 +180,8 @@ fn make_room(ctx: &mut Context, source: &LLVMModule)
 /// The context may be any. All that it held stays, whatever is answered: its types, its operations and where they stand,
 /// its blocks and what they list. Where its numbers of types are there, they stay there, and each of its modules has the
 /// data that it had. After a refusal the context may hold more operations, blocks and types.
-/// Refuses a module that has values of a type for which the dialect has none, `Unsupported`, and leaves the context as it
-/// was; and a function that uses the result of an instruction where it is not defined: `UndefinedValue`.
+/// Refuses a module that has values whose type is, or holds, one for which the dialect has none, `Unsupported`, and leaves
+/// the context as it was; and a function that uses the result of an instruction where it is not defined: `UndefinedValue`.
 pub fn convert_module(
     alloc: Global,
     ctx: &mut Context,

@@ -86,7 +86,7 @@ fn import_op<L: Ledger>(
     let operands = known_operands(alloc, source, values, inst)?;
     let edges = known_successors(alloc, source, values, targets, entries, from, inst)?;
     let successors = Items::from_vec(edges);
-    let ty = import_result_type(ctx, source, i)?;
+    let ty = import_result_type(alloc, ctx, source, i)?;
     let name = given(names, source.inst_name(i))?;
     let op = add_op(
         ctx,

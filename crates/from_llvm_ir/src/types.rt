@@ -1,15 +1,15 @@
 //! Types of the source to types of the dialect.
 
-ghost use Rattle.std.specs.Prelude.{◌≡◌, ◌<◌, ◌≤◌, ◌||◌, IfOk, IfSome, All, List, true, length, map, ℕ};
+ghost use Rattle.std.specs.Prelude.{◌≡◌, ◌<◌, ◌||◌, IfOk, IfSome, All, List, true, false, length, map, ℕ};
 ghost use Rattle.std.specs.Option.{option_map};
 ghost use Rattle.llvm_core.specs.Sound.{IsModule};
 ghost use Rattle.llvm_core.specs.Parts.{shape_of};
 ghost use Rattle.llvm_core.specs.Data as L;
 ghost use Rattle.llvm_core.specs.Data.{trees_of};
 ghost use Rattle.kinds.specs.Types.{params_of};
-ghost use Rattle.kinds.specs.Fitting.{is_held, is_nothing};
-ghost use Rattle.kinds.specs.Held.{own_type, IsHeld, IsHeldResult};
-ghost use Rattle.dialect_types.specs.Trees.{type_at, type_tree, type_trees, depth, HasPartsBelow};
+ghost use Rattle.kinds.specs.Fitting.{is_held, is_made, is_nothing};
+ghost use Rattle.kinds.specs.Held.{own_type, IsHeld, IsHeldResult, IsShallow};
+ghost use Rattle.dialect_types.specs.Trees.{type_at, type_tree, type_trees, HasFitParts, HasPartsBelow};
 ghost use Rattle.from_llvm_ir.specs.Imported.{phis_of};
 ghost use Rattle.from_llvm_ir.specs.Types.{GrowsTypes};
 ghost use Rattle.from_llvm_ir.specs.Source.{IsSource, IsBlockOf, IsTypeOf};
@@ -46,7 +46,8 @@ fn among_first(ctx: &Context, kind: &TypeKind) -> Option<TypeHandle>
 /// The number of a type of the context, new or old.
 fn intern(ctx: &mut Context, kind: TypeKind) -> Result<TypeHandle, AllocError>
     requires parts { HasPartsBelow (length ctx.old.types) kind }
-    requires nesting { depth (type_tree (type_trees ctx.old.types) kind) ≤ 1000 }
+    requires fit { HasFitParts (type_trees ctx.old.types) kind }
+    requires nesting { IsShallow (type_tree (type_trees ctx.old.types) kind) }
     ensures grown { GrowsTypes ctx.old ctx.new }
     ensures ty { IfOk result (λ t. type_at (type_trees ctx.new.types) t ≡ type_tree (type_trees ctx.old.types) kind) }
     ensures within { IfOk result (λ t. t.0 < length ctx.new.types) }
@@ -57,9 +58,10 @@ fn intern(ctx: &mut Context, kind: TypeKind) -> Result<TypeHandle, AllocError>
     ctx.types_mut().get(kind)
 }
 
-/// The kind that stands for one of a type that is translated, or of void, a line for each.
+/// The kind that stands for one of a type without parts that is translated, or of void: a line for each.
 fn plain_kind(kind: &LLVMTypeKind) -> TypeKind
-    requires { (is_nothing (shape_of kind.now) || is_held (shape_of kind.now)) ≡ true }
+    requires held { (is_nothing (shape_of kind.now) || is_held (shape_of kind.now)) ≡ true }
+    requires plain { is_made (shape_of kind.now) ≡ false }
     ensures parts { (n : ℕ) → HasPartsBelow n result }
     ensures tree { (us : List L.TypeTree) → (ts : List L.TypeTree) → type_tree ts result ≡ L.type_tree us kind.now }
 {
@@ -69,12 +71,53 @@ fn plain_kind(kind: &LLVMTypeKind) -> TypeKind
         LLVMTypeKind::Ptr(space) => TypeKind::Pointer(*space),
         LLVMTypeKind::Floating(of) => TypeKind::Floating(*of),
         LLVMTypeKind::Other(_) => unreachable!(),
+        LLVMTypeKind::Array(_, _) => unreachable!(),
+        LLVMTypeKind::Vector(_, _, _) => unreachable!(),
+        LLVMTypeKind::Literal { .. } => unreachable!(),
         LLVMTypeKind::Function { .. } => unreachable!(),
     }
 }
 
+/// The kind that stands for that of a type that is translated, or of void, once its parts are imported: a line for each
+/// that has parts.
+#[cycle(import_plain)]
+fn import_kind(
+    alloc: Global,
+    ctx: &mut Context,
+    source: &LLVMModule,
+    ty: LLVMType,
+) -> Result<TypeKind, AllocError>
+    requires sound { IsModule source.now }
+    requires within { ty.0 < length source.now.types }
+    requires held { IsHeldResult (L.type_at (trees_of source.now).types ty) }
+    ensures grown { GrowsTypes ctx.old ctx.new }
+    ensures parts { IfOk result (λ k. HasPartsBelow (length ctx.new.types) k) }
+    ensures tree { IfOk result (λ k. type_tree (type_trees ctx.new.types) k ≡ L.type_at (trees_of source.now).types ty) }
+{
+    match source.type_kind(ty) {
+        LLVMTypeKind::Array(count, element) => {
+            let element = import_plain(alloc, ctx, source, *element)?;
+            Ok(TypeKind::Array(element, *count))
+        }
+        LLVMTypeKind::Vector(kind, count, element) => {
+            let element = import_plain(alloc, ctx, source, *element)?;
+            Ok(TypeKind::Vector(element, *count, *kind))
+        }
+        LLVMTypeKind::Literal { fields, layout } => {
+            let fields = import_all(alloc, ctx, source, fields.as_slice())?;
+            Ok(TypeKind::Struct {
+                fields: Items::from_vec(fields),
+                layout: *layout,
+            })
+        }
+        kind => Ok(plain_kind(kind)),
+    }
+}
+
 /// The type that stands for one that is translated, or for void.
+#[cycle(import_plain)]
 pub fn import_plain(
+    alloc: Global,
     ctx: &mut Context,
     source: &LLVMModule,
     ty: LLVMType,
@@ -86,10 +129,12 @@ pub fn import_plain(
     ensures ty { IfOk result (λ t. type_at (type_trees ctx.new.types) t ≡ L.type_at (trees_of source.now).types ty) }
     ensures within { IfOk result (λ t. t.0 < length ctx.new.types) }
 {
-    intern(ctx, plain_kind(source.type_kind(ty)))
+    let kind = import_kind(alloc, ctx, source, ty)?;
+    intern(ctx, kind)
 }
 
 /// The types that stand for types that are translated.
+#[cycle(import_plain)]
 fn import_all(
     alloc: Global,
     ctx: &mut Context,
@@ -105,7 +150,7 @@ fn import_all(
 {
     let mut imported = Vec::new(alloc);
     for ty in types {
-        imported.push(import_plain(ctx, source, *ty)?)?;
+        imported.push(import_plain(alloc, ctx, source, *ty)?)?;
     }
     Ok(imported)
 }
@@ -130,6 +175,7 @@ pub fn import_params(
 
 /// The type of what a function returns.
 fn import_result(
+    alloc: Global,
     ctx: &mut Context,
     source: &LLVMModule,
     f: LLVMFunction,
@@ -140,7 +186,7 @@ fn import_result(
     ensures within { IfOk result (λ t. t.0 < length ctx.new.types) }
 {
     match source.type_kind(source.function_type(f)) {
-        LLVMTypeKind::Function { result, .. } => import_plain(ctx, source, *result),
+        LLVMTypeKind::Function { result, .. } => import_plain(alloc, ctx, source, *result),
         _ => unreachable!(),
     }
 }
@@ -158,7 +204,7 @@ pub fn import_function_type(
     ensures within { IfOk result (λ t. t.0 < length ctx.new.types) }
 {
     let params = import_params(alloc, ctx, source, f)?;
-    let returned = import_result(ctx, source, f)?;
+    let returned = import_result(alloc, ctx, source, f)?;
     let kind = TypeKind::Func {
         result: returned,
         params: Items::from_vec(params),
@@ -169,6 +215,7 @@ pub fn import_function_type(
 
 /// The type of the result of an instruction, none where it is void.
 pub fn import_result_type(
+    alloc: Global,
     ctx: &mut Context,
     source: &LLVMModule,
     i: LLVMInstRef,
@@ -182,7 +229,7 @@ pub fn import_result_type(
     if is_nothing(shape_of(source.type_kind(ty))) {
         return Ok(None);
     }
-    Ok(Some(import_plain(ctx, source, ty)?))
+    Ok(Some(import_plain(alloc, ctx, source, ty)?))
 }
 
 /// The types of the phis of a block, in order.
@@ -200,7 +247,7 @@ pub fn import_phi_types(
     let mut types = Vec::new(alloc);
     for i in source.instructions(block) {
         if is_phi(source.inst(*i)) {
-            types.push(import_plain(ctx, source, source.type_of(LLVMValue::Inst(*i)))?)?;
+            types.push(import_plain(alloc, ctx, source, source.type_of(LLVMValue::Inst(*i)))?)?;
         }
     }
     Ok(types)

@@ -355,6 +355,7 @@ module _ (g : Func) (form : IsFormFunc g) (n : Numbers) (order : IsOrder (length
       type = form.type;
       returns = held_result_returned form.result form.returns;
       takes = all_from IsFirstClass (types_list form.types) (λ k t at. held_first_class t (all_at IsHeld (types_list form.types) k t form.takes at));
+      shallow = form.shallow;
       space = refl;
       params = params_count g form n order (entries g n) ∙ ap (λ (ts : List TypeTree). length ts) form.params ∙ sym (types_count form.types);
       param_names = unnamed_good (entry_args g n);

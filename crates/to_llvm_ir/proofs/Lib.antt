@@ -44,6 +44,7 @@ pub mod StepLaws
 pub mod SuccessorLaws
 pub mod TurnLaws
 pub mod TypeLaws
+pub mod KindLaws
 pub mod UseLaws
 pub mod ValueLaws
 pub mod FinishLaws

@@ -1,5 +1,5 @@
 -- Kinds of the dialect and of LLVM with the same trees.
-use Rattle.std.proofs.Common.{◌≡◌, ◌<◌, ℕ, Bool, true, false, ◌+◌, List, [], ◌∷◌, ◌++◌, All, length, map, take, get_or, refl, sym, ap, subst, ◌∙◌, arith}
+use Rattle.std.proofs.Common.{◌≡◌, ◌<◌, ◌≤◌, ◌^◌, ℕ, Bool, true, false, ◌+◌, List, [], ◌∷◌, ◌++◌, All, length, map, take, get_or, refl, sym, ap, subst, ◌∙◌, arith}
 use Rattle.std.proofs.lemmas.List.{map_push, map_more}
 use Rattle.std.proofs.lemmas.Option.{slice_get_within}
 use Rattle.std.proofs.lemmas.List.Elements.{All-nil, All-push}
@@ -9,7 +9,7 @@ use Rattle.llvm_core.specs.declared.types.LLVMTypeKind.TheVariants as T
 use Rattle.support.specs.Interned.{Interned}
 use Rattle.llvm_core.specs.Module.{Module}
 use Rattle.llvm_core.specs.Sound.{IsModule}
-use Rattle.llvm_core.specs.Parts.{IsTypeOver, IsFunctionType}
+use Rattle.llvm_core.specs.Parts.{IsFunctionType}
 use Rattle.llvm_core.specs.Data as L
 use Rattle.llvm_core.specs.Data.{trees_of}
 use Rattle.llvm_core.proofs.DataLemmas.{function_tree_of}
@@ -37,11 +37,9 @@ no_function r ps v h =
     let none : false ≡ true = held_value _ (held_result_own _ h refl) in
     cc
 
--- and is of a kind that LLVM has: a line for each kind with a number
-pub held_over : (us : List TypeTree) (n : ℕ) (k : LLVMTypeKind) → IsHeldResult (L.type_tree us k) → IsTypeOver n k
-held_over us n (T.Int w) h = first_class_int w (held_first_class (IntType w) (held_result_own (IntType w) h refl))
-held_over us n (T.Function r ps v) h = absurd (no_function (L.type_at us r) (L.types_at us ps) v h)
-held_over us n k h = tt
+-- an integer has a width that there is
+pub int_over : (w : ℕ) → IsHeldResult (IntType w) → (1 ≤ w) × (w ≤ 2 ^ 23)
+int_over w h = first_class_int w (held_first_class (IntType w) (held_result_own (IntType w) h refl))
 
 -- ---- types of parameters
 
@@ -54,7 +52,7 @@ one_type_more m ts t trees tree h k = (
   map_push (L.type_at (trees_of m).types) ts t ∙ (let e = h.1 in let f = k.1 in cc),
 )
 
-same_trees : (us : List L.TypeTree) (ts : List TypeTree) (xs : List LLVMType) (ys : List TypeHandle) → map (L.type_at us) xs ≡ map (type_at ts) ys → L.types_at us xs ≡ types_at ts ys
+pub same_trees : (us : List L.TypeTree) (ts : List TypeTree) (xs : List LLVMType) (ys : List TypeHandle) → map (L.type_at us) xs ≡ map (type_at ts) ys → L.types_at us xs ≡ types_at ts ys
 same_trees us ts [] [] h = refl
 same_trees us ts [] (y ∷ ys) h = cc
 same_trees us ts (x ∷ xs) [] h = cc

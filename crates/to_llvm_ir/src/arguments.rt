@@ -57,7 +57,7 @@ fn add_phi(
     ensures { (t : Task) (p : ℕ) (c : DialectBlock) → IsBlockAt ctx.now t (suc p) c block → target.0 ≡ t.numbers.block + suc p → slice_get c.args i ≡ Some (type_at (type_trees ctx.now.types) ty) → IsAtArgument t (suc p) c i values.old back.old → OnOk result (IsAtArgument t (suc p) c (suc i) values.new back.new) }
 {
     let place = place_of(i)?;
-    let ty = value_type(ctx, ty, guesses, back)?;
+    let ty = value_type(alloc, ctx, ty, guesses, back)?;
     let inst = LLVMInst::Phi(ty, ShortList::zero());
     let phi = build_result(alloc, None, values.next, target, inst, back)?;
     values.set(Value::Argument(block, place), LLVMValue::Inst(phi))

@@ -3,7 +3,7 @@
 ghost use Rattle.std.specs.Prelude.{◌≡◌, ◌<◌, IfOk, IsTrue, Some, length, slice_get};
 ghost use Rattle.support.specs.Interned.{Interned};
 ghost use Rattle.llvm_core.specs.Data as lists;
-ghost use Rattle.llvm_core.specs.Parts.{IsTypeOver};
+ghost use Rattle.llvm_core.specs.Parts.{HasFitParts, IsTypeOver};
 ghost use Rattle.llvm_core.specs.Sound.{IsModule};
 
 use dialect_types::types::TypeHandle;
@@ -37,7 +37,8 @@ impl Guesses {
         kind: LLVMTypeKind,
         back: &mut LLVMModule,
     ) -> Result<LLVMType, AllocError>
-        requires { IsTypeOver (length back.old.types) kind }
+        requires parts { IsTypeOver (length back.old.types) kind }
+        requires fit { HasFitParts back.old.types kind }
         ensures interned { IfOk result (λ t. Interned back.old.types back.new.types kind t.0) }
         ensures rest { back.new ≡ record back.old { types = back.new.types } }
         ensures data { lists.data_of back.new ≡ lists.data_of back.old }

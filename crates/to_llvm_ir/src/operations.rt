@@ -135,6 +135,7 @@ fn parts_of(value: &ConstAttr) -> (TypeHandle, u64)
 
 /// A constant of LLVM for a constant.
 fn convert_constant(
+    alloc: Global,
     ctx: &Context,
     op: OpRef,
     value: &ConstAttr,
@@ -148,7 +149,7 @@ fn convert_constant(
     ensures { (s : Spot) → IsNext ctx.now op s values.old back.old → OnOk result (IsBehindSpot s values.new back.new) }
 {
     let (ty, number) = parts_of(value);
-    let ty = value_type(ctx, ty, guesses, back)?;
+    let ty = value_type(alloc, ctx, ty, guesses, back)?;
     let c = back.const_get(LLVMConstKind::Int(ty, u128::from(number)))?;
     values.set(Value::Result(op), LLVMValue::Const(c))
 }
@@ -222,6 +223,7 @@ fn leads(
 
 /// The type that the row of an operation writes: that of its result, or none.
 fn written_type(
+    alloc: Global,
     ctx: &Context,
     op: OpRef,
     gives: Gives,
@@ -240,7 +242,7 @@ fn written_type(
 {
     match gives {
         Gives::Written => match ctx.result_type(op) {
-            Some(ty) => Ok(Some(value_type(ctx, ty, guesses, back)?)),
+            Some(ty) => Ok(Some(value_type(alloc, ctx, ty, guesses, back)?)),
             None => Ok(None),
         },
         _ => Ok(None),
@@ -266,7 +268,7 @@ fn convert_row(
     ensures ok { (s : Spot) → IsNext ctx.now op s values.now back.old → AreAllMapped s.task blocks.now → IfOk result (IsMade s back.new) }
     ensures cause { (s : Spot) → IsNext ctx.now op s values.now back.old → AreAllMapped s.task blocks.now → IfErr result (IsFuncCause ctx.now s.task.source) }
 {
-    let written = written_type(ctx, op, held.rule().gives, guesses, back)?;
+    let written = written_type(alloc, ctx, op, held.rule().gives, guesses, back)?;
     let operands = known_all(alloc, ctx, ctx.op_operands(op), values)?;
     let targets = leads(alloc, ctx, ctx.op_successors(op), blocks, values)?;
     Ok(LLVMInst::Row(Row {
@@ -322,7 +324,7 @@ fn convert_op(
     match ctx.op_kind(op) {
         OpKind::Module | OpKind::Func => Ok(()),
         OpKind::Constant(value) => {
-            convert_constant(ctx, op, value, guesses, values, back)?;
+            convert_constant(alloc, ctx, op, value, guesses, values, back)?;
             Ok(())
         }
         OpKind::Row(held) => {

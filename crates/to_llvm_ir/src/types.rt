@@ -1,9 +1,11 @@
 //! Types of the dialect, turned into types of LLVM by number.
 
-ghost use Rattle.std.specs.Prelude.{◌≡◌, ◌<◌, All, List, length, map, IfOk, OnOk};
-ghost use Rattle.llvm_core.specs.Parts.{IsFunctionType};
+ghost use Rattle.std.specs.Prelude.{◌≡◌, ◌<◌, ℕ, false, All, List, length, map, IfOk, OnOk};
+ghost use Rattle.llvm_core.specs.Parts.{HasFitParts, IsFunctionType, IsTypeOver};
 ghost use Rattle.llvm_core.specs.Data as lists;
 ghost use Rattle.llvm_core.specs.Sound.{IsModule};
+ghost use Rattle.kinds.specs.Types.{shape};
+ghost use Rattle.kinds.specs.Fitting.{is_made};
 ghost use Rattle.kinds.specs.Held.{IsHeld, IsHeldResult, IsHeldSignature};
 ghost use Rattle.dialect_types.specs.Trees.{TypeTree, type_at, type_tree, type_trees};
 ghost use Rattle.to_llvm_ir.specs.Growth.{Grows, IsTypeOf, AreTypesOf};
@@ -17,22 +19,68 @@ use llvm_core::types::LLVMTypeKind;
 use std::alloc::{AllocError, Global};
 use support::items::Items;
 
-/// The kind that stands for one of the type of a value or of void, a line for each.
+/// The kind that stands for that of a type of values without parts, or of void: a line for each.
 fn plain_kind(kind: &TypeKind) -> LLVMTypeKind
-    requires { (ts : List TypeTree) × IsHeldResult (type_tree ts kind.now) }
-    ensures { (us : List TypeTree) → (ts : List TypeTree) → lists.type_tree us result ≡ type_tree ts kind.now }
+    requires { (ts : List TypeTree) × IsHeldResult (type_tree ts kind.now) × (is_made (shape (type_tree ts kind.now)) ≡ false) }
+    ensures over { (n : ℕ) → IsTypeOver n result }
+    ensures fit { (types : List LLVMTypeKind) → HasFitParts types result }
+    ensures tree { (us : List TypeTree) → (ts : List TypeTree) → lists.type_tree us result ≡ type_tree ts kind.now }
 {
     match kind {
         TypeKind::Void => LLVMTypeKind::Void,
         TypeKind::Integer(width) => LLVMTypeKind::Int(*width),
         TypeKind::Pointer(space) => LLVMTypeKind::Ptr(*space),
         TypeKind::Floating(of) => LLVMTypeKind::Floating(*of),
+        TypeKind::Array(_, _) => unreachable!(),
+        TypeKind::Vector(_, _, _) => unreachable!(),
+        TypeKind::Struct { .. } => unreachable!(),
         TypeKind::Func { .. } => unreachable!(),
     }
 }
 
+/// The kind that stands for that of the type of a value or of void, once its parts are there: a line for each that has
+/// parts.
+#[cycle(value_type)]
+fn value_kind(
+    alloc: Global,
+    ctx: &Context,
+    ty: TypeHandle,
+    guesses: &mut Guesses,
+    back: &mut LLVMModule,
+) -> Result<LLVMTypeKind, AllocError>
+    requires within { ty.0 < length ctx.now.types }
+    requires held { IsHeldResult (type_at (type_trees ctx.now.types) ty) }
+    ensures over { IfOk result (λ k. IsTypeOver (length back.new.types) k) }
+    ensures fit { IfOk result (λ k. HasFitParts back.new.types k) }
+    ensures tree { IfOk result (λ k. lists.type_tree (lists.trees_of back.new).types k ≡ type_at (type_trees ctx.now.types) ty) }
+    ensures grows { OnOk result (Grows back.old back.new) }
+    ensures rest { OnOk result (back.new ≡ record back.old { types = back.new.types }) }
+    ensures data { OnOk result (lists.data_of back.new ≡ lists.data_of back.old) }
+{
+    match ctx.types().kind(ty) {
+        TypeKind::Array(element, count) => {
+            let element = value_type(alloc, ctx, *element, guesses, back)?;
+            Ok(LLVMTypeKind::Array(*count, element))
+        }
+        TypeKind::Vector(element, count, kind) => {
+            let element = value_type(alloc, ctx, *element, guesses, back)?;
+            Ok(LLVMTypeKind::Vector(*kind, *count, element))
+        }
+        TypeKind::Struct { fields, layout } => {
+            let fields = value_types(alloc, ctx, fields.as_slice(), guesses, back)?;
+            Ok(LLVMTypeKind::Literal {
+                fields,
+                layout: *layout,
+            })
+        }
+        kind => Ok(plain_kind(kind)),
+    }
+}
+
 /// The type of a value, or of what a function returns.
+#[cycle(value_type)]
 pub fn value_type(
+    alloc: Global,
     ctx: &Context,
     ty: TypeHandle,
     guesses: &mut Guesses,
@@ -46,32 +94,36 @@ pub fn value_type(
     ensures data { OnOk result (lists.data_of back.new ≡ lists.data_of back.old) }
     ensures sound { OnOk result (IsModule back.new) }
 {
-    guesses.type_get(ty, plain_kind(ctx.types().kind(ty)), back)
+    let kind = value_kind(alloc, ctx, ty, guesses, back)?;
+    let number = guesses.type_get(ty, kind, back)?;
+    Ok(number)
 }
 
-/// The types of parameters.
-fn param_types(
+/// The types of values.
+#[cycle(value_type)]
+fn value_types(
     alloc: Global,
     ctx: &Context,
-    params: &[TypeHandle],
+    types: &[TypeHandle],
     guesses: &mut Guesses,
     back: &mut LLVMModule,
 ) -> Result<Items<LLVMType>, AllocError>
-    requires within { All (λ t. t.0 < length ctx.now.types) params.now }
-    requires held { All (λ t. IsHeld (type_at (type_trees ctx.now.types) t)) params.now }
-    requires sound { IsModule back.old }
-    ensures types { IfOk result (λ ts. AreTypesOf back.new ts (map (type_at (type_trees ctx.now.types)) params.now)) }
+    requires within { All (λ t. t.0 < length ctx.now.types) types.now }
+    requires held { All (λ t. IsHeld (type_at (type_trees ctx.now.types) t)) types.now }
+    ensures types { IfOk result (λ ts. AreTypesOf back.new ts (map (type_at (type_trees ctx.now.types)) types.now)) }
     ensures grows { OnOk result (Grows back.old back.new) }
     ensures rest { OnOk result (back.new ≡ record back.old { types = back.new.types }) }
     ensures data { OnOk result (lists.data_of back.new ≡ lists.data_of back.old) }
     ensures sound { OnOk result (IsModule back.new) }
 {
-    let mut types = Items::new(alloc);
-    for param in params {
-        let ty = value_type(ctx, *param, guesses, back)?;
-        types.push(ty)?;
+    let mut stand = Items::new(alloc);
+    for ty in types {
+        let number = value_type(alloc, ctx, *ty, guesses, back)?;
+        stand.push(number)?;
     }
-    Ok(types)
+    // This tells the proof of the module's invariant.
+    let _ = back.types();
+    Ok(stand)
 }
 
 /// The type of a function.
@@ -97,8 +149,8 @@ pub fn function_type(
             params,
             variadic,
         } => {
-            let result = value_type(ctx, *result, guesses, back)?;
-            let params = param_types(alloc, ctx, params.as_slice(), guesses, back)?;
+            let result = value_type(alloc, ctx, *result, guesses, back)?;
+            let params = value_types(alloc, ctx, params.as_slice(), guesses, back)?;
             let kind = LLVMTypeKind::Function {
                 result,
                 params,

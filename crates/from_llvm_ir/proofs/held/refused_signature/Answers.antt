@@ -1,7 +1,8 @@
 -- What `held::refused_signature` owes besides what the check finds.
-use Rattle.std.proofs.Common.{◌∙◌, sym, ap, slice_get}
-use Rattle.std.proofs.lemmas.Option.{IfSome_then}
-use Rattle.from_llvm_ir.proofs.RefusedLaws.{signature_at, result_refused, param_refused}
+use Rattle.std.proofs.Common.{◌∙◌, sym, ap}
+use Rattle.kinds.specs.Held.{refused_in}
+use Rattle.llvm_core.specs.Data.{trees_of, types_at}
+use Rattle.from_llvm_ir.proofs.RefusedLaws.{signature_at, signature_taken, result_refused, params_cause}
 use Rattle.from_llvm_ir.proofs.held.refused_signature.Goals as goal
 
 pub returns-in-Some-clause-some : goal.returns-in-Some-clause-some
@@ -11,10 +12,16 @@ returns-in-Some-clause-some c =
     let s = signature_at m c.args.f.0 c.function_type.result c.type_kind.result.now k.result k.params k.variadic c.requires.within c.function_type.ensures.ty c.type_kind.ensures.kind k.is in
     result_refused m c.requires.sound c.in-Some.of c.args.f.0 s.0 k.result k.params k.variadic s.1 s.2 (sym c.refused_type.ensures ∙ c.in-Some.is)
 
+pub returns-in-None-clause-none : goal.returns-in-None-clause-none
+returns-in-None-clause-none c = λ none.
+    let m = c.args.source.now in
+    let k = c.in-Function in
+    signature_taken m c.args.f.0 c.function_type.result c.type_kind.result.now k.result k.params k.variadic c.function_type.ensures.ty c.type_kind.ensures.kind k.is
+    (sym c.refused_type.ensures ∙ c.in-None.is) (ap (λ us. refused_in (types_at (trees_of m).types us)) (sym c.as_slice.ensures) ∙ sym c.refused_among.ensures ∙ none)
+
 pub returns-in-None-clause-some : goal.returns-in-None-clause-some
 returns-in-None-clause-some c =
     let m = c.args.source.now in
     let k = c.in-Function in
     let s = signature_at m c.args.f.0 c.function_type.result c.type_kind.result.now k.result k.params k.variadic c.requires.within c.function_type.ensures.ty c.type_kind.ensures.kind k.is in
-    IfSome_then c.refused_among.result c.refused_among.ensures.some (λ of h.
-    param_refused m c.requires.sound of c.args.f.0 s.0 k.result k.params k.variadic s.1 s.2 h.0 h.1 (ap (λ ts. slice_get ts h.0) (sym c.as_slice.ensures) ∙ h.2) h.3)
+    params_cause m c.requires.sound c.args.f.0 s.0 k.result k.params k.variadic s.1 s.2 c.refused_among.result (c.refused_among.ensures ∙ ap (λ us. refused_in (types_at (trees_of m).types us)) c.as_slice.ensures)

@@ -1,8 +1,7 @@
 -- What `types::import_function_type` owes besides what the check finds.
 use Rattle.std.proofs.Common.{◌∙◌, sym}
 use Rattle.std.proofs.lemmas.Result.{IfOk-weaker}
-use Rattle.from_llvm_ir.proofs.HeldLaws.{returns_held, takes_held}
-use Rattle.from_llvm_ir.proofs.TypeLaws.{grows_then, params_still, below_still, signature_depth, both_parts}
+use Rattle.from_llvm_ir.proofs.TypeLaws.{grows_then, params_still, below_still, signature_shallow, both_parts}
 use Rattle.from_llvm_ir.proofs.types.import_function_type.Goals as goal
 
 pub intern-requires-clause-parts : goal.intern-requires-clause-parts
@@ -13,9 +12,9 @@ pub intern-requires-clause-nesting : goal.intern-requires-clause-nesting
 intern-requires-clause-nesting c =
     let g = c.requires.0 in
     let h = c.requires.1 in
-    signature_depth _ _ h.form.result h.form.types (c.in_ok-returned.ensures.ty g h)
+    signature_shallow _ _ h.form.result h.form.types g.type (c.in_ok-returned.ensures.ty g h)
     (params_still c.import_params.new.ctx c.import_result.new.ctx c.in_ok-params.params.items c.from_vec.result g.type h.form.result h.form.types c.import_result.ensures.grown c.in_ok-params.ensures.within (c.in_ok-params.ensures.types g h) h.form.type c.from_vec.ensures)
-    (returns_held g h.form h.held) (takes_held g h.form h.held)
+    h.form.type h.form.shallow
 
 pub returns-clause-grown : goal.returns-clause-grown
 returns-clause-grown c = grows_then _ _ _ c.import_params.ensures.grown (grows_then _ _ _ c.import_result.ensures.grown c.intern.ensures.grown)

@@ -3,7 +3,7 @@ use Rattle.std.proofs.Common.{◌≡◌, ◌∙◌, ◌<◌, length, sym, ap, su
 use Rattle.std.specs.Option.{option_map}
 use Rattle.std.proofs.lemmas.Option.{same_Some}
 use Rattle.support.proofs.ResultLaws.{all_three}
-use Rattle.kinds.specs.Held.{IsHeldSignature}
+use Rattle.kinds.specs.Held.{IsHeldSignature, IsShallow}
 use Rattle.dialect_types.specs.declared.types.TypeHandle.{TypeHandle}
 use Rattle.dialect_types.specs.Trees.{type_at, type_trees}
 use Rattle.dialect_core.specs.declared.ops.Symbol.{Symbol}
@@ -26,7 +26,7 @@ function_type-requires-clause-form c =
     let p = func_parts c.args.ctx.now c.args.op c.requires.form.0 c.requires.form.1 in
     let form = c.requires.form.2 in
     let same : p.symbol.ty ≡ c.symbol_type.result = same_Some p.symbol.ty c.symbol_type.result (ap (option_map (λ (s : Symbol). s.ty)) (sym p.symbol_is) ∙ c.symbol_type.ensures) in
-    subst (λ (t : TypeHandle). IsHeldSignature (type_at (type_trees c.args.ctx.now.types) t)) same (record { result = form.result; params = form.types; is = sym p.type ∙ form.type; returns = form.returns; takes = form.takes })
+    subst (λ (t : TypeHandle). IsHeldSignature (type_at (type_trees c.args.ctx.now.types) t)) same (record { result = form.result; params = form.types; is = sym p.type ∙ form.type; returns = form.returns; takes = form.takes; shallow = subst IsShallow p.type form.shallow })
 
 pub returns : goal.returns
 returns c = λ g func_is form order taken.

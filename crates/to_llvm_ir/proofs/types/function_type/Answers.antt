@@ -15,14 +15,14 @@ value_type-requires c =
     let parts = form_parts (type_trees c.args.ctx.now.types) _ _ _ _ _ _ _ c.requires.form c.requires.within c.in-Func.is c.kind.ensures.parts (rw types at c.kind.ensures.tree) in
     record { within = parts.result_there; held = parts.result_held }
 
-pub param_types-requires-clause-within : goal.param_types-requires-clause-within
-param_types-requires-clause-within c =
+pub value_types-requires-clause-within : goal.value_types-requires-clause-within
+value_types-requires-clause-within c =
     let types = c.types.ensures in
     let parts = form_parts (type_trees c.args.ctx.now.types) _ _ _ _ _ _ _ c.requires.form c.requires.within c.in-Func.is c.kind.ensures.parts (rw types at c.kind.ensures.tree) in
     subst (λ (xs : List TypeHandle). All (λ (t : TypeHandle). t.0 < length c.args.ctx.now.types) xs) (sym c.as_slice.ensures) parts.params_there
 
-pub param_types-requires-clause-held : goal.param_types-requires-clause-held
-param_types-requires-clause-held c =
+pub value_types-requires-clause-held : goal.value_types-requires-clause-held
+value_types-requires-clause-held c =
     let types = c.types.ensures in
     let parts = form_parts (type_trees c.args.ctx.now.types) _ _ _ _ _ _ _ c.requires.form c.requires.within c.in-Func.is c.kind.ensures.parts (rw types at c.kind.ensures.tree) in
     subst (λ (xs : List TypeHandle). All (λ (t : TypeHandle). IsHeld (type_at (type_trees c.args.ctx.now.types) t)) xs) (sym c.as_slice.ensures) parts.params_held
@@ -35,8 +35,8 @@ unreachable-requires c =
     function_tree_alone (type_trees c.args.ctx.now.types) _ form.result form.params false c.in_default.not-Func (sym tree ∙ form.is)
 
 -- what the type is made of is there
-pub type_get-requires : goal.type_get-requires
-type_get-requires c =
+pub type_get-requires-clause-parts : goal.type_get-requires-clause-parts
+type_get-requires-clause-parts c =
     let two = c.in_ok-params-in-Func.ensures in
     ((type_kept _ _ _ _ two.grows c.in_ok-result-in-Func.ensures.tree).0, two.types.0)
 
@@ -46,14 +46,14 @@ returns c =
     let one = c.in_ok-result-in-Func.ensures in
     let two = c.in_ok-params-in-Func.ensures in
     let last = c.in_ok-number-in-Func.ensures in
-    let grown = grows_type c.param_types.new.back c.type_get.new.back _ _ last.interned last.rest in
-    let params = subst (λ (xs : List TypeHandle). AreTypesOf c.param_types.new.back c.in_ok-params-in-Func.params (map (type_at (type_trees c.args.ctx.now.types)) xs)) c.as_slice.ensures two.types in
+    let grown = grows_type c.value_types.new.back c.type_get.new.back _ _ last.interned last.rest in
+    let params = subst (λ (xs : List TypeHandle). AreTypesOf c.value_types.new.back c.in_ok-params-in-Func.params (map (type_at (type_trees c.args.ctx.now.types)) xs)) c.as_slice.ensures two.types in
     let made = function_type _ _ _ _ _ _ _ _ _ _ _ last.sound last.interned c.in-Func.is (rw types at c.kind.ensures.tree) (type_kept _ _ _ _ grown (type_kept _ _ _ _ two.grows one.tree)) (types_kept _ _ _ _ grown params) in
     record {
       function = made.0;
       tree = made.1;
       grows = grows_then _ _ _ one.grows (grows_then _ _ _ two.grows grown);
-      rest = last.rest ∙ ap (λ (m : Module). let n : Module = record m { types = c.type_get.new.back.types } in n) (two.rest ∙ ap (λ (m : Module). let n : Module = record m { types = c.param_types.new.back.types } in n) one.rest);
+      rest = last.rest ∙ ap (λ (m : Module). let n : Module = record m { types = c.type_get.new.back.types } in n) (two.rest ∙ ap (λ (m : Module). let n : Module = record m { types = c.value_types.new.back.types } in n) one.rest);
       «data» = last.data ∙ two.data ∙ one.data;
       sound = last.sound;
     }
