@@ -9,6 +9,7 @@ use Rattle.dialect_core.specs.declared.ops.Value.{Value}
 use Rattle.dialect_core.specs.declared.ops.Successor.{Successor}
 use Rattle.dialect_core.specs.ContextData.{ContextData}
 use Rattle.dialect_core.specs.Data.{DialectBlock, DialectOp, Func, type_in}
+use Rattle.llvm_core.specs.Data.{TypeTree}
 use Rattle.meaning.specs.Machine as M
 use Rattle.meaning.specs.Setting.{Setting}
 use Rattle.meaning.specs.Dialect.{argument_moves, typed_row, edge, typed_block}
@@ -89,9 +90,9 @@ edges_are g numbers are (s ∷ ss) = let e = edge_is g s numbers are in let rest
 
 -- ---- a block
 
-pub block_is : (setting : Setting) (c : ContextData) (h : InContext c) (r : B.Block) (y : DialectBlock) (numbers : List ℕ) → numbers ≡ numbers_of h.function → map row_of r.rows ≡ rows_of setting c y.ops
-    → r.edges ≡ map (edge_to numbers) (flat_map (λ (o : DialectOp). o.successors) y.ops) → block_of (params_of h.function) r ≡ renamed_block slot_of (typed_block setting (type_in c) h.function y)
-block_is setting c h r y numbers are rows edges =
+pub block_is : (trees : List TypeTree) (setting : Setting) (c : ContextData) (h : InContext c) (r : B.Block) (y : DialectBlock) (numbers : List ℕ) → numbers ≡ numbers_of h.function → map (row_of trees) r.rows ≡ rows_of setting c y.ops
+    → r.edges ≡ map (edge_to numbers) (flat_map (λ (o : DialectOp). o.successors) y.ops) → block_of trees (params_of h.function) r ≡ renamed_block slot_of (typed_block setting (type_in c) h.function y)
+block_is trees setting c h r y numbers are rows edges =
     let g = h.function in
     let ss = flat_map (λ (o : DialectOp). o.successors) y.ops in
     let all_rows = rows ∙ sym (mapped_twice (renamed_row slot_of) (typed_row setting (type_in c)) y.ops) in

@@ -33,12 +33,12 @@ use Rattle.meaning.specs.Dialect.{same_value, option_type, typed_action}
 use Rattle.tracing.specs.declared.body.Slot.{Slot}
 use Rattle.tracing.specs.declared.body.Slot.TheVariants.{Result}
 use Rattle.tracing.specs.declared.body.Source.{Source}
-use Rattle.tracing.specs.declared.body.Action.{Action}
 use Rattle.tracing.specs.declared.body.Action.TheVariants as A
 use Rattle.tracing.specs.declared.trace.Types.{Types}
-use Rattle.tracing.specs.Table.{tree_of}
+use Rattle.tracing.specs.Types.{Stands, AllStand}
+use Rattle.tracing.proofs.GrowLaws.{applies}
 use Rattle.tracing.specs.Renamed.{renamed, renamed_action, renamed_row}
-use Rattle.tracing.specs.Bodies.{same_slot, source_of, action_of, row_of}
+use Rattle.tracing.specs.Bodies.{same_slot, source_of, IsAction}
 use Rattle.tracing.specs.DialectBodies.{slot_of, InContext, AreOpsIn, IsOpIn, IsUsed}
 use Rattle.tracing.proofs.ListLaws.{StandsBy, matched_at, mapped_twice}
 
@@ -231,28 +231,24 @@ constant_within c r o value typed at is =
 
 -- ---- actions and rows
 
-applies_same : (o : Op) (ty ty' : TypeTree) (tys tys' : List TypeTree) (os os' : List (Machine.Operand Slot)) → ty ≡ ty' → tys ≡ tys' → os ≡ os' → ◌≡◌ {A = Machine.Action Slot} (Machine.Applies o ty tys os) (Machine.Applies o ty' tys' os')
-applies_same o ty ty' tys tys' os os' a b c = cc
-
-pub applied_is : (setting : Setting) (types : Typing) (o : DialectOp) (op : Op) (shown : Types) (os : List Source) (vs : List Value) → o.operands ≡ vs → tree_of shown.result ≡ option_type o.result
-    → map tree_of shown.operands ≡ map (λ (v : Value). option_type (types v)) vs → map source_of os ≡ map (λ (v : Value). let o : Machine.Operand Slot = Machine.At (slot_of v) in o) vs
-    → action_of (A.Applies op shown os) ≡ renamed_action slot_of (typed_action setting types o (RowOp op))
-applied_is setting types o op shown os vs operands type operand_types sources =
-    applies_same op _ _ _ _ _ _ type (operand_types ∙ ap (map (λ (v : Value). option_type (types v))) (sym operands))
+pub applied_is : (trees : List TypeTree) (setting : Setting) (types : Typing) (o : DialectOp) (op : Op) (shown : Types) (os : List Source) (vs : List Value) → o.operands ≡ vs → Stands trees shown.result (option_type o.result)
+    → AllStand trees shown.operands (map (λ (v : Value). option_type (types v)) vs) → map source_of os ≡ map (λ (v : Value). let o : Machine.Operand Slot = Machine.At (slot_of v) in o) vs
+    → IsAction trees (A.Applies op shown os) (renamed_action slot_of (typed_action setting types o (RowOp op)))
+applied_is trees setting types o op shown os vs operands type operand_types sources =
+    applies trees op shown os _ _ _ type (subst (λ (ws : List Value). AllStand trees shown.operands (map (λ (v : Value). option_type (types v)) ws)) (sym operands) operand_types)
     (sources ∙ ap (map (λ (v : Value). let o : Machine.Operand Slot = Machine.At (slot_of v) in o)) (sym operands) ∙ sym (mapped_twice (renamed slot_of) (λ (v : Value). let o : Machine.Operand Value = Machine.At v in o) o.operands))
 
 -- what an operation of a known kind does
-pub action_of_kind : (setting : Setting) (c : ContextData) (r : OpRef) (o : DialectOp) (k : OpKind) (kind : Kind) (a : Machine.Action Slot) → op_at (type_trees c.types) c.ops r ≡ Some o → option_map (λ (x : OpData). x.kind) (slice_get c.ops r.0) ≡ Some k → kind_of (type_trees c.types) k ≡ Some kind
-    → a ≡ renamed_action slot_of (typed_action setting (type_in c) o kind) → a ≡ renamed_action slot_of (typed_action setting (type_in c) o o.kind)
-action_of_kind setting c r o k kind a at kept is here =
-    here ∙ ap (λ (k : Kind). renamed_action slot_of (typed_action setting (type_in c) o k)) (same_Some kind o.kind (sym is ∙ kind_kept c r o k at kept))
+pub action_of_kind : (setting : Setting) (c : ContextData) (r : OpRef) (o : DialectOp) (k : OpKind) (kind : Kind) → op_at (type_trees c.types) c.ops r ≡ Some o → option_map (λ (x : OpData). x.kind) (slice_get c.ops r.0) ≡ Some k → kind_of (type_trees c.types) k ≡ Some kind
+    → renamed_action slot_of (typed_action setting (type_in c) o kind) ≡ renamed_action slot_of (typed_action setting (type_in c) o o.kind)
+action_of_kind setting c r o k kind at kept is = ap (λ (k : Kind). renamed_action slot_of (typed_action setting (type_in c) o k)) (same_Some kind o.kind (sym is ∙ kind_kept c r o k at kept))
 
-row_same : (a b : Machine.Action Slot) (n k : ℕ) → a ≡ b → n ≡ k → ◌≡◌ {A = Machine.Row Slot} (record { action = a; result = Result n }) (record { action = b; result = Result k })
-row_same a b n k e f = cc
+row_same : (a : Machine.Action Slot) (n k : ℕ) → n ≡ k → ◌≡◌ {A = Machine.Row Slot} (record { action = a; result = Result n }) (record { action = a; result = Result k })
+row_same a n k f = cc
 
-pub row_is : (setting : Setting) (c : ContextData) (r : OpRef) (o : DialectOp) (a : Action) → op_at (type_trees c.types) c.ops r ≡ Some o → action_of a ≡ renamed_action slot_of (typed_action setting (type_in c) o o.kind)
-    → row_of (record { action = a; result = Result r.0 }) ≡ renamed_row slot_of (Dialect.typed_row setting (type_in c) o)
-row_is setting c r o a at is = row_same (action_of a) _ r.0 o.number is (sym (kept_op c r o at).number)
+pub row_is : (setting : Setting) (c : ContextData) (r : OpRef) (o : DialectOp) → op_at (type_trees c.types) c.ops r ≡ Some o
+    → ◌≡◌ {A = Machine.Row Slot} (record { action = renamed_action slot_of (typed_action setting (type_in c) o o.kind); result = Result r.0 }) (renamed_row slot_of (Dialect.typed_row setting (type_in c) o))
+row_is setting c r o at = row_same _ r.0 o.number (sym (kept_op c r o at).number)
 
 abbrev pub some_value : Value
 some_value = V.Result (record { 0 = 0 })

@@ -12,7 +12,7 @@ use Rattle.meaning.proofs.MatchedLaws.{matched_get}
 use Rattle.indexmap.specs.IndexMap.{get}
 use Rattle.llvm_core.specs.Module.{Module}
 use Rattle.llvm_core.specs.Data as D
-use Rattle.llvm_core.specs.Data.{Placed, Block, trees_of, targets, phi_entries}
+use Rattle.llvm_core.specs.Data.{TypeTree, Placed, Block, trees_of, targets, phi_entries}
 use Rattle.llvm_core.specs.Form.{is_phi}
 use Rattle.meaning.specs.Machine as M
 use Rattle.meaning.specs.Pairs.{Matched, BothOrNone}
@@ -141,9 +141,9 @@ module _ (m : Module) (h : InChecked m) (x : Index) (index : IsIndexOf m h x) wh
       by None e = e
       by (Some r) e = ap (λ l. renamed_row slot_of r ∷ l) e
 
-  pub block_is : (r : B.Block) (y : Block) (from : ℕ) → from ≡ y.number → map row_of r.rows ≡ rows_in m h y.instructions → r.edges ≡ map (edge_to x from) (flat_map (λ (p : Placed). targets p.instruction) y.instructions)
-      → block_of (params_in x) r ≡ renamed_block slot_of (block (setting_in m) (data_in m h) y)
-  block_is r y from number rows edges =
+  pub block_is : (trees : List TypeTree) (r : B.Block) (y : Block) (from : ℕ) → from ≡ y.number → map (row_of trees) r.rows ≡ rows_in m h y.instructions → r.edges ≡ map (edge_to x from) (flat_map (λ (p : Placed). targets p.instruction) y.instructions)
+      → block_of trees (params_in x) r ≡ renamed_block slot_of (block (setting_in m) (data_in m h) y)
+  block_is trees r y from number rows edges =
       let all_rows = rows ∙ rows_are y.instructions in
       let ns = flat_map (λ (p : Placed). targets p.instruction) y.instructions in
       let all_edges = ap (map (edge_of (params_in x))) edges ∙ edges_are m h x index from ns ∙ ap (λ (n : ℕ). map (renamed_edge slot_of) (map (edge (setting_in m) (data_in m h) n) ns)) number in

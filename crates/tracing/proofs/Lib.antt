@@ -1,4 +1,7 @@
 -- The lemmas of the crate.
+pub mod DialectTypes
+pub mod TypeLaws
+pub mod GrowLaws
 pub mod ModuleLaws
 pub mod NodeLaws
 pub mod TableLaws
@@ -6,7 +9,6 @@ pub mod RunLaws
 pub mod MoveLaws
 pub mod Renaming
 pub mod PlaceLaws
-pub mod WordLaws
 pub mod CheckedLaws
 pub mod LlvmLaws
 pub mod ListLaws

@@ -35,6 +35,9 @@ pub given_next : {A B : Type 0} (h : A → Option B) (bs : List B) (xs : List A)
 given_next h bs xs i x at before =
     ap (λ l. l ++ cons_option (h x) []) before ∙ sym (ap (filter_map h) (take_next xs i x at) ∙ filter_map-append h (take i xs) (x ∷ []))
 
+pub listed_next : {A B : Type 0} (g : A → B) (xs : List A) (i : ℕ) (x : A) → slice_get xs i ≡ Some x → map g (take i xs) ++ g x ∷ [] ≡ map g (take (i + 1) xs)
+listed_next g xs i x at = sym (ap (map g) (take_next xs i x at) ∙ map-append g (take i xs) (x ∷ []))
+
 pub filter_next : {A : Type 0} (p : A → Bool) (xs : List A) (i : ℕ) (x : A) → slice_get xs i ≡ Some x → filter p (take (i + 1) xs) ≡ filter p (take i xs) ++ filter p (x ∷ [])
 filter_next p xs i x at = ap (filter p) (take_next xs i x at) ∙ joined (take i xs)
   where

@@ -8,7 +8,6 @@ use Rattle.llvm_core.specs.declared.code.LLVMInst.{LLVMInst}
 use Rattle.llvm_core.specs.declared.code.LLVMInst.TheVariants as I
 use Rattle.llvm_core.specs.declared.code.Row.{Row}
 use Rattle.llvm_core.specs.declared.code.PhiEntry.{PhiEntry}
-use Rattle.kinds.specs.declared.op.Op.{Op}
 use Rattle.llvm_core.specs.Module.{Module}
 use Rattle.llvm_core.specs.declared.code.InstData.{InstData}
 use Rattle.llvm_core.specs.Parts.{value_type, is_phi}
@@ -23,22 +22,21 @@ use Rattle.llvm_core.proofs.FormPlaces.{same_kind_phi}
 use Rattle.llvm_core.proofs.FormValues.{value_typed}
 use Rattle.llvm_core.proofs.CheckedInsts.{MeetsRules}
 use Rattle.llvm_core.proofs.CheckedForm.{meets}
-use Rattle.tracing.proofs.CheckedLaws.{row_used, row_plain}
+use Rattle.tracing.proofs.CheckedLaws.{row_used}
 use Rattle.meaning.specs.Machine as Machine
 use Rattle.meaning.specs.Machine.{Operand, Applies}
 use Rattle.meaning.specs.Llvm.{operand, action, row}
 use Rattle.tracing.specs.Renamed.{renamed, renamed_action, renamed_row}
-use Rattle.tracing.specs.Table.{tree_of}
-use Rattle.tracing.specs.Bodies.{source_of, action_of}
-use Rattle.tracing.specs.Bodies.{row_of as row_of_body}
+use Rattle.tracing.specs.Types.{Stands, AllStand}
+use Rattle.tracing.specs.Bodies.{source_of, IsAction}
+use Rattle.tracing.proofs.GrowLaws.{applies}
 use Rattle.tracing.specs.declared.body.Slot.TheVariants.{Result}
-use Rattle.tracing.specs.declared.body.Action.{Action}
 use Rattle.tracing.specs.declared.trace.Types.{Types}
 use Rattle.tracing.specs.declared.body.Source.{Source}
 use Rattle.tracing.specs.declared.body.Action.TheVariants as A
 use Rattle.tracing.proofs.ListLaws.{mapped_twice}
 use Rattle.tracing.specs.declared.body.Slot.{Slot}
-use Rattle.tracing.specs.LlvmBodies.{setting_in, slot_of, InChecked, IsNoFunction, data_in, operand_in, IsUsed, IsPlacedIn, IsRowIn, row_in}
+use Rattle.tracing.specs.LlvmBodies.{setting_in, slot_of, InChecked, data_in, operand_in, IsUsed, IsPlacedIn, IsRowIn, row_in}
 
 -- the number of the type of a value of the function stands for what the data say
 pub used_tree : (m : Module) (h : InChecked m) (v : LLVMValue) (t : LLVMType) → IsUsed m h v → value_type m v ≡ Some t → type_at (trees_of m).types t ≡ operand_type (data_in m h) (operand_of (trees_of m) v)
@@ -84,9 +82,6 @@ kept_phi m p inst e = ap (λ (j : Instruction). is_some (phi_entries j)) e ∙ s
 pub kept_targets : (m : Module) (p : Placed) (inst : LLVMInst) → p.instruction ≡ instruction_of (trees_of m) inst → leads_to inst ≡ D.targets p.instruction
 kept_targets m p inst e = same_targets m inst ∙ sym (ap D.targets e)
 
-applies_same : (o : Op) (ty ty' : TypeTree) (tys tys' : List TypeTree) (os os' : List (Operand Slot)) → ty ≡ ty' → tys ≡ tys' → os ≡ os' → ◌≡◌ {A = Machine.Action Slot} (Applies o ty tys os) (Applies o ty' tys' os')
-applies_same o ty ty' tys tys' os os' a b c = cc
-
 module _ (m : Module) (h : InChecked m) where
   -- what the rules say of the row of an instruction
   rules_of : (b : ℕ) (i : LLVMInstRef) (p : Placed) (r : Row) → IsRowIn m h b i p r → (k : IsKept m i p) → MeetsRules m h.number k.kept.block.0 k.kept.ty (I.Row r)
@@ -98,32 +93,26 @@ module _ (m : Module) (h : InChecked m) where
   pub used_all : (b : ℕ) (i : LLVMInstRef) (p : Placed) (r : Row) → IsRowIn m h b i p r → All (IsUsed m h) r.operands
   used_all b i p r at = let k = kept_at m h b i p at.placed in row_used m h k.kept.block.0 k.kept.ty r (rules_of b i p r at k)
 
-  -- and its result is no function
-  pub plain_result : (b : ℕ) (i : LLVMInstRef) (p : Placed) (r : Row) (t : LLVMType) → IsRowIn m h b i p r → value_type m (V.Inst i) ≡ Some t → IsNoFunction (type_at (trees_of m).types t)
-  plain_result b i p r t at typed =
-      let k = kept_at m h b i p at.placed in
-      let same : k.kept.ty ≡ t = same_Some k.kept.ty t (sym (ap (option_map (λ (x : InstData). x.ty)) k.here) ∙ typed) in
-      subst (λ (u : LLVMType). IsNoFunction (type_at (trees_of m).types u)) same (row_plain m h k.kept.block.0 k.kept.ty r (rules_of b i p r at k))
-
   -- what an instruction of that row does
-  pub action_is : (type : TypeTree) (r : Row) (types : Types) (os : List Source) → tree_of types.result ≡ type
-      → map tree_of types.operands ≡ map (λ (v : LLVMValue). operand_type (data_in m h) (operand_of (trees_of m) v)) r.operands → map source_of os ≡ map (operand_in m) r.operands
-      → action_of (A.Applies r.op types os) ≡ renamed_action slot_of (action (setting_in m) (data_in m h) type (row_of (trees_of m) r))
-  action_is type r types os result operands sources =
+  pub action_is : (trees : List TypeTree) (type : TypeTree) (r : Row) (types : Types) (os : List Source) → Stands trees types.result type
+      → AllStand trees types.operands (map (λ (v : LLVMValue). operand_type (data_in m h) (operand_of (trees_of m) v)) r.operands) → map source_of os ≡ map (operand_in m) r.operands
+      → IsAction trees (A.Applies r.op types os) (renamed_action slot_of (action (setting_in m) (data_in m h) type (row_of (trees_of m) r)))
+  action_is trees type r types os result operands sources =
       let t = trees_of m in
-      let same_types = operands ∙ sym (mapped_twice (operand_type (data_in m h)) (operand_of t) r.operands) in
+      let same_types = subst (AllStand trees types.operands) (sym (mapped_twice (operand_type (data_in m h)) (operand_of t) r.operands)) operands in
       let same_sources = sources ∙ sym (ap (map (renamed slot_of)) (mapped_twice (operand (setting_in m)) (operand_of t) r.operands) ∙ mapped_twice (renamed slot_of) (λ (v : LLVMValue). operand (setting_in m) (operand_of t v)) r.operands) in
-      applies_same r.op _ _ _ _ _ _ result same_types same_sources
+      applies trees r.op types os type _ _ result same_types same_sources
 
   -- the row of the data of an instruction
   row_shown : (p : Placed) (inst : LLVMInst) → p.instruction ≡ instruction_of (trees_of m) inst → row_in m h p ≡ option_map (renamed_row slot_of) (row (setting_in m) (data_in m h) p (instruction_of (trees_of m) inst))
   row_shown p inst e = ap (λ (j : Instruction). option_map (renamed_row slot_of) (row (setting_in m) (data_in m h) p j)) e
 
-  pub row_is : (b : ℕ) (i : LLVMInstRef) (p : Placed) (r : Row) (a : Action) → IsRowIn m h b i p r → action_of a ≡ renamed_action slot_of (action (setting_in m) (data_in m h) p.type (row_of (trees_of m) r)) → row_in m h p ≡ Some (row_of_body (record { action = a; result = Result i.0 }))
-  row_is b i p r a at is =
+  pub row_is : (b : ℕ) (i : LLVMInstRef) (p : Placed) (r : Row) → IsRowIn m h b i p r → row_in m h p ≡ Some (record { action = renamed_action slot_of (action (setting_in m) (data_in m h) p.type (row_of (trees_of m) r)); result = Result i.0 })
+  row_is b i p r at =
       let k = kept_at m h b i p at.placed in
       let number : i.0 ≡ p.number = sym (ap (λ (q : Placed). q.number) k.is) in
-      row_shown p (I.Row r) (kept_inst m i p (I.Row r) k at.is) ∙ sym (row_same (action_of a) (renamed_action slot_of (action (setting_in m) (data_in m h) p.type (row_of (trees_of m) r))) i.0 p.number is number)
+      let x = renamed_action slot_of (action (setting_in m) (data_in m h) p.type (row_of (trees_of m) r)) in
+      row_shown p (I.Row r) (kept_inst m i p (I.Row r) k at.is) ∙ sym (row_same x x i.0 p.number refl number)
 
   -- a phi has none
   pub no_row : (b : ℕ) (i : LLVMInstRef) (p : Placed) (t : LLVMType) (es : List PhiEntry) → IsPlacedIn m h b i p → option_map (λ (x : InstData). x.inst) (slice_get m.insts i.0) ≡ Some (I.Phi t es) → row_in m h p ≡ None

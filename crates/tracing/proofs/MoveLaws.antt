@@ -17,6 +17,7 @@ use Rattle.tracing.specs.declared.body.Source.{Source}
 use Rattle.tracing.specs.declared.body.Edge.{Edge}
 use Rattle.tracing.specs.declared.body.Block.{Block}
 use Rattle.tracing.specs.declared.run.Run.{Run}
+use Rattle.llvm_core.specs.Data.{TypeTree}
 use Rattle.tracing.specs.Bodies.{same_slot, given, moves_from, params_at, edge_of, block_of, code_of, row_of, start_of}
 use Rattle.tracing.specs.Runs.{Names, AllNamed, Keeps, IsAt, IsJumped, set_each, with_each}
 use Rattle.tracing.proofs.RunLaws.{named_push, at_alike}
@@ -41,11 +42,11 @@ abbrev pub taken : (Slot → Term) → List Move → List Term
 taken env ms = map (λ (m : Move). M.read_move env m.1) ms
 
 -- one phi or argument more is read
-pub moves_read : (old new : List TermNode) (env : Slot → Term) (ps : List Slot) (os : List (Option Source)) (i : ℕ) (d : Slot) (ks : List ℕ) (k : ℕ) → i < length ps → Keeps old new → AllNamed old ks (taken env (moves_from 0 (take i ps) os)) → Names new k (M.read_move env (given os i))
-    → AllNamed new (ks ++ k ∷ []) (taken env (moves_from 0 (take (i + 1) ps) os))
-moves_read old new env ps os i d ks k lt keeps h named =
+pub moves_read : (trees : List TypeTree) (old new : List TermNode) (env : Slot → Term) (ps : List Slot) (os : List (Option Source)) (i : ℕ) (d : Slot) (ks : List ℕ) (k : ℕ) → i < length ps → Keeps trees old new → AllNamed trees old ks (taken env (moves_from 0 (take i ps) os)) → Names trees new k (M.read_move env (given os i))
+    → AllNamed trees new (ks ++ k ∷ []) (taken env (moves_from 0 (take (i + 1) ps) os))
+moves_read trees old new env ps os i d ks k lt keeps h named =
     let e = ap (taken env) (moves_step ps os i d lt) ∙ map-append (λ (m : Move). M.read_move env m.1) (moves_from 0 (take i ps) os) ((get_or ps i d, given os i) ∷ []) in
-    subst (AllNamed new (ks ++ k ∷ [])) (sym e) (named_push old new ks (taken env (moves_from 0 (take i ps) os)) k (M.read_move env (given os i)) keeps h named)
+    subst (AllNamed trees new (ks ++ k ∷ [])) (sym e) (named_push trees old new ks (taken env (moves_from 0 (take i ps) os)) k (M.read_move env (given os i)) keeps h named)
 
 -- ---- values are set
 
@@ -60,22 +61,22 @@ set_step env vs ts i d u lt lt' =
     let e : length (take i vs) ≡ length (take i ts) = omega (arith, length-take-le i vs (omega arith), length-take-le i ts (omega arith)) in
     ap (λ ws. set_each env ws (take (i + 1) ts)) (take_more vs i d lt) ∙ ap (set_each env (take i vs ++ get_or vs i d ∷ [])) (take_more ts i u lt') ∙ set_push env (take i vs) (take i ts) (get_or vs i d) (get_or ts i u) e
 
-pub named_at : (ns : List TermNode) (ks : List ℕ) (ts : List Term) (i d : ℕ) (u : Term) → i < length ks → AllNamed ns ks ts → Names ns (get_or ks i d) (get_or ts i u)
-named_at ns [] [] i d u lt h = absurd (omega arith)
-named_at ns (k ∷ ks) (t ∷ ts) zero d u lt h = h.0
-named_at ns (k ∷ ks) (t ∷ ts) (suc i) d u lt h = named_at ns ks ts i d u (omega arith) h.1
-named_at ns [] (t ∷ ts) i d u lt h = elim h [ ]
-named_at ns (k ∷ ks) [] i d u lt h = elim h [ ]
+pub named_at : (trees : List TypeTree) (ns : List TermNode) (ks : List ℕ) (ts : List Term) (i d : ℕ) (u : Term) → i < length ks → AllNamed trees ns ks ts → Names trees ns (get_or ks i d) (get_or ts i u)
+named_at trees ns [] [] i d u lt h = absurd (omega arith)
+named_at trees ns (k ∷ ks) (t ∷ ts) zero d u lt h = h.0
+named_at trees ns (k ∷ ks) (t ∷ ts) (suc i) d u lt h = named_at trees ns ks ts i d u (omega arith) h.1
+named_at trees ns [] (t ∷ ts) i d u lt h = elim h [ ]
+named_at trees ns (k ∷ ks) [] i d u lt h = elim h [ ]
 
-pub named_length : (ns : List TermNode) (ks : List ℕ) (ts : List Term) → AllNamed ns ks ts → length ks ≡ length ts
-named_length ns [] [] h = refl
-named_length ns (k ∷ ks) (t ∷ ts) h = ap suc (named_length ns ks ts h.1)
-named_length ns [] (t ∷ ts) h = elim h [ ]
-named_length ns (k ∷ ks) [] h = elim h [ ]
+pub named_length : (trees : List TypeTree) (ns : List TermNode) (ks : List ℕ) (ts : List Term) → AllNamed trees ns ks ts → length ks ≡ length ts
+named_length trees ns [] [] h = refl
+named_length trees ns (k ∷ ks) (t ∷ ts) h = ap suc (named_length trees ns ks ts h.1)
+named_length trees ns [] (t ∷ ts) h = elim h [ ]
+named_length trees ns (k ∷ ks) [] h = elim h [ ]
 
-pub with_all : (r : Run) (s : State Slot) (vs : List Slot) (ts : List Term) (i : ℕ) → length vs ≤ i → length ts ≤ i → IsAt r (with_each s (take i vs) (take i ts)) → IsAt r (with_each s vs ts)
-with_all r s vs ts i le le' h =
-    at_alike r (with_each s (take i vs) (take i ts)) (with_each s vs ts) refl (λ w. ap (λ us. set_each s.env us ts w) (sym (take_all i vs le)) ∙ ap (λ us. set_each s.env (take i vs) us w) (sym (take_all i ts le'))) refl refl h
+pub with_all : (trees : List TypeTree) (r : Run) (s : State Slot) (vs : List Slot) (ts : List Term) (i : ℕ) → length vs ≤ i → length ts ≤ i → IsAt trees r (with_each s (take i vs) (take i ts)) → IsAt trees r (with_each s vs ts)
+with_all trees r s vs ts i le le' h =
+    at_alike trees r (with_each s (take i vs) (take i ts)) (with_each s vs ts) refl (λ w. ap (λ us. set_each s.env us ts w) (sym (take_all i vs le)) ∙ ap (λ us. set_each s.env (take i vs) us w) (sym (take_all i ts le'))) refl refl h
 
 -- all moves of an edge are read in the environment before it
 moved_each : (before env : Slot → Term) (ms : List Move) → M.moved Slot same_slot before env ms ≡ set_each env (map (λ (m : Move). m.0) ms) (taken before ms)
@@ -86,57 +87,57 @@ moves_params : (n : ℕ) (ps : List Slot) (os : List (Option Source)) → map (�
 moves_params n [] os = refl
 moves_params n (p ∷ ps) os = ap (λ (qs : List Slot). p ∷ qs) (moves_params (suc n) ps os)
 
-pub moved_at : (r : Run) (s : State Slot) (ps : List Slot) (os : List (Option Source)) → IsAt r (with_each s ps (taken s.env (moves_from 0 ps os))) → IsAt r (M.move Slot same_slot s (moves_from 0 ps os))
-moved_at r s ps os h =
+pub moved_at : (trees : List TypeTree) (r : Run) (s : State Slot) (ps : List Slot) (os : List (Option Source)) → IsAt trees r (with_each s ps (taken s.env (moves_from 0 ps os))) → IsAt trees r (M.move Slot same_slot s (moves_from 0 ps os))
+moved_at trees r s ps os h =
     let e = moved_each s.env s.env (moves_from 0 ps os) ∙ ap (λ qs. set_each s.env qs (taken s.env (moves_from 0 ps os))) (moves_params 0 ps os) in
-    at_alike r (with_each s ps (taken s.env (moves_from 0 ps os))) (M.move Slot same_slot s (moves_from 0 ps os)) refl (λ v. ap (λ (f : Slot → Term). f v) e) refl refl h
+    at_alike trees r (with_each s ps (taken s.env (moves_from 0 ps os))) (M.move Slot same_slot s (moves_from 0 ps os)) refl (λ v. ap (λ (f : Slot → Term). f v) e) refl refl h
 
 -- ---- jumps
 
-block_there : (params : List (List Slot)) (bs : List Block) (i : ℕ) → slice_get (code_of params bs) i ≡ option_map (block_of params) (slice_get bs i)
-block_there params bs i = slice_get-map (block_of params) bs i
+block_there : (trees : List TypeTree) (params : List (List Slot)) (bs : List Block) (i : ℕ) → slice_get (code_of trees params bs) i ≡ option_map (block_of trees params) (slice_get bs i)
+block_there trees params bs i = slice_get-map (block_of trees params) bs i
 
-module _ (params : List (List Slot)) (bs : List Block) (s : State Slot) (choice : ℕ) where
+module _ (trees : List TypeTree) (params : List (List Slot)) (bs : List Block) (s : State Slot) (choice : ℕ) where
   abbrev pub jumped : Option (State Slot)
-  jumped = M.jump Slot same_slot (code_of params bs) s choice
+  jumped = M.jump Slot same_slot (code_of trees params bs) s choice
 
   pub no_block : slice_get bs s.block ≡ None → jumped ≡ None
-  no_block h = ap (λ (b : Option (M.Block Slot)). M.take_edge Slot same_slot (code_of params bs) s (M.edge_of Slot same_slot b choice)) (block_there params bs s.block ∙ ap (option_map (block_of params)) h)
+  no_block h = ap (λ (b : Option (M.Block Slot)). M.take_edge Slot same_slot (code_of trees params bs) s (M.edge_of Slot same_slot b choice)) (block_there trees params bs s.block ∙ ap (option_map (block_of trees params)) h)
 
-  taken_edge : (b : Block) (e : Option Edge) → slice_get bs s.block ≡ Some b → slice_get b.edges choice ≡ e → jumped ≡ M.take_edge Slot same_slot (code_of params bs) s (option_map (edge_of params) e)
+  taken_edge : (b : Block) (e : Option Edge) → slice_get bs s.block ≡ Some b → slice_get b.edges choice ≡ e → jumped ≡ M.take_edge Slot same_slot (code_of trees params bs) s (option_map (edge_of params) e)
   taken_edge b e h k =
-      ap (λ (b : Option (M.Block Slot)). M.take_edge Slot same_slot (code_of params bs) s (M.edge_of Slot same_slot b choice)) (block_there params bs s.block ∙ ap (option_map (block_of params)) h)
-      ∙ ap (M.take_edge Slot same_slot (code_of params bs) s) (slice_get-map (edge_of params) b.edges choice ∙ ap (option_map (edge_of params)) k)
+      ap (λ (b : Option (M.Block Slot)). M.take_edge Slot same_slot (code_of trees params bs) s (M.edge_of Slot same_slot b choice)) (block_there trees params bs s.block ∙ ap (option_map (block_of trees params)) h)
+      ∙ ap (M.take_edge Slot same_slot (code_of trees params bs) s) (slice_get-map (edge_of params) b.edges choice ∙ ap (option_map (edge_of params)) k)
 
   pub no_edge : (b : Block) → slice_get bs s.block ≡ Some b → slice_get b.edges choice ≡ None → jumped ≡ None
   no_edge b h k = taken_edge b None h k
 
   pub no_target : (b : Block) (e : Edge) → slice_get bs s.block ≡ Some b → slice_get b.edges choice ≡ Some e → slice_get bs e.to ≡ None → jumped ≡ None
-  no_target b e h k l = taken_edge b (Some e) h k ∙ ap (M.follow Slot same_slot s (edge_of params e)) (block_there params bs e.to ∙ ap (option_map (block_of params)) l)
+  no_target b e h k l = taken_edge b (Some e) h k ∙ ap (M.follow Slot same_slot s (edge_of params e)) (block_there trees params bs e.to ∙ ap (option_map (block_of trees params)) l)
 
   pub goes : (b : Block) (e : Edge) (t : Block) → slice_get bs s.block ≡ Some b → slice_get b.edges choice ≡ Some e → slice_get bs e.to ≡ Some t
-      → jumped ≡ Some (M.arrive Slot same_slot (M.move Slot same_slot s (moves_from 0 (params_at params e.to) e.sources)) e.to (map row_of t.rows))
+      → jumped ≡ Some (M.arrive Slot same_slot (M.move Slot same_slot s (moves_from 0 (params_at params e.to) e.sources)) e.to (map (row_of trees) t.rows))
   goes b e t h k l =
-      taken_edge b (Some e) h k ∙ ap (M.follow Slot same_slot s (edge_of params e)) (block_there params bs e.to ∙ ap (option_map (block_of params)) l)
+      taken_edge b (Some e) h k ∙ ap (M.follow Slot same_slot s (edge_of params e)) (block_there trees params bs e.to ∙ ap (option_map (block_of trees params)) l)
 
 pub found : {A : Type 0} (xs : List A) (i : ℕ) (x : A) → i < length xs → x ≡ get_or xs i x → slice_get xs i ≡ Some x
 found xs i x lt e = slice_get-get_or xs i x lt ∙ ap Some (sym e)
 
-pub stays : (r : Run) (s : State Slot) (o : Option (State Slot)) → o ≡ None → IsAt r s → IsJumped r false s o
-stays r s o none h = subst (IsJumped r false s) (sym none) h
+pub stays : (trees : List TypeTree) (r : Run) (s : State Slot) (o : Option (State Slot)) → o ≡ None → IsAt trees r s → IsJumped trees r false s o
+stays trees r s o none h = subst (IsJumped trees r false s) (sym none) h
 
-pub leads : (r : Run) (s s' : State Slot) (o : Option (State Slot)) → o ≡ Some s' → IsAt r s' → IsJumped r true s o
-leads r s s' o some h = subst (IsJumped r true s) (sym some) h
+pub leads : (trees : List TypeTree) (r : Run) (s s' : State Slot) (o : Option (State Slot)) → o ≡ Some s' → IsAt trees r s' → IsJumped trees r true s o
+leads trees r s s' o some h = subst (IsJumped trees r true s) (sym some) h
 
 -- ---- choices
 
-pub stopped : (r : Run) (s : State Slot) (o : Option (State Slot)) → IsJumped r false s o → (o ≡ None) × IsAt r s
-stopped r s None h = (refl, h)
-stopped r s (Some s') h = absurd h
+pub stopped : (trees : List TypeTree) (r : Run) (s : State Slot) (o : Option (State Slot)) → IsJumped trees r false s o → (o ≡ None) × IsAt trees r s
+stopped trees r s None h = (refl, h)
+stopped trees r s (Some s') h = absurd h
 
-pub went : (r : Run) (s : State Slot) (o : Option (State Slot)) → IsJumped r true s o → (s' : State Slot) × (o ≡ Some s') × IsAt r s'
-went r s None h = absurd h
-went r s (Some s') h = (s', refl, h)
+pub went : (trees : List TypeTree) (r : Run) (s : State Slot) (o : Option (State Slot)) → IsJumped trees r true s o → (s' : State Slot) × (o ≡ Some s') × IsAt trees r s'
+went trees r s None h = absurd h
+went trees r s (Some s') h = (s', refl, h)
 
 module _ (code : List (M.Block Slot)) (cs : List ℕ) (i d : ℕ) (lt : i < length cs) (s : State Slot) where
   one_choice : M.run Slot same_slot code (drop i cs) s ≡ M.go_on Slot same_slot s (M.run Slot same_slot code (drop (suc i) cs)) (M.jump Slot same_slot code s (get_or cs i d))
@@ -174,5 +175,8 @@ pub start_step : (h p : ℕ) (v : Slot) → start_of h (p + 1) v ≡ M.set Slot 
 start_step h p (Input g i) = start_more h p g i (nat_eq g h) (nat_eq p i) refl refl
 start_step h p (Result n) = refl
 
-pub first_is : (start : Slot → Term) (params : List (List Slot)) (bs : List Block) (b : Block) → slice_get bs 0 ≡ Some b → M.first Slot same_slot start (code_of params bs) ≡ M.arrive Slot same_slot (M.begin Slot same_slot start) 0 (map row_of b.rows)
-first_is start params bs b h = ap (M.enter_first Slot same_slot start) (block_there params bs 0 ∙ ap (option_map (block_of params)) h)
+pub first_none : (trees : List TypeTree) (start : Slot → Term) (params : List (List Slot)) (bs : List Block) → slice_get bs 0 ≡ None → M.first Slot same_slot start (code_of trees params bs) ≡ M.begin Slot same_slot start
+first_none trees start params bs h = ap (M.enter_first Slot same_slot start) (block_there trees params bs 0 ∙ ap (option_map (block_of trees params)) h)
+
+pub first_is : (trees : List TypeTree) (start : Slot → Term) (params : List (List Slot)) (bs : List Block) (b : Block) → slice_get bs 0 ≡ Some b → M.first Slot same_slot start (code_of trees params bs) ≡ M.arrive Slot same_slot (M.begin Slot same_slot start) 0 (map (row_of trees) b.rows)
+first_is trees start params bs b h = ap (M.enter_first Slot same_slot start) (block_there trees params bs 0 ∙ ap (option_map (block_of trees params)) h)

@@ -6,15 +6,15 @@ use Rattle.std.specs.Prelude.{nat_eq, ◌&&◌}
 use Rattle.std.proofs.lemmas.Bool.{and_parts}
 use Rattle.llvm_core.specs.Keys.{same_text}
 use Rattle.kinds.specs.contracts.op.OpPartialEq.TheImpl as ops
-use Rattle.tracing.specs.declared.table.ValueType.{ValueType}
+use Rattle.llvm_core.specs.declared.numbers.LLVMType.{LLVMType}
 use Rattle.tracing.specs.declared.table.TermNode.{TermNode}
 use Rattle.tracing.specs.declared.table.TermNode.TheVariants as N
-use Rattle.tracing.specs.contracts.table.ValueTypePartialEq.TheImpl as types
+use Rattle.llvm_core.specs.contracts.numbers.LLVMTypePartialEq.TheImpl as types
 use Rattle.tracing.specs.contracts.table.TermNodePartialEq.TheImpl as nodes
 use Rattle.tracing.specs.contracts.table.TermNodeEq.TheImpl.Laws as node_eq
 use Rattle.kinds.proofs.OpLaws.{same_op}
 
-same_type : (a b : ValueType) → types.eq-value.it a b ≡ true → a ≡ b
+same_type : (a b : LLVMType) → types.eq-value.it a b ≡ true → a ≡ b
 same_type a b h = grind arith
 
 pub same_node : (a b : TermNode) → nodes.eq-value.it a b ≡ true → a ≡ b

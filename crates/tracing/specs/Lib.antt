@@ -1,4 +1,6 @@
 -- The definitions that clauses cite.
+pub mod Types
+pub mod TypePlaces
 pub mod Table
 pub mod Bodies
 pub mod Runs

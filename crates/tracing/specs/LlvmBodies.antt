@@ -3,8 +3,6 @@ use Rattle.std.specs.Prelude.{◌≡◌, ℕ, false, List, [], Option, Some, Non
 use Rattle.indexmap.specs.IndexMap.{get}
 use Rattle.std.specs.List.{filter_map, position_or_len}
 use Rattle.std.specs.Option.{option_map, option_map_or}
-use Rattle.kinds.specs.Types.{shape}
-use Rattle.kinds.specs.Fitting.{is_function}
 use Rattle.llvm_core.specs.declared.numbers.LLVMInstRef.{LLVMInstRef}
 use Rattle.llvm_core.specs.declared.numbers.LLVMBasicBlock.{LLVMBasicBlock}
 use Rattle.llvm_core.specs.declared.code.LLVMValue.{LLVMValue}
@@ -55,15 +53,10 @@ setting_in m = setting_of (data_of m)
 abbrev pub operand_in : Module → LLVMValue → M.Operand Slot
 operand_in m v = renamed slot_of (operand (setting_in m) (operand_of (trees_of m) v))
 
--- no type of a function
-abbrev pub IsNoFunction : L.TypeTree → Type 0
-IsNoFunction t = is_function (shape t) ≡ false
-
--- the value is one of the function, and no function
+-- the value is one of the function
 pub record IsUsed (m : Module) (h : InChecked m) (v : LLVMValue) : Type 0 where
   pub here : IsValue m v
   pub inside : is_outside m (record { 0 = h.number }) v ≡ false
-  pub plain : IsNoFunction (operand_type (data_in m h) (operand_of (trees_of m) v))
 
 -- the instruction i is p, of the block of the number b and of the function
 pub record IsPlacedIn (m : Module) (h : InChecked m) (b : ℕ) (i : LLVMInstRef) (p : Placed) : Type 0 where

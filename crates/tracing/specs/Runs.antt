@@ -1,5 +1,5 @@
 -- A run as the program keeps it, beside the machine's state.
-use Rattle.std.specs.Prelude.{◌≡◌, ◌<◌, ℕ, Bool, true, false, List, [], ◌∷◌, Option, Some, None, All, map, slice_get}
+use Rattle.std.specs.Prelude.{◌≡◌, ◌<◌, ℕ, Bool, true, false, List, [], ◌∷◌, Option, Some, None, All, length, map, slice_get}
 use Rattle.indexmap.specs.IndexMap.{get}
 use Rattle.kinds.specs.declared.rules.Family.{Family}
 use Rattle.kinds.specs.declared.rules.Family.TheVariants.{Shows, Builds}
@@ -9,59 +9,88 @@ use Rattle.meaning.specs.Machine.{Item, State}
 use Rattle.meaning.specs.Pairs.{Matched}
 use Rattle.tracing.specs.declared.table.TermNode.{TermNode}
 use Rattle.tracing.specs.declared.body.Slot.{Slot}
+use Rattle.llvm_core.specs.Data.{TypeTree, type_at, type_trees}
+use Rattle.support.specs.Interned.{IsDistinctList}
+use Rattle.tracing.specs.declared.trace.Trace.{Trace}
 use Rattle.tracing.specs.declared.trace.TraceItem.{TraceItem}
 use Rattle.tracing.specs.declared.trace.TraceItem.TheVariants.{Block, Event}
 use Rattle.tracing.specs.declared.run.Run.{Run}
-use Rattle.tracing.specs.Table.{tree_of, terms, term_at}
+use Rattle.tracing.specs.Types.{AreOver, Stands, AllStand, HasTypesBelow}
+use Rattle.tracing.specs.Table.{terms, term_at, IsGrounded, AreTyped}
 use Rattle.tracing.specs.Bodies.{same_slot}
 
 -- ---- items
 
--- an item, with its operands looked up in the table
-abbrev pub item_of : List Term → TraceItem → Item
-item_of ts (Block b) = M.Entered b
-item_of ts (Event o types ks) = M.Event o (tree_of types.result) (map tree_of types.operands) (map (term_at ts) ks.items)
+-- an item, with its types looked up among those trees, and its operands among those terms
+abbrev pub item_of : List TypeTree → List Term → TraceItem → Item
+item_of trees ts (Block b) = M.Entered b
+item_of trees ts (Event o types ks) = M.Event o (type_at trees types.result) (map (type_at trees) types.operands) (map (term_at ts) ks.items)
 
--- the operands of an item are places below n
-abbrev pub HasPlacesBelow : ℕ → TraceItem → Type 0
-HasPlacesBelow n (Block b) = Unit {0}
-HasPlacesBelow n (Event o types ks) = All (λ (k : ℕ). k < n) ks.items
+-- the types of an item are numbers below m, and its operands places below n
+abbrev pub HasPlacesBelow : (m n : ℕ) → TraceItem → Type 0
+HasPlacesBelow m n (Block b) = Unit {0}
+HasPlacesBelow m n (Event o types ks) = HasTypesBelow m types × All (λ (k : ℕ). k < n) ks.items
+
+-- ---- a trace
+
+-- its items, with what they name looked up in its tables
+abbrev pub items_of : Trace → List Item
+items_of t = map (item_of (type_trees t.types) (terms (type_trees t.types) t.terms)) t.items.items
+
+-- what its tables hold: no type and no term stands twice, read as trees, and what a type, a term or an item names is there
+pub record HasTables (t : Trace) : Type 0 where
+  pub types_shared : IsDistinctList (type_trees t.types)
+  -- the parts of a type stand before it
+  pub types_parts : AreOver t.types
+  pub shared : IsDistinctList (terms (type_trees t.types) t.terms)
+  -- the parts of a term stand before it
+  pub parts : IsGrounded t.terms
+  -- the type of a term is one of the table's
+  pub typed : AreTyped (length t.types) t.terms
+  -- and so are the types of an item, and its operands
+  pub within : All (HasPlacesBelow (length t.types) (length t.terms)) t.items.items
 
 -- ---- while it runs
 
--- the term stands at that place
-abbrev pub Names : List TermNode → ℕ → Term → Type 0
-Names ns k t = slice_get (terms ns) k ≡ Some t
+module _ (trees : List TypeTree) where
+  -- the term stands at that place
+  abbrev pub Names : List TermNode → ℕ → Term → Type 0
+  Names ns k t = slice_get (terms trees ns) k ≡ Some t
 
--- the terms stand at those places
-abbrev pub AllNamed : List TermNode → List ℕ → List Term → Type 0
-AllNamed ns ks ts = Matched (Names ns) ks ts
+  -- the terms stand at those places
+  abbrev pub AllNamed : List TermNode → List ℕ → List Term → Type 0
+  AllNamed ns ks ts = Matched (Names ns) ks ts
 
--- a value has the term at its place, and none where it has no place
-abbrev pub Reads : List TermNode → Option ℕ → Term → Type 0
-Reads ns None t = t ≡ Unset
-Reads ns (Some k) t = Names ns k t
+  -- a value has the term at its place, and none where it has no place
+  abbrev pub Reads : List TermNode → Option ℕ → Term → Type 0
+  Reads ns None t = t ≡ Unset
+  Reads ns (Some k) t = Names ns k t
 
-abbrev pub ShowsItem : List TermNode → TraceItem → Item → Type 0
-ShowsItem ns (Block b) (M.Entered c) = b ≡ c
-ShowsItem ns (Event o types ks) (M.Event p ty tys ts) = (o ≡ p) × (tree_of types.result ≡ ty) × (map tree_of types.operands ≡ tys) × AllNamed ns ks.items ts
-ShowsItem ns (Block b) (M.Event p ty tys ts) = ⊥
-ShowsItem ns (Event o types ks) (M.Entered c) = ⊥
+  abbrev pub ShowsItem : List TermNode → TraceItem → Item → Type 0
+  ShowsItem ns (Block b) (M.Entered c) = b ≡ c
+  ShowsItem ns (Event o types ks) (M.Event p ty tys ts) = (o ≡ p) × Stands trees types.result ty × AllStand trees types.operands tys × AllNamed ns ks.items ts
+  ShowsItem ns (Block b) (M.Event p ty tys ts) = ⊥
+  ShowsItem ns (Event o types ks) (M.Entered c) = ⊥
 
--- the run is at that state, whether or not it has read an unset value
-pub record IsAt (r : Run) (s : State Slot) : Type 0 where
-  pub block : r.block ≡ s.block
-  pub count : r.count ≡ s.count
-  pub env : (v : Slot) → Reads r.table (get same_slot r.env v) (s.env v)
-  pub shown : Matched (ShowsItem r.table) r.items.items s.shown
+  -- the run is at that state, whether or not it has read an unset value
+  pub record IsAt (r : Run) (s : State Slot) : Type 0 where
+    pub block : r.block ≡ s.block
+    pub count : r.count ≡ s.count
+    pub typed : AreTyped (length trees) r.table
+    pub env : (v : Slot) → Reads r.table (get same_slot r.env v) (s.env v)
+    pub shown : Matched (ShowsItem r.table) r.items.items s.shown
+
+  -- what stood at a place stands there
+  abbrev pub Keeps : List TermNode → List TermNode → Type 0
+  Keeps old new = (k : ℕ) (t : Term) → Names old k t → Names new k t
 
 -- it is at a state
 abbrev pub IsRun : Run → Type 0
-IsRun r = (s : State Slot) × IsAt r s
+IsRun r = (trees : List TypeTree) × (s : State Slot) × IsAt trees r s
 
--- what stood at a place stands there
-abbrev pub Keeps : List TermNode → List TermNode → Type 0
-Keeps old new = (k : ℕ) (t : Term) → Names old k t → Names new k t
+-- it is at a state, by as many types as are asked for
+abbrev pub IsRunOver : (ℕ → Type 0) → Run → Type 0
+IsRunOver P r = (trees : List TypeTree) × (s : State Slot) × P (length trees) × IsAt trees r s
 
 abbrev pub is_built : Family → Bool
 is_built Shows = false
@@ -77,7 +106,7 @@ abbrev pub with_each : State Slot → List Slot → List Term → State Slot
 with_each s vs ts = record s { env = set_each s.env vs ts }
 
 -- the run is where the jump leads, and where it was if there is no jump
-abbrev pub IsJumped : Run → Bool → State Slot → Option (State Slot) → Type 0
-IsJumped r true s (Some s') = IsAt r s'
-IsJumped r false s None = IsAt r s
-IsJumped r _ s _ = ⊥
+abbrev pub IsJumped : List TypeTree → Run → Bool → State Slot → Option (State Slot) → Type 0
+IsJumped trees r true s (Some s') = IsAt trees r s'
+IsJumped trees r false s None = IsAt trees r s
+IsJumped trees r _ s _ = ⊥

@@ -1,40 +1,26 @@
 -- Terms in a table, each with its parts by the places of earlier ones.
 use Rattle.std.specs.Prelude.{◌≡◌, ◌<◌, ℕ, List, [], ◌++◌, Some, All, map, slice_get, slice_index_or}
-use Rattle.kinds.specs.Types.{TypeTree, VoidType, IntType, PointerType, FloatingType, RefusedType}
-use Rattle.llvm_core.specs.Data.{trees_after}
+use Rattle.llvm_core.specs.Data.{TypeTree, trees_after, type_at}
 use Rattle.meaning.specs.Terms as M
 use Rattle.meaning.specs.Terms.{Term, Unset, terms_of}
-use Rattle.tracing.specs.declared.table.ValueType.{ValueType}
-use Rattle.tracing.specs.declared.table.ValueType.TheVariants as T
 use Rattle.tracing.specs.declared.table.TermNode.{TermNode}
 use Rattle.tracing.specs.declared.table.TermNode.TheVariants as N
-
--- ---- the type of a term or of an item, a line for each
-
-abbrev pub tree_of : ValueType → TypeTree
-tree_of T.Void = VoidType
-tree_of (T.Int w) = IntType w
-tree_of (T.Pointer space) = PointerType space
-tree_of (T.Floating of) = FloatingType of
-tree_of (T.Other of) = RefusedType of
-
--- ---- terms
 
 -- the term at a place
 abbrev pub term_at : List Term → ℕ → Term
 term_at ts k = slice_index_or ts k Unset
 
--- the term of a node, whose parts are among those terms
-abbrev pub node_term : List Term → TermNode → Term
-node_term ts (N.Param i) = M.Param i
-node_term ts (N.Answer n) = M.Answer n
-node_term ts N.Unset = Unset
-node_term ts (N.Int w v) = M.Int w v
-node_term ts (N.Expr o ty ks) = M.Expr o (tree_of ty) (terms_of (map (term_at ts) ks))
+-- the term of a node, whose type is among those trees and its parts among those terms
+abbrev pub node_term : List TypeTree → List Term → TermNode → Term
+node_term trees ts (N.Param i) = M.Param i
+node_term trees ts (N.Answer n) = M.Answer n
+node_term trees ts N.Unset = Unset
+node_term trees ts (N.Int w v) = M.Int w v
+node_term trees ts (N.Expr o ty ks) = M.Expr o (type_at trees ty) (terms_of (map (term_at ts) ks))
 
--- the terms of a table, each made of earlier ones
-abbrev pub terms : List TermNode → List Term
-terms ns = trees_after node_term [] ns
+-- the terms of a table, each made of earlier ones, with types among those trees
+abbrev pub terms : List TypeTree → List TermNode → List Term
+terms trees ns = trees_after (node_term trees) [] ns
 
 -- the parts of a node are places below n
 abbrev pub HasPartsBelow : ℕ → TermNode → Type 0
@@ -45,8 +31,17 @@ HasPartsBelow n _ = Unit {0}
 abbrev pub IsGrounded : List TermNode → Type 0
 IsGrounded ns = (i : ℕ) (n : TermNode) → slice_get ns i ≡ Some n → HasPartsBelow i n
 
+-- the type of a node is a number below n
+abbrev pub HasTypeBelow : ℕ → TermNode → Type 0
+HasTypeBelow n (N.Expr o ty ks) = ty.0 < n
+HasTypeBelow n _ = Unit {0}
+
+-- the types of all are numbers below n
+abbrev pub AreTyped : ℕ → List TermNode → Type 0
+AreTyped n ns = (i : ℕ) (x : TermNode) → slice_get ns i ≡ Some x → HasTypeBelow n x
+
 -- the table has grown at its end or not at all, and the term stands at that place
-pub record Gives (old new : List TermNode) (k : ℕ) (t : Term) : Type 0 where
+pub record Gives (trees : List TypeTree) (old new : List TermNode) (k : ℕ) (t : Term) : Type 0 where
   pub more : List TermNode
   pub grown : new ≡ old ++ more
-  pub here : slice_get (terms new) k ≡ Some t
+  pub here : slice_get (terms trees new) k ≡ Some t

@@ -1,6 +1,7 @@
 //! What runs see of the body of a function, whichever side it is of.
 
 use crate::trace::Types;
+use crate::type_table::TypeTable;
 use kinds::op::Op;
 use support::items::Items;
 
@@ -57,10 +58,11 @@ pub struct Block {
     pub edges: Items<Edge>,
 }
 
-/// A body: what its parameters are handed to and how many there are, the phis or arguments of each block, and its
-/// blocks.
+/// A body: the types that its rows name, what its parameters are handed to and how many there are, the phis or arguments
+/// of each block, and its blocks.
 #[derive(Drop)]
 pub struct Body {
+    pub types: TypeTable,
     pub holder: u32,
     pub inputs: u32,
     pub params: Items<Items<Slot>>,

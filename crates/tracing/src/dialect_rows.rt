@@ -1,6 +1,6 @@
 //! The operations of a function of the dialect, as rows of a body.
 
-ghost use Rattle.std.specs.Prelude.{◌≡◌, ◌<◌, ℕ, List, All, IfOk, IfSome, Some, length, map, slice_get};
+ghost use Rattle.std.specs.Prelude.{◌≡◌, ◌<◌, ℕ, List, All, IfOk, OnOk, IfSome, Some, length, map, slice_get};
 ghost use Rattle.kinds.specs.Held.{IsFirstClass};
 ghost use Rattle.dialect_types.specs.declared.attrs.ConstAttr.TheVariants as attrs;
 ghost use Rattle.dialect_types.specs.Trees.{TypeTree, IntType, IntegerAttr, HasTypesBelow, type_at, type_trees, attr_tree};
@@ -10,37 +10,25 @@ ghost use Rattle.meaning.specs.Machine as machine;
 ghost use Rattle.meaning.specs.Setting.{Setting};
 ghost use Rattle.meaning.specs.Dialect as dialect;
 ghost use Rattle.meaning.specs.Dialect.{option_type};
-ghost use Rattle.tracing.specs.Table.{tree_of};
-ghost use Rattle.tracing.specs.Bodies.{source_of, action_of, row_of};
+ghost use Rattle.tracing.specs.Types.{AllStand, Stands};
+ghost use Rattle.tracing.specs.TypePlaces.{trees_in, ArePlacesOf, IsGrown};
+ghost use Rattle.tracing.specs.Bodies.{source_of, action_of, IsAction, AreRows};
 ghost use Rattle.tracing.specs.Renamed.{renamed_action, renamed_row};
 ghost use Rattle.tracing.specs.DialectBodies.{slot_of, InContext, AreOpsIn, IsOpIn, IsUsed, rows_of};
 
 use crate::body::{Action, Row, Slot, Source};
-use crate::table::ValueType;
+use crate::dialect_typing::place;
 use crate::trace::Types;
+use crate::type_places::TypePlaces;
 use dialect_core::context::Context;
 use dialect_core::numbers::{BlockRef, OpRef};
 use dialect_core::ops::{OpKind, Value};
 use dialect_types::attrs::ConstAttr;
 use dialect_types::types::{TypeHandle, TypeKind};
 use kinds::op::Op;
+use llvm_core::numbers::LLVMType;
 use std::alloc::{AllocError, Global};
 use support::items::Items;
-
-/// The type of a value.
-fn value_type(ctx: &Context, ty: TypeHandle) -> ValueType
-    requires within { ty.0 < length ctx.now.types }
-    requires first_class { IsFirstClass (type_at (type_trees ctx.now.types) ty) }
-    ensures { tree_of result ≡ type_at (type_trees ctx.now.types) ty }
-{
-    match ctx.types().kind(ty) {
-        TypeKind::Integer(width) => ValueType::Int(*width),
-        TypeKind::Pointer(space) => ValueType::Pointer(*space),
-        TypeKind::Floating(of) => ValueType::Floating(*of),
-        TypeKind::Void => unreachable!(),
-        TypeKind::Func { .. } => unreachable!(),
-    }
-}
 
 fn int_width(ctx: &Context, ty: TypeHandle) -> u32
     requires within { ty.0 < length ctx.now.types }
@@ -54,34 +42,56 @@ fn int_width(ctx: &Context, ty: TypeHandle) -> u32
 }
 
 /// The type of the result of an operation, void where it has none.
-fn result_type(ctx: &Context, op: OpRef) -> ValueType
+fn result_type(
+    alloc: Global,
+    types: &mut TypePlaces,
+    ctx: &Context,
+    op: OpRef,
+) -> Result<LLVMType, AllocError>
     requires typed { IsTyped ctx.now }
     requires here { (o : DialectOp) × (op_at (type_trees ctx.now.types) ctx.now.ops op ≡ Some o) × IfSome o.result IsFirstClass }
-    ensures { (o : DialectOp) → op_at (type_trees ctx.now.types) ctx.now.ops op ≡ Some o → tree_of result ≡ option_type o.result }
+    requires places { ArePlacesOf (type_trees ctx.now.types) types.old }
+    ensures stands { IfOk result (λ t. (o : DialectOp) → op_at (type_trees ctx.now.types) ctx.now.ops op ≡ Some o → Stands (trees_in types.new) t (option_type o.result)) }
+    ensures grown { OnOk result (IsGrown (type_trees ctx.now.types) types.old types.new) }
 {
     match ctx.result_type(op) {
-        Some(ty) => value_type(ctx, ty),
-        None => ValueType::Void,
+        Some(ty) => place(alloc, types, ctx, ty),
+        None => types.void(),
     }
 }
 
-fn argument_type(ctx: &Context, block: BlockRef, place: u32) -> ValueType
+fn argument_type(
+    alloc: Global,
+    types: &mut TypePlaces,
+    ctx: &Context,
+    block: BlockRef,
+    at: u32,
+) -> Result<LLVMType, AllocError>
     requires typed { IsTyped ctx.now }
-    requires here { (b : DialectBlock) × (type : TypeTree) × (block_in (type_trees ctx.now.types) ctx.now block ≡ Some b) × (slice_get b.args place ≡ Some type) × IsFirstClass type }
-    ensures { (b : DialectBlock) → (type : TypeTree) → block_in (type_trees ctx.now.types) ctx.now block ≡ Some b → slice_get b.args place ≡ Some type → tree_of result ≡ type }
+    requires here { (b : DialectBlock) × (type : TypeTree) × (block_in (type_trees ctx.now.types) ctx.now block ≡ Some b) × (slice_get b.args at ≡ Some type) × IsFirstClass type }
+    requires places { ArePlacesOf (type_trees ctx.now.types) types.old }
+    ensures stands { IfOk result (λ t. (b : DialectBlock) → (type : TypeTree) → block_in (type_trees ctx.now.types) ctx.now block ≡ Some b → slice_get b.args at ≡ Some type → Stands (trees_in types.new) t type) }
+    ensures grown { OnOk result (IsGrown (type_trees ctx.now.types) types.old types.new) }
 {
-    value_type(ctx, ctx.block_args(block)[place as usize])
+    place(alloc, types, ctx, ctx.block_args(block)[at as usize])
 }
 
 /// The type of a value, which the context gives it, whichever function it belongs to.
-fn operand_type(ctx: &Context, v: Value) -> ValueType
+fn operand_type(
+    alloc: Global,
+    types: &mut TypePlaces,
+    ctx: &Context,
+    v: Value,
+) -> Result<LLVMType, AllocError>
     requires typed { IsTyped ctx.now }
     requires used { IsUsed ctx.now v }
-    ensures { tree_of result ≡ option_type (type_in ctx.now v) }
+    requires places { ArePlacesOf (type_trees ctx.now.types) types.old }
+    ensures stands { IfOk result (λ t. Stands (trees_in types.new) t (option_type (type_in ctx.now v))) }
+    ensures grown { OnOk result (IsGrown (type_trees ctx.now.types) types.old types.new) }
 {
     match v {
-        Value::Result(op) => result_type(ctx, op),
-        Value::Argument(block, place) => argument_type(ctx, block, place),
+        Value::Result(op) => result_type(alloc, types, ctx, op),
+        Value::Argument(block, at) => argument_type(alloc, types, ctx, block, at),
     }
 }
 
@@ -97,18 +107,22 @@ pub fn slot(v: Value) -> Slot
 
 fn operand_types(
     alloc: Global,
+    types: &mut TypePlaces,
     ctx: &Context,
     values: &[Value],
-) -> Result<Items<ValueType>, AllocError>
+) -> Result<Items<LLVMType>, AllocError>
     requires typed { IsTyped ctx.now }
     requires used { All (IsUsed ctx.now) values.now }
-    ensures { IfOk result (λ ts. map tree_of ts ≡ map (λ v. option_type (type_in ctx.now v)) values.now) }
+    requires places { ArePlacesOf (type_trees ctx.now.types) types.old }
+    ensures stand { IfOk result (λ ts. AllStand (trees_in types.new) ts (map (λ v. option_type (type_in ctx.now v)) values.now)) }
+    ensures grown { OnOk result (IsGrown (type_trees ctx.now.types) types.old types.new) }
 {
-    let mut types = Items::new(alloc);
+    let mut places = Items::new(alloc);
     for value in values {
-        types.push(operand_type(ctx, *value))?;
+        let place = operand_type(alloc, types, ctx, *value)?;
+        places.push(place)?;
     }
-    Ok(types)
+    Ok(places)
 }
 
 fn sources(alloc: Global, values: &[Value]) -> Result<Items<Source>, AllocError>
@@ -134,62 +148,77 @@ fn parts_of(value: &ConstAttr) -> (TypeHandle, u64)
 fn constant(ctx: &Context, value: &ConstAttr) -> Action
     requires within { HasTypesBelow (length ctx.now.types) value.now }
     requires integer { (type : TypeTree) → (number : ℕ) → attr_tree (type_trees ctx.now.types) value.now ≡ IntegerAttr type number → IsIntegerOf type number }
-    ensures { (setting : Setting) → action_of result ≡ machine.Holds (dialect.attr_term setting (attr_tree (type_trees ctx.now.types) value.now)) }
+    ensures { (setting : Setting) → (trees : List TypeTree) → IsAction trees result (machine.Holds (dialect.attr_term setting (attr_tree (type_trees ctx.now.types) value.now))) }
 {
     let (ty, number) = parts_of(value);
     Action::Holds(int_width(ctx, ty), u128::from(number))
 }
 
 /// What an operation of a row of the table does: it applies that to its operands.
-fn applied(alloc: Global, ctx: &Context, op: OpRef, row: Op) -> Result<Action, AllocError>
-    requires { (h : InContext ctx.now) × (o : DialectOp) × IsOpIn ctx.now h op o }
-    ensures { IfOk result (λ a. (setting : Setting) → (h : InContext ctx.now) → (o : DialectOp) → IsOpIn ctx.now h op o → action_of a ≡ renamed_action slot_of (dialect.typed_action setting (type_in ctx.now) o (RowOp row))) }
+fn applied(
+    alloc: Global,
+    types: &mut TypePlaces,
+    ctx: &Context,
+    op: OpRef,
+    row: Op,
+) -> Result<Action, AllocError>
+    requires here { (h : InContext ctx.now) × (o : DialectOp) × IsOpIn ctx.now h op o }
+    requires places { ArePlacesOf (type_trees ctx.now.types) types.old }
+    ensures is { IfOk result (λ a. (setting : Setting) → (h : InContext ctx.now) → (o : DialectOp) → IsOpIn ctx.now h op o → IsAction (trees_in types.new) a (renamed_action slot_of (dialect.typed_action setting (type_in ctx.now) o (RowOp row)))) }
+    ensures grown { OnOk result (IsGrown (type_trees ctx.now.types) types.old types.new) }
 {
     let values = ctx.op_operands(op);
-    let operand_types = operand_types(alloc, ctx, values)?;
+    let operand_types = operand_types(alloc, types, ctx, values)?;
+    let result_type = result_type(alloc, types, ctx, op)?;
     let operands = sources(alloc, values)?;
-    let types = Types {
-        result: result_type(ctx, op),
-        operands: operand_types,
-    };
     Ok(Action::Applies {
         op: row,
-        types,
+        types: Types {
+            result: result_type,
+            operands: operand_types,
+        },
         operands,
     })
 }
 
 /// What an operation does.
-fn action(alloc: Global, ctx: &Context, op: OpRef) -> Result<Action, AllocError>
-    requires { (h : InContext ctx.now) × (o : DialectOp) × IsOpIn ctx.now h op o }
-    ensures { IfOk result (λ a. (setting : Setting) → (h : InContext ctx.now) → (o : DialectOp) → IsOpIn ctx.now h op o → action_of a ≡ renamed_action slot_of (dialect.typed_action setting (type_in ctx.now) o o.kind)) }
+fn action(
+    alloc: Global,
+    types: &mut TypePlaces,
+    ctx: &Context,
+    op: OpRef,
+) -> Result<Action, AllocError>
+    requires here { (h : InContext ctx.now) × (o : DialectOp) × IsOpIn ctx.now h op o }
+    requires places { ArePlacesOf (type_trees ctx.now.types) types.old }
+    ensures is { IfOk result (λ a. (setting : Setting) → (h : InContext ctx.now) → (o : DialectOp) → IsOpIn ctx.now h op o → IsAction (trees_in types.new) a (renamed_action slot_of (dialect.typed_action setting (type_in ctx.now) o o.kind))) }
+    ensures grown { OnOk result (IsGrown (type_trees ctx.now.types) types.old types.new) }
 {
     match ctx.op_kind(op) {
         OpKind::Constant(value) => Ok(constant(ctx, value)),
-        OpKind::Row(row) => applied(alloc, ctx, op, *row),
+        OpKind::Row(row) => applied(alloc, types, ctx, op, *row),
         OpKind::Module | OpKind::Func => unreachable!(),
     }
 }
 
-fn row(alloc: Global, ctx: &Context, op: OpRef) -> Result<Row, AllocError>
-    requires { (h : InContext ctx.now) × (o : DialectOp) × IsOpIn ctx.now h op o }
-    ensures { IfOk result (λ r. (setting : Setting) → (h : InContext ctx.now) → (o : DialectOp) → IsOpIn ctx.now h op o → row_of r ≡ renamed_row slot_of (dialect.typed_row setting (type_in ctx.now) o)) }
-{
-    let action = action(alloc, ctx, op)?;
-    Ok(Row {
-        action,
-        result: Slot::Result(op.0),
-    })
-}
-
 /// The rows of the operations of a block.
-pub fn rows(alloc: Global, ctx: &Context, ops: &[OpRef]) -> Result<Items<Row>, AllocError>
-    requires { (h : InContext ctx.now) × (os : List DialectOp) × AreOpsIn ctx.now h ops.now os }
-    ensures { IfOk result (λ rows. (setting : Setting) → (h : InContext ctx.now) → (os : List DialectOp) → AreOpsIn ctx.now h ops.now os → map row_of rows ≡ rows_of setting ctx.now os) }
+pub fn rows(
+    alloc: Global,
+    types: &mut TypePlaces,
+    ctx: &Context,
+    ops: &[OpRef],
+) -> Result<Items<Row>, AllocError>
+    requires here { (h : InContext ctx.now) × (os : List DialectOp) × AreOpsIn ctx.now h ops.now os }
+    requires places { ArePlacesOf (type_trees ctx.now.types) types.old }
+    ensures rows { IfOk result (λ rows. (setting : Setting) → (h : InContext ctx.now) → (os : List DialectOp) → AreOpsIn ctx.now h ops.now os → AreRows (trees_in types.new) rows (rows_of setting ctx.now os)) }
+    ensures grown { OnOk result (IsGrown (type_trees ctx.now.types) types.old types.new) }
 {
     let mut rows = Items::new(alloc);
     for op in ops {
-        rows.push(row(alloc, ctx, *op)?)?;
+        let action = action(alloc, types, ctx, *op)?;
+        rows.push(Row {
+            action,
+            result: Slot::Result(op.0),
+        })?;
     }
     Ok(rows)
 }

@@ -4,11 +4,15 @@
 mod body;
 mod dialect_body;
 mod dialect_rows;
+mod dialect_typing;
 mod llvm_body;
 mod llvm_index;
 mod llvm_rows;
+mod llvm_typing;
 mod places;
 mod run;
 pub mod table;
 pub mod trace;
 pub mod tracing;
+mod type_places;
+pub mod type_table;

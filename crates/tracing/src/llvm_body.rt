@@ -1,19 +1,21 @@
 //! The body of a function of LLVM, for runs.
 
-ghost use Rattle.std.specs.Prelude.{◌≡◌, ◌<◌, ◌++◌, [], ℕ, List, IfOk, OnOk, length, map, slice_get};
+ghost use Rattle.std.specs.Prelude.{◌≡◌, ◌<◌, ◌++◌, [], ℕ, List, All, IfOk, OnOk, length, map, slice_get};
 ghost use Rattle.std.specs.List.{flat_map};
 ghost use Rattle.std.specs.Option.{option_map_or};
 ghost use Rattle.llvm_core.specs.Edges.{targets as leads_to};
 ghost use Rattle.llvm_core.specs.Data as lists;
-ghost use Rattle.llvm_core.specs.Data.{Placed, targets};
+ghost use Rattle.llvm_core.specs.Data.{Placed, targets, trees_of, type_trees};
 ghost use Rattle.meaning.specs.Llvm as llvm;
-ghost use Rattle.tracing.specs.Bodies.{block_of, code_of, start_of};
+ghost use Rattle.tracing.specs.TypePlaces.{trees_in, ArePlacesOf, IsGrown};
+ghost use Rattle.tracing.specs.Bodies.{code_of, start_of, IsTypedBlock, IsBlock, AreBlocks};
 ghost use Rattle.tracing.specs.Renamed.{renamed_block, renamed_code};
 ghost use Rattle.tracing.specs.LlvmBodies.{setting_in, slot_of, InChecked, data_in, ArePlacedIn, IsIndexOf, IsBlockIn, slots_of, taken_from, phis_at, params_in, edge_to};
 
 use crate::body::{Block, Body, Edge, Slot, Source};
 use crate::llvm_index::{Index, Phi, index_of};
 use crate::llvm_rows::rows;
+use crate::type_places::TypePlaces;
 use llvm_core::code::LLVMInst;
 use llvm_core::module::LLVMModule;
 use llvm_core::numbers::{LLVMBasicBlock, LLVMFunction, LLVMInstRef};
@@ -103,17 +105,20 @@ fn block_edges(
 
 fn block(
     alloc: Global,
+    types: &mut TypePlaces,
     m: &LLVMModule,
     index: &Index,
     b: LLVMBasicBlock,
 ) -> Result<Block, AllocError>
     requires within { b.0 < length m.now.blocks }
     requires block { (h : InChecked m.now) × (y : lists.Block) × IsBlockIn m.now h b y }
-    ensures { IfOk result (λ r. (h : InChecked m.now) → (y : lists.Block) → IsBlockIn m.now h b y → IsIndexOf m.now h index.now → block_of (params_in index.now) r ≡ renamed_block slot_of (llvm.block (setting_in m.now) (data_in m.now h) y)) }
+    requires places { ArePlacesOf (trees_of m.now).types types.old }
+    ensures is { IfOk result (λ r. (h : InChecked m.now) → (y : lists.Block) → IsBlockIn m.now h b y → IsIndexOf m.now h index.now → IsBlock (trees_in types.new) (params_in index.now) r (renamed_block slot_of (llvm.block (setting_in m.now) (data_in m.now h) y))) }
+    ensures grown { OnOk result (IsGrown (trees_of m.now).types types.old types.new) }
 {
     let insts = m.instructions(b);
     Ok(Block {
-        rows: rows(alloc, m, insts)?,
+        rows: rows(alloc, types, m, insts)?,
         edges: block_edges(alloc, m, index, b.0, insts)?,
     })
 }
@@ -121,16 +126,18 @@ fn block(
 /// The blocks of a function.
 fn blocks(
     alloc: Global,
+    types: &mut TypePlaces,
     m: &LLVMModule,
     index: &Index,
     f: LLVMFunction,
 ) -> Result<Items<Block>, AllocError>
-    requires { (h : InChecked m.now) × (h.number ≡ f.0) }
-    ensures { IfOk result (λ bs. (h : InChecked m.now) → h.number ≡ f.0 → IsIndexOf m.now h index.now → code_of (params_in index.now) bs ≡ renamed_code slot_of (map (llvm.block (setting_in m.now) (data_in m.now h)) (data_in m.now h).blocks)) }
+    requires here { (h : InChecked m.now) × (h.number ≡ f.0) }
+    requires places { ArePlacesOf (trees_of m.now).types types.old }
+    ensures { IfOk result (λ bs. (h : InChecked m.now) → h.number ≡ f.0 → IsIndexOf m.now h index.now → AreBlocks (trees_in types.new) (params_in index.now) bs (renamed_code slot_of (map (llvm.block (setting_in m.now) (data_in m.now h)) (data_in m.now h).blocks))) }
 {
     let mut blocks = Items::new(alloc);
     for b in m.blocks(f) {
-        let made = block(alloc, m, index, *b)?;
+        let made = block(alloc, types, m, index, *b)?;
         blocks.push(made)?;
     }
     Ok(blocks)
@@ -189,12 +196,15 @@ fn body_over(
     index: &Index,
 ) -> Result<Body, AllocError>
     requires { (h : InChecked m.now) × (h.number ≡ f.0) }
-    ensures code { IfOk result (λ body. (h : InChecked m.now) → h.number ≡ f.0 → IsIndexOf m.now h index.now → code_of body.params body.blocks ≡ renamed_code slot_of (map (llvm.block (setting_in m.now) (data_in m.now h)) (data_in m.now h).blocks)) }
+    ensures code { IfOk result (λ body. (h : InChecked m.now) → h.number ≡ f.0 → IsIndexOf m.now h index.now → code_of (type_trees body.types) body.params body.blocks ≡ renamed_code slot_of (map (llvm.block (setting_in m.now) (data_in m.now h)) (data_in m.now h).blocks)) }
+    ensures typed { IfOk result (λ body. (h : InChecked m.now) → h.number ≡ f.0 → IsIndexOf m.now h index.now → All (IsTypedBlock (length (type_trees body.types))) body.blocks) }
     ensures start { IfOk result (λ body. (h : InChecked m.now) → h.number ≡ f.0 → inputs ≡ llvm.arity (data_in m.now h).type → (k : llvm.Key) → start_of body.holder body.inputs (slot_of k) ≡ llvm.start (data_in m.now h) k) }
 {
     let params = params(alloc, index)?;
-    let blocks = blocks(alloc, m, index, f)?;
+    let mut types = TypePlaces::new(alloc);
+    let blocks = blocks(alloc, &mut types, m, index, f)?;
     Ok(Body {
+        types: types.into_table(),
         holder: f.0,
         inputs,
         params,
@@ -205,7 +215,8 @@ fn body_over(
 /// The body of a function of a checked module.
 pub fn llvm_body(alloc: Global, m: &LLVMModule, f: LLVMFunction) -> Result<Body, AllocError>
     requires { (h : InChecked m.now) × (h.number ≡ f.0) }
-    ensures code { IfOk result (λ body. (h : InChecked m.now) → h.number ≡ f.0 → code_of body.params body.blocks ≡ renamed_code slot_of (map (llvm.block (setting_in m.now) (data_in m.now h)) (data_in m.now h).blocks)) }
+    ensures code { IfOk result (λ body. (h : InChecked m.now) → h.number ≡ f.0 → code_of (type_trees body.types) body.params body.blocks ≡ renamed_code slot_of (map (llvm.block (setting_in m.now) (data_in m.now h)) (data_in m.now h).blocks)) }
+    ensures typed { IfOk result (λ body. (h : InChecked m.now) → h.number ≡ f.0 → All (IsTypedBlock (length (type_trees body.types))) body.blocks) }
     ensures start { IfOk result (λ body. (h : InChecked m.now) → h.number ≡ f.0 → (k : llvm.Key) → start_of body.holder body.inputs (slot_of k) ≡ llvm.start (data_in m.now h) k) }
 {
     let inputs = inputs(m, f)?;

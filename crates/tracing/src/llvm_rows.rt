@@ -6,18 +6,19 @@ ghost use Rattle.llvm_core.specs.declared.code.LLVMValue.TheVariants as values;
 ghost use Rattle.llvm_core.specs.Sound.{IsModule};
 ghost use Rattle.llvm_core.specs.declared.types.LLVMTypeKind.TheVariants as types;
 ghost use Rattle.llvm_core.specs.Parts.{IsValue};
-ghost use Rattle.llvm_core.specs.Data.{IntType, Placed, type_at, type_tree, const_at, operand_of, operand_type, row_of, trees_of};
+ghost use Rattle.llvm_core.specs.Data.{IntType, Placed, type_at, const_at, operand_of, operand_type, row_of, trees_of};
 ghost use Rattle.meaning.specs.Machine as machine;
 ghost use Rattle.meaning.specs.Llvm as llvm;
-ghost use Rattle.tracing.specs.Table.{tree_of};
-ghost use Rattle.tracing.specs.Bodies as bodies;
-ghost use Rattle.tracing.specs.Bodies.{source_of, action_of};
+ghost use Rattle.tracing.specs.Types.{AllStand, Stands};
+ghost use Rattle.tracing.specs.TypePlaces.{trees_in, ArePlacesOf, IsGrown};
+ghost use Rattle.tracing.specs.Bodies.{source_of, IsAction, AreRows};
 ghost use Rattle.tracing.specs.Renamed.{renamed_action};
-ghost use Rattle.tracing.specs.LlvmBodies.{setting_in, slot_of, InChecked, IsNoFunction, data_in, operand_in, IsUsed, IsPlacedIn, ArePlacedIn, IsRowIn, row_in, rows_in};
+ghost use Rattle.tracing.specs.LlvmBodies.{setting_in, slot_of, InChecked, data_in, operand_in, IsUsed, IsPlacedIn, ArePlacedIn, IsRowIn, row_in, rows_in};
 
 use crate::body::{Action, Row, Slot, Source};
-use crate::table::ValueType;
+use crate::llvm_typing::place;
 use crate::trace::Types;
+use crate::type_places::TypePlaces;
 use llvm_core::code::{LLVMInst, LLVMValue, Row as TableRow};
 use llvm_core::consts::LLVMConstKind;
 use llvm_core::module::LLVMModule;
@@ -25,32 +26,6 @@ use llvm_core::numbers::{LLVMConst, LLVMInstRef, LLVMType};
 use llvm_core::types::LLVMTypeKind;
 use std::alloc::{AllocError, Global};
 use support::items::Items;
-
-/// The kind of a type, of which its tree is made.
-fn kind_of(m: &LLVMModule, ty: LLVMType) -> &LLVMTypeKind
-    requires sound { IsModule m.now }
-    requires within { ty.0 < length m.now.types }
-    ensures { type_at (trees_of m.now).types ty ≡ type_tree (trees_of m.now).types result.now }
-{
-    m.type_kind(ty)
-}
-
-/// The type of a value, or void.
-fn value_type(m: &LLVMModule, ty: LLVMType) -> ValueType
-    requires sound { IsModule m.now }
-    requires within { ty.0 < length m.now.types }
-    requires plain { IsNoFunction (type_at (trees_of m.now).types ty) }
-    ensures { tree_of result ≡ type_at (trees_of m.now).types ty }
-{
-    match kind_of(m, ty) {
-        LLVMTypeKind::Void => ValueType::Void,
-        LLVMTypeKind::Int(width) => ValueType::Int(*width),
-        LLVMTypeKind::Ptr(space) => ValueType::Pointer(*space),
-        LLVMTypeKind::Floating(of) => ValueType::Floating(*of),
-        LLVMTypeKind::Other(of) => ValueType::Other(*of),
-        LLVMTypeKind::Function { .. } => unreachable!(),
-    }
-}
 
 fn int_width(m: &LLVMModule, ty: LLVMType) -> u32
     requires sound { IsModule m.now }
@@ -87,26 +62,37 @@ pub fn source(m: &LLVMModule, v: LLVMValue) -> Source
     }
 }
 
-fn operand_type(m: &LLVMModule, v: LLVMValue) -> ValueType
-    requires { (h : InChecked m.now) × IsUsed m.now h v }
-    ensures { (h : InChecked m.now) → IsUsed m.now h v → tree_of result ≡ operand_type (data_in m.now h) (operand_of (trees_of m.now) v) }
+fn operand_type(
+    alloc: Global,
+    types: &mut TypePlaces,
+    m: &LLVMModule,
+    v: LLVMValue,
+) -> Result<LLVMType, AllocError>
+    requires used { (h : InChecked m.now) × IsUsed m.now h v }
+    requires places { ArePlacesOf (trees_of m.now).types types.old }
+    ensures stands { IfOk result (λ t. (h : InChecked m.now) → IsUsed m.now h v → Stands (trees_in types.new) t (operand_type (data_in m.now h) (operand_of (trees_of m.now) v))) }
+    ensures grown { OnOk result (IsGrown (trees_of m.now).types types.old types.new) }
 {
-    value_type(m, m.type_of(v))
+    place(alloc, types, m, m.type_of(v))
 }
 
 fn operand_types(
     alloc: Global,
+    types: &mut TypePlaces,
     m: &LLVMModule,
     values: &[LLVMValue],
-) -> Result<Items<ValueType>, AllocError>
-    requires { (h : InChecked m.now) × All (IsUsed m.now h) values.now }
-    ensures { IfOk result (λ ts. (h : InChecked m.now) → All (IsUsed m.now h) values.now → map tree_of ts ≡ map (λ v. operand_type (data_in m.now h) (operand_of (trees_of m.now) v)) values.now) }
+) -> Result<Items<LLVMType>, AllocError>
+    requires used { (h : InChecked m.now) × All (IsUsed m.now h) values.now }
+    requires places { ArePlacesOf (trees_of m.now).types types.old }
+    ensures stand { IfOk result (λ ts. (h : InChecked m.now) → All (IsUsed m.now h) values.now → AllStand (trees_in types.new) ts (map (λ v. operand_type (data_in m.now h) (operand_of (trees_of m.now) v)) values.now)) }
+    ensures grown { OnOk result (IsGrown (trees_of m.now).types types.old types.new) }
 {
-    let mut types = Items::new(alloc);
+    let mut places = Items::new(alloc);
     for value in values {
-        types.push(operand_type(m, *value))?;
+        let place = operand_type(alloc, types, m, *value)?;
+        places.push(place)?;
     }
-    Ok(types)
+    Ok(places)
 }
 
 fn sources(alloc: Global, m: &LLVMModule, values: &[LLVMValue]) -> Result<Items<Source>, AllocError>
@@ -124,23 +110,26 @@ fn sources(alloc: Global, m: &LLVMModule, values: &[LLVMValue]) -> Result<Items<
 /// What an instruction with that row does.
 fn action(
     alloc: Global,
+    types: &mut TypePlaces,
     m: &LLVMModule,
     i: LLVMInstRef,
     row: &TableRow,
 ) -> Result<Action, AllocError>
-    requires { (h : InChecked m.now) × (b : ℕ) × (p : Placed) × IsRowIn m.now h b i p row.now }
-    ensures { IfOk result (λ a. (h : InChecked m.now) → (b : ℕ) → (p : Placed) → IsRowIn m.now h b i p row.now → action_of a ≡ renamed_action slot_of (llvm.action (setting_in m.now) (data_in m.now h) p.type (row_of (trees_of m.now) row.now))) }
+    requires here { (h : InChecked m.now) × (b : ℕ) × (p : Placed) × IsRowIn m.now h b i p row.now }
+    requires places { ArePlacesOf (trees_of m.now).types types.old }
+    ensures is { IfOk result (λ a. (h : InChecked m.now) → (b : ℕ) → (p : Placed) → IsRowIn m.now h b i p row.now → IsAction (trees_in types.new) a (renamed_action slot_of (llvm.action (setting_in m.now) (data_in m.now h) p.type (row_of (trees_of m.now) row.now)))) }
+    ensures grown { OnOk result (IsGrown (trees_of m.now).types types.old types.new) }
 {
     let values = row.operands.as_slice();
-    let operand_types = operand_types(alloc, m, values)?;
+    let operand_types = operand_types(alloc, types, m, values)?;
+    let result_type = place(alloc, types, m, m.type_of(LLVMValue::Inst(i)))?;
     let operands = sources(alloc, m, values)?;
-    let types = Types {
-        result: value_type(m, m.type_of(LLVMValue::Inst(i))),
-        operands: operand_types,
-    };
     Ok(Action::Applies {
         op: row.op,
-        types,
+        types: Types {
+            result: result_type,
+            operands: operand_types,
+        },
         operands,
     })
 }
@@ -148,17 +137,20 @@ fn action(
 /// Appends the row of an instruction, unless it is a phi.
 fn push_row(
     alloc: Global,
+    types: &mut TypePlaces,
     m: &LLVMModule,
     i: LLVMInstRef,
     rows: &mut Items<Row>,
 ) -> Result<(), AllocError>
-    requires { (h : InChecked m.now) × (b : ℕ) × (p : Placed) × IsPlacedIn m.now h b i p }
-    ensures { OnOk result ((h : InChecked m.now) → (b : ℕ) → (p : Placed) → IsPlacedIn m.now h b i p → map bodies.row_of rows.new ≡ map bodies.row_of rows.old ++ cons_option (row_in m.now h p) []) }
+    requires here { (h : InChecked m.now) × (b : ℕ) × (p : Placed) × IsPlacedIn m.now h b i p }
+    requires places { ArePlacesOf (trees_of m.now).types types.old }
+    ensures rows { OnOk result ((h : InChecked m.now) → (b : ℕ) → (p : Placed) → IsPlacedIn m.now h b i p → (xs : List (machine.Row Slot)) → AreRows (trees_in types.old) rows.old xs → AreRows (trees_in types.new) rows.new (xs ++ cons_option (row_in m.now h p) [])) }
+    ensures grown { OnOk result (IsGrown (trees_of m.now).types types.old types.new) }
 {
     match m.inst(i) {
         LLVMInst::Phi(..) => Ok(()),
         LLVMInst::Row(row) => {
-            let action = action(alloc, m, i, row)?;
+            let action = action(alloc, types, m, i, row)?;
             rows.push(Row {
                 action,
                 result: Slot::Result(i.0),
@@ -168,13 +160,20 @@ fn push_row(
 }
 
 /// The rows of the instructions of a block.
-pub fn rows(alloc: Global, m: &LLVMModule, insts: &[LLVMInstRef]) -> Result<Items<Row>, AllocError>
-    requires { (h : InChecked m.now) × (b : ℕ) × (ps : List Placed) × ArePlacedIn m.now h b insts.now ps }
-    ensures { IfOk result (λ rows. (h : InChecked m.now) → (b : ℕ) → (ps : List Placed) → ArePlacedIn m.now h b insts.now ps → map bodies.row_of rows ≡ rows_in m.now h ps) }
+pub fn rows(
+    alloc: Global,
+    types: &mut TypePlaces,
+    m: &LLVMModule,
+    insts: &[LLVMInstRef],
+) -> Result<Items<Row>, AllocError>
+    requires here { (h : InChecked m.now) × (b : ℕ) × (ps : List Placed) × ArePlacedIn m.now h b insts.now ps }
+    requires places { ArePlacesOf (trees_of m.now).types types.old }
+    ensures rows { IfOk result (λ rows. (h : InChecked m.now) → (b : ℕ) → (ps : List Placed) → ArePlacedIn m.now h b insts.now ps → AreRows (trees_in types.new) rows (rows_in m.now h ps)) }
+    ensures grown { OnOk result (IsGrown (trees_of m.now).types types.old types.new) }
 {
     let mut rows = Items::new(alloc);
     for i in insts {
-        push_row(alloc, m, *i, &mut rows)?;
+        push_row(alloc, types, m, *i, &mut rows)?;
     }
     Ok(rows)
 }

@@ -6,11 +6,12 @@ ghost use Rattle.meaning.specs.Terms as terms;
 ghost use Rattle.meaning.specs.Terms.{Term};
 ghost use Rattle.meaning.specs.Machine as machine;
 ghost use Rattle.meaning.specs.Machine.{State};
-ghost use Rattle.support.specs.Interned.{IsDistinctList};
-ghost use Rattle.tracing.specs.Table.{IsGrounded, HasPartsBelow, node_term, tree_of};
+ghost use Rattle.llvm_core.specs.Data.{TypeTree, type_at, type_trees};
+ghost use Rattle.tracing.specs.Types.{HasTypesBelow};
+ghost use Rattle.tracing.specs.Table.{HasPartsBelow, HasTypeBelow, node_term};
 ghost use Rattle.tracing.specs.Table as table;
-ghost use Rattle.tracing.specs.Bodies.{same_slot, source_of, action_of, row_of, moves_from, given, params_at, code_of, start_of};
-ghost use Rattle.tracing.specs.Runs.{is_built, with_each, IsAt, IsRun, Names, AllNamed, Keeps, IsJumped, ShowsItem, HasPlacesBelow, item_of};
+ghost use Rattle.tracing.specs.Bodies.{same_slot, source_of, action_of, row_of, moves_from, given, params_at, code_of, start_of, IsTypedRow, IsTypedBlock};
+ghost use Rattle.tracing.specs.Runs.{is_built, with_each, IsAt, IsRun, IsRunOver, Names, AllNamed, Keeps, IsJumped, ShowsItem, HasTables, items_of};
 
 use crate::body::{Action, Block, Body, Edge, Row, Slot, Source};
 use crate::table::{TermNode, TermTable};
@@ -35,9 +36,9 @@ pub struct Run {
 /// The place of a term that the table may not have yet.
 fn intern(run: &mut Run, node: TermNode) -> Result<u32, AllocError>
     requires { HasPartsBelow (length run.old.table) node }
-    ensures at { IfOk result (λ k. (s : State Slot) → IsAt run.old s → IsAt run.new s) }
-    ensures named { IfOk result (λ k. Names run.new.table k (node_term (table.terms run.old.table) node)) }
-    ensures kept { OnOk result (Keeps run.old.table run.new.table) }
+    ensures at { IfOk result (λ k. (trees : List TypeTree) → (s : State Slot) → HasTypeBelow (length trees) node → IsAt trees run.old s → IsAt trees run.new s) }
+    ensures named { IfOk result (λ k. (trees : List TypeTree) → Names trees run.new.table k (node_term trees (table.terms trees run.old.table) node)) }
+    ensures kept { OnOk result ((trees : List TypeTree) → Keeps trees run.old.table run.new.table) }
 {
     run.table.intern(node)
 }
@@ -45,7 +46,7 @@ fn intern(run: &mut Run, node: TermNode) -> Result<u32, AllocError>
 /// Gives a value the term at a place.
 fn set(run: &mut Run, slot: Slot, place: u32) -> Result<(), AllocError>
     ensures table { OnOk result (run.new.table ≡ run.old.table) }
-    ensures at { OnOk result ((s : State Slot) → (t : Term) → IsAt run.old s → Names run.old.table place t → IsAt run.new (machine.set_in Slot same_slot s slot t)) }
+    ensures at { OnOk result ((trees : List TypeTree) → (s : State Slot) → (t : Term) → IsAt trees run.old s → Names trees run.old.table place t → IsAt trees run.new (machine.set_in Slot same_slot s slot t)) }
 {
     run.env.insert(slot, place)?;
     Ok(())
@@ -54,7 +55,7 @@ fn set(run: &mut Run, slot: Slot, place: u32) -> Result<(), AllocError>
 /// Shows an item.
 fn note(run: &mut Run, item: TraceItem) -> Result<(), AllocError>
     ensures table { OnOk result (run.new.table ≡ run.old.table) }
-    ensures at { OnOk result ((s : State Slot) → (i : machine.Item) → IsAt run.old s → ShowsItem run.old.table item i → IsAt run.new (machine.shows Slot same_slot s i)) }
+    ensures at { OnOk result ((trees : List TypeTree) → (s : State Slot) → (i : machine.Item) → IsAt trees run.old s → ShowsItem trees run.old.table item i → IsAt trees run.new (machine.shows Slot same_slot s i)) }
 {
     run.items.push(item)?;
     Ok(())
@@ -62,8 +63,8 @@ fn note(run: &mut Run, item: TraceItem) -> Result<(), AllocError>
 
 /// The place of a value's term, which is unset where it has none.
 fn read_slot(run: &mut Run, slot: Slot) -> Result<u32, AllocError>
-    ensures at { IfOk result (λ k. (s : State Slot) → IsAt run.old s → IsAt run.new s × Names run.new.table k (s.env slot)) }
-    ensures kept { OnOk result (Keeps run.old.table run.new.table) }
+    ensures at { IfOk result (λ k. (trees : List TypeTree) → (s : State Slot) → IsAt trees run.old s → IsAt trees run.new s × Names trees run.new.table k (s.env slot)) }
+    ensures kept { OnOk result ((trees : List TypeTree) → Keeps trees run.old.table run.new.table) }
 {
     let found = run.env.get(&slot).copied();
     match found {
@@ -74,8 +75,8 @@ fn read_slot(run: &mut Run, slot: Slot) -> Result<u32, AllocError>
 
 /// The place of an operand's term.
 fn read(run: &mut Run, source: Source) -> Result<u32, AllocError>
-    ensures at { IfOk result (λ k. (s : State Slot) → IsAt run.old s → IsAt run.new s × Names run.new.table k (machine.read s.env (source_of source))) }
-    ensures kept { OnOk result (Keeps run.old.table run.new.table) }
+    ensures at { IfOk result (λ k. (trees : List TypeTree) → (s : State Slot) → IsAt trees run.old s → IsAt trees run.new s × Names trees run.new.table k (machine.read s.env (source_of source))) }
+    ensures kept { OnOk result ((trees : List TypeTree) → Keeps trees run.old.table run.new.table) }
 {
     match source {
         Source::At(slot) => read_slot(run, slot),
@@ -87,7 +88,7 @@ fn read(run: &mut Run, source: Source) -> Result<u32, AllocError>
 /// The places of the terms of operands.
 fn read_all(run: &mut Run, sources: &[Source]) -> Result<Vec<u32>, AllocError>
     requires { IsRun run.old }
-    ensures at { IfOk result (λ ks. (s : State Slot) → IsAt run.old s → IsAt run.new s × AllNamed run.new.table ks.items (map (machine.read s.env) (map source_of sources.now))) }
+    ensures at { IfOk result (λ ks. (trees : List TypeTree) → (s : State Slot) → IsAt trees run.old s → IsAt trees run.new s × AllNamed trees run.new.table ks.items (map (machine.read s.env) (map source_of sources.now))) }
     ensures within { IfOk result (λ ks. All (λ k. k < length run.new.table) ks.items) }
 {
     let mut places = Vec::new(run.alloc);
@@ -100,7 +101,7 @@ fn read_all(run: &mut Run, sources: &[Source]) -> Result<Vec<u32>, AllocError>
 
 /// A value holds an integer.
 fn hold(run: &mut Run, slot: Slot, width: u32, value: u128) -> Result<(), AllocError>
-    ensures { OnOk result ((s : State Slot) → IsAt run.old s → IsAt run.new (machine.set_in Slot same_slot s slot (terms.Int width value))) }
+    ensures { OnOk result ((trees : List TypeTree) → (s : State Slot) → IsAt trees run.old s → IsAt trees run.new (machine.set_in Slot same_slot s slot (terms.Int width value))) }
 {
     let place = intern(run, TermNode::Int(width, value))?;
     set(run, slot, place)
@@ -115,8 +116,8 @@ fn build(
     places: Vec<u32>,
 ) -> Result<(), AllocError>
     requires { All (λ k. k < length run.old.table) places.items }
-    ensures { OnOk result ((s : State Slot) → (ts : List Term) → IsAt run.old s → AllNamed run.old.table places.items ts
-        → IsAt run.new (machine.set_in Slot same_slot s slot (terms.Expr op (tree_of types.now.result) (terms.terms_of ts)))) }
+    ensures { OnOk result ((trees : List TypeTree) → (s : State Slot) → (ts : List Term) → HasTypesBelow (length trees) types.now → IsAt trees run.old s → AllNamed trees run.old.table places.items ts
+        → IsAt trees run.new (machine.set_in Slot same_slot s slot (terms.Expr op (type_at trees types.now.result) (terms.terms_of ts)))) }
 {
     let node = TermNode::Expr {
         op,
@@ -145,8 +146,8 @@ fn show(
     types: &Types,
     places: Vec<u32>,
 ) -> Result<(), AllocError>
-    ensures { OnOk result ((s : State Slot) → (ts : List Term) → IsAt run.old s → AllNamed run.old.table places.items ts
-        → IsAt run.new (machine.answered Slot same_slot s slot (machine.Event op (tree_of types.now.result) (map tree_of types.now.operands) ts))) }
+    ensures { OnOk result ((trees : List TypeTree) → (s : State Slot) → (ts : List Term) → HasTypesBelow (length trees) types.now → IsAt trees run.old s → AllNamed trees run.old.table places.items ts
+        → IsAt trees run.new (machine.answered Slot same_slot s slot (machine.Event op (type_at trees types.now.result) (map (type_at trees) types.now.operands) ts))) }
 {
     let count = run.count;
     if count >= u32::MAX {
@@ -176,8 +177,8 @@ fn is_silent(op: Op) -> bool
 
 /// A row.
 fn apply(run: &mut Run, row: &Row) -> Result<(), AllocError>
-    requires { IsRun run.old }
-    ensures { OnOk result ((s : State Slot) → IsAt run.old s → IsAt run.new (machine.apply Slot same_slot s row.now.result (action_of row.now.action))) }
+    requires { IsRunOver (λ n. IsTypedRow n row.now) run.old }
+    ensures { OnOk result ((trees : List TypeTree) → (s : State Slot) → IsTypedRow (length trees) row.now → IsAt trees run.old s → IsAt trees run.new (machine.apply Slot same_slot s row.now.result (action_of trees row.now.action))) }
 {
     match &row.action {
         Action::Holds(width, value) => hold(run, row.result, *width, *value),
@@ -198,8 +199,8 @@ fn apply(run: &mut Run, row: &Row) -> Result<(), AllocError>
 
 /// The rows of a block.
 fn straight(run: &mut Run, rows: &[Row]) -> Result<(), AllocError>
-    requires { IsRun run.old }
-    ensures { OnOk result ((s : State Slot) → IsAt run.old s → IsAt run.new (machine.straight Slot same_slot s (map row_of rows.now))) }
+    requires { IsRunOver (λ n. All (IsTypedRow n) rows.now) run.old }
+    ensures { OnOk result ((trees : List TypeTree) → (s : State Slot) → All (IsTypedRow (length trees)) rows.now → IsAt trees run.old s → IsAt trees run.new (machine.straight Slot same_slot s (map (row_of trees) rows.now))) }
 {
     for row in rows {
         apply(run, row)?;
@@ -219,8 +220,8 @@ fn given_at(sources: &[Option<Source>], at: usize) -> Option<Source>
 
 /// The place of what an edge hands to a phi or argument, which is unset where it hands nothing.
 fn read_given(run: &mut Run, source: Option<Source>) -> Result<u32, AllocError>
-    ensures at { IfOk result (λ k. (s : State Slot) → IsAt run.old s → IsAt run.new s × Names run.new.table k (machine.read_move s.env (option_map source_of source))) }
-    ensures kept { OnOk result (Keeps run.old.table run.new.table) }
+    ensures at { IfOk result (λ k. (trees : List TypeTree) → (s : State Slot) → IsAt trees run.old s → IsAt trees run.new s × Names trees run.new.table k (machine.read_move s.env (option_map source_of source))) }
+    ensures kept { OnOk result ((trees : List TypeTree) → Keeps trees run.old.table run.new.table) }
 {
     match source {
         Some(source) => read(run, source),
@@ -234,7 +235,7 @@ fn read_moves(
     params: &[Slot],
     sources: &[Option<Source>],
 ) -> Result<Vec<u32>, AllocError>
-    ensures at { IfOk result (λ ks. (s : State Slot) → IsAt run.old s → IsAt run.new s × AllNamed run.new.table ks.items (map (λ m. machine.read_move s.env m.1) (moves_from 0 params.now sources.now))) }
+    ensures at { IfOk result (λ ks. (trees : List TypeTree) → (s : State Slot) → IsAt trees run.old s → IsAt trees run.new s × AllNamed trees run.new.table ks.items (map (λ m. machine.read_move s.env m.1) (moves_from 0 params.now sources.now))) }
     ensures len { IfOk result (λ ks. length ks.items ≡ length params.now) }
 {
     let mut places = Vec::new(run.alloc);
@@ -248,7 +249,7 @@ fn read_moves(
 /// Gives values the terms at places, each in turn.
 fn set_all(run: &mut Run, slots: &[Slot], places: &[u32]) -> Result<(), AllocError>
     requires { length places.now ≡ length slots.now }
-    ensures { OnOk result ((s : State Slot) → (ts : List Term) → IsAt run.old s → AllNamed run.old.table places.now ts → IsAt run.new (with_each s slots.now ts)) }
+    ensures { OnOk result ((trees : List TypeTree) → (s : State Slot) → (ts : List Term) → IsAt trees run.old s → AllNamed trees run.old.table places.now ts → IsAt trees run.new (with_each s slots.now ts)) }
 {
     for at in 0..slots.len() {
         set(run, slots[at], places[at])?;
@@ -258,7 +259,7 @@ fn set_all(run: &mut Run, slots: &[Slot], places: &[u32]) -> Result<(), AllocErr
 
 /// What an edge hands to the phis or arguments of its target, all read before any is set.
 fn move_all(run: &mut Run, params: &[Slot], sources: &[Option<Source>]) -> Result<(), AllocError>
-    ensures { OnOk result ((s : State Slot) → IsAt run.old s → IsAt run.new (machine.move Slot same_slot s (moves_from 0 params.now sources.now))) }
+    ensures { OnOk result ((trees : List TypeTree) → (s : State Slot) → IsAt trees run.old s → IsAt trees run.new (machine.move Slot same_slot s (moves_from 0 params.now sources.now))) }
 {
     let places = read_moves(run, params, sources)?;
     set_all(run, params, places.as_slice())
@@ -266,8 +267,8 @@ fn move_all(run: &mut Run, params: &[Slot], sources: &[Option<Source>]) -> Resul
 
 /// Enters a block and runs it to its end.
 fn arrive(run: &mut Run, to: u32, rows: &[Row]) -> Result<(), AllocError>
-    requires { IsRun run.old }
-    ensures { OnOk result ((s : State Slot) → IsAt run.old s → IsAt run.new (machine.arrive Slot same_slot s to (map row_of rows.now))) }
+    requires { IsRunOver (λ n. All (IsTypedRow n) rows.now) run.old }
+    ensures { OnOk result ((trees : List TypeTree) → (s : State Slot) → All (IsTypedRow (length trees)) rows.now → IsAt trees run.old s → IsAt trees run.new (machine.arrive Slot same_slot s to (map (row_of trees) rows.now))) }
 {
     run.block = to;
     note(run, TraceItem::Block(to))?;
@@ -276,9 +277,9 @@ fn arrive(run: &mut Run, to: u32, rows: &[Row]) -> Result<(), AllocError>
 
 /// Takes an edge to a block, given the phis or arguments there.
 fn follow(run: &mut Run, edge: &Edge, params: &[Slot], target: &Block) -> Result<(), AllocError>
-    requires { IsRun run.old }
-    ensures { OnOk result ((s : State Slot) → IsAt run.old s
-        → IsAt run.new (machine.arrive Slot same_slot (machine.move Slot same_slot s (moves_from 0 params.now edge.now.sources)) edge.now.to (map row_of target.now.rows))) }
+    requires { IsRunOver (λ n. IsTypedBlock n target.now) run.old }
+    ensures { OnOk result ((trees : List TypeTree) → (s : State Slot) → IsTypedBlock (length trees) target.now → IsAt trees run.old s
+        → IsAt trees run.new (machine.arrive Slot same_slot (machine.move Slot same_slot s (moves_from 0 params.now edge.now.sources)) edge.now.to (map (row_of trees) target.now.rows))) }
 {
     move_all(run, params, edge.sources.as_slice())?;
     arrive(run, edge.to, target.rows.as_slice())
@@ -296,8 +297,8 @@ fn params_of(body: &Body, at: u32) -> &[Slot]
 
 /// Takes the edge that a choice names, and answers whether there is one that leads to a block.
 fn jump(run: &mut Run, body: &Body, choice: u32) -> Result<bool, AllocError>
-    requires { IsRun run.old }
-    ensures { IfOk result (λ went. (s : State Slot) → IsAt run.old s → IsJumped run.new went s (machine.jump Slot same_slot (code_of body.now.params body.now.blocks) s choice)) }
+    requires { IsRunOver (λ n. All (IsTypedBlock n) body.now.blocks) run.old }
+    ensures { IfOk result (λ went. (trees : List TypeTree) → (s : State Slot) → All (IsTypedBlock (length trees)) body.now.blocks → IsAt trees run.old s → IsJumped trees run.new went s (machine.jump Slot same_slot (code_of trees body.now.params body.now.blocks) s choice)) }
 {
     let code = body.blocks.as_slice();
     let Some(block) = code.get(run.block as usize) else {
@@ -315,8 +316,8 @@ fn jump(run: &mut Run, body: &Body, choice: u32) -> Result<bool, AllocError>
 
 /// Runs on, with a choice for each jump, until the choices end or one names no edge.
 fn run_on(run: &mut Run, body: &Body, choices: &[u32]) -> Result<(), AllocError>
-    requires { IsRun run.old }
-    ensures { OnOk result ((s : State Slot) → IsAt run.old s → IsAt run.new (machine.run Slot same_slot (code_of body.now.params body.now.blocks) choices.now s)) }
+    requires { IsRunOver (λ n. All (IsTypedBlock n) body.now.blocks) run.old }
+    ensures { OnOk result ((trees : List TypeTree) → (s : State Slot) → All (IsTypedBlock (length trees)) body.now.blocks → IsAt trees run.old s → IsAt trees run.new (machine.run Slot same_slot (code_of trees body.now.params body.now.blocks) choices.now s)) }
 {
     for choice in choices {
         if !jump(run, body, *choice)? {
@@ -328,8 +329,8 @@ fn run_on(run: &mut Run, body: &Body, choices: &[u32]) -> Result<(), AllocError>
 
 /// Sets the parameters of a run that has none so far.
 fn set_inputs(run: &mut Run, holder: u32, inputs: u32) -> Result<(), AllocError>
-    requires { IsAt run.old (machine.begin Slot same_slot (start_of holder 0)) }
-    ensures { OnOk result (IsAt run.new (machine.begin Slot same_slot (start_of holder inputs))) }
+    requires { (trees : List TypeTree) → IsAt trees run.old (machine.begin Slot same_slot (start_of holder 0)) }
+    ensures { OnOk result ((trees : List TypeTree) → IsAt trees run.new (machine.begin Slot same_slot (start_of holder inputs))) }
 {
     for place in 0..inputs {
         let term = intern(run, TermNode::Param(place))?;
@@ -340,7 +341,7 @@ fn set_inputs(run: &mut Run, holder: u32, inputs: u32) -> Result<(), AllocError>
 
 /// A run before its first block, with its parameters set.
 fn begin(alloc: Global, holder: u32, inputs: u32) -> Result<Run, AllocError>
-    ensures { IfOk result (λ run. IsAt run (machine.begin Slot same_slot (start_of holder inputs))) }
+    ensures { IfOk result (λ run. (trees : List TypeTree) → IsAt trees run (machine.begin Slot same_slot (start_of holder inputs))) }
 {
     let mut run = Run {
         alloc,
@@ -355,7 +356,8 @@ fn begin(alloc: Global, holder: u32, inputs: u32) -> Result<Run, AllocError>
 
 /// A run that is at the end of the first block.
 fn first(alloc: Global, body: &Body) -> Result<Run, AllocError>
-    ensures { IfOk result (λ run. IsAt run (machine.first Slot same_slot (start_of body.now.holder body.now.inputs) (code_of body.now.params body.now.blocks))) }
+    requires { (trees : List TypeTree) × All (IsTypedBlock (length trees)) body.now.blocks }
+    ensures { IfOk result (λ run. (trees : List TypeTree) → All (IsTypedBlock (length trees)) body.now.blocks → IsAt trees run (machine.first Slot same_slot (start_of body.now.holder body.now.inputs) (code_of trees body.now.params body.now.blocks))) }
 {
     let mut run = begin(alloc, body.holder, body.inputs)?;
     match body.blocks.as_slice().first() {
@@ -365,19 +367,21 @@ fn first(alloc: Global, body: &Body) -> Result<Run, AllocError>
 }
 
 /// The trace of a body, for a list of choices.
-pub fn trace_body(alloc: Global, body: &Body, choices: &[u32]) -> Result<Trace, AllocError>
-    ensures exact { IfOk result (λ t. map (item_of (table.terms t.terms)) t.items.items ≡ machine.trace Slot same_slot (start_of body.now.holder body.now.inputs) (code_of body.now.params body.now.blocks) choices.now) }
-    ensures within { IfOk result (λ t. All (HasPlacesBelow (length t.terms)) t.items.items) }
-    ensures shared { IfOk result (λ t. IsDistinctList (table.terms t.terms)) }
-    ensures grounded { IfOk result (λ t. IsGrounded t.terms) }
+pub fn trace_body(alloc: Global, body: Body, choices: &[u32]) -> Result<Trace, AllocError>
+    requires typed { All (IsTypedBlock (length (type_trees body.types))) body.blocks }
+    ensures exact { IfOk result (λ t. items_of t ≡ machine.trace Slot same_slot (start_of body.holder body.inputs) (code_of (type_trees body.types) body.params body.blocks) choices.now) }
+    ensures tables { IfOk result HasTables }
 {
-    let mut run = first(alloc, body)?;
-    run_on(&mut run, body, choices)?;
+    let mut run = first(alloc, &body)?;
+    run_on(&mut run, &body, choices)?;
     let Run { table, items, .. } = run;
+    let Body { types, .. } = body;
 
-    // This tells the proof what is true of every table.
+    // These tell the proof what is true of every table.
+    let _ = types.len();
     let _ = table.len();
     Ok(Trace {
+        types,
         terms: table,
         items,
     })

@@ -1,28 +1,16 @@
 //! Terms in a table, each with its parts by the places of earlier ones, and each kept once.
 
-ghost use Rattle.std.specs.Prelude.{◌≡◌, ◌<◌, ◌+◌, [], Some, IfOk, OnErr, length, slice_get};
+ghost use Rattle.std.specs.Prelude.{◌≡◌, ◌<◌, ℕ, List, [], Some, IfOk, OnOk, OnErr, length, slice_get};
 ghost use Rattle.support.specs.Interned.{IsDistinctList};
-ghost use Rattle.tracing.specs.Table.{terms, node_term, HasPartsBelow, IsGrounded, Gives};
+ghost use Rattle.llvm_core.specs.Data.{TypeTree};
+ghost use Rattle.tracing.specs.Table.{terms, node_term, HasPartsBelow, IsGrounded, HasTypeBelow, AreTyped, Gives};
 
 use kinds::op::Op;
-use kinds::types::{Floating, OtherType};
+use llvm_core::numbers::LLVMType;
 use std::alloc::{AllocError, Global};
 use std::marker::Model;
 use support::interner::Interner;
 use support::items::Items;
-
-/// The type of a value, or void: a line for each kind of type that a value has.
-#[derive(Clone, Copy, PartialEq, Eq, Hash, Debug, Drop)]
-pub enum ValueType {
-    Void,
-    /// An integer type of a width in bits.
-    Int(u32),
-    /// A pointer type of an address space.
-    Pointer(u32),
-    Floating(Floating),
-    /// A type of LLVM's side for which the dialect has none.
-    Other(OtherType),
-}
 
 /// A term, whose parts are places of earlier ones: a line for each sort that a run makes today.
 #[derive(PartialEq, Eq, Hash, Drop)]
@@ -35,10 +23,10 @@ pub enum TermNode {
     Unset,
     /// An integer of a width.
     Int(u32, u128),
-    /// An expression of a silent row.
+    /// An expression of a silent row, whose type is a place of a table of types.
     Expr {
         op: Op,
-        ty: ValueType,
+        ty: LLVMType,
         operands: Items<u32>,
     },
 }
@@ -74,8 +62,8 @@ impl TermTable {
     pub fn len(&self) -> u32
         ensures len { result ≡ length self.now }
 
-        // No term stands twice, and the parts of each stand before it.
-        ensures apart { IsDistinctList (terms self.now) }
+        // No term stands twice, where no type does, and the parts of each stand before it.
+        ensures apart { (trees : List TypeTree) → IsDistinctList trees → AreTyped (length trees) self.now → IsDistinctList (terms trees self.now) }
         ensures grounded { IsGrounded self.now }
     {
         self.nodes.len()
@@ -91,7 +79,8 @@ impl TermTable {
     /// The place of a term, new or old.
     pub fn intern(&mut self, node: TermNode) -> Result<u32, AllocError>
         requires { HasPartsBelow (length self.old) node }
-        ensures gives { IfOk result (λ k. Gives self.old self.new k (node_term (terms self.old) node)) }
+        ensures gives { IfOk result (λ k. (trees : List TypeTree) → Gives trees self.old self.new k (node_term trees (terms trees self.old) node)) }
+        ensures typed { OnOk result ((n : ℕ) → AreTyped n self.old → HasTypeBelow n node → AreTyped n self.new) }
         ensures err { OnErr result (self.new ≡ self.old) }
     {
         let place = self.nodes.get(node)?;

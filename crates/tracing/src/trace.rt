@@ -1,14 +1,16 @@
 //! What a run shows.
 
-use crate::table::{TermTable, ValueType};
+use crate::table::TermTable;
+use crate::type_table::TypeTable;
 use kinds::op::Op;
+use llvm_core::numbers::LLVMType;
 use support::items::Items;
 
-/// The types of the result and of the operands of an instruction.
+/// The types of the result and of the operands of an instruction, as places of a table.
 #[derive(Drop)]
 pub struct Types {
-    pub result: ValueType,
-    pub operands: Items<ValueType>,
+    pub result: LLVMType,
+    pub operands: Items<LLVMType>,
 }
 
 /// An item of a trace.
@@ -16,7 +18,7 @@ pub struct Types {
 pub enum TraceItem {
     /// A block that is entered, by its place in the body.
     Block(u32),
-    /// An event, whose operands are places of the table of terms.
+    /// An event, whose types are places of the table of types, and its operands places of the table of terms.
     Event {
         op: Op,
         types: Types,
@@ -24,9 +26,10 @@ pub enum TraceItem {
     },
 }
 
-/// The blocks that a run enters and its events, and the terms that these name.
+/// The blocks that a run enters and its events, and the types and terms that these name.
 #[derive(Drop)]
 pub struct Trace {
+    pub types: TypeTable,
     pub terms: TermTable,
     pub items: Vec<TraceItem>,
 }

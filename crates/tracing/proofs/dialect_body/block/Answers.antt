@@ -6,8 +6,8 @@ use Rattle.tracing.proofs.DialectEdgeLaws.{block_is}
 use Rattle.tracing.proofs.DialectBlockLaws.{ops_are}
 use Rattle.tracing.proofs.dialect_body.block.Goals as goal
 
-pub rows-requires : goal.rows-requires
-rows-requires c =
+pub rows-requires-clause-here : goal.rows-requires-clause-here
+rows-requires-clause-here c =
     let h = c.requires.block.0 in
     let y = c.requires.block.1 in
     let listed = c.as_slice.ensures.value ∙ c.in_ok-ops.ensures in
@@ -20,9 +20,10 @@ edges-requires c =
     let listed = c.as_slice-2.ensures.value ∙ c.in_ok-ops.ensures in
     (h, y.ops, subst (λ (rs : List OpRef). AreOpsIn c.args.ctx.now h rs y.ops) (sym listed) (ops_are c.args.ctx.now h c.args.b y c.requires.block.2))
 
-pub returns : goal.returns
-returns c = λ setting h y at numbers.
+pub returns-clause-is : goal.returns-clause-is
+returns-clause-is c = λ setting h y at numbers later more.
     let ops = ops_are c.args.ctx.now h c.args.b y at in
     let first = subst (λ (rs : List OpRef). AreOpsIn c.args.ctx.now h rs y.ops) (sym (c.as_slice.ensures.value ∙ c.in_ok-ops.ensures)) ops in
     let second = subst (λ (rs : List OpRef). AreOpsIn c.args.ctx.now h rs y.ops) (sym (c.as_slice-2.ensures.value ∙ c.in_ok-ops.ensures)) ops in
-    block_is setting c.args.ctx.now h _ y c.args.places.now numbers (c.in_ok-rows.ensures setting h y.ops first) (c.in_ok-edges.ensures h y.ops second)
+    let rows = c.in_ok-rows.ensures.rows setting h y.ops first later more in
+    (block_is later setting c.args.ctx.now h _ y c.args.places.now numbers rows.0 (c.in_ok-edges.ensures h y.ops second), rows.1)

@@ -2,6 +2,8 @@
 use Rattle.std.proofs.Common.{subst, sym}
 use Rattle.support.specs.Interned.{IsDistinctList}
 use Rattle.tracing.proofs.DialectBlockLaws.{blocks_are, numbers_are, numbers_apart, start_is, some_ref}
+use Rattle.dialect_core.specs.Data.{data_of}
+use Rattle.meaning.specs.Dialect.{setting_of}
 use Rattle.tracing.proofs.dialect_body.dialect_body.Goals as goal
 
 pub placed_blocks-requires-clause-once : goal.placed_blocks-requires-clause-once
@@ -21,7 +23,15 @@ returns-clause-code c = λ setting h is.
     let x = c.args.ctx.now in
     let list = c.op_blocks-list.result.now in
     let all = blocks_are x h c.args.f.0 list is c.op_blocks-list.ensures.blocks c.op_blocks-list.ensures.within in
-    rw (c.in_ok-params.ensures h all) (c.in_ok-blocks.ensures setting h all)
+    rw (c.in_ok-params.ensures h all, c.into_table.ensures) (c.in_ok-blocks.ensures setting h all _ (λ k t at. at)).0
+
+pub returns-clause-typed : goal.returns-clause-typed
+returns-clause-typed c = λ h is.
+    let x = c.args.ctx.now in
+    let list = c.op_blocks-list.result.now in
+    let all = blocks_are x h c.args.f.0 list is c.op_blocks-list.ensures.blocks c.op_blocks-list.ensures.within in
+    let setting = setting_of (data_of x 0) in
+    rw c.into_table.ensures (c.in_ok-blocks.ensures setting h all _ (λ k t at. at)).1
 
 pub returns-clause-start : goal.returns-clause-start
 returns-clause-start c = λ h is.

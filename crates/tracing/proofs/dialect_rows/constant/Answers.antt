@@ -16,7 +16,9 @@ pub int_width-requires-clause-int : goal.int_width-requires-clause-int
 int_width-requires-clause-int c = let k = c.requires.integer _ _ (ap (attr_tree (type_trees c.args.ctx.now.types)) c.parts_of-number.ensures) in (k.0, k.1)
 
 pub returns : goal.returns
-returns c = λ setting.
-    let ts = type_trees c.args.ctx.now.types in
-    ap (λ (n : ℕ). let a : Action Slot = Holds (Int c.int_width.result n) in a) c.from.ensures
-    ∙ sym (ap (λ (k : ConstAttr). let a : Action Slot = Holds (attr_term setting (attr_tree ts k)) in a) c.parts_of-number.ensures ∙ ap (λ (t : TypeTree). let a : Action Slot = Holds (Int (width_in t) c.parts_of-number.result.1) in a) c.int_width.ensures)
+returns c = λ setting trees later more.
+    let ts = type_trees c.args.ctx.now.types in (
+      ap (λ (n : ℕ). let a : Action Slot = Holds (Int c.int_width.result n) in a) c.from.ensures
+          ∙ sym (ap (λ (k : ConstAttr). let a : Action Slot = Holds (attr_term setting (attr_tree ts k)) in a) c.parts_of-number.ensures ∙ ap (λ (t : TypeTree). let a : Action Slot = Holds (Int (width_in t) c.parts_of-number.result.1) in a) c.int_width.ensures),
+      tt,
+    )

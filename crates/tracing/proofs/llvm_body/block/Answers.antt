@@ -3,8 +3,8 @@ use Rattle.tracing.proofs.IndexLaws.{insts_placed}
 use Rattle.tracing.proofs.EdgeLaws.{block_is, block_number}
 use Rattle.tracing.proofs.llvm_body.block.Goals as goal
 
-pub rows-requires : goal.rows-requires
-rows-requires c =
+pub rows-requires-clause-here : goal.rows-requires-clause-here
+rows-requires-clause-here c =
     let h = c.requires.block.0 in
     let y = c.requires.block.1 in
     (h, c.args.b.0, y.instructions, insts_placed c.args.m.now h c.args.b y c.instructions-insts.result.now c.requires.block.2 c.instructions-insts.ensures.insts)
@@ -15,8 +15,9 @@ block_edges-requires c =
     let y = c.requires.block.1 in
     (h, c.args.b.0, y.instructions, insts_placed c.args.m.now h c.args.b y c.instructions-insts.result.now c.requires.block.2 c.instructions-insts.ensures.insts)
 
-pub returns : goal.returns
-returns c = λ h y at index.
+pub returns-clause-is : goal.returns-clause-is
+returns-clause-is c = λ h y at index later more.
     let m = c.args.m.now in
     let placed = insts_placed m h c.args.b y c.instructions-insts.result.now at c.instructions-insts.ensures.insts in
-    block_is m h c.args.index.now index _ y c.args.b.0 (block_number m h c.args.b y at) (c.in_ok-rows.ensures h c.args.b.0 y.instructions placed) (c.in_ok-block_edges.ensures h c.args.b.0 y.instructions placed)
+    let rows = c.in_ok-rows.ensures.rows h c.args.b.0 y.instructions placed later more in
+    (block_is m h c.args.index.now index later _ y c.args.b.0 (block_number m h c.args.b y at) rows.0 (c.in_ok-block_edges.ensures h c.args.b.0 y.instructions placed), rows.1)

@@ -1,13 +1,15 @@
 -- What holds in the loop of `llvm_body::blocks`.
 use Rattle.std.specs.Prelude.{◌≡◌, map, take}
-use Rattle.llvm_core.specs.Data.{Block}
+use Rattle.llvm_core.specs.Data.{Block, trees_of}
 use Rattle.meaning.specs.Llvm.{block}
-use Rattle.tracing.specs.Bodies.{block_of}
+use Rattle.tracing.specs.TypePlaces.{trees_in, IsGrown}
+use Rattle.tracing.specs.Bodies.{AreBlocks}
 use Rattle.tracing.specs.Renamed.{renamed_block}
 use Rattle.tracing.specs.LlvmBodies.{setting_in, slot_of, InChecked, data_in, IsIndexOf, params_in}
 use Rattle.tracing.proofs.llvm_body.blocks.Given as goal
 
 abbrev pub invariant-loop-b : goal.invariant-loop-b
 invariant-loop-b l = record {
-  at : (h : InChecked l.m) → h.number ≡ l.fn.f.0 → IsIndexOf l.m h l.index → map (block_of (params_in l.index)) l.blocks ≡ map (λ (y : Block). renamed_block slot_of (block (setting_in l.m) (data_in l.m h) y)) (take l.b-index (data_in l.m h).blocks);
+  at : (h : InChecked l.m) → h.number ≡ l.fn.f.0 → IsIndexOf l.m h l.index → AreBlocks (trees_in l.types) (params_in l.index) l.blocks (map (λ (y : Block). renamed_block slot_of (block (setting_in l.m) (data_in l.m h) y)) (take l.b-index (data_in l.m h).blocks));
+  grown : IsGrown (trees_of l.m).types l.fn.types l.types;
 }

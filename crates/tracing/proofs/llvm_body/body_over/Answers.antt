@@ -4,7 +4,10 @@ use Rattle.tracing.proofs.IndexLaws.{start_is}
 use Rattle.tracing.proofs.llvm_body.body_over.Goals as goal
 
 pub returns-clause-code : goal.returns-clause-code
-returns-clause-code c = λ h is index. rw c.in_ok-params.ensures (c.in_ok-blocks.ensures h is index)
+returns-clause-code c = λ h is index. rw (c.in_ok-params.ensures, c.into_table.ensures) (c.in_ok-blocks.ensures h is index _ (λ k t at. at)).0
+
+pub returns-clause-typed : goal.returns-clause-typed
+returns-clause-typed c = λ h is index. rw c.into_table.ensures (c.in_ok-blocks.ensures h is index _ (λ k t at. at)).1
 
 pub returns-clause-start : goal.returns-clause-start
 returns-clause-start c = λ h is count. start_is (data_in c.args.m.now h) c.args.f.0 c.args.inputs is count

@@ -7,3 +7,6 @@ returns-clause-code c = IfOk-weaker c.body_over.result _ _ (λ body code h is. c
 
 pub returns-clause-start : goal.returns-clause-start
 returns-clause-start c = IfOk-weaker c.body_over.result _ _ (λ body start h is. start h is (c.in_ok-inputs.ensures h is)) c.body_over.ensures.start
+
+pub returns-clause-typed : goal.returns-clause-typed
+returns-clause-typed c = IfOk-weaker c.body_over.result _ _ (λ body typed h is. typed h is (c.in_ok-index.ensures h is)) c.body_over.ensures.typed

@@ -1,27 +1,31 @@
 -- What `llvm_rows::push_row` owes besides what the check finds.
-use Rattle.std.proofs.Common.{Some, sym, ap, ◌∙◌, ◌++◌, ◌∷◌, [], map, Option}
+use Rattle.std.proofs.Common.{Some, sym, ap, subst, ◌∙◌, ◌++◌, [], Option}
 use Rattle.std.specs.List.{cons_option}
-use Rattle.std.proofs.lemmas.List.{map-append, append-nil}
+use Rattle.std.proofs.lemmas.List.{append-nil}
 use Rattle.std.proofs.lemmas.Result.{on_ok_weaker}
 use Rattle.meaning.specs.Machine as M
 use Rattle.tracing.specs.declared.body.Slot.{Slot}
-use Rattle.tracing.specs.Bodies.{row_of}
+use Rattle.tracing.specs.TypePlaces.{trees_in}
+use Rattle.tracing.specs.Bodies.{AreRows}
+use Rattle.tracing.proofs.GrowLaws.{rows_push}
 use Rattle.tracing.proofs.LlvmLaws.{row_is, no_row}
 use Rattle.tracing.proofs.llvm_rows.push_row.Goals as goal
 
-pub returns-in-Phi : goal.returns-in-Phi
-returns-in-Phi c = λ h b p at.
+pub returns-in-Phi-clause-rows : goal.returns-in-Phi-clause-rows
+returns-in-Phi-clause-rows c = λ h b p at xs before.
     let none = no_row c.args.m.now h b c.args.i p c.in-Phi.field-0 c.in-Phi.field-1 at (c.inst.ensures.inst ∙ ap Some c.in-Phi.is) in
-    sym (append-nil (map row_of c.args.rows.now)) ∙ ap (λ (o : Option (M.Row Slot)). map row_of c.args.rows.now ++ cons_option o []) (sym none)
+    subst (λ (o : Option (M.Row Slot)). AreRows (trees_in c.args.types.now) c.args.rows.now (xs ++ cons_option o [])) (sym none) (subst (AreRows (trees_in c.args.types.now) c.args.rows.now) (sym (append-nil xs)) before)
 
-pub action-requires : goal.action-requires
-action-requires c = (c.requires.0, c.requires.1, c.requires.2, record { placed = c.requires.3; is = c.inst.ensures.inst ∙ ap Some c.in-Row.is })
+pub action-requires-clause-here : goal.action-requires-clause-here
+action-requires-clause-here c = let r = c.requires.here in (r.0, r.1, r.2, record { placed = r.3; is = c.inst.ensures.inst ∙ ap Some c.in-Row.is })
 
-pub returns-in_ok-action-in-Row : goal.returns-in_ok-action-in-Row
-returns-in_ok-action-in-Row c =
+pub returns-in_ok-action-in-Row-clause-rows : goal.returns-in_ok-action-in-Row-clause-rows
+returns-in_ok-action-in-Row-clause-rows c =
     on_ok_weaker c.push.result
-    (λ ok h b p at.
+    (λ ok h b p at xs before.
     let is = c.inst.ensures.inst ∙ ap Some c.in-Row.is in
-    let row = row_is c.args.m.now h b c.args.i p c.in-Row.row c.in_ok-action-in-Row.action (record { placed = at; is = is }) (c.in_ok-action-in-Row.ensures h b p (record { placed = at; is = is })) in
-    ap (map row_of) ok ∙ map-append row_of c.args.rows.now (_ ∷ []) ∙ ap (λ (o : Option (M.Row Slot)). map row_of c.args.rows.now ++ cons_option o []) (sym row))
+    let here = c.in_ok-action-in-Row.ensures.is h b p (record { placed = at; is = is }) in
+    let row = row_is c.args.m.now h b c.args.i p c.in-Row.row (record { placed = at; is = is }) in
+    let rows = rows_push _ (trees_in c.action.new.types) c.args.rows.now xs c.in_ok-action-in-Row.action _ _ c.in_ok-action-in-Row.ensures.grown.kept before here in
+    subst (λ (o : Option (M.Row Slot)). AreRows (trees_in c.action.new.types) c.push.new.self (xs ++ cons_option o [])) (sym row) (rw ok rows))
     c.push.ensures.ok

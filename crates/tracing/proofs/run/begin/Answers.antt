@@ -1,5 +1,7 @@
 -- What `run::begin` owes besides what the check finds.
+use Rattle.std.proofs.Common.{List}
 use Rattle.support.proofs.ResultLaws.{handed_on}
+use Rattle.llvm_core.specs.Data.{TypeTree}
 use Rattle.meaning.specs.Machine as M
 use Rattle.tracing.specs.declared.body.Slot.{Slot}
 use Rattle.tracing.specs.Bodies.{same_slot, start_of}
@@ -7,4 +9,6 @@ use Rattle.tracing.specs.Runs.{IsAt}
 use Rattle.tracing.proofs.run.begin.Goals as goal
 
 pub returns : goal.returns
-returns c = rw c.and.ensures (handed_on c.set_inputs.result c.set_inputs.new.run (λ r. IsAt r (M.begin Slot same_slot (start_of c.args.holder c.args.inputs))) _ (λ at. at) c.set_inputs.ensures)
+returns c =
+    rw c.and.ensures
+    (handed_on c.set_inputs.result c.set_inputs.new.run (λ r. (trees : List TypeTree) → IsAt trees r (M.begin Slot same_slot (start_of c.args.holder c.args.inputs))) _ (λ at. at) c.set_inputs.ensures)

@@ -2,17 +2,17 @@
 use Rattle.std.proofs.Common.{subst, List}
 use Rattle.std.proofs.lemmas.Result.{on_ok_weaker}
 use Rattle.meaning.specs.Terms.{Term, Expr, terms_of}
-use Rattle.tracing.specs.Table.{tree_of}
+use Rattle.llvm_core.specs.Data.{type_at}
 use Rattle.tracing.specs.Runs.{Names}
 use Rattle.tracing.proofs.RunLaws.{named_terms}
 use Rattle.tracing.proofs.run.build.Goals as goal
 
 pub returns : goal.returns
 returns c =
-    let expr = λ (us : List Term). Expr c.args.op (tree_of c.args.types.now.result) (terms_of us) in
-    let at = rw c.from_vec.ensures at c.in_ok-place.ensures.named in
     on_ok_weaker c.set.result
-    (λ f s ts h named.
-    f s (expr ts) (c.in_ok-place.ensures.at s h)
-    (subst (λ (us : List Term). Names c.intern.new.run.table c.in_ok-place.place (expr us)) (named_terms c.args.run.now.table c.args.places.items ts named) at))
+    (λ f trees s ts below h named.
+    let expr = λ (us : List Term). Expr c.args.op (type_at trees c.args.types.now.result) (terms_of us) in
+    let at = rw c.from_vec.ensures at (c.in_ok-place.ensures.named trees) in
+    f trees s (expr ts) (c.in_ok-place.ensures.at trees s below.0 h)
+    (subst (λ (us : List Term). Names trees c.intern.new.run.table c.in_ok-place.place (expr us)) (named_terms trees c.args.run.now.table c.args.places.items ts named) at))
     c.set.ensures.at

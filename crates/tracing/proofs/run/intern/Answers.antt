@@ -1,14 +1,15 @@
 -- What `run::intern` owes besides what the check finds.
-use Rattle.std.proofs.Common.{refl}
+use Rattle.std.proofs.Common.{refl, length}
+use Rattle.support.proofs.ResultLaws.{both}
 use Rattle.std.proofs.lemmas.Result.{IfOk-weaker}
 use Rattle.tracing.proofs.RunLaws.{grown_keeps, grown_at}
 use Rattle.tracing.proofs.run.intern.Goals as goal
 
 pub returns-clause-at : goal.returns-clause-at
-returns-clause-at c = IfOk-weaker c.intern.result _ _ (λ k g. grown_at _ _ refl refl refl refl (grown_keeps _ _ g.more g.grown)) c.intern.ensures.gives
+returns-clause-at c = both c.intern.result c.intern.ensures.gives c.intern.ensures.typed (λ k g typed trees s here h. grown_at trees _ _ refl refl refl refl (grown_keeps trees _ _ (g trees).more (g trees).grown) (typed (length trees) h.typed here) s h)
 
 pub returns-clause-named : goal.returns-clause-named
-returns-clause-named c = IfOk-weaker c.intern.result _ _ (λ k g. g.here) c.intern.ensures.gives
+returns-clause-named c = IfOk-weaker c.intern.result _ _ (λ k g trees. (g trees).here) c.intern.ensures.gives
 
 pub returns-clause-kept : goal.returns-clause-kept
-returns-clause-kept c = IfOk-weaker c.intern.result _ _ (λ k g. grown_keeps _ _ g.more g.grown) c.intern.ensures.gives
+returns-clause-kept c = IfOk-weaker c.intern.result _ _ (λ k g trees. grown_keeps trees _ _ (g trees).more (g trees).grown) c.intern.ensures.gives

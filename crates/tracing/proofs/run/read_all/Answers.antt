@@ -9,22 +9,22 @@ use Rattle.tracing.proofs.run.read_all.Goals as goal
 
 pub loop-source-preserved : goal.loop-source-preserved
 loop-source-preserved c = record {
-  at = λ s h.
-      let v = c.loop-source.invariant.at s h in
-      let n = c.in_ok-place.ensures.at s v.0 in (
+  at = λ trees s h.
+      let v = c.loop-source.invariant.at trees s h in
+      let n = c.in_ok-place.ensures.at trees s v.0 in (
         n.0,
         rw c.in_ok-push.ensures.items
-            (reads_step c.loop-source.run.table c.read.new.run.table s.env c.args.sources.now c.loop-source.source-index some_source c.loop-source.places.items c.in_ok-place.place c.loop-source-test.true c.in_ok-place.ensures.kept v.1 n.1),
+            (reads_step trees c.loop-source.run.table c.read.new.run.table s.env c.args.sources.now c.loop-source.source-index some_source c.loop-source.places.items c.in_ok-place.place c.loop-source-test.true (c.in_ok-place.ensures.kept trees) v.1 n.1),
       );
 }
 
 pub returns-clause-within : goal.returns-clause-within
 returns-clause-within c =
-    let v = c.loop-source.invariant.at c.requires.0 c.requires.1 in
-    all_below c.loop-source.run.table c.loop-source.places.items _ v.1
+    let v = c.loop-source.invariant.at c.requires.0 c.requires.1 c.requires.2 in
+    all_below c.requires.0 c.loop-source.run.table c.loop-source.places.items _ v.1
 
 pub returns-clause-at : goal.returns-clause-at
-returns-clause-at c = λ s h.
-    let v = c.loop-source.invariant.at s h in
+returns-clause-at c = λ trees s h.
+    let v = c.loop-source.invariant.at trees s h in
     let all = ap (λ xs. map (M.read s.env) (map source_of xs)) (take_all c.loop-source.source-index c.args.sources.now c.loop-source-test.false) in
-    (v.0, subst (AllNamed c.loop-source.run.table c.loop-source.places.items) all v.1)
+    (v.0, subst (AllNamed trees c.loop-source.run.table c.loop-source.places.items) all v.1)

@@ -1,9 +1,11 @@
 -- What holds in the loop of `run::set_inputs`.
+use Rattle.std.specs.Prelude.{List}
 use Rattle.meaning.specs.Machine as M
 use Rattle.tracing.specs.declared.body.Slot.{Slot}
 use Rattle.tracing.specs.Bodies.{same_slot, start_of}
 use Rattle.tracing.specs.Runs.{IsAt}
+use Rattle.llvm_core.specs.Data.{TypeTree}
 use Rattle.tracing.proofs.run.set_inputs.Given as goal
 
 abbrev pub invariant-loop-place : goal.invariant-loop-place
-invariant-loop-place l = record { at : IsAt l.run (M.begin Slot same_slot (start_of l.holder l.place)) }
+invariant-loop-place l = record { at : (trees : List TypeTree) → IsAt trees l.run (M.begin Slot same_slot (start_of l.holder l.place)) }

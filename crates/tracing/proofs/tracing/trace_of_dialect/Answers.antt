@@ -22,3 +22,8 @@ returns-clause-exact c =
 
 pub dialect_body-requires : goal.dialect_body-requires
 dialect_body-requires c = (in_context c.args.ctx.now c.args.«module».0.0 c.args.f.0 c.requires.typed c.requires.well_formed c.requires.body, refl)
+
+pub trace_body-requires : goal.trace_body-requires
+trace_body-requires c = record {
+  typed = c.in_ok-body.ensures.typed (in_context c.args.ctx.now c.args.«module».0.0 c.args.f.0 c.requires.typed c.requires.well_formed c.requires.body) refl;
+}

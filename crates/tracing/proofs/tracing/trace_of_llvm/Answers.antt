@@ -12,3 +12,8 @@ returns-clause-exact c =
     let m = c.args.«module».now in
     let h = in_checked m c.args.f.0 c.functions-count.ensures.sound c.requires.checked c.requires.function in
     IfOk-weaker c.trace_body.result _ _ (λ t exact x at. llvm_trace m h x c.args.choices.now _ _ _ at exact (c.in_ok-body.ensures.code h refl) (c.in_ok-body.ensures.start h refl)) c.trace_body.ensures.exact
+
+pub trace_body-requires : goal.trace_body-requires
+trace_body-requires c = record {
+  typed = c.in_ok-body.ensures.typed (in_checked c.args.«module».now c.args.f.0 c.functions-count.ensures.sound c.requires.checked c.requires.function) refl;
+}
