@@ -10,4 +10,5 @@ pub mod PartLaws
 pub mod PositionLaws
 pub mod SpelledLaws
 pub mod StrungLaws
+pub mod FieldLaws
 pub mod TextLaws

@@ -1,5 +1,5 @@
 -- Parts of a module's data by their numbers, and their texts.
-use Rattle.std.specs.Prelude.{◌≡◌, ◌<◌, ◌≤◌, ℕ, List, [], ◌∷◌, ◌++◌, All, length, codes, slice_get, slice_index_or, Some, IfSome, decimal}
+use Rattle.std.specs.Prelude.{◌≡◌, ◌<◌, ◌≤◌, ℕ, zero, suc, List, [], ◌∷◌, ◌++◌, All, length, codes, slice_get, slice_index_or, Some, IfSome, decimal}
 use Rattle.std.specs.List.{flat_map}
 use Rattle.std.specs.Option.{option_map_or}
 use Rattle.llvm_core.specs.declared.numbers.LLVMType.{LLVMType}
@@ -18,11 +18,12 @@ use Rattle.llvm_core.specs.Module.{Module}
 use Rattle.llvm_core.specs.Sound.{IsModule}
 use Rattle.llvm_core.specs.Data.{Placed, Block, Function, ModuleData, trees_of, type_at, param_type, placed_at, block_at, function_of, placed_in}
 use Rattle.llvm_core.specs.Form.{HasNumber}
+use Rattle.kinds.specs.declared.types.StructLayout.{StructLayout}
 use Rattle.kinds.specs.Types.{result_of}
 use Rattle.ll_literals.specs.Names.{printed_name}
 use Rattle.ll_literals.specs.Numbers.{number_limit}
 use Rattle.ll_print.specs.declared.numbers.Numbers.{Numbers}
-use Rattle.ll_print.specs.Printing.{Unnamed, unnamed_result, unnamed_block, unnamed_in, gives_text, placed_text, entry_label_text, block_text}
+use Rattle.ll_print.specs.Printing.{Unnamed, struct_close, unnamed_result, unnamed_block, unnamed_in, gives_text, placed_text, entry_label_text, block_text}
 use Rattle.ll_print.specs.Numbering.{IsNumbering}
 
 abbrev pub no_function : FunctionData
@@ -73,6 +74,16 @@ label_line name number = bare_text name number ++ codes ":\n"
 abbrev pub entry_label_line : List ℕ → ℕ → List ℕ
 entry_label_line [] number = []
 entry_label_line (b ∷ bs) number = label_line (b ∷ bs) number
+
+-- what stands before the field at a place
+abbrev pub gap_text : (place : ℕ) → List ℕ
+gap_text zero = codes " "
+gap_text (suc i) = codes ", "
+
+-- what stands behind so many fields
+abbrev pub close_text : StructLayout → (fields : ℕ) → List ℕ
+close_text layout zero = struct_close layout
+close_text layout (suc n) = codes " " ++ struct_close layout
 
 -- ---- what has no name
 

@@ -1,15 +1,16 @@
 //! Prints numbers and types.
 
-ghost use Rattle.std.specs.Prelude.{◌≡◌, ◌<◌, ◌≤◌, ◌++◌, codes, length, decimal, OnOk};
+ghost use Rattle.std.specs.Prelude.{◌≡◌, ◌<◌, ◌≤◌, ◌++◌, All, codes, length, decimal, OnOk};
 ghost use Rattle.kinds.specs.Held.{is_void};
 ghost use Rattle.support.specs.Appended.{Keeps};
 ghost use Rattle.llvm_core.specs.Sound.{IsModule};
-ghost use Rattle.llvm_core.specs.Data.{trees_of, type_at};
-ghost use Rattle.ll_print.specs.Printing.{floating_text, other_text, space_text, type_text};
+ghost use Rattle.llvm_core.specs.Data.{trees_of, type_at, types_at, StructType};
+ghost use Rattle.ll_print.specs.Printing.{floating_text, other_text, space_text, vector_open, struct_open, counted_text, fields_text, type_text};
+ghost use Rattle.ll_print.specs.Parts.{gap_text, close_text};
 
 use itoa::Buffer;
 use kinds::fitting::is_nothing;
-use kinds::types::{Floating, OtherType};
+use kinds::types::{Floating, OtherType, StructLayout, VectorTypeKind};
 use llvm_core::module::{LLVMModule, shape_of};
 use llvm_core::numbers::LLVMType;
 use llvm_core::types::LLVMTypeKind;
@@ -175,7 +176,111 @@ pub fn is_void(m: &LLVMModule, ty: LLVMType) -> bool
     is_nothing(shape_of(m.type_kind(ty)))
 }
 
+/// What stands before the number of a vector.
+fn vector_open(kind: VectorTypeKind) -> &'static [u8]
+    ensures { result.now ≡ vector_open kind }
+{
+    match kind {
+        VectorTypeKind::Fixed => b"<",
+        VectorTypeKind::Scalable => b"<vscale x ",
+    }
+}
+
+/// What stands before the fields of a struct.
+fn struct_open(layout: StructLayout) -> &'static [u8]
+    ensures { result.now ≡ struct_open layout }
+{
+    match layout {
+        StructLayout::Unpacked => b"{",
+        StructLayout::Packed => b"<{",
+    }
+}
+
+/// What stands behind the fields of a struct, and a blank before it where there are any.
+fn put_close(layout: StructLayout, fields: usize, out: &mut Vec<u8>) -> Result<(), AllocError>
+    ensures text { OnOk result (out.new.items ≡ out.old.items ++ close_text layout fields) }
+    ensures kept { Keeps out.old.items out.new.items }
+{
+    match (layout, fields) {
+        (StructLayout::Unpacked, 0) => out.extend_from_slice(b"}"),
+        (StructLayout::Unpacked, _) => out.extend_from_slice(b" }"),
+        (StructLayout::Packed, 0) => out.extend_from_slice(b"}>"),
+        (StructLayout::Packed, _) => out.extend_from_slice(b" }>"),
+    }
+}
+
+/// What stands before a field: a blank, and a comma before that but for the first.
+fn put_gap(place: usize, out: &mut Vec<u8>) -> Result<(), AllocError>
+    ensures text { OnOk result (out.new.items ≡ out.old.items ++ gap_text place) }
+    ensures kept { Keeps out.old.items out.new.items }
+{
+    if place == 0 {
+        return out.extend_from_slice(b" ");
+    }
+    out.extend_from_slice(b", ")
+}
+
+/// So many of a type, between what stands before and behind.
+#[cycle(put_type)]
+#[inline(never)]
+fn put_counted(
+    m: &LLVMModule,
+    before: &[u8],
+    count: u64,
+    element: LLVMType,
+    behind: &[u8],
+    out: &mut Vec<u8>,
+) -> Result<(), AllocError>
+    requires sound { IsModule m.now }
+    requires within { element.0 < length m.now.types }
+    ensures text { OnOk result (out.new.items ≡ out.old.items ++ counted_text before.now count (type_text (type_at (trees_of m.now).types element)) behind.now) }
+    ensures kept { Keeps out.old.items out.new.items }
+{
+    out.extend_from_slice(before)?;
+    put_decimal(u128::from(count), out)?;
+    out.extend_from_slice(b" x ")?;
+    put_type(m, element, out)?;
+    out.extend_from_slice(behind)?;
+    Ok(())
+}
+
+/// The fields of a struct.
+#[cycle(put_type)]
+fn put_fields(m: &LLVMModule, fields: &[LLVMType], out: &mut Vec<u8>) -> Result<(), AllocError>
+    requires sound { IsModule m.now }
+    requires within { All (λ t. t.0 < length m.now.types) fields.now }
+    ensures text { OnOk result (out.new.items ≡ out.old.items ++ fields_text (types_at (trees_of m.now).types fields.now)) }
+    ensures kept { Keeps out.old.items out.new.items }
+{
+    for (place, ty) in fields.iter().enumerate() {
+        put_gap(place, out)?;
+        put_type(m, *ty, out)?;
+    }
+    Ok(())
+}
+
+/// A struct.
+#[cycle(put_type)]
+#[inline(never)]
+fn put_struct(
+    m: &LLVMModule,
+    layout: StructLayout,
+    fields: &[LLVMType],
+    out: &mut Vec<u8>,
+) -> Result<(), AllocError>
+    requires sound { IsModule m.now }
+    requires within { All (λ t. t.0 < length m.now.types) fields.now }
+    ensures text { OnOk result (out.new.items ≡ out.old.items ++ type_text (StructType layout (types_at (trees_of m.now).types fields.now))) }
+    ensures kept { Keeps out.old.items out.new.items }
+{
+    out.extend_from_slice(struct_open(layout))?;
+    put_fields(m, fields, out)?;
+    put_close(layout, fields.len(), out)?;
+    Ok(())
+}
+
 /// A type.
+#[cycle(put_type)]
 #[inline(always)]
 pub fn put_type(m: &LLVMModule, ty: LLVMType, out: &mut Vec<u8>) -> Result<(), AllocError>
     requires sound { IsModule m.now }
@@ -189,6 +294,18 @@ pub fn put_type(m: &LLVMModule, ty: LLVMType, out: &mut Vec<u8>) -> Result<(), A
         LLVMTypeKind::Ptr(space) => put_pointer(*space, out),
         LLVMTypeKind::Floating(of) => put_floating(*of, out),
         LLVMTypeKind::Other(of) => put_other(*of, out),
+        LLVMTypeKind::Array(count, element) => put_counted(m, b"[", *count, *element, b"]", out),
+        LLVMTypeKind::Vector(kind, count, element) => {
+            put_counted(
+                m,
+                vector_open(*kind),
+                u64::from(*count),
+                *element,
+                b">",
+                out,
+            )
+        }
+        LLVMTypeKind::Literal { fields, layout } => put_struct(m, *layout, fields.as_slice(), out),
         LLVMTypeKind::Function { .. } => Ok(()),
     }
 }

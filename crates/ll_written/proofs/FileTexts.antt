@@ -17,7 +17,8 @@ use Rattle.ll_tokens.specs.declared.kinds.Kind.TheVariants as T
 use Rattle.ll_literals.specs.Names.{global, printed_name, printed_text}
 use Rattle.ll_written.specs.Printing as P
 use Rattle.ll_written.specs.Written.{token, close, apart, written_type, next_part, written_body, written_param, next_param, written_params, written_function, next_function, written_source, written_file, written, end_of}
-use Rattle.ll_written.proofs.RowTexts.{joined, text_both, type_then}
+use Rattle.ll_written.proofs.RowTexts.{joined, type_then}
+use Rattle.ll_written.proofs.TypeTokens.{text_both}
 use Rattle.ll_written.proofs.LineTexts.{line_text}
 
 -- ---- what ends its lines in place of beginning them

@@ -8,6 +8,7 @@ pub mod TypeLaws
 pub mod FlatLaws
 pub mod NumberForms
 pub mod FreeLaws
+pub mod PartForms
 pub mod TypeTokens
 pub mod ValueSays
 pub mod RowForms

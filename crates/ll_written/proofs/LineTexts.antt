@@ -16,7 +16,8 @@ use Rattle.ll_spacing.specs.Spacing.{Spaced, text_of}
 use Rattle.ll_tokens.specs.declared.kinds.Kind.TheVariants.{Word, Local, CloseBracket}
 use Rattle.ll_written.specs.Printing as P
 use Rattle.ll_written.specs.Written.{token, apart, comma, indent, written_flag, written_head, written_names, written_row, written_entry, next_entry, written_entries, written_inst, written_behind, written_line}
-use Rattle.ll_written.proofs.RowTexts.{joined, text_both, type_then, texts_each, said_text, names_text, has_names, flag_text, flagged_text}
+use Rattle.ll_written.proofs.RowTexts.{joined, type_then, texts_each, said_text, names_text, has_names, flag_text, flagged_text}
+use Rattle.ll_written.proofs.TypeTokens.{text_both}
 
 -- ---- rows
 

@@ -3,7 +3,7 @@ use Rattle.std.proofs.Common.{◌≡◌, ℕ, true, false, List, [], ◌∷◌, 
 use Rattle.ll_classes.specs.Llvm.{llvm_class}
 use Rattle.ll_rules.specs.Llvm.{llvm}
 use Rattle.ll_spacing.specs.Spacing.{Spaced}
-use Rattle.ll_tokens.specs.declared.kinds.Kind.TheVariants.{Word, Global, Local, Label, Int, Str, Equals, Comma, OpenParen, CloseParen, OpenBracket, CloseBracket, OpenBrace, CloseBrace}
+use Rattle.ll_tokens.specs.declared.kinds.Kind.TheVariants.{Word, Global, Local, Label, Int, Str, Equals, Comma, OpenParen, CloseParen, OpenBracket, CloseBracket, OpenBrace, CloseBrace, Less, Greater}
 use Rattle.ll_values.specs.declared.form.Kind.TheVariants as K
 use Rattle.ll_values.specs.declared.form.DetailKind.TheVariants as D
 use Rattle.ll_values.specs.declared.form.ListKind.TheVariants as L
@@ -160,6 +160,20 @@ type_pointer {v1} b0 h1 made_by = made llvm KINDS 60 263 (K.Typed T.Pointer) {cs
 pub type_flat : {v : Value} (b0 t0 : Text) → llvm_class Word t0 ≡ C.flat → value_by (K.Typed T.Flat) (TextV t0 ∷ []) ≡ Some v → Reads N.type v (token b0 Word t0 ∷ [])
 type_flat b0 t0 h0 made_by = made llvm KINDS 60 264 (K.Typed T.Flat) {cs = TextV t0 ∷ []} refl refl refl made_by (leaf llvm KINDS (token b0 Word t0) h0 (nothing llvm KINDS))
 
+-- type = '[' INT 'x' type ']'
+pub type_array : {v v3 : Value} {x3 : List Spaced} (b0 b1 t1 b2 b4 : Text) → Reads N.type v3 x3 → value_by (K.Typed T.Array) (TextV t1 ∷ v3 ∷ []) ≡ Some v → Reads N.type v (token b0 OpenBracket (codes "[") ∷ (token b1 Int t1 ∷ (token b2 Word (codes "x") ∷ (x3 ++ (token b4 CloseBracket (codes "]") ∷ [])))))
+type_array {v3} b0 b1 t1 b2 b4 h3 made_by =
+    made llvm KINDS 60 265 (K.Typed T.Array) {cs = TextV t1 ∷ v3 ∷ []} refl refl refl made_by (word llvm KINDS (token b0 OpenBracket (codes "[")) C.sign_openbracket (leaf llvm KINDS (token b1 Int t1) (C.kind_int t1) (word llvm KINDS (token b2 Word (codes "x")) C.word_x (rule llvm KINDS h3 (word llvm KINDS (token b4 CloseBracket (codes "]")) C.sign_closebracket (nothing llvm KINDS))))))
+
+-- type = '<' angle_type
+pub type_angle_type : {v1 : Value} {x1 : List Spaced} (b0 : Text) → Reads N.angle_type v1 x1 → Reads N.type v1 (token b0 Less (codes "<") ∷ x1)
+type_angle_type {v1} b0 h1 = made llvm KINDS 60 266 K.Same {cs = v1 ∷ []} refl refl refl refl (word llvm KINDS (token b0 Less (codes "<")) C.sign_less (last llvm KINDS h1))
+
+-- type = '{' types '}'
+pub type_struct : {v v1 : Value} {x1 : List Spaced} (b0 b2 : Text) → Reads N.types v1 x1 → value_by (K.Typed T.Struct) (v1 ∷ []) ≡ Some v → Reads N.type v (token b0 OpenBrace (codes "{") ∷ (x1 ++ (token b2 CloseBrace (codes "}") ∷ [])))
+type_struct {v1} b0 b2 h1 made_by =
+    made llvm KINDS 60 268 (K.Typed T.Struct) {cs = v1 ∷ []} refl refl refl made_by (word llvm KINDS (token b0 OpenBrace (codes "{")) C.sign_openbrace (rule llvm KINDS h1 (word llvm KINDS (token b2 CloseBrace (codes "}")) C.sign_closebrace (nothing llvm KINDS))))
+
 -- solid = INTTYPE
 pub solid_int : {v : Value} (b0 t0 : Text) → llvm_class Word t0 ≡ C.inttype → value_by (K.Typed T.Int) (TextV t0 ∷ []) ≡ Some v → Reads N.solid v (token b0 Word t0 ∷ [])
 solid_int b0 t0 h0 made_by = made llvm KINDS 61 269 (K.Typed T.Int) {cs = TextV t0 ∷ []} refl refl refl made_by (leaf llvm KINDS (token b0 Word t0) h0 (nothing llvm KINDS))
@@ -171,6 +185,52 @@ solid_pointer {v1} b0 h1 made_by = made llvm KINDS 61 270 (K.Typed T.Pointer) {c
 -- solid = FLAT
 pub solid_flat : {v : Value} (b0 t0 : Text) → llvm_class Word t0 ≡ C.flat → value_by (K.Typed T.Flat) (TextV t0 ∷ []) ≡ Some v → Reads N.solid v (token b0 Word t0 ∷ [])
 solid_flat b0 t0 h0 made_by = made llvm KINDS 61 271 (K.Typed T.Flat) {cs = TextV t0 ∷ []} refl refl refl made_by (leaf llvm KINDS (token b0 Word t0) h0 (nothing llvm KINDS))
+
+-- solid = '[' INT 'x' type ']'
+pub solid_array : {v v3 : Value} {x3 : List Spaced} (b0 b1 t1 b2 b4 : Text) → Reads N.type v3 x3 → value_by (K.Typed T.Array) (TextV t1 ∷ v3 ∷ []) ≡ Some v → Reads N.solid v (token b0 OpenBracket (codes "[") ∷ (token b1 Int t1 ∷ (token b2 Word (codes "x") ∷ (x3 ++ (token b4 CloseBracket (codes "]") ∷ [])))))
+solid_array {v3} b0 b1 t1 b2 b4 h3 made_by =
+    made llvm KINDS 61 272 (K.Typed T.Array) {cs = TextV t1 ∷ v3 ∷ []} refl refl refl made_by (word llvm KINDS (token b0 OpenBracket (codes "[")) C.sign_openbracket (leaf llvm KINDS (token b1 Int t1) (C.kind_int t1) (word llvm KINDS (token b2 Word (codes "x")) C.word_x (rule llvm KINDS h3 (word llvm KINDS (token b4 CloseBracket (codes "]")) C.sign_closebracket (nothing llvm KINDS))))))
+
+-- solid = '<' angle_type
+pub solid_angle_type : {v1 : Value} {x1 : List Spaced} (b0 : Text) → Reads N.angle_type v1 x1 → Reads N.solid v1 (token b0 Less (codes "<") ∷ x1)
+solid_angle_type {v1} b0 h1 = made llvm KINDS 61 273 K.Same {cs = v1 ∷ []} refl refl refl refl (word llvm KINDS (token b0 Less (codes "<")) C.sign_less (last llvm KINDS h1))
+
+-- solid = '{' types '}'
+pub solid_struct : {v v1 : Value} {x1 : List Spaced} (b0 b2 : Text) → Reads N.types v1 x1 → value_by (K.Typed T.Struct) (v1 ∷ []) ≡ Some v → Reads N.solid v (token b0 OpenBrace (codes "{") ∷ (x1 ++ (token b2 CloseBrace (codes "}") ∷ [])))
+solid_struct {v1} b0 b2 h1 made_by =
+    made llvm KINDS 61 275 (K.Typed T.Struct) {cs = v1 ∷ []} refl refl refl made_by (word llvm KINDS (token b0 OpenBrace (codes "{")) C.sign_openbrace (rule llvm KINDS h1 (word llvm KINDS (token b2 CloseBrace (codes "}")) C.sign_closebrace (nothing llvm KINDS))))
+
+-- angle_type = INT 'x' type '>'
+pub angle_type_vector : {v v2 : Value} {x2 : List Spaced} (b0 t0 b1 b3 : Text) → Reads N.type v2 x2 → value_by (K.Typed T.Vector) (TextV t0 ∷ v2 ∷ []) ≡ Some v → Reads N.angle_type v (token b0 Int t0 ∷ (token b1 Word (codes "x") ∷ (x2 ++ (token b3 Greater (codes ">") ∷ []))))
+angle_type_vector {v2} b0 t0 b1 b3 h2 made_by =
+    made llvm KINDS 63 282 (K.Typed T.Vector) {cs = TextV t0 ∷ v2 ∷ []} refl refl refl made_by (leaf llvm KINDS (token b0 Int t0) (C.kind_int t0) (word llvm KINDS (token b1 Word (codes "x")) C.word_x (rule llvm KINDS h2 (word llvm KINDS (token b3 Greater (codes ">")) C.sign_greater (nothing llvm KINDS)))))
+
+-- angle_type = 'vscale' 'x' INT 'x' type '>'
+pub angle_type_scalable : {v v4 : Value} {x4 : List Spaced} (b0 b1 b2 t2 b3 b5 : Text) → Reads N.type v4 x4 → value_by (K.Typed T.Scalable) (TextV t2 ∷ v4 ∷ []) ≡ Some v → Reads N.angle_type v (token b0 Word (codes "vscale") ∷ (token b1 Word (codes "x") ∷ (token b2 Int t2 ∷ (token b3 Word (codes "x") ∷ (x4 ++ (token b5 Greater (codes ">") ∷ []))))))
+angle_type_scalable {v4} b0 b1 b2 t2 b3 b5 h4 made_by =
+    made llvm KINDS 63 283 (K.Typed T.Scalable) {cs = TextV t2 ∷ v4 ∷ []} refl refl refl made_by (word llvm KINDS (token b0 Word (codes "vscale")) C.word_vscale (word llvm KINDS (token b1 Word (codes "x")) C.word_x (leaf llvm KINDS (token b2 Int t2) (C.kind_int t2) (word llvm KINDS (token b3 Word (codes "x")) C.word_x (rule llvm KINDS h4 (word llvm KINDS (token b5 Greater (codes ">")) C.sign_greater (nothing llvm KINDS)))))))
+
+-- angle_type = '{' types '}' '>'
+pub angle_type_packed : {v v1 : Value} {x1 : List Spaced} (b0 b2 b3 : Text) → Reads N.types v1 x1 → value_by (K.Typed T.Packed) (v1 ∷ []) ≡ Some v → Reads N.angle_type v (token b0 OpenBrace (codes "{") ∷ (x1 ++ (token b2 CloseBrace (codes "}") ∷ token b3 Greater (codes ">") ∷ [])))
+angle_type_packed {v1} b0 b2 b3 h1 made_by =
+    made llvm KINDS 63 284 (K.Typed T.Packed) {cs = v1 ∷ []} refl refl refl made_by (word llvm KINDS (token b0 OpenBrace (codes "{")) C.sign_openbrace (rule llvm KINDS h1 (word llvm KINDS (token b2 CloseBrace (codes "}")) C.sign_closebrace (word llvm KINDS (token b3 Greater (codes ">")) C.sign_greater (nothing llvm KINDS)))))
+
+-- types = type more_types
+pub types_more : {v v0 v1 : Value} {x0 x1 : List Spaced} → Reads N.type v0 x0 → Reads N.more_types v1 x1 → value_by (K.List L.TypesMore) (v0 ∷ v1 ∷ []) ≡ Some v → Reads N.types v (x0 ++ x1)
+types_more {v0} {v1} h0 h1 made_by = made llvm KINDS 64 285 (K.List L.TypesMore) {cs = v0 ∷ v1 ∷ []} refl refl refl made_by (rule llvm KINDS h0 (last llvm KINDS h1))
+
+-- types = nothing
+pub types_end : {v : Value} → value_by (K.List L.TypesEnd) [] ≡ Some v → Reads N.types v []
+types_end made_by = made llvm KINDS 64 286 (K.List L.TypesEnd) {cs = []} refl refl refl made_by (nothing llvm KINDS)
+
+-- more_types = ',' type more_types
+pub more_types_more : {v v1 v2 : Value} {x1 x2 : List Spaced} (b0 : Text) → Reads N.type v1 x1 → Reads N.more_types v2 x2 → value_by (K.List L.TypesMore) (v1 ∷ v2 ∷ []) ≡ Some v → Reads N.more_types v (token b0 Comma (codes ",") ∷ (x1 ++ x2))
+more_types_more {v1} {v2} b0 h1 h2 made_by =
+    made llvm KINDS 65 287 (K.List L.TypesMore) {cs = v1 ∷ v2 ∷ []} refl refl refl made_by (word llvm KINDS (token b0 Comma (codes ",")) C.sign_comma (rule llvm KINDS h1 (last llvm KINDS h2)))
+
+-- more_types = nothing
+pub more_types_end : {v : Value} → value_by (K.List L.TypesEnd) [] ≡ Some v → Reads N.more_types v []
+more_types_end made_by = made llvm KINDS 65 288 (K.List L.TypesEnd) {cs = []} refl refl refl made_by (nothing llvm KINDS)
 
 -- value = LOCAL
 pub value_local : {v : Value} (b0 t0 : Text) → value_by (K.Detail D.Local) (TextV t0 ∷ []) ≡ Some v → Reads N.value v (token b0 Local t0 ∷ [])

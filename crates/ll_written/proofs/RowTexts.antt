@@ -16,7 +16,7 @@ use Rattle.ll_spacing.specs.Spacing.{Spaced, text_of}
 use Rattle.ll_tokens.specs.declared.kinds.Kind.TheVariants.{Word}
 use Rattle.ll_written.specs.Printing as P
 use Rattle.ll_written.specs.Written.{token, comma, written_type, written_said, written_typed, next_said, written_operands, next_typed, written_values, written_returned, written_target, next_target, written_targets, written_to, written_flag, written_wraps, written_names}
-use Rattle.ll_written.proofs.TypeTokens.{type_written}
+use Rattle.ll_written.proofs.TypeTokens.{text_both, type_written}
 
 -- a row that names operands or blocks, or may
 abbrev pub has_names : Op → Bool
@@ -24,10 +24,6 @@ has_names O.Unreachable = false
 has_names op = true
 
 -- ---- lists
-
-pub text_both : (xs ys : List Spaced) → text_of (xs ++ ys) ≡ text_of xs ++ text_of ys
-text_both [] ys = refl
-text_both (x ∷ xs) ys = rw (text_both xs ys) (sym (append_assoc (x.before ++ x.text) (text_of xs) (text_of ys)))
 
 pub joined : (xs ys : List Spaced) (t u : Text) → text_of xs ≡ t → text_of ys ≡ u → text_of (xs ++ ys) ≡ t ++ u
 joined xs ys t u e f = text_both xs ys ∙ ap (λ (s : Text). s ++ text_of ys) e ∙ ap (λ (s : Text). t ++ s) f

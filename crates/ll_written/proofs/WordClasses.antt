@@ -4,7 +4,7 @@ use Rattle.std.specs.Prelude.{unwrap_or}
 use Rattle.ll_classes.specs.Classes.{other_word}
 use Rattle.ll_classes.specs.Llvm.{llvm_class, llvm_rows}
 use Rattle.ll_classes.specs.Words.{class_among}
-use Rattle.ll_tokens.specs.declared.kinds.Kind.TheVariants.{Word, Global, Local, Label, Int, Str, Equals, Comma, OpenParen, CloseParen, OpenBracket, CloseBracket, OpenBrace, CloseBrace}
+use Rattle.ll_tokens.specs.declared.kinds.Kind.TheVariants.{Word, Global, Local, Label, Int, Str, Equals, Comma, OpenParen, CloseParen, OpenBracket, CloseBracket, OpenBrace, CloseBrace, Less, Greater}
 use Rattle.ll_lines.specs.Lines.{Text}
 
 abbrev pub inttype : ℕ
@@ -64,6 +64,14 @@ sign_openbrace = refl
 pub sign_closebrace : llvm_class CloseBrace (codes "}") ≡ 50
 unfolding llvm_class
 sign_closebrace = refl
+
+pub sign_less : llvm_class Less (codes "<") ≡ 51
+unfolding llvm_class
+sign_less = refl
+
+pub sign_greater : llvm_class Greater (codes ">") ≡ 52
+unfolding llvm_class
+sign_greater = refl
 
 -- a word has the class that stands beside it among all words
 pub word_class : (t : Text) (c : ℕ) → class_among llvm_rows t ≡ Some c → llvm_class Word t ≡ c
@@ -126,6 +134,12 @@ word_unreachable = word_class (codes "unreachable") 120 refl
 
 pub word_void : llvm_class Word (codes "void") ≡ 123
 word_void = word_class (codes "void") 123 refl
+
+pub word_vscale : llvm_class Word (codes "vscale") ≡ 125
+word_vscale = word_class (codes "vscale") 125 refl
+
+pub word_x : llvm_class Word (codes "x") ≡ 127
+word_x = word_class (codes "x") 127 refl
 
 pub word_zext : llvm_class Word (codes "zext") ≡ 128
 word_zext = word_class (codes "zext") 128 refl

@@ -10,7 +10,11 @@ use Rattle.kinds.specs.declared.types.Floating.{Floating}
 use Rattle.kinds.specs.declared.types.Floating.TheVariants as F
 use Rattle.kinds.specs.declared.types.OtherType.{OtherType}
 use Rattle.kinds.specs.declared.types.OtherType.TheVariants as X
-use Rattle.llvm_core.specs.Data.{TypeTree, VoidType, IntType, PointerType, FloatingType, RefusedType, FunctionType, ConstTree, IntConst, PlaceholderConst, Operand, Constant, Parameter, Result, Instruction, Phi, RowData, Applied, Placed, Block, Function, ModuleData, operand_type, param_type}
+use Rattle.kinds.specs.declared.types.VectorTypeKind.{VectorTypeKind}
+use Rattle.kinds.specs.declared.types.VectorTypeKind.TheVariants as V
+use Rattle.kinds.specs.declared.types.StructLayout.{StructLayout}
+use Rattle.kinds.specs.declared.types.StructLayout.TheVariants as L
+use Rattle.llvm_core.specs.Data.{TypeTree, VoidType, IntType, PointerType, FloatingType, RefusedType, ArrayType, VectorType, StructType, FunctionType, TypeTrees, NoTypes, ThenType, ConstTree, IntConst, PlaceholderConst, Operand, Constant, Parameter, Result, Instruction, Phi, RowData, Applied, Placed, Block, Function, ModuleData, operand_type, param_type}
 use Rattle.kinds.specs.Types.{result_of}
 use Rattle.kinds.specs.Held.{is_void}
 use Rattle.ll_literals.specs.Text.{Text}
@@ -39,14 +43,51 @@ abbrev pub space_text : ℕ → Text
 space_text zero = []
 space_text (suc n) = codes " addrspace(" ++ decimal (suc n) ++ codes ")"
 
--- a type, a line for each kind; a function type stands nowhere by itself
-abbrev pub type_text : TypeTree → Text
-type_text VoidType = codes "void"
-type_text (IntType w) = 105 ∷ decimal w
-type_text (PointerType space) = codes "ptr" ++ space_text space
-type_text (FloatingType of) = floating_text of
-type_text (RefusedType of) = other_text of
-type_text (FunctionType result params variadic) = []
+-- what stands before the number of a vector
+abbrev pub vector_open : VectorTypeKind → Text
+vector_open V.Fixed = codes "<"
+vector_open V.Scalable = codes "<vscale x "
+
+-- what stands before the fields of a struct, and behind them
+abbrev pub struct_open : StructLayout → Text
+struct_open L.Unpacked = codes "{"
+struct_open L.Packed = codes "<{"
+
+abbrev pub struct_close : StructLayout → Text
+struct_close L.Unpacked = codes "}"
+struct_close L.Packed = codes "}>"
+
+-- so many of one type, between what stands before and behind
+abbrev pub counted_text : (before : Text) (count : ℕ) (element behind : Text) → Text
+counted_text before count element behind = before ++ decimal count ++ codes " x " ++ element ++ behind
+
+-- what stands before the brace behind fields: a blank, where there are any
+abbrev pub before_brace : TypeTrees → Text
+before_brace NoTypes = []
+before_brace (ThenType t ts) = codes " "
+
+abbrev mutual
+  -- a type, a line for each kind; a function type stands nowhere by itself
+  pub type_text : TypeTree → Text
+  type_text VoidType = codes "void"
+  type_text (IntType w) = 105 ∷ decimal w
+  type_text (PointerType space) = codes "ptr" ++ space_text space
+  type_text (FloatingType of) = floating_text of
+  type_text (RefusedType of) = other_text of
+  type_text (ArrayType count t) = counted_text (codes "[") count (type_text t) (codes "]")
+  type_text (VectorType kind count t) = counted_text (vector_open kind) count (type_text t) (codes ">")
+  type_text (StructType layout ts) = struct_open layout ++ fields_text ts ++ before_brace ts ++ struct_close layout
+  type_text (FunctionType result params variadic) = []
+
+  -- fields, the first behind a blank
+  pub fields_text : TypeTrees → Text
+  fields_text NoTypes = []
+  fields_text (ThenType t ts) = codes " " ++ type_text t ++ next_fields_text ts
+
+  -- fields behind the first
+  pub next_fields_text : TypeTrees → Text
+  next_fields_text NoTypes = []
+  next_fields_text (ThenType t ts) = codes ", " ++ type_text t ++ next_fields_text ts
 
 -- a number of a width in two's complement, printed signed
 abbrev pub signed_text : ℕ → ℕ → Text

@@ -61,6 +61,15 @@ type = 60
 abbrev pub solid : ℕ
 solid = 61
 
+abbrev pub angle_type : ℕ
+angle_type = 63
+
+abbrev pub types : ℕ
+types = 64
+
+abbrev pub more_types : ℕ
+more_types = 65
+
 abbrev pub inst : ℕ
 inst = 82
 

@@ -4,14 +4,16 @@ use Rattle.std.specs.List.{flat_map}
 use Rattle.kinds.specs.declared.op.OverflowFlags.{OverflowFlags}
 use Rattle.kinds.specs.declared.op.Op.{Op}
 use Rattle.kinds.specs.declared.op.Op.TheVariants as O
-use Rattle.kinds.specs.Types.{TypeTree, PointerType}
+use Rattle.kinds.specs.declared.types.VectorTypeKind.TheVariants as V
+use Rattle.kinds.specs.declared.types.StructLayout.TheVariants as S
+use Rattle.kinds.specs.Types.{TypeTree, PointerType, ArrayType, VectorType, StructType, TypeTrees, NoTypes, ThenType}
 use Rattle.llvm_core.specs.Data.{ConstTree, IntConst, PlaceholderConst}
 use Rattle.ll_tokens.specs.declared.kinds.Kind.{Kind}
 use Rattle.ll_tokens.specs.declared.kinds.Kind.TheVariants as K
 use Rattle.ll_lines.specs.Lines as L
 use Rattle.ll_lines.specs.Lines.{Text, Said, Typed, RowLine, Incoming, Inst, Line, Part, Param, Function, File}
 use Rattle.ll_spacing.specs.Spacing.{Spaced}
-use Rattle.ll_written.specs.Printing.{type_text, const_text, predicate_text}
+use Rattle.ll_written.specs.Printing.{type_text, before_brace, const_text, predicate_text}
 
 -- ---- tokens
 
@@ -42,11 +44,28 @@ abbrev pub written_space : ℕ → List Spaced
 written_space zero = []
 written_space (suc n) = word (codes "addrspace") ∷ close K.OpenParen (codes "(") ∷ close K.Int (decimal (suc n)) ∷ close K.CloseParen (codes ")") ∷ []
 
--- a type, whose first token stands behind that. The word is closed, so that what is said of its tokens by laws holds of
--- types of several tokens.
-unfoldable pub written_type : (before : Text) → TypeTree → List Spaced
-written_type before (PointerType space) = token before K.Word (codes "ptr") ∷ written_space space
-written_type before τ = token before K.Word (type_text τ) ∷ []
+-- The words are closed, so that what is said of the tokens of a type by laws holds of types of several tokens.
+unfoldable mutual
+  -- a type, whose first token stands behind that: a line for each kind of several tokens
+  pub written_type : (before : Text) → TypeTree → List Spaced
+  written_type before (PointerType space) = token before K.Word (codes "ptr") ∷ written_space space
+  written_type before (ArrayType count τ) = token before K.OpenBracket (codes "[") ∷ close K.Int (decimal count) ∷ word (codes "x") ∷ (written_type (codes " ") τ ++ (close K.CloseBracket (codes "]") ∷ []))
+  written_type before (VectorType V.Fixed count τ) = token before K.Less (codes "<") ∷ close K.Int (decimal count) ∷ word (codes "x") ∷ (written_type (codes " ") τ ++ (close K.Greater (codes ">") ∷ []))
+  written_type before (VectorType V.Scalable count τ) =
+      token before K.Less (codes "<") ∷ close K.Word (codes "vscale") ∷ word (codes "x") ∷ apart K.Int (decimal count) ∷ word (codes "x") ∷ (written_type (codes " ") τ ++ (close K.Greater (codes ">") ∷ []))
+  written_type before (StructType S.Unpacked τs) = token before K.OpenBrace (codes "{") ∷ (written_fields τs ++ (token (before_brace τs) K.CloseBrace (codes "}") ∷ []))
+  written_type before (StructType S.Packed τs) =
+      token before K.Less (codes "<") ∷ close K.OpenBrace (codes "{") ∷ (written_fields τs ++ (token (before_brace τs) K.CloseBrace (codes "}") ∷ close K.Greater (codes ">") ∷ []))
+  written_type before τ = token before K.Word (type_text τ) ∷ []
+
+  pub written_fields : TypeTrees → List Spaced
+  written_fields NoTypes = []
+  written_fields (ThenType τ τs) = written_type (codes " ") τ ++ next_fields τs
+
+  -- fields behind the first
+  pub next_fields : TypeTrees → List Spaced
+  next_fields NoTypes = []
+  next_fields (ThenType τ τs) = comma ∷ (written_type (codes " ") τ ++ next_fields τs)
 
 -- one bit is a word, other integers are numbers
 abbrev pub int_kind : (width : ℕ) → Kind
