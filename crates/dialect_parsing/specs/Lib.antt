@@ -1,0 +1,6 @@
+-- The definitions that clauses cite.
+pub mod Numbers
+pub mod Reading
+pub mod Spelling
+pub mod Symbols
+pub mod Tokens

@@ -1,0 +1,62 @@
+-- What a type is written as, and the texts that spell it.
+use Rattle.std.specs.Prelude.{◌≡◌, ◌<◌, ◌≤◌, ◌^◌, List, [], ◌∷◌, ◌++◌, Some}
+use Rattle.kinds.specs.Types.{depth}
+use Rattle.dialect_types.specs.Trees.{TypeTree, VoidType, IntType, PointerType, FloatingType, RefusedType, ArrayType, VectorType, StructType, FunctionType, TypeTrees, NoTypes, ThenType}
+use Rattle.dialect_types.specs.declared.types.TypeKind.{TypeKind}
+use Rattle.dialect_parsing.specs.declared.symbol.Symbol.{Symbol}
+use Rattle.dialect_parsing.specs.declared.symbol.Symbol.TheVariants as S
+use Rattle.dialect_parsing.specs.Symbols.{symbols_of}
+use Rattle.dialect_parsing.specs.Tokens.{Text}
+
+abbrev mutual
+  -- what a type is written as, before what stands behind it: a line for each kind
+  pub written : TypeTree → List Symbol → List Symbol
+  written VoidType ss = S.Void ∷ ss
+  written (IntType w) ss = S.Integer ∷ S.Bits w ∷ ss
+  written (PointerType space) ss = S.Pointer ∷ S.OpenParen ∷ S.Number space ∷ S.CloseParen ∷ ss
+  written (FloatingType of) ss = S.Floating of ∷ ss
+  -- no type of the dialect
+  written (RefusedType of) ss = ss
+  -- not read yet
+  written (ArrayType count t) ss = ss
+  written (VectorType kind count t) ss = ss
+  written (StructType layout fields) ss = ss
+  written (FunctionType result params variadic) ss =
+      S.Func ∷ S.Less ∷ written result (S.OpenParen ∷ listed params (S.CloseParen ∷ S.Variadic ∷ S.Equals ∷ S.Truth variadic ∷ S.Greater ∷ ss))
+
+  -- types with commas between them
+  pub listed : TypeTrees → List Symbol → List Symbol
+  listed NoTypes ss = ss
+  listed (ThenType t ts) ss = written t (others ts ss)
+
+  -- each type behind a comma
+  pub others : TypeTrees → List Symbol → List Symbol
+  others NoTypes ss = ss
+  others (ThenType t ts) ss = S.Comma ∷ written t (others ts ss)
+
+abbrev mutual
+  -- a type that the dialect has: integers of 1 to 2^23 bits, pointers of an address space below 2^24
+  pub IsOfDialect : TypeTree → Type 0
+  IsOfDialect VoidType = Unit {0}
+  IsOfDialect (IntType w) = (1 ≤ w) × (w ≤ 2 ^ 23)
+  IsOfDialect (PointerType space) = space < 2 ^ 24
+  IsOfDialect (FloatingType of) = Unit {0}
+  IsOfDialect (RefusedType of) = ⊥
+  -- not read yet
+  IsOfDialect (ArrayType count t) = ⊥
+  IsOfDialect (VectorType kind count t) = ⊥
+  IsOfDialect (StructType layout fields) = ⊥
+  IsOfDialect (FunctionType result params variadic) = IsOfDialect result × AreOfDialect params
+
+  pub AreOfDialect : TypeTrees → Type 0
+  AreOfDialect NoTypes = Unit {0}
+  AreOfDialect (ThenType t ts) = IsOfDialect t × AreOfDialect ts
+
+-- the text spells the type: its tokens say what the type is written as, the dialect has it, and it nests at most 1000 deep
+abbrev pub Spells : Text → TypeTree → Type 0
+Spells bytes t = (symbols_of bytes ≡ Some (written t [])) × IsOfDialect t × (depth t ≤ 1000)
+
+-- a store that has the types that it had, and perhaps more
+pub record Grows (old new : List TypeKind) : Type 0 where
+  pub more : List TypeKind
+  pub is : new ≡ old ++ more

@@ -1,0 +1,12 @@
+//! The dialect text of a type, read into a store of types.
+#![tactic(auto)]
+
+pub mod laws;
+pub mod numbers;
+pub mod opened;
+pub mod parse_err;
+pub mod parsing;
+pub mod reading;
+pub mod symbol;
+pub mod symbols;
+pub mod words;

@@ -1,0 +1,46 @@
+//! Types from their dialect text.
+
+ghost use Rattle.std.specs.Prelude.{◌≡◌, ◌<◌, ◌≤◌, ℕ, Err, IfOk, length};
+ghost use Rattle.std.specs.List.{All};
+ghost use Rattle.dialect_types.specs.Trees.{TypeTree, type_at, type_trees};
+ghost use Rattle.dialect_types.specs.declared.types.TypeHandle.{TypeHandle};
+ghost use Rattle.dialect_parsing.specs.Spelling.{Grows, Spells};
+ghost use Rattle.dialect_parsing.specs.declared.parse_err.ParseErr.TheVariants.{Syntax};
+
+use crate::parse_err::{ParseErr, Refused};
+use crate::reading::read;
+use crate::symbols::{Found, SymbolReader, symbols};
+use dialect_types::type_store::TypeStore;
+use dialect_types::types::TypeHandle;
+use std::alloc::Global;
+
+/// The place of the symbol that was read last, where so many were read; 0 if there is none.
+fn place_of(places: &[u32], read: usize) -> u32
+    ensures { (n : ℕ) → All (λ p. p ≤ n) places.now → result ≤ n }
+{
+    match places.get(read.saturating_sub(1)) {
+        Some(place) => *place,
+        None => 0,
+    }
+}
+
+/// The number of the type that a text spells, new or old. Where the text spells none, or memory is wanting, the store may
+/// have more types than before: parts that were read.
+pub fn parse_type(
+    alloc: Global,
+    types: &mut TypeStore,
+    bytes: &[u8],
+) -> Result<TypeHandle, ParseErr>
+    ensures ok { IfOk result (λ h. (h.0 < length types.new) × Spells bytes.now (type_at (type_trees types.new) h)) }
+    ensures err { (at : ℕ) → result ≡ Err (Syntax at) → (at ≤ length bytes.now) × ((t : TypeTree) → Spells bytes.now t → ⊥) }
+    ensures grows { Grows types.old types.new }
+    ensures kept { (t : TypeHandle) → t.0 < length types.old → type_at (type_trees types.new) t ≡ type_at (type_trees types.old) t }
+{
+    let found = symbols(alloc, bytes)?;
+    let mut reader = SymbolReader::new(found.symbols);
+    match read(alloc, types, &mut reader) {
+        Ok(ty) => Ok(ty),
+        Err(Refused::NoMemory) => Err(ParseErr::NoMemory),
+        Err(Refused::Syntax) => Err(ParseErr::Syntax(place_of(&found.places, reader.count()))),
+    }
+}

@@ -1,0 +1,104 @@
+//! What a token of a type's text says.
+
+ghost use Rattle.std.specs.Prelude.{◌≡◌};
+ghost use Rattle.std.specs.Map.{lookup};
+ghost use Rattle.std.specs.Str.{bytes_eq};
+ghost use Rattle.dialect_parsing.specs.Symbols.{symbol_of, word_of, head_rows, floating_rows, inner_rows, sign_rows};
+
+use crate::numbers::{is_digit, number};
+use crate::symbol::Symbol;
+use kinds::types::Floating;
+
+/// What a word that a type begins with says.
+fn head(text: &[u8]) -> Option<Symbol>
+    ensures { result ≡ lookup (bytes_eq text.now) head_rows }
+{
+    if text == b"llvm.void".as_slice() {
+        return Some(Symbol::Void);
+    }
+    if text == b"builtin.integer".as_slice() {
+        return Some(Symbol::Integer);
+    }
+    if text == b"llvm.ptr".as_slice() {
+        return Some(Symbol::Pointer);
+    }
+    if text == b"llvm.func".as_slice() {
+        return Some(Symbol::Func);
+    }
+    None
+}
+
+/// What the word of a floating-point type says.
+fn floating(text: &[u8]) -> Option<Symbol>
+    ensures { result ≡ lookup (bytes_eq text.now) floating_rows }
+{
+    if text == b"builtin.fp16".as_slice() {
+        return Some(Symbol::Floating(Floating::Half));
+    }
+    if text == b"builtin.bf16".as_slice() {
+        return Some(Symbol::Floating(Floating::BFloat));
+    }
+    if text == b"builtin.fp32".as_slice() {
+        return Some(Symbol::Floating(Floating::Float));
+    }
+    if text == b"builtin.fp64".as_slice() {
+        return Some(Symbol::Floating(Floating::Double));
+    }
+    None
+}
+
+/// What a word inside a type says.
+fn inner(text: &[u8]) -> Option<Symbol>
+    ensures { result ≡ lookup (bytes_eq text.now) inner_rows }
+{
+    if text == b"variadic".as_slice() {
+        return Some(Symbol::Variadic);
+    }
+    if text == b"true".as_slice() {
+        return Some(Symbol::Truth(true));
+    }
+    if text == b"false".as_slice() {
+        return Some(Symbol::Truth(false));
+    }
+    None
+}
+
+/// What a sign says.
+fn sign(text: &[u8]) -> Option<Symbol>
+    ensures { result ≡ lookup (bytes_eq text.now) sign_rows }
+{
+    match text {
+        b"(" => Some(Symbol::OpenParen),
+        b")" => Some(Symbol::CloseParen),
+        b"<" => Some(Symbol::Less),
+        b">" => Some(Symbol::Greater),
+        b"," => Some(Symbol::Comma),
+        b"=" => Some(Symbol::Equals),
+        _ => None,
+    }
+}
+
+/// What a word or a sign says.
+fn word(text: &[u8]) -> Option<Symbol>
+    ensures { result ≡ word_of text.now }
+{
+    sign(text).or(head(text)).or(floating(text)).or(inner(text))
+}
+
+/// What a token says, and nothing where it stands in no type.
+pub fn symbol_of(text: &[u8]) -> Option<Symbol>
+    ensures { result ≡ symbol_of text.now }
+{
+    match text {
+        [] => None,
+        [first, digits @ ..] => {
+            if is_digit(*first) {
+                number(text).map(Symbol::Number)
+            } else if *first == b'i' {
+                number(digits).map(Symbol::Bits)
+            } else {
+                word(text)
+            }
+        }
+    }
+}
