@@ -1,7 +1,8 @@
 //! Dialect modules made by hand, each by a row of steps. No text of the form gives most of them.
 
 ghost use Rattle.std.specs.Prelude.{ℕ, ◌≡◌, ◌<◌, ◌≤◌, IsTrue, IfOk, IfSome, OnOk, All, Some, length};
-ghost use Rattle.dialect_types.specs.Trees.{type_at, type_tree, type_trees, depth, HasPartsBelow};
+ghost use Rattle.dialect_types.specs.Trees.{type_at, type_tree, type_trees, HasFitParts, HasPartsBelow};
+ghost use Rattle.kinds.specs.Held.{IsShallow};
 ghost use Rattle.dialect_core.specs.declared.ops.OpKind.TheVariants as kinds;
 ghost use Rattle.dialect_core.specs.ContextData.{empty_context, holder_kind, is_plain, HoldsMore, IsValueWithin, IsSuccessorWithin};
 ghost use Rattle.dialect_core.specs.Data.{HasKindTypesBelow, IsTyped};
@@ -146,7 +147,8 @@ fn edges(alloc: Global, ctx: &Context, root: ModuleOp, edges: &[Edge]) -> Option
 fn intern(ctx: &mut Context, kind: TypeKind) -> Result<TypeHandle, AllocError>
     requires typed { IsTyped ctx.old }
     requires parts { HasPartsBelow (length ctx.old.types) kind }
-    requires nesting { depth (type_tree (type_trees ctx.old.types) kind) ≤ 1000 }
+    requires fit { HasFitParts (type_trees ctx.old.types) kind }
+    requires nesting { IsShallow (type_tree (type_trees ctx.old.types) kind) }
     ensures typed { OnOk result (IsTyped ctx.new) }
     ensures tree { IfOk result (λ t. type_at (type_trees ctx.new.types) t ≡ type_tree (type_trees ctx.old.types) kind) }
     ensures within { IfOk result (λ t. t.0 < length ctx.new.types) }

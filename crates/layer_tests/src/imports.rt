@@ -1,4 +1,5 @@
-//! Two modules imported into one context: both are there, each with its own functions.
+//! Two modules imported into one context: both are there, each with its own functions. And one with a type that it does
+//! not use, for which the dialect has none.
 
 ghost use Rattle.std.specs.Prelude.{◌<◌, ◌≤◌, IfSome, length};
 ghost use Rattle.llvm_core.specs.Data.{data_of};
@@ -8,8 +9,10 @@ ghost use Rattle.dialect_core.specs.Data.{IsTyped};
 use dialect_core::context::Context;
 use dialect_core::numbers::ModuleOp;
 use from_llvm_ir::importing::convert_module;
+use kinds::types::OtherType;
 use ll_text::read::read_ll;
 use llvm_core::module::LLVMModule;
+use llvm_core::types::LLVMTypeKind;
 use std::alloc::Global;
 
 /// A module of one function.
@@ -111,6 +114,36 @@ fn are_both_there(alloc: Global, ctx: &mut Context) -> bool
 fn takes_two_modules(alloc: Global) -> bool {
     let mut ctx = Context::new(alloc);
     are_both_there(alloc, &mut ctx)
+}
+
+/// Whether a module is there as ever that has such a type, and no value of it.
+fn is_there_with_unused(alloc: Global, ctx: &mut Context) -> bool
+    requires { IsTyped ctx.old }
+{
+    let Ok(mut module) = read_ll(alloc, ONE.as_bytes()) else {
+        return false;
+    };
+    if module
+        .type_get(LLVMTypeKind::Other(OtherType::Token))
+        .is_err()
+    {
+        return false;
+    }
+    match import_into(alloc, ctx, &module) {
+        Some(root) => has_text(alloc, ctx, root, ONE_TEXT),
+        None => false,
+    }
+}
+
+/// The same of an empty context.
+fn takes_unused_type(alloc: Global) -> bool {
+    let mut ctx = Context::new(alloc);
+    is_there_with_unused(alloc, &mut ctx)
+}
+
+#[test]
+fn a_type_of_no_value_is_taken(rt: HostRuntime) {
+    assert!(rt; takes_unused_type(rt.alloc()));
 }
 
 #[test]

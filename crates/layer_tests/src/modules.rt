@@ -5,12 +5,13 @@ ghost use Rattle.llvm_core.specs.declared.types.LLVMTypeKind.TheVariants as kind
 ghost use Rattle.llvm_core.specs.Parts.{IsBlock, IsValue, HasValues};
 
 use crate::words::{number, word};
+use kinds::fitting::is_array_of;
 use kinds::op::{LLVMIntPredicate, OverflowFlags};
 use llvm_core::check_err::CheckErr;
 use llvm_core::checking::check;
 use llvm_core::code::{LLVMInst, LLVMValue};
 use llvm_core::consts::LLVMConstKind;
-use llvm_core::module::LLVMModule;
+use llvm_core::module::{LLVMModule, shape_of};
 use llvm_core::numbers::{LLVMBasicBlock, LLVMFunction, LLVMInstRef, LLVMType};
 use llvm_core::types::LLVMTypeKind;
 use std::alloc::Global;
@@ -23,6 +24,7 @@ use support::short_list::ShortList;
 //     int NAME WIDTH                  a function of two parameters of a width that returns such an integer
 //     void NAME SPACE                 a function of no parameters that returns nothing
 //     takes_void NAME SPACE           a function that takes and returns void
+//     nested NAME LEVELS              a function that returns an array of arrays, so many levels with the innermost `i8`
 //     name FUNCTION PLACE NAME        names a parameter
 //     block FUNCTION NAME             a new last block
 //     in BLOCK INSTRUCTION            a new last instruction
@@ -45,6 +47,8 @@ NameTwice(Function(0)): int f 8; name 0 0 a; block 0 a; in 0 0 ret param 0 0
 NoTerminator(Block(0)): void f 0; block 0 -
 OperandType(Inst(0)): int f 8; block 0 -; in 0 0 ret zero 64
 OperandType(Function(0)): takes_void f 0
+TooDeep(Function(0)): nested f 1000
+Ok: nested f 999
 OperandCount(Inst(0)): int f 8; block 0 -; in 0 0 ret_void
 BlockOutside(Inst(0)): int f 8; int g 8; block 0 -; in 0 0 ret param 1 0
 IntrinsicBody(Function(0)): void llvm.x 0; block 0 -; in 0 0 ret_void
@@ -85,6 +89,7 @@ enum Keyword {
     Int,
     Void,
     TakesVoid,
+    Nested,
     Name,
     Block,
     In,
@@ -108,6 +113,7 @@ const KEYWORDS: &[(&str, Keyword)] = &[
     ("int", Keyword::Int),
     ("void", Keyword::Void),
     ("takes_void", Keyword::TakesVoid),
+    ("nested", Keyword::Nested),
     ("name", Keyword::Name),
     ("block", Keyword::Block),
     ("in", Keyword::In),
@@ -194,6 +200,20 @@ fn int(m: &mut LLVMModule, width: u32) -> Option<LLVMType>
         return None;
     }
     m.type_get(LLVMTypeKind::Int(width)).ok()
+}
+
+/// Arrays of arrays of one element, so many levels with the innermost.
+fn nested(m: &mut LLVMModule, levels: u32) -> Option<LLVMType>
+    ensures { IfSome result (λ t. t.0 < length m.new.types) }
+{
+    let mut ty = int(m, 8)?;
+    for _ in 1..levels {
+        if !is_array_of(1, shape_of(m.type_kind(ty))) {
+            return None;
+        }
+        ty = m.type_get(LLVMTypeKind::Array(1, ty)).ok()?;
+    }
+    Some(ty)
 }
 
 /// The zero of a width, or a placeholder.
@@ -343,12 +363,13 @@ fn add_function(
     Some(())
 }
 
-/// What a function returns, by the word that begins its call: an integer of this width, or void.
+/// What a function returns, by the word that begins its call: an integer of this width, arrays so deep, or void.
 fn returned(m: &mut LLVMModule, sort: Keyword, width: u32) -> Option<LLVMType>
     ensures { IfSome result (λ t. t.0 < length m.new.types) }
 {
     match sort {
         Keyword::Int => int(m, width),
+        Keyword::Nested => nested(m, width),
         _ => m.type_get(LLVMTypeKind::Void).ok(),
     }
 }
@@ -366,6 +387,7 @@ fn add_sort(
     match sort {
         Keyword::Int => add_function(alloc, m, name, 0, ty, &[ty, ty]),
         Keyword::TakesVoid => add_function(alloc, m, name, number, ty, &[ty]),
+        Keyword::Nested => add_function(alloc, m, name, 0, ty, &[]),
         _ => add_function(alloc, m, name, number, ty, &[]),
     }
 }
@@ -376,7 +398,7 @@ fn call(alloc: Global, m: &mut LLVMModule, words: &mut SplitWhitespace<'_>) -> O
         Keyword::Block => add_block(m, words),
         Keyword::In => add_inst(alloc, m, words),
         Keyword::Entry => add_entry(m, words),
-        sort @ (Keyword::Int | Keyword::Void | Keyword::TakesVoid) => {
+        sort @ (Keyword::Int | Keyword::Void | Keyword::TakesVoid | Keyword::Nested) => {
             add_sort(alloc, m, words, sort)
         }
         _ => None,

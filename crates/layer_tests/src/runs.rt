@@ -308,3 +308,56 @@ fn a_long_chain_of_blocks_goes_round_from_its_end(rt: HostRuntime) {
     let fault = made_fault(rt.alloc(), chain(rt.alloc()), out);
     assert!(rt; fault.is_empty(), "{fault}");
 }
+
+// ---- types that nest deep
+
+/// A text of a function that takes arrays of arrays, so many levels with the innermost.
+fn nested(alloc: Global, levels: u32) -> Result<String, AllocError> {
+    let mut text = String::new(alloc);
+    text.push_str("define void @f(")?;
+    for _ in 1..levels {
+        text.push_str("[1 x ")?;
+    }
+    text.push_str("i8")?;
+    for _ in 1..levels {
+        text.push_str("]")?;
+    }
+    text.push_str(" %a) {\n  ret void\n}\n")?;
+    Ok(text)
+}
+
+/// What is wrong with how `round` ends over such a text.
+fn nested_fault(alloc: Global, levels: u32, end: &End<'_>) -> &'static str {
+    match nested(alloc, levels) {
+        Ok(text) => round_fault(alloc, text.as_bytes(), &[], end),
+        Err(_) => "no memory",
+    }
+}
+
+/// How it ends where the function's type is one level above 999, the most, and above one level more.
+const DEEP_ENDS: &[(u32, End)] = &[
+    (
+        999,
+        End {
+            status: 0,
+            out: Out::EndsWith(b";; report\nblocks @f 0\n"),
+            line: "",
+        },
+    ),
+    (
+        1000,
+        End {
+            status: 6,
+            out: Out::Is(b""),
+            line: "NotYet\n",
+        },
+    ),
+];
+
+#[test]
+fn a_type_of_a_thousand_levels_goes_round_and_a_deeper_one_does_not(rt: HostRuntime) {
+    for (levels, end) in DEEP_ENDS {
+        let fault = nested_fault(rt.alloc(), *levels, end);
+        assert!(rt; fault.is_empty(), "{fault} at {levels}");
+    }
+}

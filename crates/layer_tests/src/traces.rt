@@ -6,7 +6,8 @@ ghost use Rattle.llvm_core.specs.Checked.{IsChecked};
 ghost use Rattle.llvm_core.specs.Data.{data_of};
 ghost use Rattle.llvm_core.specs.Form.{IsForm};
 ghost use Rattle.dialect_core.specs.Data.{IsTyped};
-ghost use Rattle.tracing.specs.Runs.{HasPlacesBelow};
+ghost use Rattle.tracing.specs.Types.{AreBelow};
+ghost use Rattle.tracing.specs.Runs.{HasPlacesBelow, HasTables};
 ghost use Rattle.tracing.specs.DialectBodies.{HasBody};
 
 use crate::asked::{Question, answer};
@@ -18,12 +19,14 @@ use dialect_core::numbers::{FuncOp, ModuleOp};
 use kinds::op::Op;
 use ll_text::read::read_ll;
 use llvm_core::module::LLVMModule;
-use llvm_core::numbers::LLVMFunction;
+use llvm_core::numbers::{LLVMFunction, LLVMType};
+use llvm_core::types::LLVMTypeKind;
 use std::alloc::{AllocError, Global};
 use std::str::SplitWhitespace;
-use tracing::table::{TermNode, TermTable, ValueType};
+use tracing::table::{TermNode, TermTable};
 use tracing::trace::{Trace, TraceItem};
 use tracing::tracing::{trace_of_dialect, trace_of_llvm};
+use tracing::type_table::TypeTable;
 use transfer::transferring::transfer;
 
 /// A loop whose two phis swap their values in each turn.
@@ -113,20 +116,22 @@ fn op_word(op: Op) -> &'static str {
     }
 }
 
-fn type_word(ty: &ValueType) -> &'static str {
-    match ty {
-        ValueType::Int(1) => "i1",
-        ValueType::Int(8) => "i8",
-        ValueType::Int(32) => "i32",
-        ValueType::Void => "void",
+fn type_word(kind: &LLVMTypeKind) -> &'static str {
+    match kind {
+        LLVMTypeKind::Int(1) => "i1",
+        LLVMTypeKind::Int(8) => "i8",
+        LLVMTypeKind::Int(32) => "i32",
+        LLVMTypeKind::Void => "void",
         _ => "other",
     }
 }
 
-/// Whether words are the types of operands.
-fn are_types(types: &[ValueType], words: &mut SplitWhitespace<'_>) -> bool {
-    for ty in types {
-        if word(words) != type_word(ty) {
+/// Whether words are the types of operands that stand at those places.
+fn are_types(types: &TypeTable, places: &[LLVMType], words: &mut SplitWhitespace<'_>) -> bool
+    requires { AreBelow (length types.now) places.now }
+{
+    for place in places {
+        if word(words) != type_word(types.kind(*place)) {
             return false;
         }
     }
@@ -157,8 +162,8 @@ fn are_operands(terms: &TermTable, places: &[u32], words: &mut SplitWhitespace<'
 }
 
 /// Whether words are an item of a trace.
-fn is_item(terms: &TermTable, item: &TraceItem, words: &mut SplitWhitespace<'_>) -> bool
-    requires { HasPlacesBelow (length terms.now) item.now }
+fn is_item(trace: &Trace, item: &TraceItem, words: &mut SplitWhitespace<'_>) -> bool
+    requires { HasPlacesBelow (length trace.now.types) (length trace.now.terms) item.now }
 {
     match item {
         TraceItem::Block(block) => is_number(word(words), '^', *block),
@@ -168,18 +173,18 @@ fn is_item(terms: &TermTable, item: &TraceItem, words: &mut SplitWhitespace<'_>)
             operands,
         } => {
             word(words) == op_word(*op)
-                && are_types(types.operands.as_slice(), words)
-                && are_operands(terms, operands.as_slice(), words)
+                && are_types(&trace.types, types.operands.as_slice(), words)
+                && are_operands(&trace.terms, operands.as_slice(), words)
         }
     }
 }
 
-/// Whether words begin with these items of a trace.
-fn are_items(terms: &TermTable, items: &[TraceItem], words: &mut SplitWhitespace<'_>) -> bool
-    requires { All (HasPlacesBelow (length terms.now)) items.now }
+/// Whether words begin with the items of a trace.
+fn are_items(trace: &Trace, words: &mut SplitWhitespace<'_>) -> bool
+    requires { HasTables trace.now }
 {
-    for item in items {
-        if !is_item(terms, item, words) {
+    for item in trace.items.as_slice() {
+        if !is_item(trace, item, words) {
             return false;
         }
     }
@@ -188,10 +193,10 @@ fn are_items(terms: &TermTable, items: &[TraceItem], words: &mut SplitWhitespace
 
 /// Whether a trace shows these words.
 fn shows(trace: &Trace, want: &str) -> bool
-    requires { All (HasPlacesBelow (length trace.now.terms)) trace.now.items.items }
+    requires { HasTables trace.now }
 {
     let words = &mut want.split_whitespace();
-    are_items(&trace.terms, trace.items.as_slice(), words) && words.next().is_none()
+    are_items(trace, words) && words.next().is_none()
 }
 
 // ---- the two sides
