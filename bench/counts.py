@@ -82,6 +82,17 @@ def phis(size):
     return inside(head, part, lambda n: "  br i1 %c, label %loop, label %exit\n\nexit:\n  ret i32 %x0\n", size)
 
 
+def fields(size):
+    """One function that takes one struct of many fields."""
+    body = repeated(lambda k: f"{', ' if k else ''}i{1 + k % 64}", size)
+    return f"define void @f({{ {body} }} %s) {{\n  ret void\n}}\n"
+
+
+def structs(number):
+    """A function of one line over types that no other function has."""
+    return f"define {{ i32, [{number} x ptr] }} @f{number}({{ i32, [{number} x ptr] }} %s) {{\n  ret {{ i32, [{number} x ptr] }} %s\n}}\n"
+
+
 KINDS = {
     "small functions": lambda size: repeated(small, size),
     "functions of one line": lambda size: repeated(line, size),
@@ -96,6 +107,8 @@ KINDS = {
     "results, one identifier": lambda size: named(alike, size),
     "many constants": lambda size: chain(lambda k: k + 10, size),
     "many phis": phis,
+    "functions of structs": lambda size: repeated(structs, size),
+    "a struct of many fields": fields,
 }
 
 

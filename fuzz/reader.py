@@ -5,7 +5,10 @@ What is no such text is `NotYet`.
 import re
 
 from names import name_said, text_said
-from value_types import BIT, FLOATING, LACKED, MAX_WIDTH, SPACES, Floating, Integer, Lacked, Pointer, has_constants, is_integer
+from value_types import (
+    BIT, COUNTS, DEEPEST, FLOATING, LACKED, LENGTHS, MAX_WIDTH, SPACES,
+    Array, Floating, Integer, Lacked, Pointer, Struct, Vector, depth, has_constants, is_element, is_field, is_integer, is_item,
+)
 
 PREDICATES = "eq ne ugt uge ult ule sgt sge slt sle".split()
 FLAGGED = "add sub mul shl".split()  # of two operands of one type, with flags
@@ -41,7 +44,7 @@ TOKEN = re.compile(r"""
   | (?P<int>i[0-9]+(?![A-Za-z0-9_.]))
   | (?P<word>[A-Za-z_][A-Za-z0-9_.]*)
   | (?P<number>-?[0-9]+)
-  | (?P<sign>[,=(){}\[\]*])
+  | (?P<sign>[,=(){}<>\[\]*])
 """, re.X)
 
 
@@ -93,7 +96,60 @@ class Reader:
         need(self.skip(text), f"{text!r} wanted, {self.peek()[1]!r} found")
 
     def type(self):
-        """A type of a value."""
+        """A type of a value, which does not nest too deep."""
+        found = self.any_type()
+        need(depth(found) <= DEEPEST, "depth")
+        return found
+
+    def any_type(self):
+        if self.skip("["):
+            return self.array()
+        if self.skip("{"):
+            return Struct(False, self.fields())
+        if self.skip("<"):
+            if self.skip("{"):
+                found = Struct(True, self.fields())
+            else:
+                found = self.vector()
+            self.want(">")
+            return found
+        return self.flat_type()
+
+    def count(self, counts):
+        number = self.take("number")
+        need(number.isdigit() and int(number) < counts, "count")
+        return int(number)
+
+    def array(self):
+        count = self.count(COUNTS)
+        self.want("x")
+        element = self.any_type()
+        need(is_item(element), "element of an array")
+        self.want("]")
+        return Array(count, element)
+
+    def vector(self):
+        scalable = self.skip("vscale")
+        if scalable:
+            self.want("x")
+        count = self.count(LENGTHS)
+        self.want("x")
+        element = self.any_type()
+        need(count > 0 and is_element(element), "element of a vector")
+        return Vector(scalable, count, element)
+
+    def fields(self):
+        """What stands between the braces of a struct."""
+        found = []
+        if not self.skip("}"):
+            found.append(self.any_type())
+            while self.skip(","):
+                found.append(self.any_type())
+            self.want("}")
+        need(all(map(is_field, found)), "field of a struct")
+        return tuple(found)
+
+    def flat_type(self):
         if self.peek()[0] == "int":
             return self.integer()
         if self.skip("ptr"):
