@@ -35,7 +35,7 @@ abbrev mutual
   others (ThenType t ts) ss = S.Comma ∷ written t (others ts ss)
 
 abbrev mutual
-  -- a type that the dialect has: integers of 1 to 2^23 bits, pointers of an address space below 2^24
+  -- a type that the dialect has and whose text is read: integers of 1 to 2^23 bits, pointers of an address space below 2^24
   pub IsOfDialect : TypeTree → Type 0
   IsOfDialect VoidType = Unit {0}
   IsOfDialect (IntType w) = (1 ≤ w) × (w ≤ 2 ^ 23)
@@ -52,7 +52,7 @@ abbrev mutual
   AreOfDialect NoTypes = Unit {0}
   AreOfDialect (ThenType t ts) = IsOfDialect t × AreOfDialect ts
 
--- the text spells the type: its tokens say what the type is written as, the dialect has it, and it nests at most 1000 deep
+-- the text spells the type: its tokens say what the type is written as, such a text is read, and the type nests at most 1000 deep
 abbrev pub Spells : Text → TypeTree → Type 0
 Spells bytes t = (symbols_of bytes ≡ Some (written t [])) × IsOfDialect t × (depth t ≤ 1000)
 
