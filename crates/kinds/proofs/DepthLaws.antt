@@ -2,14 +2,14 @@
 use Rattle.std.proofs.Common.{arith, ◌≡◌, ◌≤◌, ◌+◌, ℕ, Bool, false, [], All}
 use Rattle.std.proofs.lemmas.List.Elements.{All-nil, All-cons}
 use Rattle.kinds.specs.Types.{TypeTree, TypeTrees, NoTypes, ThenType, ArrayType, VectorType, StructType, FunctionType, types_list, parts_of, depth, depths}
-use Rattle.kinds.specs.Held.{too_deep, IsShallow}
+use Rattle.kinds.specs.Held.{deepest, too_deep, IsShallow}
 
 pub shallow_at : (n : ℕ) → n ≤ 1000 → too_deep n ≡ false
-unfolding too_deep
+unfolding too_deep deepest
 shallow_at n h = grind arith
 
 pub depth_at : (n : ℕ) → too_deep n ≡ false → n ≤ 1000
-unfolding too_deep
+unfolding too_deep deepest
 depth_at n e = grind arith
 
 -- what nests no deeper than a type that is shallow is shallow

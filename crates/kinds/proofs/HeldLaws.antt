@@ -2,10 +2,10 @@
 use Rattle.std.proofs.Common.{arith, ◌≡◌, ◌≤◌, ◌<◌, ◌^◌, ℕ, Bool, true, false, ◌||◌, refl, ap, ◌∙◌, Some, None, All}
 use Rattle.kinds.specs.declared.fitting.Shape.{Shape}
 use Rattle.kinds.specs.declared.fitting.Shape.TheVariants as S
-use Rattle.kinds.specs.declared.types.OtherType.{OtherType}
-use Rattle.kinds.specs.Types.{TypeTree, VoidType, IntType, PointerType, FloatingType, RefusedType, ArrayType, VectorType, StructType, FunctionType, shape, depth, parts_of}
+use Rattle.kinds.specs.declared.types.Lack.{Lack}
+use Rattle.kinds.specs.Types.{TypeTree, VoidType, IntType, PointerType, FloatingType, RefusedType, ArrayType, VectorType, StructType, NamedType, FunctionType, shape, depth, parts_of}
 use Rattle.kinds.specs.Fitting.{is_value, is_first_class, is_held}
-use Rattle.kinds.specs.Held.{is_void, own_type, too_deep, throughout, IsShallow, IsFirstClass, IsReturned, IsHeld, IsHeldResult, Holds, refused_of}
+use Rattle.kinds.specs.Held.{is_void, own_type, too_deep, throughout, IsShallow, IsFirstClass, IsReturned, IsHeld, IsHeldResult, HoldsLack, lack_of}
 use Rattle.kinds.proofs.DepthLaws.{flat_shallow, parts_shallow}
 use Rattle.kinds.proofs.PartLaws.{throughout_shape, parts_throughout, throughout_weaker, first_held, held_holds_none, void_holds_none, All-both}
 
@@ -21,6 +21,7 @@ void_is (RefusedType a) e = cc
 void_is (ArrayType n t) e = cc
 void_is (VectorType k n t) e = cc
 void_is (StructType l ts) e = cc
+void_is (NamedType n) e = cc
 void_is (FunctionType r ps v) e = cc
 
 pub void_if : (t : TypeTree) → t ≡ VoidType → is_void t ≡ true
@@ -62,6 +63,7 @@ value_own t e = by (shape t) refl e
     by S.Other is e = cc
     by (S.Refused of) is e = cc
     by S.Made is e = cc
+    by S.Named is e = cc
     by S.Function is e = cc
 
 -- ---- first class
@@ -73,6 +75,7 @@ shape_value (S.Pointer s) e = refl
 shape_value S.Other e = refl
 shape_value (S.Refused of) e = refl
 shape_value S.Made e = refl
+shape_value S.Named e = refl
 shape_value S.Function e = cc
 
 pub first_class_value : (t : TypeTree) → IsFirstClass t → is_value (shape t) ≡ true
@@ -142,6 +145,7 @@ shape_first_class (S.Pointer s) e = e
 shape_first_class S.Other e = refl
 shape_first_class (S.Refused of) e = cc
 shape_first_class S.Made e = refl
+shape_first_class S.Named e = refl
 shape_first_class S.Function e = cc
 
 pub held_first_class : (t : TypeTree) → IsHeld t → IsFirstClass t
@@ -202,15 +206,15 @@ held_result_returned t h = by (is_void t) refl
     by true is = returned_void t is
     by false is = returned_if t (held_first_class t (held_result_own t h is))
 
--- what is returned is translated, unless it holds a type for which the dialect has none
-pub returned_held : (t : TypeTree) → IsReturned t → refused_of t ≡ None → IsHeldResult t
+-- what is returned is translated, unless it holds a type that is not
+pub returned_held : (t : TypeTree) → IsReturned t → lack_of t ≡ None → IsHeldResult t
 returned_held t h none = by (is_void t) refl
   where
     by : (v : Bool) → is_void t ≡ v → IsHeldResult t
     by true is = held_result_void t is
     by false is = let own = returned_own t h is in held_result_if t (held_by t (first_held t none (first_class_throughout t own)) (first_class_shallow t own))
 
-pub held_result_holds_none : (of : OtherType) (t : TypeTree) → Holds (RefusedType of) t → IsHeldResult t → ⊥
+pub held_result_holds_none : (lack : Lack) (t : TypeTree) → HoldsLack lack t → IsHeldResult t → ⊥
 held_result_holds_none of t inside h = by (is_void t) refl
   where
     by : (v : Bool) → is_void t ≡ v → ⊥

@@ -1,6 +1,7 @@
 -- The laws that the answers of all crates share.
 pub mod TypeLaws
 pub mod DepthLaws
+pub mod NestLaws
 pub mod PartLaws
 pub mod FittingLaws
 pub mod TableLaws

@@ -1,11 +1,12 @@
 -- Equal types, tested and proved: a line for each kind of type.
 use Rattle.std.proofs.Common.{◌≡◌, nat_eq, Bool, true, false, ◌&&◌, refl, ap, eq-eqb, arith}
 use Rattle.std.proofs.lemmas.Bool.{eqb-true}
+use Rattle.std.proofs.lemmas.Slice.Eq.{bytes_eq-Decides}
 use Rattle.kinds.specs.declared.types.Floating.{Floating}
 use Rattle.kinds.specs.declared.types.OtherType.{OtherType}
 use Rattle.kinds.specs.declared.types.VectorTypeKind.{VectorTypeKind}
 use Rattle.kinds.specs.declared.types.StructLayout.{StructLayout}
-use Rattle.kinds.specs.Types.{TypeTree, VoidType, IntType, PointerType, FloatingType, RefusedType, ArrayType, VectorType, StructType, FunctionType, same_floating, same_other, same_kind, same_layout, TypeTrees, NoTypes, ThenType, same_bool, same_tree, same_trees}
+use Rattle.kinds.specs.Types.{TypeTree, VoidType, IntType, PointerType, FloatingType, RefusedType, ArrayType, VectorType, StructType, NamedType, FunctionType, same_floating, same_other, same_kind, same_layout, TypeTrees, NoTypes, ThenType, same_bool, same_tree, same_trees}
 
 same_self : (b : Bool) → same_bool b b ≡ true
 same_self true = refl
@@ -52,6 +53,7 @@ mutual
   tree_self (ArrayType n t) = rw (eq-eqb n n refl, tree_self t) refl
   tree_self (VectorType k n t) = rw (kind_self k, eq-eqb n n refl, tree_self t) refl
   tree_self (StructType l ts) = rw (layout_self l, trees_self ts) refl
+  tree_self (NamedType a) = (bytes_eq-Decides a a).1 refl
   tree_self (FunctionType r ps v) = rw (tree_self r, trees_self ps, same_self v) refl
 
   trees_self : (ts : TypeTrees) → same_trees ts ts ≡ true
@@ -88,6 +90,7 @@ mutual
       let a = layout_told l k (and_left (same_layout l k) (same_trees ts us) e) in
       let b = trees_told ts us (and_right (same_layout l k) (same_trees ts us) e) in
       cc
+  tree_told (NamedType a) (NamedType b) e = ap NamedType ((bytes_eq-Decides a b).0 e)
   tree_told (FunctionType r ps v) (FunctionType s qs w) e =
       let front = and_left (same_tree r s && same_trees ps qs) (same_bool v w) e in
       let a = tree_told r s (and_left (same_tree r s) (same_trees ps qs) front) in

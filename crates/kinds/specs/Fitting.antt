@@ -22,6 +22,7 @@ is_value (S.Pointer space) = true
 is_value S.Other = true
 is_value (S.Refused of) = true
 is_value S.Made = true
+is_value S.Named = true
 is_value S.Function = false
 
 abbrev pub is_number : Shape → Bool
@@ -31,6 +32,7 @@ is_number (S.Pointer space) = false
 is_number S.Other = false
 is_number (S.Refused of) = false
 is_number S.Made = false
+is_number S.Named = false
 is_number S.Function = false
 
 -- i1
@@ -41,6 +43,7 @@ is_bit (S.Pointer space) = false
 is_bit S.Other = false
 is_bit (S.Refused of) = false
 is_bit S.Made = false
+is_bit S.Named = false
 is_bit S.Function = false
 
 -- void
@@ -51,6 +54,7 @@ is_nothing (S.Pointer space) = false
 is_nothing S.Other = false
 is_nothing (S.Refused of) = false
 is_nothing S.Made = false
+is_nothing S.Named = false
 is_nothing S.Function = false
 
 abbrev pub is_function : Shape → Bool
@@ -60,6 +64,7 @@ is_function (S.Pointer space) = false
 is_function S.Other = false
 is_function (S.Refused of) = false
 is_function S.Made = false
+is_function S.Named = false
 is_function S.Function = true
 
 -- the width of an integer
@@ -70,6 +75,7 @@ width_of (S.Pointer space) = 0
 width_of S.Other = 0
 width_of (S.Refused of) = 0
 width_of S.Made = 0
+width_of S.Named = 0
 width_of S.Function = 0
 
 -- a type of a value, whose width is one that there is
@@ -80,9 +86,10 @@ is_first_class (S.Pointer space) = nat_lt space (2 ^ 24)
 is_first_class S.Other = true
 is_first_class (S.Refused of) = true
 is_first_class S.Made = true
+is_first_class S.Named = true
 is_first_class S.Function = false
 
--- one that is translated: not so a type of values for which the dialect has no type
+-- one that is translated: not so a type of values for which the dialect has no type, nor an identified struct
 abbrev pub is_held : Shape → Bool
 is_held S.Void = false
 is_held (S.Int w) = nat_le 1 w && nat_le w (2 ^ 23)
@@ -90,6 +97,7 @@ is_held (S.Pointer space) = nat_lt space (2 ^ 24)
 is_held S.Other = true
 is_held (S.Refused of) = false
 is_held S.Made = true
+is_held S.Named = false
 is_held S.Function = false
 
 -- ---- what a type is made of
@@ -102,8 +110,10 @@ abbrev pub is_amx : Shape → Bool
 is_amx (S.Refused O.X86Amx) = true
 is_amx _ = false
 
+-- one that is made of others, here or by its name
 abbrev pub is_made : Shape → Bool
 is_made S.Made = true
+is_made S.Named = true
 is_made _ = false
 
 -- a field of a struct: any type of a value but `token` (Language Reference, Structure Type)

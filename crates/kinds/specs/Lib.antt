@@ -5,4 +5,5 @@ pub mod Table
 pub mod Fitting
 pub mod Typing
 pub mod Held
+pub mod Structs
 pub mod Names

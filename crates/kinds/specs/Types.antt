@@ -1,5 +1,6 @@
 -- Types as trees, the same for both sides.
 use Rattle.std.specs.Prelude.{ℕ, ◌+◌, max, Bool, true, false, ◌&&◌, nat_eq, List, [], ◌∷◌}
+use Rattle.std.specs.Str.{bytes_eq}
 use Rattle.kinds.specs.declared.fitting.Shape.{Shape}
 use Rattle.kinds.specs.declared.fitting.Shape.TheVariants as S
 use Rattle.kinds.specs.declared.types.Floating.{Floating}
@@ -24,6 +25,8 @@ mutual
     ArrayType : (count : ℕ) (element : TypeTree) → TypeTree
     VectorType : (kind : VectorTypeKind) (count : ℕ) (element : TypeTree) → TypeTree
     StructType : (layout : StructLayout) (fields : TypeTrees) → TypeTree
+    -- an identified struct: its fields stand beside the types that name it (Structs.antt)
+    NamedType : (name : List ℕ) → TypeTree
     FunctionType : (result : TypeTree) (params : TypeTrees) (variadic : Bool) → TypeTree
 
   pub data TypeTrees : Type 0 where
@@ -40,6 +43,7 @@ shape (RefusedType of) = S.Refused of
 shape (ArrayType count t) = S.Made
 shape (VectorType kind count t) = S.Made
 shape (StructType layout ts) = S.Made
+shape (NamedType name) = S.Named
 shape (FunctionType result params variadic) = S.Function
 
 abbrev pub same_bool : Bool → Bool → Bool
@@ -83,6 +87,7 @@ abbrev mutual
   same_tree (ArrayType n t) (ArrayType m u) = nat_eq n m && same_tree t u
   same_tree (VectorType k n t) (VectorType l m u) = same_kind k l && nat_eq n m && same_tree t u
   same_tree (StructType l ts) (StructType k us) = same_layout l k && same_trees ts us
+  same_tree (NamedType a) (NamedType b) = bytes_eq a b
   same_tree (FunctionType r ps v) (FunctionType s qs w) = same_tree r s && same_trees ps qs && same_bool v w
   same_tree _ _ = false
 
@@ -111,6 +116,7 @@ result_of (RefusedType of) = VoidType
 result_of (ArrayType count t) = VoidType
 result_of (VectorType kind count t) = VoidType
 result_of (StructType layout ts) = VoidType
+result_of (NamedType name) = VoidType
 result_of (FunctionType result params variadic) = result
 
 -- what a function of that type takes
@@ -123,6 +129,7 @@ takes_of (RefusedType of) = NoTypes
 takes_of (ArrayType count t) = NoTypes
 takes_of (VectorType kind count t) = NoTypes
 takes_of (StructType layout ts) = NoTypes
+takes_of (NamedType name) = NoTypes
 takes_of (FunctionType result params variadic) = params
 
 abbrev pub params_of : TypeTree → List TypeTree
@@ -139,7 +146,7 @@ parts_of (FunctionType result params variadic) = result ∷ types_list params
 parts_of _ = []
 
 abbrev mutual
-  -- how deep a type nests, its innermost part counted
+  -- how deep a type nests, its innermost part counted; an identified struct is one, whatever is in it
   pub depth : TypeTree → ℕ
   depth (ArrayType count t) = 1 + depth t
   depth (VectorType kind count t) = 1 + depth t

@@ -1,7 +1,7 @@
 //! Whether operands fit a row: one evaluator of the table's words, for either side.
 
 ghost use Rattle.std.specs.Prelude.{◌≡◌};
-ghost use Rattle.kinds.specs.Fitting.{fit, is_same, is_wider, is_written, takes_fit, fits, view_same, view_shape, is_value, is_number, is_bit, is_nothing, is_function, is_first_class, is_held, is_token, is_amx, is_field, is_array_of, is_vector_of};
+ghost use Rattle.kinds.specs.Fitting.{fit, is_same, is_wider, is_written, takes_fit, fits, view_same, view_shape, is_value, is_number, is_bit, is_nothing, is_function, is_first_class, is_held, is_token, is_amx, is_made, is_field, is_array_of, is_vector_of};
 
 use crate::rules::{Fit, Gives, Rule, Takes};
 use crate::types::OtherType;
@@ -26,6 +26,8 @@ pub enum Shape {
     Refused(OtherType),
     /// A type of values that is made of others: what holds of these is asked of them.
     Made,
+    /// A struct with a name: what holds of its fields is asked where they stand.
+    Named,
     /// A type of no value.
     Function,
 }
@@ -48,6 +50,7 @@ pub fn is_value(shape: Shape) -> bool
         Shape::Other => true,
         Shape::Refused(_) => true,
         Shape::Made => true,
+        Shape::Named => true,
         Shape::Function => false,
     }
 }
@@ -62,6 +65,7 @@ fn is_number(shape: Shape) -> bool
         Shape::Other => false,
         Shape::Refused(_) => false,
         Shape::Made => false,
+        Shape::Named => false,
         Shape::Function => false,
     }
 }
@@ -76,6 +80,7 @@ fn is_bit(shape: Shape) -> bool
         Shape::Other => false,
         Shape::Refused(_) => false,
         Shape::Made => false,
+        Shape::Named => false,
         Shape::Function => false,
     }
 }
@@ -91,6 +96,7 @@ pub fn is_nothing(shape: Shape) -> bool
         Shape::Other => false,
         Shape::Refused(_) => false,
         Shape::Made => false,
+        Shape::Named => false,
         Shape::Function => false,
     }
 }
@@ -106,6 +112,7 @@ pub fn is_function(shape: Shape) -> bool
         Shape::Other => false,
         Shape::Refused(_) => false,
         Shape::Made => false,
+        Shape::Named => false,
         Shape::Function => true,
     }
 }
@@ -122,11 +129,13 @@ pub fn is_first_class(shape: Shape) -> bool
         Shape::Other => true,
         Shape::Refused(_) => true,
         Shape::Made => true,
+        Shape::Named => true,
         Shape::Function => false,
     }
 }
 
-/// Whether it is that of a type that is translated: each type of a value for which the dialect has one.
+/// Whether it is that of a type that is translated: each type of a value for which the dialect has one, and no struct
+/// with a name.
 pub fn is_held(shape: Shape) -> bool
     ensures { result ≡ is_held shape }
 {
@@ -137,6 +146,7 @@ pub fn is_held(shape: Shape) -> bool
         Shape::Other => true,
         Shape::Refused(_) => false,
         Shape::Made => true,
+        Shape::Named => false,
         Shape::Function => false,
     }
 }
@@ -151,6 +161,12 @@ fn is_amx(shape: Shape) -> bool
     ensures { result ≡ is_amx shape }
 {
     matches!(shape, Shape::Refused(OtherType::X86Amx))
+}
+
+fn is_made(shape: Shape) -> bool
+    ensures { result ≡ is_made shape }
+{
+    matches!(shape, Shape::Made | Shape::Named)
 }
 
 /// Whether a struct may have a field of a type of this shape (Language Reference, Structure Type).
@@ -172,7 +188,7 @@ pub fn is_array_of(count: u64, shape: Shape) -> bool
 pub fn is_vector_of(count: u32, shape: Shape) -> bool
     ensures { result ≡ is_vector_of count shape }
 {
-    1 <= count && is_array_of(u64::from(count), shape) && shape != Shape::Made
+    1 <= count && is_array_of(u64::from(count), shape) && !is_made(shape)
 }
 
 /// Whether both are integers, and the first is wider.

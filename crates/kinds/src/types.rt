@@ -2,7 +2,7 @@
 //! deep a type may nest.
 
 ghost use Rattle.std.specs.Prelude.{◌≡◌};
-ghost use Rattle.kinds.specs.Held.{too_deep};
+ghost use Rattle.kinds.specs.Held.{deepest, too_deep};
 
 /// A floating-point type (Language Reference, Floating-Point Types): a line for each.
 #[derive(Clone, Copy, PartialEq, Eq, Hash, Debug, Drop)]
@@ -32,6 +32,15 @@ pub enum OtherType {
     Token,
 }
 
+/// What is not translated yet of the types of LLVM's side: a line for each sort.
+#[derive(Clone, Copy, PartialEq, Eq, Hash, Debug, Drop)]
+pub enum Lack {
+    /// A type for which the dialect has none.
+    Other(OtherType),
+    /// A struct with a name.
+    Struct,
+}
+
 /// How many elements a vector has (Language Reference, Vector Type).
 #[derive(Clone, Copy, PartialEq, Eq, Hash, Debug, Drop)]
 pub enum VectorTypeKind {
@@ -53,10 +62,18 @@ pub enum StructLayout {
 /// So deep a type may nest.
 const DEEPEST: u32 = 1000;
 
+/// So deep a type may nest.
+#[tactic(auto, unfolding(crate::specs::Held::deepest))]
+pub fn deepest() -> u32
+    ensures { result ≡ deepest }
+{
+    DEEPEST
+}
+
 /// Whether no type may nest so deep.
 #[tactic(auto, unfolding(crate::specs::Held::too_deep))]
 pub fn too_deep(depth: u32) -> bool
     ensures { result ≡ too_deep depth }
 {
-    depth > DEEPEST
+    depth > deepest()
 }
