@@ -15,7 +15,7 @@ use Rattle.llvm_core.specs.declared.code.BlockData.{BlockData}
 use Rattle.llvm_core.specs.Module.{Module}
 use Rattle.llvm_core.specs.Sound.{IsModule}
 use Rattle.llvm_core.specs.Data as d
-use Rattle.llvm_core.specs.Data.{Trees, trees_of, placed_of, placed_at, block_of, block_at, function_of, data_of}
+use Rattle.llvm_core.specs.Data.{Trees, trees_of, placed_of, placed_at, block_of, block_at, function_of, structs_of, data_of}
 use Rattle.llvm_core.specs.Bodies.{added, block_numbers, inst_numbers, inst_in, body_blocks, body_insts, placed_from, blocks_from, body_data, with_blocks}
 use Rattle.llvm_core.proofs.ChangeLemmas.{mapped_change, filter_map-same}
 use Rattle.llvm_core.proofs.CallLemmas.{at_number, at_other}
@@ -96,7 +96,7 @@ body_shown m f body s =
     (filter_map-append (block_at t blocks insts) x.blocks (block_numbers n body)
     ∙ ap (λ (bs : List d.Block). bs ++ filter_map (block_at t blocks insts) (block_numbers n body)) (blocks_kept m new_blocks new_insts s x.blocks (s.functions j x at).blocks)
     ∙ ap (λ (bs : List d.Block). filter_map (block_at t m.blocks m.insts) x.blocks ++ bs) shown) in
-    ap (λ (fs : List d.Function). let z : d.ModuleData = record { name = m.name; functions = fs } in z)
+    ap (λ (fs : List d.Function). let z : d.ModuleData = record { name = m.name; structs = structs_of m; functions = fs } in z)
     (mapped_change G F (λ (x : d.Function). if nat_eq x.number f.0 then h x else x) change f.0 0 m.functions
     (λ k j x at ne is. same k j x is ∙ sym (at_other h (F (k, x)) k f.0 (omega arith)))
     (λ k x at is. grown k f.0 x is ∙ sym (at_number h (F (k, x)) k f.0 (omega arith))))

@@ -1,5 +1,5 @@
 -- All of `IsModule` but what it says of each instruction: it stays as a function gets a body, block after block.
-use Rattle.std.proofs.Common.{◌≡◌, ◌<◌, ◌+◌, inl, inr, ℕ, List, [], ◌∷◌, ◌++◌, Some, length, length-append, map, slice_get, sym, ap, ◌∙◌, refl, arith, subst}
+use Rattle.std.proofs.Common.{◌≡◌, ◌<◌, ◌+◌, inl, inr, ℕ, List, [], ◌∷◌, ◌++◌, Some, length, length-append, map, slice_get, sym, ap, ◌∙◌, refl, arith, subst, All}
 use Rattle.std.proofs.lemmas.List.{append_assoc, append-nil, length-map}
 use Rattle.std.proofs.lemmas.List.Elements.{All-push}
 use Rattle.std.proofs.lemmas.Option.{slice_get_within, same_Some}
@@ -19,7 +19,7 @@ use Rattle.llvm_core.specs.declared.code.InstData.{InstData}
 use Rattle.llvm_core.specs.Module.{Module}
 use Rattle.llvm_core.specs.Code.{code_of, with_code}
 use Rattle.llvm_core.specs.Parts.{IsTypeOver, HasFitParts, IsConstOver}
-use Rattle.llvm_core.specs.Sound.{IsFunctionIn, IsBlockIn, IsInstIn, IsListedBlock, IsListedInst, OwnsBlocks, OwnsInsts, IsModule}
+use Rattle.llvm_core.specs.Sound.{IsStructIn, IsFunctionIn, IsBlockIn, IsInstIn, IsListedBlock, IsListedInst, OwnsBlocks, OwnsInsts, IsModule}
 use Rattle.llvm_core.specs.Bodies.{with_lists, added, block_numbers, inst_numbers, body_blocks, body_insts, inst_in}
 use Rattle.llvm_core.proofs.DataLemmas.{within_at}
 use Rattle.llvm_core.proofs.GrowLemmas.{blocks_of, insts_of, KeepsTypes, function_type, inst_type, Grows, function_kept, block_kept, listed_block_kept, listed_inst_kept}
@@ -33,6 +33,7 @@ pub record IsFrame (m : Module) : Type 0 where
   pub types_once : IsDistinctList m.types
   pub consts : (i : ℕ) (k : LLVMConstKind) → slice_get m.consts i ≡ Some k → IsConstOver m.types k
   pub consts_once : IsDistinctList m.consts
+  pub structs : All (IsStructIn m.types) m.structs
   pub functions : (f : ℕ) (x : FunctionData) → slice_get m.functions f ≡ Some x → IsFunctionIn m x
   pub blocks : (b : ℕ) (x : BlockData) → slice_get m.blocks b ≡ Some x → IsBlockIn m x
   pub listed_blocks : (b : ℕ) (y : BlockData) → slice_get m.blocks b ≡ Some y → IsListedBlock m b y
@@ -47,6 +48,7 @@ frame_of m s = record {
   types_once = s.types_once;
   consts = s.consts;
   consts_once = s.consts_once;
+  structs = s.structs;
   functions = s.functions;
   blocks = s.blocks;
   listed_blocks = s.listed_blocks;
@@ -62,6 +64,7 @@ module_of m s insts = record {
   types_once = s.types_once;
   consts = s.consts;
   consts_once = s.consts_once;
+  structs = s.structs;
   functions = s.functions;
   blocks = s.blocks;
   insts = insts;
@@ -239,6 +242,7 @@ module _ (m : Module) (f : LLVMFunction) (b : BodyBlock) (s : IsFrame m) (there 
     types_once = s.types_once;
     consts = s.consts;
     consts_once = s.consts_once;
+    structs = s.structs;
     functions = function_right;
     blocks = block_right;
     listed_blocks = block_listed;

@@ -30,11 +30,12 @@ use Rattle.llvm_core.specs.Code.{code_of, with_code, with_param_name, with_block
 use Rattle.llvm_core.specs.Parts.{IsValue, HasValues, IsEntry, IsResultOver, IsResultType, made_kind, result_type}
 use Rattle.llvm_core.specs.Sound.{IsModule, IsInstIn}
 use Rattle.llvm_core.specs.Data as d
-use Rattle.llvm_core.specs.Data.{Trees, type_at, const_at, trees_of, operand_of, entry_of, instruction_of, tree_of_result, result_tree, placed_of, placed_at, block_of, block_at, function_of, data_of, with_instruction_in, VoidType, type_trees, const_trees}
+use Rattle.llvm_core.specs.Data.{Trees, type_at, const_at, trees_of, operand_of, entry_of, instruction_of, tree_of_result, result_tree, placed_of, placed_at, block_of, block_at, function_of, structs_of, data_of, with_instruction_in, VoidType, type_trees, const_trees}
 use Rattle.llvm_core.proofs.ChangeLemmas.{mapped_same, mapped_push, mapped_then, mapped_change, filter_map-same, filter_map-mapped, slice_get-changed, slice_get-unchanged}
 use Rattle.support.proofs.ListLaws.{slice_get-push, item_there, slice_get-before}
 use Rattle.llvm_core.proofs.TreeLemmas.{type_at-kept, type_at-kind, const_trees-retyped, const_at-kept}
 use Rattle.llvm_core.proofs.SoundLemmas.{made_only}
+use Rattle.llvm_core.proofs.StructLemmas.{structs_same}
 use Rattle.llvm_core.proofs.WithinLemmas.{result_within}
 
 -- ---- trees that agree on what is there
@@ -124,7 +125,9 @@ pub type_data : (m : Module) (types : List LLVMTypeKind) (k : LLVMTypeKind) → 
 type_data m types k s h =
     let more = added m.types types k h in
     let same = functions_same m (trees_of (record m { types = types })) (trees_of m) s (retyped m types more.0 more.1 s) in
-    ap (λ fs. let d : d.ModuleData = record { name = m.name; functions = fs } in d) same
+    let fields = structs_same m.types (trees_of (record m { types = types })).types (trees_of m).types (retyped m types more.0 more.1 s).types m.structs s.structs in
+    ap (λ ss. let d : d.ModuleData = record { name = m.name; structs = ss; functions = (data_of (record m { types = types })).functions } in d) fields
+    ∙ ap (λ fs. let d : d.ModuleData = record { name = m.name; structs = structs_of m; functions = fs } in d) same
 
 pub const_data : (m : Module) (consts : List LLVMConstKind) (k : LLVMConstKind) → IsModule m → (consts ≡ m.consts) ⊎ (consts ≡ m.consts ++ k ∷ []) → data_of (record m { consts = consts }) ≡ data_of m
 const_data m consts k s h =
@@ -134,7 +137,7 @@ const_data m consts k s h =
       types = λ ty lt. refl;
       consts = λ c lt. ap (λ ks. const_at (const_trees ts ks) c) more.1 ∙ const_at-kept ts m.consts more.0 c.0 lt;
     }) in
-    ap (λ fs. let d : d.ModuleData = record { name = m.name; functions = fs } in d) same
+    ap (λ fs. let d : d.ModuleData = record { name = m.name; structs = structs_of m; functions = fs } in d) same
 
 -- ---- functions
 
@@ -144,7 +147,7 @@ pub function_data : (m : Module) (f : ℕ) (name : List ℕ) (ty : LLVMType) (sp
 function_data m f name ty space params names last same =
     let x : FunctionData = record { name = name; ty = ty; space = space; params = params; blocks = [] } in
     let F : ℕ × FunctionData → d.Function = function_of (trees_of m) m.blocks m.insts in
-    ap (λ fs. let d : d.ModuleData = record { name = m.name; functions = fs } in d)
+    ap (λ fs. let d : d.ModuleData = record { name = m.name; structs = structs_of m; functions = fs } in d)
     (mapped_push F 0 m.functions x ∙ ap (λ (k : ℕ). map F (enumerate_from 0 m.functions) ++ F (k, x) ∷ []) (let e : 0 + length m.functions ≡ f = omega (arith, last) in e)
     ∙ ap (λ ps. map F (enumerate_from 0 m.functions) ++ record (F (f, x)) { params = ps } ∷ []) same)
 
@@ -163,7 +166,7 @@ pub param_data : (m : Module) (f : LLVMFunction) (place : ℕ) (name : List ℕ)
 param_data m f place name =
     let F : ℕ × FunctionData → d.Function = function_of (trees_of m) m.blocks m.insts in
     let h : d.Function → d.Function = λ x. record x { params = slice_set x.params place name } in
-    ap (λ fs. let d : d.ModuleData = record { name = m.name; functions = fs } in d)
+    ap (λ fs. let d : d.ModuleData = record { name = m.name; structs = structs_of m; functions = fs } in d)
     (mapped_change F F (λ (x : d.Function). if nat_eq x.number f.0 then h x else x) (λ (x : FunctionData). record x { params = slice_set x.params place name }) f.0 0 m.functions
     (λ k j x at ne is. sym (at_other h (F (k, x)) k f.0 (omega arith)))
     (λ k x at is. sym (at_number h (F (k, x)) k f.0 (omega arith))))
@@ -196,7 +199,7 @@ block_data m f b name s last =
     ∙ ap (λ ys. ys ++ cons_option (block_at (trees_of m) all m.insts b) []) (blocks_kept m (empty ∷ []) x.blocks (s.functions j x is).blocks)
     ∙ ap (λ o. filter_map (block_at (trees_of m) m.blocks m.insts) x.blocks ++ cons_option o []) at_b in
     ap (λ bs. record (F (k, x)) { blocks = bs }) e) in
-    ap (λ fs. let d : d.ModuleData = record { name = m.name; functions = fs } in d)
+    ap (λ fs. let d : d.ModuleData = record { name = m.name; structs = structs_of m; functions = fs } in d)
     (mapped_change G F (λ (x : d.Function). if nat_eq x.number f.0 then h x else x) (λ (x : FunctionData). record x { blocks = x.blocks ++ b ∷ [] }) f.0 0 m.functions
     (λ k j x at ne is. kept k j x is ∙ sym (at_other h (F (k, x)) k f.0 (omega arith)))
     (λ k x at is. grown k f.0 x is ∙ sym (at_number h (F (k, x)) k f.0 (omega arith))))
@@ -281,7 +284,7 @@ module _ (m : Module) (b : LLVMBasicBlock) (i : LLVMInstRef) (x : InstData) (s :
 inst_appended : (m : Module) (b : LLVMBasicBlock) (i : LLVMInstRef) (name : List ℕ) (ty : LLVMType) (inst : LLVMInst) → IsModule m → i.0 ≡ length m.insts
     → data_of (with_code m (with_inst (code_of m) b i name ty inst)) ≡ d.with_instruction (data_of m) b.0 (placed_of (trees_of m) i (record { name = name; block = b; ty = ty; inst = inst }))
 inst_appended m b i name ty inst s last =
-    ap (λ fs. let d : d.ModuleData = record { name = m.name; functions = fs } in d) (inst_shown m b i (record { name = name; block = b; ty = ty; inst = inst }) s last)
+    ap (λ fs. let d : d.ModuleData = record { name = m.name; structs = structs_of m; functions = fs } in d) (inst_shown m b i (record { name = name; block = b; ty = ty; inst = inst }) s last)
 
 -- the tree of the result's type
 result_shown : (old new : Module) (ty : LLVMType) (o : Option ResultType) → IsModule new → SameTrees old (trees_of new) (trees_of old) → ((r : ResultType) → o ≡ Some r → IsResultOver old.types r) → IsResultType o old.types new.types ty

@@ -11,7 +11,7 @@ use Rattle.llvm_core.specs.declared.code.InstData.{InstData}
 use Rattle.llvm_core.specs.Module.{Module}
 use Rattle.llvm_core.specs.Code.{code_of, with_code, with_changed_inst}
 use Rattle.llvm_core.specs.Data as d
-use Rattle.llvm_core.specs.Data.{Trees, trees_of, instruction_of, placed_of, placed_at, block_of, block_at, function_of, data_of}
+use Rattle.llvm_core.specs.Data.{Trees, trees_of, instruction_of, placed_of, placed_at, block_of, block_at, function_of, structs_of, data_of}
 use Rattle.llvm_core.proofs.ChangeLemmas.{mapped_then, filter_map-mapped, slice_get-changed, slice_get-unchanged}
 use Rattle.llvm_core.proofs.CallLemmas.{each, at_number, at_other}
 
@@ -80,5 +80,5 @@ module _ (m : Module) (i : LLVMInstRef) (change : LLVMInst → LLVMInst) (shown 
 
   pub changed_data : data_of (with_code m (with_changed_inst (code_of m) i change)) ≡ d.with_changed (data_of m) i.0 shown
   changed_data =
-      ap (λ fs. let d : d.ModuleData = record { name = m.name; functions = fs } in d)
+      ap (λ fs. let d : d.ModuleData = record { name = m.name; structs = structs_of m; functions = fs } in d)
       (mapped_then (function_of (trees_of m) m.blocks all) (function_of (trees_of m) m.blocks m.insts) function_put 0 m.functions (λ k j f at is. function_changed k f))

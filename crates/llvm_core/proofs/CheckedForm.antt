@@ -6,10 +6,13 @@ use Rattle.std.proofs.lemmas.Bool.{cases_eq, cases_Bool, eqb-true, not-false, or
 use Rattle.std.proofs.lemmas.Option.{slice_get-map, same_Some}
 use Rattle.support.proofs.ListLaws.{all_from, item_there, in_joined, from_joined}
 use Rattle.kinds.specs.Types.{count_types}
-use Rattle.kinds.specs.Held.{IsFirstClass}
+use Rattle.kinds.specs.Held.{deepest, IsFirstClass}
+use Rattle.kinds.specs.Structs.{nests}
+use Rattle.kinds.proofs.NestLaws.{nested_shallow}
 use Rattle.llvm_core.specs.declared.numbers.LLVMFunction.{LLVMFunction}
 use Rattle.llvm_core.specs.declared.numbers.LLVMBasicBlock.{LLVMBasicBlock}
 use Rattle.llvm_core.specs.declared.numbers.LLVMInstRef.{LLVMInstRef}
+use Rattle.llvm_core.specs.declared.structs.StructData.{StructData}
 use Rattle.llvm_core.specs.declared.code.FunctionData.{FunctionData}
 use Rattle.llvm_core.specs.declared.code.BlockData.{BlockData}
 use Rattle.llvm_core.specs.declared.code.InstData.{InstData}
@@ -22,8 +25,8 @@ use Rattle.llvm_core.specs.Edges.{targets_at, targets_from}
 use Rattle.llvm_core.specs.Edges.{targets as leads_to}
 use Rattle.llvm_core.specs.Parts.{HasValues, IsBlock}
 use Rattle.llvm_core.specs.Sound.{IsModule}
-use Rattle.llvm_core.specs.Data.{Operand, Placed, Block, trees_of, block_at, data_of, operand_type}
-use Rattle.llvm_core.specs.Checked.{IsChecked, MisfitsType, is_intrinsic_name, misfits_count, home, ends_in_only, is_block_outside, is_outside, reaches_outside, is_deep}
+use Rattle.llvm_core.specs.Data.{Operand, Placed, Block, trees_of, block_at, structs_of, data_of, operand_type}
+use Rattle.llvm_core.specs.Checked.{IsChecked, MisfitsType, is_intrinsic_name, misfits_count, home, ends_in_only, is_block_outside, is_outside, reaches_outside, is_deep, is_deep_struct, is_deep_inst}
 use Rattle.llvm_core.specs.Form.{IsForm, IsFormFunction, IsFormBlock, IsFormPlaced, IsNarrow, IsNarrowFunction, IsNarrowBlock, IsNarrowPlaced, IsNarrowConst, operands_of, HasPhisFirst, is_last, is_phi}
 use Rattle.llvm_core.proofs.DataLemmas.{within_at, function_at}
 use Rattle.llvm_core.proofs.GivenLemmas.{none_any_at}
@@ -32,6 +35,7 @@ use Rattle.llvm_core.proofs.FormPlaces.{shown, shown_inst, same_block_ends, same
 use Rattle.llvm_core.proofs.FormValues.{IsNarrowHere}
 use Rattle.llvm_core.proofs.FormEdges.{StaysInside, count_present, same_edges}
 use Rattle.llvm_core.proofs.DistinctLaws.{each_function}
+use Rattle.llvm_core.proofs.FormNested.{all_allowed}
 use Rattle.llvm_core.proofs.CheckedInsts.{MeetsRules, form_of}
 
 -- ---- edges
@@ -51,6 +55,19 @@ target_inside m f (I.Row r) k t here inside at = by (slice_get r.targets k) refl
 module _ (m : Module) (sound : IsModule m) (checked : IsChecked m) where
   inside_at : (i : ℕ) (z : InstData) → slice_get m.insts i ≡ Some z → reaches_outside m (home m z) z.inst ≡ false
   inside_at i z at = false_from_ne_true (reaches_outside m (home m z) z.inst) (λ reaches. checked (BlockOutside (P.Inst i)) (z, at, reaches))
+
+  -- ---- depth
+
+  struct_passes : (s : ℕ) (x : StructData) → slice_get m.structs s ≡ Some x → is_deep_struct m x.name ≡ false
+  struct_passes s x at = false_from_ne_true (is_deep_struct m x.name) (λ deep. checked (TooDeep (P.Struct s)) (x, at, deep))
+
+  function_passes : (f : ℕ) (x : FunctionData) → slice_get m.functions f ≡ Some x → is_deep m x.ty ≡ false
+  function_passes f x at = false_from_ne_true (is_deep m x.ty) (λ deep. checked (TooDeep (P.Function f)) (x, at, deep))
+
+  inst_passes : (i : ℕ) (z : InstData) → slice_get m.insts i ≡ Some z → is_deep_inst m z ≡ false
+  inst_passes i z at = false_from_ne_true (is_deep_inst m z) (λ deep. checked (TooDeep (P.Inst i)) (z, at, deep))
+
+  -- ---- edges
 
   -- the instruction of a block that an edge comes from
   record HasEdge (y : BlockData) (t : ℕ) : Type 0 where
@@ -170,7 +187,7 @@ module _ (m : Module) (sound : IsModule m) (checked : IsChecked m) where
           type = narrow.type;
           returns = narrow.returns;
           takes = narrow.takes;
-          shallow = false_from_ne_true (is_deep m x.ty) (λ deep. checked (TooDeep (P.Function f)) (x, at, deep));
+          shallow = nested_shallow (structs_of m) (shown m f x).type (not-false (nests (structs_of m) deepest (shown m f x).type) (function_passes f x at));
           space = elim (cases_eq x.space 0) [ inl none ↦ none | inr other ↦ absurd (checked (FunctionSpace (P.Function f)) (x, at, other)) ];
           params = (sound.functions f x at).params ∙ ap length (param_types_are m f x narrow.result narrow.types sound at s) ∙ sym (count_is (trees_of m).types s.params) ∙ ap count_types s.params_are;
           param_names = narrow.param_names;
@@ -183,4 +200,8 @@ module _ (m : Module) (sound : IsModule m) (checked : IsChecked m) where
 
   -- a checked module with good names and narrow types is of the form
   pub form_of_checked : IsNarrow (data_of m) → IsForm (data_of m)
-  form_of_checked narrow = each_function m IsFormFunction (λ f x at. function_form f x at (within_at (data_of m).functions IsNarrowFunction narrow f (shown m f x) (function_at m f x at)))
+  form_of_checked narrow = record {
+    functions = each_function m IsFormFunction (λ f x at. function_form f x at (within_at (data_of m).functions IsNarrowFunction narrow.functions f (shown m f x) (function_at m f x at)));
+    structs = narrow.structs;
+    nested = all_allowed m sound struct_passes function_passes inst_passes;
+  }

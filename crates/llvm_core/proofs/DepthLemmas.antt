@@ -1,76 +1,98 @@
--- A table of the depths of types says which nest too deep.
-use Rattle.std.proofs.Common.{take, get_or, ◌≡◌, ◌<◌, ◌+◌, inl, inr, ℕ, Bool, false, ◌||◌, List, [], ◌∷◌, ◌++◌, Option, Some, None, map, length, refl, sym, ap, ◌∙◌, arith, length-append}
-use Rattle.std.specs.Prelude.{max}
+-- What the depths of types and structs say of the rule that none in use nests too deep.
+use Rattle.std.proofs.Common.{◌≡◌, ◌<◌, ◌≤◌, ◌-◌, inl, inr, ℕ, suc, Bool, true, false, not, ◌||◌, List, [], ◌∷◌, Option, Some, None, map, length, slice_get, refl, sym, ap, ◌∙◌, arith}
 use Rattle.std.specs.List.{list_any}
-use Rattle.std.specs.Option.{option_map_or}
+use Rattle.std.specs.Option.{is_some, option_map, option_map_or}
 use Rattle.std.proofs.lemmas.Bool.{cases_lt, or_from}
-use Rattle.std.proofs.lemmas.List.{get_or_past, take_more}
-use Rattle.std.proofs.lemmas.Option.{slice_get-get_or, same_Some}
-use Rattle.support.proofs.ListLaws.{slice_get-kept, slice_get-push}
-use Rattle.kinds.specs.Types.{TypeTree, VoidType, depth, depths}
-use Rattle.kinds.specs.Held.{too_deep}
-use Rattle.kinds.proofs.DepthLaws.{shallow_at}
+use Rattle.std.proofs.lemmas.List.{get_or_past}
+use Rattle.std.proofs.lemmas.Option.{same_Some}
+use Rattle.kinds.specs.Types.{TypeTree, VoidType}
+use Rattle.kinds.specs.Held.{deepest}
+use Rattle.kinds.specs.Structs.{nests}
+use Rattle.kinds.proofs.NestLaws.{nests_from, void_nested}
 use Rattle.llvm_core.specs.declared.numbers.LLVMType.{LLVMType}
 use Rattle.llvm_core.specs.declared.code.LLVMValue.{LLVMValue}
 use Rattle.llvm_core.specs.declared.code.InstData.{InstData}
+use Rattle.llvm_core.specs.declared.structs.StructData.{StructData}
+use Rattle.llvm_core.specs.declared.check_err.Place.TheVariants as P
+use Rattle.llvm_core.specs.declared.check_err.CheckErr.TheVariants.{TooDeep}
 use Rattle.llvm_core.specs.Module.{Module}
 use Rattle.llvm_core.specs.Parts.{value_type, operands}
-use Rattle.llvm_core.specs.Data.{trees_of, type_at, types_at}
-use Rattle.llvm_core.specs.Depths.{AreDepths, AreAllDepths}
-use Rattle.llvm_core.specs.Checked.{is_deep, is_deep_value, is_deep_inst, IsCheckedDepths}
+use Rattle.llvm_core.specs.Data.{NamedType, structs_of, trees_of, type_at}
+use Rattle.llvm_core.specs.Depths.{IsLeastWithin, opened, nests_at, fields_nest_at}
+use Rattle.llvm_core.specs.Checked.{is_deep, is_deep_struct, is_deep_value, is_deep_inst, Fails, IsCheckedDepths}
 use Rattle.llvm_core.proofs.TreeLemmas.{length-type_trees}
-use Rattle.llvm_core.proofs.GivenLemmas.{none_any, none_any_at}
+use Rattle.llvm_core.proofs.GivenLemmas.{none_any}
 
 pub any_mapped : {X Y : Type 0} (p : X → Bool) (h : Y → X) (ys : List Y) → list_any p (map h ys) ≡ list_any (λ (y : Y). p (h y)) ys
 any_mapped p h [] = refl
 any_mapped p h (y ∷ ys) = ap (λ b. p (h y) || b) (any_mapped p h ys)
 
--- ---- the deepest of a list
+-- void nests no deeper than is allowed, and so that is some depth
+pub some_allowed : ¬ (deepest ≡ 0)
+some_allowed e = let h : nests [] 0 VoidType ≡ true = ap (λ (n : ℕ). nests [] n VoidType) (sym e) ∙ void_nested [] in cc
 
-pub depths-push : (ts : List TypeTree) (xs : List LLVMType) (x : LLVMType) → depths (types_at ts (xs ++ x ∷ [])) ≡ max (depths (types_at ts xs)) (depth (type_at ts x))
-depths-push ts [] x = omega arith
-depths-push ts (y ∷ xs) x = let e = depths-push ts xs x in omega (arith, e)
+-- no depth that is asked about is what is noted of an open type
+pub few_allowed : deepest < opened
+unfolding deepest
+few_allowed = omega arith
 
--- one type more: the greater of what was deepest and its own depth, as the table has it
-pub depths_more : (ts : List TypeTree) (xs : List LLVMType) (i : ℕ) (d : LLVMType) (old new : ℕ) (table : List ℕ) → i < length xs → AreDepths ts table → (get_or xs i d).0 < length table
-    → old ≡ depths (types_at ts (take i xs)) → new ≡ max old (get_or table (get_or xs i d).0 0) → new ≡ depths (types_at ts (take (i + 1) xs))
-depths_more ts xs i d old new table lt known within is greater =
-    let x = get_or xs i d in
-    let entry : get_or table x.0 0 ≡ depth (type_at ts x) = same_Some (get_or table x.0 0) (depth (type_at ts x)) (sym (slice_get-get_or table x.0 0 within) ∙ known x within) in
-    greater ∙ rw (is, entry) (sym (ap (λ (ys : List LLVMType). depths (types_at ts ys)) (take_more xs i d lt) ∙ depths-push ts (take i xs) x))
+module _ (m : Module) where
+  -- ---- what the depth of a type says of the rule
 
--- ---- a table that grows
+  pub deep_unless : (t : LLVMType) (r : Option ℕ) (b : Bool) → is_some r ≡ not b → IsLeastWithin (nests_at m t) deepest r → b ≡ is_deep m t
+  deep_unless t None true e h = ap not (sym h)
+  deep_unless t None false e h = cc
+  deep_unless t (Some n) true e h = cc
+  deep_unless t (Some n) false e h = ap not (sym (nests_from (structs_of m) n deepest (type_at (trees_of m).types t) h.1 h.0.passes))
 
--- the next type's depth comes last
-pub depths_grown : (ts : List TypeTree) (ds : List ℕ) (d : ℕ) → AreDepths ts ds → d ≡ depth (type_at ts (record { 0 = length ds })) → AreDepths ts (ds ++ d ∷ [])
-depths_grown ts ds d known is t within = elim (cases_lt t.0 (length ds)) [
-  | inl below ↦ slice_get-kept ds (d ∷ []) t.0 (depth (type_at ts t)) (known t below)
-  | inr past ↦ (
-      let last : t.0 ≡ length ds = omega (arith, past, within, length-append ds (d ∷ [])) in
-      slice_get-push ds d t.0 last ∙ ap Some (is ∙ ap (λ (n : ℕ). let u : LLVMType = record { 0 = n } in depth (type_at ts u)) (sym last)))
-]
+  -- the fields of a struct nest one less deep than it does
+  one_more : suc (deepest - 1) ≡ deepest
+  one_more = let some = some_allowed in omega (arith, some)
 
--- ---- a module without types that are too deep
+  pub struct_deep_unless : (name : List ℕ) (r : Option ℕ) (b : Bool) → is_some r ≡ not b → IsLeastWithin (fields_nest_at m name) (deepest - 1) r → b ≡ is_deep_struct m name
+  struct_deep_unless name None true e h = ap not (sym h ∙ ap (λ (n : ℕ). nests (structs_of m) n (NamedType name)) one_more)
+  struct_deep_unless name None false e h = cc
+  struct_deep_unless name (Some n) true e h = cc
+  struct_deep_unless name (Some n) false e h =
+      let le : suc n ≤ deepest = let one = one_more in let within = h.1 in omega arith in
+      ap not (sym (nests_from (structs_of m) (suc n) deepest (NamedType name) le h.0.passes))
 
-module _ (m : Module) (ds : List ℕ) (known : AreAllDepths m ds) (none : list_any too_deep ds ≡ false) where
-  type_shallow : (t : LLVMType) → is_deep m t ≡ false
-  type_shallow t = elim (cases_lt t.0 (length ds)) [
-    | inl within ↦ none_any_at too_deep ds t.0 _ none (known.each t within)
-    | inr past ↦ ap (λ τ. too_deep (depth τ)) (get_or_past (trees_of m).types t.0 VoidType (omega (arith, past, known.count, length-type_trees m.types))) ∙ shallow_at 1 (omega arith)
-  ]
+  -- ---- where nothing is too deep
 
-  value_shallow : (v : LLVMValue) → is_deep_value m v ≡ false
-  value_shallow v = by (value_type m v)
+  -- of a struct that is read
+  pub struct_told : (s : ℕ) (name : List ℕ) (r : Bool) → option_map (λ (x : StructData). x.name) (slice_get m.structs s) ≡ Some name → r ≡ is_deep_struct m name → option_map (λ (x : StructData). is_deep_struct m x.name) (slice_get m.structs s) ≡ Some r
+  struct_told s name r read is = by (slice_get m.structs s) read
     where
-      by : (o : Option LLVMType) → option_map_or (is_deep m) o false ≡ false
-      by None = refl
-      by (Some t) = type_shallow t
+      by : (o : Option StructData) → option_map (λ (x : StructData). x.name) o ≡ Some name → option_map (λ (x : StructData). is_deep_struct m x.name) o ≡ Some r
+      by None e = cc
+      by (Some x) e = ap (λ (n : List ℕ). Some (is_deep_struct m n)) (same_Some x.name name e) ∙ ap Some (sym is)
 
-  inst_shallow : (x : InstData) → is_deep_inst m x ≡ false
-  inst_shallow x = or_from (is_deep m x.ty) (list_any (is_deep_value m) (operands x.inst)) (type_shallow x.ty) (none_any (is_deep_value m) (operands x.inst) (λ i v at. value_shallow v))
+  pub struct_passes : (s : ℕ) (r : Bool) → option_map (λ (x : StructData). is_deep_struct m x.name) (slice_get m.structs s) ≡ Some r → r ≡ false → ¬ Fails m (TooDeep (P.Struct s))
+  struct_passes s r is unset (x, at, deep) =
+      let same = same_Some (is_deep_struct m x.name) r (sym (ap (option_map (λ (y : StructData). is_deep_struct m y.name)) at) ∙ is) in
+      let none : is_deep_struct m x.name ≡ false = same ∙ unset in
+      absurd (cc)
 
-  pub none_deep : IsCheckedDepths m
-  none_deep = record {
-    functions = λ f within (x, at, deep). let h = type_shallow x.ty in cc;
-    insts = λ i within (x, at, deep). let h = inst_shallow x in cc;
-  }
+  module _ (none : (t : LLVMType) → t.0 < length m.types → is_deep m t ≡ false) where
+    type_passes : (t : LLVMType) → is_deep m t ≡ false
+    type_passes t = elim (cases_lt t.0 (length m.types)) [
+      | inl within ↦ none t within
+      | inr past ↦ ap (λ (τ : TypeTree). not (nests (structs_of m) deepest τ)) (get_or_past (trees_of m).types t.0 VoidType (omega (arith, past, length-type_trees m.types))) ∙ ap not (void_nested (structs_of m))
+    ]
+
+    value_passes : (v : LLVMValue) → is_deep_value m v ≡ false
+    value_passes v = by (value_type m v)
+      where
+        by : (o : Option LLVMType) → option_map_or (is_deep m) o false ≡ false
+        by None = refl
+        by (Some t) = type_passes t
+
+    inst_passes : (x : InstData) → is_deep_inst m x ≡ false
+    inst_passes x = or_from (is_deep m x.ty) (list_any (is_deep_value m) (operands x.inst)) (type_passes x.ty) (none_any (is_deep_value m) (operands x.inst) (λ i v at. value_passes v))
+
+    pub none_deep : ((s : ℕ) → s < length m.structs → ¬ Fails m (TooDeep (P.Struct s))) → IsCheckedDepths m
+    none_deep structs = record {
+      structs = structs;
+      functions = λ f within (x, at, deep). let h = type_passes x.ty in cc;
+      insts = λ i within (x, at, deep). let h = inst_passes x in cc;
+    }

@@ -1,40 +1,47 @@
 -- A module of the form, with distinct names and short lists, meets every rule.
-use Rattle.std.proofs.Common.{◌≡◌, ◌≢◌, ◌<◌, ◌^◌, inl, inr, ℕ, suc, true, false, [], Option, None, Some, length, slice_get, map, refl, sym, ap, subst, ◌∙◌, arith}
+use Rattle.std.proofs.Common.{◌≡◌, ◌≢◌, ◌<◌, ◌^◌, inl, inr, ℕ, suc, true, false, not, [], Option, None, Some, length, slice_get, map, refl, sym, ap, subst, ◌∙◌, arith}
 use Rattle.std.specs.List.{flat_map, list_any}
 use Rattle.std.specs.Option.{option_map, option_map_or}
 use Rattle.std.proofs.lemmas.Bool.{or_from}
+use Rattle.std.proofs.lemmas.List.{length-map}
 use Rattle.std.proofs.lemmas.Option.{slice_get-map, same_Some}
-use Rattle.kinds.specs.Held.{IsReturned}
-use Rattle.kinds.proofs.HeldLaws.{returned_shallow}
+use Rattle.kinds.specs.Types.{count_types}
+use Rattle.kinds.specs.Structs.{IsFormStruct}
 use Rattle.support.proofs.ListLaws.{item_there, from_joined}
 use Rattle.llvm_core.specs.declared.numbers.LLVMFunction.{LLVMFunction}
 use Rattle.llvm_core.specs.declared.numbers.LLVMBasicBlock.{LLVMBasicBlock}
 use Rattle.llvm_core.specs.declared.numbers.LLVMInstRef.{LLVMInstRef}
+use Rattle.llvm_core.specs.declared.structs.StructFields.{StructFields}
+use Rattle.llvm_core.specs.declared.structs.StructData.{StructData}
 use Rattle.llvm_core.specs.declared.code.FunctionData.{FunctionData}
 use Rattle.llvm_core.specs.declared.code.BlockData.{BlockData}
 use Rattle.llvm_core.specs.declared.code.InstData.{InstData}
+use Rattle.llvm_core.specs.declared.check_err.Place.TheVariants as P
+use Rattle.llvm_core.specs.declared.check_err.CheckErr.TheVariants.{ListTooLong}
 use Rattle.llvm_core.specs.Module.{Module}
 use Rattle.support.specs.Interned.{IsDistinctList}
 use Rattle.llvm_core.specs.Edges.{count_of, targets_at, targets_from, edge_count}
 use Rattle.llvm_core.specs.Parts.{operands}
 use Rattle.llvm_core.specs.Names.{HasTwice}
 use Rattle.llvm_core.specs.Sound.{IsModule}
-use Rattle.llvm_core.specs.Data.{Placed, Block, Function, AreApart, trees_of, instruction_of, data_of, placed_in, targets}
-use Rattle.llvm_core.specs.Checked.{IsTaken, IsFreshName, IsCheckedFunction, IsCheckedBlock, IsCheckedInst, IsCheckedDepths, IsCheckedEdges, IsChecked, IsLong, is_deep, is_deep_value, is_deep_inst, HasNoPreds, HasLatePhi, MisfitsEdges, home, local_names, ends_in_only, is_terminator_at}
+use Rattle.llvm_core.specs.Data.{StructBody, Struct, Placed, Block, Function, AreApart, trees_of, fields_of, struct_of, instruction_of, data_of, placed_in, targets}
+use Rattle.llvm_core.specs.Checked.{Fails, IsTaken, IsTakenStruct, IsFreshName, IsCheckedStruct, IsCheckedFunction, IsCheckedBlock, IsCheckedInst, IsCheckedDepths, IsCheckedEdges, IsChecked, IsLong, IsLongBody, is_deep, is_deep_value, is_deep_inst, HasNoPreds, HasLatePhi, MisfitsEdges, home, local_names, ends_in_only, is_terminator_at}
 use Rattle.llvm_core.specs.Form.{IsForm, IsFormFunction, IsFormBlock, IsFormPlaced, IsFormInstruction, IsTarget, IsFewIn, HasFew, HasDistinctNames, edges_between, operands_of}
 use Rattle.llvm_core.specs.Form.{local_names as names_of}
 use Rattle.llvm_core.proofs.DataLemmas.{within_at, function_at, function_count, block_count_of, inst_count_of, block_of_number, inst_of_number}
 use Rattle.llvm_core.proofs.CheckLemmas.{all_checked}
 use Rattle.kinds.proofs.NameLaws.{good_not_bad}
 use Rattle.llvm_core.proofs.FormNames.{same_local_names, once_of_distinct}
-use Rattle.llvm_core.proofs.FormTypes.{numbered, signature_of, signature_fits}
+use Rattle.llvm_core.proofs.FormTypes.{numbered, signature_of, signature_fits, count_is}
 use Rattle.llvm_core.proofs.FormPlaces.{shown, shown_block, shown_inst, same_block_ends, same_phi_at, function_there, HasBlockPlace, block_place, inst_place, block_from, in_home}
 use Rattle.llvm_core.proofs.FormEdges.{StaysInside, count_absent, same_targets_from, one_place, same_edges}
 use Rattle.llvm_core.proofs.FormInsts.{leads_behind, type_fits, count_fits, inside, operands_shallow, fits_edges, same_operand_count}
+use Rattle.llvm_core.proofs.DistinctLaws.{struct_at}
+use Rattle.llvm_core.proofs.FormNested.{struct_nests, function_nests, result_nests, operand_nests}
 
 -- the function at a number is of the form
 pub form_at : (m : Module) → IsForm (data_of m) → (f : ℕ) (x : FunctionData) → slice_get m.functions f ≡ Some x → IsFormFunction (shown m f x)
-form_at m form f x at = within_at (data_of m).functions IsFormFunction form f (shown m f x) (function_at m f x at)
+form_at m form f x at = within_at (data_of m).functions IsFormFunction form.functions f (shown m f x) (function_at m f x at)
 
 module _ (m : Module) (sound : IsModule m) (apart : AreApart m) (form : IsForm (data_of m)) (names : HasDistinctNames (data_of m)) (few : HasFew (data_of m)) where
   -- ---- functions
@@ -55,8 +62,11 @@ module _ (m : Module) (sound : IsModule m) (apart : AreApart m) (form : IsForm (
   few_in : (f : ℕ) (x : FunctionData) → slice_get m.functions f ≡ Some x → IsFewIn (shown m f x)
   few_in f x at = within_at (data_of m).functions IsFewIn few.each f (shown m f x) (function_at m f x at)
 
-  functions_few : ¬ IsLong m.functions
-  functions_few h = let count = function_count m in let short = few.functions in absurd (omega (arith, h, count, short))
+  all_few : ¬ Fails m (ListTooLong P.Module)
+  all_few h = elim h [
+    | inl functions ↦ (let count = function_count m in let short = few.functions in absurd (omega (arith, functions, count, short)))
+    | inr structs ↦ (let count = length-map m.structs (struct_of (trees_of m).types) in let short = few.structs in absurd (omega (arith, structs, count, short)))
+  ]
 
   params_few : (f : ℕ) (x : FunctionData) → slice_get m.functions f ≡ Some x → ¬ IsLong x.params
   params_few f x at h = let short = (few_in f x at).params in absurd (omega (arith, h, short))
@@ -80,6 +90,32 @@ module _ (m : Module) (sound : IsModule m) (apart : AreApart m) (form : IsForm (
     bodies = λ (x, at, own). let no : ⊥ = cc ((form_at m form f x at).own, own.0) in no;
     spaces = λ (x, at, space). space (form_at m form f x at).space;
     lists = λ (x, at, long). elim long [ inl params ↦ params_few f x at params | inr blocks ↦ blocks_few f x at blocks ];
+  }
+
+  -- ---- structs
+
+  struct_name_at : (s : ℕ) (x : StructData) → slice_get m.structs s ≡ Some x → slice_get (map (λ (t : Struct). t.name) (data_of m).structs) s ≡ Some x.name
+  struct_name_at s x at = slice_get-map (λ (t : Struct). t.name) (data_of m).structs s ∙ ap (option_map (λ (t : Struct). t.name)) (struct_at m s x at)
+
+  struct_untaken : (s : ℕ) (x : StructData) → slice_get m.structs s ≡ Some x → ¬ IsTakenStruct m s x.name
+  struct_untaken s x at (r, y, lt, at_r, same) =
+      let e : r ≡ s = names.structs r s x.name (struct_name_at r y at_r ∙ ap Some same) (struct_name_at s x at) in
+      absurd (omega (arith, e, lt))
+
+  fields_few : (s : ℕ) (x : StructData) → slice_get m.structs s ≡ Some x → ¬ IsLongBody x.body
+  fields_few s x at = by x.body (within_at (data_of m).structs (λ (t : Struct). option_map_or (λ (b : StructBody). count_types b.fields) t.body 0 < 2 ^ 31) few.fields s (struct_of (trees_of m).types x) (struct_at m s x at))
+    where
+      by : (o : Option StructFields) → option_map_or (λ (b : StructBody). count_types b.fields) (option_map (fields_of (trees_of m).types) o) 0 < 2 ^ 31 → ¬ IsLongBody o
+      by None short h = h
+      by (Some b) short h = let count = count_is (trees_of m).types b.types in absurd (omega (arith, short, h, count))
+
+  struct_checked : (s : ℕ) → IsCheckedStruct m s
+  struct_checked s = record {
+    names = λ (x, at, h). elim h [
+      | inl bad ↦ (let good = good_not_bad x.name (within_at (data_of m).structs IsFormStruct form.structs s (struct_of (trees_of m).types x) (struct_at m s x at)).name in cc)
+      | inr t ↦ struct_untaken s x at t
+    ];
+    lists = λ (x, at, long). fields_few s x at long;
   }
 
   -- ---- blocks
@@ -143,7 +179,6 @@ module _ (m : Module) (sound : IsModule m) (apart : AreApart m) (form : IsForm (
     block_is : slice_get m.blocks z.block.0 ≡ Some block
     own : block.function.0 ≡ f
     form_is : IsFormInstruction (shown m f function) z.block.0 (shown_inst m i z).type (instruction_of (trees_of m) z.inst)
-    returned : IsReturned (shown_inst m i z).type
 
   inst_form : (i : ℕ) (z : InstData) → slice_get m.insts i ≡ Some z → HasInstForm i z
   inst_form i z at =
@@ -160,7 +195,6 @@ module _ (m : Module) (sound : IsModule m) (apart : AreApart m) (form : IsForm (
         block_is = p.block_is;
         own = refl;
         form_is = placed.instruction;
-        returned = placed.returned;
       }
 
   operands_few : (i : ℕ) (z : InstData) → slice_get m.insts i ≡ Some z → ¬ IsLong (operands z.inst)
@@ -192,12 +226,16 @@ module _ (m : Module) (sound : IsModule m) (apart : AreApart m) (form : IsForm (
   inst_shallow : (i : ℕ) (z : InstData) → slice_get m.insts i ≡ Some z → is_deep_inst m z ≡ false
   inst_shallow i z at =
       let p = inst_form i z at in
-      or_from (is_deep m z.ty) (list_any (is_deep_value m) (operands z.inst)) (returned_shallow (shown_inst m i z).type p.returned)
-      (operands_shallow m p.f p.function sound apart p.function_is z.block.0 (shown_inst m i z).type z.inst (sound.insts i z at).values p.form_is)
+      let here = in_home m p.f p.function i z sound p.function_is at (ap (λ (g : LLVMFunction). g.0) p.home_is) in
+      let shown_at = function_at m p.f p.function p.function_is in
+      let result = result_nests (data_of m) form.nested p.f (shown m p.f p.function) here.0 (shown_inst m i z) shown_at here.1 in
+      or_from (is_deep m z.ty) (list_any (is_deep_value m) (operands z.inst)) (ap not result)
+      (operands_shallow m p.f p.function sound apart p.function_is z.block.0 (shown_inst m i z).type (operand_nests (data_of m) form.nested p.f (shown m p.f p.function) shown_at) z.inst (sound.insts i z at).values p.form_is)
 
   depths_checked : IsCheckedDepths m
   depths_checked = record {
-    functions = λ f lt (x, at, deep). let h = (form_at m form f x at).shallow in absurd cc;
+    structs = λ s lt (x, at, deep). let h = ap not (struct_nests (data_of m) form.nested s (struct_of (trees_of m).types x) (struct_at m s x at)) in absurd cc;
+    functions = λ f lt (x, at, deep). let h = ap not (function_nests (data_of m) form.nested f (shown m f x) (function_at m f x at)) in absurd cc;
     insts = λ i lt (z, at, deep). let h = inst_shallow i z at in absurd cc;
   }
 
@@ -268,4 +306,4 @@ module _ (m : Module) (sound : IsModule m) (apart : AreApart m) (form : IsForm (
 
   -- a module of the form meets every rule
   pub checked_of_form : IsChecked m
-  checked_of_form = all_checked m functions_few (λ f lt. fresh f) (λ f lt. function_checked f) (λ b lt. block_checked b) (λ i lt. inst_checked i) depths_checked edges_checked
+  checked_of_form = all_checked m all_few (λ s lt. struct_checked s) (λ f lt. fresh f) (λ f lt. function_checked f) (λ b lt. block_checked b) (λ i lt. inst_checked i) depths_checked edges_checked

@@ -10,7 +10,7 @@ use Rattle.llvm_core.specs.contracts.types.LLVMTypeKindPartialEq.TheImpl as type
 use Rattle.llvm_core.specs.contracts.types.LLVMTypeKindEq.TheImpl.Laws as type_eq
 use Rattle.llvm_core.specs.contracts.consts.LLVMConstKindPartialEq.TheImpl as consts
 use Rattle.llvm_core.specs.contracts.consts.LLVMConstKindEq.TheImpl.Laws as const_eq
-use Rattle.llvm_core.specs.Keys.{same_types}
+use Rattle.llvm_core.specs.Keys.{same_types, same_text}
 use Rattle.support.specs.Interned.{InternedBy, Interned, IsDistinctList}
 
 -- ---- types
@@ -18,6 +18,7 @@ use Rattle.support.specs.Interned.{InternedBy, Interned, IsDistinctList}
 pub same_kind : (a b : LLVMTypeKind) → types.eq-value.it a b ≡ true → a ≡ b
 same_kind (T.Function r xs p) (T.Function s ys q) h = grind (arith, same_types xs ys)
 same_kind (T.Literal xs p) (T.Literal ys q) h = grind (arith, same_types xs ys)
+same_kind (T.Named x) (T.Named y) h = grind (arith, same_text x y)
 same_kind a b h = grind arith
 
 kind_decides : (a b : LLVMTypeKind) → Decides (types.eq-value.it a b) (a ≡ b)

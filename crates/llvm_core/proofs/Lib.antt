@@ -1,6 +1,8 @@
 -- The lemmas of the crate.
 pub mod ChangeLemmas
 pub mod StoreLemmas
+pub mod StructLemmas
+pub mod StructCalls
 pub mod KeyLemmas
 pub mod ListedLemmas
 pub mod WithinLemmas
@@ -24,6 +26,9 @@ pub mod ApartLemmas
 pub mod RowLemmas
 pub mod RuleLaws
 pub mod GivenLemmas
+pub mod LeastLemmas
+pub mod NestLemmas
+pub mod NoteLemmas
 pub mod DepthLemmas
 pub mod WholeTypes
 pub mod FormNames
@@ -36,6 +41,7 @@ pub mod FormLaws
 pub mod DecideLemmas
 pub mod CheckedInsts
 pub mod DistinctLaws
+pub mod FormNested
 pub mod CheckedForm
 pub mod BodyLists
 pub mod BodyFrames

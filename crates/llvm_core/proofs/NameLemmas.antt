@@ -1,10 +1,12 @@
 -- Sets of names: what inserting one says of their list.
-use Rattle.std.proofs.Common.{◌≡◌, ◌≢◌, ◌<◌, ◌≤◌, ◌+◌, ℕ, zero, suc, Bool, true, false, not, List, [], ◌∷◌, ◌++◌, Some, length, slice_get, take, get_or, ap, sym, ◌∙◌, refl, arith, if◌then◌else◌, inl, inr, subst}
-use Rattle.std.specs.List.{list_any}
+use Rattle.std.proofs.Common.{◌≡◌, ◌≢◌, ◌<◌, ◌≤◌, ◌+◌, ℕ, zero, suc, Bool, true, false, not, List, [], ◌∷◌, ◌++◌, Some, None, length, map, slice_get, take, get_or, ap, sym, ◌∙◌, refl, arith, if◌then◌else◌, inl, inr, subst}
+use Rattle.std.specs.Prelude.{position, nat_lt}
+use Rattle.std.specs.List.{list_any, position_or_len}
 use mathlib.Core.List.{map-append}
 use Rattle.std.specs.Borrow.{Bor}
 use Rattle.std.specs.Str.{bytes_eq}
-use Rattle.std.proofs.lemmas.List.{take_more, take_all, get_or-map}
+use Rattle.std.proofs.lemmas.List.{take_more, take_all, get_or-map, length-map}
+use Rattle.std.proofs.lemmas.Bool.{ltb-true, ltb-false}
 use Rattle.std.proofs.lemmas.Option.{slice_get_within, slice_get-get_or, same_Some}
 use Rattle.llvm_core.specs.Keys.{same_text}
 use Rattle.llvm_core.specs.Names.{texts, Stands, HasTwice, IsInserted}
@@ -35,6 +37,33 @@ inserted old new n fresh f g = by (list_any (λ k. bytes_eq n.now k.now) old) re
     by true e false f g = stands old n.now e
     by false e true f g = (ap texts g ∙ map-append (λ (k : Bor (List ℕ)). k.now) old (n ∷ []), stands_not old n.now e)
     by false e false f g = cc
+
+-- ---- the first place of a name
+
+-- a test finds its first place where another finds its own among what is made of the items
+pub first_alike : {X Y : Type 0} (p : X → Bool) (q : Y → Bool) (f : X → Y) → ((x : X) → p x ≡ q (f x)) → (xs : List X) → position_or_len p xs ≡ position_or_len q (map f xs)
+first_alike p q f same [] = refl
+first_alike p q f same (x ∷ xs) =
+    ap (λ b. if not b then 1 + position_or_len p xs else 0) (same x) ∙ ap (λ (n : ℕ). if not (q (f x)) then 1 + n else 0) (first_alike p q f same xs)
+
+pub position_alike : {X Y : Type 0} (p : X → Bool) (q : Y → Bool) (f : X → Y) → ((x : X) → p x ≡ q (f x)) → (xs : List X) → position p xs ≡ position q (map f xs)
+position_alike p q f same xs =
+    ap (λ (n : ℕ). if nat_lt n (length xs) then Some n else None) (first_alike p q f same xs)
+    ∙ ap (λ (l : ℕ). if nat_lt (position_or_len q (map f xs)) l then Some (position_or_len q (map f xs)) else None) (sym (length-map xs f))
+
+pub position_there : {X : Type 0} (p : X → Bool) (xs : List X) (i : ℕ) → position p xs ≡ Some i → (position_or_len p xs ≡ i) × (i < length xs)
+position_there p xs i h = by (nat_lt (position_or_len p xs) (length xs)) refl h
+  where
+    by : (b : Bool) → nat_lt (position_or_len p xs) (length xs) ≡ b → (if b then Some (position_or_len p xs) else None) ≡ Some i → (position_or_len p xs ≡ i) × (i < length xs)
+    by true e h = let same = same_Some (position_or_len p xs) i h in (same, subst (λ (n : ℕ). n < length xs) same (ltb-true (position_or_len p xs) (length xs) e))
+    by false e h = cc
+
+pub position_past : {X : Type 0} (p : X → Bool) (xs : List X) → position p xs ≡ None → length xs ≤ position_or_len p xs
+position_past p xs h = by (nat_lt (position_or_len p xs) (length xs)) refl h
+  where
+    by : (b : Bool) → nat_lt (position_or_len p xs) (length xs) ≡ b → (if b then Some (position_or_len p xs) else None) ≡ None → length xs ≤ position_or_len p xs
+    by true e h = cc
+    by false e h = ltb-false (position_or_len p xs) (length xs) e
 
 -- ---- the first names of a list
 

@@ -31,6 +31,7 @@ named m name s =
       types_once = s.types_once;
       consts = s.consts;
       consts_once = s.consts_once;
+      structs = s.structs;
       functions = λ f x e. function_kept m _ g x (s.functions f x e);
       blocks = λ b x e. block_kept m _ g x (s.blocks b x e);
       insts = λ i x e. inst_kept m _ g s x (s.insts i x e);

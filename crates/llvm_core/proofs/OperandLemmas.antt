@@ -51,6 +51,7 @@ inst_changed m i change s ok =
       types_once = s.types_once;
       consts = s.consts;
       consts_once = s.consts_once;
+      structs = s.structs;
       functions = λ f x e. function_kept m _ g x (s.functions f x e);
       blocks = λ b x e. block_kept m _ g x (s.blocks b x e);
       insts = λ j x e. elim (change_cases changed i.0 m.insts j x e) [

@@ -1,5 +1,5 @@
 -- What building calls keep: `IsModule` before a call gives it after the call.
-use Rattle.std.proofs.Common.{Bool, true, false, ◌≡◌, ◌<◌, ◌≤◌, ◌⊎◌, inl, inr, ℕ, zero, suc, List, [], ◌∷◌, ◌++◌, Option, Some, None, length, length-append, slice_get, slice_set, sym, ap, ◌∙◌, refl, arith, subst, map}
+use Rattle.std.proofs.Common.{true, false, ◌≡◌, ◌<◌, ◌≤◌, ◌⊎◌, inl, inr, ℕ, zero, suc, List, [], ◌∷◌, ◌++◌, Option, Some, None, length, length-append, slice_get, slice_set, sym, ap, ◌∙◌, refl, arith, subst, map}
 use Rattle.std.specs.Option.{option_map_or}
 use Rattle.std.proofs.lemmas.List.Elements.{All-push, All-nil, All-weaker}
 use Rattle.std.proofs.lemmas.Option.{slice_get_within, same_Some}
@@ -10,7 +10,6 @@ use Rattle.llvm_core.specs.declared.numbers.LLVMType.{LLVMType}
 use Rattle.llvm_core.specs.declared.numbers.LLVMFunction.{LLVMFunction}
 use Rattle.llvm_core.specs.declared.numbers.LLVMBasicBlock.{LLVMBasicBlock}
 use Rattle.llvm_core.specs.declared.numbers.LLVMInstRef.{LLVMInstRef}
-use Rattle.kinds.specs.declared.fitting.Shape.{Shape}
 use Rattle.kinds.specs.declared.fitting.Shape.TheVariants as S
 use Rattle.kinds.specs.Fitting.{is_field, is_array_of, is_vector_of}
 use Rattle.llvm_core.specs.declared.types.LLVMTypeKind.{LLVMTypeKind}
@@ -25,10 +24,11 @@ use Rattle.llvm_core.specs.declared.code.InstData.{InstData}
 use Rattle.support.specs.Interned.{Interned, IsDistinctList}
 use Rattle.llvm_core.specs.Module.{Module}
 use Rattle.llvm_core.specs.Code.{code_of, with_code, with_param_name, with_block, with_inst, param_names}
-use Rattle.llvm_core.specs.Parts.{IsTypeOver, HasFitParts, shape_of, shape_at, IsConstOver, IsFunctionType, HasValues, IsResultType, kind_params, made_kind, result_type}
+use Rattle.llvm_core.specs.Parts.{IsTypeOver, HasFitParts, shape_at, IsConstOver, IsFunctionType, HasValues, IsResultType, kind_params, made_kind, result_type}
 use Rattle.llvm_core.specs.Sound.{IsFunctionIn, OwnsBlocks, OwnsInsts, StandsFor, IsModule}
 use Rattle.support.proofs.ListLaws.{slice_get-kept, slice_get-push, slice_get-push_cases, change_cases, distinct_nil, distinct_push, length-with_change, length-slice_set}
 use Rattle.llvm_core.proofs.DataLemmas.{within_at}
+use Rattle.llvm_core.proofs.StructLemmas.{shape_stays, structs_kept}
 use Rattle.llvm_core.proofs.GrowLemmas.{blocks_of, insts_of, KeepsTypes, function_type, inst_type, Grows, const_kept, function_kept, block_kept, inst_kept, values_kept, result_kept, listed_block_kept, listed_inst_kept}
 use Rattle.llvm_core.proofs.ListedLemmas.{same_keeps, push_keeps, kept_or_changed, change_keeps, changed_there}
 
@@ -61,14 +61,6 @@ types_grow m types k n h = record {
   inst_lists = same_keeps insts_of m.blocks;
 }
 
--- what a type is made of stays where the list of types grows
-shape_stays : (xs ys : List LLVMTypeKind) → ((i : ℕ) (k : LLVMTypeKind) → slice_get xs i ≡ Some k → slice_get ys i ≡ Some k) → (p : Shape → Bool) → p S.Void ≡ false → (t : LLVMType) → p (shape_at xs t) ≡ true → p (shape_at ys t) ≡ true
-shape_stays xs ys kept p void t h = by (slice_get xs t.0) refl h
-  where
-    by : (o : Option LLVMTypeKind) → slice_get xs t.0 ≡ o → p (option_map_or shape_of o S.Void) ≡ true → p (shape_at ys t) ≡ true
-    by None is h = cc
-    by (Some k) is h = ap (λ o. p (option_map_or shape_of o S.Void)) (kept t.0 k is) ∙ h
-
 array_void : (n : ℕ) → is_array_of n S.Void ≡ false
 array_void n = grind arith
 
@@ -84,6 +76,7 @@ fit_kept xs ys kept (T.Int width) h = h
 fit_kept xs ys kept (T.Ptr space) h = h
 fit_kept xs ys kept (T.Floating of) h = h
 fit_kept xs ys kept (T.Other of) h = h
+fit_kept xs ys kept (T.Named name) h = h
 fit_kept xs ys kept (T.Function r ps v) h = h
 
 pub type_added : (m : Module) (types : List LLVMTypeKind) (k : LLVMTypeKind) (n : ℕ) → IsModule m → IsTypeOver (length m.types) k → HasFitParts m.types k → Interned m.types types k n → IsDistinctList types → IsModule (record m { types = types })
@@ -101,6 +94,7 @@ type_added m types k n s ok fit h once =
       types_once = once;
       consts = λ i x e. const_kept m _ g x (s.consts i x e);
       consts_once = s.consts_once;
+      structs = structs_kept m.types types g.type_count g.types m.structs s.structs;
       functions = λ f x e. function_kept m _ g x (s.functions f x e);
       blocks = λ b x e. block_kept m _ g x (s.blocks b x e);
       insts = λ i x e. inst_kept m _ g s x (s.insts i x e);
@@ -136,6 +130,7 @@ const_added m consts k n s ok h once =
         | inr new ↦ subst (IsConstOver m.types) (sym new.1) ok
       ];
       consts_once = once;
+      structs = s.structs;
       functions = λ f x e. function_kept m _ g x (s.functions f x e);
       blocks = λ b x e. block_kept m _ g x (s.blocks b x e);
       insts = λ i x e. inst_kept m _ g s x (s.insts i x e);
@@ -239,6 +234,7 @@ function_added m x s ok none =
       types_once = s.types_once;
       consts = s.consts;
       consts_once = s.consts_once;
+      structs = s.structs;
       functions = λ f y e. elim (slice_get-push_cases m.functions x f y e) [
         | inl old ↦ function_kept m _ g y (s.functions f y old)
         | inr new ↦ function_kept m _ g y (subst (IsFunctionIn m) (sym new.1) ok)
@@ -302,6 +298,7 @@ param_named m f place name s =
       types_once = s.types_once;
       consts = s.consts;
       consts_once = s.consts_once;
+      structs = s.structs;
       functions = λ j y e. elim (change_cases change f.0 m.functions j y e) [
         | inl new ↦ (let old = function_kept m _ g new.0 (s.functions j new.0 new.1) in
             rw new.3 (record { typed = old.typed; params = length-slice_set new.0.params place name ∙ old.params; blocks = old.blocks; once = old.once }))
@@ -343,6 +340,7 @@ block_added m f b name s there last =
       types_once = s.types_once;
       consts = s.consts;
       consts_once = s.consts_once;
+      structs = s.structs;
       functions = λ j y e. elim (change_cases change f.0 m.functions j y e) [
         | inl at ↦ (let old = function_kept m _ g at.0 (s.functions j at.0 at.1) in
             rw at.3 (record {
@@ -397,6 +395,7 @@ inst_added m b i name ty inst s there last typed result values =
       types_once = s.types_once;
       consts = s.consts;
       consts_once = s.consts_once;
+      structs = s.structs;
       functions = λ f x e. function_kept m _ g x (s.functions f x e);
       blocks = λ j y e. elim (change_cases change b.0 m.blocks j y e) [
         | inl at ↦ (let old = block_kept m _ g at.0 (s.blocks j at.0 at.1) in

@@ -64,6 +64,7 @@ module _ (m : Module) (sound : IsModule m) where
     kind_whole (T.Ptr s) over fit h = h
     kind_whole (T.Floating a) over fit h = h
     kind_whole (T.Other a) over fit h = h
+    kind_whole (T.Named n) over fit h = h
     kind_whole (T.Function r ps v) over fit h = h
 
   whole_below : (size : ℕ) (t : LLVMType) → t.0 < size → t.0 < length m.types → IsWhole t

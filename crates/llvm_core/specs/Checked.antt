@@ -21,6 +21,8 @@ use Rattle.kinds.specs.declared.rules.Takes.TheVariants as O
 use Rattle.kinds.specs.Rules.{ends, target_count, operand_count}
 use Rattle.kinds.specs.Table.{rule_of}
 pub use Rattle.kinds.specs.Names.{is_bad_name, is_intrinsic_name}
+use Rattle.llvm_core.specs.declared.structs.StructFields.{StructFields}
+use Rattle.llvm_core.specs.declared.structs.StructData.{StructData}
 use Rattle.llvm_core.specs.declared.code.FunctionData.{FunctionData}
 use Rattle.llvm_core.specs.declared.code.BlockData.{BlockData}
 use Rattle.llvm_core.specs.declared.code.InstData.{InstData}
@@ -33,9 +35,9 @@ use Rattle.llvm_core.specs.Names.{HasTwice}
 use Rattle.llvm_core.specs.Edges.{count_of, edge_count}
 use Rattle.llvm_core.specs.Parts.{value_type, row_fits, is_function, is_kind, kind_params, shape_of, operands, is_phi}
 use Rattle.kinds.specs.Fitting.{is_nothing, is_value}
-use Rattle.kinds.specs.Types.{depth}
-use Rattle.kinds.specs.Held.{too_deep}
-use Rattle.llvm_core.specs.Data.{trees_of, type_at}
+use Rattle.kinds.specs.Held.{deepest}
+use Rattle.kinds.specs.Structs.{nests}
+use Rattle.llvm_core.specs.Data.{NamedType, structs_of, trees_of, type_at}
 
 -- ---- names
 
@@ -57,6 +59,17 @@ local_names m x = flat_map named x.params ++ flat_map (block_names m) x.blocks
 -- the names of the functions before f
 abbrev pub names_before : Module → ℕ → List (List ℕ)
 names_before m f = map (λ (x : FunctionData). x.name) (take f m.functions)
+
+-- the names of the structs, and of those before s
+abbrev pub struct_names : Module → List (List ℕ)
+struct_names m = map (λ (x : StructData). x.name) m.structs
+
+abbrev pub struct_names_before : Module → ℕ → List (List ℕ)
+struct_names_before m s = map (λ (x : StructData). x.name) (take s m.structs)
+
+-- an earlier struct has the name
+abbrev pub IsTakenStruct : Module → ℕ → List ℕ → Type 0
+IsTakenStruct m s n = (r : ℕ) × (y : StructData) × (r < s) × (slice_get m.structs r ≡ Some y) × (y.name ≡ n)
 
 -- an earlier function has the name
 abbrev pub IsTaken : Module → ℕ → List ℕ → Type 0
@@ -124,6 +137,7 @@ kind_result (T.Other of) = None
 kind_result (T.Array count t) = None
 kind_result (T.Vector kind count t) = None
 kind_result (T.Literal fields layout) = None
+kind_result (T.Named name) = None
 
 -- the type of what a function returns
 abbrev pub return_type : Module → LLVMFunction → Option LLVMType
@@ -213,9 +227,14 @@ reaches_outside m f (I.Row r) = list_any (is_outside m f) r.operands || list_any
 
 -- ---- depth
 
--- the type of that number nests deeper than is allowed
+-- the type of that number does not nest as deep as is allowed or less, through the fields of the structs that it names: it
+-- nests deeper, or in itself, or names a struct that there is not
 abbrev pub is_deep : Module → LLVMType → Bool
-is_deep m t = too_deep (depth (type_at (trees_of m).types t))
+is_deep m t = not (nests (structs_of m) deepest (type_at (trees_of m).types t))
+
+-- nor does the struct of that name
+abbrev pub is_deep_struct : Module → List ℕ → Bool
+is_deep_struct m name = not (nests (structs_of m) deepest (NamedType name))
 
 -- that of the value does
 abbrev pub is_deep_value : Module → LLVMValue → Bool
@@ -230,6 +249,14 @@ is_deep_inst m x = is_deep m x.ty || list_any (is_deep_value m) (operands x.inst
 abbrev pub IsLong : {X : Type 0} → List X → Type 0
 IsLong xs = 2 ^ 31 ≤ length xs
 
+-- there are too many fields; an opaque struct has none
+abbrev pub IsLongBody : Option StructFields → Type 0
+IsLongBody None = ⊥
+IsLongBody (Some b) = IsLong b.types
+
+abbrev pub OfStruct : Module → ℕ → (StructData → Type 0) → Type 0
+OfStruct m s P = (x : StructData) × (slice_get m.structs s ≡ Some x) × P x
+
 abbrev pub OfFunction : Module → ℕ → (FunctionData → Type 0) → Type 0
 OfFunction m f P = (x : FunctionData) × (slice_get m.functions f ≡ Some x) × P x
 
@@ -242,25 +269,29 @@ OfInst m i P = (x : InstData) × (slice_get m.insts i ≡ Some x) × P x
 -- a rule of functions, of blocks or of instructions: it fails at no other place
 abbrev pub AtFunction : Place → (ℕ → Type 0) → Type 0
 AtFunction P.Module Q = ⊥
+AtFunction (P.Struct s) Q = ⊥
 AtFunction (P.Function f) Q = Q f
 AtFunction (P.Block b) Q = ⊥
 AtFunction (P.Inst i) Q = ⊥
 
 abbrev pub AtBlock : Place → (ℕ → Type 0) → Type 0
 AtBlock P.Module Q = ⊥
+AtBlock (P.Struct s) Q = ⊥
 AtBlock (P.Function f) Q = ⊥
 AtBlock (P.Block b) Q = Q b
 AtBlock (P.Inst i) Q = ⊥
 
 abbrev pub AtInst : Place → (ℕ → Type 0) → Type 0
 AtInst P.Module Q = ⊥
+AtInst (P.Struct s) Q = ⊥
 AtInst (P.Function f) Q = ⊥
 AtInst (P.Block b) Q = ⊥
 AtInst (P.Inst i) Q = Q i
 
 -- a list at the place has too many entries
 abbrev pub HasLongList : Module → Place → Type 0
-HasLongList m P.Module = IsLong m.functions
+HasLongList m P.Module = IsLong m.functions ⊎ IsLong m.structs
+HasLongList m (P.Struct s) = OfStruct m s (λ x. IsLongBody x.body)
 HasLongList m (P.Function f) = OfFunction m f (λ x. IsLong x.params ⊎ IsLong x.blocks)
 HasLongList m (P.Block b) = OfBlock m b (λ x. IsLong x.insts)
 HasLongList m (P.Inst i) = OfInst m i (λ x. IsLong (operands x.inst))
@@ -268,20 +299,30 @@ HasLongList m (P.Inst i) = OfInst m i (λ x. IsLong (operands x.inst))
 -- a signature or an operand of another type than fits
 abbrev pub HasOtherTypeAt : Module → Place → Type 0
 HasOtherTypeAt m P.Module = ⊥
+HasOtherTypeAt m (P.Struct s) = ⊥
 HasOtherTypeAt m (P.Function f) = OfFunction m f (λ x. option_map_or (misfits_signature m.types) (slice_get m.types x.ty.0) false ≡ true)
 HasOtherTypeAt m (P.Block b) = ⊥
 HasOtherTypeAt m (P.Inst i) = OfInst m i (λ x. MisfitsType m (home m x) x.inst)
 
--- a type that nests too deep, in a signature or of an operand
+-- a type that nests too deep, of a struct, in a signature or of an operand
 abbrev pub HasDeepTypeAt : Module → Place → Type 0
 HasDeepTypeAt m P.Module = ⊥
+HasDeepTypeAt m (P.Struct s) = OfStruct m s (λ x. is_deep_struct m x.name ≡ true)
 HasDeepTypeAt m (P.Function f) = OfFunction m f (λ x. is_deep m x.ty ≡ true)
 HasDeepTypeAt m (P.Block b) = ⊥
 HasDeepTypeAt m (P.Inst i) = OfInst m i (λ x. is_deep_inst m x ≡ true)
 
+-- A name that no symbol or struct may have, or that an earlier one has; or a name that two named things of a function share.
+abbrev pub HasNameTwice : Module → Place → Type 0
+HasNameTwice m P.Module = ⊥
+HasNameTwice m (P.Struct s) = OfStruct m s (λ x. (is_bad_name x.name ≡ true) ⊎ IsTakenStruct m s x.name)
+HasNameTwice m (P.Function f) = OfFunction m f (λ x. (is_bad_name x.name ≡ true) ⊎ IsTaken m f x.name ⊎ HasTwice (local_names m x))
+HasNameTwice m (P.Block b) = ⊥
+HasNameTwice m (P.Inst i) = ⊥
+
 -- the rule fails there, a line for each rule
 abbrev pub Fails : Module → CheckErr → Type 0
-Fails m (NameTwice p) = AtFunction p (λ f. OfFunction m f (λ x. (is_bad_name x.name ≡ true) ⊎ IsTaken m f x.name ⊎ HasTwice (local_names m x)))
+Fails m (NameTwice p) = HasNameTwice m p
 Fails m (NoTerminator p) = AtBlock p (λ b. OfBlock m b (λ x. ends_in_only (is_terminator_at m) x.insts ≡ false))
 Fails m (PhiPlace p) = AtBlock p (λ b. OfBlock m b (λ x. HasLatePhi m x.insts))
 Fails m (PhiEntries p) = AtInst p (λ i. OfInst m i (λ x. MisfitsEdges m x.block.0 x.inst))
@@ -304,7 +345,11 @@ abbrev pub MayAnswer : Module → CheckErr → Type 0
 MayAnswer m NoMemory = Unit {0}
 MayAnswer m e = Fails m e
 
--- ---- what is checked of one function, block or instruction
+-- ---- what is checked of one struct, function, block or instruction
+
+pub record IsCheckedStruct (m : Module) (s : ℕ) : Type 0 where
+  pub names : ¬ Fails m (NameTwice (P.Struct s))
+  pub lists : ¬ Fails m (ListTooLong (P.Struct s))
 
 pub record IsCheckedFunction (m : Module) (f : ℕ) : Type 0 where
   pub locals : (x : FunctionData) → slice_get m.functions f ≡ Some x → ¬ HasTwice (local_names m x)
@@ -326,6 +371,7 @@ pub record IsCheckedInst (m : Module) (i : ℕ) : Type 0 where
 
 -- what is checked where the types of the whole module are gone over
 pub record IsCheckedDepths (m : Module) : Type 0 where
+  pub structs : (s : ℕ) → s < length m.structs → ¬ Fails m (TooDeep (P.Struct s))
   pub functions : (f : ℕ) → f < length m.functions → ¬ Fails m (TooDeep (P.Function f))
   pub insts : (i : ℕ) → i < length m.insts → ¬ Fails m (TooDeep (P.Inst i))
 

@@ -20,9 +20,12 @@ use Rattle.llvm_core.specs.declared.code.LLVMInst.TheVariants as I
 use Rattle.llvm_core.specs.declared.code.PhiEntry.{PhiEntry}
 use Rattle.llvm_core.specs.declared.code.Row.{Row}
 use Rattle.kinds.specs.declared.op.Op.{Op}
-pub use Rattle.kinds.specs.Types.{TypeTree, VoidType, IntType, PointerType, FloatingType, RefusedType, ArrayType, VectorType, StructType, FunctionType, TypeTrees, NoTypes, ThenType}
+pub use Rattle.kinds.specs.Types.{TypeTree, VoidType, IntType, PointerType, FloatingType, RefusedType, ArrayType, VectorType, StructType, NamedType, FunctionType, TypeTrees, NoTypes, ThenType}
+pub use Rattle.kinds.specs.Structs.{StructBody, Struct}
 use Rattle.kinds.specs.Types.{takes_of}
 use Rattle.kinds.specs.Held.{width_in}
+use Rattle.llvm_core.specs.declared.structs.StructFields.{StructFields}
+use Rattle.llvm_core.specs.declared.structs.StructData.{StructData}
 use Rattle.llvm_core.specs.declared.code.FunctionData.{FunctionData}
 use Rattle.llvm_core.specs.declared.code.BlockData.{BlockData}
 use Rattle.llvm_core.specs.declared.code.InstData.{InstData}
@@ -76,8 +79,10 @@ pub record Function : Type 0 where
   pub params : List (List ℕ)
   pub blocks : List Block
 
+-- identified structs stand in the order in which they were added
 pub record ModuleData : Type 0 where
   pub name : List ℕ
+  pub structs : List Struct
   pub functions : List Function
 
 -- ---- the data of a module that keeps its types, constants and code under numbers
@@ -104,6 +109,7 @@ type_tree ts (T.Other of) = RefusedType of
 type_tree ts (T.Array count t) = ArrayType count (type_at ts t)
 type_tree ts (T.Vector kind count t) = VectorType kind count (type_at ts t)
 type_tree ts (T.Literal fields layout) = StructType layout (types_at ts fields)
+type_tree ts (T.Named name) = NamedType name
 type_tree ts (T.Function result params variadic) = FunctionType (type_at ts result) (types_at ts params) variadic
 
 abbrev pub type_trees : List LLVMTypeKind → List TypeTree
@@ -184,9 +190,20 @@ function_of t blocks insts p = record {
   blocks = filter_map (block_at t blocks insts) p.1.blocks;
 }
 
+abbrev pub fields_of : List TypeTree → StructFields → StructBody
+fields_of ts b = record { fields = types_at ts b.types; layout = b.layout }
+
+abbrev pub struct_of : List TypeTree → StructData → Struct
+struct_of ts x = record { name = x.name; body = option_map (fields_of ts) x.body }
+
+-- the identified structs of a module
+abbrev pub structs_of : Module → List Struct
+structs_of m = map (struct_of (trees_of m).types) m.structs
+
 abbrev pub data_of : Module → ModuleData
 data_of m = record {
   name = m.name;
+  structs = structs_of m;
   functions = map (function_of (trees_of m) m.blocks m.insts) (enumerate_from 0 m.functions);
 }
 
@@ -230,6 +247,9 @@ abbrev pub AllPlaced : (Placed → Type 0) → ModuleData → Type 0
 AllPlaced P d = AllBlocks (λ (b : Block). All P b.instructions) d
 
 -- ---- how the building calls change the data
+
+abbrev pub with_struct : ModuleData → Struct → ModuleData
+with_struct d s = record d { structs = d.structs ++ s ∷ [] }
 
 abbrev pub with_function : ModuleData → Function → ModuleData
 with_function d f = record d { functions = d.functions ++ f ∷ [] }

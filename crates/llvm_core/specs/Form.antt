@@ -2,7 +2,9 @@
 -- is translated where these types are held.
 use Rattle.std.specs.Prelude.{◌≡◌, ◌<◌, ◌≤◌, ◌^◌, ℕ, suc, Bool, true, false, is_some, nat_eq, List, [], ◌∷◌, ◌++◌, length, map, filter, slice_get, unwrap_or, Some, All}
 use Rattle.std.specs.List.{flat_map}
-use Rattle.llvm_core.specs.Data.{TypeTree, VoidType, FunctionType, TypeTrees, ConstTree, IntConst, PlaceholderConst, Operand, Constant, Parameter, Result, RowData, Instruction, Phi, Applied, Placed, Block, Function, ModuleData, operand_type, placed_in, targets, phi_entries}
+use Rattle.std.specs.Option.{option_map_or}
+use Rattle.kinds.specs.Structs.{IsFormStruct, IsNested}
+use Rattle.llvm_core.specs.Data.{TypeTree, VoidType, FunctionType, NamedType, TypeTrees, StructBody, Struct, ConstTree, IntConst, PlaceholderConst, Operand, Constant, Parameter, Result, RowData, Instruction, Phi, Applied, Placed, Block, Function, ModuleData, operand_type, placed_in, targets, phi_entries}
 use Rattle.kinds.specs.declared.rules.Takes.{Takes}
 use Rattle.kinds.specs.declared.rules.Takes.TheVariants as O
 use Rattle.kinds.specs.Rules.{ends, target_count, operand_count}
@@ -141,9 +143,15 @@ pub record IsFormFunction (f : Function) : Type 0 where
   pub block_numbers : IsDistinctList (map (λ (b : Block). b.number) f.blocks)
   pub numbers : IsDistinctList (map (λ (p : Placed). p.number) (placed_in f))
 
--- a module of the form, whatever its own name is
-abbrev pub IsForm : ModuleData → Type 0
-IsForm d = All IsFormFunction d.functions
+-- the types in use: that of each struct, of each function and of each result
+abbrev pub types_in : ModuleData → List TypeTree
+types_in d = map (λ (s : Struct). NamedType s.name) d.structs ++ map (λ (f : Function). f.type) d.functions ++ map (λ (p : Placed). p.type) (flat_map placed_in d.functions)
+
+-- a module of the form, whatever its own name is: no type in use nests too deep through the fields of structs
+pub record IsForm (d : ModuleData) : Type 0 where
+  pub functions : All IsFormFunction d.functions
+  pub structs : All IsFormStruct d.structs
+  pub nested : All (IsNested d.structs) (types_in d)
 
 -- ---- what is translated
 
@@ -199,8 +207,10 @@ pub record IsNarrowFunction (f : Function) : Type 0 where
   pub block_numbers : IsDistinctList (map (λ (b : Block). b.number) f.blocks)
   pub numbers : IsDistinctList (map (λ (p : Placed). p.number) (placed_in f))
 
-abbrev pub IsNarrow : ModuleData → Type 0
-IsNarrow d = All IsNarrowFunction d.functions
+-- and structs with names and fields that the form takes
+pub record IsNarrow (d : ModuleData) : Type 0 where
+  pub functions : All IsNarrowFunction d.functions
+  pub structs : All IsFormStruct d.structs
 
 -- ---- names and lengths
 
@@ -211,8 +221,9 @@ names_in b = named b.name ++ flat_map (λ (p : Placed). named p.name) b.instruct
 abbrev pub local_names : Function → List (List ℕ)
 local_names f = flat_map named f.params ++ flat_map names_in f.blocks
 
--- no two functions share a name, and no two named things of a function do
+-- no two structs share a name, no two functions do, and no two named things of a function
 pub record HasDistinctNames (d : ModuleData) : Type 0 where
+  pub structs : IsDistinctList (map (λ (s : Struct). s.name) d.structs)
   pub functions : IsDistinctList (map (λ (f : Function). f.name) d.functions)
   pub locals : All (λ (f : Function). IsDistinctList (local_names f)) d.functions
 
@@ -224,5 +235,7 @@ pub record IsFewIn (f : Function) : Type 0 where
   pub operands : All (λ (p : Placed). length (operands_of p.instruction) < 2 ^ 31) (placed_in f)
 
 pub record HasFew (d : ModuleData) : Type 0 where
+  pub structs : length d.structs < 2 ^ 31
+  pub fields : All (λ (s : Struct). option_map_or (λ (b : StructBody). count_types b.fields) s.body 0 < 2 ^ 31) d.structs
   pub functions : length d.functions < 2 ^ 31
   pub each : All IsFewIn d.functions

@@ -42,6 +42,7 @@ IsTypeOver n (T.Other of) = Unit {0}
 IsTypeOver n (T.Array count t) = t.0 < n
 IsTypeOver n (T.Vector kind count t) = t.0 < n
 IsTypeOver n (T.Literal fields layout) = All (λ (t : LLVMType). t.0 < n) fields
+IsTypeOver n (T.Named name) = Unit {0}
 IsTypeOver n (T.Function result params variadic) = (result.0 < n) × All (λ (t : LLVMType). t.0 < n) params
 
 -- a constant over a list of types: an integer of an integer type, which it fits, or a placeholder of a type that is there
@@ -59,6 +60,7 @@ shape_of (T.Other of) = S.Refused of
 shape_of (T.Array count t) = S.Made
 shape_of (T.Vector kind count t) = S.Made
 shape_of (T.Literal fields layout) = S.Made
+shape_of (T.Named name) = S.Named
 shape_of (T.Function result params variadic) = S.Function
 
 -- that of a type that is there
@@ -75,6 +77,7 @@ HasFitParts types (T.Other of) = Unit {0}
 HasFitParts types (T.Array count t) = F.is_array_of count (shape_at types t) ≡ true
 HasFitParts types (T.Vector kind count t) = F.is_vector_of count (shape_at types t) ≡ true
 HasFitParts types (T.Literal fields layout) = All (λ (t : LLVMType). F.is_field (shape_at types t) ≡ true) fields
+HasFitParts types (T.Named name) = Unit {0}
 HasFitParts types (T.Function result params variadic) = Unit {0}
 
 abbrev pub is_function : LLVMTypeKind → Bool
@@ -98,6 +101,7 @@ kind_params (T.Other of) = []
 kind_params (T.Array count t) = []
 kind_params (T.Vector kind count t) = []
 kind_params (T.Literal fields layout) = []
+kind_params (T.Named name) = []
 
 -- the parameters of a function type
 abbrev pub type_params : List LLVMTypeKind → LLVMType → List LLVMType

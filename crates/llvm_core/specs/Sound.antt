@@ -1,5 +1,6 @@
 -- What is true of every module that calls have built.
-use Rattle.std.specs.Prelude.{◌≡◌, ◌<◌, ℕ, List, length, slice_get, Option, None, Some, All}
+use Rattle.std.specs.Prelude.{◌≡◌, ◌<◌, ℕ, true, List, length, slice_get, Option, None, Some, All, IfSome}
+use Rattle.kinds.specs.Fitting.{is_field}
 use Rattle.llvm_core.specs.declared.types.LLVMTypeKind.{LLVMTypeKind}
 use Rattle.llvm_core.specs.declared.types.LLVMTypeKind.TheVariants as T
 use Rattle.llvm_core.specs.declared.types.ResultType.{ResultType}
@@ -8,12 +9,23 @@ use Rattle.llvm_core.specs.declared.consts.LLVMConstKind.{LLVMConstKind}
 use Rattle.llvm_core.specs.declared.numbers.LLVMType.{LLVMType}
 use Rattle.llvm_core.specs.declared.numbers.LLVMBasicBlock.{LLVMBasicBlock}
 use Rattle.llvm_core.specs.declared.numbers.LLVMInstRef.{LLVMInstRef}
+use Rattle.llvm_core.specs.declared.structs.StructFields.{StructFields}
+use Rattle.llvm_core.specs.declared.structs.StructData.{StructData}
 use Rattle.llvm_core.specs.declared.code.FunctionData.{FunctionData}
 use Rattle.llvm_core.specs.declared.code.BlockData.{BlockData}
 use Rattle.llvm_core.specs.declared.code.InstData.{InstData}
 use Rattle.support.specs.Interned.{IsDistinctList}
 use Rattle.llvm_core.specs.Module.{Module}
-use Rattle.llvm_core.specs.Parts.{IsTypeOver, HasFitParts, IsConstOver, IsFunctionType, HasValues, type_params, result_type}
+use Rattle.llvm_core.specs.Parts.{IsTypeOver, HasFitParts, shape_at, IsConstOver, IsFunctionType, HasValues, type_params, result_type}
+
+-- fields that are there, each of a type that a struct may have a field of
+pub record AreFieldsIn (types : List LLVMTypeKind) (b : StructFields) : Type 0 where
+  pub within : All (λ (t : LLVMType). t.0 < length types) b.types
+  pub fit : All (λ (t : LLVMType). is_field (shape_at types t) ≡ true) b.types
+
+-- the fields of a struct are; an opaque one has none
+abbrev pub IsStructIn : List LLVMTypeKind → StructData → Type 0
+IsStructIn types x = IfSome x.body (AreFieldsIn types)
 
 -- a function of a function type, with a name for each parameter, and blocks that are there, each listed once
 pub record IsFunctionIn (m : Module) (x : FunctionData) : Type 0 where
@@ -63,6 +75,7 @@ pub record IsModule (m : Module) : Type 0 where
   pub types_once : IsDistinctList m.types
   pub consts : (i : ℕ) (k : LLVMConstKind) → slice_get m.consts i ≡ Some k → IsConstOver m.types k
   pub consts_once : IsDistinctList m.consts
+  pub structs : All (IsStructIn m.types) m.structs
   pub functions : (f : ℕ) (x : FunctionData) → slice_get m.functions f ≡ Some x → IsFunctionIn m x
   pub blocks : (b : ℕ) (x : BlockData) → slice_get m.blocks b ≡ Some x → IsBlockIn m x
   pub insts : (i : ℕ) (x : InstData) → slice_get m.insts i ≡ Some x → IsInstIn m x

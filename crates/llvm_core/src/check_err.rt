@@ -11,6 +11,7 @@ use thiserror::Error;
 #[derive(Clone, Copy, PartialEq, Eq, Debug, Drop)]
 pub enum Place {
     Module,
+    Struct(u32),
     Function(u32),
     Block(u32),
     Inst(u32),
@@ -19,7 +20,7 @@ pub enum Place {
 /// A rule that fails, and where.
 #[derive(Clone, Copy, PartialEq, Eq, Debug, Drop, Error)]
 pub enum CheckErr {
-    /// Two functions, or two named parameters, blocks or results of one function, share a name; or a function's name is empty or holds a zero byte.
+    /// Two structs, two functions, or two named parameters, blocks or results of one function, share a name; or the name of a struct or function is empty or holds a zero byte.
     NameTwice(Place),
     /// A block does not end in its only terminator.
     NoTerminator(Place),
@@ -39,7 +40,7 @@ pub enum CheckErr {
     IntrinsicBody(Place),
     /// A function is in another space than 0.
     FunctionSpace(Place),
-    /// A type nests deeper than 1,000.
+    /// A type nests deeper than 1,000 through the fields of structs, or in itself, or it names a struct that there is not.
     TooDeep(Place),
     /// A list has 2^31 or more entries.
     ListTooLong(Place),

@@ -19,6 +19,7 @@ use crate::names::{has_twice, local_names};
 use crate::numbers::{LLVMBasicBlock, LLVMFunction, LLVMInstRef, LLVMType};
 use crate::operands::{TOO_LONG, check_inst, is_function, is_valueless};
 use crate::phis::has_late_phi;
+use crate::struct_rules::check_structs;
 use crate::types::LLVMTypeKind;
 use kinds::names::{is_bad_name, is_intrinsic_name};
 
@@ -26,7 +27,7 @@ fn check_count(m: &LLVMModule) -> Result<(), CheckErr>
     ensures ok { OnOk result (¬ Fails m.now (errors.ListTooLong places.Module)) }
     ensures err { IfErr result (λ e. Fails m.now e) }
 {
-    if m.functions() as usize >= TOO_LONG {
+    if m.functions() as usize >= TOO_LONG || m.structs() as usize >= TOO_LONG {
         return Err(CheckErr::ListTooLong(Place::Module));
     }
     Ok(())
@@ -282,9 +283,10 @@ pub fn check(m: &LLVMModule) -> Result<(), CheckErr>
     ensures err { IfErr result (λ e. MayAnswer m.now e) }
 {
     check_count(m)?;
+    let structs = check_structs(m)?;
     check_function_names(m)?;
     check_functions(m)?;
-    check_depths(m)?;
+    check_depths(m, &structs)?;
     check_blocks(m)?;
     check_insts(m)?;
     check_edges(m)?;

@@ -1,129 +1,102 @@
-//! How deep types nest, and the rule that no type in use nests too deep.
+//! The rule that no type in use nests too deep.
 
-ghost use Rattle.std.specs.Prelude.{max, ◌≡◌, ◌<◌, ◌≤◌, ◌+◌, ◌-◌, ◌^◌, ℕ, List, [], All, IfErr, IfOk, OnOk, Some, length, slice_get};
+ghost use Rattle.std.specs.Prelude.{◌≡◌, ◌<◌, ℕ, All, IfErr, IsTrue, OnOk, Some, false, length, slice_get};
 ghost use Rattle.std.specs.List.{list_any};
 ghost use Rattle.std.specs.Option.{option_map};
-ghost use Rattle.kinds.specs.Types.{TypeTree, depth, depths};
-ghost use Rattle.kinds.specs.Held.{too_deep};
 ghost use Rattle.llvm_core.specs.declared.check_err.Place.TheVariants as places;
 ghost use Rattle.llvm_core.specs.declared.check_err.CheckErr.TheVariants as errors;
-ghost use Rattle.llvm_core.specs.Parts.{IsTypeOver, IsEntry, IsValue, HasValues, operands};
-ghost use Rattle.llvm_core.specs.Data.{trees_of, type_tree, types_at};
-ghost use Rattle.llvm_core.specs.Depths.{AreDepths, AreAllDepths};
-ghost use Rattle.llvm_core.specs.Checked.{is_deep, is_deep_inst, is_deep_value, IsCheckedDepths, Fails, MayAnswer};
+ghost use Rattle.llvm_core.specs.declared.numbers.LLVMType.{LLVMType};
+ghost use Rattle.llvm_core.specs.Parts.{IsEntry, IsValue, HasValues, operands};
+ghost use Rattle.llvm_core.specs.Depths.{AreNotes};
+ghost use Rattle.llvm_core.specs.Checked.{is_deep, is_deep_struct, is_deep_inst, is_deep_value, struct_names, IsCheckedDepths, Fails, MayAnswer};
 
 use crate::check_err::{CheckErr, Place};
 use crate::code::{LLVMInst, LLVMValue, PhiEntry};
 use crate::module::LLVMModule;
-use crate::numbers::{LLVMFunction, LLVMInstRef, LLVMType};
-use crate::types::LLVMTypeKind;
-use kinds::types::too_deep;
+use crate::name_set::NameSet;
+use crate::nesting::{visit, visit_fields};
+use crate::numbers::{LLVMFunction, LLVMInstRef, LLVMStruct, LLVMType};
+use kinds::types::deepest;
 
-fn greater(a: u32, b: u32) -> u32
-    ensures { result ≡ max a b }
+fn is_deep(m: &LLVMModule, names: &NameSet<'_>, notes: &mut [u32], ty: LLVMType) -> bool
+    requires within { ty.0 < length m.now.types }
+    requires names { names.now ≡ struct_names m.now }
+    requires notes { AreNotes m.now notes.old }
+    ensures deep { result ≡ is_deep m.now ty }
+    ensures notes { AreNotes m.now notes.new }
 {
-    if a < b { b } else { a }
+    visit(m, names, notes, ty, deepest()).is_none()
 }
 
-/// The depth of the deepest of some types, whose depths stand in the table.
-fn deepest(types: &[LLVMType], table: &[u32]) -> u32
-    requires within { All (λ t. t.0 < length table.now) types.now }
-    requires few { All (λ d. d ≤ length table.now) table.now }
-    ensures depth { (ts : List TypeTree) → AreDepths ts table.now → result ≡ depths (types_at ts types.now) }
-    ensures few { result ≤ length table.now }
+fn is_deep_struct(m: &LLVMModule, names: &NameSet<'_>, notes: &mut [u32], s: LLVMStruct) -> bool
+    requires within { s.0 < length m.now.structs }
+    requires names { names.now ≡ struct_names m.now }
+    requires notes { AreNotes m.now notes.old }
+    ensures deep { option_map (λ x. is_deep_struct m.now x.name) (slice_get m.now.structs s.0) ≡ Some result }
+    ensures notes { AreNotes m.now notes.new }
 {
-    let mut deepest = 0;
-    for ty in types {
-        deepest = greater(deepest, table[ty.0 as usize]);
-    }
-    deepest
-}
-
-/// The depth of a type whose parts have theirs in the table.
-fn kind_depth(kind: &LLVMTypeKind, table: &[u32]) -> u32
-    requires parts { IsTypeOver (length table.now) kind.now }
-    requires few { All (λ d. d ≤ length table.now) table.now }
-    requires short { length table.now < 2 ^ 32 - 1 }
-    ensures depth { (ts : List TypeTree) → AreDepths ts table.now → result ≡ depth (type_tree ts kind.now) }
-    ensures few { result ≤ length table.now + 1 }
-{
-    match kind {
-        LLVMTypeKind::Void => 1,
-        LLVMTypeKind::Int(_) => 1,
-        LLVMTypeKind::Ptr(_) => 1,
-        LLVMTypeKind::Floating(_) => 1,
-        LLVMTypeKind::Other(_) => 1,
-        LLVMTypeKind::Array(_, ty) => 1 + table[ty.0 as usize],
-        LLVMTypeKind::Vector(_, _, ty) => 1 + table[ty.0 as usize],
-        LLVMTypeKind::Literal { fields, .. } => 1 + deepest(fields.as_slice(), table),
-        LLVMTypeKind::Function { result, params, .. } => {
-            1 + greater(table[result.0 as usize], deepest(params.as_slice(), table))
-        }
-    }
-}
-
-/// The depth of each type of a module, by number: a type is made of earlier ones, so one pass is enough.
-fn depths(m: &LLVMModule) -> Result<Vec<u32>, CheckErr>
-    ensures depths { IfOk result (λ table. AreAllDepths m.now table.items) }
-    ensures err { IfErr result (λ e. MayAnswer m.now e) }
-{
-    let mut table = Vec::with_capacity(m.allocator(), m.types() as usize)?;
-    for t in 0..m.types() {
-        let depth = kind_depth(m.type_kind(LLVMType(t)), table.as_slice());
-        table.push(depth)?;
-    }
-    Ok(table)
+    visit_fields(m, names, notes, m.struct_name(s), deepest() - 1).is_none()
 }
 
 /// Whether some type nests too deep, in use or not.
-fn has_deep(table: &[u32]) -> bool
-    ensures { result ≡ list_any too_deep table.now }
+fn has_deep(m: &LLVMModule, names: &NameSet<'_>, notes: &mut [u32]) -> bool
+    requires names { names.now ≡ struct_names m.now }
+    requires notes { AreNotes m.now notes.old }
+    ensures none { result ≡ false → (t : LLVMType) → t.0 < length m.now.types → is_deep m.now t ≡ false }
+    ensures notes { AreNotes m.now notes.new }
 {
-    for depth in table {
-        if too_deep(*depth) {
+    for t in 0..m.types() {
+        if is_deep(m, names, notes, LLVMType(t)) {
             return true;
         }
     }
     false
 }
 
-fn is_deep(m: &LLVMModule, table: &[u32], ty: LLVMType) -> bool
-    requires within { ty.0 < length m.now.types }
-    requires table { AreAllDepths m.now table.now }
-    ensures { result ≡ is_deep m.now ty }
-{
-    let _ = m;
-    too_deep(table[ty.0 as usize])
-}
-
-fn is_deep_value(m: &LLVMModule, table: &[u32], value: LLVMValue) -> bool
+fn is_deep_value(m: &LLVMModule, names: &NameSet<'_>, notes: &mut [u32], value: LLVMValue) -> bool
     requires value { IsValue m.now value }
-    requires table { AreAllDepths m.now table.now }
-    ensures { result ≡ is_deep_value m.now value }
+    requires names { names.now ≡ struct_names m.now }
+    requires notes { AreNotes m.now notes.old }
+    ensures deep { result ≡ is_deep_value m.now value }
+    ensures notes { AreNotes m.now notes.new }
 {
-    is_deep(m, table, m.type_of(value))
+    is_deep(m, names, notes, m.type_of(value))
 }
 
-fn has_deep_value(m: &LLVMModule, table: &[u32], values: &[LLVMValue]) -> bool
+fn has_deep_value(
+    m: &LLVMModule,
+    names: &NameSet<'_>,
+    notes: &mut [u32],
+    values: &[LLVMValue],
+) -> bool
     requires values { All (IsValue m.now) values.now }
-    requires table { AreAllDepths m.now table.now }
-    ensures { result ≡ list_any (is_deep_value m.now) values.now }
+    requires names { names.now ≡ struct_names m.now }
+    requires notes { AreNotes m.now notes.old }
+    ensures deep { result ≡ list_any (is_deep_value m.now) values.now }
+    ensures notes { AreNotes m.now notes.new }
 {
     for value in values {
-        if is_deep_value(m, table, *value) {
+        if is_deep_value(m, names, notes, *value) {
             return true;
         }
     }
     false
 }
 
-fn has_deep_entry(m: &LLVMModule, table: &[u32], entries: &[PhiEntry]) -> bool
+fn has_deep_entry(
+    m: &LLVMModule,
+    names: &NameSet<'_>,
+    notes: &mut [u32],
+    entries: &[PhiEntry],
+) -> bool
     requires entries { All (IsEntry m.now) entries.now }
-    requires table { AreAllDepths m.now table.now }
-    ensures { result ≡ list_any (λ e. is_deep_value m.now e.value) entries.now }
+    requires names { names.now ≡ struct_names m.now }
+    requires notes { AreNotes m.now notes.old }
+    ensures deep { result ≡ list_any (λ e. is_deep_value m.now e.value) entries.now }
+    ensures notes { AreNotes m.now notes.new }
 {
     for entry in entries {
-        if is_deep_value(m, table, entry.value) {
+        if is_deep_value(m, names, notes, entry.value) {
             return true;
         }
     }
@@ -132,34 +105,59 @@ fn has_deep_entry(m: &LLVMModule, table: &[u32], entries: &[PhiEntry]) -> bool
 
 /// Whether the type of an operand nests too deep.
 #[tactic(auto, using(crate::proofs::DepthLemmas::any_mapped))]
-fn has_deep_operand(m: &LLVMModule, table: &[u32], inst: &LLVMInst) -> bool
+fn has_deep_operand(m: &LLVMModule, names: &NameSet<'_>, notes: &mut [u32], inst: &LLVMInst) -> bool
     requires values { HasValues m.now inst.now }
-    requires table { AreAllDepths m.now table.now }
-    ensures { result ≡ list_any (is_deep_value m.now) (operands inst.now) }
+    requires names { names.now ≡ struct_names m.now }
+    requires notes { AreNotes m.now notes.old }
+    ensures deep { result ≡ list_any (is_deep_value m.now) (operands inst.now) }
+    ensures notes { AreNotes m.now notes.new }
 {
     match inst {
-        LLVMInst::Phi(_, entries) => has_deep_entry(m, table, entries.as_slice()),
-        LLVMInst::Row(row) => has_deep_value(m, table, row.operands.as_slice()),
+        LLVMInst::Phi(_, entries) => has_deep_entry(m, names, notes, entries.as_slice()),
+        LLVMInst::Row(row) => has_deep_value(m, names, notes, row.operands.as_slice()),
     }
 }
 
 /// Whether the type of the result of an instruction or of an operand nests too deep.
-fn is_deep_inst(m: &LLVMModule, table: &[u32], i: LLVMInstRef) -> bool
+fn is_deep_inst(m: &LLVMModule, names: &NameSet<'_>, notes: &mut [u32], i: LLVMInstRef) -> bool
     requires within { i.0 < length m.now.insts }
-    requires table { AreAllDepths m.now table.now }
-    ensures { option_map (is_deep_inst m.now) (slice_get m.now.insts i.0) ≡ Some result }
+    requires names { names.now ≡ struct_names m.now }
+    requires notes { AreNotes m.now notes.old }
+    ensures deep { option_map (is_deep_inst m.now) (slice_get m.now.insts i.0) ≡ Some result }
+    ensures notes { AreNotes m.now notes.new }
 {
-    is_deep_value(m, table, LLVMValue::Inst(i)) || has_deep_operand(m, table, m.inst(i))
+    if is_deep_value(m, names, notes, LLVMValue::Inst(i)) {
+        return true;
+    }
+    has_deep_operand(m, names, notes, m.inst(i))
+}
+
+/// Each struct nests no deeper than is allowed.
+fn check_structs(m: &LLVMModule, names: &NameSet<'_>, notes: &mut [u32]) -> Result<(), CheckErr>
+    requires names { names.now ≡ struct_names m.now }
+    requires notes { AreNotes m.now notes.old }
+    ensures ok { OnOk result ((s : ℕ) → s < length m.now.structs → ¬ Fails m.now (errors.TooDeep (places.Struct s))) }
+    ensures err { IfErr result (λ e. MayAnswer m.now e) }
+    ensures notes { AreNotes m.now notes.new }
+{
+    for s in 0..m.structs() {
+        if is_deep_struct(m, names, notes, LLVMStruct(s)) {
+            return Err(CheckErr::TooDeep(Place::Struct(s)));
+        }
+    }
+    Ok(())
 }
 
 /// No function is of a type that nests too deep.
-fn check_functions(m: &LLVMModule, table: &[u32]) -> Result<(), CheckErr>
-    requires table { AreAllDepths m.now table.now }
+fn check_functions(m: &LLVMModule, names: &NameSet<'_>, notes: &mut [u32]) -> Result<(), CheckErr>
+    requires names { names.now ≡ struct_names m.now }
+    requires notes { AreNotes m.now notes.old }
     ensures ok { OnOk result ((f : ℕ) → f < length m.now.functions → ¬ Fails m.now (errors.TooDeep (places.Function f))) }
     ensures err { IfErr result (λ e. MayAnswer m.now e) }
+    ensures notes { AreNotes m.now notes.new }
 {
     for f in 0..m.functions() {
-        if is_deep(m, table, m.function_type(LLVMFunction(f))) {
+        if is_deep(m, names, notes, m.function_type(LLVMFunction(f))) {
             return Err(CheckErr::TooDeep(Place::Function(f)));
         }
     }
@@ -167,29 +165,42 @@ fn check_functions(m: &LLVMModule, table: &[u32]) -> Result<(), CheckErr>
 }
 
 /// No instruction has a result or an operand of a type that nests too deep.
-fn check_insts(m: &LLVMModule, table: &[u32]) -> Result<(), CheckErr>
-    requires table { AreAllDepths m.now table.now }
+fn check_insts(m: &LLVMModule, names: &NameSet<'_>, notes: &mut [u32]) -> Result<(), CheckErr>
+    requires names { names.now ≡ struct_names m.now }
+    requires notes { AreNotes m.now notes.old }
     ensures ok { OnOk result ((i : ℕ) → i < length m.now.insts → ¬ Fails m.now (errors.TooDeep (places.Inst i))) }
     ensures err { IfErr result (λ e. MayAnswer m.now e) }
 {
     for i in 0..m.inst_count() {
-        if is_deep_inst(m, table, LLVMInstRef(i)) {
+        if is_deep_inst(m, names, notes, LLVMInstRef(i)) {
             return Err(CheckErr::TooDeep(Place::Inst(i)));
         }
     }
     Ok(())
 }
 
-/// No type that is in use nests too deep. Where the module has no such type at all, nothing more is looked at.
-pub fn check_depths(m: &LLVMModule) -> Result<(), CheckErr>
+/// The same of all of them. Where the module has no type at all that nests too deep, no function and no instruction is
+/// looked at.
+fn check_noted(m: &LLVMModule, names: &NameSet<'_>, notes: &mut [u32]) -> Result<(), CheckErr>
+    requires names { names.now ≡ struct_names m.now }
+    requires notes { AreNotes m.now notes.old }
     ensures ok { OnOk result (IsCheckedDepths m.now) }
     ensures err { IfErr result (λ e. MayAnswer m.now e) }
 {
-    let depths = depths(m)?;
-    let table = depths.as_slice();
-    if !has_deep(table) {
+    check_structs(m, names, notes)?;
+    if !has_deep(m, names, notes) {
         return Ok(());
     }
-    check_functions(m, table)?;
-    check_insts(m, table)
+    check_functions(m, names, notes)?;
+    check_insts(m, names, notes)
+}
+
+/// No type that is in use nests too deep, given the names of the structs.
+pub(crate) fn check_depths(m: &LLVMModule, names: &NameSet<'_>) -> Result<(), CheckErr>
+    requires { names.now ≡ struct_names m.now }
+    ensures ok { OnOk result (IsCheckedDepths m.now) }
+    ensures err { IfErr result (λ e. MayAnswer m.now e) }
+{
+    let mut notes = vec![in m.allocator(); 0u32; m.types() as usize]?;
+    check_noted(m, names, notes.as_mut_slice())
 }

@@ -8,14 +8,15 @@ ghost use Rattle.support.specs.Interned.{Interned};
 ghost use Rattle.llvm_core.specs.Module.{Module};
 ghost use Rattle.llvm_core.specs.Code.{code_of, with_code, with_function, with_param_name, with_block, with_inst, with_operand, with_entry, with_changed_inst, param_names};
 ghost use Rattle.llvm_core.specs.Parts.{IsTypeOver, HasFitParts, IsConstOver, IsFunctionType, IsValue, IsBlock, HasParts, HasValues, IsResultType, IsResultOver, TakesOperand, IsPhi, made_kind, const_type, is_function, given, kind_params, type_params, value_type, result_type, row_fits, row_result, shape_of, type_nth, view, view_nth};
-ghost use Rattle.llvm_core.specs.Sound.{IsModule};
+ghost use Rattle.llvm_core.specs.Sound.{AreFieldsIn, IsModule};
 ghost use Rattle.llvm_core.specs.Data as lists;
-ghost use Rattle.llvm_core.specs.Data.{trees_of, type_at, result_tree, operand_of, instruction_of, data_of, AreApart, AllBlocks, AllPlaced};
+ghost use Rattle.llvm_core.specs.Data.{trees_of, type_at, result_tree, operand_of, instruction_of, data_of, fields_of, AreApart, AllBlocks, AllPlaced};
 
 use crate::code::{LLVMInst, LLVMValue, PhiEntry, Row};
 use crate::code_store::CodeStore;
 use crate::consts::LLVMConstKind;
-use crate::numbers::{LLVMBasicBlock, LLVMConst, LLVMFunction, LLVMInstRef, LLVMType};
+use crate::numbers::{LLVMBasicBlock, LLVMConst, LLVMFunction, LLVMInstRef, LLVMStruct, LLVMType};
+use crate::structs::{StructFields, StructStore};
 use crate::types::{LLVMTypeKind, ResultType};
 use kinds::fitting::{Shape, TypeView, fits};
 use kinds::rules::Gives;
@@ -35,6 +36,7 @@ pub struct LLVMModule {
     name: Text,
     types: Interner<LLVMTypeKind>,
     consts: Interner<LLVMConstKind>,
+    structs: StructStore,
     code: CodeStore,
 }
 
@@ -48,6 +50,7 @@ impl Model for LLVMModule {
       name = m.name;
       types = m.types;
       consts = m.consts;
+      structs = m.structs;
       functions = m.code.functions;
       blocks = m.code.blocks;
       insts = m.code.insts;
@@ -57,6 +60,7 @@ impl Model for LLVMModule {
       name = m.name;
       types = m.types;
       consts = m.consts;
+      structs = m.structs;
       functions = m.code.functions;
       blocks = m.code.blocks;
       insts = m.code.insts;
@@ -66,14 +70,15 @@ impl Model for LLVMModule {
 impl LLVMModule {
     /// An empty module.
     pub fn new(alloc: Global, name: &str) -> Result<LLVMModule, AllocError>
-        ensures stores { IfOk result (λ m. m ≡ record { name = name.now; types = []; consts = []; functions = []; blocks = []; insts = [] }) }
-        ensures data { IfOk result (λ m. data_of m ≡ record { name = name.now; functions = [] }) }
+        ensures stores { IfOk result (λ m. m ≡ record { name = name.now; types = []; consts = []; structs = []; functions = []; blocks = []; insts = [] }) }
+        ensures data { IfOk result (λ m. data_of m ≡ record { name = name.now; structs = []; functions = [] }) }
     {
         Ok(LLVMModule {
             alloc,
             name: Text::copy(alloc, name)?,
             types: Interner::new(alloc),
             consts: Interner::new(alloc),
+            structs: StructStore::new(alloc),
             code: CodeStore::new(alloc),
         })
     }
@@ -109,6 +114,24 @@ impl LLVMModule {
     {
         let at = self.consts.get(kind)?;
         Ok(LLVMConst(at))
+    }
+
+    /// A struct with a name; one without fields that are told is opaque. Its name is not asked whether another has it, and its
+    /// fields may name structs that are not there yet.
+    pub fn add_struct(
+        &mut self,
+        name: &str,
+        body: Option<StructFields>,
+    ) -> Result<LLVMStruct, AllocError>
+        requires { IfSome body (AreFieldsIn self.old.types) }
+        ensures number { IfOk result (λ s. s.0 ≡ length self.old.structs) }
+        ensures ok { OnOk result (self.new ≡ record self.old { structs = self.old.structs ++ (record { name = name.now; body = body }) ∷ [] }) }
+        ensures err { OnErr result (self.new ≡ self.old) }
+        ensures data { OnOk result (data_of self.new ≡ lists.with_struct (data_of self.old) (record { name = name.now; body = option_map (fields_of (trees_of self.old).types) body })) }
+        ensures sound { IsModule self.new }
+    {
+        let s = self.structs.add(name, body)?;
+        Ok(s)
     }
 
     /// A function without blocks and without names of parameters: a declaration.
@@ -226,6 +249,31 @@ impl LLVMModule {
         ensures apart { AreApart self.now }
     {
         self.types.len()
+    }
+
+    /// How many structs with a name there are.
+    pub fn structs(&self) -> u32
+        ensures len { result ≡ length self.now.structs }
+        ensures sound { IsModule self.now }
+    {
+        self.structs.len()
+    }
+
+    /// The name of a struct.
+    pub fn struct_name(&self, s: LLVMStruct) -> &str
+        requires { s.0 < length self.now.structs }
+        ensures { option_map (λ x. x.name) (slice_get self.now.structs s.0) ≡ Some result.now }
+    {
+        self.structs.get(s).name.as_str()
+    }
+
+    /// The fields of a struct, none where it is opaque.
+    pub fn struct_body(&self, s: LLVMStruct) -> Option<&StructFields>
+        requires { s.0 < length self.now.structs }
+        ensures body { option_map (λ x. x.body) (slice_get self.now.structs s.0) ≡ Some (option_map (λ b. b.now) result) }
+        ensures within { IfSome result (λ b. AreFieldsIn self.now.types b.now) }
+    {
+        self.structs.get(s).body.as_ref()
     }
 
     /// How many functions there are.
@@ -517,6 +565,7 @@ pub fn shape_of(kind: &LLVMTypeKind) -> Shape
         LLVMTypeKind::Array(_, _) => Shape::Made,
         LLVMTypeKind::Vector(_, _, _) => Shape::Made,
         LLVMTypeKind::Literal { .. } => Shape::Made,
+        LLVMTypeKind::Named(_) => Shape::Named,
         LLVMTypeKind::Function { .. } => Shape::Function,
     }
 }

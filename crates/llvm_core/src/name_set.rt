@@ -1,6 +1,7 @@
 //! Names that are each kept once.
 
-ghost use Rattle.std.specs.Prelude.{◌≡◌, [], IfOk, OnOk};
+ghost use Rattle.std.specs.Prelude.{◌≡◌, [], IfOk, OnOk, position};
+ghost use Rattle.std.specs.Str.{bytes_eq};
 ghost use Rattle.llvm_core.specs.Names.{IsInserted};
 
 use indexmap::IndexSet;
@@ -45,5 +46,12 @@ impl<'a> NameSet<'a> {
     {
         let (_, fresh) = self.names.insert_full(name)?;
         Ok(fresh)
+    }
+
+    /// The place of a name, where it is there.
+    pub fn find(&self, name: &str) -> Option<usize>
+        ensures { result ≡ position (bytes_eq name.now) self.now }
+    {
+        self.names.get_index_of(name)
     }
 }

@@ -1,8 +1,12 @@
-//! Numbers of a module's types, constants, functions, blocks and instructions.
+//! Numbers of a module's types, constants, structs, functions, blocks and instructions.
 
 /// The number of a type in its module.
 #[derive(Clone, Copy, PartialEq, Eq, Hash, Debug, Drop)]
 pub struct LLVMType(pub u32);
+
+/// The number of a struct with a name in its module.
+#[derive(Clone, Copy, PartialEq, Eq, Hash, Debug, Drop)]
+pub struct LLVMStruct(pub u32);
 
 /// The number of a function in its module.
 #[derive(Clone, Copy, PartialEq, Eq, Hash, Debug, Drop)]

@@ -3,6 +3,7 @@
 use crate::numbers::LLVMType;
 use kinds::types::{Floating, OtherType, StructLayout, VectorTypeKind};
 use support::items::Items;
+use support::text::Text;
 
 /// The type of an instruction's result.
 #[derive(Clone, Copy, PartialEq, Eq, Debug, Drop)]
@@ -33,6 +34,8 @@ pub enum LLVMTypeKind {
         fields: Items<LLVMType>,
         layout: StructLayout,
     },
+    /// A struct with a name, whose fields stand in the structs of the module (Language Reference, Structure Type).
+    Named(Text),
     Function {
         result: LLVMType,
         params: Items<LLVMType>,
