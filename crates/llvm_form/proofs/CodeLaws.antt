@@ -36,7 +36,7 @@ use Rattle.llvm_core.proofs.FormValues.{value_typed}
 use Rattle.llvm_core.proofs.FormPlaces.{shown, shown_block, shown_inst, IsFromBlock, inst_from}
 use Rattle.llvm_form.specs.Narrow.{is_good_or_none, is_returned_kind, is_first_class_type, is_first_class_value, is_short_const, is_narrow_const, is_named_right, is_narrow_inst, is_narrow_inst_data, is_narrow_block_data}
 use Rattle.llvm_form.proofs.AllLaws.{each_passes, all_pass, mapped_decided}
-use Rattle.llvm_form.proofs.TypeLaws.{good_or_none, named_right, first_class_decided, returned_decided}
+use Rattle.llvm_form.proofs.TypeLaws.{good_or_none, named_right, deep_shallow, first_class_decided, returned_decided}
 
 -- the operands of an instruction, as data
 operands_shown : (m : Module) (i : LLVMInst) → operands_of (instruction_of (trees_of m) i) ≡ map (operand_of (trees_of m)) (operands i)
@@ -57,7 +57,7 @@ module _ (m : Module) (sound : IsModule m) (f : ℕ) (x : FunctionData) (at : sl
   value_decided v here inside shallow =
       let t = value_typed m f x sound at v here inside in
       let not_deep = ap (λ o. option_map_or (is_deep m) o false) (sym t.type_is) ∙ shallow in
-      Decides-at (is_first_class_value m v) (is_first_class_type m t.type) (ap (λ o. option_map_or (is_first_class_type m) o false) t.type_is) (subst (λ τ. Decides (is_first_class_type m t.type) (IsFirstClass τ)) t.tree_is (first_class_decided m sound t.type t.within not_deep))
+      Decides-at (is_first_class_value m v) (is_first_class_type m t.type) (ap (λ o. option_map_or (is_first_class_type m) o false) t.type_is) (subst (λ τ. Decides (is_first_class_type m t.type) (IsFirstClass τ)) t.tree_is (first_class_decided m sound t.type t.within (deep_shallow m t.type not_deep)))
 
   -- an integer has the width of its tree; of what is no constant nothing is asked
   const_decided : (v : LLVMValue) → IsValue m v → Decides (is_narrow_const m v) (IsNarrowConst (operand_of (trees_of m) v))
@@ -107,7 +107,7 @@ module _ (m : Module) (sound : IsModule m) (f : ℕ) (x : FunctionData) (at : sl
         let inside = operands_inside z.inst (subst (λ g. reaches_outside m g z.inst ≡ false) own none) in
         let named = named_right z.name τ (is_kind is_void m.types z.ty) (void_kept m z.ty sound there.typed) in
         let shallow = or_parts (is_deep m z.ty) (list_any (is_deep_value m) (operands z.inst)) (false_from_ne_true (is_deep_inst m z) (λ deep. checked (TooDeep (P.Inst i)) (z, is, deep))) in
-        let result = returned_decided m sound z.ty there.typed shallow.0 in
+        let result = returned_decided m sound z.ty there.typed (deep_shallow m z.ty shallow.0) in
         let vs = operands z.inst in
         let value = within_at vs (IsValue m) (operands_there z.inst there.values) in
         let valued = mapped_decided (is_first_class_value m) IsFirstClassOperand (operand_of (trees_of m)) vs (λ k v listed. value_decided v (value k v listed) (none_any_at (is_outside m (numbered f)) vs k v inside listed) (none_any_at (is_deep_value m) vs k v shallow.1 listed)) in

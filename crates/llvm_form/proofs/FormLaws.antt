@@ -1,23 +1,28 @@
 -- The test of a module decides whether it is of the form.
-use Rattle.std.proofs.Common.{◌≡◌, ◌<◌, ℕ, Bool, true, false, not, ◌&&◌, List, [], ◌∷◌, Some, length, map, slice_get, refl, sym, ap, subst, ◌∙◌, arith, All}
+use Rattle.std.proofs.Common.{◌≡◌, ◌<◌, ℕ, Bool, true, false, not, ◌&&◌, List, [], ◌∷◌, Option, None, Some, length, map, slice_get, refl, sym, ap, subst, ◌∙◌, arith, All}
 use Rattle.std.specs.Bool.{Decides}
 use Rattle.std.specs.List.{list_all}
-use Rattle.std.specs.Option.{option_map_or}
+use Rattle.std.specs.Prelude.{IfSome}
+use Rattle.std.specs.Option.{option_map, option_map_or}
 use Rattle.std.proofs.lemmas.Bool.{ltb-true, lt-ltb, false_from_ne_true}
 use Rattle.std.proofs.lemmas.Option.{same_Some}
 use Rattle.std.proofs.lemmas.Bool.Decides.{Decides-at, Decides-and, Decides-like, Decides-by_and}
 use Rattle.std.proofs.lemmas.List.Elements.{All-nil, All-cons, All-head, All-tail, All-weaker, All-map}
 use Rattle.support.proofs.ListLaws.{all_from, item_there}
 use Rattle.kinds.specs.Types.{types_list, depth}
-use Rattle.kinds.specs.Held.{too_deep, IsShallow, IsFirstClass, IsReturned}
+use Rattle.kinds.specs.Fitting.{is_first_class}
+use Rattle.kinds.specs.Held.{too_deep, each_throughout, IsShallow, IsFirstClass, IsReturned}
+use Rattle.kinds.specs.Structs.{IsFormStruct}
 use Rattle.kinds.proofs.DepthLaws.{result_shallow, params_shallow}
 use Rattle.llvm_core.specs.declared.numbers.LLVMBasicBlock.{LLVMBasicBlock}
+use Rattle.llvm_core.specs.declared.structs.StructFields.{StructFields}
+use Rattle.llvm_core.specs.declared.structs.StructData.{StructData}
 use Rattle.llvm_core.specs.declared.code.FunctionData.{FunctionData}
 use Rattle.llvm_core.specs.Module.{Module}
 use Rattle.llvm_core.specs.Names.{is_good_name, IsGoodOrNone}
 use Rattle.llvm_core.specs.Parts.{is_kind}
-use Rattle.llvm_core.specs.Sound.{IsModule}
-use Rattle.llvm_core.specs.Data.{TypeTree, TypeTrees, FunctionType, IntConst, PlaceholderConst, Operand, Constant, Parameter, Result, Placed, Block, Function, ModuleData, Instruction, Phi, Applied, type_at, types_at, trees_of, data_of, operand_type}
+use Rattle.llvm_core.specs.Sound.{AreFieldsIn, IsStructIn, IsModule}
+use Rattle.llvm_core.specs.Data.{TypeTree, TypeTrees, FunctionType, IntConst, PlaceholderConst, Operand, Constant, Parameter, Result, Placed, Block, Function, StructBody, ModuleData, Instruction, Phi, Applied, type_at, types_at, trees_of, fields_of, struct_of, data_of, operand_type}
 use Rattle.llvm_core.specs.declared.check_err.Place.TheVariants as P
 use Rattle.llvm_core.specs.declared.check_err.CheckErr.TheVariants.{TooDeep}
 use Rattle.llvm_core.specs.Checked.{IsChecked, is_deep}
@@ -27,11 +32,12 @@ use Rattle.llvm_core.proofs.FormTypes.{signature_of, function_typed}
 use Rattle.llvm_core.proofs.FormPlaces.{shown, block_from}
 use Rattle.llvm_core.proofs.DistinctLaws.{each_function, blocks_once}
 use Rattle.llvm_core.proofs.CheckedForm.{form_of_checked}
-use Rattle.llvm_form.specs.Narrow.{is_good_or_none, is_first_class_type, is_returned_kind, is_narrow_block, is_narrow_block_data, is_narrow_signature, has_body, is_narrow_function_data, is_narrow}
+use Rattle.llvm_form.specs.Narrow.{is_good_or_none, is_first_class_type, is_returned_kind, is_narrow_block, is_narrow_block_data, is_narrow_signature, has_body, is_narrow_function_data, struct_names, is_narrow}
 use Rattle.llvm_form.specs.Once.{HasInstsOnce, AreInstsOnce}
-use Rattle.llvm_form.proofs.AllLaws.{each_passes, all_pass}
-use Rattle.llvm_form.proofs.TypeLaws.{good_or_none, first_class_types, returned_decided}
+use Rattle.llvm_form.proofs.AllLaws.{each_passes, all_pass, all_mapped, mapped_decided}
+use Rattle.llvm_form.proofs.TypeLaws.{good_or_none, deep_shallow, first_class_types, returned_decided}
 use Rattle.llvm_form.proofs.CodeLaws.{block_decided}
+use Rattle.llvm_form.proofs.WholeLaws.{fields_whole}
 
 -- ---- functions
 
@@ -57,7 +63,7 @@ type_by result types false returned params shallow d e = Decides-like (returned 
 
 module _ (m : Module) (sound : IsModule m) (checked : IsChecked m) (f : ℕ) (x : FunctionData) (at : slice_get m.functions f ≡ Some x) where
   type_shallow : IsShallow (shown m f x).type
-  type_shallow = false_from_ne_true (is_deep m x.ty) (λ deep. checked (TooDeep (P.Function f)) (x, at, deep))
+  type_shallow = deep_shallow m x.ty (false_from_ne_true (is_deep m x.ty) (λ deep. checked (TooDeep (P.Function f)) (x, at, deep)))
 
   type_decided : Decides (is_kind (is_narrow_signature m) m.types x.ty) (IsNarrowSignature (shown m f x).type)
   type_decided =
@@ -197,7 +203,23 @@ module _ (f : Function) where
   }
 
 pub narrow_of_form : (d : ModuleData) → IsForm d → IsNarrow d
-narrow_of_form d form = All-weaker IsFormFunction IsNarrowFunction narrow_function d.functions form
+narrow_of_form d form = record { functions = All-weaker IsFormFunction IsNarrowFunction narrow_function d.functions form.functions; structs = form.structs }
+
+-- ---- structs
+
+module _ (m : Module) (sound : IsModule m) where
+  struct_decided : (x : StructData) → IsStructIn m.types x → Decides (is_good_name x.name) (IsFormStruct (struct_of (trees_of m).types x))
+  struct_decided x there = (λ e. record { name = e; fields = by x.body there }, λ h. h.name)
+    where
+      by : (b : Option StructFields) → IfSome b (AreFieldsIn m.types) → option_map_or (λ (b : StructBody). each_throughout is_first_class b.fields) (option_map (fields_of (trees_of m).types) b) true ≡ true
+      by None there = refl
+      by (Some b) there = fields_whole m sound b.types there.within there.fit
+
+  structs_decided : Decides (list_all is_good_name (struct_names m)) (All IsFormStruct (data_of m).structs)
+  structs_decided =
+      let name : StructData → List ℕ = λ x. x.name in
+      Decides-at (list_all is_good_name (struct_names m)) (list_all (λ (x : StructData). is_good_name x.name) m.structs) (all_mapped is_good_name name m.structs)
+      (mapped_decided (λ (x : StructData). is_good_name x.name) IsFormStruct (struct_of (trees_of m).types) m.structs (λ i x at. struct_decided x (within_at m.structs (IsStructIn m.types) sound.structs i x at)))
 
 -- ---- a module
 
@@ -205,12 +227,16 @@ module _ (m : Module) (sound : IsModule m) (checked : IsChecked m) (once : AreIn
   shown_once : (f : ℕ) (x : FunctionData) → slice_get m.functions f ≡ Some x → HasInstsOnce (shown m f x)
   shown_once f x at = within_at (data_of m).functions HasInstsOnce once f (shown m f x) (function_at m f x at)
 
-  narrow_decided : Decides (is_narrow m) (IsNarrow (data_of m))
-  narrow_decided = (
+  functions_decided : Decides (list_all (is_narrow_function_data m) m.functions) (All IsNarrowFunction (data_of m).functions)
+  functions_decided = (
     λ e. each_function m IsNarrowFunction (λ f x at. (function_decided m sound checked f x at (shown_once f x at)).0 (each_passes (is_narrow_function_data m) m.functions f x e at)),
     λ narrow. all_pass (is_narrow_function_data m) m.functions (λ f x at.
         (function_decided m sound checked f x at (shown_once f x at)).1 (within_at (data_of m).functions IsNarrowFunction narrow f (shown m f x) (function_at m f x at))),
   )
+
+  narrow_decided : Decides (is_narrow m) (IsNarrow (data_of m))
+  narrow_decided = Decides-like (is_narrow m) (λ h. record { functions = h.0; structs = h.1 }) (λ (n : IsNarrow (data_of m)). (n.functions, n.structs))
+      (Decides-and (list_all (is_narrow_function_data m) m.functions) (list_all is_good_name (struct_names m)) functions_decided (structs_decided m sound))
 
   -- the test says whether the module is of the form
   pub form_decided : Decides (is_narrow m) (IsForm (data_of m))

@@ -3,4 +3,5 @@ pub mod AllLaws
 pub mod FewLaws
 pub mod TypeLaws
 pub mod CodeLaws
+pub mod WholeLaws
 pub mod FormLaws

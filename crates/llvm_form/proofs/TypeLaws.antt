@@ -2,21 +2,23 @@
 use Rattle.std.proofs.Common.{◌≡◌, ◌<◌, ℕ, Bool, true, false, not, ◌&&◌, ◌||◌, List, [], ◌∷◌, length, refl, sym, All}
 use Rattle.std.specs.Bool.{Decides}
 use Rattle.std.specs.List.{list_all}
-use Rattle.std.proofs.lemmas.Bool.{and_from, and_parts}
+use Rattle.std.proofs.lemmas.Bool.{and_from, and_parts, not-false}
 use Rattle.std.proofs.lemmas.Bool.Decides.{Decides-at, Decides-and, Decides-like}
 use Rattle.std.proofs.lemmas.List.Elements.{All-nil, All-cons, All-head, All-tail}
 use Rattle.kinds.specs.Types.{shape, types_list}
 use Rattle.kinds.specs.Fitting.{is_nothing, is_first_class}
-use Rattle.kinds.specs.Held.{IsShallow, IsFirstClass, IsReturned}
+use Rattle.kinds.specs.Held.{deepest, IsShallow, IsFirstClass, IsReturned}
 use Rattle.kinds.specs.Held.{is_void as void_tree}
 use Rattle.kinds.proofs.HeldLaws.{void_is, void_if, first_class_throughout, returned_own}
+use Rattle.kinds.specs.Structs.{nests}
+use Rattle.kinds.proofs.NestLaws.{nested_shallow}
 use Rattle.kinds.proofs.PartLaws.{throughout_shape}
 use Rattle.llvm_core.specs.declared.numbers.LLVMType.{LLVMType}
 use Rattle.llvm_core.specs.Module.{Module}
 use Rattle.llvm_core.specs.Names.{is_good_name, IsGoodOrNone}
 use Rattle.llvm_core.specs.Parts.{is_kind}
 use Rattle.llvm_core.specs.Sound.{IsModule}
-use Rattle.llvm_core.specs.Data.{TypeTree, VoidType, type_at, types_at, trees_of}
+use Rattle.llvm_core.specs.Data.{TypeTree, VoidType, type_at, types_at, trees_of, structs_of}
 use Rattle.llvm_core.specs.Checked.{is_deep}
 use Rattle.llvm_core.proofs.FormTypes.{kind_kept}
 use Rattle.llvm_core.proofs.WholeTypes.{first_class_at, returned_at}
@@ -43,14 +45,20 @@ returned_shape t h = by (void_tree t) refl
     by true is = cc
     by false is = let own = throughout_shape is_first_class refl t (first_class_throughout t (returned_own t h is)) in cc
 
+-- what nests no deeper than is allowed through the fields of structs is shallow
+pub deep_shallow : (m : Module) (t : LLVMType) → is_deep m t ≡ false → IsShallow (type_at (trees_of m).types t)
+deep_shallow m t shallow =
+    let τ = type_at (trees_of m).types t in
+    nested_shallow (structs_of m) τ (not-false (nests (structs_of m) deepest τ) shallow)
+
 module _ (m : Module) (sound : IsModule m) where
-  pub first_class_decided : (t : LLVMType) → t.0 < length m.types → is_deep m t ≡ false → Decides (is_first_class_type m t) (IsFirstClass (type_at (trees_of m).types t))
+  pub first_class_decided : (t : LLVMType) → t.0 < length m.types → IsShallow (type_at (trees_of m).types t) → Decides (is_first_class_type m t) (IsFirstClass (type_at (trees_of m).types t))
   first_class_decided t within shallow =
       let τ = type_at (trees_of m).types t in
       Decides-at (is_first_class_type m t) (is_first_class (shape τ)) (kind_kept m is_first_class t sound within)
       (λ e. first_class_at m sound t within shallow e, λ h. throughout_shape is_first_class refl τ (first_class_throughout τ h))
 
-  pub returned_decided : (t : LLVMType) → t.0 < length m.types → is_deep m t ≡ false → Decides (is_kind is_returned_kind m.types t) (IsReturned (type_at (trees_of m).types t))
+  pub returned_decided : (t : LLVMType) → t.0 < length m.types → IsShallow (type_at (trees_of m).types t) → Decides (is_kind is_returned_kind m.types t) (IsReturned (type_at (trees_of m).types t))
   returned_decided t within shallow =
       let τ = type_at (trees_of m).types t in
       let s = shape τ in

@@ -1,19 +1,20 @@
-//! Whether functions, blocks and instructions are narrow.
+//! Whether functions, blocks, instructions and structs are narrow.
 
 ghost use Rattle.std.specs.Prelude.{◌≡◌, ◌<◌, ◌^◌, All, Some, length, map, slice_get};
 ghost use Rattle.std.specs.List.{list_all};
 ghost use Rattle.std.specs.Option.{option_map};
 ghost use Rattle.llvm_core.specs.Checked.{IsChecked};
 ghost use Rattle.llvm_core.specs.Code.{param_names};
+ghost use Rattle.llvm_core.specs.Names.{is_good_name};
 ghost use Rattle.llvm_core.specs.Parts.{IsConstOver, IsValue, HasValues, is_kind, operands};
-ghost use Rattle.llvm_form.specs.Narrow.{is_good_or_none, is_first_class_type, is_returned_kind, is_first_class_value, is_short_const, is_narrow_const, is_named_right, is_narrow_inst, is_narrow_block, is_narrow_signature, is_narrow_function, is_narrow};
+ghost use Rattle.llvm_form.specs.Narrow.{is_good_or_none, is_first_class_type, is_returned_kind, is_first_class_value, is_short_const, is_narrow_const, is_named_right, is_narrow_inst, is_narrow_block, is_narrow_signature, is_narrow_function, is_narrow_function_data, struct_names, is_narrow};
 
 use crate::narrow::{is_first_class_kind, is_good_or_none, is_returned_kind, is_void};
 use kinds::names::is_good_name;
 use llvm_core::code::{LLVMInst, LLVMValue, PhiEntry};
 use llvm_core::consts::LLVMConstKind;
 use llvm_core::module::LLVMModule;
-use llvm_core::numbers::{LLVMBasicBlock, LLVMFunction, LLVMInstRef, LLVMType};
+use llvm_core::numbers::{LLVMBasicBlock, LLVMFunction, LLVMInstRef, LLVMStruct, LLVMType};
 use llvm_core::types::LLVMTypeKind;
 
 /// The greatest width of a constant that is translated.
@@ -246,9 +247,9 @@ fn is_narrow_function(m: &LLVMModule, f: LLVMFunction) -> bool
 }
 
 /// Whether all functions are narrow.
-pub fn is_narrow(m: &LLVMModule) -> bool
+fn are_narrow_functions(m: &LLVMModule) -> bool
     requires { IsChecked m.now }
-    ensures { result ≡ is_narrow m.now }
+    ensures { result ≡ list_all (is_narrow_function_data m.now) m.now.functions }
 {
     for f in 0..m.functions() {
         if !is_narrow_function(m, LLVMFunction(f)) {
@@ -256,4 +257,26 @@ pub fn is_narrow(m: &LLVMModule) -> bool
         }
     }
     true
+}
+
+// ---- structs
+
+/// Whether the names of all structs are good.
+fn are_good_structs(m: &LLVMModule) -> bool
+    ensures { result ≡ list_all is_good_name (struct_names m.now) }
+{
+    for s in 0..m.structs() {
+        if !is_good_name(m.struct_name(LLVMStruct(s))) {
+            return false;
+        }
+    }
+    true
+}
+
+/// Whether all functions and the names of all structs are narrow.
+pub fn is_narrow(m: &LLVMModule) -> bool
+    requires { IsChecked m.now }
+    ensures { result ≡ is_narrow m.now }
+{
+    are_narrow_functions(m) && are_good_structs(m)
 }

@@ -1,11 +1,11 @@
--- The goals of `functions::is_narrow` that the tactics leave.
+-- The goals of `functions::are_narrow_functions` that the tactics leave.
 use Rattle.std.proofs.Common.{false, sym, ◌∙◌, ap, arith}
 use Rattle.std.specs.Option.{option_map_or}
 use Rattle.support.proofs.ListLaws.{item_there}
 use Rattle.llvm_form.specs.Narrow.{is_narrow_function_data}
 use Rattle.llvm_form.proofs.AllLaws.{one_fails, one_more}
 use Rattle.llvm_form.proofs.FewLaws.{few_params}
-use Rattle.llvm_form.proofs.functions.is_narrow.Goals as goal
+use Rattle.llvm_form.proofs.functions.are_narrow_functions.Goals as goal
 
 pub is_narrow_function-requires-clause-few : goal.is_narrow_function-requires-clause-few
 is_narrow_function-requires-clause-few c = few_params c.args.m.now (record { 0 = c.loop-f.f }) c.requires (let len = c.functions-f-end.ensures.len in omega (arith, len, c.loop-f-test.true))
