@@ -1,16 +1,18 @@
--- A file goes into a module without functions.
+-- A file goes into a module without structs and functions.
 use Rattle.std.proofs.Common.{◌≡◌, ◌++◌, ℕ, List, [], ◌∷◌, Option, Some, None, length, slice_get, map, refl, ap, sym, ◌∙◌, arith}
 use Rattle.std.specs.Option.{option_map}
 use Rattle.llvm_core.specs.Module.{Module}
 use Rattle.llvm_core.specs.Sound.{IsModule}
 use Rattle.llvm_core.specs.Data as D
-use Rattle.llvm_core.specs.Data.{data_of, trees_of}
+use Rattle.llvm_core.specs.Data.{Struct, data_of, trees_of}
+use Rattle.ll_lines.specs.declared.lines.StructLine.{StructLine}
 use Rattle.ll_lines.specs.declared.lines.Function.{Function}
 use Rattle.ll_lines.specs.declared.lines.File.{File}
-use Rattle.ll_lines.specs.Views.{function_view, file_view, text_of}
+use Rattle.ll_lines.specs.Views.{struct_view, function_view, file_view, text_of}
 use Rattle.ll_literals.specs.Chain.{◌>>=◌}
-use Rattle.ll_bodies.specs.Meaning.{functions_data, source_name, file_data}
+use Rattle.ll_bodies.specs.Meaning.{all_of, struct_data, functions_data, source_name, file_data}
 use Rattle.ll_bodies.specs.AddingViews.{AddsFunctions}
+use Rattle.ll_bodies.specs.StructViews.{AddsStructs}
 use Rattle.ll_bodies.proofs.JoinLaws.{function_total}
 
 none_there : {X : Type 0} (xs : List X) → ((i : ℕ) (x : X) → slice_get xs i ≡ Some x → ⊥) → length xs ≡ 0
@@ -35,32 +37,58 @@ module _ (m : Module) (s : IsModule m) (empty : (data_of m).functions ≡ []) wh
       ∙ ap (λ (k : ℕ). functions_data (length m.functions) k 0 (map (function_view bytes (trees_of m)) xs)) (sym no_blocks)
       ∙ ap (λ (k : ℕ). functions_data (length m.functions) (length m.blocks) k (map (function_view bytes (trees_of m)) xs)) (sym no_insts)
 
--- ---- a module that got the name of the file
+-- ---- a module that got the name and the structs of the file
 
-module _ (bytes : List ℕ) (said : File) (m n : Module) (name : List ℕ) (xs : List Function) (is : n ≡ record m { name = name }) (items : xs ≡ said.functions.items) where
-  abbrev meant : List Function → Option (List D.Function)
-  meant ys = functions_data (length n.functions) (length n.blocks) (length n.insts) (map (function_view bytes (trees_of n)) ys)
+-- m before, n with the name, k with the structs
+module _ (bytes : List ℕ) (said : File) (m n k : Module) (name : List ℕ) (ss : List StructLine) (xs : List Function) (is : n ≡ record m { name = name }) (same_structs : ss ≡ said.structs.items) (same_functions : xs ≡ said.functions.items) where
+  abbrev meant_structs : Option (List Struct)
+  meant_structs = all_of struct_data (map (struct_view bytes (trees_of n)) ss)
 
-  functions_are : IsModule n → (data_of n).functions ≡ [] → functions_data 0 0 0 (map (function_view bytes (trees_of m)) said.functions.items) ≡ meant xs
-  functions_are s empty =
-      ap (λ (k : Module). functions_data 0 0 0 (map (function_view bytes (trees_of k)) said.functions.items)) (sym is)
-      ∙ from_none n s empty said.functions.items bytes ∙ ap meant (sym items)
+  abbrev meant : Option (List D.Function)
+  meant = functions_data (length k.functions) (length k.blocks) (length k.insts) (map (function_view bytes (trees_of k)) xs)
 
-  module _ (given : data_of n ≡ record (data_of m) { name = name }) (s : IsModule n) (empty : (data_of m).functions ≡ []) (called : source_name (option_map (text_of bytes) said.source) ≡ Some name) where
-    still : (data_of n).functions ≡ []
-    still = ap (λ (d : D.ModuleData). d.functions) given ∙ empty
+  structs_are : all_of struct_data (map (struct_view bytes (trees_of m)) said.structs.items) ≡ meant_structs
+  structs_are =
+      ap (λ (z : Module). all_of struct_data (map (struct_view bytes (trees_of z)) said.structs.items)) (sym is)
+      ∙ ap (λ (ys : List StructLine). all_of struct_data (map (struct_view bytes (trees_of n)) ys)) (sym same_structs)
 
-    file_is : file_data (file_view bytes (trees_of m) said) ≡ (meant xs >>= λ fs. Some (record { name = name; functions = fs }))
+  functions_are : k ≡ record n { structs = k.structs } → IsModule k → (data_of k).functions ≡ [] → functions_data 0 0 0 (map (function_view bytes (trees_of m)) said.functions.items) ≡ meant
+  functions_are rest s empty =
+      ap (λ (z : Module). functions_data 0 0 0 (map (function_view bytes (trees_of z)) said.functions.items)) (sym (rest ∙ ap (λ (z : Module). record z { structs = k.structs }) is))
+      ∙ from_none k s empty said.functions.items bytes
+      ∙ ap (λ (ys : List Function). functions_data (length k.functions) (length k.blocks) (length k.insts) (map (function_view bytes (trees_of k)) ys)) (sym same_functions)
+
+  module _ (called : source_name (option_map (text_of bytes) said.source) ≡ Some name) where
+    file_is : file_data (file_view bytes (trees_of m) said) ≡ (meant_structs >>= λ us. functions_data 0 0 0 (map (function_view bytes (trees_of m)) said.functions.items) >>= λ fs. Some (record { name = name; structs = us; functions = fs }))
     file_is =
-        ap (λ o. o >>= λ nm. functions_data 0 0 0 (map (function_view bytes (trees_of m)) said.functions.items) >>= λ fs. Some (record { name = nm; functions = fs })) called
-        ∙ ap (λ o. o >>= λ fs. Some (record { name = name; functions = fs })) (functions_are s still)
+        ap (λ o. o >>= λ nm. all_of struct_data (map (struct_view bytes (trees_of m)) said.structs.items) >>= λ us. functions_data 0 0 0 (map (function_view bytes (trees_of m)) said.functions.items) >>= λ fs. Some (record { name = nm; structs = us; functions = fs })) called
+        ∙ ap (λ o. o >>= λ us. functions_data 0 0 0 (map (function_view bytes (trees_of m)) said.functions.items) >>= λ fs. Some (record { name = name; structs = us; functions = fs })) structs_are
 
-    -- the functions of the file are all that it has
-    pub file_made : (new : Module) → AddsFunctions bytes xs n new → file_data (file_view bytes (trees_of m) said) ≡ Some (data_of new)
-    file_made new a =
-        let d : data_of new ≡ record { name = name; functions = a.made }
-        = a.given ∙ ap (λ (fs : List D.Function). record (data_of n) { functions = fs ++ a.made }) still ∙ ap (λ (z : D.ModuleData). record z { functions = a.made }) given in
-        file_is ∙ ap (λ o. o >>= λ fs. Some (record { name = name; functions = fs })) a.is ∙ ap (λ (z : D.ModuleData). Some z) (sym d)
+    -- no structs, no file
+    pub structs_unmade : meant_structs ≡ None → file_data (file_view bytes (trees_of m) said) ≡ None
+    structs_unmade h = file_is ∙ ap (λ o. o >>= λ us. functions_data 0 0 0 (map (function_view bytes (trees_of m)) said.functions.items) >>= λ fs. Some (record { name = name; structs = us; functions = fs })) h
 
-    pub file_unmade : meant xs ≡ None → file_data (file_view bytes (trees_of m) said) ≡ None
-    file_unmade h = file_is ∙ ap (λ o. o >>= λ fs. Some (record { name = name; functions = fs })) h
+    module _ (given : data_of n ≡ record (data_of m) { name = name }) (empty : ((data_of m).structs ≡ []) × ((data_of m).functions ≡ [])) (a : AddsStructs bytes ss n k) where
+      still : data_of k ≡ record { name = name; structs = a.made; functions = [] }
+      still =
+          a.given ∙ ap (λ (z : D.ModuleData). record z { structs = z.structs ++ a.made }) given
+          ∙ ap (λ (us : List Struct). record (data_of m) { name = name; structs = us ++ a.made }) empty.0
+          ∙ ap (λ (fs : List D.Function). record { name = name; structs = a.made; functions = fs }) empty.1
+
+      made_by : functions_data 0 0 0 (map (function_view bytes (trees_of m)) said.functions.items) ≡ meant
+      made_by = functions_are a.rest a.sound (ap (λ (z : D.ModuleData). z.functions) still)
+
+      with_structs : file_data (file_view bytes (trees_of m) said) ≡ (meant >>= λ fs. Some (record { name = name; structs = a.made; functions = fs }))
+      with_structs =
+          file_is
+          ∙ ap (λ o. o >>= λ us. functions_data 0 0 0 (map (function_view bytes (trees_of m)) said.functions.items) >>= λ fs. Some (record { name = name; structs = us; functions = fs })) a.is
+          ∙ ap (λ o. o >>= λ fs. Some (record { name = name; structs = a.made; functions = fs })) made_by
+
+      -- the structs and the functions of the file are all that it has
+      pub file_made : (new : Module) → AddsFunctions bytes xs k new → file_data (file_view bytes (trees_of m) said) ≡ Some (data_of new)
+      file_made new b =
+          let d : data_of new ≡ record { name = name; structs = a.made; functions = b.made } = b.given ∙ ap (λ (z : D.ModuleData). record z { functions = z.functions ++ b.made }) still in
+          with_structs ∙ ap (λ o. o >>= λ fs. Some (record { name = name; structs = a.made; functions = fs })) b.is ∙ ap (λ (z : D.ModuleData). Some z) (sym d)
+
+      pub file_unmade : meant ≡ None → file_data (file_view bytes (trees_of m) said) ≡ None
+      file_unmade h = with_structs ∙ ap (λ o. o >>= λ fs. Some (record { name = name; structs = a.made; functions = fs })) h

@@ -6,6 +6,7 @@ use Rattle.ll_lines.specs.declared.lines.Param as code_param
 use Rattle.ll_lines.specs.declared.lines.Function as code_function
 use Rattle.ll_lines.specs.Views.{IsTypeIn, part_view}
 use Rattle.ll_literals.specs.Chain.{◌>>=◌}
+use Rattle.ll_literals.specs.Names.{symbol_name}
 use Rattle.ll_bodies.specs.declared.blocks.SaidBlock as code_block
 use Rattle.ll_bodies.specs.declared.results.Source.{Source}
 use Rattle.ll_bodies.specs.declared.scope.Local.{Local}
@@ -120,18 +121,18 @@ bind_none B None = refl
 bind_none B (Some x) = refl
 
 module _ (source : Source) (f b n : ℕ) (x : code_function.Function) where
-  function_is : function_data f b n (function_in source x) ≡ (spec.global_name (function_in source x).name >>= λ name. function_body source f b n x >>= λ blocks. Some (function_made source f x name blocks))
-  function_is = bind_same (spec.global_name (function_in source x).name) _ _ (λ name.
+  function_is : function_data f b n (function_in source x) ≡ (symbol_name (function_in source x).name >>= λ name. function_body source f b n x >>= λ blocks. Some (function_made source f x name blocks))
+  function_is = bind_same (symbol_name (function_in source x).name) _ _ (λ name.
       chained (blocks_of (function_in source x).body) (params_scope spec.empty_scope f 0 (function_in source x).params) (λ said s. blocks_scope s b n said) (λ said t. blocks_data t b n said) (λ blocks. Some (function_made source f x name blocks)))
 
-  pub data_made : (blocks : List Block) → function_body source f b n x ≡ Some blocks → function_data f b n (function_in source x) ≡ option_map (λ name. function_made source f x name blocks) (spec.global_name (function_in source x).name)
+  pub data_made : (blocks : List Block) → function_body source f b n x ≡ Some blocks → function_data f b n (function_in source x) ≡ option_map (λ name. function_made source f x name blocks) (symbol_name (function_in source x).name)
   data_made blocks h =
       function_is
-      ∙ bind_same (spec.global_name (function_in source x).name) _ _ (λ name. ap (λ o. o >>= λ blocks. Some (function_made source f x name blocks)) h)
-      ∙ bind_some (spec.global_name (function_in source x).name) (λ name. function_made source f x name blocks)
+      ∙ bind_same (symbol_name (function_in source x).name) _ _ (λ name. ap (λ o. o >>= λ blocks. Some (function_made source f x name blocks)) h)
+      ∙ bind_some (symbol_name (function_in source x).name) (λ name. function_made source f x name blocks)
 
   pub data_unmade : function_body source f b n x ≡ None → function_data f b n (function_in source x) ≡ None
   data_unmade h =
       function_is
-      ∙ bind_same (spec.global_name (function_in source x).name) _ _ (λ name. ap (λ o. o >>= λ blocks. Some (function_made source f x name blocks)) h)
-      ∙ bind_none L.Function (spec.global_name (function_in source x).name)
+      ∙ bind_same (symbol_name (function_in source x).name) _ _ (λ name. ap (λ o. o >>= λ blocks. Some (function_made source f x name blocks)) h)
+      ∙ bind_none L.Function (symbol_name (function_in source x).name)

@@ -13,7 +13,7 @@ use Rattle.llvm_core.proofs.BodyTypes.{all_insts}
 use Rattle.ll_lines.specs.declared.lines.Function.{Function}
 use Rattle.ll_lines.specs.Lines as L
 use Rattle.ll_lines.specs.Views.{function_view, text_of, IsFunctionIn}
-use Rattle.ll_bodies.specs.Scopes.{global_name}
+use Rattle.ll_literals.specs.Names.{symbol_name}
 use Rattle.ll_bodies.specs.Meaning.{function_data, count_insts}
 use Rattle.ll_bodies.specs.AddingViews.{AddsTypes, GivesBody, Keeps, AddsFunction, function_with}
 use Rattle.ll_bodies.proofs.AddingLaws.{function_added}
@@ -55,7 +55,7 @@ module _ (m a : Module) (g : AddsTypes m a) where
       ∙ ap (λ (k : Module). function_data (length k.functions) (length k.blocks) (length k.insts) (function_view bytes (trees_of m) x)) g.rest
 
 pub joined : (bytes : List ℕ) (f : ℕ) (name : List ℕ) (x : Function) (m a d n : Module) → IsModule m → IsFunctionIn m x → AddsTypes m a → f ≡ length a.functions → d ≡ record a { functions = d.functions }
-    → global_name (text_of bytes x.name) ≡ Some name → data_of d ≡ D.with_function (data_of a) (function_with bytes (trees_of a) (length a.functions) name x [])
+    → symbol_name (text_of bytes x.name) ≡ Some name → data_of d ≡ D.with_function (data_of a) (function_with bytes (trees_of a) (length a.functions) name x [])
     → GivesBody bytes f x d n → IsModule n → AddsFunction bytes x m n
 joined bytes f name x m a d n s h g number rest called made b sound =
     let p = function_added bytes f name x a d n number rest called made b in

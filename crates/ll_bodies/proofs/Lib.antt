@@ -19,5 +19,6 @@ pub mod AddingLaws
 pub mod ViewLaws
 pub mod JoinLaws
 pub mod FoldLaws
+pub mod StructLaws
 pub mod FileLaws
 pub mod SettledLaws

@@ -1,34 +1,18 @@
 -- What is written of a name, and the key that it says.
-use Rattle.std.proofs.Common.{arith, ◌≡◌, ◌<◌, ℕ, Bool, true, false, not, ◌&&◌, ◌==◌, nat_le, [], ◌∷◌, length, Option, Some, None, refl, ap, sym, ◌∙◌}
+use Rattle.std.proofs.Common.{arith, ◌≡◌, ◌<◌, ℕ, Bool, true, false, not, ◌==◌, nat_le, [], ◌∷◌, length, Option, Some, None, refl, ap, sym, ◌∙◌}
 use Rattle.std.specs.List.{list_all}
 use Rattle.std.specs.Option.{option_map}
 use Rattle.std.proofs.lemmas.Bool.{and_parts}
 use Rattle.std.proofs.lemmas.Bool.Decides.{nat_tests}
 use Rattle.llvm_core.specs.Names.{is_digit}
 use Rattle.ll_literals.specs.Text.{Text}
-use Rattle.ll_literals.specs.Names.{is_bare, is_name_byte, quoted_name}
+use Rattle.ll_literals.specs.Names.{is_bare, quoted_name}
 use Rattle.ll_literals.specs.Numbers.{number_of, value_after, up_to, is_digits}
+use Rattle.ll_literals.proofs.SymbolLaws.{bare_no_digits}
 use Rattle.ll_bodies.specs.Scopes.{Named, Numbered, key_of, key_name}
 use Rattle.ll_bodies.specs.ScopeViews.{IsNotPlain}
 
 -- ---- bare names
-
-not_true : (a : Bool) → not a ≡ true → a ≡ false
-not_true true h = absurd cc
-not_true false h = refl
-
-and_false : (a : Bool) → (a && false) ≡ false
-and_false true = refl
-and_false false = refl
-
--- a bare name begins with no digit
-pub bare_no_digits : (t : Text) → is_bare t ≡ true → is_digits t ≡ false
-bare_no_digits [] h = refl
-bare_no_digits (b ∷ bs) h =
-    let both = and_parts (is_name_byte b && not (is_digit b)) (list_all is_name_byte bs) h in
-    let first = and_parts (is_name_byte b) (not (is_digit b)) both.0 in
-    let digit : is_digit b ≡ false = not_true (is_digit b) first.1 in
-    rw digit (and_false (not (length (b ∷ bs) == 0)))
 
 -- a bare name is the key of itself
 pub bare_key : (t n : Text) → n ≡ t → is_bare t ≡ true → key_of t ≡ Some (Named n)

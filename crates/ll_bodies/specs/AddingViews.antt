@@ -16,7 +16,7 @@ use Rattle.ll_lines.specs.Lines as said
 use Rattle.ll_lines.specs.Lines.{Text}
 use Rattle.ll_lines.specs.Views.{text_of, function_view}
 use Rattle.ll_bodies.specs.Meaning.{types_of, function_data, functions_data, count_insts}
-use Rattle.ll_bodies.specs.Scopes.{global_name}
+use Rattle.ll_literals.specs.Names.{symbol_name}
 use Rattle.llvm_core.specs.Bodies.{with_blocks}
 use Rattle.llvm_core.specs.Data.{trees_of}
 use Rattle.ll_bodies.specs.Scopes.{local_key, written_name}
@@ -57,7 +57,7 @@ function_with bytes t f name x blocks = record {
 -- the function f gets the blocks that are said of it
 pub record GivesBody (bytes : List ℕ) (f : ℕ) (x : code.Function) (old new : Module) : Type 0 where
   pub blocks : List Block
-  pub is : function_data f (length old.blocks) (length old.insts) (function_view bytes (trees_of old) x) ≡ option_map (λ name. function_with bytes (trees_of old) f name x blocks) (global_name (text_of bytes x.name))
+  pub is : function_data f (length old.blocks) (length old.insts) (function_view bytes (trees_of old) x) ≡ option_map (λ name. function_with bytes (trees_of old) f name x blocks) (symbol_name (text_of bytes x.name))
   pub given : data_of new ≡ with_blocks (data_of old) f blocks
   pub types : new.types ≡ old.types
   pub consts : new.consts ≡ old.consts

@@ -4,6 +4,7 @@ pub mod Meaning
 pub mod BlockViews
 pub mod ScopeViews
 pub mod SourceViews
+pub mod StructViews
 pub mod BodyViews
 pub mod TypedViews
 pub mod FunctionViews

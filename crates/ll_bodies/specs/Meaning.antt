@@ -6,11 +6,11 @@ use Rattle.kinds.specs.Table.{rule_of}
 use Rattle.kinds.specs.Types.{TypeTree, VoidType, FunctionType, TypeTrees, NoTypes, ThenType, same_tree}
 use Rattle.kinds.specs.Typing.{fits_trees, typed}
 use Rattle.llvm_core.specs.Data as L
-use Rattle.llvm_core.specs.Data.{Operand, Placed, Block, ModuleData, const_type}
+use Rattle.llvm_core.specs.Data.{Operand, Placed, Block, Struct, ModuleData, const_type}
 use Rattle.ll_literals.specs.Chain.{◌>>=◌}
-use Rattle.ll_literals.specs.Names.{text_said}
-use Rattle.ll_lines.specs.Lines.{Text, Said, Local, Const, Typed, Incoming, Inst, Phi, Row, Line, Part, Label, Does, Param, Function, File}
-use Rattle.ll_bodies.specs.Scopes.{Scope, ValueLocal, BlockLocal, empty_scope, local_key, label_key, global_name, define_written, written_name, local_of, value_of_type, block_of}
+use Rattle.ll_literals.specs.Names.{symbol_name, text_said}
+use Rattle.ll_lines.specs.Lines.{Text, Said, Local, Const, Typed, Incoming, Inst, Phi, Row, Line, Part, Label, Does, Param, Function, StructLine, File}
+use Rattle.ll_bodies.specs.Scopes.{Scope, ValueLocal, BlockLocal, empty_scope, local_key, label_key, define_written, written_name, local_of, value_of_type, block_of}
 
 -- ---- a list of things, each of which may mean nothing
 
@@ -131,7 +131,7 @@ types_of (p ∷ ps) = ThenType p.type (types_of ps)
 -- the function of the number f, with blocks from b on and instructions from n on
 abbrev pub function_data : (f b n : ℕ) → Function → Option L.Function
 function_data f b n x = do
-  name ← global_name x.name
+  name ← symbol_name x.name
   said ← blocks_of x.body
   s ← params_scope empty_scope f 0 x.params
   t ← blocks_scope s b n said
@@ -165,9 +165,14 @@ abbrev pub source_name : Option Text → Option Text
 source_name None = Some []
 source_name (Some t) = text_said t
 
+-- a struct under its name, which may not be the only one of that name: that is for the check
+abbrev pub struct_data : StructLine → Option Struct
+struct_data x = symbol_name x.name >>= λ name. Some (record { name = name; body = x.body })
+
 -- the data that a text says: its functions, blocks and instructions are each numbered from 0 in order
 abbrev pub file_data : File → Option ModuleData
 file_data m = do
   name ← source_name m.source
+  structs ← all_of struct_data m.structs
   functions ← functions_data 0 0 0 m.functions
-  Some (record { name = name; functions = functions })
+  Some (record { name = name; structs = structs; functions = functions })

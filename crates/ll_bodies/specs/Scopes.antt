@@ -6,7 +6,7 @@ use Rattle.kinds.specs.Types.{TypeTree, same_tree}
 use Rattle.llvm_core.specs.Data.{Operand}
 use Rattle.ll_literals.specs.Chain.{◌>>=◌}
 use Rattle.ll_literals.specs.Numbers.{number_of, number_limit, is_digits}
-use Rattle.ll_literals.specs.Names.{if_text, name_said}
+use Rattle.ll_literals.specs.Names.{name_said}
 use Rattle.ll_lines.specs.Lines.{Text}
 
 -- ---- keys
@@ -33,10 +33,6 @@ local_key t = key_of (drop 1 t)
 -- of a label, which ends in a colon
 abbrev pub label_key : Text → Option Key
 label_key t = key_of (take (length t - 1) t)
-
--- of a function, by its token @ and a name, or digits, which are then its name
-abbrev pub global_name : Text → Option Text
-global_name t = if is_digits (drop 1 t) then if_text (drop 1 t) else name_said (drop 1 t)
 
 -- what is written, where it is, as a key
 abbrev pub optional_key : (Text → Option Key) → Option Text → Option (Option Key)

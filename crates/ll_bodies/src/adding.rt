@@ -1,4 +1,4 @@
-//! Functions of lines are added to a module.
+//! Functions of lines are added to a module, and files.
 
 ghost use Rattle.std.specs.Prelude.{◌≡◌, false, None, Some, Err, IfOk, OnOk, [], map, length, slice_get, All};
 ghost use Rattle.std.specs.Prelude.{◌≤◌};
@@ -15,9 +15,11 @@ ghost use Rattle.ll_bodies.specs.FunctionViews.{IsNext};
 use crate::build_err::BuildErr;
 use crate::definitions::next_number;
 use crate::functions::body_of;
-use crate::names::{global_name, local_name, source_name};
+use crate::names::{local_name, source_name};
 use crate::results::Source;
+use crate::structs::add_structs;
 use ll_lines::lines::{File, Function, Param};
+use ll_literals::symbols::symbol_name;
 use llvm_core::module::LLVMModule;
 use llvm_core::numbers::{LLVMFunction, LLVMType};
 use llvm_core::types::LLVMTypeKind;
@@ -179,7 +181,7 @@ fn add_function(
     ensures ok { OnOk result (AddsFunction bytes.now said.now module.old module.new) }
     ensures not_yet { result ≡ Err BuildErr.NotYet → function_data (length module.old.functions) (length module.old.blocks) (length module.old.insts) (function_view bytes.now (trees_of module.old) said.now) ≡ None }
 {
-    let written = global_name(alloc, said.name.text(bytes))?;
+    let written = symbol_name(alloc, said.name.text(bytes))?;
     let Some(name) = written else {
         return Err(BuildErr::NotYet);
     };
@@ -207,7 +209,7 @@ fn add_functions(
     Ok(())
 }
 
-/// Gives a module without functions the name and the functions of a file of lines.
+/// Gives a module without structs and functions the name, the structs and the functions of a file of lines.
 pub fn add_file(
     alloc: Global,
     module: &mut LLVMModule,
@@ -215,7 +217,7 @@ pub fn add_file(
     said: &File,
 ) -> Result<(), BuildErr>
     requires said { IsFileIn module.old said.now }
-    requires empty { (data_of module.old).functions ≡ [] }
+    requires empty { ((data_of module.old).structs ≡ []) × ((data_of module.old).functions ≡ []) }
     ensures data { OnOk result (file_data (file_view bytes.now (trees_of module.old) said.now) ≡ Some (data_of module.new)) }
     ensures not_yet { result ≡ Err BuildErr.NotYet → file_data (file_view bytes.now (trees_of module.old) said.now) ≡ None }
     ensures sound { OnOk result (IsModule module.new) }
@@ -225,5 +227,6 @@ pub fn add_file(
         return Err(BuildErr::NotYet);
     };
     module.set_name(name.as_str())?;
+    add_structs(alloc, module, bytes, said.structs.as_slice())?;
     add_functions(alloc, module, bytes, said.functions.as_slice())
 }

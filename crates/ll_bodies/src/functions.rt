@@ -7,7 +7,8 @@ ghost use Rattle.ll_bodies.specs.ScopeViews.{Knows, local_at};
 ghost use Rattle.ll_bodies.specs.SourceViews.{IsSource, IsScopeIn, HasLinesIn, types_in, source_trees};
 ghost use Rattle.llvm_core.specs.Bodies.{blocks_from, IsBodyOf};
 ghost use Rattle.ll_bodies.specs.FunctionViews.{function_in, function_scope, function_made, IsNamed, IsNext};
-ghost use Rattle.ll_bodies.specs.Scopes.{Key, global_name};
+ghost use Rattle.ll_bodies.specs.Scopes.{Key};
+ghost use Rattle.ll_literals.specs.Names.{symbol_name};
 ghost use Rattle.ll_bodies.specs.Meaning.{function_data};
 ghost use Rattle.std.specs.Option.{option_map};
 
@@ -67,7 +68,7 @@ pub fn body_of(
 ) -> Result<Items<BodyBlock>, BuildErr>
     requires source { IsSource source.now }
     requires said { IsFunctionIn source.now.module.now said.now }
-    ensures ok { IfOk result (λ body. function_data f.0 first_block first (function_in source.now said.now) ≡ option_map (λ name. function_made source.now f.0 said.now name (blocks_from (source_trees source.now) first_block first body)) (global_name (function_in source.now said.now).name)) }
+    ensures ok { IfOk result (λ body. function_data f.0 first_block first (function_in source.now said.now) ≡ option_map (λ name. function_made source.now f.0 said.now name (blocks_from (source_trees source.now) first_block first body)) (symbol_name (function_in source.now said.now).name)) }
     ensures right { IfOk result (λ body. IsNext source.now.module.now f first_block first said.now → IsBodyOf source.now.module.now f body) }
     ensures not_yet { result ≡ Err BuildErr.NotYet → function_data f.0 first_block first (function_in source.now said.now) ≡ None }
 {

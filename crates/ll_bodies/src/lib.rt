@@ -12,4 +12,5 @@ pub mod names;
 pub mod operands;
 pub mod results;
 pub mod scope;
+pub mod structs;
 pub mod written;

@@ -1,15 +1,12 @@
 //! Names and numbers, as tokens write them.
 
 ghost use Rattle.std.specs.Prelude.{◌≡◌, ◌-◌, Some, IfOk, IfSome, IfNone, length, take, drop};
-ghost use Rattle.std.specs.List.{list_all};
 ghost use Rattle.std.specs.Option.{option_map};
 ghost use Rattle.std.specs.Cow.{cow_str_bytes};
 ghost use Rattle.ll_lines.specs.Views.{text_of};
-ghost use Rattle.ll_literals.specs.Names.{if_text, quoted_name};
-ghost use Rattle.ll_literals.specs.Numbers.{is_digits};
-ghost use Rattle.llvm_core.specs.Names.{is_digit};
+ghost use Rattle.ll_literals.specs.Names.{quoted_name};
 ghost use Rattle.ll_bodies.specs.Scopes as spec;
-ghost use Rattle.ll_bodies.specs.Scopes.{key_of, local_key, label_key, global_name, key_name, written_name};
+ghost use Rattle.ll_bodies.specs.Scopes.{key_of, local_key, label_key, key_name, written_name};
 ghost use Rattle.ll_bodies.specs.Meaning.{source_name};
 ghost use Rattle.ll_bodies.specs.ScopeViews.{key_view, IsNotPlain};
 
@@ -17,10 +14,9 @@ use crate::scope::Key;
 use ll_lines::names::Name;
 use ll_literals::names::bare_name;
 use ll_literals::numbers::number;
-use ll_literals::quotes::{name_said, quoted_name, text_said};
+use ll_literals::quotes::{quoted_name, text_said};
 use std::alloc::{AllocError, Global};
 use std::borrow::CowStr;
-use std::str;
 
 /// What is written of a local: its token without `%`.
 pub fn of_local(text: &[u8]) -> &[u8]
@@ -103,49 +99,6 @@ pub fn label_name<'a>(
     match label {
         Some(token) => kept(alloc, of_label(token.text(bytes))),
         None => Ok(CowStr::Borrowed("")),
-    }
-}
-
-/// A decimal digit.
-fn is_digit(b: u8) -> bool
-    ensures { result ≡ is_digit b }
-{
-    b >= b'0' && b <= b'9'
-}
-
-fn all_digits(text: &[u8]) -> bool
-    ensures { result ≡ list_all is_digit text.now }
-{
-    text.iter().all(|b| is_digit(*b))
-}
-
-/// Whether a text is digits.
-fn are_digits(text: &[u8]) -> bool
-    ensures { result ≡ is_digits text.now }
-{
-    !text.is_empty() && all_digits(text)
-}
-
-/// The bytes as a text, where they are UTF-8.
-fn as_text(bytes: &[u8]) -> Option<CowStr<'_>>
-    ensures { option_map cow_str_bytes result ≡ if_text bytes.now }
-{
-    match str::from_utf8(bytes) {
-        Ok(text) => Some(CowStr::Borrowed(text)),
-        Err(_) => None,
-    }
-}
-
-/// The name that a function's token says.
-pub fn global_name<'a>(alloc: Global, text: &'a [u8]) -> Result<Option<CowStr<'a>>, AllocError>
-    ensures { IfOk result (λ n. option_map cow_str_bytes n ≡ global_name text.now) }
-{
-    // `@` stands where a local has `%`
-    let written = of_local(text);
-    if are_digits(written) {
-        Ok(as_text(written))
-    } else {
-        name_said(alloc, written)
     }
 }
 

@@ -2,6 +2,7 @@
 use Rattle.std.specs.Prelude.{ℕ, List, Option}
 use Rattle.kinds.specs.declared.op.Op.{Op}
 use Rattle.kinds.specs.Types.{TypeTree}
+use Rattle.kinds.specs.Structs.{StructBody}
 use Rattle.llvm_core.specs.Data.{ConstTree}
 
 abbrev pub Text : Type 0
@@ -55,7 +56,14 @@ pub record Function : Type 0 where
   pub params : List Param
   pub body : List Part
 
+-- a struct: % and a name or a number, and its fields, none where it is opaque
+pub record StructLine : Type 0 where
+  pub name : Text
+  pub body : Option StructBody
+
+-- structs and functions each in the order of the text, in which they may stand among one another
 pub record File : Type 0 where
   -- the name of the module, between quotes
   pub source : Option Text
+  pub structs : List StructLine
   pub functions : List Function

@@ -4,7 +4,8 @@ use Rattle.std.specs.Prelude.{◌<◌, ◌-◌, ℕ, List, map, take, drop, leng
 use Rattle.std.specs.Option.{option_map}
 use Rattle.llvm_core.specs.declared.numbers.LLVMType.{LLVMType}
 use Rattle.llvm_core.specs.Module.{Module}
-use Rattle.llvm_core.specs.Data.{Trees, type_at, const_at}
+use Rattle.llvm_core.specs.Data.{Trees, type_at, const_at, fields_of}
+use Rattle.llvm_core.specs.Sound.{AreFieldsIn}
 use Rattle.ll_lines.specs.declared.names.Name.{Name}
 use Rattle.ll_lines.specs.declared.lines.Said as code_said
 use Rattle.ll_lines.specs.declared.lines.Typed as code_typed
@@ -15,8 +16,9 @@ use Rattle.ll_lines.specs.declared.lines.Line as code_line
 use Rattle.ll_lines.specs.declared.lines.Part as code_part
 use Rattle.ll_lines.specs.declared.lines.Param as code_param
 use Rattle.ll_lines.specs.declared.lines.Function as code_function
+use Rattle.ll_lines.specs.declared.lines.StructLine as code_struct
 use Rattle.ll_lines.specs.declared.lines.File as code_file
-use Rattle.ll_lines.specs.Lines.{Text, Said, Typed, RowLine, Incoming, Inst, Line, Part, Param, Function, File}
+use Rattle.ll_lines.specs.Lines.{Text, Said, Typed, RowLine, Incoming, Inst, Line, Part, Param, Function, StructLine, File}
 use Rattle.ll_lines.specs.Lines as L
 
 -- the bytes of a token
@@ -66,8 +68,15 @@ module _ (bytes : List ℕ) (t : Trees) where
     body = map part_view f.body.items;
   }
 
+  abbrev pub struct_view : code_struct.StructLine → StructLine
+  struct_view s = record { name = text_of bytes s.name; body = option_map (fields_of t.types) s.body }
+
   abbrev pub file_view : code_file.File → File
-  file_view f = record { source = option_map (text_of bytes) f.source; functions = map function_view f.functions.items }
+  file_view f = record {
+    source = option_map (text_of bytes) f.source;
+    structs = map struct_view f.structs.items;
+    functions = map function_view f.functions.items;
+  }
 
 -- ---- its types and constants are there
 
@@ -95,5 +104,10 @@ module _ (m : Module) where
     pub params : All (λ (p : code_param.Param). IsTypeIn p.ty) f.params.items
     pub body : All IsPartIn f.body.items
 
-  abbrev pub IsFileIn : code_file.File → Type 0
-  IsFileIn f = All IsFunctionIn f.functions.items
+  -- its fields are types that a struct may have
+  abbrev pub IsStructIn : code_struct.StructLine → Type 0
+  IsStructIn s = IfSome s.body (AreFieldsIn m.types)
+
+  pub record IsFileIn (f : code_file.File) : Type 0 where
+    pub structs : All IsStructIn f.structs.items
+    pub functions : All IsFunctionIn f.functions.items

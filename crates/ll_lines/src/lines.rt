@@ -4,6 +4,7 @@
 use crate::names::Name;
 use kinds::op::Op;
 use llvm_core::numbers::{LLVMConst, LLVMType};
+use llvm_core::structs::StructFields;
 use support::short_list::ShortList;
 
 /// A value, as it is written.
@@ -79,10 +80,19 @@ pub struct Function {
     pub body: Vec<Part>,
 }
 
-/// A file.
+/// A struct; one without a body is opaque.
+#[derive(Drop)]
+pub struct StructLine {
+    /// `%` and a name or a number.
+    pub name: Name,
+    pub body: Option<StructFields>,
+}
+
+/// A file: its structs and its functions, each in the order of the text.
 #[derive(Drop)]
 pub struct File {
     /// The name of the module, between quotes.
     pub source: Option<Name>,
+    pub structs: Vec<StructLine>,
     pub functions: Vec<Function>,
 }

@@ -4,4 +4,5 @@ pub mod NameBytes
 pub mod NameLaws
 pub mod NumberLaws
 pub mod QuoteLaws
+pub mod SymbolLaws
 pub mod TextBytes

@@ -1,5 +1,5 @@
 -- Names in LLVM text.
-use Rattle.std.specs.Prelude.{ℕ, ◌-◌, Bool, false, ◌||◌, ◌&&◌, not, ◌==◌, if◌then◌else◌, [], ◌∷◌, ◌++◌, length, take, slice_index_or, Option, Some, None}
+use Rattle.std.specs.Prelude.{ℕ, ◌-◌, Bool, false, ◌||◌, ◌&&◌, not, ◌==◌, if◌then◌else◌, [], ◌∷◌, ◌++◌, length, take, drop, slice_index_or, Option, Some, None}
 use Rattle.std.specs.List.{list_all}
 use Rattle.std.specs.Option.{option_and_then}
 use Rattle.std.specs.Str.{is_utf8}
@@ -7,6 +7,7 @@ use Rattle.llvm_core.specs.Names.{is_digit, is_letter}
 use Rattle.llvm_core.specs.Checked.{is_bad_name}
 use Rattle.ll_literals.specs.Text.{Text}
 use Rattle.ll_literals.specs.Escapes.{unescaped, escaped}
+use Rattle.ll_literals.specs.Numbers.{is_digits}
 
 -- letters, digits and $ . _ -
 abbrev pub is_name_byte : ℕ → Bool
@@ -45,9 +46,16 @@ quoted_name t = option_and_then if_name (text_said t)
 abbrev pub name_said : Text → Option Text
 name_said t = if is_bare t then Some t else quoted_name t
 
--- @name, name: and "name"
+-- The name of a symbol or struct, by its token @ or % and a name, or digits, which are then its name.
+abbrev pub symbol_name : Text → Option Text
+symbol_name t = if is_digits (drop 1 t) then if_text (drop 1 t) else name_said (drop 1 t)
+
+-- @name, %name, name: and "name"
 abbrev pub global : Text → Text
 global name = 64 ∷ name
+
+abbrev pub local : Text → Text
+local name = 37 ∷ name
 
 abbrev pub label : Text → Text
 label name = name ++ 58 ∷ []

@@ -7,3 +7,4 @@ pub mod names;
 pub mod numbers;
 pub mod printed;
 pub mod quotes;
+pub mod symbols;

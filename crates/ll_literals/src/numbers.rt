@@ -3,7 +3,7 @@
 ghost use Rattle.std.specs.Prelude.{◌≡◌, ◌<◌, ◌≤◌, ◌^◌, Some};
 ghost use Rattle.std.specs.List.{list_all};
 ghost use Rattle.llvm_core.specs.Names.{is_digit};
-ghost use Rattle.ll_literals.specs.Numbers.{number_of, value_after, up_to};
+ghost use Rattle.ll_literals.specs.Numbers.{is_digits, number_of, value_after, up_to};
 
 /// A decimal digit.
 pub(crate) fn is_digit(b: u8) -> bool
@@ -17,6 +17,13 @@ fn all_digits(bytes: &[u8]) -> bool
     ensures { result ≡ list_all is_digit bytes.now }
 {
     bytes.iter().all(|b| is_digit(*b))
+}
+
+/// Whether a text is digits, one at least.
+pub(crate) fn are_digits(text: &[u8]) -> bool
+    ensures { result ≡ is_digits text.now }
+{
+    !text.is_empty() && all_digits(text)
 }
 
 /// The number that decimal digits say, where it is at most `most`.

@@ -32,7 +32,7 @@ fn has_slash(bytes: &[u8]) -> bool
 }
 
 /// The bytes as a text, where they are UTF-8.
-fn as_text<'a>(bytes: &'a [u8]) -> Option<CowStr<'a>>
+pub(crate) fn as_text<'a>(bytes: &'a [u8]) -> Option<CowStr<'a>>
     ensures { option_map cow_str_bytes result ≡ if_text bytes.now }
 {
     match str::from_utf8(bytes) {

@@ -1,19 +1,28 @@
 -- What the text of numbered data says means the data.
-use Rattle.std.proofs.Common.{◌≡◌, ℕ, suc, ◌+◌, List, [], ◌∷◌, length, map, true, Some, All, refl}
+use Rattle.std.proofs.Common.{◌≡◌, ℕ, suc, ◌+◌, List, [], ◌∷◌, length, map, true, Some, All, refl, ap}
 use Rattle.std.specs.List.{AllByRecursion}
 use Rattle.std.specs.Str.{is_utf8}
 use Rattle.support.specs.Interned.{IsDistinctList}
 use Rattle.support.proofs.ListLaws.{all_from}
-use Rattle.llvm_core.specs.Data.{Function, ModuleData}
+use Rattle.kinds.specs.Structs.{IsFormStruct}
+use Rattle.llvm_core.specs.Data.{Function, Struct, ModuleData}
 use Rattle.llvm_core.specs.Form.{IsFormFunction, IsForm, local_names, HasDistinctNames}
 use Rattle.llvm_core.proofs.DataLemmas.{within_at}
-use Rattle.ll_bodies.specs.Meaning.{count_insts, functions_data, file_data}
-use Rattle.ll_said.specs.Said.{function_of, file_of}
+use Rattle.ll_literals.specs.Chain.{◌>>=◌}
+use Rattle.ll_literals.proofs.SymbolLaws.{symbol_says}
+use Rattle.ll_bodies.specs.Meaning.{all_of, count_insts, struct_data, functions_data, file_data}
+use Rattle.ll_said.specs.Said.{function_of, struct_of, file_of}
 use Rattle.ll_said.specs.Sayable.{HasFewUnnamed, IsSayable, IsSayableModule, IsNumbered, blocks_in, placed_in}
-use Rattle.ll_said.proofs.AllLaws.{all_at}
+use Rattle.ll_said.proofs.AllLaws.{all_at, all_of-map}
 use Rattle.ll_said.proofs.CountingLaws.{AreCounted, counted, counted_functions, function_number, block_number, placed_number}
 use Rattle.ll_said.proofs.FunctionLaws.{function_says}
 use Rattle.ll_said.proofs.NameLaws.{source_says}
+
+struct_says : (s : Struct) → IsFormStruct s → struct_data (struct_of s) ≡ Some s
+struct_says s h = ap (λ o. o >>= λ name. let t : Struct = record { name = name; body = s.body } in Some t) (symbol_says 37 s.name h.name)
+
+structs_say : (ss : List Struct) → All IsFormStruct ss → all_of struct_data (map struct_of ss) ≡ Some ss
+structs_say ss h = all_of-map struct_data struct_of ss (λ i s at. struct_says s (within_at ss IsFormStruct h i s at))
 
 functions_say : (f b n : ℕ) (xs : List Function) → AllByRecursion IsSayable xs → AreCounted f b n xs → functions_data f b n (map function_of xs) ≡ Some xs
 functions_say f b n [] h g = refl
@@ -24,7 +33,7 @@ pub counts_of : (d : ModuleData) → IsNumbered d → AreCounted 0 0 0 d.functio
 counts_of d g = counted_functions 0 0 0 d.functions (counted function_number 0 d.functions g.functions) (counted block_number 0 (blocks_in d) g.blocks) (counted placed_number 0 (placed_in d) g.instructions)
 
 pub file_says : (d : ModuleData) → IsSayableModule d → IsNumbered d → file_data (file_of d) ≡ Some d
-file_says d h g = rw (source_says d.name h.name, functions_say 0 0 0 d.functions each (counts_of d g)) refl
+file_says d h g = rw (source_says d.name h.name, structs_say d.structs h.structs, functions_say 0 0 0 d.functions each (counts_of d g)) refl
   where
     each : AllByRecursion IsSayable d.functions
     each = all_at IsSayable d.functions (λ i x at. within_at d.functions IsSayable h.functions i x at)
@@ -32,9 +41,12 @@ file_says d h g = rw (source_says d.name h.name, functions_say 0 0 0 d.functions
 pub sayable_from : (d : ModuleData) → IsForm d → HasDistinctNames d → All HasFewUnnamed d.functions → is_utf8 d.name ≡ true → IsSayableModule d
 sayable_from d form names few name = record {
   functions = all_from IsSayable d.functions (λ i x at. record {
-    form = within_at d.functions IsFormFunction form i x at;
+    form = within_at d.functions IsFormFunction form.functions i x at;
     names = within_at d.functions (λ (f : Function). IsDistinctList (local_names f)) names.locals i x at;
     few = within_at d.functions HasFewUnnamed few i x at;
   });
+  structs = form.structs;
+  struct_names = names.structs;
+  nested = form.nested;
   name = name;
 }

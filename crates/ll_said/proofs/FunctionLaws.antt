@@ -10,7 +10,9 @@ use Rattle.llvm_core.proofs.DataLemmas.{within_at}
 use Rattle.ll_literals.specs.Text.{Text}
 use Rattle.ll_lines.specs.Lines as L
 use Rattle.ll_lines.specs.Lines.{Param}
-use Rattle.ll_bodies.specs.Scopes.{Scope, empty_scope, global_name, local_key, written_name}
+use Rattle.ll_bodies.specs.Scopes.{Scope, empty_scope, local_key, written_name}
+use Rattle.ll_literals.specs.Names.{symbol_name}
+use Rattle.ll_literals.proofs.SymbolLaws.{symbol_says}
 use Rattle.ll_bodies.specs.Meaning.{SaidBlock, blocks_of, params_scope, blocks_scope, blocks_data, types_of, function_data}
 use Rattle.ll_said.specs.Naming.{ParamAt, local_text}
 use Rattle.ll_said.specs.Said.{params_of, parts_of, function_of}
@@ -21,7 +23,7 @@ use Rattle.ll_said.proofs.CountingLaws.{AreCountedBlocks, counted, counted_block
 use Rattle.ll_said.proofs.CutLaws.{EndsBlock, said_block, said_entry, ends_in, parts_cut}
 use Rattle.ll_said.proofs.KnownLaws.{scope_after, scope_of, block_ref_is}
 use Rattle.ll_said.proofs.LineLaws.{IsLine, name_said}
-use Rattle.ll_said.proofs.NameLaws.{local_says, global_says}
+use Rattle.ll_said.proofs.NameLaws.{local_says}
 use Rattle.ll_said.proofs.ThingLaws.{param_things, block_things, things}
 
 -- ---- the parts of a function
@@ -90,7 +92,7 @@ made f x name blocks = record {
   blocks = blocks;
 }
 
-function_by : (f b n : ℕ) (x : L.Function) (name : Text) (said : List SaidBlock) (s t : Scope) (blocks : List Block) → global_name x.name ≡ Some name → blocks_of x.body ≡ Some said → params_scope empty_scope f 0 x.params ≡ Some s
+function_by : (f b n : ℕ) (x : L.Function) (name : Text) (said : List SaidBlock) (s t : Scope) (blocks : List Block) → symbol_name x.name ≡ Some name → blocks_of x.body ≡ Some said → params_scope empty_scope f 0 x.params ≡ Some s
     → blocks_scope s b n said ≡ Some t → blocks_data t b n said ≡ Some blocks → function_data f b n x ≡ Some (made f x name blocks)
 function_by f b n x name said s t blocks named cut params defined read = rw (named, cut, params, defined, read) refl
 
@@ -114,7 +116,7 @@ blocks_said f b n x h numbered c cs only are =
     let defined = params_define x h [] (flat_map block_things x.blocks) 0 x.params refl (params_good x h) in
     let from : params_scope empty_scope f 0 (params_of x 0 x.params) ≡ Some (scope_after x params) = subst (λ (k : ℕ). params_scope empty_scope k 0 (params_of x 0 x.params) ≡ Some (scope_after x params)) numbered defined in
     let read : blocks_data (scope_of x) b n said ≡ Some x.blocks = body_says x h b n c cs body.0 body.1 all ∙ ap (λ (bs : List Block). Some bs) (sym only) in
-    function_by f b n (function_of x) x.name said (scope_after x params) (scope_of x) x.blocks (global_says x.name h.form.name) cut from (body_defines x h params b n c cs whole body.0 body.1 all) read
+    function_by f b n (function_of x) x.name said (scope_after x params) (scope_of x) x.blocks (symbol_says 64 x.name h.form.name) cut from (body_defines x h params b n c cs whole body.0 body.1 all) read
 
 -- a function whose blocks and instructions are numbered from there
 pub function_says : (f b n : ℕ) (x : Function) → IsSayable x → x.number ≡ f → AreCountedBlocks b n x.blocks → function_data f b n (function_of x) ≡ Some x

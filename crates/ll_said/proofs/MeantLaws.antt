@@ -7,12 +7,12 @@ use Rattle.std.proofs.lemmas.Str.{is_utf8-from_IsUtf8, IsUtf8-nil}
 use Rattle.llvm_core.specs.Data.{TypeTree, VoidType, Placed, Block, Function, ModuleData}
 use Rattle.ll_literals.specs.Text.{Text}
 use Rattle.ll_literals.specs.Escapes.{unescaped}
-use Rattle.ll_literals.specs.Names.{inside, if_text, text_said}
+use Rattle.ll_literals.specs.Names.{inside, if_text, text_said, symbol_name}
 use Rattle.ll_literals.specs.Chain.{◌>>=◌}
 use Rattle.ll_lines.specs.Lines as L
 use Rattle.ll_lines.specs.Lines.{Line, Param, File}
-use Rattle.ll_bodies.specs.Scopes.{Scope, empty_scope, global_name, local_key, label_key, written_name}
-use Rattle.ll_bodies.specs.Meaning.{SaidBlock, blocks_of, all_from, result_type, params_scope, blocks_scope, instruction, placed, blocks_data, function_data, count_insts, functions_data, source_name, file_data}
+use Rattle.ll_bodies.specs.Scopes.{Scope, empty_scope, local_key, label_key, written_name}
+use Rattle.ll_bodies.specs.Meaning.{SaidBlock, blocks_of, all_of, all_from, result_type, params_scope, blocks_scope, instruction, placed, blocks_data, function_data, count_insts, struct_data, functions_data, source_name, file_data}
 use Rattle.ll_said.specs.Sayable.{IsNumbered}
 use Rattle.ll_said.proofs.CountingLaws.{IsCounted, AreCountedBlocks, AreCounted, placed_number, counted_through, uncounted}
 use Rattle.ll_said.proofs.FunctionLaws.{made}
@@ -102,7 +102,7 @@ pub record IsOfFunction (f b n : ℕ) (x : L.Function) (d : Function) : Type 0 w
 
 pub of_function : (f b n : ℕ) (x : L.Function) (d : Function) → function_data f b n x ≡ Some d → IsOfFunction f b n x d
 of_function f b n x d e =
-    let name = bind_some (global_name x.name) _ d e in
+    let name = bind_some (symbol_name x.name) _ d e in
     let said = bind_some (blocks_of x.body) _ d name.2 in
     let s = bind_some (params_scope empty_scope f 0 x.params) _ d said.2 in
     let t = bind_some (blocks_scope s.0 b n said.0) _ d s.2 in
@@ -132,7 +132,8 @@ functions_counted f b n (x ∷ xs) ds e =
 pub of_file : (P : List Function → Type 0) → ((xs : List L.Function) (ds : List Function) → functions_data 0 0 0 xs ≡ Some ds → P ds) → (m : File) (d : ModuleData) → file_data m ≡ Some d → P d.functions
 of_file P step m d e =
     let name = bind_some (source_name m.source) _ d e in
-    let fs = bind_some (functions_data 0 0 0 m.functions) _ d name.2 in
+    let ss = bind_some (all_of struct_data m.structs) _ d name.2 in
+    let fs = bind_some (functions_data 0 0 0 m.functions) _ d ss.2 in
     subst (λ (x : ModuleData). P x.functions) (same_Some _ d fs.2) (step m.functions fs.0 fs.1)
 
 pub numbers_count : (m : File) (d : ModuleData) → file_data m ≡ Some d → IsNumbered d
@@ -155,5 +156,6 @@ source_utf8 (Some t) n e = said_utf8 t n e
 pub utf8_name : (m : File) (d : ModuleData) → file_data m ≡ Some d → is_utf8 d.name ≡ true
 utf8_name m d e =
     let name = bind_some (source_name m.source) _ d e in
-    let fs = bind_some (functions_data 0 0 0 m.functions) _ d name.2 in
+    let ss = bind_some (all_of struct_data m.structs) _ d name.2 in
+    let fs = bind_some (functions_data 0 0 0 m.functions) _ d ss.2 in
     subst (λ (x : ModuleData). is_utf8 x.name ≡ true) (same_Some _ d fs.2) (source_utf8 m.source name.0 name.1)

@@ -1,13 +1,14 @@
 -- The numbered twin of data: it is numbered, of the form where the data are, and has their text.
-use Rattle.std.proofs.Common.{◌≡◌, ℕ, zero, suc, ◌+◌, ◌≤◌, ◌<◌, ◌^◌, nat_eq, List, [], ◌∷◌, length, map, slice_get, Some, All, refl, ap, sym, ◌∙◌, subst, eq-eqb, ne_eqb, arith}
-use Rattle.std.specs.List.{position_or_len, AllByRecursion}
-use Rattle.std.proofs.lemmas.List.{length-map}
+use Rattle.std.proofs.Common.{◌≡◌, ℕ, zero, suc, ◌+◌, ◌≤◌, ◌<◌, ◌^◌, nat_eq, List, [], ◌∷◌, ◌++◌, length, map, slice_get, Some, All, refl, ap, sym, ◌∙◌, subst, eq-eqb, ne_eqb, arith}
+use Rattle.std.specs.List.{position_or_len, flat_map, AllByRecursion}
+use Rattle.std.proofs.lemmas.List.{length-map, map-append}
 use Rattle.std.proofs.lemmas.List.Elements.{All-from_recursion}
 use Rattle.std.proofs.lemmas.Option.{same_Some}
 use Rattle.support.specs.Interned.{IsDistinctList}
 use Rattle.support.proofs.ListLaws.{distinct_rest}
-use Rattle.llvm_core.specs.Data.{Placed, Block, Function, ModuleData, placed_in}
-use Rattle.llvm_core.specs.Form.{IsFormFunction, IsForm, local_names, HasDistinctNames, IsFewIn, HasFew}
+use Rattle.kinds.specs.Structs.{IsNested}
+use Rattle.llvm_core.specs.Data.{TypeTree, NamedType, Placed, Block, Function, Struct, ModuleData, placed_in}
+use Rattle.llvm_core.specs.Form.{IsFormFunction, IsForm, types_in, local_names, HasDistinctNames, IsFewIn, HasFew}
 use Rattle.llvm_core.proofs.DataLemmas.{within_at}
 use Rattle.ll_literals.specs.Text.{Text}
 use Rattle.ll_literals.specs.Numbers.{number_limit}
@@ -15,7 +16,7 @@ use Rattle.ll_lines.specs.Lines as L
 use Rattle.ll_bodies.specs.Meaning.{count_insts, file_data}
 use Rattle.ll_said.specs.Naming.{unnamed_in}
 use Rattle.ll_said.specs.Numbered.{Numbers, placed_to, block_to, function_to, numbers_from, functions_from, numbered}
-use Rattle.ll_said.specs.Said.{function_of, source_of, file_of}
+use Rattle.ll_said.specs.Said.{function_of, struct_of, source_of, file_of}
 use Rattle.ll_said.specs.Sayable.{IsSayable, IsSayableModule, IsNumbered}
 use Rattle.ll_said.proofs.AlikeEdges.{mapped_at}
 use Rattle.ll_said.proofs.AlikeForm.{function_alike}
@@ -109,6 +110,28 @@ twins_named : (f b n : ℕ) (xs : List Function) → map (λ (x : Function). x.n
 twins_named f b n [] = refl
 twins_named f b n (x ∷ xs) = ap (λ (ns : List Text). x.name ∷ ns) (twins_named (suc f) (b + length x.blocks) (n + length (placed_in x)) xs)
 
+twins_typed : (f b n : ℕ) (xs : List Function) → map (λ (x : Function). x.type) (functions_from f b n xs) ≡ map (λ (x : Function). x.type) xs
+twins_typed f b n [] = refl
+twins_typed f b n (x ∷ xs) = ap (λ (ts : List TypeTree). x.type ∷ ts) (twins_typed (suc f) (b + length x.blocks) (n + length (placed_in x)) xs)
+
+placed_typed : (by : Numbers) (ps : List Placed) → map (λ (p : Placed). p.type) (map (placed_to by) ps) ≡ map (λ (p : Placed). p.type) ps
+placed_typed by [] = refl
+placed_typed by (p ∷ ps) = ap (λ (ts : List TypeTree). p.type ∷ ts) (placed_typed by ps)
+
+abbrev types_of : List Placed → List TypeTree
+types_of ps = map (λ (p : Placed). p.type) ps
+
+twins_placed : (f b n : ℕ) (xs : List Function) → types_of (flat_map placed_in (functions_from f b n xs)) ≡ types_of (flat_map placed_in xs)
+twins_placed f b n [] = refl
+twins_placed f b n (x ∷ xs) =
+    let to = numbers_from f b n x in
+    let rest = functions_from (suc f) (b + length x.blocks) (n + length (placed_in x)) xs in
+    map-append (λ (p : Placed). p.type) (placed_in (function_to to x)) (flat_map placed_in rest)
+    ∙ ap (λ (ps : List Placed). types_of ps ++ types_of (flat_map placed_in rest)) (placed_mapped to x.blocks)
+    ∙ ap (λ (ts : List TypeTree). ts ++ types_of (flat_map placed_in rest)) (placed_typed to (placed_in x))
+    ∙ ap (λ (ts : List TypeTree). types_of (placed_in x) ++ ts) (twins_placed (suc f) (b + length x.blocks) (n + length (placed_in x)) xs)
+    ∙ sym (map-append (λ (p : Placed). p.type) (placed_in x) (flat_map placed_in xs))
+
 twins_many : (f b n : ℕ) (xs : List Function) → length (functions_from f b n xs) ≡ length xs
 twins_many f b n [] = refl
 twins_many f b n (x ∷ xs) = ap suc (twins_many (suc f) (b + length x.blocks) (n + length (placed_in x)) xs)
@@ -124,7 +147,7 @@ each_twin P Q step d h = All-from_recursion Q (numbered d).functions (twins_all 
 -- ---- modules
 
 pub forms : (d : ModuleData) → IsForm d → AllByRecursion IsFormFunction d.functions
-forms d h = all_at IsFormFunction d.functions (λ i x at. within_at d.functions IsFormFunction h i x at)
+forms d h = all_at IsFormFunction d.functions (λ i x at. within_at d.functions IsFormFunction h.functions i x at)
 
 pub is_numbered : (d : ModuleData) → IsForm d → IsNumbered (numbered d)
 is_numbered d h =
@@ -132,37 +155,60 @@ is_numbered d h =
     record { functions = uncounted _ 0 _ through.functions; blocks = uncounted _ 0 _ through.blocks; instructions = uncounted _ 0 _ through.instructions }
 
 pub same_text : (d : ModuleData) → IsForm d → file_of (numbered d) ≡ file_of d
-same_text d h = ap (λ (fs : List L.Function). let m : L.File = record { source = source_of d.name; functions = fs } in m) (twins_said 0 0 0 d.functions (forms d h))
+same_text d h = ap (λ (fs : List L.Function). let m : L.File = record { source = source_of d.name; structs = map struct_of d.structs; functions = fs } in m) (twins_said 0 0 0 d.functions (forms d h))
+
+-- the types in use are of both
+same_types : (d : ModuleData) → types_in (numbered d) ≡ types_in d
+same_types d =
+    let names = map (λ (s : Struct). NamedType s.name) d.structs in
+    ap (λ (ts : List TypeTree). (names ++ ts) ++ types_of (flat_map placed_in (numbered d).functions)) (twins_typed 0 0 0 d.functions)
+    ∙ ap (λ (ts : List TypeTree). (names ++ map (λ (x : Function). x.type) d.functions) ++ ts) (twins_placed 0 0 0 d.functions)
+
+keeps_nested : (d : ModuleData) → All (IsNested d.structs) (types_in d) → All (IsNested d.structs) (types_in (numbered d))
+keeps_nested d h = subst (λ (ts : List TypeTree). All (IsNested d.structs) ts) (sym (same_types d)) h
 
 pub keeps_form : (d : ModuleData) → IsForm d → IsForm (numbered d)
-keeps_form d h = each_twin IsFormFunction IsFormFunction twin_form d h
+keeps_form d h = record { functions = each_twin IsFormFunction IsFormFunction twin_form d h.functions; structs = h.structs; nested = keeps_nested d h.nested }
 
 -- names are of both, and so are the lengths of lists
 abbrev WithForm : (Function → Type 0) → Function → Type 0
 WithForm P x = IsFormFunction x × P x
 
 with_form : (P : Function → Type 0) (d : ModuleData) → IsForm d → All P d.functions → All (WithForm P) d.functions
-with_form P d h g = All-from_recursion (WithForm P) d.functions (all_at (WithForm P) d.functions (λ i x at. (within_at d.functions IsFormFunction h i x at, within_at d.functions P g i x at)))
+with_form P d h g = All-from_recursion (WithForm P) d.functions (all_at (WithForm P) d.functions (λ i x at. (within_at d.functions IsFormFunction h.functions i x at, within_at d.functions P g i x at)))
 
 pub keeps_names : (d : ModuleData) → IsForm d → HasDistinctNames d → HasDistinctNames (numbered d)
 keeps_names d h names =
     let distinct = λ (x : Function). IsDistinctList (local_names x) in
     record {
+      structs = names.structs;
       functions = subst (λ (ns : List Text). IsDistinctList ns) (sym (twins_named 0 0 0 d.functions)) names.functions;
       locals = each_twin (WithForm distinct) distinct (λ f b n x g. subst (λ (ns : List Text). IsDistinctList ns) (twin_names f b n x g.0) g.1) d (with_form distinct d h names.locals);
     }
 
 pub keeps_few : (d : ModuleData) → IsForm d → HasFew d → HasFew (numbered d)
 keeps_few d h few = record {
+  structs = few.structs;
+  fields = few.fields;
   functions = subst (λ (k : ℕ). k < 2 ^ 31) (sym (twins_many 0 0 0 d.functions)) few.functions;
   each = each_twin (WithForm IsFewIn) IsFewIn (λ f b n x g. few_alike x (function_to (numbers_from f b n x) x) (twin_alike f b n x g.0) g.1) d (with_form IsFewIn d h few.each);
 }
 
 pub keeps_sayable : (d : ModuleData) → IsSayableModule d → IsSayableModule (numbered d)
-keeps_sayable d h = record { functions = each_twin IsSayable IsSayable twin_sayable d h.functions; name = h.name }
+keeps_sayable d h = record {
+  functions = each_twin IsSayable IsSayable twin_sayable d h.functions;
+  structs = h.structs;
+  struct_names = h.struct_names;
+  nested = keeps_nested d h.nested;
+  name = h.name;
+}
 
 form_of : (d : ModuleData) → IsSayableModule d → IsForm d
-form_of d h = All-from_recursion IsFormFunction d.functions (all_at IsFormFunction d.functions (λ i x at. (within_at d.functions IsSayable h.functions i x at).form))
+form_of d h = record {
+  functions = All-from_recursion IsFormFunction d.functions (all_at IsFormFunction d.functions (λ i x at. (within_at d.functions IsSayable h.functions i x at).form));
+  structs = h.structs;
+  nested = h.nested;
+}
 
 -- the text of any data of the form says their twin
 pub text_says : (d : ModuleData) → IsSayableModule d → file_data (file_of d) ≡ Some (numbered d)

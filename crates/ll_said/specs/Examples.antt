@@ -1,14 +1,22 @@
--- Two small functions, the lines that are said of them, and the data that these mean.
+-- Two structs and two small functions, the lines that are said of them, and the data that these mean.
 use Rattle.std.specs.Prelude.{ℕ, false, List, [], ◌∷◌, Option, Some, None, codes}
 use Rattle.kinds.specs.declared.op.Op.{Op}
 use Rattle.kinds.specs.declared.op.Op.TheVariants as O
 use Rattle.kinds.specs.declared.op.OverflowFlags.{OverflowFlags}
-use Rattle.kinds.specs.Types.{TypeTree, VoidType, IntType, FunctionType, NoTypes, ThenType}
+use Rattle.kinds.specs.declared.types.StructLayout.TheVariants as S
+use Rattle.kinds.specs.Types.{TypeTree, VoidType, IntType, NamedType, FunctionType, NoTypes, ThenType}
 use Rattle.llvm_core.specs.Data as D
 use Rattle.ll_literals.specs.Text.{Text}
 use Rattle.ll_lines.specs.Lines as L
 
 -- ---- data
+
+-- a struct that has a field of the next, which is opaque
+abbrev structs : List D.Struct
+structs = record {
+  name = codes "pair";
+  body = Some (record { fields = ThenType (IntType 32) (ThenType (NamedType (codes "hidden")) NoTypes); layout = S.Packed });
+} ∷ record { name = codes "hidden"; body = None } ∷ []
 
 abbrev row : Op → List D.Operand → List ℕ → D.Instruction
 row op operands targets = D.Applied (record { op = op; written = None; operands = operands; targets = targets })
@@ -55,10 +63,10 @@ functions f g a b c d i j k l m n = record {
 
 -- the same under numbers in no order, and in order
 abbrev pub loose : D.ModuleData
-loose = record { name = codes "m"; functions = functions 7 3 9 2 4 8 5 1 6 30 20 10 }
+loose = record { name = codes "m"; structs = structs; functions = functions 7 3 9 2 4 8 5 1 6 30 20 10 }
 
 abbrev pub tidy : D.ModuleData
-tidy = record { name = codes "m"; functions = functions 0 1 0 1 2 3 0 1 2 3 4 5 }
+tidy = record { name = codes "m"; structs = structs; functions = functions 0 1 0 1 2 3 0 1 2 3 4 5 }
 
 -- ---- lines
 
@@ -75,6 +83,11 @@ local type name = record { type = type; said = L.Local name }
 abbrev pub lines : L.File
 lines = record {
   source = Some (codes "\"m\"");
+  structs =
+      record {
+        name = codes "%pair";
+        body = Some (record { fields = ThenType (IntType 32) (ThenType (NamedType (codes "hidden")) NoTypes); layout = S.Packed });
+      } ∷ record { name = codes "%hidden"; body = None } ∷ [];
   functions =
       record {
         result = IntType 32;

@@ -1,12 +1,12 @@
 -- What the text of module data says, a definition for each part.
 use Rattle.std.specs.Prelude.{ℕ, suc, List, [], ◌∷◌, ◌++◌, Option, Some, None, if◌then◌else◌, map, drop, slice_index_or}
 use Rattle.std.specs.List.{flat_map}
-use Rattle.llvm_core.specs.Data.{TypeTree, Operand, Constant, Parameter, Result, RowData, Instruction, Phi, Applied, Placed, Block, Function, ModuleData, operand_type, param_type}
+use Rattle.llvm_core.specs.Data.{TypeTree, Operand, Constant, Parameter, Result, RowData, Instruction, Phi, Applied, Placed, Block, Function, Struct, ModuleData, operand_type, param_type}
 use Rattle.kinds.specs.Types.{result_of}
 use Rattle.kinds.specs.Held.{is_void}
-use Rattle.ll_literals.specs.Names.{global, label, printed_name, printed_text}
+use Rattle.ll_literals.specs.Names.{global, local, label, printed_name, printed_text}
 use Rattle.ll_lines.specs.Lines as L
-use Rattle.ll_lines.specs.Lines.{Text, Said, Typed, RowLine, Incoming, Inst, Line, Part, Param, File}
+use Rattle.ll_lines.specs.Lines.{Text, Said, Typed, RowLine, Incoming, Inst, Line, Part, Param, StructLine, File}
 use Rattle.ll_said.specs.Naming.{ParamAt, ResultOf, local_text, result_name, block_ref}
 
 -- ---- instructions
@@ -85,5 +85,8 @@ abbrev pub source_of : Text → Option Text
 source_of [] = None
 source_of (b ∷ bs) = Some (printed_text (b ∷ bs))
 
+abbrev pub struct_of : Struct → StructLine
+struct_of s = record { name = local (printed_name s.name); body = s.body }
+
 abbrev pub file_of : ModuleData → File
-file_of d = record { source = source_of d.name; functions = map function_of d.functions }
+file_of d = record { source = source_of d.name; structs = map struct_of d.structs; functions = map function_of d.functions }

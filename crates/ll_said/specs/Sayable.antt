@@ -3,9 +3,10 @@ use Rattle.std.specs.Prelude.{◌≡◌, ◌≤◌, ℕ, suc, true, List, [], �
 use Rattle.std.specs.List.{flat_map}
 use Rattle.std.specs.Str.{is_utf8}
 use Rattle.support.specs.Interned.{IsDistinctList}
-use Rattle.llvm_core.specs.Data.{Placed, Block, Function, ModuleData}
+use Rattle.kinds.specs.Structs.{IsFormStruct, IsNested}
+use Rattle.llvm_core.specs.Data.{Placed, Block, Function, Struct, ModuleData}
 use Rattle.llvm_core.specs.Data as L
-use Rattle.llvm_core.specs.Form.{IsFormFunction, local_names}
+use Rattle.llvm_core.specs.Form.{IsFormFunction, types_in, local_names}
 use Rattle.ll_literals.specs.Numbers.{number_limit}
 use Rattle.ll_said.specs.Naming.{unnamed_in}
 
@@ -46,7 +47,11 @@ pub record IsNumbered (d : ModuleData) : Type 0 where
 
 -- ---- modules
 
--- a module whose functions a text says whole, however it is numbered; its name may be any text
+-- a module whose functions and structs a text says whole, however it is numbered: no two structs share a name, and each
+-- that a type names is there, so the text says its name; the module's own name may be any text
 pub record IsSayableModule (d : ModuleData) : Type 0 where
   pub functions : All IsSayable d.functions
+  pub structs : All IsFormStruct d.structs
+  pub struct_names : IsDistinctList (map (λ (s : Struct). s.name) d.structs)
+  pub nested : All (IsNested d.structs) (types_in d)
   pub name : is_utf8 d.name ≡ true

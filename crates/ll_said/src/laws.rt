@@ -63,7 +63,7 @@ pub fn meant_is_whole()
     ensures { (f : File) (d : ModuleData) → file_data f ≡ Some d → IsForm d → HasDistinctNames d → IsSayableModule d }
 {}
 
-/// The definitions on two small functions.
+/// The definitions on two structs and two small functions.
 pub fn small_functions()
     ensures said { file_of loose ≡ lines }
     ensures meant { file_data lines ≡ Some tidy }

@@ -5,7 +5,7 @@ use Rattle.llvm_core.specs.declared.types.LLVMTypeKind.TheVariants as kinds
 use Rattle.std.specs.Option.{option_map}
 use Rattle.std.specs.Cow.{cow_str_bytes}
 use Rattle.ll_lines.specs.Lines.{Text}
-use Rattle.ll_bodies.specs.Scopes.{global_name}
+use Rattle.ll_literals.specs.Names.{symbol_name}
 use Rattle.ll_bodies.proofs.AddingLaws.{adds_kept}
 use Rattle.ll_bodies.proofs.ErrLaws.{on_ok_both}
 use Rattle.ll_bodies.proofs.JoinLaws.{joined, unjoined}
@@ -14,7 +14,7 @@ use Rattle.ll_bodies.proofs.adding.add_function.Goals as goal
 pub returns-clause-ok : goal.returns-clause-ok
 returns-clause-ok c =
     let said = sym c.in_ok-written.ensures ∙ ap (option_map cow_str_bytes) c.in-Some.is ∙ ap (λ (n : Text). Some n) (sym c.as_str.ensures.value) in
-    let called = ap (λ t. global_name t) (sym c.text.ensures) ∙ said in
+    let called = ap (λ t. symbol_name t) (sym c.text.ensures) ∙ said in
     let o = c.in_ok-f.ensures in
     on_ok_both c.give_body.result (λ b sound.
     joined c.args.bytes.now c.in_ok-f.f.0 c.as_str.result.now c.args.said.now c.args.module.now c.function_type.new.module c.declare.new.module c.give_body.new.module

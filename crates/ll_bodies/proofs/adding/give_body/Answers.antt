@@ -6,7 +6,7 @@ use Rattle.llvm_core.specs.Data.{trees_of}
 use Rattle.llvm_core.specs.Bodies.{blocks_from, body_data}
 use Rattle.llvm_core.proofs.DataLemmas.{int_tree_of, void_tree_of}
 use Rattle.ll_lines.specs.Views.{function_view, text_of}
-use Rattle.ll_bodies.specs.Scopes.{global_name}
+use Rattle.ll_literals.specs.Names.{symbol_name}
 use Rattle.ll_bodies.specs.Meaning.{function_data}
 use Rattle.ll_bodies.specs.AddingViews.{function_with}
 use Rattle.llvm_core.specs.Module.{Module}
@@ -39,8 +39,8 @@ returns-clause-ok c =
     let body = c.in_ok-body.body in
     record {
       blocks = body_data m body;
-      is = subst (λ (k : ℕ). function_data f k (length m.insts) (function_view bytes t x) ≡ option_map (λ name. function_with bytes t f name x (blocks_from t k (length m.insts) body)) (global_name (text_of bytes x.name))) c.block_count-first_block.ensures
-          (subst (λ (k : ℕ). function_data f c.block_count-first_block.result k (function_view bytes t x) ≡ option_map (λ name. function_with bytes t f name x (blocks_from t c.block_count-first_block.result k body)) (global_name (text_of bytes x.name))) c.inst_count-first.ensures c.in_ok-body.ensures.ok);
+      is = subst (λ (k : ℕ). function_data f k (length m.insts) (function_view bytes t x) ≡ option_map (λ name. function_with bytes t f name x (blocks_from t k (length m.insts) body)) (symbol_name (text_of bytes x.name))) c.block_count-first_block.ensures
+          (subst (λ (k : ℕ). function_data f c.block_count-first_block.result k (function_view bytes t x) ≡ option_map (λ name. function_with bytes t f name x (blocks_from t c.block_count-first_block.result k body)) (symbol_name (text_of bytes x.name))) c.inst_count-first.ensures c.in_ok-body.ensures.ok);
       given = c.in_ok-add_body.ensures.data;
       types = ap (λ (k : Module). k.types) c.in_ok-add_body.ensures.ok;
       consts = ap (λ (k : Module). k.consts) c.in_ok-add_body.ensures.ok;
